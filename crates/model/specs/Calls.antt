@@ -1,0 +1,89 @@
+-- The calls on lent tables: refusals 1, 2 and 3 in front of each step, and what a call's value tells.
+use mathlib.Core.Path.{_≡_}
+use Prim.Native.Nat.{ℕ}
+use mathlib.Core.Bool.{Bool, true, false, _||_}
+use mathlib.Core.List.{List, [], _∷_, _++_, map}
+use lib.ListN.{length, take, getD, replicate}
+use Rattle.model.specs.Words.{pick, fit}
+use Rattle.model.specs.Range.{inRange}
+use Rattle.model.specs.Tables.{Tables, start, Outcome, refused, done, after, eventsOf}
+use Rattle.model.specs.Lent.{Lent, lengthsFit, tablesOf, encode}
+use Rattle.model.specs.SoundLent.{soundLent}
+use Rattle.model.specs.Steps.{access, send, fill, tick}
+use Rattle.model.specs.declared.Settings.{Settings}
+use Rattle.model.specs.declared.Access.{Access}
+use Rattle.model.specs.declared.Refusal.{Refusal}
+use Rattle.model.specs.declared.Refusal.the-variants.{SettingOutOfRange, SliceLength, NotSound}
+use Rattle.model.specs.declared.Event.{Event}
+use Rattle.model.specs.declared.Event.the-variants.{ReadQueued, WriteBackQueued, Released, WriteBackSent}
+use Rattle.model.specs.declared.Verdict.{Verdict}
+use Rattle.model.specs.declared.Verdict.the-variants.{Passed, Refused}
+use Rattle.model.specs.declared.Told.{Told}
+
+-- ---- "Checked in this order": 1 "a setting outside its range", 2 "a lent slice of another length", 3 "tables not sound"
+
+-- the slices that a step's tables give
+abbrev pub encoded : Settings → Outcome Tables → Outcome Lent
+encoded S (refused n) = refused n
+encoded S (done es t) = done es (encode S t)
+
+abbrev pub sized : Settings → Lent → Outcome Lent → Outcome Lent
+sized S L o = pick (inRange S) (pick (lengthsFit S L) o (refused SliceLength)) (refused SettingOutOfRange)
+
+-- a step on the tables that the slices hold
+unfoldable pub call : Settings → (Tables → Outcome Tables) → Lent → Outcome Lent
+call S step L = sized S L (pick (soundLent S L) (encoded S (step (tablesOf S L))) (refused NotSound))
+
+abbrev pub accessCall : Settings → Access → Lent → Outcome Lent
+accessCall S x = call S (access S x)
+
+abbrev pub sendCall : Settings → Lent → Outcome Lent
+sendCall S = call S send
+
+abbrev pub fillCall : Settings → ℕ → Lent → Outcome Lent
+fillCall S a = call S (fill a)
+
+abbrev pub tickCall : Settings → ℕ → Lent → Outcome Lent
+tickCall S c = call S (tick c)
+
+-- the check of refusal 3 by itself: it leaves the slices, and tells nothing if they are sound
+abbrev pub checkCall : Settings → Lent → Outcome Lent
+checkCall S L = sized S L (pick (soundLent S L) (done [] L) (refused NotSound))
+
+-- fresh tables: 3 is "not asked where they are made fresh"
+abbrev pub freshCall : Settings → Lent → Outcome Lent
+freshCall S L = sized S L (done [] (encode S (start S)))
+
+-- what `check` and `fresh` return
+abbrev pub verdictOf : Outcome Lent → Verdict
+verdictOf (refused n) = Refused n
+verdictOf (done es L) = Passed
+
+-- ---- what a call's value tells
+
+-- its first event, the read queued, the write-back queued, the tickets released in order
+unfoldable pub eventsTold : Told → List Event
+eventsTold r =
+    r .first
+    ∷ (pick (r .reads) (ReadQueued (r .address) ∷ []) []
+    ++ (pick (r .backs) (WriteBackQueued (r .block) (getD (r .masks) 0 0) (getD (r .masks) 1 0) (getD (r .masks) 2 0) (getD (r .masks) 3 0) ∷ []) []
+    ++ map Released (take (r .count) (r .tickets))))
+
+-- the same value with its unused fields zero
+unfoldable pub tidied : Told → Told
+tidied r = record {
+  first = r .first;
+  reads = r .reads;
+  address = pick (r .reads) (r .address) 0;
+  backs = r .backs;
+  block = pick (r .backs) (r .block) 0;
+  masks = pick (r .backs) (r .masks) (replicate 4 0);
+  count = length (take (r .count) (r .tickets));
+  tickets = fit 8 (take (r .count) (r .tickets));
+}
+
+-- a call's value and the slices after it are those of the outcome o of a call on L
+pub record Leaves (o : Outcome Lent) (L : Lent) (r : Told) (M : Lent) : Type 0 where
+  pub tells : eventsTold r ≡ eventsOf o
+  pub tidy : tidied r ≡ r
+  pub left : M ≡ after L o

@@ -1,0 +1,94 @@
+-- "Fourteen accesses to prove": one table, a row a case, made on lent tables through every check from fresh ones on.
+use Prim.Native.Nat.{ℕ}
+use mathlib.Core.List.{List, [], _∷_}
+use Rattle.model.specs.Tables.{start, Outcome, refused, done, after}
+use Rattle.model.specs.Lent.{Lent, tablesOf, encode}
+use Rattle.model.specs.Probe.{dirtyLines}
+use Rattle.model.specs.Calls.{accessCall, sendCall, fillCall, tickCall}
+use Rattle.model.specs.declared.Settings.{Settings}
+use Rattle.model.specs.declared.Access.{Access}
+use Rattle.model.specs.declared.Access.the-variants.{Read, Write}
+use Rattle.model.specs.declared.Answer.the-variants.{Hit, HitReserved, Miss, SectorMiss}
+use Rattle.model.specs.declared.Refusal.{Refusal}
+use Rattle.model.specs.declared.Refusal.the-variants.{SetBusy, SetHeld, QueueFull, EntryFull, MissTableFull}
+use Rattle.model.specs.declared.Event.{Event}
+use Rattle.model.specs.declared.Event.the-variants.{Answered, ReadQueued, WriteBackQueued}
+
+pub data Call : Type 0 where
+  offer : Access → Call
+  sending : Call
+  filling : ℕ → Call
+  ticking : ℕ → Call
+
+abbrev pub make : Settings → Call → Lent → Outcome Lent
+make S (offer x) = accessCall S x
+make S sending = sendCall S
+make S (filling a) = fillCall S a
+make S (ticking c) = tickCall S c
+
+-- the outcome of the last of the calls, made from the first on
+abbrev pub makeAll : Settings → List Call → Call → Lent → Outcome Lent
+makeAll S [] c L = make S c L
+makeAll S (d ∷ ds) c L = makeAll S ds c (after L (make S d L))
+
+-- a refusal, or the events and the number of dirty lines then
+pub data Seen : Type 0 where
+  no : Refusal → Seen
+  yes : List Event → ℕ → Seen
+
+abbrev pub seen : Settings → Outcome Lent → Seen
+seen S (refused n) = no n
+seen S (done es L) = yes es (dirtyLines (tablesOf S L))
+
+pub record Case : Type 0 where
+  pub settings : Settings
+  pub before : List Call
+  pub last : Call
+  pub sees : Seen
+
+-- "1 set, 2 ways, P 50, M 2, W 2, Q 4"
+abbrev pub base : Settings
+base = record { sets = 1; ways = 2; percent = 50; entries = 2; readers = 2; places = 4 }
+
+-- "Two sets, one way, P 60"
+abbrev pub narrow : ℕ → Settings
+narrow p = record { sets = 2; ways = 1; percent = p; entries = 2; readers = 2; places = 4 }
+
+-- "Q 2"
+abbrev pub short : Settings
+short = record { sets = 1; ways = 2; percent = 50; entries = 2; readers = 2; places = 2 }
+
+abbrev pub r : ℕ → Call
+r a = offer (Read a 0 7)
+
+abbrev pub w : ℕ → ℕ → Call
+w a m = offer (Write a m 0)
+
+abbrev pub case : Settings → List Call → Call → Seen → Case
+case S b l s = record { settings = S; before = b; last = l; sees = s }
+
+-- 1 to 14, in order; 13 and 14 have two rows each
+abbrev pub cases : List Case
+cases =
+    case base [] (r 0) (yes (Answered Miss 1 ∷ ReadQueued 0 ∷ []) 0)
+    ∷ case base (r 0 ∷ []) (r 0) (yes (Answered HitReserved 1 ∷ []) 0)
+    ∷ case base (r 0 ∷ []) (r 32) (yes (Answered SectorMiss 1 ∷ ReadQueued 32 ∷ []) 0)
+    ∷ case base (r 0 ∷ r 32 ∷ []) (r 64) (no MissTableFull)
+    ∷ case base (r 0 ∷ r 0 ∷ []) (r 0) (no EntryFull)
+    ∷ case base [] (w 0 0xFF) (yes (Answered Miss 1 ∷ []) 1)
+    ∷ case base (w 0 0xFF ∷ []) (r 0) (yes (Answered SectorMiss 1 ∷ ReadQueued 0 ∷ []) 0)
+    ∷ case base (w 0 0xFF ∷ r 0 ∷ sending ∷ filling 0 ∷ []) (r 0) (yes (Answered Hit 1 ∷ []) 1)
+    ∷ case base (w 0 0xFF ∷ w 0 0xFFFFFF00 ∷ []) (r 0) (yes (Answered Hit 1 ∷ []) 1)
+    ∷ case base (ticking 1 ∷ w 0 0xFF ∷ ticking 2 ∷ w 128 0xFF ∷ ticking 3 ∷ []) (w 256 0xFF)
+    (yes (Answered Miss 1 ∷ WriteBackQueued 0 0xFF 0 0 0 ∷ []) 2)
+    ∷ case base (w 0 0xFF ∷ w 128 0xFF ∷ []) (w 256 0xFF) (yes (Answered Miss 0 ∷ WriteBackQueued 128 0xFF 0 0 0 ∷ []) 2)
+    ∷ case base (r 0 ∷ r 128 ∷ []) (r 256) (no SetBusy)
+    ∷ case (narrow 60) (w 0 0xFF ∷ []) (w 256 0xFF) (no SetHeld)
+    ∷ case (narrow 50) (w 0 0xFF ∷ []) (w 256 0xFF) (yes (Answered Miss 0 ∷ WriteBackQueued 0 0xFF 0 0 0 ∷ []) 1)
+    ∷ case short [] (r 0) (yes (Answered Miss 1 ∷ ReadQueued 0 ∷ []) 0)
+    ∷ case short (r 0 ∷ []) (r 0) (no QueueFull)
+    ∷ []
+
+-- what each row's last call comes to
+abbrev pub seenOf : Case → Seen
+seenOf c = seen (c .settings) (makeAll (c .settings) (c .before) (c .last) (encode (c .settings) (start (c .settings))))

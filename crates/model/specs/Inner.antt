@@ -1,0 +1,46 @@
+-- What the inner functions ask and promise, behind the checks of the public calls. Nothing here is document 01's.
+use mathlib.Core.Path.{_≡_}
+use Prim.Native.Nat.{ℕ, _+_, _*_, _≤_}
+use mathlib.Core.Bool.{true}
+use mathlib.Core.List.{List}
+use lib.ListN.{length}
+use Rattle.model.specs.Range.{inRange, linesOf, longsLength, wordsLength, marksLength}
+use Rattle.model.specs.Tables.{Tables, Outcome}
+use Rattle.model.specs.Lent.{Lent, encode}
+use Rattle.model.specs.Sound.{sound}
+use Rattle.model.specs.Calls.{encoded, Leaves}
+use Rattle.model.specs.declared.Settings.{Settings}
+use Rattle.model.specs.declared.Told.{Told}
+
+-- settings in range and slices of the right lengths, as numbers
+pub record Fit (S : Settings) (longs words marks : List ℕ) : Type 0 where
+  pub sets : 1 ≤ S .sets
+  pub ways : 1 ≤ S .ways
+  pub few-ways : S .ways ≤ 16
+  pub lines : linesOf S ≤ 1024
+  pub percent : S .percent ≤ 100
+  pub entry : 1 ≤ S .entries
+  pub entries : S .entries ≤ 64
+  pub reader : 1 ≤ S .readers
+  pub readers : S .readers ≤ 8
+  pub tickets : S .entries * S .readers ≤ 512
+  pub place : 2 ≤ S .places
+  pub places : S .places ≤ 64
+  pub longs-long : length longs ≡ longsLength S
+  pub words-long : length words ≡ wordsLength S
+  pub marks-long : length marks ≡ marksLength S
+
+-- the slices are the encoding of the tables t, which are sound
+pub record Is (S : Settings) (L : Lent) (t : Tables) : Type 0 where
+  pub range : inRange S ≡ true
+  pub soundly : sound S t ≡ true
+  pub encoded : L ≡ encode S t
+
+-- the slices are the encoding of some sound tables
+pub record Held (S : Settings) (L : Lent) : Type 0 where
+  pub tables : Tables
+  pub are : Is S L tables
+
+-- an inner step on L told r and left the slices M, as the step on the tables says
+pub record Does (S : Settings) (step : Tables → Outcome Tables) (L : Lent) (r : Told) (M : Lent) : Type 0 where
+  pub on : (t : Tables) → Is S L t → Leaves (encoded S (step t)) L r M

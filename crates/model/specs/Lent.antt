@@ -1,0 +1,187 @@
+-- How the tables stand in the three lent slices: the numbers by place, the tables read off them, and the slices that tables give.
+-- longs: tags, miss addresses, queue addresses. words: the current cycle, cycles, masks, tickets, queue masks.
+-- marks: statuses, readable marks, sent marks, ticket counts, queue kinds. n is the number of lines throughout.
+use mathlib.Core.Path.{_≡_}
+use Prim.Native.Nat.{ℕ, zero, suc, _+_, _*_}
+use mathlib.Core.Bool.{Bool, true, false, not, _&&_}
+use mathlib.Core.List.{List, [], _∷_, _++_, map}
+use lib.ListN.{length, getD}
+use lib.Dec.{eqb}
+use Rattle.model.specs.Words.{pick, table, countBelow, places, joined}
+use Rattle.model.specs.Numbers.{statusNumber, statusOf}
+use Rattle.model.specs.Range.{linesOf, longsLength, wordsLength, marksLength}
+use Rattle.model.specs.Tables.{Line, Entry, Queued, reading, writing, Tables}
+use Rattle.model.specs.declared.Settings.{Settings}
+use Rattle.model.specs.declared.Sector.{Sector}
+
+pub record Lent : Type 0 where
+  pub longs : List ℕ
+  pub words : List ℕ
+  pub marks : List ℕ
+
+abbrev pub lent : List ℕ → List ℕ → List ℕ → Lent
+lent longs words marks = record { longs = longs; words = words; marks = marks }
+
+-- refusal 2 does not apply
+abbrev pub lengthsFit : Settings → Lent → Bool
+lengthsFit S L =
+    eqb (length (L .longs)) (longsLength S) && eqb (length (L .words)) (wordsLength S) && eqb (length (L .marks)) (marksLength S)
+
+-- ---- the numbers by place
+
+-- of line l
+abbrev pub tagAt : List ℕ → ℕ → ℕ
+tagAt longs l = getD longs l 0
+
+abbrev pub cycleAt : List ℕ → ℕ → ℕ
+cycleAt words l = getD words (1 + l) 0
+
+-- of sector i of all lines, four to a line
+abbrev pub statusAt : List ℕ → ℕ → ℕ
+statusAt marks i = getD marks i 0
+
+abbrev pub maskAt : ℕ → List ℕ → ℕ → ℕ
+maskAt n words i = getD words (1 + n + i) 0
+
+abbrev pub readableAt : ℕ → List ℕ → ℕ → ℕ
+readableAt n marks i = getD marks (4 * n + i) 0
+
+-- of miss entry e
+abbrev pub missAt : Settings → List ℕ → ℕ → ℕ
+missAt S longs e = getD longs (linesOf S + e) 0
+
+abbrev pub sentAt : Settings → List ℕ → ℕ → ℕ
+sentAt S marks e = getD marks (8 * linesOf S + e) 0
+
+abbrev pub ticketCountAt : Settings → List ℕ → ℕ → ℕ
+ticketCountAt S marks e = getD marks (8 * linesOf S + S .entries + e) 0
+
+-- ticket place i of all entries, `readers` to an entry
+abbrev pub ticketAt : Settings → List ℕ → ℕ → ℕ
+ticketAt S words i = getD words (1 + 5 * linesOf S + i) 0
+
+-- of queue place p: its address, its kind (0 unused, 1 a read, 2 a write-back), and mask i of all places, four to a place
+abbrev pub queuedAt : Settings → List ℕ → ℕ → ℕ
+queuedAt S longs p = getD longs (linesOf S + S .entries + p) 0
+
+abbrev pub kindAt : Settings → List ℕ → ℕ → ℕ
+kindAt S marks p = getD marks (8 * linesOf S + 2 * S .entries + p) 0
+
+abbrev pub queueMaskAt : Settings → List ℕ → ℕ → ℕ
+queueMaskAt S words i = getD words (1 + 5 * linesOf S + S .entries * S .readers + i) 0
+
+abbrev pub nowAt : List ℕ → ℕ
+nowAt words = getD words 0 0
+
+-- ---- the tables read off the slices
+
+module _ (n : ℕ) (words marks : List ℕ) where
+  abbrev pub sectorAt : ℕ → Sector
+  sectorAt i = record { status = statusOf (statusAt marks i); mask = maskAt n words i; readable = eqb (readableAt n marks i) 1 }
+
+  -- the four sectors of line l
+  abbrev pub sectorsAt : ℕ → List Sector
+  sectorsAt l = sectorAt (4 * l) ∷ sectorAt (4 * l + 1) ∷ sectorAt (4 * l + 2) ∷ sectorAt (4 * l + 3) ∷ []
+
+abbrev pub lineAt : ℕ → List ℕ → List ℕ → List ℕ → ℕ → Line
+lineAt n longs words marks l = record { tag = tagAt longs l; cycle = cycleAt words l; sectors = sectorsAt n words marks l }
+
+abbrev pub entryAt : Settings → Lent → ℕ → Entry
+entryAt S L e = record {
+  address = missAt S (L .longs) e;
+  sent = eqb (sentAt S (L .marks) e) 1;
+  tickets = table (ticketCountAt S (L .marks) e) (λ j. ticketAt S (L .words) (e * S .readers + j));
+}
+
+abbrev pub queueAt : Settings → Lent → ℕ → Queued
+queueAt S L p =
+    pick (eqb (kindAt S (L .marks) p) 1) (reading (queuedAt S (L .longs) p))
+    (writing (queuedAt S (L .longs) p) (table 4 (λ k. queueMaskAt S (L .words) (4 * p + k))))
+
+-- how many of the first places are in use; of sound tables' places those in use are the first
+abbrev pub inUse : ℕ → (ℕ → ℕ) → ℕ
+inUse n f = countBelow n (λ i. not (eqb (f i) 0))
+
+abbrev pub linesIn : ℕ → List ℕ → List ℕ → List ℕ → List Line
+linesIn n longs words marks = table n (lineAt n longs words marks)
+
+unfoldable pub tablesOf : Settings → Lent → Tables
+tablesOf S L = record {
+  lines = linesIn (linesOf S) (L .longs) (L .words) (L .marks);
+  misses = table (inUse (S .entries) (ticketCountAt S (L .marks))) (entryAt S L);
+  queue = table (inUse (S .places) (kindAt S (L .marks))) (queueAt S L);
+  now = nowAt (L .words);
+}
+
+-- ---- the slices that tables give: a block of places for each field, unused places zero
+
+abbrev pub bit : Bool → ℕ
+bit true = 1
+bit false = 0
+
+abbrev pub tagOf : Line → List ℕ
+tagOf l = l .tag ∷ []
+
+abbrev pub cycleOf : Line → List ℕ
+cycleOf l = l .cycle ∷ []
+
+abbrev pub masksOf : Line → List ℕ
+masksOf l = map (λ s. s .mask) (l .sectors)
+
+abbrev pub statusesOf : Line → List ℕ
+statusesOf l = map (λ s. statusNumber (s .status)) (l .sectors)
+
+abbrev pub readablesOf : Line → List ℕ
+readablesOf l = map (λ s. bit (s .readable)) (l .sectors)
+
+abbrev pub missOf : Entry → List ℕ
+missOf e = e .address ∷ []
+
+abbrev pub sentOf : Entry → List ℕ
+sentOf e = bit (e .sent) ∷ []
+
+abbrev pub ticketCountOf : Entry → List ℕ
+ticketCountOf e = length (e .tickets) ∷ []
+
+abbrev pub ticketsIn : Entry → List ℕ
+ticketsIn e = e .tickets
+
+abbrev pub queuedOf : Queued → List ℕ
+queuedOf (reading a) = a ∷ []
+queuedOf (writing b ms) = b ∷ []
+
+abbrev pub kindOf : Queued → List ℕ
+kindOf (reading a) = 1 ∷ []
+kindOf (writing b ms) = 2 ∷ []
+
+abbrev pub queueMasksOf : Queued → List ℕ
+queueMasksOf (reading a) = []
+queueMasksOf (writing b ms) = ms
+
+abbrev pub longBlocks : Settings → Tables → List (List ℕ)
+longBlocks S t =
+    places tagOf 1 (linesOf S) (t .lines)
+    ∷ places missOf 1 (S .entries) (t .misses)
+    ∷ places queuedOf 1 (S .places) (t .queue)
+    ∷ []
+
+abbrev pub wordBlocks : Settings → Tables → List (List ℕ)
+wordBlocks S t =
+    (t .now ∷ [])
+    ∷ places cycleOf 1 (linesOf S) (t .lines)
+    ∷ places masksOf 4 (linesOf S) (t .lines)
+    ∷ places ticketsIn (S .readers) (S .entries) (t .misses)
+    ∷ places queueMasksOf 4 (S .places) (t .queue)
+    ∷ []
+
+abbrev pub markBlocks : Settings → Tables → List (List ℕ)
+markBlocks S t =
+    places statusesOf 4 (linesOf S) (t .lines)
+    ∷ places readablesOf 4 (linesOf S) (t .lines)
+    ∷ places sentOf 1 (S .entries) (t .misses)
+    ∷ places ticketCountOf 1 (S .entries) (t .misses)
+    ∷ places kindOf 1 (S .places) (t .queue)
+    ∷ []
+
+unfoldable pub encode : Settings → Tables → Lent
+encode S t = record { longs = joined (longBlocks S t); words = joined (wordBlocks S t); marks = joined (markBlocks S t) }

@@ -1,0 +1,137 @@
+-- "Probe and victim": what an access meets in its own set, from the settings, the ways of the set and the number of dirty lines alone.
+use Prim.Native.Nat.{ℕ, suc, _+_, _*_}
+use mathlib.Core.Bool.{Bool, true, false, not, _&&_, _||_}
+use mathlib.Core.List.{List, [], _∷_, map}
+use lib.ListN.{getD, take, drop, replicate}
+use lib.Dec.{leb}
+use Rattle.model.specs.Words.{pick, any, count}
+use Rattle.model.specs.Numbers.{statusNumber}
+use Rattle.model.specs.Range.{linesOf}
+use Rattle.model.specs.Address.{addressOf, blockOf, sectorIndex, setIndex}
+use Rattle.model.specs.Tables.{Line, Queued, writing, Tables, unused, waiting, dirty, holds, empty, fresh}
+use Rattle.model.specs.declared.Settings.{Settings}
+use Rattle.model.specs.declared.Status.{Status}
+use Rattle.model.specs.declared.Sector.{Sector}
+use Rattle.model.specs.declared.Answer.{Answer}
+use Rattle.model.specs.declared.Answer.the-variants.{Hit, HitReserved, Miss, SectorMiss}
+use Rattle.model.specs.declared.Refusal.{Refusal}
+use Rattle.model.specs.declared.Refusal.the-variants.{SetBusy, SetHeld}
+use Rattle.model.specs.declared.Access.{Access}
+use Rattle.model.specs.declared.Access.the-variants.{Read, Write}
+use Rattle.model.specs.declared.Found.{Found}
+use Rattle.model.specs.declared.Found.the-variants.{At, Nothing}
+
+-- ---- the answer by the sector's status: a row a status, columns "Write", "Read, readable", "Read, unreadable"
+
+abbrev pub answers : List (List Answer)
+answers =
+    (SectorMiss ∷ SectorMiss ∷ SectorMiss ∷ [])
+    ∷ (HitReserved ∷ HitReserved ∷ HitReserved ∷ [])
+    ∷ (Hit ∷ Hit ∷ Hit ∷ [])
+    ∷ (Hit ∷ Hit ∷ SectorMiss ∷ [])
+    ∷ []
+
+abbrev pub columnOf : Access → Bool → ℕ
+columnOf (Write a m k) readable = 0
+columnOf (Read a m k) readable = pick readable 1 2
+
+abbrev pub answerAt : Status → ℕ → Answer
+answerAt s column = getD (getD answers (statusNumber s) []) column Miss
+
+abbrev pub answerOf : Access → Sector → Answer
+answerOf x s = answerAt (s .status) (columnOf x (s .readable))
+
+-- ---- candidates
+
+-- the ways of an address's set
+abbrev pub waysOf : Settings → List Line → ℕ → List Line
+waysOf S ls a = take (S .ways) (drop (setIndex S a * S .ways) ls)
+
+-- "dirty counts the lines of the whole cache with a MODIFIED sector"
+abbrev pub dirtyLines : Tables → ℕ
+dirtyLines t = count dirty (t .lines)
+
+-- "100 × dirty ≥ P × lines"
+abbrev pub enoughDirty : Settings → ℕ → Bool
+enoughDirty S d = leb (S .percent * linesOf S) (100 * d)
+
+-- "no sector is RESERVED and either none is MODIFIED or 100 × dirty ≥ P × lines"
+abbrev pub candidate : Bool → Line → Bool
+candidate enough l = not (waiting l) && (not (dirty l) || enough)
+
+-- ---- searches among the ways: the first that passes, the last, the one with the least key and the lowest way among equals
+
+abbrev pub next : Found → Found
+next Nothing = Nothing
+next (At w) = At (suc w)
+
+abbrev pub orElse : Found → Found → Found
+orElse Nothing v = v
+orElse (At w) v = At w
+
+abbrev pub first : (Line → Bool) → List Line → Found
+first p [] = Nothing
+first p (l ∷ ls) = pick (p l) (At 0) (next (first p ls))
+
+abbrev pub last : (Line → Bool) → List Line → Found
+last p [] = Nothing
+last p (l ∷ ls) = orElse (next (last p ls)) (pick (p l) (At 0) Nothing)
+
+abbrev pub older : (Line → ℕ) → List Line → ℕ → Found → Found
+older key ls k Nothing = At 0
+older key ls k (At w) = pick (leb k (key (getD ls w fresh))) (At 0) (At (suc w))
+
+abbrev pub earliest : (Line → ℕ) → (Line → Bool) → List Line → Found
+earliest key p [] = Nothing
+earliest key p (l ∷ ls) = pick (p l) (older key ls (key l) (earliest key p ls)) (next (earliest key p ls))
+
+-- ---- the victim
+
+-- what a candidate goes by: its last-access cycle
+abbrev pub age : Settings → Line → ℕ
+age S l = l .cycle
+
+-- "the highest wholly invalid candidate; with none, the candidate with the earliest cycle, the lowest way among equals"
+abbrev pub victim : Settings → ℕ → List Line → Found
+victim S d ways =
+    orElse (last (λ l. candidate (enoughDirty S d) l && unused l) ways) (earliest (age S) (candidate (enoughDirty S d)) ways)
+
+-- ---- what an access meets: its way, the line (emptied and with the new tag on a MISS), the answer, the write-back if there is one
+
+pub record Spot : Type 0 where
+  pub way : ℕ
+  pub line : Line
+  pub answer : Answer
+  pub backs : List Queued
+
+pub data Place : Type 0 where
+  no : Refusal → Place
+  at : Spot → Place
+
+-- "a victim with a MODIFIED sector gives a write-back of its block with its four masks"
+abbrev pub writeBack : Line → List Queued
+writeBack l = pick (dirty l) (writing (l .tag) (map (λ s. s .mask) (l .sectors)) ∷ []) []
+
+-- "the line takes the new tag, all sectors INVALID, readable, with mask 0"; without a candidate refusal 5 or 6
+abbrev pub takeOver : ℕ → List Line → Found → Place
+takeOver a ways Nothing = no (pick (any waiting ways) SetBusy SetHeld)
+takeOver a ways (At w) =
+    at record {
+      way = w;
+      line = record { tag = blockOf a; cycle = 0; sectors = replicate 4 empty };
+      answer = Miss;
+      backs = writeBack (getD ways w fresh);
+    }
+
+abbrev pub meet : Settings → ℕ → List Line → Access → Found → Place
+meet S d ways x Nothing = takeOver (addressOf x) ways (victim S d ways)
+meet S d ways x (At w) =
+    at record {
+      way = w;
+      line = getD ways w fresh;
+      answer = answerOf x (getD (getD ways w fresh .sectors) (sectorIndex (addressOf x)) empty);
+      backs = [];
+    }
+
+unfoldable pub probe : Settings → ℕ → List Line → Access → Place
+probe S d ways x = meet S d ways x (first (holds (blockOf (addressOf x))) ways)

@@ -1,0 +1,41 @@
+-- "The modelled cache": the settings in range, and the lengths that they fix for the three lent slices.
+use Prim.Native.Nat.{ℕ, _+_, _*_}
+use mathlib.Core.Bool.{Bool, _&&_}
+use mathlib.Core.List.{List, [], _∷_}
+use lib.Dec.{eqb, leb}
+use Rattle.model.specs.Words.{any}
+use Rattle.model.specs.declared.Settings.{Settings}
+
+abbrev pub within : ℕ → ℕ → ℕ → Bool
+within low high n = leb low n && leb n high
+
+-- "power of two, 1 to 256"
+abbrev pub powerTo256 : ℕ → Bool
+powerTo256 n = any (eqb n) (1 ∷ 2 ∷ 4 ∷ 8 ∷ 16 ∷ 32 ∷ 64 ∷ 128 ∷ 256 ∷ [])
+
+-- lines = sets × ways
+abbrev pub linesOf : Settings → ℕ
+linesOf S = S .sets * S .ways
+
+-- the table of settings: sets, ways, dirty percent P, miss table entries M, readers per entry W, miss queue Q
+unfoldable pub inRange : Settings → Bool
+inRange S =
+    powerTo256 (S .sets)
+    && within 1 16 (S .ways)
+    && leb (linesOf S) 1024
+    && leb (S .percent) 100
+    && within 1 64 (S .entries)
+    && within 1 8 (S .readers)
+    && within 2 64 (S .places)
+
+-- 64-bit numbers: tags, miss addresses, queue addresses
+abbrev pub longsLength : Settings → ℕ
+longsLength S = linesOf S + S .entries + S .places
+
+-- 32-bit numbers: the current cycle, cycles, masks, tickets, queue masks
+abbrev pub wordsLength : Settings → ℕ
+wordsLength S = 1 + 5 * linesOf S + S .entries * S .readers + 4 * S .places
+
+-- bytes: statuses, readable marks, sent marks, ticket counts, queue kinds
+abbrev pub marksLength : Settings → ℕ
+marksLength S = 8 * linesOf S + 2 * S .entries + S .places

@@ -1,0 +1,106 @@
+-- "The rounds of demand 3": the rounds, the struck rounds, and what is claimed of them. They are said of any calls over any kind of
+-- tables: of the steps on the tables of document 01, and of the calls on lent slices.
+use Prim.Native.Nat.{ℕ, zero, suc, _+_, _-_, _≤_}
+use mathlib.Core.Path.{_≡_}
+use mathlib.Core.Logic.{_⊎_}
+use mathlib.Core.Bool.{Bool, true, false}
+use mathlib.Core.List.{List, [], _∷_, _++_, map}
+use lib.ListN.{length, getD}
+use Rattle.model.specs.Words.{pick, any}
+use Rattle.model.specs.Range.{inRange}
+use Rattle.model.specs.Tables.{Entry, Queued, Tables, Outcome, refused, done, accepted}
+use Rattle.model.specs.Lent.{Lent, tablesOf}
+use Rattle.model.specs.Steps.{access, send, fill}
+use Rattle.model.specs.Calls.{accessCall, sendCall, fillCall}
+use Rattle.model.specs.declared.Settings.{Settings}
+use Rattle.model.specs.declared.Access.{Access}
+use Rattle.model.specs.declared.Event.{Event}
+use Rattle.model.specs.declared.Refusal.the-variants.{SetHeld}
+
+-- what the rounds call: "Settings and access, with its ticket or mask, are the same in every round"
+pub record Calls (T : Type 0) : Type 0 where
+  pub sends : T → Outcome T
+  pub fills : ℕ → T → Outcome T
+  pub offers : T → Outcome T
+  pub tables : T → Tables
+
+abbrev pub steps : Settings → Access → Calls Tables
+steps S x = record { sends = send; fills = fill; offers = access S x; tables = λ t. t }
+
+abbrev pub calls : Settings → Access → Calls Lent
+calls S x = record { sends = sendCall S; fills = fillCall S; offers = accessCall S x; tables = tablesOf S }
+
+-- what a call, or several, wrote and left; "0x11 is left out and nothing else"
+pub record Turn (T : Type 0) : Type 0 where
+  pub events : List Event
+  pub left : T
+
+module _ {T : Type 0} where
+  abbrev pub still : T → Turn T
+  still t = record { events = []; left = t }
+
+  abbrev pub took : T → Outcome T → Turn T
+  took t (refused n) = still t
+  took t (done es u) = record { events = es; left = u }
+
+  abbrev pub andThen : Turn T → (T → Turn T) → Turn T
+  andThen a f = record { events = a .events ++ f (a .left) .events; left = f (a .left) .left }
+
+-- rounds that were run: what they wrote and left, and what each offer came to
+pub record Run (T : Type 0) : Type 0 where
+  pub turn : Turn T
+  pub offers : List (Outcome T)
+
+module _ {T : Type 0} where
+  abbrev pub before : Turn T → Outcome T → Run T → Run T
+  before a o r = record { turn = andThen a (λ t. r .turn); offers = o ∷ r .offers }
+
+  -- "An accepted offer is the last call; after a refused one the next round begins."
+  abbrev pub goOn : Turn T → (T → Run T) → Outcome T → Run T
+  goOn a rest (refused n) = before a (refused n) (rest (a .left))
+  goOn a rest (done es u) = before a (done es u) (record { turn = record { events = es; left = u }; offers = [] })
+
+  -- "for each round, whether the first run accepted its offer in that round"
+  abbrev pub marks : Run T → List Bool
+  marks r = map accepted (r .offers)
+
+abbrev pub isEmpty : List Queued → Bool
+isEmpty [] = true
+isEmpty (x ∷ q) = false
+
+module _ {T : Type 0} (C : Calls T) where
+  -- "send, if the queue isn't empty"
+  unfoldable pub sendTurn : T → Turn T
+  sendTurn t = pick (isEmpty (C .tables t .queue)) (still t) (took t (C .sends t))
+
+  -- "fill, at the address of the first entry then marked sent, if there is one"
+  unfoldable pub fillFirst : List Entry → T → Turn T
+  fillFirst [] t = still t
+  fillFirst (e ∷ es) t = pick (e .sent) (took t (C .fills (e .address) t)) (fillFirst es t)
+
+  unfoldable pub drain : T → Turn T
+  drain t = andThen (sendTurn t) (λ u. fillFirst (C .tables u .misses) u)
+
+  -- n rounds at most, until the access is accepted
+  unfoldable pub rounds : ℕ → T → Run T
+  rounds zero t = record { turn = still t; offers = [] }
+  rounds (suc n) t = goOn (drain t) (rounds n) (C .offers (drain t .left))
+
+  -- "The access is offered only in a round marked accepted; in any other there is no third call."
+  unfoldable pub struck : List Bool → T → Turn T
+  struck [] t = still t
+  struck (m ∷ ms) t =
+      andThen (drain t) (λ u. andThen (pick m (took u (C .offers u)) (still u)) (struck ms))
+
+  -- the offer of round n + 1 was refused as 6
+  abbrev pub heldIn : ℕ → T → Type 0
+  heldIn n t = getD (rounds (suc n) t .offers) n (done [] t) ≡ refused SetHeld
+
+  -- "no later than round q + m (round 1 if both are 0)": q + m - 1 rounds come before it
+  abbrev pub waits : T → ℕ
+  waits t = length (C .tables t .queue) + length (C .tables t .misses) - 1
+
+  -- demand 3
+  pub record Demand3 (t : T) : Type 0 where
+    pub settles : (any accepted (rounds (suc (waits t)) t .offers) ≡ true) ⊎ ((j : ℕ) → heldIn (waits t + j) t)
+    pub strikes : (n : ℕ) → struck (marks (rounds n t)) t ≡ rounds n t .turn

@@ -1,0 +1,84 @@
+-- "Sound tables", of the tables as a reader of document 01 sees them; a bullet each, in document 01's order.
+use Prim.Native.Nat.{ℕ, _+_, _*_, _/_}
+use mathlib.Core.Bool.{Bool, true, false, not, _&&_, _||_}
+use mathlib.Core.List.{List, [], _∷_}
+use lib.ListN.{length, getD}
+use lib.Dec.{ltb, leb, eqb}
+use Rattle.model.specs.Words.{pick, all, any, count, every, same}
+use Rattle.model.specs.Range.{within, linesOf}
+use Rattle.model.specs.Address.{blockOf, setIndex, goodSector, goodBlock}
+use Rattle.model.specs.Tables.{Line, Entry, Queued, reading, writing, Tables, isReserved, unused, holds, entryFor, empty, fresh}
+use Rattle.model.specs.declared.Settings.{Settings}
+use Rattle.model.specs.declared.Status.{Status}
+use Rattle.model.specs.declared.Status.the-variants.{Invalid, Reserved, Valid, Modified}
+use Rattle.model.specs.declared.Sector.{Sector}
+
+abbrev pub allOnes : ℕ
+allOnes = 4294967295
+
+abbrev pub lastCycle : ℕ
+lastCycle = 4294967294
+
+-- "INVALID and VALID have mask 0, MODIFIED a mask that isn't 0, RESERVED any mask. Only a MODIFIED sector whose mask isn't all ones
+-- may be unreadable."
+abbrev pub maskOk : Status → ℕ → Bool → Bool
+maskOk Invalid m r = eqb m 0 && r
+maskOk Reserved m r = leb m allOnes && r
+maskOk Valid m r = eqb m 0 && r
+maskOk Modified m r = leb m allOnes && not (eqb m 0) && (r || not (eqb m allOnes))
+
+abbrev pub sectorOk : Sector → Bool
+sectorOk s = maskOk (s .status) (s .mask) (s .readable)
+
+-- line i: four sectors; "No line's cycle is later than the current one"; wholly invalid, "its tag and cycle are then 0"; "any other
+-- line has a tag that is a block address of its own set"
+unfoldable pub lineOk : Settings → ℕ → ℕ → Line → Bool
+lineOk S now i l =
+    eqb (length (l .sectors)) 4 && all sectorOk (l .sectors) && leb (l .cycle) now
+    && pick (unused l) (eqb (l .tag) 0 && eqb (l .cycle) 0) (goodBlock (l .tag) && eqb (setIndex S (l .tag)) (i / S .ways))
+
+-- "no two such lines of a set share a tag": a tag tells its set
+unfoldable pub alone : List Line → Line → Bool
+alone ls l = unused l || eqb (count (holds (l .tag)) ls) 1
+
+-- "A sector of a line that isn't wholly invalid is RESERVED exactly if the miss table has an entry for its address"
+abbrev pub agrees : List Entry → Line → ℕ → Bool
+agrees es l k = same (isReserved (getD (l .sectors) k empty .status)) (any (entryFor (l .tag + 32 * k)) es)
+
+unfoldable pub reservedOk : List Entry → Line → Bool
+reservedOk es l = unused l || every 4 (agrees es l)
+
+abbrev pub readingOf : ℕ → Queued → Bool
+readingOf a (reading b) = eqb a b
+readingOf a (writing b ms) = false
+
+abbrev pub unsentFor : ℕ → Entry → Bool
+unsentFor a e = entryFor a e && not (e .sent)
+
+-- "every entry names a sector of such a line. No two entries share an address." 1 to W tickets. "Each unsent entry has exactly one
+-- read in the queue"
+unfoldable pub entryOk : Settings → Tables → Entry → Bool
+entryOk S t e =
+    goodSector (e .address) && any (holds (blockOf (e .address))) (t .lines)
+    && eqb (count (entryFor (e .address)) (t .misses)) 1
+    && within 1 (S .readers) (length (e .tickets))
+    && (e .sent || eqb (count (readingOf (e .address)) (t .queue)) 1)
+
+-- "no other read stands there. A queued write-back has a block address and at least one dirty byte."
+unfoldable pub queuedOk : List Entry → Queued → Bool
+queuedOk es (reading a) = any (unsentFor a) es
+queuedOk es (writing b ms) =
+    goodBlock b && eqb (length ms) 4 && all (λ m. leb m allOnes) ms && any (λ m. not (eqb m 0)) ms
+
+-- as many lines as the settings say; "the current one, itself at most 4,294,967,294"; "At most M entries and Q queue places are in use"
+unfoldable pub sound : Settings → Tables → Bool
+sound S t =
+    eqb (length (t .lines)) (linesOf S)
+    && leb (t .now) lastCycle
+    && every (linesOf S) (λ i. lineOk S (t .now) i (getD (t .lines) i fresh))
+    && all (alone (t .lines)) (t .lines)
+    && all (reservedOk (t .misses)) (t .lines)
+    && all (entryOk S t) (t .misses)
+    && all (queuedOk (t .misses)) (t .queue)
+    && leb (length (t .misses)) (S .entries)
+    && leb (length (t .queue)) (S .places)

@@ -1,0 +1,113 @@
+-- "The modelled cache": the tables as a reader of document 01 sees them. Lines of four sectors, miss entries, the queue, the current
+-- cycle; what a call comes to. How they stand in the lent slices is in Lent.
+use Prim.Native.Nat.{ℕ, _*_}
+use mathlib.Core.Bool.{Bool, true, false, not, _&&_, _||_}
+use mathlib.Core.List.{List, [], _∷_}
+use lib.ListN.{replicate}
+use lib.Dec.{eqb}
+use Rattle.model.specs.Words.{pick, all, any}
+use Rattle.model.specs.Range.{linesOf}
+use Rattle.model.specs.declared.Settings.{Settings}
+use Rattle.model.specs.declared.Status.{Status}
+use Rattle.model.specs.declared.Status.the-variants.{Invalid, Reserved, Valid, Modified}
+use Rattle.model.specs.declared.Sector.{Sector}
+use Rattle.model.specs.declared.Refusal.{Refusal}
+use Rattle.model.specs.declared.Event.{Event}
+use Rattle.model.specs.declared.Event.the-variants as ev
+
+-- "A line has a tag, a last-access cycle and four sectors"
+pub record Line : Type 0 where
+  pub tag : ℕ
+  pub cycle : ℕ
+  pub sectors : List Sector
+
+-- "A miss entry has a sector address, a sent mark and 1 to W tickets in order of arrival"
+pub record Entry : Type 0 where
+  pub address : ℕ
+  pub sent : Bool
+  pub tickets : List ℕ
+
+-- "The queue holds reads (sector address) and write-backs (block address, four masks)"
+pub data Queued : Type 0 where
+  reading : ℕ → Queued
+  writing : ℕ → List ℕ → Queued
+
+-- "entries stand in order of creation, the oldest first"; the queue "first in first out"
+pub record Tables : Type 0 where
+  pub lines : List Line
+  pub misses : List Entry
+  pub queue : List Queued
+  pub now : ℕ
+
+-- ---- sectors and lines
+
+abbrev pub isInvalid : Status → Bool
+isInvalid Invalid = true
+isInvalid Reserved = false
+isInvalid Valid = false
+isInvalid Modified = false
+
+abbrev pub isReserved : Status → Bool
+isReserved Invalid = false
+isReserved Reserved = true
+isReserved Valid = false
+isReserved Modified = false
+
+abbrev pub isModified : Status → Bool
+isModified Invalid = false
+isModified Reserved = false
+isModified Valid = false
+isModified Modified = true
+
+-- "wholly invalid if all four sectors are INVALID"
+abbrev pub unused : Line → Bool
+unused l = all (λ s. isInvalid (s .status)) (l .sectors)
+
+-- some sector is RESERVED
+abbrev pub waiting : Line → Bool
+waiting l = any (λ s. isReserved (s .status)) (l .sectors)
+
+-- some sector is MODIFIED
+abbrev pub dirty : Line → Bool
+dirty l = any (λ s. isModified (s .status)) (l .sectors)
+
+-- has the tag, and is not wholly invalid
+abbrev pub holds : ℕ → Line → Bool
+holds b l = not (unused l) && eqb (l .tag) b
+
+-- an entry for the address
+abbrev pub entryFor : ℕ → Entry → Bool
+entryFor a e = eqb (e .address) a
+
+-- ---- fresh tables: "all invalid and readable, all empty, cycle 0"
+
+abbrev pub empty : Sector
+empty = record { status = Invalid; mask = 0; readable = true }
+
+abbrev pub fresh : Line
+fresh = record { tag = 0; cycle = 0; sectors = replicate 4 empty }
+
+abbrev pub start : Settings → Tables
+start S = record { lines = replicate (linesOf S) fresh; misses = []; queue = []; now = 0 }
+
+-- ---- what a call comes to, on tables of any kind: a refusal, or its events and the tables that it leaves
+
+pub data Outcome (T : Type 0) : Type 0 where
+  refused : Refusal → Outcome T
+  done : List Event → T → Outcome T
+
+module _ {T : Type 0} where
+  -- "Every refusal returns its number and leaves all tables unchanged."
+  abbrev pub after : T → Outcome T → T
+  after t (refused n) = t
+  after t (done es u) = u
+
+  -- the event records of a result; a refusal becomes 0x11
+  abbrev pub eventsOf : Outcome T → List Event
+  eventsOf (refused n) = ev.Refused n ∷ []
+  eventsOf (done es u) = es
+
+  -- "Accepted means answered without a refusal number."
+  abbrev pub accepted : Outcome T → Bool
+  accepted (refused n) = false
+  accepted (done es u) = true

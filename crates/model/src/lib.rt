@@ -1,0 +1,332 @@
+// The types of the cache model (document 01), with document 01's number for each case, and the constant table of answers.
+// Settings; sector status, sector and addresses; answers and refusals; an access; commands, events and the reading of
+// records; what a call tells and what a run returns.
+ghost use mathlib.Core.Path.{_≡_};
+ghost use Prim.Native.Nat.{_<_};
+ghost use Rattle.model.specs.Numbers.{statusNumber, statusOf, answerNumber, refusalNumber, stopNumber};
+ghost use Rattle.model.specs.Probe.{columnOf, answerOf};
+ghost use Rattle.model.specs.Address.{addressOf, blockOf, sectorAddressOf, sectorIndex};
+
+// "The modelled cache": the settings, any values; document 01's ranges are checked by number 1.
+pub struct Settings {
+    pub sets: usize,
+    pub ways: usize,
+    pub percent: usize,
+    pub entries: usize,
+    pub readers: usize,
+    pub places: usize,
+}
+
+pub enum Status {
+    Invalid,
+    Reserved,
+    Valid,
+    Modified,
+}
+
+pub struct Sector {
+    pub status: Status,
+    pub mask: u32,
+    pub readable: bool,
+}
+
+// A block address: what tags are compared with.
+pub struct BlockAddress(pub u64);
+
+// A sector address: what the miss table is searched for.
+pub struct SectorAddress(pub u64);
+
+pub enum Answer {
+    Hit,
+    HitReserved,
+    Miss,
+    SectorMiss,
+}
+
+// "Refusal numbers", in document 01's order: 1 to 12.
+pub enum Refusal {
+    SettingOutOfRange,
+    SliceLength,
+    NotSound,
+    BadAccess,
+    SetBusy,
+    SetHeld,
+    QueueFull,
+    EntryFull,
+    MissTableFull,
+    NotSent,
+    BadCycle,
+    QueueEmpty,
+}
+
+// One access: a read wants mask 0, a write leaves its ticket unused.
+pub enum Access {
+    Read {
+        address: u64,
+        mask: u32,
+        ticket: u32,
+    },
+    Write {
+        address: u64,
+        mask: u32,
+        ticket: u32,
+    },
+}
+
+// A way of a set, if there is one.
+pub enum Found {
+    At(usize),
+    Nothing,
+}
+
+// "Records": the events. A write-back's four masks stand side by side, since an enum holds no array.
+pub enum Event {
+    Answered {
+        answer: Answer,
+        line: u16,
+    },
+    Refused(Refusal),
+    ReadQueued(u64),
+    WriteBackQueued {
+        block: u64,
+        m0: u32,
+        m1: u32,
+        m2: u32,
+        m3: u32,
+    },
+    Released(u32),
+    ReadSent(u64),
+    WriteBackSent {
+        block: u64,
+        m0: u32,
+        m1: u32,
+        m2: u32,
+        m3: u32,
+    },
+    Filled(u64),
+    Ticked,
+}
+
+// "Records": the commands, unjudged.
+pub enum Command {
+    Settings {
+        sets: u16,
+        ways: u8,
+        percent: u8,
+        entries: u8,
+        readers: u8,
+        places: u8,
+    },
+    Read {
+        address: u64,
+        ticket: u32,
+    },
+    Write {
+        address: u64,
+        mask: u32,
+    },
+    Send,
+    Fill(u64),
+    Tick(u32),
+}
+
+// What a check by itself comes to.
+pub enum Verdict {
+    Passed,
+    Refused(Refusal),
+}
+
+// What reading a record finds: where its body lies and where the next record begins, or why it stops.
+pub enum Record {
+    Whole {
+        kind: u8,
+        start: usize,
+        len: usize,
+        next: usize,
+    },
+    Stopped(Stop),
+}
+
+// "Records", the stop numbers: nothing stops (0), 1, 2, 13, 14, 15, 16.
+pub enum Stop {
+    Nothing,
+    SettingOutOfRange,
+    SliceLength,
+    OutOfPlace,
+    UnknownKind,
+    CutShort,
+    NoRoom,
+}
+
+// The event or the command of a body, if it is one.
+pub enum EventRead {
+    Got(Event),
+    None,
+}
+
+pub enum CommandRead {
+    Got(Command),
+    None,
+}
+
+// What a run of a stream returns: why it stopped, the bytes consumed before that and the bytes written.
+pub struct Ran {
+    pub stop: Stop,
+    pub consumed: usize,
+    pub written: usize,
+}
+
+// What a call tells: its first event, then the read and the write-back that it queued, then the tickets that it released.
+pub struct Told {
+    pub first: Event,
+    pub reads: bool,
+    pub address: u64,
+    pub backs: bool,
+    pub block: u64,
+    pub masks: [u32; 4],
+    pub count: usize,
+    pub tickets: [u32; 8],
+}
+
+// A status as its number.
+pub fn status_number(s: Status) -> u8
+    ensures { λ r. ⌜ r ≡ statusNumber s ⌝ }
+{
+    match s {
+        Status::Invalid => 0,
+        Status::Reserved => 1,
+        Status::Valid => 2,
+        Status::Modified => 3,
+    }
+}
+
+// The status of a number; of one above 3, which sound tables do not have, MODIFIED.
+pub fn status_of(n: u8) -> Status
+    ensures { λ r. ⌜ r ≡ statusOf n ⌝ }
+{
+    match n {
+        0 => Status::Invalid,
+        1 => Status::Reserved,
+        2 => Status::Valid,
+        _ => Status::Modified,
+    }
+}
+
+pub fn answer_number(a: Answer) -> u8
+    ensures { λ r. ⌜ r ≡ answerNumber a ⌝ }
+{
+    match a {
+        Answer::Hit => 1,
+        Answer::HitReserved => 2,
+        Answer::Miss => 3,
+        Answer::SectorMiss => 4,
+    }
+}
+
+pub fn refusal_number(n: Refusal) -> u8
+    ensures { λ r. ⌜ r ≡ refusalNumber n ⌝ }
+{
+    match n {
+        Refusal::SettingOutOfRange => 1,
+        Refusal::SliceLength => 2,
+        Refusal::NotSound => 3,
+        Refusal::BadAccess => 4,
+        Refusal::SetBusy => 5,
+        Refusal::SetHeld => 6,
+        Refusal::QueueFull => 7,
+        Refusal::EntryFull => 8,
+        Refusal::MissTableFull => 9,
+        Refusal::NotSent => 10,
+        Refusal::BadCycle => 11,
+        Refusal::QueueEmpty => 12,
+    }
+}
+
+pub fn stop_number(s: Stop) -> u8
+    ensures { λ r. ⌜ r ≡ stopNumber s ⌝ }
+{
+    match s {
+        Stop::Nothing => 0,
+        Stop::SettingOutOfRange => 1,
+        Stop::SliceLength => 2,
+        Stop::OutOfPlace => 13,
+        Stop::UnknownKind => 14,
+        Stop::CutShort => 15,
+        Stop::NoRoom => 16,
+    }
+}
+
+pub fn address_of(x: Access) -> u64
+    ensures { λ r. ⌜ r ≡ addressOf x ⌝ }
+{
+    match x {
+        Access::Read {
+            address,
+            mask: _,
+            ticket: _,
+        } => address,
+        Access::Write {
+            address,
+            mask: _,
+            ticket: _,
+        } => address,
+    }
+}
+
+pub fn block_of(address: u64) -> BlockAddress
+    ensures { λ r. ⌜ r .0 ≡ blockOf address ⌝ }
+{
+    BlockAddress(address - address % 128)
+}
+
+pub fn sector_of(address: u64) -> SectorAddress
+    ensures { λ r. ⌜ r .0 ≡ sectorAddressOf address ⌝ }
+{
+    SectorAddress(address - address % 32)
+}
+
+// Which of its line's four sectors an address lies in.
+pub fn sector_index(address: u64) -> usize
+    ensures { λ r. ⌜ (r ≡ sectorIndex address) × (r < 4) ⌝ }
+{
+    (address % 128 / 32) as usize
+}
+
+// "Probe and victim": the answer by status, a row each, and by column: a write, a read of a readable sector, of an unreadable one.
+const ANSWERS: [[Answer; 3]; 4] = [
+    [Answer::SectorMiss, Answer::SectorMiss, Answer::SectorMiss],
+    [
+        Answer::HitReserved,
+        Answer::HitReserved,
+        Answer::HitReserved,
+    ],
+    [Answer::Hit, Answer::Hit, Answer::Hit],
+    [Answer::Hit, Answer::Hit, Answer::SectorMiss],
+];
+
+fn column_of(x: Access, readable: bool) -> usize
+    ensures { λ r. ⌜ r ≡ columnOf x readable ⌝ }
+{
+    match x {
+        Access::Read {
+            address: _,
+            mask: _,
+            ticket: _,
+        } => { if readable { 1 } else { 2 } }
+        Access::Write {
+            address: _,
+            mask: _,
+            ticket: _,
+        } => 0,
+    }
+}
+
+// The answer of an access to a sector of a line that has its tag.
+pub fn answer_of(x: Access, s: Sector) -> Answer
+    ensures { λ r. ⌜ r ≡ answerOf x s ⌝ }
+{
+    let status = s.status;
+    let row = status_number(status) as usize;
+    let column = column_of(x, s.readable);
+    ANSWERS[row][column]
+}
