@@ -23,7 +23,7 @@ pub record Fit (S : Settings) (longs words marks : List ℕ) : Type 0 where
   pub entries : S .entries ≤ 64
   pub reader : 1 ≤ S .readers
   pub readers : S .readers ≤ 8
-  pub tickets : S .entries * S .readers ≤ 512
+  pub tickets : S .readers * S .entries ≤ 512
   pub place : 2 ≤ S .places
   pub places : S .places ≤ 64
   pub longs-long : length longs ≡ longsLength S

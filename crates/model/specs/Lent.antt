@@ -68,7 +68,7 @@ abbrev pub kindAt : Settings → List ℕ → ℕ → ℕ
 kindAt S marks p = getD marks (8 * linesOf S + 2 * S .entries + p) 0
 
 abbrev pub queueMaskAt : Settings → List ℕ → ℕ → ℕ
-queueMaskAt S words i = getD words (1 + 5 * linesOf S + S .entries * S .readers + i) 0
+queueMaskAt S words i = getD words (1 + 5 * linesOf S + S .readers * S .entries + i) 0
 
 abbrev pub nowAt : List ℕ → ℕ
 nowAt words = getD words 0 0
@@ -90,7 +90,7 @@ abbrev pub entryAt : Settings → Lent → ℕ → Entry
 entryAt S L e = record {
   address = missAt S (L .longs) e;
   sent = eqb (sentAt S (L .marks) e) 1;
-  tickets = table (ticketCountAt S (L .marks) e) (λ j. ticketAt S (L .words) (e * S .readers + j));
+  tickets = table (ticketCountAt S (L .marks) e) (λ j. ticketAt S (L .words) (S .readers * e + j));
 }
 
 abbrev pub queueAt : Settings → Lent → ℕ → Queued

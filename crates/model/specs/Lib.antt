@@ -15,3 +15,4 @@ pub mod Runner
 pub mod Rounds
 pub mod Cases
 pub mod Inner
+pub mod Regions

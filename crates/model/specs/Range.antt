@@ -34,7 +34,7 @@ longsLength S = linesOf S + S .entries + S .places
 
 -- 32-bit numbers: the current cycle, cycles, masks, tickets, queue masks
 abbrev pub wordsLength : Settings → ℕ
-wordsLength S = 1 + 5 * linesOf S + S .entries * S .readers + 4 * S .places
+wordsLength S = 1 + 5 * linesOf S + S .readers * S .entries + 4 * S .places
 
 -- bytes: statuses, readable marks, sent marks, ticket counts, queue kinds
 abbrev pub marksLength : Settings → ℕ

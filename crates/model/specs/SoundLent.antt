@@ -173,7 +173,7 @@ module _ (S : Settings) (longs words marks : List ℕ) where
       nowFine
       && linesFine
       && every (4 * linesOf S) sectorFine
-      && every (S .entries * S .readers) ticketFine
+      && every (S .readers * S .entries) ticketFine
       && gathered (S .entries) ticketCount
       && every (S .entries) entryFine
       && gathered (S .places) kind

@@ -1,0 +1,82 @@
+-- Settings in range and slices of the right lengths are fit: the ranges as facts.
+use mathlib.Core.Path.{_≡_, refl}
+use mathlib.Core.Bool.{Bool, true, _&&_}
+use mathlib.Core.List.{List}
+use Prim.Native.Nat.{ℕ, zero, suc, _+_, _*_, _≤_}
+use native.Mathlib.Nat.{mul-le-mul}
+use native.Mathlib.Omega.{arith}
+use lib.Dec.{leb}
+use lib.ListN.{length}
+use borrow.Author.Tests.{leb-true}
+use Rattle.model.specs.declared.Settings.{Settings}
+use Rattle.model.specs.Range.{linesOf, inRange, powerTo256, within, longsLength, wordsLength, marksLength}
+use Rattle.model.specs.Inner.{Fit}
+use Rattle.model.proofs.Flags.{and-1, and-2, clash}
+
+power-pos : (n : ℕ) → powerTo256 n ≡ true → 1 ≤ n
+power-pos zero e = clash e refl
+power-pos (suc n) e = omega arith
+
+-- the ranges, as facts
+pub record Ranged (S : Settings) : Type 0 where
+  pub sets : 1 ≤ S .sets
+  pub ways : 1 ≤ S .ways
+  pub few-ways : S .ways ≤ 16
+  pub lines : linesOf S ≤ 1024
+  pub percent : S .percent ≤ 100
+  pub entry : 1 ≤ S .entries
+  pub entries : S .entries ≤ 64
+  pub reader : 1 ≤ S .readers
+  pub readers : S .readers ≤ 8
+  pub place : 2 ≤ S .places
+  pub places : S .places ≤ 64
+
+pub ranged : (S : Settings) → inRange S ≡ true → Ranged S
+unfolding inRange
+ranged S e =
+    let sets : powerTo256 (S .sets) ≡ true = search (and-1, and-2) depth 9 in
+    let ways : leb 1 (S .ways) ≡ true = search (and-1, and-2) depth 9 in
+    let few-ways : leb (S .ways) 16 ≡ true = search (and-1, and-2) depth 9 in
+    let percent : leb (S .percent) 100 ≡ true = search (and-1, and-2) depth 9 in
+    let lines : leb (linesOf S) 1024 ≡ true = search (and-1, and-2) depth 9 in
+    let entry : leb 1 (S .entries) ≡ true = search (and-1, and-2) depth 9 in
+    let entries : leb (S .entries) 64 ≡ true = search (and-1, and-2) depth 9 in
+    let reader : leb 1 (S .readers) ≡ true = search (and-1, and-2) depth 9 in
+    let readers : leb (S .readers) 8 ≡ true = search (and-1, and-2) depth 9 in
+    let place : leb 2 (S .places) ≡ true = search (and-1, and-2) depth 9 in
+    let places : leb (S .places) 64 ≡ true = search (and-1, and-2) depth 9 in
+    record {
+      sets = power-pos _ sets;
+      ways = leb-true _ _ ways;
+      few-ways = leb-true _ _ few-ways;
+      lines = leb-true _ _ lines;
+      percent = leb-true _ _ percent;
+      entry = leb-true _ _ entry;
+      entries = leb-true _ _ entries;
+      reader = leb-true _ _ reader;
+      readers = leb-true _ _ readers;
+      place = leb-true _ _ place;
+      places = leb-true _ _ places;
+    }
+
+pub fit : (S : Settings) (longs words marks : List ℕ) → (inRange S ≡ true) × (length longs ≡ longsLength S) × (length words ≡ wordsLength S) × (length marks ≡ marksLength S) → Fit S longs words marks
+fit S longs words marks (r, l, w, m) =
+    let a = ranged S r in
+    let t : S .readers * S .entries ≤ 8 * 64 = mul-le-mul (a .readers) (a .entries) in
+    record {
+      sets = a .sets;
+      ways = a .ways;
+      few-ways = a .few-ways;
+      lines = a .lines;
+      percent = a .percent;
+      entry = a .entry;
+      entries = a .entries;
+      reader = a .reader;
+      readers = a .readers;
+      tickets = t;
+      place = a .place;
+      places = a .places;
+      longs-long = l;
+      words-long = w;
+      marks-long = m;
+    }
