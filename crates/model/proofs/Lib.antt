@@ -6,6 +6,7 @@ pub mod Reflect
 pub mod Rows
 pub mod Region
 pub mod Places
+pub mod Writes
 pub mod Fits
 pub mod Answers
 pub mod Fourteen
