@@ -1,0 +1,167 @@
+//! The record reader and the stream runner of document 01's section "Records".
+
+use crate::model::ROOM_NEEDED;
+use crate::model::{fresh_on, outcome_bytes, Access, Cache, Call, Refusal, Settings, Tables};
+
+/// The stop numbers; 1 and 2 are those of the refusals.
+pub const STOP_END: u8 = 0;
+pub const STOP_BAD_SETTINGS: u8 = 1;
+pub const STOP_OTHER_LENGTH: u8 = 2;
+pub const STOP_SETTINGS_PLACE: u8 = 13;
+pub const STOP_UNKNOWN_KIND: u8 = 14;
+pub const STOP_CUT_SHORT: u8 = 15;
+pub const STOP_NO_ROOM: u8 = 16;
+
+pub const KIND_SETTINGS: u8 = 0;
+pub const KIND_READ: u8 = 1;
+pub const KIND_WRITE: u8 = 2;
+pub const KIND_SEND: u8 = 3;
+pub const KIND_FILL: u8 = 4;
+pub const KIND_TICK: u8 = 5;
+
+/// The length of the body of a command or event record.
+pub fn body_length(kind: u8) -> Option<usize> {
+    command_length(kind).or_else(|| event_length(kind))
+}
+
+pub fn command_length(kind: u8) -> Option<usize> {
+    match kind {
+        KIND_SETTINGS => Some(7),
+        KIND_READ | KIND_WRITE => Some(12),
+        KIND_SEND => Some(0),
+        KIND_FILL => Some(8),
+        KIND_TICK => Some(4),
+        _ => None,
+    }
+}
+
+fn event_length(kind: u8) -> Option<usize> {
+    match kind {
+        0x10 => Some(3),
+        0x11 => Some(1),
+        0x12 | 0x15 | 0x17 => Some(8),
+        0x13 | 0x16 => Some(24),
+        0x14 => Some(4),
+        0x18 => Some(0),
+        _ => None,
+    }
+}
+
+/// The kind and the unjudged body of the record at a place of the stream, or 14 or 15.
+pub fn read_record(stream: &[u8], at: usize) -> Result<(u8, &[u8]), u8> {
+    let rest = stream.get(at..).unwrap_or(&[]);
+    let (&kind, rest) = rest.split_first().ok_or(STOP_CUT_SHORT)?;
+    let length = body_length(kind).ok_or(STOP_UNKNOWN_KIND)?;
+    let body = rest.get(..length).ok_or(STOP_CUT_SHORT)?;
+    Ok((kind, body))
+}
+
+#[derive(Clone, Copy, PartialEq, Eq, Debug)]
+pub struct Stopped {
+    pub number: u8,
+    /// Bytes of the records run.
+    pub consumed: usize,
+    /// Bytes of events written.
+    pub written: usize,
+}
+
+/// Runs a stream on lent tables, with room for events.
+pub fn run(stream: &[u8], tables: &mut Tables, room: &mut [u8]) -> Stopped {
+    let mut run = Run { stream, room, cache: None, consumed: 0, written: 0 };
+    let number = loop {
+        if run.consumed == stream.len() {
+            break STOP_END;
+        }
+        if let Err(number) = run.step(tables) {
+            break number;
+        }
+    };
+    if let Some(cache) = &run.cache {
+        *tables = cache.encode();
+    }
+    Stopped { number, consumed: run.consumed, written: run.written }
+}
+
+struct Run<'a> {
+    stream: &'a [u8],
+    room: &'a mut [u8],
+    /// There is one once the settings record has been run.
+    cache: Option<Cache>,
+    consumed: usize,
+    written: usize,
+}
+
+impl Run<'_> {
+    /// Runs the next record, or gives the stop number and does nothing.
+    fn step(&mut self, tables: &mut Tables) -> Result<(), u8> {
+        // To the runner event kinds are unknown kinds, also where they are cut short.
+        command_length(self.stream[self.consumed]).ok_or(STOP_UNKNOWN_KIND)?;
+        let (kind, body) = read_record(self.stream, self.consumed)?;
+        match (&mut self.cache, kind) {
+            (None, KIND_SETTINGS) => {
+                let settings = Settings::from_body(body);
+                fresh_on(&settings, tables).map_err(Refusal::number)?;
+                self.cache = Some(Cache::fresh(settings));
+            }
+            (None, _) | (Some(_), KIND_SETTINGS) => return Err(STOP_SETTINGS_PLACE),
+            (Some(cache), _) => {
+                if self.room.len() - self.written < ROOM_NEEDED {
+                    return Err(STOP_NO_ROOM);
+                }
+                let events = outcome_bytes(&cache.call(command(kind, body)));
+                self.room[self.written..self.written + events.len()].copy_from_slice(&events);
+                self.written += events.len();
+            }
+        }
+        self.consumed += 1 + body.len();
+        Ok(())
+    }
+}
+
+/// The call that a whole command record names; it is not the settings record.
+fn command(kind: u8, body: &[u8]) -> Call {
+    match kind {
+        KIND_READ => Call::Access(Access::read(u64_at(body, 0), u32_at(body, 8))),
+        KIND_WRITE => Call::Access(Access::write(u64_at(body, 0), u32_at(body, 8))),
+        KIND_SEND => Call::Send,
+        KIND_FILL => Call::Fill(u64_at(body, 0)),
+        KIND_TICK => Call::Tick(u32_at(body, 0)),
+        _ => unreachable!("only command kinds come here"),
+    }
+}
+
+fn u64_at(body: &[u8], at: usize) -> u64 {
+    u64::from_le_bytes(body[at..at + 8].try_into().expect("eight bytes"))
+}
+
+fn u32_at(body: &[u8], at: usize) -> u32 {
+    u32::from_le_bytes(body[at..at + 4].try_into().expect("four bytes"))
+}
+
+/// Zero tables of the lengths that the stream's own settings ask for, if it has good ones.
+pub fn tables_for(stream: &[u8]) -> Tables {
+    match read_record(stream, 0) {
+        Ok((KIND_SETTINGS, body)) if Settings::from_body(body).in_range() => {
+            Tables::zero(&Settings::from_body(body))
+        }
+        _ => Tables::default(),
+    }
+}
+
+pub fn settings_record(settings: &Settings) -> Vec<u8> {
+    let body = settings.body().expect("settings fit their record");
+    [&[KIND_SETTINGS][..], &body].concat()
+}
+
+pub fn call_record(call: &Call) -> Vec<u8> {
+    let pair = |kind: u8, address: u64, number: u32| {
+        [&[kind][..], &address.to_le_bytes(), &number.to_le_bytes()].concat()
+    };
+    match *call {
+        Call::Access(access) if access.is_write => pair(KIND_WRITE, access.address, access.mask),
+        Call::Access(access) => pair(KIND_READ, access.address, access.ticket),
+        Call::Send => vec![KIND_SEND],
+        Call::Fill(address) => [&[KIND_FILL][..], &address.to_le_bytes()].concat(),
+        Call::Tick(cycle) => [&[KIND_TICK][..], &cycle.to_le_bytes()].concat(),
+    }
+}

@@ -1,0 +1,221 @@
+//! Mistakes that the twin can make, by name: document 01's easy slips, some more
+//! of that kind, and `condition-N`, which leaves condition N out of the soundness
+//! check.
+
+use reference::model::{self, block_of, Access, Cache, Call, Layout, Outcome, Place, Refusal};
+use reference::model::{Settings, Status, Tables};
+use std::sync::OnceLock;
+
+/// The fault named in the environment, or the empty name for none.
+#[derive(Clone, Copy)]
+pub struct Fault(&'static str);
+
+static NAME: OnceLock<String> = OnceLock::new();
+
+impl Fault {
+    pub fn planted() -> Fault {
+        Fault(NAME.get_or_init(|| std::env::var("TWIN_FAULT").unwrap_or_default()))
+    }
+
+    /// Slips that a call on another argument shows.
+    pub fn alter_call(self, call: Call) -> Call {
+        match (self.0, call) {
+            ("read-mask-ignored", Call::Access(access)) if !access.is_write => {
+                Call::Access(Access { mask: 0, ..access })
+            }
+            ("fill-rounded-down", Call::Fill(address)) => Call::Fill(model::sector_of(address)),
+            ("tick-clamped", Call::Tick(cycle)) => Call::Tick(cycle.min(model::LAST_CYCLE)),
+            ("write-ticket-needed", Call::Access(access)) if access.is_write => {
+                let mask = if access.ticket == u32::MAX { 0 } else { access.mask };
+                Call::Access(Access { mask, ..access })
+            }
+            _ => call,
+        }
+    }
+
+    /// Slips in the choice of the victim: an accepted access ends otherwise.
+    pub fn alter_victim(
+        self,
+        settings: &Settings,
+        before: &Tables,
+        call: &Call,
+    ) -> Option<(Tables, Outcome)> {
+        let Call::Access(access) = *call else {
+            return None;
+        };
+        let slip = match self.0 {
+            "way-order-reversed" => access_reversed,
+            "dirty-counted-in-set" => access_in_set,
+            "victim-thrown-out-early" => access_too_early,
+            _ => return None,
+        };
+        model::check(settings, before).ok()?;
+        let mut cache = Cache::decode(settings, before);
+        let outcome = access.well_formed().then(|| slip(&mut cache, access))?;
+        Some((cache.encode(), outcome))
+    }
+
+    pub fn alter_room(self, room: usize) -> usize {
+        match self.0 {
+            "room-ignored" => room.max(model::ROOM_NEEDED),
+            "room-above-64" => room.saturating_sub(1),
+            _ => room,
+        }
+    }
+
+    /// Slips in the tables or the events after the call.
+    pub fn alter_result(
+        self,
+        settings: &Settings,
+        before: &Tables,
+        tables: &mut Tables,
+        call: &Call,
+        written: &mut Vec<u8>,
+    ) {
+        let refused = written.first() == Some(&0x11);
+        match (self.0, call) {
+            ("send-does-nothing", Call::Send) => *tables = before.clone(),
+            ("fill-does-nothing", Call::Fill(_)) => *tables = before.clone(),
+            ("refuses-everything", _) if !refused && !written.is_empty() => {
+                *tables = before.clone();
+                *written = vec![0x11, 6];
+            }
+            ("hit-for-all", Call::Access(_)) if !refused && !written.is_empty() => {
+                *tables = before.clone();
+                *written = vec![0x10, 1, 0, 0];
+            }
+            ("refusal-moves-cycle", Call::Access(access)) if written[..] == [0x11, 7] => {
+                move_cycle(settings, tables, access.address);
+            }
+            ("mask-cleared-on-fetch", Call::Access(access)) if written.starts_with(&[0x10, 4]) => {
+                clear_fetched_mask(settings, tables, access);
+            }
+            ("busy-for-held", _) if written[..] == [0x11, 6] => written[1] = 5,
+            ("entry-before-queue", Call::Access(access)) if written[..] == [0x11, 7] => {
+                written[1] = number_without_queue(settings, before, access);
+            }
+            ("last-ticket-kept", Call::Fill(_)) if !refused && !written.is_empty() => {
+                keep_last_ticket(settings, before, tables);
+            }
+            ("lengths-not-checked", _) if written[..] == [0x11, 2] => written[1] = 3,
+            _ => (),
+        }
+    }
+
+    pub fn alter_rest(self, rest: &mut [u8]) {
+        if self.0 == "rest-of-room-cleared" {
+            rest.fill(0);
+        }
+    }
+
+    pub fn alter_check(
+        self,
+        settings: &Settings,
+        tables: &Tables,
+        outcome: Result<(), Refusal>,
+    ) -> Result<(), Refusal> {
+        let left_out = self.0.strip_prefix("condition-").and_then(|number| number.parse().ok());
+        match (left_out, outcome) {
+            (Some(number), Err(Refusal::NotSound))
+                if model::broken(settings, tables) == [number] =>
+            {
+                Ok(())
+            }
+            _ => outcome,
+        }
+    }
+
+    /// # Safety
+    /// The byte behind the marks belongs to the caller's guards.
+    pub unsafe fn spill(self, marks: *mut u8, length: usize) {
+        if self.0 == "writes-past-the-end" && length > 0 {
+            *marks.add(length) = 0;
+        }
+    }
+}
+
+/// The first invalid way instead of the last, and the last among equal cycles.
+fn access_reversed(cache: &mut Cache, access: Access) -> Outcome {
+    let ways = cache.settings.ways as usize;
+    cache.lines.chunks_mut(ways).for_each(|set| set.reverse());
+    let mut outcome = cache.access(access);
+    cache.lines.chunks_mut(ways).for_each(|set| set.reverse());
+    for event in outcome.iter_mut().flatten() {
+        if let model::Event::Answer { line, .. } = event {
+            let way = *line as usize % ways;
+            *line = (*line as usize - way + ways - 1 - way) as u16;
+        }
+    }
+    outcome
+}
+
+/// The access in a cache that has only its set, so that other sets' dirty lines do not count.
+fn access_in_set(cache: &mut Cache, access: Access) -> Outcome {
+    let ways = cache.settings.ways as usize;
+    let first = cache.settings.set_of(access.address) * ways;
+    let mut alone = cache.clone();
+    alone.settings.sets = 1;
+    alone.lines = cache.lines[first..first + ways].to_vec();
+    let mut outcome = alone.access(access);
+    cache.lines[first..first + ways].copy_from_slice(&alone.lines);
+    cache.misses = alone.misses;
+    cache.queue = alone.queue;
+    for event in outcome.iter_mut().flatten() {
+        if let model::Event::Answer { line, .. } = event {
+            *line += first as u16;
+        }
+    }
+    outcome
+}
+
+/// The victim is gone although the queue then has too few places.
+fn access_too_early(cache: &mut Cache, access: Access) -> Outcome {
+    let outcome = cache.access(access);
+    if outcome == Err(Refusal::QueueFull) {
+        let mut roomy = cache.clone();
+        roomy.settings.places += 4;
+        if roomy.access(access).is_ok() {
+            let changed =
+                (0..cache.lines.len()).find(|&n| cache.lines[n].tag != roomy.lines[n].tag);
+            changed.into_iter().for_each(|number| cache.lines[number] = model::Line::EMPTY);
+        }
+    }
+    outcome
+}
+
+/// The write-back of a sector that was fetched while partly dirty loses its bytes.
+fn clear_fetched_mask(settings: &Settings, tables: &mut Tables, access: &Access) {
+    let mut cache = Cache::decode(settings, tables);
+    if let Some(number) = cache.matching_line(block_of(access.address)) {
+        let sector = &mut cache.lines[number].sectors[model::sector_index(access.address)];
+        if sector.status == Status::Reserved {
+            sector.mask = 0;
+        }
+    }
+    *tables = cache.encode();
+}
+
+/// The cycle of the line that an access refused for want of places would have moved.
+fn move_cycle(settings: &Settings, tables: &mut Tables, address: u64) {
+    let cache = Cache::decode(settings, tables);
+    if let Some(line) = cache.matching_line(block_of(address)) {
+        tables.set(Layout::of(settings).line_cycle(line), u64::from(cache.cycle));
+    }
+}
+
+/// The refusal that 7 stands before, found by emptying a queue that has places enough.
+fn number_without_queue(settings: &Settings, before: &Tables, access: &Access) -> u8 {
+    let mut cache = Cache::decode(settings, before);
+    cache.settings.places += 4;
+    cache.access(*access).err().map_or(7, Refusal::number)
+}
+
+/// The first ticket place of the entry that closing up made unused is not cleared.
+fn keep_last_ticket(settings: &Settings, before: &Tables, tables: &mut Tables) {
+    let layout = Layout::of(settings);
+    let count = (0..layout.entries)
+        .take_while(|&entry| before.get(layout.ticket_count(entry)) != 0)
+        .count();
+    let freed: Place = layout.ticket(count - 1, 0);
+    tables.set(freed, before.get(freed));
+}

@@ -1,0 +1,163 @@
+//! The reference under the exported names, as a static archive: what `calls` is
+//! tried on. With TWIN_FAULT in the environment it makes one mistake on purpose,
+//! and `calls` has to find it.
+
+mod faults;
+
+use faults::Fault;
+use reference::model::{self, Access, Call, Refusal, Settings, Tables};
+
+/// The settings of an exported call, from its first six numbers.
+macro_rules! settings {
+    ($($number:ident),*) => { Settings::new([$($number),*]) };
+}
+
+/// A slice from its pointer and length; an empty one may have any pointer.
+unsafe fn slice<'a, T>(start: *const T, length: usize) -> &'a [T] {
+    if length == 0 {
+        return &[];
+    }
+    std::slice::from_raw_parts(start, length)
+}
+
+unsafe fn slice_mut<'a, T>(start: *mut T, length: usize) -> &'a mut [T] {
+    if length == 0 {
+        return &mut [];
+    }
+    std::slice::from_raw_parts_mut(start, length)
+}
+
+/// The caller's three slices.
+struct Lent<'a> {
+    longs: &'a mut [u64],
+    words: &'a mut [u32],
+    marks: &'a mut [u8],
+}
+
+impl Lent<'_> {
+    fn tables(&self) -> Tables {
+        Tables {
+            longs: self.longs.to_vec(),
+            words: self.words.to_vec(),
+            marks: self.marks.to_vec(),
+        }
+    }
+
+    fn store(&mut self, tables: &Tables) {
+        self.longs.copy_from_slice(&tables.longs);
+        self.words.copy_from_slice(&tables.words);
+        self.marks.copy_from_slice(&tables.marks);
+    }
+}
+
+fn number(outcome: Result<(), Refusal>) -> u32 {
+    outcome.map_or_else(|refusal| u32::from(refusal.number()), |()| 0)
+}
+
+fn serve(settings: Settings, mut lent: Lent, call: Call, events: &mut [u8]) -> usize {
+    let fault = Fault::planted();
+    let before = lent.tables();
+    let mut tables = before.clone();
+    let call = fault.alter_call(call);
+    let room = fault.alter_room(events.len());
+    let mut written = model::call_bytes(&settings, &mut tables, call, room);
+    if room >= model::ROOM_NEEDED {
+        if let Some((altered, outcome)) = fault.alter_victim(&settings, &before, &call) {
+            tables = altered;
+            written = model::outcome_bytes(&outcome);
+        }
+    }
+    fault.alter_result(&settings, &before, &mut tables, &call, &mut written);
+    written.truncate(events.len());
+    lent.store(&tables);
+    events[..written.len()].copy_from_slice(&written);
+    fault.alter_rest(&mut events[written.len()..]);
+    written.len()
+}
+
+macro_rules! export_lengths {
+    ($($name:ident $which:literal),*) => { $(
+        #[no_mangle]
+        pub extern "C" fn $name(s: u32, w: u32, p: u32, m: u32, r: u32, q: u32) -> usize {
+            model::lengths_for(&settings!(s, w, p, m, r, q))[$which]
+        }
+    )* };
+}
+
+export_lengths!(
+    labintugmo_longs_length 0,
+    labintugmo_words_length 1,
+    labintugmo_marks_length 2
+);
+
+/// # Safety
+/// Each pointer is good for the length beside it.
+#[no_mangle]
+#[rustfmt::skip]
+pub unsafe extern "C" fn labintugmo_fresh(
+    s: u32, w: u32, p: u32, m: u32, r: u32, q: u32,
+    longs: *mut u64, longs_length: usize, words: *mut u32, words_length: usize,
+    marks: *mut u8, marks_length: usize,
+) -> u32 {
+    let mut lent = Lent {
+        longs: slice_mut(longs, longs_length),
+        words: slice_mut(words, words_length),
+        marks: slice_mut(marks, marks_length),
+    };
+    let mut tables = lent.tables();
+    let outcome = model::fresh_on(&settings!(s, w, p, m, r, q), &mut tables);
+    lent.store(&tables);
+    Fault::planted().spill(marks, marks_length);
+    number(outcome)
+}
+
+/// # Safety
+/// Each pointer is good for the length beside it.
+#[no_mangle]
+#[rustfmt::skip]
+pub unsafe extern "C" fn labintugmo_check(
+    s: u32, w: u32, p: u32, m: u32, r: u32, q: u32,
+    longs: *const u64, longs_length: usize, words: *const u32, words_length: usize,
+    marks: *const u8, marks_length: usize,
+) -> u32 {
+    let tables = Tables {
+        longs: slice(longs, longs_length).to_vec(),
+        words: slice(words, words_length).to_vec(),
+        marks: slice(marks, marks_length).to_vec(),
+    };
+    let settings = settings!(s, w, p, m, r, q);
+    let outcome = model::check(&settings, &tables);
+    number(Fault::planted().alter_check(&settings, &tables, outcome))
+}
+
+macro_rules! export_call {
+    ($name:ident($($argument:ident: $kind:ty),*) $call:expr) => {
+        /// # Safety
+        /// Each pointer is good for the length beside it, and no two slices overlap.
+        #[no_mangle]
+        #[rustfmt::skip]
+        pub unsafe extern "C" fn $name(
+            s: u32, w: u32, p: u32, m: u32, r: u32, q: u32,
+            longs: *mut u64, longs_length: usize, words: *mut u32, words_length: usize,
+            marks: *mut u8, marks_length: usize, $($argument: $kind,)*
+            events: *mut u8, events_length: usize,
+        ) -> usize {
+            let lent = Lent {
+                longs: slice_mut(longs, longs_length),
+                words: slice_mut(words, words_length),
+                marks: slice_mut(marks, marks_length),
+            };
+            serve(settings!(s, w, p, m, r, q), lent, $call, slice_mut(events, events_length))
+        }
+    };
+}
+
+export_call!(labintugmo_read(address: u64, ticket: u32)
+    Call::Access(Access::read(address, ticket)));
+export_call!(labintugmo_write(address: u64, mask: u32)
+    Call::Access(Access::write(address, mask)));
+export_call!(labintugmo_access(is_write: u32, address: u64, mask: u32, ticket: u32)
+    Call::Access(Access { is_write: is_write != 0, address, mask, ticket }));
+export_call!(labintugmo_send() Call::Send);
+export_call!(labintugmo_fill(address: u64) Call::Fill(address));
+export_call!(labintugmo_tick(cycle: u32) Call::Tick(cycle));
