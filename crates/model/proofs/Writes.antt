@@ -48,12 +48,12 @@ fit-snoc zero l k h = absurd (not-suc-le-zero h)
 fit-snoc (suc w) [] k h = refl
 fit-snoc (suc w) (x ∷ l) k h = ap (λ (r : List ℕ). x ∷ r) (fit-snoc w l k (le-of-suc-le-suc h))
 
-pub fit-four : (w : ℕ) (l : List ℕ) → length l ≡ w → fit w l ≡ l
+pub fit-same : (w : ℕ) (l : List ℕ) → length l ≡ w → fit w l ≡ l
 unfolding fit
-fit-four zero [] h = refl
-fit-four zero (x ∷ l) h = absurd (omega arith)
-fit-four (suc w) [] h = absurd (omega arith)
-fit-four (suc w) (x ∷ l) h = ap (λ (r : List ℕ). x ∷ r) (fit-four w l (omega arith))
+fit-same zero [] h = refl
+fit-same zero (x ∷ l) h = absurd (omega arith)
+fit-same (suc w) [] h = absurd (omega arith)
+fit-same (suc w) (x ∷ l) h = ap (λ (r : List ℕ). x ∷ r) (fit-same w l (omega arith))
 
 -- ---- the lengths of encoded slices
 
@@ -72,54 +72,44 @@ sizes e = record {
 module _ (S : Settings) (t : Tables) {longs words marks : List ℕ} (h : Encoded S longs words marks t) where
   -- ---- a line anew: its tag, its cycle, its four sectors
 
-  pub line-written : (l : ℕ) (y : Line) → l < length (t .lines) → length (t .lines) ≡ linesOf S → length (y .sectors) ≡ 4 → {longs′ words′ marks′ : List ℕ}
-      → longs′ ≡ set longs l (y .tag)
-      → words′ ≡ sets (set words (1 + l) (y .cycle)) (1 + linesOf S + 4 * l) (masksOf y)
-      → marks′ ≡ sets (sets marks (4 * l) (statusesOf y)) (4 * linesOf S + 4 * l) (readablesOf y)
+  pub line-written : (l : ℕ) (y : Line) → l < length (t .lines) → length (t .lines) ≡ linesOf S → length (y .sectors) ≡ 4
+      → {i j k : ℕ} {longs′ words′ marks′ : List ℕ} → i ≡ 1 + linesOf S + 4 * l → j ≡ 4 * l → k ≡ 4 * linesOf S + 4 * l
+      → longs′ ≡ put longs l (y .tag ∷ [])
+      → words′ ≡ put (put words (1 + l) (y .cycle ∷ [])) i (masksOf y)
+      → marks′ ≡ put (put marks j (statusesOf y)) k (readablesOf y)
       → Encoded S longs′ words′ marks′ (withLines (set (t .lines) l y) t)
   unfolding fit
-  line-written l y below all four {longs′} {words′} {marks′} a b c =
-      let z = sizes h in
+  line-written l y below all four {i} {j} {k} at-masks at-statuses at-readables a b c =
       let few : length (t .lines) ≤ linesOf S = omega arith in
       let m : length (masksOf y) ≡ 4 = length-map (y .sectors) _ ∙ four in
       let s : length (statusesOf y) ≡ 4 = length-map (y .sectors) _ ∙ four in
       let r : length (readablesOf y) ≡ 4 = length-map (y .sectors) _ ∙ four in
-      let w₁ : set words (1 + l) (y .cycle) ≡ joined (set (wordBlocks S t) 1 (places cycleOf 1 (linesOf S) (set (t .lines) l y))) =
-      field-put cycleOf 1 (linesOf S) (t .lines) (wordBlocks S t) 1 l {i = 1 + l} (h .words-are) refl (omega arith) (omega arith) below few y {r = y .cycle ∷ []} refl
-      (sets-put words (1 + l) (y .cycle ∷ []) (omega arith)) in
-      let m₁ : sets marks (4 * l) (statusesOf y) ≡ joined (set (markBlocks S t) 0 (places statusesOf 4 (linesOf S) (set (t .lines) l y))) =
-      field-put statusesOf 4 (linesOf S) (t .lines) (markBlocks S t) 0 l {i = 4 * l} (h .marks-are) refl (omega arith) (omega arith) below few y (sym (fit-four 4 (statusesOf y) s))
-      (sets-put marks (4 * l) (statusesOf y) (omega arith)) in
+      let w₁ : put words (1 + l) (y .cycle ∷ []) ≡ joined (set (wordBlocks S t) 1 (places cycleOf 1 (linesOf S) (set (t .lines) l y))) =
+      field-put cycleOf 1 (linesOf S) (t .lines) (wordBlocks S t) 1 l {i = 1 + l} (h .words-are) refl (omega arith) (omega arith) below few y {r = y .cycle ∷ []} refl refl in
+      let m₁ : put marks j (statusesOf y) ≡ joined (set (markBlocks S t) 0 (places statusesOf 4 (linesOf S) (set (t .lines) l y))) =
+      field-put statusesOf 4 (linesOf S) (t .lines) (markBlocks S t) 0 l {i = j} (h .marks-are) refl (omega arith) (omega arith) below few y (sym (fit-same 4 (statusesOf y) s)) refl in
       record {
-        longs-are = field-put tagOf 1 (linesOf S) (t .lines) (longBlocks S t) 0 l {i = l} (h .longs-are) refl (omega arith) (omega arith) below few y {r = y .tag ∷ []} refl
-            (a ∙ sets-put longs l (y .tag ∷ []) (omega arith));
-        words-are = field-put masksOf 4 (linesOf S) (t .lines) (set (wordBlocks S t) 1 (places cycleOf 1 (linesOf S) (set (t .lines) l y))) 2 l {i = 1 + linesOf S + 4 * l} w₁ refl
-            (simp length-places (omega arith)) (omega arith) below few y (sym (fit-four 4 (masksOf y) m))
-            (b ∙ sets-put (set words (1 + l) (y .cycle)) (1 + linesOf S + 4 * l) (masksOf y) (rw length-set (omega arith)));
-        marks-are = field-put readablesOf 4 (linesOf S) (t .lines) (set (markBlocks S t) 0 (places statusesOf 4 (linesOf S) (set (t .lines) l y))) 1 l {i = 4 * linesOf S + 4 * l} m₁ refl
-            (simp length-places (omega arith)) (omega arith) below few y (sym (fit-four 4 (readablesOf y) r))
-            (c ∙ sets-put (sets marks (4 * l) (statusesOf y)) (4 * linesOf S + 4 * l) (readablesOf y) (rw length-sets (omega arith)));
+        longs-are = field-put tagOf 1 (linesOf S) (t .lines) (longBlocks S t) 0 l {i = l} (h .longs-are) refl (omega arith) (omega arith) below few y {r = y .tag ∷ []} refl a;
+        words-are = field-put masksOf 4 (linesOf S) (t .lines) (set (wordBlocks S t) 1 (places cycleOf 1 (linesOf S) (set (t .lines) l y))) 2 l {i = i} w₁ refl
+            (simp length-places (omega arith)) (omega arith) below few y (sym (fit-same 4 (masksOf y) m)) b;
+        marks-are = field-put readablesOf 4 (linesOf S) (t .lines) (set (markBlocks S t) 0 (places statusesOf 4 (linesOf S) (set (t .lines) l y))) 1 l {i = k} m₁ refl
+            (simp length-places (omega arith)) (omega arith) below few y (sym (fit-same 4 (readablesOf y) r)) c;
       }
 
   -- ---- the queue: a write-back more
 
-  pub write-back-pushed : (block : ℕ) (masks : List ℕ) → length (t .queue) < S .places → length masks ≡ 4 → {longs′ words′ marks′ : List ℕ}
-      → longs′ ≡ set longs (linesOf S + S .entries + length (t .queue)) block
-      → words′ ≡ sets words (1 + 5 * linesOf S + S .readers * S .entries + 4 * length (t .queue)) masks
-      → marks′ ≡ set marks (8 * linesOf S + 2 * S .entries + length (t .queue)) 2
+  pub write-back-pushed : (block : ℕ) (masks : List ℕ) → length (t .queue) < S .places → length masks ≡ 4
+      → {i j k : ℕ} {longs′ words′ marks′ : List ℕ} → i ≡ linesOf S + S .entries + length (t .queue)
+      → j ≡ 1 + 5 * linesOf S + S .readers * S .entries + 4 * length (t .queue) → k ≡ 8 * linesOf S + 2 * S .entries + length (t .queue)
+      → longs′ ≡ put longs i (block ∷ []) → words′ ≡ put words j masks → marks′ ≡ put marks k (2 ∷ [])
       → Encoded S longs′ words′ marks′ (withQueue (t .queue ++ (writing block masks ∷ [])) t)
   unfolding fit
-  write-back-pushed block masks few four p q r =
-      let z = sizes h in
-      record {
-        longs-are = field-push queuedOf 1 (S .places) (t .queue) (longBlocks S t) 2 (h .longs-are) refl (simp length-places (omega arith)) (omega arith) few (writing block masks) {r = block ∷ []} refl
-            (p ∙ sets-put longs (linesOf S + S .entries + length (t .queue)) (block ∷ []) (omega arith));
-        words-are = field-push queueMasksOf 4 (S .places) (t .queue) (wordBlocks S t) 4 (h .words-are) refl (simp length-places (omega arith)) (omega arith) few (writing block masks)
-            (sym (fit-four 4 masks four))
-            (q ∙ sets-put words (1 + 5 * linesOf S + S .readers * S .entries + 4 * length (t .queue)) masks (omega arith));
-        marks-are = field-push kindOf 1 (S .places) (t .queue) (markBlocks S t) 4 (h .marks-are) refl (simp length-places (omega arith)) (omega arith) few (writing block masks) {r = 2 ∷ []} refl
-            (r ∙ sets-put marks (8 * linesOf S + 2 * S .entries + length (t .queue)) (2 ∷ []) (omega arith));
-      }
+  write-back-pushed block masks few four at-longs at-words at-marks p q r = record {
+    longs-are = field-push queuedOf 1 (S .places) (t .queue) (longBlocks S t) 2 (h .longs-are) refl (simp length-places (omega arith)) (omega arith) few (writing block masks) {r = block ∷ []} refl p;
+    words-are = field-push queueMasksOf 4 (S .places) (t .queue) (wordBlocks S t) 4 (h .words-are) refl (simp length-places (omega arith)) (omega arith) few (writing block masks)
+        (sym (fit-same 4 masks four)) q;
+    marks-are = field-push kindOf 1 (S .places) (t .queue) (markBlocks S t) 4 (h .marks-are) refl (simp length-places (omega arith)) (omega arith) few (writing block masks) {r = 2 ∷ []} refl r;
+  }
 
 -- ---- records whose numbers in a field are as before
 
@@ -159,81 +149,74 @@ unfolding fit
 none-fits = refl
 
 module _ (S : Settings) (t : Tables) {longs words marks : List ℕ} (h : Encoded S longs words marks t) where
+  -- ---- the queue: a read more, whose mask places are zero already
+
+  pub read-pushed : (a : ℕ) → length (t .queue) < S .places
+      → {i k : ℕ} {longs′ marks′ : List ℕ} → i ≡ linesOf S + S .entries + length (t .queue) → k ≡ 8 * linesOf S + 2 * S .entries + length (t .queue)
+      → longs′ ≡ put longs i (a ∷ []) → marks′ ≡ put marks k (1 ∷ [])
+      → Encoded S longs′ words marks′ (withQueue (t .queue ++ (reading a ∷ [])) t)
+  read-pushed a few at-longs at-marks p r = record {
+    longs-are = field-push queuedOf 1 (S .places) (t .queue) (longBlocks S t) 2 (h .longs-are) refl (simp length-places (omega arith)) (omega arith) few (reading a) {r = a ∷ []} (one-fits a) p;
+    words-are = h .words-are ∙ ap (λ (l : List ℕ). joined (set (wordBlocks S t) 4 l)) (sym (places-zero queueMasksOf 4 (S .places) (t .queue) (reading a) refl));
+    marks-are = field-push kindOf 1 (S .places) (t .queue) (markBlocks S t) 4 (h .marks-are) refl (simp length-places (omega arith)) (omega arith) few (reading a) {r = 1 ∷ []} (one-fits 1) r;
+  }
+
   -- ---- the miss table: an unsent entry more, with one ticket
 
-  ticket-places : length (t .misses) < S .entries → region words (1 + 5 * linesOf S + S .readers * length (t .misses)) (S .readers) ≡ fit (S .readers) []
-  ticket-places few =
-      let a : S .readers * suc (length (t .misses)) ≤ S .readers * S .entries = mul-le-mul-left (S .readers) few in
-      let b = mul-suc (S .readers) (length (t .misses)) in
-      block-region (wordBlocks S t) 3 (S .readers * length (t .misses)) (h .words-are) (simp length-places (omega arith)) (omega arith) (S .readers)
-      (simp length-places (omega arith))
-      ∙ places-rest ticketsIn (S .readers) (S .entries) (t .misses) few
+  -- one ticket of an entry, as all its ticket places
+  one-ticket : (i n k : ℕ) (ts us : List ℕ) → n < S .readers → i + S .readers ≤ length words → region words i (S .readers) ≡ fit (S .readers) ts → n ≡ length ts → us ≡ ts ++ (k ∷ [])
+      → put words (i + n) (k ∷ []) ≡ put words i (fit (S .readers) us)
+  one-ticket i n k ts us room long here e joins =
+      let q : i + n + 1 ≤ length words = omega arith in
+      sym (sets-put words (i + n) (k ∷ []) q)
+      ∙ sets-region words i (S .readers) n (k ∷ []) long (omega arith)
+      ∙ ap (λ (l : List ℕ). put words i (set l n k)) here
+      ∙ ap (λ (m : ℕ). put words i (set (fit (S .readers) ts) m k)) e
+      ∙ ap (put words i) (fit-snoc (S .readers) ts k (omega arith))
+      ∙ ap (λ (l : List ℕ). put words i (fit (S .readers) l)) (sym joins)
 
-  pub entry-added : (y : Entry) (k : ℕ) → length (t .misses) < S .entries → 1 ≤ S .readers → y .sent ≡ false → y .tickets ≡ k ∷ [] → {longs′ words′ marks′ : List ℕ}
-      → longs′ ≡ set longs (linesOf S + length (t .misses)) (y .address)
-      → words′ ≡ set words (1 + 5 * linesOf S + S .readers * length (t .misses)) k
-      → marks′ ≡ set marks (8 * linesOf S + S .entries + length (t .misses)) 1
+  pub entry-added : (y : Entry) (k : ℕ) → length (t .misses) < S .entries → 1 ≤ S .readers → y .sent ≡ false → y .tickets ≡ k ∷ []
+      → {i j m : ℕ} {longs′ words′ marks′ : List ℕ} → i ≡ linesOf S + length (t .misses)
+      → j ≡ 1 + 5 * linesOf S + S .readers * length (t .misses) → m ≡ 8 * linesOf S + S .entries + length (t .misses)
+      → longs′ ≡ put longs i (y .address ∷ []) → words′ ≡ put words j (k ∷ []) → marks′ ≡ put marks m (1 ∷ [])
       → Encoded S longs′ words′ marks′ (withMisses (t .misses ++ (y ∷ [])) t)
-  entry-added y k few one unsent ticket {words′ = words′} p q r =
+  entry-added y k few some unsent ticket {j = j} at-longs at-words at-marks p q r =
       let z = sizes h in
       let a : S .readers * suc (length (t .misses)) ≤ S .readers * S .entries = mul-le-mul-left (S .readers) few in
       let b = mul-suc (S .readers) (length (t .misses)) in
-      let i = 1 + 5 * linesOf S + S .readers * length (t .misses) in
-      let first : sets (region words i (S .readers)) 0 (k ∷ []) ≡ fit (S .readers) (ticketsIn y) =
-      ap (λ (l : List ℕ). set l 0 k) (ticket-places few) ∙ fit-snoc (S .readers) [] k one ∙ ap (fit (S .readers)) (sym ticket) in
-      let w : words′ ≡ put words i (sets (region words i (S .readers)) 0 (k ∷ [])) =
-      q ∙ ap (λ (n : ℕ). set words n k) (sym (add-zero i)) ∙ sets-region words i (S .readers) 0 (k ∷ []) (omega arith) (omega arith) in
+      let here : region words j (S .readers) ≡ fit (S .readers) [] =
+      block-region (wordBlocks S t) 3 (S .readers * length (t .misses)) (h .words-are) (simp length-places (omega arith)) (omega arith) (S .readers) (simp length-places (omega arith))
+      ∙ places-rest ticketsIn (S .readers) (S .entries) (t .misses) few in
       record {
-        longs-are = field-push missOf 1 (S .entries) (t .misses) (longBlocks S t) 1 (h .longs-are) refl (simp length-places (omega arith)) (omega arith) few y {r = y .address ∷ []} (one-fits (y .address))
-            (p ∙ sets-put longs (linesOf S + length (t .misses)) (y .address ∷ []) (omega arith));
-        words-are = field-push ticketsIn (S .readers) (S .entries) (t .misses) (wordBlocks S t) 3 (h .words-are) refl (simp length-places (omega arith)) (omega arith) few y first w;
-        marks-are = field-push ticketCountOf 1 (S .entries) (t .misses) (set (markBlocks S t) 2 (places sentOf 1 (S .entries) (t .misses ++ (y ∷ [])))) 3 {i = 8 * linesOf S + S .entries + length (t .misses)}
+        longs-are = field-push missOf 1 (S .entries) (t .misses) (longBlocks S t) 1 (h .longs-are) refl (simp length-places (omega arith)) (omega arith) few y {r = y .address ∷ []} (one-fits (y .address)) p;
+        words-are = field-push ticketsIn (S .readers) (S .entries) (t .misses) (wordBlocks S t) 3 (h .words-are) refl (simp length-places (omega arith)) (omega arith) few y refl
+            (q ∙ ap (λ (n : ℕ). put words n (k ∷ [])) (sym (add-zero j)) ∙ one-ticket j 0 k [] (y .tickets) some (omega arith) here refl ticket);
+        marks-are = field-push ticketCountOf 1 (S .entries) (t .misses) (set (markBlocks S t) 2 (places sentOf 1 (S .entries) (t .misses ++ (y ∷ [])))) 3
             (h .marks-are ∙ ap (λ (l : List ℕ). joined (set (markBlocks S t) 2 l)) (sym (places-zero sentOf 1 (S .entries) (t .misses) y (ap (λ (v : Bool). fit 1 (bit v ∷ [])) unsent ∙ none-fits))))
-            refl (simp length-places (omega arith)) (omega arith) few y {r = 1 ∷ []} (ap (λ (l : List ℕ). length l ∷ []) (sym ticket) ∙ one-fits (length (y .tickets)))
-            (r ∙ sets-put marks (8 * linesOf S + S .entries + length (t .misses)) (1 ∷ []) (omega arith));
+            refl (simp length-places (omega arith)) (omega arith) few y {r = 1 ∷ []} (ap (λ (l : List ℕ). length l ∷ []) (sym ticket) ∙ one-fits (length (y .tickets))) r;
       }
 
   -- ---- an entry's next ticket
 
-  pub ticket-joined : (e : ℕ) (y d : Entry) (k : ℕ) → e < length (t .misses) → length (t .misses) ≤ S .entries
+  pub ticket-joined : (e n : ℕ) (y d : Entry) (k : ℕ) → e < length (t .misses) → length (t .misses) ≤ S .entries
       → y .address ≡ getD (t .misses) e d .address → y .sent ≡ getD (t .misses) e d .sent → y .tickets ≡ getD (t .misses) e d .tickets ++ (k ∷ [])
-      → length (getD (t .misses) e d .tickets) < S .readers → {words′ marks′ : List ℕ}
-      → words′ ≡ set words (1 + 5 * linesOf S + S .readers * e + length (getD (t .misses) e d .tickets)) k
-      → marks′ ≡ set marks (8 * linesOf S + S .entries + e) (length (getD (t .misses) e d .tickets) + 1)
+      → n ≡ length (getD (t .misses) e d .tickets) → n < S .readers
+      → {j m : ℕ} {words′ marks′ : List ℕ} → j ≡ 1 + 5 * linesOf S + S .readers * e → m ≡ 8 * linesOf S + S .entries + e
+      → words′ ≡ put words (j + n) (k ∷ []) → marks′ ≡ put marks m ((n + 1) ∷ [])
       → Encoded S longs words′ marks′ (withMisses (set (t .misses) e y) t)
-  ticket-joined e y d k below few same-address same-sent joins room q r =
+  ticket-joined e n y d k below few same-address same-sent joins has room {j} {m} at-words at-marks q r =
       let z = sizes h in
       let ts : List ℕ = getD (t .misses) e d .tickets in
       let a : S .readers * suc e ≤ S .readers * S .entries = mul-le-mul-left (S .readers) (le-trans below few) in
       let b = mul-suc (S .readers) e in
-      let i = 1 + 5 * linesOf S + S .readers * e in
-      let here : region words i (S .readers) ≡ fit (S .readers) ts =
-      field-region ticketsIn (S .readers) (S .entries) (t .misses) (wordBlocks S t) 3 e {i = i} (h .words-are) refl (simp length-places (omega arith)) (omega arith) below few d in
-      let next : sets (region words i (S .readers)) (length ts) (k ∷ []) ≡ fit (S .readers) (ticketsIn y) =
-      ap (λ (l : List ℕ). set l (length ts) k) here ∙ fit-snoc (S .readers) ts k room ∙ ap (fit (S .readers)) (sym joins) in
-      let n : length (y .tickets) ≡ length ts + 1 = ap length joins ∙ length-append ts (k ∷ []) in
+      let here : region words j (S .readers) ≡ fit (S .readers) ts =
+      field-region ticketsIn (S .readers) (S .entries) (t .misses) (wordBlocks S t) 3 e {i = j} (h .words-are) refl (simp length-places (omega arith)) (omega arith) below few d in
+      let more : length (y .tickets) ≡ n + 1 = ap length joins ∙ length-append ts (k ∷ []) ∙ ap (λ (l : ℕ). l + 1) (sym has) in
       record {
         longs-are = h .longs-are ∙ ap (λ (l : List ℕ). joined (set (longBlocks S t) 1 l)) (sym (places-same missOf 1 (S .entries) e (t .misses) y d (ap (λ (v : ℕ). fit 1 (v ∷ [])) same-address)));
-        words-are = field-put ticketsIn (S .readers) (S .entries) (t .misses) (wordBlocks S t) 3 e {i = i} (h .words-are) refl (simp length-places (omega arith)) (omega arith) below few y next
-            (q ∙ sets-region words i (S .readers) (length ts) (k ∷ []) (omega arith) (omega arith));
-        marks-are = field-put ticketCountOf 1 (S .entries) (t .misses) (set (markBlocks S t) 2 (places sentOf 1 (S .entries) (set (t .misses) e y))) 3 e {i = 8 * linesOf S + S .entries + e}
+        words-are = field-put ticketsIn (S .readers) (S .entries) (t .misses) (wordBlocks S t) 3 e {i = j} (h .words-are) refl (simp length-places (omega arith)) (omega arith) below few y refl
+            (q ∙ one-ticket j n k ts (y .tickets) room (omega arith) here has joins);
+        marks-are = field-put ticketCountOf 1 (S .entries) (t .misses) (set (markBlocks S t) 2 (places sentOf 1 (S .entries) (set (t .misses) e y))) 3 e {i = m}
             (h .marks-are ∙ ap (λ (l : List ℕ). joined (set (markBlocks S t) 2 l)) (sym (places-same sentOf 1 (S .entries) e (t .misses) y d (ap (λ (v : Bool). fit 1 (bit v ∷ [])) same-sent))))
-            refl (simp length-places (omega arith)) (omega arith) below few y {r = (length ts + 1) ∷ []} (ap (λ (v : ℕ). v ∷ []) (sym n) ∙ one-fits (length (y .tickets)))
-            (r ∙ sets-put marks (8 * linesOf S + S .entries + e) ((length ts + 1) ∷ []) (omega arith));
-      }
-
-  -- ---- the queue: a read more, whose mask places are zero already
-
-  pub read-pushed : (a : ℕ) → length (t .queue) < S .places → {longs′ marks′ : List ℕ}
-      → longs′ ≡ set longs (linesOf S + S .entries + length (t .queue)) a
-      → marks′ ≡ set marks (8 * linesOf S + 2 * S .entries + length (t .queue)) 1
-      → Encoded S longs′ words marks′ (withQueue (t .queue ++ (reading a ∷ [])) t)
-  read-pushed a few p r =
-      let z = sizes h in
-      record {
-        longs-are = field-push queuedOf 1 (S .places) (t .queue) (longBlocks S t) 2 (h .longs-are) refl (simp length-places (omega arith)) (omega arith) few (reading a) {r = a ∷ []} (one-fits a)
-            (p ∙ sets-put longs (linesOf S + S .entries + length (t .queue)) (a ∷ []) (omega arith));
-        words-are = h .words-are ∙ ap (λ (l : List ℕ). joined (set (wordBlocks S t) 4 l)) (sym (places-zero queueMasksOf 4 (S .places) (t .queue) (reading a) refl));
-        marks-are = field-push kindOf 1 (S .places) (t .queue) (markBlocks S t) 4 (h .marks-are) refl (simp length-places (omega arith)) (omega arith) few (reading a) {r = 1 ∷ []} (one-fits 1)
-            (r ∙ sets-put marks (8 * linesOf S + 2 * S .entries + length (t .queue)) (1 ∷ []) (omega arith));
+            refl (simp length-places (omega arith)) (omega arith) below few y {r = (n + 1) ∷ []} (ap (λ (v : ℕ). v ∷ []) (sym more) ∙ one-fits (length (y .tickets))) r;
       }
