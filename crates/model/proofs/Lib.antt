@@ -1,4 +1,5 @@
--- Laws of the definitions, and the theorems that document 01 asks for.
+-- Laws of the definitions, and the theorems that document 01 asks for. First laws of flags, lists, numbers below n, regions and places;
+-- then the tables: what sound ones are, that every step keeps them sound, demand 3 on them; then the lent slices that hold them.
 pub mod Flags
 pub mod Lists
 pub mod Below
@@ -6,7 +7,29 @@ pub mod Reflect
 pub mod Rows
 pub mod Region
 pub mod Places
-pub mod Writes
 pub mod Fits
 pub mod Answers
 pub mod Fourteen
+pub mod MoreCases
+pub mod WholeRun
+pub mod SoundFacts
+pub mod Ways
+pub mod Keep
+pub mod Taken
+pub mod Offered
+pub mod Soundness
+pub mod RunSound
+pub mod Victims
+pub mod Struck
+pub mod Bound
+pub mod Facts
+pub mod Tabled
+pub mod InUse
+pub mod Standing
+pub mod Shapes
+pub mod Soundly
+pub mod Encoded
+pub mod Decoded
+pub mod Bridge
+pub mod LentRounds
+pub mod Demand

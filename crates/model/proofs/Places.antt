@@ -163,17 +163,6 @@ module _ {A : Type 0} (g : A → List ℕ) (w : ℕ) where
   places-put (suc n) (suc e) (x ∷ xs) y h k =
       rw (past x e) (put-past (fit w (g x)) (places g w n xs) (w * e) (fit w (g y)) ∙ ap (λ (l : List ℕ). fit w (g x) ++ l) (places-put n e xs y (le-of-suc-le-suc h) (le-of-suc-le-suc k)))
 
-  -- a record more behind the last
-  pub places-push : (n : ℕ) (xs : List A) (y : A) → length xs < n → put (places g w n xs) (w * length xs) (fit w (g y)) ≡ places g w n (xs ++ (y ∷ []))
-  unfolding places
-  places-push zero xs y h = absurd (not-suc-le-zero h)
-  places-push (suc n) [] y h =
-      let s : length (fit w []) ≡ w = length-fit w [] in
-      let r : length (fit w (g y)) ≡ w = length-fit w (g y) in
-      rw mul-zero (put-within (fit w []) (places g w n []) 0 (fit w (g y)) (omega arith) ∙ ap (λ (l : List ℕ). l ++ places g w n []) (put-whole (fit w []) (fit w (g y)) (r ∙ sym s)))
-  places-push (suc n) (x ∷ xs) y h =
-      rw (past x (length xs)) (put-past (fit w (g x)) (places g w n xs) (w * length xs) (fit w (g y)) ∙ ap (λ (l : List ℕ). fit w (g x) ++ l) (places-push n xs y (le-of-suc-le-suc h)))
-
   pad : (n : ℕ) (xs : List A) → length xs ≤ n → places g w n xs ++ replicate w 0 ≡ places g w (suc n) xs
   unfolding places
   pad zero [] h = rw fit-zeros (sym (append-nil (replicate w 0)))
@@ -251,19 +240,3 @@ module _ {A : Type 0} (g : A → List ℕ) (w n : ℕ) (xs : List A) (bs : List 
 
   pub field-get : (d : A) (p : ℕ) {q : ℕ} → p < w → q ≡ i + p → getD l q 0 ≡ getD (fit w (g (getD xs e d))) p 0
   field-get d p below f = ap (λ (x : ℕ). getD l x 0) f ∙ sym (getD-region l i w p below) ∙ ap (λ (x : List ℕ). getD x p 0) (field-region d)
-
--- ---- a record more in a field of a table
-
-module _ {A : Type 0} (g : A → List ℕ) (w n : ℕ) (xs : List A) (bs : List (List ℕ)) (j : ℕ) {l : List ℕ} {i : ℕ}
-    (is : l ≡ joined bs) (here : getD bs j [] ≡ places g w n xs) (at : i ≡ ahead bs j + w * length xs) (h : j < length bs) (few : length xs < n) where
-  pub field-push : (y : A) {r l′ : List ℕ} → r ≡ fit w (g y) → l′ ≡ put l i r → l′ ≡ joined (set bs j (places g w n (xs ++ (y ∷ []))))
-  field-push y {r} {l′} f c =
-      let s : length (getD bs j []) ≡ w * n = ap length here ∙ length-places g w n xs in
-      let a : w * suc (length xs) ≤ w * n = mul-le-mul-left w few in
-      let b = mul-suc w (length xs) in
-      let z : length (fit w (g y)) ≡ w = length-fit w (g y) in
-      c
-      ∙ ap (put l i) f
-      ∙ block-put bs j (w * length xs) is at h (fit w (g y)) (omega arith)
-      ∙ ap (λ (x : List ℕ). joined (set bs j (put x (w * length xs) (fit w (g y))))) here
-      ∙ ap (λ (x : List ℕ). joined (set bs j x)) (places-push g w n xs y few)

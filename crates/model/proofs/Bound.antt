@@ -1,0 +1,246 @@
+-- Demand 3 on the steps: the access is accepted in round q + m at the latest, or refused as 6 then and ever after; and the struck
+-- rounds come to the same.
+use Prim.Native.Nat.{ℕ, zero, suc, _+_, _-_, _≤_}
+use mathlib.Core.Path.{_≡_, refl, sym, ap, _∙_}
+use mathlib.Core.Logic.{_⊎_, inl, inr}
+use mathlib.Core.Bool.{Bool, true, false, not, _&&_, false≢true}
+use mathlib.Core.List.{List, [], _∷_}
+use native.Mathlib.Omega.{arith}
+use native.Mathlib.Nat.{zero-add, suc-add}
+use lib.ListN.{length, getD}
+use lib.Dec.{leb, ltb}
+use borrow.Author.Tests.{eq-eqb, lt-leb, le-ltb}
+use Rattle.model.specs.Words.{pick, all, any, count}
+use Rattle.model.specs.Range.{inRange}
+use Rattle.model.specs.Address.{addressOf, isRead, blockOf, wellFormed}
+use Rattle.model.specs.Tables.{Line, Entry, Queued, Tables, Outcome, refused, done, accepted, isInvalid, isReserved, unused, waiting, holds, empty}
+use Rattle.model.specs.Sound.{readingOf, sound}
+use Rattle.model.specs.Probe.{Place, no, at, waysOf, dirtyLines, first, victim, takeOver, meet, probe}
+use Rattle.model.specs.Steps.{isMerge, isMiss, placesNeeded, entryFull, accept, proceed, access, afterSend, send, others, afterFill, sentFor, fill}
+use Rattle.model.specs.Rounds.{Calls, steps, Turn, still, took, Run, goOn, sendTurn, fillFirst, drain, rounds, heldIn, waits, Demand3}
+use Rattle.model.specs.declared.Settings.{Settings}
+use Rattle.model.specs.declared.Status.{Status}
+use Rattle.model.specs.declared.Status.the-variants.{Invalid, Reserved, Valid, Modified}
+use Rattle.model.specs.declared.Sector.{Sector}
+use Rattle.model.specs.declared.Access.{Access}
+use Rattle.model.specs.declared.Found.{Found}
+use Rattle.model.specs.declared.Found.the-variants.{At, Nothing}
+use Rattle.model.specs.declared.Refusal.the-variants.{SetHeld}
+use Rattle.model.proofs.Flags.{and-1, and-i, and-no, flag, not-yes, no-yes, clash}
+use Rattle.model.proofs.Lists.{In, all-in, in-any, any-in, in-index, keep-lt}
+use Rattle.model.proofs.SoundFacts.{Sound, parts, entries-some, places-two, four-at, reserved-at, unsent-once}
+use Rattle.model.proofs.Ways.{way-in}
+use Rattle.model.proofs.Victims.{places-at-most-two}
+use Rattle.model.proofs.Keep.{marked-length, sent-sound, filled-sound}
+use Rattle.model.proofs.Struck.{struck-same}
+
+-- ---- tables at rest: nothing queued, no entry
+
+none-of : {A : Type 0} (l : List A) → length l ≤ 0 → l ≡ []
+none-of [] h = refl
+none-of (x ∷ l) h = absurd (omega arith)
+
+invalid-free : (c : Status) → isInvalid c ≡ true → isReserved c ≡ false
+invalid-free Invalid e = refl
+invalid-free Reserved e = absurd (false≢true e)
+invalid-free Valid e = refl
+invalid-free Modified e = refl
+
+-- a place, or 6
+abbrev Free : Place → Type 0
+Free (no n) = n ≡ SetHeld
+Free (at p) = Unit {0}
+
+module _ (S : Settings) (t : Tables) (ok : Sound S t) (no-misses : t .misses ≡ []) where
+  line-free : (l : Line) → In l (t .lines) → waiting l ≡ false
+  line-free l m = no-yes (λ w. go (flag (unused l)) (any-in (λ (v : Sector). isReserved (v .status)) (l .sectors) w))
+    where
+      go : (unused l ≡ true) ⊎ (unused l ≡ false) → (s : Sector) × In s (l .sectors) × (isReserved (s .status) ≡ true) → ⊥
+      go (inl u) (s, n, q) = clash q (invalid-free (s .status) (all-in (λ (v : Sector). isInvalid (v .status)) (l .sectors) u n))
+      go (inr u) (s, n, q) =
+          let (k, h, e) = in-index (l .sectors) empty s n in
+          clash q (ap (λ (v : Sector). isReserved (v .status)) (sym e)
+          ∙ reserved-at S t ok l m u k (omega (arith, four-at S t ok l m)) ∙ rw no-misses)
+
+  set-free : (a : ℕ) → any waiting (waysOf S (t .lines) a) ≡ false
+  set-free a = no-yes (λ w. let (l, m, q) = any-in waiting (waysOf S (t .lines) a) w in clash q (line-free l (way-in S (t .lines) a l m)))
+
+  over-free : (a : ℕ) (v : Found) → Free (takeOver a (waysOf S (t .lines) a) v)
+  over-free a Nothing = rw (set-free a)
+  over-free a (At w) = tt
+
+  meet-free : (d : ℕ) (x : Access) (v : Found) → Free (meet S d (waysOf S (t .lines) (addressOf x)) x v)
+  meet-free d x Nothing = over-free (addressOf x) (victim S d (waysOf S (t .lines) (addressOf x)))
+  meet-free d x (At w) = tt
+
+  module _ (range : inRange S ≡ true) (x : Access) (no-queue : t .queue ≡ []) where
+    proceed-settles : (p : Place) → Free p → (accepted (proceed S x t p) ≡ true) ⊎ (proceed S x t p ≡ refused SetHeld)
+    unfolding proceed accept
+    proceed-settles (no n) h = inr (ap refused h)
+    proceed-settles (at p) h =
+        let room : ltb (S .places) (length (t .queue) + placesNeeded x p) ≡ false =
+        le-ltb (S .places) (length (t .queue) + placesNeeded x p) (omega (arith, ap length no-queue, places-at-most-two x p, places-two S range)) in
+        let merge : any (entryFull S (addressOf x)) (t .misses) ≡ false = rw no-misses in
+        let entry : leb (S .entries) (length (t .misses)) ≡ false =
+        lt-leb (S .entries) (length (t .misses)) (omega (arith, ap length no-misses, entries-some S range)) in
+        inl (rw (
+          room,
+          and-no (isRead x && isMerge (p .answer)) (any (entryFull S (addressOf x)) (t .misses)) merge,
+          and-no (isRead x && isMiss (p .answer)) (leb (S .entries) (length (t .misses))) entry,
+        ))
+
+    access-settles : wellFormed x ≡ true → (accepted (access S x t) ≡ true) ⊎ (access S x t ≡ refused SetHeld)
+    unfolding access probe
+    access-settles f =
+        rw f (proceed-settles (probe S (dirtyLines t) (waysOf S (t .lines) (addressOf x)) x)
+        (meet-free (dirtyLines t) x (first (holds (blockOf (addressOf x))) (waysOf S (t .lines) (addressOf x)))))
+
+-- ---- a round's send and fill
+
+abbrev size : Tables → ℕ
+size t = length (t .queue) + length (t .misses)
+
+-- what a call on sound tables leaves: sound tables, and no more in them than n
+record Left (S : Settings) (n : ℕ) (u : Tables) : Type 0 where
+  ok : Sound S u
+  less : size u ≤ n
+
+module _ (S : Settings) (x : Access) where
+  abbrev C : Calls Tables
+  C = steps S x
+
+  send-takes : (t : Tables) (e : Queued) (q : List Queued) → t .queue ≡ e ∷ q → sendTurn C t .left ≡ afterSend e q t
+  unfolding sendTurn send
+  send-takes t e q h = rw h
+
+  sent-less : (t : Tables) → Sound S t → (e : Queued) (q : List Queued) → t .queue ≡ e ∷ q → Left S (size t - 1) (afterSend e q t)
+  sent-less t ok e q h = record { ok = sent-sound S t e q h ok; less = omega (arith, ap length h, marked-length e (t .misses)) }
+
+  fill-takes : (t : Tables) (d : Entry) → In d (t .misses) → d .sent ≡ true → took t (fill (d .address) t) .left ≡ afterFill (d .address) t
+  unfolding fill
+  fill-takes t d m h =
+      let a : any (sentFor (d .address)) (t .misses) ≡ true = in-any (sentFor (d .address)) (t .misses) m (and-i (eq-eqb (d .address) (d .address) refl) h) in
+      rw a
+
+  filled-less : (t : Tables) → Sound S t → (d : Entry) → In d (t .misses) → d .sent ≡ true → Left S (size t - 1) (afterFill (d .address) t)
+  filled-less t ok d m h = record {
+    ok = filled-sound S t ok d m h;
+    less = omega (arith, keep-lt (others (d .address)) (t .misses) m (rw (eq-eqb (d .address) (d .address) refl)));
+  }
+
+  -- the first sent one of some of the table's entries is filled, or none of them is sent
+  abbrev Tried : Tables → List Entry → Tables → Type 0
+  Tried t es u = Left S (size t - 1) u ⊎ ((u ≡ t) × (all (λ e. not (e .sent)) es ≡ true))
+
+  fill-tries : (t : Tables) → Sound S t → (es : List Entry) → ((d : Entry) → In d es → In d (t .misses))
+      → Tried t es (fillFirst C es t .left)
+  unfolding fillFirst
+  fill-tries t ok [] f = inr (refl, refl)
+  fill-tries t ok (d ∷ es) f = go (fill-tries t ok es (λ e m. f e (inr m))) (d .sent) refl
+    where
+      go : Tried t es (fillFirst C es t .left) → (b : Bool) → d .sent ≡ b
+          → Left S (size t - 1) (pick b (took t (fill (d .address) t)) (fillFirst C es t) .left)
+          ⊎ ((pick b (took t (fill (d .address) t)) (fillFirst C es t) .left ≡ t) × ((not b && all (λ e. not (e .sent)) es) ≡ true))
+      go ih true h = inl (rw (fill-takes t d (f d (inl refl)) h) (filled-less t ok d (f d (inl refl)) h))
+      go ih false h = ih
+
+  -- with nothing queued no entry is unsent
+  unsent-none : (t : Tables) → Sound S t → t .queue ≡ [] → (es : List Entry) → t .misses ≡ es → all (λ e. not (e .sent)) es ≡ true → es ≡ []
+  unsent-none t ok e [] q h = refl
+  unsent-none t ok e (d ∷ es) q h =
+      let c : count (readingOf (d .address)) (t .queue) ≡ 1 =
+      unsent-once S t ok d (rw q (inl refl)) (not-yes (and-1 (not (d .sent)) (all (λ v. not (v .sent)) es) h)) in
+      let z : _≡_ {A = ℕ} 0 1 = rw e at c in
+      absurd (omega arith)
+
+  -- with nothing queued and no entry there is nothing to do
+  send-idle : (t : Tables) → t .queue ≡ [] → sendTurn C t ≡ still t
+  unfolding sendTurn
+  send-idle t e = rw e
+
+  drain-idle : (t : Tables) → t .queue ≡ [] → t .misses ≡ [] → drain C t .left ≡ t
+  unfolding drain fillFirst
+  drain-idle t e m = rw (send-idle t e, m)
+
+  drain-less : (t : Tables) → Sound S t → Left S (size t - 1) (drain C t .left)
+  unfolding drain
+  drain-less t ok = go (t .queue) refl
+    where
+      only-fill : t .queue ≡ [] → Tried t (t .misses) (fillFirst C (t .misses) t .left)
+          → Left S (size t - 1) (fillFirst C (t .misses) t .left)
+      only-fill e (inl l) = l
+      only-fill e (inr (s, u)) = rw s (record { ok = ok; less = omega (arith, ap length e, ap length (unsent-none t ok e (t .misses) refl u)) })
+
+      then-fill : (v : Tables) → Left S (size t - 1) v → Tried v (v .misses) (fillFirst C (v .misses) v .left)
+          → Left S (size t - 1) (fillFirst C (v .misses) v .left)
+      then-fill v k (inl l) = record { ok = l .ok; less = omega arith }
+      then-fill v k (inr (s, u)) = rw s k
+
+      go : (q : List Queued) → t .queue ≡ q → Left S (size t - 1) (fillFirst C (sendTurn C t .left .misses) (sendTurn C t .left) .left)
+      go [] e = rw (send-idle t e) (only-fill e (fill-tries t ok (t .misses) (λ d m. m)))
+      go (y ∷ q) e =
+          let k : Left S (size t - 1) (afterSend y q t) = sent-less t ok y q e in
+          rw (send-takes t y q e) (then-fill (afterSend y q t) k (fill-tries (afterSend y q t) (k .ok) (afterSend y q t .misses) (λ d m. m)))
+
+  -- ---- the rounds
+
+  module _ (range : inRange S ≡ true) (formed : wellFormed x ≡ true) where
+    rounds-more : (n : ℕ) (t : Tables) → rounds C (suc n) t ≡ goOn (drain C t) (rounds C n) (access S x (drain C t .left))
+    unfolding rounds
+    rounds-more n t = refl
+
+    -- what stands for an offer that wasn't made doesn't matter: it is no refusal
+    held-whatever : (t u : Tables) (os : List (Outcome Tables)) (n : ℕ) → getD os n (done [] u) ≡ refused SetHeld
+        → getD os n (done [] t) ≡ refused SetHeld
+    held-whatever t u [] n e = let z : _≡_ {A = ℕ} 0 1 = cc in absurd (omega arith)
+    held-whatever t u (o ∷ os) zero e = e
+    held-whatever t u (o ∷ os) (suc n) e = held-whatever t u os n e
+
+    -- refused as 6 once at rest: refused as 6 in every round
+    held-at-rest : (t : Tables) → t .queue ≡ [] → t .misses ≡ [] → access S x t ≡ refused SetHeld → (j : ℕ) → heldIn C j t
+    held-at-rest t e m o zero = rw (rounds-more 0 t, drain-idle t e m, o)
+    held-at-rest t e m o (suc j) = rw (rounds-more (suc j) t, drain-idle t e m, o) (held-at-rest t e m o j)
+
+    held-once : (t u : Tables) → drain C t .left ≡ u → u .queue ≡ [] → u .misses ≡ [] → access S x u ≡ refused SetHeld → (j : ℕ)
+        → heldIn C j t
+    held-once t u d e m o zero = rw (rounds-more 0 t, d, o)
+    held-once t u d e m o (suc j) = rw (rounds-more (suc j) t, d, o) (held-whatever t u (rounds C (suc j) u .offers) j (held-at-rest u e m o j))
+
+    offer-taken : (a : Turn Tables) (rest : Tables → Run Tables) (o : Outcome Tables) → accepted o ≡ true
+        → any accepted (goOn a rest o .offers) ≡ true
+    offer-taken a rest (refused n) h = absurd (false≢true h)
+    offer-taken a rest (done es u) h = refl
+
+    -- n + 1 rounds are enough: one of them accepts, or round n + 1 and every later one refuses as 6
+    abbrev Settled : ℕ → Tables → Type 0
+    Settled n t = (any accepted (rounds C (suc n) t .offers) ≡ true) ⊎ ((j : ℕ) → heldIn C (n + j) t)
+
+    rounds-settle : (n : ℕ) (t : Tables) → Sound S t → size t ≤ suc n → Settled n t
+    rounds-settle zero t ok h =
+        let u : Tables = drain C t .left in
+        let l : Left S (size t - 1) u = drain-less t ok in
+        let e : u .queue ≡ [] = none-of (u .queue) (omega arith) in
+        let m : u .misses ≡ [] = none-of (u .misses) (omega arith) in
+        go e m (access-settles S u (l .ok) m range x e formed)
+      where
+        go : (drain C t .left) .queue ≡ [] → (drain C t .left) .misses ≡ []
+            → (accepted (access S x (drain C t .left)) ≡ true) ⊎ (access S x (drain C t .left) ≡ refused SetHeld) → Settled 0 t
+        go e m (inl a) = inl (rw (rounds-more 0 t) (offer-taken (drain C t) (rounds C 0) (access S x (drain C t .left)) a))
+        go e m (inr a) = inr (λ j. rw (zero-add j) (held-once t (drain C t .left) refl e m a j))
+    rounds-settle (suc n) t ok h =
+        let l : Left S (size t - 1) (drain C t .left) = drain-less t ok in
+        go (access S x (drain C t .left)) refl (rounds-settle n (drain C t .left) (l .ok) (omega arith))
+      where
+        go : (o : Outcome Tables) → access S x (drain C t .left) ≡ o → Settled n (drain C t .left) → Settled (suc n) t
+        go (done es u) e k = inl (rw (rounds-more (suc n) t, e))
+        go (refused c) e (inl a) = inl (rw (rounds-more (suc n) t, e) a)
+        go (refused c) e (inr f) =
+            inr (λ j. rw (suc-add n j, rounds-more (suc (n + j)) t, e)
+            (held-whatever t (drain C t .left) (rounds C (suc (n + j)) (drain C t .left) .offers) (n + j) (f j)))
+
+-- any settings in range, any sound tables, any well-formed access
+pub demand-3 : (S : Settings) (x : Access) (t : Tables) → inRange S ≡ true → sound S t ≡ true → wellFormed x ≡ true → Demand3 (steps S x) t
+demand-3 S x t range ok formed = record {
+  settles = rounds-settle S x range formed (waits (steps S x) t) t (parts S t ok) (omega arith);
+  strikes = λ n. struck-same (steps S x) n t;
+}

@@ -1,0 +1,92 @@
+-- What ties the lent slices to the tables: sound slices are the encoding of the tables read off them, which are sound; the encoding of
+-- sound tables is sound and reads back; so a call on it is the step on the tables.
+use mathlib.Core.Path.{_≡_, refl, sym, ap, _∙_}
+use mathlib.Core.Bool.{true}
+use lib.Dec.{eqb}
+use lib.ListN.{length}
+use borrow.Author.Tests.{eqb-true, eq-eqb}
+use Rattle.model.specs.declared.Settings.{Settings}
+use Rattle.model.specs.Range.{inRange, longsLength, wordsLength, marksLength}
+use Rattle.model.specs.Tables.{Tables, Outcome}
+use Rattle.model.specs.Lent.{Lent, lengthsFit, tablesOf, encode}
+use Rattle.model.specs.Sound.{sound}
+use Rattle.model.specs.SoundLent.{soundLent}
+use Rattle.model.specs.Calls.{call, encoded}
+use Rattle.model.specs.Inner.{Fit, Is, Held}
+use Rattle.model.proofs.Flags.{and-1, and-2, and-i}
+use Rattle.model.proofs.Fits.{ranged, fit}
+use Rattle.model.proofs.Facts.{sound-is}
+use Rattle.model.proofs.Standing.{encode-stands, stands-encode, encode-lengths}
+use Rattle.model.proofs.Shapes.{stands-tables}
+use Rattle.model.proofs.Soundly.{soundly-shape, soundly-is}
+use Rattle.model.proofs.Encoded.{stands-sound}
+use Rattle.model.proofs.Decoded.{Small, stands-soundly, read-stands, read-shape}
+
+-- the three lengths as numbers
+lengths : (S : Settings) (L : Lent) → lengthsFit S L ≡ true
+    → (length (L .longs) ≡ longsLength S) × (length (L .words) ≡ wordsLength S) × (length (L .marks) ≡ marksLength S)
+lengths S L e =
+    let a : eqb (length (L .longs)) (longsLength S) ≡ true = search (and-1, and-2) depth 4 in
+    let b : eqb (length (L .words)) (wordsLength S) ≡ true = search (and-1, and-2) depth 4 in
+    let c : eqb (length (L .marks)) (marksLength S) ≡ true = search (and-1, and-2) depth 4 in
+    (eqb-true _ _ a, eqb-true _ _ b, eqb-true _ _ c)
+
+-- ---- from the slices
+
+-- the words are 32-bit numbers, which the code knows of any slice
+pub sound-encoded : (S : Settings) (L : Lent) → inRange S ≡ true → lengthsFit S L ≡ true → Small L → soundLent S L ≡ true → Is S L (tablesOf S L)
+sound-encoded S L range fits small e =
+    let is = sound-is S L .fact e in
+    let st = read-stands S L is (ranged S range .reader) in
+    let (a, b, c) = lengths S L fits in
+    record {
+      range = range;
+      soundly = soundly-is S (tablesOf S L) .test (stands-soundly S L (tablesOf S L) st (read-shape S L is) is small);
+      encoded = stands-encode S L (tablesOf S L) st a b c;
+    }
+
+pub sound-held : (S : Settings) (L : Lent) → inRange S ≡ true → lengthsFit S L ≡ true → Small L → soundLent S L ≡ true → Held S L
+sound-held S L range fits small e = record { tables = tablesOf S L; are = sound-encoded S L range fits small e }
+
+-- ---- from the tables
+
+pub encode-fits : (S : Settings) (t : Tables) → lengthsFit S (encode S t) ≡ true
+encode-fits S t = let (a, b, c) = encode-lengths S t in and-i (and-i (eq-eqb _ _ a) (eq-eqb _ _ b)) (eq-eqb _ _ c)
+
+pub encode-sound-lent : (S : Settings) (t : Tables) → inRange S ≡ true → sound S t ≡ true → soundLent S (encode S t) ≡ true
+encode-sound-lent S t range e =
+    sound-is S (encode S t) .test (stands-sound S (encode S t) t (encode-stands S t) (soundly-is S t .fact e) (ranged S range .reader))
+
+pub tables-of-encode : (S : Settings) (t : Tables) → sound S t ≡ true → tablesOf S (encode S t) ≡ t
+tables-of-encode S t e = stands-tables S (encode S t) t (encode-stands S t) (soundly-shape S t (soundly-is S t .fact e))
+
+pub encoded-sound : (S : Settings) (t : Tables) → inRange S ≡ true → sound S t ≡ true
+    → (lengthsFit S (encode S t) ≡ true) × (soundLent S (encode S t) ≡ true) × (tablesOf S (encode S t) ≡ t)
+encoded-sound S t range e = (encode-fits S t, encode-sound-lent S t range e, tables-of-encode S t e)
+
+pub encode-injective : (S : Settings) (t u : Tables) → sound S t ≡ true → sound S u ≡ true → encode S t ≡ encode S u → t ≡ u
+encode-injective S t u a b e = sym (tables-of-encode S t a) ∙ ap (tablesOf S) e ∙ tables-of-encode S u b
+
+-- ---- slices that are the encoding of sound tables
+
+module _ (S : Settings) (L : Lent) (t : Tables) (is : Is S L t) where
+  pub is-tables : tablesOf S L ≡ t
+  is-tables = ap (tablesOf S) (is .encoded) ∙ tables-of-encode S t (is .soundly)
+
+  pub is-fits : lengthsFit S L ≡ true
+  is-fits = ap (lengthsFit S) (is .encoded) ∙ encode-fits S t
+
+  pub is-sound-lent : soundLent S L ≡ true
+  is-sound-lent = ap (soundLent S) (is .encoded) ∙ encode-sound-lent S t (is .range) (is .soundly)
+
+  pub is-fit : Fit S (L .longs) (L .words) (L .marks)
+  is-fit = let (a, b, c) = lengths S L is-fits in fit S (L .longs) (L .words) (L .marks) (is .range, a, b, c)
+
+  -- refusals 1, 2 and 3 do not apply
+  pub call-is : (step : Tables → Outcome Tables) → call S step L ≡ encoded S (step t)
+  unfolding call
+  call-is step = rw (is .range, is-fits, is-sound-lent, is-tables)
+
+pub call-on : (S : Settings) (step : Tables → Outcome Tables) (t : Tables) → inRange S ≡ true → sound S t ≡ true
+    → call S step (encode S t) ≡ encoded S (step t)
+call-on S step t range e = call-is S (encode S t) t (record { range = range; soundly = e; encoded = refl }) step

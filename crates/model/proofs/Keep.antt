@@ -1,0 +1,338 @@
+-- Send and fill keep sound tables sound.
+use Prim.Native.Nat.{ℕ, _+_, _*_, _%_, _<_}
+use mathlib.Core.Path.{_≡_, refl, sym, ap, _∙_}
+use mathlib.Core.Logic.{_⊎_, inl, inr, _≢_}
+use mathlib.Core.Bool.{Bool, true, false, not, _||_, true≢false}
+use mathlib.Core.List.{List, [], _∷_, map}
+use native.Mathlib.Omega.{arith}
+use lib.ListN.{length, getD, length-map, length-set, List·getD-map}
+use lib.Seq.{getD-set-same, getD-set-other}
+use lib.Dec.{eqb}
+use borrow.Author.Tests.{leb-true, eqb-true, eqb-false, eq-eqb, ne-eqb, le-leb}
+use Rattle.model.specs.Words.{all, any, count, keep, every, same}
+use Rattle.model.specs.Range.{linesOf}
+use Rattle.model.specs.Address.{blockOf, sectorIndex}
+use Rattle.model.specs.Tables.{Line, Entry, Queued, reading, writing, Tables, refused, isInvalid, isReserved, unused, holds, entryFor, empty, fresh}
+use Rattle.model.specs.Sound.{maskOk, sectorOk, lineOk, alone, reservedOk, readingOf, unsentFor, entryOk, queuedOk}
+use Rattle.model.specs.Steps.{mark, marked, afterSend, sendFrom, send, arrived, fillLine, others, afterFill, sentFor, fill}
+use Rattle.model.specs.declared.Settings.{Settings}
+use Rattle.model.specs.declared.Status.{Status}
+use Rattle.model.specs.declared.Status.the-variants.{Valid, Modified}
+use Rattle.model.specs.declared.Sector.{Sector}
+use Rattle.model.specs.declared.Refusal.the-variants.{NotSent}
+use Rattle.model.proofs.Flags.{and-1, and-2, and-i, flag, not-yes, not-no, no-yes, clash, by-flag, is-same}
+use Rattle.model.proofs.Lists.{In, all-in, in-all, in-any, any-in, in-keep, keep-in, keep-le, not-twice, count-ext, any-ext, count-keep, any-keep, in-getD, all-set, set-some, map-in, in-map, any-map, all-map, count-map}
+use Rattle.model.proofs.Below.{every-i}
+use Rattle.model.proofs.SoundFacts.{Sound, LeavesSound, LineIs, line-whole, EntryIs, entry-whole, mask-small, sector-aligned, address-is, block-is, sector-is, lines-are, line-at, four-at, tag-aligned, reserved-at, entry-at, entry-one, queued-at, unsent-once}
+
+-- ---- send
+
+mark-address : (a : ℕ) (e : Entry) → mark a e .address ≡ e .address
+mark-address a e = by-flag (λ (v : Entry). v .address ≡ e .address) (entryFor a e) _ _ (λ q. refl) (λ q. refl)
+
+mark-tickets : (a : ℕ) (e : Entry) → mark a e .tickets ≡ e .tickets
+mark-tickets a e = by-flag (λ (v : Entry). v .tickets ≡ e .tickets) (entryFor a e) _ _ (λ q. refl) (λ q. refl)
+
+-- an entry that stands unsent after the mark is another's, and stood so before
+mark-unsent : (a : ℕ) (e : Entry) → mark a e .sent ≡ false → (e .sent ≡ false) × (entryFor a e ≡ false)
+mark-unsent a e =
+    by-flag (λ (v : Entry). v .sent ≡ false → (e .sent ≡ false) × (entryFor a e ≡ false)) (entryFor a e) _ _
+    (λ p q. absurd (true≢false q)) (λ p q. (q, p))
+
+-- the same addresses after a send
+marked-any : (x : Queued) (es : List Entry) (a : ℕ) → any (entryFor a) (marked x es) ≡ any (entryFor a) es
+marked-any (reading b) es a = any-map (mark b) (entryFor a) es ∙ any-ext (λ e. entryFor a (mark b e)) (entryFor a) es (λ e m. rw (mark-address b e))
+marked-any (writing b ms) es a = refl
+
+marked-count : (x : Queued) (es : List Entry) (a : ℕ) → count (entryFor a) (marked x es) ≡ count (entryFor a) es
+marked-count (reading b) es a = count-map (mark b) (entryFor a) es ∙ count-ext (λ e. entryFor a (mark b e)) (entryFor a) es (λ e m. rw (mark-address b e))
+marked-count (writing b ms) es a = refl
+
+pub marked-length : (x : Queued) (es : List Entry) → length (marked x es) ≡ length es
+marked-length (reading b) es = length-map es (mark b)
+marked-length (writing b ms) es = refl
+
+reserved-same : (es fs : List Entry) → ((a : ℕ) → any (entryFor a) es ≡ any (entryFor a) fs) → (l : Line)
+    → reservedOk es l ≡ reservedOk fs l
+unfolding reservedOk
+reserved-same es fs h l = simp h
+
+-- the entry that one was before a send
+record Was (x : Queued) (es : List Entry) (e : Entry) : Type 0 where
+  old : Entry
+  there : In old es
+  address : e .address ≡ old .address
+  tickets : e .tickets ≡ old .tickets
+  unsent : e .sent ≡ false → (old .sent ≡ false) × (readingOf (old .address) x ≡ false)
+
+was : (x : Queued) (es : List Entry) (e : Entry) → In e (marked x es) → Was x es e
+was (reading b) es e m =
+    let (d, n, q) = in-map (mark b) es m in
+    record {
+      old = d;
+      there = n;
+      address = ap (λ (v : Entry). v .address) q ∙ mark-address b d;
+      tickets = ap (λ (v : Entry). v .tickets) q ∙ mark-tickets b d;
+      unsent = λ h. mark-unsent b d (sym (ap (λ (v : Entry). v .sent) q) ∙ h);
+    }
+was (writing b ms) es e m = record { old = e; there = m; address = refl; tickets = refl; unsent = λ h. (h, refl) }
+
+-- an unsent entry that the head doesn't name is still there
+unsent-still : (x : Queued) (es : List Entry) (a : ℕ) (d : Entry) → In d es → unsentFor a d ≡ true → readingOf a x ≡ false
+    → any (unsentFor a) (marked x es) ≡ true
+unsent-still (reading b) es a d n u h =
+    let s : d .address ≡ a = eqb-true (d .address) a (and-1 (entryFor a d) (not (d .sent)) u) in
+    let k : entryFor b d ≡ false = rw s h in
+    in-any (unsentFor a) (map (mark b) es) (map-in (mark b) es d n) (rw k u)
+unsent-still (writing b ms) es a d n u h = in-any (unsentFor a) es n u
+
+module _ (S : Settings) (t : Tables) (x : Queued) (q : List Queued) (at : t .queue ≡ x ∷ q) (ok : Sound S t) where
+  sent-entry : (e : Entry) → In e (marked x (t .misses)) → EntryIs S (afterSend x q t) e
+  sent-entry e m =
+      let w : Was x (t .misses) e = was x (t .misses) e m in
+      let k : EntryIs S t (w .old) = entry-at S t ok (w .old) (w .there) in
+      record {
+        good = rw (w .address) (k .good);
+        held = rw (w .address) (k .held);
+        once = rw (w .address, marked-count x (t .misses) (w .old .address)) (k .once);
+        readers = rw (w .tickets) (k .readers);
+        queues = go w (e .sent) refl;
+      }
+    where
+      go : (w : Was x (t .misses) e) (b : Bool) → e .sent ≡ b → (b || eqb (count (readingOf (e .address)) q) 1) ≡ true
+      go w true h = refl
+      go w false h =
+          let c : count (readingOf (w .old .address)) (x ∷ q) ≡ 1 = rw at at (unsent-once S t ok (w .old) (w .there) (w .unsent h .0)) in
+          rw (w .address) (eq-eqb (count (readingOf (w .old .address)) q) 1 (rw (w .unsent h .1) at c))
+
+  sent-queued : (y : Queued) → In y q → queuedOk (marked x (t .misses)) y ≡ true
+  unfolding queuedOk
+  sent-queued (reading a) m = go (any-in (unsentFor a) (t .misses) (queued-at S t ok (reading a) (rw at (inr m))))
+    where
+      go : (d : Entry) × In d (t .misses) × (unsentFor a d ≡ true) → any (unsentFor a) (marked x (t .misses)) ≡ true
+      go (d, n, u) =
+          let s : d .address ≡ a = eqb-true (d .address) a (and-1 (entryFor a d) (not (d .sent)) u) in
+          let c : count (readingOf a) (x ∷ q) ≡ 1 = rw (s, at) at (unsent-once S t ok d n (not-yes (and-2 (entryFor a d) (not (d .sent)) u))) in
+          unsent-still x (t .misses) a d n u (not-twice (readingOf a) x q c m (eq-eqb a a refl))
+  sent-queued (writing b ms) m = queued-at S t ok (writing b ms) (rw at (inr m))
+
+  pub sent-sound : Sound S (afterSend x q t)
+  sent-sound = record {
+    sized = ok .sized;
+    time = ok .time;
+    lined = ok .lined;
+    single = ok .single;
+    reserve = in-all (reservedOk (marked x (t .misses))) (t .lines)
+        (λ l m. reserved-same (marked x (t .misses)) (t .misses) (marked-any x (t .misses)) l ∙ all-in (reservedOk (t .misses)) (t .lines) (ok .reserve) m);
+    entered = in-all (entryOk S (afterSend x q t)) (marked x (t .misses)) (λ e m. entry-whole S (afterSend x q t) e (sent-entry e m));
+    lining = in-all (queuedOk (marked x (t .misses))) q sent-queued;
+    few = rw (marked-length x (t .misses)) (ok .few);
+    short = le-leb (length q) (S .places) (omega (arith, ap length at, leb-true (length (t .queue)) (S .places) (ok .short)));
+  }
+
+pub send-leaves : (S : Settings) (t : Tables) → Sound S t → LeavesSound S (send t)
+unfolding send
+send-leaves S t ok = go (t .queue) refl
+  where
+    go : (q : List Queued) → t .queue ≡ q → LeavesSound S (sendFrom q t)
+    go [] e = tt
+    go (x ∷ q) e = sent-sound S t x q e ok
+
+-- ---- fill
+
+arrived-ok : (s : Sector) → sectorOk s ≡ true → sectorOk (arrived s) ≡ true
+arrived-ok s h =
+    by-flag (λ (c : Status). maskOk c (s .mask) true ≡ true) (eqb (s .mask) 0) Valid Modified
+    (λ e. rw e) (λ e. rw (e, mask-small (s .status) (s .mask) (s .readable) h))
+
+arrived-used : (s : Sector) → isInvalid (arrived s .status) ≡ false
+arrived-used s = by-flag (λ (c : Status). isInvalid c ≡ false) (eqb (s .mask) 0) Valid Modified (λ e. refl) (λ e. refl)
+
+arrived-free : (s : Sector) → isReserved (arrived s .status) ≡ false
+arrived-free s = by-flag (λ (c : Status). isReserved c ≡ false) (eqb (s .mask) 0) Valid Modified (λ e. refl) (λ e. refl)
+
+module _ (a : ℕ) (l : Line) (four : length (l .sectors) ≡ 4) where
+  old : Sector
+  old = getD (l .sectors) (sectorIndex a) empty
+
+  fill-tag : fillLine a l .tag ≡ l .tag
+  unfolding fillLine
+  fill-tag = by-flag (λ (m : Line). m .tag ≡ l .tag) (holds (blockOf a) l) _ _ (λ e. refl) (λ e. refl)
+
+  fill-cycle : fillLine a l .cycle ≡ l .cycle
+  unfolding fillLine
+  fill-cycle = by-flag (λ (m : Line). m .cycle ≡ l .cycle) (holds (blockOf a) l) _ _ (λ e. refl) (λ e. refl)
+
+  fill-length : length (fillLine a l .sectors) ≡ length (l .sectors)
+  unfolding fillLine
+  fill-length =
+      by-flag (λ (m : Line). length (m .sectors) ≡ length (l .sectors)) (holds (blockOf a) l) _ _
+      (λ e. length-set (l .sectors) (sectorIndex a) _) (λ e. refl)
+
+  fill-unused : unused (fillLine a l) ≡ unused l
+  unfolding fillLine old
+  fill-unused =
+      by-flag (λ (m : Line). unused m ≡ unused l) (holds (blockOf a) l) _ _
+      (λ e. set-some (λ (s : Sector). isInvalid (s .status)) (l .sectors) (sectorIndex a) (arrived old) (omega arith) (arrived-used old)
+      ∙ sym (not-yes (and-1 (not (unused l)) (eqb (l .tag) (blockOf a)) e)))
+      (λ e. refl)
+
+  fill-sectors : all sectorOk (l .sectors) ≡ true → all sectorOk (fillLine a l .sectors) ≡ true
+  unfolding fillLine old
+  fill-sectors h =
+      by-flag (λ (m : Line). all sectorOk (m .sectors) ≡ true) (holds (blockOf a) l) _ _
+      (λ e. all-set sectorOk (l .sectors) (sectorIndex a) (arrived old) h
+      (arrived-ok old (all-in sectorOk (l .sectors) h (in-getD (l .sectors) (sectorIndex a) empty (omega arith)))))
+      (λ e. h)
+
+  fill-holds : (b : ℕ) → holds b (fillLine a l) ≡ holds b l
+  fill-holds b = rw (fill-unused, fill-tag)
+
+  fill-line : (S : Settings) (now i : ℕ) → LineIs S now i l → LineIs S now i (fillLine a l)
+  fill-line S now i h = record {
+    four = rw fill-length (h .four);
+    sectorly = fill-sectors (h .sectorly);
+    past = rw fill-cycle (h .past);
+    tagged = rw (fill-unused, fill-tag, fill-cycle) (h .tagged);
+  }
+
+  -- another sector than the address's is left
+  fill-other : (k : ℕ) → a % 32 ≡ 0 → l .tag + 32 * k ≢ a → getD (fillLine a l .sectors) k empty ≡ getD (l .sectors) k empty
+  unfolding fillLine
+  fill-other k g n =
+      by-flag (λ (m : Line). getD (m .sectors) k empty ≡ getD (l .sectors) k empty) (holds (blockOf a) l) _ _
+      (λ e. getD-set-other (l .sectors) (sectorIndex a) k _ empty
+      (λ q. n (rw (q, eqb-true (l .tag) (blockOf a) (and-2 (not (unused l)) (eqb (l .tag) (blockOf a)) e)) (address-is a g))))
+      (λ e. refl)
+
+  -- the address's is RESERVED no more
+  fill-this : (k : ℕ) → unused l ≡ false → l .tag % 128 ≡ 0 → k < 4 → l .tag + 32 * k ≡ a
+      → isReserved (getD (fillLine a l .sectors) k empty .status) ≡ false
+  unfolding fillLine old
+  fill-this k u g h e =
+      let s : holds (blockOf a) l ≡ true = and-i (not-no u) (eq-eqb (l .tag) (blockOf a) (block-is a (l .tag) k g h e)) in
+      by-flag (λ (m : Line). isReserved (getD (m .sectors) k empty .status) ≡ false) (holds (blockOf a) l) _ _
+      (λ z. rw (sector-is a (l .tag) k g h e, getD-set-same (l .sectors) (sectorIndex a) (arrived old) empty (omega arith)) (arrived-free old))
+      (λ z. clash s z)
+
+getD-fill : (a : ℕ) (ls : List Line) (i : ℕ) → getD (map (fillLine a) ls) i fresh ≡ fillLine a (getD ls i fresh)
+unfolding fillLine
+getD-fill a ls i = List·getD-map (fillLine a) ls i fresh
+
+module _ (S : Settings) (t : Tables) (ok : Sound S t) (d : Entry) (m : In d (t .misses)) (s : d .sent ≡ true) where
+  abbrev a : ℕ
+  a = d .address
+
+  abbrev filled : List Line
+  filled = map (fillLine a) (t .lines)
+
+  abbrev left : List Entry
+  left = keep (others a) (t .misses)
+
+  filled-lined : every (linesOf S) (λ i. lineOk S (t .now) i (getD filled i fresh)) ≡ true
+  filled-lined = every-i (λ i. lineOk S (t .now) i (getD filled i fresh)) (linesOf S) go
+    where
+      go : (i : ℕ) → i < linesOf S → lineOk S (t .now) i (getD filled i fresh) ≡ true
+      go i h =
+          let k : LineIs S (t .now) i (getD (t .lines) i fresh) = line-at S t ok i (rw (lines-are S t ok) h) in
+          rw (getD-fill a (t .lines) i)
+          (line-whole S (t .now) i (fillLine a (getD (t .lines) i fresh))
+          (fill-line a (getD (t .lines) i fresh) (eqb-true (length (getD (t .lines) i fresh .sectors)) 4 (k .four)) S (t .now) i k))
+
+  filled-count : (b : ℕ) → count (holds b) filled ≡ count (holds b) (t .lines)
+  filled-count b =
+      count-map (fillLine a) (holds b) (t .lines)
+      ∙ count-ext (λ l. holds b (fillLine a l)) (holds b) (t .lines) (λ l n. fill-holds a l (four-at S t ok l n) b)
+
+  filled-held : (b : ℕ) → any (holds b) filled ≡ any (holds b) (t .lines)
+  filled-held b =
+      any-map (fillLine a) (holds b) (t .lines)
+      ∙ any-ext (λ l. holds b (fillLine a l)) (holds b) (t .lines) (λ l n. fill-holds a l (four-at S t ok l n) b)
+
+  filled-alone : (l : Line) → In l (t .lines) → alone filled (fillLine a l) ≡ true
+  unfolding alone
+  filled-alone l n =
+      rw (fill-unused a l (four-at S t ok l n), fill-tag a l (four-at S t ok l n), filled-count (l .tag))
+      (all-in (alone (t .lines)) (t .lines) (ok .single) n)
+
+  -- entries at another address are kept
+  kept : (b : ℕ) → b ≢ a → (e : Entry) → entryFor b e ≡ true → others a e ≡ true
+  kept b n e h = not-no (ne-eqb (e .address) a (λ q. n (sym (eqb-true (e .address) b h) ∙ q)))
+
+  gone : any (entryFor a) left ≡ false
+  gone = no-yes (λ h. let (e, n, q) = any-in (entryFor a) left h in clash q (not-yes (in-keep (others a) (t .misses) n .1)))
+
+  filled-sector : (l : Line) → In l (t .lines) → unused l ≡ false → (k : ℕ) → k < 4
+      → isReserved (getD (fillLine a l .sectors) k empty .status) ≡ any (entryFor (l .tag + 32 * k)) left
+  filled-sector l n u k h = go (flag (eqb (l .tag + 32 * k) a))
+    where
+      go : (eqb (l .tag + 32 * k) a ≡ true) ⊎ (eqb (l .tag + 32 * k) a ≡ false)
+          → isReserved (getD (fillLine a l .sectors) k empty .status) ≡ any (entryFor (l .tag + 32 * k)) left
+      go (inl e) =
+          let q : l .tag + 32 * k ≡ a = eqb-true (l .tag + 32 * k) a e in
+          fill-this a l (four-at S t ok l n) k u (tag-aligned S t ok l n u) h q ∙ rw q (sym gone)
+      go (inr e) =
+          let q : l .tag + 32 * k ≢ a = eqb-false (l .tag + 32 * k) a e in
+          rw (
+            fill-other a l (four-at S t ok l n) k (sector-aligned a (entry-at S t ok d m .good)) q,
+            any-keep (entryFor (l .tag + 32 * k)) (others a) (t .misses) (kept (l .tag + 32 * k) q),
+          )
+          (reserved-at S t ok l n u k h)
+
+  filled-reserved : (l : Line) → In l (t .lines) → reservedOk left (fillLine a l) ≡ true
+  unfolding reservedOk
+  filled-reserved l n = rw (fill-unused a l (four-at S t ok l n), fill-tag a l (four-at S t ok l n)) (go (flag (unused l)))
+    where
+      agreeing : ℕ → Bool
+      agreeing k = same (isReserved (getD (fillLine a l .sectors) k empty .status)) (any (entryFor (l .tag + 32 * k)) left)
+
+      go : (unused l ≡ true) ⊎ (unused l ≡ false) → (unused l || every 4 agreeing) ≡ true
+      go (inl u) = rw u
+      go (inr u) = rw u (every-i agreeing 4 (λ k h. is-same _ _ (filled-sector l n u k h)))
+
+  filled-entry : (e : Entry) → In e left → EntryIs S (afterFill a t) e
+  filled-entry e n =
+      let (o, r) = in-keep (others a) (t .misses) n in
+      let k : EntryIs S t e = entry-at S t ok e o in
+      record {
+        good = k .good;
+        held = filled-held (blockOf (e .address)) ∙ k .held;
+        once = rw (count-keep (entryFor (e .address)) (others a) (t .misses) (kept (e .address) (eqb-false (e .address) a (not-yes r)))) (k .once);
+        readers = k .readers;
+        queues = k .queues;
+      }
+
+  filled-queued : (y : Queued) → In y (t .queue) → queuedOk left y ≡ true
+  unfolding queuedOk
+  filled-queued (reading b) n = go (any-in (unsentFor b) (t .misses) (queued-at S t ok (reading b) n))
+    where
+      go : (e : Entry) × In e (t .misses) × (unsentFor b e ≡ true) → any (unsentFor b) left ≡ true
+      go (e, o, u) =
+          let unsent : e .sent ≡ false = not-yes (and-2 (entryFor b e) (not (e .sent)) u) in
+          in-any (unsentFor b) left
+          (keep-in (others a) (t .misses) o
+          (not-no (ne-eqb (e .address) a (λ q. clash s (ap (λ (v : Entry). v .sent) (sym (entry-one S t ok d e m o q)) ∙ unsent))))) u
+  filled-queued (writing b ms) n = queued-at S t ok (writing b ms) n
+
+  pub filled-sound : Sound S (afterFill (d .address) t)
+  filled-sound = record {
+    sized = rw (length-map (t .lines) (fillLine a)) (ok .sized);
+    time = ok .time;
+    lined = filled-lined;
+    single = all-map (fillLine a) (alone filled) (t .lines) ∙ in-all (λ l. alone filled (fillLine a l)) (t .lines) filled-alone;
+    reserve = all-map (fillLine a) (reservedOk left) (t .lines) ∙ in-all (λ l. reservedOk left (fillLine a l)) (t .lines) filled-reserved;
+    entered = in-all (entryOk S (afterFill a t)) left (λ e n. entry-whole S (afterFill a t) e (filled-entry e n));
+    lining = in-all (queuedOk left) (t .queue) filled-queued;
+    few = le-leb (length left) (S .entries) (omega (arith, keep-le (others a) (t .misses), leb-true (length (t .misses)) (S .entries) (ok .few)));
+    short = ok .short;
+  }
+
+pub fill-leaves : (S : Settings) (t : Tables) → Sound S t → (a : ℕ) → LeavesSound S (fill a t)
+unfolding fill
+fill-leaves S t ok a = by-flag (LeavesSound S) (any (sentFor a) (t .misses)) _ (refused NotSent) (λ e. go (any-in (sentFor a) (t .misses) e)) (λ e. tt)
+  where
+    go : (d : Entry) × In d (t .misses) × (sentFor a d ≡ true) → Sound S (afterFill a t)
+    go (d, m, q) =
+        let e : d .address ≡ a = eqb-true (d .address) a (and-1 (entryFor a d) (d .sent) q) in
+        let k : Sound S (afterFill (d .address) t) = filled-sound S t ok d m (and-2 (entryFor a d) (d .sent) q) in
+        rw e at k

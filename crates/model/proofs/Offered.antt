@@ -1,0 +1,377 @@
+-- What the probe finds is as `Spotted` says, so an access leaves sound tables sound; a tick does too, and fresh tables are sound.
+use Prim.Native.Nat.{ℕ, _+_, _*_, _/_, _≤_, _<_}
+use mathlib.Core.Path.{_≡_, refl, sym, ap, _∙_, subst}
+use mathlib.Core.Logic.{_⊎_, inl, inr, _≢_}
+use mathlib.Core.Bool.{Bool, true, false, not, _&&_, _||_, false≢true}
+use mathlib.Core.List.{List, [], _∷_, _++_, map}
+use native.Mathlib.Omega.{arith}
+use lib.ListN.{length, getD, replicate, length-map, getD-replicate, length-replicate}
+use lib.Dec.{leb, ltb, eqb}
+use borrow.Author.Tests.{leb-true, ltb-false, eqb-true, eqb-false, eq-eqb, le-leb}
+use Rattle.model.specs.Words.{pick, all, any}
+use Rattle.model.specs.Range.{inRange, linesOf}
+use Rattle.model.specs.Address.{blockOf, sectorIndex, setIndex, lineNumber, addressOf, isRead, goodBlock, wellFormed}
+use Rattle.model.specs.Tables.{Line, Entry, Queued, writing, Tables, start, refused, isInvalid, isReserved, isModified, unused, waiting, dirty, holds, entryFor, empty, fresh}
+use Rattle.model.specs.Sound.{allOnes, lastCycle, maskOk, sectorOk, lineOk, alone, reservedOk, readingOf, entryOk, queuedOk}
+use Rattle.model.specs.Probe.{columnOf, answerAt, answerOf, waysOf, dirtyLines, enoughDirty, candidate, first, victim, Spot, at, writeBack, takeOver, meet, probe}
+use Rattle.model.specs.Steps.{isHit, isMerge, isMiss, onSector, fetches, queues, placesNeeded, entryFull, accept, proceed, access, tick}
+use Rattle.model.specs.declared.Settings.{Settings}
+use Rattle.model.specs.declared.Status.{Status}
+use Rattle.model.specs.declared.Status.the-variants.{Invalid, Reserved, Valid, Modified}
+use Rattle.model.specs.declared.Sector.{Sector}
+use Rattle.model.specs.declared.Answer.{Answer}
+use Rattle.model.specs.declared.Answer.the-variants.{Hit, HitReserved, Miss, SectorMiss}
+use Rattle.model.specs.declared.Access.{Access}
+use Rattle.model.specs.declared.Access.the-variants.{Read, Write}
+use Rattle.model.specs.declared.Found.{Found}
+use Rattle.model.specs.declared.Found.the-variants.{At, Nothing}
+use Rattle.model.specs.declared.Refusal.the-variants.{BadAccess, QueueFull, EntryFull, MissTableFull, BadCycle}
+use Rattle.model.proofs.Flags.{and-1, and-2, or-no-1, or-no-2, flag, not-yes, no-yes, clash, by-flag}
+use Rattle.model.proofs.Lists.{In, all-in, in-all, in-any, any-in, in-getD, in-index, all-map, any-map, in-replicate}
+use Rattle.model.proofs.Below.{every-i}
+use Rattle.model.proofs.SoundFacts.{Sound, LeavesSound, LineIs, line-whole, EntryIs, entry-whole, ways-some, readers-some, mask-small, sector-below, sector-aligned, address-is, block-is, lines-are, line-at, four-at, sectors-at, tag-at, reserved-at, holder-one, entry-at}
+use Rattle.model.proofs.Ways.{Finds, first-finds, victim-finds, Sits, way-sits, way-in, line-among, set-of-block, set-of-line}
+use Rattle.model.proofs.Taken.{maskOf, Spotted, taken-sound}
+
+-- ---- the table of answers
+
+merge-table : (x : Access) (s : Sector) → isMerge (answerOf x s) ≡ isReserved (s .status)
+merge-table (Read a m k) s = go (s .status) (s .readable)
+  where
+    go : (c : Status) (r : Bool) → isMerge (answerAt c (columnOf (Read a m k) r)) ≡ isReserved c
+    go Invalid true = refl
+    go Invalid false = refl
+    go Reserved true = refl
+    go Reserved false = refl
+    go Valid true = refl
+    go Valid false = refl
+    go Modified true = refl
+    go Modified false = refl
+merge-table (Write a m k) s = go (s .status)
+  where
+    go : (c : Status) → isMerge (answerAt c 0) ≡ isReserved c
+    go Invalid = refl
+    go Reserved = refl
+    go Valid = refl
+    go Modified = refl
+
+reserved-used : (c : Status) → isReserved c ≡ true → isInvalid c ≡ false
+reserved-used Invalid e = absurd (false≢true e)
+reserved-used Reserved e = refl
+reserved-used Valid e = refl
+reserved-used Modified e = refl
+
+modified-used : (c : Status) → isModified c ≡ true → isInvalid c ≡ false
+modified-used Invalid e = absurd (false≢true e)
+modified-used Reserved e = refl
+modified-used Valid e = refl
+modified-used Modified e = refl
+
+modified-some : (c : Status) (m : ℕ) (r : Bool) → isModified c ≡ true → maskOk c m r ≡ true → not (eqb m 0) ≡ true
+modified-some Invalid m r e h = absurd (false≢true e)
+modified-some Reserved m r e h = absurd (false≢true e)
+modified-some Valid m r e h = absurd (false≢true e)
+modified-some Modified m r e h = search (and-1, and-2)
+
+-- the sector of a line that matched isn't INVALID after the access
+used-table : (x : Access) (s : Sector) → isInvalid (onSector x (answerOf x s) s .status) ≡ false
+used-table (Read a m k) s = go (s .status) (s .readable) refl
+  where
+    go : (c : Status) (r : Bool) → s .status ≡ c
+        → isInvalid (pick (isMiss (answerAt c (columnOf (Read a m k) r))) (record { status = Reserved; mask = s .mask; readable = true }) s .status) ≡ false
+    go Invalid true e = refl
+    go Invalid false e = refl
+    go Reserved true e = rw e
+    go Reserved false e = rw e
+    go Valid true e = rw e
+    go Valid false e = rw e
+    go Modified true e = rw e
+    go Modified false e = refl
+used-table (Write a m k) s =
+    by-flag (λ (v : Sector). isInvalid (v .status) ≡ false) (isMerge (answerAt (s .status) 0)) _ _
+    (λ e. reserved-used (s .status) (sym (merge-table (Write a m k) s) ∙ e)) (λ e. refl)
+
+used-miss : (x : Access) (s : Sector) → isInvalid (onSector x Miss s .status) ≡ false
+used-miss (Read a m k) s = refl
+used-miss (Write a m k) s = refl
+
+pub room-found : (x : Access) (n : Answer) → length (fetches x n ++ []) ≤ pick (isHit n) 0 (pick (isRead x) 2 1)
+room-found (Read a m k) Hit = omega arith
+room-found (Read a m k) HitReserved = omega arith
+room-found (Read a m k) Miss = omega arith
+room-found (Read a m k) SectorMiss = omega arith
+room-found (Write a m k) n = omega arith
+
+pub room-taken : (x : Access) (q : List Queued) → length q ≤ 1 → length (fetches x Miss ++ q) ≤ pick (isRead x) 2 1
+room-taken (Read a m k) q h = omega arith
+room-taken (Write a m k) q h = h
+
+-- ---- the write-back of a line
+
+back-quiet : (l : Line) (c : ℕ) → any (readingOf c) (writeBack l) ≡ false
+back-quiet l c = by-flag (λ (q : List Queued). any (readingOf c) q ≡ false) (dirty l) _ [] (λ e. refl) (λ e. refl)
+
+pub back-one : (l : Line) → length (writeBack l) ≤ 1
+back-one l = by-flag (λ (q : List Queued). length q ≤ 1) (dirty l) _ [] (λ e. omega arith) (λ e. omega arith)
+
+dirty-used : (l : Line) → dirty l ≡ true → unused l ≡ false
+dirty-used l e = no-yes (λ z.
+    let (v, m, q) = any-in (λ (v : Sector). isModified (v .status)) (l .sectors) e in
+    clash (all-in (λ (v : Sector). isInvalid (v .status)) (l .sectors) z m) (modified-used (v .status) q))
+
+module _ (S : Settings) (t : Tables) (ok : Sound S t) (l : Line) (m : In l (t .lines)) where
+  masks-small : all (λ n. leb n allOnes) (map (λ (v : Sector). v .mask) (l .sectors)) ≡ true
+  masks-small =
+      all-map (λ (v : Sector). v .mask) (λ n. leb n allOnes) (l .sectors)
+      ∙ in-all (λ (v : Sector). leb (v .mask) allOnes) (l .sectors)
+      (λ v n. mask-small (v .status) (v .mask) (v .readable) (all-in sectorOk (l .sectors) (sectors-at S t ok l m) n))
+
+  dirty-some : dirty l ≡ true → any (λ n. not (eqb n 0)) (map (λ (v : Sector). v .mask) (l .sectors)) ≡ true
+  dirty-some e = any-map (λ (v : Sector). v .mask) (λ n. not (eqb n 0)) (l .sectors) ∙ go (any-in (λ (v : Sector). isModified (v .status)) (l .sectors) e)
+    where
+      go : (v : Sector) × In v (l .sectors) × (isModified (v .status) ≡ true)
+          → any (λ (v : Sector). not (eqb (v .mask) 0)) (l .sectors) ≡ true
+      go (v, n, q) =
+          in-any (λ (v : Sector). not (eqb (v .mask) 0)) (l .sectors) n
+          (modified-some (v .status) (v .mask) (v .readable) q (all-in sectorOk (l .sectors) (sectors-at S t ok l m) n))
+
+  back-ok : (es : List Entry) → all (queuedOk es) (writeBack l) ≡ true
+  unfolding queuedOk
+  back-ok es = by-flag (λ (q : List Queued). all (queuedOk es) q ≡ true) (dirty l) _ [] go (λ e. refl)
+    where
+      go : dirty l ≡ true → all (queuedOk es) (writing (l .tag) (map (λ (v : Sector). v .mask) (l .sectors)) ∷ []) ≡ true
+      go e =
+          let g : goodBlock (l .tag) ≡ true = tag-at S t ok l m (dirty-used l e) in
+          let c : eqb (length (map (λ (v : Sector). v .mask) (l .sectors))) 4 ≡ true = rw length-map (eq-eqb (length (l .sectors)) 4 (four-at S t ok l m)) in
+          rw (g, c, masks-small, dirty-some e)
+
+-- ---- what is found
+
+module _ (S : Settings) (t : Tables) (ok : Sound S t) (some-ways : 1 ≤ S .ways) (x : Access) where
+  abbrev a : ℕ
+  a = addressOf x
+
+  abbrev b : ℕ
+  b = blockOf (addressOf x)
+
+  abbrev ways : List Line
+  ways = waysOf S (t .lines) (addressOf x)
+
+  -- a line that holds an entry's block
+  holder : (e : Entry) → In e (t .misses)
+      → (j : ℕ) × (j < length (t .lines)) × (holds (blockOf (e .address)) (getD (t .lines) j fresh) ≡ true)
+  holder e m =
+      let (l, n, q) = any-in (holds (blockOf (e .address))) (t .lines) (entry-at S t ok e m .held) in
+      let (j, h, g) = in-index (t .lines) fresh l n in
+      (j, h, ap (holds (blockOf (e .address))) g ∙ q)
+
+  abbrev Keeps : ℕ → Entry → Type 0
+  Keeps n e = (blockOf (e .address) ≡ b) ⊎ ((j : ℕ) × (j < length (t .lines)) × (j ≢ n) × (holds (blockOf (e .address)) (getD (t .lines) j fresh) ≡ true))
+
+  holder-kept : (n : ℕ)
+      → ((e : Entry) → In e (t .misses) → holds (blockOf (e .address)) (getD (t .lines) n fresh) ≡ true → blockOf (e .address) ≡ b)
+      → (e : Entry) → In e (t .misses) → Keeps n e
+  holder-kept n f e m = go (holder e m)
+    where
+      other : (j : ℕ) → j < length (t .lines) → holds (blockOf (e .address)) (getD (t .lines) j fresh) ≡ true
+          → (eqb j n ≡ true) ⊎ (eqb j n ≡ false) → Keeps n e
+      other j h q (inl z) = inl (f e m (rw (eqb-true j n z) at q))
+      other j h q (inr z) = inr (j, h, eqb-false j n z, q)
+
+      go : (j : ℕ) × (j < length (t .lines)) × (holds (blockOf (e .address)) (getD (t .lines) j fresh) ≡ true) → Keeps n e
+      go (j, h, q) = other j h q (flag (eqb j n))
+
+  -- a way that matches
+  met : (w : ℕ) → w < length ways → holds b (getD ways w fresh) ≡ true
+      → Spotted S t x (record { way = w; line = getD ways w fresh; answer = answerOf x (getD (getD ways w fresh .sectors) (sectorIndex a) empty); backs = [] })
+  met w h q =
+      let s : Sits S (t .lines) a w = way-sits S (t .lines) a w h in
+      let n : ℕ = lineNumber S a w in
+      let l : Line = getD ways w fresh in
+      let m : In l (t .lines) = way-in S (t .lines) a l (in-getD ways w fresh h) in
+      let g : holds b (getD (t .lines) n fresh) ≡ true = ap (holds b) (sym (s .line)) ∙ q in
+      let u : unused l ≡ false = not-yes (and-1 (not (unused l)) (eqb (l .tag) b) q) in
+      let tagged : l .tag ≡ b = eqb-true (l .tag) b (and-2 (not (unused l)) (eqb (l .tag) b) q) in
+      record {
+        inside = s .inside;
+        tagged = tagged;
+        four = four-at S t ok l m;
+        sectorly = sectors-at S t ok l m;
+        own = set-of-block S a ∙ sym (set-of-line S a w (s .low));
+        lone = λ j k z. no-yes (λ e. z (holder-one S t ok b j n k (s .inside) e g));
+        agree = λ k z. reserved-at S t ok l m u k z ∙ ap (λ (c : ℕ). any (entryFor (c + 32 * k)) (t .misses)) tagged;
+        kept = holder-kept n (λ e i z. let y : holds (blockOf (e .address)) l ≡ true = ap (holds (blockOf (e .address))) (s .line) ∙ z in
+            sym (eqb-true (l .tag) (blockOf (e .address)) (and-2 (not (unused l)) (eqb (l .tag) (blockOf (e .address))) y)) ∙ tagged);
+        merges = merge-table x (getD (l .sectors) (sectorIndex a) empty);
+        used = used-table x (getD (l .sectors) (sectorIndex a) empty);
+        backed = λ es. refl;
+        quiet = λ c. refl;
+        room = room-found x (answerOf x (getD (l .sectors) (sectorIndex a) empty));
+      }
+
+  -- no way holds the block: no line does
+  none-holds : ((l : Line) → In l ways → holds b l ≡ false) → (j : ℕ) → j < length (t .lines) → holds b (getD (t .lines) j fresh) ≡ false
+  none-holds f j h = no-yes (λ e. clash e (f (getD (t .lines) j fresh) (line-among S (t .lines) a j some-ways h (own e))))
+    where
+      l : Line
+      l = getD (t .lines) j fresh
+
+      own : holds b l ≡ true → setIndex S a ≡ j / S .ways
+      own e =
+          let u : unused l ≡ false = not-yes (and-1 (not (unused l)) (eqb (l .tag) b) e) in
+          let tagged : l .tag ≡ b = eqb-true (l .tag) b (and-2 (not (unused l)) (eqb (l .tag) b) e) in
+          let c : (goodBlock (l .tag) && eqb (setIndex S (l .tag)) (j / S .ways)) ≡ true = rw u at (line-at S t ok j h .tagged) in
+          sym (set-of-block S a) ∙ ap (setIndex S) (sym tagged) ∙ eqb-true (setIndex S (l .tag)) (j / S .ways) (and-2 (goodBlock (l .tag)) _ c)
+
+  -- a line without a RESERVED sector holds no entry's block
+  vacant : (l : Line) → In l (t .lines) → waiting l ≡ false → (e : Entry) → In e (t .misses) → holds (blockOf (e .address)) l ≡ true → ⊥
+  vacant l i f e m z =
+      let c : ℕ = e .address in
+      let k : ℕ = sectorIndex c in
+      let u : unused l ≡ false = not-yes (and-1 (not (unused l)) (eqb (l .tag) (blockOf c)) z) in
+      let tagged : l .tag ≡ blockOf c = eqb-true (l .tag) (blockOf c) (and-2 (not (unused l)) (eqb (l .tag) (blockOf c)) z) in
+      let q : l .tag + 32 * k ≡ c = ap (λ (v : ℕ). v + 32 * k) tagged ∙ address-is c (sector-aligned c (entry-at S t ok e m .good)) in
+      let r : isReserved (getD (l .sectors) k empty .status) ≡ true =
+      reserved-at S t ok l i u k (sector-below c) ∙ ap (λ (v : ℕ). any (entryFor v) (t .misses)) q ∙ in-any (entryFor c) (t .misses) m (eq-eqb c c refl) in
+      clash (in-any (λ (v : Sector). isReserved (v .status)) (l .sectors)
+      (in-getD (l .sectors) k empty (omega (arith, four-at S t ok l i, sector-below c))) r) f
+
+  module _ (lacks : (j : ℕ) → j < length (t .lines) → holds b (getD (t .lines) j fresh) ≡ false) where
+    no-entry : (k : ℕ) → k < 4 → any (entryFor (b + 32 * k)) (t .misses) ≡ false
+    no-entry k h = no-yes (λ z. go (any-in (entryFor (b + 32 * k)) (t .misses) z))
+      where
+        go : (e : Entry) × In e (t .misses) × (entryFor (b + 32 * k) e ≡ true) → ⊥
+        go (e, m, q) =
+            let (j, i, g) = holder e m in
+            let c : e .address ≡ b + 32 * k = eqb-true (e .address) (b + 32 * k) q in
+            let d : blockOf (e .address) ≡ b = sym (block-is (e .address) b k (omega arith) h (sym c)) in
+            clash g (ap (λ (v : ℕ). holds v (getD (t .lines) j fresh)) d ∙ lacks j i)
+
+    -- a victim
+    taken-over : (d w : ℕ) → w < length ways → candidate (enoughDirty S d) (getD ways w fresh) ≡ true
+        → Spotted S t x (record {
+          way = w;
+          line = record { tag = b; cycle = 0; sectors = replicate 4 empty };
+          answer = Miss;
+          backs = writeBack (getD ways w fresh);
+        })
+    taken-over d w h q =
+        let s : Sits S (t .lines) a w = way-sits S (t .lines) a w h in
+        let n : ℕ = lineNumber S a w in
+        let l : Line = getD ways w fresh in
+        let m : In l (t .lines) = way-in S (t .lines) a l (in-getD ways w fresh h) in
+        record {
+          inside = s .inside;
+          tagged = refl;
+          four = refl;
+          sectorly = refl;
+          own = set-of-block S a ∙ sym (set-of-line S a w (s .low));
+          lone = λ j k z. lacks j k;
+          agree = λ k z. rw (getD-replicate 4 k empty empty z) (sym (no-entry k z));
+          kept = holder-kept n (λ e i z. absurd (vacant l m (not-yes (and-1 (not (waiting l)) _ q)) e i (ap (holds (blockOf (e .address))) (s .line) ∙ z)));
+          merges = rw (getD-replicate 4 (sectorIndex a) empty empty (sector-below a));
+          used = used-miss x (getD (replicate 4 empty) (sectorIndex a) empty);
+          backed = back-ok S t ok l m;
+          quiet = back-quiet l;
+          room = room-taken x (writeBack l) (back-one l);
+        }
+
+-- ---- an access, a tick, fresh tables
+
+module _ (S : Settings) (range : inRange S ≡ true) (t : Tables) (ok : Sound S t) (x : Access) (small : maskOf x ≤ allOnes) where
+  proceed-leaves : wellFormed x ≡ true → (p : Spot) → Spotted S t x p → LeavesSound S (proceed S x t (at p))
+  unfolding proceed accept
+  proceed-leaves f p sp =
+      by-flag (LeavesSound S) (ltb (S .places) (length (t .queue) + placesNeeded x p)) (refused QueueFull) _ (λ e. tt)
+      (λ roomy. by-flag (LeavesSound S) (isRead x && isMerge (p .answer) && any (entryFull S (addressOf x)) (t .misses)) (refused EntryFull) _ (λ e. tt)
+      (λ merge. by-flag (LeavesSound S) (isRead x && isMiss (p .answer) && leb (S .entries) (length (t .misses))) (refused MissTableFull) _ (λ e. tt)
+      (λ entry. taken-sound S t ok x f small p sp (readers-some S range) merge entry roomy)))
+
+  over-leaves : wellFormed x ≡ true → ((j : ℕ) → j < length (t .lines) → holds (blockOf (addressOf x)) (getD (t .lines) j fresh) ≡ false)
+      → (d : ℕ) (v : Found) → Finds (candidate (enoughDirty S d)) (waysOf S (t .lines) (addressOf x)) v
+      → LeavesSound S (proceed S x t (takeOver (addressOf x) (waysOf S (t .lines) (addressOf x)) v))
+  unfolding proceed
+  over-leaves f g d Nothing h = tt
+  over-leaves f g d (At w) h = proceed-leaves f _ (taken-over S t ok (ways-some S range) x g d w (h .0) (h .1))
+
+  meet-leaves : wellFormed x ≡ true → (d : ℕ) (v : Found) → Finds (holds (blockOf (addressOf x))) (waysOf S (t .lines) (addressOf x)) v
+      → LeavesSound S (proceed S x t (meet S d (waysOf S (t .lines) (addressOf x)) x v))
+  meet-leaves f d Nothing h =
+      over-leaves f (none-holds S t ok (ways-some S range) x h) d (victim S d (waysOf S (t .lines) (addressOf x)))
+      (victim-finds S d (waysOf S (t .lines) (addressOf x)))
+  meet-leaves f d (At w) h = proceed-leaves f _ (met S t ok (ways-some S range) x w (h .0) (h .1))
+
+  pub access-leaves : LeavesSound S (access S x t)
+  unfolding access probe
+  access-leaves =
+      by-flag (LeavesSound S) (wellFormed x) _ (refused BadAccess)
+      (λ f. meet-leaves f (dirtyLines t) (first (holds (blockOf (addressOf x))) (waysOf S (t .lines) (addressOf x)))
+      (first-finds (holds (blockOf (addressOf x))) (waysOf S (t .lines) (addressOf x))))
+      (λ f. tt)
+
+pub tick-leaves : (S : Settings) (t : Tables) → Sound S t → (c : ℕ) → LeavesSound S (tick c t)
+unfolding tick
+tick-leaves S t ok c = by-flag (LeavesSound S) (ltb c (t .now) || ltb lastCycle c) (refused BadCycle) _ (λ e. tt) go
+  where
+    u : Tables
+    u = record { lines = t .lines; misses = t .misses; queue = t .queue; now = c }
+
+    later : {i : ℕ} {l : Line} → t .now ≤ c → LineIs S (t .now) i l → LineIs S c i l
+    later {i} {l} h k = record {
+      four = k .four;
+      sectorly = k .sectorly;
+      past = le-leb (l .cycle) c (omega (arith, leb-true (l .cycle) (t .now) (k .past)));
+      tagged = k .tagged;
+    }
+
+    same-entry : {d : Entry} → EntryIs S t d → EntryIs S u d
+    same-entry k = record { good = k .good; held = k .held; once = k .once; readers = k .readers; queues = k .queues }
+
+    go : (ltb c (t .now) || ltb lastCycle c) ≡ false → Sound S u
+    go e = record {
+      sized = ok .sized;
+      time = le-leb c lastCycle (ltb-false lastCycle c (or-no-2 (ltb c (t .now)) (ltb lastCycle c) e));
+      lined = every-i (λ i. lineOk S c i (getD (t .lines) i fresh)) (linesOf S)
+          (λ i h. line-whole S c i _ (later (ltb-false c (t .now) (or-no-1 (ltb c (t .now)) (ltb lastCycle c) e))
+          (line-at S t ok i (rw (lines-are S t ok) h))));
+      single = ok .single;
+      reserve = ok .reserve;
+      entered = in-all (entryOk S u) (t .misses) (λ d m. entry-whole S u d (same-entry (entry-at S t ok d m)));
+      lining = ok .lining;
+      few = ok .few;
+      short = ok .short;
+    }
+
+pub start-is-sound : (S : Settings) → Sound S (start S)
+unfolding lineOk alone reservedOk
+start-is-sound S = record {
+  sized = eq-eqb _ (linesOf S) (length-replicate (linesOf S) fresh);
+  time = refl;
+  lined = every-i (λ i. lineOk S 0 i (getD (replicate (linesOf S) fresh) i fresh)) (linesOf S) (λ i h. rw (getD-replicate (linesOf S) i fresh fresh h));
+  single = in-all (alone (replicate (linesOf S) fresh)) (replicate (linesOf S) fresh) (λ l m. rw (in-replicate (linesOf S) fresh l m));
+  reserve = in-all (reservedOk []) (replicate (linesOf S) fresh) (λ l m. rw (in-replicate (linesOf S) fresh l m));
+  entered = refl;
+  lining = refl;
+  few = le-leb 0 (S .entries) (omega arith);
+  short = le-leb 0 (S .places) (omega arith);
+}
+
+-- what an access meets is as `Spotted` says
+module _ (S : Settings) (range : inRange S ≡ true) (t : Tables) (ok : Sound S t) (x : Access) where
+  over-spotted : ((j : ℕ) → j < length (t .lines) → holds (blockOf (addressOf x)) (getD (t .lines) j fresh) ≡ false)
+      → (d : ℕ) (v : Found) → Finds (candidate (enoughDirty S d)) (waysOf S (t .lines) (addressOf x)) v
+      → (p : Spot) → takeOver (addressOf x) (waysOf S (t .lines) (addressOf x)) v ≡ at p → Spotted S t x p
+  over-spotted g d Nothing h p e = let z : _≡_ {A = ℕ} 0 1 = cc in absurd (omega arith)
+  over-spotted g d (At w) h p e = subst (Spotted S t x) (cc) (taken-over S t ok (ways-some S range) x g d w (h .0) (h .1))
+
+  meet-spotted : (d : ℕ) (v : Found) → Finds (holds (blockOf (addressOf x))) (waysOf S (t .lines) (addressOf x)) v
+      → (p : Spot) → meet S d (waysOf S (t .lines) (addressOf x)) x v ≡ at p → Spotted S t x p
+  meet-spotted d Nothing h p e =
+      over-spotted (none-holds S t ok (ways-some S range) x h) d (victim S d (waysOf S (t .lines) (addressOf x))) (victim-finds S d (waysOf S (t .lines) (addressOf x))) p e
+  meet-spotted d (At w) h p e = subst (Spotted S t x) (cc) (met S t ok (ways-some S range) x w (h .0) (h .1))
+
+  pub probe-spotted : (p : Spot) → probe S (dirtyLines t) (waysOf S (t .lines) (addressOf x)) x ≡ at p → Spotted S t x p
+  unfolding probe
+  probe-spotted p e =
+      meet-spotted (dirtyLines t) (first (holds (blockOf (addressOf x))) (waysOf S (t .lines) (addressOf x)))
+      (first-finds (holds (blockOf (addressOf x))) (waysOf S (t .lines) (addressOf x))) p e

@@ -1,0 +1,108 @@
+-- The tables that a run of a stream of bytes leaves are sound.
+use Prim.Native.Nat.{ℕ, zero, suc, _≤_, _<_}
+use mathlib.Core.Path.{_≡_, refl}
+use mathlib.Core.Bool.{Bool, true}
+use mathlib.Core.List.{List, [], _∷_}
+use native.Mathlib.Omega.{arith}
+use lib.ListN.{length, getD, take}
+use lib.Dec.{ltb, eqb}
+use borrow.Author.Tests.{ltb-true}
+use Rattle.model.specs.Words.{all}
+use Rattle.model.specs.Range.{inRange}
+use Rattle.model.specs.Tables.{Tables, start, after}
+use Rattle.model.specs.Lent.{Lent}
+use Rattle.model.specs.Sound.{allOnes, sound}
+use Rattle.model.specs.Records.{isCommand, lengthOf, numberAt, commandIn, commandOf}
+use Rattle.model.specs.Runner.{settingsOf, firstStop, laterStop, goesOn, stepRead, stepAt, Result, runFrom, run}
+use Rattle.model.specs.Inner.{Held}
+use Rattle.model.specs.declared.Settings.{Settings}
+use Rattle.model.specs.declared.Command.the-variants as cmd
+use Rattle.model.specs.declared.CommandRead.{CommandRead}
+use Rattle.model.specs.declared.CommandRead.the-variants as command
+use Rattle.model.specs.declared.Stop.{Stop}
+use Rattle.model.proofs.Flags.{and-1, and-2, clash, by-flag}
+use Rattle.model.proofs.Lists.{all-in, in-all, in-take}
+use Rattle.model.proofs.Soundness.{start-sound, commandMask, step-keeps-sound}
+
+abbrev pub bytes : List ℕ → Bool
+bytes = all (λ b. ltb b 256)
+
+byte-at : (s : List ℕ) (i : ℕ) → bytes s ≡ true → getD s i 0 < 256
+byte-at [] i h = omega arith
+byte-at (b ∷ s) zero h = ltb-true b 256 (and-1 (ltb b 256) (bytes s) h)
+byte-at (b ∷ s) (suc i) h = byte-at s i (and-2 (ltb b 256) (bytes s) h)
+
+-- a command's mask stands in four bytes
+mask-small : (s : List ℕ) → bytes s ≡ true → numberAt s 8 4 ≤ allOnes
+unfolding numberAt
+mask-small s h = omega (arith, byte-at s 8 h, byte-at s 9 h, byte-at s 10 h, byte-at s 11 h)
+
+abbrev Small : CommandRead → Type 0
+Small (command.Got c) = commandMask c ≤ allOnes
+Small command.None = Unit {0}
+
+command-small : (k : ℕ) (b : List ℕ) → bytes b ≡ true → Small (commandOf k b)
+unfolding commandOf
+command-small k b h =
+    by-flag Small (eqb (length b) (lengthOf k)) (commandIn k b) command.None
+    (λ e. by-flag Small (eqb k 0) _ _ (λ e. omega arith)
+    (λ e. by-flag Small (eqb k 1) _ _ (λ e. omega arith)
+    (λ e. by-flag Small (eqb k 2) _ _ (λ e. mask-small b h)
+    (λ e. by-flag Small (eqb k 3) _ _ (λ e. omega arith)
+    (λ e. by-flag Small (eqb k 4) _ _ (λ e. omega arith)
+    (λ e. by-flag Small (eqb k 5) _ _ (λ e. omega arith) (λ e. tt)))))))
+    (λ e. tt)
+
+module _ (S : Settings) (range : inRange S ≡ true) where
+  read-keeps-sound : (c : CommandRead) (t : Tables) → Small c → sound S t ≡ true → sound S (after t (stepRead S c t)) ≡ true
+  read-keeps-sound (command.Got c) t h ok = step-keeps-sound S c t range h ok
+  read-keeps-sound command.None t h ok = ok
+
+  pub record-keeps-sound : (k : ℕ) (rest : List ℕ) (t : Tables) → bytes rest ≡ true → sound S t ≡ true
+      → sound S (after t (stepAt S k rest t)) ≡ true
+  unfolding stepAt
+  record-keeps-sound k rest t h ok =
+      let b : bytes (take (lengthOf k) rest) ≡ true =
+      in-all (λ b. ltb b 256) (take (lengthOf k) rest) (λ b m. all-in (λ b. ltb b 256) rest h (in-take (lengthOf k) rest b m)) in
+      read-keeps-sound (commandOf k (take (lengthOf k) rest)) t (command-small k (take (lengthOf k) rest) b) ok
+
+  pub run-from-keeps-sound : (n room : ℕ) (s : List ℕ) (t : Tables) → bytes s ≡ true → sound S t ≡ true
+      → sound S (runFrom S n room s t .tables) ≡ true
+  unfolding runFrom
+  run-from-keeps-sound n room [] t h ok = ok
+  run-from-keeps-sound (suc n) room (b ∷ s) t h ok = run-from-keeps-sound n room s t (and-2 (ltb b 256) (bytes s) h) ok
+  run-from-keeps-sound zero room (k ∷ s) t h ok =
+      by-flag (λ (o : Result Tables). sound S (o .tables) ≡ true) (goesOn (laterStop room k s)) _ _
+      (λ e. run-from-keeps-sound (lengthOf k) _ s (after t (stepAt S k s t)) (and-2 (ltb k 256) (bytes s) h)
+      (record-keeps-sound k s t (and-2 (ltb k 256) (bytes s) h) ok))
+      (λ e. ok)
+
+-- settings that are accepted are in range
+first-in-range : (L : Lent) (k : ℕ) (s : List ℕ) → goesOn (firstStop L k s) ≡ true → inRange (settingsOf s) ≡ true
+unfolding firstStop
+first-in-range L k s =
+    by-flag InRange (isCommand k) _ _
+    (λ e. by-flag InRange (ltb (length s) (lengthOf k)) _ _ (λ f g. clash g refl)
+    (λ f. by-flag InRange (eqb k 0) _ _
+    (λ g. by-flag InRange (inRange (settingsOf s)) _ _ (λ r h. r) (λ r h. clash h refl))
+    (λ g h. clash h refl)))
+    (λ e h. clash h refl)
+  where
+    InRange : Stop → Type 0
+    InRange s₁ = goesOn s₁ ≡ true → inRange (settingsOf s) ≡ true
+
+-- once its first record is accepted, a run leaves slices of sound tables
+pub run-leaves-sound : (room k : ℕ) (s : List ℕ) (L : Lent) → bytes s ≡ true → goesOn (firstStop L k s) ≡ true
+    → Held (settingsOf s) (run room (k ∷ s) L .tables)
+unfolding run
+run-leaves-sound room k s L h go =
+    let S : Settings = settingsOf s in
+    let range : inRange S ≡ true = first-in-range L k s go in
+    record {
+      tables = runFrom S (lengthOf k) room s (start S) .tables;
+      are = record {
+        range = range;
+        soundly = run-from-keeps-sound S range (lengthOf k) room s (start S) h (start-sound S);
+        encoded = rw go;
+      };
+    }

@@ -1,0 +1,183 @@
+-- What sound tables are, as facts: a record beside each test of Sound, and what is known of a line, an entry and a queued read of them.
+use Prim.Native.Nat.{ℕ, _+_, _*_, _/_, _%_, _^_, _≤_, _<_}
+use mathlib.Core.Path.{_≡_, refl, sym, ap, _∙_}
+use mathlib.Core.Bool.{Bool, true, false, not, _&&_, _||_}
+use native.Mathlib.Omega.{arith}
+use lib.ListN.{length, getD}
+use lib.Dec.{leb, ltb, eqb}
+use borrow.Author.Tests.{eqb-true, eq-eqb, leb-true}
+use Rattle.model.specs.Words.{pick, all, any, count, every}
+use Rattle.model.specs.Range.{inRange, within, linesOf}
+use Rattle.model.specs.Address.{blockOf, sectorIndex, setIndex, goodSector, goodBlock}
+use Rattle.model.specs.Tables.{Line, Entry, Queued, Tables, Outcome, refused, done, isReserved, unused, holds, entryFor, empty, fresh}
+use Rattle.model.specs.Sound.{allOnes, lastCycle, maskOk, sectorOk, lineOk, alone, agrees, reservedOk, readingOf, entryOk, queuedOk, sound}
+use Rattle.model.specs.declared.Settings.{Settings}
+use Rattle.model.specs.declared.Status.{Status}
+use Rattle.model.specs.declared.Status.the-variants.{Invalid, Reserved, Valid, Modified}
+use Rattle.model.proofs.Flags.{and-1, and-2, not-yes, same-is}
+use Rattle.model.proofs.Lists.{In, all-in, count-one, count-index, in-index, in-getD}
+use Rattle.model.proofs.Below.{every-at}
+
+-- ---- the records, and their tests both ways
+
+pub record Sound (S : Settings) (t : Tables) : Type 0 where
+  pub sized : eqb (length (t .lines)) (linesOf S) ≡ true
+  pub time : leb (t .now) lastCycle ≡ true
+  pub lined : every (linesOf S) (λ i. lineOk S (t .now) i (getD (t .lines) i fresh)) ≡ true
+  pub single : all (alone (t .lines)) (t .lines) ≡ true
+  pub reserve : all (reservedOk (t .misses)) (t .lines) ≡ true
+  pub entered : all (entryOk S t) (t .misses) ≡ true
+  pub lining : all (queuedOk (t .misses)) (t .queue) ≡ true
+  pub few : leb (length (t .misses)) (S .entries) ≡ true
+  pub short : leb (length (t .queue)) (S .places) ≡ true
+
+pub parts : (S : Settings) (t : Tables) → sound S t ≡ true → Sound S t
+unfolding sound
+parts S t e = search (and-1, and-2) depth 10
+
+pub whole : (S : Settings) (t : Tables) → Sound S t → sound S t ≡ true
+unfolding sound
+whole S t h = rw (h .sized, h .time, h .lined, h .single, h .reserve, h .entered, h .lining, h .few, h .short)
+
+pub record LineIs (S : Settings) (now i : ℕ) (l : Line) : Type 0 where
+  pub four : eqb (length (l .sectors)) 4 ≡ true
+  pub sectorly : all sectorOk (l .sectors) ≡ true
+  pub past : leb (l .cycle) now ≡ true
+  pub tagged : pick (unused l) (eqb (l .tag) 0 && eqb (l .cycle) 0) (goodBlock (l .tag) && eqb (setIndex S (l .tag)) (i / S .ways)) ≡ true
+
+pub line-parts : (S : Settings) (now i : ℕ) (l : Line) → lineOk S now i l ≡ true → LineIs S now i l
+unfolding lineOk
+line-parts S now i l h = search (and-1, and-2) depth 9
+
+pub line-whole : (S : Settings) (now i : ℕ) (l : Line) → LineIs S now i l → lineOk S now i l ≡ true
+unfolding lineOk
+line-whole S now i l h = rw (h .four, h .sectorly, h .past, h .tagged)
+
+pub record EntryIs (S : Settings) (t : Tables) (e : Entry) : Type 0 where
+  pub good : goodSector (e .address) ≡ true
+  pub held : any (holds (blockOf (e .address))) (t .lines) ≡ true
+  pub once : eqb (count (entryFor (e .address)) (t .misses)) 1 ≡ true
+  pub readers : within 1 (S .readers) (length (e .tickets)) ≡ true
+  pub queues : (e .sent || eqb (count (readingOf (e .address)) (t .queue)) 1) ≡ true
+
+pub entry-parts : (S : Settings) (t : Tables) (e : Entry) → entryOk S t e ≡ true → EntryIs S t e
+unfolding entryOk
+entry-parts S t e h = search (and-1, and-2) depth 9
+
+pub entry-whole : (S : Settings) (t : Tables) (e : Entry) → EntryIs S t e → entryOk S t e ≡ true
+unfolding entryOk
+entry-whole S t e h = rw (h .good, h .held, h .once, h .readers, h .queues)
+
+-- the tables that an outcome leaves are sound, if it leaves any
+abbrev pub LeavesSound : Settings → Outcome Tables → Type 0
+LeavesSound S (refused n) = Unit {0}
+LeavesSound S (done es u) = Sound S u
+
+-- ---- settings in range
+
+pub ways-some : (S : Settings) → inRange S ≡ true → 1 ≤ S .ways
+unfolding inRange
+ways-some S h = leb-true 1 (S .ways) (search (and-1, and-2) depth 12)
+
+pub entries-some : (S : Settings) → inRange S ≡ true → 1 ≤ S .entries
+unfolding inRange
+entries-some S h = leb-true 1 (S .entries) (search (and-1, and-2) depth 12)
+
+pub readers-some : (S : Settings) → inRange S ≡ true → 1 ≤ S .readers
+unfolding inRange
+readers-some S h = leb-true 1 (S .readers) (search (and-1, and-2) depth 12)
+
+pub places-two : (S : Settings) → inRange S ≡ true → 2 ≤ S .places
+unfolding inRange
+places-two S h = leb-true 2 (S .places) (search (and-1, and-2) depth 12)
+
+-- ---- where an address lies
+
+pub sector-below : (a : ℕ) → sectorIndex a < 4
+sector-below a = omega arith
+
+pub address-is : (a : ℕ) → a % 32 ≡ 0 → blockOf a + 32 * sectorIndex a ≡ a
+address-is a h = omega arith
+
+pub block-is : (a b k : ℕ) → b % 128 ≡ 0 → k < 4 → b + 32 * k ≡ a → b ≡ blockOf a
+block-is a b k h l e = omega arith
+
+pub sector-is : (a b k : ℕ) → b % 128 ≡ 0 → k < 4 → b + 32 * k ≡ a → k ≡ sectorIndex a
+sector-is a b k h l e = omega arith
+
+pub sector-aligned : (a : ℕ) → goodSector a ≡ true → a % 32 ≡ 0
+sector-aligned a h = eqb-true (a % 32) 0 (and-1 (eqb (a % 32) 0) (ltb a (2 ^ 48)) h)
+
+-- ---- masks
+
+pub mask-small : (c : Status) (m : ℕ) (r : Bool) → maskOk c m r ≡ true → leb m allOnes ≡ true
+mask-small Invalid m r h = rw (eqb-true m 0 (and-1 (eqb m 0) r h))
+mask-small Reserved m r h = and-1 (leb m allOnes) r h
+mask-small Valid m r h = rw (eqb-true m 0 (and-1 (eqb m 0) r h))
+mask-small Modified m r h = search (and-1, and-2)
+
+-- ---- of sound tables: a line, an entry, what is queued
+
+module _ (S : Settings) (t : Tables) (ok : Sound S t) where
+  pub lines-are : length (t .lines) ≡ linesOf S
+  lines-are = eqb-true (length (t .lines)) (linesOf S) (ok .sized)
+
+  pub line-at : (i : ℕ) → i < length (t .lines) → LineIs S (t .now) i (getD (t .lines) i fresh)
+  line-at i h =
+      line-parts S (t .now) i (getD (t .lines) i fresh)
+      (every-at (λ j. lineOk S (t .now) j (getD (t .lines) j fresh)) (linesOf S) i (ok .lined) (rw lines-are at h))
+
+  pub four-at : (l : Line) → In l (t .lines) → length (l .sectors) ≡ 4
+  four-at l m =
+      let (i, h, e) = in-index (t .lines) fresh l m in
+      eqb-true (length (l .sectors)) 4 (ap (λ (v : Line). eqb (length (v .sectors)) 4) (sym e) ∙ line-at i h .four)
+
+  pub sectors-at : (l : Line) → In l (t .lines) → all sectorOk (l .sectors) ≡ true
+  sectors-at l m =
+      let (i, h, e) = in-index (t .lines) fresh l m in
+      ap (λ (v : Line). all sectorOk (v .sectors)) (sym e) ∙ line-at i h .sectorly
+
+  -- the tag of a line that isn't wholly invalid
+  pub tag-at : (l : Line) → In l (t .lines) → unused l ≡ false → goodBlock (l .tag) ≡ true
+  tag-at l m u = go (in-index (t .lines) fresh l m)
+    where
+      go : (i : ℕ) × (i < length (t .lines)) × (getD (t .lines) i fresh ≡ l) → goodBlock (l .tag) ≡ true
+      go (i, h, e) =
+          let k : LineIs S (t .now) i l = rw e at (line-at i h) in
+          let q : (goodBlock (l .tag) && eqb (setIndex S (l .tag)) (i / S .ways)) ≡ true = rw u at (k .tagged) in
+          and-1 (goodBlock (l .tag)) _ q
+
+  pub tag-aligned : (l : Line) → In l (t .lines) → unused l ≡ false → l .tag % 128 ≡ 0
+  tag-aligned l m u = eqb-true (l .tag % 128) 0 (and-1 (eqb (l .tag % 128) 0) (ltb (l .tag) (2 ^ 48)) (tag-at l m u))
+
+  -- its sectors are RESERVED where the entries say so
+  pub reserved-at : (l : Line) → In l (t .lines) → unused l ≡ false → (k : ℕ) → k < 4
+      → isReserved (getD (l .sectors) k empty .status) ≡ any (entryFor (l .tag + 32 * k)) (t .misses)
+  unfolding reservedOk
+  reserved-at l m u k h = same-is _ _ (every-at (agrees (t .misses) l) 4 k (rw u at (all-in (reservedOk (t .misses)) (t .lines) (ok .reserve) m)) h)
+
+  -- lines that hold one block are one
+  pub holder-one : (b i j : ℕ) → i < length (t .lines) → j < length (t .lines) → holds b (getD (t .lines) i fresh) ≡ true
+      → holds b (getD (t .lines) j fresh) ≡ true → i ≡ j
+  unfolding alone
+  holder-one b i j h k e f =
+      let l : Line = getD (t .lines) i fresh in
+      let u : unused l ≡ false = not-yes (and-1 (not (unused l)) (eqb (l .tag) b) e) in
+      let q : l .tag ≡ b = eqb-true (l .tag) b (and-2 (not (unused l)) (eqb (l .tag) b) e) in
+      let c : eqb (count (holds (l .tag)) (t .lines)) 1 ≡ true = rw u at (all-in (alone (t .lines)) (t .lines) (ok .single) (in-getD (t .lines) i fresh h)) in
+      count-index (holds b) fresh (t .lines) (rw q at (eqb-true (count (holds (l .tag)) (t .lines)) 1 c)) i j h k e f
+
+  pub entry-at : (e : Entry) → In e (t .misses) → EntryIs S t e
+  entry-at e m = entry-parts S t e (all-in (entryOk S t) (t .misses) (ok .entered) m)
+
+  pub entry-one : (e d : Entry) → In e (t .misses) → In d (t .misses) → d .address ≡ e .address → d ≡ e
+  entry-one e d m n q =
+      count-one (entryFor (e .address)) (t .misses) (eqb-true (count (entryFor (e .address)) (t .misses)) 1 (entry-at e m .once))
+      n (eq-eqb (d .address) (e .address) q) m (eq-eqb (e .address) (e .address) refl)
+
+  pub queued-at : (y : Queued) → In y (t .queue) → queuedOk (t .misses) y ≡ true
+  queued-at y m = all-in (queuedOk (t .misses)) (t .queue) (ok .lining) m
+
+  -- an unsent entry has one read in the queue
+  pub unsent-once : (e : Entry) → In e (t .misses) → e .sent ≡ false → count (readingOf (e .address)) (t .queue) ≡ 1
+  unsent-once e m h = eqb-true (count (readingOf (e .address)) (t .queue)) 1 (rw h at (entry-at e m .queues))

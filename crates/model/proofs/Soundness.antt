@@ -1,0 +1,64 @@
+-- Fresh tables are sound, and every step leaves sound tables sound.
+use Prim.Native.Nat.{ℕ, _≤_}
+use mathlib.Core.Path.{_≡_}
+use mathlib.Core.Bool.{true}
+use mathlib.Core.List.{List}
+use Rattle.model.specs.Range.{inRange}
+use Rattle.model.specs.Tables.{Tables, start, Outcome, refused, done, after}
+use Rattle.model.specs.Sound.{allOnes, sound}
+use Rattle.model.specs.Steps.{access, send, fill, tick}
+use Rattle.model.specs.Runner.{stepOf}
+use Rattle.model.specs.declared.Settings.{Settings}
+use Rattle.model.specs.declared.Access.{Access}
+use Rattle.model.specs.declared.Access.the-variants.{Read, Write}
+use Rattle.model.specs.declared.Event.{Event}
+use Rattle.model.specs.declared.Command.{Command}
+use Rattle.model.specs.declared.Command.the-variants as cmd
+use Rattle.model.proofs.SoundFacts.{LeavesSound, parts, whole}
+use Rattle.model.proofs.Keep.{send-leaves, fill-leaves}
+use Rattle.model.proofs.Taken.{maskOf}
+use Rattle.model.proofs.Offered.{access-leaves, tick-leaves, start-is-sound}
+
+after-sound : (S : Settings) (t : Tables) → sound S t ≡ true → (o : Outcome Tables) → LeavesSound S o → sound S (after t o) ≡ true
+after-sound S t ok (refused n) l = ok
+after-sound S t ok (done es u) l = whole S u l
+
+-- the same of the tables that an accepted step leaves
+pub done-sound : (S : Settings) (t : Tables) (o : Outcome Tables) → sound S (after t o) ≡ true → (es : List Event) (u : Tables)
+    → o ≡ done es u → sound S u ≡ true
+done-sound S t o ok es u e = rw e at ok
+
+pub start-sound : (S : Settings) → sound S (start S) ≡ true
+start-sound S = whole S (start S) (start-is-sound S)
+
+-- a mask is a 32-bit number: `wellFormed` leaves that to its type
+pub access-keeps-sound : (S : Settings) (x : Access) (t : Tables) → inRange S ≡ true → maskOf x ≤ allOnes → sound S t ≡ true
+    → sound S (after t (access S x t)) ≡ true
+access-keeps-sound S x t range small ok = after-sound S t ok (access S x t) (access-leaves S range t (parts S t ok) x small)
+
+pub send-keeps-sound : (S : Settings) (t : Tables) → sound S t ≡ true → sound S (after t (send t)) ≡ true
+send-keeps-sound S t ok = after-sound S t ok (send t) (send-leaves S t (parts S t ok))
+
+pub fill-keeps-sound : (S : Settings) (a : ℕ) (t : Tables) → sound S t ≡ true → sound S (after t (fill a t)) ≡ true
+fill-keeps-sound S a t ok = after-sound S t ok (fill a t) (fill-leaves S t (parts S t ok) a)
+
+pub tick-keeps-sound : (S : Settings) (c : ℕ) (t : Tables) → sound S t ≡ true → sound S (after t (tick c t)) ≡ true
+tick-keeps-sound S c t ok = after-sound S t ok (tick c t) (tick-leaves S t (parts S t ok) c)
+
+-- the mask of a command, if it has one
+abbrev pub commandMask : Command → ℕ
+commandMask (cmd.Settings sets ways percent entries readers places) = 0
+commandMask (cmd.Read a k) = 0
+commandMask (cmd.Write a m) = m
+commandMask cmd.Send = 0
+commandMask (cmd.Fill a) = 0
+commandMask (cmd.Tick c) = 0
+
+pub step-keeps-sound : (S : Settings) (c : Command) (t : Tables) → inRange S ≡ true → commandMask c ≤ allOnes → sound S t ≡ true
+    → sound S (after t (stepOf S c t)) ≡ true
+step-keeps-sound S (cmd.Settings sets ways percent entries readers places) t range small ok = ok
+step-keeps-sound S (cmd.Read a k) t range small ok = access-keeps-sound S (Read a 0 k) t range small ok
+step-keeps-sound S (cmd.Write a m) t range small ok = access-keeps-sound S (Write a m 0) t range small ok
+step-keeps-sound S cmd.Send t range small ok = send-keeps-sound S t ok
+step-keeps-sound S (cmd.Fill a) t range small ok = fill-keeps-sound S a t ok
+step-keeps-sound S (cmd.Tick c) t range small ok = tick-keeps-sound S c t ok

@@ -1,0 +1,517 @@
+-- An accepted access keeps sound tables sound, given what is known of the line that it meets (`Spotted`).
+use Prim.Native.Nat.{ℕ, _+_, _*_, _/_, _%_, _^_, _≤_, _<_}
+use mathlib.Core.Path.{_≡_, refl, sym, ap, _∙_}
+use mathlib.Core.Logic.{_⊎_, inl, inr, _≢_}
+use mathlib.Core.Bool.{Bool, true, false, not, _&&_, _||_, false≢true}
+use mathlib.Core.List.{List, [], _∷_, _++_}
+use native.Mathlib.Omega.{arith}
+use native.Mathlib.Nat.{add-zero}
+use lib.ListN.{length, getD, set, length-map, length-set, length-append}
+use lib.Seq.{getD-set-same, getD-set-other}
+use lib.Bits.{bitOr, or-lt, or-add-and, and-le-l}
+use lib.Dec.{leb, ltb, eqb}
+use borrow.Author.Tests.{leb-true, leb-false, ltb-true, ltb-false, lt-ltb, eqb-true, eqb-false, eq-eqb, ne-eqb, le-leb}
+use Rattle.model.specs.Words.{pick, all, any, count, every}
+use Rattle.model.specs.Range.{within, linesOf}
+use Rattle.model.specs.Address.{blockOf, sectorIndex, setIndex, lineNumber, addressOf, isRead, goodSector, wellFormed}
+use Rattle.model.specs.Tables.{Line, Entry, Queued, reading, writing, Tables, isInvalid, isReserved, unused, holds, entryFor, empty, fresh}
+use Rattle.model.specs.Sound.{allOnes, maskOk, sectorOk, lineOk, alone, agrees, reservedOk, readingOf, unsentFor, entryOk, queuedOk}
+use Rattle.model.specs.Probe.{Spot}
+use Rattle.model.specs.Steps.{isHit, isMerge, isMiss, onSector, update, join, onMisses, fetches, queues, placesNeeded, entryFull}
+use Rattle.model.specs.declared.Settings.{Settings}
+use Rattle.model.specs.declared.Status.{Status}
+use Rattle.model.specs.declared.Status.the-variants.{Invalid, Reserved, Valid, Modified}
+use Rattle.model.specs.declared.Sector.{Sector}
+use Rattle.model.specs.declared.Answer.{Answer}
+use Rattle.model.specs.declared.Answer.the-variants.{Hit, HitReserved, Miss, SectorMiss}
+use Rattle.model.specs.declared.Access.{Access}
+use Rattle.model.specs.declared.Access.the-variants.{Read, Write}
+use Rattle.model.proofs.Flags.{and-1, and-2, and-i, or-1, or-2, flag, not-yes, not-no, no-yes, clash, by-flag, is-same}
+use Rattle.model.proofs.Lists.{In, all-in, in-all, in-any, any-in, index-count, count-append, any-append, in-append, none-count, each, in-set-same, in-set-other, count-ext, any-ext, in-getD, in-index, all-set, set-some, in-map, any-map, count-map}
+use Rattle.model.proofs.Below.{every-i}
+use Rattle.model.proofs.SoundFacts.{Sound, LineIs, line-whole, EntryIs, entry-whole, mask-small, sector-below, sector-aligned, address-is, block-is, sector-is, lines-are, line-at, tag-aligned, reserved-at, holder-one, entry-at, queued-at}
+
+or-false : (b : Bool) → (b || false) ≡ b
+or-false true = refl
+or-false false = refl
+
+and-false : (b : Bool) → (b && false) ≡ false
+and-false true = refl
+and-false false = refl
+
+and-true : (b : Bool) → (b && true) ≡ b
+and-true true = refl
+and-true false = refl
+
+abbrev pub maskOf : Access → ℕ
+maskOf (Read a m k) = m
+maskOf (Write a m k) = m
+
+-- a read that misses: it takes a new entry and queues a read
+abbrev pub fetching : Access → Answer → Bool
+fetching x n = isRead x && isMiss n
+
+pub formed-good : (x : Access) → wellFormed x ≡ true → goodSector (addressOf x) ≡ true
+formed-good (Read a m k) h = and-1 (goodSector a) (eqb m 0) h
+formed-good (Write a m k) h = and-1 (goodSector a) (not (eqb m 0)) h
+
+-- ---- the sector
+
+mask-joined-small : (m n : ℕ) → leb m allOnes ≡ true → n ≤ allOnes → leb (bitOr m n) allOnes ≡ true
+mask-joined-small m n h k =
+    let z : bitOr m n < 4294967296 = or-lt 32 m n (omega (arith, leb-true m allOnes h)) (omega arith) in
+    le-leb (bitOr m n) allOnes (omega arith)
+
+mask-joined-some : (m n : ℕ) → eqb n 0 ≡ false → eqb (bitOr m n) 0 ≡ false
+mask-joined-some m n h =
+    ne-eqb (bitOr m n) 0 (λ z. eqb-false n 0 h (omega (arith, or-add-and m n, and-le-l m n)))
+
+is-reserved : (c : Status) → isReserved c ≡ true → c ≡ Reserved
+is-reserved Invalid h = absurd (false≢true h)
+is-reserved Reserved h = refl
+is-reserved Valid h = absurd (false≢true h)
+is-reserved Modified h = absurd (false≢true h)
+
+-- a sound sector is sound after the access
+sector-after : (x : Access) (n : Answer) (s : Sector) → wellFormed x ≡ true → maskOf x ≤ allOnes → isMerge n ≡ isReserved (s .status)
+    → sectorOk s ≡ true
+    → sectorOk (onSector x n s) ≡ true
+sector-after (Read a m k) n s f b g h =
+    by-flag (λ (v : Sector). sectorOk v ≡ true) (isMiss n) _ _ (λ e. rw (mask-small (s .status) (s .mask) (s .readable) h)) (λ e. h)
+sector-after (Write a m k) n s f b g h =
+    let small : leb (bitOr (s .mask) m) allOnes ≡ true = mask-joined-small (s .mask) m (mask-small (s .status) (s .mask) (s .readable) h) b in
+    let some : eqb (bitOr (s .mask) m) 0 ≡ false = mask-joined-some (s .mask) m (not-yes (and-2 (goodSector a) (not (eqb m 0)) f)) in
+    by-flag (λ (v : Sector). sectorOk v ≡ true) (isMerge n) _ _
+    (λ e. let c : s .status ≡ Reserved = is-reserved (s .status) (sym g ∙ e) in
+    let r : maskOk Reserved (s .mask) (s .readable) ≡ true = rw c at h in
+    rw (c, small) (and-2 (leb (s .mask) allOnes) (s .readable) r))
+    (λ e. rw (small, some) (go (eqb (bitOr (s .mask) m) allOnes)))
+  where
+    go : (q : Bool) → ((q || (s .readable && not (isInvalid (s .status)))) || not q) ≡ true
+    go true = refl
+    go false = or-2 (s .readable && not (isInvalid (s .status))) true refl
+
+-- and RESERVED if it was, or is fetched now
+reserved-after : (x : Access) (n : Answer) (s : Sector) → isMerge n ≡ isReserved (s .status)
+    → isReserved (onSector x n s .status) ≡ (isReserved (s .status) || fetching x n)
+reserved-after (Read a m k) Hit s g = sym (or-false (isReserved (s .status)))
+reserved-after (Read a m k) HitReserved s g = sym (or-false (isReserved (s .status)))
+reserved-after (Read a m k) Miss s g = rw (← g)
+reserved-after (Read a m k) SectorMiss s g = rw (← g)
+reserved-after (Write a m k) Hit s g = rw (← g)
+reserved-after (Write a m k) HitReserved s g = sym (or-false (isReserved (s .status)))
+reserved-after (Write a m k) Miss s g = rw (← g)
+reserved-after (Write a m k) SectorMiss s g = rw (← g)
+
+-- ---- the entries and the queue
+
+abbrev newEntry : ℕ → ℕ → Entry
+newEntry a k = record { address = a; sent = false; tickets = k ∷ [] }
+
+join-address : (a k : ℕ) (e : Entry) → join a k e .address ≡ e .address
+join-address a k e = by-flag (λ (v : Entry). v .address ≡ e .address) (entryFor a e) _ _ (λ q. refl) (λ q. refl)
+
+join-sent : (a k : ℕ) (e : Entry) → join a k e .sent ≡ e .sent
+join-sent a k e = by-flag (λ (v : Entry). v .sent ≡ e .sent) (entryFor a e) _ _ (λ q. refl) (λ q. refl)
+
+-- addresses after the access: those before, and the access's where it fetches
+misses-any : (x : Access) (n : Answer) (es : List Entry) (c : ℕ)
+    → any (entryFor c) (onMisses x n es) ≡ (any (entryFor c) es || (fetching x n && eqb (addressOf x) c))
+misses-any (Read a m k) Hit es c = sym (or-false (any (entryFor c) es))
+misses-any (Read a m k) HitReserved es c =
+    any-map (join a k) (entryFor c) es ∙ any-ext (λ e. entryFor c (join a k e)) (entryFor c) es (λ e i. rw (join-address a k e))
+    ∙ sym (or-false (any (entryFor c) es))
+misses-any (Read a m k) Miss es c = any-append (entryFor c) es _ ∙ rw (or-false (eqb a c))
+misses-any (Read a m k) SectorMiss es c = any-append (entryFor c) es _ ∙ rw (or-false (eqb a c))
+misses-any (Write a m k) n es c = sym (or-false (any (entryFor c) es))
+
+misses-count : (x : Access) (n : Answer) (es : List Entry) (c : ℕ)
+    → count (entryFor c) (onMisses x n es) ≡ count (entryFor c) es + pick (fetching x n && eqb (addressOf x) c) 1 0
+misses-count (Read a m k) Hit es c = omega arith
+misses-count (Read a m k) HitReserved es c =
+    count-map (join a k) (entryFor c) es ∙ count-ext (λ e. entryFor c (join a k e)) (entryFor c) es (λ e i. rw (join-address a k e)) ∙ omega arith
+misses-count (Read a m k) Miss es c = count-append (entryFor c) es _
+misses-count (Read a m k) SectorMiss es c = count-append (entryFor c) es _
+misses-count (Write a m k) n es c = omega arith
+
+misses-few : (S : Settings) (x : Access) (n : Answer) (es : List Entry) → length es ≤ S .entries
+    → (isRead x && isMiss n && leb (S .entries) (length es)) ≡ false → length (onMisses x n es) ≤ S .entries
+misses-few S (Read a m k) Hit es h f = h
+misses-few S (Read a m k) HitReserved es h f = rw length-map h
+misses-few S (Read a m k) Miss es h f = rw length-append (omega (arith, leb-false (S .entries) (length es) f))
+misses-few S (Read a m k) SectorMiss es h f = rw length-append (omega (arith, leb-false (S .entries) (length es) f))
+misses-few S (Write a m k) n es h f = h
+
+-- reads queued by the access
+fetches-count : (x : Access) (n : Answer) (c : ℕ) → count (readingOf c) (fetches x n) ≡ pick (fetching x n && eqb c (addressOf x)) 1 0
+fetches-count (Read a m k) Hit c = refl
+fetches-count (Read a m k) HitReserved c = refl
+fetches-count (Read a m k) Miss c = refl
+fetches-count (Read a m k) SectorMiss c = refl
+fetches-count (Write a m k) n c = refl
+
+-- what was queued has its entry still, and a fetch has its own
+unsent-after : (x : Access) (n : Answer) (es : List Entry) (c : ℕ) → any (unsentFor c) es ≡ true
+    → any (unsentFor c) (onMisses x n es) ≡ true
+unsent-after (Read a m k) Hit es c h = h
+unsent-after (Read a m k) HitReserved es c h =
+    any-map (join a k) (unsentFor c) es ∙ any-ext (λ e. unsentFor c (join a k e)) (unsentFor c) es (λ e i. rw (join-address a k e, join-sent a k e)) ∙ h
+unsent-after (Read a m k) Miss es c h = any-append (unsentFor c) es _ ∙ or-1 (any (unsentFor c) es) _ h
+unsent-after (Read a m k) SectorMiss es c h = any-append (unsentFor c) es _ ∙ or-1 (any (unsentFor c) es) _ h
+unsent-after (Write a m k) n es c h = h
+
+queued-still : (x : Access) (n : Answer) (es : List Entry) (y : Queued) → queuedOk es y ≡ true → queuedOk (onMisses x n es) y ≡ true
+unfolding queuedOk
+queued-still x n es (reading c) h = unsent-after x n es c h
+queued-still x n es (writing b ms) h = h
+
+unsent-new : (a k : ℕ) (es : List Entry) → any (unsentFor a) (es ++ (newEntry a k ∷ [])) ≡ true
+unsent-new a k es = any-append (unsentFor a) es _ ∙ or-2 (any (unsentFor a) es) _ (rw (eq-eqb a a refl))
+
+fetch-queued : (x : Access) (n : Answer) (es : List Entry) (y : Queued) → In y (fetches x n) → queuedOk (onMisses x n es) y ≡ true
+unfolding queuedOk
+fetch-queued (Read a m k) Hit es y i = absurd i
+fetch-queued (Read a m k) HitReserved es y i = absurd i
+fetch-queued (Read a m k) Miss es y (inl q) = rw q (unsent-new a k es)
+fetch-queued (Read a m k) Miss es y (inr i) = absurd i
+fetch-queued (Read a m k) SectorMiss es y (inl q) = rw q (unsent-new a k es)
+fetch-queued (Read a m k) SectorMiss es y (inr i) = absurd i
+fetch-queued (Write a m k) n es y i = absurd i
+
+-- where an entry comes from
+record Old (W : ℕ) (es : List Entry) (e : Entry) : Type 0 where
+  old : Entry
+  there : In old es
+  address : e .address ≡ old .address
+  sent : e .sent ≡ old .sent
+  readers : within 1 W (length (e .tickets)) ≡ true
+
+record New (x : Access) (n : Answer) (e : Entry) : Type 0 where
+  fetched : fetching x n ≡ true
+  address : e .address ≡ addressOf x
+  sent : e .sent ≡ false
+  one : length (e .tickets) ≡ 1
+
+module _ (S : Settings) (es : List Entry) (ok : (d : Entry) → In d es → within 1 (S .readers) (length (d .tickets)) ≡ true) where
+  entry-same : (e : Entry) → In e es → Old (S .readers) es e
+  entry-same e i = record { old = e; there = i; address = refl; sent = refl; readers = ok e i }
+
+  entry-appended : (a m k : ℕ) (n : Answer) (e : Entry) → isMiss n ≡ true → In e (es ++ (newEntry a k ∷ []))
+      → Old (S .readers) es e ⊎ New (Read a m k) n e
+  entry-appended a m k n e f i = go (in-append es _ e i)
+    where
+      go : In e es ⊎ In e (newEntry a k ∷ []) → Old (S .readers) es e ⊎ New (Read a m k) n e
+      go (inl q) = inl (entry-same e q)
+      go (inr (inl q)) = inr (record {
+        fetched = f;
+        address = ap (λ (v : Entry). v .address) q;
+        sent = ap (λ (v : Entry). v .sent) q;
+        one = ap (λ (v : Entry). length (v .tickets)) q;
+      })
+      go (inr (inr q)) = absurd q
+
+  join-readers : (a k : ℕ) (d : Entry) → In d es → entryFull S a d ≡ false → within 1 (S .readers) (length (join a k d .tickets)) ≡ true
+  join-readers a k d i f =
+      by-flag (λ (v : Entry). within 1 (S .readers) (length (v .tickets)) ≡ true) (entryFor a d) _ _
+      (λ q. let z : leb (S .readers) (length (d .tickets)) ≡ false = rw q at f in
+      rw length-append (and-i (le-leb 1 (length (d .tickets) + 1) (omega arith))
+      (le-leb (length (d .tickets) + 1) (S .readers) (omega (arith, leb-false (S .readers) (length (d .tickets)) z)))))
+      (λ q. ok d i)
+
+  entry-from : (x : Access) (n : Answer) → (isRead x && isMerge n && any (entryFull S (addressOf x)) es) ≡ false → (e : Entry)
+      → In e (onMisses x n es)
+      → Old (S .readers) es e ⊎ New x n e
+  entry-from (Read a m k) Hit f e i = inl (entry-same e i)
+  entry-from (Read a m k) HitReserved f e i =
+      let (d, o, q) = in-map (join a k) es i in
+      inl (record {
+        old = d;
+        there = o;
+        address = ap (λ (v : Entry). v .address) q ∙ join-address a k d;
+        sent = ap (λ (v : Entry). v .sent) q ∙ join-sent a k d;
+        readers = ap (λ (v : Entry). within 1 (S .readers) (length (v .tickets))) q
+            ∙ join-readers a k d o (no-yes (λ z. clash (in-any (entryFull S a) es o z) f));
+      })
+  entry-from (Read a m k) Miss f e i = entry-appended a m k Miss e refl i
+  entry-from (Read a m k) SectorMiss f e i = entry-appended a m k SectorMiss e refl i
+  entry-from (Write a m k) n f e i = inl (entry-same e i)
+
+-- ---- the line that an access meets, and the tables that it leaves
+
+abbrev pub spotNumber : Settings → Access → Spot → ℕ
+spotNumber S x p = lineNumber S (addressOf x) (p .way)
+
+pub record Spotted (S : Settings) (t : Tables) (x : Access) (p : Spot) : Type 0 where
+  pub inside : spotNumber S x p < length (t .lines)
+  pub tagged : p .line .tag ≡ blockOf (addressOf x)
+  pub four : length (p .line .sectors) ≡ 4
+  pub sectorly : all sectorOk (p .line .sectors) ≡ true
+  pub own : setIndex S (blockOf (addressOf x)) ≡ spotNumber S x p / S .ways
+  pub lone : (j : ℕ) → j < length (t .lines) → j ≢ spotNumber S x p → holds (blockOf (addressOf x)) (getD (t .lines) j fresh) ≡ false
+  pub agree : (k : ℕ) → k < 4
+      → isReserved (getD (p .line .sectors) k empty .status) ≡ any (entryFor (blockOf (addressOf x) + 32 * k)) (t .misses)
+  pub kept : (e : Entry) → In e (t .misses)
+      → (blockOf (e .address) ≡ blockOf (addressOf x))
+      ⊎ ((j : ℕ) × (j < length (t .lines)) × (j ≢ spotNumber S x p) × (holds (blockOf (e .address)) (getD (t .lines) j fresh) ≡ true))
+  pub merges : isMerge (p .answer) ≡ isReserved (getD (p .line .sectors) (sectorIndex (addressOf x)) empty .status)
+  pub used : isInvalid (onSector x (p .answer) (getD (p .line .sectors) (sectorIndex (addressOf x)) empty) .status) ≡ false
+  pub backed : (es : List Entry) → all (queuedOk es) (p .backs) ≡ true
+  pub quiet : (c : ℕ) → any (readingOf c) (p .backs) ≡ false
+  pub room : length (queues x p) ≤ placesNeeded x p
+
+-- the tables that `accept` leaves
+abbrev pub afterAccess : Settings → Access → Spot → Tables → Tables
+afterAccess S x p t = record {
+  lines = set (t .lines) (spotNumber S x p) (update (sectorIndex (addressOf x)) (onSector x (p .answer)) (t .now) (p .line));
+  misses = onMisses x (p .answer) (t .misses);
+  queue = t .queue ++ queues x p;
+  now = t .now;
+}
+
+module _ (S : Settings) (t : Tables) (ok : Sound S t) (x : Access) (formed : wellFormed x ≡ true) (small : maskOf x ≤ allOnes)
+    (p : Spot) (sp : Spotted S t x p) where
+  -- its address, block, sector and line number; the line before at its sector, the line after, the tables after
+  abbrev a : ℕ
+  a = addressOf x
+
+  abbrev b : ℕ
+  b = blockOf (addressOf x)
+
+  abbrev i : ℕ
+  i = sectorIndex (addressOf x)
+
+  abbrev n : ℕ
+  n = spotNumber S x p
+
+  abbrev old : Sector
+  old = getD (p .line .sectors) i empty
+
+  new : Line
+  new = update i (onSector x (p .answer)) (t .now) (p .line)
+
+  abbrev u : Tables
+  u = afterAccess S x p t
+
+  aligned : a % 32 ≡ 0
+  aligned = sector-aligned a (formed-good x formed)
+
+  below : i < length (p .line .sectors)
+  below = omega (arith, sp .four, sector-below a)
+
+  -- ---- the lines
+
+  new-used : unused new ≡ false
+  unfolding new
+  new-used = set-some (λ (s : Sector). isInvalid (s .status)) (p .line .sectors) i _ below (sp .used)
+
+  new-line : LineIs S (t .now) n new
+  unfolding new
+  new-line = record {
+    four = eq-eqb _ 4 (length-set (p .line .sectors) i _ ∙ sp .four);
+    sectorly = all-set sectorOk (p .line .sectors) i _ (sp .sectorly)
+        (sector-after x (p .answer) old formed small (sp .merges)
+        (all-in sectorOk (p .line .sectors) (sp .sectorly) (in-getD (p .line .sectors) i empty below)));
+    past = le-leb (t .now) (t .now) (omega arith);
+    tagged = rw (new-used, sp .tagged) (and-i (and-i (eq-eqb (b % 128) 0 (omega arith))
+        (lt-ltb b (2 ^ 48) (omega (arith, ltb-true a (2 ^ 48) (and-2 (eqb (a % 32) 0) _ (formed-good x formed))))))
+        (eq-eqb _ _ (sp .own)));
+  }
+
+  lines-same : length (u .lines) ≡ linesOf S
+  lines-same = length-set (t .lines) n _ ∙ lines-are S t ok
+
+  taken-lined : every (linesOf S) (λ j. lineOk S (t .now) j (getD (u .lines) j fresh)) ≡ true
+  unfolding new
+  taken-lined = every-i (λ j. lineOk S (t .now) j (getD (u .lines) j fresh)) (linesOf S)
+      (λ j h. each (λ j l. lineOk S (t .now) j l ≡ true) (t .lines) fresh n new (line-whole S (t .now) n new new-line)
+      (λ j h z. line-whole S (t .now) j _ (line-at S t ok j h)) j (rw lines-same h))
+
+  -- no other line holds what the new one does
+  apart : (c j : ℕ) → j < length (t .lines) → j ≢ n → holds c new ≡ true → holds c (getD (t .lines) j fresh) ≡ false
+  unfolding new
+  apart c j h z e =
+      let q : p .line .tag ≡ c = eqb-true (p .line .tag) c (and-2 (not (unused new)) (eqb (p .line .tag) c) e) in
+      ap (λ (c : ℕ). holds c (getD (t .lines) j fresh)) (sym q ∙ sp .tagged) ∙ sp .lone j h z
+
+  taken-single : (c j : ℕ) → j < length (u .lines) → holds c (getD (u .lines) j fresh) ≡ true
+      → (k : ℕ) → k < length (u .lines) → holds c (getD (u .lines) k fresh) ≡ true → k ≡ j
+  unfolding new
+  taken-single c =
+      each (λ j l. holds c l ≡ true → (k : ℕ) → k < length (u .lines) → holds c (getD (u .lines) k fresh) ≡ true → k ≡ j) (t .lines) fresh n new
+      (λ e. each (λ k l. holds c l ≡ true → k ≡ n) (t .lines) fresh n new (λ f. refl) (λ k h z f. clash f (apart c k h z e)))
+      (λ j h z e. each (λ k l. holds c l ≡ true → k ≡ j) (t .lines) fresh n new (λ f. clash e (apart c j h z f)) (λ k g y f. holder-one S t ok c k j g h f e))
+
+  taken-alone : (j : ℕ) → j < length (u .lines) → alone (u .lines) (getD (u .lines) j fresh) ≡ true
+  unfolding alone
+  taken-alone j h = go (flag (unused l))
+    where
+      l : Line
+      l = getD (u .lines) j fresh
+
+      go : (unused l ≡ true) ⊎ (unused l ≡ false) → (unused l || eqb (count (holds (l .tag)) (u .lines)) 1) ≡ true
+      go (inl e) = rw e
+      go (inr e) =
+          let m : holds (l .tag) l ≡ true = and-i (not-no e) (eq-eqb (l .tag) (l .tag) refl) in
+          or-2 (unused l) _ (eq-eqb _ 1 (index-count (holds (l .tag)) fresh (u .lines) j h m (taken-single (l .tag) j h m)))
+
+  -- an address outside the line's new sector has the entries that it had
+  other-any : (c : ℕ) → c ≢ a → any (entryFor c) (u .misses) ≡ any (entryFor c) (t .misses)
+  other-any c z =
+      misses-any x (p .answer) (t .misses) c
+      ∙ rw (ne-eqb a c (λ q. z (sym q)), and-false (fetching x (p .answer))) (or-false (any (entryFor c) (t .misses)))
+
+  -- the sector met is RESERVED before if it has an entry, and after
+  old-reserved : isReserved (old .status) ≡ any (entryFor a) (t .misses)
+  old-reserved = sp .agree i (sector-below a) ∙ ap (λ (c : ℕ). any (entryFor c) (t .misses)) (address-is a aligned)
+
+  taken-this : isReserved (onSector x (p .answer) old .status) ≡ any (entryFor a) (u .misses)
+  taken-this =
+      reserved-after x (p .answer) old (sp .merges)
+      ∙ ap (λ (c : Bool). c || fetching x (p .answer)) old-reserved
+      ∙ sym (misses-any x (p .answer) (t .misses) a ∙ rw (eq-eqb a a refl, and-true (fetching x (p .answer))))
+
+  taken-new : (k : ℕ) → k < 4 → isReserved (getD (new .sectors) k empty .status) ≡ any (entryFor (b + 32 * k)) (u .misses)
+  unfolding new
+  taken-new k h = go (flag (eqb k i))
+    where
+      go : (eqb k i ≡ true) ⊎ (eqb k i ≡ false)
+          → isReserved (getD (set (p .line .sectors) i (onSector x (p .answer) old)) k empty .status) ≡ any (entryFor (b + 32 * k)) (u .misses)
+      go (inl e) = rw (eqb-true k i e, getD-set-same (p .line .sectors) i (onSector x (p .answer) old) empty below, address-is a aligned) taken-this
+      go (inr e) =
+          rw (getD-set-other (p .line .sectors) i k (onSector x (p .answer) old) empty (eqb-false k i e))
+          (sp .agree k h ∙ sym (other-any (b + 32 * k) (λ q. eqb-false k i e (sector-is a b k (omega arith) h q))))
+
+  taken-other : (l : Line) → In l (t .lines) → holds b l ≡ false → unused l ≡ false → (k : ℕ) → k < 4
+      → isReserved (getD (l .sectors) k empty .status) ≡ any (entryFor (l .tag + 32 * k)) (u .misses)
+  taken-other l m z e k h =
+      reserved-at S t ok l m e k h
+      ∙ sym (other-any (l .tag + 32 * k) (λ q. clash (and-i (not-no e) (eq-eqb (l .tag) b (block-is a (l .tag) k (tag-aligned S t ok l m e) h q))) z))
+
+  taken-reserved : (j : ℕ) → j < length (u .lines) → reservedOk (u .misses) (getD (u .lines) j fresh) ≡ true
+  unfolding reservedOk new
+  taken-reserved =
+      each (λ j l. reservedOk (u .misses) l ≡ true) (t .lines) fresh n new
+      (or-2 (unused new) (every 4 (agrees (u .misses) new)) (every-i (agrees (u .misses) new) 4 this))
+      (λ j h z. go (getD (t .lines) j fresh) (in-getD (t .lines) j fresh h) (sp .lone j h z) (flag (unused (getD (t .lines) j fresh))))
+    where
+      this : (k : ℕ) → k < 4 → agrees (u .misses) new k ≡ true
+      this k h = is-same (isReserved (getD (new .sectors) k empty .status)) (any (entryFor (new .tag + 32 * k)) (u .misses)) (rw (sp .tagged) (taken-new k h))
+
+      go : (l : Line) → In l (t .lines) → holds b l ≡ false → (unused l ≡ true) ⊎ (unused l ≡ false) → reservedOk (u .misses) l ≡ true
+      go l m z (inl e) = rw e
+      go l m z (inr e) = or-2 (unused l) (every 4 (agrees (u .misses) l)) (every-i (agrees (u .misses) l) 4
+          (λ k h. is-same (isReserved (getD (l .sectors) k empty .status)) (any (entryFor (l .tag + 32 * k)) (u .misses)) (taken-other l m z e k h)))
+
+  -- ---- the entries and the queue
+
+  -- a fetch finds no entry for its address
+  lacking : fetching x (p .answer) ≡ true → any (entryFor a) (t .misses) ≡ false
+  lacking f =
+      sym (sp .merges ∙ old-reserved)
+      ∙ not-yes (and-2 (not (isHit (p .answer))) (not (isMerge (p .answer))) (and-2 (isRead x) (isMiss (p .answer)) f))
+
+  no-more : (c : ℕ) → any (entryFor c) (t .misses) ≡ true → (fetching x (p .answer) && eqb a c) ≡ false
+  no-more c e = no-yes (λ z. clash e
+      (ap (λ (v : ℕ). any (entryFor v) (t .misses)) (sym (eqb-true a c (and-2 (fetching x (p .answer)) (eqb a c) z)))
+      ∙ lacking (and-1 (fetching x (p .answer)) (eqb a c) z)))
+
+  no-more-read : (c : ℕ) → any (entryFor c) (t .misses) ≡ true → (fetching x (p .answer) && eqb c a) ≡ false
+  no-more-read c e = no-yes (λ z. clash e
+      (ap (λ (v : ℕ). any (entryFor v) (t .misses)) (eqb-true c a (and-2 (fetching x (p .answer)) (eqb c a) z))
+      ∙ lacking (and-1 (fetching x (p .answer)) (eqb c a) z)))
+
+  queue-after : (c : ℕ) → count (readingOf c) (u .queue) ≡ count (readingOf c) (t .queue) + pick (fetching x (p .answer) && eqb c a) 1 0
+  queue-after c =
+      let more : count (readingOf c) (t .queue ++ queues x p) ≡ count (readingOf c) (t .queue) + count (readingOf c) (queues x p) =
+      count-append (readingOf c) (t .queue) (queues x p) in
+      let both : count (readingOf c) (queues x p) ≡ count (readingOf c) (fetches x (p .answer)) + count (readingOf c) (p .backs) =
+      count-append (readingOf c) (fetches x (p .answer)) (p .backs) in
+      let none : count (readingOf c) (p .backs) ≡ 0 = none-count (readingOf c) (p .backs) (sp .quiet c) in
+      let reads : count (readingOf c) (fetches x (p .answer)) ≡ pick (fetching x (p .answer) && eqb c a) 1 0 = fetches-count x (p .answer) c in
+      omega arith
+
+  -- no read of an address without an entry is queued
+  unread : any (entryFor a) (t .misses) ≡ false → count (readingOf a) (t .queue) ≡ 0
+  unfolding queuedOk
+  unread f = none-count (readingOf a) (t .queue) (no-yes (λ z. go (any-in (readingOf a) (t .queue) z)))
+    where
+      go : (y : Queued) × In y (t .queue) × (readingOf a y ≡ true) → ⊥
+      go (reading c, m, q) =
+          let (e, o, z) = any-in (unsentFor c) (t .misses) (queued-at S t ok (reading c) m) in
+          clash (in-any (entryFor c) (t .misses) o (and-1 (entryFor c e) (not (e .sent)) z))
+          (ap (λ (v : ℕ). any (entryFor v) (t .misses)) (sym (eqb-true a c q)) ∙ f)
+      go (writing c ms, m, q) = absurd (false≢true q)
+
+  new-holds : any (holds b) (u .lines) ≡ true
+  unfolding new
+  new-holds = in-any (holds b) (u .lines) (in-set-same (t .lines) n new (sp .inside)) (and-i (not-no new-used) (eq-eqb (p .line .tag) b (sp .tagged)))
+
+  held-still : (e : Entry) → In e (t .misses) → any (holds (blockOf (e .address))) (u .lines) ≡ true
+  held-still e m = go (sp .kept e m)
+    where
+      go : (blockOf (e .address) ≡ b) ⊎ ((j : ℕ) × (j < length (t .lines)) × (j ≢ n) × (holds (blockOf (e .address)) (getD (t .lines) j fresh) ≡ true))
+          → any (holds (blockOf (e .address))) (u .lines) ≡ true
+      go (inl q) = ap (λ (c : ℕ). any (holds c) (u .lines)) q ∙ new-holds
+      go (inr (j, h, z, f)) = in-any (holds (blockOf (e .address))) (u .lines) (in-set-other (t .lines) n _ fresh j h z) f
+
+  module _ (some-readers : 1 ≤ S .readers) (merge : (isRead x && isMerge (p .answer) && any (entryFull S a) (t .misses)) ≡ false) where
+    old-entry : (e : Entry) → Old (S .readers) (t .misses) e → EntryIs S u e
+    old-entry e o =
+        let c : ℕ = o .old .address in
+        let k : EntryIs S t (o .old) = entry-at S t ok (o .old) (o .there) in
+        let m : any (entryFor c) (t .misses) ≡ true = in-any (entryFor c) (t .misses) (o .there) (eq-eqb c c refl) in
+        record {
+          good = rw (o .address) (k .good);
+          held = rw (o .address) (held-still (o .old) (o .there));
+          once = rw (o .address, misses-count x (p .answer) (t .misses) c, no-more c m, add-zero) (k .once);
+          readers = o .readers;
+          queues = rw (o .address, o .sent, queue-after c, no-more-read c m, add-zero) (k .queues);
+        }
+
+    new-entry : (e : Entry) → New x (p .answer) e → EntryIs S u e
+    new-entry e w =
+        let none : any (entryFor a) (t .misses) ≡ false = lacking (w .fetched) in
+        record {
+          good = rw (w .address) (formed-good x formed);
+          held = rw (w .address) new-holds;
+          once = rw (w .address, misses-count x (p .answer) (t .misses) a, w .fetched, eq-eqb a a refl, none-count (entryFor a) (t .misses) none);
+          readers = rw (w .one) (le-leb 1 (S .readers) some-readers);
+          queues = rw (w .address, w .sent, queue-after a, w .fetched, eq-eqb a a refl, unread none);
+        }
+
+    taken-entry : (e : Entry) → In e (u .misses) → EntryIs S u e
+    taken-entry e m = go (entry-from S (t .misses) (λ d o. entry-at S t ok d o .readers) x (p .answer) merge e m)
+      where
+        go : Old (S .readers) (t .misses) e ⊎ New x (p .answer) e → EntryIs S u e
+        go (inl o) = old-entry e o
+        go (inr w) = new-entry e w
+
+    taken-queued : (y : Queued) → In y (u .queue) → queuedOk (u .misses) y ≡ true
+    taken-queued y m = go (in-append (t .queue) (queues x p) y m)
+      where
+        more : In y (fetches x (p .answer)) ⊎ In y (p .backs) → queuedOk (u .misses) y ≡ true
+        more (inl o) = fetch-queued x (p .answer) (t .misses) y o
+        more (inr o) = all-in (queuedOk (u .misses)) (p .backs) (sp .backed (u .misses)) o
+
+        go : In y (t .queue) ⊎ In y (queues x p) → queuedOk (u .misses) y ≡ true
+        go (inl o) = queued-still x (p .answer) (t .misses) y (queued-at S t ok y o)
+        go (inr o) = more (in-append (fetches x (p .answer)) (p .backs) y o)
+
+    module _ (entry : (isRead x && isMiss (p .answer) && leb (S .entries) (length (t .misses))) ≡ false)
+        (roomy : ltb (S .places) (length (t .queue) + placesNeeded x p) ≡ false) where
+      pub taken-sound : Sound S (afterAccess S x p t)
+      taken-sound = record {
+        sized = eq-eqb (length (u .lines)) (linesOf S) lines-same;
+        time = ok .time;
+        lined = taken-lined;
+        single = in-all (alone (u .lines)) (u .lines)
+            (λ l m. let (j, h, e) = in-index (u .lines) fresh l m in ap (alone (u .lines)) (sym e) ∙ taken-alone j h);
+        reserve = in-all (reservedOk (u .misses)) (u .lines)
+            (λ l m. let (j, h, e) = in-index (u .lines) fresh l m in ap (reservedOk (u .misses)) (sym e) ∙ taken-reserved j h);
+        entered = in-all (entryOk S u) (u .misses) (λ e m. entry-whole S u e (taken-entry e m));
+        lining = in-all (queuedOk (u .misses)) (u .queue) taken-queued;
+        few = le-leb (length (u .misses)) (S .entries)
+            (misses-few S x (p .answer) (t .misses) (leb-true (length (t .misses)) (S .entries) (ok .few)) entry);
+        short = le-leb (length (u .queue)) (S .places)
+            (omega (arith, sp .room, ltb-false (S .places) (length (t .queue) + placesNeeded x p) roomy, length-append (t .queue) (queues x p)));
+      }

@@ -1,0 +1,206 @@
+-- What document 01 says of the victim, its write-back and the queue, as laws of the definitions.
+use Prim.Native.Nat.{ℕ, _+_, _≤_, _<_}
+use mathlib.Core.Path.{_≡_, refl, ap, _∙_}
+use mathlib.Core.Logic.{_⊎_, inl, inr, ⊎-elim}
+use mathlib.Core.Bool.{Bool, true, false, not, _&&_, true≢false}
+use mathlib.Core.List.{List, [], _∷_, _++_, map}
+use native.Mathlib.Omega.{arith}
+use lib.ListN.{length, getD}
+use lib.Dec.{eqb, ltb, leb}
+use borrow.Author.Tests.{eqb-true, leb-true, leb-false}
+use Rattle.model.specs.Words.{pick, any}
+use Rattle.model.specs.Address.{blockOf, lineNumber, addressOf, isRead, wellFormed}
+use Rattle.model.specs.Tables.{Line, writing, Tables, Outcome, refused, done, after, isReserved, isModified, unused, waiting, dirty, holds, fresh}
+use Rattle.model.specs.Sound.{maskOk, sectorOk, sound}
+use Rattle.model.specs.Probe.{waysOf, dirtyLines, enoughDirty, candidate, first, last, earliest, age, orElse, victim, Spot, Place, no, at, writeBack, takeOver, meet, probe}
+use Rattle.model.specs.Steps.{isHit, isMerge, isMiss, queues, queuedEvent, placesNeeded, entryFull, accept, proceed, access}
+use Rattle.model.specs.declared.Settings.{Settings}
+use Rattle.model.specs.declared.Status.{Status}
+use Rattle.model.specs.declared.Status.the-variants.{Invalid, Reserved, Valid, Modified}
+use Rattle.model.specs.declared.Sector.{Sector}
+use Rattle.model.specs.declared.Answer.the-variants.{Miss}
+use Rattle.model.specs.declared.Refusal.{Refusal}
+use Rattle.model.specs.declared.Refusal.the-variants.{BadAccess, QueueFull, EntryFull, MissTableFull}
+use Rattle.model.specs.declared.Access.{Access}
+use Rattle.model.specs.declared.Event.{Event}
+use Rattle.model.specs.declared.Event.the-variants.{Answered}
+use Rattle.model.specs.declared.Found.{Found}
+use Rattle.model.specs.declared.Found.the-variants.{At, Nothing}
+use Rattle.model.proofs.Flags.{and-1, and-2, and-i, flag, not-yes, no-yes, clash, by-flag}
+use Rattle.model.proofs.Lists.{In, all-in, in-any, in-getD}
+use Rattle.model.proofs.SoundFacts.{parts, sectors-at}
+use Rattle.model.proofs.Ways.{Finds, last-finds, victim-finds, Last, last-is-last, Least, earliest-is-least, way-in}
+use Rattle.model.proofs.Offered.{room-found, room-taken, back-one}
+
+-- "Every refusal returns its number and leaves all tables unchanged."
+pub refused-changes-nothing : {T : Type 0} (t : T) (o : Outcome T) (n : Refusal) → o ≡ refused n → after t o ≡ t
+refused-changes-nothing t o n e = rw e
+
+-- ---- the victim
+
+module _ (S : Settings) (d : ℕ) (ways : List Line) (w : ℕ) (chosen : victim S d ways ≡ At w) where
+  abbrev able : Line → Bool
+  able = candidate (enoughDirty S d)
+
+  abbrev vacant : Line → Bool
+  vacant l = able l && unused l
+
+  pub victim-is-way : w < length ways
+  victim-is-way = let f : Finds able ways (At w) = rw chosen at (victim-finds S d ways) in f .0
+
+  pub victim-is-candidate : candidate (enoughDirty S d) (getD ways w fresh) ≡ true
+  victim-is-candidate = let f : Finds able ways (At w) = rw chosen at (victim-finds S d ways) in f .1
+
+  pub victim-not-reserved : waiting (getD ways w fresh) ≡ false
+  victim-not-reserved = not-yes (and-1 (not (waiting (getD ways w fresh))) _ victim-is-candidate)
+
+  -- "the highest wholly invalid candidate"
+  pub victim-highest-invalid : (v : ℕ) → v < length ways → candidate (enoughDirty S d) (getD ways v fresh) ≡ true
+      → unused (getD ways v fresh) ≡ true
+      → (unused (getD ways w fresh) ≡ true) × (v ≤ w)
+  victim-highest-invalid v h c u = go (last vacant ways) chosen (last-finds vacant ways) (last-is-last vacant ways)
+    where
+      go : (r : Found) → orElse r (earliest (age S) able ways) ≡ At w → Finds vacant ways r → Last vacant ways r
+          → (unused (getD ways w fresh) ≡ true) × (v ≤ w)
+      go Nothing e f g = clash (and-i c u) (f (getD ways v fresh) (in-getD ways v fresh h))
+      go (At q) e f g =
+          let i : q ≡ w = cc in (
+            and-2 (able (getD ways w fresh)) (unused (getD ways w fresh)) (rw i at (f .1)),
+            ⊎-elim (λ l. leb-true v w l) (λ l. clash (and-i c u) (g v (omega (arith, leb-false v w l)) h)) (flag (leb v w)),
+          )
+
+  -- "with none, the candidate with the earliest cycle, the lowest way among equals"
+  pub victim-earliest : unused (getD ways w fresh) ≡ false → (v : ℕ) → v < length ways
+      → candidate (enoughDirty S d) (getD ways v fresh) ≡ true
+      → (age S (getD ways w fresh) ≤ age S (getD ways v fresh)) × (v < w → age S (getD ways w fresh) < age S (getD ways v fresh))
+  victim-earliest u v h c = go (last vacant ways) chosen (last-finds vacant ways)
+    where
+      go : (r : Found) → orElse r (earliest (age S) able ways) ≡ At w → Finds vacant ways r
+          → (age S (getD ways w fresh) ≤ age S (getD ways v fresh)) × (v < w → age S (getD ways w fresh) < age S (getD ways v fresh))
+      go Nothing e f = let g : Least (age S) able ways (At w) = rw e at (earliest-is-least (age S) able ways) in g v h c
+      go (At q) e f = let i : q ≡ w = cc in clash (and-2 (able (getD ways w fresh)) (unused (getD ways w fresh)) (rw i at (f .1))) u
+
+-- without a victim no way is a candidate
+pub victim-none : (S : Settings) (d : ℕ) (ways : List Line) → victim S d ways ≡ Nothing → (l : Line) → In l ways
+    → candidate (enoughDirty S d) l ≡ false
+victim-none S d ways e = let f : Finds (candidate (enoughDirty S d)) ways Nothing = rw e at (victim-finds S d ways) in f
+
+-- ---- what the probe meets: a way that matches, or a victim
+
+pub record Matched (ways : List Line) (x : Access) (p : Spot) : Type 0 where
+  pub way : first (holds (blockOf (addressOf x))) ways ≡ At (p .way)
+  pub line : p .line ≡ getD ways (p .way) fresh
+  pub backs : p .backs ≡ []
+
+pub record Replaced (S : Settings) (d : ℕ) (ways : List Line) (x : Access) (p : Spot) : Type 0 where
+  pub none : first (holds (blockOf (addressOf x))) ways ≡ Nothing
+  pub way : victim S d ways ≡ At (p .way)
+  pub answer : p .answer ≡ Miss
+  pub backs : p .backs ≡ writeBack (getD ways (p .way) fresh)
+
+module _ (S : Settings) (d : ℕ) (ways : List Line) (x : Access) (p : Spot) where
+  over-meets : first (holds (blockOf (addressOf x))) ways ≡ Nothing → (v : Found) → victim S d ways ≡ v
+      → takeOver (addressOf x) ways v ≡ at p → Replaced S d ways x p
+  over-meets f Nothing e h = let z : _≡_ {A = ℕ} 0 1 = cc in absurd (omega arith)
+  over-meets f (At w) e h =
+      let i : w ≡ p .way = cc in
+      record { none = f; way = e ∙ ap At i; answer = cc; backs = cc }
+
+  meet-meets : (v : Found) → first (holds (blockOf (addressOf x))) ways ≡ v → meet S d ways x v ≡ at p
+      → Matched ways x p ⊎ Replaced S d ways x p
+  meet-meets Nothing f h = inr (over-meets f (victim S d ways) refl h)
+  meet-meets (At w) f h = inl (record { way = cc; line = cc; backs = cc })
+
+  pub probe-meets : probe S d ways x ≡ at p → Matched ways x p ⊎ Replaced S d ways x p
+  unfolding probe
+  probe-meets h = meet-meets (first (holds (blockOf (addressOf x))) ways) refl h
+
+  -- ---- the write-back
+
+  -- a write-back is of a victim with a MODIFIED sector: its block, its four masks
+  pub write-back-is-victims : probe S d ways x ≡ at p → (b : ℕ) (ms : List ℕ) → In (writing b ms) (p .backs)
+      → (victim S d ways ≡ At (p .way)) × (dirty (getD ways (p .way) fresh) ≡ true)
+      × (b ≡ getD ways (p .way) fresh .tag) × (ms ≡ map (λ (s : Sector). s .mask) (getD ways (p .way) fresh .sectors))
+  write-back-is-victims h b ms i = go (probe-meets h)
+    where
+      l : Line
+      l = getD ways (p .way) fresh
+
+      of-line : (c : Bool) → dirty l ≡ c
+          → In (writing b ms) (pick c (writing (l .tag) (map (λ (s : Sector). s .mask) (l .sectors)) ∷ []) [])
+          → (dirty l ≡ true) × (b ≡ l .tag) × (ms ≡ map (λ (s : Sector). s .mask) (l .sectors))
+      of-line true e (inl q) = (e, cc, cc)
+      of-line true e (inr q) = absurd q
+      of-line false e q = absurd q
+
+      go : Matched ways x p ⊎ Replaced S d ways x p
+          → (victim S d ways ≡ At (p .way)) × (dirty l ≡ true) × (b ≡ l .tag) × (ms ≡ map (λ (s : Sector). s .mask) (l .sectors))
+      go (inl m) = absurd (rw (m .backs) at i)
+      go (inr r) = let (e, t, k) = of-line (dirty l) refl (rw (r .backs) at i) in (r .way, e, t, k)
+
+  -- ---- the queue
+
+  -- what an access queues fits the places that it needs, which are two at most
+  pub queues-bounded : probe S d ways x ≡ at p → length (queues x p) ≤ placesNeeded x p
+  queues-bounded h = go (probe-meets h)
+    where
+      go : Matched ways x p ⊎ Replaced S d ways x p → length (queues x p) ≤ placesNeeded x p
+      go (inl m) = rw (m .backs) (room-found x (p .answer))
+      go (inr r) = rw (r .answer, r .backs) (room-taken x (writeBack (getD ways (p .way) fresh)) (back-one (getD ways (p .way) fresh)))
+
+pub places-at-most-two : (x : Access) (p : Spot) → placesNeeded x p ≤ 2
+places-at-most-two x p =
+    by-flag (λ (n : ℕ). n ≤ 2) (isHit (p .answer)) _ _
+    (λ e. omega arith) (λ e. by-flag (λ (n : ℕ). n ≤ 2) (isRead x) _ _ (λ f. omega arith) (λ f. omega arith))
+
+-- on sound tables a victim's masks are its dirty bytes: a sector's isn't 0 exactly if it is MODIFIED
+mask-says-modified : (c : Status) (m : ℕ) (r : Bool) → isReserved c ≡ false → maskOk c m r ≡ true → not (eqb m 0) ≡ isModified c
+mask-says-modified Invalid m r f h = rw (eqb-true m 0 (and-1 (eqb m 0) r h))
+mask-says-modified Reserved m r f h = absurd (true≢false f)
+mask-says-modified Valid m r f h = rw (eqb-true m 0 (and-1 (eqb m 0) r h))
+mask-says-modified Modified m r f h = search (and-1, and-2)
+
+pub write-back-is-dirty-bytes : (S : Settings) (t : Tables) → sound S t ≡ true → (d a w : ℕ) → victim S d (waysOf S (t .lines) a) ≡ At w
+    → (s : Sector) → In s (getD (waysOf S (t .lines) a) w fresh .sectors) → not (eqb (s .mask) 0) ≡ isModified (s .status)
+write-back-is-dirty-bytes S t ok d a w chosen s i =
+    let ways : List Line = waysOf S (t .lines) a in
+    let l : Line = getD ways w fresh in
+    let m : In l (t .lines) = way-in S (t .lines) a l (in-getD ways w fresh (victim-is-way S d ways w chosen)) in
+    mask-says-modified (s .status) (s .mask) (s .readable)
+    (no-yes (λ z. clash (in-any (λ (v : Sector). isReserved (v .status)) (l .sectors) i z) (victim-not-reserved S d ways w chosen)))
+    (all-in sectorOk (l .sectors) (sectors-at S t (parts S t ok) l m) i)
+
+-- ---- an accepted access
+
+-- the queue after it is the queue before and exactly what it queues, and its events tell just that
+pub record Queues (S : Settings) (x : Access) (t : Tables) (es : List Event) (u : Tables) : Type 0 where
+  pub spot : Spot
+  pub met : probe S (dirtyLines t) (waysOf S (t .lines) (addressOf x)) x ≡ at spot
+  pub queue : u .queue ≡ t .queue ++ queues x spot
+  pub told : es ≡ Answered (spot .answer) (lineNumber S (addressOf x) (spot .way)) ∷ map queuedEvent (queues x spot)
+
+module _ (S : Settings) (x : Access) (t : Tables) (es : List Event) (u : Tables) where
+  abbrev place : Place
+  place = probe S (dirtyLines t) (waysOf S (t .lines) (addressOf x)) x
+
+  -- of an outcome that leaves u
+  abbrev Adds : Outcome Tables → Type 0
+  Adds o = o ≡ done es u → Queues S x t es u
+
+  refused-adds : (n : Refusal) → Adds (refused n)
+  refused-adds n h = let z : _≡_ {A = ℕ} 0 1 = cc in absurd (omega arith)
+
+  proceed-adds : (p : Place) → place ≡ p → Adds (proceed S x t p)
+  unfolding proceed accept
+  proceed-adds (no n) e = refused-adds n
+  proceed-adds (at p) e =
+      by-flag Adds (ltb (S .places) (length (t .queue) + placesNeeded x p)) (refused QueueFull) _ (λ f. refused-adds QueueFull)
+      (λ f. by-flag Adds (isRead x && isMerge (p .answer) && any (entryFull S (addressOf x)) (t .misses)) (refused EntryFull) _
+      (λ g. refused-adds EntryFull)
+      (λ g. by-flag Adds (isRead x && isMiss (p .answer) && leb (S .entries) (length (t .misses))) (refused MissTableFull) _
+      (λ h. refused-adds MissTableFull)
+      (λ h q. record { spot = p; met = e; queue = cc; told = cc })))
+
+  pub nothing-else-queued : access S x t ≡ done es u → Queues S x t es u
+  unfolding access
+  nothing-else-queued = by-flag Adds (wellFormed x) _ (refused BadAccess) (λ f. proceed-adds place refl) (λ f. refused-adds BadAccess)

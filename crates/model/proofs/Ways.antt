@@ -1,0 +1,173 @@
+-- The ways of a set: what a search among them finds, and which lines of the cache they are.
+use Prim.Native.Nat.{ℕ, zero, suc, _+_, _*_, _-_, _/_, _%_, _≤_, _<_, min}
+use mathlib.Core.Path.{_≡_, refl, ap, subst, _∙_}
+use mathlib.Core.Logic.{inl, inr}
+use mathlib.Core.Bool.{Bool, true, false, _&&_}
+use mathlib.Core.List.{List, [], _∷_}
+use native.Mathlib.Omega.{arith}
+use native.Mathlib.Nat.{div-add-mod', mod-lt, mul-add-div-right, div-eq-of-lt, add-zero}
+use lib.ListN.{length, getD, drop, length-take, length-drop}
+use lib.Seq.{getD-take, getD-drop}
+use lib.Dec.{leb}
+use borrow.Author.Tests.{leb-true, leb-false}
+use Rattle.model.specs.Words.{pick}
+use Rattle.model.specs.Address.{blockOf, setIndex, lineNumber}
+use Rattle.model.specs.Tables.{Line, unused, fresh}
+use Rattle.model.specs.Probe.{waysOf, enoughDirty, candidate, next, orElse, first, last, older, earliest, age, victim}
+use Rattle.model.specs.declared.Settings.{Settings}
+use Rattle.model.specs.declared.Found.{Found}
+use Rattle.model.specs.declared.Found.the-variants.{At, Nothing}
+use Rattle.model.proofs.Flags.{and-1, clash, by-flag}
+use Rattle.model.proofs.Lists.{In, in-getD, in-take, in-drop}
+
+-- ---- searches
+
+-- a way that passes, or none does
+abbrev pub Finds : (Line → Bool) → List Line → Found → Type 0
+Finds p ls Nothing = (l : Line) → In l ls → p l ≡ false
+Finds p ls (At w) = (w < length ls) × (p (getD ls w fresh) ≡ true)
+
+module _ (p : Line → Bool) (l : Line) (ls : List Line) where
+  next-finds : p l ≡ false → (v : Found) → Finds p ls v → Finds p (l ∷ ls) (next v)
+  next-finds e Nothing g = go
+    where
+      go : (m : Line) → In m (l ∷ ls) → p m ≡ false
+      go m (inl q) = rw q e
+      go m (inr n) = g m n
+  next-finds e (At w) g = (omega (arith, g .0), g .1)
+
+  last-step : (v : Found) → Finds p ls v → (b : Bool) → p l ≡ b → Finds p (l ∷ ls) (orElse (next v) (pick b (At 0) Nothing))
+  last-step Nothing g true e = (omega arith, e)
+  last-step Nothing g false e = next-finds e Nothing g
+  last-step (At w) g b e = (omega (arith, g .0), g .1)
+
+  older-finds : (key : Line → ℕ) → p l ≡ true → (v : Found) → Finds p ls v → Finds p (l ∷ ls) (older key ls (key l) v)
+  older-finds key e Nothing g = (omega arith, e)
+  older-finds key e (At w) g =
+      by-flag (λ (v : Found). Finds p (l ∷ ls) v) (leb (key l) (key (getD ls w fresh))) (At 0) (At (suc w))
+      (λ q. (omega arith, e)) (λ q. (omega (arith, g .0), g .1))
+
+pub first-finds : (p : Line → Bool) (ls : List Line) → Finds p ls (first p ls)
+first-finds p [] = λ l m. absurd m
+first-finds p (l ∷ ls) =
+    by-flag (λ (v : Found). Finds p (l ∷ ls) v) (p l) (At 0) (next (first p ls))
+    (λ e. (omega arith, e)) (λ e. next-finds p l ls e (first p ls) (first-finds p ls))
+
+pub last-finds : (p : Line → Bool) (ls : List Line) → Finds p ls (last p ls)
+last-finds p [] = λ l m. absurd m
+last-finds p (l ∷ ls) = last-step p l ls (last p ls) (last-finds p ls) (p l) refl
+
+pub earliest-finds : (key : Line → ℕ) (p : Line → Bool) (ls : List Line) → Finds p ls (earliest key p ls)
+earliest-finds key p [] = λ l m. absurd m
+earliest-finds key p (l ∷ ls) =
+    by-flag (λ (v : Found). Finds p (l ∷ ls) v) (p l) (older key ls (key l) (earliest key p ls)) (next (earliest key p ls))
+    (λ e. older-finds p l ls key e (earliest key p ls) (earliest-finds key p ls)) (λ e. next-finds p l ls e (earliest key p ls) (earliest-finds key p ls))
+
+-- the victim is a candidate, and there is one if there is a candidate
+pub victim-finds : (S : Settings) (d : ℕ) (ways : List Line) → Finds (candidate (enoughDirty S d)) ways (victim S d ways)
+victim-finds S d ways = go (last (λ l. candidate (enoughDirty S d) l && unused l) ways) (last-finds (λ l. candidate (enoughDirty S d) l && unused l) ways)
+  where
+    go : (v : Found) → Finds (λ l. candidate (enoughDirty S d) l && unused l) ways v
+        → Finds (candidate (enoughDirty S d)) ways (orElse v (earliest (age S) (candidate (enoughDirty S d)) ways))
+    go Nothing g = earliest-finds (age S) (candidate (enoughDirty S d)) ways
+    go (At w) g = (g .0, and-1 (candidate (enoughDirty S d) (getD ways w fresh)) (unused (getD ways w fresh)) (g .1))
+
+-- no later way passes than the last found
+abbrev pub Last : (Line → Bool) → List Line → Found → Type 0
+Last p ls Nothing = Unit {0}
+Last p ls (At w) = (v : ℕ) → w < v → v < length ls → p (getD ls v fresh) ≡ false
+
+last-more : (p : Line → Bool) (l : Line) (ls : List Line) (r : Found) → Finds p ls r → Last p ls r → (b : Bool)
+    → Last p (l ∷ ls) (orElse (next r) (pick b (At 0) Nothing))
+last-more p l ls Nothing f g false = tt
+last-more p l ls Nothing f g true = go
+  where
+    go : (v : ℕ) → 0 < v → v < length (l ∷ ls) → p (getD (l ∷ ls) v fresh) ≡ false
+    go zero h k = absurd (omega arith)
+    go (suc v) h k = f (getD ls v fresh) (in-getD ls v fresh (omega arith))
+last-more p l ls (At w) f g b = go
+  where
+    go : (v : ℕ) → suc w < v → v < length (l ∷ ls) → p (getD (l ∷ ls) v fresh) ≡ false
+    go zero h k = absurd (omega arith)
+    go (suc v) h k = g v (omega arith) (omega arith)
+
+pub last-is-last : (p : Line → Bool) (ls : List Line) → Last p ls (last p ls)
+last-is-last p [] = tt
+last-is-last p (l ∷ ls) = last-more p l ls (last p ls) (last-finds p ls) (last-is-last p ls) (p l)
+
+-- no way that passes has a lesser key than the one found, and no lower way the same
+abbrev Before : (Line → ℕ) → (Line → Bool) → List Line → ℕ → ℕ → Type 0
+Before key p ls w v =
+    v < length ls → p (getD ls v fresh) ≡ true → (key (getD ls w fresh) ≤ key (getD ls v fresh)) × (v < w → key (getD ls w fresh) < key (getD ls v fresh))
+
+abbrev pub Least : (Line → ℕ) → (Line → Bool) → List Line → Found → Type 0
+Least key p ls Nothing = Unit {0}
+Least key p ls (At w) = (v : ℕ) → Before key p ls w v
+
+module _ (key : Line → ℕ) (p : Line → Bool) (l : Line) (ls : List Line) where
+  least-next : p l ≡ false → (r : Found) → Least key p ls r → Least key p (l ∷ ls) (next r)
+  least-next e Nothing g = tt
+  least-next e (At w) g = go
+    where
+      go : (v : ℕ) → Before key p (l ∷ ls) (suc w) v
+      go zero h k = clash k e
+      go (suc v) h k = let q = g v (omega arith) k in (q .0, λ z. q .1 (omega arith))
+
+  least-older : (r : Found) → Finds p ls r → Least key p ls r → Least key p (l ∷ ls) (older key ls (key l) r)
+  least-older Nothing f g = go
+    where
+      go : (v : ℕ) → Before key p (l ∷ ls) 0 v
+      go zero h k = (omega arith, λ z. absurd (omega arith))
+      go (suc v) h k = clash k (f (getD ls v fresh) (in-getD ls v fresh (omega arith)))
+  least-older (At w) f g = by-flag (Least key p (l ∷ ls)) (leb (key l) (key (getD ls w fresh))) (At 0) (At (suc w)) this other
+    where
+      this : leb (key l) (key (getD ls w fresh)) ≡ true → (v : ℕ) → Before key p (l ∷ ls) 0 v
+      this e zero h k = (omega arith, λ z. absurd (omega arith))
+      this e (suc v) h k = let q = g v (omega arith) k in (omega (arith, q .0, leb-true (key l) (key (getD ls w fresh)) e), λ z. absurd (omega arith))
+
+      other : leb (key l) (key (getD ls w fresh)) ≡ false → (v : ℕ) → Before key p (l ∷ ls) (suc w) v
+      other e zero h k = let q : key (getD ls w fresh) < key l = leb-false (key l) (key (getD ls w fresh)) e in (omega arith, λ z. q)
+      other e (suc v) h k = let q = g v (omega arith) k in (q .0, λ z. q .1 (omega arith))
+
+pub earliest-is-least : (key : Line → ℕ) (p : Line → Bool) (ls : List Line) → Least key p ls (earliest key p ls)
+earliest-is-least key p [] = tt
+earliest-is-least key p (l ∷ ls) =
+    by-flag (Least key p (l ∷ ls)) (p l) (older key ls (key l) (earliest key p ls)) (next (earliest key p ls))
+    (λ e. least-older key p l ls (earliest key p ls) (earliest-finds key p ls) (earliest-is-least key p ls))
+    (λ e. least-next key p l ls e (earliest key p ls) (earliest-is-least key p ls))
+
+-- ---- ways as lines of the cache
+
+pub record Sits (S : Settings) (ls : List Line) (a w : ℕ) : Type 0 where
+  pub inside : lineNumber S a w < length ls
+  pub low : w < S .ways
+  pub line : getD (waysOf S ls a) w fresh ≡ getD ls (lineNumber S a w) fresh
+
+pub way-sits : (S : Settings) (ls : List Line) (a w : ℕ) → w < length (waysOf S ls a) → Sits S ls a w
+way-sits S ls a w h =
+    let n : ℕ = setIndex S a * S .ways in
+    let k : length (waysOf S ls a) ≡ min (S .ways) (length ls - n) = length-take (S .ways) (drop n ls) ∙ rw length-drop in
+    let low : w < S .ways = omega arith in
+    record { inside = omega arith; low = low; line = getD-take (S .ways) (drop n ls) w fresh low ∙ getD-drop n ls w fresh }
+
+pub way-in : (S : Settings) (ls : List Line) (a : ℕ) (l : Line) → In l (waysOf S ls a) → In l ls
+way-in S ls a l m = in-drop (setIndex S a * S .ways) ls l (in-take (S .ways) (drop (setIndex S a * S .ways) ls) l m)
+
+-- a line of the set stands among its ways
+pub line-among : (S : Settings) (ls : List Line) (a j : ℕ) → 0 < S .ways → j < length ls → setIndex S a ≡ j / S .ways
+    → In (getD ls j fresh) (waysOf S ls a)
+line-among S ls a j z h e =
+    let w : ℕ = j % S .ways in
+    let n : ℕ = setIndex S a * S .ways in
+    let low : w < S .ways = mod-lt j z in
+    let q : n + w ≡ j = ap (λ (c : ℕ). c * S .ways + w) e ∙ div-add-mod' j (S .ways) in
+    let k : length (waysOf S ls a) ≡ min (S .ways) (length ls - n) = length-take (S .ways) (drop n ls) ∙ rw length-drop in
+    let g : getD (waysOf S ls a) w fresh ≡ getD ls j fresh =
+    getD-take (S .ways) (drop n ls) w fresh low ∙ getD-drop n ls w fresh ∙ ap (λ (c : ℕ). getD ls c fresh) q in
+    subst (λ (l : Line). In l (waysOf S ls a)) g (in-getD (waysOf S ls a) w fresh (omega arith))
+
+pub set-of-block : (S : Settings) (a : ℕ) → setIndex S (blockOf a) ≡ setIndex S a
+set-of-block S a = let e : blockOf a / 128 ≡ a / 128 = omega arith in ap (λ (c : ℕ). c % S .sets) e
+
+pub set-of-line : (S : Settings) (a w : ℕ) → w < S .ways → lineNumber S a w / S .ways ≡ setIndex S a
+set-of-line S a w h = mul-add-div-right (omega arith) (setIndex S a) w ∙ rw (div-eq-of-lt h) (add-zero (setIndex S a))
