@@ -1,0 +1,35 @@
+-- For a caller whose slices hold the tables t: the lines and their dirty count are those that `decide` speaks of, and its value is
+-- what the access meets in t.
+use Prim.Native.Nat.{ℕ, _*_, _<_}
+use mathlib.Core.Path.{_≡_, sym, ap, subst, _∙_}
+use mathlib.Core.List.{List}
+use lib.ListN.{getD, drop}
+use lib.Seq.{getD-take, getD-drop}
+use Rattle.model.specs.Words.{count}
+use Rattle.model.specs.Address.{addressOf, setIndex, lineNumber}
+use Rattle.model.specs.Tables.{Line, Tables, dirty, fresh}
+use Rattle.model.specs.Lent.{Lent, tablesOf}
+use Rattle.model.specs.Probe.{waysOf, dirtyLines, probe}
+use Rattle.model.specs.declared.Settings.{Settings}
+use Rattle.model.specs.declared.Access.{Access}
+use Rattle.probe.specs.declared.Decision.{Decision}
+use Rattle.probe.specs.Decided.{Decided, placeIs, linesHeld}
+
+module _ (S : Settings) (L : Lent) {t : Tables} (e : tablesOf S L ≡ t) where
+  pub lines-held : t .lines ≡ linesHeld S (L .longs) (L .words) (L .marks)
+  unfolding tablesOf
+  lines-held = sym (ap (λ (t : Tables). t .lines) e)
+
+  pub dirty-held : dirtyLines t ≡ count dirty (linesHeld S (L .longs) (L .words) (L .marks))
+  dirty-held = ap (count dirty) lines-held
+
+  pub decided-probe : {x : Access} {r : Decision} → Decided S (L .longs) (L .words) (L .marks) x r
+      → placeIs (waysOf S (t .lines) (addressOf x)) (addressOf x) r ≡ probe S (dirtyLines t) (waysOf S (t .lines) (addressOf x)) x
+  decided-probe {x} {r} d =
+      subst (λ (ls : List Line). placeIs (waysOf S ls (addressOf x)) (addressOf x) r ≡ probe S (count dirty ls) (waysOf S ls (addressOf x)) x)
+      (sym lines-held) (d .place)
+
+-- a way of a set, among all lines
+pub way-line : (S : Settings) (ls : List Line) (a w : ℕ) → w < S .ways → getD (waysOf S ls a) w fresh ≡ getD ls (lineNumber S a w) fresh
+way-line S ls a w h =
+    getD-take (S .ways) (drop (setIndex S a * S .ways) ls) w fresh h ∙ getD-drop (setIndex S a * S .ways) ls w fresh

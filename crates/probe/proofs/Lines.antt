@@ -1,0 +1,94 @@
+-- The lines read off the slices, and m of them from line b as the ways of a set: what Probe finds there, by the numbers.
+use Prim.Native.Nat.{ℕ, zero, suc, _+_, _*_, _≤_, _<_}
+use mathlib.Core.Path.{_≡_, refl, ap, _∙_}
+use mathlib.Core.Logic.{⊎-elim}
+use mathlib.Core.Bool.{Bool, true, false, _&&_, false≢true}
+use mathlib.Core.List.{List, [], _∷_}
+use native.Mathlib.Nat.{add-zero}
+use native.Mathlib.Omega.{arith}
+use lib.ListN.{getD, take, drop}
+use Rattle.model.specs.Words.{all, any, count, table, some, countBelow}
+use Rattle.model.specs.Tables.{Line, isInvalid, isReserved, isModified, unused, waiting, dirty, holds, fresh}
+use Rattle.model.specs.Lent.{sectorAt, sectorsAt, lineAt, linesIn}
+use Rattle.model.specs.Probe.{first, earliest, orElse, candidate, enoughDirty, age, victim}
+use Rattle.model.specs.declared.Settings.{Settings}
+use Rattle.model.specs.declared.Status.{Status}
+use Rattle.model.specs.declared.Status.the-variants.{Invalid, Reserved, Valid, Modified}
+use Rattle.model.specs.declared.Sector.{Sector}
+use Rattle.model.specs.declared.Found.{Found}
+use Rattle.model.proofs.Flags.{flag}
+use Rattle.probe.specs.Scan.{waitingAt, dirtyAt, foundIn, lastUnusedIn, victimIn, wayOf}
+use Rattle.probe.proofs.Statuses.{unused-bytes, waiting-bytes, dirty-bytes, holds-bytes, candidate-bytes}
+use Rattle.probe.proofs.Ways.{getD-table, part-table, count-table, any-table, first-table, last-table, earliest-table, count-below-ext, some-ext, first-ext, last-ext, best-ext}
+
+-- ---- a wholly invalid line is a candidate
+
+invalid-one : (t : Status) (b : Bool) → (isInvalid t && b) ≡ true → (isReserved t ≡ false) × (isModified t ≡ false) × (b ≡ true)
+invalid-one Invalid b e = (refl, refl, e)
+invalid-one Reserved b e = absurd (false≢true e)
+invalid-one Valid b e = absurd (false≢true e)
+invalid-one Modified b e = absurd (false≢true e)
+
+invalid-all : (ss : List Sector) → all (λ s. isInvalid (s .status)) ss ≡ true
+    → (any (λ s. isReserved (s .status)) ss ≡ false) × (any (λ s. isModified (s .status)) ss ≡ false)
+invalid-all [] e = (refl, refl)
+invalid-all (s ∷ ss) e =
+    let one = invalid-one (s .status) (all (λ s. isInvalid (s .status)) ss) e in
+    let more = invalid-all ss (one .2) in
+    (rw (one .0) (more .0), rw (one .1) (more .1))
+
+pub unused-candidate : (enough : Bool) (l : Line) → (candidate enough l && unused l) ≡ unused l
+unused-candidate enough l =
+    ⊎-elim
+    (λ (e : unused l ≡ true). let no = invalid-all (l .sectors) e in rw (e, no .0, no .1))
+    (λ (e : unused l ≡ false). rw e (and-none (candidate enough l)))
+    (flag (unused l))
+  where
+    and-none : (a : Bool) → (a && false) ≡ false
+    and-none true = refl
+    and-none false = refl
+
+-- ---- one of the four sectors of line l
+
+pub sector-of-four : (n : ℕ) (words marks : List ℕ) (l k : ℕ) (d : Sector) → k < 4 → getD (sectorsAt n words marks l) k d ≡ sectorAt n words marks (4 * l + k)
+sector-of-four n words marks l zero d h = rw add-zero
+sector-of-four n words marks l (suc zero) d h = refl
+sector-of-four n words marks l (suc (suc zero)) d h = refl
+sector-of-four n words marks l (suc (suc (suc zero))) d h = refl
+sector-of-four n words marks l (suc (suc (suc (suc k)))) d h = absurd (omega arith)
+
+module _ (n : ℕ) (longs words marks : List ℕ) where
+  pub dirty-counted : count dirty (linesIn n longs words marks) ≡ countBelow n (dirtyAt marks)
+  dirty-counted = count-table dirty (lineAt n longs words marks) n ∙ count-below-ext _ _ n (dirty-bytes n longs words marks)
+
+  module _ (b m : ℕ) (h : b + m ≤ n) where
+    abbrev line : ℕ → Line
+    line w = lineAt n longs words marks (b + w)
+
+    ways-are : take m (drop b (linesIn n longs words marks)) ≡ table m line
+    ways-are = part-table n (lineAt n longs words marks) b m fresh h
+
+    pub way-is : (w : ℕ) → w < m → getD (take m (drop b (linesIn n longs words marks))) w fresh ≡ line w
+    way-is w k = ap (λ (ls : List Line). getD ls w fresh) ways-are ∙ getD-table m line w fresh k
+
+    pub found-is : (a : ℕ) → first (holds a) (take m (drop b (linesIn n longs words marks))) ≡ foundIn longs marks b m a
+    found-is a =
+        ap (first (holds a)) ways-are
+        ∙ first-table (holds a) line m
+        ∙ first-ext _ _ m (λ w. holds-bytes n longs words marks (b + w) a)
+
+    pub waiting-is : any waiting (take m (drop b (linesIn n longs words marks))) ≡ some m (λ w. waitingAt marks (b + w))
+    waiting-is =
+        ap (any waiting) ways-are
+        ∙ any-table waiting line m
+        ∙ some-ext _ _ m (λ w. waiting-bytes n longs words marks (b + w))
+
+    pub victim-is : (S : Settings) (d : ℕ) → victim S d (take m (drop b (linesIn n longs words marks))) ≡ victimIn words marks b m (enoughDirty S d)
+    victim-is S d =
+        ap (victim S d) ways-are
+        ∙ ap (λ (v : Found). orElse v (earliest (age S) (candidate (enoughDirty S d)) (table m line)))
+        (last-table (λ l. candidate (enoughDirty S d) l && unused l) line m
+        ∙ last-ext _ _ m (λ w. unused-candidate (enoughDirty S d) (line w) ∙ unused-bytes n longs words marks (b + w)))
+        ∙ ap (orElse (lastUnusedIn marks b m))
+        (earliest-table (candidate (enoughDirty S d)) line (age S) m
+        ∙ ap wayOf (best-ext _ _ _ m (λ w. candidate-bytes n longs words marks (b + w) (enoughDirty S d))))

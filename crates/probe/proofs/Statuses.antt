@@ -1,0 +1,88 @@
+-- A line's tests by its four status bytes are the tests of Tables on the line read off the slices.
+use Prim.Native.Nat.{ℕ, zero, suc, _+_, _*_}
+use mathlib.Core.Path.{_≡_, refl, sym, ap, _∙_}
+use mathlib.Core.Bool.{Bool, true, false, not, _&&_, _||_}
+use mathlib.Core.List.{List}
+use native.Mathlib.Omega.{arith}
+use lib.Dec.{eqb, ltb}
+use borrow.Author.Tests.{eqb-true, ne-eqb, lt-ltb}
+use Rattle.model.specs.Words.{pick}
+use Rattle.model.specs.Numbers.{statusOf}
+use Rattle.model.specs.Tables.{isInvalid, isReserved, isModified, unused, waiting, dirty, holds}
+use Rattle.model.specs.Lent.{statusAt, tagAt, lineAt}
+use Rattle.model.specs.Probe.{candidate}
+use Rattle.model.specs.declared.Status.the-variants.{Invalid, Reserved, Valid, Modified}
+use Rattle.probe.specs.Scan.{unusedAt, waitingAt, dirtyAt, holdsAt, candidateAt}
+
+-- ---- one byte
+
+invalid-byte : (k : ℕ) → isInvalid (statusOf k) ≡ eqb k 0
+invalid-byte k = go (eqb k 0) (eqb k 1) (eqb k 2)
+  where
+    go : (a b c : Bool) → isInvalid (pick a Invalid (pick b Reserved (pick c Valid Modified))) ≡ a
+    go true b c = refl
+    go false true c = refl
+    go false false true = refl
+    go false false false = refl
+
+reserved-byte : (k : ℕ) → isReserved (statusOf k) ≡ eqb k 1
+reserved-byte k = go (eqb k 0) (eqb k 1) (eqb k 2) (λ e. let h : k ≡ 0 = eqb-true k 0 e in ne-eqb k 1 (λ q. omega arith))
+  where
+    go : (a b c : Bool) → (a ≡ true → b ≡ false) → isReserved (pick a Invalid (pick b Reserved (pick c Valid Modified))) ≡ b
+    go true b c h = sym (h refl)
+    go false true c h = refl
+    go false false true h = refl
+    go false false false h = refl
+
+modified-byte : (k : ℕ) → isModified (statusOf k) ≡ ltb 2 k
+modified-byte zero = refl
+modified-byte (suc zero) = refl
+modified-byte (suc (suc zero)) = refl
+modified-byte (suc (suc (suc k))) =
+    rw (ne-eqb (suc (suc (suc k))) 0 (λ q. omega arith), ne-eqb (suc (suc (suc k))) 1 (λ q. omega arith), ne-eqb (suc (suc (suc k))) 2 (λ q. omega arith), lt-ltb 2 (suc (suc (suc k))) (omega arith))
+
+-- ---- four
+
+and-four : {a b c d e f g h : Bool} → a ≡ e → b ≡ f → c ≡ g → d ≡ h → (a && (b && (c && (d && true)))) ≡ (e && f && g && h)
+and-four {e} {f} {g} {h} i j k l = rw (i, j, k, l) (go e f g h)
+  where
+    go : (a b c d : Bool) → (a && (b && (c && (d && true)))) ≡ (a && b && c && d)
+    go false b c d = refl
+    go true false c d = refl
+    go true true false d = refl
+    go true true true false = refl
+    go true true true true = refl
+
+or-four : {a b c d e f g h : Bool} → a ≡ e → b ≡ f → c ≡ g → d ≡ h → (a || (b || (c || (d || false)))) ≡ (e || f || g || h)
+or-four {e} {f} {g} {h} i j k l = rw (i, j, k, l) (go e f g h)
+  where
+    go : (a b c d : Bool) → (a || (b || (c || (d || false)))) ≡ (a || b || c || d)
+    go true b c d = refl
+    go false true c d = refl
+    go false false true d = refl
+    go false false false true = refl
+    go false false false false = refl
+
+and-swap : (a b : Bool) → (a && b) ≡ (b && a)
+and-swap true true = refl
+and-swap true false = refl
+and-swap false true = refl
+and-swap false false = refl
+
+-- ---- line l of n
+
+module _ (n : ℕ) (longs words marks : List ℕ) (l : ℕ) where
+  pub unused-bytes : unused (lineAt n longs words marks l) ≡ unusedAt marks l
+  unused-bytes = and-four (invalid-byte (statusAt marks (4 * l))) (invalid-byte (statusAt marks (4 * l + 1))) (invalid-byte (statusAt marks (4 * l + 2))) (invalid-byte (statusAt marks (4 * l + 3)))
+
+  pub waiting-bytes : waiting (lineAt n longs words marks l) ≡ waitingAt marks l
+  waiting-bytes = or-four (reserved-byte (statusAt marks (4 * l))) (reserved-byte (statusAt marks (4 * l + 1))) (reserved-byte (statusAt marks (4 * l + 2))) (reserved-byte (statusAt marks (4 * l + 3)))
+
+  pub dirty-bytes : dirty (lineAt n longs words marks l) ≡ dirtyAt marks l
+  dirty-bytes = or-four (modified-byte (statusAt marks (4 * l))) (modified-byte (statusAt marks (4 * l + 1))) (modified-byte (statusAt marks (4 * l + 2))) (modified-byte (statusAt marks (4 * l + 3)))
+
+  pub holds-bytes : (b : ℕ) → holds b (lineAt n longs words marks l) ≡ holdsAt longs marks b l
+  holds-bytes b = and-swap (not (unused (lineAt n longs words marks l))) (eqb (tagAt longs l) b) ∙ ap (λ (u : Bool). eqb (tagAt longs l) b && not u) unused-bytes
+
+  pub candidate-bytes : (enough : Bool) → candidate enough (lineAt n longs words marks l) ≡ candidateAt marks enough l
+  candidate-bytes enough = ap (λ (u : Bool). not u && (not (dirty (lineAt n longs words marks l)) || enough)) waiting-bytes ∙ ap (λ (u : Bool). not (waitingAt marks l) && (not u || enough)) dirty-bytes

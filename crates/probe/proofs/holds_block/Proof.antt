@@ -1,0 +1,14 @@
+use borrow.Author.Needs.{needs}
+use Rattle.probe.proofs.holds_block.Statement.{statement}
+use Rattle.probe.proofs.holds_block.Tie as tie
+
+pub holds-block-spec : {M : Type 1} → statement M
+holds-block-spec =
+    tie.close
+    (tie.spec
+    (λ c. search needs)
+    (λ c. search needs)
+    (λ c κs. search needs)
+    (λ c κs. search needs)
+    (λ c. rw (← c .before .before .same-block .ensures, c .before .if1 .taken, c .is-unused .ensures))
+    (λ c. rw (← c .before .same-block .ensures, c .if1 .left)))

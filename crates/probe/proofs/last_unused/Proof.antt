@@ -1,0 +1,33 @@
+use Prim.Native.Nat.{_+_, _-_}
+use mathlib.Core.Path.{_≡_}
+use native.Mathlib.Omega.{arith}
+use borrow.Author.Needs.{needs}
+use Rattle.probe.specs.Scan.{unusedAt}
+use Rattle.probe.proofs.Scans.{Unseen, unseen-start, unseen-stop, unseen-more, unseen-end}
+use Rattle.probe.proofs.last_unused.Statement.{statement}
+use Rattle.probe.proofs.last_unused.Tie as tie
+
+abbrev Inv-loop : tie.InvT-loop
+Inv-loop marks base ways w₀ w = Unseen (λ v. unusedAt marks (base + v)) ways w
+
+abbrev μ-loop : tie.MeasureT-loop
+μ-loop marks base ways w₀ w = w
+
+pub last-unused-spec : {M : Type 1} → statement M
+last-unused-spec =
+    tie.close
+    (tie.spec
+    Inv-loop
+    μ-loop
+    (λ c. unseen-start _ _)
+    (λ c. omega arith)
+    (λ c. omega arith)
+    (λ c κs. search needs)
+    (λ c. let loop = c .before .before .before .loop in
+    let e : loop .w ≡ loop .w - 1 + 1 = omega arith in
+    unseen-stop _ _ _ _ e (c .before .is-unused .ensures) (c .if1 .taken) (loop .inv))
+    (λ c. omega arith)
+    (λ c. let loop = c .before .before .before .loop in
+    let e : loop .w ≡ loop .w - 1 + 1 = omega arith in
+    unseen-more _ _ _ _ e (c .before .is-unused .ensures) (c .if1 .left) (loop .inv))
+    (λ c. let end : c .before .loop .w ≡ 0 = omega arith in unseen-end _ _ _ end (c .before .loop .inv)))

@@ -1,0 +1,33 @@
+use Prim.Native.Nat.{ℕ, _+_, _-_}
+use mathlib.Core.Bool.{Bool}
+use mathlib.Core.List.{List}
+use native.Mathlib.Omega.{arith}
+use borrow.Author.Needs.{needs}
+use Rattle.model.proofs.Below.{Sought, sought-start, sought-stop, sought-more, sought-end}
+use Rattle.probe.specs.Scan.{waitingAt}
+use Rattle.probe.proofs.some_waiting.Statement.{statement}
+use Rattle.probe.proofs.some_waiting.Tie as tie
+
+abbrev here : List ℕ → ℕ → ℕ → Bool
+here marks base w = waitingAt marks (base + w)
+
+abbrev Inv-loop : tie.InvT-loop
+Inv-loop marks base ways w₀ w = Sought (here marks base) ways w
+
+abbrev μ-loop : tie.MeasureT-loop
+μ-loop marks base ways w₀ w = ways - w
+
+pub some-waiting-spec : {M : Type 1} → statement M
+some-waiting-spec =
+    tie.close
+    (tie.spec
+    Inv-loop
+    μ-loop
+    (λ c. sought-start (here (c .before .args .marks .now) (c .before .args .base)) _)
+    (λ c. omega arith)
+    (λ c κs. search needs)
+    (λ c. let a = c .before .before .before .before .before .args in sought-stop (here (a .marks .now) (a .base)) _ _ (c .before .before .loop-test .taken) (c .before .is-waiting .ensures) (c .if1 .taken))
+    (λ c. omega arith)
+    (λ c. omega arith)
+    (λ c. let a = c .before .before .before .before .before .args in sought-more (here (a .marks .now) (a .base)) _ _ (c .before .before .loop-test .taken) (c .before .is-waiting .ensures) (c .if1 .left) (c .before .before .before .loop .inv))
+    (λ c. let a = c .before .before .before .args in sought-end (here (a .marks .now) (a .base)) _ _ (c .loop-test .left) (c .before .loop .inv)))

@@ -1,0 +1,52 @@
+-- What `decide` promises: the Place of "Probe and victim" that its value stands for, and where that lies.
+use mathlib.Core.Path.{_≡_}
+use Prim.Native.Nat.{ℕ, _<_}
+use mathlib.Core.List.{List, [], _∷_}
+use lib.ListN.{getD, replicate}
+use Rattle.model.specs.Words.{pick, count}
+use Rattle.model.specs.Range.{linesOf}
+use Rattle.model.specs.Address.{addressOf, blockOf, lineNumber}
+use Rattle.model.specs.Tables.{Line, Queued, writing, dirty, empty, fresh}
+use Rattle.model.specs.Lent.{linesIn}
+use Rattle.model.specs.Probe.{Place, no, at, waysOf, probe}
+use Rattle.model.specs.declared.Settings.{Settings}
+use Rattle.model.specs.declared.Access.{Access}
+use Rattle.model.specs.declared.Refusal.the-variants.{SetBusy, SetHeld}
+use Rattle.probe.specs.declared.Meeting.{Meeting}
+use Rattle.probe.specs.declared.Meeting.the-variants.{Met, Taken, Busy, Held}
+use Rattle.probe.specs.declared.Decision.{Decision}
+
+-- the write-back, if there is one
+abbrev pub backsOf : Decision → List Queued
+backsOf d = pick (d .backs) (writing (d .block) (d .masks) ∷ []) []
+
+-- the ways of the set of address a, and what is decided of them
+abbrev pub placeFor : Meeting → List Line → ℕ → Decision → Place
+placeFor Met ways a d = at record { way = d .way; line = getD ways (d .way) fresh; answer = d .answer; backs = backsOf d }
+placeFor Taken ways a d =
+    at record {
+      way = d .way;
+      line = record { tag = blockOf a; cycle = 0; sectors = replicate 4 empty };
+      answer = d .answer;
+      backs = backsOf d;
+    }
+placeFor Busy ways a d = no SetBusy
+placeFor Held ways a d = no SetHeld
+
+abbrev pub placeIs : List Line → ℕ → Decision → Place
+placeIs ways a d = placeFor (d .meeting) ways a d
+
+-- the lines of the whole cache in the slices
+abbrev pub linesHeld : Settings → List ℕ → List ℕ → List ℕ → List Line
+linesHeld S longs words marks = linesIn (linesOf S) longs words marks
+
+pub record Decided (S : Settings) (longs words marks : List ℕ) (x : Access) (r : Decision) : Type 0 where
+  pub place : placeIs (waysOf S (linesHeld S longs words marks) (addressOf x)) (addressOf x) r
+      ≡ probe S (count dirty (linesHeld S longs words marks)) (waysOf S (linesHeld S longs words marks) (addressOf x)) x
+  -- of a busy or held set its way 0
+  pub way : r .way < S .ways
+  pub line : r .line ≡ lineNumber S (addressOf x) (r .way)
+  pub below : r .line < linesOf S
+  -- without a write-back both are zero
+  pub block : r .block ≡ pick (r .backs) (r .block) 0
+  pub masks : r .masks ≡ pick (r .backs) (r .masks) (replicate 4 0)

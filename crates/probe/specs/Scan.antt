@@ -1,0 +1,74 @@
+-- Searches over the numbers below n, and tests on line l by its four status bytes. The functions below `decide` speak of these; proofs/
+-- ties them to the lists of Probe. Nothing here is document 01's.
+use Prim.Native.Nat.{ℕ, zero, suc, _+_, _*_}
+use mathlib.Core.Bool.{Bool, not, _&&_, _||_}
+use mathlib.Core.List.{List}
+use lib.Dec.{eqb, ltb}
+use Rattle.model.specs.Words.{pick}
+use Rattle.model.specs.Lent.{tagAt, cycleAt, statusAt}
+use Rattle.model.specs.Probe.{orElse}
+use Rattle.model.specs.declared.Found.{Found}
+use Rattle.model.specs.declared.Found.the-variants.{At, Nothing}
+use Rattle.probe.specs.declared.Best.{Best}
+use Rattle.probe.specs.declared.Best.the-variants.{Way, Nowhere}
+
+-- ---- searches
+
+-- the first that passes
+unfoldable pub firstBelow : ℕ → (ℕ → Bool) → Found
+firstBelow zero p = Nothing
+firstBelow (suc n) p = orElse (firstBelow n p) (pick (p n) (At n) Nothing)
+
+-- the last that passes
+unfoldable pub lastBelow : ℕ → (ℕ → Bool) → Found
+lastBelow zero p = Nothing
+lastBelow (suc n) p = pick (p n) (At n) (lastBelow n p)
+
+-- the best so far against way w with key k: a later way is better only with a smaller key
+abbrev pub nearerOf : Best → ℕ → ℕ → Best
+nearerOf Nowhere w k = Way w k
+nearerOf (Way v j) w k = pick (ltb k j) (Way w k) (Way v j)
+
+-- of those that pass, the one with the least key, the lowest among equals
+unfoldable pub bestBelow : ℕ → (ℕ → Bool) → (ℕ → ℕ) → Best
+bestBelow zero p key = Nowhere
+bestBelow (suc n) p key = pick (p n) (nearerOf (bestBelow n p key) n (key n)) (bestBelow n p key)
+
+abbrev pub wayOf : Best → Found
+wayOf Nowhere = Nothing
+wayOf (Way w k) = At w
+
+-- ---- line l, by the bytes
+
+abbrev pub unusedAt : List ℕ → ℕ → Bool
+unusedAt marks l =
+    eqb (statusAt marks (4 * l)) 0 && eqb (statusAt marks (4 * l + 1)) 0 && eqb (statusAt marks (4 * l + 2)) 0 && eqb (statusAt marks (4 * l + 3)) 0
+
+abbrev pub waitingAt : List ℕ → ℕ → Bool
+waitingAt marks l =
+    eqb (statusAt marks (4 * l)) 1 || eqb (statusAt marks (4 * l + 1)) 1 || eqb (statusAt marks (4 * l + 2)) 1 || eqb (statusAt marks (4 * l + 3)) 1
+
+-- a number above 2 reads as MODIFIED
+abbrev pub dirtyAt : List ℕ → ℕ → Bool
+dirtyAt marks l =
+    ltb 2 (statusAt marks (4 * l)) || ltb 2 (statusAt marks (4 * l + 1)) || ltb 2 (statusAt marks (4 * l + 2)) || ltb 2 (statusAt marks (4 * l + 3))
+
+abbrev pub holdsAt : List ℕ → List ℕ → ℕ → ℕ → Bool
+holdsAt longs marks b l = eqb (tagAt longs l) b && not (unusedAt marks l)
+
+abbrev pub candidateAt : List ℕ → Bool → ℕ → Bool
+candidateAt marks enough l = not (waitingAt marks l) && (not (dirtyAt marks l) || enough)
+
+-- ---- the `ways` lines from line `base`
+
+abbrev pub foundIn : List ℕ → List ℕ → ℕ → ℕ → ℕ → Found
+foundIn longs marks base ways b = firstBelow ways (λ w. holdsAt longs marks b (base + w))
+
+abbrev pub lastUnusedIn : List ℕ → ℕ → ℕ → Found
+lastUnusedIn marks base ways = lastBelow ways (λ w. unusedAt marks (base + w))
+
+abbrev pub earliestIn : List ℕ → List ℕ → ℕ → ℕ → Bool → Best
+earliestIn words marks base ways enough = bestBelow ways (λ w. candidateAt marks enough (base + w)) (λ w. cycleAt words (base + w))
+
+abbrev pub victimIn : List ℕ → List ℕ → ℕ → ℕ → Bool → Found
+victimIn words marks base ways enough = orElse (lastUnusedIn marks base ways) (wayOf (earliestIn words marks base ways enough))

@@ -1,0 +1,410 @@
+// "Probe and victim": what an access meets in its set, read off the lent slices. Nothing is written here; another crate acts.
+// First one line: its sectors, and tests on its four status bytes. Then the ways of a set: the match, the victim. Last the decision.
+use model::Access;
+use model::Answer;
+use model::BlockAddress;
+use model::Found;
+use model::Sector;
+use model::Settings;
+ghost use mathlib.Core.Path.{_≡_};
+ghost use mathlib.Core.List.{List};
+ghost use Prim.Native.Nat.{ℕ, _+_, _*_, _/_, _%_, _≤_, _<_};
+ghost use lib.ListN.{length};
+ghost use lib.Dec.{eqb, leb};
+ghost use Rattle.model.specs.Words.{count, some};
+ghost use Rattle.model.specs.Tables.{dirty};
+ghost use Rattle.model.specs.Lent.{sectorAt, sectorsAt, linesIn};
+ghost use Rattle.model.specs.Range.{linesOf};
+ghost use Rattle.model.specs.Probe.{enoughDirty};
+ghost use Rattle.model.specs.Inner.{Fit};
+ghost use Rattle.probe.specs.Scan.{unusedAt, waitingAt, dirtyAt, holdsAt, candidateAt, foundIn, lastUnusedIn, nearerOf, earliestIn, wayOf, victimIn};
+ghost use Rattle.probe.specs.Values.{masksAt, metIs, takenIs, refusedIs, refusalIs, missIs};
+ghost use Rattle.probe.specs.Decided.{Decided};
+
+// The status bytes that the tests on a line name; any above VALID reads as MODIFIED.
+const INVALID: u8 = 0;
+
+const RESERVED: u8 = 1;
+
+const VALID: u8 = 2;
+
+// The best candidate so far, with its last-access cycle.
+enum Best {
+    Way { way: usize, cycle: u32 },
+    Nowhere,
+}
+
+// A way has the block; one is taken over; none can be: the set is busy, or held.
+pub enum Meeting {
+    Met,
+    Taken,
+    Busy,
+    Held,
+}
+
+// What an access meets: the way and its line's number, the answer, and the write-back of the line that was there.
+pub struct Decision {
+    pub meeting: Meeting,
+    pub way: usize,
+    pub line: usize,
+    pub answer: Answer,
+    pub backs: bool,
+    pub block: u64,
+    pub masks: [u32; 4],
+}
+
+// Sector i of all lines, n of them.
+fn sector_at(words: &[u32], marks: &[u8], n: usize, i: usize) -> Sector
+    requires { ⌜ (i < 4 * n) × (n ≤ 1024) × (1 + 5 * n ≤ length (now words)) × (8 * n ≤ length (now marks)) ⌝ }
+    ensures { λ r. ⌜ r ≡ sectorAt n (now (words .entry)) (now (marks .entry)) i ⌝ }
+{
+    let status = model::status_of(marks[i]);
+    let mask = words[1 + n + i];
+    let readable = marks[4 * n + i] == 1;
+    Sector {
+        status,
+        mask,
+        readable,
+    }
+}
+
+// The four sectors of line l.
+pub fn sectors_at(words: &[u32], marks: &[u8], n: usize, l: usize) -> [Sector; 4]
+    requires { ⌜ (l < n) × (n ≤ 1024) × (1 + 5 * n ≤ length (now words)) × (8 * n ≤ length (now marks)) ⌝ }
+    ensures { λ r. ⌜ r ≡ sectorsAt n (now (words .entry)) (now (marks .entry)) l ⌝ }
+{
+    let i = 4 * l;
+    let a = sector_at(words, marks, n, i);
+    let b = sector_at(words, marks, n, i + 1);
+    let c = sector_at(words, marks, n, i + 2);
+    let d = sector_at(words, marks, n, i + 3);
+    [a, b, c, d]
+}
+
+// Whether all four sectors of line l are INVALID.
+fn is_unused(marks: &[u8], l: usize) -> bool
+    requires { ⌜ 4 * l + 4 ≤ length (now marks) ⌝ }
+    ensures { λ r. ⌜ r ≡ unusedAt (now (marks .entry)) l ⌝ }
+{
+    let i = 4 * l;
+    (marks[i] == INVALID)
+        & (marks[i + 1] == INVALID)
+        & (marks[i + 2] == INVALID)
+        & (marks[i + 3] == INVALID)
+}
+
+// Whether a sector of line l is RESERVED.
+fn is_waiting(marks: &[u8], l: usize) -> bool
+    requires { ⌜ 4 * l + 4 ≤ length (now marks) ⌝ }
+    ensures { λ r. ⌜ r ≡ waitingAt (now (marks .entry)) l ⌝ }
+{
+    let i = 4 * l;
+    (marks[i] == RESERVED)
+        | (marks[i + 1] == RESERVED)
+        | (marks[i + 2] == RESERVED)
+        | (marks[i + 3] == RESERVED)
+}
+
+// Whether a sector of line l is MODIFIED.
+fn is_dirty(marks: &[u8], l: usize) -> bool
+    requires { ⌜ 4 * l + 4 ≤ length (now marks) ⌝ }
+    ensures { λ r. ⌜ r ≡ dirtyAt (now (marks .entry)) l ⌝ }
+{
+    let i = 4 * l;
+    (VALID < marks[i]) | (VALID < marks[i + 1]) | (VALID < marks[i + 2]) | (VALID < marks[i + 3])
+}
+
+// Tags are block addresses.
+pub fn same_block(a: BlockAddress, b: BlockAddress) -> bool
+    ensures { λ r. ⌜ r ≡ eqb (a .0) (b .0) ⌝ }
+{
+    a.0 == b.0
+}
+
+// The tag is compared first: most ways differ there.
+fn holds_block(longs: &[u64], marks: &[u8], l: usize, block: BlockAddress) -> bool
+    requires { ⌜ (l < length (now longs)) × (4 * l + 4 ≤ length (now marks)) ⌝ }
+    ensures { λ r. ⌜ r ≡ holdsAt (now (longs .entry)) (now (marks .entry)) (block .0) l ⌝ }
+{
+    if same_block(BlockAddress(longs[l]), block) {
+        !is_unused(marks, l)
+    } else {
+        false
+    }
+}
+
+// `enough`: so many lines of the cache are dirty that a dirty line may go.
+fn is_candidate(marks: &[u8], l: usize, enough: bool) -> bool
+    requires { ⌜ 4 * l + 4 ≤ length (now marks) ⌝ }
+    ensures { λ r. ⌜ r ≡ candidateAt (now (marks .entry)) enough l ⌝ }
+{
+    !is_waiting(marks, l) & (!is_dirty(marks, l) | enough)
+}
+
+// How many of the n lines of the cache are dirty.
+pub fn count_dirty(marks: &[u8], n: usize) -> usize
+    requires { ⌜ 4 * n ≤ length (now marks) ⌝ }
+    ensures { λ r. ⌜ (r ≤ n) × ((longs words : List ℕ) → r ≡ count dirty (linesIn n longs words (now (marks .entry)))) ⌝ }
+{
+    let mut d: usize = 0;
+    let mut l = 0;
+    while l < n {
+        if is_dirty(marks, l) {
+            d += 1;
+        }
+        l += 1;
+    }
+    d
+}
+
+// The first way of the set that has the block; the set's lines begin at `base`.
+fn find(longs: &[u64], marks: &[u8], base: usize, ways: usize, block: BlockAddress) -> Found
+    requires { ⌜ (base + ways ≤ length (now longs)) × (4 * (base + ways) ≤ length (now marks)) ⌝ }
+    ensures { λ r. ⌜ r ≡ foundIn (now (longs .entry)) (now (marks .entry)) base ways (block .0) ⌝ }
+{
+    let mut w = 0;
+    while w < ways {
+        if holds_block(longs, marks, base + w, block) {
+            return Found::At(w);
+        }
+        w += 1;
+    }
+    Found::Nothing
+}
+
+// Whether a way of the set has a RESERVED sector.
+fn some_waiting(marks: &[u8], base: usize, ways: usize) -> bool
+    requires { ⌜ 4 * (base + ways) ≤ length (now marks) ⌝ }
+    ensures { λ r. ⌜ r ≡ some ways (λ w. waitingAt (now (marks .entry)) (base + w)) ⌝ }
+{
+    let mut w = 0;
+    while w < ways {
+        if is_waiting(marks, base + w) {
+            return true;
+        }
+        w += 1;
+    }
+    false
+}
+
+// The last way of the set that is wholly invalid.
+fn last_unused(marks: &[u8], base: usize, ways: usize) -> Found
+    requires { ⌜ 4 * (base + ways) ≤ length (now marks) ⌝ }
+    ensures { λ r. ⌜ r ≡ lastUnusedIn (now (marks .entry)) base ways ⌝ }
+{
+    let mut w = ways;
+    while 0 < w {
+        let v = w - 1;
+        if is_unused(marks, base + v) {
+            return Found::At(v);
+        }
+        w = v;
+    }
+    Found::Nothing
+}
+
+// A later way is better only with an earlier cycle.
+fn nearer(best: Best, w: usize, k: u32) -> Best
+    ensures { λ r. ⌜ r ≡ nearerOf best w k ⌝ }
+{
+    match best {
+        Best::Nowhere => Best::Way { way: w, cycle: k },
+        Best::Way { way: v, cycle: j } => {
+            if k < j {
+                Best::Way { way: w, cycle: k }
+            } else {
+                Best::Way { way: v, cycle: j }
+            }
+        }
+    }
+}
+
+// The candidate of the set with the earliest cycle, the lowest way among equals.
+fn earliest(words: &[u32], marks: &[u8], base: usize, ways: usize, enough: bool) -> Best
+    requires { ⌜ (1 + (base + ways) ≤ length (now words)) × (4 * (base + ways) ≤ length (now marks)) ⌝ }
+    ensures { λ r. ⌜ r ≡ earliestIn (now (words .entry)) (now (marks .entry)) base ways enough ⌝ }
+{
+    let mut best = Best::Nowhere;
+    let mut w = 0;
+    while w < ways {
+        let l = base + w;
+        if is_candidate(marks, l, enough) {
+            best = nearer(best, w, words[1 + l]);
+        }
+        w += 1;
+    }
+    best
+}
+
+fn way_of(best: Best) -> Found
+    ensures { λ r. ⌜ r ≡ wayOf best ⌝ }
+{
+    match best {
+        Best::Nowhere => Found::Nothing,
+        Best::Way { way: w, cycle: _ } => Found::At(w),
+    }
+}
+
+// The way to take over: the last wholly invalid one, else the candidate with the earliest cycle.
+fn victim(words: &[u32], marks: &[u8], base: usize, ways: usize, enough: bool) -> Found
+    requires { ⌜ (1 + (base + ways) ≤ length (now words)) × (4 * (base + ways) ≤ length (now marks)) ⌝ }
+    ensures { λ r. ⌜ r ≡ victimIn (now (words .entry)) (now (marks .entry)) base ways enough ⌝ }
+{
+    let free = last_unused(marks, base, ways);
+    match free {
+        Found::At(w) => Found::At(w),
+        Found::Nothing => way_of(earliest(words, marks, base, ways, enough)),
+    }
+}
+
+// "(address / 128) mod sets".
+pub fn set_index(address: u64, sets: usize) -> usize
+    requires { ⌜ 1 ≤ sets ⌝ }
+    ensures { λ r. ⌜ r ≡ address / 128 % sets ⌝ }
+{
+    (address / 128 % (sets as u64)) as usize
+}
+
+// "100 × dirty ≥ P × lines".
+fn enough_dirty(percent: usize, n: usize, d: usize) -> bool
+    requires { ⌜ (percent ≤ 100) × (n ≤ 1024) × (d ≤ n) ⌝ }
+    ensures { λ r. ⌜ r ≡ leb (percent * n) (100 * d) ⌝ }
+{
+    percent * n <= 100 * d
+}
+
+// The four masks of line l.
+fn masks_at(words: &[u32], n: usize, l: usize) -> [u32; 4]
+    requires { ⌜ (l < n) × (n ≤ 1024) × (1 + 5 * n ≤ length (now words)) ⌝ }
+    ensures { λ r. ⌜ r ≡ masksAt n (now (words .entry)) l ⌝ }
+{
+    let first = 1 + n;
+    let i = 4 * l;
+    [
+        words[first + i],
+        words[first + (i + 1)],
+        words[first + (i + 2)],
+        words[first + (i + 3)],
+    ]
+}
+
+// Way w has the block: the answer by its sector.
+fn met(words: &[u32], marks: &[u8], n: usize, base: usize, w: usize, x: Access) -> Decision
+    requires { ⌜ (base + w < n) × (n ≤ 1024) × (1 + 5 * n ≤ length (now words)) × (8 * n ≤ length (now marks)) ⌝ }
+    ensures { λ r. ⌜ r ≡ metIs n (now (words .entry)) (now (marks .entry)) base w x ⌝ }
+{
+    let line = base + w;
+    let k = model::sector_index(model::address_of(x));
+    let answer = model::answer_of(x, sector_at(words, marks, n, 4 * line + k));
+    let masks = [0u32; 4];
+    Decision {
+        meeting: Meeting::Met,
+        way: w,
+        line,
+        answer,
+        backs: false,
+        block: 0,
+        masks,
+    }
+}
+
+// Way w is taken over; a dirty line is written back.
+fn taken(longs: &[u64], words: &[u32], marks: &[u8], n: usize, base: usize, w: usize) -> Decision
+    requires { ⌜ (base + w < n) × (n ≤ 1024) × (n ≤ length (now longs)) × (1 + 5 * n ≤ length (now words)) × (8 * n ≤ length (now marks)) ⌝ }
+    ensures { λ r. ⌜ r ≡ takenIs n (now (longs .entry)) (now (words .entry)) base w (dirtyAt (now (marks .entry)) (base + w)) ⌝ }
+{
+    let line = base + w;
+    if is_dirty(marks, line) {
+        let masks = masks_at(words, n, line);
+        Decision {
+            meeting: Meeting::Taken,
+            way: w,
+            line,
+            answer: Answer::Miss,
+            backs: true,
+            block: longs[line],
+            masks,
+        }
+    } else {
+        let masks = [0u32; 4];
+        Decision {
+            meeting: Meeting::Taken,
+            way: w,
+            line,
+            answer: Answer::Miss,
+            backs: false,
+            block: 0,
+            masks,
+        }
+    }
+}
+
+// No way can be taken over.
+fn refused(base: usize, meeting: Meeting) -> Decision
+    ensures { λ r. ⌜ r ≡ refusedIs base meeting ⌝ }
+{
+    let masks = [0u32; 4];
+    Decision {
+        meeting,
+        way: 0,
+        line: base,
+        answer: Answer::Miss,
+        backs: false,
+        block: 0,
+        masks,
+    }
+}
+
+// Busy if a way of the set has a RESERVED sector, held if none has.
+fn refusal(marks: &[u8], base: usize, ways: usize) -> Decision
+    requires { ⌜ 4 * (base + ways) ≤ length (now marks) ⌝ }
+    ensures { λ r. ⌜ r ≡ refusalIs (now (marks .entry)) base ways ⌝ }
+{
+    if some_waiting(marks, base, ways) {
+        refused(base, Meeting::Busy)
+    } else {
+        refused(base, Meeting::Held)
+    }
+}
+
+// No way has the block; d lines of the cache are dirty.
+fn take_over(
+    s: Settings,
+    longs: &[u64],
+    words: &[u32],
+    marks: &[u8],
+    base: usize,
+    d: usize,
+) -> Decision
+    requires { ⌜ (base + s .ways ≤ linesOf s) × (d ≤ linesOf s) × Fit s (now longs) (now words) (now marks) ⌝ }
+    ensures { λ r. ⌜ r ≡ missIs (linesOf s) (now (longs .entry)) (now (words .entry)) (now (marks .entry)) base (s .ways)
+        (victimIn (now (words .entry)) (now (marks .entry)) base (s .ways) (enoughDirty s d)) ⌝ }
+{
+    let ways = s.ways;
+    let n = s.sets * ways;
+    let enough = enough_dirty(s.percent, n, d);
+    let v = victim(words, marks, base, ways, enough);
+    match v {
+        Found::At(w) => taken(longs, words, marks, n, base, w),
+        Found::Nothing => refusal(marks, base, ways),
+    }
+}
+
+// What the access meets.
+pub fn decide(s: Settings, longs: &[u64], words: &[u32], marks: &[u8], x: Access) -> Decision
+    requires { ⌜ Fit s (now longs) (now words) (now marks) ⌝ }
+    ensures { λ r. ⌜ Decided s (now (longs .entry)) (now (words .entry)) (now (marks .entry)) x r ⌝ }
+{
+    let ways = s.ways;
+    let n = s.sets * ways;
+    let address = model::address_of(x);
+    let base = set_index(address, s.sets) * ways;
+    let found = find(longs, marks, base, ways, model::block_of(address));
+    match found {
+        Found::At(w) => met(words, marks, n, base, w, x),
+        Found::Nothing => {
+            let d = count_dirty(marks, n);
+            take_over(s, longs, words, marks, base, d)
+        }
+    }
+}
