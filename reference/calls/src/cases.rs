@@ -1,9 +1,10 @@
 //! The cases of the first part: calls over tables reached by walks, over built
 //! sound tables, over damaged tables, and with wrong lengths, bad settings or
-//! too little event room.
+//! too little event room. The runs of streams stand in `runs`.
 
 use crate::exported::{EmptySlice, Exported};
-use crate::trial::{Counts, Trial};
+use crate::runs;
+use crate::trial::{Counts, Trial, WAIT_ROOM};
 use reference::choices;
 use reference::model::{Cache, Settings, Tables, CONDITIONS};
 use reference::random::Random;
@@ -16,7 +17,8 @@ pub fn run_case(random: &mut Random, counts: &mut Counts, nulls: bool) -> Result
     match random.below(100) {
         0..=14 => walk(random, counts),
         15..=39 => built(random, counts),
-        40..=89 => damaged(random, counts),
+        40..=79 => damaged(random, counts),
+        80..=89 => runs::run_case(random, counts, nulls),
         90..=92 => wrong_lengths(random, counts, nulls),
         93..=96 => bad_settings(random, counts, nulls),
         _ => small_room(random, counts, nulls),
@@ -32,15 +34,23 @@ fn trial<'a>(
 ) -> Trial<'a> {
     let length = if random.percent(30) { 64 } else { random.between(64, 200) as usize };
     let room = noise(random, length);
-    Trial { counts, source, settings, tables, room, empty: EmptySlice::Buffer }
+    let wait_length = WAIT_ROOM + if random.percent(50) { 0 } else { random.index(9) };
+    let wait_room = noise(random, wait_length);
+    let round = vec![random.draw()];
+    Trial { counts, source, settings, tables, room, wait_room, round, empty: EmptySlice::Buffer }
 }
 
-fn noise(random: &mut Random, length: usize) -> Vec<u8> {
-    (0..length).map(|_| random.draw() as u8).collect()
+pub fn noise(random: &mut Random, length: usize) -> Vec<u8> {
+    let mut bytes = Vec::with_capacity(length + 8);
+    while bytes.len() < length {
+        bytes.extend(random.draw().to_le_bytes());
+    }
+    bytes.truncate(length);
+    bytes
 }
 
 /// Any numbers, for calls that must not look at them.
-fn noise_tables(random: &mut Random, lengths: [usize; 3]) -> Tables {
+pub fn noise_tables(random: &mut Random, lengths: [usize; 3]) -> Tables {
     Tables {
         longs: (0..lengths[0]).map(|_| random.draw()).collect(),
         words: (0..lengths[1]).map(|_| random.draw() as u32).collect(),
@@ -48,7 +58,7 @@ fn noise_tables(random: &mut Random, lengths: [usize; 3]) -> Tables {
     }
 }
 
-fn any_empty(random: &mut Random, nulls: bool) -> EmptySlice {
+pub fn any_empty(random: &mut Random, nulls: bool) -> EmptySlice {
     if nulls && random.percent(50) {
         EmptySlice::Null
     } else {
@@ -57,11 +67,14 @@ fn any_empty(random: &mut Random, nulls: bool) -> EmptySlice {
 }
 
 fn any_exported(random: &mut Random, cache: &Cache) -> Exported {
+    if random.percent(6) {
+        return Exported::Wait(choices::any_access(random, cache));
+    }
     let call = choices::any_call(random, cache);
     Exported::from_call(call, random.percent(60))
 }
 
-/// Each of the eight exported calls on lent tables.
+/// Each of the nine exported calls on tables lent with settings.
 fn every_exported(random: &mut Random, cache: &Cache) -> Vec<Exported> {
     let access = choices::any_access(random, cache);
     vec![
@@ -73,6 +86,7 @@ fn every_exported(random: &mut Random, cache: &Cache) -> Vec<Exported> {
         Exported::Send,
         Exported::Fill { address: choices::fill_address(random, cache) },
         Exported::Tick { cycle: choices::tick_cycle(random, cache) },
+        Exported::Wait(choices::any_access(random, cache)),
     ]
 }
 
@@ -173,13 +187,14 @@ fn other_settings(random: &mut Random, settings: &Settings) -> Settings {
     other
 }
 
-/// Each slice too long or too short by one or empty; every call on them.
+/// Each slice too long or too short by one or empty; every call on them. Wait's round too.
 fn wrong_lengths(random: &mut Random, counts: &mut Counts, nulls: bool) -> Result<(), String> {
     let settings = choices::good_settings(random);
     let sound = sound_tables(random, &settings);
     let cache = Cache::decode(&settings, &sound);
-    for wrong in 0..10 {
+    for wrong in 0..12 {
         let mut tables = sound.clone();
+        let mut round = vec![random.draw()];
         match wrong {
             0 => tables.longs.push(0),
             1 => drop(tables.longs.pop()),
@@ -190,10 +205,13 @@ fn wrong_lengths(random: &mut Random, counts: &mut Counts, nulls: bool) -> Resul
             6 => tables.longs.clear(),
             7 => tables.words.clear(),
             8 => tables.marks.clear(),
-            _ => tables = Tables::default(),
+            9 => tables = Tables::default(),
+            10 => round.clear(),
+            _ => round.push(random.draw()),
         }
-        let mut trial = trial(random, counts, "tables of wrong lengths", settings, tables);
+        let mut trial = trial(random, counts, "slices of wrong lengths", settings, tables);
         trial.empty = any_empty(random, nulls);
+        trial.round = round;
         for call in every_exported(random, &cache) {
             trial.call_on_copy(call)?;
         }
@@ -231,9 +249,11 @@ fn small_room(random: &mut Random, counts: &mut Counts, nulls: bool) -> Result<(
         2 => tables.marks[0] = 9,
         _ => (),
     }
-    for length in [0, random.index(64), 63, 64] {
+    let wait_lengths = [0, random.index(WAIT_ROOM), WAIT_ROOM - 1, WAIT_ROOM];
+    for (length, wait_length) in [0, random.index(64), 63, 64].into_iter().zip(wait_lengths) {
         let mut trial = trial(random, counts, "too little event room", settings, tables.clone());
         trial.room = noise(random, length);
+        trial.wait_room = noise(random, wait_length);
         trial.empty = any_empty(random, nulls);
         for call in every_exported(random, &cache) {
             trial.call_on_copy(call)?;

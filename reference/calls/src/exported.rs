@@ -55,6 +55,28 @@ declare! {
         marks: *mut u8, marks_length: usize, cycle: u32,
         events: *mut u8, events_length: usize
     ) -> usize;
+    labintugmo_wait(
+        longs: *mut u64, longs_length: usize, words: *mut u32, words_length: usize,
+        marks: *mut u8, marks_length: usize, is_write: u32, address: u64, mask: u32, ticket: u32,
+        events: *mut u8, events_length: usize, round: *mut u64, round_length: usize
+    ) -> usize;
+}
+
+extern "C" {
+    fn labintugmo_run(
+        stream: *const u8,
+        stream_length: usize,
+        events: *mut u8,
+        events_length: usize,
+        longs: *mut u64,
+        longs_length: usize,
+        words: *mut u32,
+        words_length: usize,
+        marks: *mut u8,
+        marks_length: usize,
+        counts: *mut u64,
+        counts_length: usize,
+    ) -> u32;
 }
 
 /// One exported call on lent tables.
@@ -68,6 +90,7 @@ pub enum Exported {
     Send,
     Fill { address: u64 },
     Tick { cycle: u32 },
+    Wait(Access),
 }
 
 impl Exported {
@@ -81,6 +104,7 @@ impl Exported {
             Exported::Send => "send",
             Exported::Fill { .. } => "fill",
             Exported::Tick { .. } => "tick",
+            Exported::Wait(_) => "wait",
         }
     }
 
@@ -101,10 +125,10 @@ impl Exported {
         }
     }
 
-    /// The model's call for it; fresh and check have none.
+    /// The model's call for it; fresh, check and wait have none.
     pub fn call(&self) -> Option<Call> {
         match *self {
-            Exported::Fresh | Exported::Check => None,
+            Exported::Fresh | Exported::Check | Exported::Wait(_) => None,
             Exported::Read { address, ticket } => Some(Call::Access(Access::read(address, ticket))),
             Exported::Write { address, mask } => Some(Call::Access(Access::write(address, mask))),
             Exported::Access(access) => Some(Call::Access(access)),
@@ -164,32 +188,96 @@ impl<T: Copy + PartialEq> Guarded<T> {
     }
 }
 
+/// The three lent slices between guards.
+struct GuardedTables {
+    longs: Guarded<u64>,
+    words: Guarded<u32>,
+    marks: Guarded<u8>,
+}
+
+impl GuardedTables {
+    fn new(tables: &Tables, empty: EmptySlice) -> GuardedTables {
+        GuardedTables {
+            longs: Guarded::new(&tables.longs, 0xA5A5_5A5A_DEAD_BEEF, empty),
+            words: Guarded::new(&tables.words, 0xA5A5_BEEF, empty),
+            marks: Guarded::new(&tables.marks, 0xA5, empty),
+        }
+    }
+
+    fn tables(&self) -> Tables {
+        Tables {
+            longs: self.longs.numbers().to_vec(),
+            words: self.words.numbers().to_vec(),
+            marks: self.marks.numbers().to_vec(),
+        }
+    }
+
+    fn intact(&self) -> bool {
+        self.longs.intact() && self.words.intact() && self.marks.intact()
+    }
+}
+
+/// What stands beside the lent tables: what the event room and the 64-bit numbers hold
+/// before a call (wait's round, run's counts), and where empty slices point.
+#[derive(Clone, Copy)]
+pub struct Beside<'a> {
+    pub room: &'a [u8],
+    pub numbers: &'a [u64],
+    pub empty: EmptySlice,
+}
+
+impl Beside<'_> {
+    fn guarded(&self) -> (Guarded<u8>, Guarded<u64>) {
+        let numbers = Guarded::new(self.numbers, 0xC3C3_3C3C_5A5A_A5A5, self.empty);
+        (Guarded::new(self.room, 0xB7, self.empty), numbers)
+    }
+}
+
 /// What an exported call left behind.
 pub struct Made {
     pub returned: usize,
     pub tables: Tables,
     /// The whole event room.
     pub events: Vec<u8>,
+    pub numbers: Vec<u64>,
     pub guards_intact: bool,
 }
 
-/// Makes one exported call on copies of the tables and of the event room.
-pub fn make(
-    settings: &Settings,
-    tables: &Tables,
-    call: &Exported,
-    events: &[u8],
-    empty: EmptySlice,
-) -> Made {
+impl Made {
+    fn new(
+        returned: usize,
+        lent: &GuardedTables,
+        room: &Guarded<u8>,
+        numbers: &Guarded<u64>,
+    ) -> Made {
+        Made {
+            returned,
+            tables: lent.tables(),
+            events: room.numbers().to_vec(),
+            numbers: numbers.numbers().to_vec(),
+            guards_intact: lent.intact() && room.intact() && numbers.intact(),
+        }
+    }
+}
+
+/// Any number but 0 says write: a write's ticket, which nothing else reads, chooses it.
+fn write_number(access: &Access) -> u32 {
+    match access.is_write {
+        true => access.ticket.max(1),
+        false => 0,
+    }
+}
+
+/// Makes one exported call on copies of the tables and of what stands beside them.
+pub fn make(settings: &Settings, tables: &Tables, call: &Exported, beside: Beside) -> Made {
     let [s, w, p, m, r, q] = settings.six();
-    let mut longs = Guarded::new(&tables.longs, 0xA5A5_5A5A_DEAD_BEEF, empty);
-    let mut words = Guarded::new(&tables.words, 0xA5A5_BEEF, empty);
-    let mut marks = Guarded::new(&tables.marks, 0xA5, empty);
-    let mut room = Guarded::new(events, 0xB7, empty);
-    let (l, ln) = (longs.pointer(), longs.length());
-    let (d, dn) = (words.pointer(), words.length());
-    let (k, kn) = (marks.pointer(), marks.length());
+    let mut lent = GuardedTables::new(tables, beside.empty);
+    let (mut room, mut numbers) = beside.guarded();
+    let (l, ln) = (lent.longs.pointer(), lent.longs.length());
+    let (d, dn) = (lent.words.pointer(), lent.words.length());
+    let (k, kn) = (lent.marks.pointer(), lent.marks.length());
     let (e, en) = (room.pointer(), room.length());
+    let (o, on) = (numbers.pointer(), numbers.length());
     // Each pointer is good for the length beside it and no two slices overlap.
     let returned = unsafe {
         match *call {
@@ -201,10 +289,11 @@ pub fn make(
             Exported::Write { address, mask } => {
                 labintugmo_write(s, w, p, m, r, q, l, ln, d, dn, k, kn, address, mask, e, en)
             }
-            Exported::Access(Access { is_write, address, mask, ticket }) => {
-                let is_write = u32::from(is_write);
+            Exported::Access(access) => {
+                let Access { address, mask, ticket, .. } = access;
+                let write = write_number(&access);
                 labintugmo_access(
-                    s, w, p, m, r, q, l, ln, d, dn, k, kn, is_write, address, mask, ticket, e, en,
+                    s, w, p, m, r, q, l, ln, d, dn, k, kn, write, address, mask, ticket, e, en,
                 )
             }
             Exported::Send => labintugmo_send(s, w, p, m, r, q, l, ln, d, dn, k, kn, e, en),
@@ -214,18 +303,42 @@ pub fn make(
             Exported::Tick { cycle } => {
                 labintugmo_tick(s, w, p, m, r, q, l, ln, d, dn, k, kn, cycle, e, en)
             }
+            Exported::Wait(access) => {
+                let Access { address, mask, ticket, .. } = access;
+                let write = write_number(&access);
+                labintugmo_wait(
+                    s, w, p, m, r, q, l, ln, d, dn, k, kn, write, address, mask, ticket, e, en, o,
+                    on,
+                )
+            }
         }
     };
-    Made {
-        returned,
-        tables: Tables {
-            longs: longs.numbers().to_vec(),
-            words: words.numbers().to_vec(),
-            marks: marks.numbers().to_vec(),
-        },
-        events: room.numbers().to_vec(),
-        guards_intact: longs.intact() && words.intact() && marks.intact() && room.intact(),
-    }
+    Made::new(returned, &lent, &room, &numbers)
+}
+
+/// Runs a stream by the library on copies of the tables and of what stands beside them.
+pub fn make_run(stream: &[u8], tables: &Tables, beside: Beside) -> Made {
+    let mut lent = GuardedTables::new(tables, beside.empty);
+    let mut stream = Guarded::new(stream, 0x03, beside.empty);
+    let (mut room, mut numbers) = beside.guarded();
+    // Each pointer is good for the length beside it and no two slices overlap.
+    let returned = unsafe {
+        labintugmo_run(
+            stream.pointer(),
+            stream.length(),
+            room.pointer(),
+            room.length(),
+            lent.longs.pointer(),
+            lent.longs.length(),
+            lent.words.pointer(),
+            lent.words.length(),
+            lent.marks.pointer(),
+            lent.marks.length(),
+            numbers.pointer(),
+            numbers.length(),
+        )
+    };
+    Made::new(returned as usize, &lent, &room, &numbers)
 }
 
 /// The lengths that the library asks for.

@@ -1,9 +1,10 @@
 //! `calls`: compares the exported calls of a library with the reference, call by
-//! call (`cases`) and in the rounds of demand 3 (`rounds`).
+//! call (`cases`), stream by stream (`runs`) and in the rounds of demand 3 (`rounds`).
 
 mod cases;
 mod exported;
 mod rounds;
+mod runs;
 mod trial;
 
 use reference::random::Random;

@@ -1,8 +1,10 @@
 //! The second part: demand 3 by the exported calls. The rounds and the struck
 //! rounds are run by the library, compared with each other after every number
-//! of rounds, held against the bound, and compared with the model's rounds.
+//! of rounds, held against the bound, and compared with the model's rounds; then
+//! the exported wait is held to what those rounds gave.
 
-use crate::exported::{make, EmptySlice, Exported};
+use crate::exported::{make, Beside, EmptySlice, Exported};
+use crate::trial::WAIT_ROOM;
 use reference::choices;
 use reference::model::{Access, Cache, Call, Layout, Settings, Tables};
 use reference::random::Random;
@@ -25,7 +27,8 @@ impl Library {
     /// where it may not gets a number that no refusal has, and so differs from the model.
     fn call(&mut self, call: Exported) -> Result<Vec<u8>, u8> {
         let room = [0xEE; 80];
-        let made = make(&self.settings, &self.tables, &call, &room, EmptySlice::Buffer);
+        let beside = Beside { room: &room, numbers: &[], empty: EmptySlice::Buffer };
+        let made = make(&self.settings, &self.tables, &call, beside);
         self.tables = made.tables;
         let (events, rest) = made.events.split_at(made.returned.min(room.len()));
         match events {
@@ -98,7 +101,7 @@ impl Counts {
     }
 
     pub fn print(&self) {
-        println!("rounds: {} on {} tables", self.rounds, self.tables);
+        println!("rounds: {} on {} tables, with a wait on each", self.rounds, self.tables);
         let accepted: Vec<String> =
             self.accepted.iter().map(|(round, count)| format!("{round}: {count}")).collect();
         println!("  accepted in round {}", accepted.join(", "));
@@ -169,8 +172,46 @@ fn compare(
     same(&layout, "rounds, struck rounds", &first, &struck)?;
     let model_struck = struck_run(&mut cache.clone(), access, &first.flags());
     same(&layout, "model's struck rounds, struck rounds", &model_struck, &struck)?;
+    compare_wait(start, access, &first, bound)?;
     counts.add(&first);
     Ok(())
+}
+
+/// The exported wait ends as the rounds stood at the accepting round, or at the bound.
+fn compare_wait(
+    start: &Library,
+    access: Access,
+    first: &Rounds,
+    bound: usize,
+) -> Result<(), String> {
+    let last = first.offers.len().min(bound);
+    let standing = &first.standings[last];
+    let mut events = standing.events.clone();
+    if let Some(Err(number)) = first.offers[last - 1] {
+        events.extend([0x11, number]);
+    }
+    let round = if first.accepted() { last as u64 } else { 0 };
+
+    let room = [0xEE; WAIT_ROOM];
+    let beside = Beside { room: &room, numbers: &[u64::MAX], empty: EmptySlice::Buffer };
+    let made = make(&start.settings, &start.tables, &Exported::Wait(access), beside);
+    if !made.guards_intact {
+        return Err("wait: a number outside the lent slices was written".to_string());
+    }
+    if made.numbers != [round] {
+        return Err(format!("wait: round {:?}, the rounds say {round}", made.numbers));
+    }
+    let (written, rest) = made.events.split_at(made.returned.min(WAIT_ROOM));
+    if written != events || rest.iter().any(|&byte| byte != 0xEE) {
+        return Err(format!("wait: events {written:02x?}, the rounds say {events:02x?}"));
+    }
+    match standing.tables.first_difference(&made.tables) {
+        Some(place) => {
+            let name = Layout::of(&start.settings).describe(place);
+            Err(format!("wait: {name} is not what the rounds left"))
+        }
+        None => Ok(()),
+    }
 }
 
 /// Two runs stand equal after every number of rounds, or the first difference in words.

@@ -1,35 +1,74 @@
-//! One exported call compared with the model: the return, the whole event room
-//! and all three slices. Also the counts of what was tried.
+//! One exported call compared with the model: the return, the whole event room,
+//! all three slices and wait's round. Also the counts of what was tried.
 
-use crate::exported::{lengths, make, EmptySlice, Exported, Made};
+use crate::exported::{lengths, make, Beside, EmptySlice, Exported, Made};
 use reference::model::{call_bytes, check, fresh_on, lengths_for, Refusal, Settings, Tables};
-use reference::model::{Layout, Place, ROOM_NEEDED};
+use reference::model::{Access, Cache, Layout, Place, ROOM_NEEDED};
+use reference::rounds::{bound, first_run};
 use std::collections::BTreeMap;
 
 /// What a refused call writes: its kind, then the number.
 const REFUSED: u8 = 0x11;
+/// Event room that wait needs.
+pub const WAIT_ROOM: usize = 9600;
 
 /// How the model says a call ends.
-struct Expected {
-    returned: usize,
-    events: Vec<u8>,
-    tables: Tables,
+pub struct Expected {
+    pub returned: usize,
+    pub events: Vec<u8>,
+    pub tables: Tables,
+    /// Wait's round or run's counts, as they are after the call.
+    pub numbers: Vec<u64>,
 }
 
-fn expected(settings: &Settings, tables: &Tables, call: &Exported, room: usize) -> Expected {
+fn expected(settings: &Settings, tables: &Tables, call: &Exported, beside: Beside) -> Expected {
     let mut after = tables.clone();
     let number = |outcome: Result<(), Refusal>| outcome.map_or_else(|r| r.number() as usize, |_| 0);
-    let (returned, events) = match call.call() {
-        Some(call) => {
-            let events = call_bytes(settings, &mut after, call, room);
+    let (returned, events) = match (call, call.call()) {
+        (Exported::Wait(access), _) => return expected_wait(settings, tables, access, beside),
+        (_, Some(call)) => {
+            let events = call_bytes(settings, &mut after, call, beside.room.len());
             (events.len(), events)
         }
-        None if matches!(call, Exported::Fresh) => {
-            (number(fresh_on(settings, &mut after)), Vec::new())
-        }
-        None => (number(check(settings, tables)), Vec::new()),
+        (Exported::Fresh, None) => (number(fresh_on(settings, &mut after)), Vec::new()),
+        (_, None) => (number(check(settings, tables)), Vec::new()),
     };
-    Expected { returned, events, tables: after }
+    Expected { returned, events, tables: after, numbers: beside.numbers.to_vec() }
+}
+
+/// The rounds up to the bound; only a last refusal is among the events.
+fn expected_wait(
+    settings: &Settings,
+    tables: &Tables,
+    access: &Access,
+    beside: Beside,
+) -> Expected {
+    let ends = |events: Vec<u8>, tables: &Tables, numbers: &[u64]| Expected {
+        returned: events.len(),
+        events,
+        tables: tables.clone(),
+        numbers: numbers.to_vec(),
+    };
+    if beside.room.len() < WAIT_ROOM || beside.numbers.len() != 1 {
+        return ends(Vec::new(), tables, beside.numbers);
+    }
+    let asked = check(settings, tables)
+        .and_then(|()| access.well_formed().then_some(()).ok_or(Refusal::NotWellFormed));
+    if let Err(refusal) = asked {
+        return ends(vec![REFUSED, refusal.number()], tables, &[0]);
+    }
+    let mut cache = Cache::decode(settings, tables);
+    let limit = bound(cache.queue.len(), cache.misses.len());
+    let rounds = first_run(&mut cache, *access, limit);
+    let last = rounds.standings.last().expect("there is a start");
+    let mut events = last.events.clone();
+    match rounds.offers.last() {
+        Some(Some(Err(number))) => {
+            events.extend([REFUSED, *number]);
+            ends(events, &last.tables, &[0])
+        }
+        _ => ends(events, &last.tables, &[rounds.offers.len() as u64]),
+    }
 }
 
 /// How a call ended, for the counts.
@@ -37,15 +76,25 @@ fn expected(settings: &Settings, tables: &Tables, call: &Exported, room: usize) 
 pub enum End {
     Accepted,
     Refused(u8),
+    /// A run, by its stop number.
+    Stopped(u8),
     NoRoom,
+    /// Wait's round or run's counts lent with another length.
+    NoNumbers,
 }
 
 fn end_of(call: &Exported, expected: &Expected, room: usize) -> End {
-    match (call.call(), expected.returned) {
-        (None, 0) => End::Accepted,
-        (None, number) => End::Refused(number as u8),
-        (Some(_), _) if room < ROOM_NEEDED => End::NoRoom,
-        (Some(_), _) if expected.events[0] == REFUSED => End::Refused(expected.events[1]),
+    match (call, expected.returned) {
+        (Exported::Fresh | Exported::Check, 0) => End::Accepted,
+        (Exported::Fresh | Exported::Check, number) => End::Refused(number as u8),
+        (Exported::Wait(_), 0) if room < WAIT_ROOM => End::NoRoom,
+        (Exported::Wait(_), 0) => End::NoNumbers,
+        (Exported::Wait(_), returned) if expected.numbers[0] == 0 => {
+            End::Refused(expected.events[returned - 1])
+        }
+        (Exported::Wait(_), _) => End::Accepted,
+        _ if room < ROOM_NEEDED => End::NoRoom,
+        _ if expected.events[0] == REFUSED => End::Refused(expected.events[1]),
         _ => End::Accepted,
     }
 }
@@ -61,7 +110,7 @@ pub struct Counts {
 }
 
 impl Counts {
-    fn add(&mut self, source: &'static str, call: &'static str, end: End) {
+    pub fn add(&mut self, source: &'static str, call: &'static str, end: End) {
         self.total += 1;
         *self.sources.entry(source).or_default() += 1;
         *self.calls.entry(call).or_default().entry(end).or_default() += 1;
@@ -90,7 +139,9 @@ fn name(end: &End) -> String {
     match end {
         End::Accepted => "accepted".to_string(),
         End::Refused(number) => format!("refused {number}"),
+        End::Stopped(number) => format!("stop {number}"),
         End::NoRoom => "no room".to_string(),
+        End::NoNumbers => "no place for its numbers".to_string(),
     }
 }
 
@@ -102,27 +153,34 @@ pub struct Trial<'a> {
     pub tables: Tables,
     /// What the event room holds before each call; its length is the room.
     pub room: Vec<u8>,
+    /// The same for wait, which needs more.
+    pub wait_room: Vec<u8>,
+    /// What wait's round holds before each call.
+    pub round: Vec<u64>,
     pub empty: EmptySlice,
 }
 
 impl Trial<'_> {
     /// Makes a call on both sides; the tables are then those after it.
     pub fn call(&mut self, call: Exported) -> Result<End, String> {
-        let expected = expected(&self.settings, &self.tables, &call, self.room.len());
-        let made = make(&self.settings, &self.tables, &call, &self.room, self.empty);
-        if let Some(text) = difference(&self.room, &expected, &made) {
+        let beside = self.beside(&call);
+        let expected = expected(&self.settings, &self.tables, &call, beside);
+        let made = make(&self.settings, &self.tables, &call, beside);
+        if let Some(text) = difference(Some(&self.settings), beside, &expected, &made) {
             return Err(self.describe(&call, &text));
         }
-        if let Some(place) = expected.tables.first_difference(&made.tables) {
-            let (right, wrong) = (expected.tables.get(place), made.tables.get(place));
-            let name = place_name(&self.settings, &self.tables, place);
-            let text = format!("{name}: expected {right:#x}, found {wrong:#x}");
-            return Err(self.describe(&call, &text));
-        }
-        let end = end_of(&call, &expected, self.room.len());
+        let end = end_of(&call, &expected, beside.room.len());
         self.counts.add(self.source, call.name(), end);
         self.tables = made.tables;
         Ok(end)
+    }
+
+    fn beside(&self, call: &Exported) -> Beside<'_> {
+        let room = match call {
+            Exported::Wait(_) => &self.wait_room,
+            _ => &self.room,
+        };
+        Beside { room, numbers: &self.round, empty: self.empty }
     }
 
     /// Makes a call on tables that stay as they are for the next one.
@@ -152,7 +210,7 @@ impl Trial<'_> {
             "settings {:?}, lengths {:?}, event room {}, empty slices {:?}\ncall {call:x?}\non {}\n{}{text}",
             self.settings.six(),
             self.tables.lengths(),
-            self.room.len(),
+            self.beside(call).room.len(),
             self.empty,
             self.source,
             numbers(&self.tables)
@@ -160,8 +218,14 @@ impl Trial<'_> {
     }
 }
 
-/// In the guards, the return and the events.
-fn difference(room: &[u8], expected: &Expected, made: &Made) -> Option<String> {
+/// In the guards, the return, the events, the numbers and the tables, by the names that
+/// settings give their places.
+pub fn difference(
+    settings: Option<&Settings>,
+    beside: Beside,
+    expected: &Expected,
+    made: &Made,
+) -> Option<String> {
     if !made.guards_intact {
         return Some("a number outside the lent slices was written".to_string());
     }
@@ -172,21 +236,29 @@ fn difference(room: &[u8], expected: &Expected, made: &Made) -> Option<String> {
             expected.returned, made.returned, expected.events
         ));
     }
-    let mut events = room.to_vec();
+    let mut events = beside.room.to_vec();
     events[..expected.events.len()].copy_from_slice(&expected.events);
     if let Some(at) = (0..events.len()).find(|&at| events[at] != made.events[at]) {
         let (right, wrong) = (events[at], made.events[at]);
         return Some(format!("event byte {at}: expected {right:#04x}, found {wrong:#04x}"));
     }
-    None
+    if made.numbers != expected.numbers {
+        let (right, wrong) = (&expected.numbers, &made.numbers);
+        return Some(format!("round or counts: expected {right:?}, found {wrong:?}"));
+    }
+    let place = expected.tables.first_difference(&made.tables)?;
+    let (right, wrong) = (expected.tables.get(place), made.tables.get(place));
+    let name = place_name(settings, &expected.tables, place);
+    Some(format!("{name}: expected {right:#x}, found {wrong:#x}"))
 }
 
 /// By its field where the tables have the lengths for that.
-pub fn place_name(settings: &Settings, tables: &Tables, place: Place) -> String {
-    if settings.in_range() && tables.lengths() == lengths_for(settings) {
-        Layout::of(settings).describe(place)
-    } else {
-        format!("{place:?}")
+fn place_name(settings: Option<&Settings>, tables: &Tables, place: Place) -> String {
+    match settings {
+        Some(settings) if settings.in_range() && tables.lengths() == lengths_for(settings) => {
+            Layout::of(settings).describe(place)
+        }
+        _ => format!("{place:?}"),
     }
 }
 

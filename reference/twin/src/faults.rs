@@ -2,8 +2,10 @@
 //! of that kind, and `condition-N`, which leaves condition N out of the soundness
 //! check.
 
+use crate::wait::Waited;
 use reference::model::{self, block_of, Access, Cache, Call, Layout, Outcome, Place, Refusal};
 use reference::model::{Settings, Status, Tables};
+use reference::runner::{Stopped, STOP_END};
 use std::sync::OnceLock;
 
 /// The fault named in the environment, or the empty name for none.
@@ -15,6 +17,10 @@ static NAME: OnceLock<String> = OnceLock::new();
 impl Fault {
     pub fn planted() -> Fault {
         Fault(NAME.get_or_init(|| std::env::var("TWIN_FAULT").unwrap_or_default()))
+    }
+
+    pub fn is(self, name: &str) -> bool {
+        self.0 == name
     }
 
     /// Slips that a call on another argument shows.
@@ -105,6 +111,50 @@ impl Fault {
     pub fn alter_rest(self, rest: &mut [u8]) {
         if self.0 == "rest-of-room-cleared" {
             rest.fill(0);
+        }
+    }
+
+    pub fn alter_wait_room(self, room: usize) -> usize {
+        room + usize::from(self.is("wait-room-one-short"))
+    }
+
+    /// Of the rounds that wait runs.
+    pub fn alter_bound(self, bound: usize) -> usize {
+        match self.0 {
+            "wait-gives-up-early" => (bound - 1).max(1),
+            _ => bound,
+        }
+    }
+
+    pub fn alter_waited(self, waited: &mut Waited) {
+        match self.0 {
+            "wait-counts-from-zero" => waited.round = waited.round.saturating_sub(1),
+            "wait-last-refusal-left-out" if waited.events.ends_with(&[0x11, 6]) => {
+                waited.events.truncate(waited.events.len() - 2);
+            }
+            _ => (),
+        }
+    }
+
+    pub fn alter_run_room(self, room: usize) -> usize {
+        room + usize::from(self.is("run-room-one-short"))
+    }
+
+    /// Slips in the tables or the counts that a run leaves.
+    pub fn alter_run(
+        self,
+        stream: &[u8],
+        before: &Tables,
+        tables: &mut Tables,
+        stopped: &mut Stopped,
+    ) {
+        let early = stopped.number != STOP_END;
+        match self.0 {
+            "run-forgets-tables-at-stop" if early => *tables = before.clone(),
+            "run-makes-up-consumed" if early => stopped.consumed = stream.len(),
+            "run-leaves-settings-out" => stopped.consumed = stopped.consumed.saturating_sub(8),
+            "run-empty-is-cut-short" if stream.is_empty() => stopped.number = 15,
+            _ => (),
         }
     }
 

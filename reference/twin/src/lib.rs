@@ -3,9 +3,11 @@
 //! and `calls` has to find it.
 
 mod faults;
+mod wait;
 
 use faults::Fault;
 use reference::model::{self, Access, Call, Refusal, Settings, Tables};
+use reference::runner;
 
 /// The settings of an exported call, from its first six numbers.
 macro_rules! settings {
@@ -73,6 +75,49 @@ fn serve(settings: Settings, mut lent: Lent, call: Call, events: &mut [u8]) -> u
     events[..written.len()].copy_from_slice(&written);
     fault.alter_rest(&mut events[written.len()..]);
     written.len()
+}
+
+/// Wait's event room, beside a place for its round of length one.
+const WAIT_ROOM: usize = 9600;
+
+fn serve_wait(
+    settings: Settings,
+    mut lent: Lent,
+    access: Access,
+    events: &mut [u8],
+    round: &mut [u64],
+) -> usize {
+    let fault = Fault::planted();
+    if fault.alter_wait_room(events.len()) < WAIT_ROOM || round.len() != 1 {
+        return 0;
+    }
+    let mut tables = lent.tables();
+    let mut waited = wait::wait_on(&settings, &mut tables, access, fault);
+    fault.alter_waited(&mut waited);
+    lent.store(&tables);
+    events[..waited.events.len()].copy_from_slice(&waited.events);
+    round[0] = waited.round;
+    waited.events.len()
+}
+
+/// The length of run's counts.
+const COUNTS: usize = 2;
+
+fn serve_run(stream: &[u8], events: &mut [u8], mut lent: Lent, counts: &mut [u64]) -> u32 {
+    let fault = Fault::planted();
+    if counts.len() != COUNTS {
+        return runner::STOP_OTHER_LENGTH.into();
+    }
+    let before = lent.tables();
+    let mut tables = before.clone();
+    let mut room = vec![0; fault.alter_run_room(events.len())];
+    let mut stopped = runner::run(stream, &mut tables, &mut room);
+    fault.alter_run(stream, &before, &mut tables, &mut stopped);
+    let written = stopped.written.min(events.len());
+    events[..written].copy_from_slice(&room[..written]);
+    lent.store(&tables);
+    counts.copy_from_slice(&[stopped.consumed as u64, stopped.written as u64]);
+    stopped.number.into()
 }
 
 macro_rules! export_lengths {
@@ -161,3 +206,42 @@ export_call!(labintugmo_access(is_write: u32, address: u64, mask: u32, ticket: u
 export_call!(labintugmo_send() Call::Send);
 export_call!(labintugmo_fill(address: u64) Call::Fill(address));
 export_call!(labintugmo_tick(cycle: u32) Call::Tick(cycle));
+
+/// # Safety
+/// Each pointer is good for the length beside it, and no two slices overlap.
+#[no_mangle]
+#[rustfmt::skip]
+pub unsafe extern "C" fn labintugmo_wait(
+    s: u32, w: u32, p: u32, m: u32, r: u32, q: u32,
+    longs: *mut u64, longs_length: usize, words: *mut u32, words_length: usize,
+    marks: *mut u8, marks_length: usize,
+    is_write: u32, address: u64, mask: u32, ticket: u32,
+    events: *mut u8, events_length: usize, round: *mut u64, round_length: usize,
+) -> usize {
+    let lent = Lent {
+        longs: slice_mut(longs, longs_length),
+        words: slice_mut(words, words_length),
+        marks: slice_mut(marks, marks_length),
+    };
+    let access = Access { is_write: is_write != 0, address, mask, ticket };
+    let events = slice_mut(events, events_length);
+    serve_wait(settings!(s, w, p, m, r, q), lent, access, events, slice_mut(round, round_length))
+}
+
+/// # Safety
+/// Each pointer is good for the length beside it, and no two slices overlap.
+#[no_mangle]
+#[rustfmt::skip]
+pub unsafe extern "C" fn labintugmo_run(
+    stream: *const u8, stream_length: usize, events: *mut u8, events_length: usize,
+    longs: *mut u64, longs_length: usize, words: *mut u32, words_length: usize,
+    marks: *mut u8, marks_length: usize, counts: *mut u64, counts_length: usize,
+) -> u32 {
+    let lent = Lent {
+        longs: slice_mut(longs, longs_length),
+        words: slice_mut(words, words_length),
+        marks: slice_mut(marks, marks_length),
+    };
+    let events = slice_mut(events, events_length);
+    serve_run(slice(stream, stream_length), events, lent, slice_mut(counts, counts_length))
+}

@@ -1,0 +1,432 @@
+//! Measures the library beside plain Rust that does the same work, in one process, one after
+//! the other on the same stream, and prints the figures as Markdown tables.
+//!
+//!     bench [--accesses N] [--rounds N] [--ratios FILE]
+//!
+//! Both sides' events are compared before anything is timed. A time is the processor time of
+//! this thread, the best of a few rounds in which the two sides take turns, so that neither
+//! another program nor a disturbance weighs on one side alone.
+
+mod library;
+mod plain;
+mod stream;
+
+use library::Tables;
+use plain::{check::sound, Cache, Command, Events, Settings};
+use std::fmt::Write;
+use std::hint::black_box;
+use std::process::ExitCode;
+use stream::Measured;
+
+struct Options {
+    accesses: usize,
+    rounds: usize,
+    ratios: Option<String>,
+}
+
+fn options() -> Option<Options> {
+    let mut options = Options { accesses: 1_000_000, rounds: 5, ratios: None };
+    let mut words = std::env::args().skip(1);
+    while let Some(word) = words.next() {
+        let value = words.next()?;
+        match word.as_str() {
+            "--accesses" => options.accesses = value.parse().ok()?,
+            "--rounds" => options.rounds = value.parse().ok()?,
+            "--ratios" => options.ratios = Some(value),
+            _ => return None,
+        }
+    }
+    (options.accesses > 0 && options.rounds > 0).then_some(options)
+}
+
+/// Sets and ways that are measured.
+const SIZES: [(u32, u32); 3] = [(1, 4), (64, 4), (256, 4)];
+
+fn settings_for((sets, ways): (u32, u32)) -> Settings {
+    Settings { sets, ways, percent: 25, entries: 16, readers: 4, places: 16 }
+}
+
+/// The C library's time, on 64-bit Linux.
+#[repr(C)]
+struct Timespec {
+    seconds: i64,
+    nanoseconds: i64,
+}
+
+extern "C" {
+    fn clock_gettime(clock: i32, time: *mut Timespec) -> i32;
+}
+
+/// Seconds of processor time that this thread has had.
+fn processor_time() -> f64 {
+    const CLOCK_THREAD_CPUTIME_ID: i32 = 3;
+    let mut time = Timespec { seconds: 0, nanoseconds: 0 };
+    let status = unsafe { clock_gettime(CLOCK_THREAD_CPUTIME_ID, &mut time) };
+    assert_eq!(status, 0, "the thread has a clock");
+    time.seconds as f64 + time.nanoseconds as f64 / 1e9
+}
+
+fn timed(work: impl FnOnce()) -> f64 {
+    let start = processor_time();
+    work();
+    processor_time() - start
+}
+
+/// Keeps a result from being optimised away.
+fn seen<T>(result: T) {
+    black_box(result);
+}
+
+/// The best time of each piece of work, taken in turns.
+fn best<const N: usize>(rounds: usize, mut works: [&mut dyn FnMut(); N]) -> [f64; N] {
+    let mut least = [f64::INFINITY; N];
+    for _ in 0..rounds {
+        for (work, least) in works.iter_mut().zip(&mut least) {
+            *least = least.min(timed(work));
+        }
+    }
+    least
+}
+
+/// One row of a table: what was measured, figures, ratios.
+struct Row {
+    name: String,
+    figures: Vec<String>,
+    ratios: Vec<f64>,
+}
+
+struct Table {
+    title: &'static str,
+    note: String,
+    figures: &'static [&'static str],
+    ratios: &'static [&'static str],
+    rows: Vec<Row>,
+}
+
+impl Table {
+    fn text(&self, with_figures: bool) -> String {
+        let figures = if with_figures { self.figures } else { &[] };
+        let heads: Vec<&str> = figures.iter().chain(self.ratios).copied().collect();
+        let mut text =
+            format!("### {}\n\n{}\n\n| | {} |\n", self.title, self.note, heads.join(" | "));
+        writeln!(text, "|---|{}", "---:|".repeat(heads.len())).expect("a string takes all");
+        for row in &self.rows {
+            let mut cells = if with_figures { row.figures.clone() } else { Vec::new() };
+            cells.extend(row.ratios.iter().map(|&ratio| three_digits(ratio)));
+            writeln!(text, "| {} | {} |", row.name, cells.join(" | ")).expect("a string takes all");
+        }
+        text
+    }
+}
+
+/// Three digits that count, as far as a table needs them.
+fn three_digits(ratio: f64) -> String {
+    let places = match ratio {
+        _ if ratio >= 100.0 => 0,
+        _ if ratio >= 10.0 => 1,
+        _ if ratio >= 1.0 => 2,
+        _ => 3,
+    };
+    format!("{ratio:.places$}")
+}
+
+fn millions(count: usize, seconds: f64) -> String {
+    format!("{:.2} M/s", count as f64 / seconds / 1e6)
+}
+
+fn nanoseconds(seconds: f64) -> String {
+    format!("{:.0} ns", seconds * 1e9)
+}
+
+fn size_name((sets, ways): (u32, u32)) -> String {
+    format!("{sets} x {ways}")
+}
+
+/// Whole streams through the runner.
+fn runner(options: &Options, streams: &[Measured]) -> Table {
+    let mut rows = Vec::new();
+    for (size, measured) in SIZES.iter().zip(streams) {
+        let mut tables = Tables::fresh(measured.settings);
+        let mut room = vec![0; measured.log.len() + 64];
+        let stopped = tables.run(&measured.bytes, &mut room);
+        assert_eq!((stopped.number, stopped.consumed), (0, measured.bytes.len()));
+        assert!(room[..stopped.written] == measured.log[..], "the library's events differ");
+        let stopped = plain::run::<true>(&measured.bytes, &mut room);
+        assert_eq!((stopped.number, stopped.consumed), (0, measured.bytes.len()));
+        assert!(room[..stopped.written] == measured.log[..], "plain Rust's events differ");
+
+        let (mut other, mut third) = (room.clone(), room.clone());
+        let [library, plain, recount] = best(
+            options.rounds,
+            [
+                &mut || seen(tables.run(&measured.bytes, &mut room)),
+                &mut || seen(plain::run::<false>(&measured.bytes, &mut other)),
+                &mut || seen(plain::run::<true>(&measured.bytes, &mut third)),
+            ],
+        );
+        let rate = |seconds| millions(measured.accesses, seconds);
+        rows.push(Row {
+            name: size_name(*size),
+            figures: vec![rate(library), rate(plain), rate(recount)],
+            ratios: vec![plain / library, recount / library],
+        });
+    }
+    Table {
+        title: "The runner over a whole stream",
+        note: "Accesses a second, each with its tick, send and fill. Plain Rust keeps a count of \
+               dirty lines; the second plain figure counts them anew where a miss asks, as tables \
+               without a stored count must. Ratio: the library's speed over plain Rust's."
+            .to_string(),
+        figures: &["library", "plain Rust", "plain Rust, counting"],
+        ratios: &["ratio", "ratio to counting"],
+        rows,
+    }
+}
+
+/// How many of the stream's commands the library's single calls do in about half a second.
+fn commands_in_time(measured: &Measured) -> usize {
+    let mut tables = Tables::fresh(measured.settings);
+    let mut room = [0; 64];
+    let start = processor_time();
+    let mut at = 0;
+    for (count, command) in measured.commands.iter().enumerate() {
+        let written = tables.call(*command, &mut room);
+        assert!(room[..written] == measured.log[at..at + written], "the library's events differ");
+        at += written;
+        if count % 64 == 63 && processor_time() - start > 0.5 {
+            return count + 1;
+        }
+    }
+    measured.commands.len()
+}
+
+/// The stream's commands one by one, the library's each with its check.
+fn single_calls(options: &Options, streams: &[Measured]) -> Table {
+    let mut rows = Vec::new();
+    for (size, measured) in SIZES.iter().zip(streams) {
+        let count = commands_in_time(measured);
+        let commands = &measured.commands[..count];
+        let accesses = commands.iter().filter(|c| matches!(c, Command::Tick { .. })).count();
+        let start = Tables::fresh(measured.settings);
+        let [library, plain] = best(
+            options.rounds,
+            [
+                &mut || {
+                    let (mut tables, mut room) = (start.clone(), [0; 64]);
+                    for command in commands {
+                        seen(tables.call(*command, &mut room));
+                    }
+                },
+                &mut || {
+                    let (mut cache, mut room) = (Cache::<false>::new(measured.settings), [0; 64]);
+                    for command in commands {
+                        let mut events = Events::new(&mut room);
+                        cache.call(*command, &mut events);
+                        seen(events.written());
+                    }
+                },
+            ],
+        );
+        let rate = |seconds| format!("{:.1} k/s", accesses as f64 / seconds / 1e3);
+        rows.push(Row {
+            name: size_name(*size),
+            figures: vec![rate(library), rate(plain)],
+            ratios: vec![library / plain],
+        });
+    }
+    Table {
+        title: "The single calls",
+        note: "The same stream, call by call. Each of the library's calls checks the whole tables \
+               first; plain Rust checks nothing. Accesses a second, each with its tick, send and \
+               fill."
+            .to_string(),
+        figures: &["library", "plain Rust"],
+        ratios: &["time over plain Rust's"],
+        rows,
+    }
+}
+
+/// Tables of 1,024 lines, so many of them live, with so many reads in the queue. A third of
+/// the live lines have a dirty sector, and each entry but the last has four readers.
+fn filled(lines: u64, reads: u64) -> Tables {
+    let settings = Settings { sets: 256, ways: 4, percent: 0, entries: 64, readers: 4, places: 64 };
+    let mut tables = Tables::fresh(settings);
+    let mut call = |command| {
+        let mut room = [0; 64];
+        let written = tables.call(command, &mut room);
+        assert!(written > 0 && room[0] != 0x11, "a call that fills the tables is refused");
+    };
+    for block in 0..lines {
+        let address = 128 * block;
+        call(Command::Read { address, ticket: 0 });
+        call(Command::Send);
+        call(Command::Fill { address });
+        if block % 3 == 0 {
+            call(Command::Write { address: address + 32, mask: 0xFF });
+        }
+    }
+    for block in 0..reads {
+        let readers = if block + 1 < reads { 4 } else { 1 };
+        for ticket in 0..readers {
+            call(Command::Read { address: 128 * block + 64, ticket });
+        }
+    }
+    tables
+}
+
+/// Seconds for one piece of work, from batches that take long enough to be timed.
+fn one<const N: usize>(rounds: usize, works: [&mut dyn FnMut(); N]) -> [f64; N] {
+    const BATCH: f64 = 0.02;
+    works.map(|work| {
+        let mut count = 1;
+        while timed(|| (0..count).for_each(|_| work())) < BATCH {
+            count *= 2;
+        }
+        let mut batch = || (0..count).for_each(|_| work());
+        let [least] = best(rounds, [&mut batch]);
+        least / f64::from(count)
+    })
+}
+
+fn plain_sound(tables: &Tables) -> bool {
+    sound(&tables.settings, &tables.longs, &tables.words, &tables.marks)
+}
+
+/// Both checks say the same of tables with any one number changed in a few ways.
+fn same_check() -> usize {
+    let settings = Settings { sets: 2, ways: 2, percent: 0, entries: 3, readers: 2, places: 4 };
+    let mut tables = Tables::fresh(settings);
+    let mut room = [0; 64];
+    for address in [0, 256, 128] {
+        tables.call(Command::Write { address, mask: 0xFF }, &mut room);
+    }
+    for address in [0, 32, 128] {
+        tables.call(Command::Read { address, ticket: 5 }, &mut room);
+    }
+    tables.call(Command::Send, &mut room);
+    tables.call(Command::Write { address: 512, mask: 1 }, &mut room);
+    let mut compared = 0;
+    let mut compare = |tables: &mut Tables| {
+        assert_eq!(tables.check() == 0, plain_sound(tables), "the two checks differ");
+        compared += 1;
+    };
+    compare(&mut tables);
+    for at in 0..tables.longs.len() {
+        for number in [0, 1, 32, 128, 160, 256, 512, 1 << 48, u64::MAX] {
+            let mut other = tables.clone();
+            other.longs[at] = number;
+            compare(&mut other);
+        }
+    }
+    for at in 0..tables.words.len() {
+        for number in [0, 1, 5, 0xFF, u32::MAX - 1, u32::MAX] {
+            let mut other = tables.clone();
+            other.words[at] = number;
+            compare(&mut other);
+        }
+    }
+    for at in 0..tables.marks.len() {
+        for number in [0, 1, 2, 3, 4, 255] {
+            let mut other = tables.clone();
+            other.marks[at] = number;
+            compare(&mut other);
+        }
+    }
+    compared
+}
+
+fn soundness(options: &Options) -> Table {
+    let compared = same_check();
+    let kinds = [("fresh", 0, 0), ("half full", 512, 32), ("full", 1024, 63)];
+    let mut rows = Vec::new();
+    for (name, lines, reads) in kinds {
+        let mut tables = filled(lines, reads);
+        assert!(tables.check() == 0 && plain_sound(&tables), "the tables are sound");
+        let other = tables.clone();
+        let [library, plain] = one(
+            options.rounds,
+            [&mut || seen(tables.check()), &mut || seen(plain_sound(black_box(&other)))],
+        );
+        rows.push(Row {
+            name: name.to_string(),
+            figures: vec![nanoseconds(library), nanoseconds(plain)],
+            ratios: vec![library / plain],
+        });
+    }
+    Table {
+        title: "One soundness check",
+        note: format!(
+            "Tables of 256 x 4: fresh; with 512 live lines and 32 entries waiting; with 1,024 and \
+             63. The same check in plain Rust, over the same three slices; the two were compared \
+             on {compared} small tables."
+        ),
+        figures: &["library", "plain Rust"],
+        ratios: &["time over plain Rust's"],
+        rows,
+    }
+}
+
+fn memory() -> Table {
+    let mut rows = Vec::new();
+    for size in SIZES {
+        let settings = settings_for(size);
+        let (lent, plain) = (Tables::fresh(settings).memory(), Cache::<false>::memory(&settings));
+        rows.push(Row {
+            name: size_name(size),
+            figures: vec![format!("{lent} B"), format!("{plain} B")],
+            ratios: vec![lent as f64 / plain as f64],
+        });
+    }
+    Table {
+        title: "Memory of the tables",
+        note: "The three lent slices, all that the library uses, and plain Rust's vectors with \
+               their structure."
+            .to_string(),
+        figures: &["library", "plain Rust"],
+        ratios: &["bytes over plain Rust's"],
+        rows,
+    }
+}
+
+/// What the measured streams are, in words.
+fn describe(streams: &[Measured]) -> String {
+    let accesses = streams[0].accesses;
+    let mut text = format!(
+        "Streams of {accesses} accesses, 70 in a hundred reads; P 25, 16 miss entries, 4 readers, \
+         16 queue places. Answers in a hundred:\n\n\
+         | | HIT | HIT_RESERVED | MISS | SECTOR_MISS | refused |\n|---|---:|---:|---:|---:|---:|\n"
+    );
+    for (size, measured) in SIZES.iter().zip(streams) {
+        let shares = measured.shares().map(|share| format!("{share:.1}"));
+        writeln!(text, "| {} | {} |", size_name(*size), shares.join(" | "))
+            .expect("a string takes all");
+    }
+    text
+}
+
+fn main() -> ExitCode {
+    let Some(options) = options() else {
+        eprintln!("usage: bench [--accesses N] [--rounds N] [--ratios FILE]");
+        return ExitCode::from(2);
+    };
+    let streams = SIZES.map(|size| Measured::new(settings_for(size), options.accesses));
+    let about = describe(&streams);
+    println!("{about}");
+    let tables = [
+        runner(&options, &streams),
+        single_calls(&options, &streams),
+        soundness(&options),
+        memory(),
+    ];
+    for table in &tables {
+        println!("{}", table.text(true));
+    }
+    if let Some(path) = &options.ratios {
+        let texts: Vec<String> = tables.iter().map(|table| table.text(false)).collect();
+        if let Err(error) = std::fs::write(path, format!("{about}\n{}", texts.join("\n"))) {
+            eprintln!("bench: {path}: {error}");
+            return ExitCode::from(1);
+        }
+    }
+    ExitCode::SUCCESS
+}

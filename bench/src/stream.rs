@@ -1,0 +1,149 @@
+//! The streams that are measured: accesses with some locality, each after a tick and followed
+//! by a send and by a fill of the oldest sent miss, where there is one.
+
+use crate::plain::{Cache, Command, Events, Settings};
+
+/// A splitmix64 generator, so that a stream is the same everywhere.
+struct Random(u64);
+
+impl Random {
+    fn draw(&mut self) -> u64 {
+        self.0 = self.0.wrapping_add(0x9E37_79B9_7F4A_7C15);
+        let mut mixed = self.0;
+        mixed = (mixed ^ (mixed >> 30)).wrapping_mul(0xBF58_476D_1CE4_E5B9);
+        mixed = (mixed ^ (mixed >> 27)).wrapping_mul(0x94D0_49BB_1331_11EB);
+        mixed ^ (mixed >> 31)
+    }
+
+    fn below(&mut self, limit: u64) -> u64 {
+        self.draw() % limit
+    }
+}
+
+const RECENT: usize = 16;
+
+/// Addresses as a kernel might make them: back to recent sectors, on along the last block, or
+/// anywhere in a working set four times the cache.
+struct Addresses {
+    random: Random,
+    recent: [u64; RECENT],
+    last: u64,
+    blocks: u64,
+}
+
+impl Addresses {
+    fn next(&mut self) -> u64 {
+        let limit = 128 * self.blocks;
+        let address = match self.random.below(100) {
+            0..=54 => self.recent[self.random.below(RECENT as u64) as usize],
+            55..=84 => (self.last + 32) % limit,
+            _ => 128 * self.random.below(self.blocks) + 32 * self.random.below(4),
+        };
+        self.last = address;
+        self.recent[self.random.below(RECENT as u64) as usize] = address;
+        address
+    }
+
+    /// Whole sectors, words of eight bytes, single bytes.
+    fn mask(&mut self) -> u32 {
+        match self.random.below(10) {
+            0..=4 => u32::MAX,
+            5..=7 => 0xFF << (8 * self.random.below(4)),
+            _ => 1 << self.random.below(32),
+        }
+    }
+}
+
+/// A stream, what it holds, and the event bytes of every call in it.
+pub struct Measured {
+    pub settings: Settings,
+    pub bytes: Vec<u8>,
+    pub accesses: usize,
+    pub commands: Vec<Command>,
+    pub log: Vec<u8>,
+}
+
+impl Measured {
+    pub fn new(settings: Settings, accesses: usize) -> Measured {
+        let [sets_low, sets_high, ..] = settings.sets.to_le_bytes();
+        let small = [settings.ways, settings.percent, settings.entries, settings.readers];
+        let mut bytes = vec![0, sets_low, sets_high];
+        bytes.extend(small.map(|number| number as u8));
+        bytes.push(settings.places as u8);
+        let mut made =
+            Measured { settings, bytes, accesses, commands: Vec::new(), log: Vec::new() };
+        made.fill_in();
+        made
+    }
+
+    /// The commands follow the cache's state, so a cache is kept beside them.
+    fn fill_in(&mut self) {
+        let mut cache = Cache::<false>::new(self.settings);
+        let blocks = 4 * self.settings.lines() as u64;
+        let mut addresses = Addresses { random: Random(1), recent: [0; RECENT], last: 0, blocks };
+        for number in 0..self.accesses as u32 {
+            self.add(&mut cache, Command::Tick { cycle: number });
+            let address = addresses.next();
+            let access = if addresses.random.below(100) < 70 {
+                Command::Read { address, ticket: number }
+            } else {
+                Command::Write { address, mask: addresses.mask() }
+            };
+            self.add(&mut cache, access);
+            if cache.queued() > 0 {
+                self.add(&mut cache, Command::Send);
+            }
+            if let Some(address) = cache.first_sent() {
+                self.add(&mut cache, Command::Fill { address });
+            }
+        }
+    }
+
+    fn add(&mut self, cache: &mut Cache<false>, command: Command) {
+        let mut room = [0; 64];
+        let mut events = Events::new(&mut room);
+        cache.call(command, &mut events);
+        let written = events.written();
+        self.log.extend(&room[..written]);
+        self.commands.push(command);
+        match command {
+            Command::Read { address, ticket } => self.record(1, &address.to_le_bytes(), ticket),
+            Command::Write { address, mask } => self.record(2, &address.to_le_bytes(), mask),
+            Command::Send => self.bytes.push(3),
+            Command::Fill { address } => {
+                self.bytes.push(4);
+                self.bytes.extend(address.to_le_bytes());
+            }
+            Command::Tick { cycle } => self.record(5, &[], cycle),
+        }
+    }
+
+    fn record(&mut self, kind: u8, first: &[u8], second: u32) {
+        self.bytes.push(kind);
+        self.bytes.extend(first);
+        self.bytes.extend(second.to_le_bytes());
+    }
+
+    /// Accesses by answer, HIT to SECTOR_MISS, and refused ones, in a hundred.
+    pub fn shares(&self) -> [f64; 5] {
+        let mut counts = [0usize; 5];
+        let mut at = 0;
+        while at < self.log.len() {
+            let body = match self.log[at] {
+                0x10 => 3,
+                0x11 => 1,
+                0x12 | 0x15 | 0x17 => 8,
+                0x13 | 0x16 => 24,
+                0x14 => 4,
+                _ => 0,
+            };
+            match self.log[at] {
+                0x10 => counts[usize::from(self.log[at + 1]) - 1] += 1,
+                0x11 => counts[4] += 1,
+                _ => (),
+            }
+            at += 1 + body;
+        }
+        counts.map(|count| 100.0 * count as f64 / self.accesses as f64)
+    }
+}

@@ -1,0 +1,218 @@
+-- The act of an accepted access on encoded slices: its line, its entry, its queue places, as `accept` says.
+use mathlib.Core.Path.{_≡_, refl, sym, ap, subst, _∙_}
+use mathlib.Core.Logic.{_≢_}
+use mathlib.Core.Bool.{Bool, true, false, not, _&&_, true≢false, false≢true}
+use mathlib.Core.List.{List, [], _∷_, _++_, map, append-nil, append-assoc}
+use Prim.Native.Nat.{ℕ, zero, suc, _+_, _*_, _≤_, _<_}
+use native.Mathlib.Omega.{arith}
+use lib.ListN.{length, getD, set, replicate, length-set, length-append}
+use lib.Dec.{eqb}
+use borrow.Author.Tests.{eqb-true, eq-eqb, ne-eqb, leb-true}
+use Rattle.model.specs.Words.{pick, all, any, count, one}
+use Rattle.model.specs.Range.{linesOf}
+use Rattle.model.specs.Address.{addressOf, isRead, blockOf, sectorIndex, lineNumber}
+use Rattle.model.specs.Tables.{Line, Entry, Queued, reading, writing, Tables, entryFor, fresh}
+use Rattle.model.specs.Lent.{Lent, lent, sectorsAt, linesIn, lineAt, encode}
+use Rattle.model.specs.Probe.{Spot, waysOf}
+use Rattle.model.specs.Steps.{isMerge, isMiss, onSector, update, join, onMisses, fetches, queues, placesNeeded}
+use Rattle.model.specs.declared.Settings.{Settings}
+use Rattle.model.specs.declared.Access.{Access}
+use Rattle.model.specs.declared.Access.the-variants.{Read, Write}
+use Rattle.model.specs.declared.Answer.{Answer}
+use Rattle.model.specs.declared.Sector.{Sector}
+use Rattle.model.specs.Sound.{queuedOk}
+use Rattle.model.proofs.Flags.{and-1, and-2}
+use Rattle.model.proofs.SoundFacts.{Sound, parts, lines-are, entry-at, readers-some}
+use Rattle.model.proofs.Lists.{any-in, in-getD, count-index}
+use Rattle.model.proofs.Taken.{Spotted}
+use Rattle.model.proofs.Offered.{probe-spotted}
+use Rattle.model.proofs.Bridge.{is-tables}
+use Rattle.model.proofs.Standing.{encode-stands}
+use Rattle.model.proofs.Tabled.{getD-table}
+use Rattle.tables.specs.declared.Layout.{Layout}
+use Rattle.tables.specs.Layout.{Placed}
+use Rattle.tables.proofs.Stands.{Stands, is-stands, withLines, withMisses, withQueue}
+use Rattle.tables.proofs.Lines.{line-stands}
+use Rattle.tables.proofs.Misses.{noEntry, withTicket, unsent, append-stands, new-entry-stands}
+use Rattle.tables.proofs.Queue.{push-read-stands, push-write-back-stands}
+use Rattle.tables.proofs.Ones.{map-one}
+use Rattle.probe.specs.declared.Decision.{Decision}
+use Rattle.probe.specs.Decided.{backsOf}
+use Rattle.probe.proofs.Held.{lines-held, way-line}
+use Rattle.access.specs.Plan.{Met, Acts, entryIndex, ticketsAt, courseOf, goes, ticketOf}
+use Rattle.access.specs.Written.{sectorsFor, sectorsAfter, lineWritten, missesWritten, readWritten, backWritten, queueWritten}
+use Rattle.access.specs.declared.Course.{Course}
+use Rattle.access.specs.declared.Course.the-variants.{Refused, Stays, Joins, Starts}
+use Rattle.access.proofs.Plans.{index-found, merged-entry, entry-once}
+use Rattle.access.proofs.Courses.{Shown, shows, answer-is}
+use Rattle.access.proofs.Inverted.{Tested, Means, course-means}
+
+-- ---- what becomes of the miss table and the queue, by the flags
+
+misses-stay : (x : Access) (n : Answer) (es : List Entry) → (isRead x && isMerge n) ≡ false → (isRead x && isMiss n) ≡ false → onMisses x n es ≡ es
+misses-stay (Read a m k) n es e f = rw (f, e)
+misses-stay (Write a m k) n es e f = refl
+
+misses-join : (x : Access) (n : Answer) (es : List Entry) → (isRead x && isMerge n) ≡ true → onMisses x n es ≡ map (join (addressOf x) (ticketOf x)) es
+misses-join (Read a m k) n es e = rw e
+misses-join (Write a m k) n es e = absurd (false≢true e)
+
+misses-start : (x : Access) (n : Answer) (es : List Entry) → (isRead x && isMerge n) ≡ false → (isRead x && isMiss n) ≡ true → onMisses x n es ≡ es ++ (unsent (addressOf x) (ticketOf x) ∷ [])
+misses-start (Read a m k) n es e f = rw (f, e)
+misses-start (Write a m k) n es e f = absurd (false≢true f)
+
+fetches-are : (x : Access) (n : Answer) → fetches x n ≡ pick (isRead x && isMiss n) (reading (addressOf x) ∷ []) []
+fetches-are (Read a m k) n = refl
+fetches-are (Write a m k) n = refl
+
+flag-length : (b : Bool) (y : Queued) → length (pick b (y ∷ []) []) ≡ one b
+flag-length true y = refl
+flag-length false y = refl
+
+two-lengths : (b c : Bool) (y z : Queued) → length (pick b (y ∷ []) []) + length (pick c (z ∷ []) []) ≡ one b + one c
+two-lengths b c y z = rw (flag-length b y, flag-length c z)
+
+module _ (S : Settings) {longs words marks : List ℕ} (x : Access) (d : Decision) (t : Tables) (p : Spot) (m : Met S (lent longs words marks) x d t p) {place : Layout} (pl : Placed S place) where
+  ok : Sound S t
+  ok = parts S t (m .is .soundly)
+
+  spot : Spotted S t x p
+  spot = probe-spotted S (m .is .range) t ok x p (m .probed)
+
+  sized : length (t .lines) ≡ linesOf S
+  sized = lines-are S t ok
+
+  -- ---- the line
+
+  -- the line that the access leaves
+  abbrev pub newLine : Line
+  newLine = update (sectorIndex (addressOf x)) (onSector x (p .answer)) (t .now) (p .line)
+
+  line-is : getD (t .lines) (d .line) fresh ≡ lineAt (linesOf S) longs words marks (d .line)
+  line-is =
+      ap (λ (ls : List Line). getD ls (d .line) fresh) (lines-held S (lent longs words marks) (is-tables S (lent longs words marks) t (m .is)))
+      ∙ getD-table (linesOf S) (lineAt (linesOf S) longs words marks) (d .line) fresh (m .below)
+
+  found-is : p .line .sectors ≡ sectorsFor (d .meeting) (sectorsAt (linesOf S) words marks (d .line))
+  found-is =
+      shows S x d t p m .sectors
+      ∙ ap (λ (l : Line). sectorsFor (d .meeting) (l .sectors))
+      (way-line S (t .lines) (addressOf x) (d .way) (m .way)
+      ∙ ap (λ (i : ℕ). getD (t .lines) i fresh) (ap (lineNumber S (addressOf x)) (sym (shows S x d t p m .way)) ∙ sym (m .numbered))
+      ∙ line-is)
+
+  left-is : sectorsAfter x d (sectorsFor (d .meeting) (sectorsAt (linesOf S) words marks (d .line))) ≡ newLine .sectors
+  left-is = rw (← found-is, ← answer-is S x d t p m)
+
+  now-is : getD words 0 0 ≡ t .now
+  now-is = ap (λ (L : Lent). getD (L .words) 0 0) (m .is .encoded) ∙ encode-stands S t .time
+
+  pub line-written : {L₁ : Lent} → L₁ ≡ lineWritten place (lent longs words marks) (d .line) (blockOf (addressOf x)) (sectorsAfter x d (sectorsFor (d .meeting) (sectorsAt (linesOf S) words marks (d .line))))
+      → Stands S (L₁ .longs) (L₁ .words) (L₁ .marks) (withLines (set (t .lines) (d .line) newLine) t)
+  line-written e =
+      let b = m .below in
+      let s = sized in
+      let four : length (newLine .sectors) ≡ 4 = simp length-set (spot .four) in
+      let e₁ = rw (left-is, ← spot .tagged, now-is) at e in
+      line-stands S t (is-stands (m .is)) pl sized (d .line) (omega arith) newLine four
+      (ap (λ (L : Lent). L .longs) e₁, ap (λ (L : Lent). L .words) e₁, ap (λ (L : Lent). L .marks) e₁)
+
+  -- ---- the miss table
+
+  -- a ticket joins one entry, and no other is for the address
+  join-one : (isRead x && isMerge (p .answer)) ≡ true → (e : ℕ) → e ≡ entryIndex (addressOf x) (t .misses) → (k : ℕ)
+      → (e < length (t .misses)) × (map (join (addressOf x) k) (t .misses) ≡ set (t .misses) e (withTicket k (getD (t .misses) e noEntry)))
+  join-one merges e is k =
+      let h : any (entryFor (addressOf x)) (t .misses) ≡ true = merged-entry S (m .is .range) t ok x (m .formed) p (m .probed) (and-2 (isRead x) (isMerge (p .answer)) merges) in
+      let once : count (entryFor (addressOf x)) (t .misses) ≡ 1 = entry-once S (m .is .range) t ok x (m .formed) p (m .probed) h in
+      let w = index-found (addressOf x) (t .misses) h in
+      let inside : e < length (t .misses) = rw is (w .0) in
+      let here : entryFor (addressOf x) (getD (t .misses) e noEntry) ≡ true = eq-eqb (getD (t .misses) e noEntry .address) (addressOf x) (rw is (w .1)) in (
+        inside,
+        map-one (join (addressOf x) k) noEntry (t .misses) e inside
+            (λ j b n. rw (ne-eqb (getD (t .misses) j noEntry .address) (addressOf x) (λ q. n (count-index (entryFor (addressOf x)) noEntry (t .misses) once j e b inside (eq-eqb (getD (t .misses) j noEntry .address) (addressOf x) q) here))))
+            ∙ rw here,
+      )
+
+  pub misses-written : (ls : List Line) (L₁ L₂ : Lent) → Stands S (L₁ .longs) (L₁ .words) (L₁ .marks) (withLines ls t)
+      → (c : Course) → c ≡ courseOf S x p t → goes c ≡ true → L₂ ≡ missesWritten place (S .readers) c (addressOf x) (ticketOf x) L₁
+      → Stands S (L₂ .longs) (L₂ .words) (L₂ .marks) (withMisses (onMisses x (p .answer) (t .misses)) (withLines ls t))
+  misses-written ls L₁ L₂ h (Refused n) e g q = absurd (false≢true g)
+  misses-written ls L₁ L₂ h Stays e g q =
+      let w = subst (Means S x p t) (sym e) (course-means S x p t) in
+      rw (q, misses-stay x (p .answer) (t .misses) (w .merges) (w .misses refl)) h
+  misses-written ls L₁ L₂ h (Joins i n) e g q =
+      let w = subst (Means S x p t) (sym e) (course-means S x p t) in
+      let j = join-one (w .0 .merges) i (w .1) (ticketOf x) in
+      let few : length (t .misses) ≤ S .entries = leb-true (length (t .misses)) (S .entries) (ok .few) in
+      rw (q, misses-join x (p .answer) (t .misses) (w .0 .merges), j .1)
+      (append-stands S (withLines ls t) h pl few i (j .0) (ticketOf x) n (w .2) (w .3) (refl, refl))
+  misses-written ls L₁ L₂ h (Starts i) e g q =
+      let w = subst (Means S x p t) (sym e) (course-means S x p t) in
+      let few : length (t .misses) ≤ S .entries = leb-true (length (t .misses)) (S .entries) (ok .few) in
+      rw (q, misses-start x (p .answer) (t .misses) (w .0 .merges) (w .0 .misses refl))
+      (new-entry-stands S (withLines ls t) h pl few (addressOf x) (ticketOf x) i (w .1) (w .2) (readers-some S (m .is .range)) (refl, refl, refl))
+
+  -- ---- the queue
+
+  read-written : (u : Tables) (L₂ L₃ : Lent) (b : Bool) (n : ℕ) → Stands S (L₂ .longs) (L₂ .words) (L₂ .marks) u → n ≡ length (u .queue) → length (u .queue) + one b ≤ S .places
+      → L₃ ≡ readWritten place b n (addressOf x) L₂ → Stands S (L₃ .longs) (L₃ .words) (L₃ .marks) (withQueue (u .queue ++ pick b (reading (addressOf x) ∷ []) []) u)
+  read-written u L₂ L₃ true n h e r q = rw q (push-read-stands S u h pl (omega arith) (addressOf x) n e (omega arith) (refl, refl))
+  read-written u L₂ L₃ false n h e r q = rw (q, append-nil (u .queue)) h
+
+  back-written : (u : Tables) (L₂ L₃ : Lent) (b : Bool) (n : ℕ) → length (d .masks) ≡ 4 → Stands S (L₂ .longs) (L₂ .words) (L₂ .marks) u → n ≡ length (u .queue)
+      → length (u .queue) + one b ≤ S .places
+      → L₃ ≡ backWritten place b n (d .block) (d .masks) L₂ → Stands S (L₃ .longs) (L₃ .words) (L₃ .marks) (withQueue (u .queue ++ pick b (writing (d .block) (d .masks) ∷ []) []) u)
+  back-written u L₂ L₃ true n four h e r q = rw q (push-write-back-stands S u h pl (omega arith) (d .block) (d .masks) n four e (omega arith) (refl, refl, refl))
+  back-written u L₂ L₃ false n four h e r q = rw (q, append-nil (u .queue)) h
+
+  -- what is queued, by the two flags
+  pub queues-are : queues x p ≡ pick (isRead x && isMiss (d .answer)) (reading (addressOf x) ∷ []) [] ++ pick (d .backs) (writing (d .block) (d .masks) ∷ []) []
+  queues-are = rw (shows S x d t p m .backs, answer-is S x d t p m) (ap (λ (q : List Queued). q ++ backsOf d) (fetches-are x (d .answer)))
+
+  pub queue-written : (u : Tables) → u .queue ≡ t .queue → (L₂ L₃ : Lent) (n : ℕ) → length (d .masks) ≡ 4 → Stands S (L₂ .longs) (L₂ .words) (L₂ .marks) u
+      → n ≡ length (t .queue) → length (t .queue) + placesNeeded x p ≤ S .places
+      → L₃ ≡ queueWritten place (isRead x && isMiss (d .answer)) n (addressOf x) (d .backs) (d .block) (d .masks) L₂
+      → Stands S (L₃ .longs) (L₃ .words) (L₃ .marks) (withQueue (t .queue ++ queues x p) u)
+  queue-written u same L₂ L₃ n four h e room q =
+      let b = isRead x && isMiss (d .answer) in
+      let reads = pick b (reading (addressOf x) ∷ []) [] in
+      let v : Tables = withQueue (u .queue ++ reads) u in
+      let longer : length (u .queue ++ reads) ≡ length (u .queue) + one b = length-append (u .queue) reads ∙ ap (λ (k : ℕ). length (u .queue) + k) (flag-length b (reading (addressOf x))) in
+      let most : one b + one (d .backs) ≤ placesNeeded x p =
+      let l : length (queues x p) ≡ one b + one (d .backs) = ap length queues-are ∙ length-append reads _ ∙ two-lengths b (d .backs) (reading (addressOf x)) (writing (d .block) (d .masks)) in
+      omega (arith, spot .room) in
+      let s : length (u .queue) ≡ length (t .queue) = ap length same in
+      let r : Stands S (readWritten place b n (addressOf x) L₂ .longs) (readWritten place b n (addressOf x) L₂ .words) (readWritten place b n (addressOf x) L₂ .marks) v =
+      read-written u L₂ (readWritten place b n (addressOf x) L₂) b n h (omega arith) (omega arith) refl in
+      rw (queues-are, ← same, ← append-assoc)
+      (back-written v (readWritten place b n (addressOf x) L₂) L₃ (d .backs) (n + one b) four r (omega arith) (omega arith) q)
+
+-- ---- room
+
+pub join-inside : (S : Settings) {L : Lent} (x : Access) (d : Decision) (t : Tables) (p : Spot) → Met S L x d t p → (e : ℕ) → (isRead x && isMerge (p .answer)) ≡ true
+    → e ≡ entryIndex (addressOf x) (t .misses) → e < length (t .misses)
+join-inside S x d t p m e merges is =
+    rw is (index-found (addressOf x) (t .misses)
+    (merged-entry S (m .is .range) t (parts S t (m .is .soundly)) x (m .formed) p (m .probed) (and-2 (isRead x) (isMerge (p .answer)) merges)) .0)
+
+pub queue-room : (S : Settings) {L : Lent} (x : Access) (d : Decision) (t : Tables) (p : Spot) → Met S L x d t p → one (isRead x && isMiss (d .answer)) + one (d .backs) ≤ placesNeeded x p
+queue-room S x d t p m =
+    let b = isRead x && isMiss (d .answer) in
+    let q : queues x p ≡ pick b (reading (addressOf x) ∷ []) [] ++ pick (d .backs) (writing (d .block) (d .masks) ∷ []) [] =
+    rw (shows S x d t p m .backs, answer-is S x d t p m) (ap (λ (q : List Queued). q ++ backsOf d) (fetches-are x (d .answer))) in
+    let l : length (queues x p) ≡ one b + one (d .backs) =
+    ap length q ∙ length-append (pick b (reading (addressOf x) ∷ []) []) _ ∙ two-lengths b (d .backs) (reading (addressOf x)) (writing (d .block) (d .masks)) in
+    omega (arith, probe-spotted S (m .is .range) t (parts S t (m .is .soundly)) x p (m .probed) .room)
+
+-- four masks: those of a sound write-back, or zeros
+pub masks-four : (S : Settings) {L : Lent} (x : Access) (d : Decision) (t : Tables) (p : Spot) → Met S L x d t p → length (d .masks) ≡ 4
+unfolding queuedOk
+masks-four S x d t p m = go (d .backs) refl (m .masks)
+  where
+    go : (b : Bool) → d .backs ≡ b → d .masks ≡ pick b (d .masks) (replicate 4 0) → length (d .masks) ≡ 4
+    go true e f =
+        let q : p .backs ≡ writing (d .block) (d .masks) ∷ [] = shows S x d t p m .backs ∙ rw e in
+        let ok : all (queuedOk []) (writing (d .block) (d .masks) ∷ []) ≡ true = rw q at (probe-spotted S (m .is .range) t (parts S t (m .is .soundly)) x p (m .probed) .backed []) in
+        eqb-true (length (d .masks)) 4 (search (and-1, and-2) depth 9)
+    go false e f = ap length f

@@ -1,0 +1,80 @@
+-- What a decision says of the spot that it stands for, and the course by the tests of the code.
+use mathlib.Core.Path.{_≡_, refl, sym, ap, _∙_}
+use mathlib.Core.Bool.{Bool, true, false, not, _&&_}
+use mathlib.Core.List.{List, [], _∷_}
+use Prim.Native.Nat.{ℕ, _+_, _≤_, _<_}
+use native.Mathlib.Omega.{arith}
+use lib.ListN.{length, getD, replicate}
+use borrow.Author.Tests.{lt-ltb, le-ltb, leb-true}
+use Rattle.model.specs.Words.{pick, any}
+use Rattle.model.specs.Address.{addressOf, isRead, blockOf}
+use Rattle.model.specs.Tables.{Line, Tables, entryFor, fresh, empty}
+use Rattle.model.specs.Lent.{Lent, lent}
+use Rattle.model.specs.Inner.{Is}
+use Rattle.model.specs.Probe.{Spot, at, waysOf}
+use Rattle.model.specs.Steps.{isHit, isMerge, isMiss}
+use Rattle.model.specs.declared.Settings.{Settings}
+use Rattle.model.specs.declared.Access.{Access}
+use Rattle.model.specs.declared.Refusal.the-variants.{QueueFull}
+use Rattle.model.proofs.SoundFacts.{parts}
+use Rattle.probe.specs.declared.Meeting.{Meeting}
+use Rattle.probe.specs.declared.Meeting.the-variants.{Met as MetWay, Taken, Busy, Held}
+use Rattle.probe.specs.declared.Decision.{Decision}
+use Rattle.probe.specs.Decided.{placeFor, backsOf}
+use Rattle.access.specs.Plan.{Met, entryIndex, ticketsAt, joining, starting, courseOf}
+use Rattle.access.specs.Written.{sectorsFor}
+use Rattle.access.specs.declared.Course.{Course}
+use Rattle.access.specs.declared.Course.the-variants.{Refused, Stays}
+use Rattle.access.proofs.Plans.{merged-entry}
+
+-- ---- the spot of a decision
+
+pub record Shown (ways : List Line) (a : ℕ) (d : Decision) (p : Spot) : Type 0 where
+  pub way : p .way ≡ d .way
+  pub answer : p .answer ≡ d .answer
+  pub backs : p .backs ≡ backsOf d
+  pub sectors : p .line .sectors ≡ sectorsFor (d .meeting) (getD ways (d .way) fresh .sectors)
+
+pub shown : (m : Meeting) (ways : List Line) (a : ℕ) (d : Decision) (p : Spot) → d .meeting ≡ m → placeFor m ways a d ≡ at p → Shown ways a d p
+shown MetWay ways a d p k e =
+    let line : p .line ≡ getD ways (d .way) fresh = cc in
+    record { way = cc; answer = cc; backs = cc; sectors = ap (λ (l : Line). l .sectors) line ∙ rw k }
+shown Taken ways a d p k e =
+    let line : p .line ≡ record { tag = blockOf a; cycle = 0; sectors = replicate 4 empty } = cc in
+    record { way = cc; answer = cc; backs = cc; sectors = ap (λ (l : Line). l .sectors) line ∙ rw k }
+shown Busy ways a d p k e = let z : _≡_ {A = ℕ} 0 1 = cc in absurd (omega arith)
+shown Held ways a d p k e = let z : _≡_ {A = ℕ} 0 1 = cc in absurd (omega arith)
+
+module _ (S : Settings) {L : Lent} (x : Access) (d : Decision) (t : Tables) (p : Spot) (m : Met S L x d t p) where
+  pub shows : Shown (waysOf S (t .lines) (addressOf x)) (addressOf x) d p
+  shows = shown (d .meeting) (waysOf S (t .lines) (addressOf x)) (addressOf x) d p refl (m .decided)
+
+  pub answer-is : p .answer ≡ d .answer
+  answer-is = shows .answer
+
+  pub few-queued : length (t .queue) ≤ S .places
+  few-queued = leb-true (length (t .queue)) (S .places) (parts S t (m .is .soundly) .short)
+
+  -- ---- the course
+
+  module _ {q n : ℕ} (counted : q ≡ length (t .queue)) (needed : n ≡ pick (isHit (d .answer)) 0 (pick (isRead x) 2 1)) where
+    pub course-full : S .places < q + n → Refused QueueFull ≡ courseOf S x p t
+    course-full h = rw (answer-is, ← counted, ← needed, lt-ltb (S .places) (q + n) h)
+
+    module _ (room : q + n ≤ S .places) where
+      pub course-write : isRead x ≡ false → Stays ≡ courseOf S x p t
+      course-write r = rw (answer-is, ← counted, ← needed, le-ltb (S .places) (q + n) room, r)
+
+      module _ (reads : isRead x ≡ true) where
+        pub course-join : isMerge (d .answer) ≡ true → {r : Course} → r ≡ joining S (entryIndex (addressOf x) (t .misses)) (ticketsAt (entryIndex (addressOf x) (t .misses)) (t .misses)) → r ≡ courseOf S x p t
+        course-join merges e = e ∙ rw (answer-is, ← counted, ← needed, le-ltb (S .places) (q + n) room, reads, merges)
+
+        module _ (other : isMerge (d .answer) ≡ false) where
+          pub course-start : isMiss (d .answer) ≡ true → {r : Course} → r ≡ starting S (length (t .misses)) → r ≡ courseOf S x p t
+          course-start misses e = e ∙ rw (answer-is, ← counted, ← needed, le-ltb (S .places) (q + n) room, reads, misses, other)
+
+          pub course-hit : isMiss (d .answer) ≡ false → Stays ≡ courseOf S x p t
+          course-hit hits = rw (answer-is, ← counted, ← needed, le-ltb (S .places) (q + n) room, reads, hits, other)
+
+  pub merge-entered : isMerge (d .answer) ≡ true → any (entryFor (addressOf x)) (t .misses) ≡ true
+  merge-entered h = merged-entry S (m .is .range) t (parts S t (m .is .soundly)) x (m .formed) p (m .probed) (ap isMerge answer-is ∙ h)

@@ -1,0 +1,9 @@
+-- Laws of the sectors, of the course and of the act of an access.
+pub mod Sectors
+pub mod Plans
+pub mod Courses
+pub mod Writing
+pub mod Inverted
+pub mod Acting
+pub mod Telling
+pub mod Offering

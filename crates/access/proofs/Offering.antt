@@ -1,0 +1,115 @@
+-- An access by its parts: the place decides between a refusal and an offer, the course between a refusal and the act.
+use mathlib.Core.Path.{_≡_, refl, sym, ap, subst, _∙_}
+use mathlib.Core.Bool.{Bool, true, false, true≢false, false≢true}
+use mathlib.Core.List.{List}
+use Prim.Native.Nat.{ℕ}
+use native.Mathlib.Omega.{arith}
+use lib.ListN.{length}
+use Rattle.model.specs.Words.{pick}
+use Rattle.model.specs.Address.{addressOf, wellFormed}
+use Rattle.model.specs.Tables.{Line, Tables, Outcome, refused}
+use Rattle.model.specs.Lent.{Lent, lent}
+use Rattle.model.specs.Inner.{Is}
+use Rattle.model.specs.Probe.{Spot, Place, no, at, probe, waysOf, dirtyLines}
+use Rattle.model.specs.Steps.{access, proceed, accept}
+use Rattle.model.specs.Calls.{Leaves, encoded}
+use Rattle.model.specs.declared.Settings.{Settings}
+use Rattle.model.specs.declared.Access.{Access}
+use Rattle.model.specs.declared.Refusal.the-variants.{BadAccess}
+use Rattle.model.specs.declared.Event.the-variants as event
+use Rattle.model.specs.declared.Told.{Told}
+use Rattle.model.proofs.SoundFacts.{parts}
+use Rattle.model.proofs.Bridge.{is-tables}
+use Rattle.tables.specs.Telling.{telling}
+use Rattle.tables.proofs.Tellings.{refusal-leaves}
+use Rattle.probe.specs.declared.Meeting.{Meeting}
+use Rattle.probe.specs.declared.Meeting.the-variants as meeting
+use Rattle.probe.specs.declared.Decision.{Decision}
+use Rattle.probe.specs.Decided.{Decided, placeFor, placeIs}
+use Rattle.probe.proofs.Held.{decided-probe}
+use Rattle.access.specs.Plan.{Met, Meets, Offered, Acts, courseOf, following, goes, refusalIn, isSpot, refusalMet}
+use Rattle.access.specs.declared.Course.{Course}
+use Rattle.access.specs.declared.Course.the-variants.{Refused, Stays, Joins, Starts}
+use Rattle.access.proofs.Plans.{course-is}
+use Rattle.access.proofs.Courses.{shown}
+
+-- ---- the course
+
+following-goes : (S : Settings) (x : Access) (p : Spot) (t : Tables) (c : Course) → goes c ≡ true → following S x p t c ≡ accept S x p t
+following-goes S x p t (Refused n) g = absurd (false≢true g)
+following-goes S x p t Stays g = refl
+following-goes S x p t (Joins e n) g = refl
+following-goes S x p t (Starts e) g = refl
+
+following-stops : (S : Settings) (x : Access) (p : Spot) (t : Tables) (c : Course) → goes c ≡ false → following S x p t c ≡ refused (refusalIn c)
+following-stops S x p t (Refused n) g = refl
+following-stops S x p t Stays g = absurd (true≢false g)
+following-stops S x p t (Joins e n) g = absurd (true≢false g)
+following-stops S x p t (Starts e) g = absurd (true≢false g)
+
+module _ (S : Settings) {L : Lent} (x : Access) (d : Decision) (t : Tables) (p : Spot) (m : Met S L x d t p) {c : Course} (planned : c ≡ courseOf S x p t) where
+  proceeds : proceed S x t (at p) ≡ following S x p t c
+  proceeds = course-is S (m .is .range) t (parts S t (m .is .soundly)) x (m .formed) p (m .probed) ∙ ap (following S x p t) (sym planned)
+
+  pub offered-acts : {r : Told} {M : Lent} → goes c ≡ true → Leaves (encoded S (accept S x p t)) L r M → Leaves (encoded S (proceed S x t (at p))) L r M
+  offered-acts g l = rw (proceeds, following-goes S x p t c g) l
+
+  pub offered-stops : {r : Told} → goes c ≡ false → r ≡ telling (event.Refused (refusalIn c)) → Leaves (encoded S (proceed S x t (at p))) L r L
+  offered-stops g e = rw (proceeds, following-stops S x p t c g, e) (refusal-leaves (refusalIn c) L)
+
+-- ---- the place
+
+pub formed-refused : (S : Settings) (L : Lent) (x : Access) {r : Told} → wellFormed x ≡ false → r ≡ telling (event.Refused BadAccess) → (t : Tables) → Leaves (encoded S (access S x t)) L r L
+unfolding access
+formed-refused S L x f e t = rw (f, e) (refusal-leaves BadAccess L)
+
+accessing : (S : Settings) (x : Access) (t : Tables) → wellFormed x ≡ true → access S x t ≡ proceed S x t (probe S (dirtyLines t) (waysOf S (t .lines) (addressOf x)) x)
+unfolding access
+accessing S x t f = rw f
+
+place-stops : (k : Meeting) (ways : List Line) (a : ℕ) (d : Decision) → isSpot k ≡ false → placeFor k ways a d ≡ no (refusalMet k)
+place-stops meeting.Met ways a d e = absurd (true≢false e)
+place-stops meeting.Taken ways a d e = absurd (true≢false e)
+place-stops meeting.Busy ways a d e = refl
+place-stops meeting.Held ways a d e = refl
+
+place-spot : (k : Meeting) (ways : List Line) (a : ℕ) (d : Decision) → isSpot k ≡ true → (p : Spot) × (placeFor k ways a d ≡ at p)
+place-spot meeting.Met ways a d e = (_, refl)
+place-spot meeting.Taken ways a d e = (_, refl)
+place-spot meeting.Busy ways a d e = absurd (false≢true e)
+place-spot meeting.Held ways a d e = absurd (false≢true e)
+
+module _ (S : Settings) {longs words marks : List ℕ} (x : Access) (d : Decision) (decided : Decided S longs words marks x d) (formed : wellFormed x ≡ true)
+    (t : Tables) (is : Is S (lent longs words marks) t) where
+  place-is : placeIs (waysOf S (t .lines) (addressOf x)) (addressOf x) d ≡ probe S (dirtyLines t) (waysOf S (t .lines) (addressOf x)) x
+  place-is = decided-probe S (lent longs words marks) (is-tables S (lent longs words marks) t is) decided
+
+  -- the spot, where there is one
+  pub spot-met : isSpot (d .meeting) ≡ true → (p : Spot) × Met S (lent longs words marks) x d t p
+  spot-met e =
+      let (p, q) = place-spot (d .meeting) (waysOf S (t .lines) (addressOf x)) (addressOf x) d e in
+      let way = shown (d .meeting) (waysOf S (t .lines) (addressOf x)) (addressOf x) d p refl q .way in (
+        p,
+        record {
+          is = is;
+          formed = formed;
+          probed = sym place-is ∙ q;
+          decided = q;
+          numbered = rw way (decided .line);
+          way = decided .way;
+          below = decided .below;
+          block = decided .block;
+          masks = decided .masks;
+        },
+      )
+
+  pub access-offered : {r : Told} {M : Lent} → isSpot (d .meeting) ≡ true → Offered S (lent longs words marks) x d r M → Leaves (encoded S (access S x t)) (lent longs words marks) r M
+  access-offered e o =
+      let (p, m) = spot-met e in
+      rw (accessing S x t formed, m .probed) (o .on t p m)
+
+  pub access-stops : {r : Told} → isSpot (d .meeting) ≡ false → r ≡ telling (event.Refused (refusalMet (d .meeting)))
+      → Leaves (encoded S (access S x t)) (lent longs words marks) r (lent longs words marks)
+  unfolding proceed
+  access-stops e q =
+      rw (accessing S x t formed, ← place-is, place-stops (d .meeting) (waysOf S (t .lines) (addressOf x)) (addressOf x) d e, q) (refusal-leaves (refusalMet (d .meeting)) (lent longs words marks))

@@ -1,0 +1,149 @@
+-- The course of an access whose place is known: refused by the queue or the miss table, or what becomes of the miss table.
+use mathlib.Core.Path.{_≡_}
+use Prim.Native.Nat.{ℕ, zero, suc, _+_, _<_}
+use mathlib.Core.Bool.{Bool, true, false, _&&_}
+use mathlib.Core.List.{List, [], _∷_}
+use lib.ListN.{length, getD, replicate}
+use lib.Dec.{ltb, leb}
+use Rattle.model.specs.Words.{pick, any}
+use Rattle.model.specs.Address.{addressOf, isRead, wellFormed, lineNumber}
+use Rattle.model.specs.Range.{linesOf}
+use Rattle.model.specs.Tables.{Entry, Tables, Outcome, refused, entryFor}
+use Rattle.model.specs.Lent.{Lent}
+use Rattle.model.specs.Probe.{Spot, at, probe, waysOf, dirtyLines}
+use Rattle.model.specs.Steps.{isMerge, isMiss, placesNeeded, accept, proceed}
+use Rattle.model.specs.Calls.{Leaves, encoded}
+use Rattle.model.specs.Inner.{Is}
+use Rattle.model.specs.declared.Settings.{Settings}
+use Rattle.model.specs.declared.Access.{Access}
+use Rattle.model.specs.declared.Access.the-variants.{Read, Write}
+use Rattle.model.specs.declared.Refusal.{Refusal}
+use Rattle.model.specs.declared.Refusal.the-variants.{SetBusy, SetHeld, QueueFull, EntryFull, MissTableFull}
+use Rattle.model.specs.declared.Told.{Told}
+use Rattle.probe.specs.declared.Meeting.{Meeting}
+use Rattle.probe.specs.declared.Meeting.the-variants as meeting
+use Rattle.probe.specs.declared.Decision.{Decision}
+use Rattle.probe.specs.Decided.{placeIs}
+use Rattle.tables.proofs.Misses.{noEntry}
+use Rattle.access.specs.declared.Course.{Course}
+use Rattle.access.specs.declared.Course.the-variants.{Refused, Stays, Joins, Starts}
+
+-- the place of the first entry for an address
+abbrev pub entryIndex : ℕ → List Entry → ℕ
+entryIndex a [] = 0
+entryIndex a (e ∷ es) = pick (entryFor a e) 0 (suc (entryIndex a es))
+
+abbrev pub ticketsAt : ℕ → List Entry → ℕ
+ticketsAt e es = length (getD es e noEntry .tickets)
+
+-- a ticket joins entry e, which has n, if one more fits
+abbrev pub joining : Settings → ℕ → ℕ → Course
+joining S e n = pick (leb (S .readers) n) (Refused EntryFull) (Joins e n)
+
+-- a new entry behind m others, if one more fits
+abbrev pub starting : Settings → ℕ → Course
+starting S m = pick (leb (S .entries) m) (Refused MissTableFull) (Starts m)
+
+abbrev pub courseOf : Settings → Access → Spot → Tables → Course
+courseOf S x p t =
+    pick (ltb (S .places) (length (t .queue) + placesNeeded x p)) (Refused QueueFull)
+    (pick (isRead x && isMerge (p .answer)) (joining S (entryIndex (addressOf x) (t .misses)) (ticketsAt (entryIndex (addressOf x) (t .misses)) (t .misses)))
+    (pick (isRead x && isMiss (p .answer)) (starting S (length (t .misses))) Stays))
+
+-- the outcome of a course
+abbrev pub following : Settings → Access → Spot → Tables → Course → Outcome Tables
+following S x p t (Refused n) = refused n
+following S x p t Stays = accept S x p t
+following S x p t (Joins e n) = accept S x p t
+following S x p t (Starts e) = accept S x p t
+
+-- the access x met the spot p of the tables t, which are in the slices L, as the decision d says
+pub record Met (S : Settings) (L : Lent) (x : Access) (d : Decision) (t : Tables) (p : Spot) : Type 0 where
+  pub is : Is S L t
+  pub formed : wellFormed x ≡ true
+  pub probed : probe S (dirtyLines t) (waysOf S (t .lines) (addressOf x)) x ≡ at p
+  pub decided : placeIs (waysOf S (t .lines) (addressOf x)) (addressOf x) d ≡ at p
+  pub numbered : d .line ≡ lineNumber S (addressOf x) (p .way)
+  pub way : d .way < S .ways
+  pub below : d .line < linesOf S
+  -- without a write-back its fields are zero
+  pub block : d .block ≡ pick (d .backs) (d .block) 0
+  pub masks : d .masks ≡ pick (d .backs) (d .masks) (replicate 4 0)
+
+-- some tables and spot are met
+pub record Meets (S : Settings) (L : Lent) (x : Access) (d : Decision) : Type 0 where
+  pub tables : Tables
+  pub spot : Spot
+  pub met : Met S L x d tables spot
+
+-- ---- what is known of the queue and of the miss table
+
+-- n queue places are in use
+pub record Counted (S : Settings) (L : Lent) (n : ℕ) : Type 0 where
+  pub on : (t : Tables) → Is S L t → n ≡ length (t .queue)
+
+-- the tables in the slices have an entry for the address
+pub record Entered (S : Settings) (L : Lent) (a : ℕ) : Type 0 where
+  pub tables : Tables
+  pub is : Is S L tables
+  pub entered : any (entryFor a) (tables .misses) ≡ true
+
+pub record Joining (S : Settings) (L : Lent) (a : ℕ) (r : Course) : Type 0 where
+  pub on : (t : Tables) → Is S L t → any (entryFor a) (t .misses) ≡ true → r ≡ joining S (entryIndex a (t .misses)) (ticketsAt (entryIndex a (t .misses)) (t .misses))
+
+pub record Starting (S : Settings) (L : Lent) (r : Course) : Type 0 where
+  pub on : (t : Tables) → Is S L t → r ≡ starting S (length (t .misses))
+
+pub record Planned (S : Settings) (L : Lent) (x : Access) (d : Decision) (r : Course) : Type 0 where
+  pub on : (t : Tables) (p : Spot) → Met S L x d t p → r ≡ courseOf S x p t
+
+-- ---- the act of an access that is not refused
+
+abbrev pub goes : Course → Bool
+goes (Refused n) = false
+goes Stays = true
+goes (Joins e n) = true
+goes (Starts e) = true
+
+-- the tables t, the spot p and the course are those of the access x, and n queue places are in use
+pub record Acts (S : Settings) (L : Lent) (x : Access) (d : Decision) (n : ℕ) (course : Course) (t : Tables) (p : Spot) : Type 0 where
+  pub met : Met S L x d t p
+  pub counted : n ≡ length (t .queue)
+  pub planned : course ≡ courseOf S x p t
+  pub going : goes course ≡ true
+
+pub record MayAct (S : Settings) (L : Lent) (x : Access) (d : Decision) (n : ℕ) (course : Course) : Type 0 where
+  pub tables : Tables
+  pub spot : Spot
+  pub acts : Acts S L x d n course tables spot
+
+pub record Acted (S : Settings) (L : Lent) (x : Access) (d : Decision) (n : ℕ) (course : Course) (r : Told) (M : Lent) : Type 0 where
+  pub on : (t : Tables) (p : Spot) → Acts S L x d n course t p → Leaves (encoded S (accept S x p t)) L r M
+
+-- an access whose place is decided
+pub record Offered (S : Settings) (L : Lent) (x : Access) (d : Decision) (r : Told) (M : Lent) : Type 0 where
+  pub on : (t : Tables) (p : Spot) → Met S L x d t p → Leaves (encoded S (proceed S x t (at p))) L r M
+
+abbrev pub ticketOf : Access → ℕ
+ticketOf (Read a m k) = k
+ticketOf (Write a m k) = k
+
+-- the refusal of a course that does not go; of the others none is asked
+abbrev pub refusalIn : Course → Refusal
+refusalIn (Refused n) = n
+refusalIn Stays = QueueFull
+refusalIn (Joins e n) = QueueFull
+refusalIn (Starts e) = QueueFull
+
+-- whether a meeting is a spot, and the refusal of one that is not
+abbrev pub isSpot : Meeting → Bool
+isSpot meeting.Met = true
+isSpot meeting.Taken = true
+isSpot meeting.Busy = false
+isSpot meeting.Held = false
+
+abbrev pub refusalMet : Meeting → Refusal
+refusalMet meeting.Met = SetHeld
+refusalMet meeting.Taken = SetHeld
+refusalMet meeting.Busy = SetBusy
+refusalMet meeting.Held = SetHeld

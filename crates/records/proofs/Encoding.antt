@@ -1,0 +1,108 @@
+-- Events and commands as bytes: what the code stores is what the definitions say, and how long it is.
+use mathlib.Core.Path.{_≡_, refl}
+use mathlib.Core.List.{List, [], _∷_, _++_}
+use Prim.Native.Nat.{ℕ, _+_, _≤_, _<_}
+use native.Mathlib.Nat.{mod-eq-of-lt}
+use lib.Dec.{lit≤}
+use lib.ListN.{length}
+use Rattle.records.specs.Stores.{Laid}
+use Rattle.model.specs.Numbers.{answerNumber, refusalNumber}
+use Rattle.model.specs.Records.{lengthOf, bytesOf, kindOf, eventBytes, commandKind, commandBytes}
+use Rattle.model.specs.declared.Answer.{Answer}
+use Rattle.model.specs.declared.Answer.the-variants.{Hit, HitReserved, Miss, SectorMiss}
+use Rattle.model.specs.declared.Refusal.{Refusal}
+use Rattle.model.specs.declared.Refusal.the-variants as refusal
+use Rattle.model.specs.declared.Event.{Event}
+use Rattle.model.specs.declared.Event.the-variants as ev
+use Rattle.model.specs.declared.Command.{Command}
+use Rattle.model.specs.declared.Command.the-variants as cmd
+
+pub answer-bytes : (a : Answer) (line : ℕ) {x : ℕ} → x ≡ answerNumber a → 0x10 ∷ x ∷ bytesOf 2 line ≡ eventBytes (ev.Answered a line)
+unfolding eventBytes bytesOf
+answer-bytes Hit line e = rw e
+answer-bytes HitReserved line e = rw e
+answer-bytes Miss line e = rw e
+answer-bytes SectorMiss line e = rw e
+
+pub refusal-bytes : (n : Refusal) {x : ℕ} → x ≡ refusalNumber n → 0x11 ∷ x ∷ [] ≡ eventBytes (ev.Refused n)
+unfolding eventBytes bytesOf
+refusal-bytes refusal.SettingOutOfRange e = rw e
+refusal-bytes refusal.SliceLength e = rw e
+refusal-bytes refusal.NotSound e = rw e
+refusal-bytes refusal.BadAccess e = rw e
+refusal-bytes refusal.SetBusy e = rw e
+refusal-bytes refusal.SetHeld e = rw e
+refusal-bytes refusal.QueueFull e = rw e
+refusal-bytes refusal.EntryFull e = rw e
+refusal-bytes refusal.MissTableFull e = rw e
+refusal-bytes refusal.NotSent e = rw e
+refusal-bytes refusal.BadCycle e = rw e
+refusal-bytes refusal.QueueEmpty e = rw e
+
+pub settings-bytes : (sets ways percent entries readers places : ℕ) → ways < 256 → percent < 256 → entries < 256 → readers < 256 → places < 256
+    → 0 ∷ (bytesOf 2 sets ++ (ways ∷ percent ∷ entries ∷ readers ∷ places ∷ []))
+    ≡ commandBytes (cmd.Settings sets ways percent entries readers places)
+unfolding commandBytes bytesOf
+settings-bytes sets ways percent entries readers places h1 h2 h3 h4 h5 =
+    rw (mod-eq-of-lt h1, mod-eq-of-lt h2, mod-eq-of-lt h3, mod-eq-of-lt h4, mod-eq-of-lt h5)
+
+-- ---- lengths
+
+-- a record is a byte of kind and the body that the table says
+pub event-length : (e : Event) → length (eventBytes e) ≡ 1 + lengthOf (kindOf e)
+unfolding eventBytes bytesOf lengthOf
+event-length (ev.Answered a line) = refl
+event-length (ev.Refused n) = refl
+event-length (ev.ReadQueued a) = refl
+event-length (ev.WriteBackQueued b m0 m1 m2 m3) = refl
+event-length (ev.Released t) = refl
+event-length (ev.ReadSent a) = refl
+event-length (ev.WriteBackSent b m0 m1 m2 m3) = refl
+event-length (ev.Filled a) = refl
+event-length ev.Ticked = refl
+
+pub command-length : (c : Command) → length (commandBytes c) ≡ 1 + lengthOf (commandKind c)
+unfolding commandBytes bytesOf lengthOf
+command-length (cmd.Settings sets ways percent entries readers places) = refl
+command-length (cmd.Read a k) = refl
+command-length (cmd.Write a m) = refl
+command-length cmd.Send = refl
+command-length (cmd.Fill a) = refl
+command-length (cmd.Tick c) = refl
+
+pub event-short : (e : Event) → length (eventBytes e) ≤ 25
+unfolding eventBytes bytesOf
+event-short (ev.Answered a line) = lit≤ tt
+event-short (ev.Refused n) = lit≤ tt
+event-short (ev.ReadQueued a) = lit≤ tt
+event-short (ev.WriteBackQueued b m0 m1 m2 m3) = lit≤ tt
+event-short (ev.Released t) = lit≤ tt
+event-short (ev.ReadSent a) = lit≤ tt
+event-short (ev.WriteBackSent b m0 m1 m2 m3) = lit≤ tt
+event-short (ev.Filled a) = lit≤ tt
+event-short ev.Ticked = lit≤ tt
+
+pub command-short : (c : Command) → length (commandBytes c) ≤ 13
+unfolding commandBytes bytesOf
+command-short (cmd.Settings sets ways percent entries readers places) = lit≤ tt
+command-short (cmd.Read a k) = lit≤ tt
+command-short (cmd.Write a m) = lit≤ tt
+command-short cmd.Send = lit≤ tt
+command-short (cmd.Fill a) = lit≤ tt
+command-short (cmd.Tick c) = lit≤ tt
+
+-- ---- an event and a command that are known by their case
+
+module _ {e f : Event} (at : ℕ) where
+  pub event-room : {n : ℕ} → at + length (eventBytes e) ≤ n → e ≡ f → at + length (eventBytes f) ≤ n
+  event-room h q = rw q at h
+
+  pub event-laid : {l m : List ℕ} {r : ℕ} → Laid l at (length (eventBytes f)) (eventBytes f) r m → e ≡ f → Laid l at (length (eventBytes e)) (eventBytes e) r m
+  event-laid u q = rw q u
+
+module _ {c d : Command} (at : ℕ) where
+  pub command-room : {n : ℕ} → at + length (commandBytes c) ≤ n → c ≡ d → at + length (commandBytes d) ≤ n
+  command-room h q = rw q at h
+
+  pub command-laid : {l m : List ℕ} {r : ℕ} → Laid l at (length (commandBytes d)) (commandBytes d) r m → c ≡ d → Laid l at (length (commandBytes c)) (commandBytes c) r m
+  command-laid u q = rw q u

@@ -1,0 +1,62 @@
+-- The constant table of lengths: its rule, by one computed test over the whole table; no kind is past it; the kinds of commands.
+use mathlib.Core.Path.{_≡_, refl, sym, _∙_}
+use mathlib.Core.Logic.{⊎-elim}
+use mathlib.Core.Bool.{Bool, true, false}
+use mathlib.Core.List.{List, [], _∷_, _++_}
+use Prim.Native.Nat.{ℕ, _≤_, _<_}
+use native.Mathlib.Omega.{arith}
+use borrow.Author.Tests.{ne-eqb, eqb-true, ltb-true, ltb-false}
+use lib.ListN.{getD}
+use lib.Dec.{eqb, ltb}
+use Rattle.model.specs.Words.{all, any, every, same}
+use Rattle.model.specs.Records.{Kind, commandKinds, eventKinds, bodyIn, lengthOf, isCommand}
+use Rattle.model.proofs.Flags.{and-1, and-2, flag, same-is}
+use Rattle.model.proofs.Below.{every-at}
+
+abbrev pub lengths : List ℕ
+lengths =
+    7 ∷ 12 ∷ 12 ∷ 0 ∷ 8 ∷ 4 ∷ 255 ∷ 255 ∷ 255 ∷ 255 ∷ 255 ∷ 255 ∷ 255 ∷ 255 ∷ 255 ∷ 255
+    ∷ 3 ∷ 1 ∷ 8 ∷ 24 ∷ 4 ∷ 8 ∷ 24 ∷ 8 ∷ 0 ∷ []
+
+abbrev ruled : ℕ → Bool
+ruled k = eqb (getD lengths k 0) (lengthOf k)
+
+lengths-ruled : every 25 ruled ≡ true
+unfolding lengthOf
+lengths-ruled = refl
+
+pub length-is : (k : ℕ) → k < 25 → getD lengths k 0 ≡ lengthOf k
+length-is k h = eqb-true (getD lengths k 0) (lengthOf k) (every-at ruled 25 k lengths-ruled h)
+
+-- ---- no kind is past the table
+
+below : ℕ → List Kind → Bool
+below n xs = all (λ x. ltb (x .kind) n) xs
+
+past : (n k : ℕ) (xs : List Kind) → below n xs ≡ true → n ≤ k → bodyIn k xs ≡ 255
+unfolding below
+past n k [] e h = refl
+past n k (x ∷ xs) e h =
+    let p : x .kind < n = ltb-true (x .kind) n (and-1 (ltb (x .kind) n) (below n xs) e) in
+    rw (ne-eqb k (x .kind) (λ q. omega arith)) (past n k xs (and-2 (ltb (x .kind) n) (below n xs) e) h)
+
+pub length-past : (k : ℕ) → 25 ≤ k → lengthOf k ≡ 255
+unfolding lengthOf below
+length-past k h = past 25 k (commandKinds ++ eventKinds) refl h
+
+-- ---- the kinds of commands
+
+none : (n k : ℕ) (xs : List Kind) → below n xs ≡ true → n ≤ k → any (λ x. eqb k (x .kind)) xs ≡ false
+unfolding below
+none n k [] e h = refl
+none n k (x ∷ xs) e h =
+    let p : x .kind < n = ltb-true (x .kind) n (and-1 (ltb (x .kind) n) (below n xs) e) in
+    rw (ne-eqb k (x .kind) (λ q. omega arith)) (none n k xs (and-2 (ltb (x .kind) n) (below n xs) e) h)
+
+pub command-kinds : (k : ℕ) → ltb k 6 ≡ isCommand k
+unfolding below
+command-kinds k =
+    ⊎-elim
+    (λ e. same-is (ltb k 6) (isCommand k) (every-at (λ i. same (ltb i 6) (isCommand i)) 6 k refl (ltb-true k 6 e)))
+    (λ e. e ∙ sym (none 6 k commandKinds refl (ltb-false k 6 e)))
+    (flag (ltb k 6))

@@ -1,0 +1,14 @@
+-- Laws of records: the table of lengths, reading a record, numbers as bytes, stores in a row, events and commands as bytes and back,
+-- the events of a call's value and how many bytes they are.
+pub mod Lengths
+pub mod Reading
+pub mod Digits
+pub mod Stores
+pub mod Encoding
+pub mod Decoding
+pub mod RoundTrip
+pub mod WholeRun
+pub mod Log
+pub mod Words
+pub mod Told
+pub mod Room

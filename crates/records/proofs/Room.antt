@@ -1,0 +1,202 @@
+-- How many bytes a call's events are: of any value, and of each step on tables.
+use mathlib.Core.Path.{_≡_, refl}
+use mathlib.Core.Bool.{Bool, true, false, _&&_, _||_}
+use mathlib.Core.List.{List, [], _∷_, _++_, map}
+use Prim.Native.Nat.{ℕ, _+_, _≤_}
+use native.Mathlib.Nat.{le-trans}
+use native.Mathlib.Omega.{arith}
+use borrow.Author.Tests.{le-leb, leb-true}
+use lib.Dec.{ltb, leb, lit≤}
+use lib.ListN.{length, getD, length-append}
+use Rattle.model.specs.Words.{pick, all, any}
+use Rattle.model.specs.Range.{inRange, within}
+use Rattle.model.specs.Address.{addressOf, isRead, blockOf, lineNumber, wellFormed}
+use Rattle.model.specs.Tables.{Line, Entry, Queued, reading, Tables, Outcome, refused, done, eventsOf, dirty, holds, entryFor, fresh}
+use Rattle.model.specs.Sound.{lastCycle, entryOk, sound}
+use Rattle.model.specs.Probe.{Spot, Place, no, at, waysOf, dirtyLines, first, victim, writeBack, takeOver, meet, probe}
+use Rattle.model.specs.Steps.{isMerge, isMiss, fetches, queues, queuedEvent, sentEvent, placesNeeded, accept, entryFull, proceed, access, afterSend, sendFrom, send, ticketsOf, afterFill, sentFor, fill, tick}
+use Rattle.model.specs.Calls.{eventsTold}
+use Rattle.model.specs.Records.{bytesOf, eventBytes, logBytes}
+use Rattle.model.specs.Runner.{stepOf}
+use Rattle.model.specs.declared.Settings.{Settings}
+use Rattle.model.specs.declared.Answer.{Answer}
+use Rattle.model.specs.declared.Refusal.{Refusal}
+use Rattle.model.specs.declared.Refusal.the-variants.{SettingOutOfRange, BadAccess, QueueFull, EntryFull, MissTableFull, NotSent, BadCycle, QueueEmpty}
+use Rattle.model.specs.declared.Access.{Access}
+use Rattle.model.specs.declared.Access.the-variants.{Read, Write}
+use Rattle.model.specs.declared.Found.{Found}
+use Rattle.model.specs.declared.Found.the-variants.{At, Nothing}
+use Rattle.model.specs.declared.Event.{Event}
+use Rattle.model.specs.declared.Event.the-variants.{Answered, Released, Filled, Ticked}
+use Rattle.model.specs.declared.Command.{Command}
+use Rattle.model.specs.declared.Command.the-variants as cmd
+use Rattle.model.specs.declared.Told.{Told}
+use Rattle.model.proofs.Flags.{and-1, and-2, by-flag}
+use Rattle.model.proofs.Lists.{all-in, in-all}
+use Rattle.records.proofs.Encoding.{event-short}
+use Rattle.records.proofs.Log.{log-append, released-length}
+use Rattle.records.proofs.Told.{told-length, size-most}
+
+-- ---- a value: its first event, a read, a write-back and eight tickets
+
+pub told-room : (t : Told) (k : ℕ) → length (eventBytes (t .first)) ≤ k → length (t .tickets) ≡ 8 → length (logBytes (eventsTold t)) ≤ k + 74
+told-room t k h e =
+    let n = told-length t in
+    let r = size-most (t .reads) 9 in
+    let b = size-most (t .backs) 25 in
+    omega arith
+
+-- ---- a log's length, event by event
+
+log-more : (e : Event) (es : List Event) → length (logBytes (e ∷ es)) ≡ length (eventBytes e) + length (logBytes es)
+unfolding logBytes
+log-more e es = length-append (eventBytes e) (logBytes es)
+
+-- ---- a refusal, and one event
+
+-- the events of an outcome take n bytes at most
+pub record Takes (n : ℕ) (o : Outcome Tables) : Type 0 where
+  pub most : length (logBytes (eventsOf o)) ≤ n
+
+pub refused-takes : (r : Refusal) → Takes 2 (refused r)
+unfolding logBytes eventBytes bytesOf
+refused-takes r = record { most = lit≤ tt }
+
+one-takes : (e : Event) (t : Tables) → Takes 25 (done (e ∷ []) t)
+unfolding logBytes
+one-takes e t = let n = log-more e [] in let h = event-short e in record { most = omega arith }
+
+takes-more : {m n : ℕ} {o : Outcome Tables} → Takes m o → m ≤ n → Takes n o
+takes-more h g = record { most = le-trans (h .most) g }
+
+refused-within : (n : ℕ) (r : Refusal) → 2 ≤ n → Takes n (refused r)
+refused-within n r h = takes-more (refused-takes r) h
+
+-- by a test
+takes-by : {n : ℕ} (b : Bool) {o p : Outcome Tables} → Takes n o → Takes n p → Takes n (pick b o p)
+takes-by true h g = h
+takes-by false h g = g
+
+-- ---- an access: its answer, a read, a write-back
+
+-- a probe gives one write-back at most
+Few : Place → Type 0
+Few (no r) = Unit
+Few (at p) = length (p .backs) ≤ 1
+
+backs-few : (l : Line) → length (writeBack l) ≤ 1
+backs-few l = by-flag (λ (q : List Queued). length q ≤ 1) (dirty l) _ [] (λ e. lit≤ tt) (λ e. lit≤ tt)
+
+probe-few : (S : Settings) (d : ℕ) (ways : List Line) (x : Access) → Few (probe S d ways x)
+unfolding probe Few
+probe-few S d ways x = met (first (holds (blockOf (addressOf x))) ways)
+  where
+    over : (f : Found) → Few (takeOver (addressOf x) ways f)
+    over Nothing = tt
+    over (At w) = backs-few (getD ways w fresh)
+
+    met : (f : Found) → Few (meet S d ways x f)
+    met Nothing = over (victim S d ways)
+    met (At w) = lit≤ tt
+
+queued-short : (qs : List Queued) → length qs ≤ 1 → length (logBytes (map queuedEvent qs)) ≤ 25
+unfolding logBytes
+queued-short [] h = lit≤ tt
+queued-short (q ∷ []) h = let n = log-more (queuedEvent q) [] in let e = event-short (queuedEvent q) in omega arith
+queued-short (q ∷ p ∷ qs) h = absurd (omega arith)
+
+fetch-short : (x : Access) (a : Answer) → length (logBytes (map queuedEvent (fetches x a))) ≤ 9
+unfolding logBytes eventBytes bytesOf
+fetch-short (Read a m k) n = by-flag (λ (q : List Queued). length (logBytes (map queuedEvent q)) ≤ 9) (isMiss n) (reading a ∷ []) [] (λ e. lit≤ tt) (λ e. lit≤ tt)
+fetch-short (Write a m k) n = lit≤ tt
+
+map-append : (ps qs : List Queued) → map queuedEvent (ps ++ qs) ≡ map queuedEvent ps ++ map queuedEvent qs
+map-append [] qs = refl
+map-append (p ∷ ps) qs = rw (map-append ps qs)
+
+accept-takes : (S : Settings) (x : Access) (p : Spot) (t : Tables) → length (p .backs) ≤ 1 → Takes 38 (accept S x p t)
+unfolding accept eventBytes bytesOf
+accept-takes S x p t h =
+    let f = fetch-short x (p .answer) in
+    let b = queued-short (p .backs) h in
+    let n = log-more (Answered (p .answer) (lineNumber S (addressOf x) (p .way))) (map queuedEvent (queues x p)) in
+    let q : length (logBytes (map queuedEvent (queues x p))) ≡ length (logBytes (map queuedEvent (fetches x (p .answer)))) + length (logBytes (map queuedEvent (p .backs))) =
+    rw (map-append, log-append, length-append) in
+    record { most = omega arith }
+
+proceed-takes : (S : Settings) (x : Access) (t : Tables) (p : Place) → Few p → Takes 38 (proceed S x t p)
+unfolding proceed Few
+proceed-takes S x t (no r) h = refused-within _ r (lit≤ tt)
+proceed-takes S x t (at p) h =
+    takes-by (ltb (S .places) (length (t .queue) + placesNeeded x p)) (refused-within _ QueueFull (lit≤ tt))
+    (takes-by (isRead x && isMerge (p .answer) && any (entryFull S (addressOf x)) (t .misses)) (refused-within _ EntryFull (lit≤ tt))
+    (takes-by (isRead x && isMiss (p .answer) && leb (S .entries) (length (t .misses))) (refused-within _ MissTableFull (lit≤ tt))
+    (accept-takes S x p t h)))
+
+pub access-takes : (S : Settings) (x : Access) (t : Tables) → Takes 38 (access S x t)
+unfolding access
+access-takes S x t =
+    takes-by (wellFormed x)
+    (proceed-takes S x t _ (probe-few S (dirtyLines t) (waysOf S (t .lines) (addressOf x)) x))
+    (refused-within _ BadAccess (lit≤ tt))
+
+-- ---- send, tick, fill
+
+pub send-takes : (t : Tables) → Takes 25 (send t)
+unfolding send
+send-takes t = from (t .queue)
+  where
+    from : (qs : List Queued) → Takes 25 (sendFrom qs t)
+    from [] = refused-within _ QueueEmpty (lit≤ tt)
+    from (q ∷ qs) = one-takes (sentEvent q) (afterSend q qs t)
+
+pub tick-takes : (c : ℕ) (t : Tables) → Takes 25 (tick c t)
+unfolding tick
+tick-takes c t =
+    takes-by (ltb c (t .now) || ltb lastCycle c) (refused-within _ BadCycle (lit≤ tt))
+    (one-takes Ticked record { lines = t .lines; misses = t .misses; queue = t .queue; now = c })
+
+tickets-few : (n a : ℕ) (es : List Entry) → all (λ e. leb (length (e .tickets)) n) es ≡ true → length (ticketsOf a es) ≤ n
+tickets-few n a [] h = omega arith
+tickets-few n a (e ∷ es) h =
+    by-flag (λ (ts : List ℕ). length ts ≤ n) (entryFor a e) (e .tickets) (ticketsOf a es)
+    (λ q. leb-true (length (e .tickets)) n (and-1 (leb (length (e .tickets)) n) _ h))
+    (λ q. tickets-few n a es (and-2 (leb (length (e .tickets)) n) _ h))
+
+pub fill-takes : (a : ℕ) (t : Tables) → all (λ e. leb (length (e .tickets)) 8) (t .misses) ≡ true → Takes 49 (fill a t)
+unfolding fill eventBytes bytesOf
+fill-takes a t h =
+    let k = tickets-few 8 a (t .misses) h in
+    let r = released-length (ticketsOf a (t .misses)) in
+    let n = log-more (Filled a) (map Released (ticketsOf a (t .misses))) in
+    let m : Takes 49 (done (Filled a ∷ map Released (ticketsOf a (t .misses))) (afterFill a t)) = record { most = omega arith } in
+    takes-by (any (sentFor a) (t .misses)) m (refused-within _ NotSent (lit≤ tt))
+
+-- ---- every step of a command on sound tables
+
+readers-most : (S : Settings) → inRange S ≡ true → S .readers ≤ 8
+unfolding inRange
+readers-most S e =
+    let w : within 1 8 (S .readers) ≡ true = search (and-1, and-2) depth 9 in
+    leb-true (S .readers) 8 (and-2 (leb 1 (S .readers)) (leb (S .readers) 8) w)
+
+entry-few : (S : Settings) (t : Tables) (e : Entry) → entryOk S t e ≡ true → length (e .tickets) ≤ S .readers
+unfolding entryOk
+entry-few S t e h =
+    let w : within 1 (S .readers) (length (e .tickets)) ≡ true = search (and-1, and-2) depth 9 in
+    leb-true (length (e .tickets)) (S .readers) (and-2 (leb 1 (length (e .tickets))) (leb (length (e .tickets)) (S .readers)) w)
+
+sound-few : (S : Settings) (t : Tables) → inRange S ≡ true → sound S t ≡ true → all (λ e. leb (length (e .tickets)) 8) (t .misses) ≡ true
+unfolding sound
+sound-few S t r h =
+    let m : all (entryOk S t) (t .misses) ≡ true = search (and-1, and-2) depth 9 in
+    in-all (λ e. leb (length (e .tickets)) 8) (t .misses)
+    (λ e i. le-leb (length (e .tickets)) 8 (le-trans (entry-few S t e (all-in (entryOk S t) (t .misses) m i)) (readers-most S r)))
+
+pub step-takes : (S : Settings) (c : Command) (t : Tables) → inRange S ≡ true → sound S t ≡ true → Takes 49 (stepOf S c t)
+step-takes S (cmd.Settings s w p m r q) t e h = refused-within _ SettingOutOfRange (lit≤ tt)
+step-takes S (cmd.Read a k) t e h = takes-more (access-takes S (Read a 0 k) t) (lit≤ tt)
+step-takes S (cmd.Write a m) t e h = takes-more (access-takes S (Write a m 0) t) (lit≤ tt)
+step-takes S cmd.Send t e h = takes-more (send-takes t) (lit≤ tt)
+step-takes S (cmd.Fill a) t e h = fill-takes a t (sound-few S t e h)
+step-takes S (cmd.Tick c) t e h = takes-more (tick-takes c t) (lit≤ tt)

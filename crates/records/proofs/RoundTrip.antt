@@ -1,0 +1,161 @@
+-- What is written reads back: an event and a command whose numbers fit, anywhere in a stream and where they were stored; a whole log.
+use mathlib.Core.Path.{_≡_, refl, sym, ap, _∙_}
+use mathlib.Core.List.{List, [], _∷_, _++_, append-assoc, append-nil}
+use Prim.Native.Nat.{ℕ, zero, suc, _+_, _≤_, _<_}
+use native.Mathlib.Omega.{arith}
+use borrow.Author.Tests.{le-ltb, lt-ltb}
+use lib.ListN.{length, getD, take, drop, length-append}
+use lib.Seq.{getD-append-seam, drop-append-add, take-append-seam, sets, sets-eq, length-take-le}
+use Rattle.model.specs.Records.{lengthOf, bytesOf, numberAt, kindOf, bodyBytes, eventBytes, logBytes, eventOf, eventAt, commandKind, commandBody, commandBytes, commandOf, commandAt, readAt, bodyAt, parsed, eventsFrom, eventsIn}
+use Rattle.model.specs.declared.Answer.the-variants.{Hit, HitReserved, Miss, SectorMiss}
+use Rattle.model.specs.declared.Refusal.the-variants as refusal
+use Rattle.model.specs.declared.Event.{Event}
+use Rattle.model.specs.declared.Event.the-variants as ev
+use Rattle.model.specs.declared.EventRead.the-variants as event
+use Rattle.model.specs.declared.Command.{Command}
+use Rattle.model.specs.declared.Command.the-variants as cmd
+use Rattle.model.specs.declared.CommandRead.the-variants as command
+use Rattle.model.specs.declared.Record.the-variants.{Whole}
+use Rattle.records.specs.Fitting.{Fitting, AllFitting, CommandFits}
+use Rattle.records.proofs.Digits.{number-bytes}
+use Rattle.records.proofs.Reading.{read-whole}
+use Rattle.records.proofs.Encoding.{event-length, event-short, command-length, command-short}
+use Rattle.records.proofs.Decoding.{event-whole, command-whole}
+
+-- ---- a body by itself
+
+body-back : (e : Event) → Fitting e → eventOf (kindOf e) (bodyBytes e) ≡ event.Got e
+unfolding eventOf bytesOf numberAt lengthOf
+body-back (ev.Answered Hit line) h = rw (number-bytes 2 line h)
+body-back (ev.Answered HitReserved line) h = rw (number-bytes 2 line h)
+body-back (ev.Answered Miss line) h = rw (number-bytes 2 line h)
+body-back (ev.Answered SectorMiss line) h = rw (number-bytes 2 line h)
+body-back (ev.Refused refusal.SettingOutOfRange) h = refl
+body-back (ev.Refused refusal.SliceLength) h = refl
+body-back (ev.Refused refusal.NotSound) h = refl
+body-back (ev.Refused refusal.BadAccess) h = refl
+body-back (ev.Refused refusal.SetBusy) h = refl
+body-back (ev.Refused refusal.SetHeld) h = refl
+body-back (ev.Refused refusal.QueueFull) h = refl
+body-back (ev.Refused refusal.EntryFull) h = refl
+body-back (ev.Refused refusal.MissTableFull) h = refl
+body-back (ev.Refused refusal.NotSent) h = refl
+body-back (ev.Refused refusal.BadCycle) h = refl
+body-back (ev.Refused refusal.QueueEmpty) h = refl
+body-back (ev.ReadQueued a) h = rw (number-bytes 8 a h)
+body-back (ev.WriteBackQueued b m0 m1 m2 m3) h =
+    rw (number-bytes 8 b (h .block), number-bytes 4 m0 (h .mask0), number-bytes 4 m1 (h .mask1), number-bytes 4 m2 (h .mask2), number-bytes 4 m3 (h .mask3))
+body-back (ev.Released t) h = rw (number-bytes 4 t h)
+body-back (ev.ReadSent a) h = rw (number-bytes 8 a h)
+body-back (ev.WriteBackSent b m0 m1 m2 m3) h =
+    rw (number-bytes 8 b (h .block), number-bytes 4 m0 (h .mask0), number-bytes 4 m1 (h .mask1), number-bytes 4 m2 (h .mask2), number-bytes 4 m3 (h .mask3))
+body-back (ev.Filled a) h = rw (number-bytes 8 a h)
+body-back ev.Ticked h = refl
+
+command-body-back : (c : Command) → CommandFits c → commandOf (commandKind c) (commandBody c) ≡ command.Got c
+unfolding commandOf bytesOf numberAt lengthOf
+command-body-back (cmd.Settings s w p m r q) h =
+    rw (number-bytes 2 s (h .sets), number-bytes 1 w (h .ways), number-bytes 1 p (h .percent), number-bytes 1 m (h .entries), number-bytes 1 r (h .readers), number-bytes 1 q (h .places))
+command-body-back (cmd.Read a k) h = rw (number-bytes 8 a (h .0), number-bytes 4 k (h .1))
+command-body-back (cmd.Write a m) h = rw (number-bytes 8 a (h .0), number-bytes 4 m (h .1))
+command-body-back cmd.Send h = refl
+command-body-back (cmd.Fill a) h = rw (number-bytes 8 a h)
+command-body-back (cmd.Tick c) h = rw (number-bytes 4 c h)
+
+-- ---- a record anywhere in a stream: p before it, q after it
+
+module _ (p q : List ℕ) (k : ℕ) (bs : List ℕ) (sized : length bs ≡ lengthOf k) (short : length bs ≤ 24) where
+  abbrev stream : List ℕ
+  stream = p ++ (k ∷ (bs ++ q))
+
+  pub record-read : readAt stream (length p) ≡ Whole k (length p + 1) (length bs) (length p + 1 + length bs)
+  record-read =
+      let here : length p < length stream = simp length-append (omega arith) in
+      let g : getD stream (length p) 0 ≡ k = getD-append-seam p k (bs ++ q) 0 in
+      let f : length stream ≡ length p + suc (length bs + length q) = simp length-append in
+      sym (read-whole stream (length p) (length bs) here (sized ∙ ap lengthOf (sym g)) (λ z. omega arith) (omega arith))
+      ∙ ap (λ (x : ℕ). Whole x (length p + 1) (length bs) (length p + 1 + length bs)) g
+
+  pub record-body : bodyAt stream (length p) ≡ bs
+  unfolding bodyAt
+  record-body = rw record-read (ap (take (length bs)) (drop-append-add p (k ∷ (bs ++ q)) 1) ∙ take-append-seam bs q)
+
+-- a body is as long as the table says, and no body is as long as the table's mark
+abbrev Sized : ℕ → List ℕ → Type 0
+Sized k bs = (length bs ≡ lengthOf k) × (length bs ≤ 24)
+
+event-sized : (e : Event) → Sized (kindOf e) (bodyBytes e)
+unfolding eventBytes
+event-sized e = let n = event-length e in let s = event-short e in (omega arith, omega arith)
+
+command-sized : (c : Command) → Sized (commandKind c) (commandBody c)
+unfolding commandBytes
+command-sized c = let n = command-length c in let s = command-short c in (omega arith, omega arith)
+
+pub event-back : (p q : List ℕ) (e : Event) → Fitting e → eventAt (p ++ (eventBytes e ++ q)) (length p) ≡ event.Got e
+unfolding eventBytes
+event-back p q e h =
+    let z = event-sized e in
+    sym (event-whole (p ++ (kindOf e ∷ (bodyBytes e ++ q))) (length p) _ _ _ _ (record-read p q (kindOf e) (bodyBytes e) (z .0) (z .1)))
+    ∙ ap (eventOf (kindOf e)) (record-body p q (kindOf e) (bodyBytes e) (z .0) (z .1))
+    ∙ body-back e h
+
+pub command-back : (p q : List ℕ) (c : Command) → CommandFits c → commandAt (p ++ (commandBytes c ++ q)) (length p) ≡ command.Got c
+unfolding commandBytes
+command-back p q c h =
+    let z = command-sized c in
+    sym (command-whole (p ++ (commandKind c ∷ (commandBody c ++ q))) (length p) _ _ _ _ (record-read p q (commandKind c) (commandBody c) (z .0) (z .1)))
+    ∙ ap (commandOf (commandKind c)) (record-body p q (commandKind c) (commandBody c) (z .0) (z .1))
+    ∙ command-body-back c h
+
+-- ---- where it was stored
+
+module _ (l : List ℕ) (at : ℕ) (bs : List ℕ) (fits : at + length bs ≤ length l) where
+  stored-split : sets l at bs ≡ take at l ++ (bs ++ drop (at + length bs) l)
+  stored-split = sets-eq bs l at fits ∙ append-assoc (take at l) bs (drop (at + length bs) l)
+
+  stored-at : length (take at l) ≡ at
+  stored-at = length-take-le at l (omega arith)
+
+pub event-stored : (l : List ℕ) (at : ℕ) (e : Event) → Fitting e → at + length (eventBytes e) ≤ length l → eventAt (sets l at (eventBytes e)) at ≡ event.Got e
+event-stored l at e h g =
+    ap (λ (s : List ℕ). eventAt s at) (stored-split l at (eventBytes e) g)
+    ∙ ap (eventAt (take at l ++ (eventBytes e ++ drop (at + length (eventBytes e)) l))) (sym (stored-at l at (eventBytes e) g))
+    ∙ event-back (take at l) (drop (at + length (eventBytes e)) l) e h
+
+pub command-stored : (l : List ℕ) (at : ℕ) (c : Command) → CommandFits c → at + length (commandBytes c) ≤ length l
+    → commandAt (sets l at (commandBytes c)) at ≡ command.Got c
+command-stored l at c h g =
+    ap (λ (s : List ℕ). commandAt s at) (stored-split l at (commandBytes c) g)
+    ∙ ap (commandAt (take at l ++ (commandBytes c ++ drop (at + length (commandBytes c)) l))) (sym (stored-at l at (commandBytes c) g))
+    ∙ command-back (take at l) (drop (at + length (commandBytes c)) l) c h
+
+-- ---- a log
+
+-- the record behind an event begins where the event's bytes end
+event-next : (p q : List ℕ) (e : Event) → readAt (p ++ (eventBytes e ++ q)) (length p) ≡ Whole (kindOf e) (length p + 1) (length (bodyBytes e)) (length (p ++ eventBytes e))
+unfolding eventBytes
+event-next p q e =
+    let z = event-sized e in
+    let f : length p + 1 + length (bodyBytes e) ≡ length (p ++ (kindOf e ∷ bodyBytes e)) = simp length-append (omega arith) in
+    record-read p q (kindOf e) (bodyBytes e) (z .0) (z .1) ∙ ap (λ (x : ℕ). Whole (kindOf e) (length p + 1) (length (bodyBytes e)) x) f
+
+event-more : (e : Event) (q : List ℕ) → length (eventBytes e ++ q) ≡ suc (length (bodyBytes e) + length q)
+unfolding eventBytes
+event-more e q = ap suc (length-append (bodyBytes e) q)
+
+log-from : (es : List Event) (n : ℕ) (p : List ℕ) → AllFitting es → length (logBytes es) ≤ n → eventsFrom n (p ++ logBytes es) (length p) ≡ parsed es
+unfolding eventsFrom logBytes
+log-from [] zero p h g = rw (append-nil, le-ltb (length p) (length p) (omega arith))
+log-from [] (suc n) p h g = rw (append-nil, le-ltb (length p) (length p) (omega arith))
+log-from (e ∷ es) zero p h g = let l = event-more e (logBytes es) in absurd (let w : ⊥ = omega arith in w)
+log-from (e ∷ es) (suc n) p h g =
+    let l = event-more e (logBytes es) in
+    let i : length p < length (p ++ (eventBytes e ++ logBytes es)) = rw length-append (omega arith) in
+    let r : eventsFrom n (p ++ (eventBytes e ++ logBytes es)) (length (p ++ eventBytes e)) ≡ parsed es =
+    rw append-assoc at (log-from es n (p ++ eventBytes e) (h .1) (omega arith)) in
+    rw (lt-ltb (length p) (length (p ++ (eventBytes e ++ logBytes es))) i, event-back p (logBytes es) e (h .0), event-next p (logBytes es) e, r)
+
+pub log-back : (es : List Event) → AllFitting es → eventsIn (logBytes es) ≡ parsed es
+unfolding eventsIn
+log-back es h = log-from es (length (logBytes es)) [] h (omega arith)

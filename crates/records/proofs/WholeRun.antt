@@ -1,0 +1,54 @@
+-- "A whole run": the commands of document 01's example as bytes, and its 45 bytes of events, both ways; a stream that stops.
+use mathlib.Core.Path.{_≡_, refl}
+use mathlib.Core.List.{List, [], _∷_, _++_}
+use Prim.Native.Nat.{ℕ}
+use lib.ListN.{length}
+use Rattle.model.specs.Records.{lengthOf, bytesOf, numberAt, eventBytes, logBytes, eventOf, eventAt, commandBytes, commandOf, commandAt, readAt, eventsFrom, eventsIn, parsed}
+use Rattle.model.specs.declared.Answer.the-variants.{HitReserved, Miss}
+use Rattle.model.specs.declared.Event.{Event}
+use Rattle.model.specs.declared.Event.the-variants as ev
+use Rattle.model.specs.declared.Command.the-variants as cmd
+use Rattle.model.specs.declared.CommandRead.the-variants as command
+use Rattle.model.specs.declared.Stop.the-variants.{UnknownKind, CutShort}
+use Rattle.model.specs.declared.Record.the-variants.{Whole, Stopped}
+
+abbrev told : List Event
+told = ev.Answered Miss 1 ∷ ev.ReadQueued 0 ∷ ev.Answered HitReserved 1 ∷ ev.ReadSent 0 ∷ ev.Filled 0 ∷ ev.Released 7 ∷ ev.Released 9 ∷ []
+
+abbrev written : List ℕ
+written =
+    0x10 ∷ 3 ∷ 1 ∷ 0 ∷ 0x12 ∷ 0 ∷ 0 ∷ 0 ∷ 0 ∷ 0 ∷ 0 ∷ 0 ∷ 0 ∷ 0x10 ∷ 2 ∷ 1 ∷ 0 ∷ 0x15 ∷ 0 ∷ 0 ∷ 0 ∷ 0 ∷ 0 ∷ 0 ∷ 0 ∷ 0
+    ∷ 0x17 ∷ 0 ∷ 0 ∷ 0 ∷ 0 ∷ 0 ∷ 0 ∷ 0 ∷ 0 ∷ 0x14 ∷ 7 ∷ 0 ∷ 0 ∷ 0 ∷ 0x14 ∷ 9 ∷ 0 ∷ 0 ∷ 0 ∷ []
+
+run-written : logBytes told ≡ written
+unfolding logBytes eventBytes bytesOf
+run-written = refl
+
+run-long : length written ≡ 45
+run-long = refl
+
+run-read : eventsIn written ≡ parsed told
+unfolding eventsIn eventsFrom eventAt readAt eventOf lengthOf numberAt
+run-read = refl
+
+abbrev commands : List ℕ
+commands =
+    commandBytes (cmd.Settings 1 2 50 2 2 4)
+    ++ (commandBytes (cmd.Read 0 7) ++ (commandBytes (cmd.Read 0 9) ++ (commandBytes cmd.Send ++ (commandBytes (cmd.Fill 0) ++ (0x12 ∷ 6 ∷ [])))))
+
+-- the commands one after the other; then an event's kind with its body cut short, and a kind in neither list
+abbrev Commands-read : Type 0
+Commands-read =
+    (commandAt commands 0 ≡ command.Got (cmd.Settings 1 2 50 2 2 4))
+    × (commandAt commands 8 ≡ command.Got (cmd.Read 0 7))
+    × (commandAt commands 21 ≡ command.Got (cmd.Read 0 9))
+    × (commandAt commands 34 ≡ command.Got cmd.Send)
+    × (commandAt commands 35 ≡ command.Got (cmd.Fill 0))
+    × (readAt commands 35 ≡ Whole 4 36 8 44)
+    × (readAt commands 44 ≡ Stopped CutShort)
+    × (readAt commands 45 ≡ Stopped UnknownKind)
+    × (readAt commands 46 ≡ Stopped CutShort)
+
+commands-read : Commands-read
+unfolding commandBytes bytesOf commandAt commandOf readAt lengthOf numberAt
+commands-read = (refl, refl, refl, refl, refl, refl, refl, refl, refl)

@@ -1,0 +1,47 @@
+-- Events and commands whose numbers fit the bytes that document 01 gives them.
+use Prim.Native.Nat.{ℕ, _^_, _<_}
+use mathlib.Core.List.{List, [], _∷_}
+use Rattle.model.specs.declared.Event.{Event}
+use Rattle.model.specs.declared.Event.the-variants as ev
+use Rattle.model.specs.declared.Command.{Command}
+use Rattle.model.specs.declared.Command.the-variants as cmd
+
+-- block 8 bytes, masks 4 each
+pub record WriteBackFits (b m0 m1 m2 m3 : ℕ) : Type 0 where
+  pub block : b < 2 ^ 64
+  pub mask0 : m0 < 2 ^ 32
+  pub mask1 : m1 < 2 ^ 32
+  pub mask2 : m2 < 2 ^ 32
+  pub mask3 : m3 < 2 ^ 32
+
+abbrev pub Fitting : Event → Type 0
+Fitting (ev.Answered a line) = line < 2 ^ 16
+Fitting (ev.Refused n) = Unit
+Fitting (ev.ReadQueued a) = a < 2 ^ 64
+Fitting (ev.WriteBackQueued b m0 m1 m2 m3) = WriteBackFits b m0 m1 m2 m3
+Fitting (ev.Released t) = t < 2 ^ 32
+Fitting (ev.ReadSent a) = a < 2 ^ 64
+Fitting (ev.WriteBackSent b m0 m1 m2 m3) = WriteBackFits b m0 m1 m2 m3
+Fitting (ev.Filled a) = a < 2 ^ 64
+Fitting ev.Ticked = Unit
+
+abbrev pub AllFitting : List Event → Type 0
+AllFitting [] = Unit
+AllFitting (e ∷ es) = Fitting e × AllFitting es
+
+-- sets 2 bytes, the other settings 1 each
+pub record SettingsFit (s w p m r q : ℕ) : Type 0 where
+  pub sets : s < 2 ^ 16
+  pub ways : w < 2 ^ 8
+  pub percent : p < 2 ^ 8
+  pub entries : m < 2 ^ 8
+  pub readers : r < 2 ^ 8
+  pub places : q < 2 ^ 8
+
+abbrev pub CommandFits : Command → Type 0
+CommandFits (cmd.Settings sets ways percent entries readers places) = SettingsFit sets ways percent entries readers places
+CommandFits (cmd.Read a k) = (a < 2 ^ 64) × (k < 2 ^ 32)
+CommandFits (cmd.Write a m) = (a < 2 ^ 64) × (m < 2 ^ 32)
+CommandFits cmd.Send = Unit
+CommandFits (cmd.Fill a) = a < 2 ^ 64
+CommandFits (cmd.Tick c) = c < 2 ^ 32

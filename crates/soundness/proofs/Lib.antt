@@ -1,0 +1,9 @@
+pub mod Tests
+pub mod OfRange
+pub mod FineLines
+pub mod OfLines
+pub mod OfSectors
+pub mod OfMisses
+pub mod OfQueue
+pub mod OfTables
+pub mod Verdicts

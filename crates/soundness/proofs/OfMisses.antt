@@ -1,0 +1,73 @@
+-- What the functions of the miss table answer, of what their callees ensure.
+use mathlib.Core.Path.{_≡_, refl, sym, _∙_}
+use mathlib.Core.Bool.{Bool, true, false, not, _&&_}
+use mathlib.Core.List.{List}
+use Prim.Native.Nat.{ℕ, _+_, _*_, _/_, _%_, _≤_, _<_}
+use native.Mathlib.Nat.{div-lt-iff-lt-mul, mul-comm}
+use native.Mathlib.Omega.{arith}
+use lib.Dec.{eqb, leb}
+use borrow.Author.Tests.{eqb-true, eq-eqb, ne-eqb, le-leb}
+use Rattle.model.specs.declared.Settings.{Settings}
+use Rattle.model.specs.Words.{some, countBelow}
+use Rattle.model.specs.Address.{blockOf, sectorIndex, setIndex}
+use Rattle.model.specs.Lent.{tagAt, statusAt, missAt, sentAt, ticketCountAt, ticketAt}
+use Rattle.model.specs.SoundLent.{linesFine, entryFor, readFor, reservedFor, ticketFine, entryFine}
+use Rattle.model.proofs.Flags.{and-1, and-2, iff}
+use Rattle.soundness.proofs.Tests.{not-but, some-same}
+use Rattle.soundness.proofs.FineLines.{reserved-short, own-set-reserves}
+
+-- the entry of a ticket place
+pub entry-below : (S : Settings) (i : ℕ) → 1 ≤ S .readers → i < S .readers * S .entries → i / S .readers < S .entries
+entry-below S i pos h = div-lt-iff-lt-mul pos .1 (rw mul-comm at h)
+
+-- an unused entry's sent mark is 0, so it is at most 1
+unused-shape : (w m : ℕ) (a : Bool) → (a && eqb m 0) ≡ (leb 0 w && leb m 1 && (a && eqb m 0) && true && true && true)
+unused-shape w m a = iff up (λ e. and-2 (leb 0 w && leb m 1) _ (and-1 _ true (and-1 _ true (and-1 _ true e))))
+  where
+    up : (a && eqb m 0) ≡ true → (leb 0 w && leb m 1 && (a && eqb m 0) && true && true && true) ≡ true
+    up e =
+        let z : m ≡ 0 = eqb-true m 0 (and-2 a _ e) in
+        rw (le-leb 0 w (omega arith), le-leb m 1 (omega arith), e)
+
+used-shape : (few mark even held alone asked : Bool) → (few && mark && even && held && alone && asked) ≡ (few && mark && true && (even && held) && alone && asked)
+used-shape false mark even held alone asked = refl
+used-shape true false even held alone asked = refl
+used-shape true true false held alone asked = refl
+used-shape true true true held alone asked = refl
+
+and-yes : (a : Bool) → a ≡ (a && true)
+and-yes true = refl
+and-yes false = refl
+
+module _ (S : Settings) (longs words marks : List ℕ) where
+  pub ticket-kept : (i k : ℕ) → k ≡ ticketCountAt S marks (i / S .readers) → not (leb k (i % S .readers) && not (eqb (ticketAt S words i) 0)) ≡ ticketFine S longs words marks i
+  ticket-kept i k e = rw e (not-but (leb (ticketCountAt S marks (i / S .readers)) (i % S .readers)) _)
+
+  -- the lines of a set from `first` on, asked for a block and a sector
+  pub set-asked : (a first n block sector : ℕ) → block ≡ blockOf a → sector ≡ sectorIndex a
+      → some n (λ w. eqb (tagAt longs (first + w)) block && eqb (statusAt marks (4 * (first + w) + sector)) 1) ≡ some n (λ w. reservedFor S longs words marks a (first + w))
+  set-asked a first n block sector b s =
+      some-same (λ w. eqb (tagAt longs (first + w)) block && eqb (statusAt marks (4 * (first + w) + sector)) 1) (λ w. reservedFor S longs words marks a (first + w))
+      (λ w. rw (b, s) (reserved-short S longs words marks a (first + w))) n
+
+  module _ (e k m a : ℕ) (count : k ≡ ticketCountAt S marks e) (mark : m ≡ sentAt S marks e) (address : a ≡ missAt S longs e) where
+    pub unused-entry : k ≡ 0 → (eqb a 0 && eqb m 0) ≡ entryFine S longs words marks e
+    unused-entry z =
+        let q : ticketCountAt S marks e ≡ 0 = sym count ∙ z in
+        rw (address, mark, q) (unused-shape (S .readers) (sentAt S marks e) (eqb (missAt S longs e) 0))
+
+    module _ (fine : linesFine S longs words marks ≡ true) (sets : 1 ≤ S .sets) (ways : 1 ≤ S .ways) (used : k ≡ 0 → ⊥) (held other : Bool)
+        (holds : held ≡ some (S .ways) (λ w. reservedFor S longs words marks a (setIndex S a * S .ways + w)))
+        (others : other ≡ some e (entryFor S longs words marks a)) where
+      abbrev named : Bool
+      named = leb k (S .readers) && leb m 1 && eqb (a % 32) 0 && held && not other
+
+      pub sent-entry : (m ≡ 0 → ⊥) → named ≡ entryFine S longs words marks e
+      sent-entry f =
+          rw (← count, ← mark, ← address, own-set-reserves S longs words marks fine a sets ways, ← holds, ← others, ne-eqb k 0 used, ne-eqb m 0 f)
+          (and-yes named ∙ used-shape (leb k (S .readers)) (leb m 1) (eqb (a % 32) 0) held (not other) true)
+
+      pub unsent-entry : (n : ℕ) → m ≡ 0 → n ≡ countBelow (S .places) (readFor S longs words marks a) → (named && eqb n 1) ≡ entryFine S longs words marks e
+      unsent-entry n z r =
+          rw (← count, ← mark, ← address, own-set-reserves S longs words marks fine a sets ways, ← holds, ← others, ← r, ne-eqb k 0 used, eq-eqb m 0 z)
+          (used-shape (leb k (S .readers)) (leb m 1) (eqb (a % 32) 0) held (not other) (eqb n 1))

@@ -1,0 +1,42 @@
+-- What `tables_sound` answers, of what the checks of each part ensure.
+use mathlib.Core.Path.{_≡_, sym, _∙_}
+use mathlib.Core.Bool.{Bool, true, false, not, _&&_}
+use mathlib.Core.List.{List}
+use Prim.Native.Nat.{ℕ, _*_}
+use lib.Dec.{leb}
+use Rattle.model.specs.declared.Settings.{Settings}
+use Rattle.model.specs.Words.{every}
+use Rattle.model.specs.Range.{linesOf}
+use Rattle.model.specs.Sound.{lastCycle}
+use Rattle.model.specs.Lent.{nowAt, ticketCountAt, kindAt}
+use Rattle.model.specs.SoundLent.{gathered, nowFine, linesFine, sectorFine, ticketFine, entryFine, placeFine, soundNumbers}
+use Rattle.model.proofs.Flags.{and-2, not-yes, no-not}
+
+module _ (S : Settings) (longs words marks : List ℕ) (r : Bool) (lines : r ≡ linesFine S longs words marks) where
+  abbrev first : Bool
+  first = leb (nowAt words) lastCycle && r
+
+  firstly : first ≡ (nowFine S longs words marks && linesFine S longs words marks)
+  firstly = rw lines
+
+  pub unsound : not first ≡ true → false ≡ soundNumbers S longs words marks
+  unfolding soundNumbers
+  unsound t = let h = sym firstly ∙ not-yes {b = first} t in rw h
+
+  module _ (t : not first ≡ false) where
+    yes : (nowFine S longs words marks && linesFine S longs words marks) ≡ true
+    yes = sym firstly ∙ no-not {b = first} t
+
+    pub lines-yes : linesFine S longs words marks ≡ true
+    lines-yes = and-2 (nowFine S longs words marks) _ yes
+
+    pub rest : {a b c d e f : Bool}
+        → a ≡ every (4 * linesOf S) (sectorFine S longs words marks)
+        → b ≡ every (S .readers * S .entries) (ticketFine S longs words marks)
+        → c ≡ gathered (S .entries) (ticketCountAt S marks)
+        → d ≡ every (S .entries) (entryFine S longs words marks)
+        → e ≡ gathered (S .places) (kindAt S marks)
+        → f ≡ every (S .places) (placeFine S longs words marks)
+        → (a && b && c && d && e && f) ≡ soundNumbers S longs words marks
+    unfolding soundNumbers
+    rest qa qb qc qd qe qf = rw (yes, qa, qb, qc, qd, qe, qf)

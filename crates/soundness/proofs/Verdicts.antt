@@ -1,0 +1,81 @@
+-- What the verdict of `check` tells: which refusal, and what holds if there is none.
+use mathlib.Core.Path.{_≡_, refl, sym}
+use mathlib.Core.Bool.{Bool, true, false}
+use mathlib.Core.List.{List, []}
+use Prim.Native.Nat.{ℕ}
+use native.Mathlib.Omega.{arith}
+use lib.Dec.{eqb}
+use lib.ListN.{length}
+use borrow.Author.Tests.{eqb-true}
+use Rattle.model.specs.declared.Settings.{Settings}
+use Rattle.model.specs.declared.Refusal.{Refusal}
+use Rattle.model.specs.declared.Refusal.the-variants.{SettingOutOfRange, SliceLength, NotSound}
+use Rattle.model.specs.declared.Verdict.the-variants.{Passed, Refused}
+use Rattle.model.specs.Words.{pick}
+use Rattle.model.specs.Range.{inRange, longsLength, wordsLength, marksLength}
+use Rattle.model.specs.Tables.{Tables, Outcome, refused, done}
+use Rattle.model.specs.Lent.{Lent, lent, lengthsFit, tablesOf}
+use Rattle.model.specs.SoundLent.{soundLent}
+use Rattle.model.specs.Calls.{encoded, call, checkCall, verdictOf}
+use Rattle.model.specs.Inner.{Fit}
+use Rattle.model.proofs.Flags.{and-1, and-2}
+use Rattle.model.proofs.Fits.{fit}
+
+-- the three checks in front of an outcome
+abbrev checked : Bool → Bool → Bool → Outcome Lent → Outcome Lent
+checked r l s o = pick r (pick l (pick s o (refused NotSound)) (refused SliceLength)) (refused SettingOutOfRange)
+
+never : {X : Type 0} {n : Refusal} → Refused n ≡ Passed → X
+never e = let z : _≡_ {A = ℕ} 0 1 = cc in absurd (omega arith)
+
+all-pass : (r l s : Bool) (L : Lent) → verdictOf (checked r l s (done [] L)) ≡ Passed → (r ≡ true) × (l ≡ true) × (s ≡ true)
+all-pass true true true L e = (refl, refl, refl)
+all-pass true true false L e = never e
+all-pass true false s L e = never e
+all-pass false l s L e = never e
+
+first-refuses : (r l s : Bool) (L : Lent) (o : Outcome Lent) (n : Refusal) → verdictOf (checked r l s (done [] L)) ≡ Refused n → checked r l s o ≡ refused n
+first-refuses true true true L o n e = never (sym e)
+first-refuses true true false L o n e = cc
+first-refuses true false s L o n e = cc
+first-refuses false l s L o n e = cc
+
+module _ (S : Settings) (L : Lent) where
+  -- ---- what the verdict is
+
+  pub setting-refused : inRange S ≡ false → Refused SettingOutOfRange ≡ verdictOf (checkCall S L)
+  setting-refused r = rw r
+
+  pub length-refused : inRange S ≡ true → lengthsFit S L ≡ false → Refused SliceLength ≡ verdictOf (checkCall S L)
+  length-refused r l = rw (r, l)
+
+  pub unsound-refused : inRange S ≡ true → lengthsFit S L ≡ true → soundLent S L ≡ false → Refused NotSound ≡ verdictOf (checkCall S L)
+  unsound-refused r l s = rw (r, l, s)
+
+  pub none-refused : inRange S ≡ true → lengthsFit S L ≡ true → soundLent S L ≡ true → Passed ≡ verdictOf (checkCall S L)
+  none-refused r l s = rw (r, l, s)
+
+  -- ---- what it tells
+
+  pub passed-is : verdictOf (checkCall S L) ≡ Passed → (inRange S ≡ true) × (lengthsFit S L ≡ true) × (soundLent S L ≡ true)
+  passed-is e = all-pass (inRange S) (lengthsFit S L) (soundLent S L) L e
+
+  -- a call then does its step
+  pub passed-call : verdictOf (checkCall S L) ≡ Passed → (step : Tables → Outcome Tables) → call S step L ≡ encoded S (step (tablesOf S L))
+  unfolding call
+  passed-call e step = let (r, l, s) = passed-is e in rw (r, l, s)
+
+  pub refused-is : (n : Refusal) → verdictOf (checkCall S L) ≡ Refused n → (step : Tables → Outcome Tables) → call S step L ≡ refused n
+  unfolding call
+  refused-is n e step = first-refuses (inRange S) (lengthsFit S L) (soundLent S L) L (encoded S (step (tablesOf S L))) n e
+
+-- what `tables_sound` asks
+pub lengths-fit : (S : Settings) (longs words marks : List ℕ) → inRange S ≡ true → lengthsFit S (lent longs words marks) ≡ true → Fit S longs words marks
+lengths-fit S longs words marks r e =
+    let l : eqb (length longs) (longsLength S) ≡ true = search (and-1, and-2) in
+    let w : eqb (length words) (wordsLength S) ≡ true = search (and-1, and-2) in
+    let m : eqb (length marks) (marksLength S) ≡ true = search (and-1, and-2) in
+    fit S longs words marks (r, eqb-true _ _ l, eqb-true _ _ w, eqb-true _ _ m)
+
+pub passed-fit : (S : Settings) (longs words marks : List ℕ) → verdictOf (checkCall S (lent longs words marks)) ≡ Passed → Fit S longs words marks
+passed-fit S longs words marks e = let (r, l, s) = passed-is S (lent longs words marks) e in lengths-fit S longs words marks r l

@@ -1,0 +1,28 @@
+use mathlib.Core.Path.{refl}
+use native.Mathlib.Omega.{arith}
+use borrow.Author.Needs.{needs}
+use Prim.Native.Nat.{_-_}
+use Rattle.model.specs.Range.{linesOf}
+use Rattle.model.specs.SoundLent as is
+use Rattle.model.proofs.Below.{Passed, passed-stop, passed-more, passed-end}
+use Rattle.soundness.proofs.lines.lines_fine.Statement.{statement}
+use Rattle.soundness.proofs.lines.lines_fine.Tie as tie
+
+abbrev Inv-loop : tie.InvT-loop
+Inv-loop s longs words marks n l₀ l = Passed (is.lineFine s longs words marks) (linesOf s) l
+
+abbrev μ-loop : tie.MeasureT-loop
+μ-loop s longs words marks n l₀ l = linesOf s - l
+
+pub lines-fine-spec : {M : Type 1} → statement M
+lines-fine-spec =
+    tie.close
+    (tie.spec Inv-loop μ-loop
+    (λ c. omega arith)
+    (λ c. (omega arith, refl))
+    (λ c κs. search needs)
+    (λ c. passed-stop _ _ _ (c .before .before .loop-test .taken) (c .before .line-fine .ensures) (c .if1 .taken))
+    (λ c. omega arith)
+    (λ c. omega arith)
+    (λ c. passed-more _ _ _ (c .before .before .loop-test .taken) (c .before .line-fine .ensures) (c .if1 .left) (c .before .before .before .loop .inv))
+    (λ c. passed-end _ _ _ (c .loop-test .left) (c .before .loop .inv)))

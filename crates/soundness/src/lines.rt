@@ -1,0 +1,109 @@
+// Conditions 2 to 10 and 17 of sound tables: lines and their sectors. A line looks only into its own set, a RESERVED sector only
+// into the miss table.
+ghost use mathlib.Core.Path.{_≡_};
+ghost use mathlib.Core.Bool.{true};
+ghost use Prim.Native.Nat.{_+_, _*_, _-_, _≤_, _<_};
+ghost use Rattle.model.specs.Words.{every};
+ghost use Rattle.model.specs.Range.{linesOf};
+ghost use Rattle.model.specs.Inner.{Fit};
+ghost use Rattle.model.specs.SoundLent as is;
+use crate::misses::has_entry;
+use model::SectorAddress;
+use model::Settings;
+
+// Some sector of line `l` isn't INVALID.
+fn live(s: Settings, longs: &[u64], words: &[u32], marks: &[u8], l: usize) -> bool
+    requires { ⌜ Fit s (now longs) (now words) (now marks) × (l < linesOf s) ⌝ }
+    ensures { λ r. ⌜ r ≡ is.live s (now (longs .entry)) (now (words .entry)) (now (marks .entry)) l ⌝ }
+{
+    (marks[4 * l] != 0)
+        | (marks[4 * l + 1] != 0)
+        | (marks[4 * l + 2] != 0)
+        | (marks[4 * l + 3] != 0)
+}
+
+// No live line from `first` up to line `l` has the tag of line `l`.
+fn no_twin(s: Settings, longs: &[u64], words: &[u32], marks: &[u8], first: usize, l: usize) -> bool
+    requires { ⌜ Fit s (now longs) (now words) (now marks) × (first ≤ l) × (l < linesOf s) ⌝ }
+    ensures { λ r. ⌜ r ≡ every (l - first) (λ w. is.apart s (now (longs .entry)) (now (words .entry)) (now (marks .entry)) l (first + w)) ⌝ }
+{
+    let n = l - first;
+    let mut w = 0;
+    while w < n {
+        let m = first + w;
+        if live(s, longs, words, marks, m) & (longs[m] == longs[l]) {
+            return false;
+        }
+        w += 1;
+    }
+    true
+}
+
+fn line_fine(s: Settings, longs: &[u64], words: &[u32], marks: &[u8], l: usize) -> bool
+    requires { ⌜ Fit s (now longs) (now words) (now marks) × (l < linesOf s) ⌝ }
+    ensures { λ r. ⌜ r ≡ is.lineFine s (now (longs .entry)) (now (words .entry)) (now (marks .entry)) l ⌝ }
+{
+    let tag = longs[l];
+    let cycle = words[1 + l];
+    let latest = words[0];
+    if !live(s, longs, words, marks, l) {
+        return (tag == 0) & (cycle == 0);
+    }
+    let sets = s.sets as u64;
+    let set = l / s.ways;
+    (tag % 128 == 0)
+        & (tag < 0x1_0000_0000_0000)
+        & ((tag / 128 % sets) as usize == set)
+        & (cycle <= latest)
+        & no_twin(s, longs, words, marks, set * s.ways, l)
+}
+
+pub(crate) fn lines_fine(s: Settings, longs: &[u64], words: &[u32], marks: &[u8]) -> bool
+    requires { ⌜ Fit s (now longs) (now words) (now marks) ⌝ }
+    ensures { λ r. ⌜ r ≡ is.linesFine s (now (longs .entry)) (now (words .entry)) (now (marks .entry)) ⌝ }
+{
+    let n = s.sets * s.ways;
+    let mut l = 0;
+    while l < n {
+        if !line_fine(s, longs, words, marks, l) {
+            return false;
+        }
+        l += 1;
+    }
+    true
+}
+
+// The lines are fine, so a RESERVED sector's tag is below 2^48 and its address fits.
+fn sector_fine(s: Settings, longs: &[u64], words: &[u32], marks: &[u8], i: usize) -> bool
+    requires { ⌜ Fit s (now longs) (now words) (now marks) × (is.linesFine s (now longs) (now words) (now marks) ≡ true) × (i < 4 * linesOf s) ⌝ }
+    ensures { λ r. ⌜ r ≡ is.sectorFine s (now (longs .entry)) (now (words .entry)) (now (marks .entry)) i ⌝ }
+{
+    let lines = s.sets * s.ways;
+    let readable = marks[4 * lines + i];
+    let mask = words[1 + lines + i];
+    match marks[i] {
+        0 | 2 => (readable == 1) & (mask == 0),
+        1 => {
+            let sector = (i % 4) as u64;
+            let a = SectorAddress(longs[i / 4] + 32 * sector);
+            (readable == 1) & has_entry(s, longs, words, marks, s.entries, a)
+        }
+        3 => (readable <= 1) & (mask != 0) & ((readable != 0) | (mask != 0xFFFF_FFFF)),
+        _ => false,
+    }
+}
+
+pub(crate) fn sectors_fine(s: Settings, longs: &[u64], words: &[u32], marks: &[u8]) -> bool
+    requires { ⌜ Fit s (now longs) (now words) (now marks) × (is.linesFine s (now longs) (now words) (now marks) ≡ true) ⌝ }
+    ensures { λ r. ⌜ r ≡ every (4 * linesOf s) (is.sectorFine s (now (longs .entry)) (now (words .entry)) (now (marks .entry))) ⌝ }
+{
+    let n = 4 * (s.sets * s.ways);
+    let mut i = 0;
+    while i < n {
+        if !sector_fine(s, longs, words, marks, i) {
+            return false;
+        }
+        i += 1;
+    }
+    true
+}

@@ -1,0 +1,281 @@
+-- Fill: what its parts leave is what the step on the tables says.
+use mathlib.Core.Path.{_≡_, refl, sym, ap, subst, _∙_}
+use mathlib.Core.Logic.{⊎-elim}
+use mathlib.Core.Bool.{Bool, true, false, not, _&&_}
+use mathlib.Core.List.{List, [], _∷_, map}
+use Prim.Native.Nat.{ℕ, zero, suc, _+_, _-_, _*_, _/_, _%_, _≤_, _<_}
+use native.Mathlib.Nat.{mod-lt, div-add-mod', not-suc-le-zero, le-of-suc-le-suc}
+use native.Mathlib.Omega.{arith}
+use lib.ListN.{length, getD, set, length-set}
+use lib.Dec.{eqb, ltb}
+use borrow.Author.Tests.{eqb-true, ltb-true, ltb-false}
+use Rattle.model.specs.Words.{fit, all, any}
+use Rattle.model.specs.Numbers.{statusNumber}
+use Rattle.model.specs.Range.{linesOf}
+use Rattle.model.specs.Regions.{region, put, closed}
+use Rattle.model.specs.Address.{blockOf, sectorIndex, setIndex, goodBlock}
+use Rattle.model.specs.Tables.{Line, Entry, Tables, done, isInvalid, unused, holds, entryFor, empty, fresh}
+use Rattle.model.specs.Lent.{lent}
+use Rattle.model.specs.Steps.{arrived, fillLine, ticketsOf, afterFill, sentFor, fill}
+use Rattle.model.specs.Calls.{encoded, eventsTold, tidied, Leaves}
+use Rattle.model.specs.Inner.{Is}
+use Rattle.model.specs.declared.Settings.{Settings}
+use Rattle.model.specs.declared.Status.{Status}
+use Rattle.model.specs.declared.Status.the-variants.{Invalid, Reserved, Valid, Modified}
+use Rattle.model.specs.declared.Sector.{Sector}
+use Rattle.model.specs.declared.Refusal.the-variants.{NotSent}
+use Rattle.model.specs.declared.Event.the-variants as event
+use Rattle.model.specs.declared.Told.{Told}
+use Rattle.model.proofs.Flags.{and-1, and-2, not-yes, no-not, no-yes, flag, by-flag}
+use Rattle.model.proofs.Lists.{any-in, in-index, in-getD}
+use Rattle.model.proofs.Rows.{row-fits}
+use Rattle.model.proofs.Region.{length-region}
+use Rattle.model.proofs.Places.{take-fit}
+use Rattle.model.proofs.SoundFacts.{Sound, parts, lines-are, line-at, four-at, holder-one, entry-at}
+use Rattle.tables.specs.declared.Layout.{Layout}
+use Rattle.tables.specs.Layout.{Placed}
+use Rattle.tables.specs.Raw.{First, sectorsFrom, statuses, masks, readables}
+use Rattle.tables.specs.Telling.{telling}
+use Rattle.tables.proofs.Stores.{none}
+use Rattle.tables.proofs.Stands.{Stands, is-stands, stands-encode, withLines}
+use Rattle.tables.proofs.Ones.{map-one}
+use Rattle.tables.proofs.Lines.{flag-of-bit, tag-at, status-at, lifted, store-stands}
+use Rattle.tables.proofs.Misses.{noEntry, misses-used, sent-at, count-at, tickets-at, remove-stands, entry-found, entry-missing}
+use Rattle.tables.proofs.Tellings.{refusal-leaves, done-leaves}
+use Rattle.steps.specs.Parts.{heldAt, Holding, arrivedAt, SectorFilled, LineFilled, releasing}
+use Rattle.steps.proofs.Entries.{few-misses, some-tickets, few-tickets, kept-others, tickets-are, sent-is}
+
+-- the ways of a set are among the lines
+pub set-room : (S : Settings) (a : ℕ) → 1 ≤ S .sets → 1 ≤ S .ways → setIndex S a * S .ways + S .ways ≤ linesOf S
+set-room S a h k = row-fits (S .ways) k (setIndex S a) (S .sets) (mod-lt (a / 128) h)
+
+-- ---- one sector
+
+getD-inside : {A : Type 0} (l : List A) (k : ℕ) (d e : A) → k < length l → getD l k d ≡ getD l k e
+getD-inside [] k d e h = absurd (not-suc-le-zero h)
+getD-inside (x ∷ l) zero d e h = refl
+getD-inside (x ∷ l) (suc k) d e h = getD-inside l k d e (le-of-suc-le-suc h)
+
+-- four sectors that are lifted, of which one has come, stored back
+pub sector-filled : (at : Layout) (l k : ℕ) (words marks : List ℕ) {four : List Sector} {x : Sector} {words′ marks′ : List ℕ} → k < 4
+    → four ≡ sectorsFrom words marks (4 * l) (at .masks + 4 * l) (at .readables + 4 * l) → x ≡ arrived (getD four k none)
+    → (words′ ≡ put words (at .masks + 4 * l) (masks (set four k x))) × (marks′ ≡ put (put marks (4 * l) (statuses (set four k x))) (at .readables + 4 * l) (readables (set four k x)))
+    → SectorFilled at l k words marks words′ marks′
+sector-filled at l k words marks {four} {x} below e f c =
+    let xs : List Sector = sectorsFrom words marks (4 * l) (at .masks + 4 * l) (at .readables + 4 * l) in
+    let g : x ≡ arrived (getD xs k empty) = f ∙ ap (λ (y : List Sector). arrived (getD y k none)) e ∙ ap arrived (getD-inside xs k none empty below) in
+    let s : set four k x ≡ set xs k (arrived (getD xs k empty)) = rw (g, e) in
+    record {
+      words-are = c .0 ∙ ap (λ (y : List Sector). put words (at .masks + 4 * l) (masks y)) s;
+      marks-are = c .1 ∙ ap (λ (y : List Sector). put (put marks (4 * l) (statuses y)) (at .readables + 4 * l) (readables y)) s;
+    }
+
+-- ---- the line that has the block
+
+-- what is found by the code's block, and filled at the code's sector
+pub line-filled : (a : ℕ) {at : Layout} {n l block k : ℕ} {longs words marks words′ marks′ : List ℕ} → block ≡ blockOf a → k ≡ sectorIndex a → l < n
+    → heldAt longs marks block l ≡ true → SectorFilled at l k words marks words′ marks′ → LineFilled at n (blockOf a) (sectorIndex a) longs words marks words′ marks′
+line-filled a {at} {n} {l} {longs = longs} {words = words} {marks = marks} {words′ = words′} {marks′ = marks′} e f inside held c = record {
+  line = l;
+  inside = inside;
+  held = subst (λ (b : ℕ). heldAt longs marks b l ≡ true) e held;
+  filled = subst (λ (j : ℕ). SectorFilled at l j words marks words′ marks′) f c;
+}
+
+status-zero : (c : Status) → eqb (statusNumber c) 0 ≡ isInvalid c
+status-zero Invalid = refl
+status-zero Reserved = refl
+status-zero Valid = refl
+status-zero Modified = refl
+
+-- the tag and the four tests in the order of the code, and in that of the definition
+held-order : (g a b c d : Bool) → (g && not (a && b && c && d)) ≡ (not (a && (b && (c && (d && true)))) && g)
+held-order true true true true true = refl
+held-order true true true true false = refl
+held-order true true true false d = refl
+held-order true true false c d = refl
+held-order true false b c d = refl
+held-order false true true true true = refl
+held-order false true true true false = refl
+held-order false true true false d = refl
+held-order false true false c d = refl
+held-order false false b c d = refl
+
+held-of : (xs : List Sector) (tag b : ℕ) → length xs ≡ 4 → {g n0 n1 n2 n3 : ℕ} → g ≡ tag
+    → n0 ≡ getD (fit 4 (statuses xs)) 0 0 → n1 ≡ getD (fit 4 (statuses xs)) 1 0 → n2 ≡ getD (fit 4 (statuses xs)) 2 0 → n3 ≡ getD (fit 4 (statuses xs)) 3 0
+    → (eqb g b && not (eqb n0 0 && eqb n1 0 && eqb n2 0 && eqb n3 0)) ≡ (not (all (λ s. isInvalid (s .status)) xs) && eqb tag b)
+unfolding fit
+held-of [] tag b l e f0 f1 f2 f3 = absurd (omega arith)
+held-of (p ∷ []) tag b l e f0 f1 f2 f3 = absurd (omega arith)
+held-of (p ∷ q ∷ []) tag b l e f0 f1 f2 f3 = absurd (omega arith)
+held-of (p ∷ q ∷ r ∷ []) tag b l e f0 f1 f2 f3 = absurd (omega arith)
+held-of (p ∷ q ∷ r ∷ s ∷ []) tag b l e f0 f1 f2 f3 =
+    rw (e, f0, f1, f2, f3, status-zero (p .status), status-zero (q .status), status-zero (r .status), status-zero (s .status))
+    (held-order (eqb tag b) (isInvalid (p .status)) (isInvalid (q .status)) (isInvalid (r .status)) (isInvalid (s .status)))
+held-of (p ∷ q ∷ r ∷ s ∷ u ∷ xs) tag b l e f0 f1 f2 f3 = absurd (omega arith)
+
+fill-tag : (a : ℕ) (l : Line) → fillLine a l .tag ≡ l .tag
+unfolding fillLine
+fill-tag a l = by-flag (λ (m : Line). m .tag ≡ l .tag) (holds (blockOf a) l) _ _ (λ e. refl) (λ e. refl)
+
+fill-cycle : (a : ℕ) (l : Line) → fillLine a l .cycle ≡ l .cycle
+unfolding fillLine
+fill-cycle a l = by-flag (λ (m : Line). m .cycle ≡ l .cycle) (holds (blockOf a) l) _ _ (λ e. refl) (λ e. refl)
+
+fill-held : (a : ℕ) (l : Line) → holds (blockOf a) l ≡ true → fillLine a l .sectors ≡ arrivedAt (sectorIndex a) (l .sectors)
+unfolding fillLine
+fill-held a l e = rw e
+
+fill-other : (a : ℕ) (l : Line) → holds (blockOf a) l ≡ false → fillLine a l ≡ l
+unfolding fillLine
+fill-other a l e = rw e
+
+module _ (S : Settings) (t : Tables) (ok : Sound S t) {longs words marks : List ℕ} (h : Stands S longs words marks t) {at : Layout} (p : Placed S at) where
+  four : (l : ℕ) → l < length (t .lines) → length (getD (t .lines) l fresh .sectors) ≡ 4
+  four l k = four-at S t ok (getD (t .lines) l fresh) (in-getD (t .lines) l fresh k)
+
+  held-at : (l b : ℕ) → l < length (t .lines) → heldAt longs marks b l ≡ holds b (getD (t .lines) l fresh)
+  held-at l b k =
+      let m = status-at S t h p (lines-are S t ok) l k in
+      held-of (getD (t .lines) l fresh .sectors) (getD (t .lines) l fresh .tag) b (four l k) (tag-at S t h p (lines-are S t ok) l k)
+      (m 0 (4 * l) (omega arith) (omega arith)) (m 1 (4 * l + 1) (omega arith) refl) (m 2 (4 * l + 2) (omega arith) refl) (m 3 (4 * l + 3) (omega arith) refl)
+
+  fill-one : (a l : ℕ) → l < length (t .lines) → holds (blockOf a) (getD (t .lines) l fresh) ≡ true → map (fillLine a) (t .lines) ≡ set (t .lines) l (fillLine a (getD (t .lines) l fresh))
+  fill-one a l b e =
+      map-one (fillLine a) fresh (t .lines) l b (λ j k n. fill-other a (getD (t .lines) j fresh) (no-yes (λ z. n (holder-one S t ok (blockOf a) j l k b z e))))
+
+  -- a line that has the block is one of its set
+  pub holding : 1 ≤ S .ways → (a : ℕ) → any (holds (blockOf a)) (t .lines) ≡ true → Holding longs marks (setIndex S a * S .ways) (S .ways) (blockOf a)
+  holding some a g =
+      let (x, m, q) = any-in (holds (blockOf a)) (t .lines) g in
+      let (i, b, z) = in-index (t .lines) fresh x m in
+      let e : holds (blockOf a) (getD (t .lines) i fresh) ≡ true = ap (holds (blockOf a)) z ∙ q in
+      let place : setIndex S a * S .ways + i % S .ways ≡ i = ap (λ (n : ℕ). n * S .ways + i % S .ways) (set-of a i b e) ∙ div-add-mod' i (S .ways) in
+      (i % S .ways, mod-lt i some, ap (heldAt longs marks (blockOf a)) place ∙ held-at i (blockOf a) b ∙ e)
+    where
+      set-of : (a i : ℕ) → i < length (t .lines) → holds (blockOf a) (getD (t .lines) i fresh) ≡ true → setIndex S a ≡ i / S .ways
+      set-of a i b e =
+          let l : Line = getD (t .lines) i fresh in
+          let u : unused l ≡ false = not-yes (and-1 (not (unused l)) (eqb (l .tag) (blockOf a)) e) in
+          let v : l .tag ≡ blockOf a = eqb-true (l .tag) (blockOf a) (and-2 (not (unused l)) (eqb (l .tag) (blockOf a)) e) in
+          let o : (goodBlock (l .tag) && eqb (setIndex S (l .tag)) (i / S .ways)) ≡ true = rw u at (line-at S t ok i b .tagged) in
+          let w : setIndex S (l .tag) ≡ i / S .ways = eqb-true (setIndex S (l .tag)) (i / S .ways) (and-2 (goodBlock (l .tag)) (eqb (setIndex S (l .tag)) (i / S .ways)) o) in
+          let same : blockOf a / 128 ≡ a / 128 = omega arith in
+          sym (ap (λ (n : ℕ). n % S .sets) same) ∙ sym (ap (setIndex S) v) ∙ w
+
+  -- its sector has come
+  line-stands : (a : ℕ) {words′ marks′ : List ℕ} → LineFilled at (linesOf S) (blockOf a) (sectorIndex a) longs words marks words′ marks′
+      → Stands S longs words′ marks′ (withLines (map (fillLine a) (t .lines)) t)
+  line-stands a {words′} {marks′} f =
+      let l : ℕ = f .line in
+      let k : f .line < length (t .lines) = omega (arith, f .inside, lines-are S t ok) in
+      let x : Line = getD (t .lines) l fresh in
+      let e : holds (blockOf a) (getD (t .lines) (f .line) fresh) ≡ true = sym (held-at l (blockOf a) k) ∙ f .held in
+      let len : length (fillLine a x .sectors) ≡ 4 = ap length (fill-held a x e) ∙ length-set (x .sectors) (sectorIndex a) (arrived (getD (x .sectors) (sectorIndex a) empty)) ∙ four l k in
+      let is : arrivedAt (sectorIndex a) (sectorsFrom words marks (4 * l) (at .masks + 4 * l) (at .readables + 4 * l)) ≡ fillLine a x .sectors =
+      ap (arrivedAt (sectorIndex a)) (lifted S t h p (lines-are S t ok) l k (four l k)) ∙ sym (fill-held a x e) in
+      rw (fill-one a l k e)
+      (store-stands S t h p (lines-are S t ok) l k (fillLine a x) len (fill-tag a x) (fill-cycle a x) (
+        f .filled .words-are ∙ ap (λ (y : List Sector). put words (at .masks + 4 * l) (masks y)) is,
+        f .filled .marks-are ∙ ap (λ (y : List Sector). put (put marks (4 * l) (statuses y)) (at .readables + 4 * l) (readables y)) is,
+      ))
+
+-- ---- what is told
+
+module _ (a : ℕ) (ts : List ℕ) (few : length ts ≤ 8) where
+  releasing-tells : eventsTold (releasing a ts) ≡ event.Filled a ∷ map event.Released ts
+  unfolding eventsTold
+  releasing-tells = rw (take-fit 8 ts few)
+
+  releasing-tidy : tidied (releasing a ts) ≡ releasing a ts
+  unfolding tidied
+  releasing-tidy = rw (take-fit 8 ts few)
+
+-- the one event, and then the tickets that are copied out
+pub released : (a : ℕ) (words : List ℕ) (i n : ℕ) {ts : List ℕ} {told : Told} → i + n ≤ length words → ts ≡ fit 8 (region words i n) → told ≡ telling (event.Filled a)
+    → record { first = told .first; reads = told .reads; address = told .address; backs = told .backs; block = told .block; masks = told .masks; count = n; tickets = ts }
+    ≡ releasing a (region words i n)
+released a words i n room e f = rw (e, f, length-region words i n room)
+
+-- ---- fill, from what its parts ensure
+
+module _ (S : Settings) (a : ℕ) (t : Tables) {longs words marks : List ℕ} (i : Is S (lent longs words marks) t) {at : Layout} (p : Placed S at)
+    {n e : ℕ} (u : First marks (at .counts) (S .entries) 0 n) (f : First longs (at .misses) n a e) where
+  ok : Sound S t
+  ok = parts S t (i .soundly)
+
+  h : Stands S longs words marks t
+  h = is-stands i
+
+  used : n ≡ length (t .misses)
+  used = misses-used S t h p (few-misses S t ok) (some-tickets S t ok) u
+
+  -- whether an entry for the address is sent
+  sent-test : (ltb e n && eqb (getD marks (at .sent + e) 0) 1) ≡ any (sentFor a) (t .misses)
+  sent-test = ⊎-elim there missing (flag (ltb e n))
+    where
+      there : ltb e n ≡ true → (ltb e n && eqb (getD marks (at .sent + e) 0) 1) ≡ any (sentFor a) (t .misses)
+      there q =
+          let k : e < n = ltb-true e n q in
+          let b : e < length (t .misses) = omega (arith, used) in
+          rw q
+          (ap (λ (x : ℕ). eqb x 1) (sent-at S t h p (few-misses S t ok) e b)
+          ∙ flag-of-bit (getD (t .misses) e noEntry .sent)
+          ∙ sym (sent-is S t ok a e b (entry-found S t h p (few-misses S t ok) used f k)))
+
+      missing : ltb e n ≡ false → (ltb e n && eqb (getD marks (at .sent + e) 0) 1) ≡ any (sentFor a) (t .misses)
+      missing q =
+          rw q (sym (no-yes (λ z.
+          let (x, m, g) = any-in (sentFor a) (t .misses) z in
+          let (k, b, w) = in-index (t .misses) noEntry x m in
+          entry-missing S t h p (few-misses S t ok) used f (omega (arith, ltb-false e n q, f .most)) k b
+          (ap (λ (v : Entry). v .address) w ∙ eqb-true (x .address) a (and-1 (entryFor a x) (x .sent) g)))))
+
+  pub fill-refused : {b : Bool} → b ≡ (ltb e n && eqb (getD marks (at .sent + e) 0) 1) → not b ≡ true → {r : Told} → r ≡ telling (event.Refused NotSent)
+      → Leaves (encoded S (fill a t)) (lent longs words marks) r (lent longs words marks)
+  unfolding fill
+  fill-refused q z g = let w : any (sentFor a) (t .misses) ≡ false = sym (q ∙ sent-test) ∙ not-yes z in rw (g, w) (refusal-leaves NotSent (lent longs words marks))
+
+  module _ {b : Bool} (q : b ≡ (ltb e n && eqb (getD marks (at .sent + e) 0) 1)) (z : not b ≡ false) where
+    pub fill-inside : e < n
+    fill-inside = ltb-true e n (and-1 (ltb e n) (eqb (getD marks (at .sent + e) 0) 1) (sym q ∙ no-not z))
+
+    below : e < length (t .misses)
+    below = omega (arith, used, fill-inside)
+
+    is : getD (t .misses) e noEntry .address ≡ a
+    is = entry-found S t h p (few-misses S t ok) used f fill-inside
+
+    pub fill-count : getD marks (at .counts + e) 0 ≤ S .readers
+    fill-count = rw (count-at S t h p (few-misses S t ok) e below) (few-tickets S t ok e below)
+
+    pub fill-holding : 1 ≤ S .ways → Holding longs marks (setIndex S a * S .ways) (S .ways) (blockOf a)
+    fill-holding some =
+        holding S t ok h p some a
+        (subst (λ (x : ℕ). any (holds (blockOf x)) (t .lines) ≡ true) is (entry-at S t ok (getD (t .misses) e noEntry) (in-getD (t .misses) e noEntry below) .held))
+
+    -- the tickets, as they are told
+    tickets : region words (at .tickets + S .readers * e) (getD marks (at .counts + e) 0) ≡ ticketsOf a (t .misses)
+    tickets =
+        ap (region words (at .tickets + S .readers * e)) (count-at S t h p (few-misses S t ok) e below)
+        ∙ tickets-at S t h p (few-misses S t ok) e below (few-tickets S t ok e below)
+        ∙ sym (tickets-are S t ok a e below is)
+
+    few : S .readers ≤ 8 → length (ticketsOf a (t .misses)) ≤ 8
+    few k = rw (tickets-are S t ok a e below is) (omega (arith, few-tickets S t ok e below))
+
+    pub fill-leaves : S .readers ≤ 8 → {r : Told} {longs₁ words₁ words₂ marks₁ marks₂ : List ℕ}
+        → r ≡ releasing a (region words (at .tickets + S .readers * e) (getD marks (at .counts + e) 0))
+        → LineFilled at (linesOf S) (blockOf a) (sectorIndex a) longs words marks words₁ marks₁
+        → (longs₁ ≡ closed longs (at .misses + e) (n - e) 1) × (words₂ ≡ closed words₁ (at .tickets + S .readers * e) (S .readers * (n - e)) (S .readers))
+        × (marks₂ ≡ closed (closed marks₁ (at .sent + e) (n - e) 1) (at .counts + e) (n - e) 1)
+        → Leaves (encoded S (fill a t)) (lent longs words marks) r (lent longs₁ words₂ marks₂)
+    unfolding fill
+    fill-leaves k told line gone =
+        let told : _ ≡ releasing a (ticketsOf a (t .misses)) = told ∙ ap (releasing a) tickets in
+        let w : any (sentFor a) (t .misses) ≡ true = sym (q ∙ sent-test) ∙ no-not z in
+        let after : Tables = withLines (map (fillLine a) (t .lines)) t in
+        let left = remove-stands S after (line-stands S t ok h p a line) p (few-misses S t ok) e below n (omega (arith, used)) (u .most) gone in
+        let outcome : fill a t ≡ done (event.Filled a ∷ map event.Released (ticketsOf a (t .misses))) (afterFill a t) = rw w in
+        done-leaves S outcome (rw told (releasing-tells a (ticketsOf a (t .misses)) (few k))) (rw told (releasing-tidy a (ticketsOf a (t .misses)) (few k)))
+        (stands-encode (rw (kept-others S t ok a e below is) left))

@@ -1,0 +1,36 @@
+-- Fill, from what its parts ensure.
+use native.Mathlib.Nat.{mul-le-mul-left}
+use Rattle.steps.proofs.Filling.{fill-refused, fill-inside, fill-count, fill-holding, fill-leaves}
+use Rattle.tables.proofs.Stands.{is-stands, stands-fit}
+use Rattle.model.proofs.Places.{stride}
+use native.Mathlib.Omega.{arith}
+use borrow.Author.Needs.{needs}
+use Rattle.steps.proofs.fill_step.Statement.{statement}
+use Rattle.steps.proofs.fill_step.Tie as tie
+
+pub fill-step-spec : {M : Type 1} → statement M
+fill-step-spec =
+    tie.close
+    (tie.spec
+    (λ c κs. search needs)  -- laid-out-requires
+    (λ c κs. let i = c .before .before .before .before .before .pre .are in let z = stands-fit (i .range) (is-stands i) in let p = c .before .laid-out .ensures in omega arith)  -- used-requires
+    (λ c κs. let i = c .before .before .before .before .before .before .before .pre .are in let z = stands-fit (i .range) (is-stands i) in let p = c .before .before .before .laid-out .ensures in let u = c .before .used .ensures .most in omega arith)  -- find-entry-requires
+    (λ c κs. let i = c .before .before .before .before .before .before .before .before .before .pre .are in let z = stands-fit (i .range) (is-stands i) in let p = c .before .before .before .before .before .laid-out .ensures in let u = c .before .before .before .used .ensures .most in omega arith)  -- is-sent-requires
+    (λ c κs. search needs)  -- refused-requires
+    (λ c. search needs)  -- same-length
+    (λ c. search needs)  -- same-length-2
+    (λ c. record { on = λ t i. fill-refused _ _ t i (c .before .before .before .before .before .before .before .before .laid-out .ensures) (c .before .before .before .before .before .before .used .ensures) (c .before .before .before .before .find-entry .ensures) (c .before .before .is-sent .ensures) (c .before .if1 .taken) (c .refused .ensures) })  -- returns
+    (λ c κs. let i = c .before .before .before .before .before .before .before .before .before .before .before .before .before .pre .are in let z = stands-fit (i .range) (is-stands i) in let p = c .before .before .before .before .before .before .before .before .before .laid-out .ensures in let u = c .before .before .before .before .before .before .before .used .ensures in let f = c .before .before .before .before .before .find-entry in
+    let k = fill-inside _ _ _ i p u (f .ensures) (c .before .before .before .is-sent .ensures) (c .before .before .if1 .left) in let m = fill-count _ _ _ i p u (f .ensures) (c .before .before .before .is-sent .ensures) (c .before .before .if1 .left) in
+    let s = stride (c .before .before .before .before .before .before .before .before .before .before .before .before .before .args .s .readers) (c .before .before .before .before .before .before .before .before .before .before .before .before .before .args .s .entries) (f .result) (omega arith) in (omega arith, omega arith, omega arith))  -- release-requires
+    (λ c κs. let i = c .before .before .before .before .before .before .before .before .before .before .before .before .before .before .before .before .before .pre .are in let z = stands-fit (i .range) (is-stands i) in let p = c .before .before .before .before .before .before .before .before .before .before .before .before .before .laid-out .ensures in
+    (z, (p, fill-holding _ _ _ i p (c .before .before .before .before .before .before .before .before .before .before .before .used .ensures) (c .before .before .before .before .before .before .before .before .before .find-entry .ensures) (c .before .before .before .before .before .before .before .is-sent .ensures) (c .before .before .before .before .before .before .if1 .left) (z .ways))))  -- fill-line-requires
+    (λ c κs. let i = c .before .before .before .before .before .before .before .before .before .before .before .before .before .before .before .before .before .before .before .before .before .before .before .before .before .pre .are in let z = stands-fit (i .range) (is-stands i) in let p = c .before .before .before .before .before .before .before .before .before .before .before .before .before .before .before .before .before .before .before .before .before .laid-out .ensures in let u = c .before .before .before .before .before .before .before .before .before .before .before .before .before .before .before .before .before .before .before .used .ensures in let f = c .before .before .before .before .before .before .before .before .before .before .before .before .before .before .before .before .before .find-entry .ensures in
+    let k = fill-inside _ _ _ i p u f (c .before .before .before .before .before .before .before .before .before .before .before .before .before .before .before .is-sent .ensures) (c .before .before .before .before .before .before .before .before .before .before .before .before .before .before .if1 .left) in let m = mul-le-mul-left (c .before .before .before .before .before .before .before .before .before .before .before .before .before .before .before .before .before .before .before .before .before .before .before .before .before .args .s .readers) (u .most) in (k, omega arith, omega arith, omega arith, omega arith))  -- remove-requires
+    (λ c. search needs)  -- same-length-3
+    (λ c. search needs)  -- same-length-4
+    (λ c. search needs)  -- same-length-5
+    (λ c. let z = stands-fit (c .before .before .before .before .before .before .before .before .before .before .before .before .before .before .before .before .before .before .before .before .before .before .before .before .before .before .before .before .before .before .before .before .pre .are .range) (is-stands (c .before .before .before .before .before .before .before .before .before .before .before .before .before .before .before .before .before .before .before .before .before .before .before .before .before .before .before .before .before .before .before .before .pre .are)) in record {
+      on = λ t i. fill-leaves _ _ t i (c .before .before .before .before .before .before .before .before .before .before .before .before .before .before .before .before .before .before .before .before .before .before .before .before .before .before .before .before .laid-out .ensures) (c .before .before .before .before .before .before .before .before .before .before .before .before .before .before .before .before .before .before .before .before .before .before .before .before .before .before .used .ensures) (c .before .before .before .before .before .before .before .before .before .before .before .before .before .before .before .before .before .before .before .before .before .before .before .before .find-entry .ensures) (c .before .before .before .before .before .before .before .before .before .before .before .before .before .before .before .before .before .before .before .before .before .before .is-sent .ensures) (c .before .before .before .before .before .before .before .before .before .before .before .before .before .before .before .before .before .before .before .before .before .if1 .left) (z .readers)
+          (c .before .before .before .before .before .before .before .before .before .before .before .before .before .before .before .before .before .before .release .ensures) (c .before .before .before .before .before .before .before .before .before .before .before .before .before .before .fill-line .ensures) (c .before .before .before .before .before .before .remove .ensures);
+    }))  -- returns-2

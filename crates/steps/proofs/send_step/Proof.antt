@@ -1,0 +1,25 @@
+-- Send, from what its parts ensure.
+use Rattle.steps.proofs.Sending.{send-empty, send-asked, send-leaves}
+use Rattle.tables.proofs.Stands.{is-stands, stands-fit}
+use native.Mathlib.Omega.{arith}
+use borrow.Author.Needs.{needs}
+use Rattle.steps.proofs.send_step.Statement.{statement}
+use Rattle.steps.proofs.send_step.Tie as tie
+
+pub send-step-spec : {M : Type 1} → statement M
+send-step-spec =
+    tie.close
+    (tie.spec
+    (λ c κs. search needs)  -- laid-out-requires
+    (λ c κs. let i = c .before .before .before .before .before .pre .are in let z = stands-fit (i .range) (is-stands i) in let p = c .before .laid-out .ensures in omega arith)  -- used-requires
+    (λ c κs. search needs)  -- refused-requires
+    (λ c. search needs)  -- same-length
+    (λ c. record { on = λ t i. send-empty _ t i (c .before .before .before .before .laid-out .ensures) (c .before .before .used .ensures) (c .before .if1 .taken) (c .refused .ensures) })  -- returns
+    (λ c κs. let i = c .before .before .before .before .before .before .before .before .before .before .pre .are in let z = stands-fit (i .range) (is-stands i) in let p = c .before .before .before .before .before .before .laid-out .ensures in (omega arith, omega arith, omega arith))  -- front-requires
+    (λ c κs. let i = c .before .before .before .before .before .before .before .before .before .before .before .before .before .pre .are in let z = stands-fit (i .range) (is-stands i) in let p = c .before .before .before .before .before .before .before .before .before .laid-out .ensures in ((omega arith, omega arith, omega arith, omega arith), send-asked _ _ i p (c .before .before .before .before .before .before .before .used .ensures) (c .before .before .before .before .before .before .if1 .left)))  -- mark-head-requires
+    (λ c κs. let i = c .before .before .before .before .before .before .before .before .before .before .before .before .before .before .before .before .before .before .before .pre .are in let z = stands-fit (i .range) (is-stands i) in let p = c .before .before .before .before .before .before .before .before .before .before .before .before .before .before .before .laid-out .ensures in let u = c .before .before .before .before .before .before .before .before .before .before .before .before .before .used .ensures .most in (omega arith, omega arith, omega arith, omega arith))  -- pop-requires
+    (λ c κs. search needs)  -- blank-requires
+    (λ c. search needs)  -- same-length-2
+    (λ c. search needs)  -- same-length-3
+    (λ c. search needs)  -- same-length-4
+    (λ c. record { on = λ t i. send-leaves _ t i (c .before .before .before .before .before .before .before .before .before .before .before .before .before .before .before .before .before .before .before .before .before .before .before .laid-out .ensures) (c .before .before .before .before .before .before .before .before .before .before .before .before .before .before .before .before .before .before .before .before .before .used .ensures) (c .before .before .before .before .before .before .before .before .before .before .before .before .before .before .before .before .before .before .before .before .if1 .left) (c .before .before .before .before .before .before .before .before .before .before .before .before .before .mark-head .ensures) (c .before .before .before .before .before .before .before .pop .ensures) (c .before .before .before .before .before .before .before .before .before .before .before .before .before .before .before .before .front .ensures) (c .blank .ensures) }))  -- returns-2

@@ -1,0 +1,81 @@
+-- Words for the parts of send and fill, over the raw numbers of the lent slices.
+use mathlib.Core.Path.{_≡_}
+use Prim.Native.Nat.{ℕ, _+_, _*_, _<_}
+use mathlib.Core.Bool.{Bool, true, false, not, _&&_}
+use mathlib.Core.List.{List, [], _∷_}
+use lib.ListN.{length, getD, set, replicate}
+use lib.Dec.{eqb}
+use Rattle.model.specs.Words.{fit}
+use Rattle.model.specs.Regions.{put}
+use Rattle.model.specs.Tables.{empty}
+use Rattle.model.specs.Steps.{arrived}
+use Rattle.model.specs.declared.Sector.{Sector}
+use Rattle.model.specs.declared.Event.the-variants.{Filled}
+use Rattle.model.specs.declared.Told.{Told}
+use Rattle.tables.specs.declared.Layout.{Layout}
+use Rattle.tables.specs.Raw.{First, sectorsFrom, statuses, masks, readables}
+
+-- ---- send
+
+-- the address of the read at the head is one of the first n miss addresses
+abbrev pub HeadAsked : Layout → ℕ → List ℕ → List ℕ → Type 0
+HeadAsked at n longs marks =
+    getD marks (at .kinds) 0 ≡ 1 → (k : ℕ) × (k < n) × (getD longs (at .misses + k) 0 ≡ getD longs (at .queue) 0)
+
+-- entry e is the first with an address, and its sent mark is set
+pub record Marked (at : Layout) (n : ℕ) (longs : List ℕ) (a : ℕ) (marks marks′ : List ℕ) : Type 0 where
+  pub entry : ℕ
+  pub inside : entry < n
+  pub first : First longs (at .misses) n a entry
+  pub marks-are : marks′ ≡ put marks (at .sent + entry) (1 ∷ [])
+
+-- so it is for the address of a read at the head; for a write-back nothing is set
+pub record HeadMarked (at : Layout) (n : ℕ) (longs marks marks′ : List ℕ) : Type 0 where
+  pub reads : getD marks (at .kinds) 0 ≡ 1 → Marked at n longs (getD longs (at .queue) 0) marks marks′
+  pub other : (getD marks (at .kinds) 0 ≡ 1 → ⊥) → marks′ ≡ marks
+
+-- ---- fill
+
+-- all four statuses of line l are 0
+abbrev pub unusedAt : List ℕ → ℕ → Bool
+unusedAt marks l =
+    eqb (getD marks (4 * l) 0) 0 && eqb (getD marks (4 * l + 1) 0) 0 && eqb (getD marks (4 * l + 2) 0) 0 && eqb (getD marks (4 * l + 3) 0) 0
+
+-- the line has this tag and a status that isn't 0
+abbrev pub heldAt : List ℕ → List ℕ → ℕ → ℕ → Bool
+heldAt longs marks block l = eqb (getD longs l 0) block && not (unusedAt marks l)
+
+-- one of the n lines from base has it
+abbrev pub Holding : List ℕ → List ℕ → ℕ → ℕ → ℕ → Type 0
+Holding longs marks base n block = (k : ℕ) × (k < n) × (heldAt longs marks block (base + k) ≡ true)
+
+-- four sectors of which sector k has come
+abbrev pub arrivedAt : ℕ → List Sector → List Sector
+arrivedAt k xs = set xs k (arrived (getD xs k empty))
+
+-- sector k of line l has come
+pub record SectorFilled (at : Layout) (l k : ℕ) (words marks words′ marks′ : List ℕ) : Type 0 where
+  pub words-are : words′ ≡ put words (at .masks + 4 * l) (masks (arrivedAt k (sectorsFrom words marks (4 * l) (at .masks + 4 * l) (at .readables + 4 * l))))
+  pub marks-are : marks′
+      ≡ put (put marks (4 * l) (statuses (arrivedAt k (sectorsFrom words marks (4 * l) (at .masks + 4 * l) (at .readables + 4 * l)))))
+      (at .readables + 4 * l) (readables (arrivedAt k (sectorsFrom words marks (4 * l) (at .masks + 4 * l) (at .readables + 4 * l))))
+
+-- sector k of a line that has the block has come
+pub record LineFilled (at : Layout) (n block k : ℕ) (longs words marks words′ marks′ : List ℕ) : Type 0 where
+  pub line : ℕ
+  pub inside : line < n
+  pub held : heldAt longs marks block line ≡ true
+  pub filled : SectorFilled at line k words marks words′ marks′
+
+-- an address filled, with the tickets released
+abbrev pub releasing : ℕ → List ℕ → Told
+releasing a ts = record {
+  first = Filled a;
+  reads = false;
+  address = 0;
+  backs = false;
+  block = 0;
+  masks = replicate 4 0;
+  count = length ts;
+  tickets = fit 8 ts;
+}

@@ -1,0 +1,208 @@
+// The inner steps over the three lent slices, behind the checks of the public calls: send, fill and tick. They ask that the slices are
+// the encoding of sound tables, and tell and leave what the step on those tables says.
+use model::BlockAddress;
+use model::Event;
+use model::Refusal;
+use model::Sector;
+use model::SectorAddress;
+use model::Settings;
+use model::Status;
+use model::Told;
+use tables::Layout;
+ghost use mathlib.Core.Path.{_≡_};
+ghost use mathlib.Core.Bool.{true, _&&_};
+ghost use Prim.Native.Nat.{_+_, _*_, _≤_, _<_};
+ghost use lib.ListN.{length, getD};
+ghost use lib.Dec.{eqb, ltb};
+ghost use Rattle.model.specs.Range.{linesOf};
+ghost use Rattle.model.specs.Regions.{region};
+ghost use Rattle.model.specs.Address.{blockOf, sectorIndex, setIndex};
+ghost use Rattle.model.specs.Lent.{lent};
+ghost use Rattle.model.specs.Steps.{send, arrived, fill, tick};
+ghost use Rattle.model.specs.Inner.{Fit, Held, Does};
+ghost use Rattle.tables.specs.Layout.{Placed};
+ghost use Rattle.steps.specs.Parts.{HeadAsked, HeadMarked, unusedAt, heldAt, Holding, SectorFilled, LineFilled, releasing};
+
+// ---- send
+
+// Marks the entry of a read at the head of the queue as sent; `n` entries are looked at.
+fn mark_head(at: Layout, longs: &[u64], marks: &mut [u8], n: usize)
+    requires { ⌜ (at .queue < length (now longs)) × (at .kinds < length (now marks)) × (at .misses + n ≤ length (now longs)) × (at .sent + n ≤ length (now marks)) ⌝ }
+    requires { ⌜ HeadAsked at n (now longs) (now marks) ⌝ }
+    ensures { λ _. ⌜ HeadMarked at n (now (longs .entry)) (now (marks .entry)) (now (marks .exit)) ⌝ }
+{
+    let kind = at.kinds;
+    let head = at.queue;
+    if marks[kind] == 1 {
+        let e = tables::find_entry(longs, at.misses, n, SectorAddress(longs[head]));
+        let mark = at.sent + e;
+        marks[mark] = 1;
+    }
+}
+
+// Takes the queue head; a read marks its entry sent.
+pub fn send_step(s: Settings, longs: &mut [u64], words: &mut [u32], marks: &mut [u8]) -> Told
+    requires { ⌜ Held s (lent (now longs) (now words) (now marks)) ⌝ }
+    ensures { λ r. ⌜ Does s send (lent (now (longs .entry)) (now (words .entry)) (now (marks .entry))) r
+        (lent (now (longs .exit)) (now (words .exit)) (now (marks .exit))) ⌝ }
+{
+    let at = tables::laid_out(s);
+    let n = tables::used(marks, at.kinds, s.places);
+    if n == 0 {
+        return tables::refused(Refusal::QueueEmpty);
+    }
+    let head = tables::front(at, longs, words, marks);
+    mark_head(at, longs, marks, s.entries);
+    tables::pop(at, longs, words, marks, n);
+    tables::blank(head)
+}
+
+// ---- fill
+
+// Whether all four sectors of line `l` are INVALID.
+fn is_unused(marks: &[u8], l: usize) -> bool
+    requires { ⌜ 4 * l + 4 ≤ length (now marks) ⌝ }
+    ensures { λ r. ⌜ r ≡ unusedAt (now (marks .entry)) l ⌝ }
+{
+    let i = 4 * l;
+    (marks[i] == 0) & (marks[i + 1] == 0) & (marks[i + 2] == 0) & (marks[i + 3] == 0)
+}
+
+// The tag is compared first: most ways differ there.
+fn holds_block(longs: &[u64], marks: &[u8], l: usize, block: BlockAddress) -> bool
+    requires { ⌜ (l < length (now longs)) × (4 * l + 4 ≤ length (now marks)) ⌝ }
+    ensures { λ r. ⌜ r ≡ heldAt (now (longs .entry)) (now (marks .entry)) (block .0) l ⌝ }
+{
+    if longs[l] == block.0 {
+        !is_unused(marks, l)
+    } else {
+        false
+    }
+}
+
+// The line that has the block, among the ways of its set from `base`.
+fn find_line(longs: &[u64], marks: &[u8], base: usize, ways: usize, block: BlockAddress) -> usize
+    requires { ⌜ (base + ways ≤ length (now longs)) × (4 * (base + ways) ≤ length (now marks)) ⌝ }
+    requires { ⌜ Holding (now longs) (now marks) base ways (block .0) ⌝ }
+    ensures { λ r. ⌜ (base ≤ r) × (r < base + ways) × (heldAt (now (longs .entry)) (now (marks .entry)) (block .0) r ≡ true) ⌝ }
+{
+    let mut l = base;
+    while !holds_block(longs, marks, l, block) {
+        l += 1;
+    }
+    l
+}
+
+// A sector whose data has come.
+fn arrive(x: Sector) -> Sector
+    ensures { λ r. ⌜ r ≡ arrived x ⌝ }
+{
+    let status = if x.mask == 0 {
+        Status::Valid
+    } else {
+        Status::Modified
+    };
+    Sector {
+        status,
+        mask: x.mask,
+        readable: true,
+    }
+}
+
+// The four sectors of line `l` with sector `k` arrived.
+fn fill_sector(at: Layout, words: &mut [u32], marks: &mut [u8], l: usize, k: usize)
+    requires { ⌜ (k < 4) × (at .masks + 4 * l + 4 ≤ length (now words)) × (4 * l + 4 ≤ length (now marks)) × (at .readables + 4 * l + 4 ≤ length (now marks)) ⌝ }
+    ensures { λ _. ⌜ SectorFilled at l k (now (words .entry)) (now (marks .entry)) (now (words .exit)) (now (marks .exit)) ⌝ }
+{
+    let mut four = tables::lift(at, words, marks, l);
+    let x = four[k];
+    four[k] = arrive(x);
+    tables::store(at, words, marks, l, four);
+}
+
+// Fills the address's sector in the line that has its block.
+fn fill_line(
+    s: Settings,
+    at: Layout,
+    longs: &[u64],
+    words: &mut [u32],
+    marks: &mut [u8],
+    address: u64,
+)
+    requires { ⌜ Fit s (now longs) (now words) (now marks) ⌝ }
+    requires { ⌜ Placed s at ⌝ }
+    requires { ⌜ Holding (now longs) (now marks) (setIndex s address * s .ways) (s .ways) (blockOf address) ⌝ }
+    ensures { λ _. ⌜ LineFilled at (linesOf s) (blockOf address) (sectorIndex address) (now (longs .entry)) (now (words .entry)) (now (marks .entry))
+        (now (words .exit)) (now (marks .exit)) ⌝ }
+{
+    let ways = s.ways;
+    let set = (address / 128 % (s.sets as u64)) as usize;
+    let block = model::block_of(address);
+    let l = find_line(longs, marks, set * ways, ways, block);
+    fill_sector(at, words, marks, l, model::sector_index(address));
+}
+
+// Whether entry `e` is one of the `n` that there are, and sent.
+fn is_sent(at: Layout, marks: &[u8], e: usize, n: usize) -> bool
+    requires { ⌜ at .sent + n ≤ length (now marks) ⌝ }
+    ensures { λ r. ⌜ r ≡ (ltb e n && eqb (getD (now (marks .entry)) (at .sent + e) 0) 1) ⌝ }
+{
+    if e < n {
+        let m = at.sent + e;
+        marks[m] == 1
+    } else {
+        false
+    }
+}
+
+// What a fill tells: the tickets of entry `e` in order, of `readers` places an entry.
+fn release(at: Layout, words: &[u32], marks: &[u8], e: usize, readers: usize, address: u64) -> Told
+    requires { ⌜ (at .counts + e < length (now marks)) × (getD (now marks) (at .counts + e) 0 ≤ 8) × (at .tickets + readers * e + getD (now marks) (at .counts + e) 0 ≤ length (now words)) ⌝ }
+    ensures { λ r. ⌜ r ≡ releasing address (region (now (words .entry)) (at .tickets + readers * e) (getD (now (marks .entry)) (at .counts + e) 0)) ⌝ }
+{
+    let m = at.counts + e;
+    let count = marks[m] as usize;
+    let tickets = tables::copy_out(words, at.tickets + readers * e, count);
+    let mut told = tables::blank(Event::Filled(address));
+    told.count = count;
+    told.tickets = tickets;
+    told
+}
+
+// Of a sent sector address: its sector arrives, its entry goes, its tickets are released in order.
+pub fn fill_step(
+    s: Settings,
+    longs: &mut [u64],
+    words: &mut [u32],
+    marks: &mut [u8],
+    address: u64,
+) -> Told
+    requires { ⌜ Held s (lent (now longs) (now words) (now marks)) ⌝ }
+    ensures { λ r. ⌜ Does s (fill address) (lent (now (longs .entry)) (now (words .entry)) (now (marks .entry))) r
+        (lent (now (longs .exit)) (now (words .exit)) (now (marks .exit))) ⌝ }
+{
+    let at = tables::laid_out(s);
+    let n = tables::used(marks, at.counts, s.entries);
+    let e = tables::find_entry(longs, at.misses, n, SectorAddress(address));
+    if !is_sent(at, marks, e, n) {
+        return tables::refused(Refusal::NotSent);
+    }
+    let told = release(at, words, marks, e, s.readers, address);
+    fill_line(s, at, longs, words, marks, address);
+    tables::remove(at, longs, words, marks, e, n, s.readers);
+    told
+}
+
+// ---- tick
+
+pub fn tick_step(s: Settings, longs: &[u64], words: &mut [u32], marks: &[u8], cycle: u32) -> Told
+    requires { ⌜ Held s (lent (now longs) (now words) (now marks)) ⌝ }
+    ensures { λ r. ⌜ Does s (tick cycle) (lent (now (longs .entry)) (now (words .entry)) (now (marks .entry))) r
+        (lent (now (longs .entry)) (now (words .exit)) (now (marks .entry))) ⌝ }
+{
+    if (cycle < words[0]) | (4294967294 < cycle) {
+        return tables::refused(Refusal::BadCycle);
+    }
+    words[0] = cycle;
+    tables::blank(Event::Ticked)
+}

@@ -1,0 +1,47 @@
+-- A table in which one record changes or goes.
+use mathlib.Core.Path.{_≡_, refl, ap}
+use mathlib.Core.Logic.{_≢_}
+use mathlib.Core.Bool.{Bool, true, false}
+use mathlib.Core.List.{List, [], _∷_, map}
+use Prim.Native.Nat.{ℕ, zero, suc, _<_}
+use native.Mathlib.Nat.{not-suc-le-zero, le-of-suc-le-suc}
+use native.Mathlib.Omega.{arith}
+use lib.ListN.{length, getD, set, drop}
+use Rattle.model.specs.Words.{places, keep}
+use Rattle.model.specs.Regions.{dropped}
+
+module _ {A : Type 0} where
+  map-none : (f : A → A) (d : A) (l : List A) → ((j : ℕ) → j < length l → f (getD l j d) ≡ getD l j d) → map f l ≡ l
+  map-none f d [] h = refl
+  map-none f d (x ∷ l) h = rw (h 0 (omega arith), map-none f d l (λ j k. h (suc j) (omega arith)))
+
+  -- a map that changes one record only
+  pub map-one : (f : A → A) (d : A) (l : List A) (e : ℕ) → e < length l → ((j : ℕ) → j < length l → j ≢ e → f (getD l j d) ≡ getD l j d) → map f l ≡ set l e (f (getD l e d))
+  map-one f d [] e k h = absurd (not-suc-le-zero k)
+  map-one f d (x ∷ l) zero k h = ap (λ (r : List A). f x ∷ r) (map-none f d l (λ j i. h (suc j) (omega arith) (λ q. let z : suc j ≡ 0 = q in omega arith)))
+  map-one f d (x ∷ l) (suc e) k h =
+      rw (h 0 (omega arith) (λ q. let z : 0 ≡ suc e = q in omega arith))
+      (ap (λ (r : List A). x ∷ r) (map-one f d l e (le-of-suc-le-suc k) (λ j i n. h (suc j) (omega arith) (λ q. let z : suc j ≡ suc e = q in n (omega arith)))))
+
+  keep-all : (p : A → Bool) (d : A) (l : List A) → ((j : ℕ) → j < length l → p (getD l j d) ≡ true) → keep p l ≡ l
+  keep-all p d [] h = refl
+  keep-all p d (x ∷ l) h = rw (h 0 (omega arith), keep-all p d l (λ j k. h (suc j) (omega arith)))
+
+  -- a choice that leaves one record out
+  pub keep-one : (p : A → Bool) (d : A) (l : List A) (e : ℕ) → e < length l → p (getD l e d) ≡ false → ((j : ℕ) → j < length l → j ≢ e → p (getD l j d) ≡ true) → keep p l ≡ dropped e l
+  keep-one p d [] e k n h = absurd (not-suc-le-zero k)
+  keep-one p d (x ∷ l) zero k n h = rw n (keep-all p d l (λ j i. h (suc j) (omega arith) (λ q. let z : suc j ≡ 0 = q in omega arith)))
+  keep-one p d (x ∷ l) (suc e) k n h =
+      rw (h 0 (omega arith) (λ q. let z : 0 ≡ suc e = q in omega arith))
+      (ap (λ (r : List A). x ∷ r) (keep-one p d l e (le-of-suc-le-suc k) n (λ j i m. h (suc j) (omega arith) (λ q. let z : suc j ≡ suc e = q in m (omega arith)))))
+
+  pub dropped-first : (l : List A) → dropped 0 l ≡ drop 1 l
+  dropped-first [] = refl
+  dropped-first (x ∷ l) = refl
+
+  -- a field that a map leaves
+  pub places-map : (g : A → List ℕ) (f : A → A) → ((x : A) → g (f x) ≡ g x) → (w n : ℕ) (l : List A) → places g w n (map f l) ≡ places g w n l
+  unfolding places
+  places-map g f h w zero l = refl
+  places-map g f h w (suc n) [] = refl
+  places-map g f h w (suc n) (x ∷ l) = rw (h x, places-map g f h w n l)

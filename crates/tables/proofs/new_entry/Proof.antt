@@ -1,0 +1,23 @@
+-- Three stores, each put in its place.
+use Rattle.tables.proofs.Stores.{one-put}
+use borrow.Author.Needs.{needs}
+use Rattle.tables.proofs.new_entry.Statement.{statement}
+use Rattle.tables.proofs.new_entry.Tie as tie
+
+pub new-entry-spec : {M : Type 1} → statement M
+new-entry-spec =
+    tie.close
+    (tie.spec
+    (λ c. search needs)  -- add-l
+    (λ c. search needs)  -- mul-w
+    (λ c. search needs)  -- add-w
+    (λ c. search needs)  -- add-m
+    (λ c. search needs)  -- mul-longs
+    (λ c. search needs)  -- slice-write-longs
+    (λ c. search needs)  -- mul-words
+    (λ c. search needs)  -- slice-write-words
+    (λ c. search needs)  -- slice-write-marks
+    (λ c. search needs)  -- same-length
+    (λ c. search needs)  -- same-length-2
+    (λ c. search needs)  -- same-length-3
+    (λ c. let start = c .before .before .before in (one-put (start .args .longs .now) _ _ (start .pre .0), one-put (start .args .words .now) _ _ (start .pre .1), one-put (start .args .marks .now) _ _ (start .pre .2))))  -- returns

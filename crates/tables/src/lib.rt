@@ -1,0 +1,390 @@
+// Leaves over the lent slices at offsets inside them: where the parts lie, a region that closes up, a search, the queue, the miss
+// table, a line's four sectors. The contracts speak of the raw numbers.
+use model::BlockAddress;
+use model::Event;
+use model::Refusal;
+use model::Sector;
+use model::SectorAddress;
+use model::Settings;
+use model::Told;
+use model::status_number;
+use model::status_of;
+ghost use mathlib.Core.Path.{_≡_};
+ghost use mathlib.Core.Bool.{true};
+ghost use Prim.Native.Nat.{_+_, _-_, _*_, _≤_, _<_};
+ghost use mathlib.Core.List.{[], _∷_};
+ghost use lib.ListN.{length};
+ghost use Rattle.model.specs.Range.{inRange};
+ghost use Rattle.model.specs.Words.{fit};
+ghost use Rattle.model.specs.Numbers.{statusNumber};
+ghost use Rattle.model.specs.Lent.{bit};
+ghost use Rattle.model.specs.Regions.{region, put, closed};
+ghost use Rattle.model.specs.declared.Event.the-variants as event;
+ghost use Rattle.tables.specs.Layout.{Placed};
+ghost use Rattle.tables.specs.Raw.{First, frontAt, sectorFrom, sectorsFrom, statuses, masks, readables};
+ghost use Rattle.tables.specs.Telling.{telling};
+
+// Where each part of the tables begins, behind the part before it.
+pub struct Layout {
+    pub misses: usize,
+    pub queue: usize,
+    pub masks: usize,
+    pub tickets: usize,
+    pub backs: usize,
+    pub readables: usize,
+    pub sent: usize,
+    pub counts: usize,
+    pub kinds: usize,
+}
+
+pub fn laid_out(s: Settings) -> Layout
+    requires { ⌜ inRange s ≡ true ⌝ }
+    ensures { λ r. ⌜ Placed s r ⌝ }
+{
+    let lines = s.sets * s.ways;
+    let tickets = 1 + 5 * lines;
+    let sent = 8 * lines;
+    Layout {
+        misses: lines,
+        queue: lines + s.entries,
+        masks: 1 + lines,
+        tickets,
+        backs: tickets + s.readers * s.entries,
+        readables: 4 * lines,
+        sent,
+        counts: sent + s.entries,
+        kinds: sent + 2 * s.entries,
+    }
+}
+
+// One event and no more.
+pub fn blank(first: Event) -> Told
+    ensures { λ r. ⌜ r ≡ telling first ⌝ }
+{
+    Told {
+        first,
+        reads: false,
+        address: 0,
+        backs: false,
+        block: 0,
+        masks: [0; 4],
+        count: 0,
+        tickets: [0; 8],
+    }
+}
+
+pub fn refused(n: Refusal) -> Told
+    ensures { λ r. ⌜ r ≡ telling (event.Refused n) ⌝ }
+{
+    blank(Event::Refused(n))
+}
+
+// A region of `n` numbers from `at` loses its first `by`; the others close up, and zeros stand at its end.
+pub fn close_longs(s: &mut [u64], at: usize, n: usize, by: usize)
+    requires { ⌜ (by ≤ n) × (at + n ≤ length (now s)) ⌝ }
+    ensures { λ _. ⌜ now (s .exit) ≡ closed (now (s .entry)) at n by ⌝ }
+{
+    let mut i = 0;
+    while i < n {
+        let x = if i < n - by { s[at + i + by] } else { 0 };
+        s[at + i] = x;
+        i += 1;
+    }
+}
+
+pub fn close_words(s: &mut [u32], at: usize, n: usize, by: usize)
+    requires { ⌜ (by ≤ n) × (at + n ≤ length (now s)) ⌝ }
+    ensures { λ _. ⌜ now (s .exit) ≡ closed (now (s .entry)) at n by ⌝ }
+{
+    let mut i = 0;
+    while i < n {
+        let x = if i < n - by { s[at + i + by] } else { 0 };
+        s[at + i] = x;
+        i += 1;
+    }
+}
+
+pub fn close_marks(s: &mut [u8], at: usize, n: usize, by: usize)
+    requires { ⌜ (by ≤ n) × (at + n ≤ length (now s)) ⌝ }
+    ensures { λ _. ⌜ now (s .exit) ≡ closed (now (s .entry)) at n by ⌝ }
+{
+    let mut i = 0;
+    while i < n {
+        let x = if i < n - by { s[at + i + by] } else { 0 };
+        s[at + i] = x;
+        i += 1;
+    }
+}
+
+// The first of `n` bytes from `at` that is 0, or `n`: how many places of a table are in use, by a byte that isn't 0 in those.
+pub fn used(marks: &[u8], at: usize, n: usize) -> usize
+    requires { ⌜ at + n ≤ length (now marks) ⌝ }
+    ensures { λ r. ⌜ First (now (marks .entry)) at n 0 r ⌝ }
+{
+    let mut i = 0;
+    while i < n {
+        if marks[at + i] == 0 {
+            return i;
+        }
+        i += 1;
+    }
+    i
+}
+
+// The first of `n` miss addresses from `at` that is the address, or `n`.
+pub fn find_entry(longs: &[u64], at: usize, n: usize, address: SectorAddress) -> usize
+    requires { ⌜ at + n ≤ length (now longs) ⌝ }
+    ensures { λ r. ⌜ First (now (longs .entry)) at n (address .0) r ⌝ }
+{
+    let mut i = 0;
+    while i < n {
+        if longs[at + i] == address.0 {
+            return i;
+        }
+        i += 1;
+    }
+    i
+}
+
+// `n` numbers from `at`, then zeros.
+pub fn copy_out(words: &[u32], at: usize, n: usize) -> [u32; 8]
+    requires { ⌜ (n ≤ 8) × (at + n ≤ length (now words)) ⌝ }
+    ensures { λ r. ⌜ r ≡ fit 8 (region (now (words .entry)) at n) ⌝ }
+{
+    let mut out = [0u32; 8];
+    let mut i = 0;
+    while i < n {
+        out[i] = words[at + i];
+        i += 1;
+    }
+    out
+}
+
+// ---- the queue
+
+// The head, as the event of its sending.
+pub fn front(at: Layout, longs: &[u64], words: &[u32], marks: &[u8]) -> Event
+    requires { ⌜ (at .queue < length (now longs)) × (at .backs + 4 ≤ length (now words)) × (at .kinds < length (now marks)) ⌝ }
+    ensures { λ r. ⌜ r ≡ frontAt (now (longs .entry)) (at .queue) (now (words .entry)) (at .backs) (now (marks .entry)) (at .kinds) ⌝ }
+{
+    let l = at.queue;
+    let w = at.backs;
+    let m = at.kinds;
+    if marks[m] == 1 {
+        Event::ReadSent(longs[l])
+    } else {
+        Event::WriteBackSent {
+            block: longs[l],
+            m0: words[w],
+            m1: words[w + 1],
+            m2: words[w + 2],
+            m3: words[w + 3],
+        }
+    }
+}
+
+// Takes the head out of the first `n` places; the others move down by one, and the last of them is zero.
+pub fn pop(at: Layout, longs: &mut [u64], words: &mut [u32], marks: &mut [u8], n: usize)
+    requires { ⌜ (1 ≤ n) × (at .queue + n ≤ length (now longs)) × (at .backs + 4 * n ≤ length (now words)) × (at .kinds + n ≤ length (now marks)) ⌝ }
+    ensures { λ _. ⌜ (now (longs .exit) ≡ closed (now (longs .entry)) (at .queue) n 1)
+        × (now (words .exit) ≡ closed (now (words .entry)) (at .backs) (4 * n) 4)
+        × (now (marks .exit) ≡ closed (now (marks .entry)) (at .kinds) n 1) ⌝ }
+{
+    close_longs(longs, at.queue, n, 1);
+    close_words(words, at.backs, 4 * n, 4);
+    close_marks(marks, at.kinds, n, 1);
+}
+
+// Puts a read at place `n`, the first free one.
+pub fn push_read(at: Layout, longs: &mut [u64], marks: &mut [u8], n: usize, address: SectorAddress)
+    requires { ⌜ (at .queue + n < length (now longs)) × (at .kinds + n < length (now marks)) ⌝ }
+    ensures { λ _. ⌜ (now (longs .exit) ≡ put (now (longs .entry)) (at .queue + n) (address .0 ∷ []))
+        × (now (marks .exit) ≡ put (now (marks .entry)) (at .kinds + n) (1 ∷ [])) ⌝ }
+{
+    let l = at.queue + n;
+    let m = at.kinds + n;
+    longs[l] = address.0;
+    marks[m] = 1;
+}
+
+// Puts a write-back at place `n`, the first free one.
+pub fn push_write_back(
+    at: Layout,
+    longs: &mut [u64],
+    words: &mut [u32],
+    marks: &mut [u8],
+    n: usize,
+    block: BlockAddress,
+    masks: [u32; 4],
+)
+    requires { ⌜ (at .queue + n < length (now longs)) × (at .backs + 4 * n + 4 ≤ length (now words)) × (at .kinds + n < length (now marks)) ⌝ }
+    ensures { λ _. ⌜ (now (longs .exit) ≡ put (now (longs .entry)) (at .queue + n) (block .0 ∷ []))
+        × (now (words .exit) ≡ put (now (words .entry)) (at .backs + 4 * n) masks)
+        × (now (marks .exit) ≡ put (now (marks .entry)) (at .kinds + n) (2 ∷ [])) ⌝ }
+{
+    let l = at.queue + n;
+    let w = at.backs + 4 * n;
+    let m = at.kinds + n;
+    longs[l] = block.0;
+    words[w] = masks[0];
+    words[w + 1] = masks[1];
+    words[w + 2] = masks[2];
+    words[w + 3] = masks[3];
+    marks[m] = 2;
+}
+
+// ---- the miss table, of `readers` ticket places an entry
+
+// Takes entry `e` out of the first `n`; later ones close up, and the last of them is zero.
+pub fn remove(
+    at: Layout,
+    longs: &mut [u64],
+    words: &mut [u32],
+    marks: &mut [u8],
+    e: usize,
+    n: usize,
+    readers: usize,
+)
+    requires { ⌜ (e < n) × (at .misses + n ≤ length (now longs)) × (at .tickets + readers * n ≤ length (now words)) × (at .sent + n ≤ length (now marks)) × (at .counts + n ≤ length (now marks)) ⌝ }
+    ensures { λ _. ⌜ (now (longs .exit) ≡ closed (now (longs .entry)) (at .misses + e) (n - e) 1)
+        × (now (words .exit) ≡ closed (now (words .entry)) (at .tickets + readers * e) (readers * (n - e)) readers)
+        × (now (marks .exit) ≡ closed (closed (now (marks .entry)) (at .sent + e) (n - e) 1) (at .counts + e) (n - e) 1) ⌝ }
+{
+    let left = n - e;
+    close_longs(longs, at.misses + e, left, 1);
+    close_words(words, at.tickets + readers * e, readers * left, readers);
+    close_marks(marks, at.sent + e, left, 1);
+    close_marks(marks, at.counts + e, left, 1);
+}
+
+// A ticket joins entry `e`, which has `n` of them, behind these.
+pub fn append_ticket(
+    at: Layout,
+    words: &mut [u32],
+    marks: &mut [u8],
+    e: usize,
+    n: usize,
+    readers: usize,
+    ticket: u32,
+)
+    requires { ⌜ (n < 8) × (at .tickets + readers * e + n < length (now words)) × (at .counts + e < length (now marks)) ⌝ }
+    ensures { λ _. ⌜ (now (words .exit) ≡ put (now (words .entry)) (at .tickets + readers * e + n) (ticket ∷ []))
+        × (now (marks .exit) ≡ put (now (marks .entry)) (at .counts + e) ((n + 1) ∷ [])) ⌝ }
+{
+    let w = at.tickets + readers * e + n;
+    let m = at.counts + e;
+    words[w] = ticket;
+    marks[m] = (n + 1) as u8;
+}
+
+// An unsent entry with one ticket at place `e`, the first free one.
+pub fn new_entry(
+    at: Layout,
+    longs: &mut [u64],
+    words: &mut [u32],
+    marks: &mut [u8],
+    e: usize,
+    readers: usize,
+    address: SectorAddress,
+    ticket: u32,
+)
+    requires { ⌜ (at .misses + e < length (now longs)) × (at .tickets + readers * e < length (now words)) × (at .counts + e < length (now marks)) ⌝ }
+    ensures { λ _. ⌜ (now (longs .exit) ≡ put (now (longs .entry)) (at .misses + e) (address .0 ∷ []))
+        × (now (words .exit) ≡ put (now (words .entry)) (at .tickets + readers * e) (ticket ∷ []))
+        × (now (marks .exit) ≡ put (now (marks .entry)) (at .counts + e) (1 ∷ [])) ⌝ }
+{
+    let l = at.misses + e;
+    let w = at.tickets + readers * e;
+    let m = at.counts + e;
+    longs[l] = address.0;
+    words[w] = ticket;
+    marks[m] = 1;
+}
+
+// ---- a line's four sectors
+
+// The sector whose status stands at `s`, mask at `w` and readable mark at `r`.
+fn sector_from(words: &[u32], marks: &[u8], s: usize, w: usize, r: usize) -> Sector
+    requires { ⌜ (w < length (now words)) × (s < length (now marks)) × (r < length (now marks)) ⌝ }
+    ensures { λ x. ⌜ x ≡ sectorFrom (now (words .entry)) (now (marks .entry)) s w r ⌝ }
+{
+    Sector {
+        status: status_of(marks[s]),
+        mask: words[w],
+        readable: marks[r] == 1,
+    }
+}
+
+pub fn lift(at: Layout, words: &[u32], marks: &[u8], line: usize) -> [Sector; 4]
+    requires { ⌜ (at .masks + 4 * line + 4 ≤ length (now words)) × (4 * line + 4 ≤ length (now marks)) × (at .readables + 4 * line + 4 ≤ length (now marks)) ⌝ }
+    ensures { λ r. ⌜ r ≡ sectorsFrom (now (words .entry)) (now (marks .entry)) (4 * line) (at .masks + 4 * line) (at .readables + 4 * line) ⌝ }
+{
+    let s = 4 * line;
+    let w = at.masks + s;
+    let r = at.readables + s;
+    [
+        sector_from(words, marks, s, w, r),
+        sector_from(words, marks, s + 1, w + 1, r + 1),
+        sector_from(words, marks, s + 2, w + 2, r + 2),
+        sector_from(words, marks, s + 3, w + 3, r + 3),
+    ]
+}
+
+fn store_masks(words: &mut [u32], w: usize, four: [Sector; 4])
+    requires { ⌜ w + 4 ≤ length (now words) ⌝ }
+    ensures { λ _. ⌜ now (words .exit) ≡ put (now (words .entry)) w (masks four) ⌝ }
+{
+    let a = four[0];
+    let b = four[1];
+    let c = four[2];
+    let d = four[3];
+    words[w] = a.mask;
+    words[w + 1] = b.mask;
+    words[w + 2] = c.mask;
+    words[w + 3] = d.mask;
+}
+
+fn status_byte(x: Sector) -> u8
+    ensures { λ r. ⌜ r ≡ statusNumber (x .status) ⌝ }
+{
+    let status = x.status;
+    status_number(status)
+}
+
+fn store_statuses(marks: &mut [u8], s: usize, four: [Sector; 4])
+    requires { ⌜ s + 4 ≤ length (now marks) ⌝ }
+    ensures { λ _. ⌜ now (marks .exit) ≡ put (now (marks .entry)) s (statuses four) ⌝ }
+{
+    marks[s] = status_byte(four[0]);
+    marks[s + 1] = status_byte(four[1]);
+    marks[s + 2] = status_byte(four[2]);
+    marks[s + 3] = status_byte(four[3]);
+}
+
+fn readable_byte(x: Sector) -> u8
+    ensures { λ r. ⌜ r ≡ bit (x .readable) ⌝ }
+{
+    if x.readable { 1 } else { 0 }
+}
+
+fn store_readables(marks: &mut [u8], r: usize, four: [Sector; 4])
+    requires { ⌜ r + 4 ≤ length (now marks) ⌝ }
+    ensures { λ _. ⌜ now (marks .exit) ≡ put (now (marks .entry)) r (readables four) ⌝ }
+{
+    marks[r] = readable_byte(four[0]);
+    marks[r + 1] = readable_byte(four[1]);
+    marks[r + 2] = readable_byte(four[2]);
+    marks[r + 3] = readable_byte(four[3]);
+}
+
+// Stores the four sectors of a line back.
+pub fn store(at: Layout, words: &mut [u32], marks: &mut [u8], line: usize, four: [Sector; 4])
+    requires { ⌜ (at .masks + 4 * line + 4 ≤ length (now words)) × (4 * line + 4 ≤ length (now marks)) × (at .readables + 4 * line + 4 ≤ length (now marks)) ⌝ }
+    ensures { λ _. ⌜ (now (words .exit) ≡ put (now (words .entry)) (at .masks + 4 * line) (masks four))
+        × (now (marks .exit) ≡ put (put (now (marks .entry)) (4 * line) (statuses four)) (at .readables + 4 * line) (readables four)) ⌝ }
+{
+    let s = 4 * line;
+    store_masks(words, at.masks + s, four);
+    store_statuses(marks, s, four);
+    store_readables(marks, at.readables + s, four);
+}

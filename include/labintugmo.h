@@ -1,0 +1,283 @@
+/*
+ * labintugmo.h: a verified GPU sector cache for C (C99 and later).
+ *
+ * In order: what a caller must know; the numbers (settings, rooms, statuses, answers,
+ * refusals, stops, records); where each number stands in the lent tables; the calls.
+ *
+ * The library keeps nothing of its own: no allocation, no globals, no file. A caller lends
+ * the tables of one cache as three arrays, with the same six settings, to every call.
+ *
+ *  - A slice is a pointer and, next to it, its length in elements. The pointer must be good
+ *    for that length; with length 0 it may be null. Slices of one call must not overlap.
+ *  - Memory filled with zeros is neither fresh nor sound: begin with labintugmo_fresh or
+ *    with labintugmo_run.
+ *  - Calls on different tables may run at the same time. Calls on the same tables may not.
+ *  - Every call but the lengths and labintugmo_fresh checks the tables that it is lent, so
+ *    tables that something else has changed are refused (3) and never acted on.
+ *  - A refused call leaves all three slices as they were.
+ *
+ * Linking: libexported.a, for x86-64 Linux; it needs nothing but the C library.
+ */
+#ifndef LABINTUGMO_H
+#define LABINTUGMO_H
+
+#include <stddef.h>
+#include <stdint.h>
+
+#ifdef __cplusplus
+extern "C" {
+#endif
+
+/*
+ * Settings, six numbers, always in this order. Any number may be passed; one outside its
+ * range is refused (1).
+ *
+ *   sets     1 to 256, a power of two
+ *   ways     1 to 16; sets * ways, the number of lines, is at most 1,024
+ *   percent  0 to 100; a dirty line may be a victim only while
+ *            100 * dirty lines >= percent * lines
+ *   entries  1 to 64, of the miss table
+ *   readers  1 to 8, tickets that one miss entry holds
+ *   places   2 to 64, of the miss queue
+ */
+
+/* Bytes of event room that a call, and that wait, asks for before it does anything. */
+enum { LABINTUGMO_ROOM = 64, LABINTUGMO_WAIT_ROOM = 9600 };
+
+/* A line has 128 bytes, its four sectors have 32 each; addresses are below 2^48. */
+enum { LABINTUGMO_LINE_BYTES = 128, LABINTUGMO_SECTOR_BYTES = 32, LABINTUGMO_SECTORS = 4 };
+
+/* The latest current cycle. */
+#define LABINTUGMO_LAST_CYCLE UINT32_C(4294967294)
+
+/* The status of a sector, a byte of marks. */
+enum {
+    LABINTUGMO_INVALID = 0,
+    LABINTUGMO_RESERVED = 1, /* a miss entry waits for it */
+    LABINTUGMO_VALID = 2,
+    LABINTUGMO_MODIFIED = 3
+};
+
+/* The kind of a queue place, a byte of marks. */
+enum { LABINTUGMO_UNUSED = 0, LABINTUGMO_QUEUED_READ = 1, LABINTUGMO_QUEUED_WRITE_BACK = 2 };
+
+/* The answer to an accepted access, a byte of record 0x10. */
+enum {
+    LABINTUGMO_HIT = 1,
+    LABINTUGMO_HIT_RESERVED = 2,
+    LABINTUGMO_MISS = 3,
+    LABINTUGMO_SECTOR_MISS = 4
+};
+
+/*
+ * Refusals, checked in this order; the first that applies is given. 1 to 3 can come from
+ * any call on lent tables (3 not from fresh), 4 to 9 from an access and 4 and 6 from wait,
+ * 10 from fill, 11 from tick, 12 from send.
+ */
+enum {
+    LABINTUGMO_BAD_SETTINGS = 1,    /* a setting outside its range */
+    LABINTUGMO_OTHER_LENGTH = 2,    /* a lent slice of another length */
+    LABINTUGMO_NOT_SOUND = 3,       /* tables that break a rule of sound tables */
+    LABINTUGMO_NOT_WELL_FORMED = 4, /* address not a multiple of 32 or not below 2^48;
+                                       write mask 0; read mask not 0 */
+    LABINTUGMO_SET_BUSY = 5,        /* no way can be replaced, one waits for a fill: try again */
+    LABINTUGMO_SET_HELD = 6,        /* no way can be replaced, none waits: too few dirty lines */
+    LABINTUGMO_QUEUE_FULL = 7,      /* too few free queue places: send, then try again */
+    LABINTUGMO_ENTRY_FULL = 8,      /* the miss entry has all its readers: fill, try again */
+    LABINTUGMO_MISSES_FULL = 9,     /* no free miss entry: fill, then try again */
+    LABINTUGMO_NOT_SENT = 10,       /* fill: no sent entry with exactly that address */
+    LABINTUGMO_BAD_CYCLE = 11,      /* tick to an earlier cycle or above the latest */
+    LABINTUGMO_QUEUE_EMPTY = 12     /* send: nothing is queued */
+};
+
+/* Why labintugmo_run stopped: one of these, or LABINTUGMO_BAD_SETTINGS or _OTHER_LENGTH. */
+enum {
+    LABINTUGMO_END = 0,             /* the whole stream was run */
+    LABINTUGMO_SETTINGS_PLACE = 13, /* settings not first, or another record first */
+    LABINTUGMO_UNKNOWN_KIND = 14,
+    LABINTUGMO_CUT_SHORT = 15,
+    LABINTUGMO_NO_ROOM = 16         /* fewer than LABINTUGMO_ROOM bytes of event room left */
+};
+
+/*
+ * Records: one byte of kind, then a body of fixed length; numbers are little-endian.
+ * Commands, which labintugmo_run reads:
+ */
+enum {
+    LABINTUGMO_COMMAND_SETTINGS = 0, /* 7: sets 2, ways, percent, entries, readers, places 1 each */
+    LABINTUGMO_COMMAND_READ = 1,     /* 12: address 8, ticket 4 */
+    LABINTUGMO_COMMAND_WRITE = 2,    /* 12: address 8, mask 4 */
+    LABINTUGMO_COMMAND_SEND = 3,     /* 0 */
+    LABINTUGMO_COMMAND_FILL = 4,     /* 8: sector address */
+    LABINTUGMO_COMMAND_TICK = 5      /* 4: cycle */
+};
+
+/*
+ * Events, which the calls write. An access writes 0x10, then 0x12 and 0x13 if they apply;
+ * a send 0x15 or 0x16; a fill 0x17, then a 0x14 for each ticket in order of arrival; a tick
+ * 0x18; a refused call 0x11 and nothing else.
+ */
+enum {
+    LABINTUGMO_EVENT_ANSWER = 0x10,            /* 3: answer 1, line 2 */
+    LABINTUGMO_EVENT_REFUSED = 0x11,           /* 1: refusal */
+    LABINTUGMO_EVENT_READ_QUEUED = 0x12,       /* 8: sector address */
+    LABINTUGMO_EVENT_WRITE_BACK_QUEUED = 0x13, /* 24: block address 8, four dirty masks 4 each */
+    LABINTUGMO_EVENT_RELEASED = 0x14,          /* 4: ticket */
+    LABINTUGMO_EVENT_READ_SENT = 0x15,         /* 8: sector address */
+    LABINTUGMO_EVENT_WRITE_BACK_SENT = 0x16,   /* 24: as 0x13 */
+    LABINTUGMO_EVENT_FILLED = 0x17,            /* 8: sector address */
+    LABINTUGMO_EVENT_TICKED = 0x18             /* 0 */
+};
+
+/*
+ * The lent tables. With lines = sets * ways, line number = set * ways + way, and
+ * set = (address / 128) mod sets:
+ *
+ *   longs, lines + entries + places:
+ *     [line]                                       tag: the block address
+ *     [lines + entry]                              miss entry: sector address
+ *     [lines + entries + place]                    queue: sector or block address
+ *
+ *   words, 1 + 5 * lines + entries * readers + 4 * places:
+ *     [0]                                          current cycle
+ *     [1 + line]                                   cycle of the line's last access
+ *     [1 + lines + 4 * line + sector]              dirty mask, bit i for byte i
+ *     [1 + 5 * lines + readers * entry + i]        miss entry: ticket i
+ *     [1 + 5 * lines + readers * entries
+ *        + 4 * place + sector]                     queue: mask of a write-back
+ *
+ *   marks, 8 * lines + 2 * entries + places:
+ *     [4 * line + sector]                          status
+ *     [4 * lines + 4 * line + sector]              1 readable, 0 not
+ *     [8 * lines + entry]                          miss entry: 1 sent, 0 not
+ *     [8 * lines + entries + entry]                miss entry: tickets; 0 is an unused entry
+ *     [8 * lines + 2 * entries + place]            queue: kind; 0 is an unused place
+ *
+ * Used entries and places stand first, the oldest at 0. A caller may read any of these at
+ * any time between calls; it should write none of them.
+ */
+
+/* The lengths of the three slices for settings; 0 for settings out of range. */
+size_t labintugmo_longs_length(uint32_t sets, uint32_t ways, uint32_t percent,
+                               uint32_t entries, uint32_t readers, uint32_t places);
+size_t labintugmo_words_length(uint32_t sets, uint32_t ways, uint32_t percent,
+                               uint32_t entries, uint32_t readers, uint32_t places);
+size_t labintugmo_marks_length(uint32_t sets, uint32_t ways, uint32_t percent,
+                               uint32_t entries, uint32_t readers, uint32_t places);
+
+/* Makes the tables fresh, whatever they held: 0, or refusal 1 or 2. */
+uint32_t labintugmo_fresh(uint32_t sets, uint32_t ways, uint32_t percent,
+                          uint32_t entries, uint32_t readers, uint32_t places,
+                          uint64_t *longs, size_t longs_length,
+                          uint32_t *words, size_t words_length,
+                          uint8_t *marks, size_t marks_length);
+
+/* Whether calls would take the tables: 0, or refusal 1, 2 or 3. */
+uint32_t labintugmo_check(uint32_t sets, uint32_t ways, uint32_t percent,
+                          uint32_t entries, uint32_t readers, uint32_t places,
+                          const uint64_t *longs, size_t longs_length,
+                          const uint32_t *words, size_t words_length,
+                          const uint8_t *marks, size_t marks_length);
+
+/*
+ * The next six write the call's event records to the start of `events` and return their
+ * number of bytes, at most 49; a refused call writes 0x11 and its number and returns 2.
+ * With fewer than LABINTUGMO_ROOM bytes of room they return 0 and nothing changes.
+ * Bytes of `events` beyond those written are left alone.
+ */
+
+/* A read of the sector at `address`; the ticket comes back in a 0x14 when it is filled. */
+size_t labintugmo_read(uint32_t sets, uint32_t ways, uint32_t percent,
+                       uint32_t entries, uint32_t readers, uint32_t places,
+                       uint64_t *longs, size_t longs_length,
+                       uint32_t *words, size_t words_length,
+                       uint8_t *marks, size_t marks_length,
+                       uint64_t address, uint32_t ticket,
+                       uint8_t *events, size_t events_length);
+
+/* A write of the bytes of `mask` (not 0, bit i for byte i) of the sector at `address`. */
+size_t labintugmo_write(uint32_t sets, uint32_t ways, uint32_t percent,
+                        uint32_t entries, uint32_t readers, uint32_t places,
+                        uint64_t *longs, size_t longs_length,
+                        uint32_t *words, size_t words_length,
+                        uint8_t *marks, size_t marks_length,
+                        uint64_t address, uint32_t mask,
+                        uint8_t *events, size_t events_length);
+
+/* Either: is_write 0 is a read, whose mask must be 0; any other number is a write, whose
+   ticket is ignored. */
+size_t labintugmo_access(uint32_t sets, uint32_t ways, uint32_t percent,
+                         uint32_t entries, uint32_t readers, uint32_t places,
+                         uint64_t *longs, size_t longs_length,
+                         uint32_t *words, size_t words_length,
+                         uint8_t *marks, size_t marks_length,
+                         uint32_t is_write, uint64_t address, uint32_t mask, uint32_t ticket,
+                         uint8_t *events, size_t events_length);
+
+/* Takes the head of the miss queue to the memory. */
+size_t labintugmo_send(uint32_t sets, uint32_t ways, uint32_t percent,
+                       uint32_t entries, uint32_t readers, uint32_t places,
+                       uint64_t *longs, size_t longs_length,
+                       uint32_t *words, size_t words_length,
+                       uint8_t *marks, size_t marks_length,
+                       uint8_t *events, size_t events_length);
+
+/* The memory's answer to a read that was sent: `address` exactly as it was sent. */
+size_t labintugmo_fill(uint32_t sets, uint32_t ways, uint32_t percent,
+                       uint32_t entries, uint32_t readers, uint32_t places,
+                       uint64_t *longs, size_t longs_length,
+                       uint32_t *words, size_t words_length,
+                       uint8_t *marks, size_t marks_length,
+                       uint64_t address,
+                       uint8_t *events, size_t events_length);
+
+/* Sets the current cycle, which may stay but not go back. */
+size_t labintugmo_tick(uint32_t sets, uint32_t ways, uint32_t percent,
+                       uint32_t entries, uint32_t readers, uint32_t places,
+                       uint64_t *longs, size_t longs_length,
+                       uint32_t *words, size_t words_length,
+                       uint8_t *marks, size_t marks_length,
+                       uint32_t cycle,
+                       uint8_t *events, size_t events_length);
+
+/*
+ * Offers an access again and again, with a memory that answers at once: each round sends
+ * the queue head if there is one, fills the first entry marked sent if there is one, and
+ * offers the access; up to round max(1, queued + miss entries in use). By then the access
+ * has been accepted, or it is held (6) and would stay so.
+ *
+ * Writes the events of all rounds without the refusals of offers, and returns their bytes;
+ * `round`, a slice of length 1, becomes the accepting round, counted from 1. If there is
+ * none it becomes 0 and the last record is 0x11: 6 after all rounds, or 1 to 4 at once with
+ * nothing done. With fewer than LABINTUGMO_WAIT_ROOM bytes of room, or another length of
+ * `round`, it returns 0 and nothing changes.
+ */
+size_t labintugmo_wait(uint32_t sets, uint32_t ways, uint32_t percent,
+                       uint32_t entries, uint32_t readers, uint32_t places,
+                       uint64_t *longs, size_t longs_length,
+                       uint32_t *words, size_t words_length,
+                       uint8_t *marks, size_t marks_length,
+                       uint32_t is_write, uint64_t address, uint32_t mask, uint32_t ticket,
+                       uint8_t *events, size_t events_length,
+                       uint64_t *round, size_t round_length);
+
+/*
+ * Runs a stream of commands: a settings record, which makes the tables fresh, then any
+ * others. A refused command writes 0x11 and the run goes on. Returns the stop number;
+ * `counts`, a slice of length 2, becomes the bytes of the records run and the event bytes
+ * written. The record at which it stopped has written nothing; the tables are as the records
+ * before it left them, and untouched if the settings record was not accepted. With another
+ * length of `counts` it returns 2 and nothing changes.
+ */
+uint32_t labintugmo_run(const uint8_t *stream, size_t stream_length,
+                        uint8_t *events, size_t events_length,
+                        uint64_t *longs, size_t longs_length,
+                        uint32_t *words, size_t words_length,
+                        uint8_t *marks, size_t marks_length,
+                        uint64_t *counts, size_t counts_length);
+
+#ifdef __cplusplus
+}
+#endif
+
+#endif

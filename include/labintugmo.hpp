@@ -1,0 +1,733 @@
+// labintugmo.hpp: the verified GPU sector cache for C++17, header only, over labintugmo.h.
+//
+// In order: settings, lent tables and where their numbers stand; answers, refusals and stops
+// by name; events and how they are read from bytes; what the calls return; command streams;
+// the cache; whole runs.
+//
+// A refusal is a value, never an exception; only memory that cannot be had throws, from
+// std::vector. A Cache owns its tables and may be copied and moved. It has no lock: a cache
+// that several threads use needs one around it.
+#ifndef LABINTUGMO_HPP
+#define LABINTUGMO_HPP
+
+#include "labintugmo.h"
+
+#include <array>
+#include <cstddef>
+#include <cstdint>
+#include <iterator>
+#include <optional>
+#include <utility>
+#include <variant>
+#include <vector>
+
+namespace labintugmo {
+
+// ---- Settings and lent tables ----
+
+// Any numbers; in_range says whether a cache can have them. The ranges stand in labintugmo.h.
+struct Settings {
+    std::uint32_t sets = 0;
+    std::uint32_t ways = 0;
+    std::uint32_t percent = 0;
+    std::uint32_t entries = 0;
+    std::uint32_t readers = 0;
+    std::uint32_t places = 0;
+
+    std::size_t longs_length() const noexcept {
+        return labintugmo_longs_length(sets, ways, percent, entries, readers, places);
+    }
+    std::size_t words_length() const noexcept {
+        return labintugmo_words_length(sets, ways, percent, entries, readers, places);
+    }
+    std::size_t marks_length() const noexcept {
+        return labintugmo_marks_length(sets, ways, percent, entries, readers, places);
+    }
+    bool in_range() const noexcept { return longs_length() != 0; }
+    std::size_t lines() const noexcept { return std::size_t{sets} * ways; }
+};
+
+// The three arrays of one cache.
+struct Tables {
+    std::vector<std::uint64_t> longs;
+    std::vector<std::uint32_t> words;
+    std::vector<std::uint8_t> marks;
+
+    // Of the right lengths for settings in range, but neither fresh nor sound yet.
+    static Tables zero(const Settings& s) {
+        return {std::vector<std::uint64_t>(s.longs_length()),
+                std::vector<std::uint32_t>(s.words_length()),
+                std::vector<std::uint8_t>(s.marks_length())};
+    }
+};
+
+inline bool operator==(const Tables& a, const Tables& b) {
+    return a.longs == b.longs && a.words == b.words && a.marks == b.marks;
+}
+inline bool operator!=(const Tables& a, const Tables& b) { return !(a == b); }
+
+// Where each number stands, for settings in range: an index into longs, words or marks.
+class Layout {
+public:
+    explicit Layout(const Settings& s) noexcept
+        : lines_(s.lines()), entries_(s.entries), readers_(s.readers) {}
+
+    // In longs.
+    std::size_t tag(std::size_t line) const noexcept { return line; }
+    std::size_t miss_address(std::size_t entry) const noexcept { return lines_ + entry; }
+    std::size_t queue_address(std::size_t place) const noexcept {
+        return lines_ + entries_ + place;
+    }
+
+    // In words.
+    std::size_t current_cycle() const noexcept { return 0; }
+    std::size_t line_cycle(std::size_t line) const noexcept { return 1 + line; }
+    std::size_t mask(std::size_t line, std::size_t sector) const noexcept {
+        return 1 + lines_ + 4 * line + sector;
+    }
+    std::size_t ticket(std::size_t entry, std::size_t which) const noexcept {
+        return 1 + 5 * lines_ + readers_ * entry + which;
+    }
+    std::size_t queue_mask(std::size_t place, std::size_t sector) const noexcept {
+        return 1 + 5 * lines_ + readers_ * entries_ + 4 * place + sector;
+    }
+
+    // In marks.
+    std::size_t status(std::size_t line, std::size_t sector) const noexcept {
+        return 4 * line + sector;
+    }
+    std::size_t readable(std::size_t line, std::size_t sector) const noexcept {
+        return 4 * lines_ + 4 * line + sector;
+    }
+    std::size_t sent(std::size_t entry) const noexcept { return 8 * lines_ + entry; }
+    std::size_t ticket_count(std::size_t entry) const noexcept {
+        return 8 * lines_ + entries_ + entry;
+    }
+    std::size_t queue_kind(std::size_t place) const noexcept {
+        return 8 * lines_ + 2 * entries_ + place;
+    }
+
+private:
+    std::size_t lines_;
+    std::size_t entries_;
+    std::size_t readers_;
+};
+
+// ---- Answers, refusals and stops ----
+
+enum class Answer : std::uint8_t {
+    hit = LABINTUGMO_HIT,
+    hit_reserved = LABINTUGMO_HIT_RESERVED,
+    miss = LABINTUGMO_MISS,
+    sector_miss = LABINTUGMO_SECTOR_MISS
+};
+
+enum class Refusal : std::uint8_t {
+    bad_settings = LABINTUGMO_BAD_SETTINGS,
+    other_length = LABINTUGMO_OTHER_LENGTH,
+    not_sound = LABINTUGMO_NOT_SOUND,
+    not_well_formed = LABINTUGMO_NOT_WELL_FORMED,
+    set_busy = LABINTUGMO_SET_BUSY,
+    set_held = LABINTUGMO_SET_HELD,
+    queue_full = LABINTUGMO_QUEUE_FULL,
+    entry_full = LABINTUGMO_ENTRY_FULL,
+    misses_full = LABINTUGMO_MISSES_FULL,
+    not_sent = LABINTUGMO_NOT_SENT,
+    bad_cycle = LABINTUGMO_BAD_CYCLE,
+    queue_empty = LABINTUGMO_QUEUE_EMPTY
+};
+
+enum class Stop : std::uint32_t {
+    end = LABINTUGMO_END,
+    bad_settings = LABINTUGMO_BAD_SETTINGS,
+    other_length = LABINTUGMO_OTHER_LENGTH,
+    settings_place = LABINTUGMO_SETTINGS_PLACE,
+    unknown_kind = LABINTUGMO_UNKNOWN_KIND,
+    cut_short = LABINTUGMO_CUT_SHORT,
+    no_room = LABINTUGMO_NO_ROOM
+};
+
+inline const char* name(Answer answer) noexcept {
+    switch (answer) {
+    case Answer::hit: return "HIT";
+    case Answer::hit_reserved: return "HIT_RESERVED";
+    case Answer::miss: return "MISS";
+    case Answer::sector_miss: return "SECTOR_MISS";
+    }
+    return "no answer";
+}
+
+inline const char* name(Refusal refusal) noexcept {
+    switch (refusal) {
+    case Refusal::bad_settings: return "a setting outside its range";
+    case Refusal::other_length: return "a lent slice of another length";
+    case Refusal::not_sound: return "tables not sound";
+    case Refusal::not_well_formed: return "access not well formed";
+    case Refusal::set_busy: return "set busy";
+    case Refusal::set_held: return "set held";
+    case Refusal::queue_full: return "too few free queue places";
+    case Refusal::entry_full: return "miss entry has all its readers";
+    case Refusal::misses_full: return "no free miss entry";
+    case Refusal::not_sent: return "no sent entry with that address";
+    case Refusal::bad_cycle: return "tick to an earlier cycle or past the latest";
+    case Refusal::queue_empty: return "queue empty";
+    }
+    return "no refusal";
+}
+
+inline const char* name(Stop stop) noexcept {
+    switch (stop) {
+    case Stop::end: return "end of input";
+    case Stop::bad_settings: return "bad settings";
+    case Stop::other_length: return "lent tables of another length";
+    case Stop::settings_place: return "settings not first, or another kind first";
+    case Stop::unknown_kind: return "unknown kind";
+    case Stop::cut_short: return "cut short";
+    case Stop::no_room: return "too little event room";
+    }
+    return "no stop";
+}
+
+// ---- Events ----
+
+using Masks = std::array<std::uint32_t, LABINTUGMO_SECTORS>;
+
+struct Answered {
+    Answer answer;
+    std::uint16_t line;
+};
+struct Refused {
+    Refusal refusal;
+};
+struct ReadQueued {
+    std::uint64_t address;
+};
+struct WriteBackQueued {
+    std::uint64_t block;
+    Masks masks;
+};
+struct Released {
+    std::uint32_t ticket;
+};
+struct ReadSent {
+    std::uint64_t address;
+};
+struct WriteBackSent {
+    std::uint64_t block;
+    Masks masks;
+};
+struct Filled {
+    std::uint64_t address;
+};
+struct Ticked {};
+
+// In the order of the record kinds 0x10 to 0x18.
+using Event = std::variant<Answered, Refused, ReadQueued, WriteBackQueued, Released, ReadSent,
+                           WriteBackSent, Filled, Ticked>;
+
+// For std::visit with a lambda for each kind of event.
+template <class... Cases>
+struct Overloaded : Cases... {
+    using Cases::operator()...;
+};
+template <class... Cases>
+Overloaded(Cases...) -> Overloaded<Cases...>;
+
+// One event and the bytes of its record.
+struct Decoded {
+    Event event;
+    std::size_t size;
+};
+
+namespace detail {
+
+inline std::uint64_t number(const std::uint8_t* at, std::size_t bytes) noexcept {
+    std::uint64_t value = 0;
+    for (std::size_t i = bytes; i > 0; --i) {
+        value = value << 8 | at[i - 1];
+    }
+    return value;
+}
+
+inline std::uint32_t number32(const std::uint8_t* at) noexcept {
+    return static_cast<std::uint32_t>(number(at, 4));
+}
+
+inline Masks masks(const std::uint8_t* at) noexcept {
+    return {number32(at), number32(at + 4), number32(at + 8), number32(at + 12)};
+}
+
+// Body lengths of the event kinds 0x10 to 0x18, and of the command kinds 0 to 5.
+constexpr std::array<std::size_t, 9> event_lengths{3, 1, 8, 24, 4, 8, 24, 8, 0};
+constexpr std::array<std::size_t, 6> command_lengths{7, 12, 12, 0, 8, 4};
+
+constexpr std::size_t settings_record = 8;
+
+// Of a whole settings record.
+inline Settings settings_of(const std::uint8_t* record) noexcept {
+    return {static_cast<std::uint32_t>(number(record + 1, 2)),
+            record[3], record[4], record[5], record[6], record[7]};
+}
+
+}  // namespace detail
+
+// The event at the start of some bytes; none if the kind is no event's, the record is cut
+// short, or its body is no event's (an answer outside 1 to 4, a refusal outside 1 to 12).
+inline std::optional<Decoded> decode(const std::uint8_t* bytes, std::size_t length) noexcept {
+    if (length == 0 || bytes[0] < LABINTUGMO_EVENT_ANSWER || bytes[0] > LABINTUGMO_EVENT_TICKED) {
+        return std::nullopt;
+    }
+    const std::size_t size =
+        1 + detail::event_lengths[std::size_t{bytes[0]} - LABINTUGMO_EVENT_ANSWER];
+    if (length < size) {
+        return std::nullopt;
+    }
+    const std::uint8_t* body = bytes + 1;
+    switch (bytes[0]) {
+    case LABINTUGMO_EVENT_ANSWER:
+        if (body[0] < LABINTUGMO_HIT || body[0] > LABINTUGMO_SECTOR_MISS) {
+            return std::nullopt;
+        }
+        return Decoded{Answered{static_cast<Answer>(body[0]),
+                                static_cast<std::uint16_t>(detail::number(body + 1, 2))}, size};
+    case LABINTUGMO_EVENT_REFUSED:
+        if (body[0] < LABINTUGMO_BAD_SETTINGS || body[0] > LABINTUGMO_QUEUE_EMPTY) {
+            return std::nullopt;
+        }
+        return Decoded{Refused{static_cast<Refusal>(body[0])}, size};
+    case LABINTUGMO_EVENT_READ_QUEUED: return Decoded{ReadQueued{detail::number(body, 8)}, size};
+    case LABINTUGMO_EVENT_WRITE_BACK_QUEUED:
+        return Decoded{WriteBackQueued{detail::number(body, 8), detail::masks(body + 8)}, size};
+    case LABINTUGMO_EVENT_RELEASED: return Decoded{Released{detail::number32(body)}, size};
+    case LABINTUGMO_EVENT_READ_SENT: return Decoded{ReadSent{detail::number(body, 8)}, size};
+    case LABINTUGMO_EVENT_WRITE_BACK_SENT:
+        return Decoded{WriteBackSent{detail::number(body, 8), detail::masks(body + 8)}, size};
+    case LABINTUGMO_EVENT_FILLED: return Decoded{Filled{detail::number(body, 8)}, size};
+    default: return Decoded{Ticked{}, size};
+    }
+}
+
+// Goes from event to event; equal to the end where nothing more can be read as an event.
+class EventIterator {
+public:
+    using iterator_category = std::input_iterator_tag;
+    using value_type = Event;
+    using difference_type = std::ptrdiff_t;
+    using pointer = const Event*;
+    using reference = const Event&;
+
+    EventIterator() noexcept = default;
+    EventIterator(const std::uint8_t* bytes, std::size_t length) noexcept
+        : at_(bytes), left_(length), now_(decode(bytes, length)) {}
+
+    reference operator*() const noexcept { return now_->event; }
+    pointer operator->() const noexcept { return &now_->event; }
+    EventIterator& operator++() noexcept {
+        at_ += now_->size;
+        left_ -= now_->size;
+        now_ = decode(at_, left_);
+        return *this;
+    }
+    EventIterator operator++(int) noexcept {
+        EventIterator before = *this;
+        ++*this;
+        return before;
+    }
+
+    // Bytes of the log from here on; those left at the end are no whole event.
+    std::size_t left() const noexcept { return left_; }
+
+    friend bool operator==(const EventIterator& a, const EventIterator& b) noexcept {
+        return a.now_.has_value() == b.now_.has_value() && (!a.now_ || a.at_ == b.at_);
+    }
+    friend bool operator!=(const EventIterator& a, const EventIterator& b) noexcept {
+        return !(a == b);
+    }
+
+private:
+    const std::uint8_t* at_ = nullptr;
+    std::size_t left_ = 0;
+    std::optional<Decoded> now_;
+};
+
+// A log in memory that somebody else owns, to go through event by event.
+class Log {
+public:
+    Log(const std::uint8_t* bytes, std::size_t length) noexcept : bytes_(bytes), length_(length) {}
+    explicit Log(const std::vector<std::uint8_t>& bytes) noexcept
+        : Log(bytes.data(), bytes.size()) {}
+    explicit Log(std::vector<std::uint8_t>&&) = delete;  // it would be gone before it is read
+
+    EventIterator begin() const noexcept { return {bytes_, length_}; }
+    EventIterator end() const noexcept { return {}; }
+
+    // Bytes up to the first that cannot be read as an event; the length if there is none.
+    std::size_t whole() const noexcept {
+        EventIterator at = begin();
+        while (at != end()) {
+            ++at;
+        }
+        return length_ - at.left();
+    }
+
+private:
+    const std::uint8_t* bytes_;
+    std::size_t length_;
+};
+
+// ---- What the calls return ----
+
+// The records of one call, with the refusal if it was refused. It can be gone through event
+// by event: `for (const Event& event : cache.send())`.
+class CallResult {
+public:
+    bool accepted() const noexcept { return !refusal(); }
+    explicit operator bool() const noexcept { return accepted(); }
+    std::optional<Refusal> refusal() const noexcept {
+        const auto refused = find<Refused>();
+        return refused ? std::optional<Refusal>(refused->refusal) : std::nullopt;
+    }
+
+    // The bytes, as they stand in a log.
+    const std::uint8_t* data() const noexcept { return bytes_.data(); }
+    std::size_t size() const noexcept { return size_; }
+
+    EventIterator begin() const noexcept { return {data(), size()}; }
+    EventIterator end() const noexcept { return {}; }
+
+    // The first event of a kind.
+    template <class Kind>
+    std::optional<Kind> find() const noexcept {
+        for (const Event& event : *this) {
+            if (const Kind* found = std::get_if<Kind>(&event)) {
+                return *found;
+            }
+        }
+        return std::nullopt;
+    }
+
+protected:
+    friend class Cache;
+    std::array<std::uint8_t, LABINTUGMO_ROOM> bytes_{};
+    std::size_t size_ = 0;
+};
+
+struct AccessResult : CallResult {
+    std::optional<Answer> answer() const noexcept {
+        const auto answered = find<Answered>();
+        return answered ? std::optional<Answer>(answered->answer) : std::nullopt;
+    }
+    std::optional<std::uint16_t> line() const noexcept {
+        const auto answered = find<Answered>();
+        return answered ? std::optional<std::uint16_t>(answered->line) : std::nullopt;
+    }
+    std::optional<ReadQueued> read_queued() const noexcept { return find<ReadQueued>(); }
+    std::optional<WriteBackQueued> write_back_queued() const noexcept {
+        return find<WriteBackQueued>();
+    }
+};
+
+// An accepted send has one of the two.
+struct SendResult : CallResult {
+    std::optional<ReadSent> read() const noexcept { return find<ReadSent>(); }
+    std::optional<WriteBackSent> write_back() const noexcept { return find<WriteBackSent>(); }
+};
+
+struct FillResult : CallResult {
+    // In order of arrival.
+    std::vector<std::uint32_t> tickets() const {
+        std::vector<std::uint32_t> tickets;
+        for (const Event& event : *this) {
+            if (const Released* released = std::get_if<Released>(&event)) {
+                tickets.push_back(released->ticket);
+            }
+        }
+        return tickets;
+    }
+};
+
+using TickResult = CallResult;
+
+// The events of all rounds, without the refusals of offers; a last refusal stands at the end.
+class WaitResult {
+public:
+    bool accepted() const noexcept { return round_ != 0; }
+    explicit operator bool() const noexcept { return accepted(); }
+    // The accepting round, from 1.
+    std::optional<std::uint64_t> round() const noexcept {
+        return accepted() ? std::optional<std::uint64_t>(round_) : std::nullopt;
+    }
+    std::optional<Refusal> refusal() const noexcept {
+        if (accepted() || bytes_.size() < 2) {
+            return std::nullopt;
+        }
+        return static_cast<Refusal>(bytes_.back());
+    }
+    const std::uint8_t* data() const noexcept { return bytes_.data(); }
+    std::size_t size() const noexcept { return bytes_.size(); }
+    EventIterator begin() const noexcept { return {data(), size()}; }
+    EventIterator end() const noexcept { return {}; }
+
+private:
+    friend class Cache;
+    std::vector<std::uint8_t> bytes_;
+    std::uint64_t round_ = 0;
+};
+
+struct RunResult {
+    Stop stop;
+    std::uint64_t consumed;
+    std::uint64_t written;
+};
+
+// ---- Accesses and command streams ----
+
+struct Access {
+    bool is_write;
+    std::uint64_t address;
+    std::uint32_t mask;    // 0 for a read
+    std::uint32_t ticket;  // ignored for a write
+
+    static Access read(std::uint64_t address, std::uint32_t ticket) noexcept {
+        return {false, address, 0, ticket};
+    }
+    static Access write(std::uint64_t address, std::uint32_t mask) noexcept {
+        return {true, address, mask, 0};
+    }
+};
+
+// Command records in order, for a run that repeats the calls made beside them.
+class Commands {
+public:
+    // False, and nothing is added, if a number does not fit its field; those in range do.
+    bool settings(const Settings& s) {
+        const std::uint32_t most = 0xFF;
+        if (s.sets > 0xFFFF || s.ways > most || s.percent > most || s.entries > most ||
+            s.readers > most || s.places > most) {
+            return false;
+        }
+        bytes_.push_back(LABINTUGMO_COMMAND_SETTINGS);
+        put(s.sets, 2);
+        for (const std::uint32_t number : {s.ways, s.percent, s.entries, s.readers, s.places}) {
+            put(number, 1);
+        }
+        return true;
+    }
+    void read(std::uint64_t address, std::uint32_t ticket) {
+        bytes_.push_back(LABINTUGMO_COMMAND_READ);
+        put(address, 8);
+        put(ticket, 4);
+    }
+    void write(std::uint64_t address, std::uint32_t mask) {
+        bytes_.push_back(LABINTUGMO_COMMAND_WRITE);
+        put(address, 8);
+        put(mask, 4);
+    }
+    void send() { bytes_.push_back(LABINTUGMO_COMMAND_SEND); }
+    void fill(std::uint64_t address) {
+        bytes_.push_back(LABINTUGMO_COMMAND_FILL);
+        put(address, 8);
+    }
+    void tick(std::uint32_t cycle) {
+        bytes_.push_back(LABINTUGMO_COMMAND_TICK);
+        put(cycle, 4);
+    }
+
+    const std::vector<std::uint8_t>& bytes() const noexcept { return bytes_; }
+
+private:
+    void put(std::uint64_t number, std::size_t bytes) {
+        for (std::size_t i = 0; i < bytes; ++i) {
+            bytes_.push_back(static_cast<std::uint8_t>(number >> 8 * i));
+        }
+    }
+
+    std::vector<std::uint8_t> bytes_;
+};
+
+// ---- The cache ----
+
+// One cache with its tables. They are sound at all times, since nothing else can write them;
+// so its calls are refused with 4 to 12 only.
+class Cache {
+public:
+    // A fresh cache; none if a setting is out of range.
+    static std::optional<Cache> make(const Settings& settings) {
+        Cache cache(settings, Tables::zero(settings));
+        if (cache.reset()) {
+            return std::nullopt;
+        }
+        return cache;
+    }
+
+    const Settings& settings() const noexcept { return settings_; }
+    const Tables& tables() const noexcept { return tables_; }
+    Layout layout() const noexcept { return Layout(settings_); }
+
+    std::uint32_t cycle() const noexcept { return tables_.words[0]; }
+    // Queue places in use.
+    std::size_t queued() const noexcept {
+        return used(layout().queue_kind(0), settings_.places);
+    }
+    // Miss entries in use, sent or not.
+    std::size_t misses() const noexcept {
+        return used(layout().ticket_count(0), settings_.entries);
+    }
+
+    // Makes the tables fresh.
+    std::optional<Refusal> reset() {
+        return refusal(labintugmo_fresh(
+            settings_.sets, settings_.ways, settings_.percent, settings_.entries,
+            settings_.readers, settings_.places, tables_.longs.data(), tables_.longs.size(),
+            tables_.words.data(), tables_.words.size(), tables_.marks.data(),
+            tables_.marks.size()));
+    }
+
+    // Takes tables that were kept from a cache of these settings; refuses them (2 or 3) and
+    // stays as it is if they are not sound.
+    std::optional<Refusal> restore(Tables tables) {
+        Cache other(settings_, std::move(tables));
+        const auto refused = other.check();
+        if (!refused) {
+            tables_ = std::move(other.tables_);
+        }
+        return refused;
+    }
+
+    // The check that every call makes; it refuses nothing unless memory was overwritten.
+    std::optional<Refusal> check() const {
+        return refusal(labintugmo_check(
+            settings_.sets, settings_.ways, settings_.percent, settings_.entries,
+            settings_.readers, settings_.places, tables_.longs.data(), tables_.longs.size(),
+            tables_.words.data(), tables_.words.size(), tables_.marks.data(),
+            tables_.marks.size()));
+    }
+
+    AccessResult read(std::uint64_t address, std::uint32_t ticket) {
+        return call<AccessResult>(labintugmo_read, address, ticket);
+    }
+    AccessResult write(std::uint64_t address, std::uint32_t mask) {
+        return call<AccessResult>(labintugmo_write, address, mask);
+    }
+    AccessResult access(const Access& a) {
+        const std::uint32_t is_write = a.is_write ? 1 : 0;
+        return call<AccessResult>(labintugmo_access, is_write, a.address, a.mask, a.ticket);
+    }
+    SendResult send() { return call<SendResult>(labintugmo_send); }
+    FillResult fill(std::uint64_t address) { return call<FillResult>(labintugmo_fill, address); }
+    TickResult tick(std::uint32_t cycle) { return call<TickResult>(labintugmo_tick, cycle); }
+
+    // Offers the access until it is accepted, sending and filling in between, with a memory
+    // that answers at once; or until it is known to be held.
+    WaitResult wait(const Access& a) {
+        std::array<std::uint8_t, LABINTUGMO_WAIT_ROOM> events;
+        WaitResult result;
+        const std::uint32_t is_write = a.is_write ? 1 : 0;
+        const std::size_t written = labintugmo_wait(
+            settings_.sets, settings_.ways, settings_.percent, settings_.entries,
+            settings_.readers, settings_.places, tables_.longs.data(), tables_.longs.size(),
+            tables_.words.data(), tables_.words.size(), tables_.marks.data(),
+            tables_.marks.size(), is_write, a.address, a.mask, a.ticket, events.data(),
+            events.size(), &result.round_, 1);
+        result.bytes_.assign(events.data(), events.data() + written);
+        return result;
+    }
+
+    // Runs a command stream on this cache's tables, which must have the lengths that the
+    // stream's settings ask for (else stop 2). Once its settings record is accepted the cache
+    // has those settings.
+    RunResult run(const std::uint8_t* stream, std::size_t length, std::uint8_t* events,
+                  std::size_t room) {
+        std::array<std::uint64_t, 2> counts{};
+        const std::uint32_t stop = labintugmo_run(
+            stream, length, events, room, tables_.longs.data(), tables_.longs.size(),
+            tables_.words.data(), tables_.words.size(), tables_.marks.data(),
+            tables_.marks.size(), counts.data(), counts.size());
+        if (counts[0] >= detail::settings_record) {
+            settings_ = detail::settings_of(stream);
+        }
+        return {static_cast<Stop>(stop), counts[0], counts[1]};
+    }
+
+private:
+    Cache(const Settings& settings, Tables tables)
+        : settings_(settings), tables_(std::move(tables)) {}
+
+    static std::optional<Refusal> refusal(std::uint32_t number) noexcept {
+        return number == 0 ? std::nullopt
+                           : std::optional<Refusal>(static_cast<Refusal>(number));
+    }
+
+    // Used places stand first.
+    std::size_t used(std::size_t first, std::size_t most) const noexcept {
+        std::size_t count = 0;
+        while (count < most && tables_.marks[first + count] != 0) {
+            ++count;
+        }
+        return count;
+    }
+
+    template <class Result, class Function, class... Arguments>
+    Result call(Function function, Arguments... arguments) {
+        Result result;
+        result.size_ = function(
+            settings_.sets, settings_.ways, settings_.percent, settings_.entries,
+            settings_.readers, settings_.places, tables_.longs.data(), tables_.longs.size(),
+            tables_.words.data(), tables_.words.size(), tables_.marks.data(),
+            tables_.marks.size(), arguments..., result.bytes_.data(), result.bytes_.size());
+        return result;
+    }
+
+    Settings settings_;
+    Tables tables_;
+};
+
+// ---- Whole runs ----
+
+// Event room with which a run of the stream does not stop for want of it.
+inline std::size_t event_room(const std::uint8_t* stream, std::size_t length) noexcept {
+    // The most that a command of each kind 0 to 5 writes; a fill releases at most 8 tickets.
+    constexpr std::array<std::size_t, 6> most{0, 38, 29, 25, 49, 2};
+    std::size_t room = LABINTUGMO_ROOM;
+    std::size_t at = 0;
+    while (at < length && stream[at] <= LABINTUGMO_COMMAND_TICK) {
+        room += most[stream[at]];
+        at += 1 + detail::command_lengths[stream[at]];
+    }
+    return room;
+}
+
+// A run with everything it made: how it stopped, the log, and the cache as the stream left
+// it (none if the stream does not start with good settings).
+struct Run {
+    RunResult result;
+    std::vector<std::uint8_t> log;
+    std::optional<Cache> cache;
+};
+
+// Runs a stream from its own settings record on tables made for it.
+inline Run run(const std::uint8_t* stream, std::size_t length) {
+    Run run{{}, std::vector<std::uint8_t>(event_room(stream, length)), std::nullopt};
+    if (length >= detail::settings_record && stream[0] == LABINTUGMO_COMMAND_SETTINGS) {
+        run.cache = Cache::make(detail::settings_of(stream));
+    }
+    if (run.cache) {
+        run.result = run.cache->run(stream, length, run.log.data(), run.log.size());
+    } else {
+        std::array<std::uint64_t, 2> counts{};
+        const std::uint32_t stop =
+            labintugmo_run(stream, length, run.log.data(), run.log.size(), nullptr, 0, nullptr,
+                           0, nullptr, 0, counts.data(), counts.size());
+        run.result = {static_cast<Stop>(stop), counts[0], counts[1]};
+    }
+    run.log.resize(static_cast<std::size_t>(run.result.written));
+    return run;
+}
+
+inline Run run(const std::vector<std::uint8_t>& stream) {
+    return run(stream.data(), stream.size());
+}
+
+}  // namespace labintugmo
+
+#endif

@@ -1,0 +1,294 @@
+// The C++ header: the cache and what its calls return, events of calls and of logs whole and
+// damaged, wait and a longer wait by hand, runs, kept and restored tables.
+//
+// Ends with a line `header: N checks, M failed` and a status.
+#include "labintugmo.hpp"
+
+#include <cstdio>
+#include <string>
+
+namespace {
+
+using namespace labintugmo;
+using Bytes = std::vector<std::uint8_t>;
+
+int checks = 0;
+int failures = 0;
+
+#define CHECK(condition)                                                       \
+    do {                                                                       \
+        ++checks;                                                              \
+        if (!(condition)) {                                                    \
+            ++failures;                                                        \
+            std::printf("header.cpp:%d: not so: %s\n", __LINE__, #condition);  \
+        }                                                                      \
+    } while (0)
+
+constexpr Settings base{1, 2, 50, 2, 2, 4};
+
+Cache fresh(const Settings& settings = base) {
+    auto cache = Cache::make(settings);
+    CHECK(cache.has_value());
+    return *cache;
+}
+
+template <class Result>
+Bytes bytes_of(const Result& result) {
+    return Bytes(result.data(), result.data() + result.size());
+}
+
+// A letter for each event, to compare sequences.
+template <class Range>
+std::string letters(const Range& events) {
+    std::string text;
+    for (const Event& event : events) {
+        text += std::visit(
+            Overloaded{[](const Answered&) { return 'a'; }, [](const Refused&) { return '!'; },
+                       [](const ReadQueued&) { return 'r'; },
+                       [](const WriteBackQueued&) { return 'w'; },
+                       [](const Released&) { return 't'; }, [](const ReadSent&) { return 'R'; },
+                       [](const WriteBackSent&) { return 'W'; },
+                       [](const Filled&) { return 'f'; }, [](const Ticked&) { return '.'; }},
+            event);
+    }
+    return text;
+}
+
+void settings_and_layout() {
+    for (const Settings bad : {Settings{}, Settings{3, 2, 50, 2, 2, 4}, Settings{256, 5, 50, 2, 2, 4},
+                               Settings{1, 2, 50, 2, 2, 0xFFFFFFFF}}) {
+        CHECK(!bad.in_range());
+        CHECK(!Cache::make(bad));
+    }
+    const Settings wide{64, 4, 50, 16, 4, 32};
+    const Layout at(wide);
+    CHECK(wide.in_range() && wide.lines() == 256);
+    CHECK(at.tag(255) + 1 == at.miss_address(0) && at.miss_address(15) + 1 == at.queue_address(0));
+    CHECK(at.queue_address(31) + 1 == wide.longs_length());
+    CHECK(at.current_cycle() + 1 == at.line_cycle(0) && at.line_cycle(255) + 1 == at.mask(0, 0));
+    CHECK(at.mask(255, 3) + 1 == at.ticket(0, 0) && at.ticket(15, 3) + 1 == at.queue_mask(0, 0));
+    CHECK(at.queue_mask(31, 3) + 1 == wide.words_length());
+    CHECK(at.status(255, 3) + 1 == at.readable(0, 0) && at.readable(255, 3) + 1 == at.sent(0));
+    CHECK(at.sent(15) + 1 == at.ticket_count(0) && at.ticket_count(15) + 1 == at.queue_kind(0));
+    CHECK(at.queue_kind(31) + 1 == wide.marks_length());
+}
+
+// Document 01's whole run, call by call and as a stream.
+void whole_run() {
+    Cache cache = fresh();
+    Commands commands;
+    CHECK(commands.settings(base));
+    Bytes log;
+    const auto keep = [&log](const CallResult& result) {
+        log.insert(log.end(), result.data(), result.data() + result.size());
+    };
+
+    const AccessResult first = cache.read(0, 7);
+    commands.read(0, 7);
+    keep(first);
+    CHECK(first && first.answer() == Answer::miss && first.line() == 1);
+    CHECK(first.read_queued()->address == 0 && !first.write_back_queued() && !first.refusal());
+    CHECK(cache.queued() == 1 && cache.misses() == 1);
+    CHECK(cache.tables().longs[cache.layout().miss_address(0)] == 0);
+    CHECK(cache.tables().words[cache.layout().ticket(0, 0)] == 7);
+
+    const AccessResult second = cache.access(Access::read(0, 9));
+    commands.read(0, 9);
+    keep(second);
+    CHECK(second.answer() == Answer::hit_reserved && letters(second) == "a");
+
+    const SendResult sent = cache.send();
+    commands.send();
+    keep(sent);
+    CHECK(sent && sent.read()->address == 0 && !sent.write_back() && cache.queued() == 0);
+
+    const FillResult filled = cache.fill(0);
+    commands.fill(0);
+    keep(filled);
+    CHECK(filled && letters(filled) == "ftt");
+    CHECK((filled.tickets() == std::vector<std::uint32_t>{7, 9}) && cache.misses() == 0);
+    CHECK(letters(Log(log)) == "araRftt" && Log(log).whole() == 45 && log.size() == 45);
+
+    const Run repeated = run(commands.bytes());
+    CHECK(repeated.result.stop == Stop::end && repeated.result.written == 45);
+    CHECK(repeated.result.consumed == commands.bytes().size());
+    CHECK(repeated.log == log && repeated.cache->tables() == cache.tables());
+}
+
+void refusals() {
+    Cache cache = fresh();
+    const Tables before = cache.tables();
+    CHECK(cache.send().refusal() == Refusal::queue_empty && !cache.send());
+    CHECK(cache.fill(0).refusal() == Refusal::not_sent);
+    CHECK(cache.read(1, 0).refusal() == Refusal::not_well_formed);
+    CHECK(cache.write(0, 0).refusal() == Refusal::not_well_formed);
+    CHECK(cache.access({false, 0, 1, 0}).refusal() == Refusal::not_well_formed);
+    CHECK(cache.tick(0xFFFFFFFF).refusal() == Refusal::bad_cycle);
+    CHECK(cache.tables() == before && !cache.check());
+    CHECK(letters(cache.send()) == "!" && cache.send().size() == 2);
+    CHECK(!cache.read(1, 0).answer() && !cache.read(1, 0).line());
+    CHECK(cache.tick(5) && cache.cycle() == 5 && letters(cache.tick(5)) == ".");
+    CHECK(cache.tick(4).refusal() == Refusal::bad_cycle);
+    CHECK(std::string(name(Refusal::queue_empty)) == "queue empty");
+    CHECK(std::string(name(Answer::sector_miss)) == "SECTOR_MISS");
+    CHECK(std::string(name(Stop::cut_short)) == "cut short");
+}
+
+// A victim with dirty bytes, case 11 of document 01.
+void write_back() {
+    Cache cache = fresh();
+    CHECK(cache.write(0, 0xFF).line() == 1 && cache.write(128, 0xFF).line() == 0);
+    const AccessResult third = cache.write(256, 0xFF);
+    CHECK(third.line() == 0 && letters(third) == "aw");
+    const auto queued = third.write_back_queued();
+    CHECK(queued && queued->block == 128 && (queued->masks == Masks{0xFF, 0, 0, 0}));
+    const SendResult sent = cache.send();
+    CHECK(sent.write_back()->block == 128 && sent.write_back()->masks == queued->masks);
+    CHECK(!sent.read());
+}
+
+void damaged_logs() {
+    const Bytes none;
+    CHECK(Log(none).whole() == 0 && letters(Log(none)).empty());
+    CHECK(Log(nullptr, 0).begin() == Log(nullptr, 0).end());
+    struct Damaged {
+        Bytes bytes;
+        std::size_t whole;
+    };
+    const Damaged logs[] = {
+        {{0x18, 0x18, 0x00}, 2},                  // a command's kind
+        {{0x18, 0x19}, 1},                        // no kind
+        {{0x18, 0x0F, 0x18}, 1},
+        {{0x10, 0, 0, 0}, 0},                     // no answer
+        {{0x10, 5, 0, 0}, 0},
+        {{0x11, 12, 0x11, 13}, 2},                // no refusal
+        {{0x11, 0}, 0},
+        {{0x18, 0x14, 1, 2, 3}, 1},               // cut short
+        {{0x13, 0, 0, 0, 0, 0, 0, 0, 0}, 0},
+        {{0x10, 4, 0xFF, 0x03, 0x18}, 5},         // whole
+    };
+    for (const Damaged& log : logs) {
+        CHECK(Log(log.bytes).whole() == log.whole);
+    }
+    const auto answered = std::get<Answered>(decode(logs[9].bytes.data(), 4)->event);
+    CHECK(answered.answer == Answer::sector_miss && answered.line == 1023);
+}
+
+// The same rounds as wait, by the single calls.
+void waits() {
+    const Settings tight{1, 2, 50, 2, 2, 2};
+    Cache cache = fresh(tight);
+    cache.read(0, 1);
+    cache.send();
+    cache.read(128, 2);
+    const Access access = Access::read(256, 3);
+    CHECK(cache.access(access).refusal() == Refusal::set_busy);
+
+    Cache by_hand = cache;
+    Bytes log;
+    const auto keep = [&log](const CallResult& result) {
+        log.insert(log.end(), result.data(), result.data() + result.size());
+    };
+    const std::size_t bound = cache.queued() + cache.misses();
+    std::uint64_t rounds = 0;
+    for (bool accepted = false; !accepted && rounds < bound;) {
+        ++rounds;
+        if (by_hand.queued() > 0) {
+            keep(by_hand.send());
+        }
+        const Layout at = by_hand.layout();
+        for (std::size_t entry = 0; entry < tight.entries; ++entry) {
+            if (by_hand.tables().marks[at.sent(entry)] == 1) {
+                keep(by_hand.fill(by_hand.tables().longs[at.miss_address(entry)]));
+                break;
+            }
+        }
+        const AccessResult offer = by_hand.access(access);
+        accepted = offer.accepted();
+        if (accepted) {
+            keep(offer);
+        }
+    }
+    const WaitResult waited = cache.wait(access);
+    CHECK(waited && waited.round() == rounds && !waited.refusal());
+    CHECK(bytes_of(waited) == log && cache.tables() == by_hand.tables());
+    CHECK(letters(waited) == letters(Log(log)));
+}
+
+// Case 13 of document 01: held with P 60, and for ever; also a malformed access.
+void held_waits() {
+    Cache cache = fresh({2, 1, 60, 2, 2, 4});
+    CHECK(cache.write(0, 0xFF).accepted());
+    const Tables before = cache.tables();
+    const WaitResult held = cache.wait(Access::write(256, 1));
+    CHECK(!held && !held.round() && held.refusal() == Refusal::set_held);
+    CHECK(letters(held) == "!" && cache.tables() == before);
+    const WaitResult malformed = cache.wait(Access::write(256, 0));
+    CHECK(!malformed && malformed.refusal() == Refusal::not_well_formed);
+    Cache other = fresh({2, 1, 50, 2, 2, 4});
+    CHECK(other.write(0, 0xFF) && other.wait(Access::write(256, 1)).round() == 1u);
+}
+
+void runs() {
+    Commands commands;
+    CHECK(!commands.settings({0x10000, 1, 0, 1, 1, 2}) && !commands.settings({1, 256, 0, 1, 1, 2}));
+    CHECK(commands.bytes().empty() && run(commands.bytes()).result.stop == Stop::end);
+    commands.settings({3, 1, 0, 1, 1, 2});
+    const Run refused = run(commands.bytes());
+    CHECK(refused.result.stop == Stop::bad_settings && !refused.cache && refused.log.empty());
+
+    Commands good;
+    good.settings(base);
+    good.write(0, 0xFF);
+    good.tick(3);
+    good.read(0, 1);
+    Bytes stream = good.bytes();
+    stream.push_back(0x99);
+    const Run stopped = run(stream);
+    CHECK(stopped.result.stop == Stop::unknown_kind && stopped.cache->cycle() == 3);
+    CHECK(stopped.result.consumed == good.bytes().size() && letters(Log(stopped.log)) == "a.ar");
+
+    // On a cache of other settings whose tables have the same lengths; then of other lengths.
+    Cache same_lengths = fresh({2, 1, 10, 2, 2, 4});
+    Bytes events(event_room(stream.data(), stream.size()));
+    RunResult result = same_lengths.run(stream.data(), stream.size(), events.data(), events.size());
+    CHECK(result.stop == Stop::unknown_kind && same_lengths.settings().sets == 1);
+    CHECK(same_lengths.settings().percent == 50 && !same_lengths.check());
+    CHECK(same_lengths.tables() == stopped.cache->tables());
+    Cache other_lengths = fresh({4, 1, 10, 2, 2, 4});
+    result = other_lengths.run(stream.data(), stream.size(), events.data(), events.size());
+    CHECK(result.stop == Stop::other_length && result.consumed == 0 && result.written == 0);
+    CHECK(other_lengths.settings().sets == 4 && !other_lengths.check());
+    result = same_lengths.run(stream.data(), stream.size(), events.data(), 64);
+    CHECK(result.stop == Stop::no_room && result.written == 4);
+}
+
+void kept_tables() {
+    Cache cache = fresh();
+    const Tables kept = cache.tables();
+    cache.read(0, 7);
+    const Tables later = cache.tables();
+    CHECK(kept != later && !cache.restore(kept) && cache.tables() == kept);
+    CHECK(!cache.restore(later) && cache.misses() == 1);
+    Tables damaged = later;
+    damaged.marks[cache.layout().status(0, 0)] = 4;
+    CHECK(cache.restore(damaged) == Refusal::not_sound && cache.tables() == later);
+    CHECK(cache.restore(Tables{}) == Refusal::other_length && cache.tables() == later);
+    CHECK(!cache.reset() && cache.tables() == kept);
+}
+
+}  // namespace
+
+int main() {
+    settings_and_layout();
+    whole_run();
+    refusals();
+    write_back();
+    damaged_logs();
+    waits();
+    held_waits();
+    runs();
+    kept_tables();
+    std::printf("header: %d checks, %d failed\n", checks, failures);
+    return failures == 0 ? 0 : 1;
+}

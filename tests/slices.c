@@ -1,0 +1,281 @@
+/*
+ * The C header used from C99: lengths by settings, the whole run of document 01, wrong
+ * lengths, null and empty slices, too little room. Everything lent is compared with what it
+ * was wherever nothing may change.
+ *
+ * Ends with a line `slices: N checks, M failed` and a status.
+ */
+#include "labintugmo.h"
+
+#include <stdio.h>
+#include <stdlib.h>
+#include <string.h>
+
+static int checks, failures;
+
+#define CHECK(condition)                                                        \
+    do {                                                                        \
+        ++checks;                                                               \
+        if (!(condition)) {                                                     \
+            ++failures;                                                         \
+            printf("slices.c:%d: not so: %s\n", __LINE__, #condition);          \
+        }                                                                       \
+    } while (0)
+
+/* Base settings: 1 set, 2 ways, P 50, M 2, W 2, Q 4; 2 lines. */
+#define BASE 1, 2, 50, 2, 2, 4
+enum { LONGS = 2 + 2 + 4, WORDS = 1 + 5 * 2 + 2 * 2 + 4 * 4, MARKS = 8 * 2 + 2 * 2 + 4 };
+
+/* One element more than the lengths ask for, so that a slice can be too long by one. */
+struct tables {
+    uint64_t longs[LONGS + 1];
+    uint32_t words[WORDS + 1];
+    uint8_t marks[MARKS + 1];
+};
+
+#define LENT(t) (t).longs, LONGS, (t).words, WORDS, (t).marks, MARKS
+
+/* Other numbers than the calls would leave there. */
+static void noise(void *memory, size_t bytes)
+{
+    memset(memory, 0x5A, bytes);
+}
+
+static int same(const struct tables *a, const struct tables *b)
+{
+    return memcmp(a->longs, b->longs, sizeof a->longs) == 0 &&
+           memcmp(a->words, b->words, sizeof a->words) == 0 &&
+           memcmp(a->marks, b->marks, sizeof a->marks) == 0;
+}
+
+static struct tables fresh_tables(void)
+{
+    struct tables t;
+    noise(&t, sizeof t);
+    CHECK(labintugmo_fresh(BASE, LENT(t)) == 0);
+    return t;
+}
+
+static void lengths(void)
+{
+    static const uint32_t bad[][6] = {
+        {0, 2, 50, 2, 2, 4},          {3, 2, 50, 2, 2, 4},    {512, 1, 50, 2, 2, 4},
+        {1, 0, 50, 2, 2, 4},          {1, 17, 50, 2, 2, 4},   {256, 5, 50, 2, 2, 4},
+        {1, 2, 101, 2, 2, 4},         {1, 2, 50, 0, 2, 4},    {1, 2, 50, 65, 2, 4},
+        {1, 2, 50, 2, 0, 4},          {1, 2, 50, 2, 9, 4},    {1, 2, 50, 2, 2, 1},
+        {1, 2, 50, 2, 2, 65},         {65536, 65536, 50, 2, 2, 4},
+        {1, 2, UINT32_MAX, 2, 2, 4},  {0x80000000u, 2, 50, 2, 2, 4},
+        {1, 2, 50, 2, UINT32_MAX, UINT32_MAX}};
+    struct tables t = fresh_tables(), before = t;
+    uint8_t events[LABINTUGMO_ROOM];
+    size_t i;
+    CHECK(labintugmo_longs_length(BASE) == LONGS);
+    CHECK(labintugmo_words_length(BASE) == WORDS);
+    CHECK(labintugmo_marks_length(BASE) == MARKS);
+    CHECK(labintugmo_longs_length(256, 4, 0, 64, 8, 64) == 1024 + 64 + 64);
+    CHECK(labintugmo_words_length(256, 4, 0, 64, 8, 64) == 1 + 5 * 1024 + 64 * 8 + 4 * 64);
+    CHECK(labintugmo_marks_length(256, 4, 0, 64, 8, 64) == 8 * 1024 + 2 * 64 + 64);
+    for (i = 0; i < sizeof bad / sizeof bad[0]; ++i) {
+        const uint32_t *s = bad[i];
+        CHECK(labintugmo_longs_length(s[0], s[1], s[2], s[3], s[4], s[5]) == 0);
+        CHECK(labintugmo_words_length(s[0], s[1], s[2], s[3], s[4], s[5]) == 0);
+        CHECK(labintugmo_marks_length(s[0], s[1], s[2], s[3], s[4], s[5]) == 0);
+        CHECK(labintugmo_fresh(s[0], s[1], s[2], s[3], s[4], s[5], LENT(t)) == 1);
+        CHECK(labintugmo_fresh(s[0], s[1], s[2], s[3], s[4], s[5], NULL, 0, NULL, 0, NULL, 0) == 1);
+        CHECK(labintugmo_check(s[0], s[1], s[2], s[3], s[4], s[5], LENT(t)) == 1);
+        CHECK(labintugmo_send(s[0], s[1], s[2], s[3], s[4], s[5], NULL, 0, NULL, 0, NULL, 0,
+                              events, sizeof events) == 2 && events[0] == 0x11 && events[1] == 1);
+        CHECK(same(&t, &before));
+    }
+}
+
+static void whole_run(void)
+{
+    static const uint8_t stream[] = {
+        0, 1, 0, 2, 50, 2, 2, 4, 1, 0, 0, 0, 0, 0, 0, 0, 0, 7, 0, 0, 0,
+        1, 0, 0, 0, 0, 0, 0, 0, 0, 9, 0, 0, 0, 3, 4, 0, 0, 0, 0, 0, 0, 0, 0};
+    static const uint8_t log[] = {
+        0x10, 3, 1, 0, 0x12, 0, 0, 0, 0, 0, 0, 0, 0, 0x10, 2, 1, 0, 0x15, 0, 0, 0, 0, 0, 0, 0,
+        0, 0x17, 0, 0, 0, 0, 0, 0, 0, 0, 0x14, 7, 0, 0, 0, 0x14, 9, 0, 0, 0};
+    struct tables t = fresh_tables(), run;
+    uint8_t events[256], ran[256];
+    uint64_t counts[2] = {77, 77};
+    size_t n = 0;
+    n += labintugmo_read(BASE, LENT(t), 0, 7, events + n, sizeof events - n);
+    n += labintugmo_access(BASE, LENT(t), 0, 0, 0, 9, events + n, sizeof events - n);
+    n += labintugmo_send(BASE, LENT(t), events + n, sizeof events - n);
+    n += labintugmo_fill(BASE, LENT(t), 0, events + n, sizeof events - n);
+    CHECK(n == sizeof log && memcmp(events, log, n) == 0);
+
+    noise(&run, sizeof run);
+    noise(ran, sizeof ran);
+    CHECK(labintugmo_run(stream, sizeof stream, ran, sizeof ran, LENT(run), counts, 2) == 0);
+    CHECK(counts[0] == sizeof stream && counts[1] == sizeof log);
+    CHECK(memcmp(ran, log, sizeof log) == 0 && ran[sizeof log] == 0x5A);
+    CHECK(memcmp(t.longs, run.longs, LONGS * sizeof run.longs[0]) == 0);
+    CHECK(memcmp(t.words, run.words, WORDS * sizeof run.words[0]) == 0);
+    CHECK(memcmp(t.marks, run.marks, MARKS) == 0);
+    CHECK(labintugmo_check(BASE, LENT(run)) == 0);
+}
+
+/* Which call; each gets slices as they are given and returns its refusal number. */
+enum { CALLS = 9 };
+
+static uint32_t refusal(int call, uint64_t *l, size_t ln, uint32_t *w, size_t wn, uint8_t *m,
+                        size_t mn)
+{
+    static uint8_t events[LABINTUGMO_WAIT_ROOM];
+    uint64_t round = 9;
+    const size_t room = sizeof events;
+    size_t n = 0;
+    noise(events, sizeof events);
+    switch (call) {
+    case 0: return labintugmo_fresh(BASE, l, ln, w, wn, m, mn);
+    case 1: return labintugmo_check(BASE, l, ln, w, wn, m, mn);
+    case 2: n = labintugmo_read(BASE, l, ln, w, wn, m, mn, 0, 1, events, room); break;
+    case 3: n = labintugmo_write(BASE, l, ln, w, wn, m, mn, 0, 1, events, room); break;
+    case 4: n = labintugmo_access(BASE, l, ln, w, wn, m, mn, 1, 0, 1, 0, events, room); break;
+    case 5: n = labintugmo_send(BASE, l, ln, w, wn, m, mn, events, room); break;
+    case 6: n = labintugmo_fill(BASE, l, ln, w, wn, m, mn, 0, events, room); break;
+    case 7: n = labintugmo_tick(BASE, l, ln, w, wn, m, mn, 1, events, room); break;
+    default:
+        n = labintugmo_wait(BASE, l, ln, w, wn, m, mn, 0, 0, 0, 1, events, room, &round, 1);
+        CHECK(round == 0);
+    }
+    CHECK(n == 2 && events[0] == 0x11 && events[2] == 0x5A);
+    return events[1];
+}
+
+static void wrong_lengths(void)
+{
+    struct tables t = fresh_tables(), before = t;
+    int call;
+    for (call = 0; call < CALLS; ++call) {
+        CHECK(refusal(call, t.longs, LONGS + 1, t.words, WORDS, t.marks, MARKS) == 2);
+        CHECK(refusal(call, t.longs, LONGS - 1, t.words, WORDS, t.marks, MARKS) == 2);
+        CHECK(refusal(call, t.longs, LONGS, t.words, WORDS + 1, t.marks, MARKS) == 2);
+        CHECK(refusal(call, t.longs, LONGS, t.words, WORDS - 1, t.marks, MARKS) == 2);
+        CHECK(refusal(call, t.longs, LONGS, t.words, WORDS, t.marks, MARKS + 1) == 2);
+        CHECK(refusal(call, t.longs, LONGS, t.words, WORDS, t.marks, MARKS - 1) == 2);
+        CHECK(refusal(call, t.longs, 0, t.words, WORDS, t.marks, MARKS) == 2);
+        CHECK(refusal(call, NULL, 0, t.words, WORDS, t.marks, MARKS) == 2);
+        CHECK(refusal(call, t.longs, LONGS, NULL, 0, t.marks, MARKS) == 2);
+        CHECK(refusal(call, t.longs, LONGS, t.words, WORDS, NULL, 0) == 2);
+        CHECK(refusal(call, NULL, 0, NULL, 0, NULL, 0) == 2);
+        CHECK(same(&t, &before));
+    }
+}
+
+/* Memory of zeros is not fresh, and neither is any other that no call has made. */
+static void not_fresh(void)
+{
+    struct tables zero, other, before;
+    int call;
+    memset(&zero, 0, sizeof zero);
+    before = zero;
+    for (call = 1; call < CALLS; ++call) {
+        CHECK(refusal(call, LENT(zero)) == 3);
+    }
+    CHECK(same(&zero, &before));
+    noise(&other, sizeof other);
+    before = other;
+    for (call = 1; call < CALLS; ++call) {
+        CHECK(refusal(call, LENT(other)) == 3);
+    }
+    CHECK(same(&other, &before));
+    CHECK(labintugmo_fresh(BASE, LENT(zero)) == 0);
+    CHECK(labintugmo_check(BASE, LENT(zero)) == 0);
+}
+
+static void small_rooms(void)
+{
+    static uint8_t events[LABINTUGMO_WAIT_ROOM], untouched[LABINTUGMO_WAIT_ROOM];
+    static const size_t rooms[] = {0, 1, 63};
+    static const size_t wait_rooms[] = {0, 64, LABINTUGMO_WAIT_ROOM - 1};
+    struct tables t = fresh_tables(), before = t;
+    uint64_t round[2] = {5, 6};
+    size_t i;
+    noise(events, sizeof events);
+    noise(untouched, sizeof untouched);
+    for (i = 0; i < 3; ++i) {
+        uint8_t *e = rooms[i] == 0 ? NULL : events;
+        CHECK(labintugmo_read(BASE, LENT(t), 0, 1, e, rooms[i]) == 0);
+        CHECK(labintugmo_write(BASE, LENT(t), 0, 1, e, rooms[i]) == 0);
+        CHECK(labintugmo_access(BASE, LENT(t), 0, 0, 0, 1, e, rooms[i]) == 0);
+        CHECK(labintugmo_send(BASE, LENT(t), e, rooms[i]) == 0);
+        CHECK(labintugmo_fill(BASE, LENT(t), 0, e, rooms[i]) == 0);
+        CHECK(labintugmo_tick(BASE, LENT(t), 1, e, rooms[i]) == 0);
+        e = wait_rooms[i] == 0 ? NULL : events;
+        CHECK(labintugmo_wait(BASE, LENT(t), 0, 0, 0, 1, e, wait_rooms[i], round, 1) == 0);
+    }
+    CHECK(labintugmo_wait(BASE, LENT(t), 0, 0, 0, 1, events, sizeof events, NULL, 0) == 0);
+    CHECK(labintugmo_wait(BASE, LENT(t), 0, 0, 0, 1, events, sizeof events, round, 0) == 0);
+    CHECK(labintugmo_wait(BASE, LENT(t), 0, 0, 0, 1, events, sizeof events, round, 2) == 0);
+    CHECK(round[0] == 5 && round[1] == 6);
+    CHECK(memcmp(events, untouched, sizeof events) == 0);
+    CHECK(same(&t, &before));
+
+    CHECK(labintugmo_tick(BASE, LENT(t), 1, events, 64) == 1 && events[0] == 0x18);
+    CHECK(memcmp(events + 1, untouched + 1, sizeof events - 1) == 0);
+    CHECK(labintugmo_wait(BASE, LENT(t), 0, 0, 0, 1, events, sizeof events, round, 1) == 13);
+    CHECK(round[0] == 1 && round[1] == 6);
+}
+
+static void runs(void)
+{
+    static const uint8_t settings[] = {0, 1, 0, 2, 50, 2, 2, 4};
+    static const uint8_t tick[] = {0, 1, 0, 2, 50, 2, 2, 4, 5, 1, 0, 0, 0};
+    static const uint8_t bad[] = {0, 3, 0, 2, 50, 2, 2, 4};
+    struct tables t, before;
+    uint8_t events[64], untouched[64];
+    uint64_t counts[3] = {4, 5, 6};
+    noise(&t, sizeof t);
+    noise(events, sizeof events);
+    noise(untouched, sizeof untouched);
+    before = t;
+
+    /* Counts of another length: nothing at all happens. */
+    CHECK(labintugmo_run(tick, sizeof tick, events, 64, LENT(t), NULL, 0) == 2);
+    CHECK(labintugmo_run(tick, sizeof tick, events, 64, LENT(t), counts, 1) == 2);
+    CHECK(labintugmo_run(tick, sizeof tick, events, 64, LENT(t), counts, 3) == 2);
+    CHECK(counts[0] == 4 && counts[1] == 5 && counts[2] == 6);
+
+    /* Empty streams, with tables and without. */
+    CHECK(labintugmo_run(NULL, 0, NULL, 0, NULL, 0, NULL, 0, NULL, 0, counts, 2) == 0);
+    CHECK(counts[0] == 0 && counts[1] == 0 && counts[2] == 6);
+    CHECK(labintugmo_run(tick, 0, events, 64, LENT(t), counts, 2) == 0);
+
+    /* Settings that are refused, or tables that do not fit them. */
+    CHECK(labintugmo_run(bad, sizeof bad, events, 64, LENT(t), counts, 2) == 1);
+    CHECK(labintugmo_run(settings, 7, events, 64, LENT(t), counts, 2) == 15);
+    CHECK(labintugmo_run(tick, sizeof tick, events, 64, NULL, 0, NULL, 0, NULL, 0, counts, 2) == 2);
+    CHECK(labintugmo_run(tick, sizeof tick, events, 64, t.longs, LONGS + 1, t.words, WORDS,
+                         t.marks, MARKS, counts, 2) == 2);
+    CHECK(labintugmo_run(tick, sizeof tick, events, 64, t.longs, LONGS, t.words, WORDS - 1,
+                         t.marks, MARKS, counts, 2) == 2);
+    CHECK(labintugmo_run(tick + 8, 5, events, 64, LENT(t), counts, 2) == 13);
+    CHECK(counts[0] == 0 && counts[1] == 0);
+    CHECK(same(&t, &before) && memcmp(events, untouched, 64) == 0);
+
+    /* A settings record needs no event room, any other record needs 64 bytes. */
+    CHECK(labintugmo_run(settings, sizeof settings, NULL, 0, LENT(t), counts, 2) == 0);
+    CHECK(counts[0] == 8 && counts[1] == 0);
+    CHECK(labintugmo_check(BASE, LENT(t)) == 0);
+    CHECK(labintugmo_run(tick, sizeof tick, events, 63, LENT(t), counts, 2) == 16);
+    CHECK(counts[0] == 8 && counts[1] == 0 && memcmp(events, untouched, 64) == 0);
+    CHECK(labintugmo_run(tick, sizeof tick, events, 64, LENT(t), counts, 2) == 0);
+    CHECK(counts[0] == 13 && counts[1] == 1 && events[0] == 0x18);
+    CHECK(memcmp(events + 1, untouched + 1, 63) == 0 && t.words[0] == 1);
+}
+
+int main(void)
+{
+    lengths();
+    whole_run();
+    wrong_lengths();
+    not_fresh();
+    small_rooms();
+    runs();
+    printf("slices: %d checks, %d failed\n", checks, failures);
+    return failures == 0 ? EXIT_SUCCESS : EXIT_FAILURE;
+}
