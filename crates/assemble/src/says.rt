@@ -1,0 +1,44 @@
+// What is wrong with a line, on standard error.
+use assembly::Expected;
+use libc::STDERR_FILENO;
+
+fn say(s: &[u8]) {
+    io::write_all(STDERR_FILENO, s);
+}
+
+fn line_number(line: u64) {
+    say(b"line ");
+    io::print_decimal(STDERR_FILENO, line);
+    say(b": ");
+}
+
+pub fn too_long(line: u64, most: usize) {
+    line_number(line);
+    say(b"longer than ");
+    io::print_decimal(STDERR_FILENO, most as u64);
+    say(b" bytes. Nothing is written from this line on.\n");
+}
+
+pub fn bad(line: u64, e: Expected) {
+    line_number(line);
+    say(b"expected ");
+    expected(e);
+    say(b". Nothing is written from this line on.\n");
+}
+
+fn expected(e: Expected) {
+    match e {
+        Expected::Command => say(b"settings, read, write, send, fill or tick"),
+        Expected::Sets => say(b"sets and a number from 0 to 65535"),
+        Expected::Ways => say(b"ways and a number from 0 to 255"),
+        Expected::Dirty => say(b"dirty and a number from 0 to 255"),
+        Expected::Misses => say(b"misses and a number from 0 to 255"),
+        Expected::Readers => say(b"readers and a number from 0 to 255"),
+        Expected::Queue => say(b"queue and a number from 0 to 255"),
+        Expected::Address => say(b"an address of at most 64 bits, decimal or behind 0x"),
+        Expected::Ticket => say(b"ticket and a number of at most 32 bits"),
+        Expected::Mask => say(b"mask and a number of at most 32 bits"),
+        Expected::Cycle => say(b"a cycle of at most 32 bits"),
+        Expected::End => say(b"the end of the line or a comment"),
+    }
+}

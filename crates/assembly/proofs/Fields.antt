@@ -1,0 +1,81 @@
+-- Numbers, fields and the end of a line, by the tests that the code makes.
+use mathlib.Core.Path.{_≡_, refl, sym, ap, _∙_}
+use mathlib.Core.Bool.{Bool, true, false, _&&_}
+use mathlib.Core.List.{List}
+use Prim.Native.Nat.{ℕ, _≤_, _<_}
+use native.Mathlib.Omega.{arith}
+use borrow.Author.Tests.{le-leb, lt-leb, leb-true, eq-eqb, ne-eqb}
+use lib.Dec.{eqb, leb}
+use Rattle.model.specs.Words.{pick}
+use Rattle.model.specs.declared.Command.{Command}
+use Rattle.model.proofs.Flags.{and-1}
+use Rattle.text.specs.Words.{skipSpaces, wordEnd, wordAt, sameText}
+use Rattle.text.specs.Digits.{parseNumber}
+use Rattle.text.specs.declared.Parsed.{Parsed}
+use Rattle.text.specs.declared.Parsed.the-variants as parsed
+use Rattle.assembly.specs.declared.Expected.the-variants as expected
+use Rattle.assembly.specs.declared.Field.{Field}
+use Rattle.assembly.specs.declared.Field.the-variants.{Got, Missing}
+use Rattle.assembly.specs.declared.Line.{Line}
+use Rattle.assembly.specs.declared.Line.the-variants as line
+use Rattle.assembly.specs.Language.{wholeNumber, numberNext, wordIs, fieldNext, whole, byWord, parseLine}
+
+module _ (most : ℕ) (s : List ℕ) (v next : ℕ) where
+  pub number-over : most < v → Missing ≡ wholeNumber most s (parsed.Number v next)
+  number-over h = rw (lt-leb v most h)
+
+  pub number-whole : {e : ℕ} → v ≤ most → e ≡ wordEnd s next → e ≡ next → Got v next ≡ wholeNumber most s (parsed.Number v next)
+  number-whole h p q = rw (le-leb v most h, eq-eqb (wordEnd s next) next (sym p ∙ q))
+
+  pub number-stuck : {e : ℕ} → v ≤ most → e ≡ wordEnd s next → (e ≡ next → ⊥) → Missing ≡ wholeNumber most s (parsed.Number v next)
+  number-stuck h p q = rw (le-leb v most h, ne-eqb (wordEnd s next) next (λ z. q (p ∙ z)))
+
+module _ (most : ℕ) (s : List ℕ) (at : ℕ) where
+  pub number-read : {a : ℕ} {x y : Parsed} {r : Field} → a ≡ skipSpaces s at → x ≡ parseNumber s a → x ≡ y → r ≡ wholeNumber most s y → r ≡ numberNext most s at
+  unfolding numberNext
+  number-read p q e h = let z = sym e ∙ q in rw (← p, ← z) h
+
+  -- no number is above its field's largest
+  pub number-most : {v next : ℕ} → numberNext most s at ≡ Got v next → v ≤ most
+  unfolding numberNext
+  number-most {v} {next} e = by-number (parseNumber s (skipSpaces s at)) e
+    where
+      by-flag : (m n : ℕ) (t : Bool) → (t ≡ true → m ≤ most) → pick t (Got m n) Missing ≡ Got v next → v ≤ most
+      by-flag m n true f q = let w : m ≡ v = cc in rw w at (f refl)
+      by-flag m n false f q = let z : _≡_ {A = ℕ} 0 1 = cc in omega arith
+
+      by-number : (x : Parsed) → wholeNumber most s x ≡ Got v next → v ≤ most
+      by-number (parsed.Number m n) q = by-flag m n (leb m most && eqb (wordEnd s n) n) (λ t. leb-true m most (and-1 (leb m most) (eqb (wordEnd s n) n) t)) q
+      by-number parsed.Nothing q = let z : _≡_ {A = ℕ} 0 1 = cc in omega arith
+      by-number parsed.TooLarge q = let z : _≡_ {A = ℕ} 0 1 = cc in omega arith
+
+module _ (w : List ℕ) (most : ℕ) (s : List ℕ) (at : ℕ) where
+  pub field-there : {a e : ℕ} {t : Bool} {r : Field} → a ≡ skipSpaces s at → t ≡ wordIs s a w → t ≡ true → e ≡ wordEnd s a → r ≡ numberNext most s e → r ≡ fieldNext w most s at
+  unfolding fieldNext
+  field-there p q t e h = let z = sym q ∙ t in rw (← p, z, ← e) h
+
+  pub field-missing : {a : ℕ} {t : Bool} → a ≡ skipSpaces s at → t ≡ wordIs s a w → t ≡ false → Missing ≡ fieldNext w most s at
+  unfolding fieldNext
+  field-missing p q t = let z = sym q ∙ t in rw (← p, z)
+
+  pub field-most : {v next : ℕ} → fieldNext w most s at ≡ Got v next → v ≤ most
+  unfolding fieldNext
+  field-most {v} {next} e = go (wordIs s (skipSpaces s at) w) e
+    where
+      go : (t : Bool) → pick t (numberNext most s (wordEnd s (skipSpaces s at))) Missing ≡ Got v next → v ≤ most
+      go true q = number-most most s (wordEnd s (skipSpaces s at)) q
+      go false q = let z : _≡_ {A = ℕ} 0 1 = cc in omega arith
+
+module _ (s : List ℕ) (at : ℕ) (c : Command) where
+  pub whole-ended : {a e : ℕ} → a ≡ skipSpaces s at → e ≡ wordEnd s a → e ≡ a → line.Command c ≡ whole s at c
+  unfolding whole
+  whole-ended p q e = rw (← p, eq-eqb _ _ (sym q ∙ e))
+
+  pub whole-more : {a e : ℕ} → a ≡ skipSpaces s at → e ≡ wordEnd s a → (e ≡ a → ⊥) → line.Bad expected.End ≡ whole s at c
+  unfolding whole
+  whole-more p q e = rw (← p, ne-eqb _ _ (λ z. e (q ∙ z)))
+
+-- a line goes by its first word
+pub line-opened : (s : List ℕ) {at end : ℕ} → at ≡ skipSpaces s 0 → end ≡ wordEnd s at → parseLine s ≡ byWord s at end
+unfolding parseLine
+line-opened s p q = rw (q, p)

@@ -1,0 +1,17 @@
+-- `assembly::put_command` meets its contract.
+use native.Mathlib.Omega.{arith}
+use borrow.Author.Needs.{needs}
+use Rattle.assembly.proofs.Placing.{placed-not, placed-there, placed-within}
+use Rattle.assembly.proofs.put_command.Statement.{statement}
+use Rattle.assembly.proofs.put_command.Tie as tie
+
+pub put-command-spec : {M : Type 1} → statement M
+put-command-spec =
+    tie.close
+    (tie.spec
+    (λ c κs. search needs)
+    (λ c. search needs)
+    (λ c. let e = c .before .before .before in placed-not _ _ _ (e .encode-command .ensures .0) (c .if1 .taken))
+    (λ c. let e = c .before .before .before in let h = placed-within _ _ _ (e .encode-command .ensures .0) (c .if1 .left) in omega arith)
+    (λ c. search needs)
+    (λ c. let e = c .before .before .before in placed-there _ _ _ (e .encode-command .ensures .0) (c .if1 .left)))

@@ -1,0 +1,14 @@
+-- `assembly::whole_number` meets its contract.
+use borrow.Author.Needs.{needs}
+use Rattle.assembly.proofs.Fields.{number-over, number-whole, number-stuck}
+use Rattle.assembly.proofs.whole_number.Statement.{statement}
+use Rattle.assembly.proofs.whole_number.Tie as tie
+
+pub whole-number-spec : {M : Type 1} → statement M
+whole-number-spec =
+    tie.close
+    (tie.spec
+    (λ c. number-over _ _ _ _ (c .if1 .taken))
+    (λ c κs. search needs)
+    (λ c. number-whole _ _ _ _ (c .before .before .if1 .left) (c .before .word-end .ensures) (c .if2 .taken))
+    (λ c. number-stuck _ _ _ _ (c .before .before .if1 .left) (c .before .word-end .ensures) (c .if2 .left)))

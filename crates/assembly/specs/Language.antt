@@ -1,0 +1,110 @@
+-- What a line means: words and numbers in order, each number within its field, a comment from `#` on.
+--     settings sets N ways N dirty N misses N readers N queue N
+--     read ADDRESS ticket N        write ADDRESS mask N        send        fill ADDRESS        tick CYCLE
+use Prim.Native.Nat.{ℕ, _^_}
+use mathlib.Core.Bool.{Bool, _&&_}
+use mathlib.Core.List.{List}
+use lib.Dec.{eqb, leb}
+use Rattle.model.specs.Words.{pick}
+use Rattle.model.specs.declared.Command.{Command}
+use Rattle.model.specs.declared.Command.the-variants as cmd
+use Rattle.text.specs.Words.{skipSpaces, wordEnd, wordAt, sameText}
+use Rattle.text.specs.Digits.{parseNumber}
+use Rattle.text.specs.declared.Parsed.{Parsed}
+use Rattle.text.specs.declared.Parsed.the-variants as parsed
+use Rattle.assembly.specs.Spelling.{settingsWord, setsWord, waysWord, dirtyWord, missesWord, readersWord, queueWord, readWord, ticketWord, writeWord, maskWord, sendWord, fillWord, tickWord}
+use Rattle.assembly.specs.declared.Expected.{Expected}
+use Rattle.assembly.specs.declared.Expected.the-variants as expected
+use Rattle.assembly.specs.declared.Field.{Field}
+use Rattle.assembly.specs.declared.Field.the-variants.{Got, Missing}
+use Rattle.assembly.specs.declared.Line.{Line}
+use Rattle.assembly.specs.declared.Line.the-variants as line
+
+-- the largest numbers of 8, 16, 32 and 64 bits
+abbrev pub most8 : ℕ
+most8 = 0xff
+
+abbrev pub most16 : ℕ
+most16 = 0xffff
+
+abbrev pub most32 : ℕ
+most32 = 0xffffffff
+
+abbrev pub most64 : ℕ
+most64 = 0xffffffffffffffff
+
+-- a number that is a whole word and within its field
+abbrev pub wholeNumber : ℕ → List ℕ → Parsed → Field
+wholeNumber most s (parsed.Number v next) = pick (leb v most && eqb (wordEnd s next) next) (Got v next) Missing
+wholeNumber most s parsed.Nothing = Missing
+wholeNumber most s parsed.TooLarge = Missing
+
+-- the next word is such a number
+unfoldable pub numberNext : ℕ → List ℕ → ℕ → Field
+numberNext most s at = wholeNumber most s (parseNumber s (skipSpaces s at))
+
+abbrev pub wordIs : List ℕ → ℕ → List ℕ → Bool
+wordIs s at w = sameText (wordAt s at) w
+
+-- the next word is w, and the one behind it such a number
+unfoldable pub fieldNext : List ℕ → ℕ → List ℕ → ℕ → Field
+fieldNext w most s at = pick (wordIs s (skipSpaces s at) w) (numberNext most s (wordEnd s (skipSpaces s at))) Missing
+
+-- the field, and what follows it; without it the line is bad
+abbrev pub andThen : Expected → Field → (ℕ → ℕ → Line) → Line
+andThen x (Got v next) f = f v next
+andThen x Missing f = line.Bad x
+
+-- no word is left
+abbrev pub endsAt : List ℕ → ℕ → Bool
+endsAt s at = eqb (wordEnd s (skipSpaces s at)) (skipSpaces s at)
+
+unfoldable pub whole : List ℕ → ℕ → Command → Line
+whole s at c = pick (endsAt s at) (line.Command c) (line.Bad expected.End)
+
+-- ---- each command, behind its own word
+
+unfoldable pub settingsFrom : List ℕ → ℕ → Line
+settingsFrom s at =
+    andThen expected.Sets (fieldNext setsWord most16 s at) (λ sets a.
+    andThen expected.Ways (fieldNext waysWord most8 s a) (λ ways b.
+    andThen expected.Dirty (fieldNext dirtyWord most8 s b) (λ percent c.
+    andThen expected.Misses (fieldNext missesWord most8 s c) (λ entries d.
+    andThen expected.Readers (fieldNext readersWord most8 s d) (λ readers e.
+    andThen expected.Queue (fieldNext queueWord most8 s e) (λ places f.
+    whole s f (cmd.Settings sets ways percent entries readers places)))))))
+
+unfoldable pub readFrom : List ℕ → ℕ → Line
+readFrom s at =
+    andThen expected.Address (numberNext most64 s at) (λ address a.
+    andThen expected.Ticket (fieldNext ticketWord most32 s a) (λ ticket b.
+    whole s b (cmd.Read address ticket)))
+
+unfoldable pub writeFrom : List ℕ → ℕ → Line
+writeFrom s at =
+    andThen expected.Address (numberNext most64 s at) (λ address a.
+    andThen expected.Mask (fieldNext maskWord most32 s a) (λ mask b.
+    whole s b (cmd.Write address mask)))
+
+unfoldable pub fillFrom : List ℕ → ℕ → Line
+fillFrom s at = andThen expected.Address (numberNext most64 s at) (λ address a. whole s a (cmd.Fill address))
+
+unfoldable pub tickFrom : List ℕ → ℕ → Line
+tickFrom s at = andThen expected.Cycle (numberNext most32 s at) (λ cycle a. whole s a (cmd.Tick cycle))
+
+-- ---- a line
+
+-- by the word at `at`, which ends at `end`
+abbrev pub byWord : List ℕ → ℕ → ℕ → Line
+byWord s at end =
+    pick (eqb end at) line.Empty (
+    pick (wordIs s at settingsWord) (settingsFrom s end) (
+    pick (wordIs s at readWord) (readFrom s end) (
+    pick (wordIs s at writeWord) (writeFrom s end) (
+    pick (wordIs s at sendWord) (whole s end cmd.Send) (
+    pick (wordIs s at fillWord) (fillFrom s end) (
+    pick (wordIs s at tickWord) (tickFrom s end)
+    (line.Bad expected.Command)))))))
+
+unfoldable pub parseLine : List ℕ → Line
+parseLine s = byWord s (skipSpaces s 0) (wordEnd s (skipSpaces s 0))

@@ -1,0 +1,51 @@
+// Where a log stops before its end, and why.
+use listing::Look;
+
+// Whether what stands at a place may become whole with more bytes.
+pub fn may_go_on(s: &[u8], at: usize) -> bool {
+    match listing::look_at(s, at) {
+        Look::Command {
+            command: _,
+            next: _,
+        } => false,
+        Look::Event { event: _, next: _ } => true,
+        Look::End => true,
+        Look::Cut {
+            kind: _,
+            wants: _,
+            left: _,
+        } => true,
+        Look::Unknown(_) => false,
+        Look::Strange(_) => false,
+    }
+}
+
+fn put_stop(place: u64, why: &[u8], out: &mut [u8], at: usize) -> usize {
+    let a = text::put_text(b"The log is damaged at byte ", out, at);
+    let b = text::put_decimal(place, out, a);
+    let c = text::put_text(why, out, b);
+    text::put_text(
+        b" The bill is of what stands before; `show` lists it.\n",
+        out,
+        c,
+    )
+}
+
+// What waits when the input has ended: nothing, or a log that is damaged there.
+pub fn put_damage(s: &[u8], place: u64, out: &mut [u8], at: usize) -> usize {
+    match listing::look_at(s, 0) {
+        Look::Command {
+            command: _,
+            next: _,
+        } => put_stop(place, b": a command, and no event, stands there.", out, at),
+        Look::Event { event: _, next: _ } => at,
+        Look::End => at,
+        Look::Cut {
+            kind: _,
+            wants: _,
+            left: _,
+        } => put_stop(place, b": its last record is cut short.", out, at),
+        Look::Unknown(_) => put_stop(place, b": no record begins so.", out, at),
+        Look::Strange(_) => put_stop(place, b": its record is no event.", out, at),
+    }
+}

@@ -1,0 +1,26 @@
+-- `billing::raise` meets its contract.
+use mathlib.Core.Path.{_∙_}
+use borrow.Author.Needs.{needs}
+use native.Mathlib.Omega.{arith}
+use Rattle.billing.proofs.Sums.{raised-full, raised-over, raised-more}
+use Rattle.billing.proofs.raise.Statement.{statement}
+use Rattle.billing.proofs.raise.Tie as tie
+
+pub raise-spec : {M : Type 1} → statement M
+raise-spec =
+    tie.close
+    (tie.spec
+    (λ c. raised-full _ _ _ (c .if1 .taken))
+    (λ c. search needs)
+    (λ c. search needs)
+    (λ c. search needs)
+    (λ c κs. search needs)
+    (λ c.
+    let a = c .before .before .before .before .args in
+    c .filled-up .ensures ∙ raised-over (a .bill) (a .place) (a .by) (c .before .before .before .if1 .left) (omega arith))
+    (λ c. search needs)
+    (λ c. search needs)
+    (λ c. search needs)
+    (λ c.
+    let a = c .before .before .before .args in
+    raised-more (a .bill) (a .place) (a .by) (c .before .before .if1 .left) (omega arith)))

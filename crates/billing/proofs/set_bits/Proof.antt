@@ -1,0 +1,11 @@
+-- `billing::set_bits` meets its contract.
+use mathlib.Core.Path.{refl}
+use native.Mathlib.Omega.{arith}
+use lib.Count.{ones-le}
+use Rattle.billing.proofs.set_bits.Statement.{statement}
+use Rattle.billing.proofs.set_bits.Tie as tie
+
+pub set-bits-spec : {M : Type 1} → statement M
+set-bits-spec = tie.close (tie.spec
+    (λ c. let h = ones-le 32 (c .args .mask) (omega arith) in omega arith)
+    (λ c. (refl, ones-le 32 (c .args .mask) (omega arith))))

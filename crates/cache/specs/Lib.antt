@@ -1,0 +1,2 @@
+-- What making fresh tables comes to.
+pub mod Made

@@ -1,0 +1,190 @@
+// The calls on lent tables (document 01), for any settings and any slices: making fresh tables, read and write, send, fill, tick, and
+// the check of refusals 1, 2 and 3 by itself. Each checks first and then does its step; a refusal leaves every slice as it was.
+use model::Access;
+use model::Refusal;
+use model::Settings;
+use model::Told;
+use model::Verdict;
+ghost use mathlib.Core.Path.{_≡_};
+ghost use Prim.Native.Nat.{_+_, _≤_};
+ghost use lib.ListN.{length, replicate};
+ghost use Rattle.model.specs.Regions.{put};
+ghost use Rattle.model.specs.Tables.{start};
+ghost use Rattle.model.specs.Lent.{lent, encode};
+ghost use Rattle.model.specs.Inner.{Fit};
+ghost use Rattle.model.specs.Calls.{freshCall, checkCall, verdictOf, accessCall, sendCall, fillCall, tickCall, Leaves};
+ghost use Rattle.model.specs.declared.Access.the-variants.{Read, Write};
+ghost use Rattle.cache.specs.Made.{Made};
+
+// ---- fresh tables
+
+fn clear_longs(s: &mut [u64])
+    ensures { λ _. ⌜ now (s .exit) ≡ replicate (length (now (s .entry))) 0 ⌝ }
+{
+    let mut i = 0;
+    while i < s.len() {
+        s[i] = 0;
+        i += 1;
+    }
+}
+
+fn clear_words(s: &mut [u32])
+    ensures { λ _. ⌜ now (s .exit) ≡ replicate (length (now (s .entry))) 0 ⌝ }
+{
+    let mut i = 0;
+    while i < s.len() {
+        s[i] = 0;
+        i += 1;
+    }
+}
+
+// `n` bytes from `at` become `mark`.
+fn set_marks(s: &mut [u8], at: usize, n: usize, mark: u8)
+    requires { ⌜ at + n ≤ length (now s) ⌝ }
+    ensures { λ _. ⌜ now (s .exit) ≡ put (now (s .entry)) at (replicate n mark) ⌝ }
+{
+    let mut i = 0;
+    while i < n {
+        s[at + i] = mark;
+        i += 1;
+    }
+}
+
+// All invalid and readable, all empty, cycle 0.
+fn make_fresh(s: Settings, longs: &mut [u64], words: &mut [u32], marks: &mut [u8])
+    requires { ⌜ Fit s (now longs) (now words) (now marks) ⌝ }
+    ensures { λ _. ⌜ lent (now (longs .exit)) (now (words .exit)) (now (marks .exit)) ≡ encode s (start s) ⌝ }
+{
+    let sectors = 4 * (s.sets * s.ways);
+    let all = marks.len();
+    clear_longs(longs);
+    clear_words(words);
+    set_marks(marks, 0, all, 0);
+    set_marks(marks, sectors, sectors, 1);
+}
+
+// Fresh tables; refusal 3 is not asked.
+pub fn fresh(s: Settings, longs: &mut [u64], words: &mut [u32], marks: &mut [u8]) -> Verdict
+    ensures { λ r. ⌜ Made (freshCall s (lent (now (longs .entry)) (now (words .entry)) (now (marks .entry))))
+        (lent (now (longs .entry)) (now (words .entry)) (now (marks .entry))) r
+        (lent (now (longs .exit)) (now (words .exit)) (now (marks .exit))) ⌝ }
+{
+    if !soundness::in_range(s) {
+        return Verdict::Refused(Refusal::SettingOutOfRange);
+    }
+    if !soundness::lengths_fit(s, longs, words, marks) {
+        return Verdict::Refused(Refusal::SliceLength);
+    }
+    make_fresh(s, longs, words, marks);
+    Verdict::Passed
+}
+
+// ---- the steps behind the checks
+
+// One access; a read wants mask 0, and a write's ticket is not looked at.
+pub fn access(
+    s: Settings,
+    longs: &mut [u64],
+    words: &mut [u32],
+    marks: &mut [u8],
+    x: Access,
+) -> Told
+    ensures { λ r. ⌜ Leaves (accessCall s x (lent (now (longs .entry)) (now (words .entry)) (now (marks .entry))))
+        (lent (now (longs .entry)) (now (words .entry)) (now (marks .entry))) r
+        (lent (now (longs .exit)) (now (words .exit)) (now (marks .exit))) ⌝ }
+{
+    match soundness::check(s, longs, words, marks) {
+        Verdict::Refused(n) => tables::refused(n),
+        Verdict::Passed => access::access_step(s, longs, words, marks, x),
+    }
+}
+
+pub fn read(
+    s: Settings,
+    longs: &mut [u64],
+    words: &mut [u32],
+    marks: &mut [u8],
+    address: u64,
+    ticket: u32,
+) -> Told
+    ensures { λ r. ⌜ Leaves (accessCall s (Read address 0 ticket) (lent (now (longs .entry)) (now (words .entry)) (now (marks .entry))))
+        (lent (now (longs .entry)) (now (words .entry)) (now (marks .entry))) r
+        (lent (now (longs .exit)) (now (words .exit)) (now (marks .exit))) ⌝ }
+{
+    let x = Access::Read {
+        address,
+        mask: 0,
+        ticket,
+    };
+    access(s, longs, words, marks, x)
+}
+
+pub fn write(
+    s: Settings,
+    longs: &mut [u64],
+    words: &mut [u32],
+    marks: &mut [u8],
+    address: u64,
+    mask: u32,
+) -> Told
+    ensures { λ r. ⌜ Leaves (accessCall s (Write address mask 0) (lent (now (longs .entry)) (now (words .entry)) (now (marks .entry))))
+        (lent (now (longs .entry)) (now (words .entry)) (now (marks .entry))) r
+        (lent (now (longs .exit)) (now (words .exit)) (now (marks .exit))) ⌝ }
+{
+    let x = Access::Write {
+        address,
+        mask,
+        ticket: 0,
+    };
+    access(s, longs, words, marks, x)
+}
+
+// Takes the queue head.
+pub fn send(s: Settings, longs: &mut [u64], words: &mut [u32], marks: &mut [u8]) -> Told
+    ensures { λ r. ⌜ Leaves (sendCall s (lent (now (longs .entry)) (now (words .entry)) (now (marks .entry))))
+        (lent (now (longs .entry)) (now (words .entry)) (now (marks .entry))) r
+        (lent (now (longs .exit)) (now (words .exit)) (now (marks .exit))) ⌝ }
+{
+    match soundness::check(s, longs, words, marks) {
+        Verdict::Refused(n) => tables::refused(n),
+        Verdict::Passed => steps::send_step(s, longs, words, marks),
+    }
+}
+
+// The data of a sector address has come.
+pub fn fill(
+    s: Settings,
+    longs: &mut [u64],
+    words: &mut [u32],
+    marks: &mut [u8],
+    address: u64,
+) -> Told
+    ensures { λ r. ⌜ Leaves (fillCall s address (lent (now (longs .entry)) (now (words .entry)) (now (marks .entry))))
+        (lent (now (longs .entry)) (now (words .entry)) (now (marks .entry))) r
+        (lent (now (longs .exit)) (now (words .exit)) (now (marks .exit))) ⌝ }
+{
+    match soundness::check(s, longs, words, marks) {
+        Verdict::Refused(n) => tables::refused(n),
+        Verdict::Passed => steps::fill_step(s, longs, words, marks, address),
+    }
+}
+
+// Sets the current cycle.
+pub fn tick(s: Settings, longs: &mut [u64], words: &mut [u32], marks: &mut [u8], cycle: u32) -> Told
+    ensures { λ r. ⌜ Leaves (tickCall s cycle (lent (now (longs .entry)) (now (words .entry)) (now (marks .entry))))
+        (lent (now (longs .entry)) (now (words .entry)) (now (marks .entry))) r
+        (lent (now (longs .exit)) (now (words .exit)) (now (marks .exit))) ⌝ }
+{
+    match soundness::check(s, longs, words, marks) {
+        Verdict::Refused(n) => tables::refused(n),
+        Verdict::Passed => steps::tick_step(s, longs, words, marks, cycle),
+    }
+}
+
+// ---- refusals 1, 2 and 3 by themselves
+
+pub fn check(s: Settings, longs: &[u64], words: &[u32], marks: &[u8]) -> Verdict
+    ensures { λ r. ⌜ r ≡ verdictOf (checkCall s (lent (now (longs .entry)) (now (words .entry)) (now (marks .entry)))) ⌝ }
+{
+    soundness::check(s, longs, words, marks)
+}

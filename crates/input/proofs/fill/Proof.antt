@@ -1,0 +1,35 @@
+-- `input::fill` meets its contract: what was read stands behind the bytes that the buffer had.
+use mathlib.Core.Path.{_≡_}
+use Prim.Native.Nat.{_-_}
+use native.Mathlib.Omega.{arith}
+use borrow.Author.Needs.{needs}
+use borrow.Rule.Slice.PartMut.{putMid, take-put}
+use lib.ListN.{length, take}
+use Rattle.input.proofs.fill.Statement.{statement}
+use Rattle.input.proofs.fill.Tie as tie
+
+kept : (c : tie.After-read) → let a = c .before .before .before .before .args in take (a .have) (putMid (a .have) (length (a .buf .now) - a .have) (a .buf .now) (c .read .last .1 .0)) ≡ take (a .have) (a .buf .now)
+kept c =
+    let a = c .before .before .before .before .args in
+    take-put (a .have) (length (a .buf .now) - a .have) (a .buf .now) (c .read .last .1 .0) (omega arith)
+
+pub fill-spec : {M : Type 1} → statement M
+fill-spec =
+    tie.close
+    (tie.spec
+    (λ c. search needs)
+    (λ c. search needs)
+    (λ c. search needs)
+    (λ c. search needs)
+    (λ c κs. search needs)
+    (λ c. search needs)
+    (λ c. record { reaches = tt; before = kept (c .before .before .before) })
+    (λ c. search needs)
+    (λ c. record { reaches = tt; before = kept (c .before .before .before .before) })
+    (λ c. search needs)
+    (λ c. search needs)
+    (λ c. search needs)
+    (λ c κs. search needs)
+    (λ c. search needs)
+    (λ c. search needs)
+    (λ c. record { reaches = search needs; before = kept (c .before .before .before .before .before .before .before) }))

@@ -1,0 +1,2 @@
+-- What the functions on a buffer promise.
+pub mod Buffers

@@ -1,0 +1,77 @@
+// Where a program's bytes come from: standard input or the file that its first argument names, through a buffer.
+ghost use mathlib.Core.Path.{_≡_};
+ghost use Prim.Native.Nat.{_+_, _≤_};
+ghost use lib.ListN.{length};
+ghost use Rattle.input.specs.Buffers.{Read, movedDown, carried, carriedCount};
+use libc::STDIN_FILENO;
+
+// How far the bytes of a buffer now go, or why there are no more.
+pub enum Filled {
+    To(usize),
+    End,
+    Full,
+    Failed,
+}
+
+// A descriptor to read from; below 0 where the file cannot be opened, which standard error then says.
+pub fn open_input() -> i32 {
+    if os::arg_count() < 2 {
+        return STDIN_FILENO;
+    }
+    let mut path = io::buffer();
+    let length = os::arg(1, &mut path);
+    if os::errno() != 0 {
+        os::fail(b"the file's name");
+        return -1;
+    }
+    let fd = os::open_read(&path[..length]);
+    if fd < 0 {
+        os::fail(&path[..length]);
+    }
+    fd
+}
+
+// Reads once, behind the bytes that the buffer has.
+pub fn fill(fd: i32, buf: &mut [u8], have: usize) -> Filled
+    ensures { λ r. ⌜ Read (now (buf .entry)) have r (now (buf .exit)) ⌝ }
+{
+    if buf.len() <= have {
+        return Filled::Full;
+    }
+    let got = libc::read(fd, &mut buf[have..]);
+    if got < 0 {
+        return Filled::Failed;
+    }
+    if got == 0 {
+        return Filled::End;
+    }
+    let n = io::count(got, &buf[have..]);
+    Filled::To(have + n)
+}
+
+// n bytes from an index on, moved to the front.
+fn move_down(buf: &mut [u8], from: usize, n: usize)
+    requires { ⌜ from + n ≤ length (now buf) ⌝ }
+    ensures { λ _. ⌜ now (buf .exit) ≡ movedDown (now (buf .entry)) from n ⌝ }
+{
+    let mut i = 0;
+    while i < n {
+        buf[i] = buf[from + i];
+        i += 1;
+    }
+}
+
+// The bytes between two places, moved to the front of the buffer; says how many.
+pub fn carry(buf: &mut [u8], from: usize, to: usize) -> usize
+    ensures { λ r. ⌜ (r ≡ carriedCount (now (buf .entry)) from to) × (now (buf .exit) ≡ carried (now (buf .entry)) from to) ⌝ }
+{
+    if to < from {
+        return 0;
+    }
+    if buf.len() < to {
+        return 0;
+    }
+    let n = to - from;
+    move_down(buf, from, n);
+    n
+}

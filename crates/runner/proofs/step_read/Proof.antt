@@ -1,0 +1,21 @@
+-- The step of a command read, or a refusal.
+use borrow.Author.Needs.{needs}
+use Rattle.runner.proofs.Acting.{refused-acts}
+use Rattle.runner.proofs.step_read.Statement.{statement}
+use Rattle.runner.proofs.step_read.Tie as tie
+
+pub step-read-spec : {M : Type 1} → statement M
+step-read-spec =
+    tie.close
+    (tie.spec
+    (λ c. search needs)
+    (λ c κs. search needs)
+    (λ c. search needs)
+    (λ c κs. search needs)
+    (λ c. search needs)
+    (λ c. search needs)
+    (λ c. search needs)
+    (λ c.
+    let a = c .before .before .before .before .before .before in
+    rw (a .before .before .before .before .before .x .given .1) (a .step-of .ensures))
+    (λ c. rw (c .before .enum-told .given .1) (refused-acts _ (c .refused .ensures))))

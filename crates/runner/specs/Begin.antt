@@ -1,0 +1,25 @@
+-- The first record of a stream by itself: "A stream starts with one kind 0, which makes the lent tables fresh and writes no event".
+use mathlib.Core.Path.{_≡_}
+use Prim.Native.Nat.{ℕ}
+use mathlib.Core.List.{List, [], _∷_}
+use Rattle.model.specs.Words.{pick}
+use Rattle.model.specs.Tables.{start}
+use Rattle.model.specs.Lent.{Lent, encode}
+use Rattle.model.specs.Runner.{settingsOf, firstStop, goesOn}
+use Rattle.model.specs.declared.Stop.the-variants as stop
+use Rattle.runner.specs.declared.Begun.{Begun}
+use Rattle.runner.specs.declared.Begun.the-variants.{Accepted, Stopped}
+
+-- its settings, or why the run stops at it; with no byte there is none
+unfoldable pub beginning : Lent → List ℕ → Begun
+beginning L [] = Stopped stop.Nothing
+beginning L (k ∷ bs) = pick (goesOn (firstStop L k bs)) (Accepted (settingsOf bs)) (Stopped (firstStop L k bs))
+
+-- "until it is accepted they are unchanged"
+abbrev pub begunTables : Lent → Begun → Lent
+begunTables L (Accepted S) = encode S (start S)
+begunTables L (Stopped n) = L
+
+pub record Begins (L : Lent) (s : List ℕ) (r : Begun) (M : Lent) : Type 0 where
+  pub says : r ≡ beginning L s
+  pub tables : M ≡ begunTables L (beginning L s)

@@ -1,0 +1,3 @@
+-- What the inner functions of the runner promise: one record and a run that goes on; the first record.
+pub mod Resume
+pub mod Begin

@@ -1,0 +1,63 @@
+-- A run in parts: one record by itself, and a run that goes on from a place of the stream behind event bytes that are written.
+-- Nothing here is document 01's.
+use Prim.Native.Nat.{ℕ, _+_, _-_, _≤_}
+use mathlib.Core.List.{List}
+use lib.ListN.{length, take, drop, getD}
+use lib.Dec.{ltb}
+use Rattle.model.specs.Words.{pick}
+use Rattle.model.specs.Tables.{Tables, Outcome, after, eventsOf}
+use Rattle.model.specs.Lent.{Lent}
+use Rattle.model.specs.Records.{isCommand, lengthOf, logBytes}
+use Rattle.model.specs.Runner.{goesOn, laterStop, stepAt, Result, halt, ahead, runFrom, lentResult, Runs}
+use Rattle.model.specs.Inner.{Is, Does}
+use Rattle.model.specs.declared.Settings.{Settings}
+use Rattle.model.specs.declared.Stop.{Stop}
+use Rattle.model.specs.declared.Stop.the-variants.{UnknownKind, CutShort}
+use Rattle.model.specs.declared.Stop.the-variants as stop
+use Rattle.model.specs.declared.Told.{Told}
+use Rattle.model.specs.declared.Ran.{Ran}
+
+-- the kind of the record at a place of a stream, and the bytes behind that
+abbrev pub kindAt : List ℕ → ℕ → ℕ
+kindAt s at = getD s at 0
+
+abbrev pub restAt : List ℕ → ℕ → List ℕ
+restAt s at = drop (at + 1) s
+
+-- the checks that every record has: "14 unknown kind, 15 cut short"
+abbrev pub recordStop : ℕ → List ℕ → Stop
+recordStop k rest = pick (isCommand k) (pick (ltb (length rest) (lengthOf k)) CutShort stop.Nothing) UnknownKind
+
+-- one record by itself, as the first turn of `runFrom`
+unfoldable pub single : Settings → ℕ → ℕ → List ℕ → Tables → Result Tables
+single S room k rest t =
+    pick (goesOn (laterStop room k rest))
+    record {
+      stop = stop.Nothing;
+      consumed = 1 + lengthOf k;
+      events = logBytes (eventsOf (stepAt S k rest t));
+      tables = after t (stepAt S k rest t);
+    }
+    (halt (laterStop room k rest) t)
+
+abbrev pub recordFrom : Settings → List ℕ → ℕ → ℕ → List ℕ → Tables → Result Tables
+recordFrom S s at out e = single S (length e - out) (kindAt s at) (restAt s at)
+
+abbrev pub restFrom : Settings → List ℕ → ℕ → ℕ → List ℕ → Tables → Result Tables
+restFrom S s at out e = runFrom S 0 (length e - out) (drop at s)
+
+-- where a run stands: before byte `at` of the stream, behind `out` bytes of events
+pub record Stands (s : List ℕ) (at out : ℕ) (e : List ℕ) : Type 0 where
+  pub inside : at ≤ length s
+  pub room : out ≤ length e
+
+-- a step on sound tables told r and left the slices M, which hold sound tables again
+pub record Acts (S : Settings) (step : Tables → Outcome Tables) (L : Lent) (r : Told) (M : Lent) : Type 0 where
+  pub does : Does S step L r M
+  pub keeps : (t : Tables) → Is S L t → Is S M (after t (step t))
+
+-- the records that o runs from there, on the sound tables that L holds, leave this; consumed and written count from the start
+pub record Resumes (S : Settings) (o : Tables → Result Tables) (s : List ℕ) (at out : ℕ) (e : List ℕ) (L : Lent) (r : Ran) (f : List ℕ) (M : Lent) : Type 0 where
+  pub on : (t : Tables) → Is S L t → Runs (ahead at (take out e) (lentResult S (o t))) e r f M
+  pub keeps : (t : Tables) → Is S L t → Is S M (o t .tables)
+  pub stands : Stands s (r .consumed) (r .written) f

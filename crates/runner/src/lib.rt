@@ -1,0 +1,278 @@
+// The stream runner (document 01, "Records"): the checks at a record, what a record does, the run of a stream. `run` is public and asks
+// nothing; `begin` and `go_on` are its two halves, for a caller that holds the tables between them.
+use model::Access;
+use model::Command;
+use model::CommandRead;
+use model::Ran;
+use model::Refusal;
+use model::Settings;
+use model::Stop;
+use model::Told;
+ghost use mathlib.Core.Path.{_≡_};
+ghost use Prim.Native.Nat.{_<_};
+ghost use lib.ListN.{length};
+ghost use Rattle.model.specs.Lent.{lent};
+ghost use Rattle.model.specs.Inner.{Held};
+ghost use Rattle.model.specs.Runner.{settingsOf, firstStop, goesOn, laterStop, stepOf, stepRead, run, Runs};
+ghost use Rattle.runner.specs.Begin.{Begins};
+ghost use Rattle.runner.specs.Resume.{kindAt, restAt, recordStop, Stands, Acts, recordFrom, restFrom, Resumes};
+
+// "16 fewer than 64 bytes of event room"
+const EVENT_ROOM: usize = 64;
+
+// A settings record: its kind and a body of seven bytes.
+const SETTINGS_RECORD: usize = 8;
+
+// What the first record comes to: its settings, for which the tables are fresh, or why the run stops there.
+pub enum Begun {
+    Accepted(Settings),
+    Stopped(Stop),
+}
+
+// Whether nothing stops.
+fn goes_on(stop: Stop) -> bool
+    ensures { λ r. ⌜ r ≡ goesOn stop ⌝ }
+{
+    model::stop_number(stop) == 0
+}
+
+// The settings of a body of kind 0, unjudged.
+fn settings_of(body: &[u8]) -> Settings
+    ensures { λ r. ⌜ r ≡ settingsOf (now (body .entry)) ⌝ }
+{
+    Settings {
+        sets: records::number2(body, 0) as usize,
+        ways: records::number1(body, 2) as usize,
+        percent: records::number1(body, 3) as usize,
+        entries: records::number1(body, 4) as usize,
+        readers: records::number1(body, 5) as usize,
+        places: records::number1(body, 6) as usize,
+    }
+}
+
+// The checks at every record.
+fn record_stop(stream: &[u8], at: usize) -> Stop
+    requires { ⌜ at < length (now stream) ⌝ }
+    ensures { λ r. ⌜ r ≡ recordStop (kindAt (now (stream .entry)) at) (restAt (now (stream .entry)) at) ⌝ }
+{
+    let kind = stream[at];
+    let body = records::length_of(kind) as usize;
+    let left = stream.len() - (at + 1);
+    if !records::is_command(kind) {
+        return Stop::UnknownKind;
+    }
+    if left < body {
+        return Stop::CutShort;
+    }
+    Stop::Nothing
+}
+
+// At the first.
+fn first_stop(stream: &[u8], longs: &[u64], words: &[u32], marks: &[u8]) -> Stop
+    requires { ⌜ 0 < length (now stream) ⌝ }
+    ensures { λ r. ⌜ r ≡ firstStop (lent (now (longs .entry)) (now (words .entry)) (now (marks .entry)))
+        (kindAt (now (stream .entry)) 0) (restAt (now (stream .entry)) 0) ⌝ }
+{
+    let stop = record_stop(stream, 0);
+    if !goes_on(stop) {
+        return stop;
+    }
+    if stream[0] != 0 {
+        return Stop::OutOfPlace;
+    }
+    let s = settings_of(&stream[1..]);
+    if !soundness::in_range(s) {
+        return Stop::SettingOutOfRange;
+    }
+    if !soundness::lengths_fit(s, longs, words, marks) {
+        return Stop::SliceLength;
+    }
+    Stop::Nothing
+}
+
+// At a later one, with this much event room.
+fn later_stop(stream: &[u8], at: usize, room: usize) -> Stop
+    requires { ⌜ at < length (now stream) ⌝ }
+    ensures { λ r. ⌜ r ≡ laterStop room (kindAt (now (stream .entry)) at) (restAt (now (stream .entry)) at) ⌝ }
+{
+    let stop = record_stop(stream, at);
+    if !goes_on(stop) {
+        return stop;
+    }
+    if stream[at] == 0 {
+        return Stop::OutOfPlace;
+    }
+    if room < EVENT_ROOM {
+        return Stop::NoRoom;
+    }
+    Stop::Nothing
+}
+
+// The step of a command, on sound tables. Settings are refused: the checks before it let none through.
+fn step_of(s: Settings, longs: &mut [u64], words: &mut [u32], marks: &mut [u8], x: Command) -> Told
+    requires { ⌜ Held s (lent (now longs) (now words) (now marks)) ⌝ }
+    ensures { λ r. ⌜ Acts s (stepOf s x) (lent (now (longs .entry)) (now (words .entry)) (now (marks .entry))) r
+        (lent (now (longs .exit)) (now (words .exit)) (now (marks .exit))) ⌝ }
+{
+    match x {
+        Command::Settings {
+            sets: _,
+            ways: _,
+            percent: _,
+            entries: _,
+            readers: _,
+            places: _,
+        } => tables::refused(Refusal::SettingOutOfRange),
+        Command::Read { address, ticket } => {
+            let access = Access::Read {
+                address,
+                mask: 0,
+                ticket,
+            };
+            access::access_step(s, longs, words, marks, access)
+        }
+        Command::Write { address, mask } => {
+            let access = Access::Write {
+                address,
+                mask,
+                ticket: 0,
+            };
+            access::access_step(s, longs, words, marks, access)
+        }
+        Command::Send => steps::send_step(s, longs, words, marks),
+        Command::Fill(address) => steps::fill_step(s, longs, words, marks, address),
+        Command::Tick(cycle) => steps::tick_step(s, longs, words, marks, cycle),
+    }
+}
+
+// The same of a body that was read; one that is no command's is refused too.
+fn step_read(
+    s: Settings,
+    longs: &mut [u64],
+    words: &mut [u32],
+    marks: &mut [u8],
+    x: CommandRead,
+) -> Told
+    requires { ⌜ Held s (lent (now longs) (now words) (now marks)) ⌝ }
+    ensures { λ r. ⌜ Acts s (stepRead s x) (lent (now (longs .entry)) (now (words .entry)) (now (marks .entry))) r
+        (lent (now (longs .exit)) (now (words .exit)) (now (marks .exit))) ⌝ }
+{
+    match x {
+        CommandRead::Got(c) => step_of(s, longs, words, marks, c),
+        CommandRead::None => tables::refused(Refusal::SettingOutOfRange),
+    }
+}
+
+// One record, at byte `at`: every check, then its step, then its events behind the `out` bytes that are written.
+fn run_one(
+    s: Settings,
+    stream: &[u8],
+    at: usize,
+    events: &mut [u8],
+    out: usize,
+    longs: &mut [u64],
+    words: &mut [u32],
+    marks: &mut [u8],
+) -> Ran
+    requires { ⌜ Held s (lent (now longs) (now words) (now marks)) ⌝ }
+    requires { ⌜ Stands (now stream) at out (now events) ⌝ }
+    requires { ⌜ at < length (now stream) ⌝ }
+    ensures { λ r. ⌜ Resumes s (recordFrom s (now (stream .entry)) at out (now (events .entry)))
+        (now (stream .entry)) at out (now (events .entry))
+        (lent (now (longs .entry)) (now (words .entry)) (now (marks .entry))) r
+        (now (events .exit)) (lent (now (longs .exit)) (now (words .exit)) (now (marks .exit))) ⌝ }
+{
+    let stop = later_stop(stream, at, events.len() - out);
+    if !goes_on(stop) {
+        return Ran {
+            stop,
+            consumed: at,
+            written: out,
+        };
+    }
+    let kind = stream[at];
+    let start = at + 1;
+    let next = start + records::length_of(kind) as usize;
+    let x = records::command_of(kind, &stream[start..next]);
+    let told = step_read(s, longs, words, marks, x);
+    let n = records::write_told(told, events, out);
+    Ran {
+        stop: Stop::Nothing,
+        consumed: next,
+        written: out + n,
+    }
+}
+
+// The records from byte `start` on, at fixed settings and on sound tables; events go behind the first `first` bytes.
+pub fn go_on(
+    s: Settings,
+    stream: &[u8],
+    start: usize,
+    events: &mut [u8],
+    first: usize,
+    longs: &mut [u64],
+    words: &mut [u32],
+    marks: &mut [u8],
+) -> Ran
+    requires { ⌜ Held s (lent (now longs) (now words) (now marks)) ⌝ }
+    requires { ⌜ Stands (now stream) start first (now events) ⌝ }
+    ensures { λ r. ⌜ Resumes s (restFrom s (now (stream .entry)) start first (now (events .entry)))
+        (now (stream .entry)) start first (now (events .entry))
+        (lent (now (longs .entry)) (now (words .entry)) (now (marks .entry))) r
+        (now (events .exit)) (lent (now (longs .exit)) (now (words .exit)) (now (marks .exit))) ⌝ }
+{
+    let mut at = start;
+    let mut out = first;
+    while at < stream.len() {
+        let ran = run_one(s, stream, at, events, out, longs, words, marks);
+        let stop = ran.stop;
+        if !goes_on(stop) {
+            return ran;
+        }
+        at = ran.consumed;
+        out = ran.written;
+    }
+    Ran {
+        stop: Stop::Nothing,
+        consumed: at,
+        written: out,
+    }
+}
+
+// The first record: its settings are accepted and the tables made fresh, or it stops the run and leaves the tables.
+pub fn begin(stream: &[u8], longs: &mut [u64], words: &mut [u32], marks: &mut [u8]) -> Begun
+    ensures { λ r. ⌜ Begins (lent (now (longs .entry)) (now (words .entry)) (now (marks .entry))) (now (stream .entry)) r
+        (lent (now (longs .exit)) (now (words .exit)) (now (marks .exit))) ⌝ }
+{
+    if stream.len() == 0 {
+        return Begun::Stopped(Stop::Nothing);
+    }
+    let stop = first_stop(stream, longs, words, marks);
+    if !goes_on(stop) {
+        return Begun::Stopped(stop);
+    }
+    let s = settings_of(&stream[1..]);
+    cache::fresh(s, longs, words, marks);
+    Begun::Accepted(s)
+}
+
+// Runs a stream: its events, and the tables as the records run left them.
+pub fn run(
+    stream: &[u8],
+    events: &mut [u8],
+    longs: &mut [u64],
+    words: &mut [u32],
+    marks: &mut [u8],
+) -> Ran
+    ensures { λ r. ⌜ Runs (run (length (now (events .entry))) (now (stream .entry)) (lent (now (longs .entry)) (now (words .entry)) (now (marks .entry))))
+        (now (events .entry)) r (now (events .exit)) (lent (now (longs .exit)) (now (words .exit)) (now (marks .exit))) ⌝ }
+{
+    match begin(stream, longs, words, marks) {
+        Begun::Stopped(stop) => Ran {
+            stop,
+            consumed: 0,
+            written: 0,
+        },
+        Begun::Accepted(s) => go_on(s, stream, SETTINGS_RECORD, events, 0, longs, words, marks),
+    }
+}

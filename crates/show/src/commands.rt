@@ -1,0 +1,54 @@
+// Commands in the assembler's own language.
+use model::Command;
+
+fn put_field(word: &[u8], n: u64, out: &mut [u8], at: usize) -> usize {
+    let a = text::put_text(word, out, at);
+    text::put_decimal(n, out, a)
+}
+
+fn put_settings(
+    sets: u16,
+    ways: u8,
+    percent: u8,
+    entries: u8,
+    readers: u8,
+    places: u8,
+    out: &mut [u8],
+    at: usize,
+) -> usize {
+    let a = put_field(b"settings sets ", sets as u64, out, at);
+    let b = put_field(b" ways ", ways as u64, out, a);
+    let c = put_field(b" dirty ", percent as u64, out, b);
+    let d = put_field(b" misses ", entries as u64, out, c);
+    let e = put_field(b" readers ", readers as u64, out, d);
+    put_field(b" queue ", places as u64, out, e)
+}
+
+fn put_addressed(word: &[u8], address: u64, out: &mut [u8], at: usize) -> usize {
+    let a = text::put_text(word, out, at);
+    text::put_hex(address, out, a)
+}
+
+pub fn put_command(c: Command, out: &mut [u8], at: usize) -> usize {
+    match c {
+        Command::Settings {
+            sets,
+            ways,
+            percent,
+            entries,
+            readers,
+            places,
+        } => { put_settings(sets, ways, percent, entries, readers, places, out, at) }
+        Command::Read { address, ticket } => {
+            let a = put_addressed(b"read ", address, out, at);
+            put_field(b" ticket ", ticket as u64, out, a)
+        }
+        Command::Write { address, mask } => {
+            let a = put_addressed(b"write ", address, out, at);
+            put_addressed(b" mask ", mask as u64, out, a)
+        }
+        Command::Send => text::put_text(b"send", out, at),
+        Command::Fill(address) => put_addressed(b"fill ", address, out, at),
+        Command::Tick(cycle) => put_field(b"tick ", cycle as u64, out, at),
+    }
+}

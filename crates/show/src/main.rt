@@ -1,0 +1,220 @@
+// Shows a log of events or a stream of commands, from standard input or the file that the first argument names, as plain
+// text: a line a record, the place of its first byte in front. A damaged log is shown up to the damage, and a last line
+// says where and why it stops.
+mod commands;
+mod damage;
+mod events;
+
+use input::Filled;
+use libc::STDOUT_FILENO;
+use listing::Look;
+
+// The bytes that wait at the front of the buffer, the place of the first of them in the whole input, the bytes of text that
+// wait to be written, whether to go on.
+struct Work {
+    have: usize,
+    place: u64,
+    put: usize,
+    more: bool,
+}
+
+// Within one buffer: the place of the next record in it, the bytes of text that wait, whether a whole record may stand
+// there, whether all is over.
+struct Turn {
+    at: usize,
+    put: usize,
+    more: bool,
+    stop: bool,
+}
+
+// Writes what waits; says whether it went.
+fn write_out(out: &[u8], n: usize) -> bool {
+    let done = io::write_all(STDOUT_FILENO, text::front(out, n));
+    if !done {
+        os::fail(b"write");
+    }
+    done
+}
+
+// Writes what waits where few places are free: no line takes 512 bytes.
+fn with_room(out: &[u8], t: Turn) -> Turn {
+    let put = t.put;
+    if put < out.len() {
+        if 512 <= out.len() - put {
+            return t;
+        }
+    }
+    let done = write_out(out, put);
+    Turn {
+        at: t.at,
+        put: 0,
+        more: t.more & done,
+        stop: t.stop | !done,
+    }
+}
+
+fn put_place(place: u64, out: &mut [u8], at: usize) -> usize {
+    let next = text::put_right(place, 6, out, at);
+    text::put_text(b"  ", out, next)
+}
+
+// A line is whole: the next record stands at `at`.
+fn line_done(out: &mut [u8], at: usize, put: usize, t: Turn) -> Turn {
+    Turn {
+        at,
+        put: text::put_text(b"\n", out, put),
+        more: t.more,
+        stop: t.stop,
+    }
+}
+
+fn waiting(t: Turn) -> Turn {
+    Turn {
+        at: t.at,
+        put: t.put,
+        more: false,
+        stop: t.stop,
+    }
+}
+
+fn damaged(t: Turn, put: usize) -> Turn {
+    Turn {
+        at: t.at,
+        put,
+        more: false,
+        stop: true,
+    }
+}
+
+// The record at a place of the buffer, as a line.
+fn show_one(s: &[u8], place: u64, out: &mut [u8], t: Turn) -> Turn {
+    let r = with_room(out, t);
+    let at = r.at;
+    let here = std::num::wrapping_add_u64(place, at as u64);
+    match listing::look_at(s, at) {
+        Look::Command { command, next } => {
+            let start = put_place(here, out, r.put);
+            let end = commands::put_command(command, out, start);
+            line_done(out, next, end, r)
+        }
+        Look::Event { event, next } => {
+            let start = put_place(here, out, r.put);
+            let end = events::put_event(event, out, start);
+            line_done(out, next, end, r)
+        }
+        Look::End => waiting(r),
+        Look::Cut {
+            kind: _,
+            wants: _,
+            left: _,
+        } => waiting(r),
+        Look::Unknown(kind) => {
+            let start = put_place(here, out, r.put);
+            damaged(r, damage::put_unknown(kind, out, start))
+        }
+        Look::Strange(kind) => {
+            let start = put_place(here, out, r.put);
+            damaged(r, damage::put_strange(kind, out, start))
+        }
+    }
+}
+
+// The whole records of a buffer: each is a byte or more.
+fn show_records(s: &[u8], place: u64, out: &mut [u8], put: usize) -> Turn {
+    let mut t = Turn {
+        at: 0,
+        put,
+        more: true,
+        stop: false,
+    };
+    let mut turns = s.len();
+    while 0 < turns {
+        if !t.more {
+            break;
+        }
+        t = show_one(s, place, out, t);
+        turns -= 1;
+    }
+    t
+}
+
+// The first n bytes of the buffer; what is no whole record yet goes to its front.
+fn show_buffer(buf: &mut [u8], n: usize, out: &mut [u8], w: Work) -> Work {
+    let t = show_records(text::front(buf, n), w.place, out, w.put);
+    let at = t.at;
+    Work {
+        have: input::carry(buf, at, n),
+        place: std::num::wrapping_add_u64(w.place, at as u64),
+        put: t.put,
+        more: !t.stop,
+    }
+}
+
+fn stopped(w: Work, put: usize) -> Work {
+    Work {
+        have: w.have,
+        place: w.place,
+        put,
+        more: false,
+    }
+}
+
+// At the end of the input: what still waits is cut short.
+fn show_rest(buf: &[u8], out: &mut [u8], w: Work) -> Work {
+    let have = w.have;
+    match listing::look_at(text::front(buf, have), 0) {
+        Look::Cut { kind, wants, left } => {
+            let start = put_place(w.place, out, w.put);
+            stopped(w, damage::put_cut(kind, wants, left, out, start))
+        }
+        Look::Command {
+            command: _,
+            next: _,
+        } => stopped(w, w.put),
+        Look::Event { event: _, next: _ } => stopped(w, w.put),
+        Look::End => stopped(w, w.put),
+        Look::Unknown(_) => stopped(w, w.put),
+        Look::Strange(_) => stopped(w, w.put),
+    }
+}
+
+fn read_once(fd: i32, buf: &mut [u8], out: &mut [u8], w: Work) -> Work {
+    match input::fill(fd, buf, w.have) {
+        Filled::To(n) => show_buffer(buf, n, out, w),
+        Filled::End => show_rest(buf, out, w),
+        Filled::Full => stopped(w, w.put),
+        Filled::Failed => {
+            os::fail(b"read");
+            stopped(w, w.put)
+        }
+    }
+}
+
+// A proved loop has to end, and nothing says that an input does: the turns are more than any run takes.
+fn show_all(fd: i32, buf: &mut [u8], out: &mut [u8]) {
+    let mut w = Work {
+        have: 0,
+        place: 0,
+        put: 0,
+        more: true,
+    };
+    let mut turns = u64::MAX;
+    while 0 < turns {
+        if !w.more {
+            break;
+        }
+        w = read_once(fd, buf, out, w);
+        turns -= 1;
+    }
+    write_out(out, w.put);
+}
+
+fn main() {
+    let fd = input::open_input();
+    if fd < 0 {
+        return;
+    }
+    let mut buf = io::large_buffer();
+    let mut out = io::large_buffer();
+    show_all(fd, &mut buf, &mut out);
+}

@@ -1,0 +1,31 @@
+-- `text::put_padded` meets its contract.
+use native.Mathlib.Omega.{arith}
+use borrow.Author.Needs.{needs}
+use Rattle.text.proofs.Puts.{padded-none, padded-all}
+use Rattle.text.proofs.put_padded.Statement.{statement}
+use Rattle.text.proofs.put_padded.Tie as tie
+
+pub put-padded-spec : {M : Type 1} → statement M
+put-padded-spec =
+    tie.close
+    (tie.spec
+    (λ c κs. search needs)
+    (λ c κs. search needs)
+    (λ c. search needs)
+    (λ c.
+    let p = c .before in
+    padded-none _ _ _ _ _ _ (p .before .count-digits .ensures) (p .lacking .ensures) (omega arith))
+    (λ c. search needs)
+    (λ c.
+    let p = c .before .before in
+    padded-none _ _ _ _ _ _ (p .before .count-digits .ensures) (p .lacking .ensures) (omega arith))
+    (λ c κs. search needs)
+    (λ c. search needs)
+    (λ c κs. search needs)
+    (λ c. search needs)
+    (λ c. search needs)
+    (λ c.
+    let s = c .before .before in
+    let f = s .before .before .before .before in
+    let p = f .before .before .before .before in
+    padded-all _ _ _ _ _ _ (p .before .count-digits .ensures) (p .lacking .ensures) (omega arith) (f .fill .ensures) (s .spell .ensures)))
