@@ -1,4 +1,4 @@
--- The first record by itself, and the run behind it.
+-- The first record: its checks by the tests that the code makes, and the run behind it.
 use mathlib.Core.Path.{_≡_, refl, sym, ap, _∙_}
 use mathlib.Core.Bool.{Bool, true, false, not}
 use mathlib.Core.List.{List, [], _∷_}
@@ -27,6 +27,45 @@ use Rattle.runner.specs.declared.Begun.the-variants.{Accepted, Stopped}
 use Rattle.runner.specs.Resume.{kindAt, restAt, restFrom, Stands, Resumes}
 use Rattle.runner.specs.Begin.{beginning, Begins}
 use Rattle.runner.proofs.Running.{run-skips}
+
+-- ---- the checks
+
+module _ (s : List ℕ) (L : Lent) {b : Bool} {n : ℕ} (known : b ≡ isCommand (kindAt s 0)) (long : n ≡ lengthOf (kindAt s 0)) where
+  rest-long : length (restAt s 0) ≡ length s - 1
+  rest-long = length-drop 1 s
+
+  pub first-unknown : not b ≡ true → UnknownKind ≡ firstStop L (kindAt s 0) (restAt s 0)
+  unfolding firstStop
+  first-unknown h = rw (← known, not-true b h)
+
+  module _ (command : not b ≡ false) where
+    pub first-cut : length s - 1 < n → CutShort ≡ firstStop L (kindAt s 0) (restAt s 0)
+    unfolding firstStop
+    first-cut h = let l = rest-long in rw (← known, not-false b command, lt-ltb (length (restAt s 0)) (lengthOf (kindAt s 0)) (omega arith))
+
+    module _ (whole : n ≤ length s - 1) where
+      whole-is : lengthOf (kindAt s 0) ≤ length (restAt s 0)
+      whole-is = let l = rest-long in omega arith
+
+      pub first-other : (kindAt s 0 ≡ 0 → ⊥) → OutOfPlace ≡ firstStop L (kindAt s 0) (restAt s 0)
+      unfolding firstStop
+      first-other h = rw (← known, not-false b command, le-ltb _ _ whole-is, ne-eqb (kindAt s 0) 0 h)
+
+      module _ (settings : kindAt s 0 ≡ 0) {S : Settings} (S-is : S ≡ settingsOf (take (length s - 1) (drop 1 s))) where
+        first-settings : settingsStop S L ≡ firstStop L (kindAt s 0) (restAt s 0)
+        unfolding firstStop
+        first-settings = rw (← known, not-false b command, le-ltb _ _ whole-is, eq-eqb (kindAt s 0) 0 settings, S-is, take-all (length s - 1) (drop 1 s) (let l = rest-long in omega arith))
+
+        module _ {r : Bool} (range : r ≡ inRange S) where
+          pub first-out : not r ≡ true → SettingOutOfRange ≡ firstStop L (kindAt s 0) (restAt s 0)
+          first-out h = rw (← range, not-true r h) at first-settings
+
+          module _ (held : not r ≡ false) {f : Bool} (fits : f ≡ lengthsFit S L) where
+            pub first-length : not f ≡ true → SliceLength ≡ firstStop L (kindAt s 0) (restAt s 0)
+            first-length h = rw (← range, not-false r held, ← fits, not-true f h) at first-settings
+
+            pub first-goes : not f ≡ false → Nothing ≡ firstStop L (kindAt s 0) (restAt s 0)
+            first-goes h = rw (← range, not-false r held, ← fits, not-false f h) at first-settings
 
 -- ---- settings that are accepted
 

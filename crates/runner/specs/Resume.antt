@@ -3,16 +3,13 @@
 use Prim.Native.Nat.{ℕ, _+_, _-_, _≤_}
 use mathlib.Core.List.{List}
 use lib.ListN.{length, take, drop, getD}
-use lib.Dec.{ltb}
 use Rattle.model.specs.Words.{pick}
 use Rattle.model.specs.Tables.{Tables, Outcome, after, eventsOf}
 use Rattle.model.specs.Lent.{Lent}
-use Rattle.model.specs.Records.{isCommand, lengthOf, logBytes}
+use Rattle.model.specs.Records.{lengthOf, logBytes}
 use Rattle.model.specs.Runner.{goesOn, laterStop, stepAt, Result, halt, ahead, runFrom, lentResult, Runs}
 use Rattle.model.specs.Inner.{Is, Does}
 use Rattle.model.specs.declared.Settings.{Settings}
-use Rattle.model.specs.declared.Stop.{Stop}
-use Rattle.model.specs.declared.Stop.the-variants.{UnknownKind, CutShort}
 use Rattle.model.specs.declared.Stop.the-variants as stop
 use Rattle.model.specs.declared.Told.{Told}
 use Rattle.model.specs.declared.Ran.{Ran}
@@ -23,10 +20,6 @@ kindAt s at = getD s at 0
 
 abbrev pub restAt : List ℕ → ℕ → List ℕ
 restAt s at = drop (at + 1) s
-
--- the checks that every record has: "14 unknown kind, 15 cut short"
-abbrev pub recordStop : ℕ → List ℕ → Stop
-recordStop k rest = pick (isCommand k) (pick (ltb (length rest) (lengthOf k)) CutShort stop.Nothing) UnknownKind
 
 -- one record by itself, as the first turn of `runFrom`
 unfoldable pub single : Settings → ℕ → ℕ → List ℕ → Tables → Result Tables

@@ -15,7 +15,7 @@ ghost use Rattle.model.specs.Lent.{lent};
 ghost use Rattle.model.specs.Inner.{Held};
 ghost use Rattle.model.specs.Runner.{settingsOf, firstStop, goesOn, laterStop, stepOf, stepRead, run, Runs};
 ghost use Rattle.runner.specs.Begin.{Begins};
-ghost use Rattle.runner.specs.Resume.{kindAt, restAt, recordStop, Stands, Acts, recordFrom, restFrom, Resumes};
+ghost use Rattle.runner.specs.Resume.{kindAt, restAt, Stands, Acts, recordFrom, restFrom, Resumes};
 
 // "16 fewer than 64 bytes of event room"
 const EVENT_ROOM: usize = 64;
@@ -50,34 +50,21 @@ fn settings_of(body: &[u8]) -> Settings
     }
 }
 
-// The checks at every record.
-fn record_stop(stream: &[u8], at: usize) -> Stop
-    requires { ⌜ at < length (now stream) ⌝ }
-    ensures { λ r. ⌜ r ≡ recordStop (kindAt (now (stream .entry)) at) (restAt (now (stream .entry)) at) ⌝ }
-{
-    let kind = stream[at];
-    let body = records::length_of(kind) as usize;
-    let left = stream.len() - (at + 1);
-    if !records::is_command(kind) {
-        return Stop::UnknownKind;
-    }
-    if left < body {
-        return Stop::CutShort;
-    }
-    Stop::Nothing
-}
-
-// At the first.
+// The checks at the first record.
 fn first_stop(stream: &[u8], longs: &[u64], words: &[u32], marks: &[u8]) -> Stop
     requires { ⌜ 0 < length (now stream) ⌝ }
     ensures { λ r. ⌜ r ≡ firstStop (lent (now (longs .entry)) (now (words .entry)) (now (marks .entry)))
         (kindAt (now (stream .entry)) 0) (restAt (now (stream .entry)) 0) ⌝ }
 {
-    let stop = record_stop(stream, 0);
-    if !goes_on(stop) {
-        return stop;
+    let kind = stream[0];
+    let body = records::length_of(kind) as usize;
+    if !records::is_command(kind) {
+        return Stop::UnknownKind;
     }
-    if stream[0] != 0 {
+    if stream.len() - 1 < body {
+        return Stop::CutShort;
+    }
+    if kind != 0 {
         return Stop::OutOfPlace;
     }
     let s = settings_of(&stream[1..]);
@@ -90,16 +77,20 @@ fn first_stop(stream: &[u8], longs: &[u64], words: &[u32], marks: &[u8]) -> Stop
     Stop::Nothing
 }
 
-// At a later one, with this much event room.
+// The checks at a record that is not the first, with this much event room.
 fn later_stop(stream: &[u8], at: usize, room: usize) -> Stop
     requires { ⌜ at < length (now stream) ⌝ }
     ensures { λ r. ⌜ r ≡ laterStop room (kindAt (now (stream .entry)) at) (restAt (now (stream .entry)) at) ⌝ }
 {
-    let stop = record_stop(stream, at);
-    if !goes_on(stop) {
-        return stop;
+    let kind = stream[at];
+    let body = records::length_of(kind) as usize;
+    if !records::is_command(kind) {
+        return Stop::UnknownKind;
     }
-    if stream[at] == 0 {
+    if stream.len() - (at + 1) < body {
+        return Stop::CutShort;
+    }
+    if kind == 0 {
         return Stop::OutOfPlace;
     }
     if room < EVENT_ROOM {

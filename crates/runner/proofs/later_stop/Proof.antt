@@ -1,47 +1,36 @@
+-- The checks in order.
 use borrow.Author.Needs.{needs}
+use Rattle.runner.proofs.Checks.{later-unknown, later-cut, later-settings, later-full, later-goes}
 use Rattle.runner.proofs.later_stop.Statement.{statement}
 use Rattle.runner.proofs.later_stop.Tie as tie
-use Rattle.runner.proofs.later_stop.Reads as reads
-use Rattle.runner.proofs.later_stop.Lts as lts
-use Rattle.runner.proofs.goes_on.Reads as goes-on-reads
-use Rattle.runner.proofs.record_stop.Reads as record-stop-reads
-
--- src/lib.rt:98:9
-record-stop-requires : tie.Need-record-stop-requires
-record-stop-requires c κs = search needs
-
--- src/lib.rt:99:9
-goes-on-requires : tie.Need-goes-on-requires
-goes-on-requires c κs = search needs
-
--- src/lib.rt:100:9
-returns : tie.Need-returns
-returns c = ?
-
--- src/lib.rt:102:8
-shared-slice-read-if2 : tie.Need-shared-slice-read-if2
-shared-slice-read-if2 c = search needs
-
--- src/lib.rt:103:9
-returns-2 : tie.Need-returns-2
-returns-2 c = ?
-
--- src/lib.rt:106:9
-returns-3 : tie.Need-returns-3
-returns-3 c = ?
-
--- src/lib.rt:94:1
-returns-4 : tie.Need-returns-4
-returns-4 c = ?
 
 pub later-stop-spec : {M : Type 1} → statement M
 later-stop-spec =
     tie.close
     (tie.spec
-    record-stop-requires
-    goes-on-requires
-    returns
-    shared-slice-read-if2
-    returns-2
-    returns-3
-    returns-4)
+    (λ c. search needs)
+    (λ c κs. search needs)
+    (λ c. search needs)
+    (λ c κs. search needs)
+    (λ c.
+    let k = c .before in
+    let a = k .before .before .before .before .args in
+    later-unknown (a .stream .now) (a .at) (k .is-command .ensures) (k .before .length-of .ensures) (a .room) (c .if1 .taken))
+    (λ c. search needs)
+    (λ c. search needs)
+    (λ c.
+    let k = c .before .before in
+    let a = k .before .before .before .before .args in
+    later-cut (a .stream .now) (a .at) (k .is-command .ensures) (k .before .length-of .ensures) (a .room) (c .before .if1 .left) (c .if2 .taken))
+    (λ c.
+    let k = c .before .before .before in
+    let a = k .before .before .before .before .args in
+    later-settings (a .stream .now) (a .at) (k .is-command .ensures) (k .before .length-of .ensures) (a .room) (c .before .before .if1 .left) (c .before .if2 .left) (c .if3 .taken))
+    (λ c.
+    let k = c .before .before .before .before in
+    let a = k .before .before .before .before .args in
+    later-full (a .stream .now) (a .at) (k .is-command .ensures) (k .before .length-of .ensures) (a .room) (c .before .before .before .if1 .left) (c .before .before .if2 .left) (c .before .if3 .left) (c .if4 .taken))
+    (λ c.
+    let k = c .before .before .before .before in
+    let a = k .before .before .before .before .args in
+    later-goes (a .stream .now) (a .at) (k .is-command .ensures) (k .before .length-of .ensures) (a .room) (c .before .before .before .if1 .left) (c .before .before .if2 .left) (c .before .if3 .left) (c .if4 .left)))
