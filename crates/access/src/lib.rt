@@ -17,12 +17,13 @@ ghost use Prim.Native.Nat.{ℕ, _+_, _*_, _≤_, _<_};
 ghost use mathlib.Core.List.{List, [], _∷_};
 ghost use lib.ListN.{length, getD};
 ghost use Rattle.model.specs.Regions.{put};
-ghost use Rattle.model.specs.Address.{wellFormed, goodSector, isRead, addressOf, blockOf};
+ghost use Rattle.model.specs.Address.{maskOf, wellFormed, goodSector, isRead, addressOf, blockOf};
 ghost use Rattle.model.specs.Words.{pick, one};
 ghost use Rattle.model.specs.Tables.{isInvalid, empty};
 ghost use Rattle.model.specs.Lent.{lent, sectorsAt};
 ghost use Rattle.model.specs.Inner.{Fit, Held, Does};
 ghost use Rattle.model.specs.Range.{linesOf};
+ghost use Rattle.model.specs.Sound.{allOnes};
 ghost use Rattle.tables.specs.Layout.{Placed};
 ghost use Rattle.access.specs.Plan.{Met, Meets, Counted, Entered, Joining, Starting, Planned, ticketOf, Acts, MayAct, Acted, Offered, goes, refusalIn, isSpot, refusalMet};
 ghost use Rattle.access.specs.Written.{sectorsFor, sectorsAfter, lineWritten, missesWritten, readWritten, backWritten, queueWritten, tellingOf, MissRoom, ReadRoom, BackRoom};
@@ -37,8 +38,10 @@ fn good_sector(address: u64) -> bool
     (address % 32 == 0) & (address < 0x1_0000_0000_0000)
 }
 
-fn well_formed(x: Access) -> bool
+// Refusal 4 does not apply. That a mask is a 32-bit number is for callers whose proofs ask it.
+pub fn well_formed(x: Access) -> bool
     ensures { λ r. ⌜ r ≡ wellFormed x ⌝ }
+    ensures { λ _. ⌜ maskOf x ≤ allOnes ⌝ }
 {
     match x {
         Access::Read {

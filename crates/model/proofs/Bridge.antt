@@ -6,13 +6,14 @@ use lib.Dec.{eqb}
 use lib.ListN.{length}
 use borrow.Author.Tests.{eqb-true, eq-eqb}
 use Rattle.model.specs.declared.Settings.{Settings}
+use Rattle.model.specs.declared.Told.{Told}
 use Rattle.model.specs.Range.{inRange, longsLength, wordsLength, marksLength}
-use Rattle.model.specs.Tables.{Tables, Outcome}
+use Rattle.model.specs.Tables.{Tables, Outcome, refused, done, after, eventsOf}
 use Rattle.model.specs.Lent.{Lent, lengthsFit, tablesOf, encode}
 use Rattle.model.specs.Sound.{sound}
 use Rattle.model.specs.SoundLent.{soundLent}
-use Rattle.model.specs.Calls.{call, encoded}
-use Rattle.model.specs.Inner.{Fit, Is, Held}
+use Rattle.model.specs.Calls.{call, encoded, eventsTold}
+use Rattle.model.specs.Inner.{Fit, Is, Held, Does}
 use Rattle.model.proofs.Flags.{and-1, and-2, and-i}
 use Rattle.model.proofs.Fits.{ranged, fit}
 use Rattle.model.proofs.Facts.{sound-is}
@@ -90,3 +91,20 @@ module _ (S : Settings) (L : Lent) (t : Tables) (is : Is S L t) where
 pub call-on : (S : Settings) (step : Tables → Outcome Tables) (t : Tables) → inRange S ≡ true → sound S t ≡ true
     → call S step (encode S t) ≡ encoded S (step t)
 call-on S step t range e = call-is S (encode S t) t (record { range = range; soundly = e; encoded = refl }) step
+
+-- ---- an inner step on slices that are the encoding of sound tables
+
+pub after-encoded : (S : Settings) (L : Lent) (t : Tables) (o : Outcome Tables) → L ≡ encode S t → after L (encoded S o) ≡ encode S (after t o)
+after-encoded S L t (refused n) e = e
+after-encoded S L t (done es u) e = refl
+
+pub events-encoded : (S : Settings) (o : Outcome Tables) → eventsOf (encoded S o) ≡ eventsOf o
+events-encoded S (refused n) = refl
+events-encoded S (done es t) = refl
+
+module _ (S : Settings) {step : Tables → Outcome Tables} {L : Lent} {r : Told} {M : Lent} (d : Does S step L r M) (t : Tables) (i : Is S L t) where
+  pub does-tells : eventsTold r ≡ eventsOf (step t)
+  does-tells = d .on t i .tells ∙ events-encoded S (step t)
+
+  pub does-is : sound S (after t (step t)) ≡ true → Is S M (after t (step t))
+  does-is ok = record { range = i .range; soundly = ok; encoded = d .on t i .left ∙ after-encoded S L t (step t) (i .encoded) }

@@ -32,7 +32,7 @@ turnOf S a = record { events = a .events; left = encode S (a .left) }
 abbrev pub runOf : Settings → Run Tables → Run Lent
 runOf S r = record { turn = turnOf S (r .turn); offers = map (encoded S) (r .offers) }
 
-took-left : (t : Tables) (o : Outcome Tables) → took t o .left ≡ after t o
+pub took-left : (t : Tables) (o : Outcome Tables) → took t o .left ≡ after t o
 took-left t (refused n) = refl
 took-left t (done es u) = refl
 

@@ -10,7 +10,7 @@ use lib.Dec.{leb, ltb, eqb}
 use borrow.Author.Tests.{leb-true, ltb-false, eqb-true, eqb-false, eq-eqb, le-leb}
 use Rattle.model.specs.Words.{pick, all, any}
 use Rattle.model.specs.Range.{inRange, linesOf}
-use Rattle.model.specs.Address.{blockOf, sectorIndex, setIndex, lineNumber, addressOf, isRead, goodBlock, wellFormed}
+use Rattle.model.specs.Address.{blockOf, sectorIndex, setIndex, lineNumber, addressOf, maskOf, isRead, goodBlock, wellFormed}
 use Rattle.model.specs.Tables.{Line, Entry, Queued, writing, Tables, start, refused, isInvalid, isReserved, isModified, unused, waiting, dirty, holds, entryFor, empty, fresh}
 use Rattle.model.specs.Sound.{allOnes, lastCycle, maskOk, sectorOk, lineOk, alone, reservedOk, readingOf, entryOk, queuedOk}
 use Rattle.model.specs.Probe.{columnOf, answerAt, answerOf, waysOf, dirtyLines, enoughDirty, candidate, first, victim, Spot, at, writeBack, takeOver, meet, probe}
@@ -31,7 +31,7 @@ use Rattle.model.proofs.Lists.{In, all-in, in-all, in-any, any-in, in-g
 use Rattle.model.proofs.Below.{every-i}
 use Rattle.model.proofs.SoundFacts.{Sound, LeavesSound, LineIs, line-whole, EntryIs, entry-whole, ways-some, readers-some, mask-small, sector-below, sector-aligned, address-is, block-is, lines-are, line-at, four-at, sectors-at, tag-at, reserved-at, holder-one, entry-at}
 use Rattle.model.proofs.Ways.{Finds, first-finds, victim-finds, Sits, way-sits, way-in, line-among, set-of-block, set-of-line}
-use Rattle.model.proofs.Taken.{maskOf, Spotted, taken-sound}
+use Rattle.model.proofs.Taken.{Spotted, taken-sound}
 
 -- ---- the table of answers
 

@@ -4,6 +4,7 @@ use mathlib.Core.Path.{_≡_}
 use mathlib.Core.Bool.{true}
 use mathlib.Core.List.{List}
 use Rattle.model.specs.Range.{inRange}
+use Rattle.model.specs.Address.{maskOf}
 use Rattle.model.specs.Tables.{Tables, start, Outcome, refused, done, after}
 use Rattle.model.specs.Sound.{allOnes, sound}
 use Rattle.model.specs.Steps.{access, send, fill, tick}
@@ -16,7 +17,6 @@ use Rattle.model.specs.declared.Command.{Command}
 use Rattle.model.specs.declared.Command.the-variants as cmd
 use Rattle.model.proofs.SoundFacts.{LeavesSound, parts, whole}
 use Rattle.model.proofs.Keep.{send-leaves, fill-leaves}
-use Rattle.model.proofs.Taken.{maskOf}
 use Rattle.model.proofs.Offered.{access-leaves, tick-leaves, start-is-sound}
 
 after-sound : (S : Settings) (t : Tables) → sound S t ≡ true → (o : Outcome Tables) → LeavesSound S o → sound S (after t o) ≡ true

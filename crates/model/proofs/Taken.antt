@@ -13,7 +13,7 @@ use lib.Dec.{leb, ltb, eqb}
 use borrow.Author.Tests.{leb-true, leb-false, ltb-true, ltb-false, lt-ltb, eqb-true, eqb-false, eq-eqb, ne-eqb, le-leb}
 use Rattle.model.specs.Words.{pick, all, any, count, every}
 use Rattle.model.specs.Range.{within, linesOf}
-use Rattle.model.specs.Address.{blockOf, sectorIndex, setIndex, lineNumber, addressOf, isRead, goodSector, wellFormed}
+use Rattle.model.specs.Address.{blockOf, sectorIndex, setIndex, lineNumber, addressOf, maskOf, isRead, goodSector, wellFormed}
 use Rattle.model.specs.Tables.{Line, Entry, Queued, reading, writing, Tables, isInvalid, isReserved, unused, holds, entryFor, empty, fresh}
 use Rattle.model.specs.Sound.{allOnes, maskOk, sectorOk, lineOk, alone, agrees, reservedOk, readingOf, unsentFor, entryOk, queuedOk}
 use Rattle.model.specs.Probe.{Spot}
@@ -42,10 +42,6 @@ and-false false = refl
 and-true : (b : Bool) → (b && true) ≡ b
 and-true true = refl
 and-true false = refl
-
-abbrev pub maskOf : Access → ℕ
-maskOf (Read a m k) = m
-maskOf (Write a m k) = m
 
 -- a read that misses: it takes a new entry and queues a read
 abbrev pub fetching : Access → Answer → Bool

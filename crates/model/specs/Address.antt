@@ -30,6 +30,10 @@ abbrev pub addressOf : Access → ℕ
 addressOf (Read a m k) = a
 addressOf (Write a m k) = a
 
+abbrev pub maskOf : Access → ℕ
+maskOf (Read a m k) = m
+maskOf (Write a m k) = m
+
 abbrev pub isRead : Access → Bool
 isRead (Read a m k) = true
 isRead (Write a m k) = false

@@ -1,10 +1,9 @@
 -- The step of a command leaves the slices of sound tables; a refusal leaves them as they are.
-use mathlib.Core.Path.{_≡_, refl, _∙_}
+use mathlib.Core.Path.{_≡_}
 use Prim.Native.Nat.{_≤_}
-use Rattle.model.specs.Tables.{Tables, Outcome, refused, done, after}
-use Rattle.model.specs.Lent.{Lent, encode}
+use Rattle.model.specs.Tables.{refused}
+use Rattle.model.specs.Lent.{Lent}
 use Rattle.model.specs.Sound.{allOnes}
-use Rattle.model.specs.Calls.{encoded}
 use Rattle.model.specs.Inner.{Does}
 use Rattle.model.specs.Runner.{stepOf}
 use Rattle.model.specs.declared.Settings.{Settings}
@@ -12,14 +11,11 @@ use Rattle.model.specs.declared.Refusal.{Refusal}
 use Rattle.model.specs.declared.Event.the-variants as event
 use Rattle.model.specs.declared.Command.{Command}
 use Rattle.model.specs.declared.Told.{Told}
+use Rattle.model.proofs.Bridge.{does-is}
 use Rattle.model.proofs.Soundness.{commandMask, step-keeps-sound}
 use Rattle.tables.specs.Telling.{telling}
 use Rattle.tables.proofs.Tellings.{refusal-leaves}
 use Rattle.runner.specs.Resume.{Acts}
-
-after-encoded : (S : Settings) (L : Lent) (t : Tables) (o : Outcome Tables) → L ≡ encode S t → after L (encoded S o) ≡ encode S (after t o)
-after-encoded S L t (refused n) e = e
-after-encoded S L t (done es u) e = refl
 
 module _ (S : Settings) {L : Lent} {r : Told} where
   pub refused-acts : {n : Refusal} → r ≡ telling (event.Refused n) → Acts S (λ t. refused n) L r L
@@ -30,9 +26,5 @@ module _ (S : Settings) {L : Lent} {r : Told} where
   step-acts {M} {x} {y} q small d =
       rw q record {
         does = d;
-        keeps = λ t i. record {
-          range = i .range;
-          soundly = step-keeps-sound S y t (i .range) small (i .soundly);
-          encoded = d .on t i .left ∙ after-encoded S L t (stepOf S y t) (i .encoded);
-        };
+        keeps = λ t i. does-is S d t i (step-keeps-sound S y t (i .range) small (i .soundly));
       }

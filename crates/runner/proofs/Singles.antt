@@ -9,10 +9,10 @@ use lib.Dec.{lit≤}
 use lib.ListN.{length, take, drop, length-append, length-drop, take-append-drop}
 use lib.Seq.{length-take-le, sets-eq}
 use Rattle.model.specs.Range.{inRange}
-use Rattle.model.specs.Tables.{Tables, Outcome, refused, done, after, eventsOf}
+use Rattle.model.specs.Tables.{Tables, after, eventsOf}
 use Rattle.model.specs.Lent.{Lent}
 use Rattle.model.specs.Sound.{sound}
-use Rattle.model.specs.Calls.{encoded, eventsTold}
+use Rattle.model.specs.Calls.{eventsTold}
 use Rattle.model.specs.Records.{lengthOf, commandOf, logBytes}
 use Rattle.model.specs.Runner.{goesOn, laterStop, stepRead, stepAt, halt}
 use Rattle.model.specs.Inner.{Is, Held}
@@ -23,17 +23,12 @@ use Rattle.model.specs.declared.Refusal.the-variants as refusal
 use Rattle.model.specs.declared.Stop.{Stop}
 use Rattle.model.specs.declared.Stop.the-variants as stop
 use Rattle.model.specs.declared.Told.{Told}
+use Rattle.model.proofs.Bridge.{does-tells}
 use Rattle.records.specs.Stores.{Stored}
 use Rattle.records.proofs.Stores.{was-stored}
 use Rattle.records.proofs.Room.{Takes, refused-takes, step-takes}
 use Rattle.runner.specs.Resume.{kindAt, restAt, single, recordFrom, Stands, Acts, Resumes}
 use Rattle.runner.proofs.Running.{Going, going}
-
--- ---- what a step tells and leaves, on the tables
-
-events-encoded : (S : Settings) (o : Outcome Tables) → eventsOf (encoded S o) ≡ eventsOf o
-events-encoded S (refused n) = refl
-events-encoded S (done es t) = refl
 
 -- ---- the events of one step
 
@@ -103,7 +98,7 @@ module _ (S : Settings) (s : List ℕ) (at out : ℕ) (e : List ℕ) (L : Lent) 
       step-is t = let q : at + 1 + m - (at + 1) ≡ lengthOf (kindAt s at) = omega arith in rw (read, q)
 
       told-is : (t : Tables) → Is S L t → eventsTold told ≡ eventsOf (stepAt S (kindAt s at) (restAt s at) t)
-      told-is t i = acts .does .on t i .tells ∙ events-encoded S (stepRead S x t) ∙ ap eventsOf (step-is t)
+      told-is t i = does-tells S (acts .does) t i ∙ ap eventsOf (step-is t)
 
       told-room : out + length (logBytes (eventsTold told)) ≤ length e
       told-room =

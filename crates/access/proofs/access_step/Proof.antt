@@ -21,7 +21,7 @@ access-step-spec =
     (tie.spec
     (λ c κs. search needs)
     (λ c κs. search needs)
-    (λ c. record { on = λ t is. formed-refused _ _ _ (sym (c .before .before .well-formed .ensures) ∙ not-yes (c .before .if1 .taken)) (c .refused .ensures) t })
+    (λ c. record { on = λ t is. formed-refused _ _ _ (sym (c .before .before .well-formed .ensures .0) ∙ not-yes (c .before .if1 .taken)) (c .refused .ensures) t })
     (λ c κs. is-fit _ _ _ (c .before .before .before .before .before .before .before .before .pre .are))
     (λ c κs. search needs)
     (λ c κs.
@@ -29,7 +29,7 @@ access-step-spec =
     let decided = then .before .before in
     let else = decided .before .before .before .before in
     let pre = else .before .before .before .before .before .pre in
-    let w = spot-met _ _ _ (decided .decide .ensures) (sym (else .before .well-formed .ensures) ∙ no-not (else .if1 .left)) (pre .tables) (pre .are)
+    let w = spot-met _ _ _ (decided .decide .ensures) (sym (else .before .well-formed .ensures .0) ∙ no-not (else .if1 .left)) (pre .tables) (pre .are)
     (sym (then .before .spotted .ensures) ∙ then .if2 .taken) in
     record { tables = pre .tables; spot = w .0; met = w .1 })
     (λ c. search needs)
@@ -41,7 +41,7 @@ access-step-spec =
           let then = offered .before .before .before .before in
           let decided = then .before .before in
           let else = decided .before .before .before .before in
-          access-offered _ _ _ (decided .decide .ensures) (sym (else .before .well-formed .ensures) ∙ no-not (else .if1 .left)) t is
+          access-offered _ _ _ (decided .decide .ensures) (sym (else .before .well-formed .ensures .0) ∙ no-not (else .if1 .left)) t is
           (sym (then .before .spotted .ensures) ∙ then .if2 .taken) (offered .offer .ensures);
     })
     (λ c κs. search needs)
@@ -54,7 +54,7 @@ access-step-spec =
           let other = c .before .before in
           let decided = other .before .before in
           let else = decided .before .before .before .before in
-          access-stops _ _ _ (decided .decide .ensures) (sym (else .before .well-formed .ensures) ∙ no-not (else .if1 .left)) t is
+          access-stops _ _ _ (decided .decide .ensures) (sym (else .before .well-formed .ensures .0) ∙ no-not (else .if1 .left)) t is
           (sym (other .before .spotted .ensures) ∙ other .if2 .left)
           (c .refused2 .ensures ∙ ap (λ (n : Refusal). telling (event.Refused n)) (c .before .refusal-met .ensures));
     }))

@@ -1,7 +1,8 @@
+-- The address and the mask, by kind of access.
+use native.Mathlib.Omega.{arith}
 use borrow.Author.Needs.{needs}
 use Rattle.access.proofs.well_formed.Statement.{statement}
 use Rattle.access.proofs.well_formed.Tie as tie
-use Rattle.access.proofs.good_sector.Reads as good-sector-reads
 
 pub well-formed-spec : {M : Type 1} → statement M
 well-formed-spec =
@@ -11,5 +12,5 @@ well-formed-spec =
     (λ c κs. search needs)
     (λ c. search needs)
     (λ c κs. search needs)
-    (λ c. rw (c .before .before .x .given .1, c .good-sector .ensures))
-    (λ c. rw (c .before .before .x2 .given .1, c .good-sector2 .ensures)))
+    (λ c. rw (c .before .before .x .given .1) (rw (c .good-sector .ensures), omega arith))
+    (λ c. rw (c .before .before .x2 .given .1) (rw (c .good-sector2 .ensures), omega arith)))

@@ -1,20 +1,20 @@
--- None of the bytes passed is 0.
+-- None of the bytes passed is the mark.
 use mathlib.Core.Path.{_≡_}
 use Prim.Native.Nat.{ℕ, _+_, _-_, _≤_, _<_}
 use native.Mathlib.Omega.{arith}
 use borrow.Author.Count.{below-more}
 use lib.ListN.{getD}
-use Rattle.tables.proofs.used.Statement.{statement}
-use Rattle.tables.proofs.used.Tie as tie
+use Rattle.tables.proofs.find_mark.Statement.{statement}
+use Rattle.tables.proofs.find_mark.Tie as tie
 
 abbrev Inv-loop : tie.InvT-loop
-Inv-loop marks at n i₀ i = (i ≤ n) × ((k : ℕ) → k < i → getD marks (at + k) 0 ≡ 0 → ⊥)
+Inv-loop marks at n mark i₀ i = (i ≤ n) × ((k : ℕ) → k < i → getD marks (at + k) 0 ≡ mark → ⊥)
 
 abbrev μ-loop : tie.MeasureT-loop
-μ-loop marks at n i₀ i = n - i
+μ-loop marks at n mark i₀ i = n - i
 
-pub used-spec : {M : Type 1} → statement M
-used-spec =
+pub find-mark-spec : {M : Type 1} → statement M
+find-mark-spec =
     tie.close
     (tie.spec Inv-loop μ-loop
     (λ c. (omega arith, λ k h. absurd (omega arith)))  -- loop-holds

@@ -1,0 +1,80 @@
+-- What an answer of `wait` says, by demand 3: accepted, no later than round max(1, q + m); held, refused as 6 in that round and in every
+-- later one.
+use mathlib.Core.Path.{_≡_, refl, sym, ap, _∙_}
+use mathlib.Core.Logic.{_⊎_, inl, inr, ⊎-elim}
+use mathlib.Core.Bool.{true, false, false≢true}
+use mathlib.Core.List.{List, [], _∷_}
+use Prim.Native.Nat.{ℕ, zero, suc, _+_, _≤_}
+use native.Mathlib.Omega.{arith}
+use lib.ListN.{length}
+use Rattle.model.specs.Words.{any}
+use Rattle.model.specs.Range.{inRange}
+use Rattle.model.specs.Address.{wellFormed}
+use Rattle.model.specs.Tables.{Outcome, refused, done, accepted}
+use Rattle.model.specs.Lent.{Lent, lengthsFit}
+use Rattle.model.specs.SoundLent.{soundLent}
+use Rattle.model.specs.Rounds.{Calls, calls, Turn, Run, goOn, drain, rounds, heldIn, waits}
+use Rattle.model.specs.declared.Settings.{Settings}
+use Rattle.model.specs.declared.Access.{Access}
+use Rattle.model.specs.declared.Event.{Event}
+use Rattle.model.specs.declared.Refusal.the-variants.{SetHeld}
+use Rattle.model.proofs.Decoded.{Small}
+use Rattle.model.proofs.Demand.{demand-3-lent}
+use Rattle.rounds.specs.declared.Waiting.the-variants.{Accepted, Held}
+use Rattle.rounds.specs.Waiting.{lastOf, waitingOf, enoughRounds, waitCall}
+
+module _ {T : Type 0} (C : Calls T) where
+  -- no more offers than rounds
+  offers-few : (n : ℕ) (t : T) → length (rounds C n t .offers) ≤ n
+  unfolding rounds
+  offers-few zero t = omega arith
+  offers-few (suc n) t = go (C .offers (drain C t .left)) (offers-few n (drain C t .left))
+    where
+      go : (o : Outcome T) → length (rounds C n (drain C t .left) .offers) ≤ n → length (goOn (drain C t) (rounds C n) o .offers) ≤ suc n
+      go (refused k) h = omega arith
+      go (done es u) h = omega arith
+
+  -- an accepted offer is the last
+  accepted-last : (n : ℕ) (t : T) (d : Outcome T) → any accepted (rounds C n t .offers) ≡ true → accepted (lastOf d (rounds C n t .offers)) ≡ true
+  unfolding rounds
+  accepted-last zero t d h = absurd (false≢true h)
+  accepted-last (suc n) t d h = go (C .offers (drain C t .left)) (accepted-last n (drain C t .left)) h
+    where
+      go : (o : Outcome T)
+          → ((c : Outcome T) → any accepted (rounds C n (drain C t .left) .offers) ≡ true → accepted (lastOf c (rounds C n (drain C t .left) .offers)) ≡ true)
+          → any accepted (goOn (drain C t) (rounds C n) o .offers) ≡ true
+          → accepted (lastOf d (goOn (drain C t) (rounds C n) o .offers)) ≡ true
+      go (refused k) ih h = ih (refused k) h
+      go (done es u) ih h = refl
+
+module _ {T : Type 0} where
+  said-round : (n m : ℕ) (o : Outcome T) (e : Event) → waitingOf n o ≡ Accepted m e → n ≡ m
+  said-round n m (refused k) e h = let z : _≡_ {A = ℕ} 0 1 = cc in absurd (omega arith)
+  said-round n m (done es u) e h = cc
+
+  said-held : (n : ℕ) (o : Outcome T) → waitingOf n o ≡ Held → accepted o ≡ false
+  said-held n (refused k) h = refl
+  said-held n (done es u) h = let z : _≡_ {A = ℕ} 0 1 = cc in absurd (omega arith)
+
+module _ (S : Settings) (x : Access) (L : Lent) (range : inRange S ≡ true) (fits : lengthsFit S L ≡ true) (soundly : soundLent S L ≡ true)
+    (formed : wellFormed x ≡ true) where
+  -- no refusal comes before the first round
+  wait-is : waitCall S x L ≡ enoughRounds S x L
+  unfolding waitCall
+  wait-is = rw (range, fits, soundly, formed)
+
+  pub accepted-in-time : (n : ℕ) (e : Event) → waitCall S x L .waiting ≡ Accepted n e → n ≤ suc (waits (calls S x) L)
+  accepted-in-time n e h =
+      let r : Run Lent = rounds (calls S x) (suc (waits (calls S x) L)) L in
+      let q = said-round (length (r .offers)) n (lastOf (refused SetHeld) (r .offers)) e (rw wait-is at h) in
+      omega (arith, offers-few (calls S x) (suc (waits (calls S x) L)) L)
+
+  -- words are 32-bit numbers, as their type says (`Small`)
+  pub held-for-ever : Small L → waitCall S x L .waiting ≡ Held → (j : ℕ) → heldIn (calls S x) (waits (calls S x) L + j) L
+  held-for-ever small h =
+      let r : Run Lent = rounds (calls S x) (suc (waits (calls S x) L)) L in
+      let no = said-held (length (r .offers)) (lastOf (refused SetHeld) (r .offers)) (rw wait-is at h) in
+      ⊎-elim
+      (λ a. absurd (false≢true (sym no ∙ accepted-last (calls S x) (suc (waits (calls S x) L)) L (refused SetHeld) a)))
+      (λ f. f)
+      (demand-3-lent S x L range fits small soundly formed .settles)

@@ -1,0 +1,286 @@
+-- The rounds one after another: where the loop over them stands, a round more, its two ends.
+use mathlib.Core.Path.{_≡_, refl, sym, ap, subst, _∙_}
+use mathlib.Core.Logic.{_⊎_, inl, inr, ⊎-elim}
+use mathlib.Core.Bool.{Bool, true, false, not, false≢true}
+use mathlib.Core.List.{List, [], _∷_, _++_, append-assoc, append-nil}
+use Prim.Native.Nat.{ℕ, zero, suc, _+_, _-_, _*_, _≤_, _<_}
+use native.Mathlib.Nat.{add-zero, zero-add}
+use native.Mathlib.Omega.{arith}
+use lib.ListN.{length, take, drop, getD, length-append}
+use lib.Seq.{sets, sets-eq}
+use Rattle.model.specs.Words.{any}
+use Rattle.model.specs.Address.{wellFormed}
+use Rattle.model.specs.Tables.{Tables, Outcome, refused, done, after, accepted, eventsOf}
+use Rattle.model.specs.Lent.{Lent, encode}
+use Rattle.model.specs.Calls.{eventsTold}
+use Rattle.model.specs.Steps.{access}
+use Rattle.model.specs.Inner.{Is, Held}
+use Rattle.model.specs.Records.{bytesOf, eventBytes, logBytes}
+use Rattle.model.specs.Rounds.{steps, Turn, took, Run, drain, rounds, heldIn, waits}
+use Rattle.model.specs.declared.Settings.{Settings}
+use Rattle.model.specs.declared.Access.{Access}
+use Rattle.model.specs.declared.Refusal.{Refusal}
+use Rattle.model.specs.declared.Refusal.the-variants.{SetHeld}
+use Rattle.model.specs.declared.Event.{Event}
+use Rattle.model.specs.declared.Event.the-variants as event
+use Rattle.model.specs.declared.Told.{Told}
+use Rattle.model.proofs.Flags.{clash}
+use Rattle.model.proofs.Bound.{demand-3}
+use Rattle.records.specs.Stores.{Stored, Laid}
+use Rattle.records.proofs.Stores.{was-stored}
+use Rattle.tables.specs.Telling.{telling}
+use Rattle.tables.proofs.Tellings.{telling-tells}
+use Rattle.rounds.specs.declared.Waiting.the-variants as wait
+use Rattle.rounds.specs.declared.Waited.{Waited}
+use Rattle.rounds.specs.declared.Round.{Round}
+use Rattle.rounds.specs.Waiting.{lastOf, waitingOf, refusalOf, settled, Waits}
+use Rattle.rounds.specs.Parts.{isRefusal, Noted, Offered, Offers, Enough, lentWait, Settles}
+use Rattle.rounds.proofs.Noting.{access-plain, told-accepted, noted-then}
+
+-- ---- runs behind other rounds
+
+abbrev behind : List Event → List (Outcome Tables) → Run Tables → Run Tables
+behind es os r = record { turn = record { events = es ++ r .turn .events; left = r .turn .left }; offers = os ++ r .offers }
+
+behind-behind : (a b : List Event) (o p : List (Outcome Tables)) (r : Run Tables) → behind a o (behind b p r) ≡ behind (a ++ b) (o ++ p) r
+behind-behind a b o p r = simp append-assoc
+
+module _ (S : Settings) (x : Access) (n : ℕ) (t : Tables) where
+  abbrev a : Turn Tables
+  a = drain (steps S x) t
+
+  rounds-refused : {k : Refusal} → access S x (a .left) ≡ refused k → rounds (steps S x) (suc n) t ≡ behind (a .events) (refused k ∷ []) (rounds (steps S x) n (a .left))
+  unfolding rounds
+  rounds-refused e = rw e
+
+  rounds-done : {es : List Event} {u : Tables} → access S x (a .left) ≡ done es u
+      → rounds (steps S x) (suc n) t ≡ record { turn = record { events = a .events ++ es; left = u }; offers = done es u ∷ [] }
+  unfolding rounds
+  rounds-done e = rw e
+
+rounds-none : (S : Settings) (x : Access) (t : Tables) → rounds (steps S x) 0 t ≡ record { turn = record { events = []; left = t }; offers = [] }
+unfolding rounds
+rounds-none S x t = refl
+
+-- ---- offers
+
+last-one : (d o : Outcome Tables) (os : List (Outcome Tables)) → lastOf d (os ++ (o ∷ [])) ≡ o
+last-one d o [] = refl
+last-one d o (p ∷ os) = last-one p o os
+
+last-at : (d c : Outcome Tables) (os : List (Outcome Tables)) (n : ℕ) → length os ≡ suc n → lastOf d os ≡ getD os n c
+last-at d c [] n e = absurd (omega arith)
+last-at d c (o ∷ []) zero e = refl
+last-at d c (o ∷ []) (suc n) e = absurd (omega arith)
+last-at d c (o ∷ p ∷ os) zero e = absurd (omega arith)
+last-at d c (o ∷ p ∷ os) (suc n) e = last-at o c (p ∷ os) n (omega arith)
+
+none-more : (os : List (Outcome Tables)) (k : Refusal) → any accepted os ≡ false → any accepted (os ++ (refused k ∷ [])) ≡ false
+none-more [] k e = refl
+none-more (refused n ∷ os) k e = none-more os k e
+none-more (done es u ∷ os) k e = absurd (false≢true (sym e))
+
+refused-one : (o : Outcome Tables) → accepted o ≡ false → (k : Refusal) × (o ≡ refused k)
+refused-one (refused k) e = (k, refl)
+refused-one (done es u) e = absurd (false≢true (sym e))
+
+done-one : (o : Outcome Tables) → accepted o ≡ true → (es : List Event) × (u : Tables) × (o ≡ done es u)
+done-one (refused k) e = absurd (false≢true e)
+done-one (done es u) e = (es, u, refl)
+
+-- ---- the caller's buffer in the end
+
+noted-whole : (es : List Event) (e : List ℕ) {w : ℕ} {f : List ℕ} → Noted e 0 es w f → length (logBytes es) ≤ length e
+    → (w ≡ length (logBytes es)) × (f ≡ logBytes es ++ drop (length (logBytes es)) e)
+noted-whole es e n h = (omega (arith, n .next), n .slice ∙ sets-eq (logBytes es) e 0 (omega arith) ∙ rw zero-add)
+
+held-length : length (logBytes (event.Refused SetHeld ∷ [])) ≡ 2
+unfolding logBytes eventBytes bytesOf
+held-length = refl
+
+-- ---- where the loop stands
+
+module _ (S : Settings) (x : Access) (most : ℕ) where
+  -- on tables from which the rest of the rounds gives what all of them give
+  pub record Leads (t₀ : Tables) (e₀ : List ℕ) (round out : ℕ) (L : Lent) (e : List ℕ) : Type 0 where
+    pub tables : Tables
+    pub are : Is S L tables
+    pub events : List Event
+    pub offers : List (Outcome Tables)
+    pub made : length offers ≡ round
+    pub none : any accepted offers ≡ false
+    pub rest : rounds (steps S x) most t₀ ≡ behind events offers (rounds (steps S x) (most - round) tables)
+    pub bytes : Noted e₀ 0 events out e
+
+  pub record Goes (L₀ : Lent) (e₀ : List ℕ) (round out : ℕ) (L : Lent) (e : List ℕ) : Type 0 where
+    pub few : round ≤ most
+    pub short : out ≤ 74 * round
+    pub size : length e ≡ length e₀
+    pub longs : length (L .longs) ≡ length (L₀ .longs)
+    pub words : length (L .words) ≡ length (L₀ .words)
+    pub marks : length (L .marks) ≡ length (L₀ .marks)
+    pub leads : (t₀ : Tables) → Is S L₀ t₀ → Leads t₀ e₀ round out L e
+
+module _ {S : Settings} {x : Access} {most : ℕ} where
+  pub goes-first : (L : Lent) (e : List ℕ) → Goes S x most L e 0 0 L e
+  unfolding logBytes
+  goes-first L e = record {
+    few = omega arith;
+    short = omega arith;
+    size = refl;
+    longs = refl;
+    words = refl;
+    marks = refl;
+    leads = λ t i. record {
+      tables = t;
+      are = i;
+      events = [];
+      offers = [];
+      made = refl;
+      none = refl;
+      rest = let q : most - 0 ≡ most = omega arith in rw q;
+      bytes = record { next = refl; slice = refl };
+    };
+  }
+
+  module _ {L₀ : Lent} {e₀ : List ℕ} {round out : ℕ} {L : Lent} {e : List ℕ} (g : Goes S x most L₀ e₀ round out L e) where
+    pub goes-held : Held S L₀ → Held S L
+    goes-held h = let l = g .leads (h .tables) (h .are) in record { tables = l .tables; are = l .are }
+
+    -- ---- one round more
+
+    module _ (more : round < most) {r : Round} {f : List ℕ} {M : Lent} (made : Offers S x L e out r f M) where
+      next : most - round ≡ suc (most - (round + 1))
+      next = omega arith
+
+      offer-accepted : (t : Tables) → Is S L t → accepted (access S x (drain (steps S x) t .left)) ≡ not (isRefusal (r .told .first))
+      offer-accepted t i = told-accepted _ (r .told) (access-plain S x (drain (steps S x) t .left)) (made .on t i .tells)
+
+      -- ---- whose offer was refused
+
+      module _ (q : isRefusal (r .told .first) ≡ true) where
+        led : (t₀ : Tables) → Is S L₀ t₀ → Leads S x most t₀ e₀ (round + 1) (r .written) M f
+        led t₀ i =
+            let l = g .leads t₀ i in
+            let t = l .tables in
+            let a : Turn Tables = drain (steps S x) t in
+            let w = made .on t (l .are) in
+            let (k, o) = refused-one (access S x (a .left)) (offer-accepted t (l .are) ∙ ap not q) in
+            let z : a .events ++ took (a .left) (access S x (a .left)) .events ≡ a .events = rw (o, append-nil) in
+            record {
+              tables = a .left;
+              are = subst (λ (p : Outcome Tables). Is S M (after (a .left) p)) o (w .are);
+              events = l .events ++ a .events;
+              offers = l .offers ++ (refused k ∷ []);
+              made = rw length-append (let m = l .made in omega arith);
+              none = none-more (l .offers) k (l .none);
+              rest = l .rest
+                  ∙ ap (λ (n : ℕ). behind (l .events) (l .offers) (rounds (steps S x) n t)) next
+                  ∙ ap (behind (l .events) (l .offers)) (rounds-refused S x (most - (round + 1)) t o)
+                  ∙ behind-behind (l .events) (a .events) (l .offers) (refused k ∷ []) (rounds (steps S x) (most - (round + 1)) (a .left));
+              bytes = noted-then (l .events) (a .events) (l .bytes) (subst (λ (es : List Event). Noted e out es (r .written) f) z (w .bytes));
+            }
+
+        pub goes-again : length f ≡ length e → length (M .longs) ≡ length (L .longs) → length (M .words) ≡ length (L .words)
+            → length (M .marks) ≡ length (L .marks) → Goes S x most L₀ e₀ (round + 1) (r .written) M f
+        goes-again size longs words marks = record {
+          few = omega arith;
+          short = let s = made .refused q in let h = g .short in omega arith;
+          size = size ∙ g .size;
+          longs = longs ∙ g .longs;
+          words = words ∙ g .words;
+          marks = marks ∙ g .marks;
+          leads = led;
+        }
+
+      -- ---- whose offer was accepted
+
+      module _ (q : isRefusal (r .told .first) ≡ false) (few : most ≤ 128) (room : 9600 ≤ length e₀) where
+        pub goes-accepted : Settles S x most L₀ e₀ record { waiting = wait.Accepted (round + 1) (r .told .first); written = r .written } f M
+        unfolding eventsTold
+        goes-accepted = record {
+          on = λ t₀ i.
+              let l = g .leads t₀ i in
+              let t = l .tables in
+              let a : Turn Tables = drain (steps S x) t in
+              let w = made .on t (l .are) in
+              let (es, u, o) = done-one (access S x (a .left)) (offer-accepted t (l .are) ∙ ap not q) in
+              let all : rounds (steps S x) most t₀ ≡ record { turn = record { events = l .events ++ (a .events ++ es); left = u }; offers = l .offers ++ (done es u ∷ []) } =
+              l .rest
+              ∙ ap (λ (n : ℕ). behind (l .events) (l .offers) (rounds (steps S x) n t)) next
+              ∙ ap (behind (l .events) (l .offers)) (rounds-done S x (most - (round + 1)) t o) in
+              let told : eventsTold (r .told) ≡ es = w .tells ∙ ap eventsOf o in
+              let first : r .told .first ≡ getD es 0 event.Ticked = ap (λ (v : List Event). getD v 0 event.Ticked) told in
+              let laid : Noted e₀ 0 (l .events ++ (a .events ++ es)) (r .written) f =
+              noted-then (l .events) (a .events ++ es) (l .bytes) (subst (λ (p : Outcome Tables). Noted e out (a .events ++ took (a .left) p .events) (r .written) f) o (w .bytes)) in
+              let short : length (logBytes (l .events ++ (a .events ++ es))) ≤ length e₀ = let s = made .short in let h = g .short in let n = laid .next in omega arith in
+              let (count, slice) = noted-whole (l .events ++ (a .events ++ es)) e₀ laid short in
+              let many : length (l .offers ++ (done es u ∷ [])) ≡ round + 1 = rw length-append (let m = l .made in omega arith) in
+              rw (all, last-one (refused SetHeld) (done es u) (l .offers), many, append-nil) record {
+                waiting = ap (wait.Accepted (round + 1)) first;
+                written = count;
+                events = slice;
+                left = subst (λ (p : Outcome Tables). Is S M (after (a .left) p)) o (w .are) .encoded;
+              };
+        }
+
+    -- ---- all refused: 6, by demand 3
+
+    module _ (end : most ≤ round) (formed : wellFormed x ≡ true) (enough : Enough S L₀ most) where
+      last-held : (t₀ : Tables) (i : Is S L₀ t₀) → lastOf (refused SetHeld) (g .leads t₀ i .offers) ≡ refused SetHeld
+      last-held t₀ i =
+          let l = g .leads t₀ i in
+          let d = demand-3 S x t₀ (i .range) (i .soundly) formed in
+          let many : most ≡ suc (waits (steps S x) t₀) = enough .on t₀ i in
+          let zero : most - round ≡ 0 = omega arith in
+          let offers : rounds (steps S x) (suc (waits (steps S x) t₀)) t₀ .offers ≡ l .offers =
+          ap (λ (n : ℕ). rounds (steps S x) n t₀ .offers) (sym many)
+          ∙ ap (λ (r : Run Tables). r .offers) (l .rest)
+          ∙ rw (zero, rounds-none S x (l .tables), append-nil) in
+          ⊎-elim
+          (λ h. clash h (ap (any accepted) offers ∙ l .none))
+          (λ h.
+          let w : waits (steps S x) t₀ + 0 ≡ waits (steps S x) t₀ = add-zero (waits (steps S x) t₀) in
+          let k : getD (l .offers) (waits (steps S x) t₀) (done [] t₀) ≡ refused SetHeld =
+          subst (λ (os : List (Outcome Tables)). getD os (waits (steps S x) t₀) (done [] t₀) ≡ refused SetHeld) offers
+          (subst (λ (n : ℕ). getD (rounds (steps S x) (suc n) t₀ .offers) n (done [] t₀) ≡ refused SetHeld) w (h 0)) in
+          last-at (refused SetHeld) (done [] t₀) (l .offers) (waits (steps S x) t₀) (let m = l .made in let f = g .few in omega arith) ∙ k)
+          (d .settles)
+
+      -- its refusal fits behind what is written
+      pub held-stored : (room : 9600 ≤ length e₀) {told : Told} → told ≡ telling (event.Refused SetHeld) → {n : ℕ} {f : List ℕ}
+          → Stored e out (logBytes (eventsTold told)) n f → (n ≡ length (logBytes (event.Refused SetHeld ∷ []))) × (f ≡ sets e out (logBytes (event.Refused SetHeld ∷ [])))
+      held-stored room {told} is {n} {f} s =
+          let one : eventsTold told ≡ event.Refused SetHeld ∷ [] = ap eventsTold is ∙ telling-tells (event.Refused SetHeld) in
+          let two : length (logBytes (event.Refused SetHeld ∷ [])) ≡ 2 = held-length in
+          let size = g .size in
+          let h = g .short in
+          let few = enough .few in
+          let at = g .few in
+          was-stored e out (logBytes (event.Refused SetHeld ∷ [])) (subst (λ (es : List Event). Stored e out (logBytes es) n f) one s) (omega arith)
+
+      pub held-fits : (room : 9600 ≤ length e₀) {told : Told} → told ≡ telling (event.Refused SetHeld) → {n : ℕ} {f : List ℕ}
+          → Stored e out (logBytes (eventsTold told)) n f → out + n ≤ 9600
+      held-fits room is s =
+          let two : length (logBytes (event.Refused SetHeld ∷ [])) ≡ 2 = held-length in
+          omega (arith, held-stored room is s .0, g .short, g .few, enough .few)
+
+      pub goes-held-end : (room : 9600 ≤ length e₀) {told : Told} → told ≡ telling (event.Refused SetHeld) → {n : ℕ} {f : List ℕ}
+          → Stored e out (logBytes (eventsTold told)) n f → Settles S x most L₀ e₀ record { waiting = wait.Held; written = out + n } f L
+      goes-held-end room {told} is {n} {f} s = record {
+        on = λ t₀ i.
+            let l = g .leads t₀ i in
+            let zero : most - round ≡ 0 = omega arith in
+            let all : rounds (steps S x) most t₀ ≡ record { turn = record { events = l .events; left = l .tables }; offers = l .offers } =
+            l .rest ∙ rw (zero, rounds-none S x (l .tables), append-nil, append-nil) in
+            let two : length (logBytes (event.Refused SetHeld ∷ [])) ≡ 2 = held-length in
+            let (count, slice) = held-stored room is s in
+            let size = g .size in
+            let h = g .short in
+            let few = enough .few in
+            let laid : Noted e₀ 0 (l .events ++ (event.Refused SetHeld ∷ [])) (out + n) f =
+            noted-then (l .events) (event.Refused SetHeld ∷ []) (l .bytes) record { next = omega arith; slice = slice } in
+            let short : length (logBytes (l .events ++ (event.Refused SetHeld ∷ []))) ≤ length e₀ = let k = laid .next in omega arith in
+            let (written, events) = noted-whole (l .events ++ (event.Refused SetHeld ∷ [])) e₀ laid short in
+            rw (all, last-held t₀ i) record { waiting = refl; written = written; events = events; left = l .are .encoded };
+      }

@@ -1,0 +1,14 @@
+-- A refusal written at the start of the events.
+use borrow.Author.Needs.{needs}
+use Rattle.rounds.proofs.Ends.{turns-away}
+use Rattle.rounds.proofs.turned_away.Statement.{statement}
+use Rattle.rounds.proofs.turned_away.Tie as tie
+
+pub turned-away-spec : {M : Type 1} → statement M
+turned-away-spec =
+    tie.close
+    (tie.spec
+    (λ c κs. search needs)
+    (λ c κs. search needs)
+    (λ c. search needs)
+    (λ c. let w = c .before .before in let t = w .before .before in let p = t .before .before in turns-away _ (p .args .events .now) (t .refused .ensures) (w .write-told .ensures .0) (p .pre)))

@@ -1,0 +1,50 @@
+-- Room for the events, refusals 1, 2 and 3, then the rounds.
+use native.Mathlib.Omega.{arith}
+use borrow.Author.Needs.{needs}
+use Rattle.rounds.proofs.Ends.{waits-no-room, waits-refused, passed-held, waits-passed}
+use Rattle.rounds.proofs.wait.Statement.{statement}
+use Rattle.rounds.proofs.wait.Tie as tie
+
+returns : tie.Need-returns
+returns c = waits-no-room _ _ _ _ (c .if1 .taken)
+
+wait-checked-requires : tie.Need-wait-checked-requires
+wait-checked-requires c κs =
+    let m = c .before .before .before .before in
+    let k = m .before .before in
+    (passed-held _ _ (λ i. omega (arith, k .before .before .before .before .before .before .before .slice-known2 .given i)) (k .check .ensures) (m .enum-told .given .1), k .before .before .before .before .if1 .left)
+
+returns-2 : tie.Need-returns-2
+returns-2 c =
+    let t = c .before .before in
+    let n = t .before .before .before in
+    let k = n .before .before in
+    waits-refused _ _ _ _ (k .before .before .before .before .if1 .left) (k .check .ensures) (n .n .given .1) (t .turned-away .ensures)
+
+returns-3 : tie.Need-returns-3
+returns-3 c =
+    let w = c .before .before .before .before .before .before .before .before in
+    let m = w .before .before .before .before .before in
+    let k = m .before .before in
+    waits-passed _ _ _ _ (k .before .before .before .before .if1 .left) (passed-held _ _ (λ i. omega (arith, k .before .before .before .before .before .before .before .slice-known2 .given i)) (k .check .ensures) (m .enum-told .given .1)) (w .wait-checked .ensures)
+
+pub wait-spec : {M : Type 1} → statement M
+wait-spec =
+    tie.close
+    (tie.spec
+    returns
+    (λ c κs. search needs)
+    (λ c. search needs)
+    (λ c κs. search needs)
+    (λ c. search needs)
+    wait-checked-requires
+    (λ c. search needs)
+    (λ c. search needs)
+    (λ c. search needs)
+    (λ c. search needs)
+    returns-2
+    (λ c. search needs)
+    (λ c. search needs)
+    (λ c. search needs)
+    (λ c. search needs)
+    returns-3)

@@ -1,0 +1,89 @@
+-- The loop over the rounds: what is left, run from here, gives what all of them give.
+use mathlib.Core.Path.{sym, _∙_}
+use Prim.Native.Nat.{_-_}
+use native.Mathlib.Omega.{arith}
+use borrow.Author.Needs.{needs}
+use Rattle.model.specs.Lent.{lent}
+use Rattle.model.proofs.Flags.{not-yes, no-not}
+use Rattle.rounds.proofs.Settling.{Goes, goes-first, goes-held, goes-again, goes-accepted, held-fits, goes-held-end}
+use Rattle.rounds.proofs.wait_rounds.Statement.{statement}
+use Rattle.rounds.proofs.wait_rounds.Tie as tie
+
+abbrev Inv-loop : tie.InvT-loop
+Inv-loop s longs₀ words₀ marks₀ x events₀ most round₀ out₀ longs words marks events round out =
+    Goes s x most (lent longs₀ words₀ marks₀) events₀ round out (lent longs words marks) events
+
+abbrev μ-loop : tie.MeasureT-loop
+μ-loop s longs₀ words₀ marks₀ x events₀ most round₀ out₀ longs words marks events round out = most - round
+
+one-round-requires : tie.Need-one-round-requires Inv-loop μ-loop
+one-round-requires c κs =
+    let i = c .before .before .before .before in
+    let l = i .before in
+    let p = l .before .before .before .before .before in
+    let g = l .loop .inv in
+    let room = p .pre .1 .0 .2 in
+    (goes-held g (p .pre .0), (omega (arith, g .short, g .few, g .size, p .pre .1 .1 .few, i .loop-test .taken, room), p .pre .1 .0 .1))
+
+returns : tie.Need-returns Inv-loop μ-loop
+returns c =
+    let a = c .before in
+    let r = a .before .before .before .before .before .before .before .before .before .before in
+    let i = r .before .before .before .before .before in
+    let l = i .before in
+    let p = l .before .before .before .before .before in
+    goes-accepted (l .loop .inv) (i .loop-test .taken) (r .one-round .ensures) (not-yes (sym (a .accepted .ensures) ∙ c .if1 .taken)) (p .pre .1 .1 .few) (p .pre .1 .0 .2)
+
+loop-again : tie.Need-loop-again Inv-loop μ-loop
+loop-again c =
+    let a = c .before in
+    let r = a .before .before .before .before .before .before .before .before .before .before in
+    let i = r .before .before .before .before .before in
+    let l = i .before in
+    let k = r .one-round .kept .1 in
+    goes-again (l .loop .inv) (i .loop-test .taken) (r .one-round .ensures) (no-not (sym (a .accepted .ensures) ∙ c .if1 .left))
+    (k .1 .1 .1 .1 .0) (k .0) (k .1 .0) (k .1 .1 .0)
+
+add-t30 : tie.Need-add-t30 Inv-loop μ-loop
+add-t30 c =
+    let w = c .before .before in
+    let t = w .before .before in
+    let e = t .before in
+    let l = e .before in
+    let p = l .before .before .before .before .before in
+    omega (arith, held-fits (l .loop .inv) (e .loop-test .left) (p .pre .1 .0 .0) (p .pre .1 .1) (p .pre .1 .0 .2) (t .refused .ensures) (w .write-told .ensures .0))
+
+returns-2 : tie.Need-returns-2 Inv-loop μ-loop
+returns-2 c =
+    let w = c .before .before in
+    let t = w .before .before in
+    let e = t .before in
+    let l = e .before in
+    let p = l .before .before .before .before .before in
+    goes-held-end (l .loop .inv) (e .loop-test .left) (p .pre .1 .0 .0) (p .pre .1 .1) (p .pre .1 .0 .2) (t .refused .ensures) (w .write-told .ensures .0)
+
+pub wait-rounds-spec : {M : Type 1} → statement M
+wait-rounds-spec =
+    tie.close
+    (tie.spec
+    Inv-loop
+    μ-loop
+    (λ c. goes-first _ _)
+    one-round-requires
+    (λ c. omega arith)
+    (λ c κs. search needs)
+    (λ c. let r = c .before .before .before .before .before .before .before .before .before .before .before in let l = r .before .before .before .before .before .before in r .one-round .kept .1 .0 ∙ l .loop .inv .longs)
+    (λ c. let r = c .before .before .before .before .before .before .before .before .before .before .before in let l = r .before .before .before .before .before .before in r .one-round .kept .1 .1 .0 ∙ l .loop .inv .words)
+    (λ c. let r = c .before .before .before .before .before .before .before .before .before .before .before in let l = r .before .before .before .before .before .before in r .one-round .kept .1 .1 .1 .0 ∙ l .loop .inv .marks)
+    (λ c. let r = c .before .before .before .before .before .before .before .before .before .before .before in let l = r .before .before .before .before .before .before in r .one-round .kept .1 .1 .1 .1 .1 .0 ∙ l .loop .inv .size)
+    returns
+    (λ c. omega (arith, c .before .before .before .before .before .before .before .before .before .before .before .before .before .before .before .before .loop-test .taken))
+    loop-again
+    (λ c κs. search needs)
+    (λ c κs. search needs)
+    add-t30
+    (λ c. c .before .before .before .before .before .before .loop .inv .longs)
+    (λ c. c .before .before .before .before .before .before .loop .inv .words)
+    (λ c. c .before .before .before .before .before .before .loop .inv .marks)
+    (λ c. c .before .before .write-told .kept .1 .0 ∙ c .before .before .before .before .before .before .loop .inv .size)
+    returns-2)
