@@ -1,11 +1,12 @@
 -- What a call from C leaves: its return value, the event buffer and the slices.
 use mathlib.Core.Path.{_≡_}
 use Prim.Native.Nat.{ℕ}
-use mathlib.Core.List.{List}
-use lib.ListN.{length}
+use mathlib.Core.Bool.{Bool, _&&_}
+use mathlib.Core.List.{List, [], _∷_, _++_}
+use lib.ListN.{length, drop}
 use lib.Dec.{leb, eqb}
 use Rattle.model.specs.Words.{pick}
-use Rattle.model.specs.Numbers.{refusalNumber}
+use Rattle.model.specs.Numbers.{refusalNumber, stopNumber}
 use Rattle.model.specs.Range.{inRange}
 use Rattle.model.specs.Tables.{Outcome, after, eventsOf}
 use Rattle.model.specs.Lent.{Lent}
@@ -15,7 +16,12 @@ use Rattle.model.specs.declared.Access.{Access}
 use Rattle.model.specs.declared.Access.the-variants.{Read, Write}
 use Rattle.model.specs.declared.Verdict.{Verdict}
 use Rattle.model.specs.declared.Verdict.the-variants.{Passed, Refused}
+use Rattle.model.specs.Runner.{Result}
 use Rattle.records.specs.Stores.{storedCount, stored}
+use Rattle.rounds.specs.Waiting.{Wait, waitRoom}
+use Rattle.rounds.specs.declared.Waiting.{Waiting}
+use Rattle.rounds.specs.declared.Waiting.the-variants.{Accepted, Held, NoRoom}
+use Rattle.rounds.specs.declared.Waiting.the-variants as waiting
 
 abbrev pub settingsOf : ℕ → ℕ → ℕ → ℕ → ℕ → ℕ → Settings
 settingsOf sets ways percent entries readers places =
@@ -43,3 +49,29 @@ pub record Called (o : Outcome Lent) (L : Lent) (e : List ℕ) (r : ℕ) (f : Li
   pub written : r ≡ pick (leb eventRoom (length e)) (storedCount e 0 (logBytes (eventsOf o))) 0
   pub events : f ≡ pick (leb eventRoom (length e)) (stored e 0 (logBytes (eventsOf o))) e
   pub left : M ≡ pick (leb eventRoom (length e)) (after L o) L
+
+-- ---- wait: the accepting round goes to a slice of one number
+
+abbrev pub roundNumber : Waiting → ℕ
+roundNumber (Accepted n e) = n
+roundNumber Held = 0
+roundNumber (waiting.Refused n) = 0
+roundNumber NoRoom = 0
+
+-- with another length, or less event room than any wait can need, nothing is called
+abbrev pub mayWait : List ℕ → List ℕ → Bool
+mayWait e k = eqb (length k) 1 && leb waitRoom (length e)
+
+pub record WaitCalled (w : Wait Lent) (L : Lent) (e k : List ℕ) (r : ℕ) (f j : List ℕ) (M : Lent) : Type 0 where
+  pub written : r ≡ pick (mayWait e k) (length (logBytes (w .events))) 0
+  pub events : f ≡ pick (mayWait e k) (logBytes (w .events) ++ drop (length (logBytes (w .events))) e) e
+  pub round : j ≡ pick (mayWait e k) (roundNumber (w .waiting) ∷ []) k
+  pub left : M ≡ pick (mayWait e k) (w .left) L
+
+-- ---- run: the bytes consumed and written go to a slice of two numbers; with another length nothing is run, and 2 is returned
+
+pub record RunCalled (o : Result Lent) (L : Lent) (e k : List ℕ) (r : ℕ) (f j : List ℕ) (M : Lent) : Type 0 where
+  pub stop : r ≡ pick (eqb (length k) 2) (stopNumber (o .stop)) 2
+  pub events : f ≡ pick (eqb (length k) 2) (o .events ++ drop (length (o .events)) e) e
+  pub counts : j ≡ pick (eqb (length k) 2) (o .consumed ∷ length (o .events) ∷ []) k
+  pub left : M ≡ pick (eqb (length k) 2) (o .tables) L

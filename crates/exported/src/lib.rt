@@ -3,13 +3,17 @@
 use model::Access;
 use model::Settings;
 use model::Verdict;
+use rounds::Waiting;
 ghost use mathlib.Core.Path.{_≡_};
+ghost use lib.ListN.{length};
 ghost use Rattle.model.specs.Range.{longsLength, wordsLength, marksLength};
 ghost use Rattle.model.specs.Tables.{after};
 ghost use Rattle.model.specs.Lent.{lent};
 ghost use Rattle.model.specs.Calls.{freshCall, checkCall, verdictOf, accessCall, sendCall, fillCall, tickCall};
 ghost use Rattle.model.specs.declared.Access.the-variants.{Read, Write};
-ghost use Rattle.exported.specs.Exported.{settingsOf, verdictNumber, lengthFor, accessFor, Called};
+ghost use Rattle.model.specs.Runner.{run};
+ghost use Rattle.rounds.specs.Waiting.{waitCall};
+ghost use Rattle.exported.specs.Exported.{settingsOf, verdictNumber, lengthFor, accessFor, roundNumber, Called, WaitCalled, RunCalled};
 
 fn settings(sets: u32, ways: u32, percent: u32, entries: u32, readers: u32, places: u32) -> Settings
     ensures { λ r. ⌜ r ≡ (settingsOf sets ways percent entries readers places) ⌝ }
@@ -294,4 +298,73 @@ pub extern "C" fn labintugmo_access(
     let x = access_for(is_write, address, mask, ticket);
     let told = cache::access(s, longs, words, marks, x);
     records::write_told(told, events, 0)
+}
+
+// The accepting round; 0 where there is none.
+fn round_number(w: Waiting) -> u64
+    ensures { λ r. ⌜ r ≡ roundNumber w ⌝ }
+{
+    match w {
+        Waiting::Accepted { round, answer: _ } => round as u64,
+        Waiting::Held => 0,
+        Waiting::Refused(_) => 0,
+        Waiting::NoRoom => 0,
+    }
+}
+
+#[no_mangle]
+pub extern "C" fn labintugmo_wait(
+    sets: u32,
+    ways: u32,
+    percent: u32,
+    entries: u32,
+    readers: u32,
+    places: u32,
+    longs: &mut [u64],
+    words: &mut [u32],
+    marks: &mut [u8],
+    is_write: u32,
+    address: u64,
+    mask: u32,
+    ticket: u32,
+    events: &mut [u8],
+    round: &mut [u64],
+) -> usize
+    ensures { λ r. ⌜ WaitCalled (waitCall (settingsOf sets ways percent entries readers places) (accessFor «is_write» address mask ticket) (lent (now (longs .entry)) (now (words .entry)) (now (marks .entry)))) (lent (now (longs .entry)) (now (words .entry)) (now (marks .entry)))
+        (now (events .entry)) (now (round .entry)) r (now (events .exit)) (now (round .exit)) (lent (now (longs .exit)) (now (words .exit)) (now (marks .exit))) ⌝ }
+{
+    if round.len() != 1 {
+        return 0;
+    }
+    if events.len() < 9600 {
+        return 0;
+    }
+    let s = settings(sets, ways, percent, entries, readers, places);
+    let x = access_for(is_write, address, mask, ticket);
+    let waited = rounds::wait(s, longs, words, marks, x, events);
+    let waiting = waited.waiting;
+    round[0] = round_number(waiting);
+    waited.written
+}
+
+#[no_mangle]
+pub extern "C" fn labintugmo_run(
+    stream: &[u8],
+    events: &mut [u8],
+    longs: &mut [u64],
+    words: &mut [u32],
+    marks: &mut [u8],
+    counts: &mut [u64],
+) -> u32
+    ensures { λ r. ⌜ RunCalled (run (length (now (events .entry))) (now (stream .entry)) (lent (now (longs .entry)) (now (words .entry)) (now (marks .entry)))) (lent (now (longs .entry)) (now (words .entry)) (now (marks .entry)))
+        (now (events .entry)) (now (counts .entry)) r (now (events .exit)) (now (counts .exit)) (lent (now (longs .exit)) (now (words .exit)) (now (marks .exit))) ⌝ }
+{
+    if counts.len() != 2 {
+        return 2;
+    }
+    let ran = runner::run(stream, events, longs, words, marks);
+    counts[0] = ran.consumed as u64;
+    counts[1] = ran.written as u64;
+    let stop = ran.stop;
+    model::stop_number(stop) as u32
 }

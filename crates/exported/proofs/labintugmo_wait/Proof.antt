@@ -1,0 +1,30 @@
+-- Nothing without a slice of one number and room for the events; else the wait, and its round.
+use borrow.Author.Needs.{needs}
+use Rattle.exported.proofs.Calling.{wait-no-round, wait-no-room, wait-made}
+use Rattle.exported.proofs.labintugmo_wait.Statement.{statement}
+use Rattle.exported.proofs.labintugmo_wait.Tie as tie
+
+returns-3 : tie.Need-returns-3
+returns-3 c =
+    let w = c .before .before .before .before .before .before .before .before .before in
+    let a = w .before .before .before .before .before in
+    let s = a .before in
+    wait-made _ _ _ _ _ (s .before .before .if1 .left) (s .before .if2 .left) (rw (s .settings .ensures, a .access-for .ensures) at (w .wait .ensures)) (c .round-number .ensures)
+
+pub labintugmo-wait-spec : {M : Type 1} → statement M
+labintugmo-wait-spec =
+    tie.close
+    (tie.spec
+    (λ c. wait-no-round _ _ _ _ _ (c .if1 .taken))
+    (λ c. wait-no-room _ _ _ _ _ (c .before .if1 .left) (c .if2 .taken))
+    (λ c κs. search needs)
+    (λ c κs. search needs)
+    (λ c κs. search needs)
+    (λ c κs. search needs)
+    (λ c. search needs)
+    (λ c. search needs)
+    (λ c. search needs)
+    (λ c. search needs)
+    (λ c. search needs)
+    (λ c. search needs)
+    returns-3)
