@@ -1,0 +1,2 @@
+-- What the test programs share.
+pub mod Numbers
