@@ -4,7 +4,6 @@ use crate::outcomes::Outcome;
 use model::Access;
 use model::Command;
 use model::Settings;
-ghost use Prim.Native.Nat.{_≤_};
 
 // The settings and the lengths that calls are made with; whether the next one's outcome is asked for.
 pub(crate) struct Bench {
@@ -135,12 +134,6 @@ pub(crate) fn with_lengths(b: Bench, line: &[u8], at: usize) -> Bench {
     }
 }
 
-pub(crate) fn least(a: usize, b: usize) -> usize
-    ensures { λ r. ⌜ r ≤ b ⌝ }
-{
-    if a < b { a } else { b }
-}
-
 // A number as 32 bits; one that is larger, the largest.
 pub(crate) fn word_of(n: u64) -> u32 {
     if n <= 0xFFFF_FFFF {
@@ -241,8 +234,8 @@ pub(crate) fn perform(
     out: &mut [u8],
 ) -> Outcome {
     let s = b.settings;
-    let l = least(b.longs, longs.len());
-    let w = least(b.words, words.len());
-    let m = least(b.marks, marks.len());
+    let l = scripts::least(b.longs, longs.len());
+    let w = scripts::least(b.words, words.len());
+    let m = scripts::least(b.marks, marks.len());
     make(d, s, &mut longs[..l], &mut words[..w], &mut marks[..m], out)
 }

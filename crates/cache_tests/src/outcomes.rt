@@ -1,5 +1,4 @@
 // Outcomes of calls as text.
-use crate::calls;
 use model::Answer;
 use model::Event;
 use model::Refusal;
@@ -153,7 +152,7 @@ fn put_ticket(ticket: u32, out: &mut [u8], at: usize) -> usize {
 
 // The tickets that were released, in order.
 fn put_tickets(count: usize, tickets: [u32; 8], out: &mut [u8], at: usize) -> usize {
-    let n = calls::least(count, 8);
+    let n = scripts::least(count, 8);
     let mut end = at;
     let mut i = 0;
     while i < n {

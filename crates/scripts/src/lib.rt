@@ -1,6 +1,8 @@
-// What the test programs share: the numbers of a script's line, and whether two lent slices hold the same numbers.
+// What the test programs share: the numbers of a script's line, how much of a slice is lent, and whether two slices hold the
+// same numbers.
 ghost use mathlib.Core.Path.{_≡_};
 ghost use mathlib.Core.Bool.{true};
+ghost use Prim.Native.Nat.{min, _≤_};
 ghost use Rattle.scripts.specs.Numbers.{numberNext};
 use text::Parsed;
 
@@ -25,6 +27,13 @@ pub fn number_next(line: &[u8], at: usize) -> Number
             next: line.len(),
         },
     }
+}
+
+// The smaller of two, as for a part of a slice that may be asked to be longer than that.
+pub fn least(a: usize, b: usize) -> usize
+    ensures { λ r. ⌜ (r ≡ min a b) × (r ≤ b) ⌝ }
+{
+    if a < b { a } else { b }
 }
 
 pub fn same_longs(a: &[u64], b: &[u64]) -> bool

@@ -15,15 +15,15 @@ perform-spec =
     (λ c. search needs)
     (λ c.
     let l = c .before .before .before in
-    sym (length-take-le (l .least .result) (l .before .before .before .before .before .before .args .longs .now) (l .least .ensures)))
+    sym (length-take-le (l .least .result) (l .before .before .before .before .before .before .args .longs .now) (l .least .ensures .1)))
     (λ c. search needs)
     (λ c.
     let l = c .before .before .before in
-    sym (length-take-le (l .least2 .result) (l .before .before .before .before .before .before .before .args .words .now) (l .least2 .ensures)))
+    sym (length-take-le (l .least2 .result) (l .before .before .before .before .before .before .before .args .words .now) (l .least2 .ensures .1)))
     (λ c. search needs)
     (λ c.
     let l = c .before .before .before in
-    sym (length-take-le (l .least3 .result) (l .before .before .before .before .before .before .before .before .args .marks .now) (l .least3 .ensures)))
+    sym (length-take-le (l .least3 .result) (l .before .before .before .before .before .before .before .before .args .marks .now) (l .least3 .ensures .1)))
     (λ c κs. search needs)
     (λ c. search needs)
     (λ c. search needs)
