@@ -165,18 +165,6 @@ pub(crate) fn put_mark(marks: &mut [u8], at: u64, n: u64) {
     }
 }
 
-// Whether the three slices hold the numbers that they held.
-pub(crate) fn same(
-    longs: &[u64],
-    long: &[u64],
-    words: &[u32],
-    word: &[u32],
-    marks: &[u8],
-    mark: &[u8],
-) -> bool {
-    scripts::same_longs(longs, long) & scripts::same_words(words, word) & check::same(marks, mark)
-}
-
 // How many of the first lines are dirty.
 fn dirty_lines(marks: &[u8], lines: u64) -> usize {
     let n = lines as usize;

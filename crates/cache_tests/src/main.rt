@@ -45,7 +45,7 @@ fn on_deed(
     let mark = *marks;
     let mut out = [0u8; 512];
     let o = calls::perform(d, b, longs, words, marks, &mut out);
-    let unchanged = calls::same(longs, &long, words, &word, marks, &mark);
+    let unchanged = scripts::same_tables(longs, &long, words, &word, marks, &mark);
     let end = outcomes::put_left(o.refused, unchanged, &mut out, o.end);
     let next = text::put_text(b"\n", &mut out, end);
     if b.asked {

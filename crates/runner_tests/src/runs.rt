@@ -95,17 +95,6 @@ fn base() -> Settings {
     }
 }
 
-fn same(
-    longs: &[u64],
-    long: &[u64],
-    words: &[u32],
-    word: &[u32],
-    marks: &[u8],
-    mark: &[u8],
-) -> bool {
-    scripts::same_longs(longs, long) & scripts::same_words(words, word) & check::same(marks, mark)
-}
-
 // Fresh tables of those settings, in the numbers that they take.
 fn make_fresh(longs: &mut [u64], words: &mut [u32], marks: &mut [u8]) {
     let l = scripts::least(8, longs.len());
@@ -119,11 +108,11 @@ fn left_in(longs: &[u64], words: &[u32], marks: &[u8]) -> Left {
     let mut long = [9u64; 16];
     let mut word = [9u32; 64];
     let mut mark = [9u8; 64];
-    if same(longs, &long, words, &word, marks, &mark) {
+    if scripts::same_tables(longs, &long, words, &word, marks, &mark) {
         return Left::Unchanged;
     }
     make_fresh(&mut long, &mut word, &mut mark);
-    if same(longs, &long, words, &word, marks, &mark) {
+    if scripts::same_tables(longs, &long, words, &word, marks, &mark) {
         return Left::Fresh;
     }
     Left::AsRun

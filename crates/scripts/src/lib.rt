@@ -1,9 +1,10 @@
-// What the test programs share: the numbers of a script's line, how much of a slice is lent, and whether two slices hold the
-// same numbers.
+// What the test programs share: the numbers of a script's line, how much of a slice is lent, and whether lent tables hold the
+// same numbers as others.
 ghost use mathlib.Core.Path.{_≡_};
-ghost use mathlib.Core.Bool.{true};
 ghost use Prim.Native.Nat.{min, _≤_};
+ghost use Rattle.model.specs.Lent.{lent};
 ghost use Rattle.scripts.specs.Numbers.{numberNext};
+ghost use Rattle.scripts.specs.Same.{Tells};
 use text::Parsed;
 
 // A number of a line and the place behind it.
@@ -36,8 +37,8 @@ pub fn least(a: usize, b: usize) -> usize
     if a < b { a } else { b }
 }
 
-pub fn same_longs(a: &[u64], b: &[u64]) -> bool
-    ensures { λ r. ⌜ (r ≡ true → now (a .entry) ≡ now (b .entry)) × (now (a .entry) ≡ now (b .entry) → r ≡ true) ⌝ }
+fn same_longs(a: &[u64], b: &[u64]) -> bool
+    ensures { λ r. ⌜ Tells (now (a .entry)) (now (b .entry)) r ⌝ }
 {
     if a.len() != b.len() {
         return false;
@@ -52,8 +53,8 @@ pub fn same_longs(a: &[u64], b: &[u64]) -> bool
     true
 }
 
-pub fn same_words(a: &[u32], b: &[u32]) -> bool
-    ensures { λ r. ⌜ (r ≡ true → now (a .entry) ≡ now (b .entry)) × (now (a .entry) ≡ now (b .entry) → r ≡ true) ⌝ }
+fn same_words(a: &[u32], b: &[u32]) -> bool
+    ensures { λ r. ⌜ Tells (now (a .entry)) (now (b .entry)) r ⌝ }
 {
     if a.len() != b.len() {
         return false;
@@ -66,4 +67,19 @@ pub fn same_words(a: &[u32], b: &[u32]) -> bool
         i += 1;
     }
     true
+}
+
+// Whether three lent slices hold what three others hold.
+pub fn same_tables(
+    longs: &[u64],
+    long: &[u64],
+    words: &[u32],
+    word: &[u32],
+    marks: &[u8],
+    mark: &[u8],
+) -> bool
+    ensures { λ r. ⌜ Tells (lent (now (longs .entry)) (now (words .entry)) (now (marks .entry)))
+        (lent (now (long .entry)) (now (word .entry)) (now (mark .entry))) r ⌝ }
+{
+    same_longs(longs, long) & same_words(words, word) & check::same(marks, mark)
 }
