@@ -56,15 +56,15 @@ fn first_stop(stream: &[u8], longs: &[u64], words: &[u32], marks: &[u8]) -> Stop
     ensures { λ r. ⌜ r ≡ firstStop (lent (now (longs .entry)) (now (words .entry)) (now (marks .entry)))
         (kindAt (now (stream .entry)) 0) (restAt (now (stream .entry)) 0) ⌝ }
 {
-    let kind = stream[0];
-    let body = records::length_of(kind) as usize;
-    if !records::is_command(kind) {
+    let first = stream[0];
+    let body = records::length_of(first) as usize;
+    if !records::is_command(first) {
         return Stop::UnknownKind;
     }
     if stream.len() - 1 < body {
         return Stop::CutShort;
     }
-    if kind != 0 {
+    if first != 0 {
         return Stop::OutOfPlace;
     }
     let s = settings_of(&stream[1..]);

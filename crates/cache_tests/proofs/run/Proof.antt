@@ -1,0 +1,29 @@
+-- `run` is safe and ends: each turn goes past the end of a line.
+use Prim.Native.Nat.{_-_}
+use lib.ListN.{length}
+use borrow.Author.Needs.{needs}
+use Rattle.cache_tests.proofs.run.Statement.{statement}
+use Rattle.cache_tests.proofs.run.Tie as tie
+
+abbrev Inv-loop : tie.InvT-loop
+Inv-loop script longs₀ words₀ marks₀ b₀ at₀ longs words marks b at = Unit
+
+abbrev μ-loop : tie.MeasureT-loop
+μ-loop script longs₀ words₀ marks₀ b₀ at₀ longs words marks b at = length script - at
+
+pub run-spec : {M : Type 1} → statement M
+run-spec =
+    tie.close
+    (tie.spec
+    Inv-loop
+    μ-loop
+    (λ c κs. search needs)
+    (λ c. tt)
+    (λ c κs. search needs)
+    (λ c κs. search needs)
+    (λ c κs. search needs)
+    (λ c. search needs)
+    (λ c. search needs)
+    (λ c. tt)
+    (λ c. search needs)
+    (λ c. search needs))

@@ -1,0 +1,229 @@
+// The calls that a script makes, on the first numbers of each slice, as many as are lent.
+use crate::outcomes;
+use crate::outcomes::Outcome;
+use model::Access;
+use model::Command;
+use model::Settings;
+
+// The settings and the lengths that calls are made with; whether the next one's outcome is asked for.
+pub(crate) struct Bench {
+    pub settings: Settings,
+    pub longs: usize,
+    pub words: usize,
+    pub marks: usize,
+    pub asked: bool,
+}
+
+pub(crate) enum Deed {
+    Fresh,
+    Check,
+    Read { address: u64, ticket: u32 },
+    Masked { address: u64, mask: u32 },
+    Write { address: u64, mask: u32 },
+    Send,
+    Fill(u64),
+    Tick(u32),
+    Dirty(u64),
+}
+
+// Before a script has settings those of this bench are refused.
+pub(crate) fn empty_bench() -> Bench {
+    let settings = Settings {
+        sets: 0,
+        ways: 0,
+        percent: 0,
+        entries: 0,
+        readers: 0,
+        places: 0,
+    };
+    Bench {
+        settings,
+        longs: 0,
+        words: 0,
+        marks: 0,
+        asked: false,
+    }
+}
+
+pub(crate) fn asking(b: Bench, asked: bool) -> Bench {
+    let settings = b.settings;
+    Bench {
+        settings,
+        longs: b.longs,
+        words: b.words,
+        marks: b.marks,
+        asked,
+    }
+}
+
+// With other settings, and the lengths that they ask for if they are in range.
+fn with_settings(b: Bench, s: Settings) -> Bench {
+    if soundness::in_range(s) {
+        return Bench {
+            settings: s,
+            longs: soundness::longs_length(s),
+            words: soundness::words_length(s),
+            marks: soundness::marks_length(s),
+            asked: b.asked,
+        };
+    }
+    Bench {
+        settings: s,
+        longs: b.longs,
+        words: b.words,
+        marks: b.marks,
+        asked: b.asked,
+    }
+}
+
+// A command as a call: settings make the tables fresh.
+pub(crate) fn deed_of(c: Command) -> Deed {
+    match c {
+        Command::Settings {
+            sets: _,
+            ways: _,
+            percent: _,
+            entries: _,
+            readers: _,
+            places: _,
+        } => Deed::Fresh,
+        Command::Read { address, ticket } => Deed::Read { address, ticket },
+        Command::Write { address, mask } => Deed::Write { address, mask },
+        Command::Send => Deed::Send,
+        Command::Fill(address) => Deed::Fill(address),
+        Command::Tick(cycle) => Deed::Tick(cycle),
+    }
+}
+
+// Settings are taken over before they are judged.
+pub(crate) fn set_up(c: Command, b: Bench) -> Bench {
+    let Command::Settings {
+        sets,
+        ways,
+        percent,
+        entries,
+        readers,
+        places,
+    } = c
+    else {
+        return b;
+    };
+    let s = Settings {
+        sets: sets as usize,
+        ways: ways as usize,
+        percent: percent as usize,
+        entries: entries as usize,
+        readers: readers as usize,
+        places: places as usize,
+    };
+    with_settings(b, s)
+}
+
+// With the three lengths that a line names.
+pub(crate) fn with_lengths(b: Bench, line: &[u8], at: usize) -> Bench {
+    let settings = b.settings;
+    let longs = scripts::number_next(line, at);
+    let words = scripts::number_next(line, longs.next);
+    let marks = scripts::number_next(line, words.next);
+    Bench {
+        settings,
+        longs: longs.value as usize,
+        words: words.value as usize,
+        marks: marks.value as usize,
+        asked: b.asked,
+    }
+}
+
+// A number as 32 bits; one that is larger, the largest.
+pub(crate) fn word_of(n: u64) -> u32 {
+    if n <= 0xFFFF_FFFF {
+        n as u32
+    } else {
+        0xFFFF_FFFF
+    }
+}
+
+// A place of a slice gets a number; a place beyond it none.
+pub(crate) fn put_long(longs: &mut [u64], at: u64, n: u64) {
+    let i = at as usize;
+    if i < longs.len() {
+        longs[i] = n;
+    }
+}
+
+pub(crate) fn put_word(words: &mut [u32], at: u64, n: u64) {
+    let i = at as usize;
+    if i < words.len() {
+        words[i] = word_of(n);
+    }
+}
+
+pub(crate) fn put_mark(marks: &mut [u8], at: u64, n: u64) {
+    let i = at as usize;
+    if i < marks.len() {
+        marks[i] = if n <= 0xFF { n as u8 } else { 0xFF };
+    }
+}
+
+// How many of the first lines are dirty.
+fn dirty_lines(marks: &[u8], lines: u64) -> usize {
+    let n = lines as usize;
+    if marks.len() / 4 < n {
+        return 0;
+    }
+    probe::count_dirty(marks, n)
+}
+
+// Makes the call on lent slices; its outcome is put at the start of `out`.
+fn make(
+    d: Deed,
+    s: Settings,
+    longs: &mut [u64],
+    words: &mut [u32],
+    marks: &mut [u8],
+    out: &mut [u8],
+) -> Outcome {
+    match d {
+        Deed::Fresh => outcomes::put_verdict(cache::fresh(s, longs, words, marks), b"fresh", out),
+        Deed::Check => outcomes::put_verdict(cache::check(s, longs, words, marks), b"sound", out),
+        Deed::Read { address, ticket } => outcomes::put_told(
+            cache::read(s, longs, words, marks, address, ticket),
+            out,
+        ),
+        Deed::Masked { address, mask } => {
+            let x = Access::Read {
+                address,
+                mask,
+                ticket: 0,
+            };
+            outcomes::put_told(cache::access(s, longs, words, marks, x), out)
+        }
+        Deed::Write { address, mask } => outcomes::put_told(
+            cache::write(s, longs, words, marks, address, mask),
+            out,
+        ),
+        Deed::Send => outcomes::put_told(cache::send(s, longs, words, marks), out),
+        Deed::Fill(address) => outcomes::put_told(
+            cache::fill(s, longs, words, marks, address),
+            out,
+        ),
+        Deed::Tick(cycle) => outcomes::put_told(cache::tick(s, longs, words, marks, cycle), out),
+        Deed::Dirty(lines) => outcomes::put_dirty(dirty_lines(marks, lines), out),
+    }
+}
+
+// The same on the first numbers of each slice, as many as the bench lends.
+pub(crate) fn perform(
+    d: Deed,
+    b: Bench,
+    longs: &mut [u64],
+    words: &mut [u32],
+    marks: &mut [u8],
+    out: &mut [u8],
+) -> Outcome {
+    let s = b.settings;
+    let l = scripts::least(b.longs, longs.len());
+    let w = scripts::least(b.words, words.len());
+    let m = scripts::least(b.marks, marks.len());
+    make(d, s, &mut longs[..l], &mut words[..w], &mut marks[..m], out)
+}
