@@ -23,6 +23,11 @@ fn put_unknown(kind: u8, place: u64, out: &mut [u8], at: usize) -> usize {
     }
 }
 
+// The bytes behind the kind.
+fn behind_kind(rest: &[u8]) -> usize {
+    if 0 < rest.len() { rest.len() - 1 } else { 0 }
+}
+
 fn put_cut(kind: u8, left: usize, place: u64, out: &mut [u8], at: usize) -> usize {
     let a = put_number(b"record cut short at byte ", place, out, at);
     let b = put_number(b": kind ", kind as u64, out, a);
@@ -52,14 +57,9 @@ fn put_why(stop: Stop, rest: &[u8], place: u64, out: &mut [u8], at: usize) -> us
         Stop::SliceLength => text::put_text(b"tables of another length", out, at),
         Stop::OutOfPlace => put_out_of_place(kind, place, out, at),
         Stop::UnknownKind => put_unknown(kind, place, out, at),
-        Stop::CutShort => put_cut(kind, lacking_kind(rest), place, out, at),
+        Stop::CutShort => put_cut(kind, behind_kind(rest), place, out, at),
         Stop::NoRoom => text::put_text(b"too little event room", out, at),
     }
-}
-
-// The bytes behind the kind.
-fn lacking_kind(rest: &[u8]) -> usize {
-    if 0 < rest.len() { rest.len() - 1 } else { 0 }
 }
 
 fn put_line(rest: &[u8], w: Work, out: &mut [u8]) -> usize {

@@ -1,5 +1,6 @@
 // The stream runner (document 01, "Records"): the checks at a record, what a record does, the run of a stream. `run` is public and asks
-// nothing; `begin` and `go_on` are its two halves, for a caller that holds the tables between them.
+// nothing; `begin` and `go_on` are its two halves, for a caller that holds the tables between them, and `first_there` and
+// `lengths_for` tell such a caller when to begin and what to lend.
 use model::Access;
 use model::Command;
 use model::CommandRead;
