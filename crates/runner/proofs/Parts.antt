@@ -1,14 +1,14 @@
--- A run in two parts, cut between two records; the event room decides nothing but stop 16.
+-- A run in two parts, cut between two records or anywhere; the event room decides nothing but stop 16; the first record of a front part.
 use mathlib.Core.Path.{_≡_, refl, sym, ap, _∙_}
 use mathlib.Core.Logic.{⊎-elim}
-use mathlib.Core.Bool.{Bool, true, false}
+use mathlib.Core.Bool.{Bool, true, false, not, _||_}
 use mathlib.Core.List.{List, [], _∷_, _++_, append-assoc}
 use Prim.Native.Nat.{ℕ, zero, suc, _+_, _-_, _≤_}
 use native.Mathlib.Nat.{le-of-suc-le-suc, add-assoc, zero-add, sub-zero, sub-add-eq}
 use native.Mathlib.Omega.{arith}
-use borrow.Author.Tests.{le-ltb, ltb-false}
-use lib.Dec.{ltb, eqb}
-use lib.ListN.{length, List·getD-append, length-append}
+use borrow.Author.Tests.{not-true, le-ltb, ltb-false, leb-true, eqb-true, ne-eqb}
+use lib.Dec.{leb, ltb, eqb}
+use lib.ListN.{length, drop, List·getD-append, length-append}
 use lib.Seq.{take-append-le}
 use Rattle.model.specs.Words.{pick}
 use Rattle.model.specs.Tables.{Tables, start, after, eventsOf}
@@ -18,7 +18,10 @@ use Rattle.model.specs.Runner.{eventRoom, settingsOf, settingsStop, firstStop, 
 use Rattle.model.specs.declared.Settings.{Settings}
 use Rattle.model.specs.declared.Stop.{Stop}
 use Rattle.model.specs.declared.Stop.the-variants.{Nothing, OutOfPlace, UnknownKind, CutShort, NoRoom}
-use Rattle.model.proofs.Flags.{clash, by-flag, flag}
+use Rattle.model.proofs.Flags.{clash, by-flag, flag, or-cases}
+use Rattle.runner.specs.declared.Begun.the-variants.{Accepted, Stopped}
+use Rattle.runner.specs.Resume.{kindAt}
+use Rattle.runner.specs.Begin.{beginning, firstThere}
 use Rattle.runner.proofs.First.{Settled, settled, run-accepts}
 use Rattle.runner.proofs.Running.{going, from-stops, from-goes}
 
@@ -147,6 +150,49 @@ module _ (S : Settings) where
       let w : runFrom S 0 room (a ++ b) t ≡ then room b o = run-in-parts 0 room a b t (omega arith) (rw p e) ∙ ap (then room b) p in
       w ∙ ap (ahead (o .consumed) (o .events)) (run-in-rooms 0 (room - length (o .events)) behind b (o .tables) (λ q. h (ap (λ (r : Result Tables). r .stop) w ∙ q)) g)
 
+-- ---- a front part, whatever stopped it, and the run from there on: also where a record was cut short, or its events had no room
+
+later-wider : (room other k : ℕ) (a : List ℕ) → room ≤ other → goesOn (laterStop room k a) ≡ true → goesOn (laterStop other k a) ≡ true
+unfolding laterStop
+later-wider room other k a h z =
+    let g = going room k a z in
+    let r = g .roomy in
+    rw (g .command, le-ltb (length a) (lengthOf k) (g .whole), ne-eqb k 0 (g .later), le-ltb other eventRoom (omega arith))
+
+module _ (S : Settings) where
+  -- from where o stopped, n bytes and what it consumed further on
+  abbrev pub onward : ℕ → ℕ → List ℕ → Result Tables → Result Tables
+  onward n room s o = ahead (o .consumed) (o .events) (runFrom S 0 (room - length (o .events)) (drop (n + o .consumed) s) (o .tables))
+
+  onward-ahead : (room m n k : ℕ) (s x : List ℕ) (o : Result Tables) → m ≡ suc n
+      → ahead m x (onward n (room - length x) s o) ≡ onward 0 room (k ∷ s) (ahead m x o)
+  onward-ahead room m n k s x o q =
+      let e : 0 + (m + o .consumed) ≡ suc (n + o .consumed) = omega arith in
+      rw (e, length-append, sub-add-eq, append-assoc, add-assoc)
+
+  onward-halts : (room : ℕ) (s : List ℕ) (n : Stop) (t : Tables) → runFrom S 0 room s t ≡ onward 0 room s (halt n t)
+  onward-halts room s n t = rw (sub-zero, zero-add)
+
+  pub run-resumed : (n room other : ℕ) (a b : List ℕ) (t : Tables) → n ≤ length a → room ≤ other
+      → runFrom S n other (a ++ b) t ≡ onward n other (a ++ b) (runFrom S n room a t)
+  unfolding runFrom
+  run-resumed n room other [] b t h w = let z : n ≡ 0 = omega arith in rw (z, sub-zero, zero-add)
+  run-resumed (suc n) room other (x ∷ a) b t h w =
+      let c = runFrom S n room a t .consumed in
+      let e : suc n + c ≡ suc (n + c) = omega arith in
+      rw e (run-resumed n room other a b t (le-of-suc-le-suc h) w)
+  run-resumed zero room other (k ∷ a) b t h w =
+      let x = logBytes (eventsOf (stepAt S k a t)) in
+      let u = after t (stepAt S k a t) in
+      ⊎-elim
+      (λ z.
+      let g = going room k a z .whole in
+      let y : goesOn (laterStop other k (a ++ b)) ≡ true = rw (later-more other k a b g) (later-wider room other k a w z) in
+      let i = run-resumed (lengthOf k) (room - length x) (other - length x) a b u g (omega arith) in
+      rw (y, z, step-more S k a b t g, i) (onward-ahead other (1 + lengthOf k) (lengthOf k) k (a ++ b) x (runFrom S (lengthOf k) (room - length x) a u) (omega arith)))
+      (λ z. onward-halts other ((k ∷ a) ++ b) (laterStop room k a) t ∙ ap (onward 0 other ((k ∷ a) ++ b)) (sym (from-stops S room k a t z)))
+      (flag (goesOn (laterStop room k a)))
+
 -- ---- a whole stream, in two parts
 
 number-more : (a b : List ℕ) (at n : ℕ) → at + n ≤ length a → numberAt (a ++ b) at n ≡ numberAt a at n
@@ -191,3 +237,55 @@ run-two-parts room k a b L e =
     run-accepts room L k (a ++ b) (rw (first-more L k a b w l) z)
     ∙ ap (λ (S : Settings). ahead (1 + lengthOf k) [] (lentResult S (runFrom S (lengthOf k) room (a ++ b) (start S)))) (settings-more a b l)
     ∙ ap (λ (o : Result Tables). ahead (1 + lengthOf k) [] (lentResult S o)) (run-in-parts S (lengthOf k) room a b (start S) w y)
+
+-- ---- the first record of a front part, once it is there
+
+pub there-none : (s : List ℕ) → length s ≡ 0 → false ≡ firstThere s
+unfolding firstThere
+there-none [] h = refl
+there-none (x ∷ s) h = absurd (omega arith)
+
+pub there-some : (s : List ℕ) → (length s ≡ 0 → ⊥) → {b : Bool} {n : ℕ} → b ≡ isCommand (kindAt s 0) → n ≡ lengthOf (kindAt s 0)
+    → (not b || leb n (length s - 1)) ≡ firstThere s
+unfolding firstThere
+there-some [] h p q = absurd (h refl)
+there-some (k ∷ bs) h p q = let e : length (k ∷ bs) - 1 ≡ length bs = omega arith in rw (p, q, e)
+
+-- a kind that is not 0
+other-kind : (f : Bool) (x y : Stop) → f ≡ false → pick f x OutOfPlace ≡ pick f y OutOfPlace
+other-kind f x y e = rw e
+
+first-there : (L : Lent) (k : ℕ) (a b : List ℕ) → firstThere (k ∷ a) ≡ true → firstStop L k (a ++ b) ≡ firstStop L k a
+unfolding firstThere firstStop lengthOf
+first-there L k a b h =
+    ⊎-elim
+    (λ z. let c : isCommand k ≡ false = not-true (isCommand k) z in rw c)
+    (λ z.
+    let w = leb-true (lengthOf k) (length a) z in
+    let l : lengthOf k ≤ length (a ++ b) = rw length-append (omega arith) in
+    ⊎-elim
+    (λ e. first-more L k a b w (rw (eqb-true k 0 e) at w))
+    (λ e.
+    rw (le-ltb (length (a ++ b)) (lengthOf k) l, le-ltb (length a) (lengthOf k) w)
+    (ap (λ (n : Stop). pick (isCommand k) n UnknownKind) (other-kind (eqb k 0) _ _ e)))
+    (flag (eqb k 0)))
+    (or-cases (not (isCommand k)) (leb (lengthOf k) (length a)) h)
+
+-- what the first record comes to is the same, whatever follows
+pub begins-more : (L : Lent) (s b : List ℕ) → firstThere s ≡ true → beginning L (s ++ b) ≡ beginning L s
+unfolding beginning
+begins-more L [] b h = clash h (sym (there-none [] refl))
+begins-more L (k ∷ a) b h =
+    let f = first-there L k a b h in
+    ⊎-elim
+    (λ z.
+    let y : goesOn (firstStop L k (a ++ b)) ≡ true = rw f z in
+    let p : beginning L (k ∷ a) ≡ Accepted (settingsOf a) = rw z in
+    let q : beginning L (k ∷ (a ++ b)) ≡ Accepted (settingsOf (a ++ b)) = rw y in
+    q ∙ ap Accepted (settings-more a b (settled-long L k a (settled L k a z))) ∙ sym p)
+    (λ z.
+    let y : goesOn (firstStop L k (a ++ b)) ≡ false = rw f z in
+    let p : beginning L (k ∷ a) ≡ Stopped (firstStop L k a) = rw z in
+    let q : beginning L (k ∷ (a ++ b)) ≡ Stopped (firstStop L k (a ++ b)) = rw y in
+    q ∙ ap Stopped f ∙ sym p)
+    (flag (goesOn (firstStop L k a)))

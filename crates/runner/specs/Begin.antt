@@ -1,10 +1,14 @@
 -- The first record of a stream by itself: "A stream starts with one kind 0, which makes the lent tables fresh and writes no event".
 use mathlib.Core.Path.{_≡_}
 use Prim.Native.Nat.{ℕ}
+use mathlib.Core.Bool.{Bool, false, not, _||_}
 use mathlib.Core.List.{List, [], _∷_}
 use Rattle.model.specs.Words.{pick}
 use Rattle.model.specs.Tables.{start}
 use Rattle.model.specs.Lent.{Lent, encode}
+use lib.Dec.{leb}
+use lib.ListN.{length}
+use Rattle.model.specs.Records.{isCommand, lengthOf}
 use Rattle.model.specs.Runner.{settingsOf, firstStop, goesOn}
 use Rattle.model.specs.declared.Stop.the-variants as stop
 use Rattle.runner.specs.declared.Begun.{Begun}
@@ -23,3 +27,8 @@ begunTables L (Stopped n) = L
 pub record Begins (L : Lent) (s : List ℕ) (r : Begun) (M : Lent) : Type 0 where
   pub says : r ≡ beginning L s
   pub tables : M ≡ begunTables L (beginning L s)
+
+-- it is all there, or its kind is no command's whatever follows
+unfoldable pub firstThere : List ℕ → Bool
+firstThere [] = false
+firstThere (k ∷ bs) = not (isCommand k) || leb (lengthOf k) (length bs)

@@ -1,5 +1,6 @@
 // The stream runner (document 01, "Records"): the checks at a record, what a record does, the run of a stream. `run` is public and asks
-// nothing; `begin` and `go_on` are its two halves, for a caller that holds the tables between them.
+// nothing; `begin` and `go_on` are its two halves, for a caller that holds the tables between them, and `first_there` and
+// `lengths_for` tell such a caller when to begin and what to lend.
 use model::Access;
 use model::Command;
 use model::CommandRead;
@@ -14,7 +15,8 @@ ghost use lib.ListN.{length};
 ghost use Rattle.model.specs.Lent.{lent};
 ghost use Rattle.model.specs.Inner.{Held};
 ghost use Rattle.model.specs.Runner.{settingsOf, firstStop, goesOn, laterStop, stepOf, stepRead, run, Runs};
-ghost use Rattle.runner.specs.Begin.{Begins};
+ghost use Rattle.runner.specs.Begin.{Begins, firstThere};
+ghost use Rattle.runner.specs.Lengths.{noLengths, lengthsFor};
 ghost use Rattle.runner.specs.Resume.{kindAt, restAt, Stands, Acts, recordFrom, restFrom, Resumes};
 
 // "16 fewer than 64 bytes of event room"
@@ -27,6 +29,13 @@ const SETTINGS_RECORD: usize = 8;
 pub enum Begun {
     Accepted(Settings),
     Stopped(Stop),
+}
+
+// How long the three lent slices are.
+pub struct Lengths {
+    pub longs: usize,
+    pub words: usize,
+    pub marks: usize,
 }
 
 // Whether nothing stops.
@@ -245,6 +254,46 @@ pub fn begin(stream: &[u8], longs: &mut [u64], words: &mut [u32], marks: &mut [u
     let s = settings_of(&stream[1..]);
     cache::fresh(s, longs, words, marks);
     Begun::Accepted(s)
+}
+
+// Whether more bytes change nothing for the first record: it is all there, or no command's.
+pub fn first_there(stream: &[u8]) -> bool
+    ensures { λ r. ⌜ r ≡ firstThere (now (stream .entry)) ⌝ }
+{
+    if stream.len() == 0 {
+        return false;
+    }
+    let kind = stream[0];
+    let body = records::length_of(kind) as usize;
+    !records::is_command(kind) | (body <= stream.len() - 1)
+}
+
+fn no_lengths() -> Lengths
+    ensures { λ r. ⌜ r ≡ noLengths ⌝ }
+{
+    Lengths {
+        longs: 0,
+        words: 0,
+        marks: 0,
+    }
+}
+
+// The lengths that a stream's settings ask for, whatever its first byte is: a caller that lends these never meets stop 2.
+pub fn lengths_for(stream: &[u8]) -> Lengths
+    ensures { λ r. ⌜ r ≡ lengthsFor (now (stream .entry)) ⌝ }
+{
+    if stream.len() == 0 {
+        return no_lengths();
+    }
+    let s = settings_of(&stream[1..]);
+    if !soundness::in_range(s) {
+        return no_lengths();
+    }
+    Lengths {
+        longs: soundness::longs_length(s),
+        words: soundness::words_length(s),
+        marks: soundness::marks_length(s),
+    }
 }
 
 // Runs a stream: its events, and the tables as the records run left them.

@@ -1,0 +1,42 @@
+-- The runner's promise on the part, and what the buffer then holds.
+use borrow.Author.Needs.{needs}
+use Rattle.run.proofs.Turns.{part-ran, part-failed}
+use Rattle.run.proofs.parts.run_part.Statement.{statement}
+use Rattle.run.proofs.parts.run_part.Tie as tie
+
+pub run-part-spec : {M : Type 1} → statement M
+run-part-spec =
+    tie.close
+    (tie.spec
+    (λ c κs. search needs)
+    (λ c κs. search needs)
+    (λ c κs. search needs)
+    (λ c κs. search needs)
+    (λ c κs. search needs)
+    (λ c κs. search needs)
+    (λ c. search needs)
+    (λ c. search needs)
+    (λ c. search needs)
+    (λ c. search needs)
+    (λ c. search needs)
+    (λ c.
+    let b = c .before in
+    let y = b .before .before .before in
+    let g = y .before .before .before .before .before .before .before .before .before .before .before .before in
+    let o = g .before .before .before .before .before in
+    let a = o .before .before .before .before .before .before .before in
+    part-ran (a .args .buf .now) (a .args .n) (a .pre .1) (o .front .ensures) (g .go-on .ensures) (y .carry .ensures .0) (y .carry .ensures .1) (y .carry .kept .0)
+    (a .args .w) (b .behind .ensures) (a .pre .0))
+    (λ c. search needs)
+    (λ c. search needs)
+    (λ c. search needs)
+    (λ c. search needs)
+    (λ c. search needs)
+    (λ c.
+    let b = c .before .before in
+    let y = b .before .before .before in
+    let g = y .before .before .before .before .before .before .before .before .before .before .before .before in
+    let o = g .before .before .before .before .before in
+    let a = o .before .before .before .before .before .before .before in
+    part-failed (a .args .buf .now) (a .args .n) (a .pre .1) (o .front .ensures) (g .go-on .ensures) (y .carry .ensures .0) (y .carry .ensures .1) (y .carry .kept .0)
+    (a .args .w) (b .behind .ensures) (a .pre .0) (c .failed .ensures)))

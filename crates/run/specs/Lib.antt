@@ -1,0 +1,3 @@
+-- What the functions of the run promise: where it stands between two parts; a part.
+pub mod Works
+pub mod Parts
