@@ -7,6 +7,9 @@ use native.Mathlib.Omega.{arith}
 use lib.Dec.{eqb}
 use borrow.Author.Tests.{eq-eqb, eqb-true}
 use Rattle.model.specs.Words.{every, some, imp}
+use Rattle.model.specs.Range.{linesOf}
+use Rattle.model.specs.Address.{setIndex}
+use Rattle.model.specs.declared.Settings.{Settings}
 use Rattle.model.proofs.Flags.{iff, imp-i, imp-use}
 use Rattle.model.proofs.Below.{every-at, every-i, some-at, some-i}
 
@@ -54,3 +57,7 @@ module _ (w : ℕ) (pos : 0 < w) where
       up e =
           let (k, h, t) = some-at (λ k. q (r * w + k)) w e in
           some-i q (n * w) (r * w + k) (row-below r n k below h) t
+
+-- the ways of an address's set are among the lines
+pub set-room : (S : Settings) (a : ℕ) {k : ℕ} → k ≡ setIndex S a → 1 ≤ S .sets → 1 ≤ S .ways → k * S .ways + S .ways ≤ linesOf S
+set-room S a {k} e h w = row-fits (S .ways) w k (S .sets) (rw e (mod-lt (a / 128) h))

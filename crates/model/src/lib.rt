@@ -2,7 +2,7 @@
 // Settings; sector status, sector and addresses; answers and refusals; an access; commands, events and the reading of
 // records; what a call tells and what a run returns.
 ghost use mathlib.Core.Path.{_≡_};
-ghost use Prim.Native.Nat.{_<_};
+ghost use Prim.Native.Nat.{_/_, _%_, _≤_, _<_};
 ghost use Rattle.model.specs.Numbers.{statusNumber, statusOf, answerNumber, refusalNumber, stopNumber};
 ghost use Rattle.model.specs.Probe.{columnOf, answerOf};
 ghost use Rattle.model.specs.Address.{addressOf, blockOf, sectorAddressOf, sectorIndex};
@@ -277,6 +277,14 @@ pub fn block_of(address: u64) -> BlockAddress
     ensures { λ r. ⌜ r .0 ≡ blockOf address ⌝ }
 {
     BlockAddress(address - address % 128)
+}
+
+// "(address / 128) mod sets": the one place where it is worked out.
+pub fn set_index(address: u64, sets: usize) -> usize
+    requires { ⌜ 1 ≤ sets ⌝ }
+    ensures { λ r. ⌜ r ≡ address / 128 % sets ⌝ }
+{
+    (address / 128 % (sets as u64)) as usize
 }
 
 pub fn sector_of(address: u64) -> SectorAddress

@@ -20,7 +20,7 @@ use Rattle.model.specs.declared.Answer.the-variants.{Miss}
 use Rattle.model.specs.declared.Refusal.the-variants.{SetBusy, SetHeld}
 use Rattle.model.specs.declared.Found.{Found}
 use Rattle.model.specs.declared.Found.the-variants.{At, Nothing}
-use Rattle.model.proofs.Rows.{row-fits}
+use Rattle.model.proofs.Rows.{set-room}
 use Rattle.probe.specs.declared.Meeting.the-variants.{Busy, Held}
 use Rattle.probe.specs.declared.Decision.{Decision}
 use Rattle.probe.specs.Decided.{Decided, backsOf, placeIs, linesHeld}
@@ -150,11 +150,11 @@ module _ (S : Settings) (longs words marks : List ℕ) (fit : Fit S longs words 
   here : set ≡ setIndex S (addressOf x)
   here = es ∙ ap (λ (a : ℕ). a / 128 % S .sets) ea
 
-  pub set-room : set * S .ways + S .ways ≤ linesOf S
-  set-room = row-fits (S .ways) (fit .ways) set (S .sets) (rw es (mod-lt (address / 128) (fit .sets)))
+  pub ways-room : set * S .ways + S .ways ≤ linesOf S
+  ways-room = set-room S address es (fit .sets) (fit .ways)
 
   room : setIndex S (addressOf x) * S .ways + S .ways ≤ linesOf S
-  room = subst (λ (k : ℕ). k * S .ways + S .ways ≤ linesOf S) here set-room
+  room = subst (λ (k : ℕ). k * S .ways + S .ways ≤ linesOf S) here ways-room
 
   module _ {block : ℕ} {f : Found} (eb : block ≡ blockOf address) (ef : f ≡ foundIn longs marks (set * S .ways) (S .ways) block) where
     pub found-below : {w : ℕ} → f ≡ At w → w < S .ways

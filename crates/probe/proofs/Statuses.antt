@@ -12,7 +12,8 @@ use Rattle.model.specs.Tables.{isInvalid, isReserved, isModified, unused, waiti
 use Rattle.model.specs.Lent.{statusAt, tagAt, lineAt}
 use Rattle.model.specs.Probe.{candidate}
 use Rattle.model.specs.declared.Status.the-variants.{Invalid, Reserved, Valid, Modified}
-use Rattle.probe.specs.Scan.{unusedAt, waitingAt, dirtyAt, holdsAt, candidateAt}
+use Rattle.tables.specs.Raw.{unusedAt, holdsAt}
+use Rattle.probe.specs.Scan.{waitingAt, dirtyAt, candidateAt}
 
 -- ---- one byte
 

@@ -5,10 +5,11 @@ use mathlib.Core.Bool.{Bool, not, _&&_, _||_}
 use mathlib.Core.List.{List}
 use lib.Dec.{eqb, ltb}
 use Rattle.model.specs.Words.{pick}
-use Rattle.model.specs.Lent.{tagAt, cycleAt, statusAt}
+use Rattle.model.specs.Lent.{cycleAt, statusAt}
 use Rattle.model.specs.Probe.{orElse}
 use Rattle.model.specs.declared.Found.{Found}
 use Rattle.model.specs.declared.Found.the-variants.{At, Nothing}
+use Rattle.tables.specs.Raw.{unusedAt, holdsAt}
 use Rattle.probe.specs.declared.Best.{Best}
 use Rattle.probe.specs.declared.Best.the-variants.{Way, Nowhere}
 
@@ -40,10 +41,6 @@ wayOf (Way w k) = At w
 
 -- ---- line l, by the bytes
 
-abbrev pub unusedAt : List ℕ → ℕ → Bool
-unusedAt marks l =
-    eqb (statusAt marks (4 * l)) 0 && eqb (statusAt marks (4 * l + 1)) 0 && eqb (statusAt marks (4 * l + 2)) 0 && eqb (statusAt marks (4 * l + 3)) 0
-
 abbrev pub waitingAt : List ℕ → ℕ → Bool
 waitingAt marks l =
     eqb (statusAt marks (4 * l)) 1 || eqb (statusAt marks (4 * l + 1)) 1 || eqb (statusAt marks (4 * l + 2)) 1 || eqb (statusAt marks (4 * l + 3)) 1
@@ -52,9 +49,6 @@ waitingAt marks l =
 abbrev pub dirtyAt : List ℕ → ℕ → Bool
 dirtyAt marks l =
     ltb 2 (statusAt marks (4 * l)) || ltb 2 (statusAt marks (4 * l + 1)) || ltb 2 (statusAt marks (4 * l + 2)) || ltb 2 (statusAt marks (4 * l + 3))
-
-abbrev pub holdsAt : List ℕ → List ℕ → ℕ → ℕ → Bool
-holdsAt longs marks b l = eqb (tagAt longs l) b && not (unusedAt marks l)
 
 abbrev pub candidateAt : List ℕ → Bool → ℕ → Bool
 candidateAt marks enough l = not (waitingAt marks l) && (not (dirtyAt marks l) || enough)

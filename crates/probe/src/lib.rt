@@ -8,22 +8,20 @@ use model::Sector;
 use model::Settings;
 ghost use mathlib.Core.Path.{_≡_};
 ghost use mathlib.Core.List.{List};
-ghost use Prim.Native.Nat.{ℕ, _+_, _*_, _/_, _%_, _≤_, _<_};
+ghost use Prim.Native.Nat.{ℕ, _+_, _*_, _≤_, _<_};
 ghost use lib.ListN.{length};
-ghost use lib.Dec.{eqb, leb};
+ghost use lib.Dec.{leb};
 ghost use Rattle.model.specs.Words.{count, some};
 ghost use Rattle.model.specs.Tables.{dirty};
 ghost use Rattle.model.specs.Lent.{sectorAt, sectorsAt, linesIn};
 ghost use Rattle.model.specs.Range.{linesOf};
 ghost use Rattle.model.specs.Probe.{enoughDirty};
 ghost use Rattle.model.specs.Inner.{Fit};
-ghost use Rattle.probe.specs.Scan.{unusedAt, waitingAt, dirtyAt, holdsAt, candidateAt, foundIn, lastUnusedIn, nearerOf, earliestIn, wayOf, victimIn};
+ghost use Rattle.probe.specs.Scan.{waitingAt, dirtyAt, candidateAt, foundIn, lastUnusedIn, nearerOf, earliestIn, wayOf, victimIn};
 ghost use Rattle.probe.specs.Values.{masksAt, metIs, takenIs, refusedIs, refusalIs, missIs};
 ghost use Rattle.probe.specs.Decided.{Decided};
 
 // The status bytes that the tests on a line name; any above VALID reads as MODIFIED.
-const INVALID: u8 = 0;
-
 const RESERVED: u8 = 1;
 
 const VALID: u8 = 2;
@@ -81,18 +79,6 @@ pub fn sectors_at(words: &[u32], marks: &[u8], n: usize, l: usize) -> [Sector; 4
     [a, b, c, d]
 }
 
-// Whether all four sectors of line l are INVALID.
-fn is_unused(marks: &[u8], l: usize) -> bool
-    requires { ⌜ 4 * l + 4 ≤ length (now marks) ⌝ }
-    ensures { λ r. ⌜ r ≡ unusedAt (now (marks .entry)) l ⌝ }
-{
-    let i = 4 * l;
-    (marks[i] == INVALID)
-        & (marks[i + 1] == INVALID)
-        & (marks[i + 2] == INVALID)
-        & (marks[i + 3] == INVALID)
-}
-
 // Whether a sector of line l is RESERVED.
 fn is_waiting(marks: &[u8], l: usize) -> bool
     requires { ⌜ 4 * l + 4 ≤ length (now marks) ⌝ }
@@ -112,25 +98,6 @@ fn is_dirty(marks: &[u8], l: usize) -> bool
 {
     let i = 4 * l;
     (VALID < marks[i]) | (VALID < marks[i + 1]) | (VALID < marks[i + 2]) | (VALID < marks[i + 3])
-}
-
-// Tags are block addresses.
-pub fn same_block(a: BlockAddress, b: BlockAddress) -> bool
-    ensures { λ r. ⌜ r ≡ eqb (a .0) (b .0) ⌝ }
-{
-    a.0 == b.0
-}
-
-// The tag is compared first: most ways differ there.
-fn holds_block(longs: &[u64], marks: &[u8], l: usize, block: BlockAddress) -> bool
-    requires { ⌜ (l < length (now longs)) × (4 * l + 4 ≤ length (now marks)) ⌝ }
-    ensures { λ r. ⌜ r ≡ holdsAt (now (longs .entry)) (now (marks .entry)) (block .0) l ⌝ }
-{
-    if same_block(BlockAddress(longs[l]), block) {
-        !is_unused(marks, l)
-    } else {
-        false
-    }
 }
 
 // `enough`: so many lines of the cache are dirty that a dirty line may go.
@@ -164,7 +131,7 @@ fn find(longs: &[u64], marks: &[u8], base: usize, ways: usize, block: BlockAddre
 {
     let mut w = 0;
     while w < ways {
-        if holds_block(longs, marks, base + w, block) {
+        if tables::holds_block(longs, marks, base + w, block) {
             return Found::At(w);
         }
         w += 1;
@@ -195,7 +162,7 @@ fn last_unused(marks: &[u8], base: usize, ways: usize) -> Found
     let mut w = ways;
     while 0 < w {
         let v = w - 1;
-        if is_unused(marks, base + v) {
+        if tables::is_unused(marks, base + v) {
             return Found::At(v);
         }
         w = v;
@@ -255,14 +222,6 @@ fn victim(words: &[u32], marks: &[u8], base: usize, ways: usize, enough: bool) -
         Found::At(w) => Found::At(w),
         Found::Nothing => way_of(earliest(words, marks, base, ways, enough)),
     }
-}
-
-// "(address / 128) mod sets".
-pub fn set_index(address: u64, sets: usize) -> usize
-    requires { ⌜ 1 ≤ sets ⌝ }
-    ensures { λ r. ⌜ r ≡ address / 128 % sets ⌝ }
-{
-    (address / 128 % (sets as u64)) as usize
 }
 
 // "100 × dirty ≥ P × lines".
@@ -398,7 +357,7 @@ pub fn decide(s: Settings, longs: &[u64], words: &[u32], marks: &[u8], x: Access
     let ways = s.ways;
     let n = s.sets * ways;
     let address = model::address_of(x);
-    let base = set_index(address, s.sets) * ways;
+    let base = model::set_index(address, s.sets) * ways;
     let found = find(longs, marks, base, ways, model::block_of(address));
     match found {
         Found::At(w) => met(words, marks, n, base, w, x),

@@ -49,11 +49,11 @@ fn line_fine(s: Settings, longs: &[u64], words: &[u32], marks: &[u8], l: usize) 
     if !live(s, longs, words, marks, l) {
         return (tag == 0) & (cycle == 0);
     }
-    let sets = s.sets as u64;
     let set = l / s.ways;
+    let home = model::set_index(tag, s.sets);
     (tag % 128 == 0)
         & (tag < 0x1_0000_0000_0000)
-        & ((tag / 128 % sets) as usize == set)
+        & (home == set)
         & (cycle <= latest)
         & no_twin(s, longs, words, marks, set * s.ways, l)
 }

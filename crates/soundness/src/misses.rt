@@ -69,8 +69,7 @@ fn set_reserves(s: Settings, longs: &[u64], words: &[u32], marks: &[u8], a: Sect
 {
     let block = block_of(a.0);
     let sector = sector_index(a.0);
-    let sets = s.sets as u64;
-    let first = (a.0 / 128 % sets) as usize * s.ways;
+    let first = model::set_index(a.0, s.sets) * s.ways;
     let n = s.ways;
     let mut w = 0;
     while w < n {

@@ -34,7 +34,7 @@ use Rattle.model.proofs.Places.{take-fit}
 use Rattle.model.proofs.SoundFacts.{Sound, parts, lines-are, line-at, four-at, holder-one, entry-at}
 use Rattle.tables.specs.declared.Layout.{Layout}
 use Rattle.tables.specs.Layout.{Placed}
-use Rattle.tables.specs.Raw.{First, sectorsFrom, statuses, masks, readables}
+use Rattle.tables.specs.Raw.{First, holdsAt, sectorsFrom, statuses, masks, readables}
 use Rattle.tables.specs.Telling.{telling}
 use Rattle.tables.proofs.Stores.{none}
 use Rattle.tables.proofs.Stands.{Stands, is-stands, stands-encode, withLines}
@@ -42,12 +42,8 @@ use Rattle.tables.proofs.Ones.{map-one}
 use Rattle.tables.proofs.Lines.{flag-of-bit, tag-at, status-at, lifted, store-stands}
 use Rattle.tables.proofs.Misses.{noEntry, misses-used, sent-at, count-at, tickets-at, remove-stands, entry-found, entry-missing}
 use Rattle.tables.proofs.Tellings.{refusal-leaves, done-leaves}
-use Rattle.steps.specs.Parts.{heldAt, Holding, arrivedAt, SectorFilled, LineFilled, releasing}
+use Rattle.steps.specs.Parts.{Holding, arrivedAt, SectorFilled, LineFilled, releasing}
 use Rattle.steps.proofs.Entries.{few-misses, some-tickets, few-tickets, kept-others, tickets-are, sent-is}
-
--- the ways of a set are among the lines
-pub set-room : (S : Settings) (a : ℕ) → 1 ≤ S .sets → 1 ≤ S .ways → setIndex S a * S .ways + S .ways ≤ linesOf S
-set-room S a h k = row-fits (S .ways) k (setIndex S a) (S .sets) (mod-lt (a / 128) h)
 
 -- ---- one sector
 
@@ -74,11 +70,11 @@ sector-filled at l k words marks {four} {x} below e f c =
 
 -- what is found by the code's block, and filled at the code's sector
 pub line-filled : (a : ℕ) {at : Layout} {n l block k : ℕ} {longs words marks words′ marks′ : List ℕ} → block ≡ blockOf a → k ≡ sectorIndex a → l < n
-    → heldAt longs marks block l ≡ true → SectorFilled at l k words marks words′ marks′ → LineFilled at n (blockOf a) (sectorIndex a) longs words marks words′ marks′
+    → holdsAt longs marks block l ≡ true → SectorFilled at l k words marks words′ marks′ → LineFilled at n (blockOf a) (sectorIndex a) longs words marks words′ marks′
 line-filled a {at} {n} {l} {longs = longs} {words = words} {marks = marks} {words′ = words′} {marks′ = marks′} e f inside held c = record {
   line = l;
   inside = inside;
-  held = subst (λ (b : ℕ). heldAt longs marks b l ≡ true) e held;
+  held = subst (λ (b : ℕ). holdsAt longs marks b l ≡ true) e held;
   filled = subst (λ (j : ℕ). SectorFilled at l j words marks words′ marks′) f c;
 }
 
@@ -134,7 +130,7 @@ module _ (S : Settings) (t : Tables) (ok : Sound S t) {longs words marks : List 
   four : (l : ℕ) → l < length (t .lines) → length (getD (t .lines) l fresh .sectors) ≡ 4
   four l k = four-at S t ok (getD (t .lines) l fresh) (in-getD (t .lines) l fresh k)
 
-  held-at : (l b : ℕ) → l < length (t .lines) → heldAt longs marks b l ≡ holds b (getD (t .lines) l fresh)
+  held-at : (l b : ℕ) → l < length (t .lines) → holdsAt longs marks b l ≡ holds b (getD (t .lines) l fresh)
   held-at l b k =
       let m = status-at S t h p (lines-are S t ok) l k in
       held-of (getD (t .lines) l fresh .sectors) (getD (t .lines) l fresh .tag) b (four l k) (tag-at S t h p (lines-are S t ok) l k)
@@ -151,7 +147,7 @@ module _ (S : Settings) (t : Tables) (ok : Sound S t) {longs words marks : List 
       let (i, b, z) = in-index (t .lines) fresh x m in
       let e : holds (blockOf a) (getD (t .lines) i fresh) ≡ true = ap (holds (blockOf a)) z ∙ q in
       let place : setIndex S a * S .ways + i % S .ways ≡ i = ap (λ (n : ℕ). n * S .ways + i % S .ways) (set-of a i b e) ∙ div-add-mod' i (S .ways) in
-      (i % S .ways, mod-lt i some, ap (heldAt longs marks (blockOf a)) place ∙ held-at i (blockOf a) b ∙ e)
+      (i % S .ways, mod-lt i some, ap (holdsAt longs marks (blockOf a)) place ∙ held-at i (blockOf a) b ∙ e)
     where
       set-of : (a i : ℕ) → i < length (t .lines) → holds (blockOf a) (getD (t .lines) i fresh) ≡ true → setIndex S a ≡ i / S .ways
       set-of a i b e =

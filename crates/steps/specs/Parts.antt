@@ -13,7 +13,7 @@ use Rattle.model.specs.declared.Sector.{Sector}
 use Rattle.model.specs.declared.Event.the-variants.{Filled}
 use Rattle.model.specs.declared.Told.{Told}
 use Rattle.tables.specs.declared.Layout.{Layout}
-use Rattle.tables.specs.Raw.{First, sectorsFrom, statuses, masks, readables}
+use Rattle.tables.specs.Raw.{First, holdsAt, sectorsFrom, statuses, masks, readables}
 
 -- ---- send
 
@@ -36,18 +36,9 @@ pub record HeadMarked (at : Layout) (n : ℕ) (longs marks marks′ : List ℕ) 
 
 -- ---- fill
 
--- all four statuses of line l are 0
-abbrev pub unusedAt : List ℕ → ℕ → Bool
-unusedAt marks l =
-    eqb (getD marks (4 * l) 0) 0 && eqb (getD marks (4 * l + 1) 0) 0 && eqb (getD marks (4 * l + 2) 0) 0 && eqb (getD marks (4 * l + 3) 0) 0
-
--- the line has this tag and a status that isn't 0
-abbrev pub heldAt : List ℕ → List ℕ → ℕ → ℕ → Bool
-heldAt longs marks block l = eqb (getD longs l 0) block && not (unusedAt marks l)
-
 -- one of the n lines from base has it
 abbrev pub Holding : List ℕ → List ℕ → ℕ → ℕ → ℕ → Type 0
-Holding longs marks base n block = (k : ℕ) × (k < n) × (heldAt longs marks block (base + k) ≡ true)
+Holding longs marks base n block = (k : ℕ) × (k < n) × (holdsAt longs marks block (base + k) ≡ true)
 
 -- four sectors of which sector k has come
 abbrev pub arrivedAt : ℕ → List Sector → List Sector
@@ -64,7 +55,7 @@ pub record SectorFilled (at : Layout) (l k : ℕ) (words marks words′ marks′
 pub record LineFilled (at : Layout) (n block k : ℕ) (longs words marks words′ marks′ : List ℕ) : Type 0 where
   pub line : ℕ
   pub inside : line < n
-  pub held : heldAt longs marks block line ≡ true
+  pub held : holdsAt longs marks block line ≡ true
   pub filled : SectorFilled at line k words marks words′ marks′
 
 -- an address filled, with the tickets released

@@ -21,7 +21,8 @@ ghost use Rattle.model.specs.Lent.{lent};
 ghost use Rattle.model.specs.Steps.{send, arrived, fill, tick};
 ghost use Rattle.model.specs.Inner.{Fit, Held, Does};
 ghost use Rattle.tables.specs.Layout.{Placed};
-ghost use Rattle.steps.specs.Parts.{HeadAsked, HeadMarked, unusedAt, heldAt, Holding, SectorFilled, LineFilled, releasing};
+ghost use Rattle.tables.specs.Raw.{holdsAt};
+ghost use Rattle.steps.specs.Parts.{HeadAsked, HeadMarked, Holding, SectorFilled, LineFilled, releasing};
 
 // ---- send
 
@@ -59,35 +60,14 @@ pub fn send_step(s: Settings, longs: &mut [u64], words: &mut [u32], marks: &mut 
 
 // ---- fill
 
-// Whether all four sectors of line `l` are INVALID.
-fn is_unused(marks: &[u8], l: usize) -> bool
-    requires { ⌜ 4 * l + 4 ≤ length (now marks) ⌝ }
-    ensures { λ r. ⌜ r ≡ unusedAt (now (marks .entry)) l ⌝ }
-{
-    let i = 4 * l;
-    (marks[i] == 0) & (marks[i + 1] == 0) & (marks[i + 2] == 0) & (marks[i + 3] == 0)
-}
-
-// The tag is compared first: most ways differ there.
-fn holds_block(longs: &[u64], marks: &[u8], l: usize, block: BlockAddress) -> bool
-    requires { ⌜ (l < length (now longs)) × (4 * l + 4 ≤ length (now marks)) ⌝ }
-    ensures { λ r. ⌜ r ≡ heldAt (now (longs .entry)) (now (marks .entry)) (block .0) l ⌝ }
-{
-    if longs[l] == block.0 {
-        !is_unused(marks, l)
-    } else {
-        false
-    }
-}
-
 // The line that has the block, among the ways of its set from `base`.
 fn find_line(longs: &[u64], marks: &[u8], base: usize, ways: usize, block: BlockAddress) -> usize
     requires { ⌜ (base + ways ≤ length (now longs)) × (4 * (base + ways) ≤ length (now marks)) ⌝ }
     requires { ⌜ Holding (now longs) (now marks) base ways (block .0) ⌝ }
-    ensures { λ r. ⌜ (base ≤ r) × (r < base + ways) × (heldAt (now (longs .entry)) (now (marks .entry)) (block .0) r ≡ true) ⌝ }
+    ensures { λ r. ⌜ (base ≤ r) × (r < base + ways) × (holdsAt (now (longs .entry)) (now (marks .entry)) (block .0) r ≡ true) ⌝ }
 {
     let mut l = base;
-    while !holds_block(longs, marks, l, block) {
+    while !tables::holds_block(longs, marks, l, block) {
         l += 1;
     }
     l
@@ -136,7 +116,7 @@ fn fill_line(
         (now (words .exit)) (now (marks .exit)) ⌝ }
 {
     let ways = s.ways;
-    let set = (address / 128 % (s.sets as u64)) as usize;
+    let set = model::set_index(address, s.sets);
     let block = model::block_of(address);
     let l = find_line(longs, marks, set * ways, ways, block);
     fill_sector(at, words, marks, l, model::sector_index(address));

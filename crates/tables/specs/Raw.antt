@@ -1,12 +1,13 @@
 -- Words for the raw numbers of the lent slices, which the leaves' contracts speak of.
 use mathlib.Core.Path.{_≡_}
-use Prim.Native.Nat.{ℕ, _+_, _≤_, _<_}
+use Prim.Native.Nat.{ℕ, _+_, _*_, _≤_, _<_}
+use mathlib.Core.Bool.{Bool, not, _&&_}
 use mathlib.Core.List.{List, [], _∷_, map}
 use lib.ListN.{getD}
 use lib.Dec.{eqb}
 use Rattle.model.specs.Words.{pick}
 use Rattle.model.specs.Numbers.{statusNumber, statusOf}
-use Rattle.model.specs.Lent.{bit}
+use Rattle.model.specs.Lent.{tagAt, statusAt, bit}
 use Rattle.model.specs.declared.Sector.{Sector}
 use Rattle.model.specs.declared.Event.{Event}
 use Rattle.model.specs.declared.Event.the-variants.{ReadSent, WriteBackSent}
@@ -22,6 +23,17 @@ abbrev pub frontAt : List ℕ → ℕ → List ℕ → ℕ → List ℕ → ℕ 
 frontAt longs lq words wq marks mq =
     pick (eqb (getD marks mq 0) 1) (ReadSent (getD longs lq 0))
     (WriteBackSent (getD longs lq 0) (getD words wq 0) (getD words (wq + 1) 0) (getD words (wq + 2) 0) (getD words (wq + 3) 0))
+
+-- ---- line l
+
+-- all four statuses are 0
+abbrev pub unusedAt : List ℕ → ℕ → Bool
+unusedAt marks l =
+    eqb (statusAt marks (4 * l)) 0 && eqb (statusAt marks (4 * l + 1)) 0 && eqb (statusAt marks (4 * l + 2)) 0 && eqb (statusAt marks (4 * l + 3)) 0
+
+-- it has this tag and a status that isn't 0
+abbrev pub holdsAt : List ℕ → List ℕ → ℕ → ℕ → Bool
+holdsAt longs marks b l = eqb (tagAt longs l) b && not (unusedAt marks l)
 
 -- ---- the four sectors of a line, whose statuses stand from s, masks from w and readable marks from r
 

@@ -1,5 +1,5 @@
 // Leaves over the lent slices at offsets inside them: where the parts lie, a region that closes up, a search, the queue, the miss
-// table, a line's four sectors. The contracts speak of the raw numbers.
+// table, a line's tag and statuses, its four sectors. The contracts speak of the raw numbers.
 use model::BlockAddress;
 use model::Event;
 use model::Refusal;
@@ -14,6 +14,7 @@ ghost use mathlib.Core.Bool.{true};
 ghost use Prim.Native.Nat.{_+_, _-_, _*_, _≤_, _<_};
 ghost use mathlib.Core.List.{[], _∷_};
 ghost use lib.ListN.{length};
+ghost use lib.Dec.{eqb};
 ghost use Rattle.model.specs.Range.{inRange};
 ghost use Rattle.model.specs.Words.{fit};
 ghost use Rattle.model.specs.Numbers.{statusNumber};
@@ -21,7 +22,7 @@ ghost use Rattle.model.specs.Lent.{bit};
 ghost use Rattle.model.specs.Regions.{region, put, closed};
 ghost use Rattle.model.specs.declared.Event.the-variants as event;
 ghost use Rattle.tables.specs.Layout.{Placed};
-ghost use Rattle.tables.specs.Raw.{First, frontAt, sectorFrom, sectorsFrom, statuses, masks, readables};
+ghost use Rattle.tables.specs.Raw.{First, frontAt, unusedAt, holdsAt, sectorFrom, sectorsFrom, statuses, masks, readables};
 ghost use Rattle.tables.specs.Telling.{telling};
 
 // Where each part of the tables begins, behind the part before it.
@@ -307,6 +308,36 @@ pub fn new_entry(
     longs[l] = address.0;
     words[w] = ticket;
     marks[m] = 1;
+}
+
+// ---- a line's tag and statuses
+
+// Whether all four sectors of line `l` are INVALID.
+pub fn is_unused(marks: &[u8], l: usize) -> bool
+    requires { ⌜ 4 * l + 4 ≤ length (now marks) ⌝ }
+    ensures { λ r. ⌜ r ≡ unusedAt (now (marks .entry)) l ⌝ }
+{
+    let i = 4 * l;
+    (marks[i] == 0) & (marks[i + 1] == 0) & (marks[i + 2] == 0) & (marks[i + 3] == 0)
+}
+
+// Tags are block addresses.
+pub fn same_block(a: BlockAddress, b: BlockAddress) -> bool
+    ensures { λ r. ⌜ r ≡ eqb (a .0) (b .0) ⌝ }
+{
+    a.0 == b.0
+}
+
+// The tag is compared first: most ways differ there.
+pub fn holds_block(longs: &[u64], marks: &[u8], l: usize, block: BlockAddress) -> bool
+    requires { ⌜ (l < length (now longs)) × (4 * l + 4 ≤ length (now marks)) ⌝ }
+    ensures { λ r. ⌜ r ≡ holdsAt (now (longs .entry)) (now (marks .entry)) (block .0) l ⌝ }
+{
+    if same_block(BlockAddress(longs[l]), block) {
+        !is_unused(marks, l)
+    } else {
+        false
+    }
 }
 
 // ---- a line's four sectors

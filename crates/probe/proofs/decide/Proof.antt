@@ -2,7 +2,7 @@ use Prim.Native.Nat.{_+_, _*_, _≤_}
 use native.Mathlib.Omega.{arith}
 use borrow.Author.Needs.{needs}
 use Rattle.model.specs.Range.{linesOf}
-use Rattle.probe.proofs.Meetings.{set-room, found-below, decided-met, decided-missed}
+use Rattle.probe.proofs.Meetings.{ways-room, found-below, decided-met, decided-missed}
 use Rattle.probe.proofs.decide.Statement.{statement}
 use Rattle.probe.proofs.decide.Tie as tie
 
@@ -10,7 +10,7 @@ room : (c : tie.After-set-index) → c .set-index .result * c .before .before .b
 room c =
     let start = c .before .before .before .before .before .before in
     let a = start .args in
-    set-room (a .s) (a .longs .now) (a .words .now) (a .marks .now) (start .pre) (a .x) (c .before .address-of .ensures) (c .set-index .ensures)
+    ways-room (a .s) (a .longs .now) (a .words .now) (a .marks .now) (start .pre) (a .x) (c .before .address-of .ensures) (c .set-index .ensures)
 
 pub decide-spec : {M : Type 1} → statement M
 decide-spec =

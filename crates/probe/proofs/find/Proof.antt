@@ -1,7 +1,7 @@
 use native.Mathlib.Omega.{arith}
 use borrow.Author.Needs.{needs}
 use Prim.Native.Nat.{_+_, _-_}
-use Rattle.probe.specs.Scan.{holdsAt}
+use Rattle.tables.specs.Raw.{holdsAt}
 use Rattle.probe.proofs.Scans.{Unfound, unfound-start, unfound-stop, unfound-more, unfound-end}
 use Rattle.probe.proofs.find.Statement.{statement}
 use Rattle.probe.proofs.find.Tie as tie

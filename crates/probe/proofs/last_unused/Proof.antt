@@ -2,7 +2,7 @@ use Prim.Native.Nat.{_+_, _-_}
 use mathlib.Core.Path.{_≡_}
 use native.Mathlib.Omega.{arith}
 use borrow.Author.Needs.{needs}
-use Rattle.probe.specs.Scan.{unusedAt}
+use Rattle.tables.specs.Raw.{unusedAt}
 use Rattle.probe.proofs.Scans.{Unseen, unseen-start, unseen-stop, unseen-more, unseen-end}
 use Rattle.probe.proofs.last_unused.Statement.{statement}
 use Rattle.probe.proofs.last_unused.Tie as tie

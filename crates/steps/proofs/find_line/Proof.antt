@@ -5,24 +5,24 @@ use mathlib.Core.List.{List}
 use Prim.Native.Nat.{ℕ, _+_, _-_, _≤_, _<_}
 use native.Mathlib.Omega.{arith}
 use borrow.Author.Tests.{not-true, not-false}
-use Rattle.steps.specs.Parts.{heldAt}
+use Rattle.tables.specs.Raw.{holdsAt}
 use Rattle.steps.proofs.find_line.Statement.{statement}
 use Rattle.steps.proofs.find_line.Tie as tie
 
 abbrev Inv-loop : tie.InvT-loop
-Inv-loop longs marks base ways block l₀ l = (base ≤ l) × ((k : ℕ) × (l ≤ k) × (k < base + ways) × (heldAt longs marks (block .0) k ≡ true))
+Inv-loop longs marks base ways block l₀ l = (base ≤ l) × ((k : ℕ) × (l ≤ k) × (k < base + ways) × (holdsAt longs marks (block .0) k ≡ true))
 
 abbrev μ-loop : tie.MeasureT-loop
 μ-loop longs marks base ways block l₀ l = base + ways - l
 
 -- not at l, so past it
-next : (longs marks : List ℕ) (block l top : ℕ) {b : Bool} → (k : ℕ) × (l ≤ k) × (k < top) × (heldAt longs marks block k ≡ true) → b ≡ heldAt longs marks block l → not b ≡ true
-    → (k : ℕ) × (l + 1 ≤ k) × (k < top) × (heldAt longs marks block k ≡ true)
+next : (longs marks : List ℕ) (block l top : ℕ) {b : Bool} → (k : ℕ) × (l ≤ k) × (k < top) × (holdsAt longs marks block k ≡ true) → b ≡ holdsAt longs marks block l → not b ≡ true
+    → (k : ℕ) × (l + 1 ≤ k) × (k < top) × (holdsAt longs marks block k ≡ true)
 next longs marks block l top {b} w e n =
-    let q : (w .0 ≡ l → ⊥) = λ q. true≢false (sym (w .3) ∙ ap (heldAt longs marks block) q ∙ sym e ∙ not-true b n) in
+    let q : (w .0 ≡ l → ⊥) = λ q. true≢false (sym (w .3) ∙ ap (holdsAt longs marks block) q ∙ sym e ∙ not-true b n) in
     (w .0, omega arith, w .2, w .3)
 
-here : (longs marks : List ℕ) (block l : ℕ) {b : Bool} → b ≡ heldAt longs marks block l → not b ≡ false → heldAt longs marks block l ≡ true
+here : (longs marks : List ℕ) (block l : ℕ) {b : Bool} → b ≡ holdsAt longs marks block l → not b ≡ false → holdsAt longs marks block l ≡ true
 here longs marks block l {b} e n = sym e ∙ not-false b n
 
 pub find-line-spec : {M : Type 1} → statement M

@@ -1,3 +1,4 @@
+-- A wholly invalid line, and any other.
 use native.Mathlib.Omega.{arith}
 use native.Mathlib.Nat.{div-add-mod'}
 use borrow.Author.Needs.{needs}
@@ -19,7 +20,12 @@ line-fine-spec =
     (λ c κs. search needs)
     (λ c. let a = c .before .before .before .before .before .before .before .before .args in idle-line (a .s) (a .longs .now) (a .words .now) (a .marks .now) (a .l) (said-no (c .before .live .ensures) (c .if1 .taken)))
     (λ c. search needs)
-    (λ c. search needs)
-    (λ c. let a = c .before .before .before .before .before .before .before .before .before .before .args in omega (arith, div-add-mod' (a .l) (a .s .ways)))
-    (λ c κs. let start = c .before .before .before .before .before .before .before .before .before .before in let a = start .args in (start .pre .0, omega (arith, div-add-mod' (a .l) (a .s .ways)), start .pre .1))
-    (λ c. let tested = c .before .before .before in let start = tested .before .before .before .before .before .before .before .before in let a = start .args in live-line (a .s) (a .longs .now) (a .words .now) (a .marks .now) (a .l) (start .pre .0 .ways) (said-yes (tested .before .live .ensures) (tested .if1 .left)) (c .no-twin .ensures)))
+    (λ c κs. search needs)
+    (λ c. let a = c .before .before .before .before .before .before .before .before .before .before .before .args in omega (arith, div-add-mod' (a .l) (a .s .ways)))
+    (λ c κs. let start = c .before .before .before .before .before .before .before .before .before .before .before in let a = start .args in (start .pre .0, omega (arith, div-add-mod' (a .l) (a .s .ways)), start .pre .1))
+    (λ c.
+    let tested = c .before .before .before .before in
+    let start = tested .before .before .before .before .before .before .before .before in
+    let a = start .args in
+    rw (c .before .before .set-index .ensures)
+    (live-line (a .s) (a .longs .now) (a .words .now) (a .marks .now) (a .l) (start .pre .0 .ways) (said-yes (tested .before .live .ensures) (tested .if1 .left)) (c .no-twin .ensures))))

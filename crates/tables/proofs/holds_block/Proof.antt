@@ -1,6 +1,7 @@
+-- By the tag, then by the statuses.
 use borrow.Author.Needs.{needs}
-use Rattle.probe.proofs.holds_block.Statement.{statement}
-use Rattle.probe.proofs.holds_block.Tie as tie
+use Rattle.tables.proofs.holds_block.Statement.{statement}
+use Rattle.tables.proofs.holds_block.Tie as tie
 
 pub holds-block-spec : {M : Type 1} → statement M
 holds-block-spec =
