@@ -16,15 +16,35 @@ remove-spec =
     (λ c. search needs)  -- sub-left
     (λ c. search needs)  -- add-close-longs
     (λ c κs. search needs)  -- close-longs-requires
-    (λ c. let a = c .before .before .before .before .before .before .before .before .before .args in let s = stride (a .readers) (a .n) (a .e) (omega arith) in omega arith)  -- mul-close-words
-    (λ c. let a = c .before .before .before .before .before .before .before .before .before .before .args in let s = stride (a .readers) (a .n) (a .e) (omega arith) in omega arith)  -- add-close-words
-    (λ c. let a = c .before .before .before .before .before .before .before .before .before .before .args in let s = stride (a .readers) (a .n) (a .e) (omega arith) in omega arith)  -- mul-close-words-2
-    (λ c κs. let a = c .before .before .before .before .before .before .before .before .before .before .args in let s = stride (a .readers) (a .n) (a .e) (omega arith) in (omega arith, omega arith))  -- close-words-requires
-    (λ c. omega (arith, c .before .before .before .before .before .before .before .before .before .before .before .before .before .before .before))  -- add-close-marks
+    (λ c.
+    let start = c .before .before .before .before .before .before .before .before .before in
+    let a = start .args in let s = stride (a .readers) (a .n) (a .e) (omega arith) in omega arith)  -- mul-close-words
+    (λ c.
+    let start = c .before .before .before .before .before .before .before .before .before .before in
+    let a = start .args in let s = stride (a .readers) (a .n) (a .e) (omega arith) in omega arith)  -- add-close-words
+    (λ c.
+    let start = c .before .before .before .before .before .before .before .before .before .before in
+    let a = start .args in let s = stride (a .readers) (a .n) (a .e) (omega arith) in omega arith)  -- mul-close-words-2
+    (λ c κs.
+    let start = c .before .before .before .before .before .before .before .before .before .before in
+    let a = start .args in let s = stride (a .readers) (a .n) (a .e) (omega arith) in (omega arith, omega arith))  -- close-words-requires
+    (λ c.
+    let p15 = c .before .before .before .before .before .before .before .before .before .before .before .before .before .before .before in
+    omega (arith, p15))  -- add-close-marks
     (λ c κs. search needs)  -- close-marks-requires
-    (λ c. omega (arith, c .before .before .before .before .before .before .before .before .before .before .before .before .before .before .before .before .before .before .before .before))  -- add-close-marks-2
-    (λ c κs. (omega (arith, c .before .before .before .before .before .before .before .before .before .before .before .before .before .before .before .before .before .before .before .before), omega (arith, c .before .before .before .before .before .before .before .before .before .before .before .before .before .before .before .before .before .before .before .before)))  -- close-marks-requires-2
+    (λ c.
+    let p20 = c .before .before .before .before .before .before .before .before .before .before .before .before .before .before .before .before .before .before .before .before in
+    omega (arith, p20))  -- add-close-marks-2
+    (λ c κs.
+    let p20 = c .before .before .before .before .before .before .before .before .before .before .before .before .before .before .before .before .before .before .before .before in
+    (omega (arith, p20), omega (arith, p20)))  -- close-marks-requires-2
     (λ c. search needs)  -- same-length
     (λ c. search needs)  -- same-length-2
     (λ c. search needs)  -- same-length-3
-    (λ c. let a = c .before .before .before .before .before .before .before .before .before .before .before .before .before .before .before .before .before .before .before .before .before .before .before .args in (c .before .before .before .before .before .before .before .before .before .before .before .before .before .before .before .before .before .close-longs .ensures, c .before .before .before .before .before .before .before .before .before .before .before .before .close-words .ensures, c .before .before .close-marks2 .ensures ∙ ap (λ (l : List ℕ). closed l (a .at .counts + a .e) (a .n - a .e) 1) (c .before .before .before .before .before .before .before .close-marks .ensures))))  -- returns
+    (λ c.
+    let again = c .before .before in
+    let marks = again .before .before .before .before .before in
+    let words = marks .before .before .before .before .before in
+    let longs = words .before .before .before .before .before in
+    let start = longs .before .before .before .before .before .before in
+    let a = start .args in (longs .close-longs .ensures, words .close-words .ensures, again .close-marks2 .ensures ∙ ap (λ (l : List ℕ). closed l (a .at .counts + a .e) (a .n - a .e) 1) (marks .close-marks .ensures))))  -- returns
