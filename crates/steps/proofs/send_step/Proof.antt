@@ -30,11 +30,7 @@ send-step-spec =
     let laid = used .before .before in
     let start = laid .before .before .before .before in
     let i = start .pre .are in let z = stands-fit (i .range) (is-stands i) in let p = laid .laid-out .ensures in ((omega arith, omega arith, omega arith, omega arith), send-asked _ _ i p (used .used .ensures) (test .if1 .left)))  -- mark-head-requires
-    (λ c κs.
-    let used = c .before .before .before .before .before .before .before .before .before .before .before .before .before in
-    let laid = used .before .before in
-    let start = laid .before .before .before .before in
-    let i = start .pre .are in let z = stands-fit (i .range) (is-stands i) in let p = laid .laid-out .ensures in let u = used .used .ensures .most in (omega arith, omega arith, omega arith, omega arith))  -- pop-requires
+    (λ c κs. let i = c .before .before .before .before .before .before .before .before .before .before .before .before .before .before .before .before .before .before .before .pre .are in let z = stands-fit (i .range) (is-stands i) in let p = c .before .before .before .before .before .before .before .before .before .before .before .before .before .before .before .laid-out .ensures in let u = c .before .before .before .before .before .before .before .before .before .before .before .before .before .used .ensures .most in (omega arith, omega arith, omega arith, omega arith))  -- pop-requires
     (λ c κs. search needs)  -- blank-requires
     (λ c. search needs)  -- same-length-2
     (λ c. search needs)  -- same-length-3
