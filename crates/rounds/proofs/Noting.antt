@@ -30,16 +30,17 @@ abbrev leads : List Event → Bool
 leads [] = false
 leads (e ∷ es) = isRefusal e
 
-abbrev first : Outcome Tables → Bool
-first (refused n) = false
-first (done es u) = leads es
+module _ {T : Type 0} where
+  abbrev first : Outcome T → Bool
+  first (refused n) = false
+  first (done es u) = leads es
 
-pub record Plain (o : Outcome Tables) : Type 0 where
-  pub plain : first o ≡ false
+  pub record Plain (o : Outcome T) : Type 0 where
+    pub plain : first o ≡ false
 
-plain-by : (b : Bool) {o p : Outcome Tables} → Plain o → Plain p → Plain (pick b o p)
-plain-by true h g = h
-plain-by false h g = g
+  pub plain-by : (b : Bool) {o p : Outcome T} → Plain o → Plain p → Plain (pick b o p)
+  plain-by true h g = h
+  plain-by false h g = g
 
 sent-plain : (q : Queued) → isRefusal (sentEvent q) ≡ false
 sent-plain (reading a) = refl
