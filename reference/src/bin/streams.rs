@@ -4,12 +4,13 @@
 //! The program reads a stream on standard input, writes the events to standard
 //! output and as its last line on standard error `stop N consumed C written W`.
 
+use reference::process::{hex, output_of};
 use reference::random::Random;
 use reference::runner::{self, Stopped};
 use reference::streams::{any_kind, stream, Kind, KINDS};
 use std::collections::BTreeMap;
-use std::io::{self, Write};
-use std::process::{Command, ExitCode, Output, Stdio};
+use std::io;
+use std::process::{ExitCode, Output};
 
 const USAGE: &str = "usage: streams --program PATH [--args \"WORDS\"] [--seed N] [--count N]
                [--only CASE] [--room N] [--keep FILE]
@@ -17,9 +18,6 @@ const USAGE: &str = "usage: streams --program PATH [--args \"WORDS\"] [--seed N]
   --only   runs this one case of the seed
   --room   event room of the reference (the program's own is set through --args)
   --keep   where the stream of a failed case is written";
-
-/// What a fresh pipe takes without a reader.
-const PIPE_ROOM: usize = 4096;
 
 struct Options {
     program: String,
@@ -56,29 +54,6 @@ fn options() -> Option<Options> {
         }
     }
     (!options.program.is_empty()).then_some(options)
-}
-
-fn run_program(options: &Options, stream: &[u8]) -> io::Result<Output> {
-    let mut child = Command::new(&options.program)
-        .args(&options.args)
-        .stdin(Stdio::piped())
-        .stdout(Stdio::piped())
-        .stderr(Stdio::piped())
-        .spawn()?;
-    let mut input = child.stdin.take().expect("standard input is a pipe");
-    // A program that stops early may leave its input unread, so a broken pipe is no fault.
-    if stream.len() <= PIPE_ROOM {
-        let _ = input.write_all(stream);
-        drop(input);
-        return child.wait_with_output();
-    }
-    let stream = stream.to_vec();
-    let feeder = std::thread::spawn(move || {
-        let _ = input.write_all(&stream);
-    });
-    let output = child.wait_with_output();
-    feeder.join().expect("the feeder does not panic");
-    output
 }
 
 /// The first six words of the last line on standard error.
@@ -132,7 +107,7 @@ fn run_case(
     let kind = kind_of_case(&mut random, case);
     let bytes = stream(&mut random, kind);
     let stopped = runner::run(&bytes, &mut runner::tables_for(&bytes), room);
-    let output = run_program(options, &bytes)?;
+    let output = output_of(&options.program, &options.args, &bytes)?;
     *counts.entry(kind).or_default().entry(stopped.number).or_default() += 1;
 
     let Some(text) = difference(&output, &stopped, &room[..stopped.written]) else {
@@ -145,13 +120,6 @@ fn run_case(
         std::fs::write(path, &bytes)?;
     }
     Ok(false)
-}
-
-/// At most 400 bytes of it.
-fn hex(bytes: &[u8]) -> String {
-    let shown: Vec<String> = bytes.iter().take(400).map(|byte| format!("{byte:02x}")).collect();
-    let rest = if bytes.len() > 400 { " .." } else { "" };
-    shown.join(" ") + rest
 }
 
 fn print_counts(counts: &Counts) {
