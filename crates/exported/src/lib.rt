@@ -15,6 +15,11 @@ ghost use Rattle.model.specs.Runner.{run};
 ghost use Rattle.rounds.specs.Waiting.{waitCall};
 ghost use Rattle.exported.specs.Exported.{settingsOf, verdictNumber, lengthFor, accessFor, roundNumber, Called, WaitCalled, RunCalled};
 
+// With fewer bytes of event room nothing is called: what one call, and what a wait, can need.
+const EVENT_ROOM: usize = 64;
+
+const WAIT_ROOM: usize = 9600;
+
 fn settings(sets: u32, ways: u32, percent: u32, entries: u32, readers: u32, places: u32) -> Settings
     ensures { λ r. ⌜ r ≡ (settingsOf sets ways percent entries readers places) ⌝ }
 {
@@ -163,7 +168,7 @@ pub extern "C" fn labintugmo_read(
     ensures { λ r. ⌜ Called (accessCall (settingsOf sets ways percent entries readers places) (Read address 0 ticket) (lent (now (longs .entry)) (now (words .entry)) (now (marks .entry)))) (lent (now (longs .entry)) (now (words .entry)) (now (marks .entry)))
         (now (events .entry)) r (now (events .exit)) (lent (now (longs .exit)) (now (words .exit)) (now (marks .exit))) ⌝ }
 {
-    if events.len() < 64 {
+    if events.len() < EVENT_ROOM {
         return 0;
     }
     let s = settings(sets, ways, percent, entries, readers, places);
@@ -189,7 +194,7 @@ pub extern "C" fn labintugmo_write(
     ensures { λ r. ⌜ Called (accessCall (settingsOf sets ways percent entries readers places) (Write address mask 0) (lent (now (longs .entry)) (now (words .entry)) (now (marks .entry)))) (lent (now (longs .entry)) (now (words .entry)) (now (marks .entry)))
         (now (events .entry)) r (now (events .exit)) (lent (now (longs .exit)) (now (words .exit)) (now (marks .exit))) ⌝ }
 {
-    if events.len() < 64 {
+    if events.len() < EVENT_ROOM {
         return 0;
     }
     let s = settings(sets, ways, percent, entries, readers, places);
@@ -213,7 +218,7 @@ pub extern "C" fn labintugmo_send(
     ensures { λ r. ⌜ Called (sendCall (settingsOf sets ways percent entries readers places) (lent (now (longs .entry)) (now (words .entry)) (now (marks .entry)))) (lent (now (longs .entry)) (now (words .entry)) (now (marks .entry)))
         (now (events .entry)) r (now (events .exit)) (lent (now (longs .exit)) (now (words .exit)) (now (marks .exit))) ⌝ }
 {
-    if events.len() < 64 {
+    if events.len() < EVENT_ROOM {
         return 0;
     }
     let s = settings(sets, ways, percent, entries, readers, places);
@@ -238,7 +243,7 @@ pub extern "C" fn labintugmo_fill(
     ensures { λ r. ⌜ Called (fillCall (settingsOf sets ways percent entries readers places) address (lent (now (longs .entry)) (now (words .entry)) (now (marks .entry)))) (lent (now (longs .entry)) (now (words .entry)) (now (marks .entry)))
         (now (events .entry)) r (now (events .exit)) (lent (now (longs .exit)) (now (words .exit)) (now (marks .exit))) ⌝ }
 {
-    if events.len() < 64 {
+    if events.len() < EVENT_ROOM {
         return 0;
     }
     let s = settings(sets, ways, percent, entries, readers, places);
@@ -263,7 +268,7 @@ pub extern "C" fn labintugmo_tick(
     ensures { λ r. ⌜ Called (tickCall (settingsOf sets ways percent entries readers places) cycle (lent (now (longs .entry)) (now (words .entry)) (now (marks .entry)))) (lent (now (longs .entry)) (now (words .entry)) (now (marks .entry)))
         (now (events .entry)) r (now (events .exit)) (lent (now (longs .exit)) (now (words .exit)) (now (marks .exit))) ⌝ }
 {
-    if events.len() < 64 {
+    if events.len() < EVENT_ROOM {
         return 0;
     }
     let s = settings(sets, ways, percent, entries, readers, places);
@@ -291,7 +296,7 @@ pub extern "C" fn labintugmo_access(
     ensures { λ r. ⌜ Called (accessCall (settingsOf sets ways percent entries readers places) (accessFor «is_write» address mask ticket) (lent (now (longs .entry)) (now (words .entry)) (now (marks .entry)))) (lent (now (longs .entry)) (now (words .entry)) (now (marks .entry)))
         (now (events .entry)) r (now (events .exit)) (lent (now (longs .exit)) (now (words .exit)) (now (marks .exit))) ⌝ }
 {
-    if events.len() < 64 {
+    if events.len() < EVENT_ROOM {
         return 0;
     }
     let s = settings(sets, ways, percent, entries, readers, places);
@@ -336,7 +341,7 @@ pub extern "C" fn labintugmo_wait(
     if round.len() != 1 {
         return 0;
     }
-    if events.len() < 9600 {
+    if events.len() < WAIT_ROOM {
         return 0;
     }
     let s = settings(sets, ways, percent, entries, readers, places);
