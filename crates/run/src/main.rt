@@ -1,33 +1,46 @@
 // Runs a command stream of any length, from standard input or the file that the first argument names, part by part: its
 // events go to standard output, and one last line on standard error says why it stops and what was consumed and written.
-mod first;
-mod parts;
 mod says;
-mod work;
 
-use work::Work;
-ghost use mathlib.Core.Path.{_≡_};
+use streaming::first;
+use streaming::parts;
+use streaming::parts::Started;
+use streaming::rooms;
+use streaming::scope::Scope;
+use streaming::work;
+use streaming::work::Work;
 ghost use Prim.Native.Nat.{_≤_};
-ghost use lib.ListN.{length};
-ghost use Rattle.run.specs.Works.{Sure};
+ghost use lib.ListN.{length, take};
+ghost use Rattle.model.specs.Lent.{lent};
+ghost use Rattle.runner.specs.Lengths.{lengthsFor, Long};
+ghost use Rattle.streaming.specs.Works.{Sure};
 
-// Room for the largest tables: 1,024 lines, 64 miss entries of 8 readers, 64 queue places.
-fn longs_room() -> [u64; 1152]
-    ensures { λ r. ⌜ 1152 ≡ length r ⌝ }
+// The first record, then the rest, on slices as long as the stream's settings ask.
+fn run_all(
+    fd: i32,
+    buf: &mut [u8],
+    longs: &mut [u64],
+    words: &mut [u32],
+    marks: &mut [u8],
+    w: Work,
+) -> Work
+    requires { ⌜ w .have ≤ length (now buf) ⌝ }
+    requires { ⌜ Long (lent (now longs) (now words) (now marks)) (lengthsFor (take (w .have) (now buf))) ⌝ }
+    ensures { λ r. ⌜ Sure (r .next) (r .stop) ⌝ }
 {
-    [0; 1152]
-}
-
-fn words_room() -> [u32; 5889]
-    ensures { λ r. ⌜ 5889 ≡ length r ⌝ }
-{
-    [0; 5889]
-}
-
-fn marks_room() -> [u8; 8384]
-    ensures { λ r. ⌜ 8384 ≡ length r ⌝ }
-{
-    [0; 8384]
+    match parts::start(buf, longs, words, marks, w) {
+        Started::Stops(stopped) => stopped,
+        Started::Runs { settings, work } => parts::run_rest(
+            fd,
+            settings,
+            buf,
+            longs,
+            words,
+            marks,
+            work,
+            Scope::All,
+        ),
+    }
 }
 
 // Lends what the stream's own settings ask for, so that stop 2 never comes.
@@ -36,13 +49,13 @@ fn run_stream(fd: i32, buf: &mut [u8], w: Work) -> Work
     ensures { λ r. ⌜ Sure (r .next) (r .stop) ⌝ }
 {
     let n = runner::lengths_for(text::front(buf, w.have));
-    let mut longs = longs_room();
-    let mut words = words_room();
-    let mut marks = marks_room();
+    let mut longs = rooms::longs_room();
+    let mut words = rooms::words_room();
+    let mut marks = rooms::marks_room();
     let a = n.longs;
     let b = n.words;
     let c = n.marks;
-    parts::run_all(
+    run_all(
         fd,
         buf,
         &mut longs[..a],

@@ -1,9 +1,7 @@
 // Shows a log of events or a stream of commands, from standard input or the file that the first argument names, as plain
 // text: a line a record, the place of its first byte in front. A damaged log is shown up to the damage, and a last line
 // says where and why it stops.
-mod commands;
 mod damage;
-mod events;
 
 use input::Filled;
 use libc::STDOUT_FILENO;
@@ -94,12 +92,12 @@ fn show_one(s: &[u8], place: u64, out: &mut [u8], t: Turn) -> Turn {
     match listing::look_at(s, at) {
         Look::Command { command, next } => {
             let start = put_place(here, out, r.put);
-            let end = commands::put_command(command, out, start);
+            let end = wording::commands::put_command(command, out, start);
             line_done(out, next, end, r)
         }
         Look::Event { event, next } => {
             let start = put_place(here, out, r.put);
-            let end = events::put_event(event, out, start);
+            let end = wording::events::put_event(event, out, start);
             line_done(out, next, end, r)
         }
         Look::End => waiting(r),

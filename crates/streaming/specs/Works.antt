@@ -1,0 +1,54 @@
+-- Where a run stands between two parts of its stream.
+use Prim.Native.Nat.{ℕ, _+_, _%_, _^_}
+use mathlib.Core.Bool.{Bool, true, false}
+use Rattle.model.specs.declared.Stop.{Stop}
+use Rattle.model.specs.declared.Stop.the-variants as stop
+use Rattle.model.specs.declared.Ran.{Ran}
+use Rattle.runner.specs.Lengths.{Final}
+use Rattle.streaming.specs.declared.work.Next.{Next}
+use Rattle.streaming.specs.declared.work.Next.the-variants as next
+use Rattle.streaming.specs.declared.work.Work.{Work}
+
+-- what stops a part, and what comes next: 15 wants more bytes, 16 wants the events written out, the others stop the run
+abbrev pub nextOf : Stop → Next
+nextOf stop.Nothing = next.Read
+nextOf stop.CutShort = next.Read
+nextOf stop.NoRoom = next.Run
+nextOf stop.SettingOutOfRange = next.Stopped
+nextOf stop.SliceLength = next.Stopped
+nextOf stop.OutOfPlace = next.Stopped
+nextOf stop.UnknownKind = next.Stopped
+
+abbrev pub readsNext : Next → Bool
+readsNext next.Read = true
+readsNext next.Run = false
+readsNext next.Stopped = false
+readsNext next.Failed = false
+
+abbrev pub startOf : ℕ → Next → Work
+startOf have n = record { have = have; consumed = 0; written = 0; stop = stop.Nothing; next = n }
+
+abbrev pub begunOf : ℕ → Work
+begunOf have = record { have = have; consumed = 8; written = 0; stop = stop.Nothing; next = next.Run }
+
+abbrev pub stoppedOf : Work → Stop → Work
+stoppedOf w s = record { have = w .have; consumed = w .consumed; written = w .written; stop = s; next = next.Stopped }
+
+abbrev pub failedOf : Work → Work
+failedOf w = record { have = w .have; consumed = w .consumed; written = w .written; stop = w .stop; next = next.Failed }
+
+abbrev pub behindOf : Work → Ran → ℕ → Work
+behindOf w r have = record {
+  have = have;
+  consumed = (w .consumed + r .consumed) % 2 ^ 64;
+  written = (w .written + r .written) % 2 ^ 64;
+  stop = r .stop;
+  next = nextOf (r .stop);
+}
+
+-- stops 2 and 16 end no run: so where it has stopped, or would at the end of its input
+abbrev pub Sure : Next → Stop → Type 0
+Sure next.Read s = Final s
+Sure next.Run s = Unit
+Sure next.Stopped s = Final s
+Sure next.Failed s = Unit

@@ -1,0 +1,21 @@
+// Room for the largest tables: 1,024 lines, 64 miss entries of 8 readers, 64 queue places.
+ghost use mathlib.Core.Path.{_≡_};
+ghost use lib.ListN.{length};
+
+pub fn longs_room() -> [u64; 1152]
+    ensures { λ r. ⌜ 1152 ≡ length r ⌝ }
+{
+    [0; 1152]
+}
+
+pub fn words_room() -> [u32; 5889]
+    ensures { λ r. ⌜ 5889 ≡ length r ⌝ }
+{
+    [0; 5889]
+}
+
+pub fn marks_room() -> [u8; 8384]
+    ensures { λ r. ⌜ 8384 ≡ length r ⌝ }
+{
+    [0; 8384]
+}

@@ -1,0 +1,149 @@
+// Where a run stands between two parts of its stream.
+use model::Ran;
+use model::Stop;
+ghost use mathlib.Core.Path.{_≡_};
+ghost use Rattle.streaming.specs.Works.{nextOf, readsNext, startOf, begunOf, stoppedOf, failedOf, behindOf};
+
+// What to do next: read more bytes; run those that wait; nothing, since the stream has stopped; nothing, since reading or
+// writing failed, which standard error says.
+pub enum Next {
+    Read,
+    Run,
+    Stopped,
+    Failed,
+}
+
+// The bytes that wait at the front of the buffer, the bytes consumed and written before them, why the part before stopped.
+pub struct Work {
+    pub have: usize,
+    pub consumed: u64,
+    pub written: u64,
+    pub stop: Stop,
+    pub next: Next,
+}
+
+// Before anything has run.
+pub fn at_start(have: usize, next: Next) -> Work
+    ensures { λ r. ⌜ r ≡ startOf have next ⌝ }
+{
+    Work {
+        have,
+        consumed: 0,
+        written: 0,
+        stop: Stop::Nothing,
+        next,
+    }
+}
+
+// Behind settings that are accepted: a record of eight bytes that writes no event.
+pub fn begun(have: usize) -> Work
+    ensures { λ r. ⌜ r ≡ begunOf have ⌝ }
+{
+    Work {
+        have,
+        consumed: 8,
+        written: 0,
+        stop: Stop::Nothing,
+        next: Next::Run,
+    }
+}
+
+pub fn stopped(w: Work, stop: Stop) -> Work
+    ensures { λ r. ⌜ r ≡ stoppedOf w stop ⌝ }
+{
+    Work {
+        have: w.have,
+        consumed: w.consumed,
+        written: w.written,
+        stop,
+        next: Next::Stopped,
+    }
+}
+
+pub fn failed(w: Work) -> Work
+    ensures { λ r. ⌜ r ≡ failedOf w ⌝ }
+{
+    let stop = w.stop;
+    Work {
+        have: w.have,
+        consumed: w.consumed,
+        written: w.written,
+        stop,
+        next: Next::Failed,
+    }
+}
+
+// A record that is cut short may become whole with more bytes, and one without event room has it once the events before it
+// are written out.
+fn next_of(stop: Stop) -> Next
+    ensures { λ r. ⌜ r ≡ nextOf stop ⌝ }
+{
+    match stop {
+        Stop::Nothing => Next::Read,
+        Stop::CutShort => Next::Read,
+        Stop::NoRoom => Next::Run,
+        Stop::SettingOutOfRange => Next::Stopped,
+        Stop::SliceLength => Next::Stopped,
+        Stop::OutOfPlace => Next::Stopped,
+        Stop::UnknownKind => Next::Stopped,
+    }
+}
+
+// Behind a part that ran, whose events are written, with `have` bytes left of it.
+pub fn behind(w: Work, ran: Ran, have: usize) -> Work
+    ensures { λ r. ⌜ r ≡ behindOf w ran have ⌝ }
+{
+    let stop = ran.stop;
+    let next = next_of(stop);
+    Work {
+        have,
+        consumed: std::num::wrapping_add_u64(w.consumed, ran.consumed as u64),
+        written: std::num::wrapping_add_u64(w.written, ran.written as u64),
+        stop,
+        next,
+    }
+}
+
+// Whether more bytes are wanted before anything can run.
+pub fn reads(w: Work) -> bool
+    ensures { λ r. ⌜ r ≡ readsNext (w .next) ⌝ }
+{
+    let next = w.next;
+    match next {
+        Next::Read => true,
+        Next::Run => false,
+        Next::Stopped => false,
+        Next::Failed => false,
+    }
+}
+
+// Whether a run goes on.
+pub fn goes_on(w: Work) -> bool {
+    let next = w.next;
+    match next {
+        Next::Read => true,
+        Next::Run => true,
+        Next::Stopped => false,
+        Next::Failed => false,
+    }
+}
+
+pub fn has_stopped(w: Work) -> bool {
+    let next = w.next;
+    match next {
+        Next::Read => false,
+        Next::Run => false,
+        Next::Stopped => true,
+        Next::Failed => false,
+    }
+}
+
+pub fn has_failed(w: Work) -> bool {
+    let next = w.next;
+    match next {
+        Next::Read => false,
+        Next::Run => false,
+        Next::Stopped => false,
+        Next::Failed => true,
+    }
+}

@@ -1,0 +1,2 @@
+-- What the rounds that are shown end in.
+pub mod Verdicts

@@ -1,0 +1,21 @@
+-- By cases.
+use borrow.Author.Needs.{needs}
+use Rattle.wait.proofs.last.last_command.Statement.{statement}
+use Rattle.wait.proofs.last.last_command.Tie as tie
+
+pub last-command-spec : {M : Type 1} → statement M
+last-command-spec =
+    tie.close
+    (tie.spec
+    (λ c. search needs)
+    (λ c. search needs)
+    (λ c. search needs)
+    (λ c. search needs)
+    (λ c. search needs)
+    (λ c. search needs)
+    (λ c. rw (c .enum-told .given .1))
+    (λ c. rw (c .before .c .given .1))
+    (λ c. rw (c .before .c2 .given .1))
+    (λ c. rw (c .enum-told2 .given .1))
+    (λ c. rw (c .enum-told3 .given .1))
+    (λ c. rw (c .enum-told4 .given .1)))

@@ -1,0 +1,49 @@
+-- The arrays hold the largest tables, and what is lent of them is as long as the stream's settings ask.
+use mathlib.Core.Path.{sym}
+use Prim.Native.Nat.{_≤_}
+use native.Mathlib.Omega.{arith}
+use borrow.Author.Needs.{needs}
+use lib.ListN.{length}
+use lib.Seq.{length-take-le}
+use Rattle.runner.proofs.Asked.{Most}
+use Rattle.streaming.proofs.Turns.{lent-most, lent-long}
+use Rattle.wait.proofs.wait_stream.Statement.{statement}
+use Rattle.wait.proofs.wait_stream.Tie as tie
+
+most : (c : tie.After-lengths-for) → Most (c .lengths-for .result)
+most c = lent-most (c .before .front .result .now) (c .lengths-for .ensures)
+
+longs-fit : (c : tie.After-longs-room) → c .before .lengths-for .result .longs ≤ length (c .longs-room .result)
+longs-fit c = omega (arith, most (c .before) .longs, c .longs-room .ensures)
+
+words-fit : (c : tie.After-words-room) → c .before .before .lengths-for .result .words ≤ length (c .words-room .result)
+words-fit c = omega (arith, most (c .before .before) .words, c .words-room .ensures)
+
+marks-fit : (c : tie.After-marks-room) → c .before .before .before .lengths-for .result .marks ≤ length (c .marks-room .result)
+marks-fit c = omega (arith, most (c .before .before .before) .marks, c .marks-room .ensures)
+
+pub wait-stream-spec : {M : Type 1} → statement M
+wait-stream-spec =
+    tie.close
+    (tie.spec
+    (λ c κs. search needs)
+    (λ c κs. search needs)
+    (λ c κs. search needs)
+    (λ c κs. search needs)
+    (λ c κs. search needs)
+    (λ c. longs-fit (c .before .before .before))
+    (λ c. sym (length-take-le _ _ (longs-fit (c .before .before .before .before))))
+    (λ c. words-fit (c .before .before .before))
+    (λ c. sym (length-take-le _ _ (words-fit (c .before .before .before .before))))
+    (λ c. marks-fit (c .before .before .before))
+    (λ c. sym (length-take-le _ _ (marks-fit (c .before .before .before .before))))
+    (λ c κs.
+    let m = c .before .before .before .before in
+    let l = m .before .before .before in
+    let a = l .before .before .before .before in (
+      a .pre,
+      lent-long (l .before .front .result .now) _ (l .before .front .ensures) (l .lengths-for .ensures) (m .before .before .longs-room .result) (m .before .words-room .result) (m .marks-room .result)
+          (m .before .before .longs-room .ensures) (m .before .words-room .ensures) (m .marks-room .ensures),
+    ))
+    (λ c. search needs)
+    (λ c. search needs))

@@ -1,0 +1,37 @@
+-- The queue places and the miss entries in use.
+use native.Mathlib.Omega.{arith}
+use borrow.Author.Needs.{needs}
+use Rattle.tables.proofs.Stands.{is-stands, stands-fit}
+use Rattle.rounds.proofs.Turns.{counted}
+use Rattle.wait.proofs.waiting.in_use.Statement.{statement}
+use Rattle.wait.proofs.waiting.in_use.Tie as tie
+
+used-requires : tie.Need-used-requires
+used-requires c κs =
+    let i = c .before .before .before .before .pre .are in
+    let z = stands-fit (i .range) (is-stands i) in
+    let p = c .laid-out .ensures in
+    omega arith
+
+used-requires-2 : tie.Need-used-requires-2
+used-requires-2 c κs =
+    let i = c .before .before .before .before .before .pre .are in
+    let z = stands-fit (i .range) (is-stands i) in
+    let p = c .before .laid-out .ensures in
+    omega arith
+
+returns : tie.Need-returns
+returns c =
+    let p = c .before .before .laid-out .ensures in
+    let q = c .before .used .ensures in
+    let m = c .used2 .ensures in
+    record { queued = λ t i. counted _ p q m t i .0; missed = λ t i. counted _ p q m t i .1 }
+
+pub in-use-spec : {M : Type 1} → statement M
+in-use-spec =
+    tie.close
+    (tie.spec
+    (λ c κs. search needs)
+    used-requires
+    used-requires-2
+    returns)

@@ -1,0 +1,89 @@
+// The rounds for an access, shown as they go; their end is what the call `rounds::wait` says.
+use crate::says;
+use model::Access;
+use model::Refusal;
+use model::Settings;
+use rounds::Waiting;
+ghost use mathlib.Core.Path.{_≡_};
+ghost use mathlib.Core.Bool.{true};
+ghost use Prim.Native.Nat.{_≤_};
+ghost use Rattle.model.specs.Address.{maskOf, wellFormed};
+ghost use Rattle.model.specs.Sound.{allOnes};
+ghost use Rattle.model.specs.Lent.{lent};
+ghost use Rattle.model.specs.Inner.{Held};
+ghost use Rattle.rounds.specs.Waiting.{waitCall};
+ghost use Rattle.rounds.specs.Parts.{Enough};
+ghost use Rattle.wait.specs.Counts.{Counted};
+
+// The queue places and the miss entries in use.
+pub(crate) struct Counts {
+    pub queued: usize,
+    pub missed: usize,
+}
+
+fn in_use(s: Settings, longs: &[u64], words: &[u32], marks: &[u8]) -> Counts
+    requires { ⌜ Held s (lent (now longs) (now words) (now marks)) ⌝ }
+    ensures { λ r. ⌜ Counted s (lent (now (longs .entry)) (now (words .entry)) (now (marks .entry))) r ⌝ }
+{
+    let at = tables::laid_out(s);
+    let queued = tables::used(marks, at.kinds, s.places);
+    let missed = tables::used(marks, at.counts, s.entries);
+    Counts { queued, missed }
+}
+
+// The rounds, `most` of them at most; each is printed as long as printing works.
+fn wait_rounds(
+    s: Settings,
+    longs: &mut [u64],
+    words: &mut [u32],
+    marks: &mut [u8],
+    x: Access,
+    most: usize,
+) -> Waiting
+    requires { ⌜ Held s (lent (now longs) (now words) (now marks)) ⌝ }
+    requires { ⌜ (wellFormed x ≡ true) × (maskOf x ≤ allOnes) ⌝ }
+    requires { ⌜ Enough s (lent (now longs) (now words) (now marks)) most ⌝ }
+    ensures { λ r. ⌜ r ≡ waitCall s x (lent (now (longs .entry)) (now (words .entry)) (now (marks .entry))) .waiting ⌝ }
+{
+    let mut space = io::large_buffer();
+    let events: &mut [u8] = &mut space;
+    let mut round = 0;
+    let mut out = 0;
+    let mut shown = true;
+    while round < most {
+        let made = rounds::one_round(s, longs, words, marks, x, events, out);
+        round += 1;
+        let told = made.told;
+        shown = says::round(shown, round, text::part(events, out, made.written), told);
+        out = made.written;
+        if rounds::accepted(told) {
+            let answer = told.first;
+            return Waiting::Accepted { round, answer };
+        }
+    }
+    Waiting::Held
+}
+
+// Waits for the access whose record begins at byte `place`.
+pub(crate) fn wait_for(
+    s: Settings,
+    longs: &mut [u64],
+    words: &mut [u32],
+    marks: &mut [u8],
+    x: Access,
+    place: u64,
+) -> Waiting
+    requires { ⌜ Held s (lent (now longs) (now words) (now marks)) ⌝ }
+    ensures { λ r. ⌜ r ≡ waitCall s x (lent (now (longs .entry)) (now (words .entry)) (now (marks .entry))) .waiting ⌝ }
+{
+    if !access::well_formed(x) {
+        says::malformed(x, place);
+        return Waiting::Refused(Refusal::BadAccess);
+    }
+    let n = in_use(s, longs, words, marks);
+    let most = rounds::most_rounds(s, longs, words, marks);
+    says::start(x, place, n, most);
+    let waiting = wait_rounds(s, longs, words, marks, x, most);
+    says::end(waiting, most);
+    waiting
+}
