@@ -23,8 +23,8 @@ use Rattle.probe.specs.declared.Decision.{Decision}
 use Rattle.probe.specs.Decided.{placeFor, backsOf}
 use Rattle.access.specs.Plan.{Met, entryIndex, ticketsAt, joining, starting, courseOf}
 use Rattle.access.specs.Written.{sectorsFor}
-use Rattle.access.specs.declared.Course.{Course}
-use Rattle.access.specs.declared.Course.the-variants.{Refused, Stays}
+use Rattle.access.specs.declared.course.Course.{Course}
+use Rattle.access.specs.declared.course.Course.the-variants.{Refused, Stays}
 use Rattle.access.proofs.Plans.{merged-entry}
 
 -- ---- the spot of a decision

@@ -15,8 +15,8 @@ use Rattle.model.specs.declared.Settings.{Settings}
 use Rattle.model.specs.declared.Access.{Access}
 use Rattle.model.specs.declared.Refusal.the-variants.{QueueFull, EntryFull, MissTableFull}
 use Rattle.access.specs.Plan.{entryIndex, ticketsAt, joining, starting, courseOf, goes}
-use Rattle.access.specs.declared.Course.{Course}
-use Rattle.access.specs.declared.Course.the-variants.{Refused, Stays, Joins, Starts}
+use Rattle.access.specs.declared.course.Course.{Course}
+use Rattle.access.specs.declared.course.Course.the-variants.{Refused, Stays, Joins, Starts}
 
 -- the tests behind a course that is not refused
 pub record Tested (S : Settings) (x : Access) (p : Spot) (t : Tables) (merge miss : Bool) : Type 0 where

@@ -28,8 +28,8 @@ use Rattle.probe.specs.declared.Decision.{Decision}
 use Rattle.probe.specs.Decided.{Decided, placeFor, placeIs}
 use Rattle.probe.proofs.Held.{decided-probe}
 use Rattle.access.specs.Plan.{Met, Meets, Offered, Acts, courseOf, following, goes, refusalIn, isSpot, refusalMet}
-use Rattle.access.specs.declared.Course.{Course}
-use Rattle.access.specs.declared.Course.the-variants.{Refused, Stays, Joins, Starts}
+use Rattle.access.specs.declared.course.Course.{Course}
+use Rattle.access.specs.declared.course.Course.the-variants.{Refused, Stays, Joins, Starts}
 use Rattle.access.proofs.Plans.{course-is}
 use Rattle.access.proofs.Courses.{shown}
 

@@ -37,8 +37,8 @@ use Rattle.tables.proofs.Queue.{queue-used}
 use Rattle.tables.proofs.Misses.{noEntry, withTicket, misses-used, count-at, entry-found, entry-missing}
 use Rattle.tables.proofs.Ones.{map-one}
 use Rattle.access.specs.Plan.{entryIndex, ticketsAt, joining, starting, courseOf, following}
-use Rattle.access.specs.declared.Course.{Course}
-use Rattle.access.specs.declared.Course.the-variants.{Refused, Stays, Joins, Starts}
+use Rattle.access.specs.declared.course.Course.{Course}
+use Rattle.access.specs.declared.course.Course.the-variants.{Refused, Stays, Joins, Starts}
 
 -- ---- the first entry for an address
 

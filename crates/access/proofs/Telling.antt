@@ -29,8 +29,8 @@ use Rattle.tables.proofs.Stands.{Stands, stands-encode, withLines, withMisses}
 use Rattle.probe.specs.declared.Decision.{Decision}
 use Rattle.access.specs.Plan.{Met, Acts, courseOf, goes, ticketOf}
 use Rattle.access.specs.Written.{sectorsFor, sectorsAfter, lineWritten, missesWritten, queueWritten, tellingOf, MissRoom, ReadRoom, BackRoom}
-use Rattle.access.specs.declared.Course.{Course}
-use Rattle.access.specs.declared.Course.the-variants.{Refused, Stays, Joins, Starts}
+use Rattle.access.specs.declared.course.Course.{Course}
+use Rattle.access.specs.declared.course.Course.the-variants.{Refused, Stays, Joins, Starts}
 use Rattle.access.proofs.Courses.{answer-is}
 use Rattle.access.proofs.Inverted.{Tested, Means, course-means}
 use Rattle.access.proofs.Acting.{newLine, queues-are, line-written, misses-written, queue-written, join-inside, queue-room}

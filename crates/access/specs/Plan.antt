@@ -25,8 +25,8 @@ use Rattle.probe.specs.declared.Meeting.the-variants as meeting
 use Rattle.probe.specs.declared.Decision.{Decision}
 use Rattle.probe.specs.Decided.{placeIs}
 use Rattle.tables.proofs.Misses.{noEntry}
-use Rattle.access.specs.declared.Course.{Course}
-use Rattle.access.specs.declared.Course.the-variants.{Refused, Stays, Joins, Starts}
+use Rattle.access.specs.declared.course.Course.{Course}
+use Rattle.access.specs.declared.course.Course.the-variants.{Refused, Stays, Joins, Starts}
 
 -- the place of the first entry for an address
 abbrev pub entryIndex : ℕ → List Entry → ℕ

@@ -18,8 +18,8 @@ use Rattle.tables.specs.Raw.{statuses, masks, readables}
 use Rattle.probe.specs.declared.Meeting.{Meeting}
 use Rattle.probe.specs.declared.Meeting.the-variants as meeting
 use Rattle.probe.specs.declared.Decision.{Decision}
-use Rattle.access.specs.declared.Course.{Course}
-use Rattle.access.specs.declared.Course.the-variants.{Refused, Stays, Joins, Starts}
+use Rattle.access.specs.declared.course.Course.{Course}
+use Rattle.access.specs.declared.course.Course.the-variants.{Refused, Stays, Joins, Starts}
 
 -- the sectors that the access finds in its line: those that stand there, or of a line taken over four empty ones
 abbrev pub sectorsFor : Meeting → List Sector → List Sector

@@ -9,10 +9,10 @@ use Rattle.access.proofs.Plans.{queue-counted}
 use Rattle.access.proofs.Offering.{offered-acts, offered-stops}
 use Rattle.access.proofs.offer.Statement.{statement}
 use Rattle.access.proofs.offer.Tie as tie
-use Rattle.access.proofs.act.Reads as act-reads
-use Rattle.access.proofs.course_of.Reads as course-of-reads
-use Rattle.access.proofs.going.Reads as going-reads
-use Rattle.access.proofs.refusal_in.Reads as refusal-in-reads
+use Rattle.access.proofs.writes.act.Reads as act-reads
+use Rattle.access.proofs.course.course_of.Reads as course-of-reads
+use Rattle.access.proofs.course.going.Reads as going-reads
+use Rattle.access.proofs.course.refusal_in.Reads as refusal-in-reads
 use Rattle.tables.proofs.laid_out.Reads as laid-out-reads
 use Rattle.tables.proofs.refused.Reads as refused-reads
 use Rattle.tables.proofs.used.Reads as used-reads

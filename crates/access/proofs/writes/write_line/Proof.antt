@@ -1,0 +1,22 @@
+use borrow.Author.Needs.{needs}
+use Rattle.access.proofs.writes.write_line.Statement.{statement}
+use Rattle.access.proofs.writes.write_line.Tie as tie
+use Rattle.access.proofs.writes.touch.Reads as touch-reads
+use Rattle.access.proofs.writes.write_tag.Reads as write-tag-reads
+use Rattle.tables.proofs.store.Reads as store-reads
+
+pub write-line-spec : {M : Type 1} → statement M
+write-line-spec =
+    tie.close
+    (tie.spec
+    (λ c κs. search needs)
+    (λ c κs. search needs)
+    (λ c κs. search needs)
+    (λ c. search needs)
+    (λ c. search needs)
+    (λ c. search needs)
+    (λ c.
+    let stored = c .before .before .before .before in
+    let touched = stored .before .before .before .before .before in
+    let tagged = touched .before .before .before .before in
+    rw (tagged .write-tag .ensures, stored .store .ensures .0, stored .store .ensures .1, touched .touch .ensures)))

@@ -1,0 +1,125 @@
+// Refusals 7, 8 and 9, or what becomes of the miss table. Nothing is written here.
+ghost use mathlib.Core.Path.{_≡_};
+ghost use Prim.Native.Nat.{_≤_};
+ghost use Rattle.model.specs.Address.{isRead};
+ghost use Rattle.model.specs.Words.{pick};
+ghost use Rattle.model.specs.Lent.{lent};
+ghost use Rattle.model.specs.Inner.{Held};
+ghost use Rattle.tables.specs.Layout.{Placed};
+ghost use Rattle.access.specs.Plan.{Meets, Counted, Entered, Joining, Starting, Planned, goes, refusalIn};
+ghost use Rattle.model.specs.Steps.{isHit};
+use crate::asked::is_hit;
+use crate::asked::is_merge;
+use crate::asked::is_miss;
+use crate::asked::is_read;
+use model::Access;
+use model::Answer;
+use model::Refusal;
+use model::SectorAddress;
+use model::Settings;
+use probe::Decision;
+use tables::Layout;
+
+// What becomes of the miss table: a refusal, nothing, a ticket that joins an entry with so many, or a new entry behind so many.
+pub enum Course {
+    Refused(Refusal),
+    Stays,
+    Joins { entry: usize, count: usize },
+    Starts(usize),
+}
+
+// How many free queue places an access with this answer needs.
+fn places_needed(x: Access, a: Answer) -> usize
+    ensures { λ r. ⌜ (r ≡ pick (isHit a) 0 (pick (isRead x) 2 1)) × (r ≤ 2) ⌝ }
+{
+    if is_hit(a) {
+        return 0;
+    }
+    if is_read(x) { 2 } else { 1 }
+}
+
+// The course of a read that merges: the entry for its address has room for one more ticket, or not.
+fn join_course(
+    s: Settings,
+    at: Layout,
+    longs: &[u64],
+    words: &[u32],
+    marks: &[u8],
+    address: SectorAddress,
+) -> Course
+    requires { ⌜ Placed s at × Entered s (lent (now longs) (now words) (now marks)) (address .0) ⌝ }
+    ensures { λ r. ⌜ Joining s (lent (now (longs .entry)) (now (words .entry)) (now (marks .entry))) (address .0) r ⌝ }
+{
+    let m = tables::used(marks, at.counts, s.entries);
+    let e = tables::find_entry(longs, at.misses, m, address);
+    let n = marks[at.counts + e] as usize;
+    if s.readers <= n {
+        return Course::Refused(Refusal::EntryFull);
+    }
+    Course::Joins { entry: e, count: n }
+}
+
+// The course of a read that needs a new entry.
+fn start_course(s: Settings, at: Layout, longs: &[u64], words: &[u32], marks: &[u8]) -> Course
+    requires { ⌜ Placed s at × Held s (lent (now longs) (now words) (now marks)) ⌝ }
+    ensures { λ r. ⌜ Starting s (lent (now (longs .entry)) (now (words .entry)) (now (marks .entry))) r ⌝ }
+{
+    let m = tables::used(marks, at.counts, s.entries);
+    if s.entries <= m {
+        return Course::Refused(Refusal::MissTableFull);
+    }
+    Course::Starts(m)
+}
+
+// The course of an access whose place is decided; so many queue places are in use.
+pub(crate) fn course_of(
+    s: Settings,
+    at: Layout,
+    longs: &[u64],
+    words: &[u32],
+    marks: &[u8],
+    x: Access,
+    d: Decision,
+    queued: usize,
+) -> Course
+    requires { ⌜ Placed s at × Meets s (lent (now longs) (now words) (now marks)) x d × Counted s (lent (now longs) (now words) (now marks)) queued ⌝ }
+    ensures { λ r. ⌜ Planned s (lent (now (longs .entry)) (now (words .entry)) (now (marks .entry))) x d r ⌝ }
+{
+    let a = d.answer;
+    if s.places < queued + places_needed(x, a) {
+        return Course::Refused(Refusal::QueueFull);
+    }
+    if !is_read(x) {
+        return Course::Stays;
+    }
+    if is_merge(a) {
+        let address = SectorAddress(model::address_of(x));
+        return join_course(s, at, longs, words, marks, address);
+    }
+    if is_miss(a) {
+        return start_course(s, at, longs, words, marks);
+    }
+    Course::Stays
+}
+
+pub(crate) fn going(c: Course) -> bool
+    ensures { λ r. ⌜ r ≡ goes c ⌝ }
+{
+    match c {
+        Course::Refused(_) => false,
+        Course::Stays => true,
+        Course::Joins { entry: _, count: _ } => true,
+        Course::Starts(_) => true,
+    }
+}
+
+pub(crate) fn refusal_in(c: Course) -> Refusal
+    ensures { λ r. ⌜ r ≡ refusalIn c ⌝ }
+{
+    match c {
+        Course::Refused(n) => n,
+        Course::Stays => Refusal::QueueFull,
+        Course::Joins { entry: _, count: _ } => Refusal::QueueFull,
+        Course::Starts(_) => Refusal::QueueFull,
+    }
+}

@@ -1,0 +1,19 @@
+-- A number by its two bytes.
+use borrow.Author.Needs.{needs}
+use Rattle.records.proofs.Digits.{number-past, number-two}
+use Rattle.records.proofs.numbers.number2.Statement.{statement}
+use Rattle.records.proofs.numbers.number2.Tie as tie
+
+pub number2-spec : {M : Type 1} → statement M
+number2-spec =
+    tie.close
+    (tie.spec
+    (λ c. number-past _ 2 _ (c .if1 .taken))
+    (λ c κs. search needs)
+    (λ c. search needs)
+    (λ c. search needs)
+    (λ c κs. search needs)
+    (λ c. search needs)
+    (λ c. search needs)
+    (λ c. search needs)
+    (λ c. number-two _ _ (c .before .number1 .ensures) (c .number12 .ensures)))

@@ -1,0 +1,19 @@
+-- A number by its halves.
+use borrow.Author.Needs.{needs}
+use Rattle.records.proofs.Digits.{number-past, number-eight}
+use Rattle.records.proofs.numbers.number8.Statement.{statement}
+use Rattle.records.proofs.numbers.number8.Tie as tie
+
+pub number8-spec : {M : Type 1} → statement M
+number8-spec =
+    tie.close
+    (tie.spec
+    (λ c. number-past _ 8 _ (c .if1 .taken))
+    (λ c κs. search needs)
+    (λ c. search needs)
+    (λ c. search needs)
+    (λ c κs. search needs)
+    (λ c. search needs)
+    (λ c. search needs)
+    (λ c. search needs)
+    (λ c. number-eight _ _ (c .before .number4 .ensures) (c .number42 .ensures)))

@@ -1,0 +1,20 @@
+-- Two stores are the two bytes.
+use native.Mathlib.Omega.{arith}
+use borrow.Author.Needs.{needs}
+use lib.ListN.{length-set}
+use Rattle.records.proofs.Stores.{laid-two}
+use Rattle.records.proofs.numbers.put2.Statement.{statement}
+use Rattle.records.proofs.numbers.put2.Tie as tie
+
+pub put2-spec : {M : Type 1} → statement M
+put2-spec =
+    tie.close
+    (tie.spec
+    (λ c. search needs)
+    (λ c. search needs)
+    (λ c. search needs)
+    (λ c. search needs)
+    (λ c. simp length-set (omega arith))
+    (λ c. search needs)
+    (λ c. search needs)
+    (λ c. laid-two _ _ _ (omega arith)))

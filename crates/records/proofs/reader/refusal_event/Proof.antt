@@ -1,0 +1,14 @@
+-- Below 1, above 12, and by the table between.
+use borrow.Author.Needs.{needs}
+use Rattle.records.proofs.Decoding.{refusal-low, refusal-high, refusal-named}
+use Rattle.records.proofs.reader.refusal_event.Statement.{statement}
+use Rattle.records.proofs.reader.refusal_event.Tie as tie
+
+pub refusal-event-spec : {M : Type 1} → statement M
+refusal-event-spec =
+    tie.close
+    (tie.spec
+    (λ c. refusal-low _ (c .if1 .taken))
+    (λ c. refusal-high _ (c .if2 .taken))
+    (λ c. search needs)
+    (λ c. refusal-named _ _ (c .before .before .if1 .left) (c .before .if2 .left)))

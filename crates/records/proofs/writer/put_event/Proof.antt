@@ -1,0 +1,48 @@
+-- By the case: there is room for its bytes, and they are what is stored.
+use Rattle.model.specs.Records.{eventBytes, bytesOf}
+use Rattle.records.proofs.Encoding.{event-room, event-laid}
+use borrow.Author.Needs.{needs}
+use Rattle.records.proofs.writer.put_event.Statement.{statement}
+use Rattle.records.proofs.writer.put_event.Tie as tie
+
+pub put-event-spec : {M : Type 1} → statement M
+unfolding eventBytes bytesOf
+put-event-spec =
+    tie.close
+    (tie.spec
+    (λ c. search needs)
+    (λ c κs. event-room _ (c .before .before .before .before .before .pre) (c .before .before .e .given .1))
+    (λ c. search needs)
+    (λ c κs. event-room _ (c .before .before .before .before .before .pre) (c .before .before .e2 .given .1))
+    (λ c. search needs)
+    (λ c κs. event-room _ (c .before .before .before .before .before .pre) (c .before .before .e3 .given .1))
+    (λ c. search needs)
+    (λ c κs. event-room _ (c .before .before .before .before .before .pre) (c .before .before .e4 .given .1))
+    (λ c. search needs)
+    (λ c κs. event-room _ (c .before .before .before .before .before .pre) (c .before .before .e5 .given .1))
+    (λ c. search needs)
+    (λ c κs. event-room _ (c .before .before .before .before .before .pre) (c .before .before .e6 .given .1))
+    (λ c. search needs)
+    (λ c κs. event-room _ (c .before .before .before .before .before .pre) (c .before .before .e7 .given .1))
+    (λ c. search needs)
+    (λ c κs. event-room _ (c .before .before .before .before .before .pre) (c .before .before .e8 .given .1))
+    (λ c. search needs)
+    (λ c κs. event-room _ (c .before .before .before .before .pre) (c .before .enum-told .given .1))
+    (λ c. search needs)
+    (λ c. event-laid _ (c .before .before .put-answer .ensures) (c .before .before .before .before .before .e .given .1))
+    (λ c. search needs)
+    (λ c. event-laid _ (c .before .before .put-refusal .ensures) (c .before .before .before .before .before .e2 .given .1))
+    (λ c. search needs)
+    (λ c. event-laid _ (c .before .before .put-address .ensures) (c .before .before .before .before .before .e3 .given .1))
+    (λ c. search needs)
+    (λ c. event-laid _ (c .before .before .put-back .ensures) (c .before .before .before .before .before .e4 .given .1))
+    (λ c. search needs)
+    (λ c. event-laid _ (c .before .before .put-word .ensures) (c .before .before .before .before .before .e5 .given .1))
+    (λ c. search needs)
+    (λ c. event-laid _ (c .before .before .put-address2 .ensures) (c .before .before .before .before .before .e6 .given .1))
+    (λ c. search needs)
+    (λ c. event-laid _ (c .before .before .put-back2 .ensures) (c .before .before .before .before .before .e7 .given .1))
+    (λ c. search needs)
+    (λ c. event-laid _ (c .before .before .put-address3 .ensures) (c .before .before .before .before .before .e8 .given .1))
+    (λ c. search needs)
+    (λ c. event-laid _ (c .before .before .put1 .ensures) (c .before .before .before .before .enum-told .given .1)))

@@ -1,0 +1,249 @@
+// Records, events and commands read out of a stream of any bytes.
+ghost use mathlib.Core.Path.{_≡_};
+ghost use Rattle.model.specs.Records.{lengthOf, isCommand, readAt, bodyAt, answered, refusedBy, eventOf, eventAt, commandOf, commandAt};
+use crate::numbers::number1;
+use crate::numbers::number2;
+use crate::numbers::number4;
+use crate::numbers::number8;
+use model::Answer;
+use model::Command;
+use model::CommandRead;
+use model::Event;
+use model::EventRead;
+use model::Record;
+use model::Refusal;
+use model::Stop;
+
+// "Body length is fixed by kind through this table"; 255 for a number that is no kind.
+const LENGTHS: [u8; 25] = [
+    7,
+    12,
+    12,
+    0,
+    8,
+    4,
+    255,
+    255,
+    255,
+    255,
+    255,
+    255,
+    255,
+    255,
+    255,
+    255,
+    3,
+    1,
+    8,
+    24,
+    4,
+    8,
+    24,
+    8,
+    0,
+];
+
+// The length of a body of a kind.
+pub fn length_of(kind: u8) -> u8
+    ensures { λ r. ⌜ r ≡ lengthOf kind ⌝ }
+{
+    let k = kind as usize;
+    if k < 25 { LENGTHS[k] } else { 255 }
+}
+
+// Whether a kind is a command's: "To the runner event kinds are unknown kinds".
+pub fn is_command(kind: u8) -> bool
+    ensures { λ r. ⌜ r ≡ isCommand kind ⌝ }
+{
+    kind < 6
+}
+
+// "it refuses with 14 (a kind in neither list), then 15, also where no byte is left"
+pub fn read_at(stream: &[u8], at: usize) -> Record
+    ensures { λ r. ⌜ r ≡ readAt (now (stream .entry)) at ⌝ }
+{
+    if stream.len() <= at {
+        return Record::Stopped(Stop::CutShort);
+    }
+    let kind = stream[at];
+    let n = length_of(kind);
+    if n == 255 {
+        return Record::Stopped(Stop::UnknownKind);
+    }
+    let len = n as usize;
+    let start = at + 1;
+    if len <= stream.len() - start {
+        Record::Whole {
+            kind,
+            start,
+            len,
+            next: start + len,
+        }
+    } else {
+        Record::Stopped(Stop::CutShort)
+    }
+}
+
+// "hands back the part of the caller's stream that holds its body"; no byte where reading stops.
+pub fn body(stream: &[u8], at: usize) -> &[u8]
+    ensures { λ r. ⌜ now r ≡ bodyAt (now (stream .entry)) at ⌝ }
+{
+    match read_at(stream, at) {
+        Record::Whole {
+            kind: _,
+            start,
+            len: _,
+            next,
+        } => &stream[start..next],
+        Record::Stopped(_) => &stream[..0],
+    }
+}
+
+// The answer of a number, with its line.
+fn answer_event(n: u8, line: u16) -> EventRead
+    ensures { λ r. ⌜ r ≡ answered n line ⌝ }
+{
+    match n {
+        1 => EventRead::Got(Event::Answered {
+            answer: Answer::Hit,
+            line,
+        }),
+        2 => EventRead::Got(Event::Answered {
+            answer: Answer::HitReserved,
+            line,
+        }),
+        3 => EventRead::Got(Event::Answered {
+            answer: Answer::Miss,
+            line,
+        }),
+        4 => EventRead::Got(Event::Answered {
+            answer: Answer::SectorMiss,
+            line,
+        }),
+        _ => EventRead::None,
+    }
+}
+
+// The refusals in the order of their numbers, from 1 on.
+const REFUSALS: [Refusal; 12] = [
+    Refusal::SettingOutOfRange,
+    Refusal::SliceLength,
+    Refusal::NotSound,
+    Refusal::BadAccess,
+    Refusal::SetBusy,
+    Refusal::SetHeld,
+    Refusal::QueueFull,
+    Refusal::EntryFull,
+    Refusal::MissTableFull,
+    Refusal::NotSent,
+    Refusal::BadCycle,
+    Refusal::QueueEmpty,
+];
+
+// The refusal of a number.
+fn refusal_event(n: u8) -> EventRead
+    ensures { λ r. ⌜ r ≡ refusedBy n ⌝ }
+{
+    let k = n as usize;
+    if k < 1 {
+        return EventRead::None;
+    }
+    if 12 < k {
+        return EventRead::None;
+    }
+    EventRead::Got(Event::Refused(REFUSALS[k - 1]))
+}
+
+// The event of a body of a kind.
+pub fn event_of(kind: u8, b: &[u8]) -> EventRead
+    ensures { λ r. ⌜ r ≡ eventOf kind (now (b .entry)) ⌝ }
+{
+    if b.len() != length_of(kind) as usize {
+        return EventRead::None;
+    }
+    match kind {
+        0x10 => answer_event(number1(b, 0), number2(b, 1)),
+        0x11 => refusal_event(number1(b, 0)),
+        0x12 => EventRead::Got(Event::ReadQueued(number8(b, 0))),
+        0x13 => EventRead::Got(Event::WriteBackQueued {
+            block: number8(b, 0),
+            m0: number4(b, 8),
+            m1: number4(b, 12),
+            m2: number4(b, 16),
+            m3: number4(b, 20),
+        }),
+        0x14 => EventRead::Got(Event::Released(number4(b, 0))),
+        0x15 => EventRead::Got(Event::ReadSent(number8(b, 0))),
+        0x16 => EventRead::Got(Event::WriteBackSent {
+            block: number8(b, 0),
+            m0: number4(b, 8),
+            m1: number4(b, 12),
+            m2: number4(b, 16),
+            m3: number4(b, 20),
+        }),
+        0x17 => EventRead::Got(Event::Filled(number8(b, 0))),
+        0x18 => EventRead::Got(Event::Ticked),
+        _ => EventRead::None,
+    }
+}
+
+// The event at a place of a stream.
+pub fn event_at(stream: &[u8], at: usize) -> EventRead
+    ensures { λ r. ⌜ r ≡ eventAt (now (stream .entry)) at ⌝ }
+{
+    match read_at(stream, at) {
+        Record::Whole {
+            kind,
+            start,
+            len: _,
+            next,
+        } => event_of(kind, &stream[start..next]),
+        Record::Stopped(_) => EventRead::None,
+    }
+}
+
+// The command of a body of a kind, unjudged.
+pub fn command_of(kind: u8, b: &[u8]) -> CommandRead
+    ensures { λ r. ⌜ r ≡ commandOf kind (now (b .entry)) ⌝ }
+{
+    if b.len() != length_of(kind) as usize {
+        return CommandRead::None;
+    }
+    match kind {
+        0 => CommandRead::Got(Command::Settings {
+            sets: number2(b, 0),
+            ways: number1(b, 2),
+            percent: number1(b, 3),
+            entries: number1(b, 4),
+            readers: number1(b, 5),
+            places: number1(b, 6),
+        }),
+        1 => CommandRead::Got(Command::Read {
+            address: number8(b, 0),
+            ticket: number4(b, 8),
+        }),
+        2 => CommandRead::Got(Command::Write {
+            address: number8(b, 0),
+            mask: number4(b, 8),
+        }),
+        3 => CommandRead::Got(Command::Send),
+        4 => CommandRead::Got(Command::Fill(number8(b, 0))),
+        5 => CommandRead::Got(Command::Tick(number4(b, 0))),
+        _ => CommandRead::None,
+    }
+}
+
+// The command at a place of a stream.
+pub fn command_at(stream: &[u8], at: usize) -> CommandRead
+    ensures { λ r. ⌜ r ≡ commandAt (now (stream .entry)) at ⌝ }
+{
+    match read_at(stream, at) {
+        Record::Whole {
+            kind,
+            start,
+            len: _,
+            next,
+        } => command_of(kind, &stream[start..next]),
+        Record::Stopped(_) => CommandRead::None,
+    }
+}

@@ -1,0 +1,293 @@
+// Events, commands and what a call tells, put where there is room for them; how many bytes each of them is.
+ghost use mathlib.Core.Path.{_≡_};
+ghost use Prim.Native.Nat.{_+_, _*_, min, _≤_};
+ghost use mathlib.Core.List.{_∷_, _++_};
+ghost use lib.ListN.{length};
+ghost use Rattle.records.specs.Stores.{Laid};
+ghost use Rattle.records.specs.Fitting.{Fitting, AllFitting, CommandFits};
+ghost use Rattle.records.specs.Parts.{readTold, backTold, ticketsTold};
+ghost use Rattle.model.specs.Words.{pick};
+ghost use Rattle.model.specs.Calls.{eventsTold};
+ghost use Rattle.model.specs.Records.{bytesOf, writeBackBytes, eventBytes, logBytes, commandBytes};
+use crate::numbers::put1;
+use crate::numbers::put2;
+use crate::numbers::put4;
+use crate::numbers::put8;
+use model::Answer;
+use model::Command;
+use model::Event;
+use model::Refusal;
+use model::Told;
+
+// A kind and four bytes.
+fn put_word(out: &mut [u8], at: usize, kind: u8, x: u32) -> usize
+    requires { ⌜ at + 5 ≤ length (now out) ⌝ }
+    ensures { λ r. ⌜ Laid (now (out .entry)) at 5 (kind ∷ bytesOf 4 x) r (now (out .exit)) ⌝ }
+{
+    let i = put1(out, at, kind);
+    put4(out, i, x)
+}
+
+// A kind and an address.
+fn put_address(out: &mut [u8], at: usize, kind: u8, address: u64) -> usize
+    requires { ⌜ at + 9 ≤ length (now out) ⌝ }
+    ensures { λ r. ⌜ Laid (now (out .entry)) at 9 (kind ∷ bytesOf 8 address) r (now (out .exit)) ⌝ }
+{
+    let i = put1(out, at, kind);
+    put8(out, i, address)
+}
+
+// A kind, a block and four masks.
+fn put_back(
+    out: &mut [u8],
+    at: usize,
+    kind: u8,
+    block: u64,
+    m0: u32,
+    m1: u32,
+    m2: u32,
+    m3: u32,
+) -> usize
+    requires { ⌜ at + 25 ≤ length (now out) ⌝ }
+    ensures { λ r. ⌜ Laid (now (out .entry)) at 25 (kind ∷ writeBackBytes block m0 m1 m2 m3) r (now (out .exit)) ⌝ }
+{
+    let i = put_address(out, at, kind, block);
+    let j = put4(out, i, m0);
+    let k = put4(out, j, m1);
+    let l = put4(out, k, m2);
+    put4(out, l, m3)
+}
+
+fn put_answer(out: &mut [u8], at: usize, answer: Answer, line: u16) -> usize
+    requires { ⌜ at + 4 ≤ length (now out) ⌝ }
+    ensures { λ r. ⌜ Laid (now (out .entry)) at 4 (eventBytes (Event.Answered answer line)) r (now (out .exit)) ⌝ }
+{
+    let i = put1(out, at, 0x10);
+    let j = put1(out, i, model::answer_number(answer));
+    put2(out, j, line)
+}
+
+fn put_refusal(out: &mut [u8], at: usize, n: Refusal) -> usize
+    requires { ⌜ at + 2 ≤ length (now out) ⌝ }
+    ensures { λ r. ⌜ Laid (now (out .entry)) at 2 (eventBytes (Event.Refused n)) r (now (out .exit)) ⌝ }
+{
+    let i = put1(out, at, 0x11);
+    put1(out, i, model::refusal_number(n))
+}
+
+// How many bytes an event is. Its numbers fit their bytes: they are bound here because a bound number's type tells its range.
+pub(crate) fn event_size(e: Event) -> usize
+    ensures { λ r. ⌜ (r ≡ length (eventBytes e)) × Fitting e ⌝ }
+{
+    match e {
+        Event::Answered {
+            answer: _,
+            line: _line,
+        } => 4,
+        Event::Refused(_) => 2,
+        Event::ReadQueued(_address) => 9,
+        Event::WriteBackQueued {
+            block: _block,
+            m0: _m0,
+            m1: _m1,
+            m2: _m2,
+            m3: _m3,
+        } => 25,
+        Event::Released(_ticket) => 5,
+        Event::ReadSent(_address) => 9,
+        Event::WriteBackSent {
+            block: _block,
+            m0: _m0,
+            m1: _m1,
+            m2: _m2,
+            m3: _m3,
+        } => 25,
+        Event::Filled(_address) => 9,
+        Event::Ticked => 1,
+    }
+}
+
+pub(crate) fn put_event(e: Event, out: &mut [u8], at: usize) -> usize
+    requires { ⌜ at + length (eventBytes e) ≤ length (now out) ⌝ }
+    ensures { λ r. ⌜ Laid (now (out .entry)) at (length (eventBytes e)) (eventBytes e) r (now (out .exit)) ⌝ }
+{
+    match e {
+        Event::Answered { answer, line } => put_answer(out, at, answer, line),
+        Event::Refused(n) => put_refusal(out, at, n),
+        Event::ReadQueued(a) => put_address(out, at, 0x12, a),
+        Event::WriteBackQueued {
+            block,
+            m0,
+            m1,
+            m2,
+            m3,
+        } => put_back(out, at, 0x13, block, m0, m1, m2, m3),
+        Event::Released(t) => put_word(out, at, 0x14, t),
+        Event::ReadSent(a) => put_address(out, at, 0x15, a),
+        Event::WriteBackSent {
+            block,
+            m0,
+            m1,
+            m2,
+            m3,
+        } => put_back(out, at, 0x16, block, m0, m1, m2, m3),
+        Event::Filled(a) => put_address(out, at, 0x17, a),
+        Event::Ticked => put1(out, at, 0x18),
+    }
+}
+
+// A kind, an address and four bytes.
+fn put_request(out: &mut [u8], at: usize, kind: u8, address: u64, x: u32) -> usize
+    requires { ⌜ at + 13 ≤ length (now out) ⌝ }
+    ensures { λ r. ⌜ Laid (now (out .entry)) at 13 (kind ∷ (bytesOf 8 address ++ bytesOf 4 x)) r (now (out .exit)) ⌝ }
+{
+    let i = put_address(out, at, kind, address);
+    put4(out, i, x)
+}
+
+fn put_settings(
+    out: &mut [u8],
+    at: usize,
+    sets: u16,
+    ways: u8,
+    percent: u8,
+    entries: u8,
+    readers: u8,
+    places: u8,
+) -> usize
+    requires { ⌜ at + 8 ≤ length (now out) ⌝ }
+    ensures { λ r. ⌜ Laid (now (out .entry)) at 8 (commandBytes (Command.Settings sets ways percent entries readers places)) r (now (out .exit)) ⌝ }
+{
+    let i = put1(out, at, 0);
+    let j = put2(out, i, sets);
+    let k = put1(out, j, ways);
+    let l = put1(out, k, percent);
+    let m = put1(out, l, entries);
+    let n = put1(out, m, readers);
+    put1(out, n, places)
+}
+
+// How many bytes a command is, with numbers that fit theirs, as in event_size.
+pub(crate) fn command_size(c: Command) -> usize
+    ensures { λ r. ⌜ (r ≡ length (commandBytes c)) × CommandFits c ⌝ }
+{
+    match c {
+        Command::Settings {
+            sets: _sets,
+            ways: _ways,
+            percent: _percent,
+            entries: _entries,
+            readers: _readers,
+            places: _places,
+        } => 8,
+        Command::Read {
+            address: _address,
+            ticket: _ticket,
+        } => 13,
+        Command::Write {
+            address: _address,
+            mask: _mask,
+        } => 13,
+        Command::Send => 1,
+        Command::Fill(_address) => 9,
+        Command::Tick(_cycle) => 5,
+    }
+}
+
+pub(crate) fn put_command(c: Command, out: &mut [u8], at: usize) -> usize
+    requires { ⌜ at + length (commandBytes c) ≤ length (now out) ⌝ }
+    ensures { λ r. ⌜ Laid (now (out .entry)) at (length (commandBytes c)) (commandBytes c) r (now (out .exit)) ⌝ }
+{
+    match c {
+        Command::Settings {
+            sets,
+            ways,
+            percent,
+            entries,
+            readers,
+            places,
+        } => put_settings(out, at, sets, ways, percent, entries, readers, places),
+        Command::Read { address, ticket } => put_request(out, at, 1, address, ticket),
+        Command::Write { address, mask } => put_request(out, at, 2, address, mask),
+        Command::Send => put1(out, at, 3),
+        Command::Fill(address) => put_address(out, at, 4, address),
+        Command::Tick(cycle) => put_word(out, at, 5, cycle),
+    }
+}
+
+// The read that a call queued, if it did.
+fn put_read(out: &mut [u8], at: usize, reads: bool, address: u64) -> usize
+    requires { ⌜ at + pick reads 9 0 ≤ length (now out) ⌝ }
+    ensures { λ r. ⌜ Laid (now (out .entry)) at (pick reads 9 0) (logBytes (readTold reads address)) r (now (out .exit)) ⌝ }
+{
+    if reads {
+        put_address(out, at, 0x12, address)
+    } else {
+        at
+    }
+}
+
+// The write-back that a call queued, if it did.
+fn put_write_back(out: &mut [u8], at: usize, backs: bool, block: u64, masks: [u32; 4]) -> usize
+    requires { ⌜ at + pick backs 25 0 ≤ length (now out) ⌝ }
+    ensures { λ r. ⌜ Laid (now (out .entry)) at (pick backs 25 0) (logBytes (backTold backs block masks)) r (now (out .exit)) ⌝ }
+{
+    if backs {
+        put_back(out, at, 0x13, block, masks[0], masks[1], masks[2], masks[3])
+    } else {
+        at
+    }
+}
+
+// The tickets that a call released, in order.
+fn put_tickets(out: &mut [u8], at: usize, count: usize, tickets: [u32; 8]) -> usize
+    requires { ⌜ (count ≤ 8) × (at + 5 * count ≤ length (now out)) ⌝ }
+    ensures { λ r. ⌜ Laid (now (out .entry)) at (5 * count) (logBytes (ticketsTold count tickets)) r (now (out .exit)) ⌝ }
+{
+    let mut i = at;
+    let mut j = 0;
+    while j < count {
+        i = put_word(out, i, 0x14, tickets[j]);
+        j += 1;
+    }
+    i
+}
+
+fn size_if(there: bool, n: usize) -> usize
+    ensures { λ r. ⌜ r ≡ pick there n 0 ⌝ }
+{
+    if there { n } else { 0 }
+}
+
+// A value has room for eight tickets.
+fn ticket_count(count: usize) -> usize
+    ensures { λ r. ⌜ r ≡ min count 8 ⌝ }
+{
+    if count < 8 { count } else { 8 }
+}
+
+// How many bytes the events of a call's value are.
+pub(crate) fn told_size(told: Told) -> usize
+    ensures { λ r. ⌜ (r ≡ length (logBytes (eventsTold told))) × AllFitting (eventsTold told) ⌝ }
+{
+    let e = told.first;
+    let first = event_size(e);
+    let read = size_if(told.reads, 9);
+    let back = size_if(told.backs, 25);
+    let count = ticket_count(told.count);
+    first + read + back + 5 * count
+}
+
+pub(crate) fn put_told(told: Told, out: &mut [u8], at: usize) -> usize
+    requires { ⌜ at + length (logBytes (eventsTold told)) ≤ length (now out) ⌝ }
+    ensures { λ r. ⌜ Laid (now (out .entry)) at (length (logBytes (eventsTold told))) (logBytes (eventsTold told)) r (now (out .exit)) ⌝ }
+{
+    let first = told.first;
+    let masks = told.masks;
+    let tickets = told.tickets;
+    let count = ticket_count(told.count);
+    let i = put_event(first, out, at);
+    let j = put_read(out, i, told.reads, told.address);
+    let k = put_write_back(out, j, told.backs, told.block, masks);
+    put_tickets(out, k, count, tickets)
+}
