@@ -23,13 +23,13 @@ fn complain(page: &[u8], n: usize) {
     io::write_all(STDERR_FILENO, text::front(page, n));
 }
 
-pub(crate) fn start(x: Access, place: u64, n: Counts, most: usize) {
+pub(crate) fn start(x: Access, place: u64, n: Counts, most: usize) -> bool {
     let mut page = io::buffer();
     let end = page::put_start(x, place, n, most, &mut page);
-    print(&page, end);
+    print(&page, end)
 }
 
-// One round; nothing where a round before it could not be printed.
+// One round; nothing where what stands before it could not be printed.
 pub(crate) fn round(shown: bool, round: usize, events: &[u8], told: Told) -> bool {
     if !shown {
         return false;
@@ -39,7 +39,10 @@ pub(crate) fn round(shown: bool, round: usize, events: &[u8], told: Told) -> boo
     print(&page, end)
 }
 
-pub(crate) fn end(waiting: Waiting, most: usize) {
+pub(crate) fn end(shown: bool, waiting: Waiting, most: usize) {
+    if !shown {
+        return;
+    }
     let mut page = io::buffer();
     let end = page::put_end(waiting, most, &mut page);
     print(&page, end);

@@ -21,6 +21,12 @@ pub(crate) struct Counts {
     pub missed: usize,
 }
 
+// How the rounds end, and whether all of them could be printed.
+struct Ended {
+    waiting: Waiting,
+    shown: bool,
+}
+
 fn in_use(s: Settings, longs: &[u64], words: &[u32], marks: &[u8]) -> Counts
     requires { ⌜ Held s (lent (now longs) (now words) (now marks)) ⌝ }
     ensures { λ r. ⌜ Counted s (lent (now (longs .entry)) (now (words .entry)) (now (marks .entry))) r ⌝ }
@@ -31,7 +37,7 @@ fn in_use(s: Settings, longs: &[u64], words: &[u32], marks: &[u8]) -> Counts
     Counts { queued, missed }
 }
 
-// The rounds, `most` of them at most; each is printed as long as printing works.
+// The rounds, `most` of them at most; each is printed if all before it were.
 fn wait_rounds(
     s: Settings,
     longs: &mut [u64],
@@ -39,17 +45,18 @@ fn wait_rounds(
     marks: &mut [u8],
     x: Access,
     most: usize,
-) -> Waiting
+    started: bool,
+) -> Ended
     requires { ⌜ Held s (lent (now longs) (now words) (now marks)) ⌝ }
     requires { ⌜ (wellFormed x ≡ true) × (maskOf x ≤ allOnes) ⌝ }
     requires { ⌜ Enough s (lent (now longs) (now words) (now marks)) most ⌝ }
-    ensures { λ r. ⌜ r ≡ waitCall s x (lent (now (longs .entry)) (now (words .entry)) (now (marks .entry))) .waiting ⌝ }
+    ensures { λ r. ⌜ r .waiting ≡ waitCall s x (lent (now (longs .entry)) (now (words .entry)) (now (marks .entry))) .waiting ⌝ }
 {
     let mut space = io::large_buffer();
     let events: &mut [u8] = &mut space;
     let mut round = 0;
     let mut out = 0;
-    let mut shown = true;
+    let mut shown = started;
     while round < most {
         let made = rounds::one_round(s, longs, words, marks, x, events, out);
         round += 1;
@@ -58,10 +65,12 @@ fn wait_rounds(
         out = made.written;
         if rounds::accepted(told) {
             let answer = told.first;
-            return Waiting::Accepted { round, answer };
+            let waiting = Waiting::Accepted { round, answer };
+            return Ended { waiting, shown };
         }
     }
-    Waiting::Held
+    let waiting = Waiting::Held;
+    Ended { waiting, shown }
 }
 
 // Waits for the access whose record begins at byte `place`.
@@ -82,8 +91,9 @@ pub(crate) fn wait_for(
     }
     let n = in_use(s, longs, words, marks);
     let most = rounds::most_rounds(s, longs, words, marks);
-    says::start(x, place, n, most);
-    let waiting = wait_rounds(s, longs, words, marks, x, most);
-    says::end(waiting, most);
+    let started = says::start(x, place, n, most);
+    let ended = wait_rounds(s, longs, words, marks, x, most, started);
+    let waiting = ended.waiting;
+    says::end(ended.shown, waiting, most);
     waiting
 }

@@ -11,11 +11,11 @@ use Rattle.wait.proofs.waiting.wait_rounds.Statement.{statement}
 use Rattle.wait.proofs.waiting.wait_rounds.Tie as tie
 
 abbrev Inv-loop : tie.InvT-loop
-Inv-loop s longs₀ words₀ marks₀ x most events₀ round₀ out₀ shown₀ longs words marks events round out shown =
+Inv-loop s longs₀ words₀ marks₀ x most started events₀ round₀ out₀ shown₀ longs words marks events round out shown =
     Goes s x most (lent longs₀ words₀ marks₀) events₀ round out (lent longs words marks) events
 
 abbrev μ-loop : tie.MeasureT-loop
-μ-loop s longs₀ words₀ marks₀ x most events₀ round₀ out₀ shown₀ longs words marks events round out shown = most - round
+μ-loop s longs₀ words₀ marks₀ x most started events₀ round₀ out₀ shown₀ longs words marks events round out shown = most - round
 
 one-round-requires : tie.Need-one-round-requires Inv-loop μ-loop
 one-round-requires c κs =
