@@ -1,15 +1,15 @@
 // The last line, on standard error: why the run stopped, what was consumed and written, and a few plain words.
 use libc::STDERR_FILENO;
-use streaming::says;
 use streaming::work::Work;
+use wording::stops;
 
 fn put_line(rest: &[u8], w: Work, out: &mut [u8]) -> usize {
     let stop = w.stop;
-    let a = says::put_number(b"stop ", model::stop_number(stop) as u64, out, 0);
-    let b = says::put_number(b" consumed ", w.consumed, out, a);
-    let c = says::put_number(b" written ", w.written, out, b);
+    let a = stops::put_number(b"stop ", model::stop_number(stop) as u64, out, 0);
+    let b = stops::put_number(b" consumed ", w.consumed, out, a);
+    let c = stops::put_number(b" written ", w.written, out, b);
     let d = text::put_text(b" (", out, c);
-    let e = says::put_why(stop, rest, w.consumed, out, d);
+    let e = stops::put_why(stop, rest, w.consumed, out, d);
     text::put_text(b")\n", out, e)
 }
 

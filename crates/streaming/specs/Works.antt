@@ -25,6 +25,24 @@ readsNext next.Run = false
 readsNext next.Stopped = false
 readsNext next.Failed = false
 
+abbrev pub goesNext : Next → Bool
+goesNext next.Read = true
+goesNext next.Run = true
+goesNext next.Stopped = false
+goesNext next.Failed = false
+
+abbrev pub stoppedNext : Next → Bool
+stoppedNext next.Read = false
+stoppedNext next.Run = false
+stoppedNext next.Stopped = true
+stoppedNext next.Failed = false
+
+abbrev pub failedNext : Next → Bool
+failedNext next.Read = false
+failedNext next.Run = false
+failedNext next.Stopped = false
+failedNext next.Failed = true
+
 abbrev pub startOf : ℕ → Next → Work
 startOf have n = record { have = have; consumed = 0; written = 0; stop = stop.Nothing; next = n }
 

@@ -1,4 +1,5 @@
-// Room for the largest tables: 1,024 lines, 64 miss entries of 8 readers, 64 queue places.
+// Room for the largest tables: 1,024 lines, 64 miss entries of 8 readers, 64 queue places. What it holds is of no account:
+// the first record of a stream makes the tables fresh.
 ghost use mathlib.Core.Path.{_≡_};
 ghost use lib.ListN.{length};
 

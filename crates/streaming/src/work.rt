@@ -2,7 +2,7 @@
 use model::Ran;
 use model::Stop;
 ghost use mathlib.Core.Path.{_≡_};
-ghost use Rattle.streaming.specs.Works.{nextOf, readsNext, startOf, begunOf, stoppedOf, failedOf, behindOf};
+ghost use Rattle.streaming.specs.Works.{nextOf, readsNext, goesNext, stoppedNext, failedNext, startOf, begunOf, stoppedOf, failedOf, behindOf};
 
 // What to do next: read more bytes; run those that wait; nothing, since the stream has stopped; nothing, since reading or
 // writing failed, which standard error says.
@@ -118,7 +118,9 @@ pub fn reads(w: Work) -> bool
 }
 
 // Whether a run goes on.
-pub fn goes_on(w: Work) -> bool {
+pub fn goes_on(w: Work) -> bool
+    ensures { λ r. ⌜ r ≡ goesNext (w .next) ⌝ }
+{
     let next = w.next;
     match next {
         Next::Read => true,
@@ -128,7 +130,9 @@ pub fn goes_on(w: Work) -> bool {
     }
 }
 
-pub fn has_stopped(w: Work) -> bool {
+pub fn has_stopped(w: Work) -> bool
+    ensures { λ r. ⌜ r ≡ stoppedNext (w .next) ⌝ }
+{
     let next = w.next;
     match next {
         Next::Read => false,
@@ -138,7 +142,9 @@ pub fn has_stopped(w: Work) -> bool {
     }
 }
 
-pub fn has_failed(w: Work) -> bool {
+pub fn has_failed(w: Work) -> bool
+    ensures { λ r. ⌜ r ≡ failedNext (w .next) ⌝ }
+{
     let next = w.next;
     match next {
         Next::Read => false,

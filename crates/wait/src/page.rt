@@ -8,9 +8,9 @@ use model::Refusal;
 use model::Stop;
 use model::Told;
 use rounds::Waiting;
-use streaming::says;
 use wording::commands;
 use wording::events;
+use wording::stops;
 
 // Where the events of a round are shown to: the place of the next one, the bytes of text.
 struct Shown {
@@ -35,12 +35,12 @@ fn put_access(x: Access, out: &mut [u8], at: usize) -> usize {
 }
 
 fn put_place(place: u64, out: &mut [u8], at: usize) -> usize {
-    let a = says::put_number(b" (byte ", place, out, at);
+    let a = stops::put_number(b" (byte ", place, out, at);
     text::put_text(b")", out, a)
 }
 
 fn put_most(most: usize, out: &mut [u8], at: usize) -> usize {
-    let a = says::put_number(b": at most ", most as u64, out, at);
+    let a = stops::put_number(b": at most ", most as u64, out, at);
     if most == 1 {
         text::put_text(b" round\n", out, a)
     } else {
@@ -52,8 +52,8 @@ pub(crate) fn put_start(x: Access, place: u64, n: Counts, most: usize, out: &mut
     let a = text::put_text(b"waiting for ", out, 0);
     let b = put_access(x, out, a);
     let c = put_place(place, out, b);
-    let d = says::put_number(b", ", n.queued as u64, out, c);
-    let e = says::put_number(b" queued, ", n.missed as u64, out, d);
+    let d = stops::put_number(b", ", n.queued as u64, out, c);
+    let e = stops::put_number(b" queued, ", n.missed as u64, out, d);
     let f = text::put_text(b" missed", out, e);
     put_most(most, out, f)
 }
@@ -99,7 +99,7 @@ fn put_events(s: &[u8], out: &mut [u8], at: usize) -> usize {
 
 // A refused offer writes no event, and is told by its refusal.
 pub(crate) fn put_round(round: usize, events: &[u8], told: Told, out: &mut [u8]) -> usize {
-    let a = says::put_number(b"round ", round as u64, out, 0);
+    let a = stops::put_number(b"round ", round as u64, out, 0);
     let b = text::put_text(b"\n", out, a);
     let c = put_events(events, out, b);
     if rounds::accepted(told) {
@@ -112,8 +112,8 @@ pub(crate) fn put_round(round: usize, events: &[u8], told: Told, out: &mut [u8])
 pub(crate) fn put_end(waiting: Waiting, most: usize, out: &mut [u8]) -> usize {
     match waiting {
         Waiting::Accepted { round, answer: _ } => {
-            let a = says::put_number(b"accepted in round ", round as u64, out, 0);
-            let b = says::put_number(b" of at most ", most as u64, out, a);
+            let a = stops::put_number(b"accepted in round ", round as u64, out, 0);
+            let b = stops::put_number(b" of at most ", most as u64, out, a);
             text::put_text(b"\n", out, b)
         }
         Waiting::Held => text::put_text(b"held: no wait will help\n", out, 0),
@@ -161,9 +161,9 @@ pub(crate) fn put_empty(out: &mut [u8]) -> usize {
 }
 
 pub(crate) fn put_stopped(stop: Stop, rest: &[u8], place: u64, out: &mut [u8]) -> usize {
-    let a = says::put_number(b"stop ", model::stop_number(stop) as u64, out, 0);
-    let b = says::put_number(b" consumed ", place, out, a);
+    let a = stops::put_number(b"stop ", model::stop_number(stop) as u64, out, 0);
+    let b = stops::put_number(b" consumed ", place, out, a);
     let c = text::put_text(b" (", out, b);
-    let d = says::put_why(stop, rest, place, out, c);
+    let d = stops::put_why(stop, rest, place, out, c);
     text::put_text(b"): nothing is waited for\n", out, d)
 }

@@ -1,7 +1,11 @@
 // Commands in the assembler's own language.
+ghost use Rattle.wording.specs.Pieces.{Puts};
+ghost use Rattle.wording.specs.Commands.{fieldWords, settingsWords, addressedWords, commandWords};
 use model::Command;
 
-fn put_field(word: &[u8], n: u64, out: &mut [u8], at: usize) -> usize {
+fn put_field(word: &[u8], n: u64, out: &mut [u8], at: usize) -> usize
+    ensures { λ r. ⌜ Puts (now (out .entry)) at (fieldWords (now (word .entry)) n) r (now (out .exit)) ⌝ }
+{
     let a = text::put_text(word, out, at);
     text::put_decimal(n, out, a)
 }
@@ -15,7 +19,9 @@ fn put_settings(
     places: u8,
     out: &mut [u8],
     at: usize,
-) -> usize {
+) -> usize
+    ensures { λ r. ⌜ Puts (now (out .entry)) at (settingsWords sets ways percent entries readers places) r (now (out .exit)) ⌝ }
+{
     let a = put_field(b"settings sets ", sets as u64, out, at);
     let b = put_field(b" ways ", ways as u64, out, a);
     let c = put_field(b" dirty ", percent as u64, out, b);
@@ -24,12 +30,16 @@ fn put_settings(
     put_field(b" queue ", places as u64, out, e)
 }
 
-fn put_addressed(word: &[u8], address: u64, out: &mut [u8], at: usize) -> usize {
+fn put_addressed(word: &[u8], address: u64, out: &mut [u8], at: usize) -> usize
+    ensures { λ r. ⌜ Puts (now (out .entry)) at (addressedWords (now (word .entry)) address) r (now (out .exit)) ⌝ }
+{
     let a = text::put_text(word, out, at);
     text::put_hex(address, out, a)
 }
 
-pub fn put_command(c: Command, out: &mut [u8], at: usize) -> usize {
+pub fn put_command(c: Command, out: &mut [u8], at: usize) -> usize
+    ensures { λ r. ⌜ Puts (now (out .entry)) at (commandWords c) r (now (out .exit)) ⌝ }
+{
     match c {
         Command::Settings {
             sets,

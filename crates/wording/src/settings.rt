@@ -1,30 +1,50 @@
 // Which setting is outside its range.
+ghost use mathlib.Core.Path.{_≡_};
+ghost use mathlib.Core.Bool.{not};
+ghost use Rattle.model.specs.Range.{within, powerTo256};
+ghost use Rattle.wording.specs.Pieces.{Puts};
+ghost use Rattle.wording.specs.Settings.{settingWords, setsWords, firstWords, badWords};
 
-fn put_setting(name: &[u8], n: u8, range: &[u8], out: &mut [u8], at: usize) -> usize {
+fn put_setting(name: &[u8], n: u8, range: &[u8], out: &mut [u8], at: usize) -> usize
+    ensures { λ r. ⌜ Puts (now (out .entry)) at (settingWords (now (name .entry)) n (now (range .entry))) r (now (out .exit)) ⌝ }
+{
     let a = text::put_text(name, out, at);
     let b = text::put_decimal(n as u64, out, a);
     text::put_text(range, out, b)
 }
 
-fn is_power(sets: u16) -> bool {
-    match sets {
-        1 | 2 | 4 | 8 | 16 | 32 | 64 | 128 | 256 => true,
-        _ => false,
-    }
+fn is_power(sets: u16) -> bool
+    ensures { λ r. ⌜ r ≡ powerTo256 sets ⌝ }
+{
+    (sets == 1)
+        | (sets == 2)
+        | (sets == 4)
+        | (sets == 8)
+        | (sets == 16)
+        | (sets == 32)
+        | (sets == 64)
+        | (sets == 128)
+        | (sets == 256)
 }
 
-fn outside(n: u8, low: u8, high: u8) -> bool {
-    (n < low) | (high < n)
+fn outside(n: u8, low: u8, high: u8) -> bool
+    ensures { λ r. ⌜ r ≡ not (within low high n) ⌝ }
+{
+    !((low <= n) & (n <= high))
 }
 
-fn put_sets(sets: u16, out: &mut [u8], at: usize) -> usize {
+fn put_sets(sets: u16, out: &mut [u8], at: usize) -> usize
+    ensures { λ r. ⌜ Puts (now (out .entry)) at (setsWords sets) r (now (out .exit)) ⌝ }
+{
     let a = text::put_text(b"sets is ", out, at);
     let b = text::put_decimal(sets as u64, out, a);
     text::put_text(b", and has to be a power of two, 1 to 256", out, b)
 }
 
 // Where each setting by itself is in range, sets times ways is not.
-fn put_first(s: &[u8], out: &mut [u8], at: usize) -> usize {
+fn put_first(s: &[u8], out: &mut [u8], at: usize) -> usize
+    ensures { λ r. ⌜ Puts (now (out .entry)) at (firstWords (now (s .entry))) r (now (out .exit)) ⌝ }
+{
     let sets = records::number2(s, 1);
     let ways = records::number1(s, 3);
     let percent = records::number1(s, 4);
@@ -53,7 +73,9 @@ fn put_first(s: &[u8], out: &mut [u8], at: usize) -> usize {
 }
 
 // Of the settings record at the front of s.
-pub(crate) fn put_bad(s: &[u8], out: &mut [u8], at: usize) -> usize {
+pub(crate) fn put_bad(s: &[u8], out: &mut [u8], at: usize) -> usize
+    ensures { λ r. ⌜ Puts (now (out .entry)) at (badWords (now (s .entry))) r (now (out .exit)) ⌝ }
+{
     let a = text::put_text(b"bad settings at byte 0: ", out, at);
     put_first(s, out, a)
 }
