@@ -1,20 +1,27 @@
-// The cost of one exported call from C++, with its check and without: the time of a call, and
-// the time of the check alone that every call makes first. Tables of 1,024 lines, filled as the
-// other measurements fill them: fresh, half full and full.
+// The cost of one exported call from C++, with its check and without it.
+//
+// With: the call, on tables filled as the other measurements fill them, beside the check alone.
+// Without: the same call as a record of a stream, which labintugmo_run runs without a check; the
+// time of the stream with many such records at its end, less that of the stream without them,
+// over their number.
 //
 //   calls [RATIOS]
 //
 // Prints a Markdown table; the file RATIOS gets the ratios alone.
 #include "labintugmo.hpp"
 
-#include <ctime>
+#include <array>
 #include <cstdio>
 #include <cstdlib>
+#include <ctime>
+#include <functional>
 #include <string>
 
 namespace {
 
 using labintugmo::Cache;
+using labintugmo::Commands;
+using labintugmo::Settings;
 
 // Seconds of processor time that this program has had.
 double processor_time() {
@@ -23,71 +30,112 @@ double processor_time() {
     return static_cast<double>(time.tv_sec) + static_cast<double>(time.tv_nsec) / 1e9;
 }
 
-// Nanoseconds of one piece of work: the best of five batches of 20 milliseconds or more.
-template <class Work>
-double one(Work work) {
-    const auto batch = [&work](long count) {
-        const double start = processor_time();
-        for (long i = 0; i < count; ++i) {
-            work();
-        }
-        return processor_time() - start;
-    };
-    long count = 1;
-    while (batch(count) < 0.02) {
-        count *= 2;
+using Work = std::function<void()>;
+
+double seconds(const Work& work, long count) {
+    const double start = processor_time();
+    for (long i = 0; i < count; ++i) {
+        work();
     }
-    double least = batch(count);
-    for (int round = 1; round < 5; ++round) {
-        const double time = batch(count);
-        least = time < least ? time : least;
-    }
-    return least / static_cast<double>(count) * 1e9;
+    return processor_time() - start;
 }
 
-void expect(bool accepted) {
-    if (!accepted) {
-        std::fprintf(stderr, "calls: a call is refused that should not be\n");
+// Nanoseconds of one of each piece of work: the best of many short batches, taken in turns.
+template <std::size_t N>
+std::array<double, N> one(const std::array<Work, N>& works) {
+    std::array<long, N> counts{};
+    std::array<double, N> least{};
+    for (std::size_t i = 0; i < N; ++i) {
+        counts[i] = 1;
+        while (seconds(works[i], counts[i]) < 0.004) {
+            counts[i] *= 2;
+        }
+        least[i] = 1e9;
+    }
+    for (int round = 0; round < 60; ++round) {
+        for (std::size_t i = 0; i < N; ++i) {
+            const double time = seconds(works[i], counts[i]) / static_cast<double>(counts[i]);
+            least[i] = time < least[i] ? time : least[i];
+        }
+    }
+    for (double& time : least) {
+        time *= 1e9;
+    }
+    return least;
+}
+
+void expect(bool fine, const char* what) {
+    if (!fine) {
+        std::fprintf(stderr, "calls: %s\n", what);
         std::exit(1);
     }
 }
 
 // So many live lines, a third of them with a dirty sector, and so many reads in the queue, each
 // entry but the last with four readers.
-Cache filled(std::uint64_t lines, std::uint64_t reads) {
-    auto made = Cache::make({256, 4, 0, 64, 4, 64});
-    expect(made.has_value());
-    Cache cache = std::move(*made);
+Commands filling(const Settings& settings, std::uint64_t lines, std::uint64_t reads) {
+    Commands commands;
+    commands.settings(settings);
     for (std::uint64_t block = 0; block < lines; ++block) {
         const std::uint64_t address = 128 * block;
-        expect(cache.read(address, 0) && cache.send() && cache.fill(address).accepted());
-        expect(block % 3 != 0 || cache.write(address + 32, 0xFF).accepted());
+        commands.read(address, 0);
+        commands.send();
+        commands.fill(address);
+        if (block % 3 == 0) {
+            commands.write(address + 32, 0xFF);
+        }
     }
     for (std::uint64_t block = 0; block < reads; ++block) {
         const std::uint32_t readers = block + 1 < reads ? 4 : 1;
         for (std::uint32_t ticket = 0; ticket < readers; ++ticket) {
-            expect(cache.read(128 * block + 64, ticket).accepted());
+            commands.read(128 * block + 64, ticket);
         }
     }
-    return cache;
+    return commands;
 }
 
-struct Cost {
-    double check;
-    double tick;
-    double read;  // 0 where no read can hit
+// A stream, and all that its run needs.
+struct Stream {
+    std::vector<std::uint8_t> bytes, room;
+    Cache cache;
+
+    explicit Stream(const Commands& commands)
+        : bytes(commands.bytes()),
+          room(labintugmo::event_room(bytes.data(), bytes.size())),
+          cache(*labintugmo::run(bytes).cache) {}
+
+    void run() {
+        const auto ran = cache.run(bytes.data(), bytes.size(), room.data(), room.size());
+        expect(ran.stop == labintugmo::Stop::end, "a stream stops before its end");
+    }
 };
 
-Cost measure(Cache cache, bool hits) {
-    Cost cost{};
-    volatile std::size_t written = 0;  // keeps the work from being left out
-    cost.check = one([&] { written = cache.check().has_value(); });
-    cost.tick = one([&] { written = cache.tick(0).size(); });
-    if (hits) {
-        expect(cache.read(0, 0).answer() == labintugmo::Answer::hit);
-        cost.read = one([&] { written = cache.read(0, 0).size(); });
+struct Cost {
+    double check, tick, tick_alone, read, read_alone;
+};
+
+constexpr long repeats = 200000;
+
+Cost measure(const Commands& start, bool hits) {
+    Commands ticks = start, reads = start;
+    for (long i = 0; i < repeats; ++i) {
+        ticks.tick(0);
+        reads.read(0, 0);
     }
-    return cost;
+    Stream filled(start), ticked(ticks), read(hits ? reads : start);
+    Cache cache = filled.cache;
+    const std::vector<std::uint8_t> log = labintugmo::run(start.bytes()).log;
+    for (const auto& event : labintugmo::Log(log)) {
+        expect(!std::holds_alternative<labintugmo::Refused>(event), "a filling call is refused");
+    }
+    expect(!hits || cache.read(0, 0).answer() == labintugmo::Answer::hit, "a read is no HIT");
+    volatile std::size_t written = 0;  // keeps the work from being left out
+    const auto times = one<6>({[&] { written = cache.check().has_value(); },
+                               [&] { written = cache.tick(0).size(); },
+                               [&] { written = hits ? cache.read(0, 0).size() : 0; },
+                               [&] { filled.run(); }, [&] { ticked.run(); }, [&] { read.run(); }});
+    return {times[0], times[1], (times[4] - times[3]) / repeats, hits ? times[2] : 0,
+            (times[5] - times[3]) / repeats};
 }
 
 std::string cell(const char* format, double number) {
@@ -96,42 +144,48 @@ std::string cell(const char* format, double number) {
     return std::string(" ") + text + " |";
 }
 
+const char* const title = "### One exported call from C++\n\n"
+    "Through labintugmo.hpp; the tables of 1,024 lines are those of the soundness check; a read "
+    "is a HIT. Without its check: the same call as a record of a stream, its reading included.\n\n";
+
+const struct {
+    const char* name;
+    Settings settings;
+    std::uint64_t lines, reads;
+} kinds[] = {{"1 x 1, one live line", {1, 1, 0, 1, 4, 2}, 1, 0},
+             {"256 x 4, fresh", {256, 4, 0, 64, 4, 64}, 0, 0},
+             {"256 x 4, half full", {256, 4, 0, 64, 4, 64}, 512, 32},
+             {"256 x 4, full", {256, 4, 0, 64, 4, 64}, 1024, 63}};
+
 }  // namespace
 
 int main(int argc, char** argv) {
-    const std::string title = "### One exported call from C++\n\n"
-        "Through labintugmo.hpp, on the tables of the soundness check; a read is a HIT. Without "
-        "its check: the time of the call less that of the check alone.\n\n";
-    std::string figures = title + "| | check alone | tick | read | tick without its check | "
-        "read without its check |\n|---|---:|---:|---:|---:|---:|\n";
-    std::string ratios = title + "| | tick over check | read over check | "
-        "share of a read without its check |\n|---|---:|---:|---:|\n";
-    const struct {
-        const char* name;
-        std::uint64_t lines, reads;
-    } kinds[] = {{"fresh", 0, 0}, {"half full", 512, 32}, {"full", 1024, 63}};
+    std::string figures = std::string(title) +
+        "| | check alone | tick | without its check | read | without its check |\n"
+        "|---|---:|---:|---:|---:|---:|\n";
+    std::string ratios = std::string(title) +
+        "| | tick, with over without | read, with over without |\n|---|---:|---:|\n";
     for (const auto& kind : kinds) {
-        const Cost cost = measure(filled(kind.lines, kind.reads), kind.lines > 0);
-        figures += std::string("| ") + kind.name + " |" + cell("%.0f ns", cost.check) +
-                   cell("%.0f ns", cost.tick);
-        ratios += std::string("| ") + kind.name + " |" + cell("%.3f", cost.tick / cost.check);
-        if (cost.read > 0) {
-            figures += cell("%.0f ns", cost.read) + cell("%.0f ns", cost.tick - cost.check) +
-                       cell("%.0f ns", cost.read - cost.check) + "\n";
-            ratios += cell("%.3f", cost.read / cost.check) +
-                      cell("%.3f", (cost.read - cost.check) / cost.read) + "\n";
+        const Cost cost = measure(filling(kind.settings, kind.lines, kind.reads), kind.lines > 0);
+        const std::string name = std::string("| ") + kind.name + " |";
+        figures += name + cell("%.0f ns", cost.check) + cell("%.0f ns", cost.tick) +
+                   cell("%.1f ns", cost.tick_alone);
+        ratios += name + cell("%.1f", cost.tick / cost.tick_alone);
+        if (kind.lines > 0) {
+            figures += cell("%.0f ns", cost.read) + cell("%.1f ns", cost.read_alone);
+            ratios += cell("%.1f", cost.read / cost.read_alone);
         } else {
-            figures += " |" + cell("%.0f ns", cost.tick - cost.check) + " |\n";
-            ratios += " | |\n";
+            figures += " | |";
+            ratios += " |";
         }
+        figures += "\n";
+        ratios += "\n";
     }
     std::printf("%s", figures.c_str());
     if (argc > 1) {
         std::FILE* file = std::fopen(argv[1], "w");
-        if (file == nullptr || std::fputs(ratios.c_str(), file) < 0 || std::fclose(file) != 0) {
-            std::fprintf(stderr, "calls: cannot write %s\n", argv[1]);
-            return 1;
-        }
+        expect(file != nullptr && std::fputs(ratios.c_str(), file) >= 0 && std::fclose(file) == 0,
+               "the ratios cannot be written");
     }
     return 0;
 }

@@ -25,7 +25,7 @@ struct Options {
 }
 
 fn options() -> Option<Options> {
-    let mut options = Options { accesses: 1_000_000, rounds: 5, ratios: None };
+    let mut options = Options { accesses: 1_000_000, rounds: 15, ratios: None };
     let mut words = std::env::args().skip(1);
     while let Some(word) = words.next() {
         let value = words.next()?;
@@ -183,7 +183,7 @@ fn runner(options: &Options, streams: &[Measured]) -> Table {
     }
 }
 
-/// How many of the stream's commands the library's single calls do in about half a second.
+/// How many of the stream's commands the library's single calls do in about a fifth of a second.
 fn commands_in_time(measured: &Measured) -> usize {
     let mut tables = Tables::fresh(measured.settings);
     let mut room = [0; 64];
@@ -193,7 +193,7 @@ fn commands_in_time(measured: &Measured) -> usize {
         let written = tables.call(*command, &mut room);
         assert!(room[..written] == measured.log[at..at + written], "the library's events differ");
         at += written;
-        if count % 64 == 63 && processor_time() - start > 0.5 {
+        if count % 64 == 63 && processor_time() - start > 0.2 {
             return count + 1;
         }
     }
@@ -274,18 +274,25 @@ fn filled(lines: u64, reads: u64) -> Tables {
     tables
 }
 
-/// Seconds for one piece of work, from batches that take long enough to be timed.
-fn one<const N: usize>(rounds: usize, works: [&mut dyn FnMut(); N]) -> [f64; N] {
-    const BATCH: f64 = 0.02;
-    works.map(|work| {
-        let mut count = 1;
-        while timed(|| (0..count).for_each(|_| work())) < BATCH {
-            count *= 2;
+/// Seconds for one of each piece of work, from batches that take long enough to be timed and are
+/// short enough that many of them run undisturbed.
+fn one<const N: usize>(rounds: usize, mut works: [&mut dyn FnMut(); N]) -> [f64; N] {
+    const BATCH: f64 = 0.004;
+    const BATCHES: usize = 8;
+    let mut counts = [1; N];
+    for (work, count) in works.iter_mut().zip(&mut counts) {
+        while timed(|| (0..*count).for_each(|_| work())) < BATCH {
+            *count *= 2;
         }
-        let mut batch = || (0..count).for_each(|_| work());
-        let [least] = best(rounds, [&mut batch]);
-        least / f64::from(count)
-    })
+    }
+    let mut least = [f64::INFINITY; N];
+    for _ in 0..BATCHES * rounds {
+        for ((work, least), &count) in works.iter_mut().zip(&mut least).zip(&counts) {
+            let time = timed(|| (0..count).for_each(|_| work()));
+            *least = least.min(time / f64::from(count));
+        }
+    }
+    least
 }
 
 fn plain_sound(tables: &Tables) -> bool {

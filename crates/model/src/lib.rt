@@ -179,13 +179,13 @@ pub struct Ran {
 // What a call tells: its first event, then the read and the write-back that it queued, then the tickets that it released.
 pub struct Told {
     pub first: Event,
-    pub reads: bool,
     pub address: u64,
-    pub backs: bool,
     pub block: u64,
-    pub masks: [u32; 4],
     pub count: usize,
+    pub masks: [u32; 4],
     pub tickets: [u32; 8],
+    pub reads: bool,
+    pub backs: bool,
 }
 
 // A status as its number.

@@ -10,7 +10,7 @@ use Rattle.records.proofs.writer.put_told.Tie as tie
 
 -- a value has eight tickets
 long : (c : tie.Start) → length (c .args .told .tickets) ≡ 8
-long c = words-length 8 (c .args .told .tickets) _ (c .good .0 .1 .1 .1 .1 .1 .1 .1 .1 .1 .0)
+long c = words-length 8 (c .args .told .tickets) _ (c .good .0 .1 .1 .1 .1 .1 .1 .1 .0)
 
 put-event-requires : tie.Need-put-event-requires
 put-event-requires c κs =

@@ -30,11 +30,11 @@ returns c =
     let s = e .before in
     let t = s .args .told in
     let g = s .good .0 .1 .1 in
-    let masks = words-below 4 (t .masks) _ (g .1 .1 .1 .1 .1 .0) in
-    let tickets = words-below 8 (t .tickets) _ (g .1 .1 .1 .1 .1 .1 .1 .0) in
-    let long = words-length 8 (t .tickets) _ (g .1 .1 .1 .1 .1 .1 .1 .0) in (
+    let masks = words-below 4 (t .masks) _ (g .1 .1 .1 .1 .0) in
+    let tickets = words-below 8 (t .tickets) _ (g .1 .1 .1 .1 .1 .0) in
+    let long = words-length 8 (t .tickets) _ (g .1 .1 .1 .1 .1 .0) in (
       told-sized t long (e .event-size .ensures .0) (r .size-if .ensures) (b .size-if2 .ensures) (c .ticket-count .ensures),
-      told-fits t (e .event-size .ensures .1) (g .1 .1 .0 .1) (g .1 .1 .1 .1 .0 .1) masks tickets,
+      told-fits t (e .event-size .ensures .1) (g .1 .0 .1) (g .1 .1 .0 .1) masks tickets,
     )
 
 pub told-size-spec : {M : Type 1} → statement M
