@@ -24,10 +24,9 @@ use Rattle.model.specs.declared.Stop.{Stop}
 use Rattle.model.specs.declared.Stop.the-variants as stop
 use Rattle.model.specs.declared.Told.{Told}
 use Rattle.model.proofs.Bridge.{does-tells}
-use Rattle.records.specs.Stores.{Stored}
 use Rattle.records.proofs.Stores.{was-stored}
 use Rattle.records.proofs.Room.{Takes, refused-takes, step-takes}
-use Rattle.runner.specs.Resume.{kindAt, restAt, single, recordFrom, Stands, Acts, Resumes}
+use Rattle.runner.specs.Resume.{kindAt, restAt, single, recordFrom, Stands, Notes, Resumes}
 use Rattle.runner.proofs.Running.{Going, going}
 
 -- ---- the events of one step
@@ -92,13 +91,16 @@ module _ (S : Settings) (s : List ℕ) (at out : ℕ) (e : List ℕ) (L : Lent) 
     -- its body is the part of the stream that the code hands over
     module _ {m : ℕ} (m-is : m ≡ lengthOf (kindAt s at)) {x : CommandRead}
         (read : x ≡ commandOf (kindAt s at) (take (at + 1 + m - (at + 1)) (drop (at + 1) s)))
-        {told : Told} {M : Lent} (acts : Acts S (stepRead S x) L told M) (held : Held S L) where
+        {w : ℕ} {f : List ℕ} {M : Lent} (notes : Notes S (stepRead S x) L e out w f M) (held : Held S L) where
+      abbrev told : Told
+      told = notes .noted .told
+
       step-is : (t : Tables) → stepRead S x t ≡ stepAt S (kindAt s at) (restAt s at) t
       unfolding stepAt
       step-is t = let q : at + 1 + m - (at + 1) ≡ lengthOf (kindAt s at) = omega arith in rw (read, q)
 
       told-is : (t : Tables) → Is S L t → eventsTold told ≡ eventsOf (stepAt S (kindAt s at) (restAt s at) t)
-      told-is t i = does-tells S (acts .does) t i ∙ ap eventsOf (step-is t)
+      told-is t i = does-tells S (notes .noted .does) t i ∙ ap eventsOf (step-is t)
 
       told-room : out + length (logBytes (eventsTold told)) ≤ length e
       told-room =
@@ -107,18 +109,18 @@ module _ (S : Settings) (s : List ℕ) (at out : ℕ) (e : List ℕ) (L : Lent) 
           let w = step-room S (kindAt s at) (restAt s at) (held .tables) (i .range) (i .soundly) in
           rw (told-is (held .tables) i) (let r = here .room in omega arith)
 
-      pub single-runs : at < length s → {w : ℕ} {f : List ℕ} → Stored e out (logBytes (eventsTold told)) w f → length f ≡ length e
+      pub single-runs : at < length s → length f ≡ length e
           → Resumes S (recordFrom S s at out e) s at out e L record { stop = stop.Nothing; consumed = at + 1 + m; written = out + w } f M
-      single-runs inside {w} {f} st size =
-          let (count, slice) = was-stored e out (logBytes (eventsTold told)) st told-room in
+      single-runs inside size =
+          let (count, slice) = was-stored e out (logBytes (eventsTold told)) (notes .noted .stored) told-room in
           record {
             on = λ t i. rw (ran t) record {
               stop = refl;
               consumed = omega arith;
               written = rw (← told-is t i, length-append, long) (omega arith);
               events = rw (← told-is t i, length-append, long) (slice ∙ sets-eq (logBytes (eventsTold told)) e out told-room);
-              tables = rw (← step-is t) (acts .keeps t i .encoded);
+              tables = rw (← step-is t) (notes .keeps t i .encoded);
             };
-            keeps = λ t i. rw (ran t, ← step-is t) (acts .keeps t i);
+            keeps = λ t i. rw (ran t, ← step-is t) (notes .keeps t i);
             stands = record { inside = next-inside s at out e d goes inside m-is; room = let r = told-room in omega arith };
           }

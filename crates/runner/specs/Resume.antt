@@ -9,10 +9,12 @@ use Rattle.model.specs.Lent.{Lent}
 use Rattle.model.specs.Records.{lengthOf, logBytes}
 use Rattle.model.specs.Runner.{goesOn, laterStop, stepAt, Result, halt, ahead, runFrom, lentResult, Runs}
 use Rattle.model.specs.Inner.{Is, Does}
+use Rattle.model.specs.Calls.{eventsTold}
 use Rattle.model.specs.declared.Settings.{Settings}
 use Rattle.model.specs.declared.Stop.the-variants as stop
 use Rattle.model.specs.declared.Told.{Told}
 use Rattle.model.specs.declared.Ran.{Ran}
+use Rattle.records.specs.Stores.{Stored}
 
 -- the kind of the record at a place of a stream, and the bytes behind that
 abbrev pub kindAt : List ℕ → ℕ → ℕ
@@ -44,9 +46,15 @@ pub record Stands (s : List ℕ) (at out : ℕ) (e : List ℕ) : Type 0 where
   pub inside : at ≤ length s
   pub room : out ≤ length e
 
--- a step on sound tables told r and left the slices M, which hold sound tables again
-pub record Acts (S : Settings) (step : Tables → Outcome Tables) (L : Lent) (r : Told) (M : Lent) : Type 0 where
-  pub does : Does S step L r M
+-- a step on what the slices L hold left the slices M, and its events stand behind `out` bytes: n of them
+pub record Noted (S : Settings) (step : Tables → Outcome Tables) (L : Lent) (e : List ℕ) (out n : ℕ) (f : List ℕ) (M : Lent) : Type 0 where
+  pub told : Told
+  pub does : Does S step L told M
+  pub stored : Stored e out (logBytes (eventsTold told)) n f
+
+-- the same, and M holds sound tables again
+pub record Notes (S : Settings) (step : Tables → Outcome Tables) (L : Lent) (e : List ℕ) (out n : ℕ) (f : List ℕ) (M : Lent) : Type 0 where
+  pub noted : Noted S step L e out n f M
   pub keeps : (t : Tables) → Is S L t → Is S M (after t (step t))
 
 -- the records that o runs from there, on the sound tables that L holds, leave this; consumed and written count from the start

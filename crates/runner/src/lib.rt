@@ -8,16 +8,16 @@ use model::Ran;
 use model::Refusal;
 use model::Settings;
 use model::Stop;
-use model::Told;
 ghost use mathlib.Core.Path.{_≡_};
 ghost use Prim.Native.Nat.{_<_};
 ghost use lib.ListN.{length};
 ghost use Rattle.model.specs.Lent.{lent};
 ghost use Rattle.model.specs.Inner.{Held};
+ghost use Rattle.model.specs.Steps.{access};
 ghost use Rattle.model.specs.Runner.{settingsOf, firstStop, goesOn, laterStop, stepOf, stepRead, run, Runs};
 ghost use Rattle.runner.specs.Begin.{Begins, firstThere};
 ghost use Rattle.runner.specs.Lengths.{noLengths, lengthsFor};
-ghost use Rattle.runner.specs.Resume.{kindAt, restAt, Stands, Acts, recordFrom, restFrom, Resumes};
+ghost use Rattle.runner.specs.Resume.{kindAt, restAt, Stands, Noted, Notes, recordFrom, restFrom, Resumes};
 
 // "16 fewer than 64 bytes of event room"
 const EVENT_ROOM: usize = 64;
@@ -108,11 +108,38 @@ fn later_stop(stream: &[u8], at: usize, room: usize) -> Stop
     Stop::Nothing
 }
 
-// The step of a command, on sound tables. Settings are refused: the checks before it let none through.
-fn step_of(s: Settings, longs: &mut [u64], words: &mut [u32], marks: &mut [u8], x: Command) -> Told
+// One access on sound tables, and its events behind `out` bytes.
+fn note_access(
+    s: Settings,
+    longs: &mut [u64],
+    words: &mut [u32],
+    marks: &mut [u8],
+    x: Access,
+    events: &mut [u8],
+    out: usize,
+) -> usize
     requires { ⌜ Held s (lent (now longs) (now words) (now marks)) ⌝ }
-    ensures { λ r. ⌜ Acts s (stepOf s x) (lent (now (longs .entry)) (now (words .entry)) (now (marks .entry))) r
-        (lent (now (longs .exit)) (now (words .exit)) (now (marks .exit))) ⌝ }
+    ensures { λ r. ⌜ Noted s (access s x) (lent (now (longs .entry)) (now (words .entry)) (now (marks .entry))) (now (events .entry)) out r
+        (now (events .exit)) (lent (now (longs .exit)) (now (words .exit)) (now (marks .exit))) ⌝ }
+{
+    let told = access::access_step(s, longs, words, marks, x);
+    records::write_told(told, events, out)
+}
+
+// The step of a command, on sound tables, and its events behind `out` bytes. Settings are refused: the checks before it let none
+// through. Each arm writes what its own step tells, so that no such value, which is large, is copied to a common place.
+fn step_of(
+    s: Settings,
+    longs: &mut [u64],
+    words: &mut [u32],
+    marks: &mut [u8],
+    x: Command,
+    events: &mut [u8],
+    out: usize,
+) -> usize
+    requires { ⌜ Held s (lent (now longs) (now words) (now marks)) ⌝ }
+    ensures { λ r. ⌜ Notes s (stepOf s x) (lent (now (longs .entry)) (now (words .entry)) (now (marks .entry))) (now (events .entry)) out r
+        (now (events .exit)) (lent (now (longs .exit)) (now (words .exit)) (now (marks .exit))) ⌝ }
 {
     match x {
         Command::Settings {
@@ -122,14 +149,14 @@ fn step_of(s: Settings, longs: &mut [u64], words: &mut [u32], marks: &mut [u8], 
             entries: _,
             readers: _,
             places: _,
-        } => tables::refused(Refusal::SettingOutOfRange),
+        } => records::write_told(tables::refused(Refusal::SettingOutOfRange), events, out),
         Command::Read { address, ticket } => {
             let access = Access::Read {
                 address,
                 mask: 0,
                 ticket,
             };
-            access::access_step(s, longs, words, marks, access)
+            note_access(s, longs, words, marks, access, events, out)
         }
         Command::Write { address, mask } => {
             let access = Access::Write {
@@ -137,11 +164,17 @@ fn step_of(s: Settings, longs: &mut [u64], words: &mut [u32], marks: &mut [u8], 
                 mask,
                 ticket: 0,
             };
-            access::access_step(s, longs, words, marks, access)
+            note_access(s, longs, words, marks, access, events, out)
         }
-        Command::Send => steps::send_step(s, longs, words, marks),
-        Command::Fill(address) => steps::fill_step(s, longs, words, marks, address),
-        Command::Tick(cycle) => steps::tick_step(s, longs, words, marks, cycle),
+        Command::Send => records::write_told(steps::send_step(s, longs, words, marks), events, out),
+        Command::Fill(address) => {
+            let told = steps::fill_step(s, longs, words, marks, address);
+            records::write_told(told, events, out)
+        }
+        Command::Tick(cycle) => {
+            let told = steps::tick_step(s, longs, words, marks, cycle);
+            records::write_told(told, events, out)
+        }
     }
 }
 
@@ -152,14 +185,18 @@ fn step_read(
     words: &mut [u32],
     marks: &mut [u8],
     x: CommandRead,
-) -> Told
+    events: &mut [u8],
+    out: usize,
+) -> usize
     requires { ⌜ Held s (lent (now longs) (now words) (now marks)) ⌝ }
-    ensures { λ r. ⌜ Acts s (stepRead s x) (lent (now (longs .entry)) (now (words .entry)) (now (marks .entry))) r
-        (lent (now (longs .exit)) (now (words .exit)) (now (marks .exit))) ⌝ }
+    ensures { λ r. ⌜ Notes s (stepRead s x) (lent (now (longs .entry)) (now (words .entry)) (now (marks .entry))) (now (events .entry)) out r
+        (now (events .exit)) (lent (now (longs .exit)) (now (words .exit)) (now (marks .exit))) ⌝ }
 {
     match x {
-        CommandRead::Got(c) => step_of(s, longs, words, marks, c),
-        CommandRead::None => tables::refused(Refusal::SettingOutOfRange),
+        CommandRead::Got(c) => step_of(s, longs, words, marks, c, events, out),
+        CommandRead::None => {
+            records::write_told(tables::refused(Refusal::SettingOutOfRange), events, out)
+        }
     }
 }
 
@@ -194,8 +231,7 @@ fn run_one(
     let start = at + 1;
     let next = start + records::length_of(kind) as usize;
     let x = records::command_of(kind, &stream[start..next]);
-    let told = step_read(s, longs, words, marks, x);
-    let n = records::write_told(told, events, out);
+    let n = step_read(s, longs, words, marks, x, events, out);
     Ran {
         stop: Stop::Nothing,
         consumed: next,

@@ -9,9 +9,8 @@ use Rattle.runner.proofs.run_one.Tie as tie
 
 returns-2 : tie.Need-returns-2
 returns-2 c =
-    let w = c .before .before in
-    let r = w .before .before .before .before .before .before .before .before in
-    let x = r .before .before .before .before in
+    let r = c .before .before .before .before .before .before .before .before in
+    let x = r .before .before .before .before .before in
     let n = x .before .before in
     let g = n .before .before in
     let l = g .before .before in
@@ -19,7 +18,7 @@ returns-2 c =
     let a = p .args in
     single-runs (a .s) (a .stream .now) (a .at) (a .out) (a .events .now) _ (p .pre .1 .0) (l .later-stop .ensures)
     (sym (g .before .goes-on .ensures) ∙ not-false _ (g .if1 .left)) (n .length-of .ensures) (x .command-of .ensures) (r .step-read .ensures)
-    (p .pre .0) (p .pre .1 .1) (w .write-told .ensures .0) (w .write-told .kept .1 .0)
+    (p .pre .0) (p .pre .1 .1) (r .step-read .kept .1 .1 .1 .1 .1 .0)
 
 pub run-one-spec : {M : Type 1} → statement M
 run-one-spec =
@@ -51,14 +50,12 @@ run-one-spec =
     omega arith)
     (λ c κs. search needs)
     (λ c κs. search needs)
-    (λ c κs. search needs)
     -- what is written ends within the events
     (λ c.
-    let w = c .before .before in
-    let x = w .before .before .before .before .before .before .before .before .before .before .before .before in
-    let p = x .before .before .before .before .before .before .before .before .before .before .before .before in
+    let r = c .before .before .before .before .before .before .before .before in
+    let p = r .before .before .before .before .before .before .before .before .before .before .before .before .before .before .before .before .before in
     let n = returns-2 c .stands .room in
-    let k = w .write-told .kept .1 .0 in
+    let k = r .step-read .kept .1 .1 .1 .1 .1 .0 in
     let b = p .good .1 .1 .1 .0 .0 in
     omega arith)
     (λ c. search needs)

@@ -1,6 +1,6 @@
--- The step of a command read, or a refusal.
+-- The step of a command read, or a refusal, its events stored.
 use borrow.Author.Needs.{needs}
-use Rattle.runner.proofs.Acting.{refused-acts}
+use Rattle.runner.proofs.Acting.{refused-notes}
 use Rattle.runner.proofs.step_read.Statement.{statement}
 use Rattle.runner.proofs.step_read.Tie as tie
 
@@ -12,10 +12,11 @@ step-read-spec =
     (λ c κs. search needs)
     (λ c. search needs)
     (λ c κs. search needs)
+    (λ c κs. search needs)
     (λ c. search needs)
     (λ c. search needs)
     (λ c. search needs)
-    (λ c.
-    let a = c .before .before .before .before .before .before in
-    rw (a .before .before .before .before .before .x .given .1) (a .step-of .ensures))
-    (λ c. rw (c .before .enum-told .given .1) (refused-acts _ (c .refused .ensures))))
+    (λ c. search needs)
+    (λ c. let a = c .before .before .before .before .before .before .before .before in rw (a .before .before .before .before .before .before .x .given .1) (a .step-of .ensures))
+    (λ c. search needs)
+    (λ c. let w = c .before .before in let r = w .before .before in rw (r .before .enum-told .given .1) (refused-notes _ (r .refused .ensures) (w .write-told .ensures .0))))
