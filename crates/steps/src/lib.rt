@@ -180,9 +180,11 @@ pub fn tick_step(s: Settings, longs: &[u64], words: &mut [u32], marks: &[u8], cy
     ensures { λ r. ⌜ Does s (tick cycle) (lent (now (longs .entry)) (now (words .entry)) (now (marks .entry))) r
         (lent (now (longs .entry)) (now (words .exit)) (now (marks .entry))) ⌝ }
 {
-    if (cycle < words[0]) | (4294967294 < cycle) {
-        return tables::refused(Refusal::BadCycle);
-    }
-    words[0] = cycle;
-    tables::blank(Event::Ticked)
+    let event = if (cycle < words[0]) | (4294967294 < cycle) {
+        Event::Refused(Refusal::BadCycle)
+    } else {
+        words[0] = cycle;
+        Event::Ticked
+    };
+    tables::blank(event)
 }
