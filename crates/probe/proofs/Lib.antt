@@ -2,6 +2,7 @@
 pub mod Statuses
 pub mod Scans
 pub mod Ways
+pub mod Settled
 pub mod Lines
 pub mod Meetings
 pub mod Held

@@ -1,15 +1,18 @@
 -- Searches over the numbers below n: one turn of each loop, and what the loop has found where it ends.
-use Prim.Native.Nat.{ℕ, zero, suc, _+_, _≤_, _<_}
-use mathlib.Core.Path.{_≡_, refl, sym, _∙_}
+use Prim.Native.Nat.{ℕ, zero, suc, _+_, _*_, _≤_, _<_}
+use mathlib.Core.Path.{_≡_, refl, sym, ap, _∙_}
 use mathlib.Core.Logic.{⊎-elim}
 use mathlib.Core.Bool.{Bool, true, false}
 use native.Mathlib.Nat.{not-suc-le-zero, le-of-suc-le-suc, eq-or-lt-of-le}
 use native.Mathlib.Numerals.{add-one}
 use native.Mathlib.Omega.{arith}
-use borrow.Author.Tests.{lt-ltb, le-ltb}
+use lib.Dec.{leb}
+use borrow.Author.Tests.{lt-ltb, le-ltb, le-leb}
+use Rattle.model.specs.Words.{countBelow}
 use Rattle.model.specs.Probe.{orElse}
 use Rattle.model.specs.declared.Found.{Found}
 use Rattle.model.specs.declared.Found.the-variants.{At, Nothing}
+use Rattle.model.proofs.Below.{Counted, counted-end}
 use Rattle.probe.specs.declared.Best.{Best}
 use Rattle.probe.specs.declared.Best.the-variants.{Way, Nowhere}
 use Rattle.probe.specs.Scan.{firstBelow, lastBelow, bestBelow, nearerOf}
@@ -80,6 +83,19 @@ module _ (p : ℕ → Bool) where
 
     pub leads-end : (n i : ℕ) (b : Best) → n ≤ i → Leads n i b → b ≡ bestBelow n p key
     leads-end n i b h u = let e : n ≡ i = omega arith in rw e (u .1)
+
+  -- ---- a count against a share: reached before i, or not before the end
+
+  count-grows : (n i : ℕ) → i ≤ n → countBelow i p ≤ countBelow n p
+  count-grows zero i h = let e : i ≡ 0 = omega arith in rw e (omega arith)
+  count-grows (suc n) i h =
+      ⊎-elim (λ (e : i ≡ suc n). rw e (omega arith)) (λ (k : i < suc n). let m = count-grows n i (le-of-suc-le-suc k) in omega arith) (eq-or-lt-of-le h)
+
+  pub share-stop : (share n i k : ℕ) → share ≤ 100 * k → Counted p n i k → true ≡ leb share (100 * countBelow n p)
+  share-stop share n i k h c = let m = count-grows n i (c .0) in sym (le-leb share (100 * countBelow n p) (omega arith))
+
+  pub share-end : (share n i k : ℕ) → n ≤ i → Counted p n i k → leb share (100 * k) ≡ leb share (100 * countBelow n p)
+  share-end share n i k h c = ap (λ (d : ℕ). leb share (100 * d)) (counted-end p n i k h c)
 
 -- ---- the best against one more
 

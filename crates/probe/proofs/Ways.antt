@@ -237,7 +237,7 @@ best-under-pick n k false v h = under-more n (wayOf v) h
 best-under-pick n k true Nowhere h = omega arith
 best-under-pick n k true (Way v j) h = ⊎-elim (λ (e : ltb k j ≡ true). rw e (omega arith)) (λ (e : ltb k j ≡ false). rw e (omega arith)) (flag (ltb k j))
 
-best-under : (p : ℕ → Bool) (key : ℕ → ℕ) (n : ℕ) → Under n (wayOf (bestBelow n p key))
+pub best-under : (p : ℕ → Bool) (key : ℕ → ℕ) (n : ℕ) → Under n (wayOf (bestBelow n p key))
 unfolding bestBelow
 best-under p key zero = tt
 best-under p key (suc n) = best-under-pick n (key n) (p n) (bestBelow n p key) (best-under p key n)

@@ -11,13 +11,12 @@ ghost use mathlib.Core.List.{List};
 ghost use Prim.Native.Nat.{ℕ, _+_, _*_, _≤_, _<_};
 ghost use lib.ListN.{length};
 ghost use lib.Dec.{leb};
-ghost use Rattle.model.specs.Words.{count, some};
+ghost use Rattle.model.specs.Words.{count, some, countBelow};
 ghost use Rattle.model.specs.Tables.{dirty};
 ghost use Rattle.model.specs.Lent.{sectorAt, sectorsAt, linesIn};
 ghost use Rattle.model.specs.Range.{linesOf};
-ghost use Rattle.model.specs.Probe.{enoughDirty};
 ghost use Rattle.model.specs.Inner.{Fit};
-ghost use Rattle.probe.specs.Scan.{waitingAt, dirtyAt, candidateAt, foundIn, lastUnusedIn, nearerOf, earliestIn, wayOf, victimIn};
+ghost use Rattle.probe.specs.Scan.{waitingAt, dirtyAt, candidateAt, foundIn, lastUnusedIn, nearerOf, earliestIn, wayOf, victimIn, enoughIn};
 ghost use Rattle.probe.specs.Values.{masksAt, metIs, takenIs, refusedIs, refusalIs, missIs};
 ghost use Rattle.probe.specs.Decided.{Decided};
 
@@ -212,24 +211,56 @@ fn way_of(best: Best) -> Found
     }
 }
 
-// The way to take over: the last wholly invalid one, else the candidate with the earliest cycle.
-fn victim(words: &[u32], marks: &[u8], base: usize, ways: usize, enough: bool) -> Found
-    requires { ⌜ (1 + (base + ways) ≤ length (now words)) × (4 * (base + ways) ≤ length (now marks)) ⌝ }
-    ensures { λ r. ⌜ r ≡ victimIn (now (words .entry)) (now (marks .entry)) base ways enough ⌝ }
+// "100 × dirty ≥ P × lines", counted no further than it takes to know.
+fn enough_dirty(marks: &[u8], n: usize, percent: usize) -> bool
+    requires { ⌜ (percent ≤ 100) × (n ≤ 1024) × (4 * n ≤ length (now marks)) ⌝ }
+    ensures { λ r. ⌜ r ≡ leb (percent * n) (100 * countBelow n (dirtyAt (now (marks .entry)))) ⌝ }
 {
-    let free = last_unused(marks, base, ways);
-    match free {
-        Found::At(w) => Found::At(w),
-        Found::Nothing => way_of(earliest(words, marks, base, ways, enough)),
+    let wanted = percent * n;
+    let mut d: usize = 0;
+    let mut l = 0;
+    while l < n {
+        if wanted <= 100 * d {
+            return true;
+        }
+        if is_dirty(marks, l) {
+            d += 1;
+        }
+        l += 1;
     }
+    wanted <= 100 * d
 }
 
-// "100 × dirty ≥ P × lines".
-fn enough_dirty(percent: usize, n: usize, d: usize) -> bool
-    requires { ⌜ (percent ≤ 100) × (n ≤ 1024) × (d ≤ n) ⌝ }
-    ensures { λ r. ⌜ r ≡ leb (percent * n) (100 * d) ⌝ }
+// The earliest candidate. A clean one stays so whether or not a dirty line may go: the dirty lines are counted only for a dirty one.
+fn chosen(s: Settings, words: &[u32], marks: &[u8], base: usize) -> Best
+    requires { ⌜ (base + s .ways ≤ linesOf s) × (linesOf s ≤ 1024) × (s .percent ≤ 100) × (1 + linesOf s ≤ length (now words)) × (4 * linesOf s ≤ length (now marks)) ⌝ }
+    ensures { λ r. ⌜ r ≡ earliestIn (now (words .entry)) (now (marks .entry)) base (s .ways) (enoughIn s (now (marks .entry))) ⌝ }
 {
-    percent * n <= 100 * d
+    let ways = s.ways;
+    let n = s.sets * ways;
+    let best = earliest(words, marks, base, ways, true);
+    let Best::Way { way: w, cycle: _ } = best else {
+        return best;
+    };
+    if !is_dirty(marks, base + w) {
+        return best;
+    }
+    if enough_dirty(marks, n, s.percent) {
+        return best;
+    }
+    earliest(words, marks, base, ways, false)
+}
+
+// The way to take over: the last wholly invalid one, else the candidate with the earliest cycle.
+fn victim(s: Settings, words: &[u32], marks: &[u8], base: usize) -> Found
+    requires { ⌜ (base + s .ways ≤ linesOf s) × (linesOf s ≤ 1024) × (s .percent ≤ 100) × (1 + linesOf s ≤ length (now words)) × (4 * linesOf s ≤ length (now marks)) ⌝ }
+    ensures { λ r. ⌜ r ≡ victimIn (now (words .entry)) (now (marks .entry)) base (s .ways) (enoughIn s (now (marks .entry))) ⌝ }
+{
+    let free = last_unused(marks, base, s.ways);
+    match free {
+        Found::At(w) => Found::At(w),
+        Found::Nothing => way_of(chosen(s, words, marks, base)),
+    }
 }
 
 // The four masks of line l.
@@ -326,23 +357,15 @@ fn refusal(marks: &[u8], base: usize, ways: usize) -> Decision
     }
 }
 
-// No way has the block; d lines of the cache are dirty.
-fn take_over(
-    s: Settings,
-    longs: &[u64],
-    words: &[u32],
-    marks: &[u8],
-    base: usize,
-    d: usize,
-) -> Decision
-    requires { ⌜ (base + s .ways ≤ linesOf s) × (d ≤ linesOf s) × Fit s (now longs) (now words) (now marks) ⌝ }
+// No way has the block.
+fn take_over(s: Settings, longs: &[u64], words: &[u32], marks: &[u8], base: usize) -> Decision
+    requires { ⌜ (base + s .ways ≤ linesOf s) × Fit s (now longs) (now words) (now marks) ⌝ }
     ensures { λ r. ⌜ r ≡ missIs (linesOf s) (now (longs .entry)) (now (words .entry)) (now (marks .entry)) base (s .ways)
-        (victimIn (now (words .entry)) (now (marks .entry)) base (s .ways) (enoughDirty s d)) ⌝ }
+        (victimIn (now (words .entry)) (now (marks .entry)) base (s .ways) (enoughIn s (now (marks .entry)))) ⌝ }
 {
     let ways = s.ways;
     let n = s.sets * ways;
-    let enough = enough_dirty(s.percent, n, d);
-    let v = victim(words, marks, base, ways, enough);
+    let v = victim(s, words, marks, base);
     match v {
         Found::At(w) => taken(longs, words, marks, n, base, w),
         Found::Nothing => refusal(marks, base, ways),
@@ -361,9 +384,6 @@ pub fn decide(s: Settings, longs: &[u64], words: &[u32], marks: &[u8], x: Access
     let found = find(longs, marks, base, ways, model::block_of(address));
     match found {
         Found::At(w) => met(words, marks, n, base, w, x),
-        Found::Nothing => {
-            let d = count_dirty(marks, n);
-            take_over(s, longs, words, marks, base, d)
-        }
+        Found::Nothing => take_over(s, longs, words, marks, base),
     }
 }

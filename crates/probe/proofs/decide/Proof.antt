@@ -1,7 +1,9 @@
 use Prim.Native.Nat.{_+_, _*_, _≤_}
+use mathlib.Core.Path.{sym}
 use native.Mathlib.Omega.{arith}
 use borrow.Author.Needs.{needs}
 use Rattle.model.specs.Range.{linesOf}
+use Rattle.probe.proofs.Lines.{dirty-counted}
 use Rattle.probe.proofs.Meetings.{ways-room, found-below, decided-met, decided-missed}
 use Rattle.probe.proofs.decide.Statement.{statement}
 use Rattle.probe.proofs.decide.Tie as tie
@@ -31,12 +33,11 @@ decide-spec =
     search needs)
     (λ c. search needs)
     (λ c κs. let h = room (c .before .before .before .before) in search needs)
-    (λ c κs. let h = room (c .before .before .before .before .before) in search needs)
     (λ c. let at = c .before .before .before .before .before .before in
     let start = at .before .before .before .before .before .before in
     let a = start .args in
     decided-met (a .s) (a .longs .now) (a .words .now) (a .marks .now) (start .pre) (a .x) (at .before .address-of .ensures) (at .set-index .ensures) (c .before .before .before .before .before .block-of .ensures) (c .before .before .before .before .find .ensures) (c .before .before .found .given .1) (c .met .ensures))
-    (λ c. let at = c .before .before .before .before .before .before in
+    (λ c. let at = c .before .before .before .before .before in
     let start = at .before .before .before .before .before .before in
     let a = start .args in
-    decided-missed (a .s) (a .longs .now) (a .words .now) (a .marks .now) (start .pre) (a .x) (at .before .address-of .ensures) (at .set-index .ensures) (c .before .before .before .before .before .block-of .ensures) (c .before .before .before .before .find .ensures) (c .before .before .enum-told .given .1) (c .before .count-dirty .ensures .1 (a .longs .now) (a .words .now)) (c .take-over .ensures)))
+    decided-missed (a .s) (a .longs .now) (a .words .now) (a .marks .now) (start .pre) (a .x) (at .before .address-of .ensures) (at .set-index .ensures) (c .before .before .before .before .block-of .ensures) (c .before .before .before .find .ensures) (c .before .enum-told .given .1) (sym (dirty-counted (linesOf (a .s)) (a .longs .now) (a .words .now) (a .marks .now))) (c .take-over .ensures)))
