@@ -1,11 +1,9 @@
 -- The events of a call's value as bytes: how long they are, that their numbers fit, and their parts one after the other.
 use mathlib.Core.Path.{_≡_, refl, sym, ap, _∙_}
-use mathlib.Core.Bool.{Bool, true, false, not, _&&_, false≢true}
+use mathlib.Core.Bool.{Bool, true, false}
 use mathlib.Core.List.{List, [], _∷_, _++_, map}
 use Prim.Native.Nat.{ℕ, zero, suc, _+_, _*_, _^_, min, _≤_, _<_}
 use native.Mathlib.Omega.{arith}
-use lib.Dec.{eqb}
-use borrow.Author.Tests.{eqb-true}
 use lib.ListN.{length, take, getD, length-append, length-take}
 use Rattle.model.specs.Words.{pick}
 use Rattle.model.specs.Calls.{eventsTold}
@@ -17,7 +15,7 @@ use Rattle.records.specs.Fitting.{Fitting, AllFitting}
 use Rattle.records.specs.Stores.{Laid}
 use Rattle.records.specs.Parts.{readTold, backTold, ticketsTold}
 use Rattle.records.proofs.Stores.{laid-then, laid-as, laid-sized}
-use Rattle.records.proofs.Log.{log-append, log-one, part-none, released-length, tickets-start}
+use Rattle.records.proofs.Log.{log-append, log-one, released-length}
 
 -- ---- the numbers fit
 
@@ -46,11 +44,6 @@ told-fits t first address block masks tickets = (
 )
 
 -- ---- the parts, and how long they are
-
--- neither a write-back nor tickets
-pub no-more : (b : Bool) (n : ℕ) → (not b && eqb n 0) ≡ true → (b ≡ false) × (n ≡ 0)
-no-more false n q = (refl, eqb-true n 0 q)
-no-more true n q = absurd (false≢true q)
 
 part-length : (b : Bool) (e : Event) → length (logBytes (pick b (e ∷ []) [])) ≡ pick b (length (eventBytes e)) 0
 unfolding logBytes
@@ -110,15 +103,6 @@ module _ (t : Told) where
         let q : ticketsTold n (t .tickets) ≡ ticketsTold (t .count) (t .tickets) = ap (map Released) (ap (λ (k : ℕ). take k (t .tickets)) (e ∙ ap (min (t .count)) (sym long)) ∙ take-least (t .count) (t .tickets)) in
         laid-sized (laid-as (laid-then u refl (laid-then v read-length (laid-then w back-length (laid-as x (ap logBytes q))))) told-parts)
         (let z = told-sized refl refl refl e in omega arith)
-
-    -- the same where nothing stands behind the read
-    pub told-short : {l m₁ m₂ : List ℕ} {at i j : ℕ} → (not (t .backs) && eqb (t .count) 0) ≡ true
-        → Laid l at (length (eventBytes (t .first))) (eventBytes (t .first)) i m₁
-        → Laid m₁ i (pick (t .reads) 9 0) (logBytes (readTold (t .reads) (t .address))) j m₂
-        → Laid l at (length (logBytes (eventsTold t))) (logBytes (eventsTold t)) j m₂
-    told-short {m₂ = m} {j = j} q u v =
-        let (backs, count) = no-more (t .backs) (t .count) q in
-        told-laid {n = 0} (let c = count in omega arith) u v (part-none (WriteBackQueued (t .block) _ _ _ _) 25 m j backs) (tickets-start (t .tickets) m j)
 
 -- ---- bounds
 

@@ -283,15 +283,11 @@ pub(crate) fn put_told(told: Told, out: &mut [u8], at: usize) -> usize
     ensures { λ r. ⌜ Laid (now (out .entry)) at (length (logBytes (eventsTold told))) (logBytes (eventsTold told)) r (now (out .exit)) ⌝ }
 {
     let first = told.first;
-    let i = put_event(first, out, at);
-    let j = put_read(out, i, told.reads, told.address);
-    // most calls have neither, and their masks and tickets need not be read
-    if !told.backs & (told.count == 0) {
-        return j;
-    }
     let masks = told.masks;
     let tickets = told.tickets;
     let count = ticket_count(told.count);
+    let i = put_event(first, out, at);
+    let j = put_read(out, i, told.reads, told.address);
     let k = put_write_back(out, j, told.backs, told.block, masks);
     put_tickets(out, k, count, tickets)
 }
