@@ -76,10 +76,10 @@ module _ (S : Settings) {longs words marks : List ℕ} (x : Access) (d : Decisio
   ok : Sound S t
   ok = parts S t (m .is .soundly)
 
-  spot : Spotted S t x p
+  pub spot : Spotted S t x p
   spot = probe-spotted S (m .is .range) t ok x p (m .probed)
 
-  sized : length (t .lines) ≡ linesOf S
+  pub sized : length (t .lines) ≡ linesOf S
   sized = lines-are S t ok
 
   -- ---- the line
@@ -104,7 +104,7 @@ module _ (S : Settings) {longs words marks : List ℕ} (x : Access) (d : Decisio
   left-is : sectorsAfter x d (sectorsFor (d .meeting) (sectorsAt (linesOf S) words marks (d .line))) ≡ newLine .sectors
   left-is = rw (← found-is, ← answer-is S x d t p m)
 
-  now-is : getD words 0 0 ≡ t .now
+  pub now-is : getD words 0 0 ≡ t .now
   now-is = ap (λ (L : Lent). getD (L .words) 0 0) (m .is .encoded) ∙ encode-stands S t .time
 
   pub line-written : {L₁ : Lent} → L₁ ≡ lineWritten place (lent longs words marks) (d .line) (blockOf (addressOf x)) (sectorsAfter x d (sectorsFor (d .meeting) (sectorsAt (linesOf S) words marks (d .line))))

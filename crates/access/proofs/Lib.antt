@@ -5,5 +5,6 @@ pub mod Courses
 pub mod Writing
 pub mod Inverted
 pub mod Acting
+pub mod Kept
 pub mod Telling
 pub mod Offering

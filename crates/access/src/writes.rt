@@ -10,9 +10,9 @@ ghost use Rattle.model.specs.Lent.{lent, sectorsAt};
 ghost use Rattle.model.specs.Inner.{Fit};
 ghost use Rattle.model.specs.Range.{linesOf};
 ghost use Rattle.tables.specs.Layout.{Placed};
-ghost use Rattle.access.specs.Plan.{MayAct, Acted};
+ghost use Rattle.access.specs.Plan.{Meets, MayAct, Acted};
 ghost use Rattle.access.specs.Written.{sectorsFor, sectorsAfter, lineWritten, missesWritten, readWritten, backWritten, queueWritten, tellingOf, MissRoom, ReadRoom, BackRoom};
-ghost use mathlib.Core.Bool.{_&&_};
+ghost use mathlib.Core.Bool.{not, _&&_};
 ghost use Rattle.model.specs.Steps.{isMiss};
 use crate::asked::is_miss;
 use crate::asked::is_read;
@@ -67,7 +67,7 @@ fn write_line(
 }
 
 // The access's line: what it finds there, changed and stored back.
-fn act_line(
+fn change_line(
     s: Settings,
     at: Layout,
     longs: &mut [u64],
@@ -86,6 +86,36 @@ fn act_line(
     let four = sectors_left(x, d, found);
     let block = model::block_of(model::address_of(x));
     write_line(at, longs, words, marks, d.line, block, four);
+}
+
+// Whether the access leaves its line's tag and sectors as they are: a read that does not miss.
+fn keeps_line(x: Access, a: Answer) -> bool
+    ensures { λ r. ⌜ r ≡ isRead x && not (isMiss a) ⌝ }
+{
+    is_read(x) & !is_miss(a)
+}
+
+// The access's line. Where its tag and sectors stay as they are, only its cycle is written.
+fn act_line(
+    s: Settings,
+    at: Layout,
+    longs: &mut [u64],
+    words: &mut [u32],
+    marks: &mut [u8],
+    x: Access,
+    d: Decision,
+)
+    requires { ⌜ Placed s at × Meets s (lent (now longs) (now words) (now marks)) x d ⌝ }
+    ensures { λ _. ⌜ lent (now (longs .exit)) (now (words .exit)) (now (marks .exit))
+        ≡ lineWritten at (lent (now (longs .entry)) (now (words .entry)) (now (marks .entry))) (d .line) (blockOf (addressOf x))
+        (sectorsAfter x d (sectorsFor (d .meeting) (sectorsAt (linesOf s) (now (words .entry)) (now (marks .entry)) (d .line)))) ⌝ }
+{
+    let a = d.answer;
+    if keeps_line(x, a) {
+        touch(words, d.line);
+    } else {
+        change_line(s, at, longs, words, marks, x, d);
+    }
 }
 
 // The miss table by the course: a ticket joins, or a new entry stands behind the others.

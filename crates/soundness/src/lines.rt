@@ -73,37 +73,67 @@ pub(crate) fn lines_fine(s: Settings, longs: &[u64], words: &[u32], marks: &[u8]
     true
 }
 
-// The lines are fine, so a RESERVED sector's tag is below 2^48 and its address fits.
-fn sector_fine(s: Settings, longs: &[u64], words: &[u32], marks: &[u8], i: usize) -> bool
-    requires { ⌜ Fit s (now longs) (now words) (now marks) × (is.linesFine s (now longs) (now words) (now marks) ≡ true) × (i < 4 * linesOf s) ⌝ }
-    ensures { λ r. ⌜ r ≡ is.sectorFine s (now (longs .entry)) (now (words .entry)) (now (marks .entry)) i ⌝ }
+// Conditions 2 to 6, with no branch, so that the loop over them compiles to several sectors at a time.
+fn sector_shaped(s: Settings, longs: &[u64], words: &[u32], marks: &[u8], i: usize) -> bool
+    requires { ⌜ Fit s (now longs) (now words) (now marks) × (i < 4 * linesOf s) ⌝ }
+    ensures { λ r. ⌜ r ≡ is.sectorShape s (now (longs .entry)) (now (words .entry)) (now (marks .entry)) i ⌝ }
 {
     let lines = s.sets * s.ways;
+    let status = marks[i];
     let readable = marks[4 * lines + i];
     let mask = words[1 + lines + i];
-    match marks[i] {
-        0 | 2 => (readable == 1) & (mask == 0),
-        1 => {
-            let sector = (i % 4) as u64;
-            let a = SectorAddress(longs[i / 4] + 32 * sector);
-            (readable == 1) & has_entry(s, longs, words, marks, s.entries, a)
-        }
-        3 => (readable <= 1) & (mask != 0) & ((readable != 0) | (mask != 0xFFFF_FFFF)),
-        _ => false,
+    (status <= 3)
+        & (readable <= 1)
+        & ((status == 1) | ((mask != 0) == (status == 3)))
+        & ((readable != 0) | ((status == 3) & (mask != 0xFFFF_FFFF)))
+}
+
+// It goes on behind a fault, since an exit inside the loop would keep it to one sector at a time.
+fn sectors_shaped(s: Settings, longs: &[u64], words: &[u32], marks: &[u8]) -> bool
+    requires { ⌜ Fit s (now longs) (now words) (now marks) ⌝ }
+    ensures { λ r. ⌜ r ≡ every (4 * linesOf s) (is.sectorShape s (now (longs .entry)) (now (words .entry)) (now (marks .entry))) ⌝ }
+{
+    let n = 4 * (s.sets * s.ways);
+    let mut fine = true;
+    let mut i = 0;
+    while i < n {
+        fine = fine & sector_shaped(s, longs, words, marks, i);
+        i += 1;
     }
+    fine
+}
+
+// Condition 17. The lines are fine, so a RESERVED sector's tag is below 2^48 and its address fits.
+fn sector_backed(s: Settings, longs: &[u64], words: &[u32], marks: &[u8], i: usize) -> bool
+    requires { ⌜ Fit s (now longs) (now words) (now marks) × (is.linesFine s (now longs) (now words) (now marks) ≡ true) × (i < 4 * linesOf s) ⌝ }
+    ensures { λ r. ⌜ r ≡ is.sectorBacked s (now (longs .entry)) (now (words .entry)) (now (marks .entry)) i ⌝ }
+{
+    if marks[i] != 1 {
+        return true;
+    }
+    let sector = (i % 4) as u64;
+    let a = SectorAddress(longs[i / 4] + 32 * sector);
+    has_entry(s, longs, words, marks, s.entries, a)
+}
+
+fn sectors_backed(s: Settings, longs: &[u64], words: &[u32], marks: &[u8]) -> bool
+    requires { ⌜ Fit s (now longs) (now words) (now marks) × (is.linesFine s (now longs) (now words) (now marks) ≡ true) ⌝ }
+    ensures { λ r. ⌜ r ≡ every (4 * linesOf s) (is.sectorBacked s (now (longs .entry)) (now (words .entry)) (now (marks .entry))) ⌝ }
+{
+    let n = 4 * (s.sets * s.ways);
+    let mut i = 0;
+    while i < n {
+        if !sector_backed(s, longs, words, marks, i) {
+            return false;
+        }
+        i += 1;
+    }
+    true
 }
 
 pub(crate) fn sectors_fine(s: Settings, longs: &[u64], words: &[u32], marks: &[u8]) -> bool
     requires { ⌜ Fit s (now longs) (now words) (now marks) × (is.linesFine s (now longs) (now words) (now marks) ≡ true) ⌝ }
     ensures { λ r. ⌜ r ≡ every (4 * linesOf s) (is.sectorFine s (now (longs .entry)) (now (words .entry)) (now (marks .entry))) ⌝ }
 {
-    let n = 4 * (s.sets * s.ways);
-    let mut i = 0;
-    while i < n {
-        if !sector_fine(s, longs, words, marks, i) {
-            return false;
-        }
-        i += 1;
-    }
-    true
+    sectors_shaped(s, longs, words, marks) & sectors_backed(s, longs, words, marks)
 }

@@ -24,8 +24,7 @@ act-spec =
     (tie.spec
     (λ c κs.
     let start = c .before .before .before .before .before .before in
-    let a = start .pre .1 .acts in
-    (start .pre .0, acts-fit _ _ _ _ _ _ _ a (start .pre .0), a .met .below))
+    (start .pre .0, record { tables = start .pre .1 .tables; spot = start .pre .1 .spot; met = start .pre .1 .acts .met }))
     (λ c κs. search needs)
     (λ c κs. search needs)
     (λ c κs.

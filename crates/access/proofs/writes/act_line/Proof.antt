@@ -1,29 +1,37 @@
-use mathlib.Core.Path.{_∙_}
+use mathlib.Core.Path.{sym, ap, _∙_}
+use mathlib.Core.List.{List}
+use Prim.Native.Nat.{ℕ}
+use native.Mathlib.Omega.{arith}
 use borrow.Author.Needs.{needs}
+use Rattle.model.specs.Lent.{lent}
+use Rattle.model.proofs.Bridge.{is-fit}
+use Rattle.access.proofs.Kept.{touched}
 use Rattle.access.proofs.writes.act_line.Statement.{statement}
 use Rattle.access.proofs.writes.act_line.Tie as tie
-use Rattle.access.proofs.sector.sectors_found.Reads as sectors-found-reads
-use Rattle.access.proofs.sector.sectors_left.Reads as sectors-left-reads
-use Rattle.access.proofs.writes.write_line.Reads as write-line-reads
-use Rattle.model.proofs.address_of.Reads as address-of-reads
-use Rattle.model.proofs.block_of.Reads as block-of-reads
 
 pub act-line-spec : {M : Type 1} → statement M
 act-line-spec =
     tie.close
     (tie.spec
-    (λ c. search needs)
     (λ c κs. search needs)
-    (λ c κs. search needs)
-    (λ c κs. search needs)
-    (λ c κs. search needs)
-    (λ c κs. search needs)
-    (λ c. search needs)
-    (λ c. search needs)
+    (λ c κs.
+    let start = c .before .before .before .before .before .before in
+    let m = start .pre .1 .met in
+    let f = is-fit _ _ _ (m .is) in
+    omega (arith, m .below))
+    (λ c κs.
+    let start = c .before .before .before .before .before .before .before .before in
+    let m = start .pre .1 .met in
+    (start .pre .0, is-fit _ _ _ (m .is), m .below))
     (λ c. search needs)
     (λ c.
-    let written = c .before .before .before .before .before .before in
-    let blocked = written .before .before .before .before in
-    let addressed = blocked .before in
-    let changed = addressed .before in
-    written .write-line .ensures ∙ rw (blocked .block-of .ensures, addressed .address-of .ensures, changed .sectors-left .ensures, changed .before .sectors-found .ensures)))
+    let touch = c .before .before in
+    let taken = touch .before .before in
+    let start = taken .before .before .before .before .before in
+    let a = start .args in
+    ap (λ (words : List ℕ). lent (a .longs .now) words (a .marks .now)) (touch .touch .ensures)
+    ∙ touched (a .s) (a .x) (a .d) _ _ (start .pre .1 .met) (start .pre .0) (sym (taken .before .keeps-line .ensures) ∙ taken .if1 .taken))
+    (λ c. search needs)
+    (λ c. search needs)
+    (λ c. search needs)
+    (λ c. search needs))

@@ -1,29 +1,18 @@
-use mathlib.Core.Path.{refl}
-use native.Mathlib.Omega.{arith}
 use borrow.Author.Needs.{needs}
-use Prim.Native.Nat.{_-_, _*_}
+use Prim.Native.Nat.{_*_}
 use Rattle.model.specs.Range.{linesOf}
 use Rattle.model.specs.SoundLent as is
-use Rattle.model.proofs.Below.{Passed, passed-stop, passed-more, passed-end}
+use Rattle.soundness.proofs.Tests.{every-both}
 use Rattle.soundness.proofs.lines.sectors_fine.Statement.{statement}
 use Rattle.soundness.proofs.lines.sectors_fine.Tie as tie
-
-abbrev Inv-loop : tie.InvT-loop
-Inv-loop s longs words marks n i₀ i = Passed (is.sectorFine s longs words marks) (4 * linesOf s) i
-
-abbrev μ-loop : tie.MeasureT-loop
-μ-loop s longs words marks n i₀ i = 4 * linesOf s - i
 
 pub sectors-fine-spec : {M : Type 1} → statement M
 sectors-fine-spec =
     tie.close
-    (tie.spec Inv-loop μ-loop
-    (λ c. omega arith)
-    (λ c. omega arith)
-    (λ c. (omega arith, refl))
+    (tie.spec
     (λ c κs. search needs)
-    (λ c. passed-stop _ _ _ (c .before .before .loop-test .taken) (c .before .sector-fine .ensures) (c .if1 .taken))
-    (λ c. omega arith)
-    (λ c. omega arith)
-    (λ c. passed-more _ _ _ (c .before .before .loop-test .taken) (c .before .sector-fine .ensures) (c .if1 .left) (c .before .before .before .loop .inv))
-    (λ c. passed-end _ _ _ (c .loop-test .left) (c .before .loop .inv)))
+    (λ c κs. search needs)
+    (λ c.
+    let a = c .before .before .before .before .before .args in
+    rw (c .before .sectors-shaped .ensures, c .sectors-backed .ensures)
+    (every-both (is.sectorShape (a .s) (a .longs .now) (a .words .now) (a .marks .now)) (is.sectorBacked (a .s) (a .longs .now) (a .words .now) (a .marks .now)) (4 * linesOf (a .s)))))

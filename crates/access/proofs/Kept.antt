@@ -1,0 +1,100 @@
+-- A read that does not miss leaves its line's tag and sectors: to write its cycle alone is to write the whole line.
+use mathlib.Core.Path.{_≡_, refl, sym, ap, _∙_}
+use mathlib.Core.Bool.{true, not, _&&_, false≢true}
+use mathlib.Core.List.{List, [], _∷_, map}
+use Prim.Native.Nat.{ℕ, _+_}
+use native.Mathlib.Omega.{arith}
+use lib.ListN.{getD, set, replicate, getD-replicate}
+use lib.Seq.{set-getD}
+use Rattle.model.specs.Words.{fit}
+use Rattle.model.specs.Range.{linesOf}
+use Rattle.model.specs.Regions.{put}
+use Rattle.model.specs.Address.{addressOf, isRead, blockOf, sectorIndex, lineNumber}
+use Rattle.model.specs.Tables.{Line, Tables, empty, fresh}
+use Rattle.model.specs.Lent.{lent, sectorsAt, bit, wordBlocks, tagOf, cycleOf, masksOf, statusesOf, readablesOf}
+use Rattle.model.specs.Numbers.{statusNumber}
+use Rattle.model.specs.Probe.{Spot, at, waysOf}
+use Rattle.model.specs.Steps.{isMiss, onSector}
+use Rattle.model.specs.declared.Settings.{Settings}
+use Rattle.model.specs.declared.Access.{Access}
+use Rattle.model.specs.declared.Access.the-variants.{Read, Write}
+use Rattle.model.specs.declared.Answer.{Answer}
+use Rattle.model.specs.declared.Sector.{Sector}
+use Rattle.model.proofs.Flags.{not-yes, clash}
+use Rattle.model.proofs.Places.{field-put}
+use Rattle.tables.specs.declared.Layout.{Layout}
+use Rattle.tables.specs.Layout.{Placed}
+use Rattle.tables.proofs.Grown.{places-same}
+use Rattle.tables.proofs.Stands.{Stands, is-stands, stands-encode, withLines}
+use Rattle.probe.specs.declared.Meeting.{Meeting}
+use Rattle.probe.specs.declared.Meeting.the-variants.{Met as MetWay, Taken, Busy, Held}
+use Rattle.probe.specs.declared.Decision.{Decision}
+use Rattle.probe.specs.Decided.{placeFor}
+use Rattle.probe.proofs.Held.{way-line}
+use Rattle.access.specs.Plan.{Met}
+use Rattle.access.specs.Written.{sectorsFor, sectorsAfter, lineWritten}
+use Rattle.access.proofs.Courses.{shows, answer-is}
+use Rattle.access.proofs.Acting.{spot, sized, now-is, newLine, line-written}
+
+sector-kept : (x : Access) (n : Answer) (s : Sector) → (isRead x && not (isMiss n)) ≡ true → onSector x n s ≡ s
+sector-kept (Read a m k) n s e = rw (not-yes {b = isMiss n} e)
+sector-kept (Write a m k) n s e = absurd (false≢true e)
+
+module _ (S : Settings) {longs words marks : List ℕ} (x : Access) (d : Decision) (t : Tables) (p : Spot) (m : Met S (lent longs words marks) x d t p) {place : Layout} (pl : Placed S place)
+    (kept : (isRead x && not (isMiss (d .answer))) ≡ true) where
+  abbrev line : Line
+  line = getD (t .lines) (d .line) fresh
+
+  abbrev new : Line
+  new = newLine S x d t p m pl
+
+  kept-there : (isRead x && not (isMiss (p .answer))) ≡ true
+  kept-there = rw (answer-is S x d t p m) kept
+
+  -- a line taken over has only empty sectors, and a sector that is read without a miss isn't INVALID
+  found-in : (k : Meeting) → placeFor k (waysOf S (t .lines) (addressOf x)) (addressOf x) d ≡ at p → p .line ≡ getD (waysOf S (t .lines) (addressOf x)) (d .way) fresh
+  found-in MetWay e = cc
+  found-in Taken e =
+      let l : p .line ≡ record { tag = blockOf (addressOf x); cycle = 0; sectors = replicate 4 empty } = cc in
+      let k = sectorIndex (addressOf x) in
+      let four : p .line .sectors ≡ replicate 4 empty = ap (λ (l : Line). l .sectors) l in
+      let same : onSector x (p .answer) (getD (p .line .sectors) k empty) ≡ empty = sector-kept x (p .answer) _ kept-there ∙ rw four (getD-replicate 4 k empty empty (omega arith)) in
+      clash refl (rw same at (spot S x d t p m pl .used))
+  found-in Busy e = let z : _≡_ {A = ℕ} 0 1 = cc in absurd (omega arith)
+  found-in Held e = let z : _≡_ {A = ℕ} 0 1 = cc in absurd (omega arith)
+
+  found : p .line ≡ line
+  found =
+      found-in (d .meeting) (m .decided)
+      ∙ way-line S (t .lines) (addressOf x) (d .way) (m .way)
+      ∙ ap (λ (i : ℕ). getD (t .lines) i fresh) (ap (lineNumber S (addressOf x)) (sym (shows S x d t p m .way)) ∙ sym (m .numbered))
+
+  same-tag : new .tag ≡ line .tag
+  same-tag = ap (λ (l : Line). l .tag) found
+
+  same-sectors : new .sectors ≡ line .sectors
+  same-sectors =
+      rw (sector-kept x (p .answer) (getD (p .line .sectors) (sectorIndex (addressOf x)) empty) kept-there, set-getD (p .line .sectors) (sectorIndex (addressOf x)) empty)
+      (ap (λ (l : Line). l .sectors) found)
+
+  touched-stands : Stands S longs (put words (1 + d .line) (getD words 0 0 ∷ [])) marks (withLines (set (t .lines) (d .line) new) t)
+  unfolding fit
+  touched-stands =
+      let h = is-stands (m .is) in
+      let s = sized S x d t p m pl in
+      let b = m .below in
+      let c = now-is S x d t p m pl in
+      record {
+        as-longs = rw (places-same tagOf 1 (linesOf S) (d .line) (t .lines) fresh new (ap (λ (n : ℕ). n ∷ []) same-tag)) (h .as-longs);
+        as-words = rw (places-same masksOf 4 (linesOf S) (d .line) (t .lines) fresh new (ap (map (λ (s : Sector). s .mask)) same-sectors))
+            (field-put cycleOf 1 (linesOf S) (t .lines) (wordBlocks S t) 1 (d .line) {i = 1 + d .line} (h .as-words) refl (omega arith) (omega arith) (omega arith) (omega arith) new refl (rw c));
+        as-marks = rw (
+          places-same statusesOf 4 (linesOf S) (d .line) (t .lines) fresh new (ap (map (λ (s : Sector). statusNumber (s .status))) same-sectors),
+          places-same readablesOf 4 (linesOf S) (d .line) (t .lines) fresh new (ap (map (λ (s : Sector). bit (s .readable))) same-sectors),
+        )
+            (h .as-marks);
+      }
+
+  pub touched : lent longs (put words (1 + d .line) (getD words 0 0 ∷ [])) marks
+      ≡ lineWritten place (lent longs words marks) (d .line) (blockOf (addressOf x)) (sectorsAfter x d (sectorsFor (d .meeting) (sectorsAt (linesOf S) words marks (d .line))))
+  touched = stands-encode touched-stands ∙ sym (stands-encode (line-written S x d t p m pl refl))

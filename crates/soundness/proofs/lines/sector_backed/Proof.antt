@@ -1,0 +1,20 @@
+use native.Mathlib.Omega.{arith}
+use borrow.Author.Needs.{needs}
+use borrow.Author.Tests.{eq-eqb, ne-eqb}
+use Rattle.model.proofs.Flags.{imp-idle, imp-met}
+use Rattle.soundness.proofs.FineLines.{reserved-low}
+use Rattle.soundness.proofs.lines.sector_backed.Statement.{statement}
+use Rattle.soundness.proofs.lines.sector_backed.Tie as tie
+
+pub sector-backed-spec : {M : Type 1} → statement M
+sector-backed-spec =
+    tie.close
+    (tie.spec
+    (λ c. search needs)
+    (λ c. imp-idle _ _ (ne-eqb _ _ (c .if1 .taken)))
+    (λ c. search needs)
+    (λ c. search needs)
+    (λ c. search needs)
+    (λ c. let start = c .before .before .before .before .before .before in let a = start .args in omega (arith, reserved-low (a .s) (a .longs .now) (a .words .now) (a .marks .now) (start .pre .1) (a .i) (start .pre .2) (c .before .if1 .left)))
+    (λ c κs. search needs)
+    (λ c. imp-met _ _ _ (eq-eqb _ _ (c .before .before .if1 .left)) (c .has-entry .ensures)))

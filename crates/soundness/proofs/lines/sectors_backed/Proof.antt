@@ -1,0 +1,29 @@
+use mathlib.Core.Path.{refl}
+use native.Mathlib.Omega.{arith}
+use borrow.Author.Needs.{needs}
+use Prim.Native.Nat.{_-_, _*_}
+use Rattle.model.specs.Range.{linesOf}
+use Rattle.model.specs.SoundLent as is
+use Rattle.model.proofs.Below.{Passed, passed-stop, passed-more, passed-end}
+use Rattle.soundness.proofs.lines.sectors_backed.Statement.{statement}
+use Rattle.soundness.proofs.lines.sectors_backed.Tie as tie
+
+abbrev Inv-loop : tie.InvT-loop
+Inv-loop s longs words marks n i₀ i = Passed (is.sectorBacked s longs words marks) (4 * linesOf s) i
+
+abbrev μ-loop : tie.MeasureT-loop
+μ-loop s longs words marks n i₀ i = 4 * linesOf s - i
+
+pub sectors-backed-spec : {M : Type 1} → statement M
+sectors-backed-spec =
+    tie.close
+    (tie.spec Inv-loop μ-loop
+    (λ c. omega arith)
+    (λ c. omega arith)
+    (λ c. (omega arith, refl))
+    (λ c κs. search needs)
+    (λ c. passed-stop _ _ _ (c .before .before .loop-test .taken) (c .before .sector-backed .ensures) (c .if1 .taken))
+    (λ c. omega arith)
+    (λ c. omega arith)
+    (λ c. passed-more _ _ _ (c .before .before .loop-test .taken) (c .before .sector-backed .ensures) (c .if1 .left) (c .before .before .before .loop .inv))
+    (λ c. passed-end _ _ _ (c .loop-test .left) (c .before .loop .inv)))
