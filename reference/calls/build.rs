@@ -1,4 +1,4 @@
-//! Links the static archive under test: directory from LABINTUGMO_LIB_DIR, name from
+//! Links the static archive under test or measured: directory from LABINTUGMO_LIB_DIR, name from
 //! LABINTUGMO_LIB (`exported`, if it is not given, for `libexported.a`), more words for
 //! the linker from LABINTUGMO_LINK_ARGS.
 

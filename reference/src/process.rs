@@ -1,7 +1,8 @@
-//! A program run on bytes: its standard input is fed, its output gathered.
+//! A program run on bytes: its standard input is fed, its output gathered. Then what a comparison
+//! of many such runs says: bytes as text, and its exit status.
 
 use std::io::{self, Write};
-use std::process::{Command, Output, Stdio};
+use std::process::{Command, ExitCode, Output, Stdio};
 
 /// What a fresh pipe takes without a reader.
 const PIPE_ROOM: usize = 4096;
@@ -34,4 +35,16 @@ pub fn hex(bytes: &[u8]) -> String {
     let shown: Vec<String> = bytes.iter().take(400).map(|byte| format!("{byte:02x}")).collect();
     let rest = if bytes.len() > 400 { " .." } else { "" };
     shown.join(" ") + rest
+}
+
+/// 0 without a difference, 1 with one, 2 where a program could not be run.
+pub fn status(what: &str, same: io::Result<bool>) -> ExitCode {
+    match same {
+        Ok(true) => ExitCode::SUCCESS,
+        Ok(false) => ExitCode::from(1),
+        Err(error) => {
+            eprintln!("{what}: {error}");
+            ExitCode::from(2)
+        }
+    }
 }

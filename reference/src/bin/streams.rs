@@ -4,7 +4,7 @@
 //! The program reads a stream on standard input, writes the events to standard
 //! output and as its last line on standard error `stop N consumed C written W`.
 
-use reference::process::{hex, output_of};
+use reference::process::{hex, output_of, status};
 use reference::random::Random;
 use reference::runner::{self, Stopped};
 use reference::streams::{any_kind, stream, Kind, KINDS};
@@ -153,12 +153,5 @@ fn main() -> ExitCode {
         eprintln!("{USAGE}");
         return ExitCode::from(2);
     };
-    match run(&options) {
-        Ok(true) => ExitCode::SUCCESS,
-        Ok(false) => ExitCode::from(1),
-        Err(error) => {
-            eprintln!("streams: {}: {error}", options.program);
-            ExitCode::from(2)
-        }
-    }
+    status(&format!("streams: {}", options.program), run(&options))
 }

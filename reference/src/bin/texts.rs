@@ -4,7 +4,7 @@
 
 use reference::choices::well_formed_access;
 use reference::model::{Access, Cache, Call, Settings};
-use reference::process::{hex, output_of};
+use reference::process::{hex, output_of, status};
 use reference::random::Random;
 use reference::rounds::{bound, first_run};
 use reference::runner::{self, call_record, read_record};
@@ -187,12 +187,5 @@ fn main() -> ExitCode {
         eprintln!("{USAGE}");
         return ExitCode::from(2);
     };
-    match run(&options) {
-        Ok(true) => ExitCode::SUCCESS,
-        Ok(false) => ExitCode::from(1),
-        Err(error) => {
-            eprintln!("texts: {}: {error}", options.programs);
-            ExitCode::from(2)
-        }
-    }
+    status(&format!("texts: {}", options.programs), run(&options))
 }
