@@ -64,15 +64,20 @@ whole s at c = pick (endsAt s at) (line.Command c) (line.Bad expected.End)
 
 -- ---- each command, behind its own word
 
+-- the last three settings, behind the first three
+unfoldable pub buffersFrom : List ℕ → ℕ → ℕ → ℕ → ℕ → Line
+buffersFrom s at sets ways percent =
+    andThen expected.Misses (fieldNext missesWord most8 s at) (λ entries a.
+    andThen expected.Readers (fieldNext readersWord most8 s a) (λ readers b.
+    andThen expected.Queue (fieldNext queueWord most8 s b) (λ places c.
+    whole s c (cmd.Settings sets ways percent entries readers places))))
+
 unfoldable pub settingsFrom : List ℕ → ℕ → Line
 settingsFrom s at =
     andThen expected.Sets (fieldNext setsWord most16 s at) (λ sets a.
     andThen expected.Ways (fieldNext waysWord most8 s a) (λ ways b.
     andThen expected.Dirty (fieldNext dirtyWord most8 s b) (λ percent c.
-    andThen expected.Misses (fieldNext missesWord most8 s c) (λ entries d.
-    andThen expected.Readers (fieldNext readersWord most8 s d) (λ readers e.
-    andThen expected.Queue (fieldNext queueWord most8 s e) (λ places f.
-    whole s f (cmd.Settings sets ways percent entries readers places)))))))
+    buffersFrom s c sets ways percent)))
 
 unfoldable pub readFrom : List ℕ → ℕ → Line
 readFrom s at =

@@ -1,6 +1,6 @@
 // One line of the assembler's language to a command: words and numbers in order.
 ghost use mathlib.Core.Path.{_≡_};
-ghost use Rattle.assembly.specs.Language.{wholeNumber, numberNext, fieldNext, endsAt, whole, settingsFrom, readFrom, writeFrom, fillFrom, tickFrom, parseLine};
+ghost use Rattle.assembly.specs.Language.{wholeNumber, numberNext, fieldNext, endsAt, whole, buffersFrom, settingsFrom, readFrom, writeFrom, fillFrom, tickFrom, parseLine};
 ghost use Rattle.assembly.specs.Output.{Assembles};
 use model::Command;
 use text::Parsed;
@@ -89,6 +89,42 @@ fn ended(line: &[u8], at: usize, c: Command) -> Line
     }
 }
 
+// The last three settings, behind the first three.
+fn buffers_line(line: &[u8], at: usize, sets: u16, ways: u8, percent: u8) -> Line
+    ensures { λ r. ⌜ r ≡ buffersFrom (now (line .entry)) at sets ways percent ⌝ }
+{
+    let Field::Got {
+        value: entries,
+        next: a,
+    } = field_next(line, at, b"misses", 0xff)
+    else {
+        return Line::Bad(Expected::Misses);
+    };
+    let Field::Got {
+        value: readers,
+        next: b,
+    } = field_next(line, a, b"readers", 0xff)
+    else {
+        return Line::Bad(Expected::Readers);
+    };
+    let Field::Got {
+        value: places,
+        next: c,
+    } = field_next(line, b, b"queue", 0xff)
+    else {
+        return Line::Bad(Expected::Queue);
+    };
+    let settings = Command::Settings {
+        sets,
+        ways,
+        percent,
+        entries: entries as u8,
+        readers: readers as u8,
+        places: places as u8,
+    };
+    ended(line, c, settings)
+}
+
 fn settings_line(line: &[u8], at: usize) -> Line
     ensures { λ r. ⌜ r ≡ settingsFrom (now (line .entry)) at ⌝ }
 {
@@ -113,39 +149,7 @@ fn settings_line(line: &[u8], at: usize) -> Line
     else {
         return Line::Bad(Expected::Dirty);
     };
-    let Field::Got {
-        value: entries,
-        next: d,
-    } = field_next(line, c, b"misses", 0xff)
-    else {
-        return Line::Bad(Expected::Misses);
-    };
-    let Field::Got {
-        value: readers,
-        next: e,
-    } = field_next(line, d, b"readers", 0xff)
-    else {
-        return Line::Bad(Expected::Readers);
-    };
-    let Field::Got {
-        value: places,
-        next: f,
-    } = field_next(line, e, b"queue", 0xff)
-    else {
-        return Line::Bad(Expected::Queue);
-    };
-    ended(
-        line,
-        f,
-        Command::Settings {
-            sets: sets as u16,
-            ways: ways as u8,
-            percent: percent as u8,
-            entries: entries as u8,
-            readers: readers as u8,
-            places: places as u8,
-        },
-    )
+    buffers_line(line, c, sets as u16, ways as u8, percent as u8)
 }
 
 fn read_line(line: &[u8], at: usize) -> Line
