@@ -174,8 +174,8 @@ fn runner(options: &Options, streams: &[Measured]) -> Table {
     Table {
         title: "The runner over a whole stream",
         note: "Accesses a second, each with its tick, send and fill. Plain Rust keeps a count of \
-               dirty lines; the second plain figure counts them anew where a miss asks, as tables \
-               without a stored count must. Ratio: the library's speed over plain Rust's."
+               dirty lines; the second plain figure counts all of them anew at each miss. Ratio: the \
+               library's speed over plain Rust's."
             .to_string(),
         figures: &["library", "plain Rust", "plain Rust, counting"],
         ratios: &["ratio", "ratio to counting"],
