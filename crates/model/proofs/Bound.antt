@@ -17,7 +17,7 @@ use Rattle.model.specs.Tables.{Line, Entry, Queued, Tables, Outcome, ref
 use Rattle.model.specs.Sound.{readingOf, sound}
 use Rattle.model.specs.Probe.{Place, no, at, waysOf, dirtyLines, first, victim, takeOver, meet, probe}
 use Rattle.model.specs.Steps.{isMerge, isMiss, placesNeeded, entryFull, accept, proceed, access, afterSend, send, others, afterFill, sentFor, fill}
-use Rattle.model.specs.Rounds.{Calls, steps, Turn, still, took, Run, goOn, sendTurn, fillFirst, drain, rounds, heldIn, waits, Demand3}
+use Rattle.model.specs.Rounds.{Calls, steps, Turn, still, took, Run, goOn, sendTurn, fillFirst, drain, rounds, heldIn, waits, Settles}
 use Rattle.model.specs.declared.Settings.{Settings}
 use Rattle.model.specs.declared.Status.{Status}
 use Rattle.model.specs.declared.Status.the-variants.{Invalid, Reserved, Valid, Modified}
@@ -32,7 +32,6 @@ use Rattle.model.proofs.SoundFacts.{Sound, parts, entries-some, places-
 use Rattle.model.proofs.Ways.{way-in}
 use Rattle.model.proofs.Victims.{places-at-most-two}
 use Rattle.model.proofs.Keep.{marked-length, sent-sound, filled-sound}
-use Rattle.model.proofs.Struck.{struck-same}
 
 -- ---- tables at rest: nothing queued, no entry
 
@@ -239,8 +238,7 @@ module _ (S : Settings) (x : Access) where
             (held-whatever t (drain C t .left) (rounds C (suc (n + j)) (drain C t .left) .offers) (n + j) (f j)))
 
 -- any settings in range, any sound tables, any well-formed access
-pub demand-3 : (S : Settings) (x : Access) (t : Tables) → inRange S ≡ true → sound S t ≡ true → wellFormed x ≡ true → Demand3 (steps S x) t
-demand-3 S x t range ok formed = record {
+pub rounds-settled : (S : Settings) (x : Access) (t : Tables) → inRange S ≡ true → sound S t ≡ true → wellFormed x ≡ true → Settles (steps S x) t
+rounds-settled S x t range ok formed = record {
   settles = rounds-settle S x range formed (waits (steps S x) t) t (parts S t ok) (omega arith);
-  strikes = λ n. struck-same (steps S x) n t;
 }

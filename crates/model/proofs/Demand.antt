@@ -1,27 +1,26 @@
--- Demand 3 of the calls on lent slices: any settings in range, any sound slices, any well-formed access.
+-- Where the rounds of the calls on lent slices settle: any settings in range, any sound slices, any well-formed access.
 use mathlib.Core.Path.{_≡_}
 use mathlib.Core.Bool.{true}
 use Rattle.model.specs.Range.{inRange}
 use Rattle.model.specs.Address.{wellFormed}
 use Rattle.model.specs.Lent.{Lent, lengthsFit, tablesOf}
 use Rattle.model.specs.SoundLent.{soundLent}
-use Rattle.model.specs.Rounds.{calls, Demand3}
+use Rattle.model.specs.Rounds.{calls, Settles}
 use Rattle.model.specs.declared.Settings.{Settings}
 use Rattle.model.specs.declared.Access.{Access}
 use Rattle.model.proofs.Soundness.{send-keeps-sound, fill-keeps-sound}
-use Rattle.model.proofs.Struck.{struck-same}
-use Rattle.model.proofs.Bound.{demand-3}
+use Rattle.model.proofs.Bound.{rounds-settled}
 use Rattle.model.proofs.Decoded.{Small}
 use Rattle.model.proofs.Bridge.{sound-encoded}
-use Rattle.model.proofs.LentRounds.{Keeps, demand-lent}
+use Rattle.model.proofs.LentRounds.{Keeps, settled-lent}
 
 -- the steps of a round keep sound tables sound
 pub steps-keep : (S : Settings) → Keeps S
 steps-keep S = record { sends = send-keeps-sound S; fills = λ a. fill-keeps-sound S a }
 
 -- words are 32-bit numbers, as their type says (`Small`)
-pub demand-3-lent : (S : Settings) (x : Access) (L : Lent) → inRange S ≡ true → lengthsFit S L ≡ true → Small L → soundLent S L ≡ true → wellFormed x ≡ true
-    → Demand3 (calls S x) L
-demand-3-lent S x L range fits small soundly formed =
+pub rounds-settled-lent : (S : Settings) (x : Access) (L : Lent) → inRange S ≡ true → lengthsFit S L ≡ true → Small L → soundLent S L ≡ true → wellFormed x ≡ true
+    → Settles (calls S x) L
+rounds-settled-lent S x L range fits small soundly formed =
     let is = sound-encoded S L range fits small soundly in
-    demand-lent S x range (steps-keep S) L (tablesOf S L) is (demand-3 S x (tablesOf S L) range (is .soundly) formed) (λ n. struck-same (calls S x) n L)
+    settled-lent S x range (steps-keep S) L (tablesOf S L) is (rounds-settled S x (tablesOf S L) range (is .soundly) formed)

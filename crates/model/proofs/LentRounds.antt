@@ -16,7 +16,7 @@ use Rattle.model.specs.Sound.{sound}
 use Rattle.model.specs.Steps.{access, send, fill}
 use Rattle.model.specs.Calls.{encoded}
 use Rattle.model.specs.Inner.{Is}
-use Rattle.model.specs.Rounds.{steps, calls, Turn, still, took, andThen, Run, goOn, marks, isEmpty, sendTurn, fillFirst, drain, rounds, struck, heldIn, waits, Demand3}
+use Rattle.model.specs.Rounds.{steps, calls, Turn, still, took, andThen, Run, goOn, isEmpty, sendTurn, fillFirst, drain, rounds, heldIn, waits, Settles}
 use Rattle.model.proofs.Bridge.{tables-of-encode, call-on}
 
 -- what a round does before its offer keeps sound tables sound; the offer, accepted, is the last call
@@ -111,7 +111,7 @@ module _ (S : Settings) (x : Access) (range : inRange S ≡ true) (keeps : Keeps
       (go-encoded S (drain (steps S x) t) (rounds (steps S x) n) (rounds (calls S x) n) (access S x (drain (steps S x) t .left))
       (rounds-encoded n (drain (steps S x) t .left) d))
 
-  -- ---- demand 3
+  -- ---- where they settle
 
   waits-encoded : (t : Tables) → sound S t ≡ true → waits (calls S x) (encode S t) ≡ waits (steps S x) t
   waits-encoded t e = rw (tables-of-encode S t e)
@@ -124,19 +124,14 @@ module _ (S : Settings) (x : Access) (range : inRange S ≡ true) (keeps : Keeps
   held-encoded n t e h =
       rw (rounds-encoded (suc n) t e) (List·getD-map (encoded S) (rounds (steps S x) (suc n) t .offers) n (done [] t) ∙ ap (encoded S) h)
 
-  pub demand-encoded : (t : Tables) → sound S t ≡ true → Demand3 (steps S x) t
-      → ((n : ℕ) → struck (calls S x) (marks (rounds (calls S x) n (encode S t))) (encode S t) ≡ rounds (calls S x) n (encode S t) .turn)
-      → Demand3 (calls S x) (encode S t)
-  demand-encoded t e d strikes = record {
+  pub settled-encoded : (t : Tables) → sound S t ≡ true → Settles (steps S x) t → Settles (calls S x) (encode S t)
+  settled-encoded t e d = record {
     settles = ⊎-elim
         (λ h. inl (rw (waits-encoded t e) (settles-encoded (suc (waits (steps S x) t)) t e h)))
         (λ h. inr (λ j. rw (waits-encoded t e) (held-encoded (waits (steps S x) t + j) t e (h j))))
         (d .settles);
-    strikes = strikes;
   }
 
   -- of any sound slices
-  pub demand-lent : (L : Lent) (t : Tables) → Is S L t → Demand3 (steps S x) t
-      → ((n : ℕ) → struck (calls S x) (marks (rounds (calls S x) n L)) L ≡ rounds (calls S x) n L .turn)
-      → Demand3 (calls S x) L
-  demand-lent L t is d strikes = rw (is .encoded) (demand-encoded t (is .soundly) d (rw (is .encoded) at strikes))
+  pub settled-lent : (L : Lent) (t : Tables) → Is S L t → Settles (steps S x) t → Settles (calls S x) L
+  settled-lent L t is d = rw (is .encoded) (settled-encoded t (is .soundly) d)

@@ -20,7 +20,6 @@ pub mod Offered
 pub mod Soundness
 pub mod RunSound
 pub mod Victims
-pub mod Struck
 pub mod Bound
 pub mod Facts
 pub mod Tabled
@@ -33,3 +32,4 @@ pub mod Decoded
 pub mod Bridge
 pub mod LentRounds
 pub mod Demand
+pub mod SeenRounds

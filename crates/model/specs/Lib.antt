@@ -13,6 +13,7 @@ pub mod Calls
 pub mod Records
 pub mod Runner
 pub mod Rounds
+pub mod Seen
 pub mod Cases
 pub mod Inner
 pub mod Regions

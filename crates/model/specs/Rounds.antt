@@ -1,10 +1,10 @@
--- "The rounds of demand 3": the rounds, the struck rounds, and what is claimed of them. They are said of any calls over any kind of
--- tables: of the steps on the tables of document 01, and of the calls on lent slices.
+-- "The rounds of demand 3" of calls that come to outcomes, and where they settle. They are said of any calls over any kind of tables: of the
+-- steps on the tables of document 01, and of the calls on lent slices. Demand 3 itself is said in `Seen`, of what a caller sees.
 use Prim.Native.Nat.{ℕ, zero, suc, _+_, _-_, _≤_}
 use mathlib.Core.Path.{_≡_}
 use mathlib.Core.Logic.{_⊎_}
 use mathlib.Core.Bool.{Bool, true, false}
-use mathlib.Core.List.{List, [], _∷_, _++_, map}
+use mathlib.Core.List.{List, [], _∷_, _++_}
 use lib.ListN.{length, getD}
 use Rattle.model.specs.Words.{pick, any}
 use Rattle.model.specs.Range.{inRange}
@@ -60,10 +60,6 @@ module _ {T : Type 0} where
   goOn a rest (refused n) = before a (refused n) (rest (a .left))
   goOn a rest (done es u) = before a (done es u) (record { turn = record { events = es; left = u }; offers = [] })
 
-  -- "for each round, whether the first run accepted its offer in that round"
-  abbrev pub marks : Run T → List Bool
-  marks r = map accepted (r .offers)
-
 abbrev pub isEmpty : List Queued → Bool
 isEmpty [] = true
 isEmpty (x ∷ q) = false
@@ -86,12 +82,6 @@ module _ {T : Type 0} (C : Calls T) where
   rounds zero t = record { turn = still t; offers = [] }
   rounds (suc n) t = goOn (drain t) (rounds n) (C .offers (drain t .left))
 
-  -- "The access is offered only in a round marked accepted; in any other there is no third call."
-  unfoldable pub struck : List Bool → T → Turn T
-  struck [] t = still t
-  struck (m ∷ ms) t =
-      andThen (drain t) (λ u. andThen (pick m (took u (C .offers u)) (still u)) (struck ms))
-
   -- the offer of round n + 1 was refused as 6
   abbrev pub heldIn : ℕ → T → Type 0
   heldIn n t = getD (rounds (suc n) t .offers) n (done [] t) ≡ refused SetHeld
@@ -100,7 +90,6 @@ module _ {T : Type 0} (C : Calls T) where
   abbrev pub waits : T → ℕ
   waits t = length (C .tables t .queue) + length (C .tables t .misses) - 1
 
-  -- demand 3
-  pub record Demand3 (t : T) : Type 0 where
+  -- demand 3 without the struck rounds
+  pub record Settles (t : T) : Type 0 where
     pub settles : (any accepted (rounds (suc (waits t)) t .offers) ≡ true) ⊎ ((j : ℕ) → heldIn (waits t + j) t)
-    pub strikes : (n : ℕ) → struck (marks (rounds n t)) t ≡ rounds n t .turn

@@ -13,15 +13,17 @@ use Rattle.model.specs.Address.{wellFormed}
 use Rattle.model.specs.Tables.{Outcome, refused, done, accepted}
 use Rattle.model.specs.Lent.{Lent, lengthsFit}
 use Rattle.model.specs.SoundLent.{soundLent}
-use Rattle.model.specs.Rounds.{Calls, calls, Turn, Run, goOn, drain, rounds, heldIn, waits}
+use Rattle.model.specs.Rounds.{Calls, calls, Turn, Run, goOn, drain, rounds, waits}
+use Rattle.model.specs.Seen.{heldIn, callActs}
 use Rattle.model.specs.declared.Settings.{Settings}
 use Rattle.model.specs.declared.Access.{Access}
 use Rattle.model.specs.declared.Event.{Event}
 use Rattle.model.specs.declared.Refusal.the-variants.{SetHeld}
 use Rattle.model.proofs.Decoded.{Small}
-use Rattle.model.proofs.Demand.{demand-3-lent}
+use Rattle.model.proofs.SeenRounds.{lent-accepted, demand-3-seen-lent}
 use Rattle.rounds.specs.declared.Waiting.the-variants.{Accepted, Held}
-use Rattle.rounds.specs.Waiting.{lastOf, waitingOf, enoughRounds, waitCall}
+use Rattle.rounds.specs.Waiting.{lastOf, waitingOf, settled, waitCall}
+use Rattle.rounds.proofs.SameWait.{settled-same}
 
 module _ {T : Type 0} (C : Calls T) where
   -- no more offers than rounds
@@ -59,9 +61,9 @@ module _ {T : Type 0} where
 module _ (S : Settings) (x : Access) (L : Lent) (range : inRange S ≡ true) (fits : lengthsFit S L ≡ true) (soundly : soundLent S L ≡ true)
     (formed : wellFormed x ≡ true) where
   -- no refusal comes before the first round
-  wait-is : waitCall S x L ≡ enoughRounds S x L
+  wait-is : waitCall S x L ≡ settled (rounds (calls S x) (suc (waits (calls S x) L)) L)
   unfolding waitCall
-  wait-is = rw (range, fits, soundly, formed)
+  wait-is = rw (range, fits, soundly, formed) (settled-same S x (suc (waits (calls S x) L)) L)
 
   pub accepted-in-time : (n : ℕ) (e : Event) → waitCall S x L .waiting ≡ Accepted n e → n ≤ suc (waits (calls S x) L)
   accepted-in-time n e h =
@@ -70,11 +72,11 @@ module _ (S : Settings) (x : Access) (L : Lent) (range : inRange S ≡ true) (fi
       omega (arith, offers-few (calls S x) (suc (waits (calls S x) L)) L)
 
   -- words are 32-bit numbers, as their type says (`Small`)
-  pub held-for-ever : Small L → waitCall S x L .waiting ≡ Held → (j : ℕ) → heldIn (calls S x) (waits (calls S x) L + j) L
+  pub held-for-ever : Small L → waitCall S x L .waiting ≡ Held → (j : ℕ) → heldIn (callActs S x) (waits (calls S x) L + j) L
   held-for-ever small h =
       let r : Run Lent = rounds (calls S x) (suc (waits (calls S x) L)) L in
       let no = said-held (length (r .offers)) (lastOf (refused SetHeld) (r .offers)) (rw wait-is at h) in
       ⊎-elim
-      (λ a. absurd (false≢true (sym no ∙ accepted-last (calls S x) (suc (waits (calls S x) L)) L (refused SetHeld) a)))
+      (λ a. absurd (false≢true (sym no ∙ accepted-last (calls S x) (suc (waits (calls S x) L)) L (refused SetHeld) (sym (lent-accepted S x (suc (waits (calls S x) L)) L) ∙ a))))
       (λ f. f)
-      (demand-3-lent S x L range fits small soundly formed .settles)
+      (demand-3-seen-lent S x L range fits small soundly formed .settles)

@@ -37,6 +37,7 @@ use Rattle.rounds.specs.declared.Waiting.the-variants as wait
 use Rattle.rounds.specs.declared.Waited.{Waited}
 use Rattle.rounds.specs.Waiting.{lastOf, waitingOf, refusalOf, settled, turnedAway, enoughRounds, waitChecked, waitCall, waitWithin, Waits}
 use Rattle.rounds.specs.Parts.{Enough, lentWait, Settles, TurnsAway, WaitsHeld}
+use Rattle.rounds.proofs.SameWait.{settled-same}
 
 -- ---- the rounds on slices
 
@@ -64,7 +65,8 @@ module _ (S : Settings) (x : Access) (L : Lent) (t : Tables) (i : Is S L t) wher
   enough-encoded : {n : ℕ} → Enough S L n → enoughRounds S x L ≡ lentWait S (settled (rounds (steps S x) n t))
   enough-encoded {n} e =
       let w : suc (waits (calls S x) L) ≡ n = rw (is-tables S L t i) (sym (e .on t i)) in
-      ap (λ (k : ℕ). settled (rounds (calls S x) k L)) w
+      settled-same S x (suc (waits (calls S x) L)) L
+      ∙ ap (λ (k : ℕ). settled (rounds (calls S x) k L)) w
       ∙ ap (λ (M : Lent). settled (rounds (calls S x) n M)) (i .encoded)
       ∙ ap settled (rounds-encoded S x (i .range) (steps-keep S) n t (i .soundly))
       ∙ settled-encoded S (rounds (steps S x) n t)

@@ -1,8 +1,13 @@
 -- Laws of the rounds: what a step told and wrote, the parts of a round, the rounds one after another, what waiting comes to and what its
--- answers mean by demand 3, and demand 3 of any calls that meet the contracts.
+-- answers mean by demand 3; then the rounds and the struck rounds as calls, from one
+-- call (`Showing`) to demand 3 of what they leave (`OfRuns`).
 pub mod Noting
 pub mod Turns
 pub mod Settling
+pub mod SameWait
 pub mod Ends
 pub mod Demand
-pub mod OfCalls
+pub mod Showing
+pub mod Running
+pub mod Starting
+pub mod OfRuns

@@ -25,7 +25,7 @@ use Rattle.model.specs.declared.Event.{Event}
 use Rattle.model.specs.declared.Event.the-variants as event
 use Rattle.model.specs.declared.Told.{Told}
 use Rattle.model.proofs.Flags.{clash}
-use Rattle.model.proofs.Bound.{demand-3}
+use Rattle.model.proofs.Bound.{rounds-settled}
 use Rattle.records.specs.Stores.{Stored, Laid}
 use Rattle.records.proofs.Stores.{was-stored}
 use Rattle.tables.specs.Telling.{telling}
@@ -230,7 +230,7 @@ module _ {S : Settings} {x : Access} {most : ℕ} where
       last-held : (t₀ : Tables) (i : Is S L₀ t₀) → lastOf (refused SetHeld) (g .leads t₀ i .offers) ≡ refused SetHeld
       last-held t₀ i =
           let l = g .leads t₀ i in
-          let d = demand-3 S x t₀ (i .range) (i .soundly) formed in
+          let d = rounds-settled S x t₀ (i .range) (i .soundly) formed in
           let many : most ≡ suc (waits (steps S x) t₀) = enough .on t₀ i in
           let zero : most - round ≡ 0 = omega arith in
           let offers : rounds (steps S x) (suc (waits (steps S x) t₀)) t₀ .offers ≡ l .offers =

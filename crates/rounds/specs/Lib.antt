@@ -1,4 +1,5 @@
--- What waiting for an access comes to, what demand 3 is said of, and what the parts of a round promise.
+-- What waiting for an access comes to, what the parts of a round promise, and the rounds and the struck rounds as
+-- calls.
 pub mod Waiting
-pub mod Library
 pub mod Parts
+pub mod Shown

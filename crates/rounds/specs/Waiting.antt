@@ -11,7 +11,8 @@ use Rattle.model.specs.Tables.{Outcome, refused, done}
 use Rattle.model.specs.Lent.{Lent}
 use Rattle.model.specs.Calls.{checkCall}
 use Rattle.model.specs.Records.{logBytes}
-use Rattle.model.specs.Rounds.{calls, Run, rounds, waits}
+use Rattle.model.specs.Rounds.{Run}
+use Rattle.model.specs.Seen.{accepts, but11, Course, rounds, waits, callActs}
 use Rattle.model.specs.declared.Settings.{Settings}
 use Rattle.model.specs.declared.Access.{Access}
 use Rattle.model.specs.declared.Refusal.{Refusal}
@@ -28,22 +29,42 @@ pub record Wait (T : Type 0) : Type 0 where
   pub events : List Event
   pub left : T
 
+-- what the last of the offers told
+abbrev pub lastTold : List Event → List (List Event) → List Event
+lastTold es [] = es
+lastTold es (fs ∷ os) = lastTold fs os
+
+-- by the last offer, made in round n: accepted, with its first event, the answer; or refused, which is 6 by demand 3
+abbrev pub waitingBy : ℕ → List Event → Waiting
+waitingBy n es = pick (accepts es) (Accepted n (getD es 0 event.Ticked)) Held
+
+-- the refusal of the last offer is written, those before it are not
+abbrev pub refusalIn : List Event → List Event
+refusalIn es = pick (accepts es) [] es
+
+module _ {T : Type 0} where
+  -- of rounds that were run, with offers made
+  abbrev pub comesTo : Course T → Wait T
+  comesTo r = record {
+    waiting = waitingBy (length (r .offers)) (lastTold (event.Refused SetHeld ∷ []) (r .offers));
+    events = but11 (r .turn .events) ++ refusalIn (lastTold (event.Refused SetHeld ∷ []) (r .offers));
+    left = r .turn .left;
+  }
+
+-- the same of rounds whose calls come to outcomes, which the inner functions speak of
 module _ {T : Type 0} where
   abbrev pub lastOf : Outcome T → List (Outcome T) → Outcome T
   lastOf o [] = o
   lastOf o (p ∷ ps) = lastOf p ps
 
-  -- by the last offer, made in round n: accepted, with its first event, the answer; or refused, which is 6 by demand 3
   abbrev pub waitingOf : ℕ → Outcome T → Waiting
   waitingOf n (refused k) = Held
   waitingOf n (done es u) = Accepted n (getD es 0 event.Ticked)
 
-  -- the refusal of the last offer is written, those before it are not
   abbrev pub refusalOf : Outcome T → List Event
   refusalOf (refused k) = event.Refused k ∷ []
   refusalOf (done es u) = []
 
-  -- of rounds that were run, with offers made
   abbrev pub settled : Run T → Wait T
   settled r = record {
     waiting = waitingOf (length (r .offers)) (lastOf (refused SetHeld) (r .offers));
@@ -57,7 +78,7 @@ module _ {T : Type 0} where
 
 -- "no later than round q + m (round 1 if both are 0)"
 abbrev pub enoughRounds : Settings → Access → Lent → Wait Lent
-enoughRounds S x L = settled (rounds (calls S x) (suc (waits (calls S x) L)) L)
+enoughRounds S x L = comesTo (rounds (callActs S x) (suc (waits (callActs S x) L)) L)
 
 abbrev pub waitChecked : Settings → Access → Lent → Outcome Lent → Wait Lent
 waitChecked S x L (refused n) = turnedAway n L

@@ -1,12 +1,17 @@
 // The rounds of demand 3 (document 01) over lent tables: what a round does, the most rounds that there can be, and `wait`, which runs
 // them until an access is accepted and says where waiting does not help. `wait` is public and asks nothing; `most_rounds` and
-// `one_round` are its parts, for a caller that shows each round.
+// `one_round` are its parts, for a caller that shows each round. `seen` has the rounds and the struck rounds as two calls, made of those of
+// `cache`: demand 3 is said of what they leave.
+mod seen;
+
 use model::Access;
 use model::Event;
 use model::Refusal;
 use model::Settings;
 use model::Told;
 use model::Verdict;
+pub use seen::run_rounds;
+pub use seen::run_struck;
 ghost use mathlib.Core.Path.{_≡_};
 ghost use mathlib.Core.Bool.{true, not};
 ghost use Prim.Native.Nat.{_+_, _≤_};
@@ -45,6 +50,20 @@ pub struct Round {
 pub enum Sent {
     At(u64),
     Nothing,
+}
+
+// One offer: whether it was accepted, and the bytes of events up to and with it.
+pub struct Offer {
+    pub taken: bool,
+    pub written: usize,
+}
+
+// What running rounds comes to. Ran: how many, and the bytes of their events. Refused: 1 to 4, before the first round. NoRoom: fewer
+// flags than rounds, or fewer than 112 bytes of event room for each.
+pub enum Went {
+    Ran { rounds: usize, written: usize },
+    Refused(Refusal),
+    NoRoom,
 }
 
 // 128 rounds of a send and a fill, and the last offer, take 9,510 bytes at the most.
@@ -99,7 +118,7 @@ fn note(told: Told, events: &mut [u8], out: usize) -> usize
 }
 
 // The first entry marked sent, the oldest.
-fn first_sent(s: Settings, longs: &[u64], words: &[u32], marks: &[u8]) -> Sent
+pub(crate) fn first_sent(s: Settings, longs: &[u64], words: &[u32], marks: &[u8]) -> Sent
     requires { ⌜ Held s (lent (now longs) (now words) (now marks)) ⌝ }
     ensures { λ r. ⌜ FindsSent s (lent (now (longs .entry)) (now (words .entry)) (now (marks .entry))) r ⌝ }
 {

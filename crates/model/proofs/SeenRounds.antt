@@ -1,0 +1,325 @@
+-- Demand 3 of calls as they are seen. The struck rounds come to the same as the rounds for calls whose refused offer leaves the tables as
+-- they were and tells only refusals, and for no others; the calls of document 01 are such, and their rounds settle as `Bound` says.
+use mathlib.Core.Path.{_≡_, refl, sym, ap, subst, _∙_}
+use mathlib.Core.Logic.{_⊎_, inl, inr, ⊎-elim}
+use mathlib.Core.Bool.{Bool, true, false, not, _&&_, _||_}
+use mathlib.Core.List.{List, [], _∷_, _++_, map, append-nil}
+use Prim.Native.Nat.{ℕ, zero, suc, _+_, _≤_}
+use native.Mathlib.Omega.{arith}
+use lib.Dec.{ltb, leb}
+use lib.ListN.{length, getD, List·getD-map, length-append}
+use Rattle.model.specs.Words.{pick, any, keep}
+use Rattle.model.specs.Range.{inRange}
+use Rattle.model.specs.Address.{addressOf, isRead, wellFormed}
+use Rattle.model.specs.Tables.{Entry, Queued, reading, writing, Tables, Outcome, refused, done, after, accepted, eventsOf}
+use Rattle.model.specs.Lent.{Lent, lengthsFit, tablesOf}
+use Rattle.model.specs.Sound.{sound}
+use Rattle.model.specs.SoundLent.{soundLent}
+use Rattle.model.specs.Probe.{Place, no, at, waysOf, dirtyLines, probe}
+use Rattle.model.specs.Steps.{isMerge, isMiss, entryFull, placesNeeded, queues, queuedEvent, accept, proceed, access, sentEvent, sendFrom, send, ticketsOf, sentFor, fill}
+use Rattle.model.specs.Calls.{encoded, call, accessCall}
+use Rattle.model.specs.Rounds as old
+use Rattle.model.specs.Rounds.{Calls, Turn, still, took, andThen, isEmpty, steps, calls}
+use Rattle.model.specs.Seen.{Acts, refusing, accepts, but11, compared, Course, nothing, behind, goOn, marks, sendTurn, fillFirst, drain, rounds, struck, heldIn, waits, Demand3, seen, stepActs, callActs}
+use Rattle.model.specs.declared.Settings.{Settings}
+use Rattle.model.specs.declared.Access.{Access}
+use Rattle.model.specs.declared.Event.{Event}
+use Rattle.model.specs.declared.Event.the-variants as event
+use Rattle.model.specs.declared.Refusal.the-variants.{SetHeld}
+use Rattle.model.proofs.Flags.{not-yes, not-no, clash, or-no-1, or-no-2}
+use Rattle.model.proofs.Lists.{any-append}
+use Rattle.model.proofs.Bound.{rounds-settled}
+use Rattle.model.proofs.Demand.{rounds-settled-lent}
+use Rattle.model.proofs.Decoded.{Small}
+
+-- ---- events but 0x11
+
+pub but11-append : (es fs : List Event) → but11 (es ++ fs) ≡ but11 es ++ but11 fs
+but11-append [] fs = refl
+but11-append (e ∷ es) fs = go (not (refusing e)) (but11-append es fs)
+  where
+    go : (b : Bool) → but11 (es ++ fs) ≡ but11 es ++ but11 fs
+        → pick b (e ∷ but11 (es ++ fs)) (but11 (es ++ fs)) ≡ pick b (e ∷ but11 es) (but11 es) ++ but11 fs
+    go true ih = rw ih
+    go false ih = ih
+
+-- ---- the struck rounds
+
+-- an offer that is refused tells nothing but its refusal, and leaves the tables as they were
+pub record Quiet {T : Type 0} (C : Acts T) : Type 0 where
+  pub tells : (t : T) → accepts (C .offers t .events) ≡ false → but11 (C .offers t .events) ≡ []
+  pub leaves : (t : T) → accepts (C .offers t .events) ≡ false → C .offers t .left ≡ t
+
+module _ {T : Type 0} (C : Acts T) (quiet : Quiet C) where
+  struck-round : (t : T) (rest : T → Course T) → ((u : T) → compared (struck C (marks (rest u)) u) ≡ compared (rest u .turn))
+      → (a : Turn T) → drain C t ≡ a → (o : Turn T) → C .offers (a .left) ≡ o → (b : Bool) → accepts (o .events) ≡ b
+      → compared (struck C (marks (goOn a o rest)) t) ≡ compared (goOn a o rest .turn)
+  unfolding struck
+  struck-round t rest ih a d o e true q = rw (q, d, e)
+  struck-round t rest ih a d o e false q =
+      let p : but11 (o .events) ≡ [] = subst (λ (v : Turn T). but11 (v .events) ≡ []) e (quiet .tells (a .left) (subst (λ (v : Turn T). accepts (v .events) ≡ false) (sym e) q)) in
+      let l : o .left ≡ a .left = subst (λ (v : Turn T). v .left ≡ a .left) e (quiet .leaves (a .left) (subst (λ (v : Turn T). accepts (v .events) ≡ false) (sym e) q)) in
+      rw (q, d, l, but11-append, but11-append, but11-append, p)
+      (ap (λ (v : Turn T). record { events = but11 (a .events) ++ v .events; left = v .left }) (ih (a .left)))
+
+  pub struck-same : (n : ℕ) (t : T) → compared (struck C (marks (rounds C n t)) t) ≡ compared (rounds C n t .turn)
+  unfolding rounds struck
+  struck-same zero t = refl
+  struck-same (suc n) t =
+      struck-round t (rounds C n) (struck-same n) (drain C t) refl (C .offers (drain C t .left)) refl (accepts (C .offers (drain C t .left) .events)) refl
+
+-- ---- no accepted step tells a refusal
+
+module _ {T : Type 0} where
+  pub record Clear (o : Outcome T) : Type 0 where
+    pub clear : accepts (eventsOf o) ≡ accepted o
+
+  clear-by : (b : Bool) {o p : Outcome T} → Clear o → Clear p → Clear (pick b o p)
+  clear-by true h g = h
+  clear-by false h g = g
+
+sent-clear : (q : Queued) → refusing (sentEvent q) ≡ false
+sent-clear (reading a) = refl
+sent-clear (writing b ms) = refl
+
+pub send-clear : (t : Tables) → Clear (send t)
+unfolding send
+send-clear t = from (t .queue)
+  where
+    from : (qs : List Queued) → Clear (sendFrom qs t)
+    from [] = record { clear = refl }
+    from (q ∷ qs) = record { clear = rw (sent-clear q) }
+
+released-clear : (ks : List ℕ) → any refusing (map event.Released ks) ≡ false
+released-clear [] = refl
+released-clear (k ∷ ks) = released-clear ks
+
+pub fill-clear : (a : ℕ) (t : Tables) → Clear (fill a t)
+unfolding fill
+fill-clear a t =
+    clear-by (any (sentFor a) (t .misses)) record { clear = ap not (released-clear (ticketsOf a (t .misses))) } record { clear = refl }
+
+queued-clear : (qs : List Queued) → any refusing (map queuedEvent qs) ≡ false
+queued-clear [] = refl
+queued-clear (reading a ∷ qs) = queued-clear qs
+queued-clear (writing b ms ∷ qs) = queued-clear qs
+
+proceed-clear : (S : Settings) (x : Access) (t : Tables) (p : Place) → Clear (proceed S x t p)
+unfolding proceed accept
+proceed-clear S x t (no n) = record { clear = refl }
+proceed-clear S x t (at p) =
+    clear-by (ltb (S .places) (length (t .queue) + placesNeeded x p)) record { clear = refl }
+    (clear-by (isRead x && isMerge (p .answer) && any (entryFull S (addressOf x)) (t .misses)) record { clear = refl }
+    (clear-by (isRead x && isMiss (p .answer) && leb (S .entries) (length (t .misses))) record { clear = refl }
+    record { clear = ap not (queued-clear (queues x p)) }))
+
+pub access-clear : (S : Settings) (x : Access) (t : Tables) → Clear (access S x t)
+unfolding access
+access-clear S x t =
+    clear-by (wellFormed x) (proceed-clear S x t (probe S (dirtyLines t) (waysOf S (t .lines) (addressOf x)) x)) record { clear = refl }
+
+encoded-clear : (S : Settings) (o : Outcome Tables) → Clear o → Clear (encoded S o)
+encoded-clear S (refused n) c = record { clear = refl }
+encoded-clear S (done es u) c = record { clear = c .clear }
+
+pub call-clear : (S : Settings) (step : Tables → Outcome Tables) (L : Lent) → ((t : Tables) → Clear (step t)) → Clear (call S step L)
+unfolding call
+call-clear S step L c =
+    clear-by (inRange S)
+    (clear-by (lengthsFit S L)
+    (clear-by (soundLent S L) (encoded-clear S (step (tablesOf S L)) (c (tablesOf S L))) record { clear = refl })
+    record { clear = refl })
+    record { clear = refl }
+
+-- ---- calls that come to outcomes: "Every refusal returns its number and leaves all tables unchanged."
+
+abbrev actsOf : {T : Type 0} → Calls T → Acts T
+actsOf C = record { sends = λ t. seen t (C .sends t); fills = λ a t. seen t (C .fills a t); offers = λ t. seen t (C .offers t); tables = C .tables }
+
+module _ {T : Type 0} (C : Calls T) (clear : (t : T) → Clear (C .offers t)) where
+  abbrev A : Acts T
+  A = actsOf C
+
+  quiet-acts : Quiet A
+  quiet-acts = record { tells = λ t. tells t (C .offers t) (clear t); leaves = λ t. leaves t (C .offers t) (clear t) }
+    where
+      tells : (t : T) (o : Outcome T) → Clear o → accepts (eventsOf o) ≡ false → but11 (eventsOf o) ≡ []
+      tells t (refused n) c h = refl
+      tells t (done es u) c h = clash (c .clear) h
+
+      leaves : (t : T) (o : Outcome T) → Clear o → accepts (eventsOf o) ≡ false → after t o ≡ t
+      leaves t (refused n) c h = refl
+      leaves t (done es u) c h = clash (c .clear) h
+
+  -- ---- the tables and the offers are those of the rounds that `Bound` speaks of
+
+  took-left : (t : T) (o : Outcome T) → took t o .left ≡ after t o
+  took-left t (refused n) = refl
+  took-left t (done es u) = refl
+
+  sent-left : (t : T) → sendTurn A t .left ≡ old.sendTurn C t .left
+  unfolding sendTurn old.sendTurn
+  sent-left t = go (isEmpty (C .tables t .queue))
+    where
+      go : (b : Bool) → pick b (still t) (seen t (C .sends t)) .left ≡ pick b (still t) (took t (C .sends t)) .left
+      go true = refl
+      go false = sym (took-left t (C .sends t))
+
+  filled-left : (es : List Entry) (t : T) → fillFirst A es t .left ≡ old.fillFirst C es t .left
+  unfolding fillFirst old.fillFirst
+  filled-left [] t = refl
+  filled-left (e ∷ es) t = go (e .sent) (filled-left es t)
+    where
+      go : (b : Bool) → fillFirst A es t .left ≡ old.fillFirst C es t .left
+          → pick b (seen t (C .fills (e .address) t)) (fillFirst A es t) .left ≡ pick b (took t (C .fills (e .address) t)) (old.fillFirst C es t) .left
+      go true ih = sym (took-left t (C .fills (e .address) t))
+      go false ih = ih
+
+  drained-left : (t : T) → drain A t .left ≡ old.drain C t .left
+  unfolding drain old.drain
+  drained-left t = rw (sent-left t) (filled-left (C .tables (old.sendTurn C t .left) .misses) (old.sendTurn C t .left))
+
+  rounds-offers : (n : ℕ) (t : T) → rounds A n t .offers ≡ map eventsOf (old.rounds C n t .offers)
+  unfolding rounds old.rounds
+  rounds-offers zero t = refl
+  rounds-offers (suc n) t = rw (drained-left t) (go (C .offers (old.drain C t .left)) (clear (old.drain C t .left)) (rounds-offers n (old.drain C t .left)))
+    where
+      go : (o : Outcome T) → Clear o → rounds A n (old.drain C t .left) .offers ≡ map eventsOf (old.rounds C n (old.drain C t .left) .offers)
+          → goOn (drain A t) (seen (old.drain C t .left) o) (rounds A n) .offers ≡ map eventsOf (old.goOn (old.drain C t) (old.rounds C n) o .offers)
+      go (refused k) c ih = ap (λ (os : List (List Event)). (event.Refused k ∷ []) ∷ os) ih
+      go (done es v) c ih = rw (c .clear)
+
+  accepted-same : (n : ℕ) (t : T) → any accepts (rounds A n t .offers) ≡ any accepted (old.rounds C n t .offers)
+  unfolding rounds old.rounds
+  accepted-same zero t = refl
+  accepted-same (suc n) t = rw (drained-left t) (go (C .offers (old.drain C t .left)) (clear (old.drain C t .left)) (accepted-same n (old.drain C t .left)))
+    where
+      go : (o : Outcome T) → Clear o → any accepts (rounds A n (old.drain C t .left) .offers) ≡ any accepted (old.rounds C n (old.drain C t .left) .offers)
+          → any accepts (goOn (drain A t) (seen (old.drain C t .left) o) (rounds A n) .offers) ≡ any accepted (old.goOn (old.drain C t) (old.rounds C n) o .offers)
+      go (refused k) c ih = ih
+      go (done es v) c ih = rw (c .clear)
+
+  held-seen : (n : ℕ) (t : T) → old.heldIn C n t → heldIn A n t
+  held-seen n t h = rw (rounds-offers (suc n) t) (List·getD-map eventsOf (old.rounds C (suc n) t .offers) n (done [] t) ∙ ap eventsOf h)
+
+  demand-seen : (t : T) → old.Settles C t → Demand3 A t
+  demand-seen t d = record {
+    settles = ⊎-elim
+        (λ h. inl (accepted-same (suc (waits A t)) t ∙ h))
+        (λ h. inr (λ j. held-seen (waits A t + j) t (h j)))
+        (d .settles);
+    strikes = λ n. struck-same A quiet-acts n t;
+  }
+
+-- ---- the same turns, with 0x11 left out
+
+but11-clear : (es : List Event) → any refusing es ≡ false → but11 es ≡ es
+but11-clear [] h = refl
+but11-clear (e ∷ es) h =
+    rw (or-no-1 (refusing e) (any refusing es) h) (ap (λ (l : List Event). e ∷ l) (but11-clear es (or-no-2 (refusing e) (any refusing es) h)))
+
+seen-took : {T : Type 0} (t : T) (o : Outcome T) → Clear o → compared (seen t o) ≡ took t o
+seen-took t (refused n) c = refl
+seen-took t (done es u) c = rw (but11-clear es (not-yes {b = any refusing es} (c .clear)))
+
+pub record ClearCalls {T : Type 0} (C : Calls T) : Type 0 where
+  pub sends : (t : T) → Clear (C .sends t)
+  pub fills : (a : ℕ) (t : T) → Clear (C .fills a t)
+  pub offers : (t : T) → Clear (C .offers t)
+
+module _ {T : Type 0} (C : Calls T) (clear : ClearCalls C) where
+  sent-same : (t : T) → compared (sendTurn (actsOf C) t) ≡ old.sendTurn C t
+  unfolding sendTurn old.sendTurn
+  sent-same t = go (isEmpty (C .tables t .queue))
+    where
+      go : (b : Bool) → compared (pick b (still t) (seen t (C .sends t))) ≡ pick b (still t) (took t (C .sends t))
+      go true = refl
+      go false = seen-took t (C .sends t) (clear .sends t)
+
+  filled-same : (es : List Entry) (t : T) → compared (fillFirst (actsOf C) es t) ≡ old.fillFirst C es t
+  unfolding fillFirst old.fillFirst
+  filled-same [] t = refl
+  filled-same (e ∷ es) t = go (e .sent) (filled-same es t)
+    where
+      go : (b : Bool) → compared (fillFirst (actsOf C) es t) ≡ old.fillFirst C es t
+          → compared (pick b (seen t (C .fills (e .address) t)) (fillFirst (actsOf C) es t)) ≡ pick b (took t (C .fills (e .address) t)) (old.fillFirst C es t)
+      go true ih = seen-took t (C .fills (e .address) t) (clear .fills (e .address) t)
+      go false ih = ih
+
+  drained-same : (t : T) → compared (drain (actsOf C) t) ≡ old.drain C t
+  unfolding drain old.drain
+  drained-same t =
+      rw (← sent-same t, ← filled-same (C .tables (sendTurn (actsOf C) t .left) .misses) (sendTurn (actsOf C) t .left), but11-append)
+
+  rounds-turn : (n : ℕ) (t : T) → compared (rounds (actsOf C) n t .turn) ≡ old.rounds C n t .turn
+  unfolding rounds old.rounds
+  rounds-turn zero t = refl
+  rounds-turn (suc n) t =
+      rw (← drained-same t)
+      (go (drain (actsOf C) t) (C .offers (drain (actsOf C) t .left)) (clear .offers (drain (actsOf C) t .left)) (rounds-turn n (drain (actsOf C) t .left)))
+    where
+      go : (a : Turn T) (o : Outcome T) → Clear o → compared (rounds (actsOf C) n (a .left) .turn) ≡ old.rounds C n (a .left) .turn
+          → compared (goOn a (seen (a .left) o) (rounds (actsOf C) n) .turn) ≡ old.goOn (compared a) (old.rounds C n) o .turn
+      go a (refused k) c ih = rw but11-append (ap (λ (v : Turn T). record { events = but11 (a .events) ++ v .events; left = v .left }) ih)
+      go a (done es v) c ih = rw (c .clear, append-nil, but11-append, but11-clear es (not-yes {b = any refusing es} (c .clear)))
+
+pub calls-clear : (S : Settings) (x : Access) → ClearCalls (calls S x)
+calls-clear S x = record {
+  sends = λ L. call-clear S send L send-clear;
+  fills = λ a L. call-clear S (fill a) L (fill-clear a);
+  offers = λ L. call-clear S (access S x) L (access-clear S x);
+}
+
+-- the rounds on slices, as they are seen, are those of the calls as outcomes
+pub lent-offers : (S : Settings) (x : Access) (n : ℕ) (L : Lent) → rounds (callActs S x) n L .offers ≡ map eventsOf (old.rounds (calls S x) n L .offers)
+lent-offers S x = rounds-offers (calls S x) (calls-clear S x .offers)
+
+pub lent-turn : (S : Settings) (x : Access) (n : ℕ) (L : Lent) → compared (rounds (callActs S x) n L .turn) ≡ old.rounds (calls S x) n L .turn
+lent-turn S x = rounds-turn (calls S x) (calls-clear S x)
+
+pub lent-accepted : (S : Settings) (x : Access) (n : ℕ) (L : Lent) → any accepts (rounds (callActs S x) n L .offers) ≡ any accepted (old.rounds (calls S x) n L .offers)
+lent-accepted S x = accepted-same (calls S x) (calls-clear S x .offers)
+
+-- ---- demand 3: any settings in range, any sound tables, any well-formed access
+
+pub demand-3-seen : (S : Settings) (x : Access) (t : Tables) → inRange S ≡ true → sound S t ≡ true → wellFormed x ≡ true → Demand3 (stepActs S x) t
+demand-3-seen S x t range soundly formed = demand-seen (steps S x) (access-clear S x) t (rounds-settled S x t range soundly formed)
+
+-- words are 32-bit numbers, as their type says (`Small`)
+pub demand-3-seen-lent : (S : Settings) (x : Access) (L : Lent) → inRange S ≡ true → lengthsFit S L ≡ true → Small L → soundLent S L ≡ true → wellFormed x ≡ true
+    → Demand3 (callActs S x) L
+demand-3-seen-lent S x L range fits small soundly formed =
+    demand-seen (calls S x) (λ M. call-clear S (access S x) M (access-clear S x)) L (rounds-settled-lent S x L range fits small soundly formed)
+
+-- ---- what demand 3 turns away
+
+-- where the first offer is refused, demand 3 says that it left the tables as it got them
+pub demand-3-leaves : {T : Type 0} (C : Acts T) (t : T) → Demand3 C t → accepts (C .offers (drain C t .left) .events) ≡ false
+    → C .offers (drain C t .left) .left ≡ drain C t .left
+unfolding rounds struck
+demand-3-leaves {T} C t d h = sym (ap (λ (a : Turn T). a .left) (rw h at (d .strikes 1)))
+
+no-more : (es fs : List Event) → es ++ fs ≡ es → fs ≡ []
+no-more es [] e = refl
+no-more es (f ∷ fs) e = absurd (omega (arith, simp length-append at (ap length e)))
+
+-- and told nothing but its refusal
+pub demand-3-tells : {T : Type 0} (C : Acts T) (t : T) → Demand3 C t → accepts (C .offers (drain C t .left) .events) ≡ false
+    → but11 (C .offers (drain C t .left) .events) ≡ []
+unfolding rounds struck
+demand-3-tells {T} C t d h =
+    let o = C .offers (drain C t .left) in
+    let e : but11 (drain C t .events ++ []) ≡ but11 (drain C t .events ++ (o .events ++ [])) = ap (λ (a : Turn T). a .events) (rw h at (d .strikes 1)) in
+    no-more (but11 (drain C t .events)) (but11 (o .events)) (sym (simp (append-nil, but11-append) at e))
+
+-- a library whose send and fill do nothing and whose offers are refused as 6, which moves the current cycle
+abbrev moved : Tables → Tables
+moved t = record { lines = t .lines; misses = t .misses; queue = t .queue; now = suc (t .now) }
+
+abbrev pub leaky : Acts Tables
+leaky = record { sends = λ t. still t; fills = λ a t. still t; offers = λ t. record { events = event.Refused SetHeld ∷ []; left = moved t }; tables = λ t. t }
+
+pub not-demand-3-of-a-leaky-library : (t : Tables) → Demand3 leaky t → ⊥
+not-demand-3-of-a-leaky-library t d =
+    let e : suc (drain leaky t .left .now) ≡ drain leaky t .left .now = ap (λ (u : Tables). u .now) (demand-3-leaves leaky t d refl) in
+    omega arith

@@ -1,0 +1,232 @@
+-- The parts of a round, made of the calls of `cache`, on the slices of sound tables: what each call told is written whole, and the next
+-- call gets what it left.
+use mathlib.Core.Path.{_≡_, refl, sym, ap, subst, _∙_}
+use mathlib.Core.Bool.{Bool, true, false, not, _||_}
+use mathlib.Core.List.{List, [], _∷_, _++_, map, append-nil, append-assoc}
+use Prim.Native.Nat.{ℕ, zero, suc, _+_, _≤_, _<_}
+use native.Mathlib.Omega.{arith}
+use borrow.Author.Tests.{eq-eqb, ne-eqb}
+use lib.Dec.{eqb}
+use lib.ListN.{length, take, getD}
+use Rattle.model.specs.Words.{pick, any}
+use Rattle.model.specs.Address.{maskOf}
+use Rattle.model.specs.Tables.{Entry, Queued, Tables, Outcome, refused, done, after, eventsOf}
+use Rattle.model.specs.Lent.{Lent, lent, tablesOf}
+use Rattle.model.specs.Sound.{allOnes, sound}
+use Rattle.model.specs.Calls.{call, accessCall, sendCall, fillCall, eventsTold, Leaves}
+use Rattle.model.specs.Steps.{access, send, fill}
+use Rattle.model.specs.Inner.{Is, Held, Does}
+use Rattle.model.specs.Records.{logBytes}
+use Rattle.model.specs.Rounds.{Turn, still, andThen, isEmpty}
+use Rattle.model.specs.Seen.{Acts, refusing, accepts, sendTurn, fillFirst, drain, seen, callActs}
+use Rattle.model.specs.declared.Settings.{Settings}
+use Rattle.model.specs.declared.Access.{Access}
+use Rattle.model.specs.declared.Access.the-variants.{Read}
+use Rattle.model.specs.declared.Event.{Event}
+use Rattle.model.specs.declared.Event.the-variants as event
+use Rattle.model.specs.declared.Command.the-variants as cmd
+use Rattle.model.specs.declared.Told.{Told}
+use Rattle.model.proofs.Bridge.{is-tables, call-is, does-tells, does-is}
+use Rattle.model.proofs.Lists.{any-append}
+use Rattle.model.proofs.Soundness.{send-keeps-sound, fill-keeps-sound, access-keeps-sound}
+use Rattle.tables.specs.declared.Layout.{Layout}
+use Rattle.tables.specs.Layout.{Placed}
+use Rattle.tables.specs.Raw.{First}
+use Rattle.model.proofs.SoundFacts.{parts}
+use Rattle.tables.proofs.Stands.{is-stands}
+use Rattle.tables.proofs.Queue.{queue-used}
+use Rattle.steps.proofs.Entries.{few-queued}
+use Rattle.records.specs.Stores.{Stored, Laid}
+use Rattle.records.proofs.Stores.{was-stored}
+use Rattle.records.proofs.Room.{send-takes, access-takes, step-takes}
+use Rattle.rounds.specs.declared.Sent.{Sent}
+use Rattle.rounds.specs.declared.Sent.the-variants.{At, Nothing}
+use Rattle.rounds.specs.declared.Offer.{Offer}
+use Rattle.rounds.specs.Parts.{isRefusal, Noted, firstSent, FindsSent}
+use Rattle.rounds.specs.Shown.{Queueless, Sees, SeesSend, SeesFill, SeesDrain, SeesRound, SeesStruck, roundTurn, struckTurn}
+use Rattle.rounds.proofs.Noting.{noted-then}
+
+-- ---- what a value tells of its call: 0x11 stands first or nowhere
+
+refusing-is : (e : Event) → refusing e ≡ isRefusal e
+refusing-is (event.Answered a l) = refl
+refusing-is (event.Refused n) = refl
+refusing-is (event.ReadQueued a) = refl
+refusing-is (event.WriteBackQueued b m0 m1 m2 m3) = refl
+refusing-is (event.Released k) = refl
+refusing-is (event.ReadSent a) = refl
+refusing-is (event.WriteBackSent b m0 m1 m2 m3) = refl
+refusing-is (event.Filled a) = refl
+refusing-is event.Ticked = refl
+
+one-clear : (b : Bool) (e : Event) → refusing e ≡ false → any refusing (pick b (e ∷ []) []) ≡ false
+one-clear true e h = rw h
+one-clear false e h = refl
+
+released-clear : (ks : List ℕ) → any refusing (map event.Released ks) ≡ false
+released-clear [] = refl
+released-clear (k ∷ ks) = released-clear ks
+
+or-false : (b : Bool) → (b || false) ≡ b
+or-false true = refl
+or-false false = refl
+
+pub told-accepts : (r : Told) → accepts (eventsTold r) ≡ not (isRefusal (r .first))
+unfolding eventsTold
+told-accepts r =
+    rw (
+      any-append,
+      any-append,
+      one-clear (r .reads) (event.ReadQueued (r .address)) refl,
+      one-clear (r .backs) (event.WriteBackQueued (r .block) (getD (r .masks) 0 0) (getD (r .masks) 1 0) (getD (r .masks) 2 0) (getD (r .masks) 3 0)) refl,
+      released-clear (take (r .count) (r .tickets)),
+      or-false,
+      refusing-is (r .first),
+    )
+
+-- ---- written whole
+
+pub tells : (e : List ℕ) (out : ℕ) (r : Told) {n : ℕ} {f : List ℕ} → out + length (logBytes (eventsTold r)) ≤ length e
+    → Stored e out (logBytes (eventsTold r)) n f → Noted e out (eventsTold r) (out + n) f
+tells e out r room s = let (count, slice) = was-stored e out (logBytes (eventsTold r)) s room in record { next = omega arith; slice = slice }
+
+-- ---- one call
+
+module _ (S : Settings) (step : Tables → Outcome Tables) {L : Lent} {r : Told} {M : Lent} (l : Leaves (call S step L) L r M) where
+  pub call-does : Does S step L r M
+  call-does = record { on = λ t i. subst (λ (o : Outcome Lent). Leaves o L r M) (call-is S L t i step) l }
+
+  module _ (h : Held S L) (ok : sound S (after (h .tables) (step (h .tables))) ≡ true) where
+    call-sees : {e : List ℕ} {out w : ℕ} {f : List ℕ} → Noted e out (eventsTold r) w f → Sees S (seen L (call S step L)) e out w f M
+    call-sees n = record {
+      left = l .left;
+      bytes = rw (← l .tells) n;
+      held = record { tables = _; are = does-is S call-does (h .tables) (h .are) ok };
+    }
+
+still-sees : (S : Settings) {L : Lent} → Held S L → (e : List ℕ) (out : ℕ) → Sees S (still L) e out out e L
+unfolding logBytes
+still-sees S h e out = record { left = refl; bytes = record { next = omega arith; slice = refl }; held = h }
+
+sees-then : (S : Settings) {a : Turn Lent} (g : Lent → Turn Lent) {e : List ℕ} {out w : ℕ} {f : List ℕ} {M : Lent} {v : ℕ} {h : List ℕ} {N : Lent}
+    → Sees S a e out w f M → Sees S (g M) f w v h N → Sees S (andThen a g) e out v h N
+sees-then S {a} g {w = w} {f = f} {M = M} {v = v} {h = h} {N = N} u s = record {
+  left = subst (λ (P : Lent). N ≡ g P .left) (u .left) (s .left);
+  bytes = noted-then (a .events) (g (a .left) .events) (u .bytes) (subst (λ (P : Lent). Noted f w (g P .events) v h) (u .left) (s .bytes));
+  held = s .held;
+}
+
+-- ---- the send
+
+is-read-off : (S : Settings) {L : Lent} → Held S L → Is S L (tablesOf S L)
+is-read-off S {L} h = subst (λ (t : Tables). Is S L t) (sym (is-tables S L (h .tables) (h .are))) (h .are)
+
+empty-is : (qs : List Queued) (n : ℕ) → n ≡ length qs → eqb n 0 ≡ isEmpty qs
+empty-is [] n e = eq-eqb n 0 e
+empty-is (q ∷ qs) n e = ne-eqb n 0 (λ z. omega arith)
+
+-- q places of the queue are in use
+pub queueless : (S : Settings) {longs words marks : List ℕ} → Held S (lent longs words marks) → {at : Layout} → Placed S at
+    → {q : ℕ} → First marks (at .kinds) (S .places) 0 q → Queueless S (lent longs words marks) (eqb q 0)
+queueless S {longs} {words} {marks} h p {q} f =
+    let i = is-read-off S h in
+    let t = tablesOf S (lent longs words marks) in
+    record { is = empty-is (t .queue) q (queue-used S t (is-stands i) p (few-queued S t (parts S t (i .soundly))) f) }
+
+module _ (S : Settings) {L : Lent} (h : Held S L) where
+  pub no-send : {b : Bool} → Queueless S L b → b ≡ true → (e : List ℕ) (out : ℕ) → SeesSend S L e out out e L
+  unfolding sendTurn
+  no-send q is e out = let z : isEmpty (tablesOf S L .queue) ≡ true = sym (q .is) ∙ is in record { on = λ x. rw z (still-sees S h e out); short = omega arith }
+
+  module _ {r : Told} {M : Lent} (l : Leaves (sendCall S L) L r M) where
+    pub send-room : length (logBytes (eventsTold r)) ≤ 25
+    send-room = rw (does-tells S (call-does S send l) (h .tables) (h .are)) (send-takes (h .tables) .most)
+
+    pub sends : {b : Bool} → Queueless S L b → b ≡ false → {e : List ℕ} {out w : ℕ} {f : List ℕ} → Noted e out (eventsTold r) w f → SeesSend S L e out w f M
+    unfolding sendTurn
+    sends q is n =
+        let z : isEmpty (tablesOf S L .queue) ≡ false = sym (q .is) ∙ is in
+        let k = send-room in
+        record { on = λ x. rw z (call-sees S send l h (send-keeps-sound S (h .tables) (h .are .soundly)) n); short = omega (arith, n .next) }
+
+-- ---- the fill
+
+abbrev fillAt : Settings → Lent → Sent → Turn Lent
+fillAt S L (At a) = seen L (fillCall S a L)
+fillAt S L Nothing = still L
+
+fill-first : (S : Settings) (x : Access) (es : List Entry) (L : Lent) → fillFirst (callActs S x) es L ≡ fillAt S L (firstSent es)
+unfolding fillFirst
+fill-first S x [] L = refl
+fill-first S x (y ∷ es) L = go (y .sent) (fill-first S x es L)
+  where
+    go : (b : Bool) → fillFirst (callActs S x) es L ≡ fillAt S L (firstSent es)
+        → pick b (seen L (fillCall S (y .address) L)) (fillFirst (callActs S x) es L) ≡ fillAt S L (pick b (At (y .address)) (firstSent es))
+    go true ih = refl
+    go false ih = ih
+
+module _ (S : Settings) {L : Lent} (h : Held S L) {v : Sent} (found : FindsSent S L v) where
+  fill-at : (x : Access) {w : Sent} → v ≡ w → fillFirst (callActs S x) (tablesOf S L .misses) L ≡ fillAt S L w
+  fill-at x e = fill-first S x (tablesOf S L .misses) L ∙ ap (fillAt S L) (sym (found .on (tablesOf S L) (is-read-off S h)) ∙ e)
+
+  pub no-fill : v ≡ Nothing → (e : List ℕ) (out : ℕ) → SeesFill S L e out out e L
+  no-fill q e out = record { on = λ x. rw (fill-at x q) (still-sees S h e out); short = omega arith }
+
+  module _ {a : ℕ} (q : v ≡ At a) {r : Told} {M : Lent} (l : Leaves (fillCall S a L) L r M) where
+    pub fill-room : length (logBytes (eventsTold r)) ≤ 49
+    fill-room =
+        let i = h .are in
+        rw (does-tells S (call-does S (fill a) l) (h .tables) i) (step-takes S (cmd.Fill a) (h .tables) (i .range) (i .soundly) .most)
+
+    pub fills : {e : List ℕ} {out w : ℕ} {f : List ℕ} → Noted e out (eventsTold r) w f → SeesFill S L e out w f M
+    fills n =
+        let k = fill-room in
+        record {
+          on = λ x. rw (fill-at x q) (call-sees S (fill a) l h (fill-keeps-sound S a (h .tables) (h .are .soundly)) n);
+          short = omega (arith, n .next);
+        }
+
+-- ---- both, and the offer
+
+-- what the fill asks; the send does not look at the access
+pub sent-held : (S : Settings) {L : Lent} {e : List ℕ} {out w : ℕ} {f : List ℕ} {M : Lent} → SeesSend S L e out w f M → Held S M
+sent-held S s = s .on (Read 0 0 0) .held
+
+module _ (S : Settings) {L : Lent} {e : List ℕ} {out w : ℕ} {f : List ℕ} {M : Lent} where
+  pub drains : SeesSend S L e out w f M → {v : ℕ} {g : List ℕ} {N : Lent} → SeesFill S M f w v g N → SeesDrain S L e out v g N
+  unfolding drain
+  drains s t = record {
+    on = λ x. sees-then S (λ u. fillFirst (callActs S x) (tablesOf S u .misses) u) (s .on x) (t .on x);
+    short = omega (arith, s .short, t .short);
+  }
+
+  module _ (x : Access) (d : SeesDrain S L e out w f M) where
+    pub drained : Held S M
+    drained = d .on x .held
+
+    module _ {r : Told} {N : Lent} (l : Leaves (accessCall S x M) M r N) where
+      pub offer-room : length (logBytes (eventsTold r)) ≤ 38
+      offer-room = rw (does-tells S (call-does S (access S x) l) (drained .tables) (drained .are)) (access-takes S x (drained .tables) .most)
+
+      pub offers : maskOf x ≤ allOnes → {z : ℕ} {h : List ℕ} → Noted f w (eventsTold r) z h → {b : Bool} → b ≡ not (isRefusal (r .first))
+          → SeesRound S x L e out record { taken = b; written = z } h N
+      offers small n taken =
+          let k = offer-room in
+          record {
+            on = sees-then S (λ u. seen u (accessCall S x u)) (d .on x)
+                (call-sees S (access S x) l drained (access-keeps-sound S x (drained .tables) (drained .are .range) small (drained .are .soundly)) n);
+            taken = taken
+                ∙ sym (told-accepts r)
+                ∙ ap accepts (l .tells)
+                ∙ ap (λ (P : Lent). accepts (eventsOf (accessCall S x P))) (d .on x .left);
+            short = omega (arith, n .next, d .short);
+          }
+
+-- ---- a struck round
+
+module _ (S : Settings) (x : Access) {m : Bool} {L : Lent} {e : List ℕ} {out : ℕ} {f : List ℕ} {M : Lent} where
+  pub struck-offers : m ≡ true → {r : Offer} → SeesRound S x L e out r f M → SeesStruck S x m L e out (r .written) f M
+  struck-offers h s = record { on = rw h (s .on); short = s .short }
+
+  pub struck-drains : m ≡ false → {w : ℕ} → SeesDrain S L e out w f M → SeesStruck S x m L e out w f M
+  struck-drains h s = record { on = rw (h, append-nil) (s .on x); short = omega (arith, s .short) }
