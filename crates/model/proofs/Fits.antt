@@ -13,12 +13,13 @@ use Rattle.model.specs.Range.{linesOf, inRange, powerTo256, within, long
 use Rattle.model.specs.Inner.{Fit}
 use Rattle.model.proofs.Flags.{and-1, and-2, clash}
 
-power-pos : (n : ℕ) → powerTo256 n ≡ true → 1 ≤ n
+pub power-pos : (n : ℕ) → powerTo256 n ≡ true → 1 ≤ n
 power-pos zero e = clash e refl
 power-pos (suc n) e = omega arith
 
 -- the ranges, as facts
 pub record Ranged (S : Settings) : Type 0 where
+  pub power : powerTo256 (S .sets) ≡ true
   pub sets : 1 ≤ S .sets
   pub ways : 1 ≤ S .ways
   pub few-ways : S .ways ≤ 16
@@ -46,6 +47,7 @@ ranged S e =
     let place : leb 2 (S .places) ≡ true = search (and-1, and-2) depth 9 in
     let places : leb (S .places) 64 ≡ true = search (and-1, and-2) depth 9 in
     record {
+      power = sets;
       sets = power-pos _ sets;
       ways = leb-true _ _ ways;
       few-ways = leb-true _ _ few-ways;
@@ -64,6 +66,7 @@ fit S longs words marks (r, l, w, m) =
     let a = ranged S r in
     let t : S .readers * S .entries ≤ 8 * 64 = mul-le-mul (a .readers) (a .entries) in
     record {
+      power = a .power;
       sets = a .sets;
       ways = a .ways;
       few-ways = a .few-ways;

@@ -8,6 +8,7 @@ pub mod Rows
 pub mod Region
 pub mod Places
 pub mod Fits
+pub mod Powers
 pub mod Answers
 pub mod Fourteen
 pub mod MoreCases

@@ -4,7 +4,7 @@ use Prim.Native.Nat.{ℕ, _+_, _*_, _≤_}
 use mathlib.Core.Bool.{true}
 use mathlib.Core.List.{List}
 use lib.ListN.{length}
-use Rattle.model.specs.Range.{inRange, linesOf, longsLength, wordsLength, marksLength}
+use Rattle.model.specs.Range.{inRange, powerTo256, linesOf, longsLength, wordsLength, marksLength}
 use Rattle.model.specs.Tables.{Tables, Outcome}
 use Rattle.model.specs.Lent.{Lent, encode}
 use Rattle.model.specs.Sound.{sound}
@@ -14,6 +14,7 @@ use Rattle.model.specs.declared.Told.{Told}
 
 -- settings in range and slices of the right lengths, as numbers
 pub record Fit (S : Settings) (longs words marks : List ℕ) : Type 0 where
+  pub power : powerTo256 (S .sets) ≡ true
   pub sets : 1 ≤ S .sets
   pub ways : 1 ≤ S .ways
   pub few-ways : S .ways ≤ 16

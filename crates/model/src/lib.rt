@@ -3,6 +3,8 @@
 // records; what a call tells and what a run returns.
 ghost use mathlib.Core.Path.{_≡_};
 ghost use Prim.Native.Nat.{_/_, _%_, _≤_, _<_};
+ghost use mathlib.Core.Bool.{true};
+ghost use Rattle.model.specs.Range.{powerTo256};
 ghost use Rattle.model.specs.Numbers.{statusNumber, statusOf, answerNumber, refusalNumber, stopNumber};
 ghost use Rattle.model.specs.Probe.{columnOf, answerOf};
 ghost use Rattle.model.specs.Address.{addressOf, blockOf, sectorAddressOf, sectorIndex};
@@ -279,12 +281,12 @@ pub fn block_of(address: u64) -> BlockAddress
     BlockAddress(address - address % 128)
 }
 
-// "(address / 128) mod sets": the one place where it is worked out.
+// "(address / 128) mod sets", without dividing by sets, a power of two: the one place where it is worked out.
 pub fn set_index(address: u64, sets: usize) -> usize
-    requires { ⌜ 1 ≤ sets ⌝ }
+    requires { ⌜ powerTo256 sets ≡ true ⌝ }
     ensures { λ r. ⌜ r ≡ address / 128 % sets ⌝ }
 {
-    (address / 128 % (sets as u64)) as usize
+    (address / 128 & (sets as u64 - 1)) as usize
 }
 
 pub fn sector_of(address: u64) -> SectorAddress
