@@ -10,7 +10,7 @@ use Rattle.model.specs.Address.{addressOf, wellFormed}
 use Rattle.model.specs.Tables.{Line, Tables, Outcome, refused}
 use Rattle.model.specs.Lent.{Lent, lent}
 use Rattle.model.specs.Inner.{Is}
-use Rattle.model.specs.Probe.{Spot, Place, no, at, probe, waysOf, dirtyLines}
+use Rattle.model.specs.Probe.{Spot, Place, no, at, probe, ruleOf, waysOf, dirtyLines}
 use Rattle.model.specs.Steps.{access, proceed, accept}
 use Rattle.model.specs.Calls.{Leaves, encoded}
 use Rattle.model.specs.declared.Settings.{Settings}
@@ -63,7 +63,7 @@ pub formed-refused : (S : Settings) (L : Lent) (x : Access) {r : Told} → wellF
 unfolding access
 formed-refused S L x f e t = rw (f, e) (refusal-leaves BadAccess L)
 
-accessing : (S : Settings) (x : Access) (t : Tables) → wellFormed x ≡ true → access S x t ≡ proceed S x t (probe S (dirtyLines t) (waysOf S (t .lines) (addressOf x)) x)
+accessing : (S : Settings) (x : Access) (t : Tables) → wellFormed x ≡ true → access S x t ≡ proceed S x t (probe (ruleOf S t (addressOf x)) S (dirtyLines t) (waysOf S (t .lines) (addressOf x)) x)
 unfolding access
 accessing S x t f = rw f
 
@@ -81,7 +81,7 @@ place-spot meeting.Held ways a d e = absurd (false≢true e)
 
 module _ (S : Settings) {longs words marks : List ℕ} (x : Access) (d : Decision) (decided : Decided S longs words marks x d) (formed : wellFormed x ≡ true)
     (t : Tables) (is : Is S (lent longs words marks) t) where
-  place-is : placeIs (waysOf S (t .lines) (addressOf x)) (addressOf x) d ≡ probe S (dirtyLines t) (waysOf S (t .lines) (addressOf x)) x
+  place-is : placeIs (waysOf S (t .lines) (addressOf x)) (addressOf x) d ≡ probe (ruleOf S t (addressOf x)) S (dirtyLines t) (waysOf S (t .lines) (addressOf x)) x
   place-is = decided-probe S (lent longs words marks) (is-tables S (lent longs words marks) t is) decided
 
   -- the spot, where there is one

@@ -15,7 +15,7 @@ use Rattle.model.specs.Range.{inRange}
 use Rattle.model.specs.Address.{addressOf, isRead, blockOf, sectorIndex, wellFormed}
 use Rattle.model.specs.Tables.{Entry, Tables, Outcome, refused, entryFor, isReserved, empty}
 use Rattle.model.specs.Sound.{sound}
-use Rattle.model.specs.Probe.{Spot, at, probe, waysOf, dirtyLines}
+use Rattle.model.specs.Probe.{Spot, at, probe, ruleOf, waysOf, dirtyLines}
 use Rattle.model.specs.Steps.{isHit, isMerge, isMiss, placesNeeded, entryFull, proceed, accept, join}
 use Rattle.model.specs.declared.Settings.{Settings}
 use Rattle.model.specs.declared.Access.{Access}
@@ -90,7 +90,7 @@ merge-not-miss Miss e = absurd (false≢true e)
 merge-not-miss SectorMiss e = absurd (false≢true e)
 
 module _ (S : Settings) (range : inRange S ≡ true) (t : Tables) (ok : Sound S t) (x : Access) (formed : wellFormed x ≡ true) (p : Spot)
-    (probed : probe S (dirtyLines t) (waysOf S (t .lines) (addressOf x)) x ≡ at p) where
+    (probed : probe (ruleOf S t (addressOf x)) S (dirtyLines t) (waysOf S (t .lines) (addressOf x)) x ≡ at p) where
   spotted : Spotted S t x p
   spotted = probe-spotted S range t ok x p probed
 

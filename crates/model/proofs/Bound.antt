@@ -15,7 +15,7 @@ use Rattle.model.specs.Range.{inRange}
 use Rattle.model.specs.Address.{addressOf, isRead, blockOf, wellFormed}
 use Rattle.model.specs.Tables.{Line, Entry, Queued, Tables, Outcome, refused, done, accepted, isInvalid, isReserved, unused, waiting, holds, empty}
 use Rattle.model.specs.Sound.{readingOf, sound}
-use Rattle.model.specs.Probe.{Place, no, at, waysOf, dirtyLines, first, victim, takeOver, meet, probe}
+use Rattle.model.specs.Probe.{Rule, Place, no, at, waysOf, dirtyLines, first, victim, takeOver, meet, probe, ruleOf}
 use Rattle.model.specs.Steps.{isMerge, isMiss, placesNeeded, entryFull, accept, proceed, access, afterSend, send, others, afterFill, sentFor, fill}
 use Rattle.model.specs.Rounds.{Calls, steps, Turn, still, took, Run, goOn, sendTurn, fillFirst, drain, rounds, heldIn, waits, Settles}
 use Rattle.model.specs.declared.Settings.{Settings}
@@ -68,9 +68,9 @@ module _ (S : Settings) (t : Tables) (ok : Sound S t) (no-misses : t .misses ≡
   over-free a Nothing = rw (set-free a)
   over-free a (At w) = tt
 
-  meet-free : (d : ℕ) (x : Access) (v : Found) → Free (meet S d (waysOf S (t .lines) (addressOf x)) x v)
-  meet-free d x Nothing = over-free (addressOf x) (victim S d (waysOf S (t .lines) (addressOf x)))
-  meet-free d x (At w) = tt
+  meet-free : (R : Rule) (d : ℕ) (x : Access) (v : Found) → Free (meet R S d (waysOf S (t .lines) (addressOf x)) x v)
+  meet-free R d x Nothing = over-free (addressOf x) (victim R S d (waysOf S (t .lines) (addressOf x)))
+  meet-free R d x (At w) = tt
 
   module _ (range : inRange S ≡ true) (x : Access) (no-queue : t .queue ≡ []) where
     proceed-settles : (p : Place) → Free p → (accepted (proceed S x t p) ≡ true) ⊎ (proceed S x t p ≡ refused SetHeld)
@@ -91,8 +91,8 @@ module _ (S : Settings) (t : Tables) (ok : Sound S t) (no-misses : t .misses ≡
     access-settles : wellFormed x ≡ true → (accepted (access S x t) ≡ true) ⊎ (access S x t ≡ refused SetHeld)
     unfolding access probe
     access-settles f =
-        rw f (proceed-settles (probe S (dirtyLines t) (waysOf S (t .lines) (addressOf x)) x)
-        (meet-free (dirtyLines t) x (first (holds (blockOf (addressOf x))) (waysOf S (t .lines) (addressOf x)))))
+        rw f (proceed-settles (probe (ruleOf S t (addressOf x)) S (dirtyLines t) (waysOf S (t .lines) (addressOf x)) x)
+        (meet-free (ruleOf S t (addressOf x)) (dirtyLines t) x (first (holds (blockOf (addressOf x))) (waysOf S (t .lines) (addressOf x)))))
 
 -- ---- a round's send and fill
 

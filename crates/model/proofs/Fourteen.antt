@@ -5,11 +5,11 @@ use Rattle.model.specs.Words.{table, fit, places}
 use Rattle.model.specs.Range.{inRange}
 use Rattle.model.specs.Lent.{tablesOf, encode}
 use Rattle.model.specs.SoundLent.{soundNumbers}
-use Rattle.model.specs.Probe.{probe}
+use Rattle.model.specs.Probe.{probe, ruleOf}
 use Rattle.model.specs.Steps.{access, proceed, accept, send, fill, fillLine, tick}
 use Rattle.model.specs.Calls.{call}
 use Rattle.model.specs.Cases.{Case, cases, seenOf}
 
 pub fourteen : map seenOf cases ≡ map (λ (c : Case). c .sees) cases
-unfolding table fit places inRange tablesOf encode soundNumbers probe access proceed accept send fill fillLine tick call
+unfolding table fit places inRange tablesOf encode soundNumbers ruleOf probe access proceed accept send fill fillLine tick call
 fourteen = refl

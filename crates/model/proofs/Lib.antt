@@ -9,6 +9,8 @@ pub mod Region
 pub mod Places
 pub mod Fits
 pub mod Powers
+pub mod TreeBits
+pub mod Trees
 pub mod Answers
 pub mod Fourteen
 pub mod MoreCases

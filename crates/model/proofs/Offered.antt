@@ -13,7 +13,7 @@ use Rattle.model.specs.Range.{inRange, linesOf}
 use Rattle.model.specs.Address.{blockOf, sectorIndex, setIndex, lineNumber, addressOf, maskOf, isRead, goodBlock, wellFormed}
 use Rattle.model.specs.Tables.{Line, Entry, Queued, writing, Tables, start, refused, isInvalid, isReserved, isModified, unused, waiting, dirty, holds, entryFor, empty, fresh}
 use Rattle.model.specs.Sound.{allOnes, lastCycle, maskOk, sectorOk, lineOk, alone, reservedOk, readingOf, entryOk, queuedOk}
-use Rattle.model.specs.Probe.{columnOf, answerAt, answerOf, waysOf, dirtyLines, enoughDirty, candidate, first, victim, Spot, at, writeBack, takeOver, meet, probe}
+use Rattle.model.specs.Probe.{Rule, columnOf, answerAt, answerOf, waysOf, dirtyLines, enoughDirty, candidate, first, victim, Spot, at, writeBack, takeOver, meet, probe, ruleOf}
 use Rattle.model.specs.Steps.{isHit, isMerge, isMiss, onSector, fetches, queues, placesNeeded, entryFull, accept, proceed, access, tick}
 use Rattle.model.specs.declared.Settings.{Settings}
 use Rattle.model.specs.declared.Status.{Status}
@@ -294,18 +294,18 @@ module _ (S : Settings) (range : inRange S ≡ true) (t : Tables) (ok : Sound S 
   over-leaves f g d Nothing h = tt
   over-leaves f g d (At w) h = proceed-leaves f _ (taken-over S t ok (ways-some S range) x g d w (h .0) (h .1))
 
-  meet-leaves : wellFormed x ≡ true → (d : ℕ) (v : Found) → Finds (holds (blockOf (addressOf x))) (waysOf S (t .lines) (addressOf x)) v
-      → LeavesSound S (proceed S x t (meet S d (waysOf S (t .lines) (addressOf x)) x v))
-  meet-leaves f d Nothing h =
-      over-leaves f (none-holds S t ok (ways-some S range) x h) d (victim S d (waysOf S (t .lines) (addressOf x)))
-      (victim-finds S d (waysOf S (t .lines) (addressOf x)))
-  meet-leaves f d (At w) h = proceed-leaves f _ (met S t ok (ways-some S range) x w (h .0) (h .1))
+  meet-leaves : wellFormed x ≡ true → (R : Rule) (d : ℕ) (v : Found) → Finds (holds (blockOf (addressOf x))) (waysOf S (t .lines) (addressOf x)) v
+      → LeavesSound S (proceed S x t (meet R S d (waysOf S (t .lines) (addressOf x)) x v))
+  meet-leaves f R d Nothing h =
+      over-leaves f (none-holds S t ok (ways-some S range) x h) d (victim R S d (waysOf S (t .lines) (addressOf x)))
+      (victim-finds R S d (waysOf S (t .lines) (addressOf x)))
+  meet-leaves f R d (At w) h = proceed-leaves f _ (met S t ok (ways-some S range) x w (h .0) (h .1))
 
   pub access-leaves : LeavesSound S (access S x t)
   unfolding access probe
   access-leaves =
       by-flag (LeavesSound S) (wellFormed x) _ (refused BadAccess)
-      (λ f. meet-leaves f (dirtyLines t) (first (holds (blockOf (addressOf x))) (waysOf S (t .lines) (addressOf x)))
+      (λ f. meet-leaves f (ruleOf S t (addressOf x)) (dirtyLines t) (first (holds (blockOf (addressOf x))) (waysOf S (t .lines) (addressOf x)))
       (first-finds (holds (blockOf (addressOf x))) (waysOf S (t .lines) (addressOf x))))
       (λ f. tt)
 
@@ -364,14 +364,14 @@ module _ (S : Settings) (range : inRange S ≡ true) (t : Tables) (ok : Sound S 
   over-spotted g d Nothing h p e = let z : _≡_ {A = ℕ} 0 1 = cc in absurd (omega arith)
   over-spotted g d (At w) h p e = subst (Spotted S t x) (cc) (taken-over S t ok (ways-some S range) x g d w (h .0) (h .1))
 
-  meet-spotted : (d : ℕ) (v : Found) → Finds (holds (blockOf (addressOf x))) (waysOf S (t .lines) (addressOf x)) v
-      → (p : Spot) → meet S d (waysOf S (t .lines) (addressOf x)) x v ≡ at p → Spotted S t x p
-  meet-spotted d Nothing h p e =
-      over-spotted (none-holds S t ok (ways-some S range) x h) d (victim S d (waysOf S (t .lines) (addressOf x))) (victim-finds S d (waysOf S (t .lines) (addressOf x))) p e
-  meet-spotted d (At w) h p e = subst (Spotted S t x) (cc) (met S t ok (ways-some S range) x w (h .0) (h .1))
+  meet-spotted : (R : Rule) (d : ℕ) (v : Found) → Finds (holds (blockOf (addressOf x))) (waysOf S (t .lines) (addressOf x)) v
+      → (p : Spot) → meet R S d (waysOf S (t .lines) (addressOf x)) x v ≡ at p → Spotted S t x p
+  meet-spotted R d Nothing h p e =
+      over-spotted (none-holds S t ok (ways-some S range) x h) d (victim R S d (waysOf S (t .lines) (addressOf x))) (victim-finds R S d (waysOf S (t .lines) (addressOf x))) p e
+  meet-spotted R d (At w) h p e = subst (Spotted S t x) (cc) (met S t ok (ways-some S range) x w (h .0) (h .1))
 
-  pub probe-spotted : (p : Spot) → probe S (dirtyLines t) (waysOf S (t .lines) (addressOf x)) x ≡ at p → Spotted S t x p
+  pub probe-spotted : (p : Spot) → probe (ruleOf S t (addressOf x)) S (dirtyLines t) (waysOf S (t .lines) (addressOf x)) x ≡ at p → Spotted S t x p
   unfolding probe
   probe-spotted p e =
-      meet-spotted (dirtyLines t) (first (holds (blockOf (addressOf x))) (waysOf S (t .lines) (addressOf x)))
+      meet-spotted (ruleOf S t (addressOf x)) (dirtyLines t) (first (holds (blockOf (addressOf x))) (waysOf S (t .lines) (addressOf x)))
       (first-finds (holds (blockOf (addressOf x))) (waysOf S (t .lines) (addressOf x))) p e

@@ -15,7 +15,7 @@ use Rattle.model.specs.Tables.{Entry, Queued, reading, writing, Tables, 
 use Rattle.model.specs.Lent.{Lent, lengthsFit, tablesOf}
 use Rattle.model.specs.Sound.{sound}
 use Rattle.model.specs.SoundLent.{soundLent}
-use Rattle.model.specs.Probe.{Place, no, at, waysOf, dirtyLines, probe}
+use Rattle.model.specs.Probe.{Place, no, at, waysOf, dirtyLines, probe, ruleOf}
 use Rattle.model.specs.Steps.{isMerge, isMiss, entryFull, placesNeeded, queues, queuedEvent, accept, proceed, access, sentEvent, sendFrom, send, ticketsOf, sentFor, fill}
 use Rattle.model.specs.Calls.{encoded, call, accessCall}
 use Rattle.model.specs.Rounds as old
@@ -116,7 +116,7 @@ proceed-clear S x t (at p) =
 pub access-clear : (S : Settings) (x : Access) (t : Tables) → Clear (access S x t)
 unfolding access
 access-clear S x t =
-    clear-by (wellFormed x) (proceed-clear S x t (probe S (dirtyLines t) (waysOf S (t .lines) (addressOf x)) x)) record { clear = refl }
+    clear-by (wellFormed x) (proceed-clear S x t (probe (ruleOf S t (addressOf x)) S (dirtyLines t) (waysOf S (t .lines) (addressOf x)) x)) record { clear = refl }
 
 encoded-clear : (S : Settings) (o : Outcome Tables) → Clear o → Clear (encoded S o)
 encoded-clear S (refused n) c = record { clear = refl }

@@ -1,9 +1,9 @@
 -- The ways of a set: what a search among them finds, and which lines of the cache they are.
-use Prim.Native.Nat.{ℕ, zero, suc, _+_, _*_, _-_, _/_, _%_, _≤_, _<_, min}
-use mathlib.Core.Path.{_≡_, refl, ap, subst, _∙_}
+use Prim.Native.Nat.{ℕ, zero, suc, _+_, _*_, _-_, _/_, _%_, _≤_, _<_, _^_, min}
+use mathlib.Core.Path.{_≡_, refl, sym, ap, subst, _∙_}
 use mathlib.Core.Logic.{inl, inr}
 use mathlib.Core.Bool.{Bool, true, false, _&&_}
-use mathlib.Core.List.{List, [], _∷_}
+use mathlib.Core.List.{List, [], _∷_, map}
 use native.Mathlib.Omega.{arith}
 use native.Mathlib.Nat.{div-add-mod', mod-lt, mul-add-div-right, div-eq-of-lt, add-zero}
 use lib.ListN.{length, getD, drop, length-take, length-drop}
@@ -13,12 +13,14 @@ use borrow.Author.Tests.{leb-true, leb-false}
 use Rattle.model.specs.Words.{pick}
 use Rattle.model.specs.Address.{blockOf, setIndex, lineNumber}
 use Rattle.model.specs.Tables.{Line, unused, fresh}
-use Rattle.model.specs.Probe.{waysOf, enoughDirty, candidate, next, orElse, first, last, older, earliest, age, victim}
+use Rattle.model.specs.Tree.{levels}
+use Rattle.model.specs.Probe.{waysOf, enoughDirty, candidate, next, orElse, first, last, older, earliest, Rule, byKey, byTree, choiceBy, victim}
 use Rattle.model.specs.declared.Settings.{Settings}
 use Rattle.model.specs.declared.Found.{Found}
 use Rattle.model.specs.declared.Found.the-variants.{At, Nothing}
 use Rattle.model.proofs.Flags.{and-1, clash, by-flag}
-use Rattle.model.proofs.Lists.{In, in-getD, in-take, in-drop}
+use Rattle.model.proofs.Lists.{In, in-getD, in-index, in-take, in-drop}
+use Rattle.model.proofs.Trees.{Chooses, choice-chooses, levels-reach}
 
 -- ---- searches
 
@@ -63,13 +65,38 @@ earliest-finds key p (l ∷ ls) =
     by-flag (λ (v : Found). Finds p (l ∷ ls) v) (p l) (older key ls (key l) (earliest key p ls)) (next (earliest key p ls))
     (λ e. older-finds p l ls key e (earliest key p ls) (earliest-finds key p ls)) (λ e. next-finds p l ls e (earliest key p ls) (earliest-finds key p ls))
 
+-- the flags of the ways
+pub flag-is : (p : Line → Bool) (ls : List Line) (w : ℕ) → w < length ls → getD (map p ls) w false ≡ p (getD ls w fresh)
+flag-is p [] w h = absurd (omega arith)
+flag-is p (l ∷ ls) zero h = refl
+flag-is p (l ∷ ls) (suc w) h = flag-is p ls w (omega arith)
+
+flag-at : (p : Line → Bool) (ls : List Line) (w : ℕ) → getD (map p ls) w false ≡ true → (w < length ls) × (p (getD ls w fresh) ≡ true)
+flag-at p [] w e = clash e refl
+flag-at p (l ∷ ls) zero e = (omega arith, e)
+flag-at p (l ∷ ls) (suc w) e = let r = flag-at p ls w e in (omega arith, r .1)
+
+-- under every rule
+pub choice-finds : (R : Rule) (p : Line → Bool) (ls : List Line) → Finds p ls (choiceBy R p ls)
+choice-finds (byKey key) p ls = earliest-finds key p ls
+choice-finds (byTree t) p ls = go (choiceBy (byTree t) p ls) (choice-chooses flags t (levels (length ls)))
+  where
+    flags : ℕ → Bool
+    flags w = getD (map p ls) w false
+
+    go : (v : Found) → Chooses flags (2 ^ levels (length ls)) v → Finds p ls v
+    go Nothing f = λ l m.
+        let (i, h, e) = in-index ls fresh l m in
+        ap p (sym e) ∙ sym (flag-is p ls i h) ∙ f i (omega (arith, levels-reach (length ls)))
+    go (At w) f = flag-at p ls w (f .1)
+
 -- the victim is a candidate, and there is one if there is a candidate
-pub victim-finds : (S : Settings) (d : ℕ) (ways : List Line) → Finds (candidate (enoughDirty S d)) ways (victim S d ways)
-victim-finds S d ways = go (last (λ l. candidate (enoughDirty S d) l && unused l) ways) (last-finds (λ l. candidate (enoughDirty S d) l && unused l) ways)
+pub victim-finds : (R : Rule) (S : Settings) (d : ℕ) (ways : List Line) → Finds (candidate (enoughDirty S d)) ways (victim R S d ways)
+victim-finds R S d ways = go (last (λ l. candidate (enoughDirty S d) l && unused l) ways) (last-finds (λ l. candidate (enoughDirty S d) l && unused l) ways)
   where
     go : (v : Found) → Finds (λ l. candidate (enoughDirty S d) l && unused l) ways v
-        → Finds (candidate (enoughDirty S d)) ways (orElse v (earliest (age S) (candidate (enoughDirty S d)) ways))
-    go Nothing g = earliest-finds (age S) (candidate (enoughDirty S d)) ways
+        → Finds (candidate (enoughDirty S d)) ways (orElse v (choiceBy R (candidate (enoughDirty S d)) ways))
+    go Nothing g = choice-finds R (candidate (enoughDirty S d)) ways
     go (At w) g = (g .0, and-1 (candidate (enoughDirty S d) (getD ways w fresh)) (unused (getD ways w fresh)) (g .1))
 
 -- no later way passes than the last found

@@ -8,7 +8,7 @@ use Rattle.model.specs.Words.{fit, places}
 use Rattle.model.specs.Range.{inRange}
 use Rattle.model.specs.Tables.{Tables, empty, fresh}
 use Rattle.model.specs.Lent.{Lent, lengthsFit, encode}
-use Rattle.model.specs.Probe.{probe}
+use Rattle.model.specs.Probe.{probe, ruleOf}
 use Rattle.model.specs.Steps.{access, proceed, accept, send, fill, fillLine}
 use Rattle.model.specs.Records.{lengthOf, bytesOf, numberAt, eventBytes, logBytes, commandOf}
 use Rattle.model.specs.Runner.{firstStop, laterStop, stepAt, runFrom, run}
@@ -55,5 +55,5 @@ left = record {
 -- on lent tables of the settings' lengths, whatever they hold, with room for 256 bytes of events
 pub whole-run : (L : Lent) → lengthsFit base L ≡ true
     → run 256 stream L ≡ record { stop = Nothing; consumed = 44; events = written; tables = encode base left }
-unfolding fit places inRange encode probe access proceed accept send fill fillLine lengthOf bytesOf numberAt eventBytes logBytes commandOf firstStop laterStop stepAt runFrom run
+unfolding fit places inRange encode ruleOf probe access proceed accept send fill fillLine lengthOf bytesOf numberAt eventBytes logBytes commandOf firstStop laterStop stepAt runFrom run
 whole-run L h = rw h

@@ -7,6 +7,7 @@ pub mod Tables
 pub mod Lent
 pub mod Sound
 pub mod SoundLent
+pub mod Tree
 pub mod Probe
 pub mod Steps
 pub mod Calls

@@ -2,13 +2,14 @@
 use Prim.Native.Nat.{ℕ, suc, _+_, _*_}
 use mathlib.Core.Bool.{Bool, true, false, not, _&&_, _||_}
 use mathlib.Core.List.{List, [], _∷_, map}
-use lib.ListN.{getD, take, drop, replicate}
+use lib.ListN.{length, getD, take, drop, replicate}
 use lib.Dec.{leb}
 use Rattle.model.specs.Words.{pick, any, count}
 use Rattle.model.specs.Numbers.{statusNumber}
 use Rattle.model.specs.Range.{linesOf}
 use Rattle.model.specs.Address.{addressOf, blockOf, sectorIndex, setIndex}
 use Rattle.model.specs.Tables.{Line, Queued, writing, Tables, unused, waiting, dirty, holds, empty, fresh}
+use Rattle.model.specs.Tree.{treeChoice, levels}
 use Rattle.model.specs.declared.Settings.{Settings}
 use Rattle.model.specs.declared.Status.{Status}
 use Rattle.model.specs.declared.Sector.{Sector}
@@ -91,10 +92,23 @@ earliest key p (l ∷ ls) = pick (p l) (older key ls (key l) (earliest key p ls)
 abbrev pub age : Settings → Line → ℕ
 age S l = l .cycle
 
--- "the highest wholly invalid candidate; with none, the candidate with the earliest cycle, the lowest way among equals"
-abbrev pub victim : Settings → ℕ → List Line → Found
-victim S d ways =
-    orElse (last (λ l. candidate (enoughDirty S d) l && unused l) ways) (earliest (age S) (candidate (enoughDirty S d)) ways)
+-- how a set chooses among its candidates: the least key, the lowest way among equals; or by its tree
+pub data Rule : Type 0 where
+  byKey : (Line → ℕ) → Rule
+  byTree : ℕ → Rule
+
+abbrev pub choiceBy : Rule → (Line → Bool) → List Line → Found
+choiceBy (byKey key) p ways = earliest key p ways
+choiceBy (byTree t) p ways = treeChoice (λ w. getD (map p ways) w false) t (levels (length ways))
+
+-- the rule of an address's set
+unfoldable pub ruleOf : Settings → Tables → ℕ → Rule
+ruleOf S t a = byKey (age S)
+
+-- "the highest wholly invalid candidate; with none", the candidate that the rule chooses
+abbrev pub victim : Rule → Settings → ℕ → List Line → Found
+victim R S d ways =
+    orElse (last (λ l. candidate (enoughDirty S d) l && unused l) ways) (choiceBy R (candidate (enoughDirty S d)) ways)
 
 -- ---- what an access meets: its way, the line (emptied and with the new tag on a MISS), the answer, the write-back if there is one
 
@@ -123,9 +137,9 @@ takeOver a ways (At w) =
       backs = writeBack (getD ways w fresh);
     }
 
-abbrev pub meet : Settings → ℕ → List Line → Access → Found → Place
-meet S d ways x Nothing = takeOver (addressOf x) ways (victim S d ways)
-meet S d ways x (At w) =
+abbrev pub meet : Rule → Settings → ℕ → List Line → Access → Found → Place
+meet R S d ways x Nothing = takeOver (addressOf x) ways (victim R S d ways)
+meet R S d ways x (At w) =
     at record {
       way = w;
       line = getD ways w fresh;
@@ -133,5 +147,5 @@ meet S d ways x (At w) =
       backs = [];
     }
 
-unfoldable pub probe : Settings → ℕ → List Line → Access → Place
-probe S d ways x = meet S d ways x (first (holds (blockOf (addressOf x))) ways)
+unfoldable pub probe : Rule → Settings → ℕ → List Line → Access → Place
+probe R S d ways x = meet R S d ways x (first (holds (blockOf (addressOf x))) ways)

@@ -3,6 +3,7 @@ pub mod Statuses
 pub mod Scans
 pub mod Ways
 pub mod Settled
+pub mod ByTree
 pub mod Lines
 pub mod Meetings
 pub mod Held

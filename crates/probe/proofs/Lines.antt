@@ -3,21 +3,25 @@ use Prim.Native.Nat.{ℕ, zero, suc, _+_, _*_, _≤_, _<_}
 use mathlib.Core.Path.{_≡_, refl, ap, _∙_}
 use mathlib.Core.Logic.{⊎-elim}
 use mathlib.Core.Bool.{Bool, true, false, _&&_, false≢true}
-use mathlib.Core.List.{List, [], _∷_}
+use mathlib.Core.List.{List, [], _∷_, map}
 use native.Mathlib.Nat.{add-zero}
 use native.Mathlib.Omega.{arith}
-use lib.ListN.{getD, take, drop}
+use lib.ListN.{length, getD, take, drop}
 use Rattle.model.specs.Words.{all, any, count, table, some, countBelow}
 use Rattle.model.specs.Tables.{Line, isInvalid, isReserved, isModified, unused, waiting, dirty, holds, fresh}
 use Rattle.model.specs.Lent.{sectorAt, sectorsAt, lineAt, linesIn}
-use Rattle.model.specs.Probe.{first, earliest, orElse, candidate, enoughDirty, age, victim}
+use Rattle.model.specs.Probe.{first, orElse, candidate, enoughDirty, age, victim, Rule, byKey, byTree, choiceBy}
+use Rattle.model.specs.Tree.{treeChoice, powerTo16, levels}
 use Rattle.model.specs.declared.Settings.{Settings}
 use Rattle.model.specs.declared.Status.{Status}
 use Rattle.model.specs.declared.Status.the-variants.{Invalid, Reserved, Valid, Modified}
 use Rattle.model.specs.declared.Sector.{Sector}
 use Rattle.model.specs.declared.Found.{Found}
 use Rattle.model.proofs.Flags.{flag}
-use Rattle.probe.specs.Scan.{waitingAt, dirtyAt, foundIn, lastUnusedIn, victimIn, wayOf}
+use Rattle.model.proofs.Tabled.{length-table}
+use Rattle.model.proofs.Ways.{flag-is}
+use Rattle.model.proofs.Trees.{choice-same, levels-are}
+use Rattle.probe.specs.Scan.{waitingAt, dirtyAt, candidateAt, foundIn, lastUnusedIn, victimIn, wayOf, treeIn}
 use Rattle.probe.proofs.Statuses.{unused-bytes, waiting-bytes, dirty-bytes, holds-bytes, candidate-bytes}
 use Rattle.probe.proofs.Ways.{getD-table, part-table, count-table, any-table, first-table, last-table, earliest-table, count-below-ext, some-ext, first-ext, last-ext, best-ext}
 
@@ -83,12 +87,29 @@ module _ (n : ℕ) (longs words marks : List ℕ) where
         ∙ any-table waiting line m
         ∙ some-ext _ _ m (λ w. waiting-bytes n longs words marks (b + w))
 
-    pub victim-is : (S : Settings) (d : ℕ) → victim S d (take m (drop b (linesIn n longs words marks))) ≡ victimIn words marks b m (enoughDirty S d)
-    victim-is S d =
-        ap (victim S d) ways-are
-        ∙ ap (λ (v : Found). orElse v (earliest (age S) (candidate (enoughDirty S d)) (table m line)))
+    -- under every rule, of what the rule chooses among the candidates
+    victim-by : (R : Rule) (S : Settings) (d : ℕ) {v : Found} → choiceBy R (candidate (enoughDirty S d)) (table m line) ≡ v
+        → victim R S d (take m (drop b (linesIn n longs words marks))) ≡ orElse (lastUnusedIn marks b m) v
+    victim-by R S d e =
+        ap (victim R S d) ways-are
+        ∙ ap (λ (v : Found). orElse v (choiceBy R (candidate (enoughDirty S d)) (table m line)))
         (last-table (λ l. candidate (enoughDirty S d) l && unused l) line m
         ∙ last-ext _ _ m (λ w. unused-candidate (enoughDirty S d) (line w) ∙ unused-bytes n longs words marks (b + w)))
-        ∙ ap (orElse (lastUnusedIn marks b m))
+        ∙ ap (orElse (lastUnusedIn marks b m)) e
+
+    pub victim-is : (S : Settings) (d : ℕ) → victim (byKey (age S)) S d (take m (drop b (linesIn n longs words marks))) ≡ victimIn words marks b m (enoughDirty S d)
+    victim-is S d =
+        victim-by (byKey (age S)) S d
         (earliest-table (candidate (enoughDirty S d)) line (age S) m
         ∙ ap wayOf (best-ext _ _ _ m (λ w. candidate-bytes n longs words marks (b + w) (enoughDirty S d))))
+
+    pub victim-by-tree : (t : ℕ) (S : Settings) (d : ℕ) → powerTo16 m ≡ true
+        → victim (byTree t) S d (take m (drop b (linesIn n longs words marks))) ≡ orElse (lastUnusedIn marks b m) (treeIn marks b m (enoughDirty S d) t)
+    victim-by-tree t S d power =
+        let able : Line → Bool = candidate (enoughDirty S d) in
+        let long : length (table m line) ≡ m = length-table m line in
+        victim-by (byTree t) S d
+        (ap (λ (k : ℕ). treeChoice (λ w. getD (map able (table m line)) w false) t (levels k)) long
+        ∙ choice-same (λ w. getD (map able (table m line)) w false) (λ w. candidateAt marks (enoughDirty S d) (b + w)) t (levels m)
+        (λ w l. let l′ : w < m = omega (arith, levels-are m power .0) in
+        flag-is able (table m line) w (omega arith) ∙ ap able (getD-table m line w fresh l′) ∙ candidate-bytes n longs words marks (b + w) (enoughDirty S d)))

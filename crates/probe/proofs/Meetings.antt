@@ -11,7 +11,7 @@ use Rattle.model.specs.Range.{linesOf}
 use Rattle.model.specs.Address.{addressOf, blockOf, sectorIndex, setIndex}
 use Rattle.model.specs.Tables.{Line, Queued, writing, dirty, empty, fresh}
 use Rattle.model.specs.Lent.{tagAt}
-use Rattle.model.specs.Probe.{no, at, answerOf, waysOf, enoughDirty, victim, writeBack, takeOver, meet, probe}
+use Rattle.model.specs.Probe.{no, at, answerOf, waysOf, enoughDirty, victim, writeBack, takeOver, meet, probe, byKey, age}
 use Rattle.model.specs.Inner.{Fit}
 use Rattle.model.specs.declared.Settings.{Settings}
 use Rattle.model.specs.declared.Sector.{Sector}
@@ -50,13 +50,13 @@ module _ (S : Settings) (longs words marks : List ℕ) (x : Access) (way : 1 ≤
   dirtyCount = count dirty (linesHeld S longs words marks)
 
   met-place : (w : ℕ) → w < S .ways → foundIn longs marks base (S .ways) (blockOf (addressOf x)) ≡ At w
-      → placeIs ways (addressOf x) (metIs (linesOf S) words marks base w x) ≡ probe S dirtyCount ways x
+      → placeIs ways (addressOf x) (metIs (linesOf S) words marks base w x) ≡ probe (byKey (age S)) S dirtyCount ways x
   unfolding probe
   met-place w below e =
       ap (λ (s : Sector). at record { way = w; line = getD ways w fresh; answer = answerOf x s; backs = [] })
       (sym (ap (λ (l : Line). getD (l .sectors) (sectorIndex (addressOf x)) empty) (way-is (linesOf S) longs words marks base (S .ways) room w below)
       ∙ sector-of-four (linesOf S) words marks (base + w) (sectorIndex (addressOf x)) empty (sector-below (addressOf x))))
-      ∙ ap (meet S dirtyCount ways x) (sym (found-is (linesOf S) longs words marks base (S .ways) room (blockOf (addressOf x)) ∙ e))
+      ∙ ap (meet (byKey (age S)) S dirtyCount ways x) (sym (found-is (linesOf S) longs words marks base (S .ways) room (blockOf (addressOf x)) ∙ e))
 
   pub own-met : (w : ℕ) → foundIn longs marks base (S .ways) (blockOf (addressOf x)) ≡ At w
       → Decided S longs words marks x (metIs (linesOf S) words marks base w x)
@@ -102,18 +102,18 @@ module _ (S : Settings) (longs words marks : List ℕ) (x : Access) (way : 1 ≤
       under : Under (S .ways) v
       under = rw q (victim-under _ _ _ (S .ways))
 
-      place : placeIs ways (addressOf x) (missIs (linesOf S) longs words marks base (S .ways) v) ≡ probe S dirtyCount ways x
+      place : placeIs ways (addressOf x) (missIs (linesOf S) longs words marks base (S .ways) v) ≡ probe (byKey (age S)) S dirtyCount ways x
       place =
           taken-place v under
           ∙ ap (takeOver (addressOf x) ways) (q ∙ sym (victim-is (linesOf S) longs words marks base (S .ways) room S dirtyCount))
-          ∙ ap (meet S dirtyCount ways x) (sym (found-is (linesOf S) longs words marks base (S .ways) room (blockOf (addressOf x)) ∙ e))
+          ∙ ap (meet (byKey (age S)) S dirtyCount ways x) (sym (found-is (linesOf S) longs words marks base (S .ways) room (blockOf (addressOf x)) ∙ e))
 
       zero-unless : {A : Type 0} (b : Bool) (y z : A) → pick b y z ≡ pick b (pick b y z) z
       zero-unless true y z = refl
       zero-unless false y z = refl
 
       go : (v : Found) → Under (S .ways) v
-          → placeIs ways (addressOf x) (missIs (linesOf S) longs words marks base (S .ways) v) ≡ probe S dirtyCount ways x
+          → placeIs ways (addressOf x) (missIs (linesOf S) longs words marks base (S .ways) v) ≡ probe (byKey (age S)) S dirtyCount ways x
           → Decided S longs words marks x (missIs (linesOf S) longs words marks base (S .ways) v)
       go (At w) below p = record {
         place = p;

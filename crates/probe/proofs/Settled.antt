@@ -88,10 +88,10 @@ candidate-clean waiting true enough e g = clash refl (sym g)
 candidate-clean waiting false enough e g = e
 
 module _ (marks : List ℕ) (base : ℕ) (enough : Bool) where
-  less-at : (w : ℕ) → candidateAt marks enough (base + w) ≡ true → candidateAt marks true (base + w) ≡ true
+  pub less-at : (w : ℕ) → candidateAt marks enough (base + w) ≡ true → candidateAt marks true (base + w) ≡ true
   less-at w = candidate-less (waitingAt marks (base + w)) (dirtyAt marks (base + w)) enough
 
-  clean-at : (w : ℕ) → candidateAt marks true (base + w) ≡ true → not (dirtyAt marks (base + w)) ≡ true → candidateAt marks enough (base + w) ≡ true
+  pub clean-at : (w : ℕ) → candidateAt marks true (base + w) ≡ true → not (dirtyAt marks (base + w)) ≡ true → candidateAt marks enough (base + w) ≡ true
   clean-at w = candidate-clean (waitingAt marks (base + w)) (dirtyAt marks (base + w)) enough
 
 module _ (words marks : List ℕ) (base ways : ℕ) {b : Best} (e : b ≡ earliestIn words marks base ways true) where

@@ -8,7 +8,7 @@ use Rattle.model.specs.Range.{linesOf}
 use Rattle.model.specs.Address.{addressOf, blockOf, lineNumber}
 use Rattle.model.specs.Tables.{Line, Queued, writing, dirty, empty, fresh}
 use Rattle.model.specs.Lent.{linesIn}
-use Rattle.model.specs.Probe.{Place, no, at, waysOf, probe}
+use Rattle.model.specs.Probe.{Place, no, at, waysOf, probe, byKey, age}
 use Rattle.model.specs.declared.Settings.{Settings}
 use Rattle.model.specs.declared.Access.{Access}
 use Rattle.model.specs.declared.Refusal.the-variants.{SetBusy, SetHeld}
@@ -42,7 +42,7 @@ linesHeld S longs words marks = linesIn (linesOf S) longs words marks
 
 pub record Decided (S : Settings) (longs words marks : List ℕ) (x : Access) (r : Decision) : Type 0 where
   pub place : placeIs (waysOf S (linesHeld S longs words marks) (addressOf x)) (addressOf x) r
-      ≡ probe S (count dirty (linesHeld S longs words marks)) (waysOf S (linesHeld S longs words marks) (addressOf x)) x
+      ≡ probe (byKey (age S)) S (count dirty (linesHeld S longs words marks)) (waysOf S (linesHeld S longs words marks) (addressOf x)) x
   -- of a busy or held set its way 0
   pub way : r .way < S .ways
   pub line : r .line ≡ lineNumber S (addressOf x) (r .way)

@@ -8,6 +8,7 @@ use Rattle.model.specs.Words.{pick, countBelow}
 use Rattle.model.specs.Range.{linesOf}
 use Rattle.model.specs.Lent.{cycleAt, statusAt}
 use Rattle.model.specs.Probe.{orElse, enoughDirty}
+use Rattle.model.specs.Tree.{treeChoice, levels}
 use Rattle.model.specs.declared.Settings.{Settings}
 use Rattle.model.specs.declared.Found.{Found}
 use Rattle.model.specs.declared.Found.the-variants.{At, Nothing}
@@ -72,3 +73,7 @@ earliestIn words marks base ways enough = bestBelow ways (λ w. candidateAt mark
 
 abbrev pub victimIn : List ℕ → List ℕ → ℕ → ℕ → Bool → Found
 victimIn words marks base ways enough = orElse (lastUnusedIn marks base ways) (wayOf (earliestIn words marks base ways enough))
+
+-- by the set's tree
+abbrev pub treeIn : List ℕ → ℕ → ℕ → Bool → ℕ → Found
+treeIn marks base ways enough tree = treeChoice (λ w. candidateAt marks enough (base + w)) tree (levels ways)

@@ -14,9 +14,11 @@ ghost use lib.Dec.{leb};
 ghost use Rattle.model.specs.Words.{count, some, countBelow};
 ghost use Rattle.model.specs.Tables.{dirty};
 ghost use Rattle.model.specs.Lent.{sectorAt, sectorsAt, linesIn};
+ghost use mathlib.Core.Bool.{true};
 ghost use Rattle.model.specs.Range.{linesOf};
+ghost use Rattle.model.specs.Tree.{isIn, powerTo16};
 ghost use Rattle.model.specs.Inner.{Fit};
-ghost use Rattle.probe.specs.Scan.{waitingAt, dirtyAt, candidateAt, foundIn, lastUnusedIn, nearerOf, earliestIn, wayOf, victimIn, enoughIn};
+ghost use Rattle.probe.specs.Scan.{waitingAt, dirtyAt, candidateAt, foundIn, lastUnusedIn, nearerOf, earliestIn, wayOf, victimIn, enoughIn, treeIn};
 ghost use Rattle.probe.specs.Values.{masksAt, metIs, takenIs, refusedIs, refusalIs, missIs};
 ghost use Rattle.probe.specs.Decided.{Decided};
 
@@ -249,6 +251,42 @@ fn chosen(s: Settings, words: &[u32], marks: &[u8], base: usize) -> Best
         return best;
     }
     earliest(words, marks, base, ways, false)
+}
+
+// The candidates of the set, a mask with bit w for way w.
+fn candidates(marks: &[u8], base: usize, ways: usize, enough: bool) -> u32
+    requires { ⌜ (ways ≤ 16) × (4 * (base + ways) ≤ length (now marks)) ⌝ }
+    ensures { λ r. ⌜ ((w : ℕ) → w < ways → isIn r w ≡ candidateAt (now (marks .entry)) enough (base + w)) ⌝ }
+{
+    let mut mask: u32 = 0;
+    let mut w = 0;
+    while w < ways {
+        if is_candidate(marks, base + w, enough) {
+            mask = trees::marked(mask, w);
+        }
+        w += 1;
+    }
+    mask
+}
+
+// The candidate that the set's tree chooses. A clean one stays so whether or not a dirty line may go: the dirty lines are counted only for a dirty one.
+pub fn chosen_by_tree(s: Settings, marks: &[u8], base: usize, tree: u32) -> Found
+    requires { ⌜ (base + s .ways ≤ linesOf s) × (linesOf s ≤ 1024) × (s .percent ≤ 100) × (powerTo16 (s .ways) ≡ true) × (4 * linesOf s ≤ length (now marks)) ⌝ }
+    ensures { λ r. ⌜ r ≡ treeIn (now (marks .entry)) base (s .ways) (enoughIn s (now (marks .entry))) tree ⌝ }
+{
+    let ways = s.ways;
+    let lines = s.sets * ways;
+    let best = trees::choose(tree, candidates(marks, base, ways, true), ways);
+    let Found::At(w) = best else {
+        return best;
+    };
+    if !is_dirty(marks, base + w) {
+        return best;
+    }
+    if enough_dirty(marks, lines, s.percent) {
+        return best;
+    }
+    trees::choose(tree, candidates(marks, base, ways, false), ways)
 }
 
 // The way to take over: the last wholly invalid one, else the candidate with the earliest cycle.

@@ -13,7 +13,7 @@ use Rattle.model.specs.Range.{inRange, within}
 use Rattle.model.specs.Address.{addressOf, isRead, blockOf, lineNumber, wellFormed}
 use Rattle.model.specs.Tables.{Line, Entry, Queued, reading, Tables, Outcome, refused, done, eventsOf, dirty, holds, entryFor, fresh}
 use Rattle.model.specs.Sound.{lastCycle, entryOk, sound}
-use Rattle.model.specs.Probe.{Spot, Place, no, at, waysOf, dirtyLines, first, victim, writeBack, takeOver, meet, probe}
+use Rattle.model.specs.Probe.{Spot, Place, no, at, waysOf, dirtyLines, first, victim, writeBack, takeOver, meet, probe, Rule, ruleOf}
 use Rattle.model.specs.Steps.{isMerge, isMiss, fetches, queues, queuedEvent, sentEvent, placesNeeded, accept, entryFull, proceed, access, afterSend, sendFrom, send, ticketsOf, afterFill, sentFor, fill, tick}
 use Rattle.model.specs.Calls.{eventsTold}
 use Rattle.model.specs.Records.{bytesOf, eventBytes, logBytes}
@@ -87,16 +87,16 @@ Few (at p) = length (p .backs) ≤ 1
 backs-few : (l : Line) → length (writeBack l) ≤ 1
 backs-few l = by-flag (λ (q : List Queued). length q ≤ 1) (dirty l) _ [] (λ e. lit≤ tt) (λ e. lit≤ tt)
 
-probe-few : (S : Settings) (d : ℕ) (ways : List Line) (x : Access) → Few (probe S d ways x)
+probe-few : (R : Rule) (S : Settings) (d : ℕ) (ways : List Line) (x : Access) → Few (probe R S d ways x)
 unfolding probe Few
-probe-few S d ways x = met (first (holds (blockOf (addressOf x))) ways)
+probe-few R S d ways x = met (first (holds (blockOf (addressOf x))) ways)
   where
     over : (f : Found) → Few (takeOver (addressOf x) ways f)
     over Nothing = tt
     over (At w) = backs-few (getD ways w fresh)
 
-    met : (f : Found) → Few (meet S d ways x f)
-    met Nothing = over (victim S d ways)
+    met : (f : Found) → Few (meet R S d ways x f)
+    met Nothing = over (victim R S d ways)
     met (At w) = lit≤ tt
 
 queued-short : (qs : List Queued) → length qs ≤ 1 → length (logBytes (map queuedEvent qs)) ≤ 25
@@ -137,7 +137,7 @@ pub access-takes : (S : Settings) (x : Access) (t : Tables) → Takes 38 (access
 unfolding access
 access-takes S x t =
     takes-by (wellFormed x)
-    (proceed-takes S x t _ (probe-few S (dirtyLines t) (waysOf S (t .lines) (addressOf x)) x))
+    (proceed-takes S x t _ (probe-few (ruleOf S t (addressOf x)) S (dirtyLines t) (waysOf S (t .lines) (addressOf x)) x))
     (refused-within _ BadAccess (lit≤ tt))
 
 -- ---- send, tick, fill

@@ -9,7 +9,7 @@ use lib.ListN.{length, length-append}
 use Rattle.model.specs.Words.{pick, any}
 use Rattle.model.specs.Address.{addressOf, isRead, wellFormed}
 use Rattle.model.specs.Tables.{Queued, reading, writing, Tables, Outcome, refused, done, accepted, eventsOf}
-use Rattle.model.specs.Probe.{Place, no, at, waysOf, dirtyLines, probe}
+use Rattle.model.specs.Probe.{Place, no, at, waysOf, dirtyLines, probe, ruleOf}
 use Rattle.model.specs.Steps.{isMerge, isMiss, entryFull, placesNeeded, accept, proceed, access, sentEvent, sendFrom, send, sentFor, fill}
 use Rattle.model.specs.Calls.{eventsTold}
 use Rattle.model.specs.Records.{logBytes}
@@ -69,7 +69,7 @@ proceed-plain S x t (at p) =
 pub access-plain : (S : Settings) (x : Access) (t : Tables) → Plain (access S x t)
 unfolding access
 access-plain S x t =
-    plain-by (wellFormed x) (proceed-plain S x t (probe S (dirtyLines t) (waysOf S (t .lines) (addressOf x)) x)) record { plain = refl }
+    plain-by (wellFormed x) (proceed-plain S x t (probe (ruleOf S t (addressOf x)) S (dirtyLines t) (waysOf S (t .lines) (addressOf x)) x)) record { plain = refl }
 
 -- ---- what a step told
 
