@@ -33,6 +33,8 @@ pub mod Soundly
 pub mod Encoded
 pub mod Decoded
 pub mod Bridge
+pub mod Kept
+pub mod Separate
 pub mod LentRounds
 pub mod Demand
 pub mod SeenRounds

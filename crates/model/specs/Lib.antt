@@ -13,6 +13,7 @@ pub mod Steps
 pub mod Calls
 pub mod Records
 pub mod Runner
+pub mod Separate
 pub mod Rounds
 pub mod Seen
 pub mod Cases

@@ -50,6 +50,7 @@ abbrev pub stopNumber : Stop → ℕ
 stopNumber stop.Nothing = 0
 stopNumber stop.SettingOutOfRange = 1
 stopNumber stop.SliceLength = 2
+stopNumber stop.NotSound = 3
 stopNumber stop.OutOfPlace = 13
 stopNumber stop.UnknownKind = 14
 stopNumber stop.CutShort = 15

@@ -9,7 +9,8 @@ use Rattle.model.specs.Words.{pick}
 use Rattle.model.specs.Numbers.{stopNumber}
 use Rattle.model.specs.Range.{inRange}
 use Rattle.model.specs.Tables.{Tables, start, Outcome, refused, done, after, eventsOf}
-use Rattle.model.specs.Lent.{Lent, lengthsFit, encode}
+use Rattle.model.specs.Lent.{Lent, lengthsFit, tablesOf, encode}
+use Rattle.model.specs.SoundLent.{soundLent}
 use Rattle.model.specs.Steps.{access, send, fill, tick}
 use Rattle.model.specs.Records.{isCommand, lengthOf, numberAt, commandOf, logBytes}
 use Rattle.model.specs.declared.Settings.{Settings}
@@ -20,7 +21,7 @@ use Rattle.model.specs.declared.Command.the-variants as cmd
 use Rattle.model.specs.declared.CommandRead.{CommandRead}
 use Rattle.model.specs.declared.CommandRead.the-variants as command
 use Rattle.model.specs.declared.Stop.{Stop}
-use Rattle.model.specs.declared.Stop.the-variants.{SettingOutOfRange, SliceLength, OutOfPlace, UnknownKind, CutShort, NoRoom}
+use Rattle.model.specs.declared.Stop.the-variants.{SettingOutOfRange, SliceLength, NotSound, OutOfPlace, UnknownKind, CutShort, NoRoom}
 use Rattle.model.specs.declared.Stop.the-variants as stop
 use Rattle.model.specs.declared.Ran.{Ran}
 
@@ -115,6 +116,16 @@ run room (k ∷ bs) L =
     pick (goesOn (firstStop L k bs))
     (ahead (1 + lengthOf k) [] (lentResult (settingsOf bs) (runFrom (settingsOf bs) (lengthOf k) room bs (start (settingsOf bs)))))
     (halt (firstStop L k bs) L)
+
+-- ---- a run that goes on from kept tables and settings: "a part that goes on stops with 1, 2 or 3 before its first record, and with 13 at
+-- any settings record"
+
+abbrev pub keptStop : Settings → Lent → Stop
+keptStop S L = pick (inRange S) (pick (lengthsFit S L) (pick (soundLent S L) stop.Nothing NotSound) SliceLength) SettingOutOfRange
+
+-- checked once, and also where there is no record; its records are later ones, of which kind 0 is out of place
+unfoldable pub resume : Settings → ℕ → List ℕ → Lent → Result Lent
+resume S room s L = pick (goesOn (keptStop S L)) (lentResult S (runFrom S 0 room s (tablesOf S L))) (halt (keptStop S L) L)
 
 -- ---- what the caller holds afterwards: the value returned, the event bytes ("beyond those written are unchanged"), the slices
 

@@ -149,11 +149,12 @@ pub enum Record {
     Stopped(Stop),
 }
 
-// "Records", the stop numbers: nothing stops (0), 1, 2, 13, 14, 15, 16.
+// "Records", the stop numbers: nothing stops (0), 1, 2, 3, 13, 14, 15, 16.
 pub enum Stop {
     Nothing,
     SettingOutOfRange,
     SliceLength,
+    NotSound,
     OutOfPlace,
     UnknownKind,
     CutShort,
@@ -251,6 +252,7 @@ pub fn stop_number(s: Stop) -> u8
         Stop::Nothing => 0,
         Stop::SettingOutOfRange => 1,
         Stop::SliceLength => 2,
+        Stop::NotSound => 3,
         Stop::OutOfPlace => 13,
         Stop::UnknownKind => 14,
         Stop::CutShort => 15,

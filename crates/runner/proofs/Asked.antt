@@ -17,7 +17,7 @@ use Rattle.model.specs.Records.{isCommand, lengthOf, numberAt}
 use Rattle.model.specs.Runner.{eventRoom, settingsOf, settingsStop, firstStop, laterStop, goesOn, Result, runFrom}
 use Rattle.model.specs.declared.Settings.{Settings}
 use Rattle.model.specs.declared.Stop.{Stop}
-use Rattle.model.specs.declared.Stop.the-variants.{Nothing, SettingOutOfRange, SliceLength, OutOfPlace, UnknownKind, CutShort, NoRoom}
+use Rattle.model.specs.declared.Stop.the-variants.{Nothing, SettingOutOfRange, SliceLength, NotSound, OutOfPlace, UnknownKind, CutShort, NoRoom}
 use Rattle.model.proofs.Flags.{clash, by-flag, flag}
 use Rattle.model.proofs.Fits.{ranged}
 use Rattle.soundness.proofs.OfRange.{tickets-most}
@@ -81,6 +81,7 @@ abbrev pub neither : Stop → Bool
 neither Nothing = true
 neither SettingOutOfRange = true
 neither SliceLength = false
+neither NotSound = true
 neither OutOfPlace = true
 neither UnknownKind = true
 neither CutShort = true

@@ -6,4 +6,6 @@ pub mod Singles
 pub mod Turns
 pub mod First
 pub mod Parts
+pub mod Kept
+pub mod Cut
 pub mod Asked

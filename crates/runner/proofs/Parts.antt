@@ -69,7 +69,7 @@ full-halts : {n : Stop} → n ≡ NoRoom → goesOn n ≡ true → ⊥
 full-halts q z = let y : goesOn NoRoom ≡ true = rw q at z in clash y refl
 
 -- what the first record of a run comes to
-goes-first : {T : Type 0} (n : Stop) (o : Result T) (t : T) → goesOn (pick (goesOn n) o (halt n t) .stop) ≡ true → goesOn n ≡ true
+pub goes-first : {T : Type 0} (n : Stop) (o : Result T) (t : T) → goesOn (pick (goesOn n) o (halt n t) .stop) ≡ true → goesOn n ≡ true
 goes-first {T} n o t = by-flag (λ (r : Result T). goesOn (r .stop) ≡ true → goesOn n ≡ true) (goesOn n) _ _ (λ z h. z) (λ z h. h)
 
 full-first : (n : Stop) (o : Result Tables) (t : Tables) → (pick (goesOn n) o (halt n t) .stop ≡ NoRoom → ⊥) → n ≡ NoRoom → ⊥
@@ -200,7 +200,7 @@ unfolding numberAt
 number-more a b at zero h = refl
 number-more a b at (suc n) h = rw (number-more a b (suc at) n (omega arith), List·getD-append a b 0 at (omega arith))
 
-settings-more : (a b : List ℕ) → 7 ≤ length a → settingsOf (a ++ b) ≡ settingsOf a
+pub settings-more : (a b : List ℕ) → 7 ≤ length a → settingsOf (a ++ b) ≡ settingsOf a
 settings-more a b h =
     rw (
       number-more a b 0 2 (omega arith),
@@ -211,14 +211,14 @@ settings-more a b h =
       number-more a b 6 1 (omega arith),
     )
 
-first-more : (L : Lent) (k : ℕ) (a b : List ℕ) → lengthOf k ≤ length a → 7 ≤ length a → firstStop L k (a ++ b) ≡ firstStop L k a
+pub first-more : (L : Lent) (k : ℕ) (a b : List ℕ) → lengthOf k ≤ length a → 7 ≤ length a → firstStop L k (a ++ b) ≡ firstStop L k a
 unfolding firstStop
 first-more L k a b h w =
     let l : lengthOf k ≤ length (a ++ b) = rw length-append (omega arith) in
     rw (le-ltb (length (a ++ b)) (lengthOf k) l, le-ltb (length a) (lengthOf k) h)
     (ap (λ (S : Settings). pick (isCommand k) (pick (eqb k 0) (settingsStop S L) OutOfPlace) UnknownKind) (settings-more a b w))
 
-settled-long : (L : Lent) (k : ℕ) (a : List ℕ) → Settled L k a → 7 ≤ length a
+pub settled-long : (L : Lent) (k : ℕ) (a : List ℕ) → Settled L k a → 7 ≤ length a
 unfolding lengthOf
 settled-long L k a g = g .whole
 

@@ -44,6 +44,7 @@ pub nothing-goes : (s : Stop) → goesOn s ≡ true → s ≡ stop.Nothing
 nothing-goes stop.Nothing h = refl
 nothing-goes stop.SettingOutOfRange h = clash h refl
 nothing-goes stop.SliceLength h = clash h refl
+nothing-goes stop.NotSound h = clash h refl
 nothing-goes stop.OutOfPlace h = clash h refl
 nothing-goes stop.UnknownKind h = clash h refl
 nothing-goes stop.CutShort h = clash h refl

@@ -47,8 +47,8 @@ module _ (s : List ℕ) (at out : ℕ) (e : List ℕ) {n : Stop} (d : n ≡ late
   checked : Going (length e - out) (kindAt s at) (restAt s at)
   checked = going _ _ _ (rw (← d) goes)
 
-  pub next-inside : at < length s → {m : ℕ} → m ≡ lengthOf (kindAt s at) → at + 1 + m ≤ length s
-  next-inside inside m-is =
+  pub next-inside : at < length s → {c : ℕ} → c ≡ at + 1 + lengthOf (kindAt s at) → c ≤ length s
+  next-inside inside c-is =
       let w = checked .whole in
       let l : length (restAt s at) ≡ length s - (at + 1) = length-drop (at + 1) s in
       omega arith
@@ -89,15 +89,15 @@ module _ (S : Settings) (s : List ℕ) (at out : ℕ) (e : List ℕ) (L : Lent) 
     ran t = let z : goesOn (laterStop (length e - out) (kindAt s at) (restAt s at)) ≡ true = rw (← d) goes in rw z
 
     -- its body is the part of the stream that the code hands over
-    module _ {m : ℕ} (m-is : m ≡ lengthOf (kindAt s at)) {x : CommandRead}
-        (read : x ≡ commandOf (kindAt s at) (take (at + 1 + m - (at + 1)) (drop (at + 1) s)))
+    module _ {c : ℕ} (c-is : c ≡ at + 1 + lengthOf (kindAt s at)) {x : CommandRead}
+        (read : x ≡ commandOf (kindAt s at) (take (c - (at + 1)) (drop (at + 1) s)))
         {w : ℕ} {f : List ℕ} {M : Lent} (notes : Notes S (stepRead S x) L e out w f M) (held : Held S L) where
       abbrev told : Told
       told = notes .noted .told
 
       step-is : (t : Tables) → stepRead S x t ≡ stepAt S (kindAt s at) (restAt s at) t
       unfolding stepAt
-      step-is t = let q : at + 1 + m - (at + 1) ≡ lengthOf (kindAt s at) = omega arith in rw (read, q)
+      step-is t = let q : c - (at + 1) ≡ lengthOf (kindAt s at) = omega arith in rw (read, q)
 
       told-is : (t : Tables) → Is S L t → eventsTold told ≡ eventsOf (stepAt S (kindAt s at) (restAt s at) t)
       told-is t i = does-tells S (notes .noted .does) t i ∙ ap eventsOf (step-is t)
@@ -110,7 +110,7 @@ module _ (S : Settings) (s : List ℕ) (at out : ℕ) (e : List ℕ) (L : Lent) 
           rw (told-is (held .tables) i) (let r = here .room in omega arith)
 
       pub single-runs : at < length s → length f ≡ length e
-          → Resumes S (recordFrom S s at out e) s at out e L record { stop = stop.Nothing; consumed = at + 1 + m; written = out + w } f M
+          → Resumes S (recordFrom S s at out e) s at out e L record { stop = stop.Nothing; consumed = c; written = out + w } f M
       single-runs inside size =
           let (count, slice) = was-stored e out (logBytes (eventsTold told)) (notes .noted .stored) told-room in
           record {
@@ -122,5 +122,5 @@ module _ (S : Settings) (s : List ℕ) (at out : ℕ) (e : List ℕ) (L : Lent) 
               tables = rw (← step-is t) (notes .keeps t i .encoded);
             };
             keeps = λ t i. rw (ran t, ← step-is t) (notes .keeps t i);
-            stands = record { inside = next-inside s at out e d goes inside m-is; room = let r = told-room in omega arith };
+            stands = record { inside = next-inside s at out e d goes inside c-is; room = let r = told-room in omega arith };
           }

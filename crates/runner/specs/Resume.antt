@@ -6,11 +6,16 @@ use lib.ListN.{length, take, drop, getD}
 use Rattle.model.specs.Words.{pick}
 use Rattle.model.specs.Tables.{Tables, Outcome, after, eventsOf}
 use Rattle.model.specs.Lent.{Lent}
-use Rattle.model.specs.Records.{lengthOf, logBytes}
-use Rattle.model.specs.Runner.{goesOn, laterStop, stepAt, Result, halt, ahead, runFrom, lentResult, Runs}
+use lib.Dec.{eqb, ltb}
+use Rattle.model.specs.Records.{isCommand, lengthOf, logBytes}
+use Rattle.model.specs.Runner.{eventRoom, goesOn, laterStop, stepAt, Result, halt, ahead, runFrom, lentResult, Runs}
 use Rattle.model.specs.Inner.{Is, Does}
 use Rattle.model.specs.Calls.{eventsTold}
 use Rattle.model.specs.declared.Settings.{Settings}
+use Rattle.model.specs.declared.Record.{Record}
+use Rattle.model.specs.declared.Record.the-variants.{Whole, Stopped}
+use Rattle.model.specs.declared.Stop.{Stop}
+use Rattle.model.specs.declared.Stop.the-variants.{OutOfPlace, UnknownKind, NoRoom}
 use Rattle.model.specs.declared.Stop.the-variants as stop
 use Rattle.model.specs.declared.Told.{Told}
 use Rattle.model.specs.declared.Ran.{Ran}
@@ -22,6 +27,11 @@ kindAt s at = getD s at 0
 
 abbrev pub restAt : List ℕ → ℕ → List ℕ
 restAt s at = drop (at + 1) s
+
+-- the checks at a later record, of its kind and what reading it came to
+unfoldable pub laterFound : ℕ → ℕ → Record → Stop
+laterFound room k (Whole kind start n next) = pick (isCommand k) (pick (eqb k 0) OutOfPlace (pick (ltb room eventRoom) NoRoom stop.Nothing)) UnknownKind
+laterFound room k (Stopped r) = pick (isCommand k) r UnknownKind
 
 -- one record by itself, as the first turn of `runFrom`
 unfoldable pub single : Settings → ℕ → ℕ → List ℕ → Tables → Result Tables

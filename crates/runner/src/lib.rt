@@ -1,10 +1,12 @@
 // The stream runner (document 01, "Records"): the checks at a record, what a record does, the run of a stream. `run` is public and asks
-// nothing; `begin` and `go_on` are its two halves, for a caller that holds the tables between them, and `first_there` and
+// nothing, and so does `resume`, which goes on from kept tables and settings; `begin` and `go_on` are the two halves of `run`, for a
+// caller that holds the tables between them, and `first_there` and
 // `lengths_for` tell such a caller when to begin and what to lend.
 use model::Access;
 use model::Command;
 use model::CommandRead;
 use model::Ran;
+use model::Record;
 use model::Refusal;
 use model::Settings;
 use model::Stop;
@@ -14,10 +16,11 @@ ghost use lib.ListN.{length};
 ghost use Rattle.model.specs.Lent.{lent};
 ghost use Rattle.model.specs.Inner.{Held};
 ghost use Rattle.model.specs.Steps.{access};
-ghost use Rattle.model.specs.Runner.{settingsOf, firstStop, goesOn, laterStop, stepOf, stepRead, run, Runs};
+ghost use Rattle.model.specs.Records.{nextOf};
+ghost use Rattle.model.specs.Runner.{settingsOf, firstStop, goesOn, stepOf, stepRead, run, keptStop, resume, Runs};
 ghost use Rattle.runner.specs.Begin.{Begins, firstThere};
 ghost use Rattle.runner.specs.Lengths.{noLengths, lengthsFor};
-ghost use Rattle.runner.specs.Resume.{kindAt, restAt, Stands, Noted, Notes, recordFrom, restFrom, Resumes};
+ghost use Rattle.runner.specs.Resume.{kindAt, restAt, laterFound, Stands, Noted, Notes, recordFrom, restFrom, Resumes};
 
 // "16 fewer than 64 bytes of event room"
 const EVENT_ROOM: usize = 64;
@@ -86,26 +89,45 @@ fn first_stop(stream: &[u8], longs: &[u64], words: &[u32], marks: &[u8]) -> Stop
     Stop::Nothing
 }
 
-// The checks at a record that is not the first, with this much event room.
-fn later_stop(stream: &[u8], at: usize, room: usize) -> Stop
-    requires { ⌜ at < length (now stream) ⌝ }
-    ensures { λ r. ⌜ r ≡ laterStop room (kindAt (now (stream .entry)) at) (restAt (now (stream .entry)) at) ⌝ }
+// The checks at a record that is not the first, of its kind and what reading it came to, with this much event room.
+fn later_stop(kind: u8, found: Record, room: usize) -> Stop
+    ensures { λ r. ⌜ r ≡ laterFound room kind found ⌝ }
 {
-    let kind = stream[at];
-    let body = records::length_of(kind) as usize;
     if !records::is_command(kind) {
         return Stop::UnknownKind;
     }
-    if stream.len() - (at + 1) < body {
-        return Stop::CutShort;
+    match found {
+        Record::Stopped(why) => why,
+        Record::Whole {
+            kind: _,
+            start: _,
+            len: _,
+            next: _,
+        } => {
+            if kind == 0 {
+                return Stop::OutOfPlace;
+            }
+            if room < EVENT_ROOM {
+                return Stop::NoRoom;
+            }
+            Stop::Nothing
+        }
     }
-    if kind == 0 {
-        return Stop::OutOfPlace;
+}
+
+// The place behind a record that was read at a place.
+fn place_behind(found: Record, at: usize) -> usize
+    ensures { λ r. ⌜ r ≡ nextOf found at ⌝ }
+{
+    match found {
+        Record::Whole {
+            kind: _,
+            start: _,
+            len: _,
+            next,
+        } => next,
+        Record::Stopped(_) => at,
     }
-    if room < EVENT_ROOM {
-        return Stop::NoRoom;
-    }
-    Stop::Nothing
 }
 
 // One access on sound tables, and its events behind `out` bytes.
@@ -219,7 +241,9 @@ fn run_one(
         (lent (now (longs .entry)) (now (words .entry)) (now (marks .entry))) r
         (now (events .exit)) (lent (now (longs .exit)) (now (words .exit)) (now (marks .exit))) ⌝ }
 {
-    let stop = later_stop(stream, at, events.len() - out);
+    let kind = stream[at];
+    let found = reader::record_at(stream, at);
+    let stop = later_stop(kind, found, events.len() - out);
     if !goes_on(stop) {
         return Ran {
             stop,
@@ -227,9 +251,8 @@ fn run_one(
             written: out,
         };
     }
-    let kind = stream[at];
     let start = at + 1;
-    let next = start + records::length_of(kind) as usize;
+    let next = place_behind(found, at);
     let x = records::command_of(kind, &stream[start..next]);
     let n = step_read(s, longs, words, marks, x, events, out);
     Ran {
@@ -351,4 +374,43 @@ pub fn run(
         },
         Begun::Accepted(s) => go_on(s, stream, SETTINGS_RECORD, events, 0, longs, words, marks),
     }
+}
+
+// The checks before a part that goes on: 1, 2 and 3, once.
+fn kept_stop(s: Settings, longs: &[u64], words: &[u32], marks: &[u8]) -> Stop
+    ensures { λ r. ⌜ r ≡ keptStop s (lent (now (longs .entry)) (now (words .entry)) (now (marks .entry))) ⌝ }
+{
+    if !soundness::in_range(s) {
+        return Stop::SettingOutOfRange;
+    }
+    if !soundness::lengths_fit(s, longs, words, marks) {
+        return Stop::SliceLength;
+    }
+    if !soundness::tables_sound(s, longs, words, marks) {
+        return Stop::NotSound;
+    }
+    Stop::Nothing
+}
+
+// Goes on from kept tables and settings with the next part of a stream: its events, and the tables as its records left them.
+pub fn resume(
+    s: Settings,
+    stream: &[u8],
+    events: &mut [u8],
+    longs: &mut [u64],
+    words: &mut [u32],
+    marks: &mut [u8],
+) -> Ran
+    ensures { λ r. ⌜ Runs (resume s (length (now (events .entry))) (now (stream .entry)) (lent (now (longs .entry)) (now (words .entry)) (now (marks .entry))))
+        (now (events .entry)) r (now (events .exit)) (lent (now (longs .exit)) (now (words .exit)) (now (marks .exit))) ⌝ }
+{
+    let stop = kept_stop(s, longs, words, marks);
+    if !goes_on(stop) {
+        return Ran {
+            stop,
+            consumed: 0,
+            written: 0,
+        };
+    }
+    go_on(s, stream, 0, events, 0, longs, words, marks)
 }

@@ -81,6 +81,7 @@ next-sure stop.CutShort h = final refl
 next-sure stop.NoRoom h = tt
 next-sure stop.SettingOutOfRange h = final refl
 next-sure stop.SliceLength h = absurd (h refl)
+next-sure stop.NotSound h = final refl
 next-sure stop.OutOfPlace h = final refl
 next-sure stop.UnknownKind h = final refl
 

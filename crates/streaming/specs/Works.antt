@@ -16,6 +16,7 @@ nextOf stop.CutShort = next.Read
 nextOf stop.NoRoom = next.Run
 nextOf stop.SettingOutOfRange = next.Stopped
 nextOf stop.SliceLength = next.Stopped
+nextOf stop.NotSound = next.Stopped
 nextOf stop.OutOfPlace = next.Stopped
 nextOf stop.UnknownKind = next.Stopped
 

@@ -84,6 +84,7 @@ fn next_of(stop: Stop) -> Next
         Stop::NoRoom => Next::Run,
         Stop::SettingOutOfRange => Next::Stopped,
         Stop::SliceLength => Next::Stopped,
+        Stop::NotSound => Next::Stopped,
         Stop::OutOfPlace => Next::Stopped,
         Stop::UnknownKind => Next::Stopped,
     }

@@ -35,11 +35,12 @@ placeWords kind place =
     (codes "settings at byte " ∷ decimal place ∷ codes ": they stand only at the start of a stream" ∷ [])
     (codes "kind " ∷ decimal kind ∷ codes " at byte " ∷ decimal place ∷ codes ": a stream starts with its settings, kind 0" ∷ [])
 
--- stops 2 and 16 come to no program here: the tables are as long as the settings ask, events are written out before their room ends
+-- stops 2, 3 and 16 come to no program here: the tables are as long as the settings ask and kept sound, events are written out before their room ends
 unfoldable pub whyWords : Stop → List ℕ → ℕ → List (List ℕ)
 whyWords stop.Nothing rest place = codes "end of input" ∷ []
 whyWords stop.SettingOutOfRange rest place = badWords rest
 whyWords stop.SliceLength rest place = codes "tables of another length" ∷ []
+whyWords stop.NotSound rest place = codes "tables not sound" ∷ []
 whyWords stop.OutOfPlace rest place = placeWords (numberAt rest 0 1) place
 whyWords stop.UnknownKind rest place = unknownWords (numberAt rest 0 1) place
 whyWords stop.CutShort rest place = cutWords (numberAt rest 0 1) (length rest - 1) place

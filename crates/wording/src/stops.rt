@@ -69,6 +69,7 @@ pub fn put_why(stop: Stop, rest: &[u8], place: u64, out: &mut [u8], at: usize) -
         Stop::Nothing => text::put_text(b"end of input", out, at),
         Stop::SettingOutOfRange => settings::put_bad(rest, out, at),
         Stop::SliceLength => text::put_text(b"tables of another length", out, at),
+        Stop::NotSound => text::put_text(b"tables not sound", out, at),
         Stop::OutOfPlace => put_out_of_place(kind, place, out, at),
         Stop::UnknownKind => put_unknown(kind, place, out, at),
         Stop::CutShort => put_cut(kind, behind_kind(rest), place, out, at),

@@ -30,9 +30,8 @@ returns-4 : tie.Need-returns-4
 unfolding whyWords
 returns-4 c =
     let p3 = c .before .before in
-    let p2 = p3 .before .before in
-    let p1 = p2 .before .before in
-    rw (p2 .enum-told4 .given .1, ← (p1 .number1 .ensures)) (p3 .put-out-of-place .ensures)
+    let p2 = p3 .before .before .before in
+    rw (p2 .enum-told4 .given .1) (put-one (p3 .put-text3 .ensures))
 
 returns-5 : tie.Need-returns-5
 unfolding whyWords
@@ -40,23 +39,31 @@ returns-5 c =
     let p3 = c .before .before in
     let p2 = p3 .before .before in
     let p1 = p2 .before .before in
-    rw (p2 .enum-told5 .given .1, ← (p1 .number1 .ensures)) (p3 .put-unknown .ensures)
+    rw (p2 .enum-told5 .given .1, ← (p1 .number1 .ensures)) (p3 .put-out-of-place .ensures)
 
 returns-6 : tie.Need-returns-6
 unfolding whyWords
 returns-6 c =
-    let p4 = c .before .before in
-    let p3 = p4 .before .before in
-    let p2 = p3 .before in
+    let p3 = c .before .before in
+    let p2 = p3 .before .before in
     let p1 = p2 .before .before in
-    rw (p2 .enum-told6 .given .1, ← (p1 .number1 .ensures), ← (p3 .behind-kind .ensures)) (p4 .put-cut .ensures)
+    rw (p2 .enum-told6 .given .1, ← (p1 .number1 .ensures)) (p3 .put-unknown .ensures)
 
 returns-7 : tie.Need-returns-7
 unfolding whyWords
 returns-7 c =
+    let p4 = c .before .before in
+    let p3 = p4 .before .before in
+    let p2 = p3 .before in
+    let p1 = p2 .before .before in
+    rw (p2 .enum-told7 .given .1, ← (p1 .number1 .ensures), ← (p3 .behind-kind .ensures)) (p4 .put-cut .ensures)
+
+returns-8 : tie.Need-returns-8
+unfolding whyWords
+returns-8 c =
     let p3 = c .before .before in
     let p2 = p3 .before .before .before in
-    rw (p2 .enum-told7 .given .1) (put-one (p3 .put-text3 .ensures))
+    rw (p2 .enum-told8 .given .1) (put-one (p3 .put-text4 .ensures))
 
 pub put-why-spec : {M : Type 1} → statement M
 put-why-spec =
@@ -66,6 +73,9 @@ put-why-spec =
     (λ c. search needs)
     (λ c. search needs)
     (λ c κs. search needs)
+    (λ c. search needs)
+    (λ c κs. search needs)
+    (λ c. search needs)
     (λ c. search needs)
     (λ c κs. search needs)
     (λ c. search needs)
@@ -94,4 +104,6 @@ put-why-spec =
     (λ c. search needs)
     returns-6
     (λ c. search needs)
-    returns-7)
+    returns-7
+    (λ c. search needs)
+    returns-8)

@@ -1,0 +1,2 @@
+-- Laws of the place behind a record.
+pub mod Places
