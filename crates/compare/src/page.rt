@@ -1,0 +1,36 @@
+// The text that waits to be written.
+use libc::STDOUT_FILENO;
+
+// The bytes that wait, and whether all before them were written.
+pub struct Page {
+    pub put: usize,
+    pub good: bool,
+}
+
+// Writes the first n bytes; says whether they went.
+pub fn write_out(out: &[u8], n: usize) -> bool {
+    let done = io::write_all(STDOUT_FILENO, text::front(out, n));
+    if !done {
+        os::fail(b"write");
+    }
+    done
+}
+
+// Writes what waits where few places are free: no line takes 512 bytes.
+pub fn with_room(out: &[u8], p: Page) -> Page {
+    let put = p.put;
+    if put < out.len() {
+        if 512 <= out.len() - put {
+            return p;
+        }
+    }
+    let done = write_out(out, put);
+    Page {
+        put: 0,
+        good: p.good & done,
+    }
+}
+
+pub fn ended(put: usize, p: Page) -> Page {
+    Page { put, good: p.good }
+}

@@ -1,0 +1,157 @@
+-- The first pair that differs, step by step.
+use mathlib.Core.Path.{_≡_, refl, sym, ap, _∙_}
+use mathlib.Core.Logic.{_⊎_, inl, inr, ⊎-elim}
+use mathlib.Core.Bool.{Bool, true, false, _||_}
+use mathlib.Core.List.{List, [], _∷_}
+use Prim.Native.Nat.{ℕ, zero, suc, _+_, _-_, _%_, _^_, max, _≤_, _<_}
+use native.Mathlib.Omega.{arith}
+use native.Mathlib.Numerals.{add-one}
+use borrow.Author.Tests.{ltb-true, ltb-false}
+use lib.Dec.{ltb}
+use lib.ListN.{length, take, drop}
+use Rattle.model.specs.Words.{pick}
+use Rattle.model.proofs.Flags.{or-cases, or-no-1, or-no-2}
+use Rattle.comparing.specs.declared.Fault.{Fault}
+use Rattle.comparing.specs.declared.Fault.the-variants as fault
+use Rattle.comparing.specs.declared.Compared.{Compared}
+use Rattle.comparing.specs.declared.Compared.the-variants as answer
+use Rattle.comparing.specs.Groups.{Part, partTo, bytesIn, groupEnd, groups, sideOf}
+use Rattle.comparing.specs.Pairs.{sameBytes, samePair, differs, firstOf, pairs, firstDifference, compared, Stands, Behind, GoesOn}
+use Rattle.comparing.specs.Checks.{checked}
+use Rattle.comparing.proofs.Walks.{group-end}
+use Rattle.comparing.proofs.Sides.{placeFrom, place-next, place-grows, group-le, side-is, counted, counted-out}
+
+module _ (a b : List ℕ) where
+  pub first-more : (n : ℕ) → n < pairs a b → firstDifference a b n ≡ pick (samePair a b n) (firstDifference a b (n + 1)) (differs n (sideOf a n) (sideOf b n))
+  unfolding firstDifference firstOf
+  first-more n h = let k : pairs a b - n ≡ suc (pairs a b - suc n) = omega arith in rw (k, add-one n)
+
+  pub first-over : (n : ℕ) → pairs a b ≤ n → firstDifference a b n ≡ answer.Same
+  unfolding firstDifference firstOf
+  first-over n h = let k : pairs a b - n ≡ 0 = omega arith in rw k
+
+  -- whether a byte is left in one of the logs
+  unfoldable pub left : ℕ → ℕ → Bool
+  left x y = ltb x (length a) || ltb y (length b)
+
+  pub left-less : (x y : ℕ) {e f : ℕ} → left x y ≡ true → e ≡ groupEnd a x → f ≡ groupEnd b y → (length a - e) + (length b - f) < (length a - x) + (length b - y)
+  unfolding left
+  left-less x y {e} {f} t p q =
+      ⊎-elim
+      (λ h. let l = ltb-true x (length a) h in let w = group-end a x l in let v = group-le b y in omega arith)
+      (λ h. let l = ltb-true y (length b) h in let w = group-end b y l in let v = group-le a x in omega arith)
+      (or-cases (ltb x (length a)) (ltb y (length b)) t)
+
+  -- the loop over the pairs: x and y are where the groups of number n begin, and the answer is the same from there
+  pub record Going (m n x y : ℕ) : Type 0 where
+    pub in-a : x ≡ sideOf a n .place
+    pub in-b : y ≡ sideOf b n .place
+    pub same : firstDifference a b m ≡ firstDifference a b n
+
+  module _ {m n x y : ℕ} (g : Going m n x y) where
+    at-a : x ≡ placeFrom n a 0
+    at-a = g .in-a ∙ ap (λ p. p .place) (side-is a n)
+
+    at-b : y ≡ placeFrom n b 0
+    at-b = g .in-b ∙ ap (λ p. p .place) (side-is b n)
+
+    side-a : {e : ℕ} → e ≡ groupEnd a x → sideOf a n ≡ partTo x e
+    side-a p = side-is a n ∙ rw (p, at-a)
+
+    side-b : {e : ℕ} → e ≡ groupEnd b y → sideOf b n ≡ partTo y e
+    side-b p = side-is b n ∙ rw (p, at-b)
+
+    next-a : {e : ℕ} → e ≡ groupEnd a x → e ≡ sideOf a (n + 1) .place
+    next-a p = rw (p, side-is a (n + 1), add-one n, place-next a n 0, at-a)
+
+    next-b : {e : ℕ} → e ≡ groupEnd b y → e ≡ sideOf b (n + 1) .place
+    next-b p = rw (p, side-is b (n + 1), add-one n, place-next b n 0, at-b)
+
+    -- there is a pair of this number, and the number is below a log's length
+    pub going-left : left x y ≡ true → (n < pairs a b) × ((n < length a) ⊎ (n < length b))
+    unfolding left
+    going-left t =
+        ⊎-elim
+        (λ h.
+        let z = at-a in
+        let l = ltb-true x (length a) h in
+        let k : placeFrom n a 0 < length a = omega arith in
+        (omega (arith, counted a n k), inl (omega (arith, place-grows a n 0 k))))
+        (λ h.
+        let z = at-b in
+        let l = ltb-true y (length b) h in
+        let k : placeFrom n b 0 < length b = omega arith in
+        (omega (arith, counted b n k), inr (omega (arith, place-grows b n 0 k))))
+        (or-cases (ltb x (length a)) (ltb y (length b)) t)
+
+    pub going-over : left x y ≡ false → answer.Same ≡ firstDifference a b m
+    unfolding left
+    going-over t =
+        let h = ltb-false x (length a) (or-no-1 (ltb x (length a)) (ltb y (length b)) t) in
+        let k = ltb-false y (length b) (or-no-2 (ltb x (length a)) (ltb y (length b)) t) in
+        let p = at-a in
+        let q = at-b in
+        let u = counted-out a n (omega arith) in
+        let v = counted-out b n (omega arith) in
+        sym (g .same ∙ first-over n (omega arith))
+
+    module _ {e f : ℕ} (p : e ≡ groupEnd a x) (q : f ≡ groupEnd b y) where
+      the-pair : {t u : List ℕ} → t ≡ take (e - x) (drop x a) → u ≡ take (f - y) (drop y b) → sameBytes t u ≡ samePair a b n
+      unfolding samePair
+      the-pair i j = rw (side-a p, side-b q, i, j)
+
+      pub going-differs : {t u : List ℕ} → t ≡ take (e - x) (drop x a) → u ≡ take (f - y) (drop y b) → sameBytes t u ≡ false → left x y ≡ true
+          → answer.Differs n x (e - x) y (f - y) ≡ firstDifference a b m
+      going-differs i j d l = sym (g .same ∙ first-more n (going-left l .0) ∙ rw (sym (the-pair i j) ∙ d, side-a p, side-b q))
+
+      pub going-behind : Stands a b (record { number = n + 1; first = e; second = f })
+      going-behind = record { in-a = next-a p; in-b = next-b q }
+
+      pub going-next : {t u : List ℕ} → t ≡ take (e - x) (drop x a) → u ≡ take (f - y) (drop y b) → sameBytes t u ≡ true → n < pairs a b
+          → Going m (n + 1) e f
+      going-next i j d l =
+          record {
+            in-a = next-a p;
+            in-b = next-b q;
+            same = g .same ∙ first-more n l ∙ rw (sym (the-pair i j) ∙ d);
+          }
+
+      -- the code's sum wraps, and here it does not come to that
+      module _ {k : ℕ} (l : left x y ≡ true) (s : length a < 2 ^ 64) (r : length b < 2 ^ 64) (w : k ≡ (n + 1) % 2 ^ 64) where
+        one-more : k ≡ n + 1
+        one-more = let h = going-left l in ⊎-elim (λ o. omega arith) (λ o. omega arith) (h .1)
+
+        pub going-more : {t u : List ℕ} → t ≡ take (e - x) (drop x a) → u ≡ take (f - y) (drop y b) → sameBytes t u ≡ true → Going m k e f
+        going-more i j d = rw one-more (going-next i j d (going-left l .0))
+
+        pub going-found : {t u : List ℕ} → t ≡ take (e - x) (drop x a) → u ≡ take (f - y) (drop y b) → sameBytes t u ≡ false
+            → GoesOn a b m (record { answer = answer.Differs n x (e - x) y (f - y); next = record { number = k; first = e; second = f } })
+        going-found i j d =
+            record {
+              says = going-differs i j d l;
+              stands = record { in-a = rw one-more (next-a p); in-b = rw one-more (next-b q) };
+              behind = one-more;
+            }
+
+    pub going-none : left x y ≡ false → GoesOn a b m (record { answer = answer.Same; next = record { number = n; first = x; second = y } })
+    going-none t = record { says = going-over t; stands = record { in-a = g .in-a; in-b = g .in-b }; behind = tt }
+
+-- ---- the answer to any two logs
+
+pub begin-stands : (a b : List ℕ) → Stands a b (record { number = 0; first = 0; second = 0 })
+unfolding placeFrom
+begin-stands a b = record { in-a = ap (λ p. p .place) (sym (side-is a 0)); in-b = ap (λ p. p .place) (sym (side-is b 0)) }
+
+module _ (a b : List ℕ) (from : ℕ) {f : Fault} (p : f ≡ checked a) where
+  pub compared-first : {n place : ℕ} → f ≡ fault.At n place → answer.Refused 1 n place ≡ compared a b from
+  unfolding compared
+  compared-first q = rw (sym p ∙ q)
+
+  module _ (q : f ≡ fault.None) {g : Fault} (u : g ≡ checked b) where
+    pub compared-second : {n place : ℕ} → g ≡ fault.At n place → answer.Refused 2 n place ≡ compared a b from
+    unfolding compared
+    compared-second v = rw (sym p ∙ q, sym u ∙ v)
+
+    pub compared-pairs : g ≡ fault.None → {r : Compared} → r ≡ firstDifference a b from → r ≡ compared a b from
+    unfolding compared
+    compared-pairs v e = rw (sym p ∙ q, sym u ∙ v) e

@@ -1,0 +1,141 @@
+-- The groups of a log one behind the other: the side of a number begins where the groups before it end.
+use mathlib.Core.Path.{_≡_, refl, sym, ap, _∙_}
+use mathlib.Core.Bool.{Bool, true, false}
+use mathlib.Core.List.{List, [], _∷_}
+use Prim.Native.Nat.{ℕ, zero, suc, _+_, _-_, _≤_, _<_}
+use native.Mathlib.Omega.{arith}
+use borrow.Author.Tests.{le-ltb, lt-ltb, ltb-true, ltb-false}
+use lib.ListN.{length, getD}
+use lib.Dec.{ltb}
+use Rattle.model.specs.Words.{pick}
+use Rattle.comparing.specs.Groups.{groupEnd, Part, partTo, groupsFrom, groups, sideOf}
+use Rattle.comparing.proofs.Walks.{group-end, group-none}
+
+-- n groups further
+unfoldable pub placeFrom : ℕ → List ℕ → ℕ → ℕ
+placeFrom zero s at = at
+placeFrom (suc n) s at = placeFrom n s (groupEnd s at)
+
+module _ (s : List ℕ) where
+  abbrev pub atEnd : Part
+  atEnd = record { place = length s; size = 0 }
+
+  pub stay : (n at : ℕ) → length s ≤ at → placeFrom n s at ≡ at
+  unfolding placeFrom
+  stay zero at h = refl
+  stay (suc n) at h = rw (group-none s at h) (stay n at h)
+
+  pub place-next : (n at : ℕ) → placeFrom (suc n) s at ≡ groupEnd s (placeFrom n s at)
+  unfolding placeFrom
+  place-next zero at = refl
+  place-next (suc n) at = place-next n (groupEnd s at)
+
+  pub group-within : (at : ℕ) → at ≤ length s → (at ≤ groupEnd s at) × (groupEnd s at ≤ length s)
+  group-within at h = go (ltb at (length s)) refl
+    where
+      go : (t : Bool) → ltb at (length s) ≡ t → (at ≤ groupEnd s at) × (groupEnd s at ≤ length s)
+      go true q = let w = group-end s at (ltb-true at (length s) q) in (omega arith, omega arith)
+      go false q = let w = group-none s at (ltb-false at (length s) q) in (omega arith, omega arith)
+
+  pub place-within : (n at : ℕ) → at ≤ length s → placeFrom n s at ≤ length s
+  unfolding placeFrom
+  place-within zero at h = h
+  place-within (suc n) at h = place-within n (groupEnd s at) (group-within at h .1)
+
+  -- a group is a byte or more
+  pub place-grows : (n at : ℕ) → placeFrom n s at < length s → at + n ≤ placeFrom n s at
+  unfolding placeFrom
+  place-grows zero at h = omega arith
+  place-grows (suc n) at h = go (ltb at (length s)) refl (place-grows n (groupEnd s at) h)
+    where
+      go : (t : Bool) → ltb at (length s) ≡ t → groupEnd s at + n ≤ placeFrom n s (groupEnd s at) → at + suc n ≤ placeFrom n s (groupEnd s at)
+      go true q ih = let w = group-end s at (ltb-true at (length s) q) in omega arith
+      go false q ih =
+          let l : length s ≤ at = ltb-false at (length s) q in
+          let e : placeFrom n s (groupEnd s at) ≡ at = rw (group-none s at l) (stay n at l) in
+          absurd (let w : ⊥ = omega arith in w)
+
+  pub group-le : (at : ℕ) → at ≤ groupEnd s at
+  group-le at = go (ltb at (length s)) refl
+    where
+      go : (t : Bool) → ltb at (length s) ≡ t → at ≤ groupEnd s at
+      go true q = let w = group-end s at (ltb-true at (length s) q) in omega arith
+      go false q = let w = group-none s at (ltb-false at (length s) q) in omega arith
+
+  -- ---- by number
+
+  over : (m at : ℕ) → at ≤ length s → length s ≤ at → atEnd ≡ partTo (placeFrom m s at) (groupEnd s (placeFrom m s at))
+  over m at h l =
+      let e : at ≡ length s = omega arith in
+      let z : length s - length s ≡ 0 = omega arith in
+      rw (stay m at l, group-none s at l, e, z)
+
+  side-from : (d n at : ℕ) → at ≤ length s → length s ≤ at + d → getD (groupsFrom d s at) n atEnd ≡ partTo (placeFrom n s at) (groupEnd s (placeFrom n s at))
+  unfolding groupsFrom placeFrom
+  side-from zero n at h k = over n at h (omega arith)
+  side-from (suc d) n at h k = go n (ltb at (length s)) refl (λ m p q. side-from d m (groupEnd s at) p q)
+    where
+      go : (n : ℕ) (t : Bool) → ltb at (length s) ≡ t
+          → ((m : ℕ) → groupEnd s at ≤ length s → length s ≤ groupEnd s at + d → getD (groupsFrom d s (groupEnd s at)) m atEnd ≡ partTo (placeFrom m s (groupEnd s at)) (groupEnd s (placeFrom m s (groupEnd s at))))
+          → getD (pick t (partTo at (groupEnd s at) ∷ groupsFrom d s (groupEnd s at)) []) n atEnd ≡ partTo (placeFrom n s at) (groupEnd s (placeFrom n s at))
+      go n false q ih = over n at h (ltb-false at (length s) q)
+      go zero true q ih = refl
+      go (suc n) true q ih = let w = group-end s at (ltb-true at (length s) q) in ih n (w .1) (omega arith)
+
+  pub side-is : (n : ℕ) → sideOf s n ≡ partTo (placeFrom n s 0) (groupEnd s (placeFrom n s 0))
+  unfolding sideOf groups
+  side-is n = side-from (length s) n 0 (omega arith) (omega arith)
+
+  in-count : (d n at : ℕ) → length s ≤ at + d → placeFrom n s at < length s → n < length (groupsFrom d s at)
+  unfolding groupsFrom placeFrom
+  in-count zero n at k p = absurd (let l : length s ≤ at = omega arith in let e = stay n at l in let w : ⊥ = omega arith in w)
+  in-count (suc d) n at k p = go n p (ltb at (length s)) refl (λ m i j. in-count d m (groupEnd s at) i j)
+    where
+      go : (n : ℕ) → placeFrom n s at < length s → (t : Bool) → ltb at (length s) ≡ t
+          → ((m : ℕ) → length s ≤ groupEnd s at + d → placeFrom m s (groupEnd s at) < length s → m < length (groupsFrom d s (groupEnd s at)))
+          → n < length (pick t (partTo at (groupEnd s at) ∷ groupsFrom d s (groupEnd s at)) [])
+      go n p false q ih = absurd (let l : length s ≤ at = ltb-false at (length s) q in let e = stay n at l in let w : ⊥ = omega arith in w)
+      go zero p true q ih = omega arith
+      go (suc n) p true q ih = let w = group-end s at (ltb-true at (length s) q) in let i = ih n (omega arith) p in omega arith
+
+  out-count : (d n at : ℕ) → length s ≤ placeFrom n s at → length (groupsFrom d s at) ≤ n
+  unfolding groupsFrom placeFrom
+  out-count zero n at p = omega arith
+  out-count (suc d) n at p = go n p (ltb at (length s)) refl (λ m i. out-count d m (groupEnd s at) i)
+    where
+      go : (n : ℕ) → length s ≤ placeFrom n s at → (t : Bool) → ltb at (length s) ≡ t
+          → ((m : ℕ) → length s ≤ placeFrom m s (groupEnd s at) → length (groupsFrom d s (groupEnd s at)) ≤ m)
+          → length (pick t (partTo at (groupEnd s at) ∷ groupsFrom d s (groupEnd s at)) []) ≤ n
+      go n p false q ih = omega arith
+      go zero p true q ih = absurd (let l = ltb-true at (length s) q in let w : ⊥ = omega arith in w)
+      go (suc n) p true q ih = let i = ih n p in omega arith
+
+  pub counted : (n : ℕ) → placeFrom n s 0 < length s → n < length (groups s)
+  unfolding groups
+  counted n p = in-count (length s) n 0 (omega arith) p
+
+  pub counted-out : (n : ℕ) → length s ≤ placeFrom n s 0 → length (groups s) ≤ n
+  unfolding groups
+  counted-out n p = out-count (length s) n 0 p
+
+  -- ---- the loop that skips groups: those still to skip lead to the side of the number
+
+  abbrev pub Skips : ℕ → ℕ → ℕ → Type 0
+  Skips number at left = (at ≤ length s) × (placeFrom left s at ≡ sideOf s number .place)
+
+  pub skips-start : (number : ℕ) → Skips number 0 number
+  skips-start number = (omega arith, ap (λ p. p .place) (sym (side-is number)))
+
+  pub skips-out : (number at left : ℕ) → length s ≤ at → Skips number at left → at ≡ sideOf s number .place
+  skips-out number at left h w = sym (stay left at h) ∙ w .1
+
+  pub skips-more : (number at left : ℕ) → 0 < left → {e : ℕ} → e ≡ groupEnd s at → Skips number at left → Skips number e (left - 1)
+  unfolding placeFrom
+  skips-more number at left h {e} p w =
+      let k : left ≡ suc (left - 1) = omega arith in
+      let v = group-within at (w .0) in
+      (omega arith, rw p (let u : placeFrom (suc (left - 1)) s at ≡ sideOf s number .place = rw k at (w .1) in u))
+
+  pub skips-over : (number at left : ℕ) → left ≤ 0 → Skips number at left → at ≡ sideOf s number .place
+  unfolding placeFrom
+  skips-over number at left h w = let k : left ≡ 0 = omega arith in rw k at (w .1)

@@ -1,0 +1,84 @@
+-- The constant table of starts: its rule, by one computed test over the whole table, and that no start is past it; the kinds of events
+-- by the tests that the code makes.
+use mathlib.Core.Path.{_≡_, refl, sym, ap, _∙_}
+use mathlib.Core.Logic.{⊎-elim}
+use mathlib.Core.Bool.{Bool, true, false, not, _&&_}
+use mathlib.Core.List.{List, [], _∷_}
+use Prim.Native.Nat.{ℕ, _≤_, _<_}
+use native.Mathlib.Omega.{arith}
+use borrow.Author.Tests.{ne-eqb, ltb-true, ltb-false}
+use lib.ListN.{getD}
+use lib.Dec.{eqb, ltb}
+use Rattle.model.specs.Words.{all, any, every, same}
+use Rattle.model.specs.Records.{Kind, eventKinds, lengthOf, isCommand}
+use Rattle.model.proofs.Flags.{and-1, and-2, flag, same-is}
+use Rattle.model.proofs.Below.{every-at}
+use Rattle.records.proofs.Lengths.{length-past}
+use Rattle.comparing.specs.Kinds.{starters, startsGroup, isEvent}
+
+abbrev pub table : List ℕ
+table = 0 ∷ 0 ∷ 0 ∷ 0 ∷ 0 ∷ 0 ∷ 0 ∷ 0 ∷ 0 ∷ 0 ∷ 0 ∷ 0 ∷ 0 ∷ 0 ∷ 0 ∷ 0 ∷ 1 ∷ 1 ∷ 0 ∷ 0 ∷ 0 ∷ 1 ∷ 1 ∷ 1 ∷ 1 ∷ []
+
+abbrev ruled : ℕ → Bool
+ruled k = same (eqb (getD table k 0) 1) (startsGroup k)
+
+table-ruled : every 25 ruled ≡ true
+unfolding startsGroup
+table-ruled = refl
+
+pub starts-is : (k : ℕ) → k < 25 → eqb (getD table k 0) 1 ≡ startsGroup k
+starts-is k h = same-is (eqb (getD table k 0) 1) (startsGroup k) (every-at ruled 25 k table-ruled h)
+
+-- ---- past the table
+
+none-past : (n k : ℕ) (xs : List ℕ) → all (λ x. ltb x n) xs ≡ true → n ≤ k → any (eqb k) xs ≡ false
+none-past n k [] e h = refl
+none-past n k (x ∷ xs) e h =
+    let p : x < n = ltb-true x n (and-1 (ltb x n) (all (λ y. ltb y n) xs) e) in
+    rw (ne-eqb k x (λ q. omega arith)) (none-past n k xs (and-2 (ltb x n) (all (λ y. ltb y n) xs) e) h)
+
+pub starts-past : (k : ℕ) → 25 ≤ k → startsGroup k ≡ false
+unfolding startsGroup
+starts-past k h = none-past 25 k starters refl h
+
+kind-past : (n k : ℕ) (xs : List Kind) → all (λ x. ltb (x .kind) n) xs ≡ true → n ≤ k → any (λ x. eqb k (x .kind)) xs ≡ false
+kind-past n k [] e h = refl
+kind-past n k (x ∷ xs) e h =
+    let p : x .kind < n = ltb-true (x .kind) n (and-1 (ltb (x .kind) n) (all (λ y. ltb (y .kind) n) xs) e) in
+    rw (ne-eqb k (x .kind) (λ q. omega arith)) (kind-past n k xs (and-2 (ltb (x .kind) n) (all (λ y. ltb (y .kind) n) xs) e) h)
+
+-- ---- the kinds of events
+
+abbrev told : ℕ → Bool
+told k = not (isCommand k) && not (eqb (lengthOf k) 255)
+
+events-told : every 25 (λ k. same (told k) (isEvent k)) ≡ true
+unfolding isEvent lengthOf
+events-told = refl
+
+pub event-kinds : (k : ℕ) → told k ≡ isEvent k
+unfolding isEvent
+event-kinds k =
+    ⊎-elim
+    (λ e. same-is (told k) (isEvent k) (every-at (λ i. same (told i) (isEvent i)) 25 k events-told (ltb-true k 25 e)))
+    (λ e. past (ltb-false k 25 e))
+    (flag (ltb k 25))
+  where
+    no : (t : Bool) → (t && false) ≡ false
+    no true = refl
+    no false = refl
+
+    past : 25 ≤ k → told k ≡ isEvent k
+    past h = rw (length-past k h) (no (not (isCommand k)) ∙ sym (kind-past 25 k eventKinds refl h))
+
+pub event-command : (k : ℕ) → true ≡ isCommand k → false ≡ isEvent k
+event-command k p = by-tests true (eqb (lengthOf k) 255) p refl
+  where
+    by-tests : (t u : Bool) → t ≡ isCommand k → u ≡ eqb (lengthOf k) 255 → (not t && not u) ≡ isEvent k
+    by-tests t u p q = rw (p, q) (event-kinds k)
+
+pub event-other : (k n : ℕ) → false ≡ isCommand k → n ≡ lengthOf k → not (eqb n 255) ≡ isEvent k
+event-other k n p q = by-tests false (eqb n 255) p (ap (λ m. eqb m 255) q)
+  where
+    by-tests : (t u : Bool) → t ≡ isCommand k → u ≡ eqb (lengthOf k) 255 → (not t && not u) ≡ isEvent k
+    by-tests t u p q = rw (p, q) (event-kinds k)

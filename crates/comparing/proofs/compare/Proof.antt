@@ -1,0 +1,32 @@
+-- `comparing::compare` meets its contract.
+use borrow.Author.Needs.{needs}
+use Rattle.comparing.proofs.Firsts.{compared-first, compared-second, compared-pairs}
+use Rattle.comparing.proofs.compare.Statement.{statement}
+use Rattle.comparing.proofs.compare.Tie as tie
+
+pub compare-spec : {M : Type 1} → statement M
+compare-spec =
+    tie.close
+    (tie.spec
+    (λ c κs. search needs)
+    (λ c. search needs)
+    (λ c. let n = c .before in compared-first _ _ _ (n .before .before .check .ensures) (n .number .given .1))
+    (λ c. search needs)
+    (λ c κs. search needs)
+    (λ c. search needs)
+    (λ c.
+    let n = c .before in
+    let k = n .before .before in
+    let t = k .before in
+    compared-second _ _ _ (t .before .before .check .ensures) (t .enum-told .given .1) (k .check2 .ensures) (n .number2 .given .1))
+    (λ c. search needs)
+    (λ c κs. search needs)
+    (λ c κs. search needs)
+    (λ c κs. search needs)
+    (λ c.
+    let s2 = c .before in
+    let s1 = s2 .before in
+    let u = s1 .before in
+    let k = u .before .before in
+    let t = k .before in
+    compared-pairs _ _ _ (t .before .before .check .ensures) (t .enum-told .given .1) (k .check2 .ensures) (u .enum-told2 .given .1) (c .compare-from .ensures (record { in-a = s1 .skip .ensures; in-b = s2 .skip2 .ensures }) .says)))

@@ -1,0 +1,23 @@
+-- `comparing::part` meets its contract.
+use mathlib.Core.Path.{_∙_}
+use borrow.Author.Needs.{needs}
+use native.Mathlib.Omega.{arith}
+use Rattle.comparing.proofs.Parts.{part-none, part-some}
+use Rattle.comparing.proofs.part.Statement.{statement}
+use Rattle.comparing.proofs.part.Tie as tie
+
+pub part-spec : {M : Type 1} → statement M
+part-spec =
+    tie.close
+    (tie.spec
+    (λ c κs. search needs)
+    (λ c. search needs)
+    (λ c.
+    let a = c .before .before .before .before .args in
+    part-none (a .log .now) (a .from) (a .to) (omega (arith, c .before .before .lower .ensures)))
+    (λ c. search needs)
+    (λ c. let w = c .before .lower .ensures in omega arith)
+    (λ c.
+    let a = c .before .before .before .before .args in
+    let e = c .before .before .lower .ensures in
+    rw e (part-some (a .log .now) (a .from) (a .to) (omega arith))))

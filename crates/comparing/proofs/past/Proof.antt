@@ -1,0 +1,27 @@
+-- `comparing::past` meets its contract.
+use Rattle.comparing.specs.Groups.{recordEnd, past}
+use borrow.Author.Needs.{needs}
+use native.Mathlib.Omega.{arith}
+use Rattle.comparing.proofs.past.Statement.{statement}
+use Rattle.comparing.proofs.past.Tie as tie
+
+returns : tie.Need-returns
+unfolding past recordEnd
+returns c = search needs
+
+returns-2 : tie.Need-returns-2
+unfolding past recordEnd
+returns-2 c = search needs
+
+pub past-spec : {M : Type 1} → statement M
+past-spec =
+    tie.close
+    (tie.spec
+    (λ c. search needs)
+    (λ c κs. search needs)
+    (λ c. search needs)
+    (λ c. search needs)
+    (λ c. search needs)
+    (λ c. search needs)
+    returns
+    returns-2)

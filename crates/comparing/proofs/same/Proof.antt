@@ -1,0 +1,35 @@
+-- `comparing::same` meets its contract.
+use mathlib.Core.Path.{refl}
+use Prim.Native.Nat.{_-_}
+use lib.ListN.{length}
+use Rattle.comparing.proofs.Bytes.{SameTo, same-lengths, same-not, same-more, same-over}
+use borrow.Author.Needs.{needs}
+use native.Mathlib.Omega.{arith}
+use Rattle.comparing.proofs.same.Statement.{statement}
+use Rattle.comparing.proofs.same.Tie as tie
+
+abbrev Inv-loop : tie.InvT-loop
+Inv-loop a b i₀ i = SameTo a b i
+
+abbrev μ-loop : tie.MeasureT-loop
+μ-loop a b i₀ i = length a - i
+
+pub same-spec : {M : Type 1} → statement M
+same-spec =
+    tie.close
+    (tie.spec
+    Inv-loop
+    μ-loop
+    (λ c. same-lengths _ _ (c .if1 .taken))
+    (λ c. (omega arith, c .if1 .left, refl))
+    (λ c. search needs)
+    (λ c. search needs)
+    (λ c.
+    let l = c .before .before .before in
+    same-not _ _ (l .before .loop .i) (l .loop-test .taken) (c .if2 .taken) (l .before .loop .inv))
+    (λ c. search needs)
+    (λ c. search needs)
+    (λ c.
+    let l = c .before .before .before in
+    same-more _ _ (l .before .loop .i) (l .loop-test .taken) (c .if2 .left) (l .before .loop .inv))
+    (λ c. let v = c .before .loop in same-over _ _ (v .i) (c .loop-test .left) (v .inv)))

@@ -1,0 +1,27 @@
+-- `comparing::wrong_at` meets its contract.
+use Rattle.comparing.proofs.Scans.{wrong-kind, wrong-none, wrong-cut}
+use mathlib.Core.Path.{sym, _∙_}
+use borrow.Author.Needs.{needs}
+use borrow.Author.Tests.{not-true, not-false}
+use native.Mathlib.Omega.{arith}
+use Rattle.comparing.proofs.wrong_at.Statement.{statement}
+use Rattle.comparing.proofs.wrong_at.Tie as tie
+
+pub wrong-at-spec : {M : Type 1} → statement M
+wrong-at-spec =
+    tie.close
+    (tie.spec
+    (λ c. search needs)
+    (λ c κs. search needs)
+    (λ c. wrong-kind _ _ 0 (sym (c .before .is-event .ensures) ∙ not-true _ (c .if1 .taken)))
+    (λ c κs. search needs)
+    (λ c. search needs)
+    (λ c. search needs)
+    (λ c.
+    let l = c .before in
+    let e = l .before in
+    wrong-none _ _ _ (search needs) (sym (e .before .is-event .ensures) ∙ not-false _ (e .if1 .left)) (l .length-of .ensures) (c .if2 .taken))
+    (λ c.
+    let l = c .before in
+    let e = l .before in
+    wrong-cut _ _ _ (search needs) (sym (e .before .is-event .ensures) ∙ not-false _ (e .if1 .left)) (l .length-of .ensures) (c .if2 .left)))

@@ -1,0 +1,77 @@
+-- Groups paired by number, the first pair that differs, and what is answered to any two logs.
+use Prim.Native.Nat.{ℕ, zero, suc, _+_, _-_, max}
+use mathlib.Core.Path.{_≡_}
+use mathlib.Core.Bool.{Bool, true, false, _&&_}
+use mathlib.Core.List.{List, [], _∷_}
+use lib.ListN.{length}
+use lib.Dec.{eqb}
+use Rattle.model.specs.Words.{pick}
+use Rattle.comparing.specs.declared.Fault.{Fault}
+use Rattle.comparing.specs.declared.Fault.the-variants as fault
+use Rattle.comparing.specs.declared.Compared.{Compared}
+use Rattle.comparing.specs.declared.Compared.the-variants as answer
+use Rattle.comparing.specs.declared.Cursor.{Cursor}
+use Rattle.comparing.specs.declared.Found.{Found}
+use Rattle.comparing.specs.Groups.{Part, bytesIn, groups, sideOf}
+use Rattle.comparing.specs.Checks.{checked}
+
+unfoldable pub sameBytes : List ℕ → List ℕ → Bool
+sameBytes [] [] = true
+sameBytes [] (y ∷ ys) = false
+sameBytes (x ∷ xs) [] = false
+sameBytes (x ∷ xs) (y ∷ ys) = eqb x y && sameBytes xs ys
+
+-- whether the pair of a number has the same bytes on both sides
+unfoldable pub samePair : List ℕ → List ℕ → ℕ → Bool
+samePair a b n = sameBytes (bytesIn a (sideOf a n)) (bytesIn b (sideOf b n))
+
+-- a pair that differs: its number and the place and length of each side
+abbrev pub differs : ℕ → Part → Part → Compared
+differs n p q = answer.Differs n (p .place) (p .size) (q .place) (q .size)
+
+-- of d pairs from number n on, the first that differs
+unfoldable pub firstOf : ℕ → List ℕ → List ℕ → ℕ → Compared
+firstOf zero a b n = answer.Same
+firstOf (suc d) a b n = pick (samePair a b n) (firstOf d a b (suc n)) (differs n (sideOf a n) (sideOf b n))
+
+-- there are as many pairs as the longer log has groups
+abbrev pub pairs : List ℕ → List ℕ → ℕ
+pairs a b = max (length (groups a)) (length (groups b))
+
+unfoldable pub firstDifference : List ℕ → List ℕ → ℕ → Compared
+firstDifference a b from = firstOf (pairs a b - from) a b from
+
+-- all pairs from a number on that differ, in order
+unfoldable pub listed : ℕ → List ℕ → List ℕ → ℕ → List Compared
+listed zero a b n = []
+listed (suc d) a b n = pick (samePair a b n) (listed d a b (suc n)) (differs n (sideOf a n) (sideOf b n) ∷ listed d a b (suc n))
+
+unfoldable pub differences : List ℕ → List ℕ → ℕ → List Compared
+differences a b from = listed (pairs a b - from) a b from
+
+abbrev pub refusing : ℕ → Fault → Compared → Compared
+refusing log (fault.At number place) r = answer.Refused log number place
+refusing log fault.None r = r
+
+-- "the first log is checked whole, then the second, before any pairing"
+unfoldable pub compared : List ℕ → List ℕ → ℕ → Compared
+compared a b from = refusing 1 (checked a) (refusing 2 (checked b) (firstDifference a b from))
+
+-- ---- going on
+
+-- a cursor that stands where the groups of its number begin
+pub record Stands (a b : List ℕ) (c : Cursor) : Type 0 where
+  pub in-a : c .first ≡ sideOf a (c .number) .place
+  pub in-b : c .second ≡ sideOf b (c .number) .place
+
+-- the number to go on with: the one after the pair that differs
+abbrev pub Behind : Compared → ℕ → Type 0
+Behind (answer.Differs number p m q n) next = next ≡ number + 1
+Behind (answer.Refused log number place) next = Unit
+Behind answer.Same next = Unit
+
+-- asked with number n: the answer, and a cursor that stands behind it
+pub record GoesOn (a b : List ℕ) (n : ℕ) (r : Found) : Type 0 where
+  pub says : r .answer ≡ firstDifference a b n
+  pub stands : Stands a b (r .next)
+  pub behind : Behind (r .answer) (r .next .number)

@@ -1,0 +1,343 @@
+// Two logs side by side: the groups of a log, the refusals of one that cannot be read so, and the first pair of groups that differs
+// from a number on. In order: kinds, records, the check of a log, groups, bytes, pairs.
+ghost use mathlib.Core.Path.{_≡_};
+ghost use Prim.Native.Nat.{ℕ, _-_, _<_, min};
+ghost use mathlib.Core.List.{List};
+ghost use lib.ListN.{length, take, drop};
+ghost use Rattle.comparing.specs.Kinds.{startsGroup, isEvent};
+ghost use Rattle.comparing.specs.Checks.{wrongAt, scanned, checked};
+ghost use Rattle.comparing.specs.Groups.{groupEnd, sideOf};
+ghost use Rattle.comparing.specs.Groups.{past as Groups·past};
+ghost use Rattle.comparing.specs.Pairs.{sameBytes, Stands, GoesOn, compared};
+ghost use Rattle.comparing.specs.Parts.{pairIn};
+
+// Log 1 or 2 refused by number, with the place; or the first pair that differs, with the place and the length of each side; or none.
+pub enum Compared {
+    Refused {
+        log: u8,
+        number: u8,
+        place: usize,
+    },
+    Differs {
+        number: usize,
+        place_a: usize,
+        len_a: usize,
+        place_b: usize,
+        len_b: usize,
+    },
+    Same,
+}
+
+// What is wrong with one log, and where.
+pub enum Fault {
+    None,
+    At { number: u8, place: usize },
+}
+
+// Where the groups of a number begin in both logs.
+pub struct Cursor {
+    pub number: usize,
+    pub first: usize,
+    pub second: usize,
+}
+
+// A pair within parts of two logs: its groups, up to where they end, are the same or differ; or a part does not show where its group
+// ends; or both logs are over.
+pub enum Pair {
+    Same { end_a: usize, end_b: usize },
+    Differs { end_a: usize, end_b: usize },
+    WantsFirst,
+    WantsSecond,
+    Over,
+}
+
+// An answer, and a cursor behind it to go on from.
+pub struct Found {
+    pub answer: Compared,
+    pub next: Cursor,
+}
+
+// "A group starts at 0x10, 0x11, 0x15, 0x16, 0x17 or 0x18": 1 there.
+const STARTS: [u8; 25] = [
+    0,
+    0,
+    0,
+    0,
+    0,
+    0,
+    0,
+    0,
+    0,
+    0,
+    0,
+    0,
+    0,
+    0,
+    0,
+    0,
+    1,
+    1,
+    0,
+    0,
+    0,
+    1,
+    1,
+    1,
+    1,
+];
+
+// Whether a record of a kind starts a group.
+pub fn starts(kind: u8) -> bool
+    ensures { λ r. ⌜ r ≡ startsGroup kind ⌝ }
+{
+    let k = kind as usize;
+    if k < 25 { STARTS[k] == 1 } else { false }
+}
+
+// Whether a kind is an event's.
+fn is_event(kind: u8) -> bool
+    ensures { λ r. ⌜ r ≡ isEvent kind ⌝ }
+{
+    if records::is_command(kind) {
+        return false;
+    }
+    records::length_of(kind) != 255
+}
+
+// The place behind the record at a place, no further than the log goes.
+fn past(log: &[u8], at: usize) -> usize
+    requires { ⌜ at < length (now log) ⌝ }
+    ensures { λ r. ⌜ r ≡ Groups·past (now (log .entry)) at ⌝ }
+{
+    let n = records::length_of(log[at]) as usize;
+    if n < log.len() - at {
+        at + 1 + n
+    } else {
+        log.len()
+    }
+}
+
+// 14 or 15 of the record at a place; 0 where nothing is wrong.
+fn wrong_at(log: &[u8], at: usize) -> u8
+    requires { ⌜ at < length (now log) ⌝ }
+    ensures { λ r. ⌜ r ≡ wrongAt (now (log .entry)) at ⌝ }
+{
+    let kind = log[at];
+    if !is_event(kind) {
+        return 14;
+    }
+    let n = records::length_of(kind) as usize;
+    if n < log.len() - at { 0 } else { 15 }
+}
+
+// The first record that is wrong.
+pub fn scan(log: &[u8]) -> Fault
+    ensures { λ r. ⌜ r ≡ scanned (now (log .entry)) ⌝ }
+{
+    let mut at = 0;
+    while at < log.len() {
+        let number = wrong_at(log, at);
+        if number != 0 {
+            return Fault::At { number, place: at };
+        }
+        at = past(log, at);
+    }
+    Fault::None
+}
+
+// "at each record 14 and 15 with the place, then, after its last record, 17 for a log that begins inside a group"
+pub fn check(log: &[u8]) -> Fault
+    ensures { λ r. ⌜ r ≡ checked (now (log .entry)) ⌝ }
+{
+    match scan(log) {
+        Fault::At { number, place } => Fault::At { number, place },
+        Fault::None => {
+            if log.len() == 0 {
+                return Fault::None;
+            }
+            if starts(log[0]) {
+                return Fault::None;
+            }
+            Fault::At {
+                number: 17,
+                place: 0,
+            }
+        }
+    }
+}
+
+// The end of the group that begins at a place; the place itself where no byte is left.
+pub fn group_end(log: &[u8], at: usize) -> usize
+    ensures { λ r. ⌜ r ≡ groupEnd (now (log .entry)) at ⌝ }
+{
+    if log.len() <= at {
+        return at;
+    }
+    let mut end = past(log, at);
+    while end < log.len() {
+        if starts(log[end]) {
+            return end;
+        }
+        end = past(log, end);
+    }
+    end
+}
+
+// The place of the group of a number; the log's end where it has run out.
+fn skip(log: &[u8], number: usize) -> usize
+    ensures { λ r. ⌜ r ≡ sideOf (now (log .entry)) number .place ⌝ }
+{
+    let mut at = 0;
+    let mut left = number;
+    while 0 < left {
+        if log.len() <= at {
+            return at;
+        }
+        at = group_end(log, at);
+        left -= 1;
+    }
+    at
+}
+
+fn lower(a: usize, b: usize) -> usize
+    ensures { λ r. ⌜ r ≡ min a b ⌝ }
+{
+    if a < b { a } else { b }
+}
+
+// The bytes from one place to another, as far as the log has them.
+pub fn part(log: &[u8], from: usize, to: usize) -> &[u8]
+    ensures { λ r. ⌜ now r ≡ take (to - from) (drop from (now (log .entry))) ⌝ }
+{
+    let end = lower(to, log.len());
+    if end < from {
+        return &log[..0];
+    }
+    &log[from..end]
+}
+
+// Whether the bytes are the same.
+pub fn same(a: &[u8], b: &[u8]) -> bool
+    ensures { λ r. ⌜ r ≡ sameBytes (now (a .entry)) (now (b .entry)) ⌝ }
+{
+    if a.len() != b.len() {
+        return false;
+    }
+    let mut i = 0;
+    while i < a.len() {
+        if a[i] != b[i] {
+            return false;
+        }
+        i += 1;
+    }
+    true
+}
+
+// The cursor to begin with.
+pub fn begin() -> Cursor
+    ensures { λ r. ⌜ ((a b : List ℕ) → Stands a b r) ⌝ }
+{
+    Cursor {
+        number: 0,
+        first: 0,
+        second: 0,
+    }
+}
+
+// The first pair from a cursor on that differs: the same answer as asking with its number; and the cursor behind that pair. It reads
+// what lies between the two cursors and no more, so that to list all pairs takes one pass.
+pub fn compare_from(a: &[u8], b: &[u8], cursor: Cursor) -> Found
+    ensures { λ r. ⌜ (Stands (now (a .entry)) (now (b .entry)) cursor → GoesOn (now (a .entry)) (now (b .entry)) (cursor .number) r) ⌝ }
+{
+    let mut number = cursor.number;
+    let mut x = cursor.first;
+    let mut y = cursor.second;
+    while (x < a.len()) | (y < b.len()) {
+        let end_a = group_end(a, x);
+        let end_b = group_end(b, y);
+        let after = std::num::wrapping_add_usize(number, 1);
+        if !same(part(a, x, end_a), part(b, y, end_b)) {
+            return Found {
+                answer: Compared::Differs {
+                    number,
+                    place_a: x,
+                    len_a: end_a - x,
+                    place_b: y,
+                    len_b: end_b - y,
+                },
+                next: Cursor {
+                    number: after,
+                    first: end_a,
+                    second: end_b,
+                },
+            };
+        }
+        number = after;
+        x = end_a;
+        y = end_b;
+    }
+    Found {
+        answer: Compared::Same,
+        next: Cursor {
+            number,
+            first: x,
+            second: y,
+        },
+    }
+}
+
+// The first pair from a number on that differs, of two logs of any bytes: "the first log is checked whole, then the second, before
+// any pairing".
+pub fn compare(a: &[u8], b: &[u8], from: usize) -> Compared
+    ensures { λ r. ⌜ r ≡ compared (now (a .entry)) (now (b .entry)) from ⌝ }
+{
+    if let Fault::At { number, place } = check(a) {
+        return Compared::Refused {
+            log: 1,
+            number,
+            place,
+        };
+    }
+    if let Fault::At { number, place } = check(b) {
+        return Compared::Refused {
+            log: 2,
+            number,
+            place,
+        };
+    }
+    let first = skip(a, from);
+    let second = skip(b, from);
+    let found = compare_from(
+        a,
+        b,
+        Cursor {
+            number: from,
+            first,
+            second,
+        },
+    );
+    found.answer
+}
+
+// The pair whose groups begin at two places of parts of two logs; `whole` says that the first log ends with its part, `ends` that
+// the second does.
+pub fn pair_in(a: &[u8], whole: bool, x: usize, b: &[u8], ends: bool, y: usize) -> Pair
+    ensures { λ r. ⌜ r ≡ pairIn (now (a .entry)) whole x (now (b .entry)) ends y ⌝ }
+{
+    let end_a = group_end(a, x);
+    let end_b = group_end(b, y);
+    if !(whole | (end_a < a.len())) {
+        return Pair::WantsFirst;
+    }
+    if !(ends | (end_b < b.len())) {
+        return Pair::WantsSecond;
+    }
+    if !((x < a.len()) | (y < b.len())) {
+        return Pair::Over;
+    }
+    if same(part(a, x, end_a), part(b, y, end_b)) {
+        Pair::Same { end_a, end_b }
+    } else {
+        Pair::Differs { end_a, end_b }
+    }
+}
