@@ -207,14 +207,14 @@ impl<const RECOUNT: bool> Cache<RECOUNT> {
             self.answer(answer, number, events);
             return Ok(());
         }
-        if self.free_places() < 2 {
-            return Err(QUEUE_FULL);
-        }
         if answer == Answer::HitReserved {
             self.join(address, ticket)?;
             self.lines[number].cycle = self.cycle;
             self.answer(answer, number, events);
             return Ok(());
+        }
+        if self.free_places() < 1 + self.writes_back(answer, number) {
+            return Err(QUEUE_FULL);
         }
         if self.misses.len() >= self.settings.entries as usize {
             return Err(MISSES_FULL);
@@ -246,7 +246,7 @@ impl<const RECOUNT: bool> Cache<RECOUNT> {
             Status::Reserved => Answer::HitReserved,
             _ => Answer::Hit,
         })?;
-        if answer != Answer::Hit && self.free_places() < 1 {
+        if self.free_places() < self.writes_back(answer, number) {
             return Err(QUEUE_FULL);
         }
         let write_back = self.take_line(answer, number, address);
@@ -313,6 +313,11 @@ impl<const RECOUNT: bool> Cache<RECOUNT> {
     fn answer(&self, answer: Answer, number: usize, events: &mut Events) {
         let line = (number as u16).to_le_bytes();
         events.put([0x10, answer as u8, line[0], line[1]]);
+    }
+
+    /// 1 where a dirty line is thrown out.
+    fn writes_back(&self, answer: Answer, number: usize) -> usize {
+        usize::from(answer == Answer::Miss && self.lines[number].has(Status::Modified))
     }
 
     fn free_places(&self) -> usize {

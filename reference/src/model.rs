@@ -222,7 +222,7 @@ impl Cache {
             return Err(Refusal::NotWellFormed);
         }
         let (answer, number) = self.probe(access)?;
-        if self.free_places() < places_needed(access.is_write, answer) {
+        if self.free_places() < self.places_needed(access.is_write, answer, number) {
             return Err(Refusal::QueueFull);
         }
         if access.is_write {
@@ -239,6 +239,13 @@ impl Cache {
             }
             _ => Ok((answer, number)),
         }
+    }
+
+    /// As many as the access will queue: the read of a miss, and the write-back of a dirty victim.
+    fn places_needed(&self, is_write: bool, answer: Answer, number: usize) -> usize {
+        let reads = !is_write && matches!(answer, Answer::Miss | Answer::SectorMiss);
+        let writes_back = answer == Answer::Miss && self.lines[number].has(Status::Modified);
+        usize::from(reads) + usize::from(writes_back)
     }
 
     /// Of the miss queue.
@@ -393,13 +400,4 @@ fn answer_on_match(sector: &Sector, is_write: bool) -> Answer {
 
 fn is_candidate(line: &Line, may_evict_dirty: bool) -> bool {
     !line.has(Status::Reserved) && (!line.has(Status::Modified) || may_evict_dirty)
-}
-
-/// By the answer alone, not by what will be queued.
-fn places_needed(is_write: bool, answer: Answer) -> usize {
-    match (answer, is_write) {
-        (Answer::Hit, _) => 0,
-        (_, true) => 1,
-        (_, false) => 2,
-    }
 }

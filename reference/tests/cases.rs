@@ -120,10 +120,10 @@ fn case_13_set_held() {
 }
 
 #[test]
-fn case_14_two_free_places() {
+fn case_14_a_merged_read_sends_nothing() {
     let small = [1, 2, 50, 2, 2, 2];
     ends(small, &[read(0)], Ok(vec![answer(Answer::Miss, 1), queued(0)]));
-    ends(small, &[read(0), read(0)], Err(Refusal::QueueFull));
+    ends(small, &[read(0), read(0)], Ok(vec![answer(Answer::HitReserved, 1)]));
 }
 
 #[test]

@@ -114,17 +114,22 @@ fn refusals_5_and_6_no_candidate() {
 }
 
 #[test]
-fn refusal_7_before_8_and_9() {
-    let small = Settings::new([1, 2, 50, 1, 1, 2]);
-    refused(small, &[read(0)], read(0), 7);
-    refused(small, &[read(0)], read(32), 7);
-    // A write to a RESERVED sector queues nothing, yet one place must be free.
-    let mut cache = after(small, &[read(0), write(0, 1)]);
-    assert_eq!(cache.queue.len(), 1);
-    cache.queue.push_back(reference::model::Queued::WriteBack { block: 0, masks: [1, 0, 0, 0] });
-    assert!(sound(&small, &cache.encode()));
-    assert_eq!(cache.call(write(0, 2)), Err(Refusal::QueueFull));
-    assert_eq!(cache.call(write(32, 2)), Err(Refusal::QueueFull));
+fn refusal_7_by_what_is_queued() {
+    let small = Settings::new([1, 2, 50, 2, 2, 2]);
+    let full = [read(0), read(32)];
+    // Both 7 and 9 apply to a read that needs an entry.
+    refused(small, &full, read(64), 7);
+    // A merged read queues nothing: 8 alone can refuse it.
+    let merged = [read(0), read(32), read(0)];
+    refused(small, &merged, read(0), 8);
+    after(small, &merged);
+    // Writes queue a write-back or nothing.
+    after(small, &[read(0), read(32), write(0, 1), write(64, 1), write(128, 1)]);
+    refused(small, &[write(128, 1), read(0), read(32)], write(256, 1), 7);
+    // A read that throws out a dirty line needs two places.
+    let dirty = [read(0), write(128, 1)];
+    refused(small, &dirty, read(256), 7);
+    after(small, &[read(0), write(128, 1), Call::Send, read(256)]);
 }
 
 #[test]

@@ -44,7 +44,7 @@ use Rattle.access.specs.Written.{sectorsFor, sectorsAfter, lineWritten, 
 use Rattle.access.specs.declared.course.Course.{Course}
 use Rattle.access.specs.declared.course.Course.the-variants.{Refused, Stays, Joins, Starts}
 use Rattle.access.proofs.Plans.{index-found, merged-entry, entry-once}
-use Rattle.access.proofs.Courses.{Shown, shows, answer-is}
+use Rattle.access.proofs.Courses.{Shown, fetches-are, flag-length, shows, answer-is, needed-is}
 use Rattle.access.proofs.Inverted.{Tested, Means, course-means}
 
 -- ---- what becomes of the miss table and the queue, by the flags
@@ -60,17 +60,6 @@ misses-join (Write a m k) n es e = absurd (false≢true e)
 misses-start : (x : Access) (n : Answer) (es : List Entry) → (isRead x && isMerge n) ≡ false → (isRead x && isMiss n) ≡ true → onMisses x n es ≡ es ++ (unsent (addressOf x) (ticketOf x) ∷ [])
 misses-start (Read a m k) n es e f = rw (f, e)
 misses-start (Write a m k) n es e f = absurd (false≢true f)
-
-fetches-are : (x : Access) (n : Answer) → fetches x n ≡ pick (isRead x && isMiss n) (reading (addressOf x) ∷ []) []
-fetches-are (Read a m k) n = refl
-fetches-are (Write a m k) n = refl
-
-flag-length : (b : Bool) (y : Queued) → length (pick b (y ∷ []) []) ≡ one b
-flag-length true y = refl
-flag-length false y = refl
-
-two-lengths : (b c : Bool) (y z : Queued) → length (pick b (y ∷ []) []) + length (pick c (z ∷ []) []) ≡ one b + one c
-two-lengths b c y z = rw (flag-length b y, flag-length c z)
 
 module _ (S : Settings) {longs words marks : List ℕ} (x : Access) (d : Decision) (t : Tables) (p : Spot) (m : Met S (lent longs words marks) x d t p) {place : Layout} (pl : Placed S place) where
   ok : Sound S t
@@ -180,8 +169,7 @@ module _ (S : Settings) {longs words marks : List ℕ} (x : Access) (d : Decisio
       let v : Tables = withQueue (u .queue ++ reads) u in
       let longer : length (u .queue ++ reads) ≡ length (u .queue) + one b = length-append (u .queue) reads ∙ ap (λ (k : ℕ). length (u .queue) + k) (flag-length b (reading (addressOf x))) in
       let most : one b + one (d .backs) ≤ placesNeeded x p =
-      let l : length (queues x p) ≡ one b + one (d .backs) = ap length queues-are ∙ length-append reads _ ∙ two-lengths b (d .backs) (reading (addressOf x)) (writing (d .block) (d .masks)) in
-      omega (arith, spot .room) in
+      omega (arith, needed-is S x d t p m) in
       let s : length (u .queue) ≡ length (t .queue) = ap length same in
       let r : Stands S (readWritten place b n (addressOf x) L₂ .longs) (readWritten place b n (addressOf x) L₂ .words) (readWritten place b n (addressOf x) L₂ .marks) v =
       read-written u L₂ (readWritten place b n (addressOf x) L₂) b n h (omega arith) (omega arith) refl in
@@ -197,13 +185,7 @@ join-inside S x d t p m e merges is =
     (merged-entry S (m .is .range) t (parts S t (m .is .soundly)) x (m .formed) p (m .probed) (and-2 (isRead x) (isMerge (p .answer)) merges)) .0)
 
 pub queue-room : (S : Settings) {L : Lent} (x : Access) (d : Decision) (t : Tables) (p : Spot) → Met S L x d t p → one (isRead x && isMiss (d .answer)) + one (d .backs) ≤ placesNeeded x p
-queue-room S x d t p m =
-    let b = isRead x && isMiss (d .answer) in
-    let q : queues x p ≡ pick b (reading (addressOf x) ∷ []) [] ++ pick (d .backs) (writing (d .block) (d .masks) ∷ []) [] =
-    rw (shows S x d t p m .backs, answer-is S x d t p m) (ap (λ (q : List Queued). q ++ backsOf d) (fetches-are x (d .answer))) in
-    let l : length (queues x p) ≡ one b + one (d .backs) =
-    ap length q ∙ length-append (pick b (reading (addressOf x) ∷ []) []) _ ∙ two-lengths b (d .backs) (reading (addressOf x)) (writing (d .block) (d .masks)) in
-    omega (arith, probe-spotted S (m .is .range) t (parts S t (m .is .soundly)) x p (m .probed) .room)
+queue-room S x d t p m = omega (arith, needed-is S x d t p m)
 
 -- four masks: those of a sound write-back, or zeros
 pub masks-four : (S : Settings) {L : Lent} (x : Access) (d : Decision) (t : Tables) (p : Spot) → Met S L x d t p → length (d .masks) ≡ 4

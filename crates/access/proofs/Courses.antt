@@ -1,20 +1,22 @@
 -- What a decision says of the spot that it stands for, and the course by the tests of the code.
 use mathlib.Core.Path.{_≡_, refl, sym, ap, _∙_}
 use mathlib.Core.Bool.{Bool, true, false, not, _&&_}
-use mathlib.Core.List.{List, [], _∷_}
+use mathlib.Core.List.{List, [], _∷_, _++_}
 use Prim.Native.Nat.{ℕ, _+_, _≤_, _<_}
 use native.Mathlib.Omega.{arith}
-use lib.ListN.{length, getD, replicate}
+use lib.ListN.{length, getD, replicate, length-append}
 use borrow.Author.Tests.{lt-ltb, le-ltb, leb-true}
-use Rattle.model.specs.Words.{pick, any}
+use Rattle.model.specs.Words.{pick, any, one}
 use Rattle.model.specs.Address.{addressOf, isRead, blockOf}
-use Rattle.model.specs.Tables.{Line, Tables, entryFor, fresh, empty}
+use Rattle.model.specs.Tables.{Line, Queued, reading, writing, Tables, entryFor, fresh, empty}
 use Rattle.model.specs.Lent.{Lent, lent}
 use Rattle.model.specs.Inner.{Is}
 use Rattle.model.specs.Probe.{Spot, at, waysOf}
-use Rattle.model.specs.Steps.{isHit, isMerge, isMiss}
+use Rattle.model.specs.Steps.{isMerge, isMiss, fetches, queues, placesNeeded}
 use Rattle.model.specs.declared.Settings.{Settings}
 use Rattle.model.specs.declared.Access.{Access}
+use Rattle.model.specs.declared.Access.the-variants.{Read, Write}
+use Rattle.model.specs.declared.Answer.{Answer}
 use Rattle.model.specs.declared.Refusal.the-variants.{QueueFull}
 use Rattle.model.proofs.SoundFacts.{parts}
 use Rattle.probe.specs.declared.Meeting.{Meeting}
@@ -26,6 +28,19 @@ use Rattle.access.specs.Written.{sectorsFor}
 use Rattle.access.specs.declared.course.Course.{Course}
 use Rattle.access.specs.declared.course.Course.the-variants.{Refused, Stays}
 use Rattle.access.proofs.Plans.{merged-entry}
+
+-- ---- what is queued, by two flags
+
+pub fetches-are : (x : Access) (n : Answer) → fetches x n ≡ pick (isRead x && isMiss n) (reading (addressOf x) ∷ []) []
+fetches-are (Read a m k) n = refl
+fetches-are (Write a m k) n = refl
+
+pub flag-length : (b : Bool) (y : Queued) → length (pick b (y ∷ []) []) ≡ one b
+flag-length true y = refl
+flag-length false y = refl
+
+two-lengths : (b c : Bool) (y z : Queued) → length (pick b (y ∷ []) []) + length (pick c (z ∷ []) []) ≡ one b + one c
+two-lengths b c y z = rw (flag-length b y, flag-length c z)
 
 -- ---- the spot of a decision
 
@@ -55,26 +70,35 @@ module _ (S : Settings) {L : Lent} (x : Access) (d : Decision) (t : Tables) (p :
   pub few-queued : length (t .queue) ≤ S .places
   few-queued = leb-true (length (t .queue)) (S .places) (parts S t (m .is .soundly) .short)
 
+  pub needed-is : placesNeeded x p ≡ one (isRead x && isMiss (d .answer)) + one (d .backs)
+  needed-is =
+      let reads = pick (isRead x && isMiss (d .answer)) (reading (addressOf x) ∷ []) [] in
+      let q : queues x p ≡ reads ++ backsOf d = rw (shows .backs, answer-is) (ap (λ (l : List Queued). l ++ backsOf d) (fetches-are x (d .answer))) in
+      ap length q ∙ length-append reads (backsOf d) ∙ two-lengths (isRead x && isMiss (d .answer)) (d .backs) (reading (addressOf x)) (writing (d .block) (d .masks))
+
   -- ---- the course
 
-  module _ {q n : ℕ} (counted : q ≡ length (t .queue)) (needed : n ≡ pick (isHit (d .answer)) 0 (pick (isRead x) 2 1)) where
+  module _ {q n : ℕ} (counted : q ≡ length (t .queue)) (asked : n ≡ one (isRead x && isMiss (d .answer)) + one (d .backs)) where
+    needed : n ≡ placesNeeded x p
+    needed = asked ∙ sym needed-is
+
     pub course-full : S .places < q + n → Refused QueueFull ≡ courseOf S x p t
-    course-full h = rw (answer-is, ← counted, ← needed, lt-ltb (S .places) (q + n) h)
+    course-full h = rw (← counted, ← needed, answer-is, lt-ltb (S .places) (q + n) h)
 
     module _ (room : q + n ≤ S .places) where
       pub course-write : isRead x ≡ false → Stays ≡ courseOf S x p t
-      course-write r = rw (answer-is, ← counted, ← needed, le-ltb (S .places) (q + n) room, r)
+      course-write r = rw (← counted, ← needed, answer-is, le-ltb (S .places) (q + n) room, r)
 
       module _ (reads : isRead x ≡ true) where
         pub course-join : isMerge (d .answer) ≡ true → {r : Course} → r ≡ joining S (entryIndex (addressOf x) (t .misses)) (ticketsAt (entryIndex (addressOf x) (t .misses)) (t .misses)) → r ≡ courseOf S x p t
-        course-join merges e = e ∙ rw (answer-is, ← counted, ← needed, le-ltb (S .places) (q + n) room, reads, merges)
+        course-join merges e = e ∙ rw (← counted, ← needed, answer-is, le-ltb (S .places) (q + n) room, reads, merges)
 
         module _ (other : isMerge (d .answer) ≡ false) where
           pub course-start : isMiss (d .answer) ≡ true → {r : Course} → r ≡ starting S (length (t .misses)) → r ≡ courseOf S x p t
-          course-start misses e = e ∙ rw (answer-is, ← counted, ← needed, le-ltb (S .places) (q + n) room, reads, misses, other)
+          course-start misses e = e ∙ rw (← counted, ← needed, answer-is, le-ltb (S .places) (q + n) room, reads, misses, other)
 
           pub course-hit : isMiss (d .answer) ≡ false → Stays ≡ courseOf S x p t
-          course-hit hits = rw (answer-is, ← counted, ← needed, le-ltb (S .places) (q + n) room, reads, hits, other)
+          course-hit hits = rw (← counted, ← needed, answer-is, le-ltb (S .places) (q + n) room, reads, hits, other)
 
   pub merge-entered : isMerge (d .answer) ≡ true → any (entryFor (addressOf x)) (t .misses) ≡ true
   merge-entered h = merged-entry S (m .is .range) t (parts S t (m .is .soundly)) x (m .formed) p (m .probed) (ap isMerge answer-is ∙ h)

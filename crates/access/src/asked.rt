@@ -1,8 +1,9 @@
 // What an access asks, and how it was answered.
 ghost use mathlib.Core.Path.{_≡_};
+ghost use mathlib.Core.Bool.{_&&_};
 ghost use Rattle.model.specs.Address.{isRead};
 ghost use Rattle.access.specs.Plan.{ticketOf};
-ghost use Rattle.model.specs.Steps.{isHit, isMerge, isMiss};
+ghost use Rattle.model.specs.Steps.{isMerge, isMiss};
 use model::Access;
 use model::Answer;
 
@@ -40,17 +41,6 @@ pub(crate) fn ticket_of(x: Access) -> u32
     }
 }
 
-pub(crate) fn is_hit(a: Answer) -> bool
-    ensures { λ r. ⌜ r ≡ isHit a ⌝ }
-{
-    match a {
-        Answer::Hit => true,
-        Answer::HitReserved => false,
-        Answer::Miss => false,
-        Answer::SectorMiss => false,
-    }
-}
-
 pub(crate) fn is_merge(a: Answer) -> bool
     ensures { λ r. ⌜ r ≡ isMerge a ⌝ }
 {
@@ -71,4 +61,11 @@ pub(crate) fn is_miss(a: Answer) -> bool
         Answer::Miss => true,
         Answer::SectorMiss => true,
     }
+}
+
+// Whether the access queues a read.
+pub(crate) fn fetches(x: Access, a: Answer) -> bool
+    ensures { λ r. ⌜ r ≡ isRead x && isMiss a ⌝ }
+{
+    is_read(x) & is_miss(a)
 }

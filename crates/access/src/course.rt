@@ -1,14 +1,15 @@
 // Refusals 7, 8 and 9, or what becomes of the miss table. Nothing is written here.
 ghost use mathlib.Core.Path.{_≡_};
-ghost use Prim.Native.Nat.{_≤_};
+ghost use Prim.Native.Nat.{_+_, _≤_};
+ghost use mathlib.Core.Bool.{_&&_};
 ghost use Rattle.model.specs.Address.{isRead};
-ghost use Rattle.model.specs.Words.{pick};
+ghost use Rattle.model.specs.Words.{one};
 ghost use Rattle.model.specs.Lent.{lent};
 ghost use Rattle.model.specs.Inner.{Held};
 ghost use Rattle.tables.specs.Layout.{Placed};
 ghost use Rattle.access.specs.Plan.{Meets, Counted, Entered, Joining, Starting, Planned, goes, refusalIn};
-ghost use Rattle.model.specs.Steps.{isHit};
-use crate::asked::is_hit;
+ghost use Rattle.model.specs.Steps.{isMiss};
+use crate::asked::fetches;
 use crate::asked::is_merge;
 use crate::asked::is_miss;
 use crate::asked::is_read;
@@ -28,14 +29,17 @@ pub enum Course {
     Starts(usize),
 }
 
-// How many free queue places an access with this answer needs.
-fn places_needed(x: Access, a: Answer) -> usize
-    ensures { λ r. ⌜ (r ≡ pick (isHit a) 0 (pick (isRead x) 2 1)) × (r ≤ 2) ⌝ }
+// How many free queue places an access with this answer needs: one for a read that misses, one for a write-back.
+fn places_needed(x: Access, a: Answer, backs: bool) -> usize
+    ensures { λ r. ⌜ (r ≡ one (isRead x && isMiss a) + one backs) × (r ≤ 2) ⌝ }
 {
-    if is_hit(a) {
-        return 0;
+    if fetches(x, a) {
+        if backs {
+            return 2;
+        }
+        return 1;
     }
-    if is_read(x) { 2 } else { 1 }
+    if backs { 1 } else { 0 }
 }
 
 // The course of a read that merges: the entry for its address has room for one more ticket, or not.
@@ -86,7 +90,7 @@ pub(crate) fn course_of(
     ensures { λ r. ⌜ Planned s (lent (now (longs .entry)) (now (words .entry)) (now (marks .entry))) x d r ⌝ }
 {
     let a = d.answer;
-    if s.places < queued + places_needed(x, a) {
+    if s.places < queued + places_needed(x, a, d.backs) {
         return Course::Refused(Refusal::QueueFull);
     }
     if !is_read(x) {

@@ -14,6 +14,7 @@ ghost use Rattle.access.specs.Plan.{Meets, MayAct, Acted};
 ghost use Rattle.access.specs.Written.{sectorsFor, sectorsAfter, lineWritten, missesWritten, readWritten, backWritten, queueWritten, tellingOf, MissRoom, ReadRoom, BackRoom};
 ghost use mathlib.Core.Bool.{not, _&&_};
 ghost use Rattle.model.specs.Steps.{isMiss};
+use crate::asked::fetches;
 use crate::asked::is_miss;
 use crate::asked::is_read;
 use crate::asked::ticket_of;
@@ -214,13 +215,6 @@ fn act_queue(
     let block = BlockAddress(d.block);
     let masks = d.masks;
     write_back(at, longs, words, marks, d.backs, next, block, masks);
-}
-
-// Whether the access queues a read.
-fn fetches(x: Access, a: Answer) -> bool
-    ensures { λ r. ⌜ r ≡ isRead x && isMiss a ⌝ }
-{
-    is_read(x) & is_miss(a)
 }
 
 // The address of the read that is queued; 0 where none is.

@@ -13,7 +13,7 @@ use borrow.Author.Tests.{eq-eqb, lt-leb, le-ltb}
 use Rattle.model.specs.Words.{pick, all, any, count}
 use Rattle.model.specs.Range.{inRange}
 use Rattle.model.specs.Address.{addressOf, isRead, blockOf, wellFormed}
-use Rattle.model.specs.Tables.{Line, Entry, Queued, Tables, Outcome, refused, done, accepted, isInvalid, isReserved, unused, waiting, holds, empty}
+use Rattle.model.specs.Tables.{Line, Entry, Queued, Tables, Outcome, refused, done, accepted, isInvalid, isReserved, unused, waiting, holds, empty, fresh}
 use Rattle.model.specs.Sound.{readingOf, sound}
 use Rattle.model.specs.Probe.{Rule, Place, no, at, waysOf, dirtyLines, first, victim, takeOver, meet, probe, ruleOf}
 use Rattle.model.specs.Steps.{isMerge, isMiss, placesNeeded, entryFull, accept, proceed, access, afterSend, send, others, afterFill, sentFor, fill}
@@ -30,6 +30,7 @@ use Rattle.model.proofs.Flags.{and-1, and-i, and-no, flag, not-yes, no-
 use Rattle.model.proofs.Lists.{In, all-in, in-any, any-in, in-index, keep-lt}
 use Rattle.model.proofs.SoundFacts.{Sound, parts, entries-some, places-two, four-at, reserved-at, unsent-once}
 use Rattle.model.proofs.Ways.{way-in}
+use Rattle.model.proofs.Offered.{back-one}
 use Rattle.model.proofs.Victims.{places-at-most-two}
 use Rattle.model.proofs.Keep.{marked-length, sent-sound, filled-sound}
 
@@ -48,7 +49,7 @@ invalid-free Modified e = refl
 -- a place, or 6
 abbrev Free : Place → Type 0
 Free (no n) = n ≡ SetHeld
-Free (at p) = Unit {0}
+Free (at p) = length (p .backs) ≤ 1
 
 module _ (S : Settings) (t : Tables) (ok : Sound S t) (no-misses : t .misses ≡ []) where
   line-free : (l : Line) → In l (t .lines) → waiting l ≡ false
@@ -66,11 +67,11 @@ module _ (S : Settings) (t : Tables) (ok : Sound S t) (no-misses : t .misses ≡
 
   over-free : (a : ℕ) (v : Found) → Free (takeOver a (waysOf S (t .lines) a) v)
   over-free a Nothing = rw (set-free a)
-  over-free a (At w) = tt
+  over-free a (At w) = back-one (getD (waysOf S (t .lines) a) w fresh)
 
   meet-free : (R : Rule) (d : ℕ) (x : Access) (v : Found) → Free (meet R S d (waysOf S (t .lines) (addressOf x)) x v)
   meet-free R d x Nothing = over-free (addressOf x) (victim R S d (waysOf S (t .lines) (addressOf x)))
-  meet-free R d x (At w) = tt
+  meet-free R d x (At w) = omega arith
 
   module _ (range : inRange S ≡ true) (x : Access) (no-queue : t .queue ≡ []) where
     proceed-settles : (p : Place) → Free p → (accepted (proceed S x t p) ≡ true) ⊎ (proceed S x t p ≡ refused SetHeld)
@@ -78,7 +79,7 @@ module _ (S : Settings) (t : Tables) (ok : Sound S t) (no-misses : t .misses ≡
     proceed-settles (no n) h = inr (ap refused h)
     proceed-settles (at p) h =
         let room : ltb (S .places) (length (t .queue) + placesNeeded x p) ≡ false =
-        le-ltb (S .places) (length (t .queue) + placesNeeded x p) (omega (arith, ap length no-queue, places-at-most-two x p, places-two S range)) in
+        le-ltb (S .places) (length (t .queue) + placesNeeded x p) (omega (arith, ap length no-queue, places-at-most-two x p h, places-two S range)) in
         let merge : any (entryFull S (addressOf x)) (t .misses) ≡ false = rw no-misses in
         let entry : leb (S .entries) (length (t .misses)) ≡ false =
         lt-leb (S .entries) (length (t .misses)) (omega (arith, ap length no-misses, entries-some S range)) in

@@ -95,16 +95,10 @@ used-miss : (x : Access) (s : Sector) → isInvalid (onSector x Miss s .status) 
 used-miss (Read a m k) s = refl
 used-miss (Write a m k) s = refl
 
-pub room-found : (x : Access) (n : Answer) → length (fetches x n ++ []) ≤ pick (isHit n) 0 (pick (isRead x) 2 1)
-room-found (Read a m k) Hit = omega arith
-room-found (Read a m k) HitReserved = omega arith
-room-found (Read a m k) Miss = omega arith
-room-found (Read a m k) SectorMiss = omega arith
-room-found (Write a m k) n = omega arith
-
-pub room-taken : (x : Access) (q : List Queued) → length q ≤ 1 → length (fetches x Miss ++ q) ≤ pick (isRead x) 2 1
-room-taken (Read a m k) q h = omega arith
-room-taken (Write a m k) q h = h
+-- one place for a read that misses, and what is written back
+pub fetches-one : (x : Access) (n : Answer) → length (fetches x n) ≤ 1
+fetches-one (Read a m k) n = by-flag (λ (q : List Queued). length q ≤ 1) (isMiss n) _ [] (λ e. omega arith) (λ e. omega arith)
+fetches-one (Write a m k) n = omega arith
 
 -- ---- the write-back of a line
 
@@ -206,7 +200,6 @@ module _ (S : Settings) (t : Tables) (ok : Sound S t) (some-ways : 1 ≤ S .ways
         used = used-table x (getD (l .sectors) (sectorIndex a) empty);
         backed = λ es. refl;
         quiet = λ c. refl;
-        room = room-found x (answerOf x (getD (l .sectors) (sectorIndex a) empty));
       }
 
   -- no way holds the block: no line does
@@ -273,7 +266,6 @@ module _ (S : Settings) (t : Tables) (ok : Sound S t) (some-ways : 1 ≤ S .ways
           used = used-miss x (getD (replicate 4 empty) (sectorIndex a) empty);
           backed = back-ok S t ok l m;
           quiet = back-quiet l;
-          room = room-taken x (writeBack l) (back-one l);
         }
 
 -- ---- an access, a tick, fresh tables

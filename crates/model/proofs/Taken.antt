@@ -253,7 +253,6 @@ pub record Spotted (S : Settings) (t : Tables) (x : Access) (p : Spot) : Type 0 
   pub used : isInvalid (onSector x (p .answer) (getD (p .line .sectors) (sectorIndex (addressOf x)) empty) .status) ≡ false
   pub backed : (es : List Entry) → all (queuedOk es) (p .backs) ≡ true
   pub quiet : (c : ℕ) → any (readingOf c) (p .backs) ≡ false
-  pub room : length (queues x p) ≤ placesNeeded x p
 
 -- the tables that `accept` leaves
 abbrev pub afterAccess : Settings → Access → Spot → Tables → Tables
@@ -509,5 +508,5 @@ module _ (S : Settings) (t : Tables) (ok : Sound S t) (x : Access) (formed : wel
         few = le-leb (length (u .misses)) (S .entries)
             (misses-few S x (p .answer) (t .misses) (leb-true (length (t .misses)) (S .entries) (ok .few)) entry);
         short = le-leb (length (u .queue)) (S .places)
-            (omega (arith, sp .room, ltb-false (S .places) (length (t .queue) + placesNeeded x p) roomy, length-append (t .queue) (queues x p)));
+            (omega (arith, ltb-false (S .places) (length (t .queue) + placesNeeded x p) roomy, length-append (t .queue) (queues x p)));
       }

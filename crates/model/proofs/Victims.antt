@@ -5,7 +5,7 @@ use mathlib.Core.Logic.{_⊎_, inl, inr, ⊎-elim}
 use mathlib.Core.Bool.{Bool, true, false, not, _&&_, true≢false}
 use mathlib.Core.List.{List, [], _∷_, _++_, map}
 use native.Mathlib.Omega.{arith}
-use lib.ListN.{length, getD}
+use lib.ListN.{length, getD, length-append}
 use lib.Dec.{eqb, ltb, leb}
 use borrow.Author.Tests.{eqb-true, leb-true, leb-false}
 use Rattle.model.specs.Words.{pick, any}
@@ -14,7 +14,7 @@ use Rattle.model.specs.Tables.{Line, writing, Tables, Outcome, refused, 
 use Rattle.model.specs.Sound.{maskOk, sectorOk, sound}
 use Rattle.model.specs.Tree.{treeChoice, levels}
 use Rattle.model.specs.Probe.{waysOf, dirtyLines, enoughDirty, candidate, first, last, earliest, Rule, byKey, byTree, choiceBy, orElse, victim, Spot, Place, no, at, writeBack, takeOver, meet, probe, ruleOf}
-use Rattle.model.specs.Steps.{isHit, isMerge, isMiss, queues, queuedEvent, placesNeeded, entryFull, accept, proceed, access}
+use Rattle.model.specs.Steps.{isMerge, isMiss, fetches, queues, queuedEvent, placesNeeded, entryFull, accept, proceed, access}
 use Rattle.model.specs.declared.Settings.{Settings}
 use Rattle.model.specs.declared.Status.{Status}
 use Rattle.model.specs.declared.Status.the-variants.{Invalid, Reserved, Valid, Modified}
@@ -31,7 +31,7 @@ use Rattle.model.proofs.Flags.{and-1, and-2, and-i, flag, not-yes, no-y
 use Rattle.model.proofs.Lists.{In, all-in, in-any, in-getD}
 use Rattle.model.proofs.SoundFacts.{parts, sectors-at}
 use Rattle.model.proofs.Ways.{Finds, last-finds, victim-finds, Last, last-is-last, Least, earliest-is-least, way-in}
-use Rattle.model.proofs.Offered.{room-found, room-taken, back-one}
+use Rattle.model.proofs.Offered.{fetches-one, back-one}
 
 -- "Every refusal returns its number and leaves all tables unchanged."
 pub refused-changes-nothing : {T : Type 0} (t : T) (o : Outcome T) (n : Refusal) → o ≡ refused n → after t o ≡ t
@@ -161,18 +161,20 @@ module _ (R : Rule) (S : Settings) (d : ℕ) (ways : List Line) (x : Access) (p 
 
   -- ---- the queue
 
-  -- what an access queues fits the places that it needs, which are two at most
-  pub queues-bounded : probe R S d ways x ≡ at p → length (queues x p) ≤ placesNeeded x p
-  queues-bounded h = go (probe-meets h)
+  -- nothing is written back but a victim
+  pub backs-at-most-one : probe R S d ways x ≡ at p → length (p .backs) ≤ 1
+  backs-at-most-one h = go (probe-meets h)
     where
-      go : Matched ways x p ⊎ Replaced R S d ways x p → length (queues x p) ≤ placesNeeded x p
-      go (inl m) = rw (m .backs) (room-found x (p .answer))
-      go (inr r) = rw (r .answer, r .backs) (room-taken x (writeBack (getD ways (p .way) fresh)) (back-one (getD ways (p .way) fresh)))
+      go : Matched ways x p ⊎ Replaced R S d ways x p → length (p .backs) ≤ 1
+      go (inl m) = rw (m .backs) (omega arith)
+      go (inr r) = rw (r .backs) (back-one (getD ways (p .way) fresh))
 
-pub places-at-most-two : (x : Access) (p : Spot) → placesNeeded x p ≤ 2
-places-at-most-two x p =
-    by-flag (λ (n : ℕ). n ≤ 2) (isHit (p .answer)) _ _
-    (λ e. omega arith) (λ e. by-flag (λ (n : ℕ). n ≤ 2) (isRead x) _ _ (λ f. omega arith) (λ f. omega arith))
+-- "an access needs exactly as many free places as it will queue"
+pub needed-is-queued : (x : Access) (p : Spot) → placesNeeded x p ≡ length (queues x p)
+needed-is-queued x p = refl
+
+pub places-at-most-two : (x : Access) (p : Spot) → length (p .backs) ≤ 1 → placesNeeded x p ≤ 2
+places-at-most-two x p h = omega (arith, length-append (fetches x (p .answer)) (p .backs), fetches-one x (p .answer))
 
 -- on sound tables a victim's masks are its dirty bytes: a sector's isn't 0 exactly if it is MODIFIED
 mask-says-modified : (c : Status) (m : ℕ) (r : Bool) → isReserved c ≡ false → maskOk c m r ≡ true → not (eqb m 0) ≡ isModified c

@@ -86,7 +86,7 @@ cases =
     ∷ case (narrow 60) (w 0 0xFF ∷ []) (w 256 0xFF) (no SetHeld)
     ∷ case (narrow 50) (w 0 0xFF ∷ []) (w 256 0xFF) (yes (Answered Miss 0 ∷ WriteBackQueued 0 0xFF 0 0 0 ∷ []) 1)
     ∷ case short [] (r 0) (yes (Answered Miss 1 ∷ ReadQueued 0 ∷ []) 0)
-    ∷ case short (r 0 ∷ []) (r 0) (no QueueFull)
+    ∷ case short (r 0 ∷ []) (r 0) (yes (Answered HitReserved 1 ∷ []) 0)
     ∷ []
 
 -- what each row's last call comes to

@@ -88,9 +88,9 @@ abbrev pub sentEvent : Queued → Event
 sentEvent (reading a) = ReadSent a
 sentEvent (writing b ms) = WriteBackSent b (getD ms 0 0) (getD ms 1 0) (getD ms 2 0) (getD ms 3 0)
 
--- "Every read that isn't a HIT needs two free queue places." "Every write that isn't a HIT needs one free place."
+-- L2: "an access needs exactly as many free places as it will queue"
 abbrev pub placesNeeded : Access → Spot → ℕ
-placesNeeded x p = pick (isHit (p .answer)) 0 (pick (isRead x) 2 1)
+placesNeeded x p = length (queues x p)
 
 -- ---- the access
 

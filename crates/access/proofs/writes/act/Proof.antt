@@ -12,7 +12,7 @@ use Rattle.access.proofs.writes.act.Statement.{statement}
 use Rattle.access.proofs.writes.act.Tie as tie
 use Rattle.access.proofs.writes.act_line.Reads as act-line-reads
 use Rattle.access.proofs.writes.act_queue.Reads as act-queue-reads
-use Rattle.access.proofs.writes.fetches.Reads as fetches-reads
+use Rattle.access.proofs.asked.fetches.Reads as fetches-reads
 use Rattle.access.proofs.writes.tell.Reads as tell-reads
 use Rattle.access.proofs.asked.ticket_of.Reads as ticket-of-reads
 use Rattle.access.proofs.writes.write_misses.Reads as write-misses-reads

@@ -1,6 +1,6 @@
 use borrow.Author.Needs.{needs}
-use Rattle.access.proofs.writes.fetches.Statement.{statement}
-use Rattle.access.proofs.writes.fetches.Tie as tie
+use Rattle.access.proofs.asked.fetches.Statement.{statement}
+use Rattle.access.proofs.asked.fetches.Tie as tie
 use Rattle.access.proofs.asked.is_miss.Reads as is-miss-reads
 use Rattle.access.proofs.asked.is_read.Reads as is-read-reads
 
