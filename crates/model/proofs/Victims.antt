@@ -33,10 +33,6 @@ use Rattle.model.proofs.SoundFacts.{parts, sectors-at}
 use Rattle.model.proofs.Ways.{Finds, last-finds, victim-finds, Last, last-is-last, Least, earliest-is-least, way-in}
 use Rattle.model.proofs.Offered.{fetches-one, back-one}
 
--- "Every refusal returns its number and leaves all tables unchanged."
-pub refused-changes-nothing : {T : Type 0} (t : T) (o : Outcome T) (n : Refusal) → o ≡ refused n → after t o ≡ t
-refused-changes-nothing t o n e = rw e
-
 -- ---- the victim
 
 module _ (R : Rule) (S : Settings) (d : ℕ) (ways : List Line) (w : ℕ) (chosen : victim R S d ways ≡ At w) where
