@@ -8,9 +8,8 @@
 //! another program nor a disturbance weighs on one side alone.
 
 mod library;
-mod plain;
-mod stream;
 
+use bench::{plain, stream};
 use library::Tables;
 use plain::{check::sound, Cache, Command, Events, Settings};
 use std::fmt::Write;

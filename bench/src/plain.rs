@@ -113,7 +113,7 @@ impl<'a> Events<'a> {
         self.written
     }
 
-    fn left(&self) -> usize {
+    pub fn left(&self) -> usize {
         self.room.len() - self.written
     }
 

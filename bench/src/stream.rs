@@ -54,6 +54,78 @@ impl Addresses {
     }
 }
 
+/// Whether a tick comes before each access, and how many accesses of a hundred are writes.
+#[derive(Clone, Copy)]
+pub struct Mix {
+    pub ticks: bool,
+    pub writes: u64,
+}
+
+pub const USUAL: Mix = Mix { ticks: true, writes: 30 };
+
+/// Makes the commands one after another and hands each on with its event bytes. They follow the
+/// cache's state, so a cache is kept beside them.
+pub fn generate(settings: Settings, accesses: usize, mix: Mix, mut sink: impl FnMut(Command, &[u8])) {
+    let mut cache = Cache::<false>::new(settings);
+    let mut room = [0; 64];
+    let mut make = |cache: &mut Cache<false>, command: Command| {
+        let mut events = Events::new(&mut room);
+        cache.call(command, &mut events);
+        let written = events.written();
+        sink(command, &room[..written]);
+    };
+    let blocks = 4 * settings.lines() as u64;
+    let mut addresses = Addresses { random: Random(1), recent: [0; RECENT], last: 0, blocks };
+    for number in 0..accesses as u32 {
+        if mix.ticks {
+            make(&mut cache, Command::Tick { cycle: number });
+        }
+        let address = addresses.next();
+        let access = if addresses.random.below(100) < 100 - mix.writes {
+            Command::Read { address, ticket: number }
+        } else {
+            Command::Write { address, mask: addresses.mask() }
+        };
+        make(&mut cache, access);
+        if cache.queued() > 0 {
+            make(&mut cache, Command::Send);
+        }
+        if let Some(address) = cache.first_sent() {
+            make(&mut cache, Command::Fill { address });
+        }
+    }
+}
+
+/// The settings record.
+pub fn settings_record(settings: Settings) -> Vec<u8> {
+    let [sets_low, sets_high, ..] = settings.sets.to_le_bytes();
+    let small = [settings.ways, settings.percent, settings.entries, settings.readers];
+    let mut bytes = vec![0, sets_low, sets_high];
+    bytes.extend(small.map(|number| number as u8));
+    bytes.push(settings.places as u8);
+    bytes
+}
+
+/// The record of a command, behind what stands there.
+pub fn record(bytes: &mut Vec<u8>, command: Command) {
+    match command {
+        Command::Read { address, ticket } => put(bytes, 1, &address.to_le_bytes(), ticket),
+        Command::Write { address, mask } => put(bytes, 2, &address.to_le_bytes(), mask),
+        Command::Send => bytes.push(3),
+        Command::Fill { address } => {
+            bytes.push(4);
+            bytes.extend(address.to_le_bytes());
+        }
+        Command::Tick { cycle } => put(bytes, 5, &[], cycle),
+    }
+}
+
+fn put(bytes: &mut Vec<u8>, kind: u8, first: &[u8], second: u32) {
+    bytes.push(kind);
+    bytes.extend(first);
+    bytes.extend(second.to_le_bytes());
+}
+
 /// A stream, what it holds, and the event bytes of every call in it.
 pub struct Measured {
     pub settings: Settings,
@@ -65,63 +137,15 @@ pub struct Measured {
 
 impl Measured {
     pub fn new(settings: Settings, accesses: usize) -> Measured {
-        let [sets_low, sets_high, ..] = settings.sets.to_le_bytes();
-        let small = [settings.ways, settings.percent, settings.entries, settings.readers];
-        let mut bytes = vec![0, sets_low, sets_high];
-        bytes.extend(small.map(|number| number as u8));
-        bytes.push(settings.places as u8);
+        let bytes = settings_record(settings);
         let mut made =
             Measured { settings, bytes, accesses, commands: Vec::new(), log: Vec::new() };
-        made.fill_in();
+        generate(settings, accesses, USUAL, |command, events| {
+            record(&mut made.bytes, command);
+            made.commands.push(command);
+            made.log.extend(events);
+        });
         made
-    }
-
-    /// The commands follow the cache's state, so a cache is kept beside them.
-    fn fill_in(&mut self) {
-        let mut cache = Cache::<false>::new(self.settings);
-        let blocks = 4 * self.settings.lines() as u64;
-        let mut addresses = Addresses { random: Random(1), recent: [0; RECENT], last: 0, blocks };
-        for number in 0..self.accesses as u32 {
-            self.add(&mut cache, Command::Tick { cycle: number });
-            let address = addresses.next();
-            let access = if addresses.random.below(100) < 70 {
-                Command::Read { address, ticket: number }
-            } else {
-                Command::Write { address, mask: addresses.mask() }
-            };
-            self.add(&mut cache, access);
-            if cache.queued() > 0 {
-                self.add(&mut cache, Command::Send);
-            }
-            if let Some(address) = cache.first_sent() {
-                self.add(&mut cache, Command::Fill { address });
-            }
-        }
-    }
-
-    fn add(&mut self, cache: &mut Cache<false>, command: Command) {
-        let mut room = [0; 64];
-        let mut events = Events::new(&mut room);
-        cache.call(command, &mut events);
-        let written = events.written();
-        self.log.extend(&room[..written]);
-        self.commands.push(command);
-        match command {
-            Command::Read { address, ticket } => self.record(1, &address.to_le_bytes(), ticket),
-            Command::Write { address, mask } => self.record(2, &address.to_le_bytes(), mask),
-            Command::Send => self.bytes.push(3),
-            Command::Fill { address } => {
-                self.bytes.push(4);
-                self.bytes.extend(address.to_le_bytes());
-            }
-            Command::Tick { cycle } => self.record(5, &[], cycle),
-        }
-    }
-
-    fn record(&mut self, kind: u8, first: &[u8], second: u32) {
-        self.bytes.push(kind);
-        self.bytes.extend(first);
-        self.bytes.extend(second.to_le_bytes());
     }
 
     /// Accesses by answer, HIT to SECTOR_MISS, and refused ones, in a hundred.
