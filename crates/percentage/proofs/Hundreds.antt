@@ -1,7 +1,7 @@
 -- What the list of differences comes to: at 100, 200, .. 1,000 lines, 53 of each hundred at P = 53 and 59 at P = 59. Assumes nothing.
 use mathlib.Core.Path.{_≡_, refl, sym, ap, ap₂, _∙_}
 use mathlib.Core.List.{List, [], _∷_, _++_, flatMap}
-use mathlib.Core.Bool.{Bool, true, false, _&&_}
+use mathlib.Core.Bool.{true, false}
 use mathlib.Core.Logic.{_⊎_, inl, inr, ⊎-elim}
 use Prim.Native.Nat.{ℕ, zero, suc, _+_, _-_, _*_, _%_, _≤_, _<_, zero-le}
 use native.Mathlib.Nat.{eq-of-mul-eq-mul-left, eq-of-mul-eq-mul-right, mul-left-comm}

@@ -1,16 +1,16 @@
--- What the range test says, and where the float answer and the whole-number answer agree.
+-- What the range test says; ours as the engine's rule, and the refusal's number; quotient, product and order of floats by the fractions that
+-- they are; and that at a power of two, where nothing is rounded, the two answers are the same. Other sizes: Ties. Assumes nothing.
 use mathlib.Core.Path.{_≡_, refl, sym, ap, ap₂, _∙_, subst}
-use mathlib.Core.Bool.{Bool, true, false, not, _&&_, _||_, cond, Bool·beq, true≢false}
-use Prim.Native.Nat.{ℕ, suc, _+_, _-_, _*_, _^_, _≤_, _<_}
-use native.Mathlib.Nat.{le-trans, le-of-eq, lt-of-lt-of-le, lt-of-le-of-lt, not-le-of-lt, lt-irrefl, mul-one, one-mul, mul-comm, mul-assoc, mul-left-comm, mul-right-comm, mul-pos, mul-mul-mul-comm}
+use mathlib.Core.Bool.{Bool, true, false, _&&_, _||_, cond, Bool·beq, true≢false}
+use Prim.Native.Nat.{ℕ, _+_, _-_, _*_, _^_, _≤_, _<_}
+use native.Mathlib.Nat.{le-trans, le-of-eq, lt-of-lt-of-le, lt-of-le-of-lt, not-le-of-lt, mul-one, one-mul, mul-comm, mul-assoc, mul-left-comm, mul-pos, mul-mul-mul-comm}
 use native.Mathlib.Omega.{arith}
 use lib.Dec.{T, leb, ltb, eqb, leb→le, le→leb, ltb→lt, eqb→eq, lit<, lit≤}
 use native.Mathlib.Decide.{decLe}
 use lib.Pow.{pow-add, pow-pos, pow-mono, pow-lt, shl-lt}
-use lib.IntN.{ℤ, pos}
 use lib.Ieee.{Float, nan, inf, fin, Format, binary32, up, down, round, div, mul, le, ofInt}
 use lib.Ieee.Digits.{back}
-use lib.Ieee.Fits.{up-pos, down-pos, and-l, and-r}
+use lib.Ieee.Fits.{down-pos, and-l, and-r}
 use lib.Ieee.Exact.{HasValue, round-exact}
 use lib.Ieee.Order.{transfer, le-of-values}
 use lib.Ieee.Scale.{round-same}
@@ -168,18 +168,12 @@ agree-at d l p k e r =
     rw e
     (agree d k p (exponent k (subst (λ (z : ℕ). z ≤ 1024) e (r .most))) (subst (λ (z : ℕ). d ≤ z) e (r .part)) (r .cent))
 
+pub powers-agree : (S : Settings) (d k : ℕ) → linesOf S ≡ 2 ^ k → Ranged d (linesOf S) (S .percent) → floatMeets d (linesOf S) (S .percent) ≡ enoughDirty S d
+powers-agree S d k e r = agree-at d (linesOf S) (S .percent) k e r ∙ sym (ours S d)
+
 pub same-answer : (d l p k : ℕ) → l ≡ 2 ^ k → answer (inRange d l p) (floatMeets d l p) ≡ answer (inRange d l p) (wholeMeets d l p)
 same-answer d l p k e = go (inRange d l p) (λ t. agree-at d l p k e (ranged d l p t))
   where
     go : (b : Bool) → (b ≡ true → floatMeets d l p ≡ wholeMeets d l p) → answer b (floatMeets d l p) ≡ answer b (wholeMeets d l p)
     go true h = ap Meets (h refl)
     go false h = refl
-
--- ---- two sizes where they differ: 53 of 100 is 52.999996 in floats, and 59 of 100 is 58.999996
-pub at-53 : (floatMeets 53 100 53 ≡ false) × (wholeMeets 53 100 53 ≡ true)
-unfolding floatMeets wholeMeets ofInt div mul le
-at-53 = (refl, refl)
-
-pub at-59 : (floatMeets 59 100 59 ≡ false) × (wholeMeets 59 100 59 ≡ true)
-unfolding floatMeets wholeMeets ofInt div mul le
-at-59 = (refl, refl)

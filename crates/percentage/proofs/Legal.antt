@@ -1,8 +1,8 @@
 -- The sizes that settings in range allow, sets × ways: how one is known, and that the two answers agree at each. Assumes nothing.
 use mathlib.Core.Path.{_≡_, refl, sym, ap, _∙_}
-use mathlib.Core.Bool.{Bool, true, false, not, _&&_, _||_, Bool·beq, true≢false}
+use mathlib.Core.Bool.{true, false, not, _&&_, Bool·beq}
 use mathlib.Core.Logic.{⊎-elim}
-use Prim.Native.Nat.{ℕ, _+_, _-_, _*_, _/_, _%_, _≤_, _<_}
+use Prim.Native.Nat.{ℕ, _-_, _*_, _/_, _%_, _≤_}
 use native.Mathlib.Nat.{le-trans, div-le-self, le-mul-of-pos-right, div-add-mod', mul-div-cancel, mul-mod-left, mul-mod-right}
 use native.Mathlib.Omega.{arith}
 use lib.Dec.{leb, eqb}
@@ -15,7 +15,7 @@ use Rattle.model.specs.declared.Settings.{Settings}
 use Rattle.model.proofs.Below.{every-at}
 use Rattle.model.proofs.Flags.{and-i, or-cases, clash}
 use Rattle.model.proofs.Fits.{ranged}
-use Rattle.percentage.specs.Percent.{floatMeets, wholeMeets, Ranged, Legal}
+use Rattle.percentage.specs.Percent.{floatMeets, wholeMeets, Legal}
 use Rattle.percentage.specs.Differences.{differ}
 use Rattle.percentage.proofs.Laws.{ours, agreed}
 use Rattle.percentage.proofs.Ties.{short, differ-no}

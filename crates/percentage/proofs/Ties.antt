@@ -2,13 +2,12 @@
 -- Away from such a tie a fraction over 2 ^ 17, which no step rounds, lies between dirty / lines and P / 100, since lines is at most 1,024;
 -- rounding keeps the order, so it cannot carry the percentage past P. At a tie the answer is that of P lines of 100.
 use mathlib.Core.Path.{_≡_, refl, sym, ap, ap₂, _∙_, subst}
-use mathlib.Core.Bool.{Bool, true, false, not, _&&_, _||_, cond, Bool·beq, true≢false}
+use mathlib.Core.Bool.{Bool, true, false, not, _&&_, _||_, cond, Bool·beq}
 use mathlib.Core.Logic.{⊎-elim}
 use Prim.Native.Nat.{ℕ, zero, suc, _+_, _-_, _*_, _/_, _^_, _≤_, _<_, zero-le}
 use native.Mathlib.Nat.{le-trans, le-of-eq, not-le-of-lt, lt-of-not-le, lt-of-le-of-lt, add-mul, mul-one, one-mul, mul-comm, mul-right-comm, mul-le-mul-right}
 use native.Mathlib.Omega.{arith}
-use lib.Dec.{T, leb, ltb, eqb, lit<}
-use lib.IntN.{ℤ, pos}
+use lib.Dec.{T, ltb, eqb, lit<}
 use lib.Ieee.{Float, nan, inf, fin, Format, binary32, low, emax, prec, up, down, odd, units, round, div, mul, le, ofInt}
 use lib.Ieee.Fits.{down-pos}
 use lib.Ieee.Exact.{HasValue}

@@ -1,7 +1,7 @@
 -- Where the float answer and the whole-number answer differ: the list of all triples of lines, dirty and P, rising, and what is kept of it.
 use mathlib.Core.Path.{_≡_}
 use mathlib.Core.List.{List, [], _∷_, _++_, map, flatMap}
-use mathlib.Core.Bool.{Bool, true, false, cond, not, _&&_, Bool·beq}
+use mathlib.Core.Bool.{Bool, true, false, cond, not, Bool·beq}
 use Prim.Native.Nat.{ℕ, zero, suc, _+_, _-_, _*_, _≤_, _<_}
 use lib.ListN.{length, drop}
 use Rattle.percentage.specs.Percent.{floatMeets, wholeMeets, Ranged, outOfRange}

@@ -1,6 +1,6 @@
 -- Document 02, L11: the dirty percentage "in 32-bit floats", and the engine's rule beside it. The answers with their refusal; the sizes that
 -- settings in range allow.
-use Prim.Native.Nat.{ℕ, _*_, _≤_}
+use Prim.Native.Nat.{ℕ, _≤_}
 use mathlib.Core.Path.{_≡_}
 use mathlib.Core.Bool.{Bool, true, false, _&&_}
 use lib.Dec.{leb}

@@ -1,7 +1,7 @@
 -- `percentage::next` meets its contract. The invariant: the place is one to start from, and what is left from it is what was left from the first place.
 -- The measure counts lines, then dirty, then P, down. Assumes nothing.
-use mathlib.Core.Path.{_≡_, refl, sym, ap, _∙_}
-use Prim.Native.Nat.{ℕ, _+_, _-_, _*_, _≤_, _<_}
+use mathlib.Core.Path.{_≡_, refl, sym, _∙_}
+use Prim.Native.Nat.{_+_, _-_, _*_}
 use native.Mathlib.Omega.{arith}
 use borrow.Author.Needs.{needs}
 use Rattle.percentage.specs.Differences.{Startable, rest}
