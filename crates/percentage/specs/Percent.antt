@@ -29,13 +29,13 @@ unfoldable pub floatMeets : ℕ → ℕ → ℕ → Bool
 unfolding percentOf
 floatMeets d l p = le (single p) (percentOf d l)
 
--- settings with these lines and this P, to put to the engine's rule sizes that are no cache's
-abbrev pub sized : ℕ → ℕ → Settings
-sized l p = record { sets = 1; ways = l; percent = p; entries = 1; readers = 1; places = 2 }
+-- settings with these sets, ways and P, the others the least in range; as one set of any number of ways they put any size to the engine's rule
+abbrev pub cacheOf : ℕ → ℕ → ℕ → Settings
+cacheOf s w p = record { sets = s; ways = w; percent = p; entries = 1; readers = 1; places = 2 }
 
 -- ours: the engine's own rule
 unfoldable pub wholeMeets : ℕ → ℕ → ℕ → Bool
-wholeMeets d l p = enoughDirty (sized l p) d
+wholeMeets d l p = enoughDirty (cacheOf 1 l p) d
 
 -- ---- the refusal
 
