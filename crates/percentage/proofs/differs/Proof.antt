@@ -1,0 +1,24 @@
+-- `percentage::differs` meets its contract: it compares what the two callees ensure. Assumes nothing.
+use mathlib.Core.Path.{ap₂}
+use mathlib.Core.Bool.{Bool, not, Bool·beq}
+use borrow.Author.Needs.{needs}
+use Rattle.percentage.specs.Differences.{differ}
+use Rattle.percentage.proofs.differs.Statement.{statement}
+use Rattle.percentage.proofs.differs.Tie as tie
+use Rattle.percentage.proofs.differs.Reads as reads
+use Rattle.percentage.proofs.differs.Lts as lts
+use Rattle.percentage.proofs.float_meets.Reads as float-meets-reads
+use Rattle.percentage.proofs.whole_meets.Reads as whole-meets-reads
+
+float-meets-requires : tie.Need-float-meets-requires
+float-meets-requires c κs = search needs
+
+whole-meets-requires : tie.Need-whole-meets-requires
+whole-meets-requires c κs = search needs
+
+returns : tie.Need-returns
+unfolding differ
+returns c = ap₂ (λ (a b : Bool). not (Bool·beq a b)) (c .before .float-meets .ensures) (c .whole-meets .ensures)
+
+pub differs-spec : {M : Type 1} → statement M
+differs-spec = tie.close (tie.spec float-meets-requires whole-meets-requires returns)

@@ -1,0 +1,39 @@
+-- `percentage::float_meets` meets its contract: each cast is of a number below 2 ^ 24, and the rest is what the code does. Assumes nothing.
+use mathlib.Core.Path.{_≡_, refl, ap}
+use Prim.Native.Nat.{ℕ, _^_, _≤_}
+use native.Mathlib.Omega.{arith}
+use lib.Dec.{T, le→leb}
+use lib.IntN.{pos}
+use lib.Ieee.{Float, binary32, inFloat, ofInt, ofBits, mul, div, le}
+use Rattle.percentage.specs.Percent.{single, floatMeets}
+use Rattle.percentage.proofs.float_meets.Statement.{statement}
+use Rattle.percentage.proofs.float_meets.Tie as tie
+use Rattle.percentage.proofs.float_meets.Reads as reads
+use Rattle.percentage.proofs.float_meets.Lts as lts
+
+held : (n : ℕ) → n ≤ 1024 → T (inFloat binary32 (pos n))
+unfolding inFloat
+held n h = le→leb n (2 ^ 24) (omega arith)
+
+-- the literal 100.0
+hundred : ofBits binary32 0x42c80000 ≡ single 100
+unfolding ofBits ofInt
+hundred = refl
+
+int-to-float-part : tie.Need-int-to-float-part
+int-to-float-part c = held _ (omega arith)
+
+int-to-float-part-2 : tie.Need-int-to-float-part-2
+int-to-float-part-2 c = held _ (omega arith)
+
+int-to-float-result : tie.Need-int-to-float-result
+int-to-float-result c = held _ (omega arith)
+
+returns : tie.Need-returns
+unfolding floatMeets
+returns c =
+    let a = c .before .before .before .args in
+    ap (λ (z : Float). le (single (a .percent)) (mul binary32 (div binary32 (single (a .dirty)) (single (a .lines))) z)) hundred
+
+pub float-meets-spec : {M : Type 1} → statement M
+float-meets-spec = tie.close (tie.spec int-to-float-part int-to-float-part-2 int-to-float-result returns)

@@ -1,0 +1,122 @@
+-- `percentage::list` meets its contract. Assumes nothing.
+use Prim.Native.Nat.{ℕ, _+_, _-_, _≤_}
+use mathlib.Core.Path.{_≡_, subst}
+use native.Mathlib.Omega.{arith}
+use borrow.Author.Needs.{needs}
+use lib.ListN.{length, length-set}
+use Rattle.percentage.specs.Differences.{Startable, Next, rest}
+use Rattle.percentage.specs.declared.Found.{Found}
+use Rattle.percentage.specs.declared.Found.the-variants.{At, Nothing, Refused}
+use types.Run.{OneOf}
+use denote.Enum.Declared.{tagOf}
+use Rattle.percentage.proofs.Found.{the-type}
+use mathlib.Core.List.{[], _∷_}
+use mathlib.Core.Logic.{⊎-elim}
+use Rattle.percentage.proofs.Writes.{Written, written-first, written-more, written-all, written-room, written-none}
+use Rattle.percentage.proofs.list.Statement.{statement}
+use Rattle.percentage.proofs.list.Tie as tie
+use Rattle.percentage.proofs.list.Reads as reads
+use Rattle.percentage.proofs.list.Lts as lts
+use Rattle.percentage.proofs.next.Reads as next-reads
+
+abbrev Inv-loop : tie.InvT-loop
+Inv-loop out₀ d₀ l₀ p₀ n₀ out d l p n = Startable d l p × Written out₀ out n (rest d l p) × (60 ≤ length out₀)
+
+abbrev μ-loop : tie.MeasureT-loop
+μ-loop out₀ d₀ l₀ p₀ n₀ out d l p n = length out₀ - n
+
+-- where no difference was found none is left
+none-left : (d l p : ℕ) (r : Found) → OneOf (1 ∷ 2 ∷ []) (tagOf the-type r) → Next d l p r → rest d l p ≡ []
+none-left d l p (At t) o h = ⊎-elim (λ e. absurd (omega arith)) (λ e. absurd (omega arith)) o
+none-left d l p Nothing o h = h
+none-left d l p (Refused n) o h = absurd h
+
+module _ (c : lts.After-known-told (next-reads.Asked, next-reads.Learnt) reads.Pre reads.Post Inv-loop μ-loop) where
+  hit : let v = c .before .before .before .before .loop in Next (v .d) (v .l) (v .p) (At (c .before .found .given .0 .0))
+  hit = let v = c .before .before .before .before .loop in subst (Next (v .d) (v .l) (v .p)) (c .before .found .given .1) (c .before .before .before .next .ensures)
+
+  room : let v = c .before .before .before .before .loop in v .n + 3 ≤ length (v .out)
+  room = let v = c .before .before .before .before .loop in written-room _ (v .out) (v .n) _ (v .inv .1) (c .before .found .given .0 .0) _ (hit .1) (v .inv .2)
+
+returns : tie.Need-returns Inv-loop μ-loop
+returns c = written-none _ (c .if1 .taken)
+
+loop-holds : tie.Need-loop-holds Inv-loop μ-loop
+loop-holds c = (omega arith, written-first _, c .if1 .left)
+
+next-requires : tie.Need-next-requires Inv-loop μ-loop
+next-requires c κs = c .loop .inv .0
+
+enum-known-found : tie.Need-enum-known-found Inv-loop μ-loop
+enum-known-found c = c .match .keys1
+
+same-length : tie.Need-same-length Inv-loop μ-loop
+same-length c = c .before .before .loop .inv .1 .long
+
+returns-2 : tie.Need-returns-2 Inv-loop μ-loop
+returns-2 c =
+    let v = c .before .before .loop in
+    written-all _ (v .out) (v .n) _ (v .inv .1) (none-left (v .d) (v .l) (v .p) (c .before .next .result) (c .match .keys2) (c .before .next .ensures))
+
+mul-out : tie.Need-mul-out Inv-loop μ-loop
+mul-out c = search needs
+
+slice-write-out : tie.Need-slice-write-out Inv-loop μ-loop
+slice-write-out c = omega (arith, room c)
+
+add-out : tie.Need-add-out Inv-loop μ-loop
+add-out c = search needs
+
+mul-out-2 : tie.Need-mul-out-2 Inv-loop μ-loop
+mul-out-2 c = search needs
+
+slice-write-out-2 : tie.Need-slice-write-out-2 Inv-loop μ-loop
+slice-write-out-2 c = simp length-set (omega (arith, room c))
+
+add-out-2 : tie.Need-add-out-2 Inv-loop μ-loop
+add-out-2 c = search needs
+
+mul-out-3 : tie.Need-mul-out-3 Inv-loop μ-loop
+mul-out-3 c = search needs
+
+slice-write-out-3 : tie.Need-slice-write-out-3 Inv-loop μ-loop
+slice-write-out-3 c = simp length-set (omega (arith, room c))
+
+add-p : tie.Need-add-p Inv-loop μ-loop
+add-p c = omega (arith, hit c .0 .cent)
+
+add-n : tie.Need-add-n Inv-loop μ-loop
+add-n c = search needs
+
+loop-less : tie.Need-loop-less Inv-loop μ-loop
+loop-less c = omega (arith, room c)
+
+loop-again : tie.Need-loop-again Inv-loop μ-loop
+loop-again c =
+    let v = c .before .before .before .before .loop in
+    (omega (arith, hit c .0 .some, hit c .0 .most, hit c .0 .part, hit c .0 .cent), written-more _ (v .out) (v .n) _ (v .inv .1) (c .before .found .given .0 .0) _ (hit c .1) (room c), v .inv .2)
+
+pub list-spec : {M : Type 1} → statement M
+list-spec =
+    tie.close
+    (tie.spec
+    Inv-loop
+    μ-loop
+    returns
+    loop-holds
+    next-requires
+    enum-known-found
+    same-length
+    returns-2
+    mul-out
+    slice-write-out
+    add-out
+    mul-out-2
+    slice-write-out-2
+    add-out-2
+    mul-out-3
+    slice-write-out-3
+    add-p
+    add-n
+    loop-less
+    loop-again)

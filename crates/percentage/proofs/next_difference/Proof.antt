@@ -1,0 +1,29 @@
+-- `percentage::next_difference` meets its contract: what `in_range` answers picks the case. Assumes nothing.
+use mathlib.Core.Path.{refl, sym, _∙_}
+use Prim.Native.Nat.{ℕ}
+use native.Mathlib.Omega.{arith}
+use borrow.Author.Needs.{needs}
+use Rattle.percentage.specs.Percent.{Ranged}
+use Rattle.percentage.specs.Differences.{Startable}
+use Rattle.percentage.proofs.Laws.{ranged}
+use Rattle.percentage.proofs.next_difference.Statement.{statement}
+use Rattle.percentage.proofs.next_difference.Tie as tie
+
+-- a triple in range is a place to start from
+place : {d l p : ℕ} → Ranged d l p → Startable d l p
+place r = record { some = r .some; most = r .most; part = r .part; cent = omega (arith, r .cent) }
+
+in-range-requires : tie.Need-in-range-requires
+in-range-requires c κs = search needs
+
+next-requires : tie.Need-next-requires
+next-requires c κs = place (ranged _ _ _ (sym (c .before .in-range .ensures) ∙ c .if1 .taken))
+
+returns : tie.Need-returns
+returns c = rw (sym (c .before .before .in-range .ensures) ∙ c .before .if1 .taken) (c .next .ensures)
+
+returns-2 : tie.Need-returns-2
+returns-2 c = rw (sym (c .before .in-range .ensures) ∙ c .if1 .left) refl
+
+pub next-difference-spec : {M : Type 1} → statement M
+next-difference-spec = tie.close (tie.spec in-range-requires next-requires returns returns-2)
