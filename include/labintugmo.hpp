@@ -708,12 +708,14 @@ public:
     RunResult run(const std::uint8_t* stream, std::size_t length, std::uint8_t* events,
                   std::size_t room) {
         std::array<std::uint64_t, 2> counts{};
+        const Settings asked =
+            length >= detail::settings_record ? detail::settings_of(stream) : Settings{};
         const std::uint32_t stop = labintugmo_run(
             stream, length, events, room, tables_.longs.data(), tables_.longs.size(),
             tables_.words.data(), tables_.words.size(), tables_.marks.data(),
             tables_.marks.size(), counts.data(), counts.size());
         if (counts[0] >= detail::settings_record) {
-            settings_ = detail::settings_of(stream);
+            settings_ = asked;
         }
         return {static_cast<Stop>(stop), counts[0], counts[1]};
     }
