@@ -15,11 +15,15 @@
  *  - Every call but the lengths and labintugmo_fresh checks the tables that it is lent, so
  *    tables that something else has changed are refused (3) and never acted on.
  *  - A refused call leaves all three slices as they were.
+ *  - A call takes less than LABINTUGMO_STACK bytes of stack, whatever the settings.
  *
  * Linking: libexported.a, for x86-64 Linux; it needs nothing but the C library.
  */
 #ifndef LABINTUGMO_H
 #define LABINTUGMO_H
+
+/* The version, here and nowhere else: CMake, pkg-config and ./labintugmo read this line. */
+#define LABINTUGMO_VERSION "1.1.0"
 
 #include <stddef.h>
 #include <stdint.h>
@@ -43,6 +47,9 @@ extern "C" {
 
 /* Bytes of event room that a call, and that wait, asks for before it does anything. */
 enum { LABINTUGMO_ROOM = 64, LABINTUGMO_WAIT_ROOM = 9600 };
+
+/* Bytes of stack that suffice for any call, with the C library's copying of memory. */
+enum { LABINTUGMO_STACK = 4096 };
 
 /* A line has 128 bytes, its four sectors have 32 each; addresses are below 2^48. */
 enum { LABINTUGMO_LINE_BYTES = 128, LABINTUGMO_SECTOR_BYTES = 32, LABINTUGMO_SECTORS = 4 };

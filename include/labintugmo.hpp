@@ -5,8 +5,8 @@
 // the cache; whole runs.
 //
 // A refusal is a value, never an exception; only memory that cannot be had throws, from
-// std::vector. A Cache owns its tables and may be copied and moved. It has no lock: a cache
-// that several threads use needs one around it.
+// std::vector, and then nothing has changed. A Cache owns its tables and may be copied and
+// moved. It has no lock: a cache that several threads use needs one around it.
 #ifndef LABINTUGMO_HPP
 #define LABINTUGMO_HPP
 
@@ -141,6 +141,7 @@ enum class Stop : std::uint32_t {
     end = LABINTUGMO_END,
     bad_settings = LABINTUGMO_BAD_SETTINGS,
     other_length = LABINTUGMO_OTHER_LENGTH,
+    not_sound = LABINTUGMO_NOT_SOUND,
     settings_place = LABINTUGMO_SETTINGS_PLACE,
     unknown_kind = LABINTUGMO_UNKNOWN_KIND,
     cut_short = LABINTUGMO_CUT_SHORT,
@@ -180,6 +181,7 @@ inline const char* name(Stop stop) noexcept {
     case Stop::end: return "end of input";
     case Stop::bad_settings: return "bad settings";
     case Stop::other_length: return "lent tables of another length";
+    case Stop::not_sound: return "tables not sound";
     case Stop::settings_place: return "settings not first, or another kind first";
     case Stop::unknown_kind: return "unknown kind";
     case Stop::cut_short: return "cut short";
@@ -356,7 +358,8 @@ public:
     Log(const std::uint8_t* bytes, std::size_t length) noexcept : bytes_(bytes), length_(length) {}
     explicit Log(const std::vector<std::uint8_t>& bytes) noexcept
         : Log(bytes.data(), bytes.size()) {}
-    explicit Log(std::vector<std::uint8_t>&&) = delete;  // it would be gone before it is read
+    // It would be gone before it is read.
+    explicit Log(const std::vector<std::uint8_t>&&) = delete;
 
     EventIterator begin() const noexcept { return {bytes_, length_}; }
     EventIterator end() const noexcept { return {}; }
@@ -378,10 +381,11 @@ private:
 // ---- What the calls return ----
 
 // The records of one call, with the refusal if it was refused. It can be gone through event
-// by event: `for (const Event& event : cache.send())`.
-class CallResult {
+// by event: `for (const Event& event : cache.send())`. One that no call made is not accepted
+// and has no refusal.
+class [[nodiscard]] CallResult {
 public:
-    bool accepted() const noexcept { return !refusal(); }
+    bool accepted() const noexcept { return size_ != 0 && !refusal(); }
     explicit operator bool() const noexcept { return accepted(); }
     std::optional<Refusal> refusal() const noexcept {
         const auto refused = find<Refused>();
@@ -412,7 +416,7 @@ protected:
     std::size_t size_ = 0;
 };
 
-struct AccessResult : CallResult {
+struct [[nodiscard]] AccessResult : CallResult {
     std::optional<Answer> answer() const noexcept {
         const auto answered = find<Answered>();
         return answered ? std::optional<Answer>(answered->answer) : std::nullopt;
@@ -428,12 +432,12 @@ struct AccessResult : CallResult {
 };
 
 // An accepted send has one of the two.
-struct SendResult : CallResult {
+struct [[nodiscard]] SendResult : CallResult {
     std::optional<ReadSent> read() const noexcept { return find<ReadSent>(); }
     std::optional<WriteBackSent> write_back() const noexcept { return find<WriteBackSent>(); }
 };
 
-struct FillResult : CallResult {
+struct [[nodiscard]] FillResult : CallResult {
     // In order of arrival.
     std::vector<std::uint32_t> tickets() const {
         std::vector<std::uint32_t> tickets;
@@ -449,7 +453,7 @@ struct FillResult : CallResult {
 using TickResult = CallResult;
 
 // The events of all rounds, without the refusals of offers; a last refusal stands at the end.
-class WaitResult {
+class [[nodiscard]] WaitResult {
 public:
     bool accepted() const noexcept { return round_ != 0; }
     explicit operator bool() const noexcept { return accepted(); }
@@ -474,10 +478,11 @@ private:
     std::uint64_t round_ = 0;
 };
 
-struct RunResult {
-    Stop stop;
-    std::uint64_t consumed;
-    std::uint64_t written;
+// One that no run made has stopped before its settings.
+struct [[nodiscard]] RunResult {
+    Stop stop = Stop::settings_place;
+    std::uint64_t consumed = 0;
+    std::uint64_t written = 0;
 };
 
 // ---- Accesses and command streams ----
@@ -547,12 +552,36 @@ private:
 
 // ---- The cache ----
 
-// One cache with its tables. They are sound at all times, since nothing else can write them;
-// so its calls are refused with 4 to 12 only.
+namespace detail {
+
+// The functions by which a Cache steps, named here and nowhere else.
+namespace steps {
+inline constexpr auto read = labintugmo_read;
+inline constexpr auto write = labintugmo_write;
+inline constexpr auto send = labintugmo_send;
+inline constexpr auto fill = labintugmo_fill;
+inline constexpr auto tick = labintugmo_tick;
+}  // namespace steps
+
+// A call on settings and tables, const or not.
+template <class Function, class Lent, class... Arguments>
+auto lend(Function function, const Settings& s, Lent& tables, Arguments... arguments) {
+    return function(s.sets, s.ways, s.percent, s.entries, s.readers, s.places,
+                    tables.longs.data(), tables.longs.size(), tables.words.data(),
+                    tables.words.size(), tables.marks.data(), tables.marks.size(),
+                    arguments...);
+}
+
+}  // namespace detail
+
+// One cache with its tables. They are sound at all times: made fresh, or checked once when
+// they come from elsewhere, and written by nobody else; so its calls are refused with 4 to 12
+// only. A cache that was moved from or released is empty: it has no settings and no tables,
+// nothing is queued or missed, its cycle is 0, and every call on it is refused with 1.
 class Cache {
 public:
     // A fresh cache; none if a setting is out of range.
-    static std::optional<Cache> make(const Settings& settings) {
+    [[nodiscard]] static std::optional<Cache> make(const Settings& settings) {
         Cache cache(settings, Tables::zero(settings));
         if (cache.reset()) {
             return std::nullopt;
@@ -560,11 +589,44 @@ public:
         return cache;
     }
 
+    // A cache with tables that come from elsewhere, checked once. It has a copy of its own, so
+    // that nothing which still points into the vectors reaches it. None if they are refused;
+    // `why`, if given, then has 1, 2 or 3.
+    [[nodiscard]] static std::optional<Cache> adopt(const Settings& settings,
+                                                    const Tables& tables,
+                                                    Refusal* why = nullptr) {
+        Cache cache(settings, tables);
+        if (const auto refused = cache.check()) {
+            if (why != nullptr) {
+                *why = *refused;
+            }
+            return std::nullopt;
+        }
+        return cache;
+    }
+
+    Cache(const Cache&) = default;
+    Cache(Cache&& other) noexcept
+        : settings_(std::exchange(other.settings_, Settings{})),
+          tables_(std::exchange(other.tables_, Tables{})) {}
+    // Settings and tables change together or not at all.
+    Cache& operator=(const Cache& other) {
+        Cache copy(other);
+        return *this = std::move(copy);
+    }
+    Cache& operator=(Cache&& other) noexcept {
+        settings_ = std::exchange(other.settings_, Settings{});
+        tables_ = std::exchange(other.tables_, Tables{});
+        return *this;
+    }
+    ~Cache() = default;
+
+    bool empty() const noexcept { return tables_.longs.empty(); }
     const Settings& settings() const noexcept { return settings_; }
     const Tables& tables() const noexcept { return tables_; }
     Layout layout() const noexcept { return Layout(settings_); }
 
-    std::uint32_t cycle() const noexcept { return tables_.words[0]; }
+    std::uint32_t cycle() const noexcept { return empty() ? 0 : tables_.words[0]; }
     // Queue places in use.
     std::size_t queued() const noexcept {
         return used(layout().queue_kind(0), settings_.places);
@@ -575,47 +637,57 @@ public:
     }
 
     // Makes the tables fresh.
-    std::optional<Refusal> reset() {
-        return refusal(labintugmo_fresh(
-            settings_.sets, settings_.ways, settings_.percent, settings_.entries,
-            settings_.readers, settings_.places, tables_.longs.data(), tables_.longs.size(),
-            tables_.words.data(), tables_.words.size(), tables_.marks.data(),
-            tables_.marks.size()));
+    [[nodiscard]] std::optional<Refusal> reset() {
+        return refusal(detail::lend(labintugmo_fresh, settings_, tables_));
     }
 
     // Takes tables that were kept from a cache of these settings; refuses them (2 or 3) and
     // stays as it is if they are not sound.
-    std::optional<Refusal> restore(Tables tables) {
-        Cache other(settings_, std::move(tables));
-        const auto refused = other.check();
-        if (!refused) {
-            tables_ = std::move(other.tables_);
+    [[nodiscard]] std::optional<Refusal> restore(const Tables& tables) {
+        Refusal why{};
+        auto other = adopt(settings_, tables, &why);
+        if (!other) {
+            return why;
         }
-        return refused;
+        *this = std::move(*other);
+        return std::nullopt;
     }
 
-    // The check that every call makes; it refuses nothing unless memory was overwritten.
-    std::optional<Refusal> check() const {
-        return refusal(labintugmo_check(
-            settings_.sets, settings_.ways, settings_.percent, settings_.entries,
-            settings_.readers, settings_.places, tables_.longs.data(), tables_.longs.size(),
-            tables_.words.data(), tables_.words.size(), tables_.marks.data(),
-            tables_.marks.size()));
+    // Gives the tables away and leaves the cache empty.
+    [[nodiscard]] Tables release() noexcept {
+        settings_ = Settings{};
+        return std::exchange(tables_, Tables{});
+    }
+
+    // The check of the whole tables; it refuses nothing unless memory was overwritten.
+    [[nodiscard]] std::optional<Refusal> check() const {
+        return refusal(detail::lend(labintugmo_check, settings_, tables_));
     }
 
     AccessResult read(std::uint64_t address, std::uint32_t ticket) {
-        return call<AccessResult>(labintugmo_read, address, ticket);
+        return call<AccessResult>(detail::steps::read, address, ticket);
     }
     AccessResult write(std::uint64_t address, std::uint32_t mask) {
-        return call<AccessResult>(labintugmo_write, address, mask);
+        return call<AccessResult>(detail::steps::write, address, mask);
     }
     AccessResult access(const Access& a) {
-        const std::uint32_t is_write = a.is_write ? 1 : 0;
-        return call<AccessResult>(labintugmo_access, is_write, a.address, a.mask, a.ticket);
+        if (a.is_write) {
+            return write(a.address, a.mask);
+        }
+        if (a.mask == 0) {
+            return read(a.address, a.ticket);
+        }
+        // Not well formed, which the library says.
+        return call<AccessResult>(labintugmo_access, std::uint32_t{0}, a.address, a.mask,
+                                  a.ticket);
     }
-    SendResult send() { return call<SendResult>(labintugmo_send); }
-    FillResult fill(std::uint64_t address) { return call<FillResult>(labintugmo_fill, address); }
-    TickResult tick(std::uint32_t cycle) { return call<TickResult>(labintugmo_tick, cycle); }
+    SendResult send() { return call<SendResult>(detail::steps::send); }
+    FillResult fill(std::uint64_t address) {
+        return call<FillResult>(detail::steps::fill, address);
+    }
+    TickResult tick(std::uint32_t cycle) {
+        return call<TickResult>(detail::steps::tick, cycle);
+    }
 
     // Offers the access until it is accepted, sending and filling in between, with a memory
     // that answers at once; or until it is known to be held.
@@ -623,12 +695,9 @@ public:
         std::array<std::uint8_t, LABINTUGMO_WAIT_ROOM> events;
         WaitResult result;
         const std::uint32_t is_write = a.is_write ? 1 : 0;
-        const std::size_t written = labintugmo_wait(
-            settings_.sets, settings_.ways, settings_.percent, settings_.entries,
-            settings_.readers, settings_.places, tables_.longs.data(), tables_.longs.size(),
-            tables_.words.data(), tables_.words.size(), tables_.marks.data(),
-            tables_.marks.size(), is_write, a.address, a.mask, a.ticket, events.data(),
-            events.size(), &result.round_, 1);
+        const std::size_t written =
+            detail::lend(labintugmo_wait, settings_, tables_, is_write, a.address, a.mask,
+                         a.ticket, events.data(), events.size(), &result.round_, std::size_t{1});
         result.bytes_.assign(events.data(), events.data() + written);
         return result;
     }
@@ -639,12 +708,14 @@ public:
     RunResult run(const std::uint8_t* stream, std::size_t length, std::uint8_t* events,
                   std::size_t room) {
         std::array<std::uint64_t, 2> counts{};
+        const Settings asked =
+            length >= detail::settings_record ? detail::settings_of(stream) : Settings{};
         const std::uint32_t stop = labintugmo_run(
             stream, length, events, room, tables_.longs.data(), tables_.longs.size(),
             tables_.words.data(), tables_.words.size(), tables_.marks.data(),
             tables_.marks.size(), counts.data(), counts.size());
         if (counts[0] >= detail::settings_record) {
-            settings_ = detail::settings_of(stream);
+            settings_ = asked;
         }
         return {static_cast<Stop>(stop), counts[0], counts[1]};
     }
@@ -667,14 +738,18 @@ private:
         return count;
     }
 
+    // A step on sound tables; an empty cache has none.
     template <class Result, class Function, class... Arguments>
     Result call(Function function, Arguments... arguments) {
         Result result;
-        result.size_ = function(
-            settings_.sets, settings_.ways, settings_.percent, settings_.entries,
-            settings_.readers, settings_.places, tables_.longs.data(), tables_.longs.size(),
-            tables_.words.data(), tables_.words.size(), tables_.marks.data(),
-            tables_.marks.size(), arguments..., result.bytes_.data(), result.bytes_.size());
+        if (empty()) {
+            result.bytes_[0] = LABINTUGMO_EVENT_REFUSED;
+            result.bytes_[1] = LABINTUGMO_BAD_SETTINGS;
+            result.size_ = 2;
+        } else {
+            result.size_ = detail::lend(function, settings_, tables_, arguments...,
+                                        result.bytes_.data(), result.bytes_.size());
+        }
         return result;
     }
 
@@ -699,7 +774,7 @@ inline std::size_t event_room(const std::uint8_t* stream, std::size_t length) no
 
 // A run with everything it made: how it stopped, the log, and the cache as the stream left
 // it (none if the stream does not start with good settings).
-struct Run {
+struct [[nodiscard]] Run {
     RunResult result;
     std::vector<std::uint8_t> log;
     std::optional<Cache> cache;

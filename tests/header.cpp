@@ -1,11 +1,13 @@
 // The C++ header: the cache and what its calls return, events of calls and of logs whole and
-// damaged, wait and a longer wait by hand, runs, kept and restored tables.
+// damaged, wait and a longer wait by hand, runs, kept, restored, adopted and released tables,
+// caches moved from, results that no call made.
 //
 // Ends with a line `header: N checks, M failed` and a status.
 #include "labintugmo.hpp"
 
 #include <cstdio>
 #include <string>
+#include <type_traits>
 
 namespace {
 
@@ -178,9 +180,7 @@ void damaged_logs() {
 void waits() {
     const Settings tight{1, 2, 50, 2, 2, 2};
     Cache cache = fresh(tight);
-    cache.read(0, 1);
-    cache.send();
-    cache.read(128, 2);
+    CHECK(cache.read(0, 1) && cache.send() && cache.read(128, 2));
     const Access access = Access::read(256, 3);
     CHECK(cache.access(access).refusal() == Refusal::set_busy);
 
@@ -266,7 +266,7 @@ void runs() {
 void kept_tables() {
     Cache cache = fresh();
     const Tables kept = cache.tables();
-    cache.read(0, 7);
+    CHECK(cache.read(0, 7));
     const Tables later = cache.tables();
     CHECK(kept != later && !cache.restore(kept) && cache.tables() == kept);
     CHECK(!cache.restore(later) && cache.misses() == 1);
@@ -275,6 +275,93 @@ void kept_tables() {
     CHECK(cache.restore(damaged) == Refusal::not_sound && cache.tables() == later);
     CHECK(cache.restore(Tables{}) == Refusal::other_length && cache.tables() == later);
     CHECK(!cache.reset() && cache.tables() == kept);
+}
+
+// Empty: nothing to read, and every call is refused with 1.
+void refuses_all(Cache& cache) {
+    CHECK(cache.empty() && cache.tables() == Tables{} && !cache.settings().in_range());
+    CHECK(cache.queued() == 0 && cache.misses() == 0 && cache.cycle() == 0);
+    CHECK(cache.read(0, 1).refusal() == Refusal::bad_settings);
+    CHECK(cache.write(0, 1).refusal() == Refusal::bad_settings);
+    CHECK(cache.access(Access::read(0, 1)).refusal() == Refusal::bad_settings);
+    CHECK(cache.access({false, 0, 1, 0}).refusal() == Refusal::bad_settings);
+    CHECK(cache.send().refusal() == Refusal::bad_settings && letters(cache.send()) == "!");
+    CHECK(cache.fill(0).refusal() == Refusal::bad_settings);
+    CHECK(cache.tick(1).refusal() == Refusal::bad_settings);
+    CHECK(cache.wait(Access::read(0, 1)).refusal() == Refusal::bad_settings);
+    CHECK(cache.check() == Refusal::bad_settings && cache.reset() == Refusal::bad_settings);
+    CHECK(cache.restore(Tables{}) == Refusal::bad_settings);
+    Commands commands;
+    CHECK(commands.settings(base));
+    Bytes events(LABINTUGMO_ROOM);
+    const RunResult ran =
+        cache.run(commands.bytes().data(), commands.bytes().size(), events.data(), events.size());
+    CHECK(ran.stop == Stop::other_length && ran.consumed == 0 && cache.empty());
+}
+
+void moved() {
+    static_assert(std::is_nothrow_move_constructible_v<Cache>);
+    static_assert(std::is_nothrow_move_assignable_v<Cache>);
+    Cache cache = fresh();
+    CHECK(cache.read(0, 7) && cache.tick(3));
+    const Tables kept = cache.tables();
+
+    Cache other = std::move(cache);
+    CHECK(other.tables() == kept && other.cycle() == 3 && other.queued() == 1);
+    refuses_all(cache);
+    Cache third = fresh({4, 1, 10, 2, 2, 4});
+    third = std::move(other);
+    CHECK(third.tables() == kept && third.settings().sets == 1 && !third.check());
+    refuses_all(other);
+
+    // A copy of an empty cache is empty; one that was moved from may be given another.
+    Cache copy = other;
+    refuses_all(copy);
+    other = third;
+    CHECK(other.tables() == kept && other.send().read()->address == 0 && third.queued() == 1);
+    Cache& same = other;
+    other = std::move(same);
+    CHECK(!other.empty() && other.misses() == 1);
+    other = same;
+    CHECK(!other.check() && other.misses() == 1);
+}
+
+void adopted() {
+    Cache cache = fresh();
+    CHECK(cache.read(0, 7));
+    Tables tables = cache.tables();
+    std::uint8_t* const pointer = tables.marks.data();
+    auto taken = Cache::adopt(base, std::move(tables));
+    CHECK(taken && taken->tables() == cache.tables() && taken->send() && taken->fill(0));
+    // What still points into the vectors that were given does not reach the cache's own.
+    CHECK(pointer != taken->tables().marks.data());
+
+    Refusal why = Refusal::queue_empty;
+    CHECK(!Cache::adopt({3, 2, 50, 2, 2, 4}, cache.tables(), &why) && why == Refusal::bad_settings);
+    CHECK(!Cache::adopt({1, 4, 50, 2, 2, 4}, cache.tables(), &why) && why == Refusal::other_length);
+    CHECK(!Cache::adopt(base, Tables::zero(base), &why) && why == Refusal::not_sound);
+    CHECK(!Cache::adopt(base, Tables::zero(base)) && !Cache::adopt({}, {}));
+
+    const Tables before = cache.tables();
+    const Tables given = cache.release();
+    CHECK(given == before);
+    refuses_all(cache);
+    auto again = Cache::adopt(base, given);
+    CHECK(again && again->misses() == 1);
+
+    // Nobody but the cache can write its tables.
+    static_assert(std::is_same_v<decltype(std::declval<Cache&>().tables()), const Tables&>);
+    static_assert(!std::is_constructible_v<Cache, Settings, Tables>);
+}
+
+void results_of_no_call() {
+    CHECK(!CallResult{} && !CallResult{}.accepted() && !CallResult{}.refusal());
+    CHECK(!AccessResult{} && !AccessResult{}.answer() && !SendResult{} && !FillResult{});
+    CHECK(!WaitResult{} && !WaitResult{}.refusal() && RunResult{}.stop != Stop::end);
+    static_assert(std::is_constructible_v<Log, const Bytes&>);
+    static_assert(std::is_constructible_v<Log, Bytes&>);
+    static_assert(!std::is_constructible_v<Log, Bytes>);
+    static_assert(!std::is_constructible_v<Log, const Bytes>);
 }
 
 }  // namespace
@@ -289,6 +376,9 @@ int main() {
     held_waits();
     runs();
     kept_tables();
+    moved();
+    adopted();
+    results_of_no_call();
     std::printf("header: %d checks, %d failed\n", checks, failures);
     return failures == 0 ? 0 : 1;
 }

@@ -1,15 +1,17 @@
 /*
  * The C header used from C99: lengths by settings, the whole run of document 01, wrong
- * lengths, null and empty slices, too little room. Everything lent is compared with what it
- * was wherever nothing may change.
+ * lengths, null and empty slices, too little room, the stack that each call takes. Everything
+ * lent is compared with what it was wherever nothing may change.
  *
  * Ends with a line `slices: N checks, M failed` and a status.
  */
+#define _XOPEN_SOURCE 700 /* ucontext.h */
 #include "labintugmo.h"
 
 #include <stdio.h>
 #include <stdlib.h>
 #include <string.h>
+#include <ucontext.h>
 
 static int checks, failures;
 
@@ -268,6 +270,67 @@ static void runs(void)
     CHECK(memcmp(events + 1, untouched + 1, 63) == 0 && t.words[0] == 1);
 }
 
+/* The largest tables: 256 sets of 4 ways, 64 entries of 8 readers, 64 places. */
+#define LARGE 256, 4, 0, 64, 8, 64
+enum { L_LONGS = 1024 + 64 + 64, L_WORDS = 1 + 5 * 1024 + 64 * 8 + 4 * 64, L_MARKS = 8 * 1024 + 3 * 64 };
+
+static uint64_t large_longs[L_LONGS];
+static uint32_t large_words[L_WORDS];
+static uint8_t large_marks[L_MARKS];
+static uint8_t large_events[LABINTUGMO_WAIT_ROOM];
+
+#define LENT_LARGE large_longs, L_LONGS, large_words, L_WORDS, large_marks, L_MARKS
+#define ROOM large_events, LABINTUGMO_ROOM
+
+/* Every call, on a cache in which lines are replaced, written back, sent and filled. */
+static void every_call(void)
+{
+    static const uint8_t tick[] = {0, 0, 1, 4, 0, 64, 8, 64, 5, 1, 0, 0, 0};
+    uint64_t round[1], counts[2];
+    uint32_t i;
+    (void)labintugmo_run(tick, sizeof tick, ROOM, LENT_LARGE, counts, 2);
+    (void)labintugmo_fresh(LARGE, LENT_LARGE);
+    for (i = 0; i < 1500; ++i) {
+        const uint64_t address = 32 * (uint64_t)(i * 2654435761u % 65536);
+        (void)labintugmo_write(LARGE, LENT_LARGE, address, i | 1, ROOM);
+        (void)labintugmo_read(LARGE, LENT_LARGE, address ^ 32, i, ROOM);
+        (void)labintugmo_access(LARGE, LENT_LARGE, i % 2, address ^ 64, i % 2, i, ROOM);
+        (void)labintugmo_tick(LARGE, LENT_LARGE, i, ROOM);
+        if (labintugmo_send(LARGE, LENT_LARGE, ROOM) == 9) {
+            (void)labintugmo_fill(LARGE, LENT_LARGE, large_longs[1024], ROOM);
+        }
+        if (i % 100 == 0) {
+            (void)labintugmo_wait(LARGE, LENT_LARGE, 0, address ^ 96, 0, i, large_events,
+                                  sizeof large_events, round, 1);
+        }
+    }
+    (void)labintugmo_check(LARGE, LENT_LARGE);
+}
+
+static ucontext_t here, there;
+
+/* The calls on a stack of their own, painted before: how far down the paint is gone. */
+static void stack(void)
+{
+    static uint8_t painted[65536];
+    size_t left;
+    every_call(); /* what the loader does at a first call is not the library's */
+    noise(painted, sizeof painted);
+    CHECK(getcontext(&there) == 0);
+    there.uc_stack.ss_sp = painted;
+    there.uc_stack.ss_size = sizeof painted;
+    there.uc_link = &here;
+    makecontext(&there, every_call, 0);
+    CHECK(swapcontext(&here, &there) == 0);
+    for (left = 0; left < sizeof painted && painted[left] == 0x5A;) {
+        ++left;
+    }
+    CHECK(sizeof painted - left <= LABINTUGMO_STACK);
+    CHECK(labintugmo_check(LARGE, LENT_LARGE) == 0);
+    printf("slices: %lu bytes of stack taken, %d promised\n",
+           (unsigned long)(sizeof painted - left), LABINTUGMO_STACK);
+}
+
 int main(void)
 {
     lengths();
@@ -276,6 +339,7 @@ int main(void)
     not_fresh();
     small_rooms();
     runs();
+    stack();
     printf("slices: %d checks, %d failed\n", checks, failures);
     return failures == 0 ? EXIT_SUCCESS : EXIT_FAILURE;
 }
