@@ -18,6 +18,7 @@ use Rattle.model.specs.Address.{blockOf, sectorIndex, setIndex}
 use Rattle.model.specs.Tables.{Line, Entry, Queued, reading, writing, Tables, isReserved, unused, entryFor, fresh}
 use Rattle.model.specs.Lent.{Lent, bit, tagOf, cycleOf, masksOf, statusesOf, readablesOf, missOf, sentOf, ticketCountOf, ticketsIn, queuedOf, kindOf, queueMasksOf, inUse, sectorAt, sectorsAt, lineAt, entryAt, queueAt, tablesOf}
 use Rattle.model.specs.Sound.{allOnes}
+pub use Rattle.model.specs.SoundLent.{Small}
 use Rattle.model.proofs.Flags.{by-flag, not-yes, not-no, clash, iff}
 use Rattle.model.proofs.Below.{some-at, some-i}
 use Rattle.model.proofs.Rows.{row-of}
@@ -28,10 +29,6 @@ use Rattle.model.proofs.Facts.{tag, status, mask, readable, miss, sent,
 use Rattle.model.proofs.Standing.{field, field-in, field-out, Stands}
 use Rattle.model.proofs.Shapes.{line, sector, blank, entry, place, addressIn, kindIn, maskIn, Shape, reserved-number, tag-is, cycle-is, status-is, mask-is, readable-is, live-is, miss-is, sent-is, entry-in, in-entry, kind-in, queued-in, queue-mask-is, reads-are}
 use Rattle.model.proofs.Soundly.{Lives, SectorOk, LineOk, Alone, Agrees, EntryOk, QueuedOk, Soundly, bit-clear}
-
--- words that 32 bits hold
-abbrev pub Small : Lent → Type 0
-Small L = (i : ℕ) → getD (L .words) i 0 ≤ allOnes
 
 module _ (S : Settings) (L : Lent) (is : SoundIs S L) where
   -- a tag is on one live line only

@@ -8,7 +8,8 @@ use Rattle.model.specs.SoundLent.{soundNumbers}
 use Rattle.model.specs.Probe.{probe, ruleOf}
 use Rattle.model.specs.Steps.{access, proceed, accept, send, fill, fillLine, tick}
 use Rattle.model.specs.Calls.{call}
-use Rattle.model.specs.Cases.{offer, sending, filling, ticking, no, yes, Case, case, base, narrow, short, r, w, seenOf}
+use Rattle.model.specs.History.{offer, sending, filling, ticking}
+use Rattle.model.specs.Cases.{no, yes, Case, case, base, narrow, short, r, w, seenOf}
 use Rattle.model.specs.declared.Access.the-variants.{Read}
 use Rattle.model.specs.declared.Answer.the-variants.{Hit, HitReserved, Miss}
 use Rattle.model.specs.declared.Refusal.the-variants.{BadAccess, QueueFull, NotSent, BadCycle, QueueEmpty}

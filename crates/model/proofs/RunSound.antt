@@ -7,12 +7,12 @@ use native.Mathlib.Omega.{arith}
 use lib.ListN.{length, getD, take}
 use lib.Dec.{ltb, eqb}
 use borrow.Author.Tests.{ltb-true}
-use Rattle.model.specs.Words.{all}
 use Rattle.model.specs.Range.{inRange}
 use Rattle.model.specs.Tables.{Tables, start, after}
 use Rattle.model.specs.Lent.{Lent}
 use Rattle.model.specs.Sound.{allOnes, sound}
 use Rattle.model.specs.Records.{isCommand, lengthOf, numberAt, commandIn, commandOf}
+pub use Rattle.model.specs.Records.{bytes}
 use Rattle.model.specs.Runner.{settingsOf, firstStop, laterStop, goesOn, stepRead, stepAt, Result, runFrom, run}
 use Rattle.model.specs.Inner.{Held}
 use Rattle.model.specs.declared.Settings.{Settings}
@@ -24,16 +24,13 @@ use Rattle.model.proofs.Flags.{and-1, and-2, clash, by-flag}
 use Rattle.model.proofs.Lists.{all-in, in-all, in-take}
 use Rattle.model.proofs.Soundness.{start-sound, commandMask, step-keeps-sound}
 
-abbrev pub bytes : List ℕ → Bool
-bytes = all (λ b. ltb b 256)
-
-byte-at : (s : List ℕ) (i : ℕ) → bytes s ≡ true → getD s i 0 < 256
+pub byte-at : (s : List ℕ) (i : ℕ) → bytes s ≡ true → getD s i 0 < 256
 byte-at [] i h = omega arith
 byte-at (b ∷ s) zero h = ltb-true b 256 (and-1 (ltb b 256) (bytes s) h)
 byte-at (b ∷ s) (suc i) h = byte-at s i (and-2 (ltb b 256) (bytes s) h)
 
 -- a command's mask stands in four bytes
-mask-small : (s : List ℕ) → bytes s ≡ true → numberAt s 8 4 ≤ allOnes
+pub mask-small : (s : List ℕ) → bytes s ≡ true → numberAt s 8 4 ≤ allOnes
 unfolding numberAt
 mask-small s h = omega (arith, byte-at s 8 h, byte-at s 9 h, byte-at s 10 h, byte-at s 11 h)
 

@@ -4,7 +4,7 @@ use mathlib.Core.List.{List, [], _∷_}
 use Rattle.model.specs.Tables.{start, Outcome, refused, done, after}
 use Rattle.model.specs.Lent.{Lent, tablesOf, encode}
 use Rattle.model.specs.Probe.{dirtyLines}
-use Rattle.model.specs.Calls.{accessCall, sendCall, fillCall, tickCall}
+use Rattle.model.specs.History.{Call, offer, sending, filling, ticking, make}
 use Rattle.model.specs.declared.Settings.{Settings}
 use Rattle.model.specs.declared.Access.{Access}
 use Rattle.model.specs.declared.Access.the-variants.{Read, Write}
@@ -13,18 +13,6 @@ use Rattle.model.specs.declared.Refusal.{Refusal}
 use Rattle.model.specs.declared.Refusal.the-variants.{SetBusy, SetHeld, QueueFull, EntryFull, MissTableFull}
 use Rattle.model.specs.declared.Event.{Event}
 use Rattle.model.specs.declared.Event.the-variants.{Answered, ReadQueued, WriteBackQueued}
-
-pub data Call : Type 0 where
-  offer : Access → Call
-  sending : Call
-  filling : ℕ → Call
-  ticking : ℕ → Call
-
-abbrev pub make : Settings → Call → Lent → Outcome Lent
-make S (offer x) = accessCall S x
-make S sending = sendCall S
-make S (filling a) = fillCall S a
-make S (ticking c) = tickCall S c
 
 -- the outcome of the last of the calls, made from the first on
 abbrev pub makeAll : Settings → List Call → Call → Lent → Outcome Lent

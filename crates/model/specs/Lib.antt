@@ -11,6 +11,7 @@ pub mod Tree
 pub mod Probe
 pub mod Steps
 pub mod Calls
+pub mod History
 pub mod Records
 pub mod Runner
 pub mod Separate
