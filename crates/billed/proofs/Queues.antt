@@ -1,15 +1,15 @@
 -- The law of the queue: what stood in it and what a call's events tell queued is what they tell sent and what stands in it after.
 use Prim.Native.Nat.{ℕ}
 use mathlib.Core.Path.{_≡_, refl, sym, ap, _∙_}
-use mathlib.Core.Bool.{Bool, true, false, _&&_, _||_}
+use mathlib.Core.Bool.{true, _||_}
 use mathlib.Core.List.{List, [], _∷_, _++_, map, append-nil, append-assoc}
 use native.Mathlib.Omega.{arith}
 use lib.ListN.{length, getD}
-use lib.Dec.{ltb, eqb}
+use lib.Dec.{ltb}
 use borrow.Author.Tests.{eqb-true}
 use Rattle.model.specs.Words.{all, any}
 use Rattle.model.specs.Range.{inRange}
-use Rattle.model.specs.Tables.{Entry, Queued, reading, writing, Tables, Outcome, refused, done, after, eventsOf}
+use Rattle.model.specs.Tables.{Entry, Queued, reading, writing, Tables, Outcome, refused, after, eventsOf}
 use Rattle.model.specs.Sound.{lastCycle, queuedOk}
 use Rattle.model.specs.Probe.{Rules, Spot}
 use Rattle.model.specs.Steps.{fetches, queues, queuedEvent, sentEvent, accept, accessUnder, send, sendFrom, fill, ticketsOf, sentFor, tick}
@@ -96,9 +96,9 @@ refused-tells t n = append-nil (t .queue)
 module _ (R : Rules) (S : Settings) (range : inRange S ≡ true) (t : Tables) (ok : Sound S t) where
   access-tells : (x : Access) → Tells t (accessUnder R S x t)
   unfolding accept entriesBy
-  access-tells x = access-cases S t x R range ok (Tells t) (refused-tells t) made
+  access-tells x = access-cases R S t x range ok (Tells t) (refused-tells t) made
     where
-      made : (p : Spot) → Accepted S t x p → Tells t (accept S x p t)
+      made : (p : Spot) → Accepted R S t x p → Tells t (accept S x p t)
       made p a = rw (none-sent (queues x p), fetch-told x (p .answer) (p .backs), all-told [] (p .backs) (a .spotted .backed []))
 
   send-tells : Tells t (send t)

@@ -1,6 +1,6 @@
--- An access is refused, or accepted at a spot: the line itself, with nothing written back, or a victim with its write-back. `access-cases`
--- is the one law by which the proofs above look at an access, under any rules; which victim is chosen is left open. So an access leaves
--- sound tables sound.
+-- An access is refused, or accepted at a spot (`access-judged`): of sound tables the line itself, with nothing written back, or a victim
+-- with its write-back (`access-cases`). These are the laws by which the proofs above look at an access, under any rules; which victim is
+-- chosen is left open. So an access leaves sound tables sound.
 use Prim.Native.Nat.{ℕ, zero, suc, _+_, _≤_, _<_}
 use mathlib.Core.Path.{_≡_, refl, sym, ap, _∙_, subst}
 use mathlib.Core.Bool.{true, false, not, _&&_}
@@ -43,14 +43,19 @@ pub data Stands (S : Settings) (t : Tables) (x : Access) (p : Spot) : Type 0 whe
       → p .backs ≡ writeBack (lineThere S t x p) → ((k : ℕ) → getD (p .line .sectors) k empty .mask ≡ 0)
       → Stands S t x p
 
--- an access that is accepted at the spot p: refusals 4 to 9 do not apply
-pub record Accepted (S : Settings) (t : Tables) (x : Access) (p : Spot) : Type 0 where
+-- an access that meets the spot p under the rules R, to which none of refusals 4 to 9 applies
+pub record Judged (R : Rules) (S : Settings) (t : Tables) (x : Access) (p : Spot) : Type 0 where
   pub formed : wellFormed x ≡ true
-  pub spotted : Spotted S t x p
-  pub stands : Stands S t x p
+  pub met : probe (R t (addressOf x)) S (dirtyLines t) (waysOf S (t .lines) (addressOf x)) x ≡ at p
   pub roomy : ltb (S .places) (length (t .queue) + placesNeeded x p) ≡ false
   pub joins : (isRead x && isMerge (p .answer) && any (entryFull S (addressOf x)) (t .misses)) ≡ false
   pub enters : (isRead x && isMiss (p .answer) && leb (S .entries) (length (t .misses))) ≡ false
+
+-- and what the spot is in sound tables
+pub record Accepted (R : Rules) (S : Settings) (t : Tables) (x : Access) (p : Spot) : Type 0 where
+  pub judged : Judged R S t x p
+  pub spotted : Spotted S t x p
+  pub stands : Stands S t x p
 
 pub empty-masks : (n k : ℕ) → getD (replicate n empty) k empty .mask ≡ 0
 empty-masks zero k = refl
@@ -115,31 +120,38 @@ module _ (S : Settings) (t : Tables) (x : Access) where
   unfolding probe
   rule-stands R p e = meet-stands R (dirtyLines t) (first (holds (blockOf (addressOf x))) ways) (first-finds (holds (blockOf (addressOf x))) ways) p e
 
-  module _ (R : Rules) (range : inRange S ≡ true) (ok : Sound S t) where
-    pub access-cases : (P : Outcome Tables → Type 0) → ((n : Refusal) → P (refused n)) → ((p : Spot) → Accepted S t x p → P (accept S x p t))
+module _ (R : Rules) (S : Settings) (t : Tables) (x : Access) where
+  -- of any tables
+  pub access-judged : (P : Outcome Tables → Type 0) → ((n : Refusal) → P (refused n)) → ((p : Spot) → Judged R S t x p → P (accept S x p t))
+      → P (accessUnder R S x t)
+  unfolding proceed
+  access-judged P no-call made =
+      by-flag P (wellFormed x) _ (refused BadAccess) (λ f. go f (probe (R t (addressOf x)) S (dirtyLines t) (ways S t x) x) refl) (λ f. no-call BadAccess)
+    where
+      go : wellFormed x ≡ true → (q : Place) → probe (R t (addressOf x)) S (dirtyLines t) (ways S t x) x ≡ q → P (proceed S x t q)
+      go f (no n) e = no-call n
+      go f (at p) e =
+          by-flag P (ltb (S .places) (length (t .queue) + placesNeeded x p)) (refused QueueFull) _ (λ z. no-call QueueFull)
+          (λ roomy. by-flag P (isRead x && isMerge (p .answer) && any (entryFull S (addressOf x)) (t .misses)) (refused EntryFull) _ (λ z. no-call EntryFull)
+          (λ joins. by-flag P (isRead x && isMiss (p .answer) && leb (S .entries) (length (t .misses))) (refused MissTableFull) _ (λ z. no-call MissTableFull)
+          (λ enters. made p record { formed = f; met = e; roomy = roomy; joins = joins; enters = enters })))
+
+  -- of sound ones
+  module _ (range : inRange S ≡ true) (ok : Sound S t) where
+    pub access-cases : (P : Outcome Tables → Type 0) → ((n : Refusal) → P (refused n)) → ((p : Spot) → Accepted R S t x p → P (accept S x p t))
         → P (accessUnder R S x t)
-    unfolding proceed
     access-cases P no-call made =
-        by-flag P (wellFormed x) _ (refused BadAccess) (λ f. go f (probe (R t (addressOf x)) S (dirtyLines t) ways x) refl) (λ f. no-call BadAccess)
-      where
-        go : wellFormed x ≡ true → (q : Place) → probe (R t (addressOf x)) S (dirtyLines t) ways x ≡ q → P (proceed S x t q)
-        go f (no n) e = no-call n
-        go f (at p) e =
-            by-flag P (ltb (S .places) (length (t .queue) + placesNeeded x p)) (refused QueueFull) _ (λ z. no-call QueueFull)
-            (λ roomy. by-flag P (isRead x && isMerge (p .answer) && any (entryFull S (addressOf x)) (t .misses)) (refused EntryFull) _ (λ z. no-call EntryFull)
-            (λ joins. by-flag P (isRead x && isMiss (p .answer) && leb (S .entries) (length (t .misses))) (refused MissTableFull) _ (λ z. no-call MissTableFull)
-            (λ enters. made p record {
-              formed = f;
-              spotted = rule-spotted S range t ok x (R t (addressOf x)) p e;
-              stands = rule-stands (R t (addressOf x)) p e;
-              roomy = roomy;
-              joins = joins;
-              enters = enters;
-            })))
+        access-judged P no-call (λ p j. made p record {
+          judged = j;
+          spotted = rule-spotted S range t ok x (R t (addressOf x)) p (j .met);
+          stands = rule-stands S t x (R t (addressOf x)) p (j .met);
+        })
 
     pub access-leaves : maskOf x ≤ allOnes → LeavesSound S (accessUnder R S x t)
     unfolding accept
     access-leaves small = access-cases (LeavesSound S) (λ n. tt) made
       where
-        made : (p : Spot) → Accepted S t x p → LeavesSound S (accept S x p t)
-        made p a = taken-sound S t ok x (a .formed) small p (a .spotted) (readers-some S range) (a .joins) (a .enters) (a .roomy)
+        made : (p : Spot) → Accepted R S t x p → LeavesSound S (accept S x p t)
+        made p a =
+            let j = a .judged in
+            taken-sound S t ok x (j .formed) small p (a .spotted) (readers-some S range) (j .joins) (j .enters) (j .roomy)

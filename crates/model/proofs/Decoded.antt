@@ -17,7 +17,6 @@ use Rattle.model.specs.Range.{linesOf}
 use Rattle.model.specs.Address.{blockOf, sectorIndex, setIndex}
 use Rattle.model.specs.Tables.{Line, Entry, Queued, reading, writing, Tables, isReserved, unused, entryFor, fresh}
 use Rattle.model.specs.Lent.{Lent, bit, tagOf, cycleOf, masksOf, statusesOf, readablesOf, missOf, sentOf, ticketCountOf, ticketsIn, queuedOf, kindOf, queueMasksOf, inUse, sectorAt, sectorsAt, lineAt, entryAt, queueAt, tablesOf}
-use Rattle.model.specs.Sound.{allOnes}
 pub use Rattle.model.specs.SoundLent.{Small}
 use Rattle.model.proofs.Flags.{by-flag, not-yes, not-no, clash, iff}
 use Rattle.model.proofs.Below.{some-at, some-i}

@@ -10,11 +10,11 @@ use lib.Dec.{leb, ltb, eqb}
 use borrow.Author.Tests.{leb-true, ltb-false, eqb-true, eqb-false, eq-eqb, le-leb}
 use Rattle.model.specs.Words.{pick, all, any}
 use Rattle.model.specs.Range.{inRange, linesOf}
-use Rattle.model.specs.Address.{blockOf, sectorIndex, setIndex, lineNumber, addressOf, maskOf, isRead, goodBlock, wellFormed}
+use Rattle.model.specs.Address.{blockOf, sectorIndex, setIndex, lineNumber, addressOf, isRead, goodBlock}
 use Rattle.model.specs.Tables.{Line, Entry, Queued, writing, Tables, start, refused, isInvalid, isReserved, isModified, unused, waiting, dirty, holds, entryFor, empty, fresh}
 use Rattle.model.specs.Sound.{allOnes, lastCycle, maskOk, sectorOk, lineOk, alone, reservedOk, readingOf, entryOk, queuedOk}
 use Rattle.model.specs.Probe.{Rule, columnOf, answerAt, answerOf, waysOf, dirtyLines, enoughDirty, candidate, first, victim, Spot, at, writeBack, takeOver, meet, probe, ruleOf}
-use Rattle.model.specs.Steps.{isHit, isMerge, isMiss, onSector, fetches, queues, placesNeeded, entryFull, accept, proceed, access, tick}
+use Rattle.model.specs.Steps.{isHit, isMerge, isMiss, onSector, fetches, queues, tick}
 use Rattle.model.specs.declared.Settings.{Settings}
 use Rattle.model.specs.declared.Status.{Status}
 use Rattle.model.specs.declared.Status.the-variants.{Invalid, Reserved, Valid, Modified}
@@ -25,13 +25,13 @@ use Rattle.model.specs.declared.Access.{Access}
 use Rattle.model.specs.declared.Access.the-variants.{Read, Write}
 use Rattle.model.specs.declared.Found.{Found}
 use Rattle.model.specs.declared.Found.the-variants.{At, Nothing}
-use Rattle.model.specs.declared.Refusal.the-variants.{BadAccess, QueueFull, EntryFull, MissTableFull, BadCycle}
+use Rattle.model.specs.declared.Refusal.the-variants.{BadCycle}
 use Rattle.model.proofs.Flags.{and-1, and-2, or-no-1, or-no-2, flag, not-yes, no-yes, clash, by-flag}
 use Rattle.model.proofs.Lists.{In, all-in, in-all, in-any, any-in, in-getD, in-index, all-map, any-map, in-replicate}
 use Rattle.model.proofs.Below.{every-i}
-use Rattle.model.proofs.SoundFacts.{Sound, LeavesSound, LineIs, line-whole, EntryIs, entry-whole, ways-some, readers-some, mask-small, sector-below, sector-aligned, address-is, block-is, lines-are, line-at, four-at, sectors-at, tag-at, reserved-at, holder-one, entry-at}
+use Rattle.model.proofs.SoundFacts.{Sound, LeavesSound, LineIs, line-whole, EntryIs, entry-whole, ways-some, mask-small, sector-below, sector-aligned, address-is, block-is, lines-are, line-at, four-at, sectors-at, tag-at, reserved-at, holder-one, entry-at}
 use Rattle.model.proofs.Ways.{Finds, first-finds, victim-finds, Sits, way-sits, way-in, line-among, set-of-block, set-of-line}
-use Rattle.model.proofs.Taken.{Spotted, taken-sound}
+use Rattle.model.proofs.Taken.{Spotted}
 
 -- ---- the table of answers
 

@@ -37,7 +37,7 @@ start-sound S = whole S (start S) (start-is-sound S)
 -- under any rules; a mask is a 32-bit number: `wellFormed` leaves that to its type
 pub access-under-keeps-sound : (R : Rules) (S : Settings) (x : Access) (t : Tables) → inRange S ≡ true → maskOf x ≤ allOnes → sound S t ≡ true
     → sound S (after t (accessUnder R S x t)) ≡ true
-access-under-keeps-sound R S x t range small ok = after-sound S t ok (accessUnder R S x t) (access-leaves S t x R range (parts S t ok) small)
+access-under-keeps-sound R S x t range small ok = after-sound S t ok (accessUnder R S x t) (access-leaves R S t x range (parts S t ok) small)
 
 pub access-keeps-sound : (S : Settings) (x : Access) (t : Tables) → inRange S ≡ true → maskOf x ≤ allOnes → sound S t ≡ true
     → sound S (after t (access S x t)) ≡ true

@@ -6,7 +6,6 @@ use Rattle.model.specs.Lent.{Lent, tablesOf, encode}
 use Rattle.model.specs.Probe.{dirtyLines}
 use Rattle.model.specs.History.{Call, offer, sending, filling, ticking, make}
 use Rattle.model.specs.declared.Settings.{Settings}
-use Rattle.model.specs.declared.Access.{Access}
 use Rattle.model.specs.declared.Access.the-variants.{Read, Write}
 use Rattle.model.specs.declared.Answer.the-variants.{Hit, HitReserved, Miss, SectorMiss}
 use Rattle.model.specs.declared.Refusal.{Refusal}
