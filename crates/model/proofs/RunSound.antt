@@ -1,7 +1,7 @@
 -- The tables that a run of a stream of bytes leaves are sound.
 use Prim.Native.Nat.{ℕ, zero, suc, _≤_, _<_}
 use mathlib.Core.Path.{_≡_, refl}
-use mathlib.Core.Bool.{Bool, true}
+use mathlib.Core.Bool.{true}
 use mathlib.Core.List.{List, [], _∷_}
 use native.Mathlib.Omega.{arith}
 use lib.ListN.{length, getD, take}
@@ -13,7 +13,7 @@ use Rattle.model.specs.Lent.{Lent}
 use Rattle.model.specs.Sound.{allOnes, sound}
 use Rattle.model.specs.Records.{isCommand, lengthOf, numberAt, commandIn, commandOf}
 pub use Rattle.model.specs.Records.{bytes}
-use Rattle.model.specs.Runner.{settingsOf, firstStop, laterStop, goesOn, stepRead, stepAt, Result, runFrom, run}
+use Rattle.model.specs.Runner.{commandMask, settingsOf, firstStop, laterStop, goesOn, stepRead, stepAt, Result, runFrom, run}
 use Rattle.model.specs.Inner.{Held}
 use Rattle.model.specs.declared.Settings.{Settings}
 use Rattle.model.specs.declared.Command.the-variants as cmd
@@ -22,7 +22,7 @@ use Rattle.model.specs.declared.CommandRead.the-variants as command
 use Rattle.model.specs.declared.Stop.{Stop}
 use Rattle.model.proofs.Flags.{and-1, and-2, clash, by-flag}
 use Rattle.model.proofs.Lists.{all-in, in-all, in-take}
-use Rattle.model.proofs.Soundness.{start-sound, commandMask, step-keeps-sound}
+use Rattle.model.proofs.Soundness.{start-sound, step-keeps-sound}
 
 pub byte-at : (s : List ℕ) (i : ℕ) → bytes s ≡ true → getD s i 0 < 256
 byte-at [] i h = omega arith

@@ -11,6 +11,7 @@ use Rattle.model.specs.Probe.{Rules, ruleOf}
 use Rattle.model.specs.Steps.{accessUnder, access, send, fill, tick}
 use Rattle.model.specs.History.{Call, offer, sending, filling, ticking, stepUnder, Small}
 use Rattle.model.specs.Runner.{stepOf}
+pub use Rattle.model.specs.Runner.{commandMask}
 use Rattle.model.specs.declared.Settings.{Settings}
 use Rattle.model.specs.declared.Access.{Access}
 use Rattle.model.specs.declared.Access.the-variants.{Read, Write}
@@ -59,15 +60,6 @@ call-keeps-sound R S (offer x) t range small ok = access-under-keeps-sound R S x
 call-keeps-sound R S sending t range small ok = send-keeps-sound S t ok
 call-keeps-sound R S (filling a) t range small ok = fill-keeps-sound S a t ok
 call-keeps-sound R S (ticking c) t range small ok = tick-keeps-sound S c t ok
-
--- the mask of a command, if it has one
-abbrev pub commandMask : Command → ℕ
-commandMask (cmd.Settings sets ways percent entries readers places) = 0
-commandMask (cmd.Read a k) = 0
-commandMask (cmd.Write a m) = m
-commandMask cmd.Send = 0
-commandMask (cmd.Fill a) = 0
-commandMask (cmd.Tick c) = 0
 
 pub step-keeps-sound : (S : Settings) (c : Command) (t : Tables) → inRange S ≡ true → commandMask c ≤ allOnes → sound S t ≡ true
     → sound S (after t (stepOf S c t)) ≡ true

@@ -3,27 +3,26 @@ use Prim.Native.Nat.{ℕ, _≤_, _<_}
 use mathlib.Core.Path.{_≡_, refl, ap, _∙_}
 use mathlib.Core.Logic.{_⊎_, inl, inr, ⊎-elim}
 use mathlib.Core.Bool.{Bool, true, false, not, _&&_, true≢false}
-use mathlib.Core.List.{List, [], _∷_, _++_, map}
+use mathlib.Core.List.{List, [], _∷_, map}
 use native.Mathlib.Omega.{arith}
 use lib.ListN.{length, getD}
 use lib.Dec.{eqb, leb}
 use borrow.Author.Tests.{eqb-true, leb-true, leb-false}
 use Rattle.model.specs.Words.{pick}
-use Rattle.model.specs.Address.{blockOf, lineNumber, addressOf, isRead}
+use Rattle.model.specs.Address.{blockOf, addressOf, isRead}
 use Rattle.model.specs.Tables.{Line, writing, Tables, Outcome, refused, done, after, isReserved, isModified, unused, waiting, dirty, holds, fresh}
 use Rattle.model.specs.Sound.{maskOk, sectorOk, sound}
 use Rattle.model.specs.Tree.{treeChoice, levels}
-use Rattle.model.specs.Probe.{waysOf, dirtyLines, enoughDirty, candidate, first, last, earliest, Rule, byKey, byTree, choiceBy, orElse, victim, Spot, at, writeBack, takeOver, meet, probe, ruleOf}
-use Rattle.model.specs.Steps.{isHit, queues, queuedEvent, placesNeeded, accept, access}
+use Rattle.model.specs.Probe.{waysOf, enoughDirty, candidate, first, last, earliest, Rule, byKey, byTree, choiceBy, orElse, victim, Spot, at, writeBack, takeOver, meet, probe, ruleOf}
+use Rattle.model.specs.Steps.{isHit, queues, placesNeeded, accept, access}
+use Rattle.model.specs.Meetings.{Matched, Replaced, Queues}
 use Rattle.model.specs.declared.Settings.{Settings}
 use Rattle.model.specs.declared.Status.{Status}
 use Rattle.model.specs.declared.Status.the-variants.{Invalid, Reserved, Valid, Modified}
 use Rattle.model.specs.declared.Sector.{Sector}
-use Rattle.model.specs.declared.Answer.the-variants.{Miss}
 use Rattle.model.specs.declared.Refusal.{Refusal}
 use Rattle.model.specs.declared.Access.{Access}
 use Rattle.model.specs.declared.Event.{Event}
-use Rattle.model.specs.declared.Event.the-variants.{Answered}
 use Rattle.model.specs.declared.Found.{Found}
 use Rattle.model.specs.declared.Found.the-variants.{At, Nothing}
 use Rattle.model.proofs.Flags.{and-1, and-2, and-i, flag, not-yes, no-yes, clash, by-flag}
@@ -108,17 +107,6 @@ victim-none R S d ways e = let f : Finds (candidate (enoughDirty S d)) ways Noth
 
 -- ---- what the probe meets: a way that matches, or a victim
 
-pub record Matched (ways : List Line) (x : Access) (p : Spot) : Type 0 where
-  pub way : first (holds (blockOf (addressOf x))) ways ≡ At (p .way)
-  pub line : p .line ≡ getD ways (p .way) fresh
-  pub backs : p .backs ≡ []
-
-pub record Replaced (R : Rule) (S : Settings) (d : ℕ) (ways : List Line) (x : Access) (p : Spot) : Type 0 where
-  pub none : first (holds (blockOf (addressOf x))) ways ≡ Nothing
-  pub way : victim R S d ways ≡ At (p .way)
-  pub answer : p .answer ≡ Miss
-  pub backs : p .backs ≡ writeBack (getD ways (p .way) fresh)
-
 module _ (R : Rule) (S : Settings) (d : ℕ) (ways : List Line) (x : Access) (p : Spot) where
   over-meets : first (holds (blockOf (addressOf x))) ways ≡ Nothing → (v : Found) → victim R S d ways ≡ v
       → takeOver (addressOf x) ways v ≡ at p → Replaced R S d ways x p
@@ -192,13 +180,6 @@ write-back-is-dirty-bytes R S t ok d a w chosen s i =
     (all-in sectorOk (l .sectors) (sectors-at S t (parts S t ok) l m) i)
 
 -- ---- an accepted access
-
--- the queue after it is the queue before and exactly what it queues, and its events tell just that
-pub record Queues (S : Settings) (x : Access) (t : Tables) (es : List Event) (u : Tables) : Type 0 where
-  pub spot : Spot
-  pub met : probe (ruleOf S t (addressOf x)) S (dirtyLines t) (waysOf S (t .lines) (addressOf x)) x ≡ at spot
-  pub queue : u .queue ≡ t .queue ++ queues x spot
-  pub told : es ≡ Answered (spot .answer) (lineNumber S (addressOf x) (spot .way)) ∷ map queuedEvent (queues x spot)
 
 pub nothing-else-queued : (S : Settings) (x : Access) (t : Tables) (es : List Event) (u : Tables) → access S x t ≡ done es u → Queues S x t es u
 unfolding access accept

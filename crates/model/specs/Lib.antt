@@ -10,6 +10,7 @@ pub mod SoundLent
 pub mod Tree
 pub mod Probe
 pub mod Steps
+pub mod Meetings
 pub mod Calls
 pub mod History
 pub mod Records
@@ -18,5 +19,6 @@ pub mod Separate
 pub mod Rounds
 pub mod Seen
 pub mod Cases
+pub mod WholeRun
 pub mod Inner
 pub mod Regions
