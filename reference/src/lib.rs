@@ -6,6 +6,7 @@
 
 pub mod choices;
 pub mod model;
+pub mod owed;
 pub mod percentage;
 pub mod process;
 pub mod random;

@@ -11,7 +11,7 @@ use borrow.Author.Tests.{eqb-true, eq-eqb, ne-eqb, leb-true}
 use Rattle.model.specs.Words.{pick, all, any, count, one}
 use Rattle.model.specs.Range.{linesOf}
 use Rattle.model.specs.Address.{addressOf, isRead, blockOf, sectorIndex, lineNumber}
-use Rattle.model.specs.Tables.{Line, Entry, Queued, reading, writing, Tables, entryFor, fresh}
+use Rattle.model.specs.Tables.{Line, Entry, Queued, reading, writing, Tables, entryFor, noEntry, fresh}
 use Rattle.model.specs.Lent.{Lent, lent, sectorsAt, linesIn, lineAt, encode}
 use Rattle.model.specs.Probe.{Spot, waysOf}
 use Rattle.model.specs.Steps.{isMerge, isMiss, onSector, update, join, onMisses, fetches, queues, placesNeeded}
@@ -33,7 +33,7 @@ use Rattle.tables.specs.declared.Layout.{Layout}
 use Rattle.tables.specs.Layout.{Placed}
 use Rattle.tables.proofs.Stands.{Stands, is-stands, withLines, withMisses, withQueue}
 use Rattle.tables.proofs.Lines.{line-stands}
-use Rattle.tables.proofs.Misses.{noEntry, withTicket, unsent, append-stands, new-entry-stands}
+use Rattle.tables.proofs.Misses.{withTicket, unsent, append-stands, new-entry-stands}
 use Rattle.tables.proofs.Queue.{push-read-stands, push-write-back-stands}
 use Rattle.tables.proofs.Ones.{map-one}
 use Rattle.probe.specs.declared.Decision.{Decision}

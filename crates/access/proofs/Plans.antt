@@ -13,7 +13,7 @@ use borrow.Author.Tests.{eqb-true, eq-eqb, le-leb, lt-leb, leb-true, leb-false, 
 use Rattle.model.specs.Words.{pick, any, count}
 use Rattle.model.specs.Range.{inRange}
 use Rattle.model.specs.Address.{addressOf, isRead, blockOf, sectorIndex, wellFormed}
-use Rattle.model.specs.Tables.{Entry, Tables, Outcome, refused, entryFor, isReserved, empty}
+use Rattle.model.specs.Tables.{Entry, Tables, Outcome, refused, entryFor, noEntry, isReserved, empty}
 use Rattle.model.specs.Sound.{sound}
 use Rattle.model.specs.Probe.{Spot, at, probe, ruleOf, waysOf, dirtyLines}
 use Rattle.model.specs.Steps.{isHit, isMerge, isMiss, placesNeeded, entryFull, proceed, accept, join}
@@ -22,7 +22,7 @@ use Rattle.model.specs.declared.Access.{Access}
 use Rattle.model.specs.declared.Answer.{Answer}
 use Rattle.model.specs.declared.Answer.the-variants.{Hit, HitReserved, Miss, SectorMiss}
 use Rattle.model.specs.declared.Refusal.the-variants.{QueueFull, EntryFull, MissTableFull}
-use Rattle.model.proofs.Flags.{and-1, and-2, flag, clash, by-flag, not-yes}
+use Rattle.model.proofs.Flags.{and-1, and-2, or-false, flag, clash, by-flag, not-yes}
 use Rattle.model.proofs.Lists.{In, any-in, in-any, in-getD, in-index, count-in, count-index, none-count}
 use Rattle.model.proofs.SoundFacts.{Sound, EntryIs, parts, entry-at, address-is, sector-aligned, sector-below}
 use Rattle.model.proofs.Taken.{Spotted, formed-good}
@@ -34,7 +34,7 @@ use Rattle.tables.specs.Layout.{Placed}
 use Rattle.tables.specs.Raw.{First}
 use Rattle.tables.proofs.Stands.{is-stands}
 use Rattle.tables.proofs.Queue.{queue-used}
-use Rattle.tables.proofs.Misses.{noEntry, withTicket, misses-used, count-at, entry-found, entry-missing}
+use Rattle.tables.proofs.Misses.{withTicket, misses-used, count-at, entry-found, entry-missing}
 use Rattle.tables.proofs.Ones.{map-one}
 use Rattle.access.specs.Plan.{entryIndex, ticketsAt, joining, starting, courseOf, following}
 use Rattle.access.specs.declared.course.Course.{Course}
@@ -71,10 +71,6 @@ any-full S a (x ∷ es) e c = go (entryFor a x) refl (λ h k. any-full S a es h 
     rest-none true q k =
         let (y, m, h) = any-in (entryFor a) es q in
         absurd (omega (arith, count-in (entryFor a) es m h))
-
-    or-false : (b : Bool) → (b || false) ≡ b
-    or-false true = refl
-    or-false false = refl
 
     go : (b : Bool) → entryFor a x ≡ b → (any (entryFor a) es ≡ true → count (entryFor a) es ≡ 1 → any (entryFull S a) es ≡ leb (S .readers) (ticketsAt (entryIndex a es) es))
         → ((b && leb (S .readers) (length (x .tickets))) || any (entryFull S a) es) ≡ leb (S .readers) (length (getD (x ∷ es) (pick b 0 (suc (entryIndex a es))) noEntry .tickets))

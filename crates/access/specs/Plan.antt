@@ -8,7 +8,7 @@ use lib.Dec.{ltb, leb}
 use Rattle.model.specs.Words.{pick, any}
 use Rattle.model.specs.Address.{addressOf, isRead, wellFormed, lineNumber}
 use Rattle.model.specs.Range.{linesOf}
-use Rattle.model.specs.Tables.{Entry, Tables, Outcome, refused, entryFor}
+use Rattle.model.specs.Tables.{Entry, Tables, Outcome, refused, entryFor, noEntry}
 use Rattle.model.specs.Lent.{Lent}
 use Rattle.model.specs.Probe.{Spot, at, probe, ruleOf, waysOf, dirtyLines}
 use Rattle.model.specs.Steps.{isMerge, isMiss, placesNeeded, accept, proceed}
@@ -24,7 +24,6 @@ use Rattle.probe.specs.declared.Meeting.{Meeting}
 use Rattle.probe.specs.declared.Meeting.the-variants as meeting
 use Rattle.probe.specs.declared.Decision.{Decision}
 use Rattle.probe.specs.Decided.{placeIs}
-use Rattle.tables.proofs.Misses.{noEntry}
 use Rattle.access.specs.declared.course.Course.{Course}
 use Rattle.access.specs.declared.course.Course.the-variants.{Refused, Stays, Joins, Starts}
 

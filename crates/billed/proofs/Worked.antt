@@ -3,12 +3,14 @@ use Prim.Native.Nat.{ℕ}
 use mathlib.Core.Path.{_≡_, refl}
 use mathlib.Core.Bool.{false}
 use mathlib.Core.List.{List, [], _∷_, map}
-use Rattle.model.specs.Tables.{start}
+use Rattle.model.specs.Tables.{writing, start}
 use Rattle.model.specs.Probe.{probe, ruleOf}
 use Rattle.model.specs.Steps.{access, proceed, accept, send, fill, fillLine, tick}
-use Rattle.model.specs.Cases.{Call, sending, filling, ticking, base, r, w}
+use Rattle.model.specs.History.{Call, sending, filling, ticking, stepBy, history, left, eventsIn}
+use Rattle.model.specs.Cases.{base, r, w}
 use Rattle.billed.specs.Bytes.{marked, marksByte, dirtyIn, dirtyByte, writesByte, carries}
-use Rattle.billed.specs.History.{stepBy, history, left, covers, Touch, written, billed, touchesOf, touches, owed}
+use Rattle.billed.specs.Queue.{entriesBy, queuedBy}
+use Rattle.billed.specs.Touches.{covers, Touch, written, billed, touchesOf, touches, owed}
 
 pub record Row : Type 0 where
   pub calls : List Call
@@ -43,3 +45,15 @@ worked = refl
 pub worked-dirty : map (λ (x : Row). dirtyByte (x .byte) (left (stepBy base) (x .calls) (start base))) rows ≡ map (λ (x : Row). owed false (x .touched)) rows
 unfolding probe ruleOf access proceed accept send fill fillLine tick marked marksByte dirtyIn left owed
 worked-dirty = refl
+
+-- and a write-back that is told is the one that stands in the queue
+abbrev taking : List Call
+taking = w 0 0xFF ∷ w 128 0xFF ∷ ticking 1 ∷ w 128 1 ∷ w 256 0xFF ∷ []
+
+pub worked-queue : left (stepBy base) taking (start base) .queue ≡ queuedBy (eventsIn (history (stepBy base) taking (start base)))
+unfolding probe ruleOf access proceed accept tick history left entriesBy
+worked-queue = refl
+
+pub worked-entry : left (stepBy base) taking (start base) .queue ≡ writing 0 (0xFF ∷ 0 ∷ 0 ∷ 0 ∷ []) ∷ []
+unfolding probe ruleOf access proceed accept tick left
+worked-entry = refl

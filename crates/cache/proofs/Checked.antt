@@ -8,9 +8,9 @@ use Rattle.model.specs.declared.Verdict.the-variants.{Passed, Refused}
 use Rattle.model.specs.declared.Told.{Told}
 use Rattle.model.specs.Tables.{Tables, Outcome}
 use Rattle.model.specs.Lent.{Lent, tablesOf}
+use Rattle.model.specs.SoundLent.{Small}
 use Rattle.model.specs.Calls.{call, checkCall, verdictOf, Leaves}
 use Rattle.model.specs.Inner.{Is, Held, Does}
-use Rattle.model.proofs.Decoded.{Small}
 use Rattle.model.proofs.Bridge.{sound-encoded, call-is}
 use Rattle.soundness.proofs.Verdicts.{passed-is, refused-is}
 use Rattle.tables.specs.Telling.{telling}

@@ -11,7 +11,7 @@ use Rattle.model.specs.Range.{inRange, longsLength, wordsLength, marksLe
 use Rattle.model.specs.Tables.{Tables, Outcome, refused, done, after, eventsOf}
 use Rattle.model.specs.Lent.{Lent, lengthsFit, tablesOf, encode}
 use Rattle.model.specs.Sound.{sound}
-use Rattle.model.specs.SoundLent.{soundLent}
+use Rattle.model.specs.SoundLent.{soundLent, Small}
 use Rattle.model.specs.Calls.{call, encoded, eventsTold}
 use Rattle.model.specs.Inner.{Fit, Is, Held, Does}
 use Rattle.model.proofs.Flags.{and-1, and-2, and-i}
@@ -21,7 +21,7 @@ use Rattle.model.proofs.Standing.{encode-stands, stands-encode, encode-
 use Rattle.model.proofs.Shapes.{stands-tables}
 use Rattle.model.proofs.Soundly.{soundly-shape, soundly-is}
 use Rattle.model.proofs.Encoded.{stands-sound}
-use Rattle.model.proofs.Decoded.{Small, stands-soundly, read-stands, read-shape}
+use Rattle.model.proofs.Decoded.{stands-soundly, read-stands, read-shape}
 
 -- the three lengths as numbers
 lengths : (S : Settings) (L : Lent) → lengthsFit S L ≡ true

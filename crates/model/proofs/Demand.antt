@@ -4,13 +4,12 @@ use mathlib.Core.Bool.{true}
 use Rattle.model.specs.Range.{inRange}
 use Rattle.model.specs.Address.{wellFormed}
 use Rattle.model.specs.Lent.{Lent, lengthsFit, tablesOf}
-use Rattle.model.specs.SoundLent.{soundLent}
+use Rattle.model.specs.SoundLent.{soundLent, Small}
 use Rattle.model.specs.Rounds.{calls, Settles}
 use Rattle.model.specs.declared.Settings.{Settings}
 use Rattle.model.specs.declared.Access.{Access}
 use Rattle.model.proofs.Soundness.{send-keeps-sound, fill-keeps-sound}
 use Rattle.model.proofs.Bound.{rounds-settled}
-use Rattle.model.proofs.Decoded.{Small}
 use Rattle.model.proofs.Bridge.{sound-encoded}
 use Rattle.model.proofs.LentRounds.{Keeps, settled-lent}
 

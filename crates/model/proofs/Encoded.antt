@@ -13,7 +13,7 @@ use Rattle.model.specs.declared.Status.the-variants.{Invalid, Reserved, 
 use Rattle.model.specs.Words.{any}
 use Rattle.model.specs.Range.{linesOf}
 use Rattle.model.specs.Address.{sectorIndex}
-use Rattle.model.specs.Tables.{Entry, Queued, reading, writing, Tables, isInvalid, isReserved, unused, entryFor}
+use Rattle.model.specs.Tables.{Entry, Queued, reading, writing, Tables, isInvalid, isReserved, unused, entryFor, noEntry}
 use Rattle.model.specs.Lent.{Lent, bit}
 use Rattle.model.proofs.Flags.{flag, not-yes, not-no, clash}
 use Rattle.model.proofs.Below.{every-at, some-at, some-i}
@@ -22,7 +22,7 @@ use Rattle.model.proofs.Tabled.{any-get}
 use Rattle.model.proofs.InUse.{lt-or-ge}
 use Rattle.model.proofs.Facts.{tag, status, readable, miss, sent, ticketCount, ticket, queued, kind, Live, Used, LineIs, SectorIs, Reserves, EntryIs, Unsent, PlaceIs, SoundIs}
 use Rattle.model.proofs.Standing.{Stands}
-use Rattle.model.proofs.Shapes.{line, sector, blank, entry, place, kindIn, maskIn, Shape, reserved-number, tag-is, cycle-is, status-is, mask-is, readable-is, unused-is, live-is, miss-is, sent-is, count-is, ticket-is, count-out, entry-in, in-entry, kind-in, kind-out, queued-in, queued-out, queue-mask-is, place-in, in-place, reads-are}
+use Rattle.model.proofs.Shapes.{line, sector, entry, place, kindIn, maskIn, Shape, reserved-number, tag-is, cycle-is, status-is, mask-is, readable-is, unused-is, live-is, miss-is, sent-is, count-is, ticket-is, count-out, entry-in, in-entry, kind-in, kind-out, queued-in, queued-out, queue-mask-is, place-in, in-place, reads-are}
 use Rattle.model.proofs.Soundly.{Lives, Soundly, soundly-shape, bit-clear}
 
 bit-low : (r : Bool) → bit r ≤ 1
@@ -105,7 +105,7 @@ module _ (S : Settings) (L : Lent) (t : Tables) (st : Stands S L t) (so : Soundl
           sym (reserved-number (sector t l k .status)) ∙ eq-eqb _ _ (sym (status-is S L t st sh l k h j) ∙ q) in
           let a : any (entryFor (line t l .tag + 32 * k)) (t .misses) ≡ true = sym (so .agrees l h (reserved-lives l k h j r) k j) ∙ r in
           let (e, i, w) = some-at (λ e. entryFor (line t l .tag + 32 * k) (entry t e)) (length (t .misses))
-          (sym (any-get (entryFor (line t l .tag + 32 * k)) (t .misses) blank) ∙ a) in
+          (sym (any-get (entryFor (line t l .tag + 32 * k)) (t .misses) noEntry) ∙ a) in
           let few = so .few in
           let b : e < S .entries = omega arith in
           let y : (4 * l + k) / 4 ≡ l = omega arith in
@@ -128,7 +128,7 @@ module _ (S : Settings) (L : Lent) (t : Tables) (st : Stands S L t) (so : Soundl
       let j : sectorIndex (entry t e .address) < 4 = omega arith in
       let a : entry t e .address ≡ line t l .tag + 32 * sectorIndex (entry t e .address) = omega arith in
       let some : any (entryFor (line t l .tag + 32 * sectorIndex (entry t e .address))) (t .misses) ≡ true =
-      any-get (entryFor (line t l .tag + 32 * sectorIndex (entry t e .address))) (t .misses) blank
+      any-get (entryFor (line t l .tag + 32 * sectorIndex (entry t e .address))) (t .misses) noEntry
       ∙ some-i (λ d. entryFor (line t l .tag + 32 * sectorIndex (entry t e .address)) (entry t d)) (length (t .misses)) e i (eq-eqb _ _ a) in
       let r : isReserved (sector t l (sectorIndex (entry t e .address)) .status) ≡ true = so .agrees l n v (sectorIndex (entry t e .address)) j ∙ some in
       let x : status S L (4 * l + sectorIndex (entry t e .address)) ≡ 1 =
@@ -145,7 +145,7 @@ module _ (S : Settings) (L : Lent) (t : Tables) (st : Stands S L t) (so : Soundl
       record {
         few = ⊎-elim (λ l. rw c (so .entries e l .short)) (λ k. omega (arith, count-out S L t st sh e h k)) (lt-or-ge e (length (t .misses)));
         mark = rw x (bit-low (entry t e .sent));
-        blank = λ z. let o : entry t e ≡ blank = List·getD-eq-default (t .misses) blank (entry-out e h z) in
+        blank = λ z. let o : entry t e ≡ noEntry = List·getD-eq-default (t .misses) noEntry (entry-out e h z) in
             (m ∙ ap (λ (y : Entry). y .address) o, x ∙ ap (λ (y : Entry). bit (y .sent)) o);
         even = λ u. rw m (so .entries e (entry-in S L t st sh e h u) .even);
         backed = entry-home e h;

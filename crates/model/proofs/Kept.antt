@@ -7,14 +7,13 @@ use Rattle.model.specs.Words.{pick}
 use Rattle.model.specs.Range.{inRange}
 use Rattle.model.specs.Tables.{Tables}
 use Rattle.model.specs.Lent.{Lent, lengthsFit, tablesOf}
-use Rattle.model.specs.SoundLent.{soundLent}
+use Rattle.model.specs.SoundLent.{soundLent, Small}
 use Rattle.model.specs.Runner.{keptStop, goesOn, Result, halt, runFrom, lentResult, resume}
 use Rattle.model.specs.Inner.{Is}
 use Rattle.model.specs.declared.Settings.{Settings}
 use Rattle.model.specs.declared.Stop.{Stop}
 use Rattle.model.specs.declared.Stop.the-variants.{Nothing}
 use Rattle.model.proofs.Flags.{clash, by-flag}
-use Rattle.model.proofs.Decoded.{Small}
 use Rattle.model.proofs.Bridge.{sound-encoded, is-fits, is-sound-lent, is-tables}
 
 pub record Kept (S : Settings) (L : Lent) : Type 0 where

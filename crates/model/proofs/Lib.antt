@@ -20,6 +20,7 @@ pub mod Ways
 pub mod Keep
 pub mod Taken
 pub mod Offered
+pub mod AccessCases
 pub mod Soundness
 pub mod RunSound
 pub mod Victims

@@ -234,6 +234,12 @@ module _ {A : Type 0} where
       go (inl e) = let q : j ≡ n = eqb-true j n e in rw (q, getD-set-same l n v d (rw q at k)) a
       go (inr e) = rw (getD-set-other l n j v d (eqb-false j n e)) (f j k (eqb-false j n e))
 
+  -- neither the old one nor the new one passes
+  pub any-set-same : (p : A → Bool) (d : A) (l : List A) (n : ℕ) (v : A) → p v ≡ false → p (getD l n d) ≡ false → any p (set l n v) ≡ any p l
+  any-set-same p d [] n v e f = refl
+  any-set-same p d (x ∷ l) zero v e f = rw (e, f)
+  any-set-same p d (x ∷ l) (suc n) v e f = rw (any-set-same p d l n v e f)
+
   pub in-set-same : (l : List A) (n : ℕ) (v : A) → n < length l → In v (set l n v)
   in-set-same [] n v h = absurd (omega arith)
   in-set-same (x ∷ l) zero v h = inl refl

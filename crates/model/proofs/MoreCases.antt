@@ -1,6 +1,6 @@
 -- More accesses, made as the fourteen are: one for each rule of document 01 that those leave open. One table, one statement.
 use mathlib.Core.Path.{_≡_, refl}
-use mathlib.Core.List.{List, [], _∷_, map}
+use mathlib.Core.List.{map}
 use Rattle.model.specs.Words.{table, fit, places}
 use Rattle.model.specs.Range.{inRange}
 use Rattle.model.specs.Lent.{tablesOf, encode}
@@ -8,6 +8,7 @@ use Rattle.model.specs.SoundLent.{soundNumbers}
 use Rattle.model.specs.Probe.{probe, ruleOf}
 use Rattle.model.specs.Steps.{access, proceed, accept, send, fill, fillLine, tick}
 use Rattle.model.specs.Calls.{call}
+<<<<<<< HEAD
 use Rattle.model.specs.Cases.{offer, sending, filling, ticking, no, yes, Case, case, base, narrow, short, r, w, seenOf}
 use Rattle.model.specs.declared.Access.the-variants.{Read}
 use Rattle.model.specs.declared.Answer.the-variants.{Hit, HitReserved, Miss, SectorMiss}
@@ -41,6 +42,9 @@ moreCases =
     ∷ case short (r 0 ∷ r 32 ∷ []) (w 64 0xFF) (yes (Answered SectorMiss 1 ∷ []) 1)
     ∷ case short (w 128 0xFF ∷ r 0 ∷ r 32 ∷ []) (w 256 0xFF) (no QueueFull)
     ∷ []
+=======
+use Rattle.model.specs.Cases.{Case, moreCases, seenOf}
+>>>>>>> h2
 
 pub more-cases : map seenOf moreCases ≡ map (λ (c : Case). c .sees) moreCases
 unfolding table fit places inRange tablesOf encode soundNumbers ruleOf probe access proceed accept send fill fillLine tick call

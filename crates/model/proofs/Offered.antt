@@ -1,4 +1,4 @@
--- What the probe finds is as `Spotted` says, so an access leaves sound tables sound; a tick does too, and fresh tables are sound.
+-- What the probe finds is as `Spotted` says; a tick leaves sound tables sound, and fresh tables are sound.
 use Prim.Native.Nat.{ℕ, _+_, _*_, _/_, _≤_, _<_}
 use mathlib.Core.Path.{_≡_, refl, sym, ap, _∙_, subst}
 use mathlib.Core.Logic.{_⊎_, inl, inr, _≢_}
@@ -10,11 +10,11 @@ use lib.Dec.{leb, ltb, eqb}
 use borrow.Author.Tests.{leb-true, ltb-false, eqb-true, eqb-false, eq-eqb, le-leb}
 use Rattle.model.specs.Words.{pick, all, any}
 use Rattle.model.specs.Range.{inRange, linesOf}
-use Rattle.model.specs.Address.{blockOf, sectorIndex, setIndex, lineNumber, addressOf, maskOf, isRead, goodBlock, wellFormed}
+use Rattle.model.specs.Address.{blockOf, sectorIndex, setIndex, lineNumber, addressOf, isRead, goodBlock}
 use Rattle.model.specs.Tables.{Line, Entry, Queued, writing, Tables, start, refused, isInvalid, isReserved, isModified, unused, waiting, dirty, holds, entryFor, empty, fresh}
 use Rattle.model.specs.Sound.{allOnes, lastCycle, maskOk, sectorOk, lineOk, alone, reservedOk, readingOf, entryOk, queuedOk}
 use Rattle.model.specs.Probe.{Rule, columnOf, answerAt, answerOf, waysOf, dirtyLines, enoughDirty, candidate, first, victim, Spot, at, writeBack, takeOver, meet, probe, ruleOf}
-use Rattle.model.specs.Steps.{isHit, isMerge, isMiss, onSector, fetches, queues, placesNeeded, entryFull, accept, proceed, access, tick}
+use Rattle.model.specs.Steps.{isHit, isMerge, isMiss, onSector, fetches, queues, tick}
 use Rattle.model.specs.declared.Settings.{Settings}
 use Rattle.model.specs.declared.Status.{Status}
 use Rattle.model.specs.declared.Status.the-variants.{Invalid, Reserved, Valid, Modified}
@@ -25,13 +25,13 @@ use Rattle.model.specs.declared.Access.{Access}
 use Rattle.model.specs.declared.Access.the-variants.{Read, Write}
 use Rattle.model.specs.declared.Found.{Found}
 use Rattle.model.specs.declared.Found.the-variants.{At, Nothing}
-use Rattle.model.specs.declared.Refusal.the-variants.{BadAccess, QueueFull, EntryFull, MissTableFull, BadCycle}
+use Rattle.model.specs.declared.Refusal.the-variants.{BadCycle}
 use Rattle.model.proofs.Flags.{and-1, and-2, or-no-1, or-no-2, flag, not-yes, no-yes, clash, by-flag}
 use Rattle.model.proofs.Lists.{In, all-in, in-all, in-any, any-in, in-getD, in-index, all-map, any-map, in-replicate}
 use Rattle.model.proofs.Below.{every-i}
-use Rattle.model.proofs.SoundFacts.{Sound, LeavesSound, LineIs, line-whole, EntryIs, entry-whole, ways-some, readers-some, mask-small, sector-below, sector-aligned, address-is, block-is, lines-are, line-at, four-at, sectors-at, tag-at, reserved-at, holder-one, entry-at}
+use Rattle.model.proofs.SoundFacts.{Sound, LeavesSound, LineIs, line-whole, EntryIs, entry-whole, ways-some, mask-small, sector-below, sector-aligned, address-is, block-is, lines-are, line-at, four-at, sectors-at, tag-at, reserved-at, holder-one, entry-at}
 use Rattle.model.proofs.Ways.{Finds, first-finds, victim-finds, Sits, way-sits, way-in, line-among, set-of-block, set-of-line}
-use Rattle.model.proofs.Taken.{Spotted, taken-sound}
+use Rattle.model.proofs.Taken.{Spotted}
 
 -- ---- the table of answers
 
@@ -268,38 +268,7 @@ module _ (S : Settings) (t : Tables) (ok : Sound S t) (some-ways : 1 ≤ S .ways
           quiet = back-quiet l;
         }
 
--- ---- an access, a tick, fresh tables
-
-module _ (S : Settings) (range : inRange S ≡ true) (t : Tables) (ok : Sound S t) (x : Access) (small : maskOf x ≤ allOnes) where
-  proceed-leaves : wellFormed x ≡ true → (p : Spot) → Spotted S t x p → LeavesSound S (proceed S x t (at p))
-  unfolding proceed accept
-  proceed-leaves f p sp =
-      by-flag (LeavesSound S) (ltb (S .places) (length (t .queue) + placesNeeded x p)) (refused QueueFull) _ (λ e. tt)
-      (λ roomy. by-flag (LeavesSound S) (isRead x && isMerge (p .answer) && any (entryFull S (addressOf x)) (t .misses)) (refused EntryFull) _ (λ e. tt)
-      (λ merge. by-flag (LeavesSound S) (isRead x && isMiss (p .answer) && leb (S .entries) (length (t .misses))) (refused MissTableFull) _ (λ e. tt)
-      (λ entry. taken-sound S t ok x f small p sp (readers-some S range) merge entry roomy)))
-
-  over-leaves : wellFormed x ≡ true → ((j : ℕ) → j < length (t .lines) → holds (blockOf (addressOf x)) (getD (t .lines) j fresh) ≡ false)
-      → (d : ℕ) (v : Found) → Finds (candidate (enoughDirty S d)) (waysOf S (t .lines) (addressOf x)) v
-      → LeavesSound S (proceed S x t (takeOver (addressOf x) (waysOf S (t .lines) (addressOf x)) v))
-  unfolding proceed
-  over-leaves f g d Nothing h = tt
-  over-leaves f g d (At w) h = proceed-leaves f _ (taken-over S t ok (ways-some S range) x g d w (h .0) (h .1))
-
-  meet-leaves : wellFormed x ≡ true → (R : Rule) (d : ℕ) (v : Found) → Finds (holds (blockOf (addressOf x))) (waysOf S (t .lines) (addressOf x)) v
-      → LeavesSound S (proceed S x t (meet R S d (waysOf S (t .lines) (addressOf x)) x v))
-  meet-leaves f R d Nothing h =
-      over-leaves f (none-holds S t ok (ways-some S range) x h) d (victim R S d (waysOf S (t .lines) (addressOf x)))
-      (victim-finds R S d (waysOf S (t .lines) (addressOf x)))
-  meet-leaves f R d (At w) h = proceed-leaves f _ (met S t ok (ways-some S range) x w (h .0) (h .1))
-
-  pub access-leaves : LeavesSound S (access S x t)
-  unfolding access probe
-  access-leaves =
-      by-flag (LeavesSound S) (wellFormed x) _ (refused BadAccess)
-      (λ f. meet-leaves f (ruleOf S t (addressOf x)) (dirtyLines t) (first (holds (blockOf (addressOf x))) (waysOf S (t .lines) (addressOf x)))
-      (first-finds (holds (blockOf (addressOf x))) (waysOf S (t .lines) (addressOf x))))
-      (λ f. tt)
+-- ---- a tick, fresh tables
 
 pub tick-leaves : (S : Settings) (t : Tables) → Sound S t → (c : ℕ) → LeavesSound S (tick c t)
 unfolding tick
@@ -362,8 +331,12 @@ module _ (S : Settings) (range : inRange S ≡ true) (t : Tables) (ok : Sound S 
       over-spotted (none-holds S t ok (ways-some S range) x h) d (victim R S d (waysOf S (t .lines) (addressOf x))) (victim-finds R S d (waysOf S (t .lines) (addressOf x))) p e
   meet-spotted R d (At w) h p e = subst (Spotted S t x) (cc) (met S t ok (ways-some S range) x w (h .0) (h .1))
 
-  pub probe-spotted : (p : Spot) → probe (ruleOf S t (addressOf x)) S (dirtyLines t) (waysOf S (t .lines) (addressOf x)) x ≡ at p → Spotted S t x p
+  -- under every rule
+  pub rule-spotted : (R : Rule) (p : Spot) → probe R S (dirtyLines t) (waysOf S (t .lines) (addressOf x)) x ≡ at p → Spotted S t x p
   unfolding probe
-  probe-spotted p e =
-      meet-spotted (ruleOf S t (addressOf x)) (dirtyLines t) (first (holds (blockOf (addressOf x))) (waysOf S (t .lines) (addressOf x)))
+  rule-spotted R p e =
+      meet-spotted R (dirtyLines t) (first (holds (blockOf (addressOf x))) (waysOf S (t .lines) (addressOf x)))
       (first-finds (holds (blockOf (addressOf x))) (waysOf S (t .lines) (addressOf x))) p e
+
+  pub probe-spotted : (p : Spot) → probe (ruleOf S t (addressOf x)) S (dirtyLines t) (waysOf S (t .lines) (addressOf x)) x ≡ at p → Spotted S t x p
+  probe-spotted p e = rule-spotted (ruleOf S t (addressOf x)) p e

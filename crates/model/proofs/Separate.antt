@@ -10,9 +10,10 @@ use lib.Dec.{ltb, eqb}
 use Rattle.model.specs.Range.{inRange}
 use Rattle.model.specs.Tables.{Tables, Outcome, start, after, eventsOf}
 use Rattle.model.specs.Lent.{Lent, lengthsFit, tablesOf, encode}
+use Rattle.model.specs.SoundLent.{Small}
 use Rattle.model.specs.Steps.{access, send, fill, tick}
 use Rattle.model.specs.Calls.{encoded, freshCall}
-use Rattle.model.specs.Records.{isCommand, lengthOf, commandOf, logBytes}
+use Rattle.model.specs.Records.{bytes, isCommand, lengthOf, commandOf, logBytes}
 use Rattle.model.specs.Runner.{settingsOf, firstStop, laterStop, keptStop, goesOn, stepRead, stepAt, Result, halt, ahead, runFrom, lentResult, run, resume}
 use Rattle.model.specs.Separate.{callRead, callAt, callsFrom, runByCalls, resumeByCalls}
 use Rattle.model.specs.Inner.{Is}
@@ -25,8 +26,7 @@ use Rattle.model.specs.declared.Stop.{Stop}
 use Rattle.model.specs.declared.Stop.the-variants.{Nothing}
 use Rattle.model.proofs.Flags.{and-2, clash, by-flag, flag}
 use Rattle.model.proofs.Soundness.{start-sound}
-use Rattle.model.proofs.RunSound.{bytes, record-keeps-sound}
-use Rattle.model.proofs.Decoded.{Small}
+use Rattle.model.proofs.RunSound.{record-keeps-sound}
 use Rattle.model.proofs.Bridge.{call-is, after-encoded, events-encoded}
 use Rattle.model.proofs.Kept.{kept-is}
 
@@ -95,27 +95,29 @@ module _ (S : Settings) where
 
 -- ---- the first record
 
-record Passes (S : Settings) (L : Lent) : Type 0 where
-  range : inRange S ≡ true
-  fits : lengthsFit S L ≡ true
+-- its kind, its settings and the lent lengths pass
+pub record Passes (k : ℕ) (S : Settings) (L : Lent) : Type 0 where
+  pub kind : eqb k 0 ≡ true
+  pub range : inRange S ≡ true
+  pub fits : lengthsFit S L ≡ true
 
-first-passes : (L : Lent) (k : ℕ) (s : List ℕ) → goesOn (firstStop L k s) ≡ true → Passes (settingsOf s) L
+pub first-passes : (L : Lent) (k : ℕ) (s : List ℕ) → goesOn (firstStop L k s) ≡ true → Passes k (settingsOf s) L
 unfolding firstStop
 first-passes L k s =
     by-flag Goes (isCommand k) _ _
     (λ a. by-flag Goes (ltb (length s) (lengthOf k)) _ _ (λ b h. clash h refl)
     (λ b. by-flag Goes (eqb k 0) _ _
     (λ c. by-flag Goes (inRange (settingsOf s)) _ _
-    (λ d. by-flag Goes (lengthsFit (settingsOf s) L) _ _ (λ e h. record { range = d; fits = e }) (λ e h. clash h refl))
+    (λ d. by-flag Goes (lengthsFit (settingsOf s) L) _ _ (λ e h. record { kind = c; range = d; fits = e }) (λ e h. clash h refl))
     (λ d h. clash h refl))
     (λ c h. clash h refl)))
     (λ a h. clash h refl)
   where
     Goes : Stop → Type 0
-    Goes n = goesOn n ≡ true → Passes (settingsOf s) L
+    Goes n = goesOn n ≡ true → Passes k (settingsOf s) L
 
-fresh-is : (S : Settings) (L : Lent) → Passes S L → Is S (after L (freshCall S L)) (start S)
-fresh-is S L p = record { range = p .range; soundly = start-sound S; encoded = rw (p .range, p .fits) }
+pub fresh-is : (S : Settings) (L : Lent) → inRange S ≡ true → lengthsFit S L ≡ true → Is S (after L (freshCall S L)) (start S)
+fresh-is S L range fits = record { range = range; soundly = start-sound S; encoded = rw (range, fits) }
 
 -- ---- the theorems
 
@@ -126,7 +128,8 @@ run-is-calls room (k ∷ bs) L h =
     ⊎-elim
     (λ z.
     let S = settingsOf bs in
-    let i = calls-from S (lengthOf k) room bs (after L (freshCall S L)) (start S) (and-2 (ltb k 256) (bytes bs) h) (fresh-is S L (first-passes L k bs z)) in
+    let p = first-passes L k bs z in
+    let i = calls-from S (lengthOf k) room bs (after L (freshCall S L)) (start S) (and-2 (ltb k 256) (bytes bs) h) (fresh-is S L (p .range) (p .fits)) in
     rw (z, i))
     (λ z. rw z)
     (flag (goesOn (firstStop L k bs)))

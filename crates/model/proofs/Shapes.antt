@@ -17,7 +17,7 @@ use Rattle.model.specs.declared.Sector.{Sector}
 use Rattle.model.specs.Words.{pick, count, table, every, some, countBelow}
 use Rattle.model.specs.Numbers.{statusNumber, statusOf}
 use Rattle.model.specs.Range.{linesOf}
-use Rattle.model.specs.Tables.{Line, Entry, Queued, reading, writing, Tables, isInvalid, isReserved, unused, empty, fresh}
+use Rattle.model.specs.Tables.{Line, Entry, Queued, reading, writing, Tables, isInvalid, isReserved, unused, empty, fresh, noEntry}
 use Rattle.model.specs.Lent.{Lent, bit, tagOf, cycleOf, masksOf, statusesOf, readablesOf, missOf, sentOf, ticketCountOf, ticketsIn, queuedOf, kindOf, queueMasksOf, inUse, sectorAt, sectorsAt, lineAt, entryAt, queueAt, tablesOf}
 use Rattle.model.specs.Sound.{readingOf}
 use Rattle.model.proofs.Flags.{iff}
@@ -35,11 +35,8 @@ line t l = getD (t .lines) l fresh
 abbrev pub sector : Tables → ℕ → ℕ → Sector
 sector t l k = getD (line t l .sectors) k empty
 
-abbrev pub blank : Entry
-blank = record { address = 0; sent = false; tickets = [] }
-
 abbrev pub entry : Tables → ℕ → Entry
-entry t e = getD (t .misses) e blank
+entry t e = getD (t .misses) e noEntry
 
 abbrev pub place : Tables → ℕ → Queued
 place t p = getD (t .queue) p (reading 0)
@@ -187,20 +184,20 @@ module _ (S : Settings) (L : Lent) (t : Tables) (st : Stands S L t) (sh : Shape 
       ∙ ap not (sym (unused-is l h))
 
   pub miss-is : (e : ℕ) → e < S .entries → miss S L e ≡ entry t e .address
-  miss-is e h = st .misses e h ∙ field-get missOf (t .misses) blank e 0 refl
+  miss-is e h = st .misses e h ∙ field-get missOf (t .misses) noEntry e 0 refl
 
   pub sent-is : (e : ℕ) → e < S .entries → sent S L e ≡ bit (entry t e .sent)
-  sent-is e h = st .sents e h ∙ field-get sentOf (t .misses) blank e 0 refl
+  sent-is e h = st .sents e h ∙ field-get sentOf (t .misses) noEntry e 0 refl
 
   pub count-is : (e : ℕ) → e < S .entries → ticketCount S L e ≡ length (entry t e .tickets)
-  count-is e h = st .ticket-counts e h ∙ field-get ticketCountOf (t .misses) blank e 0 refl
+  count-is e h = st .ticket-counts e h ∙ field-get ticketCountOf (t .misses) noEntry e 0 refl
 
   pub ticket-is : (e k : ℕ) → e < S .entries → k < S .readers → ticket S L (S .readers * e + k) ≡ getD (entry t e .tickets) k 0
-  ticket-is e k h j = st .tickets e k h j ∙ field-get ticketsIn (t .misses) blank e k refl
+  ticket-is e k h j = st .tickets e k h j ∙ field-get ticketsIn (t .misses) noEntry e k refl
 
   -- an entry is in use exactly if the tables have it
   pub count-out : (e : ℕ) → e < S .entries → length (t .misses) ≤ e → ticketCount S L e ≡ 0
-  count-out e h k = count-is e h ∙ ap (λ (x : Entry). length (x .tickets)) (List·getD-eq-default (t .misses) blank k)
+  count-out e h k = count-is e h ∙ ap (λ (x : Entry). length (x .tickets)) (List·getD-eq-default (t .misses) noEntry k)
 
   pub entry-in : (e : ℕ) → e < S .entries → Used S L e → e < length (t .misses)
   entry-in e h u = ⊎-elim (λ l. l) (λ k. absurd (u (count-out e h k))) (lt-or-ge e (length (t .misses)))
@@ -283,6 +280,6 @@ module _ (S : Settings) (L : Lent) (t : Tables) (st : Stands S L t) (sh : Shape 
   stands-tables =
       tables-back t
       (table-list (linesOf S) (lineAt (linesOf S) (L .longs) (L .words) (L .marks)) (t .lines) fresh (sh .size) line-again)
-      (ap (λ (n : ℕ). table n (entryAt S L)) entries-in-use ∙ table-list (length (t .misses)) (entryAt S L) (t .misses) blank refl entry-again)
+      (ap (λ (n : ℕ). table n (entryAt S L)) entries-in-use ∙ table-list (length (t .misses)) (entryAt S L) (t .misses) noEntry refl entry-again)
       (ap (λ (n : ℕ). table n (queueAt S L)) places-in-use ∙ table-list (length (t .queue)) (queueAt S L) (t .queue) (reading 0) refl place-again)
       (st .time)

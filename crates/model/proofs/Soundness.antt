@@ -7,8 +7,11 @@ use Rattle.model.specs.Range.{inRange}
 use Rattle.model.specs.Address.{maskOf}
 use Rattle.model.specs.Tables.{Tables, start, Outcome, refused, done, after}
 use Rattle.model.specs.Sound.{allOnes, sound}
-use Rattle.model.specs.Steps.{access, send, fill, tick}
+use Rattle.model.specs.Probe.{Rules, ruleOf}
+use Rattle.model.specs.Steps.{accessUnder, access, send, fill, tick}
+use Rattle.model.specs.History.{Call, offer, sending, filling, ticking, stepUnder, Small}
 use Rattle.model.specs.Runner.{stepOf}
+pub use Rattle.model.specs.Runner.{commandMask}
 use Rattle.model.specs.declared.Settings.{Settings}
 use Rattle.model.specs.declared.Access.{Access}
 use Rattle.model.specs.declared.Access.the-variants.{Read, Write}
@@ -17,7 +20,8 @@ use Rattle.model.specs.declared.Command.{Command}
 use Rattle.model.specs.declared.Command.the-variants as cmd
 use Rattle.model.proofs.SoundFacts.{LeavesSound, parts, whole}
 use Rattle.model.proofs.Keep.{send-leaves, fill-leaves}
-use Rattle.model.proofs.Offered.{access-leaves, tick-leaves, start-is-sound}
+use Rattle.model.proofs.Offered.{tick-leaves, start-is-sound}
+use Rattle.model.proofs.AccessCases.{access-leaves}
 
 after-sound : (S : Settings) (t : Tables) → sound S t ≡ true → (o : Outcome Tables) → LeavesSound S o → sound S (after t o) ≡ true
 after-sound S t ok (refused n) l = ok
@@ -31,10 +35,15 @@ done-sound S t o ok es u e = rw e at ok
 pub start-sound : (S : Settings) → sound S (start S) ≡ true
 start-sound S = whole S (start S) (start-is-sound S)
 
--- a mask is a 32-bit number: `wellFormed` leaves that to its type
+-- under any rules; a mask is a 32-bit number: `wellFormed` leaves that to its type
+pub access-under-keeps-sound : (R : Rules) (S : Settings) (x : Access) (t : Tables) → inRange S ≡ true → maskOf x ≤ allOnes → sound S t ≡ true
+    → sound S (after t (accessUnder R S x t)) ≡ true
+access-under-keeps-sound R S x t range small ok = after-sound S t ok (accessUnder R S x t) (access-leaves R S t x range (parts S t ok) small)
+
 pub access-keeps-sound : (S : Settings) (x : Access) (t : Tables) → inRange S ≡ true → maskOf x ≤ allOnes → sound S t ≡ true
     → sound S (after t (access S x t)) ≡ true
-access-keeps-sound S x t range small ok = after-sound S t ok (access S x t) (access-leaves S range t (parts S t ok) x small)
+unfolding access
+access-keeps-sound S x t range small ok = access-under-keeps-sound (ruleOf S) S x t range small ok
 
 pub send-keeps-sound : (S : Settings) (t : Tables) → sound S t ≡ true → sound S (after t (send t)) ≡ true
 send-keeps-sound S t ok = after-sound S t ok (send t) (send-leaves S t (parts S t ok))
@@ -45,14 +54,12 @@ fill-keeps-sound S a t ok = after-sound S t ok (fill a t) (fill-leaves S t (part
 pub tick-keeps-sound : (S : Settings) (c : ℕ) (t : Tables) → sound S t ≡ true → sound S (after t (tick c t)) ≡ true
 tick-keeps-sound S c t ok = after-sound S t ok (tick c t) (tick-leaves S t (parts S t ok) c)
 
--- the mask of a command, if it has one
-abbrev pub commandMask : Command → ℕ
-commandMask (cmd.Settings sets ways percent entries readers places) = 0
-commandMask (cmd.Read a k) = 0
-commandMask (cmd.Write a m) = m
-commandMask cmd.Send = 0
-commandMask (cmd.Fill a) = 0
-commandMask (cmd.Tick c) = 0
+pub call-keeps-sound : (R : Rules) (S : Settings) (k : Call) (t : Tables) → inRange S ≡ true → Small k → sound S t ≡ true
+    → sound S (after t (stepUnder R S k t)) ≡ true
+call-keeps-sound R S (offer x) t range small ok = access-under-keeps-sound R S x t range small ok
+call-keeps-sound R S sending t range small ok = send-keeps-sound S t ok
+call-keeps-sound R S (filling a) t range small ok = fill-keeps-sound S a t ok
+call-keeps-sound R S (ticking c) t range small ok = tick-keeps-sound S c t ok
 
 pub step-keeps-sound : (S : Settings) (c : Command) (t : Tables) → inRange S ≡ true → commandMask c ≤ allOnes → sound S t ≡ true
     → sound S (after t (stepOf S c t)) ≡ true

@@ -26,22 +26,10 @@ use Rattle.model.specs.declared.Answer.{Answer}
 use Rattle.model.specs.declared.Answer.the-variants.{Hit, HitReserved, Miss, SectorMiss}
 use Rattle.model.specs.declared.Access.{Access}
 use Rattle.model.specs.declared.Access.the-variants.{Read, Write}
-use Rattle.model.proofs.Flags.{and-1, and-2, and-i, or-1, or-2, flag, not-yes, not-no, no-yes, clash, by-flag, is-same}
+use Rattle.model.proofs.Flags.{and-1, and-2, and-i, and-false, and-true, or-false, or-1, or-2, flag, not-yes, not-no, no-yes, clash, by-flag, is-same}
 use Rattle.model.proofs.Lists.{In, all-in, in-all, in-any, any-in, index-count, count-append, any-append, in-append, none-count, each, in-set-same, in-set-other, count-ext, any-ext, in-getD, in-index, all-set, set-some, in-map, any-map, count-map}
 use Rattle.model.proofs.Below.{every-i}
 use Rattle.model.proofs.SoundFacts.{Sound, LineIs, line-whole, EntryIs, entry-whole, mask-small, sector-below, sector-aligned, address-is, block-is, sector-is, lines-are, line-at, tag-aligned, reserved-at, holder-one, entry-at, queued-at}
-
-or-false : (b : Bool) → (b || false) ≡ b
-or-false true = refl
-or-false false = refl
-
-and-false : (b : Bool) → (b && false) ≡ false
-and-false true = refl
-and-false false = refl
-
-and-true : (b : Bool) → (b && true) ≡ b
-and-true true = refl
-and-true false = refl
 
 -- a read that misses: it takes a new entry and queues a read
 abbrev pub fetching : Access → Answer → Bool

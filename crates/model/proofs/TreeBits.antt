@@ -12,7 +12,7 @@ use lib.Dec.{eqb, ltb}
 use borrow.Author.Tests.{ne-eqb, eqb-true, eqb-false, lt-ltb, le-ltb, ltb-true, ltb-false}
 use Rattle.model.specs.Words.{some}
 use Rattle.model.specs.Tree.{bit, withBit, isIn, someFrom}
-use Rattle.model.proofs.Flags.{or-2, flag}
+use Rattle.model.proofs.Flags.{or-false, or-2, flag}
 
 pub bit-zero : (t : ℕ) → bit t 0 ≡ t % 2
 unfolding bit
@@ -89,10 +89,6 @@ some-step : (x w r : ℕ) → some w (isIn x) ≡ not (eqb r 0) → x % 2 ^ suc 
 some-step x w r ih e (inl z) =
     let s : x % 2 ^ suc w ≡ r = rw z at e ∙ omega arith in
     rw (s, z) (or-false (some w (isIn x)) ∙ ih)
-  where
-    or-false : (a : Bool) → (a || false) ≡ a
-    or-false true = refl
-    or-false false = refl
 some-step x w r ih e (inr z) =
     let s : x % 2 ^ suc w ≡ 2 ^ w + r = rw z at e ∙ omega arith in
     let f : 2 ^ w + r ≡ 0 → ⊥ = λ q. omega (arith, pow-pos w) in

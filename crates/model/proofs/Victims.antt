@@ -1,36 +1,35 @@
 -- What document 01 says of the victim, its write-back and the queue, as laws of the definitions.
-use Prim.Native.Nat.{ℕ, _+_, _≤_, _<_}
+use Prim.Native.Nat.{ℕ, _≤_, _<_}
 use mathlib.Core.Path.{_≡_, refl, ap, _∙_}
 use mathlib.Core.Logic.{_⊎_, inl, inr, ⊎-elim}
 use mathlib.Core.Bool.{Bool, true, false, not, _&&_, true≢false}
-use mathlib.Core.List.{List, [], _∷_, _++_, map}
+use mathlib.Core.List.{List, [], _∷_, map}
 use native.Mathlib.Omega.{arith}
 use lib.ListN.{length, getD, length-append}
-use lib.Dec.{eqb, ltb, leb}
+use lib.Dec.{eqb, leb}
 use borrow.Author.Tests.{eqb-true, leb-true, leb-false}
-use Rattle.model.specs.Words.{pick, any}
-use Rattle.model.specs.Address.{blockOf, lineNumber, addressOf, isRead, wellFormed}
+use Rattle.model.specs.Words.{pick}
+use Rattle.model.specs.Address.{blockOf, addressOf, isRead}
 use Rattle.model.specs.Tables.{Line, writing, Tables, Outcome, refused, done, after, isReserved, isModified, unused, waiting, dirty, holds, fresh}
 use Rattle.model.specs.Sound.{maskOk, sectorOk, sound}
 use Rattle.model.specs.Tree.{treeChoice, levels}
-use Rattle.model.specs.Probe.{waysOf, dirtyLines, enoughDirty, candidate, first, last, earliest, Rule, byKey, byTree, choiceBy, orElse, victim, Spot, Place, no, at, writeBack, takeOver, meet, probe, ruleOf}
-use Rattle.model.specs.Steps.{isMerge, isMiss, fetches, queues, queuedEvent, placesNeeded, entryFull, accept, proceed, access}
+use Rattle.model.specs.Probe.{waysOf, enoughDirty, candidate, first, last, earliest, Rule, byKey, byTree, choiceBy, orElse, victim, Spot, at, writeBack, takeOver, meet, probe, ruleOf}
+use Rattle.model.specs.Steps.{fetches, queues, placesNeeded, accept, access}
+use Rattle.model.specs.Meetings.{Matched, Replaced, Queues}
 use Rattle.model.specs.declared.Settings.{Settings}
 use Rattle.model.specs.declared.Status.{Status}
 use Rattle.model.specs.declared.Status.the-variants.{Invalid, Reserved, Valid, Modified}
 use Rattle.model.specs.declared.Sector.{Sector}
-use Rattle.model.specs.declared.Answer.the-variants.{Miss}
 use Rattle.model.specs.declared.Refusal.{Refusal}
-use Rattle.model.specs.declared.Refusal.the-variants.{BadAccess, QueueFull, EntryFull, MissTableFull}
 use Rattle.model.specs.declared.Access.{Access}
 use Rattle.model.specs.declared.Event.{Event}
-use Rattle.model.specs.declared.Event.the-variants.{Answered}
 use Rattle.model.specs.declared.Found.{Found}
 use Rattle.model.specs.declared.Found.the-variants.{At, Nothing}
 use Rattle.model.proofs.Flags.{and-1, and-2, and-i, flag, not-yes, no-yes, clash, by-flag}
 use Rattle.model.proofs.Lists.{In, all-in, in-any, in-getD}
 use Rattle.model.proofs.SoundFacts.{parts, sectors-at}
 use Rattle.model.proofs.Ways.{Finds, last-finds, victim-finds, Last, last-is-last, Least, earliest-is-least, way-in}
+use Rattle.model.proofs.AccessCases.{access-judged}
 use Rattle.model.proofs.Offered.{fetches-one, back-one}
 
 -- ---- the victim
@@ -103,17 +102,6 @@ pub victim-none : (R : Rule) (S : Settings) (d : ℕ) (ways : List Line) → vic
 victim-none R S d ways e = let f : Finds (candidate (enoughDirty S d)) ways Nothing = rw e at (victim-finds R S d ways) in f
 
 -- ---- what the probe meets: a way that matches, or a victim
-
-pub record Matched (ways : List Line) (x : Access) (p : Spot) : Type 0 where
-  pub way : first (holds (blockOf (addressOf x))) ways ≡ At (p .way)
-  pub line : p .line ≡ getD ways (p .way) fresh
-  pub backs : p .backs ≡ []
-
-pub record Replaced (R : Rule) (S : Settings) (d : ℕ) (ways : List Line) (x : Access) (p : Spot) : Type 0 where
-  pub none : first (holds (blockOf (addressOf x))) ways ≡ Nothing
-  pub way : victim R S d ways ≡ At (p .way)
-  pub answer : p .answer ≡ Miss
-  pub backs : p .backs ≡ writeBack (getD ways (p .way) fresh)
 
 module _ (R : Rule) (S : Settings) (d : ℕ) (ways : List Line) (x : Access) (p : Spot) where
   over-meets : first (holds (blockOf (addressOf x))) ways ≡ Nothing → (v : Found) → victim R S d ways ≡ v
@@ -191,35 +179,8 @@ write-back-is-dirty-bytes R S t ok d a w chosen s i =
 
 -- ---- an accepted access
 
--- the queue after it is the queue before and exactly what it queues, and its events tell just that
-pub record Queues (S : Settings) (x : Access) (t : Tables) (es : List Event) (u : Tables) : Type 0 where
-  pub spot : Spot
-  pub met : probe (ruleOf S t (addressOf x)) S (dirtyLines t) (waysOf S (t .lines) (addressOf x)) x ≡ at spot
-  pub queue : u .queue ≡ t .queue ++ queues x spot
-  pub told : es ≡ Answered (spot .answer) (lineNumber S (addressOf x) (spot .way)) ∷ map queuedEvent (queues x spot)
-
-module _ (S : Settings) (x : Access) (t : Tables) (es : List Event) (u : Tables) where
-  abbrev place : Place
-  place = probe (ruleOf S t (addressOf x)) S (dirtyLines t) (waysOf S (t .lines) (addressOf x)) x
-
-  -- of an outcome that leaves u
-  abbrev Adds : Outcome Tables → Type 0
-  Adds o = o ≡ done es u → Queues S x t es u
-
-  refused-adds : (n : Refusal) → Adds (refused n)
-  refused-adds n h = let z : _≡_ {A = ℕ} 0 1 = cc in absurd (omega arith)
-
-  proceed-adds : (p : Place) → place ≡ p → Adds (proceed S x t p)
-  unfolding proceed accept
-  proceed-adds (no n) e = refused-adds n
-  proceed-adds (at p) e =
-      by-flag Adds (ltb (S .places) (length (t .queue) + placesNeeded x p)) (refused QueueFull) _ (λ f. refused-adds QueueFull)
-      (λ f. by-flag Adds (isRead x && isMerge (p .answer) && any (entryFull S (addressOf x)) (t .misses)) (refused EntryFull) _
-      (λ g. refused-adds EntryFull)
-      (λ g. by-flag Adds (isRead x && isMiss (p .answer) && leb (S .entries) (length (t .misses))) (refused MissTableFull) _
-      (λ h. refused-adds MissTableFull)
-      (λ h q. record { spot = p; met = e; queue = cc; told = cc })))
-
-  pub nothing-else-queued : access S x t ≡ done es u → Queues S x t es u
-  unfolding access
-  nothing-else-queued = by-flag Adds (wellFormed x) _ (refused BadAccess) (λ f. proceed-adds place refl) (λ f. refused-adds BadAccess)
+pub nothing-else-queued : (S : Settings) (x : Access) (t : Tables) (es : List Event) (u : Tables) → access S x t ≡ done es u → Queues S x t es u
+unfolding access accept
+nothing-else-queued S x t es u =
+    access-judged (ruleOf S) S t x (λ o. o ≡ done es u → Queues S x t es u) (λ n h. let z : _≡_ {A = ℕ} 0 1 = cc in absurd (omega arith))
+    (λ p j h. record { spot = p; met = j .met; queue = cc; told = cc })

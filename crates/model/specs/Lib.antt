@@ -10,12 +10,15 @@ pub mod SoundLent
 pub mod Tree
 pub mod Probe
 pub mod Steps
+pub mod Meetings
 pub mod Calls
+pub mod History
 pub mod Records
 pub mod Runner
 pub mod Separate
 pub mod Rounds
 pub mod Seen
 pub mod Cases
+pub mod WholeRun
 pub mod Inner
 pub mod Regions

@@ -101,8 +101,11 @@ abbrev pub choiceBy : Rule → (Line → Bool) → List Line → Found
 choiceBy (byKey key) p ways = earliest key p ways
 choiceBy (byTree t) p ways = treeChoice (λ w. getD (map p ways) w false) t (levels (length ways))
 
--- the rule of an address's set
-unfoldable pub ruleOf : Settings → Tables → ℕ → Rule
+-- which rule an address's set goes by, as the tables stand
+abbrev pub Rules : Type 0
+Rules = Tables → ℕ → Rule
+
+unfoldable pub ruleOf : Settings → Rules
 ruleOf S t a = byKey (age S)
 
 -- "the highest wholly invalid candidate; with none", the candidate that the rule chooses

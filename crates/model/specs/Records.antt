@@ -5,7 +5,7 @@ use mathlib.Core.Bool.{Bool, true, false}
 use mathlib.Core.List.{List, [], _∷_, _++_}
 use lib.ListN.{length, take, drop, getD}
 use lib.Dec.{ltb, leb, eqb}
-use Rattle.model.specs.Words.{pick, any}
+use Rattle.model.specs.Words.{pick, all, any}
 use Rattle.model.specs.Numbers.{answerNumber, refusalNumber}
 use Rattle.model.specs.Range.{within}
 use Rattle.model.specs.declared.Answer.the-variants.{Hit, HitReserved, Miss, SectorMiss}
@@ -22,6 +22,10 @@ use Rattle.model.specs.declared.CommandRead.the-variants as command
 use Rattle.model.specs.declared.Stop.the-variants.{UnknownKind, CutShort}
 use Rattle.model.specs.declared.Record.{Record}
 use Rattle.model.specs.declared.Record.the-variants.{Whole, Stopped}
+
+-- numbers that are bytes: the code knows that of any stream
+abbrev pub bytes : List ℕ → Bool
+bytes = all (λ b. ltb b 256)
 
 -- ---- "Body length is fixed by kind through this table"
 

@@ -70,6 +70,15 @@ stepOf S (cmd.Fill a) t = fill a t
 stepOf S (cmd.Tick c) t = tick c t
 stepOf S (cmd.Settings sets ways percent entries readers places) t = refused refusal.SettingOutOfRange
 
+-- the mask of a command, if it has one
+abbrev pub commandMask : Command → ℕ
+commandMask (cmd.Settings sets ways percent entries readers places) = 0
+commandMask (cmd.Read a k) = 0
+commandMask (cmd.Write a m) = m
+commandMask cmd.Send = 0
+commandMask (cmd.Fill a) = 0
+commandMask (cmd.Tick c) = 0
+
 abbrev pub stepRead : Settings → CommandRead → Tables → Outcome Tables
 stepRead S (command.Got c) t = stepOf S c t
 stepRead S command.None t = refused refusal.SettingOutOfRange

@@ -1,8 +1,9 @@
 -- "Sound tables", of the numbers in the three lent slices, whatever they are: conditions 1 to 25, each beside document 01's words.
 -- The check of refusal 3 computes `soundLent`. proofs/ ties it to Sound: sound slices are the encoding of sound tables.
-use Prim.Native.Nat.{ℕ, _+_, _*_, _-_, _/_, _%_, _^_}
+use Prim.Native.Nat.{ℕ, _+_, _*_, _-_, _/_, _%_, _^_, _≤_}
 use mathlib.Core.Bool.{Bool, true, false, not, _&&_, _||_}
 use mathlib.Core.List.{List}
+use lib.ListN.{getD}
 use lib.Dec.{eqb, leb, ltb}
 use Rattle.model.specs.Words.{imp, every, some, countBelow}
 use Rattle.model.specs.Range.{linesOf}
@@ -181,3 +182,7 @@ module _ (S : Settings) (longs words marks : List ℕ) where
 
 abbrev pub soundLent : Settings → Lent → Bool
 soundLent S L = soundNumbers S (L .longs) (L .words) (L .marks)
+
+-- words that 32 bits hold: the code knows that of any slice
+abbrev pub Small : Lent → Type 0
+Small L = (i : ℕ) → getD (L .words) i 0 ≤ allOnes

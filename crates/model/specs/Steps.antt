@@ -9,7 +9,7 @@ use Rattle.model.specs.Words.{pick, any, keep}
 use Rattle.model.specs.Address.{addressOf, isRead, blockOf, sectorIndex, lineNumber, wellFormed}
 use Rattle.model.specs.Tables.{Line, Entry, Queued, reading, writing, Tables, Outcome, refused, done, isInvalid, holds, entryFor, empty}
 use Rattle.model.specs.Sound.{allOnes, lastCycle}
-use Rattle.model.specs.Probe.{Spot, Place, no, at, probe, ruleOf, waysOf, dirtyLines}
+use Rattle.model.specs.Probe.{Spot, Place, no, at, probe, Rules, ruleOf, waysOf, dirtyLines}
 use Rattle.model.specs.declared.Settings.{Settings}
 use Rattle.model.specs.declared.Status.the-variants.{Reserved, Valid, Modified}
 use Rattle.model.specs.declared.Sector.{Sector}
@@ -118,10 +118,13 @@ proceed S x t (at p) =
     (pick (isRead x && isMiss (p .answer) && leb (S .entries) (length (t .misses))) (refused MissTableFull)
     (accept S x p t)))
 
--- 4 "access address not a multiple of 32 or not below 2^48; write mask 0; read mask not 0", then what the access meets
+-- 4 "access address not a multiple of 32 or not below 2^48; write mask 0; read mask not 0", then what the access meets under the rules R
+abbrev pub accessUnder : Rules → Settings → Access → Tables → Outcome Tables
+accessUnder R S x t =
+    pick (wellFormed x) (proceed S x t (probe (R t (addressOf x)) S (dirtyLines t) (waysOf S (t .lines) (addressOf x)) x)) (refused BadAccess)
+
 unfoldable pub access : Settings → Access → Tables → Outcome Tables
-access S x t =
-    pick (wellFormed x) (proceed S x t (probe (ruleOf S t (addressOf x)) S (dirtyLines t) (waysOf S (t .lines) (addressOf x)) x)) (refused BadAccess)
+access S x t = accessUnder (ruleOf S) S x t
 
 -- ---- send: "takes the queue head; a read marks its entry sent"
 

@@ -79,6 +79,10 @@ holds b l = not (unused l) && eqb (l .tag) b
 abbrev pub entryFor : ℕ → Entry → Bool
 entryFor a e = eqb (e .address) a
 
+-- what stands past the end of a miss table
+abbrev pub noEntry : Entry
+noEntry = record { address = 0; sent = false; tickets = [] }
+
 -- ---- fresh tables: "all invalid and readable, all empty, cycle 0"
 
 abbrev pub empty : Sector

@@ -13,7 +13,7 @@ use Rattle.model.specs.Range.{inRange}
 use Rattle.model.specs.Tables.{Tables, start}
 use Rattle.model.specs.Lent.{Lent, tablesOf, encode}
 use Rattle.model.specs.Sound.{sound}
-use Rattle.model.specs.Records.{lengthOf}
+use Rattle.model.specs.Records.{bytes, lengthOf}
 use Rattle.model.specs.Runner.{settingsOf, firstStop, keptStop, goesOn, Result, halt, ahead, runFrom, lentResult, run, resume, Runs}
 use Rattle.model.specs.Inner.{Is}
 use Rattle.model.specs.declared.Settings.{Settings}
@@ -21,7 +21,7 @@ use Rattle.model.specs.declared.Stop.{Stop}
 use Rattle.model.specs.declared.Stop.the-variants.{NoRoom}
 use Rattle.model.specs.declared.Ran.{Ran}
 use Rattle.model.proofs.Soundness.{start-sound}
-use Rattle.model.proofs.RunSound.{bytes, run-from-keeps-sound}
+use Rattle.model.proofs.RunSound.{run-from-keeps-sound}
 use Rattle.model.proofs.Decoded.{Small}
 use Rattle.model.proofs.Kept.{kept-is, resume-goes, resume-is}
 use Rattle.runner.proofs.First.{Settled, settled, run-accepts}

@@ -11,7 +11,7 @@ use lib.Dec.{eqb, leb}
 use borrow.Author.Tests.{leb-true, eqb-true, eqb-false, eq-eqb, ne-eqb}
 use Rattle.model.specs.Words.{any, count, keep}
 use Rattle.model.specs.Regions.{dropped}
-use Rattle.model.specs.Tables.{Entry, Queued, reading, Tables, entryFor}
+use Rattle.model.specs.Tables.{Entry, Queued, reading, Tables, entryFor, noEntry}
 use Rattle.model.specs.Sound.{unsentFor, queuedOk}
 use Rattle.model.specs.Steps.{mark, others, ticketsOf, sentFor}
 use Rattle.model.specs.declared.Settings.{Settings}
@@ -19,7 +19,7 @@ use Rattle.model.proofs.Flags.{and-1, and-2, flag, iff, clash}
 use Rattle.model.proofs.Lists.{any-in, in-any, in-index, in-getD, count-index}
 use Rattle.model.proofs.SoundFacts.{Sound, entry-at, queued-at}
 use Rattle.tables.proofs.Ones.{map-one, keep-one}
-use Rattle.tables.proofs.Misses.{noEntry, withSent}
+use Rattle.tables.proofs.Misses.{withSent}
 
 tickets-first : (a : ℕ) (l : List Entry) (i : ℕ) → i < length l → entryFor a (getD l i noEntry) ≡ true → ((j : ℕ) → j < i → entryFor a (getD l j noEntry) ≡ false) → ticketsOf a l ≡ getD l i noEntry .tickets
 tickets-first a [] i h e f = absurd (not-suc-le-zero h)

@@ -14,7 +14,7 @@ use Rattle.model.specs.Numbers.{statusNumber}
 use Rattle.model.specs.Range.{linesOf}
 use Rattle.model.specs.Regions.{region, put, closed}
 use Rattle.model.specs.Address.{blockOf, sectorIndex, setIndex, goodBlock}
-use Rattle.model.specs.Tables.{Line, Entry, Tables, done, isInvalid, unused, holds, entryFor, empty, fresh}
+use Rattle.model.specs.Tables.{Line, Entry, Tables, done, isInvalid, unused, holds, entryFor, noEntry, empty, fresh}
 use Rattle.model.specs.Lent.{lent}
 use Rattle.model.specs.Steps.{arrived, fillLine, ticketsOf, afterFill, sentFor, fill}
 use Rattle.model.specs.Calls.{encoded, eventsTold, tidied, Leaves}
@@ -40,7 +40,7 @@ use Rattle.tables.proofs.Stores.{none}
 use Rattle.tables.proofs.Stands.{Stands, is-stands, stands-encode, withLines}
 use Rattle.tables.proofs.Ones.{map-one}
 use Rattle.tables.proofs.Lines.{flag-of-bit, tag-at, status-at, lifted, store-stands}
-use Rattle.tables.proofs.Misses.{noEntry, misses-used, sent-at, count-at, tickets-at, remove-stands, entry-found, entry-missing}
+use Rattle.tables.proofs.Misses.{misses-used, sent-at, count-at, tickets-at, remove-stands, entry-found, entry-missing}
 use Rattle.tables.proofs.Tellings.{refusal-leaves, done-leaves}
 use Rattle.steps.specs.Parts.{Holding, arrivedAt, SectorFilled, LineFilled, releasing}
 use Rattle.steps.proofs.Entries.{few-misses, some-tickets, few-tickets, kept-others, tickets-are, sent-is}

@@ -11,6 +11,7 @@ use lib.Seq.{take-take}
 use Rattle.model.specs.Words.{fit, places, joined}
 use Rattle.model.specs.Regions.{region, put, closed, dropped}
 use Rattle.model.specs.Tables.{Entry, Tables}
+pub use Rattle.model.specs.Tables.{noEntry}
 use Rattle.model.specs.Lent.{bit, longBlocks, wordBlocks, markBlocks, missOf, sentOf, ticketCountOf, ticketsIn}
 use Rattle.model.specs.declared.Settings.{Settings}
 use Rattle.model.proofs.Places.{length-places, field-put, field-get, field-region, take-fit}
@@ -19,10 +20,6 @@ use Rattle.tables.specs.Layout.{Placed}
 use Rattle.tables.specs.Raw.{First}
 use Rattle.tables.proofs.Stands.{Stands, withMisses}
 use Rattle.tables.proofs.Grown.{places-same, places-push-idle, field-push, field-extend, field-close-first, field-used}
-
--- what stands past the end of a miss table
-abbrev pub noEntry : Entry
-noEntry = record { address = 0; sent = false; tickets = [] }
 
 abbrev pub withSent : Entry → Entry
 withSent x = record { address = x .address; sent = true; tickets = x .tickets }

@@ -103,6 +103,7 @@ impl Fault {
             ("last-ticket-kept", Call::Fill(_)) if !refused && !written.is_empty() => {
                 keep_last_ticket(settings, before, tables);
             }
+            ("write-back-told-otherwise", Call::Access(_)) => tell_other_masks(written),
             ("lengths-not-checked", _) if written[..] == [0x11, 2] => written[1] = 3,
             _ => (),
         }
@@ -181,6 +182,16 @@ impl Fault {
         if self.0 == "writes-past-the-end" && length > 0 {
             *marks.add(length) = 0;
         }
+    }
+}
+
+/// A queued write-back, the last record of an access, is told without one of its bytes.
+fn tell_other_masks(written: &mut [u8]) {
+    let Some(from) = written.len().checked_sub(25).filter(|&from| written[from] == 0x13) else {
+        return;
+    };
+    if let Some(mask) = written[from + 9..].iter_mut().find(|byte| **byte != 0) {
+        *mask &= *mask - 1;
     }
 }
 

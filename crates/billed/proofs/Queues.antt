@@ -1,0 +1,144 @@
+-- The law of the queue: what stood in it and what a call's events tell queued is what they tell sent and what stands in it after.
+use Prim.Native.Nat.{ℕ}
+use mathlib.Core.Path.{_≡_, refl, sym, ap, _∙_}
+use mathlib.Core.Bool.{true, _||_}
+use mathlib.Core.List.{List, [], _∷_, _++_, map, append-nil, append-assoc}
+use native.Mathlib.Omega.{arith}
+use lib.ListN.{length, getD}
+use lib.Dec.{ltb}
+use borrow.Author.Tests.{eqb-true}
+use Rattle.model.specs.Words.{all, any}
+use Rattle.model.specs.Range.{inRange}
+use Rattle.model.specs.Tables.{Entry, Queued, reading, writing, Tables, Outcome, refused, after, eventsOf}
+use Rattle.model.specs.Sound.{lastCycle, queuedOk}
+use Rattle.model.specs.Probe.{Rules, Spot}
+use Rattle.model.specs.Steps.{fetches, queues, queuedEvent, sentEvent, accept, accessUnder, send, sendFrom, fill, ticketsOf, sentFor, tick}
+use Rattle.model.specs.History.{Call, offer, sending, filling, ticking, stepUnder}
+use Rattle.model.specs.declared.Settings.{Settings}
+use Rattle.model.specs.declared.Access.{Access}
+use Rattle.model.specs.declared.Access.the-variants.{Read, Write}
+use Rattle.model.specs.declared.Answer.{Answer}
+use Rattle.model.specs.declared.Answer.the-variants.{Hit, HitReserved, Miss, SectorMiss}
+use Rattle.model.specs.declared.Event.{Event}
+use Rattle.model.specs.declared.Event.the-variants as ev
+use Rattle.model.specs.declared.Refusal.{Refusal}
+use Rattle.model.specs.declared.Refusal.the-variants.{NotSent, BadCycle, QueueEmpty}
+use Rattle.model.proofs.Flags.{and-1, and-2, by-flag}
+use Rattle.model.proofs.SoundFacts.{Sound}
+use Rattle.model.proofs.AccessCases.{Accepted, access-cases}
+use Rattle.billed.specs.Queue.{queuedOf, sentOf, entriesBy, queuedBy, sentBy}
+
+-- ---- entries and their events
+
+-- four masks, as the events have them
+four-masks : (ms : List ℕ) → length ms ≡ 4 → getD ms 0 0 ∷ getD ms 1 0 ∷ getD ms 2 0 ∷ getD ms 3 0 ∷ [] ≡ ms
+four-masks [] h = absurd (omega arith)
+four-masks (a ∷ []) h = absurd (omega arith)
+four-masks (a ∷ b ∷ []) h = absurd (omega arith)
+four-masks (a ∷ b ∷ c ∷ []) h = absurd (omega arith)
+four-masks (a ∷ b ∷ c ∷ d ∷ []) h = refl
+four-masks (a ∷ b ∷ c ∷ d ∷ e ∷ ms) h = absurd (omega arith)
+
+module _ (es : List Entry) where
+  writes-four : (b : ℕ) (ms : List ℕ) → queuedOk es (writing b ms) ≡ true → length ms ≡ 4
+  unfolding queuedOk
+  writes-four b ms h = eqb-true (length ms) 4 (search (and-1, and-2) depth 4)
+
+  -- an entry of a sound queue is the one that its event tells
+  queued-told : (q : Queued) → queuedOk es q ≡ true → queuedOf (queuedEvent q) ≡ q ∷ []
+  queued-told (reading a) h = refl
+  queued-told (writing b ms) h = ap (λ (l : List ℕ). writing b l ∷ []) (four-masks ms (writes-four b ms h))
+
+  sent-told : (q : Queued) → queuedOk es q ≡ true → sentOf (sentEvent q) ≡ q ∷ []
+  sent-told (reading a) h = refl
+  sent-told (writing b ms) h = ap (λ (l : List ℕ). writing b l ∷ []) (four-masks ms (writes-four b ms h))
+
+  all-told : (qs : List Queued) → all (queuedOk es) qs ≡ true → queuedBy (map queuedEvent qs) ≡ qs
+  unfolding entriesBy
+  all-told [] h = refl
+  all-told (q ∷ qs) h =
+      rw (queued-told q (and-1 (queuedOk es q) _ h)) (ap (λ (l : List Queued). q ∷ l) (all-told qs (and-2 (queuedOk es q) _ h)))
+
+-- what is queued tells of nothing sent, and what is sent of nothing queued
+none-sent : (qs : List Queued) → sentBy (map queuedEvent qs) ≡ []
+unfolding entriesBy
+none-sent [] = refl
+none-sent (reading a ∷ qs) = none-sent qs
+none-sent (writing b ms ∷ qs) = none-sent qs
+
+none-queued : (q : Queued) → queuedOf (sentEvent q) ≡ []
+none-queued (reading a) = refl
+none-queued (writing b ms) = refl
+
+tickets-none : (f : Event → List Queued) → ((k : ℕ) → f (ev.Released k) ≡ []) → (ts : List ℕ) → entriesBy f (map ev.Released ts) ≡ []
+unfolding entriesBy
+tickets-none f h [] = refl
+tickets-none f h (k ∷ ts) = rw (h k) (tickets-none f h ts)
+
+fetch-told : (x : Access) (n : Answer) (qs : List Queued) → queuedBy (map queuedEvent (fetches x n ++ qs)) ≡ fetches x n ++ queuedBy (map queuedEvent qs)
+unfolding entriesBy
+fetch-told (Read a m k) Hit qs = refl
+fetch-told (Read a m k) HitReserved qs = refl
+fetch-told (Read a m k) Miss qs = refl
+fetch-told (Read a m k) SectorMiss qs = refl
+fetch-told (Write a m k) n qs = refl
+
+-- ---- each step
+
+-- a call on the tables t that came to o
+abbrev pub Tells : Tables → Outcome Tables → Type 0
+Tells t o = t .queue ++ queuedBy (eventsOf o) ≡ sentBy (eventsOf o) ++ after t o .queue
+
+refused-tells : (t : Tables) (n : Refusal) → Tells t (refused n)
+unfolding entriesBy
+refused-tells t n = append-nil (t .queue)
+
+module _ (R : Rules) (S : Settings) (range : inRange S ≡ true) (t : Tables) (ok : Sound S t) where
+  access-tells : (x : Access) → Tells t (accessUnder R S x t)
+  unfolding accept entriesBy
+  access-tells x = access-cases R S t x range ok (Tells t) (refused-tells t) made
+    where
+      made : (p : Spot) → Accepted R S t x p → Tells t (accept S x p t)
+      made p a = rw (none-sent (queues x p), fetch-told x (p .answer) (p .backs), all-told [] (p .backs) (a .spotted .backed []))
+
+  send-tells : Tells t (send t)
+  unfolding send entriesBy
+  send-tells = go (t .queue) refl (ok .lining)
+    where
+      go : (q : List Queued) → t .queue ≡ q → all (queuedOk (t .misses)) q ≡ true → Tells t (sendFrom q t)
+      go [] h f = refused-tells t QueueEmpty
+      go (e ∷ q) h f = rw (none-queued e, sent-told (t .misses) e (and-1 (queuedOk (t .misses) e) _ f), h) (append-nil (e ∷ q))
+
+  fill-tells : (a : ℕ) → Tells t (fill a t)
+  unfolding fill entriesBy
+  fill-tells a =
+      by-flag (Tells t) (any (sentFor a) (t .misses)) _ (refused NotSent)
+      (λ e. rw (tickets-none queuedOf (λ k. refl) (ticketsOf a (t .misses)), tickets-none sentOf (λ k. refl) (ticketsOf a (t .misses))) (append-nil (t .queue)))
+      (λ e. refused-tells t NotSent)
+
+  tick-tells : (c : ℕ) → Tells t (tick c t)
+  unfolding tick entriesBy
+  tick-tells c =
+      by-flag (Tells t) (ltb c (t .now) || ltb lastCycle c) (refused BadCycle) _ (λ e. refused-tells t BadCycle) (λ e. append-nil (t .queue))
+
+  -- the queue after an accepted call is the queue before, less its head for a send, and exactly the entries that its events tell
+  pub step-tells : (k : Call) → Tells t (stepUnder R S k t)
+  step-tells (offer x) = access-tells x
+  step-tells sending = send-tells
+  step-tells (filling a) = fill-tells a
+  step-tells (ticking c) = tick-tells c
+
+-- ---- one part of a history after another
+
+pub entries-append : (f : Event → List Queued) (es fs : List Event) → entriesBy f (es ++ fs) ≡ entriesBy f es ++ entriesBy f fs
+unfolding entriesBy
+entries-append f [] fs = refl
+entries-append f (e ∷ es) fs = rw (entries-append f es fs) (sym (append-assoc (f e) (entriesBy f es) (entriesBy f fs)))
+
+-- queues p, q, r; es tells how p became q, fs how q became r
+pub tells-append : (p q r : List Queued) (es fs : List Event) → p ++ queuedBy es ≡ sentBy es ++ q → q ++ queuedBy fs ≡ sentBy fs ++ r
+    → p ++ queuedBy (es ++ fs) ≡ sentBy (es ++ fs) ++ r
+tells-append p q r es fs a b =
+    rw (entries-append queuedOf es fs, entries-append sentOf es fs)
+    (sym (append-assoc p (queuedBy es) (queuedBy fs)) ∙ ap (λ (l : List Queued). l ++ queuedBy fs) a ∙ append-assoc (sentBy es) q (queuedBy fs)
+    ∙ ap (λ (l : List Queued). sentBy es ++ l) b ∙ sym (append-assoc (sentBy es) (sentBy fs) r))

@@ -1,0 +1,157 @@
+-- An access is refused, or accepted at a spot (`access-judged`): of sound tables the line itself, with nothing written back, or a victim
+-- with its write-back (`access-cases`). These are the laws by which the proofs above look at an access, under any rules; which victim is
+-- chosen is left open. So an access leaves sound tables sound.
+use Prim.Native.Nat.{ℕ, zero, suc, _+_, _≤_, _<_}
+use mathlib.Core.Path.{_≡_, refl, sym, ap, _∙_, subst}
+use mathlib.Core.Bool.{true, false, not, _&&_}
+use mathlib.Core.List.{List, []}
+use native.Mathlib.Omega.{arith}
+use lib.ListN.{length, getD, replicate}
+use lib.Dec.{ltb, leb}
+use Rattle.model.specs.Words.{any}
+use Rattle.model.specs.Range.{inRange}
+use Rattle.model.specs.Address.{addressOf, maskOf, isRead, blockOf, sectorIndex, wellFormed}
+use Rattle.model.specs.Tables.{Line, Tables, Outcome, refused, waiting, holds, empty, fresh}
+use Rattle.model.specs.Sound.{allOnes}
+use Rattle.model.specs.Probe.{answerOf, waysOf, dirtyLines, enoughDirty, candidate, first, Rule, Rules, victim, Spot, Place, no, at, writeBack, takeOver, meet, probe}
+use Rattle.model.specs.Steps.{isMerge, isMiss, placesNeeded, entryFull, accept, proceed, accessUnder}
+use Rattle.model.specs.declared.Settings.{Settings}
+use Rattle.model.specs.declared.Access.{Access}
+use Rattle.model.specs.declared.Answer.the-variants.{Miss}
+use Rattle.model.specs.declared.Found.{Found}
+use Rattle.model.specs.declared.Found.the-variants.{At, Nothing}
+use Rattle.model.specs.declared.Refusal.{Refusal}
+use Rattle.model.specs.declared.Refusal.the-variants.{BadAccess, QueueFull, EntryFull, MissTableFull}
+use Rattle.model.proofs.Flags.{and-1, not-yes, by-flag}
+use Rattle.model.proofs.Lists.{In, in-getD}
+use Rattle.model.proofs.SoundFacts.{Sound, LeavesSound, readers-some}
+use Rattle.model.proofs.Ways.{Finds, first-finds, victim-finds, Sits, way-sits}
+use Rattle.model.proofs.Taken.{Spotted, spotNumber, taken-sound}
+use Rattle.model.proofs.Offered.{rule-spotted}
+
+-- ---- what a spot is in the tables
+
+-- the line where the spot is
+abbrev pub lineThere : Settings → Tables → Access → Spot → Line
+lineThere S t x p = getD (t .lines) (spotNumber S x p) fresh
+
+pub data Stands (S : Settings) (t : Tables) (x : Access) (p : Spot) : Type 0 where
+  -- it holds the block: it is met as it is, and nothing is written back
+  found : p .line ≡ lineThere S t x p → p .backs ≡ [] → Stands S t x p
+  -- it doesn't, and no sector of it is RESERVED: it is written back, and its line is met with no byte marked
+  taken : holds (blockOf (addressOf x)) (lineThere S t x p) ≡ false → waiting (lineThere S t x p) ≡ false
+      → p .backs ≡ writeBack (lineThere S t x p) → ((k : ℕ) → getD (p .line .sectors) k empty .mask ≡ 0)
+      → Stands S t x p
+
+-- an access that meets the spot p under the rules R, to which none of refusals 4 to 9 applies
+pub record Judged (R : Rules) (S : Settings) (t : Tables) (x : Access) (p : Spot) : Type 0 where
+  pub formed : wellFormed x ≡ true
+  pub met : probe (R t (addressOf x)) S (dirtyLines t) (waysOf S (t .lines) (addressOf x)) x ≡ at p
+  pub roomy : ltb (S .places) (length (t .queue) + placesNeeded x p) ≡ false
+  pub joins : (isRead x && isMerge (p .answer) && any (entryFull S (addressOf x)) (t .misses)) ≡ false
+  pub enters : (isRead x && isMiss (p .answer) && leb (S .entries) (length (t .misses))) ≡ false
+
+-- and what the spot is in sound tables
+pub record Accepted (R : Rules) (S : Settings) (t : Tables) (x : Access) (p : Spot) : Type 0 where
+  pub judged : Judged R S t x p
+  pub spotted : Spotted S t x p
+  pub stands : Stands S t x p
+
+pub empty-masks : (n k : ℕ) → getD (replicate n empty) k empty .mask ≡ 0
+empty-masks zero k = refl
+empty-masks (suc n) zero = refl
+empty-masks (suc n) (suc k) = empty-masks n k
+
+-- the spots that the probe makes of a way: of one that holds the block, of one that is taken
+module _ (x : Access) (ways : List Line) (w : ℕ) where
+  abbrev met : Spot
+  met = record {
+    way = w;
+    line = getD ways w fresh;
+    answer = answerOf x (getD (getD ways w fresh .sectors) (sectorIndex (addressOf x)) empty);
+    backs = [];
+  }
+
+  abbrev over : Spot
+  over = record {
+    way = w;
+    line = record { tag = blockOf (addressOf x); cycle = 0; sectors = replicate 4 empty };
+    answer = Miss;
+    backs = writeBack (getD ways w fresh);
+  }
+
+-- all that is asked of a rule: the victim is a way of the set, and no sector of it is RESERVED
+abbrev pub Free : List Line → Found → Type 0
+Free ways Nothing = Unit {0}
+Free ways (At w) = (w < length ways) × (waiting (getD ways w fresh) ≡ false)
+
+pub victim-free : (R : Rule) (S : Settings) (d : ℕ) (ways : List Line) → Free ways (victim R S d ways)
+victim-free R S d ways = go (victim R S d ways) (victim-finds R S d ways)
+  where
+    go : (v : Found) → Finds (candidate (enoughDirty S d)) ways v → Free ways v
+    go Nothing f = tt
+    go (At w) f = (f .0, not-yes (and-1 (not (waiting (getD ways w fresh))) _ (f .1)))
+
+-- ---- an access
+
+module _ (S : Settings) (t : Tables) (x : Access) where
+  abbrev ways : List Line
+  ways = waysOf S (t .lines) (addressOf x)
+
+  -- any way without a RESERVED sector may be taken
+  over-stands : ((l : Line) → In l ways → holds (blockOf (addressOf x)) l ≡ false) → (v : Found) → Free ways v
+      → (p : Spot) → takeOver (addressOf x) ways v ≡ at p → Stands S t x p
+  over-stands f Nothing h p e = let z : _≡_ {A = ℕ} 0 1 = cc in absurd (omega arith)
+  over-stands f (At w) h p e =
+      let s : Sits S (t .lines) (addressOf x) w = way-sits S (t .lines) (addressOf x) w (h .0) in
+      let q : Stands S t x (over x ways w) =
+      taken (ap (holds (blockOf (addressOf x))) (sym (s .line)) ∙ f (getD ways w fresh) (in-getD ways w fresh (h .0)))
+      (ap waiting (sym (s .line)) ∙ h .1) (ap writeBack (s .line)) (empty-masks 4) in
+      subst (Stands S t x) (cc) q
+
+  meet-stands : (R : Rule) (d : ℕ) (v : Found) → Finds (holds (blockOf (addressOf x))) ways v → (p : Spot) → meet R S d ways x v ≡ at p → Stands S t x p
+  meet-stands R d Nothing h p e = over-stands h (victim R S d ways) (victim-free R S d ways) p e
+  meet-stands R d (At w) h p e =
+      let s : Sits S (t .lines) (addressOf x) w = way-sits S (t .lines) (addressOf x) w (h .0) in
+      let q : Stands S t x (met x ways w) = found (s .line) refl in
+      subst (Stands S t x) (cc) q
+
+  rule-stands : (R : Rule) (p : Spot) → probe R S (dirtyLines t) ways x ≡ at p → Stands S t x p
+  unfolding probe
+  rule-stands R p e = meet-stands R (dirtyLines t) (first (holds (blockOf (addressOf x))) ways) (first-finds (holds (blockOf (addressOf x))) ways) p e
+
+module _ (R : Rules) (S : Settings) (t : Tables) (x : Access) where
+  -- of any tables
+  pub access-judged : (P : Outcome Tables → Type 0) → ((n : Refusal) → P (refused n)) → ((p : Spot) → Judged R S t x p → P (accept S x p t))
+      → P (accessUnder R S x t)
+  unfolding proceed
+  access-judged P no-call made =
+      by-flag P (wellFormed x) _ (refused BadAccess) (λ f. go f (probe (R t (addressOf x)) S (dirtyLines t) (ways S t x) x) refl) (λ f. no-call BadAccess)
+    where
+      go : wellFormed x ≡ true → (q : Place) → probe (R t (addressOf x)) S (dirtyLines t) (ways S t x) x ≡ q → P (proceed S x t q)
+      go f (no n) e = no-call n
+      go f (at p) e =
+          by-flag P (ltb (S .places) (length (t .queue) + placesNeeded x p)) (refused QueueFull) _ (λ z. no-call QueueFull)
+          (λ roomy. by-flag P (isRead x && isMerge (p .answer) && any (entryFull S (addressOf x)) (t .misses)) (refused EntryFull) _ (λ z. no-call EntryFull)
+          (λ joins. by-flag P (isRead x && isMiss (p .answer) && leb (S .entries) (length (t .misses))) (refused MissTableFull) _ (λ z. no-call MissTableFull)
+          (λ enters. made p record { formed = f; met = e; roomy = roomy; joins = joins; enters = enters })))
+
+  -- of sound ones
+  module _ (range : inRange S ≡ true) (ok : Sound S t) where
+    pub access-cases : (P : Outcome Tables → Type 0) → ((n : Refusal) → P (refused n)) → ((p : Spot) → Accepted R S t x p → P (accept S x p t))
+        → P (accessUnder R S x t)
+    access-cases P no-call made =
+        access-judged P no-call (λ p j. made p record {
+          judged = j;
+          spotted = rule-spotted S range t ok x (R t (addressOf x)) p (j .met);
+          stands = rule-stands S t x (R t (addressOf x)) p (j .met);
+        })
+
+    pub access-leaves : maskOf x ≤ allOnes → LeavesSound S (accessUnder R S x t)
+    unfolding accept
+    access-leaves small = access-cases (LeavesSound S) (λ n. tt) made
+      where
+        made : (p : Spot) → Accepted R S t x p → LeavesSound S (accept S x p t)
+        made p a =
+            let j = a .judged in
+            taken-sound S t ok x (j .formed) small p (a .spotted) (readers-some S range) (j .joins) (j .enters) (j .roomy)
