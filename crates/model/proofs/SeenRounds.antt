@@ -84,7 +84,7 @@ abbrev pub unrefused : List Event → Bool
 unrefused es = not (any refusing es)
 
 -- an offer's events are accepted, so none is 0x11
-unrefused-too : {T : Type 0} (o : Outcome T) → Clear accepts o → Clear unrefused o
+pub unrefused-too : {T : Type 0} (o : Outcome T) → Clear accepts o → Clear unrefused o
 unrefused-too (refused n) c = record { clear = refl }
 unrefused-too (done es u) c = record { clear = and-2 (any answering es) (not (any refusing es)) (c .clear) }
 
