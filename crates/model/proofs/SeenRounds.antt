@@ -2,7 +2,7 @@
 -- they were and tells only refusals, and for no others; the calls of document 01 are such, and their rounds settle as `Bound` says.
 use mathlib.Core.Path.{_≡_, refl, sym, ap, subst, _∙_}
 use mathlib.Core.Logic.{_⊎_, inl, inr, ⊎-elim}
-use mathlib.Core.Bool.{Bool, true, false, not, _&&_, _||_}
+use mathlib.Core.Bool.{Bool, true, false, not, _&&_, _||_, false≢true}
 use mathlib.Core.List.{List, [], _∷_, _++_, map, append-nil}
 use Prim.Native.Nat.{ℕ, zero, suc, _+_, _≤_}
 use native.Mathlib.Omega.{arith}
@@ -20,13 +20,14 @@ use Rattle.model.specs.Steps.{isMerge, isMiss, entryFull, placesNeeded, 
 use Rattle.model.specs.Calls.{encoded, call, accessCall}
 use Rattle.model.specs.Rounds as old
 use Rattle.model.specs.Rounds.{Calls, Turn, still, took, andThen, isEmpty, steps, calls}
-use Rattle.model.specs.Seen.{Acts, refusing, accepts, but11, compared, Course, nothing, behind, goOn, marks, sendTurn, fillFirst, drain, rounds, struck, heldIn, waits, Demand3, seen, stepActs, callActs}
+use Rattle.model.specs.Seen.{Acts, answering, refusing, accepts, but11, compared, Course, nothing, behind, goOn, marks, sendTurn, fillFirst, drain, rounds, struck, heldIn, waits, Demand3, seen, stepActs, callActs}
 use Rattle.model.specs.declared.Settings.{Settings}
 use Rattle.model.specs.declared.Access.{Access}
 use Rattle.model.specs.declared.Event.{Event}
 use Rattle.model.specs.declared.Event.the-variants as event
+use Rattle.model.specs.declared.Refusal.{Refusal}
 use Rattle.model.specs.declared.Refusal.the-variants.{SetHeld}
-use Rattle.model.proofs.Flags.{not-yes, not-no, clash, or-no-1, or-no-2}
+use Rattle.model.proofs.Flags.{and-2, not-yes, clash, or-no-1, or-no-2}
 use Rattle.model.proofs.Lists.{any-append}
 use Rattle.model.proofs.Bound.{rounds-settled}
 use Rattle.model.proofs.Demand.{rounds-settled-lent}
@@ -68,25 +69,34 @@ module _ {T : Type 0} (C : Acts T) (quiet : Quiet C) where
   struck-same (suc n) t =
       struck-round t (rounds C n) (struck-same n) (drain C t) refl (C .offers (drain C t .left)) refl (accepts (C .offers (drain C t .left) .events)) refl
 
--- ---- no accepted step tells a refusal
+-- ---- a step is accepted where its events pass p
 
-module _ {T : Type 0} where
+module _ {T : Type 0} (p : List Event → Bool) where
   pub record Clear (o : Outcome T) : Type 0 where
-    pub clear : accepts (eventsOf o) ≡ accepted o
+    pub clear : p (eventsOf o) ≡ accepted o
 
-  clear-by : (b : Bool) {o p : Outcome T} → Clear o → Clear p → Clear (pick b o p)
+  clear-by : (b : Bool) {o q : Outcome T} → Clear o → Clear q → Clear (pick b o q)
   clear-by true h g = h
   clear-by false h g = g
+
+-- of a send and a fill: no event of kind 0x11
+abbrev pub unrefused : List Event → Bool
+unrefused es = not (any refusing es)
+
+-- an offer's events are accepted, so none is 0x11
+pub unrefused-too : {T : Type 0} (o : Outcome T) → Clear accepts o → Clear unrefused o
+unrefused-too (refused n) c = record { clear = refl }
+unrefused-too (done es u) c = record { clear = and-2 (any answering es) (not (any refusing es)) (c .clear) }
 
 sent-clear : (q : Queued) → refusing (sentEvent q) ≡ false
 sent-clear (reading a) = refl
 sent-clear (writing b ms) = refl
 
-pub send-clear : (t : Tables) → Clear (send t)
+pub send-clear : (t : Tables) → Clear unrefused (send t)
 unfolding send
 send-clear t = from (t .queue)
   where
-    from : (qs : List Queued) → Clear (sendFrom qs t)
+    from : (qs : List Queued) → Clear unrefused (sendFrom qs t)
     from [] = record { clear = refl }
     from (q ∷ qs) = record { clear = rw (sent-clear q) }
 
@@ -94,60 +104,61 @@ released-clear : (ks : List ℕ) → any refusing (map event.Released ks) ≡ fa
 released-clear [] = refl
 released-clear (k ∷ ks) = released-clear ks
 
-pub fill-clear : (a : ℕ) (t : Tables) → Clear (fill a t)
+pub fill-clear : (a : ℕ) (t : Tables) → Clear unrefused (fill a t)
 unfolding fill
 fill-clear a t =
-    clear-by (any (sentFor a) (t .misses)) record { clear = ap not (released-clear (ticketsOf a (t .misses))) } record { clear = refl }
+    clear-by unrefused (any (sentFor a) (t .misses)) record { clear = ap not (released-clear (ticketsOf a (t .misses))) } record { clear = refl }
 
 queued-clear : (qs : List Queued) → any refusing (map queuedEvent qs) ≡ false
 queued-clear [] = refl
 queued-clear (reading a ∷ qs) = queued-clear qs
 queued-clear (writing b ms ∷ qs) = queued-clear qs
 
-proceed-clear : (S : Settings) (x : Access) (t : Tables) (p : Place) → Clear (proceed S x t p)
+proceed-clear : (S : Settings) (x : Access) (t : Tables) (p : Place) → Clear accepts (proceed S x t p)
 unfolding proceed accept
 proceed-clear S x t (no n) = record { clear = refl }
 proceed-clear S x t (at p) =
-    clear-by (ltb (S .places) (length (t .queue) + placesNeeded x p)) record { clear = refl }
-    (clear-by (isRead x && isMerge (p .answer) && any (entryFull S (addressOf x)) (t .misses)) record { clear = refl }
-    (clear-by (isRead x && isMiss (p .answer) && leb (S .entries) (length (t .misses))) record { clear = refl }
+    clear-by accepts (ltb (S .places) (length (t .queue) + placesNeeded x p)) record { clear = refl }
+    (clear-by accepts (isRead x && isMerge (p .answer) && any (entryFull S (addressOf x)) (t .misses)) record { clear = refl }
+    (clear-by accepts (isRead x && isMiss (p .answer) && leb (S .entries) (length (t .misses))) record { clear = refl }
     record { clear = ap not (queued-clear (queues x p)) }))
 
-pub access-clear : (S : Settings) (x : Access) (t : Tables) → Clear (access S x t)
+pub access-clear : (S : Settings) (x : Access) (t : Tables) → Clear accepts (access S x t)
 unfolding access
 access-clear S x t =
-    clear-by (wellFormed x) (proceed-clear S x t (probe (ruleOf S t (addressOf x)) S (dirtyLines t) (waysOf S (t .lines) (addressOf x)) x)) record { clear = refl }
+    clear-by accepts (wellFormed x) (proceed-clear S x t (probe (ruleOf S t (addressOf x)) S (dirtyLines t) (waysOf S (t .lines) (addressOf x)) x)) record { clear = refl }
 
-encoded-clear : (S : Settings) (o : Outcome Tables) → Clear o → Clear (encoded S o)
-encoded-clear S (refused n) c = record { clear = refl }
-encoded-clear S (done es u) c = record { clear = c .clear }
+encoded-clear : (p : List Event → Bool) (S : Settings) (o : Outcome Tables) → Clear p o → Clear p (encoded S o)
+encoded-clear p S (refused n) c = record { clear = c .clear }
+encoded-clear p S (done es u) c = record { clear = c .clear }
 
-pub call-clear : (S : Settings) (step : Tables → Outcome Tables) (L : Lent) → ((t : Tables) → Clear (step t)) → Clear (call S step L)
+pub call-clear : (p : List Event → Bool) → ((n : Refusal) → p (event.Refused n ∷ []) ≡ false) → (S : Settings) (step : Tables → Outcome Tables) (L : Lent)
+    → ((t : Tables) → Clear p (step t)) → Clear p (call S step L)
 unfolding call
-call-clear S step L c =
-    clear-by (inRange S)
-    (clear-by (lengthsFit S L)
-    (clear-by (soundLent S L) (encoded-clear S (step (tablesOf S L)) (c (tablesOf S L))) record { clear = refl })
-    record { clear = refl })
-    record { clear = refl }
+call-clear p none S step L c =
+    clear-by p (inRange S)
+    (clear-by p (lengthsFit S L)
+    (clear-by p (soundLent S L) (encoded-clear p S (step (tablesOf S L)) (c (tablesOf S L))) record { clear = none _ })
+    record { clear = none _ })
+    record { clear = none _ }
 
 -- ---- calls that come to outcomes: "Every refusal returns its number and leaves all tables unchanged."
 
 abbrev actsOf : {T : Type 0} → Calls T → Acts T
 actsOf C = record { sends = λ t. seen t (C .sends t); fills = λ a t. seen t (C .fills a t); offers = λ t. seen t (C .offers t); tables = C .tables }
 
-module _ {T : Type 0} (C : Calls T) (clear : (t : T) → Clear (C .offers t)) where
+module _ {T : Type 0} (C : Calls T) (clear : (t : T) → Clear accepts (C .offers t)) where
   abbrev A : Acts T
   A = actsOf C
 
   quiet-acts : Quiet A
   quiet-acts = record { tells = λ t. tells t (C .offers t) (clear t); leaves = λ t. leaves t (C .offers t) (clear t) }
     where
-      tells : (t : T) (o : Outcome T) → Clear o → accepts (eventsOf o) ≡ false → but11 (eventsOf o) ≡ []
+      tells : (t : T) (o : Outcome T) → Clear accepts o → accepts (eventsOf o) ≡ false → but11 (eventsOf o) ≡ []
       tells t (refused n) c h = refl
       tells t (done es u) c h = clash (c .clear) h
 
-      leaves : (t : T) (o : Outcome T) → Clear o → accepts (eventsOf o) ≡ false → after t o ≡ t
+      leaves : (t : T) (o : Outcome T) → Clear accepts o → accepts (eventsOf o) ≡ false → after t o ≡ t
       leaves t (refused n) c h = refl
       leaves t (done es u) c h = clash (c .clear) h
 
@@ -184,7 +195,7 @@ module _ {T : Type 0} (C : Calls T) (clear : (t : T) → Clear (C .offers t)) wh
   rounds-offers zero t = refl
   rounds-offers (suc n) t = rw (drained-left t) (go (C .offers (old.drain C t .left)) (clear (old.drain C t .left)) (rounds-offers n (old.drain C t .left)))
     where
-      go : (o : Outcome T) → Clear o → rounds A n (old.drain C t .left) .offers ≡ map eventsOf (old.rounds C n (old.drain C t .left) .offers)
+      go : (o : Outcome T) → Clear accepts o → rounds A n (old.drain C t .left) .offers ≡ map eventsOf (old.rounds C n (old.drain C t .left) .offers)
           → goOn (drain A t) (seen (old.drain C t .left) o) (rounds A n) .offers ≡ map eventsOf (old.goOn (old.drain C t) (old.rounds C n) o .offers)
       go (refused k) c ih = ap (λ (os : List (List Event)). (event.Refused k ∷ []) ∷ os) ih
       go (done es v) c ih = rw (c .clear)
@@ -194,7 +205,7 @@ module _ {T : Type 0} (C : Calls T) (clear : (t : T) → Clear (C .offers t)) wh
   accepted-same zero t = refl
   accepted-same (suc n) t = rw (drained-left t) (go (C .offers (old.drain C t .left)) (clear (old.drain C t .left)) (accepted-same n (old.drain C t .left)))
     where
-      go : (o : Outcome T) → Clear o → any accepts (rounds A n (old.drain C t .left) .offers) ≡ any accepted (old.rounds C n (old.drain C t .left) .offers)
+      go : (o : Outcome T) → Clear accepts o → any accepts (rounds A n (old.drain C t .left) .offers) ≡ any accepted (old.rounds C n (old.drain C t .left) .offers)
           → any accepts (goOn (drain A t) (seen (old.drain C t .left) o) (rounds A n) .offers) ≡ any accepted (old.goOn (old.drain C t) (old.rounds C n) o .offers)
       go (refused k) c ih = ih
       go (done es v) c ih = rw (c .clear)
@@ -218,14 +229,14 @@ but11-clear [] h = refl
 but11-clear (e ∷ es) h =
     rw (or-no-1 (refusing e) (any refusing es) h) (ap (λ (l : List Event). e ∷ l) (but11-clear es (or-no-2 (refusing e) (any refusing es) h)))
 
-seen-took : {T : Type 0} (t : T) (o : Outcome T) → Clear o → compared (seen t o) ≡ took t o
+seen-took : {T : Type 0} (t : T) (o : Outcome T) → Clear unrefused o → compared (seen t o) ≡ took t o
 seen-took t (refused n) c = refl
 seen-took t (done es u) c = rw (but11-clear es (not-yes {b = any refusing es} (c .clear)))
 
 pub record ClearCalls {T : Type 0} (C : Calls T) : Type 0 where
-  pub sends : (t : T) → Clear (C .sends t)
-  pub fills : (a : ℕ) (t : T) → Clear (C .fills a t)
-  pub offers : (t : T) → Clear (C .offers t)
+  pub sends : (t : T) → Clear unrefused (C .sends t)
+  pub fills : (a : ℕ) (t : T) → Clear unrefused (C .fills a t)
+  pub offers : (t : T) → Clear accepts (C .offers t)
 
 module _ {T : Type 0} (C : Calls T) (clear : ClearCalls C) where
   sent-same : (t : T) → compared (sendTurn (actsOf C) t) ≡ old.sendTurn C t
@@ -258,16 +269,17 @@ module _ {T : Type 0} (C : Calls T) (clear : ClearCalls C) where
       rw (← drained-same t)
       (go (drain (actsOf C) t) (C .offers (drain (actsOf C) t .left)) (clear .offers (drain (actsOf C) t .left)) (rounds-turn n (drain (actsOf C) t .left)))
     where
-      go : (a : Turn T) (o : Outcome T) → Clear o → compared (rounds (actsOf C) n (a .left) .turn) ≡ old.rounds C n (a .left) .turn
+      go : (a : Turn T) (o : Outcome T) → Clear accepts o → compared (rounds (actsOf C) n (a .left) .turn) ≡ old.rounds C n (a .left) .turn
           → compared (goOn a (seen (a .left) o) (rounds (actsOf C) n) .turn) ≡ old.goOn (compared a) (old.rounds C n) o .turn
       go a (refused k) c ih = rw but11-append (ap (λ (v : Turn T). record { events = but11 (a .events) ++ v .events; left = v .left }) ih)
-      go a (done es v) c ih = rw (c .clear, append-nil, but11-append, but11-clear es (not-yes {b = any refusing es} (c .clear)))
+      go a (done es v) c ih =
+          rw (c .clear, append-nil, but11-append, but11-clear es (not-yes {b = any refusing es} (unrefused-too (done es v) c .clear)))
 
 pub calls-clear : (S : Settings) (x : Access) → ClearCalls (calls S x)
 calls-clear S x = record {
-  sends = λ L. call-clear S send L send-clear;
-  fills = λ a L. call-clear S (fill a) L (fill-clear a);
-  offers = λ L. call-clear S (access S x) L (access-clear S x);
+  sends = λ L. call-clear unrefused (λ n. refl) S send L send-clear;
+  fills = λ a L. call-clear unrefused (λ n. refl) S (fill a) L (fill-clear a);
+  offers = λ L. call-clear accepts (λ n. refl) S (access S x) L (access-clear S x);
 }
 
 -- the rounds on slices, as they are seen, are those of the calls as outcomes
@@ -289,7 +301,7 @@ demand-3-seen S x t range soundly formed = demand-seen (steps S x) (access-clear
 pub demand-3-seen-lent : (S : Settings) (x : Access) (L : Lent) → inRange S ≡ true → lengthsFit S L ≡ true → Small L → soundLent S L ≡ true → wellFormed x ≡ true
     → Demand3 (callActs S x) L
 demand-3-seen-lent S x L range fits small soundly formed =
-    demand-seen (calls S x) (λ M. call-clear S (access S x) M (access-clear S x)) L (rounds-settled-lent S x L range fits small soundly formed)
+    demand-seen (calls S x) (calls-clear S x .offers) L (rounds-settled-lent S x L range fits small soundly formed)
 
 -- ---- what demand 3 turns away
 
@@ -323,3 +335,25 @@ pub not-demand-3-of-a-leaky-library : (t : Tables) → Demand3 leaky t → ⊥
 not-demand-3-of-a-leaky-library t d =
     let e : suc (drain leaky t .left .now) ≡ drain leaky t .left .now = ap (λ (u : Tables). u .now) (demand-3-leaves leaky t d refl) in
     omega arith
+
+-- a library whose calls tell nothing and leave everything as it was
+abbrev pub silent : Acts Tables
+silent = record { sends = λ t. still t; fills = λ a t. still t; offers = λ t. still t; tables = λ t. t }
+
+silent-offers : (n : ℕ) (t : Tables) → (any accepts (rounds silent n t .offers) ≡ false) × ((i : ℕ) → getD (rounds silent n t .offers) i [] ≡ [])
+unfolding rounds
+silent-offers zero t = (refl, λ i. refl)
+silent-offers (suc n) t = let (none, told) = silent-offers n (drain silent t .left) in (none, λ i. at-place i told)
+  where
+    at-place : (i : ℕ) → ((j : ℕ) → getD (rounds silent n (drain silent t .left) .offers) j [] ≡ [])
+        → getD ([] ∷ rounds silent n (drain silent t .left) .offers) i [] ≡ []
+    at-place zero h = refl
+    at-place (suc i) h = h i
+
+pub not-demand-3-of-a-silent-library : (t : Tables) → Demand3 silent t → ⊥
+not-demand-3-of-a-silent-library t d =
+    let n = waits silent t in
+    ⊎-elim
+    (λ h. false≢true (sym (silent-offers (suc n) t .0) ∙ h))
+    (λ h. let e : _≡_ {A = List Event} [] (event.Refused SetHeld ∷ []) = sym (silent-offers (suc (n + 0)) t .1 (n + 0)) ∙ h 0 in omega (arith, ap length e))
+    (d .settles)

@@ -1,5 +1,5 @@
--- "The rounds of demand 3" of calls that come to outcomes, and where they settle. They are said of any calls over any kind of tables: of the
--- steps on the tables of document 01, and of the calls on lent slices. Demand 3 itself is said in `Seen`, of what a caller sees.
+-- The rounds of calls that come to outcomes, and where they settle: used inside proofs alone. A refused outcome has no tables, so these rounds
+-- cannot say what a refused call leaves; demand 3 is said in `Seen`, of what a caller sees.
 use Prim.Native.Nat.{ℕ, zero, suc, _+_, _-_, _≤_}
 use mathlib.Core.Path.{_≡_}
 use mathlib.Core.Logic.{_⊎_}

@@ -3,7 +3,7 @@
 use Prim.Native.Nat.{ℕ, zero, suc, _+_, _-_}
 use mathlib.Core.Path.{_≡_}
 use mathlib.Core.Logic.{_⊎_}
-use mathlib.Core.Bool.{Bool, true, false, not}
+use mathlib.Core.Bool.{Bool, true, false, not, _&&_}
 use mathlib.Core.List.{List, [], _∷_, map}
 use lib.ListN.{length, getD}
 use lib.Dec.{eqb}
@@ -29,13 +29,17 @@ pub record Acts (T : Type 0) : Type 0 where
 
 -- ---- events by their kind
 
+-- kind 0x10
+abbrev pub answering : Event → Bool
+answering e = eqb (kindOf e) 0x10
+
 -- kind 0x11
 abbrev pub refusing : Event → Bool
 refusing e = eqb (kindOf e) 0x11
 
 -- "Accepted means answered without a refusal number."
 abbrev pub accepts : List Event → Bool
-accepts es = not (any refusing es)
+accepts es = any answering es && not (any refusing es)
 
 -- "0x11 is left out and nothing else"
 abbrev pub but11 : List Event → List Event

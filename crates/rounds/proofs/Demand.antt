@@ -1,9 +1,8 @@
 -- What an answer of `wait` says, by demand 3: accepted, no later than round max(1, q + m); held, refused as 6 in that round and in every
 -- later one.
-use mathlib.Core.Path.{_≡_, refl, sym, ap, _∙_}
-use mathlib.Core.Logic.{_⊎_, inl, inr, ⊎-elim}
+use mathlib.Core.Path.{_≡_, refl, sym, _∙_}
+use mathlib.Core.Logic.{⊎-elim}
 use mathlib.Core.Bool.{true, false, false≢true}
-use mathlib.Core.List.{List, [], _∷_}
 use Prim.Native.Nat.{ℕ, zero, suc, _+_, _≤_}
 use native.Mathlib.Omega.{arith}
 use lib.ListN.{length}
@@ -13,7 +12,7 @@ use Rattle.model.specs.Address.{wellFormed}
 use Rattle.model.specs.Tables.{Outcome, refused, done, accepted}
 use Rattle.model.specs.Lent.{Lent, lengthsFit}
 use Rattle.model.specs.SoundLent.{soundLent}
-use Rattle.model.specs.Rounds.{Calls, calls, Turn, Run, goOn, drain, rounds, waits}
+use Rattle.model.specs.Rounds.{Calls, calls, Run, goOn, drain, rounds, waits}
 use Rattle.model.specs.Seen.{heldIn, callActs}
 use Rattle.model.specs.declared.Settings.{Settings}
 use Rattle.model.specs.declared.Access.{Access}

@@ -1,20 +1,17 @@
 -- What waiting comes to: the rounds on slices are those on the tables that they hold; refusals before the first round; room for the events.
 use mathlib.Core.Path.{_≡_, refl, sym, ap, _∙_}
-use mathlib.Core.Bool.{Bool, true, false}
-use mathlib.Core.List.{List, [], _∷_, _++_, map}
+use mathlib.Core.Bool.{true, false}
+use mathlib.Core.List.{List, [], _∷_, map}
 use Prim.Native.Nat.{ℕ, suc, _≤_, _<_}
-use native.Mathlib.Nat.{zero-add}
 use native.Mathlib.Omega.{arith}
 use borrow.Author.Tests.{le-leb, lt-leb}
-use lib.ListN.{length, drop, length-map}
-use lib.Seq.{sets-eq}
-use Rattle.model.specs.Words.{pick}
+use lib.ListN.{length, length-map}
 use Rattle.model.specs.Address.{wellFormed}
 use Rattle.model.specs.Tables.{Tables, Outcome, refused, done}
-use Rattle.model.specs.Lent.{Lent, encode}
+use Rattle.model.specs.Lent.{Lent}
 use Rattle.model.specs.Calls.{encoded, checkCall, verdictOf, eventsTold}
 use Rattle.model.specs.Inner.{Is, Held}
-use Rattle.model.specs.Records.{bytesOf, eventBytes, logBytes}
+use Rattle.model.specs.Records.{bytesOf, eventBytes, logBytes, eventsIn, eventsFrom}
 use Rattle.model.specs.Rounds.{steps, calls, Run, rounds, waits}
 use Rattle.model.specs.declared.Settings.{Settings}
 use Rattle.model.specs.declared.Access.{Access}
@@ -35,8 +32,10 @@ use Rattle.tables.specs.Telling.{telling}
 use Rattle.tables.proofs.Tellings.{telling-tells}
 use Rattle.rounds.specs.declared.Waiting.the-variants as wait
 use Rattle.rounds.specs.declared.Waited.{Waited}
-use Rattle.rounds.specs.Waiting.{lastOf, waitingOf, refusalOf, settled, turnedAway, enoughRounds, waitChecked, waitCall, waitWithin, Waits}
-use Rattle.rounds.specs.Parts.{Enough, lentWait, Settles, TurnsAway, WaitsHeld}
+use Rattle.rounds.specs.Waiting.{lastOf, waitingOf, refusalOf, settled, turnedAway, enoughRounds, waitCall, waitWithin, Waits}
+use Rattle.turns.specs.Parts.{Noted, Enough}
+use Rattle.rounds.specs.Parts.{lentWait, Settles, TurnsAway, WaitsHeld}
+use Rattle.rounds.proofs.Written.{written}
 use Rattle.rounds.proofs.SameWait.{settled-same}
 
 -- ---- the rounds on slices
@@ -100,14 +99,9 @@ turns-away n e {told} is {w} {f} s room =
     let one : eventsTold told ≡ event.Refused n ∷ [] = ap eventsTold is ∙ telling-tells (event.Refused n) in
     let two = refused-length n in
     let (count, slice) = was-stored e 0 (logBytes (event.Refused n ∷ [])) (rw one at s) (omega arith) in
-    record {
-      on = λ L. record {
-        waiting = refl;
-        written = count;
-        events = slice ∙ sets-eq (logBytes (event.Refused n ∷ [])) e 0 (omega arith) ∙ rw zero-add;
-        left = refl;
-      };
-    }
+    let noted : Noted e 0 (event.Refused n ∷ []) w f = record { next = omega arith; slice = slice; fits = (tt, tt) } in
+    let (bytes, events, back) = written (event.Refused n ∷ []) e noted (omega arith) in
+    record { on = λ L. record { waiting = refl; written = bytes; events = events; reads = back; left = refl } }
 
 -- ---- the call
 
@@ -120,8 +114,8 @@ module _ (S : Settings) (x : Access) (L : Lent) (e : List ℕ) where
   roomy h = rw (le-leb 9600 (length e) h)
 
   pub waits-no-room : length e < 9600 → Waits (waitWithin (length e) S x L) e record { waiting = wait.NoRoom; written = 0 } e L
-  unfolding logBytes
-  waits-no-room h = rw (lt-leb 9600 (length e) h) record { waiting = refl; written = refl; events = refl; left = refl }
+  unfolding logBytes eventsIn eventsFrom
+  waits-no-room h = rw (lt-leb 9600 (length e) h) record { waiting = refl; written = refl; events = refl; reads = refl; left = refl }
 
   pub waits-refused : {v : Verdict} {n : Refusal} {r : Waited} {f : List ℕ} → 9600 ≤ length e → v ≡ verdictOf (checkCall S L) → v ≡ verdict.Refused n
       → TurnsAway n e r f → Waits (waitWithin (length e) S x L) e r f L

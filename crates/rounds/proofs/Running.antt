@@ -1,19 +1,18 @@
 -- The two loops, over the rounds and over the struck rounds: what is left, run from here, gives what all of them give.
-use mathlib.Core.Path.{_≡_, refl, sym, ap, subst, _∙_}
-use mathlib.Core.Bool.{Bool, true, false, not}
+use mathlib.Core.Path.{_≡_, refl, sym, _∙_}
+use mathlib.Core.Bool.{true, false}
 use mathlib.Core.List.{List, [], _∷_, _++_, map, append-nil, append-assoc}
-use Prim.Native.Nat.{ℕ, zero, suc, _+_, _-_, _*_, _≤_, _<_}
+use Prim.Native.Nat.{ℕ, suc, _+_, _-_, _*_, _≤_, _<_}
 use native.Mathlib.Nat.{zero-add}
 use native.Mathlib.Numerals.{add-one}
 use native.Mathlib.Omega.{arith}
 use lib.Dec.{eqb}
-use lib.ListN.{length, take, drop, getD, set, length-append, length-map, length-set}
-use lib.Seq.{sets, sets-eq, drop-cons, drop-length}
-use Rattle.model.specs.Words.{pick, any}
+use lib.ListN.{length, drop, getD, set, length-append, length-map, length-set}
+use lib.Seq.{sets-eq, drop-cons, drop-length}
 use Rattle.model.specs.Lent.{Lent, bit}
 use Rattle.model.specs.Inner.{Held}
 use Rattle.model.specs.Records.{logBytes}
-use Rattle.model.specs.Rounds.{Turn, still, andThen}
+use Rattle.model.specs.Rounds.{Turn}
 use Rattle.model.specs.Seen.{Acts, accepts, Course, marks, drain, rounds, struck, callActs}
 use Rattle.model.specs.declared.Settings.{Settings}
 use Rattle.model.specs.declared.Access.{Access}
@@ -22,15 +21,13 @@ use Rattle.records.specs.Stores.{Laid}
 use Rattle.records.proofs.Stores.{laid-then}
 use Rattle.rounds.specs.declared.Went.the-variants.{Ran}
 use Rattle.rounds.specs.declared.Offer.{Offer}
-use Rattle.rounds.specs.Parts.{Noted}
-use Rattle.rounds.specs.Shown.{marked, ranTo, roundTurn, struckTurn, SeesRound, SeesStruck, RunsOn, StrikesOn}
-use Rattle.rounds.proofs.Noting.{noted-then}
+use Rattle.turns.specs.Parts.{Noted}
+use Rattle.rounds.specs.Demand3.{marked}
+use Rattle.rounds.specs.Parts.{struckTurn, SeesRound, SeesStruck, RunsOn, StrikesOn}
+use Rattle.turns.proofs.Noting.{noted-then}
+use Rattle.rounds.proofs.Written.{written}
 
 -- ---- the caller's buffers in the end
-
-written : (es : List Event) (e : List ℕ) {w : ℕ} {f : List ℕ} → Noted e 0 es w f → w ≤ length e
-    → (w ≡ length (logBytes es)) × (f ≡ logBytes es ++ drop (length (logBytes es)) e)
-written es e n h = (omega (arith, n .next), n .slice ∙ sets-eq (logBytes es) e 0 (omega (arith, n .next)) ∙ rw zero-add)
 
 abbrev flagsOf : List (List Event) → List ℕ
 flagsOf os = map bit (map accepts os)
@@ -82,7 +79,7 @@ module _ (S : Settings) (x : Access) (n : ℕ) where
     offers = [];
     made = refl;
     rest = let q : n - 0 ≡ n = omega arith in rw q;
-    bytes = record { next = refl; slice = refl };
+    bytes = record { next = refl; slice = refl; fits = tt };
     flagged = record { next = refl; slice = refl };
   }
 
@@ -92,10 +89,10 @@ module _ (S : Settings) (x : Access) (n : ℕ) where
         → rounds C n L₀ ≡ record { turn = record { events = es; left = L }; offers = os } → length os ≡ i → Noted e₀ 0 es out e
         → Laid fl₀ 0 i (flagsOf os) i fl → i ≤ n → out ≤ 112 * i → RunsOn S x n L₀ fl₀ e₀ (Ran i out) L fl e
     ended es os {L} {fl} {e} {i} {out} all made bytes flagged few short =
-        let (count, slice) = written es e₀ bytes (omega arith) in
+        let (count, slice, back) = written es e₀ bytes (omega arith) in
         let size = flags-length os in
         record {
-          shows = rw (all, count, slice, made);
+          shows = rw (all, back, count, slice, made);
           flags = rw all (flagged .slice ∙ sets-eq (flagsOf os) fl₀ 0 (omega arith) ∙ rw (zero-add, size));
         }
 
@@ -189,7 +186,7 @@ module _ (S : Settings) (x : Access) (fl : List ℕ) where
     held = h;
     events = [];
     rest = refl;
-    bytes = record { next = refl; slice = refl };
+    bytes = record { next = refl; slice = refl; fits = tt };
   }
 
   module _ {L₀ : Lent} {e₀ : List ℕ} {L : Lent} {e : List ℕ} {i out : ℕ} (g : Strikes L₀ e₀ L e i out) where
@@ -197,9 +194,9 @@ module _ (S : Settings) (x : Access) (fl : List ℕ) where
     unfolding struck
     strikes-end h room =
         let z : i ≡ length fl = let k = g .few in omega arith in
-        let (count, slice) = written (g .events) e₀ (g .bytes) (let k = g .short in omega arith) in
+        let (count, slice, back) = written (g .events) e₀ (g .bytes) (let k = g .short in omega arith) in
         let all : struck D (marked fl) L₀ ≡ record { events = g .events; left = L } = g .rest ∙ rw (z, drop-length, append-nil) in
-        record { shows = rw (all, count, slice, z) }
+        record { shows = rw (all, back, count, slice, z) }
 
     pub strikes-again : i < length fl → {w : ℕ} {f : List ℕ} {M : Lent} → SeesStruck S x (eqb (getD fl i 0) 1) L e out w f M
         → length f ≡ length e → length (M .longs) ≡ length (L .longs) → length (M .words) ≡ length (L .words) → length (M .marks) ≡ length (L .marks)

@@ -7,7 +7,7 @@ use Rattle.model.specs.Tables.{Outcome, refused, done, eventsOf}
 use Rattle.model.specs.Lent.{Lent}
 use Rattle.model.specs.Rounds.{Calls, calls, goOn}
 use Rattle.model.specs.Rounds as old
-use Rattle.model.specs.Seen.{rounds, callActs}
+use Rattle.model.specs.Seen.{accepts, rounds, callActs}
 use Rattle.model.specs.declared.Settings.{Settings}
 use Rattle.model.specs.declared.Access.{Access}
 use Rattle.model.specs.declared.Refusal.the-variants.{SetHeld}
@@ -19,22 +19,22 @@ module _ {T : Type 0} where
   last-told o [] = refl
   last-told o (p ∷ os) = last-told p os
 
-  says-same : (n : ℕ) (o : Outcome T) → Clear o → waitingBy n (eventsOf o) ≡ waitingOf n o
+  says-same : (n : ℕ) (o : Outcome T) → Clear accepts o → waitingBy n (eventsOf o) ≡ waitingOf n o
   says-same n (refused k) c = refl
   says-same n (done es u) c = rw (c .clear)
 
-  refusal-same : (o : Outcome T) → Clear o → refusalIn (eventsOf o) ≡ refusalOf o
+  refusal-same : (o : Outcome T) → Clear accepts o → refusalIn (eventsOf o) ≡ refusalOf o
   refusal-same (refused k) c = refl
   refusal-same (done es u) c = rw (c .clear)
 
-module _ {T : Type 0} (C : Calls T) (clear : (t : T) → Clear (C .offers t)) where
-  last-clear : (n : ℕ) (t : T) (d : Outcome T) → Clear d → Clear (lastOf d (old.rounds C n t .offers))
+module _ {T : Type 0} (C : Calls T) (clear : (t : T) → Clear accepts (C .offers t)) where
+  last-clear : (n : ℕ) (t : T) (d : Outcome T) → Clear accepts d → Clear accepts (lastOf d (old.rounds C n t .offers))
   unfolding old.rounds
   last-clear zero t d c = c
   last-clear (suc n) t d c = go (C .offers (old.drain C t .left)) (clear (old.drain C t .left)) (last-clear n (old.drain C t .left))
     where
-      go : (o : Outcome T) → Clear o → ((e : Outcome T) → Clear e → Clear (lastOf e (old.rounds C n (old.drain C t .left) .offers)))
-          → Clear (lastOf d (goOn (old.drain C t) (old.rounds C n) o .offers))
+      go : (o : Outcome T) → Clear accepts o → ((e : Outcome T) → Clear accepts e → Clear accepts (lastOf e (old.rounds C n (old.drain C t .left) .offers)))
+          → Clear accepts (lastOf d (goOn (old.drain C t) (old.rounds C n) o .offers))
       go (refused k) k-clear ih = ih (refused k) k-clear
       go (done es u) o-clear ih = o-clear
 
@@ -42,5 +42,5 @@ module _ (S : Settings) (x : Access) (n : ℕ) (L : Lent) where
   pub settled-same : comesTo (rounds (callActs S x) n L) ≡ settled (old.rounds (calls S x) n L)
   settled-same =
       let os = old.rounds (calls S x) n L .offers in
-      let c : Clear (lastOf (refused SetHeld) os) = last-clear (calls S x) (calls-clear S x .offers) n L (refused SetHeld) record { clear = refl } in
+      let c : Clear accepts (lastOf (refused SetHeld) os) = last-clear (calls S x) (calls-clear S x .offers) n L (refused SetHeld) record { clear = refl } in
       rw (← lent-turn S x n L, lent-offers S x n L, last-told (refused SetHeld) os, length-map, says-same (length os) (lastOf (refused SetHeld) os) c, refusal-same (lastOf (refused SetHeld) os) c)

@@ -1,22 +1,22 @@
 -- The rounds one after another: where the loop over them stands, a round more, its two ends.
 use mathlib.Core.Path.{_≡_, refl, sym, ap, subst, _∙_}
-use mathlib.Core.Logic.{_⊎_, inl, inr, ⊎-elim}
-use mathlib.Core.Bool.{Bool, true, false, not, false≢true}
+use mathlib.Core.Logic.{⊎-elim}
+use mathlib.Core.Bool.{true, false, not, false≢true}
 use mathlib.Core.List.{List, [], _∷_, _++_, append-assoc, append-nil}
 use Prim.Native.Nat.{ℕ, zero, suc, _+_, _-_, _*_, _≤_, _<_}
-use native.Mathlib.Nat.{add-zero, zero-add}
+use native.Mathlib.Nat.{add-zero}
 use native.Mathlib.Omega.{arith}
-use lib.ListN.{length, take, drop, getD, length-append}
-use lib.Seq.{sets, sets-eq}
+use lib.ListN.{length, getD, length-append}
+use lib.Seq.{sets}
 use Rattle.model.specs.Words.{any}
 use Rattle.model.specs.Address.{wellFormed}
 use Rattle.model.specs.Tables.{Tables, Outcome, refused, done, after, accepted, eventsOf}
-use Rattle.model.specs.Lent.{Lent, encode}
+use Rattle.model.specs.Lent.{Lent}
 use Rattle.model.specs.Calls.{eventsTold}
 use Rattle.model.specs.Steps.{access}
 use Rattle.model.specs.Inner.{Is, Held}
 use Rattle.model.specs.Records.{bytesOf, eventBytes, logBytes}
-use Rattle.model.specs.Rounds.{steps, Turn, took, Run, drain, rounds, heldIn, waits}
+use Rattle.model.specs.Rounds.{steps, Turn, took, Run, drain, rounds, waits}
 use Rattle.model.specs.declared.Settings.{Settings}
 use Rattle.model.specs.declared.Access.{Access}
 use Rattle.model.specs.declared.Refusal.{Refusal}
@@ -26,16 +26,18 @@ use Rattle.model.specs.declared.Event.the-variants as event
 use Rattle.model.specs.declared.Told.{Told}
 use Rattle.model.proofs.Flags.{clash}
 use Rattle.model.proofs.Bound.{rounds-settled}
-use Rattle.records.specs.Stores.{Stored, Laid}
+use Rattle.model.proofs.SeenRounds.{unrefused-too, access-clear}
+use Rattle.records.specs.Stores.{Stored}
 use Rattle.records.proofs.Stores.{was-stored}
 use Rattle.tables.specs.Telling.{telling}
 use Rattle.tables.proofs.Tellings.{telling-tells}
 use Rattle.rounds.specs.declared.Waiting.the-variants as wait
-use Rattle.rounds.specs.declared.Waited.{Waited}
-use Rattle.rounds.specs.declared.Round.{Round}
-use Rattle.rounds.specs.Waiting.{lastOf, waitingOf, refusalOf, settled, Waits}
-use Rattle.rounds.specs.Parts.{isRefusal, Noted, Offered, Offers, Enough, lentWait, Settles}
-use Rattle.rounds.proofs.Noting.{access-plain, told-accepted, noted-then}
+use Rattle.turns.specs.declared.Round.{Round}
+use Rattle.rounds.specs.Waiting.{lastOf}
+use Rattle.turns.specs.Parts.{isRefusal, Noted, Offers, Enough}
+use Rattle.rounds.specs.Parts.{Settles}
+use Rattle.turns.proofs.Noting.{told-accepted, noted-then}
+use Rattle.rounds.proofs.Written.{written}
 
 -- ---- runs behind other rounds
 
@@ -88,11 +90,7 @@ done-one : (o : Outcome Tables) → accepted o ≡ true → (es : List Event) ×
 done-one (refused k) e = absurd (false≢true e)
 done-one (done es u) e = (es, u, refl)
 
--- ---- the caller's buffer in the end
-
-noted-whole : (es : List Event) (e : List ℕ) {w : ℕ} {f : List ℕ} → Noted e 0 es w f → length (logBytes es) ≤ length e
-    → (w ≡ length (logBytes es)) × (f ≡ logBytes es ++ drop (length (logBytes es)) e)
-noted-whole es e n h = (omega (arith, n .next), n .slice ∙ sets-eq (logBytes es) e 0 (omega arith) ∙ rw zero-add)
+-- ---- the last refusal
 
 held-length : length (logBytes (event.Refused SetHeld ∷ [])) ≡ 2
 unfolding logBytes eventBytes bytesOf
@@ -139,7 +137,7 @@ module _ {S : Settings} {x : Access} {most : ℕ} where
       made = refl;
       none = refl;
       rest = let q : most - 0 ≡ most = omega arith in rw q;
-      bytes = record { next = refl; slice = refl };
+      bytes = record { next = refl; slice = refl; fits = tt };
     };
   }
 
@@ -154,7 +152,7 @@ module _ {S : Settings} {x : Access} {most : ℕ} where
       next = omega arith
 
       offer-accepted : (t : Tables) → Is S L t → accepted (access S x (drain (steps S x) t .left)) ≡ not (isRefusal (r .told .first))
-      offer-accepted t i = told-accepted _ (r .told) (access-plain S x (drain (steps S x) t .left)) (made .on t i .tells)
+      offer-accepted t i = told-accepted _ (r .told) (unrefused-too _ (access-clear S x (drain (steps S x) t .left))) (made .on t i .tells)
 
       -- ---- whose offer was refused
 
@@ -213,13 +211,13 @@ module _ {S : Settings} {x : Access} {most : ℕ} where
               let first : r .told .first ≡ getD es 0 event.Ticked = ap (λ (v : List Event). getD v 0 event.Ticked) told in
               let laid : Noted e₀ 0 (l .events ++ (a .events ++ es)) (r .written) f =
               noted-then (l .events) (a .events ++ es) (l .bytes) (subst (λ (p : Outcome Tables). Noted e out (a .events ++ took (a .left) p .events) (r .written) f) o (w .bytes)) in
-              let short : length (logBytes (l .events ++ (a .events ++ es))) ≤ length e₀ = let s = made .short in let h = g .short in let n = laid .next in omega arith in
-              let (count, slice) = noted-whole (l .events ++ (a .events ++ es)) e₀ laid short in
+              let (count, slice, back) = written (l .events ++ (a .events ++ es)) e₀ laid (let s = made .short in let h = g .short in omega arith) in
               let many : length (l .offers ++ (done es u ∷ [])) ≡ round + 1 = rw length-append (let m = l .made in omega arith) in
               rw (all, last-one (refused SetHeld) (done es u) (l .offers), many, append-nil) record {
                 waiting = ap (wait.Accepted (round + 1)) first;
                 written = count;
                 events = slice;
+                reads = back;
                 left = subst (λ (p : Outcome Tables). Is S M (after (a .left) p)) o (w .are) .encoded;
               };
         }
@@ -274,13 +272,12 @@ module _ {S : Settings} {x : Access} {most : ℕ} where
             let all : rounds (steps S x) most t₀ ≡ record { turn = record { events = l .events; left = l .tables }; offers = l .offers } =
             l .rest ∙ rw (zero, rounds-none S x (l .tables), append-nil, append-nil) in
             let two : length (logBytes (event.Refused SetHeld ∷ [])) ≡ 2 = held-length in
-            let (count, slice) = held-stored room is s in
+            let (more, slice) = held-stored room is s in
             let size = g .size in
             let h = g .short in
             let few = enough .few in
             let laid : Noted e₀ 0 (l .events ++ (event.Refused SetHeld ∷ [])) (out + n) f =
-            noted-then (l .events) (event.Refused SetHeld ∷ []) (l .bytes) record { next = omega arith; slice = slice } in
-            let short : length (logBytes (l .events ++ (event.Refused SetHeld ∷ []))) ≤ length e₀ = let k = laid .next in omega arith in
-            let (written, events) = noted-whole (l .events ++ (event.Refused SetHeld ∷ [])) e₀ laid short in
-            rw (all, last-held t₀ i) record { waiting = refl; written = written; events = events; left = l .are .encoded };
+            noted-then (l .events) (event.Refused SetHeld ∷ []) (l .bytes) record { next = omega arith; slice = slice; fits = (tt, tt) } in
+            let (count, events, back) = written (l .events ++ (event.Refused SetHeld ∷ [])) e₀ laid (omega arith) in
+            rw (all, last-held t₀ i) record { waiting = refl; written = count; events = events; reads = back; left = l .are .encoded };
       }

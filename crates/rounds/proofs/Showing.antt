@@ -1,16 +1,16 @@
 -- The parts of a round, made of the calls of `cache`, on the slices of sound tables: what each call told is written whole, and the next
 -- call gets what it left.
 use mathlib.Core.Path.{_≡_, refl, sym, ap, subst, _∙_}
-use mathlib.Core.Bool.{Bool, true, false, not, _||_}
-use mathlib.Core.List.{List, [], _∷_, _++_, map, append-nil, append-assoc}
-use Prim.Native.Nat.{ℕ, zero, suc, _+_, _≤_, _<_}
+use mathlib.Core.Bool.{Bool, true, false, not}
+use mathlib.Core.List.{List, [], _∷_, append-nil}
+use Prim.Native.Nat.{ℕ, _≤_}
 use native.Mathlib.Omega.{arith}
 use borrow.Author.Tests.{eq-eqb, ne-eqb}
 use lib.Dec.{eqb}
-use lib.ListN.{length, take, getD}
-use Rattle.model.specs.Words.{pick, any}
+use lib.ListN.{length}
+use Rattle.model.specs.Words.{pick}
 use Rattle.model.specs.Address.{maskOf}
-use Rattle.model.specs.Tables.{Entry, Queued, Tables, Outcome, refused, done, after, eventsOf}
+use Rattle.model.specs.Tables.{Entry, Queued, Tables, Outcome, after, eventsOf}
 use Rattle.model.specs.Lent.{Lent, lent, tablesOf}
 use Rattle.model.specs.Sound.{allOnes, sound}
 use Rattle.model.specs.Calls.{call, accessCall, sendCall, fillCall, eventsTold, Leaves}
@@ -18,16 +18,15 @@ use Rattle.model.specs.Steps.{access, send, fill}
 use Rattle.model.specs.Inner.{Is, Held, Does}
 use Rattle.model.specs.Records.{logBytes}
 use Rattle.model.specs.Rounds.{Turn, still, andThen, isEmpty}
-use Rattle.model.specs.Seen.{Acts, refusing, accepts, sendTurn, fillFirst, drain, seen, callActs}
+use Rattle.model.specs.Seen.{accepts, sendTurn, fillFirst, drain, seen, callActs}
 use Rattle.model.specs.declared.Settings.{Settings}
 use Rattle.model.specs.declared.Access.{Access}
 use Rattle.model.specs.declared.Access.the-variants.{Read}
-use Rattle.model.specs.declared.Event.{Event}
 use Rattle.model.specs.declared.Event.the-variants as event
 use Rattle.model.specs.declared.Command.the-variants as cmd
 use Rattle.model.specs.declared.Told.{Told}
 use Rattle.model.proofs.Bridge.{is-tables, call-is, does-tells, does-is}
-use Rattle.model.proofs.Lists.{any-append}
+use Rattle.model.proofs.SeenRounds.{unrefused-too, calls-clear}
 use Rattle.model.proofs.Soundness.{send-keeps-sound, fill-keeps-sound, access-keeps-sound}
 use Rattle.tables.specs.declared.Layout.{Layout}
 use Rattle.tables.specs.Layout.{Placed}
@@ -36,59 +35,13 @@ use Rattle.model.proofs.SoundFacts.{parts}
 use Rattle.tables.proofs.Stands.{is-stands}
 use Rattle.tables.proofs.Queue.{queue-used}
 use Rattle.steps.proofs.Entries.{few-queued}
-use Rattle.records.specs.Stores.{Stored, Laid}
-use Rattle.records.proofs.Stores.{was-stored}
 use Rattle.records.proofs.Room.{send-takes, access-takes, step-takes}
-use Rattle.rounds.specs.declared.Sent.{Sent}
-use Rattle.rounds.specs.declared.Sent.the-variants.{At, Nothing}
+use Rattle.turns.specs.declared.Sent.{Sent}
+use Rattle.turns.specs.declared.Sent.the-variants.{At, Nothing}
 use Rattle.rounds.specs.declared.Offer.{Offer}
-use Rattle.rounds.specs.Parts.{isRefusal, Noted, firstSent, FindsSent}
-use Rattle.rounds.specs.Shown.{Queueless, Sees, SeesSend, SeesFill, SeesDrain, SeesRound, SeesStruck, roundTurn, struckTurn}
-use Rattle.rounds.proofs.Noting.{noted-then}
-
--- ---- what a value tells of its call: 0x11 stands first or nowhere
-
-refusing-is : (e : Event) → refusing e ≡ isRefusal e
-refusing-is (event.Answered a l) = refl
-refusing-is (event.Refused n) = refl
-refusing-is (event.ReadQueued a) = refl
-refusing-is (event.WriteBackQueued b m0 m1 m2 m3) = refl
-refusing-is (event.Released k) = refl
-refusing-is (event.ReadSent a) = refl
-refusing-is (event.WriteBackSent b m0 m1 m2 m3) = refl
-refusing-is (event.Filled a) = refl
-refusing-is event.Ticked = refl
-
-one-clear : (b : Bool) (e : Event) → refusing e ≡ false → any refusing (pick b (e ∷ []) []) ≡ false
-one-clear true e h = rw h
-one-clear false e h = refl
-
-released-clear : (ks : List ℕ) → any refusing (map event.Released ks) ≡ false
-released-clear [] = refl
-released-clear (k ∷ ks) = released-clear ks
-
-or-false : (b : Bool) → (b || false) ≡ b
-or-false true = refl
-or-false false = refl
-
-pub told-accepts : (r : Told) → accepts (eventsTold r) ≡ not (isRefusal (r .first))
-unfolding eventsTold
-told-accepts r =
-    rw (
-      any-append,
-      any-append,
-      one-clear (r .reads) (event.ReadQueued (r .address)) refl,
-      one-clear (r .backs) (event.WriteBackQueued (r .block) (getD (r .masks) 0 0) (getD (r .masks) 1 0) (getD (r .masks) 2 0) (getD (r .masks) 3 0)) refl,
-      released-clear (take (r .count) (r .tickets)),
-      or-false,
-      refusing-is (r .first),
-    )
-
--- ---- written whole
-
-pub tells : (e : List ℕ) (out : ℕ) (r : Told) {n : ℕ} {f : List ℕ} → out + length (logBytes (eventsTold r)) ≤ length e
-    → Stored e out (logBytes (eventsTold r)) n f → Noted e out (eventsTold r) (out + n) f
-tells e out r room s = let (count, slice) = was-stored e out (logBytes (eventsTold r)) s room in record { next = omega arith; slice = slice }
+use Rattle.turns.specs.Parts.{isRefusal, Noted, firstSent, FindsSent}
+use Rattle.rounds.specs.Parts.{Queueless, Sees, SeesSend, SeesFill, SeesDrain, SeesRound, SeesStruck}
+use Rattle.turns.proofs.Noting.{told-accepted, noted-then}
 
 -- ---- one call
 
@@ -106,7 +59,7 @@ module _ (S : Settings) (step : Tables → Outcome Tables) {L : Lent} {r : Told}
 
 still-sees : (S : Settings) {L : Lent} → Held S L → (e : List ℕ) (out : ℕ) → Sees S (still L) e out out e L
 unfolding logBytes
-still-sees S h e out = record { left = refl; bytes = record { next = omega arith; slice = refl }; held = h }
+still-sees S h e out = record { left = refl; bytes = record { next = omega arith; slice = refl; fits = tt }; held = h }
 
 sees-then : (S : Settings) {a : Turn Lent} (g : Lent → Turn Lent) {e : List ℕ} {out w : ℕ} {f : List ℕ} {M : Lent} {v : ℕ} {h : List ℕ} {N : Lent}
     → Sees S a e out w f M → Sees S (g M) f w v h N → Sees S (andThen a g) e out v h N
@@ -212,12 +165,14 @@ module _ (S : Settings) {L : Lent} {e : List ℕ} {out w : ℕ} {f : List ℕ} {
           → SeesRound S x L e out record { taken = b; written = z } h N
       offers small n taken =
           let k = offer-room in
+          let o = accessCall S x M in
+          let clear = calls-clear S x .offers M in
           record {
             on = sees-then S (λ u. seen u (accessCall S x u)) (d .on x)
                 (call-sees S (access S x) l drained (access-keeps-sound S x (drained .tables) (drained .are .range) small (drained .are .soundly)) n);
             taken = taken
-                ∙ sym (told-accepts r)
-                ∙ ap accepts (l .tells)
+                ∙ sym (told-accepted o r (unrefused-too o clear) (l .tells))
+                ∙ sym (clear .clear)
                 ∙ ap (λ (P : Lent). accepts (eventsOf (accessCall S x P))) (d .on x .left);
             short = omega (arith, n .next, d .short);
           }

@@ -1,19 +1,16 @@
--- What the two calls come to: the refusals before the first round, room for flags and events, then the rounds.
-use mathlib.Core.Path.{_≡_, refl, sym, ap, _∙_}
-use mathlib.Core.Bool.{Bool, true, false, _&&_}
-use mathlib.Core.List.{List, [], _∷_}
-use Prim.Native.Nat.{ℕ, suc, _*_, _/_, _≤_, _<_}
+-- What the two calls come to: the refusals before the first round, then room for flags and events, then the rounds.
+use mathlib.Core.Path.{_≡_, refl, sym, _∙_}
+use mathlib.Core.Bool.{true, false}
+use mathlib.Core.List.{List}
+use Prim.Native.Nat.{ℕ, _/_, _≤_, _<_}
 use native.Mathlib.Omega.{arith}
 use borrow.Author.Tests.{le-leb, lt-leb}
-use lib.Dec.{leb}
 use lib.ListN.{length}
-use Rattle.model.specs.Words.{pick}
 use Rattle.model.specs.Address.{maskOf, wellFormed}
 use Rattle.model.specs.Sound.{allOnes}
 use Rattle.model.specs.Tables.{Outcome, refused, done}
 use Rattle.model.specs.Lent.{Lent}
 use Rattle.model.specs.Calls.{checkCall, verdictOf}
-use Rattle.model.specs.Inner.{Held}
 use Rattle.model.specs.declared.Settings.{Settings}
 use Rattle.model.specs.declared.Access.{Access}
 use Rattle.model.specs.declared.Refusal.{Refusal}
@@ -25,7 +22,8 @@ use Rattle.model.proofs.Decoded.{Small}
 use Rattle.soundness.proofs.Verdicts.{passed-is}
 use Rattle.rounds.specs.declared.Went.{Went}
 use Rattle.rounds.specs.declared.Went.the-variants as went
-use Rattle.rounds.specs.Shown.{shown, roomFor, formed, startCall, roundsChecked, roundsCall, flagsChecked, flagsCall, struckChecked, struckCall, MayRun, RunsOn, StrikesOn}
+use Rattle.rounds.specs.Demand3.{shown, formed, startCall, roundsCall, flagsCall, struckCall}
+use Rattle.rounds.specs.Parts.{MayRun, RunsOn, StrikesOn}
 use Rattle.rounds.proofs.Ends.{passed-held}
 
 never : {X : Type 0} {n : Refusal} → verdict.Refused n ≡ verdict.Passed → X
@@ -71,45 +69,46 @@ module _ {S : Settings} {x : Access} {L : Lent} {v : Verdict} (m : MayRun S x L 
 
   -- ---- the rounds
 
-  module _ (n : ℕ) (fl e : List ℕ) (flags : n ≤ length fl) (room : n ≤ length e / 112) where
+  module _ (n : ℕ) (fl e : List ℕ) where
     pub rounds-refused : {k : Refusal} → v ≡ verdict.Refused k → (shown (went.Refused k) L e ≡ roundsCall S x n L fl e) × (fl ≡ flagsCall S x n L fl e)
     unfolding roundsCall flagsCall
-    rounds-refused is =
-        let a = le-leb n (length fl) flags in
-        let b = le-leb n (length e / 112) room in
-        (rw (a, b, start-is is), rw (a, b, start-is is))
+    rounds-refused is = (rw (start-is is), rw (start-is is))
 
-    pub rounds-ran : v ≡ verdict.Passed → {r : Went} {M : Lent} {gl f : List ℕ} → RunsOn S x n L fl e r M gl f
-        → (shown r M f ≡ roundsCall S x n L fl e) × (gl ≡ flagsCall S x n L fl e)
-    unfolding roundsCall flagsCall
-    rounds-ran is t =
-        let a = le-leb n (length fl) flags in
-        let b = le-leb n (length e / 112) room in
-        let (es, M, o) = start-ok is in
-        (rw (a, b, o) (t .shows), rw (a, b, o) (t .flags))
+    module _ (is : v ≡ verdict.Passed) where
+      pub few-flags : length fl < n → (shown went.NoRoom L e ≡ roundsCall S x n L fl e) × (fl ≡ flagsCall S x n L fl e)
+      unfolding roundsCall flagsCall
+      few-flags h = let a = lt-leb n (length fl) h in let (es, M, o) = start-ok is in (rw (o, a), rw (o, a))
+
+      module _ (flags : n ≤ length fl) where
+        pub few-bytes : length e / 112 < n → (shown went.NoRoom L e ≡ roundsCall S x n L fl e) × (fl ≡ flagsCall S x n L fl e)
+        unfolding roundsCall flagsCall
+        few-bytes h =
+            let a = le-leb n (length fl) flags in
+            let b = lt-leb n (length e / 112) h in
+            let (es, M, o) = start-ok is in
+            (rw (o, a, b), rw (o, a, b))
+
+        pub rounds-ran : n ≤ length e / 112 → {r : Went} {M : Lent} {gl f : List ℕ} → RunsOn S x n L fl e r M gl f
+            → (shown r M f ≡ roundsCall S x n L fl e) × (gl ≡ flagsCall S x n L fl e)
+        unfolding roundsCall flagsCall
+        rounds-ran room t =
+            let a = le-leb n (length fl) flags in
+            let b = le-leb n (length e / 112) room in
+            let (es, M, o) = start-ok is in
+            (rw (o, a, b) (t .shows), rw (o, a, b) (t .flags))
 
   -- ---- the struck rounds
 
-  module _ (fl e : List ℕ) (room : length fl ≤ length e / 112) where
+  module _ (fl e : List ℕ) where
     pub struck-refused : {k : Refusal} → v ≡ verdict.Refused k → shown (went.Refused k) L e ≡ struckCall S x L fl e
     unfolding struckCall
-    struck-refused is = rw (le-leb (length fl) (length e / 112) room, start-is is)
+    struck-refused is = rw (start-is is)
 
-    pub struck-ran : v ≡ verdict.Passed → {r : Went} {M : Lent} {f : List ℕ} → StrikesOn S x L fl e r M f → shown r M f ≡ struckCall S x L fl e
-    unfolding struckCall
-    struck-ran is t = let (es, M, o) = start-ok is in rw (le-leb (length fl) (length e / 112) room, o) (t .shows)
+    module _ (is : v ≡ verdict.Passed) where
+      pub few-struck : length e / 112 < length fl → shown went.NoRoom L e ≡ struckCall S x L fl e
+      unfolding struckCall
+      few-struck h = let (es, M, o) = start-ok is in rw (o, lt-leb (length fl) (length e / 112) h)
 
--- ---- too few flags, or too few bytes
-
-module _ (S : Settings) (x : Access) (L : Lent) where
-  pub few-flags : (n : ℕ) (fl e : List ℕ) → length fl < n → (shown went.NoRoom L e ≡ roundsCall S x n L fl e) × (fl ≡ flagsCall S x n L fl e)
-  unfolding roundsCall flagsCall
-  few-flags n fl e h = let a = lt-leb n (length fl) h in (rw a, rw a)
-
-  pub few-bytes : (n : ℕ) (fl e : List ℕ) → n ≤ length fl → length e / 112 < n → (shown went.NoRoom L e ≡ roundsCall S x n L fl e) × (fl ≡ flagsCall S x n L fl e)
-  unfolding roundsCall flagsCall
-  few-bytes n fl e g h = let a = le-leb n (length fl) g in let b = lt-leb n (length e / 112) h in (rw (a, b), rw (a, b))
-
-  pub few-struck : (fl e : List ℕ) → length e / 112 < length fl → shown went.NoRoom L e ≡ struckCall S x L fl e
-  unfolding struckCall
-  few-struck fl e h = rw (lt-leb (length fl) (length e / 112) h)
+      pub struck-ran : length fl ≤ length e / 112 → {r : Went} {M : Lent} {f : List ℕ} → StrikesOn S x L fl e r M f → shown r M f ≡ struckCall S x L fl e
+      unfolding struckCall
+      struck-ran room t = let (es, M, o) = start-ok is in rw (o, le-leb (length fl) (length e / 112) room) (t .shows)

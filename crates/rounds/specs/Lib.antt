@@ -1,5 +1,4 @@
--- What waiting for an access comes to, what the parts of a round promise, and the rounds and the struck rounds as
--- calls.
+-- Demand 3 of the calls, what waiting for an access comes to, and what the inner functions promise.
 pub mod Waiting
+pub mod Demand3
 pub mod Parts
-pub mod Shown

@@ -1,101 +1,39 @@
--- What the parts of a round ask and promise, on slices that are the encoding of sound tables. Nothing here is document 01's.
-use Prim.Native.Nat.{ℕ, suc, _+_, _-_, _≤_}
+-- What the inner functions ask and promise: those of `wait`, then those of the rounds and the struck rounds. Nothing here is document 01's.
+use Prim.Native.Nat.{ℕ, _+_, _≤_}
 use mathlib.Core.Path.{_≡_}
-use mathlib.Core.Bool.{Bool, true, false}
-use mathlib.Core.List.{List, [], _∷_, _++_}
-use lib.ListN.{length}
+use mathlib.Core.Bool.{Bool}
+use mathlib.Core.List.{List, _++_, map}
+use lib.ListN.{length, drop}
 use Rattle.model.specs.Words.{pick}
-use Rattle.model.specs.Tables.{Entry, Tables, Outcome, after, eventsOf}
-use Rattle.model.specs.Lent.{Lent, encode}
-use Rattle.model.specs.Calls.{eventsTold, tidied}
-use Rattle.model.specs.Inner.{Is}
-use Rattle.model.specs.Records.{logBytes}
-use Rattle.model.specs.Rounds.{steps, Turn, took, sendTurn, fillFirst, drain, rounds}
-use Rattle.model.specs.Steps.{access}
+use Rattle.model.specs.Address.{maskOf}
+use Rattle.model.specs.Sound.{allOnes}
+use Rattle.model.specs.Tables.{Tables}
+use Rattle.model.specs.Lent.{Lent, bit, encode, tablesOf}
+use Rattle.model.specs.Calls.{verdictOf}
+use Rattle.model.specs.Inner.{Is, Held}
+use Rattle.model.specs.Rounds as inner
+use Rattle.model.specs.Rounds.{steps, Turn, still, andThen, isEmpty}
+use Rattle.model.specs.Seen.{Acts, accepts, marks, sendTurn, fillFirst, drain, rounds, struck, callActs}
 use Rattle.model.specs.declared.Settings.{Settings}
 use Rattle.model.specs.declared.Access.{Access}
 use Rattle.model.specs.declared.Refusal.{Refusal}
-use Rattle.model.specs.declared.Event.{Event}
-use Rattle.model.specs.declared.Event.the-variants.{Answered, Refused, ReadQueued, WriteBackQueued, Released, ReadSent, WriteBackSent, Filled, Ticked}
-use Rattle.model.specs.declared.Told.{Told}
-use Rattle.records.specs.Stores.{Laid}
-use Rattle.rounds.specs.declared.Sent.{Sent}
-use Rattle.rounds.specs.declared.Sent.the-variants.{At, Nothing}
-use Rattle.rounds.specs.declared.Round.{Round}
+use Rattle.model.specs.declared.Verdict.{Verdict}
+use Rattle.model.specs.declared.Verdict.the-variants.{Passed}
+use Rattle.turns.specs.Parts.{Noted}
 use Rattle.rounds.specs.declared.Waited.{Waited}
+use Rattle.rounds.specs.declared.Went.{Went}
+use Rattle.rounds.specs.declared.Offer.{Offer}
 use Rattle.rounds.specs.Waiting.{Wait, settled, turnedAway, waitCall, Waits}
+use Rattle.rounds.specs.Demand3.{shown, ranTo, marked, startCall}
 
--- ---- what a call told
-
-abbrev pub isRefusal : Event → Bool
-isRefusal (Answered a l) = false
-isRefusal (Refused n) = true
-isRefusal (ReadQueued a) = false
-isRefusal (WriteBackQueued b m0 m1 m2 m3) = false
-isRefusal (Released k) = false
-isRefusal (ReadSent a) = false
-isRefusal (WriteBackSent b m0 m1 m2 m3) = false
-isRefusal (Filled a) = false
-isRefusal Ticked = false
-
--- "0x11 is left out and nothing else"
-abbrev pub noted : Told → List Event
-noted r = pick (isRefusal (r .first)) [] (eventsTold r)
-
--- the bytes of these events stand behind the first `out`
-abbrev pub Noted : List ℕ → ℕ → List Event → ℕ → List ℕ → Type 0
-Noted e out es w f = Laid e out (length (logBytes es)) (logBytes es) w f
-
--- ---- a round
-
--- the address of the first entry marked sent
-abbrev pub firstSent : List Entry → Sent
-firstSent [] = Nothing
-firstSent (e ∷ es) = pick (e .sent) (At (e .address)) (firstSent es)
-
-pub record FindsSent (S : Settings) (L : Lent) (r : Sent) : Type 0 where
-  pub on : (t : Tables) → Is S L t → r ≡ firstSent (t .misses)
-
--- the calls of a on the tables t wrote behind `out` bytes and left M
-pub record Turned (S : Settings) (a : Turn Tables) (e : List ℕ) (out w : ℕ) (f : List ℕ) (M : Lent) : Type 0 where
-  pub are : Is S M (a .left)
-  pub bytes : Noted e out (a .events) w f
-
--- a round's send, and its fill, whatever is offered
-pub record Sends (S : Settings) (L : Lent) (e : List ℕ) (out w : ℕ) (f : List ℕ) (M : Lent) : Type 0 where
-  pub on : (x : Access) (t : Tables) → Is S L t → Turned S (sendTurn (steps S x) t) e out w f M
-  pub short : w ≤ out + 25
-
-pub record Fills (S : Settings) (L : Lent) (e : List ℕ) (out w : ℕ) (f : List ℕ) (M : Lent) : Type 0 where
-  pub on : (x : Access) (t : Tables) → Is S L t → Turned S (fillFirst (steps S x) (t .misses) t) e out w f M
-  pub short : w ≤ out + 49
-
--- a round whose offer came to o on the tables u, which its send and fill left
-pub record Offered (S : Settings) (a : Turn Tables) (o : Outcome Tables) (e : List ℕ) (out : ℕ) (r : Round) (f : List ℕ) (M : Lent) : Type 0 where
-  pub are : Is S M (after (a .left) o)
-  pub tells : eventsTold (r .told) ≡ eventsOf o
-  pub tidy : tidied (r .told) ≡ r .told
-  pub bytes : Noted e out (a .events ++ took (a .left) o .events) (r .written) f
-
-pub record Offers (S : Settings) (x : Access) (L : Lent) (e : List ℕ) (out : ℕ) (r : Round) (f : List ℕ) (M : Lent) : Type 0 where
-  pub on : (t : Tables) → Is S L t → Offered S (drain (steps S x) t) (access S x (drain (steps S x) t .left)) e out r f M
-  pub short : r .written ≤ out + 112
-  -- a send and a fill alone
-  pub refused : isRefusal (r .told .first) ≡ true → r .written ≤ out + 74
-
--- ---- the rounds
-
--- round max(1, q + m)
-pub record Enough (S : Settings) (L : Lent) (r : ℕ) : Type 0 where
-  pub on : (t : Tables) → Is S L t → r ≡ suc (length (t .queue) + length (t .misses) - 1)
-  pub few : r ≤ 128
+-- ---- the rounds of `wait`
 
 abbrev pub lentWait : Settings → Wait Tables → Wait Lent
 lentWait S w = record { waiting = w .waiting; events = w .events; left = encode S (w .left) }
 
 -- n rounds at most, on sound tables
 pub record Settles (S : Settings) (x : Access) (n : ℕ) (L : Lent) (e : List ℕ) (r : Waited) (f : List ℕ) (M : Lent) : Type 0 where
-  pub on : (t : Tables) → Is S L t → Waits (lentWait S (settled (rounds (steps S x) n t))) e r f M
+  pub on : (t : Tables) → Is S L t → Waits (lentWait S (settled (inner.rounds (steps S x) n t))) e r f M
 
 -- ---- the checks before them
 
@@ -105,3 +43,60 @@ pub record TurnsAway (n : Refusal) (e : List ℕ) (r : Waited) (f : List ℕ) : 
 -- behind the check of refusals 1, 2 and 3
 pub record WaitsHeld (S : Settings) (x : Access) (L : Lent) (e : List ℕ) (r : Waited) (f : List ℕ) (M : Lent) : Type 0 where
   pub on : (t : Tables) → Is S L t → Waits (waitCall S x L) e r f M
+
+-- ---- the rounds and the struck rounds
+
+-- the check before the first round
+pub record MayRun (S : Settings) (x : Access) (L : Lent) (r : Verdict) : Type 0 where
+  pub says : r ≡ verdictOf (startCall S x L)
+  pub held : r ≡ Passed → Held S L
+  pub small : r ≡ Passed → maskOf x ≤ allOnes
+
+-- the others are on slices that are the encoding of sound tables
+
+pub record Queueless (S : Settings) (L : Lent) (r : Bool) : Type 0 where
+  pub is : r ≡ isEmpty (tablesOf S L .queue)
+
+-- calls that came to a, every event written behind `out` bytes; the slices are sound again
+pub record Sees (S : Settings) (a : Turn Lent) (e : List ℕ) (out w : ℕ) (f : List ℕ) (M : Lent) : Type 0 where
+  pub left : M ≡ a .left
+  pub bytes : Noted e out (a .events) w f
+  pub held : Held S M
+
+-- a round's send, its fill, both, whatever is offered
+pub record SeesSend (S : Settings) (L : Lent) (e : List ℕ) (out w : ℕ) (f : List ℕ) (M : Lent) : Type 0 where
+  pub on : (x : Access) → Sees S (sendTurn (callActs S x) L) e out w f M
+  pub short : w ≤ out + 25
+
+pub record SeesFill (S : Settings) (L : Lent) (e : List ℕ) (out w : ℕ) (f : List ℕ) (M : Lent) : Type 0 where
+  pub on : (x : Access) → Sees S (fillFirst (callActs S x) (tablesOf S L .misses) L) e out w f M
+  pub short : w ≤ out + 49
+
+pub record SeesDrain (S : Settings) (L : Lent) (e : List ℕ) (out w : ℕ) (f : List ℕ) (M : Lent) : Type 0 where
+  pub on : (x : Access) → Sees S (drain (callActs S x) L) e out w f M
+  pub short : w ≤ out + 74
+
+-- a round: its send, its fill, its offer
+abbrev pub roundTurn : Acts Lent → Lent → Turn Lent
+roundTurn C L = andThen (drain C L) (λ u. C .offers u)
+
+pub record SeesRound (S : Settings) (x : Access) (L : Lent) (e : List ℕ) (out : ℕ) (r : Offer) (f : List ℕ) (M : Lent) : Type 0 where
+  pub on : Sees S (roundTurn (callActs S x) L) e out (r .written) f M
+  pub taken : r .taken ≡ accepts (callActs S x .offers (drain (callActs S x) L .left) .events)
+  pub short : r .written ≤ out + 112
+
+-- a round of the struck rounds
+abbrev pub struckTurn : Acts Lent → Bool → Lent → Turn Lent
+struckTurn C m L = andThen (drain C L) (λ u. pick m (C .offers u) (still u))
+
+pub record SeesStruck (S : Settings) (x : Access) (m : Bool) (L : Lent) (e : List ℕ) (out w : ℕ) (f : List ℕ) (M : Lent) : Type 0 where
+  pub on : Sees S (struckTurn (callActs S x) m L) e out w f M
+  pub short : w ≤ out + 112
+
+-- the rounds, and the struck rounds, behind the checks
+pub record RunsOn (S : Settings) (x : Access) (n : ℕ) (L : Lent) (fl e : List ℕ) (r : Went) (M : Lent) (gl f : List ℕ) : Type 0 where
+  pub shows : shown r M f ≡ ranTo (length (rounds (callActs S x) n L .offers)) (rounds (callActs S x) n L .turn) e
+  pub flags : gl ≡ map bit (marks (rounds (callActs S x) n L)) ++ drop (length (rounds (callActs S x) n L .offers)) fl
+
+pub record StrikesOn (S : Settings) (x : Access) (L : Lent) (fl e : List ℕ) (r : Went) (M : Lent) (f : List ℕ) : Type 0 where
+  pub shows : shown r M f ≡ ranTo (length fl) (struck (callActs S x) (marked fl) L) e

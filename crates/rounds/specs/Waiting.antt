@@ -3,14 +3,14 @@
 use Prim.Native.Nat.{ℕ, suc}
 use mathlib.Core.Path.{_≡_}
 use mathlib.Core.List.{List, [], _∷_, _++_}
-use lib.ListN.{length, drop, getD}
+use lib.ListN.{length, take, drop, getD}
 use lib.Dec.{leb}
 use Rattle.model.specs.Words.{pick}
 use Rattle.model.specs.Address.{wellFormed}
 use Rattle.model.specs.Tables.{Outcome, refused, done}
 use Rattle.model.specs.Lent.{Lent}
 use Rattle.model.specs.Calls.{checkCall}
-use Rattle.model.specs.Records.{logBytes}
+use Rattle.model.specs.Records.{logBytes, parsed, eventsIn}
 use Rattle.model.specs.Rounds.{Run}
 use Rattle.model.specs.Seen.{accepts, but11, Course, rounds, waits, callActs}
 use Rattle.model.specs.declared.Settings.{Settings}
@@ -97,9 +97,11 @@ waitRoom = 9600
 abbrev pub waitWithin : ℕ → Settings → Access → Lent → Wait Lent
 waitWithin room S x L = pick (leb waitRoom room) (waitCall S x L) record { waiting = NoRoom; events = []; left = L }
 
--- the value returned, the event bytes ("beyond those written are unchanged") and the slices after it are those of w
+-- the value returned, the event bytes ("beyond those written are unchanged") and the slices after it are those of w, and the bytes written read
+-- back as its events
 pub record Waits (w : Wait Lent) (e : List ℕ) (r : Waited) (f : List ℕ) (M : Lent) : Type 0 where
   pub waiting : r .waiting ≡ w .waiting
   pub written : r .written ≡ length (logBytes (w .events))
   pub events : f ≡ logBytes (w .events) ++ drop (length (logBytes (w .events))) e
+  pub reads : eventsIn (take (r .written) f) ≡ parsed (w .events)
   pub left : M ≡ w .left

@@ -17,9 +17,9 @@ use Rattle.model.specs.declared.Refusal.{Refusal}
 use Rattle.model.specs.declared.Refusal.the-variants.{BadAccess, SetHeld}
 use Rattle.rounds.specs.declared.Waiting.{Waiting}
 use Rattle.rounds.specs.declared.Waiting.the-variants as wait
-use Rattle.rounds.specs.declared.Round.{Round}
+use Rattle.turns.specs.declared.Round.{Round}
 use Rattle.rounds.specs.Waiting.{Wait, lastOf, waitingOf, settled, waitCall}
-use Rattle.rounds.specs.Parts.{isRefusal, Offers, Enough}
+use Rattle.turns.specs.Parts.{isRefusal, Offers, Enough}
 use Rattle.rounds.proofs.Settling.{Goes, goes-accepted}
 use Rattle.rounds.proofs.Ends.{wait-formed, wait-malformed}
 

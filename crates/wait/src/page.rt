@@ -102,7 +102,7 @@ pub(crate) fn put_round(round: usize, events: &[u8], told: Told, out: &mut [u8])
     let a = stops::put_number(b"round ", round as u64, out, 0);
     let b = text::put_text(b"\n", out, a);
     let c = put_events(events, out, b);
-    if rounds::accepted(told) {
+    if turns::accepted(told) {
         return c;
     }
     let refusal = told.first;

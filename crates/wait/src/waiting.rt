@@ -12,7 +12,7 @@ ghost use Rattle.model.specs.Sound.{allOnes};
 ghost use Rattle.model.specs.Lent.{lent};
 ghost use Rattle.model.specs.Inner.{Held};
 ghost use Rattle.rounds.specs.Waiting.{waitCall};
-ghost use Rattle.rounds.specs.Parts.{Enough};
+ghost use Rattle.turns.specs.Parts.{Enough};
 ghost use Rattle.wait.specs.Counts.{Counted};
 
 // The queue places and the miss entries in use.
@@ -58,12 +58,12 @@ fn wait_rounds(
     let mut out = 0;
     let mut shown = started;
     while round < most {
-        let made = rounds::one_round(s, longs, words, marks, x, events, out);
+        let made = turns::one_round(s, longs, words, marks, x, events, out);
         round += 1;
         let told = made.told;
         shown = says::round(shown, round, text::part(events, out, made.written), told);
         out = made.written;
-        if rounds::accepted(told) {
+        if turns::accepted(told) {
             let answer = told.first;
             let waiting = Waiting::Accepted { round, answer };
             return Ended { waiting, shown };
@@ -90,7 +90,7 @@ pub(crate) fn wait_for(
         return Waiting::Refused(Refusal::BadAccess);
     }
     let n = in_use(s, longs, words, marks);
-    let most = rounds::most_rounds(s, longs, words, marks);
+    let most = turns::most_rounds(s, longs, words, marks);
     let started = says::start(x, place, n, most);
     let ended = wait_rounds(s, longs, words, marks, x, most, started);
     let waiting = ended.waiting;

@@ -2,7 +2,7 @@
 use native.Mathlib.Omega.{arith}
 use borrow.Author.Needs.{needs}
 use Rattle.tables.proofs.Stands.{is-stands, stands-fit}
-use Rattle.rounds.proofs.Turns.{counted}
+use Rattle.turns.proofs.Turns.{counted}
 use Rattle.wait.proofs.waiting.in_use.Statement.{statement}
 use Rattle.wait.proofs.waiting.in_use.Tie as tie
 

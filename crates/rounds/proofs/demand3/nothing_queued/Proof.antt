@@ -1,0 +1,26 @@
+-- No queue place is in use.
+use native.Mathlib.Omega.{arith}
+use borrow.Author.Needs.{needs}
+use Rattle.tables.proofs.Stands.{is-stands, stands-fit}
+use Rattle.rounds.proofs.Showing.{queueless}
+use Rattle.rounds.proofs.demand3.nothing_queued.Statement.{statement}
+use Rattle.rounds.proofs.demand3.nothing_queued.Tie as tie
+
+used-requires : tie.Need-used-requires
+used-requires c κs =
+    let i = c .before .before .before .before .pre .are in
+    let z = stands-fit (i .range) (is-stands i) in
+    let p = c .laid-out .ensures in
+    omega arith
+
+returns : tie.Need-returns
+returns c =
+    queueless _ (c .before .before .before .before .before .pre) (c .before .laid-out .ensures) (c .used .ensures)
+
+pub nothing-queued-spec : {M : Type 1} → statement M
+nothing-queued-spec =
+    tie.close
+    (tie.spec
+    (λ c κs. search needs)
+    used-requires
+    returns)

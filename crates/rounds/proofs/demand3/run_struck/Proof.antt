@@ -1,0 +1,52 @@
+-- Refusals 1 to 4, room for events, then the struck rounds.
+use native.Mathlib.Omega.{arith}
+use borrow.Author.Needs.{needs}
+use Rattle.rounds.proofs.Starting.{few-struck, struck-refused, struck-ran}
+use Rattle.rounds.proofs.demand3.run_struck.Statement.{statement}
+use Rattle.rounds.proofs.demand3.run_struck.Tie as tie
+
+-- too few bytes
+returns : tie.Need-returns
+returns c =
+    let t = c .before in
+    few-struck (t .before .before .may-run .ensures) _ _ (t .enum-told .given .1) (c .if1 .taken)
+
+struck-on-requires : tie.Need-struck-on-requires
+struck-on-requires c κs =
+    let i = c .before .before .before .before in
+    let t = i .before in
+    let m = t .before .before .may-run .ensures in
+    (m .held (t .enum-told .given .1), (omega (arith, i .if1 .left), m .small (t .enum-told .given .1)))
+
+-- refused
+returns-2 : tie.Need-returns-2
+returns-2 c = struck-refused (c .before .before .before .may-run .ensures) _ _ (c .before .k .given .1)
+
+returns-3 : tie.Need-returns-3
+returns-3 c =
+    let r = c .before .before .before .before .before .before .before .before in
+    let i = r .before .before .before .before .before in
+    let t = i .before in
+    struck-ran (t .before .before .may-run .ensures) _ _ (t .enum-told .given .1) (i .if1 .left) (r .struck-on .ensures)
+
+pub run-struck-spec : {M : Type 1} → statement M
+run-struck-spec =
+    tie.close
+    (tie.spec
+    (λ c κs. search needs)
+    (λ c. search needs)
+    (λ c. search needs)
+    (λ c. search needs)
+    (λ c. search needs)
+    (λ c. search needs)
+    returns
+    struck-on-requires
+    (λ c. search needs)
+    (λ c. search needs)
+    (λ c. search needs)
+    returns-2
+    (λ c. search needs)
+    (λ c. search needs)
+    (λ c. search needs)
+    (λ c. search needs)
+    returns-3)

@@ -1,0 +1,48 @@
+-- The loop over the struck rounds.
+use Prim.Native.Nat.{_-_}
+use native.Mathlib.Omega.{arith}
+use lib.ListN.{length}
+use Rattle.model.specs.Lent.{lent}
+use Rattle.rounds.proofs.Running.{Strikes, strikes-first, strikes-end, strikes-again}
+use Rattle.rounds.proofs.demand3.struck_on.Statement.{statement}
+use Rattle.rounds.proofs.demand3.struck_on.Tie as tie
+
+abbrev Inv-loop : tie.InvT-loop
+Inv-loop s longs₀ words₀ marks₀ x flags events₀ i₀ out₀ longs words marks events i out =
+    Strikes s x flags (lent longs₀ words₀ marks₀) events₀ (lent longs words marks) events i out
+
+abbrev μ-loop : tie.MeasureT-loop
+μ-loop s longs₀ words₀ marks₀ x flags events₀ i₀ out₀ longs words marks events i out = length flags - i
+
+see-struck-requires : tie.Need-see-struck-requires Inv-loop μ-loop
+see-struck-requires c κs =
+    let l = c .before .before .before .before .before .before in
+    let g = l .loop .inv in
+    let p = l .before .before .before .before .before .before in
+    (g .held, (omega (arith, g .short, g .size, c .before .before .before .before .before .loop-test .taken, p .pre .1 .0), p .pre .1 .1))
+
+loop-again : tie.Need-loop-again Inv-loop μ-loop
+loop-again c =
+    let r = c .before .before .before .before .before .before .before .before in
+    let l = r .before .before .before .before .before .before .before in
+    let k = r .see-struck .kept .1 in
+    strikes-again _ _ _ (l .loop .inv) (r .before .before .before .before .before .before .loop-test .taken) (r .see-struck .ensures)
+    (k .1 .1 .1 .1 .1 .0) (k .0) (k .1 .0) (k .1 .1 .0)
+
+pub struck-on-spec : {M : Type 1} → statement M
+struck-on-spec =
+    tie.close
+    (tie.spec
+    Inv-loop
+    μ-loop
+    (λ c. strikes-first _ _ _ _ (c .before .before .before .before .before .pre .0) _)
+    (λ c. omega (arith, c .before .loop-test .taken))
+    see-struck-requires
+    (λ c. omega (arith, c .before .before .before .before .before .before .before .before .before .before .before .before .before .before .loop-test .taken))
+    (λ c. omega (arith, c .before .before .before .before .before .before .before .before .before .before .before .before .before .before .loop-test .taken))
+    loop-again
+    (λ c. c .before .loop .inv .longs)
+    (λ c. c .before .loop .inv .words)
+    (λ c. c .before .loop .inv .marks)
+    (λ c. c .before .loop .inv .size)
+    (λ c. let l = c .before in strikes-end _ _ _ (l .loop .inv) (c .loop-test .left) (l .before .before .before .before .before .before .pre .1 .0)))

@@ -1,0 +1,31 @@
+-- What a call told, written where it was accepted.
+use mathlib.Core.Path.{sym, _∙_}
+use native.Mathlib.Omega.{arith}
+use borrow.Author.Needs.{needs}
+use Rattle.model.proofs.Flags.{not-yes, no-not}
+use Rattle.records.proofs.Stores.{was-stored}
+use Rattle.turns.proofs.Noting.{noted-none, noted-stored}
+use Rattle.turns.proofs.note.Statement.{statement}
+use Rattle.turns.proofs.note.Tie as tie
+
+pub note-spec : {M : Type 1} → statement M
+note-spec =
+    tie.close
+    (tie.spec
+    (λ c κs. search needs)
+    (λ c κs. search needs)
+    (λ c.
+    let w = c .before .before in
+    let p = w .before .before .before .before .before in
+    let k = was-stored (p .args .events .now) (p .args .out) _ (w .write-told .ensures .0) (p .pre) in
+    omega (arith, k .0))
+    (λ c. search needs)
+    (λ c.
+    let w = c .before .before in
+    let a = w .before .before .before in
+    let p = a .before .before in
+    noted-stored (p .args .events .now) (p .args .out) (p .args .told) (not-yes (sym (a .accepted .ensures) ∙ w .before .before .if1 .taken)) (p .pre) (w .write-told .ensures .0) (w .write-told .ensures .1))
+    (λ c.
+    let a = c .before in
+    let p = a .before .before in
+    noted-none (p .args .events .now) (p .args .out) (p .args .told) (no-not (sym (a .accepted .ensures) ∙ c .if1 .left))))

@@ -1,0 +1,18 @@
+-- The send, and what is written of it.
+use native.Mathlib.Omega.{arith}
+use borrow.Author.Needs.{needs}
+use Rattle.turns.proofs.Turns.{send-bytes, sends}
+use Rattle.turns.proofs.send_turn.Statement.{statement}
+use Rattle.turns.proofs.send_turn.Tie as tie
+
+pub send-turn-spec : {M : Type 1} → statement M
+send-turn-spec =
+    tie.close
+    (tie.spec
+    (λ c κs. search needs)
+    (λ c κs. let s = c .before .before .before .before .before .before .before in let p = s .before .before .before .before .before .before .before .before in omega (arith, send-bytes _ (s .send-step .ensures) (p .pre .0), p .pre .1))
+    (λ c. search needs)
+    (λ c. search needs)
+    (λ c. search needs)
+    (λ c. search needs)
+    (λ c. let n = c .before .before in let s = n .before .before .before .before .before .before .before .before in let p = s .before .before .before .before .before .before .before .before in sends _ (s .send-step .ensures) (p .pre .0) (n .note .ensures)))

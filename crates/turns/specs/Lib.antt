@@ -1,0 +1,2 @@
+-- What the parts of a round promise.
+pub mod Parts

@@ -1,0 +1,169 @@
+// One round of demand 3 (document 01) over lent tables, and how many rounds settle an access: for callers that have checked the tables.
+// `rounds` has the calls that ask nothing.
+use model::Access;
+use model::Event;
+use model::Settings;
+use model::Told;
+ghost use mathlib.Core.Path.{_≡_};
+ghost use mathlib.Core.Bool.{not};
+ghost use Prim.Native.Nat.{_+_, _≤_};
+ghost use lib.ListN.{length};
+ghost use Rattle.model.specs.Address.{maskOf};
+ghost use Rattle.model.specs.Sound.{allOnes};
+ghost use Rattle.model.specs.Lent.{lent};
+ghost use Rattle.model.specs.Calls.{eventsTold};
+ghost use Rattle.model.specs.Inner.{Held};
+ghost use Rattle.model.specs.Records.{logBytes};
+ghost use Rattle.turns.specs.Parts.{isRefusal, noted, Noted, FindsSent, Sends, Fills, Offers, Enough};
+
+// One round: what its offer told, and the bytes of events up to and with this round.
+pub struct Round {
+    pub told: Told,
+    pub written: usize,
+}
+
+// The sector address of a sent entry, if there is one.
+pub enum Sent {
+    At(u64),
+    Nothing,
+}
+
+fn is_refusal(e: Event) -> bool
+    ensures { λ r. ⌜ r ≡ isRefusal e ⌝ }
+{
+    match e {
+        Event::Answered { answer: _, line: _ } => false,
+        Event::Refused(_) => true,
+        Event::ReadQueued(_) => false,
+        Event::WriteBackQueued {
+            block: _,
+            m0: _,
+            m1: _,
+            m2: _,
+            m3: _,
+        } => false,
+        Event::Released(_) => false,
+        Event::ReadSent(_) => false,
+        Event::WriteBackSent {
+            block: _,
+            m0: _,
+            m1: _,
+            m2: _,
+            m3: _,
+        } => false,
+        Event::Filled(_) => false,
+        Event::Ticked => false,
+    }
+}
+
+// Whether a call was accepted.
+pub fn accepted(told: Told) -> bool
+    ensures { λ r. ⌜ r ≡ not (isRefusal (told .first)) ⌝ }
+{
+    let first = told.first;
+    !is_refusal(first)
+}
+
+// Writes what an accepted call told behind `out` bytes; of a refused one nothing.
+fn note(told: Told, events: &mut [u8], out: usize) -> usize
+    requires { ⌜ out + length (logBytes (eventsTold told)) ≤ length (now events) ⌝ }
+    ensures { λ r. ⌜ Noted (now (events .entry)) out (noted told) r (now (events .exit)) ⌝ }
+{
+    if accepted(told) {
+        let n = records::write_told(told, events, out);
+        return out + n;
+    }
+    out
+}
+
+// The first entry marked sent, the oldest.
+pub fn first_sent(s: Settings, longs: &[u64], words: &[u32], marks: &[u8]) -> Sent
+    requires { ⌜ Held s (lent (now longs) (now words) (now marks)) ⌝ }
+    ensures { λ r. ⌜ FindsSent s (lent (now (longs .entry)) (now (words .entry)) (now (marks .entry))) r ⌝ }
+{
+    let at = tables::laid_out(s);
+    let n = tables::used(marks, at.counts, s.entries);
+    let e = tables::find_mark(marks, at.sent, n, 1);
+    if n <= e {
+        return Sent::Nothing;
+    }
+    let place = at.misses + e;
+    Sent::At(longs[place])
+}
+
+// Sends the queue head, if there is one: with none, send is refused and nothing is written.
+fn send_turn(
+    s: Settings,
+    longs: &mut [u64],
+    words: &mut [u32],
+    marks: &mut [u8],
+    events: &mut [u8],
+    out: usize,
+) -> usize
+    requires { ⌜ Held s (lent (now longs) (now words) (now marks)) ⌝ }
+    requires { ⌜ out + 25 ≤ length (now events) ⌝ }
+    ensures { λ r. ⌜ Sends s (lent (now (longs .entry)) (now (words .entry)) (now (marks .entry))) (now (events .entry)) out r
+        (now (events .exit)) (lent (now (longs .exit)) (now (words .exit)) (now (marks .exit))) ⌝ }
+{
+    let told = steps::send_step(s, longs, words, marks);
+    note(told, events, out)
+}
+
+// Fills the oldest sent miss, if there is one.
+fn fill_turn(
+    s: Settings,
+    longs: &mut [u64],
+    words: &mut [u32],
+    marks: &mut [u8],
+    events: &mut [u8],
+    out: usize,
+) -> usize
+    requires { ⌜ Held s (lent (now longs) (now words) (now marks)) ⌝ }
+    requires { ⌜ out + 49 ≤ length (now events) ⌝ }
+    ensures { λ r. ⌜ Fills s (lent (now (longs .entry)) (now (words .entry)) (now (marks .entry))) (now (events .entry)) out r
+        (now (events .exit)) (lent (now (longs .exit)) (now (words .exit)) (now (marks .exit))) ⌝ }
+{
+    match first_sent(s, longs, words, marks) {
+        Sent::At(address) => {
+            let told = steps::fill_step(s, longs, words, marks, address);
+            note(told, events, out)
+        }
+        Sent::Nothing => out,
+    }
+}
+
+// One round: the send, the fill, the offer; the events of all but a refused offer go behind `out` bytes.
+pub fn one_round(
+    s: Settings,
+    longs: &mut [u64],
+    words: &mut [u32],
+    marks: &mut [u8],
+    x: Access,
+    events: &mut [u8],
+    out: usize,
+) -> Round
+    requires { ⌜ Held s (lent (now longs) (now words) (now marks)) ⌝ }
+    requires { ⌜ (out + 112 ≤ length (now events)) × (maskOf x ≤ allOnes) ⌝ }
+    ensures { λ r. ⌜ Offers s x (lent (now (longs .entry)) (now (words .entry)) (now (marks .entry))) (now (events .entry)) out r
+        (now (events .exit)) (lent (now (longs .exit)) (now (words .exit)) (now (marks .exit))) ⌝ }
+{
+    let sent = send_turn(s, longs, words, marks, events, out);
+    let filled = fill_turn(s, longs, words, marks, events, sent);
+    let told = access::access_step(s, longs, words, marks, x);
+    let written = note(told, events, filled);
+    Round { told, written }
+}
+
+// Queue entries and miss entries together, and at least 1.
+pub fn most_rounds(s: Settings, longs: &[u64], words: &[u32], marks: &[u8]) -> usize
+    requires { ⌜ Held s (lent (now longs) (now words) (now marks)) ⌝ }
+    ensures { λ r. ⌜ Enough s (lent (now (longs .entry)) (now (words .entry)) (now (marks .entry))) r ⌝ }
+{
+    let at = tables::laid_out(s);
+    let queued = tables::used(marks, at.kinds, s.places);
+    let missed = tables::used(marks, at.counts, s.entries);
+    if queued + missed == 0 {
+        return 1;
+    }
+    queued + missed
+}
