@@ -17,7 +17,6 @@ use Rattle.model.specs.declared.Access.the-variants.{Read, Write}
 use Rattle.model.specs.declared.Verdict.{Verdict}
 use Rattle.model.specs.declared.Verdict.the-variants.{Passed, Refused}
 use Rattle.model.specs.Runner.{Result}
-use Rattle.records.specs.Stores.{storedCount, stored}
 use Rattle.rounds.specs.Waiting.{Wait, waitRoom}
 use Rattle.rounds.specs.declared.Waiting.{Waiting}
 use Rattle.rounds.specs.declared.Waiting.the-variants.{Accepted, Held, NoRoom}
@@ -46,8 +45,8 @@ eventRoom = 64
 
 -- a call with the outcome o on L and the event buffer e: its records stand at the buffer's start, and the slices are those that it left
 pub record Called (o : Outcome Lent) (L : Lent) (e : List ℕ) (r : ℕ) (f : List ℕ) (M : Lent) : Type 0 where
-  pub written : r ≡ pick (leb eventRoom (length e)) (storedCount e 0 (logBytes (eventsOf o))) 0
-  pub events : f ≡ pick (leb eventRoom (length e)) (stored e 0 (logBytes (eventsOf o))) e
+  pub written : r ≡ pick (leb eventRoom (length e)) (length (logBytes (eventsOf o))) 0
+  pub events : f ≡ pick (leb eventRoom (length e)) (logBytes (eventsOf o) ++ drop (length (logBytes (eventsOf o))) e) e
   pub left : M ≡ pick (leb eventRoom (length e)) (after L o) L
 
 -- ---- wait: the accepting round goes to a slice of one number
