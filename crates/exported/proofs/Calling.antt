@@ -9,27 +9,31 @@ use lib.Dec.{lit≤}
 use lib.ListN.{length, set}
 use borrow.Author.Tests.{le-leb, lt-leb, eq-eqb, ne-eqb}
 use Rattle.model.specs.Range.{inRange}
-use Rattle.model.specs.Tables.{Tables, Outcome, eventsOf}
+use Rattle.model.specs.Tables.{Tables, Outcome, after, eventsOf}
 use Rattle.model.specs.Lent.{Lent}
 use Rattle.model.specs.Records.{logBytes}
-use Rattle.model.specs.Sound.{sound}
+use Rattle.model.specs.Sound.{allOnes, sound}
 use Rattle.model.specs.Steps.{access, send, fill, tick}
-use Rattle.model.specs.Calls.{call, Leaves, eventsTold}
+use Rattle.model.specs.Calls.{call, encoded, Leaves, eventsTold}
+use Rattle.model.specs.Inner.{Held, Does}
 use Rattle.model.specs.Numbers.{stopNumber}
-use Rattle.model.specs.Runner.{Result, Runs}
+use Rattle.model.specs.Runner.{stepOf, Result, Runs}
 use Rattle.model.specs.declared.Settings.{Settings}
 use Rattle.model.specs.declared.Told.{Told}
 use Rattle.model.specs.declared.Access.{Access}
 use Rattle.model.specs.declared.Ran.{Ran}
 use Rattle.rounds.specs.declared.Waited.{Waited}
 use Rattle.rounds.specs.Waiting.{waitCall, waitWithin, Waits}
+use Rattle.model.specs.declared.Command.{Command}
 use Rattle.model.specs.declared.Command.the-variants as cmd
+use Rattle.model.proofs.Soundness.{commandMask, step-keeps-sound}
 use Rattle.model.proofs.Decoded.{Small}
+use Rattle.model.proofs.Bridge.{call-is, events-encoded, does-is}
 use Rattle.records.specs.Stores.{Stored}
 use Rattle.records.proofs.Stores.{stored-behind}
 use Rattle.records.proofs.Room.{Takes, access-takes, step-takes}
 use Rattle.records.proofs.Fits.{call-room}
-use Rattle.exported.specs.Exported.{Called, lengthFor, mayWait, roundNumber, WaitCalled, RunCalled}
+use Rattle.exported.specs.Exported.{Called, Stepped, lengthFor, mayWait, roundNumber, WaitCalled, RunCalled}
 
 pub call-unmade : (o : Outcome Lent) (L : Lent) (e : List ℕ) → length e < 64 → Called o L e 0 e L
 call-unmade o L e h = record { written = rw (lt-leb 64 (length e) h); events = rw (lt-leb 64 (length e) h); left = rw (lt-leb 64 (length e) h) }
@@ -52,14 +56,33 @@ pub tick-short : (S : Settings) (c : ℕ) → Short S (tick c)
 tick-short S c = step-takes S (cmd.Tick c)
 
 -- so the room suffices for all of it
+module _ (o : Outcome Lent) (L : Lent) (e : List ℕ) (told : Told) (room : 64 ≤ length e) (short : length (logBytes (eventsOf o)) ≤ 49) where
+  call-written : {r : ℕ} {f : List ℕ} {M : Lent} → Leaves o L told M → Stored e 0 (logBytes (eventsTold told)) r f → Called o L e r f M
+  call-written l s =
+      let b = le-leb 64 (length e) room in
+      let (count, slice) = stored-behind [] e (logBytes (eventsOf o)) (rw (l .tells) at s) (omega arith) in
+      record { written = rw b count; events = rw b slice; left = rw b (l .left) }
+
 pub call-made : (S : Settings) (step : Tables → Outcome Tables) (L : Lent) (e : List ℕ) (told : Told) {r : ℕ} {f : List ℕ} {M : Lent} → Short S step → Small L
     → 64 ≤ length e → Leaves (call S step L) L told M → Stored e 0 (logBytes (eventsTold told)) r f → Called (call S step L) L e r f M
-call-made S step L e told {r} {f} short small h l s =
-    let o = call S step L in
-    let b = le-leb 64 (length e) h in
-    let n : length (logBytes (eventsOf o)) ≤ 49 = call-room S step L small short in
-    let (count, slice) = stored-behind [] e (logBytes (eventsOf o)) (rw (l .tells) at s) (omega arith) in
-    record { written = rw b count; events = rw b slice; left = rw b (l .left) }
+call-made S step L e told short small room l s = call-written (call S step L) L e told room (call-room S step L small short) l s
+
+-- ---- a step without the check leaves what the call leaves, and sound tables again
+
+pub step-unmade : (S : Settings) (o : Outcome Lent) (L : Lent) (e : List ℕ) → Held S L → length e < 64 → Stepped S o L e 0 e L
+step-unmade S o L e held h = record { called = call-unmade o L e h; held = held }
+
+pub step-made : (S : Settings) (c : Command) (L : Lent) (e : List ℕ) (told : Told) {r : ℕ} {f : List ℕ} {M : Lent} → commandMask c ≤ allOnes → Held S L
+    → 64 ≤ length e → Does S (stepOf S c) L told M → Stored e 0 (logBytes (eventsTold told)) r f → Stepped S (call S (stepOf S c) L) L e r f M
+step-made S c L e told small held room d s =
+    let t = held .tables in
+    let i = held .are in
+    let q : call S (stepOf S c) L ≡ encoded S (stepOf S c t) = call-is S L t i (stepOf S c) in
+    let n : length (logBytes (eventsOf (call S (stepOf S c) L))) ≤ 49 = rw (q, events-encoded S (stepOf S c t)) (step-takes S c t (i .range) (i .soundly) .most) in
+    record {
+      called = call-written (call S (stepOf S c) L) L e told room n (rw q (d .on t i)) s;
+      held = record { tables = after t (stepOf S c t); are = does-is S d t i (step-keeps-sound S c t (i .range) small (i .soundly)) };
+    }
 
 -- ---- a length by the settings s, which are the six numbers S
 

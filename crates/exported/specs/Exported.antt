@@ -11,6 +11,7 @@ use Rattle.model.specs.Range.{inRange}
 use Rattle.model.specs.Tables.{Outcome, after, eventsOf}
 use Rattle.model.specs.Lent.{Lent}
 use Rattle.model.specs.Records.{logBytes}
+use Rattle.model.specs.Inner.{Held}
 use Rattle.model.specs.declared.Settings.{Settings}
 use Rattle.model.specs.declared.Access.{Access}
 use Rattle.model.specs.declared.Access.the-variants.{Read, Write}
@@ -19,7 +20,7 @@ use Rattle.model.specs.declared.Verdict.the-variants.{Passed, Refused}
 use Rattle.model.specs.Runner.{Result}
 use Rattle.rounds.specs.Waiting.{Wait, waitRoom}
 use Rattle.rounds.specs.declared.Waiting.{Waiting}
-use Rattle.rounds.specs.declared.Waiting.the-variants.{Accepted, Held, NoRoom}
+use Rattle.rounds.specs.declared.Waiting.the-variants.{Accepted, NoRoom}
 use Rattle.rounds.specs.declared.Waiting.the-variants as waiting
 
 abbrev pub settingsOf : ℕ → ℕ → ℕ → ℕ → ℕ → ℕ → Settings
@@ -49,11 +50,16 @@ pub record Called (o : Outcome Lent) (L : Lent) (e : List ℕ) (r : ℕ) (f : Li
   pub events : f ≡ pick (leb eventRoom (length e)) (logBytes (eventsOf o) ++ drop (length (logBytes (eventsOf o))) e) e
   pub left : M ≡ pick (leb eventRoom (length e)) (after L o) L
 
+-- the same of a step without the check, on slices that are the encoding of sound tables: it leaves such slices again
+pub record Stepped (S : Settings) (o : Outcome Lent) (L : Lent) (e : List ℕ) (r : ℕ) (f : List ℕ) (M : Lent) : Type 0 where
+  pub called : Called o L e r f M
+  pub held : Held S M
+
 -- ---- wait: the accepting round goes to a slice of one number
 
 abbrev pub roundNumber : Waiting → ℕ
 roundNumber (Accepted n e) = n
-roundNumber Held = 0
+roundNumber waiting.Held = 0
 roundNumber (waiting.Refused n) = 0
 roundNumber NoRoom = 0
 

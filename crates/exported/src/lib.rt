@@ -1,5 +1,8 @@
 // The library as C sees it (include/labintugmo.h): numbers and slices alone, a slice as a pointer and a length. Settings come as six
-// numbers. A call writes its event records at the start of the caller's buffer and returns how many bytes they are.
+// numbers. A call writes its event records at the start of the caller's buffer and returns how many bytes they are. `unchecked` has the
+// steps behind the calls' checks.
+mod unchecked;
+
 use model::Access;
 use model::Ran;
 use model::Settings;
@@ -23,7 +26,14 @@ const EVENT_ROOM: usize = 64;
 
 const WAIT_ROOM: usize = 9600;
 
-fn settings(sets: u32, ways: u32, percent: u32, entries: u32, readers: u32, places: u32) -> Settings
+pub(crate) fn settings(
+    sets: u32,
+    ways: u32,
+    percent: u32,
+    entries: u32,
+    readers: u32,
+    places: u32,
+) -> Settings
     ensures { λ r. ⌜ r ≡ (settingsOf sets ways percent entries readers places) ⌝ }
 {
     Settings {
