@@ -3,35 +3,86 @@ use mathlib.Core.Path.{_≡_, refl, sym, ap, _∙_}
 use mathlib.Core.Bool.{Bool, true, false}
 use mathlib.Core.List.{List, [], _∷_}
 use Prim.Native.Nat.{ℕ, _≤_, _<_}
+use native.Mathlib.Nat.{le-trans}
 use native.Mathlib.Omega.{arith}
+use lib.Dec.{lit≤}
 use lib.ListN.{length, set}
 use borrow.Author.Tests.{le-leb, lt-leb, eq-eqb, ne-eqb}
 use Rattle.model.specs.Range.{inRange}
-use Rattle.model.specs.Tables.{Outcome, eventsOf}
+use Rattle.model.specs.Tables.{Tables, Outcome, after, eventsOf}
 use Rattle.model.specs.Lent.{Lent}
 use Rattle.model.specs.Records.{logBytes}
-use Rattle.model.specs.Calls.{Leaves, eventsTold}
+use Rattle.model.specs.Sound.{allOnes, sound}
+use Rattle.model.specs.Steps.{access, send, fill, tick}
+use Rattle.model.specs.Calls.{call, encoded, Leaves, eventsTold}
+use Rattle.model.specs.Inner.{Held, Does}
 use Rattle.model.specs.Numbers.{stopNumber}
-use Rattle.model.specs.Runner.{Result, Runs}
+use Rattle.model.specs.Runner.{stepOf, Result, Runs}
 use Rattle.model.specs.declared.Settings.{Settings}
-use Rattle.model.specs.declared.Event.{Event}
 use Rattle.model.specs.declared.Told.{Told}
 use Rattle.model.specs.declared.Access.{Access}
 use Rattle.model.specs.declared.Ran.{Ran}
 use Rattle.rounds.specs.declared.Waited.{Waited}
 use Rattle.rounds.specs.Waiting.{waitCall, waitWithin, Waits}
-use Rattle.records.specs.Stores.{Stored, storedCount, stored}
-use Rattle.exported.specs.Exported.{Called, lengthFor, mayWait, roundNumber, WaitCalled, RunCalled}
+use Rattle.model.specs.declared.Command.{Command}
+use Rattle.model.specs.declared.Command.the-variants as cmd
+use Rattle.model.proofs.Soundness.{commandMask, step-keeps-sound}
+use Rattle.model.proofs.Decoded.{Small}
+use Rattle.model.proofs.Bridge.{call-is, events-encoded, does-is}
+use Rattle.records.specs.Stores.{Stored}
+use Rattle.records.proofs.Stores.{stored-behind}
+use Rattle.records.proofs.Room.{Takes, access-takes, step-takes}
+use Rattle.records.proofs.Fits.{call-room}
+use Rattle.exported.specs.Exported.{Called, Stepped, lengthFor, mayWait, roundNumber, WaitCalled, RunCalled}
 
 pub call-unmade : (o : Outcome Lent) (L : Lent) (e : List ℕ) → length e < 64 → Called o L e 0 e L
 call-unmade o L e h = record { written = rw (lt-leb 64 (length e) h); events = rw (lt-leb 64 (length e) h); left = rw (lt-leb 64 (length e) h) }
 
-pub call-made : (o : Outcome Lent) (L : Lent) (e : List ℕ) (told : Told) {r : ℕ} {f : List ℕ} {M : Lent} → 64 ≤ length e → Leaves o L told M → Stored e 0 (logBytes (eventsTold told)) r f → Called o L e r f M
-call-made o L e told h l s = record {
-  written = rw (le-leb 64 (length e) h) (s .count ∙ ap (λ (es : List Event). storedCount e 0 (logBytes es)) (l .tells));
-  events = rw (le-leb 64 (length e) h) (s .slice ∙ ap (λ (es : List Event). stored e 0 (logBytes es)) (l .tells));
-  left = rw (le-leb 64 (length e) h) (l .left);
-}
+-- ---- a call takes 49 bytes at most
+
+abbrev Short : Settings → (Tables → Outcome Tables) → Type 0
+Short S step = (t : Tables) → inRange S ≡ true → sound S t ≡ true → Takes 49 (step t)
+
+pub access-short : (S : Settings) (x : Access) → Short S (access S x)
+access-short S x t range ok = record { most = le-trans (access-takes S x t .most) (lit≤ tt) }
+
+pub send-short : (S : Settings) → Short S send
+send-short S = step-takes S cmd.Send
+
+pub fill-short : (S : Settings) (a : ℕ) → Short S (fill a)
+fill-short S a = step-takes S (cmd.Fill a)
+
+pub tick-short : (S : Settings) (c : ℕ) → Short S (tick c)
+tick-short S c = step-takes S (cmd.Tick c)
+
+-- so the room suffices for all of it
+module _ (o : Outcome Lent) (L : Lent) (e : List ℕ) (told : Told) (room : 64 ≤ length e) (short : length (logBytes (eventsOf o)) ≤ 49) where
+  call-written : {r : ℕ} {f : List ℕ} {M : Lent} → Leaves o L told M → Stored e 0 (logBytes (eventsTold told)) r f → Called o L e r f M
+  call-written l s =
+      let b = le-leb 64 (length e) room in
+      let (count, slice) = stored-behind [] e (logBytes (eventsOf o)) (rw (l .tells) at s) (omega arith) in
+      record { written = rw b count; events = rw b slice; left = rw b (l .left) }
+
+pub call-made : (S : Settings) (step : Tables → Outcome Tables) (L : Lent) (e : List ℕ) (told : Told) {r : ℕ} {f : List ℕ} {M : Lent} → Short S step → Small L
+    → 64 ≤ length e → Leaves (call S step L) L told M → Stored e 0 (logBytes (eventsTold told)) r f → Called (call S step L) L e r f M
+call-made S step L e told short small room l s = call-written (call S step L) L e told room (call-room S step L small short) l s
+
+-- ---- a step without the check leaves what the call leaves, and sound tables again
+
+pub step-unmade : (S : Settings) (o : Outcome Lent) (L : Lent) (e : List ℕ) → Held S L → length e < 64 → Stepped S o L e 0 e L
+step-unmade S o L e held h = record { called = call-unmade o L e h; held = held }
+
+pub step-made : (S : Settings) (c : Command) (L : Lent) (e : List ℕ) (told : Told) {r : ℕ} {f : List ℕ} {M : Lent} → commandMask c ≤ allOnes → Held S L
+    → 64 ≤ length e → Does S (stepOf S c) L told M → Stored e 0 (logBytes (eventsTold told)) r f → Stepped S (call S (stepOf S c) L) L e r f M
+step-made S c L e told small held room d s =
+    let t = held .tables in
+    let i = held .are in
+    let q : call S (stepOf S c) L ≡ encoded S (stepOf S c t) = call-is S L t i (stepOf S c) in
+    let n : length (logBytes (eventsOf (call S (stepOf S c) L))) ≤ 49 = rw (q, events-encoded S (stepOf S c t)) (step-takes S c t (i .range) (i .soundly) .most) in
+    record {
+      called = call-written (call S (stepOf S c) L) L e told room n (rw q (d .on t i)) s;
+      held = record { tables = after t (stepOf S c t); are = does-is S d t i (step-keeps-sound S c t (i .range) small (i .soundly)) };
+    }
 
 -- ---- a length by the settings s, which are the six numbers S
 
@@ -48,7 +99,7 @@ one-set [] n h = absurd (omega arith)
 one-set (x ∷ []) n h = refl
 one-set (x ∷ y ∷ k) n h = absurd (omega arith)
 
-two-set : (k : List ℕ) (m n : ℕ) → length k ≡ 2 → set (set k 0 m) 1 n ≡ m ∷ n ∷ []
+pub two-set : (k : List ℕ) (m n : ℕ) → length k ≡ 2 → set (set k 0 m) 1 n ≡ m ∷ n ∷ []
 two-set [] m n h = absurd (omega arith)
 two-set (x ∷ []) m n h = absurd (omega arith)
 two-set (x ∷ y ∷ []) m n h = refl
@@ -79,13 +130,13 @@ module _ (o : Result Lent) (L : Lent) (e k : List ℕ) where
   pub run-no-counts : (length k ≡ 2 → ⊥) → RunCalled o L e k 2 e k L
   run-no-counts h = let q = ne-eqb (length k) 2 h in record { stop = rw q; events = rw q; counts = rw q; left = rw q }
 
-  pub run-made : length k ≡ 2 → {r : Ran} {f : List ℕ} {M : Lent} → Runs o e r f M → {n : ℕ} → n ≡ stopNumber (r .stop)
-      → RunCalled o L e k n f (set (set k 0 (r .consumed)) 1 (r .written)) M
+  pub run-made : length k ≡ 2 → {r : Ran} {f j : List ℕ} {M : Lent} → Runs o e r f M → {n : ℕ} → (n ≡ stopNumber (r .stop)) × (j ≡ r .consumed ∷ r .written ∷ [])
+      → RunCalled o L e k n f j M
   run-made two {r} w g =
       let q = eq-eqb (length k) 2 two in
       record {
-        stop = rw q (g ∙ ap stopNumber (w .stop));
+        stop = rw q (g .0 ∙ ap stopNumber (w .stop));
         events = rw q (w .events);
-        counts = rw q (two-set k (r .consumed) (r .written) two ∙ rw (w .consumed, w .written));
+        counts = rw q (g .1 ∙ (rw (w .consumed, w .written)));
         left = rw q (w .tables);
       }

@@ -11,16 +11,16 @@ use Rattle.model.specs.Range.{inRange}
 use Rattle.model.specs.Tables.{Outcome, after, eventsOf}
 use Rattle.model.specs.Lent.{Lent}
 use Rattle.model.specs.Records.{logBytes}
+use Rattle.model.specs.Inner.{Held}
 use Rattle.model.specs.declared.Settings.{Settings}
 use Rattle.model.specs.declared.Access.{Access}
 use Rattle.model.specs.declared.Access.the-variants.{Read, Write}
 use Rattle.model.specs.declared.Verdict.{Verdict}
 use Rattle.model.specs.declared.Verdict.the-variants.{Passed, Refused}
 use Rattle.model.specs.Runner.{Result}
-use Rattle.records.specs.Stores.{storedCount, stored}
 use Rattle.rounds.specs.Waiting.{Wait, waitRoom}
 use Rattle.rounds.specs.declared.Waiting.{Waiting}
-use Rattle.rounds.specs.declared.Waiting.the-variants.{Accepted, Held, NoRoom}
+use Rattle.rounds.specs.declared.Waiting.the-variants.{Accepted, NoRoom}
 use Rattle.rounds.specs.declared.Waiting.the-variants as waiting
 
 abbrev pub settingsOf : ℕ → ℕ → ℕ → ℕ → ℕ → ℕ → Settings
@@ -46,15 +46,20 @@ eventRoom = 64
 
 -- a call with the outcome o on L and the event buffer e: its records stand at the buffer's start, and the slices are those that it left
 pub record Called (o : Outcome Lent) (L : Lent) (e : List ℕ) (r : ℕ) (f : List ℕ) (M : Lent) : Type 0 where
-  pub written : r ≡ pick (leb eventRoom (length e)) (storedCount e 0 (logBytes (eventsOf o))) 0
-  pub events : f ≡ pick (leb eventRoom (length e)) (stored e 0 (logBytes (eventsOf o))) e
+  pub written : r ≡ pick (leb eventRoom (length e)) (length (logBytes (eventsOf o))) 0
+  pub events : f ≡ pick (leb eventRoom (length e)) (logBytes (eventsOf o) ++ drop (length (logBytes (eventsOf o))) e) e
   pub left : M ≡ pick (leb eventRoom (length e)) (after L o) L
+
+-- the same of a step without the check, on slices that are the encoding of sound tables: it leaves such slices again
+pub record Stepped (S : Settings) (o : Outcome Lent) (L : Lent) (e : List ℕ) (r : ℕ) (f : List ℕ) (M : Lent) : Type 0 where
+  pub called : Called o L e r f M
+  pub held : Held S M
 
 -- ---- wait: the accepting round goes to a slice of one number
 
 abbrev pub roundNumber : Waiting → ℕ
 roundNumber (Accepted n e) = n
-roundNumber Held = 0
+roundNumber waiting.Held = 0
 roundNumber (waiting.Refused n) = 0
 roundNumber NoRoom = 0
 

@@ -1,17 +1,23 @@
 // The library as C sees it (include/labintugmo.h): numbers and slices alone, a slice as a pointer and a length. Settings come as six
-// numbers. A call writes its event records at the start of the caller's buffer and returns how many bytes they are.
+// numbers. A call writes its event records at the start of the caller's buffer and returns how many bytes they are. `unchecked` has the
+// steps behind the calls' checks.
+mod unchecked;
+
 use model::Access;
+use model::Ran;
 use model::Settings;
 use model::Verdict;
 use rounds::Waiting;
 ghost use mathlib.Core.Path.{_≡_};
+ghost use mathlib.Core.List.{[], _∷_};
 ghost use lib.ListN.{length};
 ghost use Rattle.model.specs.Range.{longsLength, wordsLength, marksLength};
 ghost use Rattle.model.specs.Tables.{after};
 ghost use Rattle.model.specs.Lent.{lent};
 ghost use Rattle.model.specs.Calls.{freshCall, checkCall, verdictOf, accessCall, sendCall, fillCall, tickCall};
 ghost use Rattle.model.specs.declared.Access.the-variants.{Read, Write};
-ghost use Rattle.model.specs.Runner.{run};
+ghost use Rattle.model.specs.Numbers.{stopNumber};
+ghost use Rattle.model.specs.Runner.{run, resume};
 ghost use Rattle.rounds.specs.Waiting.{waitCall};
 ghost use Rattle.exported.specs.Exported.{settingsOf, verdictNumber, lengthFor, accessFor, roundNumber, Called, WaitCalled, RunCalled};
 
@@ -20,7 +26,14 @@ const EVENT_ROOM: usize = 64;
 
 const WAIT_ROOM: usize = 9600;
 
-fn settings(sets: u32, ways: u32, percent: u32, entries: u32, readers: u32, places: u32) -> Settings
+pub(crate) fn settings(
+    sets: u32,
+    ways: u32,
+    percent: u32,
+    entries: u32,
+    readers: u32,
+    places: u32,
+) -> Settings
     ensures { λ r. ⌜ r ≡ (settingsOf sets ways percent entries readers places) ⌝ }
 {
     Settings {
@@ -352,6 +365,17 @@ pub extern "C" fn labintugmo_wait(
     waited.written
 }
 
+// The bytes consumed and written go to the counts; the stop's number.
+fn note_run(ran: Ran, counts: &mut [u64]) -> u32
+    requires { ⌜ length (now counts) ≡ 2 ⌝ }
+    ensures { λ r. ⌜ (r ≡ stopNumber (ran .stop)) × (now (counts .exit) ≡ ran .consumed ∷ ran .written ∷ []) ⌝ }
+{
+    counts[0] = ran.consumed as u64;
+    counts[1] = ran.written as u64;
+    let stop = ran.stop;
+    model::stop_number(stop) as u32
+}
+
 #[no_mangle]
 pub extern "C" fn labintugmo_run(
     stream: &[u8],
@@ -367,9 +391,34 @@ pub extern "C" fn labintugmo_run(
     if counts.len() != 2 {
         return 2;
     }
-    let ran = runner::run(stream, events, longs, words, marks);
-    counts[0] = ran.consumed as u64;
-    counts[1] = ran.written as u64;
-    let stop = ran.stop;
-    model::stop_number(stop) as u32
+    note_run(runner::run(stream, events, longs, words, marks), counts)
+}
+
+// Goes on from kept tables and settings with the next part of a stream.
+#[no_mangle]
+pub extern "C" fn labintugmo_resume(
+    sets: u32,
+    ways: u32,
+    percent: u32,
+    entries: u32,
+    readers: u32,
+    places: u32,
+    stream: &[u8],
+    events: &mut [u8],
+    longs: &mut [u64],
+    words: &mut [u32],
+    marks: &mut [u8],
+    counts: &mut [u64],
+) -> u32
+    ensures { λ r. ⌜ RunCalled (resume (settingsOf sets ways percent entries readers places) (length (now (events .entry))) (now (stream .entry)) (lent (now (longs .entry)) (now (words .entry)) (now (marks .entry)))) (lent (now (longs .entry)) (now (words .entry)) (now (marks .entry)))
+        (now (events .entry)) (now (counts .entry)) r (now (events .exit)) (now (counts .exit)) (lent (now (longs .exit)) (now (words .exit)) (now (marks .exit))) ⌝ }
+{
+    if counts.len() != 2 {
+        return 2;
+    }
+    let s = settings(sets, ways, percent, entries, readers, places);
+    note_run(
+        runner::resume(s, stream, events, longs, words, marks),
+        counts,
+    )
 }

@@ -1,5 +1,5 @@
 -- Laws of records: the table of lengths, reading a record, numbers as bytes, stores in a row, events and commands as bytes and back,
--- the events of a call's value and how many bytes they are.
+-- the events of a call's value, how many bytes they are, and that they fit.
 pub mod Lengths
 pub mod Reading
 pub mod Digits
@@ -12,3 +12,4 @@ pub mod Log
 pub mod Words
 pub mod Told
 pub mod Room
+pub mod Fits

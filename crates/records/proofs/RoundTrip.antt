@@ -159,3 +159,7 @@ log-from (e ∷ es) (suc n) p h g =
 pub log-back : (es : List Event) → AllFitting es → eventsIn (logBytes es) ≡ parsed es
 unfolding eventsIn
 log-back es h = log-from es (length (logBytes es)) [] h (omega arith)
+
+-- a log at the start of a buffer, with whatever stands behind it
+pub log-written : (es : List Event) (e : List ℕ) → AllFitting es → eventsIn (take (length (logBytes es)) (logBytes es ++ e)) ≡ parsed es
+log-written es e h = ap eventsIn (take-append-seam (logBytes es) e) ∙ log-back es h

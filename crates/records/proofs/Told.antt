@@ -19,7 +19,7 @@ use Rattle.records.proofs.Log.{log-append, log-one, released-length}
 
 -- ---- the numbers fit
 
-fitting-append : (es fs : List Event) → AllFitting es → AllFitting fs → AllFitting (es ++ fs)
+pub fitting-append : (es fs : List Event) → AllFitting es → AllFitting fs → AllFitting (es ++ fs)
 fitting-append [] fs p q = q
 fitting-append (e ∷ es) fs p q = (p .0, fitting-append es fs (p .1) q)
 

@@ -1,6 +1,13 @@
--- Events and commands whose numbers fit the bytes that document 01 gives them.
-use Prim.Native.Nat.{ℕ, _^_, _<_}
+-- Events, commands and tickets whose numbers fit the bytes that document 01 gives them.
+use Prim.Native.Nat.{ℕ, _^_, _≤_, _<_}
+use mathlib.Core.Bool.{Bool}
 use mathlib.Core.List.{List, [], _∷_}
+use lib.Dec.{leb}
+use Rattle.model.specs.Words.{all}
+use Rattle.model.specs.Tables.{Tables}
+use Rattle.model.specs.Sound.{allOnes}
+use Rattle.model.specs.declared.Access.{Access}
+use Rattle.model.specs.declared.Access.the-variants.{Read, Write}
 use Rattle.model.specs.declared.Event.{Event}
 use Rattle.model.specs.declared.Event.the-variants as ev
 use Rattle.model.specs.declared.Command.{Command}
@@ -45,3 +52,17 @@ CommandFits (cmd.Write a m) = (a < 2 ^ 64) × (m < 2 ^ 32)
 CommandFits cmd.Send = Unit
 CommandFits (cmd.Fill a) = a < 2 ^ 64
 CommandFits (cmd.Tick c) = c < 2 ^ 32
+
+-- ---- tickets of 32 bits
+
+abbrev pub words : List ℕ → Bool
+words ms = all (λ m. leb m allOnes) ms
+
+-- the tickets of the miss entries
+abbrev pub stamped : Tables → Bool
+stamped t = all (λ e. words (e .tickets)) (t .misses)
+
+-- the ticket that an access may leave in an entry
+abbrev pub TicketFits : Access → Type 0
+TicketFits (Read a m k) = k ≤ allOnes
+TicketFits (Write a m k) = Unit

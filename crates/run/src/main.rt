@@ -12,7 +12,7 @@ use streaming::work::Work;
 ghost use Prim.Native.Nat.{_≤_};
 ghost use lib.ListN.{length, take};
 ghost use Rattle.model.specs.Lent.{lent};
-ghost use Rattle.runner.specs.Lengths.{lengthsFor, Long};
+ghost use Rattle.running.specs.Lengths.{lengthsFor, Long};
 ghost use Rattle.streaming.specs.Works.{Sure};
 
 // The first record, then the rest, on slices as long as the stream's settings ask.
@@ -48,7 +48,7 @@ fn run_stream(fd: i32, buf: &mut [u8], w: Work) -> Work
     requires { ⌜ w .have ≤ length (now buf) ⌝ }
     ensures { λ r. ⌜ Sure (r .next) (r .stop) ⌝ }
 {
-    let n = runner::lengths_for(text::front(buf, w.have));
+    let n = running::lengths_for(text::front(buf, w.have));
     let mut longs = rooms::longs_room();
     let mut words = rooms::words_room();
     let mut marks = rooms::marks_room();

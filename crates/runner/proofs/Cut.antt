@@ -24,9 +24,9 @@ use Rattle.model.proofs.Soundness.{start-sound}
 use Rattle.model.proofs.RunSound.{run-from-keeps-sound}
 use Rattle.model.proofs.Decoded.{Small}
 use Rattle.model.proofs.Kept.{kept-is, resume-goes, resume-is}
-use Rattle.runner.proofs.First.{Settled, settled, run-accepts}
-use Rattle.runner.proofs.Running.{run-skips}
-use Rattle.runner.proofs.Parts.{goes-first, settings-more, first-more, settled-long, run-cut}
+use Rattle.running.proofs.First.{Settled, settled, run-accepts}
+use Rattle.running.proofs.Running.{run-skips}
+use Rattle.running.proofs.Parts.{goes-first, settings-more, first-more, settled-long, run-cut}
 
 -- ---- on tables
 

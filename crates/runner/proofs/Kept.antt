@@ -17,7 +17,7 @@ use Rattle.model.specs.declared.Stop.the-variants.{Nothing, SettingOutOfRange, 
 use Rattle.model.specs.declared.Ran.{Ran}
 use Rattle.model.proofs.Decoded.{Small}
 use Rattle.model.proofs.Kept.{kept-is, resume-stops, resume-goes}
-use Rattle.runner.specs.Resume.{restFrom, Stands, Resumes}
+use Rattle.running.specs.Resume.{restFrom, Stands, Resumes}
 
 module _ (S : Settings) (L : Lent) where
   pub kept-out : inRange S ≡ false → SettingOutOfRange ≡ keptStop S L

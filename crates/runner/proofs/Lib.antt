@@ -1,11 +1,3 @@
--- Laws of a run: record by record, the checks and the step at a record, the loop, the first record; a run in parts; the lengths asked for.
-pub mod Running
-pub mod Checks
-pub mod Acting
-pub mod Singles
-pub mod Turns
-pub mod First
-pub mod Parts
+-- Laws of a run that goes on: its checks and what it leaves, and that two parts are one run.
 pub mod Kept
 pub mod Cut
-pub mod Asked

@@ -18,14 +18,14 @@ use Rattle.model.specs.declared.Settings.{Settings}
 use Rattle.model.specs.declared.Stop.{Stop}
 use Rattle.model.specs.declared.Stop.the-variants as stop
 use Rattle.model.specs.declared.Ran.{Ran as Run}
-use Rattle.runner.specs.Resume.{restFrom, Resumes, Stands}
-use Rattle.runner.specs.declared.Lengths.{Lengths}
-use Rattle.runner.specs.declared.Begun.{Begun}
-use Rattle.runner.specs.declared.Begun.the-variants.{Accepted, Stopped}
-use Rattle.runner.specs.Begin.{Begins}
-use Rattle.runner.specs.Lengths.{lengthsFor, Long, Final}
-use Rattle.runner.proofs.First.{begun-held}
-use Rattle.runner.proofs.Asked.{Most, asked-most, final, asked-stops, run-fits}
+use Rattle.running.specs.Resume.{restFrom, Resumes, Stands}
+use Rattle.running.specs.declared.Lengths.{Lengths}
+use Rattle.running.specs.declared.Begun.{Begun}
+use Rattle.running.specs.declared.Begun.the-variants.{Accepted, Stopped}
+use Rattle.running.specs.Begin.{Begins}
+use Rattle.running.specs.Lengths.{lengthsFor, Long, Final}
+use Rattle.running.proofs.First.{begun-held}
+use Rattle.running.proofs.Asked.{Most, asked-most, final, asked-stops, run-fits}
 use Rattle.input.specs.Buffers.{movedDown, carried, carriedCount, Read}
 use Rattle.input.specs.declared.Filled.{Filled}
 use Rattle.input.specs.declared.Filled.the-variants as filled

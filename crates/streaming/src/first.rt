@@ -8,7 +8,7 @@ ghost use lib.ListN.{length};
 
 // Once the first record is there, nothing behind it changes what it comes to.
 fn next_after(s: &[u8]) -> Next {
-    if runner::first_there(s) {
+    if running::first_there(s) {
         Next::Run
     } else {
         Next::Read

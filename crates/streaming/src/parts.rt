@@ -6,12 +6,12 @@ use crate::work::Work;
 use input::Filled;
 use libc::STDOUT_FILENO;
 use model::Settings;
-use runner::Begun;
+use running::Begun;
 ghost use Prim.Native.Nat.{_≤_};
 ghost use lib.ListN.{length, take};
 ghost use Rattle.model.specs.Lent.{lent};
 ghost use Rattle.model.specs.Inner.{Held};
-ghost use Rattle.runner.specs.Lengths.{lengthsFor, Long, Final};
+ghost use Rattle.running.specs.Lengths.{lengthsFor, Long, Final};
 ghost use Rattle.streaming.specs.Parts.{Ready, Ran, Starts};
 
 // A settings record: its kind and a body of seven bytes.
@@ -57,7 +57,7 @@ fn run_part(
         w r (now (buf .exit)) (now (events .exit)) (lent (now (longs .exit)) (now (words .exit)) (now (marks .exit))) ⌝ }
 {
     let end = scope::part_end(scope, text::front(buf, n));
-    let ran = runner::go_on(s, text::front(buf, end), 0, events, 0, longs, words, marks);
+    let ran = running::go_on(s, text::front(buf, end), 0, events, 0, longs, words, marks);
     let done = hand_out(scope, events, ran.written);
     let have = input::carry(buf, ran.consumed, n);
     let v = work::behind(w, ran, have);
@@ -155,7 +155,7 @@ pub fn start(
     ensures { λ r. ⌜ Starts r (lent (now (longs .exit)) (now (words .exit)) (now (marks .exit))) (now (buf .exit)) ⌝ }
 {
     let have = w.have;
-    match runner::begin(text::front(buf, have), longs, words, marks) {
+    match running::begin(text::front(buf, have), longs, words, marks) {
         Begun::Stopped(stop) => Started::Stops(work::stopped(w, stop)),
         Begun::Accepted(settings) => {
             let rest = input::carry(buf, SETTINGS_RECORD, have);

@@ -19,7 +19,7 @@ use streaming::work::Work;
 ghost use Prim.Native.Nat.{_≤_};
 ghost use lib.ListN.{length, take};
 ghost use Rattle.model.specs.Lent.{lent};
-ghost use Rattle.runner.specs.Lengths.{lengthsFor, Long};
+ghost use Rattle.running.specs.Lengths.{lengthsFor, Long};
 ghost use Rattle.streaming.specs.Parts.{Ready};
 
 // At the end of the input: the last record is what waits in the buffer.
@@ -93,7 +93,7 @@ fn wait_all(
 fn wait_stream(fd: i32, buf: &mut [u8], w: Work)
     requires { ⌜ w .have ≤ length (now buf) ⌝ }
 {
-    let n = runner::lengths_for(text::front(buf, w.have));
+    let n = running::lengths_for(text::front(buf, w.have));
     let mut longs = rooms::longs_room();
     let mut words = rooms::words_room();
     let mut marks = rooms::marks_room();

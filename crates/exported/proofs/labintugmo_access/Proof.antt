@@ -1,5 +1,6 @@
+use native.Mathlib.Omega.{arith}
 use borrow.Author.Needs.{needs}
-use Rattle.exported.proofs.Calling.{call-unmade, call-made}
+use Rattle.exported.proofs.Calling.{call-unmade, access-short, call-made}
 use Rattle.exported.proofs.labintugmo_access.Statement.{statement}
 use Rattle.exported.proofs.labintugmo_access.Tie as tie
 use Rattle.cache.proofs.access.Reads as access-reads
@@ -25,4 +26,4 @@ labintugmo-access-spec =
     let called = told .before .before .before .before .before .before .before .before in
     let made = called .before .before .before .before in
     let set = made .before in
-    call-made _ _ _ _ (set .before .if1 .left) (rw (set .settings .ensures, made .access-for .ensures) at (called .access .ensures)) (told .write-told .ensures .0)))
+    call-made _ _ _ _ _ (access-short _ _) (λ i. omega (arith, set .before .before .before .before .slice-known2 .given i)) (set .before .if1 .left) (rw (set .settings .ensures, made .access-for .ensures) at (called .access .ensures)) (told .write-told .ensures .0)))

@@ -1,5 +1,6 @@
+use native.Mathlib.Omega.{arith}
 use borrow.Author.Needs.{needs}
-use Rattle.exported.proofs.Calling.{call-unmade, call-made}
+use Rattle.exported.proofs.Calling.{call-unmade, tick-short, call-made}
 use Rattle.exported.proofs.labintugmo_tick.Statement.{statement}
 use Rattle.exported.proofs.labintugmo_tick.Tie as tie
 use Rattle.cache.proofs.tick.Reads as tick-reads
@@ -22,4 +23,4 @@ labintugmo-tick-spec =
     let told = c .before .before in
     let called = told .before .before .before .before .before .before .before .before in
     let set = called .before .before .before .before in
-    call-made _ _ _ _ (set .before .if1 .left) (rw (set .settings .ensures) at (called .tick .ensures)) (told .write-told .ensures .0)))
+    call-made _ _ _ _ _ (tick-short _ _) (λ i. omega (arith, set .before .before .before .before .slice-known2 .given i)) (set .before .if1 .left) (rw (set .settings .ensures) at (called .tick .ensures)) (told .write-told .ensures .0)))

@@ -5,7 +5,7 @@ use native.Mathlib.Omega.{arith}
 use borrow.Author.Needs.{needs}
 use lib.ListN.{length}
 use lib.Seq.{length-take-le}
-use Rattle.runner.proofs.Asked.{Most}
+use Rattle.running.proofs.Asked.{Most}
 use Rattle.streaming.proofs.Turns.{lent-most, lent-long}
 use Rattle.run.proofs.run_stream.Statement.{statement}
 use Rattle.run.proofs.run_stream.Tie as tie

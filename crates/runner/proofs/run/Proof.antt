@@ -1,6 +1,6 @@
 -- The first record, then the others.
 use borrow.Author.Needs.{needs}
-use Rattle.runner.proofs.First.{run-stopped, begun-held, begun-stands, run-begun}
+use Rattle.running.proofs.First.{run-stopped, begun-held, begun-stands, run-begun}
 use Rattle.runner.proofs.run.Statement.{statement}
 use Rattle.runner.proofs.run.Tie as tie
 

@@ -1,0 +1,24 @@
+-- Nothing without a slice of two numbers; else the part that goes on, and its counts.
+use borrow.Author.Needs.{needs}
+use Rattle.exported.proofs.Calling.{run-no-counts, run-made}
+use Rattle.exported.proofs.labintugmo_resume.Statement.{statement}
+use Rattle.exported.proofs.labintugmo_resume.Tie as tie
+
+pub labintugmo-resume-spec : {M : Type 1} → statement M
+labintugmo-resume-spec =
+    tie.close
+    (tie.spec
+    (λ c. run-no-counts _ _ _ _ (c .if1 .taken))
+    (λ c κs. search needs)
+    (λ c κs. search needs)
+    (λ c κs. search needs)
+    (λ c. search needs)
+    (λ c. search needs)
+    (λ c. search needs)
+    (λ c. search needs)
+    (λ c. search needs)
+    (λ c.
+    let n = c .before .before in
+    let r = n .before .before .before .before .before .before .before .before .before .before in
+    let s = r .before .before .before .before .before in
+    run-made _ _ _ _ (s .before .if1 .left) (rw (s .settings .ensures) at (r .resume .ensures)) (n .note-run .ensures)))

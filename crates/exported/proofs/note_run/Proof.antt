@@ -1,0 +1,15 @@
+use borrow.Author.Needs.{needs}
+use Rattle.exported.proofs.Calling.{two-set}
+use Rattle.exported.proofs.note_run.Statement.{statement}
+use Rattle.exported.proofs.note_run.Tie as tie
+
+pub note-run-spec : {M : Type 1} → statement M
+note-run-spec =
+    tie.close
+    (tie.spec
+    (λ c. search needs)
+    (λ c. search needs)
+    (λ c κs. search needs)
+    (λ c. search needs)
+    (λ c. search needs)
+    (λ c. let s = c .before .before in (c .stop-number .ensures, two-set (s .args .counts .now) (s .args .ran .consumed) (s .args .ran .written) (s .pre))))

@@ -1,0 +1,290 @@
+-- The events of a step on sound tables whose tickets are 32 bits fit the bytes that document 01 gives them, and the tables after it have such
+-- tickets again; the events of a call on slices of 32-bit words fit, and they take 49 bytes at most. What fits reads back (RoundTrip).
+use mathlib.Core.Path.{_≡_, refl, sym, subst}
+use mathlib.Core.Bool.{Bool, true, false, not, _&&_, _||_}
+use mathlib.Core.List.{List, [], _∷_, _++_, map}
+use Prim.Native.Nat.{ℕ, zero, suc, _+_, _*_, _%_, _^_, _≤_, _<_}
+use native.Mathlib.Nat.{le-trans}
+use native.Mathlib.Omega.{arith}
+use borrow.Author.Tests.{le-leb, leb-true, ltb-true, eqb-true}
+use lib.Dec.{leb, ltb, eqb, lit≤}
+use lib.ListN.{length, getD}
+use Rattle.model.specs.Words.{pick, all, any, keep, table}
+use Rattle.model.specs.Range.{inRange, linesOf}
+use Rattle.model.specs.Address.{addressOf, isRead, goodSector, goodBlock, wellFormed}
+use Rattle.model.specs.Tables.{Entry, Queued, reading, writing, Tables, Outcome, refused, done, after, eventsOf, entryFor}
+use Rattle.model.specs.Lent.{Lent, lengthsFit, tablesOf, encode, ticketAt, entryAt, ticketCountAt}
+use Rattle.model.specs.Sound.{allOnes, lastCycle, unsentFor, entryOk, queuedOk, sound}
+use Rattle.model.specs.SoundLent.{soundLent}
+use Rattle.model.specs.Probe.{Spot, Place, no, at, probe, ruleOf, waysOf, dirtyLines}
+use Rattle.model.specs.Steps.{isMerge, isMiss, join, onMisses, fetches, queues, queuedEvent, sentEvent, placesNeeded, entryFull, accept, proceed, access, mark, marked, sendFrom, send, ticketsOf, others, sentFor, fill, tick}
+use Rattle.model.specs.Calls.{call, encoded}
+use Rattle.model.specs.Records.{logBytes}
+use Rattle.model.specs.Runner.{stepOf}
+use Rattle.model.specs.Inner.{Is}
+use Rattle.model.specs.declared.Settings.{Settings}
+use Rattle.model.specs.declared.Answer.{Answer}
+use Rattle.model.specs.declared.Access.{Access}
+use Rattle.model.specs.declared.Access.the-variants.{Read, Write}
+use Rattle.model.specs.declared.Refusal.{Refusal}
+use Rattle.model.specs.declared.Refusal.the-variants.{SettingOutOfRange, SliceLength, NotSound}
+use Rattle.model.specs.declared.Event.{Event}
+use Rattle.model.specs.declared.Event.the-variants.{Refused, Released}
+use Rattle.model.specs.declared.Command.{Command}
+use Rattle.model.specs.declared.Command.the-variants as cmd
+use Rattle.model.proofs.Flags.{and-1, and-2, and-i, clash, by-flag}
+use Rattle.model.proofs.Lists.{In, all-in, in-all, any-in, in-keep}
+use Rattle.model.proofs.SoundFacts.{Sound, parts, entry-parts}
+use Rattle.model.proofs.Fits.{ranged}
+use Rattle.model.proofs.Taken.{Spotted, formed-good}
+use Rattle.model.proofs.Offered.{probe-spotted}
+use Rattle.model.proofs.Decoded.{Small}
+use Rattle.model.proofs.Bridge.{sound-encoded, events-encoded}
+use Rattle.records.specs.Fitting.{WriteBackFits, Fitting, AllFitting, CommandFits, words, stamped, TicketFits}
+use Rattle.records.proofs.Room.{Takes, refused-takes}
+
+-- the events of an outcome fit
+abbrev Fits : Outcome Tables → Type 0
+Fits o = AllFitting (eventsOf o)
+
+-- ---- addresses and masks
+
+word-at : (ms : List ℕ) (i : ℕ) → words ms ≡ true → getD ms i 0 < 2 ^ 32
+word-at [] i h = omega arith
+word-at (m ∷ ms) zero h = let q = leb-true m allOnes (and-1 (leb m allOnes) (words ms) h) in omega arith
+word-at (m ∷ ms) (suc i) h = word-at ms i (and-2 (leb m allOnes) (words ms) h)
+
+sector-low : (a : ℕ) → goodSector a ≡ true → a < 2 ^ 64
+sector-low a h = let l = ltb-true a (2 ^ 48) (and-2 (eqb (a % 32) 0) (ltb a (2 ^ 48)) h) in omega arith
+
+back-fits : (es : List Entry) (b : ℕ) (ms : List ℕ) → queuedOk es (writing b ms) ≡ true
+    → WriteBackFits b (getD ms 0 0) (getD ms 1 0) (getD ms 2 0) (getD ms 3 0)
+unfolding queuedOk
+back-fits es b ms h =
+    let g : goodBlock b ≡ true = search (and-1, and-2) depth 9 in
+    let l = ltb-true b (2 ^ 48) (and-2 (eqb (b % 128) 0) (ltb b (2 ^ 48)) g) in
+    let w : words ms ≡ true = search (and-1, and-2) depth 9 in
+    record { block = omega arith; mask0 = word-at ms 0 w; mask1 = word-at ms 1 w; mask2 = word-at ms 2 w; mask3 = word-at ms 3 w }
+
+module _ (S : Settings) (t : Tables) (ok : Sound S t) where
+  entry-low : (e : Entry) → In e (t .misses) → e .address < 2 ^ 64
+  entry-low e i = sector-low (e .address) (entry-parts S t e (all-in (entryOk S t) (t .misses) (ok .entered) i) .good)
+
+  -- an address that some entry has
+  entered-low : (p : Entry → Bool) (a : ℕ) → any (λ e. entryFor a e && p e) (t .misses) ≡ true → a < 2 ^ 64
+  entered-low p a h =
+      let f = any-in (λ e. entryFor a e && p e) (t .misses) h in
+      let q = eqb-true (f .0 .address) a (and-1 (entryFor a (f .0)) (p (f .0)) (f .2)) in
+      let l = entry-low (f .0) (f .1) in
+      omega arith
+
+-- ---- an access
+
+queued-fits : (q : Queued) → queuedOk [] q ≡ true → Fitting (queuedEvent q)
+unfolding queuedOk
+queued-fits (reading a) h = clash h refl
+queued-fits (writing b ms) h = back-fits [] b ms h
+
+backs-fit : (qs : List Queued) → all (queuedOk []) qs ≡ true → AllFitting (map queuedEvent qs)
+backs-fit [] h = tt
+backs-fit (q ∷ qs) h = (queued-fits q (and-1 (queuedOk [] q) (all (queuedOk []) qs) h), backs-fit qs (and-2 (queuedOk [] q) (all (queuedOk []) qs) h))
+
+fetched-fit : (x : Access) (n : Answer) (qs : List Queued) → addressOf x < 2 ^ 64 → AllFitting (map queuedEvent qs)
+    → AllFitting (map queuedEvent (fetches x n ++ qs))
+fetched-fit (Read a m k) n qs h g = by-flag (λ (l : List Queued). AllFitting (map queuedEvent (l ++ qs))) (isMiss n) (reading a ∷ []) [] (λ e. (h, g)) (λ e. g)
+fetched-fit (Write a m k) n qs h g = g
+
+module _ (S : Settings) (range : inRange S ≡ true) (t : Tables) (ok : Sound S t) (x : Access) where
+  accept-fits : wellFormed x ≡ true → (p : Spot) → Spotted S t x p → Fits (accept S x p t)
+  unfolding accept
+  accept-fits w p s =
+      let size : length (t .lines) ≡ linesOf S = eqb-true (length (t .lines)) (linesOf S) (ok .sized) in
+      let few = ranged S range .lines in
+      let low = s .inside in (
+        omega arith,
+        fetched-fit x (p .answer) (p .backs) (sector-low (addressOf x) (formed-good x w)) (backs-fit (p .backs) (s .backed [])),
+      )
+
+  proceed-fits : wellFormed x ≡ true → (p : Place) → probe (ruleOf S t (addressOf x)) S (dirtyLines t) (waysOf S (t .lines) (addressOf x)) x ≡ p
+      → Fits (proceed S x t p)
+  unfolding proceed
+  proceed-fits w (no n) e = (tt, tt)
+  proceed-fits w (at p) e =
+      by-flag Fits (ltb (S .places) (length (t .queue) + placesNeeded x p)) _ _ (λ q. (tt, tt))
+      (λ q. by-flag Fits (isRead x && isMerge (p .answer) && any (entryFull S (addressOf x)) (t .misses)) _ _ (λ q. (tt, tt))
+      (λ q. by-flag Fits (isRead x && isMiss (p .answer) && leb (S .entries) (length (t .misses))) _ _ (λ q. (tt, tt))
+      (λ q. accept-fits w p (probe-spotted S range t ok x p e))))
+
+  access-fits-in : Fits (access S x t)
+  unfolding access
+  access-fits-in = by-flag Fits (wellFormed x) _ _ (λ w. proceed-fits w _ refl) (λ w. (tt, tt))
+
+pub access-fits : (S : Settings) (x : Access) (t : Tables) → inRange S ≡ true → sound S t ≡ true → AllFitting (eventsOf (access S x t))
+access-fits S x t range ok = access-fits-in S range t (parts S t ok) x
+
+-- ---- send, fill, tick
+
+sent-fits : (S : Settings) (t : Tables) → Sound S t → (q : Queued) → queuedOk (t .misses) q ≡ true → Fitting (sentEvent q)
+unfolding queuedOk
+sent-fits S t ok (reading a) h = entered-low S t ok (λ e. not (e .sent)) a h
+sent-fits S t ok (writing b ms) h = back-fits (t .misses) b ms h
+
+pub send-fits : (S : Settings) (t : Tables) → sound S t ≡ true → AllFitting (eventsOf (send t))
+unfolding send
+send-fits S t ok = from (t .queue) (parts S t ok .lining)
+  where
+    from : (qs : List Queued) → all (queuedOk (t .misses)) qs ≡ true → Fits (sendFrom qs t)
+    from [] h = (tt, tt)
+    from (q ∷ qs) h = (sent-fits S t (parts S t ok) q (and-1 (queuedOk (t .misses) q) (all (queuedOk (t .misses)) qs) h), tt)
+
+released-fit : (ts : List ℕ) → words ts ≡ true → AllFitting (map Released ts)
+released-fit [] h = tt
+released-fit (k ∷ ts) h = (word-at (k ∷ ts) 0 h, released-fit ts (and-2 (leb k allOnes) (words ts) h))
+
+released-words : (a : ℕ) (es : List Entry) → all (λ e. words (e .tickets)) es ≡ true → words (ticketsOf a es) ≡ true
+released-words a [] h = refl
+released-words a (e ∷ es) h =
+    by-flag (λ (ts : List ℕ). words ts ≡ true) (entryFor a e) (e .tickets) (ticketsOf a es)
+    (λ q. and-1 (words (e .tickets)) (all (λ e. words (e .tickets)) es) h)
+    (λ q. released-words a es (and-2 (words (e .tickets)) (all (λ e. words (e .tickets)) es) h))
+
+pub fill-fits : (S : Settings) (a : ℕ) (t : Tables) → sound S t ≡ true → stamped t ≡ true → AllFitting (eventsOf (fill a t))
+unfolding fill
+fill-fits S a t ok few =
+    by-flag Fits (any (sentFor a) (t .misses)) _ _
+    (λ h. (entered-low S t (parts S t ok) (λ e. e .sent) a h, released-fit (ticketsOf a (t .misses)) (released-words a (t .misses) few)))
+    (λ h. (tt, tt))
+
+pub tick-fits : (c : ℕ) (t : Tables) → AllFitting (eventsOf (tick c t))
+unfolding tick
+tick-fits c t = by-flag Fits (ltb c (t .now) || ltb lastCycle c) _ _ (λ h. (tt, tt)) (λ h. (tt, tt))
+
+pub step-fits : (S : Settings) (c : Command) (t : Tables) → inRange S ≡ true → sound S t ≡ true → stamped t ≡ true → AllFitting (eventsOf (stepOf S c t))
+step-fits S (cmd.Settings s w p m r q) t range ok few = (tt, tt)
+step-fits S (cmd.Read a k) t range ok few = access-fits S (Read a 0 k) t range ok
+step-fits S (cmd.Write a m) t range ok few = access-fits S (Write a m 0) t range ok
+step-fits S cmd.Send t range ok few = send-fits S t ok
+step-fits S (cmd.Fill a) t range ok few = fill-fits S a t ok few
+step-fits S (cmd.Tick c) t range ok few = tick-fits c t
+
+-- ---- the tickets after a step
+
+all-append : {A : Type 0} (p : A → Bool) (l m : List A) → all p l ≡ true → all p m ≡ true → all p (l ++ m) ≡ true
+all-append p [] m h g = g
+all-append p (x ∷ l) m h g = and-i (and-1 (p x) (all p l) h) (all-append p l m (and-2 (p x) (all p l) h) g)
+
+abbrev stamps : List Entry → Bool
+stamps es = all (λ e. words (e .tickets)) es
+
+map-stamps : (f : Entry → Entry) → ((e : Entry) → words (e .tickets) ≡ true → words (f e .tickets) ≡ true) → (es : List Entry) → stamps es ≡ true
+    → stamps (map f es) ≡ true
+map-stamps f g [] h = refl
+map-stamps f g (e ∷ es) h = and-i (g e (and-1 (words (e .tickets)) (stamps es) h)) (map-stamps f g es (and-2 (words (e .tickets)) (stamps es) h))
+
+one-word : (k : ℕ) → k ≤ allOnes → words (k ∷ []) ≡ true
+one-word k h = and-i (le-leb k allOnes h) refl
+
+join-words : (a k : ℕ) → k ≤ allOnes → (e : Entry) → words (e .tickets) ≡ true → words (join a k e .tickets) ≡ true
+join-words a k h e w =
+    by-flag (λ (d : Entry). words (d .tickets) ≡ true) (entryFor a e) _ _
+    (λ q. all-append (λ m. leb m allOnes) (e .tickets) (k ∷ []) w (one-word k h))
+    (λ q. w)
+
+mark-words : (a : ℕ) (e : Entry) → words (e .tickets) ≡ true → words (mark a e .tickets) ≡ true
+mark-words a e w = by-flag (λ (d : Entry). words (d .tickets) ≡ true) (entryFor a e) _ _ (λ q. w) (λ q. w)
+
+misses-stamped : (x : Access) (n : Answer) (es : List Entry) → TicketFits x → stamps es ≡ true → stamps (onMisses x n es) ≡ true
+misses-stamped (Read a m k) n es h w =
+    by-flag (λ (l : List Entry). stamps l ≡ true) (isMerge n) _ _
+    (λ q. map-stamps (join a k) (join-words a k h) es w)
+    (λ q. by-flag (λ (l : List Entry). stamps l ≡ true) (isMiss n) _ _
+    (λ q. all-append (λ e. words (e .tickets)) es _ w (and-i (one-word k h) refl))
+    (λ q. w))
+misses-stamped (Write a m k) n es h w = w
+
+module _ (t : Tables) (few : stamped t ≡ true) where
+  abbrev Kept : Outcome Tables → Type 0
+  Kept o = stamped (after t o) ≡ true
+
+  pub access-stamped : (S : Settings) (x : Access) → TicketFits x → stamped (after t (access S x t)) ≡ true
+  unfolding access proceed accept
+  access-stamped S x h =
+      by-flag Kept (wellFormed x) _ _ (λ w. met (probe (ruleOf S t (addressOf x)) S (dirtyLines t) (waysOf S (t .lines) (addressOf x)) x)) (λ w. few)
+    where
+      met : (p : Place) → Kept (proceed S x t p)
+      met (no n) = few
+      met (at p) =
+          by-flag Kept (ltb (S .places) (length (t .queue) + placesNeeded x p)) _ _ (λ q. few)
+          (λ q. by-flag Kept (isRead x && isMerge (p .answer) && any (entryFull S (addressOf x)) (t .misses)) _ _ (λ q. few)
+          (λ q. by-flag Kept (isRead x && isMiss (p .answer) && leb (S .entries) (length (t .misses))) _ _ (λ q. few)
+          (λ q. misses-stamped x (p .answer) (t .misses) h few)))
+
+  pub send-stamped : stamped (after t (send t)) ≡ true
+  unfolding send
+  send-stamped = from (t .queue)
+    where
+      from : (qs : List Queued) → Kept (sendFrom qs t)
+      from [] = few
+      from (reading a ∷ qs) = map-stamps (mark a) (mark-words a) (t .misses) few
+      from (writing b ms ∷ qs) = few
+
+  pub fill-stamped : (a : ℕ) → stamped (after t (fill a t)) ≡ true
+  unfolding fill
+  fill-stamped a =
+      by-flag Kept (any (sentFor a) (t .misses)) _ _
+      (λ h. in-all (λ e. words (e .tickets)) (keep (others a) (t .misses)) (λ e i. all-in (λ e. words (e .tickets)) (t .misses) few (in-keep (others a) (t .misses) i .0)))
+      (λ h. few)
+
+  pub tick-stamped : (c : ℕ) → stamped (after t (tick c t)) ≡ true
+  unfolding tick
+  tick-stamped c = by-flag Kept (ltb c (t .now) || ltb lastCycle c) _ _ (λ h. few) (λ h. few)
+
+  pub step-stamped : (S : Settings) (c : Command) → CommandFits c → stamped (after t (stepOf S c t)) ≡ true
+  step-stamped S (cmd.Settings s w p m r q) h = few
+  step-stamped S (cmd.Read a k) h = access-stamped S (Read a 0 k) (let l = h .1 in omega arith)
+  step-stamped S (cmd.Write a m) h = access-stamped S (Write a m 0) tt
+  step-stamped S cmd.Send h = send-stamped
+  step-stamped S (cmd.Fill a) h = fill-stamped a
+  step-stamped S (cmd.Tick c) h = tick-stamped c
+
+-- ---- calls on slices
+
+all-table : {A : Type 0} (p : A → Bool) (n : ℕ) (f : ℕ → A) → ((i : ℕ) → p (f i) ≡ true) → all p (table n f) ≡ true
+unfolding table
+all-table p zero f h = refl
+all-table p (suc n) f h = and-i (h 0) (all-table p n (λ i. f (suc i)) (λ i. h (suc i)))
+
+pub tables-stamped : (S : Settings) (L : Lent) → Small L → stamped (tablesOf S L) ≡ true
+unfolding tablesOf
+tables-stamped S L small =
+    all-table (λ e. words (e .tickets)) _ (entryAt S L)
+    (λ e. all-table (λ m. leb m allOnes) (ticketCountAt S (L .marks) e) (λ j. ticketAt S (L .words) (S .readers * e + j)) (λ j. le-leb _ allOnes (small _)))
+
+-- what holds of a refusal's events and of the step's on the tables that the slices hold, holds of the call's
+pub call-events : (P : List Event → Type 0) (S : Settings) (step : Tables → Outcome Tables) (L : Lent) → Small L → ((n : Refusal) → P (Refused n ∷ []))
+    → (Is S L (tablesOf S L) → P (eventsOf (step (tablesOf S L)))) → P (eventsOf (call S step L))
+unfolding call
+call-events P S step L small refuses steps =
+    by-flag On (inRange S) _ _
+    (λ r. by-flag On (lengthsFit S L) _ _
+    (λ f. by-flag On (soundLent S L) _ _
+    (λ s. subst P (sym (events-encoded S (step (tablesOf S L)))) (steps (sound-encoded S L r f small s)))
+    (λ s. refuses NotSound))
+    (λ f. refuses SliceLength))
+    (λ r. refuses SettingOutOfRange)
+  where
+    On : Outcome Lent → Type 0
+    On o = P (eventsOf o)
+
+pub call-fits : (S : Settings) (step : Tables → Outcome Tables) (L : Lent) → Small L
+    → ((t : Tables) → inRange S ≡ true → sound S t ≡ true → stamped t ≡ true → AllFitting (eventsOf (step t))) → AllFitting (eventsOf (call S step L))
+call-fits S step L small f =
+    call-events AllFitting S step L small (λ n. (tt, tt)) (λ i. f (tablesOf S L) (i .range) (i .soundly) (tables-stamped S L small))
+
+-- 64 bytes suffice
+pub call-room : (S : Settings) (step : Tables → Outcome Tables) (L : Lent) → Small L
+    → ((t : Tables) → inRange S ≡ true → sound S t ≡ true → Takes 49 (step t)) → length (logBytes (eventsOf (call S step L))) ≤ 49
+call-room S step L small f =
+    call-events (λ es. length (logBytes es) ≤ 49) S step L small
+    (λ n. le-trans (refused-takes n .most) (lit≤ tt))
+    (λ i. f (tablesOf S L) (i .range) (i .soundly) .most)

@@ -1,0 +1,205 @@
+-- The first record: its checks by the tests that the code makes, and the run behind it.
+use mathlib.Core.Path.{_≡_, refl, sym, ap, _∙_}
+use mathlib.Core.Bool.{Bool, true, false, not}
+use mathlib.Core.List.{List, [], _∷_}
+use Prim.Native.Nat.{ℕ, _+_, _-_, _≤_, _<_}
+use native.Mathlib.Nat.{sub-zero}
+use native.Mathlib.Omega.{arith}
+use borrow.Author.Tests.{not-true, not-false, lt-ltb, le-ltb, eq-eqb, ne-eqb, ltb-false, eqb-true}
+use lib.Dec.{ltb, eqb}
+use lib.ListN.{length, take, drop, length-drop}
+use lib.Seq.{take-all}
+use Rattle.model.specs.Range.{inRange}
+use Rattle.model.specs.Tables.{start, after}
+use Rattle.model.specs.Lent.{Lent, lengthsFit}
+use Rattle.model.specs.Records.{isCommand, lengthOf}
+use Rattle.model.specs.Runner.{settingsOf, settingsStop, firstStop, goesOn, halt, ahead, runFrom, lentResult, run, Runs}
+use Rattle.model.specs.Calls.{freshCall}
+use Rattle.model.specs.Inner.{Is, Held}
+use Rattle.model.specs.declared.Settings.{Settings}
+use Rattle.model.specs.declared.Stop.{Stop}
+use Rattle.model.specs.declared.Stop.the-variants.{Nothing, SettingOutOfRange, SliceLength, OutOfPlace, UnknownKind, CutShort}
+use Rattle.model.specs.declared.Ran.{Ran}
+use Rattle.model.proofs.Flags.{clash, by-flag}
+use Rattle.model.proofs.Soundness.{start-sound}
+use Rattle.running.specs.declared.Begun.{Begun}
+use Rattle.running.specs.declared.Begun.the-variants.{Accepted, Stopped}
+use Rattle.running.specs.Resume.{kindAt, restAt, restFrom, Stands, Resumes}
+use Rattle.running.specs.Begin.{beginning, Begins}
+use Rattle.running.proofs.Running.{run-skips}
+
+-- ---- the checks
+
+module _ (s : List ℕ) (L : Lent) {b : Bool} {n : ℕ} (known : b ≡ isCommand (kindAt s 0)) (long : n ≡ lengthOf (kindAt s 0)) where
+  rest-long : length (restAt s 0) ≡ length s - 1
+  rest-long = length-drop 1 s
+
+  pub first-unknown : not b ≡ true → UnknownKind ≡ firstStop L (kindAt s 0) (restAt s 0)
+  unfolding firstStop
+  first-unknown h = rw (← known, not-true b h)
+
+  module _ (command : not b ≡ false) where
+    pub first-cut : length s - 1 < n → CutShort ≡ firstStop L (kindAt s 0) (restAt s 0)
+    unfolding firstStop
+    first-cut h = let l = rest-long in rw (← known, not-false b command, lt-ltb (length (restAt s 0)) (lengthOf (kindAt s 0)) (omega arith))
+
+    module _ (whole : n ≤ length s - 1) where
+      whole-is : lengthOf (kindAt s 0) ≤ length (restAt s 0)
+      whole-is = let l = rest-long in omega arith
+
+      pub first-other : (kindAt s 0 ≡ 0 → ⊥) → OutOfPlace ≡ firstStop L (kindAt s 0) (restAt s 0)
+      unfolding firstStop
+      first-other h = rw (← known, not-false b command, le-ltb _ _ whole-is, ne-eqb (kindAt s 0) 0 h)
+
+      module _ (settings : kindAt s 0 ≡ 0) {S : Settings} (S-is : S ≡ settingsOf (take (length s - 1) (drop 1 s))) where
+        first-settings : settingsStop S L ≡ firstStop L (kindAt s 0) (restAt s 0)
+        unfolding firstStop
+        first-settings = rw (← known, not-false b command, le-ltb _ _ whole-is, eq-eqb (kindAt s 0) 0 settings, S-is, take-all (length s - 1) (drop 1 s) (let l = rest-long in omega arith))
+
+        module _ {r : Bool} (range : r ≡ inRange S) where
+          pub first-out : not r ≡ true → SettingOutOfRange ≡ firstStop L (kindAt s 0) (restAt s 0)
+          first-out h = rw (← range, not-true r h) at first-settings
+
+          module _ (held : not r ≡ false) {f : Bool} (fits : f ≡ lengthsFit S L) where
+            pub first-length : not f ≡ true → SliceLength ≡ firstStop L (kindAt s 0) (restAt s 0)
+            first-length h = rw (← range, not-false r held, ← fits, not-true f h) at first-settings
+
+            pub first-goes : not f ≡ false → Nothing ≡ firstStop L (kindAt s 0) (restAt s 0)
+            first-goes h = rw (← range, not-false r held, ← fits, not-false f h) at first-settings
+
+-- ---- settings that are accepted
+
+pub record Settled (L : Lent) (k : ℕ) (rest : List ℕ) : Type 0 where
+  pub settings : k ≡ 0
+  pub whole : lengthOf 0 ≤ length rest
+  pub range : inRange (settingsOf rest) ≡ true
+  pub fits : lengthsFit (settingsOf rest) L ≡ true
+
+pub settled : (L : Lent) (k : ℕ) (rest : List ℕ) → goesOn (firstStop L k rest) ≡ true → Settled L k rest
+unfolding firstStop
+settled L k rest =
+    by-flag Goes (isCommand k) _ _
+    (λ a. by-flag Goes (ltb (length rest) (lengthOf k)) _ _ (λ b h. clash h refl)
+    (λ b. by-flag Goes (eqb k 0) _ _
+    (λ c. by-flag Goes (inRange (settingsOf rest)) _ _
+    (λ d. by-flag Goes (lengthsFit (settingsOf rest) L) _ _
+    (λ e h. record { settings = eqb-true k 0 c; whole = rw (eqb-true k 0 c) at (ltb-false (length rest) (lengthOf k) b); range = d; fits = e })
+    (λ e h. clash h refl))
+    (λ d h. clash h refl))
+    (λ c h. clash h refl)))
+    (λ a h. clash h refl)
+  where
+    Goes : Stop → Type 0
+    Goes n = goesOn n ≡ true → Settled L k rest
+
+-- ---- the first record by itself, and the run behind it, as equations
+
+beginning-stops : (L : Lent) (s : List ℕ) → (length s ≡ 0 → ⊥) → goesOn (firstStop L (kindAt s 0) (restAt s 0)) ≡ false
+    → beginning L s ≡ Stopped (firstStop L (kindAt s 0) (restAt s 0))
+unfolding beginning
+beginning-stops L [] some z = absurd (some refl)
+beginning-stops L (k ∷ bs) some z = rw z
+
+beginning-goes : (L : Lent) (s : List ℕ) → (length s ≡ 0 → ⊥) → goesOn (firstStop L (kindAt s 0) (restAt s 0)) ≡ true
+    → beginning L s ≡ Accepted (settingsOf (restAt s 0))
+unfolding beginning
+beginning-goes L [] some z = absurd (some refl)
+beginning-goes L (k ∷ bs) some z = rw z
+
+-- what was stopped, and what was accepted
+run-halts : (room : ℕ) (L : Lent) (s : List ℕ) (n : Stop) → beginning L s ≡ Stopped n → run room s L ≡ halt n L
+unfolding beginning run
+run-halts room L [] n q = let e : Nothing ≡ n = cc in rw e
+run-halts room L (k ∷ bs) n h =
+    by-flag (λ (x : Begun). x ≡ Stopped n → run room (k ∷ bs) L ≡ halt n L) (goesOn (firstStop L k bs)) _ _
+    (λ z q. let e : _≡_ {A = ℕ} 0 1 = cc in absurd (omega arith))
+    (λ z q. let e : firstStop L k bs ≡ n = cc in rw (z, e))
+    h
+
+record Taken (L : Lent) (s : List ℕ) (S : Settings) : Type 0 where
+  some : length s ≡ 0 → ⊥
+  goes : goesOn (firstStop L (kindAt s 0) (restAt s 0)) ≡ true
+  are : settingsOf (restAt s 0) ≡ S
+
+taken : (L : Lent) (s : List ℕ) (S : Settings) → beginning L s ≡ Accepted S → Taken L s S
+unfolding beginning
+taken L [] S q = let e : _≡_ {A = ℕ} 0 1 = cc in absurd (omega arith)
+taken L (k ∷ bs) S h =
+    by-flag (λ (x : Begun). x ≡ Accepted S → Taken L (k ∷ bs) S) (goesOn (firstStop L k bs)) _ _
+    (λ z q. let e : settingsOf bs ≡ S = cc in record { some = λ h. omega arith; goes = z; are = e })
+    (λ z q. let e : _≡_ {A = ℕ} 0 1 = cc in absurd (omega arith))
+    h
+
+pub run-accepts : (room : ℕ) (L : Lent) (k : ℕ) (bs : List ℕ) → goesOn (firstStop L k bs) ≡ true
+    → run room (k ∷ bs) L
+    ≡ ahead (1 + lengthOf k) [] (lentResult (settingsOf bs) (runFrom (settingsOf bs) (lengthOf k) room bs (start (settingsOf bs))))
+unfolding run
+run-accepts room L k bs z = rw z
+
+run-goes : (room : ℕ) (L : Lent) (s : List ℕ) (S : Settings) → Taken L s S
+    → run room s L ≡ ahead 8 [] (lentResult S (runFrom S 0 room (drop 8 s) (start S)))
+unfolding lengthOf
+run-goes room L [] S t = absurd (t .some refl)
+run-goes room L (k ∷ bs) S t =
+    let g = settled L k bs (t .goes) in
+    let e : run room (k ∷ bs) L ≡ ahead 8 [] (lentResult (settingsOf bs) (runFrom (settingsOf bs) 0 room (drop 7 bs) (start (settingsOf bs)))) =
+    rw (run-accepts room L k bs (t .goes), g .settings, run-skips (settingsOf bs) 7 room bs (start (settingsOf bs)) (g .whole)) in
+    e ∙ ap (λ (S : Settings). ahead 8 [] (lentResult S (runFrom S 0 room (drop 7 bs) (start S)))) (t .are)
+
+-- ---- the same, of what the functions promise
+
+pub begin-none : (L : Lent) (s : List ℕ) → length s ≡ 0 → Begins L s (Stopped Nothing) L
+unfolding beginning
+begin-none L [] h = record { says = refl; tables = refl }
+begin-none L (k ∷ bs) h = absurd (omega arith)
+
+module _ (L : Lent) (s : List ℕ) (some : length s ≡ 0 → ⊥) {n : Stop} (d : n ≡ firstStop L (kindAt s 0) (restAt s 0)) where
+  pub begin-stops : goesOn n ≡ false → Begins L s (Stopped n) L
+  begin-stops h =
+      let q : beginning L s ≡ Stopped n = beginning-stops L s some (rw (← d) h) ∙ rw (← d) in
+      record { says = sym q; tables = rw q }
+
+  pub begin-goes : goesOn n ≡ true → {S : Settings} → S ≡ settingsOf (take (length s - 1) (drop 1 s)) → {M : Lent} → M ≡ after L (freshCall S L)
+      → Begins L s (Accepted S) M
+  begin-goes h {S} e {M} m =
+      let z : goesOn (firstStop L (kindAt s 0) (restAt s 0)) ≡ true = rw (← d) h in
+      let g = settled L (kindAt s 0) (restAt s 0) z in
+      let l : length (drop 1 s) ≡ length s - 1 = length-drop 1 s in
+      let f : S ≡ settingsOf (restAt s 0) = e ∙ rw (take-all (length s - 1) (drop 1 s) (omega arith)) in
+      let q : beginning L s ≡ Accepted S = beginning-goes L s some z ∙ rw (← f) in
+      let range : inRange S ≡ true = rw f (g .range) in
+      let fits : lengthsFit S L ≡ true = rw f (g .fits) in
+      record { says = sym q; tables = m ∙ rw (range, fits, q) }
+
+module _ {L : Lent} {s : List ℕ} {r : Begun} {M : Lent} (b : Begins L s r M) where
+  pub run-stopped : {n : Stop} (room : ℕ) (e : List ℕ) → r ≡ Stopped n → Runs (run room s L) e record { stop = n; consumed = 0; written = 0 } e M
+  run-stopped {n} room e q =
+      let p : beginning L s ≡ Stopped n = sym (b .says) ∙ q in
+      rw (run-halts room L s n p) record { stop = refl; consumed = refl; written = refl; events = refl; tables = b .tables ∙ rw p }
+
+  module _ {S : Settings} (q : r ≡ Accepted S) where
+    settings : beginning L s ≡ Accepted S
+    settings = sym (b .says) ∙ q
+
+    opened : Settled L (kindAt s 0) (restAt s 0)
+    opened = settled L (kindAt s 0) (restAt s 0) (taken L s S settings .goes)
+
+    begun-is : Is S M (start S)
+    begun-is = record {
+      range = rw (taken L s S settings .are) at (opened .range);
+      soundly = start-sound S;
+      encoded = b .tables ∙ rw settings;
+    }
+
+    pub begun-held : Held S M
+    begun-held = record { tables = start S; are = begun-is }
+
+    pub begun-stands : (e : List ℕ) → Stands s 8 0 e
+    unfolding lengthOf
+    begun-stands e =
+        let w = opened .whole in
+        let l : length (drop 1 s) ≡ length s - 1 = length-drop 1 s in
+        record { inside = omega arith; room = omega arith }
+
+    pub run-begun : (e : List ℕ) {p : Ran} {f : List ℕ} {N : Lent} → Resumes S (restFrom S s 8 0 e) s 8 0 e M p f N → Runs (run (length e) s L) e p f N
+    run-begun e u = rw (run-goes (length e) L s S (taken L s S settings)) (rw sub-zero at (u .on (start S) begun-is))

@@ -1,0 +1,291 @@
+-- A run in two parts, cut between two records or anywhere; the event room decides nothing but stop 16; the first record of a front part.
+use mathlib.Core.Path.{_≡_, refl, sym, ap, _∙_}
+use mathlib.Core.Logic.{⊎-elim}
+use mathlib.Core.Bool.{Bool, true, false, not, _||_}
+use mathlib.Core.List.{List, [], _∷_, _++_, append-assoc}
+use Prim.Native.Nat.{ℕ, zero, suc, _+_, _-_, _≤_}
+use native.Mathlib.Nat.{le-of-suc-le-suc, add-assoc, zero-add, sub-zero, sub-add-eq}
+use native.Mathlib.Omega.{arith}
+use borrow.Author.Tests.{not-true, le-ltb, ltb-false, leb-true, eqb-true, ne-eqb}
+use lib.Dec.{leb, ltb, eqb}
+use lib.ListN.{length, drop, List·getD-append, length-append}
+use lib.Seq.{take-append-le}
+use Rattle.model.specs.Words.{pick}
+use Rattle.model.specs.Tables.{Tables, start, after, eventsOf}
+use Rattle.model.specs.Lent.{Lent}
+use Rattle.model.specs.Records.{isCommand, lengthOf, numberAt, logBytes}
+use Rattle.model.specs.Runner.{eventRoom, settingsOf, settingsStop, firstStop, laterStop, goesOn, stepAt, Result, halt, ahead, runFrom, lentResult, run}
+use Rattle.model.specs.declared.Settings.{Settings}
+use Rattle.model.specs.declared.Stop.{Stop}
+use Rattle.model.specs.declared.Stop.the-variants.{Nothing, OutOfPlace, UnknownKind, CutShort, NoRoom}
+use Rattle.model.proofs.Flags.{clash, by-flag, flag, or-cases}
+use Rattle.running.specs.declared.Begun.the-variants.{Accepted, Stopped}
+use Rattle.running.specs.Resume.{kindAt}
+use Rattle.running.specs.Begin.{beginning, firstThere}
+use Rattle.running.proofs.First.{Settled, settled, run-accepts}
+use Rattle.running.proofs.Running.{going, from-stops, from-goes}
+
+-- ---- at a record: more bytes behind a whole one change nothing, and the room decides only stop 16
+
+-- the checks at a later record, by what they come to
+abbrev stopBy : Bool → Bool → Bool → Bool → Stop
+stopBy known cut settings full = pick known (pick cut CutShort (pick settings OutOfPlace (pick full NoRoom Nothing))) UnknownKind
+
+-- a record that stops for want of room is whole
+full-whole : (a b c d : Bool) → stopBy a b c d ≡ NoRoom → b ≡ false
+full-whole true true c d h = let z : _≡_ {A = ℕ} 0 1 = cc in absurd (omega arith)
+full-whole true false c d h = refl
+full-whole false b c d h = let z : _≡_ {A = ℕ} 0 1 = cc in absurd (omega arith)
+
+-- two rooms, of which neither is too little
+roomy-same : (a b c p q : Bool) → (stopBy a b c p ≡ NoRoom → ⊥) → (stopBy a b c q ≡ NoRoom → ⊥) → stopBy a b c p ≡ stopBy a b c q
+roomy-same false b c p q g h = refl
+roomy-same true true c p q g h = refl
+roomy-same true false true p q g h = refl
+roomy-same true false false true q g h = absurd (g refl)
+roomy-same true false false false true g h = absurd (h refl)
+roomy-same true false false false false g h = refl
+
+module _ (room k : ℕ) (a : List ℕ) where
+  later-more : (b : List ℕ) → lengthOf k ≤ length a → laterStop room k (a ++ b) ≡ laterStop room k a
+  unfolding laterStop
+  later-more b h =
+      let l : lengthOf k ≤ length (a ++ b) = rw length-append (omega arith) in
+      rw (le-ltb (length (a ++ b)) (lengthOf k) l, le-ltb (length a) (lengthOf k) h)
+
+  later-full : laterStop room k a ≡ NoRoom → lengthOf k ≤ length a
+  unfolding laterStop
+  later-full h = ltb-false (length a) (lengthOf k) (full-whole (isCommand k) (ltb (length a) (lengthOf k)) (eqb k 0) (ltb room eventRoom) h)
+
+  later-roomy : (other : ℕ) → (laterStop room k a ≡ NoRoom → ⊥) → (laterStop other k a ≡ NoRoom → ⊥) → laterStop room k a ≡ laterStop other k a
+  unfolding laterStop
+  later-roomy other g h = roomy-same (isCommand k) (ltb (length a) (lengthOf k)) (eqb k 0) (ltb room eventRoom) (ltb other eventRoom) g h
+
+step-more : (S : Settings) (k : ℕ) (a b : List ℕ) (t : Tables) → lengthOf k ≤ length a → stepAt S k (a ++ b) t ≡ stepAt S k a t
+unfolding stepAt
+step-more S k a b t h = rw (take-append-le (lengthOf k) a b h)
+
+full-halts : {n : Stop} → n ≡ NoRoom → goesOn n ≡ true → ⊥
+full-halts q z = let y : goesOn NoRoom ≡ true = rw q at z in clash y refl
+
+-- what the first record of a run comes to
+pub goes-first : {T : Type 0} (n : Stop) (o : Result T) (t : T) → goesOn (pick (goesOn n) o (halt n t) .stop) ≡ true → goesOn n ≡ true
+goes-first {T} n o t = by-flag (λ (r : Result T). goesOn (r .stop) ≡ true → goesOn n ≡ true) (goesOn n) _ _ (λ z h. z) (λ z h. h)
+
+full-first : (n : Stop) (o : Result Tables) (t : Tables) → (pick (goesOn n) o (halt n t) .stop ≡ NoRoom → ⊥) → n ≡ NoRoom → ⊥
+full-first n o t =
+    by-flag (λ (r : Result Tables). (r .stop ≡ NoRoom → ⊥) → n ≡ NoRoom → ⊥) (goesOn n) _ _
+    (λ z h q. full-halts q z)
+    (λ z h q. h q)
+
+-- ---- two parts
+
+module _ (S : Settings) where
+  -- the part before stopped with 0: what follows goes on from its tables, in the room that it left
+  abbrev pub then : ℕ → List ℕ → Result Tables → Result Tables
+  then room b o = ahead (o .consumed) (o .events) (runFrom S 0 (room - length (o .events)) b (o .tables))
+
+  then-ahead : (room : ℕ) (b : List ℕ) (n : ℕ) (x : List ℕ) (o : Result Tables) → ahead n x (then (room - length x) b o) ≡ then room b (ahead n x o)
+  then-ahead room b n x o = rw (length-append, sub-add-eq, append-assoc, add-assoc)
+
+  pub run-in-parts : (n room : ℕ) (a b : List ℕ) (t : Tables) → n ≤ length a → goesOn (runFrom S n room a t .stop) ≡ true
+      → runFrom S n room (a ++ b) t ≡ then room b (runFrom S n room a t)
+  unfolding runFrom
+  run-in-parts n room [] b t h e = let z : n ≡ 0 = omega arith in rw (z, sub-zero, zero-add)
+  run-in-parts (suc n) room (x ∷ a) b t h e = run-in-parts n room a b t (le-of-suc-le-suc h) e
+  run-in-parts zero room (k ∷ a) b t h e =
+      let z = goes-first (laterStop room k a) _ t e in
+      let w = going room k a z .whole in
+      let x = logBytes (eventsOf (stepAt S k a t)) in
+      let u = after t (stepAt S k a t) in
+      let i = run-in-parts (lengthOf k) (room - length x) a b u w (rw z at e) in
+      rw (later-more room k a b w, z, step-more S k a b t w, i) (then-ahead room b (1 + lengthOf k) x (runFrom S (lengthOf k) (room - length x) a u))
+
+  -- more room, or less: the same, unless it stops with 16
+  pub run-in-rooms : (n room other : ℕ) (a : List ℕ) (t : Tables) → (runFrom S n room a t .stop ≡ NoRoom → ⊥) → (runFrom S n other a t .stop ≡ NoRoom → ⊥)
+      → runFrom S n room a t ≡ runFrom S n other a t
+  unfolding runFrom
+  run-in-rooms n room other [] t g h = refl
+  run-in-rooms (suc n) room other (x ∷ a) t g h = run-in-rooms n room other a t g h
+  run-in-rooms zero room other (k ∷ a) t g h =
+      let e = later-roomy room k a other (full-first (laterStop room k a) _ t g) (full-first (laterStop other k a) _ t h) in
+      let x = logBytes (eventsOf (stepAt S k a t)) in
+      let u = after t (stepAt S k a t) in
+      ⊎-elim
+      (λ z.
+      let p = from-goes S room k a t z in
+      let q = from-goes S other k a t (rw (← e) z) in
+      let i = run-in-rooms (lengthOf k) (room - length x) (other - length x) a u (λ f. g (ap (λ (r : Result Tables). r .stop) p ∙ f)) (λ f. h (ap (λ (r : Result Tables). r .stop) q ∙ f)) in
+      p ∙ ap (ahead (1 + lengthOf k) x) i ∙ sym q)
+      (λ z. from-stops S room k a t z ∙ ap (λ (n : Stop). halt n t) e ∙ sym (from-stops S other k a t (rw (← e) z)))
+      (flag (goesOn (laterStop room k a)))
+
+  -- a part that stops with 16 stops the whole with 16
+  full-in-parts : (n room : ℕ) (a b : List ℕ) (t : Tables) → n ≤ length a → runFrom S n room a t .stop ≡ NoRoom → runFrom S n room (a ++ b) t .stop ≡ NoRoom
+  unfolding runFrom
+  full-in-parts n room [] b t h e = let z : _≡_ {A = ℕ} 0 1 = cc in absurd (omega arith)
+  full-in-parts (suc n) room (x ∷ a) b t h e = full-in-parts n room a b t (le-of-suc-le-suc h) e
+  full-in-parts zero room (k ∷ a) b t h e =
+      ⊎-elim
+      (λ z.
+      let w = going room k a z .whole in
+      let p = from-goes S room k a t z in
+      let i = full-in-parts (lengthOf k) (room - length (logBytes (eventsOf (stepAt S k a t)))) a b (after t (stepAt S k a t)) w (ap (λ (r : Result Tables). r .stop) (sym p) ∙ e) in
+      let q = from-goes S room k (a ++ b) t (rw (later-more room k a b w) z) in
+      ap (λ (r : Result Tables). r .stop) q ∙ rw (step-more S k a b t w) i)
+      (λ z.
+      let y : laterStop room k a ≡ NoRoom = ap (λ (r : Result Tables). r .stop) (sym (from-stops S room k a t z)) ∙ e in
+      let m = later-more room k a b (later-full room k a y) in
+      ap (λ (r : Result Tables). r .stop) (from-stops S room k (a ++ b) t (rw m z)) ∙ m ∙ y)
+      (flag (goesOn (laterStop room k a)))
+
+  -- "cut between any two records, where the part before stopped with 0 and nothing stops with 16": each part in a room of its own
+  pub run-cut : (room before behind : ℕ) (a b : List ℕ) (t : Tables) → goesOn (runFrom S 0 before a t .stop) ≡ true
+      → (runFrom S 0 behind b (runFrom S 0 before a t .tables) .stop ≡ NoRoom → ⊥) → (runFrom S 0 room (a ++ b) t .stop ≡ NoRoom → ⊥)
+      → runFrom S 0 room (a ++ b) t
+      ≡ ahead (runFrom S 0 before a t .consumed) (runFrom S 0 before a t .events) (runFrom S 0 behind b (runFrom S 0 before a t .tables))
+  run-cut room before behind a b t e g h =
+      let o = runFrom S 0 before a t in
+      let p : runFrom S 0 room a t ≡ o = run-in-rooms 0 room before a t (λ q. h (full-in-parts 0 room a b t (omega arith) q)) (λ q. full-halts q e) in
+      let w : runFrom S 0 room (a ++ b) t ≡ then room b o = run-in-parts 0 room a b t (omega arith) (rw p e) ∙ ap (then room b) p in
+      w ∙ ap (ahead (o .consumed) (o .events)) (run-in-rooms 0 (room - length (o .events)) behind b (o .tables) (λ q. h (ap (λ (r : Result Tables). r .stop) w ∙ q)) g)
+
+-- ---- a front part, whatever stopped it, and the run from there on: also where a record was cut short, or its events had no room
+
+later-wider : (room other k : ℕ) (a : List ℕ) → room ≤ other → goesOn (laterStop room k a) ≡ true → goesOn (laterStop other k a) ≡ true
+unfolding laterStop
+later-wider room other k a h z =
+    let g = going room k a z in
+    let r = g .roomy in
+    rw (g .command, le-ltb (length a) (lengthOf k) (g .whole), ne-eqb k 0 (g .later), le-ltb other eventRoom (omega arith))
+
+module _ (S : Settings) where
+  -- from where o stopped, n bytes and what it consumed further on
+  abbrev pub onward : ℕ → ℕ → List ℕ → Result Tables → Result Tables
+  onward n room s o = ahead (o .consumed) (o .events) (runFrom S 0 (room - length (o .events)) (drop (n + o .consumed) s) (o .tables))
+
+  onward-ahead : (room m n k : ℕ) (s x : List ℕ) (o : Result Tables) → m ≡ suc n
+      → ahead m x (onward n (room - length x) s o) ≡ onward 0 room (k ∷ s) (ahead m x o)
+  onward-ahead room m n k s x o q =
+      let e : 0 + (m + o .consumed) ≡ suc (n + o .consumed) = omega arith in
+      rw (e, length-append, sub-add-eq, append-assoc, add-assoc)
+
+  onward-halts : (room : ℕ) (s : List ℕ) (n : Stop) (t : Tables) → runFrom S 0 room s t ≡ onward 0 room s (halt n t)
+  onward-halts room s n t = rw (sub-zero, zero-add)
+
+  pub run-resumed : (n room other : ℕ) (a b : List ℕ) (t : Tables) → n ≤ length a → room ≤ other
+      → runFrom S n other (a ++ b) t ≡ onward n other (a ++ b) (runFrom S n room a t)
+  unfolding runFrom
+  run-resumed n room other [] b t h w = let z : n ≡ 0 = omega arith in rw (z, sub-zero, zero-add)
+  run-resumed (suc n) room other (x ∷ a) b t h w =
+      let c = runFrom S n room a t .consumed in
+      let e : suc n + c ≡ suc (n + c) = omega arith in
+      rw e (run-resumed n room other a b t (le-of-suc-le-suc h) w)
+  run-resumed zero room other (k ∷ a) b t h w =
+      let x = logBytes (eventsOf (stepAt S k a t)) in
+      let u = after t (stepAt S k a t) in
+      ⊎-elim
+      (λ z.
+      let g = going room k a z .whole in
+      let y : goesOn (laterStop other k (a ++ b)) ≡ true = rw (later-more other k a b g) (later-wider room other k a w z) in
+      let i = run-resumed (lengthOf k) (room - length x) (other - length x) a b u g (omega arith) in
+      rw (y, z, step-more S k a b t g, i) (onward-ahead other (1 + lengthOf k) (lengthOf k) k (a ++ b) x (runFrom S (lengthOf k) (room - length x) a u) (omega arith)))
+      (λ z. onward-halts other ((k ∷ a) ++ b) (laterStop room k a) t ∙ ap (onward 0 other ((k ∷ a) ++ b)) (sym (from-stops S room k a t z)))
+      (flag (goesOn (laterStop room k a)))
+
+-- ---- a whole stream, in two parts
+
+number-more : (a b : List ℕ) (at n : ℕ) → at + n ≤ length a → numberAt (a ++ b) at n ≡ numberAt a at n
+unfolding numberAt
+number-more a b at zero h = refl
+number-more a b at (suc n) h = rw (number-more a b (suc at) n (omega arith), List·getD-append a b 0 at (omega arith))
+
+pub settings-more : (a b : List ℕ) → 7 ≤ length a → settingsOf (a ++ b) ≡ settingsOf a
+settings-more a b h =
+    rw (
+      number-more a b 0 2 (omega arith),
+      number-more a b 2 1 (omega arith),
+      number-more a b 3 1 (omega arith),
+      number-more a b 4 1 (omega arith),
+      number-more a b 5 1 (omega arith),
+      number-more a b 6 1 (omega arith),
+    )
+
+pub first-more : (L : Lent) (k : ℕ) (a b : List ℕ) → lengthOf k ≤ length a → 7 ≤ length a → firstStop L k (a ++ b) ≡ firstStop L k a
+unfolding firstStop
+first-more L k a b h w =
+    let l : lengthOf k ≤ length (a ++ b) = rw length-append (omega arith) in
+    rw (le-ltb (length (a ++ b)) (lengthOf k) l, le-ltb (length a) (lengthOf k) h)
+    (ap (λ (S : Settings). pick (isCommand k) (pick (eqb k 0) (settingsStop S L) OutOfPlace) UnknownKind) (settings-more a b w))
+
+pub settled-long : (L : Lent) (k : ℕ) (a : List ℕ) → Settled L k a → 7 ≤ length a
+unfolding lengthOf
+settled-long L k a g = g .whole
+
+-- the part before begins with its settings and stops with 0
+pub run-two-parts : (room k : ℕ) (a b : List ℕ) (L : Lent) → goesOn (run room (k ∷ a) L .stop) ≡ true
+    → run room (k ∷ (a ++ b)) L
+    ≡ ahead (1 + lengthOf k) [] (lentResult (settingsOf a) (then (settingsOf a) room b (runFrom (settingsOf a) (lengthOf k) room a (start (settingsOf a)))))
+unfolding run
+run-two-parts room k a b L e =
+    let z = goes-first (firstStop L k a) _ L e in
+    let g = settled L k a z in
+    let w : lengthOf k ≤ length a = rw (g .settings) (g .whole) in
+    let l = settled-long L k a g in
+    let S = settingsOf a in
+    let y : goesOn (runFrom S (lengthOf k) room a (start S) .stop) ≡ true = rw (ap (λ (r : Result Lent). r .stop) (run-accepts room L k a z)) at e in
+    run-accepts room L k (a ++ b) (rw (first-more L k a b w l) z)
+    ∙ ap (λ (S : Settings). ahead (1 + lengthOf k) [] (lentResult S (runFrom S (lengthOf k) room (a ++ b) (start S)))) (settings-more a b l)
+    ∙ ap (λ (o : Result Tables). ahead (1 + lengthOf k) [] (lentResult S o)) (run-in-parts S (lengthOf k) room a b (start S) w y)
+
+-- ---- the first record of a front part, once it is there
+
+pub there-none : (s : List ℕ) → length s ≡ 0 → false ≡ firstThere s
+unfolding firstThere
+there-none [] h = refl
+there-none (x ∷ s) h = absurd (omega arith)
+
+pub there-some : (s : List ℕ) → (length s ≡ 0 → ⊥) → {b : Bool} {n : ℕ} → b ≡ isCommand (kindAt s 0) → n ≡ lengthOf (kindAt s 0)
+    → (not b || leb n (length s - 1)) ≡ firstThere s
+unfolding firstThere
+there-some [] h p q = absurd (h refl)
+there-some (k ∷ bs) h p q = let e : length (k ∷ bs) - 1 ≡ length bs = omega arith in rw (p, q, e)
+
+-- a kind that is not 0
+other-kind : (f : Bool) (x y : Stop) → f ≡ false → pick f x OutOfPlace ≡ pick f y OutOfPlace
+other-kind f x y e = rw e
+
+first-there : (L : Lent) (k : ℕ) (a b : List ℕ) → firstThere (k ∷ a) ≡ true → firstStop L k (a ++ b) ≡ firstStop L k a
+unfolding firstThere firstStop lengthOf
+first-there L k a b h =
+    ⊎-elim
+    (λ z. let c : isCommand k ≡ false = not-true (isCommand k) z in rw c)
+    (λ z.
+    let w = leb-true (lengthOf k) (length a) z in
+    let l : lengthOf k ≤ length (a ++ b) = rw length-append (omega arith) in
+    ⊎-elim
+    (λ e. first-more L k a b w (rw (eqb-true k 0 e) at w))
+    (λ e.
+    rw (le-ltb (length (a ++ b)) (lengthOf k) l, le-ltb (length a) (lengthOf k) w)
+    (ap (λ (n : Stop). pick (isCommand k) n UnknownKind) (other-kind (eqb k 0) _ _ e)))
+    (flag (eqb k 0)))
+    (or-cases (not (isCommand k)) (leb (lengthOf k) (length a)) h)
+
+-- what the first record comes to is the same, whatever follows
+pub begins-more : (L : Lent) (s b : List ℕ) → firstThere s ≡ true → beginning L (s ++ b) ≡ beginning L s
+unfolding beginning
+begins-more L [] b h = clash h (sym (there-none [] refl))
+begins-more L (k ∷ a) b h =
+    let f = first-there L k a b h in
+    ⊎-elim
+    (λ z.
+    let y : goesOn (firstStop L k (a ++ b)) ≡ true = rw f z in
+    let p : beginning L (k ∷ a) ≡ Accepted (settingsOf a) = rw z in
+    let q : beginning L (k ∷ (a ++ b)) ≡ Accepted (settingsOf (a ++ b)) = rw y in
+    q ∙ ap Accepted (settings-more a b (settled-long L k a (settled L k a z))) ∙ sym p)
+    (λ z.
+    let y : goesOn (firstStop L k (a ++ b)) ≡ false = rw f z in
+    let p : beginning L (k ∷ a) ≡ Stopped (firstStop L k a) = rw z in
+    let q : beginning L (k ∷ (a ++ b)) ≡ Stopped (firstStop L k (a ++ b)) = rw y in
+    q ∙ ap Stopped f ∙ sym p)
+    (flag (goesOn (firstStop L k a)))

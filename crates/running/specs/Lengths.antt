@@ -1,0 +1,33 @@
+-- How long the slices have to be that a stream's own settings ask for: 0 where its first bytes are no settings in range.
+use Prim.Native.Nat.{ℕ}
+use mathlib.Core.Path.{_≡_}
+use mathlib.Core.List.{List}
+use lib.ListN.{length, drop}
+use Rattle.model.specs.Words.{pick}
+use Rattle.model.specs.Range.{inRange, longsLength, wordsLength, marksLength}
+use Rattle.model.specs.Lent.{Lent}
+use Rattle.model.specs.Runner.{settingsOf}
+use Rattle.model.specs.declared.Settings.{Settings}
+use Rattle.model.specs.declared.Stop.{Stop}
+use Rattle.model.specs.declared.Stop.the-variants.{SliceLength, NoRoom}
+use Rattle.running.specs.declared.Lengths.{Lengths}
+
+abbrev pub noLengths : Lengths
+noLengths = record { longs = 0; words = 0; marks = 0 }
+
+unfoldable pub lengthsOf : Settings → Lengths
+lengthsOf S = pick (inRange S) record { longs = longsLength S; words = wordsLength S; marks = marksLength S } noLengths
+
+abbrev pub lengthsFor : List ℕ → Lengths
+lengthsFor s = lengthsOf (settingsOf (drop 1 s))
+
+-- the slices are so long
+pub record Long (L : Lent) (n : Lengths) : Type 0 where
+  pub longs : length (L .longs) ≡ n .longs
+  pub words : length (L .words) ≡ n .words
+  pub marks : length (L .marks) ≡ n .marks
+
+-- a stop that a caller meets who lends slices so long and takes the events out before their room ends: neither 2 nor 16
+pub record Final (n : Stop) : Type 0 where
+  pub fitting : n ≡ SliceLength → ⊥
+  pub roomy : n ≡ NoRoom → ⊥

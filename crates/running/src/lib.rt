@@ -1,0 +1,352 @@
+// The inner layer of the stream runner (document 01, "Records"): the checks at a record, what a record does, the first record, and the
+// records behind it on tables that are known to be sound. `begin` and `go_on` are the two halves of a run, for a caller that holds the
+// tables between them; `first_there` and `lengths_for` tell such a caller when to begin and what to lend.
+use model::Access;
+use model::Command;
+use model::CommandRead;
+use model::Ran;
+use model::Record;
+use model::Refusal;
+use model::Settings;
+use model::Stop;
+ghost use mathlib.Core.Path.{_≡_};
+ghost use Prim.Native.Nat.{_<_};
+ghost use lib.ListN.{length};
+ghost use Rattle.model.specs.Lent.{lent};
+ghost use Rattle.model.specs.Inner.{Held};
+ghost use Rattle.model.specs.Steps.{access};
+ghost use Rattle.model.specs.Records.{nextOf};
+ghost use Rattle.model.specs.Runner.{settingsOf, firstStop, goesOn, stepOf, stepRead};
+ghost use Rattle.running.specs.Begin.{Begins, firstThere};
+ghost use Rattle.running.specs.Lengths.{noLengths, lengthsFor};
+ghost use Rattle.running.specs.Resume.{kindAt, restAt, laterFound, Stands, Noted, Notes, recordFrom, restFrom, Resumes};
+
+// "16 fewer than 64 bytes of event room"
+const EVENT_ROOM: usize = 64;
+
+// What the first record comes to: its settings, for which the tables are fresh, or why the run stops there.
+pub enum Begun {
+    Accepted(Settings),
+    Stopped(Stop),
+}
+
+// How long the three lent slices are.
+pub struct Lengths {
+    pub longs: usize,
+    pub words: usize,
+    pub marks: usize,
+}
+
+// Whether nothing stops.
+pub fn goes_on(stop: Stop) -> bool
+    ensures { λ r. ⌜ r ≡ goesOn stop ⌝ }
+{
+    model::stop_number(stop) == 0
+}
+
+// The settings of a body of kind 0, unjudged.
+fn settings_of(body: &[u8]) -> Settings
+    ensures { λ r. ⌜ r ≡ settingsOf (now (body .entry)) ⌝ }
+{
+    Settings {
+        sets: records::number2(body, 0) as usize,
+        ways: records::number1(body, 2) as usize,
+        percent: records::number1(body, 3) as usize,
+        entries: records::number1(body, 4) as usize,
+        readers: records::number1(body, 5) as usize,
+        places: records::number1(body, 6) as usize,
+    }
+}
+
+// The checks at the first record.
+fn first_stop(stream: &[u8], longs: &[u64], words: &[u32], marks: &[u8]) -> Stop
+    requires { ⌜ 0 < length (now stream) ⌝ }
+    ensures { λ r. ⌜ r ≡ firstStop (lent (now (longs .entry)) (now (words .entry)) (now (marks .entry)))
+        (kindAt (now (stream .entry)) 0) (restAt (now (stream .entry)) 0) ⌝ }
+{
+    let first = stream[0];
+    let body = records::length_of(first) as usize;
+    if !records::is_command(first) {
+        return Stop::UnknownKind;
+    }
+    if stream.len() - 1 < body {
+        return Stop::CutShort;
+    }
+    if first != 0 {
+        return Stop::OutOfPlace;
+    }
+    let s = settings_of(&stream[1..]);
+    if !soundness::in_range(s) {
+        return Stop::SettingOutOfRange;
+    }
+    if !soundness::lengths_fit(s, longs, words, marks) {
+        return Stop::SliceLength;
+    }
+    Stop::Nothing
+}
+
+// The checks at a record that is not the first, of its kind and what reading it came to, with this much event room.
+fn later_stop(kind: u8, found: Record, room: usize) -> Stop
+    ensures { λ r. ⌜ r ≡ laterFound room kind found ⌝ }
+{
+    if !records::is_command(kind) {
+        return Stop::UnknownKind;
+    }
+    match found {
+        Record::Stopped(why) => why,
+        Record::Whole {
+            kind: _,
+            start: _,
+            len: _,
+            next: _,
+        } => {
+            if kind == 0 {
+                return Stop::OutOfPlace;
+            }
+            if room < EVENT_ROOM {
+                return Stop::NoRoom;
+            }
+            Stop::Nothing
+        }
+    }
+}
+
+// The place behind a record that was read at a place.
+fn place_behind(found: Record, at: usize) -> usize
+    ensures { λ r. ⌜ r ≡ nextOf found at ⌝ }
+{
+    match found {
+        Record::Whole {
+            kind: _,
+            start: _,
+            len: _,
+            next,
+        } => next,
+        Record::Stopped(_) => at,
+    }
+}
+
+// One access on sound tables, and its events behind `out` bytes.
+fn note_access(
+    s: Settings,
+    longs: &mut [u64],
+    words: &mut [u32],
+    marks: &mut [u8],
+    x: Access,
+    events: &mut [u8],
+    out: usize,
+) -> usize
+    requires { ⌜ Held s (lent (now longs) (now words) (now marks)) ⌝ }
+    ensures { λ r. ⌜ Noted s (access s x) (lent (now (longs .entry)) (now (words .entry)) (now (marks .entry))) (now (events .entry)) out r
+        (now (events .exit)) (lent (now (longs .exit)) (now (words .exit)) (now (marks .exit))) ⌝ }
+{
+    let told = access::access_step(s, longs, words, marks, x);
+    records::write_told(told, events, out)
+}
+
+// The step of a command, on sound tables, and its events behind `out` bytes. Settings are refused: the checks before it let none
+// through. Each arm writes what its own step tells, so that no such value, which is large, is copied to a common place.
+fn step_of(
+    s: Settings,
+    longs: &mut [u64],
+    words: &mut [u32],
+    marks: &mut [u8],
+    x: Command,
+    events: &mut [u8],
+    out: usize,
+) -> usize
+    requires { ⌜ Held s (lent (now longs) (now words) (now marks)) ⌝ }
+    ensures { λ r. ⌜ Notes s (stepOf s x) (lent (now (longs .entry)) (now (words .entry)) (now (marks .entry))) (now (events .entry)) out r
+        (now (events .exit)) (lent (now (longs .exit)) (now (words .exit)) (now (marks .exit))) ⌝ }
+{
+    match x {
+        Command::Settings {
+            sets: _,
+            ways: _,
+            percent: _,
+            entries: _,
+            readers: _,
+            places: _,
+        } => records::write_told(tables::refused(Refusal::SettingOutOfRange), events, out),
+        Command::Read { address, ticket } => {
+            let access = Access::Read {
+                address,
+                mask: 0,
+                ticket,
+            };
+            note_access(s, longs, words, marks, access, events, out)
+        }
+        Command::Write { address, mask } => {
+            let access = Access::Write {
+                address,
+                mask,
+                ticket: 0,
+            };
+            note_access(s, longs, words, marks, access, events, out)
+        }
+        Command::Send => records::write_told(steps::send_step(s, longs, words, marks), events, out),
+        Command::Fill(address) => {
+            let told = steps::fill_step(s, longs, words, marks, address);
+            records::write_told(told, events, out)
+        }
+        Command::Tick(cycle) => {
+            let told = steps::tick_step(s, longs, words, marks, cycle);
+            records::write_told(told, events, out)
+        }
+    }
+}
+
+// The same of a body that was read; one that is no command's is refused too.
+fn step_read(
+    s: Settings,
+    longs: &mut [u64],
+    words: &mut [u32],
+    marks: &mut [u8],
+    x: CommandRead,
+    events: &mut [u8],
+    out: usize,
+) -> usize
+    requires { ⌜ Held s (lent (now longs) (now words) (now marks)) ⌝ }
+    ensures { λ r. ⌜ Notes s (stepRead s x) (lent (now (longs .entry)) (now (words .entry)) (now (marks .entry))) (now (events .entry)) out r
+        (now (events .exit)) (lent (now (longs .exit)) (now (words .exit)) (now (marks .exit))) ⌝ }
+{
+    match x {
+        CommandRead::Got(c) => step_of(s, longs, words, marks, c, events, out),
+        CommandRead::None => {
+            records::write_told(tables::refused(Refusal::SettingOutOfRange), events, out)
+        }
+    }
+}
+
+// One record, at byte `at`: every check, then its step, then its events behind the `out` bytes that are written.
+fn run_one(
+    s: Settings,
+    stream: &[u8],
+    at: usize,
+    events: &mut [u8],
+    out: usize,
+    longs: &mut [u64],
+    words: &mut [u32],
+    marks: &mut [u8],
+) -> Ran
+    requires { ⌜ Held s (lent (now longs) (now words) (now marks)) ⌝ }
+    requires { ⌜ Stands (now stream) at out (now events) ⌝ }
+    requires { ⌜ at < length (now stream) ⌝ }
+    ensures { λ r. ⌜ Resumes s (recordFrom s (now (stream .entry)) at out (now (events .entry)))
+        (now (stream .entry)) at out (now (events .entry))
+        (lent (now (longs .entry)) (now (words .entry)) (now (marks .entry))) r
+        (now (events .exit)) (lent (now (longs .exit)) (now (words .exit)) (now (marks .exit))) ⌝ }
+{
+    let kind = stream[at];
+    let found = reader::record_at(stream, at);
+    let stop = later_stop(kind, found, events.len() - out);
+    if !goes_on(stop) {
+        return Ran {
+            stop,
+            consumed: at,
+            written: out,
+        };
+    }
+    let start = at + 1;
+    let next = place_behind(found, at);
+    let x = records::command_of(kind, &stream[start..next]);
+    let n = step_read(s, longs, words, marks, x, events, out);
+    Ran {
+        stop: Stop::Nothing,
+        consumed: next,
+        written: out + n,
+    }
+}
+
+// The records from byte `start` on, at fixed settings and on sound tables; events go behind the first `first` bytes.
+pub fn go_on(
+    s: Settings,
+    stream: &[u8],
+    start: usize,
+    events: &mut [u8],
+    first: usize,
+    longs: &mut [u64],
+    words: &mut [u32],
+    marks: &mut [u8],
+) -> Ran
+    requires { ⌜ Held s (lent (now longs) (now words) (now marks)) ⌝ }
+    requires { ⌜ Stands (now stream) start first (now events) ⌝ }
+    ensures { λ r. ⌜ Resumes s (restFrom s (now (stream .entry)) start first (now (events .entry)))
+        (now (stream .entry)) start first (now (events .entry))
+        (lent (now (longs .entry)) (now (words .entry)) (now (marks .entry))) r
+        (now (events .exit)) (lent (now (longs .exit)) (now (words .exit)) (now (marks .exit))) ⌝ }
+{
+    let mut at = start;
+    let mut out = first;
+    while at < stream.len() {
+        let ran = run_one(s, stream, at, events, out, longs, words, marks);
+        let stop = ran.stop;
+        if !goes_on(stop) {
+            return ran;
+        }
+        at = ran.consumed;
+        out = ran.written;
+    }
+    Ran {
+        stop: Stop::Nothing,
+        consumed: at,
+        written: out,
+    }
+}
+
+// The first record: its settings are accepted and the tables made fresh, or it stops the run and leaves the tables.
+pub fn begin(stream: &[u8], longs: &mut [u64], words: &mut [u32], marks: &mut [u8]) -> Begun
+    ensures { λ r. ⌜ Begins (lent (now (longs .entry)) (now (words .entry)) (now (marks .entry))) (now (stream .entry)) r
+        (lent (now (longs .exit)) (now (words .exit)) (now (marks .exit))) ⌝ }
+{
+    if stream.len() == 0 {
+        return Begun::Stopped(Stop::Nothing);
+    }
+    let stop = first_stop(stream, longs, words, marks);
+    if !goes_on(stop) {
+        return Begun::Stopped(stop);
+    }
+    let s = settings_of(&stream[1..]);
+    cache::fresh(s, longs, words, marks);
+    Begun::Accepted(s)
+}
+
+// Whether more bytes change nothing for the first record: it is all there, or no command's.
+pub fn first_there(stream: &[u8]) -> bool
+    ensures { λ r. ⌜ r ≡ firstThere (now (stream .entry)) ⌝ }
+{
+    if stream.len() == 0 {
+        return false;
+    }
+    let kind = stream[0];
+    let body = records::length_of(kind) as usize;
+    !records::is_command(kind) | (body <= stream.len() - 1)
+}
+
+fn no_lengths() -> Lengths
+    ensures { λ r. ⌜ r ≡ noLengths ⌝ }
+{
+    Lengths {
+        longs: 0,
+        words: 0,
+        marks: 0,
+    }
+}
+
+// The lengths that a stream's settings ask for, whatever its first byte is: a caller that lends these never meets stop 2.
+pub fn lengths_for(stream: &[u8]) -> Lengths
+    ensures { λ r. ⌜ r ≡ lengthsFor (now (stream .entry)) ⌝ }
+{
+    if stream.len() == 0 {
+        return no_lengths();
+    }
+    let s = settings_of(&stream[1..]);
+    if !soundness::in_range(s) {
+        return no_lengths();
+    }
+    Lengths {
+        longs: soundness::longs_length(s),
+        words: soundness::words_length(s),
+        marks: soundness::marks_length(s),
+    }
+}
