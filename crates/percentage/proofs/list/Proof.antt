@@ -39,10 +39,10 @@ module _ (c : lts.After-known-told (next-reads.Asked, next-reads.Learnt) reads.P
   room = let v = c .before .before .before .before .loop in written-room _ (v .out) (v .n) _ (v .inv .1) (c .before .found .given .0 .0) _ (hit .1) (v .inv .2)
 
 returns : tie.Need-returns Inv-loop μ-loop
-returns c = written-none _ (c .if1 .taken)
+returns c = written-none _ (omega arith)
 
 loop-holds : tie.Need-loop-holds Inv-loop μ-loop
-loop-holds c = (omega arith, written-first _, c .if1 .left)
+loop-holds c = (omega arith, written-first _, omega arith)
 
 next-requires : tie.Need-next-requires Inv-loop μ-loop
 next-requires c κs = c .loop .inv .0

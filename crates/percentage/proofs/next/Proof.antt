@@ -30,7 +30,7 @@ loop-less c = omega arith
 loop-again : tie.Need-loop-again Inv-loop μ-loop
 loop-again c =
     let v = c .before .before .loop in
-    (omega arith, v .inv .1 ∙ rest-down (v .d) (v .l) (v .p) (c .before .if1 .taken) (c .if2 .taken))
+    (omega arith, v .inv .1 ∙ rest-down (v .d) (v .l) (v .p) (omega arith) (omega arith))
 
 add-l : tie.Need-add-l Inv-loop μ-loop
 add-l c = omega arith
@@ -41,12 +41,12 @@ loop-less-2 c = omega arith
 loop-again-2 : tie.Need-loop-again-2 Inv-loop μ-loop
 loop-again-2 c =
     let v = c .before .before .before .loop in
-    (omega arith, v .inv .1 ∙ rest-over (v .d) (v .l) (v .p) (c .before .before .if1 .taken) (c .before .if2 .left) (c .if3 .taken))
+    (omega arith, v .inv .1 ∙ rest-over (v .d) (v .l) (v .p) (omega arith) (omega arith) (omega arith))
 
 returns : tie.Need-returns Inv-loop μ-loop
 returns c =
     let v = c .before .before .before .loop in
-    v .inv .1 ∙ rest-end (v .d) (v .l) (v .p) (c .before .before .if1 .taken) (c .before .if2 .left) (c .if3 .left)
+    v .inv .1 ∙ rest-end (v .d) (v .l) (v .p) (omega arith) (omega arith) (omega arith)
 
 differs-requires : tie.Need-differs-requires Inv-loop μ-loop
 differs-requires c κs = omega arith
