@@ -6,7 +6,7 @@ use mathlib.Core.List.{List, [], _∷_, map}
 use Rattle.model.specs.Tables.{writing, start}
 use Rattle.model.specs.Probe.{probe, ruleOf}
 use Rattle.model.specs.Steps.{access, proceed, accept, send, fill, fillLine, tick}
-use Rattle.model.specs.History.{Call, sending, filling, ticking, stepBy, history, left, eventsIn}
+use Rattle.model.specs.History.{Call, sending, filling, ticking, stepBy, history, left, eventsMade}
 use Rattle.model.specs.Cases.{base, r, w}
 use Rattle.billed.specs.Bytes.{marked, marksByte, dirtyIn, dirtyByte, writesByte, carries}
 use Rattle.billed.specs.Queue.{entriesBy, queuedBy}
@@ -50,7 +50,7 @@ worked-dirty = refl
 abbrev taking : List Call
 taking = w 0 0xFF ∷ w 128 0xFF ∷ ticking 1 ∷ w 128 1 ∷ w 256 0xFF ∷ []
 
-pub worked-queue : left (stepBy base) taking (start base) .queue ≡ queuedBy (eventsIn (history (stepBy base) taking (start base)))
+pub worked-queue : left (stepBy base) taking (start base) .queue ≡ queuedBy (eventsMade (history (stepBy base) taking (start base)))
 unfolding probe ruleOf access proceed accept tick history left entriesBy
 worked-queue = refl
 

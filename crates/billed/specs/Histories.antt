@@ -6,7 +6,7 @@ use mathlib.Core.List.{List, [], _∷_, _++_}
 use Rattle.model.specs.Tables.{Queued, Tables}
 use Rattle.model.specs.Lent.{Lent}
 use Rattle.model.specs.Calls.{eventsTold, Leaves}
-use Rattle.model.specs.History.{Call, make, Made, eventsIn}
+use Rattle.model.specs.History.{Call, make, Made, eventsMade}
 use Rattle.model.specs.declared.Settings.{Settings}
 use Rattle.model.specs.declared.Told.{Told}
 use Rattle.billed.specs.Bytes.{dirtyByte}
@@ -19,7 +19,7 @@ pub record Billed (b : ℕ → Bool) (q : List Queued) (ms : List Made) (u : Tab
   pub bytes : (c : ℕ) → L7 (b c) (touches c ms) (dirtyByte c u)
   -- a queued write-back that an event tells is one that stands in the queue until it is sent, with this block and these masks, and
   -- nothing else stands there: what stood and what is told queued is what is told sent and what stands, first in first out
-  pub queue : q ++ queuedBy (eventsIn ms) ≡ sentBy (eventsIn ms) ++ u .queue
+  pub queue : q ++ queuedBy (eventsMade ms) ≡ sentBy (eventsMade ms) ++ u .queue
 
 -- calls of the code: each told r and left the slices M, as its promise says
 pub data Trace (S : Settings) : List Call → Lent → List Made → Lent → Type 0 where

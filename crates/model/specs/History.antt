@@ -71,6 +71,6 @@ module _ {T : Type 0} (step : Call → T → Outcome T) where
   left (k ∷ ks) t = left ks (after t (step k t))
 
 -- all its events, one call after another
-abbrev pub eventsIn : List Made → List Event
-eventsIn [] = []
-eventsIn (m ∷ ms) = m .events ++ eventsIn ms
+abbrev pub eventsMade : List Made → List Event
+eventsMade [] = []
+eventsMade (m ∷ ms) = m .events ++ eventsMade ms
