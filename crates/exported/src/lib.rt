@@ -1,5 +1,7 @@
 // The library as C sees it (include/labintugmo.h): numbers and slices alone, a slice as a pointer and a length. Settings come as six
 // numbers. A call writes its event records at the start of the caller's buffer and returns how many bytes they are.
+mod demand3;
+
 use model::Access;
 use model::Settings;
 use model::Verdict;

@@ -2,6 +2,7 @@
 //! call (`cases`), stream by stream (`runs`) and in the rounds of demand 3 (`rounds`).
 
 mod cases;
+mod demand3;
 mod exported;
 mod rounds;
 mod runs;
