@@ -29,12 +29,14 @@ pub struct Rounds {
     /// By round: `None` where nothing was offered, else accepted or the refusal number.
     pub offers: Vec<Option<Result<(), u8>>>,
     pub standings: Vec<Standing>,
+    /// The events after 0, 1, 2 .. rounds, 0x11 among them.
+    pub logs: Vec<Vec<u8>>,
 }
 
 impl Rounds {
     fn start<C: Callable>(machine: &C) -> Rounds {
         let start = Standing { tables: machine.tables(), events: Vec::new() };
-        Rounds { offers: Vec::new(), standings: vec![start] }
+        Rounds { offers: Vec::new(), standings: vec![start], logs: vec![Vec::new()] }
     }
 
     pub fn flags(&self) -> Vec<bool> {
@@ -48,16 +50,26 @@ impl Rounds {
     /// One round; the access is offered only if there is one.
     fn round<C: Callable>(&mut self, machine: &mut C, access: Option<Access>) {
         let mut events = self.standings.last().expect("there is a start").events.clone();
+        let mut log = self.logs.last().expect("there is a start").clone();
+        let mut drained = Vec::new();
         if !machine.queue_is_empty() {
-            events.extend(machine.send().unwrap_or_default());
+            drained.extend(machine.send().unwrap_or_default());
         }
         if let Some(address) = machine.first_sent() {
-            events.extend(machine.fill(address).unwrap_or_default());
+            drained.extend(machine.fill(address).unwrap_or_default());
         }
+        events.extend(&drained);
+        log.extend(&drained);
         let offer = access.map(|access| machine.offer(access));
-        if let Some(Ok(written)) = &offer {
-            events.extend(written);
+        match &offer {
+            Some(Ok(written)) => {
+                events.extend(written);
+                log.extend(written);
+            }
+            Some(Err(number)) => log.extend([0x11, *number]),
+            None => (),
         }
+        self.logs.push(log);
         self.offers.push(offer.map(|outcome| outcome.map(|_| ())));
         self.standings.push(Standing { tables: machine.tables(), events });
     }

@@ -1,6 +1,7 @@
 // The library as C sees it (include/labintugmo.h): numbers and slices alone, a slice as a pointer and a length. Settings come as six
-// numbers. A call writes its event records at the start of the caller's buffer and returns how many bytes they are. `unchecked` has the
-// steps behind the calls' checks.
+// numbers. A call writes its event records at the start of the caller's buffer and returns how many bytes they are. `demand3` has the
+// rounds of demand 3, `unchecked` the steps behind the calls' checks.
+mod demand3;
 mod unchecked;
 
 use model::Access;

@@ -79,14 +79,14 @@ pub enum EmptySlice {
 const GUARD: usize = 8;
 
 /// Numbers between guards.
-struct Guarded<T> {
+pub struct Guarded<T> {
     all: Vec<T>,
     guard: T,
     empty: EmptySlice,
 }
 
 impl<T: Copy + PartialEq> Guarded<T> {
-    fn new(numbers: &[T], guard: T, empty: EmptySlice) -> Guarded<T> {
+    pub fn new(numbers: &[T], guard: T, empty: EmptySlice) -> Guarded<T> {
         let mut all = Vec::with_capacity(numbers.len() + 2 * GUARD);
         all.extend([guard; GUARD]);
         all.extend(numbers);
@@ -94,11 +94,11 @@ impl<T: Copy + PartialEq> Guarded<T> {
         Guarded { all, guard, empty }
     }
 
-    fn length(&self) -> usize {
+    pub fn length(&self) -> usize {
         self.all.len() - 2 * GUARD
     }
 
-    fn pointer(&mut self) -> *mut T {
+    pub fn pointer(&mut self) -> *mut T {
         match self.empty {
             EmptySlice::Null if self.length() == 0 => std::ptr::null_mut(),
             EmptySlice::Dangling if self.length() == 0 => std::ptr::NonNull::dangling().as_ptr(),
@@ -106,25 +106,25 @@ impl<T: Copy + PartialEq> Guarded<T> {
         }
     }
 
-    fn numbers(&self) -> &[T] {
+    pub fn numbers(&self) -> &[T] {
         &self.all[GUARD..GUARD + self.length()]
     }
 
-    fn intact(&self) -> bool {
+    pub fn intact(&self) -> bool {
         let behind = &self.all[GUARD + self.length()..];
         self.all[..GUARD].iter().chain(behind).all(|number| *number == self.guard)
     }
 }
 
 /// The three lent slices between guards.
-struct GuardedTables {
-    longs: Guarded<u64>,
-    words: Guarded<u32>,
-    marks: Guarded<u8>,
+pub struct GuardedTables {
+    pub longs: Guarded<u64>,
+    pub words: Guarded<u32>,
+    pub marks: Guarded<u8>,
 }
 
 impl GuardedTables {
-    fn new(tables: &Tables, empty: EmptySlice) -> GuardedTables {
+    pub fn new(tables: &Tables, empty: EmptySlice) -> GuardedTables {
         GuardedTables {
             longs: Guarded::new(&tables.longs, 0xA5A5_5A5A_DEAD_BEEF, empty),
             words: Guarded::new(&tables.words, 0xA5A5_BEEF, empty),
@@ -132,7 +132,7 @@ impl GuardedTables {
         }
     }
 
-    fn tables(&self) -> Tables {
+    pub fn tables(&self) -> Tables {
         Tables {
             longs: self.longs.numbers().to_vec(),
             words: self.words.numbers().to_vec(),
@@ -140,7 +140,7 @@ impl GuardedTables {
         }
     }
 
-    fn intact(&self) -> bool {
+    pub fn intact(&self) -> bool {
         self.longs.intact() && self.words.intact() && self.marks.intact()
     }
 }
@@ -189,7 +189,7 @@ impl Made {
 }
 
 /// Any number but 0 says write: a write's ticket, which nothing else reads, chooses it.
-fn write_number(access: &Access) -> u32 {
+pub fn write_number(access: &Access) -> u32 {
     match access.is_write {
         true => access.ticket.max(1),
         false => 0,

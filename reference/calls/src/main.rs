@@ -4,6 +4,7 @@
 
 mod billed;
 mod cases;
+mod demand3;
 mod exported;
 mod rounds;
 mod runs;

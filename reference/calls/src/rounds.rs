@@ -1,8 +1,9 @@
 //! The second part: demand 3 by the exported calls. The rounds and the struck
 //! rounds are run by the library, compared with each other after every number
 //! of rounds, held against the bound, and compared with the model's rounds; then
-//! the exported wait is held to what those rounds gave.
+//! the exported rounds, struck rounds and wait are held to what those rounds gave.
 
+use crate::demand3::compare_runs;
 use crate::exported::{make, Beside, EmptySlice, Exported};
 use crate::trial::WAIT_ROOM;
 use reference::choices;
@@ -146,11 +147,12 @@ pub fn run_case(random: &mut Random, counts: &mut Counts) -> Result<(), String> 
     let access = late_access(random, &cache);
     let thin = random.percent(50);
     let start = Library { settings, tables: cache.encode(), thin };
-    compare(&cache, &start, access, counts)
+    compare(random, &cache, &start, access, counts)
         .map_err(|text| format!("settings {:?}, access {access:x?}\n{text}", settings.six()))
 }
 
 fn compare(
+    random: &mut Random,
     cache: &Cache,
     start: &Library,
     access: Access,
@@ -173,6 +175,7 @@ fn compare(
     let model_struck = struck_run(&mut cache.clone(), access, &first.flags());
     same(&layout, "model's struck rounds, struck rounds", &model_struck, &struck)?;
     compare_wait(start, access, &first, bound)?;
+    compare_runs(random, &start.settings, &start.tables, access, &first)?;
     counts.add(&first);
     Ok(())
 }

@@ -2,6 +2,7 @@
 //! tried on. With TWIN_FAULT in the environment it makes one mistake on purpose,
 //! and `calls` has to find it.
 
+mod demand3;
 mod faults;
 mod wait;
 
