@@ -283,6 +283,22 @@ uint32_t labintugmo_run(const uint8_t *stream, size_t stream_length,
                         uint8_t *marks, size_t marks_length,
                         uint64_t *counts, size_t counts_length);
 
+/*
+ * Goes on with the next part of a stream, on tables and settings that were kept: the tables are
+ * checked once, then the records are run as labintugmo_run runs those behind its settings. Stops
+ * with 1, 2 or 3 before the first record, also of an empty part, and with 13 at any settings
+ * record. `counts` as there. Cut between any two records, where the part before stopped with 0
+ * and none stops with 16, the parts give the events and the tables of one run.
+ */
+uint32_t labintugmo_resume(uint32_t sets, uint32_t ways, uint32_t percent,
+                           uint32_t entries, uint32_t readers, uint32_t places,
+                           uint64_t *longs, size_t longs_length,
+                           uint32_t *words, size_t words_length,
+                           uint8_t *marks, size_t marks_length,
+                           const uint8_t *part, size_t part_length,
+                           uint8_t *events, size_t events_length,
+                           uint64_t *counts, size_t counts_length);
+
 #ifdef __cplusplus
 }
 #endif
