@@ -729,9 +729,12 @@ public:
     RunResult resume(const std::uint8_t* part, std::size_t length, std::uint8_t* events,
                      std::size_t room) {
         std::array<std::uint64_t, 2> counts{};
-        const std::uint32_t stop =
-            detail::lend(labintugmo_resume, settings_, tables_, part, length, events, room,
-                         counts.data(), counts.size());
+        const std::uint32_t stop = labintugmo_resume(
+            settings_.sets, settings_.ways, settings_.percent, settings_.entries,
+            settings_.readers, settings_.places, part, length, events, room,
+            tables_.longs.data(), tables_.longs.size(), tables_.words.data(),
+            tables_.words.size(), tables_.marks.data(), tables_.marks.size(), counts.data(),
+            counts.size());
         return {static_cast<Stop>(stop), counts[0], counts[1]};
     }
 
