@@ -1,7 +1,8 @@
 // The cost of one exported call from C++, with its check and without it.
 //
 // With: the call, on tables filled as the other measurements fill them, beside the check alone.
-// Without: the same call as a record of a stream, which labintugmo_run runs without a check; the
+// A step: the same by a labintugmo::Cache, which checks nothing.
+// A record: the same as a record of a stream, which labintugmo_run runs without a check; the
 // time of the stream with many such records at its end, less that of the stream without them,
 // over their number.
 //
@@ -111,8 +112,17 @@ struct Stream {
 };
 
 struct Cost {
-    double check, tick, tick_alone, read, read_alone;
+    double check, tick, tick_step, tick_record, read, read_step, read_record;
 };
+
+// A call on lent tables, with its check; how many bytes it writes.
+template <class Function, class... Arguments>
+std::size_t call(Function function, const Settings& s, labintugmo::Tables& t, Arguments... rest) {
+    std::array<std::uint8_t, LABINTUGMO_ROOM> events;
+    return function(s.sets, s.ways, s.percent, s.entries, s.readers, s.places, t.longs.data(),
+                    t.longs.size(), t.words.data(), t.words.size(), t.marks.data(),
+                    t.marks.size(), rest..., events.data(), events.size());
+}
 
 constexpr long repeats = 200000;
 
@@ -124,18 +134,24 @@ Cost measure(const Commands& start, bool hits) {
     }
     Stream filled(start), ticked(ticks), read(hits ? reads : start);
     Cache cache = filled.cache;
+    const Settings settings = cache.settings();
+    labintugmo::Tables tables = cache.tables();
     const std::vector<std::uint8_t> log = labintugmo::run(start.bytes()).log;
     for (const auto& event : labintugmo::Log(log)) {
         expect(!std::holds_alternative<labintugmo::Refused>(event), "a filling call is refused");
     }
     expect(!hits || cache.read(0, 0).answer() == labintugmo::Answer::hit, "a read is no HIT");
     volatile std::size_t written = 0;  // keeps the work from being left out
-    const auto times = one<6>({[&] { written = cache.check().has_value(); },
+    const std::uint64_t address = 0;
+    const std::uint32_t none = 0;
+    const auto times = one<8>({[&] { written = cache.check().has_value(); },
+                               [&] { written = call(labintugmo_tick, settings, tables, none); },
                                [&] { written = cache.tick(0).size(); },
+                               [&] { written = hits ? call(labintugmo_read, settings, tables, address, none) : 0; },
                                [&] { written = hits ? cache.read(0, 0).size() : 0; },
                                [&] { filled.run(); }, [&] { ticked.run(); }, [&] { read.run(); }});
-    return {times[0], times[1], (times[4] - times[3]) / repeats, hits ? times[2] : 0,
-            (times[5] - times[3]) / repeats};
+    return {times[0], times[1], times[2], (times[6] - times[5]) / repeats,
+            times[3], times[4], (times[7] - times[5]) / repeats};
 }
 
 std::string cell(const char* format, double number) {
@@ -145,8 +161,9 @@ std::string cell(const char* format, double number) {
 }
 
 const char* const title = "### One exported call from C++\n\n"
-    "Through labintugmo.hpp; the tables of 1,024 lines are those of the soundness check; a read "
-    "is a HIT. Without its check: the same call as a record of a stream, its reading included.\n\n";
+    "The tables of 1,024 lines are those of the soundness check; a read is a HIT. A call checks "
+    "its tables; a step of a labintugmo::Cache does not; a record of a stream is read and run "
+    "without a check.\n\n";
 
 const struct {
     const char* name;
@@ -161,22 +178,26 @@ const struct {
 
 int main(int argc, char** argv) {
     std::string figures = std::string(title) +
-        "| | check alone | tick | without its check | read | without its check |\n"
-        "|---|---:|---:|---:|---:|---:|\n";
+        "| | check alone | tick: call | step | record | read: call | step | record |\n"
+        "|---|---:|---:|---:|---:|---:|---:|---:|\n";
     std::string ratios = std::string(title) +
-        "| | tick, with over without | read, with over without |\n|---|---:|---:|\n";
+        "| | tick: call over record | step over record | read: call over record | step over record |\n"
+        "|---|---:|---:|---:|---:|\n";
     for (const auto& kind : kinds) {
         const Cost cost = measure(filling(kind.settings, kind.lines, kind.reads), kind.lines > 0);
         const std::string name = std::string("| ") + kind.name + " |";
         figures += name + cell("%.0f ns", cost.check) + cell("%.0f ns", cost.tick) +
-                   cell("%.1f ns", cost.tick_alone);
-        ratios += name + cell("%.1f", cost.tick / cost.tick_alone);
+                   cell("%.1f ns", cost.tick_step) + cell("%.1f ns", cost.tick_record);
+        ratios += name + cell("%.1f", cost.tick / cost.tick_record) +
+                  cell("%.2f", cost.tick_step / cost.tick_record);
         if (kind.lines > 0) {
-            figures += cell("%.0f ns", cost.read) + cell("%.1f ns", cost.read_alone);
-            ratios += cell("%.1f", cost.read / cost.read_alone);
+            figures += cell("%.0f ns", cost.read) + cell("%.1f ns", cost.read_step) +
+                       cell("%.1f ns", cost.read_record);
+            ratios += cell("%.1f", cost.read / cost.read_record) +
+                      cell("%.2f", cost.read_step / cost.read_record);
         } else {
-            figures += " | |";
-            ratios += " |";
+            figures += " | | |";
+            ratios += " | |";
         }
         figures += "\n";
         ratios += "\n";

@@ -97,7 +97,8 @@ enum {
     LABINTUGMO_QUEUE_EMPTY = 12     /* send: nothing is queued */
 };
 
-/* Why labintugmo_run stopped: one of these, or LABINTUGMO_BAD_SETTINGS or _OTHER_LENGTH. */
+/* Why labintugmo_run or labintugmo_resume stopped: one of these, or LABINTUGMO_BAD_SETTINGS,
+   _OTHER_LENGTH or, of resume, _NOT_SOUND. */
 enum {
     LABINTUGMO_END = 0,             /* the whole stream was run */
     LABINTUGMO_SETTINGS_PLACE = 13, /* settings not first, or another record first */
@@ -282,6 +283,23 @@ uint32_t labintugmo_run(const uint8_t *stream, size_t stream_length,
                         uint32_t *words, size_t words_length,
                         uint8_t *marks, size_t marks_length,
                         uint64_t *counts, size_t counts_length);
+
+/*
+ * Goes on with the next part of a stream, on settings and tables that were kept: the tables
+ * are checked once, then the records are run as labintugmo_run runs those behind its settings.
+ * Stops with 1, 2 or 3 before the first record, also of an empty part, and with 13 at any
+ * settings record. `counts` as there; with another length of it nothing changes, and 2 is
+ * returned. Cut between any two records, where the part before stopped with 0 and none stops
+ * with 16, the parts give the events and the tables of one run.
+ */
+uint32_t labintugmo_resume(uint32_t sets, uint32_t ways, uint32_t percent,
+                           uint32_t entries, uint32_t readers, uint32_t places,
+                           const uint8_t *part, size_t part_length,
+                           uint8_t *events, size_t events_length,
+                           uint64_t *longs, size_t longs_length,
+                           uint32_t *words, size_t words_length,
+                           uint8_t *marks, size_t marks_length,
+                           uint64_t *counts, size_t counts_length);
 
 #ifdef __cplusplus
 }

@@ -1,4 +1,5 @@
-// labintugmo.hpp: the verified GPU sector cache for C++17, header only, over labintugmo.h.
+// labintugmo.hpp: the verified GPU sector cache for C++17, header only, over labintugmo.h and,
+// for the steps of a Cache, labintugmo_steps.h.
 //
 // In order: settings, lent tables and where their numbers stand; answers, refusals and stops
 // by name; events and how they are read from bytes; what the calls return; command streams;
@@ -11,6 +12,7 @@
 #define LABINTUGMO_HPP
 
 #include "labintugmo.h"
+#include "labintugmo_steps.h"
 
 #include <array>
 #include <cstddef>
@@ -554,13 +556,14 @@ private:
 
 namespace detail {
 
-// The functions by which a Cache steps, named here and nowhere else.
+// The functions by which a Cache steps, named here and nowhere else: they check no tables, so
+// they stand behind the class, whose tables are sound.
 namespace steps {
-inline constexpr auto read = labintugmo_read;
-inline constexpr auto write = labintugmo_write;
-inline constexpr auto send = labintugmo_send;
-inline constexpr auto fill = labintugmo_fill;
-inline constexpr auto tick = labintugmo_tick;
+inline constexpr auto read = labintugmo_step_read;
+inline constexpr auto write = labintugmo_step_write;
+inline constexpr auto send = labintugmo_step_send;
+inline constexpr auto fill = labintugmo_step_fill;
+inline constexpr auto tick = labintugmo_step_tick;
 }  // namespace steps
 
 // A call on settings and tables, const or not.
@@ -717,6 +720,21 @@ public:
         if (counts[0] >= detail::settings_record) {
             settings_ = asked;
         }
+        return {static_cast<Stop>(stop), counts[0], counts[1]};
+    }
+
+    // Goes on with the next part of a stream, on this cache's settings and tables, which are
+    // checked once; a settings record stops it (13). Cut between any two records, the parts
+    // give the events and the tables of one run.
+    RunResult resume(const std::uint8_t* part, std::size_t length, std::uint8_t* events,
+                     std::size_t room) {
+        std::array<std::uint64_t, 2> counts{};
+        const std::uint32_t stop = labintugmo_resume(
+            settings_.sets, settings_.ways, settings_.percent, settings_.entries,
+            settings_.readers, settings_.places, part, length, events, room,
+            tables_.longs.data(), tables_.longs.size(), tables_.words.data(),
+            tables_.words.size(), tables_.marks.data(), tables_.marks.size(), counts.data(),
+            counts.size());
         return {static_cast<Stop>(stop), counts[0], counts[1]};
     }
 

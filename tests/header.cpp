@@ -263,6 +263,78 @@ void runs() {
     CHECK(result.stop == Stop::no_room && result.written == 4);
 }
 
+// A stream cut between any two records, part by part on one cache: as one run.
+void parts() {
+    Commands whole;
+    CHECK(whole.settings(base));
+    std::vector<std::size_t> ends{whole.bytes().size()};
+    const auto end = [&] { ends.push_back(whole.bytes().size()); };
+    for (std::uint32_t i = 0; i < 12; ++i) {
+        whole.tick(i), end();
+        whole.read(128 * (i % 5), i), end();
+        whole.write(128 * (i % 3) + 32, 0xFF), end();
+        whole.send(), end();
+        whole.fill(128 * (i % 5)), end();
+    }
+    const Bytes& stream = whole.bytes();
+    const Run once = run(stream);
+    for (const std::size_t cut : ends) {
+        Bytes log(once.log.size() + 2 * LABINTUGMO_ROOM);
+        Cache cache = fresh();
+        const RunResult first = cache.run(stream.data(), cut, log.data(), log.size());
+        CHECK(first.stop == Stop::end && first.consumed == cut);
+        const RunResult rest = cache.resume(stream.data() + cut, stream.size() - cut,
+                                            log.data() + first.written, log.size() - first.written);
+        CHECK(rest.stop == Stop::end && rest.consumed == stream.size() - cut);
+        log.resize(first.written + rest.written);
+        CHECK(log == once.log && cache.tables() == once.cache->tables());
+    }
+    Cache cache = fresh();
+    Bytes events(LABINTUGMO_ROOM);
+    CHECK(cache.resume(stream.data(), 8, events.data(), events.size()).stop == Stop::settings_place);
+    CHECK(cache.resume(nullptr, 0, nullptr, 0).stop == Stop::end);
+    const std::uint8_t tick[] = {5, 1, 0, 0};
+    CHECK(cache.resume(tick, 4, events.data(), events.size()).stop == Stop::cut_short);
+}
+
+// A cache steps without a check; its answers, events and tables are those of the checked calls.
+void as_the_calls() {
+    const Settings s{2, 2, 30, 3, 2, 5};
+    Cache cache = fresh(s);
+    Tables t = cache.tables();
+    const auto lent = [&](auto function, auto... rest) {
+        Bytes events(LABINTUGMO_ROOM);
+        events.resize(function(s.sets, s.ways, s.percent, s.entries, s.readers, s.places,
+                               t.longs.data(), t.longs.size(), t.words.data(), t.words.size(),
+                               t.marks.data(), t.marks.size(), rest..., events.data(),
+                               events.size()));
+        return events;
+    };
+    std::uint32_t state = 1;
+    const auto next = [&state](std::uint32_t below) {
+        state = state * 1664525 + 1013904223;
+        return (state >> 8) % below;
+    };
+    bool same = true;
+    for (std::uint32_t i = 0; same && i < 20000; ++i) {
+        const std::uint64_t address = 32 * std::uint64_t{next(40)} + (next(50) == 0 ? 1 : 0);
+        const std::uint32_t mask = next(8) * 0x10101;
+        const std::uint32_t is_write = next(2);
+        switch (next(6)) {
+        case 0: same = bytes_of(cache.read(address, i)) == lent(labintugmo_read, address, i); break;
+        case 1: same = bytes_of(cache.write(address, mask)) == lent(labintugmo_write, address, mask); break;
+        case 2: same = bytes_of(cache.send()) == lent(labintugmo_send); break;
+        case 3: same = bytes_of(cache.fill(address)) == lent(labintugmo_fill, address); break;
+        case 4: same = bytes_of(cache.tick(i / 2)) == lent(labintugmo_tick, i / 2); break;
+        default:
+            same = bytes_of(cache.access({is_write == 1, address, mask & 1, i})) ==
+                   lent(labintugmo_access, is_write, address, mask & 1, i);
+        }
+        same = same && cache.tables() == t;
+    }
+    CHECK(same && !cache.check());
+}
+
 void kept_tables() {
     Cache cache = fresh();
     const Tables kept = cache.tables();
@@ -297,6 +369,7 @@ void refuses_all(Cache& cache) {
     const RunResult ran =
         cache.run(commands.bytes().data(), commands.bytes().size(), events.data(), events.size());
     CHECK(ran.stop == Stop::other_length && ran.consumed == 0 && cache.empty());
+    CHECK(cache.resume(nullptr, 0, events.data(), events.size()).stop == Stop::bad_settings);
 }
 
 void moved() {
@@ -375,6 +448,8 @@ int main() {
     waits();
     held_waits();
     runs();
+    parts();
+    as_the_calls();
     kept_tables();
     moved();
     adopted();

@@ -1,7 +1,7 @@
 /*
  * The C header used from C99: lengths by settings, the whole run of document 01, wrong
- * lengths, null and empty slices, too little room, the stack that each call takes. Everything
- * lent is compared with what it was wherever nothing may change.
+ * lengths, null and empty slices, too little room, a stream in parts, the stack that each call
+ * takes. Everything lent is compared with what it was wherever nothing may change.
  *
  * Ends with a line `slices: N checks, M failed` and a status.
  */
@@ -270,6 +270,38 @@ static void runs(void)
     CHECK(memcmp(events + 1, untouched + 1, 63) == 0 && t.words[0] == 1);
 }
 
+/* A stream in two parts, and what a part that goes on is refused with before its first record. */
+static void parts(void)
+{
+    static const uint8_t settings[] = {0, 1, 0, 2, 50, 2, 2, 4};
+    static const uint8_t tick[] = {5, 1, 0, 0, 0};
+    struct tables t, before;
+    uint8_t events[64], untouched[64];
+    uint64_t counts[3] = {4, 5, 6};
+    noise(events, sizeof events);
+    noise(untouched, sizeof untouched);
+    t = fresh_tables();
+    before = t;
+    CHECK(labintugmo_resume(BASE, tick, 5, events, 64, LENT(t), NULL, 0) == 2);
+    CHECK(labintugmo_resume(BASE, tick, 5, events, 64, LENT(t), counts, 3) == 2);
+    CHECK(counts[0] == 4 && counts[1] == 5 && counts[2] == 6);
+    CHECK(labintugmo_resume(3, 2, 50, 2, 2, 4, tick, 0, events, 64, LENT(t), counts, 2) == 1);
+    CHECK(counts[0] == 0 && counts[1] == 0);
+    CHECK(labintugmo_resume(BASE, tick, 0, events, 64, NULL, 0, NULL, 0, NULL, 0, counts, 2) == 2);
+    t.marks[0] = 4;
+    CHECK(labintugmo_resume(BASE, NULL, 0, NULL, 0, LENT(t), counts, 2) == 3);
+    CHECK(labintugmo_resume(BASE, tick, 5, events, 64, LENT(t), counts, 2) == 3);
+    t.marks[0] = before.marks[0];
+    CHECK(labintugmo_resume(BASE, settings, 8, events, 64, LENT(t), counts, 2) == 13);
+    CHECK(labintugmo_resume(BASE, tick, 5, events, 63, LENT(t), counts, 2) == 16);
+    CHECK(labintugmo_resume(BASE, tick, 4, events, 64, LENT(t), counts, 2) == 15);
+    CHECK(labintugmo_resume(BASE, events, 1, untouched, 64, LENT(t), counts, 2) == 14);
+    CHECK(same(&t, &before) && memcmp(events, untouched, 64) == 0);
+    CHECK(labintugmo_resume(BASE, NULL, 0, NULL, 0, LENT(t), counts, 2) == 0);
+    CHECK(labintugmo_resume(BASE, tick, 5, events, 64, LENT(t), counts, 2) == 0);
+    CHECK(counts[0] == 5 && counts[1] == 1 && events[0] == 0x18 && t.words[0] == 1);
+}
+
 /* The largest tables: 256 sets of 4 ways, 64 entries of 8 readers, 64 places. */
 #define LARGE 256, 4, 0, 64, 8, 64
 enum { L_LONGS = 1024 + 64 + 64, L_WORDS = 1 + 5 * 1024 + 64 * 8 + 4 * 64, L_MARKS = 8 * 1024 + 3 * 64 };
@@ -290,6 +322,7 @@ static void every_call(void)
     uint32_t i;
     (void)labintugmo_run(tick, sizeof tick, ROOM, LENT_LARGE, counts, 2);
     (void)labintugmo_fresh(LARGE, LENT_LARGE);
+    (void)labintugmo_resume(LARGE, tick + 8, 5, ROOM, LENT_LARGE, counts, 2);
     for (i = 0; i < 1500; ++i) {
         const uint64_t address = 32 * (uint64_t)(i * 2654435761u % 65536);
         (void)labintugmo_write(LARGE, LENT_LARGE, address, i | 1, ROOM);
@@ -339,6 +372,7 @@ int main(void)
     not_fresh();
     small_rooms();
     runs();
+    parts();
     stack();
     printf("slices: %d checks, %d failed\n", checks, failures);
     return failures == 0 ? EXIT_SUCCESS : EXIT_FAILURE;
