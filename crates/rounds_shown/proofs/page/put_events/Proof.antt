@@ -1,0 +1,29 @@
+-- Each turn goes on behind an event; the room's length stays.
+use mathlib.Core.Path.{_≡_, refl, _∙_}
+use Prim.Native.Nat.{_-_}
+use native.Mathlib.Omega.{arith}
+use borrow.Author.Needs.{needs}
+use lib.ListN.{length}
+use Rattle.rounds_shown.proofs.page.put_events.Statement.{statement}
+use Rattle.rounds_shown.proofs.page.put_events.Tie as tie
+
+abbrev Inv-loop : tie.InvT-loop
+Inv-loop s out₀ at t₀ out t = length out ≡ length out₀
+
+abbrev μ-loop : tie.MeasureT-loop
+μ-loop s out₀ at t₀ out t = length s - t .at
+
+pub put-events-spec : {M : Type 1} → statement M
+put-events-spec =
+    tie.close
+    (tie.spec
+    Inv-loop
+    μ-loop
+    (λ c. refl)
+    (λ c κs. search needs)
+    (λ c. omega arith)
+    (λ c. search needs)
+    (λ c. omega arith)
+    (λ c. omega arith)
+    (λ c. omega arith)
+    (λ c. search needs))

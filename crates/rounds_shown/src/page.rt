@@ -1,0 +1,133 @@
+// What is printed: a run's rounds and its events in words, and whether two runs agree.
+use listing::Look;
+use model::Access;
+use model::Command;
+use rounds::Went;
+use wording::commands;
+use wording::events;
+use wording::stops;
+
+// Where the text of a log stands: the place of the next event, the bytes of text.
+struct Shown {
+    at: usize,
+    put: usize,
+}
+
+pub(crate) fn rounds_of(w: Went) -> usize {
+    match w {
+        Went::Ran { rounds, written: _ } => rounds,
+        Went::Refused(_) => 0,
+        Went::NoRoom => 0,
+    }
+}
+
+fn bytes_of(w: Went) -> usize {
+    match w {
+        Went::Ran { rounds: _, written } => written,
+        Went::Refused(_) => 0,
+        Went::NoRoom => 0,
+    }
+}
+
+// In the assembler's words.
+fn put_access(x: Access, out: &mut [u8], at: usize) -> usize {
+    match x {
+        Access::Read {
+            address,
+            mask: _,
+            ticket,
+        } => commands::put_command(Command::Read { address, ticket }, out, at),
+        Access::Write {
+            address,
+            mask,
+            ticket: _,
+        } => commands::put_command(Command::Write { address, mask }, out, at),
+    }
+}
+
+pub(crate) fn put_title(name: &[u8], x: Access, out: &mut [u8], at: usize) -> usize {
+    let a = text::put_text(name, out, at);
+    let b = text::put_text(b", offered ", out, a);
+    let c = put_access(x, out, b);
+    text::put_text(b"\n", out, c)
+}
+
+// The event at a place as a line; where none stands, the place itself.
+fn put_next(s: &[u8], out: &mut [u8], t: Shown) -> Shown {
+    let Look::Event { event, next } = listing::look_at(s, t.at) else {
+        return t;
+    };
+    let a = text::put_text(b"  ", out, t.put);
+    let b = events::put_event(event, out, a);
+    Shown {
+        at: next,
+        put: text::put_text(b"\n", out, b),
+    }
+}
+
+// A log's events, each a line.
+fn put_events(s: &[u8], out: &mut [u8], at: usize) -> usize {
+    let mut t = Shown { at: 0, put: at };
+    while t.at < s.len() {
+        let next = put_next(s, out, t);
+        if next.at <= t.at {
+            return t.put;
+        }
+        t = next;
+    }
+    t.put
+}
+
+pub(crate) fn put_run(name: &[u8], w: Went, log: &[u8], out: &mut [u8], at: usize) -> usize {
+    let a = stops::put_number(name, rounds_of(w) as u64, out, at);
+    let b = text::put_text(b"\n", out, a);
+    put_events(text::front(log, bytes_of(w)), out, b)
+}
+
+// The place behind the event at a place.
+fn next_of(s: &[u8], at: usize) -> usize {
+    let Look::Event { event: _, next } = listing::look_at(s, at) else {
+        return at;
+    };
+    next
+}
+
+// A log without 0x11; how many bytes that is.
+fn leave_out(s: &[u8], out: &mut [u8]) -> usize {
+    let mut at = 0;
+    let mut put = 0;
+    while at < s.len() {
+        let next = next_of(s, at);
+        if next <= at {
+            return put;
+        }
+        if s[at] != 0x11 {
+            put = text::put_text(text::part(s, at, next), out, put);
+        }
+        at = next;
+    }
+    put
+}
+
+pub(crate) fn same_events(ran: Went, log: &[u8], struck: Went, struck_log: &[u8]) -> bool {
+    let mut left = io::buffer();
+    let n = leave_out(text::front(log, bytes_of(ran)), &mut left);
+    check::same(
+        text::front(&left, n),
+        text::front(struck_log, bytes_of(struck)),
+    )
+}
+
+fn put_agree(name: &[u8], agree: bool, out: &mut [u8], at: usize) -> usize {
+    let a = text::put_text(name, out, at);
+    if agree {
+        return text::put_text(b"agree\n", out, a);
+    }
+    text::put_text(b"differ\n", out, a)
+}
+
+pub(crate) fn put_same(tables: bool, events: bool, out: &mut [u8], at: usize) -> usize {
+    let a = put_agree(b"the numbers of the tables ", tables, out, at);
+    let b = put_agree(b"the events but 0x11 ", events, out, a);
+    text::put_text(b"\n", out, b)
+}
