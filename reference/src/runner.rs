@@ -1,7 +1,9 @@
 //! The record reader and the stream runner of document 01's section "Records".
 
 use crate::model::ROOM_NEEDED;
-use crate::model::{fresh_on, outcome_bytes, Access, Cache, Call, Refusal, Settings, Tables};
+use crate::model::{
+    check, fresh_on, outcome_bytes, Access, Cache, Call, Refusal, Settings, Tables,
+};
 
 /// The stop numbers; 1 and 2 are those of the refusals.
 pub const STOP_END: u8 = 0;
@@ -67,19 +69,17 @@ pub struct Stopped {
 
 /// Runs a stream on lent tables, with room for events.
 pub fn run(stream: &[u8], tables: &mut Tables, room: &mut [u8]) -> Stopped {
-    let mut run = Run { stream, room, cache: None, consumed: 0, written: 0 };
-    let number = loop {
-        if run.consumed == stream.len() {
-            break STOP_END;
-        }
-        if let Err(number) = run.step(tables) {
-            break number;
-        }
-    };
-    if let Some(cache) = &run.cache {
-        *tables = cache.encode();
+    Run { stream, room, cache: None, consumed: 0, written: 0 }.to_the_end(tables)
+}
+
+/// Goes on from kept tables and settings with the next part of a stream. The tables are judged
+/// once, before the first record, also where there is none.
+pub fn resume(settings: &Settings, part: &[u8], tables: &mut Tables, room: &mut [u8]) -> Stopped {
+    if let Err(refusal) = check(settings, tables) {
+        return Stopped { number: refusal.number(), consumed: 0, written: 0 };
     }
-    Stopped { number, consumed: run.consumed, written: run.written }
+    let cache = Some(Cache::decode(settings, tables));
+    Run { stream: part, room, cache, consumed: 0, written: 0 }.to_the_end(tables)
 }
 
 struct Run<'a> {
@@ -92,6 +92,21 @@ struct Run<'a> {
 }
 
 impl Run<'_> {
+    fn to_the_end(mut self, tables: &mut Tables) -> Stopped {
+        let number = loop {
+            if self.consumed == self.stream.len() {
+                break STOP_END;
+            }
+            if let Err(number) = self.step(tables) {
+                break number;
+            }
+        };
+        if let Some(cache) = &self.cache {
+            *tables = cache.encode();
+        }
+        Stopped { number, consumed: self.consumed, written: self.written }
+    }
+
     /// Runs the next record, or gives the stop number and does nothing.
     fn step(&mut self, tables: &mut Tables) -> Result<(), u8> {
         // To the runner event kinds are unknown kinds, also where they are cut short.

@@ -3,6 +3,7 @@
 //! too little event room. The runs of streams stand in `runs`.
 
 use crate::exported::{EmptySlice, Exported};
+use crate::parts;
 use crate::runs;
 use crate::trial::{Counts, Trial, WAIT_ROOM};
 use reference::choices;
@@ -18,7 +19,8 @@ pub fn run_case(random: &mut Random, counts: &mut Counts, nulls: bool) -> Result
         0..=14 => walk(random, counts),
         15..=39 => built(random, counts),
         40..=79 => damaged(random, counts),
-        80..=89 => runs::run_case(random, counts, nulls),
+        80..=86 => runs::run_case(random, counts, nulls),
+        87..=89 => parts::run_case(random, counts),
         90..=92 => wrong_lengths(random, counts, nulls),
         93..=96 => bad_settings(random, counts, nulls),
         _ => small_room(random, counts, nulls),

@@ -269,6 +269,38 @@ pub fn make_run(stream: &[u8], tables: &Tables, beside: Beside) -> Made {
     Made::new(returned as usize, &lent, &room, &numbers)
 }
 
+/// Goes on with a part of a stream by the library, on copies of the tables and of what stands beside them.
+pub fn make_resume(settings: &Settings, part: &[u8], tables: &Tables, beside: Beside) -> Made {
+    let [s, w, p, m, r, q] = settings.six();
+    let mut lent = GuardedTables::new(tables, beside.empty);
+    let mut part = Guarded::new(part, 0x03, beside.empty);
+    let (mut room, mut numbers) = beside.guarded();
+    // Each pointer is good for the length beside it and no two slices overlap.
+    let returned = unsafe {
+        labintugmo_resume(
+            s,
+            w,
+            p,
+            m,
+            r,
+            q,
+            part.pointer(),
+            part.length(),
+            room.pointer(),
+            room.length(),
+            lent.longs.pointer(),
+            lent.longs.length(),
+            lent.words.pointer(),
+            lent.words.length(),
+            lent.marks.pointer(),
+            lent.marks.length(),
+            numbers.pointer(),
+            numbers.length(),
+        )
+    };
+    Made::new(returned as usize, &lent, &room, &numbers)
+}
+
 /// The lengths that the library asks for.
 pub fn lengths(settings: &Settings) -> [usize; 3] {
     let [s, w, p, m, r, q] = settings.six();

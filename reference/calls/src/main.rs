@@ -1,11 +1,12 @@
 //! `calls`: compares the exported calls of a library with the reference, call by
-//! call (`cases`), stream by stream (`runs`), in the rounds of demand 3 (`rounds`) and in
+//! call (`cases`), stream by stream (`runs`) and part by part (`parts`), in the rounds of demand 3 (`rounds`) and in
 //! histories whose dirty bytes are each billed once (`billed`).
 
 mod billed;
 mod cases;
 mod demand3;
 mod exported;
+mod parts;
 mod rounds;
 mod runs;
 mod trial;
