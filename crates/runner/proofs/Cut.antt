@@ -130,7 +130,7 @@ pub record AsOne (r₁ r₂ r : Ran) (f₁ f₂ f : List ℕ) (M₂ M : Lent) : 
   pub tables : M ≡ M₂
 
 -- the events that were written
-written-are : {o : Result Lent} {e : List ℕ} {r : Ran} {f : List ℕ} {M : Lent} → Runs o e r f M → take (r .written) f ≡ o .events
+pub written-are : {o : Result Lent} {e : List ℕ} {r : Ran} {f : List ℕ} {M : Lent} → Runs o e r f M → take (r .written) f ≡ o .events
 written-are {o} {e} {r} u = rw (u .written, u .events) (take-append-seam (o .events) (drop (length (o .events)) e))
 
 module _ (k : ℕ) (a b : List ℕ) (L : Lent) {M₁ M₂ M : Lent} {e₁ e₂ e f₁ f₂ f : List ℕ} {r₁ r₂ r : Ran}
