@@ -26,7 +26,8 @@ use Rattle.model.proofs.Decoded.{Small}
 use Rattle.model.proofs.Kept.{kept-is, resume-goes, resume-is}
 use Rattle.running.proofs.First.{Settled, settled, run-accepts}
 use Rattle.running.proofs.Running.{run-skips}
-use Rattle.running.proofs.Parts.{goes-first, settings-more, first-more, settled-long, run-cut}
+use Rattle.running.proofs.Checks.{settings-more}
+use Rattle.running.proofs.Parts.{goes-first, first-more, settled-long, run-cut}
 
 -- ---- on tables
 
