@@ -261,8 +261,8 @@ pub extern "C" fn labintugmo_fill(
         return 0;
     }
     let s = settings(sets, ways, percent, entries, readers, places);
-    let told = cache::fill(s, longs, words, marks, address);
-    records::write_told(told, events, 0)
+    let filled = cache::fill(s, longs, words, marks, address);
+    records::write_told(filled, events, 0)
 }
 
 #[no_mangle]

@@ -1,6 +1,6 @@
 // The record reader (document 01, "Records") that holds the stream and its place together. Its steps are thin: each takes the struct
 // apart and calls a function on the plain stream and the number. The borrow checker covers no function over such a struct, so each
-// of them is proved by hand; `record_at`, `record_behind` and `record_after` have plain parameters, and whoever calls them needs no walk.
+// of them is proved by hand; `record_at`, `body_at` and `place_after` have plain parameters, and whoever calls them needs no walk.
 use model::Record;
 ghost use mathlib.Core.Path.{_≡_};
 ghost use Rattle.model.specs.Records.{readAt};
@@ -18,7 +18,7 @@ pub struct Taken<'a> {
 }
 
 // The place behind the record at a place; the same place where reading stops.
-pub fn behind(stream: &[u8], at: usize) -> usize
+fn behind(stream: &[u8], at: usize) -> usize
     ensures { λ r. ⌜ r ≡ behind (now (stream .entry)) at ⌝ }
 {
     match records::read_at(stream, at) {
@@ -33,7 +33,7 @@ pub fn behind(stream: &[u8], at: usize) -> usize
 }
 
 // The part of a stream that holds the body of the record at a place; no byte where reading stops.
-pub fn body_part(stream: &[u8], at: usize) -> &[u8]
+fn body_part(stream: &[u8], at: usize) -> &[u8]
     ensures { λ r. ⌜ PartOf (stream .entry) at r ⌝ }
 {
     match records::read_at(stream, at) {
@@ -52,20 +52,6 @@ pub fn reader_at<'a>(stream: &'a [u8], at: usize) -> Reader<'a>
     ensures { λ r. ⌜ (r .stream ≡ stream .entry) × (r .at ≡ at) ⌝ }
 {
     Reader { stream, at }
-}
-
-// The record at the place.
-pub fn peek<'a>(r: Reader<'a>) -> Record
-    ensures { λ x. ⌜ x ≡ readAt (now (r .entry .stream)) (r .entry .at) ⌝ }
-{
-    records::read_at(r.stream, r.at)
-}
-
-// The part of the stream that holds the body of the record at the place.
-pub fn body<'a>(r: Reader<'a>) -> &'a [u8]
-    ensures { λ b. ⌜ PartOf (r .entry .stream) (r .entry .at) b ⌝ }
-{
-    body_part(r.stream, r.at)
 }
 
 // The reader behind the record at its place.
@@ -90,34 +76,29 @@ pub fn next<'s, 'a>(r: &'s mut Reader<'a>) -> Taken<'a>
     Taken { found, body }
 }
 
-// The reader behind the record at its place, handed back.
-pub fn past<'a>(r: Reader<'a>) -> Reader<'a>
-    ensures { λ q. ⌜ (q .stream ≡ r .entry .stream) × (q .at ≡ behind (now (r .entry .stream)) (r .entry .at)) ⌝ }
-{
-    let stream = r.stream;
-    let next = behind(stream, r.at);
-    Reader { stream, at: next }
-}
-
-// The record at a place of a stream, by a reader: its contract says nothing of one.
+// The record at a place of a stream, by a reader that takes it.
 pub fn record_at(stream: &[u8], at: usize) -> Record
     ensures { λ r. ⌜ r ≡ readAt (now (stream .entry)) at ⌝ }
 {
-    peek(reader_at(stream, at))
+    let mut r = reader_at(stream, at);
+    let t = next(&mut r);
+    t.found
 }
 
-// The record behind the one at a place, by a reader that steps over that.
-pub fn record_behind(stream: &[u8], at: usize) -> Record
-    ensures { λ r. ⌜ r ≡ readAt (now (stream .entry)) (behind (now (stream .entry)) at) ⌝ }
+// The part of a stream that holds the body of the record at a place, by a reader that takes it.
+pub fn body_at(stream: &[u8], at: usize) -> &[u8]
+    ensures { λ r. ⌜ PartOf (stream .entry) at r ⌝ }
 {
-    peek(past(reader_at(stream, at)))
+    let mut r = reader_at(stream, at);
+    let t = next(&mut r);
+    t.body
 }
 
-// The same by a reader that is lent.
-pub fn record_after(stream: &[u8], at: usize) -> Record
-    ensures { λ r. ⌜ r ≡ readAt (now (stream .entry)) (behind (now (stream .entry)) at) ⌝ }
+// The place behind the record at a place, by a reader that steps over it.
+pub fn place_after(stream: &[u8], at: usize) -> usize
+    ensures { λ r. ⌜ r ≡ behind (now (stream .entry)) at ⌝ }
 {
     let mut r = reader_at(stream, at);
     skip(&mut r);
-    peek(r)
+    r.at
 }

@@ -4,7 +4,7 @@ use mathlib.Core.Path.{_≡_, refl, sym, subst}
 use mathlib.Core.Bool.{Bool, true, false, not, _&&_, _||_}
 use mathlib.Core.List.{List, [], _∷_, _++_, map}
 use Prim.Native.Nat.{ℕ, zero, suc, _+_, _*_, _%_, _^_, _≤_, _<_}
-use native.Mathlib.Nat.{le-trans}
+use native.Mathlib.Nat.{le-trans, pow-zero, pow-suc}
 use native.Mathlib.Omega.{arith}
 use borrow.Author.Tests.{le-leb, leb-true, ltb-true, eqb-true}
 use lib.Dec.{leb, ltb, eqb, lit≤}
@@ -19,7 +19,7 @@ use Rattle.model.specs.SoundLent.{soundLent}
 use Rattle.model.specs.Probe.{Spot, Place, no, at, probe, ruleOf, waysOf, dirtyLines}
 use Rattle.model.specs.Steps.{isMerge, isMiss, join, onMisses, fetches, queues, queuedEvent, sentEvent, placesNeeded, entryFull, accept, proceed, access, mark, marked, sendFrom, send, ticketsOf, others, sentFor, fill, tick}
 use Rattle.model.specs.Calls.{call, encoded}
-use Rattle.model.specs.Records.{logBytes}
+use Rattle.model.specs.Records.{lengthOf, numberAt, logBytes, commandIn, commandOf}
 use Rattle.model.specs.Runner.{stepOf}
 use Rattle.model.specs.Inner.{Is}
 use Rattle.model.specs.declared.Settings.{Settings}
@@ -32,15 +32,17 @@ use Rattle.model.specs.declared.Event.{Event}
 use Rattle.model.specs.declared.Event.the-variants.{Refused, Released}
 use Rattle.model.specs.declared.Command.{Command}
 use Rattle.model.specs.declared.Command.the-variants as cmd
+use Rattle.model.specs.declared.CommandRead.the-variants as command
 use Rattle.model.proofs.Flags.{and-1, and-2, and-i, clash, by-flag}
 use Rattle.model.proofs.Lists.{In, all-in, in-all, any-in, in-keep}
 use Rattle.model.proofs.SoundFacts.{Sound, parts, entry-parts}
 use Rattle.model.proofs.Fits.{ranged}
 use Rattle.model.proofs.Taken.{Spotted, formed-good}
 use Rattle.model.proofs.Offered.{probe-spotted}
+use Rattle.model.proofs.RunSound.{bytes}
 use Rattle.model.proofs.Decoded.{Small}
 use Rattle.model.proofs.Bridge.{sound-encoded, events-encoded}
-use Rattle.records.specs.Fitting.{WriteBackFits, Fitting, AllFitting, CommandFits, words, stamped, TicketFits}
+use Rattle.records.specs.Fitting.{WriteBackFits, Fitting, AllFitting, CommandFits, CommandReadFits, words, stamped, TicketFits}
 use Rattle.records.proofs.Room.{Takes, refused-takes}
 
 -- the events of an outcome fit
@@ -49,10 +51,14 @@ Fits o = AllFitting (eventsOf o)
 
 -- ---- addresses and masks
 
+-- an element of a list, and what stands for one past its end
+all-at : (p : ℕ → Bool) → p 0 ≡ true → (s : List ℕ) (i : ℕ) → all p s ≡ true → p (getD s i 0) ≡ true
+all-at p z [] i h = z
+all-at p z (b ∷ s) zero h = and-1 (p b) (all p s) h
+all-at p z (b ∷ s) (suc i) h = all-at p z s i (and-2 (p b) (all p s) h)
+
 word-at : (ms : List ℕ) (i : ℕ) → words ms ≡ true → getD ms i 0 < 2 ^ 32
-word-at [] i h = omega arith
-word-at (m ∷ ms) zero h = let q = leb-true m allOnes (and-1 (leb m allOnes) (words ms) h) in omega arith
-word-at (m ∷ ms) (suc i) h = word-at ms i (and-2 (leb m allOnes) (words ms) h)
+word-at ms i h = let q = leb-true (getD ms i 0) allOnes (all-at (λ m. leb m allOnes) refl ms i h) in omega arith
 
 sector-low : (a : ℕ) → goodSector a ≡ true → a < 2 ^ 64
 sector-low a h = let l = ltb-true a (2 ^ 48) (and-2 (eqb (a % 32) 0) (ltb a (2 ^ 48)) h) in omega arith
@@ -246,6 +252,30 @@ module _ (t : Tables) (few : stamped t ≡ true) where
   step-stamped S cmd.Send h = send-stamped
   step-stamped S (cmd.Fill a) h = fill-stamped a
   step-stamped S (cmd.Tick c) h = tick-stamped c
+
+-- ---- a command read out of bytes
+
+number-below : (s : List ℕ) → bytes s ≡ true → (n i : ℕ) → numberAt s i n < 256 ^ n
+unfolding numberAt
+number-below s h zero i = rw pow-zero (omega arith)
+number-below s h (suc n) i =
+    let q = number-below s h n (suc i) in
+    let d = ltb-true (getD s i 0) 256 (all-at (λ b. ltb b 256) refl s i h) in
+    rw pow-suc (omega arith)
+
+pub command-read-fits : (k : ℕ) (b : List ℕ) → bytes b ≡ true → CommandReadFits (commandOf k b)
+unfolding commandOf
+command-read-fits k b h =
+    let n = number-below b h in
+    by-flag CommandReadFits (eqb (length b) (lengthOf k)) (commandIn k b) command.None
+    (λ e. by-flag CommandReadFits (eqb k 0) _ _
+    (λ e. record { sets = n 2 0; ways = n 1 2; percent = n 1 3; entries = n 1 4; readers = n 1 5; places = n 1 6 })
+    (λ e. by-flag CommandReadFits (eqb k 1) _ _ (λ e. (n 8 0, n 4 8))
+    (λ e. by-flag CommandReadFits (eqb k 2) _ _ (λ e. (n 8 0, n 4 8))
+    (λ e. by-flag CommandReadFits (eqb k 3) _ _ (λ e. tt)
+    (λ e. by-flag CommandReadFits (eqb k 4) _ _ (λ e. n 8 0)
+    (λ e. by-flag CommandReadFits (eqb k 5) _ _ (λ e. n 4 0) (λ e. tt)))))))
+    (λ e. tt)
 
 -- ---- calls on slices
 

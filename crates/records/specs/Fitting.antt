@@ -12,6 +12,8 @@ use Rattle.model.specs.declared.Event.{Event}
 use Rattle.model.specs.declared.Event.the-variants as ev
 use Rattle.model.specs.declared.Command.{Command}
 use Rattle.model.specs.declared.Command.the-variants as cmd
+use Rattle.model.specs.declared.CommandRead.{CommandRead}
+use Rattle.model.specs.declared.CommandRead.the-variants as command
 
 -- block 8 bytes, masks 4 each
 pub record WriteBackFits (b m0 m1 m2 m3 : ℕ) : Type 0 where
@@ -52,6 +54,11 @@ CommandFits (cmd.Write a m) = (a < 2 ^ 64) × (m < 2 ^ 32)
 CommandFits cmd.Send = Unit
 CommandFits (cmd.Fill a) = a < 2 ^ 64
 CommandFits (cmd.Tick c) = c < 2 ^ 32
+
+-- of a body that was read
+abbrev pub CommandReadFits : CommandRead → Type 0
+CommandReadFits (command.Got c) = CommandFits c
+CommandReadFits command.None = Unit
 
 -- ---- tickets of 32 bits
 

@@ -9,7 +9,6 @@ pub use numbers::number1;
 pub use numbers::number2;
 pub use numbers::number4;
 pub use numbers::number8;
-pub use reader::body;
 pub use reader::command_at;
 pub use reader::command_of;
 pub use reader::event_at;

@@ -1,6 +1,6 @@
 // Records, events and commands read out of a stream of any bytes.
 ghost use mathlib.Core.Path.{_≡_};
-ghost use Rattle.model.specs.Records.{lengthOf, isCommand, readAt, bodyAt, answered, refusedBy, eventOf, eventAt, commandOf, commandAt};
+ghost use Rattle.model.specs.Records.{lengthOf, isCommand, readAt, answered, refusedBy, eventOf, eventAt, commandOf, commandAt};
 use crate::numbers::number1;
 use crate::numbers::number2;
 use crate::numbers::number4;
@@ -81,21 +81,6 @@ pub fn read_at(stream: &[u8], at: usize) -> Record
         }
     } else {
         Record::Stopped(Stop::CutShort)
-    }
-}
-
-// "hands back the part of the caller's stream that holds its body"; no byte where reading stops.
-pub fn body(stream: &[u8], at: usize) -> &[u8]
-    ensures { λ r. ⌜ now r ≡ bodyAt (now (stream .entry)) at ⌝ }
-{
-    match read_at(stream, at) {
-        Record::Whole {
-            kind: _,
-            start,
-            len: _,
-            next,
-        } => &stream[start..next],
-        Record::Stopped(_) => &stream[..0],
     }
 }
 

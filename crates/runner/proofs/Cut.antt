@@ -26,7 +26,8 @@ use Rattle.model.proofs.Decoded.{Small}
 use Rattle.model.proofs.Kept.{kept-is, resume-goes, resume-is}
 use Rattle.running.proofs.First.{Settled, settled, run-accepts}
 use Rattle.running.proofs.Running.{run-skips}
-use Rattle.running.proofs.Parts.{goes-first, settings-more, first-more, settled-long, run-cut}
+use Rattle.running.proofs.Checks.{settings-more}
+use Rattle.running.proofs.Parts.{goes-first, first-more, settled-long, run-cut}
 
 -- ---- on tables
 
@@ -130,7 +131,7 @@ pub record AsOne (r₁ r₂ r : Ran) (f₁ f₂ f : List ℕ) (M₂ M : Lent) : 
   pub tables : M ≡ M₂
 
 -- the events that were written
-written-are : {o : Result Lent} {e : List ℕ} {r : Ran} {f : List ℕ} {M : Lent} → Runs o e r f M → take (r .written) f ≡ o .events
+pub written-are : {o : Result Lent} {e : List ℕ} {r : Ran} {f : List ℕ} {M : Lent} → Runs o e r f M → take (r .written) f ≡ o .events
 written-are {o} {e} {r} u = rw (u .written, u .events) (take-append-seam (o .events) (drop (length (o .events)) e))
 
 module _ (k : ℕ) (a b : List ℕ) (L : Lent) {M₁ M₂ M : Lent} {e₁ e₂ e f₁ f₂ f : List ℕ} {r₁ r₂ r : Ran}

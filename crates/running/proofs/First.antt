@@ -1,22 +1,23 @@
 -- The first record: its checks by the tests that the code makes, and the run behind it.
 use mathlib.Core.Path.{_≡_, refl, sym, ap, _∙_}
-use mathlib.Core.Bool.{Bool, true, false, not}
+use mathlib.Core.Bool.{Bool, true, false}
 use mathlib.Core.List.{List, [], _∷_}
 use Prim.Native.Nat.{ℕ, _+_, _-_, _≤_, _<_}
 use native.Mathlib.Nat.{sub-zero}
 use native.Mathlib.Omega.{arith}
-use borrow.Author.Tests.{not-true, not-false, lt-ltb, le-ltb, eq-eqb, ne-eqb, ltb-false, eqb-true}
+use borrow.Author.Tests.{eq-eqb, ne-eqb, ltb-false, eqb-true}
 use lib.Dec.{ltb, eqb}
-use lib.ListN.{length, take, drop, length-drop}
-use lib.Seq.{take-all}
+use lib.ListN.{length, drop, length-drop}
 use Rattle.model.specs.Range.{inRange}
 use Rattle.model.specs.Tables.{start, after}
 use Rattle.model.specs.Lent.{Lent, lengthsFit}
-use Rattle.model.specs.Records.{isCommand, lengthOf}
+use Rattle.model.specs.Words.{pick}
+use Rattle.model.specs.Records.{isCommand, lengthOf, readAt, bodyAt}
 use Rattle.model.specs.Runner.{settingsOf, settingsStop, firstStop, goesOn, halt, ahead, runFrom, lentResult, run, Runs}
 use Rattle.model.specs.Calls.{freshCall}
 use Rattle.model.specs.Inner.{Is, Held}
 use Rattle.model.specs.declared.Settings.{Settings}
+use Rattle.model.specs.declared.Record.{Record}
 use Rattle.model.specs.declared.Stop.{Stop}
 use Rattle.model.specs.declared.Stop.the-variants.{Nothing, SettingOutOfRange, SliceLength, OutOfPlace, UnknownKind, CutShort}
 use Rattle.model.specs.declared.Ran.{Ran}
@@ -24,48 +25,44 @@ use Rattle.model.proofs.Flags.{clash, by-flag}
 use Rattle.model.proofs.Soundness.{start-sound}
 use Rattle.running.specs.declared.Begun.{Begun}
 use Rattle.running.specs.declared.Begun.the-variants.{Accepted, Stopped}
-use Rattle.running.specs.Resume.{kindAt, restAt, restFrom, Stands, Resumes}
+use Rattle.running.specs.Resume.{kindAt, restAt, headStop, restFrom, Stands, Resumes}
 use Rattle.running.specs.Begin.{beginning, Begins}
 use Rattle.running.proofs.Running.{run-skips}
+use Rattle.running.proofs.Checks.{head-stops, head-goes, head-fits, body-settings}
 
 -- ---- the checks
 
-module _ (s : List ℕ) (L : Lent) {b : Bool} {n : ℕ} (known : b ≡ isCommand (kindAt s 0)) (long : n ≡ lengthOf (kindAt s 0)) where
-  rest-long : length (restAt s 0) ≡ length s - 1
-  rest-long = length-drop 1 s
+module _ (S : Settings) (L : Lent) where
+  pub settings-out : inRange S ≡ false → SettingOutOfRange ≡ settingsStop S L
+  settings-out r = rw r
 
-  pub first-unknown : not b ≡ true → UnknownKind ≡ firstStop L (kindAt s 0) (restAt s 0)
+  pub settings-length : inRange S ≡ true → lengthsFit S L ≡ false → SliceLength ≡ settingsStop S L
+  settings-length r f = rw (r, f)
+
+  pub settings-go : inRange S ≡ true → lengthsFit S L ≡ true → Nothing ≡ settingsStop S L
+  settings-go r f = rw (r, f)
+
+module _ (s : List ℕ) (L : Lent) (some : 0 < length s) {f : Record} (read : f ≡ readAt s 0) {n : Stop} (d : n ≡ headStop (kindAt s 0) f) where
+  -- what is asked behind the head
+  abbrev asked : Stop
+  asked = pick (eqb (kindAt s 0) 0) (settingsStop (settingsOf (restAt s 0)) L) OutOfPlace
+
+  pub first-stopped : goesOn n ≡ false → n ≡ firstStop L (kindAt s 0) (restAt s 0)
   unfolding firstStop
-  first-unknown h = rw (← known, not-true b h)
+  first-stopped h = head-stops s 0 some read d h asked
 
-  module _ (command : not b ≡ false) where
-    pub first-cut : length s - 1 < n → CutShort ≡ firstStop L (kindAt s 0) (restAt s 0)
+  module _ (goes : goesOn n ≡ true) where
+    pub first-other : (kindAt s 0 ≡ 0 → ⊥) → OutOfPlace ≡ firstStop L (kindAt s 0) (restAt s 0)
     unfolding firstStop
-    first-cut h = let l = rest-long in rw (← known, not-false b command, lt-ltb (length (restAt s 0)) (lengthOf (kindAt s 0)) (omega arith))
+    first-other h = let q : OutOfPlace ≡ asked = rw (ne-eqb (kindAt s 0) 0 h) in q ∙ head-goes s 0 some read d goes asked
 
-    module _ (whole : n ≤ length s - 1) where
-      whole-is : lengthOf (kindAt s 0) ≤ length (restAt s 0)
-      whole-is = let l = rest-long in omega arith
-
-      pub first-other : (kindAt s 0 ≡ 0 → ⊥) → OutOfPlace ≡ firstStop L (kindAt s 0) (restAt s 0)
-      unfolding firstStop
-      first-other h = rw (← known, not-false b command, le-ltb _ _ whole-is, ne-eqb (kindAt s 0) 0 h)
-
-      module _ (settings : kindAt s 0 ≡ 0) {S : Settings} (S-is : S ≡ settingsOf (take (length s - 1) (drop 1 s))) where
-        first-settings : settingsStop S L ≡ firstStop L (kindAt s 0) (restAt s 0)
-        unfolding firstStop
-        first-settings = rw (← known, not-false b command, le-ltb _ _ whole-is, eq-eqb (kindAt s 0) 0 settings, S-is, take-all (length s - 1) (drop 1 s) (let l = rest-long in omega arith))
-
-        module _ {r : Bool} (range : r ≡ inRange S) where
-          pub first-out : not r ≡ true → SettingOutOfRange ≡ firstStop L (kindAt s 0) (restAt s 0)
-          first-out h = rw (← range, not-true r h) at first-settings
-
-          module _ (held : not r ≡ false) {f : Bool} (fits : f ≡ lengthsFit S L) where
-            pub first-length : not f ≡ true → SliceLength ≡ firstStop L (kindAt s 0) (restAt s 0)
-            first-length h = rw (← range, not-false r held, ← fits, not-true f h) at first-settings
-
-            pub first-goes : not f ≡ false → Nothing ≡ firstStop L (kindAt s 0) (restAt s 0)
-            first-goes h = rw (← range, not-false r held, ← fits, not-false f h) at first-settings
+    pub first-settings : kindAt s 0 ≡ 0 → {S : Settings} → S ≡ settingsOf (bodyAt s 0) → {r : Stop} → r ≡ settingsStop S L
+        → r ≡ firstStop L (kindAt s 0) (restAt s 0)
+    unfolding firstStop
+    first-settings h e {r} a =
+        let w : lengthOf 0 ≤ length (restAt s 0) = rw h at (head-fits s 0 some read d goes) in
+        let q : settingsStop (settingsOf (restAt s 0)) L ≡ asked = rw (eq-eqb (kindAt s 0) 0 h) in
+        a ∙ ap (λ (S : Settings). settingsStop S L) (e ∙ body-settings s some h w) ∙ q ∙ head-goes s 0 some read d goes asked
 
 -- ---- settings that are accepted
 
@@ -159,13 +156,12 @@ module _ (L : Lent) (s : List ℕ) (some : length s ≡ 0 → ⊥) {n : Stop} (d
       let q : beginning L s ≡ Stopped n = beginning-stops L s some (rw (← d) h) ∙ rw (← d) in
       record { says = sym q; tables = rw q }
 
-  pub begin-goes : goesOn n ≡ true → {S : Settings} → S ≡ settingsOf (take (length s - 1) (drop 1 s)) → {M : Lent} → M ≡ after L (freshCall S L)
+  pub begin-goes : goesOn n ≡ true → {S : Settings} → S ≡ settingsOf (bodyAt s 0) → {M : Lent} → M ≡ after L (freshCall S L)
       → Begins L s (Accepted S) M
   begin-goes h {S} e {M} m =
       let z : goesOn (firstStop L (kindAt s 0) (restAt s 0)) ≡ true = rw (← d) h in
       let g = settled L (kindAt s 0) (restAt s 0) z in
-      let l : length (drop 1 s) ≡ length s - 1 = length-drop 1 s in
-      let f : S ≡ settingsOf (restAt s 0) = e ∙ rw (take-all (length s - 1) (drop 1 s) (omega arith)) in
+      let f : S ≡ settingsOf (restAt s 0) = e ∙ body-settings s (omega arith) (g .settings) (g .whole) in
       let q : beginning L s ≡ Accepted S = beginning-goes L s some z ∙ rw (← f) in
       let range : inRange S ≡ true = rw f (g .range) in
       let fits : lengthsFit S L ≡ true = rw f (g .fits) in

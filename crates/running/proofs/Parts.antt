@@ -6,22 +6,25 @@ use mathlib.Core.List.{List, [], _∷_, _++_, append-assoc}
 use Prim.Native.Nat.{ℕ, zero, suc, _+_, _-_, _≤_}
 use native.Mathlib.Nat.{le-of-suc-le-suc, add-assoc, zero-add, sub-zero, sub-add-eq}
 use native.Mathlib.Omega.{arith}
-use borrow.Author.Tests.{not-true, le-ltb, ltb-false, leb-true, eqb-true, ne-eqb}
+use borrow.Author.Tests.{not-true, le-ltb, ltb-true, ltb-false, lt-leb, le-leb, leb-true, eqb-true, ne-eqb}
 use lib.Dec.{leb, ltb, eqb}
-use lib.ListN.{length, drop, List·getD-append, length-append}
+use lib.ListN.{length, drop, length-append}
 use lib.Seq.{take-append-le}
 use Rattle.model.specs.Words.{pick}
 use Rattle.model.specs.Tables.{Tables, start, after, eventsOf}
 use Rattle.model.specs.Lent.{Lent}
-use Rattle.model.specs.Records.{isCommand, lengthOf, numberAt, logBytes}
+use Rattle.model.specs.Numbers.{stopNumber}
+use Rattle.model.specs.Records.{isCommand, lengthOf, readAt, logBytes}
 use Rattle.model.specs.Runner.{eventRoom, settingsOf, settingsStop, firstStop, laterStop, goesOn, stepAt, Result, halt, ahead, runFrom, lentResult, run}
 use Rattle.model.specs.declared.Settings.{Settings}
+use Rattle.model.specs.declared.Record.{Record}
 use Rattle.model.specs.declared.Stop.{Stop}
 use Rattle.model.specs.declared.Stop.the-variants.{Nothing, OutOfPlace, UnknownKind, CutShort, NoRoom}
 use Rattle.model.proofs.Flags.{clash, by-flag, flag, or-cases}
 use Rattle.running.specs.declared.Begun.the-variants.{Accepted, Stopped}
-use Rattle.running.specs.Resume.{kindAt}
+use Rattle.running.specs.Resume.{kindAt, headStop}
 use Rattle.running.specs.Begin.{beginning, firstThere}
+use Rattle.running.proofs.Checks.{head-there, settings-more}
 use Rattle.running.proofs.First.{Settled, settled, run-accepts}
 use Rattle.running.proofs.Running.{going, from-stops, from-goes}
 
@@ -195,22 +198,6 @@ module _ (S : Settings) where
 
 -- ---- a whole stream, in two parts
 
-number-more : (a b : List ℕ) (at n : ℕ) → at + n ≤ length a → numberAt (a ++ b) at n ≡ numberAt a at n
-unfolding numberAt
-number-more a b at zero h = refl
-number-more a b at (suc n) h = rw (number-more a b (suc at) n (omega arith), List·getD-append a b 0 at (omega arith))
-
-pub settings-more : (a b : List ℕ) → 7 ≤ length a → settingsOf (a ++ b) ≡ settingsOf a
-settings-more a b h =
-    rw (
-      number-more a b 0 2 (omega arith),
-      number-more a b 2 1 (omega arith),
-      number-more a b 3 1 (omega arith),
-      number-more a b 4 1 (omega arith),
-      number-more a b 5 1 (omega arith),
-      number-more a b 6 1 (omega arith),
-    )
-
 pub first-more : (L : Lent) (k : ℕ) (a b : List ℕ) → lengthOf k ≤ length a → 7 ≤ length a → firstStop L k (a ++ b) ≡ firstStop L k a
 unfolding firstStop
 first-more L k a b h w =
@@ -245,11 +232,14 @@ unfolding firstThere
 there-none [] h = refl
 there-none (x ∷ s) h = absurd (omega arith)
 
-pub there-some : (s : List ℕ) → (length s ≡ 0 → ⊥) → {b : Bool} {n : ℕ} → b ≡ isCommand (kindAt s 0) → n ≡ lengthOf (kindAt s 0)
-    → (not b || leb n (length s - 1)) ≡ firstThere s
+leb-not : (m n : ℕ) → leb n m ≡ not (ltb m n)
+leb-not m n = ⊎-elim (λ z. lt-leb n m (ltb-true m n z) ∙ sym (ap not z)) (λ z. le-leb n m (ltb-false m n z) ∙ sym (ap not z)) (flag (ltb m n))
+
+pub there-some : (s : List ℕ) → (length s ≡ 0 → ⊥) → {f : Record} {n : Stop} {m : ℕ} → f ≡ readAt s 0 → n ≡ headStop (kindAt s 0) f → m ≡ stopNumber n
+    → not (eqb m 15) ≡ firstThere s
 unfolding firstThere
-there-some [] h p q = absurd (h refl)
-there-some (k ∷ bs) h p q = let e : length (k ∷ bs) - 1 ≡ length bs = omega arith in rw (p, q, e)
+there-some [] h read d e = absurd (h refl)
+there-some (k ∷ bs) h read d e = head-there (k ∷ bs) 0 (omega arith) read d e ∙ (rw (leb-not (length bs) (lengthOf k)))
 
 -- a kind that is not 0
 other-kind : (f : Bool) (x y : Stop) → f ≡ false → pick f x OutOfPlace ≡ pick f y OutOfPlace

@@ -28,10 +28,14 @@ kindAt s at = getD s at 0
 abbrev pub restAt : List ℕ → ℕ → List ℕ
 restAt s at = drop (at + 1) s
 
--- the checks at a later record, of its kind and what reading it came to
+-- what stops at the head of a record, of its kind and what reading it came to: "To the runner event kinds are unknown kinds", cut short or not
+unfoldable pub headStop : ℕ → Record → Stop
+headStop k (Whole kind start n next) = pick (isCommand k) stop.Nothing UnknownKind
+headStop k (Stopped r) = pick (isCommand k) r UnknownKind
+
+-- the checks at a later record, of the same
 unfoldable pub laterFound : ℕ → ℕ → Record → Stop
-laterFound room k (Whole kind start n next) = pick (isCommand k) (pick (eqb k 0) OutOfPlace (pick (ltb room eventRoom) NoRoom stop.Nothing)) UnknownKind
-laterFound room k (Stopped r) = pick (isCommand k) r UnknownKind
+laterFound room k f = pick (goesOn (headStop k f)) (pick (eqb k 0) OutOfPlace (pick (ltb room eventRoom) NoRoom stop.Nothing)) (headStop k f)
 
 -- one record by itself, as the first turn of `runFrom`
 unfoldable pub single : Settings → ℕ → ℕ → List ℕ → Tables → Result Tables

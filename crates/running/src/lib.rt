@@ -15,14 +15,16 @@ ghost use lib.ListN.{length};
 ghost use Rattle.model.specs.Lent.{lent};
 ghost use Rattle.model.specs.Inner.{Held};
 ghost use Rattle.model.specs.Steps.{access};
-ghost use Rattle.model.specs.Records.{nextOf};
-ghost use Rattle.model.specs.Runner.{settingsOf, firstStop, goesOn, stepOf, stepRead};
+ghost use Rattle.model.specs.Runner.{settingsOf, settingsStop, firstStop, goesOn, stepOf, stepRead};
 ghost use Rattle.running.specs.Begin.{Begins, firstThere};
 ghost use Rattle.running.specs.Lengths.{noLengths, lengthsFor};
-ghost use Rattle.running.specs.Resume.{kindAt, restAt, laterFound, Stands, Noted, Notes, recordFrom, restFrom, Resumes};
+ghost use Rattle.running.specs.Resume.{kindAt, restAt, headStop, laterFound, Stands, Noted, Notes, recordFrom, restFrom, Resumes};
 
 // "16 fewer than 64 bytes of event room"
 const EVENT_ROOM: usize = 64;
+
+// "15 cut short"
+const CUT_SHORT: u8 = 15;
 
 // What the first record comes to: its settings, for which the tables are fresh, or why the run stops there.
 pub enum Begun {
@@ -58,36 +60,9 @@ fn settings_of(body: &[u8]) -> Settings
     }
 }
 
-// The checks at the first record.
-fn first_stop(stream: &[u8], longs: &[u64], words: &[u32], marks: &[u8]) -> Stop
-    requires { ⌜ 0 < length (now stream) ⌝ }
-    ensures { λ r. ⌜ r ≡ firstStop (lent (now (longs .entry)) (now (words .entry)) (now (marks .entry)))
-        (kindAt (now (stream .entry)) 0) (restAt (now (stream .entry)) 0) ⌝ }
-{
-    let first = stream[0];
-    let body = records::length_of(first) as usize;
-    if !records::is_command(first) {
-        return Stop::UnknownKind;
-    }
-    if stream.len() - 1 < body {
-        return Stop::CutShort;
-    }
-    if first != 0 {
-        return Stop::OutOfPlace;
-    }
-    let s = settings_of(&stream[1..]);
-    if !soundness::in_range(s) {
-        return Stop::SettingOutOfRange;
-    }
-    if !soundness::lengths_fit(s, longs, words, marks) {
-        return Stop::SliceLength;
-    }
-    Stop::Nothing
-}
-
-// The checks at a record that is not the first, of its kind and what reading it came to, with this much event room.
-fn later_stop(kind: u8, found: Record, room: usize) -> Stop
-    ensures { λ r. ⌜ r ≡ laterFound room kind found ⌝ }
+// What stops at the head of a record, of its kind and what reading it came to.
+fn head_stop(kind: u8, found: Record) -> Stop
+    ensures { λ r. ⌜ r ≡ headStop kind found ⌝ }
 {
     if !records::is_command(kind) {
         return Stop::UnknownKind;
@@ -99,31 +74,55 @@ fn later_stop(kind: u8, found: Record, room: usize) -> Stop
             start: _,
             len: _,
             next: _,
-        } => {
-            if kind == 0 {
-                return Stop::OutOfPlace;
-            }
-            if room < EVENT_ROOM {
-                return Stop::NoRoom;
-            }
-            Stop::Nothing
-        }
+        } => Stop::Nothing,
     }
 }
 
-// The place behind a record that was read at a place.
-fn place_behind(found: Record, at: usize) -> usize
-    ensures { λ r. ⌜ r ≡ nextOf found at ⌝ }
+// The checks of settings, and of the slices for them.
+fn settings_stop(s: Settings, longs: &[u64], words: &[u32], marks: &[u8]) -> Stop
+    ensures { λ r. ⌜ r ≡ settingsStop s (lent (now (longs .entry)) (now (words .entry)) (now (marks .entry))) ⌝ }
 {
-    match found {
-        Record::Whole {
-            kind: _,
-            start: _,
-            len: _,
-            next,
-        } => next,
-        Record::Stopped(_) => at,
+    if !soundness::in_range(s) {
+        return Stop::SettingOutOfRange;
     }
+    if !soundness::lengths_fit(s, longs, words, marks) {
+        return Stop::SliceLength;
+    }
+    Stop::Nothing
+}
+
+// The checks at the first record.
+fn first_stop(stream: &[u8], longs: &[u64], words: &[u32], marks: &[u8]) -> Stop
+    requires { ⌜ 0 < length (now stream) ⌝ }
+    ensures { λ r. ⌜ r ≡ firstStop (lent (now (longs .entry)) (now (words .entry)) (now (marks .entry)))
+        (kindAt (now (stream .entry)) 0) (restAt (now (stream .entry)) 0) ⌝ }
+{
+    let kind = stream[0];
+    let stop = head_stop(kind, reader::record_at(stream, 0));
+    if !goes_on(stop) {
+        return stop;
+    }
+    if kind != 0 {
+        return Stop::OutOfPlace;
+    }
+    settings_stop(settings_of(reader::body_at(stream, 0)), longs, words, marks)
+}
+
+// The checks at a record that is not the first, of its kind and what reading it came to, with this much event room.
+fn later_stop(kind: u8, found: Record, room: usize) -> Stop
+    ensures { λ r. ⌜ r ≡ laterFound room kind found ⌝ }
+{
+    let stop = head_stop(kind, found);
+    if !goes_on(stop) {
+        return stop;
+    }
+    if kind == 0 {
+        return Stop::OutOfPlace;
+    }
+    if room < EVENT_ROOM {
+        return Stop::NoRoom;
+    }
+    Stop::Nothing
 }
 
 // One access on sound tables, and its events behind `out` bytes.
@@ -247,13 +246,11 @@ fn run_one(
             written: out,
         };
     }
-    let start = at + 1;
-    let next = place_behind(found, at);
-    let x = records::command_of(kind, &stream[start..next]);
+    let x = records::command_of(kind, reader::body_at(stream, at));
     let n = step_read(s, longs, words, marks, x, events, out);
     Ran {
         stop: Stop::Nothing,
-        consumed: next,
+        consumed: reader::place_after(stream, at),
         written: out + n,
     }
 }
@@ -306,7 +303,7 @@ pub fn begin(stream: &[u8], longs: &mut [u64], words: &mut [u32], marks: &mut [u
     if !goes_on(stop) {
         return Begun::Stopped(stop);
     }
-    let s = settings_of(&stream[1..]);
+    let s = settings_of(reader::body_at(stream, 0));
     cache::fresh(s, longs, words, marks);
     Begun::Accepted(s)
 }
@@ -318,9 +315,8 @@ pub fn first_there(stream: &[u8]) -> bool
     if stream.len() == 0 {
         return false;
     }
-    let kind = stream[0];
-    let body = records::length_of(kind) as usize;
-    !records::is_command(kind) | (body <= stream.len() - 1)
+    let stop = head_stop(stream[0], reader::record_at(stream, 0));
+    model::stop_number(stop) != CUT_SHORT
 }
 
 fn no_lengths() -> Lengths

@@ -1,7 +1,8 @@
 -- The first record: none, one that stops, one whose settings are accepted.
-use mathlib.Core.Path.{sym, _∙_}
+use mathlib.Core.Path.{sym, ap, _∙_}
 use borrow.Author.Needs.{needs}
 use borrow.Author.Tests.{not-true, not-false}
+use Rattle.model.specs.Runner.{settingsOf}
 use Rattle.running.proofs.First.{begin-none, begin-stops, begin-goes}
 use Rattle.running.proofs.begin.Statement.{statement}
 use Rattle.running.proofs.begin.Tie as tie
@@ -21,9 +22,7 @@ begin-spec =
     let e = f .before .before .before .before in
     let a = e .before .before .before .before .before .args in
     begin-stops _ (a .stream .now) (e .if1 .left) (f .first-stop .ensures) (sym (c .before .goes-on .ensures) ∙ not-true _ (c .if2 .taken)))
-    (λ c. search needs)
-    (λ c. search needs)
-    (λ c. search needs)
+    (λ c κs. search needs)
     (λ c κs. search needs)
     (λ c κs. search needs)
     (λ c. search needs)
@@ -32,9 +31,10 @@ begin-spec =
     (λ c.
     let h = c .before .before .before .before .before .before in
     let v = h .before .before .before .before in
-    let g = v .before .before in
+    let b = v .before in
+    let g = b .before in
     let f = g .before .before in
     let e = f .before .before .before .before in
     let a = e .before .before .before .before .before .args in
     begin-goes _ (a .stream .now) (e .if1 .left) (f .first-stop .ensures) (sym (g .before .goes-on .ensures) ∙ not-false _ (g .if2 .left))
-    (v .settings-of .ensures) (h .fresh .ensures .left)))
+    (v .settings-of .ensures ∙ ap settingsOf (b .body-at .ensures .bytes)) (h .fresh .ensures .left)))

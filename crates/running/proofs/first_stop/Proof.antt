@@ -1,8 +1,9 @@
--- The checks in order.
-use mathlib.Core.Path.{sym, _∙_}
+-- The head, then the checks behind it.
+use mathlib.Core.Path.{sym, ap, _∙_}
 use borrow.Author.Needs.{needs}
-use borrow.Author.Tests.{not-false}
-use Rattle.running.proofs.First.{first-unknown, first-cut, first-other, first-out, first-length, first-goes}
+use borrow.Author.Tests.{not-true, not-false}
+use Rattle.model.specs.Runner.{settingsOf}
+use Rattle.running.proofs.First.{first-stopped, first-other, first-settings}
 use Rattle.running.proofs.first_stop.Statement.{statement}
 use Rattle.running.proofs.first_stop.Tie as tie
 
@@ -12,47 +13,29 @@ first-stop-spec =
     (tie.spec
     (λ c. search needs)
     (λ c κs. search needs)
-    (λ c. search needs)
-    (λ c κs. search needs)
-    (λ c.
-    let k = c .before in
-    let a = k .before .before .before .before .before .before .before .args in
-    first-unknown (a .stream .now) _ (k .is-command .ensures) (k .before .length-of .ensures) (c .if1 .taken))
-    (λ c. search needs)
-    (λ c.
-    let k = c .before .before in
-    let a = k .before .before .before .before .before .before .before .args in
-    first-cut (a .stream .now) _ (k .is-command .ensures) (k .before .length-of .ensures) (c .before .if1 .left) (c .if2 .taken))
-    (λ c.
-    let k = c .before .before .before in
-    let a = k .before .before .before .before .before .before .before .args in
-    first-other (a .stream .now) _ (k .is-command .ensures) (k .before .length-of .ensures) (c .before .before .if1 .left) (c .before .if2 .left) (c .if3 .taken))
-    (λ c. search needs)
-    (λ c. search needs)
-    (λ c. search needs)
     (λ c κs. search needs)
     (λ c κs. search needs)
     (λ c.
-    let v = c .before .before in
-    let g = v .before .before in
-    let k = g .before .before .before in
-    let a = k .before .before .before .before .before .before .before .args in
-    first-out (a .stream .now) _ (k .is-command .ensures) (k .before .length-of .ensures) (g .before .before .if1 .left) (g .before .if2 .left) (g .if3 .left)
-    (v .settings-of .ensures) (c .before .in-range .ensures) (c .if4 .taken))
-    (λ c κs. sym (c .before .in-range .ensures) ∙ not-false _ (c .if4 .left))
+    let h = c .before .before in
+    let r = h .before in
+    let p = r .before .before .before .before .before .before in
+    first-stopped (p .args .stream .now) _ (p .pre) (r .record-at .ensures) (h .head-stop .ensures) (sym (c .before .goes-on .ensures) ∙ not-true _ (c .if1 .taken)))
     (λ c.
-    let r = c .before .before in
-    let v = r .before .before in
-    let g = v .before .before in
-    let k = g .before .before .before in
-    let a = k .before .before .before .before .before .before .before .args in
-    first-length (a .stream .now) _ (k .is-command .ensures) (k .before .length-of .ensures) (g .before .before .if1 .left) (g .before .if2 .left) (g .if3 .left)
-    (v .settings-of .ensures) (r .before .in-range .ensures) (r .if4 .left) (c .before .lengths-fit .ensures) (c .if5 .taken))
+    let i = c .before in
+    let h = i .before .before in
+    let r = h .before in
+    let p = r .before .before .before .before .before .before in
+    first-other (p .args .stream .now) _ (p .pre) (r .record-at .ensures) (h .head-stop .ensures) (sym (i .before .goes-on .ensures) ∙ not-false _ (i .if1 .left)) (c .if2 .taken))
+    (λ c κs. search needs)
+    (λ c κs. search needs)
+    (λ c κs. search needs)
     (λ c.
-    let r = c .before .before in
-    let v = r .before .before in
-    let g = v .before .before in
-    let k = g .before .before .before in
-    let a = k .before .before .before .before .before .before .before .args in
-    first-goes (a .stream .now) _ (k .is-command .ensures) (k .before .length-of .ensures) (g .before .before .if1 .left) (g .before .if2 .left) (g .if3 .left)
-    (v .settings-of .ensures) (r .before .in-range .ensures) (r .if4 .left) (c .before .lengths-fit .ensures) (c .if5 .left)))
+    let v = c .before in
+    let b = v .before in
+    let e = b .before in
+    let i = e .before in
+    let h = i .before .before in
+    let r = h .before in
+    let p = r .before .before .before .before .before .before in
+    first-settings (p .args .stream .now) _ (p .pre) (r .record-at .ensures) (h .head-stop .ensures) (sym (i .before .goes-on .ensures) ∙ not-false _ (i .if1 .left)) (e .if2 .left)
+    (v .settings-of .ensures ∙ ap settingsOf (b .body-at .ensures .bytes)) (c .settings-stop .ensures)))

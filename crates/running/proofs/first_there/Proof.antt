@@ -1,4 +1,4 @@
--- No byte; otherwise the first record's kind and the length of its body.
+-- No byte; otherwise whether the first record is cut short.
 use borrow.Author.Needs.{needs}
 use Rattle.running.proofs.Parts.{there-none, there-some}
 use Rattle.running.proofs.first_there.Statement.{statement}
@@ -11,10 +11,10 @@ first-there-spec =
     (λ c. there-none (c .before .before .args .stream .now) (c .if1 .taken))
     (λ c. search needs)
     (λ c κs. search needs)
-    (λ c. search needs)
     (λ c κs. search needs)
-    (λ c. search needs)
+    (λ c κs. search needs)
     (λ c.
-    let l = c .before in
-    let e = l .before .before in
-    there-some (e .before .before .args .stream .now) (e .if1 .left) (c .is-command .ensures) (l .length-of .ensures)))
+    let h = c .before in
+    let r = h .before in
+    let e = r .before .before in
+    there-some (e .before .before .args .stream .now) (e .if1 .left) (r .record-at .ensures) (h .head-stop .ensures) (c .stop-number .ensures)))

@@ -1,6 +1,8 @@
--- The checks in order.
+-- The head, then the checks behind it.
+use mathlib.Core.Path.{sym, _∙_}
 use borrow.Author.Needs.{needs}
-use Rattle.running.proofs.Checks.{found-unknown, found-stopped, found-settings, found-full, found-goes}
+use borrow.Author.Tests.{not-true, not-false}
+use Rattle.running.proofs.Checks.{found-stopped, found-settings, found-full, found-goes}
 use Rattle.running.proofs.later_stop.Statement.{statement}
 use Rattle.running.proofs.later_stop.Tie as tie
 
@@ -9,25 +11,23 @@ later-stop-spec =
     tie.close
     (tie.spec
     (λ c κs. search needs)
-    (λ c. let a = c .before .before .args in found-unknown (a .room) (a .kind) (a .found) (c .before .is-command .ensures) (c .if1 .taken))
-    (λ c. search needs)
-    (λ c. search needs)
+    (λ c κs. search needs)
     (λ c.
-    let e = c .before in
-    let i = e .before .before in
-    let a = i .before .before .args in
-    found-settings (a .room) (a .kind) (a .found) (i .before .is-command .ensures) (i .if1 .left) _ _ _ _ (e .enum-told .given .1) (c .if2 .taken))
+    let h = c .before .before in
+    let a = h .before .args in
+    found-stopped (a .room) (a .kind) (a .found) (h .head-stop .ensures) (sym (c .before .goes-on .ensures) ∙ not-true _ (c .if1 .taken)))
     (λ c.
-    let e = c .before .before in
-    let i = e .before .before in
-    let a = i .before .before .args in
-    found-full (a .room) (a .kind) (a .found) (i .before .is-command .ensures) (i .if1 .left) _ _ _ _ (e .enum-told .given .1) (c .before .if2 .left) (c .if3 .taken))
+    let i = c .before in
+    let h = i .before .before in
+    let a = h .before .args in
+    found-settings (a .room) (a .kind) (a .found) (h .head-stop .ensures) (sym (i .before .goes-on .ensures) ∙ not-false _ (i .if1 .left)) (c .if2 .taken))
     (λ c.
-    let i = c .before .before .before in
-    let a = i .before .before .args in
-    found-stopped (a .room) (a .kind) (a .found) (i .before .is-command .ensures) (i .if1 .left) _ (c .before .found .given .1))
+    let i = c .before .before in
+    let h = i .before .before in
+    let a = h .before .args in
+    found-full (a .room) (a .kind) (a .found) (h .head-stop .ensures) (sym (i .before .goes-on .ensures) ∙ not-false _ (i .if1 .left)) (c .before .if2 .left) (c .if3 .taken))
     (λ c.
-    let e = c .before .before in
-    let i = e .before .before in
-    let a = i .before .before .args in
-    found-goes (a .room) (a .kind) (a .found) (i .before .is-command .ensures) (i .if1 .left) _ _ _ _ (e .enum-told .given .1) (c .before .if2 .left) (c .if3 .left)))
+    let i = c .before .before in
+    let h = i .before .before in
+    let a = h .before .args in
+    found-goes (a .room) (a .kind) (a .found) (h .head-stop .ensures) (sym (i .before .goes-on .ensures) ∙ not-false _ (i .if1 .left)) (c .before .if2 .left) (c .if3 .left)))

@@ -1,4 +1,4 @@
--- `reader::record_after` meets its contract: a walk of its MIR, by hand. A `Reader` that one call returns lies in a local, which is lent by `&mut` to `skip` for a lifetime of the call within 'a (`Borrow/Within/Token.antt`), and comes back with the number that `skip` left; then it is passed to `peek`.
+-- `reader::place_after` meets its contract: a walk of its MIR, by hand. A `Reader` that one call returns lies in a local, which is lent by `&mut` to `skip` for a lifetime of the call within 'a (`Borrow/Within/Token.antt`), and comes back with the number that `skip` left, which is read.
 -- All that the proof knows of the callees is that they meet their contracts.
 -- Assumes nothing.
 use mathlib.Core.Path.{_≡_, refl, ap, _∙_}
@@ -21,7 +21,8 @@ use contract.Running.{givenOf, tables, tablesOf}
 use types.Kit.{Given, Item, ‵, raw, mean, _⊛_, ⋆, some, later, _$_, _∵_, !, qed, by, move, keep, drop, use1, use2, use3, show, fpick, fpack, split, join, pick, fsplit, fjoin, suffices, frame, await, done}
 use types.SemTy.{Body}
 use types.Tokens.{lft-new}
-use types.Run.{look, init, store, forget, stop, from, load, addr, of-opd, and-then, no-more, assigns, land, returns, enter, alloc1, alloc0, params1, pass1, pass0, free1, free0}
+use types.Part.{whole, sub, look-in}
+use types.Run.{look, init, forget, stop, fld, from, load, addr, of-opd, and-then, no-more, assigns, land, returns, enter, alloc1, alloc0, params1, pass1, pass0, free1, free0}
 use sound.WpLaws.{FmC, fmOf, WpFn-mono}
 use denote.RattleType.{RattleType, owns}
 use denote.Laws.{Is, shows}
@@ -36,7 +37,6 @@ use contract.BorrowLft.{meet-⊑-right}
 use denote.Signature.{plain, namedLft}
 use denote.Slice.{sliceVal, ShrSlice, slice-vals, shr-slice-tells, shr-slice-lawful, shr-slice-copy}
 use denote.Steps.{owned, peeks, heard, nothing}
-use denote.Enum.Laws as EL
 use denote.Struct.Laws as LL
 use denote.Triple.Statement.{Contract, Triple}
 use denote.Triple.Call.{calls-at}
@@ -46,14 +46,10 @@ use denote.Triple.Table.{entered, cited}
 use denote.Triple.Walked.{says, Stays, stay-none, stay-none-slice, walkOf, goes-none, goes-none-slice, Walks, ends-at, walked, walk-meets}
 use denote.Exit.{yes}
 use denote.Triple.Clauses.{ensured, lasts}
-use Rattle.model.specs.Records.{readAt}
 use Rattle.reader.specs.Taken.{behind as behindOf}
 use Rattle.reader.specs.declared.Reader.{Reader}
-use Rattle.model.specs.declared.Record.{Record}
 use Rattle.reader.proofs.Reader as T
 use Rattle.reader.proofs.Reader.Laws as T′
-use Rattle.model.proofs.Record as S
-use Rattle.model.proofs.Record.Laws as S′
 use Rattle.reader.proofs.reader_at as reader-at
 use Rattle.reader.proofs.reader_at.Symbol as new-def
 use Rattle.reader.proofs.reader_at.Symbol.{name as #reader·reader-at}
@@ -62,20 +58,16 @@ use Rattle.reader.proofs.skip as skip
 use Rattle.reader.proofs.skip.Symbol as skip-def
 use Rattle.reader.proofs.skip.Symbol.{name as #reader·skip}
 use Rattle.reader.proofs.skip.Met as skip-thm
-use Rattle.reader.proofs.peek as peek
-use Rattle.reader.proofs.peek.Symbol as peek-def
-use Rattle.reader.proofs.peek.Symbol.{name as #reader·peek}
-use Rattle.reader.proofs.peek.Met as peek-thm
-use Rattle.reader.proofs.record_after.Key.{name as #reader·record-after}
-use Rattle.reader.proofs.record_after as record-after
-use Rattle.reader.proofs.record_after.Statement as stated
-use Rattle.reader.proofs.record_after.Code as code
+use Rattle.reader.proofs.place_after.Key.{name as #reader·place-after}
+use Rattle.reader.proofs.place_after as place-after
+use Rattle.reader.proofs.place_after.Statement as stated
+use Rattle.reader.proofs.place_after.Code as code
 
 -- the struct's type, over the signature's lifetimes
 abbrev B : Lfts 1 → RattleType
 B κs = T.the-row (namedLft 1 0 tt κs)
 
-abbrev stayed : Stays (record-after.ended .signature .params) (record-after.ended .kept)
+abbrev stayed : Stays (place-after.ended .signature .params) (place-after.ended .kept)
 stayed = (stay-none-slice (0 ∷ []) tt (plain (λ _. u8)) yes, (stay-none (λ _. usize) yes, tt))
 
 module _ {M : Type 1} (𝓤 : URA M) (H : Heap 𝓤) (A : Atoms 𝓤) (mem : Memory → SProp 𝓤) (run : Routine → Fun 𝓤) where
@@ -86,16 +78,13 @@ module _ {M : Type 1} (𝓤 : URA M) (H : Heap 𝓤) (A : Atoms 𝓤) (mem : Mem
   abbrev Skip : Contract 𝓤
   Skip = tripleOf 𝓤 H A skip.signature (skip.spec 𝓤 H A mem run)
 
-  abbrev Next : Contract 𝓤
-  Next = tripleOf 𝓤 H A peek.signature (peek.spec 𝓤 H A mem run)
-
 module _ {M : Type 1} (𝓤 : URA M) (H : Heap 𝓤) (A : Atoms 𝓤) (W : Given 𝓤 H A) (mem : Memory → SProp 𝓤) (run : Routine → Fun 𝓤) (κ : Lft) (q : Share) (s : RefT (List ℕ)) (n : ℕ) (ok : n < 2 ^ 64) where
   -- the machine value that s has
   abbrev v : Val
   v = sliceVal (s .ptr) (length (s .now))
 
-  abbrev found : Record
-  found = readAt (now s) (behindOf (now s) n)
+  abbrev place : ℕ
+  place = behindOf (now s) n
 
   -- the struct's type as a local of a body has it
   abbrev αᵉ : NamedLft
@@ -106,7 +95,7 @@ module _ {M : Type 1} (𝓤 : URA M) (H : Heap 𝓤) (A : Atoms 𝓤) (W : Given
   at = (v ∷ [], (vint w64 n ∷ [], tt))
 
   abbrev Post : Val → SProp 𝓤
-  Post = walkOf 𝓤 H A record-after.ended stayed (record-after.clauses 𝓤 H A mem run) .post (((κ, tt), (q, tt), tt, (s, (n, tt)), at), tt)
+  Post = walkOf 𝓤 H A place-after.ended stayed (place-after.clauses 𝓤 H A mem run) .post (((κ, tt), (q, tt), tt, (s, (n, tt)), at), tt)
 
   abbrev Own : Fml
   Own = ShrSlice (named 0) κ u8 .own s (v ∷ [])
@@ -115,7 +104,7 @@ module _ {M : Type 1} (𝓤 : URA M) (H : Heap 𝓤) (A : Atoms 𝓤) (W : Given
   abbrev to-new : New 𝓤 H A mem run .Ghost
   to-new = (((κ, tt), (q, tt), tt, (s, (n, tt)), at), tt)
 
-  goes-new : ent 𝓤 (onEntry 𝓤 H A record-after.signature (κ, tt) (q, tt) (s, (n, tt)) at) (sep 𝓤 (New 𝓤 H A mem run .pre to-new) (sem 𝓤 H A Own))
+  goes-new : ent 𝓤 (onEntry 𝓤 H A place-after.signature (κ, tt) (q, tt) (s, (n, tt)) at) (sep 𝓤 (New 𝓤 H A mem run .pre to-new) (sem 𝓤 H A Own))
   goes-new =
       qed W ((‵ (flft κ q) ⊛ ‵ ftrue) ∷ ‵ (owns (ShrSlice (named 0) κ u8 ∷ usize ∷ []) (s, (n, tt)) at) ∷ []) ∵
       move ! (1 ∷ []) $ fsplit ! $ use1 W (‵ Own ⊛ ‵ Own) (shr-slice-copy 𝓤 H A W (named 0) κ u8 .twice s (v ∷ [])) $ split ! $
@@ -154,26 +143,16 @@ module _ {M : Type 1} (𝓤 : URA M) (H : Heap 𝓤) (A : Atoms 𝓤) (W : Given
   lies-out r l =
       qed W (‵ (memOf B₂ .lies r l 0) ∷ []) ∵ fpick ! (λ vs. fsplit ! $ show ! (λ (us : List Val). sep 𝓤 (sem 𝓤 H A (cellAt fullShare (B₂ .mir) us l 0)) (sem 𝓤 H A (B₂ .own r us))) vs $ done !)
 
-  -- the call of `peek`, at the struct r with the machine value u
-  abbrev to-next : Reader → Val → Next 𝓤 H A mem run .Ghost
-  to-next r u = (((κ, tt), (q, tt), tt, (r, tt), (u ∷ [], tt)), tt)
-
-  goes-next : (r : Reader) (u : Val) → ent 𝓤 (⋆ 𝓤 H A (‵ (B (κ, tt) .own r (u ∷ [])) ∷ (‵ (flft κ q) ⊛ ‵ ftrue) ∷ [])) (Next 𝓤 H A mem run .pre (to-next r u))
-  goes-next r u = qed W (‵ (B (κ, tt) .own r (u ∷ [])) ∷ (‵ (flft κ q) ⊛ ‵ ftrue) ∷ []) ∵ nothing ! $ move ! (1 ∷ 0 ∷ []) $ fjoin ! $ move ! (1 ∷ 0 ∷ []) $ join ! $ frame ! $ done !
-
-  next-said : (r : Reader) (t : Record) → ent 𝓤 (ensured 𝓤 H A peek.ended (peek.clauses 𝓤 H A mem run) (κ, tt) (r, tt) tt t) (fact 𝓤 (t ≡ readAt (now (r .stream)) (r .at)))
-  next-said r t = exE 𝓤 _ (λ ws. snd∗ 𝓤 (sem 𝓤 H A (lasts peek.ended (κ, tt) (r, tt) ws)) (fact 𝓤 (t ≡ readAt (now (r .stream)) (r .at))))
-
-  exits : (t : Record) (u : Val) → t ≡ found → ent 𝓤 (⋆ 𝓤 H A (‵ (S.the-row .own t (u ∷ [])) ∷ (‵ (flft κ q) ⊛ ‵ ftrue) ∷ ‵ Own ∷ [])) (Post u)
-  exits t u e =
-      qed W (‵ (S.the-row .own t (u ∷ [])) ∷ (‵ (flft κ q) ⊛ ‵ ftrue) ∷ ‵ Own ∷ []) ∵
-      suffices ! _ (ends-at 𝓤 H A record-after.ended stayed (record-after.clauses 𝓤 H A mem run) W (((κ, tt), (q, tt), tt, (s, (n, tt)), at), tt) u t (tt, (tt, tt)) (tt, (tt, tt))) $ says ! e $
+  exits : (m : ℕ) → m < 2 ^ 64 → m ≡ place → ent 𝓤 (⋆ 𝓤 H A ((‵ (flft κ q) ⊛ ‵ ftrue) ∷ ‵ Own ∷ [])) (Post (vint w64 m))
+  exits m fits e =
+      qed W ((‵ (flft κ q) ⊛ ‵ ftrue) ∷ ‵ Own ∷ []) ∵ owned ! usize (Is usize) (uint-makes 𝓤 H A W w64) m _ (refl, fits) $
+      suffices ! _ (ends-at 𝓤 H A place-after.ended stayed (place-after.clauses 𝓤 H A mem run) W (((κ, tt), (q, tt), tt, (s, (n, tt)), at), tt) (vint w64 m) m (tt, (tt, tt)) (tt, (tt, tt))) $ says ! e $
       move ! (1 ∷ []) $ frame ! $ nothing ! $ owned ! usize (Is usize) (uint-makes 𝓤 H A W w64) n _ (refl, ok) $ fjoin ! $ move ! (2 ∷ 0 ∷ []) $ fjoin ! $ frame ! $ done !
 
-  module _ (C : Calls 𝓤 H) (Λ : Loops 𝓤 H) (fm : FmC 𝓤 H (W .laws) C) (known-new : Triple 𝓤 (C #reader·reader-at) (New 𝓤 H A mem run)) (known-skip : Triple 𝓤 (C #reader·skip) (Skip 𝓤 H A mem run)) (known-next : Triple 𝓤 (C #reader·peek) (Next 𝓤 H A mem run)) where
-    walk : Is (ShrSlice (named 0) κ u8) s (v ∷ []) → ent 𝓤 (onEntry 𝓤 H A record-after.signature (κ, tt) (q, tt) (s, (n, tt)) at) (WpFn 𝓤 H C Λ code.function (v ∷ vint w64 n ∷ []) Post)
+  module _ (C : Calls 𝓤 H) (Λ : Loops 𝓤 H) (fm : FmC 𝓤 H (W .laws) C) (known-new : Triple 𝓤 (C #reader·reader-at) (New 𝓤 H A mem run)) (known-skip : Triple 𝓤 (C #reader·skip) (Skip 𝓤 H A mem run)) where
+    walk : Is (ShrSlice (named 0) κ u8) s (v ∷ []) → ent 𝓤 (onEntry 𝓤 H A place-after.signature (κ, tt) (q, tt) (s, (n, tt)) at) (WpFn 𝓤 H C Λ code.function (v ∷ vint w64 n ∷ []) Post)
     walk p₀ =
-        qed W (raw (onEntry 𝓤 H A record-after.signature (κ, tt) (q, tt) (s, (n, tt)) at) ∷ []) ∵ enter ! C Λ code.function (v ∷ vint w64 n ∷ []) _ $
+        qed W (raw (onEntry 𝓤 H A place-after.signature (κ, tt) (q, tt) (s, (n, tt)) at) ∷ []) ∵ enter ! C Λ code.function (v ∷ vint w64 n ∷ []) _ $
         alloc1 ! (λ l₀. alloc1 ! (λ l₁. alloc1 ! (λ l₂. alloc1 ! (λ l₃. alloc1 ! (λ l₄. alloc1 ! (λ l₅. alloc1 ! (λ l₆. alloc0 ! $ params1 ! $ pass1 ! (init ! 10 refl (shr-slice-lawful 𝓤 H A W (named 0) κ u8 .typed s (v ∷ []) p₀ .0)) $ pass1 ! (init ! 8 refl (tt, record { fits = ok })) $ pass0 ! $
         move ! (14 ∷ []) $ use1 W (raw (New 𝓤 H A mem run .pre to-new) ⊛ ‵ Own) goes-new $ split ! $
         calls-at ! fm (New 𝓤 H A mem run) known-new to-new (and-then ! (load ! (from ! (stop !)) (look ! 12 refl)) (and-then ! (load ! (from ! (stop !)) (look ! 10 refl)) (no-more !))) (λ u.
@@ -215,37 +194,28 @@ module _ {M : Type 1} (𝓤 : URA M) (H : Heap 𝓤) (A : Atoms 𝓤) (W : Given
         -- [the token; _3; what the struct owns; ftrue; what s owns; _6; …; _5; …; _4; …; …of _3; _2; …; _1; …; room for _0; …]
         move ! (2 ∷ []) $ peeks ! B₂ (Is B₂) (shows 𝓤 H A B₂) (z .0) (T′.lowered (z .0) ∷ []) (λ is₂.
         -- [what the struct owns; the token; _3; ftrue; what s owns; _6; …; _5; …; _4; …; …of _3; _2; …; _1; …; room for _0; …]
-        assigns ! (of-opd ! (load ! (from ! (stop !)) (look ! 2 refl))) (from ! (stop !)) (store ! 9 refl (LL.lawful (T.the-type αᵉ) (T′.the-laws αᵉ) 𝓤 H A W .typed (z .0) _ is₂ .0)) $
-        use2 W (raw (Next 𝓤 H A mem run .pre (to-next (z .0) (T′.lowered (z .0))))) (goes-next (z .0) (T′.lowered (z .0))) $
-        -- [what `peek` asks; _3; ftrue; what s owns; _6; …; _5; …; _4; …; …of _3; _2; …; _1; …; room for _0; …]
-        calls-at ! fm (Next 𝓤 H A mem run) known-next (to-next (z .0) (T′.lowered (z .0))) (and-then ! (load ! (from ! (stop !)) (look ! 8 refl)) (no-more !)) (λ u₃.
-        use1 W (later (some (λ (t : Record). ((‵ (flft κ q) ⊛ ‵ ftrue) ⊛ ‵ (S.the-row .own t (u₃ ∷ []))) ⊛ raw (ensured 𝓤 H A peek.ended (peek.clauses 𝓤 H A mem run) (κ, tt) (z .0, tt) tt t)))) (id⊢ 𝓤 _) $ await ! tt $ pick ! (λ t.
-        split ! $ move ! (1 ∷ []) $ use1 W (raw (fact 𝓤 (t ≡ readAt (now (z .0 .stream)) (z .0 .at)))) (next-said (z .0) t) $ heard ! (t ≡ readAt (now (z .0 .stream)) (z .0 .at)) (λ e₃. split ! $ move ! (1 ∷ []) $
-        -- [the result; the token; _3; ftrue; what s owns; _6 (5); …; _5 (7); …; _4 (9); …; …of _3 (11); _2 (12); …; _1 (14); …; room for _0 (16); …]
-        peeks ! S.the-row (Is S.the-row) (shows 𝓤 H A S.the-row) t (u₃ ∷ []) (λ is₃.
-        land ! (from ! (stop !)) (init ! 16 refl (EL.lawful S.the-type S′.the-laws 𝓤 H A W tt .typed t _ is₃ .0)) $
+        assigns ! (of-opd ! (load ! (from ! (fld ! refl (stop !))) (look-in ! 2 (sub ! 1 refl (whole !))))) (from ! (stop !)) (init ! 16 refl (tt, LL.lawful (T.the-type αᵉ) (T′.the-laws αᵉ) 𝓤 H A W .typed (z .0) _ is₂ .0 .1 .1 .0)) $
         returns ! (look ! 16 refl) $ forget ! 2 refl $ forget ! 5 refl $ forget ! 7 refl $ forget ! 9 refl $ forget ! 12 refl $ forget ! 14 refl $ forget ! 16 refl $
         move ! (16 ∷ 17 ∷ []) $ free1 ! $ move ! (14 ∷ 15 ∷ []) $ free1 ! $ move ! (12 ∷ 13 ∷ []) $ free1 ! $ move ! (2 ∷ 11 ∷ []) $ free1 ! $ move ! (8 ∷ 9 ∷ []) $ free1 ! $ move ! (6 ∷ 7 ∷ []) $ free1 ! $ move ! (4 ∷ 5 ∷ []) $ free1 ! $ free0 ! $
-        keep ! (0 ∷ 1 ∷ 3 ∷ []) $ by ! (exits t u₃ (e₃ ∙ ap (λ (x : RefT (List ℕ)). readAt (now x) (z .0 .at)) (e₂ .0 ∙ e .0) ∙ ap (readAt (now s)) (e₂ .1 ∙ ap (λ (x : RefT (List ℕ)). behindOf (now x) (r .at)) (e .0) ∙ ap (behindOf (now s)) (e .1))))))))))))))))))))))))))))
+        keep ! (1 ∷ 3 ∷ []) $ by ! (exits (z .0 .at) (LL.lawful (T.the-type αᵉ) (T′.the-laws αᵉ) 𝓤 H A W .typed (z .0) _ is₂ .0 .1 .1 .0 .fits) (e₂ .1 ∙ ap (λ (x : RefT (List ℕ)). behindOf (now x) (r .at)) (e .0) ∙ ap (behindOf (now s)) (e .1)))))))))))))))))))))))
 
 module _ {M : Type 1} (𝓤 : URA M) (H : Heap 𝓤) (A : Atoms 𝓤) (W : Given 𝓤 H A) (mem : Memory → SProp 𝓤) (run : Routine → Fun 𝓤) where
-  record-after-walks : (C : Calls 𝓤 H) (Λ : Loops 𝓤 H) → FmC 𝓤 H (W .laws) C → Triple 𝓤 (C #reader·reader-at) (New 𝓤 H A mem run) → Triple 𝓤 (C #reader·skip) (Skip 𝓤 H A mem run) → Triple 𝓤 (C #reader·peek) (Next 𝓤 H A mem run)
-      → Walks 𝓤 H A record-after.ended stayed (WpFn 𝓤 H C Λ code.function) (record-after.clauses 𝓤 H A mem run)
-  record-after-walks C Λ fm known-new known-skip known-next = walked 𝓤 H A record-after.ended stayed (record-after.clauses 𝓤 H A mem run) (WpFn 𝓤 H C Λ code.function) (λ κs. (slice-vals, (uint-vals w64, tt))) (λ κs. (shr-slice-tells (named 0) (κs .0) u8, (uint-tells w64, tt)))
-      (λ κs qs bounds a g are. via 𝓤 _ (fst∗ 𝓤 _ (emp 𝓤)) (walk 𝓤 H A W mem run (κs .0) (qs .0) (a .0) (a .1 .0) (are .1 .0 .1) C Λ fm known-new known-skip known-next (are .0)))
+  place-after-walks : (C : Calls 𝓤 H) (Λ : Loops 𝓤 H) → FmC 𝓤 H (W .laws) C → Triple 𝓤 (C #reader·reader-at) (New 𝓤 H A mem run) → Triple 𝓤 (C #reader·skip) (Skip 𝓤 H A mem run)
+      → Walks 𝓤 H A place-after.ended stayed (WpFn 𝓤 H C Λ code.function) (place-after.clauses 𝓤 H A mem run)
+  place-after-walks C Λ fm known-new known-skip = walked 𝓤 H A place-after.ended stayed (place-after.clauses 𝓤 H A mem run) (WpFn 𝓤 H C Λ code.function) (λ κs. (slice-vals, (uint-vals w64, tt))) (λ κs. (shr-slice-tells (named 0) (κs .0) u8, (uint-tells w64, tt)))
+      (λ κs qs bounds a g are. via 𝓤 _ (fst∗ 𝓤 _ (emp 𝓤)) (walk 𝓤 H A W mem run (κs .0) (qs .0) (a .0) (a .1 .0) (are .1 .0 .1) C Λ fm known-new known-skip (are .0)))
 
-record-after-meets : {M : Type 1} (𝓤 : URA M) (H : Heap 𝓤) (A : Atoms 𝓤) (W : Given 𝓤 H A) (mem : Memory → SProp 𝓤) (run : Routine → Fun 𝓤) (𝓣 : Tables 𝓤 H)
-    → Triple 𝓤 (𝓣 .C #reader·reader-at) (New 𝓤 H A mem run) → Triple 𝓤 (𝓣 .C #reader·skip) (Skip 𝓤 H A mem run) → Triple 𝓤 (𝓣 .C #reader·peek) (Next 𝓤 H A mem run)
-    → Meets 𝓤 H A record-after.signature (WpFn 𝓤 H (𝓣 .C) (𝓣 .Λ) code.function) (record-after.spec 𝓤 H A mem run)
-record-after-meets 𝓤 H A W mem run 𝓣 known-new known-skip known-next = walk-meets 𝓤 H A record-after.ended stayed W (goes-none-slice 𝓤 H A W 1 (0 ∷ []) tt (plain (λ _. u8)) yes, (goes-none 𝓤 H A W 1 (λ _. usize) yes (λ κs x f. refl), tt)) (record-after.clauses 𝓤 H A mem run) (WpFn 𝓤 H (𝓣 .C) (𝓣 .Λ) code.function) (WpFn-mono 𝓤 H (W .laws) 𝓣 code.function)
-    (record-after-walks 𝓤 H A W mem run (𝓣 .C) (𝓣 .Λ) (fmOf 𝓤 H (W .laws) 𝓣) known-new known-skip known-next)
+place-after-meets : {M : Type 1} (𝓤 : URA M) (H : Heap 𝓤) (A : Atoms 𝓤) (W : Given 𝓤 H A) (mem : Memory → SProp 𝓤) (run : Routine → Fun 𝓤) (𝓣 : Tables 𝓤 H)
+    → Triple 𝓤 (𝓣 .C #reader·reader-at) (New 𝓤 H A mem run) → Triple 𝓤 (𝓣 .C #reader·skip) (Skip 𝓤 H A mem run)
+    → Meets 𝓤 H A place-after.signature (WpFn 𝓤 H (𝓣 .C) (𝓣 .Λ) code.function) (place-after.spec 𝓤 H A mem run)
+place-after-meets 𝓤 H A W mem run 𝓣 known-new known-skip = walk-meets 𝓤 H A place-after.ended stayed W (goes-none-slice 𝓤 H A W 1 (0 ∷ []) tt (plain (λ _. u8)) yes, (goes-none 𝓤 H A W 1 (λ _. usize) yes (λ κs x f. refl), tt)) (place-after.clauses 𝓤 H A mem run) (WpFn 𝓤 H (𝓣 .C) (𝓣 .Λ) code.function) (WpFn-mono 𝓤 H (W .laws) 𝓣 code.function)
+    (place-after-walks 𝓤 H A W mem run (𝓣 .C) (𝓣 .Λ) (fmOf 𝓤 H (W .laws) 𝓣) known-new known-skip)
 
-pub record-after-spec : {M : Type 1} → stated.statement M
+pub place-after-spec : {M : Type 1} → stated.statement M
 unfolding code.routine tablesOf
-record-after-spec 𝓤 H 𝓜 𝓖 𝓡 =
-    entered 𝓤 H (tripleOf 𝓤 H (𝓖 .A) record-after.signature (record-after.spec 𝓤 H (𝓖 .A) (𝓜 .mem) (𝓡 .run)))
-    (tables 𝓤 H 𝓜 𝓡 code.env .C) (tables 𝓤 H 𝓜 𝓡 code.env .Λ) #reader·record-after code.function (code.unfolded 𝓤 H 𝓜 𝓡)
-    (record-after-meets 𝓤 H (𝓖 .A) (givenOf 𝓤 H 𝓜 𝓖) (𝓜 .mem) (𝓡 .run) (tablesOf 𝓤 H 𝓜 (tables 𝓤 H 𝓜 𝓡 code.env))
+place-after-spec 𝓤 H 𝓜 𝓖 𝓡 =
+    entered 𝓤 H (tripleOf 𝓤 H (𝓖 .A) place-after.signature (place-after.spec 𝓤 H (𝓖 .A) (𝓜 .mem) (𝓡 .run)))
+    (tables 𝓤 H 𝓜 𝓡 code.env .C) (tables 𝓤 H 𝓜 𝓡 code.env .Λ) #reader·place-after code.function (code.unfolded 𝓤 H 𝓜 𝓡)
+    (place-after-meets 𝓤 H (𝓖 .A) (givenOf 𝓤 H 𝓜 𝓖) (𝓜 .mem) (𝓡 .run) (tablesOf 𝓤 H 𝓜 (tables 𝓤 H 𝓜 𝓡 code.env))
     (cited 𝓤 H (New 𝓤 H (𝓖 .A) (𝓜 .mem) (𝓡 .run)) 𝓜 𝓡 code.env #reader·reader-at new-def.routine code.calls-reader·reader-at (new-thm.met 𝓤 H 𝓜 𝓖 𝓡))
-    (cited 𝓤 H (Skip 𝓤 H (𝓖 .A) (𝓜 .mem) (𝓡 .run)) 𝓜 𝓡 code.env #reader·skip skip-def.routine code.calls-reader·skip (skip-thm.met 𝓤 H 𝓜 𝓖 𝓡))
-    (cited 𝓤 H (Next 𝓤 H (𝓖 .A) (𝓜 .mem) (𝓡 .run)) 𝓜 𝓡 code.env #reader·peek peek-def.routine code.calls-reader·peek (peek-thm.met 𝓤 H 𝓜 𝓖 𝓡)))
+    (cited 𝓤 H (Skip 𝓤 H (𝓖 .A) (𝓜 .mem) (𝓡 .run)) 𝓜 𝓡 code.env #reader·skip skip-def.routine code.calls-reader·skip (skip-thm.met 𝓤 H 𝓜 𝓖 𝓡)))

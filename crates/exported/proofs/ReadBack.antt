@@ -1,0 +1,75 @@
+-- What an exported function writes reads back: the records in the bytes written are the events of the definition, in order. Of calls on slices
+-- of 32-bit words; of runs of any bytes.
+use Prim.Native.Nat.{ℕ, _≤_}
+use mathlib.Core.Path.{_≡_, refl, ap, _∙_}
+use mathlib.Core.Bool.{true}
+use mathlib.Core.List.{List, [], _∷_, _++_}
+use borrow.Author.Tests.{le-leb, eq-eqb}
+use lib.ListN.{length, take, drop, getD}
+use Rattle.model.specs.Range.{inRange}
+use Rattle.model.specs.Tables.{Tables, Outcome, eventsOf}
+use Rattle.model.specs.Lent.{Lent}
+use Rattle.model.specs.Sound.{sound}
+use Rattle.model.specs.Calls.{call, accessCall, sendCall, fillCall, tickCall}
+use Rattle.model.specs.Records.{logBytes, eventsIn, parsed}
+use Rattle.model.specs.Runner.{Result, run, resume, Runs}
+use Rattle.model.specs.declared.Settings.{Settings}
+use Rattle.model.specs.declared.Access.{Access}
+use Rattle.model.specs.declared.Ran.{Ran}
+use Rattle.model.proofs.RunSound.{bytes}
+use Rattle.model.proofs.Decoded.{Small}
+use Rattle.records.specs.Fitting.{AllFitting, stamped}
+use Rattle.records.proofs.RoundTrip.{log-written}
+use Rattle.records.proofs.Fits.{access-fits, send-fits, fill-fits, tick-fits, call-fits}
+use Rattle.runner.specs.Told.{runTold, resumeTold}
+use Rattle.runner.proofs.ReadBack.{run-reads-back, resume-reads-back}
+use Rattle.exported.specs.Exported.{Called, RunCalled}
+
+-- ---- a call, with the room
+
+module _ (S : Settings) (L : Lent) (small : Small L) {e : List ℕ} {r : ℕ} {f : List ℕ} {M : Lent} (room : 64 ≤ length e) where
+  reads-back : (step : Tables → Outcome Tables) → ((t : Tables) → inRange S ≡ true → sound S t ≡ true → stamped t ≡ true → AllFitting (eventsOf (step t)))
+      → Called (call S step L) L e r f M → eventsIn (take r f) ≡ parsed (eventsOf (call S step L))
+  reads-back step fits c =
+      let es = eventsOf (call S step L) in
+      let b = le-leb 64 (length e) room in
+      let n : r ≡ length (logBytes es) = c .written ∙ (rw b) in
+      let g : f ≡ logBytes es ++ drop (length (logBytes es)) e = c .events ∙ (rw b) in
+      rw (n, g) (log-written es (drop (length (logBytes es)) e) (call-fits S step L small fits))
+
+  pub access-reads-back : (x : Access) → Called (accessCall S x L) L e r f M → eventsIn (take r f) ≡ parsed (eventsOf (accessCall S x L))
+  access-reads-back x = reads-back _ (λ t range ok few. access-fits S x t range ok)
+
+  pub send-reads-back : Called (sendCall S L) L e r f M → eventsIn (take r f) ≡ parsed (eventsOf (sendCall S L))
+  send-reads-back = reads-back _ (λ t range ok few. send-fits S t ok)
+
+  pub fill-reads-back : (a : ℕ) → Called (fillCall S a L) L e r f M → eventsIn (take r f) ≡ parsed (eventsOf (fillCall S a L))
+  fill-reads-back a = reads-back _ (λ t range ok few. fill-fits S a t ok few)
+
+  pub tick-reads-back : (c : ℕ) → Called (tickCall S c L) L e r f M → eventsIn (take r f) ≡ parsed (eventsOf (tickCall S c L))
+  tick-reads-back c = reads-back _ (λ t range ok few. tick-fits c t)
+
+-- ---- a run, with its two counts: the second is the bytes written
+
+module _ (o : Result Lent) {L : Lent} {e k : List ℕ} {r : ℕ} {f j : List ℕ} {M : Lent} (two : length k ≡ 2) (c : RunCalled o L e k r f j M) where
+  abbrev ran : Ran
+  ran = record { stop = o .stop; consumed = o .consumed; written = length (o .events) }
+
+  runs : Runs o e ran f M
+  runs =
+      let q = eq-eqb (length k) 2 two in
+      record { stop = refl; consumed = refl; written = refl; events = c .events ∙ (rw q); tables = c .left ∙ (rw q) }
+
+  counted : getD j 1 0 ≡ length (o .events)
+  counted =
+      let q = eq-eqb (length k) 2 two in
+      let e : j ≡ o .consumed ∷ length (o .events) ∷ [] = c .counts ∙ (rw q) in
+      ap (λ (l : List ℕ). getD l 1 0) e
+
+module _ (s : List ℕ) (L : Lent) (given : bytes s ≡ true) {e k : List ℕ} {r : ℕ} {f j : List ℕ} {M : Lent} (two : length k ≡ 2) where
+  pub run-called-back : RunCalled (run (length e) s L) L e k r f j M → eventsIn (take (getD j 1 0) f) ≡ parsed (runTold (length e) s L)
+  run-called-back c = let o = run (length e) s L in rw (counted o two c) (run-reads-back s L given (runs o two c))
+
+  pub resume-called-back : (S : Settings) → Small L → RunCalled (resume S (length e) s L) L e k r f j M
+      → eventsIn (take (getD j 1 0) f) ≡ parsed (resumeTold S (length e) s L)
+  resume-called-back S small c = let o = resume S (length e) s L in rw (counted o two c) (resume-reads-back S s L small given (runs o two c))

@@ -1,0 +1,2 @@
+-- The events that a run tells.
+pub mod Told
