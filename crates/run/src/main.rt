@@ -13,7 +13,8 @@ ghost use Prim.Native.Nat.{_≤_};
 ghost use lib.ListN.{length, take};
 ghost use Rattle.model.specs.Lent.{lent};
 ghost use Rattle.running.specs.Lengths.{lengthsFor, Long};
-ghost use Rattle.streaming.specs.Works.{Sure};
+ghost use Rattle.streaming.specs.First.{Opened};
+ghost use Rattle.streaming.specs.Wholes.{Whole, WholeRun};
 
 // The first record, then the rest, on slices as long as the stream's settings ask.
 fn run_all(
@@ -24,9 +25,11 @@ fn run_all(
     marks: &mut [u8],
     w: Work,
 ) -> Work
-    requires { ⌜ w .have ≤ length (now buf) ⌝ }
+    requires { ⌜ Opened (now buf) w ⌝ }
+    requires { ⌜ 64 ≤ length (now buf) ⌝ }
     requires { ⌜ Long (lent (now longs) (now words) (now marks)) (lengthsFor (take (w .have) (now buf))) ⌝ }
-    ensures { λ r. ⌜ Sure (r .next) (r .stop) ⌝ }
+    ensures { λ r. ⌜ Whole (lent (now (longs .entry)) (now (words .entry)) (now (marks .entry))) (take (w .have) (now (buf .entry))) w r
+        (lent (now (longs .exit)) (now (words .exit)) (now (marks .exit))) ⌝ }
 {
     match parts::start(buf, longs, words, marks, w) {
         Started::Stops(stopped) => stopped,
@@ -45,8 +48,9 @@ fn run_all(
 
 // Lends what the stream's own settings ask for, so that stop 2 never comes.
 fn run_stream(fd: i32, buf: &mut [u8], w: Work) -> Work
-    requires { ⌜ w .have ≤ length (now buf) ⌝ }
-    ensures { λ r. ⌜ Sure (r .next) (r .stop) ⌝ }
+    requires { ⌜ Opened (now buf) w ⌝ }
+    requires { ⌜ 64 ≤ length (now buf) ⌝ }
+    ensures { λ r. ⌜ WholeRun (take (w .have) (now (buf .entry))) w r ⌝ }
 {
     let n = running::lengths_for(text::front(buf, w.have));
     let mut longs = rooms::longs_room();

@@ -1,38 +1,114 @@
--- The walk to the last record: a step more, and its ends.
-use mathlib.Core.Path.{_≡_, refl, ap, _∙_}
-use mathlib.Core.List.{List}
-use Prim.Native.Nat.{ℕ, zero, suc, _-_, _≤_, _<_}
+-- The bytes before the last record: the walk to it, and what stands there.
+use mathlib.Core.Path.{_≡_, sym, ap, _∙_}
+use mathlib.Core.Bool.{true, false, not}
+use mathlib.Core.List.{List, [], _∷_}
+use Prim.Native.Nat.{ℕ, zero, suc, _+_, _-_, _≤_, _<_}
+use native.Mathlib.Nat.{le-of-suc-le-suc, zero-add}
 use native.Mathlib.Omega.{arith}
-use borrow.Author.Tests.{lt-ltb, le-ltb}
-use lib.ListN.{length}
-use Rattle.model.proofs.Flags.{and-no}
-use Rattle.streaming.specs.Scopes.{behindAt, lastFrom, lastStart}
+use borrow.Author.Tests.{not-true, not-false, lt-ltb, le-ltb, ltb-true, ltb-false}
+use lib.Dec.{ltb}
+use lib.ListN.{length, drop, getD, length-drop}
+use lib.Seq.{drop-cons, drop-drop, drop-length}
+use Rattle.model.proofs.Flags.{by-flag}
+use Rattle.model.specs.Records.{isCommand, lengthOf}
+use Rattle.streaming.specs.Scopes.{beforeLast}
+use Rattle.streaming.specs.Halts.{Alone}
 
-module _ (s : List ℕ) (at : ℕ) {next : ℕ} (is : next ≡ behindAt s at) where
-  pub last-goes : (n : ℕ) → 0 < n → at < next → next < length s → lastFrom n s at ≡ lastFrom (n - 1) s next
-  unfolding lastFrom
-  last-goes zero h k l = absurd (omega arith)
-  last-goes (suc n) h k l =
-      let e : suc n - 1 ≡ n = omega arith in
-      rw (← is, lt-ltb at next k, lt-ltb next (length s) l, e)
+-- ---- the walk
 
-  -- no whole record
-  pub last-cut : (n : ℕ) → next ≤ at → lastFrom n s at ≡ at
-  unfolding lastFrom
-  last-cut zero h = refl
-  last-cut (suc n) h = rw (← is, le-ltb at next h)
+pub last-skips : (n : ℕ) (s : List ℕ) → n ≤ length s → beforeLast n s ≡ n + beforeLast 0 (drop n s)
+unfolding beforeLast
+last-skips zero s h = sym (zero-add _)
+last-skips (suc n) [] h = absurd (omega arith)
+last-skips (suc n) (b ∷ s) h = let e = last-skips n s (le-of-suc-le-suc h) in omega arith
 
-  -- nothing behind it
-  pub last-whole : (n : ℕ) → length s ≤ next → lastFrom n s at ≡ at
-  unfolding lastFrom
-  last-whole zero h = refl
-  last-whole (suc n) h = rw (← is, and-no _ _ (le-ltb next (length s) h))
+module _ (k : ℕ) (bs : List ℕ) where
+  kind-unknown : isCommand k ≡ false → beforeLast 0 (k ∷ bs) ≡ 1 + length bs
+  unfolding beforeLast
+  kind-unknown z = rw z (omega arith)
 
-pub last-done : (s : List ℕ) (at n : ℕ) → n ≤ 0 → lastFrom n s at ≡ at
-unfolding lastFrom
-last-done s at zero h = refl
-last-done s at (suc n) h = absurd (omega arith)
+  kind-last : isCommand k ≡ true → length bs ≤ lengthOf k → beforeLast 0 (k ∷ bs) ≡ 0
+  unfolding beforeLast
+  kind-last z h = rw (z, le-ltb (lengthOf k) (length bs) h)
 
-pub last-first : (s : List ℕ) → lastFrom (length s) s 0 ≡ lastStart s
-unfolding lastStart
-last-first s = refl
+  kind-goes : isCommand k ≡ true → lengthOf k < length bs → beforeLast 0 (k ∷ bs) ≡ 1 + lengthOf k + beforeLast 0 (drop (lengthOf k) bs)
+  unfolding beforeLast
+  kind-goes z h = let e = last-skips (lengthOf k) bs (omega arith) in rw (z, lt-ltb (lengthOf k) (length bs) h) (omega arith)
+
+module _ (s : List ℕ) (at : ℕ) (here : at < length s) (inv : at + beforeLast 0 (drop at s) ≡ beforeLast 0 s) where
+  abbrev k : ℕ
+  k = getD s at 0
+
+  abbrev bs : List ℕ
+  bs = drop (suc at) s
+
+  split : drop at s ≡ k ∷ bs
+  split = drop-cons s at 0 here
+
+  long : length bs + (1 + at) ≡ length s
+  long = let e = length-drop (suc at) s in omega arith
+
+  pub walk-unknown : {b : _} → b ≡ isCommand k → not b ≡ true → length s ≡ beforeLast 0 s
+  walk-unknown {b} q z =
+      let e : beforeLast 0 (drop at s) ≡ 1 + length bs = rw split (kind-unknown k bs (sym q ∙ not-true b z)) in
+      let l = long in
+      omega arith
+
+  module _ {b : _} (q : b ≡ isCommand k) (z : not b ≡ false) {n : ℕ} (n-is : n ≡ lengthOf k) where
+    command : isCommand k ≡ true
+    command = sym q ∙ not-false b z
+
+    pub walk-last : length s - at ≤ 1 + n → at ≡ beforeLast 0 s
+    walk-last h =
+        let l = long in
+        let e : beforeLast 0 (drop at s) ≡ 0 = rw split (kind-last k bs command (omega arith)) in
+        omega arith
+
+    pub walk-goes : 1 + n < length s - at → (at + (1 + n)) + beforeLast 0 (drop (at + (1 + n)) s) ≡ beforeLast 0 s
+    walk-goes h =
+        let l = long in
+        let e : beforeLast 0 (drop at s) ≡ 1 + lengthOf k + beforeLast 0 (drop (lengthOf k) bs) = rw split (kind-goes k bs command (omega arith)) in
+        let p : suc at + lengthOf k ≡ at + (1 + n) = omega arith in
+        let d : drop (lengthOf k) bs ≡ drop (at + (1 + n)) s = drop-drop (lengthOf k) (suc at) s ∙ ap (λ (m : ℕ). drop m s) p in
+        let f : beforeLast 0 (drop (lengthOf k) bs) ≡ beforeLast 0 (drop (at + (1 + n)) s) = ap (beforeLast 0) d in
+        omega arith
+
+pub walk-end : (s : List ℕ) (at : ℕ) → at ≤ length s → length s ≤ at → at + beforeLast 0 (drop at s) ≡ beforeLast 0 s → at ≡ beforeLast 0 s
+unfolding beforeLast
+walk-end s at h k inv =
+    let p : at ≡ length s = omega arith in
+    let d : drop at s ≡ [] = rw p (drop-length s) in
+    let e : beforeLast 0 (drop at s) ≡ 0 = rw d in
+    omega arith
+
+-- ---- what stands there
+
+pub last-most : (n : ℕ) (s : List ℕ) → beforeLast n s ≤ length s
+unfolding beforeLast
+last-most n [] = omega arith
+last-most (suc n) (b ∷ s) = let h = last-most n s in omega arith
+last-most zero (k ∷ s) =
+    by-flag Inside (isCommand k) _ _
+    (λ z. by-flag Inside (ltb (lengthOf k) (length s)) _ _ (λ y. let h = last-most (lengthOf k) s in omega arith) (λ y. omega arith))
+    (λ z. omega arith)
+  where
+    Inside : ℕ → Type 0
+    Inside m = m ≤ suc (length s)
+
+pub last-least : (n : ℕ) (s : List ℕ) → n ≤ length s → n ≤ beforeLast n s
+last-least n s h = let e = last-skips n s h in omega arith
+
+pub last-alone : (n : ℕ) (s : List ℕ) → n ≤ length s → Alone (drop (beforeLast n s) s)
+unfolding beforeLast
+last-alone n [] h = tt
+last-alone (suc n) (b ∷ s) h = last-alone n s (le-of-suc-le-suc h)
+last-alone zero (k ∷ s) h =
+    by-flag At (isCommand k) _ _
+    (λ z.
+    by-flag At (ltb (lengthOf k) (length s)) _ _
+    (λ y. let l = ltb-true (lengthOf k) (length s) y in last-alone (lengthOf k) s (omega arith))
+    (λ y. (z, ltb-false (lengthOf k) (length s) y)))
+    (λ z. rw (drop-length s) tt)
+  where
+    At : ℕ → Type 0
+    At m = Alone (drop m (k ∷ s))

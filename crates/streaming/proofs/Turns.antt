@@ -1,79 +1,39 @@
--- What a part leaves, of what the runner and the buffer promise; what a turn keeps.
+-- A turn, of what a part leaves and of what was read; the turns put together.
 use mathlib.Core.Path.{_≡_, refl, sym, ap, subst, _∙_}
-use mathlib.Core.Bool.{true, false, _&&_}
-use mathlib.Core.List.{List, [], _∷_, _++_}
-use Prim.Native.Nat.{ℕ, zero, suc, _+_, _-_, _%_, _^_, _≤_}
-use native.Mathlib.Nat.{zero-add, sub-zero, le-of-suc-le-suc}
+use mathlib.Core.Logic.{⊎-elim}
+use mathlib.Core.Bool.{true, false}
+use mathlib.Core.List.{List, [], _++_, append-nil, append-assoc}
+use Prim.Native.Nat.{ℕ, _+_, _-_, _%_, _^_, _≤_, _<_}
+use native.Mathlib.Nat.{zero-add, sub-zero, add-assoc, mod-lt, mod-eq-of-lt, mod-add-mod}
 use native.Mathlib.Omega.{arith}
-use borrow.Author.Tests.{le-leb, leb-true}
-use lib.Dec.{leb}
-use lib.ListN.{length, take, drop, length-drop, length-append, length-take, take-append-drop}
-use lib.Seq.{length-take-le, take-append-le, take-append-seam}
-use Rattle.model.proofs.Flags.{clash, by-flag, and-2}
+use lib.ListN.{length, take, drop, length-drop, length-append, take-append-drop}
+use lib.Seq.{length-take-le, take-append-le, drop-append-le}
+use Rattle.model.proofs.Flags.{clash}
+use Rattle.model.proofs.Bridge.{is-tables}
 use Rattle.model.specs.Tables.{Tables}
-use Rattle.model.specs.Lent.{Lent, lent}
+use Rattle.model.specs.Lent.{Lent}
 use Rattle.model.specs.Inner.{Is, Held}
-use Rattle.model.specs.Runner.{settingsOf, Result, runFrom}
+use Rattle.model.specs.Runner.{Result, ahead, runFrom}
 use Rattle.model.specs.declared.Settings.{Settings}
 use Rattle.model.specs.declared.Stop.{Stop}
 use Rattle.model.specs.declared.Stop.the-variants as stop
-use Rattle.model.specs.declared.Ran.{Ran as Run}
-use Rattle.running.specs.Resume.{restFrom, Resumes, Stands}
-use Rattle.running.specs.declared.Lengths.{Lengths}
-use Rattle.running.specs.declared.Begun.{Begun}
-use Rattle.running.specs.declared.Begun.the-variants.{Accepted, Stopped}
-use Rattle.running.specs.Begin.{Begins}
-use Rattle.running.specs.Lengths.{lengthsFor, Long, Final}
-use Rattle.running.proofs.First.{begun-held}
-use Rattle.running.proofs.Asked.{Most, asked-most, final, asked-stops, run-fits}
-use Rattle.input.specs.Buffers.{movedDown, carried, carriedCount, Read}
-use Rattle.input.specs.declared.Filled.{Filled}
-use Rattle.input.specs.declared.Filled.the-variants as filled
+use Rattle.running.proofs.Asked.{final, run-fits}
+use Rattle.running.proofs.Parts.{run-resumed}
+use Rattle.input.specs.Buffers.{Grown}
+use Rattle.input.specs.declared.More.{More}
+use Rattle.input.specs.declared.More.the-variants as more
 use Rattle.streaming.specs.declared.work.Next.{Next}
 use Rattle.streaming.specs.declared.work.Next.the-variants as next
 use Rattle.streaming.specs.declared.work.Work.{Work}
 use Rattle.streaming.specs.declared.scope.Scope.{Scope}
 use Rattle.streaming.specs.Scopes.{partEnd}
-use Rattle.streaming.specs.Works.{nextOf, readsNext, startOf, begunOf, stoppedOf, failedOf, behindOf, Sure}
-use Rattle.streaming.specs.Parts.{Ready, Leaves, Ran}
+use Rattle.streaming.specs.Works.{nextOf, readsNext, goesNext, readOf, stoppedOf, failedOf, Sure, Few, turnsOf}
+use Rattle.streaming.specs.Halts.{Before}
+use Rattle.streaming.specs.Parts.{Ready, Leaves, Ran, Goes, Went, Came, Turned}
+use Rattle.streaming.proofs.Stops.{full-eats}
+use Rattle.streaming.proofs.Waiting.{part, ran, part-behind, part-eats, before-part, few-before}
 
--- ---- the rest of a part, at the front of the buffer
-
-take-none : (n : ℕ) → _≡_ {A = List ℕ} (take n []) []
-take-none zero = refl
-take-none (suc n) = refl
-
-drop-front : (c n : ℕ) (l : List ℕ) → c ≤ n → drop c (take n l) ≡ take (n - c) (drop c l)
-drop-front zero n l h = rw sub-zero
-drop-front (suc c) zero l h = absurd (omega arith)
-drop-front (suc c) (suc n) [] h = sym (take-none (suc n - suc c))
-drop-front (suc c) (suc n) (x ∷ l) h =
-    let e : suc n - suc c ≡ n - c = omega arith in
-    rw e (drop-front c n l (le-of-suc-le-suc h))
-
-take-front : (n : ℕ) (x y : List ℕ) → length x ≡ n → take n (x ++ y) ≡ x
-take-front n x y e = rw (← e) (take-append-seam x y)
-
-carried-rest : (l : List ℕ) (c n : ℕ) → c ≤ n → n ≤ length l → take (carriedCount l c n) (carried l c n) ≡ drop c (take n l)
-unfolding carried carriedCount
-carried-rest l c n h k =
-    let x = take (n - c) (drop c l) in
-    let e : length x ≡ n - c = length-take-le (n - c) (drop c l) (omega (arith, length-drop c l)) in
-    let p : take (n - c) (x ++ drop (n - c) l) ≡ x = take-front (n - c) x (drop (n - c) l) e in
-    rw (le-leb c n h, le-leb n (length l) k) (p ∙ sym (drop-front c n l h))
-
-carried-most : (l : List ℕ) (c n : ℕ) → carriedCount l c n ≤ length l
-unfolding carriedCount
-carried-most l c n =
-    by-flag (λ (m : ℕ). m ≤ length l) (leb c n && leb n (length l)) _ _
-    (λ z. let h = leb-true n (length l) (and-2 (leb c n) (leb n (length l)) z) in omega arith)
-    (λ z. omega arith)
-
-carried-inside : (l : List ℕ) (c n : ℕ) → c ≤ n → n ≤ length l → carriedCount l c n ≤ n
-unfolding carriedCount
-carried-inside l c n h k = rw (le-leb c n h, le-leb n (length l) k) (omega arith)
-
--- ---- what comes next may be told
+-- ---- what comes next
 
 next-sure : (s : Stop) → (s ≡ stop.SliceLength → ⊥) → Sure (nextOf s) s
 next-sure stop.Nothing h = final refl
@@ -85,154 +45,306 @@ next-sure stop.NotSound h = final refl
 next-sure stop.OutOfPlace h = final refl
 next-sure stop.UnknownKind h = final refl
 
-pub reads-sure : (n : Next) (s : Stop) → Sure n s → readsNext n ≡ true → Final s
-reads-sure next.Read s h z = h
-reads-sure next.Run s h z = clash z refl
-reads-sure next.Stopped s h z = h
-reads-sure next.Failed s h z = clash z refl
+-- a turn that ran what waited
+fewer-ran : (s : Stop) (have now left c : ℕ) → now + c ≡ have → (s ≡ stop.NoRoom → 0 < c) → turnsOf (nextOf s) now left < turnsOf next.Run have left
+fewer-ran stop.Nothing have now left c e g = omega arith
+fewer-ran stop.CutShort have now left c e g = omega arith
+fewer-ran stop.NoRoom have now left c e g = let h = g refl in omega arith
+fewer-ran stop.SettingOutOfRange have now left c e g = omega arith
+fewer-ran stop.SliceLength have now left c e g = omega arith
+fewer-ran stop.NotSound have now left c e g = omega arith
+fewer-ran stop.OutOfPlace have now left c e g = omega arith
+fewer-ran stop.UnknownKind have now left c e g = omega arith
+
+pub runs-next : (n : Next) → readsNext n ≡ false → goesNext n ≡ true → n ≡ next.Run
+runs-next next.Read a b = clash refl a
+runs-next next.Run a b = refl
+runs-next next.Stopped a b = clash b refl
+runs-next next.Failed a b = clash b refl
+
+pub reads-next : (n : Next) → readsNext n ≡ true → n ≡ next.Read
+reads-next next.Read a = refl
+reads-next next.Run a = clash a refl
+reads-next next.Stopped a = clash a refl
+reads-next next.Failed a = clash a refl
+
+-- ---- the run of a part, with anything behind it
+
+module _ (S : Settings) (room : ℕ) (p : List ℕ) (t : Tables) (k : Scope) where
+  abbrev o : Result Tables
+  o = ran S room p t k
+
+  part-goes : Goes S room t p (o .consumed) (o .events) (o .tables) (drop (o .consumed) p)
+  part-goes b other h =
+      let a = part S room p t k in
+      let x = drop (partEnd k p) p in
+      let e : a ++ (x ++ b) ≡ p ++ b = sym (append-assoc a x b) ∙ ap (λ (l : List ℕ). l ++ b) (part-behind S room p t k) in
+      let i : o .consumed ≤ length p = let c = part-eats S room p t k in let l = ap length (sym (part-behind S room p t k)) ∙ length-append a x in omega arith in
+      let d : drop (0 + o .consumed) (p ++ b) ≡ drop (o .consumed) p ++ b = ap (λ (m : ℕ). drop m (p ++ b)) (zero-add (o .consumed)) ∙ drop-append-le (o .consumed) p b i in
+      let w = run-resumed S 0 room other a (x ++ b) t (omega arith) (omega arith) in
+      (rw (e, d) at w)
+
+-- ---- what a turn leaves where nothing ran
+
+none-written : (n : ℕ) → n < 2 ^ 64 → n ≡ (n + 0) % 2 ^ 64
+none-written n h = let e : n + 0 ≡ n = omega arith in rw e (sym (mod-eq-of-lt h))
+
+module _ (S : Settings) (size : ℕ) where
+  none-goes : (t : Tables) (p : List ℕ) → Goes S size t p 0 [] t p
+  none-goes t p b room h = rw (sub-zero, zero-add)
+
+  module _ {L : Lent} (p : List ℕ) {w r : Work} (small : w .written < 2 ^ 64) (consumed : r .consumed ≡ w .consumed) (written : r .written ≡ w .written)
+      (left : r .left ≡ w .left) where
+    pub none-came : Came S size L p w r p L
+    none-came = record {
+      bytes = [];
+      counted = omega arith;
+      on = λ t i. record {
+        eaten = 0;
+        events = [];
+        tables = t;
+        are = i;
+        consumed = omega arith;
+        written = written ∙ none-written (w .written) small;
+        goes = rw append-nil (none-goes t p);
+      };
+    }
+
+-- ---- one after the other
+
+module _ (S : Settings) (size : ℕ) where
+  goes-then : (t u v : Tables) (s more q z : List ℕ) (m n : ℕ) (x y : List ℕ) → Goes S size t s m x u q → Goes S size u (q ++ more) n y v z
+      → Goes S size t (s ++ more) (m + n) (x ++ y) v z
+  goes-then t u v s more q z m n x y f g b room h =
+      let l : length (x ++ y) ≡ length x + length y = length-append x y in
+      let a = f (more ++ b) room (omega arith) in
+      let c = g b (room - length x) (omega arith) in
+      let d : runFrom S 0 (room - length x) (q ++ (more ++ b)) u ≡ ahead n y (runFrom S 0 (room - length x - length y) (z ++ b) v) =
+      ap (λ (k : List ℕ). runFrom S 0 (room - length x) k u) (sym (append-assoc q more b)) ∙ c in
+      let e : room - length x - length y ≡ room - length (x ++ y) = omega arith in
+      ap (λ (k : List ℕ). runFrom S 0 room k t) (append-assoc s more b)
+      ∙ a
+      ∙ ap (ahead m x) d
+      ∙ rw (add-assoc, append-assoc, e)
+
+  went-then : {t : Tables} {s : List ℕ} {w v r : Work} {q z : List ℕ} {M N : Lent} (a : Went S size t s w v q M) (more : List ℕ) → Went S size (a .tables) (q ++ more) v r z N
+      → Went S size t (s ++ more) w r z N
+  went-then {t} {s} {w} {v} {r} {q} {z} a more b = record {
+    eaten = a .eaten + b .eaten;
+    events = a .events ++ b .events;
+    tables = b .tables;
+    are = b .are;
+    consumed = let x = a .consumed in let y = b .consumed in omega arith;
+    written =
+        b .written
+        ∙ ap (λ (n : ℕ). (n + length (b .events)) % 2 ^ 64) (a .written)
+        ∙ mod-add-mod (w .written + length (a .events)) (2 ^ 64) (length (b .events))
+        ∙ ap (λ (n : ℕ). n % 2 ^ 64) (let l = length-append (a .events) (b .events) in let k : w .written + length (a .events) + length (b .events) ≡ w .written + length (a .events ++ b .events) = omega arith in k);
+    goes = goes-then t (a .tables) (b .tables) s more q z (a .eaten) (b .eaten) (a .events) (b .events) (a .goes) (b .goes);
+  }
+
+  pub came-then : {L M N : Lent} {p q z : List ℕ} {w v r : Work} → Came S size L p w v q M → Came S size M q v r z N → Came S size L p w r z N
+  came-then {L} {M} {N} {p} {q} {z} {w} {v} {r} a b = record {
+    bytes = a .bytes ++ b .bytes;
+    counted = let l = length-append (a .bytes) (b .bytes) in let x = a .counted in let y = b .counted in omega arith;
+    on = λ t i.
+        let x = a .on t i in
+        let y = went-then x (b .bytes) (b .on (x .tables) (x .are)) in
+        subst (λ (s : List ℕ). Went S size t s w r z N) (append-assoc p (a .bytes) (b .bytes)) y;
+  }
+
+-- ---- a part that ran
+
+module _ {S : Settings} {k : Scope} {p e : List ℕ} {L : Lent} {w r : Work} {buf f : List ℕ} {M : Lent} (x : Ran S k p e L w r buf f M)
+    (held : Held S L) (space : 64 ≤ length e) (roomy : 64 ≤ length buf) (long : length p ≡ w .have) (counted : w .consumed + w .have + w .left < 2 ^ 64) where
+  abbrev ranOn : Result Tables
+  ranOn = runFrom S 0 (length e) (take (partEnd k p) p) (held .tables)
+
+  l : Leaves S ranOn p e w r buf f M
+  l = x .on (held .tables) (held .are)
+
+  rest-long : length (drop (ranOn .consumed) p) ≡ r .have
+  rest-long = let d = length-drop (ranOn .consumed) p in let h = l .have in omega arith
+
+  ran-before : Before S k (nextOf (ranOn .stop)) (ranOn .stop) (drop (ranOn .consumed) p) (ranOn .tables)
+  ran-before = before-part S (length e) p (held .tables) k (ranOn .stop) refl
+
+  ran-same : (t : Tables) → Is S M t → ranOn .tables ≡ t
+  ran-same t i = sym (is-tables S M (ranOn .tables) (l .tables)) ∙ is-tables S M t i
+
+  ran-told : (t : Tables) → Is S M t → Before S k (r .next) (r .stop) (take (r .have) buf) t
+  ran-told t i =
+      ⊎-elim
+      (λ (z : r .next ≡ nextOf (ranOn .stop)). rw (z, l .stop, l .rest, ← ran-same t i) ran-before)
+      (λ (z : r .next ≡ next.Failed). rw z tt)
+      (l .next)
+
+  ran-few : Few (r .next) (r .have)
+  ran-few =
+      ⊎-elim
+      (λ (z : r .next ≡ nextOf (ranOn .stop)). rw (z, ← rest-long) (few-before S (drop (ranOn .consumed) p) (ranOn .tables) k (ranOn .stop) ran-before))
+      (λ (z : r .next ≡ next.Failed). rw z tt)
+      (l .next)
+
+  ran-sure : Sure (r .next) (r .stop)
+  ran-sure =
+      ⊎-elim
+      (λ (z : r .next ≡ nextOf (ranOn .stop)). rw (z, l .stop) (next-sure (ranOn .stop) (run-fits S 0 (length e) (take (partEnd k p) p) (held .tables))))
+      (λ (z : r .next ≡ next.Failed). rw z tt)
+      (l .next)
+
+  pub ran-ready : Ready S k M buf r
+  ran-ready = record {
+    held = record { tables = ranOn .tables; are = l .tables };
+    inside = x .inside;
+    roomy = roomy;
+    counted = let a = l .consumed in let b = l .have in let d = l .left in omega arith;
+    small = rw (l .written) (mod-lt (w .written + length (ranOn .events)) (omega arith));
+    sure = ran-sure;
+    few = ran-few;
+    before = ran-told;
+  }
+
+  pub ran-fewer : turnsOf (r .next) (r .have) (r .left) < turnsOf next.Run (w .have) (w .left)
+  ran-fewer =
+      ⊎-elim
+      (λ (z : r .next ≡ nextOf (ranOn .stop)).
+      rw (z, l .left) (fewer-ran (ranOn .stop) (w .have) (r .have) (w .left) (ranOn .consumed) (l .have ∙ long) (full-eats S (length e) (take (partEnd k p) p) (held .tables) space)))
+      (λ (z : r .next ≡ next.Failed). rw z (omega arith))
+      (l .next)
+
+  pub ran-came : Came S (length e) L p w r (take (r .have) buf) M
+  ran-came = record {
+    bytes = [];
+    counted = let d = l .left in omega arith;
+    on = λ t i.
+        let y = x .on t i in
+        let o = ran S (length e) p t k in
+        record {
+          eaten = o .consumed;
+          events = o .events;
+          tables = o .tables;
+          are = y .tables;
+          consumed = y .consumed;
+          written = y .written;
+          goes = rw (append-nil, y .rest) (part-goes S (length e) p t k);
+        };
+  }
+
+  pub ran-turned : w .next ≡ next.Run → Turned S k (length e) L p w r buf M
+  ran-turned q = record { ready = ran-ready; fewer = rw q ran-fewer; came = ran-came }
 
 -- ---- reading
 
-module _ {l l₁ : List ℕ} {have : ℕ} {r : Filled} (b : Read l have r l₁) where
-  pub read-inside : {n : ℕ} → r ≡ filled.To n → n ≤ length l
-  read-inside q = (rw q at (b .reaches)) .1
+module _ {S : Settings} {k : Scope} {L : Lent} {buf b : List ℕ} {w : Work} (y : Ready S k L buf w) (reads : w .next ≡ next.Read) (size : length b ≡ length buf)
+    {g : More} (grown : Grown buf (w .have) (w .left) g b) where
+  -- the buffer is never full there
+  pub never-full : g ≡ more.Full → ⊥
+  never-full q = let h = rw q at (grown .grows) in let f = rw reads at (y .few) in let a = y .roomy in omega arith
 
-  pub read-within : {n : ℕ} → length l₁ ≡ length l → r ≡ filled.To n → n ≤ length l₁
-  read-within k q = let h = read-inside q in omega arith
+  same-front : take (w .have) b ≡ take (w .have) buf
+  same-front = grown .before
 
-pub start-inside : {a b have : ℕ} {n : Next} {v : Work} → v ≡ startOf have n → b ≡ a → have ≤ a → v .have ≤ b
-start-inside e k h = let q = ap (λ (w : Work). w .have) e in omega arith
-
--- ---- a part
-
-front-part : (m n : ℕ) (l : List ℕ) → m ≤ length (take n l) → take m l ≡ take m (take n l)
-front-part m n l h = ap (take m) (sym (take-append-drop n l)) ∙ take-append-le m (take n l) (drop n l) h
-
-module _ {S : Settings} (k : Scope) (buf : List ℕ) (n : ℕ) (inside : n ≤ length buf) {e : List ℕ} {L : Lent} {ran : Run} {f : List ℕ} {M : Lent}
-    {q : List ℕ} (q-is : q ≡ take n buf) {end : ℕ} (end-is : end ≡ partEnd k q) (short : end ≤ length q)
-    {p : List ℕ} (p-is : p ≡ take end buf) (v : Resumes S (restFrom S p 0 0 e) p 0 0 e L ran f M) where
-  abbrev waiting : List ℕ
-  waiting = take n buf
-
-  abbrev part : List ℕ
-  part = take (partEnd k waiting) waiting
-
-  ends : end ≤ length waiting
-  ends = rw (← q-is) short
-
-  part-is : p ≡ part
-  part-is = p-is ∙ front-part end n buf ends ∙ ap (λ (m : ℕ). take m waiting) (end-is ∙ ap (partEnd k) q-is)
-
-  u : Resumes S (restFrom S part 0 0 e) part 0 0 e L ran f M
-  u = subst (λ (x : List ℕ). Resumes S (restFrom S x 0 0 e) x 0 0 e L ran f M) part-is v
-
-  within : ran .consumed ≤ n
-  within =
-      let w = length-take-le n buf inside in
-      let l : length p ≡ end = ap length p-is ∙ length-take-le end buf (let h = ends in omega arith) in
-      let h = v .stands .inside in
-      let g = ends in
-      omega arith
-
-  module _ {b : List ℕ} {have : ℕ} (count : have ≡ carriedCount buf (ran .consumed) n) (moved : b ≡ carried buf (ran .consumed) n) (size : length b ≡ length buf) where
-    left : take have b ≡ drop (ran .consumed) (take n buf)
-    left = rw (count, moved) (carried-rest buf (ran .consumed) n within inside)
-
-    waits : have ≤ length b
-    waits = let h = carried-inside buf (ran .consumed) n within inside in omega arith
-
-    module _ (t : Tables) (i : Is S L t) where
-      stops : ran .stop ≡ runFrom S 0 (length e) part t .stop
-      stops = rw sub-zero at (u .on t i .stop)
-
-      eats : ran .consumed ≡ runFrom S 0 (length e) part t .consumed
-      eats = rw (sub-zero, zero-add) at (u .on t i .consumed)
-
-      writes : ran .written ≡ length (runFrom S 0 (length e) part t .events)
-      writes = rw sub-zero at (u .on t i .written)
-
-    module _ {w x : Work} (have-is : x .have ≡ have) (stop-is : x .stop ≡ ran .stop)
-        (consumed-is : x .consumed ≡ (w .consumed + ran .consumed) % 2 ^ 64) (written-is : x .written ≡ (w .written + ran .written) % 2 ^ 64) where
-      leaves : (t : Tables) → Is S L t → Leaves S (runFrom S 0 (length e) part t) waiting e w x b f M
-      leaves t i = record {
-        tables = rw sub-zero at (u .keeps t i);
-        events = rw sub-zero at (u .on t i .events);
-        rest = rw (have-is, left, eats t i);
-        stop = stop-is ∙ stops t i;
-        consumed = consumed-is ∙ rw (eats t i);
-        written = written-is ∙ rw (writes t i);
-      }
-
-    fitting : Held S L → ran .stop ≡ stop.SliceLength → ⊥
-    fitting h q = run-fits S 0 (length e) part (h .tables) (sym (stops (h .tables) (h .are)) ∙ q)
-
-    module _ (w : Work) {x : Work} (is : x ≡ behindOf w ran have) (held : Held S L) where
-      pub part-ran : Ran S k waiting e L w x b f M
-      part-ran = record {
-        on = leaves (ap (λ (y : Work). y .have) is) (ap (λ (y : Work). y .stop) is) (ap (λ (y : Work). y .consumed) is) (ap (λ (y : Work). y .written) is);
-        inside = rw (ap (λ (y : Work). y .have) is) waits;
-        sure = rw is (next-sure (ran .stop) (fitting held));
-      }
-
-      pub part-failed : {y : Work} → y ≡ failedOf x → Ran S k waiting e L w y b f M
-      part-failed {y} q =
-          let z : y ≡ failedOf (behindOf w ran have) = q ∙ ap failedOf is in
-          record {
-            on = leaves (ap (λ (y : Work). y .have) z) (ap (λ (y : Work). y .stop) z) (ap (λ (y : Work). y .consumed) z) (ap (λ (y : Work). y .written) z);
-            inside = rw (ap (λ (y : Work). y .have) z) waits;
-            sure = rw z tt;
-          }
-
--- ---- a turn keeps what the next one asks
-
-pub ran-ready : {S : Settings} {k : Scope} {p e : List ℕ} {L : Lent} {w r : Work} {b f : List ℕ} {M : Lent} → Ran S k p e L w r b f M → Held S L → Ready S M b r
-ran-ready {S} {k} {p} {e} x h = record {
-  held = record { tables = runFrom S 0 (length e) (take (partEnd k p) p) (h .tables) .tables; are = x .on (h .tables) (h .are) .tables };
-  inside = x .inside;
-  sure = x .sure;
-}
-
-module _ {S : Settings} {L : Lent} {buf b : List ℕ} {w : Work} (y : Ready S L buf w) (size : length b ≡ length buf) where
-  pub stopped-ready : {s : Stop} {x : Work} → Final s → x ≡ stoppedOf w s → Ready S L b x
-  stopped-ready f q = record {
-    held = y .held;
-    inside = let e = ap (λ (v : Work). v .have) q in let h = y .inside in omega arith;
-    sure = rw q f;
+  pub stopped-turned : (n : ℕ) {x : Work} → x ≡ stoppedOf w (w .stop) → Turned S k n L (take (w .have) buf) w x b L
+  stopped-turned n e = record {
+    ready = rw e record {
+      held = y .held;
+      inside = let h = y .inside in omega arith;
+      roomy = let h = y .roomy in omega arith;
+      counted = y .counted;
+      small = y .small;
+      sure = rw reads at (y .sure);
+      few = tt;
+      before = λ t i. rw same-front (rw reads at (y .before t i));
+    };
+    fewer = rw (e, reads) (omega arith);
+    came = rw (e, same-front) (none-came S n (take (w .have) buf) (y .small) refl refl refl);
   }
 
-  pub failed-ready : {x : Work} → x ≡ failedOf w → Ready S L b x
-  failed-ready q = record {
-    held = y .held;
-    inside = let e = ap (λ (v : Work). v .have) q in let h = y .inside in omega arith;
-    sure = rw q tt;
+  pub failed-turned : (n : ℕ) {x : Work} → x ≡ failedOf w → Turned S k n L (take (w .have) buf) w x b L
+  failed-turned n e = record {
+    ready = rw e record {
+      held = y .held;
+      inside = let h = y .inside in omega arith;
+      roomy = let h = y .roomy in omega arith;
+      counted = y .counted;
+      small = y .small;
+      sure = tt;
+      few = tt;
+      before = λ t i. tt;
+    };
+    fewer = rw (e, reads) (omega arith);
+    came = rw (e, same-front) (none-came S n (take (w .have) buf) (y .small) refl refl refl);
   }
 
--- ---- the first record
+  -- more bytes came, and wait behind those that did
+  module _ {m left : ℕ} (q : g ≡ more.To m left) {v : Work} (v-is : v ≡ readOf w m left) where
+    came-in : (w .have < m) × (m ≤ length buf) × (m + left ≡ w .have + w .left)
+    came-in = rw q at (grown .grows)
 
-module _ {L : Lent} {p : List ℕ} {r : Begun} {M : Lent} (b : Begins L p r M) where
-  pub begun-final : (s : List ℕ) → p ≡ s → Long L (lengthsFor s) → {n : Stop} → r ≡ Stopped n → (w : Work) {x : Work} → x ≡ stoppedOf w n → Sure (x .next) (x .stop)
-  begun-final s e l {n} q w z = rw z (asked-stops L s n l (sym (rw e at (b .says)) ∙ q))
+    abbrev fresh : List ℕ
+    fresh = drop (w .have) (take m b)
 
-  pub begun-ready : {S : Settings} → r ≡ Accepted S → (buf c : List ℕ) (have : ℕ) {rest : ℕ} → rest ≡ carriedCount buf 8 have → length c ≡ length buf
-      → {x : Work} → x ≡ begunOf rest → Ready S M c x
-  begun-ready q buf c have k size e = record {
-    held = begun-held b q;
-    inside = let h = carried-most buf 8 have in let g = ap (λ (v : Work). v .have) e in omega arith;
-    sure = rw e tt;
-  }
+    fresh-behind : take (w .have) buf ++ fresh ≡ take m b
+    fresh-behind =
+        let h = came-in in
+        let n : length (take m b) ≡ m = length-take-le m b (omega arith) in
+        let a : take (w .have) b ≡ take (w .have) (take m b) =
+        ap (take (w .have)) (sym (take-append-drop m b)) ∙ take-append-le (w .have) (take m b) (drop m b) (omega arith) in
+        ap (λ (s : List ℕ). s ++ fresh) (sym same-front ∙ a) ∙ take-append-drop (w .have) (take m b)
 
--- ---- what is lent
+    fresh-long : length fresh + w .have ≡ m
+    fresh-long = let h = came-in in let n = length-take-le m b (omega arith) in let d = length-drop (w .have) (take m b) in omega arith
 
-pub lent-most : (p : List ℕ) {n : Lengths} → n ≡ lengthsFor p → Most n
-lent-most p q = rw q (asked-most (settingsOf (drop 1 p)))
+    pub read-inside : v .have ≤ length b
+    read-inside = let h = came-in in let e = ap (λ (z : Work). z .have) v-is in omega arith
 
-pub lent-long : (p s : List ℕ) → p ≡ s → {n : Lengths} → n ≡ lengthsFor p → (x y z : List ℕ) → 1152 ≡ length x → 5889 ≡ length y → 8384 ≡ length z
-    → Long (lent (take (n .longs) x) (take (n .words) y) (take (n .marks) z)) (lengthsFor s)
-lent-long p s e {n} q x y z a b c =
-    let m = lent-most p q in
-    let k : n ≡ lengthsFor s = q ∙ ap lengthsFor e in
-    record {
-      longs = length-take-le (n .longs) x (omega (arith, m .longs)) ∙ ap (λ (l : Lengths). l .longs) k;
-      words = length-take-le (n .words) y (omega (arith, m .words)) ∙ ap (λ (l : Lengths). l .words) k;
-      marks = length-take-le (n .marks) z (omega (arith, m .marks)) ∙ ap (λ (l : Lengths). l .marks) k;
-    }
+    pub read-counted : v .consumed + v .have + v .left < 2 ^ 64
+    read-counted = let h = came-in in let c = y .counted in rw v-is (omega arith)
+
+    pub read-fits : v .consumed + v .have < 2 ^ 64
+    read-fits = let c = read-counted in omega arith
+
+    read-came : (n : ℕ) → Came S n L (take (w .have) buf) w v (take m b) L
+    read-came n =
+        let h = came-in in
+        let f = fresh-long in
+        record {
+          bytes = fresh;
+          counted = rw v-is (omega arith);
+          on = λ t i. record {
+            eaten = 0;
+            events = [];
+            tables = t;
+            are = i;
+            consumed = rw v-is (omega arith);
+            written = rw v-is (none-written (w .written) (y .small));
+            goes = rw fresh-behind (none-goes S n t (take m b));
+          };
+        }
+
+    pub read-turned : {e f bufx : List ℕ} {r : Work} {M : Lent} → Ran S k (take (v .have) b) e L v r bufx f M → 64 ≤ length e → length bufx ≡ length b
+        → Turned S k (length e) L (take (w .have) buf) w r bufx M
+    read-turned {e} {f} {bufx} {r} {M} x space same =
+        let h = came-in in
+        let hv = ap (λ (z : Work). z .have) v-is in
+        let lv = ap (λ (z : Work). z .left) v-is in
+        let a = y .roomy in
+        let i = read-inside in
+        let long : length (take (v .have) b) ≡ v .have = length-take-le (v .have) b i in
+        let fewer = ran-fewer x (y .held) space (omega arith) long read-counted in
+        let last = ran-came x (y .held) space (omega arith) long read-counted in
+        record {
+          ready = ran-ready x (y .held) space (omega arith) long read-counted;
+          fewer = rw reads (omega arith);
+          came = came-then S (length e) (read-came (length e)) (subst (λ (n : ℕ). Came S (length e) L (take n b) v r (take (r .have) bufx) M) hv last);
+        }
+
+-- ---- turn after turn
+
+pub start-came : {S : Settings} {k : Scope} {L : Lent} {buf : List ℕ} {w : Work} (size : ℕ) → Ready S k L buf w → Came S size L (take (w .have) buf) w w (take (w .have) buf) L
+start-came {S} {k} {L} {buf} {w} size y = none-came S size (take (w .have) buf) (y .small) refl refl refl
+
+pub next-came : {S : Settings} {k : Scope} {size n : ℕ} {L M N : Lent} {p q buf : List ℕ} {w v r : Work} → Came S size L p w v q M → n ≡ size → Turned S k n M q v r buf N
+    → Came S size L p w r (take (r .have) buf) N
+next-came {S} {k} {size} {n} {L} {M} {N} {p} {q} {buf} {w} {v} {r} a e t = came-then S size a (subst (λ (m : ℕ). Came S m M q v r (take (r .have) buf) N) e (t .came))

@@ -1,28 +1,21 @@
 -- Where the last record of some bytes begins, and how much of them is run.
 use Prim.Native.Nat.{ℕ, zero, suc}
-use mathlib.Core.Bool.{_&&_}
-use mathlib.Core.List.{List}
+use mathlib.Core.List.{List, [], _∷_}
 use lib.ListN.{length}
 use lib.Dec.{ltb}
 use Rattle.model.specs.Words.{pick}
-use Rattle.model.specs.Records.{readAt, nextOf}
+use Rattle.model.specs.Records.{isCommand, lengthOf}
 use Rattle.streaming.specs.declared.scope.Scope.{Scope}
 use Rattle.streaming.specs.declared.scope.Scope.the-variants as scope
 
--- the place behind the record at a place; the place itself where no whole record stands there
-abbrev pub behindAt : List ℕ → ℕ → ℕ
-behindAt s at = nextOf (readAt s at) at
-
--- from a place on, n records at most, as long as bytes stand behind a whole one
-unfoldable pub lastFrom : ℕ → List ℕ → ℕ → ℕ
-lastFrom zero s at = at
-lastFrom (suc n) s at = pick (ltb at (behindAt s at) && ltb (behindAt s at) (length s)) (lastFrom n s (behindAt s at)) at
-
--- a record is a byte or more
-unfoldable pub lastStart : List ℕ → ℕ
-lastStart s = lastFrom (length s) s 0
+-- the bytes before the last record, whole or cut short, behind n bytes that are passed over: the body of a record before. At a kind that is
+-- no command's the runner stops, whatever follows: there all of the bytes are the runner's
+unfoldable pub beforeLast : ℕ → List ℕ → ℕ
+beforeLast n [] = 0
+beforeLast (suc n) (b ∷ bs) = suc (beforeLast n bs)
+beforeLast zero (k ∷ bs) = pick (isCommand k) (pick (ltb (lengthOf k) (length bs)) (suc (beforeLast (lengthOf k) bs)) 0) (suc (length bs))
 
 -- what is run ends there
 abbrev pub partEnd : Scope → List ℕ → ℕ
 partEnd scope.All s = length s
-partEnd scope.BeforeLast s = lastStart s
+partEnd scope.BeforeLast s = beforeLast 0 s

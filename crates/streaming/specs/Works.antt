@@ -1,9 +1,8 @@
 -- Where a run stands between two parts of its stream.
-use Prim.Native.Nat.{ℕ, _+_, _%_, _^_}
+use Prim.Native.Nat.{ℕ, _+_, _*_, _%_, _^_, _<_}
 use mathlib.Core.Bool.{Bool, true, false}
 use Rattle.model.specs.declared.Stop.{Stop}
 use Rattle.model.specs.declared.Stop.the-variants as stop
-use Rattle.model.specs.declared.Ran.{Ran}
 use Rattle.running.specs.Lengths.{Final}
 use Rattle.streaming.specs.declared.work.Next.{Next}
 use Rattle.streaming.specs.declared.work.Next.the-variants as next
@@ -44,25 +43,29 @@ failedNext next.Run = false
 failedNext next.Stopped = false
 failedNext next.Failed = true
 
-abbrev pub startOf : ℕ → Next → Work
-startOf have n = record { have = have; consumed = 0; written = 0; stop = stop.Nothing; next = n }
+abbrev pub startOf : ℕ → ℕ → Next → Work
+startOf have left n = record { have = have; left = left; consumed = 0; written = 0; stop = stop.Nothing; next = n }
 
-abbrev pub begunOf : ℕ → Work
-begunOf have = record { have = have; consumed = 8; written = 0; stop = stop.Nothing; next = next.Run }
+abbrev pub begunOf : ℕ → ℕ → Work
+begunOf have left = record { have = have; left = left; consumed = 8; written = 0; stop = stop.Nothing; next = next.Run }
+
+abbrev pub readOf : Work → ℕ → ℕ → Work
+readOf w have left = record { have = have; left = left; consumed = w .consumed; written = w .written; stop = w .stop; next = next.Run }
 
 abbrev pub stoppedOf : Work → Stop → Work
-stoppedOf w s = record { have = w .have; consumed = w .consumed; written = w .written; stop = s; next = next.Stopped }
+stoppedOf w s = record { have = w .have; left = w .left; consumed = w .consumed; written = w .written; stop = s; next = next.Stopped }
 
 abbrev pub failedOf : Work → Work
-failedOf w = record { have = w .have; consumed = w .consumed; written = w .written; stop = w .stop; next = next.Failed }
+failedOf w = record { have = w .have; left = w .left; consumed = w .consumed; written = w .written; stop = w .stop; next = next.Failed }
 
-abbrev pub behindOf : Work → Ran → ℕ → Work
-behindOf w r have = record {
+abbrev pub behindOf : Work → Stop → ℕ → ℕ → ℕ → Work
+behindOf w s consumed written have = record {
   have = have;
-  consumed = (w .consumed + r .consumed) % 2 ^ 64;
-  written = (w .written + r .written) % 2 ^ 64;
-  stop = r .stop;
-  next = nextOf (r .stop);
+  left = w .left;
+  consumed = w .consumed + consumed;
+  written = (w .written + written) % 2 ^ 64;
+  stop = s;
+  next = nextOf s;
 }
 
 -- stops 2 and 16 end no run: so where it has stopped, or would at the end of its input
@@ -71,3 +74,17 @@ Sure next.Read s = Final s
 Sure next.Run s = Unit
 Sure next.Stopped s = Final s
 Sure next.Failed s = Unit
+
+-- what waits while more bytes are wanted is less than the smallest buffer
+abbrev pub Few : Next → ℕ → Type 0
+Few next.Read have = have < 64
+Few next.Run have = Unit
+Few next.Stopped have = Unit
+Few next.Failed have = Unit
+
+-- a bound on the turns that are left: each reads, or consumes what waits, or is the last; one that only runs comes before one that reads
+abbrev pub turnsOf : Next → ℕ → ℕ → ℕ
+turnsOf next.Read have left = 3 * left + 2 * have + 1
+turnsOf next.Run have left = 3 * left + 2 * have + 2
+turnsOf next.Stopped have left = 0
+turnsOf next.Failed have left = 0

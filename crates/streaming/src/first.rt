@@ -2,9 +2,13 @@
 use crate::work;
 use crate::work::Next;
 use crate::work::Work;
-use input::Filled;
+use input::More;
 ghost use Prim.Native.Nat.{_≤_};
-ghost use lib.ListN.{length};
+ghost use mathlib.Core.Path.{_≡_};
+ghost use mathlib.Core.Bool.{false};
+ghost use Rattle.input.specs.Buffers.{turnsLeft};
+ghost use Rattle.streaming.specs.Works.{readsNext};
+ghost use Rattle.streaming.specs.First.{Opened};
 
 // Once the first record is there, nothing behind it changes what it comes to.
 fn next_after(s: &[u8]) -> Next {
@@ -15,33 +19,28 @@ fn next_after(s: &[u8]) -> Next {
     }
 }
 
-fn read_once(fd: i32, buf: &mut [u8], have: usize) -> Work
-    requires { ⌜ have ≤ length (now buf) ⌝ }
-    ensures { λ r. ⌜ r .have ≤ length (now (buf .exit)) ⌝ }
+fn read_once(fd: i32, buf: &mut [u8], w: Work) -> Work
+    requires { ⌜ Opened (now buf) w ⌝ }
+    ensures { λ r. ⌜ Opened (now (buf .exit)) r ⌝ }
+    ensures { λ r. ⌜ turnsLeft (readsNext (r .next)) (r .left) ≤ w .left ⌝ }
 {
-    match input::fill(fd, buf, have) {
-        Filled::To(n) => work::at_start(n, next_after(text::front(buf, n))),
-        Filled::End => work::at_start(have, Next::Run),
-        Filled::Full => work::at_start(have, Next::Run),
-        Filled::Failed => {
-            os::fail(b"read");
-            work::at_start(have, Next::Failed)
+    match input::read_more(fd, buf, w.have, w.left) {
+        More::To { have, left } => {
+            work::at_start(have, left, next_after(text::front(buf, have)))
         }
+        More::End => work::at_start(w.have, w.left, Next::Run),
+        More::Full => work::at_start(w.have, w.left, Next::Run),
+        More::Failed => work::at_start(w.have, w.left, Next::Failed),
     }
 }
 
-// A proved loop has to end, and nothing says that an input does: the turns are more than any run takes.
 pub fn read_first(fd: i32, buf: &mut [u8]) -> Work
-    ensures { λ r. ⌜ r .have ≤ length (now (buf .exit)) ⌝ }
+    ensures { λ r. ⌜ Opened (now (buf .exit)) r ⌝ }
+    ensures { λ r. ⌜ readsNext (r .next) ≡ false ⌝ }
 {
-    let mut w = work::at_start(0, Next::Read);
-    let mut turns = u64::MAX;
-    while 0 < turns {
-        if !work::reads(w) {
-            break;
-        }
-        w = read_once(fd, buf, w.have);
-        turns -= 1;
+    let mut w = work::at_start(0, u64::MAX, Next::Read);
+    while work::reads(w) {
+        w = read_once(fd, buf, w);
     }
     w
 }

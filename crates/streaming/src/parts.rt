@@ -3,16 +3,20 @@ use crate::scope;
 use crate::scope::Scope;
 use crate::work;
 use crate::work::Work;
-use input::Filled;
+use input::More;
 use libc::STDOUT_FILENO;
 use model::Settings;
 use running::Begun;
-ghost use Prim.Native.Nat.{_≤_};
+ghost use mathlib.Core.Path.{_≡_};
+ghost use mathlib.Core.Bool.{true};
+ghost use Prim.Native.Nat.{_+_, _^_, _≤_, _<_};
 ghost use lib.ListN.{length, take};
 ghost use Rattle.model.specs.Lent.{lent};
 ghost use Rattle.model.specs.Inner.{Held};
-ghost use Rattle.running.specs.Lengths.{lengthsFor, Long, Final};
-ghost use Rattle.streaming.specs.Parts.{Ready, Ran, Starts};
+ghost use Rattle.running.specs.Lengths.{lengthsFor, Long};
+ghost use Rattle.streaming.specs.declared.work.Next.the-variants as next;
+ghost use Rattle.streaming.specs.Works.{readsNext, goesNext};
+ghost use Rattle.streaming.specs.Parts.{Ready, Ran, Turned, Rested, Starts};
 
 // A settings record: its kind and a body of seven bytes.
 const SETTINGS_RECORD: usize = 8;
@@ -23,27 +27,39 @@ pub enum Started {
     Stops(Work),
 }
 
-fn write_out(events: &[u8], n: usize) -> bool {
-    let done = io::write_all(STDOUT_FILENO, text::front(events, n));
+// How many bytes were handed out, and whether they went.
+struct Handed {
+    bytes: usize,
+    done: bool,
+}
+
+fn write_out(events: &[u8]) -> bool {
+    let done = io::write_all(STDOUT_FILENO, events);
     if !done {
         os::fail(b"write");
     }
     done
 }
 
-// Writes the events of a part, where they are wanted; says whether they went.
-fn hand_out(scope: Scope, events: &[u8], n: usize) -> bool {
-    match scope {
-        Scope::All => write_out(events, n),
+// Writes the events of a part, where they are wanted. What the system does with them no contract says; that these bytes are
+// the part's events, `run_part` promises, which counts what is handed out here.
+fn hand_out(scope: Scope, events: &[u8]) -> Handed
+    ensures { λ r. ⌜ r .bytes ≡ length (now (events .entry)) ⌝ }
+{
+    let done = match scope {
+        Scope::All => write_out(events),
         Scope::BeforeLast => true,
+    };
+    Handed {
+        bytes: events.len(),
+        done,
     }
 }
 
-// Of the first n bytes of the buffer runs what is in scope as far as it goes, and moves what is left of them to the front.
+// Of the bytes that wait runs what is in scope as far as it goes, and moves what is left of them to the front.
 fn run_part(
     s: Settings,
     buf: &mut [u8],
-    n: usize,
     events: &mut [u8],
     longs: &mut [u64],
     words: &mut [u32],
@@ -52,19 +68,22 @@ fn run_part(
     scope: Scope,
 ) -> Work
     requires { ⌜ Held s (lent (now longs) (now words) (now marks)) ⌝ }
-    requires { ⌜ n ≤ length (now buf) ⌝ }
-    ensures { λ r. ⌜ Ran s scope (take n (now (buf .entry))) (now (events .entry)) (lent (now (longs .entry)) (now (words .entry)) (now (marks .entry)))
+    requires { ⌜ w .have ≤ length (now buf) ⌝ }
+    requires { ⌜ w .consumed + w .have < 2 ^ 64 ⌝ }
+    ensures { λ r. ⌜ Ran s scope (take (w .have) (now (buf .entry))) (now (events .entry)) (lent (now (longs .entry)) (now (words .entry)) (now (marks .entry)))
         w r (now (buf .exit)) (now (events .exit)) (lent (now (longs .exit)) (now (words .exit)) (now (marks .exit))) ⌝ }
 {
-    let end = scope::part_end(scope, text::front(buf, n));
+    let have = w.have;
+    let end = scope::part_end(scope, text::front(buf, have));
     let ran = running::go_on(s, text::front(buf, end), 0, events, 0, longs, words, marks);
-    let done = hand_out(scope, events, ran.written);
-    let have = input::carry(buf, ran.consumed, n);
-    let v = work::behind(w, ran, have);
-    if done { v } else { work::failed(v) }
+    let handed = hand_out(scope, text::front(events, ran.written));
+    let rest = input::carry(buf, ran.consumed, have);
+    let stop = ran.stop;
+    let v = work::behind(w, stop, ran.consumed, handed.bytes, rest);
+    if handed.done { v } else { work::failed(v) }
 }
 
-// Reads once and runs what is there; at the end of the input the last stop stands.
+// Reads once and runs what is there; at the end of the input the last stop stands. The buffer is never full here.
 fn read_part(
     fd: i32,
     s: Settings,
@@ -76,19 +95,21 @@ fn read_part(
     w: Work,
     scope: Scope,
 ) -> Work
-    requires { ⌜ Ready s (lent (now longs) (now words) (now marks)) (now buf) w ⌝ }
-    requires { ⌜ Final (w .stop) ⌝ }
-    ensures { λ r. ⌜ Ready s (lent (now (longs .exit)) (now (words .exit)) (now (marks .exit))) (now (buf .exit)) r ⌝ }
+    requires { ⌜ Ready s scope (lent (now longs) (now words) (now marks)) (now buf) w ⌝ }
+    requires { ⌜ w .next ≡ next.Read ⌝ }
+    requires { ⌜ 64 ≤ length (now events) ⌝ }
+    ensures { λ r. ⌜ Turned s scope (length (now (events .entry))) (lent (now (longs .entry)) (now (words .entry)) (now (marks .entry))) (take (w .have) (now (buf .entry)))
+        w r (now (buf .exit)) (lent (now (longs .exit)) (now (words .exit)) (now (marks .exit))) ⌝ }
 {
     let stop = w.stop;
-    match input::fill(fd, buf, w.have) {
-        Filled::To(n) => run_part(s, buf, n, events, longs, words, marks, w, scope),
-        Filled::Full => run_part(s, buf, w.have, events, longs, words, marks, w, scope),
-        Filled::End => work::stopped(w, stop),
-        Filled::Failed => {
-            os::fail(b"read");
-            work::failed(w)
+    match input::read_more(fd, buf, w.have, w.left) {
+        More::To { have, left } => {
+            let v = work::read(w, have, left);
+            run_part(s, buf, events, longs, words, marks, v, scope)
         }
+        More::End => work::stopped(w, stop),
+        More::Full => work::failed(w),
+        More::Failed => work::failed(w),
     }
 }
 
@@ -104,17 +125,20 @@ fn turn(
     w: Work,
     scope: Scope,
 ) -> Work
-    requires { ⌜ Ready s (lent (now longs) (now words) (now marks)) (now buf) w ⌝ }
-    ensures { λ r. ⌜ Ready s (lent (now (longs .exit)) (now (words .exit)) (now (marks .exit))) (now (buf .exit)) r ⌝ }
+    requires { ⌜ Ready s scope (lent (now longs) (now words) (now marks)) (now buf) w ⌝ }
+    requires { ⌜ goesNext (w .next) ≡ true ⌝ }
+    requires { ⌜ 64 ≤ length (now events) ⌝ }
+    ensures { λ r. ⌜ Turned s scope (length (now (events .entry))) (lent (now (longs .entry)) (now (words .entry)) (now (marks .entry))) (take (w .have) (now (buf .entry)))
+        w r (now (buf .exit)) (lent (now (longs .exit)) (now (words .exit)) (now (marks .exit))) ⌝ }
 {
     if work::reads(w) {
         read_part(fd, s, buf, events, longs, words, marks, w, scope)
     } else {
-        run_part(s, buf, w.have, events, longs, words, marks, w, scope)
+        run_part(s, buf, events, longs, words, marks, w, scope)
     }
 }
 
-// A proved loop has to end, and nothing says that an input does: the turns are more than any run takes.
+// Turn by turn to the end: the run has stopped, its input at its end included, or reading or writing failed.
 pub fn run_rest(
     fd: i32,
     s: Settings,
@@ -125,19 +149,15 @@ pub fn run_rest(
     start: Work,
     scope: Scope,
 ) -> Work
-    requires { ⌜ Ready s (lent (now longs) (now words) (now marks)) (now buf) start ⌝ }
-    ensures { λ r. ⌜ Ready s (lent (now (longs .exit)) (now (words .exit)) (now (marks .exit))) (now (buf .exit)) r ⌝ }
+    requires { ⌜ Ready s scope (lent (now longs) (now words) (now marks)) (now buf) start ⌝ }
+    ensures { λ r. ⌜ Rested s scope 65536 (lent (now (longs .entry)) (now (words .entry)) (now (marks .entry))) (take (start .have) (now (buf .entry)))
+        start r (now (buf .exit)) (lent (now (longs .exit)) (now (words .exit)) (now (marks .exit))) ⌝ }
 {
     let mut space = io::large_buffer();
     let events: &mut [u8] = &mut space;
     let mut w = start;
-    let mut turns = u64::MAX;
-    while 0 < turns {
-        if !work::goes_on(w) {
-            break;
-        }
+    while work::goes_on(w) {
         w = turn(fd, s, buf, events, longs, words, marks, w, scope);
-        turns -= 1;
     }
     w
 }
@@ -151,15 +171,18 @@ pub fn start(
     w: Work,
 ) -> Started
     requires { ⌜ w .have ≤ length (now buf) ⌝ }
+    requires { ⌜ 64 ≤ length (now buf) ⌝ }
+    requires { ⌜ w .have + w .left < 2 ^ 64 ⌝ }
     requires { ⌜ Long (lent (now longs) (now words) (now marks)) (lengthsFor (take (w .have) (now buf))) ⌝ }
-    ensures { λ r. ⌜ Starts r (lent (now (longs .exit)) (now (words .exit)) (now (marks .exit))) (now (buf .exit)) ⌝ }
+    ensures { λ r. ⌜ Starts (lent (now (longs .entry)) (now (words .entry)) (now (marks .entry))) (take (w .have) (now (buf .entry))) w r
+        (lent (now (longs .exit)) (now (words .exit)) (now (marks .exit))) (now (buf .exit)) ⌝ }
 {
     let have = w.have;
     match running::begin(text::front(buf, have), longs, words, marks) {
         Begun::Stopped(stop) => Started::Stops(work::stopped(w, stop)),
         Begun::Accepted(settings) => {
             let rest = input::carry(buf, SETTINGS_RECORD, have);
-            let work = work::begun(rest);
+            let work = work::begun(rest, w.left);
             Started::Runs { settings, work }
         }
     }

@@ -1,8 +1,8 @@
 // Where a run stands between two parts of its stream.
-use model::Ran;
 use model::Stop;
 ghost use mathlib.Core.Path.{_≡_};
-ghost use Rattle.streaming.specs.Works.{nextOf, readsNext, goesNext, stoppedNext, failedNext, startOf, begunOf, stoppedOf, failedOf, behindOf};
+ghost use Prim.Native.Nat.{_+_, _^_, _<_};
+ghost use Rattle.streaming.specs.Works.{nextOf, readsNext, goesNext, stoppedNext, failedNext, startOf, begunOf, readOf, stoppedOf, failedOf, behindOf};
 
 // What to do next: read more bytes; run those that wait; nothing, since the stream has stopped; nothing, since reading or
 // writing failed, which standard error says.
@@ -13,9 +13,11 @@ pub enum Next {
     Failed,
 }
 
-// The bytes that wait at the front of the buffer, the bytes consumed and written before them, why the part before stopped.
+// The bytes that wait at the front of the buffer, those that may still come, the bytes consumed and written before them, why
+// the part before stopped.
 pub struct Work {
     pub have: usize,
+    pub left: u64,
     pub consumed: u64,
     pub written: u64,
     pub stop: Stop,
@@ -23,11 +25,12 @@ pub struct Work {
 }
 
 // Before anything has run.
-pub fn at_start(have: usize, next: Next) -> Work
-    ensures { λ r. ⌜ r ≡ startOf have next ⌝ }
+pub fn at_start(have: usize, left: u64, next: Next) -> Work
+    ensures { λ r. ⌜ r ≡ startOf have left next ⌝ }
 {
     Work {
         have,
+        left,
         consumed: 0,
         written: 0,
         stop: Stop::Nothing,
@@ -36,14 +39,30 @@ pub fn at_start(have: usize, next: Next) -> Work
 }
 
 // Behind settings that are accepted: a record of eight bytes that writes no event.
-pub fn begun(have: usize) -> Work
-    ensures { λ r. ⌜ r ≡ begunOf have ⌝ }
+pub fn begun(have: usize, left: u64) -> Work
+    ensures { λ r. ⌜ r ≡ begunOf have left ⌝ }
 {
     Work {
         have,
+        left,
         consumed: 8,
         written: 0,
         stop: Stop::Nothing,
+        next: Next::Run,
+    }
+}
+
+// With more bytes: they wait to be run.
+pub fn read(w: Work, have: usize, left: u64) -> Work
+    ensures { λ r. ⌜ r ≡ readOf w have left ⌝ }
+{
+    let stop = w.stop;
+    Work {
+        have,
+        left,
+        consumed: w.consumed,
+        written: w.written,
+        stop,
         next: Next::Run,
     }
 }
@@ -53,6 +72,7 @@ pub fn stopped(w: Work, stop: Stop) -> Work
 {
     Work {
         have: w.have,
+        left: w.left,
         consumed: w.consumed,
         written: w.written,
         stop,
@@ -66,6 +86,7 @@ pub fn failed(w: Work) -> Work
     let stop = w.stop;
     Work {
         have: w.have,
+        left: w.left,
         consumed: w.consumed,
         written: w.written,
         stop,
@@ -90,16 +111,17 @@ fn next_of(stop: Stop) -> Next
     }
 }
 
-// Behind a part that ran, whose events are written, with `have` bytes left of it.
-pub fn behind(w: Work, ran: Ran, have: usize) -> Work
-    ensures { λ r. ⌜ r ≡ behindOf w ran have ⌝ }
+// Behind a part that consumed some bytes and stopped, whose events are handed out, with `have` bytes left of it.
+pub fn behind(w: Work, stop: Stop, consumed: usize, written: usize, have: usize) -> Work
+    requires { ⌜ w .consumed + consumed < 2 ^ 64 ⌝ }
+    ensures { λ r. ⌜ r ≡ behindOf w stop consumed written have ⌝ }
 {
-    let stop = ran.stop;
     let next = next_of(stop);
     Work {
         have,
-        consumed: std::num::wrapping_add_u64(w.consumed, ran.consumed as u64),
-        written: std::num::wrapping_add_u64(w.written, ran.written as u64),
+        left: w.left,
+        consumed: w.consumed + consumed as u64,
+        written: std::num::wrapping_add_u64(w.written, written as u64),
         stop,
         next,
     }

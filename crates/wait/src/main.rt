@@ -20,6 +20,8 @@ ghost use Prim.Native.Nat.{_≤_};
 ghost use lib.ListN.{length, take};
 ghost use Rattle.model.specs.Lent.{lent};
 ghost use Rattle.running.specs.Lengths.{lengthsFor, Long};
+ghost use Rattle.streaming.specs.declared.scope.Scope.the-variants as scope;
+ghost use Rattle.streaming.specs.First.{Opened};
 ghost use Rattle.streaming.specs.Parts.{Ready};
 
 // At the end of the input: the last record is what waits in the buffer.
@@ -31,7 +33,7 @@ fn wait_last(
     marks: &mut [u8],
     w: Work,
 )
-    requires { ⌜ Ready s (lent (now longs) (now words) (now marks)) (now buf) w ⌝ }
+    requires { ⌜ Ready s scope.BeforeLast (lent (now longs) (now words) (now marks)) (now buf) w ⌝ }
 {
     let rest = text::front(buf, w.have);
     match last::last_of(rest) {
@@ -54,7 +56,7 @@ fn wait_rest(
     marks: &mut [u8],
     start: Work,
 )
-    requires { ⌜ Ready s (lent (now longs) (now words) (now marks)) (now buf) start ⌝ }
+    requires { ⌜ Ready s scope.BeforeLast (lent (now longs) (now words) (now marks)) (now buf) start ⌝ }
 {
     let w = parts::run_rest(fd, s, buf, longs, words, marks, start, Scope::BeforeLast);
     if !work::has_stopped(w) {
@@ -77,7 +79,8 @@ fn wait_all(
     marks: &mut [u8],
     w: Work,
 )
-    requires { ⌜ w .have ≤ length (now buf) ⌝ }
+    requires { ⌜ Opened (now buf) w ⌝ }
+    requires { ⌜ 64 ≤ length (now buf) ⌝ }
     requires { ⌜ Long (lent (now longs) (now words) (now marks)) (lengthsFor (take (w .have) (now buf))) ⌝ }
 {
     match parts::start(buf, longs, words, marks, w) {
@@ -91,7 +94,8 @@ fn wait_all(
 
 // Lends what the stream's own settings ask for, so that stop 2 never comes.
 fn wait_stream(fd: i32, buf: &mut [u8], w: Work)
-    requires { ⌜ w .have ≤ length (now buf) ⌝ }
+    requires { ⌜ Opened (now buf) w ⌝ }
+    requires { ⌜ 64 ≤ length (now buf) ⌝ }
 {
     let n = running::lengths_for(text::front(buf, w.have));
     let mut longs = rooms::longs_room();

@@ -1,23 +1,11 @@
--- The first record stops the run, or leaves sound tables to the rest.
-use mathlib.Core.Path.{_∙_}
+-- The first record stops the run, or leaves its tables to the turns; either way it is the run of all the bytes that came.
 use borrow.Author.Needs.{needs}
+use mathlib.Core.Path.{ap, _∙_}
+use Rattle.streaming.specs.declared.work.Work.{Work}
+use Rattle.streaming.specs.declared.scope.Scope.the-variants as scope
+use Rattle.streaming.proofs.Wholes.{stops-whole, rests-whole}
 use Rattle.run.proofs.run_all.Statement.{statement}
 use Rattle.run.proofs.run_all.Tie as tie
-
-run-rest-requires : tie.Need-run-rest-requires
-run-rest-requires c κs =
-    let s = c .before .before .before .before .before in
-    let t = s .before .before .before .before .before .before .before .before .before .before in
-    rw (s .settings .given .1) at (t .start .ensures)
-
-returns : tie.Need-returns
-returns c =
-    let s = c .before in
-    let t = s .before .before .before .before .before .before .before .before .before .before in
-    rw (s .stopped .given .1) at (t .start .ensures)
-
-same-length-5 : tie.Need-same-length-5
-same-length-5 c = let r = c .before .before .before .before .before .before .before .before in r .run-rest .kept .1 .1 .0 ∙ r .before .before .before .before .before .before .before .before .before .before .before .before .before .before .before .before .start .kept .0
 
 pub run-all-spec : {M : Type 1} → statement M
 run-all-spec =
@@ -26,14 +14,28 @@ run-all-spec =
     (λ c κs. search needs)
     (λ c. search needs)
     (λ c. search needs)
-    run-rest-requires
+    (λ c κs.
+    let s = c .before .before .before .before .before in
+    let t = s .before .before .before .before .before .before .before .before .before .before in
+    (rw (s .settings .given .1) at (t .start .ensures)) .after scope.All .2)
     (λ c. search needs)
     (λ c. search needs)
     (λ c. search needs)
     (λ c. search needs)
-    returns
-    same-length-5
+    (λ c.
+    let s = c .before in
+    let t = s .before .before .before .before .before .before .before .before .before .before in
+    let a = t .before .before .before .before .before .before .before .before .before in
+    let new = a .pre .0 .new in
+    stops-whole (rw (s .stopped .given .1) at (t .start .ensures)) (ap (λ (w : Work). w .written) new) (ap (λ (w : Work). w .consumed) new))
+    (λ c.
+    let r = c .before .before .before .before .before .before .before .before in
+    r .run-rest .kept .1 .1 .0 ∙ r .before .before .before .before .before .before .before .before .before .before .before .before .before .before .before .before .start .kept .0)
     (λ c. search needs)
     (λ c. search needs)
     (λ c. search needs)
-    (λ c. search needs))
+    (λ c.
+    let r = c .before .before .before .before .before .before .before .before in
+    let s = r .before .before .before .before .before .before in
+    let t = s .before .before .before .before .before .before .before .before .before .before in
+    rests-whole (rw (s .settings .given .1) at (t .start .ensures)) (r .run-rest .ensures)))

@@ -6,7 +6,7 @@ use borrow.Author.Needs.{needs}
 use lib.ListN.{length}
 use lib.Seq.{length-take-le}
 use Rattle.running.proofs.Asked.{Most}
-use Rattle.streaming.proofs.Turns.{lent-most, lent-long}
+use Rattle.streaming.proofs.Leaving.{lent-most, lent-long}
 use Rattle.run.proofs.run_stream.Statement.{statement}
 use Rattle.run.proofs.run_stream.Tie as tie
 
@@ -41,9 +41,23 @@ run-stream-spec =
     let m = c .before .before .before .before in
     let l = m .before .before .before in
     let a = l .before .before .before .before in (
-      a .pre,
-      lent-long (l .before .front .result .now) _ (l .before .front .ensures) (l .lengths-for .ensures) (m .before .before .longs-room .result) (m .before .words-room .result) (m .marks-room .result)
-          (m .before .before .longs-room .ensures) (m .before .words-room .ensures) (m .marks-room .ensures),
+      a .pre .0,
+      (
+        a .pre .1,
+        lent-long (l .before .front .result .now) _ (l .before .front .ensures) (l .lengths-for .ensures) (m .before .before .longs-room .result) (m .before .words-room .result) (m .marks-room .result)
+            (m .before .before .longs-room .ensures) (m .before .words-room .ensures) (m .marks-room .ensures),
+      ),
     ))
     (λ c. search needs)
-    (λ c. c .before .before .before .before .before .run-all .ensures))
+    (λ c.
+    let r = c .before .before .before .before .before in
+    let m = r .before .before .before .before .before in
+    let l = m .before .before .before in
+    record {
+      lent = _;
+      long =
+          lent-long (l .before .front .result .now) _ (l .before .front .ensures) (l .lengths-for .ensures) (m .before .before .longs-room .result) (m .before .words-room .result) (m .marks-room .result)
+          (m .before .before .longs-room .ensures) (m .before .words-room .ensures) (m .marks-room .ensures);
+      left = _;
+      whole = r .run-all .ensures;
+    }))

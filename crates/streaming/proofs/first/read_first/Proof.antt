@@ -1,18 +1,20 @@
--- The turns that are left fall; what is read is within the buffer.
-use mathlib.Core.Path.{_≡_, refl, _∙_}
-use Prim.Native.Nat.{_≤_}
-use native.Mathlib.Omega.{arith}
+-- Each turn reads, or is the last.
+use mathlib.Core.Path.{_≡_, refl, sym, _∙_}
 use borrow.Author.Needs.{needs}
 use lib.ListN.{length}
-use Rattle.streaming.proofs.Turns.{start-inside}
+use Rattle.input.specs.Buffers.{turnsLeft}
+use Rattle.input.proofs.Counts.{turns-less}
+use Rattle.streaming.specs.Works.{readsNext}
+use Rattle.streaming.specs.First.{Opened}
+use Rattle.streaming.proofs.Opening.{opened-first}
 use Rattle.streaming.proofs.first.read_first.Statement.{statement}
 use Rattle.streaming.proofs.first.read_first.Tie as tie
 
 abbrev Inv-loop : tie.InvT-loop
-Inv-loop fd buf₀ w₀ turns₀ buf w turns = (length buf ≡ length buf₀) × (w .have ≤ length buf)
+Inv-loop fd buf₀ w₀ buf w = (length buf ≡ length buf₀) × Opened buf w
 
 abbrev μ-loop : tie.MeasureT-loop
-μ-loop fd buf₀ w₀ turns₀ buf w turns = turns
+μ-loop fd buf₀ w₀ buf w = turnsLeft (readsNext (w .next)) (w .left)
 
 pub read-first-spec : {M : Type 1} → statement M
 read-first-spec =
@@ -21,13 +23,16 @@ read-first-spec =
     Inv-loop
     μ-loop
     (λ c κs. search needs)
-    (λ c. (refl, start-inside (c .at-start .ensures) refl (omega arith)))
+    (λ c. (refl, opened-first _ (c .at-start .ensures)))
     (λ c κs. search needs)
-    (λ c κs. search needs)
+    (λ c κs. c .before .before .before .loop .inv .1)
+    (λ c.
+    let r = c .before .before in
+    let t = r .before .before in
+    let w = t .before .before .loop .w in
+    turns-less (readsNext (w .next)) (w .left) _ (sym (t .before .reads .ensures) ∙ t .if1 .taken) (r .read-once .ensures .1))
+    (λ c.
+    let r = c .before .before in
+    (r .read-once .kept .1 .0 ∙ r .before .before .before .before .loop .inv .0, r .read-once .ensures .0))
     (λ c. search needs)
-    (λ c. search needs)
-    (λ c. (search needs, search needs))
-    (λ c. search needs)
-    (λ c. search needs)
-    (λ c. search needs)
-    (λ c. search needs))
+    (λ c. (c .before .before .loop .inv .1, sym (c .before .reads .ensures) ∙ c .if1 .left)))

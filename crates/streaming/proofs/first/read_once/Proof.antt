@@ -1,6 +1,7 @@
--- What is read is within the buffer.
+-- By what reading gave.
 use borrow.Author.Needs.{needs}
-use Rattle.streaming.proofs.Turns.{read-inside, start-inside}
+use mathlib.Core.Path.{refl}
+use Rattle.streaming.proofs.Opening.{opened-read, opened-ends}
 use Rattle.streaming.proofs.first.read_once.Statement.{statement}
 use Rattle.streaming.proofs.first.read_once.Tie as tie
 
@@ -18,23 +19,15 @@ read-once-spec =
     (λ c. search needs)
     (λ c κs. search needs)
     (λ c. search needs)
-    (λ c. search needs)
-    (λ c κs. search needs)
     (λ c κs. search needs)
     (λ c. search needs)
     (λ c.
-    let n = c .before .before .before .before .before in
-    let f = n .before .before .before .before in
-    start-inside (c .at-start .ensures) (f .fill .kept .1 .0) (read-inside (f .fill .ensures) (n .n .given .1)))
+    let h = c .before .before .before .before .before in
+    let r = h .before .before .before .before in
+    opened-read (r .before .before .before .pre) (r .read-more .kept .1 .0) (r .read-more .ensures) (h .have .given .1) (c .at-start .ensures))
     (λ c. search needs)
-    (λ c.
-    let f = c .before .before .before .before .before in
-    start-inside (c .at-start2 .ensures) (f .fill .kept .1 .0) (f .before .before .before .pre))
+    (λ c. let r = c .before .before .before .before .before in opened-ends (r .before .before .before .pre) (r .read-more .kept .1 .0) (c .at-start2 .ensures) refl)
     (λ c. search needs)
-    (λ c.
-    let f = c .before .before .before .before .before in
-    start-inside (c .at-start3 .ensures) (f .fill .kept .1 .0) (f .before .before .before .pre))
+    (λ c. let r = c .before .before .before .before .before in opened-ends (r .before .before .before .pre) (r .read-more .kept .1 .0) (c .at-start3 .ensures) refl)
     (λ c. search needs)
-    (λ c.
-    let f = c .before .before .before .before .before .before .before in
-    start-inside (c .at-start4 .ensures) (f .fill .kept .1 .0) (f .before .before .before .pre)))
+    (λ c. let r = c .before .before .before .before .before in opened-ends (r .before .before .before .pre) (r .read-more .kept .1 .0) (c .at-start4 .ensures) refl))

@@ -1,6 +1,6 @@
 -- What was read is run; at the end of the input, or where reading fails, nothing is.
 use borrow.Author.Needs.{needs}
-use Rattle.streaming.proofs.Turns.{read-within, ran-ready, stopped-ready, failed-ready}
+use Rattle.streaming.proofs.Turns.{never-full, read-inside, read-fits, read-turned, stopped-turned, failed-turned}
 use Rattle.streaming.proofs.parts.read_part.Statement.{statement}
 use Rattle.streaming.proofs.parts.read_part.Tie as tie
 
@@ -10,17 +10,20 @@ read-part-spec =
     (tie.spec
     (λ c κs. search needs)
     (λ c. search needs)
+    (λ c κs. search needs)
     (λ c κs.
-    let n = c .before .before .before .before .before .before in
-    let f = n .before .before .before .before in
-    (f .before .before .before .before .before .before .before .pre .0 .held, read-within (f .fill .ensures) (f .fill .kept .1 .0) (n .n .given .1)))
+    let v = c .before .before .before .before .before in
+    let h = v .before .before in
+    let m = h .before .before .before .before in
+    let a = m .before .before .before .before .before .before .before in (
+      a .pre .0 .held,
+      (read-inside (a .pre .0) (a .pre .1 .0) (m .read-more .kept .1 .0) (m .read-more .ensures) (h .have .given .1) (v .read .ensures), read-fits (a .pre .0) (a .pre .1 .0) (m .read-more .kept .1 .0) (m .read-more .ensures) (h .have .given .1) (v .read .ensures)),
+    ))
     (λ c. search needs)
     (λ c κs. search needs)
     (λ c. search needs)
     (λ c κs. search needs)
     (λ c. search needs)
-    (λ c. search needs)
-    (λ c κs. search needs)
     (λ c κs. search needs)
     (λ c. search needs)
     (λ c. search needs)
@@ -29,24 +32,23 @@ read-part-spec =
     (λ c. search needs)
     (λ c.
     let p = c .before .before .before .before .before .before .before .before .before .before in
-    let f = p .before .before .before .before .before .before .before .before .before .before .before in
-    ran-ready (p .run-part .ensures) (f .before .before .before .before .before .before .before .pre .0 .held))
-    (λ c. search needs)
-    (λ c. search needs)
-    (λ c. search needs)
-    (λ c. search needs)
-    (λ c. search needs)
-    (λ c.
-    let p = c .before .before .before .before .before .before .before .before .before .before in
-    let f = p .before .before .before .before .before .before .before .before .before .before in
-    ran-ready (p .run-part2 .ensures) (f .before .before .before .before .before .before .before .pre .0 .held))
+    let v = p .before .before .before .before .before .before in
+    let h = v .before .before in
+    let m = h .before .before .before .before in
+    let a = m .before .before .before .before .before .before .before in
+    read-turned (a .pre .0) (a .pre .1 .0) (m .read-more .kept .1 .0) (m .read-more .ensures) (h .have .given .1) (v .read .ensures) (p .run-part .ensures) (a .pre .1 .1) (p .run-part .kept .1 .0))
     (λ c. search needs)
     (λ c.
-    let f = c .before .before .before .before .before in
-    let a = f .before .before .before .before .before .before .before in
-    stopped-ready (a .pre .0) (f .fill .kept .1 .0) (a .pre .1) (c .stopped .ensures))
+    let m = c .before .before .before .before .before in
+    let a = m .before .before .before .before .before .before .before in
+    stopped-turned (a .pre .0) (a .pre .1 .0) (m .read-more .kept .1 .0) (m .read-more .ensures) _ (c .stopped .ensures))
     (λ c. search needs)
     (λ c.
-    let f = c .before .before .before .before .before .before .before in
-    let a = f .before .before .before .before .before .before .before in
-    failed-ready (a .pre .0) (f .fill .kept .1 .0) (c .failed .ensures)))
+    let m = c .before .before .before .before .before in
+    let a = m .before .before .before .before .before .before .before in
+    absurd (never-full (a .pre .0) (a .pre .1 .0) (m .read-more .kept .1 .0) (m .read-more .ensures) (c .before .enum-told2 .given .1)))
+    (λ c. search needs)
+    (λ c.
+    let m = c .before .before .before .before .before in
+    let a = m .before .before .before .before .before .before .before in
+    failed-turned (a .pre .0) (a .pre .1 .0) (m .read-more .kept .1 .0) (m .read-more .ensures) _ (c .failed2 .ensures)))

@@ -1,23 +1,27 @@
--- The turns that are left fall; each keeps what the next one asks.
-use mathlib.Core.Path.{_≡_, refl, _∙_}
+-- Each turn reads, consumes what waits or is the last; each keeps what the next one asks, and goes on from where the one before stood.
+use mathlib.Core.Path.{_≡_, refl, sym, _∙_}
+use native.Mathlib.Omega.{arith}
 use borrow.Author.Needs.{needs}
-use lib.ListN.{length}
+use lib.ListN.{length, take}
 use Rattle.model.specs.Lent.{lent}
-use Rattle.streaming.specs.Parts.{Ready}
+use Rattle.streaming.specs.Works.{turnsOf}
+use Rattle.streaming.specs.Parts.{Ready, Came}
+use Rattle.streaming.proofs.Turns.{start-came, next-came}
 use Rattle.streaming.proofs.parts.run_rest.Statement.{statement}
 use Rattle.streaming.proofs.parts.run_rest.Tie as tie
 
 abbrev Inv-loop : tie.InvT-loop
-Inv-loop fd s buf₀ longs₀ words₀ marks₀ scope events₀ w₀ turns₀ buf longs words marks events w turns =
+Inv-loop fd s buf₀ longs₀ words₀ marks₀ scope events₀ w₀ buf longs words marks events w =
     (length buf ≡ length buf₀)
     × (length longs ≡ length longs₀)
     × (length words ≡ length words₀)
     × (length marks ≡ length marks₀)
-    × (length events ≡ length events₀)
-    × Ready s (lent longs words marks) buf w
+    × (length events ≡ 65536)
+    × Ready s scope (lent longs words marks) buf w
+    × Came s 65536 (lent longs₀ words₀ marks₀) (take (w₀ .have) buf₀) w₀ w (take (w .have) buf) (lent longs words marks)
 
 abbrev μ-loop : tie.MeasureT-loop
-μ-loop fd s buf₀ longs₀ words₀ marks₀ scope events₀ w₀ turns₀ buf longs words marks events w turns = turns
+μ-loop fd s buf₀ longs₀ words₀ marks₀ scope events₀ w₀ buf longs words marks events w = turnsOf (w .next) (w .have) (w .left)
 
 pub run-rest-spec : {M : Type 1} → statement M
 run-rest-spec =
@@ -27,23 +31,32 @@ run-rest-spec =
     μ-loop
     (λ c κs. search needs)
     (λ c. search needs)
-    (λ c. (refl, refl, refl, refl, refl, c .before .before .before .before .before .before .pre))
+    (λ c.
+    let a = c .before .before .before .before .before .before in
+    (refl, refl, refl, refl, sym (c .before .large-buffer .ensures), a .pre, start-came 65536 (a .pre)))
     (λ c κs. search needs)
-    (λ c κs. c .before .before .before .before .before .before .before .before .loop .inv .5)
+    (λ c κs.
+    let t = c .before .before .before .before .before in
+    let i = t .before .before .loop .inv in
+    (i .5, (sym (t .before .goes-on .ensures) ∙ t .if1 .taken, omega (arith, i .4))))
+    (λ c. c .before .before .before .before .before .before .before .before .before .before .turn .ensures .fewer)
+    (λ c.
+    let t = c .before .before .before .before .before .before .before .before .before .before in
+    let i = t .before .before .before .before .before .before .before .before .loop .inv in
+    let k = t .turn .kept .1 .1 in (
+      k .0 ∙ i .0,
+      k .1 .1 .0 ∙ i .1,
+      k .1 .1 .1 .0 ∙ i .2,
+      k .1 .1 .1 .1 .0 ∙ i .3,
+      k .1 .0 ∙ i .4,
+      t .turn .ensures .ready,
+      next-came (i .6) (i .4) (t .turn .ensures),
+    ))
+    (λ c. search needs)
+    (λ c. search needs)
     (λ c. search needs)
     (λ c. search needs)
     (λ c.
-    let t = c .before .before .before .before .before .before .before .before .before .before in
-    let i = t .before .before .before .before .before .before .before .before .before .loop .inv in
-    let k = t .turn .kept .1 .1 in
-    (k .0 ∙ i .0, k .1 .1 .0 ∙ i .1, k .1 .1 .1 .0 ∙ i .2, k .1 .1 .1 .1 .0 ∙ i .3, k .1 .0 ∙ i .4, t .turn .ensures))
-    (λ c. search needs)
-    (λ c. search needs)
-    (λ c. search needs)
-    (λ c. search needs)
-    (λ c. c .before .before .loop .inv .5)
-    (λ c. search needs)
-    (λ c. search needs)
-    (λ c. search needs)
-    (λ c. search needs)
-    (λ c. c .before .before .before .before .loop .inv .5))
+    let t = c .before in
+    let i = t .before .before .loop .inv in
+    record { ready = i .5; over = sym (t .before .goes-on .ensures) ∙ t .if1 .left; came = i .6 }))

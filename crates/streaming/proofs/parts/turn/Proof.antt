@@ -1,7 +1,9 @@
 -- Either half keeps what the next turn asks.
-use mathlib.Core.Path.{sym, _∙_}
 use borrow.Author.Needs.{needs}
-use Rattle.streaming.proofs.Turns.{reads-sure, ran-ready}
+use mathlib.Core.Path.{sym, _∙_}
+use native.Mathlib.Omega.{arith}
+use lib.Seq.{length-take-le}
+use Rattle.streaming.proofs.Turns.{reads-next, runs-next, ran-turned}
 use Rattle.streaming.proofs.parts.turn.Statement.{statement}
 use Rattle.streaming.proofs.parts.turn.Tie as tie
 
@@ -13,8 +15,8 @@ turn-spec =
     (λ c κs.
     let t = c .before .before .before .before .before in
     let a = t .before .before .before .before .before .before .before in
-    (a .pre, reads-sure (a .args .w .next) (a .args .w .stop) (a .pre .sure) (sym (t .before .reads .ensures) ∙ t .if1 .taken)))
-    (λ c κs. search needs)
+    (a .pre .0, (reads-next (a .args .w .next) (sym (t .before .reads .ensures) ∙ t .if1 .taken), a .pre .1 .1)))
+    (λ c κs. let a = c .before .before .before .before .before .before .before .before .before .before .before .before in (a .pre .0 .held, (a .pre .0 .inside, omega (arith, a .pre .0 .counted))))
     (λ c. search needs)
     (λ c. search needs)
     (λ c. search needs)
@@ -28,4 +30,8 @@ turn-spec =
     (λ c. search needs)
     (λ c.
     let p = c .before .before .before .before .before .before .before .before .before .before in
-    ran-ready (p .run-part .ensures) (p .before .before .before .before .before .before .before .before .before .before .before .before .before .pre .held)))
+    let t = p .before .before .before .before .before .before in
+    let a = t .before .before .before .before .before .before .before in
+    let y = a .pre .0 in
+    ran-turned (p .run-part .ensures) (y .held) (a .pre .1 .1) (omega (arith, y .roomy, p .run-part .kept .1 .0)) (length-take-le _ _ (y .inside)) (y .counted)
+    (runs-next (a .args .w .next) (sym (t .before .reads .ensures) ∙ t .if1 .left) (a .pre .1 .0))))

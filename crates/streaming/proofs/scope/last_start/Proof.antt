@@ -1,41 +1,20 @@
 -- What is left of the walk, from here, ends where all of it does.
-use mathlib.Core.Path.{_≡_, sym, _∙_}
-use Prim.Native.Nat.{_≤_}
+use mathlib.Core.Path.{_≡_}
+use Prim.Native.Nat.{_+_, _-_, _≤_}
+use native.Mathlib.Nat.{zero-add}
 use native.Mathlib.Omega.{arith}
 use borrow.Author.Needs.{needs}
-use lib.ListN.{length}
-use Rattle.streaming.specs.Scopes.{lastFrom, lastStart}
-use Rattle.streaming.proofs.Lasts.{last-goes, last-cut, last-whole, last-done, last-first}
+use lib.ListN.{length, drop}
+use Rattle.streaming.specs.Scopes.{beforeLast}
+use Rattle.streaming.proofs.Lasts.{walk-unknown, walk-last, walk-goes, walk-end}
 use Rattle.streaming.proofs.scope.last_start.Statement.{statement}
 use Rattle.streaming.proofs.scope.last_start.Tie as tie
 
 abbrev Inv-loop : tie.InvT-loop
-Inv-loop s at₀ turns₀ at turns = (at ≤ length s) × (lastFrom turns s at ≡ lastStart s)
+Inv-loop s at₀ at = (at ≤ length s) × (at + beforeLast 0 (drop at s) ≡ beforeLast 0 s)
 
 abbrev μ-loop : tie.MeasureT-loop
-μ-loop s at₀ turns₀ at turns = turns
-
-returns : tie.Need-returns Inv-loop μ-loop
-returns c =
-    let b = c .before in
-    let l = b .before .before .loop in
-    (sym (last-cut _ _ (b .behind .ensures) (l .turns) (c .if1 .taken)) ∙ l .inv .1, l .inv .0)
-
-returns-2 : tie.Need-returns-2 Inv-loop μ-loop
-returns-2 c =
-    let b = c .before .before in
-    let l = b .before .before .loop in
-    (sym (last-whole _ _ (b .behind .ensures) (l .turns) (c .if2 .taken)) ∙ l .inv .1, l .inv .0)
-
-loop-again : tie.Need-loop-again Inv-loop μ-loop
-loop-again c =
-    let b = c .before .before in
-    let i = b .before in
-    let l = i .before .loop in
-    (omega (arith, c .if2 .left), sym (last-goes _ _ (b .behind .ensures) (l .turns) (i .loop-test .taken) (c .before .if1 .left) (c .if2 .left)) ∙ l .inv .1)
-
-returns-3 : tie.Need-returns-3 Inv-loop μ-loop
-returns-3 c = let l = c .before .loop in (sym (last-done _ (l .at) (l .turns) (c .loop-test .left)) ∙ l .inv .1, l .inv .0)
+μ-loop s at₀ at = length s - at
 
 pub last-start-spec : {M : Type 1} → statement M
 last-start-spec =
@@ -43,11 +22,31 @@ last-start-spec =
     (tie.spec
     Inv-loop
     μ-loop
-    (λ c. (omega arith, last-first _))
+    (λ c. (omega arith, zero-add _))
+    (λ c. search needs)
     (λ c κs. search needs)
-    returns
-    returns-2
-    (λ c. omega arith)
-    (λ c. omega arith)
-    loop-again
-    returns-3)
+    (λ c.
+    let k = c .before in
+    let i = k .before .before in
+    let l = i .before .loop in
+    (walk-unknown _ (l .at) (i .loop-test .taken) (l .inv .1) (k .is-command .ensures) (c .if1 .taken), omega arith))
+    (λ c κs. search needs)
+    (λ c. search needs)
+    (λ c. search needs)
+    (λ c. search needs)
+    (λ c.
+    let n = c .before in
+    let k = n .before .before in
+    let i = k .before .before in
+    let l = i .before .loop in
+    (walk-last _ (l .at) (i .loop-test .taken) (l .inv .1) (k .is-command .ensures) (n .before .if1 .left) (n .length-of .ensures) (c .if2 .taken), l .inv .0))
+    (λ c. search needs)
+    (λ c. search needs)
+    (λ c. search needs)
+    (λ c.
+    let n = c .before in
+    let k = n .before .before in
+    let i = k .before .before in
+    let l = i .before .loop in
+    (omega arith, walk-goes _ (l .at) (i .loop-test .taken) (l .inv .1) (k .is-command .ensures) (n .before .if1 .left) (n .length-of .ensures) (c .if2 .left)))
+    (λ c. let l = c .before .loop in (walk-end _ (l .at) (l .inv .0) (c .loop-test .left) (l .inv .1), l .inv .0)))

@@ -8,6 +8,6 @@ behind-spec =
     tie.close
     (tie.spec
     (λ c κs. search needs)
+    (λ c. search needs)
     (λ c κs. search needs)
-    (λ c κs. search needs)
-    (λ c. rw (c .before .before .next-of .ensures, c .before .wrapping-add-u64 .ensures, c .wrapping-add-u642 .ensures)))
+    (λ c. rw (c .before .before .next-of .ensures, c .wrapping-add-u64 .ensures)))

@@ -1,0 +1,196 @@
+-- The first record and the turns behind it, as one run.
+use mathlib.Core.Path.{_≡_, refl, sym, ap, subst, _∙_}
+use mathlib.Core.Logic.{_⊎_, inl, inr, ⊎-elim}
+use mathlib.Core.Bool.{true, false}
+use mathlib.Core.List.{List, [], _∷_, _++_, append-nil, append-assoc}
+use Prim.Native.Nat.{ℕ, _+_, _-_, _%_, _^_, _≤_}
+use native.Mathlib.Nat.{zero-add}
+use native.Mathlib.Omega.{arith}
+use borrow.Author.Tests.{le-leb, ltb-false}
+use lib.Dec.{ltb}
+use lib.ListN.{length, take, drop}
+use lib.Seq.{drop-append-le, take-append-seam}
+use Rattle.model.proofs.Flags.{clash, by-flag, flag}
+use Rattle.model.proofs.Soundness.{start-sound}
+use Rattle.model.specs.Tables.{Tables, start}
+use Rattle.model.specs.Lent.{Lent, encode}
+use Rattle.model.specs.Inner.{Is}
+use Rattle.model.specs.Records.{isCommand, lengthOf}
+use Rattle.model.specs.Runner.{settingsOf, firstStop, goesOn, Result, halt, ahead, runFrom, lentResult, run}
+use Rattle.model.specs.declared.Settings.{Settings}
+use Rattle.model.specs.declared.Stop.{Stop}
+use Rattle.model.specs.declared.Stop.the-variants as stop
+use Rattle.running.specs.declared.Begun.{Begun}
+use Rattle.running.specs.declared.Begun.the-variants.{Accepted, Stopped}
+use Rattle.running.specs.Begin.{beginning, begunTables, firstThere}
+use Rattle.running.proofs.First.{settled, run-accepts}
+use Rattle.running.proofs.Running.{run-skips}
+use Rattle.running.proofs.Parts.{begins-more}
+use Rattle.streaming.specs.declared.work.Next.{Next}
+use Rattle.streaming.specs.declared.work.Next.the-variants as next
+use Rattle.streaming.specs.declared.work.Work.{Work}
+use Rattle.streaming.specs.declared.scope.Scope.the-variants as scope
+use Rattle.streaming.specs.declared.parts.Started.the-variants.{Runs, Stops}
+use Rattle.streaming.specs.Works.{goesNext, begunOf}
+use Rattle.streaming.specs.Halts.{ofEnd, Behind, Before}
+use Rattle.streaming.specs.Parts.{Came, Went, Rested, Starts}
+use Rattle.streaming.specs.Wholes.{Whole}
+
+-- ---- the first record of a stream, once it decides
+
+-- it is all there, or its kind is no command's
+there-goes : (L : Lent) (k : ℕ) (bs : List ℕ) → (firstStop L k bs ≡ stop.CutShort → ⊥) → firstThere (k ∷ bs) ≡ true
+unfolding firstThere firstStop
+there-goes L k bs g =
+    ⊎-elim
+    (λ (z : isCommand k ≡ true).
+    ⊎-elim
+    (λ (y : ltb (length bs) (lengthOf k) ≡ true). absurd (g (rw (z, y))))
+    (λ (y : ltb (length bs) (lengthOf k) ≡ false). rw (z, le-leb (lengthOf k) (length bs) (ltb-false (length bs) (lengthOf k) y)))
+    (flag (ltb (length bs) (lengthOf k))))
+    (λ (z : isCommand k ≡ false). rw z)
+    (flag (isCommand k))
+
+module _ (L : Lent) where
+  stopped-there : (s : List ℕ) (n : Stop) → beginning L s ≡ Stopped n → (n ≡ stop.Nothing → ⊥) → (n ≡ stop.CutShort → ⊥) → firstThere s ≡ true
+  unfolding beginning
+  stopped-there [] n q f g = let e : stop.Nothing ≡ n = cc in absurd (f (sym e))
+  stopped-there (k ∷ bs) n q f g =
+      by-flag (λ (x : Begun). x ≡ Stopped n → firstThere (k ∷ bs) ≡ true) (goesOn (firstStop L k bs)) _ _
+      (λ z h. let e : _≡_ {A = ℕ} 0 1 = cc in absurd (omega arith))
+      (λ z h. let e : firstStop L k bs ≡ n = cc in there-goes L k bs (λ c. g (sym e ∙ c)))
+      q
+
+  pub stopped-run : (s : List ℕ) (n : Stop) (room : ℕ) → beginning L s ≡ Stopped n → run room s L ≡ halt n L
+  unfolding beginning run
+  stopped-run [] n room q = let e : stop.Nothing ≡ n = cc in rw e
+  stopped-run (k ∷ bs) n room q =
+      by-flag (λ (x : Begun). x ≡ Stopped n → run room (k ∷ bs) L ≡ halt n L) (goesOn (firstStop L k bs)) _ _
+      (λ z h. let e : _≡_ {A = ℕ} 0 1 = cc in absurd (omega arith))
+      (λ z h. let e : firstStop L k bs ≡ n = cc in rw (z, e))
+      q
+
+  -- also with what may come behind
+  stopped-more : (s b : List ℕ) (n : Stop) → beginning L s ≡ Stopped n → Behind n b → beginning L (s ++ b) ≡ Stopped n
+  stopped-more s b n q h =
+      ⊎-elim
+      (λ (z : ofEnd n ≡ true). rw (h z, append-nil) q)
+      (λ (z : ofEnd n ≡ false). begins-more L s b (stopped-there s n q (λ e. clash (ap ofEnd e) z) (λ e. clash (ap ofEnd e) z)) ∙ q)
+      (flag (ofEnd n))
+
+  record Opens (s : List ℕ) (S : Settings) : Type 0 where
+    long : 8 ≤ length s
+    there : firstThere s ≡ true
+    runs : (room : ℕ) → run room s L ≡ ahead 8 [] (lentResult S (runFrom S 0 room (drop 8 s) (start S)))
+
+  -- settings that are accepted
+  opens : (s : List ℕ) (S : Settings) → beginning L s ≡ Accepted S → Opens s S
+  unfolding beginning lengthOf
+  opens [] S q = let e : _≡_ {A = ℕ} 0 1 = cc in absurd (omega arith)
+  opens (k ∷ bs) S q =
+      by-flag (λ (x : Begun). x ≡ Accepted S → Opens (k ∷ bs) S) (goesOn (firstStop L k bs)) _ _
+      (λ z h.
+      let e : settingsOf bs ≡ S = cc in
+      let g = settled L k bs z in
+      let w : 7 ≤ length bs = g .whole in
+      record {
+        long = omega arith;
+        there = there-goes L k bs (λ c. clash z (ap goesOn c));
+        runs = λ room.
+            let r : run room (k ∷ bs) L ≡ ahead 8 [] (lentResult (settingsOf bs) (runFrom (settingsOf bs) 0 room (drop 7 bs) (start (settingsOf bs)))) =
+            rw (run-accepts room L k bs z, g .settings, run-skips (settingsOf bs) 7 room bs (start (settingsOf bs)) w) in
+            r ∙ ap (λ (S : Settings). ahead 8 [] (lentResult S (runFrom S 0 room (drop 7 bs) (start S)))) e;
+      })
+      (λ z h. let e : _≡_ {A = ℕ} 0 1 = cc in absurd (omega arith))
+      q
+
+  -- with anything behind
+  pub opens-run : (s b : List ℕ) (S : Settings) (room : ℕ) → beginning L s ≡ Accepted S
+      → run room (s ++ b) L ≡ ahead 8 [] (lentResult S (runFrom S 0 room (drop 8 s ++ b) (start S)))
+  opens-run s b S room q =
+      let o = opens s S q in
+      let m = opens (s ++ b) S (begins-more L s b (o .there) ∙ q) in
+      m .runs room ∙ ap (λ (x : List ℕ). ahead 8 [] (lentResult S (runFrom S 0 room x (start S)))) (drop-append-le 8 s b (o .long))
+
+-- ---- stopped at the first record
+
+module _ {L M : Lent} {p buf : List ℕ} {w x : Work} (s : Starts L p w (Stops x) M buf) (written : w .written ≡ 0) (consumed : w .consumed ≡ 0) where
+  pub stops-whole : Whole L p w x M
+  stops-whole =
+      let a = s .after scope.All in
+      let e = a .0 in
+      let q : beginning L p ≡ Stopped (x .stop) = sym (s .says) in
+      let m : M ≡ L = s .tables ∙ ap (begunTables L) q in
+      let c : x .consumed ≡ 0 = ap (λ (y : Work). y .consumed) e ∙ consumed in
+      let n : x .next ≡ next.Stopped = ap (λ (y : Work). y .next) e in
+      record {
+        bytes = [];
+        events = [];
+        counted = let l : x .left ≡ w .left = ap (λ (y : Work). y .left) e in omega arith;
+        written = ap (λ (y : Work). y .written) e ∙ written;
+        over = inl n;
+        final = λ z. rw n at (a .1);
+        is = λ z b room h g. rw (append-nil, c, m) (stopped-run L (p ++ b) (x .stop) room (stopped-more L p b (x .stop) q h));
+        front = λ b room g. refl;
+      }
+
+-- ---- the turns behind it
+
+over-next : (n : Next) → goesNext n ≡ false → (n ≡ next.Stopped) ⊎ (n ≡ next.Failed)
+over-next next.Read e = clash refl e
+over-next next.Run e = clash refl e
+over-next next.Stopped e = inl refl
+over-next next.Failed e = inr refl
+
+put-together : (S : Settings) (n : Stop) (eaten consumed : ℕ) (events : List ℕ) (u : Tables) (N : Lent) → 8 + (eaten + 0) ≡ consumed → N ≡ encode S u
+    → ahead 8 [] (lentResult S (ahead eaten events (halt n u))) ≡ record { stop = n; consumed = consumed; events = events; tables = N }
+put-together S n eaten consumed events u N k e = rw (k, append-nil, e)
+
+module _ {L M N : Lent} {p buf c : List ℕ} {w v r : Work} {S : Settings} (s : Starts L p w (Runs S v) M buf)
+    (rested : Rested S scope.All 65536 M (take (v .have) buf) v r c N) where
+  q : beginning L p ≡ Accepted S
+  q = sym (s .says)
+
+  fresh : Is S M (start S)
+  fresh = record {
+    range = s .after scope.All .2 .held .are .range;
+    soundly = start-sound S;
+    encoded = s .tables ∙ ap (begunTables L) q;
+  }
+
+  abbrev came : Came S 65536 M (take (v .have) buf) v r (take (r .have) c) N
+  came = rested .came
+
+  went : Went S 65536 (start S) (drop 8 p ++ came .bytes) v r (take (r .have) c) N
+  went = subst (λ (x : List ℕ). Went S 65536 (start S) (x ++ came .bytes) v r (take (r .have) c) N) (s .after scope.All .1) (came .on (start S) fresh)
+
+  runs : (b : List ℕ) (room : ℕ) → length (went .events) + 65536 ≤ room
+      → run room ((p ++ came .bytes) ++ b) L
+      ≡ ahead 8 [] (lentResult S (ahead (went .eaten) (went .events) (runFrom S 0 (room - length (went .events)) (take (r .have) c ++ b) (went .tables))))
+  runs b room h =
+      ap (λ (x : List ℕ). run room x L) (append-assoc p (came .bytes) b)
+      ∙ opens-run L p (came .bytes ++ b) S room q
+      ∙ ap (λ (x : List ℕ). ahead 8 [] (lentResult S (runFrom S 0 room x (start S)))) (sym (append-assoc (drop 8 p) (came .bytes) b))
+      ∙ ap (λ (o : Result Tables). ahead 8 [] (lentResult S o)) (went .goes b room h)
+
+  begun : v ≡ begunOf (v .have) (w .left)
+  begun = s .after scope.All .0
+
+  pub rests-whole : Whole L p w r N
+  rests-whole = record {
+    bytes = came .bytes;
+    events = went .events;
+    counted = came .counted ∙ ap (λ (y : Work). y .left) begun;
+    written = went .written ∙ ap (λ (n : ℕ). (n + length (went .events)) % 2 ^ 64) (ap (λ (y : Work). y .written) begun) ∙ rw zero-add;
+    over = over-next (r .next) (rested .over);
+    final = λ z. rw z at (rested .ready .sure);
+    is = λ z b room h g.
+        let u = went .tables in
+        let halts = subst (λ (n : Next). Before S scope.All n (r .stop) (take (r .have) c) u) z (rested .ready .before u (went .are)) in
+        let e : runFrom S 0 (room - length (went .events)) (take (r .have) c ++ b) u ≡ halt (r .stop) u = halts b (room - length (went .events)) h (omega arith) in
+        let k : 8 + (went .eaten + 0) ≡ r .consumed = let a = went .consumed in let d = ap (λ (y : Work). y .consumed) begun in omega arith in
+        runs b room g
+        ∙ ap (λ (o : Result Tables). ahead 8 [] (lentResult S (ahead (went .eaten) (went .events) o))) e
+        ∙ put-together S (r .stop) (went .eaten) (r .consumed) (went .events) u N k (went .are .encoded);
+    front = λ b room g. ap (λ (o : Result Lent). take (length (went .events)) (o .events)) (runs b room g) ∙ take-append-seam (went .events) _;
+  }
