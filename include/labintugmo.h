@@ -269,6 +269,45 @@ size_t labintugmo_wait(uint32_t sets, uint32_t ways, uint32_t percent,
                        uint8_t *events, size_t events_length,
                        uint64_t *round, size_t round_length);
 
+/* Bytes of event room that the rounds and the struck rounds ask for, for each round. */
+enum { LABINTUGMO_ROUND_ROOM = 112 };
+
+/*
+ * Runs rounds as labintugmo_wait does, until the access is accepted and n at the most, and
+ * writes every event, refusals (0x11) too. flags[i] becomes 1 if the offer of round i,
+ * counted from 0, was accepted, and 0 if not; the flags beyond the rounds run stay. `counts`,
+ * a slice of length 2, becomes the rounds run and the event bytes written.
+ *
+ * Returns 0; or 1 to 4 for a refusal before the first round, or LABINTUGMO_NO_ROOM with
+ * fewer than n flags or n * LABINTUGMO_ROUND_ROOM bytes of room: then nothing is run and
+ * `counts` becomes 0 and 0. With another length of `counts` it returns 2 and nothing changes.
+ */
+uint32_t labintugmo_rounds(uint32_t sets, uint32_t ways, uint32_t percent,
+                           uint32_t entries, uint32_t readers, uint32_t places,
+                           uint64_t *longs, size_t longs_length,
+                           uint32_t *words, size_t words_length,
+                           uint8_t *marks, size_t marks_length,
+                           uint32_t is_write, uint64_t address, uint32_t mask, uint32_t ticket,
+                           size_t n, uint8_t *flags, size_t flags_length,
+                           uint8_t *events, size_t events_length,
+                           uint64_t *counts, size_t counts_length);
+
+/*
+ * The same rounds with the refused offers struck out: a round for each flag, and the access
+ * is offered only where the flag is 1. On a copy of the tables, fed the flags of the rounds
+ * that labintugmo_rounds ran, it leaves the same numbers and writes the same events but 0x11.
+ * Returns and counts as labintugmo_rounds does.
+ */
+uint32_t labintugmo_struck(uint32_t sets, uint32_t ways, uint32_t percent,
+                           uint32_t entries, uint32_t readers, uint32_t places,
+                           uint64_t *longs, size_t longs_length,
+                           uint32_t *words, size_t words_length,
+                           uint8_t *marks, size_t marks_length,
+                           uint32_t is_write, uint64_t address, uint32_t mask, uint32_t ticket,
+                           const uint8_t *flags, size_t flags_length,
+                           uint8_t *events, size_t events_length,
+                           uint64_t *counts, size_t counts_length);
+
 /*
  * Runs a stream of commands: a settings record, which makes the tables fresh, then any
  * others. A refused command writes 0x11 and the run goes on. Returns the stop number;

@@ -59,6 +59,18 @@ declare! {
         marks: *mut u8, marks_length: usize, is_write: u32, address: u64, mask: u32, ticket: u32,
         events: *mut u8, events_length: usize, round: *mut u64, round_length: usize
     ) -> usize;
+    labintugmo_rounds(
+        longs: *mut u64, longs_length: usize, words: *mut u32, words_length: usize,
+        marks: *mut u8, marks_length: usize, is_write: u32, address: u64, mask: u32, ticket: u32,
+        n: usize, flags: *mut u8, flags_length: usize,
+        events: *mut u8, events_length: usize, counts: *mut u64, counts_length: usize
+    ) -> u32;
+    labintugmo_struck(
+        longs: *mut u64, longs_length: usize, words: *mut u32, words_length: usize,
+        marks: *mut u8, marks_length: usize, is_write: u32, address: u64, mask: u32, ticket: u32,
+        flags: *const u8, flags_length: usize,
+        events: *mut u8, events_length: usize, counts: *mut u64, counts_length: usize
+    ) -> u32;
     labintugmo_resume(
         part: *const u8, part_length: usize, events: *mut u8, events_length: usize,
         longs: *mut u64, longs_length: usize, words: *mut u32, words_length: usize,

@@ -2,62 +2,11 @@
 //! any number of rounds, the flags that one hands to the other, too little room, and
 //! refusals before it.
 
+use crate::exported::labintugmo::{labintugmo_rounds, labintugmo_struck};
 use crate::exported::{write_number, EmptySlice, Guarded, GuardedTables};
 use reference::model::{Access, Settings, Tables};
 use reference::random::Random;
 use reference::rounds::Rounds;
-
-extern "C" {
-    fn labintugmo_rounds(
-        sets: u32,
-        ways: u32,
-        percent: u32,
-        entries: u32,
-        readers: u32,
-        places: u32,
-        longs: *mut u64,
-        longs_length: usize,
-        words: *mut u32,
-        words_length: usize,
-        marks: *mut u8,
-        marks_length: usize,
-        is_write: u32,
-        address: u64,
-        mask: u32,
-        ticket: u32,
-        n: usize,
-        flags: *mut u8,
-        flags_length: usize,
-        events: *mut u8,
-        events_length: usize,
-        counts: *mut u64,
-        counts_length: usize,
-    ) -> u32;
-    fn labintugmo_struck(
-        sets: u32,
-        ways: u32,
-        percent: u32,
-        entries: u32,
-        readers: u32,
-        places: u32,
-        longs: *mut u64,
-        longs_length: usize,
-        words: *mut u32,
-        words_length: usize,
-        marks: *mut u8,
-        marks_length: usize,
-        is_write: u32,
-        address: u64,
-        mask: u32,
-        ticket: u32,
-        flags: *const u8,
-        flags_length: usize,
-        events: *mut u8,
-        events_length: usize,
-        counts: *mut u64,
-        counts_length: usize,
-    ) -> u32;
-}
 
 /// Bytes of event room for each round.
 const ROUND_ROOM: usize = 112;

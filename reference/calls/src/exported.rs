@@ -2,7 +2,7 @@
 //! numbers that stand between guards, so that a write outside a slice is seen.
 
 #[path = "../../../include/labintugmo.rs"]
-mod labintugmo;
+pub mod labintugmo;
 
 use labintugmo::*;
 use reference::model::{Access, Call, Settings, Tables};

@@ -121,6 +121,26 @@ fn serve_run(stream: &[u8], events: &mut [u8], mut lent: Lent, counts: &mut [u64
     stopped.number.into()
 }
 
+fn serve_resume(
+    settings: &Settings,
+    part: &[u8],
+    events: &mut [u8],
+    mut lent: Lent,
+    counts: &mut [u64],
+) -> u32 {
+    if counts.len() != COUNTS {
+        return runner::STOP_OTHER_LENGTH.into();
+    }
+    let mut tables = lent.tables();
+    let stopped = match Fault::planted().is("resume-starts-anew") {
+        true => runner::run(part, &mut tables, events),
+        false => runner::resume(settings, part, &mut tables, events),
+    };
+    lent.store(&tables);
+    counts.copy_from_slice(&[stopped.consumed as u64, stopped.written as u64]);
+    stopped.number.into()
+}
+
 macro_rules! export_lengths {
     ($($name:ident $which:literal),*) => { $(
         #[no_mangle]
@@ -245,4 +265,24 @@ pub unsafe extern "C" fn labintugmo_run(
     };
     let events = slice_mut(events, events_length);
     serve_run(slice(stream, stream_length), events, lent, slice_mut(counts, counts_length))
+}
+
+/// # Safety
+/// Each pointer is good for the length beside it, and no two slices overlap.
+#[no_mangle]
+#[rustfmt::skip]
+pub unsafe extern "C" fn labintugmo_resume(
+    s: u32, w: u32, p: u32, m: u32, r: u32, q: u32,
+    part: *const u8, part_length: usize, events: *mut u8, events_length: usize,
+    longs: *mut u64, longs_length: usize, words: *mut u32, words_length: usize,
+    marks: *mut u8, marks_length: usize, counts: *mut u64, counts_length: usize,
+) -> u32 {
+    let lent = Lent {
+        longs: slice_mut(longs, longs_length),
+        words: slice_mut(words, words_length),
+        marks: slice_mut(marks, marks_length),
+    };
+    let events = slice_mut(events, events_length);
+    let counts = slice_mut(counts, counts_length);
+    serve_resume(&settings!(s, w, p, m, r, q), slice(part, part_length), events, lent, counts)
 }
