@@ -1,73 +1,152 @@
 // Assembles plain text, from standard input or the file that the first argument names, to a command stream on standard
-// output. A bad line is refused on standard error, with its number and what was expected; nothing is written after it.
+// output. A bad line is refused on standard error, with its number and what was expected. A stream of which something could
+// not be read or assembled ends in an unknown kind, at which the runner stops, so that no part of a text runs as if it were
+// all.
 mod says;
 
 use assembly::Assembled;
-use input::Filled;
+use input::More;
 use libc::STDOUT_FILENO;
+ghost use Prim.Native.Nat.{_≤_};
+ghost use mathlib.Core.Path.{_≡_};
+ghost use mathlib.Core.Bool.{false};
+ghost use Rattle.input.specs.Buffers.{turnsLeft};
+
+// The most bytes of a line before its comment.
+const LONGEST: usize = 4096;
+
+// A kind in neither of document 01's lists.
+const UNKNOWN_KIND: u8 = 0xFF;
+
+// A comment's first character.
+const COMMENT: u8 = 35;
 
 // Where the work stands: the bytes of text that wait at the front of their buffer, the number of the line that they begin,
-// the bytes of the stream that wait to be written, whether to go on.
+// the bytes of the stream that wait to be written, the bytes of text that may still come, whether to go on, whether all so
+// far was assembled, whether writing failed.
 struct Work {
     have: usize,
     line: u64,
     put: usize,
+    left: u64,
     more: bool,
+    whole: bool,
+    lost: bool,
 }
 
-fn stopped(w: Work) -> Work {
+// Nothing more is read; `whole` says whether nothing is left out.
+fn stopped(w: Work, whole: bool) -> Work
+    ensures { λ r. ⌜ (r .more ≡ false) × (r .left ≡ w .left) ⌝ }
+{
     Work {
         have: 0,
         line: w.line,
         put: w.put,
+        left: w.left,
         more: false,
+        whole,
+        lost: w.lost,
     }
 }
 
-// Writes what waits.
-fn written(out: &[u8], w: Work) -> Work {
-    let done = io::write_all(STDOUT_FILENO, text::front(out, w.put));
+// Says whether it went.
+fn write_out(s: &[u8]) -> bool {
+    let done = io::write_all(STDOUT_FILENO, s);
     if !done {
         os::fail(b"write");
     }
-    Work {
-        have: w.have,
-        line: w.line,
-        put: 0,
-        more: w.more & done,
-    }
+    done
 }
 
 // Writes what waits where few places are free: a command is 13 bytes at most.
-fn with_room(out: &[u8], w: Work) -> Work {
+fn with_room(out: &[u8], w: Work) -> Work
+    ensures { λ r. ⌜ r .left ≡ w .left ⌝ }
+{
     let put = w.put;
     if put < out.len() {
         if 13 <= out.len() - put {
             return w;
         }
     }
-    written(out, w)
+    let done = write_out(text::front(out, put));
+    Work {
+        have: w.have,
+        line: w.line,
+        put: 0,
+        left: w.left,
+        more: w.more & done,
+        whole: w.whole,
+        lost: !done,
+    }
 }
 
-fn one_line(line: &[u8], out: &mut [u8], w: Work) -> Work {
+// The bytes of a line before its comment.
+fn text_end(line: &[u8]) -> usize {
+    let mut i = 0;
+    while i < line.len() {
+        if line[i] == COMMENT {
+            return i;
+        }
+        i += 1;
+    }
+    i
+}
+
+fn one_line(line: &[u8], out: &mut [u8], w: Work) -> Work
+    ensures { λ r. ⌜ r .left ≡ w .left ⌝ }
+{
+    if LONGEST < text_end(line) {
+        says::too_long(w.line, LONGEST);
+        return stopped(w, false);
+    }
     let v = with_room(out, w);
+    if v.lost {
+        return v;
+    }
     match assembly::assemble_line(line, out, v.put) {
         Assembled::Next(put) => Work {
             have: v.have,
             line: std::num::wrapping_add_u64(v.line, 1),
             put,
+            left: v.left,
             more: v.more,
+            whole: v.whole,
+            lost: false,
         },
-        Assembled::NoRoom => stopped(v),
+        Assembled::NoRoom => stopped(v, false),
         Assembled::Bad(e) => {
             says::bad(v.line, e);
-            stopped(v)
+            stopped(v, false)
         }
     }
 }
 
+// The line that the buffer ends in, before its end has come: of its comment only the first character is kept, so that a
+// comment may have any length.
+fn part_line(line: &[u8], left: u64, w: Work) -> Work
+    ensures { λ r. ⌜ r .left ≡ left ⌝ }
+{
+    let end = text_end(line);
+    let long = w.more & (LONGEST < end);
+    if long {
+        says::too_long(w.line, LONGEST);
+    }
+    let have = if end < line.len() { end + 1 } else { end };
+    Work {
+        have,
+        line: w.line,
+        put: w.put,
+        left,
+        more: w.more & !long,
+        whole: w.whole & !long,
+        lost: w.lost,
+    }
+}
+
 // The whole lines among the first n bytes; the rest goes to the front.
-fn whole_lines(buf: &mut [u8], n: usize, out: &mut [u8], w: Work) -> Work {
+fn whole_lines(buf: &mut [u8], n: usize, left: u64, out: &mut [u8], w: Work) -> Work
+    ensures { λ r. ⌜ r .left ≡ left ⌝ }
+{
     let mut v = w;
     let mut at = 0;
     while (at < n) & v.more {
@@ -79,63 +158,69 @@ fn whole_lines(buf: &mut [u8], n: usize, out: &mut [u8], w: Work) -> Work {
         at = end + 1;
     }
     let have = input::carry(buf, at, n);
-    Work {
-        have,
-        line: v.line,
-        put: v.put,
-        more: v.more,
-    }
+    part_line(text::front(buf, have), left, v)
 }
 
 // A last line needs no line feed.
-fn last_line(buf: &[u8], out: &mut [u8], w: Work) -> Work {
+fn last_line(buf: &[u8], out: &mut [u8], w: Work) -> Work
+    ensures { λ r. ⌜ r .more ≡ false ⌝ }
+{
     let have = w.have;
     if have == 0 {
-        return stopped(w);
+        return stopped(w, w.whole);
     }
-    stopped(one_line(text::front(buf, have), out, w))
+    let v = one_line(text::front(buf, have), out, w);
+    stopped(v, v.whole)
 }
 
-fn read_once(fd: i32, buf: &mut [u8], out: &mut [u8], w: Work) -> Work {
-    match input::fill(fd, buf, w.have) {
-        Filled::To(n) => whole_lines(buf, n, out, w),
-        Filled::End => last_line(buf, out, w),
-        Filled::Full => {
-            says::too_long(w.line, buf.len());
-            stopped(w)
-        }
-        Filled::Failed => {
-            os::fail(b"read");
-            stopped(w)
-        }
+// Reads once: fewer bytes may come then, or it was the last turn.
+fn read_once(fd: i32, buf: &mut [u8], out: &mut [u8], w: Work) -> Work
+    ensures { λ r. ⌜ turnsLeft (r .more) (r .left) ≤ w .left ⌝ }
+{
+    match input::read_more(fd, buf, w.have, w.left) {
+        More::To { have, left } => whole_lines(buf, have, left, out, w),
+        More::End => last_line(buf, out, w),
+        More::Full => stopped(w, false),
+        More::Failed => stopped(w, false),
     }
 }
 
-// A proved loop has to end, and nothing says that an input does: the turns are more than any run takes.
+// After a failed write nothing more is written.
+fn end_stream(out: &[u8], w: Work) {
+    if w.lost {
+        return;
+    }
+    if !write_out(text::front(out, w.put)) {
+        return;
+    }
+    if !w.whole {
+        write_out(&[UNKNOWN_KIND]);
+    }
+}
+
 fn assemble_all(fd: i32, buf: &mut [u8], out: &mut [u8]) {
     let mut w = Work {
         have: 0,
         line: 1,
         put: 0,
+        left: u64::MAX,
         more: true,
+        whole: true,
+        lost: false,
     };
-    let mut turns = u64::MAX;
-    while 0 < turns {
-        if !w.more {
-            break;
-        }
+    while w.more {
         w = read_once(fd, buf, out, w);
-        turns -= 1;
     }
-    written(out, w);
+    end_stream(out, w);
 }
 
 fn main() {
     let fd = input::open_input();
     if fd < 0 {
+        write_out(&[UNKNOWN_KIND]);
         return;
     }
-    let mut buf = io::buffer();
+    let mut buf = io::large_buffer();
     let mut out = io::large_buffer();
     assemble_all(fd, &mut buf, &mut out);
 }

@@ -12,18 +12,23 @@ fn line_number(line: u64) {
     say(b": ");
 }
 
+fn ends() {
+    say(b". The stream ends before this line, with an unknown kind.\n");
+}
+
 pub fn too_long(line: u64, most: usize) {
     line_number(line);
     say(b"longer than ");
     io::print_decimal(STDERR_FILENO, most as u64);
-    say(b" bytes. Nothing is written from this line on.\n");
+    say(b" bytes before its comment");
+    ends();
 }
 
 pub fn bad(line: u64, e: Expected) {
     line_number(line);
     say(b"expected ");
     expected(e);
-    say(b". Nothing is written from this line on.\n");
+    ends();
 }
 
 fn expected(e: Expected) {

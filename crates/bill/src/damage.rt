@@ -49,3 +49,10 @@ pub fn put_damage(s: &[u8], place: u64, out: &mut [u8], at: usize) -> usize {
         Look::Strange(_) => put_stop(place, b": its record is no event.", out, at),
     }
 }
+
+// What could not be read is not billed: a whole-looking bill of it would mislead.
+pub fn put_unread(place: u64, out: &mut [u8], at: usize) -> usize {
+    let a = text::put_text(b"The log could not be read from byte ", out, at);
+    let b = text::put_decimal(place, out, a);
+    text::put_text(b" on. The bill is of what stands before.\n", out, b)
+}

@@ -1,17 +1,23 @@
 // The bill of an event log, from standard input or the file that the first argument names: what a designer of the memory bus
-// reads first. A damaged log is billed up to the damage, and the last line says so.
+// reads first. A log that is damaged, or that cannot be read to its end, is billed up to there, and the last line says so.
 mod damage;
 mod summary;
 
 use billing::Bill;
-use input::Filled;
+use input::More;
 use libc::STDOUT_FILENO;
+ghost use Prim.Native.Nat.{_≤_};
+ghost use mathlib.Core.Path.{_≡_};
+ghost use Rattle.input.specs.Buffers.{turnsLeft};
 
-// The bytes that wait at the front of the buffer, the bytes billed before them, whether to go on.
+// The bytes that wait at the front of the buffer, the bytes billed before them, the bytes that may still come, whether to go
+// on, whether reading failed.
 struct Work {
     have: usize,
     place: u64,
+    left: u64,
     more: bool,
+    failed: bool,
 }
 
 // Where the work stands, with the bill so far.
@@ -20,65 +26,83 @@ struct Account {
     bill: Bill,
 }
 
-fn stands(have: usize, place: u64, more: bool, bill: Bill) -> Account {
-    Account {
-        work: Work { have, place, more },
-        bill,
-    }
+// Nothing more is read.
+fn ends(w: Work, failed: bool, bill: Bill) -> Account
+    ensures { λ r. ⌜ turnsLeft (r .work .more) (r .work .left) ≡ 0 ⌝ }
+{
+    let work = Work {
+        have: w.have,
+        place: w.place,
+        left: w.left,
+        more: false,
+        failed,
+    };
+    Account { work, bill }
 }
 
 // The whole events of the first n bytes of the buffer; what is no whole event yet goes to its front.
-fn bill_buffer(buf: &mut [u8], n: usize, w: Work, b: Bill) -> Account {
+fn bill_buffer(buf: &mut [u8], n: usize, left: u64, w: Work, b: Bill) -> Account
+    ensures { λ r. ⌜ r .work .left ≡ left ⌝ }
+{
     let r = billing::bill_log(b, text::front(buf, n));
     let next = r.next;
     let more = damage::may_go_on(text::front(buf, n), next);
     let have = input::carry(buf, next, n);
-    stands(
+    let work = Work {
         have,
-        std::num::wrapping_add_u64(w.place, next as u64),
+        place: std::num::wrapping_add_u64(w.place, next as u64),
+        left,
         more,
-        r.bill,
-    )
+        failed: false,
+    };
+    let bill = r.bill;
+    Account { work, bill }
 }
 
-fn read_once(fd: i32, buf: &mut [u8], w: Work, b: Bill) -> Account {
-    match input::fill(fd, buf, w.have) {
-        Filled::To(n) => bill_buffer(buf, n, w, b),
-        Filled::End => stands(w.have, w.place, false, b),
-        Filled::Full => stands(w.have, w.place, false, b),
-        Filled::Failed => {
-            os::fail(b"read");
-            stands(w.have, w.place, false, b)
-        }
+// Reads once: fewer bytes may come then, or it was the last turn.
+fn read_once(fd: i32, buf: &mut [u8], w: Work, b: Bill) -> Account
+    ensures { λ r. ⌜ turnsLeft (r .work .more) (r .work .left) ≤ w .left ⌝ }
+{
+    match input::read_more(fd, buf, w.have, w.left) {
+        More::To { have, left } => bill_buffer(buf, have, left, w, b),
+        More::End => ends(w, false, b),
+        More::Full => ends(w, false, b),
+        More::Failed => ends(w, true, b),
     }
 }
 
-// A proved loop has to end, and nothing says that an input does: the turns are more than any run takes.
 fn bill_all(fd: i32, buf: &mut [u8]) -> Account {
     let mut w = Work {
         have: 0,
         place: 0,
+        left: u64::MAX,
         more: true,
+        failed: false,
     };
     let mut b = billing::empty_bill();
-    let mut turns = u64::MAX;
-    while 0 < turns {
-        if !w.more {
-            break;
-        }
+    while w.more {
         let a = read_once(fd, buf, w, b);
         w = a.work;
         b = a.bill;
-        turns -= 1;
     }
     Account { work: w, bill: b }
 }
 
+// Why the bill is not of a whole log, where it is not.
+fn put_lack(buf: &[u8], w: Work, out: &mut [u8], at: usize) -> usize {
+    let have = w.have;
+    if w.failed {
+        let read = std::num::wrapping_add_u64(w.place, have as u64);
+        damage::put_unread(read, out, at)
+    } else {
+        damage::put_damage(text::front(buf, have), w.place, out, at)
+    }
+}
+
 fn print(buf: &[u8], a: Account, out: &mut [u8]) {
     let w = a.work;
-    let have = w.have;
     let summary = summary::put_summary(w.place, a.bill, out, 0);
-    let end = damage::put_damage(text::front(buf, have), w.place, out, summary);
+    let end = put_lack(buf, w, out, summary);
     if !io::write_all(STDOUT_FILENO, text::front(out, end)) {
         os::fail(b"write");
     }

@@ -1,13 +1,22 @@
 // Where a program's bytes come from: standard input or the file that its first argument names, through a buffer.
 ghost use mathlib.Core.Path.{_≡_};
-ghost use Prim.Native.Nat.{_+_, _≤_};
+ghost use Prim.Native.Nat.{_+_, _<_, _≤_};
 ghost use lib.ListN.{length};
-ghost use Rattle.input.specs.Buffers.{Read, movedDown, carried, carriedCount};
+ghost use Rattle.input.specs.Buffers.{Read, Counted, Grown, movedDown, carried, carriedCount};
+use libc::STDERR_FILENO;
 use libc::STDIN_FILENO;
 
 // How far the bytes of a buffer now go, or why there are no more.
 pub enum Filled {
     To(usize),
+    End,
+    Full,
+    Failed,
+}
+
+// The same with a count of the bytes that may still come.
+pub enum More {
+    To { have: usize, left: u64 },
     End,
     Full,
     Failed,
@@ -42,11 +51,46 @@ pub fn fill(fd: i32, buf: &mut [u8], have: usize) -> Filled
     if got < 0 {
         return Filled::Failed;
     }
-    if got == 0 {
+    let n = io::count(got, &buf[have..]);
+    if n == 0 {
         return Filled::End;
     }
-    let n = io::count(got, &buf[have..]);
     Filled::To(have + n)
+}
+
+// What was read is taken off the bytes that may still come.
+fn counted(have: usize, n: usize, left: u64) -> More
+    requires { ⌜ have < n ⌝ }
+    ensures { λ r. ⌜ Counted have n left r ⌝ }
+{
+    let got = (n - have) as u64;
+    if left < got {
+        io::write_all(
+            STDERR_FILENO,
+            b"read: the input is longer than 18446744073709551615 bytes\n",
+        );
+        return More::Failed;
+    }
+    More::To {
+        have: n,
+        left: left - got,
+    }
+}
+
+// Reads once, as `fill`. Each read takes at least a byte off `left`, so that a loop over any input ends. What failed is said on
+// standard error.
+pub fn read_more(fd: i32, buf: &mut [u8], have: usize, left: u64) -> More
+    ensures { λ r. ⌜ Grown (now (buf .entry)) have left r (now (buf .exit)) ⌝ }
+{
+    match fill(fd, buf, have) {
+        Filled::To(n) => counted(have, n, left),
+        Filled::End => More::End,
+        Filled::Full => More::Full,
+        Filled::Failed => {
+            os::fail(b"read");
+            More::Failed
+        }
+    }
 }
 
 // n bytes from an index on, moved to the front.

@@ -3,26 +3,34 @@
 // says where and why it stops.
 mod damage;
 
-use input::Filled;
+use input::More;
 use libc::STDOUT_FILENO;
 use listing::Look;
+ghost use Prim.Native.Nat.{_-_, _≤_};
+ghost use mathlib.Core.Path.{_≡_};
+ghost use mathlib.Core.Bool.{false};
+ghost use lib.ListN.{length};
+ghost use Rattle.input.specs.Buffers.{turnsLeft};
 
 // The bytes that wait at the front of the buffer, the place of the first of them in the whole input, the bytes of text that
-// wait to be written, whether to go on.
+// wait to be written, the bytes that may still come, whether to go on, whether writing failed.
 struct Work {
     have: usize,
     place: u64,
     put: usize,
+    left: u64,
     more: bool,
+    lost: bool,
 }
 
 // Within one buffer: the place of the next record in it, the bytes of text that wait, whether a whole record may stand
-// there, whether all is over.
+// there, whether all is over, whether writing failed.
 struct Turn {
     at: usize,
     put: usize,
     more: bool,
     stop: bool,
+    lost: bool,
 }
 
 // Writes what waits; says whether it went.
@@ -35,7 +43,9 @@ fn write_out(out: &[u8], n: usize) -> bool {
 }
 
 // Writes what waits where few places are free: no line takes 512 bytes.
-fn with_room(out: &[u8], t: Turn) -> Turn {
+fn with_room(out: &[u8], t: Turn) -> Turn
+    ensures { λ r. ⌜ r .at ≡ t .at ⌝ }
+{
     let put = t.put;
     if put < out.len() {
         if 512 <= out.len() - put {
@@ -48,6 +58,7 @@ fn with_room(out: &[u8], t: Turn) -> Turn {
         put: 0,
         more: t.more & done,
         stop: t.stop | !done,
+        lost: !done,
     }
 }
 
@@ -57,36 +68,50 @@ fn put_place(place: u64, out: &mut [u8], at: usize) -> usize {
 }
 
 // A line is whole: the next record stands at `at`.
-fn line_done(out: &mut [u8], at: usize, put: usize, t: Turn) -> Turn {
+fn line_done(out: &mut [u8], at: usize, put: usize, t: Turn) -> Turn
+    ensures { λ r. ⌜ r .at ≡ at ⌝ }
+{
     Turn {
         at,
         put: text::put_text(b"\n", out, put),
         more: t.more,
         stop: t.stop,
+        lost: t.lost,
     }
 }
 
-fn waiting(t: Turn) -> Turn {
+fn waiting(t: Turn) -> Turn
+    ensures { λ r. ⌜ r .more ≡ false ⌝ }
+{
     Turn {
         at: t.at,
         put: t.put,
         more: false,
         stop: t.stop,
+        lost: t.lost,
     }
 }
 
-fn damaged(t: Turn, put: usize) -> Turn {
+fn damaged(t: Turn, put: usize) -> Turn
+    ensures { λ r. ⌜ r .more ≡ false ⌝ }
+{
     Turn {
         at: t.at,
         put,
         more: false,
         stop: true,
+        lost: t.lost,
     }
 }
 
-// The record at a place of the buffer, as a line.
-fn show_one(s: &[u8], place: u64, out: &mut [u8], t: Turn) -> Turn {
+// The record at a place of the buffer, as a line; goes past it, or ends the buffer's turns.
+fn show_one(s: &[u8], place: u64, out: &mut [u8], t: Turn) -> Turn
+    ensures { λ r. ⌜ turnsLeft (r .more) (length (now (s .entry)) - r .at) ≤ length (now (s .entry)) - t .at ⌝ }
+{
     let r = with_room(out, t);
+    if r.lost {
+        return waiting(r);
+    }
     let at = r.at;
     let here = std::num::wrapping_add_u64(place, at as u64);
     match listing::look_at(s, at) {
@@ -124,41 +149,47 @@ fn show_records(s: &[u8], place: u64, out: &mut [u8], put: usize) -> Turn {
         put,
         more: true,
         stop: false,
+        lost: false,
     };
-    let mut turns = s.len();
-    while 0 < turns {
-        if !t.more {
-            break;
-        }
+    while t.more {
         t = show_one(s, place, out, t);
-        turns -= 1;
     }
     t
 }
 
 // The first n bytes of the buffer; what is no whole record yet goes to its front.
-fn show_buffer(buf: &mut [u8], n: usize, out: &mut [u8], w: Work) -> Work {
+fn show_buffer(buf: &mut [u8], n: usize, left: u64, out: &mut [u8], w: Work) -> Work
+    ensures { λ r. ⌜ r .left ≡ left ⌝ }
+{
     let t = show_records(text::front(buf, n), w.place, out, w.put);
     let at = t.at;
     Work {
         have: input::carry(buf, at, n),
         place: std::num::wrapping_add_u64(w.place, at as u64),
         put: t.put,
+        left,
         more: !t.stop,
+        lost: t.lost,
     }
 }
 
-fn stopped(w: Work, put: usize) -> Work {
+fn stopped(w: Work, put: usize) -> Work
+    ensures { λ r. ⌜ r .more ≡ false ⌝ }
+{
     Work {
         have: w.have,
         place: w.place,
         put,
+        left: w.left,
         more: false,
+        lost: w.lost,
     }
 }
 
 // At the end of the input: what still waits is cut short.
-fn show_rest(buf: &[u8], out: &mut [u8], w: Work) -> Work {
+fn show_rest(buf: &[u8], out: &mut [u8], w: Work) -> Work
+    ensures { λ r. ⌜ r .more ≡ false ⌝ }
+{
     let have = w.have;
     match listing::look_at(text::front(buf, have), 0) {
         Look::Cut { kind, wants, left } => {
@@ -176,35 +207,34 @@ fn show_rest(buf: &[u8], out: &mut [u8], w: Work) -> Work {
     }
 }
 
-fn read_once(fd: i32, buf: &mut [u8], out: &mut [u8], w: Work) -> Work {
-    match input::fill(fd, buf, w.have) {
-        Filled::To(n) => show_buffer(buf, n, out, w),
-        Filled::End => show_rest(buf, out, w),
-        Filled::Full => stopped(w, w.put),
-        Filled::Failed => {
-            os::fail(b"read");
-            stopped(w, w.put)
-        }
+// Reads once: fewer bytes may come then, or it was the last turn.
+fn read_once(fd: i32, buf: &mut [u8], out: &mut [u8], w: Work) -> Work
+    ensures { λ r. ⌜ turnsLeft (r .more) (r .left) ≤ w .left ⌝ }
+{
+    match input::read_more(fd, buf, w.have, w.left) {
+        More::To { have, left } => show_buffer(buf, have, left, out, w),
+        More::End => show_rest(buf, out, w),
+        More::Full => stopped(w, w.put),
+        More::Failed => stopped(w, w.put),
     }
 }
 
-// A proved loop has to end, and nothing says that an input does: the turns are more than any run takes.
+// After a failed write nothing more is written.
 fn show_all(fd: i32, buf: &mut [u8], out: &mut [u8]) {
     let mut w = Work {
         have: 0,
         place: 0,
         put: 0,
+        left: u64::MAX,
         more: true,
+        lost: false,
     };
-    let mut turns = u64::MAX;
-    while 0 < turns {
-        if !w.more {
-            break;
-        }
+    while w.more {
         w = read_once(fd, buf, out, w);
-        turns -= 1;
     }
-    write_out(out, w.put);
+    if !w.lost {
+        write_out(out, w.put);
+    }
 }
 
 fn main() {

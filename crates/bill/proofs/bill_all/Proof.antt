@@ -1,15 +1,17 @@
--- `bill::bill_all` is safe and ends: the turns that are left fall.
+-- `bill::bill_all` is safe and ends: each turn reads, or is the last.
 use mathlib.Core.Path.{_≡_, refl}
 use borrow.Author.Needs.{needs}
 use lib.ListN.{length}
+use Rattle.input.specs.Buffers.{turnsLeft}
+use Rattle.input.proofs.Counts.{turns-less}
 use Rattle.bill.proofs.bill_all.Statement.{statement}
 use Rattle.bill.proofs.bill_all.Tie as tie
 
 abbrev Inv-loop : tie.InvT-loop
-Inv-loop fd buf₀ w₀ b₀ turns₀ buf w b turns = length buf ≡ length buf₀
+Inv-loop fd buf₀ w₀ b₀ buf w b = length buf ≡ length buf₀
 
 abbrev μ-loop : tie.MeasureT-loop
-μ-loop fd buf₀ w₀ b₀ turns₀ buf w b turns = turns
+μ-loop fd buf₀ w₀ b₀ buf w b = turnsLeft (w .more) (w .left)
 
 pub bill-all-spec : {M : Type 1} → statement M
 bill-all-spec =
@@ -20,10 +22,10 @@ bill-all-spec =
     (λ c κs. search needs)
     (λ c. refl)
     (λ c κs. search needs)
-    (λ c. search needs)
-    (λ c. search needs)
-    (λ c. search needs)
-    (λ c. search needs)
+    (λ c.
+    let r = c .before .before .before .before in
+    let w = r .before .before .before .loop .w in
+    turns-less (w .more) (w .left) _ (r .before .before .loop-test .taken) (r .read-once .ensures))
     (λ c. search needs)
     (λ c. search needs)
     (λ c. search needs))

@@ -1,15 +1,17 @@
--- `show::show_all` is safe and ends: the turns that are left fall.
+-- `show::show_all` is safe and ends: each turn reads, or is the last.
 use mathlib.Core.Path.{_≡_, refl}
 use borrow.Author.Needs.{needs}
 use lib.ListN.{length}
+use Rattle.input.specs.Buffers.{turnsLeft}
+use Rattle.input.proofs.Counts.{turns-less}
 use Rattle.show.proofs.show_all.Statement.{statement}
 use Rattle.show.proofs.show_all.Tie as tie
 
 abbrev Inv-loop : tie.InvT-loop
-Inv-loop fd buf₀ out₀ w₀ turns₀ buf out w turns = (length buf ≡ length buf₀) × (length out ≡ length out₀)
+Inv-loop fd buf₀ out₀ w₀ buf out w = (length buf ≡ length buf₀) × (length out ≡ length out₀)
 
 abbrev μ-loop : tie.MeasureT-loop
-μ-loop fd buf₀ out₀ w₀ turns₀ buf out w turns = turns
+μ-loop fd buf₀ out₀ w₀ buf out w = turnsLeft (w .more) (w .left)
 
 pub show-all-spec : {M : Type 1} → statement M
 show-all-spec =
@@ -19,10 +21,16 @@ show-all-spec =
     μ-loop
     (λ c. (refl, refl))
     (λ c κs. search needs)
-    (λ c. search needs)
-    (λ c. search needs)
+    (λ c.
+    let r = c .before .before .before .before in
+    let t = r .before .before .before in
+    let w = t .before .loop .w in
+    turns-less (w .more) (w .left) _ (t .loop-test .taken) (r .read-once .ensures))
     (λ c. search needs)
     (λ c κs. search needs)
+    (λ c. search needs)
+    (λ c. search needs)
+    (λ c. search needs)
     (λ c. search needs)
     (λ c. search needs)
     (λ c. search needs))

@@ -1,15 +1,18 @@
--- `show::show_records` is safe and ends: the turns that are left fall.
+-- `show::show_records` is safe and ends: each turn goes past a record, or is the last.
 use mathlib.Core.Path.{_≡_, refl}
+use Prim.Native.Nat.{_-_}
 use borrow.Author.Needs.{needs}
 use lib.ListN.{length}
+use Rattle.input.specs.Buffers.{turnsLeft}
+use Rattle.input.proofs.Counts.{turns-less}
 use Rattle.show.proofs.show_records.Statement.{statement}
 use Rattle.show.proofs.show_records.Tie as tie
 
 abbrev Inv-loop : tie.InvT-loop
-Inv-loop s place out₀ put t₀ turns₀ out t turns = length out ≡ length out₀
+Inv-loop s place out₀ put t₀ out t = length out ≡ length out₀
 
 abbrev μ-loop : tie.MeasureT-loop
-μ-loop s place out₀ put t₀ turns₀ out t turns = turns
+μ-loop s place out₀ put t₀ out t = turnsLeft (t .more) (length s - t .at)
 
 pub show-records-spec : {M : Type 1} → statement M
 show-records-spec =
@@ -19,10 +22,10 @@ show-records-spec =
     μ-loop
     (λ c. refl)
     (λ c κs. search needs)
-    (λ c. search needs)
-    (λ c. search needs)
-    (λ c. search needs)
-    (λ c. search needs)
+    (λ c.
+    let r = c .before .before in
+    let t = r .before .before .before .loop .t in
+    turns-less (t .more) _ _ (r .before .before .loop-test .taken) (r .show-one .ensures))
     (λ c. search needs)
     (λ c. search needs)
     (λ c. search needs))

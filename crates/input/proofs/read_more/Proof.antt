@@ -1,0 +1,38 @@
+-- `input::read_more` meets its contract: by what `fill` gave.
+use borrow.Author.Needs.{needs}
+use Rattle.input.proofs.Counts.{read-further, counted-grown, full-grown}
+use Rattle.input.proofs.read_more.Statement.{statement}
+use Rattle.input.proofs.read_more.Tie as tie
+
+counted-requires : tie.Need-counted-requires
+counted-requires c κs = read-further (c .before .before .before .before .before .fill .ensures) (c .before .n .given .1)
+
+returns : tie.Need-returns
+returns c =
+    let n = c .before .before in
+    let f = n .before .before .before .before in
+    counted-grown (f .fill .ensures) (n .n .given .1) _ (c .counted .ensures)
+
+returns-3 : tie.Need-returns-3
+returns-3 c = full-grown (c .before .before .before .before .fill .ensures) (c .enum-told2 .given .1) _
+
+pub read-more-spec : {M : Type 1} → statement M
+read-more-spec =
+    tie.close
+    (tie.spec
+    (λ c κs. search needs)
+    (λ c. search needs)
+    counted-requires
+    (λ c. search needs)
+    (λ c. search needs)
+    (λ c. search needs)
+    (λ c. search needs)
+    (λ c κs. search needs)
+    (λ c. search needs)
+    returns
+    (λ c. search needs)
+    (λ c. search needs)
+    (λ c. search needs)
+    returns-3
+    (λ c. search needs)
+    (λ c. search needs))
