@@ -1,0 +1,92 @@
+-- The entry that the code shows is the first that passes.
+use mathlib.Core.Path.{_≡_, refl, sym, ap, _∙_}
+use mathlib.Core.Bool.{Bool, true, false}
+use mathlib.Core.List.{List, [], _∷_}
+use Prim.Native.Nat.{ℕ, zero, suc, _+_, _/_, _%_, _≤_, _<_}
+use native.Mathlib.Nat.{not-suc-le-zero, le-of-suc-le-suc}
+use native.Mathlib.Decide.{decLt}
+use native.Mathlib.Omega.{arith}
+use lib.ListN.{length, getD}
+use lib.Dec.{eqb}
+use borrow.Author.Tests.{eq-eqb, ne-eqb, lt-ltb, le-ltb}
+use Rattle.model.specs.Address.{setIndex}
+use Rattle.model.specs.Tables.{Entry, Tables, entryFor}
+use Rattle.model.specs.Lent.{lent, bit}
+use Rattle.model.specs.Inner.{Is}
+use Rattle.model.specs.declared.Settings.{Settings}
+use Rattle.model.proofs.SoundFacts.{parts}
+use Rattle.tables.specs.declared.Layout.{Layout}
+use Rattle.tables.specs.Layout.{Placed}
+use Rattle.tables.specs.Raw.{First}
+use Rattle.tables.proofs.Stands.{is-stands}
+use Rattle.tables.proofs.Misses.{noEntry, misses-used, address-at, sent-at, count-at}
+use Rattle.steps.proofs.Entries.{few-misses, some-tickets}
+use Rattle.reasons.specs.declared.Reason.{Reason}
+use Rattle.reasons.specs.declared.Reason.the-variants as reason
+use Rattle.reasons.specs.Reasons.{entryReason, ofSet, anyEntry}
+use Rattle.reasons.specs.Parts.{FirstInSet, entryShown}
+
+abbrev told : Entry → Reason
+told e = reason.Entry (e .address) (e .sent) (length (e .tickets))
+
+first-told : (q : Entry → Bool) (es : List Entry) (r : ℕ) → r < length es → ((k : ℕ) → k < r → q (getD es k noEntry) ≡ false) → q (getD es r noEntry) ≡ true
+    → entryReason q es ≡ told (getD es r noEntry)
+first-told q [] r h f e = absurd (not-suc-le-zero h)
+first-told q (x ∷ es) zero h f e = rw e
+first-told q (x ∷ es) (suc r) h f e = rw (f 0 (omega arith)) (first-told q es r (le-of-suc-le-suc h) (λ k j. f (suc k) (omega arith)) e)
+
+none-told : (q : Entry → Bool) (es : List Entry) → ((k : ℕ) → k < length es → q (getD es k noEntry) ≡ false) → entryReason q es ≡ reason.Nothing
+none-told q [] f = refl
+none-told q (x ∷ es) f = rw (f 0 (omega arith)) (none-told q es (λ k j. f (suc k) (omega arith)))
+
+bit-flag : (b : Bool) → eqb (bit b) 1 ≡ b
+bit-flag true = refl
+bit-flag false = refl
+
+-- n entries are in use
+module _ (S : Settings) {longs words marks : List ℕ} (t : Tables) (i : Is S (lent longs words marks) t) {at : Layout} (p : Placed S at)
+    {n : ℕ} (u : First marks (at .counts) (S .entries) 0 n) where
+  pub in-use : n ≡ length (t .misses)
+  in-use = let ok = parts S t (i .soundly) in misses-used S t (is-stands i) p (few-misses S t ok) (some-tickets S t ok) u
+
+  few : length (t .misses) ≤ S .entries
+  few = few-misses S t (parts S t (i .soundly))
+
+  address-is : (e : ℕ) → e < length (t .misses) → getD longs (at .misses + e) 0 ≡ getD (t .misses) e noEntry .address
+  address-is e h = address-at S t (is-stands i) p few e h
+
+  sent-is : (e : ℕ) → e < length (t .misses) → eqb (getD marks (at .sent + e) 0) 1 ≡ getD (t .misses) e noEntry .sent
+  sent-is e h = ap (λ (k : ℕ). eqb k 1) (sent-at S t (is-stands i) p few e h) ∙ bit-flag (getD (t .misses) e noEntry .sent)
+
+  module _ (q : Entry → Bool) {e : ℕ} (before : (k : ℕ) → k < length (t .misses) → k < e → q (getD (t .misses) k noEntry) ≡ false)
+      (there : e < length (t .misses) → q (getD (t .misses) e noEntry) ≡ true) where
+    pub first-shown : {r : Reason} → r ≡ entryShown at longs marks e n → r ≡ entryReason q (t .misses)
+    first-shown {r} is = is ∙ go (decLt e n)
+      where
+        go : Dec (e < n) → entryShown at longs marks e n ≡ entryReason q (t .misses)
+        go (yes b) =
+            let all = in-use in
+            let h : e < length (t .misses) = omega arith in
+            rw (lt-ltb e n b, address-is e h, sent-is e h, count-at S t (is-stands i) p few e h) (sym (first-told q (t .misses) e h (λ k j. before k (omega arith) j) (there h)))
+        go (no b) =
+            let all = in-use in
+            let h : n ≤ e = omega arith in
+            rw (le-ltb e n h) (sym (none-told q (t .misses) (λ k j. before k j (omega arith))))
+
+  -- ---- which entry
+
+  pub set-shown : {set e : ℕ} → FirstInSet longs (at .misses) n (S .sets) set e → {r : Reason} → r ≡ entryShown at longs marks e n
+      → r ≡ entryReason (ofSet (S .sets) set) (t .misses)
+  set-shown {set} f is =
+      first-shown (ofSet (S .sets) set)
+      (λ k b j. ne-eqb (getD (t .misses) k noEntry .address / 128 % S .sets) set (λ q. f .before k j (rw (address-is k b) q)))
+      (λ b. let all = in-use in eq-eqb _ set (rw (address-is _ b) at (f .there (omega arith)))) is
+
+  pub address-shown : {a e : ℕ} → First longs (at .misses) n a e → {r : Reason} → r ≡ entryShown at longs marks e n → r ≡ entryReason (entryFor a) (t .misses)
+  address-shown {a} f is =
+      first-shown (entryFor a)
+      (λ k b j. ne-eqb (getD (t .misses) k noEntry .address) a (λ q. f .before k j (rw (address-is k b) q)))
+      (λ b. let all = in-use in eq-eqb _ a (rw (address-is _ b) at (f .there (omega arith)))) is
+
+  pub oldest-shown : {r : Reason} → r ≡ entryShown at longs marks 0 n → r ≡ entryReason anyEntry (t .misses)
+  oldest-shown is = first-shown anyEntry (λ k b j. absurd (omega arith)) (λ b. refl) is

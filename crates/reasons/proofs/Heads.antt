@@ -1,0 +1,105 @@
+-- The queue's head and its free places; the dirty lines; the check before a reason.
+use mathlib.Core.Path.{_≡_, refl, sym, ap, _∙_}
+use mathlib.Core.Bool.{Bool, true, false}
+use mathlib.Core.List.{List, [], _∷_}
+use Prim.Native.Nat.{ℕ, _-_, _≤_, _<_}
+use native.Mathlib.Omega.{arith}
+use lib.ListN.{length, getD}
+use Rattle.model.specs.Words.{pick, count}
+use Rattle.model.specs.Range.{inRange, linesOf}
+use Rattle.model.specs.Tables.{Queued, Tables, Outcome, refused, done, dirty}
+use Rattle.model.specs.Lent.{Lent, lent, lengthsFit, linesIn, tablesOf}
+use Rattle.model.specs.SoundLent.{soundLent}
+use Rattle.model.specs.Calls.{checkCall, verdictOf}
+use Rattle.model.specs.Inner.{Is, Held}
+use Rattle.model.specs.Probe.{dirtyLines}
+use Rattle.model.specs.Steps.{sentEvent}
+use Rattle.model.specs.declared.Settings.{Settings}
+use Rattle.model.specs.declared.Access.{Access}
+use Rattle.model.specs.declared.Event.{Event}
+use Rattle.model.specs.declared.Refusal.{Refusal}
+use Rattle.model.specs.declared.Verdict.{Verdict}
+use Rattle.model.specs.declared.Verdict.the-variants as verdict
+use Rattle.model.proofs.SoundFacts.{parts}
+use Rattle.model.proofs.Decoded.{Small}
+use Rattle.model.proofs.Bridge.{sound-encoded, is-tables}
+use Rattle.soundness.proofs.Verdicts.{passed-is}
+use Rattle.tables.specs.declared.Layout.{Layout}
+use Rattle.tables.specs.Layout.{Placed}
+use Rattle.tables.specs.Raw.{First, frontAt}
+use Rattle.tables.proofs.Stands.{is-stands}
+use Rattle.tables.proofs.Queue.{idle, queue-used, front-is}
+use Rattle.steps.proofs.Entries.{few-queued}
+use Rattle.probe.proofs.Held.{dirty-held}
+use Rattle.reasons.specs.declared.Reason.{Reason}
+use Rattle.reasons.specs.declared.Reason.the-variants as reason
+use Rattle.reasons.specs.Reasons.{linesReason, missingLines, queueReason, reasonFor, reasonChecked, reasonCall}
+use Rattle.reasons.specs.Parts.{Gives}
+
+-- ---- the queue
+
+head-told : (places : ℕ) (qs : List Queued) → 1 ≤ length qs → queueReason places qs ≡ reason.Queue (sentEvent (getD qs 0 idle)) (places - length qs)
+head-told places [] h = absurd (omega arith)
+head-told places (q ∷ qs) h = refl
+
+none-told : (places : ℕ) (qs : List Queued) → length qs ≡ 0 → queueReason places qs ≡ reason.Nothing
+none-told places [] h = refl
+none-told places (q ∷ qs) h = absurd (omega arith)
+
+module _ (S : Settings) {longs words marks : List ℕ} (t : Tables) (i : Is S (lent longs words marks) t) {at : Layout} (p : Placed S at)
+    {n : ℕ} (u : First marks (at .kinds) (S .places) 0 n) where
+  short : length (t .queue) ≤ S .places
+  short = few-queued S t (parts S t (i .soundly))
+
+  queued : n ≡ length (t .queue)
+  queued = queue-used S t (is-stands i) p short u
+
+  pub queue-empty : n ≡ 0 → reason.Nothing ≡ queueReason (S .places) (t .queue)
+  queue-empty e = sym (none-told (S .places) (t .queue) (sym queued ∙ e))
+
+  pub head-shown : (n ≡ 0 → ⊥) → {h : Event} → h ≡ frontAt longs (at .queue) words (at .backs) marks (at .kinds)
+      → reason.Queue h (S .places - n) ≡ queueReason (S .places) (t .queue)
+  head-shown e {h} is =
+      let all = queued in
+      let some : 1 ≤ length (t .queue) = some-from (length (t .queue)) (λ z. e (all ∙ z)) in
+      rw (is, front-is S t (is-stands i) p short some, all) (sym (head-told (S .places) (t .queue) some))
+    where
+      some-from : (k : ℕ) → (k ≡ 0 → ⊥) → 1 ≤ k
+      some-from k f = omega arith
+
+-- ---- the dirty lines
+
+module _ (S : Settings) {longs words marks : List ℕ} (t : Tables) (i : Is S (lent longs words marks) t) where
+  pub lines-shown : {d m : ℕ} → ((longs words : List ℕ) → d ≡ count dirty (linesIn (linesOf S) longs words marks)) → m ≡ missingLines (S .percent) (linesOf S) d
+      → reason.Lines m d (linesOf S) (S .percent) ≡ linesReason S (dirtyLines t)
+  lines-shown {d} f e =
+      let same : dirtyLines t ≡ d = dirty-held S (lent longs words marks) (is-tables S (lent longs words marks) t i) ∙ sym (f longs words) in
+      rw (e, same)
+
+-- ---- the check
+
+checked-refused : (S : Settings) (x : Access) (n : Refusal) (L : Lent) (o : Outcome Lent) (k : Refusal) → verdictOf o ≡ verdict.Refused k
+    → reasonChecked S x n L o ≡ reason.Refused k
+checked-refused S x n L (refused j) k e = cc
+checked-refused S x n L (done es M) k e = let z : _≡_ {A = ℕ} 0 1 = cc in absurd (omega arith)
+
+checked-passed : (S : Settings) (x : Access) (n : Refusal) (L : Lent) (o : Outcome Lent) → verdictOf o ≡ verdict.Passed
+    → reasonChecked S x n L o ≡ reasonFor S x (tablesOf S L) n
+checked-passed S x n L (refused j) e = let z : _≡_ {A = ℕ} 0 1 = cc in absurd (omega arith)
+checked-passed S x n L (done es M) e = refl
+
+module _ (S : Settings) (x : Access) (n : Refusal) (L : Lent) {v : Verdict} (says : v ≡ verdictOf (checkCall S L)) where
+  pub reason-refused : {k : Refusal} → v ≡ verdict.Refused k → reason.Refused k ≡ reasonCall S x n L
+  unfolding reasonCall
+  reason-refused {k} e = sym (checked-refused S x n L (checkCall S L) k (sym says ∙ e))
+
+  module _ (small : Small L) (passed : v ≡ verdict.Passed) where
+    pub passed-tables : Is S L (tablesOf S L)
+    passed-tables = let (range, fits, soundly) = passed-is S L (sym says ∙ passed) in sound-encoded S L range fits small soundly
+
+    pub passed-held : Held S L
+    passed-held = record { tables = tablesOf S L; are = passed-tables }
+
+    pub reason-passed : {r : Reason} → Gives S (λ t. reasonFor S x t n) L r → r ≡ reasonCall S x n L
+    unfolding reasonCall
+    reason-passed g = g .on (tablesOf S L) passed-tables ∙ sym (checked-passed S x n L (checkCall S L) (sym says ∙ passed))

@@ -1,0 +1,27 @@
+-- The head of the queue, if there is one.
+use native.Mathlib.Omega.{arith}
+use borrow.Author.Needs.{needs}
+use Rattle.tables.proofs.Stands.{is-stands, stands-fit}
+use Rattle.reasons.proofs.Heads.{queue-empty, head-shown}
+use Rattle.reasons.proofs.queue_reason.Statement.{statement}
+use Rattle.reasons.proofs.queue_reason.Tie as tie
+
+pub queue-reason-spec : {M : Type 1} → statement M
+queue-reason-spec =
+    tie.close
+    (tie.spec
+    (λ c κs. search needs)  -- laid-out-requires
+    (λ c κs. let i = c .before .before .before .before .pre .are in let z = stands-fit (i .range) (is-stands i) in let p = c .laid-out .ensures in omega arith)  -- used-requires
+    (λ c. let used = c .before in record { on = λ t i. queue-empty _ t i (used .before .laid-out .ensures) (used .used .ensures) (c .if1 .taken) })  -- returns
+    (λ c κs.
+    let laid = c .before .before in
+    let i = laid .before .before .before .before .pre .are in
+    let z = stands-fit (i .range) (is-stands i) in
+    let p = laid .laid-out .ensures in
+    (omega arith, omega arith, omega arith))  -- front-requires
+    (λ c. omega (arith, c .before .before .before .used .ensures .most))  -- sub-free
+    (λ c.
+    let front = c .before in
+    let test = front .before in
+    let used = test .before in
+    record { on = λ t i. head-shown _ t i (used .before .laid-out .ensures) (used .used .ensures) (test .if1 .left) (front .front .ensures) }))  -- returns-2

@@ -1,0 +1,36 @@
+-- The first of the entries in use that has the address.
+use native.Mathlib.Omega.{arith}
+use borrow.Author.Needs.{needs}
+use Rattle.tables.proofs.Stands.{is-stands, stands-fit}
+use Rattle.reasons.proofs.Entries.{address-shown}
+use Rattle.reasons.proofs.readers_reason.Statement.{statement}
+use Rattle.reasons.proofs.readers_reason.Tie as tie
+
+pub readers-reason-spec : {M : Type 1} → statement M
+readers-reason-spec =
+    tie.close
+    (tie.spec
+    (λ c κs. search needs)  -- laid-out-requires
+    (λ c κs. let i = c .before .before .before .before .pre .are in let z = stands-fit (i .range) (is-stands i) in let p = c .laid-out .ensures in omega arith)  -- used-requires
+    (λ c κs. search needs)  -- address-of-requires
+    (λ c κs.
+    let used = c .before in
+    let laid = used .before in
+    let i = laid .before .before .before .before .pre .are in
+    let z = stands-fit (i .range) (is-stands i) in
+    let p = laid .laid-out .ensures in
+    omega (arith, used .used .ensures .most))  -- find-entry-requires
+    (λ c κs.
+    let used = c .before .before in
+    let laid = used .before in
+    let i = laid .before .before .before .before .pre .are in
+    let z = stands-fit (i .range) (is-stands i) in
+    let p = laid .laid-out .ensures in
+    let u = used .used .ensures .most in
+    (omega arith, omega arith, omega arith))  -- entry-reason-requires
+    (λ c.
+    let found = c .before in
+    let addressed = found .before in
+    let used = addressed .before in
+    let laid = used .before in
+    record { on = λ t i. rw (← addressed .address-of .ensures) (address-shown _ t i (laid .laid-out .ensures) (used .used .ensures) (found .find-entry .ensures) (c .entry-reason .ensures)) }))  -- returns

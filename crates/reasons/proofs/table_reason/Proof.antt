@@ -1,0 +1,25 @@
+-- The first of the entries in use.
+use native.Mathlib.Omega.{arith}
+use borrow.Author.Needs.{needs}
+use Rattle.tables.proofs.Stands.{is-stands, stands-fit}
+use Rattle.reasons.proofs.Entries.{oldest-shown}
+use Rattle.reasons.proofs.table_reason.Statement.{statement}
+use Rattle.reasons.proofs.table_reason.Tie as tie
+
+pub table-reason-spec : {M : Type 1} → statement M
+table-reason-spec =
+    tie.close
+    (tie.spec
+    (λ c κs. search needs)  -- laid-out-requires
+    (λ c κs. let i = c .before .before .before .before .pre .are in let z = stands-fit (i .range) (is-stands i) in let p = c .laid-out .ensures in omega arith)  -- used-requires
+    (λ c κs.
+    let laid = c .before in
+    let i = laid .before .before .before .before .pre .are in
+    let z = stands-fit (i .range) (is-stands i) in
+    let p = laid .laid-out .ensures in
+    let u = c .used .ensures .most in
+    (omega arith, omega arith, omega arith))  -- entry-reason-requires
+    (λ c.
+    let used = c .before in
+    let laid = used .before in
+    record { on = λ t i. oldest-shown _ t i (laid .laid-out .ensures) (used .used .ensures) (c .entry-reason .ensures) }))  -- returns

@@ -1,0 +1,3 @@
+-- What a refused access waits for, and what the parts of the code that tells it promise.
+pub mod Reasons
+pub mod Parts

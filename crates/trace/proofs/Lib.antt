@@ -1,0 +1,2 @@
+-- Laws of a trace's turns.
+pub mod Going

@@ -1,0 +1,41 @@
+-- The records that wait, then a read or the end.
+use mathlib.Core.Path.{refl}
+use borrow.Author.Needs.{needs}
+use Rattle.trace.proofs.Going.{read-ended, reads-by, carried-inside}
+use Rattle.trace.proofs.work.turn.Statement.{statement}
+use Rattle.trace.proofs.work.turn.Tie as tie
+
+pub turn-spec : {M : Type 1} → statement M
+turn-spec =
+    tie.close
+    (tie.spec
+    (λ c κs. search needs)  -- front-requires
+    (λ c κs. search needs)  -- trace-records-requires
+    (λ c κs. search needs)  -- carry-requires
+    (λ c κs. search needs)  -- behind-requires
+    (λ c κs.
+    let b = c .before .before in
+    let y = b .before .before .before in
+    carried-inside _ _ _ (y .carry .ensures .0) (y .carry .kept .0) (b .behind .ensures .0))  -- read-requires
+    (λ c. search needs)  -- same-length
+    (λ c. search needs)  -- same-length-2
+    (λ c. search needs)  -- same-length-3
+    (λ c. search needs)  -- same-length-4
+    (λ c. search needs)  -- same-length-5
+    (λ c. search needs)  -- same-length-6
+    (λ c.
+    let r = c .before .before in
+    let b = r .before .before .before in
+    let y = b .before .before .before in
+    record { held = y .before .before .before .before .before .before .before .before .before .before .before .before .trace-records .ensures; read = reads-by (b .behind .ensures .1) (r .read .ensures) })  -- returns
+    (λ c κs. search needs)  -- ended-requires
+    (λ c. search needs)  -- same-length-7
+    (λ c. search needs)  -- same-length-8
+    (λ c. search needs)  -- same-length-9
+    (λ c. search needs)  -- same-length-10
+    (λ c. search needs)  -- same-length-11
+    (λ c. search needs)  -- same-length-12
+    (λ c.
+    let b = c .before .before in
+    let y = b .before .before .before in
+    record { held = y .before .before .before .before .before .before .before .before .before .before .before .before .trace-records .ensures; read = read-ended refl (carried-inside _ _ _ (y .carry .ensures .0) (y .carry .kept .0) (b .behind .ensures .0)) (c .ended .ensures) }))  -- returns-2

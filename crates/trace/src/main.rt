@@ -1,0 +1,90 @@
+// Traces a command stream of any length, from standard input or the file that the first argument names: each command with
+// its events under it, in words, and under a refused access what it waits for. One last line on standard error says why
+// the run stops and what was consumed and written.
+mod page;
+mod turns;
+mod work;
+
+use model::Settings;
+use running::Begun;
+use streaming::first;
+use streaming::rooms;
+use work::Work;
+ghost use Prim.Native.Nat.{_≤_};
+ghost use lib.ListN.{length};
+ghost use Rattle.model.specs.Lent.{lent};
+ghost use Rattle.model.specs.Inner.{Held};
+
+// A settings record: its kind and a body of seven bytes.
+const SETTINGS_RECORD: usize = 8;
+
+// Behind settings that are accepted, of which `have` bytes were read.
+fn trace_behind(
+    fd: i32,
+    s: Settings,
+    buf: &mut [u8],
+    longs: &mut [u64],
+    words: &mut [u32],
+    marks: &mut [u8],
+    have: usize,
+) -> Work
+    requires { ⌜ Held s (lent (now longs) (now words) (now marks)) ⌝ }
+{
+    let mut space = io::large_buffer();
+    let out: &mut [u8] = &mut space;
+    let put = page::put_command_at(text::front(buf, have), 0, 0, out, 0);
+    let rest = input::carry(buf, SETTINGS_RECORD, have);
+    let start = work::begun(rest, put);
+    work::trace_rest(fd, s, buf, longs, words, marks, out, start)
+}
+
+// The first record, then the rest.
+fn trace_all(
+    fd: i32,
+    buf: &mut [u8],
+    longs: &mut [u64],
+    words: &mut [u32],
+    marks: &mut [u8],
+    have: usize,
+) -> Work {
+    match running::begin(text::front(buf, have), longs, words, marks) {
+        Begun::Stopped(stop) => work::at_once(have, stop),
+        Begun::Accepted(s) => trace_behind(fd, s, buf, longs, words, marks, have),
+    }
+}
+
+// Lends what the stream's own settings ask for.
+fn trace_stream(fd: i32, buf: &mut [u8], have: usize) -> Work {
+    let n = running::lengths_for(text::front(buf, have));
+    let mut longs = rooms::longs_room();
+    let mut words = rooms::words_room();
+    let mut marks = rooms::marks_room();
+    let a = n.longs;
+    let b = n.words;
+    let c = n.marks;
+    trace_all(
+        fd,
+        buf,
+        &mut longs[..a],
+        &mut words[..b],
+        &mut marks[..c],
+        have,
+    )
+}
+
+fn main() {
+    let fd = input::open_input();
+    if fd < 0 {
+        return;
+    }
+    let mut space = io::large_buffer();
+    let buf: &mut [u8] = &mut space;
+    let first = first::read_first(fd, buf);
+    if streaming::work::has_failed(first) {
+        return;
+    }
+    let last = trace_stream(fd, buf, first.have);
+    if !last.failed {
+        work::last_line(buf, last);
+    }
+}

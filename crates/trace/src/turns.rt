@@ -1,0 +1,322 @@
+// The records of a buffer, one after another: each is run by itself and shown.
+use crate::page;
+use libc::STDOUT_FILENO;
+use listing::Look;
+use model::Access;
+use model::Command;
+use model::Event;
+use model::Ran;
+use model::Settings;
+use model::Stop;
+use model::Verdict;
+ghost use mathlib.Core.Path.{_≡_};
+ghost use mathlib.Core.Bool.{false};
+ghost use Prim.Native.Nat.{_≤_};
+ghost use lib.ListN.{length};
+ghost use Rattle.model.specs.Lent.{lent};
+ghost use Rattle.model.specs.Inner.{Held};
+ghost use Rattle.trace.specs.Offers.{offered, refusalOf};
+ghost use Rattle.trace.specs.Turns.{Traced};
+
+// Within one buffer: the place of the next record in it, the bytes of text that wait to be printed, the bytes of events, why
+// the runner stopped last, whether a whole record may stand there, whether printing failed.
+pub(crate) struct Turn {
+    pub at: usize,
+    pub put: usize,
+    pub written: u64,
+    pub stop: Stop,
+    pub more: bool,
+    pub lost: bool,
+}
+
+// What a command offers the cache.
+enum Offer {
+    Access(Access),
+    Nothing,
+}
+
+// An access is offered as the runner makes it of its record.
+fn offered(c: Command) -> Offer
+    ensures { λ r. ⌜ r ≡ offered c ⌝ }
+{
+    match c {
+        Command::Settings {
+            sets: _,
+            ways: _,
+            percent: _,
+            entries: _,
+            readers: _,
+            places: _,
+        } => Offer::Nothing,
+        Command::Read { address, ticket } => Offer::Access(Access::Read {
+            address,
+            mask: 0,
+            ticket,
+        }),
+        Command::Write { address, mask } => Offer::Access(Access::Write {
+            address,
+            mask,
+            ticket: 0,
+        }),
+        Command::Send => Offer::Nothing,
+        Command::Fill(_) => Offer::Nothing,
+        Command::Tick(_) => Offer::Nothing,
+    }
+}
+
+// What the command at a place offers.
+fn offered_at(s: &[u8], at: usize) -> Offer {
+    match listing::look_at(s, at) {
+        Look::Command { command, next: _ } => offered(command),
+        Look::Event { event: _, next: _ } => Offer::Nothing,
+        Look::End => Offer::Nothing,
+        Look::Cut {
+            kind: _,
+            wants: _,
+            left: _,
+        } => Offer::Nothing,
+        Look::Unknown(_) => Offer::Nothing,
+        Look::Strange(_) => Offer::Nothing,
+    }
+}
+
+fn refusal_of(e: Event) -> Verdict
+    ensures { λ r. ⌜ r ≡ refusalOf e ⌝ }
+{
+    match e {
+        Event::Answered { answer: _, line: _ } => Verdict::Passed,
+        Event::Refused(n) => Verdict::Refused(n),
+        Event::ReadQueued(_) => Verdict::Passed,
+        Event::WriteBackQueued {
+            block: _,
+            m0: _,
+            m1: _,
+            m2: _,
+            m3: _,
+        } => Verdict::Passed,
+        Event::Released(_) => Verdict::Passed,
+        Event::ReadSent(_) => Verdict::Passed,
+        Event::WriteBackSent {
+            block: _,
+            m0: _,
+            m1: _,
+            m2: _,
+            m3: _,
+        } => Verdict::Passed,
+        Event::Filled(_) => Verdict::Passed,
+        Event::Ticked => Verdict::Passed,
+    }
+}
+
+// Whether the first of a command's events is a refusal.
+fn refusal_in(events: &[u8]) -> Verdict {
+    match listing::look_at(events, 0) {
+        Look::Event { event, next: _ } => refusal_of(event),
+        Look::Command {
+            command: _,
+            next: _,
+        } => Verdict::Passed,
+        Look::End => Verdict::Passed,
+        Look::Cut {
+            kind: _,
+            wants: _,
+            left: _,
+        } => Verdict::Passed,
+        Look::Unknown(_) => Verdict::Passed,
+        Look::Strange(_) => Verdict::Passed,
+    }
+}
+
+// Under a refused access what it waits for. A refusal left the tables as they were.
+fn put_wait(
+    s: Settings,
+    longs: &[u64],
+    words: &[u32],
+    marks: &[u8],
+    offer: Offer,
+    refusal: Verdict,
+    out: &mut [u8],
+    at: usize,
+) -> usize
+    requires { ⌜ Held s (lent (now longs) (now words) (now marks)) ⌝ }
+{
+    match refusal {
+        Verdict::Passed => at,
+        Verdict::Refused(n) => match offer {
+            Offer::Nothing => at,
+            Offer::Access(x) => {
+                let reason = reasons::reason_held(s, longs, words, marks, x, n);
+                page::put_reason(reason, out, at)
+            }
+        },
+    }
+}
+
+// Where the record at a place ends; the end of the bytes where no whole command stands there.
+fn record_end(s: &[u8], at: usize) -> usize
+    requires { ⌜ at ≤ length (now s) ⌝ }
+    ensures { λ r. ⌜ at ≤ r ⌝ }
+{
+    let end = s.len();
+    match listing::look_at(s, at) {
+        Look::Command { command: _, next } => { if at < next { next } else { end } }
+        Look::Event { event: _, next: _ } => end,
+        Look::End => end,
+        Look::Cut {
+            kind: _,
+            wants: _,
+            left: _,
+        } => end,
+        Look::Unknown(_) => end,
+        Look::Strange(_) => end,
+    }
+}
+
+// Prints the first n bytes of a page; says whether they went.
+pub(crate) fn print(page: &[u8], n: usize) -> bool {
+    let done = io::write_all(STDOUT_FILENO, text::front(page, n));
+    if !done {
+        os::fail(b"write");
+    }
+    done
+}
+
+// Prints what waits where few places are free: no command takes 1,024 bytes.
+fn with_room(out: &[u8], t: Turn) -> Turn
+    ensures { λ r. ⌜ r .at ≡ t .at ⌝ }
+{
+    let put = t.put;
+    let stop = t.stop;
+    if put < out.len() {
+        if 1024 <= out.len() - put {
+            return t;
+        }
+    }
+    let done = print(out, put);
+    Turn {
+        at: t.at,
+        put: 0,
+        written: t.written,
+        stop,
+        more: t.more & done,
+        lost: !done,
+    }
+}
+
+// The runner stops at this record, or there is none.
+fn halted(t: Turn, stop: Stop) -> Turn
+    ensures { λ r. ⌜ (r .at ≡ t .at) × (r .more ≡ false) ⌝ }
+{
+    Turn {
+        at: t.at,
+        put: t.put,
+        written: t.written,
+        stop,
+        more: false,
+        lost: t.lost,
+    }
+}
+
+// The command at a place, the events that it wrote and, where it was refused, what it waits for.
+fn put_record(
+    s: Settings,
+    longs: &[u64],
+    words: &[u32],
+    marks: &[u8],
+    bytes: &[u8],
+    at: usize,
+    here: u64,
+    told: &[u8],
+    out: &mut [u8],
+    put: usize,
+) -> usize
+    requires { ⌜ Held s (lent (now longs) (now words) (now marks)) ⌝ }
+{
+    let a = page::put_command_at(bytes, at, here, out, put);
+    let b = page::put_events(told, out, a);
+    let offer = offered_at(bytes, at);
+    let refusal = refusal_in(told);
+    put_wait(s, longs, words, marks, offer, refusal, out, b)
+}
+
+// Behind a record that was run, with so much text.
+fn passed(t: Turn, ran: Ran, put: usize) -> Turn
+    ensures { λ r. ⌜ r .at ≡ ran .consumed ⌝ }
+{
+    let stop = ran.stop;
+    Turn {
+        at: ran.consumed,
+        put,
+        written: std::num::wrapping_add_u64(t.written, ran.written as u64),
+        stop,
+        more: model::stop_number(stop) == 0,
+        lost: false,
+    }
+}
+
+// The record at a place of the buffer, run by itself and shown; `place` is that of the buffer in the stream.
+fn trace_one(
+    s: Settings,
+    bytes: &[u8],
+    place: u64,
+    events: &mut [u8],
+    longs: &mut [u64],
+    words: &mut [u32],
+    marks: &mut [u8],
+    out: &mut [u8],
+    t: Turn,
+) -> Turn
+    requires { ⌜ Held s (lent (now longs) (now words) (now marks)) ⌝ }
+    requires { ⌜ t .at ≤ length (now bytes) ⌝ }
+    ensures { λ r. ⌜ Traced s (length (now (bytes .entry))) t r (lent (now (longs .exit)) (now (words .exit)) (now (marks .exit))) ⌝ }
+{
+    let at = t.at;
+    let end = record_end(bytes, at);
+    let ran = running::go_on(
+        s,
+        text::front(bytes, end),
+        at,
+        events,
+        0,
+        longs,
+        words,
+        marks,
+    );
+    if ran.consumed <= at {
+        let stop = ran.stop;
+        return halted(t, stop);
+    }
+    let told = text::front(events, ran.written);
+    let here = std::num::wrapping_add_u64(place, at as u64);
+    let put = put_record(s, longs, words, marks, bytes, at, here, told, out, t.put);
+    with_room(out, passed(t, ran, put))
+}
+
+// The whole records of a buffer.
+pub(crate) fn trace_records(
+    s: Settings,
+    bytes: &[u8],
+    place: u64,
+    events: &mut [u8],
+    longs: &mut [u64],
+    words: &mut [u32],
+    marks: &mut [u8],
+    out: &mut [u8],
+    put: usize,
+) -> Turn
+    requires { ⌜ Held s (lent (now longs) (now words) (now marks)) ⌝ }
+    ensures { λ r. ⌜ Held s (lent (now (longs .exit)) (now (words .exit)) (now (marks .exit))) ⌝ }
+{
+    let mut t = Turn {
+        at: 0,
+        put,
+        written: 0,
+        stop: Stop::Nothing,
+        more: true,
+        lost: false,
+    };
+    while t.more {
+        t = trace_one(s, bytes, place, events, longs, words, marks, out, t);
+    }
+    t
+}
