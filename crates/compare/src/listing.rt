@@ -12,6 +12,7 @@ use crate::showing;
 use crate::showing::Shown;
 use crate::turns;
 use crate::turns::Pass;
+use comparing::Side;
 use comparing::Walk;
 
 // Descriptors of both logs, for the pairs and for the lines; the bytes that each log had when it was checked.
@@ -56,7 +57,7 @@ fn headed(w: Walk, p: Page) -> Page {
     if w.differing == 0 {
         return Page {
             put: p.put,
-            good: says::write_names(),
+            good: says::write_names(p.good),
         };
     }
     p
@@ -72,12 +73,26 @@ fn list_pair(l: Logs, c: &mut [u8], d: &mut [u8], out: &mut [u8], w: Walk, s: Sh
     showing::show(l.c, l.d, c, d, out, w.number, s.pass, p)
 }
 
+// Where a log has run out, it is as long as when it was checked.
+fn side_checked(s: Side, length: usize) -> bool {
+    (s.passed != 0) | (s.place == length)
+}
+
+fn as_checked(l: Logs, w: Walk) -> bool {
+    side_checked(w.first, l.first) & side_checked(w.second, l.second)
+}
+
+// The lines of a pair that differs.
 fn pair_met(l: Logs, c: &mut [u8], d: &mut [u8], out: &mut [u8], pass: Pass, k: Work) -> Work
     requires { ⌜ Ready (length (now c)) (length (now d)) (k .shown .pass) ⌝ }
     ensures { λ r. ⌜ (r .pass ≡ pass) × Ready (length (now (c .entry))) (length (now (d .entry))) (r .shown .pass) ⌝ }
     ensures { λ r. ⌜ (r .more ≡ yes → k .pass .walk .number < r .shown .pass .walk .number) ⌝ }
 {
     let before = k.pass;
+    if !as_checked(l, before.walk) {
+        says::changed();
+        return halted(pass, k.shown);
+    }
     let shown = list_pair(l, c, d, out, before.walk, k.shown);
     let page = shown.page;
     Work {
@@ -87,16 +102,14 @@ fn pair_met(l: Logs, c: &mut [u8], d: &mut [u8], out: &mut [u8], pass: Pass, k: 
     }
 }
 
-// The last line, where both logs are what they were when they were checked.
+// The last line, where both logs are as long as when they were checked.
 fn finish(l: Logs, out: &mut [u8], w: Walk, s: Shown) -> Shown
     ensures { λ r. ⌜ r .pass ≡ s .pass ⌝ }
 {
-    let first = w.first;
-    let second = w.second;
-    if (first.place == l.first) & (second.place == l.second) {
+    if as_checked(l, w) {
         return showing::with_page(s, says::put_counts(w, out, s.page));
     }
-    says::stop(b"a log changed while it was read: give two files that stay as they are\n");
+    says::changed();
     s
 }
 

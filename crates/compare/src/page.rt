@@ -7,16 +7,21 @@ pub struct Page {
     pub good: bool,
 }
 
-// Writes the first n bytes where all before them were written; says whether they went.
-pub fn write_out(out: &[u8], n: usize, good: bool) -> bool {
+// Writes all of s where all before it was written; says whether it went.
+pub fn write(s: &[u8], good: bool) -> bool {
     if !good {
         return false;
     }
-    let done = io::write_all(STDOUT_FILENO, text::front(out, n));
+    let done = io::write_all(STDOUT_FILENO, s);
     if !done {
         os::fail(b"write");
     }
     done
+}
+
+// The same of the first n bytes.
+pub fn write_out(out: &[u8], n: usize, good: bool) -> bool {
+    write(text::front(out, n), good)
 }
 
 // Writes what waits where few places are free: no line takes 2048 bytes.

@@ -4,20 +4,21 @@ use crate::page::Page;
 use comparing::Side;
 use comparing::Walk;
 use libc::STDERR_FILENO;
-use libc::STDOUT_FILENO;
 
 pub fn stop(why: &[u8]) {
     io::write_all(STDERR_FILENO, why);
 }
 
-// An argument's own words, to standard output; says whether they went.
-fn write_name(i: usize) -> bool {
+// Of a log that is shorter or longer than when it was checked.
+pub fn changed() {
+    stop(b"a log changed while it was read: give two files that stay as they are\n");
+}
+
+// An argument's own words; says whether they went.
+fn write_name(i: usize, good: bool) -> bool {
     let mut path = io::buffer();
     let length = os::arg(i, &mut path);
-    if length < 4096 {
-        return io::write_all(STDOUT_FILENO, &path[..length]);
-    }
-    false
+    page::write(text::front(&path, length), good)
 }
 
 fn put_why(number: u8, out: &mut [u8], at: usize) -> usize {
@@ -42,7 +43,7 @@ fn put_why(number: u8, out: &mut [u8], at: usize) -> usize {
 
 // A log that is refused, by its name.
 pub fn refuse(i: usize, number: u8, place: usize, out: &mut [u8]) {
-    let named = write_name(i);
+    let named = write_name(i, true);
     let a = text::put_text(b" is refused with ", out, 0);
     let b = text::put_decimal(number as u64, out, a);
     let c = text::put_text(b" at byte ", out, b);
@@ -52,12 +53,12 @@ pub fn refuse(i: usize, number: u8, place: usize, out: &mut [u8]) {
 }
 
 // Which mark stands for which log; says whether it went.
-pub fn write_names() -> bool {
-    let a = io::write_all(STDOUT_FILENO, b"< ");
-    let b = a & write_name(1);
-    let c = b & io::write_all(STDOUT_FILENO, b"\n> ");
-    let d = c & write_name(2);
-    d & io::write_all(STDOUT_FILENO, b"\n")
+pub fn write_names(good: bool) -> bool {
+    let a = page::write(b"< ", good);
+    let b = write_name(1, a);
+    let c = page::write(b"\n> ", b);
+    let d = write_name(2, c);
+    page::write(b"\n", d)
 }
 
 fn put_many(n: usize, what: &[u8], out: &mut [u8], at: usize) -> usize {
