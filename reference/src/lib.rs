@@ -5,6 +5,7 @@
 //! the text of document 01 line by line.
 
 pub mod choices;
+pub mod compare;
 pub mod model;
 pub mod owed;
 pub mod percentage;

@@ -1,122 +1,102 @@
-// The check of a log of any length, in parts.
+// The check of a log of any length, part by part.
+ghost use mathlib.Core.Path.{_≡_};
+ghost use Rattle.compare.specs.Checking.{started, overOf, cameOf, ReadOn, Checked, verdictOf};
+use comparing::Checking;
 use comparing::Fault;
 use input::Filled;
 
-// The bytes that wait at the front of the buffer and the place of the first of them; whether the log begins inside a group; the number
-// of what is wrong, which then stands at the place, or 0; whether to go on; whether reading failed.
-pub struct Pass {
-    pub have: usize,
-    pub place: u64,
-    pub inside: bool,
-    pub number: u8,
+// The check so far, the bytes read, whether to go on, whether reading failed, which standard error then says.
+pub struct Check {
+    pub checking: Checking,
+    pub read: usize,
     pub more: bool,
     pub failed: bool,
 }
 
-fn begins_inside(s: &[u8]) -> bool {
-    if s.len() == 0 {
-        return false;
-    }
-    !comparing::starts(s[0])
+// A good log's bytes; a refused one's number and place; nothing of one that could not be read.
+pub enum Verdict {
+    Good(usize),
+    Refused { number: u8, place: usize },
+    Failed,
 }
 
-// Whether the log begins inside a group: its first byte says.
-fn inside(s: &[u8], p: Pass) -> bool {
-    if p.place == 0 {
-        begins_inside(s)
-    } else {
-        p.inside
-    }
-}
-
-fn onward(p: Pass, have: usize, by: usize, inside: bool) -> Pass {
-    Pass {
-        have,
-        place: std::num::wrapping_add_u64(p.place, by as u64),
-        inside,
-        number: 0,
-        more: true,
-        failed: false,
-    }
-}
-
-fn wrong(p: Pass, number: u8, place: u64) -> Pass {
-    Pass {
-        have: p.have,
-        place,
-        inside: p.inside,
-        number,
-        more: false,
-        failed: false,
-    }
-}
-
-fn over(p: Pass, failed: bool) -> Pass {
-    Pass {
-        have: p.have,
-        place: p.place,
-        inside: p.inside,
-        number: 0,
+fn over(c: Check, failed: bool) -> Check
+    ensures { λ r. ⌜ r ≡ overOf c failed ⌝ }
+{
+    let checking = c.checking;
+    Check {
+        checking,
+        read: c.read,
         more: false,
         failed,
     }
 }
 
-// The first n bytes of the buffer; a record that is cut short may go on behind them.
-fn check_buffer(buf: &mut [u8], n: usize, p: Pass) -> Pass {
-    let begins = inside(text::front(buf, n), p);
-    match comparing::scan(text::front(buf, n)) {
-        Fault::None => onward(p, 0, n, begins),
-        Fault::At { number, place } => {
-            if number == 15 {
-                let have = input::carry(buf, place, n);
-                return onward(p, have, place, begins);
-            }
-            wrong(p, number, std::num::wrapping_add_u64(p.place, place as u64))
-        }
+// The first n bytes of the buffer are the log's next part; a log with a wrong kind needs no more.
+fn came(buf: &[u8], n: usize, c: Check) -> Check
+    ensures { λ r. ⌜ r ≡ cameOf (now (buf .entry)) n c ⌝ }
+{
+    if n == 0 {
+        return over(c, false);
+    }
+    if usize::MAX - c.read < n {
+        crate::says::stop(b"a log is too long: its places have no numbers\n");
+        return over(c, true);
+    }
+    let checking = comparing::checks::pass(c.checking, text::front(buf, n));
+    Check {
+        checking,
+        read: c.read + n,
+        more: !checking.wrong,
+        failed: false,
     }
 }
 
-// At the end of the log: what still waits is cut short.
-fn check_rest(p: Pass) -> Pass {
-    if 0 < p.have {
-        return wrong(p, 15, p.place);
-    }
-    if p.inside {
-        return wrong(p, 17, 0);
-    }
-    over(p, false)
-}
-
-fn read_once(fd: i32, buf: &mut [u8], p: Pass) -> Pass {
-    match input::fill(fd, buf, p.have) {
-        Filled::To(n) => check_buffer(buf, n, p),
-        Filled::End => check_rest(p),
-        Filled::Full => over(p, true),
+fn read_part(log: usize, fd: i32, buf: &mut [u8], c: Check) -> Check
+    ensures { λ r. ⌜ ReadOn (now (buf .exit)) c r ⌝ }
+{
+    match input::fill(fd, buf, 0) {
+        Filled::To(n) => came(buf, n, c),
+        Filled::End => over(c, false),
+        Filled::Full => over(c, true),
         Filled::Failed => {
-            os::fail(b"read");
-            over(p, true)
+            crate::reading::say_failed(log);
+            over(c, true)
         }
     }
 }
 
-// A proved loop has to end, and nothing says that a file does: the turns are more than any run takes.
-pub fn check_file(fd: i32, buf: &mut [u8]) -> Pass {
-    let mut p = Pass {
-        have: 0,
-        place: 0,
-        inside: false,
-        number: 0,
+fn begin() -> Check
+    ensures { λ r. ⌜ r ≡ started ⌝ }
+{
+    Check {
+        checking: comparing::checks::begin(),
+        read: 0,
         more: true,
         failed: false,
-    };
-    let mut turns = u64::MAX;
-    while 0 < turns {
-        if !p.more {
-            break;
-        }
-        p = read_once(fd, buf, p);
-        turns -= 1;
     }
-    p
+}
+
+// Each turn reads some, or is the last.
+pub fn check_log(log: usize, fd: i32, buf: &mut [u8]) -> Check
+    ensures { λ r. ⌜ Checked r ⌝ }
+{
+    let mut c = begin();
+    while c.more {
+        c = read_part(log, fd, buf, c);
+    }
+    c
+}
+
+pub fn judge(c: Check) -> Verdict
+    ensures { λ r. ⌜ r ≡ verdictOf c ⌝ }
+{
+    if c.failed {
+        return Verdict::Failed;
+    }
+    let checking = c.checking;
+    match comparing::checks::end(checking) {
+        Fault::None => Verdict::Good(c.read),
+        Fault::At { number, place } => Verdict::Refused { number, place },
+    }
 }

@@ -1,10 +1,16 @@
 // Two event logs side by side: `compare FILE FILE`. Each log is checked whole, the first and then the second; then the groups are paired
-// by number, and each pair that differs is shown with both sides in words. Logs may be of any length: they are read twice, in parts.
+// by number, and each pair that differs is shown with both sides in words. What is listed is what the steps of `comparing` tell of the
+// bytes read. Logs may be of any length: they are read in parts, once for the check, once for the pairs, once for the pairs shown.
 mod checking;
+mod listing;
 mod page;
-mod pairing;
+mod reading;
 mod says;
+mod showing;
+mod turns;
 
+use crate::checking::Verdict;
+use crate::listing::Logs;
 use libc::STDERR_FILENO;
 
 // A descriptor of the file that an argument names; below 0 where it cannot be opened, which standard error then says.
@@ -22,43 +28,50 @@ fn open_log(i: usize) -> i32 {
     fd
 }
 
-// Back to a file's first byte, for the second reading.
-fn rewind(fd: i32) -> bool {
-    let back = libc::lseek(fd, 0, libc::SEEK_SET) == 0;
-    if !back {
-        os::fail(b"a log is read twice, so it has to be a file");
+// What the check of a log comes to; a refusal is said.
+fn check(i: usize, buf: &mut [u8], out: &mut [u8]) -> Verdict {
+    let fd = open_log(i);
+    if fd < 0 {
+        return Verdict::Failed;
     }
-    back
+    let v = checking::judge(checking::check_log(i, fd, buf));
+    if let Verdict::Refused { number, place } = v {
+        says::refuse(i, number, place, out);
+    }
+    v
 }
 
-// Whether a log passes its check; what is wrong with it is said.
-fn passes(log: u64, fd: i32, buf: &mut [u8], out: &mut [u8]) -> bool {
-    let p = checking::check_file(fd, buf);
-    if p.failed {
-        return false;
+// The pairs of two logs that passed, of so many bytes.
+fn list_logs(first: usize, second: usize, out: &mut [u8]) {
+    let a = open_log(1);
+    let b = open_log(2);
+    let c = open_log(1);
+    let d = open_log(2);
+    if (a < 0) | (b < 0) | (c < 0) | (d < 0) {
+        return;
     }
-    if p.number == 0 {
-        return true;
-    }
-    let end = says::put_refusal(log, p.number, p.place, out, 0);
-    page::write_out(out, end);
-    false
+    listing::list(
+        Logs {
+            a,
+            b,
+            c,
+            d,
+            first,
+            second,
+        },
+        out,
+    );
 }
 
-fn compare_logs(first: i32, second: i32, a: &mut [u8], b: &mut [u8], out: &mut [u8]) {
-    if !passes(1, first, a, out) {
+// The first log is checked whole, then the second, before any pairing.
+fn compare_logs(buf: &mut [u8], out: &mut [u8]) {
+    let Verdict::Good(first) = check(1, buf, out) else {
         return;
-    }
-    if !passes(2, second, a, out) {
+    };
+    let Verdict::Good(second) = check(2, buf, out) else {
         return;
-    }
-    if !rewind(first) {
-        return;
-    }
-    if !rewind(second) {
-        return;
-    }
-    pairing::compare_files(first, second, a, b, out);
+    };
+    list_logs(first, second, out);
 }
 
 fn main() {
@@ -66,16 +79,7 @@ fn main() {
         io::write_all(STDERR_FILENO, b"usage: compare FILE FILE\n");
         return;
     }
-    let first = open_log(1);
-    if first < 0 {
-        return;
-    }
-    let second = open_log(2);
-    if second < 0 {
-        return;
-    }
-    let mut a = io::large_buffer();
-    let mut b = io::large_buffer();
+    let mut buf = io::large_buffer();
     let mut out = io::large_buffer();
-    compare_logs(first, second, &mut a, &mut b, &mut out);
+    compare_logs(&mut buf, &mut out);
 }

@@ -1,4 +1,25 @@
 // What is said of two logs.
+use crate::page;
+use crate::page::Page;
+use comparing::Side;
+use comparing::Walk;
+use libc::STDERR_FILENO;
+
+pub fn stop(why: &[u8]) {
+    io::write_all(STDERR_FILENO, why);
+}
+
+// Of a log that is shorter or longer than when it was checked.
+pub fn changed() {
+    stop(b"a log changed while it was read: give two files that stay as they are\n");
+}
+
+// An argument's own words; says whether they went.
+fn write_name(i: usize, good: bool) -> bool {
+    let mut path = io::buffer();
+    let length = os::arg(i, &mut path);
+    page::write(text::front(&path, length), good)
+}
 
 fn put_why(number: u8, out: &mut [u8], at: usize) -> usize {
     match number {
@@ -20,24 +41,28 @@ fn put_why(number: u8, out: &mut [u8], at: usize) -> usize {
     }
 }
 
-pub fn put_refusal(log: u64, number: u8, place: u64, out: &mut [u8], at: usize) -> usize {
-    let a = text::put_text(b"Log ", out, at);
-    let b = text::put_decimal(log, out, a);
-    let c = text::put_text(b" is refused with ", out, b);
-    let d = text::put_decimal(number as u64, out, c);
-    let e = text::put_text(b" at byte ", out, d);
-    let f = text::put_decimal(place, out, e);
-    put_why(number, out, f)
+// A log that is refused, by its name.
+pub fn refuse(i: usize, number: u8, place: usize, out: &mut [u8]) {
+    let named = write_name(i, true);
+    let a = text::put_text(b" is refused with ", out, 0);
+    let b = text::put_decimal(number as u64, out, a);
+    let c = text::put_text(b" at byte ", out, b);
+    let d = text::put_decimal(place as u64, out, c);
+    let e = put_why(number, out, d);
+    page::write_out(out, e, named);
 }
 
-pub fn put_number(number: u64, out: &mut [u8], at: usize) -> usize {
-    let a = text::put_text(b"pair ", out, at);
-    let b = text::put_decimal(number, out, a);
-    text::put_text(b"\n", out, b)
+// Which mark stands for which log; says whether it went.
+pub fn write_names(good: bool) -> bool {
+    let a = page::write(b"< ", good);
+    let b = write_name(1, a);
+    let c = page::write(b"\n> ", b);
+    let d = write_name(2, c);
+    page::write(b"\n", d)
 }
 
-fn put_many(n: u64, what: &[u8], out: &mut [u8], at: usize) -> usize {
-    let a = text::put_decimal(n, out, at);
+fn put_many(n: usize, what: &[u8], out: &mut [u8], at: usize) -> usize {
+    let a = text::put_decimal(n as u64, out, at);
     let b = text::put_text(what, out, a);
     if n == 1 {
         b
@@ -46,65 +71,42 @@ fn put_many(n: u64, what: &[u8], out: &mut [u8], at: usize) -> usize {
     }
 }
 
-// One side's place and length; nothing is left of a log that has run out.
-pub fn put_side(log: u64, place: u64, length: usize, out: &mut [u8], at: usize) -> usize {
-    let a = text::put_text(b"  log ", out, at);
-    let b = text::put_decimal(log, out, a);
-    if length == 0 {
-        let c = text::put_text(b" has run out at byte ", out, b);
-        let d = text::put_decimal(place, out, c);
-        return text::put_text(b"\n", out, d);
+// A side's place and length; nothing is left of a log that has run out.
+fn put_side(s: Side, out: &mut [u8], at: usize) -> usize {
+    if s.passed == 0 {
+        let a = text::put_text(b"has run out at byte ", out, at);
+        return text::put_decimal(s.place as u64, out, a);
     }
-    let c = text::put_text(b" at byte ", out, b);
-    let d = text::put_decimal(place, out, c);
-    let e = text::put_text(b", ", out, d);
-    let f = put_many(length as u64, b" byte", out, e);
-    text::put_text(b"\n", out, f)
+    let a = text::put_text(b"at byte ", out, at);
+    let b = text::put_decimal(s.place as u64, out, a);
+    let c = text::put_text(b", ", out, b);
+    put_many(s.passed, b" byte", out, c)
 }
 
-fn put_none(differing: u64, out: &mut [u8], at: usize) -> usize {
-    if differing == 0 {
-        text::put_text(b": the logs have the same bytes", out, at)
-    } else {
-        at
-    }
-}
-
-fn put_differing(differing: u64, pairs: u64, out: &mut [u8], at: usize) -> usize {
-    let a = text::put_decimal(differing, out, at);
-    let b = text::put_text(b" of ", out, a);
-    let c = put_many(pairs, b" pair", out, b);
-    let d = text::put_text(b" differ", out, c);
-    put_none(differing, out, d)
+// A pair that differs: its number, and the place and length of each side.
+pub fn put_pair(w: Walk, out: &mut [u8], p: Page) -> Page {
+    let q = page::with_room(out, p);
+    let a = text::put_text(b"group ", out, q.put);
+    let b = text::put_decimal(w.number as u64, out, a);
+    let c = text::put_text(b": < ", out, b);
+    let d = put_side(w.first, out, c);
+    let e = text::put_text(b"; > ", out, d);
+    let f = put_side(w.second, out, e);
+    page::ended(text::put_text(b"\n", out, f), q)
 }
 
 // The last line.
-pub fn put_counts(
-    differing: u64,
-    pairs: u64,
-    first: u64,
-    second: u64,
-    out: &mut [u8],
-    at: usize,
-) -> usize {
-    let a = put_differing(differing, pairs, out, at);
-    let b = text::put_text(b". Log 1 has ", out, a);
-    let c = put_many(first, b" group", out, b);
-    let d = text::put_text(b", log 2 has ", out, c);
-    let e = put_many(second, b" group", out, d);
-    text::put_text(b".\n", out, e)
-}
-
-pub fn put_stuck(failed: bool, number: u64, out: &mut [u8], at: usize) -> usize {
-    let a = text::put_text(b"Stopped at pair ", out, at);
-    let b = text::put_decimal(number, out, a);
-    if failed {
-        text::put_text(b": a log could not be read on.\n", out, b)
-    } else {
-        text::put_text(
-            b": its group is longer than 65536 bytes; no run writes one.\n",
-            out,
-            b,
-        )
+pub fn put_counts(w: Walk, out: &mut [u8], p: Page) -> Page {
+    let q = page::with_room(out, p);
+    if w.differing == 0 {
+        let a = text::put_text(b"no difference in ", out, q.put);
+        let b = put_many(w.number, b" group", out, a);
+        return page::ended(text::put_text(b"\n", out, b), q);
     }
+    let a = text::put_decimal(w.differing as u64, out, q.put);
+    let b = text::put_text(b" of ", out, a);
+    let c = put_many(w.number, b" group", out, b);
+    let d = text::put_text(b" differ, first at group ", out, c);
+    let e = text::put_decimal(w.lowest as u64, out, d);
+    page::ended(text::put_text(b"\n", out, e), q)
 }

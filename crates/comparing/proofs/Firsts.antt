@@ -6,7 +6,7 @@ use mathlib.Core.List.{List, [], _∷_}
 use Prim.Native.Nat.{ℕ, zero, suc, _+_, _-_, _%_, _^_, max, _≤_, _<_}
 use native.Mathlib.Omega.{arith}
 use native.Mathlib.Numerals.{add-one}
-use borrow.Author.Tests.{ltb-true, ltb-false}
+use borrow.Author.Tests.{le-ltb, ltb-true, ltb-false}
 use lib.Dec.{ltb}
 use lib.ListN.{length, take, drop}
 use Rattle.model.specs.Words.{pick}
@@ -16,7 +16,8 @@ use Rattle.comparing.specs.declared.Fault.the-variants as fault
 use Rattle.comparing.specs.declared.Compared.{Compared}
 use Rattle.comparing.specs.declared.Compared.the-variants as answer
 use Rattle.comparing.specs.Groups.{Part, partTo, bytesIn, groupEnd, groups, sideOf}
-use Rattle.comparing.specs.Pairs.{sameBytes, samePair, differs, firstOf, pairs, firstDifference, compared, Stands, Behind, GoesOn}
+use Rattle.comparing.specs.declared.Cursor.{Cursor}
+use Rattle.comparing.specs.Pairs.{sameBytes, samePair, differs, firstOf, pairs, firstDifference, compared, atStart, behind, groupAt, foundFrom, found, Stands, Behind, GoesOn}
 use Rattle.comparing.specs.Checks.{checked}
 use Rattle.comparing.proofs.Walks.{group-end}
 use Rattle.comparing.proofs.Sides.{placeFrom, place-next, place-grows, group-le, side-is, counted, counted-out}
@@ -47,6 +48,8 @@ module _ (a b : List ℕ) where
     pub in-a : x ≡ sideOf a n .place
     pub in-b : y ≡ sideOf b n .place
     pub same : firstDifference a b m ≡ firstDifference a b n
+    pub from : m ≤ n
+    pub to : n ≤ max m (pairs a b)
 
   module _ {m n x y : ℕ} (g : Going m n x y) where
     at-a : x ≡ placeFrom n a 0
@@ -84,16 +87,19 @@ module _ (a b : List ℕ) where
         (omega (arith, counted b n k), inr (omega (arith, place-grows b n 0 k))))
         (or-cases (ltb x (length a)) (ltb y (length b)) t)
 
-    pub going-over : left x y ≡ false → answer.Same ≡ firstDifference a b m
+    over-count : left x y ≡ false → pairs a b ≤ n
     unfolding left
-    going-over t =
+    over-count t =
         let h = ltb-false x (length a) (or-no-1 (ltb x (length a)) (ltb y (length b)) t) in
         let k = ltb-false y (length b) (or-no-2 (ltb x (length a)) (ltb y (length b)) t) in
         let p = at-a in
         let q = at-b in
         let u = counted-out a n (omega arith) in
         let v = counted-out b n (omega arith) in
-        sym (g .same ∙ first-over n (omega arith))
+        omega arith
+
+    pub going-over : left x y ≡ false → answer.Same ≡ firstDifference a b m
+    going-over t = sym (g .same ∙ first-over n (over-count t))
 
     module _ {e f : ℕ} (p : e ≡ groupEnd a x) (q : f ≡ groupEnd b y) where
       the-pair : {t u : List ℕ} → t ≡ take (e - x) (drop x a) → u ≡ take (f - y) (drop y b) → sameBytes t u ≡ samePair a b n
@@ -114,6 +120,8 @@ module _ (a b : List ℕ) where
             in-a = next-a p;
             in-b = next-b q;
             same = g .same ∙ first-more n l ∙ rw (sym (the-pair i j) ∙ d);
+            from = let k = g .from in omega arith;
+            to = omega arith;
           }
 
       -- the code's sum wraps, and here it does not come to that
@@ -134,11 +142,90 @@ module _ (a b : List ℕ) where
             }
 
     pub going-none : left x y ≡ false → GoesOn a b m (record { answer = answer.Same; next = record { number = n; first = x; second = y } })
-    going-none t = record { says = going-over t; stands = record { in-a = g .in-a; in-b = g .in-b }; behind = tt }
+    going-none t =
+        record { says = going-over t; stands = record { in-a = g .in-a; in-b = g .in-b }; behind = let k = over-count t in let h = g .from in let l = g .to in omega arith }
+
+-- ---- from a cursor on, wherever it stands
+
+module _ (a b : List ℕ) where
+  -- what lies behind a cursor
+  unfoldable pub ahead : Cursor → ℕ
+  ahead c = (length a - c .first) + (length b - c .second)
+
+  behind-less : (c : Cursor) → left a b (c .first) (c .second) ≡ true → ahead (behind a b c) < ahead c
+  unfolding ahead
+  behind-less c t = left-less a b (c .first) (c .second) t refl refl
+
+  none-ahead : (c : Cursor) → ahead c ≤ 0 → left a b (c .first) (c .second) ≡ false
+  unfolding left ahead
+  none-ahead c h = rw (le-ltb (c .first) (length a) (omega arith), le-ltb (c .second) (length b) (omega arith))
+
+  found-steps : (d e : ℕ) (c : Cursor) → ahead c ≤ d → ahead c ≤ e → foundFrom d a b c ≡ foundFrom e a b c
+  unfolding foundFrom left
+  found-steps zero zero c h k = refl
+  found-steps zero (suc e) c h k = rw (none-ahead c h)
+  found-steps (suc d) zero c h k = rw (none-ahead c k)
+  found-steps (suc d) (suc e) c h k = go (left a b (c .first) (c .second)) refl (sameBytes (bytesIn a (groupAt a (c .first))) (bytesIn b (groupAt b (c .second)))) (λ v p q. found-steps d e v p q)
+    where
+      go : (t : Bool) → left a b (c .first) (c .second) ≡ t → (u : Bool) → ((v : Cursor) → ahead v ≤ d → ahead v ≤ e → foundFrom d a b v ≡ foundFrom e a b v)
+          → pick t (pick u (foundFrom d a b (behind a b c)) (record { answer = differs (c .number) (groupAt a (c .first)) (groupAt b (c .second)); next = behind a b c })) (record { answer = answer.Same; next = c })
+          ≡ pick t (pick u (foundFrom e a b (behind a b c)) (record { answer = differs (c .number) (groupAt a (c .first)) (groupAt b (c .second)); next = behind a b c })) (record { answer = answer.Same; next = c })
+      go true q true ih = let l = behind-less c q in ih (behind a b c) (omega arith) (omega arith)
+      go true q false ih = refl
+      go false q u ih = refl
+
+  -- the loop over the pairs: what is found from where it stands
+  abbrev pub Finds : Cursor → Cursor → Type 0
+  Finds o c = found a b o ≡ foundFrom (ahead c) a b c
+
+  pub finds-start : (o : Cursor) → Finds o o
+  unfolding found ahead
+  finds-start o = found-steps (length a + length b) (ahead o) o (omega arith) (omega arith)
+
+  module _ (o : Cursor) (c : Cursor) (g : Finds o c) where
+    pub finds-none : left a b (c .first) (c .second) ≡ false → record { answer = answer.Same; next = c } ≡ found a b o
+    unfolding foundFrom left
+    finds-none t = sym (g ∙ found-steps (ahead c) (suc (ahead c)) c (omega arith) (omega arith) ∙ rw t)
+
+    module _ (t : left a b (c .first) (c .second) ≡ true) {e f k : ℕ} (p : e ≡ groupEnd a (c .first)) (q : f ≡ groupEnd b (c .second)) (w : k ≡ (c .number + 1) % 2 ^ 64)
+        {x y : List ℕ} (i : x ≡ take (e - c .first) (drop (c .first) a)) (j : y ≡ take (f - c .second) (drop (c .second) b)) where
+      there : {u : Bool} → sameBytes x y ≡ u → sameBytes (bytesIn a (groupAt a (c .first))) (bytesIn b (groupAt b (c .second))) ≡ u
+      there {u} r = rw (← p, ← q, ← i, ← j) r
+
+      pub finds-here : sameBytes x y ≡ false
+          → record { answer = answer.Differs (c .number) (c .first) (e - c .first) (c .second) (f - c .second); next = record { number = k; first = e; second = f } } ≡ found a b o
+      unfolding foundFrom left
+      finds-here r = sym (g ∙ found-steps (ahead c) (suc (ahead c)) c (omega arith) (omega arith) ∙ rw (t, there r, p, q, w))
+
+      pub finds-more : sameBytes x y ≡ true → Finds o (record { number = k; first = e; second = f })
+      unfolding foundFrom left
+      finds-more r =
+          let l = behind-less c t in
+          let z : record { number = k; first = e; second = f } ≡ behind a b c = rw (p, q, w) in
+          g ∙ found-steps (ahead c) (suc (ahead c)) c (omega arith) (omega arith) ∙ rw (t, there r, z) (found-steps (ahead c) (ahead (behind a b c)) (behind a b c) (omega arith) (omega arith))
+
+  -- ---- where it stands, that is the answer to its number
+
+  module _ (fa : length a < 2 ^ 64) (fb : length b < 2 ^ 64) where
+    goes-from : (d m : ℕ) (c : Cursor) → ahead c ≤ d → Going a b m (c .number) (c .first) (c .second) → GoesOn a b m (foundFrom d a b c)
+    unfolding foundFrom left
+    goes-from zero m c h g = going-none a b g (none-ahead c h)
+    goes-from (suc d) m c h g = go (left a b (c .first) (c .second)) refl (sameBytes (bytesIn a (groupAt a (c .first))) (bytesIn b (groupAt b (c .second)))) refl (λ v i j. goes-from d m v i j)
+      where
+        go : (t : Bool) → left a b (c .first) (c .second) ≡ t → (u : Bool) → sameBytes (bytesIn a (groupAt a (c .first))) (bytesIn b (groupAt b (c .second))) ≡ u
+            → ((v : Cursor) → ahead v ≤ d → Going a b m (v .number) (v .first) (v .second) → GoesOn a b m (foundFrom d a b v))
+            → GoesOn a b m (pick t (pick u (foundFrom d a b (behind a b c)) (record { answer = differs (c .number) (groupAt a (c .first)) (groupAt b (c .second)); next = behind a b c })) (record { answer = answer.Same; next = c }))
+        go true q true r ih = let l = behind-less c q in ih (behind a b c) (omega arith) (going-more a b g refl refl q fa fb refl refl refl r)
+        go true q false r ih = going-found a b g refl refl q fa fb refl refl refl r
+        go false q u r ih = going-none a b g q
+
+    pub found-goes-on : (c : Cursor) → Stands a b c → GoesOn a b (c .number) (found a b c)
+    unfolding found ahead
+    found-goes-on c s = goes-from (length a + length b) (c .number) c (omega arith) (record { in-a = s .in-a; in-b = s .in-b; same = refl; from = omega arith; to = omega arith })
 
 -- ---- the answer to any two logs
 
-pub begin-stands : (a b : List ℕ) → Stands a b (record { number = 0; first = 0; second = 0 })
+pub begin-stands : (a b : List ℕ) → Stands a b atStart
 unfolding placeFrom
 begin-stands a b = record { in-a = ap (λ p. p .place) (sym (side-is a 0)); in-b = ap (λ p. p .place) (sym (side-is b 0)) }
 

@@ -1,202 +1,201 @@
--- What a part of a log tells of its groups holds in the whole log: where the part shows the end of a group, the group ends there, and a
--- pair that is judged in parts is the whole logs' pair of its number.
+-- A log checked as it comes is the log checked whole, however it is cut into parts.
 use mathlib.Core.Path.{_≡_, refl, sym, ap, _∙_}
-use mathlib.Core.Logic.{⊎-elim}
-use mathlib.Core.Bool.{Bool, true, false, _||_}
-use mathlib.Core.List.{List, [], _∷_, _++_, append-nil}
-use Prim.Native.Nat.{ℕ, zero, suc, _+_, _-_, min, _≤_, _<_}
+use mathlib.Core.Bool.{Bool, true, false, not, _&&_}
+use mathlib.Core.List.{List, [], _∷_, _++_}
+use Prim.Native.Nat.{ℕ, zero, suc, _+_, _-_, _%_, _^_, min, _≤_, _<_}
 use native.Mathlib.Omega.{arith}
-use borrow.Author.Tests.{le-ltb, lt-ltb, ltb-true, ltb-false}
-use lib.ListN.{length, getD, take, drop, length-append, length-drop, List·getD-append}
-use lib.Seq.{getD-append-add, drop-append-add, drop-append-le, take-append-le}
-use lib.Dec.{ltb}
+use borrow.Author.Tests.{ne-eqb, lt-ltb, le-leb, lt-leb, leb-true, leb-false}
+use lib.ListN.{length, getD, take, drop, length-append, length-take, length-drop, take-append-drop}
+use lib.Seq.{getD-append-add}
+use lib.Dec.{eqb, leb, ltb}
 use Rattle.model.specs.Words.{pick}
-use Rattle.comparing.specs.Kinds.{startsGroup}
-use Rattle.comparing.specs.Groups.{recordEnd, past, endFrom, groupEnd}
-use Rattle.comparing.specs.declared.Pair.{Pair}
-use Rattle.comparing.specs.declared.Pair.the-variants as pair
-use Rattle.comparing.specs.declared.Compared.the-variants as answer
-use Rattle.comparing.specs.Pairs.{sameBytes, firstDifference, Stands}
-use Rattle.comparing.specs.Parts.{shows, pairIn}
-use Rattle.comparing.proofs.Walks.{past-more, end-steps, end-bounds}
-use Rattle.comparing.proofs.Sides.{group-le, group-within}
-use Rattle.comparing.proofs.Firsts.{left, Going, going-left, going-over, going-differs, going-next, going-behind}
+use Rattle.model.specs.Records.{lengthOf}
+use Rattle.comparing.specs.declared.Fault.{Fault}
+use Rattle.comparing.specs.declared.Fault.the-variants as fault
+use Rattle.comparing.specs.declared.Checking.{Checking}
+use Rattle.comparing.specs.Kinds.{startsGroup, isEvent}
+use Rattle.comparing.specs.Groups.{recordEnd, past}
+use Rattle.comparing.specs.Checks.{wrongAt, scannedFrom, scanned, inside, orThen, checked}
+use Rattle.comparing.specs.Coming.{beginning, begunInside, stuck, passedByte, passedBytes, told}
+use Rattle.comparing.proofs.Coming.{byte-wrong, byte-stuck}
+use Rattle.comparing.proofs.Shifts.{past-shift, shift-test}
 
--- ---- with more behind it
+-- ---- one part behind the other
 
-module _ (s t : List ℕ) where
-  past-front : (x : ℕ) → x < length s → past s x < length s → past (s ++ t) x ≡ past s x
-  unfolding past recordEnd
-  past-front x h l = let k = length-append s t in rw (List·getD-append s t 0 x h) (omega arith)
+pub passed-append : (c : Checking) (s t : List ℕ) → passedBytes c (s ++ t) ≡ passedBytes (passedBytes c s) t
+unfolding passedBytes
+passed-append c [] t = refl
+passed-append c (k ∷ s) t = passed-append (passedByte c k) s t
 
-  end-front : (n x : ℕ) → x ≤ length s → endFrom n s x < length s → endFrom n (s ++ t) x ≡ endFrom n s x
-  unfolding endFrom
-  end-front zero x k h = refl
-  end-front (suc n) x k h = go (ltb x (length s)) refl (startsGroup (getD s x 0)) refl h (λ m i j. end-front n m i j)
-    where
-      go : (c : Bool) → ltb x (length s) ≡ c → (u : Bool) → startsGroup (getD s x 0) ≡ u → pick c (pick u x (endFrom n s (past s x))) x < length s
-          → ((m : ℕ) → m ≤ length s → endFrom n s m < length s → endFrom n (s ++ t) m ≡ endFrom n s m)
-          → pick (ltb x (length (s ++ t))) (pick (startsGroup (getD (s ++ t) x 0)) x (endFrom n (s ++ t) (past (s ++ t) x))) x ≡ pick c (pick u x (endFrom n s (past s x))) x
-      go true q true r h ih =
-          let l = ltb-true x (length s) q in
-          let d = length-append s t in
-          let k : x < length (s ++ t) = omega arith in
-          rw (lt-ltb x (length (s ++ t)) k, List·getD-append s t 0 x l, r)
-      go true q false r h ih =
-          let l = ltb-true x (length s) q in
-          let d = length-append s t in
-          let k : x < length (s ++ t) = omega arith in
-          let w = past-more s x l in
-          let b = end-bounds s n (past s x) (w .1) in
-          rw (lt-ltb x (length (s ++ t)) k, List·getD-append s t 0 x l, r, past-front x l (omega arith)) (ih (past s x) (w .1) h)
-      go false q u r h ih = absurd (let l = ltb-false x (length s) q in let w : ⊥ = omega arith in w)
+-- ---- a scan behind other bytes
 
-  group-front : (x : ℕ) → groupEnd s x < length s → groupEnd (s ++ t) x ≡ groupEnd s x
-  unfolding groupEnd
-  group-front x h =
-      let g = group-le s x in
-      let l : x < length s = omega arith in
-      let d = length-append s t in
-      let k : x < length (s ++ t) = omega arith in
-      let w = past-more s x l in
-      let h′ : endFrom (length s) s (past s x) < length s = rw (lt-ltb x (length s) l) at h in
-      let b = end-bounds s (length s) (past s x) (w .1) in
-      let e : endFrom (length (s ++ t)) s (past s x) ≡ endFrom (length s) s (past s x) = end-steps s (length (s ++ t)) (length s) (past s x) (omega arith) (omega arith) in
-      rw (lt-ltb x (length s) l, lt-ltb x (length (s ++ t)) k, past-front x l (omega arith)) (end-front (length (s ++ t)) (past s x) (w .1) (omega arith) ∙ e)
+abbrev shifted : ℕ → Fault → Fault
+shifted p fault.None = fault.None
+shifted p (fault.At n q) = fault.At n (p + q)
 
--- ---- with more before it
+shifted-twice : (p q : ℕ) (f : Fault) → shifted p (shifted q f) ≡ shifted (p + q) f
+shifted-twice p q fault.None = refl
+shifted-twice p q (fault.At n x) = let e : p + (q + x) ≡ p + q + x = omega arith in rw e
+
+shifted-none : (f : Fault) → shifted 0 f ≡ f
+shifted-none fault.None = refl
+shifted-none (fault.At n x) = let e : 0 + x ≡ x = omega arith in rw e
 
 module _ (r s : List ℕ) where
-  past-shift : (x : ℕ) → past (r ++ s) (length r + x) ≡ length r + past s x
-  unfolding past recordEnd
-  past-shift x = let k = length-append r s in rw (getD-append-add r s x 0) (omega arith)
-
-  shift-test : (x : ℕ) → ltb (length r + x) (length (r ++ s)) ≡ ltb x (length s)
-  shift-test x = go (ltb x (length s)) refl
+  wrong-shift : (x : ℕ) → wrongAt (r ++ s) (length r + x) ≡ wrongAt s x
+  unfolding wrongAt recordEnd
+  wrong-shift x = rw (getD-append-add r s x 0) (go (leb (x + 1 + lengthOf (getD s x 0)) (length s)) refl)
     where
-      go : (c : Bool) → ltb x (length s) ≡ c → ltb (length r + x) (length (r ++ s)) ≡ c
-      go true q = let k = length-append r s in let l = ltb-true x (length s) q in lt-ltb (length r + x) (length (r ++ s)) (omega arith)
-      go false q = let k = length-append r s in let l = ltb-false x (length s) q in le-ltb (length r + x) (length (r ++ s)) (omega arith)
+      n : ℕ
+      n = lengthOf (getD s x 0)
 
-  end-shift : (n x : ℕ) → endFrom n (r ++ s) (length r + x) ≡ length r + endFrom n s x
-  unfolding endFrom
-  end-shift zero x = refl
-  end-shift (suc n) x = rw (shift-test x, getD-append-add r s x 0, past-shift x) (go (ltb x (length s)) (startsGroup (getD s x 0)) (end-shift n (past s x)))
+      test : (t : Bool) → leb (x + 1 + n) (length s) ≡ t → leb (length r + x + 1 + n) (length (r ++ s)) ≡ t
+      test true q = let k = length-append r s in let l = leb-true (x + 1 + n) (length s) q in le-leb (length r + x + 1 + n) (length (r ++ s)) (omega arith)
+      test false q = let k = length-append r s in let l = leb-false (x + 1 + n) (length s) q in lt-leb (length r + x + 1 + n) (length (r ++ s)) (omega arith)
+
+      go : (t : Bool) → leb (x + 1 + n) (length s) ≡ t
+          → _≡_ {A = ℕ} (pick (isEvent (getD s x 0)) (pick (leb (length r + x + 1 + n) (length (r ++ s))) 0 15) 14) (pick (isEvent (getD s x 0)) (pick (leb (x + 1 + n) (length s)) 0 15) 14)
+      go t q = rw (test t q, q)
+
+  scan-shift : (n x : ℕ) → scannedFrom n (r ++ s) (length r + x) ≡ shifted (length r) (scannedFrom n s x)
+  unfolding scannedFrom
+  scan-shift zero x = refl
+  scan-shift (suc n) x = rw (shift-test r s x, wrong-shift x, past-shift r s x) (go (ltb x (length s)) (eqb (wrongAt s x) 0) (scan-shift n (past s x)))
     where
-      go : (c u : Bool) → endFrom n (r ++ s) (length r + past s x) ≡ length r + endFrom n s (past s x)
-          → pick c (pick u (length r + x) (endFrom n (r ++ s) (length r + past s x))) (length r + x) ≡ length r + pick c (pick u x (endFrom n s (past s x))) x
-      go true true ih = refl
-      go true false ih = ih
+      go : (t u : Bool) → scannedFrom n (r ++ s) (length r + past s x) ≡ shifted (length r) (scannedFrom n s (past s x))
+          → pick t (pick u (scannedFrom n (r ++ s) (length r + past s x)) (fault.At (wrongAt s x) (length r + x))) fault.None
+          ≡ shifted (length r) (pick t (pick u (scannedFrom n s (past s x)) (fault.At (wrongAt s x) x)) fault.None)
+      go true true ih = ih
+      go true false ih = refl
       go false u ih = refl
 
-  group-shift : (x : ℕ) → groupEnd (r ++ s) (length r + x) ≡ length r + groupEnd s x
-  unfolding groupEnd
-  group-shift x = rw (shift-test x, past-shift x, end-shift (length (r ++ s)) (past s x)) (go (ltb x (length s)) refl)
-    where
-      go : (c : Bool) → ltb x (length s) ≡ c → pick c (length r + endFrom (length (r ++ s)) s (past s x)) (length r + x) ≡ length r + pick c (endFrom (length s) s (past s x)) x
-      go true q =
-          let k = length-append r s in
-          ap (λ n. length r + n) (end-steps s (length (r ++ s)) (length s) (past s x) (omega arith) (omega arith))
-      go false q = refl
+-- ---- the body of a record, passed byte by byte
 
--- ---- a part: s of the log, with r before it and t behind it, and nothing behind it where the log ends with it
+-- nothing wrong so far
+abbrev so-far : ℕ → ℕ → ℕ → Bool → Checking
+so-far passed place body within = record { passed = passed; place = place; body = body; wrong = false; inside = within }
 
-pub record PartOf (log r s t : List ℕ) (whole : Bool) : Type 0 where
-  pub joins : log ≡ r ++ (s ++ t)
-  pub ends : whole ≡ true → t ≡ []
+one-within : (p q m k : ℕ) (i : Bool) → p + 1 < 2 ^ 64 → passedByte (so-far p q (suc m) i) k ≡ so-far (p + 1) q m i
+unfolding passedByte
+one-within p q m k i h =
+    let e : (p + 1) % 2 ^ 64 ≡ p + 1 = omega arith in
+    let f : suc m - 1 ≡ m = omega arith in
+    rw (ne-eqb (suc m) 0 (λ z. omega arith), e, f)
 
-module _ {log r s t : List ℕ} {whole : Bool} (w : PartOf log r s t whole) (x : ℕ) where
-  pub group-in-part : shows s whole x ≡ true → groupEnd log (length r + x) ≡ length r + groupEnd s x
-  group-in-part h = ap (λ l. groupEnd l (length r + x)) (w .joins) ∙ group-shift r (s ++ t) x ∙ ap (λ n. length r + n) (go whole (w .ends) h)
-    where
-      go : (c : Bool) → (c ≡ true → t ≡ []) → (c || ltb (groupEnd s x) (length s)) ≡ true → groupEnd (s ++ t) x ≡ groupEnd s x
-      go true f h = rw (f refl, append-nil s)
-      go false f h = group-front s t x (ltb-true (groupEnd s x) (length s) h)
+skip-body : (m : ℕ) (s : List ℕ) (p q : ℕ) (i : Bool) → m ≤ length s → p + length s < 2 ^ 64 → passedBytes (so-far p q m i) s ≡ passedBytes (so-far (p + m) q 0 i) (drop m s)
+unfolding passedBytes
+skip-body zero s p q i h k = let e : p + 0 ≡ p = omega arith in rw e
+skip-body (suc m) [] p q i h k = absurd (let w : ⊥ = omega arith in w)
+skip-body (suc m) (x ∷ s) p q i h k =
+    let e : p + suc m ≡ p + 1 + m = omega arith in
+    ap (λ c. passedBytes c s) (one-within p q m x i (omega arith)) ∙ rw e (skip-body m s (p + 1) q i (omega arith) (omega arith))
 
-  pub bytes-in-part : (e : ℕ) → x ≤ length s → e ≤ length s → take (e - x) (drop x s) ≡ take (e - x) (drop (length r + x) log)
-  bytes-in-part e h k =
-      let d = length-drop x s in
-      rw (w .joins, drop-append-add r (s ++ t) x, drop-append-le x s t h) (sym (take-append-le (e - x) (drop x s) t (omega arith)))
+cut-body : (m : ℕ) (s : List ℕ) (p q : ℕ) (i : Bool) → length s < m → p + length s < 2 ^ 64 → told (passedBytes (so-far p q m i) s) ≡ fault.At 15 q
+unfolding passedBytes told
+cut-body zero s p q i h k = absurd (let w : ⊥ = omega arith in w)
+cut-body (suc m) [] p q i h k = rw (ne-eqb (suc m) 0 (λ z. omega arith))
+cut-body (suc m) (x ∷ s) p q i h k = ap (λ c. told (passedBytes c s)) (one-within p q m x i (omega arith)) ∙ cut-body m s (p + 1) q i (omega arith) (omega arith)
 
-  pub left-in-part : shows s whole x ≡ true → ltb (length r + x) (length log) ≡ ltb x (length s)
-  left-in-part h = ap (λ l. ltb (length r + x) (length l)) (w .joins) ∙ go whole (w .ends) h (ltb x (length s)) refl
-    where
-      d : length (r ++ (s ++ t)) ≡ length r + (length s + length t)
-      d = length-append r (s ++ t) ∙ ap (λ n. length r + n) (length-append s t)
+-- ---- record by record
 
-      over : t ≡ [] → length s ≤ x → ltb (length r + x) (length (r ++ (s ++ t))) ≡ false
-      over e l = let z : length t ≡ 0 = ap length e in let k = d in le-ltb (length r + x) (length (r ++ (s ++ t))) (omega arith)
+stays-wrong : (s : List ℕ) (c : Checking) → c .wrong ≡ true → passedBytes c s ≡ c
+unfolding passedBytes
+stays-wrong [] c q = refl
+stays-wrong (k ∷ s) c q = ap (λ d. passedBytes d s) (sym (byte-wrong c k q)) ∙ stays-wrong s c q
 
-      go : (c : Bool) → (c ≡ true → t ≡ []) → (c || ltb (groupEnd s x) (length s)) ≡ true → (u : Bool) → ltb x (length s) ≡ u → ltb (length r + x) (length (r ++ (s ++ t))) ≡ u
-      go c f h true q = let l = ltb-true x (length s) q in let k = d in lt-ltb (length r + x) (length (r ++ (s ++ t))) (omega arith)
-      go true f h false q = over (f refl) (ltb-false x (length s) q)
-      go false f h false q =
-          absurd
-          (let l = ltb-false x (length s) q in
-          let g = group-le s x in
-          let k = ltb-true (groupEnd s x) (length s) h in
-          let n : ⊥ = omega arith in
-          n)
+-- what follows the last record
+ends : ℕ → Bool → List ℕ → Fault
+ends p i [] = pick i (fault.At 17 0) fault.None
+ends p i (k ∷ s) = pick (pick (eqb p 0) (not (startsGroup k)) i) (fault.At 17 0) fault.None
 
--- ---- a pair in parts is the whole logs' pair
+ends-later : (p : ℕ) (i : Bool) (s : List ℕ) → 0 < p → ends p i s ≡ pick i (fault.At 17 0) fault.None
+unfolding ends
+ends-later p i [] h = refl
+ends-later p i (k ∷ s) h = rw (ne-eqb p 0 (λ z. omega arith))
 
-module _ {A B r a t r′ b t′ : List ℕ} {whole ends : Bool} (v : PartOf A r a t whole) (w : PartOf B r′ b t′ ends) where
-  module _ {m n : ℕ} (x y : ℕ) (hx : x ≤ length a) (hy : y ≤ length b) (g : Going A B m n (length r + x) (length r′ + y)) where
-    -- what an answer tells of the pair of number n: the same, and the next pair begins behind it; or it is the first that differs; or
-    -- there is none; or nothing yet
-    abbrev pub Told : Pair → Type 0
-    Told (pair.Same e f) = Going A B m (n + 1) (length r + e) (length r′ + f)
-    Told (pair.Differs e f) = (answer.Differs n (length r + x) (e - x) (length r′ + y) (f - y) ≡ firstDifference A B m) × Stands A B (record { number = n + 1; first = length r + e; second = length r′ + f })
-    Told pair.WantsFirst = Unit {0}
-    Told pair.WantsSecond = Unit {0}
-    Told pair.Over = answer.Same ≡ firstDifference A B m
+module _ (n : ℕ) (k : ℕ) (s : List ℕ) (p q : ℕ) (i : Bool) (room : p + suc (length s) < 2 ^ 64) where
+  m : ℕ
+  m = lengthOf k
 
-    E : ℕ
-    E = groupEnd a x
+  j : Bool
+  j = begunInside p i k
 
-    F : ℕ
-    F = groupEnd b y
+  Told : Type 0
+  Told = told (passedBytes (so-far p q 0 i) (k ∷ s)) ≡ orThen (shifted p (scannedFrom (suc n) (k ∷ s) 0)) (ends p i (k ∷ s))
 
-    module _ (p : shows a whole x ≡ true) (q : shows b ends y ≡ true) where
-      lefts : left A B (length r + x) (length r′ + y) ≡ (ltb x (length a) || ltb y (length b))
-      unfolding left
-      lefts = rw (left-in-part v x p, left-in-part w y q)
+  told-bad : isEvent k ≡ false → told (passedBytes (so-far p q 0 i) (k ∷ s)) ≡ fault.At 14 p
+  unfolding passedBytes told
+  told-bad e =
+      ap (λ c. told (passedBytes c s)) (sym (byte-stuck (so-far p q 0 i) k refl refl e)) ∙ ap told (stays-wrong s (stuck (so-far p q 0 i)) refl)
 
-      end-a : length r + E ≡ groupEnd A (length r + x)
-      unfolding E
-      end-a = sym (group-in-part v x p)
+  bad-kind : isEvent k ≡ false → Told
+  unfolding Told scannedFrom wrongAt
+  bad-kind e = let z : p + 0 ≡ p = omega arith in told-bad e ∙ rw (lt-ltb 0 (suc (length s)) (omega arith), e, z)
 
-      end-b : length r′ + F ≡ groupEnd B (length r′ + y)
-      unfolding F
-      end-b = sym (group-in-part w y q)
+  begins : isEvent k ≡ true → passedByte (so-far p q 0 i) k ≡ so-far (p + 1) p m j
+  unfolding passedByte m j
+  begins e = let z : (p + 1) % 2 ^ 64 ≡ p + 1 = omega arith in rw (e, z)
 
-      size-a : (length r + E) - (length r + x) ≡ E - x
-      size-a = omega arith
+  cut-short : isEvent k ≡ true → length s < m → Told
+  unfolding Told passedBytes scannedFrom wrongAt recordEnd m
+  cut-short e h =
+      let z : p + 0 ≡ p = omega arith in
+      rw (begins e, e, lt-ltb 0 (suc (length s)) (omega arith), lt-leb (0 + 1 + lengthOf k) (suc (length s)) (omega arith), z) (cut-body (lengthOf k) s (p + 1) p j h (omega arith))
 
-      size-b : (length r′ + F) - (length r′ + y) ≡ F - y
-      size-b = omega arith
+  tail : m ≤ length s → scannedFrom n (k ∷ s) (past (k ∷ s) 0) ≡ shifted (1 + m) (scannedFrom n (drop m s) 0)
+  unfolding past recordEnd m
+  tail h =
+      let l = length-take m s in
+      let e : (k ∷ take m s) ++ drop m s ≡ k ∷ s = ap (λ x. k ∷ x) (take-append-drop m s) in
+      let f : min (0 + 1 + lengthOf k) (suc (length s)) ≡ length (k ∷ take m s) + 0 = omega arith in
+      let g : length (k ∷ take m s) ≡ 1 + m = omega arith in
+      rw (f, ← e, scan-shift (k ∷ take m s) (drop m s) n 0, g)
 
-      bytes-a : take (E - x) (drop x a) ≡ take ((length r + E) - (length r + x)) (drop (length r + x) A)
-      unfolding E
-      bytes-a = rw size-a (bytes-in-part v x E hx (group-within a x hx .1))
+  fine : isEvent k ≡ true → m ≤ length s → wrongAt (k ∷ s) 0 ≡ 0
+  unfolding wrongAt recordEnd m
+  fine e h = rw (e, le-leb (0 + 1 + lengthOf k) (suc (length s)) (omega arith))
 
-      bytes-b : take (F - y) (drop y b) ≡ take ((length r′ + F) - (length r′ + y)) (drop (length r′ + y) B)
-      unfolding F
-      bytes-b = rw size-b (bytes-in-part w y F hy (group-within b y hy .1))
+  last : ends (p + 1 + m) j (drop m s) ≡ ends p i (k ∷ s)
+  unfolding ends j begunInside
+  last = ends-later (p + 1 + m) j (drop m s) (omega arith)
 
-      judged : (u : Bool) → (ltb x (length a) || ltb y (length b)) ≡ u → (k : Bool) → sameBytes (take (E - x) (drop x a)) (take (F - y) (drop y b)) ≡ k
-          → Told (pick u (pick k (pair.Same E F) (pair.Differs E F)) pair.Over)
-      judged true h true k = going-next A B g end-a end-b bytes-a bytes-b k (going-left A B g (lefts ∙ h) .0)
-      judged true h false k =
-          (rw (← size-a, ← size-b) (going-differs A B g end-a end-b bytes-a bytes-b k (lefts ∙ h)), going-behind A B g end-a end-b)
-      judged false h k i = going-over A B g (lefts ∙ h)
+  goes-on : isEvent k ≡ true → m ≤ length s
+      → told (passedBytes (so-far (p + 1 + m) p 0 j) (drop m s)) ≡ orThen (shifted (p + 1 + m) (scannedFrom n (drop m s) 0)) (ends (p + 1 + m) j (drop m s)) → Told
+  unfolding Told passedBytes scannedFrom
+  goes-on e h ih =
+      let z : p + (1 + m) ≡ p + 1 + m = omega arith in
+      rw (begins e, lt-ltb 0 (suc (length s)) (omega arith), skip-body m s (p + 1) p j h (omega arith), fine e h, tail h, shifted-twice p (1 + m) (scannedFrom n (drop m s) 0), z, ← last) ih
 
-    pub in-parts : Told (pairIn a whole x b ends y)
-    unfolding pairIn E F
-    in-parts = go (shows a whole x) refl (shows b ends y) refl
-      where
-        go : (c : Bool) → shows a whole x ≡ c → (d : Bool) → shows b ends y ≡ d
-            → Told (pick c (pick d (pick (ltb x (length a) || ltb y (length b)) (pick (sameBytes (take (E - x) (drop x a)) (take (F - y) (drop y b))) (pair.Same E F) (pair.Differs E F)) pair.Over) pair.WantsSecond) pair.WantsFirst)
-        go false p d q = tt
-        go true p false q = tt
-        go true p true q = judged p q (ltb x (length a) || ltb y (length b)) refl (sameBytes (take (E - x) (drop x a)) (take (F - y) (drop y b))) refl
+scan-coming : (n : ℕ) (s : List ℕ) (p q : ℕ) (i : Bool) → length s ≤ n → p + length s < 2 ^ 64
+    → told (passedBytes (so-far p q 0 i) s) ≡ orThen (shifted p (scannedFrom n s 0)) (ends p i s)
+unfolding passedBytes told scannedFrom ends Told m j
+scan-coming zero [] p q i h room = refl
+scan-coming (suc n) [] p q i h room = refl
+scan-coming zero (k ∷ s) p q i h room = absurd (let w : ⊥ = omega arith in w)
+scan-coming (suc n) (k ∷ s) p q i h room = go (isEvent k) refl (leb (lengthOf k) (length s)) refl (λ t a b c d. scan-coming n t a b c d)
+  where
+    go : (e : Bool) → isEvent k ≡ e → (l : Bool) → leb (lengthOf k) (length s) ≡ l
+        → ((t : List ℕ) (a b : ℕ) (c : Bool) → length t ≤ n → a + length t < 2 ^ 64 → told (passedBytes (so-far a b 0 c) t) ≡ orThen (shifted a (scannedFrom n t 0)) (ends a c t))
+        → told (passedBytes (so-far p q 0 i) (k ∷ s)) ≡ orThen (shifted p (scannedFrom (suc n) (k ∷ s) 0)) (ends p i (k ∷ s))
+    go false e l f ih = bad-kind n k s p q i (omega arith) e
+    go true e false f ih = cut-short n k s p q i (omega arith) e (leb-false (lengthOf k) (length s) f)
+    go true e true f ih =
+        let g = leb-true (lengthOf k) (length s) f in
+        let d = length-drop (lengthOf k) s in
+        goes-on n k s p q i (omega arith) e g (ih (drop (lengthOf k) s) (p + 1 + lengthOf k) p (begunInside p i k) (omega arith) (omega arith))
+
+-- ---- the theorem
+
+ends-first : (s : List ℕ) → ends 0 false s ≡ inside s
+unfolding ends
+ends-first [] = refl
+ends-first (k ∷ s) = go (startsGroup k)
+  where
+    go : (t : Bool) → pick (not t) (fault.At 17 0) fault.None ≡ pick t fault.None (fault.At 17 0)
+    go true = refl
+    go false = refl
+
+-- with passed-append: the parts of a log, passed in order, come to what is told of the log
+pub checked-coming : (s : List ℕ) → length s < 2 ^ 64 → told (passedBytes beginning s) ≡ checked s
+unfolding checked scanned
+checked-coming s h = scan-coming (length s) s 0 0 false (omega arith) (omega arith) ∙ rw (shifted-none (scannedFrom (length s) s 0), ends-first s)

@@ -3,4 +3,5 @@ pub mod Kinds
 pub mod Groups
 pub mod Checks
 pub mod Pairs
-pub mod Parts
+pub mod Coming
+pub mod Steps

@@ -1,10 +1,10 @@
 -- Groups paired by number, the first pair that differs, and what is answered to any two logs.
-use Prim.Native.Nat.{ℕ, zero, suc, _+_, _-_, max}
+use Prim.Native.Nat.{ℕ, zero, suc, _+_, _-_, _%_, _^_, max}
 use mathlib.Core.Path.{_≡_}
-use mathlib.Core.Bool.{Bool, true, false, _&&_}
+use mathlib.Core.Bool.{Bool, true, false, _&&_, _||_}
 use mathlib.Core.List.{List, [], _∷_}
 use lib.ListN.{length}
-use lib.Dec.{eqb}
+use lib.Dec.{eqb, ltb}
 use Rattle.model.specs.Words.{pick}
 use Rattle.comparing.specs.declared.Fault.{Fault}
 use Rattle.comparing.specs.declared.Fault.the-variants as fault
@@ -12,7 +12,7 @@ use Rattle.comparing.specs.declared.Compared.{Compared}
 use Rattle.comparing.specs.declared.Compared.the-variants as answer
 use Rattle.comparing.specs.declared.Cursor.{Cursor}
 use Rattle.comparing.specs.declared.Found.{Found}
-use Rattle.comparing.specs.Groups.{Part, bytesIn, groups, sideOf}
+use Rattle.comparing.specs.Groups.{Part, partTo, bytesIn, groupEnd, groups, sideOf}
 use Rattle.comparing.specs.Checks.{checked}
 
 unfoldable pub sameBytes : List ℕ → List ℕ → Bool
@@ -57,21 +57,45 @@ refusing log fault.None r = r
 unfoldable pub compared : List ℕ → List ℕ → ℕ → Compared
 compared a b from = refusing 1 (checked a) (refusing 2 (checked b) (firstDifference a b from))
 
--- ---- going on
+-- ---- going on from a cursor, wherever it stands
+
+abbrev pub atStart : Cursor
+atStart = record { number = 0; first = 0; second = 0 }
+
+-- behind the groups that begin at its places; the number is of 64 bits, as the code's
+abbrev pub behind : List ℕ → List ℕ → Cursor → Cursor
+behind a b c = record { number = (c .number + 1) % 2 ^ 64; first = groupEnd a (c .first); second = groupEnd b (c .second) }
+
+abbrev pub groupAt : List ℕ → ℕ → Part
+groupAt s at = partTo at (groupEnd s at)
+
+-- the first pair from there on that differs, d pairs at most, and the cursor behind it; where there is none, one behind both logs
+unfoldable pub foundFrom : ℕ → List ℕ → List ℕ → Cursor → Found
+foundFrom zero a b c = record { answer = answer.Same; next = c }
+foundFrom (suc d) a b c =
+    pick (ltb (c .first) (length a) || ltb (c .second) (length b)) (
+    pick (sameBytes (bytesIn a (groupAt a (c .first))) (bytesIn b (groupAt b (c .second))))
+    (foundFrom d a b (behind a b c))
+    (record { answer = differs (c .number) (groupAt a (c .first)) (groupAt b (c .second)); next = behind a b c }))
+    (record { answer = answer.Same; next = c })
+
+-- a group is a byte or more
+unfoldable pub found : List ℕ → List ℕ → Cursor → Found
+found a b c = foundFrom (length a + length b) a b c
 
 -- a cursor that stands where the groups of its number begin
 pub record Stands (a b : List ℕ) (c : Cursor) : Type 0 where
   pub in-a : c .first ≡ sideOf a (c .number) .place
   pub in-b : c .second ≡ sideOf b (c .number) .place
 
--- the number to go on with: the one after the pair that differs
-abbrev pub Behind : Compared → ℕ → Type 0
-Behind (answer.Differs number p m q n) next = next ≡ number + 1
-Behind (answer.Refused log number place) next = Unit
-Behind answer.Same next = Unit
+-- the number to go on with: the one after the pair that differs; where there is none, the number of pairs, or that asked with if higher
+abbrev pub Behind : List ℕ → List ℕ → ℕ → Compared → ℕ → Type 0
+Behind a b n (answer.Differs number p m q k) next = next ≡ number + 1
+Behind a b n (answer.Refused log number place) next = Unit
+Behind a b n answer.Same next = next ≡ max n (pairs a b)
 
 -- asked with number n: the answer, and a cursor that stands behind it
 pub record GoesOn (a b : List ℕ) (n : ℕ) (r : Found) : Type 0 where
   pub says : r .answer ≡ firstDifference a b n
   pub stands : Stands a b (r .next)
-  pub behind : Behind (r .answer) (r .next .number)
+  pub behind : Behind a b n (r .answer) (r .next .number)

@@ -1,15 +1,17 @@
 // Two logs side by side: the groups of a log, the refusals of one that cannot be read so, and the first pair of groups that differs
-// from a number on. In order: kinds, records, the check of a log, groups, bytes, pairs.
+// from a number on. In order: kinds, records, the check of a log, groups, bytes, pairs. Logs that come in parts, of any length: the
+// check in `checks`, the pairs in `walking`.
+pub mod checks;
+pub mod walking;
+
 ghost use mathlib.Core.Path.{_≡_};
-ghost use Prim.Native.Nat.{ℕ, _-_, _<_, min};
-ghost use mathlib.Core.List.{List};
+ghost use Prim.Native.Nat.{_-_, _<_, min};
 ghost use lib.ListN.{length, take, drop};
 ghost use Rattle.comparing.specs.Kinds.{startsGroup, isEvent};
 ghost use Rattle.comparing.specs.Checks.{wrongAt, scanned, checked};
 ghost use Rattle.comparing.specs.Groups.{groupEnd, sideOf};
 ghost use Rattle.comparing.specs.Groups.{past as Groups·past};
-ghost use Rattle.comparing.specs.Pairs.{sameBytes, Stands, GoesOn, compared};
-ghost use Rattle.comparing.specs.Parts.{pairIn};
+ghost use Rattle.comparing.specs.Pairs.{sameBytes, atStart, found, compared};
 
 // Log 1 or 2 refused by number, with the place; or the first pair that differs, with the place and the length of each side; or none.
 pub enum Compared {
@@ -41,13 +43,54 @@ pub struct Cursor {
     pub second: usize,
 }
 
-// A pair within parts of two logs: its groups, up to where they end, are the same or differ; or a part does not show where its group
-// ends; or both logs are over.
-pub enum Pair {
-    Same { end_a: usize, end_b: usize },
-    Differs { end_a: usize, end_b: usize },
+// The check of a log that comes in parts: the bytes passed; of its last record the place, how many bytes of the body are to come, and
+// whether its kind is no event's; whether the log begins inside a group.
+pub struct Checking {
+    pub passed: usize,
+    pub place: usize,
+    pub body: u8,
+    pub wrong: bool,
+    pub inside: bool,
+}
+
+// One side of the pair that is being passed: where its group begins, and the bytes of it that are passed.
+pub struct Side {
+    pub place: usize,
+    pub passed: usize,
+}
+
+// Two logs that come in parts, passed record by record: the pair and its sides, whether they are the same so far; of the pairs before
+// it how many differ, and the lowest number among those, 0 where there is none.
+pub struct Walk {
+    pub number: usize,
+    pub first: Side,
+    pub second: Side,
+    pub same: bool,
+    pub differing: usize,
+    pub lowest: usize,
+}
+
+// What the bytes to come show of a group: the length of its next record, 0 where the group is over; or not yet.
+pub enum Ahead {
+    Shows(usize),
+    Wants,
+}
+
+// The next step over two logs: a log has to show more bytes; the next record of each side, by its length (0 behind a group's end), and
+// whether the two are the same; the end of a pair, and whether it differs; the end of both logs.
+pub enum Step {
     WantsFirst,
     WantsSecond,
+    Row {
+        first: usize,
+        second: usize,
+        same: bool,
+        next: Walk,
+    },
+    Pair {
+        differs: bool,
+        next: Walk,
+    },
     Over,
 }
 
@@ -235,7 +278,7 @@ pub fn same(a: &[u8], b: &[u8]) -> bool
 
 // The cursor to begin with.
 pub fn begin() -> Cursor
-    ensures { λ r. ⌜ ((a b : List ℕ) → Stands a b r) ⌝ }
+    ensures { λ r. ⌜ r ≡ atStart ⌝ }
 {
     Cursor {
         number: 0,
@@ -244,10 +287,10 @@ pub fn begin() -> Cursor
     }
 }
 
-// The first pair from a cursor on that differs: the same answer as asking with its number; and the cursor behind that pair. It reads
-// what lies between the two cursors and no more, so that to list all pairs takes one pass.
+// The first pair from a cursor on that differs, and the cursor behind that pair: where it stands at the groups of its number, the same
+// answer as asking with that number. It reads what lies between the two cursors and no more, so that to list all pairs takes one pass.
 pub fn compare_from(a: &[u8], b: &[u8], cursor: Cursor) -> Found
-    ensures { λ r. ⌜ (Stands (now (a .entry)) (now (b .entry)) cursor → GoesOn (now (a .entry)) (now (b .entry)) (cursor .number) r) ⌝ }
+    ensures { λ r. ⌜ r ≡ found (now (a .entry)) (now (b .entry)) cursor ⌝ }
 {
     let mut number = cursor.number;
     let mut x = cursor.first;
@@ -317,27 +360,4 @@ pub fn compare(a: &[u8], b: &[u8], from: usize) -> Compared
         },
     );
     found.answer
-}
-
-// The pair whose groups begin at two places of parts of two logs; `whole` says that the first log ends with its part, `ends` that
-// the second does.
-pub fn pair_in(a: &[u8], whole: bool, x: usize, b: &[u8], ends: bool, y: usize) -> Pair
-    ensures { λ r. ⌜ r ≡ pairIn (now (a .entry)) whole x (now (b .entry)) ends y ⌝ }
-{
-    let end_a = group_end(a, x);
-    let end_b = group_end(b, y);
-    if !(whole | (end_a < a.len())) {
-        return Pair::WantsFirst;
-    }
-    if !(ends | (end_b < b.len())) {
-        return Pair::WantsSecond;
-    }
-    if !((x < a.len()) | (y < b.len())) {
-        return Pair::Over;
-    }
-    if same(part(a, x, end_a), part(b, y, end_b)) {
-        Pair::Same { end_a, end_b }
-    } else {
-        Pair::Differs { end_a, end_b }
-    }
 }

@@ -1,6 +1,10 @@
 -- `comparing::compare` meets its contract.
+use Prim.Native.Nat.{_^_, _<_}
+use mathlib.Core.Path.{ap, _∙_}
 use borrow.Author.Needs.{needs}
-use Rattle.comparing.proofs.Firsts.{compared-first, compared-second, compared-pairs}
+use native.Mathlib.Omega.{arith}
+use lib.ListN.{length}
+use Rattle.comparing.proofs.Firsts.{found-goes-on, compared-first, compared-second, compared-pairs}
 use Rattle.comparing.proofs.compare.Statement.{statement}
 use Rattle.comparing.proofs.compare.Tie as tie
 
@@ -23,10 +27,17 @@ compare-spec =
     (λ c κs. search needs)
     (λ c κs. search needs)
     (λ c κs. search needs)
+    -- returns-3
     (λ c.
     let s2 = c .before in
     let s1 = s2 .before in
     let u = s1 .before in
     let k = u .before .before in
     let t = k .before in
-    compared-pairs _ _ _ (t .before .before .check .ensures) (t .enum-told .given .1) (k .check2 .ensures) (u .enum-told2 .given .1) (c .compare-from .ensures (record { in-a = s1 .skip .ensures; in-b = s2 .skip2 .ensures }) .says)))
+    let start = t .before .before .before .before .before in
+    let good-a = start .good .0 in
+    let good-b = start .good .1 .0 in
+    let long-a : length (start .args .a .now) < 2 ^ 64 = omega arith in
+    let long-b : length (start .args .b .now) < 2 ^ 64 = omega arith in
+    let g = found-goes-on _ _ long-a long-b _ (record { in-a = s1 .skip .ensures; in-b = s2 .skip2 .ensures }) in
+    compared-pairs _ _ _ (t .before .before .check .ensures) (t .enum-told .given .1) (k .check2 .ensures) (u .enum-told2 .given .1) (ap (λ f. f .answer) (c .compare-from .ensures) ∙ g .says)))

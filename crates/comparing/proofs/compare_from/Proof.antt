@@ -1,18 +1,17 @@
--- `comparing::compare_from` meets its contract: where the cursor stands, the loop stands where the groups of its number begin.
-use Prim.Native.Nat.{_+_, _-_, _^_, _<_}
+-- `comparing::compare_from` meets its contract: what is found from where the loop stands.
+use Prim.Native.Nat.{_+_, _-_}
 use mathlib.Core.Path.{_≡_, refl, sym, _∙_}
 use borrow.Author.Needs.{needs}
 use borrow.Author.Tests.{not-true, not-false}
 use native.Mathlib.Omega.{arith}
 use lib.ListN.{length}
-use Rattle.comparing.specs.Groups.{sideOf}
 use Rattle.comparing.proofs.Sides.{group-le}
-use Rattle.comparing.proofs.Firsts.{left, left-less, Going, going-none, going-found, going-more}
+use Rattle.comparing.proofs.Firsts.{left, left-less, Finds, finds-start, finds-here, finds-more, finds-none}
 use Rattle.comparing.proofs.compare_from.Statement.{statement}
 use Rattle.comparing.proofs.compare_from.Tie as tie
 
 abbrev Inv-loop : tie.InvT-loop
-Inv-loop a b number₀ x₀ y₀ number x y = (x₀ ≡ sideOf a number₀ .place) → (y₀ ≡ sideOf b number₀ .place) → Going a b number₀ number x y
+Inv-loop a b number₀ x₀ y₀ number x y = Finds a b (record { number = number₀; first = x₀; second = y₀ }) (record { number = number; first = x; second = y })
 
 abbrev μ-loop : tie.MeasureT-loop
 μ-loop a b number₀ x₀ y₀ number x y = (length a - x) + (length b - y)
@@ -31,7 +30,7 @@ sub-t18 c =
 
 returns : tie.Need-returns Inv-loop μ-loop
 unfolding left
-returns c h =
+returns c =
     let s = c .before in
     let p2 = s .before in
     let p1 = p2 .before in
@@ -39,13 +38,7 @@ returns c h =
     let e2 = n .before in
     let e1 = e2 .before in
     let i = e1 .before in
-    let g = i .before .loop .inv (h .in-a) (h .in-b) in
-    let start = i .before .before .before .before in
-    let good-a = start .good .0 in
-    let good-b = start .good .1 .0 in
-    let long-a : length (start .args .a .now) < 2 ^ 64 = omega arith in
-    let long-b : length (start .args .b .now) < 2 ^ 64 = omega arith in
-    going-found _ _ g (e1 .group-end .ensures) (e2 .group-end2 .ensures) (i .loop-test .taken) long-a long-b (n .wrapping-add-usize .ensures) (p1 .part .ensures) (p2 .part2 .ensures) (sym (s .same .ensures) ∙ not-true _ (c .if1 .taken))
+    finds-here _ _ _ _ (i .before .loop .inv) (i .loop-test .taken) (e1 .group-end .ensures) (e2 .group-end2 .ensures) (n .wrapping-add-usize .ensures) (p1 .part .ensures) (p2 .part2 .ensures) (sym (s .same .ensures) ∙ not-true _ (c .if1 .taken))
 
 loop-less : tie.Need-loop-less Inv-loop μ-loop
 unfolding left
@@ -57,7 +50,7 @@ loop-less c =
 
 loop-again : tie.Need-loop-again Inv-loop μ-loop
 unfolding left
-loop-again c p q =
+loop-again c =
     let s = c .before in
     let p2 = s .before in
     let p1 = p2 .before in
@@ -65,17 +58,11 @@ loop-again c p q =
     let e2 = n .before in
     let e1 = e2 .before in
     let i = e1 .before in
-    let g = i .before .loop .inv p q in
-    let start = i .before .before .before .before in
-    let good-a = start .good .0 in
-    let good-b = start .good .1 .0 in
-    let long-a : length (start .args .a .now) < 2 ^ 64 = omega arith in
-    let long-b : length (start .args .b .now) < 2 ^ 64 = omega arith in
-    going-more _ _ g (e1 .group-end .ensures) (e2 .group-end2 .ensures) (i .loop-test .taken) long-a long-b (n .wrapping-add-usize .ensures) (p1 .part .ensures) (p2 .part2 .ensures) (sym (s .same .ensures) ∙ not-false _ (c .if1 .left))
+    finds-more _ _ _ _ (i .before .loop .inv) (i .loop-test .taken) (e1 .group-end .ensures) (e2 .group-end2 .ensures) (n .wrapping-add-usize .ensures) (p1 .part .ensures) (p2 .part2 .ensures) (sym (s .same .ensures) ∙ not-false _ (c .if1 .left))
 
 returns-2 : tie.Need-returns-2 Inv-loop μ-loop
 unfolding left
-returns-2 c h = going-none _ _ (c .before .loop .inv (h .in-a) (h .in-b)) (c .loop-test .left)
+returns-2 c = finds-none _ _ _ _ (c .before .loop .inv) (c .loop-test .left)
 
 pub compare-from-spec : {M : Type 1} → statement M
 compare-from-spec =
@@ -83,7 +70,7 @@ compare-from-spec =
     (tie.spec
     Inv-loop
     μ-loop
-    (λ c. λ p q. record { in-a = p; in-b = q; same = refl })
+    (λ c. finds-start _ _ _)
     (λ c κs. search needs)
     (λ c κs. search needs)
     (λ c κs. search needs)

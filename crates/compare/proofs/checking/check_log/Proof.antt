@@ -1,0 +1,37 @@
+-- `compare::checking::check_log` meets its contract: the bytes that came are checked, and each turn but the last reads some.
+use mathlib.Core.Path.{_≡_, refl}
+use borrow.Author.Needs.{needs}
+use native.Mathlib.Omega.{arith}
+use lib.ListN.{length}
+use Rattle.compare.specs.Checking.{Checked}
+use Rattle.compare.proofs.Parts.{reads-on, started-checked, toRead, less-to-read}
+use Rattle.compare.proofs.checking.check_log.Statement.{statement}
+use Rattle.compare.proofs.checking.check_log.Tie as tie
+
+abbrev Inv-loop : tie.InvT-loop
+Inv-loop log fd buf₀ c₀ buf c = (length buf ≡ length buf₀) × Checked c
+
+abbrev μ-loop : tie.MeasureT-loop
+μ-loop log fd buf₀ c₀ buf c = toRead c
+
+pub check-log-spec : {M : Type 1} → statement M
+check-log-spec =
+    tie.close
+    (tie.spec
+    Inv-loop
+    μ-loop
+    (λ c κs. search needs)
+    (λ c. (refl, started-checked (c .begin .ensures)))
+    (λ c κs. search needs)
+    -- loop-less
+    (λ c.
+    let r = c .before .before in
+    let i = r .before .before in
+    less-to-read (i .before .loop .c) (r .read-part .result) (i .loop-test .taken) (reads-on (i .before .loop .inv .1) _ (r .read-part .ensures) .1))
+    -- loop-again
+    (λ c.
+    let r = c .before .before in
+    let i = r .before .before in
+    (search needs, reads-on (i .before .loop .inv .1) _ (r .read-part .ensures) .0))
+    (λ c. search needs)
+    (λ c. c .before .loop .inv .1))

@@ -1,0 +1,46 @@
+-- `compare::listing::list_all` is safe and ends: each turn leaves less, or is the last.
+use mathlib.Core.Path.{_≡_, refl, ap, _∙_}
+use borrow.Author.Needs.{needs}
+use lib.ListN.{length}
+use Rattle.compare.specs.Turns.{Ready}
+use Rattle.compare.proofs.Turning.{turnsLeft, goes-less, begun-ready}
+use Rattle.compare.proofs.listing.list_all.Statement.{statement}
+use Rattle.compare.proofs.listing.list_all.Tie as tie
+
+abbrev Inv-loop : tie.InvT-loop
+Inv-loop l a₀ b₀ c₀ d₀ out₀ k₀ a b c d out k =
+    (length a ≡ length a₀) × (length b ≡ length b₀) × (length c ≡ length c₀) × (length d ≡ length d₀) × (length out ≡ length out₀) × Ready (length a₀) (length b₀) (k .pass) × Ready (length c₀) (length d₀) (k .shown .pass)
+
+abbrev μ-loop : tie.MeasureT-loop
+μ-loop l a₀ b₀ c₀ d₀ out₀ k₀ a b c d out k = turnsLeft (k .more) (k .pass)
+
+pub list-all-spec : {M : Type 1} → statement M
+list-all-spec =
+    tie.close
+    (tie.spec
+    Inv-loop
+    μ-loop
+    (λ c κs. search needs)
+    (λ c κs. search needs)
+    (λ c κs. search needs)
+    -- loop-holds
+    (λ c.
+    let s = c .before in
+    (refl, refl, refl, refl, refl, begun-ready _ _ (c .on .ensures .0 ∙ s .before .fresh .ensures), begun-ready _ _ (ap (λ x. x .pass) (c .on .ensures .1) ∙ s .fresh2 .ensures)))
+    -- list-turn-requires
+    (λ c κs. let i = c .before .before .before .before .before .before .loop .inv in (rw (i .0, i .1) (i .5), rw (i .2, i .3) (i .6)))
+    -- loop-less
+    (λ c.
+    let t = c .before .before .before .before .before .before .before .before .before .before in
+    goes-less _ (t .list-turn .ensures .0) (t .before .before .before .before .before .before .loop-test .taken))
+    -- loop-again
+    (λ c.
+    let t = c .before .before .before .before .before .before .before .before .before .before in
+    let i = t .before .before .before .before .before .before .before .loop .inv in
+    (search needs, search needs, search needs, search needs, search needs, rw (i .0, i .1) at (t .list-turn .ensures .0 .ready), rw (i .2, i .3) at (t .list-turn .ensures .1 .0)))
+    (λ c. search needs)
+    (λ c. search needs)
+    (λ c. search needs)
+    (λ c. search needs)
+    (λ c. search needs)
+    (λ c. search needs))

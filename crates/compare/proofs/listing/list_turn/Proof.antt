@@ -1,0 +1,76 @@
+-- `compare::listing::list_turn` meets its contract.
+use mathlib.Core.Path.{refl, ap, _∙_}
+use borrow.Author.Needs.{needs}
+use Rattle.compare.proofs.Turning.{pass-on, pass-halt, same-ready, lists-met, lists-pair, lists-same}
+use Rattle.compare.proofs.listing.list_turn.Statement.{statement}
+use Rattle.compare.proofs.listing.list_turn.Tie as tie
+
+pub list-turn-spec : {M : Type 1} → statement M
+list-turn-spec =
+    tie.close
+    (tie.spec
+    (λ c κs. c .before .before .before .before .before .before .before .before .before .before .pre .0)
+    (λ c. search needs)
+    (λ c κs. search needs)
+    (λ c. search needs)
+    -- pair-met-requires
+    (λ c κs.
+    let m = c .before .before .before .before .before in
+    let t = m .before .before .before .before .before .before in
+    t .before .before .before .before .before .before .before .before .before .before .before .pre .1)
+    (λ c. search needs)
+    (λ c. search needs)
+    (λ c. search needs)
+    (λ c. search needs)
+    (λ c. search needs)
+    -- returns
+    (λ c.
+    let r = c .before .before .before .before .before .before in
+    let m = r .before .before .before .before .before .before in
+    let t = m .before .before .before .before .before .before in
+    (pass-on (t .turn .ensures .1) (m .m .given .1) refl (r .pair-met .ensures .0 .0) _, (r .pair-met .ensures .0 .1, lists-pair _ _ _ _ _ _ _ _ (t .turn .ensures .0) (m .m .given .1) (r .before .before .before .before .if1 .taken) (r .pair-met .ensures .1))))
+    (λ c κs. search needs)
+    (λ c. search needs)
+    (λ c κs. search needs)
+    (λ c. search needs)
+    (λ c κs. search needs)
+    (λ c κs. search needs)
+    (λ c. search needs)
+    (λ c κs. search needs)
+    (λ c. search needs)
+    (λ c. search needs)
+    -- returns-2
+    (λ c.
+    let m = c .before in
+    let t = m .before .before .before .before .before .before in
+    (pass-on (t .turn .ensures .1) (m .enum-told .given .1) refl (c .on .ensures .0) _, (same-ready (ap (λ s. s .pass) (c .on .ensures .1)) (t .before .before .before .before .before .before .before .before .before .before .before .pre .1), lists-met _ _ _ _ _ _ _ _ (t .turn .ensures .0) (m .enum-told .given .1) (c .on .ensures .1, c .on .ensures .2))))
+    (λ c. search needs)
+    (λ c. search needs)
+    -- returns-3
+    (λ c.
+    let m = c .before .before .before in
+    let t = m .before .before .before .before .before .before in
+    (pass-on (t .turn .ensures .1) (m .m .given .1) refl (c .on2 .ensures .0) _, (same-ready (ap (λ s. s .pass) (c .on2 .ensures .1)) (t .before .before .before .before .before .before .before .before .before .before .before .pre .1), lists-same _ _ _ _ _ _ _ _ (t .turn .ensures .0) (m .m .given .1) (c .before .if1 .left) (c .on2 .ensures .1) (c .on2 .ensures .2))))
+    (λ c. search needs)
+    (λ c. search needs)
+    -- returns-4
+    (λ c.
+    let m = c .before in
+    let t = m .before .before .before .before .before .before in
+    (pass-on (t .turn .ensures .1) (m .enum-told2 .given .1) refl (c .on3 .ensures .0) _, (same-ready (ap (λ s. s .pass) (c .on3 .ensures .1)) (t .before .before .before .before .before .before .before .before .before .before .before .pre .1), lists-met _ _ _ _ _ _ _ _ (t .turn .ensures .0) (m .enum-told2 .given .1) (c .on3 .ensures .1))))
+    (λ c. search needs)
+    (λ c. search needs)
+    (λ c. search needs)
+    -- returns-5
+    (λ c.
+    let f = c .before .before .before in
+    let m = f .before .before in
+    let t = m .before .before .before .before .before .before in
+    (pass-halt _ (t .turn .ensures .1 .ready) (c .halted .ensures .0) (c .halted .ensures .2), (same-ready (ap (λ s. s .pass) (c .halted .ensures .1) ∙ f .finish .ensures) (t .before .before .before .before .before .before .before .before .before .before .before .pre .1), lists-met _ _ _ _ _ _ _ _ (t .turn .ensures .0) (m .enum-told3 .given .1) (c .halted .ensures .2))))
+    (λ c. search needs)
+    (λ c. search needs)
+    -- returns-6
+    (λ c.
+    let m = c .before in
+    let t = m .before .before .before .before .before .before in
+    (pass-halt _ (t .turn .ensures .1 .ready) (c .halted2 .ensures .0) (c .halted2 .ensures .2), (same-ready (ap (λ s. s .pass) (c .halted2 .ensures .1)) (t .before .before .before .before .before .before .before .before .before .before .before .pre .1), lists-met _ _ _ _ _ _ _ _ (t .turn .ensures .0) (m .enum-told4 .given .1) (c .halted2 .ensures .1)))))

@@ -1,0 +1,122 @@
+// A log through a buffer: the bytes that wait in it, and more behind them.
+ghost use mathlib.Core.Path.{_≡_};
+ghost use lib.ListN.{length};
+ghost use Rattle.compare.specs.Windows.{unread, waitingIn, movedBy, topped, cameTo, Sound, Fed};
+use crate::says;
+use input::Filled;
+
+// The place in the log of the buffer's first byte, where the bytes that wait begin and end in the buffer, whether the log ends there.
+pub struct Window {
+    pub base: usize,
+    pub at: usize,
+    pub have: usize,
+    pub ended: bool,
+}
+
+// What a turn met: the next records, by their lengths; a pair's end; more bytes, or that there are none; the end of both logs; a log
+// that cannot be read on.
+pub enum Met {
+    Row {
+        first: usize,
+        second: usize,
+        same: bool,
+    },
+    Pair {
+        differs: bool,
+    },
+    Read,
+    Over,
+    Stuck,
+}
+
+// A window with more bytes in it, or at its log's end; or one that cannot be read on, which standard error then says.
+pub struct Topped {
+    pub window: Window,
+    pub met: Met,
+}
+
+pub fn fresh() -> Window
+    ensures { λ r. ⌜ r ≡ unread ⌝ }
+{
+    Window {
+        base: 0,
+        at: 0,
+        have: 0,
+        ended: false,
+    }
+}
+
+// The bytes that wait.
+pub fn waiting(buf: &[u8], w: Window) -> &[u8]
+    ensures { λ r. ⌜ now r ≡ waitingIn (now (buf .entry)) w ⌝ }
+{
+    let at = w.at;
+    let have = w.have;
+    comparing::part(text::front(buf, have), at, have)
+}
+
+// Past n of them.
+pub fn moved(w: Window, n: usize) -> Window
+    ensures { λ r. ⌜ r ≡ movedBy w n ⌝ }
+{
+    Window {
+        base: w.base,
+        at: std::num::wrapping_add_usize(w.at, n),
+        have: w.have,
+        ended: w.ended,
+    }
+}
+
+pub fn say_failed(log: usize) {
+    if log == 1 {
+        os::fail(b"reading the first log");
+    } else {
+        os::fail(b"reading the second log");
+    }
+}
+
+fn filled(base: usize, have: usize, ended: bool, met: Met) -> Topped
+    ensures { λ r. ⌜ r ≡ topped base have ended met ⌝ }
+{
+    Topped {
+        window: Window {
+            base,
+            at: 0,
+            have,
+            ended,
+        },
+        met,
+    }
+}
+
+// The buffer's bytes now go to n: more than before, and no further than a place can say.
+fn came(base: usize, have: usize, n: usize) -> Topped
+    ensures { λ r. ⌜ r ≡ cameTo base have n ⌝ }
+{
+    if n <= have {
+        return filled(base, have, true, Met::Read);
+    }
+    if usize::MAX - base < n {
+        says::stop(b"a log is too long: its places have no numbers\n");
+        return filled(base, have, false, Met::Stuck);
+    }
+    filled(base, n, false, Met::Read)
+}
+
+// The bytes that wait go to the front of the buffer, and more is read behind them.
+pub fn top_up(log: usize, fd: i32, buf: &mut [u8], w: Window) -> Topped
+    requires { ⌜ Sound (length (now buf)) w ⌝ }
+    ensures { λ r. ⌜ Fed (now (buf .entry)) w (r .window) (r .met) (now (buf .exit)) ⌝ }
+{
+    let base = w.base + w.at;
+    let have = input::carry(buf, w.at, w.have);
+    match input::fill(fd, buf, have) {
+        Filled::To(n) => came(base, have, n),
+        Filled::End => filled(base, have, true, Met::Read),
+        Filled::Full => filled(base, have, false, Met::Stuck),
+        Filled::Failed => {
+            say_failed(log);
+            filled(base, have, false, Met::Stuck)
+        }
+    }
+}

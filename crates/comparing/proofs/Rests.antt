@@ -1,0 +1,271 @@
+-- What is left of a group in the bytes to come: its next record, and then the rest; what a front of those bytes shows of it.
+use mathlib.Core.Path.{_≡_, refl, sym, ap, _∙_}
+use mathlib.Core.Bool.{Bool, true, false, not, _&&_, _||_}
+use mathlib.Core.List.{List, [], _∷_, _++_, append-nil}
+use Prim.Native.Nat.{ℕ, zero, suc, _+_, _-_, min, _≤_, _<_}
+use native.Mathlib.Omega.{arith}
+use borrow.Author.Tests.{le-ltb, lt-ltb, eqb-true, eqb-false, eq-eqb, ne-eqb, leb-true, leb-false}
+use lib.ListN.{length, getD, take, drop, length-append, length-take, length-drop, take-append-drop, List·getD-append}
+use lib.Seq.{length-take-le, take-add, getD-take}
+use lib.Dec.{eqb, leb, ltb}
+use Rattle.model.specs.Words.{pick}
+use Rattle.model.specs.Records.{lengthOf}
+use Rattle.model.proofs.Flags.{no-yes, clash, and-1}
+use Rattle.comparing.specs.declared.Ahead.{Ahead}
+use Rattle.comparing.specs.declared.Ahead.the-variants as ahead-of
+use Rattle.comparing.specs.Kinds.{startsGroup}
+use Rattle.comparing.specs.Groups.{recordEnd, past, endFrom, groupEnd}
+use Rattle.comparing.specs.Pairs.{sameBytes}
+use Rattle.comparing.specs.Steps.{recordOf, ahead, Front}
+use Rattle.comparing.proofs.Walks.{past-more, end-steps, end-bounds, group-none}
+use Rattle.comparing.proofs.Sides.{group-within}
+use Rattle.comparing.proofs.Bytes.{same-equal, same-lengths}
+use Rattle.comparing.proofs.Shifts.{end-shift, group-shift}
+
+-- ---- a log from a place on
+
+module _ (s : List ℕ) (m : ℕ) (h : m ≤ length s) where
+  end-drop : (d : ℕ) → endFrom d s m ≡ m + endFrom d (drop m s) 0
+  end-drop d =
+      let l = length-take-le m s h in
+      let z : length (take m s) + 0 ≡ m = omega arith in
+      ap (λ x. endFrom d x m) (sym (take-append-drop m s)) ∙ ap (λ n. endFrom d (take m s ++ drop m s) n) (sym z) ∙ end-shift (take m s) (drop m s) d 0 ∙ ap (λ n. n + endFrom d (drop m s) 0) l
+
+  pub group-drop : groupEnd s m ≡ m + groupEnd (drop m s) 0
+  group-drop =
+      let l = length-take-le m s h in
+      let z : length (take m s) + 0 ≡ m = omega arith in
+      ap (λ x. groupEnd x m) (sym (take-append-drop m s)) ∙ ap (λ n. groupEnd (take m s ++ drop m s) n) (sym z) ∙ group-shift (take m s) (drop m s) 0 ∙ ap (λ n. n + groupEnd (drop m s) 0) l
+
+-- ---- the rest of a group that has begun, or all of the next one
+
+unfoldable pub rest : Bool → List ℕ → ℕ
+rest true s = endFrom (length s) s 0
+rest false s = groupEnd s 0
+
+-- whether the group has begun behind a record of m bytes
+abbrev pub after : Bool → ℕ → Bool
+after begun m = pick (eqb m 0) begun true
+
+-- the next record has m bytes; 0 where the group is over
+pub record Coming (begun : Bool) (s : List ℕ) (m : ℕ) : Type 0 where
+  pub fits : m ≤ length s
+  pub size : rest begun s ≡ m + rest (after begun m) (drop m s)
+  pub none : m ≡ 0 → (rest begun s ≡ 0) × (begun ≡ false → length s ≡ 0)
+  pub some : 0 < m → m ≡ past s 0
+
+start-ends : (n : ℕ) (s : List ℕ) → startsGroup (getD s 0 0) ≡ true → endFrom n s 0 ≡ 0
+unfolding endFrom
+start-ends zero s q = refl
+start-ends (suc n) s q = rw q (go (ltb 0 (length s)))
+  where
+    go : (t : Bool) → _≡_ {A = ℕ} (pick t 0 0) 0
+    go true = refl
+    go false = refl
+
+end-once : (n : ℕ) (s : List ℕ) → 0 < length s → startsGroup (getD s 0 0) ≡ false → endFrom (suc n) s 0 ≡ endFrom n s (past s 0)
+unfolding endFrom
+end-once n s h q = rw (lt-ltb 0 (length s) h, q)
+
+module _ (s : List ℕ) where
+  pub rest-within : (begun : Bool) → rest begun s ≤ length s
+  unfolding rest
+  rest-within true = end-bounds s (length s) 0 (omega arith) .1
+  rest-within false = group-within s 0 (omega arith) .1
+
+  none-left : (begun : Bool) → length s ≡ 0 → rest begun s ≡ 0
+  unfolding rest endFrom
+  none-left true e = rw e
+  none-left false e = group-none s 0 (omega arith)
+
+  over-next : (begun : Bool) → (begun && startsGroup (getD s 0 0)) ≡ true → rest begun s ≡ 0
+  unfolding rest
+  over-next true q = start-ends (length s) s q
+  over-next false q = clash q refl
+
+  module _ (h : 0 < length s) where
+    past-on : (d : ℕ) → length s ≤ past s 0 + d → endFrom d s (past s 0) ≡ past s 0 + rest true (drop (past s 0) s)
+    unfolding rest
+    past-on d k =
+        let w = past-more s 0 h in
+        let l = length-drop (past s 0) s in
+        end-steps s d (length (drop (past s 0) s)) (past s 0) k (omega arith) ∙ end-drop s (past s 0) (w .1) (length (drop (past s 0) s))
+
+    rest-record : (begun : Bool) → (begun && startsGroup (getD s 0 0)) ≡ false → rest begun s ≡ past s 0 + rest true (drop (past s 0) s)
+    unfolding rest groupEnd
+    rest-record true q =
+        let w = past-more s 0 h in
+        let e : length s ≡ suc (length s - 1) = omega arith in
+        ap (λ n. endFrom n s 0) e ∙ end-once (length s - 1) s h q ∙ past-on (length s - 1) (omega arith)
+    rest-record false q = rw (lt-ltb 0 (length s) h) (past-on (length s) (omega arith))
+
+  pub coming : (begun : Bool) → Coming begun s (recordOf begun s)
+  coming begun = go (eqb (length s) 0) refl (begun && startsGroup (getD s 0 0)) refl
+    where
+      over : rest begun s ≡ 0 → (begun ≡ false → length s ≡ 0) → Coming begun s 0
+      over e f =
+          record {
+            fits = omega arith;
+            size = let z : rest begun s ≡ 0 + rest begun s = omega arith in z;
+            none = λ z. (e, f);
+            some = λ l. absurd (let w : ⊥ = omega arith in w);
+          }
+
+      go : (t : Bool) → eqb (length s) 0 ≡ t → (u : Bool) → (begun && startsGroup (getD s 0 0)) ≡ u → Coming begun s (pick (t || u) 0 (past s 0))
+      go true q u r = let z = eqb-true (length s) 0 q in over (none-left begun z) (λ e. z)
+      go false q true r = over (over-next begun r) (λ e. clash (and-1 begun (startsGroup (getD s 0 0)) r) e)
+      go false q false r =
+          let z = eqb-false (length s) 0 q in
+          let h : 0 < length s = pos (length s) z in
+          let w = past-more s 0 h in
+          record {
+            fits = w .1;
+            size = rw (ne-eqb (past s 0) 0 (λ e. omega arith)) (rest-record h begun r);
+            none = λ e. absurd (let y : ⊥ = omega arith in y);
+            some = λ l. refl;
+          }
+        where
+          pos : (n : ℕ) → (n ≡ 0 → ⊥) → 0 < n
+          pos zero f = absurd (f refl)
+          pos (suc n) f = omega arith
+
+-- ---- what a front shows
+
+module _ (begun : Bool) {s a : List ℕ} {whole : Bool} (f : Front s a whole) where
+  long : length s ≡ length a + length (f .behind)
+  long = ap length (f .joins) ∙ length-append a (f .behind)
+
+  none-behind : whole ≡ true → length (f .behind) ≡ 0
+  none-behind w = ap length (f .all w)
+
+  first-byte : (length a ≡ 0 → ⊥) → getD s 0 0 ≡ getD a 0 0
+  first-byte h = ap (λ l. getD l 0 0) (f .joins) ∙ List·getD-append a (f .behind) 0 0 (some (length a) h)
+    where
+      some : (n : ℕ) → (n ≡ 0 → ⊥) → 0 < n
+      some zero e = absurd (e refl)
+      some (suc n) e = omega arith
+
+  -- a record is shown only whole, or with the log's end; what is not shown does not stand whole in the front
+  abbrev pub Shown : Ahead → Type 0
+  Shown (ahead-of.Shows m) = (recordOf begun s ≡ m) × (m ≤ length a)
+  Shown ahead-of.Wants = (whole ≡ false) × (length a < recordEnd a 0)
+
+  empty : length a ≡ 0 → (w : Bool) → whole ≡ w → Shown (pick w (ahead-of.Shows 0) ahead-of.Wants)
+  unfolding recordEnd
+  empty z true e =
+      let k = long in
+      let y = none-behind e in
+      (rw (eq-eqb (length s) 0 (omega arith)), omega arith)
+  empty z false e = (e, omega arith)
+
+  module _ (h : length a ≡ 0 → ⊥) where
+    not-empty : eqb (length s) 0 ≡ false
+    not-empty = ne-eqb (length s) 0 (λ e. let k = long in h (omega arith))
+
+    same-past : (w u : Bool) → whole ≡ w → leb (recordEnd a 0) (length a) ≡ u → (w || u) ≡ true → past s 0 ≡ past a 0
+    unfolding past recordEnd
+    same-past true u e r q = let k = long in let y = none-behind e in rw (first-byte h) (omega arith)
+    same-past false true e r q =
+        let k = long in
+        let l = leb-true (0 + 1 + lengthOf (getD a 0 0)) (length a) r in
+        rw (first-byte h) (omega arith)
+    same-past false false e r q = clash q refl
+
+    some-byte : 0 < length a
+    some-byte = go (length a) h
+      where
+        go : (n : ℕ) → (n ≡ 0 → ⊥) → 0 < n
+        go zero e = absurd (e refl)
+        go (suc n) e = omega arith
+
+    by-record : (begun && startsGroup (getD a 0 0)) ≡ false → (w u : Bool) → whole ≡ w → leb (recordEnd a 0) (length a) ≡ u → Shown (pick (w || u) (ahead-of.Shows (past a 0)) ahead-of.Wants)
+    by-record r true u e l = (rw (not-empty, first-byte h, r) (same-past true u e l refl), past-more a 0 some-byte .1)
+    by-record r false true e l = (rw (not-empty, first-byte h, r) (same-past false true e l refl), past-more a 0 some-byte .1)
+    by-record r false false e l = (e, leb-false (recordEnd a 0) (length a) l)
+
+    by-start : (t : Bool) → (begun && startsGroup (getD a 0 0)) ≡ t
+        → Shown (pick t (ahead-of.Shows 0) (pick (whole || leb (recordEnd a 0) (length a)) (ahead-of.Shows (past a 0)) ahead-of.Wants))
+    by-start true r = (rw (not-empty, first-byte h, r), omega arith)
+    by-start false r = by-record r whole (leb (recordEnd a 0) (length a)) refl refl
+
+  pub shown : Shown (ahead begun a whole)
+  unfolding ahead
+  shown = go (eqb (length a) 0) refl
+    where
+      go : (t : Bool) → eqb (length a) 0 ≡ t
+          → Shown (pick t (pick whole (ahead-of.Shows 0) ahead-of.Wants) (pick (begun && startsGroup (getD a 0 0)) (ahead-of.Shows 0) (pick (whole || leb (recordEnd a 0) (length a)) (ahead-of.Shows (past a 0)) ahead-of.Wants)))
+      go true q = empty (eqb-true (length a) 0 q) whole refl
+      go false q = by-start (eqb-false (length a) 0 q) (begun && startsGroup (getD a 0 0)) refl
+
+-- ---- two groups are the same where their next records are, and the rest
+
+pub and-join : (a b c : Bool) → ((a && b) && c) ≡ (a && (b && c))
+and-join true b c = refl
+and-join false b c = refl
+
+bytes-append : (x y u v : List ℕ) → length x ≡ length y → sameBytes (x ++ u) (y ++ v) ≡ (sameBytes x y && sameBytes u v)
+unfolding sameBytes
+bytes-append [] [] u v e = refl
+bytes-append [] (b ∷ y) u v e = absurd (let w : ⊥ = omega arith in w)
+bytes-append (a ∷ x) [] u v e = absurd (let w : ⊥ = omega arith in w)
+bytes-append (a ∷ x) (b ∷ y) u v e = rw (bytes-append x y u v (omega arith)) (sym (and-join (eqb a b) (sameBytes x y) (sameBytes u v)))
+
+module _ {b c : Bool} {s t : List ℕ} {m n : ℕ} (p : Coming b s m) (q : Coming c t n) where
+  r : ℕ
+  r = rest (after b m) (drop m s)
+
+  r′ : ℕ
+  r′ = rest (after c n) (drop n t)
+
+  split-same : m ≡ n → sameBytes (take (rest b s) s) (take (rest c t) t) ≡ (sameBytes (take m s) (take n t) && sameBytes (take r (drop m s)) (take r′ (drop n t)))
+  unfolding r r′
+  split-same e =
+      let i = length-take-le m s (p .fits) in
+      let j = length-take-le n t (q .fits) in
+      rw (p .size, q .size, take-add m (rest (after b m) (drop m s)) s, take-add n (rest (after c n) (drop n t)) t)
+      (bytes-append (take m s) (take n t) (take (rest (after b m) (drop m s)) (drop m s)) (take (rest (after c n) (drop n t)) (drop n t)) (omega arith))
+
+  -- lists of the same bytes begin with the same kind, so their records are of the same length
+  no-split : (m ≡ n → ⊥) → take (rest b s) s ≡ take (rest c t) t → ⊥
+  unfolding past recordEnd
+  no-split h e = by-zero m refl n refl
+    where
+      lengths : rest b s ≡ rest c t
+      lengths = sym (length-take-le (rest b s) s (rest-within s b)) ∙ ap length e ∙ length-take-le (rest c t) t (rest-within t c)
+
+      kinds : 0 < rest b s → getD s 0 0 ≡ getD t 0 0
+      kinds l = let k = lengths in sym (getD-take (rest b s) s 0 0 l) ∙ ap (λ x. getD x 0 0) e ∙ getD-take (rest c t) t 0 0 (omega arith)
+
+      both : past s 0 ≡ m → past t 0 ≡ n → lengthOf (getD s 0 0) ≡ lengthOf (getD t 0 0) → ⊥
+      both i j k =
+          let x = p .size in
+          let y = q .size in
+          let u = rest-within s b in
+          let v = rest-within t c in
+          let l = lengths in
+          let w : m ≡ n = omega arith in
+          h w
+
+      by-zero : (i : ℕ) → m ≡ i → (j : ℕ) → n ≡ j → ⊥
+      by-zero zero f j g = let x = p .none f in let l = lengths in let y = q .size in h (omega arith)
+      by-zero (suc i) f zero g = let x = q .none g in let l = lengths in let y = p .size in h (omega arith)
+      by-zero (suc i) f (suc j) g =
+          let x = p .size in
+          both (sym (p .some (omega arith))) (sym (q .some (omega arith))) (ap lengthOf (kinds (omega arith)))
+
+  pub same-split : sameBytes (take (rest b s) s) (take (rest c t) t) ≡ (sameBytes (take m s) (take n t) && sameBytes (take (rest (after b m) (drop m s)) (drop m s)) (take (rest (after c n) (drop n t)) (drop n t)))
+  unfolding r r′
+  same-split = go (eqb m n) refl
+    where
+      short : (m ≡ n → ⊥) → false ≡ sameBytes (take m s) (take n t)
+      short h =
+          let i = length-take-le m s (p .fits) in
+          let j = length-take-le n t (q .fits) in
+          same-lengths (take m s) (take n t) (λ e. h (omega arith))
+
+      go : (u : Bool) → eqb m n ≡ u
+          → sameBytes (take (rest b s) s) (take (rest c t) t) ≡ (sameBytes (take m s) (take n t) && sameBytes (take (rest (after b m) (drop m s)) (drop m s)) (take (rest (after c n) (drop n t)) (drop n t)))
+      go true e = split-same (eqb-true m n e)
+      go false e =
+          let h = eqb-false m n e in
+          no-yes (λ z. no-split h (same-equal (take (rest b s) s) (take (rest c t) t) z)) ∙ rw (← (short h))

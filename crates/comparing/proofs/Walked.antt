@@ -1,0 +1,353 @@
+-- Two logs passed step by step, however they come: where the steps come to the end, they listed exactly the pairs that differ.
+use mathlib.Core.Path.{_≡_, refl, sym, ap, _∙_}
+use mathlib.Core.Logic.{⊎-elim}
+use mathlib.Core.Bool.{Bool, true, false, not, _&&_, _||_}
+use mathlib.Core.List.{List, [], _∷_, _++_, append-nil, append-assoc}
+use Prim.Native.Nat.{ℕ, zero, suc, _+_, _-_, _%_, _^_, max, _≤_, _<_}
+use native.Mathlib.Omega.{arith}
+use native.Mathlib.Numerals.{add-one}
+use borrow.Author.Tests.{ltb-true, ltb-false, eqb-true, eqb-false, eq-eqb, ne-eqb}
+use lib.ListN.{length, getD, take, drop, length-append, length-drop, List·getD-eq-default}
+use lib.Seq.{drop-drop, take-append-le}
+use lib.Dec.{eqb, ltb}
+use Rattle.model.specs.Words.{pick}
+use Rattle.model.proofs.Flags.{and-1, and-2}
+use Rattle.comparing.specs.declared.Compared.{Compared}
+use Rattle.comparing.specs.declared.Compared.the-variants as answer
+use Rattle.comparing.specs.declared.Side.{Side}
+use Rattle.comparing.specs.declared.Walk.{Walk}
+use Rattle.comparing.specs.declared.Ahead.{Ahead}
+use Rattle.comparing.specs.declared.Ahead.the-variants as ahead-of
+use Rattle.comparing.specs.declared.Step.{Step}
+use Rattle.comparing.specs.declared.Step.the-variants as step
+use Rattle.comparing.specs.Groups.{Part, partTo, bytesIn, recordEnd, groupEnd, groups, sideOf}
+use Rattle.comparing.specs.Pairs.{sameBytes, samePair, differs, pairs, listed, differences}
+use Rattle.comparing.specs.Steps.{side, beginning, recordOf, ahead, moved, behind, onward, counted, lowestOf, nextPair, pairOver, row, shown, begunSide, stepped, Front, pairOf, Walked, at-start, by-row, by-same, by-differing, lowestIn, Listed}
+use Rattle.comparing.proofs.Sides.{placeFrom, place-next, place-grows, group-le, side-is, counted-out}
+use Rattle.comparing.proofs.Sides.{counted as group-counted}
+use Rattle.comparing.proofs.Rests.{rest, after, Coming, coming, Shown, same-split, and-join, group-drop}
+use Rattle.comparing.proofs.Rests.{shown as front-shows}
+
+fresh-rest : (s : List ℕ) → groupEnd s 0 ≡ rest false s
+unfolding rest
+fresh-rest s = refl
+
+-- ---- one side: s is to come of the log A, behind what is passed of its group of number n
+
+record SideAt (A s : List ℕ) (n : ℕ) (d : Side) : Type 0 where
+  begins : d .place ≡ sideOf A n .place
+  size : sideOf A n .size ≡ d .passed + rest (begunSide d) s
+  here : drop (d .place + d .passed) A ≡ s
+  within : d .place + d .passed ≤ length A
+
+begun-after : (x m : ℕ) → not (eqb (x + m) 0) ≡ after (not (eqb x 0)) m
+begun-after x m = go (eqb m 0) refl
+  where
+    go : (t : Bool) → eqb m 0 ≡ t → not (eqb (x + m) 0) ≡ pick t (not (eqb x 0)) true
+    go true q = let z = eqb-true m 0 q in let e : x + m ≡ x = omega arith in rw e
+    go false q = let z = eqb-false m 0 q in rw (ne-eqb (x + m) 0 (λ e. z (omega arith)))
+
+module _ {A s : List ℕ} {n : ℕ} {d : Side} (i : SideAt A s n d) (fits : length A < 2 ^ 64) where
+  to-come : length s ≡ length A - (d .place + d .passed)
+  to-come = sym (ap length (i .here)) ∙ length-drop (d .place + d .passed) A
+
+  module _ {m : ℕ} (c : Coming (begunSide d) s m) where
+    no-wrap : (d .passed + m) % 2 ^ 64 ≡ d .passed + m
+    no-wrap = let k = to-come in let f = c .fits in let w = i .within in omega arith
+
+    side-moved : SideAt A (drop m s) n (moved d m)
+    side-moved =
+        let k = to-come in
+        let f = c .fits in
+        let w = i .within in
+        let e : d .place + (d .passed + m) ≡ d .place + d .passed + m = omega arith in
+        let z : d .passed + (m + rest (after (begunSide d) m) (drop m s)) ≡ d .passed + m + rest (after (begunSide d) m) (drop m s) = omega arith in
+        record {
+          begins = i .begins;
+          size = rw (no-wrap, begun-after (d .passed) m) (i .size ∙ ap (λ x. d .passed + x) (c .size) ∙ z);
+          here = rw (no-wrap, e) (sym (drop-drop m (d .place + d .passed) A) ∙ ap (drop m) (i .here));
+          within = rw no-wrap (omega arith);
+        }
+
+  module _ (z : rest (begunSide d) s ≡ 0) where
+    side-whole : sideOf A n ≡ record { place = d .place; size = d .passed }
+    side-whole = let e : sideOf A n .size ≡ d .passed = let k = i .size in omega arith in rw (i .begins, ← e)
+
+    group-here : groupEnd A (d .place) ≡ d .place + d .passed
+    group-here =
+        let p : d .place ≡ placeFrom n A 0 = i .begins ∙ ap (λ x. x .place) (side-is A n) in
+        let e : sideOf A n .size ≡ groupEnd A (placeFrom n A 0) - placeFrom n A 0 = ap (λ x. x .size) (side-is A n) in
+        let g = group-le A (placeFrom n A 0) in
+        let k = i .size in
+        rw p (omega arith)
+
+    side-behind : SideAt A s (n + 1) (behind d)
+    side-behind =
+        let w = i .within in
+        let e : (d .place + d .passed) % 2 ^ 64 ≡ d .place + d .passed = omega arith in
+        let p : placeFrom n A 0 ≡ d .place = sym (i .begins ∙ ap (λ x. x .place) (side-is A n)) in
+        let q : placeFrom (n + 1) A 0 ≡ d .place + d .passed = rw (add-one n, place-next A n 0, p) group-here in
+        let y : d .place + d .passed + 0 ≡ d .place + d .passed = omega arith in
+        let g = group-drop A (d .place + d .passed) w in
+        let u : groupEnd A (d .place + d .passed) - (d .place + d .passed) ≡ 0 + groupEnd (drop (d .place + d .passed) A) 0 = omega arith in
+        record {
+          begins = rw (e, side-is A (n + 1), q);
+          size = rw (side-is A (n + 1), q) (u ∙ ap (λ x. 0 + x) (ap (λ x. groupEnd x 0) (i .here) ∙ fresh-rest s));
+          here = rw (e, y) (i .here);
+          within = rw (e, y) w;
+        }
+
+    -- where some of it is passed, the log has a group of this number
+    module _ (h : d .passed ≡ 0 → ⊥) where
+      place-inside : placeFrom n A 0 < length A
+      place-inside =
+          let p : placeFrom n A 0 ≡ d .place = sym (i .begins ∙ ap (λ x. x .place) (side-is A n)) in
+          let w = i .within in
+          rw p (some (d .passed) h w)
+        where
+          some : (x : ℕ) → (x ≡ 0 → ⊥) → d .place + x ≤ length A → d .place < length A
+          some zero f w = absurd (f refl)
+          some (suc x) f w = omega arith
+
+      group-there : (n < length (groups A)) × (n < length A)
+      group-there = (group-counted A n place-inside, omega (arith, place-grows A n 0 place-inside, place-inside))
+
+  -- where nothing of it is passed and nothing comes, the log is over
+  over-here : d .passed ≡ 0 → Coming (begunSide d) s 0 → length (groups A) ≤ n
+  over-here e c =
+      let z : begunSide d ≡ false = rw (eq-eqb (d .passed) 0 e) in
+      let l = c .none refl .1 z in
+      let k = to-come in
+      let p : placeFrom n A 0 ≡ d .place = sym (i .begins ∙ ap (λ x. x .place) (side-is A n)) in
+      counted-out A n (omega arith)
+
+begin-side : (A : List ℕ) → SideAt A A 0 (side 0 0)
+unfolding placeFrom
+begin-side A =
+    let p : sideOf A 0 ≡ partTo 0 (groupEnd A 0) = side-is A 0 in
+    let z : groupEnd A 0 - 0 ≡ 0 + groupEnd A 0 = omega arith in
+    record {
+      begins = ap (λ x. x .place) (sym p);
+      size = rw p (z ∙ ap (λ x. 0 + x) (fresh-rest A));
+      here = refl;
+      within = omega arith;
+    }
+
+-- ---- a pair of which nothing is passed
+
+fresh-bytes : {A s : List ℕ} {n p : ℕ} → SideAt A s n (side p 0) → bytesIn A (sideOf A n) ≡ take (rest false s) s
+fresh-bytes {A} {s} {n} {p} i =
+    let k : sideOf A n .size ≡ 0 + rest false s = i .size in
+    let e : sideOf A n .size ≡ rest false s = omega arith in
+    let z : p + 0 ≡ p = omega arith in
+    let h : drop p A ≡ s = rw z at (i .here) in
+    rw (← (i .begins), e, h)
+
+fresh-same : {A B s t : List ℕ} {n p q : ℕ} → SideAt A s n (side p 0) → SideAt B t n (side q 0)
+    → samePair A B n ≡ (true && sameBytes (take (rest false s) s) (take (rest false t) t))
+unfolding samePair
+fresh-same i j = rw (fresh-bytes i, fresh-bytes j)
+
+-- ---- the list
+
+module _ (A B : List ℕ) where
+  lists-more : (n : ℕ) → n < pairs A B → differences A B n ≡ pick (samePair A B n) (differences A B (n + 1)) (differs n (sideOf A n) (sideOf B n) ∷ differences A B (n + 1))
+  unfolding differences listed
+  lists-more n h = let k : pairs A B - n ≡ suc (pairs A B - suc n) = omega arith in rw (k, add-one n)
+
+  lists-over : (n : ℕ) → pairs A B ≤ n → differences A B n ≡ []
+  unfolding differences listed
+  lists-over n h = let k : pairs A B - n ≡ 0 = omega arith in rw k
+
+lowest-snoc : (ds : List Compared) (n p l q m : ℕ) → lowestIn (ds ++ (answer.Differs n p l q m ∷ [])) ≡ pick (eqb (length ds) 0) n (lowestIn ds)
+lowest-snoc [] n p l q m = refl
+lowest-snoc (answer.Differs k x y z v ∷ ds) n p l q m = rw (ne-eqb (suc (length ds)) 0 (λ e. omega arith))
+lowest-snoc (answer.Refused x y z ∷ ds) n p l q m = rw (ne-eqb (suc (length ds)) 0 (λ e. omega arith))
+lowest-snoc (answer.Same ∷ ds) n p l q m = rw (ne-eqb (suc (length ds)) 0 (λ e. omega arith))
+
+-- ---- the walk stands in the logs
+
+record On (A B s t : List ℕ) (w : Walk) (ds : List Compared) : Type 0 where
+  first : SideAt A s (w .number) (w .first)
+  second : SideAt B t (w .number) (w .second)
+  same : samePair A B (w .number) ≡ (w .same && sameBytes (take (rest (begunSide (w .first)) s) s) (take (rest (begunSide (w .second)) t) t))
+  lists : differences A B 0 ≡ ds ++ differences A B (w .number)
+  count : w .differing ≡ length ds
+  lowest : w .lowest ≡ lowestIn ds
+  few : length ds ≤ w .number
+  bound : w .number ≤ pairs A B
+
+begin-on : (A B : List ℕ) → On A B A B beginning []
+begin-on A B =
+    record {
+      first = begin-side A;
+      second = begin-side B;
+      same = fresh-same (begin-side A) (begin-side B);
+      lists = refl;
+      count = refl;
+      lowest = refl;
+      few = omega arith;
+      bound = omega arith;
+    }
+
+module _ {A B s t : List ℕ} {w : Walk} {ds : List Compared} (o : On A B s t w ds) (fa : length A < 2 ^ 64) (fb : length B < 2 ^ 64) where
+  module _ {m n : ℕ} (c : Coming (begunSide (w .first)) s m) (d : Coming (begunSide (w .second)) t n) where
+    on-row : {u : Bool} → u ≡ sameBytes (take m s) (take n t) → On A B (drop m s) (drop n t) (onward w m n u) ds
+    on-row {u} e =
+        record {
+          first = side-moved (o .first) fa c;
+          second = side-moved (o .second) fb d;
+          same = rw (no-wrap (o .first) fa c, no-wrap (o .second) fb d, begun-after (w .first .passed) m, begun-after (w .second .passed) n, e) (o .same ∙ rw (same-split c d) (sym (and-join (w .same) (sameBytes (take m s) (take n t)) _)));
+          lists = o .lists;
+          count = o .count;
+          lowest = o .lowest;
+          few = o .few;
+          bound = o .bound;
+        }
+
+  module _ (y : rest (begunSide (w .first)) s ≡ 0) (z : rest (begunSide (w .second)) t ≡ 0) where
+    pair-same : samePair A B (w .number) ≡ w .same
+    unfolding sameBytes
+    pair-same = o .same ∙ rw (y, z) (and-true (w .same))
+      where
+        and-true : (b : Bool) → (b && true) ≡ b
+        and-true true = refl
+        and-true false = refl
+
+    the-pair : differs (w .number) (sideOf A (w .number)) (sideOf B (w .number)) ≡ pairOf w
+    the-pair = rw (side-whole (o .first) fa y, side-whole (o .second) fb z)
+
+    module _ (h : w .number < pairs A B) (l : w .number + 1 < 2 ^ 64) where
+      next-number : (w .number + 1) % 2 ^ 64 ≡ w .number + 1
+      next-number = omega arith
+
+      -- what is listed with this pair
+      abbrev with-pair : List Compared
+      with-pair = pick (w .same) ds (ds ++ (pairOf w ∷ []))
+
+      lists-next : differences A B 0 ≡ with-pair ++ differences A B (w .number + 1)
+      lists-next = o .lists ∙ rw (lists-more A B (w .number) h, pair-same, the-pair) (go (w .same))
+        where
+          go : (b : Bool) → ds ++ pick b (differences A B (w .number + 1)) (pairOf w ∷ differences A B (w .number + 1)) ≡ pick b ds (ds ++ (pairOf w ∷ [])) ++ differences A B (w .number + 1)
+          go true = refl
+          go false = sym (append-assoc ds (pairOf w ∷ []) (differences A B (w .number + 1)))
+
+      counts-next : counted w ≡ length with-pair
+      unfolding counted
+      counts-next = go (w .same)
+        where
+          go : (b : Bool) → pick b (w .differing) ((w .differing + 1) % 2 ^ 64) ≡ length (pick b ds (ds ++ (pairOf w ∷ [])))
+          go true = o .count
+          go false = let k = length-append ds (pairOf w ∷ []) in let c = o .count in let f = o .few in omega arith
+
+      lowest-next : lowestOf w ≡ lowestIn with-pair
+      unfolding lowestOf
+      lowest-next = go (w .same)
+        where
+          go : (b : Bool) → pick b (w .lowest) (pick (eqb (w .differing) 0) (w .number) (w .lowest)) ≡ lowestIn (pick b ds (ds ++ (pairOf w ∷ [])))
+          go true = o .lowest
+          go false = rw (lowest-snoc ds (w .number) (w .first .place) (w .first .passed) (w .second .place) (w .second .passed), o .count, o .lowest)
+
+      few-next : length with-pair ≤ w .number + 1
+      few-next = go (w .same)
+        where
+          go : (b : Bool) → length (pick b ds (ds ++ (pairOf w ∷ []))) ≤ w .number + 1
+          go true = let f = o .few in omega arith
+          go false = let k = length-append ds (pairOf w ∷ []) in let f = o .few in omega arith
+
+      on-pair : On A B s t (nextPair w) with-pair
+      on-pair =
+          let i : SideAt A s (w .number + 1) (behind (w .first)) = side-behind (o .first) fa y in
+          let j : SideAt B t (w .number + 1) (behind (w .second)) = side-behind (o .second) fb z in
+          record {
+            first = rw next-number i;
+            second = rw next-number j;
+            same = rw next-number (fresh-same i j);
+            lists = rw next-number lists-next;
+            count = counts-next;
+            lowest = lowest-next;
+            few = rw next-number few-next;
+            bound = omega arith;
+          }
+
+    pair-there : (eqb (w .first .passed) 0 && eqb (w .second .passed) 0) ≡ false → (w .number < pairs A B) × (w .number + 1 < 2 ^ 64)
+    pair-there q = go (eqb (w .first .passed) 0) refl q
+      where
+        go : (b : Bool) → eqb (w .first .passed) 0 ≡ b → (b && eqb (w .second .passed) 0) ≡ false → (w .number < pairs A B) × (w .number + 1 < 2 ^ 64)
+        go false e q = let g = group-there (o .first) fa y (eqb-false (w .first .passed) 0 e) in (omega arith, omega arith)
+        go true e q = let g = group-there (o .second) fb z (eqb-false (w .second .passed) 0 q) in (omega arith, omega arith)
+
+  on-over : (eqb (w .first .passed) 0 && eqb (w .second .passed) 0) ≡ true → Coming (begunSide (w .first)) s 0 → Coming (begunSide (w .second)) t 0 → Listed A B w ds
+  on-over q c d =
+      let p = eqb-true (w .first .passed) 0 (and-1 (eqb (w .first .passed) 0) (eqb (w .second .passed) 0) q) in
+      let r = eqb-true (w .second .passed) 0 (and-2 (eqb (w .first .passed) 0) (eqb (w .second .passed) 0) q) in
+      let g = over-here (o .first) fa p c in
+      let h = over-here (o .second) fb r d in
+      let b = o .bound in
+      let e : differences A B 0 ≡ ds = o .lists ∙ rw (lists-over A B (w .number) (omega arith)) (append-nil ds) in
+      record { all = sym e; number = omega arith; differing = rw e (o .count); lowest = rw e (o .lowest) }
+
+  -- ---- what a step tells
+
+  module _ {a b : List ℕ} {whole ends : Bool} (f : Front s a whole) (g : Front t b ends) where
+    abbrev Tells : Step → Type 0
+    Tells step.WantsFirst = (whole ≡ false) × (length a < recordEnd a 0)
+    Tells step.WantsSecond = (ends ≡ false) × (length b < recordEnd b 0)
+    Tells (step.Row m n u v) = On A B (drop m s) (drop n t) v ds
+    Tells (step.Pair d v) = On A B s t v (pick d (ds ++ (pairOf w ∷ [])) ds)
+    Tells step.Over = Listed A B w ds
+
+    module _ {m n : ℕ} (c : Coming (begunSide (w .first)) s m) (d : Coming (begunSide (w .second)) t n) (k : m ≤ length a) (l : n ≤ length b) where
+      over-tells : (e : Bool) → (eqb (w .first .passed) 0 && eqb (w .second .passed) 0) ≡ e → m ≡ 0 → n ≡ 0 → Tells (pick e step.Over (step.Pair (not (w .same)) (nextPair w)))
+      over-tells true q x y = on-over q (rw x at c) (rw y at d)
+      over-tells false q x y =
+          let z = c .none x .0 in
+          let v = d .none y .0 in
+          let h = pair-there z v q in
+          rw (turned (w .same)) (on-pair z v (h .0) (h .1))
+        where
+          turned : (e : Bool) → pick (not e) (ds ++ (pairOf w ∷ [])) ds ≡ pick e ds (ds ++ (pairOf w ∷ []))
+          turned true = refl
+          turned false = refl
+
+      bytes-first : take m a ≡ take m s
+      bytes-first = rw (f .joins) (sym (take-append-le m a (f .behind) k))
+
+      bytes-second : take n b ≡ take n t
+      bytes-second = rw (g .joins) (sym (take-append-le n b (g .behind) l))
+
+      row-tells : (e : Bool) → (eqb m 0 && eqb n 0) ≡ e → Tells (pick e (pairOver w) (step.Row m n (sameBytes (take m a) (take n b)) (onward w m n (sameBytes (take m a) (take n b)))))
+      unfolding pairOver
+      row-tells true q = over-tells (eqb (w .first .passed) 0 && eqb (w .second .passed) 0) refl (eqb-true m 0 (and-1 (eqb m 0) (eqb n 0) q)) (eqb-true n 0 (and-2 (eqb m 0) (eqb n 0) q))
+      row-tells false q = on-row c d (rw (bytes-first, bytes-second))
+
+    on-tells : Tells (stepped w a whole b ends)
+    unfolding stepped row
+    on-tells = go (ahead (begunSide (w .first)) a whole) (front-shows (begunSide (w .first)) f) (ahead (begunSide (w .second)) b ends) (front-shows (begunSide (w .second)) g)
+      where
+        go : (x : Ahead) → Shown (begunSide (w .first)) f x → (y : Ahead) → Shown (begunSide (w .second)) g y → Tells (shown w a b x y)
+        go ahead-of.Wants p y q = p
+        go (ahead-of.Shows m) p ahead-of.Wants q = q
+        go (ahead-of.Shows m) p (ahead-of.Shows n) q =
+            row-tells (rw (p .0) at (coming s (begunSide (w .first)))) (rw (q .0) at (coming t (begunSide (w .second)))) (p .1) (q .1) (eqb m 0 && eqb n 0) refl
+
+-- ---- the theorem
+
+module _ {A B : List ℕ} (fa : length A < 2 ^ 64) (fb : length B < 2 ^ 64) where
+  walked-on : {s t : List ℕ} {w : Walk} {ds : List Compared} → Walked A B s t w ds → On A B s t w ds
+  walked-on at-start = begin-on A B
+  walked-on (by-row k f g e) = rw e at (on-tells (walked-on k) fa fb f g)
+  walked-on (by-same k f g e) = rw e at (on-tells (walked-on k) fa fb f g)
+  walked-on (by-differing k f g e) = rw e at (on-tells (walked-on k) fa fb f g)
+
+  module _ {s t : List ℕ} {w : Walk} {ds : List Compared} (k : Walked A B s t w ds) {a b : List ℕ} {whole ends : Bool} (f : Front s a whole) (g : Front t b ends) where
+    -- the steps that came to the end listed the pairs that differ, each once, in order
+    pub walked-lists : stepped w a whole b ends ≡ step.Over → Listed A B w ds
+    walked-lists e = rw e at (on-tells (walked-on k) fa fb f g)
+
+    -- and they come to it (with Progress): a log has to show more only where its bytes do not hold the next record whole
+    pub wants-first : stepped w a whole b ends ≡ step.WantsFirst → (whole ≡ false) × (length a < recordEnd a 0)
+    wants-first e = rw e at (on-tells (walked-on k) fa fb f g)
+
+    pub wants-second : stepped w a whole b ends ≡ step.WantsSecond → (ends ≡ false) × (length b < recordEnd b 0)
+    wants-second e = rw e at (on-tells (walked-on k) fa fb f g)

@@ -1,0 +1,32 @@
+-- `comparing::checks::pass` meets its contract: what is left of the part is still to be passed.
+use mathlib.Core.Path.{refl}
+use Prim.Native.Nat.{_-_}
+use borrow.Author.Needs.{needs}
+use native.Mathlib.Omega.{arith}
+use lib.ListN.{length}
+use Rattle.comparing.proofs.Coming.{PassedTo, passed-more, passed-all}
+use Rattle.comparing.proofs.checks.pass.Statement.{statement}
+use Rattle.comparing.proofs.checks.pass.Tie as tie
+
+abbrev Inv-loop : tie.InvT-loop
+Inv-loop part d₀ i₀ d i = PassedTo d₀ part d i
+
+abbrev μ-loop : tie.MeasureT-loop
+μ-loop part d₀ i₀ d i = length part - i
+
+pub pass-spec : {M : Type 1} → statement M
+pass-spec =
+    tie.close
+    (tie.spec
+    Inv-loop
+    μ-loop
+    (λ c. (omega arith, refl))
+    (λ c. search needs)
+    (λ c κs. search needs)
+    (λ c. search needs)
+    (λ c. search needs)
+    -- loop-again
+    (λ c.
+    let l = c .before .before in
+    passed-more _ _ _ (l .before .loop .i) (l .loop-test .taken) (c .pass-byte .ensures) (l .before .loop .inv))
+    (λ c. let v = c .before .loop in passed-all _ _ _ (v .i) (c .loop-test .left) (v .inv)))

@@ -1,0 +1,7 @@
+-- `comparing::walking::behind` meets its contract.
+use borrow.Author.Needs.{needs}
+use Rattle.comparing.proofs.walking.behind.Statement.{statement}
+use Rattle.comparing.proofs.walking.behind.Tie as tie
+
+pub behind-spec : {M : Type 1} → statement M
+behind-spec = tie.close (tie.spec (λ c κs. search needs) (λ c. rw (c .wrapping-add-usize .ensures)))

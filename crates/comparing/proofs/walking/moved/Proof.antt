@@ -1,0 +1,7 @@
+-- `comparing::walking::moved` meets its contract.
+use borrow.Author.Needs.{needs}
+use Rattle.comparing.proofs.walking.moved.Statement.{statement}
+use Rattle.comparing.proofs.walking.moved.Tie as tie
+
+pub moved-spec : {M : Type 1} → statement M
+moved-spec = tie.close (tie.spec (λ c κs. search needs) (λ c. rw (c .wrapping-add-usize .ensures)))

@@ -1,0 +1,20 @@
+-- `comparing::walking::pair_passed` meets its contract.
+use borrow.Author.Needs.{needs}
+use Rattle.comparing.proofs.walking.pair_passed.Statement.{statement}
+use Rattle.comparing.proofs.walking.pair_passed.Tie as tie
+
+pub pair-passed-spec : {M : Type 1} → statement M
+pair-passed-spec =
+    tie.close
+    (tie.spec
+    (λ c κs. search needs)
+    (λ c κs. search needs)
+    (λ c κs. search needs)
+    (λ c κs. search needs)
+    (λ c κs. search needs)
+    -- returns
+    (λ c.
+    let d = c .before in
+    let s = d .before in
+    let f = s .before in
+    rw (f .before .wrapping-add-usize .ensures, f .behind .ensures, s .behind2 .ensures, d .differing .ensures, c .lowest .ensures)))

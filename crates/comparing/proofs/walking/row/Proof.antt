@@ -1,0 +1,23 @@
+-- `comparing::walking::row` meets its contract.
+use mathlib.Core.Path.{_∙_}
+use borrow.Author.Needs.{needs}
+use Rattle.comparing.proofs.Stepping.{row-over, row-next}
+use Rattle.comparing.proofs.walking.row.Statement.{statement}
+use Rattle.comparing.proofs.walking.row.Tie as tie
+
+pub row-spec : {M : Type 1} → statement M
+row-spec =
+    tie.close
+    (tie.spec
+    (λ c κs. search needs)
+    (λ c. row-over _ _ _ _ _ (c .before .if1 .taken) (c .pair-over .ensures))
+    (λ c κs. search needs)
+    (λ c κs. search needs)
+    (λ c κs. search needs)
+    (λ c κs. search needs)
+    -- returns-2
+    (λ c.
+    let s = c .before in
+    let q = s .before in
+    let p = q .before in
+    row-next _ _ _ _ _ (p .before .if1 .left) (p .part .ensures) (q .part2 .ensures) (s .same .ensures) (c .row-passed .ensures)))
