@@ -86,13 +86,15 @@ fn put_next(s: &[u8], out: &mut [u8], t: Shown) -> Shown {
     }
 }
 
-// The events of a round: each is a byte or more.
+// The events of a round, one behind the other.
 fn put_events(s: &[u8], out: &mut [u8], at: usize) -> usize {
     let mut t = Shown { at: 0, put: at };
-    let mut turns = s.len();
-    while 0 < turns {
-        t = put_next(s, out, t);
-        turns -= 1;
+    while t.at < s.len() {
+        let r = put_next(s, out, t);
+        if r.at <= t.at {
+            return r.put;
+        }
+        t = r;
     }
     t.put
 }

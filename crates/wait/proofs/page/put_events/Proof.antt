@@ -1,15 +1,16 @@
--- The turns that are left fall.
+-- Each turn goes further in the bytes, or is the last.
 use mathlib.Core.Path.{_≡_, refl}
+use Prim.Native.Nat.{_-_}
 use borrow.Author.Needs.{needs}
 use lib.ListN.{length}
 use Rattle.wait.proofs.page.put_events.Statement.{statement}
 use Rattle.wait.proofs.page.put_events.Tie as tie
 
 abbrev Inv-loop : tie.InvT-loop
-Inv-loop s out₀ at t₀ turns₀ out t turns = length out ≡ length out₀
+Inv-loop s out₀ at t₀ out t = length out ≡ length out₀
 
 abbrev μ-loop : tie.MeasureT-loop
-μ-loop s out₀ at t₀ turns₀ out t turns = turns
+μ-loop s out₀ at t₀ out t = length s - t .at
 
 pub put-events-spec : {M : Type 1} → statement M
 put-events-spec =
@@ -19,6 +20,7 @@ put-events-spec =
     μ-loop
     (λ c. refl)
     (λ c κs. search needs)
+    (λ c. search needs)
     (λ c. search needs)
     (λ c. search needs)
     (λ c. search needs)
