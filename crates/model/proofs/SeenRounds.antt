@@ -1,14 +1,14 @@
 -- Demand 3 of calls as they are seen. The struck rounds come to the same as the rounds for calls whose refused offer leaves the tables as
 -- they were and tells only refusals, and for no others; the calls of document 01 are such, and their rounds settle as `Bound` says.
 use mathlib.Core.Path.{_≡_, refl, sym, ap, subst, _∙_}
-use mathlib.Core.Logic.{_⊎_, inl, inr, ⊎-elim}
-use mathlib.Core.Bool.{Bool, true, false, not, _&&_, _||_, false≢true}
+use mathlib.Core.Logic.{inl, inr, ⊎-elim}
+use mathlib.Core.Bool.{Bool, true, false, not, _&&_, false≢true}
 use mathlib.Core.List.{List, [], _∷_, _++_, map, append-nil}
-use Prim.Native.Nat.{ℕ, zero, suc, _+_, _≤_}
+use Prim.Native.Nat.{ℕ, zero, suc, _+_}
 use native.Mathlib.Omega.{arith}
 use lib.Dec.{ltb, leb}
 use lib.ListN.{length, getD, List·getD-map, length-append}
-use Rattle.model.specs.Words.{pick, any, keep}
+use Rattle.model.specs.Words.{pick, any}
 use Rattle.model.specs.Range.{inRange}
 use Rattle.model.specs.Address.{addressOf, isRead, wellFormed}
 use Rattle.model.specs.Tables.{Entry, Queued, reading, writing, Tables, Outcome, refused, done, after, accepted, eventsOf}
@@ -17,10 +17,10 @@ use Rattle.model.specs.Sound.{sound}
 use Rattle.model.specs.SoundLent.{soundLent}
 use Rattle.model.specs.Probe.{Place, no, at, waysOf, dirtyLines, probe, ruleOf}
 use Rattle.model.specs.Steps.{isMerge, isMiss, entryFull, placesNeeded, queues, queuedEvent, accept, proceed, access, sentEvent, sendFrom, send, ticketsOf, sentFor, fill}
-use Rattle.model.specs.Calls.{encoded, call, accessCall}
+use Rattle.model.specs.Calls.{encoded, call}
 use Rattle.model.specs.Rounds as old
-use Rattle.model.specs.Rounds.{Calls, Turn, still, took, andThen, isEmpty, steps, calls}
-use Rattle.model.specs.Seen.{Acts, answering, refusing, accepts, but11, compared, Course, nothing, behind, goOn, marks, sendTurn, fillFirst, drain, rounds, struck, heldIn, waits, Demand3, seen, stepActs, callActs}
+use Rattle.model.specs.Rounds.{Calls, Turn, still, took, isEmpty, steps, calls}
+use Rattle.model.specs.Seen.{Acts, answering, refusing, accepts, but11, compared, Course, goOn, marks, sendTurn, fillFirst, drain, rounds, struck, heldIn, waits, Demand3, seen, stepActs, callActs}
 use Rattle.model.specs.declared.Settings.{Settings}
 use Rattle.model.specs.declared.Access.{Access}
 use Rattle.model.specs.declared.Event.{Event}
@@ -28,7 +28,6 @@ use Rattle.model.specs.declared.Event.the-variants as event
 use Rattle.model.specs.declared.Refusal.{Refusal}
 use Rattle.model.specs.declared.Refusal.the-variants.{SetHeld}
 use Rattle.model.proofs.Flags.{and-2, not-yes, clash, or-no-1, or-no-2}
-use Rattle.model.proofs.Lists.{any-append}
 use Rattle.model.proofs.Bound.{rounds-settled}
 use Rattle.model.proofs.Demand.{rounds-settled-lent}
 use Rattle.model.proofs.Decoded.{Small}

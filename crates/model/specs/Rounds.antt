@@ -1,13 +1,12 @@
--- The rounds of calls that come to outcomes, and where they settle: used inside proofs alone. A refused outcome has no tables, so these rounds
--- cannot say what a refused call leaves; demand 3 is said in `Seen`, of what a caller sees.
-use Prim.Native.Nat.{ℕ, zero, suc, _+_, _-_, _≤_}
+-- The rounds of calls that come to outcomes, and where they settle: for proofs and inner functions alone. A refused outcome has no tables, so
+-- these rounds cannot say what a refused call leaves; demand 3 is said in `Seen`, of what a caller sees.
+use Prim.Native.Nat.{ℕ, zero, suc, _+_, _-_}
 use mathlib.Core.Path.{_≡_}
 use mathlib.Core.Logic.{_⊎_}
 use mathlib.Core.Bool.{Bool, true, false}
 use mathlib.Core.List.{List, [], _∷_, _++_}
 use lib.ListN.{length, getD}
 use Rattle.model.specs.Words.{pick, any}
-use Rattle.model.specs.Range.{inRange}
 use Rattle.model.specs.Tables.{Entry, Queued, Tables, Outcome, refused, done, accepted}
 use Rattle.model.specs.Lent.{Lent, tablesOf}
 use Rattle.model.specs.Steps.{access, send, fill}

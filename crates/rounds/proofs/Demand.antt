@@ -12,8 +12,8 @@ use Rattle.model.specs.Address.{wellFormed}
 use Rattle.model.specs.Tables.{Outcome, refused, done, accepted}
 use Rattle.model.specs.Lent.{Lent, lengthsFit}
 use Rattle.model.specs.SoundLent.{soundLent}
-use Rattle.model.specs.Rounds.{Calls, calls, Run, goOn, drain, rounds, waits}
-use Rattle.model.specs.Seen.{heldIn, callActs}
+use Rattle.model.specs.Rounds.{Calls, calls, Run, goOn, drain, rounds}
+use Rattle.model.specs.Seen.{heldIn, waits, callActs}
 use Rattle.model.specs.declared.Settings.{Settings}
 use Rattle.model.specs.declared.Access.{Access}
 use Rattle.model.specs.declared.Event.{Event}
@@ -60,22 +60,22 @@ module _ {T : Type 0} where
 module _ (S : Settings) (x : Access) (L : Lent) (range : inRange S ≡ true) (fits : lengthsFit S L ≡ true) (soundly : soundLent S L ≡ true)
     (formed : wellFormed x ≡ true) where
   -- no refusal comes before the first round
-  wait-is : waitCall S x L ≡ settled (rounds (calls S x) (suc (waits (calls S x) L)) L)
+  wait-is : waitCall S x L ≡ settled (rounds (calls S x) (suc (waits (callActs S x) L)) L)
   unfolding waitCall
-  wait-is = rw (range, fits, soundly, formed) (settled-same S x (suc (waits (calls S x) L)) L)
+  wait-is = rw (range, fits, soundly, formed) (settled-same S x (suc (waits (callActs S x) L)) L)
 
-  pub accepted-in-time : (n : ℕ) (e : Event) → waitCall S x L .waiting ≡ Accepted n e → n ≤ suc (waits (calls S x) L)
+  pub accepted-in-time : (n : ℕ) (e : Event) → waitCall S x L .waiting ≡ Accepted n e → n ≤ suc (waits (callActs S x) L)
   accepted-in-time n e h =
-      let r : Run Lent = rounds (calls S x) (suc (waits (calls S x) L)) L in
+      let r : Run Lent = rounds (calls S x) (suc (waits (callActs S x) L)) L in
       let q = said-round (length (r .offers)) n (lastOf (refused SetHeld) (r .offers)) e (rw wait-is at h) in
-      omega (arith, offers-few (calls S x) (suc (waits (calls S x) L)) L)
+      omega (arith, offers-few (calls S x) (suc (waits (callActs S x) L)) L)
 
   -- words are 32-bit numbers, as their type says (`Small`)
-  pub held-for-ever : Small L → waitCall S x L .waiting ≡ Held → (j : ℕ) → heldIn (callActs S x) (waits (calls S x) L + j) L
+  pub held-for-ever : Small L → waitCall S x L .waiting ≡ Held → (j : ℕ) → heldIn (callActs S x) (waits (callActs S x) L + j) L
   held-for-ever small h =
-      let r : Run Lent = rounds (calls S x) (suc (waits (calls S x) L)) L in
+      let r : Run Lent = rounds (calls S x) (suc (waits (callActs S x) L)) L in
       let no = said-held (length (r .offers)) (lastOf (refused SetHeld) (r .offers)) (rw wait-is at h) in
       ⊎-elim
-      (λ a. absurd (false≢true (sym no ∙ accepted-last (calls S x) (suc (waits (calls S x) L)) L (refused SetHeld) (sym (lent-accepted S x (suc (waits (calls S x) L)) L) ∙ a))))
+      (λ a. absurd (false≢true (sym no ∙ accepted-last (calls S x) (suc (waits (callActs S x) L)) L (refused SetHeld) (sym (lent-accepted S x (suc (waits (callActs S x) L)) L) ∙ a))))
       (λ f. f)
       (demand-3-seen-lent S x L range fits small soundly formed .settles)
