@@ -32,7 +32,7 @@ use Rattle.model.proofs.Bridge.{call-is, events-encoded, does-is}
 use Rattle.records.specs.Stores.{Stored}
 use Rattle.records.proofs.Stores.{stored-behind}
 use Rattle.records.proofs.Room.{Takes, access-takes, step-takes}
-use Rattle.records.proofs.Fits.{call-room}
+use Rattle.records.proofs.OfCalls.{call-room}
 use Rattle.exported.specs.Exported.{Called, Stepped, lengthFor, mayWait, roundNumber, WaitCalled, RunCalled}
 
 pub call-unmade : (o : Outcome Lent) (L : Lent) (e : List ℕ) → length e < 64 → Called o L e 0 e L

@@ -20,7 +20,8 @@ use Rattle.model.proofs.RunSound.{bytes}
 use Rattle.model.proofs.Decoded.{Small}
 use Rattle.records.specs.Fitting.{AllFitting, stamped}
 use Rattle.records.proofs.RoundTrip.{log-written}
-use Rattle.records.proofs.Fits.{access-fits, send-fits, fill-fits, tick-fits, call-fits}
+use Rattle.records.proofs.Fits.{access-fits, send-fits, fill-fits, tick-fits}
+use Rattle.records.proofs.OfCalls.{call-fits}
 use Rattle.runner.specs.Told.{runTold, resumeTold}
 use Rattle.runner.proofs.ReadBack.{run-reads-back, resume-reads-back}
 use Rattle.exported.specs.Exported.{Called, RunCalled}

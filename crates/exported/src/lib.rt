@@ -23,7 +23,7 @@ ghost use Rattle.rounds.specs.Waiting.{waitCall};
 ghost use Rattle.exported.specs.Exported.{settingsOf, verdictNumber, lengthFor, accessFor, roundNumber, Called, WaitCalled, RunCalled};
 
 // With fewer bytes of event room nothing is called: what one call, and what a wait, can need.
-const EVENT_ROOM: usize = 64;
+pub(crate) const EVENT_ROOM: usize = 64;
 
 const WAIT_ROOM: usize = 9600;
 

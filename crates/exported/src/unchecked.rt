@@ -1,5 +1,6 @@
 // The steps of the calls without their check, for a caller whose tables nobody else can write: each asks for slices that are the encoding of
 // sound tables, leaves such slices, and leaves and writes what the checked call does (include/labintugmo_steps.h).
+use crate::EVENT_ROOM;
 use crate::settings;
 use model::Access;
 ghost use Rattle.model.specs.Lent.{lent};
@@ -7,9 +8,6 @@ ghost use Rattle.model.specs.Inner.{Held};
 ghost use Rattle.model.specs.Calls.{accessCall, sendCall, fillCall, tickCall};
 ghost use Rattle.model.specs.declared.Access.the-variants.{Read, Write};
 ghost use Rattle.exported.specs.Exported.{settingsOf, Stepped};
-
-// With fewer bytes of event room nothing is done.
-const EVENT_ROOM: usize = 64;
 
 #[no_mangle]
 pub extern "C" fn labintugmo_step_read(

@@ -54,6 +54,13 @@ pub fn reader_at<'a>(stream: &'a [u8], at: usize) -> Reader<'a>
     Reader { stream, at }
 }
 
+// The record at the place.
+pub fn peek<'a>(r: Reader<'a>) -> Record
+    ensures { λ x. ⌜ x ≡ readAt (now (r .entry .stream)) (r .entry .at) ⌝ }
+{
+    records::read_at(r.stream, r.at)
+}
+
 // The reader behind the record at its place.
 pub fn skip<'s, 'a>(r: &'s mut Reader<'a>)
     ensures { λ _. ⌜ (now (r .exit) .stream ≡ now (r .entry) .stream) × (now (r .exit) .at ≡ behind (now (now (r .entry) .stream)) (now (r .entry) .at)) ⌝ }
@@ -76,13 +83,11 @@ pub fn next<'s, 'a>(r: &'s mut Reader<'a>) -> Taken<'a>
     Taken { found, body }
 }
 
-// The record at a place of a stream, by a reader that takes it.
+// The record at a place of a stream, by a reader that looks at it.
 pub fn record_at(stream: &[u8], at: usize) -> Record
     ensures { λ r. ⌜ r ≡ readAt (now (stream .entry)) at ⌝ }
 {
-    let mut r = reader_at(stream, at);
-    let t = next(&mut r);
-    t.found
+    peek(reader_at(stream, at))
 }
 
 // The part of a stream that holds the body of the record at a place, by a reader that takes it.

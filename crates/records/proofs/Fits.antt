@@ -1,35 +1,28 @@
 -- The events of a step on sound tables whose tickets are 32 bits fit the bytes that document 01 gives them, and the tables after it have such
--- tickets again; the events of a call on slices of 32-bit words fit, and they take 49 bytes at most. What fits reads back (RoundTrip).
-use mathlib.Core.Path.{_≡_, refl, sym, subst}
-use mathlib.Core.Bool.{Bool, true, false, not, _&&_, _||_}
+-- tickets again; a command read out of bytes fits. What fits reads back (RoundTrip).
+use mathlib.Core.Path.{_≡_, refl}
+use mathlib.Core.Bool.{Bool, true, not, _&&_, _||_}
 use mathlib.Core.List.{List, [], _∷_, _++_, map}
-use Prim.Native.Nat.{ℕ, zero, suc, _+_, _*_, _%_, _^_, _≤_, _<_}
-use native.Mathlib.Nat.{le-trans, pow-zero, pow-suc}
+use Prim.Native.Nat.{ℕ, zero, suc, _+_, _%_, _^_, _≤_, _<_}
+use native.Mathlib.Nat.{pow-zero, pow-suc}
 use native.Mathlib.Omega.{arith}
 use borrow.Author.Tests.{le-leb, leb-true, ltb-true, eqb-true}
-use lib.Dec.{leb, ltb, eqb, lit≤}
+use lib.Dec.{leb, ltb, eqb}
 use lib.ListN.{length, getD}
-use Rattle.model.specs.Words.{pick, all, any, keep, table}
+use Rattle.model.specs.Words.{all, any, keep, fit, places}
 use Rattle.model.specs.Range.{inRange, linesOf}
 use Rattle.model.specs.Address.{addressOf, isRead, goodSector, goodBlock, wellFormed}
-use Rattle.model.specs.Tables.{Entry, Queued, reading, writing, Tables, Outcome, refused, done, after, eventsOf, entryFor}
-use Rattle.model.specs.Lent.{Lent, lengthsFit, tablesOf, encode, ticketAt, entryAt, ticketCountAt}
-use Rattle.model.specs.Sound.{allOnes, lastCycle, unsentFor, entryOk, queuedOk, sound}
-use Rattle.model.specs.SoundLent.{soundLent}
+use Rattle.model.specs.Tables.{Entry, Queued, reading, writing, Tables, Outcome, after, eventsOf, entryFor}
+use Rattle.model.specs.Sound.{allOnes, lastCycle, entryOk, queuedOk, sound}
 use Rattle.model.specs.Probe.{Spot, Place, no, at, probe, ruleOf, waysOf, dirtyLines}
-use Rattle.model.specs.Steps.{isMerge, isMiss, join, onMisses, fetches, queues, queuedEvent, sentEvent, placesNeeded, entryFull, accept, proceed, access, mark, marked, sendFrom, send, ticketsOf, others, sentFor, fill, tick}
-use Rattle.model.specs.Calls.{call, encoded}
-use Rattle.model.specs.Records.{lengthOf, numberAt, logBytes, commandIn, commandOf}
+use Rattle.model.specs.Steps.{isMerge, isMiss, join, onMisses, fetches, queuedEvent, sentEvent, placesNeeded, entryFull, accept, proceed, access, mark, sendFrom, send, ticketsOf, others, sentFor, fill, tick}
+use Rattle.model.specs.Records.{lengthOf, numberAt, commandIn, commandOf}
 use Rattle.model.specs.Runner.{stepOf}
-use Rattle.model.specs.Inner.{Is}
 use Rattle.model.specs.declared.Settings.{Settings}
 use Rattle.model.specs.declared.Answer.{Answer}
 use Rattle.model.specs.declared.Access.{Access}
 use Rattle.model.specs.declared.Access.the-variants.{Read, Write}
-use Rattle.model.specs.declared.Refusal.{Refusal}
-use Rattle.model.specs.declared.Refusal.the-variants.{SettingOutOfRange, SliceLength, NotSound}
-use Rattle.model.specs.declared.Event.{Event}
-use Rattle.model.specs.declared.Event.the-variants.{Refused, Released}
+use Rattle.model.specs.declared.Event.the-variants.{Released}
 use Rattle.model.specs.declared.Command.{Command}
 use Rattle.model.specs.declared.Command.the-variants as cmd
 use Rattle.model.specs.declared.CommandRead.the-variants as command
@@ -40,10 +33,7 @@ use Rattle.model.proofs.Fits.{ranged}
 use Rattle.model.proofs.Taken.{Spotted, formed-good}
 use Rattle.model.proofs.Offered.{probe-spotted}
 use Rattle.model.proofs.RunSound.{bytes}
-use Rattle.model.proofs.Decoded.{Small}
-use Rattle.model.proofs.Bridge.{sound-encoded, events-encoded}
 use Rattle.records.specs.Fitting.{WriteBackFits, Fitting, AllFitting, CommandFits, CommandReadFits, words, stamped, TicketFits}
-use Rattle.records.proofs.Room.{Takes, refused-takes}
 
 -- the events of an outcome fit
 abbrev Fits : Outcome Tables → Type 0
@@ -52,7 +42,7 @@ Fits o = AllFitting (eventsOf o)
 -- ---- addresses and masks
 
 -- an element of a list, and what stands for one past its end
-all-at : (p : ℕ → Bool) → p 0 ≡ true → (s : List ℕ) (i : ℕ) → all p s ≡ true → p (getD s i 0) ≡ true
+pub all-at : (p : ℕ → Bool) → p 0 ≡ true → (s : List ℕ) (i : ℕ) → all p s ≡ true → p (getD s i 0) ≡ true
 all-at p z [] i h = z
 all-at p z (b ∷ s) zero h = and-1 (p b) (all p s) h
 all-at p z (b ∷ s) (suc i) h = all-at p z s i (and-2 (p b) (all p s) h)
@@ -175,7 +165,7 @@ step-fits S (cmd.Tick c) t range ok few = tick-fits c t
 
 -- ---- the tickets after a step
 
-all-append : {A : Type 0} (p : A → Bool) (l m : List A) → all p l ≡ true → all p m ≡ true → all p (l ++ m) ≡ true
+pub all-append : {A : Type 0} (p : A → Bool) (l m : List A) → all p l ≡ true → all p m ≡ true → all p (l ++ m) ≡ true
 all-append p [] m h g = g
 all-append p (x ∷ l) m h g = and-i (and-1 (p x) (all p l) h) (all-append p l m (and-2 (p x) (all p l) h) g)
 
@@ -187,7 +177,7 @@ map-stamps : (f : Entry → Entry) → ((e : Entry) → words (e .tickets) ≡ t
 map-stamps f g [] h = refl
 map-stamps f g (e ∷ es) h = and-i (g e (and-1 (words (e .tickets)) (stamps es) h)) (map-stamps f g es (and-2 (words (e .tickets)) (stamps es) h))
 
-one-word : (k : ℕ) → k ≤ allOnes → words (k ∷ []) ≡ true
+pub one-word : (k : ℕ) → k ≤ allOnes → words (k ∷ []) ≡ true
 one-word k h = and-i (le-leb k allOnes h) refl
 
 join-words : (a k : ℕ) → k ≤ allOnes → (e : Entry) → words (e .tickets) ≡ true → words (join a k e .tickets) ≡ true
@@ -276,45 +266,3 @@ command-read-fits k b h =
     (λ e. by-flag CommandReadFits (eqb k 4) _ _ (λ e. n 8 0)
     (λ e. by-flag CommandReadFits (eqb k 5) _ _ (λ e. n 4 0) (λ e. tt)))))))
     (λ e. tt)
-
--- ---- calls on slices
-
-all-table : {A : Type 0} (p : A → Bool) (n : ℕ) (f : ℕ → A) → ((i : ℕ) → p (f i) ≡ true) → all p (table n f) ≡ true
-unfolding table
-all-table p zero f h = refl
-all-table p (suc n) f h = and-i (h 0) (all-table p n (λ i. f (suc i)) (λ i. h (suc i)))
-
-pub tables-stamped : (S : Settings) (L : Lent) → Small L → stamped (tablesOf S L) ≡ true
-unfolding tablesOf
-tables-stamped S L small =
-    all-table (λ e. words (e .tickets)) _ (entryAt S L)
-    (λ e. all-table (λ m. leb m allOnes) (ticketCountAt S (L .marks) e) (λ j. ticketAt S (L .words) (S .readers * e + j)) (λ j. le-leb _ allOnes (small _)))
-
--- what holds of a refusal's events and of the step's on the tables that the slices hold, holds of the call's
-pub call-events : (P : List Event → Type 0) (S : Settings) (step : Tables → Outcome Tables) (L : Lent) → Small L → ((n : Refusal) → P (Refused n ∷ []))
-    → (Is S L (tablesOf S L) → P (eventsOf (step (tablesOf S L)))) → P (eventsOf (call S step L))
-unfolding call
-call-events P S step L small refuses steps =
-    by-flag On (inRange S) _ _
-    (λ r. by-flag On (lengthsFit S L) _ _
-    (λ f. by-flag On (soundLent S L) _ _
-    (λ s. subst P (sym (events-encoded S (step (tablesOf S L)))) (steps (sound-encoded S L r f small s)))
-    (λ s. refuses NotSound))
-    (λ f. refuses SliceLength))
-    (λ r. refuses SettingOutOfRange)
-  where
-    On : Outcome Lent → Type 0
-    On o = P (eventsOf o)
-
-pub call-fits : (S : Settings) (step : Tables → Outcome Tables) (L : Lent) → Small L
-    → ((t : Tables) → inRange S ≡ true → sound S t ≡ true → stamped t ≡ true → AllFitting (eventsOf (step t))) → AllFitting (eventsOf (call S step L))
-call-fits S step L small f =
-    call-events AllFitting S step L small (λ n. (tt, tt)) (λ i. f (tablesOf S L) (i .range) (i .soundly) (tables-stamped S L small))
-
--- 64 bytes suffice
-pub call-room : (S : Settings) (step : Tables → Outcome Tables) (L : Lent) → Small L
-    → ((t : Tables) → inRange S ≡ true → sound S t ≡ true → Takes 49 (step t)) → length (logBytes (eventsOf (call S step L))) ≤ 49
-call-room S step L small f =
-    call-events (λ es. length (logBytes es) ≤ 49) S step L small
-    (λ n. le-trans (refused-takes n .most) (lit≤ tt))
-    (λ i. f (tablesOf S L) (i .range) (i .soundly) .most)

@@ -13,3 +13,4 @@ pub mod Words
 pub mod Told
 pub mod Room
 pub mod Fits
+pub mod OfCalls

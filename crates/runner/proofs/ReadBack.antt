@@ -28,7 +28,8 @@ use Rattle.records.specs.Fitting.{AllFitting, CommandReadFits, stamped}
 use Rattle.records.proofs.Log.{log-append}
 use Rattle.records.proofs.Told.{fitting-append}
 use Rattle.records.proofs.RoundTrip.{log-back}
-use Rattle.records.proofs.Fits.{step-fits, step-stamped, tables-stamped, command-read-fits}
+use Rattle.records.proofs.Fits.{step-fits, step-stamped, command-read-fits}
+use Rattle.records.proofs.OfCalls.{tables-stamped}
 use Rattle.running.proofs.First.{settled}
 use Rattle.runner.proofs.Cut.{written-are}
 use Rattle.runner.specs.Told.{toldFrom, runTold, resumeTold}

@@ -174,10 +174,6 @@ module _ (s : List ℕ) (at : ℕ) (inside : at < length s) where
             let g = going room k (restAt s at) (rw (← found-later) goes) in
             whole-read (g .command) (le-ltb (length (restAt s at)) (lengthOf k) (g .whole))
 
-        pub found-body : bodyAt s at ≡ take (lengthOf k) (restAt s at)
-        unfolding bodyAt
-        found-body = rw found-whole
-
         pub found-next : {c : ℕ} → c ≡ behind s at → c ≡ at + 1 + lengthOf k
         unfolding behind
         found-next e = rw found-whole at e

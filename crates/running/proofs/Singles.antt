@@ -90,14 +90,14 @@ module _ (S : Settings) (s : List ℕ) (at out : ℕ) (e : List ℕ) (L : Lent) 
 
     -- its body is the part of the stream that the code hands over
     module _ {c : ℕ} (c-is : c ≡ at + 1 + lengthOf (kindAt s at)) {x : CommandRead}
-        (read : x ≡ commandOf (kindAt s at) (take (lengthOf (kindAt s at)) (restAt s at)))
+        (read : x ≡ commandOf (kindAt s at) (take (c - (at + 1)) (drop (at + 1) s)))
         {w : ℕ} {f : List ℕ} {M : Lent} (notes : Notes S (stepRead S x) L e out w f M) (held : Held S L) where
       abbrev told : Told
       told = notes .noted .told
 
       step-is : (t : Tables) → stepRead S x t ≡ stepAt S (kindAt s at) (restAt s at) t
       unfolding stepAt
-      step-is t = rw read
+      step-is t = let q : c - (at + 1) ≡ lengthOf (kindAt s at) = omega arith in rw (read, q)
 
       told-is : (t : Tables) → Is S L t → eventsTold told ≡ eventsOf (stepAt S (kindAt s at) (restAt s at) t)
       told-is t i = does-tells S (notes .noted .does) t i ∙ ap eventsOf (step-is t)

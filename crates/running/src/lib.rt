@@ -217,7 +217,8 @@ fn step_read(
     }
 }
 
-// One record, at byte `at`: every check, then its step, then its events behind the `out` bytes that are written.
+// One record, at byte `at`: every check, then its step, then its events behind the `out` bytes that are written. Its body is cut here, for
+// speed: `next` hands back a struct with the record and the part, which goes through memory.
 fn run_one(
     s: Settings,
     stream: &[u8],
@@ -246,11 +247,13 @@ fn run_one(
             written: out,
         };
     }
-    let x = records::command_of(kind, reader::body_at(stream, at));
+    let start = at + 1;
+    let next = reader::place_after(stream, at);
+    let x = records::command_of(kind, &stream[start..next]);
     let n = step_read(s, longs, words, marks, x, events, out);
     Ran {
         stop: Stop::Nothing,
-        consumed: reader::place_after(stream, at),
+        consumed: next,
         written: out + n,
     }
 }

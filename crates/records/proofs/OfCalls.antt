@@ -1,0 +1,163 @@
+-- Calls on slices of 32-bit words: their events fit, and take 49 bytes at most; the words after them are 32 bits again.
+use mathlib.Core.Path.{_≡_, refl, sym, subst}
+use mathlib.Core.Logic.{inl, inr}
+use mathlib.Core.Bool.{Bool, true}
+use mathlib.Core.List.{List, [], _∷_, map}
+use Prim.Native.Nat.{ℕ, zero, suc, _+_, _*_, _≤_}
+use native.Mathlib.Nat.{le-trans}
+use native.Mathlib.Omega.{arith}
+use borrow.Author.Tests.{le-leb, leb-true, eqb-true}
+use lib.Dec.{leb, eqb, lit≤}
+use lib.ListN.{length, getD}
+use Rattle.model.specs.Words.{all, table, fit, places, joined}
+use Rattle.model.specs.Range.{inRange, linesOf}
+use Rattle.model.specs.Tables.{Line, Entry, Queued, reading, writing, Tables, Outcome, after, eventsOf, fresh}
+use Rattle.model.specs.Lent.{Lent, lengthsFit, tablesOf, encode, ticketAt, entryAt, ticketCountAt, cycleOf, masksOf, ticketsIn, queueMasksOf, wordBlocks}
+use Rattle.model.specs.Sound.{allOnes, lastCycle, maskOk, sectorOk, lineOk, queuedOk, sound}
+use Rattle.model.specs.SoundLent.{soundLent}
+use Rattle.model.specs.Calls.{call}
+use Rattle.model.specs.Records.{logBytes}
+use Rattle.model.specs.Inner.{Is}
+use Rattle.model.specs.declared.Settings.{Settings}
+use Rattle.model.specs.declared.Status.{Status}
+use Rattle.model.specs.declared.Status.the-variants.{Invalid, Reserved, Valid, Modified}
+use Rattle.model.specs.declared.Sector.{Sector}
+use Rattle.model.specs.declared.Refusal.{Refusal}
+use Rattle.model.specs.declared.Refusal.the-variants.{SettingOutOfRange, SliceLength, NotSound}
+use Rattle.model.specs.declared.Event.{Event}
+use Rattle.model.specs.declared.Event.the-variants.{Refused}
+use Rattle.model.proofs.Flags.{and-1, and-2, and-i, by-flag}
+use Rattle.model.proofs.Below.{every-at}
+use Rattle.model.proofs.Lists.{In, all-in, in-index}
+use Rattle.model.proofs.SoundFacts.{Sound, LineIs, parts, line-parts}
+use Rattle.model.proofs.Decoded.{Small}
+use Rattle.model.proofs.Bridge.{sound-encoded, after-encoded, events-encoded}
+use Rattle.records.specs.Fitting.{AllFitting, words, stamped}
+use Rattle.records.proofs.Room.{Takes, refused-takes}
+use Rattle.records.proofs.Fits.{all-at, all-append, one-word}
+
+-- ---- the tables that the slices hold
+
+all-table : {A : Type 0} (p : A → Bool) (n : ℕ) (f : ℕ → A) → ((i : ℕ) → p (f i) ≡ true) → all p (table n f) ≡ true
+unfolding table
+all-table p zero f h = refl
+all-table p (suc n) f h = and-i (h 0) (all-table p n (λ i. f (suc i)) (λ i. h (suc i)))
+
+pub tables-stamped : (S : Settings) (L : Lent) → Small L → stamped (tablesOf S L) ≡ true
+unfolding tablesOf
+tables-stamped S L small =
+    all-table (λ e. words (e .tickets)) _ (entryAt S L)
+    (λ e. all-table (λ m. leb m allOnes) (ticketCountAt S (L .marks) e) (λ j. ticketAt S (L .words) (S .readers * e + j)) (λ j. le-leb _ allOnes (small _)))
+
+-- what holds of a refusal's events and of the step's on the tables that the slices hold, holds of the call's
+pub call-events : (P : List Event → Type 0) (S : Settings) (step : Tables → Outcome Tables) (L : Lent) → Small L → ((n : Refusal) → P (Refused n ∷ []))
+    → (Is S L (tablesOf S L) → P (eventsOf (step (tablesOf S L)))) → P (eventsOf (call S step L))
+unfolding call
+call-events P S step L small refuses steps =
+    by-flag On (inRange S) _ _
+    (λ r. by-flag On (lengthsFit S L) _ _
+    (λ f. by-flag On (soundLent S L) _ _
+    (λ s. subst P (sym (events-encoded S (step (tablesOf S L)))) (steps (sound-encoded S L r f small s)))
+    (λ s. refuses NotSound))
+    (λ f. refuses SliceLength))
+    (λ r. refuses SettingOutOfRange)
+  where
+    On : Outcome Lent → Type 0
+    On o = P (eventsOf o)
+
+pub call-fits : (S : Settings) (step : Tables → Outcome Tables) (L : Lent) → Small L
+    → ((t : Tables) → inRange S ≡ true → sound S t ≡ true → stamped t ≡ true → AllFitting (eventsOf (step t))) → AllFitting (eventsOf (call S step L))
+call-fits S step L small f =
+    call-events AllFitting S step L small (λ n. (tt, tt)) (λ i. f (tablesOf S L) (i .range) (i .soundly) (tables-stamped S L small))
+
+-- 64 bytes suffice
+pub call-room : (S : Settings) (step : Tables → Outcome Tables) (L : Lent) → Small L
+    → ((t : Tables) → inRange S ≡ true → sound S t ≡ true → Takes 49 (step t)) → length (logBytes (eventsOf (call S step L))) ≤ 49
+call-room S step L small f =
+    call-events (λ es. length (logBytes es) ≤ 49) S step L small
+    (λ n. le-trans (refused-takes n .most) (lit≤ tt))
+    (λ i. f (tablesOf S L) (i .range) (i .soundly) .most)
+
+-- ---- the words after a call are 32 bits again
+
+fit-words : (w : ℕ) (l : List ℕ) → words l ≡ true → words (fit w l) ≡ true
+unfolding fit
+fit-words zero l h = refl
+fit-words (suc w) [] h = and-i (le-leb 0 allOnes (lit≤ tt)) (fit-words w [] h)
+fit-words (suc w) (x ∷ l) h = and-i (and-1 (leb x allOnes) (words l) h) (fit-words w l (and-2 (leb x allOnes) (words l) h))
+
+places-words : {A : Type 0} (g : A → List ℕ) (w n : ℕ) (xs : List A) → ((x : A) → In x xs → words (g x) ≡ true) → words (places g w n xs) ≡ true
+unfolding places
+places-words g w zero xs h = refl
+places-words g w (suc n) [] h = all-append (λ m. leb m allOnes) (fit w []) _ (fit-words w [] refl) (places-words g w n [] h)
+places-words g w (suc n) (x ∷ xs) h =
+    all-append (λ m. leb m allOnes) (fit w (g x)) _ (fit-words w (g x) (h x (inl refl))) (places-words g w n xs (λ y i. h y (inr i)))
+
+joined-words : (bs : List (List ℕ)) → all words bs ≡ true → words (joined bs) ≡ true
+joined-words [] h = refl
+joined-words (b ∷ bs) h = all-append (λ m. leb m allOnes) b (joined bs) (and-1 (words b) (all words bs) h) (joined-words bs (and-2 (words b) (all words bs) h))
+
+mask-word : (x : Status) (m : ℕ) (r : Bool) → maskOk x m r ≡ true → leb m allOnes ≡ true
+mask-word Invalid m r h = let e = eqb-true m 0 (and-1 (eqb m 0) r h) in le-leb m allOnes (omega arith)
+mask-word Reserved m r h = and-1 (leb m allOnes) r h
+mask-word Valid m r h = let e = eqb-true m 0 (and-1 (eqb m 0) r h) in le-leb m allOnes (omega arith)
+mask-word Modified m r h = search (and-1, and-2) depth 9
+
+masks-words : (ss : List Sector) → all sectorOk ss ≡ true → words (map (λ s. s .mask) ss) ≡ true
+masks-words [] h = refl
+masks-words (s ∷ ss) h =
+    and-i (mask-word (s .status) (s .mask) (s .readable) (and-1 (sectorOk s) (all sectorOk ss) h)) (masks-words ss (and-2 (sectorOk s) (all sectorOk ss) h))
+
+queue-words : (es : List Entry) (q : Queued) → queuedOk es q ≡ true → words (queueMasksOf q) ≡ true
+unfolding queuedOk
+queue-words es (reading a) h = refl
+queue-words es (writing b ms) h = search (and-1, and-2) depth 9
+
+module _ (S : Settings) (t : Tables) (ok : Sound S t) (few : stamped t ≡ true) where
+  line-is : (l : Line) → In l (t .lines) → (i : ℕ) × LineIs S (t .now) i l
+  line-is l m =
+      let f = in-index (t .lines) fresh l m in
+      let size : length (t .lines) ≡ linesOf S = eqb-true (length (t .lines)) (linesOf S) (ok .sized) in
+      let k = every-at (λ i. lineOk S (t .now) i (getD (t .lines) i fresh)) (linesOf S) (f .0) (ok .lined) (omega (arith, f .1)) in
+      (f .0, line-parts S (t .now) (f .0) l (rw (f .2) at k))
+
+  now-low : t .now ≤ allOnes
+  now-low = let h = leb-true (t .now) lastCycle (ok .time) in omega arith
+
+  cycle-words : (l : Line) → In l (t .lines) → words (cycleOf l) ≡ true
+  cycle-words l m =
+      let h = leb-true (l .cycle) (t .now) (line-is l m .1 .past) in
+      let n = now-low in
+      one-word (l .cycle) (omega arith)
+
+  encode-words : words (encode S t .words) ≡ true
+  unfolding encode
+  encode-words =
+      joined-words (wordBlocks S t)
+      (and-i (one-word (t .now) now-low)
+      (and-i (places-words cycleOf 1 (linesOf S) (t .lines) cycle-words)
+      (and-i (places-words masksOf 4 (linesOf S) (t .lines) (λ l m. masks-words (l .sectors) (line-is l m .1 .sectorly)))
+      (and-i (places-words ticketsIn (S .readers) (S .entries) (t .misses) (λ e m. all-in (λ e. words (e .tickets)) (t .misses) few m))
+      (and-i (places-words queueMasksOf 4 (S .places) (t .queue) (λ q m. queue-words (t .misses) q (all-in (queuedOk (t .misses)) (t .queue) (ok .lining) m))) refl)))))
+
+pub encode-small : (S : Settings) (t : Tables) → sound S t ≡ true → stamped t ≡ true → Small (encode S t)
+encode-small S t ok few i = leb-true (getD (encode S t .words) i 0) allOnes (all-at (λ m. leb m allOnes) refl (encode S t .words) i (encode-words S t (parts S t ok) few))
+
+pub call-small : (S : Settings) (step : Tables → Outcome Tables) (L : Lent) → Small L
+    → ((t : Tables) → inRange S ≡ true → sound S t ≡ true → stamped t ≡ true → (sound S (after t (step t)) ≡ true) × (stamped (after t (step t)) ≡ true))
+    → Small (after L (call S step L))
+unfolding call
+call-small S step L small keeps =
+    by-flag Left (inRange S) _ _
+    (λ r. by-flag Left (lengthsFit S L) _ _
+    (λ f. by-flag Left (soundLent S L) _ _
+    (λ s.
+    let i = sound-encoded S L r f small s in
+    let k = keeps (tablesOf S L) r (i .soundly) (tables-stamped S L small) in
+    subst Small (sym (after-encoded S L (tablesOf S L) (step (tablesOf S L)) (i .encoded))) (encode-small S (after (tablesOf S L) (step (tablesOf S L))) (k .0) (k .1)))
+    (λ s. small))
+    (λ f. small))
+    (λ r. small)
+  where
+    Left : Outcome Lent → Type 0
+    Left o = Small (after L o)
