@@ -6,7 +6,7 @@ use borrow.Author.Needs.{needs}
 use lib.ListN.{length}
 use lib.Seq.{length-take-le}
 use Rattle.running.proofs.Asked.{Most}
-use Rattle.streaming.proofs.Turns.{lent-most}
+use Rattle.streaming.proofs.Leaving.{lent-most}
 use Rattle.trace.proofs.trace_stream.Statement.{statement}
 use Rattle.trace.proofs.trace_stream.Tie as tie
 
