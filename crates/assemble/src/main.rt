@@ -115,7 +115,7 @@ fn one_line(line: &[u8], out: &mut [u8], w: Work) -> Work
         },
         Assembled::NoRoom => stopped(v, false),
         Assembled::Bad(e) => {
-            says::bad(v.line, e);
+            says::bad(v.line, e, line);
             stopped(v, false)
         }
     }

@@ -2,6 +2,9 @@
 use assembly::Expected;
 use libc::STDERR_FILENO;
 
+// Bytes of a bad line that are shown.
+const SHOWN: usize = 120;
+
 fn say(s: &[u8]) {
     io::write_all(STDERR_FILENO, s);
 }
@@ -13,21 +16,32 @@ fn line_number(line: u64) {
 }
 
 fn ends() {
-    say(b". The stream ends before this line, with an unknown kind.\n");
+    say(b"The stream ends before this line, with an unknown kind.\n");
 }
 
 pub fn too_long(line: u64, most: usize) {
     line_number(line);
     say(b"longer than ");
     io::print_decimal(STDERR_FILENO, most as u64);
-    say(b" bytes before its comment");
+    say(b" bytes before its comment\n");
     ends();
 }
 
-pub fn bad(line: u64, e: Expected) {
+// The line itself behind what it lacks, as far as a page goes.
+fn found(words: &[u8]) {
+    say(b"; found: ");
+    say(text::front(words, SHOWN));
+    if SHOWN < words.len() {
+        say(b" ..");
+    }
+}
+
+pub fn bad(line: u64, e: Expected, words: &[u8]) {
     line_number(line);
     say(b"expected ");
     expected(e);
+    found(words);
+    say(b"\n");
     ends();
 }
 

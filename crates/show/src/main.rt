@@ -63,7 +63,7 @@ fn with_room(out: &[u8], t: Turn) -> Turn
 }
 
 fn put_place(place: u64, out: &mut [u8], at: usize) -> usize {
-    let next = text::put_right(place, 6, out, at);
+    let next = text::put_right(place, 12, out, at);
     text::put_text(b"  ", out, next)
 }
 

@@ -20,11 +20,11 @@ fn put_line_end(out: &mut [u8], at: usize) -> usize {
 }
 
 fn put_indent(out: &mut [u8], at: usize) -> usize {
-    text::put_text(b"          ", out, at)
+    text::put_text(b"                ", out, at)
 }
 
 fn put_command(c: Command, place: u64, out: &mut [u8], at: usize) -> usize {
-    let a = text::put_right(place, 6, out, at);
+    let a = text::put_right(place, 12, out, at);
     let b = text::put_text(b"  ", out, a);
     let d = commands::put_command(c, out, b);
     put_line_end(out, d)
