@@ -241,11 +241,16 @@ impl Cache {
         }
     }
 
-    /// As many as the access will queue: the read of a miss, and the write-back of a dirty victim.
+    /// As many as the access will queue: the read of a miss, and the write-back of a dirty victim
+    /// (document 02, L2).
     fn places_needed(&self, is_write: bool, answer: Answer, number: usize) -> usize {
-        let reads = !is_write && matches!(answer, Answer::Miss | Answer::SectorMiss);
-        let writes_back = answer == Answer::Miss && self.lines[number].has(Status::Modified);
-        usize::from(reads) + usize::from(writes_back)
+        let read = usize::from(!is_write);
+        let write_back = usize::from(self.lines[number].has(Status::Modified));
+        match answer {
+            Answer::Hit | Answer::HitReserved => 0,
+            Answer::SectorMiss => read,
+            Answer::Miss => read + write_back,
+        }
     }
 
     /// Of the miss queue.

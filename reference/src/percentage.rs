@@ -1,28 +1,31 @@
-//! The dirty percentage as the pages work it out, in 32-bit floats, beside the rule of
-//! document 01, and every place where the two differ (document 02, L11).
+//! The published percentage (document 02, L11): the pages' rule in 32-bit floats beside the
+//! whole-number rule of document 01, and every place where the two differ.
 
 use crate::model::Refusal;
 
+/// Sets times ways at most.
 pub const MOST_LINES: u32 = 1024;
 pub const MOST_PERCENT: u32 = 100;
 
 /// Refusal 1: P or lines out of range, or dirty above lines.
-fn check(dirty: u32, lines: u32, percent: u32) -> Result<(), Refusal> {
-    let in_range = (1..=MOST_LINES).contains(&lines) && dirty <= lines && percent <= MOST_PERCENT;
-    in_range.then_some(()).ok_or(Refusal::BadSettings)
+fn in_range(dirty: u32, lines: u32, percent: u32) -> Result<(), Refusal> {
+    let good = (1..=MOST_LINES).contains(&lines) && dirty <= lines && percent <= MOST_PERCENT;
+    good.then_some(()).ok_or(Refusal::BadSettings)
 }
 
-/// Dirty divided by lines, times 100, each step rounded once, and whether that is at least P.
+/// The pages' answer: dirty divided by lines, times 100, at least P; each step rounded once.
 pub fn float_meets(dirty: u32, lines: u32, percent: u32) -> Result<bool, Refusal> {
-    check(dirty, lines, percent)?;
-    let share: f32 = dirty as f32 / lines as f32;
-    let percentage: f32 = share * 100.0_f32;
-    Ok(percentage >= percent as f32)
+    in_range(dirty, lines, percent)?;
+    // All three are whole and below 2^24, so that none is rounded on the way in.
+    let [dirty, lines, percent] = [dirty, lines, percent].map(|number| number as f32);
+    let share: f32 = dirty / lines;
+    let published: f32 = share * 100.0;
+    Ok(published >= percent)
 }
 
-/// 100 × dirty ≥ P × lines.
+/// Document 01's answer: 100 × dirty ≥ P × lines.
 pub fn whole_meets(dirty: u32, lines: u32, percent: u32) -> Result<bool, Refusal> {
-    check(dirty, lines, percent)?;
+    in_range(dirty, lines, percent)?;
     Ok(100 * dirty >= percent * lines)
 }
 
@@ -35,17 +38,19 @@ pub struct Difference {
     pub ours: bool,
 }
 
-/// By lines, then dirty, then P, rising.
+/// Every difference, by lines, then dirty, then P, rising.
 pub fn differences() -> Vec<Difference> {
+    (1..=MOST_LINES).flat_map(differences_of).collect()
+}
+
+fn differences_of(lines: u32) -> Vec<Difference> {
     let mut found = Vec::new();
-    for lines in 1..=MOST_LINES {
-        for dirty in 0..=lines {
-            for percent in 0..=MOST_PERCENT {
-                let float = float_meets(dirty, lines, percent).expect("in range");
-                let ours = whole_meets(dirty, lines, percent).expect("in range");
-                if float != ours {
-                    found.push(Difference { lines, dirty, percent, float, ours });
-                }
+    for dirty in 0..=lines {
+        for percent in 0..=MOST_PERCENT {
+            let float = float_meets(dirty, lines, percent).expect("all in range");
+            let ours = whole_meets(dirty, lines, percent).expect("all in range");
+            if float != ours {
+                found.push(Difference { lines, dirty, percent, float, ours });
             }
         }
     }
@@ -54,46 +59,6 @@ pub fn differences() -> Vec<Difference> {
 
 /// Whether some settings in range have this many lines.
 pub fn legal_size(lines: u32) -> bool {
-    let sets = (0..=8).map(|exponent| 1 << exponent);
-    lines <= MOST_LINES
-        && sets.into_iter().any(|sets: u32| (1..=16).any(|ways| sets * ways == lines))
-}
-
-#[cfg(test)]
-mod tests {
-    use super::*;
-
-    #[test]
-    fn twenty_differences_and_none_at_a_legal_cache() {
-        let all = differences();
-        assert_eq!(all.len(), 20);
-        assert!(all.iter().all(|one| !one.float && one.ours));
-        assert!(!all.iter().any(|one| legal_size(one.lines)));
-    }
-
-    #[test]
-    fn none_at_a_power_of_two() {
-        assert!(!differences().iter().any(|one| one.lines.is_power_of_two()));
-    }
-
-    #[test]
-    fn refused_by_1() {
-        for (dirty, lines, percent) in
-            [(0, 0, 0), (0, 1025, 0), (2, 1, 0), (0, 1, 101), (u32::MAX, u32::MAX, u32::MAX)]
-        {
-            for answer in [float_meets(dirty, lines, percent), whole_meets(dirty, lines, percent)] {
-                assert_eq!(answer.unwrap_err().number(), 1);
-            }
-        }
-        assert_eq!(float_meets(1024, 1024, 100), Ok(true));
-    }
-
-    #[test]
-    fn legal_sizes() {
-        for (lines, legal) in
-            [(0, false), (1, true), (17, false), (960, true), (1024, true), (2048, false)]
-        {
-            assert_eq!(legal_size(lines), legal, "{lines}");
-        }
-    }
+    let sets = (0..=8).map(|power| 1 << power);
+    lines <= MOST_LINES && sets.into_iter().any(|sets| (1..=16).any(|ways| sets * ways == lines))
 }

@@ -2,7 +2,7 @@
 
 use crate::model::ROOM_NEEDED;
 use crate::model::{
-    check, fresh_on, outcome_bytes, Access, Cache, Call, Refusal, Settings, Tables,
+    call_on, check, fresh_on, outcome_bytes, Access, Cache, Call, Refusal, Settings, Tables,
 };
 
 /// The stop numbers; 1 and 2 are those of the refusals.
@@ -72,14 +72,39 @@ pub fn run(stream: &[u8], tables: &mut Tables, room: &mut [u8]) -> Stopped {
     Run { stream, room, cache: None, consumed: 0, written: 0 }.to_the_end(tables)
 }
 
-/// Goes on from kept tables and settings with the next part of a stream. The tables are judged
-/// once, before the first record, also where there is none.
+/// Goes on with the next part of a stream (document 02, L10), record by record as separate calls.
+/// Refusals 1, 2 and 3 stop it before the first record, also where there is none.
 pub fn resume(settings: &Settings, part: &[u8], tables: &mut Tables, room: &mut [u8]) -> Stopped {
     if let Err(refusal) = check(settings, tables) {
         return Stopped { number: refusal.number(), consumed: 0, written: 0 };
     }
-    let cache = Some(Cache::decode(settings, tables));
-    Run { stream: part, room, cache, consumed: 0, written: 0 }.to_the_end(tables)
+    let (mut consumed, mut written) = (0, 0);
+    while consumed < part.len() {
+        let (call, length) = match next_call(&part[consumed..], room.len() - written) {
+            Ok(next) => next,
+            Err(number) => return Stopped { number, consumed, written },
+        };
+        let events = outcome_bytes(&call_on(settings, tables, call));
+        room[written..written + events.len()].copy_from_slice(&events);
+        written += events.len();
+        consumed += length;
+    }
+    Stopped { number: STOP_END, consumed, written }
+}
+
+/// The call that a part has at its next record and the length of that record, or the number it
+/// stops with: 14, 15, 13 for settings in any place, 16.
+fn next_call(rest: &[u8], free: usize) -> Result<(Call, usize), u8> {
+    let kind = rest[0];
+    let length = 1 + command_length(kind).ok_or(STOP_UNKNOWN_KIND)?;
+    let body = rest.get(1..length).ok_or(STOP_CUT_SHORT)?;
+    if kind == KIND_SETTINGS {
+        return Err(STOP_SETTINGS_PLACE);
+    }
+    if free < ROOM_NEEDED {
+        return Err(STOP_NO_ROOM);
+    }
+    Ok((command(kind, body), length))
 }
 
 struct Run<'a> {

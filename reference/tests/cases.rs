@@ -54,7 +54,7 @@ fn case_3_other_sector() {
 
 #[test]
 fn case_4_no_entry() {
-    // Two reads stand in four places, so the queue still has the two that a read needs.
+    // Two reads stand in four places, so the queue has the one that a third needs.
     ends(USUAL, &[read(0), read(32), read(64)], Err(Refusal::MissTableFull));
 }
 

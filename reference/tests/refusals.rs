@@ -113,23 +113,11 @@ fn refusals_5_and_6_no_candidate() {
     refused(held, &[write(0, 1), read(256)], read(512), 5);
 }
 
+/// What each access needs stands in `places`.
 #[test]
-fn refusal_7_by_what_is_queued() {
-    let small = Settings::new([1, 2, 50, 2, 2, 2]);
-    let full = [read(0), read(32)];
-    // Both 7 and 9 apply to a read that needs an entry.
-    refused(small, &full, read(64), 7);
-    // A merged read queues nothing: 8 alone can refuse it.
-    let merged = [read(0), read(32), read(0)];
-    refused(small, &merged, read(0), 8);
-    after(small, &merged);
-    // Writes queue a write-back or nothing.
-    after(small, &[read(0), read(32), write(0, 1), write(64, 1), write(128, 1)]);
-    refused(small, &[write(128, 1), read(0), read(32)], write(256, 1), 7);
-    // A read that throws out a dirty line needs two places.
-    let dirty = [read(0), write(128, 1)];
-    refused(small, &dirty, read(256), 7);
-    after(small, &[read(0), write(128, 1), Call::Send, read(256)]);
+fn refusal_7_queue_full() {
+    let small = Settings::new([1, 2, 50, 3, 2, 2]);
+    refused(small, &[read(0), read(32)], read(64), 7);
 }
 
 #[test]

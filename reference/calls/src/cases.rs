@@ -1,6 +1,6 @@
 //! The cases of the first part: calls over tables reached by walks, over built
 //! sound tables, over damaged tables, and with wrong lengths, bad settings or
-//! too little event room. The runs of streams stand in `runs`.
+//! too little event room. The runs of streams stand in `runs`, parts that go on in `parts`.
 
 use crate::exported::{EmptySlice, Exported};
 use crate::parts;
@@ -19,8 +19,8 @@ pub fn run_case(random: &mut Random, counts: &mut Counts, nulls: bool) -> Result
         0..=14 => walk(random, counts),
         15..=39 => built(random, counts),
         40..=79 => damaged(random, counts),
-        80..=86 => runs::run_case(random, counts, nulls),
-        87..=89 => parts::run_case(random, counts),
+        80..=84 => runs::run_case(random, counts, nulls),
+        85..=89 => parts::run_case(random, counts, nulls),
         90..=92 => wrong_lengths(random, counts, nulls),
         93..=96 => bad_settings(random, counts, nulls),
         _ => small_room(random, counts, nulls),

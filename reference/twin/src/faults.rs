@@ -5,7 +5,7 @@
 use crate::wait::Waited;
 use reference::model::{self, block_of, Access, Cache, Call, Layout, Outcome, Place, Refusal};
 use reference::model::{Settings, Status, Tables};
-use reference::runner::{Stopped, STOP_END};
+use reference::runner::{self, Stopped, STOP_END};
 use std::sync::OnceLock;
 
 /// The fault named in the environment, or the empty name for none.
@@ -157,6 +157,31 @@ impl Fault {
             "run-empty-is-cut-short" if stream.is_empty() => stopped.number = 15,
             _ => (),
         }
+    }
+
+    /// Goes on with a part of a stream, with the slips that concern parts.
+    pub fn resume(
+        self,
+        settings: &Settings,
+        part: &[u8],
+        tables: &mut Tables,
+        room: &mut [u8],
+    ) -> Stopped {
+        let before = tables.clone();
+        let settings_first = part.first() == Some(&runner::KIND_SETTINGS);
+        match self.0 {
+            "resume-starts-anew" => return runner::run(part, tables, room),
+            "resume-takes-settings" if settings_first => return runner::run(part, tables, room),
+            "resume-leaves-empty-unchecked" if part.is_empty() => {
+                return Stopped { number: STOP_END, consumed: 0, written: 0 }
+            }
+            _ => (),
+        }
+        let stopped = runner::resume(settings, part, tables, room);
+        if self.is("resume-forgets-tables-at-stop") && stopped.number != STOP_END {
+            *tables = before;
+        }
+        stopped
     }
 
     pub fn alter_check(

@@ -132,10 +132,7 @@ fn serve_resume(
         return runner::STOP_OTHER_LENGTH.into();
     }
     let mut tables = lent.tables();
-    let stopped = match Fault::planted().is("resume-starts-anew") {
-        true => runner::run(part, &mut tables, events),
-        false => runner::resume(settings, part, &mut tables, events),
-    };
+    let stopped = Fault::planted().resume(settings, part, &mut tables, events);
     lent.store(&tables);
     counts.copy_from_slice(&[stopped.consumed as u64, stopped.written as u64]);
     stopped.number.into()
