@@ -57,7 +57,7 @@ fn read_part(log: usize, fd: i32, buf: &mut [u8], c: Check) -> Check
 {
     match input::fill(fd, buf, 0) {
         Filled::To(n) => came(buf, n, c),
-        Filled::End => over(c, false),
+        Filled::End(_) => over(c, false),
         Filled::Full => over(c, true),
         Filled::Failed => {
             crate::reading::say_failed(log);

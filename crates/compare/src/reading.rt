@@ -112,7 +112,7 @@ pub fn top_up(log: usize, fd: i32, buf: &mut [u8], w: Window) -> Topped
     let have = input::carry(buf, w.at, w.have);
     match input::fill(fd, buf, have) {
         Filled::To(n) => came(base, have, n),
-        Filled::End => filled(base, have, true, Met::Read),
+        Filled::End(_) => filled(base, have, true, Met::Read),
         Filled::Full => filled(base, have, false, Met::Stuck),
         Filled::Failed => {
             say_failed(log);

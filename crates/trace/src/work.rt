@@ -128,8 +128,8 @@ fn read(fd: i32, buf: &mut [u8], w: Work) -> Work
 {
     match input::read_more(fd, buf, w.have, w.left) {
         More::To { have, left } => grown(w, have, left),
-        More::End => ended(w, false),
-        More::Full => ended(w, false),
+        More::End(_) => ended(w, false),
+        More::Full => ended(w, true),
         More::Failed => ended(w, true),
     }
 }
