@@ -159,7 +159,7 @@ stopped-waits S (next.Ended e) n p t z h = h
 stopped-waits S next.Failed n p t z h = clash z refl
 
 -- what it claims of the input: what was asked of it
-over-rests : (m : Next) → goesNext (overNext m) ≡ false
+pub over-rests : (m : Next) → goesNext (overNext m) ≡ false
 over-rests next.Read = refl
 over-rests next.Run = refl
 over-rests next.Stopped = refl
@@ -172,6 +172,9 @@ over-claims next.Run n have buf a f = f a
 over-claims next.Stopped n have buf a f = absurd a
 over-claims (next.Ended e) n have buf a f = a
 over-claims next.Failed n have buf a f = tt
+
+pub first-claims : (L : Lent) (b : List ℕ) {w : Work} → Opened b w → (n : Stop) → beginning L (take (w .have) b) ≡ Stopped n → Claims (overNext (w .next)) n (w .have)
+first-claims L b {w} o n q = over-claims (w .next) n (w .have) b (o .asked) (there-stopped L (take (w .have) b) n q)
 
 module _ {L M : Lent} {b buf : List ℕ} {w x : Work} (o : Opened b w) (s : Starts L (take (w .have) b) w (Stops x) M buf) where
   pub stops-whole : Whole L (take (w .have) b) w x M
@@ -191,7 +194,7 @@ module _ {L M : Lent} {b buf : List ℕ} {w x : Work} (o : Opened b w) (s : Star
         over = rw n (over-rests (w .next));
         claims =
             let h : x .have ≡ w .have = ap (λ (y : Work). y .have) e in
-            rw (n, h) (over-claims (w .next) (x .stop) (w .have) b (o .asked) (there-stopped L p (x .stop) q));
+            rw (n, h) (first-claims L b o (x .stop) q);
         final = λ z. stopped-final (x .next) (x .stop) z (a .1);
         is = λ z d room h g. rw (append-nil, c, m) (stopped-run L (p ++ d) (x .stop) room (stopped-more L p d (x .stop) q h));
         front = λ d room g. refl;
