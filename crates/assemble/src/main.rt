@@ -5,6 +5,7 @@
 mod says;
 
 use assembly::Assembled;
+use input::Ended;
 use input::More;
 use libc::STDOUT_FILENO;
 ghost use Prim.Native.Nat.{_≤_};
@@ -161,8 +162,8 @@ fn whole_lines(buf: &mut [u8], n: usize, left: u64, out: &mut [u8], w: Work) -> 
     part_line(text::front(buf, have), left, v)
 }
 
-// A last line needs no line feed.
-fn last_line(buf: &[u8], out: &mut [u8], w: Work) -> Work
+// At the end of the input, by the system's word for it: a last line needs no line feed.
+fn last_line(_end: Ended, buf: &[u8], out: &mut [u8], w: Work) -> Work
     ensures { λ r. ⌜ r .more ≡ false ⌝ }
 {
     let have = w.have;
@@ -179,7 +180,7 @@ fn read_once(fd: i32, buf: &mut [u8], out: &mut [u8], w: Work) -> Work
 {
     match input::read_more(fd, buf, w.have, w.left) {
         More::To { have, left } => whole_lines(buf, have, left, out, w),
-        More::End => last_line(buf, out, w),
+        More::End(end) => last_line(end, buf, out, w),
         More::Full => stopped(w, false),
         More::Failed => stopped(w, false),
     }

@@ -4,6 +4,7 @@ mod damage;
 mod summary;
 
 use billing::Bill;
+use input::Ended;
 use input::More;
 use libc::STDOUT_FILENO;
 ghost use Prim.Native.Nat.{_≤_};
@@ -27,7 +28,7 @@ struct Account {
 }
 
 // Nothing more is read.
-fn ends(w: Work, failed: bool, bill: Bill) -> Account
+fn stops(w: Work, failed: bool, bill: Bill) -> Account
     ensures { λ r. ⌜ turnsLeft (r .work .more) (r .work .left) ≡ 0 ⌝ }
 {
     let work = Work {
@@ -38,6 +39,13 @@ fn ends(w: Work, failed: bool, bill: Bill) -> Account
         failed,
     };
     Account { work, bill }
+}
+
+// At the end of the input, by the system's word for it.
+fn ended(_end: Ended, w: Work, bill: Bill) -> Account
+    ensures { λ r. ⌜ turnsLeft (r .work .more) (r .work .left) ≡ 0 ⌝ }
+{
+    stops(w, false, bill)
 }
 
 // The whole events of the first n bytes of the buffer; what is no whole event yet goes to its front.
@@ -65,9 +73,9 @@ fn read_once(fd: i32, buf: &mut [u8], w: Work, b: Bill) -> Account
 {
     match input::read_more(fd, buf, w.have, w.left) {
         More::To { have, left } => bill_buffer(buf, have, left, w, b),
-        More::End => ends(w, false, b),
-        More::Full => ends(w, false, b),
-        More::Failed => ends(w, true, b),
+        More::End(end) => ended(end, w, b),
+        More::Full => stops(w, true, b),
+        More::Failed => stops(w, true, b),
     }
 }
 

@@ -22,17 +22,13 @@ use Rattle.compare.specs.Windows.{window, waitingIn, movedBy, Sound, Gro
 -- ---- what comes
 
 module _ (base have n : ℕ) where
-  pub came-none : n ≤ have → {r : Topped} → r ≡ topped base have true met.Read → r ≡ cameTo base have n
+  pub came-long : 2 ^ 64 - 1 - base < n → {r : Topped} → r ≡ topped base have false met.Stuck → r ≡ cameTo base have n
   unfolding cameTo
-  came-none h e = rw (le-leb n have h) e
+  came-long l e = rw (lt-ltb (2 ^ 64 - 1 - base) n l) e
 
-  pub came-long : have < n → 2 ^ 64 - 1 - base < n → {r : Topped} → r ≡ topped base have false met.Stuck → r ≡ cameTo base have n
+  pub came-more : n ≤ 2 ^ 64 - 1 - base → {r : Topped} → r ≡ topped base n false met.Read → r ≡ cameTo base have n
   unfolding cameTo
-  came-long h l e = rw (lt-leb n have h, lt-ltb (2 ^ 64 - 1 - base) n l) e
-
-  pub came-more : have < n → n ≤ 2 ^ 64 - 1 - base → {r : Topped} → r ≡ topped base n false met.Read → r ≡ cameTo base have n
-  unfolding cameTo
-  came-more h l e = rw (lt-leb n have h, le-ltb (2 ^ 64 - 1 - base) n l) e
+  came-more l e = rw (le-ltb (2 ^ 64 - 1 - base) n l) e
 
 -- ---- the bytes that wait
 
@@ -106,18 +102,17 @@ module _ (l : List ℕ) (w : Window) (s : Sound (length l) w) where
 
       pub fed-came : {n : ℕ} → f ≡ filled.To n → {r : Topped} → r ≡ cameTo (w .base + w .at) have n → Fed l w (r .window) (r .met) l₁
       unfolding cameTo
-      fed-came {n} g {r} e = go (leb n have) refl (ltb (2 ^ 64 - 1 - (w .base + w .at)) n) refl e
+      fed-came {n} g {r} e = go (ltb (2 ^ 64 - 1 - (w .base + w .at)) n) refl e
         where
           reach : Reaches have (length l₀) (filled.To n)
           reach = rw g at (k .reaches)
 
-          go : (t : Bool) → leb n have ≡ t → (u : Bool) → ltb (2 ^ 64 - 1 - (w .base + w .at)) n ≡ u
-              → r ≡ pick t (topped (w .base + w .at) have true met.Read) (pick u (topped (w .base + w .at) have false met.Stuck) (topped (w .base + w .at) n false met.Read)) → Fed l w (r .window) (r .met) l₁
-          go true a u b e = fed-end e
-          go false a true b e = fed-stuck e
-          go false a false b e =
+          go : (u : Bool) → ltb (2 ^ 64 - 1 - (w .base + w .at)) n ≡ u
+              → r ≡ pick u (topped (w .base + w .at) have false met.Stuck) (topped (w .base + w .at) n false met.Read) → Fed l w (r .window) (r .met) l₁
+          go true b e = fed-stuck e
+          go false b e =
               let c = count in
-              let x = leb-false n have a in
+              let x = reach .0 in
               let y = ltb-false (2 ^ 64 - 1 - (w .base + w .at)) n b in
               let z = reach .1 in
               let i = same-size in

@@ -5,10 +5,10 @@ use mathlib.Core.Bool.{Bool, true, false, not}
 use mathlib.Core.List.{List, [], _++_}
 use Prim.Native.Nat.{ℕ, zero, suc, _+_, _-_, _^_, _≤_, _<_}
 use native.Mathlib.Omega.{arith}
-use borrow.Author.Tests.{eq-eqb, ne-eqb, eqb-true, eqb-false, lt-ltb, le-ltb, ltb-true, ltb-false}
+use borrow.Author.Tests.{lt-ltb, le-ltb, ltb-true, ltb-false}
 use lib.ListN.{length, take, length-append}
 use lib.Seq.{length-take-le}
-use lib.Dec.{eqb, ltb}
+use lib.Dec.{ltb}
 use Rattle.model.specs.Words.{pick}
 use Rattle.model.proofs.Flags.{clash}
 use Rattle.comparing.specs.declared.Checking.{Checking}
@@ -24,17 +24,13 @@ use Rattle.compare.specs.declared.checking.Verdict.the-variants as verdi
 use Rattle.compare.specs.Checking.{started, overOf, passedOf, cameOf, Came, ReadOn, Checked, verdictOf}
 
 module _ (l : List ℕ) (n : ℕ) (c : Check) where
-  pub came-end : n ≡ 0 → {r : Check} → r ≡ overOf c false → r ≡ cameOf l n c
+  pub came-long : 2 ^ 64 - 1 - c .read < n → {r : Check} → r ≡ overOf c true → r ≡ cameOf l n c
   unfolding cameOf
-  came-end h e = rw (eq-eqb n 0 h) e
+  came-long k e = rw (lt-ltb (2 ^ 64 - 1 - c .read) n k) e
 
-  pub came-long : (n ≡ 0 → ⊥) → 2 ^ 64 - 1 - c .read < n → {r : Check} → r ≡ overOf c true → r ≡ cameOf l n c
+  pub came-part : n ≤ 2 ^ 64 - 1 - c .read → {s : List ℕ} → s ≡ take n l → {d : Checking} → d ≡ passedBytes (c .checking) s → passedOf d (c .read + n) ≡ cameOf l n c
   unfolding cameOf
-  came-long h k e = rw (ne-eqb n 0 h, lt-ltb (2 ^ 64 - 1 - c .read) n k) e
-
-  pub came-part : (n ≡ 0 → ⊥) → n ≤ 2 ^ 64 - 1 - c .read → {s : List ℕ} → s ≡ take n l → {d : Checking} → d ≡ passedBytes (c .checking) s → passedOf d (c .read + n) ≡ cameOf l n c
-  unfolding cameOf
-  came-part h k e g = rw (ne-eqb n 0 h, le-ltb (2 ^ 64 - 1 - c .read) n k, g, e)
+  came-part k e g = rw (le-ltb (2 ^ 64 - 1 - c .read) n k, g, e)
 
 -- a turn of the loop: the bytes that came are checked with those before, and where there is another turn some came
 abbrev pub Onward : Check → Check → Type 0
@@ -44,17 +40,15 @@ module _ {c : Check} (k : Checked c) {r : Check} where
   stops : (f : Bool) → r ≡ overOf c f → Onward c r
   stops f e = (rw e (record { bytes = k .bytes; checking = k .checking; read = k .read }), λ m. clash m (ap (λ x. x .more) e))
 
-  part-came : (l : List ℕ) (n : ℕ) → n ≤ length l → r ≡ cameOf l n c → Onward c r
+  part-came : (l : List ℕ) (n : ℕ) → 0 < n → n ≤ length l → r ≡ cameOf l n c → Onward c r
   unfolding cameOf
-  part-came l n h e = go (eqb n 0) refl (ltb (2 ^ 64 - 1 - c .read) n) refl e
+  part-came l n y h e = go (ltb (2 ^ 64 - 1 - c .read) n) refl e
     where
-      go : (t : Bool) → eqb n 0 ≡ t → (u : Bool) → ltb (2 ^ 64 - 1 - c .read) n ≡ u
-          → r ≡ pick t (overOf c false) (pick u (overOf c true) (passedOf (passedBytes (c .checking) (take n l)) (c .read + n))) → Onward c r
-      go true p u q e = stops false e
-      go false p true q e = stops true e
-      go false p false q e =
+      go : (u : Bool) → ltb (2 ^ 64 - 1 - c .read) n ≡ u
+          → r ≡ pick u (overOf c true) (passedOf (passedBytes (c .checking) (take n l)) (c .read + n)) → Onward c r
+      go true q e = stops true e
+      go false q e =
           let z = ltb-false (2 ^ 64 - 1 - c .read) n q in
-          let y = eqb-false n 0 p in
           let x = length-append (k .bytes) (take n l) in
           let v = length-take-le n l h in
           let w = k .read in (
@@ -63,15 +57,11 @@ module _ {c : Check} (k : Checked c) {r : Check} where
               checking = rw (k .checking) (sym (passed-append beginning (k .bytes) (take n l)));
               read = omega arith;
             }),
-            λ m. rw e (some n y z),
+            λ m. rw e (omega arith, omega arith),
           )
-        where
-          some : (n : ℕ) → (n ≡ 0 → ⊥) → n ≤ 2 ^ 64 - 1 - c .read → (c .read < c .read + n) × (c .read + n < 2 ^ 64)
-          some zero y z = absurd (y refl)
-          some (suc n) y z = (omega arith, omega arith)
 
   pub reads-on : (l : List ℕ) → ReadOn l c r → Onward c r
-  reads-on l x = ⊎-elim (λ e. stops true e) (λ v. part-came l (v .n) (v .within) (v .is)) x
+  reads-on l x = ⊎-elim (λ e. stops true e) (λ y. ⊎-elim (λ e. stops false e) (λ v. part-came l (v .n) (v .some) (v .within) (v .is)) y) x
 
 pub started-checked : {c : Check} → c ≡ started → Checked c
 unfolding passedBytes
@@ -80,10 +70,10 @@ started-checked e = rw e (record { bytes = []; checking = refl; read = refl })
 -- ---- a part that is read
 
 pub read-none : (l : List ℕ) (c : Check) {r : Check} → r ≡ overOf c false → ReadOn l c r
-read-none l c e = inr (record { n = 0; within = omega arith; is = came-end l 0 c refl e })
+read-none l c e = inr (inl e)
 
 pub read-some : (l : List ℕ) (c : Check) {l₀ : List ℕ} {f : Filled} → Read l₀ 0 f l → {n : ℕ} → f ≡ filled.To n → length l₀ ≡ length l → {r : Check} → r ≡ cameOf l n c → ReadOn l c r
-read-some l c {l₀} k {n} g s e = let i : Reaches 0 (length l₀) (filled.To n) = rw g at (k .reaches) in let j = i .1 in inr (record { n = n; within = omega arith; is = e })
+read-some l c {l₀} k {n} g s e = let i : Reaches 0 (length l₀) (filled.To n) = rw g at (k .reaches) in let j = i .1 in inr (inr (record { n = n; some = i .0; within = omega arith; is = e }))
 
 -- what is left to read, in turns
 abbrev pub toRead : Check → ℕ

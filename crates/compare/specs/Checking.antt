@@ -1,11 +1,11 @@
 -- The check of a log of any length: what each part that is read comes to.
-use Prim.Native.Nat.{ℕ, _+_, _-_, _^_, _≤_}
+use Prim.Native.Nat.{ℕ, _+_, _-_, _^_, _≤_, _<_}
 use mathlib.Core.Path.{_≡_}
 use mathlib.Core.Logic.{_⊎_}
 use mathlib.Core.Bool.{Bool, true, false, not}
 use mathlib.Core.List.{List}
 use lib.ListN.{length, take}
-use lib.Dec.{eqb, ltb}
+use lib.Dec.{ltb}
 use Rattle.model.specs.Words.{pick}
 use Rattle.comparing.specs.declared.Checking.{Checking}
 use Rattle.comparing.specs.Coming.{beginning, passedBytes, told}
@@ -24,18 +24,20 @@ overOf c failed = record { checking = c .checking; read = c .read; more = false;
 abbrev pub passedOf : Checking → ℕ → Check
 passedOf d read = record { checking = d; read = read; more = not (d .wrong); failed = false }
 
--- n bytes came: none, and the log is over; more than places can say; or they are passed
+-- n bytes came: more than places can say; or they are passed
 unfoldable pub cameOf : List ℕ → ℕ → Check → Check
-cameOf l n c = pick (eqb n 0) (overOf c false) (pick (ltb (2 ^ 64 - 1 - c .read) n) (overOf c true) (passedOf (passedBytes (c .checking) (take n l)) (c .read + n)))
+cameOf l n c = pick (ltb (2 ^ 64 - 1 - c .read) n) (overOf c true) (passedOf (passedBytes (c .checking) (take n l)) (c .read + n))
 
--- reading failed; or n bytes came, which is the system's to say
+-- n bytes came, which is the system's to say
 pub record Came (l : List ℕ) (c r : Check) : Type 0 where
   pub n : ℕ
+  pub some : 0 < n
   pub within : n ≤ length l
   pub is : r ≡ cameOf l n c
 
+-- reading failed; or the log ends there; or more of it came
 abbrev pub ReadOn : List ℕ → Check → Check → Type 0
-ReadOn l c r = (r ≡ overOf c true) ⊎ Came l c r
+ReadOn l c r = (r ≡ overOf c true) ⊎ ((r ≡ overOf c false) ⊎ Came l c r)
 
 -- the check of the bytes that came, all of them
 pub record Checked (c : Check) : Type 0 where

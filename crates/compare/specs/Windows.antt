@@ -44,11 +44,9 @@ Grown n w met.Over = ⊥
 abbrev pub topped : ℕ → ℕ → Bool → Met → Topped
 topped base have ended m = record { window = window base 0 have ended; met = m }
 
--- the buffer's bytes now go to n, and went to `have` before: further than that, and no further than a place can say
+-- the buffer's bytes now go to n, and went to `have` before: no further than a place can say
 unfoldable pub cameTo : ℕ → ℕ → ℕ → Topped
-cameTo base have n =
-    pick (leb n have) (topped base have true met.Read) (
-    pick (ltb (2 ^ 64 - 1 - base) n) (topped base have false met.Stuck) (topped base n false met.Read))
+cameTo base have n = pick (ltb (2 ^ 64 - 1 - base) n) (topped base have false met.Stuck) (topped base n false met.Read)
 
 -- after reading on, from the window w of the buffer l to v of l₁: the bytes that waited stand in front, and any others behind them
 pub record Fed (l : List ℕ) (w : Window) (v : Window) (m : Met) (l₁ : List ℕ) : Type 0 where

@@ -1,8 +1,10 @@
 // The check of a log of any length, part by part.
 ghost use mathlib.Core.Path.{_≡_};
+ghost use mathlib.Core.Bool.{false};
 ghost use Rattle.compare.specs.Checking.{started, overOf, cameOf, ReadOn, Checked, verdictOf};
 use comparing::Checking;
 use comparing::Fault;
+use input::Ended;
 use input::Filled;
 
 // The check so far, the bytes read, whether to go on, whether reading failed, which standard error then says.
@@ -32,13 +34,17 @@ fn over(c: Check, failed: bool) -> Check
     }
 }
 
+// The log has ended, by the system's word for it.
+fn ended(_end: Ended, c: Check) -> Check
+    ensures { λ r. ⌜ r ≡ overOf c false ⌝ }
+{
+    over(c, false)
+}
+
 // The first n bytes of the buffer are the log's next part; a log with a wrong kind needs no more.
 fn came(buf: &[u8], n: usize, c: Check) -> Check
     ensures { λ r. ⌜ r ≡ cameOf (now (buf .entry)) n c ⌝ }
 {
-    if n == 0 {
-        return over(c, false);
-    }
     if usize::MAX - c.read < n {
         crate::says::stop(b"a log is too long: its places have no numbers\n");
         return over(c, true);
@@ -57,7 +63,7 @@ fn read_part(log: usize, fd: i32, buf: &mut [u8], c: Check) -> Check
 {
     match input::fill(fd, buf, 0) {
         Filled::To(n) => came(buf, n, c),
-        Filled::End => over(c, false),
+        Filled::End(end) => ended(end, c),
         Filled::Full => over(c, true),
         Filled::Failed => {
             crate::reading::say_failed(log);

@@ -1,8 +1,11 @@
 // A log through a buffer: the bytes that wait in it, and more behind them.
 ghost use mathlib.Core.Path.{_≡_};
+ghost use mathlib.Core.Bool.{true, false};
 ghost use lib.ListN.{length};
+ghost use Rattle.compare.specs.declared.reading.Met.the-variants as met;
 ghost use Rattle.compare.specs.Windows.{unread, waitingIn, movedBy, topped, cameTo, Sound, Fed};
 use crate::says;
+use input::Ended;
 use input::Filled;
 
 // The place in the log of the buffer's first byte, where the bytes that wait begin and end in the buffer, whether the log ends there.
@@ -75,32 +78,44 @@ pub fn say_failed(log: usize) {
     }
 }
 
-fn filled(base: usize, have: usize, ended: bool, met: Met) -> Topped
-    ensures { λ r. ⌜ r ≡ topped base have ended met ⌝ }
+fn filled(base: usize, have: usize, met: Met) -> Topped
+    ensures { λ r. ⌜ r ≡ topped base have false met ⌝ }
 {
     Topped {
         window: Window {
             base,
             at: 0,
             have,
-            ended,
+            ended: false,
         },
         met,
     }
 }
 
-// The buffer's bytes now go to n: more than before, and no further than a place can say.
+// At the log's end, by the system's word for it.
+fn at_end(_end: Ended, base: usize, have: usize) -> Topped
+    ensures { λ r. ⌜ r ≡ topped base have true met.Read ⌝ }
+{
+    Topped {
+        window: Window {
+            base,
+            at: 0,
+            have,
+            ended: true,
+        },
+        met: Met::Read,
+    }
+}
+
+// The buffer's bytes now go to n, no further than a place can say.
 fn came(base: usize, have: usize, n: usize) -> Topped
     ensures { λ r. ⌜ r ≡ cameTo base have n ⌝ }
 {
-    if n <= have {
-        return filled(base, have, true, Met::Read);
-    }
     if usize::MAX - base < n {
         says::stop(b"a log is too long: its places have no numbers\n");
-        return filled(base, have, false, Met::Stuck);
+        return filled(base, have, Met::Stuck);
     }
-    filled(base, n, false, Met::Read)
+    filled(base, n, Met::Read)
 }
 
 // The bytes that wait go to the front of the buffer, and more is read behind them.
@@ -112,11 +127,11 @@ pub fn top_up(log: usize, fd: i32, buf: &mut [u8], w: Window) -> Topped
     let have = input::carry(buf, w.at, w.have);
     match input::fill(fd, buf, have) {
         Filled::To(n) => came(base, have, n),
-        Filled::End => filled(base, have, true, Met::Read),
-        Filled::Full => filled(base, have, false, Met::Stuck),
+        Filled::End(end) => at_end(end, base, have),
+        Filled::Full => filled(base, have, Met::Stuck),
         Filled::Failed => {
             say_failed(log);
-            filled(base, have, false, Met::Stuck)
+            filled(base, have, Met::Stuck)
         }
     }
 }

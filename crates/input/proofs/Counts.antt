@@ -5,6 +5,7 @@ use mathlib.Core.List.{List}
 use Prim.Native.Nat.{ℕ, _<_, _≤_}
 use native.Mathlib.Omega.{arith}
 use lib.ListN.{length}
+use Rattle.input.specs.declared.Ended.{Ended}
 use Rattle.input.specs.declared.Filled.{Filled}
 use Rattle.input.specs.declared.Filled.the-variants as filled
 use Rattle.input.specs.declared.More.{More}
@@ -17,12 +18,15 @@ module _ {l l₁ : List ℕ} {have : ℕ} {f : Filled} (b : Read l have f l₁) 
 
   counted-grows : {n : ℕ} → f ≡ filled.To n → (left : ℕ) (r : More) → Counted have n left r → Grows have left (length l) r
   counted-grows q left (more.To m k) c = let h = rw q at (b .reaches) in (omega arith, omega arith, omega arith)
-  counted-grows q left more.End c = absurd c
+  counted-grows q left (more.End e) c = absurd c
   counted-grows q left more.Full c = absurd c
   counted-grows q left more.Failed c = tt
 
   pub counted-grown : {n : ℕ} → f ≡ filled.To n → (left : ℕ) {r : More} → Counted have n left r → Grown l have left r l₁
   counted-grown q left {r} c = record { grows = counted-grows q left r c; before = b .before }
+
+  pub ended-grown : {e : Ended} → f ≡ filled.End e → (left : ℕ) → Grown l have left (more.End e) l₁
+  ended-grown q left = record { grows = rw q at (b .reaches); before = b .before }
 
   pub full-grown : f ≡ filled.Full → (left : ℕ) → Grown l have left more.Full l₁
   full-grown q left = record { grows = rw q at (b .reaches); before = b .before }

@@ -11,10 +11,10 @@ use Rattle.input.specs.declared.Filled.the-variants as filled
 use Rattle.input.specs.declared.More.{More}
 use Rattle.input.specs.declared.More.the-variants as more
 
--- what is read is the system's to say: how far the bytes now go, within the buffer
+-- what is read is the system's to say: how far the bytes now go, within the buffer; or that they end, behind those that it has
 abbrev pub Reaches : ℕ → ℕ → Filled → Type 0
 Reaches have size (filled.To n) = (have < n) × (n ≤ size)
-Reaches have size filled.End = Unit
+Reaches have size (filled.End e) = e .behind ≡ have
 Reaches have size filled.Full = size ≤ have
 Reaches have size filled.Failed = Unit
 
@@ -26,14 +26,14 @@ pub record Read (l : List ℕ) (have : ℕ) (r : Filled) (l₁ : List ℕ) : Typ
 -- n bytes stand there where `have` did before: so many fewer may still come, or there were more than might
 abbrev pub Counted : ℕ → ℕ → ℕ → More → Type 0
 Counted have n left (more.To m k) = (m ≡ n) × (n + k ≡ have + left)
-Counted have n left more.End = ⊥
+Counted have n left (more.End e) = ⊥
 Counted have n left more.Full = ⊥
 Counted have n left more.Failed = Unit
 
--- the bytes now go further, and those that may still come are fewer by as many
+-- the bytes now go further, and those that may still come are fewer by as many; or they end there
 abbrev pub Grows : ℕ → ℕ → ℕ → More → Type 0
 Grows have left size (more.To n k) = (have < n) × (n ≤ size) × (n + k ≡ have + left)
-Grows have left size more.End = Unit
+Grows have left size (more.End e) = e .behind ≡ have
 Grows have left size more.Full = size ≤ have
 Grows have left size more.Failed = Unit
 

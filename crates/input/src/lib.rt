@@ -6,10 +6,16 @@ ghost use Rattle.input.specs.Buffers.{Read, Counted, Grown, movedDown, c
 use libc::STDERR_FILENO;
 use libc::STDIN_FILENO;
 
+// The system's word that an input has ended, behind so many bytes of a buffer. The field is private: only `fill` makes such a
+// value, of a read that gave nothing, so that no other crate can claim an end that it was not told.
+pub struct Ended {
+    behind: usize,
+}
+
 // How far the bytes of a buffer now go, or why there are no more.
 pub enum Filled {
     To(usize),
-    End,
+    End(Ended),
     Full,
     Failed,
 }
@@ -17,7 +23,7 @@ pub enum Filled {
 // The same with a count of the bytes that may still come.
 pub enum More {
     To { have: usize, left: u64 },
-    End,
+    End(Ended),
     Full,
     Failed,
 }
@@ -53,7 +59,7 @@ pub fn fill(fd: i32, buf: &mut [u8], have: usize) -> Filled
     }
     let n = io::count(got, &buf[have..]);
     if n == 0 {
-        return Filled::End;
+        return Filled::End(Ended { behind: have });
     }
     Filled::To(have + n)
 }
@@ -84,7 +90,7 @@ pub fn read_more(fd: i32, buf: &mut [u8], have: usize, left: u64) -> More
 {
     match fill(fd, buf, have) {
         Filled::To(n) => counted(have, n, left),
-        Filled::End => More::End,
+        Filled::End(end) => More::End(end),
         Filled::Full => More::Full,
         Filled::Failed => {
             os::fail(b"read");

@@ -3,6 +3,7 @@
 // says where and why it stops.
 mod damage;
 
+use input::Ended;
 use input::More;
 use libc::STDOUT_FILENO;
 use listing::Look;
@@ -186,8 +187,8 @@ fn stopped(w: Work, put: usize) -> Work
     }
 }
 
-// At the end of the input: what still waits is cut short.
-fn show_rest(buf: &[u8], out: &mut [u8], w: Work) -> Work
+// At the end of the input, by the system's word for it: what still waits is cut short.
+fn show_rest(_end: Ended, buf: &[u8], out: &mut [u8], w: Work) -> Work
     ensures { λ r. ⌜ r .more ≡ false ⌝ }
 {
     let have = w.have;
@@ -213,7 +214,7 @@ fn read_once(fd: i32, buf: &mut [u8], out: &mut [u8], w: Work) -> Work
 {
     match input::read_more(fd, buf, w.have, w.left) {
         More::To { have, left } => show_buffer(buf, have, left, out, w),
-        More::End => show_rest(buf, out, w),
+        More::End(end) => show_rest(end, buf, out, w),
         More::Full => stopped(w, w.put),
         More::Failed => stopped(w, w.put),
     }

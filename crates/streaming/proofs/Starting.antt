@@ -11,15 +11,24 @@ use Rattle.model.specs.declared.Stop.{Stop}
 use Rattle.running.specs.declared.Begun.{Begun}
 use Rattle.running.specs.declared.Begun.the-variants.{Accepted, Stopped}
 use Rattle.running.specs.Begin.{Begins}
-use Rattle.running.specs.Lengths.{lengthsFor, Long}
+use Rattle.running.specs.Lengths.{Final, lengthsFor, Long}
 use Rattle.running.proofs.First.{begun-held, begun-stands}
 use Rattle.running.proofs.Asked.{asked-stops}
 use Rattle.input.specs.Buffers.{carried, carriedCount}
+use Rattle.streaming.specs.declared.work.Next.{Next}
+use Rattle.streaming.specs.declared.work.Next.the-variants as next
 use Rattle.streaming.specs.declared.work.Work.{Work}
 use Rattle.streaming.specs.declared.parts.Started.the-variants.{Runs, Stops}
-use Rattle.streaming.specs.Works.{stoppedOf, begunOf}
+use Rattle.streaming.specs.Works.{overNext, stoppedOf, begunOf, Sure}
 use Rattle.streaming.specs.Parts.{Starts}
 use Rattle.streaming.proofs.Leaving.{carried-rest, carried-is}
+
+over-sure : (m : Next) (n : Stop) → Final n → Sure (overNext m) n
+over-sure next.Read n h = tt
+over-sure next.Run n h = h
+over-sure next.Stopped n h = h
+over-sure (next.Ended e) n h = h
+over-sure next.Failed n h = tt
 
 module _ {L : Lent} {p : List ℕ} {r : Begun} {M : Lent} (begins : Begins L p r M) (buf : List ℕ) (w : Work) (p-is : p ≡ take (w .have) buf) where
   abbrev s : List ℕ
@@ -34,7 +43,7 @@ module _ {L : Lent} {p : List ℕ} {r : Begun} {M : Lent} (begins : Begins L p r
       record {
         says = ap Stopped e ∙ sym q ∙ b .says;
         tables = b .tables;
-        after = λ k. (rw is, rw is (asked-stops L s n long (sym (b .says) ∙ q)));
+        after = λ k. (rw is, rw is (over-sure (w .next) n (asked-stops L s n long (sym (b .says) ∙ q))));
       }
 
   module _ {S : Settings} (q : r ≡ Accepted S) (inside : w .have ≤ length buf) (roomy : 64 ≤ length buf) (counted : w .have + w .left < 2 ^ 64) where

@@ -20,6 +20,7 @@ use Rattle.model.specs.declared.Stop.the-variants as stop
 use Rattle.running.proofs.Asked.{final, run-fits}
 use Rattle.running.proofs.Parts.{run-resumed}
 use Rattle.input.specs.Buffers.{Grown}
+use Rattle.input.specs.declared.Ended.{Ended}
 use Rattle.input.specs.declared.More.{More}
 use Rattle.input.specs.declared.More.the-variants as more
 use Rattle.streaming.specs.declared.work.Next.{Next}
@@ -27,8 +28,8 @@ use Rattle.streaming.specs.declared.work.Next.the-variants as next
 use Rattle.streaming.specs.declared.work.Work.{Work}
 use Rattle.streaming.specs.declared.scope.Scope.{Scope}
 use Rattle.streaming.specs.Scopes.{partEnd}
-use Rattle.streaming.specs.Works.{nextOf, readsNext, goesNext, readOf, stoppedOf, failedOf, Sure, Few, turnsOf}
-use Rattle.streaming.specs.Halts.{Before}
+use Rattle.streaming.specs.Works.{nextOf, readsNext, goesNext, readOf, endedOf, failedOf, Sure, Few, turnsOf}
+use Rattle.streaming.specs.Halts.{Claims, Before}
 use Rattle.streaming.specs.Parts.{Ready, Leaves, Ran, Goes, Went, Came, Turned}
 use Rattle.streaming.proofs.Stops.{full-eats}
 use Rattle.streaming.proofs.Waiting.{part, ran, part-behind, part-eats, before-part, few-before}
@@ -45,6 +46,17 @@ next-sure stop.NotSound h = final refl
 next-sure stop.OutOfPlace h = final refl
 next-sure stop.UnknownKind h = final refl
 
+-- what stops a run comes whatever follows
+next-claims : (s : Stop) (have : ℕ) → Claims (nextOf s) s have
+next-claims stop.Nothing have = tt
+next-claims stop.CutShort have = tt
+next-claims stop.NoRoom have = tt
+next-claims stop.SettingOutOfRange have = refl
+next-claims stop.SliceLength have = refl
+next-claims stop.NotSound have = refl
+next-claims stop.OutOfPlace have = refl
+next-claims stop.UnknownKind have = refl
+
 -- a turn that ran what waited
 fewer-ran : (s : Stop) (have now left c : ℕ) → now + c ≡ have → (s ≡ stop.NoRoom → 0 < c) → turnsOf (nextOf s) now left < turnsOf next.Run have left
 fewer-ran stop.Nothing have now left c e g = omega arith
@@ -60,12 +72,14 @@ pub runs-next : (n : Next) → readsNext n ≡ false → goesNext n ≡ true →
 runs-next next.Read a b = clash refl a
 runs-next next.Run a b = refl
 runs-next next.Stopped a b = clash b refl
+runs-next (next.Ended e) a b = clash b refl
 runs-next next.Failed a b = clash b refl
 
 pub reads-next : (n : Next) → readsNext n ≡ true → n ≡ next.Read
 reads-next next.Read a = refl
 reads-next next.Run a = clash a refl
 reads-next next.Stopped a = clash a refl
+reads-next (next.Ended e) a = clash a refl
 reads-next next.Failed a = clash a refl
 
 -- ---- the run of a part, with anything behind it
@@ -193,6 +207,13 @@ module _ {S : Settings} {k : Scope} {p e : List ℕ} {L : Lent} {w r : Work} {bu
       (λ (z : r .next ≡ next.Failed). rw z tt)
       (l .next)
 
+  ran-claims : Claims (r .next) (r .stop) (r .have)
+  ran-claims =
+      ⊎-elim
+      (λ (z : r .next ≡ nextOf (ranOn .stop)). rw (z, l .stop) (next-claims (ranOn .stop) (r .have)))
+      (λ (z : r .next ≡ next.Failed). rw z tt)
+      (l .next)
+
   pub ran-ready : Ready S k M buf r
   ran-ready = record {
     held = record { tables = ranOn .tables; are = l .tables };
@@ -232,7 +253,7 @@ module _ {S : Settings} {k : Scope} {p e : List ℕ} {L : Lent} {w r : Work} {bu
   }
 
   pub ran-turned : w .next ≡ next.Run → Turned S k (length e) L p w r buf M
-  ran-turned q = record { ready = ran-ready; fewer = rw q ran-fewer; came = ran-came }
+  ran-turned q = record { ready = ran-ready; claims = ran-claims; fewer = rw q ran-fewer; came = ran-came }
 
 -- ---- reading
 
@@ -245,8 +266,8 @@ module _ {S : Settings} {k : Scope} {L : Lent} {buf b : List ℕ} {w : Work} (y 
   same-front : take (w .have) b ≡ take (w .have) buf
   same-front = grown .before
 
-  pub stopped-turned : (n : ℕ) {x : Work} → x ≡ stoppedOf w (w .stop) → Turned S k n L (take (w .have) buf) w x b L
-  stopped-turned n e = record {
+  pub ended-turned : (n : ℕ) {end : Ended} → g ≡ more.End end → {x : Work} → x ≡ endedOf w end → Turned S k n L (take (w .have) buf) w x b L
+  ended-turned n {end} q e = record {
     ready = rw e record {
       held = y .held;
       inside = let h = y .inside in omega arith;
@@ -257,6 +278,7 @@ module _ {S : Settings} {k : Scope} {L : Lent} {buf b : List ℕ} {w : Work} (y 
       few = tt;
       before = λ t i. rw same-front (rw reads at (y .before t i));
     };
+    claims = rw e (let h : end .behind ≡ w .have = rw q at (grown .grows) in h);
     fewer = rw (e, reads) (omega arith);
     came = rw (e, same-front) (none-came S n (take (w .have) buf) (y .small) refl refl refl);
   }
@@ -273,6 +295,7 @@ module _ {S : Settings} {k : Scope} {L : Lent} {buf b : List ℕ} {w : Work} (y 
       few = tt;
       before = λ t i. tt;
     };
+    claims = rw e tt;
     fewer = rw (e, reads) (omega arith);
     came = rw (e, same-front) (none-came S n (take (w .have) buf) (y .small) refl refl refl);
   }
@@ -336,6 +359,7 @@ module _ {S : Settings} {k : Scope} {L : Lent} {buf b : List ℕ} {w : Work} (y 
         let last = ran-came x (y .held) space (omega arith) long read-counted in
         record {
           ready = ran-ready x (y .held) space (omega arith) long read-counted;
+          claims = ran-claims x (y .held) space (omega arith) long read-counted;
           fewer = rw reads (omega arith);
           came = came-then S (length e) (read-came (length e)) (subst (λ (n : ℕ). Came S (length e) L (take n b) v r (take (r .have) bufx) M) hv last);
         }

@@ -1,19 +1,20 @@
 -- The first record and the turns behind it, as one run.
 use mathlib.Core.Path.{_≡_, refl, sym, ap, subst, _∙_}
-use mathlib.Core.Logic.{_⊎_, inl, inr, ⊎-elim}
+use mathlib.Core.Logic.{⊎-elim}
 use mathlib.Core.Bool.{true, false}
 use mathlib.Core.List.{List, [], _∷_, _++_, append-nil, append-assoc}
 use Prim.Native.Nat.{ℕ, _+_, _-_, _%_, _^_, _≤_}
 use native.Mathlib.Nat.{zero-add}
 use native.Mathlib.Omega.{arith}
-use borrow.Author.Tests.{le-leb, ltb-false}
-use lib.Dec.{ltb}
+use borrow.Author.Tests.{le-leb, leb-true, ltb-true, ltb-false}
+use lib.Dec.{ltb, eqb}
 use lib.ListN.{length, take, drop}
 use lib.Seq.{drop-append-le, take-append-seam}
 use Rattle.model.proofs.Flags.{clash, by-flag, flag}
 use Rattle.model.proofs.Soundness.{start-sound}
 use Rattle.model.specs.Tables.{Tables, start}
-use Rattle.model.specs.Lent.{Lent, encode}
+use Rattle.model.specs.Range.{inRange}
+use Rattle.model.specs.Lent.{Lent, encode, lengthsFit}
 use Rattle.model.specs.Inner.{Is}
 use Rattle.model.specs.Records.{isCommand, lengthOf}
 use Rattle.model.specs.Runner.{settingsOf, firstStop, goesOn, Result, halt, ahead, runFrom, lentResult, run}
@@ -22,6 +23,7 @@ use Rattle.model.specs.declared.Stop.{Stop}
 use Rattle.model.specs.declared.Stop.the-variants as stop
 use Rattle.running.specs.declared.Begun.{Begun}
 use Rattle.running.specs.declared.Begun.the-variants.{Accepted, Stopped}
+use Rattle.running.specs.Lengths.{Final}
 use Rattle.running.specs.Begin.{beginning, begunTables, firstThere}
 use Rattle.running.proofs.First.{settled, run-accepts}
 use Rattle.running.proofs.Running.{run-skips}
@@ -31,8 +33,9 @@ use Rattle.streaming.specs.declared.work.Next.the-variants as next
 use Rattle.streaming.specs.declared.work.Work.{Work}
 use Rattle.streaming.specs.declared.scope.Scope.the-variants as scope
 use Rattle.streaming.specs.declared.parts.Started.the-variants.{Runs, Stops}
-use Rattle.streaming.specs.Works.{goesNext, begunOf}
-use Rattle.streaming.specs.Halts.{ofEnd, Behind, Before}
+use Rattle.streaming.specs.Works.{Sure, overNext, goesNext, stoppedNext, begunOf}
+use Rattle.streaming.specs.Halts.{ofEnd, Claims, Behind, Halts, Before}
+use Rattle.streaming.specs.First.{Asked, Opened}
 use Rattle.streaming.specs.Parts.{Came, Went, Rested, Starts}
 use Rattle.streaming.specs.Wholes.{Whole}
 
@@ -51,7 +54,34 @@ there-goes L k bs g =
     (λ (z : isCommand k ≡ false). rw z)
     (flag (isCommand k))
 
+-- one that is there and stops the run is not the end
+abbrev Early : Stop → Type 0
+Early n = goesOn n ≡ false → ofEnd n ≡ false
+
+there-early : (L : Lent) (k : ℕ) (bs : List ℕ) → firstThere (k ∷ bs) ≡ true → Early (firstStop L k bs)
+unfolding firstThere firstStop
+there-early L k bs h =
+    by-flag Early (isCommand k) _ _
+    (λ a.
+    by-flag Early (ltb (length bs) (lengthOf k)) _ _
+    (λ b. let w = ltb-true (length bs) (lengthOf k) b in let v = leb-true (lengthOf k) (length bs) (rw a at h) in absurd (omega arith))
+    (λ b.
+    by-flag Early (eqb k 0) _ _
+    (λ c. by-flag Early (inRange (settingsOf bs)) _ _ (λ d. by-flag Early (lengthsFit (settingsOf bs) L) _ _ (λ e z. clash refl z) (λ e z. refl)) (λ d z. refl))
+    (λ c z. refl)))
+    (λ a z. refl)
+
 module _ (L : Lent) where
+  -- so its stop is no stop of the end
+  there-stopped : (s : List ℕ) (n : Stop) → beginning L s ≡ Stopped n → firstThere s ≡ true → ofEnd n ≡ false
+  unfolding beginning firstThere
+  there-stopped [] n q h = clash h refl
+  there-stopped (k ∷ bs) n q h =
+      by-flag (λ (x : Begun). x ≡ Stopped n → ofEnd n ≡ false) (goesOn (firstStop L k bs)) _ _
+      (λ z g. let e : _≡_ {A = ℕ} 0 1 = cc in absurd (omega arith))
+      (λ z g. let e : firstStop L k bs ≡ n = cc in rw (← e) (there-early L k bs h z))
+      q
+
   stopped-there : (s : List ℕ) (n : Stop) → beginning L s ≡ Stopped n → (n ≡ stop.Nothing → ⊥) → (n ≡ stop.CutShort → ⊥) → firstThere s ≡ true
   unfolding beginning
   stopped-there [] n q f g = let e : stop.Nothing ≡ n = cc in absurd (f (sym e))
@@ -114,33 +144,63 @@ module _ (L : Lent) where
 
 -- ---- stopped at the first record
 
-module _ {L M : Lent} {p buf : List ℕ} {w x : Work} (s : Starts L p w (Stops x) M buf) (written : w .written ≡ 0) (consumed : w .consumed ≡ 0) where
-  pub stops-whole : Whole L p w x M
+stopped-final : (m : Next) (n : Stop) → stoppedNext m ≡ true → Sure m n → Final n
+stopped-final next.Read n z h = clash z refl
+stopped-final next.Run n z h = clash z refl
+stopped-final next.Stopped n z h = h
+stopped-final (next.Ended e) n z h = h
+stopped-final next.Failed n z h = clash z refl
+
+stopped-waits : (S : Settings) (m : Next) (n : Stop) (p : List ℕ) (t : Tables) → stoppedNext m ≡ true → Before S scope.All m n p t → Halts S n p t
+stopped-waits S next.Read n p t z h = clash z refl
+stopped-waits S next.Run n p t z h = clash z refl
+stopped-waits S next.Stopped n p t z h = h
+stopped-waits S (next.Ended e) n p t z h = h
+stopped-waits S next.Failed n p t z h = clash z refl
+
+-- what it claims of the input: what was asked of it
+pub over-rests : (m : Next) → goesNext (overNext m) ≡ false
+over-rests next.Read = refl
+over-rests next.Run = refl
+over-rests next.Stopped = refl
+over-rests (next.Ended e) = refl
+over-rests next.Failed = refl
+
+over-claims : (m : Next) (n : Stop) (have : ℕ) (buf : List ℕ) → Asked m have buf → (firstThere (take have buf) ≡ true → ofEnd n ≡ false) → Claims (overNext m) n have
+over-claims next.Read n have buf a f = tt
+over-claims next.Run n have buf a f = f a
+over-claims next.Stopped n have buf a f = absurd a
+over-claims (next.Ended e) n have buf a f = a
+over-claims next.Failed n have buf a f = tt
+
+pub first-claims : (L : Lent) (b : List ℕ) {w : Work} → Opened b w → (n : Stop) → beginning L (take (w .have) b) ≡ Stopped n → Claims (overNext (w .next)) n (w .have)
+first-claims L b {w} o n q = over-claims (w .next) n (w .have) b (o .asked) (there-stopped L (take (w .have) b) n q)
+
+module _ {L M : Lent} {b buf : List ℕ} {w x : Work} (o : Opened b w) (s : Starts L (take (w .have) b) w (Stops x) M buf) where
+  pub stops-whole : Whole L (take (w .have) b) w x M
   stops-whole =
+      let p = take (w .have) b in
       let a = s .after scope.All in
       let e = a .0 in
       let q : beginning L p ≡ Stopped (x .stop) = sym (s .says) in
       let m : M ≡ L = s .tables ∙ ap (begunTables L) q in
-      let c : x .consumed ≡ 0 = ap (λ (y : Work). y .consumed) e ∙ consumed in
-      let n : x .next ≡ next.Stopped = ap (λ (y : Work). y .next) e in
+      let c : x .consumed ≡ 0 = ap (λ (y : Work). y .consumed) e ∙ ap (λ (y : Work). y .consumed) (o .new) in
+      let n : x .next ≡ overNext (w .next) = ap (λ (y : Work). y .next) e in
       record {
         bytes = [];
         events = [];
         counted = let l : x .left ≡ w .left = ap (λ (y : Work). y .left) e in omega arith;
-        written = ap (λ (y : Work). y .written) e ∙ written;
-        over = inl n;
-        final = λ z. rw n at (a .1);
-        is = λ z b room h g. rw (append-nil, c, m) (stopped-run L (p ++ b) (x .stop) room (stopped-more L p b (x .stop) q h));
-        front = λ b room g. refl;
+        written = ap (λ (y : Work). y .written) e ∙ ap (λ (y : Work). y .written) (o .new);
+        over = rw n (over-rests (w .next));
+        claims =
+            let h : x .have ≡ w .have = ap (λ (y : Work). y .have) e in
+            rw (n, h) (first-claims L b o (x .stop) q);
+        final = λ z. stopped-final (x .next) (x .stop) z (a .1);
+        is = λ z d room h g. rw (append-nil, c, m) (stopped-run L (p ++ d) (x .stop) room (stopped-more L p d (x .stop) q h));
+        front = λ d room g. refl;
       }
 
 -- ---- the turns behind it
-
-over-next : (n : Next) → goesNext n ≡ false → (n ≡ next.Stopped) ⊎ (n ≡ next.Failed)
-over-next next.Read e = clash refl e
-over-next next.Run e = clash refl e
-over-next next.Stopped e = inl refl
-over-next next.Failed e = inr refl
 
 put-together : (S : Settings) (n : Stop) (eaten consumed : ℕ) (events : List ℕ) (u : Tables) (N : Lent) → 8 + (eaten + 0) ≡ consumed → N ≡ encode S u
     → ahead 8 [] (lentResult S (ahead eaten events (halt n u))) ≡ record { stop = n; consumed = consumed; events = events; tables = N }
@@ -182,11 +242,12 @@ module _ {L M N : Lent} {p buf c : List ℕ} {w v r : Work} {S : Settings} (s : 
     events = went .events;
     counted = came .counted ∙ ap (λ (y : Work). y .left) begun;
     written = went .written ∙ ap (λ (n : ℕ). (n + length (went .events)) % 2 ^ 64) (ap (λ (y : Work). y .written) begun) ∙ rw zero-add;
-    over = over-next (r .next) (rested .over);
-    final = λ z. rw z at (rested .ready .sure);
+    over = rested .over;
+    claims = rested .claims;
+    final = λ z. stopped-final (r .next) (r .stop) z (rested .ready .sure);
     is = λ z b room h g.
         let u = went .tables in
-        let halts = subst (λ (n : Next). Before S scope.All n (r .stop) (take (r .have) c) u) z (rested .ready .before u (went .are)) in
+        let halts = stopped-waits S (r .next) (r .stop) (take (r .have) c) u z (rested .ready .before u (went .are)) in
         let e : runFrom S 0 (room - length (went .events)) (take (r .have) c ++ b) u ≡ halt (r .stop) u = halts b (room - length (went .events)) h (omega arith) in
         let k : 8 + (went .eaten + 0) ≡ r .consumed = let a = went .consumed in let d = ap (λ (y : Work). y .consumed) begun in omega arith in
         runs b room g

@@ -26,6 +26,15 @@ ofEnd stop.OutOfPlace = false
 ofEnd stop.UnknownKind = false
 ofEnd stop.NoRoom = false
 
+-- what is claimed of the input where a run stands, before so many bytes that wait: one that has stopped does not rest on the end; that the
+-- input ends behind those bytes is the system's word
+abbrev pub Claims : Next → Stop → ℕ → Type 0
+Claims next.Read n have = Unit
+Claims next.Run n have = Unit
+Claims next.Stopped n have = ofEnd n ≡ false
+Claims (next.Ended e) n have = e .behind ≡ have
+Claims next.Failed n have = Unit
+
 -- what may come behind bytes at which a run stops so: nothing at the end; the other stops come whatever follows
 abbrev pub Behind : Stop → List ℕ → Type 0
 Behind n b = ofEnd n ≡ true → b ≡ []
@@ -59,4 +68,5 @@ abbrev pub Before : Settings → Scope → Next → Stop → List ℕ → Tables
 Before S k next.Read n p t = Waits S k n p t
 Before S k next.Run n p t = Unit
 Before S k next.Stopped n p t = Waits S k n p t
+Before S k (next.Ended e) n p t = Waits S k n p t
 Before S k next.Failed n p t = Unit

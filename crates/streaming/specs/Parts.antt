@@ -20,7 +20,7 @@ use Rattle.streaming.specs.declared.parts.Started.{Started}
 use Rattle.streaming.specs.declared.parts.Started.the-variants.{Runs, Stops}
 use Rattle.streaming.specs.Works.{Sure, Few, nextOf, goesNext, stoppedOf, begunOf, turnsOf}
 use Rattle.streaming.specs.Scopes.{partEnd}
-use Rattle.streaming.specs.Halts.{Before}
+use Rattle.streaming.specs.Halts.{Claims, Before}
 
 -- before a turn: the slices hold sound tables, the bytes that wait are in the buffer and counted, the last stop may be told and says what it
 -- says of them
@@ -80,13 +80,15 @@ pub record Came (S : Settings) (size : ℕ) (L : Lent) (p : List ℕ) (w r : Wor
 -- one turn: the next can come, and fewer are left
 pub record Turned (S : Settings) (k : Scope) (size : ℕ) (L : Lent) (p : List ℕ) (w r : Work) (buf : List ℕ) (M : Lent) : Type 0 where
   pub ready : Ready S k M buf r
+  pub claims : Claims (r .next) (r .stop) (r .have)
   pub fewer : turnsOf (r .next) (r .have) (r .left) < turnsOf (w .next) (w .have) (w .left)
   pub came : Came S size L p w r (take (r .have) buf) M
 
--- all turns: the run has stopped, or reading or writing failed
+-- all turns: the run has stopped, or the system said that the input has ended, or reading or writing failed
 pub record Rested (S : Settings) (k : Scope) (size : ℕ) (L : Lent) (p : List ℕ) (w r : Work) (buf : List ℕ) (M : Lent) : Type 0 where
   pub ready : Ready S k M buf r
   pub over : goesNext (r .next) ≡ false
+  pub claims : Claims (r .next) (r .stop) (r .have)
   pub came : Came S size L p w r (take (r .have) buf) M
 
 -- ---- the first record

@@ -4,6 +4,7 @@ use mathlib.Core.Bool.{Bool, true, false}
 use Rattle.model.specs.declared.Stop.{Stop}
 use Rattle.model.specs.declared.Stop.the-variants as stop
 use Rattle.running.specs.Lengths.{Final}
+use Rattle.input.specs.declared.Ended.{Ended}
 use Rattle.streaming.specs.declared.work.Next.{Next}
 use Rattle.streaming.specs.declared.work.Next.the-variants as next
 use Rattle.streaming.specs.declared.work.Work.{Work}
@@ -19,28 +20,41 @@ nextOf stop.NotSound = next.Stopped
 nextOf stop.OutOfPlace = next.Stopped
 nextOf stop.UnknownKind = next.Stopped
 
+-- what ends a run whose first record stops it: that record, once it is there; the end that was told; else nothing is known
+abbrev pub overNext : Next → Next
+overNext next.Read = next.Failed
+overNext next.Run = next.Stopped
+overNext next.Stopped = next.Stopped
+overNext (next.Ended e) = next.Ended e
+overNext next.Failed = next.Failed
+
 abbrev pub readsNext : Next → Bool
 readsNext next.Read = true
 readsNext next.Run = false
 readsNext next.Stopped = false
+readsNext (next.Ended e) = false
 readsNext next.Failed = false
 
 abbrev pub goesNext : Next → Bool
 goesNext next.Read = true
 goesNext next.Run = true
 goesNext next.Stopped = false
+goesNext (next.Ended e) = false
 goesNext next.Failed = false
 
+-- its stop may be told
 abbrev pub stoppedNext : Next → Bool
 stoppedNext next.Read = false
 stoppedNext next.Run = false
 stoppedNext next.Stopped = true
+stoppedNext (next.Ended e) = true
 stoppedNext next.Failed = false
 
 abbrev pub failedNext : Next → Bool
 failedNext next.Read = false
 failedNext next.Run = false
 failedNext next.Stopped = false
+failedNext (next.Ended e) = false
 failedNext next.Failed = true
 
 abbrev pub startOf : ℕ → ℕ → Next → Work
@@ -53,7 +67,10 @@ abbrev pub readOf : Work → ℕ → ℕ → Work
 readOf w have left = record { have = have; left = left; consumed = w .consumed; written = w .written; stop = w .stop; next = next.Run }
 
 abbrev pub stoppedOf : Work → Stop → Work
-stoppedOf w s = record { have = w .have; left = w .left; consumed = w .consumed; written = w .written; stop = s; next = next.Stopped }
+stoppedOf w s = record { have = w .have; left = w .left; consumed = w .consumed; written = w .written; stop = s; next = overNext (w .next) }
+
+abbrev pub endedOf : Work → Ended → Work
+endedOf w e = record { have = w .have; left = w .left; consumed = w .consumed; written = w .written; stop = w .stop; next = next.Ended e }
 
 abbrev pub failedOf : Work → Work
 failedOf w = record { have = w .have; left = w .left; consumed = w .consumed; written = w .written; stop = w .stop; next = next.Failed }
@@ -73,6 +90,7 @@ abbrev pub Sure : Next → Stop → Type 0
 Sure next.Read s = Final s
 Sure next.Run s = Unit
 Sure next.Stopped s = Final s
+Sure (next.Ended e) s = Final s
 Sure next.Failed s = Unit
 
 -- what waits while more bytes are wanted is less than the smallest buffer
@@ -80,6 +98,7 @@ abbrev pub Few : Next → ℕ → Type 0
 Few next.Read have = have < 64
 Few next.Run have = Unit
 Few next.Stopped have = Unit
+Few (next.Ended e) have = Unit
 Few next.Failed have = Unit
 
 -- a bound on the turns that are left: each reads, or consumes what waits, or is the last; one that only runs comes before one that reads
@@ -87,4 +106,5 @@ abbrev pub turnsOf : Next → ℕ → ℕ → ℕ
 turnsOf next.Read have left = 3 * left + 2 * have + 1
 turnsOf next.Run have left = 3 * left + 2 * have + 2
 turnsOf next.Stopped have left = 0
+turnsOf (next.Ended e) have left = 0
 turnsOf next.Failed have left = 0

@@ -8,10 +8,12 @@ ghost use mathlib.Core.Path.{_≡_};
 ghost use mathlib.Core.Bool.{false};
 ghost use Rattle.input.specs.Buffers.{turnsLeft};
 ghost use Rattle.streaming.specs.Works.{readsNext};
-ghost use Rattle.streaming.specs.First.{Opened};
+ghost use Rattle.streaming.specs.First.{Opened, afterReading};
 
 // Once the first record is there, nothing behind it changes what it comes to.
-fn next_after(s: &[u8]) -> Next {
+fn next_after(s: &[u8]) -> Next
+    ensures { λ r. ⌜ r ≡ afterReading (now (s .entry)) ⌝ }
+{
     if running::first_there(s) {
         Next::Run
     } else {
@@ -19,6 +21,7 @@ fn next_after(s: &[u8]) -> Next {
     }
 }
 
+// Reads once. A buffer without room for a first record is a failure.
 fn read_once(fd: i32, buf: &mut [u8], w: Work) -> Work
     requires { ⌜ Opened (now buf) w ⌝ }
     ensures { λ r. ⌜ Opened (now (buf .exit)) r ⌝ }
@@ -28,12 +31,13 @@ fn read_once(fd: i32, buf: &mut [u8], w: Work) -> Work
         More::To { have, left } => {
             work::at_start(have, left, next_after(text::front(buf, have)))
         }
-        More::End => work::at_start(w.have, w.left, Next::Run),
-        More::Full => work::at_start(w.have, w.left, Next::Run),
+        More::End(end) => work::at_start(w.have, w.left, Next::Ended(end)),
+        More::Full => work::at_start(w.have, w.left, Next::Failed),
         More::Failed => work::at_start(w.have, w.left, Next::Failed),
     }
 }
 
+// To the first record, or to the end of the input as the system told it, or to where reading failed.
 pub fn read_first(fd: i32, buf: &mut [u8]) -> Work
     ensures { λ r. ⌜ Opened (now (buf .exit)) r ⌝ }
     ensures { λ r. ⌜ readsNext (r .next) ≡ false ⌝ }

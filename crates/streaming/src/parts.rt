@@ -16,6 +16,7 @@ ghost use Rattle.model.specs.Inner.{Held};
 ghost use Rattle.running.specs.Lengths.{lengthsFor, Long};
 ghost use Rattle.streaming.specs.declared.work.Next.the-variants as next;
 ghost use Rattle.streaming.specs.Works.{readsNext, goesNext};
+ghost use Rattle.streaming.specs.Halts.{Claims};
 ghost use Rattle.streaming.specs.Parts.{Ready, Ran, Turned, Rested, Starts};
 
 // A settings record: its kind and a body of seven bytes.
@@ -83,7 +84,7 @@ fn run_part(
     if handed.done { v } else { work::failed(v) }
 }
 
-// Reads once and runs what is there; at the end of the input the last stop stands. The buffer is never full here.
+// Reads once and runs what is there, or tells the end of the input. The buffer is never full here.
 fn read_part(
     fd: i32,
     s: Settings,
@@ -101,13 +102,12 @@ fn read_part(
     ensures { λ r. ⌜ Turned s scope (length (now (events .entry))) (lent (now (longs .entry)) (now (words .entry)) (now (marks .entry))) (take (w .have) (now (buf .entry)))
         w r (now (buf .exit)) (lent (now (longs .exit)) (now (words .exit)) (now (marks .exit))) ⌝ }
 {
-    let stop = w.stop;
     match input::read_more(fd, buf, w.have, w.left) {
         More::To { have, left } => {
             let v = work::read(w, have, left);
             run_part(s, buf, events, longs, words, marks, v, scope)
         }
-        More::End => work::stopped(w, stop),
+        More::End(end) => work::ended(w, end),
         More::Full => work::failed(w),
         More::Failed => work::failed(w),
     }
@@ -138,7 +138,7 @@ fn turn(
     }
 }
 
-// Turn by turn to the end: the run has stopped, its input at its end included, or reading or writing failed.
+// Turn by turn to the end: the run has stopped, or the system said that the input has ended, or reading or writing failed.
 pub fn run_rest(
     fd: i32,
     s: Settings,
@@ -150,6 +150,7 @@ pub fn run_rest(
     scope: Scope,
 ) -> Work
     requires { ⌜ Ready s scope (lent (now longs) (now words) (now marks)) (now buf) start ⌝ }
+    requires { ⌜ Claims (start .next) (start .stop) (start .have) ⌝ }
     ensures { λ r. ⌜ Rested s scope 65536 (lent (now (longs .entry)) (now (words .entry)) (now (marks .entry))) (take (start .have) (now (buf .entry)))
         start r (now (buf .exit)) (lent (now (longs .exit)) (now (words .exit)) (now (marks .exit))) ⌝ }
 {

@@ -1,15 +1,17 @@
 // Where a run stands between two parts of its stream.
+use input::Ended;
 use model::Stop;
 ghost use mathlib.Core.Path.{_≡_};
 ghost use Prim.Native.Nat.{_+_, _^_, _<_};
-ghost use Rattle.streaming.specs.Works.{nextOf, readsNext, goesNext, stoppedNext, failedNext, startOf, begunOf, readOf, stoppedOf, failedOf, behindOf};
+ghost use Rattle.streaming.specs.Works.{nextOf, overNext, readsNext, goesNext, stoppedNext, failedNext, startOf, begunOf, readOf, stoppedOf, endedOf, failedOf, behindOf};
 
-// What to do next: read more bytes; run those that wait; nothing, since the stream has stopped; nothing, since reading or
-// writing failed, which standard error says.
+// What to do next: read more bytes; run those that wait; nothing, since the stream has stopped, whatever may follow; nothing,
+// since the input has ended, which the system said; nothing, since reading or writing failed, which standard error says.
 pub enum Next {
     Read,
     Run,
     Stopped,
+    Ended(Ended),
     Failed,
 }
 
@@ -67,16 +69,48 @@ pub fn read(w: Work, have: usize, left: u64) -> Work
     }
 }
 
+// What ends a run whose first record stops it: that stop, once the record is there; the end, where that was told. Of bytes
+// that were read to neither nothing is known.
+fn over(next: Next) -> Next
+    ensures { λ r. ⌜ r ≡ overNext next ⌝ }
+{
+    match next {
+        Next::Read => Next::Failed,
+        Next::Run => Next::Stopped,
+        Next::Stopped => Next::Stopped,
+        Next::Ended(end) => Next::Ended(end),
+        Next::Failed => Next::Failed,
+    }
+}
+
+// Stopped by the first record.
 pub fn stopped(w: Work, stop: Stop) -> Work
     ensures { λ r. ⌜ r ≡ stoppedOf w stop ⌝ }
 {
+    let before = w.next;
+    let next = over(before);
     Work {
         have: w.have,
         left: w.left,
         consumed: w.consumed,
         written: w.written,
         stop,
-        next: Next::Stopped,
+        next,
+    }
+}
+
+// At the end of the input the last stop stands.
+pub fn ended(w: Work, end: Ended) -> Work
+    ensures { λ r. ⌜ r ≡ endedOf w end ⌝ }
+{
+    let stop = w.stop;
+    Work {
+        have: w.have,
+        left: w.left,
+        consumed: w.consumed,
+        written: w.written,
+        stop,
+        next: Next::Ended(end),
     }
 }
 
@@ -136,6 +170,7 @@ pub fn reads(w: Work) -> bool
         Next::Read => true,
         Next::Run => false,
         Next::Stopped => false,
+        Next::Ended(_) => false,
         Next::Failed => false,
     }
 }
@@ -149,10 +184,12 @@ pub fn goes_on(w: Work) -> bool
         Next::Read => true,
         Next::Run => true,
         Next::Stopped => false,
+        Next::Ended(_) => false,
         Next::Failed => false,
     }
 }
 
+// Stopped, or at the end of its input: its stop may be told.
 pub fn has_stopped(w: Work) -> bool
     ensures { λ r. ⌜ r ≡ stoppedNext (w .next) ⌝ }
 {
@@ -161,6 +198,7 @@ pub fn has_stopped(w: Work) -> bool
         Next::Read => false,
         Next::Run => false,
         Next::Stopped => true,
+        Next::Ended(_) => true,
         Next::Failed => false,
     }
 }
@@ -173,6 +211,7 @@ pub fn has_failed(w: Work) -> bool
         Next::Read => false,
         Next::Run => false,
         Next::Stopped => false,
+        Next::Ended(_) => false,
         Next::Failed => true,
     }
 }

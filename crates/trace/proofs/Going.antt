@@ -1,5 +1,5 @@
 -- A read takes bytes off those that may come or is the last; a record that is run is gone past, or it is the last.
-use mathlib.Core.Path.{_≡_, ap, _∙_}
+use mathlib.Core.Path.{_≡_, refl, ap, _∙_}
 use mathlib.Core.Bool.{Bool, true, false, _&&_}
 use mathlib.Core.List.{List}
 use Prim.Native.Nat.{ℕ, _-_, _≤_, _<_, min}
@@ -14,26 +14,69 @@ use Rattle.model.specs.Inner.{Held}
 use Rattle.model.specs.Runner.{Result}
 use Rattle.model.specs.declared.Settings.{Settings}
 use Rattle.model.specs.declared.Ran.{Ran}
+use Rattle.model.specs.declared.Stop.{Stop}
+use Rattle.model.specs.declared.Stop.the-variants as stop
+use Rattle.running.specs.Begin.{beginning}
+use Rattle.running.specs.declared.Begun.the-variants.{Stopped}
 use Rattle.running.specs.Resume.{Stands, Resumes}
 use Rattle.input.specs.Buffers.{Grown, turnsLeft, carriedCount}
+use Rattle.input.specs.declared.Ended.{Ended}
 use Rattle.input.specs.declared.More.{More}
 use Rattle.input.specs.declared.More.the-variants as more
 use Rattle.input.proofs.Counts.{grown-inside, turns-fall, turns-none}
+use Rattle.streaming.specs.declared.work.Next.the-variants as next
+use Rattle.streaming.specs.declared.work.Work as begun
+use Rattle.streaming.specs.Works.{goesNext}
+use Rattle.streaming.specs.Halts.{Claims}
+use Rattle.streaming.specs.First.{Opened}
+use Rattle.streaming.proofs.Wholes.{over-rests, first-claims}
 use Rattle.trace.specs.declared.turns.Turn.{Turn}
 use Rattle.trace.specs.declared.work.Work.{Work}
-use Rattle.trace.specs.Turns.{Traced, Reads}
+use Rattle.trace.specs.Turns.{Traced, afterRecords, endedBy, Standing, Reads, First, Over}
 
 -- ---- reading
 
 pub read-grown : {l l₁ : List ℕ} {have left : ℕ} {r : More} → Grown l have left r l₁ → length l₁ ≡ length l → {n k : ℕ} → r ≡ more.To n k
-    → {v : Work} → (v .have ≡ n) × (v .left ≡ k) → Reads (length l₁) left v
-read-grown g size q {v} e = record { inside = omega (arith, grown-inside g q); fewer = rw (e .1) (turns-fall g q (v .more)) }
+    → {v : Work} → Standing n k v → Reads (length l₁) left v
+read-grown g size q {v} e =
+    record { inside = omega (arith, grown-inside g q, e .waits); fewer = rw (e .comes) (turns-fall g q (goesNext (v .next))); claims = e .claims }
 
-pub read-ended : {size m have left : ℕ} → size ≡ m → have ≤ m → {v : Work} → (v .have ≡ have) × (v .more ≡ false) → Reads size left v
-read-ended s h {v} e = record { inside = omega arith; fewer = turns-none (v .more) _ _ (e .1) }
+module _ {l l₁ : List ℕ} (w : Work) {r : More} (g : Grown l (w .have) (w .left) r l₁) (size : length l₁ ≡ length l) (inside : w .have ≤ length l) {v : Work} where
+  pub read-ended : {end : Ended} → r ≡ more.End end → v ≡ endedBy w (next.Ended end) → Reads (length l₁) (w .left) v
+  read-ended {end} q e = rw e record { inside = omega arith; fewer = omega arith; claims = let h : end .behind ≡ w .have = rw q at (g .grows) in h }
+
+  pub read-failed : v ≡ endedBy w next.Failed → Reads (length l₁) (w .left) v
+  read-failed e = rw e record { inside = omega arith; fewer = omega arith; claims = tt }
+
+-- ---- a turn
+
+pub records-claims : (n : Stop) (have : ℕ) → Claims (afterRecords n) n have
+records-claims stop.Nothing have = tt
+records-claims stop.CutShort have = tt
+records-claims stop.NoRoom have = refl
+records-claims stop.SettingOutOfRange have = refl
+records-claims stop.SliceLength have = refl
+records-claims stop.NotSound have = refl
+records-claims stop.OutOfPlace have = refl
+records-claims stop.UnknownKind have = refl
+
+pub failed-stands : {have left : ℕ} {v : Work} → v .have ≡ have → v .left ≡ left → v .next ≡ next.Failed → Standing have left v
+failed-stands h l e = record { waits = h; comes = l; claims = rw e tt }
+
+pub turn-over : {size have left : ℕ} {v : Work} → Standing have left v → v .have ≤ size → goesNext (v .next) ≡ false → Reads size left v
+turn-over {v = v} s h e = record { inside = h; fewer = turns-none (goesNext (v .next)) _ _ e; claims = s .claims }
 
 pub reads-by : {size a b : ℕ} {v : Work} → a ≡ b → Reads size a v → Reads size b v
 reads-by e r = rw (← e) r
+
+pub over-failed : {v : Work} → v .next ≡ next.Failed → Over v
+over-failed e = record { over = rw e; claims = rw e tt }
+
+pub first-over : (L : Lent) (b : List ℕ) {w : begun.Work} → Opened b w → {n : Stop} → beginning L (take (w .have) b) ≡ Stopped n → {v : Work} → First w n v → Over v
+first-over L b {w} o {n} q {v} f = record {
+  over = rw (f .next) (over-rests (w .next));
+  claims = rw (f .next, f .stop, f .waits) (first-claims L b o n q);
+}
 
 -- what is carried stands in the buffer
 carried-most : (l : List ℕ) (from to : ℕ) → carriedCount l from to ≤ length l

@@ -14,6 +14,8 @@ ghost use Prim.Native.Nat.{_≤_};
 ghost use lib.ListN.{length};
 ghost use Rattle.model.specs.Lent.{lent};
 ghost use Rattle.model.specs.Inner.{Held};
+ghost use Rattle.streaming.specs.First.{Opened};
+ghost use Rattle.trace.specs.Turns.{Over};
 
 // A settings record: its kind and a body of seven bytes.
 const SETTINGS_RECORD: usize = 8;
@@ -29,6 +31,7 @@ fn trace_behind(
     have: usize,
 ) -> Work
     requires { ⌜ Held s (lent (now longs) (now words) (now marks)) ⌝ }
+    ensures { λ r. ⌜ Over r ⌝ }
 {
     let mut space = io::large_buffer();
     let out: &mut [u8] = &mut space;
@@ -45,17 +48,24 @@ fn trace_all(
     longs: &mut [u64],
     words: &mut [u32],
     marks: &mut [u8],
-    have: usize,
-) -> Work {
+    first: streaming::work::Work,
+) -> Work
+    requires { ⌜ Opened (now buf) first ⌝ }
+    ensures { λ r. ⌜ Over r ⌝ }
+{
+    let have = first.have;
     match running::begin(text::front(buf, have), longs, words, marks) {
-        Begun::Stopped(stop) => work::at_once(have, stop),
+        Begun::Stopped(stop) => work::at_once(first, stop),
         Begun::Accepted(s) => trace_behind(fd, s, buf, longs, words, marks, have),
     }
 }
 
 // Lends what the stream's own settings ask for.
-fn trace_stream(fd: i32, buf: &mut [u8], have: usize) -> Work {
-    let n = running::lengths_for(text::front(buf, have));
+fn trace_stream(fd: i32, buf: &mut [u8], first: streaming::work::Work) -> Work
+    requires { ⌜ Opened (now buf) first ⌝ }
+    ensures { λ r. ⌜ Over r ⌝ }
+{
+    let n = running::lengths_for(text::front(buf, first.have));
     let mut longs = rooms::longs_room();
     let mut words = rooms::words_room();
     let mut marks = rooms::marks_room();
@@ -68,7 +78,7 @@ fn trace_stream(fd: i32, buf: &mut [u8], have: usize) -> Work {
         &mut longs[..a],
         &mut words[..b],
         &mut marks[..c],
-        have,
+        first,
     )
 }
 
@@ -83,8 +93,8 @@ fn main() {
     if streaming::work::has_failed(first) {
         return;
     }
-    let last = trace_stream(fd, buf, first.have);
-    if !last.failed {
+    let last = trace_stream(fd, buf, first);
+    if work::has_stopped(last) {
         work::last_line(buf, last);
     }
 }

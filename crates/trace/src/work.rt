@@ -5,6 +5,7 @@ use input::More;
 use libc::STDERR_FILENO;
 use model::Settings;
 use model::Stop;
+use streaming::work::Next;
 use wording::stops;
 ghost use mathlib.Core.Path.{_≡_};
 ghost use mathlib.Core.Bool.{false};
@@ -12,11 +13,12 @@ ghost use Prim.Native.Nat.{_≤_};
 ghost use lib.ListN.{length};
 ghost use Rattle.model.specs.Lent.{lent};
 ghost use Rattle.model.specs.Inner.{Held};
-ghost use Rattle.input.specs.Buffers.{turnsLeft};
-ghost use Rattle.trace.specs.Turns.{Reads, Turned};
+ghost use Rattle.streaming.specs.declared.work.Next.the-variants as next;
+ghost use Rattle.streaming.specs.Works.{goesNext, stoppedNext};
+ghost use Rattle.trace.specs.Turns.{afterRecords, endedBy, First, Standing, Reads, Turned, Over};
 
 // The bytes that wait at the front of the buffer, those that may still come, the bytes consumed and written before them, the
-// bytes of text that wait, why the runner stopped last, whether to go on, whether reading or printing failed, whether printing did.
+// bytes of text that wait, why the runner stopped last, what to do next, whether printing failed.
 pub(crate) struct Work {
     pub have: usize,
     pub left: u64,
@@ -24,14 +26,13 @@ pub(crate) struct Work {
     pub written: u64,
     pub put: usize,
     pub stop: Stop,
-    pub more: bool,
-    pub failed: bool,
+    pub next: Next,
     pub lost: bool,
 }
 
 // Behind settings that are accepted: a record of eight bytes that writes no event.
 pub(crate) fn begun(have: usize, put: usize) -> Work
-    ensures { λ r. ⌜ r .have ≡ have ⌝ }
+    ensures { λ r. ⌜ r .next ≡ next.Run ⌝ }
 {
     Work {
         have,
@@ -40,72 +41,76 @@ pub(crate) fn begun(have: usize, put: usize) -> Work
         written: 0,
         put,
         stop: Stop::Nothing,
-        more: true,
-        failed: false,
+        next: Next::Run,
         lost: false,
     }
 }
 
 // The first record stops the run.
-pub(crate) fn at_once(have: usize, stop: Stop) -> Work {
+pub(crate) fn at_once(first: streaming::work::Work, stop: Stop) -> Work
+    ensures { λ r. ⌜ First first stop r ⌝ }
+{
+    let v = streaming::work::stopped(first, stop);
+    let next = v.next;
     Work {
-        have,
-        left: u64::MAX,
+        have: first.have,
+        left: first.left,
         consumed: 0,
         written: 0,
         put: 0,
         stop,
-        more: false,
-        failed: false,
+        next,
         lost: false,
     }
 }
 
 // A record that is cut short may become whole with more bytes.
-fn wants_more(stop: Stop) -> bool {
-    let n = model::stop_number(stop);
-    (n == 0) | (n == 15)
-}
-
-// Behind the records of a buffer.
-fn behind(w: Work, t: Turn, have: usize) -> Work
-    ensures { λ r. ⌜ (r .have ≡ have) × (r .left ≡ w .left) ⌝ }
+fn next_of(stop: Stop) -> Next
+    ensures { λ r. ⌜ r ≡ afterRecords stop ⌝ }
 {
-    let stop = t.stop;
-    Work {
-        have,
-        left: w.left,
-        consumed: std::num::wrapping_add_u64(w.consumed, t.at as u64),
-        written: std::num::wrapping_add_u64(w.written, t.written),
-        put: t.put,
-        stop,
-        more: wants_more(stop) & !t.lost,
-        failed: t.lost,
-        lost: t.lost,
+    match stop {
+        Stop::Nothing => Next::Read,
+        Stop::CutShort => Next::Read,
+        Stop::NoRoom => Next::Stopped,
+        Stop::SettingOutOfRange => Next::Stopped,
+        Stop::SliceLength => Next::Stopped,
+        Stop::NotSound => Next::Stopped,
+        Stop::OutOfPlace => Next::Stopped,
+        Stop::UnknownKind => Next::Stopped,
     }
 }
 
-// With more bytes.
-fn grown(w: Work, have: usize, left: u64) -> Work
-    ensures { λ r. ⌜ (r .have ≡ have) × (r .left ≡ left) ⌝ }
+// Whether the run goes on.
+fn goes_on(w: Work) -> bool
+    ensures { λ r. ⌜ r ≡ goesNext (w .next) ⌝ }
 {
-    let stop = w.stop;
-    Work {
-        have,
-        left,
-        consumed: w.consumed,
-        written: w.written,
-        put: w.put,
-        stop,
-        more: true,
-        failed: w.failed,
-        lost: w.lost,
+    let next = w.next;
+    match next {
+        Next::Read => true,
+        Next::Run => true,
+        Next::Stopped => false,
+        Next::Ended(_) => false,
+        Next::Failed => false,
     }
 }
 
-// No more bytes come.
-fn ended(w: Work, failed: bool) -> Work
-    ensures { λ r. ⌜ (r .have ≡ w .have) × (r .more ≡ false) ⌝ }
+// Stopped, or at the end of its input: its stop may be told.
+pub(crate) fn has_stopped(w: Work) -> bool
+    ensures { λ r. ⌜ r ≡ stoppedNext (w .next) ⌝ }
+{
+    let next = w.next;
+    match next {
+        Next::Read => false,
+        Next::Run => false,
+        Next::Stopped => true,
+        Next::Ended(_) => true,
+        Next::Failed => false,
+    }
+}
+
+// No more bytes come, for a reason.
+fn ended(w: Work, next: Next) -> Work
+    ensures { λ r. ⌜ r ≡ endedBy w next ⌝ }
 {
     let stop = w.stop;
     Work {
@@ -115,8 +120,43 @@ fn ended(w: Work, failed: bool) -> Work
         written: w.written,
         put: w.put,
         stop,
-        more: false,
-        failed,
+        next,
+        lost: w.lost,
+    }
+}
+
+// Behind the records of a buffer.
+fn behind(w: Work, t: Turn, have: usize) -> Work
+    ensures { λ r. ⌜ Standing have (w .left) r ⌝ }
+{
+    let stop = t.stop;
+    let next = next_of(stop);
+    let v = Work {
+        have,
+        left: w.left,
+        consumed: std::num::wrapping_add_u64(w.consumed, t.at as u64),
+        written: std::num::wrapping_add_u64(w.written, t.written),
+        put: t.put,
+        stop,
+        next,
+        lost: t.lost,
+    };
+    if t.lost { ended(v, Next::Failed) } else { v }
+}
+
+// With more bytes.
+fn grown(w: Work, have: usize, left: u64) -> Work
+    ensures { λ r. ⌜ Standing have left r ⌝ }
+{
+    let stop = w.stop;
+    Work {
+        have,
+        left,
+        consumed: w.consumed,
+        written: w.written,
+        put: w.put,
+        stop,
+        next: Next::Run,
         lost: w.lost,
     }
 }
@@ -128,9 +168,9 @@ fn read(fd: i32, buf: &mut [u8], w: Work) -> Work
 {
     match input::read_more(fd, buf, w.have, w.left) {
         More::To { have, left } => grown(w, have, left),
-        More::End => ended(w, false),
-        More::Full => ended(w, false),
-        More::Failed => ended(w, true),
+        More::End(end) => ended(w, Next::Ended(end)),
+        More::Full => ended(w, Next::Failed),
+        More::Failed => ended(w, Next::Failed),
     }
 }
 
@@ -163,22 +203,28 @@ fn turn(
     );
     let have = input::carry(buf, t.at, w.have);
     let v = behind(w, t, have);
-    if v.more {
+    if goes_on(v) {
         return read(fd, buf, v);
     }
-    ended(v, v.failed)
+    v
 }
 
 // The text that still waits.
-fn finished(out: &[u8], w: Work) -> Work {
+fn finished(out: &[u8], w: Work) -> Work
+    requires { ⌜ Over w ⌝ }
+    ensures { λ r. ⌜ Over r ⌝ }
+{
     if w.lost {
         return w;
     }
-    let done = turns::print(out, w.put);
-    ended(w, w.failed | !done)
+    if turns::print(out, w.put) {
+        w
+    } else {
+        ended(w, Next::Failed)
+    }
 }
 
-// To the end of the stream, or to where it stops.
+// To where the stream stops, or to its end as the system told it.
 pub(crate) fn trace_rest(
     fd: i32,
     s: Settings,
@@ -190,11 +236,13 @@ pub(crate) fn trace_rest(
     start: Work,
 ) -> Work
     requires { ⌜ Held s (lent (now longs) (now words) (now marks)) ⌝ }
+    requires { ⌜ start .next ≡ next.Run ⌝ }
+    ensures { λ r. ⌜ Over r ⌝ }
 {
     let mut space = io::buffer();
     let events: &mut [u8] = &mut space;
     let mut w = start;
-    while w.more {
+    while goes_on(w) {
         w = turn(fd, s, buf, events, longs, words, marks, out, w);
     }
     finished(out, w)

@@ -22,6 +22,7 @@ ghost use Rattle.model.specs.Lent.{lent};
 ghost use Rattle.running.specs.Lengths.{lengthsFor, Long};
 ghost use Rattle.streaming.specs.declared.scope.Scope.the-variants as scope;
 ghost use Rattle.streaming.specs.First.{Opened};
+ghost use Rattle.streaming.specs.Halts.{Claims};
 ghost use Rattle.streaming.specs.Parts.{Ready};
 
 // At the end of the input: the last record is what waits in the buffer.
@@ -57,6 +58,7 @@ fn wait_rest(
     start: Work,
 )
     requires { ⌜ Ready s scope.BeforeLast (lent (now longs) (now words) (now marks)) (now buf) start ⌝ }
+    requires { ⌜ Claims (start .next) (start .stop) (start .have) ⌝ }
 {
     let w = parts::run_rest(fd, s, buf, longs, words, marks, start, Scope::BeforeLast);
     if !work::has_stopped(w) {

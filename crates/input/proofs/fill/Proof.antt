@@ -1,5 +1,5 @@
 -- `input::fill` meets its contract: what was read stands behind the bytes that the buffer had.
-use mathlib.Core.Path.{_≡_}
+use mathlib.Core.Path.{_≡_, refl}
 use Prim.Native.Nat.{_-_}
 use native.Mathlib.Omega.{arith}
 use borrow.Author.Needs.{needs}
@@ -29,7 +29,7 @@ fill-spec =
     (λ c. search needs)
     (λ c κs. search needs)
     (λ c. search needs)
-    (λ c. record { reaches = tt; before = kept (c .before .before .before .before .before .before .before) })
+    (λ c. record { reaches = refl; before = kept (c .before .before .before .before .before .before .before) })
     (λ c. search needs)
     (λ c. search needs)
     (λ c. record { reaches = search needs; before = kept (c .before .before .before .before .before .before .before) }))

@@ -1,6 +1,6 @@
 -- `input::read_more` meets its contract: by what `fill` gave.
 use borrow.Author.Needs.{needs}
-use Rattle.input.proofs.Counts.{read-further, counted-grown, full-grown}
+use Rattle.input.proofs.Counts.{read-further, counted-grown, ended-grown, full-grown}
 use Rattle.input.proofs.read_more.Statement.{statement}
 use Rattle.input.proofs.read_more.Tie as tie
 
@@ -13,8 +13,11 @@ returns c =
     let f = n .before .before .before .before in
     counted-grown (f .fill .ensures) (n .n .given .1) _ (c .counted .ensures)
 
+returns-2 : tie.Need-returns-2
+returns-2 c = let n = c .before in ended-grown (n .before .before .before .before .fill .ensures) (n .end .given .1) _
+
 returns-3 : tie.Need-returns-3
-returns-3 c = full-grown (c .before .before .before .before .fill .ensures) (c .enum-told2 .given .1) _
+returns-3 c = full-grown (c .before .before .before .before .fill .ensures) (c .enum-told .given .1) _
 
 pub read-more-spec : {M : Type 1} → statement M
 read-more-spec =
@@ -31,7 +34,7 @@ read-more-spec =
     (λ c. search needs)
     returns
     (λ c. search needs)
-    (λ c. search needs)
+    returns-2
     (λ c. search needs)
     returns-3
     (λ c. search needs)

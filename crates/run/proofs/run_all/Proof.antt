@@ -1,7 +1,6 @@
 -- The first record stops the run, or leaves its tables to the turns; either way it is the run of all the bytes that came.
 use borrow.Author.Needs.{needs}
-use mathlib.Core.Path.{ap, _∙_}
-use Rattle.streaming.specs.declared.work.Work.{Work}
+use mathlib.Core.Path.{_∙_}
 use Rattle.streaming.specs.declared.scope.Scope.the-variants as scope
 use Rattle.streaming.proofs.Wholes.{stops-whole, rests-whole}
 use Rattle.run.proofs.run_all.Statement.{statement}
@@ -17,7 +16,8 @@ run-all-spec =
     (λ c κs.
     let s = c .before .before .before .before .before in
     let t = s .before .before .before .before .before .before .before .before .before .before in
-    (rw (s .settings .given .1) at (t .start .ensures)) .after scope.All .2)
+    let a = (rw (s .settings .given .1) at (t .start .ensures)) .after scope.All in
+    (a .2, rw (a .0) tt))
     (λ c. search needs)
     (λ c. search needs)
     (λ c. search needs)
@@ -26,8 +26,7 @@ run-all-spec =
     let s = c .before in
     let t = s .before .before .before .before .before .before .before .before .before .before in
     let a = t .before .before .before .before .before .before .before .before .before in
-    let new = a .pre .0 .new in
-    stops-whole (rw (s .stopped .given .1) at (t .start .ensures)) (ap (λ (w : Work). w .written) new) (ap (λ (w : Work). w .consumed) new))
+    stops-whole (a .pre .0) (rw (s .stopped .given .1) at (t .start .ensures)))
     (λ c.
     let r = c .before .before .before .before .before .before .before .before in
     r .run-rest .kept .1 .1 .0 ∙ r .before .before .before .before .before .before .before .before .before .before .before .before .before .before .before .before .start .kept .0)

@@ -16,7 +16,8 @@ wait-all-spec =
     (λ c κs.
     let s = c .before .before .before .before .before in
     let t = s .before .before .before .before .before .before .before .before .before .before in
-    (rw (s .settings .given .1) at (t .start .ensures)) .after scope.BeforeLast .2)
+    let a = (rw (s .settings .given .1) at (t .start .ensures)) .after scope.BeforeLast in
+    (a .2, rw (a .0) tt))
     (λ c. search needs)
     (λ c. search needs)
     (λ c. search needs)

@@ -27,8 +27,8 @@ read-part-spec =
     let f = n .before .before .before .before in
     read-some _ _ (f .fill .ensures) (n .n .given .1) (search needs) (c .came .ensures))
     (λ c. search needs)
-    (λ c. read-none _ _ (c .over .ensures))
+    (λ c. read-none _ _ (c .ended .ensures))
     (λ c. search needs)
-    (λ c. inl (c .over2 .ensures))
+    (λ c. inl (c .over .ensures))
     (λ c. search needs)
-    (λ c. inl (c .over3 .ensures)))
+    (λ c. inl (c .over2 .ensures)))

@@ -32,21 +32,21 @@ top-up-spec =
     (λ c. search needs)
     -- returns-2
     (λ c.
-    let f = c .before .before .before .before .before in
+    let f = c .before .before .before .before .before .before in
     let k = f .before .before .before .before in
     let start = k .before .before .before .before in
-    fed-end _ _ (start .pre) (k .carry .ensures .0) (k .carry .ensures .1) (f .fill .ensures) (c .filled .ensures))
+    fed-end _ _ (start .pre) (k .carry .ensures .0) (k .carry .ensures .1) (f .fill .ensures) (c .at-end .ensures))
     (λ c. search needs)
     -- returns-3
     (λ c.
     let f = c .before .before .before .before .before in
     let k = f .before .before .before .before in
     let start = k .before .before .before .before in
-    fed-stuck _ _ (start .pre) (k .carry .ensures .0) (k .carry .ensures .1) (f .fill .ensures) (c .filled2 .ensures))
+    fed-stuck _ _ (start .pre) (k .carry .ensures .0) (k .carry .ensures .1) (f .fill .ensures) (c .filled .ensures))
     (λ c. search needs)
     -- returns-4
     (λ c.
     let f = c .before .before .before .before .before .before in
     let k = f .before .before .before .before in
     let start = k .before .before .before .before in
-    fed-stuck _ _ (start .pre) (k .carry .ensures .0) (k .carry .ensures .1) (f .fill .ensures) (c .filled3 .ensures)))
+    fed-stuck _ _ (start .pre) (k .carry .ensures .0) (k .carry .ensures .1) (f .fill .ensures) (c .filled2 .ensures)))

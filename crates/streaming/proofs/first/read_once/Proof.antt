@@ -1,7 +1,6 @@
 -- By what reading gave.
 use borrow.Author.Needs.{needs}
-use mathlib.Core.Path.{refl}
-use Rattle.streaming.proofs.Opening.{opened-read, opened-ends}
+use Rattle.streaming.proofs.Opening.{opened-read, opened-ends, opened-fails}
 use Rattle.streaming.proofs.first.read_once.Statement.{statement}
 use Rattle.streaming.proofs.first.read_once.Tie as tie
 
@@ -21,13 +20,21 @@ read-once-spec =
     (λ c. search needs)
     (λ c κs. search needs)
     (λ c. search needs)
+    -- returns: more bytes came
     (λ c.
-    let h = c .before .before .before .before .before in
+    let n = c .before in
+    let h = n .before .before .before .before in
     let r = h .before .before .before .before in
-    opened-read (r .before .before .before .pre) (r .read-more .kept .1 .0) (r .read-more .ensures) (h .have .given .1) (c .at-start .ensures))
+    opened-read (r .before .before .before .pre) (r .read-more .kept .1 .0) (r .read-more .ensures) (h .have .given .1) (n .next-after .ensures) (n .before .front .ensures) (c .at-start .ensures))
     (λ c. search needs)
-    (λ c. let r = c .before .before .before .before .before in opened-ends (r .before .before .before .pre) (r .read-more .kept .1 .0) (c .at-start2 .ensures) refl)
+    -- returns: the end
+    (λ c.
+    let h = c .before .before in
+    let r = h .before .before .before .before in
+    opened-ends (r .before .before .before .pre) (r .read-more .kept .1 .0) (r .read-more .ensures) (h .end .given .1) (c .at-start2 .ensures))
     (λ c. search needs)
-    (λ c. let r = c .before .before .before .before .before in opened-ends (r .before .before .before .pre) (r .read-more .kept .1 .0) (c .at-start3 .ensures) refl)
+    -- returns: no room
+    (λ c. let r = c .before .before .before .before .before in opened-fails (r .before .before .before .pre) (r .read-more .kept .1 .0) (r .read-more .ensures) (c .at-start3 .ensures))
     (λ c. search needs)
-    (λ c. let r = c .before .before .before .before .before in opened-ends (r .before .before .before .pre) (r .read-more .kept .1 .0) (c .at-start4 .ensures) refl))
+    -- returns: reading failed
+    (λ c. let r = c .before .before .before .before .before in opened-fails (r .before .before .before .pre) (r .read-more .kept .1 .0) (r .read-more .ensures) (c .at-start4 .ensures)))

@@ -1,6 +1,6 @@
 -- What was read is run; at the end of the input, or where reading fails, nothing is.
 use borrow.Author.Needs.{needs}
-use Rattle.streaming.proofs.Turns.{never-full, read-inside, read-fits, read-turned, stopped-turned, failed-turned}
+use Rattle.streaming.proofs.Turns.{never-full, read-inside, read-fits, read-turned, ended-turned, failed-turned}
 use Rattle.streaming.proofs.parts.read_part.Statement.{statement}
 use Rattle.streaming.proofs.parts.read_part.Tie as tie
 
@@ -39,14 +39,15 @@ read-part-spec =
     read-turned (a .pre .0) (a .pre .1 .0) (m .read-more .kept .1 .0) (m .read-more .ensures) (h .have .given .1) (v .read .ensures) (p .run-part .ensures) (a .pre .1 .1) (p .run-part .kept .1 .0))
     (λ c. search needs)
     (λ c.
-    let m = c .before .before .before .before .before in
+    let h = c .before .before in
+    let m = h .before .before .before .before in
     let a = m .before .before .before .before .before .before .before in
-    stopped-turned (a .pre .0) (a .pre .1 .0) (m .read-more .kept .1 .0) (m .read-more .ensures) _ (c .stopped .ensures))
+    ended-turned (a .pre .0) (a .pre .1 .0) (m .read-more .kept .1 .0) (m .read-more .ensures) _ (h .end .given .1) (c .ended .ensures))
     (λ c. search needs)
     (λ c.
     let m = c .before .before .before .before .before in
     let a = m .before .before .before .before .before .before .before in
-    absurd (never-full (a .pre .0) (a .pre .1 .0) (m .read-more .kept .1 .0) (m .read-more .ensures) (c .before .enum-told2 .given .1)))
+    absurd (never-full (a .pre .0) (a .pre .1 .0) (m .read-more .kept .1 .0) (m .read-more .ensures) (c .before .enum-told .given .1)))
     (λ c. search needs)
     (λ c.
     let m = c .before .before .before .before .before in

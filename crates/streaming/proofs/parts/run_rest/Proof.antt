@@ -5,6 +5,7 @@ use borrow.Author.Needs.{needs}
 use lib.ListN.{length, take}
 use Rattle.model.specs.Lent.{lent}
 use Rattle.streaming.specs.Works.{turnsOf}
+use Rattle.streaming.specs.Halts.{Claims}
 use Rattle.streaming.specs.Parts.{Ready, Came}
 use Rattle.streaming.proofs.Turns.{start-came, next-came}
 use Rattle.streaming.proofs.parts.run_rest.Statement.{statement}
@@ -18,10 +19,20 @@ Inv-loop fd s buf₀ longs₀ words₀ marks₀ scope events₀ w₀ buf longs w
     × (length marks ≡ length marks₀)
     × (length events ≡ 65536)
     × Ready s scope (lent longs words marks) buf w
+    × Claims (w .next) (w .stop) (w .have)
     × Came s 65536 (lent longs₀ words₀ marks₀) (take (w₀ .have) buf₀) w₀ w (take (w .have) buf) (lent longs words marks)
 
 abbrev μ-loop : tie.MeasureT-loop
 μ-loop fd s buf₀ longs₀ words₀ marks₀ scope events₀ w₀ buf longs words marks events w = turnsOf (w .next) (w .have) (w .left)
+
+-- that the loop goes on, or does not, is `cc`'s to find: the call that says so is not named, so that another call there is refused for what it says
+turn-requires : tie.Need-turn-requires Inv-loop μ-loop
+turn-requires c κs =
+    let i = c .before .before .before .before .before .before .before .loop .inv in
+    (i .5, (cc, omega (arith, i .4)))
+
+returns : tie.Need-returns Inv-loop μ-loop
+returns c = let i = c .before .before .before .loop .inv in record { ready = i .5; over = cc; claims = i .6; came = i .7 }
 
 pub run-rest-spec : {M : Type 1} → statement M
 run-rest-spec =
@@ -33,12 +44,9 @@ run-rest-spec =
     (λ c. search needs)
     (λ c.
     let a = c .before .before .before .before .before .before in
-    (refl, refl, refl, refl, sym (c .before .large-buffer .ensures), a .pre, start-came 65536 (a .pre)))
+    (refl, refl, refl, refl, sym (c .before .large-buffer .ensures), a .pre .0, a .pre .1, start-came 65536 (a .pre .0)))
     (λ c κs. search needs)
-    (λ c κs.
-    let t = c .before .before .before .before .before in
-    let i = t .before .before .loop .inv in
-    (i .5, (sym (t .before .goes-on .ensures) ∙ t .if1 .taken, omega (arith, i .4))))
+    turn-requires
     (λ c. c .before .before .before .before .before .before .before .before .before .before .turn .ensures .fewer)
     (λ c.
     let t = c .before .before .before .before .before .before .before .before .before .before in
@@ -50,13 +58,11 @@ run-rest-spec =
       k .1 .1 .1 .1 .0 ∙ i .3,
       k .1 .0 ∙ i .4,
       t .turn .ensures .ready,
-      next-came (i .6) (i .4) (t .turn .ensures),
+      t .turn .ensures .claims,
+      next-came (i .7) (i .4) (t .turn .ensures),
     ))
     (λ c. search needs)
     (λ c. search needs)
     (λ c. search needs)
     (λ c. search needs)
-    (λ c.
-    let t = c .before in
-    let i = t .before .before .loop .inv in
-    record { ready = i .5; over = sym (t .before .goes-on .ensures) ∙ t .if1 .left; came = i .6 }))
+    returns)

@@ -1,5 +1,5 @@
--- Each turn reads, or is the last.
-use mathlib.Core.Path.{_≡_, refl, _∙_}
+-- Each turn reads, or is the last; what is claimed of the input holds after each.
+use mathlib.Core.Path.{_≡_, refl, sym, _∙_}
 use Prim.Native.Nat.{_≤_}
 use borrow.Author.Needs.{needs}
 use lib.ListN.{length}
@@ -7,6 +7,8 @@ use Rattle.model.specs.Lent.{lent}
 use Rattle.model.specs.Inner.{Held}
 use Rattle.input.specs.Buffers.{turnsLeft}
 use Rattle.input.proofs.Counts.{turns-less}
+use Rattle.streaming.specs.Works.{goesNext}
+use Rattle.streaming.specs.Halts.{Claims}
 use Rattle.trace.proofs.work.trace_rest.Statement.{statement}
 use Rattle.trace.proofs.work.trace_rest.Tie as tie
 
@@ -19,9 +21,10 @@ Inv-loop fd s buf₀ longs₀ words₀ marks₀ out₀ events₀ w₀ buf longs 
     × (length out ≡ length out₀)
     × (length events ≡ length events₀)
     × Held s (lent longs words marks)
+    × Claims (w .next) (w .stop) (w .have)
 
 abbrev μ-loop : tie.MeasureT-loop
-μ-loop fd s buf₀ longs₀ words₀ marks₀ out₀ events₀ w₀ buf longs words marks out events w = turnsLeft (w .more) (w .left)
+μ-loop fd s buf₀ longs₀ words₀ marks₀ out₀ events₀ w₀ buf longs words marks out events w = turnsLeft (goesNext (w .next)) (w .left)
 
 pub trace-rest-spec : {M : Type 1} → statement M
 trace-rest-spec =
@@ -31,19 +34,20 @@ trace-rest-spec =
     μ-loop
     (λ c κs. search needs)  -- buffer-requires
     (λ c. search needs)  -- slice-aggregate-events
-    (λ c. (refl, refl, refl, refl, refl, refl, c .before .before .before .before .before .before .before .pre))  -- loop-holds
-    (λ c κs. c .before .before .before .before .before .before .before .loop .inv .6)  -- turn-requires
+    (λ c. let a = c .before .before .before .before .before .before .before in (refl, refl, refl, refl, refl, refl, a .pre .0, rw (a .pre .1) tt))  -- loop-holds
+    (λ c κs. search needs)  -- goes-on-requires
+    (λ c κs. c .before .before .before .before .before .before .before .before .loop .inv .6)  -- turn-requires
     (λ c.
     let r = c .before .before .before .before .before .before .before .before .before .before .before .before in
     let t = r .before .before .before .before .before .before .before in
-    let w = t .before .loop .w in
-    turns-less (w .more) (w .left) _ (t .loop-test .taken) (r .turn .ensures .read .fewer))  -- loop-less
+    let w = t .before .before .loop .w in
+    turns-less (goesNext (w .next)) (w .left) _ (sym (t .before .goes-on .ensures) ∙ t .if1 .taken) (r .turn .ensures .read .fewer))  -- loop-less
     (λ c.
     let r = c .before .before .before .before .before .before .before .before .before .before .before .before in
-    let i = r .before .before .before .before .before .before .before .before .loop .inv in
+    let i = r .before .before .before .before .before .before .before .before .before .loop .inv in
     let k = r .turn .kept .1 .1 in
-    (k .0 ∙ i .0, k .1 .1 .0 ∙ i .1, k .1 .1 .1 .0 ∙ i .2, k .1 .1 .1 .1 .0 ∙ i .3, k .1 .1 .1 .1 .1 .0 ∙ i .4, k .1 .0 ∙ i .5, r .turn .ensures .held))  -- loop-again
-    (λ c κs. search needs)  -- finished-requires
+    (k .0 ∙ i .0, k .1 .1 .0 ∙ i .1, k .1 .1 .1 .0 ∙ i .2, k .1 .1 .1 .1 .0 ∙ i .3, k .1 .1 .1 .1 .1 .0 ∙ i .4, k .1 .0 ∙ i .5, r .turn .ensures .held, r .turn .ensures .read .claims))  -- loop-again
+    (λ c κs. let e = c .before .before in record { over = sym (e .before .goes-on .ensures) ∙ e .if1 .left; claims = e .before .before .loop .inv .7 })  -- finished-requires
     (λ c. search needs)  -- same-length
     (λ c. search needs)  -- same-length-2
     (λ c. search needs)  -- same-length-3

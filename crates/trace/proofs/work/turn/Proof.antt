@@ -1,7 +1,7 @@
 -- The records that wait, then a read or the end.
-use mathlib.Core.Path.{refl}
+use mathlib.Core.Path.{sym, _∙_}
 use borrow.Author.Needs.{needs}
-use Rattle.trace.proofs.Going.{read-ended, reads-by, carried-inside}
+use Rattle.trace.proofs.Going.{reads-by, turn-over, carried-inside}
 use Rattle.trace.proofs.work.turn.Statement.{statement}
 use Rattle.trace.proofs.work.turn.Tie as tie
 
@@ -13,10 +13,11 @@ turn-spec =
     (λ c κs. search needs)  -- trace-records-requires
     (λ c κs. search needs)  -- carry-requires
     (λ c κs. search needs)  -- behind-requires
+    (λ c κs. search needs)  -- goes-on-requires
     (λ c κs.
-    let b = c .before .before in
+    let b = c .before .before .before in
     let y = b .before .before .before in
-    carried-inside _ _ _ (y .carry .ensures .0) (y .carry .kept .0) (b .behind .ensures .0))  -- read-requires
+    carried-inside _ _ _ (y .carry .ensures .0) (y .carry .kept .0) (b .behind .ensures .waits))  -- read-requires
     (λ c. search needs)  -- same-length
     (λ c. search needs)  -- same-length-2
     (λ c. search needs)  -- same-length-3
@@ -25,10 +26,9 @@ turn-spec =
     (λ c. search needs)  -- same-length-6
     (λ c.
     let r = c .before .before in
-    let b = r .before .before .before in
+    let b = r .before .before .before .before in
     let y = b .before .before .before in
-    record { held = y .before .before .before .before .before .before .before .before .before .before .before .before .trace-records .ensures; read = reads-by (b .behind .ensures .1) (r .read .ensures) })  -- returns
-    (λ c κs. search needs)  -- ended-requires
+    record { held = y .before .before .before .before .before .before .before .before .before .before .before .before .trace-records .ensures; read = reads-by (b .behind .ensures .comes) (r .read .ensures) })  -- returns
     (λ c. search needs)  -- same-length-7
     (λ c. search needs)  -- same-length-8
     (λ c. search needs)  -- same-length-9
@@ -38,4 +38,7 @@ turn-spec =
     (λ c.
     let b = c .before .before in
     let y = b .before .before .before in
-    record { held = y .before .before .before .before .before .before .before .before .before .before .before .before .trace-records .ensures; read = read-ended refl (carried-inside _ _ _ (y .carry .ensures .0) (y .carry .kept .0) (b .behind .ensures .0)) (c .ended .ensures) }))  -- returns-2
+    record {
+      held = y .before .before .before .before .before .before .before .before .before .before .before .before .trace-records .ensures;
+      read = turn-over (b .behind .ensures) (carried-inside _ _ _ (y .carry .ensures .0) (y .carry .kept .0) (b .behind .ensures .waits)) (sym (c .before .goes-on .ensures) ∙ c .if1 .left);
+    }))  -- returns-2
