@@ -75,7 +75,7 @@ fn compare(
     events.truncate(written);
     let numbers = vec![consumed as u64, written as u64];
     let expected = Expected { returned: number.into(), events, tables: after, numbers };
-    let made = make_resume(settings, part, tables, beside);
+    let made = make_resume(&settings.six(), part, tables, beside);
     match difference(Some(settings), beside, &expected, &made) {
         Some(text) => Err(format!("resume with {part:02x?}\n{text}")),
         None => {
@@ -97,7 +97,7 @@ fn cut(random: &mut Random, settings: &Settings) -> Result<(), String> {
     let room = vec![0; 64 * (whole.len() + 1) + 4096];
     let beside = Beside { room: &room, numbers: &[0, 0], empty: EmptySlice::Dangling };
     let one = make_run(&whole, &zero, beside);
-    let rest = make_resume(settings, &behind, &begun.tables, beside);
+    let rest = make_resume(&settings.six(), &behind, &begun.tables, beside);
     let [n, m] = [begun.numbers[1] as usize, rest.numbers[1] as usize];
     let joined = [&begun.events[..n], &rest.events[..m]].concat();
     let same = one.events[..n + m] == joined[..]
