@@ -34,7 +34,7 @@ use Rattle.records.specs.Stores.{Stored}
 use Rattle.records.proofs.Stores.{stored-behind}
 use Rattle.records.proofs.Room.{Takes, access-takes, step-takes}
 use Rattle.records.proofs.OfCalls.{call-room}
-use Rattle.exported.specs.Exported.{known, settingsFrom, Called, Stepped, lengthFor, mayWait, roundNumber, WaitCalled, RunCalled}
+use Rattle.exported.specs.Exported.{mayLend, settingsFrom, Called, Stepped, lengthFor, mayWait, roundNumber, WaitCalled, RunCalled}
 
 pub call-unmade : (o : Outcome Lent) (L : Lent) (e : List ℕ) → length e < 64 → Called o L e 0 e L
 call-unmade o L e h = record { written = rw (lt-leb 64 (length e) h); events = rw (lt-leb 64 (length e) h); left = rw (lt-leb 64 (length e) h) }
@@ -87,7 +87,7 @@ step-made S c L e told small held room d s =
 
 -- ---- another number of settings is out of range, so every call refuses it
 
-pub other-number-out-of-range : (l : List ℕ) → known (length l) ≡ false → inRange (settingsFrom l) ≡ false
+pub other-number-out-of-range : (l : List ℕ) → mayLend (length l) ≡ false → inRange (settingsFrom l) ≡ false
 unfolding settingsFrom inRange
 other-number-out-of-range l h = rw h
 

@@ -1,4 +1,4 @@
--- What a call from C leaves: its return value, the event buffer and the slices.
+-- What a call from C is lent as settings, and what it leaves: its return value, the event buffer and the slices.
 use mathlib.Core.Path.{_≡_}
 use Prim.Native.Nat.{ℕ}
 use mathlib.Core.Bool.{Bool, _&&_}
@@ -25,17 +25,18 @@ use Rattle.rounds.specs.declared.Waiting.the-variants as waiting
 
 -- ---- settings, as one slice of numbers
 
--- in the order of the table of settings: sets, ways, dirty, misses, readers, queue
+-- by its places, in the order of the table of settings: sets, ways, dirty, misses, readers, queue
 abbrev pub numbered : List ℕ → Settings
 numbered l = record { sets = getD l 0 0; ways = getD l 1 0; percent = getD l 2 0; entries = getD l 3 0; readers = getD l 4 0; places = getD l 5 0 }
 
--- the lengths that are settings. One added later comes last, as a `getD` with the default that a slice without it has: its length joins this one
-abbrev pub known : ℕ → Bool
-known n = eqb n 6
+-- how many numbers may be lent. A setting that is added later comes last: its number joins this one, and `getD` gives a slice without it its
+-- older default
+abbrev pub mayLend : ℕ → Bool
+mayLend n = eqb n 6
 
--- with another length nothing is known: all are 0, and 0 sets are out of range, so that it is judged as 1, "a setting outside its range"
+-- with another number of them all are 0, and 0 sets are out of range: so it is refused as 1, "a setting outside its range"
 unfoldable pub settingsFrom : List ℕ → Settings
-settingsFrom l = pick (known (length l)) (numbered l) (numbered [])
+settingsFrom l = pick (mayLend (length l)) (numbered l) (numbered [])
 
 -- ---- results and arguments
 

@@ -40,7 +40,7 @@ fn number(settings: &[u32], place: usize) -> usize
     0
 }
 
-// Settings out of range for a slice of another length.
+// By their places; all 0, which is out of range, for another number of them.
 pub(crate) fn settings_from(settings: &[u32]) -> Settings
     ensures { λ r. ⌜ r ≡ settingsFrom (now (settings .entry)) ⌝ }
 {
