@@ -150,6 +150,26 @@ pub extern "C" fn labintugmo_check(
     verdict_number(soundness::check(s, longs, words, marks))
 }
 
+// What read, write and access come to.
+fn offer(
+    settings: &[u32],
+    longs: &mut [u64],
+    words: &mut [u32],
+    marks: &mut [u8],
+    x: Access,
+    events: &mut [u8],
+) -> usize
+    ensures { λ r. ⌜ Called (accessCall (settingsFrom (now (settings .entry))) x (lent (now (longs .entry)) (now (words .entry)) (now (marks .entry)))) (lent (now (longs .entry)) (now (words .entry)) (now (marks .entry)))
+        (now (events .entry)) r (now (events .exit)) (lent (now (longs .exit)) (now (words .exit)) (now (marks .exit))) ⌝ }
+{
+    if events.len() < EVENT_ROOM {
+        return 0;
+    }
+    let s = settings_from(settings);
+    let told = cache::access(s, longs, words, marks, x);
+    records::write_told(told, events, 0)
+}
+
 #[no_mangle]
 pub extern "C" fn labintugmo_read(
     settings: &[u32],
@@ -163,12 +183,12 @@ pub extern "C" fn labintugmo_read(
     ensures { λ r. ⌜ Called (accessCall (settingsFrom (now (settings .entry))) (Read address 0 ticket) (lent (now (longs .entry)) (now (words .entry)) (now (marks .entry)))) (lent (now (longs .entry)) (now (words .entry)) (now (marks .entry)))
         (now (events .entry)) r (now (events .exit)) (lent (now (longs .exit)) (now (words .exit)) (now (marks .exit))) ⌝ }
 {
-    if events.len() < EVENT_ROOM {
-        return 0;
-    }
-    let s = settings_from(settings);
-    let told = cache::read(s, longs, words, marks, address, ticket);
-    records::write_told(told, events, 0)
+    let x = Access::Read {
+        address,
+        mask: 0,
+        ticket,
+    };
+    offer(settings, longs, words, marks, x, events)
 }
 
 #[no_mangle]
@@ -184,12 +204,12 @@ pub extern "C" fn labintugmo_write(
     ensures { λ r. ⌜ Called (accessCall (settingsFrom (now (settings .entry))) (Write address mask 0) (lent (now (longs .entry)) (now (words .entry)) (now (marks .entry)))) (lent (now (longs .entry)) (now (words .entry)) (now (marks .entry)))
         (now (events .entry)) r (now (events .exit)) (lent (now (longs .exit)) (now (words .exit)) (now (marks .exit))) ⌝ }
 {
-    if events.len() < EVENT_ROOM {
-        return 0;
-    }
-    let s = settings_from(settings);
-    let told = cache::write(s, longs, words, marks, address, mask);
-    records::write_told(told, events, 0)
+    let x = Access::Write {
+        address,
+        mask,
+        ticket: 0,
+    };
+    offer(settings, longs, words, marks, x, events)
 }
 
 #[no_mangle]
@@ -266,13 +286,8 @@ pub extern "C" fn labintugmo_access(
     ensures { λ r. ⌜ Called (accessCall (settingsFrom (now (settings .entry))) (accessFor «is_write» address mask ticket) (lent (now (longs .entry)) (now (words .entry)) (now (marks .entry)))) (lent (now (longs .entry)) (now (words .entry)) (now (marks .entry)))
         (now (events .entry)) r (now (events .exit)) (lent (now (longs .exit)) (now (words .exit)) (now (marks .exit))) ⌝ }
 {
-    if events.len() < EVENT_ROOM {
-        return 0;
-    }
-    let s = settings_from(settings);
     let x = access_for(is_write, address, mask, ticket);
-    let told = cache::access(s, longs, words, marks, x);
-    records::write_told(told, events, 0)
+    offer(settings, longs, words, marks, x, events)
 }
 
 // The accepting round; 0 where there is none.
