@@ -119,9 +119,10 @@ struct Cost {
 template <class Function, class... Arguments>
 std::size_t call(Function function, const Settings& s, labintugmo::Tables& t, Arguments... rest) {
     std::array<std::uint8_t, LABINTUGMO_ROOM> events;
-    return function(s.sets, s.ways, s.percent, s.entries, s.readers, s.places, t.longs.data(),
-                    t.longs.size(), t.words.data(), t.words.size(), t.marks.data(),
-                    t.marks.size(), rest..., events.data(), events.size());
+    const Settings::Numbers settings = s.numbers();
+    return function(settings.data(), settings.size(), t.longs.data(), t.longs.size(),
+                    t.words.data(), t.words.size(), t.marks.data(), t.marks.size(), rest...,
+                    events.data(), events.size());
 }
 
 constexpr long repeats = 200000;

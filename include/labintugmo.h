@@ -5,7 +5,7 @@
  * refusals, stops, records); where each number stands in the lent tables; the calls.
  *
  * The library keeps nothing of its own: no allocation, no globals, no file. A caller lends
- * the tables of one cache as three arrays, with the same six settings, to every call.
+ * the tables of one cache as three arrays, with the same settings, to every call.
  *
  *  - A slice is a pointer and, next to it, its length in elements. The pointer must be good
  *    for that length; with length 0 it may be null. Slices of one call must not overlap.
@@ -23,7 +23,7 @@
 #define LABINTUGMO_H
 
 /* The version, here and nowhere else: CMake, pkg-config and ./labintugmo read this line. */
-#define LABINTUGMO_VERSION "1.1.0"
+#define LABINTUGMO_VERSION "2.0.0"
 
 #include <stddef.h>
 #include <stdint.h>
@@ -33,17 +33,22 @@ extern "C" {
 #endif
 
 /*
- * Settings, six numbers, always in this order. Any number may be passed; one outside its
- * range is refused (1).
+ * Settings: one slice of LABINTUGMO_SETTINGS numbers, in this order. Any numbers may be lent;
+ * one outside its range is refused (1), and so is a slice of another length.
  *
- *   sets     1 to 256, a power of two
- *   ways     1 to 16; sets * ways, the number of lines, is at most 1,024
- *   percent  0 to 100; a dirty line may be a victim only while
- *            100 * dirty lines >= percent * lines
- *   entries  1 to 64, of the miss table
- *   readers  1 to 8, tickets that one miss entry holds
- *   places   2 to 64, of the miss queue
+ * A setting that a later version adds comes last, and a slice without it has its older
+ * default: a program built for these settings then goes on meaning what it means.
  */
+enum {
+    LABINTUGMO_SETS = 0,    /* 1 to 256, a power of two */
+    LABINTUGMO_WAYS = 1,    /* 1 to 16; sets * ways, the number of lines, is at most 1,024 */
+    LABINTUGMO_DIRTY = 2,   /* 0 to 100, a percentage: a dirty line may be a victim only while
+                               100 * dirty lines >= dirty * lines */
+    LABINTUGMO_MISSES = 3,  /* 1 to 64, entries of the miss table */
+    LABINTUGMO_READERS = 4, /* 1 to 8, tickets that one miss entry holds */
+    LABINTUGMO_QUEUE = 5,   /* 2 to 64, places of the miss queue */
+    LABINTUGMO_SETTINGS = 6 /* how many there are */
+};
 
 /* Bytes of event room that a call, and that wait, asks for before it does anything. */
 enum { LABINTUGMO_ROOM = 64, LABINTUGMO_WAIT_ROOM = 9600 };
@@ -82,7 +87,7 @@ enum {
  * 10 from fill, 11 from tick, 12 from send.
  */
 enum {
-    LABINTUGMO_BAD_SETTINGS = 1,    /* a setting outside its range */
+    LABINTUGMO_BAD_SETTINGS = 1,    /* a setting outside its range, or another number of them */
     LABINTUGMO_OTHER_LENGTH = 2,    /* a lent slice of another length */
     LABINTUGMO_NOT_SOUND = 3,       /* tables that break a rule of sound tables */
     LABINTUGMO_NOT_WELL_FORMED = 4, /* address not a multiple of 32 or not below 2^48;
@@ -112,7 +117,7 @@ enum {
  * Commands, which labintugmo_run reads:
  */
 enum {
-    LABINTUGMO_COMMAND_SETTINGS = 0, /* 7: sets 2, ways, percent, entries, readers, places 1 each */
+    LABINTUGMO_COMMAND_SETTINGS = 0, /* 7: sets 2, ways, dirty, misses, readers, queue 1 each */
     LABINTUGMO_COMMAND_READ = 1,     /* 12: address 8, ticket 4 */
     LABINTUGMO_COMMAND_WRITE = 2,    /* 12: address 8, mask 4 */
     LABINTUGMO_COMMAND_SEND = 3,     /* 0 */
@@ -141,48 +146,43 @@ enum {
  * The lent tables. With lines = sets * ways, line number = set * ways + way, and
  * set = (address / 128) mod sets:
  *
- *   longs, lines + entries + places:
+ *   longs, lines + misses + queue:
  *     [line]                                       tag: the block address
  *     [lines + entry]                              miss entry: sector address
- *     [lines + entries + place]                    queue: sector or block address
+ *     [lines + misses + place]                     queue: sector or block address
  *
- *   words, 1 + 5 * lines + entries * readers + 4 * places:
+ *   words, 1 + 5 * lines + misses * readers + 4 * queue:
  *     [0]                                          current cycle
  *     [1 + line]                                   cycle of the line's last access
  *     [1 + lines + 4 * line + sector]              dirty mask, bit i for byte i
  *     [1 + 5 * lines + readers * entry + i]        miss entry: ticket i
- *     [1 + 5 * lines + readers * entries
+ *     [1 + 5 * lines + readers * misses
  *        + 4 * place + sector]                     queue: mask of a write-back
  *
- *   marks, 8 * lines + 2 * entries + places:
+ *   marks, 8 * lines + 2 * misses + queue:
  *     [4 * line + sector]                          status
  *     [4 * lines + 4 * line + sector]              1 readable, 0 not
  *     [8 * lines + entry]                          miss entry: 1 sent, 0 not
- *     [8 * lines + entries + entry]                miss entry: tickets; 0 is an unused entry
- *     [8 * lines + 2 * entries + place]            queue: kind; 0 is an unused place
+ *     [8 * lines + misses + entry]                 miss entry: tickets; 0 is an unused entry
+ *     [8 * lines + 2 * misses + place]             queue: kind; 0 is an unused place
  *
  * Used entries and places stand first, the oldest at 0. A caller may read any of these at
  * any time between calls; it should write none of them.
  */
 
 /* The lengths of the three slices for settings; 0 for settings out of range. */
-size_t labintugmo_longs_length(uint32_t sets, uint32_t ways, uint32_t percent,
-                               uint32_t entries, uint32_t readers, uint32_t places);
-size_t labintugmo_words_length(uint32_t sets, uint32_t ways, uint32_t percent,
-                               uint32_t entries, uint32_t readers, uint32_t places);
-size_t labintugmo_marks_length(uint32_t sets, uint32_t ways, uint32_t percent,
-                               uint32_t entries, uint32_t readers, uint32_t places);
+size_t labintugmo_longs_length(const uint32_t *settings, size_t settings_length);
+size_t labintugmo_words_length(const uint32_t *settings, size_t settings_length);
+size_t labintugmo_marks_length(const uint32_t *settings, size_t settings_length);
 
 /* Makes the tables fresh, whatever they held: 0, or refusal 1 or 2. */
-uint32_t labintugmo_fresh(uint32_t sets, uint32_t ways, uint32_t percent,
-                          uint32_t entries, uint32_t readers, uint32_t places,
+uint32_t labintugmo_fresh(const uint32_t *settings, size_t settings_length,
                           uint64_t *longs, size_t longs_length,
                           uint32_t *words, size_t words_length,
                           uint8_t *marks, size_t marks_length);
 
 /* Whether calls would take the tables: 0, or refusal 1, 2 or 3. */
-uint32_t labintugmo_check(uint32_t sets, uint32_t ways, uint32_t percent,
-                          uint32_t entries, uint32_t readers, uint32_t places,
+uint32_t labintugmo_check(const uint32_t *settings, size_t settings_length,
                           const uint64_t *longs, size_t longs_length,
                           const uint32_t *words, size_t words_length,
                           const uint8_t *marks, size_t marks_length);
@@ -195,8 +195,7 @@ uint32_t labintugmo_check(uint32_t sets, uint32_t ways, uint32_t percent,
  */
 
 /* A read of the sector at `address`; the ticket comes back in a 0x14 when it is filled. */
-size_t labintugmo_read(uint32_t sets, uint32_t ways, uint32_t percent,
-                       uint32_t entries, uint32_t readers, uint32_t places,
+size_t labintugmo_read(const uint32_t *settings, size_t settings_length,
                        uint64_t *longs, size_t longs_length,
                        uint32_t *words, size_t words_length,
                        uint8_t *marks, size_t marks_length,
@@ -204,8 +203,7 @@ size_t labintugmo_read(uint32_t sets, uint32_t ways, uint32_t percent,
                        uint8_t *events, size_t events_length);
 
 /* A write of the bytes of `mask` (not 0, bit i for byte i) of the sector at `address`. */
-size_t labintugmo_write(uint32_t sets, uint32_t ways, uint32_t percent,
-                        uint32_t entries, uint32_t readers, uint32_t places,
+size_t labintugmo_write(const uint32_t *settings, size_t settings_length,
                         uint64_t *longs, size_t longs_length,
                         uint32_t *words, size_t words_length,
                         uint8_t *marks, size_t marks_length,
@@ -214,8 +212,7 @@ size_t labintugmo_write(uint32_t sets, uint32_t ways, uint32_t percent,
 
 /* Either: is_write 0 is a read, whose mask must be 0; any other number is a write, whose
    ticket is ignored. */
-size_t labintugmo_access(uint32_t sets, uint32_t ways, uint32_t percent,
-                         uint32_t entries, uint32_t readers, uint32_t places,
+size_t labintugmo_access(const uint32_t *settings, size_t settings_length,
                          uint64_t *longs, size_t longs_length,
                          uint32_t *words, size_t words_length,
                          uint8_t *marks, size_t marks_length,
@@ -223,16 +220,14 @@ size_t labintugmo_access(uint32_t sets, uint32_t ways, uint32_t percent,
                          uint8_t *events, size_t events_length);
 
 /* Takes the head of the miss queue to the memory. */
-size_t labintugmo_send(uint32_t sets, uint32_t ways, uint32_t percent,
-                       uint32_t entries, uint32_t readers, uint32_t places,
+size_t labintugmo_send(const uint32_t *settings, size_t settings_length,
                        uint64_t *longs, size_t longs_length,
                        uint32_t *words, size_t words_length,
                        uint8_t *marks, size_t marks_length,
                        uint8_t *events, size_t events_length);
 
 /* The memory's answer to a read that was sent: `address` exactly as it was sent. */
-size_t labintugmo_fill(uint32_t sets, uint32_t ways, uint32_t percent,
-                       uint32_t entries, uint32_t readers, uint32_t places,
+size_t labintugmo_fill(const uint32_t *settings, size_t settings_length,
                        uint64_t *longs, size_t longs_length,
                        uint32_t *words, size_t words_length,
                        uint8_t *marks, size_t marks_length,
@@ -240,8 +235,7 @@ size_t labintugmo_fill(uint32_t sets, uint32_t ways, uint32_t percent,
                        uint8_t *events, size_t events_length);
 
 /* Sets the current cycle, which may stay but not go back. */
-size_t labintugmo_tick(uint32_t sets, uint32_t ways, uint32_t percent,
-                       uint32_t entries, uint32_t readers, uint32_t places,
+size_t labintugmo_tick(const uint32_t *settings, size_t settings_length,
                        uint64_t *longs, size_t longs_length,
                        uint32_t *words, size_t words_length,
                        uint8_t *marks, size_t marks_length,
@@ -260,8 +254,7 @@ size_t labintugmo_tick(uint32_t sets, uint32_t ways, uint32_t percent,
  * nothing done. With fewer than LABINTUGMO_WAIT_ROOM bytes of room, or another length of
  * `round`, it returns 0 and nothing changes.
  */
-size_t labintugmo_wait(uint32_t sets, uint32_t ways, uint32_t percent,
-                       uint32_t entries, uint32_t readers, uint32_t places,
+size_t labintugmo_wait(const uint32_t *settings, size_t settings_length,
                        uint64_t *longs, size_t longs_length,
                        uint32_t *words, size_t words_length,
                        uint8_t *marks, size_t marks_length,
@@ -282,8 +275,7 @@ enum { LABINTUGMO_ROUND_ROOM = 112 };
  * fewer than n flags or n * LABINTUGMO_ROUND_ROOM bytes of room: then nothing is run and
  * `counts` becomes 0 and 0. With another length of `counts` it returns 2 and nothing changes.
  */
-uint32_t labintugmo_rounds(uint32_t sets, uint32_t ways, uint32_t percent,
-                           uint32_t entries, uint32_t readers, uint32_t places,
+uint32_t labintugmo_rounds(const uint32_t *settings, size_t settings_length,
                            uint64_t *longs, size_t longs_length,
                            uint32_t *words, size_t words_length,
                            uint8_t *marks, size_t marks_length,
@@ -298,8 +290,7 @@ uint32_t labintugmo_rounds(uint32_t sets, uint32_t ways, uint32_t percent,
  * that labintugmo_rounds ran, it leaves the same numbers and writes the same events but 0x11.
  * Returns and counts as labintugmo_rounds does.
  */
-uint32_t labintugmo_struck(uint32_t sets, uint32_t ways, uint32_t percent,
-                           uint32_t entries, uint32_t readers, uint32_t places,
+uint32_t labintugmo_struck(const uint32_t *settings, size_t settings_length,
                            uint64_t *longs, size_t longs_length,
                            uint32_t *words, size_t words_length,
                            uint8_t *marks, size_t marks_length,
@@ -331,8 +322,7 @@ uint32_t labintugmo_run(const uint8_t *stream, size_t stream_length,
  * returned. Cut between any two records, where the part before stopped with 0 and none stops
  * with 16, the parts give the events and the tables of one run.
  */
-uint32_t labintugmo_resume(uint32_t sets, uint32_t ways, uint32_t percent,
-                           uint32_t entries, uint32_t readers, uint32_t places,
+uint32_t labintugmo_resume(const uint32_t *settings, size_t settings_length,
                            const uint8_t *part, size_t part_length,
                            uint8_t *events, size_t events_length,
                            uint64_t *longs, size_t longs_length,

@@ -31,22 +31,27 @@ namespace labintugmo {
 struct Settings {
     std::uint32_t sets = 0;
     std::uint32_t ways = 0;
-    std::uint32_t percent = 0;
-    std::uint32_t entries = 0;
+    std::uint32_t dirty = 0;
+    std::uint32_t misses = 0;
     std::uint32_t readers = 0;
-    std::uint32_t places = 0;
+    std::uint32_t queue = 0;
 
-    std::size_t longs_length() const noexcept {
-        return labintugmo_longs_length(sets, ways, percent, entries, readers, places);
-    }
-    std::size_t words_length() const noexcept {
-        return labintugmo_words_length(sets, ways, percent, entries, readers, places);
-    }
-    std::size_t marks_length() const noexcept {
-        return labintugmo_marks_length(sets, ways, percent, entries, readers, places);
-    }
+    // The slice that the calls in C are lent.
+    using Numbers = std::array<std::uint32_t, LABINTUGMO_SETTINGS>;
+    Numbers numbers() const noexcept { return {sets, ways, dirty, misses, readers, queue}; }
+
+    std::size_t longs_length() const noexcept { return length(labintugmo_longs_length); }
+    std::size_t words_length() const noexcept { return length(labintugmo_words_length); }
+    std::size_t marks_length() const noexcept { return length(labintugmo_marks_length); }
     bool in_range() const noexcept { return longs_length() != 0; }
     std::size_t lines() const noexcept { return std::size_t{sets} * ways; }
+
+private:
+    template <class Function>
+    std::size_t length(Function function) const noexcept {
+        const Numbers lent = numbers();
+        return function(lent.data(), lent.size());
+    }
 };
 
 // The three arrays of one cache.
@@ -72,13 +77,13 @@ inline bool operator!=(const Tables& a, const Tables& b) { return !(a == b); }
 class Layout {
 public:
     explicit Layout(const Settings& s) noexcept
-        : lines_(s.lines()), entries_(s.entries), readers_(s.readers) {}
+        : lines_(s.lines()), misses_(s.misses), readers_(s.readers) {}
 
     // In longs.
     std::size_t tag(std::size_t line) const noexcept { return line; }
     std::size_t miss_address(std::size_t entry) const noexcept { return lines_ + entry; }
     std::size_t queue_address(std::size_t place) const noexcept {
-        return lines_ + entries_ + place;
+        return lines_ + misses_ + place;
     }
 
     // In words.
@@ -91,7 +96,7 @@ public:
         return 1 + 5 * lines_ + readers_ * entry + which;
     }
     std::size_t queue_mask(std::size_t place, std::size_t sector) const noexcept {
-        return 1 + 5 * lines_ + readers_ * entries_ + 4 * place + sector;
+        return 1 + 5 * lines_ + readers_ * misses_ + 4 * place + sector;
     }
 
     // In marks.
@@ -103,15 +108,15 @@ public:
     }
     std::size_t sent(std::size_t entry) const noexcept { return 8 * lines_ + entry; }
     std::size_t ticket_count(std::size_t entry) const noexcept {
-        return 8 * lines_ + entries_ + entry;
+        return 8 * lines_ + misses_ + entry;
     }
     std::size_t queue_kind(std::size_t place) const noexcept {
-        return 8 * lines_ + 2 * entries_ + place;
+        return 8 * lines_ + 2 * misses_ + place;
     }
 
 private:
     std::size_t lines_;
-    std::size_t entries_;
+    std::size_t misses_;
     std::size_t readers_;
 };
 
@@ -509,13 +514,13 @@ public:
     // False, and nothing is added, if a number does not fit its field; those in range do.
     bool settings(const Settings& s) {
         const std::uint32_t most = 0xFF;
-        if (s.sets > 0xFFFF || s.ways > most || s.percent > most || s.entries > most ||
-            s.readers > most || s.places > most) {
+        if (s.sets > 0xFFFF || s.ways > most || s.dirty > most || s.misses > most ||
+            s.readers > most || s.queue > most) {
             return false;
         }
         bytes_.push_back(LABINTUGMO_COMMAND_SETTINGS);
         put(s.sets, 2);
-        for (const std::uint32_t number : {s.ways, s.percent, s.entries, s.readers, s.places}) {
+        for (const std::uint32_t number : {s.ways, s.dirty, s.misses, s.readers, s.queue}) {
             put(number, 1);
         }
         return true;
@@ -569,10 +574,10 @@ inline constexpr auto tick = labintugmo_step_tick;
 // A call on settings and tables, const or not.
 template <class Function, class Lent, class... Arguments>
 auto lend(Function function, const Settings& s, Lent& tables, Arguments... arguments) {
-    return function(s.sets, s.ways, s.percent, s.entries, s.readers, s.places,
-                    tables.longs.data(), tables.longs.size(), tables.words.data(),
-                    tables.words.size(), tables.marks.data(), tables.marks.size(),
-                    arguments...);
+    const Settings::Numbers settings = s.numbers();
+    return function(settings.data(), settings.size(), tables.longs.data(), tables.longs.size(),
+                    tables.words.data(), tables.words.size(), tables.marks.data(),
+                    tables.marks.size(), arguments...);
 }
 
 }  // namespace detail
@@ -632,11 +637,11 @@ public:
     std::uint32_t cycle() const noexcept { return empty() ? 0 : tables_.words[0]; }
     // Queue places in use.
     std::size_t queued() const noexcept {
-        return used(layout().queue_kind(0), settings_.places);
+        return used(layout().queue_kind(0), settings_.queue);
     }
     // Miss entries in use, sent or not.
     std::size_t misses() const noexcept {
-        return used(layout().ticket_count(0), settings_.entries);
+        return used(layout().ticket_count(0), settings_.misses);
     }
 
     // Makes the tables fresh.
@@ -729,12 +734,11 @@ public:
     RunResult resume(const std::uint8_t* part, std::size_t length, std::uint8_t* events,
                      std::size_t room) {
         std::array<std::uint64_t, 2> counts{};
+        const Settings::Numbers settings = settings_.numbers();
         const std::uint32_t stop = labintugmo_resume(
-            settings_.sets, settings_.ways, settings_.percent, settings_.entries,
-            settings_.readers, settings_.places, part, length, events, room,
-            tables_.longs.data(), tables_.longs.size(), tables_.words.data(),
-            tables_.words.size(), tables_.marks.data(), tables_.marks.size(), counts.data(),
-            counts.size());
+            settings.data(), settings.size(), part, length, events, room, tables_.longs.data(),
+            tables_.longs.size(), tables_.words.data(), tables_.words.size(),
+            tables_.marks.data(), tables_.marks.size(), counts.data(), counts.size());
         return {static_cast<Stop>(stop), counts[0], counts[1]};
     }
 

@@ -6,8 +6,7 @@ macro_rules! declare {
     ($($name:ident($($argument:ident: $kind:ty),*) -> $result:ty;)*) => {
         extern "C" {
             $(pub fn $name(
-                sets: u32, ways: u32, percent: u32, entries: u32, readers: u32, places: u32,
-                $($argument: $kind),*
+                settings: *const u32, settings_length: usize, $($argument: $kind),*
             ) -> $result;)*
         }
     };

@@ -16,39 +16,34 @@
 extern "C" {
 #endif
 
-size_t labintugmo_step_read(uint32_t sets, uint32_t ways, uint32_t percent,
-                            uint32_t entries, uint32_t readers, uint32_t places,
+size_t labintugmo_step_read(const uint32_t *settings, size_t settings_length,
                             uint64_t *longs, size_t longs_length,
                             uint32_t *words, size_t words_length,
                             uint8_t *marks, size_t marks_length,
                             uint64_t address, uint32_t ticket,
                             uint8_t *events, size_t events_length);
 
-size_t labintugmo_step_write(uint32_t sets, uint32_t ways, uint32_t percent,
-                             uint32_t entries, uint32_t readers, uint32_t places,
+size_t labintugmo_step_write(const uint32_t *settings, size_t settings_length,
                              uint64_t *longs, size_t longs_length,
                              uint32_t *words, size_t words_length,
                              uint8_t *marks, size_t marks_length,
                              uint64_t address, uint32_t mask,
                              uint8_t *events, size_t events_length);
 
-size_t labintugmo_step_send(uint32_t sets, uint32_t ways, uint32_t percent,
-                            uint32_t entries, uint32_t readers, uint32_t places,
+size_t labintugmo_step_send(const uint32_t *settings, size_t settings_length,
                             uint64_t *longs, size_t longs_length,
                             uint32_t *words, size_t words_length,
                             uint8_t *marks, size_t marks_length,
                             uint8_t *events, size_t events_length);
 
-size_t labintugmo_step_fill(uint32_t sets, uint32_t ways, uint32_t percent,
-                            uint32_t entries, uint32_t readers, uint32_t places,
+size_t labintugmo_step_fill(const uint32_t *settings, size_t settings_length,
                             uint64_t *longs, size_t longs_length,
                             uint32_t *words, size_t words_length,
                             uint8_t *marks, size_t marks_length,
                             uint64_t address,
                             uint8_t *events, size_t events_length);
 
-size_t labintugmo_step_tick(uint32_t sets, uint32_t ways, uint32_t percent,
-                            uint32_t entries, uint32_t readers, uint32_t places,
+size_t labintugmo_step_tick(const uint32_t *settings, size_t settings_length,
                             uint64_t *longs, size_t longs_length,
                             uint32_t *words, size_t words_length,
                             uint8_t *marks, size_t marks_length,

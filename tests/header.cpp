@@ -62,13 +62,17 @@ void settings_and_layout() {
         CHECK(!bad.in_range());
         CHECK(!Cache::make(bad));
     }
-    const Settings wide{64, 4, 50, 16, 4, 32};
+    const Settings wide{64, 4, 50, 16, 8, 32};
+    const Settings::Numbers numbers = wide.numbers();
+    CHECK(numbers[LABINTUGMO_SETS] == wide.sets && numbers[LABINTUGMO_WAYS] == wide.ways);
+    CHECK(numbers[LABINTUGMO_DIRTY] == wide.dirty && numbers[LABINTUGMO_MISSES] == wide.misses);
+    CHECK(numbers[LABINTUGMO_READERS] == wide.readers && numbers[LABINTUGMO_QUEUE] == wide.queue);
     const Layout at(wide);
     CHECK(wide.in_range() && wide.lines() == 256);
     CHECK(at.tag(255) + 1 == at.miss_address(0) && at.miss_address(15) + 1 == at.queue_address(0));
     CHECK(at.queue_address(31) + 1 == wide.longs_length());
     CHECK(at.current_cycle() + 1 == at.line_cycle(0) && at.line_cycle(255) + 1 == at.mask(0, 0));
-    CHECK(at.mask(255, 3) + 1 == at.ticket(0, 0) && at.ticket(15, 3) + 1 == at.queue_mask(0, 0));
+    CHECK(at.mask(255, 3) + 1 == at.ticket(0, 0) && at.ticket(15, 7) + 1 == at.queue_mask(0, 0));
     CHECK(at.queue_mask(31, 3) + 1 == wide.words_length());
     CHECK(at.status(255, 3) + 1 == at.readable(0, 0) && at.readable(255, 3) + 1 == at.sent(0));
     CHECK(at.sent(15) + 1 == at.ticket_count(0) && at.ticket_count(15) + 1 == at.queue_kind(0));
@@ -197,7 +201,7 @@ void waits() {
             keep(by_hand.send());
         }
         const Layout at = by_hand.layout();
-        for (std::size_t entry = 0; entry < tight.entries; ++entry) {
+        for (std::size_t entry = 0; entry < tight.misses; ++entry) {
             if (by_hand.tables().marks[at.sent(entry)] == 1) {
                 keep(by_hand.fill(by_hand.tables().longs[at.miss_address(entry)]));
                 break;
@@ -253,7 +257,7 @@ void runs() {
     Bytes events(event_room(stream.data(), stream.size()));
     RunResult result = same_lengths.run(stream.data(), stream.size(), events.data(), events.size());
     CHECK(result.stop == Stop::unknown_kind && same_lengths.settings().sets == 1);
-    CHECK(same_lengths.settings().percent == 50 && !same_lengths.check());
+    CHECK(same_lengths.settings().dirty == 50 && !same_lengths.check());
     CHECK(same_lengths.tables() == stopped.cache->tables());
     Cache other_lengths = fresh({4, 1, 10, 2, 2, 4});
     result = other_lengths.run(stream.data(), stream.size(), events.data(), events.size());
@@ -300,14 +304,14 @@ void parts() {
 // A cache steps without a check; its answers, events and tables are those of the checked calls.
 void as_the_calls() {
     const Settings s{2, 2, 30, 3, 2, 5};
+    const Settings::Numbers numbers = s.numbers();
     Cache cache = fresh(s);
     Tables t = cache.tables();
     const auto lent = [&](auto function, auto... rest) {
         Bytes events(LABINTUGMO_ROOM);
-        events.resize(function(s.sets, s.ways, s.percent, s.entries, s.readers, s.places,
-                               t.longs.data(), t.longs.size(), t.words.data(), t.words.size(),
-                               t.marks.data(), t.marks.size(), rest..., events.data(),
-                               events.size()));
+        events.resize(function(numbers.data(), numbers.size(), t.longs.data(), t.longs.size(),
+                               t.words.data(), t.words.size(), t.marks.data(), t.marks.size(),
+                               rest..., events.data(), events.size()));
         return events;
     };
     std::uint32_t state = 1;

@@ -1,7 +1,8 @@
 /*
- * The C header used from C99: lengths by settings, the whole run of document 01, wrong
- * lengths, null and empty slices, too little room, a stream in parts, the stack that each call
- * takes. Everything lent is compared with what it was wherever nothing may change.
+ * The C header used from C99: lengths by settings, settings of another length, the whole run of
+ * document 01, wrong lengths, null and empty slices, too little room, a stream in parts, the
+ * stack that each call takes. Everything lent is compared with what it was wherever nothing may
+ * change.
  *
  * Ends with a line `slices: N checks, M failed` and a status.
  */
@@ -24,9 +25,17 @@ static int checks, failures;
         }                                                                       \
     } while (0)
 
-/* Base settings: 1 set, 2 ways, P 50, M 2, W 2, Q 4; 2 lines. */
-#define BASE 1, 2, 50, 2, 2, 4
+/* Base settings, of 2 lines. */
+static const uint32_t base[LABINTUGMO_SETTINGS] = {
+    [LABINTUGMO_SETS] = 1,   [LABINTUGMO_WAYS] = 2,    [LABINTUGMO_DIRTY] = 50,
+    [LABINTUGMO_MISSES] = 2, [LABINTUGMO_READERS] = 2, [LABINTUGMO_QUEUE] = 4};
+#define BASE base, LABINTUGMO_SETTINGS
 enum { LONGS = 2 + 2 + 4, WORDS = 1 + 5 * 2 + 2 * 2 + 4 * 4, MARKS = 8 * 2 + 2 * 2 + 4 };
+
+/* The largest tables: 256 sets of 4 ways, 64 miss entries of 8 readers, 64 queue places. */
+static const uint32_t large[LABINTUGMO_SETTINGS] = {256, 4, 0, 64, 8, 64};
+#define LARGE large, LABINTUGMO_SETTINGS
+enum { L_LONGS = 1024 + 64 + 64, L_WORDS = 1 + 5 * 1024 + 64 * 8 + 4 * 64, L_MARKS = 8 * 1024 + 3 * 64 };
 
 /* One element more than the lengths ask for, so that a slice can be too long by one. */
 struct tables {
@@ -50,6 +59,14 @@ static int same(const struct tables *a, const struct tables *b)
            memcmp(a->marks, b->marks, sizeof a->marks) == 0;
 }
 
+/* A call wrote refusal 1 and nothing else; its event room is made other for the next. */
+static int refused(size_t written, uint8_t *events)
+{
+    const int so = written == 2 && events[0] == 0x11 && events[1] == 1;
+    noise(events, 2);
+    return so;
+}
+
 static struct tables fresh_tables(void)
 {
     struct tables t;
@@ -58,9 +75,37 @@ static struct tables fresh_tables(void)
     return t;
 }
 
+/* Every call refuses the settings, whatever else it is lent, and changes nothing. */
+static void refused_settings(const uint32_t *s, size_t sn)
+{
+    static uint8_t events[LABINTUGMO_WAIT_ROOM], flag[1] = {9};
+    struct tables t = fresh_tables(), before = t;
+    uint64_t round = 9, counts[2] = {9, 9};
+    const size_t room = sizeof events;
+    CHECK(labintugmo_longs_length(s, sn) == 0);
+    CHECK(labintugmo_words_length(s, sn) == 0);
+    CHECK(labintugmo_marks_length(s, sn) == 0);
+    CHECK(labintugmo_fresh(s, sn, LENT(t)) == 1);
+    CHECK(labintugmo_fresh(s, sn, NULL, 0, NULL, 0, NULL, 0) == 1);
+    CHECK(labintugmo_check(s, sn, LENT(t)) == 1);
+    CHECK(refused(labintugmo_read(s, sn, LENT(t), 0, 1, events, room), events));
+    CHECK(refused(labintugmo_write(s, sn, LENT(t), 0, 1, events, room), events));
+    CHECK(refused(labintugmo_access(s, sn, LENT(t), 1, 0, 1, 0, events, room), events));
+    CHECK(refused(labintugmo_send(s, sn, NULL, 0, NULL, 0, NULL, 0, events, room), events));
+    CHECK(refused(labintugmo_fill(s, sn, LENT(t), 0, events, room), events));
+    CHECK(refused(labintugmo_tick(s, sn, LENT(t), 1, events, room), events));
+    CHECK(refused(labintugmo_wait(s, sn, LENT(t), 0, 0, 0, 1, events, room, &round, 1), events));
+    CHECK(round == 0);
+    CHECK(labintugmo_rounds(s, sn, LENT(t), 0, 0, 0, 1, 1, flag, 1, events, room, counts, 2) == 1);
+    CHECK(labintugmo_struck(s, sn, LENT(t), 0, 0, 0, 1, flag, 1, events, room, counts, 2) == 1);
+    CHECK(labintugmo_resume(s, sn, NULL, 0, events, room, LENT(t), counts, 2) == 1);
+    CHECK(flag[0] == 9 && counts[0] == 0 && counts[1] == 0);
+    CHECK(same(&t, &before));
+}
+
 static void lengths(void)
 {
-    static const uint32_t bad[][6] = {
+    static const uint32_t bad[][LABINTUGMO_SETTINGS] = {
         {0, 2, 50, 2, 2, 4},          {3, 2, 50, 2, 2, 4},    {512, 1, 50, 2, 2, 4},
         {1, 0, 50, 2, 2, 4},          {1, 17, 50, 2, 2, 4},   {256, 5, 50, 2, 2, 4},
         {1, 2, 101, 2, 2, 4},         {1, 2, 50, 0, 2, 4},    {1, 2, 50, 65, 2, 4},
@@ -68,27 +113,29 @@ static void lengths(void)
         {1, 2, 50, 2, 2, 65},         {65536, 65536, 50, 2, 2, 4},
         {1, 2, UINT32_MAX, 2, 2, 4},  {0x80000000u, 2, 50, 2, 2, 4},
         {1, 2, 50, 2, UINT32_MAX, UINT32_MAX}};
-    struct tables t = fresh_tables(), before = t;
-    uint8_t events[LABINTUGMO_ROOM];
     size_t i;
     CHECK(labintugmo_longs_length(BASE) == LONGS);
     CHECK(labintugmo_words_length(BASE) == WORDS);
     CHECK(labintugmo_marks_length(BASE) == MARKS);
-    CHECK(labintugmo_longs_length(256, 4, 0, 64, 8, 64) == 1024 + 64 + 64);
-    CHECK(labintugmo_words_length(256, 4, 0, 64, 8, 64) == 1 + 5 * 1024 + 64 * 8 + 4 * 64);
-    CHECK(labintugmo_marks_length(256, 4, 0, 64, 8, 64) == 8 * 1024 + 2 * 64 + 64);
+    CHECK(labintugmo_longs_length(LARGE) == L_LONGS);
+    CHECK(labintugmo_words_length(LARGE) == L_WORDS);
+    CHECK(labintugmo_marks_length(LARGE) == L_MARKS);
     for (i = 0; i < sizeof bad / sizeof bad[0]; ++i) {
-        const uint32_t *s = bad[i];
-        CHECK(labintugmo_longs_length(s[0], s[1], s[2], s[3], s[4], s[5]) == 0);
-        CHECK(labintugmo_words_length(s[0], s[1], s[2], s[3], s[4], s[5]) == 0);
-        CHECK(labintugmo_marks_length(s[0], s[1], s[2], s[3], s[4], s[5]) == 0);
-        CHECK(labintugmo_fresh(s[0], s[1], s[2], s[3], s[4], s[5], LENT(t)) == 1);
-        CHECK(labintugmo_fresh(s[0], s[1], s[2], s[3], s[4], s[5], NULL, 0, NULL, 0, NULL, 0) == 1);
-        CHECK(labintugmo_check(s[0], s[1], s[2], s[3], s[4], s[5], LENT(t)) == 1);
-        CHECK(labintugmo_send(s[0], s[1], s[2], s[3], s[4], s[5], NULL, 0, NULL, 0, NULL, 0,
-                              events, sizeof events) == 2 && events[0] == 0x11 && events[1] == 1);
-        CHECK(same(&t, &before));
+        refused_settings(bad[i], LABINTUGMO_SETTINGS);
     }
+}
+
+/* Fewer numbers than there are settings, none, and one more, all of them in range. */
+static void other_settings(void)
+{
+    static const uint32_t more[LABINTUGMO_SETTINGS + 1] = {1, 2, 50, 2, 2, 4, 0};
+    size_t length;
+    for (length = 0; length < LABINTUGMO_SETTINGS; ++length) {
+        refused_settings(more, length);
+    }
+    refused_settings(NULL, 0);
+    refused_settings(more, LABINTUGMO_SETTINGS + 1);
+    CHECK(labintugmo_longs_length(more, LABINTUGMO_SETTINGS) == LONGS);
 }
 
 static void whole_run(void)
@@ -275,6 +322,7 @@ static void parts(void)
 {
     static const uint8_t settings[] = {0, 1, 0, 2, 50, 2, 2, 4};
     static const uint8_t tick[] = {5, 1, 0, 0, 0};
+    static const uint32_t three[LABINTUGMO_SETTINGS] = {3, 2, 50, 2, 2, 4};
     struct tables t, before;
     uint8_t events[64], untouched[64];
     uint64_t counts[3] = {4, 5, 6};
@@ -285,7 +333,8 @@ static void parts(void)
     CHECK(labintugmo_resume(BASE, tick, 5, events, 64, LENT(t), NULL, 0) == 2);
     CHECK(labintugmo_resume(BASE, tick, 5, events, 64, LENT(t), counts, 3) == 2);
     CHECK(counts[0] == 4 && counts[1] == 5 && counts[2] == 6);
-    CHECK(labintugmo_resume(3, 2, 50, 2, 2, 4, tick, 0, events, 64, LENT(t), counts, 2) == 1);
+    CHECK(labintugmo_resume(three, LABINTUGMO_SETTINGS, tick, 0, events, 64, LENT(t), counts,
+                            2) == 1);
     CHECK(counts[0] == 0 && counts[1] == 0);
     CHECK(labintugmo_resume(BASE, tick, 0, events, 64, NULL, 0, NULL, 0, NULL, 0, counts, 2) == 2);
     t.marks[0] = 4;
@@ -302,10 +351,7 @@ static void parts(void)
     CHECK(counts[0] == 5 && counts[1] == 1 && events[0] == 0x18 && t.words[0] == 1);
 }
 
-/* The largest tables: 256 sets of 4 ways, 64 entries of 8 readers, 64 places. */
-#define LARGE 256, 4, 0, 64, 8, 64
-enum { L_LONGS = 1024 + 64 + 64, L_WORDS = 1 + 5 * 1024 + 64 * 8 + 4 * 64, L_MARKS = 8 * 1024 + 3 * 64 };
-
+/* The tables of LARGE. */
 static uint64_t large_longs[L_LONGS];
 static uint32_t large_words[L_WORDS];
 static uint8_t large_marks[L_MARKS];
@@ -367,6 +413,7 @@ static void stack(void)
 int main(void)
 {
     lengths();
+    other_settings();
     whole_run();
     wrong_lengths();
     not_fresh();

@@ -17,15 +17,21 @@ pub struct Tables {
     pub marks: Vec<u8>,
 }
 
-/// The six settings of some tables, then their three slices, as arguments of a call.
+/// The numbers that are lent as settings.
+fn numbers(settings: Settings) -> [u32; 6] {
+    let Settings { sets, ways, percent, entries, readers, places } = settings;
+    [sets, ways, percent, entries, readers, places]
+}
+
+/// The settings of some tables, then their three slices, as arguments of a call.
 macro_rules! call {
     ($name:ident, $tables:expr $(, $argument:expr)*) => {{
         let tables = $tables;
-        let Settings { sets, ways, percent, entries, readers, places } = tables.settings;
+        let settings = numbers(tables.settings);
         // The slices are different vectors, each lent with its own length.
         unsafe {
             $name(
-                sets, ways, percent, entries, readers, places,
+                settings.as_ptr(), settings.len(),
                 tables.longs.as_mut_ptr(), tables.longs.len(),
                 tables.words.as_mut_ptr(), tables.words.len(),
                 tables.marks.as_mut_ptr(), tables.marks.len(),
@@ -37,12 +43,12 @@ macro_rules! call {
 
 impl Tables {
     pub fn fresh(settings: Settings) -> Tables {
-        let Settings { sets, ways, percent, entries, readers, places } = settings;
+        let lent = numbers(settings);
         let [longs, words, marks] = unsafe {
             [
-                labintugmo_longs_length(sets, ways, percent, entries, readers, places),
-                labintugmo_words_length(sets, ways, percent, entries, readers, places),
-                labintugmo_marks_length(sets, ways, percent, entries, readers, places),
+                labintugmo_longs_length(lent.as_ptr(), lent.len()),
+                labintugmo_words_length(lent.as_ptr(), lent.len()),
+                labintugmo_marks_length(lent.as_ptr(), lent.len()),
             ]
         };
         let (longs, words, marks) = (vec![0; longs], vec![0; words], vec![0; marks]);

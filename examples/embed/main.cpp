@@ -56,9 +56,9 @@ std::optional<std::uint64_t> number_after(std::istream& words, const char* expec
 
 bool read_settings(std::istream& words, Settings& settings) {
     const std::pair<const char*, std::uint32_t*> fields[] = {
-        {"sets", &settings.sets},      {"ways", &settings.ways},
-        {"dirty", &settings.percent},  {"misses", &settings.entries},
-        {"readers", &settings.readers}, {"queue", &settings.places}};
+        {"sets", &settings.sets},       {"ways", &settings.ways},
+        {"dirty", &settings.dirty},     {"misses", &settings.misses},
+        {"readers", &settings.readers}, {"queue", &settings.queue}};
     for (const auto& [word, field] : fields) {
         const auto number = number_after(words, word, 32);
         if (!number) {

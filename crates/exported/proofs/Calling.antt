@@ -1,4 +1,5 @@
--- What an exported call leaves: nothing where the event room is too small, else what the call left and the records of its value.
+-- What an exported call leaves: nothing where the event room is too small, else what the call left and the records of its value. Also what
+-- another number of settings is.
 use mathlib.Core.Path.{_≡_, refl, sym, ap, _∙_}
 use mathlib.Core.Bool.{Bool, true, false}
 use mathlib.Core.List.{List, [], _∷_}
@@ -33,7 +34,7 @@ use Rattle.records.specs.Stores.{Stored}
 use Rattle.records.proofs.Stores.{stored-behind}
 use Rattle.records.proofs.Room.{Takes, access-takes, step-takes}
 use Rattle.records.proofs.OfCalls.{call-room}
-use Rattle.exported.specs.Exported.{Called, Stepped, lengthFor, mayWait, roundNumber, WaitCalled, RunCalled}
+use Rattle.exported.specs.Exported.{mayLend, settingsFrom, Called, Stepped, lengthFor, mayWait, roundNumber, WaitCalled, RunCalled}
 
 pub call-unmade : (o : Outcome Lent) (L : Lent) (e : List ℕ) → length e < 64 → Called o L e 0 e L
 call-unmade o L e h = record { written = rw (lt-leb 64 (length e) h); events = rw (lt-leb 64 (length e) h); left = rw (lt-leb 64 (length e) h) }
@@ -84,7 +85,13 @@ step-made S c L e told small held room d s =
       held = record { tables = after t (stepOf S c t); are = does-is S d t i (step-keeps-sound S c t (i .range) small (i .soundly)) };
     }
 
--- ---- a length by the settings s, which are the six numbers S
+-- ---- another number of settings is out of range, so every call refuses it
+
+pub other-number-out-of-range : (l : List ℕ) → mayLend (length l) ≡ false → inRange (settingsFrom l) ≡ false
+unfolding settingsFrom inRange
+other-number-out-of-range l h = rw h
+
+-- ---- a length by the settings s, which are those lent as S
 
 pub length-given : (S s : Settings) (f : Settings → ℕ) {b : Bool} {r : ℕ} → s ≡ S → b ≡ inRange s → b ≡ true → r ≡ f s → r ≡ lengthFor S (f S)
 length-given S s f e g h q = rw (← e, sym g ∙ h) q

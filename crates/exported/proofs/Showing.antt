@@ -9,13 +9,8 @@ use Rattle.model.specs.Lent.{Lent}
 use Rattle.model.specs.Records.{eventsIn, eventsFrom}
 use Rattle.rounds.specs.Demand3.{Shown, shown}
 use Rattle.rounds.specs.declared.Went.{Went}
+use Rattle.exported.proofs.Calling.{two-set}
 use Rattle.exported.specs.Demand3.{wentNumber, roundsRun, bytesWritten, ShownCalled, FlagsCalled}
-
-both-set : (k : List ℕ) (m n : ℕ) → length k ≡ 2 → set (set k 0 m) 1 n ≡ m ∷ n ∷ []
-both-set [] m n h = absurd (omega arith)
-both-set (x ∷ []) m n h = absurd (omega arith)
-both-set (x ∷ y ∷ []) m n h = refl
-both-set (x ∷ y ∷ z ∷ k) m n h = absurd (omega arith)
 
 module _ (k : List ℕ) where
   module _ (h : length k ≡ 2 → ⊥) where
@@ -33,7 +28,7 @@ module _ (k : List ℕ) where
         let q = eq-eqb (length k) 2 two in
         rw (← s) record {
           says = rw q c;
-          counts = rw q (both-set k m n two ∙ rw (a, b));
+          counts = rw q (two-set k m n two ∙ rw (a, b));
           events = rw q;
           reads = rw q;
           left = rw q;

@@ -1,9 +1,9 @@
--- What a call from C leaves: its return value, the event buffer and the slices.
+-- What a call from C is lent as settings, and what it leaves: its return value, the event buffer and the slices.
 use mathlib.Core.Path.{_≡_}
 use Prim.Native.Nat.{ℕ}
 use mathlib.Core.Bool.{Bool, _&&_}
 use mathlib.Core.List.{List, [], _∷_, _++_}
-use lib.ListN.{length, drop}
+use lib.ListN.{length, drop, getD}
 use lib.Dec.{leb, eqb}
 use Rattle.model.specs.Words.{pick}
 use Rattle.model.specs.Numbers.{refusalNumber, stopNumber}
@@ -23,9 +23,22 @@ use Rattle.rounds.specs.declared.Waiting.{Waiting}
 use Rattle.rounds.specs.declared.Waiting.the-variants.{Accepted, NoRoom}
 use Rattle.rounds.specs.declared.Waiting.the-variants as waiting
 
-abbrev pub settingsOf : ℕ → ℕ → ℕ → ℕ → ℕ → ℕ → Settings
-settingsOf sets ways percent entries readers places =
-    record { sets = sets; ways = ways; percent = percent; entries = entries; readers = readers; places = places }
+-- ---- settings, as one slice of numbers
+
+-- by its places, in the order of the table of settings: sets, ways, dirty, misses, readers, queue
+abbrev pub numbered : List ℕ → Settings
+numbered l = record { sets = getD l 0 0; ways = getD l 1 0; percent = getD l 2 0; entries = getD l 3 0; readers = getD l 4 0; places = getD l 5 0 }
+
+-- how many numbers may be lent. A setting that is added later comes last: its number joins this one, and `getD` gives a slice without it its
+-- older default
+abbrev pub mayLend : ℕ → Bool
+mayLend n = eqb n 6
+
+-- with another number of them all are 0, and 0 sets are out of range: so it is refused as 1, "a setting outside its range"
+unfoldable pub settingsFrom : List ℕ → Settings
+settingsFrom l = pick (mayLend (length l)) (numbered l) (numbered [])
+
+-- ---- results and arguments
 
 -- 0 where nothing is refused
 abbrev pub verdictNumber : Verdict → ℕ

@@ -1,12 +1,12 @@
 // The rounds of demand 3 and the struck rounds as C sees them (include/labintugmo.h). How many were run and the bytes of their events go to a
 // slice of two numbers.
 use crate::access_for;
-use crate::settings;
+use crate::settings_from;
 use rounds::Went;
 ghost use mathlib.Core.Path.{_≡_};
 ghost use Rattle.model.specs.Lent.{lent};
 ghost use Rattle.rounds.specs.Demand3.{roundsCall, flagsCall, struckCall};
-ghost use Rattle.exported.specs.Exported.{settingsOf, accessFor};
+ghost use Rattle.exported.specs.Exported.{settingsFrom, accessFor};
 ghost use Rattle.exported.specs.Demand3.{wentNumber, roundsRun, bytesWritten, ShownCalled, FlagsCalled};
 
 // 0, or the refusal's number, or 16 where flags or bytes are too few.
@@ -45,12 +45,7 @@ fn bytes_written(w: Went) -> u64
 
 #[no_mangle]
 pub extern "C" fn labintugmo_rounds(
-    sets: u32,
-    ways: u32,
-    percent: u32,
-    entries: u32,
-    readers: u32,
-    places: u32,
+    settings: &[u32],
     longs: &mut [u64],
     words: &mut [u32],
     marks: &mut [u8],
@@ -63,15 +58,15 @@ pub extern "C" fn labintugmo_rounds(
     events: &mut [u8],
     counts: &mut [u64],
 ) -> u32
-    ensures { λ r. ⌜ ShownCalled (roundsCall (settingsOf sets ways percent entries readers places) (accessFor «is_write» address mask ticket) n (lent (now (longs .entry)) (now (words .entry)) (now (marks .entry))) (now (flags .entry)) (now (events .entry))) (lent (now (longs .entry)) (now (words .entry)) (now (marks .entry)))
+    ensures { λ r. ⌜ ShownCalled (roundsCall (settingsFrom (now (settings .entry))) (accessFor «is_write» address mask ticket) n (lent (now (longs .entry)) (now (words .entry)) (now (marks .entry))) (now (flags .entry)) (now (events .entry))) (lent (now (longs .entry)) (now (words .entry)) (now (marks .entry)))
         (now (events .entry)) (now (counts .entry)) r (now (events .exit)) (now (counts .exit)) (lent (now (longs .exit)) (now (words .exit)) (now (marks .exit))) ⌝ }
-    ensures { λ _. ⌜ FlagsCalled (flagsCall (settingsOf sets ways percent entries readers places) (accessFor «is_write» address mask ticket) n (lent (now (longs .entry)) (now (words .entry)) (now (marks .entry))) (now (flags .entry)) (now (events .entry)))
+    ensures { λ _. ⌜ FlagsCalled (flagsCall (settingsFrom (now (settings .entry))) (accessFor «is_write» address mask ticket) n (lent (now (longs .entry)) (now (words .entry)) (now (marks .entry))) (now (flags .entry)) (now (events .entry)))
         (now (flags .entry)) (now (counts .entry)) (now (flags .exit)) ⌝ }
 {
     if counts.len() != 2 {
         return 2;
     }
-    let s = settings(sets, ways, percent, entries, readers, places);
+    let s = settings_from(settings);
     let x = access_for(is_write, address, mask, ticket);
     let went = rounds::run_rounds(s, longs, words, marks, x, n, flags, events);
     counts[0] = rounds_run(went);
@@ -81,12 +76,7 @@ pub extern "C" fn labintugmo_rounds(
 
 #[no_mangle]
 pub extern "C" fn labintugmo_struck(
-    sets: u32,
-    ways: u32,
-    percent: u32,
-    entries: u32,
-    readers: u32,
-    places: u32,
+    settings: &[u32],
     longs: &mut [u64],
     words: &mut [u32],
     marks: &mut [u8],
@@ -98,13 +88,13 @@ pub extern "C" fn labintugmo_struck(
     events: &mut [u8],
     counts: &mut [u64],
 ) -> u32
-    ensures { λ r. ⌜ ShownCalled (struckCall (settingsOf sets ways percent entries readers places) (accessFor «is_write» address mask ticket) (lent (now (longs .entry)) (now (words .entry)) (now (marks .entry))) (now (flags .entry)) (now (events .entry))) (lent (now (longs .entry)) (now (words .entry)) (now (marks .entry)))
+    ensures { λ r. ⌜ ShownCalled (struckCall (settingsFrom (now (settings .entry))) (accessFor «is_write» address mask ticket) (lent (now (longs .entry)) (now (words .entry)) (now (marks .entry))) (now (flags .entry)) (now (events .entry))) (lent (now (longs .entry)) (now (words .entry)) (now (marks .entry)))
         (now (events .entry)) (now (counts .entry)) r (now (events .exit)) (now (counts .exit)) (lent (now (longs .exit)) (now (words .exit)) (now (marks .exit))) ⌝ }
 {
     if counts.len() != 2 {
         return 2;
     }
-    let s = settings(sets, ways, percent, entries, readers, places);
+    let s = settings_from(settings);
     let x = access_for(is_write, address, mask, ticket);
     let went = rounds::run_struck(s, longs, words, marks, x, flags, events);
     counts[0] = rounds_run(went);

@@ -1,6 +1,6 @@
-// The library as C sees it (include/labintugmo.h): numbers and slices alone, a slice as a pointer and a length. Settings come as six
-// numbers. A call writes its event records at the start of the caller's buffer and returns how many bytes they are. `demand3` has the
-// rounds of demand 3, `unchecked` the steps behind the calls' checks.
+// The library as C sees it (include/labintugmo.h): numbers and slices alone, a slice as a pointer and a length. Settings come as one
+// slice, so that a later setting moves no signature. A call writes its event records at the start of the caller's buffer and returns how
+// many bytes they are. `demand3` has the rounds of demand 3, `unchecked` the steps behind the calls' checks.
 mod demand3;
 mod unchecked;
 
@@ -11,7 +11,7 @@ use model::Verdict;
 use rounds::Waiting;
 ghost use mathlib.Core.Path.{_≡_};
 ghost use mathlib.Core.List.{[], _∷_};
-ghost use lib.ListN.{length};
+ghost use lib.ListN.{length, getD};
 ghost use Rattle.model.specs.Range.{longsLength, wordsLength, marksLength};
 ghost use Rattle.model.specs.Tables.{after};
 ghost use Rattle.model.specs.Lent.{lent};
@@ -20,30 +20,47 @@ ghost use Rattle.model.specs.declared.Access.the-variants.{Read, Write};
 ghost use Rattle.model.specs.Numbers.{stopNumber};
 ghost use Rattle.model.specs.Runner.{run, resume};
 ghost use Rattle.rounds.specs.Waiting.{waitCall};
-ghost use Rattle.exported.specs.Exported.{settingsOf, verdictNumber, lengthFor, accessFor, roundNumber, Called, WaitCalled, RunCalled};
+ghost use Rattle.exported.specs.Exported.{settingsFrom, verdictNumber, lengthFor, accessFor, roundNumber, Called, WaitCalled, RunCalled};
 
 // With fewer bytes of event room nothing is called: what one call, and what a wait, can need.
 pub(crate) const EVENT_ROOM: usize = 64;
 
 const WAIT_ROOM: usize = 9600;
 
-pub(crate) fn settings(
-    sets: u32,
-    ways: u32,
-    percent: u32,
-    entries: u32,
-    readers: u32,
-    places: u32,
-) -> Settings
-    ensures { λ r. ⌜ r ≡ (settingsOf sets ways percent entries readers places) ⌝ }
+// How many settings there are.
+const SETTINGS: usize = 6;
+
+// The number at a place of the settings; 0 behind their end.
+fn number(settings: &[u32], place: usize) -> usize
+    ensures { λ r. ⌜ r ≡ getD (now (settings .entry)) place 0 ⌝ }
 {
+    if place < settings.len() {
+        return settings[place] as usize;
+    }
+    0
+}
+
+// By their places; all 0, which is out of range, for another number of them.
+pub(crate) fn settings_from(settings: &[u32]) -> Settings
+    ensures { λ r. ⌜ r ≡ settingsFrom (now (settings .entry)) ⌝ }
+{
+    if settings.len() != SETTINGS {
+        return Settings {
+            sets: 0,
+            ways: 0,
+            percent: 0,
+            entries: 0,
+            readers: 0,
+            places: 0,
+        };
+    }
     Settings {
-        sets: sets as usize,
-        ways: ways as usize,
-        percent: percent as usize,
-        entries: entries as usize,
-        readers: readers as usize,
-        places: places as usize,
+        sets: number(settings, 0),
+        ways: number(settings, 1),
+        percent: number(settings, 2),
+        entries: number(settings, 3),
+        readers: number(settings, 4),
+        places: number(settings, 5),
     }
 }
 
@@ -74,17 +91,10 @@ fn access_for(is_write: u32, address: u64, mask: u32, ticket: u32) -> Access
 }
 
 #[no_mangle]
-pub extern "C" fn labintugmo_longs_length(
-    sets: u32,
-    ways: u32,
-    percent: u32,
-    entries: u32,
-    readers: u32,
-    places: u32,
-) -> usize
-    ensures { λ r. ⌜ r ≡ lengthFor (settingsOf sets ways percent entries readers places) (longsLength (settingsOf sets ways percent entries readers places)) ⌝ }
+pub extern "C" fn labintugmo_longs_length(settings: &[u32]) -> usize
+    ensures { λ r. ⌜ r ≡ lengthFor (settingsFrom (now (settings .entry))) (longsLength (settingsFrom (now (settings .entry)))) ⌝ }
 {
-    let s = settings(sets, ways, percent, entries, readers, places);
+    let s = settings_from(settings);
     if soundness::in_range(s) {
         return soundness::longs_length(s);
     }
@@ -92,17 +102,10 @@ pub extern "C" fn labintugmo_longs_length(
 }
 
 #[no_mangle]
-pub extern "C" fn labintugmo_words_length(
-    sets: u32,
-    ways: u32,
-    percent: u32,
-    entries: u32,
-    readers: u32,
-    places: u32,
-) -> usize
-    ensures { λ r. ⌜ r ≡ lengthFor (settingsOf sets ways percent entries readers places) (wordsLength (settingsOf sets ways percent entries readers places)) ⌝ }
+pub extern "C" fn labintugmo_words_length(settings: &[u32]) -> usize
+    ensures { λ r. ⌜ r ≡ lengthFor (settingsFrom (now (settings .entry))) (wordsLength (settingsFrom (now (settings .entry)))) ⌝ }
 {
-    let s = settings(sets, ways, percent, entries, readers, places);
+    let s = settings_from(settings);
     if soundness::in_range(s) {
         return soundness::words_length(s);
     }
@@ -110,17 +113,10 @@ pub extern "C" fn labintugmo_words_length(
 }
 
 #[no_mangle]
-pub extern "C" fn labintugmo_marks_length(
-    sets: u32,
-    ways: u32,
-    percent: u32,
-    entries: u32,
-    readers: u32,
-    places: u32,
-) -> usize
-    ensures { λ r. ⌜ r ≡ lengthFor (settingsOf sets ways percent entries readers places) (marksLength (settingsOf sets ways percent entries readers places)) ⌝ }
+pub extern "C" fn labintugmo_marks_length(settings: &[u32]) -> usize
+    ensures { λ r. ⌜ r ≡ lengthFor (settingsFrom (now (settings .entry))) (marksLength (settingsFrom (now (settings .entry)))) ⌝ }
 {
-    let s = settings(sets, ways, percent, entries, readers, places);
+    let s = settings_from(settings);
     if soundness::in_range(s) {
         return soundness::marks_length(s);
     }
@@ -129,49 +125,54 @@ pub extern "C" fn labintugmo_marks_length(
 
 #[no_mangle]
 pub extern "C" fn labintugmo_fresh(
-    sets: u32,
-    ways: u32,
-    percent: u32,
-    entries: u32,
-    readers: u32,
-    places: u32,
+    settings: &[u32],
     longs: &mut [u64],
     words: &mut [u32],
     marks: &mut [u8],
 ) -> u32
-    ensures { λ r. ⌜ (r ≡ verdictNumber (verdictOf (freshCall (settingsOf sets ways percent entries readers places) (lent (now (longs .entry)) (now (words .entry)) (now (marks .entry))))))
-        × ((lent (now (longs .exit)) (now (words .exit)) (now (marks .exit))) ≡ after (lent (now (longs .entry)) (now (words .entry)) (now (marks .entry))) (freshCall (settingsOf sets ways percent entries readers places) (lent (now (longs .entry)) (now (words .entry)) (now (marks .entry))))) ⌝ }
+    ensures { λ r. ⌜ (r ≡ verdictNumber (verdictOf (freshCall (settingsFrom (now (settings .entry))) (lent (now (longs .entry)) (now (words .entry)) (now (marks .entry))))))
+        × ((lent (now (longs .exit)) (now (words .exit)) (now (marks .exit))) ≡ after (lent (now (longs .entry)) (now (words .entry)) (now (marks .entry))) (freshCall (settingsFrom (now (settings .entry))) (lent (now (longs .entry)) (now (words .entry)) (now (marks .entry))))) ⌝ }
 {
-    let s = settings(sets, ways, percent, entries, readers, places);
+    let s = settings_from(settings);
     verdict_number(cache::fresh(s, longs, words, marks))
 }
 
 #[no_mangle]
 pub extern "C" fn labintugmo_check(
-    sets: u32,
-    ways: u32,
-    percent: u32,
-    entries: u32,
-    readers: u32,
-    places: u32,
+    settings: &[u32],
     longs: &[u64],
     words: &[u32],
     marks: &[u8],
 ) -> u32
-    ensures { λ r. ⌜ r ≡ verdictNumber (verdictOf (checkCall (settingsOf sets ways percent entries readers places) (lent (now (longs .entry)) (now (words .entry)) (now (marks .entry))))) ⌝ }
+    ensures { λ r. ⌜ r ≡ verdictNumber (verdictOf (checkCall (settingsFrom (now (settings .entry))) (lent (now (longs .entry)) (now (words .entry)) (now (marks .entry))))) ⌝ }
 {
-    let s = settings(sets, ways, percent, entries, readers, places);
+    let s = settings_from(settings);
     verdict_number(soundness::check(s, longs, words, marks))
+}
+
+// What read, write and access come to.
+fn offer(
+    settings: &[u32],
+    longs: &mut [u64],
+    words: &mut [u32],
+    marks: &mut [u8],
+    x: Access,
+    events: &mut [u8],
+) -> usize
+    ensures { λ r. ⌜ Called (accessCall (settingsFrom (now (settings .entry))) x (lent (now (longs .entry)) (now (words .entry)) (now (marks .entry)))) (lent (now (longs .entry)) (now (words .entry)) (now (marks .entry)))
+        (now (events .entry)) r (now (events .exit)) (lent (now (longs .exit)) (now (words .exit)) (now (marks .exit))) ⌝ }
+{
+    if events.len() < EVENT_ROOM {
+        return 0;
+    }
+    let s = settings_from(settings);
+    let told = cache::access(s, longs, words, marks, x);
+    records::write_told(told, events, 0)
 }
 
 #[no_mangle]
 pub extern "C" fn labintugmo_read(
-    sets: u32,
-    ways: u32,
-    percent: u32,
-    entries: u32,
-    readers: u32,
-    places: u32,
+    settings: &[u32],
     longs: &mut [u64],
     words: &mut [u32],
     marks: &mut [u8],
@@ -179,25 +180,20 @@ pub extern "C" fn labintugmo_read(
     ticket: u32,
     events: &mut [u8],
 ) -> usize
-    ensures { λ r. ⌜ Called (accessCall (settingsOf sets ways percent entries readers places) (Read address 0 ticket) (lent (now (longs .entry)) (now (words .entry)) (now (marks .entry)))) (lent (now (longs .entry)) (now (words .entry)) (now (marks .entry)))
+    ensures { λ r. ⌜ Called (accessCall (settingsFrom (now (settings .entry))) (Read address 0 ticket) (lent (now (longs .entry)) (now (words .entry)) (now (marks .entry)))) (lent (now (longs .entry)) (now (words .entry)) (now (marks .entry)))
         (now (events .entry)) r (now (events .exit)) (lent (now (longs .exit)) (now (words .exit)) (now (marks .exit))) ⌝ }
 {
-    if events.len() < EVENT_ROOM {
-        return 0;
-    }
-    let s = settings(sets, ways, percent, entries, readers, places);
-    let told = cache::read(s, longs, words, marks, address, ticket);
-    records::write_told(told, events, 0)
+    let x = Access::Read {
+        address,
+        mask: 0,
+        ticket,
+    };
+    offer(settings, longs, words, marks, x, events)
 }
 
 #[no_mangle]
 pub extern "C" fn labintugmo_write(
-    sets: u32,
-    ways: u32,
-    percent: u32,
-    entries: u32,
-    readers: u32,
-    places: u32,
+    settings: &[u32],
     longs: &mut [u64],
     words: &mut [u32],
     marks: &mut [u8],
@@ -205,99 +201,79 @@ pub extern "C" fn labintugmo_write(
     mask: u32,
     events: &mut [u8],
 ) -> usize
-    ensures { λ r. ⌜ Called (accessCall (settingsOf sets ways percent entries readers places) (Write address mask 0) (lent (now (longs .entry)) (now (words .entry)) (now (marks .entry)))) (lent (now (longs .entry)) (now (words .entry)) (now (marks .entry)))
+    ensures { λ r. ⌜ Called (accessCall (settingsFrom (now (settings .entry))) (Write address mask 0) (lent (now (longs .entry)) (now (words .entry)) (now (marks .entry)))) (lent (now (longs .entry)) (now (words .entry)) (now (marks .entry)))
         (now (events .entry)) r (now (events .exit)) (lent (now (longs .exit)) (now (words .exit)) (now (marks .exit))) ⌝ }
 {
-    if events.len() < EVENT_ROOM {
-        return 0;
-    }
-    let s = settings(sets, ways, percent, entries, readers, places);
-    let told = cache::write(s, longs, words, marks, address, mask);
-    records::write_told(told, events, 0)
+    let x = Access::Write {
+        address,
+        mask,
+        ticket: 0,
+    };
+    offer(settings, longs, words, marks, x, events)
 }
 
 #[no_mangle]
 pub extern "C" fn labintugmo_send(
-    sets: u32,
-    ways: u32,
-    percent: u32,
-    entries: u32,
-    readers: u32,
-    places: u32,
+    settings: &[u32],
     longs: &mut [u64],
     words: &mut [u32],
     marks: &mut [u8],
     events: &mut [u8],
 ) -> usize
-    ensures { λ r. ⌜ Called (sendCall (settingsOf sets ways percent entries readers places) (lent (now (longs .entry)) (now (words .entry)) (now (marks .entry)))) (lent (now (longs .entry)) (now (words .entry)) (now (marks .entry)))
+    ensures { λ r. ⌜ Called (sendCall (settingsFrom (now (settings .entry))) (lent (now (longs .entry)) (now (words .entry)) (now (marks .entry)))) (lent (now (longs .entry)) (now (words .entry)) (now (marks .entry)))
         (now (events .entry)) r (now (events .exit)) (lent (now (longs .exit)) (now (words .exit)) (now (marks .exit))) ⌝ }
 {
     if events.len() < EVENT_ROOM {
         return 0;
     }
-    let s = settings(sets, ways, percent, entries, readers, places);
+    let s = settings_from(settings);
     let told = cache::send(s, longs, words, marks);
     records::write_told(told, events, 0)
 }
 
 #[no_mangle]
 pub extern "C" fn labintugmo_fill(
-    sets: u32,
-    ways: u32,
-    percent: u32,
-    entries: u32,
-    readers: u32,
-    places: u32,
+    settings: &[u32],
     longs: &mut [u64],
     words: &mut [u32],
     marks: &mut [u8],
     address: u64,
     events: &mut [u8],
 ) -> usize
-    ensures { λ r. ⌜ Called (fillCall (settingsOf sets ways percent entries readers places) address (lent (now (longs .entry)) (now (words .entry)) (now (marks .entry)))) (lent (now (longs .entry)) (now (words .entry)) (now (marks .entry)))
+    ensures { λ r. ⌜ Called (fillCall (settingsFrom (now (settings .entry))) address (lent (now (longs .entry)) (now (words .entry)) (now (marks .entry)))) (lent (now (longs .entry)) (now (words .entry)) (now (marks .entry)))
         (now (events .entry)) r (now (events .exit)) (lent (now (longs .exit)) (now (words .exit)) (now (marks .exit))) ⌝ }
 {
     if events.len() < EVENT_ROOM {
         return 0;
     }
-    let s = settings(sets, ways, percent, entries, readers, places);
+    let s = settings_from(settings);
     let filled = cache::fill(s, longs, words, marks, address);
     records::write_told(filled, events, 0)
 }
 
 #[no_mangle]
 pub extern "C" fn labintugmo_tick(
-    sets: u32,
-    ways: u32,
-    percent: u32,
-    entries: u32,
-    readers: u32,
-    places: u32,
+    settings: &[u32],
     longs: &mut [u64],
     words: &mut [u32],
     marks: &mut [u8],
     cycle: u32,
     events: &mut [u8],
 ) -> usize
-    ensures { λ r. ⌜ Called (tickCall (settingsOf sets ways percent entries readers places) cycle (lent (now (longs .entry)) (now (words .entry)) (now (marks .entry)))) (lent (now (longs .entry)) (now (words .entry)) (now (marks .entry)))
+    ensures { λ r. ⌜ Called (tickCall (settingsFrom (now (settings .entry))) cycle (lent (now (longs .entry)) (now (words .entry)) (now (marks .entry)))) (lent (now (longs .entry)) (now (words .entry)) (now (marks .entry)))
         (now (events .entry)) r (now (events .exit)) (lent (now (longs .exit)) (now (words .exit)) (now (marks .exit))) ⌝ }
 {
     if events.len() < EVENT_ROOM {
         return 0;
     }
-    let s = settings(sets, ways, percent, entries, readers, places);
+    let s = settings_from(settings);
     let told = cache::tick(s, longs, words, marks, cycle);
     records::write_told(told, events, 0)
 }
 
 #[no_mangle]
 pub extern "C" fn labintugmo_access(
-    sets: u32,
-    ways: u32,
-    percent: u32,
-    entries: u32,
-    readers: u32,
-    places: u32,
+    settings: &[u32],
     longs: &mut [u64],
     words: &mut [u32],
     marks: &mut [u8],
@@ -307,16 +283,11 @@ pub extern "C" fn labintugmo_access(
     ticket: u32,
     events: &mut [u8],
 ) -> usize
-    ensures { λ r. ⌜ Called (accessCall (settingsOf sets ways percent entries readers places) (accessFor «is_write» address mask ticket) (lent (now (longs .entry)) (now (words .entry)) (now (marks .entry)))) (lent (now (longs .entry)) (now (words .entry)) (now (marks .entry)))
+    ensures { λ r. ⌜ Called (accessCall (settingsFrom (now (settings .entry))) (accessFor «is_write» address mask ticket) (lent (now (longs .entry)) (now (words .entry)) (now (marks .entry)))) (lent (now (longs .entry)) (now (words .entry)) (now (marks .entry)))
         (now (events .entry)) r (now (events .exit)) (lent (now (longs .exit)) (now (words .exit)) (now (marks .exit))) ⌝ }
 {
-    if events.len() < EVENT_ROOM {
-        return 0;
-    }
-    let s = settings(sets, ways, percent, entries, readers, places);
     let x = access_for(is_write, address, mask, ticket);
-    let told = cache::access(s, longs, words, marks, x);
-    records::write_told(told, events, 0)
+    offer(settings, longs, words, marks, x, events)
 }
 
 // The accepting round; 0 where there is none.
@@ -333,12 +304,7 @@ fn round_number(w: Waiting) -> u64
 
 #[no_mangle]
 pub extern "C" fn labintugmo_wait(
-    sets: u32,
-    ways: u32,
-    percent: u32,
-    entries: u32,
-    readers: u32,
-    places: u32,
+    settings: &[u32],
     longs: &mut [u64],
     words: &mut [u32],
     marks: &mut [u8],
@@ -349,7 +315,7 @@ pub extern "C" fn labintugmo_wait(
     events: &mut [u8],
     round: &mut [u64],
 ) -> usize
-    ensures { λ r. ⌜ WaitCalled (waitCall (settingsOf sets ways percent entries readers places) (accessFor «is_write» address mask ticket) (lent (now (longs .entry)) (now (words .entry)) (now (marks .entry)))) (lent (now (longs .entry)) (now (words .entry)) (now (marks .entry)))
+    ensures { λ r. ⌜ WaitCalled (waitCall (settingsFrom (now (settings .entry))) (accessFor «is_write» address mask ticket) (lent (now (longs .entry)) (now (words .entry)) (now (marks .entry)))) (lent (now (longs .entry)) (now (words .entry)) (now (marks .entry)))
         (now (events .entry)) (now (round .entry)) r (now (events .exit)) (now (round .exit)) (lent (now (longs .exit)) (now (words .exit)) (now (marks .exit))) ⌝ }
 {
     if round.len() != 1 {
@@ -358,7 +324,7 @@ pub extern "C" fn labintugmo_wait(
     if events.len() < WAIT_ROOM {
         return 0;
     }
-    let s = settings(sets, ways, percent, entries, readers, places);
+    let s = settings_from(settings);
     let x = access_for(is_write, address, mask, ticket);
     let waited = rounds::wait(s, longs, words, marks, x, events);
     let waiting = waited.waiting;
@@ -398,12 +364,7 @@ pub extern "C" fn labintugmo_run(
 // Goes on from kept tables and settings with the next part of a stream.
 #[no_mangle]
 pub extern "C" fn labintugmo_resume(
-    sets: u32,
-    ways: u32,
-    percent: u32,
-    entries: u32,
-    readers: u32,
-    places: u32,
+    settings: &[u32],
     stream: &[u8],
     events: &mut [u8],
     longs: &mut [u64],
@@ -411,13 +372,13 @@ pub extern "C" fn labintugmo_resume(
     marks: &mut [u8],
     counts: &mut [u64],
 ) -> u32
-    ensures { λ r. ⌜ RunCalled (resume (settingsOf sets ways percent entries readers places) (length (now (events .entry))) (now (stream .entry)) (lent (now (longs .entry)) (now (words .entry)) (now (marks .entry)))) (lent (now (longs .entry)) (now (words .entry)) (now (marks .entry)))
+    ensures { λ r. ⌜ RunCalled (resume (settingsFrom (now (settings .entry))) (length (now (events .entry))) (now (stream .entry)) (lent (now (longs .entry)) (now (words .entry)) (now (marks .entry)))) (lent (now (longs .entry)) (now (words .entry)) (now (marks .entry)))
         (now (events .entry)) (now (counts .entry)) r (now (events .exit)) (now (counts .exit)) (lent (now (longs .exit)) (now (words .exit)) (now (marks .exit))) ⌝ }
 {
     if counts.len() != 2 {
         return 2;
     }
-    let s = settings(sets, ways, percent, entries, readers, places);
+    let s = settings_from(settings);
     note_run(
         runner::resume(s, stream, events, longs, words, marks),
         counts,

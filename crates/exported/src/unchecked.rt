@@ -1,22 +1,17 @@
 // The steps of the calls without their check, for a caller whose tables nobody else can write: each asks for slices that are the encoding of
 // sound tables, leaves such slices, and leaves and writes what the checked call does (include/labintugmo_steps.h).
 use crate::EVENT_ROOM;
-use crate::settings;
+use crate::settings_from;
 use model::Access;
 ghost use Rattle.model.specs.Lent.{lent};
 ghost use Rattle.model.specs.Inner.{Held};
 ghost use Rattle.model.specs.Calls.{accessCall, sendCall, fillCall, tickCall};
 ghost use Rattle.model.specs.declared.Access.the-variants.{Read, Write};
-ghost use Rattle.exported.specs.Exported.{settingsOf, Stepped};
+ghost use Rattle.exported.specs.Exported.{settingsFrom, Stepped};
 
 #[no_mangle]
 pub extern "C" fn labintugmo_step_read(
-    sets: u32,
-    ways: u32,
-    percent: u32,
-    entries: u32,
-    readers: u32,
-    places: u32,
+    settings: &[u32],
     longs: &mut [u64],
     words: &mut [u32],
     marks: &mut [u8],
@@ -24,14 +19,14 @@ pub extern "C" fn labintugmo_step_read(
     ticket: u32,
     events: &mut [u8],
 ) -> usize
-    requires { ⌜ Held (settingsOf sets ways percent entries readers places) (lent (now longs) (now words) (now marks)) ⌝ }
-    ensures { λ r. ⌜ Stepped (settingsOf sets ways percent entries readers places) (accessCall (settingsOf sets ways percent entries readers places) (Read address 0 ticket) (lent (now (longs .entry)) (now (words .entry)) (now (marks .entry)))) (lent (now (longs .entry)) (now (words .entry)) (now (marks .entry)))
+    requires { ⌜ Held (settingsFrom (now settings)) (lent (now longs) (now words) (now marks)) ⌝ }
+    ensures { λ r. ⌜ Stepped (settingsFrom (now (settings .entry))) (accessCall (settingsFrom (now (settings .entry))) (Read address 0 ticket) (lent (now (longs .entry)) (now (words .entry)) (now (marks .entry)))) (lent (now (longs .entry)) (now (words .entry)) (now (marks .entry)))
         (now (events .entry)) r (now (events .exit)) (lent (now (longs .exit)) (now (words .exit)) (now (marks .exit))) ⌝ }
 {
     if events.len() < EVENT_ROOM {
         return 0;
     }
-    let s = settings(sets, ways, percent, entries, readers, places);
+    let s = settings_from(settings);
     let x = Access::Read {
         address,
         mask: 0,
@@ -43,12 +38,7 @@ pub extern "C" fn labintugmo_step_read(
 
 #[no_mangle]
 pub extern "C" fn labintugmo_step_write(
-    sets: u32,
-    ways: u32,
-    percent: u32,
-    entries: u32,
-    readers: u32,
-    places: u32,
+    settings: &[u32],
     longs: &mut [u64],
     words: &mut [u32],
     marks: &mut [u8],
@@ -56,14 +46,14 @@ pub extern "C" fn labintugmo_step_write(
     mask: u32,
     events: &mut [u8],
 ) -> usize
-    requires { ⌜ Held (settingsOf sets ways percent entries readers places) (lent (now longs) (now words) (now marks)) ⌝ }
-    ensures { λ r. ⌜ Stepped (settingsOf sets ways percent entries readers places) (accessCall (settingsOf sets ways percent entries readers places) (Write address mask 0) (lent (now (longs .entry)) (now (words .entry)) (now (marks .entry)))) (lent (now (longs .entry)) (now (words .entry)) (now (marks .entry)))
+    requires { ⌜ Held (settingsFrom (now settings)) (lent (now longs) (now words) (now marks)) ⌝ }
+    ensures { λ r. ⌜ Stepped (settingsFrom (now (settings .entry))) (accessCall (settingsFrom (now (settings .entry))) (Write address mask 0) (lent (now (longs .entry)) (now (words .entry)) (now (marks .entry)))) (lent (now (longs .entry)) (now (words .entry)) (now (marks .entry)))
         (now (events .entry)) r (now (events .exit)) (lent (now (longs .exit)) (now (words .exit)) (now (marks .exit))) ⌝ }
 {
     if events.len() < EVENT_ROOM {
         return 0;
     }
-    let s = settings(sets, ways, percent, entries, readers, places);
+    let s = settings_from(settings);
     let x = Access::Write {
         address,
         mask,
@@ -75,77 +65,62 @@ pub extern "C" fn labintugmo_step_write(
 
 #[no_mangle]
 pub extern "C" fn labintugmo_step_send(
-    sets: u32,
-    ways: u32,
-    percent: u32,
-    entries: u32,
-    readers: u32,
-    places: u32,
+    settings: &[u32],
     longs: &mut [u64],
     words: &mut [u32],
     marks: &mut [u8],
     events: &mut [u8],
 ) -> usize
-    requires { ⌜ Held (settingsOf sets ways percent entries readers places) (lent (now longs) (now words) (now marks)) ⌝ }
-    ensures { λ r. ⌜ Stepped (settingsOf sets ways percent entries readers places) (sendCall (settingsOf sets ways percent entries readers places) (lent (now (longs .entry)) (now (words .entry)) (now (marks .entry)))) (lent (now (longs .entry)) (now (words .entry)) (now (marks .entry)))
+    requires { ⌜ Held (settingsFrom (now settings)) (lent (now longs) (now words) (now marks)) ⌝ }
+    ensures { λ r. ⌜ Stepped (settingsFrom (now (settings .entry))) (sendCall (settingsFrom (now (settings .entry))) (lent (now (longs .entry)) (now (words .entry)) (now (marks .entry)))) (lent (now (longs .entry)) (now (words .entry)) (now (marks .entry)))
         (now (events .entry)) r (now (events .exit)) (lent (now (longs .exit)) (now (words .exit)) (now (marks .exit))) ⌝ }
 {
     if events.len() < EVENT_ROOM {
         return 0;
     }
-    let s = settings(sets, ways, percent, entries, readers, places);
+    let s = settings_from(settings);
     let told = steps::send_step(s, longs, words, marks);
     records::write_told(told, events, 0)
 }
 
 #[no_mangle]
 pub extern "C" fn labintugmo_step_fill(
-    sets: u32,
-    ways: u32,
-    percent: u32,
-    entries: u32,
-    readers: u32,
-    places: u32,
+    settings: &[u32],
     longs: &mut [u64],
     words: &mut [u32],
     marks: &mut [u8],
     address: u64,
     events: &mut [u8],
 ) -> usize
-    requires { ⌜ Held (settingsOf sets ways percent entries readers places) (lent (now longs) (now words) (now marks)) ⌝ }
-    ensures { λ r. ⌜ Stepped (settingsOf sets ways percent entries readers places) (fillCall (settingsOf sets ways percent entries readers places) address (lent (now (longs .entry)) (now (words .entry)) (now (marks .entry)))) (lent (now (longs .entry)) (now (words .entry)) (now (marks .entry)))
+    requires { ⌜ Held (settingsFrom (now settings)) (lent (now longs) (now words) (now marks)) ⌝ }
+    ensures { λ r. ⌜ Stepped (settingsFrom (now (settings .entry))) (fillCall (settingsFrom (now (settings .entry))) address (lent (now (longs .entry)) (now (words .entry)) (now (marks .entry)))) (lent (now (longs .entry)) (now (words .entry)) (now (marks .entry)))
         (now (events .entry)) r (now (events .exit)) (lent (now (longs .exit)) (now (words .exit)) (now (marks .exit))) ⌝ }
 {
     if events.len() < EVENT_ROOM {
         return 0;
     }
-    let s = settings(sets, ways, percent, entries, readers, places);
+    let s = settings_from(settings);
     let told = steps::fill_step(s, longs, words, marks, address);
     records::write_told(told, events, 0)
 }
 
 #[no_mangle]
 pub extern "C" fn labintugmo_step_tick(
-    sets: u32,
-    ways: u32,
-    percent: u32,
-    entries: u32,
-    readers: u32,
-    places: u32,
+    settings: &[u32],
     longs: &mut [u64],
     words: &mut [u32],
     marks: &mut [u8],
     cycle: u32,
     events: &mut [u8],
 ) -> usize
-    requires { ⌜ Held (settingsOf sets ways percent entries readers places) (lent (now longs) (now words) (now marks)) ⌝ }
-    ensures { λ r. ⌜ Stepped (settingsOf sets ways percent entries readers places) (tickCall (settingsOf sets ways percent entries readers places) cycle (lent (now (longs .entry)) (now (words .entry)) (now (marks .entry)))) (lent (now (longs .entry)) (now (words .entry)) (now (marks .entry)))
+    requires { ⌜ Held (settingsFrom (now settings)) (lent (now longs) (now words) (now marks)) ⌝ }
+    ensures { λ r. ⌜ Stepped (settingsFrom (now (settings .entry))) (tickCall (settingsFrom (now (settings .entry))) cycle (lent (now (longs .entry)) (now (words .entry)) (now (marks .entry)))) (lent (now (longs .entry)) (now (words .entry)) (now (marks .entry)))
         (now (events .entry)) r (now (events .exit)) (lent (now (longs .exit)) (now (words .exit)) (now (marks .exit))) ⌝ }
 {
     if events.len() < EVENT_ROOM {
         return 0;
     }
-    let s = settings(sets, ways, percent, entries, readers, places);
+    let s = settings_from(settings);
     let told = steps::tick_step(s, longs, words, marks, cycle);
     records::write_told(told, events, 0)
 }

@@ -38,7 +38,7 @@ fn made(
 ) -> Result<(Tables, Vec<u8>), String> {
     let room = [0xEE; ROOM_NEEDED];
     let beside = Beside { room: &room, numbers: &[], empty: EmptySlice::Buffer };
-    let made = make(settings, tables, call, beside);
+    let made = make(&settings.six(), tables, call, beside);
     if !made.guards_intact || made.returned > room.len() {
         return Err(format!("{}: written where it may not", call.name()));
     }
@@ -52,7 +52,7 @@ fn first_tables(random: &mut Random, settings: &Settings, fresh: bool) -> Result
     }
     let noise = noise_tables(random, lengths_for(settings));
     let beside = Beside { room: &[], numbers: &[], empty: EmptySlice::Buffer };
-    let made = make(settings, &noise, &Exported::Fresh, beside);
+    let made = make(&settings.six(), &noise, &Exported::Fresh, beside);
     match made.returned {
         0 => Ok(made.tables),
         number => Err(format!("fresh: refused with {number}")),

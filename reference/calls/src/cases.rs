@@ -1,6 +1,7 @@
 //! The cases of the first part: calls over tables reached by walks, over built
-//! sound tables, over damaged tables, and with wrong lengths, bad settings or
-//! too little event room. The runs of streams stand in `runs`, parts that go on in `parts`.
+//! sound tables, over damaged tables, and with wrong lengths, bad settings, another
+//! number of them or too little event room. The runs of streams stand in `runs`, parts
+//! that go on in `parts`.
 
 use crate::exported::{EmptySlice, Exported};
 use crate::parts;
@@ -34,6 +35,7 @@ fn trial<'a>(
     settings: Settings,
     tables: Tables,
 ) -> Trial<'a> {
+    let settings = settings.six().to_vec();
     let length = if random.percent(30) { 64 } else { random.between(64, 200) as usize };
     let room = noise(random, length);
     let wait_length = WAIT_ROOM + if random.percent(50) { 0 } else { random.index(9) };
@@ -221,7 +223,7 @@ fn wrong_lengths(random: &mut Random, counts: &mut Counts, nulls: bool) -> Resul
     Ok(())
 }
 
-/// Settings out of range with tables that fit other ones, or with none.
+/// Settings out of range, or too few or too many, with tables that fit other ones, or with none.
 fn bad_settings(random: &mut Random, counts: &mut Counts, nulls: bool) -> Result<(), String> {
     let good = choices::good_settings(random);
     let cache = Cache::fresh(good);
@@ -230,14 +232,30 @@ fn bad_settings(random: &mut Random, counts: &mut Counts, nulls: bool) -> Result
         1 => cache.encode(),
         _ => noise_tables(random, [3, 5, 7]),
     };
-    let settings = choices::bad_settings(random);
-    let mut trial = trial(random, counts, "settings out of range", settings, tables);
+    let mut trial = if random.percent(50) {
+        let settings = choices::bad_settings(random);
+        trial(random, counts, "settings out of range", settings, tables)
+    } else {
+        let mut trial = trial(random, counts, "another number of settings", good, tables);
+        trial.settings = other_number(random, &good);
+        trial
+    };
     trial.empty = any_empty(random, nulls);
     trial.lengths()?;
     for call in every_exported(random, &cache) {
         trial.call_on_copy(call)?;
     }
     Ok(())
+}
+
+/// The first of some settings, or all of them and more.
+fn other_number(random: &mut Random, settings: &Settings) -> Vec<u32> {
+    let mut numbers = settings.six().to_vec();
+    match random.index(numbers.len() + 2) {
+        fewer if fewer < numbers.len() => numbers.truncate(fewer),
+        _ => numbers.extend((0..=random.below(3)).map(|_| random.below(3) as u32)),
+    }
+    numbers
 }
 
 /// Too little event room: nothing happens, whatever else is wrong.

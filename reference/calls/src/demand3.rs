@@ -3,7 +3,7 @@
 //! refusals before it.
 
 use crate::exported::labintugmo::{labintugmo_rounds, labintugmo_struck};
-use crate::exported::{write_number, EmptySlice, Guarded, GuardedTables};
+use crate::exported::{write_number, EmptySlice, Guarded, GuardedTables, IN_RANGE};
 use reference::model::{Access, Settings, Tables};
 use reference::random::Random;
 use reference::rounds::Rounds;
@@ -53,7 +53,8 @@ fn make(
     access: Access,
     n: Option<usize>,
 ) -> Result<Stood, String> {
-    let [s, w, p, m, r, q] = settings.six();
+    let mut settings = Guarded::new(&settings.six(), IN_RANGE, EmptySlice::Buffer);
+    let (s, sn) = (settings.pointer(), settings.length());
     let mut lent = GuardedTables::new(&before.tables, EmptySlice::Buffer);
     let mut flags = Guarded::new(&before.flags, 0x5B, EmptySlice::Buffer);
     let mut room = Guarded::new(&before.room, 0xB7, EmptySlice::Buffer);
@@ -70,11 +71,10 @@ fn make(
     let returned = unsafe {
         match n {
             Some(n) => labintugmo_rounds(
-                s, w, p, m, r, q, l, ln, d, dn, k, kn, write, a, mask, ticket, n, f, fn_, e, en, o,
-                on,
+                s, sn, l, ln, d, dn, k, kn, write, a, mask, ticket, n, f, fn_, e, en, o, on,
             ),
             None => labintugmo_struck(
-                s, w, p, m, r, q, l, ln, d, dn, k, kn, write, a, mask, ticket, f, fn_, e, en, o, on,
+                s, sn, l, ln, d, dn, k, kn, write, a, mask, ticket, f, fn_, e, en, o, on,
             ),
         }
     };

@@ -78,6 +78,9 @@ pub enum EmptySlice {
 
 const GUARD: usize = 8;
 
+/// Beside numbers lent as settings stands one that is in every range: a call that reads too many takes it.
+pub const IN_RANGE: u32 = 2;
+
 /// Numbers between guards.
 pub struct Guarded<T> {
     all: Vec<T>,
@@ -196,9 +199,15 @@ pub fn write_number(access: &Access) -> u32 {
     }
 }
 
+/// What numbers lent as settings mean: six are the settings, any others none that a call takes.
+pub fn settings_from(numbers: &[u32]) -> Settings {
+    Settings::new(numbers.try_into().unwrap_or([0; 6]))
+}
+
 /// Makes one exported call on copies of the tables and of what stands beside them.
-pub fn make(settings: &Settings, tables: &Tables, call: &Exported, beside: Beside) -> Made {
-    let [s, w, p, m, r, q] = settings.six();
+pub fn make(settings: &[u32], tables: &Tables, call: &Exported, beside: Beside) -> Made {
+    let mut settings = Guarded::new(settings, IN_RANGE, beside.empty);
+    let (s, sn) = (settings.pointer(), settings.length());
     let mut lent = GuardedTables::new(tables, beside.empty);
     let (mut room, mut numbers) = beside.guarded();
     let (l, ln) = (lent.longs.pointer(), lent.longs.length());
@@ -209,34 +218,29 @@ pub fn make(settings: &Settings, tables: &Tables, call: &Exported, beside: Besid
     // Each pointer is good for the length beside it and no two slices overlap.
     let returned = unsafe {
         match *call {
-            Exported::Fresh => labintugmo_fresh(s, w, p, m, r, q, l, ln, d, dn, k, kn) as usize,
-            Exported::Check => labintugmo_check(s, w, p, m, r, q, l, ln, d, dn, k, kn) as usize,
+            Exported::Fresh => labintugmo_fresh(s, sn, l, ln, d, dn, k, kn) as usize,
+            Exported::Check => labintugmo_check(s, sn, l, ln, d, dn, k, kn) as usize,
             Exported::Read { address, ticket } => {
-                labintugmo_read(s, w, p, m, r, q, l, ln, d, dn, k, kn, address, ticket, e, en)
+                labintugmo_read(s, sn, l, ln, d, dn, k, kn, address, ticket, e, en)
             }
             Exported::Write { address, mask } => {
-                labintugmo_write(s, w, p, m, r, q, l, ln, d, dn, k, kn, address, mask, e, en)
+                labintugmo_write(s, sn, l, ln, d, dn, k, kn, address, mask, e, en)
             }
             Exported::Access(access) => {
                 let Access { address, mask, ticket, .. } = access;
                 let write = write_number(&access);
-                labintugmo_access(
-                    s, w, p, m, r, q, l, ln, d, dn, k, kn, write, address, mask, ticket, e, en,
-                )
+                labintugmo_access(s, sn, l, ln, d, dn, k, kn, write, address, mask, ticket, e, en)
             }
-            Exported::Send => labintugmo_send(s, w, p, m, r, q, l, ln, d, dn, k, kn, e, en),
+            Exported::Send => labintugmo_send(s, sn, l, ln, d, dn, k, kn, e, en),
             Exported::Fill { address } => {
-                labintugmo_fill(s, w, p, m, r, q, l, ln, d, dn, k, kn, address, e, en)
+                labintugmo_fill(s, sn, l, ln, d, dn, k, kn, address, e, en)
             }
-            Exported::Tick { cycle } => {
-                labintugmo_tick(s, w, p, m, r, q, l, ln, d, dn, k, kn, cycle, e, en)
-            }
+            Exported::Tick { cycle } => labintugmo_tick(s, sn, l, ln, d, dn, k, kn, cycle, e, en),
             Exported::Wait(access) => {
                 let Access { address, mask, ticket, .. } = access;
                 let write = write_number(&access);
                 labintugmo_wait(
-                    s, w, p, m, r, q, l, ln, d, dn, k, kn, write, address, mask, ticket, e, en, o,
-                    on,
+                    s, sn, l, ln, d, dn, k, kn, write, address, mask, ticket, e, en, o, on,
                 )
             }
         }
@@ -270,20 +274,16 @@ pub fn make_run(stream: &[u8], tables: &Tables, beside: Beside) -> Made {
 }
 
 /// Goes on with a part of a stream by the library, on copies of the tables and of what stands beside them.
-pub fn make_resume(settings: &Settings, part: &[u8], tables: &Tables, beside: Beside) -> Made {
-    let [s, w, p, m, r, q] = settings.six();
+pub fn make_resume(settings: &[u32], part: &[u8], tables: &Tables, beside: Beside) -> Made {
+    let mut settings = Guarded::new(settings, IN_RANGE, beside.empty);
     let mut lent = GuardedTables::new(tables, beside.empty);
     let mut part = Guarded::new(part, 0x03, beside.empty);
     let (mut room, mut numbers) = beside.guarded();
     // Each pointer is good for the length beside it and no two slices overlap.
     let returned = unsafe {
         labintugmo_resume(
-            s,
-            w,
-            p,
-            m,
-            r,
-            q,
+            settings.pointer(),
+            settings.length(),
             part.pointer(),
             part.length(),
             room.pointer(),
@@ -302,13 +302,14 @@ pub fn make_resume(settings: &Settings, part: &[u8], tables: &Tables, beside: Be
 }
 
 /// The lengths that the library asks for.
-pub fn lengths(settings: &Settings) -> [usize; 3] {
-    let [s, w, p, m, r, q] = settings.six();
+pub fn lengths(settings: &[u32], empty: EmptySlice) -> [usize; 3] {
+    let mut settings = Guarded::new(settings, IN_RANGE, empty);
+    let (s, sn) = (settings.pointer(), settings.length());
     unsafe {
         [
-            labintugmo_longs_length(s, w, p, m, r, q),
-            labintugmo_words_length(s, w, p, m, r, q),
-            labintugmo_marks_length(s, w, p, m, r, q),
+            labintugmo_longs_length(s, sn),
+            labintugmo_words_length(s, sn),
+            labintugmo_marks_length(s, sn),
         ]
     }
 }

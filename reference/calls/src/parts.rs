@@ -146,7 +146,7 @@ fn expected(part: &Part, beside: Beside) -> (Expected, End) {
 
 fn compare(part: &Part, beside: Beside, counts: &mut Counts) -> Result<(), String> {
     let (expected, end) = expected(part, beside);
-    let made = make_resume(&part.settings, &part.bytes, &part.tables, beside);
+    let made = make_resume(&part.settings.six(), &part.bytes, &part.tables, beside);
     if let Some(text) = difference(Some(&part.settings), beside, &expected, &made) {
         return Err(format!(
             "{}, settings {:?}, lengths {:?}, event room {}, counts {}, empty slices {:?}\npart {:02x?}\n{text}",
@@ -251,7 +251,7 @@ fn in_parts(
             break;
         }
         let end = cuts.get(number + 1).copied().unwrap_or(bytes.len());
-        left.then(make_resume(&settings, &bytes[cut..end], &left.tables, beside))?;
+        left.then(make_resume(&settings.six(), &bytes[cut..end], &left.tables, beside))?;
     }
     Ok(left)
 }

@@ -29,7 +29,7 @@ impl Library {
     fn call(&mut self, call: Exported) -> Result<Vec<u8>, u8> {
         let room = [0xEE; 80];
         let beside = Beside { room: &room, numbers: &[], empty: EmptySlice::Buffer };
-        let made = make(&self.settings, &self.tables, &call, beside);
+        let made = make(&self.settings.six(), &self.tables, &call, beside);
         self.tables = made.tables;
         let (events, rest) = made.events.split_at(made.returned.min(room.len()));
         match events {
@@ -197,7 +197,7 @@ fn compare_wait(
 
     let room = [0xEE; WAIT_ROOM];
     let beside = Beside { room: &room, numbers: &[u64::MAX], empty: EmptySlice::Buffer };
-    let made = make(&start.settings, &start.tables, &Exported::Wait(access), beside);
+    let made = make(&start.settings.six(), &start.tables, &Exported::Wait(access), beside);
     if !made.guards_intact {
         return Err("wait: a number outside the lent slices was written".to_string());
     }

@@ -1,7 +1,7 @@
 //! One exported call compared with the model: the return, the whole event room,
 //! all three slices and wait's round. Also the counts of what was tried.
 
-use crate::exported::{lengths, make, Beside, EmptySlice, Exported, Made};
+use crate::exported::{lengths, make, settings_from, Beside, EmptySlice, Exported, Made};
 use reference::model::{call_bytes, check, fresh_on, lengths_for, Refusal, Settings, Tables};
 use reference::model::{Access, Cache, Layout, Place, ROOM_NEEDED};
 use reference::rounds::{bound, first_run};
@@ -149,7 +149,8 @@ fn name(end: &End) -> String {
 pub struct Trial<'a> {
     pub counts: &'a mut Counts,
     pub source: &'static str,
-    pub settings: Settings,
+    /// The numbers lent as settings.
+    pub settings: Vec<u32>,
     pub tables: Tables,
     /// What the event room holds before each call; its length is the room.
     pub room: Vec<u8>,
@@ -164,9 +165,10 @@ impl Trial<'_> {
     /// Makes a call on both sides; the tables are then those after it.
     pub fn call(&mut self, call: Exported) -> Result<End, String> {
         let beside = self.beside(&call);
-        let expected = expected(&self.settings, &self.tables, &call, beside);
+        let settings = settings_from(&self.settings);
+        let expected = expected(&settings, &self.tables, &call, beside);
         let made = make(&self.settings, &self.tables, &call, beside);
-        if let Some(text) = difference(Some(&self.settings), beside, &expected, &made) {
+        if let Some(text) = difference(Some(&settings), beside, &expected, &made) {
             return Err(self.describe(&call, &text));
         }
         let end = end_of(&call, &expected, beside.room.len());
@@ -193,11 +195,12 @@ impl Trial<'_> {
 
     /// The lengths are asked of any settings.
     pub fn lengths(&mut self) -> Result<(), String> {
-        let (expected, found) = (lengths_for(&self.settings), lengths(&self.settings));
+        let expected = lengths_for(&settings_from(&self.settings));
+        let found = lengths(&self.settings, self.empty);
         if expected != found {
             return Err(format!(
                 "settings {:?}\nlengths: expected {expected:?}, found {found:?}",
-                self.settings.six()
+                self.settings
             ));
         }
         let end = if expected == [0; 3] { End::Refused(1) } else { End::Accepted };
@@ -208,7 +211,7 @@ impl Trial<'_> {
     fn describe(&self, call: &Exported, text: &str) -> String {
         format!(
             "settings {:?}, lengths {:?}, event room {}, empty slices {:?}\ncall {call:x?}\non {}\n{}{text}",
-            self.settings.six(),
+            self.settings,
             self.tables.lengths(),
             self.beside(call).room.len(),
             self.empty,

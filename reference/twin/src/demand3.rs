@@ -2,7 +2,7 @@
 //! refusals 1 to 4 and the look for room.
 
 use crate::faults::Fault;
-use crate::{slice, slice_mut, Lent};
+use crate::{settings_from, slice, slice_mut, Lent};
 use reference::model::{check, Access, Cache, Refusal, Settings};
 use reference::rounds::{first_run, struck_run, Rounds};
 
@@ -54,7 +54,7 @@ fn serve(
 #[no_mangle]
 #[rustfmt::skip]
 pub unsafe extern "C" fn labintugmo_rounds(
-    s: u32, w: u32, p: u32, m: u32, r: u32, q: u32,
+    settings: *const u32, settings_length: usize,
     longs: *mut u64, longs_length: usize, words: *mut u32, words_length: usize,
     marks: *mut u8, marks_length: usize,
     is_write: u32, address: u64, mask: u32, ticket: u32,
@@ -70,7 +70,7 @@ pub unsafe extern "C" fn labintugmo_rounds(
     let flags = slice_mut(flags, flags_length);
     let room = Room { events: slice_mut(events, events_length), counts: slice_mut(counts, counts_length) };
     let roomy = n <= flags.len();
-    let settings = Settings::new([s, w, p, m, r, q]);
+    let settings = settings_from(settings, settings_length);
     let (number, rounds) = serve(&settings, lent, access, room, n, roomy, |cache| first_run(cache, access, n));
     let taken = rounds.map_or_else(Vec::new, |rounds| rounds.flags());
     let lost = Fault::planted().is("rounds-flag-lost");
@@ -85,7 +85,7 @@ pub unsafe extern "C" fn labintugmo_rounds(
 #[no_mangle]
 #[rustfmt::skip]
 pub unsafe extern "C" fn labintugmo_struck(
-    s: u32, w: u32, p: u32, m: u32, r: u32, q: u32,
+    settings: *const u32, settings_length: usize,
     longs: *mut u64, longs_length: usize, words: *mut u32, words_length: usize,
     marks: *mut u8, marks_length: usize,
     is_write: u32, address: u64, mask: u32, ticket: u32,
@@ -101,6 +101,6 @@ pub unsafe extern "C" fn labintugmo_struck(
     let all = Fault::planted().is("struck-offers-always");
     let marked: Vec<bool> = slice(flags, flags_length).iter().map(|&flag| flag == 1 || all).collect();
     let room = Room { events: slice_mut(events, events_length), counts: slice_mut(counts, counts_length) };
-    let settings = Settings::new([s, w, p, m, r, q]);
+    let settings = settings_from(settings, settings_length);
     serve(&settings, lent, access, room, marked.len(), true, |cache| struck_run(cache, access, &marked)).0
 }

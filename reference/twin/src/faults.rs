@@ -23,6 +23,15 @@ impl Fault {
         self.0 == name
     }
 
+    /// Another number of settings taken: a missing queue has two places, numbers too many are left out.
+    pub fn alter_settings(self, numbers: &[u32]) -> Vec<u32> {
+        match (self.0, numbers.len()) {
+            ("five-settings-taken", 5) => [numbers, &[2]].concat(),
+            ("more-settings-taken", 7..) => numbers[..6].to_vec(),
+            _ => numbers.to_vec(),
+        }
+    }
+
     /// Slips that a call on another argument shows.
     pub fn alter_call(self, call: Call) -> Call {
         match (self.0, call) {

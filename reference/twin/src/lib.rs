@@ -10,11 +10,6 @@ use faults::Fault;
 use reference::model::{self, Access, Call, Refusal, Settings, Tables};
 use reference::runner;
 
-/// The settings of an exported call, from its first six numbers.
-macro_rules! settings {
-    ($($number:ident),*) => { Settings::new([$($number),*]) };
-}
-
 /// A slice from its pointer and length; an empty one may have any pointer.
 unsafe fn slice<'a, T>(start: *const T, length: usize) -> &'a [T] {
     if length == 0 {
@@ -28,6 +23,12 @@ unsafe fn slice_mut<'a, T>(start: *mut T, length: usize) -> &'a mut [T] {
         return &mut [];
     }
     std::slice::from_raw_parts_mut(start, length)
+}
+
+/// The settings of an exported call: six numbers; any others are out of range.
+unsafe fn settings_from(start: *const u32, length: usize) -> Settings {
+    let numbers = Fault::planted().alter_settings(slice(start, length));
+    Settings::new(numbers.try_into().unwrap_or([0; 6]))
 }
 
 /// The caller's three slices.
@@ -140,9 +141,11 @@ fn serve_resume(
 
 macro_rules! export_lengths {
     ($($name:ident $which:literal),*) => { $(
+        /// # Safety
+        /// The pointer is good for the length beside it.
         #[no_mangle]
-        pub extern "C" fn $name(s: u32, w: u32, p: u32, m: u32, r: u32, q: u32) -> usize {
-            model::lengths_for(&settings!(s, w, p, m, r, q))[$which]
+        pub unsafe extern "C" fn $name(settings: *const u32, settings_length: usize) -> usize {
+            model::lengths_for(&settings_from(settings, settings_length))[$which]
         }
     )* };
 }
@@ -158,7 +161,7 @@ export_lengths!(
 #[no_mangle]
 #[rustfmt::skip]
 pub unsafe extern "C" fn labintugmo_fresh(
-    s: u32, w: u32, p: u32, m: u32, r: u32, q: u32,
+    settings: *const u32, settings_length: usize,
     longs: *mut u64, longs_length: usize, words: *mut u32, words_length: usize,
     marks: *mut u8, marks_length: usize,
 ) -> u32 {
@@ -168,7 +171,7 @@ pub unsafe extern "C" fn labintugmo_fresh(
         marks: slice_mut(marks, marks_length),
     };
     let mut tables = lent.tables();
-    let outcome = model::fresh_on(&settings!(s, w, p, m, r, q), &mut tables);
+    let outcome = model::fresh_on(&settings_from(settings, settings_length), &mut tables);
     lent.store(&tables);
     Fault::planted().spill(marks, marks_length);
     number(outcome)
@@ -179,7 +182,7 @@ pub unsafe extern "C" fn labintugmo_fresh(
 #[no_mangle]
 #[rustfmt::skip]
 pub unsafe extern "C" fn labintugmo_check(
-    s: u32, w: u32, p: u32, m: u32, r: u32, q: u32,
+    settings: *const u32, settings_length: usize,
     longs: *const u64, longs_length: usize, words: *const u32, words_length: usize,
     marks: *const u8, marks_length: usize,
 ) -> u32 {
@@ -188,7 +191,7 @@ pub unsafe extern "C" fn labintugmo_check(
         words: slice(words, words_length).to_vec(),
         marks: slice(marks, marks_length).to_vec(),
     };
-    let settings = settings!(s, w, p, m, r, q);
+    let settings = settings_from(settings, settings_length);
     let outcome = model::check(&settings, &tables);
     number(Fault::planted().alter_check(&settings, &tables, outcome))
 }
@@ -200,7 +203,7 @@ macro_rules! export_call {
         #[no_mangle]
         #[rustfmt::skip]
         pub unsafe extern "C" fn $name(
-            s: u32, w: u32, p: u32, m: u32, r: u32, q: u32,
+            settings: *const u32, settings_length: usize,
             longs: *mut u64, longs_length: usize, words: *mut u32, words_length: usize,
             marks: *mut u8, marks_length: usize, $($argument: $kind,)*
             events: *mut u8, events_length: usize,
@@ -210,7 +213,8 @@ macro_rules! export_call {
                 words: slice_mut(words, words_length),
                 marks: slice_mut(marks, marks_length),
             };
-            serve(settings!(s, w, p, m, r, q), lent, $call, slice_mut(events, events_length))
+            let settings = settings_from(settings, settings_length);
+            serve(settings, lent, $call, slice_mut(events, events_length))
         }
     };
 }
@@ -230,7 +234,7 @@ export_call!(labintugmo_tick(cycle: u32) Call::Tick(cycle));
 #[no_mangle]
 #[rustfmt::skip]
 pub unsafe extern "C" fn labintugmo_wait(
-    s: u32, w: u32, p: u32, m: u32, r: u32, q: u32,
+    settings: *const u32, settings_length: usize,
     longs: *mut u64, longs_length: usize, words: *mut u32, words_length: usize,
     marks: *mut u8, marks_length: usize,
     is_write: u32, address: u64, mask: u32, ticket: u32,
@@ -243,7 +247,8 @@ pub unsafe extern "C" fn labintugmo_wait(
     };
     let access = Access { is_write: is_write != 0, address, mask, ticket };
     let events = slice_mut(events, events_length);
-    serve_wait(settings!(s, w, p, m, r, q), lent, access, events, slice_mut(round, round_length))
+    let settings = settings_from(settings, settings_length);
+    serve_wait(settings, lent, access, events, slice_mut(round, round_length))
 }
 
 /// # Safety
@@ -269,7 +274,7 @@ pub unsafe extern "C" fn labintugmo_run(
 #[no_mangle]
 #[rustfmt::skip]
 pub unsafe extern "C" fn labintugmo_resume(
-    s: u32, w: u32, p: u32, m: u32, r: u32, q: u32,
+    settings: *const u32, settings_length: usize,
     part: *const u8, part_length: usize, events: *mut u8, events_length: usize,
     longs: *mut u64, longs_length: usize, words: *mut u32, words_length: usize,
     marks: *mut u8, marks_length: usize, counts: *mut u64, counts_length: usize,
@@ -281,5 +286,6 @@ pub unsafe extern "C" fn labintugmo_resume(
     };
     let events = slice_mut(events, events_length);
     let counts = slice_mut(counts, counts_length);
-    serve_resume(&settings!(s, w, p, m, r, q), slice(part, part_length), events, lent, counts)
+    let settings = settings_from(settings, settings_length);
+    serve_resume(&settings, slice(part, part_length), events, lent, counts)
 }

@@ -1,21 +1,19 @@
+-- A length for settings in range, else 0.
 use mathlib.Core.Path.{sym, _∙_}
 use borrow.Author.Needs.{needs}
 use Rattle.model.specs.Range.{marksLength}
 use Rattle.exported.proofs.Calling.{length-given, length-none}
 use Rattle.exported.proofs.labintugmo_marks_length.Statement.{statement}
 use Rattle.exported.proofs.labintugmo_marks_length.Tie as tie
-use Rattle.exported.proofs.settings.Reads as settings-reads
-use Rattle.soundness.proofs.in_range.Reads as in-range-reads
-use Rattle.soundness.proofs.marks_length.Reads as marks-length-reads
 
 pub labintugmo-marks-length-spec : {M : Type 1} → statement M
 labintugmo-marks-length-spec =
     tie.close
     (tie.spec
-    (λ c κs. search needs)
-    (λ c κs. search needs)
-    (λ c κs. sym (c .before .in-range .ensures) ∙ c .if1 .taken)
+    (λ c κs. search needs)  -- settings-from-requires
+    (λ c κs. search needs)  -- in-range-requires
+    (λ c κs. sym (c .before .in-range .ensures) ∙ c .if1 .taken)  -- marks-length-requires
     (λ c.
     let tested = c .before .before in
-    length-given _ _ marksLength (tested .before .settings .ensures) (tested .in-range .ensures) (c .before .if1 .taken) (c .marks-length .ensures))
-    (λ c. length-none _ _ marksLength (c .before .before .settings .ensures) (c .before .in-range .ensures) (c .if1 .left)))
+    length-given _ _ marksLength (tested .before .settings-from .ensures) (tested .in-range .ensures) (c .before .if1 .taken) (c .marks-length .ensures))  -- returns
+    (λ c. length-none _ _ marksLength (c .before .before .settings-from .ensures) (c .before .in-range .ensures) (c .if1 .left)))  -- returns-2

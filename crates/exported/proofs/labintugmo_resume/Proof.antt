@@ -8,17 +8,17 @@ pub labintugmo-resume-spec : {M : Type 1} → statement M
 labintugmo-resume-spec =
     tie.close
     (tie.spec
-    (λ c. run-no-counts _ _ _ _ (c .if1 .taken))
-    (λ c κs. search needs)
-    (λ c κs. search needs)
-    (λ c κs. search needs)
-    (λ c. search needs)
-    (λ c. search needs)
-    (λ c. search needs)
-    (λ c. search needs)
-    (λ c. search needs)
+    (λ c. run-no-counts _ _ _ _ (c .if1 .taken))  -- returns
+    (λ c κs. search needs)  -- settings-from-requires
+    (λ c κs. search needs)  -- resume-requires
+    (λ c κs. search needs)  -- note-run-requires
+    (λ c. search needs)  -- same-length
+    (λ c. search needs)  -- same-length-2
+    (λ c. search needs)  -- same-length-3
+    (λ c. search needs)  -- same-length-4
+    (λ c. search needs)  -- same-length-5
     (λ c.
     let n = c .before .before in
     let r = n .before .before .before .before .before .before .before .before .before .before in
     let s = r .before .before .before .before .before in
-    run-made _ _ _ _ (s .before .if1 .left) (rw (s .settings .ensures) at (r .resume .ensures)) (n .note-run .ensures)))
+    run-made _ _ _ _ (s .before .if1 .left) (rw (s .settings-from .ensures) at (r .resume .ensures)) (n .note-run .ensures)))  -- returns-2

@@ -8,15 +8,15 @@ pub labintugmo-run-spec : {M : Type 1} → statement M
 labintugmo-run-spec =
     tie.close
     (tie.spec
-    (λ c. run-no-counts _ _ _ _ (c .if1 .taken))
-    (λ c κs. search needs)
-    (λ c κs. search needs)
-    (λ c. search needs)
-    (λ c. search needs)
-    (λ c. search needs)
-    (λ c. search needs)
-    (λ c. search needs)
+    (λ c. run-no-counts _ _ _ _ (c .if1 .taken))  -- returns
+    (λ c κs. search needs)  -- run-requires
+    (λ c κs. search needs)  -- note-run-requires
+    (λ c. search needs)  -- same-length
+    (λ c. search needs)  -- same-length-2
+    (λ c. search needs)  -- same-length-3
+    (λ c. search needs)  -- same-length-4
+    (λ c. search needs)  -- same-length-5
     (λ c.
     let n = c .before .before in
     let r = n .before .before .before .before .before .before .before .before .before .before in
-    run-made _ _ _ _ (r .before .before .before .before .before .if1 .left) (r .run .ensures) (n .note-run .ensures)))
+    run-made _ _ _ _ (r .before .before .before .before .before .if1 .left) (r .run .ensures) (n .note-run .ensures)))  -- returns-2

@@ -18,8 +18,8 @@ returns-2 c =
     let a = r .before .before .before .before .before .before in
     let s = a .before in
     let two = s .before .if1 .left in (
-      called _ two _ _ (rw (s .settings .ensures, a .access-for .ensures) at (r .run-rounds .ensures .0)) (c .before .before .rounds-run .ensures) (c .before .bytes-written .ensures) (c .went-number .ensures),
-      flagged _ two _ (rw (s .settings .ensures, a .access-for .ensures) at (r .run-rounds .ensures .1)),
+      called _ two _ _ (rw (s .settings-from .ensures, a .access-for .ensures) at (r .run-rounds .ensures .0)) (c .before .before .rounds-run .ensures) (c .before .bytes-written .ensures) (c .went-number .ensures),
+      flagged _ two _ (rw (s .settings-from .ensures, a .access-for .ensures) at (r .run-rounds .ensures .1)),
     )
 
 pub labintugmo-rounds-spec : {M : Type 1} → statement M
@@ -27,18 +27,18 @@ labintugmo-rounds-spec =
     tie.close
     (tie.spec
     returns
-    (λ c κs. search needs)
-    (λ c κs. search needs)
-    (λ c κs. search needs)
-    (λ c κs. search needs)
-    (λ c. search needs)
-    (λ c κs. search needs)
+    (λ c κs. search needs)  -- settings-from-requires
+    (λ c κs. search needs)  -- access-for-requires
+    (λ c κs. search needs)  -- run-rounds-requires
+    (λ c κs. search needs)  -- rounds-run-requires
+    (λ c. search needs)  -- slice-write-counts
+    (λ c κs. search needs)  -- bytes-written-requires
     slice-write-counts-2
-    (λ c κs. search needs)
-    (λ c. search needs)
-    (λ c. search needs)
-    (λ c. search needs)
-    (λ c. search needs)
-    (λ c. search needs)
-    (λ c. search needs)
+    (λ c κs. search needs)  -- went-number-requires
+    (λ c. search needs)  -- same-length
+    (λ c. search needs)  -- same-length-2
+    (λ c. search needs)  -- same-length-3
+    (λ c. search needs)  -- same-length-4
+    (λ c. search needs)  -- same-length-5
+    (λ c. search needs)  -- same-length-6
     returns-2)

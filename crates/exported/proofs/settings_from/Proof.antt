@@ -1,0 +1,33 @@
+-- Six numbers by their places, or zeros for another length.
+use borrow.Author.Needs.{needs}
+use borrow.Author.Tests.{eq-eqb, ne-eqb}
+use Rattle.exported.specs.Exported.{settingsFrom}
+use Rattle.exported.proofs.settings_from.Statement.{statement}
+use Rattle.exported.proofs.settings_from.Tie as tie
+
+returns : tie.Need-returns
+unfolding settingsFrom
+returns c = rw (ne-eqb _ _ (c .if1 .taken))
+
+returns-2 : tie.Need-returns-2
+unfolding settingsFrom
+returns-2 c =
+    let n5 = c .before in
+    let n4 = n5 .before in
+    let n3 = n4 .before in
+    let n2 = n3 .before in
+    let n1 = n2 .before in
+    rw (eq-eqb _ _ (n1 .before .if1 .left), n1 .number .ensures, n2 .number2 .ensures, n3 .number3 .ensures, n4 .number4 .ensures, n5 .number5 .ensures, c .number6 .ensures)
+
+pub settings-from-spec : {M : Type 1} → statement M
+settings-from-spec =
+    tie.close
+    (tie.spec
+    returns
+    (λ c κs. search needs)  -- number-requires
+    (λ c κs. search needs)  -- number-requires-2
+    (λ c κs. search needs)  -- number-requires-3
+    (λ c κs. search needs)  -- number-requires-4
+    (λ c κs. search needs)  -- number-requires-5
+    (λ c κs. search needs)  -- number-requires-6
+    returns-2)
