@@ -16,6 +16,7 @@ use Rattle.model.specs.Sound.{lastCycle, entryOk, sound}
 use Rattle.model.specs.Probe.{Spot, Place, no, at, waysOf, dirtyLines, first, victim, writeBack, takeOver, meet, probe, Rule, ruleOf}
 use Rattle.model.specs.Steps.{isMerge, isMiss, fetches, queues, queuedEvent, sentEvent, placesNeeded, accept, entryFull, proceed, access, afterSend, sendFrom, send, ticketsOf, afterFill, sentFor, fill, tick}
 use Rattle.model.specs.Calls.{eventsTold}
+use Rattle.model.specs.RecordsOf as records
 use Rattle.model.specs.Records.{bytesOf, eventBytes, logBytes}
 use Rattle.model.specs.Runner.{stepOf}
 use Rattle.model.specs.declared.Settings.{Settings}
@@ -49,7 +50,7 @@ told-room t k h e =
 -- ---- a log's length, event by event
 
 log-more : (e : Event) (es : List Event) → length (logBytes (e ∷ es)) ≡ length (eventBytes e) + length (logBytes es)
-unfolding logBytes
+unfolding records.logBytes
 log-more e es = length-append (eventBytes e) (logBytes es)
 
 -- ---- a refusal, and one event
@@ -59,11 +60,11 @@ pub record Takes (n : ℕ) (o : Outcome Tables) : Type 0 where
   pub most : length (logBytes (eventsOf o)) ≤ n
 
 pub refused-takes : (r : Refusal) → Takes 2 (refused r)
-unfolding logBytes eventBytes bytesOf
+unfolding records.logBytes records.eventBytes bytesOf
 refused-takes r = record { most = lit≤ tt }
 
 one-takes : (e : Event) (t : Tables) → Takes 25 (done (e ∷ []) t)
-unfolding logBytes
+unfolding records.logBytes
 one-takes e t = let n = log-more e [] in let h = event-short e in record { most = omega arith }
 
 takes-more : {m n : ℕ} {o : Outcome Tables} → Takes m o → m ≤ n → Takes n o
@@ -100,13 +101,13 @@ probe-few R S d ways x = met (first (holds (blockOf (addressOf x))) ways)
     met (At w) = lit≤ tt
 
 queued-short : (qs : List Queued) → length qs ≤ 1 → length (logBytes (map queuedEvent qs)) ≤ 25
-unfolding logBytes
+unfolding records.logBytes
 queued-short [] h = lit≤ tt
 queued-short (q ∷ []) h = let n = log-more (queuedEvent q) [] in let e = event-short (queuedEvent q) in omega arith
 queued-short (q ∷ p ∷ qs) h = absurd (omega arith)
 
 fetch-short : (x : Access) (a : Answer) → length (logBytes (map queuedEvent (fetches x a))) ≤ 9
-unfolding logBytes eventBytes bytesOf
+unfolding records.logBytes records.eventBytes bytesOf
 fetch-short (Read a m k) n = by-flag (λ (q : List Queued). length (logBytes (map queuedEvent q)) ≤ 9) (isMiss n) (reading a ∷ []) [] (λ e. lit≤ tt) (λ e. lit≤ tt)
 fetch-short (Write a m k) n = lit≤ tt
 
@@ -115,7 +116,7 @@ map-append [] qs = refl
 map-append (p ∷ ps) qs = rw (map-append ps qs)
 
 accept-takes : (S : Settings) (x : Access) (p : Spot) (t : Tables) → length (p .backs) ≤ 1 → Takes 38 (accept S x p t)
-unfolding accept eventBytes bytesOf
+unfolding accept records.eventBytes bytesOf
 accept-takes S x p t h =
     let f = fetch-short x (p .answer) in
     let b = queued-short (p .backs) h in
@@ -164,7 +165,7 @@ tickets-few n a (e ∷ es) h =
     (λ q. tickets-few n a es (and-2 (leb (length (e .tickets)) n) _ h))
 
 pub fill-takes : (a : ℕ) (t : Tables) → all (λ e. leb (length (e .tickets)) 8) (t .misses) ≡ true → Takes 49 (fill a t)
-unfolding fill eventBytes bytesOf
+unfolding fill records.eventBytes bytesOf
 fill-takes a t h =
     let k = tickets-few 8 a (t .misses) h in
     let r = released-length (ticketsOf a (t .misses)) in

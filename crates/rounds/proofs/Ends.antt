@@ -11,7 +11,8 @@ use Rattle.model.specs.Tables.{Tables, Outcome, refused, done}
 use Rattle.model.specs.Lent.{Lent}
 use Rattle.model.specs.Calls.{encoded, checkCall, verdictOf, eventsTold}
 use Rattle.model.specs.Inner.{Is, Held}
-use Rattle.model.specs.Records.{bytesOf, eventBytes, logBytes, eventsIn, eventsFrom}
+use Rattle.model.specs.RecordsOf as records
+use Rattle.model.specs.Records.{bytesOf, logBytes}
 use Rattle.model.specs.Rounds.{steps, calls, Run, rounds, waits}
 use Rattle.model.specs.declared.Settings.{Settings}
 use Rattle.model.specs.declared.Access.{Access}
@@ -90,7 +91,7 @@ module _ {S : Settings} {x : Access} {L : Lent} {e : List ℕ} {r : Waited} {f :
 -- ---- a refusal before the first round
 
 refused-length : (n : Refusal) → length (logBytes (event.Refused n ∷ [])) ≡ 2
-unfolding logBytes eventBytes bytesOf
+unfolding records.logBytes records.eventBytes bytesOf
 refused-length n = refl
 
 pub turns-away : (n : Refusal) (e : List ℕ) {told : Told} → told ≡ telling (event.Refused n) → {w : ℕ} {f : List ℕ} → Stored e 0 (logBytes (eventsTold told)) w f
@@ -114,7 +115,7 @@ module _ (S : Settings) (x : Access) (L : Lent) (e : List ℕ) where
   roomy h = rw (le-leb 9600 (length e) h)
 
   pub waits-no-room : length e < 9600 → Waits (waitWithin (length e) S x L) e record { waiting = wait.NoRoom; written = 0 } e L
-  unfolding logBytes eventsIn eventsFrom
+  unfolding records.logBytes records.eventsIn records.eventsFrom
   waits-no-room h = rw (lt-leb 9600 (length e) h) record { waiting = refl; written = refl; events = refl; reads = refl; left = refl }
 
   pub waits-refused : {v : Verdict} {n : Refusal} {r : Waited} {f : List ℕ} → 9600 ≤ length e → v ≡ verdictOf (checkCall S L) → v ≡ verdict.Refused n

@@ -11,7 +11,7 @@ use lib.ListN.{length, drop, getD, set, length-append, length-map, length-set}
 use lib.Seq.{sets-eq, drop-cons, drop-length}
 use Rattle.model.specs.Lent.{Lent, bit}
 use Rattle.model.specs.Inner.{Held}
-use Rattle.model.specs.Records.{logBytes}
+use Rattle.model.specs.RecordsOf as records
 use Rattle.model.specs.Rounds.{Turn}
 use Rattle.model.specs.Seen.{Acts, accepts, Course, marks, drain, rounds, struck, callActs}
 use Rattle.model.specs.declared.Settings.{Settings}
@@ -65,7 +65,7 @@ module _ (S : Settings) (x : Access) (n : ℕ) where
     pub flagged : Laid fl₀ 0 i (flagsOf offers) i fl
 
   pub runs-first : (L : Lent) → Held S L → (fl e : List ℕ) → Runs L fl e L fl e 0 0
-  unfolding logBytes
+  unfolding records.logBytes
   runs-first L h fl e = record {
     few = omega arith;
     short = omega arith;
@@ -175,7 +175,7 @@ module _ (S : Settings) (x : Access) (fl : List ℕ) where
     pub bytes : Noted e₀ 0 events out e
 
   pub strikes-first : (L : Lent) → Held S L → (e : List ℕ) → Strikes L e L e 0 0
-  unfolding logBytes
+  unfolding records.logBytes
   strikes-first L h e = record {
     few = omega arith;
     short = omega arith;

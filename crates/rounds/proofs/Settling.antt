@@ -15,7 +15,8 @@ use Rattle.model.specs.Lent.{Lent}
 use Rattle.model.specs.Calls.{eventsTold}
 use Rattle.model.specs.Steps.{access}
 use Rattle.model.specs.Inner.{Is, Held}
-use Rattle.model.specs.Records.{bytesOf, eventBytes, logBytes}
+use Rattle.model.specs.RecordsOf as records
+use Rattle.model.specs.Records.{bytesOf, logBytes}
 use Rattle.model.specs.Rounds.{steps, Turn, took, Run, drain, rounds, waits}
 use Rattle.model.specs.declared.Settings.{Settings}
 use Rattle.model.specs.declared.Access.{Access}
@@ -93,7 +94,7 @@ done-one (done es u) e = (es, u, refl)
 -- ---- the last refusal
 
 held-length : length (logBytes (event.Refused SetHeld ∷ [])) ≡ 2
-unfolding logBytes eventBytes bytesOf
+unfolding records.logBytes records.eventBytes bytesOf
 held-length = refl
 
 -- ---- where the loop stands
@@ -121,7 +122,7 @@ module _ (S : Settings) (x : Access) (most : ℕ) where
 
 module _ {S : Settings} {x : Access} {most : ℕ} where
   pub goes-first : (L : Lent) (e : List ℕ) → Goes S x most L e 0 0 L e
-  unfolding logBytes
+  unfolding records.logBytes
   goes-first L e = record {
     few = omega arith;
     short = omega arith;

@@ -14,7 +14,8 @@ use Rattle.model.specs.Tables.{Tables, start}
 use Rattle.model.specs.Lent.{Lent, tablesOf, encode}
 use Rattle.model.specs.Sound.{sound}
 use Rattle.model.specs.Records.{bytes, lengthOf}
-use Rattle.model.specs.Runner.{settingsOf, firstStop, keptStop, goesOn, Result, halt, ahead, runFrom, lentResult, run, resume, Runs}
+use Rattle.model.specs.RunnerOf as runner
+use Rattle.model.specs.Runner.{settingsOf, firstStop, keptStop, goesOn, Result, ahead, runFrom, lentResult, run, resume, Runs}
 use Rattle.model.specs.Inner.{Is}
 use Rattle.model.specs.declared.Settings.{Settings}
 use Rattle.model.specs.declared.Stop.{Stop}
@@ -53,11 +54,11 @@ module _ (S : Settings) (range : inRange S ≡ true) (t : Tables) (room before b
 -- ---- what stopped with 0 passed its checks
 
 resume-passed : (S : Settings) (room : ℕ) (s : List ℕ) (L : Lent) → goesOn (resume S room s L .stop) ≡ true → goesOn (keptStop S L) ≡ true
-unfolding resume
+unfolding runner.resume
 resume-passed S room s L e = goes-first (keptStop S L) _ L e
 
 run-passed : (room k : ℕ) (s : List ℕ) (L : Lent) → goesOn (run room (k ∷ s) L .stop) ≡ true → goesOn (firstStop L k s) ≡ true
-unfolding run
+unfolding runner.run
 run-passed room k s L e = goes-first (firstStop L k s) _ L e
 
 -- ---- a part that goes on, and the next one

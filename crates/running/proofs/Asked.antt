@@ -14,6 +14,7 @@ use Rattle.model.specs.Range.{inRange, longsLength, wordsLength, marksLength}
 use Rattle.model.specs.Tables.{Tables}
 use Rattle.model.specs.Lent.{Lent, lengthsFit}
 use Rattle.model.specs.Records.{isCommand, lengthOf, numberAt}
+use Rattle.model.specs.RunnerOf as runner
 use Rattle.model.specs.Runner.{eventRoom, settingsOf, settingsStop, firstStop, laterStop, goesOn, Result, runFrom}
 use Rattle.model.specs.declared.Settings.{Settings}
 use Rattle.model.specs.declared.Stop.{Stop}
@@ -102,7 +103,7 @@ settings-fit S L =
     (λ z l. rw z (final refl))
 
 first-fits : (L : Lent) (k : ℕ) (rest : List ℕ) → Long L (lengthsOf (settingsOf rest)) → Final (firstStop L k rest)
-unfolding firstStop
+unfolding runner.firstStop
 first-fits L k rest l =
     by-flag Final (isCommand k) _ _
     (λ a. by-flag Final (ltb (length rest) (lengthOf k)) _ _ (λ b. final refl)
@@ -122,7 +123,7 @@ asked-stops L (k ∷ bs) n l q =
 -- ---- stop 2 comes from the first record alone
 
 later-fits : (room k : ℕ) (rest : List ℕ) → laterStop room k rest ≡ SliceLength → ⊥
-unfolding laterStop
+unfolding runner.laterStop
 later-fits room k rest =
     by-flag Not (isCommand k) _ _
     (λ a. by-flag Not (ltb (length rest) (lengthOf k)) _ _ (λ b. final {n = CutShort} refl .fitting)
@@ -137,7 +138,7 @@ later-fits room k rest =
     full d q = let y : _≡_ {A = ℕ} 0 1 = cc in omega arith
 
 pub run-fits : (S : Settings) (n room : ℕ) (s : List ℕ) (t : Tables) → runFrom S n room s t .stop ≡ SliceLength → ⊥
-unfolding runFrom
+unfolding runner.runFrom
 run-fits S n room [] t q = final {n = Nothing} refl .fitting q
 run-fits S (suc n) room (b ∷ s) t q = run-fits S n room s t q
 run-fits S zero room (k ∷ s) t q =

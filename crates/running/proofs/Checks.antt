@@ -11,7 +11,9 @@ use lib.ListN.{length, take, drop, length-drop, take-append-drop, List·getD-app
 use lib.Seq.{length-take-le}
 use Rattle.model.specs.Words.{pick, every}
 use Rattle.model.specs.Numbers.{stopNumber}
+use Rattle.model.specs.RecordsOf as records
 use Rattle.model.specs.Records.{isCommand, lengthOf, numberAt, readAt, bodyAt}
+use Rattle.model.specs.RunnerOf as runner
 use Rattle.model.specs.Runner.{settingsOf, laterStop, goesOn}
 use Rattle.model.specs.declared.Record.{Record}
 use Rattle.model.specs.declared.Record.the-variants.{Whole, Stopped}
@@ -91,7 +93,7 @@ there-by false cut = refl
 
 -- a command's body is at most twelve bytes
 short : every 6 (λ k. leb (lengthOf k) 12) ≡ true
-unfolding lengthOf
+unfolding records.lengthOf
 short = refl
 
 command-short : (k : ℕ) → isCommand k ≡ true → lengthOf k ≤ 12
@@ -163,7 +165,7 @@ module _ (s : List ℕ) (at : ℕ) (inside : at < length s) where
 
     module _ (room : ℕ) {n : Stop} (d : n ≡ laterFound room k f) where
       pub found-later : n ≡ laterStop room k (restAt s at)
-      unfolding laterFound laterStop
+      unfolding laterFound runner.laterStop
       found-later =
           let x = pick (eqb k 0) OutOfPlace (pick (ltb room 64) NoRoom Nothing) in
           d ∙ ap (λ (h : Stop). pick (goesOn h) x h) (head-is refl) ∙ head-then (isCommand k) cut x
@@ -202,7 +204,7 @@ settings-front r h =
     sym (settings-more (take 7 r) (drop 7 r) (omega arith)) ∙ ap settingsOf (take-append-drop 7 r)
 
 pub body-settings : (s : List ℕ) → 0 < length s → kindAt s 0 ≡ 0 → lengthOf 0 ≤ length (restAt s 0) → settingsOf (bodyAt s 0) ≡ settingsOf (restAt s 0)
-unfolding bodyAt lengthOf
+unfolding records.bodyAt records.lengthOf
 body-settings s some z w =
     let c : isCommand (kindAt s 0) ≡ true = rw z in
     let f : ltb (length (restAt s 0)) (lengthOf (kindAt s 0)) ≡ false = rw z (le-ltb (length (restAt s 0)) 7 w) in

@@ -12,7 +12,9 @@ use Rattle.model.specs.Range.{inRange}
 use Rattle.model.specs.Tables.{start, after}
 use Rattle.model.specs.Lent.{Lent, lengthsFit}
 use Rattle.model.specs.Words.{pick}
+use Rattle.model.specs.RecordsOf as records
 use Rattle.model.specs.Records.{isCommand, lengthOf, readAt, bodyAt}
+use Rattle.model.specs.RunnerOf as runner
 use Rattle.model.specs.Runner.{settingsOf, settingsStop, firstStop, goesOn, halt, ahead, runFrom, lentResult, run, Runs}
 use Rattle.model.specs.Calls.{freshCall}
 use Rattle.model.specs.Inner.{Is, Held}
@@ -48,17 +50,17 @@ module _ (s : List ℕ) (L : Lent) (some : 0 < length s) {f : Record} (read : f 
   asked = pick (eqb (kindAt s 0) 0) (settingsStop (settingsOf (restAt s 0)) L) OutOfPlace
 
   pub first-stopped : goesOn n ≡ false → n ≡ firstStop L (kindAt s 0) (restAt s 0)
-  unfolding firstStop
+  unfolding runner.firstStop
   first-stopped h = head-stops s 0 some read d h asked
 
   module _ (goes : goesOn n ≡ true) where
     pub first-other : (kindAt s 0 ≡ 0 → ⊥) → OutOfPlace ≡ firstStop L (kindAt s 0) (restAt s 0)
-    unfolding firstStop
+    unfolding runner.firstStop
     first-other h = let q : OutOfPlace ≡ asked = rw (ne-eqb (kindAt s 0) 0 h) in q ∙ head-goes s 0 some read d goes asked
 
     pub first-settings : kindAt s 0 ≡ 0 → {S : Settings} → S ≡ settingsOf (bodyAt s 0) → {r : Stop} → r ≡ settingsStop S L
         → r ≡ firstStop L (kindAt s 0) (restAt s 0)
-    unfolding firstStop
+    unfolding runner.firstStop
     first-settings h e {r} a =
         let w : lengthOf 0 ≤ length (restAt s 0) = rw h at (head-fits s 0 some read d goes) in
         let q : settingsStop (settingsOf (restAt s 0)) L ≡ asked = rw (eq-eqb (kindAt s 0) 0 h) in
@@ -73,7 +75,7 @@ pub record Settled (L : Lent) (k : ℕ) (rest : List ℕ) : Type 0 where
   pub fits : lengthsFit (settingsOf rest) L ≡ true
 
 pub settled : (L : Lent) (k : ℕ) (rest : List ℕ) → goesOn (firstStop L k rest) ≡ true → Settled L k rest
-unfolding firstStop
+unfolding runner.firstStop
 settled L k rest =
     by-flag Goes (isCommand k) _ _
     (λ a. by-flag Goes (ltb (length rest) (lengthOf k)) _ _ (λ b h. clash h refl)
@@ -105,7 +107,7 @@ beginning-goes L (k ∷ bs) some z = rw z
 
 -- what was stopped, and what was accepted
 run-halts : (room : ℕ) (L : Lent) (s : List ℕ) (n : Stop) → beginning L s ≡ Stopped n → run room s L ≡ halt n L
-unfolding beginning run
+unfolding beginning runner.run
 run-halts room L [] n q = let e : Nothing ≡ n = cc in rw e
 run-halts room L (k ∷ bs) n h =
     by-flag (λ (x : Begun). x ≡ Stopped n → run room (k ∷ bs) L ≡ halt n L) (goesOn (firstStop L k bs)) _ _
@@ -130,12 +132,12 @@ taken L (k ∷ bs) S h =
 pub run-accepts : (room : ℕ) (L : Lent) (k : ℕ) (bs : List ℕ) → goesOn (firstStop L k bs) ≡ true
     → run room (k ∷ bs) L
     ≡ ahead (1 + lengthOf k) [] (lentResult (settingsOf bs) (runFrom (settingsOf bs) (lengthOf k) room bs (start (settingsOf bs))))
-unfolding run
+unfolding runner.run
 run-accepts room L k bs z = rw z
 
 run-goes : (room : ℕ) (L : Lent) (s : List ℕ) (S : Settings) → Taken L s S
     → run room s L ≡ ahead 8 [] (lentResult S (runFrom S 0 room (drop 8 s) (start S)))
-unfolding lengthOf
+unfolding records.lengthOf
 run-goes room L [] S t = absurd (t .some refl)
 run-goes room L (k ∷ bs) S t =
     let g = settled L k bs (t .goes) in
@@ -191,7 +193,7 @@ module _ {L : Lent} {s : List ℕ} {r : Begun} {M : Lent} (b : Begins L s r M) w
     begun-held = record { tables = start S; are = begun-is }
 
     pub begun-stands : (e : List ℕ) → Stands s 8 0 e
-    unfolding lengthOf
+    unfolding records.lengthOf
     begun-stands e =
         let w = opened .whole in
         let l : length (drop 1 s) ≡ length s - 1 = length-drop 1 s in

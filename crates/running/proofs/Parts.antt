@@ -14,7 +14,9 @@ use Rattle.model.specs.Words.{pick}
 use Rattle.model.specs.Tables.{Tables, start, after, eventsOf}
 use Rattle.model.specs.Lent.{Lent}
 use Rattle.model.specs.Numbers.{stopNumber}
+use Rattle.model.specs.RecordsOf as records
 use Rattle.model.specs.Records.{isCommand, lengthOf, readAt, logBytes}
+use Rattle.model.specs.RunnerOf as runner
 use Rattle.model.specs.Runner.{eventRoom, settingsOf, settingsStop, firstStop, laterStop, goesOn, stepAt, Result, halt, ahead, runFrom, lentResult, run}
 use Rattle.model.specs.declared.Settings.{Settings}
 use Rattle.model.specs.declared.Record.{Record}
@@ -51,21 +53,21 @@ roomy-same true false false false false g h = refl
 
 module _ (room k : ℕ) (a : List ℕ) where
   later-more : (b : List ℕ) → lengthOf k ≤ length a → laterStop room k (a ++ b) ≡ laterStop room k a
-  unfolding laterStop
+  unfolding runner.laterStop
   later-more b h =
       let l : lengthOf k ≤ length (a ++ b) = rw length-append (omega arith) in
       rw (le-ltb (length (a ++ b)) (lengthOf k) l, le-ltb (length a) (lengthOf k) h)
 
   later-full : laterStop room k a ≡ NoRoom → lengthOf k ≤ length a
-  unfolding laterStop
+  unfolding runner.laterStop
   later-full h = ltb-false (length a) (lengthOf k) (full-whole (isCommand k) (ltb (length a) (lengthOf k)) (eqb k 0) (ltb room eventRoom) h)
 
   later-roomy : (other : ℕ) → (laterStop room k a ≡ NoRoom → ⊥) → (laterStop other k a ≡ NoRoom → ⊥) → laterStop room k a ≡ laterStop other k a
-  unfolding laterStop
+  unfolding runner.laterStop
   later-roomy other g h = roomy-same (isCommand k) (ltb (length a) (lengthOf k)) (eqb k 0) (ltb room eventRoom) (ltb other eventRoom) g h
 
 step-more : (S : Settings) (k : ℕ) (a b : List ℕ) (t : Tables) → lengthOf k ≤ length a → stepAt S k (a ++ b) t ≡ stepAt S k a t
-unfolding stepAt
+unfolding runner.stepAt
 step-more S k a b t h = rw (take-append-le (lengthOf k) a b h)
 
 full-halts : {n : Stop} → n ≡ NoRoom → goesOn n ≡ true → ⊥
@@ -93,7 +95,7 @@ module _ (S : Settings) where
 
   pub run-in-parts : (n room : ℕ) (a b : List ℕ) (t : Tables) → n ≤ length a → goesOn (runFrom S n room a t .stop) ≡ true
       → runFrom S n room (a ++ b) t ≡ then room b (runFrom S n room a t)
-  unfolding runFrom
+  unfolding runner.runFrom
   run-in-parts n room [] b t h e = let z : n ≡ 0 = omega arith in rw (z, sub-zero, zero-add)
   run-in-parts (suc n) room (x ∷ a) b t h e = run-in-parts n room a b t (le-of-suc-le-suc h) e
   run-in-parts zero room (k ∷ a) b t h e =
@@ -107,7 +109,7 @@ module _ (S : Settings) where
   -- more room, or less: the same, unless it stops with 16
   pub run-in-rooms : (n room other : ℕ) (a : List ℕ) (t : Tables) → (runFrom S n room a t .stop ≡ NoRoom → ⊥) → (runFrom S n other a t .stop ≡ NoRoom → ⊥)
       → runFrom S n room a t ≡ runFrom S n other a t
-  unfolding runFrom
+  unfolding runner.runFrom
   run-in-rooms n room other [] t g h = refl
   run-in-rooms (suc n) room other (x ∷ a) t g h = run-in-rooms n room other a t g h
   run-in-rooms zero room other (k ∷ a) t g h =
@@ -125,7 +127,7 @@ module _ (S : Settings) where
 
   -- a part that stops with 16 stops the whole with 16
   full-in-parts : (n room : ℕ) (a b : List ℕ) (t : Tables) → n ≤ length a → runFrom S n room a t .stop ≡ NoRoom → runFrom S n room (a ++ b) t .stop ≡ NoRoom
-  unfolding runFrom
+  unfolding runner.runFrom
   full-in-parts n room [] b t h e = let z : _≡_ {A = ℕ} 0 1 = cc in absurd (omega arith)
   full-in-parts (suc n) room (x ∷ a) b t h e = full-in-parts n room a b t (le-of-suc-le-suc h) e
   full-in-parts zero room (k ∷ a) b t h e =
@@ -156,7 +158,7 @@ module _ (S : Settings) where
 -- ---- a front part, whatever stopped it, and the run from there on: also where a record was cut short, or its events had no room
 
 later-wider : (room other k : ℕ) (a : List ℕ) → room ≤ other → goesOn (laterStop room k a) ≡ true → goesOn (laterStop other k a) ≡ true
-unfolding laterStop
+unfolding runner.laterStop
 later-wider room other k a h z =
     let g = going room k a z in
     let r = g .roomy in
@@ -178,7 +180,7 @@ module _ (S : Settings) where
 
   pub run-resumed : (n room other : ℕ) (a b : List ℕ) (t : Tables) → n ≤ length a → room ≤ other
       → runFrom S n other (a ++ b) t ≡ onward n other (a ++ b) (runFrom S n room a t)
-  unfolding runFrom
+  unfolding runner.runFrom
   run-resumed n room other [] b t h w = let z : n ≡ 0 = omega arith in rw (z, sub-zero, zero-add)
   run-resumed (suc n) room other (x ∷ a) b t h w =
       let c = runFrom S n room a t .consumed in
@@ -199,21 +201,21 @@ module _ (S : Settings) where
 -- ---- a whole stream, in two parts
 
 pub first-more : (L : Lent) (k : ℕ) (a b : List ℕ) → lengthOf k ≤ length a → 7 ≤ length a → firstStop L k (a ++ b) ≡ firstStop L k a
-unfolding firstStop
+unfolding runner.firstStop
 first-more L k a b h w =
     let l : lengthOf k ≤ length (a ++ b) = rw length-append (omega arith) in
     rw (le-ltb (length (a ++ b)) (lengthOf k) l, le-ltb (length a) (lengthOf k) h)
     (ap (λ (S : Settings). pick (isCommand k) (pick (eqb k 0) (settingsStop S L) OutOfPlace) UnknownKind) (settings-more a b w))
 
 pub settled-long : (L : Lent) (k : ℕ) (a : List ℕ) → Settled L k a → 7 ≤ length a
-unfolding lengthOf
+unfolding records.lengthOf
 settled-long L k a g = g .whole
 
 -- the part before begins with its settings and stops with 0
 pub run-two-parts : (room k : ℕ) (a b : List ℕ) (L : Lent) → goesOn (run room (k ∷ a) L .stop) ≡ true
     → run room (k ∷ (a ++ b)) L
     ≡ ahead (1 + lengthOf k) [] (lentResult (settingsOf a) (then (settingsOf a) room b (runFrom (settingsOf a) (lengthOf k) room a (start (settingsOf a)))))
-unfolding run
+unfolding runner.run
 run-two-parts room k a b L e =
     let z = goes-first (firstStop L k a) _ L e in
     let g = settled L k a z in
@@ -246,7 +248,7 @@ other-kind : (f : Bool) (x y : Stop) → f ≡ false → pick f x OutOfPlace ≡
 other-kind f x y e = rw e
 
 first-there : (L : Lent) (k : ℕ) (a b : List ℕ) → firstThere (k ∷ a) ≡ true → firstStop L k (a ++ b) ≡ firstStop L k a
-unfolding firstThere firstStop lengthOf
+unfolding firstThere runner.firstStop records.lengthOf
 first-there L k a b h =
     ⊎-elim
     (λ z. let c : isCommand k ≡ false = not-true (isCommand k) z in rw c)

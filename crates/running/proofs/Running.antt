@@ -12,6 +12,7 @@ use lib.Seq.{drop-cons, drop-drop}
 use lib.Dec.{ltb, eqb}
 use Rattle.model.specs.Tables.{Tables, Outcome, after, eventsOf}
 use Rattle.model.specs.Records.{isCommand, lengthOf, logBytes}
+use Rattle.model.specs.RunnerOf as runner
 use Rattle.model.specs.Runner.{eventRoom, laterStop, goesOn, stepAt, Result, halt, ahead, runFrom}
 use Rattle.model.specs.declared.Settings.{Settings}
 use Rattle.model.specs.declared.Stop.{Stop}
@@ -28,7 +29,7 @@ pub record Going (room k : ℕ) (rest : List ℕ) : Type 0 where
   pub roomy : eventRoom ≤ room
 
 pub going : (room k : ℕ) (rest : List ℕ) → goesOn (laterStop room k rest) ≡ true → Going room k rest
-unfolding laterStop
+unfolding runner.laterStop
 going room k rest =
     by-flag Goes (isCommand k) _ _
     (λ a. by-flag Goes (ltb (length rest) (lengthOf k)) _ _ (λ b h. clash h refl)
@@ -54,7 +55,7 @@ nothing-goes stop.NoRoom h = clash h refl
 
 module _ (S : Settings) where
   pub run-skips : (n room : ℕ) (s : List ℕ) (t : Tables) → n ≤ length s → runFrom S n room s t ≡ runFrom S 0 room (drop n s) t
-  unfolding runFrom
+  unfolding runner.runFrom
   run-skips zero room s t h = refl
   run-skips (suc n) room [] t h = absurd (omega arith)
   run-skips (suc n) room (b ∷ s) t h = run-skips n room s t (le-of-suc-le-suc h)
@@ -63,20 +64,20 @@ module _ (S : Settings) where
 
 module _ (S : Settings) (room k : ℕ) (rest : List ℕ) (t : Tables) where
   pub from-stops : goesOn (laterStop room k rest) ≡ false → runFrom S 0 room (k ∷ rest) t ≡ halt (laterStop room k rest) t
-  unfolding runFrom
+  unfolding runner.runFrom
   from-stops z = rw z
 
   pub from-goes : goesOn (laterStop room k rest) ≡ true
       → runFrom S 0 room (k ∷ rest) t
       ≡ ahead (1 + lengthOf k) (logBytes (eventsOf (stepAt S k rest t)))
       (runFrom S (lengthOf k) (room - length (logBytes (eventsOf (stepAt S k rest t)))) rest (after t (stepAt S k rest t)))
-  unfolding runFrom
+  unfolding runner.runFrom
   from-goes z = rw z
 
 -- ---- at a place of the stream
 
 none-left : (S : Settings) (room : ℕ) (s : List ℕ) (t : Tables) → length s ≡ 0 → runFrom S 0 room s t ≡ halt stop.Nothing t
-unfolding runFrom
+unfolding runner.runFrom
 none-left S room [] t e = refl
 none-left S room (b ∷ s) t e = absurd (omega arith)
 

@@ -15,7 +15,9 @@ use Rattle.model.proofs.Soundness.{start-sound}
 use Rattle.model.specs.Tables.{Tables, start}
 use Rattle.model.specs.Lent.{Lent, encode}
 use Rattle.model.specs.Inner.{Is}
+use Rattle.model.specs.RecordsOf as records
 use Rattle.model.specs.Records.{isCommand, lengthOf}
+use Rattle.model.specs.RunnerOf as runner
 use Rattle.model.specs.Runner.{settingsOf, firstStop, goesOn, Result, halt, ahead, runFrom, lentResult, run}
 use Rattle.model.specs.declared.Settings.{Settings}
 use Rattle.model.specs.declared.Stop.{Stop}
@@ -40,7 +42,7 @@ use Rattle.streaming.specs.Wholes.{Whole}
 
 -- it is all there, or its kind is no command's
 there-goes : (L : Lent) (k : ℕ) (bs : List ℕ) → (firstStop L k bs ≡ stop.CutShort → ⊥) → firstThere (k ∷ bs) ≡ true
-unfolding firstThere firstStop
+unfolding firstThere runner.firstStop
 there-goes L k bs g =
     ⊎-elim
     (λ (z : isCommand k ≡ true).
@@ -62,7 +64,7 @@ module _ (L : Lent) where
       q
 
   pub stopped-run : (s : List ℕ) (n : Stop) (room : ℕ) → beginning L s ≡ Stopped n → run room s L ≡ halt n L
-  unfolding beginning run
+  unfolding beginning runner.run
   stopped-run [] n room q = let e : stop.Nothing ≡ n = cc in rw e
   stopped-run (k ∷ bs) n room q =
       by-flag (λ (x : Begun). x ≡ Stopped n → run room (k ∷ bs) L ≡ halt n L) (goesOn (firstStop L k bs)) _ _
@@ -85,7 +87,7 @@ module _ (L : Lent) where
 
   -- settings that are accepted
   opens : (s : List ℕ) (S : Settings) → beginning L s ≡ Accepted S → Opens s S
-  unfolding beginning lengthOf
+  unfolding beginning records.lengthOf
   opens [] S q = let e : _≡_ {A = ℕ} 0 1 = cc in absurd (omega arith)
   opens (k ∷ bs) S q =
       by-flag (λ (x : Begun). x ≡ Accepted S → Opens (k ∷ bs) S) (goesOn (firstStop L k bs)) _ _

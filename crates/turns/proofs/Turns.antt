@@ -14,6 +14,7 @@ use Rattle.model.specs.Sound.{allOnes, sound}
 use Rattle.model.specs.Calls.{eventsTold}
 use Rattle.model.specs.Steps.{access, send, fill}
 use Rattle.model.specs.Inner.{Is, Held, Does}
+use Rattle.model.specs.RecordsOf as records
 use Rattle.model.specs.Records.{logBytes}
 use Rattle.model.specs.Rounds.{steps, Turn, still, took, andThen, sendTurn, fillFirst, drain}
 use Rattle.model.specs.declared.Settings.{Settings}
@@ -51,7 +52,7 @@ step-turned S {step} {r = r} d t i ok p n = record {
 
 -- no call: nothing is written
 still-turned : (S : Settings) {L : Lent} (t : Tables) → Is S L t → (e : List ℕ) (out : ℕ) → Turned S (still t) e out out e L
-unfolding logBytes
+unfolding records.logBytes
 still-turned S t i e out = record { are = i; bytes = record { next = omega arith; slice = refl; fits = tt } }
 
 turned-then : (S : Settings) {a : Turn Tables} (g : Tables → Turn Tables) {e : List ℕ} {out w : ℕ} {f : List ℕ} {M : Lent} {v : ℕ} {h : List ℕ} {N : Lent}
