@@ -20,6 +20,9 @@ settingsOf = runner.settingsOf current
 abbrev pub recordStop : ℕ → List ℕ → Stop → Stop → Stop
 recordStop = runner.recordStop current
 
+abbrev pub roomStop : ℕ → Stop
+roomStop = runner.roomStop current
+
 abbrev pub firstStop : Lent → ℕ → List ℕ → Stop
 firstStop = runner.firstStop current
 

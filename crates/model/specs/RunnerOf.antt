@@ -47,13 +47,16 @@ module _ (F : Format) where
   recordStop k rest ofSettings ofOther =
       pick (isCommand F k) (pick (ltb (length rest) (lengthOf F k)) CutShort (pick (isSettings F k) ofSettings ofOther)) UnknownKind
 
+  abbrev pub roomStop : ℕ → Stop
+  roomStop room = pick (ltb room (eventRoom F)) NoRoom stop.Nothing
+
   -- at the first one
   unfoldable pub firstStop : Lent → ℕ → List ℕ → Stop
   firstStop L k rest = recordStop k rest (settingsStop (settingsOf k rest) L) OutOfPlace
 
   -- at a later one, with this much event room
   unfoldable pub laterStop : ℕ → ℕ → List ℕ → Stop
-  laterStop room k rest = recordStop k rest OutOfPlace (pick (ltb room (eventRoom F)) NoRoom stop.Nothing)
+  laterStop room k rest = recordStop k rest OutOfPlace (roomStop room)
 
 abbrev pub goesOn : Stop → Bool
 goesOn s = eqb (stopNumber s) 0

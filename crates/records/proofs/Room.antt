@@ -17,7 +17,7 @@ use Rattle.model.specs.Probe.{Spot, Place, no, at, waysOf, dirtyLines, first, v
 use Rattle.model.specs.Steps.{isMerge, isMiss, fetches, queues, queuedEvent, sentEvent, placesNeeded, accept, entryFull, proceed, access, afterSend, sendFrom, send, ticketsOf, afterFill, sentFor, fill, tick}
 use Rattle.model.specs.Calls.{eventsTold}
 use Rattle.model.specs.RecordsOf as records
-use Rattle.model.specs.Records.{bytesOf, eventBytes, logBytes}
+use Rattle.model.specs.Records.{bytesOf, eventBytes, logBytes, fillBytes}
 use Rattle.model.specs.Runner.{stepOf}
 use Rattle.model.specs.declared.Settings.{Settings}
 use Rattle.model.specs.declared.Answer.{Answer}
@@ -164,13 +164,13 @@ tickets-few n a (e ∷ es) h =
     (λ q. leb-true (length (e .tickets)) n (and-1 (leb (length (e .tickets)) n) _ h))
     (λ q. tickets-few n a es (and-2 (leb (length (e .tickets)) n) _ h))
 
-pub fill-takes : (a : ℕ) (t : Tables) → all (λ e. leb (length (e .tickets)) 8) (t .misses) ≡ true → Takes 49 (fill a t)
+pub fill-takes : (a : ℕ) (t : Tables) → all (λ e. leb (length (e .tickets)) 8) (t .misses) ≡ true → Takes fillBytes (fill a t)
 unfolding fill records.eventBytes bytesOf
 fill-takes a t h =
     let k = tickets-few 8 a (t .misses) h in
     let r = released-length (ticketsOf a (t .misses)) in
     let n = log-more (Filled a) (map Released (ticketsOf a (t .misses))) in
-    let m : Takes 49 (done (Filled a ∷ map Released (ticketsOf a (t .misses))) (afterFill a t)) = record { most = omega arith } in
+    let m : Takes fillBytes (done (Filled a ∷ map Released (ticketsOf a (t .misses))) (afterFill a t)) = record { most = omega arith } in
     takes-by (any (sentFor a) (t .misses)) m (refused-within _ NotSent (lit≤ tt))
 
 -- ---- every step of a command on sound tables
@@ -194,7 +194,7 @@ sound-few S t r h =
     in-all (λ e. leb (length (e .tickets)) 8) (t .misses)
     (λ e i. le-leb (length (e .tickets)) 8 (le-trans (entry-few S t e (all-in (entryOk S t) (t .misses) m i)) (readers-most S r)))
 
-pub step-takes : (S : Settings) (c : Command) (t : Tables) → inRange S ≡ true → sound S t ≡ true → Takes 49 (stepOf S c t)
+pub step-takes : (S : Settings) (c : Command) (t : Tables) → inRange S ≡ true → sound S t ≡ true → Takes fillBytes (stepOf S c t)
 step-takes S (cmd.Settings s w p m r q) t e h = refused-within _ SettingOutOfRange (lit≤ tt)
 step-takes S (cmd.Read a k) t e h = takes-more (access-takes S (Read a 0 k) t) (lit≤ tt)
 step-takes S (cmd.Write a m) t e h = takes-more (access-takes S (Write a m 0) t) (lit≤ tt)

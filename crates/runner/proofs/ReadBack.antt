@@ -56,7 +56,7 @@ run-log : (room : ℕ) (s : List ℕ) (L : Lent) → run room s L .events ≡ lo
 unfolding runner.run runTold records.logBytes
 run-log room [] L = refl
 run-log room (k ∷ s) L =
-    ⊎-elim (λ z. rw z (from-log (settingsOf s) (lengthOf k) room s (start (settingsOf s)))) (λ z. rw z) (flag (goesOn (firstStop L k s)))
+    ⊎-elim (λ z. rw z (from-log (settingsOf k s) (lengthOf k) room s (start (settingsOf k s)))) (λ z. rw z) (flag (goesOn (firstStop L k s)))
 
 resume-log : (S : Settings) (room : ℕ) (s : List ℕ) (L : Lent) → resume S room s L .events ≡ logBytes (resumeTold S room s L)
 unfolding runner.resume resumeTold records.logBytes
@@ -92,7 +92,7 @@ unfolding runTold
 run-fits room [] L b = tt
 run-fits room (k ∷ s) L b =
     by-flag AllFitting (goesOn (firstStop L k s)) _ _
-    (λ z. from-fits (settingsOf s) (settled L k s z .range) (lengthOf k) room s (start (settingsOf s)) (and-2 (ltb k 256) (bytes s) b) (start-sound (settingsOf s)) refl)
+    (λ z. from-fits (settingsOf k s) (settled L k s z .range) (lengthOf k) room s (start (settingsOf k s)) (and-2 (ltb k 256) (bytes s) b) (start-sound (settingsOf k s)) refl)
     (λ z. tt)
 
 resume-fits : (S : Settings) (room : ℕ) (s : List ℕ) (L : Lent) → Small L → bytes s ≡ true → AllFitting (resumeTold S room s L)

@@ -6,12 +6,12 @@ use Prim.Native.Nat.{ℕ, zero, suc, _+_, _-_, _≤_, _<_}
 use native.Mathlib.Nat.{le-of-suc-le-suc, add-assoc}
 use native.Mathlib.Numerals.{add-one}
 use native.Mathlib.Omega.{arith}
-use borrow.Author.Tests.{ltb-false, eqb-false}
+use borrow.Author.Tests.{ltb-false}
 use lib.ListN.{length, drop, length-drop}
 use lib.Seq.{drop-cons, drop-drop}
-use lib.Dec.{ltb, eqb}
+use lib.Dec.{ltb}
 use Rattle.model.specs.Tables.{Tables, Outcome, after, eventsOf}
-use Rattle.model.specs.Records.{isCommand, lengthOf, logBytes}
+use Rattle.model.specs.Records.{isCommand, isSettings, lengthOf, logBytes}
 use Rattle.model.specs.RunnerOf as runner
 use Rattle.model.specs.Runner.{eventRoom, laterStop, goesOn, stepAt, Result, halt, ahead, runFrom}
 use Rattle.model.specs.declared.Settings.{Settings}
@@ -25,7 +25,7 @@ use Rattle.running.specs.Resume.{kindAt, restAt, single}
 pub record Going (room k : ℕ) (rest : List ℕ) : Type 0 where
   pub command : isCommand k ≡ true
   pub whole : lengthOf k ≤ length rest
-  pub later : k ≡ 0 → ⊥
+  pub later : isSettings k ≡ false
   pub roomy : eventRoom ≤ room
 
 pub going : (room k : ℕ) (rest : List ℕ) → goesOn (laterStop room k rest) ≡ true → Going room k rest
@@ -33,9 +33,9 @@ unfolding runner.laterStop
 going room k rest =
     by-flag Goes (isCommand k) _ _
     (λ a. by-flag Goes (ltb (length rest) (lengthOf k)) _ _ (λ b h. clash h refl)
-    (λ b. by-flag Goes (eqb k 0) _ _ (λ c h. clash h refl)
+    (λ b. by-flag Goes (isSettings k) _ _ (λ c h. clash h refl)
     (λ c. by-flag Goes (ltb room eventRoom) _ _ (λ d h. clash h refl)
-    (λ d h. record { command = a; whole = ltb-false _ _ b; later = eqb-false k 0 c; roomy = ltb-false room eventRoom d }))))
+    (λ d h. record { command = a; whole = ltb-false _ _ b; later = c; roomy = ltb-false room eventRoom d }))))
     (λ a h. clash h refl)
   where
     Goes : Stop → Type 0

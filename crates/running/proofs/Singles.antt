@@ -13,7 +13,7 @@ use Rattle.model.specs.Tables.{Tables, after, eventsOf}
 use Rattle.model.specs.Lent.{Lent}
 use Rattle.model.specs.Sound.{sound}
 use Rattle.model.specs.Calls.{eventsTold}
-use Rattle.model.specs.Records.{lengthOf, commandOf, logBytes}
+use Rattle.model.specs.Records.{lengthOf, commandOf, logBytes, fillBytes}
 use Rattle.model.specs.RunnerOf as runner
 use Rattle.model.specs.Runner.{goesOn, laterStop, stepRead, stepAt, halt}
 use Rattle.model.specs.Inner.{Is, Held}
@@ -33,12 +33,12 @@ use Rattle.running.proofs.Running.{Going, going}
 -- ---- the events of one step
 
 -- at most 49 bytes: a fill with eight tickets
-read-takes : (S : Settings) (x : CommandRead) (t : Tables) → inRange S ≡ true → sound S t ≡ true → Takes 49 (stepRead S x t)
+read-takes : (S : Settings) (x : CommandRead) (t : Tables) → inRange S ≡ true → sound S t ≡ true → Takes fillBytes (stepRead S x t)
 read-takes S (command.Got c) t range ok = step-takes S c t range ok
 read-takes S command.None t range ok = record { most = le-trans (refused-takes refusal.SettingOutOfRange .most) (lit≤ tt) }
 
 pub step-room : (S : Settings) (k : ℕ) (rest : List ℕ) (t : Tables) → inRange S ≡ true → sound S t ≡ true
-    → length (logBytes (eventsOf (stepAt S k rest t))) ≤ 49
+    → length (logBytes (eventsOf (stepAt S k rest t))) ≤ fillBytes
 unfolding runner.stepAt
 step-room S k rest t range ok = read-takes S (commandOf k (take (lengthOf k) rest)) t range ok .most
 

@@ -8,12 +8,12 @@ use Prim.Native.Nat.{ℕ, zero, suc, _+_, _-_, _≤_, _<_}
 use native.Mathlib.Nat.{le-of-suc-le-suc}
 use native.Mathlib.Omega.{arith}
 use borrow.Author.Tests.{le-ltb, ltb-true, ltb-false}
-use lib.Dec.{ltb, eqb}
+use lib.Dec.{ltb}
 use lib.ListN.{length, take, drop, length-append}
 use lib.Seq.{length-take-le}
 use Rattle.model.specs.Words.{pick}
 use Rattle.model.specs.Tables.{Tables, after, eventsOf}
-use Rattle.model.specs.Records.{isCommand, lengthOf, logBytes}
+use Rattle.model.specs.Records.{isCommand, isSettings, lengthOf, logBytes}
 use Rattle.model.specs.RunnerOf as runner
 use Rattle.model.specs.Runner.{eventRoom, laterStop, goesOn, stepAt, Result, halt, ahead, runFrom}
 use Rattle.model.specs.declared.Settings.{Settings}
@@ -54,15 +54,15 @@ module _ (room k : ℕ) (a : List ℕ) where
   -- with room for one record
   roomy-same : (other : ℕ) → eventRoom ≤ other → (laterStop room k a ≡ stop.NoRoom → ⊥) → laterStop room k a ≡ laterStop other k a
   unfolding runner.laterStop
-  roomy-same other w g = rw (le-ltb other eventRoom w) (by-roomy (isCommand k) (ltb (length a) (lengthOf k)) (eqb k 0) (ltb room eventRoom) g)
+  roomy-same other w g = rw (le-ltb other eventRoom w) (by-roomy (isCommand k) (ltb (length a) (lengthOf k)) (isSettings k) (ltb room eventRoom) g)
 
   roomy-stop : eventRoom ≤ room → laterStop room k a ≡ stop.NoRoom → ⊥
   unfolding runner.laterStop
-  roomy-stop w e = by-room (isCommand k) (ltb (length a) (lengthOf k)) (eqb k 0) (rw (le-ltb room eventRoom w) at e)
+  roomy-stop w e = by-room (isCommand k) (ltb (length a) (lengthOf k)) (isSettings k) (rw (le-ltb room eventRoom w) at e)
 
   whole-stop : lengthOf k ≤ length a → laterStop room k a ≡ stop.CutShort → ⊥
   unfolding runner.laterStop
-  whole-stop w e = by-whole (isCommand k) (eqb k 0) (ltb room eventRoom) (rw (le-ltb (length a) (lengthOf k) w) at e)
+  whole-stop w e = by-whole (isCommand k) (isSettings k) (ltb room eventRoom) (rw (le-ltb (length a) (lengthOf k) w) at e)
 
   unknown-stop : isCommand k ≡ false → laterStop room k a ≡ stop.UnknownKind
   unfolding runner.laterStop

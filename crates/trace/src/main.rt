@@ -7,6 +7,7 @@ mod work;
 
 use model::Settings;
 use running::Begun;
+use running::Opening;
 use streaming::first;
 use streaming::rooms;
 use work::Work;
@@ -15,13 +16,11 @@ ghost use lib.ListN.{length};
 ghost use Rattle.model.specs.Lent.{lent};
 ghost use Rattle.model.specs.Inner.{Held};
 
-// A settings record: its kind and a body of seven bytes.
-const SETTINGS_RECORD: usize = 8;
-
-// Behind settings that are accepted, of which `have` bytes were read.
+// Behind settings that are accepted, a record of `size` bytes, of which `have` bytes were read.
 fn trace_behind(
     fd: i32,
     s: Settings,
+    size: usize,
     buf: &mut [u8],
     longs: &mut [u64],
     words: &mut [u32],
@@ -33,29 +32,33 @@ fn trace_behind(
     let mut space = io::large_buffer();
     let out: &mut [u8] = &mut space;
     let put = page::put_command_at(text::front(buf, have), 0, 0, out, 0);
-    let rest = input::carry(buf, SETTINGS_RECORD, have);
-    let start = work::begun(rest, put);
+    let rest = input::carry(buf, size, have);
+    let start = work::begun(size, rest, put);
     work::trace_rest(fd, s, buf, longs, words, marks, out, start)
 }
 
 // The first record, then the rest.
 fn trace_all(
     fd: i32,
+    first: Opening,
     buf: &mut [u8],
     longs: &mut [u64],
     words: &mut [u32],
     marks: &mut [u8],
     have: usize,
 ) -> Work {
-    match running::begin(text::front(buf, have), longs, words, marks) {
+    match running::begin(first, longs, words, marks) {
         Begun::Stopped(stop) => work::at_once(have, stop),
-        Begun::Accepted(s) => trace_behind(fd, s, buf, longs, words, marks, have),
+        Begun::Accepted { settings, next } => {
+            trace_behind(fd, settings, next, buf, longs, words, marks, have)
+        }
     }
 }
 
 // Lends what the stream's own settings ask for.
 fn trace_stream(fd: i32, buf: &mut [u8], have: usize) -> Work {
-    let n = running::lengths_for(text::front(buf, have));
+    let first = running::first_record(text::front(buf, have));
+    let n = running::lengths_for(first);
     let mut longs = rooms::longs_room();
     let mut words = rooms::words_room();
     let mut marks = rooms::marks_room();
@@ -64,6 +67,7 @@ fn trace_stream(fd: i32, buf: &mut [u8], have: usize) -> Work {
     let c = n.marks;
     trace_all(
         fd,
+        first,
         buf,
         &mut longs[..a],
         &mut words[..b],
