@@ -11,7 +11,7 @@ use Rattle.trace.proofs.trace_stream.Statement.{statement}
 use Rattle.trace.proofs.trace_stream.Tie as tie
 
 most : (c : tie.After-lengths-for) → Most (c .lengths-for .result)
-most c = lent-most (c .before .front .result .now) (c .lengths-for .ensures)
+most c = lent-most (c .before .before .front .result .now) (c .before .first-record .ensures) (c .lengths-for .ensures)
 
 longs-fit : (c : tie.After-longs-room) → c .before .lengths-for .result .longs ≤ length (c .longs-room .result)
 longs-fit c = omega (arith, most (c .before) .longs, c .longs-room .ensures)
@@ -26,6 +26,7 @@ pub trace-stream-spec : {M : Type 1} → statement M
 trace-stream-spec =
     tie.close
     (tie.spec
+    (λ c κs. search needs)
     (λ c κs. search needs)
     (λ c κs. search needs)
     (λ c κs. search needs)
