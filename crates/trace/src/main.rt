@@ -11,10 +11,12 @@ use running::Opening;
 use streaming::first;
 use streaming::rooms;
 use work::Work;
+ghost use mathlib.Core.Path.{_≡_};
 ghost use Prim.Native.Nat.{_≤_};
-ghost use lib.ListN.{length};
+ghost use lib.ListN.{length, take};
 ghost use Rattle.model.specs.Lent.{lent};
 ghost use Rattle.model.specs.Inner.{Held};
+ghost use Rattle.running.specs.Begin.{firstRecord};
 
 // Behind settings that are accepted, a record of `size` bytes, of which `have` bytes were read.
 fn trace_behind(
@@ -46,7 +48,9 @@ fn trace_all(
     words: &mut [u32],
     marks: &mut [u8],
     have: usize,
-) -> Work {
+) -> Work
+    requires { ⌜ first ≡ firstRecord (take have (now buf)) ⌝ }
+{
     match running::begin(first, longs, words, marks) {
         Begun::Stopped(stop) => work::at_once(have, stop),
         Begun::Accepted { settings, next } => {

@@ -1,10 +1,11 @@
 -- The arrays hold the largest tables.
-use mathlib.Core.Path.{sym}
+use mathlib.Core.Path.{sym, ap, _∙_}
 use Prim.Native.Nat.{_≤_}
 use native.Mathlib.Omega.{arith}
 use borrow.Author.Needs.{needs}
 use lib.ListN.{length}
 use lib.Seq.{length-take-le}
+use Rattle.running.specs.Begin.{firstRecord}
 use Rattle.running.proofs.Asked.{Most}
 use Rattle.streaming.proofs.Leaving.{lent-most}
 use Rattle.trace.proofs.trace_stream.Statement.{statement}
@@ -38,6 +39,9 @@ trace-stream-spec =
     (λ c. sym (length-take-le _ _ (words-fit (c .before .before .before .before))))
     (λ c. marks-fit (c .before .before .before))
     (λ c. sym (length-take-le _ _ (marks-fit (c .before .before .before .before))))
-    (λ c κs. search needs)
+    -- trace-all-requires
+    (λ c κs.
+    let l = c .before .before .before .before .before .before .before in
+    l .before .first-record .ensures ∙ ap firstRecord (l .before .before .front .ensures))
     (λ c. search needs)
     (λ c. search needs))
