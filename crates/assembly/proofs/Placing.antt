@@ -8,7 +8,8 @@ use borrow.Author.Tests.{leb-true}
 use lib.Dec.{leb}
 use lib.ListN.{length}
 use Rattle.model.specs.Words.{pick}
-use Rattle.model.specs.Records.{commandBytes, commandBody}
+use Rattle.model.specs.RecordsOf as records
+use Rattle.model.specs.Records.{commandBytes}
 use Rattle.model.specs.declared.Command.{Command}
 use Rattle.records.specs.Stores.{room, stored, storedCount, Stored}
 use Rattle.assembly.specs.declared.Expected.{Expected}
@@ -20,7 +21,7 @@ use Rattle.assembly.specs.Output.{placed, answerTo, leftBy, Assembles}
 
 -- a command is a byte or more
 command-bytes : (c : Command) → 0 < length (commandBytes c)
-unfolding commandBytes
+unfolding records.commandBytes
 command-bytes c = omega arith
 
 module _ (c : Command) (l : List ℕ) (at : ℕ) {n : ℕ} {m : List ℕ} (w : Stored l at (commandBytes c) n m) where

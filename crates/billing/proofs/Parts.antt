@@ -4,6 +4,7 @@ use mathlib.Core.List.{List, [], _∷_}
 use Prim.Native.Nat.{ℕ, zero, suc, _+_, _-_, _≤_, _<_}
 use native.Mathlib.Omega.{arith}
 use lib.ListN.{length}
+use Rattle.model.specs.RecordsOf as records
 use Rattle.model.specs.Records.{readAt, nextOf, eventAt, eventIn}
 use Rattle.model.specs.declared.Event.{Event}
 use Rattle.model.specs.declared.EventRead.{EventRead}
@@ -31,7 +32,7 @@ module _ (s : List ℕ) (at : ℕ) where
   step-event p q u v = rw (sym p ∙ q, sym u ∙ v)
 
   pub step-stopped : {r : Record} → r ≡ readAt s at → (z : Rattle.model.specs.declared.Stop.Stop) → r ≡ Stopped z → Stop ≡ stepAt s at
-  unfolding stepAt eventAt
+  unfolding stepAt records.eventAt
   step-stopped u z v = rw (sym u ∙ v)
 
   pub step-end : length s ≤ at → Stop ≡ stepAt s at
@@ -39,7 +40,7 @@ module _ (s : List ℕ) (at : ℕ) where
 
   -- an event is a byte or more, and lies within the log
   pub step-past : {e : Event} {next : ℕ} → stepAt s at ≡ Next e next → (at < next) × (next ≤ length s)
-  unfolding stepAt eventAt
+  unfolding stepAt records.eventAt
   step-past {e} {next} q = by-record (readAt s at) refl q
     where
       by-event : (x : EventRead) (m : ℕ) → (at < m) × (m ≤ length s) → stepOf x m ≡ Next e next → (at < next) × (next ≤ length s)

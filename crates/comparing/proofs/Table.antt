@@ -10,6 +10,7 @@ use borrow.Author.Tests.{ne-eqb, ltb-true, ltb-false}
 use lib.ListN.{getD}
 use lib.Dec.{eqb, ltb}
 use Rattle.model.specs.Words.{all, any, every, same}
+use Rattle.model.specs.RecordsOf as records
 use Rattle.model.specs.Records.{Kind, eventKinds, lengthOf, isCommand}
 use Rattle.model.proofs.Flags.{and-1, and-2, flag, same-is}
 use Rattle.model.proofs.Below.{every-at}
@@ -53,7 +54,7 @@ abbrev told : ℕ → Bool
 told k = not (isCommand k) && not (eqb (lengthOf k) 255)
 
 events-told : every 25 (λ k. same (told k) (isEvent k)) ≡ true
-unfolding isEvent lengthOf
+unfolding isEvent records.lengthOf
 events-told = refl
 
 pub event-kinds : (k : ℕ) → told k ≡ isEvent k

@@ -6,7 +6,7 @@ use native.Mathlib.Omega.{arith}
 use lib.ListN.{length, set}
 use borrow.Author.Tests.{eq-eqb, ne-eqb}
 use Rattle.model.specs.Lent.{Lent}
-use Rattle.model.specs.Records.{eventsIn, eventsFrom}
+use Rattle.model.specs.RecordsOf as records
 use Rattle.rounds.specs.Demand3.{Shown, shown}
 use Rattle.rounds.specs.declared.Went.{Went}
 use Rattle.exported.proofs.Calling.{two-set}
@@ -15,7 +15,7 @@ use Rattle.exported.specs.Demand3.{wentNumber, roundsRun, bytesWritten, 
 module _ (k : List ℕ) where
   module _ (h : length k ≡ 2 → ⊥) where
     pub uncalled : (o : Shown) (L : Lent) (e : List ℕ) → ShownCalled o L e k 2 e k L
-    unfolding eventsIn eventsFrom
+    unfolding records.eventsIn records.eventsFrom
     uncalled o L e = let q = ne-eqb (length k) 2 h in record { says = rw q; counts = rw q; events = rw q; reads = rw q; left = rw q }
 
     pub unflagged : (gl fl : List ℕ) → FlagsCalled gl fl k fl

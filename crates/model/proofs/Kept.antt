@@ -8,7 +8,8 @@ use Rattle.model.specs.Range.{inRange}
 use Rattle.model.specs.Tables.{Tables}
 use Rattle.model.specs.Lent.{Lent, lengthsFit, tablesOf}
 use Rattle.model.specs.SoundLent.{soundLent, Small}
-use Rattle.model.specs.Runner.{keptStop, goesOn, Result, halt, runFrom, lentResult, resume}
+use Rattle.model.specs.RunnerOf as runner
+use Rattle.model.specs.Runner.{keptStop, goesOn, halt, runFrom, lentResult, resume}
 use Rattle.model.specs.Inner.{Is}
 use Rattle.model.specs.declared.Settings.{Settings}
 use Rattle.model.specs.declared.Stop.{Stop}
@@ -38,11 +39,11 @@ kept-is S L small h = let k = kept S L h in sound-encoded S L (k .range) (k .fit
 
 module _ (S : Settings) (room : ℕ) (s : List ℕ) (L : Lent) where
   pub resume-stops : goesOn (keptStop S L) ≡ false → resume S room s L ≡ halt (keptStop S L) L
-  unfolding resume
+  unfolding runner.resume
   resume-stops z = rw z
 
   pub resume-goes : goesOn (keptStop S L) ≡ true → resume S room s L ≡ lentResult S (runFrom S 0 room s (tablesOf S L))
-  unfolding resume
+  unfolding runner.resume
   resume-goes z = rw z
 
   -- nothing stops a run that goes on from what sound tables are encoded as
@@ -51,5 +52,5 @@ module _ (S : Settings) (room : ℕ) (s : List ℕ) (L : Lent) where
     is-kept = rw (is .range, is-fits S L t is, is-sound-lent S L t is)
 
     pub resume-is : resume S room s L ≡ lentResult S (runFrom S 0 room s t)
-    unfolding resume
+    unfolding runner.resume
     resume-is = rw (is-kept, is-tables S L t is)

@@ -11,8 +11,10 @@ use Rattle.model.specs.Range.{inRange}
 use Rattle.model.specs.Tables.{Tables, start, after}
 use Rattle.model.specs.Lent.{Lent}
 use Rattle.model.specs.Sound.{allOnes, sound}
-use Rattle.model.specs.Records.{isCommand, lengthOf, numberAt, commandIn, commandOf}
+use Rattle.model.specs.RecordsOf as records
+use Rattle.model.specs.Records.{isCommand, isSettings, lengthOf, numberAt, commandIn, commandOf}
 pub use Rattle.model.specs.Records.{bytes}
+use Rattle.model.specs.RunnerOf as runner
 use Rattle.model.specs.Runner.{commandMask, settingsOf, firstStop, laterStop, goesOn, stepRead, stepAt, Result, runFrom, run}
 use Rattle.model.specs.Inner.{Held}
 use Rattle.model.specs.declared.Settings.{Settings}
@@ -39,10 +41,10 @@ Small (command.Got c) = commandMask c ≤ allOnes
 Small command.None = Unit {0}
 
 command-small : (k : ℕ) (b : List ℕ) → bytes b ≡ true → Small (commandOf k b)
-unfolding commandOf
+unfolding records.commandOf
 command-small k b h =
     by-flag Small (eqb (length b) (lengthOf k)) (commandIn k b) command.None
-    (λ e. by-flag Small (eqb k 0) _ _ (λ e. omega arith)
+    (λ e. by-flag Small (isSettings k) _ _ (λ e. omega arith)
     (λ e. by-flag Small (eqb k 1) _ _ (λ e. omega arith)
     (λ e. by-flag Small (eqb k 2) _ _ (λ e. mask-small b h)
     (λ e. by-flag Small (eqb k 3) _ _ (λ e. omega arith)
@@ -57,7 +59,7 @@ module _ (S : Settings) (range : inRange S ≡ true) where
 
   pub record-keeps-sound : (k : ℕ) (rest : List ℕ) (t : Tables) → bytes rest ≡ true → sound S t ≡ true
       → sound S (after t (stepAt S k rest t)) ≡ true
-  unfolding stepAt
+  unfolding runner.stepAt
   record-keeps-sound k rest t h ok =
       let b : bytes (take (lengthOf k) rest) ≡ true =
       in-all (λ b. ltb b 256) (take (lengthOf k) rest) (λ b m. all-in (λ b. ltb b 256) rest h (in-take (lengthOf k) rest b m)) in
@@ -65,7 +67,7 @@ module _ (S : Settings) (range : inRange S ≡ true) where
 
   pub run-from-keeps-sound : (n room : ℕ) (s : List ℕ) (t : Tables) → bytes s ≡ true → sound S t ≡ true
       → sound S (runFrom S n room s t .tables) ≡ true
-  unfolding runFrom
+  unfolding runner.runFrom
   run-from-keeps-sound n room [] t h ok = ok
   run-from-keeps-sound (suc n) room (b ∷ s) t h ok = run-from-keeps-sound n room s t (and-2 (ltb b 256) (bytes s) h) ok
   run-from-keeps-sound zero room (k ∷ s) t h ok =
@@ -75,25 +77,25 @@ module _ (S : Settings) (range : inRange S ≡ true) where
       (λ e. ok)
 
 -- settings that are accepted are in range
-first-in-range : (L : Lent) (k : ℕ) (s : List ℕ) → goesOn (firstStop L k s) ≡ true → inRange (settingsOf s) ≡ true
-unfolding firstStop
+first-in-range : (L : Lent) (k : ℕ) (s : List ℕ) → goesOn (firstStop L k s) ≡ true → inRange (settingsOf k s) ≡ true
+unfolding runner.firstStop
 first-in-range L k s =
     by-flag InRange (isCommand k) _ _
     (λ e. by-flag InRange (ltb (length s) (lengthOf k)) _ _ (λ f g. clash g refl)
-    (λ f. by-flag InRange (eqb k 0) _ _
-    (λ g. by-flag InRange (inRange (settingsOf s)) _ _ (λ r h. r) (λ r h. clash h refl))
+    (λ f. by-flag InRange (isSettings k) _ _
+    (λ g. by-flag InRange (inRange (settingsOf k s)) _ _ (λ r h. r) (λ r h. clash h refl))
     (λ g h. clash h refl)))
     (λ e h. clash h refl)
   where
     InRange : Stop → Type 0
-    InRange s₁ = goesOn s₁ ≡ true → inRange (settingsOf s) ≡ true
+    InRange s₁ = goesOn s₁ ≡ true → inRange (settingsOf k s) ≡ true
 
 -- once its first record is accepted, a run leaves slices of sound tables
 pub run-leaves-sound : (room k : ℕ) (s : List ℕ) (L : Lent) → bytes s ≡ true → goesOn (firstStop L k s) ≡ true
-    → Held (settingsOf s) (run room (k ∷ s) L .tables)
-unfolding run
+    → Held (settingsOf k s) (run room (k ∷ s) L .tables)
+unfolding runner.run
 run-leaves-sound room k s L h go =
-    let S : Settings = settingsOf s in
+    let S : Settings = settingsOf k s in
     let range : inRange S ≡ true = first-in-range L k s go in
     record {
       tables = runFrom S (lengthOf k) room s (start S) .tables;

@@ -6,15 +6,16 @@ use mathlib.Core.Bool.{Bool, true, false}
 use mathlib.Core.List.{List, [], _∷_}
 use Prim.Native.Nat.{ℕ, zero, suc, _+_, _-_}
 use lib.ListN.{length, take}
-use lib.Dec.{ltb, eqb}
+use lib.Dec.{ltb}
 use Rattle.model.specs.Range.{inRange}
 use Rattle.model.specs.Tables.{Tables, Outcome, start, after, eventsOf}
 use Rattle.model.specs.Lent.{Lent, lengthsFit, tablesOf, encode}
 use Rattle.model.specs.SoundLent.{Small}
 use Rattle.model.specs.Steps.{access, send, fill, tick}
 use Rattle.model.specs.Calls.{encoded, freshCall}
-use Rattle.model.specs.Records.{bytes, isCommand, lengthOf, commandOf, logBytes}
-use Rattle.model.specs.Runner.{settingsOf, firstStop, laterStop, keptStop, goesOn, stepRead, stepAt, Result, halt, ahead, runFrom, lentResult, run, resume}
+use Rattle.model.specs.Records.{bytes, isCommand, isSettings, lengthOf, commandOf, logBytes}
+use Rattle.model.specs.RunnerOf as runner
+use Rattle.model.specs.Runner.{settingsOf, firstStop, laterStop, keptStop, goesOn, stepRead, stepAt, halt, ahead, runFrom, lentResult, run, resume}
 use Rattle.model.specs.Separate.{callRead, callAt, callsFrom, runByCalls, resumeByCalls}
 use Rattle.model.specs.Inner.{Is}
 use Rattle.model.specs.declared.Settings.{Settings}
@@ -43,7 +44,7 @@ module _ (S : Settings) (L : Lent) (t : Tables) (is : Is S L t) where
   call-read command.None = refl
 
   pub call-at : (k : ℕ) (rest : List ℕ) → callAt S k rest L ≡ encoded S (stepAt S k rest t)
-  unfolding callAt stepAt
+  unfolding callAt runner.stepAt
   call-at k rest = call-read (commandOf k (take (lengthOf k) rest))
 
 -- ---- the records of a stream
@@ -66,17 +67,17 @@ module _ (S : Settings) (room k : ℕ) (bs : List ℕ) where
         → runFrom S 0 room (k ∷ bs) t
         ≡ ahead (1 + lengthOf k) (logBytes (eventsOf (stepAt S k bs t)))
         (runFrom S (lengthOf k) (room - length (logBytes (eventsOf (stepAt S k bs t)))) bs (after t (stepAt S k bs t)))
-    unfolding runFrom
+    unfolding runner.runFrom
     from-goes z = rw z
 
     from-stops : goesOn (laterStop room k bs) ≡ false → runFrom S 0 room (k ∷ bs) t ≡ halt (laterStop room k bs) t
-    unfolding runFrom
+    unfolding runner.runFrom
     from-stops z = rw z
 
 module _ (S : Settings) where
   pub calls-from : (n room : ℕ) (s : List ℕ) (L : Lent) (t : Tables) → bytes s ≡ true → Is S L t
       → callsFrom S n room s L ≡ lentResult S (runFrom S n room s t)
-  unfolding callsFrom runFrom
+  unfolding callsFrom runner.runFrom
   calls-from n room [] L t h is = ap (halt Nothing) (is .encoded)
   calls-from (suc n) room (b ∷ bs) L t h is = calls-from n room bs L t (and-2 (ltb b 256) (bytes bs) h) is
   calls-from zero room (k ∷ bs) L t h is =
@@ -97,24 +98,24 @@ module _ (S : Settings) where
 
 -- its kind, its settings and the lent lengths pass
 pub record Passes (k : ℕ) (S : Settings) (L : Lent) : Type 0 where
-  pub kind : eqb k 0 ≡ true
+  pub kind : isSettings k ≡ true
   pub range : inRange S ≡ true
   pub fits : lengthsFit S L ≡ true
 
-pub first-passes : (L : Lent) (k : ℕ) (s : List ℕ) → goesOn (firstStop L k s) ≡ true → Passes k (settingsOf s) L
-unfolding firstStop
+pub first-passes : (L : Lent) (k : ℕ) (s : List ℕ) → goesOn (firstStop L k s) ≡ true → Passes k (settingsOf k s) L
+unfolding runner.firstStop
 first-passes L k s =
     by-flag Goes (isCommand k) _ _
     (λ a. by-flag Goes (ltb (length s) (lengthOf k)) _ _ (λ b h. clash h refl)
-    (λ b. by-flag Goes (eqb k 0) _ _
-    (λ c. by-flag Goes (inRange (settingsOf s)) _ _
-    (λ d. by-flag Goes (lengthsFit (settingsOf s) L) _ _ (λ e h. record { kind = c; range = d; fits = e }) (λ e h. clash h refl))
+    (λ b. by-flag Goes (isSettings k) _ _
+    (λ c. by-flag Goes (inRange (settingsOf k s)) _ _
+    (λ d. by-flag Goes (lengthsFit (settingsOf k s) L) _ _ (λ e h. record { kind = c; range = d; fits = e }) (λ e h. clash h refl))
     (λ d h. clash h refl))
     (λ c h. clash h refl)))
     (λ a h. clash h refl)
   where
     Goes : Stop → Type 0
-    Goes n = goesOn n ≡ true → Passes k (settingsOf s) L
+    Goes n = goesOn n ≡ true → Passes k (settingsOf k s) L
 
 pub fresh-is : (S : Settings) (L : Lent) → inRange S ≡ true → lengthsFit S L ≡ true → Is S (after L (freshCall S L)) (start S)
 fresh-is S L range fits = record { range = range; soundly = start-sound S; encoded = rw (range, fits) }
@@ -122,12 +123,12 @@ fresh-is S L range fits = record { range = range; soundly = start-sound S; encod
 -- ---- the theorems
 
 pub run-is-calls : (room : ℕ) (s : List ℕ) (L : Lent) → bytes s ≡ true → run room s L ≡ runByCalls room s L
-unfolding run runByCalls
+unfolding runner.run runByCalls
 run-is-calls room [] L h = refl
 run-is-calls room (k ∷ bs) L h =
     ⊎-elim
     (λ z.
-    let S = settingsOf bs in
+    let S = settingsOf k bs in
     let p = first-passes L k bs z in
     let i = calls-from S (lengthOf k) room bs (after L (freshCall S L)) (start S) (and-2 (ltb k 256) (bytes bs) h) (fresh-is S L (p .range) (p .fits)) in
     rw (z, i))
@@ -135,7 +136,7 @@ run-is-calls room (k ∷ bs) L h =
     (flag (goesOn (firstStop L k bs)))
 
 pub resume-is-calls : (S : Settings) (room : ℕ) (s : List ℕ) (L : Lent) → bytes s ≡ true → Small L → resume S room s L ≡ resumeByCalls S room s L
-unfolding resume resumeByCalls
+unfolding runner.resume resumeByCalls
 resume-is-calls S room s L h small =
     ⊎-elim
     (λ z. rw (z, calls-from S 0 room s L (tablesOf S L) h (kept-is S L small z)))

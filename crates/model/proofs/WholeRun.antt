@@ -7,8 +7,10 @@ use Rattle.model.specs.Range.{inRange}
 use Rattle.model.specs.Lent.{Lent, lengthsFit, encode}
 use Rattle.model.specs.Probe.{probe, ruleOf}
 use Rattle.model.specs.Steps.{access, proceed, accept, send, fill, fillLine}
-use Rattle.model.specs.Records.{lengthOf, bytesOf, numberAt, eventBytes, logBytes, commandOf}
-use Rattle.model.specs.Runner.{firstStop, laterStop, stepAt, runFrom, run}
+use Rattle.model.specs.RecordsOf as records
+use Rattle.model.specs.Records.{bytesOf, numberAt}
+use Rattle.model.specs.RunnerOf as runner
+use Rattle.model.specs.Runner.{run}
 use Rattle.model.specs.Cases.{base}
 use Rattle.model.specs.WholeRun.{stream, written, left}
 use Rattle.model.specs.declared.Stop.the-variants.{Nothing}
@@ -20,5 +22,5 @@ written-45 = refl
 -- on lent tables of the settings' lengths, whatever they hold, with room for 256 bytes of events
 pub whole-run : (L : Lent) → lengthsFit base L ≡ true
     → run 256 stream L ≡ record { stop = Nothing; consumed = 44; events = written; tables = encode base left }
-unfolding fit places inRange encode ruleOf probe access proceed accept send fill fillLine lengthOf bytesOf numberAt eventBytes logBytes commandOf firstStop laterStop stepAt runFrom run
+unfolding fit places inRange encode ruleOf probe access proceed accept send fill fillLine records.lengthOf bytesOf numberAt records.eventBytes records.logBytes records.commandOf runner.firstStop runner.laterStop runner.stepAt runner.runFrom runner.run
 whole-run L h = rw h

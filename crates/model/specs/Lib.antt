@@ -13,6 +13,10 @@ pub mod Steps
 pub mod Meetings
 pub mod Calls
 pub mod History
+pub mod Kinds
+pub mod Format
+pub mod RecordsOf
+pub mod RunnerOf
 pub mod Records
 pub mod Runner
 pub mod Separate

@@ -48,7 +48,7 @@ unfoldable pub runByCalls : ℕ → List ℕ → Lent → Result Lent
 runByCalls room [] L = halt stop.Nothing L
 runByCalls room (k ∷ bs) L =
     pick (goesOn (firstStop L k bs))
-    (ahead (1 + lengthOf k) [] (callsFrom (settingsOf bs) (lengthOf k) room bs (after L (freshCall (settingsOf bs) L))))
+    (ahead (1 + lengthOf k) [] (callsFrom (settingsOf k bs) (lengthOf k) room bs (after L (freshCall (settingsOf k bs) L))))
     (halt (firstStop L k bs) L)
 
 -- as resume

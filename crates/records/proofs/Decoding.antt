@@ -5,6 +5,7 @@ use Prim.Native.Nat.{ℕ, zero, suc, _-_, _≤_, _<_}
 use native.Mathlib.Omega.{arith}
 use borrow.Author.Tests.{lt-leb, le-leb, eq-eqb, ne-eqb}
 use lib.ListN.{length, getD, take, drop}
+use Rattle.model.specs.RecordsOf as records
 use Rattle.model.specs.Records.{lengthOf, readAt, bodyAt, refusals, refusedBy, eventBody, eventOf, eventAt, commandIn, commandOf, commandAt}
 use Rattle.model.specs.declared.Stop.{Stop}
 use Rattle.model.specs.declared.Record.the-variants.{Whole, Stopped}
@@ -37,38 +38,38 @@ refusal-named n d h k = rw (le-leb 1 n h, le-leb n 12 k) (ap (λ (r : Refusal). 
 
 module _ (k : ℕ) (b : List ℕ) where
   pub event-sized : (j : ℕ) → k ≡ j → length b ≡ lengthOf k → eventOf k b ≡ eventBody j b
-  unfolding eventOf
+  unfolding records.eventOf
   event-sized j p q = rw (eq-eqb (length b) (lengthOf k) q, p)
 
   pub event-unsized : (length b ≡ lengthOf k → ⊥) → event.None ≡ eventOf k b
-  unfolding eventOf
+  unfolding records.eventOf
   event-unsized q = rw (ne-eqb (length b) (lengthOf k) q)
 
   pub command-sized : (j : ℕ) → k ≡ j → length b ≡ lengthOf k → commandOf k b ≡ commandIn j b
-  unfolding commandOf
+  unfolding records.commandOf
   command-sized j p q = rw (eq-eqb (length b) (lengthOf k) q, p)
 
   pub command-unsized : (length b ≡ lengthOf k → ⊥) → command.None ≡ commandOf k b
-  unfolding commandOf
+  unfolding records.commandOf
   command-unsized q = rw (ne-eqb (length b) (lengthOf k) q)
 
 -- ---- a record of a stream
 
 module _ (s : List ℕ) (at : ℕ) where
   pub event-whole : (k start n next : ℕ) → readAt s at ≡ Whole k start n next → eventOf k (bodyAt s at) ≡ eventAt s at
-  unfolding eventAt bodyAt
+  unfolding records.eventAt records.bodyAt
   event-whole k start n next e = rw e
 
   pub event-none : (r : Stop) → readAt s at ≡ Stopped r → event.None ≡ eventAt s at
-  unfolding eventAt
+  unfolding records.eventAt
   event-none r e = rw e
 
   pub command-whole : (k start n next : ℕ) → readAt s at ≡ Whole k start n next → commandOf k (bodyAt s at) ≡ commandAt s at
-  unfolding commandAt bodyAt
+  unfolding records.commandAt records.bodyAt
   command-whole k start n next e = rw e
 
   pub command-none : (r : Stop) → readAt s at ≡ Stopped r → command.None ≡ commandAt s at
-  unfolding commandAt
+  unfolding records.commandAt
   command-none r e = rw e
 
   -- of the part that the code hands over

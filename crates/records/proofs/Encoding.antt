@@ -7,6 +7,7 @@ use lib.Dec.{lit≤}
 use lib.ListN.{length}
 use Rattle.records.specs.Stores.{Laid}
 use Rattle.model.specs.Numbers.{answerNumber, refusalNumber}
+use Rattle.model.specs.RecordsOf as records
 use Rattle.model.specs.Records.{lengthOf, bytesOf, kindOf, eventBytes, commandKind, commandBytes}
 use Rattle.model.specs.declared.Answer.{Answer}
 use Rattle.model.specs.declared.Answer.the-variants.{Hit, HitReserved, Miss, SectorMiss}
@@ -18,14 +19,14 @@ use Rattle.model.specs.declared.Command.{Command}
 use Rattle.model.specs.declared.Command.the-variants as cmd
 
 pub answer-bytes : (a : Answer) (line : ℕ) {x : ℕ} → x ≡ answerNumber a → 0x10 ∷ x ∷ bytesOf 2 line ≡ eventBytes (ev.Answered a line)
-unfolding eventBytes bytesOf
+unfolding records.eventBytes bytesOf
 answer-bytes Hit line e = rw e
 answer-bytes HitReserved line e = rw e
 answer-bytes Miss line e = rw e
 answer-bytes SectorMiss line e = rw e
 
 pub refusal-bytes : (n : Refusal) {x : ℕ} → x ≡ refusalNumber n → 0x11 ∷ x ∷ [] ≡ eventBytes (ev.Refused n)
-unfolding eventBytes bytesOf
+unfolding records.eventBytes bytesOf
 refusal-bytes refusal.SettingOutOfRange e = rw e
 refusal-bytes refusal.SliceLength e = rw e
 refusal-bytes refusal.NotSound e = rw e
@@ -42,7 +43,7 @@ refusal-bytes refusal.QueueEmpty e = rw e
 pub settings-bytes : (sets ways percent entries readers places : ℕ) → ways < 256 → percent < 256 → entries < 256 → readers < 256 → places < 256
     → 0 ∷ (bytesOf 2 sets ++ (ways ∷ percent ∷ entries ∷ readers ∷ places ∷ []))
     ≡ commandBytes (cmd.Settings sets ways percent entries readers places)
-unfolding commandBytes bytesOf
+unfolding records.commandBytes bytesOf
 settings-bytes sets ways percent entries readers places h1 h2 h3 h4 h5 =
     rw (mod-eq-of-lt h1, mod-eq-of-lt h2, mod-eq-of-lt h3, mod-eq-of-lt h4, mod-eq-of-lt h5)
 
@@ -50,7 +51,7 @@ settings-bytes sets ways percent entries readers places h1 h2 h3 h4 h5 =
 
 -- a record is a byte of kind and the body that the table says
 pub event-length : (e : Event) → length (eventBytes e) ≡ 1 + lengthOf (kindOf e)
-unfolding eventBytes bytesOf lengthOf
+unfolding records.eventBytes bytesOf records.lengthOf
 event-length (ev.Answered a line) = refl
 event-length (ev.Refused n) = refl
 event-length (ev.ReadQueued a) = refl
@@ -62,7 +63,7 @@ event-length (ev.Filled a) = refl
 event-length ev.Ticked = refl
 
 pub command-length : (c : Command) → length (commandBytes c) ≡ 1 + lengthOf (commandKind c)
-unfolding commandBytes bytesOf lengthOf
+unfolding records.commandBytes bytesOf records.lengthOf
 command-length (cmd.Settings sets ways percent entries readers places) = refl
 command-length (cmd.Read a k) = refl
 command-length (cmd.Write a m) = refl
@@ -71,7 +72,7 @@ command-length (cmd.Fill a) = refl
 command-length (cmd.Tick c) = refl
 
 pub event-short : (e : Event) → length (eventBytes e) ≤ 25
-unfolding eventBytes bytesOf
+unfolding records.eventBytes bytesOf
 event-short (ev.Answered a line) = lit≤ tt
 event-short (ev.Refused n) = lit≤ tt
 event-short (ev.ReadQueued a) = lit≤ tt
@@ -83,7 +84,7 @@ event-short (ev.Filled a) = lit≤ tt
 event-short ev.Ticked = lit≤ tt
 
 pub command-short : (c : Command) → length (commandBytes c) ≤ 13
-unfolding commandBytes bytesOf
+unfolding records.commandBytes bytesOf
 command-short (cmd.Settings sets ways percent entries readers places) = lit≤ tt
 command-short (cmd.Read a k) = lit≤ tt
 command-short (cmd.Write a m) = lit≤ tt

@@ -16,7 +16,8 @@ use Rattle.model.specs.Tables.{Entry, Queued, reading, writing, Tables, Outcome
 use Rattle.model.specs.Sound.{allOnes, lastCycle, entryOk, queuedOk, sound}
 use Rattle.model.specs.Probe.{Spot, Place, no, at, probe, ruleOf, waysOf, dirtyLines}
 use Rattle.model.specs.Steps.{isMerge, isMiss, join, onMisses, fetches, queuedEvent, sentEvent, placesNeeded, entryFull, accept, proceed, access, mark, sendFrom, send, ticketsOf, others, sentFor, fill, tick}
-use Rattle.model.specs.Records.{lengthOf, numberAt, commandIn, commandOf}
+use Rattle.model.specs.RecordsOf as records
+use Rattle.model.specs.Records.{isSettings, lengthOf, numberAt, commandIn, commandOf}
 use Rattle.model.specs.Runner.{stepOf}
 use Rattle.model.specs.declared.Settings.{Settings}
 use Rattle.model.specs.declared.Answer.{Answer}
@@ -254,11 +255,11 @@ number-below s h (suc n) i =
     rw pow-suc (omega arith)
 
 pub command-read-fits : (k : ℕ) (b : List ℕ) → bytes b ≡ true → CommandReadFits (commandOf k b)
-unfolding commandOf
+unfolding records.commandOf
 command-read-fits k b h =
     let n = number-below b h in
     by-flag CommandReadFits (eqb (length b) (lengthOf k)) (commandIn k b) command.None
-    (λ e. by-flag CommandReadFits (eqb k 0) _ _
+    (λ e. by-flag CommandReadFits (isSettings k) _ _
     (λ e. record { sets = n 2 0; ways = n 1 2; percent = n 1 3; entries = n 1 4; readers = n 1 5; places = n 1 6 })
     (λ e. by-flag CommandReadFits (eqb k 1) _ _ (λ e. (n 8 0, n 4 8))
     (λ e. by-flag CommandReadFits (eqb k 2) _ _ (λ e. (n 8 0, n 4 8))

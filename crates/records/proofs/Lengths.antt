@@ -1,4 +1,4 @@
--- The constant table of lengths: its rule, by one computed test over the whole table; no kind is past it; the kinds of commands.
+-- The constant table of lengths: its rule, by one computed test over the whole table; no kind is past it; the kinds of commands and of settings.
 use mathlib.Core.Path.{_≡_, refl, sym, _∙_}
 use mathlib.Core.Logic.{⊎-elim}
 use mathlib.Core.Bool.{Bool, true, false}
@@ -9,8 +9,9 @@ use borrow.Author.Tests.{ne-eqb, eqb-true, ltb-true, ltb-false}
 use lib.ListN.{getD}
 use lib.Dec.{eqb, ltb}
 use Rattle.model.specs.Words.{all, any, every, same}
-use Rattle.model.specs.Records.{Kind, commandKinds, eventKinds, bodyIn, lengthOf, isCommand}
-use Rattle.model.proofs.Flags.{and-1, and-2, flag, same-is}
+use Rattle.model.specs.RecordsOf as records
+use Rattle.model.specs.Records.{Kind, commandKinds, eventKinds, bodyIn, lengthOf, isCommand, isSettings}
+use Rattle.model.proofs.Flags.{and-1, and-2, or-false, flag, same-is}
 use Rattle.model.proofs.Below.{every-at}
 
 abbrev pub lengths : List ℕ
@@ -22,7 +23,7 @@ abbrev ruled : ℕ → Bool
 ruled k = eqb (getD lengths k 0) (lengthOf k)
 
 lengths-ruled : every 25 ruled ≡ true
-unfolding lengthOf
+unfolding records.lengthOf
 lengths-ruled = refl
 
 pub length-is : (k : ℕ) → k < 25 → getD lengths k 0 ≡ lengthOf k
@@ -41,7 +42,7 @@ past n k (x ∷ xs) e h =
     rw (ne-eqb k (x .kind) (λ q. omega arith)) (past n k xs (and-2 (ltb (x .kind) n) (below n xs) e) h)
 
 pub length-past : (k : ℕ) → 25 ≤ k → lengthOf k ≡ 255
-unfolding lengthOf below
+unfolding records.lengthOf below
 length-past k h = past 25 k (commandKinds ++ eventKinds) refl h
 
 -- ---- the kinds of commands
@@ -60,3 +61,6 @@ command-kinds k =
     (λ e. same-is (ltb k 6) (isCommand k) (every-at (λ i. same (ltb i 6) (isCommand i)) 6 k refl (ltb-true k 6 e)))
     (λ e. e ∙ sym (none 6 k commandKinds refl (ltb-false k 6 e)))
     (flag (ltb k 6))
+
+pub settings-kinds : (k : ℕ) → eqb k 0 ≡ isSettings k
+settings-kinds k = sym (or-false (eqb k 0))

@@ -16,7 +16,7 @@ use Rattle.model.specs.Lent.{Lent, lengthsFit, tablesOf, encode, ticketAt, entr
 use Rattle.model.specs.Sound.{allOnes, lastCycle, maskOk, sectorOk, lineOk, queuedOk, sound}
 use Rattle.model.specs.SoundLent.{soundLent}
 use Rattle.model.specs.Calls.{call}
-use Rattle.model.specs.Records.{logBytes}
+use Rattle.model.specs.Records.{logBytes, fillBytes}
 use Rattle.model.specs.Inner.{Is}
 use Rattle.model.specs.declared.Settings.{Settings}
 use Rattle.model.specs.declared.Status.{Status}
@@ -72,9 +72,9 @@ call-fits S step L small f =
 
 -- 64 bytes suffice
 pub call-room : (S : Settings) (step : Tables → Outcome Tables) (L : Lent) → Small L
-    → ((t : Tables) → inRange S ≡ true → sound S t ≡ true → Takes 49 (step t)) → length (logBytes (eventsOf (call S step L))) ≤ 49
+    → ((t : Tables) → inRange S ≡ true → sound S t ≡ true → Takes fillBytes (step t)) → length (logBytes (eventsOf (call S step L))) ≤ fillBytes
 call-room S step L small f =
-    call-events (λ es. length (logBytes es) ≤ 49) S step L small
+    call-events (λ es. length (logBytes es) ≤ fillBytes) S step L small
     (λ n. le-trans (refused-takes n .most) (lit≤ tt))
     (λ i. f (tablesOf S L) (i .range) (i .soundly) .most)
 

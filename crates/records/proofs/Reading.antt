@@ -7,6 +7,7 @@ use native.Mathlib.Omega.{arith}
 use borrow.Author.Tests.{le-ltb, lt-ltb, le-leb, lt-leb, ne-eqb, ltb-true, ltb-false, leb-true, leb-false, eqb-true, eqb-false}
 use lib.ListN.{length, getD, take, drop}
 use lib.Dec.{ltb, leb, eqb}
+use Rattle.model.specs.RecordsOf as records
 use Rattle.model.specs.Records.{lengthOf, readAt, bodyAt}
 use Rattle.model.specs.declared.Stop.{Stop}
 use Rattle.model.specs.declared.Stop.the-variants.{UnknownKind, CutShort}
@@ -17,20 +18,20 @@ use Rattle.model.specs.declared.Record.the-variants.{Whole, Stopped}
 
 module _ (s : List ℕ) (at n : ℕ) where
   pub read-end : length s ≤ at → Stopped CutShort ≡ readAt s at
-  unfolding readAt
+  unfolding records.readAt
   read-end h = rw (le-ltb at (length s) h)
 
   pub read-unknown : at < length s → n ≡ lengthOf (getD s at 0) → n ≡ 255 → Stopped UnknownKind ≡ readAt s at
-  unfolding readAt
+  unfolding records.readAt
   read-unknown h e f = rw (lt-ltb at (length s) h, ← e, f)
 
   pub read-cut : at < length s → n ≡ lengthOf (getD s at 0) → (n ≡ 255 → ⊥) → length s - (at + 1) < n → Stopped CutShort ≡ readAt s at
-  unfolding readAt
+  unfolding records.readAt
   read-cut h e f g = rw (lt-ltb at (length s) h, ← e, ne-eqb n 255 f, lt-leb n (length s - (at + 1)) g)
 
   pub read-whole : at < length s → n ≡ lengthOf (getD s at 0) → (n ≡ 255 → ⊥) → n ≤ length s - (at + 1)
       → Whole (getD s at 0) (at + 1) n (at + 1 + n) ≡ readAt s at
-  unfolding readAt
+  unfolding records.readAt
   read-whole h e f g = rw (lt-ltb at (length s) h, ← e, ne-eqb n 255 f, le-leb n (length s - (at + 1)) g)
 
 -- ---- what a whole record is
@@ -71,12 +72,12 @@ was-whole s at k start n next e =
 
 -- the part of the stream that holds the body
 pub body-whole : (s : List ℕ) (at k start n next : ℕ) → readAt s at ≡ Whole k start n next → take (next - start) (drop start s) ≡ bodyAt s at
-unfolding bodyAt
+unfolding records.bodyAt
 body-whole s at k start n next e =
     let w : WholeAt s at k start n next = was-whole s at k start n next e in
     let f : next - start ≡ n = omega arith in
     rw (e, f)
 
 pub body-none : (s : List ℕ) (at : ℕ) (r : Stop) → readAt s at ≡ Stopped r → [] ≡ bodyAt s at
-unfolding bodyAt
+unfolding records.bodyAt
 body-none s at r e = rw e

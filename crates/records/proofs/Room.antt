@@ -16,7 +16,8 @@ use Rattle.model.specs.Sound.{lastCycle, entryOk, sound}
 use Rattle.model.specs.Probe.{Spot, Place, no, at, waysOf, dirtyLines, first, victim, writeBack, takeOver, meet, probe, Rule, ruleOf}
 use Rattle.model.specs.Steps.{isMerge, isMiss, fetches, queues, queuedEvent, sentEvent, placesNeeded, accept, entryFull, proceed, access, afterSend, sendFrom, send, ticketsOf, afterFill, sentFor, fill, tick}
 use Rattle.model.specs.Calls.{eventsTold}
-use Rattle.model.specs.Records.{bytesOf, eventBytes, logBytes}
+use Rattle.model.specs.RecordsOf as records
+use Rattle.model.specs.Records.{bytesOf, eventBytes, logBytes, fillBytes}
 use Rattle.model.specs.Runner.{stepOf}
 use Rattle.model.specs.declared.Settings.{Settings}
 use Rattle.model.specs.declared.Answer.{Answer}
@@ -49,7 +50,7 @@ told-room t k h e =
 -- ---- a log's length, event by event
 
 log-more : (e : Event) (es : List Event) → length (logBytes (e ∷ es)) ≡ length (eventBytes e) + length (logBytes es)
-unfolding logBytes
+unfolding records.logBytes
 log-more e es = length-append (eventBytes e) (logBytes es)
 
 -- ---- a refusal, and one event
@@ -59,11 +60,11 @@ pub record Takes (n : ℕ) (o : Outcome Tables) : Type 0 where
   pub most : length (logBytes (eventsOf o)) ≤ n
 
 pub refused-takes : (r : Refusal) → Takes 2 (refused r)
-unfolding logBytes eventBytes bytesOf
+unfolding records.logBytes records.eventBytes bytesOf
 refused-takes r = record { most = lit≤ tt }
 
 one-takes : (e : Event) (t : Tables) → Takes 25 (done (e ∷ []) t)
-unfolding logBytes
+unfolding records.logBytes
 one-takes e t = let n = log-more e [] in let h = event-short e in record { most = omega arith }
 
 takes-more : {m n : ℕ} {o : Outcome Tables} → Takes m o → m ≤ n → Takes n o
@@ -100,13 +101,13 @@ probe-few R S d ways x = met (first (holds (blockOf (addressOf x))) ways)
     met (At w) = lit≤ tt
 
 queued-short : (qs : List Queued) → length qs ≤ 1 → length (logBytes (map queuedEvent qs)) ≤ 25
-unfolding logBytes
+unfolding records.logBytes
 queued-short [] h = lit≤ tt
 queued-short (q ∷ []) h = let n = log-more (queuedEvent q) [] in let e = event-short (queuedEvent q) in omega arith
 queued-short (q ∷ p ∷ qs) h = absurd (omega arith)
 
 fetch-short : (x : Access) (a : Answer) → length (logBytes (map queuedEvent (fetches x a))) ≤ 9
-unfolding logBytes eventBytes bytesOf
+unfolding records.logBytes records.eventBytes bytesOf
 fetch-short (Read a m k) n = by-flag (λ (q : List Queued). length (logBytes (map queuedEvent q)) ≤ 9) (isMiss n) (reading a ∷ []) [] (λ e. lit≤ tt) (λ e. lit≤ tt)
 fetch-short (Write a m k) n = lit≤ tt
 
@@ -115,7 +116,7 @@ map-append [] qs = refl
 map-append (p ∷ ps) qs = rw (map-append ps qs)
 
 accept-takes : (S : Settings) (x : Access) (p : Spot) (t : Tables) → length (p .backs) ≤ 1 → Takes 38 (accept S x p t)
-unfolding accept eventBytes bytesOf
+unfolding accept records.eventBytes bytesOf
 accept-takes S x p t h =
     let f = fetch-short x (p .answer) in
     let b = queued-short (p .backs) h in
@@ -163,13 +164,13 @@ tickets-few n a (e ∷ es) h =
     (λ q. leb-true (length (e .tickets)) n (and-1 (leb (length (e .tickets)) n) _ h))
     (λ q. tickets-few n a es (and-2 (leb (length (e .tickets)) n) _ h))
 
-pub fill-takes : (a : ℕ) (t : Tables) → all (λ e. leb (length (e .tickets)) 8) (t .misses) ≡ true → Takes 49 (fill a t)
-unfolding fill eventBytes bytesOf
+pub fill-takes : (a : ℕ) (t : Tables) → all (λ e. leb (length (e .tickets)) 8) (t .misses) ≡ true → Takes fillBytes (fill a t)
+unfolding fill records.eventBytes bytesOf
 fill-takes a t h =
     let k = tickets-few 8 a (t .misses) h in
     let r = released-length (ticketsOf a (t .misses)) in
     let n = log-more (Filled a) (map Released (ticketsOf a (t .misses))) in
-    let m : Takes 49 (done (Filled a ∷ map Released (ticketsOf a (t .misses))) (afterFill a t)) = record { most = omega arith } in
+    let m : Takes fillBytes (done (Filled a ∷ map Released (ticketsOf a (t .misses))) (afterFill a t)) = record { most = omega arith } in
     takes-by (any (sentFor a) (t .misses)) m (refused-within _ NotSent (lit≤ tt))
 
 -- ---- every step of a command on sound tables
@@ -193,7 +194,7 @@ sound-few S t r h =
     in-all (λ e. leb (length (e .tickets)) 8) (t .misses)
     (λ e i. le-leb (length (e .tickets)) 8 (le-trans (entry-few S t e (all-in (entryOk S t) (t .misses) m i)) (readers-most S r)))
 
-pub step-takes : (S : Settings) (c : Command) (t : Tables) → inRange S ≡ true → sound S t ≡ true → Takes 49 (stepOf S c t)
+pub step-takes : (S : Settings) (c : Command) (t : Tables) → inRange S ≡ true → sound S t ≡ true → Takes fillBytes (stepOf S c t)
 step-takes S (cmd.Settings s w p m r q) t e h = refused-within _ SettingOutOfRange (lit≤ tt)
 step-takes S (cmd.Read a k) t e h = takes-more (access-takes S (Read a 0 k) t) (lit≤ tt)
 step-takes S (cmd.Write a m) t e h = takes-more (access-takes S (Write a m 0) t) (lit≤ tt)

@@ -6,6 +6,7 @@ use native.Mathlib.Omega.{arith}
 use borrow.Author.Tests.{le-ltb, lt-ltb}
 use lib.ListN.{length, getD, take, drop, length-append}
 use lib.Seq.{getD-append-seam, drop-append-add, take-append-seam, sets, sets-eq, length-take-le}
+use Rattle.model.specs.RecordsOf as records
 use Rattle.model.specs.Records.{lengthOf, bytesOf, numberAt, kindOf, bodyBytes, eventBytes, logBytes, eventOf, eventAt, commandKind, commandBody, commandBytes, commandOf, commandAt, readAt, bodyAt, parsed, eventsFrom, eventsIn}
 use Rattle.model.specs.declared.Answer.the-variants.{Hit, HitReserved, Miss, SectorMiss}
 use Rattle.model.specs.declared.Refusal.the-variants as refusal
@@ -25,7 +26,7 @@ use Rattle.records.proofs.Decoding.{event-whole, command-whole}
 -- ---- a body by itself
 
 body-back : (e : Event) → Fitting e → eventOf (kindOf e) (bodyBytes e) ≡ event.Got e
-unfolding eventOf bytesOf numberAt lengthOf
+unfolding records.eventOf bytesOf numberAt records.lengthOf
 body-back (ev.Answered Hit line) h = rw (number-bytes 2 line h)
 body-back (ev.Answered HitReserved line) h = rw (number-bytes 2 line h)
 body-back (ev.Answered Miss line) h = rw (number-bytes 2 line h)
@@ -53,7 +54,7 @@ body-back (ev.Filled a) h = rw (number-bytes 8 a h)
 body-back ev.Ticked h = refl
 
 command-body-back : (c : Command) → CommandFits c → commandOf (commandKind c) (commandBody c) ≡ command.Got c
-unfolding commandOf bytesOf numberAt lengthOf
+unfolding records.commandOf bytesOf numberAt records.lengthOf
 command-body-back (cmd.Settings s w p m r q) h =
     rw (number-bytes 2 s (h .sets), number-bytes 1 w (h .ways), number-bytes 1 p (h .percent), number-bytes 1 m (h .entries), number-bytes 1 r (h .readers), number-bytes 1 q (h .places))
 command-body-back (cmd.Read a k) h = rw (number-bytes 8 a (h .0), number-bytes 4 k (h .1))
@@ -77,7 +78,7 @@ module _ (p q : List ℕ) (k : ℕ) (bs : List ℕ) (sized : length bs ≡ lengt
       ∙ ap (λ (x : ℕ). Whole x (length p + 1) (length bs) (length p + 1 + length bs)) g
 
   pub record-body : bodyAt stream (length p) ≡ bs
-  unfolding bodyAt
+  unfolding records.bodyAt
   record-body = rw record-read (ap (take (length bs)) (drop-append-add p (k ∷ (bs ++ q)) 1) ∙ take-append-seam bs q)
 
 -- a body is as long as the table says, and no body is as long as the table's mark
@@ -85,15 +86,15 @@ abbrev Sized : ℕ → List ℕ → Type 0
 Sized k bs = (length bs ≡ lengthOf k) × (length bs ≤ 24)
 
 event-sized : (e : Event) → Sized (kindOf e) (bodyBytes e)
-unfolding eventBytes
+unfolding records.eventBytes
 event-sized e = let n = event-length e in let s = event-short e in (omega arith, omega arith)
 
 command-sized : (c : Command) → Sized (commandKind c) (commandBody c)
-unfolding commandBytes
+unfolding records.commandBytes
 command-sized c = let n = command-length c in let s = command-short c in (omega arith, omega arith)
 
 pub event-back : (p q : List ℕ) (e : Event) → Fitting e → eventAt (p ++ (eventBytes e ++ q)) (length p) ≡ event.Got e
-unfolding eventBytes
+unfolding records.eventBytes
 event-back p q e h =
     let z = event-sized e in
     sym (event-whole (p ++ (kindOf e ∷ (bodyBytes e ++ q))) (length p) _ _ _ _ (record-read p q (kindOf e) (bodyBytes e) (z .0) (z .1)))
@@ -101,7 +102,7 @@ event-back p q e h =
     ∙ body-back e h
 
 pub command-back : (p q : List ℕ) (c : Command) → CommandFits c → commandAt (p ++ (commandBytes c ++ q)) (length p) ≡ command.Got c
-unfolding commandBytes
+unfolding records.commandBytes
 command-back p q c h =
     let z = command-sized c in
     sym (command-whole (p ++ (commandKind c ∷ (commandBody c ++ q))) (length p) _ _ _ _ (record-read p q (commandKind c) (commandBody c) (z .0) (z .1)))
@@ -134,18 +135,18 @@ command-stored l at c h g =
 
 -- the record behind an event begins where the event's bytes end
 event-next : (p q : List ℕ) (e : Event) → readAt (p ++ (eventBytes e ++ q)) (length p) ≡ Whole (kindOf e) (length p + 1) (length (bodyBytes e)) (length (p ++ eventBytes e))
-unfolding eventBytes
+unfolding records.eventBytes
 event-next p q e =
     let z = event-sized e in
     let f : length p + 1 + length (bodyBytes e) ≡ length (p ++ (kindOf e ∷ bodyBytes e)) = simp length-append (omega arith) in
     record-read p q (kindOf e) (bodyBytes e) (z .0) (z .1) ∙ ap (λ (x : ℕ). Whole (kindOf e) (length p + 1) (length (bodyBytes e)) x) f
 
 event-more : (e : Event) (q : List ℕ) → length (eventBytes e ++ q) ≡ suc (length (bodyBytes e) + length q)
-unfolding eventBytes
+unfolding records.eventBytes
 event-more e q = ap suc (length-append (bodyBytes e) q)
 
 log-from : (es : List Event) (n : ℕ) (p : List ℕ) → AllFitting es → length (logBytes es) ≤ n → eventsFrom n (p ++ logBytes es) (length p) ≡ parsed es
-unfolding eventsFrom logBytes
+unfolding records.eventsFrom records.logBytes
 log-from [] zero p h g = rw (append-nil, le-ltb (length p) (length p) (omega arith))
 log-from [] (suc n) p h g = rw (append-nil, le-ltb (length p) (length p) (omega arith))
 log-from (e ∷ es) zero p h g = let l = event-more e (logBytes es) in absurd (let w : ⊥ = omega arith in w)
@@ -157,7 +158,7 @@ log-from (e ∷ es) (suc n) p h g =
     rw (lt-ltb (length p) (length (p ++ (eventBytes e ++ logBytes es))) i, event-back p (logBytes es) e (h .0), event-next p (logBytes es) e, r)
 
 pub log-back : (es : List Event) → AllFitting es → eventsIn (logBytes es) ≡ parsed es
-unfolding eventsIn
+unfolding records.eventsIn
 log-back es h = log-from es (length (logBytes es)) [] h (omega arith)
 
 -- a log at the start of a buffer, with whatever stands behind it

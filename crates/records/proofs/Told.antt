@@ -7,6 +7,7 @@ use native.Mathlib.Omega.{arith}
 use lib.ListN.{length, take, getD, length-append, length-take}
 use Rattle.model.specs.Words.{pick}
 use Rattle.model.specs.Calls.{eventsTold}
+use Rattle.model.specs.RecordsOf as records
 use Rattle.model.specs.Records.{bytesOf, eventBytes, logBytes}
 use Rattle.model.specs.declared.Event.{Event}
 use Rattle.model.specs.declared.Event.the-variants.{ReadQueued, WriteBackQueued, Released}
@@ -46,7 +47,7 @@ told-fits t first address block masks tickets = (
 -- ---- the parts, and how long they are
 
 part-length : (b : Bool) (e : Event) → length (logBytes (pick b (e ∷ []) [])) ≡ pick b (length (eventBytes e)) 0
-unfolding logBytes
+unfolding records.logBytes
 part-length true e = ap length (log-one e)
 part-length false e = refl
 
@@ -70,15 +71,15 @@ module _ (t : Told) where
   tickets = logBytes (ticketsTold (t .count) (t .tickets))
 
   told-parts : first ++ (read ++ (back ++ tickets)) ≡ logBytes (eventsTold t)
-  unfolding eventsTold logBytes
+  unfolding eventsTold records.logBytes
   told-parts = rw (log-append, log-append)
 
   read-length : length read ≡ pick (t .reads) 9 0
-  unfolding eventBytes bytesOf
+  unfolding records.eventBytes bytesOf
   read-length = part-length (t .reads) (ReadQueued (t .address))
 
   back-length : length back ≡ pick (t .backs) 25 0
-  unfolding eventBytes bytesOf
+  unfolding records.eventBytes bytesOf
   back-length = part-length (t .backs) (WriteBackQueued (t .block) _ _ _ _)
 
   pub told-length : length (logBytes (eventsTold t))

@@ -3,7 +3,8 @@ use mathlib.Core.Path.{_≡_, refl}
 use mathlib.Core.List.{List, [], _∷_, _++_}
 use Prim.Native.Nat.{ℕ}
 use lib.ListN.{length}
-use Rattle.model.specs.Records.{lengthOf, bytesOf, numberAt, eventBytes, logBytes, eventOf, eventAt, commandBytes, commandOf, commandAt, readAt, eventsFrom, eventsIn, parsed}
+use Rattle.model.specs.RecordsOf as records
+use Rattle.model.specs.Records.{bytesOf, numberAt, logBytes, commandBytes, commandAt, readAt, eventsIn, parsed}
 use Rattle.model.specs.declared.Answer.the-variants.{HitReserved, Miss}
 use Rattle.model.specs.declared.Event.{Event}
 use Rattle.model.specs.declared.Event.the-variants as ev
@@ -21,14 +22,14 @@ written =
     ∷ 0x17 ∷ 0 ∷ 0 ∷ 0 ∷ 0 ∷ 0 ∷ 0 ∷ 0 ∷ 0 ∷ 0x14 ∷ 7 ∷ 0 ∷ 0 ∷ 0 ∷ 0x14 ∷ 9 ∷ 0 ∷ 0 ∷ 0 ∷ []
 
 run-written : logBytes told ≡ written
-unfolding logBytes eventBytes bytesOf
+unfolding records.logBytes records.eventBytes bytesOf
 run-written = refl
 
 run-long : length written ≡ 45
 run-long = refl
 
 run-read : eventsIn written ≡ parsed told
-unfolding eventsIn eventsFrom eventAt readAt eventOf lengthOf numberAt
+unfolding records.eventsIn records.eventsFrom records.eventAt records.readAt records.eventOf records.lengthOf numberAt
 run-read = refl
 
 abbrev commands : List ℕ
@@ -50,5 +51,5 @@ Commands-read =
     × (readAt commands 46 ≡ Stopped CutShort)
 
 commands-read : Commands-read
-unfolding commandBytes bytesOf commandAt commandOf readAt lengthOf numberAt
+unfolding records.commandBytes bytesOf records.commandAt records.commandOf records.readAt records.lengthOf numberAt
 commands-read = (refl, refl, refl, refl, refl, refl, refl, refl, refl)

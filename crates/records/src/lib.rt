@@ -1,10 +1,14 @@
-// "Records" of document 01: a byte of kind, then a body whose length the kind gives. In order: `numbers` (little-endian numbers, read
+// "Records" of document 01: a byte of kind, then a body whose length the kind gives. In order: `format` (its numbers), `numbers` (little-endian numbers, read
 // and put), `reader` (records, events and commands read out of a stream), `writer` (their bytes, put where there is room); here the
 // public writers, which look for room first.
+mod format;
 mod numbers;
 mod reader;
 mod writer;
 
+pub use format::EVENT_ROOM;
+pub use format::ROUND_ROOM;
+pub use format::WAIT_ROOM;
 pub use numbers::number1;
 pub use numbers::number2;
 pub use numbers::number4;
@@ -14,6 +18,7 @@ pub use reader::command_of;
 pub use reader::event_at;
 pub use reader::event_of;
 pub use reader::is_command;
+pub use reader::is_settings;
 pub use reader::length_of;
 pub use reader::read_at;
 ghost use mathlib.Core.Path.{_≡_};

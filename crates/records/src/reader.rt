@@ -1,6 +1,8 @@
 // Records, events and commands read out of a stream of any bytes.
 ghost use mathlib.Core.Path.{_≡_};
-ghost use Rattle.model.specs.Records.{lengthOf, isCommand, readAt, answered, refusedBy, eventOf, eventAt, commandOf, commandAt};
+ghost use Rattle.model.specs.Records.{lengthOf, isCommand, isSettings, readAt, answered, refusedBy, eventOf, eventAt, commandOf, commandAt};
+use crate::format::LENGTHS;
+use crate::format::SETTINGS_KIND;
 use crate::numbers::number1;
 use crate::numbers::number2;
 use crate::numbers::number4;
@@ -13,35 +15,6 @@ use model::EventRead;
 use model::Record;
 use model::Refusal;
 use model::Stop;
-
-// "Body length is fixed by kind through this table"; 255 for a number that is no kind.
-const LENGTHS: [u8; 25] = [
-    7,
-    12,
-    12,
-    0,
-    8,
-    4,
-    255,
-    255,
-    255,
-    255,
-    255,
-    255,
-    255,
-    255,
-    255,
-    255,
-    3,
-    1,
-    8,
-    24,
-    4,
-    8,
-    24,
-    8,
-    0,
-];
 
 // The length of a body of a kind.
 pub fn length_of(kind: u8) -> u8
@@ -56,6 +29,13 @@ pub fn is_command(kind: u8) -> bool
     ensures { λ r. ⌜ r ≡ isCommand kind ⌝ }
 {
     kind < 6
+}
+
+// Whether a kind is that of a settings record.
+pub fn is_settings(kind: u8) -> bool
+    ensures { λ r. ⌜ r ≡ isSettings kind ⌝ }
+{
+    kind == SETTINGS_KIND
 }
 
 // "it refuses with 14 (a kind in neither list), then 15, also where no byte is left"

@@ -9,6 +9,8 @@ ghost use Rattle.records.specs.Parts.{readTold, backTold, ticketsTold};
 ghost use Rattle.model.specs.Words.{pick};
 ghost use Rattle.model.specs.Calls.{eventsTold};
 ghost use Rattle.model.specs.Records.{bytesOf, writeBackBytes, eventBytes, logBytes, commandBytes};
+use crate::format::SETTINGS_KIND;
+use crate::format::SETTINGS_SIZE;
 use crate::numbers::put1;
 use crate::numbers::put2;
 use crate::numbers::put4;
@@ -155,10 +157,11 @@ fn put_settings(
     readers: u8,
     places: u8,
 ) -> usize
-    requires { ⌜ at + 8 ≤ length (now out) ⌝ }
-    ensures { λ r. ⌜ Laid (now (out .entry)) at 8 (commandBytes (Command.Settings sets ways percent entries readers places)) r (now (out .exit)) ⌝ }
+    requires { ⌜ at + length (commandBytes (Command.Settings sets ways percent entries readers places)) ≤ length (now out) ⌝ }
+    ensures { λ r. ⌜ Laid (now (out .entry)) at (length (commandBytes (Command.Settings sets ways percent entries readers places)))
+        (commandBytes (Command.Settings sets ways percent entries readers places)) r (now (out .exit)) ⌝ }
 {
-    let i = put1(out, at, 0);
+    let i = put1(out, at, SETTINGS_KIND);
     let j = put2(out, i, sets);
     let k = put1(out, j, ways);
     let l = put1(out, k, percent);
@@ -179,7 +182,7 @@ pub(crate) fn command_size(c: Command) -> usize
             entries: _entries,
             readers: _readers,
             places: _places,
-        } => 8,
+        } => SETTINGS_SIZE,
         Command::Read {
             address: _address,
             ticket: _ticket,

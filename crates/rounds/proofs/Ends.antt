@@ -11,7 +11,8 @@ use Rattle.model.specs.Tables.{Tables, Outcome, refused, done}
 use Rattle.model.specs.Lent.{Lent}
 use Rattle.model.specs.Calls.{encoded, checkCall, verdictOf, eventsTold}
 use Rattle.model.specs.Inner.{Is, Held}
-use Rattle.model.specs.Records.{bytesOf, eventBytes, logBytes, eventsIn, eventsFrom}
+use Rattle.model.specs.RecordsOf as records
+use Rattle.model.specs.Records.{bytesOf, logBytes, waitRoom}
 use Rattle.model.specs.Rounds.{steps, calls, Run, rounds, waits}
 use Rattle.model.specs.declared.Settings.{Settings}
 use Rattle.model.specs.declared.Access.{Access}
@@ -90,11 +91,11 @@ module _ {S : Settings} {x : Access} {L : Lent} {e : List ℕ} {r : Waited} {f :
 -- ---- a refusal before the first round
 
 refused-length : (n : Refusal) → length (logBytes (event.Refused n ∷ [])) ≡ 2
-unfolding logBytes eventBytes bytesOf
+unfolding records.logBytes records.eventBytes bytesOf
 refused-length n = refl
 
 pub turns-away : (n : Refusal) (e : List ℕ) {told : Told} → told ≡ telling (event.Refused n) → {w : ℕ} {f : List ℕ} → Stored e 0 (logBytes (eventsTold told)) w f
-    → 9600 ≤ length e → TurnsAway n e record { waiting = wait.Refused n; written = w } f
+    → waitRoom ≤ length e → TurnsAway n e record { waiting = wait.Refused n; written = w } f
 turns-away n e {told} is {w} {f} s room =
     let one : eventsTold told ≡ event.Refused n ∷ [] = ap eventsTold is ∙ telling-tells (event.Refused n) in
     let two = refused-length n in
@@ -110,14 +111,14 @@ pub passed-held : (S : Settings) (L : Lent) {v : Verdict} → Small L → v ≡ 
 passed-held S L small says is = let (range, fits, soundly) = passed-is S L (sym says ∙ is) in sound-held S L range fits small soundly
 
 module _ (S : Settings) (x : Access) (L : Lent) (e : List ℕ) where
-  roomy : 9600 ≤ length e → waitWithin (length e) S x L ≡ waitCall S x L
-  roomy h = rw (le-leb 9600 (length e) h)
+  roomy : waitRoom ≤ length e → waitWithin (length e) S x L ≡ waitCall S x L
+  roomy h = rw (le-leb waitRoom (length e) h)
 
-  pub waits-no-room : length e < 9600 → Waits (waitWithin (length e) S x L) e record { waiting = wait.NoRoom; written = 0 } e L
-  unfolding logBytes eventsIn eventsFrom
-  waits-no-room h = rw (lt-leb 9600 (length e) h) record { waiting = refl; written = refl; events = refl; reads = refl; left = refl }
+  pub waits-no-room : length e < waitRoom → Waits (waitWithin (length e) S x L) e record { waiting = wait.NoRoom; written = 0 } e L
+  unfolding records.logBytes records.eventsIn records.eventsFrom
+  waits-no-room h = rw (lt-leb waitRoom (length e) h) record { waiting = refl; written = refl; events = refl; reads = refl; left = refl }
 
-  pub waits-refused : {v : Verdict} {n : Refusal} {r : Waited} {f : List ℕ} → 9600 ≤ length e → v ≡ verdictOf (checkCall S L) → v ≡ verdict.Refused n
+  pub waits-refused : {v : Verdict} {n : Refusal} {r : Waited} {f : List ℕ} → waitRoom ≤ length e → v ≡ verdictOf (checkCall S L) → v ≡ verdict.Refused n
       → TurnsAway n e r f → Waits (waitWithin (length e) S x L) e r f L
   unfolding waitCall
   waits-refused {v} {n} {r} {f} h says is t = rw (roomy h) (go (checkCall S L) refl)
@@ -126,6 +127,6 @@ module _ (S : Settings) (x : Access) (L : Lent) (e : List ℕ) where
       go (refused k) q = let z : k ≡ n = cc in rw (q, z) (t .on L)
       go (done es M) q = let z : verdict.Passed ≡ verdict.Refused n = cc in let o : _≡_ {A = ℕ} 0 1 = cc in absurd (omega arith)
 
-  pub waits-passed : {r : Waited} {f : List ℕ} {M : Lent} → 9600 ≤ length e → Held S L → WaitsHeld S x L e r f M
+  pub waits-passed : {r : Waited} {f : List ℕ} {M : Lent} → waitRoom ≤ length e → Held S L → WaitsHeld S x L e r f M
       → Waits (waitWithin (length e) S x L) e r f M
   waits-passed h held w = rw (roomy h) (w .on (held .tables) (held .are))

@@ -22,6 +22,7 @@ use Rattle.model.specs.declared.Access.{Access}
 use Rattle.model.specs.declared.Event.{Event}
 use Rattle.model.specs.declared.Event.the-variants as event
 use Rattle.model.specs.declared.Refusal.the-variants.{BadAccess}
+use Rattle.model.specs.Records.{roundBytes}
 use Rattle.model.specs.declared.Verdict.the-variants.{Passed}
 use Rattle.model.proofs.Decoded.{Small}
 use Rattle.model.proofs.SeenRounds.{demand-3-seen-lent}
@@ -119,10 +120,10 @@ module _ (S : Settings) (x : Access) (L : Lent) (small : Small L) where
     fed-length = ap length bits ∙ rw (length-map, length-map) (sym many)
 
     -- "For every number of such rounds": what `run_struck` ensures, fed a copy of the tables and the flags of the rounds that were run
-    module _ (d : List ℕ) (enough : k ≤ length d / 112) {r₂ : Went} {M₂ : Lent} {f₂ : List ℕ} (strikes : shown r₂ M₂ f₂ ≡ struckCall S x L (take k gl) d) where
+    module _ (d : List ℕ) (enough : k ≤ length d / roundBytes) {r₂ : Went} {M₂ : Lent} {f₂ : List ℕ} (strikes : shown r₂ M₂ f₂ ≡ struckCall S x L (take k gl) d) where
       strikes-to : struckCall S x L (take k gl) d ≡ ranTo k (struck C (marks (rounds C n L)) L) d
       unfolding struckCall
-      strikes-to = let (es, M, o, room) = begun in rw (o, fed-length, le-leb k (length d / 112) enough, fed)
+      strikes-to = let (es, M, o, room) = begun in rw (o, fed-length, le-leb k (length d / roundBytes) enough, fed)
 
       pub demand-3-of-runs : SameRuns k r₁ M₁ e f₁ r₂ M₂ d f₂
       demand-3-of-runs =

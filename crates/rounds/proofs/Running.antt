@@ -11,11 +11,12 @@ use lib.ListN.{length, drop, getD, set, length-append, length-map, length-set}
 use lib.Seq.{sets-eq, drop-cons, drop-length}
 use Rattle.model.specs.Lent.{Lent, bit}
 use Rattle.model.specs.Inner.{Held}
-use Rattle.model.specs.Records.{logBytes}
+use Rattle.model.specs.RecordsOf as records
 use Rattle.model.specs.Rounds.{Turn}
 use Rattle.model.specs.Seen.{Acts, accepts, Course, marks, drain, rounds, struck, callActs}
 use Rattle.model.specs.declared.Settings.{Settings}
 use Rattle.model.specs.declared.Access.{Access}
+use Rattle.model.specs.Records.{roundBytes}
 use Rattle.model.specs.declared.Event.{Event}
 use Rattle.records.specs.Stores.{Laid}
 use Rattle.records.proofs.Stores.{laid-then}
@@ -50,7 +51,7 @@ module _ (S : Settings) (x : Access) (n : ℕ) where
 
   pub record Runs (L₀ : Lent) (fl₀ e₀ : List ℕ) (L : Lent) (fl e : List ℕ) (i out : ℕ) : Type 0 where
     pub few : i ≤ n
-    pub short : out ≤ 112 * i
+    pub short : out ≤ roundBytes * i
     pub size : length e ≡ length e₀
     pub longs : length (L .longs) ≡ length (L₀ .longs)
     pub words : length (L .words) ≡ length (L₀ .words)
@@ -65,7 +66,7 @@ module _ (S : Settings) (x : Access) (n : ℕ) where
     pub flagged : Laid fl₀ 0 i (flagsOf offers) i fl
 
   pub runs-first : (L : Lent) → Held S L → (fl e : List ℕ) → Runs L fl e L fl e 0 0
-  unfolding logBytes
+  unfolding records.logBytes
   runs-first L h fl e = record {
     few = omega arith;
     short = omega arith;
@@ -83,11 +84,11 @@ module _ (S : Settings) (x : Access) (n : ℕ) where
     flagged = record { next = refl; slice = refl };
   }
 
-  module _ {L₀ : Lent} {fl₀ e₀ : List ℕ} (flagroom : n ≤ length fl₀) (room : 112 * n ≤ length e₀) where
+  module _ {L₀ : Lent} {fl₀ e₀ : List ℕ} (flagroom : n ≤ length fl₀) (room : roundBytes * n ≤ length e₀) where
     -- all that was run
     ended : (es : List Event) (os : List (List Event)) {L : Lent} {fl e : List ℕ} {i out : ℕ}
         → rounds C n L₀ ≡ record { turn = record { events = es; left = L }; offers = os } → length os ≡ i → Noted e₀ 0 es out e
-        → Laid fl₀ 0 i (flagsOf os) i fl → i ≤ n → out ≤ 112 * i → RunsOn S x n L₀ fl₀ e₀ (Ran i out) L fl e
+        → Laid fl₀ 0 i (flagsOf os) i fl → i ≤ n → out ≤ roundBytes * i → RunsOn S x n L₀ fl₀ e₀ (Ran i out) L fl e
     ended es os {L} {fl} {e} {i} {out} all made bytes flagged few short =
         let (count, slice, back) = written es e₀ bytes (omega arith) in
         let size = flags-length os in
@@ -163,7 +164,7 @@ module _ (S : Settings) (x : Access) (fl : List ℕ) where
 
   pub record Strikes (L₀ : Lent) (e₀ : List ℕ) (L : Lent) (e : List ℕ) (i out : ℕ) : Type 0 where
     pub few : i ≤ length fl
-    pub short : out ≤ 112 * i
+    pub short : out ≤ roundBytes * i
     pub size : length e ≡ length e₀
     pub longs : length (L .longs) ≡ length (L₀ .longs)
     pub words : length (L .words) ≡ length (L₀ .words)
@@ -175,7 +176,7 @@ module _ (S : Settings) (x : Access) (fl : List ℕ) where
     pub bytes : Noted e₀ 0 events out e
 
   pub strikes-first : (L : Lent) → Held S L → (e : List ℕ) → Strikes L e L e 0 0
-  unfolding logBytes
+  unfolding records.logBytes
   strikes-first L h e = record {
     few = omega arith;
     short = omega arith;
@@ -190,7 +191,7 @@ module _ (S : Settings) (x : Access) (fl : List ℕ) where
   }
 
   module _ {L₀ : Lent} {e₀ : List ℕ} {L : Lent} {e : List ℕ} {i out : ℕ} (g : Strikes L₀ e₀ L e i out) where
-    pub strikes-end : length fl ≤ i → 112 * length fl ≤ length e₀ → StrikesOn S x L₀ fl e₀ (Ran i out) L e
+    pub strikes-end : length fl ≤ i → roundBytes * length fl ≤ length e₀ → StrikesOn S x L₀ fl e₀ (Ran i out) L e
     unfolding struck
     strikes-end h room =
         let z : i ≡ length fl = let k = g .few in omega arith in

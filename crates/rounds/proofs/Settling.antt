@@ -15,7 +15,8 @@ use Rattle.model.specs.Lent.{Lent}
 use Rattle.model.specs.Calls.{eventsTold}
 use Rattle.model.specs.Steps.{access}
 use Rattle.model.specs.Inner.{Is, Held}
-use Rattle.model.specs.Records.{bytesOf, eventBytes, logBytes}
+use Rattle.model.specs.RecordsOf as records
+use Rattle.model.specs.Records.{bytesOf, logBytes, settleBytes, waitRoom}
 use Rattle.model.specs.Rounds.{steps, Turn, took, Run, drain, rounds, waits}
 use Rattle.model.specs.declared.Settings.{Settings}
 use Rattle.model.specs.declared.Access.{Access}
@@ -93,7 +94,7 @@ done-one (done es u) e = (es, u, refl)
 -- ---- the last refusal
 
 held-length : length (logBytes (event.Refused SetHeld ∷ [])) ≡ 2
-unfolding logBytes eventBytes bytesOf
+unfolding records.logBytes records.eventBytes bytesOf
 held-length = refl
 
 -- ---- where the loop stands
@@ -112,7 +113,7 @@ module _ (S : Settings) (x : Access) (most : ℕ) where
 
   pub record Goes (L₀ : Lent) (e₀ : List ℕ) (round out : ℕ) (L : Lent) (e : List ℕ) : Type 0 where
     pub few : round ≤ most
-    pub short : out ≤ 74 * round
+    pub short : out ≤ settleBytes * round
     pub size : length e ≡ length e₀
     pub longs : length (L .longs) ≡ length (L₀ .longs)
     pub words : length (L .words) ≡ length (L₀ .words)
@@ -121,7 +122,7 @@ module _ (S : Settings) (x : Access) (most : ℕ) where
 
 module _ {S : Settings} {x : Access} {most : ℕ} where
   pub goes-first : (L : Lent) (e : List ℕ) → Goes S x most L e 0 0 L e
-  unfolding logBytes
+  unfolding records.logBytes
   goes-first L e = record {
     few = omega arith;
     short = omega arith;
@@ -193,7 +194,7 @@ module _ {S : Settings} {x : Access} {most : ℕ} where
 
       -- ---- whose offer was accepted
 
-      module _ (q : isRefusal (r .told .first) ≡ false) (few : most ≤ 128) (room : 9600 ≤ length e₀) where
+      module _ (q : isRefusal (r .told .first) ≡ false) (few : most ≤ 128) (room : waitRoom ≤ length e₀) where
         pub goes-accepted : Settles S x most L₀ e₀ record { waiting = wait.Accepted (round + 1) (r .told .first); written = r .written } f M
         unfolding eventsTold
         goes-accepted = record {
@@ -246,7 +247,7 @@ module _ {S : Settings} {x : Access} {most : ℕ} where
           (d .settles)
 
       -- its refusal fits behind what is written
-      pub held-stored : (room : 9600 ≤ length e₀) {told : Told} → told ≡ telling (event.Refused SetHeld) → {n : ℕ} {f : List ℕ}
+      pub held-stored : (room : waitRoom ≤ length e₀) {told : Told} → told ≡ telling (event.Refused SetHeld) → {n : ℕ} {f : List ℕ}
           → Stored e out (logBytes (eventsTold told)) n f → (n ≡ length (logBytes (event.Refused SetHeld ∷ []))) × (f ≡ sets e out (logBytes (event.Refused SetHeld ∷ [])))
       held-stored room {told} is {n} {f} s =
           let one : eventsTold told ≡ event.Refused SetHeld ∷ [] = ap eventsTold is ∙ telling-tells (event.Refused SetHeld) in
@@ -257,13 +258,13 @@ module _ {S : Settings} {x : Access} {most : ℕ} where
           let at = g .few in
           was-stored e out (logBytes (event.Refused SetHeld ∷ [])) (subst (λ (es : List Event). Stored e out (logBytes es) n f) one s) (omega arith)
 
-      pub held-fits : (room : 9600 ≤ length e₀) {told : Told} → told ≡ telling (event.Refused SetHeld) → {n : ℕ} {f : List ℕ}
-          → Stored e out (logBytes (eventsTold told)) n f → out + n ≤ 9600
+      pub held-fits : (room : waitRoom ≤ length e₀) {told : Told} → told ≡ telling (event.Refused SetHeld) → {n : ℕ} {f : List ℕ}
+          → Stored e out (logBytes (eventsTold told)) n f → out + n ≤ waitRoom
       held-fits room is s =
           let two : length (logBytes (event.Refused SetHeld ∷ [])) ≡ 2 = held-length in
           omega (arith, held-stored room is s .0, g .short, g .few, enough .few)
 
-      pub goes-held-end : (room : 9600 ≤ length e₀) {told : Told} → told ≡ telling (event.Refused SetHeld) → {n : ℕ} {f : List ℕ}
+      pub goes-held-end : (room : waitRoom ≤ length e₀) {told : Told} → told ≡ telling (event.Refused SetHeld) → {n : ℕ} {f : List ℕ}
           → Stored e out (logBytes (eventsTold told)) n f → Settles S x most L₀ e₀ record { waiting = wait.Held; written = out + n } f L
       goes-held-end room {told} is {n} {f} s = record {
         on = λ t₀ i.

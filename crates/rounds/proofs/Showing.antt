@@ -16,7 +16,8 @@ use Rattle.model.specs.Sound.{allOnes, sound}
 use Rattle.model.specs.Calls.{call, accessCall, sendCall, fillCall, eventsTold, Leaves}
 use Rattle.model.specs.Steps.{access, send, fill}
 use Rattle.model.specs.Inner.{Is, Held, Does}
-use Rattle.model.specs.Records.{logBytes}
+use Rattle.model.specs.RecordsOf as records
+use Rattle.model.specs.Records.{logBytes, fillBytes}
 use Rattle.model.specs.Rounds.{Turn, still, andThen, isEmpty}
 use Rattle.model.specs.Seen.{accepts, sendTurn, fillFirst, drain, seen, callActs}
 use Rattle.model.specs.declared.Settings.{Settings}
@@ -58,7 +59,7 @@ module _ (S : Settings) (step : Tables → Outcome Tables) {L : Lent} {r : Told}
     }
 
 still-sees : (S : Settings) {L : Lent} → Held S L → (e : List ℕ) (out : ℕ) → Sees S (still L) e out out e L
-unfolding logBytes
+unfolding records.logBytes
 still-sees S h e out = record { left = refl; bytes = record { next = omega arith; slice = refl; fits = tt }; held = h }
 
 sees-then : (S : Settings) {a : Turn Lent} (g : Lent → Turn Lent) {e : List ℕ} {out w : ℕ} {f : List ℕ} {M : Lent} {v : ℕ} {h : List ℕ} {N : Lent}
@@ -126,7 +127,7 @@ module _ (S : Settings) {L : Lent} (h : Held S L) {v : Sent} (found : FindsSent 
   no-fill q e out = record { on = λ x. rw (fill-at x q) (still-sees S h e out); short = omega arith }
 
   module _ {a : ℕ} (q : v ≡ At a) {r : Told} {M : Lent} (l : Leaves (fillCall S a L) L r M) where
-    pub fill-room : length (logBytes (eventsTold r)) ≤ 49
+    pub fill-room : length (logBytes (eventsTold r)) ≤ fillBytes
     fill-room =
         let i = h .are in
         rw (does-tells S (call-does S (fill a) l) (h .tables) i) (step-takes S (cmd.Fill a) (h .tables) (i .range) (i .soundly) .most)

@@ -17,6 +17,7 @@ use Rattle.model.specs.declared.Refusal.{Refusal}
 use Rattle.model.specs.declared.Refusal.the-variants.{BadAccess}
 use Rattle.model.specs.declared.Event.{Event}
 use Rattle.model.specs.declared.Verdict.{Verdict}
+use Rattle.model.specs.Records.{roundBytes}
 use Rattle.model.specs.declared.Verdict.the-variants as verdict
 use Rattle.model.proofs.Decoded.{Small}
 use Rattle.soundness.proofs.Verdicts.{passed-is}
@@ -80,20 +81,20 @@ module _ {S : Settings} {x : Access} {L : Lent} {v : Verdict} (m : MayRun S x L 
       few-flags h = let a = lt-leb n (length fl) h in let (es, M, o) = start-ok is in (rw (o, a), rw (o, a))
 
       module _ (flags : n ≤ length fl) where
-        pub few-bytes : length e / 112 < n → (shown went.NoRoom L e ≡ roundsCall S x n L fl e) × (fl ≡ flagsCall S x n L fl e)
+        pub few-bytes : length e / roundBytes < n → (shown went.NoRoom L e ≡ roundsCall S x n L fl e) × (fl ≡ flagsCall S x n L fl e)
         unfolding roundsCall flagsCall
         few-bytes h =
             let a = le-leb n (length fl) flags in
-            let b = lt-leb n (length e / 112) h in
+            let b = lt-leb n (length e / roundBytes) h in
             let (es, M, o) = start-ok is in
             (rw (o, a, b), rw (o, a, b))
 
-        pub rounds-ran : n ≤ length e / 112 → {r : Went} {M : Lent} {gl f : List ℕ} → RunsOn S x n L fl e r M gl f
+        pub rounds-ran : n ≤ length e / roundBytes → {r : Went} {M : Lent} {gl f : List ℕ} → RunsOn S x n L fl e r M gl f
             → (shown r M f ≡ roundsCall S x n L fl e) × (gl ≡ flagsCall S x n L fl e)
         unfolding roundsCall flagsCall
         rounds-ran room t =
             let a = le-leb n (length fl) flags in
-            let b = le-leb n (length e / 112) room in
+            let b = le-leb n (length e / roundBytes) room in
             let (es, M, o) = start-ok is in
             (rw (o, a, b) (t .shows), rw (o, a, b) (t .flags))
 
@@ -105,10 +106,10 @@ module _ {S : Settings} {x : Access} {L : Lent} {v : Verdict} (m : MayRun S x L 
     struck-refused is = rw (start-is is)
 
     module _ (is : v ≡ verdict.Passed) where
-      pub few-struck : length e / 112 < length fl → shown went.NoRoom L e ≡ struckCall S x L fl e
+      pub few-struck : length e / roundBytes < length fl → shown went.NoRoom L e ≡ struckCall S x L fl e
       unfolding struckCall
-      few-struck h = let (es, M, o) = start-ok is in rw (o, lt-leb (length fl) (length e / 112) h)
+      few-struck h = let (es, M, o) = start-ok is in rw (o, lt-leb (length fl) (length e / roundBytes) h)
 
-      pub struck-ran : length fl ≤ length e / 112 → {r : Went} {M : Lent} {f : List ℕ} → StrikesOn S x L fl e r M f → shown r M f ≡ struckCall S x L fl e
+      pub struck-ran : length fl ≤ length e / roundBytes → {r : Went} {M : Lent} {f : List ℕ} → StrikesOn S x L fl e r M f → shown r M f ≡ struckCall S x L fl e
       unfolding struckCall
-      struck-ran room t = let (es, M, o) = start-ok is in rw (o, le-leb (length fl) (length e / 112) room) (t .shows)
+      struck-ran room t = let (es, M, o) = start-ok is in rw (o, le-leb (length fl) (length e / roundBytes) room) (t .shows)

@@ -12,7 +12,7 @@ use Rattle.model.specs.Tables.{Outcome, refused, done}
 use Rattle.model.specs.Lent.{Lent, bit}
 use Rattle.model.specs.Address.{wellFormed}
 use Rattle.model.specs.Calls.{checkCall}
-use Rattle.model.specs.Records.{logBytes, Parsed, parsed, eventsIn}
+use Rattle.model.specs.Records.{logBytes, Parsed, parsed, eventsIn, roundBytes}
 use Rattle.model.specs.Rounds.{Turn}
 use Rattle.model.specs.Seen.{but11, marks, rounds, struck, waits, callActs}
 use Rattle.model.specs.declared.Settings.{Settings}
@@ -49,9 +49,9 @@ ranTo k a e = record {
   told = parsed (a .events);
 }
 
--- a send takes 25 bytes at the most, a fill 49, an offer 38; a refusal 2
+-- a send, a fill and an offer fit into `roundBytes`, a refusal with them
 abbrev pub roomFor : ℕ → List ℕ → Bool
-roomFor n e = leb n (length e / 112)
+roomFor n e = leb n (length e / roundBytes)
 
 -- a flag that is 1 marks an accepted offer
 abbrev pub marked : List ℕ → List Bool

@@ -18,6 +18,7 @@ use Rattle.model.specs.declared.Settings.{Settings}
 use Rattle.model.specs.declared.Access.{Access}
 use Rattle.model.specs.declared.Refusal.{Refusal}
 use Rattle.model.specs.declared.Verdict.{Verdict}
+use Rattle.model.specs.Records.{fillBytes, roundBytes, settleBytes}
 use Rattle.model.specs.declared.Verdict.the-variants.{Passed}
 use Rattle.turns.specs.Parts.{Noted}
 use Rattle.rounds.specs.declared.Waited.{Waited}
@@ -70,11 +71,11 @@ pub record SeesSend (S : Settings) (L : Lent) (e : List ℕ) (out w : ℕ) (f : 
 
 pub record SeesFill (S : Settings) (L : Lent) (e : List ℕ) (out w : ℕ) (f : List ℕ) (M : Lent) : Type 0 where
   pub on : (x : Access) → Sees S (fillFirst (callActs S x) (tablesOf S L .misses) L) e out w f M
-  pub short : w ≤ out + 49
+  pub short : w ≤ out + fillBytes
 
 pub record SeesDrain (S : Settings) (L : Lent) (e : List ℕ) (out w : ℕ) (f : List ℕ) (M : Lent) : Type 0 where
   pub on : (x : Access) → Sees S (drain (callActs S x) L) e out w f M
-  pub short : w ≤ out + 74
+  pub short : w ≤ out + settleBytes
 
 -- a round: its send, its fill, its offer
 abbrev pub roundTurn : Acts Lent → Lent → Turn Lent
@@ -83,7 +84,7 @@ roundTurn C L = andThen (drain C L) (λ u. C .offers u)
 pub record SeesRound (S : Settings) (x : Access) (L : Lent) (e : List ℕ) (out : ℕ) (r : Offer) (f : List ℕ) (M : Lent) : Type 0 where
   pub on : Sees S (roundTurn (callActs S x) L) e out (r .written) f M
   pub taken : r .taken ≡ accepts (callActs S x .offers (drain (callActs S x) L .left) .events)
-  pub short : r .written ≤ out + 112
+  pub short : r .written ≤ out + roundBytes
 
 -- a round of the struck rounds
 abbrev pub struckTurn : Acts Lent → Bool → Lent → Turn Lent
@@ -91,7 +92,7 @@ struckTurn C m L = andThen (drain C L) (λ u. pick m (C .offers u) (still u))
 
 pub record SeesStruck (S : Settings) (x : Access) (m : Bool) (L : Lent) (e : List ℕ) (out w : ℕ) (f : List ℕ) (M : Lent) : Type 0 where
   pub on : Sees S (struckTurn (callActs S x) m L) e out w f M
-  pub short : w ≤ out + 112
+  pub short : w ≤ out + roundBytes
 
 -- the rounds, and the struck rounds, behind the checks
 pub record RunsOn (S : Settings) (x : Access) (n : ℕ) (L : Lent) (fl e : List ℕ) (r : Went) (M : Lent) (gl f : List ℕ) : Type 0 where

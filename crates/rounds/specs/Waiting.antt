@@ -11,6 +11,7 @@ use Rattle.model.specs.Tables.{Outcome, refused, done}
 use Rattle.model.specs.Lent.{Lent}
 use Rattle.model.specs.Calls.{checkCall}
 use Rattle.model.specs.Records.{logBytes, parsed, eventsIn}
+pub use Rattle.model.specs.Records.{waitRoom}
 use Rattle.model.specs.Rounds.{Run}
 use Rattle.model.specs.Seen.{accepts, but11, Course, rounds, waits, callActs}
 use Rattle.model.specs.declared.Settings.{Settings}
@@ -90,10 +91,7 @@ waitCall S x L = waitChecked S x L (checkCall S L)
 
 -- ---- with the events in a buffer that the caller lends
 
--- bytes that the events of any wait fit into: 128 rounds at the most, each with a send of 25 and a fill of 49 at the most
-abbrev pub waitRoom : ℕ
-waitRoom = 9600
-
+-- with `waitRoom` bytes the events of any wait fit
 abbrev pub waitWithin : ℕ → Settings → Access → Lent → Wait Lent
 waitWithin room S x L = pick (leb waitRoom room) (waitCall S x L) record { waiting = NoRoom; events = []; left = L }
 

@@ -17,13 +17,10 @@ ghost use Rattle.model.specs.Sound.{allOnes};
 ghost use Rattle.model.specs.Lent.{lent, bit};
 ghost use Rattle.model.specs.Calls.{eventsTold};
 ghost use Rattle.model.specs.Inner.{Held};
-ghost use Rattle.model.specs.Records.{logBytes};
+ghost use Rattle.model.specs.Records.{logBytes, fillBytes, roundBytes, settleBytes};
 ghost use Rattle.turns.specs.Parts.{Noted};
 ghost use Rattle.rounds.specs.Demand3.{shown, roundsCall, flagsCall, struckCall};
 ghost use Rattle.rounds.specs.Parts.{Queueless, SeesSend, SeesFill, SeesDrain, SeesRound, SeesStruck, RunsOn, StrikesOn, MayRun};
-
-// A send is 25 bytes at the most, a fill 49, an offer 38.
-const ROUND_ROOM: usize = 112;
 
 // Writes every event of a call behind `out` bytes.
 fn tell(told: Told, events: &mut [u8], out: usize) -> usize
@@ -74,7 +71,7 @@ fn see_fill(
     out: usize,
 ) -> usize
     requires { ⌜ Held s (lent (now longs) (now words) (now marks)) ⌝ }
-    requires { ⌜ out + 49 ≤ length (now events) ⌝ }
+    requires { ⌜ out + fillBytes ≤ length (now events) ⌝ }
     ensures { λ r. ⌜ SeesFill s (lent (now (longs .entry)) (now (words .entry)) (now (marks .entry))) (now (events .entry)) out r
         (now (events .exit)) (lent (now (longs .exit)) (now (words .exit)) (now (marks .exit))) ⌝ }
 {
@@ -97,7 +94,7 @@ fn see_drain(
     out: usize,
 ) -> usize
     requires { ⌜ Held s (lent (now longs) (now words) (now marks)) ⌝ }
-    requires { ⌜ out + 74 ≤ length (now events) ⌝ }
+    requires { ⌜ out + settleBytes ≤ length (now events) ⌝ }
     ensures { λ r. ⌜ SeesDrain s (lent (now (longs .entry)) (now (words .entry)) (now (marks .entry))) (now (events .entry)) out r
         (now (events .exit)) (lent (now (longs .exit)) (now (words .exit)) (now (marks .exit))) ⌝ }
 {
@@ -116,7 +113,7 @@ fn see_round(
     out: usize,
 ) -> Offer
     requires { ⌜ Held s (lent (now longs) (now words) (now marks)) ⌝ }
-    requires { ⌜ (out + 112 ≤ length (now events)) × (maskOf x ≤ allOnes) ⌝ }
+    requires { ⌜ (out + roundBytes ≤ length (now events)) × (maskOf x ≤ allOnes) ⌝ }
     ensures { λ r. ⌜ SeesRound s x (lent (now (longs .entry)) (now (words .entry)) (now (marks .entry))) (now (events .entry)) out r
         (now (events .exit)) (lent (now (longs .exit)) (now (words .exit)) (now (marks .exit))) ⌝ }
 {
@@ -139,7 +136,7 @@ fn see_struck(
     out: usize,
 ) -> usize
     requires { ⌜ Held s (lent (now longs) (now words) (now marks)) ⌝ }
-    requires { ⌜ (out + 112 ≤ length (now events)) × (maskOf x ≤ allOnes) ⌝ }
+    requires { ⌜ (out + roundBytes ≤ length (now events)) × (maskOf x ≤ allOnes) ⌝ }
     ensures { λ r. ⌜ SeesStruck s x (eqb flag 1) (lent (now (longs .entry)) (now (words .entry)) (now (marks .entry))) (now (events .entry)) out r
         (now (events .exit)) (lent (now (longs .exit)) (now (words .exit)) (now (marks .exit))) ⌝ }
 {
@@ -168,7 +165,7 @@ fn rounds_on(
     events: &mut [u8],
 ) -> Went
     requires { ⌜ Held s (lent (now longs) (now words) (now marks)) ⌝ }
-    requires { ⌜ (n ≤ length (now flags)) × (112 * n ≤ length (now events)) × (maskOf x ≤ allOnes) ⌝ }
+    requires { ⌜ (n ≤ length (now flags)) × (roundBytes * n ≤ length (now events)) × (maskOf x ≤ allOnes) ⌝ }
     ensures { λ r. ⌜ RunsOn s x n (lent (now (longs .entry)) (now (words .entry)) (now (marks .entry))) (now (flags .entry)) (now (events .entry)) r
         (lent (now (longs .exit)) (now (words .exit)) (now (marks .exit))) (now (flags .exit)) (now (events .exit)) ⌝ }
 {
@@ -204,7 +201,7 @@ fn struck_on(
     events: &mut [u8],
 ) -> Went
     requires { ⌜ Held s (lent (now longs) (now words) (now marks)) ⌝ }
-    requires { ⌜ (112 * length (now flags) ≤ length (now events)) × (maskOf x ≤ allOnes) ⌝ }
+    requires { ⌜ (roundBytes * length (now flags) ≤ length (now events)) × (maskOf x ≤ allOnes) ⌝ }
     ensures { λ r. ⌜ StrikesOn s x (lent (now (longs .entry)) (now (words .entry)) (now (marks .entry))) (now (flags .entry)) (now (events .entry)) r
         (lent (now (longs .exit)) (now (words .exit)) (now (marks .exit))) (now (events .exit)) ⌝ }
 {
@@ -260,7 +257,7 @@ pub fn run_rounds(
             if flags.len() < n {
                 return Went::NoRoom;
             }
-            if events.len() / ROUND_ROOM < n {
+            if events.len() / records::ROUND_ROOM < n {
                 return Went::NoRoom;
             }
             rounds_on(s, longs, words, marks, x, n, flags, events)
@@ -284,7 +281,7 @@ pub fn run_struck(
     match may_run(s, longs, words, marks, x) {
         Verdict::Refused(k) => Went::Refused(k),
         Verdict::Passed => {
-            if events.len() / ROUND_ROOM < flags.len() {
+            if events.len() / records::ROUND_ROOM < flags.len() {
                 return Went::NoRoom;
             }
             struck_on(s, longs, words, marks, x, flags, events)

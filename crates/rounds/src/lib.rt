@@ -16,6 +16,7 @@ ghost use lib.ListN.{length};
 ghost use Rattle.model.specs.Address.{maskOf, wellFormed};
 ghost use Rattle.model.specs.Sound.{allOnes};
 ghost use Rattle.model.specs.Lent.{lent};
+ghost use Rattle.model.specs.Records.{waitRoom};
 ghost use Rattle.model.specs.Inner.{Held};
 ghost use Rattle.turns.specs.Parts.{Enough};
 ghost use Rattle.rounds.specs.Waiting.{waitWithin, Waits};
@@ -43,19 +44,16 @@ pub struct Offer {
 }
 
 // What running rounds comes to. Ran: how many, and the bytes of their events. Refused: 1 to 4, before the first round. NoRoom: fewer
-// flags than rounds, or fewer than 112 bytes of event room for each.
+// flags than rounds, or fewer than a round's bytes of event room for each.
 pub enum Went {
     Ran { rounds: usize, written: usize },
     Refused(Refusal),
     NoRoom,
 }
 
-// 128 rounds of a send and a fill, and the last offer, take 9,510 bytes at the most.
-const WAIT_ROOM: usize = 9600;
-
 // Refused before the first round.
 fn turned_away(n: Refusal, events: &mut [u8]) -> Waited
-    requires { ⌜ 9600 ≤ length (now events) ⌝ }
+    requires { ⌜ waitRoom ≤ length (now events) ⌝ }
     ensures { λ r. ⌜ TurnsAway n (now (events .entry)) r (now (events .exit)) ⌝ }
 {
     let written = records::write_told(tables::refused(n), events, 0);
@@ -76,7 +74,7 @@ fn wait_rounds(
     most: usize,
 ) -> Waited
     requires { ⌜ Held s (lent (now longs) (now words) (now marks)) ⌝ }
-    requires { ⌜ (wellFormed x ≡ true) × (maskOf x ≤ allOnes) × (9600 ≤ length (now events)) ⌝ }
+    requires { ⌜ (wellFormed x ≡ true) × (maskOf x ≤ allOnes) × (waitRoom ≤ length (now events)) ⌝ }
     requires { ⌜ Enough s (lent (now longs) (now words) (now marks)) most ⌝ }
     ensures { λ r. ⌜ Settles s x most (lent (now (longs .entry)) (now (words .entry)) (now (marks .entry))) (now (events .entry)) r
         (now (events .exit)) (lent (now (longs .exit)) (now (words .exit)) (now (marks .exit))) ⌝ }
@@ -113,7 +111,7 @@ fn wait_checked(
     events: &mut [u8],
 ) -> Waited
     requires { ⌜ Held s (lent (now longs) (now words) (now marks)) ⌝ }
-    requires { ⌜ 9600 ≤ length (now events) ⌝ }
+    requires { ⌜ waitRoom ≤ length (now events) ⌝ }
     ensures { λ r. ⌜ WaitsHeld s x (lent (now (longs .entry)) (now (words .entry)) (now (marks .entry))) (now (events .entry)) r
         (now (events .exit)) (lent (now (longs .exit)) (now (words .exit)) (now (marks .exit))) ⌝ }
 {
@@ -136,7 +134,7 @@ pub fn wait(
     ensures { λ r. ⌜ Waits (waitWithin (length (now (events .entry))) s x (lent (now (longs .entry)) (now (words .entry)) (now (marks .entry))))
         (now (events .entry)) r (now (events .exit)) (lent (now (longs .exit)) (now (words .exit)) (now (marks .exit))) ⌝ }
 {
-    if events.len() < WAIT_ROOM {
+    if events.len() < records::WAIT_ROOM {
         return Waited {
             waiting: Waiting::NoRoom,
             written: 0,

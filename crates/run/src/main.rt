@@ -2,6 +2,7 @@
 // events go to standard output, and one last line on standard error says why it stops and what was consumed and written.
 mod says;
 
+use running::Opening;
 use streaming::first;
 use streaming::parts;
 use streaming::parts::Started;
@@ -9,9 +10,11 @@ use streaming::rooms;
 use streaming::scope::Scope;
 use streaming::work;
 use streaming::work::Work;
+ghost use mathlib.Core.Path.{_≡_};
 ghost use Prim.Native.Nat.{_≤_};
 ghost use lib.ListN.{length, take};
 ghost use Rattle.model.specs.Lent.{lent};
+ghost use Rattle.running.specs.Begin.{firstRecord};
 ghost use Rattle.running.specs.Lengths.{lengthsFor, Long};
 ghost use Rattle.streaming.specs.First.{Opened};
 ghost use Rattle.streaming.specs.Wholes.{Whole, WholeRun};
@@ -19,6 +22,7 @@ ghost use Rattle.streaming.specs.Wholes.{Whole, WholeRun};
 // The first record, then the rest, on slices as long as the stream's settings ask.
 fn run_all(
     fd: i32,
+    first: Opening,
     buf: &mut [u8],
     longs: &mut [u64],
     words: &mut [u32],
@@ -28,10 +32,11 @@ fn run_all(
     requires { ⌜ Opened (now buf) w ⌝ }
     requires { ⌜ 64 ≤ length (now buf) ⌝ }
     requires { ⌜ Long (lent (now longs) (now words) (now marks)) (lengthsFor (take (w .have) (now buf))) ⌝ }
+    requires { ⌜ first ≡ firstRecord (take (w .have) (now buf)) ⌝ }
     ensures { λ r. ⌜ Whole (lent (now (longs .entry)) (now (words .entry)) (now (marks .entry))) (take (w .have) (now (buf .entry))) w r
         (lent (now (longs .exit)) (now (words .exit)) (now (marks .exit))) ⌝ }
 {
-    match parts::start(buf, longs, words, marks, w) {
+    match parts::start(first, buf, longs, words, marks, w) {
         Started::Stops(stopped) => stopped,
         Started::Runs { settings, work } => parts::run_rest(
             fd,
@@ -52,7 +57,8 @@ fn run_stream(fd: i32, buf: &mut [u8], w: Work) -> Work
     requires { ⌜ 64 ≤ length (now buf) ⌝ }
     ensures { λ r. ⌜ WholeRun (take (w .have) (now (buf .entry))) w r ⌝ }
 {
-    let n = running::lengths_for(text::front(buf, w.have));
+    let first = running::first_record(text::front(buf, w.have));
+    let n = running::lengths_for(first);
     let mut longs = rooms::longs_room();
     let mut words = rooms::words_room();
     let mut marks = rooms::marks_room();
@@ -61,6 +67,7 @@ fn run_stream(fd: i32, buf: &mut [u8], w: Work) -> Work
     let c = n.marks;
     run_all(
         fd,
+        first,
         buf,
         &mut longs[..a],
         &mut words[..b],

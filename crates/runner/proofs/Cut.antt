@@ -14,7 +14,8 @@ use Rattle.model.specs.Tables.{Tables, start}
 use Rattle.model.specs.Lent.{Lent, tablesOf, encode}
 use Rattle.model.specs.Sound.{sound}
 use Rattle.model.specs.Records.{bytes, lengthOf}
-use Rattle.model.specs.Runner.{settingsOf, firstStop, keptStop, goesOn, Result, halt, ahead, runFrom, lentResult, run, resume, Runs}
+use Rattle.model.specs.RunnerOf as runner
+use Rattle.model.specs.Runner.{settingsOf, firstStop, keptStop, goesOn, Result, ahead, runFrom, lentResult, run, resume, Runs}
 use Rattle.model.specs.Inner.{Is}
 use Rattle.model.specs.declared.Settings.{Settings}
 use Rattle.model.specs.declared.Stop.{Stop}
@@ -26,8 +27,7 @@ use Rattle.model.proofs.Decoded.{Small}
 use Rattle.model.proofs.Kept.{kept-is, resume-goes, resume-is}
 use Rattle.running.proofs.First.{Settled, settled, run-accepts}
 use Rattle.running.proofs.Running.{run-skips}
-use Rattle.running.proofs.Checks.{settings-more}
-use Rattle.running.proofs.Parts.{goes-first, first-more, settled-long, run-cut}
+use Rattle.running.proofs.Parts.{goes-first, settings-more, first-more, run-cut}
 
 -- ---- on tables
 
@@ -53,11 +53,11 @@ module _ (S : Settings) (range : inRange S ≡ true) (t : Tables) (room before b
 -- ---- what stopped with 0 passed its checks
 
 resume-passed : (S : Settings) (room : ℕ) (s : List ℕ) (L : Lent) → goesOn (resume S room s L .stop) ≡ true → goesOn (keptStop S L) ≡ true
-unfolding resume
+unfolding runner.resume
 resume-passed S room s L e = goes-first (keptStop S L) _ L e
 
 run-passed : (room k : ℕ) (s : List ℕ) (L : Lent) → goesOn (run room (k ∷ s) L .stop) ≡ true → goesOn (firstStop L k s) ≡ true
-unfolding run
+unfolding runner.run
 run-passed room k s L e = goes-first (firstStop L k s) _ L e
 
 -- ---- a part that goes on, and the next one
@@ -88,7 +88,7 @@ module _ (S : Settings) (room before behind : ℕ) (a b : List ℕ) (L : Lent) w
 
 module _ (room before behind k : ℕ) (a b : List ℕ) (L : Lent) where
   abbrev S : Settings
-  S = settingsOf a
+  S = settingsOf k a
 
   pub run-then : bytes a ≡ true → goesOn (run before (k ∷ a) L .stop) ≡ true
       → (resume S behind b (run before (k ∷ a) L .tables) .stop ≡ NoRoom → ⊥) → (run room (k ∷ (a ++ b)) L .stop ≡ NoRoom → ⊥)
@@ -98,16 +98,15 @@ module _ (room before behind k : ℕ) (a b : List ℕ) (L : Lent) where
       let n = lengthOf k in
       let z = run-passed before k a L e in
       let st = settled L k a z in
-      let w : n ≤ length a = rw (st .settings) (st .whole) in
-      let l = settled-long L k a st in
+      let w : n ≤ length a = st .whole in
       let more : n ≤ length (a ++ b) = rw length-append (omega arith) in
       let o = runFrom S 0 before (drop n a) (start S) in
       let skipped = run-skips S n before a (start S) w in
       let p : run before (k ∷ a) L ≡ ahead (1 + n) [] (lentResult S o) =
       run-accepts before L k a z ∙ ap (λ (x : Result Tables). ahead (1 + n) [] (lentResult S x)) skipped in
       let q : run room (k ∷ (a ++ b)) L ≡ ahead (1 + n) [] (lentResult S (runFrom S 0 room (drop n a ++ b) (start S))) =
-      run-accepts room L k (a ++ b) (rw (first-more L k a b w l) z)
-      ∙ ap (λ (S : Settings). ahead (1 + n) [] (lentResult S (runFrom S n room (a ++ b) (start S)))) (settings-more a b l)
+      run-accepts room L k (a ++ b) (rw (first-more L k a b w) z)
+      ∙ ap (λ (S : Settings). ahead (1 + n) [] (lentResult S (runFrom S n room (a ++ b) (start S)))) (settings-more k a b w)
       ∙ ap (λ (x : Result Tables). ahead (1 + n) [] (lentResult S x)) (run-skips S n room (a ++ b) (start S) more ∙ ap (λ (s : List ℕ). runFrom S 0 room s (start S)) (drop-append-le n a b w)) in
       let ok : sound S (o .tables) ≡ true =
       ap (λ (x : Result Tables). sound S (x .tables)) (sym skipped) ∙ run-from-keeps-sound S (st .range) n before a (start S) bs (start-sound S) in
@@ -136,18 +135,18 @@ written-are {o} {e} {r} u = rw (u .written, u .events) (take-append-seam (o .eve
 
 module _ (k : ℕ) (a b : List ℕ) (L : Lent) {M₁ M₂ M : Lent} {e₁ e₂ e f₁ f₂ f : List ℕ} {r₁ r₂ r : Ran}
     (first : Runs (run (length e₁) (k ∷ a) L) e₁ r₁ f₁ M₁)
-    (second : Runs (resume (settingsOf a) (length e₂) b M₁) e₂ r₂ f₂ M₂)
+    (second : Runs (resume (settingsOf k a) (length e₂) b M₁) e₂ r₂ f₂ M₂)
     (one : Runs (run (length e) (k ∷ (a ++ b)) L) e r f M) where
   pub two-parts-as-one : bytes a ≡ true → goesOn (r₁ .stop) ≡ true → (r₂ .stop ≡ NoRoom → ⊥) → (r .stop ≡ NoRoom → ⊥) → AsOne r₁ r₂ r f₁ f₂ f M₂ M
   two-parts-as-one bs go roomy whole =
-      let left : resume (settingsOf a) (length e₂) b M₁ ≡ resume (settingsOf a) (length e₂) b (run (length e₁) (k ∷ a) L .tables) =
-      ap (resume (settingsOf a) (length e₂) b) (first .tables) in
+      let left : resume (settingsOf k a) (length e₂) b M₁ ≡ resume (settingsOf k a) (length e₂) b (run (length e₁) (k ∷ a) L .tables) =
+      ap (resume (settingsOf k a) (length e₂) b) (first .tables) in
       let q = run-then (length e) (length e₁) (length e₂) k a b L bs
       (ap goesOn (sym (first .stop)) ∙ go)
       (λ x. roomy (second .stop ∙ ap (λ (o : Result Lent). o .stop) left ∙ x))
       (λ x. whole (one .stop ∙ x)) in
       let o₁ = run (length e₁) (k ∷ a) L in
-      let o₂ = resume (settingsOf a) (length e₂) b M₁ in
+      let o₂ = resume (settingsOf k a) (length e₂) b M₁ in
       let w : run (length e) (k ∷ (a ++ b)) L ≡ ahead (o₁ .consumed) (o₁ .events) o₂ = q ∙ sym (ap (ahead (o₁ .consumed) (o₁ .events)) left) in
       record {
         stop = one .stop ∙ ap (λ (o : Result Lent). o .stop) w ∙ sym (second .stop);

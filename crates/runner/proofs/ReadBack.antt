@@ -11,7 +11,9 @@ use Rattle.model.specs.Range.{inRange}
 use Rattle.model.specs.Tables.{Tables, start, after, eventsOf}
 use Rattle.model.specs.Lent.{Lent, tablesOf}
 use Rattle.model.specs.Sound.{sound}
+use Rattle.model.specs.RecordsOf as records
 use Rattle.model.specs.Records.{lengthOf, commandOf, logBytes, eventsIn, parsed}
+use Rattle.model.specs.RunnerOf as runner
 use Rattle.model.specs.Runner.{settingsOf, firstStop, laterStop, keptStop, goesOn, stepRead, stepAt, runFrom, run, resume, Runs}
 use Rattle.model.specs.declared.Settings.{Settings}
 use Rattle.model.specs.declared.CommandRead.{CommandRead}
@@ -38,7 +40,7 @@ use Rattle.runner.specs.Told.{toldFrom, runTold, resumeTold}
 
 module _ (S : Settings) where
   from-log : (n room : ℕ) (s : List ℕ) (t : Tables) → runFrom S n room s t .events ≡ logBytes (toldFrom S n room s t)
-  unfolding runFrom toldFrom logBytes
+  unfolding runner.runFrom toldFrom records.logBytes
   from-log n room [] t = refl
   from-log (suc n) room (b ∷ s) t = from-log n room s t
   from-log zero room (k ∷ s) t =
@@ -51,13 +53,13 @@ module _ (S : Settings) where
       (flag (goesOn (laterStop room k s)))
 
 run-log : (room : ℕ) (s : List ℕ) (L : Lent) → run room s L .events ≡ logBytes (runTold room s L)
-unfolding run runTold logBytes
+unfolding runner.run runTold records.logBytes
 run-log room [] L = refl
 run-log room (k ∷ s) L =
-    ⊎-elim (λ z. rw z (from-log (settingsOf s) (lengthOf k) room s (start (settingsOf s)))) (λ z. rw z) (flag (goesOn (firstStop L k s)))
+    ⊎-elim (λ z. rw z (from-log (settingsOf k s) (lengthOf k) room s (start (settingsOf k s)))) (λ z. rw z) (flag (goesOn (firstStop L k s)))
 
 resume-log : (S : Settings) (room : ℕ) (s : List ℕ) (L : Lent) → resume S room s L .events ≡ logBytes (resumeTold S room s L)
-unfolding resume resumeTold logBytes
+unfolding runner.resume resumeTold records.logBytes
 resume-log S room s L = ⊎-elim (λ z. rw z (from-log S 0 room s (tablesOf S L))) (λ z. rw z) (flag (goesOn (keptStop S L)))
 
 -- ---- the events fit
@@ -72,7 +74,7 @@ module _ (S : Settings) (range : inRange S ≡ true) where
   read-stamped command.None t h few = few
 
   from-fits : (n room : ℕ) (s : List ℕ) (t : Tables) → bytes s ≡ true → sound S t ≡ true → stamped t ≡ true → AllFitting (toldFrom S n room s t)
-  unfolding toldFrom stepAt
+  unfolding toldFrom runner.stepAt
   from-fits n room [] t b ok few = tt
   from-fits (suc n) room (x ∷ s) t b ok few = from-fits n room s t (and-2 (ltb x 256) (bytes s) b) ok few
   from-fits zero room (k ∷ s) t b ok few =
@@ -90,7 +92,7 @@ unfolding runTold
 run-fits room [] L b = tt
 run-fits room (k ∷ s) L b =
     by-flag AllFitting (goesOn (firstStop L k s)) _ _
-    (λ z. from-fits (settingsOf s) (settled L k s z .range) (lengthOf k) room s (start (settingsOf s)) (and-2 (ltb k 256) (bytes s) b) (start-sound (settingsOf s)) refl)
+    (λ z. from-fits (settingsOf k s) (settled L k s z .range) (lengthOf k) room s (start (settingsOf k s)) (and-2 (ltb k 256) (bytes s) b) (start-sound (settingsOf k s)) refl)
     (λ z. tt)
 
 resume-fits : (S : Settings) (room : ℕ) (s : List ℕ) (L : Lent) → Small L → bytes s ≡ true → AllFitting (resumeTold S room s L)

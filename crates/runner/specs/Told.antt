@@ -23,7 +23,7 @@ toldFrom S zero room (k ∷ bs) t =
 -- as run
 unfoldable pub runTold : ℕ → List ℕ → Lent → List Event
 runTold room [] L = []
-runTold room (k ∷ bs) L = pick (goesOn (firstStop L k bs)) (toldFrom (settingsOf bs) (lengthOf k) room bs (start (settingsOf bs))) []
+runTold room (k ∷ bs) L = pick (goesOn (firstStop L k bs)) (toldFrom (settingsOf k bs) (lengthOf k) room bs (start (settingsOf k bs))) []
 
 -- as resume
 unfoldable pub resumeTold : Settings → ℕ → List ℕ → Lent → List Event

@@ -9,9 +9,6 @@ ghost use lib.ListN.{length};
 ghost use Rattle.model.specs.Lent.{lent};
 ghost use Rattle.model.specs.Runner.{run, keptStop, resume, Runs};
 
-// A settings record: its kind and a body of seven bytes.
-const SETTINGS_RECORD: usize = 8;
-
 // Runs a stream: its events, and the tables as the records run left them.
 pub fn run(
     stream: &[u8],
@@ -23,22 +20,16 @@ pub fn run(
     ensures { λ r. ⌜ Runs (run (length (now (events .entry))) (now (stream .entry)) (lent (now (longs .entry)) (now (words .entry)) (now (marks .entry))))
         (now (events .entry)) r (now (events .exit)) (lent (now (longs .exit)) (now (words .exit)) (now (marks .exit))) ⌝ }
 {
-    match running::begin(stream, longs, words, marks) {
+    let first = running::first_record(stream);
+    match running::begin(first, longs, words, marks) {
         Begun::Stopped(stop) => Ran {
             stop,
             consumed: 0,
             written: 0,
         },
-        Begun::Accepted(s) => running::go_on(
-            s,
-            stream,
-            SETTINGS_RECORD,
-            events,
-            0,
-            longs,
-            words,
-            marks,
-        ),
+        Begun::Accepted { settings, next } => {
+            running::go_on(settings, stream, next, events, 0, longs, words, marks)
+        }
     }
 }
 

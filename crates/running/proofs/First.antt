@@ -1,86 +1,159 @@
--- The first record: its checks by the tests that the code makes, and the run behind it.
+-- The first record: what it holds and what it comes to, by the tests that the code makes, and the run behind it.
 use mathlib.Core.Path.{_≡_, refl, sym, ap, _∙_}
+use mathlib.Core.Logic.{⊎-elim}
 use mathlib.Core.Bool.{Bool, true, false}
 use mathlib.Core.List.{List, [], _∷_}
-use Prim.Native.Nat.{ℕ, _+_, _-_, _≤_, _<_}
+use Prim.Native.Nat.{ℕ, suc, _+_, _-_, _≤_, _<_}
 use native.Mathlib.Nat.{sub-zero}
 use native.Mathlib.Omega.{arith}
-use borrow.Author.Tests.{eq-eqb, ne-eqb, ltb-false, eqb-true}
-use lib.Dec.{ltb, eqb}
+use borrow.Author.Tests.{eq-eqb, ne-eqb, ltb-false}
+use lib.Dec.{ltb}
 use lib.ListN.{length, drop, length-drop}
-use Rattle.model.specs.Range.{inRange}
-use Rattle.model.specs.Tables.{start, after}
-use Rattle.model.specs.Lent.{Lent, lengthsFit}
 use Rattle.model.specs.Words.{pick}
-use Rattle.model.specs.Records.{isCommand, lengthOf, readAt, bodyAt}
-use Rattle.model.specs.Runner.{settingsOf, settingsStop, firstStop, goesOn, halt, ahead, runFrom, lentResult, run, Runs}
-use Rattle.model.specs.Calls.{freshCall}
+use Rattle.model.specs.Numbers.{refusalNumber}
+use Rattle.model.specs.Range.{inRange}
+use Rattle.model.specs.Tables.{Tables, start, after}
+use Rattle.model.specs.Lent.{Lent, lengthsFit}
+use Rattle.model.specs.Records.{isCommand, isSettings, lengthOf, settingsIn, readAt, bodyAt}
+use Rattle.model.specs.RunnerOf as runner
+use Rattle.model.specs.Runner.{settingsOf, settingsStop, firstStop, goesOn, Result, halt, ahead, runFrom, lentResult, run, Runs}
+use Rattle.model.specs.Calls.{freshCall, verdictOf}
 use Rattle.model.specs.Inner.{Is, Held}
 use Rattle.model.specs.declared.Settings.{Settings}
 use Rattle.model.specs.declared.Record.{Record}
+use Rattle.model.specs.declared.Refusal.{Refusal}
+use Rattle.model.specs.declared.Verdict.{Verdict}
+use Rattle.model.specs.declared.Verdict.the-variants as verdict
 use Rattle.model.specs.declared.Stop.{Stop}
 use Rattle.model.specs.declared.Stop.the-variants.{Nothing, SettingOutOfRange, SliceLength, OutOfPlace, UnknownKind, CutShort}
 use Rattle.model.specs.declared.Ran.{Ran}
-use Rattle.model.proofs.Flags.{clash, by-flag}
+use Rattle.model.proofs.Flags.{clash, by-flag, flag}
 use Rattle.model.proofs.Soundness.{start-sound}
+use Rattle.reader.specs.Taken.{behind}
+use Rattle.cache.specs.Made.{Made}
+use Rattle.running.specs.declared.Opening.{Opening}
+use Rattle.running.specs.declared.Opening.the-variants as opening
 use Rattle.running.specs.declared.Begun.{Begun}
 use Rattle.running.specs.declared.Begun.the-variants.{Accepted, Stopped}
-use Rattle.running.specs.Resume.{kindAt, restAt, headStop, restFrom, Stands, Resumes}
-use Rattle.running.specs.Begin.{beginning, Begins}
+use Rattle.running.specs.Resume.{kindAt, restAt, foundStop, restFrom, Stands, Resumes}
+use Rattle.running.specs.Begin.{firstHead, firstRecord, begunOn, beginning, begunTables, Begins, Accepts, freshStop}
 use Rattle.running.proofs.Running.{run-skips}
-use Rattle.running.proofs.Checks.{head-stops, head-goes, head-fits, body-settings}
+use Rattle.running.proofs.Checks.{found-record, found-next, found-body}
 
--- ---- the checks
+-- ---- what it holds, by the tests that the code makes
 
-module _ (S : Settings) (L : Lent) where
-  pub settings-out : inRange S ≡ false → SettingOutOfRange ≡ settingsStop S L
-  settings-out r = rw r
+record-stops : (s : List ℕ) → (length s ≡ 0 → ⊥) → goesOn (firstHead (kindAt s 0) (restAt s 0)) ≡ false
+    → opening.Stopped (firstHead (kindAt s 0) (restAt s 0)) ≡ firstRecord s
+unfolding firstRecord
+record-stops [] some z = absurd (some refl)
+record-stops (k ∷ bs) some z = rw z
 
-  pub settings-length : inRange S ≡ true → lengthsFit S L ≡ false → SliceLength ≡ settingsStop S L
-  settings-length r f = rw (r, f)
+record-goes : (s : List ℕ) → (length s ≡ 0 → ⊥) → goesOn (firstHead (kindAt s 0) (restAt s 0)) ≡ true
+    → opening.Holds (settingsOf (kindAt s 0) (restAt s 0)) (1 + lengthOf (kindAt s 0)) ≡ firstRecord s
+unfolding firstRecord
+record-goes [] some z = absurd (some refl)
+record-goes (k ∷ bs) some z = rw z
 
-  pub settings-go : inRange S ≡ true → lengthsFit S L ≡ true → Nothing ≡ settingsStop S L
-  settings-go r f = rw (r, f)
+pub first-none : (s : List ℕ) → length s ≡ 0 → opening.Stopped Nothing ≡ firstRecord s
+unfolding firstRecord
+first-none [] h = refl
+first-none (k ∷ bs) h = absurd (omega arith)
 
-module _ (s : List ℕ) (L : Lent) (some : 0 < length s) {f : Record} (read : f ≡ readAt s 0) {n : Stop} (d : n ≡ headStop (kindAt s 0) f) where
-  -- what is asked behind the head
-  abbrev asked : Stop
-  asked = pick (eqb (kindAt s 0) 0) (settingsStop (settingsOf (restAt s 0)) L) OutOfPlace
+module _ (s : List ℕ) (some : length s ≡ 0 → ⊥) {f : Record} (read : f ≡ readAt s 0) {n : Stop} (d : n ≡ foundStop (kindAt s 0) f Nothing OutOfPlace) where
+  inside : 0 < length s
+  inside = omega arith
 
-  pub first-stopped : goesOn n ≡ false → n ≡ firstStop L (kindAt s 0) (restAt s 0)
-  unfolding firstStop
-  first-stopped h = head-stops s 0 some read d h asked
+  head-is : n ≡ firstHead (kindAt s 0) (restAt s 0)
+  head-is = found-record s 0 inside read Nothing OutOfPlace d
 
-  module _ (goes : goesOn n ≡ true) where
-    pub first-other : (kindAt s 0 ≡ 0 → ⊥) → OutOfPlace ≡ firstStop L (kindAt s 0) (restAt s 0)
-    unfolding firstStop
-    first-other h = let q : OutOfPlace ≡ asked = rw (ne-eqb (kindAt s 0) 0 h) in q ∙ head-goes s 0 some read d goes asked
+  pub first-stopped : goesOn n ≡ false → opening.Stopped n ≡ firstRecord s
+  first-stopped h = ap opening.Stopped head-is ∙ record-stops s some (rw (← head-is) h)
 
-    pub first-settings : kindAt s 0 ≡ 0 → {S : Settings} → S ≡ settingsOf (bodyAt s 0) → {r : Stop} → r ≡ settingsStop S L
-        → r ≡ firstStop L (kindAt s 0) (restAt s 0)
-    unfolding firstStop
-    first-settings h e {r} a =
-        let w : lengthOf 0 ≤ length (restAt s 0) = rw h at (head-fits s 0 some read d goes) in
-        let q : settingsStop (settingsOf (restAt s 0)) L ≡ asked = rw (eq-eqb (kindAt s 0) 0 h) in
-        a ∙ ap (λ (S : Settings). settingsStop S L) (e ∙ body-settings s some h w) ∙ q ∙ head-goes s 0 some read d goes asked
+  pub first-holds : goesOn n ≡ true → {S : Settings} → S ≡ settingsIn (bodyAt s 0) → {c : ℕ} → c ≡ behind s 0 → opening.Holds S c ≡ firstRecord s
+  first-holds h {S} e {c} q =
+      let b : S ≡ settingsOf (kindAt s 0) (restAt s 0) = e ∙ ap settingsIn (found-body s 0 inside read Nothing OutOfPlace d h) in
+      let a : c ≡ 1 + lengthOf (kindAt s 0) = found-next s 0 inside read Nothing OutOfPlace d h q in
+      rw (b, a) (record-goes s some (rw (← head-is) h))
+
+-- ---- what it comes to
+
+-- of settings, by the call that makes the tables fresh
+fresh-stops : (S : Settings) (L : Lent) → freshStop (verdictOf (freshCall S L)) ≡ settingsStop S L
+fresh-stops S L =
+    ⊎-elim
+    (λ (r : inRange S ≡ true). ⊎-elim (λ (f : lengthsFit S L ≡ true). rw (r, f)) (λ (f : lengthsFit S L ≡ false). rw (r, f)) (flag (lengthsFit S L)))
+    (λ (r : inRange S ≡ false). rw r)
+    (flag (inRange S))
+
+fresh-leaves : (S : Settings) (L : Lent) (next : ℕ) → after L (freshCall S L) ≡ begunTables L (begunOn L (opening.Holds S next))
+fresh-leaves S L next =
+    ⊎-elim
+    (λ (r : inRange S ≡ true). ⊎-elim (λ (f : lengthsFit S L ≡ true). rw (r, f)) (λ (f : lengthsFit S L ≡ false). rw (r, f)) (flag (lengthsFit S L)))
+    (λ (r : inRange S ≡ false). rw r)
+    (flag (inRange S))
+
+module _ {v : Verdict} {n : Refusal} (q : v ≡ verdict.Refused n) {m : ℕ} (e : m ≡ refusalNumber n) where
+  pub fresh-one : m ≡ 1 → SettingOutOfRange ≡ freshStop v
+  fresh-one h = rw (q, eq-eqb (refusalNumber n) 1 (sym e ∙ h))
+
+  pub fresh-two : (m ≡ 1 → ⊥) → SliceLength ≡ freshStop v
+  fresh-two h = rw (q, ne-eqb (refusalNumber n) 1 (λ z. h (e ∙ z)))
+
+module _ (S : Settings) (next : ℕ) (L : Lent) {v : Verdict} {M : Lent} (made : Made (freshCall S L) L v M) {n : Stop} (d : n ≡ freshStop v) where
+  judged : n ≡ settingsStop S L
+  judged = d ∙ ap freshStop (made .says) ∙ fresh-stops S L
+
+  pub accept-stops : goesOn n ≡ false → Accepts L (opening.Holds S next) (Stopped n) M
+  accept-stops h = record { says = rw (← judged, h); tables = made .left ∙ fresh-leaves S L next }
+
+  pub accept-goes : goesOn n ≡ true → Accepts L (opening.Holds S next) (Accepted S next) M
+  accept-goes h = record { says = rw (← judged, h); tables = made .left ∙ fresh-leaves S L next }
+
+pub accepts-stopped : (L : Lent) {x : Opening} {n : Stop} → x ≡ opening.Stopped n → Accepts L x (Stopped n) L
+accepts-stopped L q = rw q record { says = refl; tables = refl }
+
+pub accepts-held : {L : Lent} {x : Opening} {S : Settings} {next : ℕ} {r : Begun} {M : Lent} → x ≡ opening.Holds S next → Accepts L (opening.Holds S next) r M → Accepts L x r M
+accepts-held q a = rw q a
+
+-- of a stream: 1 and 2 behind the other checks
+abbrev headBy : Bool → Bool → Bool → Stop → Stop
+headBy known cut settings x = pick known (pick cut CutShort (pick settings x OutOfPlace)) UnknownKind
+
+begun-by : (L : Lent) (S : Settings) (next : ℕ) (known cut settings : Bool)
+    → begunOn L (pick (goesOn (headBy known cut settings Nothing)) (opening.Holds S next) (opening.Stopped (headBy known cut settings Nothing)))
+    ≡ pick (goesOn (headBy known cut settings (settingsStop S L))) (Accepted S next) (Stopped (headBy known cut settings (settingsStop S L)))
+begun-by L S next false cut settings = refl
+begun-by L S next true true settings = refl
+begun-by L S next true false false = refl
+begun-by L S next true false true = refl
+
+pub first-begins : (L : Lent) (s : List ℕ) → begunOn L (firstRecord s) ≡ beginning L s
+unfolding firstRecord beginning runner.firstStop
+first-begins L [] = refl
+first-begins L (k ∷ bs) = begun-by L (settingsOf k bs) (1 + lengthOf k) (isCommand k) (ltb (length bs) (lengthOf k)) (isSettings k)
+
+pub accepts-begins : {L : Lent} (s : List ℕ) {x : Opening} → x ≡ firstRecord s → {r : Begun} {M : Lent} → Accepts L x r M → Begins L s r M
+accepts-begins {L} s {x} e a =
+    let q : begunOn L x ≡ beginning L s = ap (begunOn L) e ∙ first-begins L s in
+    record { says = a .says ∙ q; tables = a .tables ∙ ap (begunTables L) q }
 
 -- ---- settings that are accepted
 
 pub record Settled (L : Lent) (k : ℕ) (rest : List ℕ) : Type 0 where
-  pub settings : k ≡ 0
-  pub whole : lengthOf 0 ≤ length rest
-  pub range : inRange (settingsOf rest) ≡ true
-  pub fits : lengthsFit (settingsOf rest) L ≡ true
+  pub settings : isSettings k ≡ true
+  pub whole : lengthOf k ≤ length rest
+  pub range : inRange (settingsOf k rest) ≡ true
+  pub fits : lengthsFit (settingsOf k rest) L ≡ true
 
 pub settled : (L : Lent) (k : ℕ) (rest : List ℕ) → goesOn (firstStop L k rest) ≡ true → Settled L k rest
-unfolding firstStop
+unfolding runner.firstStop
 settled L k rest =
     by-flag Goes (isCommand k) _ _
     (λ a. by-flag Goes (ltb (length rest) (lengthOf k)) _ _ (λ b h. clash h refl)
-    (λ b. by-flag Goes (eqb k 0) _ _
-    (λ c. by-flag Goes (inRange (settingsOf rest)) _ _
-    (λ d. by-flag Goes (lengthsFit (settingsOf rest) L) _ _
-    (λ e h. record { settings = eqb-true k 0 c; whole = rw (eqb-true k 0 c) at (ltb-false (length rest) (lengthOf k) b); range = d; fits = e })
+    (λ b. by-flag Goes (isSettings k) _ _
+    (λ c. by-flag Goes (inRange (settingsOf k rest)) _ _
+    (λ d. by-flag Goes (lengthsFit (settingsOf k rest) L) _ _
+    (λ e h. record { settings = c; whole = ltb-false (length rest) (lengthOf k) b; range = d; fits = e })
     (λ e h. clash h refl))
     (λ d h. clash h refl))
     (λ c h. clash h refl)))
@@ -91,21 +164,9 @@ settled L k rest =
 
 -- ---- the first record by itself, and the run behind it, as equations
 
-beginning-stops : (L : Lent) (s : List ℕ) → (length s ≡ 0 → ⊥) → goesOn (firstStop L (kindAt s 0) (restAt s 0)) ≡ false
-    → beginning L s ≡ Stopped (firstStop L (kindAt s 0) (restAt s 0))
-unfolding beginning
-beginning-stops L [] some z = absurd (some refl)
-beginning-stops L (k ∷ bs) some z = rw z
-
-beginning-goes : (L : Lent) (s : List ℕ) → (length s ≡ 0 → ⊥) → goesOn (firstStop L (kindAt s 0) (restAt s 0)) ≡ true
-    → beginning L s ≡ Accepted (settingsOf (restAt s 0))
-unfolding beginning
-beginning-goes L [] some z = absurd (some refl)
-beginning-goes L (k ∷ bs) some z = rw z
-
 -- what was stopped, and what was accepted
 run-halts : (room : ℕ) (L : Lent) (s : List ℕ) (n : Stop) → beginning L s ≡ Stopped n → run room s L ≡ halt n L
-unfolding beginning run
+unfolding beginning runner.run
 run-halts room L [] n q = let e : Nothing ≡ n = cc in rw e
 run-halts room L (k ∷ bs) n h =
     by-flag (λ (x : Begun). x ≡ Stopped n → run room (k ∷ bs) L ≡ halt n L) (goesOn (firstStop L k bs)) _ _
@@ -113,59 +174,58 @@ run-halts room L (k ∷ bs) n h =
     (λ z q. let e : firstStop L k bs ≡ n = cc in rw (z, e))
     h
 
-record Taken (L : Lent) (s : List ℕ) (S : Settings) : Type 0 where
+record Taken (L : Lent) (s : List ℕ) (S : Settings) (n : ℕ) : Type 0 where
   some : length s ≡ 0 → ⊥
   goes : goesOn (firstStop L (kindAt s 0) (restAt s 0)) ≡ true
-  are : settingsOf (restAt s 0) ≡ S
+  are : settingsOf (kindAt s 0) (restAt s 0) ≡ S
+  next : 1 + lengthOf (kindAt s 0) ≡ n
 
-taken : (L : Lent) (s : List ℕ) (S : Settings) → beginning L s ≡ Accepted S → Taken L s S
+taken : (L : Lent) (s : List ℕ) (S : Settings) (n : ℕ) → beginning L s ≡ Accepted S n → Taken L s S n
 unfolding beginning
-taken L [] S q = let e : _≡_ {A = ℕ} 0 1 = cc in absurd (omega arith)
-taken L (k ∷ bs) S h =
-    by-flag (λ (x : Begun). x ≡ Accepted S → Taken L (k ∷ bs) S) (goesOn (firstStop L k bs)) _ _
-    (λ z q. let e : settingsOf bs ≡ S = cc in record { some = λ h. omega arith; goes = z; are = e })
+taken L [] S n q = let e : _≡_ {A = ℕ} 0 1 = cc in absurd (omega arith)
+taken L (k ∷ bs) S n h =
+    by-flag (λ (x : Begun). x ≡ Accepted S n → Taken L (k ∷ bs) S n) (goesOn (firstStop L k bs)) _ _
+    (λ z q. let e : settingsOf k bs ≡ S = cc in let c : 1 + lengthOf k ≡ n = cc in record { some = λ h. omega arith; goes = z; are = e; next = c })
     (λ z q. let e : _≡_ {A = ℕ} 0 1 = cc in absurd (omega arith))
     h
 
 pub run-accepts : (room : ℕ) (L : Lent) (k : ℕ) (bs : List ℕ) → goesOn (firstStop L k bs) ≡ true
     → run room (k ∷ bs) L
-    ≡ ahead (1 + lengthOf k) [] (lentResult (settingsOf bs) (runFrom (settingsOf bs) (lengthOf k) room bs (start (settingsOf bs))))
-unfolding run
+    ≡ ahead (1 + lengthOf k) [] (lentResult (settingsOf k bs) (runFrom (settingsOf k bs) (lengthOf k) room bs (start (settingsOf k bs))))
+unfolding runner.run
 run-accepts room L k bs z = rw z
 
-run-goes : (room : ℕ) (L : Lent) (s : List ℕ) (S : Settings) → Taken L s S
-    → run room s L ≡ ahead 8 [] (lentResult S (runFrom S 0 room (drop 8 s) (start S)))
-unfolding lengthOf
-run-goes room L [] S t = absurd (t .some refl)
-run-goes room L (k ∷ bs) S t =
+-- n bytes of settings, then the run of what follows
+abbrev pub onFrom : Settings → ℕ → ℕ → List ℕ → Result Lent
+onFrom S n room s = ahead n [] (lentResult S (runFrom S 0 room (drop n s) (start S)))
+
+drop-more : (m n : ℕ) (k : ℕ) (bs : List ℕ) → 1 + m ≡ n → drop m bs ≡ drop n (k ∷ bs)
+drop-more m n k bs q = let e : n ≡ suc m = omega arith in rw e
+
+run-goes : (room : ℕ) (L : Lent) (s : List ℕ) (S : Settings) (n : ℕ) → Taken L s S n → run room s L ≡ onFrom S n room s
+run-goes room L [] S n t = absurd (t .some refl)
+run-goes room L (k ∷ bs) S n t =
     let g = settled L k bs (t .goes) in
-    let e : run room (k ∷ bs) L ≡ ahead 8 [] (lentResult (settingsOf bs) (runFrom (settingsOf bs) 0 room (drop 7 bs) (start (settingsOf bs)))) =
-    rw (run-accepts room L k bs (t .goes), g .settings, run-skips (settingsOf bs) 7 room bs (start (settingsOf bs)) (g .whole)) in
-    e ∙ ap (λ (S : Settings). ahead 8 [] (lentResult S (runFrom S 0 room (drop 7 bs) (start S)))) (t .are)
+    let T = settingsOf k bs in
+    run-accepts room L k bs (t .goes)
+    ∙ ap (λ (o : Result Tables). ahead (1 + lengthOf k) [] (lentResult T o)) (run-skips T (lengthOf k) room bs (start T) (g .whole))
+    ∙ ap (λ (l : List ℕ). ahead (1 + lengthOf k) [] (lentResult T (runFrom T 0 room l (start T)))) (drop-more (lengthOf k) n k bs (t .next))
+    ∙ ap (λ (m : ℕ). ahead m [] (lentResult T (runFrom T 0 room (drop n (k ∷ bs)) (start T)))) (t .next)
+    ∙ ap (λ (S : Settings). onFrom S n room (k ∷ bs)) (t .are)
+
+pub accepted-runs : (L : Lent) (s : List ℕ) {S : Settings} {n : ℕ} (room : ℕ) → beginning L s ≡ Accepted S n → run room s L ≡ onFrom S n room s
+accepted-runs L s {S} {n} room q = run-goes room L s S n (taken L s S n q)
+
+pub accepted-long : (L : Lent) (s : List ℕ) {S : Settings} {n : ℕ} → beginning L s ≡ Accepted S n → n ≤ length s
+accepted-long L s {S} {n} q =
+    let t = taken L s S n q in
+    let w = settled L (kindAt s 0) (restAt s 0) (t .goes) .whole in
+    let c = t .next in
+    let some = t .some in
+    let l : length (restAt s 0) ≡ length s - 1 = length-drop 1 s in
+    omega arith
 
 -- ---- the same, of what the functions promise
-
-pub begin-none : (L : Lent) (s : List ℕ) → length s ≡ 0 → Begins L s (Stopped Nothing) L
-unfolding beginning
-begin-none L [] h = record { says = refl; tables = refl }
-begin-none L (k ∷ bs) h = absurd (omega arith)
-
-module _ (L : Lent) (s : List ℕ) (some : length s ≡ 0 → ⊥) {n : Stop} (d : n ≡ firstStop L (kindAt s 0) (restAt s 0)) where
-  pub begin-stops : goesOn n ≡ false → Begins L s (Stopped n) L
-  begin-stops h =
-      let q : beginning L s ≡ Stopped n = beginning-stops L s some (rw (← d) h) ∙ rw (← d) in
-      record { says = sym q; tables = rw q }
-
-  pub begin-goes : goesOn n ≡ true → {S : Settings} → S ≡ settingsOf (bodyAt s 0) → {M : Lent} → M ≡ after L (freshCall S L)
-      → Begins L s (Accepted S) M
-  begin-goes h {S} e {M} m =
-      let z : goesOn (firstStop L (kindAt s 0) (restAt s 0)) ≡ true = rw (← d) h in
-      let g = settled L (kindAt s 0) (restAt s 0) z in
-      let f : S ≡ settingsOf (restAt s 0) = e ∙ body-settings s (omega arith) (g .settings) (g .whole) in
-      let q : beginning L s ≡ Accepted S = beginning-goes L s some z ∙ rw (← f) in
-      let range : inRange S ≡ true = rw f (g .range) in
-      let fits : lengthsFit S L ≡ true = rw f (g .fits) in
-      record { says = sym q; tables = m ∙ rw (range, fits, q) }
 
 module _ {L : Lent} {s : List ℕ} {r : Begun} {M : Lent} (b : Begins L s r M) where
   pub run-stopped : {n : Stop} (room : ℕ) (e : List ℕ) → r ≡ Stopped n → Runs (run room s L) e record { stop = n; consumed = 0; written = 0 } e M
@@ -173,16 +233,19 @@ module _ {L : Lent} {s : List ℕ} {r : Begun} {M : Lent} (b : Begins L s r M) w
       let p : beginning L s ≡ Stopped n = sym (b .says) ∙ q in
       rw (run-halts room L s n p) record { stop = refl; consumed = refl; written = refl; events = refl; tables = b .tables ∙ rw p }
 
-  module _ {S : Settings} (q : r ≡ Accepted S) where
-    settings : beginning L s ≡ Accepted S
+  module _ {S : Settings} {n : ℕ} (q : r ≡ Accepted S n) where
+    settings : beginning L s ≡ Accepted S n
     settings = sym (b .says) ∙ q
 
+    abbrev took : Taken L s S n
+    took = taken L s S n settings
+
     opened : Settled L (kindAt s 0) (restAt s 0)
-    opened = settled L (kindAt s 0) (restAt s 0) (taken L s S settings .goes)
+    opened = settled L (kindAt s 0) (restAt s 0) (took .goes)
 
     begun-is : Is S M (start S)
     begun-is = record {
-      range = rw (taken L s S settings .are) at (opened .range);
+      range = rw (took .are) at (opened .range);
       soundly = start-sound S;
       encoded = b .tables ∙ rw settings;
     }
@@ -190,12 +253,8 @@ module _ {L : Lent} {s : List ℕ} {r : Begun} {M : Lent} (b : Begins L s r M) w
     pub begun-held : Held S M
     begun-held = record { tables = start S; are = begun-is }
 
-    pub begun-stands : (e : List ℕ) → Stands s 8 0 e
-    unfolding lengthOf
-    begun-stands e =
-        let w = opened .whole in
-        let l : length (drop 1 s) ≡ length s - 1 = length-drop 1 s in
-        record { inside = omega arith; room = omega arith }
+    pub begun-stands : (e : List ℕ) → Stands s n 0 e
+    begun-stands e = record { inside = accepted-long L s settings; room = omega arith }
 
-    pub run-begun : (e : List ℕ) {p : Ran} {f : List ℕ} {N : Lent} → Resumes S (restFrom S s 8 0 e) s 8 0 e M p f N → Runs (run (length e) s L) e p f N
-    run-begun e u = rw (run-goes (length e) L s S (taken L s S settings)) (rw sub-zero at (u .on (start S) begun-is))
+    pub run-begun : (e : List ℕ) {p : Ran} {f : List ℕ} {N : Lent} → Resumes S (restFrom S s n 0 e) s n 0 e M p f N → Runs (run (length e) s L) e p f N
+    run-begun e u = rw (run-goes (length e) L s S n took) (rw sub-zero at (u .on (start S) begun-is))

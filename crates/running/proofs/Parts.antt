@@ -6,7 +6,7 @@ use mathlib.Core.List.{List, [], _∷_, _++_, append-assoc}
 use Prim.Native.Nat.{ℕ, zero, suc, _+_, _-_, _≤_}
 use native.Mathlib.Nat.{le-of-suc-le-suc, add-assoc, zero-add, sub-zero, sub-add-eq}
 use native.Mathlib.Omega.{arith}
-use borrow.Author.Tests.{not-true, le-ltb, ltb-true, ltb-false, lt-leb, le-leb, leb-true, eqb-true, ne-eqb}
+use borrow.Author.Tests.{not-true, le-ltb, ltb-true, ltb-false, lt-leb, le-leb, leb-true}
 use lib.Dec.{leb, ltb, eqb}
 use lib.ListN.{length, drop, length-append}
 use lib.Seq.{take-append-le}
@@ -14,7 +14,8 @@ use Rattle.model.specs.Words.{pick}
 use Rattle.model.specs.Tables.{Tables, start, after, eventsOf}
 use Rattle.model.specs.Lent.{Lent}
 use Rattle.model.specs.Numbers.{stopNumber}
-use Rattle.model.specs.Records.{isCommand, lengthOf, readAt, logBytes}
+use Rattle.model.specs.Records.{isCommand, isSettings, lengthOf, settingsIn, readAt, logBytes}
+use Rattle.model.specs.RunnerOf as runner
 use Rattle.model.specs.Runner.{eventRoom, settingsOf, settingsStop, firstStop, laterStop, goesOn, stepAt, Result, halt, ahead, runFrom, lentResult, run}
 use Rattle.model.specs.declared.Settings.{Settings}
 use Rattle.model.specs.declared.Record.{Record}
@@ -24,8 +25,8 @@ use Rattle.model.proofs.Flags.{clash, by-flag, flag, or-cases}
 use Rattle.running.specs.declared.Begun.the-variants.{Accepted, Stopped}
 use Rattle.running.specs.Resume.{kindAt, headStop}
 use Rattle.running.specs.Begin.{beginning, firstThere}
-use Rattle.running.proofs.Checks.{head-there, settings-more}
-use Rattle.running.proofs.First.{Settled, settled, run-accepts}
+use Rattle.running.proofs.Checks.{head-there}
+use Rattle.running.proofs.First.{settled, run-accepts}
 use Rattle.running.proofs.Running.{going, from-stops, from-goes}
 
 -- ---- at a record: more bytes behind a whole one change nothing, and the room decides only stop 16
@@ -51,21 +52,21 @@ roomy-same true false false false false g h = refl
 
 module _ (room k : ℕ) (a : List ℕ) where
   later-more : (b : List ℕ) → lengthOf k ≤ length a → laterStop room k (a ++ b) ≡ laterStop room k a
-  unfolding laterStop
+  unfolding runner.laterStop
   later-more b h =
       let l : lengthOf k ≤ length (a ++ b) = rw length-append (omega arith) in
       rw (le-ltb (length (a ++ b)) (lengthOf k) l, le-ltb (length a) (lengthOf k) h)
 
   later-full : laterStop room k a ≡ NoRoom → lengthOf k ≤ length a
-  unfolding laterStop
-  later-full h = ltb-false (length a) (lengthOf k) (full-whole (isCommand k) (ltb (length a) (lengthOf k)) (eqb k 0) (ltb room eventRoom) h)
+  unfolding runner.laterStop
+  later-full h = ltb-false (length a) (lengthOf k) (full-whole (isCommand k) (ltb (length a) (lengthOf k)) (isSettings k) (ltb room eventRoom) h)
 
   later-roomy : (other : ℕ) → (laterStop room k a ≡ NoRoom → ⊥) → (laterStop other k a ≡ NoRoom → ⊥) → laterStop room k a ≡ laterStop other k a
-  unfolding laterStop
-  later-roomy other g h = roomy-same (isCommand k) (ltb (length a) (lengthOf k)) (eqb k 0) (ltb room eventRoom) (ltb other eventRoom) g h
+  unfolding runner.laterStop
+  later-roomy other g h = roomy-same (isCommand k) (ltb (length a) (lengthOf k)) (isSettings k) (ltb room eventRoom) (ltb other eventRoom) g h
 
 step-more : (S : Settings) (k : ℕ) (a b : List ℕ) (t : Tables) → lengthOf k ≤ length a → stepAt S k (a ++ b) t ≡ stepAt S k a t
-unfolding stepAt
+unfolding runner.stepAt
 step-more S k a b t h = rw (take-append-le (lengthOf k) a b h)
 
 full-halts : {n : Stop} → n ≡ NoRoom → goesOn n ≡ true → ⊥
@@ -93,7 +94,7 @@ module _ (S : Settings) where
 
   pub run-in-parts : (n room : ℕ) (a b : List ℕ) (t : Tables) → n ≤ length a → goesOn (runFrom S n room a t .stop) ≡ true
       → runFrom S n room (a ++ b) t ≡ then room b (runFrom S n room a t)
-  unfolding runFrom
+  unfolding runner.runFrom
   run-in-parts n room [] b t h e = let z : n ≡ 0 = omega arith in rw (z, sub-zero, zero-add)
   run-in-parts (suc n) room (x ∷ a) b t h e = run-in-parts n room a b t (le-of-suc-le-suc h) e
   run-in-parts zero room (k ∷ a) b t h e =
@@ -107,7 +108,7 @@ module _ (S : Settings) where
   -- more room, or less: the same, unless it stops with 16
   pub run-in-rooms : (n room other : ℕ) (a : List ℕ) (t : Tables) → (runFrom S n room a t .stop ≡ NoRoom → ⊥) → (runFrom S n other a t .stop ≡ NoRoom → ⊥)
       → runFrom S n room a t ≡ runFrom S n other a t
-  unfolding runFrom
+  unfolding runner.runFrom
   run-in-rooms n room other [] t g h = refl
   run-in-rooms (suc n) room other (x ∷ a) t g h = run-in-rooms n room other a t g h
   run-in-rooms zero room other (k ∷ a) t g h =
@@ -125,7 +126,7 @@ module _ (S : Settings) where
 
   -- a part that stops with 16 stops the whole with 16
   full-in-parts : (n room : ℕ) (a b : List ℕ) (t : Tables) → n ≤ length a → runFrom S n room a t .stop ≡ NoRoom → runFrom S n room (a ++ b) t .stop ≡ NoRoom
-  unfolding runFrom
+  unfolding runner.runFrom
   full-in-parts n room [] b t h e = let z : _≡_ {A = ℕ} 0 1 = cc in absurd (omega arith)
   full-in-parts (suc n) room (x ∷ a) b t h e = full-in-parts n room a b t (le-of-suc-le-suc h) e
   full-in-parts zero room (k ∷ a) b t h e =
@@ -156,11 +157,11 @@ module _ (S : Settings) where
 -- ---- a front part, whatever stopped it, and the run from there on: also where a record was cut short, or its events had no room
 
 later-wider : (room other k : ℕ) (a : List ℕ) → room ≤ other → goesOn (laterStop room k a) ≡ true → goesOn (laterStop other k a) ≡ true
-unfolding laterStop
+unfolding runner.laterStop
 later-wider room other k a h z =
     let g = going room k a z in
     let r = g .roomy in
-    rw (g .command, le-ltb (length a) (lengthOf k) (g .whole), ne-eqb k 0 (g .later), le-ltb other eventRoom (omega arith))
+    rw (g .command, le-ltb (length a) (lengthOf k) (g .whole), g .later, le-ltb other eventRoom (omega arith))
 
 module _ (S : Settings) where
   -- from where o stopped, n bytes and what it consumed further on
@@ -178,7 +179,7 @@ module _ (S : Settings) where
 
   pub run-resumed : (n room other : ℕ) (a b : List ℕ) (t : Tables) → n ≤ length a → room ≤ other
       → runFrom S n other (a ++ b) t ≡ onward n other (a ++ b) (runFrom S n room a t)
-  unfolding runFrom
+  unfolding runner.runFrom
   run-resumed n room other [] b t h w = let z : n ≡ 0 = omega arith in rw (z, sub-zero, zero-add)
   run-resumed (suc n) room other (x ∷ a) b t h w =
       let c = runFrom S n room a t .consumed in
@@ -198,31 +199,30 @@ module _ (S : Settings) where
 
 -- ---- a whole stream, in two parts
 
-pub first-more : (L : Lent) (k : ℕ) (a b : List ℕ) → lengthOf k ≤ length a → 7 ≤ length a → firstStop L k (a ++ b) ≡ firstStop L k a
-unfolding firstStop
-first-more L k a b h w =
+-- the settings of a body that is whole
+pub settings-more : (k : ℕ) (a b : List ℕ) → lengthOf k ≤ length a → settingsOf k (a ++ b) ≡ settingsOf k a
+settings-more k a b h = ap settingsIn (take-append-le (lengthOf k) a b h)
+
+pub first-more : (L : Lent) (k : ℕ) (a b : List ℕ) → lengthOf k ≤ length a → firstStop L k (a ++ b) ≡ firstStop L k a
+unfolding runner.firstStop
+first-more L k a b h =
     let l : lengthOf k ≤ length (a ++ b) = rw length-append (omega arith) in
     rw (le-ltb (length (a ++ b)) (lengthOf k) l, le-ltb (length a) (lengthOf k) h)
-    (ap (λ (S : Settings). pick (isCommand k) (pick (eqb k 0) (settingsStop S L) OutOfPlace) UnknownKind) (settings-more a b w))
-
-pub settled-long : (L : Lent) (k : ℕ) (a : List ℕ) → Settled L k a → 7 ≤ length a
-unfolding lengthOf
-settled-long L k a g = g .whole
+    (ap (λ (S : Settings). pick (isCommand k) (pick (isSettings k) (settingsStop S L) OutOfPlace) UnknownKind) (settings-more k a b h))
 
 -- the part before begins with its settings and stops with 0
 pub run-two-parts : (room k : ℕ) (a b : List ℕ) (L : Lent) → goesOn (run room (k ∷ a) L .stop) ≡ true
     → run room (k ∷ (a ++ b)) L
-    ≡ ahead (1 + lengthOf k) [] (lentResult (settingsOf a) (then (settingsOf a) room b (runFrom (settingsOf a) (lengthOf k) room a (start (settingsOf a)))))
-unfolding run
+    ≡ ahead (1 + lengthOf k) []
+    (lentResult (settingsOf k a) (then (settingsOf k a) room b (runFrom (settingsOf k a) (lengthOf k) room a (start (settingsOf k a)))))
+unfolding runner.run
 run-two-parts room k a b L e =
     let z = goes-first (firstStop L k a) _ L e in
-    let g = settled L k a z in
-    let w : lengthOf k ≤ length a = rw (g .settings) (g .whole) in
-    let l = settled-long L k a g in
-    let S = settingsOf a in
+    let w = settled L k a z .whole in
+    let S = settingsOf k a in
     let y : goesOn (runFrom S (lengthOf k) room a (start S) .stop) ≡ true = rw (ap (λ (r : Result Lent). r .stop) (run-accepts room L k a z)) at e in
-    run-accepts room L k (a ++ b) (rw (first-more L k a b w l) z)
-    ∙ ap (λ (S : Settings). ahead (1 + lengthOf k) [] (lentResult S (runFrom S (lengthOf k) room (a ++ b) (start S)))) (settings-more a b l)
+    run-accepts room L k (a ++ b) (rw (first-more L k a b w) z)
+    ∙ ap (λ (S : Settings). ahead (1 + lengthOf k) [] (lentResult S (runFrom S (lengthOf k) room (a ++ b) (start S)))) (settings-more k a b w)
     ∙ ap (λ (o : Result Tables). ahead (1 + lengthOf k) [] (lentResult S o)) (run-in-parts S (lengthOf k) room a b (start S) w y)
 
 -- ---- the first record of a front part, once it is there
@@ -241,24 +241,12 @@ unfolding firstThere
 there-some [] h read d e = absurd (h refl)
 there-some (k ∷ bs) h read d e = head-there (k ∷ bs) 0 (omega arith) read d e ∙ (rw (leb-not (length bs) (lengthOf k)))
 
--- a kind that is not 0
-other-kind : (f : Bool) (x y : Stop) → f ≡ false → pick f x OutOfPlace ≡ pick f y OutOfPlace
-other-kind f x y e = rw e
-
 first-there : (L : Lent) (k : ℕ) (a b : List ℕ) → firstThere (k ∷ a) ≡ true → firstStop L k (a ++ b) ≡ firstStop L k a
-unfolding firstThere firstStop lengthOf
+unfolding firstThere runner.firstStop
 first-there L k a b h =
     ⊎-elim
     (λ z. let c : isCommand k ≡ false = not-true (isCommand k) z in rw c)
-    (λ z.
-    let w = leb-true (lengthOf k) (length a) z in
-    let l : lengthOf k ≤ length (a ++ b) = rw length-append (omega arith) in
-    ⊎-elim
-    (λ e. first-more L k a b w (rw (eqb-true k 0 e) at w))
-    (λ e.
-    rw (le-ltb (length (a ++ b)) (lengthOf k) l, le-ltb (length a) (lengthOf k) w)
-    (ap (λ (n : Stop). pick (isCommand k) n UnknownKind) (other-kind (eqb k 0) _ _ e)))
-    (flag (eqb k 0)))
+    (λ z. first-more L k a b (leb-true (lengthOf k) (length a) z))
     (or-cases (not (isCommand k)) (leb (lengthOf k) (length a)) h)
 
 -- what the first record comes to is the same, whatever follows
@@ -270,9 +258,9 @@ begins-more L (k ∷ a) b h =
     ⊎-elim
     (λ z.
     let y : goesOn (firstStop L k (a ++ b)) ≡ true = rw f z in
-    let p : beginning L (k ∷ a) ≡ Accepted (settingsOf a) = rw z in
-    let q : beginning L (k ∷ (a ++ b)) ≡ Accepted (settingsOf (a ++ b)) = rw y in
-    q ∙ ap Accepted (settings-more a b (settled-long L k a (settled L k a z))) ∙ sym p)
+    let p : beginning L (k ∷ a) ≡ Accepted (settingsOf k a) (1 + lengthOf k) = rw z in
+    let q : beginning L (k ∷ (a ++ b)) ≡ Accepted (settingsOf k (a ++ b)) (1 + lengthOf k) = rw y in
+    q ∙ ap (λ (S : Settings). Accepted S (1 + lengthOf k)) (settings-more k a b (settled L k a z .whole)) ∙ sym p)
     (λ z.
     let y : goesOn (firstStop L k (a ++ b)) ≡ false = rw f z in
     let p : beginning L (k ∷ a) ≡ Stopped (firstStop L k a) = rw z in

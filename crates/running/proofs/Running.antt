@@ -6,12 +6,13 @@ use Prim.Native.Nat.{ℕ, zero, suc, _+_, _-_, _≤_, _<_}
 use native.Mathlib.Nat.{le-of-suc-le-suc, add-assoc}
 use native.Mathlib.Numerals.{add-one}
 use native.Mathlib.Omega.{arith}
-use borrow.Author.Tests.{ltb-false, eqb-false}
+use borrow.Author.Tests.{ltb-false}
 use lib.ListN.{length, drop, length-drop}
 use lib.Seq.{drop-cons, drop-drop}
-use lib.Dec.{ltb, eqb}
+use lib.Dec.{ltb}
 use Rattle.model.specs.Tables.{Tables, Outcome, after, eventsOf}
-use Rattle.model.specs.Records.{isCommand, lengthOf, logBytes}
+use Rattle.model.specs.Records.{isCommand, isSettings, lengthOf, logBytes}
+use Rattle.model.specs.RunnerOf as runner
 use Rattle.model.specs.Runner.{eventRoom, laterStop, goesOn, stepAt, Result, halt, ahead, runFrom}
 use Rattle.model.specs.declared.Settings.{Settings}
 use Rattle.model.specs.declared.Stop.{Stop}
@@ -24,17 +25,17 @@ use Rattle.running.specs.Resume.{kindAt, restAt, single}
 pub record Going (room k : ℕ) (rest : List ℕ) : Type 0 where
   pub command : isCommand k ≡ true
   pub whole : lengthOf k ≤ length rest
-  pub later : k ≡ 0 → ⊥
+  pub later : isSettings k ≡ false
   pub roomy : eventRoom ≤ room
 
 pub going : (room k : ℕ) (rest : List ℕ) → goesOn (laterStop room k rest) ≡ true → Going room k rest
-unfolding laterStop
+unfolding runner.laterStop
 going room k rest =
     by-flag Goes (isCommand k) _ _
     (λ a. by-flag Goes (ltb (length rest) (lengthOf k)) _ _ (λ b h. clash h refl)
-    (λ b. by-flag Goes (eqb k 0) _ _ (λ c h. clash h refl)
+    (λ b. by-flag Goes (isSettings k) _ _ (λ c h. clash h refl)
     (λ c. by-flag Goes (ltb room eventRoom) _ _ (λ d h. clash h refl)
-    (λ d h. record { command = a; whole = ltb-false _ _ b; later = eqb-false k 0 c; roomy = ltb-false room eventRoom d }))))
+    (λ d h. record { command = a; whole = ltb-false _ _ b; later = c; roomy = ltb-false room eventRoom d }))))
     (λ a h. clash h refl)
   where
     Goes : Stop → Type 0
@@ -54,7 +55,7 @@ nothing-goes stop.NoRoom h = clash h refl
 
 module _ (S : Settings) where
   pub run-skips : (n room : ℕ) (s : List ℕ) (t : Tables) → n ≤ length s → runFrom S n room s t ≡ runFrom S 0 room (drop n s) t
-  unfolding runFrom
+  unfolding runner.runFrom
   run-skips zero room s t h = refl
   run-skips (suc n) room [] t h = absurd (omega arith)
   run-skips (suc n) room (b ∷ s) t h = run-skips n room s t (le-of-suc-le-suc h)
@@ -63,20 +64,20 @@ module _ (S : Settings) where
 
 module _ (S : Settings) (room k : ℕ) (rest : List ℕ) (t : Tables) where
   pub from-stops : goesOn (laterStop room k rest) ≡ false → runFrom S 0 room (k ∷ rest) t ≡ halt (laterStop room k rest) t
-  unfolding runFrom
+  unfolding runner.runFrom
   from-stops z = rw z
 
   pub from-goes : goesOn (laterStop room k rest) ≡ true
       → runFrom S 0 room (k ∷ rest) t
       ≡ ahead (1 + lengthOf k) (logBytes (eventsOf (stepAt S k rest t)))
       (runFrom S (lengthOf k) (room - length (logBytes (eventsOf (stepAt S k rest t)))) rest (after t (stepAt S k rest t)))
-  unfolding runFrom
+  unfolding runner.runFrom
   from-goes z = rw z
 
 -- ---- at a place of the stream
 
 none-left : (S : Settings) (room : ℕ) (s : List ℕ) (t : Tables) → length s ≡ 0 → runFrom S 0 room s t ≡ halt stop.Nothing t
-unfolding runFrom
+unfolding runner.runFrom
 none-left S room [] t e = refl
 none-left S room (b ∷ s) t e = absurd (omega arith)
 

@@ -13,7 +13,8 @@ use Rattle.model.specs.Tables.{Tables, after, eventsOf}
 use Rattle.model.specs.Lent.{Lent}
 use Rattle.model.specs.Sound.{sound}
 use Rattle.model.specs.Calls.{eventsTold}
-use Rattle.model.specs.Records.{lengthOf, commandOf, logBytes}
+use Rattle.model.specs.Records.{lengthOf, commandOf, logBytes, fillBytes}
+use Rattle.model.specs.RunnerOf as runner
 use Rattle.model.specs.Runner.{goesOn, laterStop, stepRead, stepAt, halt}
 use Rattle.model.specs.Inner.{Is, Held}
 use Rattle.model.specs.declared.Settings.{Settings}
@@ -32,13 +33,13 @@ use Rattle.running.proofs.Running.{Going, going}
 -- ---- the events of one step
 
 -- at most 49 bytes: a fill with eight tickets
-read-takes : (S : Settings) (x : CommandRead) (t : Tables) → inRange S ≡ true → sound S t ≡ true → Takes 49 (stepRead S x t)
+read-takes : (S : Settings) (x : CommandRead) (t : Tables) → inRange S ≡ true → sound S t ≡ true → Takes fillBytes (stepRead S x t)
 read-takes S (command.Got c) t range ok = step-takes S c t range ok
 read-takes S command.None t range ok = record { most = le-trans (refused-takes refusal.SettingOutOfRange .most) (lit≤ tt) }
 
 pub step-room : (S : Settings) (k : ℕ) (rest : List ℕ) (t : Tables) → inRange S ≡ true → sound S t ≡ true
-    → length (logBytes (eventsOf (stepAt S k rest t))) ≤ 49
-unfolding stepAt
+    → length (logBytes (eventsOf (stepAt S k rest t))) ≤ fillBytes
+unfolding runner.stepAt
 step-room S k rest t range ok = read-takes S (commandOf k (take (lengthOf k) rest)) t range ok .most
 
 -- ---- a record that stops, and one that is run
@@ -96,7 +97,7 @@ module _ (S : Settings) (s : List ℕ) (at out : ℕ) (e : List ℕ) (L : Lent) 
       told = notes .noted .told
 
       step-is : (t : Tables) → stepRead S x t ≡ stepAt S (kindAt s at) (restAt s at) t
-      unfolding stepAt
+      unfolding runner.stepAt
       step-is t = let q : c - (at + 1) ≡ lengthOf (kindAt s at) = omega arith in rw (read, q)
 
       told-is : (t : Tables) → Is S L t → eventsTold told ≡ eventsOf (stepAt S (kindAt s at) (restAt s at) t)

@@ -6,16 +6,15 @@ use lib.ListN.{length, take, drop, getD}
 use Rattle.model.specs.Words.{pick}
 use Rattle.model.specs.Tables.{Tables, Outcome, after, eventsOf}
 use Rattle.model.specs.Lent.{Lent}
-use lib.Dec.{eqb, ltb}
-use Rattle.model.specs.Records.{isCommand, lengthOf, logBytes}
-use Rattle.model.specs.Runner.{eventRoom, goesOn, laterStop, stepAt, Result, halt, ahead, runFrom, lentResult, Runs}
+use Rattle.model.specs.Records.{isCommand, isSettings, lengthOf, logBytes}
+use Rattle.model.specs.Runner.{roomStop, goesOn, laterStop, stepAt, Result, halt, ahead, runFrom, lentResult, Runs}
 use Rattle.model.specs.Inner.{Is, Does}
 use Rattle.model.specs.Calls.{eventsTold}
 use Rattle.model.specs.declared.Settings.{Settings}
 use Rattle.model.specs.declared.Record.{Record}
 use Rattle.model.specs.declared.Record.the-variants.{Whole, Stopped}
 use Rattle.model.specs.declared.Stop.{Stop}
-use Rattle.model.specs.declared.Stop.the-variants.{OutOfPlace, UnknownKind, NoRoom}
+use Rattle.model.specs.declared.Stop.the-variants.{OutOfPlace, UnknownKind}
 use Rattle.model.specs.declared.Stop.the-variants as stop
 use Rattle.model.specs.declared.Told.{Told}
 use Rattle.model.specs.declared.Ran.{Ran}
@@ -33,9 +32,12 @@ unfoldable pub headStop : ℕ → Record → Stop
 headStop k (Whole kind start n next) = pick (isCommand k) stop.Nothing UnknownKind
 headStop k (Stopped r) = pick (isCommand k) r UnknownKind
 
--- the checks at a later record, of the same
-unfoldable pub laterFound : ℕ → ℕ → Record → Stop
-laterFound room k f = pick (goesOn (headStop k f)) (pick (eqb k 0) OutOfPlace (pick (ltb room eventRoom) NoRoom stop.Nothing)) (headStop k f)
+-- `recordStop` of the same, and `laterStop`
+unfoldable pub foundStop : ℕ → Record → Stop → Stop → Stop
+foundStop k f ofSettings ofOther = pick (goesOn (headStop k f)) (pick (isSettings k) ofSettings ofOther) (headStop k f)
+
+abbrev pub laterFound : ℕ → ℕ → Record → Stop
+laterFound room k f = foundStop k f OutOfPlace (roomStop room)
 
 -- one record by itself, as the first turn of `runFrom`
 unfoldable pub single : Settings → ℕ → ℕ → List ℕ → Tables → Result Tables

@@ -1,6 +1,6 @@
 // The inner layer of the stream runner (document 01, "Records"): the checks at a record, what a record does, the first record, and the
 // records behind it on tables that are known to be sound. `begin` and `go_on` are the two halves of a run, for a caller that holds the
-// tables between them; `first_there` and `lengths_for` tell such a caller when to begin and what to lend.
+// tables between them; `first_there`, `first_record` and `lengths_for` tell such a caller when to begin, with what, and what to lend.
 use model::Access;
 use model::Command;
 use model::CommandRead;
@@ -9,26 +9,31 @@ use model::Record;
 use model::Refusal;
 use model::Settings;
 use model::Stop;
+use model::Verdict;
 ghost use mathlib.Core.Path.{_≡_};
 ghost use Prim.Native.Nat.{_<_};
 ghost use lib.ListN.{length};
 ghost use Rattle.model.specs.Lent.{lent};
 ghost use Rattle.model.specs.Inner.{Held};
 ghost use Rattle.model.specs.Steps.{access};
-ghost use Rattle.model.specs.Runner.{settingsOf, settingsStop, firstStop, goesOn, stepOf, stepRead};
-ghost use Rattle.running.specs.Begin.{Begins, firstThere};
-ghost use Rattle.running.specs.Lengths.{noLengths, lengthsFor};
-ghost use Rattle.running.specs.Resume.{kindAt, restAt, headStop, laterFound, Stands, Noted, Notes, recordFrom, restFrom, Resumes};
-
-// "16 fewer than 64 bytes of event room"
-const EVENT_ROOM: usize = 64;
+ghost use Rattle.model.specs.Records.{settingsIn};
+ghost use Rattle.model.specs.Runner.{roomStop, goesOn, stepOf, stepRead};
+ghost use Rattle.running.specs.Begin.{firstRecord, freshStop, Accepts, firstThere};
+ghost use Rattle.running.specs.Lengths.{noLengths, lengthsOf, lengthsAsked};
+ghost use Rattle.running.specs.Resume.{headStop, foundStop, laterFound, Stands, Noted, Notes, recordFrom, restFrom, Resumes};
 
 // "15 cut short"
 const CUT_SHORT: u8 = 15;
 
-// What the first record comes to: its settings, for which the tables are fresh, or why the run stops there.
+// What the first record holds, unjudged: its settings and the place of the next record; or why the run stops there.
+pub enum Opening {
+    Holds { settings: Settings, next: usize },
+    Stopped(Stop),
+}
+
+// What it comes to: settings for which the tables are fresh, and the place of the next record; or why the run stops there.
 pub enum Begun {
-    Accepted(Settings),
+    Accepted { settings: Settings, next: usize },
     Stopped(Stop),
 }
 
@@ -46,9 +51,9 @@ pub fn goes_on(stop: Stop) -> bool
     model::stop_number(stop) == 0
 }
 
-// The settings of a body of kind 0, unjudged.
-fn settings_of(body: &[u8]) -> Settings
-    ensures { λ r. ⌜ r ≡ settingsOf (now (body .entry)) ⌝ }
+// The settings in a body, unjudged.
+fn settings_in(body: &[u8]) -> Settings
+    ensures { λ r. ⌜ r ≡ settingsIn (now (body .entry)) ⌝ }
 {
     Settings {
         sets: records::number2(body, 0) as usize,
@@ -78,51 +83,36 @@ fn head_stop(kind: u8, found: Record) -> Stop
     }
 }
 
-// The checks of settings, and of the slices for them.
-fn settings_stop(s: Settings, longs: &[u64], words: &[u32], marks: &[u8]) -> Stop
-    ensures { λ r. ⌜ r ≡ settingsStop s (lent (now (longs .entry)) (now (words .entry)) (now (marks .entry))) ⌝ }
-{
-    if !soundness::in_range(s) {
-        return Stop::SettingOutOfRange;
-    }
-    if !soundness::lengths_fit(s, longs, words, marks) {
-        return Stop::SliceLength;
-    }
-    Stop::Nothing
-}
-
-// The checks at the first record.
-fn first_stop(stream: &[u8], longs: &[u64], words: &[u32], marks: &[u8]) -> Stop
-    requires { ⌜ 0 < length (now stream) ⌝ }
-    ensures { λ r. ⌜ r ≡ firstStop (lent (now (longs .entry)) (now (words .entry)) (now (marks .entry)))
-        (kindAt (now (stream .entry)) 0) (restAt (now (stream .entry)) 0) ⌝ }
-{
-    let kind = stream[0];
-    let stop = head_stop(kind, reader::record_at(stream, 0));
-    if !goes_on(stop) {
-        return stop;
-    }
-    if kind != 0 {
-        return Stop::OutOfPlace;
-    }
-    settings_stop(settings_of(reader::body_at(stream, 0)), longs, words, marks)
-}
-
-// The checks at a record that is not the first, of its kind and what reading it came to, with this much event room.
-fn later_stop(kind: u8, found: Record, room: usize) -> Stop
-    ensures { λ r. ⌜ r ≡ laterFound room kind found ⌝ }
+// The checks at any record, in order, of its kind and what reading it came to: behind the head, what is asked of settings and of another.
+fn record_stop(kind: u8, found: Record, settings: Stop, other: Stop) -> Stop
+    ensures { λ r. ⌜ r ≡ foundStop kind found settings other ⌝ }
 {
     let stop = head_stop(kind, found);
     if !goes_on(stop) {
         return stop;
     }
-    if kind == 0 {
-        return Stop::OutOfPlace;
+    if records::is_settings(kind) {
+        settings
+    } else {
+        other
     }
-    if room < EVENT_ROOM {
-        return Stop::NoRoom;
+}
+
+fn room_stop(room: usize) -> Stop
+    ensures { λ r. ⌜ r ≡ roomStop room ⌝ }
+{
+    if room < records::EVENT_ROOM {
+        Stop::NoRoom
+    } else {
+        Stop::Nothing
     }
-    Stop::Nothing
+}
+
+// The checks at a record that is not the first, with this much event room.
+fn later_stop(kind: u8, found: Record, room: usize) -> Stop
+    ensures { λ r. ⌜ r ≡ laterFound room kind found ⌝ }
+{
+    record_stop(kind, found, Stop::OutOfPlace, room_stop(room))
 }
 
 // One access on sound tables, and its events behind `out` bytes.
@@ -294,21 +284,67 @@ pub fn go_on(
     }
 }
 
-// The first record: its settings are accepted and the tables made fresh, or it stops the run and leaves the tables.
-pub fn begin(stream: &[u8], longs: &mut [u64], words: &mut [u32], marks: &mut [u8]) -> Begun
-    ensures { λ r. ⌜ Begins (lent (now (longs .entry)) (now (words .entry)) (now (marks .entry))) (now (stream .entry)) r
-        (lent (now (longs .exit)) (now (words .exit)) (now (marks .exit))) ⌝ }
+// The first record, read once; whoever begins a run is handed it.
+pub fn first_record(stream: &[u8]) -> Opening
+    ensures { λ r. ⌜ r ≡ firstRecord (now (stream .entry)) ⌝ }
 {
     if stream.len() == 0 {
-        return Begun::Stopped(Stop::Nothing);
+        return Opening::Stopped(Stop::Nothing);
     }
-    let stop = first_stop(stream, longs, words, marks);
+    let kind = stream[0];
+    let found = reader::record_at(stream, 0);
+    let stop = record_stop(kind, found, Stop::Nothing, Stop::OutOfPlace);
+    if !goes_on(stop) {
+        return Opening::Stopped(stop);
+    }
+    let settings = settings_in(reader::body_at(stream, 0));
+    let next = reader::place_after(stream, 0);
+    Opening::Holds { settings, next }
+}
+
+// What a verdict on fresh tables stops with: 1 or 2, if it refuses.
+fn fresh_stop(v: Verdict) -> Stop
+    ensures { λ r. ⌜ r ≡ freshStop v ⌝ }
+{
+    match v {
+        Verdict::Passed => Stop::Nothing,
+        Verdict::Refused(n) => {
+            if model::refusal_number(n) == 1 {
+                Stop::SettingOutOfRange
+            } else {
+                Stop::SliceLength
+            }
+        }
+    }
+}
+
+// Makes the tables fresh for settings, which are judged here and nowhere else.
+fn accept(
+    settings: Settings,
+    next: usize,
+    longs: &mut [u64],
+    words: &mut [u32],
+    marks: &mut [u8],
+) -> Begun
+    ensures { λ r. ⌜ Accepts (lent (now (longs .entry)) (now (words .entry)) (now (marks .entry))) (Opening.Holds settings next) r
+        (lent (now (longs .exit)) (now (words .exit)) (now (marks .exit))) ⌝ }
+{
+    let stop = fresh_stop(cache::fresh(settings, longs, words, marks));
     if !goes_on(stop) {
         return Begun::Stopped(stop);
     }
-    let s = settings_of(reader::body_at(stream, 0));
-    cache::fresh(s, longs, words, marks);
-    Begun::Accepted(s)
+    Begun::Accepted { settings, next }
+}
+
+// The first record, as it was read: its settings are accepted and the tables made fresh, or it stops the run and leaves the tables.
+pub fn begin(first: Opening, longs: &mut [u64], words: &mut [u32], marks: &mut [u8]) -> Begun
+    ensures { λ r. ⌜ Accepts (lent (now (longs .entry)) (now (words .entry)) (now (marks .entry))) first r
+        (lent (now (longs .exit)) (now (words .exit)) (now (marks .exit))) ⌝ }
+{
+    match first {
+        Opening::Stopped(stop) => Begun::Stopped(stop),
+        Opening::Holds { settings, next } => accept(settings, next, longs, words, marks),
+    }
 }
 
 // Whether more bytes change nothing for the first record: it is all there, or no command's.
@@ -332,14 +368,10 @@ fn no_lengths() -> Lengths
     }
 }
 
-// The lengths that a stream's settings ask for, whatever its first byte is: a caller that lends these never meets stop 2.
-pub fn lengths_for(stream: &[u8]) -> Lengths
-    ensures { λ r. ⌜ r ≡ lengthsFor (now (stream .entry)) ⌝ }
+// The lengths that settings ask for; none outside their ranges.
+fn lengths_of(s: Settings) -> Lengths
+    ensures { λ r. ⌜ r ≡ lengthsOf s ⌝ }
 {
-    if stream.len() == 0 {
-        return no_lengths();
-    }
-    let s = settings_of(&stream[1..]);
     if !soundness::in_range(s) {
         return no_lengths();
     }
@@ -347,5 +379,15 @@ pub fn lengths_for(stream: &[u8]) -> Lengths
         longs: soundness::longs_length(s),
         words: soundness::words_length(s),
         marks: soundness::marks_length(s),
+    }
+}
+
+// The lengths that a first record asks for: a caller that lends these never meets stop 2.
+pub fn lengths_for(first: Opening) -> Lengths
+    ensures { λ r. ⌜ r ≡ lengthsAsked first ⌝ }
+{
+    match first {
+        Opening::Stopped(_) => no_lengths(),
+        Opening::Holds { settings, next: _ } => lengths_of(settings),
     }
 }

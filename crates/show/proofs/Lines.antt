@@ -9,7 +9,8 @@ use lib.Dec.{ltb, leb, eqb}
 use lib.ListN.{length, getD}
 use Rattle.model.proofs.Flags.{by-flag}
 use Rattle.model.specs.Words.{pick}
-use Rattle.model.specs.Records.{lengthOf, noKind, readAt, commandAt, eventAt}
+use Rattle.model.specs.RecordsOf as records
+use Rattle.model.specs.Records.{lengthOf, noKind, commandAt, eventAt}
 use Rattle.model.specs.declared.Record.{Record}
 use Rattle.model.specs.declared.Record.the-variants.{Whole, Stopped}
 use Rattle.model.specs.declared.EventRead.{EventRead}
@@ -39,7 +40,7 @@ stopped-past : (size at k m : ℕ) → Past size at (lookStopped k m)
 stopped-past size at k m = by-flag (Past size at) (eqb (lengthOf k) noKind) _ _ (λ z. tt) (λ z. tt)
 
 look-past : (s : List ℕ) (at : ℕ) → Past (length s) at (lookAt s at)
-unfolding lookAt readAt
+unfolding lookAt records.readAt
 look-past s at =
     by-flag (Past (length s) at) (ltb at (length s)) _ _
     (λ z.

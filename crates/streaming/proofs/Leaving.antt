@@ -11,12 +11,14 @@ use lib.Seq.{length-take-le, take-append-le, take-append-seam}
 use Rattle.model.specs.Tables.{Tables}
 use Rattle.model.specs.Lent.{Lent, lent}
 use Rattle.model.specs.Inner.{Is}
-use Rattle.model.specs.Runner.{settingsOf, runFrom}
+use Rattle.model.specs.Runner.{runFrom}
 use Rattle.model.specs.declared.Settings.{Settings}
 use Rattle.model.specs.declared.Ran.{Ran as Run}
 use Rattle.running.specs.Resume.{restFrom, Resumes}
 use Rattle.running.specs.declared.Lengths.{Lengths}
-use Rattle.running.specs.Lengths.{lengthsFor, Long}
+use Rattle.running.specs.declared.Opening.{Opening}
+use Rattle.running.specs.Begin.{firstRecord}
+use Rattle.running.specs.Lengths.{lengthsAsked, lengthsFor, Long}
 use Rattle.running.proofs.Asked.{Most, asked-most}
 use Rattle.input.specs.Buffers.{carried, carriedCount}
 use Rattle.streaming.specs.declared.work.Next.the-variants as next
@@ -141,16 +143,20 @@ module _ {S : Settings} (k : Scope) (buf : List ℕ) (n : ℕ) (inside : n ≤ l
 
 -- ---- what is lent
 
-pub lent-most : (p : List ℕ) {n : Lengths} → n ≡ lengthsFor p → Most n
-lent-most p q = rw q (asked-most (settingsOf (drop 1 p)))
+module _ (p : List ℕ) {x : Opening} (read : x ≡ firstRecord p) {n : Lengths} (asked : n ≡ lengthsAsked x) where
+  asked-for : n ≡ lengthsFor p
+  asked-for = asked ∙ ap lengthsAsked read
 
-pub lent-long : (p s : List ℕ) → p ≡ s → {n : Lengths} → n ≡ lengthsFor p → (x y z : List ℕ) → 1152 ≡ length x → 5889 ≡ length y → 8384 ≡ length z
-    → Long (lent (take (n .longs) x) (take (n .words) y) (take (n .marks) z)) (lengthsFor s)
-lent-long p s e {n} q x y z a b c =
-    let m = lent-most p q in
-    let k : n ≡ lengthsFor s = q ∙ ap lengthsFor e in
-    record {
-      longs = length-take-le (n .longs) x (omega (arith, m .longs)) ∙ ap (λ (l : Lengths). l .longs) k;
-      words = length-take-le (n .words) y (omega (arith, m .words)) ∙ ap (λ (l : Lengths). l .words) k;
-      marks = length-take-le (n .marks) z (omega (arith, m .marks)) ∙ ap (λ (l : Lengths). l .marks) k;
-    }
+  pub lent-most : Most n
+  lent-most = rw asked (asked-most x)
+
+  pub lent-long : (s : List ℕ) → p ≡ s → (x y z : List ℕ) → 1152 ≡ length x → 5889 ≡ length y → 8384 ≡ length z
+      → Long (lent (take (n .longs) x) (take (n .words) y) (take (n .marks) z)) (lengthsFor s)
+  lent-long s e x y z a b c =
+      let m = lent-most in
+      let k : n ≡ lengthsFor s = asked-for ∙ ap lengthsFor e in
+      record {
+        longs = length-take-le (n .longs) x (omega (arith, m .longs)) ∙ ap (λ (l : Lengths). l .longs) k;
+        words = length-take-le (n .words) y (omega (arith, m .words)) ∙ ap (λ (l : Lengths). l .words) k;
+        marks = length-take-le (n .marks) z (omega (arith, m .marks)) ∙ ap (λ (l : Lengths). l .marks) k;
+      }

@@ -46,22 +46,23 @@ module _ {L : Lent} {p : List ℕ} {r : Begun} {M : Lent} (begins : Begins L p r
         after = λ k. (rw is, rw is (over-sure (w .next) n (asked-stops L s n long (sym (b .says) ∙ q))));
       }
 
-  module _ {S : Settings} (q : r ≡ Accepted S) (inside : w .have ≤ length buf) (roomy : 64 ≤ length buf) (counted : w .have + w .left < 2 ^ 64) where
-    whole : 8 ≤ w .have
+  module _ {S : Settings} {n : ℕ} (q : r ≡ Accepted S n) (inside : w .have ≤ length buf) (roomy : 64 ≤ length buf) (counted : w .have + w .left < 2 ^ 64) where
+    whole : n ≤ w .have
     whole = let h = begun-stands b q [] .inside in let l = length-take-le (w .have) buf inside in omega arith
 
-    pub start-runs : {rest : ℕ} {c : List ℕ} {x : Work} → rest ≡ carriedCount buf 8 (w .have) → c ≡ carried buf 8 (w .have) → length c ≡ length buf
-        → x ≡ begunOf rest (w .left) → Starts L s w (Runs S x) M c
+    pub start-runs : {rest : ℕ} {c : List ℕ} {x : Work} → rest ≡ carriedCount buf n (w .have) → c ≡ carried buf n (w .have) → length c ≡ length buf
+        → x ≡ begunOf n rest (w .left) → Starts L s w (Runs S x) M c
     start-runs {rest} {c} {x} count moved size is =
         let e : x .have ≡ rest = ap (λ (y : Work). y .have) is in
-        let m : rest ≡ w .have - 8 = count ∙ carried-is buf 8 (w .have) whole inside in
+        let d : x .consumed ≡ n = ap (λ (y : Work). y .consumed) is in
+        let m : rest ≡ w .have - n = count ∙ carried-is buf n (w .have) whole inside in
         let g = whole in
         record {
-          says = sym q ∙ b .says;
+          says = ap (Accepted S) d ∙ sym q ∙ b .says;
           tables = b .tables;
           after = λ k. (
             rw is,
-            rw (e, count, moved) (carried-rest buf 8 (w .have) g inside),
+            rw (e, d, count, moved) (carried-rest buf n (w .have) g inside),
             rw is record {
               held = begun-held b q;
               inside = omega arith;

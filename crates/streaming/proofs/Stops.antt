@@ -8,12 +8,13 @@ use Prim.Native.Nat.{ℕ, zero, suc, _+_, _-_, _≤_, _<_}
 use native.Mathlib.Nat.{le-of-suc-le-suc}
 use native.Mathlib.Omega.{arith}
 use borrow.Author.Tests.{le-ltb, ltb-true, ltb-false}
-use lib.Dec.{ltb, eqb}
+use lib.Dec.{ltb}
 use lib.ListN.{length, take, drop, length-append}
 use lib.Seq.{length-take-le}
 use Rattle.model.specs.Words.{pick}
 use Rattle.model.specs.Tables.{Tables, after, eventsOf}
-use Rattle.model.specs.Records.{isCommand, lengthOf, logBytes}
+use Rattle.model.specs.Records.{isCommand, isSettings, lengthOf, logBytes}
+use Rattle.model.specs.RunnerOf as runner
 use Rattle.model.specs.Runner.{eventRoom, laterStop, goesOn, stepAt, Result, halt, ahead, runFrom}
 use Rattle.model.specs.declared.Settings.{Settings}
 use Rattle.model.specs.declared.Stop.{Stop}
@@ -52,19 +53,19 @@ by-whole true false false e = let z : _≡_ {A = ℕ} 0 1 = cc in omega arith
 module _ (room k : ℕ) (a : List ℕ) where
   -- with room for one record
   roomy-same : (other : ℕ) → eventRoom ≤ other → (laterStop room k a ≡ stop.NoRoom → ⊥) → laterStop room k a ≡ laterStop other k a
-  unfolding laterStop
-  roomy-same other w g = rw (le-ltb other eventRoom w) (by-roomy (isCommand k) (ltb (length a) (lengthOf k)) (eqb k 0) (ltb room eventRoom) g)
+  unfolding runner.laterStop
+  roomy-same other w g = rw (le-ltb other eventRoom w) (by-roomy (isCommand k) (ltb (length a) (lengthOf k)) (isSettings k) (ltb room eventRoom) g)
 
   roomy-stop : eventRoom ≤ room → laterStop room k a ≡ stop.NoRoom → ⊥
-  unfolding laterStop
-  roomy-stop w e = by-room (isCommand k) (ltb (length a) (lengthOf k)) (eqb k 0) (rw (le-ltb room eventRoom w) at e)
+  unfolding runner.laterStop
+  roomy-stop w e = by-room (isCommand k) (ltb (length a) (lengthOf k)) (isSettings k) (rw (le-ltb room eventRoom w) at e)
 
   whole-stop : lengthOf k ≤ length a → laterStop room k a ≡ stop.CutShort → ⊥
-  unfolding laterStop
-  whole-stop w e = by-whole (isCommand k) (eqb k 0) (ltb room eventRoom) (rw (le-ltb (length a) (lengthOf k) w) at e)
+  unfolding runner.laterStop
+  whole-stop w e = by-whole (isCommand k) (isSettings k) (ltb room eventRoom) (rw (le-ltb (length a) (lengthOf k) w) at e)
 
   unknown-stop : isCommand k ≡ false → laterStop room k a ≡ stop.UnknownKind
-  unfolding laterStop
+  unfolding runner.laterStop
   unknown-stop z = rw z
 
   cut-stop : laterStop room k a ≡ stop.CutShort → (isCommand k ≡ true) × (length a < lengthOf k)
@@ -80,7 +81,7 @@ module _ (room k : ℕ) (a : List ℕ) where
 
   -- more bytes behind it
   more-same : (b : List ℕ) → (laterStop room k a ≡ stop.CutShort → ⊥) → laterStop room k (a ++ b) ≡ laterStop room k a
-  unfolding laterStop
+  unfolding runner.laterStop
   more-same b g =
       ⊎-elim
       (λ (z : isCommand k ≡ true).
@@ -102,7 +103,7 @@ module _ (S : Settings) where
 
   pub halts-there : (n room other : ℕ) (a : List ℕ) (t : Tables) → n ≤ length a → eventRoom ≤ other
       → (runFrom S n room a t .stop ≡ stop.NoRoom → ⊥) → There other n a (runFrom S n room a t)
-  unfolding runFrom
+  unfolding runner.runFrom
   halts-there n room other [] t h w g = let z : n ≡ 0 = omega arith in rw z
   halts-there (suc n) room other (x ∷ a) t h w g =
       let c = runFrom S n room a t .consumed in
@@ -129,7 +130,7 @@ module _ (S : Settings) where
   -- ---- bytes before which a run halts
 
   none-halts : (n room : ℕ) (t : Tables) → runFrom S n room [] t ≡ halt stop.Nothing t
-  unfolding runFrom
+  unfolding runner.runFrom
   none-halts n room t = refl
 
   module _ (room k : ℕ) (a : List ℕ) (t : Tables) {n : Stop} (h : runFrom S 0 room (k ∷ a) t ≡ halt n t) where
@@ -168,7 +169,7 @@ module _ (S : Settings) where
 
   -- nothing beyond the bytes is consumed
   pub eats-inside : (n room : ℕ) (a : List ℕ) (t : Tables) → n ≤ length a → n + runFrom S n room a t .consumed ≤ length a
-  unfolding runFrom
+  unfolding runner.runFrom
   eats-inside n room [] t h = omega arith
   eats-inside (suc n) room (x ∷ a) t h = let i = eats-inside n room a t (le-of-suc-le-suc h) in omega arith
   eats-inside zero room (k ∷ a) t h =
@@ -221,7 +222,7 @@ module _ (S : Settings) where
   -- ---- the records before the last are whole
 
   pub last-whole : (n room : ℕ) (s : List ℕ) (t : Tables) → n ≤ length s → runFrom S n room (take (beforeLast n s) s) t .stop ≡ stop.CutShort → ⊥
-  unfolding beforeLast runFrom
+  unfolding beforeLast runner.runFrom
   last-whole n room [] t h = λ e. let z : _≡_ {A = ℕ} 0 1 = cc in omega arith
   last-whole (suc n) room (b ∷ s) t h = last-whole n room s t (le-of-suc-le-suc h)
   last-whole zero room (k ∷ s) t h =

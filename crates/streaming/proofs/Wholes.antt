@@ -17,7 +17,8 @@ use Rattle.model.specs.Range.{inRange}
 use Rattle.model.specs.Lent.{Lent, encode, lengthsFit}
 use Rattle.model.specs.Inner.{Is}
 use Rattle.model.specs.Records.{isCommand, lengthOf}
-use Rattle.model.specs.Runner.{settingsOf, firstStop, goesOn, Result, halt, ahead, runFrom, lentResult, run}
+use Rattle.model.specs.RunnerOf as runner
+use Rattle.model.specs.Runner.{firstStop, goesOn, Result, halt, ahead, runFrom, lentResult, run}
 use Rattle.model.specs.declared.Settings.{Settings}
 use Rattle.model.specs.declared.Stop.{Stop}
 use Rattle.model.specs.declared.Stop.the-variants as stop
@@ -25,8 +26,7 @@ use Rattle.running.specs.declared.Begun.{Begun}
 use Rattle.running.specs.declared.Begun.the-variants.{Accepted, Stopped}
 use Rattle.running.specs.Lengths.{Final}
 use Rattle.running.specs.Begin.{beginning, begunTables, firstThere}
-use Rattle.running.proofs.First.{settled, run-accepts}
-use Rattle.running.proofs.Running.{run-skips}
+use Rattle.running.proofs.First.{accepted-long, accepted-runs}
 use Rattle.running.proofs.Parts.{begins-more}
 use Rattle.streaming.specs.declared.work.Next.{Next}
 use Rattle.streaming.specs.declared.work.Next.the-variants as next
@@ -43,7 +43,7 @@ use Rattle.streaming.specs.Wholes.{Whole}
 
 -- it is all there, or its kind is no command's
 there-goes : (L : Lent) (k : ℕ) (bs : List ℕ) → (firstStop L k bs ≡ stop.CutShort → ⊥) → firstThere (k ∷ bs) ≡ true
-unfolding firstThere firstStop
+unfolding firstThere runner.firstStop
 there-goes L k bs g =
     ⊎-elim
     (λ (z : isCommand k ≡ true).
@@ -92,7 +92,7 @@ module _ (L : Lent) where
       q
 
   pub stopped-run : (s : List ℕ) (n : Stop) (room : ℕ) → beginning L s ≡ Stopped n → run room s L ≡ halt n L
-  unfolding beginning run
+  unfolding beginning runner.run
   stopped-run [] n room q = let e : stop.Nothing ≡ n = cc in rw e
   stopped-run (k ∷ bs) n room q =
       by-flag (λ (x : Begun). x ≡ Stopped n → run room (k ∷ bs) L ≡ halt n L) (goesOn (firstStop L k bs)) _ _
@@ -108,39 +108,22 @@ module _ (L : Lent) where
       (λ (z : ofEnd n ≡ false). begins-more L s b (stopped-there s n q (λ e. clash (ap ofEnd e) z) (λ e. clash (ap ofEnd e) z)) ∙ q)
       (flag (ofEnd n))
 
-  record Opens (s : List ℕ) (S : Settings) : Type 0 where
-    long : 8 ≤ length s
-    there : firstThere s ≡ true
-    runs : (room : ℕ) → run room s L ≡ ahead 8 [] (lentResult S (runFrom S 0 room (drop 8 s) (start S)))
-
-  -- settings that are accepted
-  opens : (s : List ℕ) (S : Settings) → beginning L s ≡ Accepted S → Opens s S
-  unfolding beginning lengthOf
-  opens [] S q = let e : _≡_ {A = ℕ} 0 1 = cc in absurd (omega arith)
-  opens (k ∷ bs) S q =
-      by-flag (λ (x : Begun). x ≡ Accepted S → Opens (k ∷ bs) S) (goesOn (firstStop L k bs)) _ _
-      (λ z h.
-      let e : settingsOf bs ≡ S = cc in
-      let g = settled L k bs z in
-      let w : 7 ≤ length bs = g .whole in
-      record {
-        long = omega arith;
-        there = there-goes L k bs (λ c. clash z (ap goesOn c));
-        runs = λ room.
-            let r : run room (k ∷ bs) L ≡ ahead 8 [] (lentResult (settingsOf bs) (runFrom (settingsOf bs) 0 room (drop 7 bs) (start (settingsOf bs)))) =
-            rw (run-accepts room L k bs z, g .settings, run-skips (settingsOf bs) 7 room bs (start (settingsOf bs)) w) in
-            r ∙ ap (λ (S : Settings). ahead 8 [] (lentResult S (runFrom S 0 room (drop 7 bs) (start S)))) e;
-      })
+  -- settings that are accepted are there
+  accepted-there : (s : List ℕ) (S : Settings) (n : ℕ) → beginning L s ≡ Accepted S n → firstThere s ≡ true
+  unfolding beginning
+  accepted-there [] S n q = let e : _≡_ {A = ℕ} 0 1 = cc in absurd (omega arith)
+  accepted-there (k ∷ bs) S n q =
+      by-flag (λ (x : Begun). x ≡ Accepted S n → firstThere (k ∷ bs) ≡ true) (goesOn (firstStop L k bs)) _ _
+      (λ z h. there-goes L k bs (λ c. clash z (ap goesOn c)))
       (λ z h. let e : _≡_ {A = ℕ} 0 1 = cc in absurd (omega arith))
       q
 
   -- with anything behind
-  pub opens-run : (s b : List ℕ) (S : Settings) (room : ℕ) → beginning L s ≡ Accepted S
-      → run room (s ++ b) L ≡ ahead 8 [] (lentResult S (runFrom S 0 room (drop 8 s ++ b) (start S)))
-  opens-run s b S room q =
-      let o = opens s S q in
-      let m = opens (s ++ b) S (begins-more L s b (o .there) ∙ q) in
-      m .runs room ∙ ap (λ (x : List ℕ). ahead 8 [] (lentResult S (runFrom S 0 room x (start S)))) (drop-append-le 8 s b (o .long))
+  pub opens-run : (s b : List ℕ) (S : Settings) (n room : ℕ) → beginning L s ≡ Accepted S n
+      → run room (s ++ b) L ≡ ahead n [] (lentResult S (runFrom S 0 room (drop n s ++ b) (start S)))
+  opens-run s b S n room q =
+      let m = begins-more L s b (accepted-there s S n q) ∙ q in
+      accepted-runs L (s ++ b) room m ∙ ap (λ (x : List ℕ). ahead n [] (lentResult S (runFrom S 0 room x (start S)))) (drop-append-le n s b (accepted-long L s q))
 
 -- ---- stopped at the first record
 
@@ -202,13 +185,17 @@ module _ {L M : Lent} {b buf : List ℕ} {w x : Work} (o : Opened b w) (s : Star
 
 -- ---- the turns behind it
 
-put-together : (S : Settings) (n : Stop) (eaten consumed : ℕ) (events : List ℕ) (u : Tables) (N : Lent) → 8 + (eaten + 0) ≡ consumed → N ≡ encode S u
-    → ahead 8 [] (lentResult S (ahead eaten events (halt n u))) ≡ record { stop = n; consumed = consumed; events = events; tables = N }
-put-together S n eaten consumed events u N k e = rw (k, append-nil, e)
+put-together : (S : Settings) (n : Stop) (size eaten consumed : ℕ) (events : List ℕ) (u : Tables) (N : Lent) → size + (eaten + 0) ≡ consumed → N ≡ encode S u
+    → ahead size [] (lentResult S (ahead eaten events (halt n u))) ≡ record { stop = n; consumed = consumed; events = events; tables = N }
+put-together S n size eaten consumed events u N k e = rw (k, append-nil, e)
 
 module _ {L M N : Lent} {p buf c : List ℕ} {w v r : Work} {S : Settings} (s : Starts L p w (Runs S v) M buf)
     (rested : Rested S scope.All 65536 M (take (v .have) buf) v r c N) where
-  q : beginning L p ≡ Accepted S
+  -- the bytes of the settings record
+  abbrev size : ℕ
+  size = v .consumed
+
+  q : beginning L p ≡ Accepted S size
   q = sym (s .says)
 
   fresh : Is S M (start S)
@@ -221,19 +208,19 @@ module _ {L M N : Lent} {p buf c : List ℕ} {w v r : Work} {S : Settings} (s : 
   abbrev came : Came S 65536 M (take (v .have) buf) v r (take (r .have) c) N
   came = rested .came
 
-  went : Went S 65536 (start S) (drop 8 p ++ came .bytes) v r (take (r .have) c) N
+  went : Went S 65536 (start S) (drop size p ++ came .bytes) v r (take (r .have) c) N
   went = subst (λ (x : List ℕ). Went S 65536 (start S) (x ++ came .bytes) v r (take (r .have) c) N) (s .after scope.All .1) (came .on (start S) fresh)
 
   runs : (b : List ℕ) (room : ℕ) → length (went .events) + 65536 ≤ room
       → run room ((p ++ came .bytes) ++ b) L
-      ≡ ahead 8 [] (lentResult S (ahead (went .eaten) (went .events) (runFrom S 0 (room - length (went .events)) (take (r .have) c ++ b) (went .tables))))
+      ≡ ahead size [] (lentResult S (ahead (went .eaten) (went .events) (runFrom S 0 (room - length (went .events)) (take (r .have) c ++ b) (went .tables))))
   runs b room h =
       ap (λ (x : List ℕ). run room x L) (append-assoc p (came .bytes) b)
-      ∙ opens-run L p (came .bytes ++ b) S room q
-      ∙ ap (λ (x : List ℕ). ahead 8 [] (lentResult S (runFrom S 0 room x (start S)))) (sym (append-assoc (drop 8 p) (came .bytes) b))
-      ∙ ap (λ (o : Result Tables). ahead 8 [] (lentResult S o)) (went .goes b room h)
+      ∙ opens-run L p (came .bytes ++ b) S size room q
+      ∙ ap (λ (x : List ℕ). ahead size [] (lentResult S (runFrom S 0 room x (start S)))) (sym (append-assoc (drop size p) (came .bytes) b))
+      ∙ ap (λ (o : Result Tables). ahead size [] (lentResult S o)) (went .goes b room h)
 
-  begun : v ≡ begunOf (v .have) (w .left)
+  begun : v ≡ begunOf size (v .have) (w .left)
   begun = s .after scope.All .0
 
   pub rests-whole : Whole L p w r N
@@ -249,9 +236,9 @@ module _ {L M N : Lent} {p buf c : List ℕ} {w v r : Work} {S : Settings} (s : 
         let u = went .tables in
         let halts = stopped-waits S (r .next) (r .stop) (take (r .have) c) u z (rested .ready .before u (went .are)) in
         let e : runFrom S 0 (room - length (went .events)) (take (r .have) c ++ b) u ≡ halt (r .stop) u = halts b (room - length (went .events)) h (omega arith) in
-        let k : 8 + (went .eaten + 0) ≡ r .consumed = let a = went .consumed in let d = ap (λ (y : Work). y .consumed) begun in omega arith in
+        let k : size + (went .eaten + 0) ≡ r .consumed = let a = went .consumed in omega arith in
         runs b room g
-        ∙ ap (λ (o : Result Tables). ahead 8 [] (lentResult S (ahead (went .eaten) (went .events) o))) e
-        ∙ put-together S (r .stop) (went .eaten) (r .consumed) (went .events) u N k (went .are .encoded);
+        ∙ ap (λ (o : Result Tables). ahead size [] (lentResult S (ahead (went .eaten) (went .events) o))) e
+        ∙ put-together S (r .stop) size (went .eaten) (r .consumed) (went .events) u N k (went .are .encoded);
     front = λ b room g. ap (λ (o : Result Lent). take (length (went .events)) (o .events)) (runs b room g) ∙ take-append-seam (went .events) _;
   }

@@ -94,12 +94,12 @@ pub record Rested (S : Settings) (k : Scope) (size : ℕ) (L : Lent) (p : List �
 -- ---- the first record
 
 abbrev pub begunBy : Started → Begun
-begunBy (Runs S w) = Accepted S
+begunBy (Runs S w) = Accepted S (w .consumed)
 begunBy (Stops w) = Stopped (w .stop)
 
 -- what is left to do: the bytes behind the settings, from w on; or nothing
 abbrev pub After : Lent → List ℕ → Work → List ℕ → Scope → Started → Type 0
-After M p w buf k (Runs S r) = (r ≡ begunOf (r .have) (w .left)) × (take (r .have) buf ≡ drop 8 p) × Ready S k M buf r
+After M p w buf k (Runs S r) = (r ≡ begunOf (r .consumed) (r .have) (w .left)) × (take (r .have) buf ≡ drop (r .consumed) p) × Ready S k M buf r
 After M p w buf k (Stops r) = (r ≡ stoppedOf w (r .stop)) × Sure (r .next) (r .stop)
 
 pub record Starts (L : Lent) (p : List ℕ) (w : Work) (r : Started) (M : Lent) (buf : List ℕ) : Type 0 where

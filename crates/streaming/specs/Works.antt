@@ -60,8 +60,8 @@ failedNext next.Failed = true
 abbrev pub startOf : ℕ → ℕ → Next → Work
 startOf have left n = record { have = have; left = left; consumed = 0; written = 0; stop = stop.Nothing; next = n }
 
-abbrev pub begunOf : ℕ → ℕ → Work
-begunOf have left = record { have = have; left = left; consumed = 8; written = 0; stop = stop.Nothing; next = next.Run }
+abbrev pub begunOf : ℕ → ℕ → ℕ → Work
+begunOf size have left = record { have = have; left = left; consumed = size; written = 0; stop = stop.Nothing; next = next.Run }
 
 abbrev pub readOf : Work → ℕ → ℕ → Work
 readOf w have left = record { have = have; left = left; consumed = w .consumed; written = w .written; stop = w .stop; next = next.Run }

@@ -7,20 +7,20 @@ use input::More;
 use libc::STDOUT_FILENO;
 use model::Settings;
 use running::Begun;
+use running::Opening;
 ghost use mathlib.Core.Path.{_≡_};
 ghost use mathlib.Core.Bool.{true};
 ghost use Prim.Native.Nat.{_+_, _^_, _≤_, _<_};
 ghost use lib.ListN.{length, take};
 ghost use Rattle.model.specs.Lent.{lent};
 ghost use Rattle.model.specs.Inner.{Held};
+ghost use Rattle.model.specs.Runner.{eventRoom};
+ghost use Rattle.running.specs.Begin.{firstRecord};
 ghost use Rattle.running.specs.Lengths.{lengthsFor, Long};
 ghost use Rattle.streaming.specs.declared.work.Next.the-variants as next;
 ghost use Rattle.streaming.specs.Works.{readsNext, goesNext};
 ghost use Rattle.streaming.specs.Halts.{Claims};
 ghost use Rattle.streaming.specs.Parts.{Ready, Ran, Turned, Rested, Starts};
-
-// A settings record: its kind and a body of seven bytes.
-const SETTINGS_RECORD: usize = 8;
 
 // What the first record comes to: settings at which the run goes on from there, or a run that has stopped.
 pub enum Started {
@@ -98,7 +98,7 @@ fn read_part(
 ) -> Work
     requires { ⌜ Ready s scope (lent (now longs) (now words) (now marks)) (now buf) w ⌝ }
     requires { ⌜ w .next ≡ next.Read ⌝ }
-    requires { ⌜ 64 ≤ length (now events) ⌝ }
+    requires { ⌜ eventRoom ≤ length (now events) ⌝ }
     ensures { λ r. ⌜ Turned s scope (length (now (events .entry))) (lent (now (longs .entry)) (now (words .entry)) (now (marks .entry))) (take (w .have) (now (buf .entry)))
         w r (now (buf .exit)) (lent (now (longs .exit)) (now (words .exit)) (now (marks .exit))) ⌝ }
 {
@@ -127,7 +127,7 @@ fn turn(
 ) -> Work
     requires { ⌜ Ready s scope (lent (now longs) (now words) (now marks)) (now buf) w ⌝ }
     requires { ⌜ goesNext (w .next) ≡ true ⌝ }
-    requires { ⌜ 64 ≤ length (now events) ⌝ }
+    requires { ⌜ eventRoom ≤ length (now events) ⌝ }
     ensures { λ r. ⌜ Turned s scope (length (now (events .entry))) (lent (now (longs .entry)) (now (words .entry)) (now (marks .entry))) (take (w .have) (now (buf .entry)))
         w r (now (buf .exit)) (lent (now (longs .exit)) (now (words .exit)) (now (marks .exit))) ⌝ }
 {
@@ -163,8 +163,9 @@ pub fn run_rest(
     w
 }
 
-// The first record, on slices as long as the stream's settings ask: stop 2 never comes.
+// The first record, as it was read, on slices as long as its settings ask: stop 2 never comes.
 pub fn start(
+    first: Opening,
     buf: &mut [u8],
     longs: &mut [u64],
     words: &mut [u32],
@@ -175,15 +176,15 @@ pub fn start(
     requires { ⌜ 64 ≤ length (now buf) ⌝ }
     requires { ⌜ w .have + w .left < 2 ^ 64 ⌝ }
     requires { ⌜ Long (lent (now longs) (now words) (now marks)) (lengthsFor (take (w .have) (now buf))) ⌝ }
+    requires { ⌜ first ≡ firstRecord (take (w .have) (now buf)) ⌝ }
     ensures { λ r. ⌜ Starts (lent (now (longs .entry)) (now (words .entry)) (now (marks .entry))) (take (w .have) (now (buf .entry))) w r
         (lent (now (longs .exit)) (now (words .exit)) (now (marks .exit))) (now (buf .exit)) ⌝ }
 {
-    let have = w.have;
-    match running::begin(text::front(buf, have), longs, words, marks) {
+    match running::begin(first, longs, words, marks) {
         Begun::Stopped(stop) => Started::Stops(work::stopped(w, stop)),
-        Begun::Accepted(settings) => {
-            let rest = input::carry(buf, SETTINGS_RECORD, have);
-            let work = work::begun(rest, w.left);
+        Begun::Accepted { settings, next } => {
+            let rest = input::carry(buf, next, w.have);
+            let work = work::begun(next, rest, w.left);
             Started::Runs { settings, work }
         }
     }

@@ -40,14 +40,14 @@ pub fn at_start(have: usize, left: u64, next: Next) -> Work
     }
 }
 
-// Behind settings that are accepted: a record of eight bytes that writes no event.
-pub fn begun(have: usize, left: u64) -> Work
-    ensures { λ r. ⌜ r ≡ begunOf have left ⌝ }
+// Behind settings that are accepted: a record of `size` bytes that writes no event.
+pub fn begun(size: usize, have: usize, left: u64) -> Work
+    ensures { λ r. ⌜ r ≡ begunOf size have left ⌝ }
 {
     Work {
         have,
         left,
-        consumed: 8,
+        consumed: size as u64,
         written: 0,
         stop: Stop::Nothing,
         next: Next::Run,

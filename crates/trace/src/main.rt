@@ -7,23 +7,24 @@ mod work;
 
 use model::Settings;
 use running::Begun;
+use running::Opening;
 use streaming::first;
 use streaming::rooms;
 use work::Work;
+ghost use mathlib.Core.Path.{_≡_};
 ghost use Prim.Native.Nat.{_≤_};
-ghost use lib.ListN.{length};
+ghost use lib.ListN.{length, take};
 ghost use Rattle.model.specs.Lent.{lent};
 ghost use Rattle.model.specs.Inner.{Held};
+ghost use Rattle.running.specs.Begin.{firstRecord};
 ghost use Rattle.streaming.specs.First.{Opened};
 ghost use Rattle.trace.specs.Turns.{Over};
 
-// A settings record: its kind and a body of seven bytes.
-const SETTINGS_RECORD: usize = 8;
-
-// Behind settings that are accepted, of which `have` bytes were read.
+// Behind settings that are accepted, a record of `size` bytes, of which `have` bytes were read.
 fn trace_behind(
     fd: i32,
     s: Settings,
+    size: usize,
     buf: &mut [u8],
     longs: &mut [u64],
     words: &mut [u32],
@@ -36,27 +37,30 @@ fn trace_behind(
     let mut space = io::large_buffer();
     let out: &mut [u8] = &mut space;
     let put = page::put_command_at(text::front(buf, have), 0, 0, out, 0);
-    let rest = input::carry(buf, SETTINGS_RECORD, have);
-    let start = work::begun(rest, put);
+    let rest = input::carry(buf, size, have);
+    let start = work::begun(size, rest, put);
     work::trace_rest(fd, s, buf, longs, words, marks, out, start)
 }
 
 // The first record, then the rest.
 fn trace_all(
     fd: i32,
+    opening: Opening,
     buf: &mut [u8],
     longs: &mut [u64],
     words: &mut [u32],
     marks: &mut [u8],
     first: streaming::work::Work,
 ) -> Work
-    requires { ⌜ Opened (now buf) first ⌝ }
+    requires { ⌜ Opened (now buf) first × (opening ≡ firstRecord (take (first .have) (now buf))) ⌝ }
     ensures { λ r. ⌜ Over r ⌝ }
 {
     let have = first.have;
-    match running::begin(text::front(buf, have), longs, words, marks) {
+    match running::begin(opening, longs, words, marks) {
         Begun::Stopped(stop) => work::at_once(first, stop),
-        Begun::Accepted(s) => trace_behind(fd, s, buf, longs, words, marks, have),
+        Begun::Accepted { settings, next } => {
+            trace_behind(fd, settings, next, buf, longs, words, marks, have)
+        }
     }
 }
 
@@ -65,7 +69,8 @@ fn trace_stream(fd: i32, buf: &mut [u8], first: streaming::work::Work) -> Work
     requires { ⌜ Opened (now buf) first ⌝ }
     ensures { λ r. ⌜ Over r ⌝ }
 {
-    let n = running::lengths_for(text::front(buf, first.have));
+    let opening = running::first_record(text::front(buf, first.have));
+    let n = running::lengths_for(opening);
     let mut longs = rooms::longs_room();
     let mut words = rooms::words_room();
     let mut marks = rooms::marks_room();
@@ -74,6 +79,7 @@ fn trace_stream(fd: i32, buf: &mut [u8], first: streaming::work::Work) -> Work
     let c = n.marks;
     trace_all(
         fd,
+        opening,
         buf,
         &mut longs[..a],
         &mut words[..b],

@@ -30,14 +30,14 @@ pub(crate) struct Work {
     pub lost: bool,
 }
 
-// Behind settings that are accepted: a record of eight bytes that writes no event.
-pub(crate) fn begun(have: usize, put: usize) -> Work
+// Behind settings that are accepted: a record of `size` bytes that writes no event.
+pub(crate) fn begun(size: usize, have: usize, put: usize) -> Work
     ensures { λ r. ⌜ r .next ≡ next.Run ⌝ }
 {
     Work {
         have,
         left: u64::MAX,
-        consumed: 8,
+        consumed: size as u64,
         written: 0,
         put,
         stop: Stop::Nothing,

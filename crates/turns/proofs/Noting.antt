@@ -9,6 +9,7 @@ use lib.ListN.{length, length-append, take, getD}
 use Rattle.model.specs.Words.{pick, any}
 use Rattle.model.specs.Tables.{Outcome, refused, done, accepted, eventsOf}
 use Rattle.model.specs.Calls.{eventsTold}
+use Rattle.model.specs.RecordsOf as records
 use Rattle.model.specs.Records.{logBytes}
 use Rattle.model.specs.Rounds.{took}
 use Rattle.model.specs.Seen.{refusing}
@@ -74,7 +75,7 @@ noted-took t (done es u) r c e = let h : isRefusal (r .first) ≡ false = not-ye
 
 -- a refusal: nothing
 pub noted-none : (e : List ℕ) (out : ℕ) (r : Told) → isRefusal (r .first) ≡ true → Noted e out (noted r) out e
-unfolding logBytes
+unfolding records.logBytes
 noted-none e out r h = rw h record { next = omega arith; slice = refl; fits = tt }
 
 -- all that a call told, its refusal too
@@ -106,7 +107,7 @@ noted-then xs ys u v =
 
 -- at most as much as it told
 pub noted-short : (r : Told) (k : ℕ) {e : List ℕ} {out w : ℕ} {f : List ℕ} → length (logBytes (eventsTold r)) ≤ k → Noted e out (noted r) w f → w ≤ out + k
-unfolding logBytes
+unfolding records.logBytes
 noted-short r k {e} {out} {w} h n = let b : length (logBytes (noted r)) ≤ k = few (isRefusal (r .first)) in omega (arith, n .next)
   where
     few : (b : Bool) → length (logBytes (pick b [] (eventsTold r))) ≤ k
@@ -115,5 +116,5 @@ noted-short r k {e} {out} {w} h n = let b : length (logBytes (noted r)) ≤ k = 
 
 -- of a refusal nothing
 pub noted-refused : (r : Told) {e : List ℕ} {out w : ℕ} {f : List ℕ} → isRefusal (r .first) ≡ true → Noted e out (noted r) w f → w ≤ out + 0
-unfolding logBytes
+unfolding records.logBytes
 noted-refused r {e} {out} {w} h n = let q : length (logBytes (noted r)) ≡ 0 = rw h in omega (arith, n .next)

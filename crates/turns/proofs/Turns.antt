@@ -14,7 +14,8 @@ use Rattle.model.specs.Sound.{allOnes, sound}
 use Rattle.model.specs.Calls.{eventsTold}
 use Rattle.model.specs.Steps.{access, send, fill}
 use Rattle.model.specs.Inner.{Is, Held, Does}
-use Rattle.model.specs.Records.{logBytes}
+use Rattle.model.specs.RecordsOf as records
+use Rattle.model.specs.Records.{logBytes, fillBytes}
 use Rattle.model.specs.Rounds.{steps, Turn, still, took, andThen, sendTurn, fillFirst, drain}
 use Rattle.model.specs.declared.Settings.{Settings}
 use Rattle.model.specs.declared.Access.{Access}
@@ -51,7 +52,7 @@ step-turned S {step} {r = r} d t i ok p n = record {
 
 -- no call: nothing is written
 still-turned : (S : Settings) {L : Lent} (t : Tables) → Is S L t → (e : List ℕ) (out : ℕ) → Turned S (still t) e out out e L
-unfolding logBytes
+unfolding records.logBytes
 still-turned S t i e out = record { are = i; bytes = record { next = omega arith; slice = refl; fits = tt } }
 
 turned-then : (S : Settings) {a : Turn Tables} (g : Tables → Turn Tables) {e : List ℕ} {out w : ℕ} {f : List ℕ} {M : Lent} {v : ℕ} {h : List ℕ} {N : Lent}
@@ -144,13 +145,13 @@ module _ (S : Settings) {L : Lent} {v : Sent} (found : FindsSent S L v) where
   fills-none q e out = record { on = λ x t i. rw (fill-at x t i q) (still-turned S t i e out); short = omega arith }
 
   module _ {a : ℕ} (q : v ≡ At a) {r : Told} {M : Lent} (d : Does S (fill a) L r M) (h : Held S L) where
-    pub fill-bytes : length (logBytes (eventsTold r)) ≤ 49
+    pub fill-bytes : length (logBytes (eventsTold r)) ≤ fillBytes
     fill-bytes = let i = h .are in rw (does-tells S d (h .tables) i) (step-takes S (cmd.Fill a) (h .tables) (i .range) (i .soundly) .most)
 
     pub fills-sent : {e : List ℕ} {out w : ℕ} {f : List ℕ} → Noted e out (noted r) w f → Fills S L e out w f M
     fills-sent n = record {
       on = λ x t i. rw (fill-at x t i q) (step-turned S d t i (fill-keeps-sound S a t (i .soundly)) (fill-clear a t) n);
-      short = noted-short r 49 fill-bytes n;
+      short = noted-short r fillBytes fill-bytes n;
     }
 
 -- ---- the whole round

@@ -10,7 +10,7 @@ use Rattle.model.specs.Tables.{Entry, Tables, Outcome, after, eventsOf}
 use Rattle.model.specs.Lent.{Lent}
 use Rattle.model.specs.Calls.{eventsTold, tidied}
 use Rattle.model.specs.Inner.{Is}
-use Rattle.model.specs.Records.{logBytes}
+use Rattle.model.specs.Records.{logBytes, fillBytes, roundBytes, settleBytes}
 use Rattle.model.specs.Rounds.{steps, Turn, took, sendTurn, fillFirst, drain}
 use Rattle.model.specs.Steps.{access}
 use Rattle.model.specs.declared.Settings.{Settings}
@@ -68,7 +68,7 @@ pub record Sends (S : Settings) (L : Lent) (e : List ℕ) (out w : ℕ) (f : Lis
 
 pub record Fills (S : Settings) (L : Lent) (e : List ℕ) (out w : ℕ) (f : List ℕ) (M : Lent) : Type 0 where
   pub on : (x : Access) (t : Tables) → Is S L t → Turned S (fillFirst (steps S x) (t .misses) t) e out w f M
-  pub short : w ≤ out + 49
+  pub short : w ≤ out + fillBytes
 
 -- a round whose offer came to o on the tables u, which its send and fill left
 pub record Offered (S : Settings) (a : Turn Tables) (o : Outcome Tables) (e : List ℕ) (out : ℕ) (r : Round) (f : List ℕ) (M : Lent) : Type 0 where
@@ -79,9 +79,9 @@ pub record Offered (S : Settings) (a : Turn Tables) (o : Outcome Tables) (e : Li
 
 pub record Offers (S : Settings) (x : Access) (L : Lent) (e : List ℕ) (out : ℕ) (r : Round) (f : List ℕ) (M : Lent) : Type 0 where
   pub on : (t : Tables) → Is S L t → Offered S (drain (steps S x) t) (access S x (drain (steps S x) t .left)) e out r f M
-  pub short : r .written ≤ out + 112
+  pub short : r .written ≤ out + roundBytes
   -- a send and a fill alone
-  pub refused : isRefusal (r .told .first) ≡ true → r .written ≤ out + 74
+  pub refused : isRefusal (r .told .first) ≡ true → r .written ≤ out + settleBytes
 
 -- ---- how many rounds settle it
 

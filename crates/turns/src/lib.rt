@@ -13,7 +13,7 @@ ghost use Rattle.model.specs.Sound.{allOnes};
 ghost use Rattle.model.specs.Lent.{lent};
 ghost use Rattle.model.specs.Calls.{eventsTold};
 ghost use Rattle.model.specs.Inner.{Held};
-ghost use Rattle.model.specs.Records.{logBytes};
+ghost use Rattle.model.specs.Records.{logBytes, fillBytes, roundBytes};
 ghost use Rattle.turns.specs.Parts.{isRefusal, noted, Noted, FindsSent, Sends, Fills, Offers, Enough};
 
 // One round: what its offer told, and the bytes of events up to and with this round.
@@ -119,7 +119,7 @@ fn fill_turn(
     out: usize,
 ) -> usize
     requires { ⌜ Held s (lent (now longs) (now words) (now marks)) ⌝ }
-    requires { ⌜ out + 49 ≤ length (now events) ⌝ }
+    requires { ⌜ out + fillBytes ≤ length (now events) ⌝ }
     ensures { λ r. ⌜ Fills s (lent (now (longs .entry)) (now (words .entry)) (now (marks .entry))) (now (events .entry)) out r
         (now (events .exit)) (lent (now (longs .exit)) (now (words .exit)) (now (marks .exit))) ⌝ }
 {
@@ -143,7 +143,7 @@ pub fn one_round(
     out: usize,
 ) -> Round
     requires { ⌜ Held s (lent (now longs) (now words) (now marks)) ⌝ }
-    requires { ⌜ (out + 112 ≤ length (now events)) × (maskOf x ≤ allOnes) ⌝ }
+    requires { ⌜ (out + roundBytes ≤ length (now events)) × (maskOf x ≤ allOnes) ⌝ }
     ensures { λ r. ⌜ Offers s x (lent (now (longs .entry)) (now (words .entry)) (now (marks .entry))) (now (events .entry)) out r
         (now (events .exit)) (lent (now (longs .exit)) (now (words .exit)) (now (marks .exit))) ⌝ }
 {

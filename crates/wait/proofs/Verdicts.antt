@@ -14,6 +14,7 @@ use Rattle.model.specs.Rounds.{steps, Run, rounds}
 use Rattle.model.specs.declared.Settings.{Settings}
 use Rattle.model.specs.declared.Access.{Access}
 use Rattle.model.specs.declared.Refusal.{Refusal}
+use Rattle.model.specs.Records.{waitRoom}
 use Rattle.model.specs.declared.Refusal.the-variants.{BadAccess, SetHeld}
 use Rattle.rounds.specs.declared.Waiting.{Waiting}
 use Rattle.rounds.specs.declared.Waiting.the-variants as wait
@@ -48,7 +49,7 @@ module _ {S : Settings} {x : Access} {most : ℕ} {L₀ : Lent} {e₀ : List ℕ
   call : waitCall S x L₀ .waiting ≡ settled run .waiting
   call = ap (λ (w : Wait Lent). w .waiting) (wait-formed S x L₀ (held .tables) (held .are) formed enough)
 
-  pub ends-accepted : round < most → {r : Round} {f : List ℕ} {M : Lent} → Offers S x L e out r f M → isRefusal (r .told .first) ≡ false → 9600 ≤ length e₀
+  pub ends-accepted : round < most → {r : Round} {f : List ℕ} {M : Lent} → Offers S x L e out r f M → isRefusal (r .told .first) ≡ false → waitRoom ≤ length e₀
       → wait.Accepted (round + 1) (r .told .first) ≡ waitCall S x L₀ .waiting
   ends-accepted more made q room = goes-accepted g more made q (enough .few) room .on (held .tables) (held .are) .waiting ∙ sym call
 

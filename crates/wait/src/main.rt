@@ -9,6 +9,7 @@ mod waiting;
 
 use last::Last;
 use model::Settings;
+use running::Opening;
 use streaming::first;
 use streaming::parts;
 use streaming::parts::Started;
@@ -16,9 +17,11 @@ use streaming::rooms;
 use streaming::scope::Scope;
 use streaming::work;
 use streaming::work::Work;
+ghost use mathlib.Core.Path.{_≡_};
 ghost use Prim.Native.Nat.{_≤_};
 ghost use lib.ListN.{length, take};
 ghost use Rattle.model.specs.Lent.{lent};
+ghost use Rattle.running.specs.Begin.{firstRecord};
 ghost use Rattle.running.specs.Lengths.{lengthsFor, Long};
 ghost use Rattle.streaming.specs.declared.scope.Scope.the-variants as scope;
 ghost use Rattle.streaming.specs.First.{Opened};
@@ -75,6 +78,7 @@ fn wait_rest(
 // The first record, then the rest, on slices as long as the stream's settings ask.
 fn wait_all(
     fd: i32,
+    first: Opening,
     buf: &mut [u8],
     longs: &mut [u64],
     words: &mut [u32],
@@ -84,8 +88,9 @@ fn wait_all(
     requires { ⌜ Opened (now buf) w ⌝ }
     requires { ⌜ 64 ≤ length (now buf) ⌝ }
     requires { ⌜ Long (lent (now longs) (now words) (now marks)) (lengthsFor (take (w .have) (now buf))) ⌝ }
+    requires { ⌜ first ≡ firstRecord (take (w .have) (now buf)) ⌝ }
 {
-    match parts::start(buf, longs, words, marks, w) {
+    match parts::start(first, buf, longs, words, marks, w) {
         Started::Stops(stopped) => {
             let stop = stopped.stop;
             says::first_stop(stop, text::front(buf, stopped.have));
@@ -99,7 +104,8 @@ fn wait_stream(fd: i32, buf: &mut [u8], w: Work)
     requires { ⌜ Opened (now buf) w ⌝ }
     requires { ⌜ 64 ≤ length (now buf) ⌝ }
 {
-    let n = running::lengths_for(text::front(buf, w.have));
+    let first = running::first_record(text::front(buf, w.have));
+    let n = running::lengths_for(first);
     let mut longs = rooms::longs_room();
     let mut words = rooms::words_room();
     let mut marks = rooms::marks_room();
@@ -108,6 +114,7 @@ fn wait_stream(fd: i32, buf: &mut [u8], w: Work)
     let c = n.marks;
     wait_all(
         fd,
+        first,
         buf,
         &mut longs[..a],
         &mut words[..b],

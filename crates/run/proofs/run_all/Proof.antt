@@ -1,4 +1,5 @@
 -- The first record stops the run, or leaves its tables to the turns; either way it is the run of all the bytes that came.
+use native.Mathlib.Omega.{arith}
 use borrow.Author.Needs.{needs}
 use mathlib.Core.Path.{_∙_}
 use Rattle.streaming.specs.declared.scope.Scope.the-variants as scope
@@ -10,7 +11,12 @@ pub run-all-spec : {M : Type 1} → statement M
 run-all-spec =
     tie.close
     (tie.spec
-    (λ c κs. search needs)
+    -- start-requires
+    (λ c κs.
+    let a = c .before .before .before .before .before .before .before .before in
+    let o = a .pre .0 in
+    let all = o .all in
+    (o .inside, (a .pre .1 .0, (omega arith, (a .pre .1 .1 .0, a .pre .1 .1 .1)))))
     (λ c. search needs)
     (λ c. search needs)
     (λ c κs.
@@ -29,7 +35,7 @@ run-all-spec =
     stops-whole (a .pre .0) (rw (s .stopped .given .1) at (t .start .ensures)))
     (λ c.
     let r = c .before .before .before .before .before .before .before .before in
-    r .run-rest .kept .1 .1 .0 ∙ r .before .before .before .before .before .before .before .before .before .before .before .before .before .before .before .before .start .kept .0)
+    r .run-rest .kept .1 .1 .0 ∙ r .before .before .before .before .before .before .before .before .before .before .before .before .before .before .before .before .start .kept .1 .0)
     (λ c. search needs)
     (λ c. search needs)
     (λ c. search needs)

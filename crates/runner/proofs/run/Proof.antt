@@ -1,6 +1,6 @@
 -- The first record, then the others.
 use borrow.Author.Needs.{needs}
-use Rattle.running.proofs.First.{run-stopped, begun-held, begun-stands, run-begun}
+use Rattle.running.proofs.First.{accepts-begins, run-stopped, begun-held, begun-stands, run-begun}
 use Rattle.runner.proofs.run.Statement.{statement}
 use Rattle.runner.proofs.run.Tie as tie
 
@@ -9,24 +9,31 @@ run-spec =
     tie.close
     (tie.spec
     (λ c κs. search needs)
+    (λ c κs. search needs)
     (λ c. search needs)
     (λ c. search needs)
+    -- go-on-requires
     (λ c κs.
     let m = c .before .before .before .before .before in
-    let b = m .before .before .before .before .before .before .before .before .begin .ensures in
-    (begun-held b (m .s .given .1), begun-stands b (m .s .given .1) _))
+    let g = m .before .before .before .before .before .before .before .before in
+    let b = accepts-begins _ (g .before .before .before .before .first-record .ensures) (g .begin .ensures) in
+    (begun-held b (m .settings .given .1), begun-stands b (m .settings .given .1) _))
     (λ c. search needs)
     (λ c. search needs)
     (λ c. search needs)
+    -- returns
     (λ c.
-    let b = c .before .before .before .before .before .before .before .before .before .begin .ensures in
+    let g = c .before .before .before .before .before .before .before .before .before in
+    let b = accepts-begins _ (g .before .before .before .before .first-record .ensures) (g .begin .ensures) in
     run-stopped b _ _ (c .before .stop .given .1))
     (λ c. search needs)
     (λ c. search needs)
     (λ c. search needs)
     (λ c. search needs)
+    -- returns-2
     (λ c.
-    let g = c .before .before .before .before .before .before .before .before in
-    let m = g .before .before .before .before .before .before in
-    let b = m .before .before .before .before .before .before .before .before .begin .ensures in
-    run-begun b (m .s .given .1) _ (g .go-on .ensures)))
+    let o = c .before .before .before .before .before .before .before .before in
+    let m = o .before .before .before .before .before .before in
+    let g = m .before .before .before .before .before .before .before .before in
+    let b = accepts-begins _ (g .before .before .before .before .first-record .ensures) (g .begin .ensures) in
+    run-begun b (m .settings .given .1) _ (o .go-on .ensures)))

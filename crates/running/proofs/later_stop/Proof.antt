@@ -1,8 +1,9 @@
--- The head, then the checks behind it.
-use mathlib.Core.Path.{sym, _∙_}
+-- The checks at any record, with what is asked of a later one.
+use mathlib.Core.Path.{_≡_, ap, _∙_}
 use borrow.Author.Needs.{needs}
-use borrow.Author.Tests.{not-true, not-false}
-use Rattle.running.proofs.Checks.{found-stopped, found-settings, found-full, found-goes}
+use Rattle.model.specs.declared.Stop.{Stop}
+use Rattle.model.specs.declared.Stop.the-variants.{OutOfPlace}
+use Rattle.running.specs.Resume.{foundStop}
 use Rattle.running.proofs.later_stop.Statement.{statement}
 use Rattle.running.proofs.later_stop.Tie as tie
 
@@ -12,22 +13,5 @@ later-stop-spec =
     (tie.spec
     (λ c κs. search needs)
     (λ c κs. search needs)
-    (λ c.
-    let h = c .before .before in
-    let a = h .before .args in
-    found-stopped (a .room) (a .kind) (a .found) (h .head-stop .ensures) (sym (c .before .goes-on .ensures) ∙ not-true _ (c .if1 .taken)))
-    (λ c.
-    let i = c .before in
-    let h = i .before .before in
-    let a = h .before .args in
-    found-settings (a .room) (a .kind) (a .found) (h .head-stop .ensures) (sym (i .before .goes-on .ensures) ∙ not-false _ (i .if1 .left)) (c .if2 .taken))
-    (λ c.
-    let i = c .before .before in
-    let h = i .before .before in
-    let a = h .before .args in
-    found-full (a .room) (a .kind) (a .found) (h .head-stop .ensures) (sym (i .before .goes-on .ensures) ∙ not-false _ (i .if1 .left)) (c .before .if2 .left) (c .if3 .taken))
-    (λ c.
-    let i = c .before .before in
-    let h = i .before .before in
-    let a = h .before .args in
-    found-goes (a .room) (a .kind) (a .found) (h .head-stop .ensures) (sym (i .before .goes-on .ensures) ∙ not-false _ (i .if1 .left)) (c .before .if2 .left) (c .if3 .left)))
+    -- returns
+    (λ c. let a = c .before .before .args in c .record-stop .ensures ∙ ap (foundStop (a .kind) (a .found) OutOfPlace) (c .before .room-stop .ensures)))

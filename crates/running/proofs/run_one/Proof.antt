@@ -21,7 +21,7 @@ returns-2 c =
     let z = sym (i .before .goes-on .ensures) ∙ not-false _ (i .if1 .left) in
     single-runs (a .s) (a .stream .now) (a .at) (a .out) (a .events .now) _ (p .pre .1 .0)
     (found-later (a .stream .now) (a .at) (p .pre .1 .1) (f .record-at .ensures) _ (l .later-stop .ensures)) z
-    (found-next (a .stream .now) (a .at) (p .pre .1 .1) (f .record-at .ensures) _ (l .later-stop .ensures) z (n .place-after .ensures))
+    (found-next (a .stream .now) (a .at) (p .pre .1 .1) (f .record-at .ensures) _ _ (l .later-stop .ensures) z (n .place-after .ensures))
     (x .command-of .ensures) (r .step-read .ensures) (p .pre .0) (p .pre .1 .1) (r .step-read .kept .1 .1 .1 .1 .1 .0)
 
 sub-command-of : tie.Need-sub-command-of
@@ -32,7 +32,7 @@ sub-command-of c =
     let p = f .before .before .before .before .before .before .before in
     let a = p .args in
     let z = sym (i .before .goes-on .ensures) ∙ not-false _ (i .if1 .left) in
-    let e = found-next (a .stream .now) (a .at) (p .pre .1 .1) (f .record-at .ensures) _ (l .later-stop .ensures) z (c .place-after .ensures) in
+    let e = found-next (a .stream .now) (a .at) (p .pre .1 .1) (f .record-at .ensures) _ _ (l .later-stop .ensures) z (c .place-after .ensures) in
     omega arith
 
 part-command-of-start : tie.Need-part-command-of-start
@@ -48,7 +48,7 @@ part-command-of-end c =
     let z = sym (i .before .goes-on .ensures) ∙ not-false _ (i .if1 .left) in
     next-inside (a .stream .now) (a .at) (a .out) (a .events .now)
     (found-later (a .stream .now) (a .at) (p .pre .1 .1) (f .record-at .ensures) _ (l .later-stop .ensures)) z (p .pre .1 .1)
-    (found-next (a .stream .now) (a .at) (p .pre .1 .1) (f .record-at .ensures) _ (l .later-stop .ensures) z (c .place-after .ensures))
+    (found-next (a .stream .now) (a .at) (p .pre .1 .1) (f .record-at .ensures) _ _ (l .later-stop .ensures) z (c .place-after .ensures))
 
 pub run-one-spec : {M : Type 1} → statement M
 run-one-spec =

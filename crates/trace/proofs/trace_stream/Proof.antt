@@ -1,17 +1,18 @@
 -- The arrays hold the largest tables.
-use mathlib.Core.Path.{sym}
+use mathlib.Core.Path.{sym, ap, _∙_}
 use Prim.Native.Nat.{_≤_}
 use native.Mathlib.Omega.{arith}
 use borrow.Author.Needs.{needs}
 use lib.ListN.{length}
 use lib.Seq.{length-take-le}
+use Rattle.running.specs.Begin.{firstRecord}
 use Rattle.running.proofs.Asked.{Most}
 use Rattle.streaming.proofs.Leaving.{lent-most}
 use Rattle.trace.proofs.trace_stream.Statement.{statement}
 use Rattle.trace.proofs.trace_stream.Tie as tie
 
 most : (c : tie.After-lengths-for) → Most (c .lengths-for .result)
-most c = lent-most (c .before .front .result .now) (c .lengths-for .ensures)
+most c = lent-most (c .before .before .front .result .now) (c .before .first-record .ensures) (c .lengths-for .ensures)
 
 longs-fit : (c : tie.After-longs-room) → c .before .lengths-for .result .longs ≤ length (c .longs-room .result)
 longs-fit c = omega (arith, most (c .before) .longs, c .longs-room .ensures)
@@ -31,12 +32,16 @@ trace-stream-spec =
     (λ c κs. search needs)
     (λ c κs. search needs)
     (λ c κs. search needs)
+    (λ c κs. search needs)
     (λ c. longs-fit (c .before .before .before))
     (λ c. sym (length-take-le _ _ (longs-fit (c .before .before .before .before))))
     (λ c. words-fit (c .before .before .before))
     (λ c. sym (length-take-le _ _ (words-fit (c .before .before .before .before))))
     (λ c. marks-fit (c .before .before .before))
     (λ c. sym (length-take-le _ _ (marks-fit (c .before .before .before .before))))
-    (λ c κs. search needs)
+    -- trace-all-requires
+    (λ c κs.
+    let l = c .before .before .before .before .before .before .before in
+    l .before .first-record .ensures ∙ ap firstRecord (l .before .before .front .ensures))
     (λ c. search needs)
     (λ c. search needs))

@@ -1,4 +1,5 @@
 -- The first record leaves its tables, and the bytes behind it, to the rest.
+use native.Mathlib.Omega.{arith}
 use borrow.Author.Needs.{needs}
 use Rattle.streaming.specs.declared.scope.Scope.the-variants as scope
 use Rattle.wait.proofs.wait_all.Statement.{statement}
@@ -8,7 +9,12 @@ pub wait-all-spec : {M : Type 1} → statement M
 wait-all-spec =
     tie.close
     (tie.spec
-    (λ c κs. search needs)
+    -- start-requires
+    (λ c κs.
+    let a = c .before .before .before .before .before .before .before .before in
+    let o = a .pre .0 in
+    let all = o .all in
+    (o .inside, (a .pre .1 .0, (omega arith, (a .pre .1 .1 .0, a .pre .1 .1 .1)))))
     (λ c. search needs)
     (λ c κs. search needs)
     (λ c κs. search needs)

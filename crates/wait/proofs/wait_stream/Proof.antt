@@ -1,17 +1,18 @@
 -- The arrays hold the largest tables, and what is lent of them is as long as the stream's settings ask.
-use mathlib.Core.Path.{sym}
+use mathlib.Core.Path.{sym, ap, _∙_}
 use Prim.Native.Nat.{_≤_}
 use native.Mathlib.Omega.{arith}
 use borrow.Author.Needs.{needs}
 use lib.ListN.{length}
 use lib.Seq.{length-take-le}
+use Rattle.running.specs.Begin.{firstRecord}
 use Rattle.running.proofs.Asked.{Most}
 use Rattle.streaming.proofs.Leaving.{lent-most, lent-long}
 use Rattle.wait.proofs.wait_stream.Statement.{statement}
 use Rattle.wait.proofs.wait_stream.Tie as tie
 
 most : (c : tie.After-lengths-for) → Most (c .lengths-for .result)
-most c = lent-most (c .before .front .result .now) (c .lengths-for .ensures)
+most c = lent-most (c .before .before .front .result .now) (c .before .first-record .ensures) (c .lengths-for .ensures)
 
 longs-fit : (c : tie.After-longs-room) → c .before .lengths-for .result .longs ≤ length (c .longs-room .result)
 longs-fit c = omega (arith, most (c .before) .longs, c .longs-room .ensures)
@@ -31,6 +32,7 @@ wait-stream-spec =
     (λ c κs. search needs)
     (λ c κs. search needs)
     (λ c κs. search needs)
+    (λ c κs. search needs)
     (λ c. longs-fit (c .before .before .before))
     (λ c. sym (length-take-le _ _ (longs-fit (c .before .before .before .before))))
     (λ c. words-fit (c .before .before .before))
@@ -40,12 +42,16 @@ wait-stream-spec =
     (λ c κs.
     let m = c .before .before .before .before in
     let l = m .before .before .before in
-    let a = l .before .before .before .before in (
+    let f = l .before .before in
+    let a = f .before .before .before in (
       a .pre .0,
       (
         a .pre .1,
-        lent-long (l .before .front .result .now) _ (l .before .front .ensures) (l .lengths-for .ensures) (m .before .before .longs-room .result) (m .before .words-room .result) (m .marks-room .result)
-            (m .before .before .longs-room .ensures) (m .before .words-room .ensures) (m .marks-room .ensures),
+        (
+          lent-long (f .front .result .now) (l .before .first-record .ensures) (l .lengths-for .ensures) _ (f .front .ensures) (m .before .before .longs-room .result) (m .before .words-room .result) (m .marks-room .result)
+              (m .before .before .longs-room .ensures) (m .before .words-room .ensures) (m .marks-room .ensures),
+          l .before .first-record .ensures ∙ ap firstRecord (f .front .ensures),
+        ),
       ),
     ))
     (λ c. search needs)

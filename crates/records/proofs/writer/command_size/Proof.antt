@@ -1,11 +1,12 @@
 -- By the case: the size is the length of its bytes, and the bound numbers are in range.
 use borrow.Author.Needs.{needs}
-use Rattle.model.specs.Records.{bytesOf, commandBytes}
+use Rattle.model.specs.RecordsOf as records
+use Rattle.model.specs.Records.{bytesOf}
 use Rattle.records.proofs.writer.command_size.Statement.{statement}
 use Rattle.records.proofs.writer.command_size.Tie as tie
 
 pub command-size-spec : {M : Type 1} → statement M
-unfolding commandBytes bytesOf
+unfolding records.commandBytes bytesOf
 command-size-spec =
     tie.close
     (tie.spec

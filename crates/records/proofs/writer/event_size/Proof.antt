@@ -1,11 +1,12 @@
 -- By the case: the size is the length of its bytes, and the bound numbers are in range.
 use borrow.Author.Needs.{needs}
-use Rattle.model.specs.Records.{bytesOf, eventBytes}
+use Rattle.model.specs.RecordsOf as records
+use Rattle.model.specs.Records.{bytesOf}
 use Rattle.records.proofs.writer.event_size.Statement.{statement}
 use Rattle.records.proofs.writer.event_size.Tie as tie
 
 pub event-size-spec : {M : Type 1} → statement M
-unfolding eventBytes bytesOf
+unfolding records.eventBytes bytesOf
 event-size-spec =
     tie.close
     (tie.spec

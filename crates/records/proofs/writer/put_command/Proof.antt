@@ -1,12 +1,13 @@
 -- By the case: there is room for its bytes, and they are what is stored.
-use Rattle.model.specs.Records.{commandBytes, bytesOf}
+use Rattle.model.specs.RecordsOf as records
+use Rattle.model.specs.Records.{bytesOf}
 use Rattle.records.proofs.Encoding.{command-room, command-laid}
 use borrow.Author.Needs.{needs}
 use Rattle.records.proofs.writer.put_command.Statement.{statement}
 use Rattle.records.proofs.writer.put_command.Tie as tie
 
 pub put-command-spec : {M : Type 1} → statement M
-unfolding commandBytes bytesOf
+unfolding records.commandBytes bytesOf
 put-command-spec =
     tie.close
     (tie.spec

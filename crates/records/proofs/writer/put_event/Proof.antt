@@ -1,12 +1,13 @@
 -- By the case: there is room for its bytes, and they are what is stored.
-use Rattle.model.specs.Records.{eventBytes, bytesOf}
+use Rattle.model.specs.RecordsOf as records
+use Rattle.model.specs.Records.{bytesOf}
 use Rattle.records.proofs.Encoding.{event-room, event-laid}
 use borrow.Author.Needs.{needs}
 use Rattle.records.proofs.writer.put_event.Statement.{statement}
 use Rattle.records.proofs.writer.put_event.Tie as tie
 
 pub put-event-spec : {M : Type 1} → statement M
-unfolding eventBytes bytesOf
+unfolding records.eventBytes bytesOf
 put-event-spec =
     tie.close
     (tie.spec

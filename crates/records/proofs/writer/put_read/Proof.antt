@@ -1,5 +1,6 @@
 -- By the flag: a read's bytes, or none.
-use Rattle.model.specs.Records.{eventBytes, bytesOf}
+use Rattle.model.specs.RecordsOf as records
+use Rattle.model.specs.Records.{bytesOf}
 use Rattle.model.specs.declared.Event.the-variants.{ReadQueued}
 use Rattle.records.proofs.Log.{part-room, part-there, part-none}
 use borrow.Author.Needs.{needs}
@@ -7,7 +8,7 @@ use Rattle.records.proofs.writer.put_read.Statement.{statement}
 use Rattle.records.proofs.writer.put_read.Tie as tie
 
 pub put-read-spec : {M : Type 1} → statement M
-unfolding eventBytes bytesOf
+unfolding records.eventBytes bytesOf
 put-read-spec =
     tie.close
     (tie.spec

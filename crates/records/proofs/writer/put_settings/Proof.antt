@@ -1,6 +1,7 @@
 -- The kind, the sets, then a byte each.
 use mathlib.Core.Path.{refl}
-use Rattle.records.proofs.Digits.{length-bytes}
+use Rattle.model.specs.RecordsOf as records
+use Rattle.model.specs.Records.{bytesOf}
 use Rattle.records.proofs.Stores.{laid-then, laid-as}
 use Rattle.records.proofs.Encoding.{settings-bytes}
 use borrow.Author.Needs.{needs}
@@ -8,6 +9,7 @@ use Rattle.records.proofs.writer.put_settings.Statement.{statement}
 use Rattle.records.proofs.writer.put_settings.Tie as tie
 
 returns : tie.Need-returns
+unfolding records.commandBytes bytesOf
 returns c =
     let p7 = c .before .before in
     let p6 = p7 .before .before .before .before in
@@ -18,11 +20,12 @@ returns c =
     let p1 = p2 .before .before .before .before in
     let f = p1 .before .before .before .fits in
     laid-as
-    (laid-then (p1 .put1 .ensures) refl (laid-then (p2 .put2 .ensures) (length-bytes 2 _) (laid-then (p3 .put12 .ensures) refl
+    (laid-then (p1 .put1 .ensures) refl (laid-then (p2 .put2 .ensures) refl (laid-then (p3 .put12 .ensures) refl
     (laid-then (p4 .put13 .ensures) refl (laid-then (p5 .put14 .ensures) refl (laid-then (p6 .put15 .ensures) refl (p7 .put16 .ensures)))))))
     (settings-bytes _ _ _ _ _ _ (f .ways .fits) (f .percent .fits) (f .entries .fits) (f .readers .fits) (f .places .fits))
 
 pub put-settings-spec : {M : Type 1} → statement M
+unfolding records.commandBytes bytesOf
 put-settings-spec =
     tie.close
     (tie.spec

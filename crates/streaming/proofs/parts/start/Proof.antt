@@ -1,5 +1,7 @@
 -- The first record stops the run, or leaves fresh tables to the rest.
+use mathlib.Core.Path.{refl}
 use borrow.Author.Needs.{needs}
+use Rattle.running.proofs.First.{accepts-begins}
 use Rattle.streaming.proofs.Starting.{start-stops, start-runs}
 use Rattle.streaming.proofs.parts.start.Statement.{statement}
 use Rattle.streaming.proofs.parts.start.Tie as tie
@@ -9,7 +11,6 @@ start-spec =
     tie.close
     (tie.spec
     (λ c κs. search needs)
-    (λ c κs. search needs)
     (λ c. search needs)
     (λ c κs. search needs)
     (λ c. search needs)
@@ -18,21 +19,22 @@ start-spec =
     (λ c. search needs)
     (λ c. search needs)
     (λ c. search needs)
-    (λ c. search needs)
+    -- returns
     (λ c.
     let n = c .before .before in
     let b = n .before .before .before .before .before .before .before .before in
-    let f = b .before .before .before .before in
-    let a = f .before .before .before .before .before .before in
-    start-stops (b .begin .ensures) (a .args .buf .now) (a .args .w) (f .front .ensures) (n .stop .given .1) (a .pre .1 .1 .1) (c .stopped .ensures))
+    let a = b .before .before .before .before .before .before .before .before in
+    let begins = accepts-begins _ (a .pre .1 .1 .1 .1) (b .begin .ensures) in
+    start-stops begins (a .args .buf .now) (a .args .w) refl (n .stop .given .1) (a .pre .1 .1 .1 .0) (c .stopped .ensures))
     (λ c. search needs)
     (λ c. search needs)
     (λ c. search needs)
     (λ c. search needs)
+    -- returns-2
     (λ c.
     let y = c .before .before .before in
     let n = y .before .before .before in
     let b = n .before .before .before .before .before .before .before .before in
-    let f = b .before .before .before .before in
-    let a = f .before .before .before .before .before .before in
-    start-runs (b .begin .ensures) (a .args .buf .now) (a .args .w) (f .front .ensures) (n .settings .given .1) (a .pre .0) (a .pre .1 .0) (a .pre .1 .1 .0) (y .carry .ensures .0) (y .carry .ensures .1) (y .carry .kept .0) (c .begun .ensures)))
+    let a = b .before .before .before .before .before .before .before .before in
+    let begins = accepts-begins _ (a .pre .1 .1 .1 .1) (b .begin .ensures) in
+    start-runs begins (a .args .buf .now) (a .args .w) refl (n .settings .given .1) (a .pre .0) (a .pre .1 .0) (a .pre .1 .1 .0) (y .carry .ensures .0) (y .carry .ensures .1) (y .carry .kept .0) (c .begun .ensures)))

@@ -1,10 +1,10 @@
 -- The numbers of the body.
 use borrow.Author.Needs.{needs}
-use Rattle.running.proofs.settings_of.Statement.{statement}
-use Rattle.running.proofs.settings_of.Tie as tie
+use Rattle.running.proofs.settings_in.Statement.{statement}
+use Rattle.running.proofs.settings_in.Tie as tie
 
-pub settings-of-spec : {M : Type 1} → statement M
-settings-of-spec =
+pub settings-in-spec : {M : Type 1} → statement M
+settings-in-spec =
     tie.close
     (tie.spec
     (λ c κs. search needs)

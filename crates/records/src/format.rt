@@ -1,0 +1,43 @@
+// The current format in numbers, each named once: the lengths of bodies by kind, the kind and the size of a settings record, the rooms.
+// "Body length is fixed by kind through this table"; 255 for a number that is no kind.
+pub(crate) const LENGTHS: [u8; 25] = [
+    7,
+    12,
+    12,
+    0,
+    8,
+    4,
+    255,
+    255,
+    255,
+    255,
+    255,
+    255,
+    255,
+    255,
+    255,
+    255,
+    3,
+    1,
+    8,
+    24,
+    4,
+    8,
+    24,
+    8,
+    0,
+];
+
+pub(crate) const SETTINGS_KIND: u8 = 0;
+
+// A settings record as it is written: its kind and its body.
+pub(crate) const SETTINGS_SIZE: usize = 8;
+
+// "16 fewer than 64 bytes of event room"
+pub const EVENT_ROOM: usize = 64;
+
+// 128 rounds of a send and a fill, and the last offer, take 9,510 bytes at the most.
+pub const WAIT_ROOM: usize = 9600;
+
+// A round: a send is 25 bytes at the most, a fill 49, an offer 38.
+pub const ROUND_ROOM: usize = 112;

@@ -1,0 +1,34 @@
+-- The verdict on fresh tables.
+use mathlib.Core.Path.{sym, _∙_}
+use borrow.Author.Needs.{needs}
+use borrow.Author.Tests.{not-true, not-false}
+use Rattle.model.specs.Lent.{lent}
+use Rattle.running.proofs.First.{accept-stops, accept-goes}
+use Rattle.running.proofs.accept.Statement.{statement}
+use Rattle.running.proofs.accept.Tie as tie
+
+pub accept-spec : {M : Type 1} → statement M
+accept-spec =
+    tie.close
+    (tie.spec
+    (λ c κs. search needs)
+    (λ c κs. search needs)
+    (λ c κs. search needs)
+    (λ c. search needs)
+    (λ c. search needs)
+    (λ c. search needs)
+    -- returns
+    (λ c.
+    let f = c .before .before in
+    let m = f .before .before .before .before .before .before .before in
+    let a = m .before .before .before .before .before .before .before .args in
+    accept-stops (a .settings) (a .next) (lent (a .longs .now) (a .words .now) (a .marks .now)) (m .fresh .ensures) (f .fresh-stop .ensures) (sym (c .before .goes-on .ensures) ∙ not-true _ (c .if1 .taken)))
+    (λ c. search needs)
+    (λ c. search needs)
+    (λ c. search needs)
+    -- returns-2
+    (λ c.
+    let f = c .before .before in
+    let m = f .before .before .before .before .before .before .before in
+    let a = m .before .before .before .before .before .before .before .args in
+    accept-goes (a .settings) (a .next) (lent (a .longs .now) (a .words .now) (a .marks .now)) (m .fresh .ensures) (f .fresh-stop .ensures) (sym (c .before .goes-on .ensures) ∙ not-false _ (c .if1 .left))))

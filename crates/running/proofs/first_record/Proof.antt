@@ -1,0 +1,36 @@
+-- No byte; a record that stops; one that holds settings.
+use mathlib.Core.Path.{sym, ap, _∙_}
+use borrow.Author.Needs.{needs}
+use borrow.Author.Tests.{not-true, not-false}
+use Rattle.model.specs.Records.{settingsIn}
+use Rattle.running.proofs.First.{first-none, first-stopped, first-holds}
+use Rattle.running.proofs.first_record.Statement.{statement}
+use Rattle.running.proofs.first_record.Tie as tie
+
+pub first-record-spec : {M : Type 1} → statement M
+first-record-spec =
+    tie.close
+    (tie.spec
+    (λ c. first-none (c .before .before .args .stream .now) (c .if1 .taken))  -- returns
+    (λ c. search needs)
+    (λ c κs. search needs)
+    (λ c κs. search needs)
+    (λ c κs. search needs)
+    (λ c.
+    let r = c .before .before in
+    let f = r .before in
+    let e = f .before .before in
+    first-stopped (e .before .before .args .stream .now) (e .if1 .left) (f .record-at .ensures) (r .record-stop .ensures)
+    (sym (c .before .goes-on .ensures) ∙ not-true _ (c .if2 .taken)))  -- returns-2
+    (λ c κs. search needs)
+    (λ c κs. search needs)
+    (λ c κs. search needs)
+    (λ c.
+    let s = c .before in
+    let b = s .before in
+    let i = b .before in
+    let r = i .before .before in
+    let f = r .before in
+    let e = f .before .before in
+    first-holds (e .before .before .args .stream .now) (e .if1 .left) (f .record-at .ensures) (r .record-stop .ensures)
+    (sym (i .before .goes-on .ensures) ∙ not-false _ (i .if2 .left)) (s .settings-in .ensures ∙ ap settingsIn (b .body-at .ensures .bytes)) (c .place-after .ensures)))

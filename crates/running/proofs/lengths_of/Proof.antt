@@ -1,0 +1,24 @@
+-- Settings outside their ranges, and in range.
+use mathlib.Core.Path.{_∙_}
+use borrow.Author.Needs.{needs}
+use Rattle.soundness.proofs.Tests.{said-no, said-yes}
+use Rattle.running.proofs.Asked.{lengths-in, lengths-out}
+use Rattle.running.proofs.lengths_of.Statement.{statement}
+use Rattle.running.proofs.lengths_of.Tie as tie
+
+pub lengths-of-spec : {M : Type 1} → statement M
+lengths-of-spec =
+    tie.close
+    (tie.spec
+    (λ c κs. search needs)
+    (λ c κs. search needs)
+    (λ c.
+    let r = c .before .before in
+    c .no-lengths .ensures ∙ lengths-out (r .before .args .s) (said-no (r .in-range .ensures) (c .before .if1 .taken)))  -- returns
+    (λ c κs. said-yes (c .before .in-range .ensures) (c .if1 .left))
+    (λ c κs. said-yes (c .before .before .in-range .ensures) (c .before .if1 .left))
+    (λ c κs. said-yes (c .before .before .before .in-range .ensures) (c .before .before .if1 .left))
+    (λ c.
+    let i = c .before .before .before in
+    rw (c .before .before .longs-length .ensures, c .before .words-length .ensures, c .marks-length .ensures)
+    (lengths-in (i .before .before .args .s) (said-yes (i .before .in-range .ensures) (i .if1 .left)))))

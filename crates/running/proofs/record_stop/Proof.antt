@@ -1,0 +1,29 @@
+-- The head, then what is asked behind it.
+use mathlib.Core.Path.{sym, _∙_}
+use borrow.Author.Needs.{needs}
+use borrow.Author.Tests.{not-true, not-false}
+use Rattle.running.proofs.Checks.{found-stopped, found-settings, found-other}
+use Rattle.running.proofs.record_stop.Statement.{statement}
+use Rattle.running.proofs.record_stop.Tie as tie
+
+pub record-stop-spec : {M : Type 1} → statement M
+record-stop-spec =
+    tie.close
+    (tie.spec
+    (λ c κs. search needs)
+    (λ c κs. search needs)
+    (λ c.
+    let h = c .before .before in
+    let a = h .before .args in
+    found-stopped (a .kind) (a .found) (a .settings) (a .other) (h .head-stop .ensures) (sym (c .before .goes-on .ensures) ∙ not-true _ (c .if1 .taken)))  -- returns
+    (λ c κs. search needs)
+    (λ c.
+    let i = c .before .before in
+    let h = i .before .before in
+    let a = h .before .args in
+    found-settings (a .kind) (a .found) (a .settings) (a .other) (h .head-stop .ensures) (sym (i .before .goes-on .ensures) ∙ not-false _ (i .if1 .left)) (c .before .is-settings .ensures) (c .if2 .taken))  -- returns-2
+    (λ c.
+    let i = c .before .before in
+    let h = i .before .before in
+    let a = h .before .args in
+    found-other (a .kind) (a .found) (a .settings) (a .other) (h .head-stop .ensures) (sym (i .before .goes-on .ensures) ∙ not-false _ (i .if1 .left)) (c .before .is-settings .ensures) (c .if2 .left)))
