@@ -11,19 +11,18 @@ use borrow.Author.Tests.{eqb-true, eq-eqb, ne-eqb, leb-true}
 use Rattle.model.specs.Words.{pick, all, any, count, one}
 use Rattle.model.specs.Range.{linesOf}
 use Rattle.model.specs.Address.{addressOf, isRead, blockOf, sectorIndex, lineNumber}
-use Rattle.model.specs.Tables.{Line, Entry, Queued, reading, writing, Tables, entryFor, noEntry, fresh}
-use Rattle.model.specs.Lent.{Lent, lent, sectorsAt, linesIn, lineAt, encode}
-use Rattle.model.specs.Probe.{Spot, waysOf}
-use Rattle.model.specs.Steps.{isMerge, isMiss, onSector, update, join, onMisses, fetches, queues, placesNeeded}
+use Rattle.model.specs.Tables.{Line, Entry, Queued, reading, writing, Tables, entryFor, noEntry, fresh, withLines, withMisses, withQueue}
+use Rattle.model.specs.Lent.{Lent, lent, sectorsAt, lineAt}
+use Rattle.model.specs.Probe.{Spot}
+use Rattle.model.specs.Steps.{isMerge, isMiss, onSector, update, join, onMisses, queues, placesNeeded}
 use Rattle.model.specs.declared.Settings.{Settings}
 use Rattle.model.specs.declared.Access.{Access}
 use Rattle.model.specs.declared.Access.the-variants.{Read, Write}
 use Rattle.model.specs.declared.Answer.{Answer}
-use Rattle.model.specs.declared.Sector.{Sector}
 use Rattle.model.specs.Sound.{queuedOk}
 use Rattle.model.proofs.Flags.{and-1, and-2}
-use Rattle.model.proofs.SoundFacts.{Sound, parts, lines-are, entry-at, readers-some}
-use Rattle.model.proofs.Lists.{any-in, in-getD, count-index}
+use Rattle.model.proofs.SoundFacts.{Sound, parts, lines-are, readers-some}
+use Rattle.model.proofs.Lists.{count-index}
 use Rattle.model.proofs.Taken.{Spotted}
 use Rattle.model.proofs.Offered.{probe-spotted}
 use Rattle.model.proofs.Bridge.{is-tables}
@@ -31,7 +30,7 @@ use Rattle.model.proofs.Standing.{encode-stands}
 use Rattle.model.proofs.Tabled.{getD-table}
 use Rattle.tables.specs.declared.Layout.{Layout}
 use Rattle.tables.specs.Layout.{Placed}
-use Rattle.tables.proofs.Stands.{Stands, is-stands, withLines, withMisses, withQueue}
+use Rattle.tables.proofs.Stands.{Stands, is-stands}
 use Rattle.tables.proofs.Lines.{line-stands}
 use Rattle.tables.proofs.Misses.{withTicket, unsent, append-stands, new-entry-stands}
 use Rattle.tables.proofs.Queue.{push-read-stands, push-write-back-stands}
@@ -39,13 +38,13 @@ use Rattle.tables.proofs.Ones.{map-one}
 use Rattle.probe.specs.declared.Decision.{Decision}
 use Rattle.probe.specs.Decided.{backsOf}
 use Rattle.probe.proofs.Held.{lines-held, way-line}
-use Rattle.access.specs.Plan.{Met, Acts, entryIndex, ticketsAt, courseOf, goes, ticketOf}
+use Rattle.access.specs.Plan.{Met, entryIndex, courseOf, goes, ticketOf}
 use Rattle.access.specs.Written.{sectorsFor, sectorsAfter, lineWritten, missesWritten, readWritten, backWritten, queueWritten}
 use Rattle.access.specs.declared.course.Course.{Course}
 use Rattle.access.specs.declared.course.Course.the-variants.{Refused, Stays, Joins, Starts}
 use Rattle.access.proofs.Plans.{index-found, merged-entry, entry-once}
-use Rattle.access.proofs.Courses.{Shown, fetches-are, flag-length, shows, answer-is, needed-is}
-use Rattle.access.proofs.Inverted.{Tested, Means, course-means}
+use Rattle.access.proofs.Courses.{fetches-are, flag-length, shows, answer-is, needed-is}
+use Rattle.access.proofs.Inverted.{Means, course-means}
 
 -- ---- what becomes of the miss table and the queue, by the flags
 

@@ -10,7 +10,7 @@ use Rattle.model.specs.Words.{fit}
 use Rattle.model.specs.Range.{linesOf}
 use Rattle.model.specs.Regions.{put}
 use Rattle.model.specs.Address.{addressOf, isRead, blockOf, sectorIndex, lineNumber}
-use Rattle.model.specs.Tables.{Line, Tables, empty, fresh}
+use Rattle.model.specs.Tables.{Line, Tables, empty, fresh, emptied, withLines}
 use Rattle.model.specs.Lent.{lent, sectorsAt, bit, wordBlocks, tagOf, cycleOf, masksOf, statusesOf, readablesOf}
 use Rattle.model.specs.Numbers.{statusNumber}
 use Rattle.model.specs.Probe.{Spot, at, waysOf}
@@ -25,7 +25,7 @@ use Rattle.model.proofs.Places.{field-put}
 use Rattle.tables.specs.declared.Layout.{Layout}
 use Rattle.tables.specs.Layout.{Placed}
 use Rattle.tables.proofs.Grown.{places-same}
-use Rattle.tables.proofs.Stands.{Stands, is-stands, stands-encode, withLines}
+use Rattle.tables.proofs.Stands.{Stands, is-stands, stands-encode}
 use Rattle.probe.specs.declared.Meeting.{Meeting}
 use Rattle.probe.specs.declared.Meeting.the-variants.{Met as MetWay, Taken, Busy, Held}
 use Rattle.probe.specs.declared.Decision.{Decision}
@@ -55,7 +55,7 @@ module _ (S : Settings) {longs words marks : List ℕ} (x : Access) (d : Decisio
   found-in : (k : Meeting) → placeFor k (waysOf S (t .lines) (addressOf x)) (addressOf x) d ≡ at p → p .line ≡ getD (waysOf S (t .lines) (addressOf x)) (d .way) fresh
   found-in MetWay e = cc
   found-in Taken e =
-      let l : p .line ≡ record { tag = blockOf (addressOf x); cycle = 0; sectors = replicate 4 empty } = cc in
+      let l : p .line ≡ emptied (blockOf (addressOf x)) = cc in
       let k = sectorIndex (addressOf x) in
       let four : p .line .sectors ≡ replicate 4 empty = ap (λ (l : Line). l .sectors) l in
       let same : onSector x (p .answer) (getD (p .line .sectors) k empty) ≡ empty = sector-kept x (p .answer) _ kept-there ∙ rw four (getD-replicate 4 k empty empty (omega arith)) in

@@ -8,13 +8,13 @@ use native.Mathlib.Omega.{arith}
 use lib.ListN.{length, getD, set, replicate}
 use borrow.Author.Tests.{leb-true}
 use Rattle.model.specs.Words.{pick, fit, one}
-use Rattle.model.specs.Range.{linesOf, longsLength, wordsLength, marksLength}
-use Rattle.model.specs.Address.{addressOf, isRead, blockOf, lineNumber}
-use Rattle.model.specs.Tables.{Queued, reading, writing, Tables, done}
-use Rattle.model.specs.Lent.{Lent, lent, sectorsAt, encode}
+use Rattle.model.specs.Range.{linesOf}
+use Rattle.model.specs.Address.{addressOf, isRead, blockOf}
+use Rattle.model.specs.Tables.{reading, writing, Tables, withLines, withMisses}
+use Rattle.model.specs.Lent.{Lent, lent, sectorsAt}
 use Rattle.model.specs.Inner.{Fit}
 use Rattle.model.specs.Probe.{Spot}
-use Rattle.model.specs.Steps.{isMerge, isMiss, onMisses, queues, queuedEvent, accept, placesNeeded}
+use Rattle.model.specs.Steps.{isMiss, onMisses, queuedEvent, accept, placesNeeded}
 use Rattle.model.specs.Calls.{Leaves, encoded, eventsTold, tidied}
 use Rattle.model.specs.declared.Settings.{Settings}
 use Rattle.model.specs.declared.Access.{Access}
@@ -25,14 +25,14 @@ use Rattle.model.proofs.Bridge.{is-fit}
 use Rattle.model.proofs.SoundFacts.{parts}
 use Rattle.tables.specs.declared.Layout.{Layout}
 use Rattle.tables.specs.Layout.{Placed}
-use Rattle.tables.proofs.Stands.{Stands, stands-encode, withLines, withMisses}
+use Rattle.tables.proofs.Stands.{stands-encode}
 use Rattle.probe.specs.declared.Decision.{Decision}
-use Rattle.access.specs.Plan.{Met, Acts, courseOf, goes, ticketOf}
+use Rattle.access.specs.Plan.{Met, Acts, goes, ticketOf}
 use Rattle.access.specs.Written.{sectorsFor, sectorsAfter, lineWritten, missesWritten, queueWritten, tellingOf, MissRoom, ReadRoom, BackRoom}
 use Rattle.access.specs.declared.course.Course.{Course}
 use Rattle.access.specs.declared.course.Course.the-variants.{Refused, Stays, Joins, Starts}
 use Rattle.access.proofs.Courses.{answer-is}
-use Rattle.access.proofs.Inverted.{Tested, Means, course-means}
+use Rattle.access.proofs.Inverted.{Means, course-means}
 use Rattle.access.proofs.Acting.{newLine, queues-are, line-written, misses-written, queue-written, join-inside, queue-room}
 
 -- ---- its value

@@ -10,17 +10,17 @@ use lib.Dec.{leb, ltb, eqb}
 use borrow.Author.Tests.{leb-true, ltb-false, eqb-true, eqb-false, eq-eqb, le-leb}
 use Rattle.model.specs.Words.{pick, all, any}
 use Rattle.model.specs.Range.{inRange, linesOf}
-use Rattle.model.specs.Address.{blockOf, sectorIndex, setIndex, lineNumber, addressOf, isRead, goodBlock}
-use Rattle.model.specs.Tables.{Line, Entry, Queued, writing, Tables, start, refused, isInvalid, isReserved, isModified, unused, waiting, dirty, holds, entryFor, empty, fresh}
+use Rattle.model.specs.Address.{blockOf, sectorIndex, setIndex, lineNumber, addressOf, goodBlock}
+use Rattle.model.specs.Tables.{Line, Entry, Queued, writing, Tables, start, refused, isInvalid, isReserved, isModified, unused, waiting, dirty, holds, entryFor, empty, fresh, emptied, withNow}
 use Rattle.model.specs.Sound.{allOnes, lastCycle, maskOk, sectorOk, lineOk, alone, reservedOk, readingOf, entryOk, queuedOk}
-use Rattle.model.specs.Probe.{Rule, columnOf, answerAt, answerOf, waysOf, dirtyLines, enoughDirty, candidate, first, victim, Spot, at, writeBack, takeOver, meet, probe, ruleOf}
-use Rattle.model.specs.Steps.{isHit, isMerge, isMiss, onSector, fetches, queues, tick}
+use Rattle.model.specs.Probe.{Rule, columnOf, answerAt, answerOf, waysOf, dirtyLines, enoughDirty, candidate, first, victim, Spot, at, writeBack, takeOver, meet, probe, ruleOf, metIn}
+use Rattle.model.specs.Steps.{isMerge, isMiss, onSector, fetches, queues, tick}
 use Rattle.model.specs.declared.Settings.{Settings}
 use Rattle.model.specs.declared.Status.{Status}
 use Rattle.model.specs.declared.Status.the-variants.{Invalid, Reserved, Valid, Modified}
 use Rattle.model.specs.declared.Sector.{Sector}
 use Rattle.model.specs.declared.Answer.{Answer}
-use Rattle.model.specs.declared.Answer.the-variants.{Hit, HitReserved, Miss, SectorMiss}
+use Rattle.model.specs.declared.Answer.the-variants.{Miss}
 use Rattle.model.specs.declared.Access.{Access}
 use Rattle.model.specs.declared.Access.the-variants.{Read, Write}
 use Rattle.model.specs.declared.Found.{Found}
@@ -244,7 +244,7 @@ module _ (S : Settings) (t : Tables) (ok : Sound S t) (some-ways : 1 ≤ S .ways
     taken-over : (d w : ℕ) → w < length ways → candidate (enoughDirty S d) (getD ways w fresh) ≡ true
         → Spotted S t x (record {
           way = w;
-          line = record { tag = b; cycle = 0; sectors = replicate 4 empty };
+          line = emptied b;
           answer = Miss;
           backs = writeBack (getD ways w fresh);
         })
@@ -275,7 +275,7 @@ unfolding tick
 tick-leaves S t ok c = by-flag (LeavesSound S) (ltb c (t .now) || ltb lastCycle c) (refused BadCycle) _ (λ e. tt) go
   where
     u : Tables
-    u = record { lines = t .lines; misses = t .misses; queue = t .queue; now = c }
+    u = withNow c t
 
     later : {i : ℕ} {l : Line} → t .now ≤ c → LineIs S (t .now) i l → LineIs S c i l
     later {i} {l} h k = record {
@@ -338,5 +338,5 @@ module _ (S : Settings) (range : inRange S ≡ true) (t : Tables) (ok : Sound S 
       meet-spotted R (dirtyLines t) (first (holds (blockOf (addressOf x))) (waysOf S (t .lines) (addressOf x)))
       (first-finds (holds (blockOf (addressOf x))) (waysOf S (t .lines) (addressOf x))) p e
 
-  pub probe-spotted : (p : Spot) → probe (ruleOf S t (addressOf x)) S (dirtyLines t) (waysOf S (t .lines) (addressOf x)) x ≡ at p → Spotted S t x p
+  pub probe-spotted : (p : Spot) → metIn S x t ≡ at p → Spotted S t x p
   probe-spotted p e = rule-spotted (ruleOf S t (addressOf x)) p e

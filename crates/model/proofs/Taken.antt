@@ -17,7 +17,7 @@ use Rattle.model.specs.Address.{blockOf, sectorIndex, setIndex, lineNumb
 use Rattle.model.specs.Tables.{Line, Entry, Queued, reading, writing, Tables, isInvalid, isReserved, unused, holds, entryFor, empty, fresh}
 use Rattle.model.specs.Sound.{allOnes, maskOk, sectorOk, lineOk, alone, agrees, reservedOk, readingOf, unsentFor, entryOk, queuedOk}
 use Rattle.model.specs.Probe.{Spot}
-use Rattle.model.specs.Steps.{isHit, isMerge, isMiss, onSector, update, join, onMisses, fetches, queues, placesNeeded, entryFull}
+use Rattle.model.specs.Steps.{isHit, isMerge, isMiss, onSector, update, join, onMisses, fetches, queues, placesNeeded, entryFull, afterAccess}
 use Rattle.model.specs.declared.Settings.{Settings}
 use Rattle.model.specs.declared.Status.{Status}
 use Rattle.model.specs.declared.Status.the-variants.{Invalid, Reserved, Valid, Modified}
@@ -241,15 +241,6 @@ pub record Spotted (S : Settings) (t : Tables) (x : Access) (p : Spot) : Type 0 
   pub used : isInvalid (onSector x (p .answer) (getD (p .line .sectors) (sectorIndex (addressOf x)) empty) .status) ≡ false
   pub backed : (es : List Entry) → all (queuedOk es) (p .backs) ≡ true
   pub quiet : (c : ℕ) → any (readingOf c) (p .backs) ≡ false
-
--- the tables that `accept` leaves
-abbrev pub afterAccess : Settings → Access → Spot → Tables → Tables
-afterAccess S x p t = record {
-  lines = set (t .lines) (spotNumber S x p) (update (sectorIndex (addressOf x)) (onSector x (p .answer)) (t .now) (p .line));
-  misses = onMisses x (p .answer) (t .misses);
-  queue = t .queue ++ queues x p;
-  now = t .now;
-}
 
 module _ (S : Settings) (t : Tables) (ok : Sound S t) (x : Access) (formed : wellFormed x ≡ true) (small : maskOf x ≤ allOnes)
     (p : Spot) (sp : Spotted S t x p) where

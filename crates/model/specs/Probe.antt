@@ -8,7 +8,7 @@ use Rattle.model.specs.Words.{pick, any, count}
 use Rattle.model.specs.Numbers.{statusNumber}
 use Rattle.model.specs.Range.{linesOf}
 use Rattle.model.specs.Address.{addressOf, blockOf, sectorIndex, setIndex}
-use Rattle.model.specs.Tables.{Line, Queued, writing, Tables, unused, waiting, dirty, holds, empty, fresh}
+use Rattle.model.specs.Tables.{Line, Queued, writing, Tables, unused, waiting, dirty, holds, empty, emptied, fresh}
 use Rattle.model.specs.Tree.{treeChoice, levels}
 use Rattle.model.specs.declared.Settings.{Settings}
 use Rattle.model.specs.declared.Status.{Status}
@@ -135,7 +135,7 @@ takeOver a ways Nothing = no (pick (any waiting ways) SetBusy SetHeld)
 takeOver a ways (At w) =
     at record {
       way = w;
-      line = record { tag = blockOf a; cycle = 0; sectors = replicate 4 empty };
+      line = emptied (blockOf a);
       answer = Miss;
       backs = writeBack (getD ways w fresh);
     }
@@ -152,3 +152,10 @@ meet R S d ways x (At w) =
 
 unfoldable pub probe : Rule → Settings → ℕ → List Line → Access → Place
 probe R S d ways x = meet R S d ways x (first (holds (blockOf (addressOf x))) ways)
+
+-- what an access meets in these tables, under the rules R, and under the rule of the settings
+abbrev pub metUnder : Rules → Settings → Access → Tables → Place
+metUnder R S x t = probe (R t (addressOf x)) S (dirtyLines t) (waysOf S (t .lines) (addressOf x)) x
+
+abbrev pub metIn : Settings → Access → Tables → Place
+metIn S x t = metUnder (ruleOf S) S x t

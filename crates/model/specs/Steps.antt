@@ -7,9 +7,9 @@ use lib.Dec.{ltb, leb, eqb}
 use lib.Bits.{bitOr}
 use Rattle.model.specs.Words.{pick, any, keep}
 use Rattle.model.specs.Address.{addressOf, isRead, blockOf, sectorIndex, lineNumber, wellFormed}
-use Rattle.model.specs.Tables.{Line, Entry, Queued, reading, writing, Tables, Outcome, refused, done, isInvalid, holds, entryFor, empty}
+use Rattle.model.specs.Tables.{Line, Entry, Queued, reading, writing, Tables, withLines, withMisses, withQueue, withNow, Outcome, refused, done, isInvalid, holds, entryFor, empty}
 use Rattle.model.specs.Sound.{allOnes, lastCycle}
-use Rattle.model.specs.Probe.{Spot, Place, no, at, probe, Rules, ruleOf, waysOf, dirtyLines}
+use Rattle.model.specs.Probe.{Spot, Place, no, at, Rules, ruleOf, metUnder}
 use Rattle.model.specs.declared.Settings.{Settings}
 use Rattle.model.specs.declared.Status.the-variants.{Reserved, Valid, Modified}
 use Rattle.model.specs.declared.Sector.{Sector}
@@ -94,16 +94,16 @@ placesNeeded x p = length (queues x p)
 
 -- ---- the access
 
+-- the line's sector and cycle, the miss table and the queue move, and nothing else
+abbrev pub afterAccess : Settings → Access → Spot → Tables → Tables
+afterAccess S x p t =
+    withQueue (t .queue ++ queues x p)
+    (withMisses (onMisses x (p .answer) (t .misses))
+    (withLines (set (t .lines) (lineNumber S (addressOf x) (p .way)) (update (sectorIndex (addressOf x)) (onSector x (p .answer)) (t .now) (p .line)))
+    t))
+
 unfoldable pub accept : Settings → Access → Spot → Tables → Outcome Tables
-accept S x p t =
-    done (Answered (p .answer) (lineNumber S (addressOf x) (p .way)) ∷ map queuedEvent (queues x p))
-    record {
-      lines = set (t .lines) (lineNumber S (addressOf x) (p .way))
-          (update (sectorIndex (addressOf x)) (onSector x (p .answer)) (t .now) (p .line));
-      misses = onMisses x (p .answer) (t .misses);
-      queue = t .queue ++ queues x p;
-      now = t .now;
-    }
+accept S x p t = done (Answered (p .answer) (lineNumber S (addressOf x) (p .way)) ∷ map queuedEvent (queues x p)) (afterAccess S x p t)
 
 -- its entry has W tickets
 abbrev pub entryFull : Settings → ℕ → Entry → Bool
@@ -121,7 +121,7 @@ proceed S x t (at p) =
 -- 4 "access address not a multiple of 32 or not below 2^48; write mask 0; read mask not 0", then what the access meets under the rules R
 abbrev pub accessUnder : Rules → Settings → Access → Tables → Outcome Tables
 accessUnder R S x t =
-    pick (wellFormed x) (proceed S x t (probe (R t (addressOf x)) S (dirtyLines t) (waysOf S (t .lines) (addressOf x)) x)) (refused BadAccess)
+    pick (wellFormed x) (proceed S x t (metUnder R S x t)) (refused BadAccess)
 
 unfoldable pub access : Settings → Access → Tables → Outcome Tables
 access S x t = accessUnder (ruleOf S) S x t
@@ -136,7 +136,7 @@ marked (reading a) es = map (mark a) es
 marked (writing b ms) es = es
 
 abbrev pub afterSend : Queued → List Queued → Tables → Tables
-afterSend e q t = record { lines = t .lines; misses = marked e (t .misses); queue = q; now = t .now }
+afterSend e q t = withQueue q (withMisses (marked e (t .misses)) t)
 
 abbrev pub sendFrom : List Queued → Tables → Outcome Tables
 sendFrom [] t = refused QueueEmpty
@@ -163,8 +163,7 @@ others a e = not (entryFor a e)
 
 -- "the entry goes, later entries close up"
 abbrev pub afterFill : ℕ → Tables → Tables
-afterFill a t =
-    record { lines = map (fillLine a) (t .lines); misses = keep (others a) (t .misses); queue = t .queue; now = t .now }
+afterFill a t = withMisses (keep (others a) (t .misses)) (withLines (map (fillLine a) (t .lines)) t)
 
 abbrev pub sentFor : ℕ → Entry → Bool
 sentFor a e = entryFor a e && e .sent
@@ -181,4 +180,4 @@ fill a t =
 unfoldable pub tick : ℕ → Tables → Outcome Tables
 tick c t =
     pick (ltb c (t .now) || ltb lastCycle c) (refused BadCycle)
-    (done (Ticked ∷ []) record { lines = t .lines; misses = t .misses; queue = t .queue; now = c })
+    (done (Ticked ∷ []) (withNow c t))

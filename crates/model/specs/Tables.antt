@@ -5,7 +5,7 @@ use mathlib.Core.Bool.{Bool, true, false, not, _&&_, _||_}
 use mathlib.Core.List.{List, [], _∷_}
 use lib.ListN.{replicate}
 use lib.Dec.{eqb}
-use Rattle.model.specs.Words.{pick, all, any}
+use Rattle.model.specs.Words.{all, any}
 use Rattle.model.specs.Range.{linesOf}
 use Rattle.model.specs.declared.Settings.{Settings}
 use Rattle.model.specs.declared.Status.{Status}
@@ -38,6 +38,20 @@ pub record Tables : Type 0 where
   pub misses : List Entry
   pub queue : List Queued
   pub now : ℕ
+
+-- ---- tables with one part another
+
+abbrev pub withLines : List Line → Tables → Tables
+withLines ls t = record { lines = ls; misses = t .misses; queue = t .queue; now = t .now }
+
+abbrev pub withMisses : List Entry → Tables → Tables
+withMisses es t = record { lines = t .lines; misses = es; queue = t .queue; now = t .now }
+
+abbrev pub withQueue : List Queued → Tables → Tables
+withQueue q t = record { lines = t .lines; misses = t .misses; queue = q; now = t .now }
+
+abbrev pub withNow : ℕ → Tables → Tables
+withNow c t = record { lines = t .lines; misses = t .misses; queue = t .queue; now = c }
 
 -- ---- sectors and lines
 
@@ -88,8 +102,12 @@ noEntry = record { address = 0; sent = false; tickets = [] }
 abbrev pub empty : Sector
 empty = record { status = Invalid; mask = 0; readable = true }
 
+-- "all sectors INVALID, readable, with mask 0", under a tag
+abbrev pub emptied : ℕ → Line
+emptied b = record { tag = b; cycle = 0; sectors = replicate 4 empty }
+
 abbrev pub fresh : Line
-fresh = record { tag = 0; cycle = 0; sectors = replicate 4 empty }
+fresh = emptied 0
 
 abbrev pub start : Settings → Tables
 start S = record { lines = replicate (linesOf S) fresh; misses = []; queue = []; now = 0 }

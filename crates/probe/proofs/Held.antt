@@ -9,7 +9,7 @@ use Rattle.model.specs.Words.{count}
 use Rattle.model.specs.Address.{addressOf, setIndex, lineNumber}
 use Rattle.model.specs.Tables.{Line, Tables, dirty, fresh}
 use Rattle.model.specs.Lent.{Lent, tablesOf}
-use Rattle.model.specs.Probe.{waysOf, dirtyLines, probe, ruleOf, byKey, age}
+use Rattle.model.specs.Probe.{waysOf, dirtyLines, probe, ruleOf, byKey, age, metIn}
 use Rattle.model.specs.declared.Settings.{Settings}
 use Rattle.model.specs.declared.Access.{Access}
 use Rattle.probe.specs.declared.Decision.{Decision}
@@ -24,7 +24,7 @@ module _ (S : Settings) (L : Lent) {t : Tables} (e : tablesOf S L ≡ t) where
   dirty-held = ap (count dirty) lines-held
 
   pub decided-probe : {x : Access} {r : Decision} → Decided S (L .longs) (L .words) (L .marks) x r
-      → placeIs (waysOf S (t .lines) (addressOf x)) (addressOf x) r ≡ probe (ruleOf S t (addressOf x)) S (dirtyLines t) (waysOf S (t .lines) (addressOf x)) x
+      → placeIs (waysOf S (t .lines) (addressOf x)) (addressOf x) r ≡ metIn S x t
   unfolding ruleOf
   decided-probe {x} {r} d =
       subst (λ (ls : List Line). placeIs (waysOf S ls (addressOf x)) (addressOf x) r ≡ probe (byKey (age S)) S (count dirty ls) (waysOf S ls (addressOf x)) x)

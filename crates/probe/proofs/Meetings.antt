@@ -9,7 +9,7 @@ use lib.ListN.{getD, replicate}
 use Rattle.model.specs.Words.{pick, count, some}
 use Rattle.model.specs.Range.{linesOf}
 use Rattle.model.specs.Address.{addressOf, blockOf, sectorIndex, setIndex}
-use Rattle.model.specs.Tables.{Line, Queued, writing, dirty, empty, fresh}
+use Rattle.model.specs.Tables.{Line, Queued, writing, dirty, empty, fresh, emptied}
 use Rattle.model.specs.Lent.{tagAt}
 use Rattle.model.specs.Probe.{no, at, answerOf, waysOf, enoughDirty, victim, writeBack, takeOver, meet, probe, byKey, age}
 use Rattle.model.specs.Inner.{Fit}
@@ -85,7 +85,7 @@ module _ (S : Settings) (longs words marks : List ℕ) (x : Access) (way : 1 ≤
   taken-place : (v : Found) → Under (S .ways) v
       → placeIs ways (addressOf x) (missIs (linesOf S) longs words marks base (S .ways) v) ≡ takeOver (addressOf x) ways v
   taken-place (At w) below =
-      ap (λ (q : List Queued). at record { way = w; line = record { tag = blockOf (addressOf x); cycle = 0; sectors = replicate 4 empty }; answer = Miss; backs = q })
+      ap (λ (q : List Queued). at record { way = w; line = emptied (blockOf (addressOf x)); answer = Miss; backs = q })
       (taken-backs w below)
   taken-place Nothing h = go (some (S .ways) (λ w. waitingAt marks (base + w))) ∙ ap (λ (b : Bool). no (pick b SetBusy SetHeld)) (sym (waiting-is (linesOf S) longs words marks base (S .ways) room))
     where

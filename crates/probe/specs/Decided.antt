@@ -6,7 +6,7 @@ use lib.ListN.{getD, replicate}
 use Rattle.model.specs.Words.{pick, count}
 use Rattle.model.specs.Range.{linesOf}
 use Rattle.model.specs.Address.{addressOf, blockOf, lineNumber}
-use Rattle.model.specs.Tables.{Line, Queued, writing, dirty, empty, fresh}
+use Rattle.model.specs.Tables.{Line, Queued, writing, dirty, fresh, emptied}
 use Rattle.model.specs.Lent.{linesIn}
 use Rattle.model.specs.Probe.{Place, no, at, waysOf, probe, byKey, age}
 use Rattle.model.specs.declared.Settings.{Settings}
@@ -26,7 +26,7 @@ placeFor Met ways a d = at record { way = d .way; line = getD ways (d .way) fres
 placeFor Taken ways a d =
     at record {
       way = d .way;
-      line = record { tag = blockOf a; cycle = 0; sectors = replicate 4 empty };
+      line = emptied (blockOf a);
       answer = d .answer;
       backs = backsOf d;
     }

@@ -14,7 +14,7 @@ use Rattle.model.specs.Numbers.{statusNumber}
 use Rattle.model.specs.Range.{linesOf}
 use Rattle.model.specs.Regions.{region, put, closed}
 use Rattle.model.specs.Address.{blockOf, sectorIndex, setIndex, goodBlock}
-use Rattle.model.specs.Tables.{Line, Entry, Tables, done, isInvalid, unused, holds, entryFor, noEntry, empty, fresh}
+use Rattle.model.specs.Tables.{Line, Entry, Tables, done, isInvalid, unused, holds, entryFor, noEntry, empty, fresh, withLines}
 use Rattle.model.specs.Lent.{lent}
 use Rattle.model.specs.Steps.{arrived, fillLine, ticketsOf, afterFill, sentFor, fill}
 use Rattle.model.specs.Calls.{encoded, eventsTold, tidied, Leaves}
@@ -28,7 +28,6 @@ use Rattle.model.specs.declared.Event.the-variants as event
 use Rattle.model.specs.declared.Told.{Told}
 use Rattle.model.proofs.Flags.{and-1, and-2, not-yes, no-not, no-yes, flag, by-flag}
 use Rattle.model.proofs.Lists.{any-in, in-index, in-getD}
-use Rattle.model.proofs.Rows.{row-fits}
 use Rattle.model.proofs.Region.{length-region}
 use Rattle.model.proofs.Places.{take-fit}
 use Rattle.model.proofs.SoundFacts.{Sound, parts, lines-are, line-at, four-at, holder-one, entry-at}
@@ -37,7 +36,7 @@ use Rattle.tables.specs.Layout.{Placed}
 use Rattle.tables.specs.Raw.{First, holdsAt, sectorsFrom, statuses, masks, readables}
 use Rattle.tables.specs.Telling.{telling}
 use Rattle.tables.proofs.Stores.{none}
-use Rattle.tables.proofs.Stands.{Stands, is-stands, stands-encode, withLines}
+use Rattle.tables.proofs.Stands.{Stands, is-stands, stands-encode}
 use Rattle.tables.proofs.Ones.{map-one}
 use Rattle.tables.proofs.Lines.{flag-of-bit, tag-at, status-at, lifted, store-stands}
 use Rattle.tables.proofs.Misses.{misses-used, sent-at, count-at, tickets-at, remove-stands, entry-found, entry-missing}

@@ -10,7 +10,7 @@ use Rattle.model.specs.Words.{fit, places, joined}
 use Rattle.model.specs.Numbers.{statusNumber, statusOf}
 use Rattle.model.specs.Range.{linesOf}
 use Rattle.model.specs.Regions.{put, ahead}
-use Rattle.model.specs.Tables.{Line, Tables, fresh}
+use Rattle.model.specs.Tables.{Line, Tables, fresh, withLines}
 use Rattle.model.specs.Lent.{bit, longBlocks, wordBlocks, markBlocks, tagOf, cycleOf, masksOf, statusesOf, readablesOf}
 use Rattle.model.specs.declared.Settings.{Settings}
 use Rattle.model.specs.declared.Sector.{Sector}
@@ -19,7 +19,7 @@ use Rattle.model.proofs.Places.{length-places, field-put, field-get}
 use Rattle.tables.specs.declared.Layout.{Layout}
 use Rattle.tables.specs.Layout.{Placed}
 use Rattle.tables.specs.Raw.{sectorsFrom, statuses, masks, readables}
-use Rattle.tables.proofs.Stands.{Stands, withLines}
+use Rattle.tables.proofs.Stands.{Stands}
 use Rattle.tables.proofs.Grown.{places-same}
 
 -- four numbers are their own places

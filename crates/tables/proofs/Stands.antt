@@ -7,7 +7,7 @@ use native.Mathlib.Omega.{arith}
 use lib.ListN.{length, length-append}
 use Rattle.model.specs.Words.{joined}
 use Rattle.model.specs.Range.{inRange}
-use Rattle.model.specs.Tables.{Line, Entry, Queued, Tables}
+use Rattle.model.specs.Tables.{Tables}
 use Rattle.model.specs.Lent.{Lent, lent, longBlocks, wordBlocks, markBlocks, encode}
 use Rattle.model.specs.Inner.{Fit, Is}
 use Rattle.model.specs.declared.Settings.{Settings}
@@ -39,14 +39,3 @@ stands-fit {S} {longs} {words} {marks} {t} r h =
       ap length (h .as-words) ∙ simp (length-append, length-places) (omega arith),
       ap length (h .as-marks) ∙ simp (length-append, length-places) (omega arith),
     )
-
--- ---- tables with one table another
-
-abbrev pub withLines : List Line → Tables → Tables
-withLines ls t = record { lines = ls; misses = t .misses; queue = t .queue; now = t .now }
-
-abbrev pub withMisses : List Entry → Tables → Tables
-withMisses es t = record { lines = t .lines; misses = es; queue = t .queue; now = t .now }
-
-abbrev pub withQueue : List Queued → Tables → Tables
-withQueue q t = record { lines = t .lines; misses = t .misses; queue = q; now = t .now }
