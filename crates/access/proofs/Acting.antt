@@ -76,12 +76,12 @@ module _ (S : Settings) {longs words marks : List ℕ} (x : Access) (d : Decisio
   abbrev pub newLine : Line
   newLine = update (sectorIndex (addressOf x)) (onSector x (p .answer)) (t .now) (p .line)
 
-  line-is : getD (t .lines) (d .line) fresh ≡ lineAt (linesOf S) longs words marks (d .line)
+  line-is : getD (t .lines) (d .line) fresh ≡ lineAt S longs words marks (d .line)
   line-is =
       ap (λ (ls : List Line). getD ls (d .line) fresh) (lines-held S (lent longs words marks) (is-tables S (lent longs words marks) t (m .is)))
-      ∙ getD-table (linesOf S) (lineAt (linesOf S) longs words marks) (d .line) fresh (m .below)
+      ∙ getD-table (linesOf S) (lineAt S longs words marks) (d .line) fresh (m .below)
 
-  found-is : p .line .sectors ≡ sectorsFor (d .meeting) (sectorsAt (linesOf S) words marks (d .line))
+  found-is : p .line .sectors ≡ sectorsFor (d .meeting) (sectorsAt S words marks (d .line))
   found-is =
       shows S x d t p m .sectors
       ∙ ap (λ (l : Line). sectorsFor (d .meeting) (l .sectors))
@@ -89,13 +89,13 @@ module _ (S : Settings) {longs words marks : List ℕ} (x : Access) (d : Decisio
       ∙ ap (λ (i : ℕ). getD (t .lines) i fresh) (ap (lineNumber S (addressOf x)) (sym (shows S x d t p m .way)) ∙ sym (m .numbered))
       ∙ line-is)
 
-  left-is : sectorsAfter x d (sectorsFor (d .meeting) (sectorsAt (linesOf S) words marks (d .line))) ≡ newLine .sectors
+  left-is : sectorsAfter x d (sectorsFor (d .meeting) (sectorsAt S words marks (d .line))) ≡ newLine .sectors
   left-is = rw (← found-is, ← answer-is S x d t p m)
 
   pub now-is : getD words 0 0 ≡ t .now
   now-is = ap (λ (L : Lent). getD (L .words) 0 0) (m .is .encoded) ∙ encode-stands S t .time
 
-  pub line-written : {L₁ : Lent} → L₁ ≡ lineWritten place (lent longs words marks) (d .line) (blockOf (addressOf x)) (sectorsAfter x d (sectorsFor (d .meeting) (sectorsAt (linesOf S) words marks (d .line))))
+  pub line-written : {L₁ : Lent} → L₁ ≡ lineWritten place (lent longs words marks) (d .line) (blockOf (addressOf x)) (sectorsAfter x d (sectorsFor (d .meeting) (sectorsAt S words marks (d .line))))
       → Stands S (L₁ .longs) (L₁ .words) (L₁ .marks) (withLines (set (t .lines) (d .line) newLine) t)
   line-written e =
       let b = m .below in

@@ -96,5 +96,5 @@ module _ (S : Settings) {longs words marks : List ℕ} (x : Access) (d : Decisio
       }
 
   pub touched : lent longs (put words (1 + d .line) (getD words 0 0 ∷ [])) marks
-      ≡ lineWritten place (lent longs words marks) (d .line) (blockOf (addressOf x)) (sectorsAfter x d (sectorsFor (d .meeting) (sectorsAt (linesOf S) words marks (d .line))))
+      ≡ lineWritten place (lent longs words marks) (d .line) (blockOf (addressOf x)) (sectorsAfter x d (sectorsFor (d .meeting) (sectorsAt S words marks (d .line))))
   touched = stands-encode touched-stands ∙ sym (stands-encode (line-written S x d t p m pl refl))

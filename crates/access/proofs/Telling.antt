@@ -118,7 +118,7 @@ module _ (S : Settings) {longs words marks : List ℕ} (x : Access) (d : Decisio
   -- ---- what it leaves
 
   pub acted : (L₁ L₂ L₃ : Lent) {r : Told} {b : Bool} → length (d .masks) ≡ 4
-      → L₁ ≡ lineWritten place (lent longs words marks) (d .line) (blockOf (addressOf x)) (sectorsAfter x d (sectorsFor (d .meeting) (sectorsAt (linesOf S) words marks (d .line))))
+      → L₁ ≡ lineWritten place (lent longs words marks) (d .line) (blockOf (addressOf x)) (sectorsAfter x d (sectorsFor (d .meeting) (sectorsAt S words marks (d .line))))
       → L₂ ≡ missesWritten place (S .readers) c (addressOf x) (ticketOf x) L₁
       → b ≡ (isRead x && isMiss (d .answer))
       → L₃ ≡ queueWritten place b n (addressOf x) (d .backs) (d .block) (d .masks) L₂

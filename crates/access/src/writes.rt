@@ -80,7 +80,7 @@ fn change_line(
     requires { ⌜ Placed s at × Fit s (now longs) (now words) (now marks) × (d .line < linesOf s) ⌝ }
     ensures { λ _. ⌜ lent (now (longs .exit)) (now (words .exit)) (now (marks .exit))
         ≡ lineWritten at (lent (now (longs .entry)) (now (words .entry)) (now (marks .entry))) (d .line) (blockOf (addressOf x))
-        (sectorsAfter x d (sectorsFor (d .meeting) (sectorsAt (linesOf s) (now (words .entry)) (now (marks .entry)) (d .line)))) ⌝ }
+        (sectorsAfter x d (sectorsFor (d .meeting) (sectorsAt s (now (words .entry)) (now (marks .entry)) (d .line)))) ⌝ }
 {
     let n = s.sets * s.ways;
     let found = sectors_found(words, marks, n, d);
@@ -109,7 +109,7 @@ fn act_line(
     requires { ⌜ Placed s at × Meets s (lent (now longs) (now words) (now marks)) x d ⌝ }
     ensures { λ _. ⌜ lent (now (longs .exit)) (now (words .exit)) (now (marks .exit))
         ≡ lineWritten at (lent (now (longs .entry)) (now (words .entry)) (now (marks .entry))) (d .line) (blockOf (addressOf x))
-        (sectorsAfter x d (sectorsFor (d .meeting) (sectorsAt (linesOf s) (now (words .entry)) (now (marks .entry)) (d .line)))) ⌝ }
+        (sectorsAfter x d (sectorsFor (d .meeting) (sectorsAt s (now (words .entry)) (now (marks .entry)) (d .line)))) ⌝ }
 {
     let a = d.answer;
     if keeps_line(x, a) {

@@ -9,7 +9,8 @@ use lib.ListN.{length, set, replicate, length-set, length-replicate, getD-replic
 use lib.Seq.{paste, paste-zero, paste-suc}
 use Rattle.model.specs.declared.Settings.{Settings}
 use Rattle.model.specs.Words.{fit, places, joined}
-use Rattle.model.specs.Range.{linesOf, longsLength, wordsLength, marksLength}
+use Rattle.model.specs.Range.{linesOf}
+use Rattle.model.specs.Layout.{longsLength, wordsLength, marksLength}
 use Rattle.model.specs.Tables.{fresh, start}
 use Rattle.model.specs.Lent.{lent, tagOf, cycleOf, masksOf, statusesOf, readablesOf, missOf, sentOf, ticketCountOf, ticketsIn, queuedOf, kindOf, queueMasksOf, longBlocks, wordBlocks, markBlocks, encode}
 use Rattle.model.specs.Regions.{put}

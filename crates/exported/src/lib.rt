@@ -12,7 +12,7 @@ use rounds::Waiting;
 ghost use mathlib.Core.Path.{_≡_};
 ghost use mathlib.Core.List.{[], _∷_};
 ghost use lib.ListN.{length};
-ghost use Rattle.model.specs.Range.{longsLength, wordsLength, marksLength};
+ghost use Rattle.model.specs.Layout.{longsLength, wordsLength, marksLength};
 ghost use Rattle.model.specs.Tables.{after};
 ghost use Rattle.model.specs.Lent.{lent};
 ghost use Rattle.model.specs.Calls.{freshCall, checkCall, verdictOf, accessCall, sendCall, fillCall, tickCall};

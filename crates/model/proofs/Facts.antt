@@ -26,10 +26,10 @@ module _ (S : Settings) (L : Lent) where
   status = statusAt (L .marks)
 
   abbrev pub mask : ℕ → ℕ
-  mask = maskAt (linesOf S) (L .words)
+  mask = maskAt S (L .words)
 
   abbrev pub readable : ℕ → ℕ
-  readable = readableAt (linesOf S) (L .marks)
+  readable = readableAt S (L .marks)
 
   abbrev pub miss : ℕ → ℕ
   miss = missAt S (L .longs)

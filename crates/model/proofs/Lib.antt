@@ -28,6 +28,7 @@ pub mod Bound
 pub mod Facts
 pub mod Tabled
 pub mod InUse
+pub mod Slices
 pub mod Standing
 pub mod Shapes
 pub mod Soundly

@@ -134,9 +134,9 @@ tables-back : (t : Tables) {ls : List Line} {es : List Entry} {q : List Queued} 
 tables-back t p q r w = rw (p, q, r, w)
 
 -- the four sectors of a line, as a table
-pub sectors-table : (n : ℕ) (words marks : List ℕ) (l : ℕ) → sectorsAt n words marks l ≡ table 4 (λ k. sectorAt n words marks (4 * l + k))
+pub sectors-table : (S : Settings) (words marks : List ℕ) (l : ℕ) → sectorsAt S words marks l ≡ table 4 (λ k. sectorAt S words marks (4 * l + k))
 unfolding table
-sectors-table n words marks l = rw (add-zero (4 * l))
+sectors-table S words marks l = rw (add-zero (4 * l))
 
 -- ---- the numbers
 
@@ -241,18 +241,18 @@ module _ (S : Settings) (L : Lent) (t : Tables) (st : Stands S L t) (sh : Shape 
 
   -- ---- the tables read off
 
-  sector-again : (l k : ℕ) → l < linesOf S → k < 4 → sectorAt (linesOf S) (L .words) (L .marks) (4 * l + k) ≡ sector t l k
+  sector-again : (l k : ℕ) → l < linesOf S → k < 4 → sectorAt S (L .words) (L .marks) (4 * l + k) ≡ sector t l k
   sector-again l k h j =
       sector-back (sector t l k)
       (ap statusOf (status-is l k h j) ∙ status-of-number (sector t l k .status))
       (mask-is l k h j)
       (ap (λ (n : ℕ). eqb n 1) (readable-is l k h j) ∙ bit-back (sector t l k .readable))
 
-  line-again : (l : ℕ) → l < linesOf S → lineAt (linesOf S) (L .longs) (L .words) (L .marks) l ≡ line t l
+  line-again : (l : ℕ) → l < linesOf S → lineAt S (L .longs) (L .words) (L .marks) l ≡ line t l
   line-again l h =
       line-back (line t l) (tag-is l h) (cycle-is l h)
-      (sectors-table (linesOf S) (L .words) (L .marks) l
-      ∙ table-list 4 (λ k. sectorAt (linesOf S) (L .words) (L .marks) (4 * l + k)) (line t l .sectors) empty (sh .fours l h) (λ k j. sector-again l k h j))
+      (sectors-table S (L .words) (L .marks) l
+      ∙ table-list 4 (λ k. sectorAt S (L .words) (L .marks) (4 * l + k)) (line t l .sectors) empty (sh .fours l h) (λ k j. sector-again l k h j))
 
   entry-again : (e : ℕ) → e < length (t .misses) → entryAt S L e ≡ entry t e
   entry-again e l =
@@ -279,7 +279,7 @@ module _ (S : Settings) (L : Lent) (t : Tables) (st : Stands S L t) (sh : Shape 
   unfolding tablesOf
   stands-tables =
       tables-back t
-      (table-list (linesOf S) (lineAt (linesOf S) (L .longs) (L .words) (L .marks)) (t .lines) fresh (sh .size) line-again)
+      (table-list (linesOf S) (lineAt S (L .longs) (L .words) (L .marks)) (t .lines) fresh (sh .size) line-again)
       (ap (λ (n : ℕ). table n (entryAt S L)) entries-in-use ∙ table-list (length (t .misses)) (entryAt S L) (t .misses) noEntry refl entry-again)
       (ap (λ (n : ℕ). table n (queueAt S L)) places-in-use ∙ table-list (length (t .queue)) (queueAt S L) (t .queue) (reading 0) refl place-again)
       (st .time)

@@ -27,10 +27,10 @@ module _ (S : Settings) (longs words marks : List ℕ) where
   status = statusAt marks
 
   abbrev mask : ℕ → ℕ
-  mask = maskAt (linesOf S) words
+  mask = maskAt S words
 
   abbrev readable : ℕ → ℕ
-  readable = readableAt (linesOf S) marks
+  readable = readableAt S marks
 
   abbrev miss : ℕ → ℕ
   miss = missAt S longs

@@ -38,7 +38,7 @@ placeIs ways a d = placeFor (d .meeting) ways a d
 
 -- the lines of the whole cache in the slices
 abbrev pub linesHeld : Settings → List ℕ → List ℕ → List ℕ → List Line
-linesHeld S longs words marks = linesIn (linesOf S) longs words marks
+linesHeld S longs words marks = linesIn S longs words marks
 
 pub record Decided (S : Settings) (longs words marks : List ℕ) (x : Access) (r : Decision) : Type 0 where
   pub place : placeIs (waysOf S (linesHeld S longs words marks) (addressOf x)) (addressOf x) r

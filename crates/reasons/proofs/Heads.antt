@@ -70,7 +70,7 @@ module _ (S : Settings) {longs words marks : List ℕ} (t : Tables) (i : Is S (l
 -- ---- the dirty lines
 
 module _ (S : Settings) {longs words marks : List ℕ} (t : Tables) (i : Is S (lent longs words marks) t) where
-  pub lines-shown : {d m : ℕ} → ((longs words : List ℕ) → d ≡ count dirty (linesIn (linesOf S) longs words marks)) → m ≡ missingLines (S .percent) (linesOf S) d
+  pub lines-shown : {d m : ℕ} → ((longs words : List ℕ) → d ≡ count dirty (linesIn S longs words marks)) → m ≡ missingLines (S .percent) (linesOf S) d
       → reason.Lines m d (linesOf S) (S .percent) ≡ linesReason S (dirtyLines t)
   lines-shown {d} f e =
       let same : dirtyLines t ≡ d = dirty-held S (lent longs words marks) (is-tables S (lent longs words marks) t i) ∙ sym (f longs words) in

@@ -10,7 +10,8 @@ use lib.ListN.{length, take, drop, length-drop}
 use lib.Seq.{take-all}
 use lib.Dec.{ltb, eqb}
 use Rattle.model.specs.Words.{pick}
-use Rattle.model.specs.Range.{inRange, longsLength, wordsLength, marksLength}
+use Rattle.model.specs.Range.{inRange}
+use Rattle.model.specs.Layout.{longsLength, wordsLength, marksLength}
 use Rattle.model.specs.Tables.{Tables}
 use Rattle.model.specs.Lent.{Lent, lengthsFit}
 use Rattle.model.specs.Records.{isCommand, lengthOf, numberAt}

@@ -8,7 +8,8 @@ mod queue;
 
 ghost use mathlib.Core.Path.{_≡_};
 ghost use mathlib.Core.Bool.{true};
-ghost use Rattle.model.specs.Range.{powerTo256, inRange, longsLength, wordsLength, marksLength};
+ghost use Rattle.model.specs.Range.{powerTo256, inRange};
+ghost use Rattle.model.specs.Layout.{longsLength, wordsLength, marksLength};
 ghost use Rattle.model.specs.Lent.{lent, lengthsFit};
 ghost use Rattle.model.specs.SoundLent.{soundNumbers};
 ghost use Rattle.model.specs.Calls.{checkCall, verdictOf};
