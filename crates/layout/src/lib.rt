@@ -7,6 +7,7 @@ mod sectors;
 
 pub use fresh::make_fresh;
 pub use places::find_mark;
+pub use places::gathered;
 pub use places::used;
 pub use ranges::in_range;
 pub use ranges::lengths_fit;
