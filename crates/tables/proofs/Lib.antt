@@ -6,4 +6,5 @@ pub mod Stands
 pub mod Queue
 pub mod Misses
 pub mod Lines
+pub mod DirtyCount
 pub mod Tellings

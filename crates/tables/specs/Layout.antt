@@ -1,20 +1,20 @@
 -- Where each part of the tables begins in the three lent slices, by the settings.
 use mathlib.Core.Path.{_≡_}
-use Prim.Native.Nat.{_+_, _*_}
-use Rattle.model.specs.Range.{linesOf}
+use Rattle.model.specs.Layout.{longsFrom, wordsFrom, marksFrom, missRegion, queueRegion, maskRegion, ticketRegion, queueMaskRegion, dirtyCountRegion, readableRegion, sentRegion, ticketCountRegion, kindRegion}
 use Rattle.model.specs.declared.Settings.{Settings}
 use Rattle.tables.specs.declared.Layout.{Layout}
 
 pub record Placed (S : Settings) (at : Layout) : Type 0 where
   -- of longs, behind the tags
-  pub misses : at .misses ≡ linesOf S
-  pub queue : at .queue ≡ linesOf S + S .entries
+  pub misses : at .misses ≡ longsFrom S missRegion
+  pub queue : at .queue ≡ longsFrom S queueRegion
   -- of words, behind the current cycle and the cycles
-  pub masks : at .masks ≡ 1 + linesOf S
-  pub tickets : at .tickets ≡ 1 + 5 * linesOf S
-  pub backs : at .backs ≡ 1 + 5 * linesOf S + S .readers * S .entries
+  pub masks : at .masks ≡ wordsFrom S maskRegion
+  pub tickets : at .tickets ≡ wordsFrom S ticketRegion
+  pub backs : at .backs ≡ wordsFrom S queueMaskRegion
+  pub dirty : at .dirty ≡ wordsFrom S dirtyCountRegion
   -- of marks, behind the statuses
-  pub readables : at .readables ≡ 4 * linesOf S
-  pub sent : at .sent ≡ 8 * linesOf S
-  pub counts : at .counts ≡ 8 * linesOf S + S .entries
-  pub kinds : at .kinds ≡ 8 * linesOf S + 2 * S .entries
+  pub readables : at .readables ≡ marksFrom S readableRegion
+  pub sent : at .sent ≡ marksFrom S sentRegion
+  pub counts : at .counts ≡ marksFrom S ticketCountRegion
+  pub kinds : at .kinds ≡ marksFrom S kindRegion
