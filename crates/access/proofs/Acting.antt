@@ -28,10 +28,10 @@ use Rattle.model.proofs.Offered.{probe-spotted}
 use Rattle.model.proofs.Bridge.{is-tables}
 use Rattle.model.proofs.Standing.{encode-stands}
 use Rattle.model.proofs.Tabled.{getD-table}
-use Rattle.tables.specs.declared.Layout.{Layout}
-use Rattle.tables.specs.Layout.{Placed}
-use Rattle.tables.proofs.Stands.{Stands, is-stands}
-use Rattle.tables.proofs.Lines.{line-stands}
+use Rattle.layout.specs.declared.Layout.{Layout}
+use Rattle.layout.specs.Layout.{Placed}
+use Rattle.layout.proofs.Stands.{Stands, is-stands}
+use Rattle.layout.proofs.Lines.{line-stands}
 use Rattle.tables.proofs.Misses.{withTicket, unsent, append-stands, new-entry-stands}
 use Rattle.tables.proofs.Queue.{push-read-stands, push-write-back-stands}
 use Rattle.tables.proofs.Ones.{map-one}

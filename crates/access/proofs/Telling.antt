@@ -23,9 +23,9 @@ use Rattle.model.specs.declared.Event.the-variants.{Answered}
 use Rattle.model.specs.declared.Told.{Told}
 use Rattle.model.proofs.Bridge.{is-fit}
 use Rattle.model.proofs.SoundFacts.{parts}
-use Rattle.tables.specs.declared.Layout.{Layout}
-use Rattle.tables.specs.Layout.{Placed}
-use Rattle.tables.proofs.Stands.{stands-encode}
+use Rattle.layout.specs.declared.Layout.{Layout}
+use Rattle.layout.specs.Layout.{Placed}
+use Rattle.layout.proofs.Stands.{stands-encode}
 use Rattle.probe.specs.declared.Decision.{Decision}
 use Rattle.access.specs.Plan.{Met, Acts, goes, ticketOf}
 use Rattle.access.specs.Written.{sectorsFor, sectorsAfter, lineWritten, missesWritten, queueWritten, tellingOf, MissRoom, ReadRoom, BackRoom}

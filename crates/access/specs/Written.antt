@@ -13,8 +13,8 @@ use Rattle.model.specs.declared.Access.{Access}
 use Rattle.model.specs.declared.Sector.{Sector}
 use Rattle.model.specs.declared.Told.{Told}
 use Rattle.model.specs.declared.Event.the-variants.{Answered}
-use Rattle.tables.specs.declared.Layout.{Layout}
-use Rattle.tables.specs.Raw.{statuses, masks, readables}
+use Rattle.layout.specs.declared.Layout.{Layout}
+use Rattle.layout.specs.Sectors.{statuses, masks, readables}
 use Rattle.probe.specs.declared.Meeting.{Meeting}
 use Rattle.probe.specs.declared.Meeting.the-variants as meeting
 use Rattle.probe.specs.declared.Decision.{Decision}

@@ -85,8 +85,8 @@ fn offer(
     ensures { λ r. ⌜ Offered s (lent (now (longs .entry)) (now (words .entry)) (now (marks .entry))) x d r
         (lent (now (longs .exit)) (now (words .exit)) (now (marks .exit))) ⌝ }
 {
-    let at = tables::laid_out(s);
-    let queued = tables::used(marks, at.kinds, s.places);
+    let at = layout::laid_out(s);
+    let queued = layout::used(marks, at.kinds, s.places);
     let course = course_of(s, at, longs, words, marks, x, d, queued);
     if going(course) {
         return act(s, at, longs, words, marks, x, d, queued, course);

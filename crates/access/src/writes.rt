@@ -9,7 +9,7 @@ ghost use Rattle.model.specs.Words.{pick, one};
 ghost use Rattle.model.specs.Lent.{lent, sectorsAt};
 ghost use Rattle.model.specs.Inner.{Fit};
 ghost use Rattle.model.specs.Range.{linesOf};
-ghost use Rattle.tables.specs.Layout.{Placed};
+ghost use Rattle.layout.specs.Layout.{Placed};
 ghost use Rattle.access.specs.Plan.{Meets, MayAct, Acted};
 ghost use Rattle.access.specs.Written.{sectorsFor, sectorsAfter, lineWritten, missesWritten, readWritten, backWritten, queueWritten, tellingOf, MissRoom, ReadRoom, BackRoom};
 ghost use mathlib.Core.Bool.{not, _&&_};
@@ -21,6 +21,7 @@ use crate::asked::ticket_of;
 use crate::course::Course;
 use crate::sector::sectors_found;
 use crate::sector::sectors_left;
+use layout::Layout;
 use model::Access;
 use model::Answer;
 use model::BlockAddress;
@@ -30,7 +31,6 @@ use model::SectorAddress;
 use model::Settings;
 use model::Told;
 use probe::Decision;
-use tables::Layout;
 
 // The line's cycle becomes the current one.
 fn touch(words: &mut [u32], line: usize)
@@ -64,7 +64,7 @@ fn write_line(
 {
     write_tag(longs, line, block);
     touch(words, line);
-    tables::store(at, words, marks, line, four);
+    layout::store(at, words, marks, line, four);
 }
 
 // The access's line: what it finds there, changed and stored back.

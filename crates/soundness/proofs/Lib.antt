@@ -1,5 +1,4 @@
 pub mod Tests
-pub mod OfRange
 pub mod FineLines
 pub mod OfLines
 pub mod OfSectors

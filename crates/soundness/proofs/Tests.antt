@@ -1,19 +1,11 @@
--- Tests as the code makes them: of a callee's answer, and in a loop that leaves at the first fault, Below's laws turned round.
-use mathlib.Core.Path.{_≡_, refl, sym, _∙_}
+-- Tests as the code makes them in a loop that leaves at the first fault, Below's laws turned round.
+use mathlib.Core.Path.{_≡_, refl}
 use mathlib.Core.Bool.{Bool, true, false, not, _&&_}
 use Prim.Native.Nat.{ℕ, zero, suc, _+_, _≤_, _<_}
 use native.Mathlib.Numerals.{add-one}
 use native.Mathlib.Omega.{arith}
 use Rattle.model.specs.Words.{every, some, imp}
-use Rattle.model.proofs.Flags.{not-yes, no-not}
 use Rattle.model.proofs.Below.{Passed, passed-stop, passed-more}
-
--- `if !r` after a call whose answer is r
-pub said-no : {r b : Bool} → r ≡ b → not r ≡ true → b ≡ false
-said-no e t = sym e ∙ not-yes t
-
-pub said-yes : {r b : Bool} → r ≡ b → not r ≡ false → b ≡ true
-said-yes e t = sym e ∙ no-not t
 
 module _ (p : ℕ → Bool) where
   pub fault-stop : (n i : ℕ) {f : Bool} → i < n → not f ≡ p i → f ≡ true → false ≡ every n p

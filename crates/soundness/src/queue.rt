@@ -5,9 +5,9 @@ ghost use lib.ListN.{length, getD};
 ghost use Rattle.model.specs.Words.{every, countBelow};
 ghost use Rattle.model.specs.Inner.{Fit};
 ghost use Rattle.model.specs.SoundLent as is;
-use crate::layout::kind;
-use crate::layout::queued;
 use crate::misses::has_unsent;
+use crate::offsets::kind;
+use crate::offsets::queued;
 use model::SectorAddress;
 use model::Settings;
 

@@ -31,14 +31,16 @@ use Rattle.model.proofs.Lists.{any-in, in-index, in-getD}
 use Rattle.model.proofs.Region.{length-region}
 use Rattle.model.proofs.Places.{take-fit}
 use Rattle.model.proofs.SoundFacts.{Sound, parts, lines-are, line-at, four-at, holder-one, entry-at}
-use Rattle.tables.specs.declared.Layout.{Layout}
-use Rattle.tables.specs.Layout.{Placed}
-use Rattle.tables.specs.Raw.{First, holdsAt, sectorsFrom, statuses, masks, readables}
+use Rattle.layout.specs.declared.Layout.{Layout}
+use Rattle.layout.specs.Layout.{Placed}
+use Rattle.layout.specs.Places.{First}
+use Rattle.layout.specs.Sectors.{sectorsFrom, statuses, masks, readables}
+use Rattle.tables.specs.Raw.{holdsAt}
 use Rattle.tables.specs.Telling.{telling}
-use Rattle.tables.proofs.Stores.{none}
-use Rattle.tables.proofs.Stands.{Stands, is-stands, stands-encode}
+use Rattle.layout.proofs.Stores.{none}
+use Rattle.layout.proofs.Stands.{Stands, is-stands, stands-encode}
 use Rattle.tables.proofs.Ones.{map-one}
-use Rattle.tables.proofs.Lines.{flag-of-bit, tag-at, status-at, lifted, store-stands}
+use Rattle.layout.proofs.Lines.{flag-of-bit, tag-at, status-at, lifted, store-stands}
 use Rattle.tables.proofs.Misses.{misses-used, sent-at, count-at, tickets-at, remove-stands, entry-found, entry-missing}
 use Rattle.tables.proofs.Tellings.{refusal-leaves, done-leaves}
 use Rattle.steps.specs.Parts.{Holding, arrivedAt, SectorFilled, LineFilled, releasing}

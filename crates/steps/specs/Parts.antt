@@ -12,8 +12,10 @@ use Rattle.model.specs.Steps.{arrived}
 use Rattle.model.specs.declared.Sector.{Sector}
 use Rattle.model.specs.declared.Event.the-variants.{Filled}
 use Rattle.model.specs.declared.Told.{Told}
-use Rattle.tables.specs.declared.Layout.{Layout}
-use Rattle.tables.specs.Raw.{First, holdsAt, sectorsFrom, statuses, masks, readables}
+use Rattle.layout.specs.declared.Layout.{Layout}
+use Rattle.layout.specs.Places.{First}
+use Rattle.layout.specs.Sectors.{sectorsFrom, statuses, masks, readables}
+use Rattle.tables.specs.Raw.{holdsAt}
 
 -- ---- send
 

@@ -13,9 +13,8 @@ use Rattle.access.proofs.writes.act.Reads as act-reads
 use Rattle.access.proofs.course.course_of.Reads as course-of-reads
 use Rattle.access.proofs.course.going.Reads as going-reads
 use Rattle.access.proofs.course.refusal_in.Reads as refusal-in-reads
-use Rattle.tables.proofs.laid_out.Reads as laid-out-reads
+use Rattle.layout.proofs.laid_out.Reads as laid-out-reads
 use Rattle.tables.proofs.refused.Reads as refused-reads
-use Rattle.tables.proofs.used.Reads as used-reads
 
 pub offer-spec : {M : Type 1} → statement M
 offer-spec =

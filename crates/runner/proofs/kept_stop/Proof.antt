@@ -1,8 +1,8 @@
 -- The checks in order.
 use borrow.Author.Needs.{needs}
 use Rattle.model.specs.Lent.{lent}
-use Rattle.soundness.proofs.Tests.{said-no, said-yes}
-use Rattle.soundness.proofs.Verdicts.{lengths-fit}
+use Rattle.layout.proofs.Said.{said-no, said-yes}
+use Rattle.layout.proofs.OfRange.{lengths-fit}
 use Rattle.runner.proofs.Kept.{kept-out, kept-length, kept-unsound, kept-goes}
 use Rattle.runner.proofs.kept_stop.Statement.{statement}
 use Rattle.runner.proofs.kept_stop.Tie as tie

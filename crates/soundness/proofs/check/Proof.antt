@@ -1,7 +1,8 @@
 use borrow.Author.Needs.{needs}
 use Rattle.model.specs.Lent.{lent}
-use Rattle.soundness.proofs.Tests.{said-no, said-yes}
-use Rattle.soundness.proofs.Verdicts.{setting-refused, length-refused, unsound-refused, none-refused, lengths-fit}
+use Rattle.layout.proofs.Said.{said-no, said-yes}
+use Rattle.layout.proofs.OfRange.{lengths-fit}
+use Rattle.soundness.proofs.Verdicts.{setting-refused, length-refused, unsound-refused, none-refused}
 use Rattle.soundness.proofs.check.Statement.{statement}
 use Rattle.soundness.proofs.check.Tie as tie
 

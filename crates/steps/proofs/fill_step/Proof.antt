@@ -1,7 +1,7 @@
 -- Fill, from what its parts ensure.
 use native.Mathlib.Nat.{mul-le-mul-left}
 use Rattle.steps.proofs.Filling.{fill-refused, fill-inside, fill-count, fill-holding, fill-leaves}
-use Rattle.tables.proofs.Stands.{is-stands, stands-fit}
+use Rattle.layout.proofs.Stands.{is-stands, stands-fit}
 use Rattle.model.proofs.Places.{stride}
 use native.Mathlib.Omega.{arith}
 use borrow.Author.Needs.{needs}
