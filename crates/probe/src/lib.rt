@@ -93,7 +93,7 @@ fn is_waiting(marks: &[u8], l: usize) -> bool
 }
 
 // Whether a sector of line l is MODIFIED.
-fn is_dirty(marks: &[u8], l: usize) -> bool
+pub fn is_dirty(marks: &[u8], l: usize) -> bool
     requires { ⌜ 4 * l + 4 ≤ length (now marks) ⌝ }
     ensures { λ r. ⌜ r ≡ dirtyAt (now (marks .entry)) l ⌝ }
 {
