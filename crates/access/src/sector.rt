@@ -3,9 +3,10 @@ ghost use mathlib.Core.Path.{_≡_};
 ghost use Prim.Native.Nat.{_+_, _*_, _≤_, _<_};
 ghost use lib.ListN.{length};
 ghost use Rattle.model.specs.Words.{pick};
-ghost use Rattle.model.specs.Tables.{isInvalid, empty};
+ghost use Rattle.model.specs.Tables.{isInvalid, isModified, empty};
 ghost use Rattle.model.specs.Lent.{sectorsAt};
-ghost use Rattle.access.specs.Written.{sectorsFor, sectorsAfter};
+ghost use Rattle.model.specs.Range.{linesOf};
+ghost use Rattle.access.specs.Written.{sectorsFor, sectorsAfter, someModified};
 ghost use Rattle.model.specs.declared.Status.the-variants.{Reserved};
 ghost use Rattle.model.specs.declared.Access.the-variants.{Write};
 ghost use mathlib.Core.Bool.{true};
@@ -15,6 +16,7 @@ use crate::asked::is_miss;
 use model::Access;
 use model::Answer;
 use model::Sector;
+use model::Settings;
 use model::Status;
 use probe::Decision;
 use probe::Meeting;
@@ -28,6 +30,25 @@ fn is_invalid(s: Status) -> bool
         Status::Valid => false,
         Status::Modified => false,
     }
+}
+
+fn is_modified(s: Sector) -> bool
+    ensures { λ r. ⌜ r ≡ isModified (s .status) ⌝ }
+{
+    let status = s.status;
+    match status {
+        Status::Invalid => false,
+        Status::Reserved => false,
+        Status::Valid => false,
+        Status::Modified => true,
+    }
+}
+
+// Whether one of the four is MODIFIED.
+pub(crate) fn some_modified(four: [Sector; 4]) -> bool
+    ensures { λ r. ⌜ r ≡ someModified four ⌝ }
+{
+    is_modified(four[0]) | is_modified(four[1]) | is_modified(four[2]) | is_modified(four[3])
 }
 
 // The sector that a read leaves: fetched on a miss, else as it was.
@@ -95,13 +116,13 @@ fn empty_sector() -> Sector
 }
 
 // The sectors that the access finds in its line: those that stand there, or four empty ones of a line taken over.
-pub(crate) fn sectors_found(words: &[u32], marks: &[u8], n: usize, d: Decision) -> [Sector; 4]
-    requires { ⌜ (d .line < n) × (n ≤ 1024) × (1 + 5 * n ≤ length (now words)) × (8 * n ≤ length (now marks)) ⌝ }
-    ensures { λ r. ⌜ r ≡ sectorsFor (d .meeting) (sectorsAt n (now (words .entry)) (now (marks .entry)) (d .line)) ⌝ }
+pub(crate) fn sectors_found(s: Settings, words: &[u32], marks: &[u8], d: Decision) -> [Sector; 4]
+    requires { ⌜ (d .line < linesOf s) × (linesOf s ≤ 1024) × (1 + 5 * linesOf s ≤ length (now words)) × (8 * linesOf s ≤ length (now marks)) ⌝ }
+    ensures { λ r. ⌜ r ≡ sectorsFor (d .meeting) (sectorsAt s (now (words .entry)) (now (marks .entry)) (d .line)) ⌝ }
 {
     let m = d.meeting;
     match m {
-        Meeting::Met => probe::sectors_at(words, marks, n, d.line),
+        Meeting::Met => probe::sectors_at(s, words, marks, d.line),
         Meeting::Taken => [empty_sector(); 4],
         Meeting::Busy => [empty_sector(); 4],
         Meeting::Held => [empty_sector(); 4],

@@ -1,6 +1,6 @@
-// The writes of an access that is not refused, in order: its line, the miss table, the queue. Then what it tells.
+// The writes of an access that is not refused, in order: the dirty count and its line, the miss table, the queue. Then what it tells.
 ghost use mathlib.Core.Path.{_≡_};
-ghost use Prim.Native.Nat.{ℕ, _+_, _*_, _≤_, _<_};
+ghost use Prim.Native.Nat.{ℕ, _+_, _-_, _*_, _≤_, _<_};
 ghost use mathlib.Core.List.{List, [], _∷_};
 ghost use lib.ListN.{length, getD};
 ghost use Rattle.model.specs.Regions.{put};
@@ -10,8 +10,9 @@ ghost use Rattle.model.specs.Lent.{lent, sectorsAt};
 ghost use Rattle.model.specs.Inner.{Fit};
 ghost use Rattle.model.specs.Range.{linesOf};
 ghost use Rattle.layout.specs.Layout.{Placed};
+ghost use Rattle.probe.specs.Scan.{dirtyAt};
 ghost use Rattle.access.specs.Plan.{Meets, MayAct, Acted};
-ghost use Rattle.access.specs.Written.{sectorsFor, sectorsAfter, lineWritten, missesWritten, readWritten, backWritten, queueWritten, tellingOf, MissRoom, ReadRoom, BackRoom};
+ghost use Rattle.access.specs.Written.{sectorsFor, sectorsAfter, lineWritten, lineLeft, missesWritten, readWritten, backWritten, queueWritten, tellingOf, MissRoom, ReadRoom, BackRoom};
 ghost use mathlib.Core.Bool.{not, _&&_};
 ghost use Rattle.model.specs.Steps.{isMiss};
 use crate::asked::fetches;
@@ -21,6 +22,7 @@ use crate::asked::ticket_of;
 use crate::course::Course;
 use crate::sector::sectors_found;
 use crate::sector::sectors_left;
+use crate::sector::some_modified;
 use layout::Layout;
 use model::Access;
 use model::Answer;
@@ -47,6 +49,31 @@ fn write_tag(longs: &mut [u64], line: usize, block: BlockAddress)
     longs[line] = block.0;
 }
 
+// So many dirty lines, when one that was dirty or not becomes so or not.
+fn recounted(count: u32, was: bool, is: bool) -> u32
+    requires { ⌜ (count ≤ 1024) × (one was ≤ count) ⌝ }
+    ensures { λ r. ⌜ r ≡ count + one is - one was ⌝ }
+{
+    if is {
+        if was {
+            return count;
+        }
+        return count + 1;
+    }
+    if was {
+        return count - 1;
+    }
+    count
+}
+
+// The dirty count, when a line that was dirty or not becomes so or not.
+fn recount(words: &mut [u32], place: usize, was: bool, is: bool)
+    requires { ⌜ (place < length (now words)) × (getD (now words) place 0 ≤ 1024) × (one was ≤ getD (now words) place 0) ⌝ }
+    ensures { λ _. ⌜ now (words .exit) ≡ put (now (words .entry)) place ((getD (now (words .entry)) place 0 + one is - one was) ∷ []) ⌝ }
+{
+    words[place] = recounted(words[place], was, is);
+}
+
 // A line with its tag, the current cycle and its four sectors.
 fn write_line(
     at: Layout,
@@ -67,7 +94,7 @@ fn write_line(
     layout::store(at, words, marks, line, four);
 }
 
-// The access's line: what it finds there, changed and stored back.
+// The access's line: what it finds there, changed and stored back, and counted.
 fn change_line(
     s: Settings,
     at: Layout,
@@ -77,14 +104,16 @@ fn change_line(
     x: Access,
     d: Decision,
 )
-    requires { ⌜ Placed s at × Fit s (now longs) (now words) (now marks) × (d .line < linesOf s) ⌝ }
+    requires { ⌜ Placed s at × Fit s (now longs) (now words) (now marks) × (d .line < linesOf s) × (getD (now words) (at .dirty) 0 ≤ 1024)
+        × (one (dirtyAt (now marks) (d .line)) ≤ getD (now words) (at .dirty) 0) ⌝ }
     ensures { λ _. ⌜ lent (now (longs .exit)) (now (words .exit)) (now (marks .exit))
-        ≡ lineWritten at (lent (now (longs .entry)) (now (words .entry)) (now (marks .entry))) (d .line) (blockOf (addressOf x))
+        ≡ lineLeft at (lent (now (longs .entry)) (now (words .entry)) (now (marks .entry))) (d .line) (blockOf (addressOf x))
         (sectorsAfter x d (sectorsFor (d .meeting) (sectorsAt s (now (words .entry)) (now (marks .entry)) (d .line)))) ⌝ }
 {
-    let n = s.sets * s.ways;
-    let found = sectors_found(words, marks, n, d);
+    let was = probe::is_dirty(marks, d.line);
+    let found = sectors_found(s, words, marks, d);
     let four = sectors_left(x, d, found);
+    recount(words, at.dirty, was, some_modified(four));
     let block = model::block_of(model::address_of(x));
     write_line(at, longs, words, marks, d.line, block, four);
 }
@@ -108,7 +137,7 @@ fn act_line(
 )
     requires { ⌜ Placed s at × Meets s (lent (now longs) (now words) (now marks)) x d ⌝ }
     ensures { λ _. ⌜ lent (now (longs .exit)) (now (words .exit)) (now (marks .exit))
-        ≡ lineWritten at (lent (now (longs .entry)) (now (words .entry)) (now (marks .entry))) (d .line) (blockOf (addressOf x))
+        ≡ lineLeft at (lent (now (longs .entry)) (now (words .entry)) (now (marks .entry))) (d .line) (blockOf (addressOf x))
         (sectorsAfter x d (sectorsFor (d .meeting) (sectorsAt s (now (words .entry)) (now (marks .entry)) (d .line)))) ⌝ }
 {
     let a = d.answer;

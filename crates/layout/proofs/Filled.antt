@@ -1,6 +1,6 @@
 -- A region filled with one number, turn by turn; slices so filled are the encoding of fresh tables.
 use mathlib.Core.Path.{_≡_, refl, sym, ap, _∙_}
-use mathlib.Core.List.{List, [], _++_, append-nil}
+use mathlib.Core.List.{List, [], _++_, append-nil, _∷_}
 use Prim.Native.Nat.{ℕ, zero, suc, _+_, _*_, _≤_, _<_}
 use native.Mathlib.Nat.{mul-zero, mul-suc, zero-add}
 use native.Mathlib.Omega.{arith}
@@ -102,8 +102,9 @@ module _ (S : Settings) where
   fresh-words : joined (wordBlocks S (start S)) ≡ zeros (wordsLength S)
   unfolding fit
   fresh-words =
-      let k : suc (1 * n + (4 * n + (S .readers * S .entries + 4 * S .places))) ≡ wordsLength S = omega arith in
-      rw (even-places cycleOf 1 fresh 0 n refl, even-places masksOf 4 fresh 0 n refl, no-places ticketsIn (S .readers) (S .entries), no-places queueMasksOf 4 (S .places), append-nil, replicate-append-replicate, replicate-append-replicate, replicate-append-replicate)
+      let k : suc (1 * n + (4 * n + (S .readers * S .entries + (4 * S .places + 1)))) ≡ wordsLength S = omega arith in
+      let last : zeros (4 * S .places) ++ (0 ∷ []) ≡ zeros (4 * S .places + 1) = replicate-append-replicate (4 * S .places) 1 0 in
+      rw (even-places cycleOf 1 fresh 0 n refl, even-places masksOf 4 fresh 0 n refl, no-places ticketsIn (S .readers) (S .entries), no-places queueMasksOf 4 (S .places), last, replicate-append-replicate, replicate-append-replicate, replicate-append-replicate)
       (as-many 0 k)
 
   fresh-marks : joined (markBlocks S (start S)) ≡ put (zeros (marksLength S)) (4 * n) (replicate (4 * n) 1)

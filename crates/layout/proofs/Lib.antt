@@ -7,4 +7,5 @@ pub mod Stores
 pub mod Grown
 pub mod Stands
 pub mod Lines
+pub mod DirtyCount
 pub mod Filled

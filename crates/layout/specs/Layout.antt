@@ -1,6 +1,6 @@
 -- Where each part of the tables begins in the three lent slices, by the settings.
 use mathlib.Core.Path.{_≡_}
-use Rattle.model.specs.Layout.{longsFrom, wordsFrom, marksFrom, missRegion, queueRegion, maskRegion, ticketRegion, queueMaskRegion, readableRegion, sentRegion, ticketCountRegion, kindRegion}
+use Rattle.model.specs.Layout.{longsFrom, wordsFrom, marksFrom, missRegion, queueRegion, maskRegion, ticketRegion, queueMaskRegion, dirtyCountRegion, readableRegion, sentRegion, ticketCountRegion, kindRegion}
 use Rattle.model.specs.declared.Settings.{Settings}
 use Rattle.layout.specs.declared.Layout.{Layout}
 
@@ -12,6 +12,7 @@ pub record Placed (S : Settings) (at : Layout) : Type 0 where
   pub masks : at .masks ≡ wordsFrom S maskRegion
   pub tickets : at .tickets ≡ wordsFrom S ticketRegion
   pub backs : at .backs ≡ wordsFrom S queueMaskRegion
+  pub dirty : at .dirty ≡ wordsFrom S dirtyCountRegion
   -- of marks, behind the statuses
   pub readables : at .readables ≡ marksFrom S readableRegion
   pub sent : at .sent ≡ marksFrom S sentRegion

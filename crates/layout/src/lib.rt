@@ -30,6 +30,7 @@ pub struct Layout {
     pub masks: usize,
     pub tickets: usize,
     pub backs: usize,
+    pub dirty: usize,
     pub readables: usize,
     pub sent: usize,
     pub counts: usize,
@@ -42,13 +43,15 @@ pub fn laid_out(s: Settings) -> Layout
 {
     let lines = s.sets * s.ways;
     let tickets = 1 + 5 * lines;
+    let backs = tickets + s.readers * s.entries;
     let sent = 8 * lines;
     Layout {
         misses: lines,
         queue: lines + s.entries,
         masks: 1 + lines,
         tickets,
-        backs: tickets + s.readers * s.entries,
+        backs,
+        dirty: backs + 4 * s.places,
         readables: 4 * lines,
         sent,
         counts: sent + s.entries,

@@ -47,7 +47,7 @@ pub fn words_length(s: Settings) -> usize
     requires { ⌜ inRange s ≡ true ⌝ }
     ensures { λ r. ⌜ r ≡ wordsLength s ⌝ }
 {
-    1 + 5 * (s.sets * s.ways) + s.readers * s.entries + 4 * s.places
+    1 + 5 * (s.sets * s.ways) + s.readers * s.entries + 4 * s.places + 1
 }
 
 pub fn marks_length(s: Settings) -> usize
