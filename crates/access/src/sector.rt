@@ -6,6 +6,7 @@ ghost use Rattle.model.specs.Words.{pick};
 ghost use Rattle.model.specs.Tables.{isInvalid, isModified, empty};
 ghost use Rattle.model.specs.Lent.{sectorsAt};
 ghost use Rattle.model.specs.Range.{linesOf};
+ghost use Rattle.layout.specs.Sectors.{SectorRoom};
 ghost use Rattle.access.specs.Written.{sectorsFor, sectorsAfter, someModified};
 ghost use Rattle.model.specs.declared.Status.the-variants.{Reserved};
 ghost use Rattle.model.specs.declared.Access.the-variants.{Write};
@@ -13,6 +14,7 @@ ghost use mathlib.Core.Bool.{true};
 ghost use Rattle.model.specs.Steps.{isMiss, onSector};
 use crate::asked::is_merge;
 use crate::asked::is_miss;
+use layout::Layout;
 use model::Access;
 use model::Answer;
 use model::Sector;
@@ -116,13 +118,19 @@ fn empty_sector() -> Sector
 }
 
 // The sectors that the access finds in its line: those that stand there, or four empty ones of a line taken over.
-pub(crate) fn sectors_found(s: Settings, words: &[u32], marks: &[u8], d: Decision) -> [Sector; 4]
-    requires { ⌜ (d .line < linesOf s) × (linesOf s ≤ 1024) × (1 + 5 * linesOf s ≤ length (now words)) × (8 * linesOf s ≤ length (now marks)) ⌝ }
+pub(crate) fn sectors_found(
+    s: Settings,
+    at: Layout,
+    words: &[u32],
+    marks: &[u8],
+    d: Decision,
+) -> [Sector; 4]
+    requires { ⌜ SectorRoom s at (now words) (now marks) × (d .line < linesOf s) ⌝ }
     ensures { λ r. ⌜ r ≡ sectorsFor (d .meeting) (sectorsAt s (now (words .entry)) (now (marks .entry)) (d .line)) ⌝ }
 {
     let m = d.meeting;
     match m {
-        Meeting::Met => probe::sectors_at(s, words, marks, d.line),
+        Meeting::Met => layout::lift(s, at, words, marks, d.line),
         Meeting::Taken => [empty_sector(); 4],
         Meeting::Busy => [empty_sector(); 4],
         Meeting::Held => [empty_sector(); 4],

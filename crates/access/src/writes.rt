@@ -111,7 +111,7 @@ fn change_line(
         (sectorsAfter x d (sectorsFor (d .meeting) (sectorsAt s (now (words .entry)) (now (marks .entry)) (d .line)))) ⌝ }
 {
     let was = probe::is_dirty(marks, d.line);
-    let found = sectors_found(s, words, marks, d);
+    let found = sectors_found(s, at, words, marks, d);
     let four = sectors_left(x, d, found);
     recount(words, at.dirty, was, some_modified(four));
     let block = model::block_of(model::address_of(x));

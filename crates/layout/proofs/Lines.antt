@@ -11,14 +11,15 @@ use Rattle.model.specs.Numbers.{statusNumber, statusOf}
 use Rattle.model.specs.Range.{linesOf}
 use Rattle.model.specs.Regions.{put, ahead}
 use Rattle.model.specs.Tables.{Line, Tables, fresh, withLines}
-use Rattle.model.specs.Lent.{bit, longBlocks, wordBlocks, markBlocks, tagOf, cycleOf, masksOf, statusesOf, readablesOf}
+use Rattle.model.specs.Layout.{wordsFrom, marksFrom, maskRegion, readableRegion}
+use Rattle.model.specs.Lent.{bit, sectorsAt, longBlocks, wordBlocks, markBlocks, tagOf, cycleOf, masksOf, statusesOf, readablesOf}
 use Rattle.model.specs.declared.Settings.{Settings}
 use Rattle.model.specs.declared.Sector.{Sector}
 use Rattle.model.proofs.Answers.{status-of-number}
 use Rattle.model.proofs.Places.{length-places, field-put, field-get}
 use Rattle.layout.specs.declared.Layout.{Layout}
 use Rattle.layout.specs.Layout.{Placed}
-use Rattle.layout.specs.Sectors.{sectorsFrom, statuses, masks, readables}
+use Rattle.layout.specs.Sectors.{statuses, masks, readables}
 use Rattle.layout.proofs.Stands.{Stands}
 use Rattle.layout.proofs.Grown.{places-same}
 
@@ -40,24 +41,26 @@ sector-of : (x : Sector) {s m r : ℕ} → s ≡ statusNumber (x .status) → m 
 sector-of x e f g = rw (e, f, g, status-of-number (x .status), flag-of-bit (x .readable))
 
 -- four sectors, read off the columns that they give
-sectors-of : (xs : List Sector) → length xs ≡ 4 → (words marks : List ℕ) (s w r : ℕ)
-    → ((k q : ℕ) → k < 4 → q ≡ s + k → getD marks q 0 ≡ getD (fit 4 (statuses xs)) k 0)
-    → ((k q : ℕ) → k < 4 → q ≡ w + k → getD words q 0 ≡ getD (fit 4 (masks xs)) k 0)
-    → ((k q : ℕ) → k < 4 → q ≡ r + k → getD marks q 0 ≡ getD (fit 4 (readables xs)) k 0)
-    → sectorsFrom words marks s w r ≡ xs
+sectors-of : (xs : List Sector) → length xs ≡ 4 → (S : Settings) (words marks : List ℕ) (l : ℕ)
+    → ((k q : ℕ) → k < 4 → q ≡ 4 * l + k → getD marks q 0 ≡ getD (fit 4 (statuses xs)) k 0)
+    → ((k q : ℕ) → k < 4 → q ≡ wordsFrom S maskRegion + (4 * l + k) → getD words q 0 ≡ getD (fit 4 (masks xs)) k 0)
+    → ((k q : ℕ) → k < 4 → q ≡ marksFrom S readableRegion + (4 * l + k) → getD marks q 0 ≡ getD (fit 4 (readables xs)) k 0)
+    → sectorsAt S words marks l ≡ xs
 unfolding fit
-sectors-of [] e words marks s w r f g h = absurd (omega arith)
-sectors-of (a ∷ []) e words marks s w r f g h = absurd (omega arith)
-sectors-of (a ∷ b ∷ []) e words marks s w r f g h = absurd (omega arith)
-sectors-of (a ∷ b ∷ c ∷ []) e words marks s w r f g h = absurd (omega arith)
-sectors-of (a ∷ b ∷ c ∷ d ∷ []) e words marks s w r f g h =
+sectors-of [] e S words marks l f g h = absurd (omega arith)
+sectors-of (a ∷ []) e S words marks l f g h = absurd (omega arith)
+sectors-of (a ∷ b ∷ []) e S words marks l f g h = absurd (omega arith)
+sectors-of (a ∷ b ∷ c ∷ []) e S words marks l f g h = absurd (omega arith)
+sectors-of (a ∷ b ∷ c ∷ d ∷ []) e S words marks l f g h =
+    let m : ℕ = wordsFrom S maskRegion in
+    let r : ℕ = marksFrom S readableRegion in
     rw (
-      sector-of a (f 0 s (omega arith) (omega arith)) (g 0 w (omega arith) (omega arith)) (h 0 r (omega arith) (omega arith)),
-      sector-of b (f 1 (s + 1) (omega arith) refl) (g 1 (w + 1) (omega arith) refl) (h 1 (r + 1) (omega arith) refl),
-      sector-of c (f 2 (s + 2) (omega arith) refl) (g 2 (w + 2) (omega arith) refl) (h 2 (r + 2) (omega arith) refl),
-      sector-of d (f 3 (s + 3) (omega arith) refl) (g 3 (w + 3) (omega arith) refl) (h 3 (r + 3) (omega arith) refl),
+      sector-of a (f 0 (4 * l) (omega arith) (omega arith)) (g 0 (m + 4 * l) (omega arith) (omega arith)) (h 0 (r + 4 * l) (omega arith) (omega arith)),
+      sector-of b (f 1 (4 * l + 1) (omega arith) refl) (g 1 (m + (4 * l + 1)) (omega arith) refl) (h 1 (r + (4 * l + 1)) (omega arith) refl),
+      sector-of c (f 2 (4 * l + 2) (omega arith) refl) (g 2 (m + (4 * l + 2)) (omega arith) refl) (h 2 (r + (4 * l + 2)) (omega arith) refl),
+      sector-of d (f 3 (4 * l + 3) (omega arith) refl) (g 3 (m + (4 * l + 3)) (omega arith) refl) (h 3 (r + (4 * l + 3)) (omega arith) refl),
     )
-sectors-of (a ∷ b ∷ c ∷ d ∷ x ∷ xs) e words marks s w r f g h = absurd (omega arith)
+sectors-of (a ∷ b ∷ c ∷ d ∷ x ∷ xs) e S words marks l f g h = absurd (omega arith)
 
 module _ (S : Settings) (t : Tables) {longs words marks : List ℕ} (h : Stands S longs words marks t) {at : Layout} (p : Placed S at) (sized : length (t .lines) ≡ linesOf S)
     (l : ℕ) (below : l < length (t .lines)) where
@@ -79,13 +82,13 @@ module _ (S : Settings) (t : Tables) {longs words marks : List ℕ} (h : Stands 
       let start : 4 * l ≡ ahead (markBlocks S t) 0 + 4 * l = omega arith in
       field-get statusesOf 4 (linesOf S) (t .lines) (markBlocks S t) 0 l {i = 4 * l} (h .as-marks) refl start (omega arith) below few fresh j b f
 
-  pub lifted : length (getD (t .lines) l fresh .sectors) ≡ 4 → sectorsFrom words marks (4 * l) (at .masks + 4 * l) (at .readables + 4 * l) ≡ getD (t .lines) l fresh .sectors
+  pub lifted : length (getD (t .lines) l fresh .sectors) ≡ 4 → sectorsAt S words marks l ≡ getD (t .lines) l fresh .sectors
   lifted four =
       let ws : at .masks + 4 * l ≡ ahead (wordBlocks S t) 2 + 4 * l = simp length-places (omega arith) in
       let rs : at .readables + 4 * l ≡ ahead (markBlocks S t) 1 + 4 * l = simp length-places (omega arith) in
-      sectors-of (getD (t .lines) l fresh .sectors) four words marks (4 * l) (at .masks + 4 * l) (at .readables + 4 * l) status-at
-      (λ j q b f. field-get masksOf 4 (linesOf S) (t .lines) (wordBlocks S t) 2 l {i = at .masks + 4 * l} (h .as-words) refl ws (omega arith) below few fresh j b f)
-      (λ j q b f. field-get readablesOf 4 (linesOf S) (t .lines) (markBlocks S t) 1 l {i = at .readables + 4 * l} (h .as-marks) refl rs (omega arith) below few fresh j b f)
+      sectors-of (getD (t .lines) l fresh .sectors) four S words marks l status-at
+      (λ j q b f. field-get masksOf 4 (linesOf S) (t .lines) (wordBlocks S t) 2 l {i = at .masks + 4 * l} (h .as-words) refl ws (omega arith) below few fresh j b (omega arith))
+      (λ j q b f. field-get readablesOf 4 (linesOf S) (t .lines) (markBlocks S t) 1 l {i = at .readables + 4 * l} (h .as-marks) refl rs (omega arith) below few fresh j b (omega arith))
 
   -- ---- what is written: the line becomes y
 

@@ -1,23 +1,18 @@
--- The four sectors of a line in the slices: lifted from where its statuses, masks and readable marks stand, and as three columns.
-use Prim.Native.Nat.{ℕ, _+_}
-use mathlib.Core.List.{List, [], _∷_, map}
-use lib.ListN.{getD}
-use lib.Dec.{eqb}
-use Rattle.model.specs.Numbers.{statusNumber, statusOf}
+-- Sectors in the slices: their room, and the three columns of a line's four.
+use Prim.Native.Nat.{ℕ, _+_, _*_, _≤_}
+use mathlib.Core.List.{List, map}
+use lib.ListN.{length}
+use Rattle.model.specs.Numbers.{statusNumber}
+use Rattle.model.specs.Range.{linesOf}
 use Rattle.model.specs.Lent.{bit}
+use Rattle.model.specs.declared.Settings.{Settings}
 use Rattle.model.specs.declared.Sector.{Sector}
+use Rattle.layout.specs.declared.Layout.{Layout}
+use Rattle.layout.specs.Layout.{Placed}
 
--- one whose status stands at s, mask at w and readable mark at r
-abbrev pub sectorFrom : List ℕ → List ℕ → ℕ → ℕ → ℕ → Sector
-sectorFrom words marks s w r = record { status = statusOf (getD marks s 0); mask = getD words w 0; readable = eqb (getD marks r 0) 1 }
-
-abbrev pub sectorsFrom : List ℕ → List ℕ → ℕ → ℕ → ℕ → List Sector
-sectorsFrom words marks s w r =
-    sectorFrom words marks s w r
-    ∷ sectorFrom words marks (s + 1) (w + 1) (r + 1)
-    ∷ sectorFrom words marks (s + 2) (w + 2) (r + 2)
-    ∷ sectorFrom words marks (s + 3) (w + 3) (r + 3)
-    ∷ []
+-- the slices have room for the sectors of all lines
+abbrev pub SectorRoom : Settings → Layout → List ℕ → List ℕ → Type 0
+SectorRoom S at words marks = Placed S at × (at .masks + 4 * linesOf S ≤ length words) × (at .readables + 4 * linesOf S ≤ length marks)
 
 -- the three columns of sectors
 abbrev pub statuses : List Sector → List ℕ

@@ -16,6 +16,7 @@ pub use ranges::marks_length;
 pub use ranges::power_to_256;
 pub use ranges::words_length;
 pub use sectors::lift;
+pub use sectors::sector_at;
 pub use sectors::store;
 ghost use mathlib.Core.Path.{_≡_};
 ghost use mathlib.Core.Bool.{true};

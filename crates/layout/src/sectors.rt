@@ -1,40 +1,41 @@
-// A line's four sectors in the slices: lifted as one array, and stored back, column by column.
+// Sectors in the slices: one of them, and a line's four lifted as one array and stored back, column by column.
 ghost use mathlib.Core.Path.{_≡_};
 ghost use Prim.Native.Nat.{_+_, _*_, _≤_, _<_};
 ghost use lib.ListN.{length};
 ghost use Rattle.model.specs.Numbers.{statusNumber};
-ghost use Rattle.model.specs.Lent.{bit};
+ghost use Rattle.model.specs.Range.{linesOf};
+ghost use Rattle.model.specs.Lent.{bit, sectorAt, sectorsAt};
 ghost use Rattle.model.specs.Regions.{put};
-ghost use Rattle.layout.specs.Sectors.{sectorFrom, sectorsFrom, statuses, masks, readables};
+ghost use Rattle.layout.specs.Sectors.{SectorRoom, statuses, masks, readables};
 use crate::Layout;
 use model::Sector;
+use model::Settings;
 use model::status_number;
 use model::status_of;
 
-// The sector whose status stands at `s`, mask at `w` and readable mark at `r`.
-fn sector_from(words: &[u32], marks: &[u8], s: usize, w: usize, r: usize) -> Sector
-    requires { ⌜ (w < length (now words)) × (s < length (now marks)) × (r < length (now marks)) ⌝ }
-    ensures { λ x. ⌜ x ≡ sectorFrom (now (words .entry)) (now (marks .entry)) s w r ⌝ }
+// Sector `i` of all lines.
+pub fn sector_at(s: Settings, at: Layout, words: &[u32], marks: &[u8], i: usize) -> Sector
+    requires { ⌜ SectorRoom s at (now words) (now marks) × (i < 4 * linesOf s) ⌝ }
+    ensures { λ r. ⌜ r ≡ sectorAt s (now (words .entry)) (now (marks .entry)) i ⌝ }
 {
     Sector {
-        status: status_of(marks[s]),
-        mask: words[w],
-        readable: marks[r] == 1,
+        status: status_of(marks[i]),
+        mask: words[at.masks + i],
+        readable: marks[at.readables + i] == 1,
     }
 }
 
-pub fn lift(at: Layout, words: &[u32], marks: &[u8], line: usize) -> [Sector; 4]
-    requires { ⌜ (at .masks + 4 * line + 4 ≤ length (now words)) × (4 * line + 4 ≤ length (now marks)) × (at .readables + 4 * line + 4 ≤ length (now marks)) ⌝ }
-    ensures { λ r. ⌜ r ≡ sectorsFrom (now (words .entry)) (now (marks .entry)) (4 * line) (at .masks + 4 * line) (at .readables + 4 * line) ⌝ }
+// The four sectors of a line.
+pub fn lift(s: Settings, at: Layout, words: &[u32], marks: &[u8], line: usize) -> [Sector; 4]
+    requires { ⌜ SectorRoom s at (now words) (now marks) × (line < linesOf s) ⌝ }
+    ensures { λ r. ⌜ r ≡ sectorsAt s (now (words .entry)) (now (marks .entry)) line ⌝ }
 {
-    let s = 4 * line;
-    let w = at.masks + s;
-    let r = at.readables + s;
+    let i = 4 * line;
     [
-        sector_from(words, marks, s, w, r),
-        sector_from(words, marks, s + 1, w + 1, r + 1),
-        sector_from(words, marks, s + 2, w + 2, r + 2),
-        sector_from(words, marks, s + 3, w + 3, r + 3),
+        sector_at(s, at, words, marks, i),
+        sector_at(s, at, words, marks, i + 1),
+        sector_at(s, at, words, marks, i + 2),
+        sector_at(s, at, words, marks, i + 3),
     ]
 }
 

@@ -1,17 +1,15 @@
 // "Probe and victim": what an access meets in its set, read off the lent slices. Nothing is written here; another crate acts.
-// First one line: its sectors, and tests on its four status bytes. Then the ways of a set: the match, the victim. Last the decision.
+// First one line: tests on its four status bytes. Then the ways of a set: the match, the victim. Last the decision.
 use model::Access;
 use model::Answer;
 use model::BlockAddress;
 use model::Found;
-use model::Sector;
 use model::Settings;
 use layout::Layout;
 ghost use mathlib.Core.Path.{_≡_};
 ghost use Prim.Native.Nat.{ℕ, _+_, _*_, _≤_, _<_};
 ghost use lib.ListN.{length};
 ghost use Rattle.model.specs.Words.{some};
-ghost use Rattle.model.specs.Lent.{sectorAt, sectorsAt};
 ghost use mathlib.Core.Bool.{true};
 ghost use Rattle.model.specs.Range.{linesOf};
 ghost use Rattle.model.specs.Tree.{isIn, powerTo16};
@@ -49,35 +47,6 @@ pub struct Decision {
     pub backs: bool,
     pub block: u64,
     pub masks: [u32; 4],
-}
-
-// Sector i of all lines.
-fn sector_at(s: Settings, words: &[u32], marks: &[u8], i: usize) -> Sector
-    requires { ⌜ (i < 4 * linesOf s) × (linesOf s ≤ 1024) × (1 + 5 * linesOf s ≤ length (now words)) × (8 * linesOf s ≤ length (now marks)) ⌝ }
-    ensures { λ r. ⌜ r ≡ sectorAt s (now (words .entry)) (now (marks .entry)) i ⌝ }
-{
-    let n = s.sets * s.ways;
-    let status = model::status_of(marks[i]);
-    let mask = words[1 + n + i];
-    let readable = marks[4 * n + i] == 1;
-    Sector {
-        status,
-        mask,
-        readable,
-    }
-}
-
-// The four sectors of line l.
-pub fn sectors_at(s: Settings, words: &[u32], marks: &[u8], l: usize) -> [Sector; 4]
-    requires { ⌜ (l < linesOf s) × (linesOf s ≤ 1024) × (1 + 5 * linesOf s ≤ length (now words)) × (8 * linesOf s ≤ length (now marks)) ⌝ }
-    ensures { λ r. ⌜ r ≡ sectorsAt s (now (words .entry)) (now (marks .entry)) l ⌝ }
-{
-    let i = 4 * l;
-    let a = sector_at(s, words, marks, i);
-    let b = sector_at(s, words, marks, i + 1);
-    let c = sector_at(s, words, marks, i + 2);
-    let d = sector_at(s, words, marks, i + 3);
-    [a, b, c, d]
 }
 
 // Whether a sector of line l is RESERVED.
@@ -250,11 +219,11 @@ fn victim(words: &[u32], marks: &[u8], base: usize, ways: usize, enough: bool) -
 }
 
 // The four masks of line l.
-fn masks_at(s: Settings, words: &[u32], l: usize) -> [u32; 4]
-    requires { ⌜ (l < linesOf s) × (linesOf s ≤ 1024) × (1 + 5 * linesOf s ≤ length (now words)) ⌝ }
+fn masks_at(s: Settings, at: Layout, words: &[u32], l: usize) -> [u32; 4]
+    requires { ⌜ Placed s at × (l < linesOf s) × (linesOf s ≤ 1024) × (1 + 5 * linesOf s ≤ length (now words)) ⌝ }
     ensures { λ r. ⌜ r ≡ masksAt s (now (words .entry)) l ⌝ }
 {
-    let first = 1 + s.sets * s.ways;
+    let first = at.masks;
     let i = 4 * l;
     [
         words[first + i],
@@ -265,13 +234,21 @@ fn masks_at(s: Settings, words: &[u32], l: usize) -> [u32; 4]
 }
 
 // Way w has the block: the answer by its sector.
-fn met(s: Settings, words: &[u32], marks: &[u8], base: usize, w: usize, x: Access) -> Decision
-    requires { ⌜ (base + w < linesOf s) × (linesOf s ≤ 1024) × (1 + 5 * linesOf s ≤ length (now words)) × (8 * linesOf s ≤ length (now marks)) ⌝ }
+fn met(
+    s: Settings,
+    at: Layout,
+    words: &[u32],
+    marks: &[u8],
+    base: usize,
+    w: usize,
+    x: Access,
+) -> Decision
+    requires { ⌜ Placed s at × (base + w < linesOf s) × (linesOf s ≤ 1024) × (1 + 5 * linesOf s ≤ length (now words)) × (8 * linesOf s ≤ length (now marks)) ⌝ }
     ensures { λ r. ⌜ r ≡ metIs s (now (words .entry)) (now (marks .entry)) base w x ⌝ }
 {
     let line = base + w;
     let k = model::sector_index(model::address_of(x));
-    let answer = model::answer_of(x, sector_at(s, words, marks, 4 * line + k));
+    let answer = model::answer_of(x, layout::sector_at(s, at, words, marks, 4 * line + k));
     let masks = [0u32; 4];
     Decision {
         meeting: Meeting::Met,
@@ -285,13 +262,21 @@ fn met(s: Settings, words: &[u32], marks: &[u8], base: usize, w: usize, x: Acces
 }
 
 // Way w is taken over; a dirty line is written back.
-fn taken(s: Settings, longs: &[u64], words: &[u32], marks: &[u8], base: usize, w: usize) -> Decision
-    requires { ⌜ (base + w < linesOf s) × (linesOf s ≤ 1024) × (linesOf s ≤ length (now longs)) × (1 + 5 * linesOf s ≤ length (now words)) × (8 * linesOf s ≤ length (now marks)) ⌝ }
+fn taken(
+    s: Settings,
+    at: Layout,
+    longs: &[u64],
+    words: &[u32],
+    marks: &[u8],
+    base: usize,
+    w: usize,
+) -> Decision
+    requires { ⌜ Placed s at × (base + w < linesOf s) × (linesOf s ≤ 1024) × (linesOf s ≤ length (now longs)) × (1 + 5 * linesOf s ≤ length (now words)) × (8 * linesOf s ≤ length (now marks)) ⌝ }
     ensures { λ r. ⌜ r ≡ takenIs s (now (longs .entry)) (now (words .entry)) base w (dirtyAt (now (marks .entry)) (base + w)) ⌝ }
 {
     let line = base + w;
     if is_dirty(marks, line) {
-        let masks = masks_at(s, words, line);
+        let masks = masks_at(s, at, words, line);
         Decision {
             meeting: Meeting::Taken,
             way: w,
@@ -360,7 +345,7 @@ fn take_over(
     let enough = enough_dirty(s, at, words);
     let v = victim(words, marks, base, ways, enough);
     match v {
-        Found::At(w) => taken(s, longs, words, marks, base, w),
+        Found::At(w) => taken(s, at, longs, words, marks, base, w),
         Found::Nothing => refusal(marks, base, ways),
     }
 }
@@ -382,7 +367,7 @@ pub fn decide(
     let base = model::set_index(address, s.sets) * ways;
     let found = find(longs, marks, base, ways, model::block_of(address));
     match found {
-        Found::At(w) => met(s, words, marks, base, w, x),
+        Found::At(w) => met(s, at, words, marks, base, w, x),
         Found::Nothing => take_over(s, at, longs, words, marks, base),
     }
 }

@@ -7,20 +7,12 @@ pub lift-spec : {M : Type 1} → statement M
 lift-spec =
     tie.close
     (tie.spec
-    (λ c. search needs)  -- mul-s
-    (λ c. search needs)  -- add-w
-    (λ c. search needs)  -- add-r
-    (λ c κs. search needs)  -- sector-from-requires
-    (λ c. search needs)  -- add-sector-from
-    (λ c. search needs)  -- add-sector-from-2
-    (λ c. search needs)  -- add-sector-from-3
-    (λ c κs. search needs)  -- sector-from-requires-2
-    (λ c. search needs)  -- add-sector-from-4
-    (λ c. search needs)  -- add-sector-from-5
-    (λ c. search needs)  -- add-sector-from-6
-    (λ c κs. search needs)  -- sector-from-requires-3
-    (λ c. search needs)  -- add-sector-from-7
-    (λ c. search needs)  -- add-sector-from-8
-    (λ c. search needs)  -- add-sector-from-9
-    (λ c κs. search needs)  -- sector-from-requires-4
-    (λ c. rw (c .before .before .before .sector-from .ensures, c .before .before .sector-from2 .ensures, c .before .sector-from3 .ensures, c .sector-from4 .ensures)))  -- returns
+    (λ c. search needs)  -- mul-i
+    (λ c κs. search needs)  -- sector-at-requires
+    (λ c. search needs)  -- add-sector-at
+    (λ c κs. search needs)  -- sector-at-requires-2
+    (λ c. search needs)  -- add-sector-at-2
+    (λ c κs. search needs)  -- sector-at-requires-3
+    (λ c. search needs)  -- add-sector-at-3
+    (λ c κs. search needs)  -- sector-at-requires-4
+    (λ c. rw (c .before .before .before .sector-at .ensures, c .before .before .sector-at2 .ensures, c .before .sector-at3 .ensures, c .sector-at4 .ensures)))  -- returns
