@@ -1,8 +1,11 @@
 -- The four sectors of a line in the slices: lifted from where its statuses, masks and readable marks stand, and as three columns.
 use Prim.Native.Nat.{ℕ, _+_}
+use mathlib.Core.Bool.{Bool}
 use mathlib.Core.List.{List, [], _∷_, map}
 use lib.ListN.{getD}
 use lib.Dec.{eqb}
+use Rattle.model.specs.Words.{any}
+use Rattle.model.specs.Tables.{isModified}
 use Rattle.model.specs.Numbers.{statusNumber, statusOf}
 use Rattle.model.specs.Lent.{bit}
 use Rattle.model.specs.declared.Sector.{Sector}
@@ -28,3 +31,7 @@ masks xs = map (λ s. s .mask) xs
 
 abbrev pub readables : List Sector → List ℕ
 readables xs = map (λ s. bit (s .readable)) xs
+
+-- one of the sectors is MODIFIED
+abbrev pub someModified : List Sector → Bool
+someModified four = any (λ s. isModified (s .status)) four

@@ -11,7 +11,7 @@ use model::Status;
 use model::Told;
 ghost use mathlib.Core.Path.{_≡_};
 ghost use mathlib.Core.Bool.{true, _&&_};
-ghost use Prim.Native.Nat.{_+_, _*_, _≤_, _<_};
+ghost use Prim.Native.Nat.{ℕ, _+_, _*_, _≤_, _<_};
 ghost use lib.ListN.{length, getD};
 ghost use lib.Dec.{eqb, ltb};
 ghost use Rattle.model.specs.Range.{linesOf};
@@ -22,7 +22,7 @@ ghost use Rattle.model.specs.Steps.{send, arrived, fill, tick};
 ghost use Rattle.model.specs.Inner.{Fit, Held, Does};
 ghost use Rattle.layout.specs.Layout.{Placed};
 ghost use Rattle.tables.specs.Raw.{holdsAt};
-ghost use Rattle.steps.specs.Parts.{HeadAsked, HeadMarked, Holding, SectorFilled, LineFilled, releasing};
+ghost use Rattle.steps.specs.Parts.{HeadAsked, HeadMarked, Holding, SectorFilled, LineFilled, releasing, CountFits};
 
 // ---- send
 
@@ -89,14 +89,17 @@ fn arrive(x: Sector) -> Sector
     }
 }
 
-// The four sectors of line `l` with sector `k` arrived.
+// The four sectors of line `l` with sector `k` arrived, and the line counted.
 fn fill_sector(at: Layout, words: &mut [u32], marks: &mut [u8], l: usize, k: usize)
     requires { ⌜ (k < 4) × (at .masks + 4 * l + 4 ≤ length (now words)) × (4 * l + 4 ≤ length (now marks)) × (at .readables + 4 * l + 4 ≤ length (now marks)) ⌝ }
+    requires { ⌜ (at .dirty < length (now words)) × CountFits at l (now words) (now marks) ⌝ }
     ensures { λ _. ⌜ SectorFilled at l k (now (words .entry)) (now (marks .entry)) (now (words .exit)) (now (marks .exit)) ⌝ }
 {
     let mut four = layout::lift(at, words, marks, l);
+    let was = layout::some_modified(four);
     let x = four[k];
     four[k] = arrive(x);
+    layout::recount(words, at.dirty, was, layout::some_modified(four));
     layout::store(at, words, marks, l, four);
 }
 
@@ -112,6 +115,7 @@ fn fill_line(
     requires { ⌜ Fit s (now longs) (now words) (now marks) ⌝ }
     requires { ⌜ Placed s at ⌝ }
     requires { ⌜ Holding (now longs) (now marks) (setIndex s address * s .ways) (s .ways) (blockOf address) ⌝ }
+    requires { ⌜ ((l : ℕ) → l < linesOf s → CountFits at l (now words) (now marks)) ⌝ }
     ensures { λ _. ⌜ LineFilled at (linesOf s) (blockOf address) (sectorIndex address) (now (longs .entry)) (now (words .entry)) (now (marks .entry))
         (now (words .exit)) (now (marks .exit)) ⌝ }
 {
