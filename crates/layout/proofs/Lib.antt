@@ -1,7 +1,8 @@
--- Laws of ranges and lengths; then how tables stand in the slices: stores, a record that comes or grows, lines and their sectors,
+-- Laws of tests, of ranges and lengths, of the numbers by place; then how tables stand in the slices: stores, a record that comes or grows, lines and their sectors,
 -- fresh tables.
-pub mod Said
+pub mod Tests
 pub mod OfRange
+pub mod ByPlace
 pub mod Stores
 pub mod Grown
 pub mod Stands

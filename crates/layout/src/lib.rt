@@ -10,6 +10,7 @@ pub use dirty::recount;
 pub use dirty::some_modified;
 pub use fresh::make_fresh;
 pub use places::find_mark;
+pub use places::gathered;
 pub use places::used;
 pub use ranges::in_range;
 pub use ranges::lengths_fit;

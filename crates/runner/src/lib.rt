@@ -52,7 +52,7 @@ fn kept_stop(s: Settings, longs: &[u64], words: &[u32], marks: &[u8]) -> Stop
     if !layout::lengths_fit(s, longs, words, marks) {
         return Stop::SliceLength;
     }
-    if !soundness::tables_sound(s, longs, words, marks) {
+    if !soundness::tables_sound(s, layout::laid_out(s), longs, words, marks) {
         return Stop::NotSound;
     }
     Stop::Nothing

@@ -2,6 +2,7 @@ pub mod Tests
 pub mod FineLines
 pub mod OfLines
 pub mod OfSectors
+pub mod OfSearch
 pub mod OfMisses
 pub mod OfQueue
 pub mod OfTables

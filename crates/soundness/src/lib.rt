@@ -3,15 +3,19 @@
 // number of RESERVED sectors. `&` and `|` between tests look at both sides.
 mod lines;
 mod misses;
-mod offsets;
 mod queue;
+mod search;
 
 ghost use mathlib.Core.Path.{_≡_};
 ghost use Rattle.model.specs.Lent.{lent};
 ghost use Rattle.model.specs.SoundLent.{soundNumbers};
 ghost use Rattle.model.specs.Calls.{checkCall, verdictOf};
 ghost use Rattle.model.specs.Inner.{Fit};
+ghost use Rattle.layout.specs.Layout.{Placed};
+use layout::Layout;
+use layout::gathered;
 use layout::in_range;
+use layout::laid_out;
 use layout::lengths_fit;
 use lines::lines_fine;
 use lines::sectors_fine;
@@ -20,25 +24,22 @@ use misses::tickets_fine;
 use model::Refusal;
 use model::Settings;
 use model::Verdict;
-use queue::gathered;
 use queue::places_fine;
 
 // Refusal 3 does not apply. Lines first: what follows relies on them.
-pub fn tables_sound(s: Settings, longs: &[u64], words: &[u32], marks: &[u8]) -> bool
-    requires { ⌜ Fit s (now longs) (now words) (now marks) ⌝ }
+pub fn tables_sound(s: Settings, at: Layout, longs: &[u64], words: &[u32], marks: &[u8]) -> bool
+    requires { ⌜ Placed s at × Fit s (now longs) (now words) (now marks) ⌝ }
     ensures { λ r. ⌜ r ≡ soundNumbers s (now (longs .entry)) (now (words .entry)) (now (marks .entry)) ⌝ }
 {
     if !((words[0] <= 0xFFFF_FFFE) & lines_fine(s, longs, words, marks)) {
         return false;
     }
-    let counts = 8 * (s.sets * s.ways) + s.entries;
-    let kinds = 8 * (s.sets * s.ways) + 2 * s.entries;
-    sectors_fine(s, longs, words, marks)
-        & tickets_fine(s, longs, words, marks)
-        & gathered(marks, counts, s.entries)
-        & entries_fine(s, longs, words, marks)
-        & gathered(marks, kinds, s.places)
-        & places_fine(s, longs, words, marks)
+    sectors_fine(s, at, longs, words, marks)
+        & tickets_fine(s, at, longs, words, marks)
+        & gathered(marks, at.counts, s.entries)
+        & entries_fine(s, at, longs, words, marks)
+        & gathered(marks, at.kinds, s.places)
+        & places_fine(s, at, longs, words, marks)
 }
 
 // Refusals 1, 2 and 3 in document 01's order.
@@ -51,7 +52,7 @@ pub fn check(s: Settings, longs: &[u64], words: &[u32], marks: &[u8]) -> Verdict
     if !lengths_fit(s, longs, words, marks) {
         return Verdict::Refused(Refusal::SliceLength);
     }
-    if !tables_sound(s, longs, words, marks) {
+    if !tables_sound(s, laid_out(s), longs, words, marks) {
         return Verdict::Refused(Refusal::NotSound);
     }
     Verdict::Passed
