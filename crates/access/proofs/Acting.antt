@@ -39,7 +39,7 @@ use Rattle.probe.specs.declared.Decision.{Decision}
 use Rattle.probe.specs.Decided.{backsOf}
 use Rattle.probe.proofs.Held.{lines-held, way-line}
 use Rattle.access.specs.Plan.{Met, entryIndex, courseOf, goes, ticketOf}
-use Rattle.access.specs.Written.{sectorsFor, sectorsAfter, missesWritten, readWritten, backWritten, queueWritten, lineLeft, someModified}
+use Rattle.access.specs.Written.{sectorsFor, sectorsAfter, missesWritten, readWritten, backWritten, queueWritten, lineLeft}
 use Rattle.access.specs.declared.course.Course.{Course}
 use Rattle.access.specs.declared.course.Course.the-variants.{Refused, Stays, Joins, Starts}
 use Rattle.access.proofs.Plans.{index-found, merged-entry, entry-once}
@@ -48,6 +48,7 @@ use Rattle.access.proofs.Inverted.{Means, course-means}
 use Rattle.probe.specs.Scan.{dirtyAt}
 use Rattle.access.proofs.Recounts.{count-at, was-dirty}
 use Rattle.layout.proofs.DirtyCount.{dirty-count-stands}
+use Rattle.layout.specs.Sectors.{someModified}
 
 -- ---- what becomes of the miss table and the queue, by the flags
 

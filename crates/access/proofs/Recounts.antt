@@ -13,10 +13,7 @@ use Rattle.model.specs.Tables.{Line, Tables, dirty, dirtyLines, fresh}
 use Rattle.model.specs.Lent.{lent, lineAt}
 use Rattle.model.specs.Inner.{Is}
 use Rattle.model.specs.declared.Settings.{Settings}
-use Rattle.model.proofs.Flags.{flag}
-use Rattle.model.proofs.Lists.{count-in, in-getD}
-use Rattle.model.proofs.Below.{count-most}
-use Rattle.model.proofs.Tabled.{count-get, getD-table}
+use Rattle.model.proofs.Tabled.{getD-table}
 use Rattle.model.proofs.Bridge.{is-fit, is-tables}
 use Rattle.model.proofs.SoundFacts.{parts, lines-are}
 use Rattle.layout.specs.declared.Layout.{Layout}
@@ -26,6 +23,7 @@ use Rattle.layout.proofs.DirtyCount.{dirty-count-at}
 use Rattle.probe.specs.Scan.{dirtyAt}
 use Rattle.probe.proofs.Statuses.{dirty-bytes}
 use Rattle.probe.proofs.Held.{lines-held}
+use Rattle.model.proofs.Counting.{count-length, one-counted}
 
 module _ (S : Settings) {longs words marks : List ℕ} (t : Tables) (is : Is S (lent longs words marks) t) {at : Layout} (pl : Placed S at) where
   pub count-at : getD words (at .dirty) 0 ≡ t .dirtyCount
@@ -38,7 +36,7 @@ module _ (S : Settings) {longs words marks : List ℕ} (t : Tables) (is : Is S (
   count-few =
       let f = is-fit S (lent longs words marks) t is in
       let n = lines-are S t (parts S t (is .soundly)) in
-      omega (arith, count-is, count-get dirty (t .lines) fresh, count-most (λ l. dirty (getD (t .lines) l fresh)) (length (t .lines)))
+      omega (arith, count-is, count-length dirty (t .lines))
 
   module _ (l : ℕ) (below : l < linesOf S) where
     pub was-dirty : dirtyAt marks l ≡ dirty (getD (t .lines) l fresh)
@@ -49,9 +47,5 @@ module _ (S : Settings) {longs words marks : List ℕ} (t : Tables) (is : Is S (
 
     pub was-counted : one (dirtyAt marks l) ≤ getD words (at .dirty) 0
     was-counted =
-        ⊎-elim
-        (λ e. let o : one (dirtyAt marks l) ≡ 1 = ap one (was-dirty ∙ e) in
         let inside : l < length (t .lines) = omega (arith, lines-are S t (parts S t (is .soundly))) in
-        omega (arith, count-is, count-in dirty (t .lines) (in-getD (t .lines) l fresh inside) e))
-        (λ e. let o : one (dirtyAt marks l) ≡ 0 = ap one (was-dirty ∙ e) in omega arith)
-        (flag (dirty (getD (t .lines) l fresh)))
+        rw was-dirty (omega (arith, count-is, one-counted dirty (t .lines) l fresh inside))

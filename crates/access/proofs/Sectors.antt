@@ -1,19 +1,18 @@
 -- The four sectors of a line, one of them changed.
 use mathlib.Core.Path.{_≡_, refl, ap, _∙_}
-use mathlib.Core.Bool.{Bool, true, false, _||_}
 use mathlib.Core.List.{List, [], _∷_}
 use Prim.Native.Nat.{ℕ, zero, suc, _<_}
 use native.Mathlib.Nat.{not-suc-le-zero, le-of-suc-le-suc}
 use native.Mathlib.Omega.{arith}
 use lib.ListN.{length, getD, set}
 use Rattle.model.specs.Address.{addressOf, sectorIndex}
-use Rattle.model.specs.Tables.{empty, isModified}
+use Rattle.model.specs.Tables.{empty}
 use Rattle.model.specs.Steps.{onSector}
 use Rattle.model.specs.declared.Access.{Access}
 use Rattle.model.specs.declared.Sector.{Sector}
 use Rattle.model.proofs.SoundFacts.{sector-below}
 use Rattle.probe.specs.declared.Decision.{Decision}
-use Rattle.access.specs.Written.{sectorsAfter, someModified}
+use Rattle.access.specs.Written.{sectorsAfter}
 
 -- what stands inside a list does not depend on what stands past it
 pub getD-inside : {A : Type 0} (d e : A) (l : List A) (i : ℕ) → i < length l → getD l i d ≡ getD l i e
@@ -27,22 +26,3 @@ sectors-left x d found e {k} {a} {v} four here is left =
     let q : k ≡ sectorIndex (addressOf x) = here ∙ ap sectorIndex is in
     rw (left, q) (ap (λ (s : Sector). set found (sectorIndex (addressOf x)) (onSector x (d .answer) s))
     (getD-inside e empty found (sectorIndex (addressOf x)) (omega (arith, sector-below (addressOf x)))))
-
--- four tests, one after the other
-pub some-modified : (four : List Sector) (e : Sector) → length four ≡ 4 → {a b c d : Bool}
-    → a ≡ isModified (getD four 0 e .status) → b ≡ isModified (getD four 1 e .status)
-    → c ≡ isModified (getD four 2 e .status) → d ≡ isModified (getD four 3 e .status)
-    → (a || b || c || d) ≡ someModified four
-some-modified [] o n e f g h = absurd (omega arith)
-some-modified (w ∷ []) o n e f g h = absurd (omega arith)
-some-modified (w ∷ x ∷ []) o n e f g h = absurd (omega arith)
-some-modified (w ∷ x ∷ y ∷ []) o n e f g h = absurd (omega arith)
-some-modified (w ∷ x ∷ y ∷ z ∷ []) o n e f g h = rw (e, f, g, h) (nested (isModified (w .status)) (isModified (x .status)) (isModified (y .status)) (isModified (z .status)))
-  where
-    nested : (a b c d : Bool) → (a || b || c || d) ≡ (a || (b || (c || (d || false))))
-    nested true b c d = refl
-    nested false true c d = refl
-    nested false false true d = refl
-    nested false false false true = refl
-    nested false false false false = refl
-some-modified (w ∷ x ∷ y ∷ z ∷ v ∷ l) o n e f g h = absurd (omega arith)

@@ -3,9 +3,9 @@ use Prim.Native.Nat.{ℕ, _+_, _-_, _*_, _≤_, _<_}
 use mathlib.Core.Bool.{Bool, true, false}
 use mathlib.Core.List.{List, [], _∷_}
 use lib.ListN.{length, getD, set, replicate}
-use Rattle.model.specs.Words.{pick, any, one}
+use Rattle.model.specs.Words.{pick, one}
 use Rattle.model.specs.Address.{addressOf, sectorIndex}
-use Rattle.model.specs.Tables.{isModified, empty}
+use Rattle.model.specs.Tables.{empty}
 use Rattle.model.specs.Lent.{Lent, lent, sectorsAt}
 use Rattle.model.specs.Regions.{put}
 use Rattle.model.specs.Steps.{onSector}
@@ -14,7 +14,7 @@ use Rattle.model.specs.declared.Sector.{Sector}
 use Rattle.model.specs.declared.Told.{Told}
 use Rattle.model.specs.declared.Event.the-variants.{Answered}
 use Rattle.layout.specs.declared.Layout.{Layout}
-use Rattle.layout.specs.Sectors.{statuses, masks, readables}
+use Rattle.layout.specs.Sectors.{statuses, masks, readables, someModified}
 use Rattle.probe.specs.declared.Meeting.{Meeting}
 use Rattle.probe.specs.declared.Meeting.the-variants as meeting
 use Rattle.probe.specs.declared.Decision.{Decision}
@@ -32,10 +32,6 @@ sectorsFor meeting.Held four = replicate 4 empty
 -- the sectors that it leaves
 abbrev pub sectorsAfter : Access → Decision → List Sector → List Sector
 sectorsAfter x d four = set four (sectorIndex (addressOf x)) (onSector x (d .answer) (getD four (sectorIndex (addressOf x)) empty))
-
--- one of the sectors is MODIFIED
-abbrev pub someModified : List Sector → Bool
-someModified four = any (λ s. isModified (s .status)) four
 
 -- the dirty count, when a line that was dirty or not becomes so or not
 abbrev pub countWritten : Layout → Bool → Bool → Lent → Lent

@@ -3,11 +3,11 @@ ghost use mathlib.Core.Path.{_≡_};
 ghost use Prim.Native.Nat.{_+_, _*_, _≤_, _<_};
 ghost use lib.ListN.{length};
 ghost use Rattle.model.specs.Words.{pick};
-ghost use Rattle.model.specs.Tables.{isInvalid, isModified, empty};
+ghost use Rattle.model.specs.Tables.{isInvalid, empty};
 ghost use Rattle.model.specs.Lent.{sectorsAt};
 ghost use Rattle.model.specs.Range.{linesOf};
 ghost use Rattle.layout.specs.Sectors.{SectorRoom};
-ghost use Rattle.access.specs.Written.{sectorsFor, sectorsAfter, someModified};
+ghost use Rattle.access.specs.Written.{sectorsFor, sectorsAfter};
 ghost use Rattle.model.specs.declared.Status.the-variants.{Reserved};
 ghost use Rattle.model.specs.declared.Access.the-variants.{Write};
 ghost use mathlib.Core.Bool.{true};
@@ -32,25 +32,6 @@ fn is_invalid(s: Status) -> bool
         Status::Valid => false,
         Status::Modified => false,
     }
-}
-
-fn is_modified(s: Sector) -> bool
-    ensures { λ r. ⌜ r ≡ isModified (s .status) ⌝ }
-{
-    let status = s.status;
-    match status {
-        Status::Invalid => false,
-        Status::Reserved => false,
-        Status::Valid => false,
-        Status::Modified => true,
-    }
-}
-
-// Whether one of the four is MODIFIED.
-pub(crate) fn some_modified(four: [Sector; 4]) -> bool
-    ensures { λ r. ⌜ r ≡ someModified four ⌝ }
-{
-    is_modified(four[0]) | is_modified(four[1]) | is_modified(four[2]) | is_modified(four[3])
 }
 
 // The sector that a read leaves: fetched on a miss, else as it was.

@@ -1,6 +1,6 @@
 // The writes of an access that is not refused, in order: the dirty count and its line, the miss table, the queue. Then what it tells.
 ghost use mathlib.Core.Path.{_≡_};
-ghost use Prim.Native.Nat.{ℕ, _+_, _-_, _*_, _≤_, _<_};
+ghost use Prim.Native.Nat.{ℕ, _+_, _*_, _≤_, _<_};
 ghost use mathlib.Core.List.{List, [], _∷_};
 ghost use lib.ListN.{length, getD};
 ghost use Rattle.model.specs.Regions.{put};
@@ -22,7 +22,6 @@ use crate::asked::ticket_of;
 use crate::course::Course;
 use crate::sector::sectors_found;
 use crate::sector::sectors_left;
-use crate::sector::some_modified;
 use layout::Layout;
 use model::Access;
 use model::Answer;
@@ -47,31 +46,6 @@ fn write_tag(longs: &mut [u64], line: usize, block: BlockAddress)
     ensures { λ _. ⌜ now (longs .exit) ≡ put (now (longs .entry)) line (block .0 ∷ []) ⌝ }
 {
     longs[line] = block.0;
-}
-
-// So many dirty lines, when one that was dirty or not becomes so or not.
-fn recounted(count: u32, was: bool, is: bool) -> u32
-    requires { ⌜ (count ≤ 1024) × (one was ≤ count) ⌝ }
-    ensures { λ r. ⌜ r ≡ count + one is - one was ⌝ }
-{
-    if is {
-        if was {
-            return count;
-        }
-        return count + 1;
-    }
-    if was {
-        return count - 1;
-    }
-    count
-}
-
-// The dirty count, when a line that was dirty or not becomes so or not.
-fn recount(words: &mut [u32], place: usize, was: bool, is: bool)
-    requires { ⌜ (place < length (now words)) × (getD (now words) place 0 ≤ 1024) × (one was ≤ getD (now words) place 0) ⌝ }
-    ensures { λ _. ⌜ now (words .exit) ≡ put (now (words .entry)) place ((getD (now (words .entry)) place 0 + one is - one was) ∷ []) ⌝ }
-{
-    words[place] = recounted(words[place], was, is);
 }
 
 // A line with its tag, the current cycle and its four sectors.
@@ -113,7 +87,7 @@ fn change_line(
     let was = probe::is_dirty(marks, d.line);
     let found = sectors_found(s, at, words, marks, d);
     let four = sectors_left(x, d, found);
-    recount(words, at.dirty, was, some_modified(four));
+    layout::recount(words, at.dirty, was, layout::some_modified(four));
     let block = model::block_of(model::address_of(x));
     write_line(at, longs, words, marks, d.line, block, four);
 }

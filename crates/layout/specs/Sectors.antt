@@ -1,7 +1,10 @@
--- Sectors in the slices: their room, and the three columns of a line's four.
+-- Sectors in the slices: their room, the three columns of a line's four, and whether one of these is MODIFIED.
 use Prim.Native.Nat.{ℕ, _+_, _*_, _≤_}
+use mathlib.Core.Bool.{Bool}
 use mathlib.Core.List.{List, map}
 use lib.ListN.{length}
+use Rattle.model.specs.Words.{any}
+use Rattle.model.specs.Tables.{isModified}
 use Rattle.model.specs.Numbers.{statusNumber}
 use Rattle.model.specs.Range.{linesOf}
 use Rattle.model.specs.Lent.{bit}
@@ -23,3 +26,7 @@ masks xs = map (λ s. s .mask) xs
 
 abbrev pub readables : List Sector → List ℕ
 readables xs = map (λ s. bit (s .readable)) xs
+
+-- one of the sectors is MODIFIED
+abbrev pub someModified : List Sector → Bool
+someModified four = any (λ s. isModified (s .status)) four

@@ -1,10 +1,13 @@
 // How settings shape the lent slices, below every check and step on them: here where each part begins; `ranges` refusals 1 and 2,
-// `places` which places of a table are in use, `sectors` a line's four sectors lifted and stored, `fresh` fresh tables.
+// `places` which places of a table are in use, `sectors` a line's four sectors lifted and stored, `dirty` the count of dirty lines, `fresh` fresh tables.
+mod dirty;
 mod fresh;
 mod places;
 mod ranges;
 mod sectors;
 
+pub use dirty::recount;
+pub use dirty::some_modified;
 pub use fresh::make_fresh;
 pub use places::find_mark;
 pub use places::gathered;

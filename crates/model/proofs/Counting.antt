@@ -15,6 +15,10 @@ counts : (b : Bool) (n : ℕ) → pick b (suc n) n ≡ one b + n
 counts true n = omega arith
 counts false n = omega arith
 
+one-most : (b : Bool) → one b ≤ 1
+one-most true = omega arith
+one-most false = omega arith
+
 module _ {A : Type 0} where
   module _ (p : A → Bool) where
     -- element n becomes v
@@ -26,6 +30,16 @@ module _ {A : Type 0} where
 
     pub recount : (l : List A) (n : ℕ) (v d : A) → n < length l → {c : ℕ} → c ≡ count p l → c + one (p v) - one (p (getD l n d)) ≡ count p (set l n v)
     recount l n v d h e = omega (arith, count-set l n v d h)
+
+    pub count-length : (l : List A) → count p l ≤ length l
+    count-length [] = omega arith
+    count-length (x ∷ l) = omega (arith, counts (p x) (count p l), one-most (p x), count-length l)
+
+    -- an element that passes is counted
+    pub one-counted : (l : List A) (n : ℕ) (d : A) → n < length l → one (p (getD l n d)) ≤ count p l
+    one-counted [] n d h = absurd (not-suc-le-zero h)
+    one-counted (x ∷ l) zero d h = omega (arith, counts (p x) (count p l))
+    one-counted (x ∷ l) (suc n) d h = omega (arith, counts (p x) (count p l), one-counted l n d (le-of-suc-le-suc h))
 
     -- those that the map makes pass are added
     pub count-gains : (f : A → A) (l : List A) → ((x : A) → In x l → p x ≡ true → p (f x) ≡ true)

@@ -1,7 +1,7 @@
 use native.Mathlib.Omega.{arith}
 use borrow.Author.Needs.{needs}
-use Rattle.access.proofs.writes.recounted.Statement.{statement}
-use Rattle.access.proofs.writes.recounted.Tie as tie
+use Rattle.layout.proofs.dirty.recounted.Statement.{statement}
+use Rattle.layout.proofs.dirty.recounted.Tie as tie
 
 pub recounted-spec : {M : Type 1} → statement M
 recounted-spec =

@@ -1,9 +1,9 @@
 use mathlib.Core.Path.{_≡_}
 use lib.ListN.{length}
 use borrow.Author.Needs.{needs}
-use Rattle.access.proofs.Sectors.{some-modified}
-use Rattle.access.proofs.sector.some_modified.Statement.{statement}
-use Rattle.access.proofs.sector.some_modified.Tie as tie
+use Rattle.layout.proofs.DirtyCount.{some-modified}
+use Rattle.layout.proofs.dirty.some_modified.Statement.{statement}
+use Rattle.layout.proofs.dirty.some_modified.Tie as tie
 
 pub some-modified-spec : {M : Type 1} → statement M
 some-modified-spec =
