@@ -21,7 +21,7 @@ dirty-lines-spec =
     Inv-loop
     μ-loop
     (λ c. search needs)  -- mul-n
-    (λ c. counted-start _ _)  -- loop-holds
+    (λ c. let a = c .before .before .before .before .args in counted-start (dirtyLine (a .s) (a .longs .now) (a .words .now) (a .marks .now)) _)  -- loop-holds
     (λ c κs. search needs)  -- dirty-requires
     (λ c. omega arith)  -- add-count
     (λ c. omega arith)  -- add-l
