@@ -8,9 +8,8 @@ use lib.ListN.{length, getD, replicate, length-append}
 use borrow.Author.Tests.{lt-ltb, le-ltb, leb-true}
 use Rattle.model.specs.Words.{pick, any, one}
 use Rattle.model.specs.Address.{addressOf, isRead, blockOf}
-use Rattle.model.specs.Tables.{Line, Queued, reading, writing, Tables, entryFor, fresh, empty}
-use Rattle.model.specs.Lent.{Lent, lent}
-use Rattle.model.specs.Inner.{Is}
+use Rattle.model.specs.Tables.{Line, Queued, reading, writing, Tables, entryFor, fresh, emptied}
+use Rattle.model.specs.Lent.{Lent}
 use Rattle.model.specs.Probe.{Spot, at, waysOf}
 use Rattle.model.specs.Steps.{isMerge, isMiss, fetches, queues, placesNeeded}
 use Rattle.model.specs.declared.Settings.{Settings}
@@ -55,7 +54,7 @@ shown MetWay ways a d p k e =
     let line : p .line ≡ getD ways (d .way) fresh = cc in
     record { way = cc; answer = cc; backs = cc; sectors = ap (λ (l : Line). l .sectors) line ∙ rw k }
 shown Taken ways a d p k e =
-    let line : p .line ≡ record { tag = blockOf a; cycle = 0; sectors = replicate 4 empty } = cc in
+    let line : p .line ≡ emptied (blockOf a) = cc in
     record { way = cc; answer = cc; backs = cc; sectors = ap (λ (l : Line). l .sectors) line ∙ rw k }
 shown Busy ways a d p k e = let z : _≡_ {A = ℕ} 0 1 = cc in absurd (omega arith)
 shown Held ways a d p k e = let z : _≡_ {A = ℕ} 0 1 = cc in absurd (omega arith)

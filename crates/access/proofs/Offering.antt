@@ -5,12 +5,11 @@ use mathlib.Core.List.{List}
 use Prim.Native.Nat.{ℕ}
 use native.Mathlib.Omega.{arith}
 use lib.ListN.{length}
-use Rattle.model.specs.Words.{pick}
 use Rattle.model.specs.Address.{addressOf, wellFormed}
-use Rattle.model.specs.Tables.{Line, Tables, Outcome, refused}
+use Rattle.model.specs.Tables.{Line, Tables, refused}
 use Rattle.model.specs.Lent.{Lent, lent}
 use Rattle.model.specs.Inner.{Is}
-use Rattle.model.specs.Probe.{Spot, Place, no, at, probe, ruleOf, waysOf, dirtyLines}
+use Rattle.model.specs.Probe.{Spot, no, at, probe, waysOf, metIn}
 use Rattle.model.specs.Steps.{access, proceed, accept}
 use Rattle.model.specs.Calls.{Leaves, encoded}
 use Rattle.model.specs.declared.Settings.{Settings}
@@ -27,7 +26,7 @@ use Rattle.probe.specs.declared.Meeting.the-variants as meeting
 use Rattle.probe.specs.declared.Decision.{Decision}
 use Rattle.probe.specs.Decided.{Decided, placeFor, placeIs}
 use Rattle.probe.proofs.Held.{decided-probe}
-use Rattle.access.specs.Plan.{Met, Meets, Offered, Acts, courseOf, following, goes, refusalIn, isSpot, refusalMet}
+use Rattle.access.specs.Plan.{Met, Offered, courseOf, following, goes, refusalIn, isSpot, refusalMet}
 use Rattle.access.specs.declared.course.Course.{Course}
 use Rattle.access.specs.declared.course.Course.the-variants.{Refused, Stays, Joins, Starts}
 use Rattle.access.proofs.Plans.{course-is}
@@ -63,7 +62,7 @@ pub formed-refused : (S : Settings) (L : Lent) (x : Access) {r : Told} → wellF
 unfolding access
 formed-refused S L x f e t = rw (f, e) (refusal-leaves BadAccess L)
 
-accessing : (S : Settings) (x : Access) (t : Tables) → wellFormed x ≡ true → access S x t ≡ proceed S x t (probe (ruleOf S t (addressOf x)) S (dirtyLines t) (waysOf S (t .lines) (addressOf x)) x)
+accessing : (S : Settings) (x : Access) (t : Tables) → wellFormed x ≡ true → access S x t ≡ proceed S x t (metIn S x t)
 unfolding access
 accessing S x t f = rw f
 
@@ -81,7 +80,7 @@ place-spot meeting.Held ways a d e = absurd (false≢true e)
 
 module _ (S : Settings) {longs words marks : List ℕ} (x : Access) (d : Decision) (decided : Decided S longs words marks x d) (formed : wellFormed x ≡ true)
     (t : Tables) (is : Is S (lent longs words marks) t) where
-  place-is : placeIs (waysOf S (t .lines) (addressOf x)) (addressOf x) d ≡ probe (ruleOf S t (addressOf x)) S (dirtyLines t) (waysOf S (t .lines) (addressOf x)) x
+  place-is : placeIs (waysOf S (t .lines) (addressOf x)) (addressOf x) d ≡ metIn S x t
   place-is = decided-probe S (lent longs words marks) (is-tables S (lent longs words marks) t is) decided
 
   -- the spot, where there is one

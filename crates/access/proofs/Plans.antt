@@ -12,30 +12,28 @@ use lib.Dec.{eqb, leb, ltb}
 use borrow.Author.Tests.{eqb-true, eq-eqb, le-leb, lt-leb, leb-true, leb-false, ltb-false, ne-eqb}
 use Rattle.model.specs.Words.{pick, any, count}
 use Rattle.model.specs.Range.{inRange}
-use Rattle.model.specs.Address.{addressOf, isRead, blockOf, sectorIndex, wellFormed}
-use Rattle.model.specs.Tables.{Entry, Tables, Outcome, refused, entryFor, noEntry, isReserved, empty}
-use Rattle.model.specs.Sound.{sound}
-use Rattle.model.specs.Probe.{Spot, at, probe, ruleOf, waysOf, dirtyLines}
-use Rattle.model.specs.Steps.{isHit, isMerge, isMiss, placesNeeded, entryFull, proceed, accept, join}
+use Rattle.model.specs.Address.{addressOf, isRead, sectorIndex, wellFormed}
+use Rattle.model.specs.Tables.{Entry, Tables, refused, entryFor, noEntry}
+use Rattle.model.specs.Probe.{Spot, at, metIn}
+use Rattle.model.specs.Steps.{isMerge, isMiss, placesNeeded, entryFull, proceed, accept}
 use Rattle.model.specs.declared.Settings.{Settings}
 use Rattle.model.specs.declared.Access.{Access}
 use Rattle.model.specs.declared.Answer.{Answer}
 use Rattle.model.specs.declared.Answer.the-variants.{Hit, HitReserved, Miss, SectorMiss}
 use Rattle.model.specs.declared.Refusal.the-variants.{QueueFull, EntryFull, MissTableFull}
-use Rattle.model.proofs.Flags.{and-1, and-2, or-false, flag, clash, by-flag, not-yes}
-use Rattle.model.proofs.Lists.{In, any-in, in-any, in-getD, in-index, count-in, count-index, none-count}
-use Rattle.model.proofs.SoundFacts.{Sound, EntryIs, parts, entry-at, address-is, sector-aligned, sector-below}
+use Rattle.model.proofs.Flags.{and-1, or-false}
+use Rattle.model.proofs.Lists.{any-in, in-getD, count-in, count-index}
+use Rattle.model.proofs.SoundFacts.{Sound, parts, entry-at, address-is, sector-aligned, sector-below}
 use Rattle.model.proofs.Taken.{Spotted, formed-good}
 use Rattle.model.proofs.Offered.{probe-spotted}
 use Rattle.model.specs.Lent.{lent}
 use Rattle.model.specs.Inner.{Is}
-use Rattle.tables.specs.declared.Layout.{Layout}
-use Rattle.tables.specs.Layout.{Placed}
-use Rattle.tables.specs.Raw.{First}
-use Rattle.tables.proofs.Stands.{is-stands}
+use Rattle.layout.specs.declared.Layout.{Layout}
+use Rattle.layout.specs.Layout.{Placed}
+use Rattle.layout.specs.Places.{First}
+use Rattle.layout.proofs.Stands.{is-stands}
 use Rattle.tables.proofs.Queue.{queue-used}
-use Rattle.tables.proofs.Misses.{withTicket, misses-used, count-at, entry-found, entry-missing}
-use Rattle.tables.proofs.Ones.{map-one}
+use Rattle.tables.proofs.Misses.{misses-used, count-at, entry-found, entry-missing}
 use Rattle.access.specs.Plan.{entryIndex, ticketsAt, joining, starting, courseOf, following}
 use Rattle.access.specs.declared.course.Course.{Course}
 use Rattle.access.specs.declared.course.Course.the-variants.{Refused, Stays, Joins, Starts}
@@ -86,7 +84,7 @@ merge-not-miss Miss e = absurd (false≢true e)
 merge-not-miss SectorMiss e = absurd (false≢true e)
 
 module _ (S : Settings) (range : inRange S ≡ true) (t : Tables) (ok : Sound S t) (x : Access) (formed : wellFormed x ≡ true) (p : Spot)
-    (probed : probe (ruleOf S t (addressOf x)) S (dirtyLines t) (waysOf S (t .lines) (addressOf x)) x ≡ at p) where
+    (probed : metIn S x t ≡ at p) where
   spotted : Spotted S t x p
   spotted = probe-spotted S range t ok x p probed
 

@@ -7,7 +7,7 @@ use native.Mathlib.Omega.{arith}
 use lib.ListN.{length}
 use Rattle.model.specs.Words.{one}
 use Rattle.model.specs.Lent.{Lent}
-use Rattle.tables.specs.declared.Layout.{Layout}
+use Rattle.layout.specs.declared.Layout.{Layout}
 use Rattle.access.specs.Written.{readWritten, backWritten, queueWritten, BackRoom}
 
 pub queue-done : (at : Layout) (reads : Bool) (n a : ℕ) (backs : Bool) (block : ℕ) (ms : List ℕ) (L M : Lent) {k : ℕ} {N : Lent}

@@ -10,7 +10,7 @@ use Rattle.model.specs.Address.{addressOf, isRead, wellFormed, lineNumber}
 use Rattle.model.specs.Range.{linesOf}
 use Rattle.model.specs.Tables.{Entry, Tables, Outcome, refused, entryFor, noEntry}
 use Rattle.model.specs.Lent.{Lent}
-use Rattle.model.specs.Probe.{Spot, at, probe, ruleOf, waysOf, dirtyLines}
+use Rattle.model.specs.Probe.{Spot, at, probe, waysOf, metIn}
 use Rattle.model.specs.Steps.{isMerge, isMiss, placesNeeded, accept, proceed}
 use Rattle.model.specs.Calls.{Leaves, encoded}
 use Rattle.model.specs.Inner.{Is}
@@ -60,7 +60,7 @@ following S x p t (Starts e) = accept S x p t
 pub record Met (S : Settings) (L : Lent) (x : Access) (d : Decision) (t : Tables) (p : Spot) : Type 0 where
   pub is : Is S L t
   pub formed : wellFormed x ≡ true
-  pub probed : probe (ruleOf S t (addressOf x)) S (dirtyLines t) (waysOf S (t .lines) (addressOf x)) x ≡ at p
+  pub probed : metIn S x t ≡ at p
   pub decided : placeIs (waysOf S (t .lines) (addressOf x)) (addressOf x) d ≡ at p
   pub numbered : d .line ≡ lineNumber S (addressOf x) (p .way)
   pub way : d .way < S .ways

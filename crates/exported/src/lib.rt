@@ -12,7 +12,7 @@ use rounds::Waiting;
 ghost use mathlib.Core.Path.{_≡_};
 ghost use mathlib.Core.List.{[], _∷_};
 ghost use lib.ListN.{length, getD};
-ghost use Rattle.model.specs.Range.{longsLength, wordsLength, marksLength};
+ghost use Rattle.model.specs.Layout.{longsLength, wordsLength, marksLength};
 ghost use Rattle.model.specs.Tables.{after};
 ghost use Rattle.model.specs.Lent.{lent};
 ghost use Rattle.model.specs.Calls.{freshCall, checkCall, verdictOf, accessCall, sendCall, fillCall, tickCall};
@@ -95,8 +95,8 @@ pub extern "C" fn labintugmo_longs_length(settings: &[u32]) -> usize
     ensures { λ r. ⌜ r ≡ lengthFor (settingsFrom (now (settings .entry))) (longsLength (settingsFrom (now (settings .entry)))) ⌝ }
 {
     let s = settings_from(settings);
-    if soundness::in_range(s) {
-        return soundness::longs_length(s);
+    if layout::in_range(s) {
+        return layout::longs_length(s);
     }
     0
 }
@@ -106,8 +106,8 @@ pub extern "C" fn labintugmo_words_length(settings: &[u32]) -> usize
     ensures { λ r. ⌜ r ≡ lengthFor (settingsFrom (now (settings .entry))) (wordsLength (settingsFrom (now (settings .entry)))) ⌝ }
 {
     let s = settings_from(settings);
-    if soundness::in_range(s) {
-        return soundness::words_length(s);
+    if layout::in_range(s) {
+        return layout::words_length(s);
     }
     0
 }
@@ -117,8 +117,8 @@ pub extern "C" fn labintugmo_marks_length(settings: &[u32]) -> usize
     ensures { λ r. ⌜ r ≡ lengthFor (settingsFrom (now (settings .entry))) (marksLength (settingsFrom (now (settings .entry)))) ⌝ }
 {
     let s = settings_from(settings);
-    if soundness::in_range(s) {
-        return soundness::marks_length(s);
+    if layout::in_range(s) {
+        return layout::marks_length(s);
     }
     0
 }

@@ -15,7 +15,7 @@ use Rattle.model.specs.Range.{inRange}
 use Rattle.model.specs.Address.{addressOf, isRead, blockOf, wellFormed}
 use Rattle.model.specs.Tables.{Line, Entry, Queued, Tables, Outcome, refused, done, accepted, isInvalid, isReserved, unused, waiting, holds, empty, fresh}
 use Rattle.model.specs.Sound.{readingOf, sound}
-use Rattle.model.specs.Probe.{Rule, Place, no, at, waysOf, dirtyLines, first, victim, takeOver, meet, probe, ruleOf}
+use Rattle.model.specs.Probe.{Rule, Place, no, at, waysOf, first, victim, takeOver, meet, probe, ruleOf, metIn}
 use Rattle.model.specs.Steps.{isMerge, isMiss, placesNeeded, entryFull, accept, proceed, access, afterSend, send, others, afterFill, sentFor, fill}
 use Rattle.model.specs.Rounds.{Calls, steps, Turn, still, took, Run, goOn, sendTurn, fillFirst, drain, rounds, heldIn, waits, Settles}
 use Rattle.model.specs.declared.Settings.{Settings}
@@ -92,8 +92,8 @@ module _ (S : Settings) (t : Tables) (ok : Sound S t) (no-misses : t .misses ≡
     access-settles : wellFormed x ≡ true → (accepted (access S x t) ≡ true) ⊎ (access S x t ≡ refused SetHeld)
     unfolding access probe
     access-settles f =
-        rw f (proceed-settles (probe (ruleOf S t (addressOf x)) S (dirtyLines t) (waysOf S (t .lines) (addressOf x)) x)
-        (meet-free (ruleOf S t (addressOf x)) (dirtyLines t) x (first (holds (blockOf (addressOf x))) (waysOf S (t .lines) (addressOf x)))))
+        rw f (proceed-settles (metIn S x t)
+        (meet-free (ruleOf S t (addressOf x)) (t .dirtyCount) x (first (holds (blockOf (addressOf x))) (waysOf S (t .lines) (addressOf x)))))
 
 -- ---- a round's send and fill
 

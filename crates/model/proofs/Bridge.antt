@@ -7,7 +7,8 @@ use lib.ListN.{length}
 use borrow.Author.Tests.{eqb-true, eq-eqb}
 use Rattle.model.specs.declared.Settings.{Settings}
 use Rattle.model.specs.declared.Told.{Told}
-use Rattle.model.specs.Range.{inRange, longsLength, wordsLength, marksLength}
+use Rattle.model.specs.Range.{inRange}
+use Rattle.model.specs.Layout.{longsLength, wordsLength, marksLength}
 use Rattle.model.specs.Tables.{Tables, Outcome, refused, done, after, eventsOf}
 use Rattle.model.specs.Lent.{Lent, lengthsFit, tablesOf, encode}
 use Rattle.model.specs.Sound.{sound}

@@ -16,6 +16,7 @@ use Rattle.model.specs.Numbers.{statusNumber, statusOf}
 use Rattle.model.specs.Range.{linesOf}
 use Rattle.model.specs.Address.{blockOf, sectorIndex, setIndex}
 use Rattle.model.specs.Tables.{Line, Entry, Queued, reading, writing, Tables, isReserved, unused, entryFor, fresh, noEntry}
+use Rattle.model.specs.Layout.{wordsFrom, queueMaskRegion}
 use Rattle.model.specs.Lent.{Lent, bit, tagOf, cycleOf, masksOf, statusesOf, readablesOf, missOf, sentOf, ticketCountOf, ticketsIn, queuedOf, kindOf, queueMasksOf, inUse, sectorAt, sectorsAt, lineAt, entryAt, queueAt, tablesOf}
 pub use Rattle.model.specs.SoundLent.{Small}
 use Rattle.model.proofs.Flags.{by-flag, not-yes, not-no, clash, iff}
@@ -26,7 +27,7 @@ use Rattle.model.proofs.Tabled.{any-get, length-table, getD-table}
 use Rattle.model.proofs.InUse.{lt-or-ge, squeeze, in-use-few, below-used, free-past}
 use Rattle.model.proofs.Facts.{tag, status, mask, readable, miss, sent, ticketCount, ticket, queued, kind, queueMask, Live, Used, SoundIs}
 use Rattle.model.proofs.Standing.{field, field-in, field-out, Stands}
-use Rattle.model.proofs.Shapes.{line, sector, entry, place, addressIn, kindIn, maskIn, Shape, reserved-number, tag-is, cycle-is, status-is, mask-is, readable-is, live-is, miss-is, sent-is, entry-in, in-entry, kind-in, queued-in, queue-mask-is, reads-are}
+use Rattle.model.proofs.Shapes.{line, sector, entry, place, addressIn, kindIn, maskIn, Shape, reserved-number, tag-is, cycle-is, status-is, mask-is, readable-is, live-is, dirty-counts, miss-is, sent-is, entry-in, in-entry, kind-in, queued-in, queue-mask-is, reads-are}
 use Rattle.model.proofs.Soundly.{Lives, SectorOk, LineOk, Alone, Agrees, EntryOk, QueuedOk, Soundly, bit-clear}
 
 module _ (S : Settings) (L : Lent) (is : SoundIs S L) where
@@ -154,7 +155,7 @@ module _ (S : Settings) (L : Lent) (t : Tables) (st : Stands S L t) (sh : Shape 
             );
         block = λ q. rw a at (f .block (n ∙ q));
         masked = sh .masked p l;
-        small = λ q k j. rw (queue-mask-is S L t st sh p k h j) at (small (1 + 5 * linesOf S + S .readers * S .entries + (4 * p + k)));
+        small = λ q k j. rw (queue-mask-is S L t st sh p k h j) at (small (wordsFrom S queueMaskRegion + (4 * p + k)));
         dirty = λ q. let (k, j, d) = f .dirty (n ∙ q) in (k, j, λ z. d (queue-mask-is S L t st sh p k h j ∙ z));
       }
 
@@ -169,6 +170,7 @@ module _ (S : Settings) (L : Lent) (t : Tables) (st : Stands S L t) (sh : Shape 
     queue = queued-ok;
     few = sh .few;
     deep = sh .deep;
+    counted = sym (st .count) ∙ is .counted ∙ dirty-counts S L t st sh;
   }
 
 -- ---- the tables that are read off
@@ -192,13 +194,13 @@ mark-back zero h = refl
 mark-back (suc zero) h = refl
 mark-back (suc (suc n)) h = absurd (omega arith)
 
-sectors-at : (f : Sector → ℕ) (n : ℕ) (words marks : List ℕ) (l k : ℕ) → k < 4
-    → f (sectorAt n words marks (4 * l + k)) ≡ getD (map f (sectorsAt n words marks l)) k 0
-sectors-at f n words marks l zero h = rw add-zero
-sectors-at f n words marks l (suc zero) h = refl
-sectors-at f n words marks l (suc (suc zero)) h = refl
-sectors-at f n words marks l (suc (suc (suc zero))) h = refl
-sectors-at f n words marks l (suc (suc (suc (suc k)))) h = absurd (omega arith)
+sectors-at : (f : Sector → ℕ) (S : Settings) (words marks : List ℕ) (l k : ℕ) → k < 4
+    → f (sectorAt S words marks (4 * l + k)) ≡ getD (map f (sectorsAt S words marks l)) k 0
+sectors-at f S words marks l zero h = rw add-zero
+sectors-at f S words marks l (suc zero) h = refl
+sectors-at f S words marks l (suc (suc zero)) h = refl
+sectors-at f S words marks l (suc (suc (suc zero))) h = refl
+sectors-at f S words marks l (suc (suc (suc (suc k)))) h = absurd (omega arith)
 
 -- a queue place by its numbers: kind k, address a, masks ms
 module _ (k a : ℕ) (ms : List ℕ) where
@@ -245,7 +247,7 @@ module _ (S : Settings) (L : Lent) (is : SoundIs S L) where
   used-place p h = below-used (kind S L) (S .places) p (is .places-first) h
 
   abbrev lineOf : ℕ → Line
-  lineOf = lineAt (linesOf S) (L .longs) (L .words) (L .marks)
+  lineOf = lineAt S (L .longs) (L .words) (L .marks)
 
   -- place k of the tickets of entry e, past them 0
   ticket-past : 1 ≤ S .readers → (e k : ℕ) → e < S .entries → k < S .readers → ticketCount S L e ≤ k → ticket S L (S .readers * e + k) ≡ 0
@@ -291,12 +293,12 @@ module _ (S : Settings) (L : Lent) (is : SoundIs S L) where
     cycles = λ l h. sym (field-table cycleOf (linesOf S) lineOf l 0 h);
     statuses = λ l k h j.
         number-back (status S L (4 * l + k)) (is .sectors (4 * l + k) (omega arith) .known)
-        ∙ sectors-at (λ s. statusNumber (s .status)) (linesOf S) (L .words) (L .marks) l k j
+        ∙ sectors-at (λ s. statusNumber (s .status)) S (L .words) (L .marks) l k j
         ∙ sym (field-table statusesOf (linesOf S) lineOf l k h);
-    masks = λ l k h j. sectors-at (λ s. s .mask) (linesOf S) (L .words) (L .marks) l k j ∙ sym (field-table masksOf (linesOf S) lineOf l k h);
+    masks = λ l k h j. sectors-at (λ s. s .mask) S (L .words) (L .marks) l k j ∙ sym (field-table masksOf (linesOf S) lineOf l k h);
     readables = λ l k h j.
         mark-back (readable S L (4 * l + k)) (is .sectors (4 * l + k) (omega arith) .mark)
-        ∙ sectors-at (λ s. bit (s .readable)) (linesOf S) (L .words) (L .marks) l k j
+        ∙ sectors-at (λ s. bit (s .readable)) S (L .words) (L .marks) l k j
         ∙ sym (field-table readablesOf (linesOf S) lineOf l k h);
     misses = λ e h. of-entries missOf 0 e h refl (λ z. is .entries e h .blank z .0);
     sents = λ e h. of-entries sentOf 0 e h (mark-back (sent S L e) (is .entries e h .mark)) (λ z. is .entries e h .blank z .1);
@@ -310,6 +312,7 @@ module _ (S : Settings) (L : Lent) (is : SoundIs S L) where
         (sym (getD-table 4 (λ k. queueMask S L (4 * p + k)) k 0 j)))
         (λ z. is .places p h .bare (omega arith) k j);
     time = refl;
+    count = refl;
   }
 
   -- an entry and a queue place that are read off

@@ -9,7 +9,8 @@ use lib.Dec.{leb}
 use lib.ListN.{length}
 use borrow.Author.Tests.{leb-true}
 use Rattle.model.specs.declared.Settings.{Settings}
-use Rattle.model.specs.Range.{linesOf, inRange, powerTo256, within, longsLength, wordsLength, marksLength}
+use Rattle.model.specs.Range.{linesOf, inRange, powerTo256, within}
+use Rattle.model.specs.Layout.{longsLength, wordsLength, marksLength}
 use Rattle.model.specs.Inner.{Fit}
 use Rattle.model.proofs.Flags.{and-1, and-2, clash}
 

@@ -8,26 +8,26 @@ use native.Mathlib.Omega.{arith}
 use lib.ListN.{length, getD, replicate, length-map, getD-replicate, length-replicate}
 use lib.Dec.{leb, ltb, eqb}
 use borrow.Author.Tests.{leb-true, ltb-false, eqb-true, eqb-false, eq-eqb, le-leb}
-use Rattle.model.specs.Words.{pick, all, any}
+use Rattle.model.specs.Words.{pick, all, any, count}
 use Rattle.model.specs.Range.{inRange, linesOf}
-use Rattle.model.specs.Address.{blockOf, sectorIndex, setIndex, lineNumber, addressOf, isRead, goodBlock}
-use Rattle.model.specs.Tables.{Line, Entry, Queued, writing, Tables, start, refused, isInvalid, isReserved, isModified, unused, waiting, dirty, holds, entryFor, empty, fresh}
+use Rattle.model.specs.Address.{blockOf, sectorIndex, setIndex, lineNumber, addressOf, goodBlock}
+use Rattle.model.specs.Tables.{Line, Entry, Queued, writing, Tables, start, refused, isInvalid, isReserved, isModified, unused, waiting, dirty, holds, entryFor, empty, fresh, emptied, withNow}
 use Rattle.model.specs.Sound.{allOnes, lastCycle, maskOk, sectorOk, lineOk, alone, reservedOk, readingOf, entryOk, queuedOk}
-use Rattle.model.specs.Probe.{Rule, columnOf, answerAt, answerOf, waysOf, dirtyLines, enoughDirty, candidate, first, victim, Spot, at, writeBack, takeOver, meet, probe, ruleOf}
-use Rattle.model.specs.Steps.{isHit, isMerge, isMiss, onSector, fetches, queues, tick}
+use Rattle.model.specs.Probe.{Rule, columnOf, answerAt, answerOf, waysOf, enoughDirty, candidate, first, victim, Spot, at, writeBack, takeOver, meet, probe, ruleOf, metIn}
+use Rattle.model.specs.Steps.{isMerge, isMiss, onSector, fetches, queues, tick}
 use Rattle.model.specs.declared.Settings.{Settings}
 use Rattle.model.specs.declared.Status.{Status}
 use Rattle.model.specs.declared.Status.the-variants.{Invalid, Reserved, Valid, Modified}
 use Rattle.model.specs.declared.Sector.{Sector}
 use Rattle.model.specs.declared.Answer.{Answer}
-use Rattle.model.specs.declared.Answer.the-variants.{Hit, HitReserved, Miss, SectorMiss}
+use Rattle.model.specs.declared.Answer.the-variants.{Miss}
 use Rattle.model.specs.declared.Access.{Access}
 use Rattle.model.specs.declared.Access.the-variants.{Read, Write}
 use Rattle.model.specs.declared.Found.{Found}
 use Rattle.model.specs.declared.Found.the-variants.{At, Nothing}
 use Rattle.model.specs.declared.Refusal.the-variants.{BadCycle}
 use Rattle.model.proofs.Flags.{and-1, and-2, or-no-1, or-no-2, flag, not-yes, no-yes, clash, by-flag}
-use Rattle.model.proofs.Lists.{In, all-in, in-all, in-any, any-in, in-getD, in-index, all-map, any-map, in-replicate}
+use Rattle.model.proofs.Lists.{In, all-in, in-all, in-any, any-in, in-getD, in-index, all-map, any-map, in-replicate, none-count}
 use Rattle.model.proofs.Below.{every-i}
 use Rattle.model.proofs.SoundFacts.{Sound, LeavesSound, LineIs, line-whole, EntryIs, entry-whole, ways-some, mask-small, sector-below, sector-aligned, address-is, block-is, lines-are, line-at, four-at, sectors-at, tag-at, reserved-at, holder-one, entry-at}
 use Rattle.model.proofs.Ways.{Finds, first-finds, victim-finds, Sits, way-sits, way-in, line-among, set-of-block, set-of-line}
@@ -244,7 +244,7 @@ module _ (S : Settings) (t : Tables) (ok : Sound S t) (some-ways : 1 ≤ S .ways
     taken-over : (d w : ℕ) → w < length ways → candidate (enoughDirty S d) (getD ways w fresh) ≡ true
         → Spotted S t x (record {
           way = w;
-          line = record { tag = b; cycle = 0; sectors = replicate 4 empty };
+          line = emptied b;
           answer = Miss;
           backs = writeBack (getD ways w fresh);
         })
@@ -275,7 +275,7 @@ unfolding tick
 tick-leaves S t ok c = by-flag (LeavesSound S) (ltb c (t .now) || ltb lastCycle c) (refused BadCycle) _ (λ e. tt) go
   where
     u : Tables
-    u = record { lines = t .lines; misses = t .misses; queue = t .queue; now = c }
+    u = withNow c t
 
     later : {i : ℕ} {l : Line} → t .now ≤ c → LineIs S (t .now) i l → LineIs S c i l
     later {i} {l} h k = record {
@@ -301,6 +301,7 @@ tick-leaves S t ok c = by-flag (LeavesSound S) (ltb c (t .now) || ltb lastCycle 
       lining = ok .lining;
       few = ok .few;
       short = ok .short;
+      counted = ok .counted;
     }
 
 pub start-is-sound : (S : Settings) → Sound S (start S)
@@ -315,6 +316,7 @@ start-is-sound S = record {
   lining = refl;
   few = le-leb 0 (S .entries) (omega arith);
   short = le-leb 0 (S .places) (omega arith);
+  counted = eq-eqb 0 (count dirty (replicate (linesOf S) fresh)) (sym (none-count dirty (replicate (linesOf S) fresh) (no-yes (λ h. let (l, m, q) = any-in dirty (replicate (linesOf S) fresh) h in clash q (ap dirty (in-replicate (linesOf S) fresh l m))))));
 }
 
 -- what an access meets is as `Spotted` says
@@ -332,11 +334,11 @@ module _ (S : Settings) (range : inRange S ≡ true) (t : Tables) (ok : Sound S 
   meet-spotted R d (At w) h p e = subst (Spotted S t x) (cc) (met S t ok (ways-some S range) x w (h .0) (h .1))
 
   -- under every rule
-  pub rule-spotted : (R : Rule) (p : Spot) → probe R S (dirtyLines t) (waysOf S (t .lines) (addressOf x)) x ≡ at p → Spotted S t x p
+  pub rule-spotted : (R : Rule) (p : Spot) → probe R S (t .dirtyCount) (waysOf S (t .lines) (addressOf x)) x ≡ at p → Spotted S t x p
   unfolding probe
   rule-spotted R p e =
-      meet-spotted R (dirtyLines t) (first (holds (blockOf (addressOf x))) (waysOf S (t .lines) (addressOf x)))
+      meet-spotted R (t .dirtyCount) (first (holds (blockOf (addressOf x))) (waysOf S (t .lines) (addressOf x)))
       (first-finds (holds (blockOf (addressOf x))) (waysOf S (t .lines) (addressOf x))) p e
 
-  pub probe-spotted : (p : Spot) → probe (ruleOf S t (addressOf x)) S (dirtyLines t) (waysOf S (t .lines) (addressOf x)) x ≡ at p → Spotted S t x p
+  pub probe-spotted : (p : Spot) → metIn S x t ≡ at p → Spotted S t x p
   probe-spotted p e = rule-spotted (ruleOf S t (addressOf x)) p e

@@ -11,11 +11,11 @@ use lib.ListN.{length, getD, List·getD-map, length-append}
 use Rattle.model.specs.Words.{pick, any}
 use Rattle.model.specs.Range.{inRange}
 use Rattle.model.specs.Address.{addressOf, isRead, wellFormed}
-use Rattle.model.specs.Tables.{Entry, Queued, reading, writing, Tables, Outcome, refused, done, after, accepted, eventsOf}
+use Rattle.model.specs.Tables.{Entry, Queued, reading, writing, Tables, Outcome, refused, done, after, accepted, eventsOf, withNow}
 use Rattle.model.specs.Lent.{Lent, lengthsFit, tablesOf}
 use Rattle.model.specs.Sound.{sound}
 use Rattle.model.specs.SoundLent.{soundLent}
-use Rattle.model.specs.Probe.{Place, no, at, waysOf, dirtyLines, probe, ruleOf}
+use Rattle.model.specs.Probe.{Place, no, at, metIn}
 use Rattle.model.specs.Steps.{isMerge, isMiss, entryFull, placesNeeded, queues, queuedEvent, accept, proceed, access, sentEvent, sendFrom, send, ticketsOf, sentFor, fill}
 use Rattle.model.specs.Calls.{encoded, call}
 use Rattle.model.specs.Rounds as old
@@ -125,7 +125,7 @@ proceed-clear S x t (at p) =
 pub access-clear : (S : Settings) (x : Access) (t : Tables) → Clear accepts (access S x t)
 unfolding access
 access-clear S x t =
-    clear-by accepts (wellFormed x) (proceed-clear S x t (probe (ruleOf S t (addressOf x)) S (dirtyLines t) (waysOf S (t .lines) (addressOf x)) x)) record { clear = refl }
+    clear-by accepts (wellFormed x) (proceed-clear S x t (metIn S x t)) record { clear = refl }
 
 encoded-clear : (p : List Event → Bool) (S : Settings) (o : Outcome Tables) → Clear p o → Clear p (encoded S o)
 encoded-clear p S (refused n) c = record { clear = c .clear }
@@ -325,7 +325,7 @@ demand-3-tells {T} C t d h =
 
 -- a library whose send and fill do nothing and whose offers are refused as 6, which moves the current cycle
 abbrev moved : Tables → Tables
-moved t = record { lines = t .lines; misses = t .misses; queue = t .queue; now = suc (t .now) }
+moved t = withNow (suc (t .now)) t
 
 abbrev pub leaky : Acts Tables
 leaky = record { sends = λ t. still t; fills = λ a t. still t; offers = λ t. record { events = event.Refused SetHeld ∷ []; left = moved t }; tables = λ t. t }

@@ -17,14 +17,14 @@ use Rattle.model.specs.declared.Sector.{Sector}
 use Rattle.model.specs.Words.{pick, count, table, every, some, countBelow}
 use Rattle.model.specs.Numbers.{statusNumber, statusOf}
 use Rattle.model.specs.Range.{linesOf}
-use Rattle.model.specs.Tables.{Line, Entry, Queued, reading, writing, Tables, isInvalid, isReserved, unused, empty, fresh, noEntry}
+use Rattle.model.specs.Tables.{Line, Entry, Queued, reading, writing, Tables, isInvalid, isReserved, isModified, unused, dirty, dirtyLines, empty, fresh, noEntry}
 use Rattle.model.specs.Lent.{Lent, bit, tagOf, cycleOf, masksOf, statusesOf, readablesOf, missOf, sentOf, ticketCountOf, ticketsIn, queuedOf, kindOf, queueMasksOf, inUse, sectorAt, sectorsAt, lineAt, entryAt, queueAt, tablesOf}
 use Rattle.model.specs.Sound.{readingOf}
 use Rattle.model.proofs.Flags.{iff}
 use Rattle.model.proofs.Answers.{status-of-number}
-use Rattle.model.proofs.Tabled.{all-get, count-get, table-list}
+use Rattle.model.proofs.Tabled.{all-get, any-get, count-get, table-list}
 use Rattle.model.proofs.InUse.{lt-or-ge, count-short, count-same, some-same, in-use-is}
-use Rattle.model.proofs.Facts.{tag, cycle, status, mask, readable, miss, sent, ticketCount, ticket, queued, kind, queueMask, now, live, readFor, Used}
+use Rattle.model.proofs.Facts.{tag, cycle, status, mask, readable, miss, sent, ticketCount, ticket, queued, kind, queueMask, now, live, dirtyLine, readFor, Used}
 use Rattle.model.proofs.Standing.{field, field-in, field-out, Stands}
 
 -- ---- records of the tables by their place
@@ -62,7 +62,13 @@ pub record Shape (S : Settings) (t : Tables) : Type 0 where
 
 -- ---- numbers and what they stand for
 
-pub invalid-number : (x : Status) → eqb (statusNumber x) 0 ≡ isInvalid x
+pub modified-number : (x : Status) → eqb (statusNumber x) 3 ≡ isModified x
+modified-number Invalid = refl
+modified-number Reserved = refl
+modified-number Valid = refl
+modified-number Modified = refl
+
+invalid-number : (x : Status) → eqb (statusNumber x) 0 ≡ isInvalid x
 invalid-number Invalid = refl
 invalid-number Reserved = refl
 invalid-number Valid = refl
@@ -129,14 +135,14 @@ queued-back : (x : Queued) {k a : ℕ} {ms : List ℕ} → k ≡ kindIn x → a 
 queued-back (reading b) p q r = rw (p, q)
 queued-back (writing b ns) p q r = rw (p, q, r refl)
 
-tables-back : (t : Tables) {ls : List Line} {es : List Entry} {q : List Queued} {c : ℕ} → ls ≡ t .lines → es ≡ t .misses → q ≡ t .queue → c ≡ t .now
-    → record { lines = ls; misses = es; queue = q; now = c } ≡ t
-tables-back t p q r w = rw (p, q, r, w)
+tables-back : (t : Tables) {ls : List Line} {es : List Entry} {q : List Queued} {c d : ℕ} → ls ≡ t .lines → es ≡ t .misses → q ≡ t .queue → c ≡ t .now → d ≡ t .dirtyCount
+    → record { lines = ls; misses = es; queue = q; now = c; dirtyCount = d } ≡ t
+tables-back t p q r w v = rw (p, q, r, w, v)
 
 -- the four sectors of a line, as a table
-pub sectors-table : (n : ℕ) (words marks : List ℕ) (l : ℕ) → sectorsAt n words marks l ≡ table 4 (λ k. sectorAt n words marks (4 * l + k))
+pub sectors-table : (S : Settings) (words marks : List ℕ) (l : ℕ) → sectorsAt S words marks l ≡ table 4 (λ k. sectorAt S words marks (4 * l + k))
 unfolding table
-sectors-table n words marks l = rw (add-zero (4 * l))
+sectors-table S words marks l = rw (add-zero (4 * l))
 
 -- ---- the numbers
 
@@ -182,6 +188,20 @@ module _ (S : Settings) (L : Lent) (t : Tables) (st : Stands S L t) (sh : Shape 
       (λ k j. ap not (ap (λ (n : ℕ). eqb n 0) (status-is l k h j) ∙ invalid-number (sector t l k .status)))
       ∙ some-not 4 (λ k. isInvalid (sector t l k .status))
       ∙ ap not (sym (unused-is l h))
+
+  pub dirty-is : (l : ℕ) → l < linesOf S → dirtyLine S L l ≡ dirty (line t l)
+  dirty-is l h =
+      some-same (λ k. eqb (status S L (4 * l + k)) 3) (λ k. isModified (sector t l k .status)) 4
+      (λ k j. ap (λ (n : ℕ). eqb n 3) (status-is l k h j) ∙ modified-number (sector t l k .status))
+      ∙ sym (any-get (λ (s : Sector). isModified (s .status)) (line t l .sectors) empty
+      ∙ ap (λ (n : ℕ). some n (λ k. isModified (sector t l k .status))) (sh .fours l h))
+
+  -- the dirty lines, counted in the numbers and in the tables
+  pub dirty-counts : countBelow (linesOf S) (dirtyLine S L) ≡ dirtyLines t
+  dirty-counts =
+      count-same (dirtyLine S L) (λ l. dirty (line t l)) (linesOf S) dirty-is
+      ∙ ap (λ (n : ℕ). countBelow n (λ l. dirty (line t l))) (sym (sh .size))
+      ∙ sym (count-get dirty (t .lines) fresh)
 
   pub miss-is : (e : ℕ) → e < S .entries → miss S L e ≡ entry t e .address
   miss-is e h = st .misses e h ∙ field-get missOf (t .misses) noEntry e 0 refl
@@ -241,18 +261,18 @@ module _ (S : Settings) (L : Lent) (t : Tables) (st : Stands S L t) (sh : Shape 
 
   -- ---- the tables read off
 
-  sector-again : (l k : ℕ) → l < linesOf S → k < 4 → sectorAt (linesOf S) (L .words) (L .marks) (4 * l + k) ≡ sector t l k
+  sector-again : (l k : ℕ) → l < linesOf S → k < 4 → sectorAt S (L .words) (L .marks) (4 * l + k) ≡ sector t l k
   sector-again l k h j =
       sector-back (sector t l k)
       (ap statusOf (status-is l k h j) ∙ status-of-number (sector t l k .status))
       (mask-is l k h j)
       (ap (λ (n : ℕ). eqb n 1) (readable-is l k h j) ∙ bit-back (sector t l k .readable))
 
-  line-again : (l : ℕ) → l < linesOf S → lineAt (linesOf S) (L .longs) (L .words) (L .marks) l ≡ line t l
+  line-again : (l : ℕ) → l < linesOf S → lineAt S (L .longs) (L .words) (L .marks) l ≡ line t l
   line-again l h =
       line-back (line t l) (tag-is l h) (cycle-is l h)
-      (sectors-table (linesOf S) (L .words) (L .marks) l
-      ∙ table-list 4 (λ k. sectorAt (linesOf S) (L .words) (L .marks) (4 * l + k)) (line t l .sectors) empty (sh .fours l h) (λ k j. sector-again l k h j))
+      (sectors-table S (L .words) (L .marks) l
+      ∙ table-list 4 (λ k. sectorAt S (L .words) (L .marks) (4 * l + k)) (line t l .sectors) empty (sh .fours l h) (λ k j. sector-again l k h j))
 
   entry-again : (e : ℕ) → e < length (t .misses) → entryAt S L e ≡ entry t e
   entry-again e l =
@@ -279,7 +299,8 @@ module _ (S : Settings) (L : Lent) (t : Tables) (st : Stands S L t) (sh : Shape 
   unfolding tablesOf
   stands-tables =
       tables-back t
-      (table-list (linesOf S) (lineAt (linesOf S) (L .longs) (L .words) (L .marks)) (t .lines) fresh (sh .size) line-again)
+      (table-list (linesOf S) (lineAt S (L .longs) (L .words) (L .marks)) (t .lines) fresh (sh .size) line-again)
       (ap (λ (n : ℕ). table n (entryAt S L)) entries-in-use ∙ table-list (length (t .misses)) (entryAt S L) (t .misses) noEntry refl entry-again)
       (ap (λ (n : ℕ). table n (queueAt S L)) places-in-use ∙ table-list (length (t .queue)) (queueAt S L) (t .queue) (reading 0) refl place-again)
       (st .time)
+      (st .count)

@@ -1,20 +1,22 @@
 -- The slices hold the tables number by number: `Stands`. Slices of the right lengths do exactly if they are the tables' encoding.
-use mathlib.Core.Path.{_≡_, refl, ap, _∙_}
+use mathlib.Core.Path.{_≡_, refl, sym, ap, _∙_}
 use mathlib.Core.List.{List, [], _∷_, _++_, map}
 use Prim.Native.Nat.{ℕ, zero, suc, _+_, _*_, _≤_, _<_}
-use native.Mathlib.Nat.{not-suc-le-zero, le-of-suc-le-suc, mul-zero, mul-suc, zero-add}
+use native.Mathlib.Nat.{not-suc-le-zero, le-of-suc-le-suc, mul-zero, mul-suc, zero-add, add-zero}
 use native.Mathlib.Omega.{arith}
 use lib.ListN.{length, getD, length-append, List·getD-append}
 use lib.Seq.{getD-append-add}
 use Rattle.model.specs.declared.Settings.{Settings}
 use Rattle.model.specs.Words.{table, fit, places, joined}
-use Rattle.model.specs.Range.{linesOf, longsLength, wordsLength, marksLength}
+use Rattle.model.specs.Range.{linesOf}
+use Rattle.model.specs.Layout.{longSizes, wordSizes, markSizes, longsLength, wordsLength, marksLength, longsFrom, wordsFrom, marksFrom, tagRegion, missRegion, queueRegion, cycleRegion, maskRegion, ticketRegion, queueMaskRegion, dirtyCountRegion, statusRegion, readableRegion, sentRegion, ticketCountRegion, kindRegion}
 use Rattle.model.specs.Tables.{Tables}
 use Rattle.model.specs.Lent.{Lent, encode, tagOf, cycleOf, masksOf, statusesOf, readablesOf, missOf, sentOf, ticketCountOf, ticketsIn, queuedOf, kindOf, queueMasksOf, longBlocks, wordBlocks, markBlocks}
-use Rattle.model.specs.Regions.{ahead}
+use Rattle.model.specs.Regions.{region, ahead}
 use Rattle.model.proofs.Places.{length-fit, length-places, block-get, stride}
 use Rattle.model.proofs.Tabled.{list-table, table-append}
-use Rattle.model.proofs.Facts.{tag, cycle, status, mask, readable, miss, sent, ticketCount, ticket, queued, kind, queueMask, now}
+use Rattle.model.proofs.Slices.{long-sizes, word-sizes, mark-sizes, begins, regions-joined, region-table}
+use Rattle.model.proofs.Facts.{tag, cycle, status, mask, readable, miss, sent, ticketCount, ticket, queued, kind, queueMask, now, dirtyCount}
 
 -- number k of the field g of record e, 0 where there is none
 unfoldable pub field : {A : Type 0} → (A → List ℕ) → List A → ℕ → ℕ → ℕ
@@ -122,6 +124,7 @@ pub record Stands (S : Settings) (L : Lent) (t : Tables) : Type 0 where
   pub kinds : (p : ℕ) → p < S .places → kind S L p ≡ field kindOf (t .queue) p 0
   pub queue-masks : (p k : ℕ) → p < S .places → k < 4 → queueMask S L (4 * p + k) ≡ field queueMasksOf (t .queue) p k
   pub time : now S L ≡ t .now
+  pub count : dirtyCount S L ≡ t .dirtyCount
 
 -- ---- in the encoding the tables stand
 
@@ -136,116 +139,82 @@ module _ {A : Type 0} (g : A → List ℕ) (w n : ℕ) (xs : List A) (bs : List 
       ∙ ap (λ (l : List ℕ). getD l (w * e + k) 0) here
       ∙ places-field g w n e k xs a b
 
-pub encode-stands : (S : Settings) (t : Tables) → Stands S (encode S t) t
-unfolding encode
-encode-stands S t = record {
-  tags = λ l h. in-block tagOf 1 (linesOf S) (t .lines) (longBlocks S t) 0 l 0 l refl (omega arith) (omega arith) h (omega arith);
-  cycles = λ l h.
-      in-block cycleOf 1 (linesOf S) (t .lines) (wordBlocks S t) 1 l 0 (1 + l)
-      refl (omega arith) (omega arith) h (omega arith);
-  statuses = λ l k h j.
-      in-block statusesOf 4 (linesOf S) (t .lines) (markBlocks S t) 0 l k (4 * l + k)
-      refl (omega arith) (omega arith) h j;
-  masks = λ l k h j.
-      in-block masksOf 4 (linesOf S) (t .lines) (wordBlocks S t) 2 l k (1 + linesOf S + (4 * l + k))
-      refl (omega arith) (simp length-places (omega arith)) h j;
-  readables = λ l k h j.
-      in-block readablesOf 4 (linesOf S) (t .lines) (markBlocks S t) 1 l k (4 * linesOf S + (4 * l + k))
-      refl (omega arith) (simp length-places (omega arith)) h j;
-  misses = λ e h.
-      in-block missOf 1 (S .entries) (t .misses) (longBlocks S t) 1 e 0 (linesOf S + e)
-      refl (omega arith) (simp length-places (omega arith)) h (omega arith);
-  sents = λ e h.
-      in-block sentOf 1 (S .entries) (t .misses) (markBlocks S t) 2 e 0 (8 * linesOf S + e)
-      refl (omega arith) (simp length-places (omega arith)) h (omega arith);
-  ticket-counts = λ e h.
-      in-block ticketCountOf 1 (S .entries) (t .misses) (markBlocks S t) 3 e 0 (8 * linesOf S + S .entries + e)
-      refl (omega arith) (simp length-places (omega arith)) h (omega arith);
-  tickets = λ e k h j.
-      in-block ticketsIn (S .readers) (S .entries) (t .misses) (wordBlocks S t) 3 e k (1 + 5 * linesOf S + (S .readers * e + k))
-      refl (omega arith) (simp length-places (omega arith)) h j;
-  queue = λ p h.
-      in-block queuedOf 1 (S .places) (t .queue) (longBlocks S t) 2 p 0 (linesOf S + S .entries + p)
-      refl (omega arith) (simp length-places (omega arith)) h (omega arith);
-  kinds = λ p h.
-      in-block kindOf 1 (S .places) (t .queue) (markBlocks S t) 4 p 0 (8 * linesOf S + 2 * S .entries + p)
-      refl (omega arith) (simp length-places (omega arith)) h (omega arith);
-  queue-masks = λ p k h j.
-      in-block queueMasksOf 4 (S .places) (t .queue) (wordBlocks S t) 4 p k (1 + 5 * linesOf S + S .readers * S .entries + (4 * p + k))
-      refl (omega arith) (simp length-places (omega arith)) h j;
-  time = refl;
-}
+module _ (S : Settings) (t : Tables) where
+  long-block : {A : Type 0} (g : A → List ℕ) (w n : ℕ) (xs : List A) (j e k i : ℕ) → getD (longBlocks S t) j [] ≡ places g w n xs → j < 3
+      → i ≡ longsFrom S j + (w * e + k) → e < n → k < w → getD (joined (longBlocks S t)) i 0 ≡ field g xs e k
+  long-block g w n xs j e k i here h at =
+      in-block g w n xs (longBlocks S t) j e k i here h (at ∙ ap (λ (m : ℕ). m + (w * e + k)) (sym (begins (longBlocks S t) j (long-sizes S t))))
+
+  word-block : {A : Type 0} (g : A → List ℕ) (w n : ℕ) (xs : List A) (j e k i : ℕ) → getD (wordBlocks S t) j [] ≡ places g w n xs → j < 6
+      → i ≡ wordsFrom S j + (w * e + k) → e < n → k < w → getD (joined (wordBlocks S t)) i 0 ≡ field g xs e k
+  word-block g w n xs j e k i here h at =
+      in-block g w n xs (wordBlocks S t) j e k i here h (at ∙ ap (λ (m : ℕ). m + (w * e + k)) (sym (begins (wordBlocks S t) j (word-sizes S t))))
+
+  mark-block : {A : Type 0} (g : A → List ℕ) (w n : ℕ) (xs : List A) (j e k i : ℕ) → getD (markBlocks S t) j [] ≡ places g w n xs → j < 5
+      → i ≡ marksFrom S j + (w * e + k) → e < n → k < w → getD (joined (markBlocks S t)) i 0 ≡ field g xs e k
+  mark-block g w n xs j e k i here h at =
+      in-block g w n xs (markBlocks S t) j e k i here h (at ∙ ap (λ (m : ℕ). m + (w * e + k)) (sym (begins (markBlocks S t) j (mark-sizes S t))))
+
+  pub encode-stands : Stands S (encode S t) t
+  unfolding encode
+  encode-stands = record {
+    tags = λ l h. long-block tagOf 1 (linesOf S) (t .lines) tagRegion l 0 l refl (omega arith) (omega arith) h (omega arith);
+    misses = λ e h. long-block missOf 1 (S .entries) (t .misses) missRegion e 0 _ refl (omega arith) (omega arith) h (omega arith);
+    queue = λ p h. long-block queuedOf 1 (S .places) (t .queue) queueRegion p 0 _ refl (omega arith) (omega arith) h (omega arith);
+    time = refl;
+    count = block-get (wordBlocks S t) dirtyCountRegion 0 {i = wordsFrom S dirtyCountRegion} refl (sym (begins (wordBlocks S t) dirtyCountRegion (word-sizes S t)) ∙ sym (add-zero (ahead (wordBlocks S t) dirtyCountRegion))) (omega arith) (omega arith);
+    cycles = λ l h. word-block cycleOf 1 (linesOf S) (t .lines) cycleRegion l 0 (1 + l) refl (omega arith) (omega arith) h (omega arith);
+    masks = λ l k h j. word-block masksOf 4 (linesOf S) (t .lines) maskRegion l k _ refl (omega arith) refl h j;
+    tickets = λ e k h j. word-block ticketsIn (S .readers) (S .entries) (t .misses) ticketRegion e k _ refl (omega arith) refl h j;
+    queue-masks = λ p k h j. word-block queueMasksOf 4 (S .places) (t .queue) queueMaskRegion p k _ refl (omega arith) refl h j;
+    statuses = λ l k h j. mark-block statusesOf 4 (linesOf S) (t .lines) statusRegion l k (4 * l + k) refl (omega arith) (omega arith) h j;
+    readables = λ l k h j. mark-block readablesOf 4 (linesOf S) (t .lines) readableRegion l k _ refl (omega arith) refl h j;
+    sents = λ e h. mark-block sentOf 1 (S .entries) (t .misses) sentRegion e 0 _ refl (omega arith) (omega arith) h (omega arith);
+    ticket-counts = λ e h. mark-block ticketCountOf 1 (S .entries) (t .misses) ticketCountRegion e 0 _ refl (omega arith) (omega arith) h (omega arith);
+    kinds = λ p h. mark-block kindOf 1 (S .places) (t .queue) kindRegion p 0 _ refl (omega arith) (omega arith) h (omega arith);
+  }
 
 -- ---- and slices in which they stand are the encoding
 
--- the first a of a + b numbers, then the others
-cut : (a b : ℕ) (f : ℕ → ℕ) {x y : List ℕ} → table a f ≡ x → table b (λ i. f (a + i)) ≡ y → table (a + b) f ≡ x ++ y
-cut a b f p q = table-append a b f ∙ rw (p, q)
+-- a field whose numbers stand from `at` on stands there as a region
+module _ (l : List ℕ) (at : ℕ) {A : Type 0} (g : A → List ℕ) (n : ℕ) (xs : List A) where
+  region-places : (w : ℕ) → at + w * n ≤ length l → ((e k : ℕ) → e < n → k < w → getD l (at + (w * e + k)) 0 ≡ field g xs e k)
+      → region l at (w * n) ≡ places g w n xs
+  region-places w h f = region-table l at (w * n) h ∙ table-places g w n xs (λ i. getD l (at + i) 0) f
+
+  region-singles : at + n ≤ length l → ((e : ℕ) → e < n → getD l (at + e) 0 ≡ field g xs e 0) → region l at n ≡ places g 1 n xs
+  region-singles h f = region-table l at n h ∙ table-singles g n xs (λ i. getD l (at + i) 0) f
 
 module _ (S : Settings) (L : Lent) (t : Tables) (st : Stands S L t) where
   longs-stand : length (L .longs) ≡ longsLength S → L .longs ≡ joined (longBlocks S t)
-  unfolding table
   longs-stand e =
-      let q : longsLength S ≡ linesOf S + (S .entries + (S .places + 0)) = omega arith in
-      list-table (L .longs) 0
-      ∙ ap (λ (n : ℕ). table n f) (e ∙ q)
-      ∙ cut (linesOf S) (S .entries + (S .places + 0)) f
-      (table-singles tagOf (linesOf S) (t .lines) f (st .tags))
-      (cut (S .entries) (S .places + 0) (λ i. f (linesOf S + i))
-      (table-singles missOf (S .entries) (t .misses) (λ i. f (linesOf S + i)) (st .misses))
-      (cut (S .places) 0 (λ i. f (linesOf S + (S .entries + i)))
-      (table-singles queuedOf (S .places) (t .queue) (λ i. f (linesOf S + (S .entries + i))) (λ p h. ap f (omega arith) ∙ st .queue p h))
-      refl))
-    where
-      f : ℕ → ℕ
-      f i = getD (L .longs) i 0
+      regions-joined (L .longs) (longSizes S) (longBlocks S t) (
+        region-singles (L .longs) 0 tagOf (linesOf S) (t .lines) (omega arith) (λ l h. rw zero-add (st .tags l h)),
+        (region-singles (L .longs) (longsFrom S missRegion) missOf (S .entries) (t .misses) (omega arith) (st .misses),
+        (region-singles (L .longs) (longsFrom S queueRegion) queuedOf (S .places) (t .queue) (omega arith) (st .queue),
+        e)))
 
   words-stand : length (L .words) ≡ wordsLength S → L .words ≡ joined (wordBlocks S t)
   unfolding table
   words-stand e =
-      let q : wordsLength S ≡ 1 + (linesOf S + (4 * linesOf S + (S .readers * S .entries + (4 * S .places + 0)))) = omega arith in
-      list-table (L .words) 0
-      ∙ ap (λ (n : ℕ). table n f) (e ∙ q)
-      ∙ cut 1 (linesOf S + (4 * linesOf S + (S .readers * S .entries + (4 * S .places + 0)))) f
-      (ap (λ (x : ℕ). x ∷ []) (st .time))
-      (cut (linesOf S) (4 * linesOf S + (S .readers * S .entries + (4 * S .places + 0))) (λ i. f (1 + i))
-      (table-singles cycleOf (linesOf S) (t .lines) (λ i. f (1 + i)) (st .cycles))
-      (cut (4 * linesOf S) (S .readers * S .entries + (4 * S .places + 0)) (λ i. f (1 + (linesOf S + i)))
-      (table-places masksOf 4 (linesOf S) (t .lines) (λ i. f (1 + (linesOf S + i)))
-      (λ l k h j. ap f (omega arith) ∙ st .masks l k h j))
-      (cut (S .readers * S .entries) (4 * S .places + 0) (λ i. f (1 + (linesOf S + (4 * linesOf S + i))))
-      (table-places ticketsIn (S .readers) (S .entries) (t .misses) (λ i. f (1 + (linesOf S + (4 * linesOf S + i))))
-      (λ x k h j. ap f (omega arith) ∙ st .tickets x k h j))
-      (cut (4 * S .places) 0 (λ i. f (1 + (linesOf S + (4 * linesOf S + (S .readers * S .entries + i)))))
-      (table-places queueMasksOf 4 (S .places) (t .queue) (λ i. f (1 + (linesOf S + (4 * linesOf S + (S .readers * S .entries + i)))))
-      (λ p k h j. ap f (omega arith) ∙ st .queue-masks p k h j))
-      refl))))
-    where
-      f : ℕ → ℕ
-      f i = getD (L .words) i 0
+      regions-joined (L .words) (wordSizes S) (wordBlocks S t) (
+        region-table (L .words) 0 1 (omega arith) ∙ ap (λ (c : ℕ). c ∷ []) (st .time),
+        (region-singles (L .words) (wordsFrom S cycleRegion) cycleOf (linesOf S) (t .lines) (omega arith) (st .cycles),
+        (region-places (L .words) (wordsFrom S maskRegion) masksOf (linesOf S) (t .lines) 4 (omega arith) (st .masks),
+        (region-places (L .words) (wordsFrom S ticketRegion) ticketsIn (S .entries) (t .misses) (S .readers) (omega arith) (st .tickets),
+        (region-places (L .words) (wordsFrom S queueMaskRegion) queueMasksOf (S .places) (t .queue) 4 (omega arith) (st .queue-masks),
+        (region-table (L .words) (wordsFrom S dirtyCountRegion) 1 (omega arith) ∙ ap (λ (c : ℕ). c ∷ []) (rw add-zero (st .count)),
+        e))))))
 
   marks-stand : length (L .marks) ≡ marksLength S → L .marks ≡ joined (markBlocks S t)
-  unfolding table
   marks-stand e =
-      let q : marksLength S ≡ 4 * linesOf S + (4 * linesOf S + (S .entries + (S .entries + (S .places + 0)))) = omega arith in
-      list-table (L .marks) 0
-      ∙ ap (λ (n : ℕ). table n f) (e ∙ q)
-      ∙ cut (4 * linesOf S) (4 * linesOf S + (S .entries + (S .entries + (S .places + 0)))) f
-      (table-places statusesOf 4 (linesOf S) (t .lines) f (st .statuses))
-      (cut (4 * linesOf S) (S .entries + (S .entries + (S .places + 0))) (λ i. f (4 * linesOf S + i))
-      (table-places readablesOf 4 (linesOf S) (t .lines) (λ i. f (4 * linesOf S + i)) (st .readables))
-      (cut (S .entries) (S .entries + (S .places + 0)) (λ i. f (4 * linesOf S + (4 * linesOf S + i)))
-      (table-singles sentOf (S .entries) (t .misses) (λ i. f (4 * linesOf S + (4 * linesOf S + i))) (λ x h. ap f (omega arith) ∙ st .sents x h))
-      (cut (S .entries) (S .places + 0) (λ i. f (4 * linesOf S + (4 * linesOf S + (S .entries + i))))
-      (table-singles ticketCountOf (S .entries) (t .misses) (λ i. f (4 * linesOf S + (4 * linesOf S + (S .entries + i))))
-      (λ x h. ap f (omega arith) ∙ st .ticket-counts x h))
-      (cut (S .places) 0 (λ i. f (4 * linesOf S + (4 * linesOf S + (S .entries + (S .entries + i)))))
-      (table-singles kindOf (S .places) (t .queue) (λ i. f (4 * linesOf S + (4 * linesOf S + (S .entries + (S .entries + i)))))
-      (λ p h. ap f (omega arith) ∙ st .kinds p h))
-      refl))))
-    where
-      f : ℕ → ℕ
-      f i = getD (L .marks) i 0
+      regions-joined (L .marks) (markSizes S) (markBlocks S t) (
+        region-places (L .marks) 0 statusesOf (linesOf S) (t .lines) 4 (omega arith) (λ l k h j. rw zero-add (st .statuses l k h j)),
+        (region-places (L .marks) (marksFrom S readableRegion) readablesOf (linesOf S) (t .lines) 4 (omega arith) (st .readables),
+        (region-singles (L .marks) (marksFrom S sentRegion) sentOf (S .entries) (t .misses) (omega arith) (st .sents),
+        (region-singles (L .marks) (marksFrom S ticketCountRegion) ticketCountOf (S .entries) (t .misses) (omega arith) (st .ticket-counts),
+        (region-singles (L .marks) (marksFrom S kindRegion) kindOf (S .places) (t .queue) (omega arith) (st .kinds),
+        e)))))
 
   pub stands-encode : length (L .longs) ≡ longsLength S → length (L .words) ≡ wordsLength S → length (L .marks) ≡ marksLength S → L ≡ encode S t
   unfolding encode

@@ -4,7 +4,8 @@ use Prim.Native.Nat.{ℕ, _+_, _*_, _≤_}
 use mathlib.Core.Bool.{true}
 use mathlib.Core.List.{List}
 use lib.ListN.{length}
-use Rattle.model.specs.Range.{inRange, powerTo256, linesOf, longsLength, wordsLength, marksLength}
+use Rattle.model.specs.Range.{inRange, powerTo256, linesOf}
+use Rattle.model.specs.Layout.{longsLength, wordsLength, marksLength}
 use Rattle.model.specs.Tables.{Tables, Outcome}
 use Rattle.model.specs.Lent.{Lent, encode}
 use Rattle.model.specs.Sound.{sound}

@@ -1,6 +1,5 @@
--- How the tables stand in the three lent slices: the numbers by place, the tables read off them, and the slices that tables give.
--- longs: tags, miss addresses, queue addresses. words: the current cycle, cycles, masks, tickets, queue masks.
--- marks: statuses, readable marks, sent marks, ticket counts, queue kinds. n is the number of lines throughout.
+-- How the tables stand in the three lent slices, whose regions are in Layout: the numbers by place, the tables read off them, and the
+-- slices that tables give.
 use mathlib.Core.Path.{_≡_}
 use Prim.Native.Nat.{ℕ, zero, suc, _+_, _*_}
 use mathlib.Core.Bool.{Bool, true, false, not, _&&_}
@@ -9,7 +8,8 @@ use lib.ListN.{length, getD}
 use lib.Dec.{eqb}
 use Rattle.model.specs.Words.{pick, table, countBelow, places, joined}
 use Rattle.model.specs.Numbers.{statusNumber, statusOf}
-use Rattle.model.specs.Range.{linesOf, longsLength, wordsLength, marksLength}
+use Rattle.model.specs.Range.{linesOf}
+use Rattle.model.specs.Layout.{longsLength, wordsLength, marksLength, longsFrom, wordsFrom, marksFrom, missRegion, queueRegion, maskRegion, ticketRegion, queueMaskRegion, dirtyCountRegion, readableRegion, sentRegion, ticketCountRegion, kindRegion}
 use Rattle.model.specs.Tables.{Line, Entry, Queued, reading, writing, Tables}
 use Rattle.model.specs.declared.Settings.{Settings}
 use Rattle.model.specs.declared.Sector.{Sector}
@@ -27,7 +27,7 @@ abbrev pub lengthsFit : Settings → Lent → Bool
 lengthsFit S L =
     eqb (length (L .longs)) (longsLength S) && eqb (length (L .words)) (wordsLength S) && eqb (length (L .marks)) (marksLength S)
 
--- ---- the numbers by place
+-- ---- the numbers by place; the first regions of a slice begin where they do whatever the settings are
 
 -- of line l
 abbrev pub tagAt : List ℕ → ℕ → ℕ
@@ -40,51 +40,54 @@ cycleAt words l = getD words (1 + l) 0
 abbrev pub statusAt : List ℕ → ℕ → ℕ
 statusAt marks i = getD marks i 0
 
-abbrev pub maskAt : ℕ → List ℕ → ℕ → ℕ
-maskAt n words i = getD words (1 + n + i) 0
+abbrev pub maskAt : Settings → List ℕ → ℕ → ℕ
+maskAt S words i = getD words (wordsFrom S maskRegion + i) 0
 
-abbrev pub readableAt : ℕ → List ℕ → ℕ → ℕ
-readableAt n marks i = getD marks (4 * n + i) 0
+abbrev pub readableAt : Settings → List ℕ → ℕ → ℕ
+readableAt S marks i = getD marks (marksFrom S readableRegion + i) 0
 
 -- of miss entry e
 abbrev pub missAt : Settings → List ℕ → ℕ → ℕ
-missAt S longs e = getD longs (linesOf S + e) 0
+missAt S longs e = getD longs (longsFrom S missRegion + e) 0
 
 abbrev pub sentAt : Settings → List ℕ → ℕ → ℕ
-sentAt S marks e = getD marks (8 * linesOf S + e) 0
+sentAt S marks e = getD marks (marksFrom S sentRegion + e) 0
 
 abbrev pub ticketCountAt : Settings → List ℕ → ℕ → ℕ
-ticketCountAt S marks e = getD marks (8 * linesOf S + S .entries + e) 0
+ticketCountAt S marks e = getD marks (marksFrom S ticketCountRegion + e) 0
 
 -- ticket place i of all entries, `readers` to an entry
 abbrev pub ticketAt : Settings → List ℕ → ℕ → ℕ
-ticketAt S words i = getD words (1 + 5 * linesOf S + i) 0
+ticketAt S words i = getD words (wordsFrom S ticketRegion + i) 0
 
 -- of queue place p: its address, its kind (0 unused, 1 a read, 2 a write-back), and mask i of all places, four to a place
 abbrev pub queuedAt : Settings → List ℕ → ℕ → ℕ
-queuedAt S longs p = getD longs (linesOf S + S .entries + p) 0
+queuedAt S longs p = getD longs (longsFrom S queueRegion + p) 0
 
 abbrev pub kindAt : Settings → List ℕ → ℕ → ℕ
-kindAt S marks p = getD marks (8 * linesOf S + 2 * S .entries + p) 0
+kindAt S marks p = getD marks (marksFrom S kindRegion + p) 0
 
 abbrev pub queueMaskAt : Settings → List ℕ → ℕ → ℕ
-queueMaskAt S words i = getD words (1 + 5 * linesOf S + S .readers * S .entries + i) 0
+queueMaskAt S words i = getD words (wordsFrom S queueMaskRegion + i) 0
 
 abbrev pub nowAt : List ℕ → ℕ
 nowAt words = getD words 0 0
 
+abbrev pub dirtyCountAt : Settings → List ℕ → ℕ
+dirtyCountAt S words = getD words (wordsFrom S dirtyCountRegion) 0
+
 -- ---- the tables read off the slices
 
-module _ (n : ℕ) (words marks : List ℕ) where
+module _ (S : Settings) (words marks : List ℕ) where
   abbrev pub sectorAt : ℕ → Sector
-  sectorAt i = record { status = statusOf (statusAt marks i); mask = maskAt n words i; readable = eqb (readableAt n marks i) 1 }
+  sectorAt i = record { status = statusOf (statusAt marks i); mask = maskAt S words i; readable = eqb (readableAt S marks i) 1 }
 
   -- the four sectors of line l
   abbrev pub sectorsAt : ℕ → List Sector
   sectorsAt l = sectorAt (4 * l) ∷ sectorAt (4 * l + 1) ∷ sectorAt (4 * l + 2) ∷ sectorAt (4 * l + 3) ∷ []
 
-abbrev pub lineAt : ℕ → List ℕ → List ℕ → List ℕ → ℕ → Line
-lineAt n longs words marks l = record { tag = tagAt longs l; cycle = cycleAt words l; sectors = sectorsAt n words marks l }
+abbrev pub lineAt : Settings → List ℕ → List ℕ → List ℕ → ℕ → Line
+lineAt S longs words marks l = record { tag = tagAt longs l; cycle = cycleAt words l; sectors = sectorsAt S words marks l }
 
 abbrev pub entryAt : Settings → Lent → ℕ → Entry
 entryAt S L e = record {
@@ -102,15 +105,16 @@ queueAt S L p =
 abbrev pub inUse : ℕ → (ℕ → ℕ) → ℕ
 inUse n f = countBelow n (λ i. not (eqb (f i) 0))
 
-abbrev pub linesIn : ℕ → List ℕ → List ℕ → List ℕ → List Line
-linesIn n longs words marks = table n (lineAt n longs words marks)
+abbrev pub linesIn : Settings → List ℕ → List ℕ → List ℕ → List Line
+linesIn S longs words marks = table (linesOf S) (lineAt S longs words marks)
 
 unfoldable pub tablesOf : Settings → Lent → Tables
 tablesOf S L = record {
-  lines = linesIn (linesOf S) (L .longs) (L .words) (L .marks);
+  lines = linesIn S (L .longs) (L .words) (L .marks);
   misses = table (inUse (S .entries) (ticketCountAt S (L .marks))) (entryAt S L);
   queue = table (inUse (S .places) (kindAt S (L .marks))) (queueAt S L);
   now = nowAt (L .words);
+  dirtyCount = dirtyCountAt S (L .words);
 }
 
 -- ---- the slices that tables give: a block of places for each field, unused places zero
@@ -172,6 +176,7 @@ wordBlocks S t =
     ∷ places masksOf 4 (linesOf S) (t .lines)
     ∷ places ticketsIn (S .readers) (S .entries) (t .misses)
     ∷ places queueMasksOf 4 (S .places) (t .queue)
+    ∷ (t .dirtyCount ∷ [])
     ∷ []
 
 abbrev pub markBlocks : Settings → Tables → List (List ℕ)

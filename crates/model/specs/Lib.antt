@@ -4,6 +4,7 @@ pub mod Numbers
 pub mod Range
 pub mod Address
 pub mod Tables
+pub mod Layout
 pub mod Lent
 pub mod Sound
 pub mod SoundLent

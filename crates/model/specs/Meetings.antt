@@ -5,7 +5,7 @@ use mathlib.Core.List.{List, [], _∷_, _++_, map}
 use lib.ListN.{getD}
 use Rattle.model.specs.Address.{addressOf, blockOf, lineNumber}
 use Rattle.model.specs.Tables.{Line, Tables, holds, fresh}
-use Rattle.model.specs.Probe.{Rule, waysOf, dirtyLines, first, victim, Spot, at, writeBack, probe, ruleOf}
+use Rattle.model.specs.Probe.{Rule, first, victim, Spot, at, writeBack, metIn}
 use Rattle.model.specs.Steps.{queues, queuedEvent}
 use Rattle.model.specs.declared.Settings.{Settings}
 use Rattle.model.specs.declared.Access.{Access}
@@ -30,6 +30,6 @@ pub record Replaced (R : Rule) (S : Settings) (d : ℕ) (ways : List Line) (x : 
 -- the queue after it is the queue before and exactly what it queues, and its events tell just that
 pub record Queues (S : Settings) (x : Access) (t : Tables) (es : List Event) (u : Tables) : Type 0 where
   pub spot : Spot
-  pub met : probe (ruleOf S t (addressOf x)) S (dirtyLines t) (waysOf S (t .lines) (addressOf x)) x ≡ at spot
+  pub met : metIn S x t ≡ at spot
   pub queue : u .queue ≡ t .queue ++ queues x spot
   pub told : es ≡ Answered (spot .answer) (lineNumber S (addressOf x) (spot .way)) ∷ map queuedEvent (queues x spot)

@@ -4,11 +4,11 @@ use mathlib.Core.Bool.{Bool, true, false, not, _&&_, _||_}
 use mathlib.Core.List.{List, [], _∷_, map}
 use lib.ListN.{length, getD, take, drop, replicate}
 use lib.Dec.{leb}
-use Rattle.model.specs.Words.{pick, any, count}
+use Rattle.model.specs.Words.{pick, any}
 use Rattle.model.specs.Numbers.{statusNumber}
 use Rattle.model.specs.Range.{linesOf}
 use Rattle.model.specs.Address.{addressOf, blockOf, sectorIndex, setIndex}
-use Rattle.model.specs.Tables.{Line, Queued, writing, Tables, unused, waiting, dirty, holds, empty, fresh}
+use Rattle.model.specs.Tables.{Line, Queued, writing, Tables, unused, waiting, dirty, holds, empty, emptied, fresh}
 use Rattle.model.specs.Tree.{treeChoice, levels}
 use Rattle.model.specs.declared.Settings.{Settings}
 use Rattle.model.specs.declared.Status.{Status}
@@ -48,11 +48,7 @@ answerOf x s = answerAt (s .status) (columnOf x (s .readable))
 abbrev pub waysOf : Settings → List Line → ℕ → List Line
 waysOf S ls a = take (S .ways) (drop (setIndex S a * S .ways) ls)
 
--- "dirty counts the lines of the whole cache with a MODIFIED sector"
-abbrev pub dirtyLines : Tables → ℕ
-dirtyLines t = count dirty (t .lines)
-
--- "100 × dirty ≥ P × lines"
+-- "100 × dirty ≥ P × lines", by the count that the tables keep (L3)
 abbrev pub enoughDirty : Settings → ℕ → Bool
 enoughDirty S d = leb (S .percent * linesOf S) (100 * d)
 
@@ -135,7 +131,7 @@ takeOver a ways Nothing = no (pick (any waiting ways) SetBusy SetHeld)
 takeOver a ways (At w) =
     at record {
       way = w;
-      line = record { tag = blockOf a; cycle = 0; sectors = replicate 4 empty };
+      line = emptied (blockOf a);
       answer = Miss;
       backs = writeBack (getD ways w fresh);
     }
@@ -152,3 +148,10 @@ meet R S d ways x (At w) =
 
 unfoldable pub probe : Rule → Settings → ℕ → List Line → Access → Place
 probe R S d ways x = meet R S d ways x (first (holds (blockOf (addressOf x))) ways)
+
+-- what an access meets in these tables, under the rules R, and under the rule of the settings
+abbrev pub metUnder : Rules → Settings → Access → Tables → Place
+metUnder R S x t = probe (R t (addressOf x)) S (t .dirtyCount) (waysOf S (t .lines) (addressOf x)) x
+
+abbrev pub metIn : Settings → Access → Tables → Place
+metIn S x t = metUnder (ruleOf S) S x t

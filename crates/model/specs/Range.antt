@@ -1,5 +1,5 @@
--- "The modelled cache": the settings in range, and the lengths that they fix for the three lent slices.
-use Prim.Native.Nat.{ℕ, _+_, _*_}
+-- "The modelled cache": the settings in range.
+use Prim.Native.Nat.{ℕ, _*_}
 use mathlib.Core.Bool.{Bool, _&&_}
 use mathlib.Core.List.{List, [], _∷_}
 use lib.Dec.{eqb, leb}
@@ -27,15 +27,3 @@ inRange S =
     && within 1 64 (S .entries)
     && within 1 8 (S .readers)
     && within 2 64 (S .places)
-
--- 64-bit numbers: tags, miss addresses, queue addresses
-abbrev pub longsLength : Settings → ℕ
-longsLength S = linesOf S + S .entries + S .places
-
--- 32-bit numbers: the current cycle, cycles, masks, tickets, queue masks
-abbrev pub wordsLength : Settings → ℕ
-wordsLength S = 1 + 5 * linesOf S + S .readers * S .entries + 4 * S .places
-
--- bytes: statuses, readable marks, sent marks, ticket counts, queue kinds
-abbrev pub marksLength : Settings → ℕ
-marksLength S = 8 * linesOf S + 2 * S .entries + S .places

@@ -1,15 +1,15 @@
 -- "What an accepted access does", the order of its refusals, then send, fill and tick.
-use Prim.Native.Nat.{ℕ, _+_}
+use Prim.Native.Nat.{ℕ, _+_, _-_}
 use mathlib.Core.Bool.{Bool, true, false, not, _&&_, _||_}
 use mathlib.Core.List.{List, [], _∷_, _++_, map}
 use lib.ListN.{length, getD, set}
 use lib.Dec.{ltb, leb, eqb}
 use lib.Bits.{bitOr}
-use Rattle.model.specs.Words.{pick, any, keep}
+use Rattle.model.specs.Words.{pick, any, keep, one}
 use Rattle.model.specs.Address.{addressOf, isRead, blockOf, sectorIndex, lineNumber, wellFormed}
-use Rattle.model.specs.Tables.{Line, Entry, Queued, reading, writing, Tables, Outcome, refused, done, isInvalid, holds, entryFor, empty}
+use Rattle.model.specs.Tables.{Line, Entry, Queued, reading, writing, Tables, withLines, withMisses, withQueue, withNow, withDirtyCount, Outcome, refused, done, isInvalid, dirty, holds, entryFor, empty, fresh}
 use Rattle.model.specs.Sound.{allOnes, lastCycle}
-use Rattle.model.specs.Probe.{Spot, Place, no, at, probe, Rules, ruleOf, waysOf, dirtyLines}
+use Rattle.model.specs.Probe.{Spot, Place, no, at, Rules, ruleOf, metUnder}
 use Rattle.model.specs.declared.Settings.{Settings}
 use Rattle.model.specs.declared.Status.the-variants.{Reserved, Valid, Modified}
 use Rattle.model.specs.declared.Sector.{Sector}
@@ -56,6 +56,12 @@ onSector (Write a m k) n s =
 abbrev pub update : ℕ → (Sector → Sector) → ℕ → Line → Line
 update i f c l = record { tag = l .tag; cycle = c; sectors = set (l .sectors) i (f (getD (l .sectors) i empty)) }
 
+-- ---- the dirty count (L3)
+
+-- line l becomes m: one line fewer if l was dirty, one more if m is
+abbrev pub recounted : Line → Line → ℕ → ℕ
+recounted l m d = d + one (dirty m) - one (dirty l)
+
 -- ---- the miss table
 
 -- "the ticket joins the entry"
@@ -94,16 +100,20 @@ placesNeeded x p = length (queues x p)
 
 -- ---- the access
 
+-- the line that an accepted access leaves at its spot
+abbrev pub lineAfter : Access → Spot → ℕ → Line
+lineAfter x p now = update (sectorIndex (addressOf x)) (onSector x (p .answer)) now (p .line)
+
+-- the line at its number, the dirty count, the miss table and the queue move, and nothing else
+abbrev pub afterAccess : Settings → Access → Spot → Tables → Tables
+afterAccess S x p t =
+    withQueue (t .queue ++ queues x p)
+    (withMisses (onMisses x (p .answer) (t .misses))
+    (withDirtyCount (recounted (getD (t .lines) (lineNumber S (addressOf x) (p .way)) fresh) (lineAfter x p (t .now)) (t .dirtyCount))
+    (withLines (set (t .lines) (lineNumber S (addressOf x) (p .way)) (lineAfter x p (t .now))) t)))
+
 unfoldable pub accept : Settings → Access → Spot → Tables → Outcome Tables
-accept S x p t =
-    done (Answered (p .answer) (lineNumber S (addressOf x) (p .way)) ∷ map queuedEvent (queues x p))
-    record {
-      lines = set (t .lines) (lineNumber S (addressOf x) (p .way))
-          (update (sectorIndex (addressOf x)) (onSector x (p .answer)) (t .now) (p .line));
-      misses = onMisses x (p .answer) (t .misses);
-      queue = t .queue ++ queues x p;
-      now = t .now;
-    }
+accept S x p t = done (Answered (p .answer) (lineNumber S (addressOf x) (p .way)) ∷ map queuedEvent (queues x p)) (afterAccess S x p t)
 
 -- its entry has W tickets
 abbrev pub entryFull : Settings → ℕ → Entry → Bool
@@ -121,7 +131,7 @@ proceed S x t (at p) =
 -- 4 "access address not a multiple of 32 or not below 2^48; write mask 0; read mask not 0", then what the access meets under the rules R
 abbrev pub accessUnder : Rules → Settings → Access → Tables → Outcome Tables
 accessUnder R S x t =
-    pick (wellFormed x) (proceed S x t (probe (R t (addressOf x)) S (dirtyLines t) (waysOf S (t .lines) (addressOf x)) x)) (refused BadAccess)
+    pick (wellFormed x) (proceed S x t (metUnder R S x t)) (refused BadAccess)
 
 unfoldable pub access : Settings → Access → Tables → Outcome Tables
 access S x t = accessUnder (ruleOf S) S x t
@@ -136,7 +146,7 @@ marked (reading a) es = map (mark a) es
 marked (writing b ms) es = es
 
 abbrev pub afterSend : Queued → List Queued → Tables → Tables
-afterSend e q t = record { lines = t .lines; misses = marked e (t .misses); queue = q; now = t .now }
+afterSend e q t = withQueue q (withMisses (marked e (t .misses)) t)
 
 abbrev pub sendFrom : List Queued → Tables → Outcome Tables
 sendFrom [] t = refused QueueEmpty
@@ -161,10 +171,15 @@ ticketsOf a (e ∷ es) = pick (entryFor a e) (e .tickets) (ticketsOf a es)
 abbrev pub others : ℕ → Entry → Bool
 others a e = not (entryFor a e)
 
+-- a line with no MODIFIED sector that gets one
+abbrev pub soiled : ℕ → Line → Bool
+soiled a l = not (dirty l) && dirty (fillLine a l)
+
 -- "the entry goes, later entries close up"
 abbrev pub afterFill : ℕ → Tables → Tables
 afterFill a t =
-    record { lines = map (fillLine a) (t .lines); misses = keep (others a) (t .misses); queue = t .queue; now = t .now }
+    withMisses (keep (others a) (t .misses))
+    (withDirtyCount (t .dirtyCount + one (any (soiled a) (t .lines))) (withLines (map (fillLine a) (t .lines)) t))
 
 abbrev pub sentFor : ℕ → Entry → Bool
 sentFor a e = entryFor a e && e .sent
@@ -181,4 +196,4 @@ fill a t =
 unfoldable pub tick : ℕ → Tables → Outcome Tables
 tick c t =
     pick (ltb c (t .now) || ltb lastCycle c) (refused BadCycle)
-    (done (Ticked ∷ []) record { lines = t .lines; misses = t .misses; queue = t .queue; now = c })
+    (done (Ticked ∷ []) (withNow c t))

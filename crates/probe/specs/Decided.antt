@@ -3,11 +3,11 @@ use mathlib.Core.Path.{_≡_}
 use Prim.Native.Nat.{ℕ, _<_}
 use mathlib.Core.List.{List, [], _∷_}
 use lib.ListN.{getD, replicate}
-use Rattle.model.specs.Words.{pick, count}
+use Rattle.model.specs.Words.{pick}
 use Rattle.model.specs.Range.{linesOf}
 use Rattle.model.specs.Address.{addressOf, blockOf, lineNumber}
-use Rattle.model.specs.Tables.{Line, Queued, writing, dirty, empty, fresh}
-use Rattle.model.specs.Lent.{linesIn}
+use Rattle.model.specs.Tables.{Line, Queued, writing, fresh, emptied}
+use Rattle.model.specs.Lent.{linesIn, dirtyCountAt}
 use Rattle.model.specs.Probe.{Place, no, at, waysOf, probe, byKey, age}
 use Rattle.model.specs.declared.Settings.{Settings}
 use Rattle.model.specs.declared.Access.{Access}
@@ -26,7 +26,7 @@ placeFor Met ways a d = at record { way = d .way; line = getD ways (d .way) fres
 placeFor Taken ways a d =
     at record {
       way = d .way;
-      line = record { tag = blockOf a; cycle = 0; sectors = replicate 4 empty };
+      line = emptied (blockOf a);
       answer = d .answer;
       backs = backsOf d;
     }
@@ -38,11 +38,11 @@ placeIs ways a d = placeFor (d .meeting) ways a d
 
 -- the lines of the whole cache in the slices
 abbrev pub linesHeld : Settings → List ℕ → List ℕ → List ℕ → List Line
-linesHeld S longs words marks = linesIn (linesOf S) longs words marks
+linesHeld S longs words marks = linesIn S longs words marks
 
 pub record Decided (S : Settings) (longs words marks : List ℕ) (x : Access) (r : Decision) : Type 0 where
   pub place : placeIs (waysOf S (linesHeld S longs words marks) (addressOf x)) (addressOf x) r
-      ≡ probe (byKey (age S)) S (count dirty (linesHeld S longs words marks)) (waysOf S (linesHeld S longs words marks) (addressOf x)) x
+      ≡ probe (byKey (age S)) S (dirtyCountAt S words) (waysOf S (linesHeld S longs words marks) (addressOf x)) x
   -- of a busy or held set its way 0
   pub way : r .way < S .ways
   pub line : r .line ≡ lineNumber S (addressOf x) (r .way)

@@ -1,12 +1,12 @@
 // What a refused access waits for, read off the lent slices: a miss entry that has to come back, dirty lines, queue places. Nothing is
 // written here. `reason_for` is public and asks nothing; `reason_held` is its part behind the checks, for a caller that holds sound tables.
+use layout::Layout;
 use model::Access;
 use model::Event;
 use model::Refusal;
 use model::SectorAddress;
 use model::Settings;
 use model::Verdict;
-use tables::Layout;
 ghost use mathlib.Core.Path.{_≡_};
 ghost use mathlib.Core.Bool.{true};
 ghost use Prim.Native.Nat.{_+_, _*_, _≤_};
@@ -14,7 +14,6 @@ ghost use lib.ListN.{length};
 ghost use Rattle.model.specs.Range.{powerTo256};
 ghost use Rattle.model.specs.Address.{addressOf, setIndex};
 ghost use Rattle.model.specs.Tables.{entryFor};
-ghost use Rattle.model.specs.Probe.{dirtyLines};
 ghost use Rattle.model.specs.Lent.{lent};
 ghost use Rattle.model.specs.Inner.{Held};
 ghost use Rattle.reasons.specs.Reasons.{entryReason, ofSet, anyEntry, missingLines, linesReason, queueReason, reasonFor, reasonCall};
@@ -81,8 +80,8 @@ fn busy_reason(s: Settings, longs: &[u64], words: &[u32], marks: &[u8], x: Acces
     requires { ⌜ Held s (lent (now longs) (now words) (now marks)) ⌝ }
     ensures { λ r. ⌜ Gives s (λ t. entryReason (ofSet (s .sets) (setIndex s (addressOf x))) (t .misses)) (lent (now (longs .entry)) (now (words .entry)) (now (marks .entry))) r ⌝ }
 {
-    let at = tables::laid_out(s);
-    let n = tables::used(marks, at.counts, s.entries);
+    let at = layout::laid_out(s);
+    let n = layout::used(marks, at.counts, s.entries);
     let set = model::set_index(model::address_of(x), s.sets);
     let e = first_in_set(longs, at.misses, n, s.sets, set);
     entry_reason(at, longs, marks, e, n)
@@ -93,8 +92,8 @@ fn readers_reason(s: Settings, longs: &[u64], words: &[u32], marks: &[u8], x: Ac
     requires { ⌜ Held s (lent (now longs) (now words) (now marks)) ⌝ }
     ensures { λ r. ⌜ Gives s (λ t. entryReason (entryFor (addressOf x)) (t .misses)) (lent (now (longs .entry)) (now (words .entry)) (now (marks .entry))) r ⌝ }
 {
-    let at = tables::laid_out(s);
-    let n = tables::used(marks, at.counts, s.entries);
+    let at = layout::laid_out(s);
+    let n = layout::used(marks, at.counts, s.entries);
     let address = SectorAddress(model::address_of(x));
     let e = tables::find_entry(longs, at.misses, n, address);
     entry_reason(at, longs, marks, e, n)
@@ -105,8 +104,8 @@ fn table_reason(s: Settings, longs: &[u64], words: &[u32], marks: &[u8]) -> Reas
     requires { ⌜ Held s (lent (now longs) (now words) (now marks)) ⌝ }
     ensures { λ r. ⌜ Gives s (λ t. entryReason anyEntry (t .misses)) (lent (now (longs .entry)) (now (words .entry)) (now (marks .entry))) r ⌝ }
 {
-    let at = tables::laid_out(s);
-    let n = tables::used(marks, at.counts, s.entries);
+    let at = layout::laid_out(s);
+    let n = layout::used(marks, at.counts, s.entries);
     entry_reason(at, longs, marks, 0, n)
 }
 
@@ -126,10 +125,12 @@ fn missing_lines(percent: usize, lines: usize, dirty: usize) -> usize
 // 6: the dirty lines that are missing.
 fn held_reason(s: Settings, longs: &[u64], words: &[u32], marks: &[u8]) -> Reason
     requires { ⌜ Held s (lent (now longs) (now words) (now marks)) ⌝ }
-    ensures { λ r. ⌜ Gives s (λ t. linesReason s (dirtyLines t)) (lent (now (longs .entry)) (now (words .entry)) (now (marks .entry))) r ⌝ }
+    ensures { λ r. ⌜ Gives s (λ t. linesReason s (t .dirtyCount)) (lent (now (longs .entry)) (now (words .entry)) (now (marks .entry))) r ⌝ }
 {
     let lines = s.sets * s.ways;
-    let dirty = probe::count_dirty(marks, lines);
+    let at = layout::laid_out(s);
+    let place = at.dirty;
+    let dirty = words[place] as usize;
     let percent = s.percent;
     let missing = missing_lines(percent, lines, dirty);
     Reason::Lines {
@@ -145,8 +146,8 @@ fn queue_reason(s: Settings, longs: &[u64], words: &[u32], marks: &[u8]) -> Reas
     requires { ⌜ Held s (lent (now longs) (now words) (now marks)) ⌝ }
     ensures { λ r. ⌜ Gives s (λ t. queueReason (s .places) (t .queue)) (lent (now (longs .entry)) (now (words .entry)) (now (marks .entry))) r ⌝ }
 {
-    let at = tables::laid_out(s);
-    let n = tables::used(marks, at.kinds, s.places);
+    let at = layout::laid_out(s);
+    let n = layout::used(marks, at.kinds, s.places);
     if n == 0 {
         return Reason::Nothing;
     }

@@ -14,7 +14,7 @@ use Rattle.model.specs.Range.{inRange, linesOf}
 use Rattle.model.specs.Address.{addressOf, isRead, goodSector, goodBlock, wellFormed}
 use Rattle.model.specs.Tables.{Entry, Queued, reading, writing, Tables, Outcome, after, eventsOf, entryFor}
 use Rattle.model.specs.Sound.{allOnes, lastCycle, entryOk, queuedOk, sound}
-use Rattle.model.specs.Probe.{Spot, Place, no, at, probe, ruleOf, waysOf, dirtyLines}
+use Rattle.model.specs.Probe.{Spot, Place, no, at, metIn}
 use Rattle.model.specs.Steps.{isMerge, isMiss, join, onMisses, fetches, queuedEvent, sentEvent, placesNeeded, entryFull, accept, proceed, access, mark, sendFrom, send, ticketsOf, others, sentFor, fill, tick}
 use Rattle.model.specs.RecordsOf as records
 use Rattle.model.specs.Records.{isSettings, lengthOf, numberAt, commandIn, commandOf}
@@ -102,7 +102,7 @@ module _ (S : Settings) (range : inRange S ≡ true) (t : Tables) (ok : Sound S 
         fetched-fit x (p .answer) (p .backs) (sector-low (addressOf x) (formed-good x w)) (backs-fit (p .backs) (s .backed [])),
       )
 
-  proceed-fits : wellFormed x ≡ true → (p : Place) → probe (ruleOf S t (addressOf x)) S (dirtyLines t) (waysOf S (t .lines) (addressOf x)) x ≡ p
+  proceed-fits : wellFormed x ≡ true → (p : Place) → metIn S x t ≡ p
       → Fits (proceed S x t p)
   unfolding proceed
   proceed-fits w (no n) e = (tt, tt)
@@ -206,7 +206,7 @@ module _ (t : Tables) (few : stamped t ≡ true) where
   pub access-stamped : (S : Settings) (x : Access) → TicketFits x → stamped (after t (access S x t)) ≡ true
   unfolding access proceed accept
   access-stamped S x h =
-      by-flag Kept (wellFormed x) _ _ (λ w. met (probe (ruleOf S t (addressOf x)) S (dirtyLines t) (waysOf S (t .lines) (addressOf x)) x)) (λ w. few)
+      by-flag Kept (wellFormed x) _ _ (λ w. met (metIn S x t)) (λ w. few)
     where
       met : (p : Place) → Kept (proceed S x t p)
       met (no n) = few

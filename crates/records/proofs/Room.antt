@@ -11,7 +11,7 @@ use lib.ListN.{length, getD, length-append}
 use Rattle.model.specs.Words.{pick, all, any}
 use Rattle.model.specs.Range.{inRange, within}
 use Rattle.model.specs.Address.{addressOf, isRead, blockOf, lineNumber, wellFormed}
-use Rattle.model.specs.Tables.{Line, Entry, Queued, reading, Tables, Outcome, refused, done, eventsOf, dirty, holds, entryFor, fresh}
+use Rattle.model.specs.Tables.{Line, Entry, Queued, reading, Tables, Outcome, refused, done, eventsOf, dirty, holds, entryFor, fresh, withNow}
 use Rattle.model.specs.Sound.{lastCycle, entryOk, sound}
 use Rattle.model.specs.Probe.{Spot, Place, no, at, waysOf, dirtyLines, first, victim, writeBack, takeOver, meet, probe, Rule, ruleOf}
 use Rattle.model.specs.Steps.{isMerge, isMiss, fetches, queues, queuedEvent, sentEvent, placesNeeded, accept, entryFull, proceed, access, afterSend, sendFrom, send, ticketsOf, afterFill, sentFor, fill, tick}
@@ -155,7 +155,7 @@ pub tick-takes : (c : ℕ) (t : Tables) → Takes 25 (tick c t)
 unfolding tick
 tick-takes c t =
     takes-by (ltb c (t .now) || ltb lastCycle c) (refused-within _ BadCycle (lit≤ tt))
-    (one-takes Ticked record { lines = t .lines; misses = t .misses; queue = t .queue; now = c })
+    (one-takes Ticked (withNow c t))
 
 tickets-few : (n a : ℕ) (es : List Entry) → all (λ e. leb (length (e .tickets)) n) es ≡ true → length (ticketsOf a es) ≤ n
 tickets-few n a [] h = omega arith

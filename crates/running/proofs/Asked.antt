@@ -9,7 +9,8 @@ use borrow.Author.Tests.{eq-eqb}
 use lib.ListN.{length}
 use lib.Dec.{ltb}
 use Rattle.model.specs.Words.{pick}
-use Rattle.model.specs.Range.{inRange, longsLength, wordsLength, marksLength}
+use Rattle.model.specs.Range.{inRange}
+use Rattle.model.specs.Layout.{longsLength, wordsLength, marksLength}
 use Rattle.model.specs.Tables.{Tables}
 use Rattle.model.specs.Lent.{Lent, lengthsFit}
 use Rattle.model.specs.Records.{isCommand, isSettings, lengthOf}
@@ -20,7 +21,7 @@ use Rattle.model.specs.declared.Stop.{Stop}
 use Rattle.model.specs.declared.Stop.the-variants.{Nothing, SettingOutOfRange, SliceLength, NotSound, OutOfPlace, UnknownKind, CutShort, NoRoom}
 use Rattle.model.proofs.Flags.{clash, by-flag, flag}
 use Rattle.model.proofs.Fits.{ranged}
-use Rattle.soundness.proofs.OfRange.{tickets-most}
+use Rattle.layout.proofs.OfRange.{tickets-most}
 use Rattle.running.specs.declared.Lengths.{Lengths}
 use Rattle.running.specs.declared.Begun.{Begun}
 use Rattle.running.specs.declared.Begun.the-variants.{Accepted, Stopped}
@@ -48,7 +49,7 @@ lengths-out S h = rw h
 
 pub record Most (n : Lengths) : Type 0 where
   pub longs : n .longs ≤ 1152
-  pub words : n .words ≤ 5889
+  pub words : n .words ≤ 5890
   pub marks : n .marks ≤ 8384
 
 most-of : (S : Settings) → Most (lengthsOf S)

@@ -372,13 +372,13 @@ fn no_lengths() -> Lengths
 fn lengths_of(s: Settings) -> Lengths
     ensures { λ r. ⌜ r ≡ lengthsOf s ⌝ }
 {
-    if !soundness::in_range(s) {
+    if !layout::in_range(s) {
         return no_lengths();
     }
     Lengths {
-        longs: soundness::longs_length(s),
-        words: soundness::words_length(s),
-        marks: soundness::marks_length(s),
+        longs: layout::longs_length(s),
+        words: layout::words_length(s),
+        marks: layout::marks_length(s),
     }
 }
 

@@ -35,10 +35,10 @@ module _ (S : Settings) (longs words marks : List ℕ) where
   status = statusAt marks
 
   abbrev readable : ℕ → ℕ
-  readable = readableAt (linesOf S) marks
+  readable = readableAt S marks
 
   abbrev mask : ℕ → ℕ
-  mask = maskAt (linesOf S) words
+  mask = maskAt S words
 
   pub shaped-sector : (i : ℕ)
       → (leb (status i) 3 && leb (readable i) 1 && (eqb (status i) 1 || Bool·beq (not (eqb (mask i) 0)) (eqb (status i) 3))

@@ -7,7 +7,7 @@ use native.Mathlib.Omega.{arith}
 use lib.ListN.{length, getD, drop}
 use lib.Seq.{drop-cons}
 use Rattle.model.specs.Regions.{closed}
-use Rattle.model.specs.Tables.{Queued, reading, writing, Tables}
+use Rattle.model.specs.Tables.{Queued, reading, writing, Tables, withMisses}
 use Rattle.model.specs.Lent.{lent}
 use Rattle.model.specs.Steps.{marked, afterSend, sendFrom, send, sentEvent}
 use Rattle.model.specs.Calls.{encoded, Leaves}
@@ -18,11 +18,12 @@ use Rattle.model.specs.declared.Event.{Event}
 use Rattle.model.specs.declared.Event.the-variants as event
 use Rattle.model.specs.declared.Told.{Told}
 use Rattle.model.proofs.SoundFacts.{Sound, parts}
-use Rattle.tables.specs.declared.Layout.{Layout}
-use Rattle.tables.specs.Layout.{Placed}
-use Rattle.tables.specs.Raw.{First, frontAt}
+use Rattle.layout.specs.declared.Layout.{Layout}
+use Rattle.layout.specs.Layout.{Placed}
+use Rattle.layout.specs.Places.{First}
+use Rattle.tables.specs.Raw.{frontAt}
 use Rattle.tables.specs.Telling.{telling}
-use Rattle.tables.proofs.Stands.{Stands, is-stands, stands-encode, withMisses}
+use Rattle.layout.proofs.Stands.{Stands, is-stands, stands-encode}
 use Rattle.tables.proofs.Queue.{idle, queue-used, pop-stands, head-reading, head-kind-reading, head-kind-writing, front-is}
 use Rattle.tables.proofs.Misses.{address-at, sent-stands, entry-first}
 use Rattle.tables.proofs.Tellings.{telling-tells, telling-tidy, refusal-leaves, done-leaves}

@@ -5,7 +5,7 @@ use mathlib.Core.List.{List, [], _∷_}
 use Prim.Native.Nat.{ℕ}
 use lib.ListN.{getD, set}
 use lib.Dec.{ltb}
-use Rattle.model.specs.Tables.{Tables, done}
+use Rattle.model.specs.Tables.{Tables, done, withNow}
 use Rattle.model.specs.Sound.{lastCycle}
 use Rattle.model.specs.Lent.{lent}
 use Rattle.model.specs.Steps.{tick}
@@ -16,11 +16,8 @@ use Rattle.model.specs.declared.Refusal.the-variants.{BadCycle}
 use Rattle.model.specs.declared.Event.the-variants as event
 use Rattle.model.specs.declared.Told.{Told}
 use Rattle.tables.specs.Telling.{telling}
-use Rattle.tables.proofs.Stands.{Stands, is-stands, stands-encode}
+use Rattle.layout.proofs.Stands.{Stands, is-stands, stands-encode}
 use Rattle.tables.proofs.Tellings.{telling-tells, telling-tidy, refusal-leaves, done-leaves}
-
-abbrev withNow : ℕ → Tables → Tables
-withNow c t = record { lines = t .lines; misses = t .misses; queue = t .queue; now = c }
 
 module _ (S : Settings) (c : ℕ) (t : Tables) {longs words marks : List ℕ} (i : Is S (lent longs words marks) t) where
   h : Stands S longs words marks t

@@ -1,19 +1,24 @@
 -- Words for the parts of send and fill, over the raw numbers of the lent slices.
 use mathlib.Core.Path.{_≡_}
-use Prim.Native.Nat.{ℕ, _+_, _*_, _<_}
+use Prim.Native.Nat.{ℕ, _+_, _-_, _*_, _≤_, _<_}
 use mathlib.Core.Bool.{Bool, true, false, not, _&&_}
 use mathlib.Core.List.{List, [], _∷_}
 use lib.ListN.{length, getD, set, replicate}
 use lib.Dec.{eqb}
-use Rattle.model.specs.Words.{fit}
+use Rattle.model.specs.Words.{fit, one}
+use Rattle.model.specs.Range.{linesOf}
+use Rattle.model.specs.Lent.{sectorsAt}
 use Rattle.model.specs.Regions.{put}
 use Rattle.model.specs.Tables.{empty}
 use Rattle.model.specs.Steps.{arrived}
+use Rattle.model.specs.declared.Settings.{Settings}
 use Rattle.model.specs.declared.Sector.{Sector}
 use Rattle.model.specs.declared.Event.the-variants.{Filled}
 use Rattle.model.specs.declared.Told.{Told}
-use Rattle.tables.specs.declared.Layout.{Layout}
-use Rattle.tables.specs.Raw.{First, holdsAt, sectorsFrom, statuses, masks, readables}
+use Rattle.layout.specs.declared.Layout.{Layout}
+use Rattle.layout.specs.Places.{First}
+use Rattle.layout.specs.Sectors.{statuses, masks, readables, someModified}
+use Rattle.tables.specs.Raw.{holdsAt}
 
 -- ---- send
 
@@ -44,19 +49,27 @@ Holding longs marks base n block = (k : ℕ) × (k < n) × (holdsAt longs marks 
 abbrev pub arrivedAt : ℕ → List Sector → List Sector
 arrivedAt k xs = set xs k (arrived (getD xs k empty))
 
+-- the dirty count is no more than there can be lines, and counts line l if it is dirty
+abbrev pub CountFits : Settings → Layout → ℕ → List ℕ → List ℕ → Type 0
+CountFits S at l words marks = (getD words (at .dirty) 0 ≤ 1024) × (one (someModified (sectorsAt S words marks l)) ≤ getD words (at .dirty) 0)
+
+-- the dirty count, when the line's four sectors become these
+abbrev pub countAfter : Settings → Layout → ℕ → List ℕ → List ℕ → List Sector → List ℕ
+countAfter S at l words marks four =
+    put words (at .dirty) ((getD words (at .dirty) 0 + one (someModified four) - one (someModified (sectorsAt S words marks l))) ∷ [])
+
 -- sector k of line l has come
-pub record SectorFilled (at : Layout) (l k : ℕ) (words marks words′ marks′ : List ℕ) : Type 0 where
-  pub words-are : words′ ≡ put words (at .masks + 4 * l) (masks (arrivedAt k (sectorsFrom words marks (4 * l) (at .masks + 4 * l) (at .readables + 4 * l))))
+pub record SectorFilled (S : Settings) (at : Layout) (l k : ℕ) (words marks words′ marks′ : List ℕ) : Type 0 where
+  pub words-are : words′ ≡ put (countAfter S at l words marks (arrivedAt k (sectorsAt S words marks l))) (at .masks + 4 * l) (masks (arrivedAt k (sectorsAt S words marks l)))
   pub marks-are : marks′
-      ≡ put (put marks (4 * l) (statuses (arrivedAt k (sectorsFrom words marks (4 * l) (at .masks + 4 * l) (at .readables + 4 * l)))))
-      (at .readables + 4 * l) (readables (arrivedAt k (sectorsFrom words marks (4 * l) (at .masks + 4 * l) (at .readables + 4 * l))))
+      ≡ put (put marks (4 * l) (statuses (arrivedAt k (sectorsAt S words marks l)))) (at .readables + 4 * l) (readables (arrivedAt k (sectorsAt S words marks l)))
 
 -- sector k of a line that has the block has come
-pub record LineFilled (at : Layout) (n block k : ℕ) (longs words marks words′ marks′ : List ℕ) : Type 0 where
+pub record LineFilled (S : Settings) (at : Layout) (block k : ℕ) (longs words marks words′ marks′ : List ℕ) : Type 0 where
   pub line : ℕ
-  pub inside : line < n
+  pub inside : line < linesOf S
   pub held : holdsAt longs marks block line ≡ true
-  pub filled : SectorFilled at line k words marks words′ marks′
+  pub filled : SectorFilled S at line k words marks words′ marks′
 
 -- an address filled, with the tickets released
 abbrev pub releasing : ℕ → List ℕ → Told

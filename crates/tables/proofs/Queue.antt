@@ -8,18 +8,19 @@ use lib.ListN.{length, getD, drop}
 use lib.Dec.{eqb}
 use Rattle.model.specs.Words.{pick, fit, places}
 use Rattle.model.specs.Regions.{put, closed, ahead}
-use Rattle.model.specs.Tables.{Queued, reading, writing, Tables}
+use Rattle.model.specs.Tables.{Queued, reading, writing, Tables, withQueue}
 use Rattle.model.specs.Lent.{longBlocks, wordBlocks, markBlocks, queuedOf, queueMasksOf, kindOf}
 use Rattle.model.specs.Steps.{sentEvent}
 use Rattle.model.specs.declared.Settings.{Settings}
 use Rattle.model.specs.declared.Event.the-variants.{ReadSent, WriteBackSent}
 use Rattle.model.proofs.Places.{length-places, field-get}
-use Rattle.tables.specs.declared.Layout.{Layout}
-use Rattle.tables.specs.Layout.{Placed}
-use Rattle.tables.specs.Raw.{First, frontAt}
+use Rattle.layout.specs.declared.Layout.{Layout}
+use Rattle.layout.specs.Layout.{Placed}
+use Rattle.layout.specs.Places.{First}
+use Rattle.tables.specs.Raw.{frontAt}
 use Rattle.tables.proofs.Ones.{dropped-first}
-use Rattle.tables.proofs.Stands.{Stands, withQueue}
-use Rattle.tables.proofs.Grown.{places-push-idle, field-push, field-close-first, field-used}
+use Rattle.layout.proofs.Stands.{Stands}
+use Rattle.layout.proofs.Grown.{places-push-idle, field-push, field-close-first, field-used}
 
 -- what stands past the end of a queue
 abbrev pub idle : Queued

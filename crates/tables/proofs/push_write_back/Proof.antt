@@ -3,7 +3,7 @@ use native.Mathlib.Omega.{arith}
 use lib.ListN.{length-set}
 use mir.Syntax.{w32}
 use borrow.Kind.Array.{eInt, good-length}
-use Rattle.tables.proofs.Stores.{one-put, four-put}
+use Rattle.layout.proofs.Stores.{one-put, four-put}
 use borrow.Author.Needs.{needs}
 use Rattle.tables.proofs.push_write_back.Statement.{statement}
 use Rattle.tables.proofs.push_write_back.Tie as tie
