@@ -165,13 +165,21 @@ pub(crate) fn put_mark(marks: &mut [u8], at: u64, n: u64) {
     }
 }
 
-// How many of the first lines are dirty.
+// How many of the first lines are dirty, counted here: the library keeps a count.
 fn dirty_lines(marks: &[u8], lines: u64) -> usize {
     let n = lines as usize;
     if marks.len() / 4 < n {
         return 0;
     }
-    probe::count_dirty(marks, n)
+    let mut count: usize = 0;
+    let mut l = 0;
+    while l < n {
+        if probe::is_dirty(marks, l) {
+            count += 1;
+        }
+        l += 1;
+    }
+    count
 }
 
 // Makes the call on lent slices; its outcome is put at the start of `out`.

@@ -1,7 +1,7 @@
 -- Settings outside their ranges, and in range.
 use mathlib.Core.Path.{_∙_}
 use borrow.Author.Needs.{needs}
-use Rattle.soundness.proofs.Tests.{said-no, said-yes}
+use Rattle.layout.proofs.Tests.{said-no, said-yes}
 use Rattle.running.proofs.Asked.{lengths-in, lengths-out}
 use Rattle.running.proofs.lengths_of.Statement.{statement}
 use Rattle.running.proofs.lengths_of.Tie as tie

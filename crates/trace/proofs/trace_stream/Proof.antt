@@ -42,6 +42,7 @@ trace-stream-spec =
     -- trace-all-requires
     (λ c κs.
     let l = c .before .before .before .before .before .before .before in
-    l .before .first-record .ensures ∙ ap firstRecord (l .before .before .front .ensures))
+    let f = l .before .before in
+    (f .before .before .before .before .pre, l .before .first-record .ensures ∙ ap firstRecord (f .front .ensures)))
     (λ c. search needs)
     (λ c. search needs))
