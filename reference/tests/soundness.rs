@@ -1,4 +1,4 @@
-//! The 25 conditions of soundness: each can be broken, and alone wherever that is possible.
+//! The conditions of soundness: each can be broken, and alone wherever that is possible.
 
 use reference::choices;
 use reference::model::{broken, sound, Access, Cache, Layout, Place, Settings, CONDITIONS};
@@ -86,6 +86,8 @@ fn every_place_has_a_name_of_its_own() {
     assert_eq!(layout.describe(layout.ticket(3, 4)), "ticket 4 of miss entry 3");
     assert_eq!(layout.describe(layout.queue_mask(5, 2)), "mask 2 of queue place 5");
     assert_eq!(layout.describe(layout.readable(1, 3)), "readable mark of line 1 sector 3");
+    assert_eq!(layout.describe(layout.dirty_count()), "count of dirty lines");
+    assert_eq!(layout.dirty_count(), Place::Word(words - 1));
 }
 
 #[test]

@@ -10,6 +10,9 @@ use std::io::{self, Read};
 /// Numbers that the programs have for each slice, of which they lend some.
 const MOST: [usize; 3] = [16, 64, 64];
 
+/// The settings whose tables a stream is lent unless its script says otherwise.
+const USUAL: Settings = Settings::new([1, 2, 50, 2, 2, 4]);
+
 /// What the tables and the event room hold before a stream is run.
 const STALE: u64 = 9;
 const BLANK: u8 = 0xEE;
@@ -209,7 +212,8 @@ struct Stream {
 
 impl Stream {
     fn named(name: &str) -> Stream {
-        Stream { name: name.to_string(), bytes: Vec::new(), lengths: [8, 31, 24], room: 256 }
+        let lengths = lengths_for(&USUAL);
+        Stream { name: name.to_string(), bytes: Vec::new(), lengths, room: 256 }
     }
 
     fn run(&self) {
@@ -226,7 +230,7 @@ impl Stream {
         assert!(room[written..].iter().all(|&byte| byte == BLANK));
         let left = if tables == before {
             "unchanged"
-        } else if tables == Tables::fresh(&Settings::new([1, 2, 50, 2, 2, 4])) {
+        } else if tables == Tables::fresh(&USUAL) {
             "fresh"
         } else {
             "as run"

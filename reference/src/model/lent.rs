@@ -87,7 +87,7 @@ impl Layout {
     pub fn lengths(&self) -> [usize; 3] {
         [
             self.lines + self.entries + self.places,
-            1 + 5 * self.lines + self.entries * self.readers + 4 * self.places,
+            1 + 5 * self.lines + self.entries * self.readers + 4 * self.places + 1,
             8 * self.lines + 2 * self.entries + self.places,
         ]
     }
@@ -123,6 +123,10 @@ impl Layout {
     pub fn queue_mask(&self, place: usize, sector: usize) -> Place {
         let queue = 1 + 5 * self.lines + self.entries * self.readers;
         Place::Word(queue + 4 * place + sector)
+    }
+
+    pub fn dirty_count(&self) -> Place {
+        Place::Word(1 + 5 * self.lines + self.entries * self.readers + 4 * self.places)
     }
 
     pub fn status(&self, line: usize, sector: usize) -> Place {
@@ -167,6 +171,7 @@ impl Layout {
     fn describe_word(&self, index: usize) -> String {
         let tickets = 5 * self.lines;
         let queue = tickets + self.entries * self.readers;
+        let count = queue + 4 * self.places;
         match index {
             _ if index < self.lines => format!("cycle of line {index}"),
             _ if index < tickets => format!("mask of {}", sector_name(index - self.lines)),
@@ -175,7 +180,10 @@ impl Layout {
                     ((index - tickets) / self.readers, (index - tickets) % self.readers);
                 format!("ticket {which} of miss entry {entry}")
             }
-            _ => format!("mask {} of queue place {}", (index - queue) % 4, (index - queue) / 4),
+            _ if index < count => {
+                format!("mask {} of queue place {}", (index - queue) % 4, (index - queue) / 4)
+            }
+            _ => "count of dirty lines".to_string(),
         }
     }
 
@@ -221,7 +229,7 @@ fn status_from(number: u64) -> Status {
 }
 
 impl Cache {
-    /// From sound tables of the right lengths.
+    /// From sound tables of the right lengths, whose count of dirty lines is then the true one.
     pub fn decode(settings: &Settings, tables: &Tables) -> Cache {
         let layout = Layout::of(settings);
         let lines = (0..layout.lines).map(|line| decode_line(&layout, tables, line)).collect();
@@ -240,6 +248,7 @@ impl Cache {
         let layout = Layout::of(&self.settings);
         let mut tables = Tables::zero(&self.settings);
         tables.set(layout.current_cycle(), u64::from(self.cycle));
+        tables.set(layout.dirty_count(), self.dirty_lines() as u64);
         for (number, line) in self.lines.iter().enumerate() {
             encode_line(&layout, &mut tables, number, line);
         }

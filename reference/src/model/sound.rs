@@ -1,5 +1,5 @@
-//! Document 01's section "Sound tables" as 25 numbered conditions on the lent
-//! numbers, so that a test can tell which one fails. Settings are in range and
+//! Document 01's section "Sound tables" and what document 02 adds to it (26: L3), as numbered
+//! conditions on the lent numbers, so that a test can tell which one fails. Settings are in range and
 //! lengths are right before any is asked; nothing else is taken for granted,
 //! so a condition stands alone also where an earlier one fails.
 
@@ -11,7 +11,7 @@ use super::{ADDRESS_LIMIT, FULL_MASK, LAST_CYCLE, LINE_BYTES, SECTORS, SECTOR_BY
 type Condition = (&'static str, fn(&View) -> bool);
 
 /// The conditions in order; number n stands at index n - 1.
-pub const CONDITIONS: [Condition; 25] = [
+pub const CONDITIONS: [Condition; 26] = [
     ("the current cycle is at most 4,294,967,294", current_cycle_in_range),
     ("a status is 0 to 3", statuses_known),
     ("a readable mark is 0 or 1", readable_marks_known),
@@ -37,9 +37,10 @@ pub const CONDITIONS: [Condition; 25] = [
     ("a write-back has a block address and a dirty byte", write_backs_formed),
     ("an unsent entry has exactly one read in the queue", unsent_entries_queued_once),
     ("a queued read has an unsent entry", queued_reads_unsent),
+    ("the stored count is that of the lines with a MODIFIED sector", dirty_lines_counted),
 ];
 
-/// All 25 hold.
+/// All hold.
 pub fn sound(settings: &Settings, tables: &Tables) -> bool {
     let view = View::new(settings, tables);
     CONDITIONS.iter().all(|(_, holds)| holds(&view))
@@ -290,4 +291,10 @@ fn queued_reads_unsent(view: &View) -> bool {
         view.queue_kind(p) != KIND_READ
             || entries.any(|e| view.unsent(e) && view.miss_address(e) == view.queue_address(p))
     })
+}
+
+fn dirty_lines_counted(view: &View) -> bool {
+    let dirty = |l: &usize| (0..SECTORS).any(|s| view.status(*l, s) == MODIFIED);
+    let counted = (0..view.layout.lines).filter(dirty).count() as u64;
+    view.tables.get(view.layout.dirty_count()) == counted
 }

@@ -86,7 +86,20 @@ impl<'a> Target<'a> {
         match condition {
             1..=10 => self.aim_at_lines(random, condition),
             11..=18 => self.aim_at_entries(random, condition),
-            _ => self.aim_at_queue(random, condition),
+            19..=25 => self.aim_at_queue(random, condition),
+            _ => Some((self.layout.dirty_count(), self.other_count(random))),
+        }
+    }
+
+    /// One more or less than there are dirty lines, or any number.
+    fn other_count(&self, random: &mut Random) -> u64 {
+        let dirty = self.cache.dirty_lines() as u64;
+        match random.below(5) {
+            0 => dirty + 1,
+            1 => dirty.saturating_sub(1),
+            2 => self.layout.lines as u64 - dirty,
+            3 => self.layout.lines as u64 + 1,
+            _ => u64::from(choices::write_mask(random)),
         }
     }
 

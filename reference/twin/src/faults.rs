@@ -112,6 +112,10 @@ impl Fault {
             ("last-ticket-kept", Call::Fill(_)) if !refused && !written.is_empty() => {
                 keep_last_ticket(settings, before, tables);
             }
+            ("fill-leaves-dirty-count", Call::Fill(_)) if !refused && !written.is_empty() => {
+                let count = Layout::of(settings).dirty_count();
+                tables.set(count, before.get(count));
+            }
             ("write-back-told-otherwise", Call::Access(_)) => tell_other_masks(written),
             ("lengths-not-checked", _) if written[..] == [0x11, 2] => written[1] = 3,
             _ => (),
