@@ -17,6 +17,7 @@ pub mod Fourteen
 pub mod MoreCases
 pub mod WholeRun
 pub mod SoundFacts
+pub mod Counted
 pub mod Ways
 pub mod Keep
 pub mod Taken

@@ -11,6 +11,7 @@ pub mod SoundLent
 pub mod Tree
 pub mod Probe
 pub mod Steps
+pub mod Counted
 pub mod Meetings
 pub mod Calls
 pub mod History
