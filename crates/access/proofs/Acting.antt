@@ -11,11 +11,12 @@ use borrow.Author.Tests.{eqb-true, eq-eqb, ne-eqb, leb-true}
 use Rattle.model.specs.Words.{pick, all, any, count, one}
 use Rattle.model.specs.Range.{linesOf}
 use Rattle.model.specs.Address.{addressOf, isRead, blockOf, sectorIndex, lineNumber}
-use Rattle.model.specs.Tables.{Line, Entry, Queued, reading, writing, Tables, entryFor, noEntry, fresh, withLines, withMisses, withQueue}
+use Rattle.model.specs.Tables.{Line, Entry, reading, writing, Tables, entryFor, noEntry, fresh, withLines, withMisses, withQueue}
 use Rattle.model.specs.Lent.{Lent, lent, sectorsAt, lineAt}
 use Rattle.model.specs.Probe.{Spot}
 use Rattle.model.specs.Steps.{isMerge, isMiss, onSector, update, join, onMisses, queues, placesNeeded}
 use Rattle.model.specs.declared.Settings.{Settings}
+use Rattle.model.specs.declared.Queued.{Queued}
 use Rattle.model.specs.declared.Access.{Access}
 use Rattle.model.specs.declared.Access.the-variants.{Read, Write}
 use Rattle.model.specs.declared.Answer.{Answer}

@@ -8,11 +8,12 @@ use lib.ListN.{length, getD, replicate, length-append}
 use borrow.Author.Tests.{lt-ltb, le-ltb, leb-true}
 use Rattle.model.specs.Words.{pick, any, one}
 use Rattle.model.specs.Address.{addressOf, isRead, blockOf}
-use Rattle.model.specs.Tables.{Line, Queued, reading, writing, Tables, entryFor, fresh, emptied}
+use Rattle.model.specs.Tables.{Line, reading, writing, Tables, entryFor, fresh, emptied}
 use Rattle.model.specs.Lent.{Lent}
 use Rattle.model.specs.Probe.{Spot, at, waysOf}
 use Rattle.model.specs.Steps.{isMerge, isMiss, fetches, queues, placesNeeded}
 use Rattle.model.specs.declared.Settings.{Settings}
+use Rattle.model.specs.declared.Queued.{Queued}
 use Rattle.model.specs.declared.Access.{Access}
 use Rattle.model.specs.declared.Access.the-variants.{Read, Write}
 use Rattle.model.specs.declared.Answer.{Answer}

@@ -9,12 +9,13 @@ use lib.Dec.{ltb}
 use borrow.Author.Tests.{eqb-true}
 use Rattle.model.specs.Words.{all, any}
 use Rattle.model.specs.Range.{inRange}
-use Rattle.model.specs.Tables.{Entry, Queued, reading, writing, Tables, Outcome, refused, after, eventsOf}
+use Rattle.model.specs.Tables.{Entry, reading, writing, Tables, Outcome, refused, after, eventsOf}
 use Rattle.model.specs.Sound.{lastCycle, queuedOk}
 use Rattle.model.specs.Probe.{Rules, Spot}
 use Rattle.model.specs.Steps.{fetches, queues, queuedEvent, sentEvent, accept, accessUnder, send, sendFrom, fill, ticketsOf, sentFor, tick}
 use Rattle.model.specs.History.{Call, offer, sending, filling, ticking, stepUnder}
 use Rattle.model.specs.declared.Settings.{Settings}
+use Rattle.model.specs.declared.Queued.{Queued}
 use Rattle.model.specs.declared.Access.{Access}
 use Rattle.model.specs.declared.Access.the-variants.{Read, Write}
 use Rattle.model.specs.declared.Answer.{Answer}

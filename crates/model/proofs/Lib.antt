@@ -4,6 +4,7 @@ pub mod Flags
 pub mod Lists
 pub mod Below
 pub mod Reflect
+pub mod Arrays
 pub mod Rows
 pub mod Region
 pub mod Places

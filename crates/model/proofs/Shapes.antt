@@ -134,7 +134,7 @@ entry-back : (x : Entry) {a : ℕ} {s : Bool} {ts : List ℕ} → a ≡ x .addre
     → record { address = a; sent = s; tickets = ts } ≡ x
 entry-back x p q r = rw (p, q, r)
 
-queued-back : (x : Queued) {k : QueueKind} {a : ℕ} {ms : List ℕ} → k ≡ x .kind → a ≡ x .address → ms ≡ x .masks
+pub queued-back : (x : Queued) {k : QueueKind} {a : ℕ} {ms : List ℕ} → k ≡ x .kind → a ≡ x .address → ms ≡ x .masks
     → record { kind = k; address = a; masks = ms } ≡ x
 queued-back x p q r = rw (p, q, r)
 

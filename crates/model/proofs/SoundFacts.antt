@@ -203,6 +203,14 @@ queued-when es fs x f h =
     let asked : Bool = kindOk es (x .kind) (x .address) (x .masks) in
     and-i (and-1 shape asked h) (kind-when es fs (x .kind) (x .address) (x .masks) f (and-2 shape asked h))
 
+-- it has four masks
+pub queued-four : (es : List Entry) (x : Queued) → queuedOk es x ≡ true → length (x .masks) ≡ 4
+unfolding queuedOk
+queued-four es x h =
+    let four : Bool = eqb (length (x .masks)) 4 in
+    let small : Bool = all (λ m. leb m allOnes) (x .masks) in
+    eqb-true (length (x .masks)) 4 (and-1 four small (and-1 (four && small) (kindOk es (x .kind) (x .address) (x .masks)) h))
+
 kind-unsent : (es : List Entry) (k : QueueKind) (a : ℕ) (ms : List ℕ) → isFetch k ≡ true → kindOk es k a ms ≡ true → any (unsentFor a) es ≡ true
 kind-unsent es queue.Read a ms f h = and-1 (any (unsentFor a) es) (all (λ m. eqb m 0) ms) h
 kind-unsent es queue.WriteBack a ms f h = absurd (false≢true f)

@@ -7,7 +7,7 @@ use native.Mathlib.Omega.{arith}
 use lib.ListN.{length, getD}
 use Rattle.model.specs.Words.{pick, count}
 use Rattle.model.specs.Range.{inRange, linesOf}
-use Rattle.model.specs.Tables.{Queued, Tables, Outcome, refused, done, dirty}
+use Rattle.model.specs.Tables.{Tables, Outcome, refused, done, dirty}
 use Rattle.model.specs.Lent.{Lent, lent, lengthsFit, linesIn, tablesOf}
 use Rattle.model.specs.SoundLent.{soundLent}
 use Rattle.model.specs.Calls.{checkCall, verdictOf}
@@ -15,6 +15,7 @@ use Rattle.model.specs.Inner.{Is, Held}
 use Rattle.model.specs.Probe.{dirtyLines}
 use Rattle.model.specs.Steps.{sentEvent}
 use Rattle.model.specs.declared.Settings.{Settings}
+use Rattle.model.specs.declared.Queued.{Queued}
 use Rattle.model.specs.declared.Access.{Access}
 use Rattle.model.specs.declared.Event.{Event}
 use Rattle.model.specs.declared.Refusal.{Refusal}

@@ -12,13 +12,14 @@ use lib.ListN.{length, getD}
 use Rattle.model.specs.Words.{all, any, keep, fit, places}
 use Rattle.model.specs.Range.{inRange, linesOf}
 use Rattle.model.specs.Address.{addressOf, isRead, goodSector, goodBlock, wellFormed}
-use Rattle.model.specs.Tables.{Entry, Queued, reading, writing, Tables, Outcome, after, eventsOf, entryFor}
+use Rattle.model.specs.Tables.{Entry, reading, writing, Tables, Outcome, after, eventsOf, entryFor}
 use Rattle.model.specs.Sound.{allOnes, lastCycle, entryOk, queuedOk, sound}
 use Rattle.model.specs.Probe.{Spot, Place, no, at, metIn}
 use Rattle.model.specs.Steps.{isMerge, isMiss, join, onMisses, fetches, queuedEvent, sentEvent, placesNeeded, entryFull, accept, proceed, access, mark, sendFrom, send, ticketsOf, others, sentFor, fill, tick}
 use Rattle.model.specs.Records.{lengthOf, numberAt, commandIn, commandOf}
 use Rattle.model.specs.Runner.{stepOf}
 use Rattle.model.specs.declared.Settings.{Settings}
+use Rattle.model.specs.declared.Queued.{Queued}
 use Rattle.model.specs.declared.Answer.{Answer}
 use Rattle.model.specs.declared.Access.{Access}
 use Rattle.model.specs.declared.Access.the-variants.{Read, Write}

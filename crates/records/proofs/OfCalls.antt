@@ -11,7 +11,7 @@ use lib.Dec.{leb, eqb, lit≤}
 use lib.ListN.{length, getD}
 use Rattle.model.specs.Words.{all, table, fit, places, joined}
 use Rattle.model.specs.Range.{inRange, linesOf}
-use Rattle.model.specs.Tables.{Line, Entry, Queued, reading, writing, Tables, Outcome, after, eventsOf, fresh}
+use Rattle.model.specs.Tables.{Line, Entry, reading, writing, Tables, Outcome, after, eventsOf, fresh}
 use Rattle.model.specs.Lent.{Lent, lengthsFit, tablesOf, encode, ticketAt, entryAt, ticketCountAt, cycleOf, masksOf, ticketsIn, queueMasksOf, wordBlocks}
 use Rattle.model.specs.Sound.{allOnes, lastCycle, maskOk, sectorOk, lineOk, queuedOk, sound}
 use Rattle.model.specs.SoundLent.{soundLent}
@@ -19,6 +19,7 @@ use Rattle.model.specs.Calls.{call}
 use Rattle.model.specs.Records.{logBytes}
 use Rattle.model.specs.Inner.{Is}
 use Rattle.model.specs.declared.Settings.{Settings}
+use Rattle.model.specs.declared.Queued.{Queued}
 use Rattle.model.specs.declared.Status.{Status}
 use Rattle.model.specs.declared.Status.the-variants.{Invalid, Reserved, Valid, Modified}
 use Rattle.model.specs.declared.Sector.{Sector}

@@ -11,7 +11,7 @@ use lib.ListN.{length, getD, length-append}
 use Rattle.model.specs.Words.{pick, all, any}
 use Rattle.model.specs.Range.{inRange, within}
 use Rattle.model.specs.Address.{addressOf, isRead, blockOf, lineNumber, wellFormed}
-use Rattle.model.specs.Tables.{Line, Entry, Queued, reading, Tables, Outcome, refused, done, eventsOf, dirty, holds, entryFor, fresh, withNow}
+use Rattle.model.specs.Tables.{Line, Entry, reading, Tables, Outcome, refused, done, eventsOf, dirty, holds, entryFor, fresh, withNow}
 use Rattle.model.specs.Sound.{lastCycle, entryOk, sound}
 use Rattle.model.specs.Probe.{Spot, Place, no, at, waysOf, dirtyLines, first, victim, writeBack, takeOver, meet, probe, Rule, ruleOf}
 use Rattle.model.specs.Steps.{isMerge, isMiss, fetches, queues, queuedEvent, sentEvent, placesNeeded, accept, entryFull, proceed, access, afterSend, sendFrom, send, ticketsOf, afterFill, sentFor, fill, tick}
@@ -19,6 +19,7 @@ use Rattle.model.specs.Calls.{eventsTold}
 use Rattle.model.specs.Records.{bytesOf, eventBytes, logBytes}
 use Rattle.model.specs.Runner.{stepOf}
 use Rattle.model.specs.declared.Settings.{Settings}
+use Rattle.model.specs.declared.Queued.{Queued}
 use Rattle.model.specs.declared.Answer.{Answer}
 use Rattle.model.specs.declared.Refusal.{Refusal}
 use Rattle.model.specs.declared.Refusal.the-variants.{SettingOutOfRange, BadAccess, QueueFull, EntryFull, MissTableFull, NotSent, BadCycle, QueueEmpty}

@@ -7,7 +7,7 @@ use lib.ListN.{length, getD, set, replicate}
 use lib.Dec.{eqb}
 use Rattle.model.specs.Words.{fit}
 use Rattle.model.specs.Regions.{put}
-use Rattle.model.specs.Tables.{empty}
+use Rattle.model.specs.Tables.{empty, idle}
 use Rattle.model.specs.Steps.{arrived}
 use Rattle.model.specs.declared.Sector.{Sector}
 use Rattle.model.specs.declared.Event.the-variants.{Filled}
@@ -62,11 +62,8 @@ pub record LineFilled (at : Layout) (n block k : ℕ) (longs words marks words�
 abbrev pub releasing : ℕ → List ℕ → Told
 releasing a ts = record {
   first = Filled a;
-  reads = false;
-  address = 0;
-  backs = false;
-  block = 0;
-  masks = replicate 4 0;
+  queued = replicate 2 idle;
+  queues = 0;
   count = length ts;
   tickets = fit 8 ts;
 }

@@ -5,12 +5,10 @@ use mathlib.Core.Bool.{Bool, not, _&&_}
 use mathlib.Core.List.{List, [], _∷_, map}
 use lib.ListN.{getD}
 use lib.Dec.{eqb}
-use Rattle.model.specs.Words.{pick}
-use Rattle.model.specs.Numbers.{statusNumber, statusOf}
+use Rattle.model.specs.Numbers.{statusNumber, statusOf, queueKindOf}
 use Rattle.model.specs.Lent.{tagAt, statusAt, bit}
 use Rattle.model.specs.declared.Sector.{Sector}
-use Rattle.model.specs.declared.Event.{Event}
-use Rattle.model.specs.declared.Event.the-variants.{ReadSent, WriteBackSent}
+use Rattle.model.specs.declared.Queued.{Queued}
 
 -- r is the first of the n places from `at` that has the number x, or n if none has it
 pub record First (l : List ℕ) (at n x r : ℕ) : Type 0 where
@@ -18,11 +16,13 @@ pub record First (l : List ℕ) (at n x r : ℕ) : Type 0 where
   pub before : (k : ℕ) → k < r → getD l (at + k) 0 ≡ x → ⊥
   pub there : r < n → getD l (at + r) 0 ≡ x
 
--- the head of the queue as the event of its sending: a read if its kind is 1, else a write-back
-abbrev pub frontAt : List ℕ → ℕ → List ℕ → ℕ → List ℕ → ℕ → Event
-frontAt longs lq words wq marks mq =
-    pick (eqb (getD marks mq 0) 1) (ReadSent (getD longs lq 0))
-    (WriteBackSent (getD longs lq 0) (getD words wq 0) (getD words (wq + 1) 0) (getD words (wq + 2) 0) (getD words (wq + 3) 0))
+-- the head of the queue
+abbrev pub frontAt : List ℕ → ℕ → List ℕ → ℕ → List ℕ → ℕ → Queued
+frontAt longs lq words wq marks mq = record {
+  kind = queueKindOf (getD marks mq 0);
+  address = getD longs lq 0;
+  masks = getD words wq 0 ∷ getD words (wq + 1) 0 ∷ getD words (wq + 2) 0 ∷ getD words (wq + 3) 0 ∷ [];
+}
 
 -- ---- line l
 

@@ -2,7 +2,7 @@
 use mathlib.Core.Path.{_≡_}
 use native.Mathlib.Omega.{arith}
 use lib.ListN.{length}
-use Rattle.records.proofs.Words.{words-length}
+use Rattle.model.proofs.Arrays.{words-length}
 use Rattle.records.proofs.Told.{told-length, told-laid}
 use borrow.Author.Needs.{needs}
 use Rattle.records.proofs.writer.put_told.Statement.{statement}

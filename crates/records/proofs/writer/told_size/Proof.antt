@@ -2,7 +2,7 @@
 use Prim.Native.Nat.{_≤_}
 use native.Mathlib.Omega.{arith}
 use Rattle.records.proofs.Encoding.{event-short}
-use Rattle.records.proofs.Words.{words-length, words-below}
+use Rattle.model.proofs.Arrays.{words-length, words-below}
 use Rattle.records.proofs.Told.{size-most, told-sized, told-fits}
 use borrow.Author.Needs.{needs}
 use Rattle.records.proofs.writer.told_size.Statement.{statement}
