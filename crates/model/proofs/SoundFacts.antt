@@ -186,7 +186,18 @@ module _ (S : Settings) (t : Tables) (ok : Sound S t) where
   pub unsent-once : (e : Entry) → In e (t .misses) → e .sent ≡ false → count (readingOf (e .address)) (t .queue) ≡ 1
   unsent-once e m h = eqb-true (count (readingOf (e .address)) (t .queue)) 1 (rw h at (entry-at e m .queues))
 
--- ---- a queued entry, over one miss table and another
+-- ---- a queued entry
+
+-- four masks of 32 bits, and what its kind asks
+pub queued-parts : (es : List Entry) (x : Queued) → queuedOk es x ≡ true
+    → (length (x .masks) ≡ 4) × (all (λ m. leb m allOnes) (x .masks) ≡ true) × (kindOk es (x .kind) (x .address) (x .masks) ≡ true)
+unfolding queuedOk
+queued-parts es x h =
+    let four : Bool = eqb (length (x .masks)) 4 in
+    let small : Bool = all (λ m. leb m allOnes) (x .masks) in
+    let asked : Bool = kindOk es (x .kind) (x .address) (x .masks) in
+    let shape : (four && small) ≡ true = and-1 (four && small) asked h in
+    (eqb-true (length (x .masks)) 4 (and-1 four small shape), and-2 four small shape, and-2 (four && small) asked h)
 
 kind-when : (es fs : List Entry) (k : QueueKind) (a : ℕ) (ms : List ℕ) → (isFetch k ≡ true → any (unsentFor a) es ≡ true → any (unsentFor a) fs ≡ true)
     → kindOk es k a ms ≡ true → kindOk fs k a ms ≡ true
@@ -203,21 +214,10 @@ queued-when es fs x f h =
     let asked : Bool = kindOk es (x .kind) (x .address) (x .masks) in
     and-i (and-1 shape asked h) (kind-when es fs (x .kind) (x .address) (x .masks) f (and-2 shape asked h))
 
--- it has four masks
-pub queued-four : (es : List Entry) (x : Queued) → queuedOk es x ≡ true → length (x .masks) ≡ 4
-unfolding queuedOk
-queued-four es x h =
-    let four : Bool = eqb (length (x .masks)) 4 in
-    let small : Bool = all (λ m. leb m allOnes) (x .masks) in
-    eqb-true (length (x .masks)) 4 (and-1 four small (and-1 (four && small) (kindOk es (x .kind) (x .address) (x .masks)) h))
-
 kind-unsent : (es : List Entry) (k : QueueKind) (a : ℕ) (ms : List ℕ) → isFetch k ≡ true → kindOk es k a ms ≡ true → any (unsentFor a) es ≡ true
 kind-unsent es queue.Read a ms f h = and-1 (any (unsentFor a) es) (all (λ m. eqb m 0) ms) h
 kind-unsent es queue.WriteBack a ms f h = absurd (false≢true f)
 
 -- a read has its entry
 pub queued-unsent : (es : List Entry) (x : Queued) → isFetch (x .kind) ≡ true → queuedOk es x ≡ true → any (unsentFor (x .address)) es ≡ true
-unfolding queuedOk
-queued-unsent es x f h =
-    kind-unsent es (x .kind) (x .address) (x .masks) f
-    (and-2 (eqb (length (x .masks)) 4 && all (λ m. leb m allOnes) (x .masks)) (kindOk es (x .kind) (x .address) (x .masks)) h)
+queued-unsent es x f h = kind-unsent es (x .kind) (x .address) (x .masks) f (queued-parts es x h .2)

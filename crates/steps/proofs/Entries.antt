@@ -18,7 +18,7 @@ use Rattle.model.specs.declared.Settings.{Settings}
 use Rattle.model.specs.declared.Queued.{Queued}
 use Rattle.model.proofs.Flags.{and-1, and-2, flag, iff, clash}
 use Rattle.model.proofs.Lists.{any-in, in-any, in-index, in-getD, count-index}
-use Rattle.model.proofs.SoundFacts.{Sound, entry-at, queued-at, queued-four, queued-unsent}
+use Rattle.model.proofs.SoundFacts.{Sound, entry-at, queued-at, queued-parts, queued-unsent}
 use Rattle.tables.proofs.Ones.{map-one, keep-one}
 use Rattle.tables.proofs.Misses.{withSent}
 
@@ -71,7 +71,7 @@ module _ (S : Settings) (t : Tables) (ok : Sound S t) where
     head-ok = queued-at S t ok (getD (t .queue) 0 idle) (in-getD (t .queue) 0 idle some)
 
     pub head-four : length (getD (t .queue) 0 idle .masks) ≡ 4
-    head-four = queued-four (t .misses) (getD (t .queue) 0 idle) head-ok
+    head-four = queued-parts (t .misses) (getD (t .queue) 0 idle) head-ok .0
 
     -- the entry of a read there
     pub head-entry : isFetch (getD (t .queue) 0 idle .kind) ≡ true
