@@ -3,18 +3,18 @@ use mathlib.Core.Path.{_≡_, refl, sym, ap, subst, _∙_}
 use mathlib.Core.Logic.{_⊎_, inl, inr, ⊎-elim, _≢_}
 use mathlib.Core.Bool.{Bool, true, false, not, _&&_, true≢false, false≢true}
 use mathlib.Core.List.{List, [], _∷_, _++_, map, append-nil, append-assoc}
-use Prim.Native.Nat.{ℕ, zero, suc, _+_, _*_, _≤_, _<_}
+use Prim.Native.Nat.{ℕ, zero, suc, _+_, _*_, _≤_, _<_, _-_}
 use native.Mathlib.Omega.{arith}
 use lib.ListN.{length, getD, set, length-set, length-append}
 use lib.Dec.{eqb}
 use borrow.Author.Tests.{eqb-true, eq-eqb, ne-eqb, leb-true}
-use Rattle.model.specs.Words.{any, count}
+use Rattle.model.specs.Words.{any, count, one}
 use Rattle.model.specs.Range.{linesOf}
 use Rattle.model.specs.Address.{addressOf, isRead, blockOf, sectorIndex, lineNumber}
-use Rattle.model.specs.Tables.{Line, Entry, Tables, entryFor, noEntry, fresh, withLines, withMisses, withQueue}
+use Rattle.model.specs.Tables.{Line, Entry, Tables, entryFor, noEntry, fresh, withLines, withMisses, withQueue, withDirtyCount}
 use Rattle.model.specs.Lent.{Lent, lent, sectorsAt, lineAt}
 use Rattle.model.specs.Probe.{Spot}
-use Rattle.model.specs.Steps.{isMerge, isMiss, onSector, update, join, onMisses, fetches, queues, placesNeeded}
+use Rattle.model.specs.Steps.{isMerge, isMiss, onSector, update, join, onMisses, fetches, queues, placesNeeded, recounted}
 use Rattle.model.specs.declared.Settings.{Settings}
 use Rattle.model.specs.declared.Queued.{Queued}
 use Rattle.model.specs.declared.Access.{Access}
@@ -29,22 +29,26 @@ use Rattle.model.proofs.Offered.{probe-spotted}
 use Rattle.model.proofs.Bridge.{is-tables}
 use Rattle.model.proofs.Standing.{encode-stands}
 use Rattle.model.proofs.Tabled.{getD-table}
-use Rattle.tables.specs.declared.Layout.{Layout}
-use Rattle.tables.specs.Layout.{Placed}
-use Rattle.tables.proofs.Stands.{Stands, is-stands}
-use Rattle.tables.proofs.Lines.{line-stands}
+use Rattle.layout.specs.declared.Layout.{Layout}
+use Rattle.layout.specs.Layout.{Placed}
+use Rattle.layout.proofs.Stands.{Stands, is-stands}
+use Rattle.layout.proofs.Lines.{line-stands}
 use Rattle.tables.proofs.Misses.{withTicket, unsent, append-stands, new-entry-stands}
 use Rattle.tables.proofs.Queue.{push-stands}
 use Rattle.tables.proofs.Ones.{map-one}
 use Rattle.probe.specs.declared.Decision.{Decision}
 use Rattle.probe.proofs.Held.{lines-held, way-line}
 use Rattle.access.specs.Plan.{Met, entryIndex, courseOf, goes, ticketOf}
-use Rattle.access.specs.Written.{sectorsFor, sectorsAfter, lineWritten, missesWritten, entryWritten, queueWritten}
+use Rattle.access.specs.Written.{sectorsFor, sectorsAfter, missesWritten, entryWritten, queueWritten, lineLeft}
 use Rattle.access.specs.declared.course.Course.{Course}
 use Rattle.access.specs.declared.course.Course.the-variants.{Refused, Stays, Joins, Starts}
 use Rattle.access.proofs.Plans.{index-found, merged-entry, entry-once}
 use Rattle.access.proofs.Courses.{shows, answer-is}
 use Rattle.access.proofs.Inverted.{Means, course-means}
+use Rattle.probe.specs.Scan.{dirtyAt}
+use Rattle.access.proofs.Recounts.{count-at, was-dirty}
+use Rattle.layout.proofs.DirtyCount.{dirty-count-stands}
+use Rattle.layout.specs.Sectors.{someModified}
 
 -- ---- what becomes of the miss table and the queue, by the flags
 
@@ -61,7 +65,7 @@ misses-start (Read a m k) n es e f = rw (f, e)
 misses-start (Write a m k) n es e f = absurd (false≢true f)
 
 fetched-four : (x : Access) (n : Answer) (y : Queued) → In y (fetches x n) → length (y .masks) ≡ 4
-fetched-four (Read a m k) n y = by-flag (λ (q : List Queued). In y q → length (y .masks) ≡ 4) (isMiss n) _ _ (λ e. ⊎-elim (λ q. rw q) (λ j. absurd j)) (λ e j. absurd j)
+fetched-four (Read a m k) n y j = by-flag (λ (q : List Queued). In y q → length (y .masks) ≡ 4) (isMiss n) _ _ (λ e. ⊎-elim (λ q. rw q) (λ i. absurd i)) (λ e i. absurd i) j
 fetched-four (Write a m k) n y j = absurd j
 
 module _ (S : Settings) {longs words marks : List ℕ} (x : Access) (d : Decision) (t : Tables) (p : Spot) (m : Met S (lent longs words marks) x d t p) {place : Layout} (pl : Placed S place) where
@@ -96,18 +100,32 @@ module _ (S : Settings) {longs words marks : List ℕ} (x : Access) (d : Decisio
   left-is : sectorsAfter x d (sectorsFor (d .meeting) (sectorsAt S words marks (d .line))) ≡ newLine .sectors
   left-is = rw (← found-is, ← answer-is S x d t p m)
 
+  -- the current cycle, of slices in which tables stand
+  now-of : {longs words marks : List ℕ} {u : Tables} → Stands S longs words marks u → getD words 0 0 ≡ u .now
+  now-of h = ap (λ (l : List ℕ). getD l 0 0) (h .as-words)
+
   pub now-is : getD words 0 0 ≡ t .now
   now-is = ap (λ (L : Lent). getD (L .words) 0 0) (m .is .encoded) ∙ encode-stands S t .time
 
-  pub line-written : {L₁ : Lent} → L₁ ≡ lineWritten place (lent longs words marks) (d .line) (blockOf (addressOf x)) (sectorsAfter x d (sectorsFor (d .meeting) (sectorsAt S words marks (d .line))))
-      → Stands S (L₁ .longs) (L₁ .words) (L₁ .marks) (withLines (set (t .lines) (d .line) newLine) t)
+  -- the dirty count that it leaves
+  abbrev pub newCount : ℕ
+  newCount = recounted (getD (t .lines) (d .line) fresh) newLine (t .dirtyCount)
+
+  count-is : getD words (place .dirty) 0 + one (someModified (newLine .sectors)) - one (dirtyAt marks (d .line)) ≡ newCount
+  count-is = rw (count-at S t (m .is) pl, was-dirty S t (m .is) pl (d .line) (m .below))
+
+  pub line-written : {L₁ : Lent} → L₁ ≡ lineLeft place (lent longs words marks) (d .line) (blockOf (addressOf x)) (sectorsAfter x d (sectorsFor (d .meeting) (sectorsAt S words marks (d .line))))
+      → Stands S (L₁ .longs) (L₁ .words) (L₁ .marks) (withDirtyCount newCount (withLines (set (t .lines) (d .line) newLine) t))
   line-written e =
       let b = m .below in
       let s = sized in
       let four : length (newLine .sectors) ≡ 4 = simp length-set (spot .four) in
-      let e₁ = rw (left-is, ← spot .tagged, now-is) at e in
-      line-stands S t (is-stands (m .is)) pl sized (d .line) (omega arith) newLine four
-      (ap (λ (L : Lent). L .longs) e₁, ap (λ (L : Lent). L .words) e₁, ap (λ (L : Lent). L .marks) e₁)
+      let e₁ = rw (left-is, ← spot .tagged, count-is) at e in
+      let counted = dirty-count-stands S t (is-stands (m .is)) pl newCount refl in
+      let time = sym (now-of counted) in
+      let e₂ = rw (sym time) at e₁ in
+      line-stands S (withDirtyCount newCount t) counted pl sized (d .line) (omega arith) newLine four
+      (ap (λ (L : Lent). L .longs) e₂, ap (λ (L : Lent). L .words) e₂, ap (λ (L : Lent). L .marks) e₂)
 
   -- ---- the miss table
 
@@ -126,24 +144,24 @@ module _ (S : Settings) {longs words marks : List ℕ} (x : Access) (d : Decisio
             ∙ rw here,
       )
 
-  pub misses-written : (ls : List Line) (L₁ L₂ : Lent) → Stands S (L₁ .longs) (L₁ .words) (L₁ .marks) (withLines ls t)
+  pub misses-written : (ls : List Line) (k : ℕ) (L₁ L₂ : Lent) → Stands S (L₁ .longs) (L₁ .words) (L₁ .marks) (withDirtyCount k (withLines ls t))
       → (c : Course) → c ≡ courseOf S x p t → goes c ≡ true → L₂ ≡ missesWritten place (S .readers) c (addressOf x) (ticketOf x) L₁
-      → Stands S (L₂ .longs) (L₂ .words) (L₂ .marks) (withMisses (onMisses x (p .answer) (t .misses)) (withLines ls t))
-  misses-written ls L₁ L₂ h (Refused n) e g q = absurd (false≢true g)
-  misses-written ls L₁ L₂ h Stays e g q =
+      → Stands S (L₂ .longs) (L₂ .words) (L₂ .marks) (withMisses (onMisses x (p .answer) (t .misses)) (withDirtyCount k (withLines ls t)))
+  misses-written ls k L₁ L₂ h (Refused n) e g q = absurd (false≢true g)
+  misses-written ls k L₁ L₂ h Stays e g q =
       let w = subst (Means S x p t) (sym e) (course-means S x p t) in
       rw (q, misses-stay x (p .answer) (t .misses) (w .merges) (w .misses refl)) h
-  misses-written ls L₁ L₂ h (Joins i n) e g q =
+  misses-written ls k L₁ L₂ h (Joins i n) e g q =
       let w = subst (Means S x p t) (sym e) (course-means S x p t) in
       let j = join-one (w .0 .merges) i (w .1) (ticketOf x) in
       let few : length (t .misses) ≤ S .entries = leb-true (length (t .misses)) (S .entries) (ok .few) in
       rw (q, misses-join x (p .answer) (t .misses) (w .0 .merges), j .1)
-      (append-stands S (withLines ls t) h pl few i (j .0) (ticketOf x) n (w .2) (w .3) (refl, refl))
-  misses-written ls L₁ L₂ h (Starts i) e g q =
+      (append-stands S (withDirtyCount k (withLines ls t)) h pl few i (j .0) (ticketOf x) n (w .2) (w .3) (refl, refl))
+  misses-written ls k L₁ L₂ h (Starts i) e g q =
       let w = subst (Means S x p t) (sym e) (course-means S x p t) in
       let few : length (t .misses) ≤ S .entries = leb-true (length (t .misses)) (S .entries) (ok .few) in
       rw (q, misses-start x (p .answer) (t .misses) (w .0 .merges) (w .0 .misses refl))
-      (new-entry-stands S (withLines ls t) h pl few (addressOf x) (ticketOf x) i (w .1) (w .2) (readers-some S (m .is .range)) (refl, refl, refl))
+      (new-entry-stands S (withDirtyCount k (withLines ls t)) h pl few (addressOf x) (ticketOf x) i (w .1) (w .2) (readers-some S (m .is .range)) (refl, refl, refl))
 
   -- ---- the queue
 

@@ -6,12 +6,12 @@ use Prim.Native.Nat.{ℕ, _+_}
 use native.Mathlib.Omega.{arith}
 use lib.ListN.{getD, set, replicate, getD-replicate}
 use lib.Seq.{set-getD}
-use Rattle.model.specs.Words.{fit}
+use Rattle.model.specs.Words.{fit, any, one}
 use Rattle.model.specs.Range.{linesOf}
 use Rattle.model.specs.Regions.{put}
 use Rattle.model.specs.Address.{addressOf, isRead, blockOf, sectorIndex, lineNumber}
-use Rattle.model.specs.Tables.{Line, Tables, empty, fresh, emptied, withLines}
-use Rattle.model.specs.Lent.{lent, sectorsAt, bit, wordBlocks, tagOf, cycleOf, masksOf, statusesOf, readablesOf}
+use Rattle.model.specs.Tables.{Line, Tables, empty, fresh, emptied, withLines, withDirtyCount, dirty, isModified}
+use Rattle.model.specs.Lent.{lent, sectorsAt, bit, wordBlocks, tagOf, cycleOf, masksOf, statusesOf, readablesOf, encode}
 use Rattle.model.specs.Numbers.{statusNumber}
 use Rattle.model.specs.Probe.{Spot, at, waysOf}
 use Rattle.model.specs.Steps.{isMiss, onSector}
@@ -22,19 +22,19 @@ use Rattle.model.specs.declared.Answer.{Answer}
 use Rattle.model.specs.declared.Sector.{Sector}
 use Rattle.model.proofs.Flags.{not-yes, clash}
 use Rattle.model.proofs.Places.{field-put}
-use Rattle.tables.specs.declared.Layout.{Layout}
-use Rattle.tables.specs.Layout.{Placed}
-use Rattle.tables.proofs.Grown.{places-same}
-use Rattle.tables.proofs.Stands.{Stands, is-stands, stands-encode}
+use Rattle.layout.specs.declared.Layout.{Layout}
+use Rattle.layout.specs.Layout.{Placed}
+use Rattle.layout.proofs.Grown.{places-same}
+use Rattle.layout.proofs.Stands.{Stands, is-stands, stands-encode}
 use Rattle.probe.specs.declared.Meeting.{Meeting}
 use Rattle.probe.specs.declared.Meeting.the-variants.{Met as MetWay, Taken, Busy, Held}
 use Rattle.probe.specs.declared.Decision.{Decision}
 use Rattle.probe.specs.Decided.{placeFor}
 use Rattle.probe.proofs.Held.{way-line}
 use Rattle.access.specs.Plan.{Met}
-use Rattle.access.specs.Written.{sectorsFor, sectorsAfter, lineWritten}
+use Rattle.access.specs.Written.{sectorsFor, sectorsAfter, lineLeft}
 use Rattle.access.proofs.Courses.{shows, answer-is}
-use Rattle.access.proofs.Acting.{spot, sized, now-is, newLine, line-written}
+use Rattle.access.proofs.Acting.{spot, sized, now-is, newLine, line-written, newCount}
 
 sector-kept : (x : Access) (n : Answer) (s : Sector) → (isRead x && not (isMiss n)) ≡ true → onSector x n s ≡ s
 sector-kept (Read a m k) n s e = rw (not-yes {b = isMiss n} e)
@@ -95,6 +95,16 @@ module _ (S : Settings) {longs words marks : List ℕ} (x : Access) (d : Decisio
             (h .as-marks);
       }
 
+  -- it was dirty as it is
+  same-count : newCount S x d t p m pl ≡ t .dirtyCount
+  same-count =
+      let e : dirty new ≡ dirty line = ap (any (λ (s : Sector). isModified (s .status))) same-sectors in
+      let o : one (dirty new) ≡ one (dirty line) = ap one e in
+      omega arith
+
   pub touched : lent longs (put words (1 + d .line) (getD words 0 0 ∷ [])) marks
-      ≡ lineWritten place (lent longs words marks) (d .line) (blockOf (addressOf x)) (sectorsAfter x d (sectorsFor (d .meeting) (sectorsAt S words marks (d .line))))
-  touched = stands-encode touched-stands ∙ sym (stands-encode (line-written S x d t p m pl refl))
+      ≡ lineLeft place (lent longs words marks) (d .line) (blockOf (addressOf x)) (sectorsAfter x d (sectorsFor (d .meeting) (sectorsAt S words marks (d .line))))
+  touched =
+      stands-encode touched-stands
+      ∙ ap (λ (k : ℕ). encode S (withDirtyCount k (withLines (set (t .lines) (d .line) new) t))) (sym same-count)
+      ∙ sym (stands-encode (line-written S x d t p m pl refl))

@@ -2,6 +2,7 @@
 pub mod Sectors
 pub mod Plans
 pub mod Courses
+pub mod Recounts
 pub mod Writing
 pub mod Inverted
 pub mod Acting

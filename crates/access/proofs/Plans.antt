@@ -28,10 +28,10 @@ use Rattle.model.proofs.Taken.{Spotted, formed-good}
 use Rattle.model.proofs.Offered.{probe-spotted}
 use Rattle.model.specs.Lent.{lent}
 use Rattle.model.specs.Inner.{Is}
-use Rattle.tables.specs.declared.Layout.{Layout}
-use Rattle.tables.specs.Layout.{Placed}
-use Rattle.tables.specs.Raw.{First}
-use Rattle.tables.proofs.Stands.{is-stands}
+use Rattle.layout.specs.declared.Layout.{Layout}
+use Rattle.layout.specs.Layout.{Placed}
+use Rattle.layout.specs.Places.{First}
+use Rattle.layout.proofs.Stands.{is-stands}
 use Rattle.tables.proofs.Queue.{queue-used}
 use Rattle.tables.proofs.Misses.{misses-used, count-at, entry-found, entry-missing}
 use Rattle.access.specs.Plan.{entryIndex, ticketsAt, joining, starting, courseOf, following}

@@ -8,9 +8,8 @@ use native.Mathlib.Omega.{arith}
 use lib.ListN.{length, set, take}
 use borrow.Author.Tests.{leb-true}
 use Rattle.model.specs.Words.{fit, one}
-use Rattle.model.specs.Range.{linesOf}
 use Rattle.model.specs.Address.{addressOf, isRead, blockOf}
-use Rattle.model.specs.Tables.{Tables, withLines, withMisses}
+use Rattle.model.specs.Tables.{Tables, withLines, withMisses, withDirtyCount}
 use Rattle.model.specs.Lent.{Lent, lent, sectorsAt}
 use Rattle.model.specs.Inner.{Fit}
 use Rattle.model.specs.Probe.{Spot}
@@ -24,17 +23,17 @@ use Rattle.model.specs.declared.Event.the-variants.{Answered}
 use Rattle.model.specs.declared.Told.{Told}
 use Rattle.model.proofs.Bridge.{is-fit}
 use Rattle.model.proofs.SoundFacts.{parts}
-use Rattle.tables.specs.declared.Layout.{Layout}
-use Rattle.tables.specs.Layout.{Placed}
-use Rattle.tables.proofs.Stands.{stands-encode}
+use Rattle.layout.specs.declared.Layout.{Layout}
+use Rattle.layout.specs.Layout.{Placed}
+use Rattle.layout.proofs.Stands.{stands-encode}
 use Rattle.probe.specs.declared.Decision.{Decision}
 use Rattle.access.specs.Plan.{Met, Acts, goes, ticketOf}
-use Rattle.access.specs.Written.{sectorsFor, sectorsAfter, lineWritten, missesWritten, queueWritten, queuesOf, tellingOf, MissRoom, QueueRoom}
+use Rattle.access.specs.Written.{sectorsFor, sectorsAfter, missesWritten, queueWritten, queuesOf, tellingOf, MissRoom, QueueRoom, lineLeft}
 use Rattle.access.specs.declared.course.Course.{Course}
 use Rattle.access.specs.declared.course.Course.the-variants.{Refused, Stays, Joins, Starts}
 use Rattle.access.proofs.Courses.{queues-count, queues-are, answer-is}
 use Rattle.access.proofs.Inverted.{Means, course-means}
-use Rattle.access.proofs.Acting.{newLine, line-written, misses-written, queue-written, join-inside}
+use Rattle.access.proofs.Acting.{newLine, line-written, misses-written, queue-written, join-inside, newCount}
 
 -- ---- its value
 
@@ -114,12 +113,12 @@ module _ (S : Settings) {longs words marks : List ℕ} (x : Access) (d : Decisio
       let told : r .queues ≡ length (queuesOf x d) = ap (λ (z : Told). z .queues) tells in
       let needs : placesNeeded x p ≡ length (queuesOf x d) = ap length (queues-are S x d t p m) in
       let b : n + r .queues ≤ S .places = omega (arith, roomy, a .counted) in
-      (omega arith, omega arith, omega arith, omega arith)
+      (omega arith, (omega arith, omega arith, omega arith))
 
   -- ---- what it leaves
 
   pub acted : (L₁ L₂ L₃ : Lent) {r : Told}
-      → L₁ ≡ lineWritten place (lent longs words marks) (d .line) (blockOf (addressOf x)) (sectorsAfter x d (sectorsFor (d .meeting) (sectorsAt S words marks (d .line))))
+      → L₁ ≡ lineLeft place (lent longs words marks) (d .line) (blockOf (addressOf x)) (sectorsAfter x d (sectorsFor (d .meeting) (sectorsAt S words marks (d .line))))
       → L₂ ≡ missesWritten place (S .readers) c (addressOf x) (ticketOf x) L₁
       → r ≡ tellingOf x d
       → L₃ ≡ queueWritten place n (take (r .queues) (r .queued)) L₂
@@ -127,9 +126,9 @@ module _ (S : Settings) {longs words marks : List ℕ} (x : Access) (d : Decisio
   unfolding accept
   acted L₁ L₂ L₃ line misses tells queue =
       let s₁ = line-written S x d t p m pl line in
-      let s₂ = misses-written S x d t p m pl (set (t .lines) (d .line) (newLine S x d t p m pl)) L₁ L₂ s₁ c (a .planned) (a .going) misses in
+      let s₂ = misses-written S x d t p m pl (set (t .lines) (d .line) (newLine S x d t p m pl)) (newCount S x d t p m pl) L₁ L₂ s₁ c (a .planned) (a .going) misses in
       let q : L₃ ≡ queueWritten place n (queues x p) L₂ = rw (tells, two-back (queuesOf x d) (queues-few x d), ← queues-are S x d t p m) at queue in
-      let s₃ = queue-written S x d t p m pl (withMisses (onMisses x (p .answer) (t .misses)) (withLines (set (t .lines) (d .line) (newLine S x d t p m pl)) t)) refl L₂ s₂ (a .counted) roomy q in
+      let s₃ = queue-written S x d t p m pl (withMisses (onMisses x (p .answer) (t .misses)) (withDirtyCount (newCount S x d t p m pl) (withLines (set (t .lines) (d .line) (newLine S x d t p m pl)) t))) refl L₂ s₂ (a .counted) roomy q in
       record {
         tells = rw (tells, queues-are S x d t p m, answer-is S x d t p m, ← m .numbered) (told-events x d);
         tidy = rw tells (told-tidy x d);

@@ -6,20 +6,20 @@ ghost use Rattle.model.specs.Address.{isRead};
 ghost use Rattle.model.specs.Words.{one};
 ghost use Rattle.model.specs.Lent.{lent};
 ghost use Rattle.model.specs.Inner.{Held};
-ghost use Rattle.tables.specs.Layout.{Placed};
+ghost use Rattle.layout.specs.Layout.{Placed};
 ghost use Rattle.access.specs.Plan.{Meets, Counted, Entered, Joining, Starting, Planned, goes, refusalIn};
 ghost use Rattle.model.specs.Steps.{isMiss};
 use crate::asked::fetches;
 use crate::asked::is_merge;
 use crate::asked::is_miss;
 use crate::asked::is_read;
+use layout::Layout;
 use model::Access;
 use model::Answer;
 use model::Refusal;
 use model::SectorAddress;
 use model::Settings;
 use probe::Decision;
-use tables::Layout;
 
 // What becomes of the miss table: a refusal, nothing, a ticket that joins an entry with so many, or a new entry behind so many.
 pub enum Course {
@@ -54,7 +54,7 @@ fn join_course(
     requires { ⌜ Placed s at × Entered s (lent (now longs) (now words) (now marks)) (address .0) ⌝ }
     ensures { λ r. ⌜ Joining s (lent (now (longs .entry)) (now (words .entry)) (now (marks .entry))) (address .0) r ⌝ }
 {
-    let m = tables::used(marks, at.counts, s.entries);
+    let m = layout::used(marks, at.counts, s.entries);
     let e = tables::find_entry(longs, at.misses, m, address);
     let n = marks[at.counts + e] as usize;
     if s.readers <= n {
@@ -68,7 +68,7 @@ fn start_course(s: Settings, at: Layout, longs: &[u64], words: &[u32], marks: &[
     requires { ⌜ Placed s at × Held s (lent (now longs) (now words) (now marks)) ⌝ }
     ensures { λ r. ⌜ Starting s (lent (now (longs .entry)) (now (words .entry)) (now (marks .entry))) r ⌝ }
 {
-    let m = tables::used(marks, at.counts, s.entries);
+    let m = layout::used(marks, at.counts, s.entries);
     if s.entries <= m {
         return Course::Refused(Refusal::MissTableFull);
     }

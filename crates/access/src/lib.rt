@@ -12,11 +12,13 @@ ghost use Rattle.model.specs.Address.{maskOf, wellFormed, goodSector};
 ghost use Rattle.model.specs.Lent.{lent};
 ghost use Rattle.model.specs.Inner.{Held, Does};
 ghost use Rattle.model.specs.Sound.{allOnes};
+ghost use Rattle.layout.specs.Layout.{Placed};
 ghost use Rattle.access.specs.Plan.{Meets, Offered, isSpot, refusalMet};
 ghost use Rattle.model.specs.Steps.{access};
 use course::course_of;
 use course::going;
 use course::refusal_in;
+use layout::Layout;
 use model::Access;
 use model::Refusal;
 use model::Settings;
@@ -75,18 +77,18 @@ fn refusal_met(m: Meeting) -> Refusal
 // An access whose place is decided: refused by the queue or the miss table, or acted.
 fn offer(
     s: Settings,
+    at: Layout,
     longs: &mut [u64],
     words: &mut [u32],
     marks: &mut [u8],
     x: Access,
     d: Decision,
 ) -> Told
-    requires { ⌜ Meets s (lent (now longs) (now words) (now marks)) x d ⌝ }
+    requires { ⌜ Placed s at × Meets s (lent (now longs) (now words) (now marks)) x d ⌝ }
     ensures { λ r. ⌜ Offered s (lent (now (longs .entry)) (now (words .entry)) (now (marks .entry))) x d r
         (lent (now (longs .exit)) (now (words .exit)) (now (marks .exit))) ⌝ }
 {
-    let at = tables::laid_out(s);
-    let queued = tables::used(marks, at.kinds, s.places);
+    let queued = layout::used(marks, at.kinds, s.places);
     let course = course_of(s, at, longs, words, marks, x, d, queued);
     if going(course) {
         return act(s, at, longs, words, marks, x, d, queued, course);
@@ -109,10 +111,11 @@ pub fn access_step(
     if !well_formed(x) {
         return tables::refused(Refusal::BadAccess);
     }
-    let d = probe::decide(s, longs, words, marks, x);
+    let at = layout::laid_out(s);
+    let d = probe::decide(s, at, longs, words, marks, x);
     let m = d.meeting;
     if spotted(m) {
-        return offer(s, longs, words, marks, x, d);
+        return offer(s, at, longs, words, marks, x, d);
     }
     tables::refused(refusal_met(m))
 }

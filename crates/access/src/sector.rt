@@ -5,6 +5,7 @@ ghost use lib.ListN.{length};
 ghost use Rattle.model.specs.Words.{pick};
 ghost use Rattle.model.specs.Tables.{isInvalid, empty};
 ghost use Rattle.model.specs.Lent.{sectorsAt};
+ghost use Rattle.model.specs.Range.{linesOf};
 ghost use Rattle.access.specs.Written.{sectorsFor, sectorsAfter};
 ghost use Rattle.model.specs.declared.Status.the-variants.{Reserved};
 ghost use Rattle.model.specs.declared.Access.the-variants.{Write};
@@ -15,6 +16,7 @@ use crate::asked::is_miss;
 use model::Access;
 use model::Answer;
 use model::Sector;
+use model::Settings;
 use model::Status;
 use probe::Decision;
 use probe::Meeting;
@@ -95,13 +97,13 @@ fn empty_sector() -> Sector
 }
 
 // The sectors that the access finds in its line: those that stand there, or four empty ones of a line taken over.
-pub(crate) fn sectors_found(words: &[u32], marks: &[u8], n: usize, d: Decision) -> [Sector; 4]
-    requires { ⌜ (d .line < n) × (n ≤ 1024) × (1 + 5 * n ≤ length (now words)) × (8 * n ≤ length (now marks)) ⌝ }
-    ensures { λ r. ⌜ r ≡ sectorsFor (d .meeting) (sectorsAt n (now (words .entry)) (now (marks .entry)) (d .line)) ⌝ }
+pub(crate) fn sectors_found(s: Settings, words: &[u32], marks: &[u8], d: Decision) -> [Sector; 4]
+    requires { ⌜ (d .line < linesOf s) × (linesOf s ≤ 1024) × (1 + 5 * linesOf s ≤ length (now words)) × (8 * linesOf s ≤ length (now marks)) ⌝ }
+    ensures { λ r. ⌜ r ≡ sectorsFor (d .meeting) (sectorsAt s (now (words .entry)) (now (marks .entry)) (d .line)) ⌝ }
 {
     let m = d.meeting;
     match m {
-        Meeting::Met => probe::sectors_at(words, marks, n, d.line),
+        Meeting::Met => probe::sectors_at(s, words, marks, d.line),
         Meeting::Taken => [empty_sector(); 4],
         Meeting::Busy => [empty_sector(); 4],
         Meeting::Held => [empty_sector(); 4],

@@ -1,4 +1,4 @@
-// The writes of an access that is not refused, in order: its line, the miss table, the queue. Then what it tells.
+// The writes of an access that is not refused, in order: the dirty count and its line, the miss table, the queue. Then what it tells.
 ghost use mathlib.Core.Path.{_≡_};
 ghost use Prim.Native.Nat.{ℕ, _+_, _*_, _≤_, _<_};
 ghost use mathlib.Core.List.{List, [], _∷_};
@@ -9,11 +9,12 @@ ghost use Rattle.model.specs.Words.{pick, one};
 ghost use Rattle.model.specs.Lent.{lent, sectorsAt};
 ghost use Rattle.model.specs.Inner.{Fit};
 ghost use Rattle.model.specs.Range.{linesOf};
-ghost use Rattle.tables.specs.Layout.{Placed};
+ghost use Rattle.layout.specs.Layout.{Placed};
+ghost use Rattle.probe.specs.Scan.{dirtyAt};
 ghost use Rattle.access.specs.Plan.{Meets, MayAct, Acted};
 ghost use Rattle.model.specs.Tables.{reading, writing};
 ghost use Rattle.model.specs.Calls.{inTwo};
-ghost use Rattle.access.specs.Written.{sectorsFor, sectorsAfter, lineWritten, missesWritten, queueWritten, queuesOf, tellingOf, MissRoom, QueueRoom};
+ghost use Rattle.access.specs.Written.{sectorsFor, sectorsAfter, lineWritten, missesWritten, queueWritten, queuesOf, tellingOf, MissRoom, QueueRoom, lineLeft};
 ghost use mathlib.Core.Bool.{not, _&&_};
 ghost use Rattle.model.specs.Steps.{isMiss};
 use crate::asked::fetches;
@@ -24,6 +25,7 @@ use crate::course::Course;
 use crate::course::places_needed;
 use crate::sector::sectors_found;
 use crate::sector::sectors_left;
+use layout::Layout;
 use model::Access;
 use model::Answer;
 use model::BlockAddress;
@@ -35,7 +37,6 @@ use model::SectorAddress;
 use model::Settings;
 use model::Told;
 use probe::Decision;
-use tables::Layout;
 
 // The line's cycle becomes the current one.
 fn touch(words: &mut [u32], line: usize)
@@ -69,10 +70,10 @@ fn write_line(
 {
     write_tag(longs, line, block);
     touch(words, line);
-    tables::store(at, words, marks, line, four);
+    layout::store(at, words, marks, line, four);
 }
 
-// The access's line: what it finds there, changed and stored back.
+// The access's line: what it finds there, changed and stored back, and counted.
 fn change_line(
     s: Settings,
     at: Layout,
@@ -82,14 +83,16 @@ fn change_line(
     x: Access,
     d: Decision,
 )
-    requires { ⌜ Placed s at × Fit s (now longs) (now words) (now marks) × (d .line < linesOf s) ⌝ }
+    requires { ⌜ Placed s at × Fit s (now longs) (now words) (now marks) × (d .line < linesOf s) × (getD (now words) (at .dirty) 0 ≤ 1024)
+        × (one (dirtyAt (now marks) (d .line)) ≤ getD (now words) (at .dirty) 0) ⌝ }
     ensures { λ _. ⌜ lent (now (longs .exit)) (now (words .exit)) (now (marks .exit))
-        ≡ lineWritten at (lent (now (longs .entry)) (now (words .entry)) (now (marks .entry))) (d .line) (blockOf (addressOf x))
+        ≡ lineLeft at (lent (now (longs .entry)) (now (words .entry)) (now (marks .entry))) (d .line) (blockOf (addressOf x))
         (sectorsAfter x d (sectorsFor (d .meeting) (sectorsAt s (now (words .entry)) (now (marks .entry)) (d .line)))) ⌝ }
 {
-    let n = s.sets * s.ways;
-    let found = sectors_found(words, marks, n, d);
+    let was = probe::is_dirty(marks, d.line);
+    let found = sectors_found(s, words, marks, d);
     let four = sectors_left(x, d, found);
+    layout::recount(words, at.dirty, was, layout::some_modified(four));
     let block = model::block_of(model::address_of(x));
     write_line(at, longs, words, marks, d.line, block, four);
 }
@@ -113,7 +116,7 @@ fn act_line(
 )
     requires { ⌜ Placed s at × Meets s (lent (now longs) (now words) (now marks)) x d ⌝ }
     ensures { λ _. ⌜ lent (now (longs .exit)) (now (words .exit)) (now (marks .exit))
-        ≡ lineWritten at (lent (now (longs .entry)) (now (words .entry)) (now (marks .entry))) (d .line) (blockOf (addressOf x))
+        ≡ lineLeft at (lent (now (longs .entry)) (now (words .entry)) (now (marks .entry))) (d .line) (blockOf (addressOf x))
         (sectorsAfter x d (sectorsFor (d .meeting) (sectorsAt s (now (words .entry)) (now (marks .entry)) (d .line)))) ⌝ }
 {
     let a = d.answer;

@@ -1,4 +1,3 @@
--- Laws of the calls: what a check that refuses or passes makes of a call, and what making fresh tables writes.
+-- Laws of the calls: what a check that refuses or passes makes of a call, and what making fresh tables comes to.
 pub mod Checked
-pub mod Filled
 pub mod Freshly

@@ -58,12 +58,12 @@ pub(crate) fn asking(b: Bench, asked: bool) -> Bench {
 
 // With other settings, and the lengths that they ask for if they are in range.
 fn with_settings(b: Bench, s: Settings) -> Bench {
-    if soundness::in_range(s) {
+    if layout::in_range(s) {
         return Bench {
             settings: s,
-            longs: soundness::longs_length(s),
-            words: soundness::words_length(s),
-            marks: soundness::marks_length(s),
+            longs: layout::longs_length(s),
+            words: layout::words_length(s),
+            marks: layout::marks_length(s),
             asked: b.asked,
         };
     }

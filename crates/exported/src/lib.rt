@@ -85,8 +85,8 @@ pub extern "C" fn labintugmo_longs_length(
     ensures { λ r. ⌜ r ≡ lengthFor (settingsOf sets ways percent entries readers places) (longsLength (settingsOf sets ways percent entries readers places)) ⌝ }
 {
     let s = settings(sets, ways, percent, entries, readers, places);
-    if soundness::in_range(s) {
-        return soundness::longs_length(s);
+    if layout::in_range(s) {
+        return layout::longs_length(s);
     }
     0
 }
@@ -103,8 +103,8 @@ pub extern "C" fn labintugmo_words_length(
     ensures { λ r. ⌜ r ≡ lengthFor (settingsOf sets ways percent entries readers places) (wordsLength (settingsOf sets ways percent entries readers places)) ⌝ }
 {
     let s = settings(sets, ways, percent, entries, readers, places);
-    if soundness::in_range(s) {
-        return soundness::words_length(s);
+    if layout::in_range(s) {
+        return layout::words_length(s);
     }
     0
 }
@@ -121,8 +121,8 @@ pub extern "C" fn labintugmo_marks_length(
     ensures { λ r. ⌜ r ≡ lengthFor (settingsOf sets ways percent entries readers places) (marksLength (settingsOf sets ways percent entries readers places)) ⌝ }
 {
     let s = settings(sets, ways, percent, entries, readers, places);
-    if soundness::in_range(s) {
-        return soundness::marks_length(s);
+    if layout::in_range(s) {
+        return layout::marks_length(s);
     }
     0
 }

@@ -13,7 +13,7 @@ use Rattle.model.specs.Range.{inRange}
 use Rattle.model.specs.Address.{addressOf, maskOf, isRead, blockOf, sectorIndex, wellFormed}
 use Rattle.model.specs.Tables.{Line, Tables, Outcome, refused, waiting, holds, empty, fresh, emptied}
 use Rattle.model.specs.Sound.{allOnes}
-use Rattle.model.specs.Probe.{answerOf, waysOf, dirtyLines, enoughDirty, candidate, first, Rule, Rules, victim, Spot, Place, no, at, writeBack, takeOver, meet, probe, metUnder}
+use Rattle.model.specs.Probe.{answerOf, waysOf, enoughDirty, candidate, first, Rule, Rules, victim, Spot, Place, no, at, writeBack, takeOver, meet, probe, metUnder}
 use Rattle.model.specs.Steps.{isMerge, isMiss, placesNeeded, entryFull, accept, proceed, accessUnder}
 use Rattle.model.specs.declared.Settings.{Settings}
 use Rattle.model.specs.declared.Access.{Access}
@@ -116,9 +116,9 @@ module _ (S : Settings) (t : Tables) (x : Access) where
       let q : Stands S t x (met x ways w) = found (s .line) refl in
       subst (Stands S t x) (cc) q
 
-  rule-stands : (R : Rule) (p : Spot) → probe R S (dirtyLines t) ways x ≡ at p → Stands S t x p
+  rule-stands : (R : Rule) (p : Spot) → probe R S (t .dirtyCount) ways x ≡ at p → Stands S t x p
   unfolding probe
-  rule-stands R p e = meet-stands R (dirtyLines t) (first (holds (blockOf (addressOf x))) ways) (first-finds (holds (blockOf (addressOf x))) ways) p e
+  rule-stands R p e = meet-stands R (t .dirtyCount) (first (holds (blockOf (addressOf x))) ways) (first-finds (holds (blockOf (addressOf x))) ways) p e
 
 module _ (R : Rules) (S : Settings) (t : Tables) (x : Access) where
   -- of any tables
@@ -126,9 +126,9 @@ module _ (R : Rules) (S : Settings) (t : Tables) (x : Access) where
       → P (accessUnder R S x t)
   unfolding proceed
   access-judged P no-call made =
-      by-flag P (wellFormed x) _ (refused BadAccess) (λ f. go f (probe (R t (addressOf x)) S (dirtyLines t) (ways S t x) x) refl) (λ f. no-call BadAccess)
+      by-flag P (wellFormed x) _ (refused BadAccess) (λ f. go f (probe (R t (addressOf x)) S (t .dirtyCount) (ways S t x) x) refl) (λ f. no-call BadAccess)
     where
-      go : wellFormed x ≡ true → (q : Place) → probe (R t (addressOf x)) S (dirtyLines t) (ways S t x) x ≡ q → P (proceed S x t q)
+      go : wellFormed x ≡ true → (q : Place) → probe (R t (addressOf x)) S (t .dirtyCount) (ways S t x) x ≡ q → P (proceed S x t q)
       go f (no n) e = no-call n
       go f (at p) e =
           by-flag P (ltb (S .places) (length (t .queue) + placesNeeded x p)) (refused QueueFull) _ (λ z. no-call QueueFull)

@@ -15,7 +15,7 @@ use Rattle.model.specs.Range.{inRange}
 use Rattle.model.specs.Address.{addressOf, isRead, blockOf, wellFormed}
 use Rattle.model.specs.Tables.{Line, Entry, Tables, Outcome, refused, done, accepted, isInvalid, isReserved, unused, waiting, holds, empty, fresh}
 use Rattle.model.specs.Sound.{readingOf, sound}
-use Rattle.model.specs.Probe.{Rule, Place, no, at, waysOf, dirtyLines, first, victim, takeOver, meet, probe, ruleOf, metIn}
+use Rattle.model.specs.Probe.{Rule, Place, no, at, waysOf, first, victim, takeOver, meet, probe, ruleOf, metIn}
 use Rattle.model.specs.Steps.{isMerge, isMiss, placesNeeded, entryFull, accept, proceed, access, afterSend, send, others, afterFill, sentFor, fill}
 use Rattle.model.specs.Rounds.{Calls, steps, Turn, still, took, Run, goOn, sendTurn, fillFirst, drain, rounds, heldIn, waits, Settles}
 use Rattle.model.specs.declared.Settings.{Settings}
@@ -94,7 +94,7 @@ module _ (S : Settings) (t : Tables) (ok : Sound S t) (no-misses : t .misses ≡
     unfolding access probe
     access-settles f =
         rw f (proceed-settles (metIn S x t)
-        (meet-free (ruleOf S t (addressOf x)) (dirtyLines t) x (first (holds (blockOf (addressOf x))) (waysOf S (t .lines) (addressOf x)))))
+        (meet-free (ruleOf S t (addressOf x)) (t .dirtyCount) x (first (holds (blockOf (addressOf x))) (waysOf S (t .lines) (addressOf x)))))
 
 -- ---- a round's send and fill
 

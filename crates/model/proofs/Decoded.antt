@@ -28,7 +28,7 @@ use Rattle.model.proofs.Tabled.{any-get, length-table, getD-table}
 use Rattle.model.proofs.InUse.{lt-or-ge, squeeze, in-use-few, below-used, free-past}
 use Rattle.model.proofs.Facts.{tag, status, mask, readable, miss, sent, ticketCount, ticket, queued, kind, queueMask, Live, Used, SoundIs}
 use Rattle.model.proofs.Standing.{field, field-in, field-out, Stands}
-use Rattle.model.proofs.Shapes.{line, sector, entry, place, addressIn, kindIn, maskIn, Shape, reserved-number, tag-is, cycle-is, status-is, mask-is, readable-is, live-is, miss-is, sent-is, entry-in, in-entry, kind-in, queued-in, queue-mask-is, reads-are}
+use Rattle.model.proofs.Shapes.{line, sector, entry, place, addressIn, kindIn, maskIn, Shape, reserved-number, tag-is, cycle-is, status-is, mask-is, readable-is, live-is, dirty-counts, miss-is, sent-is, entry-in, in-entry, kind-in, queued-in, queue-mask-is, reads-are}
 use Rattle.model.proofs.Soundly.{Lives, SectorOk, LineOk, Alone, Agrees, EntryOk, QueuedOk, Soundly, bit-clear}
 
 module _ (S : Settings) (L : Lent) (is : SoundIs S L) where
@@ -172,6 +172,7 @@ module _ (S : Settings) (L : Lent) (t : Tables) (st : Stands S L t) (sh : Shape 
     queue = queued-ok;
     few = sh .few;
     deep = sh .deep;
+    counted = sym (st .count) ∙ is .counted ∙ dirty-counts S L t st sh;
   }
 
 -- ---- the tables that are read off
@@ -288,6 +289,7 @@ module _ (S : Settings) (L : Lent) (is : SoundIs S L) where
         (λ u. sym (getD-table 4 (λ k. queueMask S L (4 * p + k)) k 0 j))
         (λ z. is .places p h .bare (omega arith) k j);
     time = refl;
+    count = refl;
   }
 
   -- an entry and a queue place that are read off

@@ -9,7 +9,7 @@ use Rattle.model.specs.Words.{countBelow}
 use Rattle.model.specs.Range.{linesOf}
 use Rattle.model.specs.Address.{goodBlock, blockOf, sectorIndex, setIndex}
 use Rattle.model.specs.Sound.{lastCycle, allOnes}
-use Rattle.model.specs.Lent.{Lent, tagAt, cycleAt, statusAt, maskAt, readableAt, missAt, sentAt, ticketCountAt, ticketAt, queuedAt, kindAt, queueMaskAt, nowAt}
+use Rattle.model.specs.Lent.{Lent, tagAt, cycleAt, statusAt, maskAt, readableAt, missAt, sentAt, ticketCountAt, ticketAt, queuedAt, kindAt, queueMaskAt, nowAt, dirtyCountAt}
 use Rattle.model.specs.SoundLent as lent
 use Rattle.model.proofs.Reflect.{Is, is-flag, is-eq, is-le, is-lt, is-not, is-and, is-or, is-imp, is-unless, is-every, is-some, is-none, is-as}
 
@@ -54,6 +54,12 @@ module _ (S : Settings) (L : Lent) where
 
   abbrev pub now : ℕ
   now = nowAt (L .words)
+
+  abbrev pub dirtyCount : ℕ
+  dirtyCount = dirtyCountAt S (L .words)
+
+  abbrev pub dirtyLine : ℕ → Bool
+  dirtyLine = lent.dirtyLine S (L .longs) (L .words) (L .marks)
 
   abbrev pub live : ℕ → Bool
   live = lent.live S (L .longs) (L .words) (L .marks)
@@ -130,6 +136,7 @@ module _ (S : Settings) (L : Lent) where
     pub entries : (e : ℕ) → e < S .entries → EntryIs e
     pub places-first : First (S .places) (kind S L)
     pub places : (p : ℕ) → p < S .places → PlaceIs p
+    pub counted : dirtyCount S L ≡ countBelow (linesOf S) (dirtyLine S L)
 
 -- ---- each test with its facts
 
@@ -228,20 +235,23 @@ module _ (S : Settings) (L : Lent) where
       (is-and
       (is-and
       (is-and
+      (is-and
       (is-and (is-and (is-le (now S L) lastCycle) (is-every (linesOf S) line-is)) (is-every (4 * linesOf S) sector-is))
       (is-every (S .readers * S .entries) (λ i. is-imp (is-le (ticketCount S L (i / S .readers)) (i % S .readers)) (is-eq (ticket S L i) 0))))
       (first-is (S .entries) (ticketCount S L)))
       (is-every (S .entries) entry-is))
       (first-is (S .places) (kind S L)))
       (is-every (S .places) place-is))
+      (is-eq (dirtyCount S L) (countBelow (linesOf S) (dirtyLine S L))))
       (λ w. record {
-        time = w .0 .0 .0 .0 .0 .0 .0;
-        lines = w .0 .0 .0 .0 .0 .0 .1;
-        sectors = w .0 .0 .0 .0 .0 .1;
-        tickets = w .0 .0 .0 .0 .1;
-        entries-first = w .0 .0 .0 .1;
-        entries = w .0 .0 .1;
-        places-first = w .0 .1;
-        places = w .1;
+        time = w .0 .0 .0 .0 .0 .0 .0 .0;
+        lines = w .0 .0 .0 .0 .0 .0 .0 .1;
+        sectors = w .0 .0 .0 .0 .0 .0 .1;
+        tickets = w .0 .0 .0 .0 .0 .1;
+        entries-first = w .0 .0 .0 .0 .1;
+        entries = w .0 .0 .0 .1;
+        places-first = w .0 .0 .1;
+        places = w .0 .1;
+        counted = w .1;
       })
-      (λ r. (((((((r .time, r .lines), r .sectors), r .tickets), r .entries-first), r .entries), r .places-first), r .places))
+      (λ r. ((((((((r .time, r .lines), r .sectors), r .tickets), r .entries-first), r .entries), r .places-first), r .places), r .counted))

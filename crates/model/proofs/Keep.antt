@@ -1,32 +1,33 @@
 -- Send and fill keep sound tables sound.
 use Prim.Native.Nat.{ℕ, _+_, _*_, _%_, _<_}
 use mathlib.Core.Path.{_≡_, refl, sym, ap, _∙_}
-use mathlib.Core.Logic.{_⊎_, inl, inr, _≢_}
+use mathlib.Core.Logic.{_⊎_, inl, inr, _≢_, ⊎-elim}
 use mathlib.Core.Bool.{Bool, true, false, not, _&&_, _||_, true≢false}
 use mathlib.Core.List.{List, [], _∷_, map}
 use native.Mathlib.Omega.{arith}
-use lib.ListN.{length, getD, length-map, length-set, List·getD-map}
+use lib.ListN.{length, getD, length-map, length-set, List·getD-map, set}
 use lib.Seq.{getD-set-same, getD-set-other}
-use lib.Dec.{eqb}
+use lib.Dec.{eqb, leb}
 use borrow.Author.Tests.{leb-true, eqb-true, eqb-false, eq-eqb, ne-eqb, le-leb}
-use Rattle.model.specs.Words.{all, any, count, keep, every, same}
+use Rattle.model.specs.Words.{all, any, count, keep, every, same, pick, one}
 use Rattle.model.specs.Range.{linesOf}
 use Rattle.model.specs.Address.{blockOf, sectorIndex}
-use Rattle.model.specs.Tables.{Line, Entry, Tables, refused, isInvalid, isReserved, unused, holds, entryFor, isFetch, empty, fresh}
-use Rattle.model.specs.Sound.{maskOk, sectorOk, lineOk, alone, reservedOk, readingOf, unsentFor, entryOk, kindOk, queuedOk}
-use Rattle.model.specs.Steps.{mark, markedFor, marked, afterSend, sendFrom, send, arrived, fillLine, others, afterFill, sentFor, fill}
+use Rattle.model.specs.Tables.{Line, Entry, Tables, refused, isInvalid, isReserved, unused, holds, entryFor, isFetch, empty, fresh, isModified, dirty, dirtyLines}
+use Rattle.model.specs.Sound.{maskOk, sectorOk, lineOk, alone, reservedOk, readingOf, unsentFor, entryOk, kindOk, queuedOk, allOnes}
+use Rattle.model.specs.Steps.{mark, markedFor, marked, afterSend, sendFrom, send, arrived, fillLine, others, afterFill, sentFor, fill, soiled}
 use Rattle.model.specs.declared.Settings.{Settings}
 use Rattle.model.specs.declared.Status.{Status}
-use Rattle.model.specs.declared.Status.the-variants.{Valid, Modified}
+use Rattle.model.specs.declared.Status.the-variants.{Invalid, Reserved, Valid, Modified}
 use Rattle.model.specs.declared.Sector.{Sector}
 use Rattle.model.specs.declared.QueueKind.{QueueKind}
 use Rattle.model.specs.declared.QueueKind.the-variants as queue
 use Rattle.model.specs.declared.Queued.{Queued}
 use Rattle.model.specs.declared.Refusal.the-variants.{NotSent}
 use Rattle.model.proofs.Flags.{and-1, and-2, and-i, flag, not-yes, not-no, no-yes, clash, by-flag, is-same}
-use Rattle.model.proofs.Lists.{In, all-in, in-all, in-any, any-in, in-keep, keep-in, keep-le, not-twice, count-ext, any-ext, count-keep, any-keep, in-getD, all-set, set-some, map-in, in-map, any-map, all-map, count-map}
+use Rattle.model.proofs.Lists.{In, all-in, in-all, in-any, any-in, in-keep, keep-in, keep-le, not-twice, count-ext, any-ext, count-keep, any-keep, in-getD, all-set, set-some, map-in, in-map, any-map, all-map, count-map, in-index, in-set-same, in-set-other}
 use Rattle.model.proofs.Below.{every-i}
-use Rattle.model.proofs.SoundFacts.{Sound, LeavesSound, LineIs, line-whole, EntryIs, entry-whole, mask-small, sector-aligned, address-is, block-is, sector-is, lines-are, line-at, four-at, tag-aligned, reserved-at, entry-at, entry-one, queued-at, unsent-once, queued-when}
+use Rattle.model.proofs.SoundFacts.{Sound, LeavesSound, LineIs, line-whole, EntryIs, entry-whole, mask-small, sector-aligned, address-is, block-is, sector-is, lines-are, line-at, four-at, tag-aligned, reserved-at, entry-at, entry-one, queued-at, unsent-once, queued-when, sectors-at}
+use Rattle.model.proofs.Counting.{count-gains, few-any, count-le}
 
 -- ---- send
 
@@ -133,6 +134,7 @@ module _ (S : Settings) (t : Tables) (x : Queued) (q : List Queued) (at : t .que
     lining = in-all (queuedOk (marked x (t .misses))) q sent-queued;
     few = rw (marked-length (x .kind) (x .address) (t .misses)) (ok .few);
     short = le-leb (length q) (S .places) (omega (arith, ap length at, leb-true (length (t .queue)) (S .places) (ok .short)));
+    counted = ok .counted;
   }
 
 pub send-leaves : (S : Settings) (t : Tables) → Sound S t → LeavesSound S (send t)
@@ -155,6 +157,14 @@ arrived-used s = by-flag (λ (c : Status). isInvalid c ≡ false) (eqb (s .mask)
 
 arrived-free : (s : Sector) → isReserved (arrived s .status) ≡ false
 arrived-free s = by-flag (λ (c : Status). isReserved c ≡ false) (eqb (s .mask) 0) Valid Modified (λ e. refl) (λ e. refl)
+
+-- a MODIFIED sector has a mask that isn't 0, so a fill leaves it MODIFIED
+modified-arrived : (c : Status) (m : ℕ) (r : Bool) → maskOk c m r ≡ true → isModified c ≡ true → isModified (pick (eqb m 0) Valid Modified) ≡ true
+modified-arrived Invalid m r h q = clash q refl
+modified-arrived Reserved m r h q = clash q refl
+modified-arrived Valid m r h q = clash q refl
+modified-arrived Modified m r h q =
+    let z : eqb m 0 ≡ false = not-yes (and-2 (leb m allOnes) (not (eqb m 0)) (and-1 (leb m allOnes && not (eqb m 0)) (r || not (eqb m allOnes)) h)) in rw z
 
 module _ (a : ℕ) (l : Line) (four : length (l .sectors) ≡ 4) where
   old : Sector
@@ -189,6 +199,43 @@ module _ (a : ℕ) (l : Line) (four : length (l .sectors) ≡ 4) where
       (λ e. all-set sectorOk (l .sectors) (sectorIndex a) (arrived old) h
       (arrived-ok old (all-in sectorOk (l .sectors) h (in-getD (l .sectors) (sectorIndex a) empty (omega arith)))))
       (λ e. h)
+
+  -- it is dirty still
+  fill-dirty : all sectorOk (l .sectors) ≡ true → dirty l ≡ true → dirty (fillLine a l) ≡ true
+  unfolding fillLine old
+  fill-dirty ok h =
+      by-flag (λ (m : Line). dirty m ≡ true) (holds (blockOf a) l) _ _
+      (λ e. go (any-in (λ (s : Sector). isModified (s .status)) (l .sectors) h))
+      (λ e. h)
+    where
+      modified : Sector → Bool
+      modified s = isModified (s .status)
+
+      arrived-dirty : (s : Sector) → sectorOk s ≡ true → modified s ≡ true → modified (arrived s) ≡ true
+      arrived-dirty s k q = modified-arrived (s .status) (s .mask) (s .readable) k q
+
+      go : (s : Sector) × In s (l .sectors) × (modified s ≡ true) → any modified (set (l .sectors) (sectorIndex a) (arrived old)) ≡ true
+      go (s, m, q) =
+          let (j, b, e) = in-index (l .sectors) empty s m in
+          by-index j b (ap modified e ∙ q) (flag (eqb j (sectorIndex a)))
+        where
+          by-index : (j : ℕ) → j < length (l .sectors) → modified (getD (l .sectors) j empty) ≡ true → (eqb j (sectorIndex a) ≡ true) ⊎ (eqb j (sectorIndex a) ≡ false)
+              → any modified (set (l .sectors) (sectorIndex a) (arrived old)) ≡ true
+          by-index j b q (inl f) =
+              let i : j ≡ sectorIndex a = eqb-true j (sectorIndex a) f in
+              in-any modified (set (l .sectors) (sectorIndex a) (arrived old)) (in-set-same (l .sectors) (sectorIndex a) (arrived old) (omega arith))
+              (arrived-dirty old (all-in sectorOk (l .sectors) ok (in-getD (l .sectors) (sectorIndex a) empty (omega arith))) (rw i at q))
+          by-index j b q (inr f) = in-any modified (set (l .sectors) (sectorIndex a) (arrived old)) (in-set-other (l .sectors) (sectorIndex a) (arrived old) empty j b (eqb-false j (sectorIndex a) f)) q
+
+  soiled-holds : soiled a l ≡ true → holds (blockOf a) l ≡ true
+  unfolding fillLine
+  soiled-holds h =
+      ⊎-elim (λ e. e)
+      (λ e. clash (and-2 (not (dirty l)) (dirty (fillLine a l)) h) (ap dirty (kept e) ∙ not-yes (and-1 (not (dirty l)) (dirty (fillLine a l)) h)))
+      (flag (holds (blockOf a) l))
+    where
+      kept : holds (blockOf a) l ≡ false → fillLine a l ≡ l
+      kept e = rw e
 
   fill-holds : (b : ℕ) → holds b (fillLine a l) ≡ holds b l
   fill-holds b = rw (fill-unused, fill-tag)
@@ -321,6 +368,22 @@ module _ (S : Settings) (t : Tables) (ok : Sound S t) (d : Entry) (m : In d (t .
           (keep-in (others a) (t .misses) o
           (not-no (ne-eqb (e .address) a (λ q. clash s (ap (λ (v : Entry). v .sent) (sym (entry-one S t ok d e m o q)) ∙ unsent))))) u
 
+  -- one line has the block
+  one-holds : count (holds (blockOf a)) (t .lines) ≡ 1
+  unfolding alone
+  one-holds =
+      let (l, n, h) = any-in (holds (blockOf a)) (t .lines) (entry-at S t ok d m .held) in
+      let tag : l .tag ≡ blockOf a = eqb-true (l .tag) (blockOf a) (and-2 (not (unused l)) (eqb (l .tag) (blockOf a)) h) in
+      let live : unused l ≡ false = not-yes (and-1 (not (unused l)) (eqb (l .tag) (blockOf a)) h) in
+      eqb-true (count (holds (blockOf a)) (t .lines)) 1 (rw (live, tag) at (all-in (alone (t .lines)) (t .lines) (ok .single) n))
+
+  filled-dirty : t .dirtyCount + one (any (soiled a) (t .lines)) ≡ count dirty filled
+  filled-dirty =
+      let e : t .dirtyCount ≡ count dirty (t .lines) = eqb-true (t .dirtyCount) (dirtyLines t) (ok .counted) in
+      let g = count-gains dirty (fillLine a) (t .lines) (λ l n. fill-dirty a l (four-at S t ok l n) (sectors-at S t ok l n)) in
+      let f = count-le (soiled a) (holds (blockOf a)) (t .lines) (λ l n. soiled-holds a l (four-at S t ok l n)) in
+      omega (arith, few-any (soiled a) (t .lines) (omega (arith, one-holds)))
+
   pub filled-sound : Sound S (afterFill (d .address) t)
   filled-sound = record {
     sized = rw (length-map (t .lines) (fillLine a)) (ok .sized);
@@ -332,6 +395,7 @@ module _ (S : Settings) (t : Tables) (ok : Sound S t) (d : Entry) (m : In d (t .
     lining = in-all (queuedOk left) (t .queue) filled-queued;
     few = le-leb (length left) (S .entries) (omega (arith, keep-le (others a) (t .misses), leb-true (length (t .misses)) (S .entries) (ok .few)));
     short = ok .short;
+    counted = eq-eqb (t .dirtyCount + one (any (soiled a) (t .lines))) (count dirty filled) filled-dirty;
   }
 
 pub fill-leaves : (S : Settings) (t : Tables) → Sound S t → (a : ℕ) → LeavesSound S (fill a t)

@@ -2,6 +2,7 @@
 -- then the tables: what sound ones are, that every step keeps them sound, demand 3 on them; then the lent slices that hold them.
 pub mod Flags
 pub mod Lists
+pub mod Counting
 pub mod Below
 pub mod Reflect
 pub mod Arrays

@@ -8,12 +8,12 @@ use native.Mathlib.Omega.{arith}
 use lib.ListN.{length, getD, replicate, length-map, getD-replicate, length-replicate}
 use lib.Dec.{leb, ltb, eqb}
 use borrow.Author.Tests.{leb-true, ltb-false, eqb-true, eqb-false, eq-eqb, le-leb}
-use Rattle.model.specs.Words.{pick, all, any}
+use Rattle.model.specs.Words.{pick, all, any, count}
 use Rattle.model.specs.Range.{inRange, linesOf}
 use Rattle.model.specs.Address.{blockOf, sectorIndex, setIndex, lineNumber, addressOf, goodBlock}
 use Rattle.model.specs.Tables.{Line, Entry, writing, Tables, start, refused, isInvalid, isReserved, isModified, unused, waiting, dirty, holds, entryFor, empty, fresh, emptied, withNow}
 use Rattle.model.specs.Sound.{allOnes, lastCycle, maskOk, sectorOk, lineOk, alone, reservedOk, readingOf, entryOk, queuedOk}
-use Rattle.model.specs.Probe.{Rule, columnOf, answerAt, answerOf, waysOf, dirtyLines, enoughDirty, candidate, first, victim, Spot, at, writeBack, takeOver, meet, probe, ruleOf, metIn}
+use Rattle.model.specs.Probe.{Rule, columnOf, answerAt, answerOf, waysOf, enoughDirty, candidate, first, victim, Spot, at, writeBack, takeOver, meet, probe, ruleOf, metIn}
 use Rattle.model.specs.Steps.{isMerge, isMiss, onSector, fetches, queues, tick}
 use Rattle.model.specs.declared.Settings.{Settings}
 use Rattle.model.specs.declared.Status.{Status}
@@ -28,7 +28,7 @@ use Rattle.model.specs.declared.Found.{Found}
 use Rattle.model.specs.declared.Found.the-variants.{At, Nothing}
 use Rattle.model.specs.declared.Refusal.the-variants.{BadCycle}
 use Rattle.model.proofs.Flags.{and-1, and-2, or-no-1, or-no-2, flag, not-yes, no-yes, clash, by-flag}
-use Rattle.model.proofs.Lists.{In, all-in, in-all, in-any, any-in, in-getD, in-index, all-map, any-map, in-replicate}
+use Rattle.model.proofs.Lists.{In, all-in, in-all, in-any, any-in, in-getD, in-index, all-map, any-map, in-replicate, none-count}
 use Rattle.model.proofs.Below.{every-i}
 use Rattle.model.proofs.SoundFacts.{Sound, LeavesSound, LineIs, line-whole, EntryIs, entry-whole, ways-some, mask-small, sector-below, sector-aligned, address-is, block-is, lines-are, line-at, four-at, sectors-at, tag-at, reserved-at, holder-one, entry-at}
 use Rattle.model.proofs.Ways.{Finds, first-finds, victim-finds, Sits, way-sits, way-in, line-among, set-of-block, set-of-line}
@@ -302,6 +302,7 @@ tick-leaves S t ok c = by-flag (LeavesSound S) (ltb c (t .now) || ltb lastCycle 
       lining = ok .lining;
       few = ok .few;
       short = ok .short;
+      counted = ok .counted;
     }
 
 pub start-is-sound : (S : Settings) → Sound S (start S)
@@ -316,6 +317,7 @@ start-is-sound S = record {
   lining = refl;
   few = le-leb 0 (S .entries) (omega arith);
   short = le-leb 0 (S .places) (omega arith);
+  counted = eq-eqb 0 (count dirty (replicate (linesOf S) fresh)) (sym (none-count dirty (replicate (linesOf S) fresh) (no-yes (λ h. let (l, m, q) = any-in dirty (replicate (linesOf S) fresh) h in clash q (ap dirty (in-replicate (linesOf S) fresh l m))))));
 }
 
 -- what an access meets is as `Spotted` says
@@ -333,10 +335,10 @@ module _ (S : Settings) (range : inRange S ≡ true) (t : Tables) (ok : Sound S 
   meet-spotted R d (At w) h p e = subst (Spotted S t x) (cc) (met S t ok (ways-some S range) x w (h .0) (h .1))
 
   -- under every rule
-  pub rule-spotted : (R : Rule) (p : Spot) → probe R S (dirtyLines t) (waysOf S (t .lines) (addressOf x)) x ≡ at p → Spotted S t x p
+  pub rule-spotted : (R : Rule) (p : Spot) → probe R S (t .dirtyCount) (waysOf S (t .lines) (addressOf x)) x ≡ at p → Spotted S t x p
   unfolding probe
   rule-spotted R p e =
-      meet-spotted R (dirtyLines t) (first (holds (blockOf (addressOf x))) (waysOf S (t .lines) (addressOf x)))
+      meet-spotted R (t .dirtyCount) (first (holds (blockOf (addressOf x))) (waysOf S (t .lines) (addressOf x)))
       (first-finds (holds (blockOf (addressOf x))) (waysOf S (t .lines) (addressOf x))) p e
 
   pub probe-spotted : (p : Spot) → metIn S x t ≡ at p → Spotted S t x p

@@ -20,14 +20,14 @@ use Rattle.model.specs.declared.Queued.{Queued}
 use Rattle.model.specs.Words.{pick, count, table, every, some, countBelow}
 use Rattle.model.specs.Numbers.{statusNumber, statusOf, queueKindNumber, queueKindOf}
 use Rattle.model.specs.Range.{linesOf}
-use Rattle.model.specs.Tables.{Line, Entry, Tables, isInvalid, isReserved, unused, isFetch, idle, empty, fresh, noEntry}
+use Rattle.model.specs.Tables.{Line, Entry, Tables, isInvalid, isReserved, unused, isFetch, idle, empty, fresh, noEntry, isModified, dirty, dirtyLines}
 use Rattle.model.specs.Lent.{Lent, bit, tagOf, cycleOf, masksOf, statusesOf, readablesOf, missOf, sentOf, ticketCountOf, ticketsIn, queuedOf, kindOf, queueMasksOf, inUse, sectorAt, sectorsAt, lineAt, entryAt, queueAt, tablesOf}
 use Rattle.model.specs.Sound.{readingOf}
 use Rattle.model.proofs.Flags.{iff}
 use Rattle.model.proofs.Answers.{status-of-number}
-use Rattle.model.proofs.Tabled.{all-get, count-get, table-list}
+use Rattle.model.proofs.Tabled.{all-get, any-get, count-get, table-list}
 use Rattle.model.proofs.InUse.{lt-or-ge, count-short, count-same, some-same, in-use-is}
-use Rattle.model.proofs.Facts.{tag, cycle, status, mask, readable, miss, sent, ticketCount, ticket, queued, kind, queueMask, now, live, readFor, Used}
+use Rattle.model.proofs.Facts.{tag, cycle, status, mask, readable, miss, sent, ticketCount, ticket, queued, kind, queueMask, now, live, dirtyLine, readFor, Used}
 use Rattle.model.proofs.Standing.{field, field-in, field-out, Stands}
 
 -- ---- records of the tables by their place
@@ -65,7 +65,13 @@ pub record Shape (S : Settings) (t : Tables) : Type 0 where
 
 -- ---- numbers and what they stand for
 
-pub invalid-number : (x : Status) → eqb (statusNumber x) 0 ≡ isInvalid x
+pub modified-number : (x : Status) → eqb (statusNumber x) 3 ≡ isModified x
+modified-number Invalid = refl
+modified-number Reserved = refl
+modified-number Valid = refl
+modified-number Modified = refl
+
+invalid-number : (x : Status) → eqb (statusNumber x) 0 ≡ isInvalid x
 invalid-number Invalid = refl
 invalid-number Reserved = refl
 invalid-number Valid = refl
@@ -138,9 +144,9 @@ pub queued-back : (x : Queued) {k : QueueKind} {a : ℕ} {ms : List ℕ} → k �
     → record { kind = k; address = a; masks = ms } ≡ x
 queued-back x p q r = rw (p, q, r)
 
-tables-back : (t : Tables) {ls : List Line} {es : List Entry} {q : List Queued} {c : ℕ} → ls ≡ t .lines → es ≡ t .misses → q ≡ t .queue → c ≡ t .now
-    → record { lines = ls; misses = es; queue = q; now = c } ≡ t
-tables-back t p q r w = rw (p, q, r, w)
+tables-back : (t : Tables) {ls : List Line} {es : List Entry} {q : List Queued} {c d : ℕ} → ls ≡ t .lines → es ≡ t .misses → q ≡ t .queue → c ≡ t .now → d ≡ t .dirtyCount
+    → record { lines = ls; misses = es; queue = q; now = c; dirtyCount = d } ≡ t
+tables-back t p q r w v = rw (p, q, r, w, v)
 
 -- the four sectors of a line, as a table
 pub sectors-table : (S : Settings) (words marks : List ℕ) (l : ℕ) → sectorsAt S words marks l ≡ table 4 (λ k. sectorAt S words marks (4 * l + k))
@@ -191,6 +197,20 @@ module _ (S : Settings) (L : Lent) (t : Tables) (st : Stands S L t) (sh : Shape 
       (λ k j. ap not (ap (λ (n : ℕ). eqb n 0) (status-is l k h j) ∙ invalid-number (sector t l k .status)))
       ∙ some-not 4 (λ k. isInvalid (sector t l k .status))
       ∙ ap not (sym (unused-is l h))
+
+  pub dirty-is : (l : ℕ) → l < linesOf S → dirtyLine S L l ≡ dirty (line t l)
+  dirty-is l h =
+      some-same (λ k. eqb (status S L (4 * l + k)) 3) (λ k. isModified (sector t l k .status)) 4
+      (λ k j. ap (λ (n : ℕ). eqb n 3) (status-is l k h j) ∙ modified-number (sector t l k .status))
+      ∙ sym (any-get (λ (s : Sector). isModified (s .status)) (line t l .sectors) empty
+      ∙ ap (λ (n : ℕ). some n (λ k. isModified (sector t l k .status))) (sh .fours l h))
+
+  -- the dirty lines, counted in the numbers and in the tables
+  pub dirty-counts : countBelow (linesOf S) (dirtyLine S L) ≡ dirtyLines t
+  dirty-counts =
+      count-same (dirtyLine S L) (λ l. dirty (line t l)) (linesOf S) dirty-is
+      ∙ ap (λ (n : ℕ). countBelow n (λ l. dirty (line t l))) (sym (sh .size))
+      ∙ sym (count-get dirty (t .lines) fresh)
 
   pub miss-is : (e : ℕ) → e < S .entries → miss S L e ≡ entry t e .address
   miss-is e h = st .misses e h ∙ field-get missOf (t .misses) noEntry e 0 refl
@@ -292,3 +312,4 @@ module _ (S : Settings) (L : Lent) (t : Tables) (st : Stands S L t) (sh : Shape 
       (ap (λ (n : ℕ). table n (entryAt S L)) entries-in-use ∙ table-list (length (t .misses)) (entryAt S L) (t .misses) noEntry refl entry-again)
       (ap (λ (n : ℕ). table n (queueAt S L)) places-in-use ∙ table-list (length (t .queue)) (queueAt S L) (t .queue) idle refl place-again)
       (st .time)
+      (st .count)

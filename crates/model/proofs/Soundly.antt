@@ -18,7 +18,7 @@ use Rattle.model.specs.declared.Status.the-variants.{Invalid, Reserved, 
 use Rattle.model.specs.Words.{pick, all, any, count}
 use Rattle.model.specs.Range.{linesOf}
 use Rattle.model.specs.Address.{blockOf, setIndex}
-use Rattle.model.specs.Tables.{Tables, isReserved, unused, holds, entryFor, idle, empty, fresh, noEntry}
+use Rattle.model.specs.Tables.{Tables, isReserved, unused, holds, entryFor, idle, empty, fresh, noEntry, dirtyLines}
 use Rattle.model.specs.Numbers.{statusNumber, queueKindNumber}
 use Rattle.model.specs.Lent.{bit}
 use Rattle.model.specs.Sound.{allOnes, lastCycle, maskOk, sectorOk, lineOk, alone, agrees, reservedOk, readingOf, unsentFor, entryOk, kindOk, queuedOk, sound}
@@ -168,6 +168,7 @@ module _ (S : Settings) (t : Tables) where
     pub queue : (p : ℕ) → p < length (t .queue) → QueuedOk (place t p)
     pub few : length (t .misses) ≤ S .entries
     pub deep : length (t .queue) ≤ S .places
+    pub counted : t .dirtyCount ≡ dirtyLines t
 
   pub soundly-shape : Soundly → Shape S t
   soundly-shape s = record {
@@ -313,6 +314,7 @@ module _ (S : Settings) (t : Tables) where
       (is-and
       (is-and
       (is-and
+      (is-and
       (is-and (is-eq (length (t .lines)) (linesOf S)) (is-le (t .now) lastCycle))
       (is-every (linesOf S) line-ok-is))
       (is-all (alone (t .lines)) (t .lines) fresh alone-is))
@@ -321,18 +323,20 @@ module _ (S : Settings) (t : Tables) where
       (is-all (queuedOk (t .misses)) (t .queue) idle (λ p h. queued-ok-is (place t p))))
       (is-le (length (t .misses)) (S .entries)))
       (is-le (length (t .queue)) (S .places)))
-      (λ w. let size = w .0 .0 .0 .0 .0 .0 .0 .0 in record {
+      (is-eq (t .dirtyCount) (dirtyLines t)))
+      (λ w. let size = w .0 .0 .0 .0 .0 .0 .0 .0 .0 in record {
         size = size;
-        time = w .0 .0 .0 .0 .0 .0 .0 .1;
-        lines = w .0 .0 .0 .0 .0 .0 .1;
-        alone = λ l h. w .0 .0 .0 .0 .0 .1 l (omega arith);
-        agrees = λ l h. w .0 .0 .0 .0 .1 l (omega arith);
-        entries = w .0 .0 .0 .1;
-        queue = w .0 .0 .1;
-        few = w .0 .1;
-        deep = w .1;
+        time = w .0 .0 .0 .0 .0 .0 .0 .0 .1;
+        lines = w .0 .0 .0 .0 .0 .0 .0 .1;
+        alone = λ l h. w .0 .0 .0 .0 .0 .0 .1 l (omega arith);
+        agrees = λ l h. w .0 .0 .0 .0 .0 .1 l (omega arith);
+        entries = w .0 .0 .0 .0 .1;
+        queue = w .0 .0 .0 .1;
+        few = w .0 .0 .1;
+        deep = w .0 .1;
+        counted = w .1;
       })
       (λ r. let size = r .size in (
-        (((((((size, r .time), r .lines), λ l h. r .alone l (omega arith)), λ l h. r .agrees l (omega arith)), r .entries), r .queue), r .few),
-        r .deep,
+        ((((((((size, r .time), r .lines), λ l h. r .alone l (omega arith)), λ l h. r .agrees l (omega arith)), r .entries), r .queue), r .few), r .deep),
+        r .counted,
       ))

@@ -2,21 +2,21 @@
 use mathlib.Core.Path.{_≡_, refl, sym, ap, _∙_}
 use mathlib.Core.List.{List, [], _∷_, _++_, map}
 use Prim.Native.Nat.{ℕ, zero, suc, _+_, _*_, _≤_, _<_}
-use native.Mathlib.Nat.{not-suc-le-zero, le-of-suc-le-suc, mul-zero, mul-suc, zero-add}
+use native.Mathlib.Nat.{not-suc-le-zero, le-of-suc-le-suc, mul-zero, mul-suc, zero-add, add-zero}
 use native.Mathlib.Omega.{arith}
 use lib.ListN.{length, getD, length-append, List·getD-append}
 use lib.Seq.{getD-append-add}
 use Rattle.model.specs.declared.Settings.{Settings}
 use Rattle.model.specs.Words.{table, fit, places, joined}
 use Rattle.model.specs.Range.{linesOf}
-use Rattle.model.specs.Layout.{longSizes, wordSizes, markSizes, longsLength, wordsLength, marksLength, longsFrom, wordsFrom, marksFrom, tagRegion, missRegion, queueRegion, cycleRegion, maskRegion, ticketRegion, queueMaskRegion, statusRegion, readableRegion, sentRegion, ticketCountRegion, kindRegion}
+use Rattle.model.specs.Layout.{longSizes, wordSizes, markSizes, longsLength, wordsLength, marksLength, longsFrom, wordsFrom, marksFrom, tagRegion, missRegion, queueRegion, cycleRegion, maskRegion, ticketRegion, queueMaskRegion, dirtyCountRegion, statusRegion, readableRegion, sentRegion, ticketCountRegion, kindRegion}
 use Rattle.model.specs.Tables.{Tables}
 use Rattle.model.specs.Lent.{Lent, encode, tagOf, cycleOf, masksOf, statusesOf, readablesOf, missOf, sentOf, ticketCountOf, ticketsIn, queuedOf, kindOf, queueMasksOf, longBlocks, wordBlocks, markBlocks}
 use Rattle.model.specs.Regions.{region, ahead}
 use Rattle.model.proofs.Places.{length-fit, length-places, block-get, stride}
 use Rattle.model.proofs.Tabled.{list-table, table-append}
 use Rattle.model.proofs.Slices.{long-sizes, word-sizes, mark-sizes, begins, regions-joined, region-table}
-use Rattle.model.proofs.Facts.{tag, cycle, status, mask, readable, miss, sent, ticketCount, ticket, queued, kind, queueMask, now}
+use Rattle.model.proofs.Facts.{tag, cycle, status, mask, readable, miss, sent, ticketCount, ticket, queued, kind, queueMask, now, dirtyCount}
 
 -- number k of the field g of record e, 0 where there is none
 unfoldable pub field : {A : Type 0} → (A → List ℕ) → List A → ℕ → ℕ → ℕ
@@ -124,6 +124,7 @@ pub record Stands (S : Settings) (L : Lent) (t : Tables) : Type 0 where
   pub kinds : (p : ℕ) → p < S .places → kind S L p ≡ field kindOf (t .queue) p 0
   pub queue-masks : (p k : ℕ) → p < S .places → k < 4 → queueMask S L (4 * p + k) ≡ field queueMasksOf (t .queue) p k
   pub time : now S L ≡ t .now
+  pub count : dirtyCount S L ≡ t .dirtyCount
 
 -- ---- in the encoding the tables stand
 
@@ -144,7 +145,7 @@ module _ (S : Settings) (t : Tables) where
   long-block g w n xs j e k i here h at =
       in-block g w n xs (longBlocks S t) j e k i here h (at ∙ ap (λ (m : ℕ). m + (w * e + k)) (sym (begins (longBlocks S t) j (long-sizes S t))))
 
-  word-block : {A : Type 0} (g : A → List ℕ) (w n : ℕ) (xs : List A) (j e k i : ℕ) → getD (wordBlocks S t) j [] ≡ places g w n xs → j < 5
+  word-block : {A : Type 0} (g : A → List ℕ) (w n : ℕ) (xs : List A) (j e k i : ℕ) → getD (wordBlocks S t) j [] ≡ places g w n xs → j < 6
       → i ≡ wordsFrom S j + (w * e + k) → e < n → k < w → getD (joined (wordBlocks S t)) i 0 ≡ field g xs e k
   word-block g w n xs j e k i here h at =
       in-block g w n xs (wordBlocks S t) j e k i here h (at ∙ ap (λ (m : ℕ). m + (w * e + k)) (sym (begins (wordBlocks S t) j (word-sizes S t))))
@@ -161,6 +162,7 @@ module _ (S : Settings) (t : Tables) where
     misses = λ e h. long-block missOf 1 (S .entries) (t .misses) missRegion e 0 _ refl (omega arith) (omega arith) h (omega arith);
     queue = λ p h. long-block queuedOf 1 (S .places) (t .queue) queueRegion p 0 _ refl (omega arith) (omega arith) h (omega arith);
     time = refl;
+    count = block-get (wordBlocks S t) dirtyCountRegion 0 {i = wordsFrom S dirtyCountRegion} refl (sym (begins (wordBlocks S t) dirtyCountRegion (word-sizes S t)) ∙ sym (add-zero (ahead (wordBlocks S t) dirtyCountRegion))) (omega arith) (omega arith);
     cycles = λ l h. word-block cycleOf 1 (linesOf S) (t .lines) cycleRegion l 0 (1 + l) refl (omega arith) (omega arith) h (omega arith);
     masks = λ l k h j. word-block masksOf 4 (linesOf S) (t .lines) maskRegion l k _ refl (omega arith) refl h j;
     tickets = λ e k h j. word-block ticketsIn (S .readers) (S .entries) (t .misses) ticketRegion e k _ refl (omega arith) refl h j;
@@ -202,20 +204,12 @@ module _ (S : Settings) (L : Lent) (t : Tables) (st : Stands S L t) where
   words-stand e =
       regions-joined (L .words) (wordSizes S) (wordBlocks S t) (
         region-table (L .words) 0 1 (omega arith) ∙ ap (λ (c : ℕ). c ∷ []) (st .time),
-        (
-          region-singles (L .words) (wordsFrom S cycleRegion) cycleOf (linesOf S) (t .lines) (omega arith) (st .cycles),
-          (
-            region-places (L .words) (wordsFrom S maskRegion) masksOf (linesOf S) (t .lines) 4 (omega arith) (st .masks),
-            (
-              region-places (L .words) (wordsFrom S ticketRegion) ticketsIn (S .entries) (t .misses) (S .readers) (omega arith) (st .tickets),
-              (
-                region-places (L .words) (wordsFrom S queueMaskRegion) queueMasksOf (S .places) (t .queue) 4 (omega arith) (st .queue-masks),
-                e,
-              ),
-            ),
-          ),
-        ),
-      )
+        (region-singles (L .words) (wordsFrom S cycleRegion) cycleOf (linesOf S) (t .lines) (omega arith) (st .cycles),
+        (region-places (L .words) (wordsFrom S maskRegion) masksOf (linesOf S) (t .lines) 4 (omega arith) (st .masks),
+        (region-places (L .words) (wordsFrom S ticketRegion) ticketsIn (S .entries) (t .misses) (S .readers) (omega arith) (st .tickets),
+        (region-places (L .words) (wordsFrom S queueMaskRegion) queueMasksOf (S .places) (t .queue) 4 (omega arith) (st .queue-masks),
+        (region-table (L .words) (wordsFrom S dirtyCountRegion) 1 (omega arith) ∙ ap (λ (c : ℕ). c ∷ []) (rw add-zero (st .count)),
+        e))))))
 
   marks-stand : length (L .marks) ≡ marksLength S → L .marks ≡ joined (markBlocks S t)
   marks-stand e =

@@ -14,10 +14,10 @@ use borrow.Author.Tests.{leb-true, leb-false, ltb-true, ltb-false, lt-ltb, eqb-t
 use Rattle.model.specs.Words.{pick, all, any, count, every}
 use Rattle.model.specs.Range.{within, linesOf}
 use Rattle.model.specs.Address.{blockOf, sectorIndex, setIndex, lineNumber, addressOf, maskOf, isRead, goodSector, wellFormed}
-use Rattle.model.specs.Tables.{Line, Entry, reading, Tables, isInvalid, isReserved, unused, holds, entryFor, isFetch, empty, fresh}
+use Rattle.model.specs.Tables.{Line, Entry, reading, Tables, isInvalid, isReserved, unused, holds, entryFor, isFetch, empty, fresh, dirty, dirtyLines}
 use Rattle.model.specs.Sound.{allOnes, maskOk, sectorOk, lineOk, alone, agrees, reservedOk, readingOf, unsentFor, entryOk, queuedOk}
 use Rattle.model.specs.Probe.{Spot}
-use Rattle.model.specs.Steps.{isHit, isMerge, isMiss, onSector, update, join, onMisses, fetches, queues, placesNeeded, entryFull, afterAccess}
+use Rattle.model.specs.Steps.{isHit, isMerge, isMiss, onSector, update, join, onMisses, fetches, queues, placesNeeded, entryFull, afterAccess, lineAfter}
 use Rattle.model.specs.declared.Settings.{Settings}
 use Rattle.model.specs.declared.Status.{Status}
 use Rattle.model.specs.declared.Status.the-variants.{Invalid, Reserved, Valid, Modified}
@@ -31,6 +31,7 @@ use Rattle.model.proofs.Flags.{and-1, and-2, and-i, and-false, and-true
 use Rattle.model.proofs.Lists.{In, all-in, in-all, in-any, any-in, index-count, count-append, any-append, in-append, none-count, each, in-set-same, in-set-other, count-ext, any-ext, in-getD, in-index, all-set, set-some, in-map, any-map, count-map}
 use Rattle.model.proofs.Below.{every-i}
 use Rattle.model.proofs.SoundFacts.{Sound, LineIs, line-whole, EntryIs, entry-whole, mask-small, sector-below, sector-aligned, address-is, block-is, sector-is, lines-are, line-at, tag-aligned, reserved-at, holder-one, entry-at, queued-at, queued-when, queued-unsent}
+use Rattle.model.proofs.Counting.{recount}
 
 -- a read that misses: it takes a new entry and queues a read
 abbrev pub fetching : Access → Answer → Bool
@@ -486,4 +487,5 @@ module _ (S : Settings) (t : Tables) (ok : Sound S t) (x : Access) (formed : wel
             (misses-few S x (p .answer) (t .misses) (leb-true (length (t .misses)) (S .entries) (ok .few)) entry);
         short = le-leb (length (u .queue)) (S .places)
             (omega (arith, ltb-false (S .places) (length (t .queue) + placesNeeded x p) roomy, length-append (t .queue) (queues x p)));
+        counted = eq-eqb (u .dirtyCount) (dirtyLines u) (recount dirty (t .lines) n (lineAfter x p (t .now)) fresh (sp .inside) (eqb-true (t .dirtyCount) (dirtyLines t) (ok .counted)));
       }

@@ -2,9 +2,8 @@
 -- the same way: one for each rule of document 01 that those leave open.
 use Prim.Native.Nat.{ℕ}
 use mathlib.Core.List.{List, [], _∷_}
-use Rattle.model.specs.Tables.{start, Outcome, refused, done, after}
+use Rattle.model.specs.Tables.{start, Outcome, refused, done, after, dirtyLines}
 use Rattle.model.specs.Lent.{Lent, tablesOf, encode}
-use Rattle.model.specs.Probe.{dirtyLines}
 use Rattle.model.specs.History.{Call, offer, sending, filling, ticking, make}
 use Rattle.model.specs.declared.Settings.{Settings}
 use Rattle.model.specs.declared.Access.the-variants.{Read, Write}

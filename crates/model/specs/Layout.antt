@@ -11,9 +11,9 @@ use Rattle.model.specs.declared.Settings.{Settings}
 abbrev pub longSizes : Settings → List ℕ
 longSizes S = linesOf S ∷ S .entries ∷ S .places ∷ []
 
--- 32-bit numbers: the current cycle, cycles, masks, tickets, queue masks
+-- 32-bit numbers: the current cycle, cycles, masks, tickets, queue masks, the dirty count
 abbrev pub wordSizes : Settings → List ℕ
-wordSizes S = 1 ∷ linesOf S ∷ 4 * linesOf S ∷ S .readers * S .entries ∷ 4 * S .places ∷ []
+wordSizes S = 1 ∷ linesOf S ∷ 4 * linesOf S ∷ S .readers * S .entries ∷ 4 * S .places ∷ 1 ∷ []
 
 -- bytes: statuses, readable marks, sent marks, ticket counts, queue kinds
 abbrev pub markSizes : Settings → List ℕ
@@ -44,6 +44,9 @@ ticketRegion = 3
 
 abbrev pub queueMaskRegion : ℕ
 queueMaskRegion = 4
+
+abbrev pub dirtyCountRegion : ℕ
+dirtyCountRegion = 5
 
 abbrev pub statusRegion : ℕ
 statusRegion = 0

@@ -9,7 +9,7 @@ use lib.Dec.{eqb}
 use Rattle.model.specs.Words.{pick, table, countBelow, places, joined}
 use Rattle.model.specs.Numbers.{statusNumber, statusOf, queueKindNumber, queueKindOf}
 use Rattle.model.specs.Range.{linesOf}
-use Rattle.model.specs.Layout.{longsLength, wordsLength, marksLength, longsFrom, wordsFrom, marksFrom, missRegion, queueRegion, maskRegion, ticketRegion, queueMaskRegion, readableRegion, sentRegion, ticketCountRegion, kindRegion}
+use Rattle.model.specs.Layout.{longsLength, wordsLength, marksLength, longsFrom, wordsFrom, marksFrom, missRegion, queueRegion, maskRegion, ticketRegion, queueMaskRegion, readableRegion, sentRegion, ticketCountRegion, kindRegion, dirtyCountRegion}
 use Rattle.model.specs.Tables.{Line, Entry, Tables}
 use Rattle.model.specs.declared.Settings.{Settings}
 use Rattle.model.specs.declared.Sector.{Sector}
@@ -74,6 +74,9 @@ queueMaskAt S words i = getD words (wordsFrom S queueMaskRegion + i) 0
 abbrev pub nowAt : List ℕ → ℕ
 nowAt words = getD words 0 0
 
+abbrev pub dirtyCountAt : Settings → List ℕ → ℕ
+dirtyCountAt S words = getD words (wordsFrom S dirtyCountRegion) 0
+
 -- ---- the tables read off the slices
 
 module _ (S : Settings) (words marks : List ℕ) where
@@ -114,6 +117,7 @@ tablesOf S L = record {
   misses = table (inUse (S .entries) (ticketCountAt S (L .marks))) (entryAt S L);
   queue = table (inUse (S .places) (kindAt S (L .marks))) (queueAt S L);
   now = nowAt (L .words);
+  dirtyCount = dirtyCountAt S (L .words);
 }
 
 -- ---- the slices that tables give: a block of places for each field, unused places zero
@@ -172,6 +176,7 @@ wordBlocks S t =
     ∷ places masksOf 4 (linesOf S) (t .lines)
     ∷ places ticketsIn (S .readers) (S .entries) (t .misses)
     ∷ places queueMasksOf 4 (S .places) (t .queue)
+    ∷ (t .dirtyCount ∷ [])
     ∷ []
 
 abbrev pub markBlocks : Settings → Tables → List (List ℕ)

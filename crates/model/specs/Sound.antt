@@ -7,7 +7,7 @@ use lib.Dec.{ltb, leb, eqb}
 use Rattle.model.specs.Words.{pick, all, any, count, every, same}
 use Rattle.model.specs.Range.{within, linesOf}
 use Rattle.model.specs.Address.{blockOf, setIndex, goodSector, goodBlock}
-use Rattle.model.specs.Tables.{Line, Entry, Tables, isReserved, unused, holds, entryFor, isFetch, empty, fresh}
+use Rattle.model.specs.Tables.{Line, Entry, Tables, isReserved, unused, holds, entryFor, isFetch, empty, fresh, dirtyLines}
 use Rattle.model.specs.declared.Settings.{Settings}
 use Rattle.model.specs.declared.Status.{Status}
 use Rattle.model.specs.declared.Status.the-variants.{Invalid, Reserved, Valid, Modified}
@@ -76,7 +76,7 @@ kindOk es queue.WriteBack b ms = goodBlock b && any (λ m. not (eqb m 0)) ms
 unfoldable pub queuedOk : List Entry → Queued → Bool
 queuedOk es x = eqb (length (x .masks)) 4 && all (λ m. leb m allOnes) (x .masks) && kindOk es (x .kind) (x .address) (x .masks)
 
--- as many lines as the settings say; "the current one, itself at most 4,294,967,294"; "At most M entries and Q queue places are in use"
+-- as many lines as the settings say; "the current one, itself at most 4,294,967,294"; "At most M entries and Q queue places are in use"; the stored count is that of the dirty lines (L3)
 unfoldable pub sound : Settings → Tables → Bool
 sound S t =
     eqb (length (t .lines)) (linesOf S)
@@ -88,3 +88,4 @@ sound S t =
     && all (queuedOk (t .misses)) (t .queue)
     && leb (length (t .misses)) (S .entries)
     && leb (length (t .queue)) (S .places)
+    && eqb (t .dirtyCount) (dirtyLines t)

@@ -1,4 +1,4 @@
--- "Sound tables", of the numbers in the three lent slices, whatever they are: conditions 1 to 25, each beside document 01's words.
+-- "Sound tables", of the numbers in the three lent slices, whatever they are: conditions 1 to 26, each beside document 01's words.
 -- The check of refusal 3 computes `soundLent`. proofs/ ties it to Sound: sound slices are the encoding of sound tables.
 use Prim.Native.Nat.{ℕ, _+_, _*_, _-_, _/_, _%_, _^_, _≤_}
 use mathlib.Core.Bool.{Bool, true, false, not, _&&_, _||_}
@@ -9,7 +9,7 @@ use Rattle.model.specs.Words.{imp, every, some, countBelow}
 use Rattle.model.specs.Range.{linesOf}
 use Rattle.model.specs.Address.{blockOf, sectorIndex, setIndex, goodBlock}
 use Rattle.model.specs.Sound.{lastCycle, allOnes}
-use Rattle.model.specs.Lent.{Lent, tagAt, cycleAt, statusAt, maskAt, readableAt, missAt, sentAt, ticketCountAt, ticketAt, queuedAt, kindAt, queueMaskAt, nowAt}
+use Rattle.model.specs.Lent.{Lent, tagAt, cycleAt, statusAt, maskAt, readableAt, missAt, sentAt, ticketCountAt, ticketAt, queuedAt, kindAt, queueMaskAt, nowAt, dirtyCountAt}
 use Rattle.model.specs.declared.Settings.{Settings}
 
 -- of n places those whose f isn't 0 are the first: behind a 0 stands a 0
@@ -164,6 +164,16 @@ module _ (S : Settings) (longs words marks : List ℕ) where
   abbrev pub placeFine : ℕ → Bool
   placeFine p = placeShape p && readBacked p
 
+  -- ---- the dirty count
+
+  -- some sector of line l is MODIFIED
+  abbrev pub dirtyLine : ℕ → Bool
+  dirtyLine l = some 4 (λ k. eqb (status (4 * l + k)) 3)
+
+  -- 26 (L3): it is the number of lines with a MODIFIED sector
+  abbrev pub countFine : Bool
+  countFine = eqb (dirtyCountAt S words) (countBelow (linesOf S) dirtyLine)
+
   -- ---- all of it; 12 and 20, used places stand first, are the two `gathered`
 
   abbrev pub linesFine : Bool
@@ -179,6 +189,7 @@ module _ (S : Settings) (longs words marks : List ℕ) where
       && every (S .entries) entryFine
       && gathered (S .places) kind
       && every (S .places) placeFine
+      && countFine
 
 abbrev pub soundLent : Settings → Lent → Bool
 soundLent S L = soundNumbers S (L .longs) (L .words) (L .marks)

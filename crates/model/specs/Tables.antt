@@ -5,7 +5,7 @@ use mathlib.Core.Bool.{Bool, true, false, not, _&&_, _||_}
 use mathlib.Core.List.{List, [], _∷_}
 use lib.ListN.{replicate}
 use lib.Dec.{eqb}
-use Rattle.model.specs.Words.{all, any}
+use Rattle.model.specs.Words.{all, any, count}
 use Rattle.model.specs.Range.{linesOf}
 use Rattle.model.specs.declared.Settings.{Settings}
 use Rattle.model.specs.declared.Status.{Status}
@@ -37,26 +37,30 @@ reading a = record { kind = queue.Read; address = a; masks = replicate 4 0 }
 abbrev pub writing : ℕ → List ℕ → Queued
 writing b ms = record { kind = queue.WriteBack; address = b; masks = ms }
 
--- "entries stand in order of creation, the oldest first"; the queue "first in first out"
+-- "entries stand in order of creation, the oldest first"; the queue "first in first out"; how many lines have a MODIFIED sector (L3)
 pub record Tables : Type 0 where
   pub lines : List Line
   pub misses : List Entry
   pub queue : List Queued
   pub now : ℕ
+  pub dirtyCount : ℕ
 
 -- ---- tables with one part another
 
 abbrev pub withLines : List Line → Tables → Tables
-withLines ls t = record { lines = ls; misses = t .misses; queue = t .queue; now = t .now }
+withLines ls t = record { lines = ls; misses = t .misses; queue = t .queue; now = t .now; dirtyCount = t .dirtyCount }
 
 abbrev pub withMisses : List Entry → Tables → Tables
-withMisses es t = record { lines = t .lines; misses = es; queue = t .queue; now = t .now }
+withMisses es t = record { lines = t .lines; misses = es; queue = t .queue; now = t .now; dirtyCount = t .dirtyCount }
 
 abbrev pub withQueue : List Queued → Tables → Tables
-withQueue q t = record { lines = t .lines; misses = t .misses; queue = q; now = t .now }
+withQueue q t = record { lines = t .lines; misses = t .misses; queue = q; now = t .now; dirtyCount = t .dirtyCount }
 
 abbrev pub withNow : ℕ → Tables → Tables
-withNow c t = record { lines = t .lines; misses = t .misses; queue = t .queue; now = c }
+withNow c t = record { lines = t .lines; misses = t .misses; queue = t .queue; now = c; dirtyCount = t .dirtyCount }
+
+abbrev pub withDirtyCount : ℕ → Tables → Tables
+withDirtyCount d t = record { lines = t .lines; misses = t .misses; queue = t .queue; now = t .now; dirtyCount = d }
 
 -- ---- sectors and lines
 
@@ -89,6 +93,10 @@ waiting l = any (λ s. isReserved (s .status)) (l .sectors)
 -- some sector is MODIFIED
 abbrev pub dirty : Line → Bool
 dirty l = any (λ s. isModified (s .status)) (l .sectors)
+
+-- "dirty counts the lines of the whole cache with a MODIFIED sector"
+abbrev pub dirtyLines : Tables → ℕ
+dirtyLines t = count dirty (t .lines)
 
 -- has the tag, and is not wholly invalid
 abbrev pub holds : ℕ → Line → Bool
@@ -125,7 +133,7 @@ abbrev pub fresh : Line
 fresh = emptied 0
 
 abbrev pub start : Settings → Tables
-start S = record { lines = replicate (linesOf S) fresh; misses = []; queue = []; now = 0 }
+start S = record { lines = replicate (linesOf S) fresh; misses = []; queue = []; now = 0; dirtyCount = 0 }
 
 -- ---- what a call comes to, on tables of any kind: a refusal, or its events and the tables that it leaves
 

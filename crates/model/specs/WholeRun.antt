@@ -36,4 +36,5 @@ left = record {
   misses = [];
   queue = [];
   now = 0;
+  dirtyCount = 0;
 }

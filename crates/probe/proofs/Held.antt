@@ -5,11 +5,10 @@ use mathlib.Core.Path.{_≡_, sym, ap, subst, _∙_}
 use mathlib.Core.List.{List}
 use lib.ListN.{getD, drop}
 use lib.Seq.{getD-take, getD-drop}
-use Rattle.model.specs.Words.{count}
 use Rattle.model.specs.Address.{addressOf, setIndex, lineNumber}
-use Rattle.model.specs.Tables.{Line, Tables, dirty, fresh}
-use Rattle.model.specs.Lent.{Lent, tablesOf}
-use Rattle.model.specs.Probe.{waysOf, dirtyLines, probe, ruleOf, byKey, age, metIn}
+use Rattle.model.specs.Tables.{Line, Tables, fresh}
+use Rattle.model.specs.Lent.{Lent, tablesOf, dirtyCountAt}
+use Rattle.model.specs.Probe.{waysOf, probe, ruleOf, byKey, age, metIn}
 use Rattle.model.specs.declared.Settings.{Settings}
 use Rattle.model.specs.declared.Access.{Access}
 use Rattle.probe.specs.declared.Decision.{Decision}
@@ -20,15 +19,17 @@ module _ (S : Settings) (L : Lent) {t : Tables} (e : tablesOf S L ≡ t) where
   unfolding tablesOf
   lines-held = sym (ap (λ (t : Tables). t .lines) e)
 
-  pub dirty-held : dirtyLines t ≡ count dirty (linesHeld S (L .longs) (L .words) (L .marks))
-  dirty-held = ap (count dirty) lines-held
+  pub dirty-held : t .dirtyCount ≡ dirtyCountAt S (L .words)
+  unfolding tablesOf
+  dirty-held = sym (ap (λ (t : Tables). t .dirtyCount) e)
 
   pub decided-probe : {x : Access} {r : Decision} → Decided S (L .longs) (L .words) (L .marks) x r
       → placeIs (waysOf S (t .lines) (addressOf x)) (addressOf x) r ≡ metIn S x t
   unfolding ruleOf
   decided-probe {x} {r} d =
-      subst (λ (ls : List Line). placeIs (waysOf S ls (addressOf x)) (addressOf x) r ≡ probe (byKey (age S)) S (count dirty ls) (waysOf S ls (addressOf x)) x)
+      subst (λ (ls : List Line). placeIs (waysOf S ls (addressOf x)) (addressOf x) r ≡ probe (byKey (age S)) S (dirtyCountAt S (L .words)) (waysOf S ls (addressOf x)) x)
       (sym lines-held) (d .place)
+      ∙ ap (λ (k : ℕ). probe (byKey (age S)) S k (waysOf S (t .lines) (addressOf x)) x) (sym dirty-held)
 
 -- a way of a set, among all lines
 pub way-line : (S : Settings) (ls : List Line) (a w : ℕ) → w < S .ways → getD (waysOf S ls a) w fresh ≡ getD ls (lineNumber S a w) fresh

@@ -7,8 +7,8 @@ use mathlib.Core.List.{List, [], _∷_, map}
 use native.Mathlib.Nat.{add-zero}
 use native.Mathlib.Omega.{arith}
 use lib.ListN.{length, getD, take, drop}
-use Rattle.model.specs.Words.{all, any, count, table, some, countBelow}
-use Rattle.model.specs.Tables.{Line, isInvalid, isReserved, isModified, unused, waiting, dirty, holds, fresh}
+use Rattle.model.specs.Words.{all, any, table, some}
+use Rattle.model.specs.Tables.{Line, isInvalid, isReserved, isModified, unused, waiting, holds, fresh}
 use Rattle.model.specs.Lent.{sectorAt, sectorsAt, lineAt, linesIn}
 use Rattle.model.specs.Probe.{first, orElse, candidate, enoughDirty, age, victim, Rule, byKey, byTree, choiceBy}
 use Rattle.model.specs.Tree.{treeChoice, powerTo16, levels}
@@ -21,9 +21,10 @@ use Rattle.model.proofs.Flags.{flag}
 use Rattle.model.proofs.Tabled.{length-table}
 use Rattle.model.proofs.Ways.{flag-is}
 use Rattle.model.proofs.Trees.{choice-same, levels-are}
-use Rattle.probe.specs.Scan.{waitingAt, dirtyAt, candidateAt, foundIn, lastUnusedIn, victimIn, wayOf, treeIn}
-use Rattle.probe.proofs.Statuses.{unused-bytes, waiting-bytes, dirty-bytes, holds-bytes, candidate-bytes}
-use Rattle.probe.proofs.Ways.{getD-table, part-table, count-table, any-table, first-table, last-table, earliest-table, count-below-ext, some-ext, first-ext, last-ext, best-ext}
+use Rattle.probe.specs.Scan.{waitingAt, candidateAt, foundIn, lastUnusedIn, victimIn, wayOf, treeIn}
+use Rattle.probe.proofs.Statuses.{unused-bytes, waiting-bytes, holds-bytes, candidate-bytes}
+use Rattle.probe.proofs.Ways.{getD-table, part-table, any-table, first-table, last-table, earliest-table, some-ext, first-ext, last-ext, best-ext}
+use Rattle.model.specs.Range.{linesOf}
 
 -- ---- a wholly invalid line is a candidate
 
@@ -54,62 +55,59 @@ unused-candidate enough l =
 
 -- ---- one of the four sectors of line l
 
-pub sector-of-four : (n : ℕ) (words marks : List ℕ) (l k : ℕ) (d : Sector) → k < 4 → getD (sectorsAt n words marks l) k d ≡ sectorAt n words marks (4 * l + k)
-sector-of-four n words marks l zero d h = rw add-zero
-sector-of-four n words marks l (suc zero) d h = refl
-sector-of-four n words marks l (suc (suc zero)) d h = refl
-sector-of-four n words marks l (suc (suc (suc zero))) d h = refl
-sector-of-four n words marks l (suc (suc (suc (suc k)))) d h = absurd (omega arith)
+pub sector-of-four : (S : Settings) (words marks : List ℕ) (l k : ℕ) (d : Sector) → k < 4 → getD (sectorsAt S words marks l) k d ≡ sectorAt S words marks (4 * l + k)
+sector-of-four S words marks l zero d h = rw add-zero
+sector-of-four S words marks l (suc zero) d h = refl
+sector-of-four S words marks l (suc (suc zero)) d h = refl
+sector-of-four S words marks l (suc (suc (suc zero))) d h = refl
+sector-of-four S words marks l (suc (suc (suc (suc k)))) d h = absurd (omega arith)
 
-module _ (n : ℕ) (longs words marks : List ℕ) where
-  pub dirty-counted : count dirty (linesIn n longs words marks) ≡ countBelow n (dirtyAt marks)
-  dirty-counted = count-table dirty (lineAt n longs words marks) n ∙ count-below-ext _ _ n (dirty-bytes n longs words marks)
-
-  module _ (b m : ℕ) (h : b + m ≤ n) where
+module _ (S : Settings) (longs words marks : List ℕ) where
+  module _ (b m : ℕ) (h : b + m ≤ linesOf S) where
     abbrev line : ℕ → Line
-    line w = lineAt n longs words marks (b + w)
+    line w = lineAt S longs words marks (b + w)
 
-    ways-are : take m (drop b (linesIn n longs words marks)) ≡ table m line
-    ways-are = part-table n (lineAt n longs words marks) b m fresh h
+    ways-are : take m (drop b (linesIn S longs words marks)) ≡ table m line
+    ways-are = part-table (linesOf S) (lineAt S longs words marks) b m fresh h
 
-    pub way-is : (w : ℕ) → w < m → getD (take m (drop b (linesIn n longs words marks))) w fresh ≡ line w
+    pub way-is : (w : ℕ) → w < m → getD (take m (drop b (linesIn S longs words marks))) w fresh ≡ line w
     way-is w k = ap (λ (ls : List Line). getD ls w fresh) ways-are ∙ getD-table m line w fresh k
 
-    pub found-is : (a : ℕ) → first (holds a) (take m (drop b (linesIn n longs words marks))) ≡ foundIn longs marks b m a
+    pub found-is : (a : ℕ) → first (holds a) (take m (drop b (linesIn S longs words marks))) ≡ foundIn longs marks b m a
     found-is a =
         ap (first (holds a)) ways-are
         ∙ first-table (holds a) line m
-        ∙ first-ext _ _ m (λ w. holds-bytes n longs words marks (b + w) a)
+        ∙ first-ext _ _ m (λ w. holds-bytes S longs words marks (b + w) a)
 
-    pub waiting-is : any waiting (take m (drop b (linesIn n longs words marks))) ≡ some m (λ w. waitingAt marks (b + w))
+    pub waiting-is : any waiting (take m (drop b (linesIn S longs words marks))) ≡ some m (λ w. waitingAt marks (b + w))
     waiting-is =
         ap (any waiting) ways-are
         ∙ any-table waiting line m
-        ∙ some-ext _ _ m (λ w. waiting-bytes n longs words marks (b + w))
+        ∙ some-ext _ _ m (λ w. waiting-bytes S longs words marks (b + w))
 
     -- under every rule, of what the rule chooses among the candidates
-    victim-by : (R : Rule) (S : Settings) (d : ℕ) {v : Found} → choiceBy R (candidate (enoughDirty S d)) (table m line) ≡ v
-        → victim R S d (take m (drop b (linesIn n longs words marks))) ≡ orElse (lastUnusedIn marks b m) v
-    victim-by R S d e =
+    victim-by : (R : Rule) (d : ℕ) {v : Found} → choiceBy R (candidate (enoughDirty S d)) (table m line) ≡ v
+        → victim R S d (take m (drop b (linesIn S longs words marks))) ≡ orElse (lastUnusedIn marks b m) v
+    victim-by R d e =
         ap (victim R S d) ways-are
         ∙ ap (λ (v : Found). orElse v (choiceBy R (candidate (enoughDirty S d)) (table m line)))
         (last-table (λ l. candidate (enoughDirty S d) l && unused l) line m
-        ∙ last-ext _ _ m (λ w. unused-candidate (enoughDirty S d) (line w) ∙ unused-bytes n longs words marks (b + w)))
+        ∙ last-ext _ _ m (λ w. unused-candidate (enoughDirty S d) (line w) ∙ unused-bytes S longs words marks (b + w)))
         ∙ ap (orElse (lastUnusedIn marks b m)) e
 
-    pub victim-is : (S : Settings) (d : ℕ) → victim (byKey (age S)) S d (take m (drop b (linesIn n longs words marks))) ≡ victimIn words marks b m (enoughDirty S d)
-    victim-is S d =
-        victim-by (byKey (age S)) S d
+    pub victim-is : (d : ℕ) → victim (byKey (age S)) S d (take m (drop b (linesIn S longs words marks))) ≡ victimIn words marks b m (enoughDirty S d)
+    victim-is d =
+        victim-by (byKey (age S)) d
         (earliest-table (candidate (enoughDirty S d)) line (age S) m
-        ∙ ap wayOf (best-ext _ _ _ m (λ w. candidate-bytes n longs words marks (b + w) (enoughDirty S d))))
+        ∙ ap wayOf (best-ext _ _ _ m (λ w. candidate-bytes S longs words marks (b + w) (enoughDirty S d))))
 
-    pub victim-by-tree : (t : ℕ) (S : Settings) (d : ℕ) → powerTo16 m ≡ true
-        → victim (byTree t) S d (take m (drop b (linesIn n longs words marks))) ≡ orElse (lastUnusedIn marks b m) (treeIn marks b m (enoughDirty S d) t)
-    victim-by-tree t S d power =
+    pub victim-by-tree : (t : ℕ) (d : ℕ) → powerTo16 m ≡ true
+        → victim (byTree t) S d (take m (drop b (linesIn S longs words marks))) ≡ orElse (lastUnusedIn marks b m) (treeIn marks b m (enoughDirty S d) t)
+    victim-by-tree t d power =
         let able : Line → Bool = candidate (enoughDirty S d) in
         let long : length (table m line) ≡ m = length-table m line in
-        victim-by (byTree t) S d
+        victim-by (byTree t) d
         (ap (λ (k : ℕ). treeChoice (λ w. getD (map able (table m line)) w false) t (levels k)) long
         ∙ choice-same (λ w. getD (map able (table m line)) w false) (λ w. candidateAt marks (enoughDirty S d) (b + w)) t (levels m)
         (λ w l. let l′ : w < m = omega (arith, levels-are m power .0) in
-        flag-is able (table m line) w (omega arith) ∙ ap able (getD-table m line w fresh l′) ∙ candidate-bytes n longs words marks (b + w) (enoughDirty S d)))
+        flag-is able (table m line) w (omega arith) ∙ ap able (getD-table m line w fresh l′) ∙ candidate-bytes S longs words marks (b + w) (enoughDirty S d)))

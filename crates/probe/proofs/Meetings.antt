@@ -6,11 +6,11 @@ use mathlib.Core.List.{List, [], _∷_}
 use native.Mathlib.Nat.{add-zero, mod-lt, mul-le-mul}
 use native.Mathlib.Omega.{arith}
 use lib.ListN.{getD, replicate}
-use Rattle.model.specs.Words.{pick, count, some}
+use Rattle.model.specs.Words.{pick, some}
 use Rattle.model.specs.Range.{linesOf}
 use Rattle.model.specs.Address.{addressOf, blockOf, sectorIndex, setIndex}
-use Rattle.model.specs.Tables.{Line, writing, dirty, empty, fresh, emptied}
-use Rattle.model.specs.Lent.{tagAt}
+use Rattle.model.specs.Tables.{Line, writing, empty, fresh, emptied}
+use Rattle.model.specs.Lent.{tagAt, dirtyCountAt}
 use Rattle.model.specs.Probe.{no, at, answerOf, waysOf, enoughDirty, victim, writeBack, takeOver, meet, probe, byKey, age}
 use Rattle.model.specs.Inner.{Fit}
 use Rattle.model.specs.declared.Settings.{Settings}
@@ -48,19 +48,19 @@ module _ (S : Settings) (longs words marks : List ℕ) (x : Access) (way : 1 ≤
   ways = waysOf S (linesHeld S longs words marks) (addressOf x)
 
   abbrev dirtyCount : ℕ
-  dirtyCount = count dirty (linesHeld S longs words marks)
+  dirtyCount = dirtyCountAt S words
 
   met-place : (w : ℕ) → w < S .ways → foundIn longs marks base (S .ways) (blockOf (addressOf x)) ≡ At w
-      → placeIs ways (addressOf x) (metIs (linesOf S) words marks base w x) ≡ probe (byKey (age S)) S dirtyCount ways x
+      → placeIs ways (addressOf x) (metIs S words marks base w x) ≡ probe (byKey (age S)) S dirtyCount ways x
   unfolding probe
   met-place w below e =
       ap (λ (s : Sector). at record { way = w; line = getD ways w fresh; answer = answerOf x s; backs = [] })
-      (sym (ap (λ (l : Line). getD (l .sectors) (sectorIndex (addressOf x)) empty) (way-is (linesOf S) longs words marks base (S .ways) room w below)
-      ∙ sector-of-four (linesOf S) words marks (base + w) (sectorIndex (addressOf x)) empty (sector-below (addressOf x))))
-      ∙ ap (meet (byKey (age S)) S dirtyCount ways x) (sym (found-is (linesOf S) longs words marks base (S .ways) room (blockOf (addressOf x)) ∙ e))
+      (sym (ap (λ (l : Line). getD (l .sectors) (sectorIndex (addressOf x)) empty) (way-is S longs words marks base (S .ways) room w below)
+      ∙ sector-of-four S words marks (base + w) (sectorIndex (addressOf x)) empty (sector-below (addressOf x))))
+      ∙ ap (meet (byKey (age S)) S dirtyCount ways x) (sym (found-is S longs words marks base (S .ways) room (blockOf (addressOf x)) ∙ e))
 
   pub own-met : (w : ℕ) → foundIn longs marks base (S .ways) (blockOf (addressOf x)) ≡ At w
-      → Decided S longs words marks x (metIs (linesOf S) words marks base w x)
+      → Decided S longs words marks x (metIs S words marks base w x)
   own-met w e =
       let below : w < S .ways = at-under (S .ways) _ (first-under _ (S .ways)) refl e in
       record {
@@ -73,22 +73,22 @@ module _ (S : Settings) (longs words marks : List ℕ) (x : Access) (way : 1 ≤
       }
 
   -- the write-back of a victim
-  taken-backs : (w : ℕ) → w < S .ways → backsOf (takenIs (linesOf S) longs words base w (dirtyAt marks (base + w))) ≡ writeBack (getD ways w fresh)
+  taken-backs : (w : ℕ) → w < S .ways → backsOf (takenIs S longs words base w (dirtyAt marks (base + w))) ≡ writeBack (getD ways w fresh)
   taken-backs w below =
       go (dirtyAt marks (base + w))
-      ∙ ap (λ (b : Bool). pick b (writing (tagAt longs (base + w)) (masksAt (linesOf S) words (base + w)) ∷ []) []) (sym (dirty-bytes (linesOf S) longs words marks (base + w)))
-      ∙ ap writeBack (sym (way-is (linesOf S) longs words marks base (S .ways) room w below))
+      ∙ ap (λ (b : Bool). pick b (writing (tagAt longs (base + w)) (masksAt S words (base + w)) ∷ []) []) (sym (dirty-bytes S longs words marks (base + w)))
+      ∙ ap writeBack (sym (way-is S longs words marks base (S .ways) room w below))
     where
-      go : (b : Bool) → backsOf (takenIs (linesOf S) longs words base w b) ≡ pick b (writing (tagAt longs (base + w)) (masksAt (linesOf S) words (base + w)) ∷ []) []
+      go : (b : Bool) → backsOf (takenIs S longs words base w b) ≡ pick b (writing (tagAt longs (base + w)) (masksAt S words (base + w)) ∷ []) []
       go true = refl
       go false = refl
 
   taken-place : (v : Found) → Under (S .ways) v
-      → placeIs ways (addressOf x) (missIs (linesOf S) longs words marks base (S .ways) v) ≡ takeOver (addressOf x) ways v
+      → placeIs ways (addressOf x) (missIs S longs words marks base (S .ways) v) ≡ takeOver (addressOf x) ways v
   taken-place (At w) below =
       ap (λ (q : List Queued). at record { way = w; line = emptied (blockOf (addressOf x)); answer = Miss; backs = q })
       (taken-backs w below)
-  taken-place Nothing h = go (some (S .ways) (λ w. waitingAt marks (base + w))) ∙ ap (λ (b : Bool). no (pick b SetBusy SetHeld)) (sym (waiting-is (linesOf S) longs words marks base (S .ways) room))
+  taken-place Nothing h = go (some (S .ways) (λ w. waitingAt marks (base + w))) ∙ ap (λ (b : Bool). no (pick b SetBusy SetHeld)) (sym (waiting-is S longs words marks base (S .ways) room))
     where
       go : (b : Bool) → placeIs ways (addressOf x) (refusedIs base (pick b Busy Held)) ≡ no (pick b SetBusy SetHeld)
       go true = refl
@@ -96,33 +96,33 @@ module _ (S : Settings) (longs words marks : List ℕ) (x : Access) (way : 1 ≤
 
   pub own-missed : (v : Found) → foundIn longs marks base (S .ways) (blockOf (addressOf x)) ≡ Nothing
       → v ≡ victimIn words marks base (S .ways) (enoughDirty S dirtyCount)
-      → Decided S longs words marks x (missIs (linesOf S) longs words marks base (S .ways) v)
+      → Decided S longs words marks x (missIs S longs words marks base (S .ways) v)
   unfolding probe
   own-missed v e q = go v under place
     where
       under : Under (S .ways) v
       under = rw q (victim-under _ _ _ (S .ways))
 
-      place : placeIs ways (addressOf x) (missIs (linesOf S) longs words marks base (S .ways) v) ≡ probe (byKey (age S)) S dirtyCount ways x
+      place : placeIs ways (addressOf x) (missIs S longs words marks base (S .ways) v) ≡ probe (byKey (age S)) S dirtyCount ways x
       place =
           taken-place v under
-          ∙ ap (takeOver (addressOf x) ways) (q ∙ sym (victim-is (linesOf S) longs words marks base (S .ways) room S dirtyCount))
-          ∙ ap (meet (byKey (age S)) S dirtyCount ways x) (sym (found-is (linesOf S) longs words marks base (S .ways) room (blockOf (addressOf x)) ∙ e))
+          ∙ ap (takeOver (addressOf x) ways) (q ∙ sym (victim-is S longs words marks base (S .ways) room dirtyCount))
+          ∙ ap (meet (byKey (age S)) S dirtyCount ways x) (sym (found-is S longs words marks base (S .ways) room (blockOf (addressOf x)) ∙ e))
 
       zero-unless : {A : Type 0} (b : Bool) (y z : A) → pick b y z ≡ pick b (pick b y z) z
       zero-unless true y z = refl
       zero-unless false y z = refl
 
       go : (v : Found) → Under (S .ways) v
-          → placeIs ways (addressOf x) (missIs (linesOf S) longs words marks base (S .ways) v) ≡ probe (byKey (age S)) S dirtyCount ways x
-          → Decided S longs words marks x (missIs (linesOf S) longs words marks base (S .ways) v)
+          → placeIs ways (addressOf x) (missIs S longs words marks base (S .ways) v) ≡ probe (byKey (age S)) S dirtyCount ways x
+          → Decided S longs words marks x (missIs S longs words marks base (S .ways) v)
       go (At w) below p = record {
         place = p;
         way = below;
         line = refl;
         below = omega arith;
         block = zero-unless (dirtyAt marks (base + w)) (tagAt longs (base + w)) 0;
-        masks = zero-unless (dirtyAt marks (base + w)) (masksAt (linesOf S) words (base + w)) (replicate 4 0);
+        masks = zero-unless (dirtyAt marks (base + w)) (masksAt S words (base + w)) (replicate 4 0);
       }
       go Nothing h p = record {
         place = p;
@@ -138,11 +138,11 @@ module _ (S : Settings) (longs words marks : List ℕ) (x : Access) (way : 1 ≤
 pub victim-below : (words marks : List ℕ) (base ways : ℕ) (enough : Bool) {v : Found} {w : ℕ} → v ≡ victimIn words marks base ways enough → v ≡ At w → w < ways
 victim-below words marks base ways enough e g = at-under ways (victimIn words marks base ways enough) (victim-under _ _ _ ways) e g
 
-module _ (n : ℕ) (longs words marks : List ℕ) (base ways : ℕ) {r : Decision} {v u : Found} (e : v ≡ u) where
-  pub missed-at : {w : ℕ} → v ≡ At w → r ≡ missIs n longs words marks base ways (At w) → r ≡ missIs n longs words marks base ways u
+module _ (S : Settings) (longs words marks : List ℕ) (base ways : ℕ) {r : Decision} {v u : Found} (e : v ≡ u) where
+  pub missed-at : {w : ℕ} → v ≡ At w → r ≡ missIs S longs words marks base ways (At w) → r ≡ missIs S longs words marks base ways u
   missed-at g q = rw (← e, g) q
 
-  pub missed-nothing : v ≡ Nothing → r ≡ missIs n longs words marks base ways Nothing → r ≡ missIs n longs words marks base ways u
+  pub missed-nothing : v ≡ Nothing → r ≡ missIs S longs words marks base ways Nothing → r ≡ missIs S longs words marks base ways u
   missed-nothing g q = rw (← e, g) q
 
 -- ---- the code's address, set and block are the access's
@@ -164,17 +164,17 @@ module _ (S : Settings) (longs words marks : List ℕ) (fit : Fit S longs words 
     found : f ≡ foundIn longs marks (setIndex S (addressOf x) * S .ways) (S .ways) (blockOf (addressOf x))
     found = ef ∙ ap (λ (k : ℕ). foundIn longs marks (k * S .ways) (S .ways) block) here ∙ ap (foundIn longs marks (setIndex S (addressOf x) * S .ways) (S .ways)) (eb ∙ ap blockOf ea)
 
-    pub decided-met : {w : ℕ} {r : Decision} → f ≡ At w → r ≡ metIs (linesOf S) words marks (set * S .ways) w x → Decided S longs words marks x r
+    pub decided-met : {w : ℕ} {r : Decision} → f ≡ At w → r ≡ metIs S words marks (set * S .ways) w x → Decided S longs words marks x r
     decided-met {w} g q =
-        rw (q ∙ ap (λ (k : ℕ). metIs (linesOf S) words marks (k * S .ways) w x) here)
+        rw (q ∙ ap (λ (k : ℕ). metIs S words marks (k * S .ways) w x) here)
         (own-met S longs words marks x (fit .ways) room w (sym found ∙ g))
 
-    pub decided-missed : {d : ℕ} {r : Decision} → f ≡ Nothing → d ≡ count dirty (linesHeld S longs words marks)
-        → r ≡ missIs (linesOf S) longs words marks (set * S .ways) (S .ways) (victimIn words marks (set * S .ways) (S .ways) (enoughDirty S d))
+    pub decided-missed : {d : ℕ} {r : Decision} → f ≡ Nothing → d ≡ dirtyCountAt S words
+        → r ≡ missIs S longs words marks (set * S .ways) (S .ways) (victimIn words marks (set * S .ways) (S .ways) (enoughDirty S d))
         → Decided S longs words marks x r
     decided-missed {d} {r} g ed q =
         subst (Decided S longs words marks x)
         (sym (q
-        ∙ ap (λ (k : ℕ). missIs (linesOf S) longs words marks (k * S .ways) (S .ways) (victimIn words marks (k * S .ways) (S .ways) (enoughDirty S d))) here
-        ∙ ap (λ (k : ℕ). missIs (linesOf S) longs words marks (setIndex S (addressOf x) * S .ways) (S .ways) (victimIn words marks (setIndex S (addressOf x) * S .ways) (S .ways) (enoughDirty S k))) ed))
+        ∙ ap (λ (k : ℕ). missIs S longs words marks (k * S .ways) (S .ways) (victimIn words marks (k * S .ways) (S .ways) (enoughDirty S d))) here
+        ∙ ap (λ (k : ℕ). missIs S longs words marks (setIndex S (addressOf x) * S .ways) (S .ways) (victimIn words marks (setIndex S (addressOf x) * S .ways) (S .ways) (enoughDirty S k))) ed))
         (own-missed S longs words marks x (fit .ways) room _ (sym found ∙ g) refl)

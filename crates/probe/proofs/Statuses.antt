@@ -14,6 +14,7 @@ use Rattle.model.specs.Probe.{candidate}
 use Rattle.model.specs.declared.Status.the-variants.{Invalid, Reserved, Valid, Modified}
 use Rattle.tables.specs.Raw.{unusedAt, holdsAt}
 use Rattle.probe.specs.Scan.{waitingAt, dirtyAt, candidateAt}
+use Rattle.model.specs.declared.Settings.{Settings}
 
 -- ---- one byte
 
@@ -72,18 +73,18 @@ and-swap false false = refl
 
 -- ---- line l of n
 
-module _ (n : ℕ) (longs words marks : List ℕ) (l : ℕ) where
-  pub unused-bytes : unused (lineAt n longs words marks l) ≡ unusedAt marks l
+module _ (S : Settings) (longs words marks : List ℕ) (l : ℕ) where
+  pub unused-bytes : unused (lineAt S longs words marks l) ≡ unusedAt marks l
   unused-bytes = and-four (invalid-byte (statusAt marks (4 * l))) (invalid-byte (statusAt marks (4 * l + 1))) (invalid-byte (statusAt marks (4 * l + 2))) (invalid-byte (statusAt marks (4 * l + 3)))
 
-  pub waiting-bytes : waiting (lineAt n longs words marks l) ≡ waitingAt marks l
+  pub waiting-bytes : waiting (lineAt S longs words marks l) ≡ waitingAt marks l
   waiting-bytes = or-four (reserved-byte (statusAt marks (4 * l))) (reserved-byte (statusAt marks (4 * l + 1))) (reserved-byte (statusAt marks (4 * l + 2))) (reserved-byte (statusAt marks (4 * l + 3)))
 
-  pub dirty-bytes : dirty (lineAt n longs words marks l) ≡ dirtyAt marks l
+  pub dirty-bytes : dirty (lineAt S longs words marks l) ≡ dirtyAt marks l
   dirty-bytes = or-four (modified-byte (statusAt marks (4 * l))) (modified-byte (statusAt marks (4 * l + 1))) (modified-byte (statusAt marks (4 * l + 2))) (modified-byte (statusAt marks (4 * l + 3)))
 
-  pub holds-bytes : (b : ℕ) → holds b (lineAt n longs words marks l) ≡ holdsAt longs marks b l
-  holds-bytes b = and-swap (not (unused (lineAt n longs words marks l))) (eqb (tagAt longs l) b) ∙ ap (λ (u : Bool). eqb (tagAt longs l) b && not u) unused-bytes
+  pub holds-bytes : (b : ℕ) → holds b (lineAt S longs words marks l) ≡ holdsAt longs marks b l
+  holds-bytes b = and-swap (not (unused (lineAt S longs words marks l))) (eqb (tagAt longs l) b) ∙ ap (λ (u : Bool). eqb (tagAt longs l) b && not u) unused-bytes
 
-  pub candidate-bytes : (enough : Bool) → candidate enough (lineAt n longs words marks l) ≡ candidateAt marks enough l
-  candidate-bytes enough = ap (λ (u : Bool). not u && (not (dirty (lineAt n longs words marks l)) || enough)) waiting-bytes ∙ ap (λ (u : Bool). not (waitingAt marks l) && (not u || enough)) dirty-bytes
+  pub candidate-bytes : (enough : Bool) → candidate enough (lineAt S longs words marks l) ≡ candidateAt marks enough l
+  candidate-bytes enough = ap (λ (u : Bool). not u && (not (dirty (lineAt S longs words marks l)) || enough)) waiting-bytes ∙ ap (λ (u : Bool). not (waitingAt marks l) && (not u || enough)) dirty-bytes

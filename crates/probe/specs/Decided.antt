@@ -3,11 +3,11 @@ use mathlib.Core.Path.{_≡_}
 use Prim.Native.Nat.{ℕ, _<_}
 use mathlib.Core.List.{List, [], _∷_}
 use lib.ListN.{getD, replicate}
-use Rattle.model.specs.Words.{pick, count}
+use Rattle.model.specs.Words.{pick}
 use Rattle.model.specs.Range.{linesOf}
 use Rattle.model.specs.Address.{addressOf, blockOf, lineNumber}
-use Rattle.model.specs.Tables.{Line, writing, dirty, fresh, emptied}
-use Rattle.model.specs.Lent.{linesIn}
+use Rattle.model.specs.Tables.{Line, writing, fresh, emptied}
+use Rattle.model.specs.Lent.{linesIn, dirtyCountAt}
 use Rattle.model.specs.Probe.{Place, no, at, waysOf, probe, byKey, age}
 use Rattle.model.specs.declared.Settings.{Settings}
 use Rattle.model.specs.declared.Queued.{Queued}
@@ -43,7 +43,7 @@ linesHeld S longs words marks = linesIn S longs words marks
 
 pub record Decided (S : Settings) (longs words marks : List ℕ) (x : Access) (r : Decision) : Type 0 where
   pub place : placeIs (waysOf S (linesHeld S longs words marks) (addressOf x)) (addressOf x) r
-      ≡ probe (byKey (age S)) S (count dirty (linesHeld S longs words marks)) (waysOf S (linesHeld S longs words marks) (addressOf x)) x
+      ≡ probe (byKey (age S)) S (dirtyCountAt S words) (waysOf S (linesHeld S longs words marks) (addressOf x)) x
   -- of a busy or held set its way 0
   pub way : r .way < S .ways
   pub line : r .line ≡ lineNumber S (addressOf x) (r .way)

@@ -4,9 +4,8 @@ use Prim.Native.Nat.{ℕ, zero, suc, _+_, _*_}
 use mathlib.Core.Bool.{Bool, not, _&&_, _||_}
 use mathlib.Core.List.{List}
 use lib.Dec.{eqb, ltb}
-use Rattle.model.specs.Words.{pick, countBelow}
-use Rattle.model.specs.Range.{linesOf}
-use Rattle.model.specs.Lent.{cycleAt, statusAt}
+use Rattle.model.specs.Words.{pick}
+use Rattle.model.specs.Lent.{cycleAt, statusAt, dirtyCountAt}
 use Rattle.model.specs.Probe.{orElse, enoughDirty}
 use Rattle.model.specs.Tree.{treeChoice, levels}
 use Rattle.model.specs.declared.Settings.{Settings}
@@ -56,9 +55,9 @@ dirtyAt marks l =
 abbrev pub candidateAt : List ℕ → Bool → ℕ → Bool
 candidateAt marks enough l = not (waitingAt marks l) && (not (dirtyAt marks l) || enough)
 
--- so many lines of the cache are dirty that a dirty line may go
+-- so many lines of the cache are dirty, by the stored count, that a dirty line may go
 abbrev pub enoughIn : Settings → List ℕ → Bool
-enoughIn S marks = enoughDirty S (countBelow (linesOf S) (dirtyAt marks))
+enoughIn S words = enoughDirty S (dirtyCountAt S words)
 
 -- ---- the `ways` lines from line `base`
 

@@ -7,6 +7,7 @@ use Rattle.model.specs.Words.{pick, some}
 use Rattle.model.specs.Address.{addressOf, sectorIndex}
 use Rattle.model.specs.Lent.{tagAt, maskAt, sectorAt}
 use Rattle.model.specs.Probe.{answerOf}
+use Rattle.model.specs.declared.Settings.{Settings}
 use Rattle.model.specs.declared.Access.{Access}
 use Rattle.model.specs.declared.Answer.the-variants.{Miss}
 use Rattle.model.specs.declared.Found.{Found}
@@ -17,31 +18,31 @@ use Rattle.probe.specs.declared.Decision.{Decision}
 use Rattle.probe.specs.Scan.{waitingAt, dirtyAt}
 
 -- the four masks of line l
-abbrev pub masksAt : ℕ → List ℕ → ℕ → List ℕ
-masksAt n words l = maskAt n words (4 * l) ∷ maskAt n words (4 * l + 1) ∷ maskAt n words (4 * l + 2) ∷ maskAt n words (4 * l + 3) ∷ []
+abbrev pub masksAt : Settings → List ℕ → ℕ → List ℕ
+masksAt S words l = maskAt S words (4 * l) ∷ maskAt S words (4 * l + 1) ∷ maskAt S words (4 * l + 2) ∷ maskAt S words (4 * l + 3) ∷ []
 
 -- way w of the set whose lines begin at `base` has the block
-abbrev pub metIs : ℕ → List ℕ → List ℕ → ℕ → ℕ → Access → Decision
-metIs n words marks base w x = record {
+abbrev pub metIs : Settings → List ℕ → List ℕ → ℕ → ℕ → Access → Decision
+metIs S words marks base w x = record {
   meeting = Met;
   way = w;
   line = base + w;
-  answer = answerOf x (sectorAt n words marks (4 * (base + w) + sectorIndex (addressOf x)));
+  answer = answerOf x (sectorAt S words marks (4 * (base + w) + sectorIndex (addressOf x)));
   backs = false;
   block = 0;
   masks = replicate 4 0;
 }
 
 -- it is taken over; `backs`: it is dirty
-abbrev pub takenIs : ℕ → List ℕ → List ℕ → ℕ → ℕ → Bool → Decision
-takenIs n longs words base w backs = record {
+abbrev pub takenIs : Settings → List ℕ → List ℕ → ℕ → ℕ → Bool → Decision
+takenIs S longs words base w backs = record {
   meeting = Taken;
   way = w;
   line = base + w;
   answer = Miss;
   backs = backs;
   block = pick backs (tagAt longs (base + w)) 0;
-  masks = pick backs (masksAt n words (base + w)) (replicate 4 0);
+  masks = pick backs (masksAt S words (base + w)) (replicate 4 0);
 }
 
 abbrev pub refusedIs : ℕ → Meeting → Decision
@@ -51,6 +52,6 @@ abbrev pub refusalIs : List ℕ → ℕ → ℕ → Decision
 refusalIs marks base ways = refusedIs base (pick (some ways (λ w. waitingAt marks (base + w))) Busy Held)
 
 -- no way has the block; the victim, if there is one
-abbrev pub missIs : ℕ → List ℕ → List ℕ → List ℕ → ℕ → ℕ → Found → Decision
-missIs n longs words marks base ways (At w) = takenIs n longs words base w (dirtyAt marks (base + w))
-missIs n longs words marks base ways Nothing = refusalIs marks base ways
+abbrev pub missIs : Settings → List ℕ → List ℕ → List ℕ → ℕ → ℕ → Found → Decision
+missIs S longs words marks base ways (At w) = takenIs S longs words base w (dirtyAt marks (base + w))
+missIs S longs words marks base ways Nothing = refusalIs marks base ways

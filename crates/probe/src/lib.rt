@@ -6,18 +6,17 @@ use model::BlockAddress;
 use model::Found;
 use model::Sector;
 use model::Settings;
+use layout::Layout;
 ghost use mathlib.Core.Path.{_≡_};
-ghost use mathlib.Core.List.{List};
 ghost use Prim.Native.Nat.{ℕ, _+_, _*_, _≤_, _<_};
 ghost use lib.ListN.{length};
-ghost use lib.Dec.{leb};
-ghost use Rattle.model.specs.Words.{count, some, countBelow};
-ghost use Rattle.model.specs.Tables.{dirty};
-ghost use Rattle.model.specs.Lent.{sectorAt, sectorsAt, linesIn};
+ghost use Rattle.model.specs.Words.{some};
+ghost use Rattle.model.specs.Lent.{sectorAt, sectorsAt};
 ghost use mathlib.Core.Bool.{true};
 ghost use Rattle.model.specs.Range.{linesOf};
 ghost use Rattle.model.specs.Tree.{isIn, powerTo16};
 ghost use Rattle.model.specs.Inner.{Fit};
+ghost use Rattle.layout.specs.Layout.{Placed};
 ghost use Rattle.probe.specs.Scan.{waitingAt, dirtyAt, candidateAt, foundIn, lastUnusedIn, nearerOf, earliestIn, wayOf, victimIn, enoughIn, treeIn};
 ghost use Rattle.probe.specs.Values.{masksAt, metIs, takenIs, refusedIs, refusalIs, missIs};
 ghost use Rattle.probe.specs.Decided.{Decided};
@@ -52,11 +51,12 @@ pub struct Decision {
     pub masks: [u32; 4],
 }
 
-// Sector i of all lines, n of them.
-fn sector_at(words: &[u32], marks: &[u8], n: usize, i: usize) -> Sector
-    requires { ⌜ (i < 4 * n) × (n ≤ 1024) × (1 + 5 * n ≤ length (now words)) × (8 * n ≤ length (now marks)) ⌝ }
-    ensures { λ r. ⌜ r ≡ sectorAt n (now (words .entry)) (now (marks .entry)) i ⌝ }
+// Sector i of all lines.
+fn sector_at(s: Settings, words: &[u32], marks: &[u8], i: usize) -> Sector
+    requires { ⌜ (i < 4 * linesOf s) × (linesOf s ≤ 1024) × (1 + 5 * linesOf s ≤ length (now words)) × (8 * linesOf s ≤ length (now marks)) ⌝ }
+    ensures { λ r. ⌜ r ≡ sectorAt s (now (words .entry)) (now (marks .entry)) i ⌝ }
 {
+    let n = s.sets * s.ways;
     let status = model::status_of(marks[i]);
     let mask = words[1 + n + i];
     let readable = marks[4 * n + i] == 1;
@@ -68,15 +68,15 @@ fn sector_at(words: &[u32], marks: &[u8], n: usize, i: usize) -> Sector
 }
 
 // The four sectors of line l.
-pub fn sectors_at(words: &[u32], marks: &[u8], n: usize, l: usize) -> [Sector; 4]
-    requires { ⌜ (l < n) × (n ≤ 1024) × (1 + 5 * n ≤ length (now words)) × (8 * n ≤ length (now marks)) ⌝ }
-    ensures { λ r. ⌜ r ≡ sectorsAt n (now (words .entry)) (now (marks .entry)) l ⌝ }
+pub fn sectors_at(s: Settings, words: &[u32], marks: &[u8], l: usize) -> [Sector; 4]
+    requires { ⌜ (l < linesOf s) × (linesOf s ≤ 1024) × (1 + 5 * linesOf s ≤ length (now words)) × (8 * linesOf s ≤ length (now marks)) ⌝ }
+    ensures { λ r. ⌜ r ≡ sectorsAt s (now (words .entry)) (now (marks .entry)) l ⌝ }
 {
     let i = 4 * l;
-    let a = sector_at(words, marks, n, i);
-    let b = sector_at(words, marks, n, i + 1);
-    let c = sector_at(words, marks, n, i + 2);
-    let d = sector_at(words, marks, n, i + 3);
+    let a = sector_at(s, words, marks, i);
+    let b = sector_at(s, words, marks, i + 1);
+    let c = sector_at(s, words, marks, i + 2);
+    let d = sector_at(s, words, marks, i + 3);
     [a, b, c, d]
 }
 
@@ -93,7 +93,7 @@ fn is_waiting(marks: &[u8], l: usize) -> bool
 }
 
 // Whether a sector of line l is MODIFIED.
-fn is_dirty(marks: &[u8], l: usize) -> bool
+pub fn is_dirty(marks: &[u8], l: usize) -> bool
     requires { ⌜ 4 * l + 4 ≤ length (now marks) ⌝ }
     ensures { λ r. ⌜ r ≡ dirtyAt (now (marks .entry)) l ⌝ }
 {
@@ -107,22 +107,6 @@ fn is_candidate(marks: &[u8], l: usize, enough: bool) -> bool
     ensures { λ r. ⌜ r ≡ candidateAt (now (marks .entry)) enough l ⌝ }
 {
     !is_waiting(marks, l) & (!is_dirty(marks, l) | enough)
-}
-
-// How many of the n lines of the cache are dirty.
-pub fn count_dirty(marks: &[u8], n: usize) -> usize
-    requires { ⌜ 4 * n ≤ length (now marks) ⌝ }
-    ensures { λ r. ⌜ (r ≤ n) × ((longs words : List ℕ) → r ≡ count dirty (linesIn n longs words (now (marks .entry)))) ⌝ }
-{
-    let mut d: usize = 0;
-    let mut l = 0;
-    while l < n {
-        if is_dirty(marks, l) {
-            d += 1;
-        }
-        l += 1;
-    }
-    d
 }
 
 // The first way of the set that has the block; the set's lines begin at `base`.
@@ -213,46 +197,6 @@ fn way_of(best: Best) -> Found
     }
 }
 
-// "100 × dirty ≥ P × lines", counted no further than it takes to know.
-fn enough_dirty(marks: &[u8], n: usize, percent: usize) -> bool
-    requires { ⌜ (percent ≤ 100) × (n ≤ 1024) × (4 * n ≤ length (now marks)) ⌝ }
-    ensures { λ r. ⌜ r ≡ leb (percent * n) (100 * countBelow n (dirtyAt (now (marks .entry)))) ⌝ }
-{
-    let wanted = percent * n;
-    let mut d: usize = 0;
-    let mut l = 0;
-    while l < n {
-        if wanted <= 100 * d {
-            return true;
-        }
-        if is_dirty(marks, l) {
-            d += 1;
-        }
-        l += 1;
-    }
-    wanted <= 100 * d
-}
-
-// The earliest candidate. A clean one stays so whether or not a dirty line may go: the dirty lines are counted only for a dirty one.
-fn chosen(s: Settings, words: &[u32], marks: &[u8], base: usize) -> Best
-    requires { ⌜ (base + s .ways ≤ linesOf s) × (linesOf s ≤ 1024) × (s .percent ≤ 100) × (1 + linesOf s ≤ length (now words)) × (4 * linesOf s ≤ length (now marks)) ⌝ }
-    ensures { λ r. ⌜ r ≡ earliestIn (now (words .entry)) (now (marks .entry)) base (s .ways) (enoughIn s (now (marks .entry))) ⌝ }
-{
-    let ways = s.ways;
-    let n = s.sets * ways;
-    let best = earliest(words, marks, base, ways, true);
-    let Best::Way { way: w, cycle: _ } = best else {
-        return best;
-    };
-    if !is_dirty(marks, base + w) {
-        return best;
-    }
-    if enough_dirty(marks, n, s.percent) {
-        return best;
-    }
-    earliest(words, marks, base, ways, false)
-}
-
 // The candidates of the set, a mask with bit w for way w.
 fn candidates(marks: &[u8], base: usize, ways: usize, enough: bool) -> u32
     requires { ⌜ (ways ≤ 16) × (4 * (base + ways) ≤ length (now marks)) ⌝ }
@@ -269,44 +213,48 @@ fn candidates(marks: &[u8], base: usize, ways: usize, enough: bool) -> u32
     mask
 }
 
-// The candidate that the set's tree chooses. A clean one stays so whether or not a dirty line may go: the dirty lines are counted only for a dirty one.
-pub fn chosen_by_tree(s: Settings, marks: &[u8], base: usize, tree: u32) -> Found
-    requires { ⌜ (base + s .ways ≤ linesOf s) × (linesOf s ≤ 1024) × (s .percent ≤ 100) × (powerTo16 (s .ways) ≡ true) × (4 * linesOf s ≤ length (now marks)) ⌝ }
-    ensures { λ r. ⌜ r ≡ treeIn (now (marks .entry)) base (s .ways) (enoughIn s (now (marks .entry))) tree ⌝ }
+// The candidate that the set's tree chooses.
+pub fn chosen_by_tree(
+    marks: &[u8],
+    base: usize,
+    ways: usize,
+    enough: bool,
+    tree: u32,
+) -> Found
+    requires { ⌜ (powerTo16 ways ≡ true) × (4 * (base + ways) ≤ length (now marks)) ⌝ }
+    ensures { λ r. ⌜ r ≡ treeIn (now (marks .entry)) base ways enough tree ⌝ }
 {
-    let ways = s.ways;
-    let lines = s.sets * ways;
-    let best = trees::choose(tree, candidates(marks, base, ways, true), ways);
-    let Found::At(w) = best else {
-        return best;
-    };
-    if !is_dirty(marks, base + w) {
-        return best;
-    }
-    if enough_dirty(marks, lines, s.percent) {
-        return best;
-    }
-    trees::choose(tree, candidates(marks, base, ways, false), ways)
+    trees::choose(tree, candidates(marks, base, ways, enough), ways)
+}
+
+// "100 × dirty ≥ P × lines", by the count that the tables keep.
+fn enough_dirty(s: Settings, at: Layout, words: &[u32]) -> bool
+    requires { ⌜ Placed s at × (s .percent ≤ 100) × (linesOf s ≤ 1024) × (at .dirty < length (now words)) ⌝ }
+    ensures { λ r. ⌜ r ≡ enoughIn s (now (words .entry)) ⌝ }
+{
+    let place = at.dirty;
+    let dirty = words[place] as usize;
+    s.percent * (s.sets * s.ways) <= 100 * dirty
 }
 
 // The way to take over: the last wholly invalid one, else the candidate with the earliest cycle.
-fn victim(s: Settings, words: &[u32], marks: &[u8], base: usize) -> Found
-    requires { ⌜ (base + s .ways ≤ linesOf s) × (linesOf s ≤ 1024) × (s .percent ≤ 100) × (1 + linesOf s ≤ length (now words)) × (4 * linesOf s ≤ length (now marks)) ⌝ }
-    ensures { λ r. ⌜ r ≡ victimIn (now (words .entry)) (now (marks .entry)) base (s .ways) (enoughIn s (now (marks .entry))) ⌝ }
+fn victim(words: &[u32], marks: &[u8], base: usize, ways: usize, enough: bool) -> Found
+    requires { ⌜ (1 + (base + ways) ≤ length (now words)) × (4 * (base + ways) ≤ length (now marks)) ⌝ }
+    ensures { λ r. ⌜ r ≡ victimIn (now (words .entry)) (now (marks .entry)) base ways enough ⌝ }
 {
-    let free = last_unused(marks, base, s.ways);
+    let free = last_unused(marks, base, ways);
     match free {
         Found::At(w) => Found::At(w),
-        Found::Nothing => way_of(chosen(s, words, marks, base)),
+        Found::Nothing => way_of(earliest(words, marks, base, ways, enough)),
     }
 }
 
 // The four masks of line l.
-fn masks_at(words: &[u32], n: usize, l: usize) -> [u32; 4]
-    requires { ⌜ (l < n) × (n ≤ 1024) × (1 + 5 * n ≤ length (now words)) ⌝ }
-    ensures { λ r. ⌜ r ≡ masksAt n (now (words .entry)) l ⌝ }
+fn masks_at(s: Settings, words: &[u32], l: usize) -> [u32; 4]
+    requires { ⌜ (l < linesOf s) × (linesOf s ≤ 1024) × (1 + 5 * linesOf s ≤ length (now words)) ⌝ }
+    ensures { λ r. ⌜ r ≡ masksAt s (now (words .entry)) l ⌝ }
 {
-    let first = 1 + n;
+    let first = 1 + s.sets * s.ways;
     let i = 4 * l;
     [
         words[first + i],
@@ -317,13 +265,13 @@ fn masks_at(words: &[u32], n: usize, l: usize) -> [u32; 4]
 }
 
 // Way w has the block: the answer by its sector.
-fn met(words: &[u32], marks: &[u8], n: usize, base: usize, w: usize, x: Access) -> Decision
-    requires { ⌜ (base + w < n) × (n ≤ 1024) × (1 + 5 * n ≤ length (now words)) × (8 * n ≤ length (now marks)) ⌝ }
-    ensures { λ r. ⌜ r ≡ metIs n (now (words .entry)) (now (marks .entry)) base w x ⌝ }
+fn met(s: Settings, words: &[u32], marks: &[u8], base: usize, w: usize, x: Access) -> Decision
+    requires { ⌜ (base + w < linesOf s) × (linesOf s ≤ 1024) × (1 + 5 * linesOf s ≤ length (now words)) × (8 * linesOf s ≤ length (now marks)) ⌝ }
+    ensures { λ r. ⌜ r ≡ metIs s (now (words .entry)) (now (marks .entry)) base w x ⌝ }
 {
     let line = base + w;
     let k = model::sector_index(model::address_of(x));
-    let answer = model::answer_of(x, sector_at(words, marks, n, 4 * line + k));
+    let answer = model::answer_of(x, sector_at(s, words, marks, 4 * line + k));
     let masks = [0u32; 4];
     Decision {
         meeting: Meeting::Met,
@@ -337,13 +285,13 @@ fn met(words: &[u32], marks: &[u8], n: usize, base: usize, w: usize, x: Access) 
 }
 
 // Way w is taken over; a dirty line is written back.
-fn taken(longs: &[u64], words: &[u32], marks: &[u8], n: usize, base: usize, w: usize) -> Decision
-    requires { ⌜ (base + w < n) × (n ≤ 1024) × (n ≤ length (now longs)) × (1 + 5 * n ≤ length (now words)) × (8 * n ≤ length (now marks)) ⌝ }
-    ensures { λ r. ⌜ r ≡ takenIs n (now (longs .entry)) (now (words .entry)) base w (dirtyAt (now (marks .entry)) (base + w)) ⌝ }
+fn taken(s: Settings, longs: &[u64], words: &[u32], marks: &[u8], base: usize, w: usize) -> Decision
+    requires { ⌜ (base + w < linesOf s) × (linesOf s ≤ 1024) × (linesOf s ≤ length (now longs)) × (1 + 5 * linesOf s ≤ length (now words)) × (8 * linesOf s ≤ length (now marks)) ⌝ }
+    ensures { λ r. ⌜ r ≡ takenIs s (now (longs .entry)) (now (words .entry)) base w (dirtyAt (now (marks .entry)) (base + w)) ⌝ }
 {
     let line = base + w;
     if is_dirty(marks, line) {
-        let masks = masks_at(words, n, line);
+        let masks = masks_at(s, words, line);
         Decision {
             meeting: Meeting::Taken,
             way: w,
@@ -396,32 +344,45 @@ fn refusal(marks: &[u8], base: usize, ways: usize) -> Decision
 }
 
 // No way has the block.
-fn take_over(s: Settings, longs: &[u64], words: &[u32], marks: &[u8], base: usize) -> Decision
-    requires { ⌜ (base + s .ways ≤ linesOf s) × Fit s (now longs) (now words) (now marks) ⌝ }
-    ensures { λ r. ⌜ r ≡ missIs (linesOf s) (now (longs .entry)) (now (words .entry)) (now (marks .entry)) base (s .ways)
-        (victimIn (now (words .entry)) (now (marks .entry)) base (s .ways) (enoughIn s (now (marks .entry)))) ⌝ }
+fn take_over(
+    s: Settings,
+    at: Layout,
+    longs: &[u64],
+    words: &[u32],
+    marks: &[u8],
+    base: usize,
+) -> Decision
+    requires { ⌜ (base + s .ways ≤ linesOf s) × Placed s at × Fit s (now longs) (now words) (now marks) ⌝ }
+    ensures { λ r. ⌜ r ≡ missIs s (now (longs .entry)) (now (words .entry)) (now (marks .entry)) base (s .ways)
+        (victimIn (now (words .entry)) (now (marks .entry)) base (s .ways) (enoughIn s (now (words .entry)))) ⌝ }
 {
     let ways = s.ways;
-    let n = s.sets * ways;
-    let v = victim(s, words, marks, base);
+    let enough = enough_dirty(s, at, words);
+    let v = victim(words, marks, base, ways, enough);
     match v {
-        Found::At(w) => taken(longs, words, marks, n, base, w),
+        Found::At(w) => taken(s, longs, words, marks, base, w),
         Found::Nothing => refusal(marks, base, ways),
     }
 }
 
 // What the access meets.
-pub fn decide(s: Settings, longs: &[u64], words: &[u32], marks: &[u8], x: Access) -> Decision
-    requires { ⌜ Fit s (now longs) (now words) (now marks) ⌝ }
+pub fn decide(
+    s: Settings,
+    at: Layout,
+    longs: &[u64],
+    words: &[u32],
+    marks: &[u8],
+    x: Access,
+) -> Decision
+    requires { ⌜ Placed s at × Fit s (now longs) (now words) (now marks) ⌝ }
     ensures { λ r. ⌜ Decided s (now (longs .entry)) (now (words .entry)) (now (marks .entry)) x r ⌝ }
 {
     let ways = s.ways;
-    let n = s.sets * ways;
     let address = model::address_of(x);
     let base = model::set_index(address, s.sets) * ways;
     let found = find(longs, marks, base, ways, model::block_of(address));
     match found {
-        Found::At(w) => met(words, marks, n, base, w, x),
-        Found::Nothing => take_over(s, longs, words, marks, base),
+        Found::At(w) => met(s, words, marks, base, w, x),
+        Found::Nothing => take_over(s, at, longs, words, marks, base),
     }
 }

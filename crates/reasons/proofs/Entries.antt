@@ -15,10 +15,10 @@ use Rattle.model.specs.Lent.{lent, bit}
 use Rattle.model.specs.Inner.{Is}
 use Rattle.model.specs.declared.Settings.{Settings}
 use Rattle.model.proofs.SoundFacts.{parts}
-use Rattle.tables.specs.declared.Layout.{Layout}
-use Rattle.tables.specs.Layout.{Placed}
-use Rattle.tables.specs.Raw.{First}
-use Rattle.tables.proofs.Stands.{is-stands}
+use Rattle.layout.specs.declared.Layout.{Layout}
+use Rattle.layout.specs.Layout.{Placed}
+use Rattle.layout.specs.Places.{First}
+use Rattle.layout.proofs.Stands.{is-stands}
 use Rattle.tables.proofs.Misses.{noEntry, misses-used, address-at, sent-at, count-at}
 use Rattle.steps.proofs.Entries.{few-misses, some-tickets}
 use Rattle.reasons.specs.declared.Reason.{Reason}

@@ -25,10 +25,11 @@ use Rattle.model.proofs.SoundFacts.{parts}
 use Rattle.model.proofs.Decoded.{Small}
 use Rattle.model.proofs.Bridge.{sound-encoded, is-tables}
 use Rattle.soundness.proofs.Verdicts.{passed-is}
-use Rattle.tables.specs.declared.Layout.{Layout}
-use Rattle.tables.specs.Layout.{Placed}
-use Rattle.tables.specs.Raw.{First, frontAt}
-use Rattle.tables.proofs.Stands.{is-stands}
+use Rattle.layout.specs.declared.Layout.{Layout}
+use Rattle.layout.specs.Layout.{Placed}
+use Rattle.layout.specs.Places.{First}
+use Rattle.tables.specs.Raw.{frontAt}
+use Rattle.layout.proofs.Stands.{is-stands}
 use Rattle.tables.proofs.Queue.{idle, queue-used, front-is}
 use Rattle.steps.proofs.Entries.{few-queued}
 use Rattle.probe.proofs.Held.{dirty-held}

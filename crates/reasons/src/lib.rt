@@ -1,12 +1,12 @@
 // What a refused access waits for, read off the lent slices: a miss entry that has to come back, dirty lines, queue places. Nothing is
 // written here. `reason_for` is public and asks nothing; `reason_held` is its part behind the checks, for a caller that holds sound tables.
+use layout::Layout;
 use model::Access;
 use model::Event;
 use model::Refusal;
 use model::SectorAddress;
 use model::Settings;
 use model::Verdict;
-use tables::Layout;
 ghost use mathlib.Core.Path.{_≡_};
 ghost use mathlib.Core.Bool.{true};
 ghost use Prim.Native.Nat.{_+_, _*_, _≤_};
@@ -81,8 +81,8 @@ fn busy_reason(s: Settings, longs: &[u64], words: &[u32], marks: &[u8], x: Acces
     requires { ⌜ Held s (lent (now longs) (now words) (now marks)) ⌝ }
     ensures { λ r. ⌜ Gives s (λ t. entryReason (ofSet (s .sets) (setIndex s (addressOf x))) (t .misses)) (lent (now (longs .entry)) (now (words .entry)) (now (marks .entry))) r ⌝ }
 {
-    let at = tables::laid_out(s);
-    let n = tables::used(marks, at.counts, s.entries);
+    let at = layout::laid_out(s);
+    let n = layout::used(marks, at.counts, s.entries);
     let set = model::set_index(model::address_of(x), s.sets);
     let e = first_in_set(longs, at.misses, n, s.sets, set);
     entry_reason(at, longs, marks, e, n)
@@ -93,8 +93,8 @@ fn readers_reason(s: Settings, longs: &[u64], words: &[u32], marks: &[u8], x: Ac
     requires { ⌜ Held s (lent (now longs) (now words) (now marks)) ⌝ }
     ensures { λ r. ⌜ Gives s (λ t. entryReason (entryFor (addressOf x)) (t .misses)) (lent (now (longs .entry)) (now (words .entry)) (now (marks .entry))) r ⌝ }
 {
-    let at = tables::laid_out(s);
-    let n = tables::used(marks, at.counts, s.entries);
+    let at = layout::laid_out(s);
+    let n = layout::used(marks, at.counts, s.entries);
     let address = SectorAddress(model::address_of(x));
     let e = tables::find_entry(longs, at.misses, n, address);
     entry_reason(at, longs, marks, e, n)
@@ -105,8 +105,8 @@ fn table_reason(s: Settings, longs: &[u64], words: &[u32], marks: &[u8]) -> Reas
     requires { ⌜ Held s (lent (now longs) (now words) (now marks)) ⌝ }
     ensures { λ r. ⌜ Gives s (λ t. entryReason anyEntry (t .misses)) (lent (now (longs .entry)) (now (words .entry)) (now (marks .entry))) r ⌝ }
 {
-    let at = tables::laid_out(s);
-    let n = tables::used(marks, at.counts, s.entries);
+    let at = layout::laid_out(s);
+    let n = layout::used(marks, at.counts, s.entries);
     entry_reason(at, longs, marks, 0, n)
 }
 
@@ -145,8 +145,8 @@ fn queue_reason(s: Settings, longs: &[u64], words: &[u32], marks: &[u8]) -> Reas
     requires { ⌜ Held s (lent (now longs) (now words) (now marks)) ⌝ }
     ensures { λ r. ⌜ Gives s (λ t. queueReason (s .places) (t .queue)) (lent (now (longs .entry)) (now (words .entry)) (now (marks .entry))) r ⌝ }
 {
-    let at = tables::laid_out(s);
-    let n = tables::used(marks, at.kinds, s.places);
+    let at = layout::laid_out(s);
+    let n = layout::used(marks, at.kinds, s.places);
     if n == 0 {
         return Reason::Nothing;
     }

@@ -29,11 +29,11 @@ use Rattle.model.specs.declared.Told.{Told}
 use Rattle.model.proofs.Bridge.{is-tables, call-is, does-tells, does-is}
 use Rattle.model.proofs.SeenRounds.{unrefused-too, calls-clear}
 use Rattle.model.proofs.Soundness.{send-keeps-sound, fill-keeps-sound, access-keeps-sound}
-use Rattle.tables.specs.declared.Layout.{Layout}
-use Rattle.tables.specs.Layout.{Placed}
-use Rattle.tables.specs.Raw.{First}
+use Rattle.layout.specs.declared.Layout.{Layout}
+use Rattle.layout.specs.Layout.{Placed}
+use Rattle.layout.specs.Places.{First}
 use Rattle.model.proofs.SoundFacts.{parts}
-use Rattle.tables.proofs.Stands.{is-stands}
+use Rattle.layout.proofs.Stands.{is-stands}
 use Rattle.tables.proofs.Queue.{queue-used}
 use Rattle.steps.proofs.Entries.{few-queued}
 use Rattle.records.proofs.Room.{send-takes, access-takes, step-takes}

@@ -38,8 +38,8 @@ fn nothing_queued(s: Settings, longs: &[u64], words: &[u32], marks: &[u8]) -> bo
     requires { ⌜ Held s (lent (now longs) (now words) (now marks)) ⌝ }
     ensures { λ r. ⌜ Queueless s (lent (now (longs .entry)) (now (words .entry)) (now (marks .entry))) r ⌝ }
 {
-    let at = tables::laid_out(s);
-    let n = tables::used(marks, at.kinds, s.places);
+    let at = layout::laid_out(s);
+    let n = layout::used(marks, at.kinds, s.places);
     n == 0
 }
 

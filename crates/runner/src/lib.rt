@@ -46,13 +46,13 @@ pub fn run(
 fn kept_stop(s: Settings, longs: &[u64], words: &[u32], marks: &[u8]) -> Stop
     ensures { λ r. ⌜ r ≡ keptStop s (lent (now (longs .entry)) (now (words .entry)) (now (marks .entry))) ⌝ }
 {
-    if !soundness::in_range(s) {
+    if !layout::in_range(s) {
         return Stop::SettingOutOfRange;
     }
-    if !soundness::lengths_fit(s, longs, words, marks) {
+    if !layout::lengths_fit(s, longs, words, marks) {
         return Stop::SliceLength;
     }
-    if !soundness::tables_sound(s, longs, words, marks) {
+    if !soundness::tables_sound(s, layout::laid_out(s), longs, words, marks) {
         return Stop::NotSound;
     }
     Stop::Nothing

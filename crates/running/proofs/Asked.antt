@@ -21,7 +21,7 @@ use Rattle.model.specs.declared.Stop.{Stop}
 use Rattle.model.specs.declared.Stop.the-variants.{Nothing, SettingOutOfRange, SliceLength, NotSound, OutOfPlace, UnknownKind, CutShort, NoRoom}
 use Rattle.model.proofs.Flags.{clash, by-flag, flag}
 use Rattle.model.proofs.Fits.{ranged}
-use Rattle.soundness.proofs.OfRange.{tickets-most}
+use Rattle.layout.proofs.OfRange.{tickets-most}
 use Rattle.running.specs.declared.Lengths.{Lengths}
 use Rattle.running.specs.declared.Begun.{Begun}
 use Rattle.running.specs.declared.Begun.the-variants.{Accepted, Stopped}

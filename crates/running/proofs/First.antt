@@ -9,12 +9,11 @@ use borrow.Author.Tests.{eq-eqb, ne-eqb, ltb-false, eqb-true}
 use lib.Dec.{ltb, eqb}
 use lib.ListN.{length, drop, length-drop}
 use Rattle.model.specs.Range.{inRange}
-use Rattle.model.specs.Tables.{start, after}
-use Rattle.model.specs.Lent.{Lent, lengthsFit}
+use Rattle.model.specs.Tables.{start}
+use Rattle.model.specs.Lent.{Lent, lengthsFit, encode}
 use Rattle.model.specs.Words.{pick}
 use Rattle.model.specs.Records.{isCommand, lengthOf, readAt, bodyAt}
 use Rattle.model.specs.Runner.{settingsOf, settingsStop, firstStop, goesOn, halt, ahead, runFrom, lentResult, run, Runs}
-use Rattle.model.specs.Calls.{freshCall}
 use Rattle.model.specs.Inner.{Is, Held}
 use Rattle.model.specs.declared.Settings.{Settings}
 use Rattle.model.specs.declared.Record.{Record}
@@ -156,16 +155,21 @@ module _ (L : Lent) (s : List ℕ) (some : length s ≡ 0 → ⊥) {n : Stop} (d
       let q : beginning L s ≡ Stopped n = beginning-stops L s some (rw (← d) h) ∙ rw (← d) in
       record { says = sym q; tables = rw q }
 
-  pub begin-goes : goesOn n ≡ true → {S : Settings} → S ≡ settingsOf (bodyAt s 0) → {M : Lent} → M ≡ after L (freshCall S L)
-      → Begins L s (Accepted S) M
-  begin-goes h {S} e {M} m =
-      let z : goesOn (firstStop L (kindAt s 0) (restAt s 0)) ≡ true = rw (← d) h in
-      let g = settled L (kindAt s 0) (restAt s 0) z in
-      let f : S ≡ settingsOf (restAt s 0) = e ∙ body-settings s (omega arith) (g .settings) (g .whole) in
-      let q : beginning L s ≡ Accepted S = beginning-goes L s some z ∙ rw (← f) in
-      let range : inRange S ≡ true = rw f (g .range) in
-      let fits : lengthsFit S L ≡ true = rw f (g .fits) in
-      record { says = sym q; tables = m ∙ rw (range, fits, q) }
+  module _ (h : goesOn n ≡ true) {S : Settings} (e : S ≡ settingsOf (bodyAt s 0)) where
+    goes : goesOn (firstStop L (kindAt s 0) (restAt s 0)) ≡ true
+    goes = rw (← d) h
+
+    read : S ≡ settingsOf (restAt s 0)
+    read = let g = settled L (kindAt s 0) (restAt s 0) goes in e ∙ body-settings s (omega arith) (g .settings) (g .whole)
+
+    -- no refusal 1 and no refusal 2
+    pub begin-fits : (inRange S ≡ true) × (lengthsFit S L ≡ true)
+    begin-fits = let g = settled L (kindAt s 0) (restAt s 0) goes in (rw read (g .range), rw read (g .fits))
+
+    pub begin-goes : {M : Lent} → M ≡ encode S (start S) → Begins L s (Accepted S) M
+    begin-goes m =
+        let q : beginning L s ≡ Accepted S = beginning-goes L s some goes ∙ rw (← read) in
+        record { says = sym q; tables = m ∙ rw q }
 
 module _ {L : Lent} {s : List ℕ} {r : Begun} {M : Lent} (b : Begins L s r M) where
   pub run-stopped : {n : Stop} (room : ℕ) (e : List ℕ) → r ≡ Stopped n → Runs (run room s L) e record { stop = n; consumed = 0; written = 0 } e M

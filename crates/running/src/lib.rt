@@ -82,10 +82,10 @@ fn head_stop(kind: u8, found: Record) -> Stop
 fn settings_stop(s: Settings, longs: &[u64], words: &[u32], marks: &[u8]) -> Stop
     ensures { λ r. ⌜ r ≡ settingsStop s (lent (now (longs .entry)) (now (words .entry)) (now (marks .entry))) ⌝ }
 {
-    if !soundness::in_range(s) {
+    if !layout::in_range(s) {
         return Stop::SettingOutOfRange;
     }
-    if !soundness::lengths_fit(s, longs, words, marks) {
+    if !layout::lengths_fit(s, longs, words, marks) {
         return Stop::SliceLength;
     }
     Stop::Nothing
@@ -307,7 +307,7 @@ pub fn begin(stream: &[u8], longs: &mut [u64], words: &mut [u32], marks: &mut [u
         return Begun::Stopped(stop);
     }
     let s = settings_of(reader::body_at(stream, 0));
-    cache::fresh(s, longs, words, marks);
+    layout::make_fresh(s, longs, words, marks);
     Begun::Accepted(s)
 }
 
@@ -340,12 +340,12 @@ pub fn lengths_for(stream: &[u8]) -> Lengths
         return no_lengths();
     }
     let s = settings_of(&stream[1..]);
-    if !soundness::in_range(s) {
+    if !layout::in_range(s) {
         return no_lengths();
     }
     Lengths {
-        longs: soundness::longs_length(s),
-        words: soundness::words_length(s),
-        marks: soundness::marks_length(s),
+        longs: layout::longs_length(s),
+        words: layout::words_length(s),
+        marks: layout::marks_length(s),
     }
 }

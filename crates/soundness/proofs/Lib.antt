@@ -1,8 +1,8 @@
 pub mod Tests
-pub mod OfRange
 pub mod FineLines
 pub mod OfLines
 pub mod OfSectors
+pub mod OfSearch
 pub mod OfMisses
 pub mod OfQueue
 pub mod OfTables

@@ -14,7 +14,7 @@ use Rattle.model.specs.SoundLent.{live, apart, lineFine}
 use Rattle.model.specs.Address.{goodBlock, setIndex}
 use Rattle.model.proofs.Flags.{and-1, and-2, and-i, iff}
 use Rattle.model.proofs.Rows.{every-row}
-use Rattle.soundness.proofs.Tests.{not-both}
+use Rattle.layout.proofs.Tests.{not-both}
 
 -- cycle 0 is no later than any
 idle-shape : (t : Bool) (c n : ℕ) → (t && eqb c 0) ≡ (t && eqb c 0 && true && leb c n && true)

@@ -6,6 +6,7 @@ use Prim.Native.Nat.{ℕ, _+_, _*_, _/_, _%_, _≤_, _<_}
 use native.Mathlib.Nat.{div-lt-iff-lt-mul, mul-comm}
 use native.Mathlib.Omega.{arith}
 use lib.Dec.{eqb, leb}
+use lib.ListN.{getD}
 use borrow.Author.Tests.{eqb-true, eq-eqb, ne-eqb, le-leb}
 use Rattle.model.specs.declared.Settings.{Settings}
 use Rattle.model.specs.Words.{some, countBelow}
@@ -13,7 +14,11 @@ use Rattle.model.specs.Address.{blockOf, sectorIndex, setIndex}
 use Rattle.model.specs.Lent.{tagAt, statusAt, missAt, sentAt, ticketCountAt, ticketAt}
 use Rattle.model.specs.SoundLent.{linesFine, entryFor, readFor, reservedFor, ticketFine, entryFine}
 use Rattle.model.proofs.Flags.{and-1, and-2, iff}
-use Rattle.soundness.proofs.Tests.{not-but, some-same}
+use Rattle.layout.specs.declared.Layout.{Layout}
+use Rattle.layout.specs.Layout.{Placed}
+use Rattle.layout.proofs.Tests.{not-but}
+use Rattle.layout.proofs.ByPlace.{count-read, ticket-read}
+use Rattle.soundness.proofs.Tests.{some-same}
 use Rattle.soundness.proofs.FineLines.{reserved-short, own-set-reserves}
 
 -- the entry of a ticket place
@@ -40,8 +45,11 @@ and-yes true = refl
 and-yes false = refl
 
 module _ (S : Settings) (longs words marks : List ℕ) where
-  pub ticket-kept : (i k : ℕ) → k ≡ ticketCountAt S marks (i / S .readers) → not (leb k (i % S .readers) && not (eqb (ticketAt S words i) 0)) ≡ ticketFine S longs words marks i
-  ticket-kept i k e = rw e (not-but (leb (ticketCountAt S marks (i / S .readers)) (i % S .readers)) _)
+  pub ticket-kept : {at : Layout} → Placed S at → (i : ℕ)
+      → not (leb (getD marks (at .counts + i / S .readers) 0) (i % S .readers) && not (eqb (getD words (at .tickets + i) 0) 0)) ≡ ticketFine S longs words marks i
+  ticket-kept p i =
+      rw (count-read S p marks (i / S .readers), ticket-read S p words i)
+      (not-but (leb (ticketCountAt S marks (i / S .readers)) (i % S .readers)) (eqb (ticketAt S words i) 0))
 
   -- the lines of a set from `first` on, asked for a block and a sector
   pub set-asked : (a first n block sector : ℕ) → block ≡ blockOf a → sector ≡ sectorIndex a

@@ -2,8 +2,9 @@
 use mathlib.Core.Path.{_≡_, sym, _∙_}
 use mathlib.Core.Bool.{Bool, true, false, not, _&&_}
 use mathlib.Core.List.{List}
-use Prim.Native.Nat.{ℕ, _*_}
+use Prim.Native.Nat.{ℕ, _+_, _*_}
 use lib.Dec.{leb}
+use lib.ListN.{getD}
 use Rattle.model.specs.declared.Settings.{Settings}
 use Rattle.model.specs.Words.{every}
 use Rattle.model.specs.Range.{linesOf}
@@ -11,6 +12,16 @@ use Rattle.model.specs.Sound.{lastCycle}
 use Rattle.model.specs.Lent.{nowAt, ticketCountAt, kindAt}
 use Rattle.model.specs.SoundLent.{gathered, nowFine, linesFine, sectorFine, ticketFine, entryFine, placeFine, soundNumbers}
 use Rattle.model.proofs.Flags.{and-2, not-yes, no-not}
+use Rattle.layout.specs.declared.Layout.{Layout}
+use Rattle.layout.specs.Layout.{Placed}
+
+-- 12 and 20, of the bytes that the code looks at
+module _ (S : Settings) {at : Layout} (p : Placed S at) (marks : List ℕ) where
+  pub counts-gathered : gathered (S .entries) (λ i. getD marks (at .counts + i) 0) ≡ gathered (S .entries) (ticketCountAt S marks)
+  counts-gathered = rw (p .counts)
+
+  pub kinds-gathered : gathered (S .places) (λ i. getD marks (at .kinds + i) 0) ≡ gathered (S .places) (kindAt S marks)
+  kinds-gathered = rw (p .kinds)
 
 module _ (S : Settings) (longs words marks : List ℕ) (r : Bool) (lines : r ≡ linesFine S longs words marks) where
   abbrev first : Bool

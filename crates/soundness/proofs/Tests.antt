@@ -1,27 +1,12 @@
--- Tests as the code makes them: of a callee's answer, and in a loop that leaves at the first fault, Below's laws turned round.
-use mathlib.Core.Path.{_≡_, refl, sym, _∙_}
-use mathlib.Core.Bool.{Bool, true, false, not, _&&_}
+-- A loop that goes on behind a fault, and two tests at each place.
+use mathlib.Core.Path.{_≡_, refl}
+use mathlib.Core.Bool.{Bool, true, false, _&&_}
 use Prim.Native.Nat.{ℕ, zero, suc, _+_, _≤_, _<_}
 use native.Mathlib.Numerals.{add-one}
 use native.Mathlib.Omega.{arith}
-use Rattle.model.specs.Words.{every, some, imp}
-use Rattle.model.proofs.Flags.{not-yes, no-not}
-use Rattle.model.proofs.Below.{Passed, passed-stop, passed-more}
-
--- `if !r` after a call whose answer is r
-pub said-no : {r b : Bool} → r ≡ b → not r ≡ true → b ≡ false
-said-no e t = sym e ∙ not-yes t
-
-pub said-yes : {r b : Bool} → r ≡ b → not r ≡ false → b ≡ true
-said-yes e t = sym e ∙ no-not t
+use Rattle.model.specs.Words.{every, some}
 
 module _ (p : ℕ → Bool) where
-  pub fault-stop : (n i : ℕ) {f : Bool} → i < n → not f ≡ p i → f ≡ true → false ≡ every n p
-  fault-stop n i h e t = passed-stop p n i h e (rw t)
-
-  pub fault-none : (n i : ℕ) {f : Bool} → i < n → not f ≡ p i → f ≡ false → Passed p n i → Passed p n (i + 1)
-  fault-none n i h e t w = passed-more p n i h e (rw t) w
-
   -- a loop that goes on behind a fault: b says that there was none
   abbrev pub Joined : ℕ → ℕ → Bool → Type 0
   Joined n i b = (i ≤ n) × (b ≡ every i p)
@@ -31,17 +16,6 @@ module _ (p : ℕ → Bool) where
 
   pub joined-end : (n i : ℕ) {b : Bool} → n ≤ i → Joined n i b → b ≡ every n p
   joined-end n i h w = let e : n ≡ i = omega arith in rw e (w .1)
-
--- ---- the faults
-
-pub not-both : (a b : Bool) → not (a && b) ≡ imp a (not b)
-not-both true b = refl
-not-both false b = refl
-
-pub not-but : (a b : Bool) → not (a && not b) ≡ imp a b
-not-but true true = refl
-not-but true false = refl
-not-but false b = refl
 
 -- ---- two tests that agree
 

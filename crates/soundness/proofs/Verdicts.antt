@@ -4,23 +4,18 @@ use mathlib.Core.Bool.{Bool, true, false}
 use mathlib.Core.List.{List, []}
 use Prim.Native.Nat.{ℕ}
 use native.Mathlib.Omega.{arith}
-use lib.Dec.{eqb}
-use lib.ListN.{length}
-use borrow.Author.Tests.{eqb-true}
 use Rattle.model.specs.declared.Settings.{Settings}
 use Rattle.model.specs.declared.Refusal.{Refusal}
 use Rattle.model.specs.declared.Refusal.the-variants.{SettingOutOfRange, SliceLength, NotSound}
 use Rattle.model.specs.declared.Verdict.the-variants.{Passed, Refused}
 use Rattle.model.specs.Words.{pick}
 use Rattle.model.specs.Range.{inRange}
-use Rattle.model.specs.Layout.{longsLength, wordsLength, marksLength}
 use Rattle.model.specs.Tables.{Tables, Outcome, refused, done}
 use Rattle.model.specs.Lent.{Lent, lent, lengthsFit, tablesOf}
 use Rattle.model.specs.SoundLent.{soundLent}
 use Rattle.model.specs.Calls.{encoded, call, checkCall, verdictOf}
 use Rattle.model.specs.Inner.{Fit}
-use Rattle.model.proofs.Flags.{and-1, and-2}
-use Rattle.model.proofs.Fits.{fit}
+use Rattle.layout.proofs.OfRange.{lengths-fit}
 
 -- the three checks in front of an outcome
 abbrev checked : Bool → Bool → Bool → Outcome Lent → Outcome Lent
@@ -69,14 +64,6 @@ module _ (S : Settings) (L : Lent) where
   pub refused-is : (n : Refusal) → verdictOf (checkCall S L) ≡ Refused n → (step : Tables → Outcome Tables) → call S step L ≡ refused n
   unfolding call
   refused-is n e step = first-refuses (inRange S) (lengthsFit S L) (soundLent S L) L (encoded S (step (tablesOf S L))) n e
-
--- what `tables_sound` asks
-pub lengths-fit : (S : Settings) (longs words marks : List ℕ) → inRange S ≡ true → lengthsFit S (lent longs words marks) ≡ true → Fit S longs words marks
-lengths-fit S longs words marks r e =
-    let l : eqb (length longs) (longsLength S) ≡ true = search (and-1, and-2) in
-    let w : eqb (length words) (wordsLength S) ≡ true = search (and-1, and-2) in
-    let m : eqb (length marks) (marksLength S) ≡ true = search (and-1, and-2) in
-    fit S longs words marks (r, eqb-true _ _ l, eqb-true _ _ w, eqb-true _ _ m)
 
 pub passed-fit : (S : Settings) (longs words marks : List ℕ) → verdictOf (checkCall S (lent longs words marks)) ≡ Passed → Fit S longs words marks
 passed-fit S longs words marks e = let (r, l, s) = passed-is S (lent longs words marks) e in lengths-fit S longs words marks r l

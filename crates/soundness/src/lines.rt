@@ -7,7 +7,9 @@ ghost use Rattle.model.specs.Words.{every};
 ghost use Rattle.model.specs.Range.{linesOf};
 ghost use Rattle.model.specs.Inner.{Fit};
 ghost use Rattle.model.specs.SoundLent as is;
-use crate::misses::has_entry;
+ghost use Rattle.layout.specs.Layout.{Placed};
+use crate::search::has_entry;
+use layout::Layout;
 use model::SectorAddress;
 use model::Settings;
 
@@ -74,14 +76,20 @@ pub(crate) fn lines_fine(s: Settings, longs: &[u64], words: &[u32], marks: &[u8]
 }
 
 // Conditions 2 to 6, with no branch, so that the loop over them compiles to several sectors at a time.
-fn sector_shaped(s: Settings, longs: &[u64], words: &[u32], marks: &[u8], i: usize) -> bool
-    requires { ⌜ Fit s (now longs) (now words) (now marks) × (i < 4 * linesOf s) ⌝ }
+fn sector_shaped(
+    s: Settings,
+    at: Layout,
+    longs: &[u64],
+    words: &[u32],
+    marks: &[u8],
+    i: usize,
+) -> bool
+    requires { ⌜ Placed s at × Fit s (now longs) (now words) (now marks) × (i < 4 * linesOf s) ⌝ }
     ensures { λ r. ⌜ r ≡ is.sectorShape s (now (longs .entry)) (now (words .entry)) (now (marks .entry)) i ⌝ }
 {
-    let lines = s.sets * s.ways;
     let status = marks[i];
-    let readable = marks[4 * lines + i];
-    let mask = words[1 + lines + i];
+    let readable = marks[at.readables + i];
+    let mask = words[at.masks + i];
     (status <= 3)
         & (readable <= 1)
         & ((status == 1) | ((mask != 0) == (status == 3)))
@@ -89,23 +97,30 @@ fn sector_shaped(s: Settings, longs: &[u64], words: &[u32], marks: &[u8], i: usi
 }
 
 // It goes on behind a fault, since an exit inside the loop would keep it to one sector at a time.
-fn sectors_shaped(s: Settings, longs: &[u64], words: &[u32], marks: &[u8]) -> bool
-    requires { ⌜ Fit s (now longs) (now words) (now marks) ⌝ }
+fn sectors_shaped(s: Settings, at: Layout, longs: &[u64], words: &[u32], marks: &[u8]) -> bool
+    requires { ⌜ Placed s at × Fit s (now longs) (now words) (now marks) ⌝ }
     ensures { λ r. ⌜ r ≡ every (4 * linesOf s) (is.sectorShape s (now (longs .entry)) (now (words .entry)) (now (marks .entry))) ⌝ }
 {
     let n = 4 * (s.sets * s.ways);
     let mut fine = true;
     let mut i = 0;
     while i < n {
-        fine = fine & sector_shaped(s, longs, words, marks, i);
+        fine = fine & sector_shaped(s, at, longs, words, marks, i);
         i += 1;
     }
     fine
 }
 
 // Condition 17. The lines are fine, so a RESERVED sector's tag is below 2^48 and its address fits.
-fn sector_backed(s: Settings, longs: &[u64], words: &[u32], marks: &[u8], i: usize) -> bool
-    requires { ⌜ Fit s (now longs) (now words) (now marks) × (is.linesFine s (now longs) (now words) (now marks) ≡ true) × (i < 4 * linesOf s) ⌝ }
+fn sector_backed(
+    s: Settings,
+    at: Layout,
+    longs: &[u64],
+    words: &[u32],
+    marks: &[u8],
+    i: usize,
+) -> bool
+    requires { ⌜ Placed s at × Fit s (now longs) (now words) (now marks) × (is.linesFine s (now longs) (now words) (now marks) ≡ true) × (i < 4 * linesOf s) ⌝ }
     ensures { λ r. ⌜ r ≡ is.sectorBacked s (now (longs .entry)) (now (words .entry)) (now (marks .entry)) i ⌝ }
 {
     if marks[i] != 1 {
@@ -113,17 +128,17 @@ fn sector_backed(s: Settings, longs: &[u64], words: &[u32], marks: &[u8], i: usi
     }
     let sector = (i % 4) as u64;
     let a = SectorAddress(longs[i / 4] + 32 * sector);
-    has_entry(s, longs, words, marks, s.entries, a)
+    has_entry(s, at, longs, words, marks, s.entries, a)
 }
 
-fn sectors_backed(s: Settings, longs: &[u64], words: &[u32], marks: &[u8]) -> bool
-    requires { ⌜ Fit s (now longs) (now words) (now marks) × (is.linesFine s (now longs) (now words) (now marks) ≡ true) ⌝ }
+fn sectors_backed(s: Settings, at: Layout, longs: &[u64], words: &[u32], marks: &[u8]) -> bool
+    requires { ⌜ Placed s at × Fit s (now longs) (now words) (now marks) × (is.linesFine s (now longs) (now words) (now marks) ≡ true) ⌝ }
     ensures { λ r. ⌜ r ≡ every (4 * linesOf s) (is.sectorBacked s (now (longs .entry)) (now (words .entry)) (now (marks .entry))) ⌝ }
 {
     let n = 4 * (s.sets * s.ways);
     let mut i = 0;
     while i < n {
-        if !sector_backed(s, longs, words, marks, i) {
+        if !sector_backed(s, at, longs, words, marks, i) {
             return false;
         }
         i += 1;
@@ -131,9 +146,15 @@ fn sectors_backed(s: Settings, longs: &[u64], words: &[u32], marks: &[u8]) -> bo
     true
 }
 
-pub(crate) fn sectors_fine(s: Settings, longs: &[u64], words: &[u32], marks: &[u8]) -> bool
-    requires { ⌜ Fit s (now longs) (now words) (now marks) × (is.linesFine s (now longs) (now words) (now marks) ≡ true) ⌝ }
+pub(crate) fn sectors_fine(
+    s: Settings,
+    at: Layout,
+    longs: &[u64],
+    words: &[u32],
+    marks: &[u8],
+) -> bool
+    requires { ⌜ Placed s at × Fit s (now longs) (now words) (now marks) × (is.linesFine s (now longs) (now words) (now marks) ≡ true) ⌝ }
     ensures { λ r. ⌜ r ≡ every (4 * linesOf s) (is.sectorFine s (now (longs .entry)) (now (words .entry)) (now (marks .entry))) ⌝ }
 {
-    sectors_shaped(s, longs, words, marks) & sectors_backed(s, longs, words, marks)
+    sectors_shaped(s, at, longs, words, marks) & sectors_backed(s, at, longs, words, marks)
 }

@@ -1,66 +1,19 @@
 // Conditions 11 to 16, 18 and 24 of sound tables: the miss table. An entry looks only into the set of its address.
 ghost use mathlib.Core.Path.{_≡_};
 ghost use mathlib.Core.Bool.{true};
-ghost use Prim.Native.Nat.{_+_, _*_, _≤_, _<_};
+ghost use Prim.Native.Nat.{_+_, _*_, _<_};
 ghost use Rattle.model.specs.Words.{every, some};
 ghost use Rattle.model.specs.Address.{setIndex};
 ghost use Rattle.model.specs.Inner.{Fit};
 ghost use Rattle.model.specs.SoundLent as is;
-use crate::layout::miss;
-use crate::layout::sent;
-use crate::layout::ticket_count;
-use crate::queue::reads_for;
+ghost use Rattle.layout.specs.Layout.{Placed};
+use crate::search::has_entry;
+use crate::search::reads_for;
+use layout::Layout;
 use model::SectorAddress;
 use model::Settings;
 use model::block_of;
 use model::sector_index;
-
-// One of the first `n` entries is in use and has the address.
-pub(crate) fn has_entry(
-    s: Settings,
-    longs: &[u64],
-    words: &[u32],
-    marks: &[u8],
-    n: usize,
-    a: SectorAddress,
-) -> bool
-    requires { ⌜ Fit s (now longs) (now words) (now marks) × (n ≤ s .entries) ⌝ }
-    ensures { λ r. ⌜ r ≡ some n (is.entryFor s (now (longs .entry)) (now (words .entry)) (now (marks .entry)) (a .0)) ⌝ }
-{
-    let mut e = 0;
-    while e < n {
-        if (ticket_count(s, marks, e) != 0) & (miss(s, longs, e) == a.0) {
-            return true;
-        }
-        e += 1;
-    }
-    false
-}
-
-// An unsent entry has the address.
-pub(crate) fn has_unsent(
-    s: Settings,
-    longs: &[u64],
-    words: &[u32],
-    marks: &[u8],
-    a: SectorAddress,
-) -> bool
-    requires { ⌜ Fit s (now longs) (now words) (now marks) ⌝ }
-    ensures { λ r. ⌜ r ≡ some (s .entries) (is.unsentFor s (now (longs .entry)) (now (words .entry)) (now (marks .entry)) (a .0)) ⌝ }
-{
-    let n = s.entries;
-    let mut e = 0;
-    while e < n {
-        if (ticket_count(s, marks, e) != 0)
-            & (sent(s, marks, e) == 0)
-            & (miss(s, longs, e) == a.0)
-        {
-            return true;
-        }
-        e += 1;
-    }
-    false
-}
 
 // A line of the set of the address has its sector RESERVED. Such a line is live.
 fn set_reserves(s: Settings, longs: &[u64], words: &[u32], marks: &[u8], a: SectorAddress) -> bool
@@ -83,16 +36,21 @@ fn set_reserves(s: Settings, longs: &[u64], words: &[u32], marks: &[u8], a: Sect
 }
 
 // Past the tickets of an entry its ticket places are 0.
-pub(crate) fn tickets_fine(s: Settings, longs: &[u64], words: &[u32], marks: &[u8]) -> bool
-    requires { ⌜ Fit s (now longs) (now words) (now marks) ⌝ }
+pub(crate) fn tickets_fine(
+    s: Settings,
+    at: Layout,
+    longs: &[u64],
+    words: &[u32],
+    marks: &[u8],
+) -> bool
+    requires { ⌜ Placed s at × Fit s (now longs) (now words) (now marks) ⌝ }
     ensures { λ r. ⌜ r ≡ every (s .readers * s .entries) (is.ticketFine s (now (longs .entry)) (now (words .entry)) (now (marks .entry))) ⌝ }
 {
-    let first = 1 + 5 * (s.sets * s.ways);
     let n = s.readers * s.entries;
     let mut i = 0;
     while i < n {
-        let count = ticket_count(s, marks, i / s.readers) as usize;
-        if (count <= i % s.readers) & (words[first + i] != 0) {
+        let count = marks[at.counts + i / s.readers] as usize;
+        if (count <= i % s.readers) & (words[at.tickets + i] != 0) {
             return false;
         }
         i += 1;
@@ -101,13 +59,13 @@ pub(crate) fn tickets_fine(s: Settings, longs: &[u64], words: &[u32], marks: &[u
 }
 
 // The lines are fine, so only the set of an entry's address can have its sector.
-fn entry_fine(s: Settings, longs: &[u64], words: &[u32], marks: &[u8], e: usize) -> bool
-    requires { ⌜ Fit s (now longs) (now words) (now marks) × (is.linesFine s (now longs) (now words) (now marks) ≡ true) × (e < s .entries) ⌝ }
+fn entry_fine(s: Settings, at: Layout, longs: &[u64], words: &[u32], marks: &[u8], e: usize) -> bool
+    requires { ⌜ Placed s at × Fit s (now longs) (now words) (now marks) × (is.linesFine s (now longs) (now words) (now marks) ≡ true) × (e < s .entries) ⌝ }
     ensures { λ r. ⌜ r ≡ is.entryFine s (now (longs .entry)) (now (words .entry)) (now (marks .entry)) e ⌝ }
 {
-    let count = ticket_count(s, marks, e) as usize;
-    let mark = sent(s, marks, e);
-    let a = miss(s, longs, e);
+    let count = marks[at.counts + e] as usize;
+    let mark = marks[at.sent + e];
+    let a = longs[at.misses + e];
     if count == 0 {
         return (a == 0) & (mark == 0);
     }
@@ -115,21 +73,27 @@ fn entry_fine(s: Settings, longs: &[u64], words: &[u32], marks: &[u8], e: usize)
         & (mark <= 1)
         & (a % 32 == 0)
         & set_reserves(s, longs, words, marks, SectorAddress(a))
-        & !has_entry(s, longs, words, marks, e, SectorAddress(a));
+        & !has_entry(s, at, longs, words, marks, e, SectorAddress(a));
     if mark != 0 {
         return named;
     }
-    named & (reads_for(s, longs, words, marks, SectorAddress(a)) == 1)
+    named & (reads_for(s, at, longs, words, marks, SectorAddress(a)) == 1)
 }
 
-pub(crate) fn entries_fine(s: Settings, longs: &[u64], words: &[u32], marks: &[u8]) -> bool
-    requires { ⌜ Fit s (now longs) (now words) (now marks) × (is.linesFine s (now longs) (now words) (now marks) ≡ true) ⌝ }
+pub(crate) fn entries_fine(
+    s: Settings,
+    at: Layout,
+    longs: &[u64],
+    words: &[u32],
+    marks: &[u8],
+) -> bool
+    requires { ⌜ Placed s at × Fit s (now longs) (now words) (now marks) × (is.linesFine s (now longs) (now words) (now marks) ≡ true) ⌝ }
     ensures { λ r. ⌜ r ≡ every (s .entries) (is.entryFine s (now (longs .entry)) (now (words .entry)) (now (marks .entry))) ⌝ }
 {
     let n = s.entries;
     let mut e = 0;
     while e < n {
-        if !entry_fine(s, longs, words, marks, e) {
+        if !entry_fine(s, at, longs, words, marks, e) {
             return false;
         }
         e += 1;

@@ -9,14 +9,14 @@ use native.Mathlib.Omega.{arith}
 use lib.ListN.{length, getD, set, length-set}
 use lib.Dec.{eqb, ltb}
 use borrow.Author.Tests.{eqb-true, ltb-true, ltb-false}
-use Rattle.model.specs.Words.{fit, all, any}
+use Rattle.model.specs.Words.{fit, all, any, one, count}
 use Rattle.model.specs.Numbers.{statusNumber}
 use Rattle.model.specs.Range.{linesOf}
 use Rattle.model.specs.Regions.{region, put, closed}
 use Rattle.model.specs.Address.{blockOf, sectorIndex, setIndex, goodBlock}
-use Rattle.model.specs.Tables.{Line, Entry, Tables, done, isInvalid, unused, holds, entryFor, noEntry, empty, fresh, withLines}
+use Rattle.model.specs.Tables.{Line, Entry, Tables, done, isInvalid, unused, holds, entryFor, noEntry, empty, fresh, withLines, withDirtyCount, dirty, dirtyLines}
 use Rattle.model.specs.Lent.{lent}
-use Rattle.model.specs.Steps.{arrived, fillLine, ticketsOf, afterFill, sentFor, fill}
+use Rattle.model.specs.Steps.{arrived, fillLine, ticketsOf, afterFill, sentFor, fill, recounted, soiled}
 use Rattle.model.specs.Calls.{encoded, eventsTold, tidied, Leaves}
 use Rattle.model.specs.Inner.{Is}
 use Rattle.model.specs.declared.Settings.{Settings}
@@ -30,19 +30,24 @@ use Rattle.model.proofs.Flags.{and-1, and-2, not-yes, no-not, no-yes, flag, by-
 use Rattle.model.proofs.Lists.{any-in, in-index, in-getD}
 use Rattle.model.proofs.Region.{length-region}
 use Rattle.model.proofs.Places.{take-fit}
-use Rattle.model.proofs.SoundFacts.{Sound, parts, lines-are, line-at, four-at, holder-one, entry-at}
-use Rattle.tables.specs.declared.Layout.{Layout}
-use Rattle.tables.specs.Layout.{Placed}
-use Rattle.tables.specs.Raw.{First, holdsAt, sectorsFrom, statuses, masks, readables}
+use Rattle.model.proofs.SoundFacts.{Sound, parts, lines-are, line-at, four-at, holder-one, entry-at, LeavesSound}
+use Rattle.layout.specs.declared.Layout.{Layout}
+use Rattle.layout.specs.Layout.{Placed}
+use Rattle.layout.specs.Places.{First}
+use Rattle.layout.specs.Sectors.{statuses, masks, readables, someModified}
+use Rattle.tables.specs.Raw.{holdsAt}
 use Rattle.tables.specs.Telling.{telling}
-use Rattle.tables.proofs.Stores.{none}
-use Rattle.tables.proofs.Stands.{Stands, is-stands, stands-encode}
+use Rattle.layout.proofs.Stores.{none}
+use Rattle.layout.proofs.Stands.{Stands, is-stands, stands-encode}
 use Rattle.tables.proofs.Ones.{map-one}
-use Rattle.tables.proofs.Lines.{flag-of-bit, tag-at, status-at, lifted, store-stands}
+use Rattle.layout.proofs.Lines.{flag-of-bit, tag-at, status-at, lifted, store-stands}
 use Rattle.tables.proofs.Misses.{misses-used, sent-at, count-at, tickets-at, remove-stands, entry-found, entry-missing}
 use Rattle.tables.proofs.Tellings.{refusal-leaves, done-leaves}
-use Rattle.steps.specs.Parts.{Holding, arrivedAt, SectorFilled, LineFilled, releasing}
+use Rattle.steps.specs.Parts.{Holding, arrivedAt, SectorFilled, LineFilled, releasing, liftedAt, CountFits, countAfter}
 use Rattle.steps.proofs.Entries.{few-misses, some-tickets, few-tickets, kept-others, tickets-are, sent-is}
+use Rattle.model.proofs.Keep.{fill-leaves as fill-sound}
+use Rattle.model.proofs.Counting.{recount, count-length, one-counted}
+use Rattle.layout.proofs.DirtyCount.{dirty-count-at, dirty-count-stands}
 
 -- ---- one sector
 
@@ -51,19 +56,30 @@ getD-inside [] k d e h = absurd (not-suc-le-zero h)
 getD-inside (x ∷ l) zero d e h = refl
 getD-inside (x ∷ l) (suc k) d e h = getD-inside l k d e (le-of-suc-le-suc h)
 
--- four sectors that are lifted, of which one has come, stored back
-pub sector-filled : (at : Layout) (l k : ℕ) (words marks : List ℕ) {four : List Sector} {x : Sector} {words′ marks′ : List ℕ} → k < 4
-    → four ≡ sectorsFrom words marks (4 * l) (at .masks + 4 * l) (at .readables + 4 * l) → x ≡ arrived (getD four k none)
-    → (words′ ≡ put words (at .masks + 4 * l) (masks (set four k x))) × (marks′ ≡ put (put marks (4 * l) (statuses (set four k x))) (at .readables + 4 * l) (readables (set four k x)))
+-- four sectors that are lifted, of which one has come, counted and stored back
+pub sector-filled : (at : Layout) (l k : ℕ) (words marks : List ℕ) {four : List Sector} {x : Sector} {was is : Bool} {words₁ words′ marks′ : List ℕ} → k < 4
+    → four ≡ liftedAt at l words marks → was ≡ someModified four → x ≡ arrived (getD four k none) → is ≡ someModified (set four k x)
+    → words₁ ≡ put words (at .dirty) ((getD words (at .dirty) 0 + one is - one was) ∷ [])
+    → (words′ ≡ put words₁ (at .masks + 4 * l) (masks (set four k x))) × (marks′ ≡ put (put marks (4 * l) (statuses (set four k x))) (at .readables + 4 * l) (readables (set four k x)))
     → SectorFilled at l k words marks words′ marks′
-sector-filled at l k words marks {four} {x} below e f c =
-    let xs : List Sector = sectorsFrom words marks (4 * l) (at .masks + 4 * l) (at .readables + 4 * l) in
+sector-filled at l k words marks {four} {x} {was} {is} {words₁} below e v f w d c =
+    let xs : List Sector = liftedAt at l words marks in
     let g : x ≡ arrived (getD xs k empty) = f ∙ ap (λ (y : List Sector). arrived (getD y k none)) e ∙ ap arrived (getD-inside xs k none empty below) in
-    let s : set four k x ≡ set xs k (arrived (getD xs k empty)) = rw (g, e) in
+    let s : set four k x ≡ arrivedAt k xs = rw (g, e) in
+    let before : was ≡ someModified xs = v ∙ ap someModified e in
+    let after : is ≡ someModified (arrivedAt k xs) = w ∙ ap someModified s in
+    let counted : words₁ ≡ countAfter at l words marks (arrivedAt k xs) =
+    d ∙ ap (λ (b : Bool). put words (at .dirty) ((getD words (at .dirty) 0 + one is - one b) ∷ [])) before
+    ∙ ap (λ (b : Bool). put words (at .dirty) ((getD words (at .dirty) 0 + one b - one (someModified xs)) ∷ [])) after in
     record {
-      words-are = c .0 ∙ ap (λ (y : List Sector). put words (at .masks + 4 * l) (masks y)) s;
+      words-are = c .0 ∙ ap (λ (y : List Sector). put words₁ (at .masks + 4 * l) (masks y)) s ∙ ap (λ (z : List ℕ). put z (at .masks + 4 * l) (masks (arrivedAt k xs))) counted;
       marks-are = c .1 ∙ ap (λ (y : List Sector). put (put marks (4 * l) (statuses y)) (at .readables + 4 * l) (readables y)) s;
     }
+
+-- what the code knows of the lifted four
+pub was-fits : (at : Layout) (l : ℕ) (words marks : List ℕ) {four : List Sector} {was : Bool} → four ≡ liftedAt at l words marks → was ≡ someModified four
+    → one (someModified (liftedAt at l words marks)) ≤ getD words (at .dirty) 0 → one was ≤ getD words (at .dirty) 0
+was-fits at l words marks e v h = subst (λ (b : Bool). one b ≤ getD words (at .dirty) 0) (sym (v ∙ ap someModified e)) h
 
 -- ---- the line that has the block
 
@@ -159,21 +175,49 @@ module _ (S : Settings) (t : Tables) (ok : Sound S t) {longs words marks : List 
           sym (ap (λ (n : ℕ). n % S .sets) same) ∙ sym (ap (setIndex S) v) ∙ w
 
   -- its sector has come
-  line-stands : (a : ℕ) {words′ marks′ : List ℕ} → LineFilled at (linesOf S) (blockOf a) (sectorIndex a) longs words marks words′ marks′
-      → Stands S longs words′ marks′ (withLines (map (fillLine a) (t .lines)) t)
+  line-stands : (a : ℕ) {words′ marks′ : List ℕ} (f : LineFilled at (linesOf S) (blockOf a) (sectorIndex a) longs words marks words′ marks′)
+      → Stands S longs words′ marks′ (withDirtyCount (recounted (getD (t .lines) (f .line) fresh) (fillLine a (getD (t .lines) (f .line) fresh)) (t .dirtyCount)) (withLines (map (fillLine a) (t .lines)) t))
   line-stands a {words′} {marks′} f =
       let l : ℕ = f .line in
       let k : f .line < length (t .lines) = omega (arith, f .inside, lines-are S t ok) in
       let x : Line = getD (t .lines) l fresh in
       let e : holds (blockOf a) (getD (t .lines) (f .line) fresh) ≡ true = sym (held-at l (blockOf a) k) ∙ f .held in
       let len : length (fillLine a x .sectors) ≡ 4 = ap length (fill-held a x e) ∙ length-set (x .sectors) (sectorIndex a) (arrived (getD (x .sectors) (sectorIndex a) empty)) ∙ four l k in
-      let is : arrivedAt (sectorIndex a) (sectorsFrom words marks (4 * l) (at .masks + 4 * l) (at .readables + 4 * l)) ≡ fillLine a x .sectors =
-      ap (arrivedAt (sectorIndex a)) (lifted S t h p (lines-are S t ok) l k (four l k)) ∙ sym (fill-held a x e) in
+      let was : liftedAt at l words marks ≡ x .sectors = lifted S t h p (lines-are S t ok) l k (four l k) in
+      let is : arrivedAt (sectorIndex a) (liftedAt at l words marks) ≡ fillLine a x .sectors = ap (arrivedAt (sectorIndex a)) was ∙ sym (fill-held a x e) in
+      let d : ℕ = recounted x (fillLine a x) (t .dirtyCount) in
+      let before : someModified (liftedAt at l words marks) ≡ dirty x = ap someModified was in
+      let same : getD words (at .dirty) 0 + one (someModified (fillLine a x .sectors)) - one (someModified (liftedAt at l words marks)) ≡ d =
+      ap (λ (n : ℕ). n + one (dirty (fillLine a x)) - one (someModified (liftedAt at l words marks))) (dirty-count-at S t h p)
+      ∙ ap (λ (b : Bool). t .dirtyCount + one (dirty (fillLine a x)) - one b) before in
+      let counted : Stands S longs (put words (at .dirty) (d ∷ [])) marks (withDirtyCount d t) = dirty-count-stands S t h p d refl in
       rw (fill-one a l k e)
-      (store-stands S t h p (lines-are S t ok) l k (fillLine a x) len (fill-tag a x) (fill-cycle a x) (
-        f .filled .words-are ∙ ap (λ (y : List Sector). put words (at .masks + 4 * l) (masks y)) is,
+      (store-stands S (withDirtyCount d t) counted p (lines-are S t ok) l k (fillLine a x) len (fill-tag a x) (fill-cycle a x) (
+        f .filled .words-are
+            ∙ ap (λ (y : List Sector). put (countAfter at l words marks y) (at .masks + 4 * l) (masks y)) is
+            ∙ ap (λ (n : ℕ). put (put words (at .dirty) (n ∷ [])) (at .masks + 4 * l) (masks (fillLine a x .sectors))) same,
         f .filled .marks-are ∙ ap (λ (y : List Sector). put (put marks (4 * l) (statuses y)) (at .readables + 4 * l) (readables y)) is,
       ))
+
+  -- the count of the lines that it leaves
+  line-count : (a : ℕ) {words′ marks′ : List ℕ} (f : LineFilled at (linesOf S) (blockOf a) (sectorIndex a) longs words marks words′ marks′)
+      → recounted (getD (t .lines) (f .line) fresh) (fillLine a (getD (t .lines) (f .line) fresh)) (t .dirtyCount) ≡ count dirty (map (fillLine a) (t .lines))
+  line-count a f =
+      let l : ℕ = f .line in
+      let k : f .line < length (t .lines) = omega (arith, f .inside, lines-are S t ok) in
+      let e : holds (blockOf a) (getD (t .lines) (f .line) fresh) ≡ true = sym (held-at l (blockOf a) k) ∙ f .held in
+      recount dirty (t .lines) l (fillLine a (getD (t .lines) l fresh)) fresh k (eqb-true (t .dirtyCount) (dirtyLines t) (ok .counted)) ∙ ap (count dirty) (sym (fill-one a l k e))
+
+  -- the count has room for the line
+  pub count-fits : (l : ℕ) → l < linesOf S → linesOf S ≤ 1024 → CountFits at l words marks
+  count-fits l b few =
+      let n = lines-are S t ok in
+      let k : l < length (t .lines) = omega arith in
+      let was : liftedAt at l words marks ≡ getD (t .lines) l fresh .sectors = lifted S t h p n l k (four l k) in
+      let c : getD words (at .dirty) 0 ≡ count dirty (t .lines) = dirty-count-at S t h p ∙ eqb-true (t .dirtyCount) (dirtyLines t) (ok .counted) in (
+        omega (arith, c, count-length dirty (t .lines)),
+        subst (λ (y : List Sector). one (someModified y) ≤ getD words (at .dirty) 0) (sym was) (omega (arith, c, one-counted dirty (t .lines) l fresh k)),
+      )
 
 -- ---- what is told
 
@@ -269,8 +313,11 @@ module _ (S : Settings) (a : ℕ) (t : Tables) {longs words marks : List ℕ} (i
     fill-leaves k told line gone =
         let told : _ ≡ releasing a (ticketsOf a (t .misses)) = told ∙ ap (releasing a) tickets in
         let w : any (sentFor a) (t .misses) ≡ true = sym (q ∙ sent-test) ∙ no-not z in
-        let after : Tables = withLines (map (fillLine a) (t .lines)) t in
-        let left = remove-stands S after (line-stands S t ok h p a line) p (few-misses S t ok) e below n (omega (arith, used)) (u .most) gone in
         let outcome : fill a t ≡ done (event.Filled a ∷ map event.Released (ticketsOf a (t .misses))) (afterFill a t) = rw w in
+        let kept : Sound S (afterFill a t) = subst (LeavesSound S) outcome (fill-sound S t ok a) in
+        let after : Tables = withDirtyCount (t .dirtyCount + one (any (soiled a) (t .lines))) (withLines (map (fillLine a) (t .lines)) t) in
+        let count : recounted (getD (t .lines) (line .line) fresh) (fillLine a (getD (t .lines) (line .line) fresh)) (t .dirtyCount) ≡ t .dirtyCount + one (any (soiled a) (t .lines)) =
+        line-count S t ok h p a line ∙ sym (eqb-true (t .dirtyCount + one (any (soiled a) (t .lines))) (count dirty (map (fillLine a) (t .lines))) (kept .counted)) in
+        let left = remove-stands S after (rw count at (line-stands S t ok h p a line)) p (few-misses S t ok) e below n (omega (arith, used)) (u .most) gone in
         done-leaves S outcome (rw told (releasing-tells a (ticketsOf a (t .misses)) (few k))) (rw told (releasing-tidy a (ticketsOf a (t .misses)) (few k)))
         (stands-encode (rw (kept-others S t ok a e below is) left))

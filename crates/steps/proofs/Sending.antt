@@ -25,12 +25,13 @@ use Rattle.model.specs.declared.Event.the-variants as event
 use Rattle.model.specs.declared.Told.{Told}
 use Rattle.model.proofs.SoundFacts.{Sound, parts}
 use Rattle.model.proofs.Shapes.{fetch-number}
-use Rattle.tables.specs.declared.Layout.{Layout}
-use Rattle.tables.specs.Layout.{Placed}
-use Rattle.tables.specs.Raw.{First, frontAt}
+use Rattle.tables.specs.Raw.{frontAt}
+use Rattle.layout.specs.declared.Layout.{Layout}
+use Rattle.layout.specs.Layout.{Placed}
+use Rattle.layout.specs.Places.{First}
 use Rattle.tables.specs.Telling.{telling}
-use Rattle.tables.proofs.Stands.{Stands, is-stands, stands-encode}
 use Rattle.tables.proofs.Queue.{queue-used, pop-stands, head-kind, head-address, front-is}
+use Rattle.layout.proofs.Stands.{Stands, is-stands, stands-encode}
 use Rattle.tables.proofs.Misses.{address-at, sent-stands, entry-first}
 use Rattle.tables.proofs.Tellings.{telling-tells, telling-tidy, refusal-leaves, done-leaves}
 use Rattle.steps.specs.Parts.{HeadAsked, Marked, HeadMarked}

@@ -16,7 +16,7 @@ use Rattle.model.specs.declared.Refusal.the-variants.{BadCycle}
 use Rattle.model.specs.declared.Event.the-variants as event
 use Rattle.model.specs.declared.Told.{Told}
 use Rattle.tables.specs.Telling.{telling}
-use Rattle.tables.proofs.Stands.{Stands, is-stands, stands-encode}
+use Rattle.layout.proofs.Stands.{Stands, is-stands, stands-encode}
 use Rattle.tables.proofs.Tellings.{telling-tells, telling-tidy, refusal-leaves, done-leaves}
 
 module _ (S : Settings) (c : ℕ) (t : Tables) {longs words marks : List ℕ} (i : Is S (lent longs words marks) t) where

@@ -1,19 +1,21 @@
 -- Words for the parts of send and fill, over the raw numbers of the lent slices.
 use mathlib.Core.Path.{_≡_}
-use Prim.Native.Nat.{ℕ, _+_, _*_, _<_}
+use Prim.Native.Nat.{ℕ, _+_, _-_, _*_, _≤_, _<_}
 use mathlib.Core.Bool.{Bool, true, false, not, _&&_}
 use mathlib.Core.List.{List, [], _∷_}
 use lib.ListN.{length, getD, set, replicate}
 use lib.Dec.{eqb}
-use Rattle.model.specs.Words.{fit}
+use Rattle.model.specs.Words.{fit, one}
 use Rattle.model.specs.Regions.{put}
 use Rattle.model.specs.Tables.{empty, idle}
 use Rattle.model.specs.Steps.{arrived}
 use Rattle.model.specs.declared.Sector.{Sector}
 use Rattle.model.specs.declared.Event.the-variants.{Filled}
 use Rattle.model.specs.declared.Told.{Told}
-use Rattle.tables.specs.declared.Layout.{Layout}
-use Rattle.tables.specs.Raw.{First, holdsAt, sectorsFrom, statuses, masks, readables}
+use Rattle.layout.specs.declared.Layout.{Layout}
+use Rattle.layout.specs.Places.{First}
+use Rattle.layout.specs.Sectors.{sectorsFrom, statuses, masks, readables, someModified}
+use Rattle.tables.specs.Raw.{holdsAt}
 
 -- ---- send
 
@@ -44,12 +46,24 @@ Holding longs marks base n block = (k : ℕ) × (k < n) × (holdsAt longs marks 
 abbrev pub arrivedAt : ℕ → List Sector → List Sector
 arrivedAt k xs = set xs k (arrived (getD xs k empty))
 
+-- the four sectors of line l
+abbrev pub liftedAt : Layout → ℕ → List ℕ → List ℕ → List Sector
+liftedAt at l words marks = sectorsFrom words marks (4 * l) (at .masks + 4 * l) (at .readables + 4 * l)
+
+-- the dirty count is no more than there can be lines, and counts line l if it is dirty
+abbrev pub CountFits : Layout → ℕ → List ℕ → List ℕ → Type 0
+CountFits at l words marks = (getD words (at .dirty) 0 ≤ 1024) × (one (someModified (liftedAt at l words marks)) ≤ getD words (at .dirty) 0)
+
+-- the dirty count, when the line's four sectors become these
+abbrev pub countAfter : Layout → ℕ → List ℕ → List ℕ → List Sector → List ℕ
+countAfter at l words marks four =
+    put words (at .dirty) ((getD words (at .dirty) 0 + one (someModified four) - one (someModified (liftedAt at l words marks))) ∷ [])
+
 -- sector k of line l has come
 pub record SectorFilled (at : Layout) (l k : ℕ) (words marks words′ marks′ : List ℕ) : Type 0 where
-  pub words-are : words′ ≡ put words (at .masks + 4 * l) (masks (arrivedAt k (sectorsFrom words marks (4 * l) (at .masks + 4 * l) (at .readables + 4 * l))))
+  pub words-are : words′ ≡ put (countAfter at l words marks (arrivedAt k (liftedAt at l words marks))) (at .masks + 4 * l) (masks (arrivedAt k (liftedAt at l words marks)))
   pub marks-are : marks′
-      ≡ put (put marks (4 * l) (statuses (arrivedAt k (sectorsFrom words marks (4 * l) (at .masks + 4 * l) (at .readables + 4 * l)))))
-      (at .readables + 4 * l) (readables (arrivedAt k (sectorsFrom words marks (4 * l) (at .masks + 4 * l) (at .readables + 4 * l))))
+      ≡ put (put marks (4 * l) (statuses (arrivedAt k (liftedAt at l words marks)))) (at .readables + 4 * l) (readables (arrivedAt k (liftedAt at l words marks)))
 
 -- sector k of a line that has the block has come
 pub record LineFilled (at : Layout) (n block k : ℕ) (longs words marks words′ marks′ : List ℕ) : Type 0 where

@@ -1,5 +1,6 @@
 // The inner steps over the three lent slices, behind the checks of the public calls: send, fill and tick. They ask that the slices are
 // the encoding of sound tables, and tell and leave what the step on those tables says.
+use layout::Layout;
 use model::BlockAddress;
 use model::Event;
 use model::Refusal;
@@ -8,10 +9,9 @@ use model::SectorAddress;
 use model::Settings;
 use model::Status;
 use model::Told;
-use tables::Layout;
 ghost use mathlib.Core.Path.{_≡_};
 ghost use mathlib.Core.Bool.{true, _&&_};
-ghost use Prim.Native.Nat.{_+_, _*_, _≤_, _<_};
+ghost use Prim.Native.Nat.{ℕ, _+_, _*_, _≤_, _<_};
 ghost use lib.ListN.{length, getD};
 ghost use lib.Dec.{eqb, ltb};
 ghost use Rattle.model.specs.Range.{linesOf};
@@ -20,9 +20,9 @@ ghost use Rattle.model.specs.Address.{blockOf, sectorIndex, setIndex};
 ghost use Rattle.model.specs.Lent.{lent};
 ghost use Rattle.model.specs.Steps.{send, arrived, fill, tick};
 ghost use Rattle.model.specs.Inner.{Fit, Held, Does};
-ghost use Rattle.tables.specs.Layout.{Placed};
+ghost use Rattle.layout.specs.Layout.{Placed};
 ghost use Rattle.tables.specs.Raw.{holdsAt};
-ghost use Rattle.steps.specs.Parts.{HeadAsked, HeadMarked, Holding, SectorFilled, LineFilled, releasing};
+ghost use Rattle.steps.specs.Parts.{HeadAsked, HeadMarked, Holding, SectorFilled, LineFilled, releasing, CountFits};
 
 // ---- send
 
@@ -47,8 +47,8 @@ pub fn send_step(s: Settings, longs: &mut [u64], words: &mut [u32], marks: &mut 
     ensures { λ r. ⌜ Does s send (lent (now (longs .entry)) (now (words .entry)) (now (marks .entry))) r
         (lent (now (longs .exit)) (now (words .exit)) (now (marks .exit))) ⌝ }
 {
-    let at = tables::laid_out(s);
-    let n = tables::used(marks, at.kinds, s.places);
+    let at = layout::laid_out(s);
+    let n = layout::used(marks, at.kinds, s.places);
     if n == 0 {
         return tables::refused(Refusal::QueueEmpty);
     }
@@ -89,15 +89,18 @@ fn arrive(x: Sector) -> Sector
     }
 }
 
-// The four sectors of line `l` with sector `k` arrived.
+// The four sectors of line `l` with sector `k` arrived, and the line counted.
 fn fill_sector(at: Layout, words: &mut [u32], marks: &mut [u8], l: usize, k: usize)
     requires { ⌜ (k < 4) × (at .masks + 4 * l + 4 ≤ length (now words)) × (4 * l + 4 ≤ length (now marks)) × (at .readables + 4 * l + 4 ≤ length (now marks)) ⌝ }
+    requires { ⌜ (at .dirty < length (now words)) × CountFits at l (now words) (now marks) ⌝ }
     ensures { λ _. ⌜ SectorFilled at l k (now (words .entry)) (now (marks .entry)) (now (words .exit)) (now (marks .exit)) ⌝ }
 {
-    let mut four = tables::lift(at, words, marks, l);
+    let mut four = layout::lift(at, words, marks, l);
+    let was = layout::some_modified(four);
     let x = four[k];
     four[k] = arrive(x);
-    tables::store(at, words, marks, l, four);
+    layout::recount(words, at.dirty, was, layout::some_modified(four));
+    layout::store(at, words, marks, l, four);
 }
 
 // Fills the address's sector in the line that has its block.
@@ -112,6 +115,7 @@ fn fill_line(
     requires { ⌜ Fit s (now longs) (now words) (now marks) ⌝ }
     requires { ⌜ Placed s at ⌝ }
     requires { ⌜ Holding (now longs) (now marks) (setIndex s address * s .ways) (s .ways) (blockOf address) ⌝ }
+    requires { ⌜ ((l : ℕ) → l < linesOf s → CountFits at l (now words) (now marks)) ⌝ }
     ensures { λ _. ⌜ LineFilled at (linesOf s) (blockOf address) (sectorIndex address) (now (longs .entry)) (now (words .entry)) (now (marks .entry))
         (now (words .exit)) (now (marks .exit)) ⌝ }
 {
@@ -161,8 +165,8 @@ pub fn fill_step(
     ensures { λ r. ⌜ Does s (fill address) (lent (now (longs .entry)) (now (words .entry)) (now (marks .entry))) r
         (lent (now (longs .exit)) (now (words .exit)) (now (marks .exit))) ⌝ }
 {
-    let at = tables::laid_out(s);
-    let n = tables::used(marks, at.counts, s.entries);
+    let at = layout::laid_out(s);
+    let n = layout::used(marks, at.counts, s.entries);
     let e = tables::find_entry(longs, at.misses, n, SectorAddress(address));
     if !is_sent(at, marks, e, n) {
         return tables::refused(Refusal::NotSent);

@@ -15,11 +15,11 @@ pub use Rattle.model.specs.Tables.{noEntry}
 use Rattle.model.specs.Lent.{bit, longBlocks, wordBlocks, markBlocks, missOf, sentOf, ticketCountOf, ticketsIn}
 use Rattle.model.specs.declared.Settings.{Settings}
 use Rattle.model.proofs.Places.{length-places, field-put, field-get, field-region, take-fit}
-use Rattle.tables.specs.declared.Layout.{Layout}
-use Rattle.tables.specs.Layout.{Placed}
-use Rattle.tables.specs.Raw.{First}
-use Rattle.tables.proofs.Stands.{Stands}
-use Rattle.tables.proofs.Grown.{places-same, places-push-idle, field-push, field-extend, field-close-first, field-used}
+use Rattle.layout.specs.declared.Layout.{Layout}
+use Rattle.layout.specs.Layout.{Placed}
+use Rattle.layout.specs.Places.{First}
+use Rattle.layout.proofs.Stands.{Stands}
+use Rattle.layout.proofs.Grown.{places-same, places-push-idle, field-push, field-extend, field-close-first, field-used}
 
 abbrev pub withSent : Entry → Entry
 withSent x = record { address = x .address; sent = true; tickets = x .tickets }

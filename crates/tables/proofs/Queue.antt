@@ -14,13 +14,14 @@ use Rattle.model.specs.declared.Settings.{Settings}
 use Rattle.model.specs.declared.Queued.{Queued}
 use Rattle.model.proofs.Places.{length-places, field-get}
 use Rattle.model.proofs.Shapes.{kind-some, kind-back, queued-back}
-use Rattle.tables.specs.declared.Layout.{Layout}
-use Rattle.tables.specs.Layout.{Placed}
-use Rattle.tables.specs.Raw.{First, frontAt}
+use Rattle.tables.specs.Raw.{frontAt}
+use Rattle.layout.specs.declared.Layout.{Layout}
+use Rattle.layout.specs.Layout.{Placed}
+use Rattle.layout.specs.Places.{First}
 use Rattle.tables.proofs.Ones.{dropped-first}
-use Rattle.tables.proofs.Stores.{four-whole}
-use Rattle.tables.proofs.Stands.{Stands}
-use Rattle.tables.proofs.Grown.{field-push, field-close-first, field-used}
+use Rattle.layout.proofs.Stores.{four-whole}
+use Rattle.layout.proofs.Stands.{Stands}
+use Rattle.layout.proofs.Grown.{field-push, field-close-first, field-used}
 
 kind-used : (x : Queued) → getD (fit 1 (kindOf x)) 0 0 ≡ 0 → ⊥
 unfolding fit

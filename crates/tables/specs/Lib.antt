@@ -1,4 +1,3 @@
--- What the leaves over the lent slices say, and where the parts of the slices lie.
-pub mod Layout
+-- What the leaves over the lent slices say.
 pub mod Raw
 pub mod Telling

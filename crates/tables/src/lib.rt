@@ -1,66 +1,27 @@
-// Leaves over the lent slices at offsets inside them: where the parts lie, a region that closes up, a search, the queue, the miss
-// table, a line's tag and statuses, its four sectors. The contracts speak of the raw numbers.
+// Leaves over the lent slices at offsets inside them: a region that closes up, a search, the queue, the miss table, a line's tag and
+// statuses. The contracts speak of the raw numbers. Where the parts lie and a line's four sectors are in `layout`.
+use layout::Layout;
 use model::BlockAddress;
 use model::Event;
 use model::Queued;
 use model::Refusal;
-use model::Sector;
 use model::SectorAddress;
-use model::Settings;
 use model::Told;
 use model::idle;
 use model::queue_kind_number;
 use model::queue_kind_of;
-use model::status_number;
-use model::status_of;
 ghost use mathlib.Core.Path.{_≡_};
-ghost use mathlib.Core.Bool.{true};
 ghost use Prim.Native.Nat.{_+_, _-_, _*_, _≤_, _<_};
 ghost use mathlib.Core.List.{[], _∷_};
 ghost use lib.ListN.{length};
 ghost use lib.Dec.{eqb};
-ghost use Rattle.model.specs.Range.{inRange};
 ghost use Rattle.model.specs.Words.{fit};
-ghost use Rattle.model.specs.Numbers.{statusNumber, queueKindNumber};
-ghost use Rattle.model.specs.Lent.{bit};
+ghost use Rattle.model.specs.Numbers.{queueKindNumber};
 ghost use Rattle.model.specs.Regions.{region, put, closed};
 ghost use Rattle.model.specs.declared.Event.the-variants as event;
-ghost use Rattle.tables.specs.Layout.{Placed};
-ghost use Rattle.tables.specs.Raw.{First, frontAt, unusedAt, holdsAt, sectorFrom, sectorsFrom, statuses, masks, readables};
+ghost use Rattle.layout.specs.Places.{First};
+ghost use Rattle.tables.specs.Raw.{frontAt, unusedAt, holdsAt};
 ghost use Rattle.tables.specs.Telling.{telling};
-
-// Where each part of the tables begins, behind the part before it.
-pub struct Layout {
-    pub misses: usize,
-    pub queue: usize,
-    pub masks: usize,
-    pub tickets: usize,
-    pub backs: usize,
-    pub readables: usize,
-    pub sent: usize,
-    pub counts: usize,
-    pub kinds: usize,
-}
-
-pub fn laid_out(s: Settings) -> Layout
-    requires { ⌜ inRange s ≡ true ⌝ }
-    ensures { λ r. ⌜ Placed s r ⌝ }
-{
-    let lines = s.sets * s.ways;
-    let tickets = 1 + 5 * lines;
-    let sent = 8 * lines;
-    Layout {
-        misses: lines,
-        queue: lines + s.entries,
-        masks: 1 + lines,
-        tickets,
-        backs: tickets + s.readers * s.entries,
-        readables: 4 * lines,
-        sent,
-        counts: sent + s.entries,
-        kinds: sent + 2 * s.entries,
-    }
-}
 
 // One event and no more.
 pub fn blank(first: Event) -> Told
@@ -116,29 +77,6 @@ pub fn close_marks(s: &mut [u8], at: usize, n: usize, by: usize)
         s[at + i] = x;
         i += 1;
     }
-}
-
-// The first of `n` bytes from `at` that is `mark`, or `n`.
-pub fn find_mark(marks: &[u8], at: usize, n: usize, mark: u8) -> usize
-    requires { ⌜ at + n ≤ length (now marks) ⌝ }
-    ensures { λ r. ⌜ First (now (marks .entry)) at n mark r ⌝ }
-{
-    let mut i = 0;
-    while i < n {
-        if marks[at + i] == mark {
-            return i;
-        }
-        i += 1;
-    }
-    i
-}
-
-// The first of `n` bytes from `at` that is 0, or `n`: how many places of a table are in use, by a byte that isn't 0 in those.
-pub fn used(marks: &[u8], at: usize, n: usize) -> usize
-    requires { ⌜ at + n ≤ length (now marks) ⌝ }
-    ensures { λ r. ⌜ First (now (marks .entry)) at n 0 r ⌝ }
-{
-    find_mark(marks, at, n, 0)
 }
 
 // The first of `n` miss addresses from `at` that is the address, or `n`.
@@ -322,92 +260,4 @@ pub fn holds_block(longs: &[u64], marks: &[u8], l: usize, block: BlockAddress) -
     } else {
         false
     }
-}
-
-// ---- a line's four sectors
-
-// The sector whose status stands at `s`, mask at `w` and readable mark at `r`.
-fn sector_from(words: &[u32], marks: &[u8], s: usize, w: usize, r: usize) -> Sector
-    requires { ⌜ (w < length (now words)) × (s < length (now marks)) × (r < length (now marks)) ⌝ }
-    ensures { λ x. ⌜ x ≡ sectorFrom (now (words .entry)) (now (marks .entry)) s w r ⌝ }
-{
-    Sector {
-        status: status_of(marks[s]),
-        mask: words[w],
-        readable: marks[r] == 1,
-    }
-}
-
-pub fn lift(at: Layout, words: &[u32], marks: &[u8], line: usize) -> [Sector; 4]
-    requires { ⌜ (at .masks + 4 * line + 4 ≤ length (now words)) × (4 * line + 4 ≤ length (now marks)) × (at .readables + 4 * line + 4 ≤ length (now marks)) ⌝ }
-    ensures { λ r. ⌜ r ≡ sectorsFrom (now (words .entry)) (now (marks .entry)) (4 * line) (at .masks + 4 * line) (at .readables + 4 * line) ⌝ }
-{
-    let s = 4 * line;
-    let w = at.masks + s;
-    let r = at.readables + s;
-    [
-        sector_from(words, marks, s, w, r),
-        sector_from(words, marks, s + 1, w + 1, r + 1),
-        sector_from(words, marks, s + 2, w + 2, r + 2),
-        sector_from(words, marks, s + 3, w + 3, r + 3),
-    ]
-}
-
-fn store_masks(words: &mut [u32], w: usize, four: [Sector; 4])
-    requires { ⌜ w + 4 ≤ length (now words) ⌝ }
-    ensures { λ _. ⌜ now (words .exit) ≡ put (now (words .entry)) w (masks four) ⌝ }
-{
-    let a = four[0];
-    let b = four[1];
-    let c = four[2];
-    let d = four[3];
-    words[w] = a.mask;
-    words[w + 1] = b.mask;
-    words[w + 2] = c.mask;
-    words[w + 3] = d.mask;
-}
-
-fn status_byte(x: Sector) -> u8
-    ensures { λ r. ⌜ r ≡ statusNumber (x .status) ⌝ }
-{
-    let status = x.status;
-    status_number(status)
-}
-
-fn store_statuses(marks: &mut [u8], s: usize, four: [Sector; 4])
-    requires { ⌜ s + 4 ≤ length (now marks) ⌝ }
-    ensures { λ _. ⌜ now (marks .exit) ≡ put (now (marks .entry)) s (statuses four) ⌝ }
-{
-    marks[s] = status_byte(four[0]);
-    marks[s + 1] = status_byte(four[1]);
-    marks[s + 2] = status_byte(four[2]);
-    marks[s + 3] = status_byte(four[3]);
-}
-
-fn readable_byte(x: Sector) -> u8
-    ensures { λ r. ⌜ r ≡ bit (x .readable) ⌝ }
-{
-    if x.readable { 1 } else { 0 }
-}
-
-fn store_readables(marks: &mut [u8], r: usize, four: [Sector; 4])
-    requires { ⌜ r + 4 ≤ length (now marks) ⌝ }
-    ensures { λ _. ⌜ now (marks .exit) ≡ put (now (marks .entry)) r (readables four) ⌝ }
-{
-    marks[r] = readable_byte(four[0]);
-    marks[r + 1] = readable_byte(four[1]);
-    marks[r + 2] = readable_byte(four[2]);
-    marks[r + 3] = readable_byte(four[3]);
-}
-
-// Stores the four sectors of a line back.
-pub fn store(at: Layout, words: &mut [u32], marks: &mut [u8], line: usize, four: [Sector; 4])
-    requires { ⌜ (at .masks + 4 * line + 4 ≤ length (now words)) × (4 * line + 4 ≤ length (now marks)) × (at .readables + 4 * line + 4 ≤ length (now marks)) ⌝ }
-    ensures { λ _. ⌜ (now (words .exit) ≡ put (now (words .entry)) (at .masks + 4 * line) (masks four))
-        × (now (marks .exit) ≡ put (put (now (marks .entry)) (4 * line) (statuses four)) (at .readables + 4 * line) (readables four)) ⌝ }
-{
-    let s = 4 * line;
-    store_masks(words, at.masks + s, four);
-    store_statuses(marks, s, four);
-    store_readables(marks, at.readables + s, four);
 }

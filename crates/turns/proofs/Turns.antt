@@ -26,10 +26,10 @@ use Rattle.model.proofs.LentRounds.{took-left}
 use Rattle.model.proofs.SeenRounds.{Clear, unrefused, unrefused-too, send-clear, fill-clear, access-clear}
 use Rattle.model.proofs.SoundFacts.{parts}
 use Rattle.model.proofs.Soundness.{send-keeps-sound, fill-keeps-sound, access-keeps-sound}
-use Rattle.tables.specs.declared.Layout.{Layout}
-use Rattle.tables.specs.Layout.{Placed}
-use Rattle.tables.specs.Raw.{First}
-use Rattle.tables.proofs.Stands.{is-stands}
+use Rattle.layout.specs.declared.Layout.{Layout}
+use Rattle.layout.specs.Layout.{Placed}
+use Rattle.layout.specs.Places.{First}
+use Rattle.layout.proofs.Stands.{is-stands}
 use Rattle.tables.proofs.Misses.{noEntry, misses-used, address-at, sent-at}
 use Rattle.tables.proofs.Queue.{queue-used}
 use Rattle.steps.proofs.Entries.{few-misses, few-queued, some-tickets}

@@ -81,9 +81,9 @@ pub fn first_sent(s: Settings, longs: &[u64], words: &[u32], marks: &[u8]) -> Se
     requires { ⌜ Held s (lent (now longs) (now words) (now marks)) ⌝ }
     ensures { λ r. ⌜ FindsSent s (lent (now (longs .entry)) (now (words .entry)) (now (marks .entry))) r ⌝ }
 {
-    let at = tables::laid_out(s);
-    let n = tables::used(marks, at.counts, s.entries);
-    let e = tables::find_mark(marks, at.sent, n, 1);
+    let at = layout::laid_out(s);
+    let n = layout::used(marks, at.counts, s.entries);
+    let e = layout::find_mark(marks, at.sent, n, 1);
     if n <= e {
         return Sent::Nothing;
     }
@@ -159,9 +159,9 @@ pub fn most_rounds(s: Settings, longs: &[u64], words: &[u32], marks: &[u8]) -> u
     requires { ⌜ Held s (lent (now longs) (now words) (now marks)) ⌝ }
     ensures { λ r. ⌜ Enough s (lent (now (longs .entry)) (now (words .entry)) (now (marks .entry))) r ⌝ }
 {
-    let at = tables::laid_out(s);
-    let queued = tables::used(marks, at.kinds, s.places);
-    let missed = tables::used(marks, at.counts, s.entries);
+    let at = layout::laid_out(s);
+    let queued = layout::used(marks, at.kinds, s.places);
+    let missed = layout::used(marks, at.counts, s.entries);
     if queued + missed == 0 {
         return 1;
     }

@@ -31,9 +31,9 @@ fn in_use(s: Settings, longs: &[u64], words: &[u32], marks: &[u8]) -> Counts
     requires { ⌜ Held s (lent (now longs) (now words) (now marks)) ⌝ }
     ensures { λ r. ⌜ Counted s (lent (now (longs .entry)) (now (words .entry)) (now (marks .entry))) r ⌝ }
 {
-    let at = tables::laid_out(s);
-    let queued = tables::used(marks, at.kinds, s.places);
-    let missed = tables::used(marks, at.counts, s.entries);
+    let at = layout::laid_out(s);
+    let queued = layout::used(marks, at.kinds, s.places);
+    let missed = layout::used(marks, at.counts, s.entries);
     Counts { queued, missed }
 }
 

@@ -1,7 +1,7 @@
 // Which setting is outside its range.
 ghost use mathlib.Core.Path.{_≡_};
 ghost use mathlib.Core.Bool.{not};
-ghost use Rattle.model.specs.Range.{within, powerTo256};
+ghost use Rattle.model.specs.Range.{within};
 ghost use Rattle.wording.specs.Pieces.{Puts};
 ghost use Rattle.wording.specs.Settings.{settingWords, setsWords, firstWords, badWords};
 
@@ -11,20 +11,6 @@ fn put_setting(name: &[u8], n: u8, range: &[u8], out: &mut [u8], at: usize) -> u
     let a = text::put_text(name, out, at);
     let b = text::put_decimal(n as u64, out, a);
     text::put_text(range, out, b)
-}
-
-fn is_power(sets: u16) -> bool
-    ensures { λ r. ⌜ r ≡ powerTo256 sets ⌝ }
-{
-    (sets == 1)
-        | (sets == 2)
-        | (sets == 4)
-        | (sets == 8)
-        | (sets == 16)
-        | (sets == 32)
-        | (sets == 64)
-        | (sets == 128)
-        | (sets == 256)
 }
 
 fn outside(n: u8, low: u8, high: u8) -> bool
@@ -51,7 +37,7 @@ fn put_first(s: &[u8], out: &mut [u8], at: usize) -> usize
     let entries = records::number1(s, 5);
     let readers = records::number1(s, 6);
     let places = records::number1(s, 7);
-    if !is_power(sets) {
+    if !layout::power_to_256(sets as usize) {
         return put_sets(sets, out, at);
     }
     if outside(ways, 1, 16) {

@@ -2,7 +2,7 @@
 use mathlib.Core.Path.{sym, _∙_}
 use borrow.Author.Needs.{needs}
 use Rattle.model.proofs.Flags.{not-yes, no-not}
-use Rattle.soundness.proofs.Verdicts.{lengths-fit}
+use Rattle.layout.proofs.OfRange.{lengths-fit}
 use Rattle.cache.proofs.Freshly.{fresh-out-of-range, fresh-other-length, fresh-made}
 use Rattle.cache.proofs.fresh.Statement.{statement}
 use Rattle.cache.proofs.fresh.Tie as tie

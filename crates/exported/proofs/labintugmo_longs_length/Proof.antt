@@ -5,8 +5,6 @@ use Rattle.exported.proofs.Calling.{length-given, length-none}
 use Rattle.exported.proofs.labintugmo_longs_length.Statement.{statement}
 use Rattle.exported.proofs.labintugmo_longs_length.Tie as tie
 use Rattle.exported.proofs.settings.Reads as settings-reads
-use Rattle.soundness.proofs.in_range.Reads as in-range-reads
-use Rattle.soundness.proofs.longs_length.Reads as longs-length-reads
 
 pub labintugmo-longs-length-spec : {M : Type 1} → statement M
 labintugmo-longs-length-spec =

@@ -5,8 +5,6 @@ use Rattle.exported.proofs.Calling.{length-given, length-none}
 use Rattle.exported.proofs.labintugmo_marks_length.Statement.{statement}
 use Rattle.exported.proofs.labintugmo_marks_length.Tie as tie
 use Rattle.exported.proofs.settings.Reads as settings-reads
-use Rattle.soundness.proofs.in_range.Reads as in-range-reads
-use Rattle.soundness.proofs.marks_length.Reads as marks-length-reads
 
 pub labintugmo-marks-length-spec : {M : Type 1} → statement M
 labintugmo-marks-length-spec =

@@ -1,24 +1,22 @@
 use Prim.Native.Nat.{_+_, _*_, _≤_}
-use mathlib.Core.Path.{sym}
+use mathlib.Core.Path.{refl}
 use native.Mathlib.Omega.{arith}
 use borrow.Author.Needs.{needs}
 use Rattle.model.specs.Range.{linesOf}
-use Rattle.probe.proofs.Lines.{dirty-counted}
 use Rattle.probe.proofs.Meetings.{ways-room, found-below, decided-met, decided-missed}
 use Rattle.probe.proofs.decide.Statement.{statement}
 use Rattle.probe.proofs.decide.Tie as tie
 
-room : (c : tie.After-set-index) → c .set-index .result * c .before .before .before .before .before .before .args .s .ways + c .before .before .before .before .before .before .args .s .ways ≤ linesOf (c .before .before .before .before .before .before .args .s)
+room : (c : tie.After-set-index) → c .set-index .result * c .before .before .before .before .before .args .s .ways + c .before .before .before .before .before .args .s .ways ≤ linesOf (c .before .before .before .before .before .args .s)
 room c =
-    let start = c .before .before .before .before .before .before in
+    let start = c .before .before .before .before .before in
     let a = start .args in
-    ways-room (a .s) (a .longs .now) (a .words .now) (a .marks .now) (start .pre) (a .x) (c .before .address-of .ensures) (c .set-index .ensures)
+    ways-room (a .s) (a .longs .now) (a .words .now) (a .marks .now) (start .pre .1) (a .x) (c .before .address-of .ensures) (c .set-index .ensures)
 
 pub decide-spec : {M : Type 1} → statement M
 decide-spec =
     tie.close
     (tie.spec
-    (λ c. search needs)
     (λ c κs. search needs)
     (λ c κs. search needs)
     (λ c. let h = room c in omega arith)
@@ -26,18 +24,18 @@ decide-spec =
     (λ c κs. let h = room (c .before) in search needs)
     (λ c. search needs)
     (λ c κs. let at = c .before .before .before .before .before in
-    let start = at .before .before .before .before .before .before in
+    let start = at .before .before .before .before .before in
     let a = start .args in
     let h = room at in
-    let k = found-below (a .s) (a .longs .now) (a .words .now) (a .marks .now) (start .pre) (a .x) (at .before .address-of .ensures) (at .set-index .ensures) (c .before .before .before .before .block-of .ensures) (c .before .before .before .find .ensures) (c .before .found .given .1) in
+    let k = found-below (a .s) (a .longs .now) (a .words .now) (a .marks .now) (start .pre .1) (a .x) (at .before .address-of .ensures) (at .set-index .ensures) (c .before .before .before .before .block-of .ensures) (c .before .before .before .find .ensures) (c .before .found .given .1) in
     search needs)
     (λ c. search needs)
     (λ c κs. let h = room (c .before .before .before .before) in search needs)
     (λ c. let at = c .before .before .before .before .before .before in
-    let start = at .before .before .before .before .before .before in
+    let start = at .before .before .before .before .before in
     let a = start .args in
-    decided-met (a .s) (a .longs .now) (a .words .now) (a .marks .now) (start .pre) (a .x) (at .before .address-of .ensures) (at .set-index .ensures) (c .before .before .before .before .before .block-of .ensures) (c .before .before .before .before .find .ensures) (c .before .before .found .given .1) (c .met .ensures))
+    decided-met (a .s) (a .longs .now) (a .words .now) (a .marks .now) (start .pre .1) (a .x) (at .before .address-of .ensures) (at .set-index .ensures) (c .before .before .before .before .before .block-of .ensures) (c .before .before .before .before .find .ensures) (c .before .before .found .given .1) (c .met .ensures))
     (λ c. let at = c .before .before .before .before .before in
-    let start = at .before .before .before .before .before .before in
+    let start = at .before .before .before .before .before in
     let a = start .args in
-    decided-missed (a .s) (a .longs .now) (a .words .now) (a .marks .now) (start .pre) (a .x) (at .before .address-of .ensures) (at .set-index .ensures) (c .before .before .before .before .block-of .ensures) (c .before .before .before .find .ensures) (c .before .enum-told .given .1) (sym (dirty-counted (linesOf (a .s)) (a .longs .now) (a .words .now) (a .marks .now))) (c .take-over .ensures)))
+    decided-missed (a .s) (a .longs .now) (a .words .now) (a .marks .now) (start .pre .1) (a .x) (at .before .address-of .ensures) (at .set-index .ensures) (c .before .before .before .before .block-of .ensures) (c .before .before .before .find .ensures) (c .before .enum-told .given .1) refl (c .take-over .ensures)))

@@ -15,4 +15,4 @@ victim-spec =
     (λ c κs. search needs)
     (λ c κs. search needs)
     (λ c. or-first _ (c .before .before .before .last-unused .ensures) (c .before .free .given .1))
-    (λ c. or-second (c .before .before .before .before .last-unused .ensures) (c .before .before .enum-told .given .1) (c .way-of .ensures ∙ ap wayOf (c .before .chosen .ensures))))
+    (λ c. or-second (c .before .before .before .before .last-unused .ensures) (c .before .before .enum-told .given .1) (c .way-of .ensures ∙ ap wayOf (c .before .earliest .ensures))))

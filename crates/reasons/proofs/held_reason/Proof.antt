@@ -1,7 +1,7 @@
 -- The dirty lines, counted.
 use native.Mathlib.Omega.{arith}
 use borrow.Author.Needs.{needs}
-use Rattle.tables.proofs.Stands.{is-stands, stands-fit}
+use Rattle.layout.proofs.Stands.{is-stands, stands-fit}
 use Rattle.probe.proofs.Meetings.{share-fits}
 use Rattle.reasons.proofs.Heads.{lines-shown}
 use Rattle.reasons.proofs.held_reason.Statement.{statement}

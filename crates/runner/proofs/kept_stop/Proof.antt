@@ -1,8 +1,8 @@
 -- The checks in order.
 use borrow.Author.Needs.{needs}
 use Rattle.model.specs.Lent.{lent}
-use Rattle.soundness.proofs.Tests.{said-no, said-yes}
-use Rattle.soundness.proofs.Verdicts.{lengths-fit}
+use Rattle.layout.proofs.Tests.{said-no, said-yes}
+use Rattle.layout.proofs.OfRange.{lengths-fit}
 use Rattle.runner.proofs.Kept.{kept-out, kept-length, kept-unsound, kept-goes}
 use Rattle.runner.proofs.kept_stop.Statement.{statement}
 use Rattle.runner.proofs.kept_stop.Tie as tie
@@ -18,17 +18,19 @@ kept-stop-spec =
     let r = c .before .before in
     let a = r .before .before .before .before .before .args in
     kept-length (a .s) (lent (a .longs .now) (a .words .now) (a .marks .now)) (said-yes (r .before .in-range .ensures) (r .if1 .left)) (said-no (c .before .lengths-fit .ensures) (c .if2 .taken)))
+    (λ c κs. let r = c .before .before in said-yes (r .before .in-range .ensures) (r .if1 .left))
     (λ c κs.
-    let r = c .before .before in
+    let f = c .before in
+    let r = f .before .before in
     let a = r .before .before .before .before .before .args in
-    lengths-fit (a .s) (a .longs .now) (a .words .now) (a .marks .now) (said-yes (r .before .in-range .ensures) (r .if1 .left)) (said-yes (c .before .lengths-fit .ensures) (c .if2 .left)))
+    (c .laid-out .ensures, lengths-fit (a .s) (a .longs .now) (a .words .now) (a .marks .now) (said-yes (r .before .in-range .ensures) (r .if1 .left)) (said-yes (f .before .lengths-fit .ensures) (f .if2 .left))))
     (λ c.
-    let f = c .before .before in
+    let f = c .before .before .before in
     let r = f .before .before in
     let a = r .before .before .before .before .before .args in
     kept-unsound (a .s) (lent (a .longs .now) (a .words .now) (a .marks .now)) (said-yes (r .before .in-range .ensures) (r .if1 .left)) (said-yes (f .before .lengths-fit .ensures) (f .if2 .left)) (said-no (c .before .tables-sound .ensures) (c .if3 .taken)))
     (λ c.
-    let f = c .before .before in
+    let f = c .before .before .before in
     let r = f .before .before in
     let a = r .before .before .before .before .before .args in
     kept-goes (a .s) (lent (a .longs .now) (a .words .now) (a .marks .now)) (said-yes (r .before .in-range .ensures) (r .if1 .left)) (said-yes (f .before .lengths-fit .ensures) (f .if2 .left)) (said-yes (c .before .tables-sound .ensures) (c .if3 .left))))

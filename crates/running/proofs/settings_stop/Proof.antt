@@ -1,7 +1,7 @@
 -- The checks in order.
 use borrow.Author.Needs.{needs}
 use Rattle.model.specs.Lent.{lent}
-use Rattle.soundness.proofs.Tests.{said-no, said-yes}
+use Rattle.layout.proofs.Tests.{said-no, said-yes}
 use Rattle.running.proofs.First.{settings-out, settings-length, settings-go}
 use Rattle.running.proofs.settings_stop.Statement.{statement}
 use Rattle.running.proofs.settings_stop.Tie as tie

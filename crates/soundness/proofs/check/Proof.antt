@@ -1,7 +1,9 @@
+-- Refused by the first check that fails, or passed.
 use borrow.Author.Needs.{needs}
 use Rattle.model.specs.Lent.{lent}
-use Rattle.soundness.proofs.Tests.{said-no, said-yes}
-use Rattle.soundness.proofs.Verdicts.{setting-refused, length-refused, unsound-refused, none-refused, lengths-fit}
+use Rattle.layout.proofs.Tests.{said-no, said-yes}
+use Rattle.layout.proofs.OfRange.{lengths-fit}
+use Rattle.soundness.proofs.Verdicts.{setting-refused, length-refused, unsound-refused, none-refused}
 use Rattle.soundness.proofs.check.Statement.{statement}
 use Rattle.soundness.proofs.check.Tie as tie
 
@@ -9,10 +11,11 @@ pub check-spec : {M : Type 1} → statement M
 check-spec =
     tie.close
     (tie.spec
-    (λ c κs. search needs)
-    (λ c. let a = c .before .before .before .before .before .args in setting-refused (a .s) (lent (a .longs .now) (a .words .now) (a .marks .now)) (said-no (c .before .in-range .ensures) (c .if1 .taken)))
-    (λ c κs. said-yes (c .before .in-range .ensures) (c .if1 .left))
-    (λ c. let ranged = c .before .before in let a = ranged .before .before .before .before .before .args in length-refused (a .s) (lent (a .longs .now) (a .words .now) (a .marks .now)) (said-yes (ranged .before .in-range .ensures) (ranged .if1 .left)) (said-no (c .before .lengths-fit .ensures) (c .if2 .taken)))
-    (λ c κs. let ranged = c .before .before in let a = ranged .before .before .before .before .before .args in lengths-fit (a .s) (a .longs .now) (a .words .now) (a .marks .now) (said-yes (ranged .before .in-range .ensures) (ranged .if1 .left)) (said-yes (c .before .lengths-fit .ensures) (c .if2 .left)))
-    (λ c. let fitted = c .before .before in let ranged = fitted .before .before in let a = ranged .before .before .before .before .before .args in unsound-refused (a .s) (lent (a .longs .now) (a .words .now) (a .marks .now)) (said-yes (ranged .before .in-range .ensures) (ranged .if1 .left)) (said-yes (fitted .before .lengths-fit .ensures) (fitted .if2 .left)) (said-no (c .before .tables-sound .ensures) (c .if3 .taken)))
-    (λ c. let fitted = c .before .before in let ranged = fitted .before .before in let a = ranged .before .before .before .before .before .args in none-refused (a .s) (lent (a .longs .now) (a .words .now) (a .marks .now)) (said-yes (ranged .before .in-range .ensures) (ranged .if1 .left)) (said-yes (fitted .before .lengths-fit .ensures) (fitted .if2 .left)) (said-yes (c .before .tables-sound .ensures) (c .if3 .left))))
+    (λ c κs. search needs)  -- in-range-requires
+    (λ c. let a = c .before .before .before .before .before .args in setting-refused (a .s) (lent (a .longs .now) (a .words .now) (a .marks .now)) (said-no (c .before .in-range .ensures) (c .if1 .taken)))  -- returns
+    (λ c κs. said-yes (c .before .in-range .ensures) (c .if1 .left))  -- lengths-fit-requires
+    (λ c. let ranged = c .before .before in let a = ranged .before .before .before .before .before .args in length-refused (a .s) (lent (a .longs .now) (a .words .now) (a .marks .now)) (said-yes (ranged .before .in-range .ensures) (ranged .if1 .left)) (said-no (c .before .lengths-fit .ensures) (c .if2 .taken)))  -- returns-2
+    (λ c κs. let ranged = c .before .before in said-yes (ranged .before .in-range .ensures) (ranged .if1 .left))  -- laid-out-requires
+    (λ c κs. let fitted = c .before in let ranged = fitted .before .before in let a = ranged .before .before .before .before .before .args in (c .laid-out .ensures, lengths-fit (a .s) (a .longs .now) (a .words .now) (a .marks .now) (said-yes (ranged .before .in-range .ensures) (ranged .if1 .left)) (said-yes (fitted .before .lengths-fit .ensures) (fitted .if2 .left))))  -- tables-sound-requires
+    (λ c. let fitted = c .before .before .before in let ranged = fitted .before .before in let a = ranged .before .before .before .before .before .args in unsound-refused (a .s) (lent (a .longs .now) (a .words .now) (a .marks .now)) (said-yes (ranged .before .in-range .ensures) (ranged .if1 .left)) (said-yes (fitted .before .lengths-fit .ensures) (fitted .if2 .left)) (said-no (c .before .tables-sound .ensures) (c .if3 .taken)))  -- returns-3
+    (λ c. let fitted = c .before .before .before in let ranged = fitted .before .before in let a = ranged .before .before .before .before .before .args in none-refused (a .s) (lent (a .longs .now) (a .words .now) (a .marks .now)) (said-yes (ranged .before .in-range .ensures) (ranged .if1 .left)) (said-yes (fitted .before .lengths-fit .ensures) (fitted .if2 .left)) (said-yes (c .before .tables-sound .ensures) (c .if3 .left))))  -- returns-4

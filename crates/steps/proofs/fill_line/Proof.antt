@@ -16,7 +16,7 @@ find-line-requires c κs =
     let start = set .before .before .before .before in
     let a = start .args in
     let room = set-room (a .s) (a .address) (set .set-index .ensures) (start .pre .0 .sets) (start .pre .0 .ways) in
-    let there = subst (λ (k : ℕ). Holding (a .longs .now) (a .marks .now) (k * a .s .ways) (a .s .ways) (blockOf (a .address))) (sym (set .set-index .ensures)) (start .pre .1 .1) in
+    let there = subst (λ (k : ℕ). Holding (a .longs .now) (a .marks .now) (k * a .s .ways) (a .s .ways) (blockOf (a .address))) (sym (set .set-index .ensures)) (start .pre .1 .1 .0) in
     ((omega arith, omega arith), subst (Holding (a .longs .now) (a .marks .now) (set .set-index .result * a .s .ways) (a .s .ways)) (sym (c .before .block-of .ensures)) there)
 
 fill-sector-requires : tie.Need-fill-sector-requires
@@ -26,7 +26,8 @@ fill-sector-requires c κs =
     let a = start .args in
     let room = set-room (a .s) (a .address) (set .set-index .ensures) (start .pre .0 .sets) (start .pre .0 .ways) in
     let p = start .pre .1 .0 in
-    (c .sector-index .ensures .1, omega arith, omega arith, omega arith)
+    let inside = c .before .before .before .find-line .ensures .1 in
+    ((c .sector-index .ensures .1, omega arith, omega arith, omega arith), (omega arith, start .pre .1 .1 .1 _ (omega (arith, inside))))
 
 returns : tie.Need-returns
 returns c =

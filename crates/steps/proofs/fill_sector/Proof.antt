@@ -1,5 +1,12 @@
--- The four are lifted, one is changed, and they are stored back.
-use Rattle.steps.proofs.Filling.{sector-filled}
+-- The four are lifted, one is changed, the line is counted, and they are stored back.
+use mathlib.Core.Path.{_≡_, sym, subst}
+use mathlib.Core.List.{List}
+use Prim.Native.Nat.{_≤_}
+use lib.ListN.{getD}
+use Rattle.model.specs.Words.{one}
+use Rattle.model.specs.declared.Sector.{Sector}
+use Rattle.layout.specs.Sectors.{someModified}
+use Rattle.steps.proofs.Filling.{sector-filled, was-fits}
 use borrow.Author.Needs.{needs}
 use Rattle.steps.proofs.fill_sector.Statement.{statement}
 use Rattle.steps.proofs.fill_sector.Tie as tie
@@ -9,12 +16,29 @@ fill-sector-spec =
     tie.close
     (tie.spec
     (λ c κs. search needs)  -- lift-requires
+    (λ c κs. search needs)  -- some-modified-requires
     (λ c. search needs)  -- mul-x
     (λ c. search needs)  -- array-copy-out-x
     (λ c κs. search needs)  -- arrive-requires
     (λ c. search needs)  -- mul-four
     (λ c. search needs)  -- array-set-from-four
+    (λ c κs. search needs)  -- some-modified-requires-2
+    (λ c κs.
+    let asked = c .before .before .before .before in
+    let lift = asked .before in
+    let start = lift .before .before .before .before .before in
+    (start .pre .1 .0, start .pre .1 .1 .0, was-fits _ _ _ _ (lift .lift .ensures) (asked .some-modified .ensures) (start .pre .1 .1 .1)))  -- recount-requires
     (λ c κs. search needs)  -- store-requires
     (λ c. search needs)  -- same-length
     (λ c. search needs)  -- same-length-2
-    (λ c. let start = c .before .before .before .before .before .before .before .before .before .before .before .before .before .before in let a = start .args in sector-filled (a .at) (a .l) (a .k) (a .words .now) (a .marks .now) (start .pre .0) (c .before .before .before .before .before .before .before .before .before .lift .ensures) (c .before .before .before .before .before .before .before .arrive .ensures) (c .before .before .before .before .store .ensures)))  -- returns
+    (λ c.
+    let stored = c .before .before .before .before in
+    let counted = stored .before .before .before .before .before in
+    let after = counted .before in
+    let arrived = after .before .before in
+    let asked = arrived .before .before in
+    let lift = asked .before in
+    let start = lift .before .before .before .before .before in
+    let a = start .args in
+    sector-filled (a .at) (a .l) (a .k) (a .words .now) (a .marks .now) (start .pre .0 .0) (lift .lift .ensures) (asked .some-modified .ensures) (arrived .arrive .ensures)
+    (after .some-modified2 .ensures) (counted .recount .ensures) (stored .store .ensures)))  -- returns

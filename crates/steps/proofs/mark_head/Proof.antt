@@ -1,6 +1,6 @@
 -- The head's entry is there; what is found first is marked.
 use Rattle.steps.proofs.Sending.{first-inside}
-use Rattle.tables.proofs.Stores.{one-put}
+use Rattle.layout.proofs.Stores.{one-put}
 use native.Mathlib.Omega.{arith}
 use mathlib.Core.Path.{refl}
 use borrow.Author.Needs.{needs}

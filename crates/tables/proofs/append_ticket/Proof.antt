@@ -1,5 +1,5 @@
 -- Two stores, each put in its place.
-use Rattle.tables.proofs.Stores.{one-put}
+use Rattle.layout.proofs.Stores.{one-put}
 use borrow.Author.Needs.{needs}
 use Rattle.tables.proofs.append_ticket.Statement.{statement}
 use Rattle.tables.proofs.append_ticket.Tie as tie

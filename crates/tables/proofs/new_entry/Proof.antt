@@ -1,5 +1,5 @@
 -- Three stores, each put in its place.
-use Rattle.tables.proofs.Stores.{one-put}
+use Rattle.layout.proofs.Stores.{one-put}
 use borrow.Author.Needs.{needs}
 use Rattle.tables.proofs.new_entry.Statement.{statement}
 use Rattle.tables.proofs.new_entry.Tie as tie

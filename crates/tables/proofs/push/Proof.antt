@@ -2,7 +2,7 @@
 use native.Mathlib.Omega.{arith}
 use lib.ListN.{length-set}
 use Rattle.model.proofs.Arrays.{words-length}
-use Rattle.tables.proofs.Stores.{one-put, four-put}
+use Rattle.layout.proofs.Stores.{one-put, four-put}
 use borrow.Author.Needs.{needs}
 use Rattle.tables.proofs.push.Statement.{statement}
 use Rattle.tables.proofs.push.Tie as tie

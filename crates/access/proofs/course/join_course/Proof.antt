@@ -7,7 +7,6 @@ use Rattle.access.proofs.Plans.{found, joining-full, joining-room}
 use Rattle.access.proofs.course.join_course.Statement.{statement}
 use Rattle.access.proofs.course.join_course.Tie as tie
 use Rattle.tables.proofs.find_entry.Reads as find-entry-reads
-use Rattle.tables.proofs.used.Reads as used-reads
 
 pub join-course-spec : {M : Type 1} → statement M
 join-course-spec =

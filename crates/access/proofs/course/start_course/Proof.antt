@@ -6,7 +6,6 @@ use Rattle.model.proofs.Bridge.{is-fit}
 use Rattle.access.proofs.Plans.{misses-counted}
 use Rattle.access.proofs.course.start_course.Statement.{statement}
 use Rattle.access.proofs.course.start_course.Tie as tie
-use Rattle.tables.proofs.used.Reads as used-reads
 
 pub start-course-spec : {M : Type 1} → statement M
 start-course-spec =

@@ -5,6 +5,7 @@ use native.Mathlib.Omega.{arith}
 use borrow.Author.Needs.{needs}
 use Rattle.model.specs.Lent.{lent}
 use Rattle.model.proofs.Bridge.{is-fit}
+use Rattle.access.proofs.Recounts.{count-few, was-counted}
 use Rattle.access.proofs.Kept.{touched}
 use Rattle.access.proofs.writes.act_line.Statement.{statement}
 use Rattle.access.proofs.writes.act_line.Tie as tie
@@ -22,7 +23,7 @@ act-line-spec =
     (λ c κs.
     let start = c .before .before .before .before .before .before .before .before in
     let m = start .pre .1 .met in
-    (start .pre .0, is-fit _ _ _ (m .is), m .below))
+    (start .pre .0, is-fit _ _ _ (m .is), m .below, count-few _ _ (m .is) (start .pre .0), was-counted _ _ (m .is) (start .pre .0) _ (m .below)))
     (λ c. search needs)
     (λ c.
     let touch = c .before .before in

@@ -1,5 +1,5 @@
 use borrow.Author.Needs.{needs}
-use Rattle.tables.proofs.Stores.{one-put}
+use Rattle.layout.proofs.Stores.{one-put}
 use Rattle.access.proofs.writes.write_tag.Statement.{statement}
 use Rattle.access.proofs.writes.write_tag.Tie as tie
 

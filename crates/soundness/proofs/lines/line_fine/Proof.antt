@@ -2,7 +2,7 @@
 use native.Mathlib.Omega.{arith}
 use native.Mathlib.Nat.{div-add-mod'}
 use borrow.Author.Needs.{needs}
-use Rattle.soundness.proofs.Tests.{said-no, said-yes}
+use Rattle.layout.proofs.Tests.{said-no, said-yes}
 use Rattle.soundness.proofs.OfLines.{idle-line, live-line}
 use Rattle.soundness.proofs.lines.line_fine.Statement.{statement}
 use Rattle.soundness.proofs.lines.line_fine.Tie as tie

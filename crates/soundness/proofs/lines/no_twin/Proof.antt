@@ -4,7 +4,7 @@ use borrow.Author.Needs.{needs}
 use Prim.Native.Nat.{_-_, _+_}
 use Rattle.model.specs.SoundLent as is
 use Rattle.model.proofs.Below.{Passed, passed-end}
-use Rattle.soundness.proofs.Tests.{fault-stop, fault-none}
+use Rattle.layout.proofs.Tests.{fault-stop, fault-none}
 use Rattle.soundness.proofs.OfLines.{not-twin}
 use Rattle.soundness.proofs.lines.no_twin.Statement.{statement}
 use Rattle.soundness.proofs.lines.no_twin.Tie as tie

@@ -15,6 +15,6 @@ sector-backed-spec =
     (λ c. search needs)
     (λ c. search needs)
     (λ c. search needs)
-    (λ c. let start = c .before .before .before .before .before .before in let a = start .args in omega (arith, reserved-low (a .s) (a .longs .now) (a .words .now) (a .marks .now) (start .pre .1) (a .i) (start .pre .2) (c .before .if1 .left)))
+    (λ c. let start = c .before .before .before .before .before .before in let a = start .args in omega (arith, reserved-low (a .s) (a .longs .now) (a .words .now) (a .marks .now) (start .pre .2) (a .i) (start .pre .3) (c .before .if1 .left)))
     (λ c κs. search needs)
     (λ c. imp-met _ _ _ (eq-eqb _ _ (c .before .before .if1 .left)) (c .has-entry .ensures)))

@@ -9,10 +9,10 @@ use Rattle.soundness.proofs.lines.sectors_backed.Statement.{statement}
 use Rattle.soundness.proofs.lines.sectors_backed.Tie as tie
 
 abbrev Inv-loop : tie.InvT-loop
-Inv-loop s longs words marks n i₀ i = Passed (is.sectorBacked s longs words marks) (4 * linesOf s) i
+Inv-loop s at longs words marks n i₀ i = Passed (is.sectorBacked s longs words marks) (4 * linesOf s) i
 
 abbrev μ-loop : tie.MeasureT-loop
-μ-loop s longs words marks n i₀ i = 4 * linesOf s - i
+μ-loop s at longs words marks n i₀ i = 4 * linesOf s - i
 
 pub sectors-backed-spec : {M : Type 1} → statement M
 sectors-backed-spec =

@@ -9,10 +9,10 @@ use Rattle.soundness.proofs.lines.sectors_shaped.Statement.{statement}
 use Rattle.soundness.proofs.lines.sectors_shaped.Tie as tie
 
 abbrev Inv-loop : tie.InvT-loop
-Inv-loop s longs words marks n fine₀ i₀ fine i = Joined (is.sectorShape s longs words marks) (4 * linesOf s) i fine
+Inv-loop s at longs words marks n fine₀ i₀ fine i = Joined (is.sectorShape s longs words marks) (4 * linesOf s) i fine
 
 abbrev μ-loop : tie.MeasureT-loop
-μ-loop s longs words marks n fine₀ i₀ fine i = 4 * linesOf s - i
+μ-loop s at longs words marks n fine₀ i₀ fine i = 4 * linesOf s - i
 
 pub sectors-shaped-spec : {M : Type 1} → statement M
 sectors-shaped-spec =

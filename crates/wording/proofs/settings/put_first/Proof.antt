@@ -21,7 +21,7 @@ returns c =
     let n = i1 .before .before in
     rw (
       seen n,
-      is-no-power (n .before .before .before .before .before .number2 .result) (i1 .before .is-power .ensures) (i1 .if1 .taken),
+      is-no-power (n .before .before .before .before .before .number2 .result) (i1 .before .power-to-256 .ensures) (i1 .if1 .taken),
     )
     (t .put-sets .ensures)
 
@@ -34,7 +34,7 @@ returns-2 c =
     let n = i1 .before .before in
     rw (
       seen n,
-      is-power (n .before .before .before .before .before .number2 .result) (i1 .before .is-power .ensures) (i1 .if1 .left),
+      is-power (n .before .before .before .before .before .number2 .result) (i1 .before .power-to-256 .ensures) (i1 .if1 .left),
       is-outside 1 16 (n .before .before .before .before .number1 .result) (i2 .before .outside .ensures) (i2 .if2 .taken),
     )
     (t .put-setting .ensures)
@@ -49,7 +49,7 @@ returns-3 c =
     let n = i1 .before .before in
     rw (
       seen n,
-      is-power (n .before .before .before .before .before .number2 .result) (i1 .before .is-power .ensures) (i1 .if1 .left),
+      is-power (n .before .before .before .before .before .number2 .result) (i1 .before .power-to-256 .ensures) (i1 .if1 .left),
       is-inside 1 16 (n .before .before .before .before .number1 .result) (i2 .before .outside .ensures) (i2 .if2 .left),
       is-outside 0 100 (n .before .before .before .number12 .result) (i3 .before .outside2 .ensures) (i3 .if3 .taken),
     )
@@ -66,7 +66,7 @@ returns-4 c =
     let n = i1 .before .before in
     rw (
       seen n,
-      is-power (n .before .before .before .before .before .number2 .result) (i1 .before .is-power .ensures) (i1 .if1 .left),
+      is-power (n .before .before .before .before .before .number2 .result) (i1 .before .power-to-256 .ensures) (i1 .if1 .left),
       is-inside 1 16 (n .before .before .before .before .number1 .result) (i2 .before .outside .ensures) (i2 .if2 .left),
       is-inside 0 100 (n .before .before .before .number12 .result) (i3 .before .outside2 .ensures) (i3 .if3 .left),
       is-outside 1 64 (n .before .before .number13 .result) (i4 .before .outside3 .ensures) (i4 .if4 .taken),
@@ -85,7 +85,7 @@ returns-5 c =
     let n = i1 .before .before in
     rw (
       seen n,
-      is-power (n .before .before .before .before .before .number2 .result) (i1 .before .is-power .ensures) (i1 .if1 .left),
+      is-power (n .before .before .before .before .before .number2 .result) (i1 .before .power-to-256 .ensures) (i1 .if1 .left),
       is-inside 1 16 (n .before .before .before .before .number1 .result) (i2 .before .outside .ensures) (i2 .if2 .left),
       is-inside 0 100 (n .before .before .before .number12 .result) (i3 .before .outside2 .ensures) (i3 .if3 .left),
       is-inside 1 64 (n .before .before .number13 .result) (i4 .before .outside3 .ensures) (i4 .if4 .left),
@@ -106,7 +106,7 @@ returns-6 c =
     let n = i1 .before .before in
     rw (
       seen n,
-      is-power (n .before .before .before .before .before .number2 .result) (i1 .before .is-power .ensures) (i1 .if1 .left),
+      is-power (n .before .before .before .before .before .number2 .result) (i1 .before .power-to-256 .ensures) (i1 .if1 .left),
       is-inside 1 16 (n .before .before .before .before .number1 .result) (i2 .before .outside .ensures) (i2 .if2 .left),
       is-inside 0 100 (n .before .before .before .number12 .result) (i3 .before .outside2 .ensures) (i3 .if3 .left),
       is-inside 1 64 (n .before .before .number13 .result) (i4 .before .outside3 .ensures) (i4 .if4 .left),
@@ -128,7 +128,7 @@ returns-7 c =
     let n = i1 .before .before in
     rw (
       seen n,
-      is-power (n .before .before .before .before .before .number2 .result) (i1 .before .is-power .ensures) (i1 .if1 .left),
+      is-power (n .before .before .before .before .before .number2 .result) (i1 .before .power-to-256 .ensures) (i1 .if1 .left),
       is-inside 1 16 (n .before .before .before .before .number1 .result) (i2 .before .outside .ensures) (i2 .if2 .left),
       is-inside 0 100 (n .before .before .before .number12 .result) (i3 .before .outside2 .ensures) (i3 .if3 .left),
       is-inside 1 64 (n .before .before .number13 .result) (i4 .before .outside3 .ensures) (i4 .if4 .left),
@@ -147,6 +147,7 @@ put-first-spec =
     (λ c κs. search needs)
     (λ c κs. search needs)
     (λ c κs. search needs)
+    (λ c. search needs)
     (λ c κs. search needs)
     (λ c κs. search needs)
     (λ c. search needs)

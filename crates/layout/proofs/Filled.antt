@@ -1,0 +1,129 @@
+-- A region filled with one number, turn by turn; slices so filled are the encoding of fresh tables.
+use mathlib.Core.Path.{_≡_, refl, sym, ap, _∙_}
+use mathlib.Core.List.{List, [], _++_, append-nil, _∷_}
+use Prim.Native.Nat.{ℕ, zero, suc, _+_, _*_, _≤_, _<_}
+use native.Mathlib.Nat.{mul-zero, mul-suc, zero-add}
+use native.Mathlib.Omega.{arith}
+use native.Mathlib.Numerals.{add-one}
+use lib.ListN.{length, set, replicate, length-set, length-replicate, getD-replicate, replicate-append-replicate}
+use lib.Seq.{paste, paste-zero, paste-suc}
+use Rattle.model.specs.declared.Settings.{Settings}
+use Rattle.model.specs.Words.{fit, places, joined}
+use Rattle.model.specs.Range.{linesOf}
+use Rattle.model.specs.Layout.{longsLength, wordsLength, marksLength}
+use Rattle.model.specs.Tables.{fresh, start}
+use Rattle.model.specs.Lent.{lent, tagOf, cycleOf, masksOf, statusesOf, readablesOf, missOf, sentOf, ticketCountOf, ticketsIn, queuedOf, kindOf, queueMasksOf, longBlocks, wordBlocks, markBlocks, encode}
+use Rattle.model.specs.Regions.{put}
+use Rattle.model.specs.Inner.{Fit}
+use Rattle.model.proofs.Region.{put-paste}
+use Rattle.model.proofs.Places.{fit-zeros, put-whole, put-past, put-within}
+
+-- ---- the loops: after i turns l has i times v from index `at`
+
+abbrev pub Filling : List ℕ → ℕ → ℕ → ℕ → List ℕ → ℕ → Type 0
+Filling l at n v s i = (s ≡ paste l at (replicate n v) i) × (length s ≡ length l)
+
+pub filling-start : (l : List ℕ) (at n v : ℕ) → Filling l at n v l 0
+filling-start l at n v = (paste-zero l at (replicate n v), refl)
+
+module _ (l : List ℕ) (at n v : ℕ) (room : at + n ≤ length l) where
+  pub filling-turn : (s : List ℕ) (i : ℕ) → i < n → Filling l at n v s i → Filling l at n v (set s (at + i) v) (i + 1)
+  filling-turn s i h f =
+      let len : length (replicate n v) ≡ n = length-replicate n v in (
+        ap (λ (x : List ℕ). set x (at + i) v) (f .0)
+            ∙ ap (λ (x : ℕ). set (paste l at (replicate n v) i) (at + i) x) (sym (getD-replicate n i v 0 h))
+            ∙ paste-suc l at (replicate n v) i 0 (omega arith) (omega arith)
+            ∙ ap (λ (x : ℕ). paste l at (replicate n v) x) (sym (add-one i)),
+        length-set s (at + i) v ∙ f .1,
+      )
+
+  pub filling-done : (s : List ℕ) (i : ℕ) → i ≡ n → Filling l at n v s i → s ≡ put l at (replicate n v)
+  filling-done s i e f = f .0 ∙ put-paste l at (replicate n v) i (length-replicate n v ∙ sym e)
+
+-- the whole list
+module _ (l : List ℕ) (v : ℕ) (s : List ℕ) (i : ℕ) where
+  pub filling-next : i < length l → Filling l 0 (length l) v s i → Filling l 0 (length l) v (set s i v) (i + 1)
+  filling-next h f = rw zero-add at (filling-turn l 0 (length l) v (omega arith) s i h f)
+
+  pub filling-whole : i ≡ length l → Filling l 0 (length l) v s i → s ≡ replicate (length l) v
+  filling-whole e f =
+      filling-done l 0 (length l) v (omega arith) s i e f ∙ put-whole l (replicate (length l) v) (length-replicate (length l) v)
+
+-- ---- the blocks of fresh tables
+
+abbrev zeros : ℕ → List ℕ
+zeros n = replicate n 0
+
+as-many : (v : ℕ) {m n : ℕ} → m ≡ n → replicate m v ≡ replicate n v
+as-many v {m} {n} e = ap (λ (k : ℕ). replicate k v) e
+
+module _ {A : Type 0} (g : A → List ℕ) (w : ℕ) where
+  -- n times the same record, of one number in all its places
+  even-places : (x : A) (v n : ℕ) → fit w (g x) ≡ replicate w v → places g w n (replicate n x) ≡ replicate (w * n) v
+  unfolding places
+  even-places x v zero e = rw (mul-zero w)
+  even-places x v (suc n) e =
+      let k : w + w * n ≡ w * suc n = rw mul-suc (omega arith) in
+      rw (e, even-places x v n e, replicate-append-replicate) (as-many v k)
+
+  no-places : (n : ℕ) → places g w n [] ≡ zeros (w * n)
+  unfolding places
+  no-places zero = rw (mul-zero w)
+  no-places (suc n) =
+      let k : w + w * n ≡ w * suc n = rw mul-suc (omega arith) in
+      rw (fit-zeros, no-places n, replicate-append-replicate) (as-many 0 k)
+
+-- zeros with v in the place of those from n to 2 n
+put-between : (n m v : ℕ) → put (zeros (n + (n + m))) n (replicate n v) ≡ zeros n ++ (replicate n v ++ zeros m)
+put-between n m v =
+    let a : length (zeros n) ≡ n = length-replicate n 0 in
+    let b : length (replicate n v) ≡ n = length-replicate n v in
+    let c : length (zeros n) + 0 ≡ n = omega arith in
+    let d : 0 + length (replicate n v) ≤ length (zeros n) = omega arith in
+    let e : length (replicate n v) ≡ length (zeros n) = omega arith in
+    ap (λ (l : List ℕ). put l n (replicate n v)) (sym (replicate-append-replicate n (n + m) 0))
+    ∙ ap (λ (k : ℕ). put (zeros n ++ zeros (n + m)) k (replicate n v)) (sym c)
+    ∙ put-past (zeros n) (zeros (n + m)) 0 (replicate n v)
+    ∙ ap (λ (l : List ℕ). zeros n ++ put l 0 (replicate n v)) (sym (replicate-append-replicate n m 0))
+    ∙ ap (λ (l : List ℕ). zeros n ++ l) (put-within (zeros n) (zeros m) 0 (replicate n v) d)
+    ∙ ap (λ (l : List ℕ). zeros n ++ (l ++ zeros m)) (put-whole (zeros n) (replicate n v) e)
+
+module _ (S : Settings) where
+  abbrev n : ℕ
+  n = linesOf S
+
+  fresh-longs : joined (longBlocks S (start S)) ≡ zeros (longsLength S)
+  unfolding fit
+  fresh-longs =
+      let k : 1 * n + (1 * S .entries + 1 * S .places) ≡ longsLength S = omega arith in
+      rw (even-places tagOf 1 fresh 0 n refl, no-places missOf 1 (S .entries), no-places queuedOf 1 (S .places), append-nil, replicate-append-replicate, replicate-append-replicate)
+      (as-many 0 k)
+
+  fresh-words : joined (wordBlocks S (start S)) ≡ zeros (wordsLength S)
+  unfolding fit
+  fresh-words =
+      let k : suc (1 * n + (4 * n + (S .readers * S .entries + (4 * S .places + 1)))) ≡ wordsLength S = omega arith in
+      let last : zeros (4 * S .places) ++ (0 ∷ []) ≡ zeros (4 * S .places + 1) = replicate-append-replicate (4 * S .places) 1 0 in
+      rw (even-places cycleOf 1 fresh 0 n refl, even-places masksOf 4 fresh 0 n refl, no-places ticketsIn (S .readers) (S .entries), no-places queueMasksOf 4 (S .places), last, replicate-append-replicate, replicate-append-replicate, replicate-append-replicate)
+      (as-many 0 k)
+
+  fresh-marks : joined (markBlocks S (start S)) ≡ put (zeros (marksLength S)) (4 * n) (replicate (4 * n) 1)
+  unfolding fit
+  fresh-marks =
+      let m = 1 * S .entries + (1 * S .entries + 1 * S .places) in
+      let k : marksLength S ≡ 4 * n + (4 * n + m) = omega arith in
+      rw (even-places statusesOf 4 fresh 0 n refl, even-places readablesOf 4 fresh 1 n refl, no-places sentOf 1 (S .entries), no-places ticketCountOf 1 (S .entries), no-places kindOf 1 (S .places), append-nil, replicate-append-replicate, replicate-append-replicate)
+      (sym (ap (λ (j : ℕ). put (zeros j) (4 * n) (replicate (4 * n) 1)) k ∙ put-between (4 * n) m 1))
+
+-- what `make_fresh` leaves
+pub fresh-filled : (S : Settings) (longs words marks : List ℕ) {l w z m : List ℕ} → Fit S longs words marks
+    → l ≡ zeros (length longs) → w ≡ zeros (length words) → z ≡ put marks 0 (zeros (length marks))
+    → m ≡ put z (4 * linesOf S) (replicate (4 * linesOf S) 1) → lent l w m ≡ encode S (start S)
+unfolding encode
+fresh-filled S longs words marks {l} {w} {z} {m} f a b c d =
+    let whole : put marks 0 (zeros (length marks)) ≡ zeros (length marks) = put-whole marks (zeros (length marks)) (length-replicate (length marks) 0) in
+    let e : l ≡ joined (longBlocks S (start S)) = a ∙ as-many 0 (f .longs-long) ∙ sym (fresh-longs S) in
+    let g : w ≡ joined (wordBlocks S (start S)) = b ∙ as-many 0 (f .words-long) ∙ sym (fresh-words S) in
+    let y : z ≡ zeros (marksLength S) = c ∙ whole ∙ as-many 0 (f .marks-long) in
+    let h : m ≡ joined (markBlocks S (start S)) = d ∙ ap (λ (x : List ℕ). put x (4 * linesOf S) (replicate (4 * linesOf S) 1)) y ∙ sym (fresh-marks S) in
+    rw (e, g, h)

@@ -1,0 +1,11 @@
+-- Laws of tests, of ranges and lengths, of the numbers by place; then how tables stand in the slices: stores, a record that comes or grows, lines and their sectors,
+-- fresh tables.
+pub mod Tests
+pub mod OfRange
+pub mod ByPlace
+pub mod Stores
+pub mod Grown
+pub mod Stands
+pub mod Lines
+pub mod DirtyCount
+pub mod Filled

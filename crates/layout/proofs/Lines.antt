@@ -1,0 +1,129 @@
+-- A line's leaves on the slices of tables: what is read of a line, its four sectors, and what stands after they are stored.
+use mathlib.Core.Path.{_≡_, refl, ap, _∙_}
+use mathlib.Core.Bool.{Bool, true, false}
+use mathlib.Core.List.{List, [], _∷_, map}
+use Prim.Native.Nat.{ℕ, _+_, _*_, _≤_, _<_}
+use native.Mathlib.Omega.{arith}
+use lib.ListN.{length, getD, set, length-map}
+use lib.Dec.{eqb}
+use Rattle.model.specs.Words.{fit, places, joined}
+use Rattle.model.specs.Numbers.{statusNumber, statusOf}
+use Rattle.model.specs.Range.{linesOf}
+use Rattle.model.specs.Regions.{put, ahead}
+use Rattle.model.specs.Tables.{Line, Tables, fresh, withLines}
+use Rattle.model.specs.Lent.{bit, longBlocks, wordBlocks, markBlocks, tagOf, cycleOf, masksOf, statusesOf, readablesOf}
+use Rattle.model.specs.declared.Settings.{Settings}
+use Rattle.model.specs.declared.Sector.{Sector}
+use Rattle.model.proofs.Answers.{status-of-number}
+use Rattle.model.proofs.Places.{length-places, field-put, field-get}
+use Rattle.layout.specs.declared.Layout.{Layout}
+use Rattle.layout.specs.Layout.{Placed}
+use Rattle.layout.specs.Sectors.{sectorsFrom, statuses, masks, readables}
+use Rattle.layout.proofs.Stands.{Stands}
+use Rattle.layout.proofs.Grown.{places-same}
+
+-- four numbers are their own places
+pub fit-four : (l : List ℕ) → length l ≡ 4 → l ≡ fit 4 l
+unfolding fit
+fit-four [] e = absurd (omega arith)
+fit-four (a ∷ []) e = absurd (omega arith)
+fit-four (a ∷ b ∷ []) e = absurd (omega arith)
+fit-four (a ∷ b ∷ c ∷ []) e = absurd (omega arith)
+fit-four (a ∷ b ∷ c ∷ d ∷ []) e = refl
+fit-four (a ∷ b ∷ c ∷ d ∷ f ∷ l) e = absurd (omega arith)
+
+pub flag-of-bit : (b : Bool) → eqb (bit b) 1 ≡ b
+flag-of-bit true = refl
+flag-of-bit false = refl
+
+sector-of : (x : Sector) {s m r : ℕ} → s ≡ statusNumber (x .status) → m ≡ x .mask → r ≡ bit (x .readable) → record { status = statusOf s; mask = m; readable = eqb r 1 } ≡ x
+sector-of x e f g = rw (e, f, g, status-of-number (x .status), flag-of-bit (x .readable))
+
+-- four sectors, read off the columns that they give
+sectors-of : (xs : List Sector) → length xs ≡ 4 → (words marks : List ℕ) (s w r : ℕ)
+    → ((k q : ℕ) → k < 4 → q ≡ s + k → getD marks q 0 ≡ getD (fit 4 (statuses xs)) k 0)
+    → ((k q : ℕ) → k < 4 → q ≡ w + k → getD words q 0 ≡ getD (fit 4 (masks xs)) k 0)
+    → ((k q : ℕ) → k < 4 → q ≡ r + k → getD marks q 0 ≡ getD (fit 4 (readables xs)) k 0)
+    → sectorsFrom words marks s w r ≡ xs
+unfolding fit
+sectors-of [] e words marks s w r f g h = absurd (omega arith)
+sectors-of (a ∷ []) e words marks s w r f g h = absurd (omega arith)
+sectors-of (a ∷ b ∷ []) e words marks s w r f g h = absurd (omega arith)
+sectors-of (a ∷ b ∷ c ∷ []) e words marks s w r f g h = absurd (omega arith)
+sectors-of (a ∷ b ∷ c ∷ d ∷ []) e words marks s w r f g h =
+    rw (
+      sector-of a (f 0 s (omega arith) (omega arith)) (g 0 w (omega arith) (omega arith)) (h 0 r (omega arith) (omega arith)),
+      sector-of b (f 1 (s + 1) (omega arith) refl) (g 1 (w + 1) (omega arith) refl) (h 1 (r + 1) (omega arith) refl),
+      sector-of c (f 2 (s + 2) (omega arith) refl) (g 2 (w + 2) (omega arith) refl) (h 2 (r + 2) (omega arith) refl),
+      sector-of d (f 3 (s + 3) (omega arith) refl) (g 3 (w + 3) (omega arith) refl) (h 3 (r + 3) (omega arith) refl),
+    )
+sectors-of (a ∷ b ∷ c ∷ d ∷ x ∷ xs) e words marks s w r f g h = absurd (omega arith)
+
+module _ (S : Settings) (t : Tables) {longs words marks : List ℕ} (h : Stands S longs words marks t) {at : Layout} (p : Placed S at) (sized : length (t .lines) ≡ linesOf S)
+    (l : ℕ) (below : l < length (t .lines)) where
+  few : length (t .lines) ≤ linesOf S
+  few = omega arith
+
+  -- ---- what is read
+
+  pub tag-at : getD longs l 0 ≡ getD (t .lines) l fresh .tag
+  unfolding fit
+  tag-at = field-get tagOf 1 (linesOf S) (t .lines) (longBlocks S t) 0 l {i = l} (h .as-longs) refl (omega arith) (omega arith) below few fresh 0 (omega arith) (omega arith)
+
+  pub cycle-at : getD words (1 + l) 0 ≡ getD (t .lines) l fresh .cycle
+  unfolding fit
+  cycle-at = field-get cycleOf 1 (linesOf S) (t .lines) (wordBlocks S t) 1 l {i = 1 + l} (h .as-words) refl (omega arith) (omega arith) below few fresh 0 (omega arith) (omega arith)
+
+  pub status-at : (j q : ℕ) → j < 4 → q ≡ 4 * l + j → getD marks q 0 ≡ getD (fit 4 (statusesOf (getD (t .lines) l fresh))) j 0
+  status-at j q b f =
+      let start : 4 * l ≡ ahead (markBlocks S t) 0 + 4 * l = omega arith in
+      field-get statusesOf 4 (linesOf S) (t .lines) (markBlocks S t) 0 l {i = 4 * l} (h .as-marks) refl start (omega arith) below few fresh j b f
+
+  pub lifted : length (getD (t .lines) l fresh .sectors) ≡ 4 → sectorsFrom words marks (4 * l) (at .masks + 4 * l) (at .readables + 4 * l) ≡ getD (t .lines) l fresh .sectors
+  lifted four =
+      let ws : at .masks + 4 * l ≡ ahead (wordBlocks S t) 2 + 4 * l = simp length-places (omega arith) in
+      let rs : at .readables + 4 * l ≡ ahead (markBlocks S t) 1 + 4 * l = simp length-places (omega arith) in
+      sectors-of (getD (t .lines) l fresh .sectors) four words marks (4 * l) (at .masks + 4 * l) (at .readables + 4 * l) status-at
+      (λ j q b f. field-get masksOf 4 (linesOf S) (t .lines) (wordBlocks S t) 2 l {i = at .masks + 4 * l} (h .as-words) refl ws (omega arith) below few fresh j b f)
+      (λ j q b f. field-get readablesOf 4 (linesOf S) (t .lines) (markBlocks S t) 1 l {i = at .readables + 4 * l} (h .as-marks) refl rs (omega arith) below few fresh j b f)
+
+  -- ---- what is written: the line becomes y
+
+  module _ (y : Line) (four : length (y .sectors) ≡ 4) where
+    column : (f : Sector → ℕ) → map f (y .sectors) ≡ fit 4 (map f (y .sectors))
+    column f = fit-four (map f (y .sectors)) (length-map (y .sectors) f ∙ four)
+
+    marks-put : {marks′ : List ℕ} → marks′ ≡ put (put marks (4 * l) (statuses (y .sectors))) (at .readables + 4 * l) (readables (y .sectors))
+        → marks′ ≡ joined (markBlocks S (withLines (set (t .lines) l y) t))
+    marks-put c =
+        let first : put marks (4 * l) (statuses (y .sectors)) ≡ joined (set (markBlocks S t) 0 (places statusesOf 4 (linesOf S) (set (t .lines) l y))) =
+        field-put statusesOf 4 (linesOf S) (t .lines) (markBlocks S t) 0 l {i = 4 * l} (h .as-marks) refl (omega arith) (omega arith) below few y (column (λ s. statusNumber (s .status))) refl in
+        field-put readablesOf 4 (linesOf S) (t .lines) (set (markBlocks S t) 0 (places statusesOf 4 (linesOf S) (set (t .lines) l y))) 1 l first refl (simp length-places (omega arith)) (omega arith) below few y (column (λ s. bit (s .readable))) c
+
+    -- its sectors alone
+    pub store-stands : y .tag ≡ getD (t .lines) l fresh .tag → y .cycle ≡ getD (t .lines) l fresh .cycle → {words′ marks′ : List ℕ}
+        → (words′ ≡ put words (at .masks + 4 * l) (masks (y .sectors)))
+        × (marks′ ≡ put (put marks (4 * l) (statuses (y .sectors))) (at .readables + 4 * l) (readables (y .sectors)))
+        → Stands S longs words′ marks′ (withLines (set (t .lines) l y) t)
+    store-stands e f c = record {
+      as-longs = rw (places-same tagOf 1 (linesOf S) l (t .lines) fresh y (ap (λ (n : ℕ). n ∷ []) e)) (h .as-longs);
+      as-words = rw (places-same cycleOf 1 (linesOf S) l (t .lines) fresh y (ap (λ (n : ℕ). n ∷ []) f))
+          (field-put masksOf 4 (linesOf S) (t .lines) (wordBlocks S t) 2 l (h .as-words) refl (simp length-places (omega arith)) (omega arith) below few y (column (λ s. s .mask)) (c .0));
+      as-marks = marks-put (c .1);
+    }
+
+    -- all of it
+    pub line-stands : {longs′ words′ marks′ : List ℕ}
+        → (longs′ ≡ put longs l (y .tag ∷ []))
+        × (words′ ≡ put (put words (1 + l) (y .cycle ∷ [])) (at .masks + 4 * l) (masks (y .sectors)))
+        × (marks′ ≡ put (put marks (4 * l) (statuses (y .sectors))) (at .readables + 4 * l) (readables (y .sectors)))
+        → Stands S longs′ words′ marks′ (withLines (set (t .lines) l y) t)
+    unfolding fit
+    line-stands c =
+        let first : put words (1 + l) (y .cycle ∷ []) ≡ joined (set (wordBlocks S t) 1 (places cycleOf 1 (linesOf S) (set (t .lines) l y))) =
+        field-put cycleOf 1 (linesOf S) (t .lines) (wordBlocks S t) 1 l {i = 1 + l} (h .as-words) refl (omega arith) (omega arith) below few y refl refl in
+        record {
+          as-longs = field-put tagOf 1 (linesOf S) (t .lines) (longBlocks S t) 0 l (h .as-longs) refl (omega arith) (omega arith) below few y refl (c .0);
+          as-words = field-put masksOf 4 (linesOf S) (t .lines) (set (wordBlocks S t) 1 (places cycleOf 1 (linesOf S) (set (t .lines) l y))) 2 l first refl (simp length-places (omega arith)) (omega arith) below few y (column (λ s. s .mask)) (c .1);
+          as-marks = marks-put (c .2);
+        }

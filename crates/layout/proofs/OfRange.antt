@@ -1,0 +1,73 @@
+-- What the checks of refusals 1 and 2 answer, of what their callees ensure; no sum or product of settings in range wraps.
+use mathlib.Core.Path.{_≡_, refl, sym, _∙_}
+use mathlib.Core.Bool.{Bool, true, false, not, _&&_, _||_}
+use mathlib.Core.List.{List, [], _∷_}
+use Prim.Native.Nat.{ℕ, _*_, _≤_}
+use native.Mathlib.Nat.{mul-le-mul}
+use lib.Dec.{eqb, leb}
+use lib.ListN.{length}
+use borrow.Author.Tests.{eqb-true, leb-true}
+use Rattle.model.specs.declared.Settings.{Settings}
+use Rattle.model.specs.Range.{powerTo256, within, linesOf, inRange}
+use Rattle.model.specs.Layout.{longsLength, wordsLength, marksLength}
+use Rattle.model.specs.Lent.{lent, lengthsFit}
+use Rattle.model.specs.Inner.{Fit}
+use Rattle.model.proofs.Flags.{and-1, and-2, not-yes, no-not}
+use Rattle.model.proofs.Lists.{any-in, all-in}
+use Rattle.model.proofs.Fits.{ranged, fit}
+
+one-of : (a b c d e f g h i : Bool) → (a || b || c || d || e || f || g || h || i) ≡ (a || (b || (c || (d || (e || (f || (g || (h || (i || false)))))))))
+one-of true b c d e f g h i = refl
+one-of false true c d e f g h i = refl
+one-of false false true d e f g h i = refl
+one-of false false false true e f g h i = refl
+one-of false false false false true f g h i = refl
+one-of false false false false false true g h i = refl
+one-of false false false false false false true h i = refl
+one-of false false false false false false false true i = refl
+one-of false false false false false false false false true = refl
+one-of false false false false false false false false false = refl
+
+pub power-is : (n : ℕ) → (eqb n 1 || eqb n 2 || eqb n 4 || eqb n 8 || eqb n 16 || eqb n 32 || eqb n 64 || eqb n 128 || eqb n 256) ≡ powerTo256 n
+power-is n = one-of (eqb n 1) (eqb n 2) (eqb n 4) (eqb n 8) (eqb n 16) (eqb n 32) (eqb n 64) (eqb n 128) (eqb n 256)
+
+power-most : (n : ℕ) → powerTo256 n ≡ true → n ≤ 256
+power-most n e =
+    let powers : List ℕ = 1 ∷ 2 ∷ 4 ∷ 8 ∷ 16 ∷ 32 ∷ 64 ∷ 128 ∷ 256 ∷ [] in
+    let (x, m, q) = any-in (eqb n) powers e in
+    let h : x ≤ 256 = leb-true x 256 (all-in (λ k. leb k 256) powers refl m) in
+    rw (eqb-true n x q) h
+
+module _ (S : Settings) (r : Bool) (power : r ≡ powerTo256 (S .sets)) where
+  sized : (r && within 1 16 (S .ways)) ≡ (powerTo256 (S .sets) && within 1 16 (S .ways))
+  sized = rw power
+
+  pub out-of-range : not (r && within 1 16 (S .ways)) ≡ true → false ≡ inRange S
+  unfolding inRange
+  out-of-range t = let h = sym sized ∙ not-yes {b = r && within 1 16 (S .ways)} t in rw h
+
+  module _ (t : not (r && within 1 16 (S .ways)) ≡ false) where
+    yes : (powerTo256 (S .sets) && within 1 16 (S .ways)) ≡ true
+    yes = sym sized ∙ no-not {b = r && within 1 16 (S .ways)} t
+
+    pub lines-most : S .sets * S .ways ≤ 256 * 16
+    lines-most =
+        let h = yes in
+        let p : powerTo256 (S .sets) ≡ true = search (and-1, and-2) in
+        let w : leb (S .ways) 16 ≡ true = search (and-1, and-2) in
+        mul-le-mul (power-most _ p) (leb-true _ _ w)
+
+    pub range-rest : (leb (linesOf S) 1024 && leb (S .percent) 100 && within 1 64 (S .entries) && within 1 8 (S .readers) && within 2 64 (S .places)) ≡ inRange S
+    unfolding inRange
+    range-rest = rw yes
+
+pub tickets-most : (S : Settings) → inRange S ≡ true → S .readers * S .entries ≤ 8 * 64
+tickets-most S e = let a = ranged S e in mul-le-mul (a .readers) (a .entries)
+
+-- no refusal 1 and no refusal 2
+pub lengths-fit : (S : Settings) (longs words marks : List ℕ) → inRange S ≡ true → lengthsFit S (lent longs words marks) ≡ true → Fit S longs words marks
+lengths-fit S longs words marks r e =
+    let l : eqb (length longs) (longsLength S) ≡ true = search (and-1, and-2) in
+    let w : eqb (length words) (wordsLength S) ≡ true = search (and-1, and-2) in
+    let m : eqb (length marks) (marksLength S) ≡ true = search (and-1, and-2) in
+    fit S longs words marks (r, eqb-true _ _ l, eqb-true _ _ w, eqb-true _ _ m)

@@ -1,0 +1,27 @@
+-- The offsets do not wrap: the settings are in range.
+use native.Mathlib.Nat.{mul-le-mul}
+use native.Mathlib.Omega.{arith}
+use Rattle.model.proofs.Fits.{ranged}
+use borrow.Author.Needs.{needs}
+use Rattle.layout.proofs.laid_out.Statement.{statement}
+use Rattle.layout.proofs.laid_out.Tie as tie
+
+pub laid-out-spec : {M : Type 1} → statement M
+laid-out-spec =
+    tie.close
+    (tie.spec
+    (λ c. let g = ranged _ (c .before .pre) in omega arith)  -- mul-lines
+    (λ c. let g = ranged _ (c .before .pre) in omega arith)  -- mul-tickets
+    (λ c. let g = ranged _ (c .before .pre) in omega arith)  -- add-tickets
+    (λ c. let g = ranged _ (c .before .before .pre) in omega (arith, mul-le-mul (g .readers) (g .entries)))  -- mul-backs
+    (λ c. let g = ranged _ (c .before .before .pre) in omega (arith, mul-le-mul (g .readers) (g .entries)))  -- add-backs
+    (λ c. let g = ranged _ (c .before .before .pre) in omega arith)  -- mul-sent
+    (λ c. let g = ranged _ (c .before .before .before .pre) in omega arith)  -- add-t6
+    (λ c. let g = ranged _ (c .before .before .before .pre) in omega arith)  -- add-t7
+    (λ c. let g = ranged _ (c .before .before .before .before .pre) in omega arith)  -- mul-t8
+    (λ c. let g = ranged _ (c .before .before .before .before .pre) in omega (arith, mul-le-mul (g .readers) (g .entries)))  -- add-t9
+    (λ c. let g = ranged _ (c .before .before .before .before .pre) in omega arith)  -- mul-t10
+    (λ c. let g = ranged _ (c .before .before .before .before .before .pre) in omega arith)  -- add-t11
+    (λ c. let g = ranged _ (c .before .before .before .before .before .before .pre) in omega arith)  -- mul-t12
+    (λ c. let g = ranged _ (c .before .before .before .before .before .before .pre) in omega arith)  -- add-t13
+    (λ c. search needs))  -- returns

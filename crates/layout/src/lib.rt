@@ -1,0 +1,63 @@
+// How settings shape the lent slices, below every check and step on them: here where each part begins; `ranges` refusals 1 and 2,
+// `places` which places of a table are in use, `sectors` a line's four sectors lifted and stored, `dirty` the count of dirty lines, `fresh` fresh tables.
+mod dirty;
+mod fresh;
+mod places;
+mod ranges;
+mod sectors;
+
+pub use dirty::recount;
+pub use dirty::some_modified;
+pub use fresh::make_fresh;
+pub use places::find_mark;
+pub use places::gathered;
+pub use places::used;
+pub use ranges::in_range;
+pub use ranges::lengths_fit;
+pub use ranges::longs_length;
+pub use ranges::marks_length;
+pub use ranges::power_to_256;
+pub use ranges::words_length;
+pub use sectors::lift;
+pub use sectors::store;
+ghost use mathlib.Core.Path.{_≡_};
+ghost use mathlib.Core.Bool.{true};
+ghost use Rattle.model.specs.Range.{inRange};
+ghost use Rattle.layout.specs.Layout.{Placed};
+use model::Settings;
+
+// Where each part of the tables begins, behind the part before it.
+pub struct Layout {
+    pub misses: usize,
+    pub queue: usize,
+    pub masks: usize,
+    pub tickets: usize,
+    pub backs: usize,
+    pub dirty: usize,
+    pub readables: usize,
+    pub sent: usize,
+    pub counts: usize,
+    pub kinds: usize,
+}
+
+pub fn laid_out(s: Settings) -> Layout
+    requires { ⌜ inRange s ≡ true ⌝ }
+    ensures { λ r. ⌜ Placed s r ⌝ }
+{
+    let lines = s.sets * s.ways;
+    let tickets = 1 + 5 * lines;
+    let backs = tickets + s.readers * s.entries;
+    let sent = 8 * lines;
+    Layout {
+        misses: lines,
+        queue: lines + s.entries,
+        masks: 1 + lines,
+        tickets,
+        backs,
+        dirty: backs + 4 * s.places,
+        readables: 4 * lines,
+        sent,
+        counts: sent + s.entries,
+        kinds: sent + 2 * s.entries,
+    }
+}

@@ -1,0 +1,68 @@
+// Refusals 1 and 2 (document 01): the settings in range, and the lengths that they fix for the three slices. `&` and `|` between
+// tests look at both sides.
+ghost use mathlib.Core.Path.{_≡_};
+ghost use mathlib.Core.Bool.{true};
+ghost use Rattle.model.specs.Range.{powerTo256, inRange};
+ghost use Rattle.model.specs.Layout.{longsLength, wordsLength, marksLength};
+ghost use Rattle.model.specs.Lent.{lent, lengthsFit};
+use model::Settings;
+
+// "Power of two, 1 to 256".
+pub fn power_to_256(n: usize) -> bool
+    ensures { λ r. ⌜ r ≡ powerTo256 n ⌝ }
+{
+    (n == 1)
+        | (n == 2)
+        | (n == 4)
+        | (n == 8)
+        | (n == 16)
+        | (n == 32)
+        | (n == 64)
+        | (n == 128)
+        | (n == 256)
+}
+
+// Refusal 1 does not apply. Sets and ways are held to their ranges before they are multiplied.
+pub fn in_range(s: Settings) -> bool
+    ensures { λ r. ⌜ r ≡ inRange s ⌝ }
+{
+    if !(power_to_256(s.sets) & ((1 <= s.ways) & (s.ways <= 16))) {
+        return false;
+    }
+    (s.sets * s.ways <= 1024)
+        & (s.percent <= 100)
+        & ((1 <= s.entries) & (s.entries <= 64))
+        & ((1 <= s.readers) & (s.readers <= 8))
+        & ((2 <= s.places) & (s.places <= 64))
+}
+
+pub fn longs_length(s: Settings) -> usize
+    requires { ⌜ inRange s ≡ true ⌝ }
+    ensures { λ r. ⌜ r ≡ longsLength s ⌝ }
+{
+    s.sets * s.ways + s.entries + s.places
+}
+
+pub fn words_length(s: Settings) -> usize
+    requires { ⌜ inRange s ≡ true ⌝ }
+    ensures { λ r. ⌜ r ≡ wordsLength s ⌝ }
+{
+    1 + 5 * (s.sets * s.ways) + s.readers * s.entries + 4 * s.places + 1
+}
+
+pub fn marks_length(s: Settings) -> usize
+    requires { ⌜ inRange s ≡ true ⌝ }
+    ensures { λ r. ⌜ r ≡ marksLength s ⌝ }
+{
+    8 * (s.sets * s.ways) + 2 * s.entries + s.places
+}
+
+// Refusal 2 does not apply.
+pub fn lengths_fit(s: Settings, longs: &[u64], words: &[u32], marks: &[u8]) -> bool
+    requires { ⌜ inRange s ≡ true ⌝ }
+    ensures { λ r. ⌜ r ≡ lengthsFit s (lent (now (longs .entry)) (now (words .entry)) (now (marks .entry))) ⌝ }
+{
+    (longs.len() == longs_length(s))
+        & (words.len() == words_length(s))
+        & (marks.len() == marks_length(s))
+}

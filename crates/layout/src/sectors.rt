@@ -1,0 +1,98 @@
+// A line's four sectors in the slices: lifted as one array, and stored back, column by column.
+ghost use mathlib.Core.Path.{_≡_};
+ghost use Prim.Native.Nat.{_+_, _*_, _≤_, _<_};
+ghost use lib.ListN.{length};
+ghost use Rattle.model.specs.Numbers.{statusNumber};
+ghost use Rattle.model.specs.Lent.{bit};
+ghost use Rattle.model.specs.Regions.{put};
+ghost use Rattle.layout.specs.Sectors.{sectorFrom, sectorsFrom, statuses, masks, readables};
+use crate::Layout;
+use model::Sector;
+use model::status_number;
+use model::status_of;
+
+// The sector whose status stands at `s`, mask at `w` and readable mark at `r`.
+fn sector_from(words: &[u32], marks: &[u8], s: usize, w: usize, r: usize) -> Sector
+    requires { ⌜ (w < length (now words)) × (s < length (now marks)) × (r < length (now marks)) ⌝ }
+    ensures { λ x. ⌜ x ≡ sectorFrom (now (words .entry)) (now (marks .entry)) s w r ⌝ }
+{
+    Sector {
+        status: status_of(marks[s]),
+        mask: words[w],
+        readable: marks[r] == 1,
+    }
+}
+
+pub fn lift(at: Layout, words: &[u32], marks: &[u8], line: usize) -> [Sector; 4]
+    requires { ⌜ (at .masks + 4 * line + 4 ≤ length (now words)) × (4 * line + 4 ≤ length (now marks)) × (at .readables + 4 * line + 4 ≤ length (now marks)) ⌝ }
+    ensures { λ r. ⌜ r ≡ sectorsFrom (now (words .entry)) (now (marks .entry)) (4 * line) (at .masks + 4 * line) (at .readables + 4 * line) ⌝ }
+{
+    let s = 4 * line;
+    let w = at.masks + s;
+    let r = at.readables + s;
+    [
+        sector_from(words, marks, s, w, r),
+        sector_from(words, marks, s + 1, w + 1, r + 1),
+        sector_from(words, marks, s + 2, w + 2, r + 2),
+        sector_from(words, marks, s + 3, w + 3, r + 3),
+    ]
+}
+
+fn store_masks(words: &mut [u32], w: usize, four: [Sector; 4])
+    requires { ⌜ w + 4 ≤ length (now words) ⌝ }
+    ensures { λ _. ⌜ now (words .exit) ≡ put (now (words .entry)) w (masks four) ⌝ }
+{
+    let a = four[0];
+    let b = four[1];
+    let c = four[2];
+    let d = four[3];
+    words[w] = a.mask;
+    words[w + 1] = b.mask;
+    words[w + 2] = c.mask;
+    words[w + 3] = d.mask;
+}
+
+fn status_byte(x: Sector) -> u8
+    ensures { λ r. ⌜ r ≡ statusNumber (x .status) ⌝ }
+{
+    let status = x.status;
+    status_number(status)
+}
+
+fn store_statuses(marks: &mut [u8], s: usize, four: [Sector; 4])
+    requires { ⌜ s + 4 ≤ length (now marks) ⌝ }
+    ensures { λ _. ⌜ now (marks .exit) ≡ put (now (marks .entry)) s (statuses four) ⌝ }
+{
+    marks[s] = status_byte(four[0]);
+    marks[s + 1] = status_byte(four[1]);
+    marks[s + 2] = status_byte(four[2]);
+    marks[s + 3] = status_byte(four[3]);
+}
+
+fn readable_byte(x: Sector) -> u8
+    ensures { λ r. ⌜ r ≡ bit (x .readable) ⌝ }
+{
+    if x.readable { 1 } else { 0 }
+}
+
+fn store_readables(marks: &mut [u8], r: usize, four: [Sector; 4])
+    requires { ⌜ r + 4 ≤ length (now marks) ⌝ }
+    ensures { λ _. ⌜ now (marks .exit) ≡ put (now (marks .entry)) r (readables four) ⌝ }
+{
+    marks[r] = readable_byte(four[0]);
+    marks[r + 1] = readable_byte(four[1]);
+    marks[r + 2] = readable_byte(four[2]);
+    marks[r + 3] = readable_byte(four[3]);
+}
+
+// Stores the four sectors of a line back.
+pub fn store(at: Layout, words: &mut [u32], marks: &mut [u8], line: usize, four: [Sector; 4])
+    requires { ⌜ (at .masks + 4 * line + 4 ≤ length (now words)) × (4 * line + 4 ≤ length (now marks)) × (at .readables + 4 * line + 4 ≤ length (now marks)) ⌝ }
+    ensures { λ _. ⌜ (now (words .exit) ≡ put (now (words .entry)) (at .masks + 4 * line) (masks four))
+        × (now (marks .exit) ≡ put (put (now (marks .entry)) (4 * line) (statuses four)) (at .readables + 4 * line) (readables four)) ⌝ }
+{
+    let s = 4 * line;
+    store_masks(words, at.masks + s, four);
+    store_statuses(marks, s, four);
+    store_readables(marks, at.readables + s, four);
+}

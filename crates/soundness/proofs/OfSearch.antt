@@ -1,0 +1,35 @@
+-- What the searches answer: the numbers that they read at places of the layout are those of entries and queue places.
+use mathlib.Core.Path.{_≡_, refl}
+use mathlib.Core.Bool.{Bool, not, _&&_}
+use mathlib.Core.List.{List}
+use Prim.Native.Nat.{ℕ, zero, suc, _+_}
+use lib.ListN.{getD}
+use lib.Dec.{eqb}
+use Rattle.model.specs.Words.{some, countBelow}
+use Rattle.model.specs.SoundLent.{entryFor, unsentFor, readFor}
+use Rattle.model.specs.declared.Settings.{Settings}
+use Rattle.layout.specs.declared.Layout.{Layout}
+use Rattle.layout.specs.Layout.{Placed}
+
+-- entry e has tickets and the address a
+abbrev pub entryRead : Layout → List ℕ → List ℕ → ℕ → ℕ → Bool
+entryRead at longs marks a e = not (eqb (getD marks (at .counts + e) 0) 0) && eqb (getD longs (at .misses + e) 0) a
+
+-- the same, and no sent mark
+abbrev pub unsentRead : Layout → List ℕ → List ℕ → ℕ → ℕ → Bool
+unsentRead at longs marks a e =
+    not (eqb (getD marks (at .counts + e) 0) 0) && eqb (getD marks (at .sent + e) 0) 0 && eqb (getD longs (at .misses + e) 0) a
+
+-- queue place q has a read of the address a
+abbrev pub readRead : Layout → List ℕ → List ℕ → ℕ → ℕ → Bool
+readRead at longs marks a q = eqb (getD marks (at .kinds + q) 0) 1 && eqb (getD longs (at .queue + q) 0) a
+
+module _ (S : Settings) {at : Layout} (p : Placed S at) (longs words marks : List ℕ) (a n : ℕ) where
+  pub entry-sought : some n (entryRead at longs marks a) ≡ some n (entryFor S longs words marks a)
+  entry-sought = rw (p .counts, p .misses)
+
+  pub unsent-sought : some n (unsentRead at longs marks a) ≡ some n (unsentFor S longs words marks a)
+  unsent-sought = rw (p .counts, p .sent, p .misses)
+
+  pub read-counted : countBelow n (readRead at longs marks a) ≡ countBelow n (readFor S longs words marks a)
+  read-counted = rw (p .kinds, p .queue)

@@ -1,0 +1,40 @@
+-- No entry passed is unsent and has the address.
+use mathlib.Core.Path.{refl, _∙_}
+use native.Mathlib.Omega.{arith}
+use borrow.Author.Needs.{needs}
+use Prim.Native.Nat.{_-_}
+use Rattle.model.proofs.Below.{Sought, sought-stop, sought-more, sought-end}
+use Rattle.soundness.proofs.OfSearch.{unsentRead, unsent-sought}
+use Rattle.soundness.proofs.search.has_unsent.Statement.{statement}
+use Rattle.soundness.proofs.search.has_unsent.Tie as tie
+
+abbrev Inv-loop : tie.InvT-loop
+Inv-loop at longs words marks a n e₀ e = Sought (unsentRead at longs marks (a .0)) n e
+
+abbrev μ-loop : tie.MeasureT-loop
+μ-loop at longs words marks a n e₀ e = n - e
+
+pub has-unsent-spec : {M : Type 1} → statement M
+has-unsent-spec =
+    tie.close
+    (tie.spec Inv-loop μ-loop
+    (λ c. (omega arith, refl))  -- loop-holds
+    (λ c. search needs)  -- add-if1
+    (λ c. search needs)  -- shared-slice-read-if1
+    (λ c. search needs)  -- add-if1-2
+    (λ c. search needs)  -- shared-slice-read-if1-2
+    (λ c. search needs)  -- add-if1-3
+    (λ c. search needs)  -- mul-if1
+    (λ c. search needs)  -- shared-slice-read-if1-3
+    (λ c.
+    let body = c .before .before .before .before .before .before .before .before in
+    let start = body .before .before in
+    let a = start .args in
+    sought-stop (unsentRead (a .at) (a .longs .now) (a .marks .now) (a .a .0)) _ _ (body .loop-test .taken) refl (c .if1 .taken) ∙ unsent-sought (a .s) (start .pre .0) (a .longs .now) (a .words .now) (a .marks .now) (a .a .0) (a .s .entries))  -- returns
+    (λ c. omega arith)  -- add-e
+    (λ c. omega arith)  -- loop-less
+    (λ c. let body = c .before .before .before .before .before .before .before .before in sought-more _ _ _ (body .loop-test .taken) refl (c .if1 .left) (body .before .loop .inv))  -- loop-again
+    (λ c.
+    let start = c .before .before in
+    let a = start .args in
+    sought-end _ _ _ (c .loop-test .left) (c .before .loop .inv) ∙ unsent-sought (a .s) (start .pre .0) (a .longs .now) (a .words .now) (a .marks .now) (a .a .0) (a .s .entries)))  -- returns-2

@@ -1,0 +1,40 @@
+-- So many places passed have a read of the address.
+use mathlib.Core.Path.{refl, _∙_}
+use mathlib.Core.Logic.{⊎-elim}
+use native.Mathlib.Omega.{arith}
+use borrow.Author.Needs.{needs}
+use Prim.Native.Nat.{_-_}
+use Rattle.model.proofs.Below.{Counted, counted-yes, counted-no, counted-end}
+use Rattle.soundness.proofs.OfSearch.{readRead, read-counted}
+use Rattle.soundness.proofs.search.reads_for.Statement.{statement}
+use Rattle.soundness.proofs.search.reads_for.Tie as tie
+
+abbrev Inv-loop : tie.InvT-loop
+Inv-loop at longs words marks a n count₀ p₀ count p = Counted (readRead at longs marks (a .0)) n p count
+
+abbrev μ-loop : tie.MeasureT-loop
+μ-loop at longs words marks a n count₀ p₀ count p = n - p
+
+pub reads-for-spec : {M : Type 1} → statement M
+reads-for-spec =
+    tie.close
+    (tie.spec Inv-loop μ-loop
+    (λ c. (omega arith, refl, omega arith))  -- loop-holds
+    (λ c. search needs)  -- add-if1
+    (λ c. search needs)  -- shared-slice-read-if1
+    (λ c. search needs)  -- add-if1-2
+    (λ c. search needs)  -- mul-if1
+    (λ c. search needs)  -- shared-slice-read-if1-2
+    (λ c. omega arith)  -- add-count
+    (λ c. omega arith)  -- add-p
+    (λ c. omega arith)  -- loop-less
+    (λ c.
+    let body = c .before .before .before .before .before .before in
+    ⊎-elim
+    (λ w. counted-yes _ _ _ _ _ (body .loop-test .taken) refl (w .0 .taken) (w .1) (body .before .loop .inv))
+    (λ w. counted-no _ _ _ _ _ (body .loop-test .taken) refl (w .0 .left) (w .1) (body .before .loop .inv))
+    (c .if1 .came))  -- loop-again
+    (λ c.
+    let start = c .before .before in
+    let a = start .args in
+    counted-end _ _ _ _ (c .loop-test .left) (c .before .loop .inv) ∙ read-counted (a .s) (start .pre .0) (a .longs .now) (a .words .now) (a .marks .now) (a .a .0) (a .s .places)))  -- returns

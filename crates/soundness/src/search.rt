@@ -1,0 +1,80 @@
+// An address looked for among the miss entries and the queue's reads.
+ghost use mathlib.Core.Path.{_≡_};
+ghost use Prim.Native.Nat.{_≤_};
+ghost use Rattle.model.specs.Words.{some, countBelow};
+ghost use Rattle.model.specs.Inner.{Fit};
+ghost use Rattle.model.specs.SoundLent as is;
+ghost use Rattle.layout.specs.Layout.{Placed};
+use layout::Layout;
+use model::SectorAddress;
+use model::Settings;
+
+// One of the first `n` entries is in use and has the address.
+pub(crate) fn has_entry(
+    s: Settings,
+    at: Layout,
+    longs: &[u64],
+    words: &[u32],
+    marks: &[u8],
+    n: usize,
+    a: SectorAddress,
+) -> bool
+    requires { ⌜ Placed s at × Fit s (now longs) (now words) (now marks) × (n ≤ s .entries) ⌝ }
+    ensures { λ r. ⌜ r ≡ some n (is.entryFor s (now (longs .entry)) (now (words .entry)) (now (marks .entry)) (a .0)) ⌝ }
+{
+    let mut e = 0;
+    while e < n {
+        if (marks[at.counts + e] != 0) & (longs[at.misses + e] == a.0) {
+            return true;
+        }
+        e += 1;
+    }
+    false
+}
+
+// An unsent entry has the address.
+pub(crate) fn has_unsent(
+    s: Settings,
+    at: Layout,
+    longs: &[u64],
+    words: &[u32],
+    marks: &[u8],
+    a: SectorAddress,
+) -> bool
+    requires { ⌜ Placed s at × Fit s (now longs) (now words) (now marks) ⌝ }
+    ensures { λ r. ⌜ r ≡ some (s .entries) (is.unsentFor s (now (longs .entry)) (now (words .entry)) (now (marks .entry)) (a .0)) ⌝ }
+{
+    let n = s.entries;
+    let mut e = 0;
+    while e < n {
+        if (marks[at.counts + e] != 0) & (marks[at.sent + e] == 0) & (longs[at.misses + e] == a.0) {
+            return true;
+        }
+        e += 1;
+    }
+    false
+}
+
+// How many reads of the address are queued.
+pub(crate) fn reads_for(
+    s: Settings,
+    at: Layout,
+    longs: &[u64],
+    words: &[u32],
+    marks: &[u8],
+    a: SectorAddress,
+) -> usize
+    requires { ⌜ Placed s at × Fit s (now longs) (now words) (now marks) ⌝ }
+    ensures { λ r. ⌜ r ≡ countBelow (s .places) (is.readFor s (now (longs .entry)) (now (words .entry)) (now (marks .entry)) (a .0)) ⌝ }
+{
+    let n = s.places;
+    let mut count = 0;
+    let mut p = 0;
+    while p < n {
+        if (marks[at.kinds + p] == 1) & (longs[at.queue + p] == a.0) {
+            count += 1;
+        }
+        p += 1;
+    }
+    count
+}
