@@ -204,12 +204,23 @@ module _ (S : Settings) (L : Lent) (t : Tables) (st : Stands S L t) where
   words-stand e =
       regions-joined (L .words) (wordSizes S) (wordBlocks S t) (
         region-table (L .words) 0 1 (omega arith) ∙ ap (λ (c : ℕ). c ∷ []) (st .time),
-        (region-singles (L .words) (wordsFrom S cycleRegion) cycleOf (linesOf S) (t .lines) (omega arith) (st .cycles),
-        (region-places (L .words) (wordsFrom S maskRegion) masksOf (linesOf S) (t .lines) 4 (omega arith) (st .masks),
-        (region-places (L .words) (wordsFrom S ticketRegion) ticketsIn (S .entries) (t .misses) (S .readers) (omega arith) (st .tickets),
-        (region-places (L .words) (wordsFrom S queueMaskRegion) queueMasksOf (S .places) (t .queue) 4 (omega arith) (st .queue-masks),
-        (region-table (L .words) (wordsFrom S dirtyCountRegion) 1 (omega arith) ∙ ap (λ (c : ℕ). c ∷ []) (rw add-zero (st .count)),
-        e))))))
+        (
+          region-singles (L .words) (wordsFrom S cycleRegion) cycleOf (linesOf S) (t .lines) (omega arith) (st .cycles),
+          (
+            region-places (L .words) (wordsFrom S maskRegion) masksOf (linesOf S) (t .lines) 4 (omega arith) (st .masks),
+            (
+              region-places (L .words) (wordsFrom S ticketRegion) ticketsIn (S .entries) (t .misses) (S .readers) (omega arith) (st .tickets),
+              (
+                region-places (L .words) (wordsFrom S queueMaskRegion) queueMasksOf (S .places) (t .queue) 4 (omega arith) (st .queue-masks),
+                (
+                  region-table (L .words) (wordsFrom S dirtyCountRegion) 1 (omega arith) ∙ ap (λ (c : ℕ). c ∷ []) (rw add-zero (st .count)),
+                  e,
+                ),
+              ),
+            ),
+          ),
+        ),
+      )
 
   marks-stand : length (L .marks) ≡ marksLength S → L .marks ≡ joined (markBlocks S t)
   marks-stand e =

@@ -1,12 +1,12 @@
 // "Probe and victim": what an access meets in its set, read off the lent slices. Nothing is written here; another crate acts.
 // First one line: its sectors, and tests on its four status bytes. Then the ways of a set: the match, the victim. Last the decision.
+use layout::Layout;
 use model::Access;
 use model::Answer;
 use model::BlockAddress;
 use model::Found;
 use model::Sector;
 use model::Settings;
-use layout::Layout;
 ghost use mathlib.Core.Path.{_≡_};
 ghost use Prim.Native.Nat.{ℕ, _+_, _*_, _≤_, _<_};
 ghost use lib.ListN.{length};
@@ -214,13 +214,7 @@ fn candidates(marks: &[u8], base: usize, ways: usize, enough: bool) -> u32
 }
 
 // The candidate that the set's tree chooses.
-pub fn chosen_by_tree(
-    marks: &[u8],
-    base: usize,
-    ways: usize,
-    enough: bool,
-    tree: u32,
-) -> Found
+pub fn chosen_by_tree(marks: &[u8], base: usize, ways: usize, enough: bool, tree: u32) -> Found
     requires { ⌜ (powerTo16 ways ≡ true) × (4 * (base + ways) ≤ length (now marks)) ⌝ }
     ensures { λ r. ⌜ r ≡ treeIn (now (marks .entry)) base ways enough tree ⌝ }
 {

@@ -5,14 +5,12 @@ use mathlib.Core.List.{List, [], _∷_}
 use Prim.Native.Nat.{ℕ, _-_, _≤_, _<_}
 use native.Mathlib.Omega.{arith}
 use lib.ListN.{length, getD}
-use Rattle.model.specs.Words.{pick, count}
-use Rattle.model.specs.Range.{inRange, linesOf}
-use Rattle.model.specs.Tables.{Tables, Outcome, refused, done, dirty}
-use Rattle.model.specs.Lent.{Lent, lent, lengthsFit, linesIn, tablesOf}
-use Rattle.model.specs.SoundLent.{soundLent}
+use Rattle.model.specs.Words.{count}
+use Rattle.model.specs.Range.{linesOf}
+use Rattle.model.specs.Tables.{idle, Tables, Outcome, refused, done, dirty, dirtyLines}
+use Rattle.model.specs.Lent.{Lent, lent, tablesOf}
 use Rattle.model.specs.Calls.{checkCall, verdictOf}
 use Rattle.model.specs.Inner.{Is, Held}
-use Rattle.model.specs.Probe.{dirtyLines}
 use Rattle.model.specs.Steps.{sentEvent}
 use Rattle.model.specs.declared.Settings.{Settings}
 use Rattle.model.specs.declared.Queued.{Queued}
@@ -21,22 +19,24 @@ use Rattle.model.specs.declared.Event.{Event}
 use Rattle.model.specs.declared.Refusal.{Refusal}
 use Rattle.model.specs.declared.Verdict.{Verdict}
 use Rattle.model.specs.declared.Verdict.the-variants as verdict
-use Rattle.model.proofs.SoundFacts.{parts}
+use Rattle.model.proofs.SoundFacts.{parts, lines-are}
 use Rattle.model.proofs.Decoded.{Small}
-use Rattle.model.proofs.Bridge.{sound-encoded, is-tables}
+use Rattle.model.proofs.Bridge.{sound-encoded, is-fit}
 use Rattle.soundness.proofs.Verdicts.{passed-is}
 use Rattle.layout.specs.declared.Layout.{Layout}
 use Rattle.layout.specs.Layout.{Placed}
 use Rattle.layout.specs.Places.{First}
 use Rattle.tables.specs.Raw.{frontAt}
 use Rattle.layout.proofs.Stands.{is-stands}
-use Rattle.tables.proofs.Queue.{idle, queue-used, front-is}
-use Rattle.steps.proofs.Entries.{few-queued}
-use Rattle.probe.proofs.Held.{dirty-held}
+use Rattle.tables.proofs.Queue.{queue-used, front-is}
+use Rattle.steps.proofs.Entries.{few-queued, head-four}
+use Rattle.layout.proofs.DirtyCount.{dirty-count-at}
 use Rattle.reasons.specs.declared.Reason.{Reason}
 use Rattle.reasons.specs.declared.Reason.the-variants as reason
 use Rattle.reasons.specs.Reasons.{linesReason, missingLines, queueReason, reasonFor, reasonChecked, reasonCall}
 use Rattle.reasons.specs.Parts.{Gives}
+use Rattle.model.proofs.Counting.{count-length}
+use borrow.Author.Tests.{eqb-true}
 
 -- ---- the queue
 
@@ -59,24 +59,29 @@ module _ (S : Settings) {longs words marks : List ℕ} (t : Tables) (i : Is S (l
   pub queue-empty : n ≡ 0 → reason.Nothing ≡ queueReason (S .places) (t .queue)
   queue-empty e = sym (none-told (S .places) (t .queue) (sym queued ∙ e))
 
-  pub head-shown : (n ≡ 0 → ⊥) → {h : Event} → h ≡ frontAt longs (at .queue) words (at .backs) marks (at .kinds)
+  pub head-shown : (n ≡ 0 → ⊥) → {x : Queued} → x ≡ frontAt longs (at .queue) words (at .backs) marks (at .kinds) → {h : Event} → h ≡ sentEvent x
       → reason.Queue h (S .places - n) ≡ queueReason (S .places) (t .queue)
-  head-shown e {h} is =
+  head-shown e front is =
       let all = queued in
       let some : 1 ≤ length (t .queue) = some-from (length (t .queue)) (λ z. e (all ∙ z)) in
-      rw (is, front-is S t (is-stands i) p short some, all) (sym (head-told (S .places) (t .queue) some))
+      rw (is, front, front-is S t (is-stands i) p short some (head-four S t (parts S t (i .soundly)) some), all) (sym (head-told (S .places) (t .queue) some))
     where
       some-from : (k : ℕ) → (k ≡ 0 → ⊥) → 1 ≤ k
       some-from k f = omega arith
 
 -- ---- the dirty lines
 
-module _ (S : Settings) {longs words marks : List ℕ} (t : Tables) (i : Is S (lent longs words marks) t) where
-  pub lines-shown : {d m : ℕ} → ((longs words : List ℕ) → d ≡ count dirty (linesIn S longs words marks)) → m ≡ missingLines (S .percent) (linesOf S) d
-      → reason.Lines m d (linesOf S) (S .percent) ≡ linesReason S (dirtyLines t)
-  lines-shown {d} f e =
-      let same : dirtyLines t ≡ d = dirty-held S (lent longs words marks) (is-tables S (lent longs words marks) t i) ∙ sym (f longs words) in
-      rw (e, same)
+module _ (S : Settings) {longs words marks : List ℕ} (t : Tables) (i : Is S (lent longs words marks) t) {at : Layout} (p : Placed S at) where
+  pub dirty-few : getD words (at .dirty) 0 ≤ 1024
+  dirty-few =
+      let ok = parts S t (i .soundly) in
+      let f = is-fit S (lent longs words marks) t i in
+      let e : getD words (at .dirty) 0 ≡ count dirty (t .lines) = dirty-count-at S t (is-stands i) p ∙ eqb-true (t .dirtyCount) (dirtyLines t) (ok .counted) in
+      omega (arith, e, count-length dirty (t .lines), lines-are S t ok)
+
+  pub lines-shown : {d m : ℕ} → d ≡ getD words (at .dirty) 0 → m ≡ missingLines (S .percent) (linesOf S) d
+      → reason.Lines m d (linesOf S) (S .percent) ≡ linesReason S (t .dirtyCount)
+  lines-shown {d} f e = let same : d ≡ t .dirtyCount = f ∙ dirty-count-at S t (is-stands i) p in rw (e, same)
 
 -- ---- the check
 

@@ -11,7 +11,6 @@ use Rattle.model.specs.Range.{linesOf}
 use Rattle.model.specs.Address.{addressOf, setIndex}
 use Rattle.model.specs.Tables.{Entry, Tables, Outcome, refused, done, entryFor}
 use Rattle.model.specs.Lent.{Lent, tablesOf}
-use Rattle.model.specs.Probe.{dirtyLines}
 use Rattle.model.specs.Steps.{sentEvent}
 use Rattle.model.specs.Calls.{checkCall}
 use Rattle.model.specs.declared.Settings.{Settings}
@@ -52,7 +51,7 @@ reasonFor S x t refusal.SliceLength = reason.Nothing
 reasonFor S x t refusal.NotSound = reason.Nothing
 reasonFor S x t refusal.BadAccess = reason.Nothing
 reasonFor S x t refusal.SetBusy = entryReason (ofSet (S .sets) (setIndex S (addressOf x))) (t .misses)
-reasonFor S x t refusal.SetHeld = linesReason S (dirtyLines t)
+reasonFor S x t refusal.SetHeld = linesReason S (t .dirtyCount)
 reasonFor S x t refusal.QueueFull = queueReason (S .places) (t .queue)
 reasonFor S x t refusal.EntryFull = entryReason (entryFor (addressOf x)) (t .misses)
 reasonFor S x t refusal.MissTableFull = entryReason anyEntry (t .misses)

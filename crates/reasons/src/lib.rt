@@ -14,7 +14,6 @@ ghost use lib.ListN.{length};
 ghost use Rattle.model.specs.Range.{powerTo256};
 ghost use Rattle.model.specs.Address.{addressOf, setIndex};
 ghost use Rattle.model.specs.Tables.{entryFor};
-ghost use Rattle.model.specs.Probe.{dirtyLines};
 ghost use Rattle.model.specs.Lent.{lent};
 ghost use Rattle.model.specs.Inner.{Held};
 ghost use Rattle.reasons.specs.Reasons.{entryReason, ofSet, anyEntry, missingLines, linesReason, queueReason, reasonFor, reasonCall};
@@ -126,10 +125,12 @@ fn missing_lines(percent: usize, lines: usize, dirty: usize) -> usize
 // 6: the dirty lines that are missing.
 fn held_reason(s: Settings, longs: &[u64], words: &[u32], marks: &[u8]) -> Reason
     requires { ⌜ Held s (lent (now longs) (now words) (now marks)) ⌝ }
-    ensures { λ r. ⌜ Gives s (λ t. linesReason s (dirtyLines t)) (lent (now (longs .entry)) (now (words .entry)) (now (marks .entry))) r ⌝ }
+    ensures { λ r. ⌜ Gives s (λ t. linesReason s (t .dirtyCount)) (lent (now (longs .entry)) (now (words .entry)) (now (marks .entry))) r ⌝ }
 {
     let lines = s.sets * s.ways;
-    let dirty = probe::count_dirty(marks, lines);
+    let at = layout::laid_out(s);
+    let place = at.dirty;
+    let dirty = words[place] as usize;
     let percent = s.percent;
     let missing = missing_lines(percent, lines, dirty);
     Reason::Lines {
@@ -150,7 +151,7 @@ fn queue_reason(s: Settings, longs: &[u64], words: &[u32], marks: &[u8]) -> Reas
     if n == 0 {
         return Reason::Nothing;
     }
-    let head = tables::front(at, longs, words, marks);
+    let head = model::sent_event(tables::front(at, longs, words, marks));
     let free = s.places - n;
     Reason::Queue { head, free }
 }

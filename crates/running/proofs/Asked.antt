@@ -66,7 +66,7 @@ module _ (s : List ℕ) (some : length s ≡ 0 → ⊥) {S : Settings} (S-is : S
 
 pub record Most (n : Lengths) : Type 0 where
   pub longs : n .longs ≤ 1152
-  pub words : n .words ≤ 5889
+  pub words : n .words ≤ 5890
   pub marks : n .marks ≤ 8384
 
 pub asked-most : (S : Settings) → Most (lengthsOf S)

@@ -10,7 +10,7 @@ use Rattle.model.specs.Words.{every}
 use Rattle.model.specs.Range.{linesOf}
 use Rattle.model.specs.Sound.{lastCycle}
 use Rattle.model.specs.Lent.{nowAt, ticketCountAt, kindAt}
-use Rattle.model.specs.SoundLent.{gathered, nowFine, linesFine, sectorFine, ticketFine, entryFine, placeFine, soundNumbers}
+use Rattle.model.specs.SoundLent.{gathered, nowFine, linesFine, sectorFine, ticketFine, entryFine, placeFine, soundNumbers, countFine}
 use Rattle.model.proofs.Flags.{and-2, not-yes, no-not}
 use Rattle.layout.specs.declared.Layout.{Layout}
 use Rattle.layout.specs.Layout.{Placed}
@@ -41,13 +41,14 @@ module _ (S : Settings) (longs words marks : List ℕ) (r : Bool) (lines : r ≡
     pub lines-yes : linesFine S longs words marks ≡ true
     lines-yes = and-2 (nowFine S longs words marks) _ yes
 
-    pub rest : {a b c d e f : Bool}
+    pub rest : {a b c d e f g : Bool}
         → a ≡ every (4 * linesOf S) (sectorFine S longs words marks)
         → b ≡ every (S .readers * S .entries) (ticketFine S longs words marks)
         → c ≡ gathered (S .entries) (ticketCountAt S marks)
         → d ≡ every (S .entries) (entryFine S longs words marks)
         → e ≡ gathered (S .places) (kindAt S marks)
         → f ≡ every (S .places) (placeFine S longs words marks)
-        → (a && b && c && d && e && f) ≡ soundNumbers S longs words marks
+        → g ≡ countFine S longs words marks
+        → (a && b && c && d && e && f && g) ≡ soundNumbers S longs words marks
     unfolding soundNumbers
-    rest qa qb qc qd qe qf = rw (yes, qa, qb, qc, qd, qe, qf)
+    rest qa qb qc qd qe qf qg = rw (yes, qa, qb, qc, qd, qe, qf, qg)

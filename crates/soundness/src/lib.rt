@@ -1,6 +1,7 @@
 // Refusals 1, 2 and 3 (document 01), exact, on settings and lent slices of any content: the settings in range and the slices' lengths
 // by `layout`, sound tables here. The work is at most proportional to 4 lines + lines ways + R M + M ways + M M + Q M, where R is the
 // number of RESERVED sectors. `&` and `|` between tests look at both sides.
+mod dirty;
 mod lines;
 mod misses;
 mod queue;
@@ -12,6 +13,7 @@ ghost use Rattle.model.specs.SoundLent.{soundNumbers};
 ghost use Rattle.model.specs.Calls.{checkCall, verdictOf};
 ghost use Rattle.model.specs.Inner.{Fit};
 ghost use Rattle.layout.specs.Layout.{Placed};
+use dirty::count_fine;
 use layout::Layout;
 use layout::gathered;
 use layout::in_range;
@@ -40,6 +42,7 @@ pub fn tables_sound(s: Settings, at: Layout, longs: &[u64], words: &[u32], marks
         & entries_fine(s, at, longs, words, marks)
         & gathered(marks, at.kinds, s.places)
         & places_fine(s, at, longs, words, marks)
+        & count_fine(s, at, longs, words, marks)
 }
 
 // Refusals 1, 2 and 3 in document 01's order.

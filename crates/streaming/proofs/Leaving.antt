@@ -144,7 +144,7 @@ module _ {S : Settings} (k : Scope) (buf : List ℕ) (n : ℕ) (inside : n ≤ l
 pub lent-most : (p : List ℕ) {n : Lengths} → n ≡ lengthsFor p → Most n
 lent-most p q = rw q (asked-most (settingsOf (drop 1 p)))
 
-pub lent-long : (p s : List ℕ) → p ≡ s → {n : Lengths} → n ≡ lengthsFor p → (x y z : List ℕ) → 1152 ≡ length x → 5889 ≡ length y → 8384 ≡ length z
+pub lent-long : (p s : List ℕ) → p ≡ s → {n : Lengths} → n ≡ lengthsFor p → (x y z : List ℕ) → 1152 ≡ length x → 5890 ≡ length y → 8384 ≡ length z
     → Long (lent (take (n .longs) x) (take (n .words) y) (take (n .marks) z)) (lengthsFor s)
 lent-long p s e {n} q x y z a b c =
     let m = lent-most p q in

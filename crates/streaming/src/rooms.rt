@@ -9,10 +9,10 @@ pub fn longs_room() -> [u64; 1152]
     [0; 1152]
 }
 
-pub fn words_room() -> [u32; 5889]
-    ensures { λ r. ⌜ 5889 ≡ length r ⌝ }
+pub fn words_room() -> [u32; 5890]
+    ensures { λ r. ⌜ 5890 ≡ length r ⌝ }
 {
-    [0; 5889]
+    [0; 5890]
 }
 
 pub fn marks_room() -> [u8; 8384]

@@ -1,9 +1,10 @@
--- The dirty lines, counted.
+-- The stored count of dirty lines.
+use mathlib.Core.Path.{refl}
 use native.Mathlib.Omega.{arith}
 use borrow.Author.Needs.{needs}
 use Rattle.layout.proofs.Stands.{is-stands, stands-fit}
 use Rattle.probe.proofs.Meetings.{share-fits}
-use Rattle.reasons.proofs.Heads.{lines-shown}
+use Rattle.reasons.proofs.Heads.{dirty-few, lines-shown}
 use Rattle.reasons.proofs.held_reason.Statement.{statement}
 use Rattle.reasons.proofs.held_reason.Tie as tie
 
@@ -12,9 +13,13 @@ held-reason-spec =
     tie.close
     (tie.spec
     (λ c. let i = c .before .before .before .before .pre .are in let z = stands-fit (i .range) (is-stands i) in omega arith)  -- mul-lines
-    (λ c κs. let i = c .before .before .before .before .pre .are in let z = stands-fit (i .range) (is-stands i) in omega arith)  -- count-dirty-requires
+    (λ c κs. search needs)  -- laid-out-requires
+    (λ c. let i = c .before .before .before .before .before .pre .are in let z = stands-fit (i .range) (is-stands i) in let p = c .laid-out .ensures .dirty in omega arith)  -- mul-dirty
+    (λ c. let laid = c .before in let i = laid .before .before .before .before .before .pre .are in let z = stands-fit (i .range) (is-stands i) in let p = laid .laid-out .ensures .dirty in omega arith)  -- shared-slice-read-dirty
+    (λ c. let f = c .shared-slice-known4 .given (c .before .laid-out .result .dirty) in omega arith)  -- cast-dirty
     (λ c κs.
-    let i = c .before .before .before .before .before .pre .are in
+    let laid = c .before in
+    let i = laid .before .before .before .before .before .pre .are in
     let z = stands-fit (i .range) (is-stands i) in
-    (share-fits (z .percent) (z .lines), omega (arith, c .count-dirty .ensures .0)))  -- missing-lines-requires
-    (λ c. record { on = λ t i. lines-shown _ t i (c .before .count-dirty .ensures .1) (c .missing-lines .ensures) }))  -- returns
+    (share-fits (z .percent) (z .lines), dirty-few _ _ i (laid .laid-out .ensures)))  -- missing-lines-requires
+    (λ c. record { on = λ t i. lines-shown _ t i (c .before .before .laid-out .ensures) refl (c .missing-lines .ensures) }))  -- returns

@@ -19,11 +19,13 @@ tables-sound-spec =
     (λ c κs. let tested = c .before .before .before in let start = tested .before .before .before .before .before .before in let a = start .args in (start .pre .0, start .pre .1, lines-yes (a .s) (a .longs .now) (a .words .now) (a .marks .now) _ (tested .before .lines-fine .ensures) (tested .if1 .left)))  -- entries-fine-requires
     (λ c κs. let pre = c .before .before .before .before .before .before .before .before .before .before .pre in let at = pre .0 in let fit = pre .1 in omega arith)  -- gathered-requires-2
     (λ c κs. let pre = c .before .before .before .before .before .before .before .before .before .before .before .pre in (pre .0, pre .1))  -- places-fine-requires
+    (λ c κs. let pre = c .before .before .before .before .before .before .before .before .before .before .before .before .pre in (pre .0, pre .1))  -- count-fine-requires
     (λ c.
-    let sectors = c .before .before .before .before .before in
+    let placed = c .before in
+    let sectors = placed .before .before .before .before .before in
     let tested = sectors .before in
     let start = tested .before .before .before .before .before .before in
     let a = start .args in
-    rest (a .s) (a .longs .now) (a .words .now) (a .marks .now) _ (tested .before .lines-fine .ensures) (tested .if1 .left) (sectors .sectors-fine .ensures) (c .before .before .before .before .tickets-fine .ensures)
-    (c .before .before .before .gathered .ensures ∙ counts-gathered (a .s) (start .pre .0) (a .marks .now)) (c .before .before .entries-fine .ensures)
-    (c .before .gathered2 .ensures ∙ kinds-gathered (a .s) (start .pre .0) (a .marks .now)) (c .places-fine .ensures)))  -- returns-2
+    rest (a .s) (a .longs .now) (a .words .now) (a .marks .now) _ (tested .before .lines-fine .ensures) (tested .if1 .left) (sectors .sectors-fine .ensures) (placed .before .before .before .before .tickets-fine .ensures)
+    (placed .before .before .before .gathered .ensures ∙ counts-gathered (a .s) (start .pre .0) (a .marks .now)) (placed .before .before .entries-fine .ensures)
+    (placed .before .gathered2 .ensures ∙ kinds-gathered (a .s) (start .pre .0) (a .marks .now)) (placed .places-fine .ensures) (c .count-fine .ensures)))  -- returns-2

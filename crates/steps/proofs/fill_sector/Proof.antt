@@ -27,7 +27,8 @@ fill-sector-spec =
     let asked = c .before .before .before .before in
     let lift = asked .before in
     let start = lift .before .before .before .before .before in
-    (start .pre .1 .0, start .pre .1 .1 .0, was-fits _ _ _ _ (lift .lift .ensures) (asked .some-modified .ensures) (start .pre .1 .1 .1)))  -- recount-requires
+    let a = start .args in
+    (start .pre .1 .0, start .pre .1 .1 .0, was-fits (a .at) (a .l) (a .words .now) (a .marks .now) (lift .lift .ensures) (asked .some-modified .ensures) (start .pre .1 .1 .1)))  -- recount-requires
     (λ c κs. search needs)  -- store-requires
     (λ c. search needs)  -- same-length
     (λ c. search needs)  -- same-length-2

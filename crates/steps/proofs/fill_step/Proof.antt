@@ -53,7 +53,7 @@ fill-step-spec =
     let laid = used .before .before in
     let start = laid .before .before .before .before in
     let i = start .pre .are in let z = stands-fit (i .range) (is-stands i) in let p = laid .laid-out .ensures in
-    (z, (p, fill-holding _ _ _ i p (used .used .ensures) (found .find-entry .ensures) (sent .is-sent .ensures) (test .if1 .left) (z .ways), λ l b. count-fits _ _ (parts _ _ (i .soundly)) (is-stands i) p l b (z .lines))))  -- fill-line-requires
+    (z, (p, (fill-holding _ _ _ i p (used .used .ensures) (found .find-entry .ensures) (sent .is-sent .ensures) (test .if1 .left) (z .ways), λ l b. count-fits _ _ (parts _ _ (i .soundly)) (is-stands i) p l b (z .lines)))))  -- fill-line-requires
     (λ c κs. let i = c .before .before .before .before .before .before .before .before .before .before .before .before .before .before .before .before .before .before .before .before .before .before .before .before .before .pre .are in let z = stands-fit (i .range) (is-stands i) in let p = c .before .before .before .before .before .before .before .before .before .before .before .before .before .before .before .before .before .before .before .before .before .laid-out .ensures in let u = c .before .before .before .before .before .before .before .before .before .before .before .before .before .before .before .before .before .before .before .used .ensures in let f = c .before .before .before .before .before .before .before .before .before .before .before .before .before .before .before .before .before .find-entry .ensures in
     let k = fill-inside _ _ _ i p u f (c .before .before .before .before .before .before .before .before .before .before .before .before .before .before .before .is-sent .ensures) (c .before .before .before .before .before .before .before .before .before .before .before .before .before .before .if1 .left) in let m = mul-le-mul-left (c .before .before .before .before .before .before .before .before .before .before .before .before .before .before .before .before .before .before .before .before .before .before .before .before .before .args .s .readers) (u .most) in (k, omega arith, omega arith, omega arith, omega arith))  -- remove-requires
     (λ c. search needs)  -- same-length-3

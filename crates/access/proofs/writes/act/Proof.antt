@@ -33,7 +33,8 @@ act-spec =
     let start = lined .before .before .before .before .before .before .before in
     let k = missed .write-misses .kept in
     let l = lined .act-line .kept in
-    queue-room _ _ _ _ _ _ _ (start .pre .1 .acts) (start .pre .0) _ _ _ (k .1 .0 ∙ l .1 .1 .0) (k .1 .1 .0 ∙ l .1 .1 .1 .0) (k .1 .1 .1 .0 ∙ l .1 .1 .1 .1 .0) (told .tell .ensures))  -- act-queue-requires
+    let n = missed .write-misses .last in
+    queue-room _ _ _ _ _ _ _ (start .pre .1 .acts) (start .pre .0) (n .1 .0) (n .1 .1 .0) (n .1 .1 .1 .0) (k .1 .0 ∙ l .1 .1 .0) (k .1 .1 .0 ∙ l .1 .1 .1 .0) (k .1 .1 .1 .0 ∙ l .1 .1 .1 .1 .0) (told .tell .ensures))  -- act-queue-requires
     (λ c. let queued = c .before .before .before .before .before .before in let missed = queued .before .before .before .before .before .before .before .before .before .before .before .before in queued .act-queue .kept .1 .0 ∙ missed .write-misses .kept .1 .0 ∙ missed .before .before .before .before .before .before .before .before .before .before .before .before .act-line .kept .1 .1 .0)  -- same-length
     (λ c. let queued = c .before .before .before .before .before .before in let missed = queued .before .before .before .before .before .before .before .before .before .before .before .before in queued .act-queue .kept .1 .1 .0 ∙ missed .write-misses .kept .1 .1 .0 ∙ missed .before .before .before .before .before .before .before .before .before .before .before .before .act-line .kept .1 .1 .1 .0)  -- same-length-2
     (λ c. let queued = c .before .before .before .before .before .before in let missed = queued .before .before .before .before .before .before .before .before .before .before .before .before in queued .act-queue .kept .1 .1 .1 .0 ∙ missed .write-misses .kept .1 .1 .1 .0 ∙ missed .before .before .before .before .before .before .before .before .before .before .before .before .act-line .kept .1 .1 .1 .1 .0)  -- same-length-3

@@ -4,8 +4,6 @@ use Rattle.access.proofs.writes.change_line.Statement.{statement}
 use Rattle.access.proofs.writes.change_line.Tie as tie
 use Rattle.access.proofs.sector.sectors_found.Reads as sectors-found-reads
 use Rattle.access.proofs.sector.sectors_left.Reads as sectors-left-reads
-use Rattle.layout.proofs.dirty.some_modified.Reads as some-modified-reads
-use Rattle.layout.proofs.dirty.recount.Reads as recount-reads
 use Rattle.access.proofs.writes.write_line.Reads as write-line-reads
 use Rattle.model.proofs.address_of.Reads as address-of-reads
 use Rattle.model.proofs.block_of.Reads as block-of-reads
