@@ -1,28 +1,29 @@
 -- The act of an accepted access on encoded slices: its line, its entry, its queue places, as `accept` says.
 use mathlib.Core.Path.{_≡_, refl, sym, ap, subst, _∙_}
-use mathlib.Core.Logic.{_≢_}
+use mathlib.Core.Logic.{_⊎_, inl, inr, ⊎-elim, _≢_}
 use mathlib.Core.Bool.{Bool, true, false, not, _&&_, true≢false, false≢true}
 use mathlib.Core.List.{List, [], _∷_, _++_, map, append-nil, append-assoc}
 use Prim.Native.Nat.{ℕ, zero, suc, _+_, _*_, _≤_, _<_, _-_}
 use native.Mathlib.Omega.{arith}
-use lib.ListN.{length, getD, set, replicate, length-set, length-append}
+use lib.ListN.{length, getD, set, length-set, length-append}
 use lib.Dec.{eqb}
 use borrow.Author.Tests.{eqb-true, eq-eqb, ne-eqb, leb-true}
-use Rattle.model.specs.Words.{pick, all, any, count, one}
+use Rattle.model.specs.Words.{any, count, one}
 use Rattle.model.specs.Range.{linesOf}
 use Rattle.model.specs.Address.{addressOf, isRead, blockOf, sectorIndex, lineNumber}
-use Rattle.model.specs.Tables.{Line, Entry, Queued, reading, writing, Tables, entryFor, noEntry, fresh, withLines, withMisses, withQueue, withDirtyCount}
+use Rattle.model.specs.Tables.{Line, Entry, Tables, entryFor, noEntry, fresh, withLines, withMisses, withQueue, withDirtyCount}
 use Rattle.model.specs.Lent.{Lent, lent, sectorsAt, lineAt}
 use Rattle.model.specs.Probe.{Spot}
-use Rattle.model.specs.Steps.{isMerge, isMiss, onSector, update, join, onMisses, queues, placesNeeded, recounted}
+use Rattle.model.specs.Steps.{isMerge, isMiss, onSector, update, join, onMisses, fetches, queues, placesNeeded, recounted}
 use Rattle.model.specs.declared.Settings.{Settings}
+use Rattle.model.specs.declared.Queued.{Queued}
 use Rattle.model.specs.declared.Access.{Access}
 use Rattle.model.specs.declared.Access.the-variants.{Read, Write}
 use Rattle.model.specs.declared.Answer.{Answer}
 use Rattle.model.specs.Sound.{queuedOk}
-use Rattle.model.proofs.Flags.{and-1, and-2}
-use Rattle.model.proofs.SoundFacts.{Sound, parts, lines-are, readers-some}
-use Rattle.model.proofs.Lists.{count-index}
+use Rattle.model.proofs.Flags.{and-2, by-flag}
+use Rattle.model.proofs.SoundFacts.{Sound, parts, lines-are, readers-some, queued-parts}
+use Rattle.model.proofs.Lists.{In, all-in, in-append, count-index}
 use Rattle.model.proofs.Taken.{Spotted}
 use Rattle.model.proofs.Offered.{probe-spotted}
 use Rattle.model.proofs.Bridge.{is-tables}
@@ -33,17 +34,16 @@ use Rattle.layout.specs.Layout.{Placed}
 use Rattle.layout.proofs.Stands.{Stands, is-stands}
 use Rattle.layout.proofs.Lines.{line-stands}
 use Rattle.tables.proofs.Misses.{withTicket, unsent, append-stands, new-entry-stands}
-use Rattle.tables.proofs.Queue.{push-read-stands, push-write-back-stands}
+use Rattle.tables.proofs.Queue.{push-stands}
 use Rattle.tables.proofs.Ones.{map-one}
 use Rattle.probe.specs.declared.Decision.{Decision}
-use Rattle.probe.specs.Decided.{backsOf}
 use Rattle.probe.proofs.Held.{lines-held, way-line}
 use Rattle.access.specs.Plan.{Met, entryIndex, courseOf, goes, ticketOf}
-use Rattle.access.specs.Written.{sectorsFor, sectorsAfter, missesWritten, readWritten, backWritten, queueWritten, lineLeft}
+use Rattle.access.specs.Written.{sectorsFor, sectorsAfter, missesWritten, entryWritten, queueWritten, lineLeft}
 use Rattle.access.specs.declared.course.Course.{Course}
 use Rattle.access.specs.declared.course.Course.the-variants.{Refused, Stays, Joins, Starts}
 use Rattle.access.proofs.Plans.{index-found, merged-entry, entry-once}
-use Rattle.access.proofs.Courses.{fetches-are, flag-length, shows, answer-is, needed-is}
+use Rattle.access.proofs.Courses.{shows, answer-is}
 use Rattle.access.proofs.Inverted.{Means, course-means}
 use Rattle.probe.specs.Scan.{dirtyAt}
 use Rattle.access.proofs.Recounts.{count-at, was-dirty}
@@ -63,6 +63,10 @@ misses-join (Write a m k) n es e = absurd (false≢true e)
 misses-start : (x : Access) (n : Answer) (es : List Entry) → (isRead x && isMerge n) ≡ false → (isRead x && isMiss n) ≡ true → onMisses x n es ≡ es ++ (unsent (addressOf x) (ticketOf x) ∷ [])
 misses-start (Read a m k) n es e f = rw (f, e)
 misses-start (Write a m k) n es e f = absurd (false≢true f)
+
+fetched-four : (x : Access) (n : Answer) (y : Queued) → In y (fetches x n) → length (y .masks) ≡ 4
+fetched-four (Read a m k) n y j = by-flag (λ (q : List Queued). In y q → length (y .masks) ≡ 4) (isMiss n) _ _ (λ e. ⊎-elim (λ q. rw q) (λ i. absurd i)) (λ e i. absurd i) j
+fetched-four (Write a m k) n y j = absurd j
 
 module _ (S : Settings) {longs words marks : List ℕ} (x : Access) (d : Decision) (t : Tables) (p : Spot) (m : Met S (lent longs words marks) x d t p) {place : Layout} (pl : Placed S place) where
   ok : Sound S t
@@ -161,37 +165,30 @@ module _ (S : Settings) {longs words marks : List ℕ} (x : Access) (d : Decisio
 
   -- ---- the queue
 
-  read-written : (u : Tables) (L₂ L₃ : Lent) (b : Bool) (n : ℕ) → Stands S (L₂ .longs) (L₂ .words) (L₂ .marks) u → n ≡ length (u .queue) → length (u .queue) + one b ≤ S .places
-      → L₃ ≡ readWritten place b n (addressOf x) L₂ → Stands S (L₃ .longs) (L₃ .words) (L₃ .marks) (withQueue (u .queue ++ pick b (reading (addressOf x) ∷ []) []) u)
-  read-written u L₂ L₃ true n h e r q = rw q (push-read-stands S u h pl (omega arith) (addressOf x) n e (omega arith) (refl, refl))
-  read-written u L₂ L₃ false n h e r q = rw (q, append-nil (u .queue)) h
+  -- each entry has four masks
+  four-masks : (y : Queued) → In y (queues x p) → length (y .masks) ≡ 4
+  four-masks y i = go (in-append (fetches x (p .answer)) (p .backs) y i)
+    where
+      go : In y (fetches x (p .answer)) ⊎ In y (p .backs) → length (y .masks) ≡ 4
+      go (inl j) = fetched-four x (p .answer) y j
+      go (inr j) = queued-parts [] y (all-in (queuedOk []) (p .backs) (spot .backed []) j) .0
 
-  back-written : (u : Tables) (L₂ L₃ : Lent) (b : Bool) (n : ℕ) → length (d .masks) ≡ 4 → Stands S (L₂ .longs) (L₂ .words) (L₂ .marks) u → n ≡ length (u .queue)
-      → length (u .queue) + one b ≤ S .places
-      → L₃ ≡ backWritten place b n (d .block) (d .masks) L₂ → Stands S (L₃ .longs) (L₃ .words) (L₃ .marks) (withQueue (u .queue ++ pick b (writing (d .block) (d .masks) ∷ []) []) u)
-  back-written u L₂ L₃ true n four h e r q = rw q (push-write-back-stands S u h pl (omega arith) (d .block) (d .masks) n four e (omega arith) (refl, refl, refl))
-  back-written u L₂ L₃ false n four h e r q = rw (q, append-nil (u .queue)) h
+  entries-written : (xs : List Queued) → ((y : Queued) → In y xs → length (y .masks) ≡ 4) → (u : Tables) (L : Lent) (n : ℕ)
+      → Stands S (L .longs) (L .words) (L .marks) u → n ≡ length (u .queue) → length (u .queue) + length xs ≤ S .places
+      → Stands S (queueWritten place n xs L .longs) (queueWritten place n xs L .words) (queueWritten place n xs L .marks) (withQueue (u .queue ++ xs) u)
+  entries-written [] four u L n h e r = rw (append-nil (u .queue)) h
+  entries-written (y ∷ ys) four u L n h e r =
+      let v : Tables = withQueue (u .queue ++ (y ∷ [])) u in
+      let longer : length (u .queue ++ (y ∷ [])) ≡ length (u .queue) + 1 = length-append (u .queue) (y ∷ []) in
+      let s : Stands S (entryWritten place n y L .longs) (entryWritten place n y L .words) (entryWritten place n y L .marks) v =
+      push-stands S u h pl (omega arith) y n (four y (inl refl)) e (omega arith) (refl, refl, refl) in
+      let w = entries-written ys (λ z m. four z (inr m)) v (entryWritten place n y L) (n + 1) s (omega arith) (omega arith) in
+      rw (append-assoc (u .queue) (y ∷ []) ys) at w
 
-  -- what is queued, by the two flags
-  pub queues-are : queues x p ≡ pick (isRead x && isMiss (d .answer)) (reading (addressOf x) ∷ []) [] ++ pick (d .backs) (writing (d .block) (d .masks) ∷ []) []
-  queues-are = rw (shows S x d t p m .backs, answer-is S x d t p m) (ap (λ (q : List Queued). q ++ backsOf d) (fetches-are x (d .answer)))
-
-  pub queue-written : (u : Tables) → u .queue ≡ t .queue → (L₂ L₃ : Lent) (n : ℕ) → length (d .masks) ≡ 4 → Stands S (L₂ .longs) (L₂ .words) (L₂ .marks) u
-      → n ≡ length (t .queue) → length (t .queue) + placesNeeded x p ≤ S .places
-      → L₃ ≡ queueWritten place (isRead x && isMiss (d .answer)) n (addressOf x) (d .backs) (d .block) (d .masks) L₂
+  pub queue-written : (u : Tables) → u .queue ≡ t .queue → (L₂ : Lent) {L₃ : Lent} {n : ℕ} → Stands S (L₂ .longs) (L₂ .words) (L₂ .marks) u
+      → n ≡ length (t .queue) → length (t .queue) + placesNeeded x p ≤ S .places → L₃ ≡ queueWritten place n (queues x p) L₂
       → Stands S (L₃ .longs) (L₃ .words) (L₃ .marks) (withQueue (t .queue ++ queues x p) u)
-  queue-written u same L₂ L₃ n four h e room q =
-      let b = isRead x && isMiss (d .answer) in
-      let reads = pick b (reading (addressOf x) ∷ []) [] in
-      let v : Tables = withQueue (u .queue ++ reads) u in
-      let longer : length (u .queue ++ reads) ≡ length (u .queue) + one b = length-append (u .queue) reads ∙ ap (λ (k : ℕ). length (u .queue) + k) (flag-length b (reading (addressOf x))) in
-      let most : one b + one (d .backs) ≤ placesNeeded x p =
-      omega (arith, needed-is S x d t p m) in
-      let s : length (u .queue) ≡ length (t .queue) = ap length same in
-      let r : Stands S (readWritten place b n (addressOf x) L₂ .longs) (readWritten place b n (addressOf x) L₂ .words) (readWritten place b n (addressOf x) L₂ .marks) v =
-      read-written u L₂ (readWritten place b n (addressOf x) L₂) b n h (omega arith) (omega arith) refl in
-      rw (queues-are, ← same, ← append-assoc)
-      (back-written v (readWritten place b n (addressOf x) L₂) L₃ (d .backs) (n + one b) four r (omega arith) (omega arith) q)
+  queue-written u same L₂ {n = n} h e room q = rw (q, ← same) (entries-written (queues x p) four-masks u L₂ n h (e ∙ ap length (sym same)) (rw (ap length same) room))
 
 -- ---- room
 
@@ -200,18 +197,3 @@ pub join-inside : (S : Settings) {L : Lent} (x : Access) (d : Decision) (t : Tab
 join-inside S x d t p m e merges is =
     rw is (index-found (addressOf x) (t .misses)
     (merged-entry S (m .is .range) t (parts S t (m .is .soundly)) x (m .formed) p (m .probed) (and-2 (isRead x) (isMerge (p .answer)) merges)) .0)
-
-pub queue-room : (S : Settings) {L : Lent} (x : Access) (d : Decision) (t : Tables) (p : Spot) → Met S L x d t p → one (isRead x && isMiss (d .answer)) + one (d .backs) ≤ placesNeeded x p
-queue-room S x d t p m = omega (arith, needed-is S x d t p m)
-
--- four masks: those of a sound write-back, or zeros
-pub masks-four : (S : Settings) {L : Lent} (x : Access) (d : Decision) (t : Tables) (p : Spot) → Met S L x d t p → length (d .masks) ≡ 4
-unfolding queuedOk
-masks-four S x d t p m = go (d .backs) refl (m .masks)
-  where
-    go : (b : Bool) → d .backs ≡ b → d .masks ≡ pick b (d .masks) (replicate 4 0) → length (d .masks) ≡ 4
-    go true e f =
-        let q : p .backs ≡ writing (d .block) (d .masks) ∷ [] = shows S x d t p m .backs ∙ rw e in
-        let ok : all (queuedOk []) (writing (d .block) (d .masks) ∷ []) ≡ true = rw q at (probe-spotted S (m .is .range) t (parts S t (m .is .soundly)) x p (m .probed) .backed []) in
-        eqb-true (length (d .masks)) 4 (search (and-1, and-2) depth 9)
-    go false e f = ap length f

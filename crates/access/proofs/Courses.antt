@@ -8,11 +8,12 @@ use lib.ListN.{length, getD, replicate, length-append}
 use borrow.Author.Tests.{lt-ltb, le-ltb, leb-true}
 use Rattle.model.specs.Words.{pick, any, one}
 use Rattle.model.specs.Address.{addressOf, isRead, blockOf}
-use Rattle.model.specs.Tables.{Line, Queued, reading, writing, Tables, entryFor, fresh, emptied}
+use Rattle.model.specs.Tables.{Line, reading, writing, Tables, entryFor, fresh, emptied}
 use Rattle.model.specs.Lent.{Lent}
 use Rattle.model.specs.Probe.{Spot, at, waysOf}
 use Rattle.model.specs.Steps.{isMerge, isMiss, fetches, queues, placesNeeded}
 use Rattle.model.specs.declared.Settings.{Settings}
+use Rattle.model.specs.declared.Queued.{Queued}
 use Rattle.model.specs.declared.Access.{Access}
 use Rattle.model.specs.declared.Access.the-variants.{Read, Write}
 use Rattle.model.specs.declared.Answer.{Answer}
@@ -23,7 +24,7 @@ use Rattle.probe.specs.declared.Meeting.the-variants.{Met as MetWay, Taken, Bus
 use Rattle.probe.specs.declared.Decision.{Decision}
 use Rattle.probe.specs.Decided.{placeFor, backsOf}
 use Rattle.access.specs.Plan.{Met, entryIndex, ticketsAt, joining, starting, courseOf}
-use Rattle.access.specs.Written.{sectorsFor}
+use Rattle.access.specs.Written.{sectorsFor, queuesOf}
 use Rattle.access.specs.declared.course.Course.{Course}
 use Rattle.access.specs.declared.course.Course.the-variants.{Refused, Stays}
 use Rattle.access.proofs.Plans.{merged-entry}
@@ -34,12 +35,14 @@ pub fetches-are : (x : Access) (n : Answer) → fetches x n ≡ pick (isRead x &
 fetches-are (Read a m k) n = refl
 fetches-are (Write a m k) n = refl
 
-pub flag-length : (b : Bool) (y : Queued) → length (pick b (y ∷ []) []) ≡ one b
+flag-length : (b : Bool) (y : Queued) → length (pick b (y ∷ []) []) ≡ one b
 flag-length true y = refl
 flag-length false y = refl
 
-two-lengths : (b c : Bool) (y z : Queued) → length (pick b (y ∷ []) []) + length (pick c (z ∷ []) []) ≡ one b + one c
-two-lengths b c y z = rw (flag-length b y, flag-length c z)
+pub queues-count : (x : Access) (d : Decision) → length (queuesOf x d) ≡ one (isRead x && isMiss (d .answer)) + one (d .backs)
+queues-count x d =
+    length-append (pick (isRead x && isMiss (d .answer)) (reading (addressOf x) ∷ []) []) (backsOf d)
+    ∙ rw (flag-length (isRead x && isMiss (d .answer)) (reading (addressOf x)), flag-length (d .backs) (writing (d .block) (d .masks)))
 
 -- ---- the spot of a decision
 
@@ -69,11 +72,11 @@ module _ (S : Settings) {L : Lent} (x : Access) (d : Decision) (t : Tables) (p :
   pub few-queued : length (t .queue) ≤ S .places
   few-queued = leb-true (length (t .queue)) (S .places) (parts S t (m .is .soundly) .short)
 
+  pub queues-are : queues x p ≡ queuesOf x d
+  queues-are = rw (shows .backs, answer-is) (ap (λ (l : List Queued). l ++ backsOf d) (fetches-are x (d .answer)))
+
   pub needed-is : placesNeeded x p ≡ one (isRead x && isMiss (d .answer)) + one (d .backs)
-  needed-is =
-      let reads = pick (isRead x && isMiss (d .answer)) (reading (addressOf x) ∷ []) [] in
-      let q : queues x p ≡ reads ++ backsOf d = rw (shows .backs, answer-is) (ap (λ (l : List Queued). l ++ backsOf d) (fetches-are x (d .answer))) in
-      ap length q ∙ length-append reads (backsOf d) ∙ two-lengths (isRead x && isMiss (d .answer)) (d .backs) (reading (addressOf x)) (writing (d .block) (d .masks))
+  needed-is = ap length queues-are ∙ queues-count x d
 
   -- ---- the course
 

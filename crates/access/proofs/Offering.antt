@@ -97,8 +97,6 @@ module _ (S : Settings) {longs words marks : List ℕ} (x : Access) (d : Decisio
           numbered = rw way (decided .line);
           way = decided .way;
           below = decided .below;
-          block = decided .block;
-          masks = decided .masks;
         },
       )
 

@@ -1,21 +1,22 @@
--- What an accepted access tells are the events of `accept`, and its unused fields are zero; so it leaves what `accept` says.
+-- What an accepted access tells are the events of `accept`, and its unused places are idle; so it leaves what `accept` says.
 use mathlib.Core.Path.{_≡_, refl, sym, ap, subst, _∙_}
 use mathlib.Core.Bool.{Bool, true, false, _&&_}
-use mathlib.Core.List.{List, [], _∷_, _++_, map}
+use mathlib.Core.List.{List, [], _∷_, map, append-nil}
 use Prim.Native.Nat.{ℕ, suc, _+_, _*_, _≤_, _<_}
 use native.Mathlib.Nat.{mul-suc, mul-le-mul-left, le-trans}
 use native.Mathlib.Omega.{arith}
-use lib.ListN.{length, getD, set, replicate}
+use lib.ListN.{length, set, take}
 use borrow.Author.Tests.{leb-true}
-use Rattle.model.specs.Words.{pick, fit, one}
+use Rattle.model.specs.Words.{fit, one}
 use Rattle.model.specs.Address.{addressOf, isRead, blockOf}
-use Rattle.model.specs.Tables.{reading, writing, Tables, withLines, withMisses, withDirtyCount}
+use Rattle.model.specs.Tables.{Tables, withLines, withMisses, withDirtyCount}
 use Rattle.model.specs.Lent.{Lent, lent, sectorsAt}
 use Rattle.model.specs.Inner.{Fit}
 use Rattle.model.specs.Probe.{Spot}
-use Rattle.model.specs.Steps.{isMiss, onMisses, queuedEvent, accept, placesNeeded}
-use Rattle.model.specs.Calls.{Leaves, encoded, eventsTold, tidied}
+use Rattle.model.specs.Steps.{isMiss, onMisses, queuedEvent, queues, accept, placesNeeded}
+use Rattle.model.specs.Calls.{Leaves, encoded, eventsTold, inTwo, tidied}
 use Rattle.model.specs.declared.Settings.{Settings}
+use Rattle.model.specs.declared.Queued.{Queued}
 use Rattle.model.specs.declared.Access.{Access}
 use Rattle.model.specs.declared.Event.{Event}
 use Rattle.model.specs.declared.Event.the-variants.{Answered}
@@ -27,27 +28,38 @@ use Rattle.layout.specs.Layout.{Placed}
 use Rattle.layout.proofs.Stands.{stands-encode}
 use Rattle.probe.specs.declared.Decision.{Decision}
 use Rattle.access.specs.Plan.{Met, Acts, goes, ticketOf}
-use Rattle.access.specs.Written.{sectorsFor, sectorsAfter, missesWritten, queueWritten, tellingOf, MissRoom, ReadRoom, BackRoom, lineLeft}
+use Rattle.access.specs.Written.{sectorsFor, sectorsAfter, missesWritten, queueWritten, queuesOf, tellingOf, MissRoom, QueueRoom, lineLeft}
 use Rattle.access.specs.declared.course.Course.{Course}
 use Rattle.access.specs.declared.course.Course.the-variants.{Refused, Stays, Joins, Starts}
-use Rattle.access.proofs.Courses.{answer-is}
+use Rattle.access.proofs.Courses.{queues-count, queues-are, answer-is}
 use Rattle.access.proofs.Inverted.{Means, course-means}
-use Rattle.access.proofs.Acting.{newLine, queues-are, line-written, misses-written, queue-written, join-inside, queue-room, newCount}
+use Rattle.access.proofs.Acting.{newLine, line-written, misses-written, queue-written, join-inside, newCount}
 
 -- ---- its value
 
-told-events : (x : Access) (d : Decision) (b c : Bool) → d .backs ≡ c
-    → eventsTold (tellingOf x d b) ≡ Answered (d .answer) (d .line) ∷ map queuedEvent (pick b (reading (addressOf x) ∷ []) [] ++ pick c (writing (d .block) (d .masks) ∷ []) [])
-unfolding eventsTold
-told-events x d true true e = rw e
-told-events x d true false e = rw e
-told-events x d false true e = rw e
-told-events x d false false e = rw e
+-- two places have room for what it queues
+two-back : (xs : List Queued) → length xs ≤ 2 → take (length xs) (inTwo xs) ≡ xs
+two-back [] h = refl
+two-back (a ∷ []) h = refl
+two-back (a ∷ b ∷ []) h = refl
+two-back (a ∷ b ∷ c ∷ xs) h = absurd (omega arith)
 
-told-tidy : (x : Access) (d : Decision) (b : Bool) → d .block ≡ pick (d .backs) (d .block) 0 → d .masks ≡ pick (d .backs) (d .masks) (replicate 4 0) → tidied (tellingOf x d b) ≡ tellingOf x d b
+queues-few : (x : Access) (d : Decision) → length (queuesOf x d) ≤ 2
+queues-few x d = rw (queues-count x d) (few (isRead x && isMiss (d .answer)) (d .backs))
+  where
+    few : (b c : Bool) → one b + one c ≤ 2
+    few true true = omega arith
+    few true false = omega arith
+    few false true = omega arith
+    few false false = omega arith
+
+told-events : (x : Access) (d : Decision) → eventsTold (tellingOf x d) ≡ Answered (d .answer) (d .line) ∷ map queuedEvent (queuesOf x d)
+unfolding eventsTold
+told-events x d = rw (two-back (queuesOf x d) (queues-few x d), append-nil)
+
+told-tidy : (x : Access) (d : Decision) → tidied (tellingOf x d) ≡ tellingOf x d
 unfolding tidied fit
-told-tidy x d true e f = rw (← e, ← f)
-told-tidy x d false e f = rw (← e, ← f)
+told-tidy x d = rw (two-back (queuesOf x d) (queues-few x d))
 
 -- ---- room for its writes
 
@@ -93,43 +105,32 @@ module _ (S : Settings) {longs words marks : List ℕ} (x : Access) (d : Decisio
           let s = mul-suc (S .readers) i in
           (omega (arith, z .2), omega arith, omega (arith, z .2))
 
-  most : one (isRead x && isMiss (d .answer)) + one (d .backs) ≤ placesNeeded x p
-  most = queue-room S x d t p m
-
-  pub queue-few : n ≤ 64
-  queue-few = let h = acts-fit in omega (arith, roomy, a .counted)
-
-  pub read-room : (longs′ marks′ : List ℕ) → length longs′ ≡ length longs → length marks′ ≡ length marks → ReadRoom place (isRead x && isMiss (d .answer)) n longs′ marks′
-  read-room l k e g = go (isRead x && isMiss (d .answer)) most
-    where
-      go : (b : Bool) → one b + one (d .backs) ≤ placesNeeded x p → ReadRoom place b n l k
-      go false z = tt
-      go true z = let h = acts-fit in (omega (arith, roomy, a .counted, z), omega (arith, roomy, a .counted, z))
-
-  pub back-room : (longs′ words′ marks′ : List ℕ) → length longs′ ≡ length longs → length words′ ≡ length words → length marks′ ≡ length marks
-      → BackRoom place (d .backs) (n + one (isRead x && isMiss (d .answer))) longs′ words′ marks′
-  back-room l w k e f g = go (d .backs) most
-    where
-      go : (b : Bool) → one (isRead x && isMiss (d .answer)) + one b ≤ placesNeeded x p → BackRoom place b (n + one (isRead x && isMiss (d .answer))) l w k
-      go false z = tt
-      go true z = let h = acts-fit in (omega (arith, roomy, a .counted, z), omega (arith, roomy, a .counted, z), omega (arith, roomy, a .counted, z))
+  pub queue-room : (longs′ words′ marks′ : List ℕ) → length longs′ ≡ length longs → length words′ ≡ length words → length marks′ ≡ length marks
+      → {r : Told} → r ≡ tellingOf x d → (r .queues ≤ 2) × QueueRoom place (n + r .queues) longs′ words′ marks′
+  queue-room l w k e f g {r} tells =
+      let h = acts-fit in
+      let few : length (queuesOf x d) ≤ 2 = queues-few x d in
+      let told : r .queues ≡ length (queuesOf x d) = ap (λ (z : Told). z .queues) tells in
+      let needs : placesNeeded x p ≡ length (queuesOf x d) = ap length (queues-are S x d t p m) in
+      let b : n + r .queues ≤ S .places = omega (arith, roomy, a .counted) in
+      (omega arith, (omega arith, omega arith, omega arith))
 
   -- ---- what it leaves
 
-  pub acted : (L₁ L₂ L₃ : Lent) {r : Told} {b : Bool} → length (d .masks) ≡ 4
+  pub acted : (L₁ L₂ L₃ : Lent) {r : Told}
       → L₁ ≡ lineLeft place (lent longs words marks) (d .line) (blockOf (addressOf x)) (sectorsAfter x d (sectorsFor (d .meeting) (sectorsAt S words marks (d .line))))
       → L₂ ≡ missesWritten place (S .readers) c (addressOf x) (ticketOf x) L₁
-      → b ≡ (isRead x && isMiss (d .answer))
-      → L₃ ≡ queueWritten place b n (addressOf x) (d .backs) (d .block) (d .masks) L₂
-      → r ≡ tellingOf x d b
+      → r ≡ tellingOf x d
+      → L₃ ≡ queueWritten place n (take (r .queues) (r .queued)) L₂
       → Leaves (encoded S (accept S x p t)) (lent longs words marks) r L₃
   unfolding accept
-  acted L₁ L₂ L₃ four line misses reads queue tells =
+  acted L₁ L₂ L₃ line misses tells queue =
       let s₁ = line-written S x d t p m pl line in
       let s₂ = misses-written S x d t p m pl (set (t .lines) (d .line) (newLine S x d t p m pl)) (newCount S x d t p m pl) L₁ L₂ s₁ c (a .planned) (a .going) misses in
-      let s₃ = queue-written S x d t p m pl (withMisses (onMisses x (p .answer) (t .misses)) (withDirtyCount (newCount S x d t p m pl) (withLines (set (t .lines) (d .line) (newLine S x d t p m pl)) t))) refl L₂ L₃ n four s₂ (a .counted) roomy (rw reads at queue) in
+      let q : L₃ ≡ queueWritten place n (queues x p) L₂ = rw (tells, two-back (queuesOf x d) (queues-few x d), ← queues-are S x d t p m) at queue in
+      let s₃ = queue-written S x d t p m pl (withMisses (onMisses x (p .answer) (t .misses)) (withDirtyCount (newCount S x d t p m pl) (withLines (set (t .lines) (d .line) (newLine S x d t p m pl)) t))) refl L₂ s₂ (a .counted) roomy q in
       record {
-        tells = rw (tells, reads, queues-are S x d t p m pl, answer-is S x d t p m, ← m .numbered) (told-events x d (isRead x && isMiss (d .answer)) (d .backs) refl);
-        tidy = rw tells (told-tidy x d _ (m .block) (m .masks));
+        tells = rw (tells, queues-are S x d t p m, answer-is S x d t p m, ← m .numbered) (told-events x d);
+        tidy = rw tells (told-tidy x d);
         left = rw (← m .numbered) (stands-encode s₃);
       }

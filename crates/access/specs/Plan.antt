@@ -3,7 +3,7 @@ use mathlib.Core.Path.{_≡_}
 use Prim.Native.Nat.{ℕ, zero, suc, _+_, _<_}
 use mathlib.Core.Bool.{Bool, true, false, _&&_}
 use mathlib.Core.List.{List, [], _∷_}
-use lib.ListN.{length, getD, replicate}
+use lib.ListN.{length, getD}
 use lib.Dec.{ltb, leb}
 use Rattle.model.specs.Words.{pick, any}
 use Rattle.model.specs.Address.{addressOf, isRead, wellFormed, lineNumber}
@@ -65,9 +65,6 @@ pub record Met (S : Settings) (L : Lent) (x : Access) (d : Decision) (t : Tables
   pub numbered : d .line ≡ lineNumber S (addressOf x) (p .way)
   pub way : d .way < S .ways
   pub below : d .line < linesOf S
-  -- without a write-back its fields are zero
-  pub block : d .block ≡ pick (d .backs) (d .block) 0
-  pub masks : d .masks ≡ pick (d .backs) (d .masks) (replicate 4 0)
 
 -- some tables and spot are met
 pub record Meets (S : Settings) (L : Lent) (x : Access) (d : Decision) : Type 0 where

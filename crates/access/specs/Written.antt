@@ -1,16 +1,19 @@
 -- What the writes of an accepted access leave of the slices, raw: a line, the miss table, the queue.
-use Prim.Native.Nat.{ℕ, _+_, _-_, _*_, _≤_, _<_}
-use mathlib.Core.Bool.{Bool, true, false}
-use mathlib.Core.List.{List, [], _∷_}
+use Prim.Native.Nat.{ℕ, _+_, _*_, _≤_, _<_, _-_}
+use mathlib.Core.Bool.{Bool, true, false, _&&_}
+use mathlib.Core.List.{List, [], _∷_, _++_}
 use lib.ListN.{length, getD, set, replicate}
 use Rattle.model.specs.Words.{pick, one}
-use Rattle.model.specs.Address.{addressOf, sectorIndex}
-use Rattle.model.specs.Tables.{empty}
+use Rattle.model.specs.Numbers.{queueKindNumber}
+use Rattle.model.specs.Address.{addressOf, isRead, sectorIndex}
+use Rattle.model.specs.Tables.{empty, reading}
 use Rattle.model.specs.Lent.{Lent, lent, sectorsAt}
 use Rattle.model.specs.Regions.{put}
-use Rattle.model.specs.Steps.{onSector}
+use Rattle.model.specs.Steps.{isMiss, onSector}
+use Rattle.model.specs.Calls.{inTwo}
 use Rattle.model.specs.declared.Access.{Access}
 use Rattle.model.specs.declared.Sector.{Sector}
+use Rattle.model.specs.declared.Queued.{Queued}
 use Rattle.model.specs.declared.Told.{Told}
 use Rattle.model.specs.declared.Event.the-variants.{Answered}
 use Rattle.layout.specs.declared.Layout.{Layout}
@@ -18,6 +21,7 @@ use Rattle.layout.specs.Sectors.{statuses, masks, readables, someModified}
 use Rattle.probe.specs.declared.Meeting.{Meeting}
 use Rattle.probe.specs.declared.Meeting.the-variants as meeting
 use Rattle.probe.specs.declared.Decision.{Decision}
+use Rattle.probe.specs.Decided.{backsOf}
 use Rattle.probe.specs.Scan.{dirtyAt}
 use Rattle.access.specs.declared.course.Course.{Course}
 use Rattle.access.specs.declared.course.Course.the-variants.{Refused, Stays, Joins, Starts}
@@ -58,16 +62,18 @@ missesWritten at readers (Joins e n) a k L =
 missesWritten at readers (Starts e) a k L =
     lent (put (L .longs) (at .misses + e) (a ∷ [])) (put (L .words) (at .tickets + readers * e) (k ∷ [])) (put (L .marks) (at .counts + e) (1 ∷ []))
 
--- a read at queue place n, if there is one
-abbrev pub readWritten : Layout → Bool → ℕ → ℕ → Lent → Lent
-readWritten at false n a L = L
-readWritten at true n a L = lent (put (L .longs) (at .queue + n) (a ∷ [])) (L .words) (put (L .marks) (at .kinds + n) (1 ∷ []))
+-- an entry at queue place n
+abbrev pub entryWritten : Layout → ℕ → Queued → Lent → Lent
+entryWritten at n x L =
+    lent
+    (put (L .longs) (at .queue + n) (x .address ∷ []))
+    (put (L .words) (at .backs + 4 * n) (x .masks))
+    (put (L .marks) (at .kinds + n) (queueKindNumber (x .kind) ∷ []))
 
--- a write-back at queue place n, if there is one
-abbrev pub backWritten : Layout → Bool → ℕ → ℕ → List ℕ → Lent → Lent
-backWritten at false n block ms L = L
-backWritten at true n block ms L =
-    lent (put (L .longs) (at .queue + n) (block ∷ [])) (put (L .words) (at .backs + 4 * n) ms) (put (L .marks) (at .kinds + n) (2 ∷ []))
+-- entries from queue place n on
+abbrev pub queueWritten : Layout → ℕ → List Queued → Lent → Lent
+queueWritten at n [] L = L
+queueWritten at n (x ∷ xs) L = queueWritten at (n + 1) xs (entryWritten at n x L)
 
 -- ---- room for these writes
 
@@ -77,27 +83,20 @@ MissRoom at readers Stays longs words marks = Unit
 MissRoom at readers (Joins e n) longs words marks = (n < 8) × (at .tickets + readers * e + n < length words) × (at .counts + e < length marks)
 MissRoom at readers (Starts e) longs words marks = (at .misses + e < length longs) × (at .tickets + readers * e < length words) × (at .counts + e < length marks)
 
-abbrev pub ReadRoom : Layout → Bool → ℕ → List ℕ → List ℕ → Type 0
-ReadRoom at false n longs marks = Unit
-ReadRoom at true n longs marks = (at .queue + n < length longs) × (at .kinds + n < length marks)
+-- for the first n queue places
+abbrev pub QueueRoom : Layout → ℕ → List ℕ → List ℕ → List ℕ → Type 0
+QueueRoom at n longs words marks = (at .queue + n ≤ length longs) × (at .backs + 4 * n ≤ length words) × (at .kinds + n ≤ length marks)
 
-abbrev pub BackRoom : Layout → Bool → ℕ → List ℕ → List ℕ → List ℕ → Type 0
-BackRoom at false n longs words marks = Unit
-BackRoom at true n longs words marks = (at .queue + n < length longs) × (at .backs + 4 * n + 4 ≤ length words) × (at .kinds + n < length marks)
+-- what an accepted access queues: the read, then the write-back
+abbrev pub queuesOf : Access → Decision → List Queued
+queuesOf x d = pick (isRead x && isMiss (d .answer)) (reading (addressOf x) ∷ []) [] ++ backsOf d
 
--- the read, then the write-back behind it
-abbrev pub queueWritten : Layout → Bool → ℕ → ℕ → Bool → ℕ → List ℕ → Lent → Lent
-queueWritten at reads n a backs block ms L = backWritten at backs (n + one reads) block ms (readWritten at reads n a L)
-
--- what an accepted access tells
-abbrev pub tellingOf : Access → Decision → Bool → Told
-tellingOf x d reads = record {
+-- what it tells
+abbrev pub tellingOf : Access → Decision → Told
+tellingOf x d = record {
   first = Answered (d .answer) (d .line);
-  reads = reads;
-  address = pick reads (addressOf x) 0;
-  backs = d .backs;
-  block = d .block;
-  masks = d .masks;
+  queued = inTwo (queuesOf x d);
+  queues = length (queuesOf x d);
   count = 0;
   tickets = replicate 8 0;
 }

@@ -30,7 +30,7 @@ pub enum Course {
 }
 
 // How many free queue places an access with this answer needs: one for a read that misses, one for a write-back.
-fn places_needed(x: Access, a: Answer, backs: bool) -> usize
+pub(crate) fn places_needed(x: Access, a: Answer, backs: bool) -> usize
     ensures { λ r. ⌜ (r ≡ one (isRead x && isMiss a) + one backs) × (r ≤ 2) ⌝ }
 {
     if fetches(x, a) {

@@ -2,7 +2,7 @@
 ghost use mathlib.Core.Path.{_≡_};
 ghost use Prim.Native.Nat.{ℕ, _+_, _*_, _≤_, _<_};
 ghost use mathlib.Core.List.{List, [], _∷_};
-ghost use lib.ListN.{length, getD};
+ghost use lib.ListN.{length, getD, take};
 ghost use Rattle.model.specs.Regions.{put};
 ghost use Rattle.model.specs.Address.{isRead, addressOf, blockOf};
 ghost use Rattle.model.specs.Words.{pick, one};
@@ -12,7 +12,9 @@ ghost use Rattle.model.specs.Range.{linesOf};
 ghost use Rattle.layout.specs.Layout.{Placed};
 ghost use Rattle.probe.specs.Scan.{dirtyAt};
 ghost use Rattle.access.specs.Plan.{Meets, MayAct, Acted};
-ghost use Rattle.access.specs.Written.{sectorsFor, sectorsAfter, lineWritten, lineLeft, missesWritten, readWritten, backWritten, queueWritten, tellingOf, MissRoom, ReadRoom, BackRoom};
+ghost use Rattle.model.specs.Tables.{reading, writing};
+ghost use Rattle.model.specs.Calls.{inTwo};
+ghost use Rattle.access.specs.Written.{sectorsFor, sectorsAfter, lineWritten, missesWritten, queueWritten, queuesOf, tellingOf, MissRoom, QueueRoom, lineLeft};
 ghost use mathlib.Core.Bool.{not, _&&_};
 ghost use Rattle.model.specs.Steps.{isMiss};
 use crate::asked::fetches;
@@ -20,6 +22,7 @@ use crate::asked::is_miss;
 use crate::asked::is_read;
 use crate::asked::ticket_of;
 use crate::course::Course;
+use crate::course::places_needed;
 use crate::sector::sectors_found;
 use crate::sector::sectors_left;
 use layout::Layout;
@@ -27,6 +30,8 @@ use model::Access;
 use model::Answer;
 use model::BlockAddress;
 use model::Event;
+use model::QueueKind;
+use model::Queued;
 use model::Sector;
 use model::SectorAddress;
 use model::Settings;
@@ -149,107 +154,83 @@ fn write_misses(
     }
 }
 
-// A read at the queue's place n, if there is one.
-fn write_read(
-    at: Layout,
-    longs: &mut [u64],
-    marks: &mut [u8],
-    reads: bool,
-    n: usize,
-    address: SectorAddress,
-)
-    requires { ⌜ ReadRoom at reads n (now longs) (now marks) ⌝ }
-    ensures { λ _. ⌜ ((words : List ℕ) → lent (now (longs .exit)) words (now (marks .exit))
-        ≡ readWritten at reads n (address .0) (lent (now (longs .entry)) words (now (marks .entry)))) ⌝ }
-{
-    if reads {
-        tables::push_read(at, longs, marks, n, address);
-    }
-}
-
-// A write-back at the queue's place n, if there is one.
-fn write_back(
-    at: Layout,
-    longs: &mut [u64],
-    words: &mut [u32],
-    marks: &mut [u8],
-    backs: bool,
-    n: usize,
-    block: BlockAddress,
-    masks: [u32; 4],
-)
-    requires { ⌜ BackRoom at backs n (now longs) (now words) (now marks) ⌝ }
-    ensures { λ _. ⌜ lent (now (longs .exit)) (now (words .exit)) (now (marks .exit))
-        ≡ backWritten at backs n (block .0) masks (lent (now (longs .entry)) (now (words .entry)) (now (marks .entry))) ⌝ }
-{
-    if backs {
-        tables::push_write_back(at, longs, words, marks, n, block, masks);
-    }
-}
-
-// The queue place behind a read, if there is one.
-fn behind(n: usize, reads: bool) -> usize
-    requires { ⌜ n ≤ 64 ⌝ }
-    ensures { λ r. ⌜ r ≡ n + one reads ⌝ }
-{
-    if reads {
-        return n + 1;
-    }
-    n
-}
-
-// The queue: the read, then the write-back.
+// The queue: the entries from place n on.
 fn act_queue(
     at: Layout,
     longs: &mut [u64],
     words: &mut [u32],
     marks: &mut [u8],
     n: usize,
-    reads: bool,
-    address: SectorAddress,
-    d: Decision,
+    entries: [Queued; 2],
+    count: usize,
 )
-    requires { ⌜ (n ≤ 64) × ReadRoom at reads n (now longs) (now marks) × BackRoom at (d .backs) (n + one reads) (now longs) (now words) (now marks) ⌝ }
+    requires { ⌜ (count ≤ 2) × QueueRoom at (n + count) (now longs) (now words) (now marks) ⌝ }
     ensures { λ _. ⌜ lent (now (longs .exit)) (now (words .exit)) (now (marks .exit))
-        ≡ queueWritten at reads n (address .0) (d .backs) (d .block) (d .masks) (lent (now (longs .entry)) (now (words .entry)) (now (marks .entry))) ⌝ }
+        ≡ queueWritten at n (take count entries) (lent (now (longs .entry)) (now (words .entry)) (now (marks .entry))) ⌝ }
 {
-    write_read(at, longs, marks, reads, n, address);
-    let next = behind(n, reads);
-    let block = BlockAddress(d.block);
-    let masks = d.masks;
-    write_back(at, longs, words, marks, d.backs, next, block, masks);
+    let mut i = 0;
+    while i < count {
+        let entry = entries[i];
+        tables::push(at, longs, words, marks, n + i, entry);
+        i += 1;
+    }
 }
 
-// The address of the read that is queued; 0 where none is.
-fn address_read(x: Access, reads: bool) -> u64
-    ensures { λ r. ⌜ r ≡ pick reads (addressOf x) 0 ⌝ }
+fn read_entry(x: Access) -> Queued
+    ensures { λ r. ⌜ r ≡ reading (addressOf x) ⌝ }
 {
-    if reads {
-        return model::address_of(x);
+    Queued {
+        address: model::address_of(x),
+        masks: [0; 4],
+        kind: QueueKind::Read,
     }
-    0
+}
+
+fn write_back_entry(d: Decision) -> Queued
+    ensures { λ r. ⌜ r ≡ writing (d .block) (d .masks) ⌝ }
+{
+    let masks = d.masks;
+    Queued {
+        address: d.block,
+        masks,
+        kind: QueueKind::WriteBack,
+    }
+}
+
+// What the accepted access queues: the read, then the write-back.
+fn entries_of(x: Access, d: Decision) -> [Queued; 2]
+    ensures { λ r. ⌜ r ≡ inTwo (queuesOf x d) ⌝ }
+{
+    let a = d.answer;
+    if fetches(x, a) {
+        if d.backs {
+            return [read_entry(x), write_back_entry(d)];
+        }
+        return [read_entry(x), model::idle()];
+    }
+    if d.backs {
+        return [write_back_entry(d), model::idle()];
+    }
+    [model::idle(); 2]
 }
 
 // What the accepted access tells.
-fn tell(x: Access, d: Decision, reads: bool) -> Told
+fn tell(x: Access, d: Decision) -> Told
     requires { ⌜ d .line < 1024 ⌝ }
-    ensures { λ r. ⌜ r ≡ tellingOf x d reads ⌝ }
+    ensures { λ r. ⌜ r ≡ tellingOf x d ⌝ }
 {
     let answer = d.answer;
-    let masks = d.masks;
-    let address = address_read(x, reads);
+    let queued = entries_of(x, d);
+    let queues = places_needed(x, answer, d.backs);
     Told {
         first: Event::Answered {
             answer,
             line: d.line as u16,
         },
-        reads,
-        address,
-        backs: d.backs,
-        block: d.block,
-        masks,
-        count: 0,
+        queued,
+        queues,
         tickets: [0u32; 8],
+        count: 0,
     }
 }
 
@@ -281,8 +262,8 @@ pub(crate) fn act(
         address,
         ticket_of(x),
     );
-    let a = d.answer;
-    let reads = fetches(x, a);
-    act_queue(at, longs, words, marks, queued, reads, address, d);
-    tell(x, d, reads)
+    let told = tell(x, d);
+    let entries = told.queued;
+    act_queue(at, longs, words, marks, queued, entries, told.queues);
+    told
 }

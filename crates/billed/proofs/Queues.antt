@@ -4,17 +4,20 @@ use mathlib.Core.Path.{_≡_, refl, sym, ap, _∙_}
 use mathlib.Core.Bool.{true, _||_}
 use mathlib.Core.List.{List, [], _∷_, _++_, map, append-nil, append-assoc}
 use native.Mathlib.Omega.{arith}
-use lib.ListN.{length, getD}
-use lib.Dec.{ltb}
+use lib.ListN.{length, getD, replicate}
+use lib.Dec.{eqb, ltb}
 use borrow.Author.Tests.{eqb-true}
 use Rattle.model.specs.Words.{all, any}
 use Rattle.model.specs.Range.{inRange}
-use Rattle.model.specs.Tables.{Entry, Queued, reading, writing, Tables, Outcome, refused, after, eventsOf}
-use Rattle.model.specs.Sound.{lastCycle, queuedOk}
+use Rattle.model.specs.Tables.{Entry, Tables, Outcome, refused, after, eventsOf}
+use Rattle.model.specs.Sound.{lastCycle, unsentFor, kindOk, queuedOk}
 use Rattle.model.specs.Probe.{Rules, Spot}
-use Rattle.model.specs.Steps.{fetches, queues, queuedEvent, sentEvent, accept, accessUnder, send, sendFrom, fill, ticketsOf, sentFor, tick}
+use Rattle.model.specs.Steps.{fetches, queues, queuedAs, queuedEvent, sentAs, sentEvent, accept, accessUnder, send, sendFrom, fill, ticketsOf, sentFor, tick}
 use Rattle.model.specs.History.{Call, offer, sending, filling, ticking, stepUnder}
 use Rattle.model.specs.declared.Settings.{Settings}
+use Rattle.model.specs.declared.QueueKind.{QueueKind}
+use Rattle.model.specs.declared.QueueKind.the-variants as queue
+use Rattle.model.specs.declared.Queued.{Queued}
 use Rattle.model.specs.declared.Access.{Access}
 use Rattle.model.specs.declared.Access.the-variants.{Read, Write}
 use Rattle.model.specs.declared.Answer.{Answer}
@@ -24,7 +27,7 @@ use Rattle.model.specs.declared.Event.the-variants as ev
 use Rattle.model.specs.declared.Refusal.{Refusal}
 use Rattle.model.specs.declared.Refusal.the-variants.{NotSent, BadCycle, QueueEmpty}
 use Rattle.model.proofs.Flags.{and-1, and-2, by-flag}
-use Rattle.model.proofs.SoundFacts.{Sound}
+use Rattle.model.proofs.SoundFacts.{Sound, queued-parts}
 use Rattle.model.proofs.AccessCases.{Accepted, access-cases}
 use Rattle.billed.specs.Queue.{queuedOf, sentOf, entriesBy, queuedBy, sentBy}
 
@@ -39,19 +42,31 @@ four-masks (a ∷ b ∷ c ∷ []) h = absurd (omega arith)
 four-masks (a ∷ b ∷ c ∷ d ∷ []) h = refl
 four-masks (a ∷ b ∷ c ∷ d ∷ e ∷ ms) h = absurd (omega arith)
 
+-- a read's masks, which are zero
+zero-masks : (ms : List ℕ) → all (λ m. eqb m 0) ms ≡ true → replicate (length ms) 0 ≡ ms
+zero-masks [] h = refl
+zero-masks (m ∷ ms) h =
+    let z : m ≡ 0 = eqb-true m 0 (and-1 (eqb m 0) (all (λ m. eqb m 0) ms) h) in
+    rw (z, zero-masks ms (and-2 (eqb m 0) (all (λ m. eqb m 0) ms) h))
+
 module _ (es : List Entry) where
-  writes-four : (b : ℕ) (ms : List ℕ) → queuedOk es (writing b ms) ≡ true → length ms ≡ 4
-  unfolding queuedOk
-  writes-four b ms h = eqb-true (length ms) 4 (search (and-1, and-2) depth 4)
+  read-masks : (a : ℕ) (ms : List ℕ) → length ms ≡ 4 → kindOk es queue.Read a ms ≡ true → replicate 4 0 ≡ ms
+  read-masks a ms four h = ap (λ (n : ℕ). replicate n 0) (sym four) ∙ zero-masks ms (and-2 (any (unsentFor a) es) (all (λ m. eqb m 0) ms) h)
 
   -- an entry of a sound queue is the one that its event tells
+  told-as : (k : QueueKind) (a : ℕ) (ms : List ℕ) → length ms ≡ 4 → kindOk es k a ms ≡ true → queuedOf (queuedAs k a ms) ≡ record { kind = k; address = a; masks = ms } ∷ []
+  told-as queue.Read a ms four h = rw (read-masks a ms four h)
+  told-as queue.WriteBack b ms four h = rw (four-masks ms four)
+
   queued-told : (q : Queued) → queuedOk es q ≡ true → queuedOf (queuedEvent q) ≡ q ∷ []
-  queued-told (reading a) h = refl
-  queued-told (writing b ms) h = ap (λ (l : List ℕ). writing b l ∷ []) (four-masks ms (writes-four b ms h))
+  queued-told q h = let (four, small, asked) = queued-parts es q h in told-as (q .kind) (q .address) (q .masks) four asked
+
+  sent-as : (k : QueueKind) (a : ℕ) (ms : List ℕ) → length ms ≡ 4 → kindOk es k a ms ≡ true → sentOf (sentAs k a ms) ≡ record { kind = k; address = a; masks = ms } ∷ []
+  sent-as queue.Read a ms four h = rw (read-masks a ms four h)
+  sent-as queue.WriteBack b ms four h = rw (four-masks ms four)
 
   sent-told : (q : Queued) → queuedOk es q ≡ true → sentOf (sentEvent q) ≡ q ∷ []
-  sent-told (reading a) h = refl
-  sent-told (writing b ms) h = ap (λ (l : List ℕ). writing b l ∷ []) (four-masks ms (writes-four b ms h))
+  sent-told q h = let (four, small, asked) = queued-parts es q h in sent-as (q .kind) (q .address) (q .masks) four asked
 
   all-told : (qs : List Queued) → all (queuedOk es) qs ≡ true → queuedBy (map queuedEvent qs) ≡ qs
   unfolding entriesBy
@@ -63,12 +78,15 @@ module _ (es : List Entry) where
 none-sent : (qs : List Queued) → sentBy (map queuedEvent qs) ≡ []
 unfolding entriesBy
 none-sent [] = refl
-none-sent (reading a ∷ qs) = none-sent qs
-none-sent (writing b ms ∷ qs) = none-sent qs
+none-sent (q ∷ qs) = rw (unsent (q .kind) (q .address) (q .masks)) (none-sent qs)
+  where
+    unsent : (k : QueueKind) (a : ℕ) (ms : List ℕ) → sentOf (queuedAs k a ms) ≡ []
+    unsent queue.Read a ms = refl
+    unsent queue.WriteBack b ms = refl
 
-none-queued : (q : Queued) → queuedOf (sentEvent q) ≡ []
-none-queued (reading a) = refl
-none-queued (writing b ms) = refl
+none-queued : (k : QueueKind) (a : ℕ) (ms : List ℕ) → queuedOf (sentAs k a ms) ≡ []
+none-queued queue.Read a ms = refl
+none-queued queue.WriteBack b ms = refl
 
 tickets-none : (f : Event → List Queued) → ((k : ℕ) → f (ev.Released k) ≡ []) → (ts : List ℕ) → entriesBy f (map ev.Released ts) ≡ []
 unfolding entriesBy
@@ -107,7 +125,7 @@ module _ (R : Rules) (S : Settings) (range : inRange S ≡ true) (t : Tables) (o
     where
       go : (q : List Queued) → t .queue ≡ q → all (queuedOk (t .misses)) q ≡ true → Tells t (sendFrom q t)
       go [] h f = refused-tells t QueueEmpty
-      go (e ∷ q) h f = rw (none-queued e, sent-told (t .misses) e (and-1 (queuedOk (t .misses) e) _ f), h) (append-nil (e ∷ q))
+      go (e ∷ q) h f = rw (none-queued (e .kind) (e .address) (e .masks), sent-told (t .misses) e (and-1 (queuedOk (t .misses) e) _ f), h) (append-nil (e ∷ q))
 
   fill-tells : (a : ℕ) → Tells t (fill a t)
   unfolding fill entriesBy

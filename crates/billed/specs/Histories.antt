@@ -3,11 +3,12 @@ use Prim.Native.Nat.{ℕ}
 use mathlib.Core.Path.{_≡_}
 use mathlib.Core.Bool.{Bool}
 use mathlib.Core.List.{List, [], _∷_, _++_}
-use Rattle.model.specs.Tables.{Queued, Tables}
+use Rattle.model.specs.Tables.{Tables}
 use Rattle.model.specs.Lent.{Lent}
 use Rattle.model.specs.Calls.{eventsTold, Leaves}
 use Rattle.model.specs.History.{Call, make, Made, eventsMade}
 use Rattle.model.specs.declared.Settings.{Settings}
+use Rattle.model.specs.declared.Queued.{Queued}
 use Rattle.model.specs.declared.Told.{Told}
 use Rattle.billed.specs.Bytes.{dirtyByte}
 use Rattle.billed.specs.Queue.{queuedBy, sentBy}

@@ -1,6 +1,7 @@
 -- The queue entries that events tell: those queued (0x12 and 0x13) and those sent (0x15 and 0x16).
 use mathlib.Core.List.{List, [], _∷_, _++_}
-use Rattle.model.specs.Tables.{Queued, reading, writing}
+use Rattle.model.specs.Tables.{reading, writing}
+use Rattle.model.specs.declared.Queued.{Queued}
 use Rattle.model.specs.declared.Event.{Event}
 use Rattle.model.specs.declared.Event.the-variants as ev
 

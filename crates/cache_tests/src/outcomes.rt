@@ -1,6 +1,8 @@
 // Outcomes of calls as text.
 use model::Answer;
 use model::Event;
+use model::QueueKind;
+use model::Queued;
 use model::Refusal;
 use model::Told;
 use model::Verdict;
@@ -129,20 +131,28 @@ fn is_refusal(e: Event) -> bool {
     }
 }
 
-fn put_read(reads: bool, address: u64, out: &mut [u8], at: usize) -> usize {
-    if reads {
-        put_address(b", read queued ", address, out, at)
-    } else {
-        at
+fn put_entry(x: Queued, out: &mut [u8], at: usize) -> usize {
+    let kind = x.kind;
+    let masks = x.masks;
+    match kind {
+        QueueKind::Read => put_address(b", read queued ", x.address, out, at),
+        QueueKind::WriteBack => {
+            let a = put_address(b", write-back queued ", x.address, out, at);
+            put_masks(masks[0], masks[1], masks[2], masks[3], out, a)
+        }
     }
 }
 
-fn put_back(backs: bool, block: u64, masks: [u32; 4], out: &mut [u8], at: usize) -> usize {
-    if !backs {
-        return at;
+// The entries that were queued, in order.
+fn put_queued(count: usize, queued: [Queued; 2], out: &mut [u8], at: usize) -> usize {
+    let n = scripts::least(count, 2);
+    let mut end = at;
+    let mut i = 0;
+    while i < n {
+        end = put_entry(queued[i], out, end);
+        i += 1;
     }
-    let a = put_address(b", write-back queued ", block, out, at);
-    put_masks(masks[0], masks[1], masks[2], masks[3], out, a)
+    end
 }
 
 fn put_ticket(ticket: u32, out: &mut [u8], at: usize) -> usize {
@@ -164,13 +174,12 @@ fn put_tickets(count: usize, tickets: [u32; 8], out: &mut [u8], at: usize) -> us
 
 pub(crate) fn put_told(told: Told, out: &mut [u8]) -> Outcome {
     let first = told.first;
-    let masks = told.masks;
+    let queued = told.queued;
     let tickets = told.tickets;
     let a = put_first(first, out, 0);
-    let b = put_read(told.reads, told.address, out, a);
-    let c = put_back(told.backs, told.block, masks, out, b);
+    let b = put_queued(told.queues, queued, out, a);
     Outcome {
-        end: put_tickets(told.count, tickets, out, c),
+        end: put_tickets(told.count, tickets, out, b),
         refused: is_refusal(first),
     }
 }

@@ -13,12 +13,13 @@ use borrow.Author.Tests.{eq-eqb, lt-leb, le-ltb}
 use Rattle.model.specs.Words.{pick, all, any, count}
 use Rattle.model.specs.Range.{inRange}
 use Rattle.model.specs.Address.{addressOf, isRead, blockOf, wellFormed}
-use Rattle.model.specs.Tables.{Line, Entry, Queued, Tables, Outcome, refused, done, accepted, isInvalid, isReserved, unused, waiting, holds, empty, fresh}
+use Rattle.model.specs.Tables.{Line, Entry, Tables, Outcome, refused, done, accepted, isInvalid, isReserved, unused, waiting, holds, empty, fresh}
 use Rattle.model.specs.Sound.{readingOf, sound}
 use Rattle.model.specs.Probe.{Rule, Place, no, at, waysOf, first, victim, takeOver, meet, probe, ruleOf, metIn}
 use Rattle.model.specs.Steps.{isMerge, isMiss, placesNeeded, entryFull, accept, proceed, access, afterSend, send, others, afterFill, sentFor, fill}
 use Rattle.model.specs.Rounds.{Calls, steps, Turn, still, took, Run, goOn, sendTurn, fillFirst, drain, rounds, heldIn, waits, Settles}
 use Rattle.model.specs.declared.Settings.{Settings}
+use Rattle.model.specs.declared.Queued.{Queued}
 use Rattle.model.specs.declared.Status.{Status}
 use Rattle.model.specs.declared.Status.the-variants.{Invalid, Reserved, Valid, Modified}
 use Rattle.model.specs.declared.Sector.{Sector}
@@ -114,7 +115,7 @@ module _ (S : Settings) (x : Access) where
   send-takes t e q h = rw h
 
   sent-less : (t : Tables) → Sound S t → (e : Queued) (q : List Queued) → t .queue ≡ e ∷ q → Left S (size t - 1) (afterSend e q t)
-  sent-less t ok e q h = record { ok = sent-sound S t e q h ok; less = omega (arith, ap length h, marked-length e (t .misses)) }
+  sent-less t ok e q h = record { ok = sent-sound S t e q h ok; less = omega (arith, ap length h, marked-length (e .kind) (e .address) (t .misses)) }
 
   fill-takes : (t : Tables) (d : Entry) → In d (t .misses) → d .sent ≡ true → took t (fill (d .address) t) .left ≡ afterFill (d .address) t
   unfolding fill

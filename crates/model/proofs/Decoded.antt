@@ -10,12 +10,13 @@ use lib.Dec.{eqb}
 use lib.ListN.{length, getD, List·getD-eq-default}
 use borrow.Author.Tests.{eqb-true, eq-eqb}
 use Rattle.model.specs.declared.Settings.{Settings}
+use Rattle.model.specs.declared.Queued.{Queued}
 use Rattle.model.specs.declared.Sector.{Sector}
 use Rattle.model.specs.Words.{pick, table, some}
-use Rattle.model.specs.Numbers.{statusNumber, statusOf}
+use Rattle.model.specs.Numbers.{statusNumber, statusOf, queueKindNumber, queueKindOf}
 use Rattle.model.specs.Range.{linesOf}
 use Rattle.model.specs.Address.{blockOf, sectorIndex, setIndex}
-use Rattle.model.specs.Tables.{Line, Entry, Queued, reading, writing, Tables, isReserved, unused, entryFor, fresh, noEntry}
+use Rattle.model.specs.Tables.{Line, Entry, Tables, isReserved, unused, entryFor, idle, fresh, noEntry}
 use Rattle.model.specs.Layout.{wordsFrom, queueMaskRegion}
 use Rattle.model.specs.Lent.{Lent, bit, tagOf, cycleOf, masksOf, statusesOf, readablesOf, missOf, sentOf, ticketCountOf, ticketsIn, queuedOf, kindOf, queueMasksOf, inUse, sectorAt, sectorsAt, lineAt, entryAt, queueAt, tablesOf}
 pub use Rattle.model.specs.SoundLent.{Small}
@@ -153,9 +154,10 @@ module _ (S : Settings) (L : Lent) (t : Tables) (st : Stands S L t) (sh : Shape 
               entry-in S L t st sh e b (w .used),
               (sym (miss-is S L t st sh e b) ∙ w .has ∙ a, bit-clear (entry t e .sent) (sym (sent-is S L t st sh e b) ∙ w .waits)),
             );
+        bare = λ q k j. sym (queue-mask-is S L t st sh p k h j) ∙ f .bare (omega arith) k j;
         block = λ q. rw a at (f .block (n ∙ q));
         masked = sh .masked p l;
-        small = λ q k j. rw (queue-mask-is S L t st sh p k h j) at (small (wordsFrom S queueMaskRegion + (4 * p + k)));
+        small = λ k j. rw (queue-mask-is S L t st sh p k h j) at (small (wordsFrom S queueMaskRegion + (4 * p + k)));
         dirty = λ q. let (k, j, d) = f .dirty (n ∙ q) in (k, j, λ z. d (queue-mask-is S L t st sh p k h j ∙ z));
       }
 
@@ -202,33 +204,12 @@ sectors-at f S words marks l (suc (suc zero)) h = refl
 sectors-at f S words marks l (suc (suc (suc zero))) h = refl
 sectors-at f S words marks l (suc (suc (suc (suc k)))) h = absurd (omega arith)
 
--- a queue place by its numbers: kind k, address a, masks ms
-module _ (k a : ℕ) (ms : List ℕ) where
-  abbrev made : Queued
-  made = pick (eqb k 1) (reading a) (writing a ms)
-
-  address-made : a ≡ addressIn made
-  address-made = go (eqb k 1)
-    where
-      go : (b : Bool) → a ≡ addressIn (pick b (reading a) (writing a ms))
-      go true = refl
-      go false = refl
-
-  masked-made : length ms ≡ 4 → kindIn made ≡ 2 → length (queueMasksOf made) ≡ 4
-  masked-made e = go (eqb k 1)
-    where
-      go : (b : Bool) → kindIn (pick b (reading a) (writing a ms)) ≡ 2 → length (queueMasksOf (pick b (reading a) (writing a ms))) ≡ 4
-      go true z = absurd (omega arith)
-      go false z = e
-
-  mask-made : (i m : ℕ) → (k ≡ 1 → m ≡ 0) → m ≡ getD ms i 0 → m ≡ maskIn made i
-  mask-made i m f g = by-flag (λ x. m ≡ maskIn x i) (eqb k 1) (reading a) (writing a ms) (λ e. f (eqb-true k 1 e)) (λ e. g)
-
-kind-made : (k a : ℕ) (ms : List ℕ) → k ≤ 2 → (k ≡ 0 → ⊥) → k ≡ kindIn (made k a ms)
-kind-made zero a ms h f = absurd (f refl)
-kind-made (suc zero) a ms h f = refl
-kind-made (suc (suc zero)) a ms h f = refl
-kind-made (suc (suc (suc k))) a ms h f = absurd (omega arith)
+-- a kind by its number
+kind-made : (k : ℕ) → k ≤ 2 → (k ≡ 0 → ⊥) → k ≡ queueKindNumber (queueKindOf k)
+kind-made zero h f = absurd (f refl)
+kind-made (suc zero) h f = refl
+kind-made (suc (suc zero)) h f = refl
+kind-made (suc (suc (suc k))) h f = absurd (omega arith)
 
 module _ (S : Settings) (L : Lent) (is : SoundIs S L) where
   abbrev few : ℕ
@@ -283,9 +264,6 @@ module _ (S : Settings) (L : Lent) (is : SoundIs S L) where
       (λ o. z (free-place p h o) ∙ sym (field-past g deep (queueAt S L) p k o))
       (lt-or-ge p deep)
 
-  abbrev backs : ℕ → List ℕ
-  backs p = table 4 (λ k. queueMask S L (4 * p + k))
-
   pub read-stands : 1 ≤ S .readers → Stands S L (tablesOf S L)
   unfolding tablesOf
   read-stands pos = record {
@@ -304,12 +282,11 @@ module _ (S : Settings) (L : Lent) (is : SoundIs S L) where
     sents = λ e h. of-entries sentOf 0 e h (mark-back (sent S L e) (is .entries e h .mark)) (λ z. is .entries e h .blank z .1);
     ticket-counts = λ e h. of-entries ticketCountOf 0 e h (sym (length-table (ticketCount S L e) (λ j. ticket S L (S .readers * e + j)))) (λ z. z);
     tickets = λ e k h j. of-entries ticketsIn k e h (ticket-at pos e k h j) (λ z. ticket-past pos e k h j (omega arith));
-    queue = λ p h. of-queue queuedOf 0 p h (λ u. address-made (kind S L p) (queued S L p) (backs p)) (λ z. is .places p h .blank z);
-    kinds = λ p h. of-queue kindOf 0 p h (λ u. kind-made (kind S L p) (queued S L p) (backs p) (is .places p h .known) u) (λ z. z);
+    queue = λ p h. of-queue queuedOf 0 p h (λ u. refl) (λ z. is .places p h .blank z);
+    kinds = λ p h. of-queue kindOf 0 p h (λ u. kind-made (kind S L p) (is .places p h .known) u) (λ z. z);
     queue-masks = λ p k h j.
         of-queue queueMasksOf k p h
-        (λ u. mask-made (kind S L p) (queued S L p) (backs p) k (queueMask S L (4 * p + k)) (λ e. is .places p h .bare (omega arith) k j)
-        (sym (getD-table 4 (λ k. queueMask S L (4 * p + k)) k 0 j)))
+        (λ u. sym (getD-table 4 (λ k. queueMask S L (4 * p + k)) k 0 j))
         (λ z. is .places p h .bare (omega arith) k j);
     time = refl;
     count = refl;
@@ -322,7 +299,7 @@ module _ (S : Settings) (L : Lent) (is : SoundIs S L) where
 
   place-read : (p : ℕ) → p < deep → place (tablesOf S L) p ≡ queueAt S L p
   unfolding tablesOf
-  place-read p h = getD-table deep (queueAt S L) p (reading 0) h
+  place-read p h = getD-table deep (queueAt S L) p idle h
 
   tickets-read : (e : ℕ) → e < few → length (entry (tablesOf S L) e .tickets) ≡ ticketCount S L e
   tickets-read e h = ap (λ (x : Entry). length (x .tickets)) (entry-read e h) ∙ length-table (ticketCount S L e) (λ j. ticket S L (S .readers * e + j))
@@ -344,5 +321,5 @@ module _ (S : Settings) (L : Lent) (is : SoundIs S L) where
     deep = rw (length-table deep (queueAt S L)) (in-use-few (kind S L) (S .places));
     masked = λ p h.
         let i : p < deep = rw (length-table deep (queueAt S L)) at h in
-        rw (place-read p i) (masked-made (kind S L p) (queued S L p) (backs p) (length-table 4 (λ k. queueMask S L (4 * p + k))));
+        rw (place-read p i) (length-table 4 (λ k. queueMask S L (4 * p + k)));
   }

@@ -5,15 +5,19 @@ use mathlib.Core.Bool.{Bool, true, false}
 use Prim.Native.Nat.{ℕ, suc, _+_, _*_, _/_, _%_, _≤_, _<_}
 use native.Mathlib.Nat.{div-add-mod, div-lt-iff-lt-mul, mod-lt, mul-comm}
 use native.Mathlib.Omega.{arith}
-use lib.ListN.{length, List·getD-eq-default}
+use lib.ListN.{length, getD-replicate, List·getD-eq-default}
 use borrow.Author.Tests.{eqb-true, eq-eqb}
+use Rattle.model.specs.Numbers.{queueKindNumber}
 use Rattle.model.specs.declared.Settings.{Settings}
+use Rattle.model.specs.declared.QueueKind.{QueueKind}
+use Rattle.model.specs.declared.QueueKind.the-variants as queue
+use Rattle.model.specs.declared.Queued.{Queued}
 use Rattle.model.specs.declared.Status.{Status}
 use Rattle.model.specs.declared.Status.the-variants.{Invalid, Reserved, Valid, Modified}
 use Rattle.model.specs.Words.{any}
 use Rattle.model.specs.Range.{linesOf}
 use Rattle.model.specs.Address.{sectorIndex}
-use Rattle.model.specs.Tables.{Entry, Queued, reading, writing, Tables, isInvalid, isReserved, unused, entryFor, noEntry}
+use Rattle.model.specs.Tables.{Entry, Tables, isInvalid, isReserved, unused, entryFor, idle, noEntry}
 use Rattle.model.specs.Lent.{Lent, bit}
 use Rattle.model.proofs.Flags.{flag, not-yes, not-no, clash}
 use Rattle.model.proofs.Below.{every-at, some-at, some-i}
@@ -35,13 +39,13 @@ not-both Reserved e f = clash e refl
 not-both Valid e f = clash e refl
 not-both Modified e f = clash e refl
 
-kind-low : (x : Queued) → kindIn x ≤ 2
-kind-low (reading a) = omega arith
-kind-low (writing b ms) = omega arith
+kind-low : (k : QueueKind) → queueKindNumber k ≤ 2
+kind-low queue.Read = omega arith
+kind-low queue.WriteBack = omega arith
 
-read-bare : (x : Queued) (k : ℕ) → kindIn x ≤ 1 → maskIn x k ≡ 0
-read-bare (reading a) k h = refl
-read-bare (writing b ms) k h = absurd (omega arith)
+kind-one : (k : QueueKind) → queueKindNumber k ≤ 1 → queueKindNumber k ≡ 1
+kind-one queue.Read h = refl
+kind-one queue.WriteBack h = absurd (omega arith)
 
 module _ (S : Settings) (L : Lent) (t : Tables) (st : Stands S L t) (so : Soundly S t) where
   sh : Shape S t
@@ -183,12 +187,12 @@ module _ (S : Settings) (L : Lent) (t : Tables) (st : Stands S L t) (so : Soundl
 
   place-is : (p : ℕ) → p < S .places → PlaceIs S L p
   place-is p h = record {
-    known = ⊎-elim (λ l. rw (kind-in S L t st sh p l) (kind-low (place t p))) (λ k. omega (arith, kind-out S L t st sh p h k)) (lt-or-ge p (length (t .queue)));
+    known = ⊎-elim (λ l. rw (kind-in S L t st sh p l) (kind-low (place t p .kind))) (λ k. omega (arith, kind-out S L t st sh p h k)) (lt-or-ge p (length (t .queue)));
     blank = λ z. queued-out S L t st sh p h (place-out p h z);
     bare = λ q k j.
         queue-mask-is S L t st sh p k h j
-        ∙ ⊎-elim (λ l. read-bare (place t p) k (rw (kind-in S L t st sh p l) at q))
-        (λ o. ap (λ (x : Queued). maskIn x k) (List·getD-eq-default (t .queue) (reading 0) o)) (lt-or-ge p (length (t .queue)));
+        ∙ ⊎-elim (λ l. so .queue p l .bare (kind-one (place t p .kind) (rw (kind-in S L t st sh p l) at q)) k j)
+        (λ o. ap (λ (x : Queued). maskIn x k) (List·getD-eq-default (t .queue) idle o) ∙ getD-replicate 4 k 0 0 j) (lt-or-ge p (length (t .queue)));
     block = λ q. let l : p < length (t .queue) = place-i p h q in
         rw (queued-in S L t st sh p l) (so .queue p l .block (sym (kind-in S L t st sh p l) ∙ q));
     dirty = λ q.

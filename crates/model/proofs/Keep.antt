@@ -2,7 +2,7 @@
 use Prim.Native.Nat.{ℕ, _+_, _*_, _%_, _<_}
 use mathlib.Core.Path.{_≡_, refl, sym, ap, _∙_}
 use mathlib.Core.Logic.{_⊎_, inl, inr, _≢_, ⊎-elim}
-use mathlib.Core.Bool.{Bool, true, false, not, _||_, true≢false, _&&_}
+use mathlib.Core.Bool.{Bool, true, false, not, _&&_, _||_, true≢false}
 use mathlib.Core.List.{List, [], _∷_, map}
 use native.Mathlib.Omega.{arith}
 use lib.ListN.{length, getD, length-map, length-set, List·getD-map, set}
@@ -12,18 +12,21 @@ use borrow.Author.Tests.{leb-true, eqb-true, eqb-false, eq-eqb, ne-eqb, le-leb}
 use Rattle.model.specs.Words.{all, any, count, keep, every, same, pick, one}
 use Rattle.model.specs.Range.{linesOf}
 use Rattle.model.specs.Address.{blockOf, sectorIndex}
-use Rattle.model.specs.Tables.{Line, Entry, Queued, reading, writing, Tables, refused, isInvalid, isReserved, unused, holds, entryFor, empty, fresh, isModified, dirty, dirtyLines}
-use Rattle.model.specs.Sound.{maskOk, sectorOk, lineOk, alone, reservedOk, readingOf, unsentFor, entryOk, queuedOk, allOnes}
-use Rattle.model.specs.Steps.{mark, marked, afterSend, sendFrom, send, arrived, fillLine, others, afterFill, sentFor, fill, soiled}
+use Rattle.model.specs.Tables.{Line, Entry, Tables, refused, isInvalid, isReserved, unused, holds, entryFor, isFetch, empty, fresh, isModified, dirty, dirtyLines}
+use Rattle.model.specs.Sound.{maskOk, sectorOk, lineOk, alone, reservedOk, readingOf, unsentFor, entryOk, kindOk, queuedOk, allOnes}
+use Rattle.model.specs.Steps.{mark, markedFor, marked, afterSend, sendFrom, send, arrived, fillLine, others, afterFill, sentFor, fill, soiled}
 use Rattle.model.specs.declared.Settings.{Settings}
 use Rattle.model.specs.declared.Status.{Status}
 use Rattle.model.specs.declared.Status.the-variants.{Invalid, Reserved, Valid, Modified}
 use Rattle.model.specs.declared.Sector.{Sector}
+use Rattle.model.specs.declared.QueueKind.{QueueKind}
+use Rattle.model.specs.declared.QueueKind.the-variants as queue
+use Rattle.model.specs.declared.Queued.{Queued}
 use Rattle.model.specs.declared.Refusal.the-variants.{NotSent}
 use Rattle.model.proofs.Flags.{and-1, and-2, and-i, flag, not-yes, not-no, no-yes, clash, by-flag, is-same}
 use Rattle.model.proofs.Lists.{In, all-in, in-all, in-any, any-in, in-keep, keep-in, keep-le, not-twice, count-ext, any-ext, count-keep, any-keep, in-getD, all-set, set-some, map-in, in-map, any-map, all-map, count-map, in-index, in-set-same, in-set-other}
 use Rattle.model.proofs.Below.{every-i}
-use Rattle.model.proofs.SoundFacts.{Sound, LeavesSound, LineIs, line-whole, EntryIs, entry-whole, mask-small, sector-aligned, address-is, block-is, sector-is, lines-are, line-at, four-at, tag-aligned, reserved-at, entry-at, entry-one, queued-at, unsent-once, sectors-at}
+use Rattle.model.proofs.SoundFacts.{Sound, LeavesSound, LineIs, line-whole, EntryIs, entry-whole, mask-small, sector-aligned, address-is, block-is, sector-is, lines-are, line-at, four-at, tag-aligned, reserved-at, entry-at, entry-one, queued-at, unsent-once, queued-when, sectors-at}
 use Rattle.model.proofs.Counting.{count-gains, few-any, count-le}
 
 -- ---- send
@@ -41,33 +44,33 @@ mark-unsent a e =
     (λ p q. absurd (true≢false q)) (λ p q. (q, p))
 
 -- the same addresses after a send
-marked-any : (x : Queued) (es : List Entry) (a : ℕ) → any (entryFor a) (marked x es) ≡ any (entryFor a) es
-marked-any (reading b) es a = any-map (mark b) (entryFor a) es ∙ any-ext (λ e. entryFor a (mark b e)) (entryFor a) es (λ e m. rw (mark-address b e))
-marked-any (writing b ms) es a = refl
+marked-any : (k : QueueKind) (b : ℕ) (es : List Entry) (a : ℕ) → any (entryFor a) (markedFor k b es) ≡ any (entryFor a) es
+marked-any queue.Read b es a = any-map (mark b) (entryFor a) es ∙ any-ext (λ e. entryFor a (mark b e)) (entryFor a) es (λ e m. rw (mark-address b e))
+marked-any queue.WriteBack b es a = refl
 
-marked-count : (x : Queued) (es : List Entry) (a : ℕ) → count (entryFor a) (marked x es) ≡ count (entryFor a) es
-marked-count (reading b) es a = count-map (mark b) (entryFor a) es ∙ count-ext (λ e. entryFor a (mark b e)) (entryFor a) es (λ e m. rw (mark-address b e))
-marked-count (writing b ms) es a = refl
+marked-count : (k : QueueKind) (b : ℕ) (es : List Entry) (a : ℕ) → count (entryFor a) (markedFor k b es) ≡ count (entryFor a) es
+marked-count queue.Read b es a = count-map (mark b) (entryFor a) es ∙ count-ext (λ e. entryFor a (mark b e)) (entryFor a) es (λ e m. rw (mark-address b e))
+marked-count queue.WriteBack b es a = refl
 
-pub marked-length : (x : Queued) (es : List Entry) → length (marked x es) ≡ length es
-marked-length (reading b) es = length-map es (mark b)
-marked-length (writing b ms) es = refl
+pub marked-length : (k : QueueKind) (b : ℕ) (es : List Entry) → length (markedFor k b es) ≡ length es
+marked-length queue.Read b es = length-map es (mark b)
+marked-length queue.WriteBack b es = refl
 
 reserved-same : (es fs : List Entry) → ((a : ℕ) → any (entryFor a) es ≡ any (entryFor a) fs) → (l : Line)
     → reservedOk es l ≡ reservedOk fs l
 unfolding reservedOk
 reserved-same es fs h l = simp h
 
--- the entry that one was before a send
-record Was (x : Queued) (es : List Entry) (e : Entry) : Type 0 where
+-- the entry that one was before a send of an entry of kind k for b
+record Was (k : QueueKind) (b : ℕ) (es : List Entry) (e : Entry) : Type 0 where
   old : Entry
   there : In old es
   address : e .address ≡ old .address
   tickets : e .tickets ≡ old .tickets
-  unsent : e .sent ≡ false → (old .sent ≡ false) × (readingOf (old .address) x ≡ false)
+  unsent : e .sent ≡ false → (old .sent ≡ false) × ((isFetch k && eqb (old .address) b) ≡ false)
 
-was : (x : Queued) (es : List Entry) (e : Entry) → In e (marked x es) → Was x es e
-was (reading b) es e m =
+was : (k : QueueKind) (b : ℕ) (es : List Entry) (e : Entry) → In e (markedFor k b es) → Was k b es e
+was queue.Read b es e m =
     let (d, n, q) = in-map (mark b) es m in
     record {
       old = d;
@@ -76,46 +79,48 @@ was (reading b) es e m =
       tickets = ap (λ (v : Entry). v .tickets) q ∙ mark-tickets b d;
       unsent = λ h. mark-unsent b d (sym (ap (λ (v : Entry). v .sent) q) ∙ h);
     }
-was (writing b ms) es e m = record { old = e; there = m; address = refl; tickets = refl; unsent = λ h. (h, refl) }
+was queue.WriteBack b es e m = record { old = e; there = m; address = refl; tickets = refl; unsent = λ h. (h, refl) }
 
 -- an unsent entry that the head doesn't name is still there
-unsent-still : (x : Queued) (es : List Entry) (a : ℕ) (d : Entry) → In d es → unsentFor a d ≡ true → readingOf a x ≡ false
-    → any (unsentFor a) (marked x es) ≡ true
-unsent-still (reading b) es a d n u h =
+unsent-still : (k : QueueKind) (b : ℕ) (es : List Entry) (a : ℕ) (d : Entry) → In d es → unsentFor a d ≡ true → (isFetch k && eqb a b) ≡ false
+    → any (unsentFor a) (markedFor k b es) ≡ true
+unsent-still queue.Read b es a d n u h =
     let s : d .address ≡ a = eqb-true (d .address) a (and-1 (entryFor a d) (not (d .sent)) u) in
     let k : entryFor b d ≡ false = rw s h in
     in-any (unsentFor a) (map (mark b) es) (map-in (mark b) es d n) (rw k u)
-unsent-still (writing b ms) es a d n u h = in-any (unsentFor a) es n u
+unsent-still queue.WriteBack b es a d n u h = in-any (unsentFor a) es n u
 
 module _ (S : Settings) (t : Tables) (x : Queued) (q : List Queued) (at : t .queue ≡ x ∷ q) (ok : Sound S t) where
   sent-entry : (e : Entry) → In e (marked x (t .misses)) → EntryIs S (afterSend x q t) e
   sent-entry e m =
-      let w : Was x (t .misses) e = was x (t .misses) e m in
+      let w : Was (x .kind) (x .address) (t .misses) e = was (x .kind) (x .address) (t .misses) e m in
       let k : EntryIs S t (w .old) = entry-at S t ok (w .old) (w .there) in
       record {
         good = rw (w .address) (k .good);
         held = rw (w .address) (k .held);
-        once = rw (w .address, marked-count x (t .misses) (w .old .address)) (k .once);
+        once = rw (w .address, marked-count (x .kind) (x .address) (t .misses) (w .old .address)) (k .once);
         readers = rw (w .tickets) (k .readers);
         queues = go w (e .sent) refl;
       }
     where
-      go : (w : Was x (t .misses) e) (b : Bool) → e .sent ≡ b → (b || eqb (count (readingOf (e .address)) q) 1) ≡ true
+      go : (w : Was (x .kind) (x .address) (t .misses) e) (b : Bool) → e .sent ≡ b → (b || eqb (count (readingOf (e .address)) q) 1) ≡ true
       go w true h = refl
       go w false h =
           let c : count (readingOf (w .old .address)) (x ∷ q) ≡ 1 = rw at at (unsent-once S t ok (w .old) (w .there) (w .unsent h .0)) in
           rw (w .address) (eq-eqb (count (readingOf (w .old .address)) q) 1 (rw (w .unsent h .1) at c))
 
   sent-queued : (y : Queued) → In y q → queuedOk (marked x (t .misses)) y ≡ true
-  unfolding queuedOk
-  sent-queued (reading a) m = go (any-in (unsentFor a) (t .misses) (queued-at S t ok (reading a) (rw at (inr m))))
+  sent-queued y m = queued-when (t .misses) (marked x (t .misses)) y go (queued-at S t ok y (rw at (inr m)))
     where
-      go : (d : Entry) × In d (t .misses) × (unsentFor a d ≡ true) → any (unsentFor a) (marked x (t .misses)) ≡ true
-      go (d, n, u) =
+      a : ℕ
+      a = y .address
+
+      go : isFetch (y .kind) ≡ true → any (unsentFor a) (t .misses) ≡ true → any (unsentFor a) (marked x (t .misses)) ≡ true
+      go f h =
+          let (d, n, u) = any-in (unsentFor a) (t .misses) h in
           let s : d .address ≡ a = eqb-true (d .address) a (and-1 (entryFor a d) (not (d .sent)) u) in
           let c : count (readingOf a) (x ∷ q) ≡ 1 = rw (s, at) at (unsent-once S t ok d n (not-yes (and-2 (entryFor a d) (not (d .sent)) u))) in
-          unsent-still x (t .misses) a d n u (not-twice (readingOf a) x q c m (eq-eqb a a refl))
-  sent-queued (writing b ms) m = queued-at S t ok (writing b ms) (rw at (inr m))
+          unsent-still (x .kind) (x .address) (t .misses) a d n u (not-twice (readingOf a) x q c m (rw (f, eq-eqb a a refl)))
 
   pub sent-sound : Sound S (afterSend x q t)
   sent-sound = record {
@@ -124,10 +129,10 @@ module _ (S : Settings) (t : Tables) (x : Queued) (q : List Queued) (at : t .que
     lined = ok .lined;
     single = ok .single;
     reserve = in-all (reservedOk (marked x (t .misses))) (t .lines)
-        (λ l m. reserved-same (marked x (t .misses)) (t .misses) (marked-any x (t .misses)) l ∙ all-in (reservedOk (t .misses)) (t .lines) (ok .reserve) m);
+        (λ l m. reserved-same (marked x (t .misses)) (t .misses) (marked-any (x .kind) (x .address) (t .misses)) l ∙ all-in (reservedOk (t .misses)) (t .lines) (ok .reserve) m);
     entered = in-all (entryOk S (afterSend x q t)) (marked x (t .misses)) (λ e m. entry-whole S (afterSend x q t) e (sent-entry e m));
     lining = in-all (queuedOk (marked x (t .misses))) q sent-queued;
-    few = rw (marked-length x (t .misses)) (ok .few);
+    few = rw (marked-length (x .kind) (x .address) (t .misses)) (ok .few);
     short = le-leb (length q) (S .places) (omega (arith, ap length at, leb-true (length (t .queue)) (S .places) (ok .short)));
     counted = ok .counted;
   }
@@ -350,16 +355,18 @@ module _ (S : Settings) (t : Tables) (ok : Sound S t) (d : Entry) (m : In d (t .
       }
 
   filled-queued : (y : Queued) → In y (t .queue) → queuedOk left y ≡ true
-  unfolding queuedOk
-  filled-queued (reading b) n = go (any-in (unsentFor b) (t .misses) (queued-at S t ok (reading b) n))
+  filled-queued y n = queued-when (t .misses) left y go (queued-at S t ok y n)
     where
-      go : (e : Entry) × In e (t .misses) × (unsentFor b e ≡ true) → any (unsentFor b) left ≡ true
-      go (e, o, u) =
+      b : ℕ
+      b = y .address
+
+      go : isFetch (y .kind) ≡ true → any (unsentFor b) (t .misses) ≡ true → any (unsentFor b) left ≡ true
+      go f h =
+          let (e, o, u) = any-in (unsentFor b) (t .misses) h in
           let unsent : e .sent ≡ false = not-yes (and-2 (entryFor b e) (not (e .sent)) u) in
           in-any (unsentFor b) left
           (keep-in (others a) (t .misses) o
           (not-no (ne-eqb (e .address) a (λ q. clash s (ap (λ (v : Entry). v .sent) (sym (entry-one S t ok d e m o q)) ∙ unsent))))) u
-  filled-queued (writing b ms) n = queued-at S t ok (writing b ms) n
 
   -- one line has the block
   one-holds : count (holds (blockOf a)) (t .lines) ≡ 1

@@ -5,6 +5,7 @@ pub mod Lists
 pub mod Counting
 pub mod Below
 pub mod Reflect
+pub mod Arrays
 pub mod Rows
 pub mod Region
 pub mod Places

@@ -11,17 +11,20 @@ use lib.ListN.{length, getD, List·getD-map, length-append}
 use Rattle.model.specs.Words.{pick, any}
 use Rattle.model.specs.Range.{inRange}
 use Rattle.model.specs.Address.{addressOf, isRead, wellFormed}
-use Rattle.model.specs.Tables.{Entry, Queued, reading, writing, Tables, Outcome, refused, done, after, accepted, eventsOf, withNow}
+use Rattle.model.specs.Tables.{Entry, Tables, Outcome, refused, done, after, accepted, eventsOf, withNow}
 use Rattle.model.specs.Lent.{Lent, lengthsFit, tablesOf}
 use Rattle.model.specs.Sound.{sound}
 use Rattle.model.specs.SoundLent.{soundLent}
 use Rattle.model.specs.Probe.{Place, no, at, metIn}
-use Rattle.model.specs.Steps.{isMerge, isMiss, entryFull, placesNeeded, queues, queuedEvent, accept, proceed, access, sentEvent, sendFrom, send, ticketsOf, sentFor, fill}
+use Rattle.model.specs.Steps.{isMerge, isMiss, entryFull, placesNeeded, queues, queuedAs, queuedEvent, accept, proceed, access, sentAs, sendFrom, send, ticketsOf, sentFor, fill}
 use Rattle.model.specs.Calls.{encoded, call}
 use Rattle.model.specs.Rounds as old
 use Rattle.model.specs.Rounds.{Calls, Turn, still, took, isEmpty, steps, calls}
 use Rattle.model.specs.Seen.{Acts, answering, refusing, accepts, but11, compared, Course, goOn, marks, sendTurn, fillFirst, drain, rounds, struck, heldIn, waits, Demand3, seen, stepActs, callActs}
 use Rattle.model.specs.declared.Settings.{Settings}
+use Rattle.model.specs.declared.QueueKind.{QueueKind}
+use Rattle.model.specs.declared.QueueKind.the-variants as queue
+use Rattle.model.specs.declared.Queued.{Queued}
 use Rattle.model.specs.declared.Access.{Access}
 use Rattle.model.specs.declared.Event.{Event}
 use Rattle.model.specs.declared.Event.the-variants as event
@@ -87,9 +90,9 @@ pub unrefused-too : {T : Type 0} (o : Outcome T) → Clear accepts o → Clear u
 unrefused-too (refused n) c = record { clear = refl }
 unrefused-too (done es u) c = record { clear = and-2 (any answering es) (not (any refusing es)) (c .clear) }
 
-sent-clear : (q : Queued) → refusing (sentEvent q) ≡ false
-sent-clear (reading a) = refl
-sent-clear (writing b ms) = refl
+sent-clear : (k : QueueKind) (a : ℕ) (ms : List ℕ) → refusing (sentAs k a ms) ≡ false
+sent-clear queue.Read a ms = refl
+sent-clear queue.WriteBack a ms = refl
 
 pub send-clear : (t : Tables) → Clear unrefused (send t)
 unfolding send
@@ -97,7 +100,7 @@ send-clear t = from (t .queue)
   where
     from : (qs : List Queued) → Clear unrefused (sendFrom qs t)
     from [] = record { clear = refl }
-    from (q ∷ qs) = record { clear = rw (sent-clear q) }
+    from (q ∷ qs) = record { clear = rw (sent-clear (q .kind) (q .address) (q .masks)) }
 
 released-clear : (ks : List ℕ) → any refusing (map event.Released ks) ≡ false
 released-clear [] = refl
@@ -108,10 +111,13 @@ unfolding fill
 fill-clear a t =
     clear-by unrefused (any (sentFor a) (t .misses)) record { clear = ap not (released-clear (ticketsOf a (t .misses))) } record { clear = refl }
 
-queued-clear : (qs : List Queued) → any refusing (map queuedEvent qs) ≡ false
+queued-unrefused : (k : QueueKind) (a : ℕ) (ms : List ℕ) → refusing (queuedAs k a ms) ≡ false
+queued-unrefused queue.Read a ms = refl
+queued-unrefused queue.WriteBack a ms = refl
+
+pub queued-clear : (qs : List Queued) → any refusing (map queuedEvent qs) ≡ false
 queued-clear [] = refl
-queued-clear (reading a ∷ qs) = queued-clear qs
-queued-clear (writing b ms ∷ qs) = queued-clear qs
+queued-clear (q ∷ qs) = rw (queued-unrefused (q .kind) (q .address) (q .masks)) (queued-clear qs)
 
 proceed-clear : (S : Settings) (x : Access) (t : Tables) (p : Place) → Clear accepts (proceed S x t p)
 unfolding proceed accept

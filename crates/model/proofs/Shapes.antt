@@ -8,16 +8,19 @@ use Prim.Native.Nat.{ℕ, zero, suc, _+_, _*_, _≤_, _<_}
 use native.Mathlib.Nat.{not-suc-le-zero, le-of-suc-le-suc, add-zero}
 use native.Mathlib.Omega.{arith}
 use lib.Dec.{eqb}
-use lib.ListN.{length, getD, List·getD-eq-default}
+use lib.ListN.{length, getD, getD-replicate, List·getD-eq-default}
 use borrow.Author.Tests.{eqb-true, eq-eqb}
 use Rattle.model.specs.declared.Settings.{Settings}
 use Rattle.model.specs.declared.Status.{Status}
 use Rattle.model.specs.declared.Status.the-variants.{Invalid, Reserved, Valid, Modified}
 use Rattle.model.specs.declared.Sector.{Sector}
+use Rattle.model.specs.declared.QueueKind.{QueueKind}
+use Rattle.model.specs.declared.QueueKind.the-variants as queue
+use Rattle.model.specs.declared.Queued.{Queued}
 use Rattle.model.specs.Words.{pick, count, table, every, some, countBelow}
-use Rattle.model.specs.Numbers.{statusNumber, statusOf}
+use Rattle.model.specs.Numbers.{statusNumber, statusOf, queueKindNumber, queueKindOf}
 use Rattle.model.specs.Range.{linesOf}
-use Rattle.model.specs.Tables.{Line, Entry, Queued, reading, writing, Tables, isInvalid, isReserved, isModified, unused, dirty, dirtyLines, empty, fresh, noEntry}
+use Rattle.model.specs.Tables.{Line, Entry, Tables, isInvalid, isReserved, unused, isFetch, idle, empty, fresh, noEntry, isModified, dirty, dirtyLines}
 use Rattle.model.specs.Lent.{Lent, bit, tagOf, cycleOf, masksOf, statusesOf, readablesOf, missOf, sentOf, ticketCountOf, ticketsIn, queuedOf, kindOf, queueMasksOf, inUse, sectorAt, sectorsAt, lineAt, entryAt, queueAt, tablesOf}
 use Rattle.model.specs.Sound.{readingOf}
 use Rattle.model.proofs.Flags.{iff}
@@ -39,17 +42,17 @@ abbrev pub entry : Tables → ℕ → Entry
 entry t e = getD (t .misses) e noEntry
 
 abbrev pub place : Tables → ℕ → Queued
-place t p = getD (t .queue) p (reading 0)
+place t p = getD (t .queue) p idle
 
 -- a queue place's numbers
 abbrev pub addressIn : Queued → ℕ
-addressIn x = getD (queuedOf x) 0 0
+addressIn x = x .address
 
 abbrev pub kindIn : Queued → ℕ
-kindIn x = getD (kindOf x) 0 0
+kindIn x = queueKindNumber (x .kind)
 
 abbrev pub maskIn : Queued → ℕ → ℕ
-maskIn x k = getD (queueMasksOf x) k 0
+maskIn x k = getD (x .masks) k 0
 
 pub record Shape (S : Settings) (t : Tables) : Type 0 where
   pub size : length (t .lines) ≡ linesOf S
@@ -58,7 +61,7 @@ pub record Shape (S : Settings) (t : Tables) : Type 0 where
   pub held : (e : ℕ) → e < length (t .misses) → 1 ≤ length (entry t e .tickets)
   pub short : (e : ℕ) → e < length (t .misses) → length (entry t e .tickets) ≤ S .readers
   pub deep : length (t .queue) ≤ S .places
-  pub masked : (p : ℕ) → p < length (t .queue) → kindIn (place t p) ≡ 2 → length (queueMasksOf (place t p)) ≡ 4
+  pub masked : (p : ℕ) → p < length (t .queue) → length (place t p .masks) ≡ 4
 
 -- ---- numbers and what they stand for
 
@@ -84,16 +87,23 @@ pub bit-back : (r : Bool) → eqb (bit r) 1 ≡ r
 bit-back true = refl
 bit-back false = refl
 
-pub kind-some : (x : Queued) → kindIn x ≡ 0 → ⊥
-kind-some (reading a) z = omega arith
-kind-some (writing b ms) z = omega arith
+pub kind-some : (k : QueueKind) → queueKindNumber k ≡ 0 → ⊥
+kind-some queue.Read z = omega arith
+kind-some queue.WriteBack z = omega arith
+
+pub kind-back : (k : QueueKind) → queueKindOf (queueKindNumber k) ≡ k
+kind-back queue.Read = refl
+kind-back queue.WriteBack = refl
+
+pub fetch-number : (k : QueueKind) → eqb (queueKindNumber k) 1 ≡ isFetch k
+fetch-number queue.Read = refl
+fetch-number queue.WriteBack = refl
 
 eqb-swap : (a b : ℕ) → eqb a b ≡ eqb b a
 eqb-swap a b = iff (λ t. eq-eqb b a (sym (eqb-true a b t))) (λ t. eq-eqb a b (sym (eqb-true b a t)))
 
 reading-numbers : (a : ℕ) (x : Queued) → (eqb (kindIn x) 1 && eqb (addressIn x) a) ≡ readingOf a x
-reading-numbers a (reading b) = eqb-swap b a
-reading-numbers a (writing b ms) = refl
+reading-numbers a x = rw (fetch-number (x .kind), eqb-swap (x .address) a)
 
 some-not : (n : ℕ) (p : ℕ → Bool) → some n (λ i. not (p i)) ≡ not (every n p)
 some-not zero p = refl
@@ -130,10 +140,9 @@ entry-back : (x : Entry) {a : ℕ} {s : Bool} {ts : List ℕ} → a ≡ x .addre
     → record { address = a; sent = s; tickets = ts } ≡ x
 entry-back x p q r = rw (p, q, r)
 
-queued-back : (x : Queued) {k a : ℕ} {ms : List ℕ} → k ≡ kindIn x → a ≡ addressIn x → (kindIn x ≡ 2 → ms ≡ queueMasksOf x)
-    → pick (eqb k 1) (reading a) (writing a ms) ≡ x
-queued-back (reading b) p q r = rw (p, q)
-queued-back (writing b ns) p q r = rw (p, q, r refl)
+pub queued-back : (x : Queued) {k : QueueKind} {a : ℕ} {ms : List ℕ} → k ≡ x .kind → a ≡ x .address → ms ≡ x .masks
+    → record { kind = k; address = a; masks = ms } ≡ x
+queued-back x p q r = rw (p, q, r)
 
 tables-back : (t : Tables) {ls : List Line} {es : List Entry} {q : List Queued} {c d : ℕ} → ls ≡ t .lines → es ≡ t .misses → q ≡ t .queue → c ≡ t .now → d ≡ t .dirtyCount
     → record { lines = ls; misses = es; queue = q; now = c; dirtyCount = d } ≡ t
@@ -232,32 +241,32 @@ module _ (S : Settings) (L : Lent) (t : Tables) (st : Stands S L t) (sh : Shape 
   -- ---- the queue
 
   pub kind-in : (p : ℕ) → p < length (t .queue) → kind S L p ≡ kindIn (place t p)
-  kind-in p h = let d = sh .deep in st .kinds p (omega arith) ∙ field-in kindOf (t .queue) (reading 0) p 0 h
+  kind-in p h = let d = sh .deep in st .kinds p (omega arith) ∙ field-in kindOf (t .queue) idle p 0 h
 
   pub kind-out : (p : ℕ) → p < S .places → length (t .queue) ≤ p → kind S L p ≡ 0
   kind-out p h k = st .kinds p h ∙ field-out kindOf (t .queue) p 0 k
 
   pub queued-in : (p : ℕ) → p < length (t .queue) → queued S L p ≡ addressIn (place t p)
-  queued-in p h = let d = sh .deep in st .queue p (omega arith) ∙ field-in queuedOf (t .queue) (reading 0) p 0 h
+  queued-in p h = let d = sh .deep in st .queue p (omega arith) ∙ field-in queuedOf (t .queue) idle p 0 h
 
   pub queued-out : (p : ℕ) → p < S .places → length (t .queue) ≤ p → queued S L p ≡ 0
   queued-out p h k = st .queue p h ∙ field-out queuedOf (t .queue) p 0 k
 
   pub queue-mask-is : (p k : ℕ) → p < S .places → k < 4 → queueMask S L (4 * p + k) ≡ maskIn (place t p) k
-  queue-mask-is p k h j = st .queue-masks p k h j ∙ field-get queueMasksOf (t .queue) (reading 0) p k refl
+  queue-mask-is p k h j = st .queue-masks p k h j ∙ field-get queueMasksOf (t .queue) idle p k (getD-replicate 4 k 0 0 j)
 
   pub place-in : (p : ℕ) → p < S .places → (kind S L p ≡ 0 → ⊥) → p < length (t .queue)
   place-in p h u = ⊎-elim (λ l. l) (λ k. absurd (u (kind-out p h k))) (lt-or-ge p (length (t .queue)))
 
   pub in-place : (p : ℕ) → p < length (t .queue) → kind S L p ≡ 0 → ⊥
-  in-place p h z = kind-some (place t p) (sym (kind-in p h) ∙ z)
+  in-place p h z = kind-some (place t p .kind) (sym (kind-in p h) ∙ z)
 
   pub reads-are : (a : ℕ) → countBelow (S .places) (readFor S L a) ≡ count (readingOf a) (t .queue)
   reads-are a =
       count-short (readFor S L a) (S .places) (length (t .queue)) (sh .deep) (λ p h k. rw (kind-out p h k))
       ∙ count-same (readFor S L a) (λ p. readingOf a (place t p)) (length (t .queue))
       (λ p h. rw (kind-in p h, queued-in p h) (reading-numbers a (place t p)))
-      ∙ sym (count-get (readingOf a) (t .queue) (reading 0))
+      ∙ sym (count-get (readingOf a) (t .queue) idle)
 
   -- ---- the tables read off
 
@@ -286,8 +295,8 @@ module _ (S : Settings) (L : Lent) (t : Tables) (st : Stands S L t) (sh : Shape 
   place-again : (p : ℕ) → p < length (t .queue) → queueAt S L p ≡ place t p
   place-again p l =
       let deep = sh .deep in
-      queued-back (place t p) (kind-in p l) (queued-in p l)
-      (λ two. table-list 4 (λ k. queueMask S L (4 * p + k)) (queueMasksOf (place t p)) 0 (sh .masked p l two) (λ k j. queue-mask-is p k (omega arith) j))
+      queued-back (place t p) (ap queueKindOf (kind-in p l) ∙ kind-back (place t p .kind)) (queued-in p l)
+      (table-list 4 (λ k. queueMask S L (4 * p + k)) (place t p .masks) 0 (sh .masked p l) (λ k j. queue-mask-is p k (omega arith) j))
 
   pub entries-in-use : inUse (S .entries) (ticketCount S L) ≡ length (t .misses)
   entries-in-use = in-use-is (ticketCount S L) (S .entries) (length (t .misses)) (sh .few) in-entry count-out
@@ -301,6 +310,6 @@ module _ (S : Settings) (L : Lent) (t : Tables) (st : Stands S L t) (sh : Shape 
       tables-back t
       (table-list (linesOf S) (lineAt S (L .longs) (L .words) (L .marks)) (t .lines) fresh (sh .size) line-again)
       (ap (λ (n : ℕ). table n (entryAt S L)) entries-in-use ∙ table-list (length (t .misses)) (entryAt S L) (t .misses) noEntry refl entry-again)
-      (ap (λ (n : ℕ). table n (queueAt S L)) places-in-use ∙ table-list (length (t .queue)) (queueAt S L) (t .queue) (reading 0) refl place-again)
+      (ap (λ (n : ℕ). table n (queueAt S L)) places-in-use ∙ table-list (length (t .queue)) (queueAt S L) (t .queue) idle refl place-again)
       (st .time)
       (st .count)

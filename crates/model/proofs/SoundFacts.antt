@@ -1,7 +1,8 @@
 -- What sound tables are, as facts: a record beside each test of Sound, and what is known of a line, an entry and a queued read of them.
 use Prim.Native.Nat.{ℕ, _+_, _*_, _/_, _%_, _^_, _≤_, _<_}
 use mathlib.Core.Path.{_≡_, refl, sym, ap, _∙_}
-use mathlib.Core.Bool.{Bool, true, false, not, _&&_, _||_}
+use mathlib.Core.Bool.{Bool, true, false, not, _&&_, _||_, false≢true}
+use mathlib.Core.List.{List}
 use native.Mathlib.Omega.{arith}
 use lib.ListN.{length, getD}
 use lib.Dec.{leb, ltb, eqb}
@@ -9,12 +10,15 @@ use borrow.Author.Tests.{eqb-true, eq-eqb, leb-true}
 use Rattle.model.specs.Words.{pick, all, any, count, every}
 use Rattle.model.specs.Range.{inRange, within, linesOf}
 use Rattle.model.specs.Address.{blockOf, sectorIndex, setIndex, goodSector, goodBlock}
-use Rattle.model.specs.Tables.{Line, Entry, Queued, Tables, Outcome, refused, done, isReserved, unused, holds, entryFor, empty, fresh, dirtyLines}
-use Rattle.model.specs.Sound.{allOnes, lastCycle, maskOk, sectorOk, lineOk, alone, agrees, reservedOk, readingOf, entryOk, queuedOk, sound}
+use Rattle.model.specs.Tables.{Line, Entry, Tables, Outcome, refused, done, isReserved, unused, holds, entryFor, isFetch, empty, fresh, dirtyLines}
+use Rattle.model.specs.Sound.{allOnes, lastCycle, maskOk, sectorOk, lineOk, alone, agrees, reservedOk, readingOf, unsentFor, entryOk, kindOk, queuedOk, sound}
 use Rattle.model.specs.declared.Settings.{Settings}
+use Rattle.model.specs.declared.QueueKind.{QueueKind}
+use Rattle.model.specs.declared.QueueKind.the-variants as queue
+use Rattle.model.specs.declared.Queued.{Queued}
 use Rattle.model.specs.declared.Status.{Status}
 use Rattle.model.specs.declared.Status.the-variants.{Invalid, Reserved, Valid, Modified}
-use Rattle.model.proofs.Flags.{and-1, and-2, not-yes, same-is}
+use Rattle.model.proofs.Flags.{and-1, and-2, and-i, not-yes, same-is}
 use Rattle.model.proofs.Lists.{In, all-in, count-one, count-index, in-index, in-getD}
 use Rattle.model.proofs.Below.{every-at}
 
@@ -182,3 +186,39 @@ module _ (S : Settings) (t : Tables) (ok : Sound S t) where
   -- an unsent entry has one read in the queue
   pub unsent-once : (e : Entry) → In e (t .misses) → e .sent ≡ false → count (readingOf (e .address)) (t .queue) ≡ 1
   unsent-once e m h = eqb-true (count (readingOf (e .address)) (t .queue)) 1 (rw h at (entry-at e m .queues))
+
+-- ---- a queued entry
+
+-- four masks of 32 bits, and what its kind asks
+pub queued-parts : (es : List Entry) (x : Queued) → queuedOk es x ≡ true
+    → (length (x .masks) ≡ 4) × (all (λ m. leb m allOnes) (x .masks) ≡ true) × (kindOk es (x .kind) (x .address) (x .masks) ≡ true)
+unfolding queuedOk
+queued-parts es x h =
+    let four : Bool = eqb (length (x .masks)) 4 in
+    let small : Bool = all (λ m. leb m allOnes) (x .masks) in
+    let asked : Bool = kindOk es (x .kind) (x .address) (x .masks) in
+    let shape : (four && small) ≡ true = and-1 (four && small) asked h in
+    (eqb-true (length (x .masks)) 4 (and-1 four small shape), and-2 four small shape, and-2 (four && small) asked h)
+
+kind-when : (es fs : List Entry) (k : QueueKind) (a : ℕ) (ms : List ℕ) → (isFetch k ≡ true → any (unsentFor a) es ≡ true → any (unsentFor a) fs ≡ true)
+    → kindOk es k a ms ≡ true → kindOk fs k a ms ≡ true
+kind-when es fs queue.Read a ms f h = and-i (f refl (and-1 (any (unsentFor a) es) (all (λ m. eqb m 0) ms) h)) (and-2 (any (unsentFor a) es) (all (λ m. eqb m 0) ms) h)
+kind-when es fs queue.WriteBack a ms f h = h
+
+-- it stands with the other, if a read's entry waits there still
+pub queued-when : (es fs : List Entry) (x : Queued)
+    → (isFetch (x .kind) ≡ true → any (unsentFor (x .address)) es ≡ true → any (unsentFor (x .address)) fs ≡ true)
+    → queuedOk es x ≡ true → queuedOk fs x ≡ true
+unfolding queuedOk
+queued-when es fs x f h =
+    let shape : Bool = eqb (length (x .masks)) 4 && all (λ m. leb m allOnes) (x .masks) in
+    let asked : Bool = kindOk es (x .kind) (x .address) (x .masks) in
+    and-i (and-1 shape asked h) (kind-when es fs (x .kind) (x .address) (x .masks) f (and-2 shape asked h))
+
+kind-unsent : (es : List Entry) (k : QueueKind) (a : ℕ) (ms : List ℕ) → isFetch k ≡ true → kindOk es k a ms ≡ true → any (unsentFor a) es ≡ true
+kind-unsent es queue.Read a ms f h = and-1 (any (unsentFor a) es) (all (λ m. eqb m 0) ms) h
+kind-unsent es queue.WriteBack a ms f h = absurd (false≢true f)
+
+-- a read has its entry
+pub queued-unsent : (es : List Entry) (x : Queued) → isFetch (x .kind) ≡ true → queuedOk es x ≡ true → any (unsentFor (x .address)) es ≡ true
+queued-unsent es x f h = kind-unsent es (x .kind) (x .address) (x .masks) f (queued-parts es x h .2)

@@ -10,15 +10,18 @@ use lib.Dec.{eqb, leb}
 use lib.ListN.{length, getD}
 use borrow.Author.Tests.{eqb-true, eq-eqb}
 use Rattle.model.specs.declared.Settings.{Settings}
+use Rattle.model.specs.declared.QueueKind.{QueueKind}
+use Rattle.model.specs.declared.QueueKind.the-variants as queue
+use Rattle.model.specs.declared.Queued.{Queued}
 use Rattle.model.specs.declared.Status.{Status}
 use Rattle.model.specs.declared.Status.the-variants.{Invalid, Reserved, Valid, Modified}
 use Rattle.model.specs.Words.{pick, all, any, count}
 use Rattle.model.specs.Range.{linesOf}
 use Rattle.model.specs.Address.{blockOf, setIndex}
-use Rattle.model.specs.Tables.{Queued, reading, writing, Tables, isReserved, unused, holds, entryFor, empty, fresh, noEntry, dirtyLines}
-use Rattle.model.specs.Numbers.{statusNumber}
-use Rattle.model.specs.Lent.{bit, queueMasksOf}
-use Rattle.model.specs.Sound.{allOnes, lastCycle, maskOk, sectorOk, lineOk, alone, agrees, reservedOk, readingOf, unsentFor, entryOk, queuedOk, sound}
+use Rattle.model.specs.Tables.{Tables, isReserved, unused, holds, entryFor, idle, empty, fresh, noEntry, dirtyLines}
+use Rattle.model.specs.Numbers.{statusNumber, queueKindNumber}
+use Rattle.model.specs.Lent.{bit}
+use Rattle.model.specs.Sound.{allOnes, lastCycle, maskOk, sectorOk, lineOk, alone, agrees, reservedOk, readingOf, unsentFor, entryOk, kindOk, queuedOk, sound}
 use Rattle.model.proofs.Flags.{and-1, and-2, and-i, not-no, not-yes, clash, same-is, is-same}
 use Rattle.model.proofs.Below.{every-at, every-i}
 use Rattle.model.proofs.Lists.{count-index, index-count}
@@ -148,10 +151,11 @@ module _ (S : Settings) (t : Tables) where
     pub asked : entry t e .sent ≡ false → count (readingOf (entry t e .address)) (t .queue) ≡ 1
 
   pub record QueuedOk (x : Queued) : Type 0 where
+    pub masked : length (x .masks) ≡ 4
+    pub small : (k : ℕ) → k < 4 → maskIn x k ≤ allOnes
     pub backed : kindIn x ≡ 1 → (e : ℕ) × (e < length (t .misses)) × ((entry t e .address ≡ addressIn x) × (entry t e .sent ≡ false))
+    pub bare : kindIn x ≡ 1 → (k : ℕ) → k < 4 → maskIn x k ≡ 0
     pub block : kindIn x ≡ 2 → Block (addressIn x)
-    pub masked : kindIn x ≡ 2 → length (queueMasksOf x) ≡ 4
-    pub small : kindIn x ≡ 2 → (k : ℕ) → k < 4 → maskIn x k ≤ allOnes
     pub dirty : kindIn x ≡ 2 → (k : ℕ) × (k < 4) × (maskIn x k ≡ 0 → ⊥)
 
   pub record Soundly : Type 0 where
@@ -247,34 +251,57 @@ module _ (S : Settings) (t : Tables) where
   unsent-is : (a e : ℕ) → Is (unsentFor a (entry t e)) ((entry t e .address ≡ a) × (entry t e .sent ≡ false))
   unsent-is a e = is-and (is-eq (entry t e .address) a) (record { fact = λ z. not-yes {b = entry t e .sent} z; test = λ z. not-no z })
 
-  queued-ok-is : (x : Queued) → Is (queuedOk (t .misses) x) (QueuedOk S t x)
-  unfolding queuedOk
-  queued-ok-is (reading a) =
-      is-as (is-any (unsentFor a) (t .misses) noEntry (unsent-is a))
+  -- what its kind asks of a queued entry
+  record KindOk (k : QueueKind) (a : ℕ) (ms : List ℕ) : Type 0 where
+    backed : queueKindNumber k ≡ 1 → (e : ℕ) × (e < length (t .misses)) × ((entry t e .address ≡ a) × (entry t e .sent ≡ false))
+    bare : queueKindNumber k ≡ 1 → (i : ℕ) → i < length ms → getD ms i 0 ≡ 0
+    block : queueKindNumber k ≡ 2 → Block a
+    dirty : queueKindNumber k ≡ 2 → (i : ℕ) × (i < length ms) × (getD ms i 0 ≡ 0 → ⊥)
+
+  kind-ok-is : (k : QueueKind) (a : ℕ) (ms : List ℕ) → Is (kindOk (t .misses) k a ms) (KindOk k a ms)
+  kind-ok-is queue.Read a ms =
+      is-as (is-and (is-any (unsentFor a) (t .misses) noEntry (unsent-is a)) (is-all (λ m. eqb m 0) ms 0 (λ i h. is-eq (getD ms i 0) 0)))
       (λ w. record {
-        backed = λ z. w;
+        backed = λ z. w .0;
+        bare = λ z. w .1;
         block = λ z. absurd (omega arith);
-        masked = λ z. absurd (omega arith);
-        small = λ z. absurd (omega arith);
         dirty = λ z. absurd (omega arith);
       })
-      (λ r. r .backed refl)
-  queued-ok-is (writing b ms) =
-      is-as
-      (is-and
-      (is-and (is-and (block-is b) (is-eq (length ms) 4)) (is-all (λ m. leb m allOnes) ms 0 (λ k h. is-le (getD ms k 0) allOnes)))
-      (is-any (λ m. not (eqb m 0)) ms 0 (λ k. is-not (is-eq (getD ms k 0) 0))))
-      (λ w. let four = w .0 .0 .1 in record {
+      (λ r. (r .backed refl, r .bare refl))
+  kind-ok-is queue.WriteBack b ms =
+      is-as (is-and (block-is b) (is-any (λ m. not (eqb m 0)) ms 0 (λ i. is-not (is-eq (getD ms i 0) 0))))
+      (λ w. record {
         backed = λ z. absurd (omega arith);
-        block = λ z. w .0 .0 .0;
-        masked = λ z. four;
-        small = λ z k h. w .0 .1 k (omega arith);
-        dirty = λ z. let d = w .1 in let j : d .0 < length ms = d .1 in (d .0, omega arith, d .2);
+        bare = λ z. absurd (omega arith);
+        block = λ z. w .0;
+        dirty = λ z. w .1;
       })
-      (λ r. let four : length ms ≡ 4 = r .masked refl in
-      let d = r .dirty refl in
-      let j : d .0 < 4 = d .1 in
-      (((r .block refl, four), λ k h. r .small refl k (omega arith)), (d .0, omega arith, d .2)))
+      (λ r. (r .block refl, r .dirty refl))
+
+  queued-ok-is : (x : Queued) → Is (queuedOk (t .misses) x) (QueuedOk S t x)
+  unfolding queuedOk
+  queued-ok-is x =
+      let ms : List ℕ = x .masks in
+      is-as
+      (is-and (is-and (is-eq (length ms) 4) (is-all (λ m. leb m allOnes) ms 0 (λ k h. is-le (getD ms k 0) allOnes)))
+      (kind-ok-is (x .kind) (x .address) ms))
+      (λ w. let four = w .0 .0 in record {
+        masked = four;
+        small = λ k h. w .0 .1 k (omega arith);
+        backed = w .1 .backed;
+        bare = λ z k h. w .1 .bare z k (omega arith);
+        block = w .1 .block;
+        dirty = λ z. let d = w .1 .dirty z in let j : d .0 < length ms = d .1 in (d .0, omega arith, d .2);
+      })
+      (λ r. let four : length ms ≡ 4 = r .masked in (
+        (four, λ k h. r .small k (omega arith)),
+        record {
+          backed = r .backed;
+          bare = λ z k h. r .bare z k (omega arith);
+          block = r .block;
+          dirty = λ z. let d = r .dirty z in let j : d .0 < 4 = d .1 in (d .0, omega arith, d .2);
+        },
+      ))
 
   pub soundly-is : Is (sound S t) (Soundly S t)
   unfolding sound
@@ -293,7 +320,7 @@ module _ (S : Settings) (t : Tables) where
       (is-all (alone (t .lines)) (t .lines) fresh alone-is))
       (is-all (reservedOk (t .misses)) (t .lines) fresh (λ l h. agrees-is l)))
       (is-all (entryOk S t) (t .misses) noEntry entry-ok-is))
-      (is-all (queuedOk (t .misses)) (t .queue) (reading 0) (λ p h. queued-ok-is (place t p))))
+      (is-all (queuedOk (t .misses)) (t .queue) idle (λ p h. queued-ok-is (place t p))))
       (is-le (length (t .misses)) (S .entries)))
       (is-le (length (t .queue)) (S .places)))
       (is-eq (t .dirtyCount) (dirtyLines t)))

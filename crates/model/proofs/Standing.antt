@@ -190,31 +190,56 @@ module _ (S : Settings) (L : Lent) (t : Tables) (st : Stands S L t) where
   longs-stand e =
       regions-joined (L .longs) (longSizes S) (longBlocks S t) (
         region-singles (L .longs) 0 tagOf (linesOf S) (t .lines) (omega arith) (λ l h. rw zero-add (st .tags l h)),
-        (region-singles (L .longs) (longsFrom S missRegion) missOf (S .entries) (t .misses) (omega arith) (st .misses),
-        (region-singles (L .longs) (longsFrom S queueRegion) queuedOf (S .places) (t .queue) (omega arith) (st .queue),
-        e)))
+        (
+          region-singles (L .longs) (longsFrom S missRegion) missOf (S .entries) (t .misses) (omega arith) (st .misses),
+          (
+            region-singles (L .longs) (longsFrom S queueRegion) queuedOf (S .places) (t .queue) (omega arith) (st .queue),
+            e,
+          ),
+        ),
+      )
 
   words-stand : length (L .words) ≡ wordsLength S → L .words ≡ joined (wordBlocks S t)
   unfolding table
   words-stand e =
       regions-joined (L .words) (wordSizes S) (wordBlocks S t) (
         region-table (L .words) 0 1 (omega arith) ∙ ap (λ (c : ℕ). c ∷ []) (st .time),
-        (region-singles (L .words) (wordsFrom S cycleRegion) cycleOf (linesOf S) (t .lines) (omega arith) (st .cycles),
-        (region-places (L .words) (wordsFrom S maskRegion) masksOf (linesOf S) (t .lines) 4 (omega arith) (st .masks),
-        (region-places (L .words) (wordsFrom S ticketRegion) ticketsIn (S .entries) (t .misses) (S .readers) (omega arith) (st .tickets),
-        (region-places (L .words) (wordsFrom S queueMaskRegion) queueMasksOf (S .places) (t .queue) 4 (omega arith) (st .queue-masks),
-        (region-table (L .words) (wordsFrom S dirtyCountRegion) 1 (omega arith) ∙ ap (λ (c : ℕ). c ∷ []) (rw add-zero (st .count)),
-        e))))))
+        (
+          region-singles (L .words) (wordsFrom S cycleRegion) cycleOf (linesOf S) (t .lines) (omega arith) (st .cycles),
+          (
+            region-places (L .words) (wordsFrom S maskRegion) masksOf (linesOf S) (t .lines) 4 (omega arith) (st .masks),
+            (
+              region-places (L .words) (wordsFrom S ticketRegion) ticketsIn (S .entries) (t .misses) (S .readers) (omega arith) (st .tickets),
+              (
+                region-places (L .words) (wordsFrom S queueMaskRegion) queueMasksOf (S .places) (t .queue) 4 (omega arith) (st .queue-masks),
+                (
+                  region-table (L .words) (wordsFrom S dirtyCountRegion) 1 (omega arith) ∙ ap (λ (c : ℕ). c ∷ []) (rw add-zero (st .count)),
+                  e,
+                ),
+              ),
+            ),
+          ),
+        ),
+      )
 
   marks-stand : length (L .marks) ≡ marksLength S → L .marks ≡ joined (markBlocks S t)
   marks-stand e =
       regions-joined (L .marks) (markSizes S) (markBlocks S t) (
         region-places (L .marks) 0 statusesOf (linesOf S) (t .lines) 4 (omega arith) (λ l k h j. rw zero-add (st .statuses l k h j)),
-        (region-places (L .marks) (marksFrom S readableRegion) readablesOf (linesOf S) (t .lines) 4 (omega arith) (st .readables),
-        (region-singles (L .marks) (marksFrom S sentRegion) sentOf (S .entries) (t .misses) (omega arith) (st .sents),
-        (region-singles (L .marks) (marksFrom S ticketCountRegion) ticketCountOf (S .entries) (t .misses) (omega arith) (st .ticket-counts),
-        (region-singles (L .marks) (marksFrom S kindRegion) kindOf (S .places) (t .queue) (omega arith) (st .kinds),
-        e)))))
+        (
+          region-places (L .marks) (marksFrom S readableRegion) readablesOf (linesOf S) (t .lines) 4 (omega arith) (st .readables),
+          (
+            region-singles (L .marks) (marksFrom S sentRegion) sentOf (S .entries) (t .misses) (omega arith) (st .sents),
+            (
+              region-singles (L .marks) (marksFrom S ticketCountRegion) ticketCountOf (S .entries) (t .misses) (omega arith) (st .ticket-counts),
+              (
+                region-singles (L .marks) (marksFrom S kindRegion) kindOf (S .places) (t .queue) (omega arith) (st .kinds),
+                e,
+              ),
+            ),
+          ),
+        ),
+      )
 
   pub stands-encode : length (L .longs) ≡ longsLength S → length (L .words) ≡ wordsLength S → length (L .marks) ≡ marksLength S → L ≡ encode S t
   unfolding encode

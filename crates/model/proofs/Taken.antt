@@ -14,7 +14,7 @@ use borrow.Author.Tests.{leb-true, leb-false, ltb-true, ltb-false, lt-ltb, eqb-t
 use Rattle.model.specs.Words.{pick, all, any, count, every}
 use Rattle.model.specs.Range.{within, linesOf}
 use Rattle.model.specs.Address.{blockOf, sectorIndex, setIndex, lineNumber, addressOf, maskOf, isRead, goodSector, wellFormed}
-use Rattle.model.specs.Tables.{Line, Entry, Queued, reading, writing, Tables, isInvalid, isReserved, unused, holds, entryFor, empty, fresh, dirty, dirtyLines}
+use Rattle.model.specs.Tables.{Line, Entry, reading, Tables, isInvalid, isReserved, unused, holds, entryFor, isFetch, empty, fresh, dirty, dirtyLines}
 use Rattle.model.specs.Sound.{allOnes, maskOk, sectorOk, lineOk, alone, agrees, reservedOk, readingOf, unsentFor, entryOk, queuedOk}
 use Rattle.model.specs.Probe.{Spot}
 use Rattle.model.specs.Steps.{isHit, isMerge, isMiss, onSector, update, join, onMisses, fetches, queues, placesNeeded, entryFull, afterAccess, lineAfter}
@@ -22,6 +22,7 @@ use Rattle.model.specs.declared.Settings.{Settings}
 use Rattle.model.specs.declared.Status.{Status}
 use Rattle.model.specs.declared.Status.the-variants.{Invalid, Reserved, Valid, Modified}
 use Rattle.model.specs.declared.Sector.{Sector}
+use Rattle.model.specs.declared.Queued.{Queued}
 use Rattle.model.specs.declared.Answer.{Answer}
 use Rattle.model.specs.declared.Answer.the-variants.{Hit, HitReserved, Miss, SectorMiss}
 use Rattle.model.specs.declared.Access.{Access}
@@ -29,7 +30,7 @@ use Rattle.model.specs.declared.Access.the-variants.{Read, Write}
 use Rattle.model.proofs.Flags.{and-1, and-2, and-i, and-false, and-true, or-false, or-1, or-2, flag, not-yes, not-no, no-yes, clash, by-flag, is-same}
 use Rattle.model.proofs.Lists.{In, all-in, in-all, in-any, any-in, index-count, count-append, any-append, in-append, none-count, each, in-set-same, in-set-other, count-ext, any-ext, in-getD, in-index, all-set, set-some, in-map, any-map, count-map}
 use Rattle.model.proofs.Below.{every-i}
-use Rattle.model.proofs.SoundFacts.{Sound, LineIs, line-whole, EntryIs, entry-whole, mask-small, sector-below, sector-aligned, address-is, block-is, sector-is, lines-are, line-at, tag-aligned, reserved-at, holder-one, entry-at, queued-at}
+use Rattle.model.proofs.SoundFacts.{Sound, LineIs, line-whole, EntryIs, entry-whole, mask-small, sector-below, sector-aligned, address-is, block-is, sector-is, lines-are, line-at, tag-aligned, reserved-at, holder-one, entry-at, queued-at, queued-when, queued-unsent}
 use Rattle.model.proofs.Counting.{recount}
 
 -- a read that misses: it takes a new entry and queues a read
@@ -146,9 +147,7 @@ unsent-after (Read a m k) SectorMiss es c h = any-append (unsentFor c) es _ ∙ 
 unsent-after (Write a m k) n es c h = h
 
 queued-still : (x : Access) (n : Answer) (es : List Entry) (y : Queued) → queuedOk es y ≡ true → queuedOk (onMisses x n es) y ≡ true
-unfolding queuedOk
-queued-still x n es (reading c) h = unsent-after x n es c h
-queued-still x n es (writing b ms) h = h
+queued-still x n es y h = queued-when es (onMisses x n es) y (λ f. unsent-after x n es (y .address)) h
 
 unsent-new : (a k : ℕ) (es : List Entry) → any (unsentFor a) (es ++ (newEntry a k ∷ [])) ≡ true
 unsent-new a k es = any-append (unsentFor a) es _ ∙ or-2 (any (unsentFor a) es) _ (rw (eq-eqb a a refl))
@@ -157,9 +156,9 @@ fetch-queued : (x : Access) (n : Answer) (es : List Entry) (y : Queued) → In y
 unfolding queuedOk
 fetch-queued (Read a m k) Hit es y i = absurd i
 fetch-queued (Read a m k) HitReserved es y i = absurd i
-fetch-queued (Read a m k) Miss es y (inl q) = rw q (unsent-new a k es)
+fetch-queued (Read a m k) Miss es y (inl q) = rw (q, unsent-new a k es)
 fetch-queued (Read a m k) Miss es y (inr i) = absurd i
-fetch-queued (Read a m k) SectorMiss es y (inl q) = rw q (unsent-new a k es)
+fetch-queued (Read a m k) SectorMiss es y (inl q) = rw (q, unsent-new a k es)
 fetch-queued (Read a m k) SectorMiss es y (inr i) = absurd i
 fetch-queued (Write a m k) n es y i = absurd i
 
@@ -407,15 +406,14 @@ module _ (S : Settings) (t : Tables) (ok : Sound S t) (x : Access) (formed : wel
 
   -- no read of an address without an entry is queued
   unread : any (entryFor a) (t .misses) ≡ false → count (readingOf a) (t .queue) ≡ 0
-  unfolding queuedOk
   unread f = none-count (readingOf a) (t .queue) (no-yes (λ z. go (any-in (readingOf a) (t .queue) z)))
     where
       go : (y : Queued) × In y (t .queue) × (readingOf a y ≡ true) → ⊥
-      go (reading c, m, q) =
-          let (e, o, z) = any-in (unsentFor c) (t .misses) (queued-at S t ok (reading c) m) in
+      go (y, m, q) =
+          let c : ℕ = y .address in
+          let (e, o, z) = any-in (unsentFor c) (t .misses) (queued-unsent (t .misses) y (and-1 (isFetch (y .kind)) (eqb a c) q) (queued-at S t ok y m)) in
           clash (in-any (entryFor c) (t .misses) o (and-1 (entryFor c e) (not (e .sent)) z))
-          (ap (λ (v : ℕ). any (entryFor v) (t .misses)) (sym (eqb-true a c q)) ∙ f)
-      go (writing c ms, m, q) = absurd (false≢true q)
+          (ap (λ (v : ℕ). any (entryFor v) (t .misses)) (sym (eqb-true a c (and-2 (isFetch (y .kind)) (eqb a c) q))) ∙ f)
 
   new-holds : any (holds b) (u .lines) ≡ true
   unfolding new

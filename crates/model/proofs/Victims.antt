@@ -20,6 +20,7 @@ use Rattle.model.specs.declared.Settings.{Settings}
 use Rattle.model.specs.declared.Status.{Status}
 use Rattle.model.specs.declared.Status.the-variants.{Invalid, Reserved, Valid, Modified}
 use Rattle.model.specs.declared.Sector.{Sector}
+use Rattle.model.specs.declared.Queued.{Queued}
 use Rattle.model.specs.declared.Refusal.{Refusal}
 use Rattle.model.specs.declared.Access.{Access}
 use Rattle.model.specs.declared.Event.{Event}
@@ -134,7 +135,7 @@ module _ (R : Rule) (S : Settings) (d : ℕ) (ways : List Line) (x : Access) (p 
       of-line : (c : Bool) → dirty l ≡ c
           → In (writing b ms) (pick c (writing (l .tag) (map (λ (s : Sector). s .mask) (l .sectors)) ∷ []) [])
           → (dirty l ≡ true) × (b ≡ l .tag) × (ms ≡ map (λ (s : Sector). s .mask) (l .sectors))
-      of-line true e (inl q) = (e, cc, cc)
+      of-line true e (inl q) = (e, ap (λ (y : Queued). y .address) q, ap (λ (y : Queued). y .masks) q)
       of-line true e (inr q) = absurd q
       of-line false e q = absurd q
 

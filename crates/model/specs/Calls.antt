@@ -3,21 +3,22 @@ use mathlib.Core.Path.{_≡_}
 use Prim.Native.Nat.{ℕ}
 use mathlib.Core.Bool.{Bool, true, false, _||_}
 use mathlib.Core.List.{List, [], _∷_, _++_, map}
-use lib.ListN.{length, take, getD, replicate}
+use lib.ListN.{length, take, replicate}
 use Rattle.model.specs.Words.{pick, fit}
 use Rattle.model.specs.Range.{inRange}
-use Rattle.model.specs.Tables.{Tables, start, Outcome, refused, done, after, eventsOf}
+use Rattle.model.specs.Tables.{Tables, idle, start, Outcome, refused, done, after, eventsOf}
 use Rattle.model.specs.Lent.{Lent, lengthsFit, tablesOf, encode}
 use Rattle.model.specs.SoundLent.{soundLent}
-use Rattle.model.specs.Steps.{access, send, fill, tick}
+use Rattle.model.specs.Steps.{queuedEvent, access, send, fill, tick}
 use Rattle.model.specs.declared.Settings.{Settings}
 use Rattle.model.specs.declared.Access.{Access}
 use Rattle.model.specs.declared.Refusal.{Refusal}
 use Rattle.model.specs.declared.Refusal.the-variants.{SettingOutOfRange, SliceLength, NotSound}
 use Rattle.model.specs.declared.Event.{Event}
-use Rattle.model.specs.declared.Event.the-variants.{ReadQueued, WriteBackQueued, Released, WriteBackSent}
+use Rattle.model.specs.declared.Event.the-variants.{Released}
 use Rattle.model.specs.declared.Verdict.{Verdict}
 use Rattle.model.specs.declared.Verdict.the-variants.{Passed, Refused}
+use Rattle.model.specs.declared.Queued.{Queued}
 use Rattle.model.specs.declared.Told.{Told}
 
 -- ---- "Checked in this order": 1 "a setting outside its range", 2 "a lent slice of another length", 3 "tables not sound"
@@ -61,23 +62,20 @@ verdictOf (done es L) = Passed
 
 -- ---- what a call's value tells
 
--- its first event, the read queued, the write-back queued, the tickets released in order
+-- its first event, the entries queued in order, the tickets released in order
 unfoldable pub eventsTold : Told → List Event
-eventsTold r =
-    r .first
-    ∷ (pick (r .reads) (ReadQueued (r .address) ∷ []) []
-    ++ (pick (r .backs) (WriteBackQueued (r .block) (getD (r .masks) 0 0) (getD (r .masks) 1 0) (getD (r .masks) 2 0) (getD (r .masks) 3 0) ∷ []) []
-    ++ map Released (take (r .count) (r .tickets))))
+eventsTold r = r .first ∷ (map queuedEvent (take (r .queues) (r .queued)) ++ map Released (take (r .count) (r .tickets)))
 
--- the same value with its unused fields zero
+-- at most two entries, with idle ones where there are no more
+abbrev pub inTwo : List Queued → List Queued
+inTwo xs = take 2 (xs ++ replicate 2 idle)
+
+-- the same value with its unused places idle and zero
 unfoldable pub tidied : Told → Told
 tidied r = record {
   first = r .first;
-  reads = r .reads;
-  address = pick (r .reads) (r .address) 0;
-  backs = r .backs;
-  block = pick (r .backs) (r .block) 0;
-  masks = pick (r .backs) (r .masks) (replicate 4 0);
+  queued = inTwo (take (r .queues) (r .queued));
+  queues = length (take (r .queues) (r .queued));
   count = length (take (r .count) (r .tickets));
   tickets = fit 8 (take (r .count) (r .tickets));
 }

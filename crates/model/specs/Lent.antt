@@ -7,12 +7,13 @@ use mathlib.Core.List.{List, [], _∷_, _++_, map}
 use lib.ListN.{length, getD}
 use lib.Dec.{eqb}
 use Rattle.model.specs.Words.{pick, table, countBelow, places, joined}
-use Rattle.model.specs.Numbers.{statusNumber, statusOf}
+use Rattle.model.specs.Numbers.{statusNumber, statusOf, queueKindNumber, queueKindOf}
 use Rattle.model.specs.Range.{linesOf}
-use Rattle.model.specs.Layout.{longsLength, wordsLength, marksLength, longsFrom, wordsFrom, marksFrom, missRegion, queueRegion, maskRegion, ticketRegion, queueMaskRegion, dirtyCountRegion, readableRegion, sentRegion, ticketCountRegion, kindRegion}
-use Rattle.model.specs.Tables.{Line, Entry, Queued, reading, writing, Tables}
+use Rattle.model.specs.Layout.{longsLength, wordsLength, marksLength, longsFrom, wordsFrom, marksFrom, missRegion, queueRegion, maskRegion, ticketRegion, queueMaskRegion, readableRegion, sentRegion, ticketCountRegion, kindRegion, dirtyCountRegion}
+use Rattle.model.specs.Tables.{Line, Entry, Tables}
 use Rattle.model.specs.declared.Settings.{Settings}
 use Rattle.model.specs.declared.Sector.{Sector}
+use Rattle.model.specs.declared.Queued.{Queued}
 
 pub record Lent : Type 0 where
   pub longs : List ℕ
@@ -97,9 +98,11 @@ entryAt S L e = record {
 }
 
 abbrev pub queueAt : Settings → Lent → ℕ → Queued
-queueAt S L p =
-    pick (eqb (kindAt S (L .marks) p) 1) (reading (queuedAt S (L .longs) p))
-    (writing (queuedAt S (L .longs) p) (table 4 (λ k. queueMaskAt S (L .words) (4 * p + k))))
+queueAt S L p = record {
+  kind = queueKindOf (kindAt S (L .marks) p);
+  address = queuedAt S (L .longs) p;
+  masks = table 4 (λ k. queueMaskAt S (L .words) (4 * p + k));
+}
 
 -- how many of the first places are in use; of sound tables' places those in use are the first
 abbrev pub inUse : ℕ → (ℕ → ℕ) → ℕ
@@ -151,16 +154,13 @@ abbrev pub ticketsIn : Entry → List ℕ
 ticketsIn e = e .tickets
 
 abbrev pub queuedOf : Queued → List ℕ
-queuedOf (reading a) = a ∷ []
-queuedOf (writing b ms) = b ∷ []
+queuedOf x = x .address ∷ []
 
 abbrev pub kindOf : Queued → List ℕ
-kindOf (reading a) = 1 ∷ []
-kindOf (writing b ms) = 2 ∷ []
+kindOf x = queueKindNumber (x .kind) ∷ []
 
 abbrev pub queueMasksOf : Queued → List ℕ
-queueMasksOf (reading a) = []
-queueMasksOf (writing b ms) = ms
+queueMasksOf x = x .masks
 
 abbrev pub longBlocks : Settings → Tables → List (List ℕ)
 longBlocks S t =

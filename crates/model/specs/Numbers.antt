@@ -1,10 +1,12 @@
 -- Document 01's numbers: of a sector's status ("The modelled cache"), of an answer ("Records"), of a refusal ("Refusal numbers"),
--- of a stop ("Records").
+-- of a stop ("Records"). And the number by which the lent slices have a queued entry's kind.
 use Prim.Native.Nat.{ℕ}
 use lib.Dec.{eqb}
 use Rattle.model.specs.Words.{pick}
 use Rattle.model.specs.declared.Status.{Status}
 use Rattle.model.specs.declared.Status.the-variants.{Invalid, Reserved, Valid, Modified}
+use Rattle.model.specs.declared.QueueKind.{QueueKind}
+use Rattle.model.specs.declared.QueueKind.the-variants as queue
 use Rattle.model.specs.declared.Answer.{Answer}
 use Rattle.model.specs.declared.Answer.the-variants.{Hit, HitReserved, Miss, SectorMiss}
 use Rattle.model.specs.declared.Refusal.{Refusal}
@@ -22,6 +24,15 @@ statusNumber Modified = 3
 -- the status of a number; sound tables have none above 3
 abbrev pub statusOf : ℕ → Status
 statusOf n = pick (eqb n 0) Invalid (pick (eqb n 1) Reserved (pick (eqb n 2) Valid Modified))
+
+-- an unused queue place has 0
+abbrev pub queueKindNumber : QueueKind → ℕ
+queueKindNumber queue.Read = 1
+queueKindNumber queue.WriteBack = 2
+
+-- the kind of a number; sound tables have none above 2
+abbrev pub queueKindOf : ℕ → QueueKind
+queueKindOf n = pick (eqb n 1) queue.Read queue.WriteBack
 
 -- "HIT 1, HIT_RESERVED 2, MISS 3, SECTOR_MISS 4"
 abbrev pub answerNumber : Answer → ℕ

@@ -8,11 +8,12 @@ use Rattle.model.specs.Words.{pick, any}
 use Rattle.model.specs.Numbers.{statusNumber}
 use Rattle.model.specs.Range.{linesOf}
 use Rattle.model.specs.Address.{addressOf, blockOf, sectorIndex, setIndex}
-use Rattle.model.specs.Tables.{Line, Queued, writing, Tables, unused, waiting, dirty, holds, empty, emptied, fresh}
+use Rattle.model.specs.Tables.{Line, writing, Tables, unused, waiting, dirty, holds, empty, emptied, fresh}
 use Rattle.model.specs.Tree.{treeChoice, levels}
 use Rattle.model.specs.declared.Settings.{Settings}
 use Rattle.model.specs.declared.Status.{Status}
 use Rattle.model.specs.declared.Sector.{Sector}
+use Rattle.model.specs.declared.Queued.{Queued}
 use Rattle.model.specs.declared.Answer.{Answer}
 use Rattle.model.specs.declared.Answer.the-variants.{Hit, HitReserved, Miss, SectorMiss}
 use Rattle.model.specs.declared.Refusal.{Refusal}

@@ -7,11 +7,12 @@ use mathlib.Core.Bool.{Bool, true, false}
 use mathlib.Core.List.{List, [], _∷_, _++_}
 use lib.ListN.{length, getD}
 use Rattle.model.specs.Words.{pick, any}
-use Rattle.model.specs.Tables.{Entry, Queued, Tables, Outcome, refused, done, accepted}
+use Rattle.model.specs.Tables.{Entry, Tables, Outcome, refused, done, accepted}
 use Rattle.model.specs.Lent.{Lent, tablesOf}
 use Rattle.model.specs.Steps.{access, send, fill}
 use Rattle.model.specs.Calls.{accessCall, sendCall, fillCall}
 use Rattle.model.specs.declared.Settings.{Settings}
+use Rattle.model.specs.declared.Queued.{Queued}
 use Rattle.model.specs.declared.Access.{Access}
 use Rattle.model.specs.declared.Event.{Event}
 use Rattle.model.specs.declared.Refusal.the-variants.{SetHeld}

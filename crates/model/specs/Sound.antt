@@ -7,11 +7,14 @@ use lib.Dec.{ltb, leb, eqb}
 use Rattle.model.specs.Words.{pick, all, any, count, every, same}
 use Rattle.model.specs.Range.{within, linesOf}
 use Rattle.model.specs.Address.{blockOf, setIndex, goodSector, goodBlock}
-use Rattle.model.specs.Tables.{Line, Entry, Queued, reading, writing, Tables, isReserved, unused, holds, entryFor, empty, fresh, dirtyLines}
+use Rattle.model.specs.Tables.{Line, Entry, Tables, isReserved, unused, holds, entryFor, isFetch, empty, fresh, dirtyLines}
 use Rattle.model.specs.declared.Settings.{Settings}
 use Rattle.model.specs.declared.Status.{Status}
 use Rattle.model.specs.declared.Status.the-variants.{Invalid, Reserved, Valid, Modified}
 use Rattle.model.specs.declared.Sector.{Sector}
+use Rattle.model.specs.declared.QueueKind.{QueueKind}
+use Rattle.model.specs.declared.QueueKind.the-variants as queue
+use Rattle.model.specs.declared.Queued.{Queued}
 
 abbrev pub allOnes : ℕ
 allOnes = 4294967295
@@ -49,8 +52,7 @@ unfoldable pub reservedOk : List Entry → Line → Bool
 reservedOk es l = unused l || every 4 (agrees es l)
 
 abbrev pub readingOf : ℕ → Queued → Bool
-readingOf a (reading b) = eqb a b
-readingOf a (writing b ms) = false
+readingOf a x = isFetch (x .kind) && eqb a (x .address)
 
 abbrev pub unsentFor : ℕ → Entry → Bool
 unsentFor a e = entryFor a e && not (e .sent)
@@ -64,11 +66,15 @@ entryOk S t e =
     && within 1 (S .readers) (length (e .tickets))
     && (e .sent || eqb (count (readingOf (e .address)) (t .queue)) 1)
 
--- "no other read stands there. A queued write-back has a block address and at least one dirty byte."
+-- a read: "no other read stands there", and its masks are unused: zero. "A queued write-back has a block address and at least one
+-- dirty byte."
+abbrev pub kindOk : List Entry → QueueKind → ℕ → List ℕ → Bool
+kindOk es queue.Read a ms = any (unsentFor a) es && all (λ m. eqb m 0) ms
+kindOk es queue.WriteBack b ms = goodBlock b && any (λ m. not (eqb m 0)) ms
+
+-- four masks of 32 bits, and what its kind asks
 unfoldable pub queuedOk : List Entry → Queued → Bool
-queuedOk es (reading a) = any (unsentFor a) es
-queuedOk es (writing b ms) =
-    goodBlock b && eqb (length ms) 4 && all (λ m. leb m allOnes) ms && any (λ m. not (eqb m 0)) ms
+queuedOk es x = eqb (length (x .masks)) 4 && all (λ m. leb m allOnes) (x .masks) && kindOk es (x .kind) (x .address) (x .masks)
 
 -- as many lines as the settings say; "the current one, itself at most 4,294,967,294"; "At most M entries and Q queue places are in use"; the stored count is that of the dirty lines (L3)
 unfoldable pub sound : Settings → Tables → Bool

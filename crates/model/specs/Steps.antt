@@ -7,12 +7,15 @@ use lib.Dec.{ltb, leb, eqb}
 use lib.Bits.{bitOr}
 use Rattle.model.specs.Words.{pick, any, keep, one}
 use Rattle.model.specs.Address.{addressOf, isRead, blockOf, sectorIndex, lineNumber, wellFormed}
-use Rattle.model.specs.Tables.{Line, Entry, Queued, reading, writing, Tables, withLines, withMisses, withQueue, withNow, withDirtyCount, Outcome, refused, done, isInvalid, dirty, holds, entryFor, empty, fresh}
+use Rattle.model.specs.Tables.{Line, Entry, reading, Tables, withLines, withMisses, withQueue, withNow, Outcome, refused, done, isInvalid, holds, entryFor, empty, withDirtyCount, dirty, fresh}
 use Rattle.model.specs.Sound.{allOnes, lastCycle}
 use Rattle.model.specs.Probe.{Spot, Place, no, at, Rules, ruleOf, metUnder}
 use Rattle.model.specs.declared.Settings.{Settings}
 use Rattle.model.specs.declared.Status.the-variants.{Reserved, Valid, Modified}
 use Rattle.model.specs.declared.Sector.{Sector}
+use Rattle.model.specs.declared.QueueKind.{QueueKind}
+use Rattle.model.specs.declared.QueueKind.the-variants as queue
+use Rattle.model.specs.declared.Queued.{Queued}
 use Rattle.model.specs.declared.Answer.{Answer}
 use Rattle.model.specs.declared.Answer.the-variants.{Hit, HitReserved, Miss, SectorMiss}
 use Rattle.model.specs.declared.Refusal.the-variants.{BadAccess, QueueFull, EntryFull, MissTableFull, NotSent, BadCycle, QueueEmpty}
@@ -86,13 +89,20 @@ fetches (Write a m k) n = []
 abbrev pub queues : Access → Spot → List Queued
 queues x p = fetches x (p .answer) ++ p .backs
 
+-- the events of an entry, by its kind: queued, and sent
+abbrev pub queuedAs : QueueKind → ℕ → List ℕ → Event
+queuedAs queue.Read a ms = ReadQueued a
+queuedAs queue.WriteBack b ms = WriteBackQueued b (getD ms 0 0) (getD ms 1 0) (getD ms 2 0) (getD ms 3 0)
+
 abbrev pub queuedEvent : Queued → Event
-queuedEvent (reading a) = ReadQueued a
-queuedEvent (writing b ms) = WriteBackQueued b (getD ms 0 0) (getD ms 1 0) (getD ms 2 0) (getD ms 3 0)
+queuedEvent x = queuedAs (x .kind) (x .address) (x .masks)
+
+abbrev pub sentAs : QueueKind → ℕ → List ℕ → Event
+sentAs queue.Read a ms = ReadSent a
+sentAs queue.WriteBack b ms = WriteBackSent b (getD ms 0 0) (getD ms 1 0) (getD ms 2 0) (getD ms 3 0)
 
 abbrev pub sentEvent : Queued → Event
-sentEvent (reading a) = ReadSent a
-sentEvent (writing b ms) = WriteBackSent b (getD ms 0 0) (getD ms 1 0) (getD ms 2 0) (getD ms 3 0)
+sentEvent x = sentAs (x .kind) (x .address) (x .masks)
 
 -- L2: "an access needs exactly as many free places as it will queue"
 abbrev pub placesNeeded : Access → Spot → ℕ
@@ -141,9 +151,12 @@ access S x t = accessUnder (ruleOf S) S x t
 abbrev pub mark : ℕ → Entry → Entry
 mark a e = pick (entryFor a e) record { address = e .address; sent = true; tickets = e .tickets } e
 
+abbrev pub markedFor : QueueKind → ℕ → List Entry → List Entry
+markedFor queue.Read a es = map (mark a) es
+markedFor queue.WriteBack b es = es
+
 abbrev pub marked : Queued → List Entry → List Entry
-marked (reading a) es = map (mark a) es
-marked (writing b ms) es = es
+marked x es = markedFor (x .kind) (x .address) es
 
 abbrev pub afterSend : Queued → List Queued → Tables → Tables
 afterSend e q t = withQueue q (withMisses (marked e (t .misses)) t)

@@ -11,6 +11,9 @@ use Rattle.model.specs.declared.Settings.{Settings}
 use Rattle.model.specs.declared.Status.{Status}
 use Rattle.model.specs.declared.Status.the-variants.{Invalid, Reserved, Valid, Modified}
 use Rattle.model.specs.declared.Sector.{Sector}
+use Rattle.model.specs.declared.QueueKind.{QueueKind}
+use Rattle.model.specs.declared.QueueKind.the-variants as queue
+use Rattle.model.specs.declared.Queued.{Queued}
 use Rattle.model.specs.declared.Refusal.{Refusal}
 use Rattle.model.specs.declared.Event.{Event}
 use Rattle.model.specs.declared.Event.the-variants as ev
@@ -27,10 +30,12 @@ pub record Entry : Type 0 where
   pub sent : Bool
   pub tickets : List ℕ
 
--- "The queue holds reads (sector address) and write-backs (block address, four masks)"
-pub data Queued : Type 0 where
-  reading : ℕ → Queued
-  writing : ℕ → List ℕ → Queued
+-- "The queue holds reads (sector address) and write-backs (block address, four masks)": a read's masks are unused, and zero
+abbrev pub reading : ℕ → Queued
+reading a = record { kind = queue.Read; address = a; masks = replicate 4 0 }
+
+abbrev pub writing : ℕ → List ℕ → Queued
+writing b ms = record { kind = queue.WriteBack; address = b; masks = ms }
 
 -- "entries stand in order of creation, the oldest first"; the queue "first in first out"; how many lines have a MODIFIED sector (L3)
 pub record Tables : Type 0 where
@@ -104,6 +109,16 @@ entryFor a e = eqb (e .address) a
 -- what stands past the end of a miss table
 abbrev pub noEntry : Entry
 noEntry = record { address = 0; sent = false; tickets = [] }
+
+-- ---- queued entries
+
+abbrev pub isFetch : QueueKind → Bool
+isFetch queue.Read = true
+isFetch queue.WriteBack = false
+
+-- what stands past the end of a queue
+abbrev pub idle : Queued
+idle = reading 0
 
 -- ---- fresh tables: "all invalid and readable, all empty, cycle 0"
 

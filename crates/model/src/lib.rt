@@ -1,12 +1,14 @@
 // The types of the cache model (document 01), with document 01's number for each case, and the constant table of answers.
 // Settings; sector status, sector and addresses; answers and refusals; an access; commands, events and the reading of
-// records; what a call tells and what a run returns.
+// records; an entry of the queue; what a call tells and what a run returns.
 ghost use mathlib.Core.Path.{_≡_};
 ghost use Prim.Native.Nat.{_/_, _%_, _≤_, _<_};
 ghost use mathlib.Core.Bool.{true};
 ghost use Rattle.model.specs.Range.{powerTo256};
-ghost use Rattle.model.specs.Numbers.{statusNumber, statusOf, answerNumber, refusalNumber, stopNumber};
+ghost use Rattle.model.specs.Numbers.{statusNumber, statusOf, queueKindNumber, queueKindOf, answerNumber, refusalNumber, stopNumber};
 ghost use Rattle.model.specs.Probe.{columnOf, answerOf};
+ghost use Rattle.model.specs.Tables.{idle};
+ghost use Rattle.model.specs.Steps.{queuedEvent, sentEvent};
 ghost use Rattle.model.specs.Address.{addressOf, blockOf, sectorAddressOf, sectorIndex};
 
 // "The modelled cache": the settings, any values; document 01's ranges are checked by number 1.
@@ -179,16 +181,26 @@ pub struct Ran {
     pub written: usize,
 }
 
-// What a call tells: its first event, then the read and the write-back that it queued, then the tickets that it released.
+pub enum QueueKind {
+    Read,
+    WriteBack,
+}
+
+// An entry of the queue: a read of a sector address, its masks zero, or a write-back of a block address with its four masks.
+pub struct Queued {
+    pub address: u64,
+    pub masks: [u32; 4],
+    pub kind: QueueKind,
+}
+
+// What a call tells: its first event, then the first `queues` entries, which it queued, then the first `count` tickets, which it
+// released.
 pub struct Told {
     pub first: Event,
-    pub address: u64,
-    pub block: u64,
-    pub count: usize,
-    pub masks: [u32; 4],
+    pub queued: [Queued; 2],
+    pub queues: usize,
     pub tickets: [u32; 8],
-    pub reads: bool,
-    pub backs: bool,
+    pub count: usize,
 }
 
 // A status as its number.
@@ -212,6 +224,72 @@ pub fn status_of(n: u8) -> Status
         1 => Status::Reserved,
         2 => Status::Valid,
         _ => Status::Modified,
+    }
+}
+
+pub fn queue_kind_number(k: QueueKind) -> u8
+    ensures { λ r. ⌜ r ≡ queueKindNumber k ⌝ }
+{
+    match k {
+        QueueKind::Read => 1,
+        QueueKind::WriteBack => 2,
+    }
+}
+
+// The kind of a number; of one above 2, which sound tables do not have, a write-back.
+pub fn queue_kind_of(n: u8) -> QueueKind
+    ensures { λ r. ⌜ r ≡ queueKindOf n ⌝ }
+{
+    match n {
+        1 => QueueKind::Read,
+        _ => QueueKind::WriteBack,
+    }
+}
+
+// What stands in an unused place of what a call tells.
+pub fn idle() -> Queued
+    ensures { λ r. ⌜ r ≡ idle ⌝ }
+{
+    Queued {
+        address: 0,
+        masks: [0; 4],
+        kind: QueueKind::Read,
+    }
+}
+
+// The event of an entry that is queued.
+pub fn queued_event(x: Queued) -> Event
+    ensures { λ r. ⌜ r ≡ queuedEvent x ⌝ }
+{
+    let kind = x.kind;
+    let m = x.masks;
+    match kind {
+        QueueKind::Read => Event::ReadQueued(x.address),
+        QueueKind::WriteBack => Event::WriteBackQueued {
+            block: x.address,
+            m0: m[0],
+            m1: m[1],
+            m2: m[2],
+            m3: m[3],
+        },
+    }
+}
+
+// The event of an entry that is sent.
+pub fn sent_event(x: Queued) -> Event
+    ensures { λ r. ⌜ r ≡ sentEvent x ⌝ }
+{
+    let kind = x.kind;
+    let m = x.masks;
+    match kind {
+        QueueKind::Read => Event::ReadSent(x.address),
+        QueueKind::WriteBack => Event::WriteBackSent {
+            block: x.address,
+            m0: m[0],
+            m1: m[1],
+            m2: m[2],
+            m3: m[3],
+        },
     }
 }
 

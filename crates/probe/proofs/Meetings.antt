@@ -9,11 +9,12 @@ use lib.ListN.{getD, replicate}
 use Rattle.model.specs.Words.{pick, some}
 use Rattle.model.specs.Range.{linesOf}
 use Rattle.model.specs.Address.{addressOf, blockOf, sectorIndex, setIndex}
-use Rattle.model.specs.Tables.{Line, Queued, writing, empty, fresh, emptied}
+use Rattle.model.specs.Tables.{Line, writing, empty, fresh, emptied}
 use Rattle.model.specs.Lent.{tagAt, dirtyCountAt}
 use Rattle.model.specs.Probe.{no, at, answerOf, waysOf, enoughDirty, victim, writeBack, takeOver, meet, probe, byKey, age}
 use Rattle.model.specs.Inner.{Fit}
 use Rattle.model.specs.declared.Settings.{Settings}
+use Rattle.model.specs.declared.Queued.{Queued}
 use Rattle.model.specs.declared.Sector.{Sector}
 use Rattle.model.specs.declared.Access.{Access}
 use Rattle.model.specs.declared.Answer.the-variants.{Miss}

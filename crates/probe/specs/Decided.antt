@@ -6,10 +6,11 @@ use lib.ListN.{getD, replicate}
 use Rattle.model.specs.Words.{pick}
 use Rattle.model.specs.Range.{linesOf}
 use Rattle.model.specs.Address.{addressOf, blockOf, lineNumber}
-use Rattle.model.specs.Tables.{Line, Queued, writing, fresh, emptied}
+use Rattle.model.specs.Tables.{Line, writing, fresh, emptied}
 use Rattle.model.specs.Lent.{linesIn, dirtyCountAt}
 use Rattle.model.specs.Probe.{Place, no, at, waysOf, probe, byKey, age}
 use Rattle.model.specs.declared.Settings.{Settings}
+use Rattle.model.specs.declared.Queued.{Queued}
 use Rattle.model.specs.declared.Access.{Access}
 use Rattle.model.specs.declared.Refusal.the-variants.{SetBusy, SetHeld}
 use Rattle.probe.specs.declared.Meeting.{Meeting}

@@ -7,12 +7,13 @@ use native.Mathlib.Omega.{arith}
 use lib.ListN.{length, getD}
 use Rattle.model.specs.Words.{count}
 use Rattle.model.specs.Range.{linesOf}
-use Rattle.model.specs.Tables.{Queued, Tables, Outcome, refused, done, dirty, dirtyLines}
+use Rattle.model.specs.Tables.{idle, Tables, Outcome, refused, done, dirty, dirtyLines}
 use Rattle.model.specs.Lent.{Lent, lent, tablesOf}
 use Rattle.model.specs.Calls.{checkCall, verdictOf}
 use Rattle.model.specs.Inner.{Is, Held}
 use Rattle.model.specs.Steps.{sentEvent}
 use Rattle.model.specs.declared.Settings.{Settings}
+use Rattle.model.specs.declared.Queued.{Queued}
 use Rattle.model.specs.declared.Access.{Access}
 use Rattle.model.specs.declared.Event.{Event}
 use Rattle.model.specs.declared.Refusal.{Refusal}
@@ -27,8 +28,8 @@ use Rattle.layout.specs.Layout.{Placed}
 use Rattle.layout.specs.Places.{First}
 use Rattle.tables.specs.Raw.{frontAt}
 use Rattle.layout.proofs.Stands.{is-stands}
-use Rattle.tables.proofs.Queue.{idle, queue-used, front-is}
-use Rattle.steps.proofs.Entries.{few-queued}
+use Rattle.tables.proofs.Queue.{queue-used, front-is}
+use Rattle.steps.proofs.Entries.{few-queued, head-four}
 use Rattle.layout.proofs.DirtyCount.{dirty-count-at}
 use Rattle.reasons.specs.declared.Reason.{Reason}
 use Rattle.reasons.specs.declared.Reason.the-variants as reason
@@ -58,12 +59,12 @@ module _ (S : Settings) {longs words marks : List ℕ} (t : Tables) (i : Is S (l
   pub queue-empty : n ≡ 0 → reason.Nothing ≡ queueReason (S .places) (t .queue)
   queue-empty e = sym (none-told (S .places) (t .queue) (sym queued ∙ e))
 
-  pub head-shown : (n ≡ 0 → ⊥) → {h : Event} → h ≡ frontAt longs (at .queue) words (at .backs) marks (at .kinds)
+  pub head-shown : (n ≡ 0 → ⊥) → {x : Queued} → x ≡ frontAt longs (at .queue) words (at .backs) marks (at .kinds) → {h : Event} → h ≡ sentEvent x
       → reason.Queue h (S .places - n) ≡ queueReason (S .places) (t .queue)
-  head-shown e {h} is =
+  head-shown e front is =
       let all = queued in
       let some : 1 ≤ length (t .queue) = some-from (length (t .queue)) (λ z. e (all ∙ z)) in
-      rw (is, front-is S t (is-stands i) p short some, all) (sym (head-told (S .places) (t .queue) some))
+      rw (is, front, front-is S t (is-stands i) p short some (head-four S t (parts S t (i .soundly)) some), all) (sym (head-told (S .places) (t .queue) some))
     where
       some-from : (k : ℕ) → (k ≡ 0 → ⊥) → 1 ≤ k
       some-from k f = omega arith

@@ -12,10 +12,11 @@ use borrow.Author.Tests.{eq-eqb, eqb-true, leb-true, leb-false, ltb-true}
 use Rattle.model.specs.Words.{pick, any}
 use Rattle.model.specs.Range.{inRange, linesOf}
 use Rattle.model.specs.Address.{setIndex, goodBlock, lineNumber}
-use Rattle.model.specs.Tables.{Line, Entry, Queued, Tables, isInvalid, isReserved, unused, waiting, entryFor, empty, fresh}
+use Rattle.model.specs.Tables.{Line, Entry, Tables, isInvalid, isReserved, unused, waiting, entryFor, empty, fresh}
 use Rattle.model.specs.Probe.{waysOf, enoughDirty}
 use Rattle.model.specs.Steps.{entryFull}
 use Rattle.model.specs.declared.Settings.{Settings}
+use Rattle.model.specs.declared.Queued.{Queued}
 use Rattle.model.specs.declared.Status.{Status}
 use Rattle.model.specs.declared.Status.the-variants.{Invalid, Reserved, Valid, Modified}
 use Rattle.model.specs.declared.Sector.{Sector}

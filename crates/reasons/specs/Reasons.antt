@@ -9,11 +9,12 @@ use lib.Dec.{eqb}
 use Rattle.model.specs.Words.{pick}
 use Rattle.model.specs.Range.{linesOf}
 use Rattle.model.specs.Address.{addressOf, setIndex}
-use Rattle.model.specs.Tables.{Entry, Queued, Tables, Outcome, refused, done, entryFor}
+use Rattle.model.specs.Tables.{Entry, Tables, Outcome, refused, done, entryFor}
 use Rattle.model.specs.Lent.{Lent, tablesOf}
 use Rattle.model.specs.Steps.{sentEvent}
 use Rattle.model.specs.Calls.{checkCall}
 use Rattle.model.specs.declared.Settings.{Settings}
+use Rattle.model.specs.declared.Queued.{Queued}
 use Rattle.model.specs.declared.Access.{Access}
 use Rattle.model.specs.declared.Refusal.{Refusal}
 use Rattle.model.specs.declared.Refusal.the-variants as refusal

@@ -151,7 +151,7 @@ fn queue_reason(s: Settings, longs: &[u64], words: &[u32], marks: &[u8]) -> Reas
     if n == 0 {
         return Reason::Nothing;
     }
-    let head = tables::front(at, longs, words, marks);
+    let head = model::sent_event(tables::front(at, longs, words, marks));
     let free = s.places - n;
     Reason::Queue { head, free }
 }

@@ -12,14 +12,17 @@ use lib.ListN.{length, getD}
 use Rattle.model.specs.Words.{all, any, keep, fit, places}
 use Rattle.model.specs.Range.{inRange, linesOf}
 use Rattle.model.specs.Address.{addressOf, isRead, goodSector, goodBlock, wellFormed}
-use Rattle.model.specs.Tables.{Entry, Queued, reading, writing, Tables, Outcome, after, eventsOf, entryFor}
-use Rattle.model.specs.Sound.{allOnes, lastCycle, entryOk, queuedOk, sound}
+use Rattle.model.specs.Tables.{Entry, reading, Tables, Outcome, after, eventsOf, entryFor, withMisses}
+use Rattle.model.specs.Sound.{allOnes, lastCycle, unsentFor, entryOk, kindOk, queuedOk, sound}
 use Rattle.model.specs.Probe.{Spot, Place, no, at, metIn}
-use Rattle.model.specs.Steps.{isMerge, isMiss, join, onMisses, fetches, queuedEvent, sentEvent, placesNeeded, entryFull, accept, proceed, access, mark, sendFrom, send, ticketsOf, others, sentFor, fill, tick}
+use Rattle.model.specs.Steps.{isMerge, isMiss, join, onMisses, fetches, queuedAs, queuedEvent, sentAs, sentEvent, placesNeeded, entryFull, accept, proceed, access, mark, markedFor, sendFrom, send, ticketsOf, others, sentFor, fill, tick}
 use Rattle.model.specs.RecordsOf as records
 use Rattle.model.specs.Records.{isSettings, lengthOf, numberAt, commandIn, commandOf}
 use Rattle.model.specs.Runner.{stepOf}
 use Rattle.model.specs.declared.Settings.{Settings}
+use Rattle.model.specs.declared.QueueKind.{QueueKind}
+use Rattle.model.specs.declared.QueueKind.the-variants as queue
+use Rattle.model.specs.declared.Queued.{Queued}
 use Rattle.model.specs.declared.Answer.{Answer}
 use Rattle.model.specs.declared.Access.{Access}
 use Rattle.model.specs.declared.Access.the-variants.{Read, Write}
@@ -29,7 +32,7 @@ use Rattle.model.specs.declared.Command.the-variants as cmd
 use Rattle.model.specs.declared.CommandRead.the-variants as command
 use Rattle.model.proofs.Flags.{and-1, and-2, and-i, clash, by-flag}
 use Rattle.model.proofs.Lists.{In, all-in, in-all, any-in, in-keep}
-use Rattle.model.proofs.SoundFacts.{Sound, parts, entry-parts}
+use Rattle.model.proofs.SoundFacts.{Sound, parts, entry-parts, queued-parts}
 use Rattle.model.proofs.Fits.{ranged}
 use Rattle.model.proofs.Taken.{Spotted, formed-good}
 use Rattle.model.proofs.Offered.{probe-spotted}
@@ -54,13 +57,11 @@ word-at ms i h = let q = leb-true (getD ms i 0) allOnes (all-at (λ m. leb m all
 sector-low : (a : ℕ) → goodSector a ≡ true → a < 2 ^ 64
 sector-low a h = let l = ltb-true a (2 ^ 48) (and-2 (eqb (a % 32) 0) (ltb a (2 ^ 48)) h) in omega arith
 
-back-fits : (es : List Entry) (b : ℕ) (ms : List ℕ) → queuedOk es (writing b ms) ≡ true
+back-fits : (es : List Entry) (b : ℕ) (ms : List ℕ) → kindOk es queue.WriteBack b ms ≡ true → words ms ≡ true
     → WriteBackFits b (getD ms 0 0) (getD ms 1 0) (getD ms 2 0) (getD ms 3 0)
-unfolding queuedOk
-back-fits es b ms h =
+back-fits es b ms h w =
     let g : goodBlock b ≡ true = search (and-1, and-2) depth 9 in
     let l = ltb-true b (2 ^ 48) (and-2 (eqb (b % 128) 0) (ltb b (2 ^ 48)) g) in
-    let w : words ms ≡ true = search (and-1, and-2) depth 9 in
     record { block = omega arith; mask0 = word-at ms 0 w; mask1 = word-at ms 1 w; mask2 = word-at ms 2 w; mask3 = word-at ms 3 w }
 
 module _ (S : Settings) (t : Tables) (ok : Sound S t) where
@@ -77,10 +78,12 @@ module _ (S : Settings) (t : Tables) (ok : Sound S t) where
 
 -- ---- an access
 
+kind-fits : (k : QueueKind) (a : ℕ) (ms : List ℕ) → kindOk [] k a ms ≡ true → words ms ≡ true → Fitting (queuedAs k a ms)
+kind-fits queue.Read a ms h w = clash h refl
+kind-fits queue.WriteBack b ms h w = back-fits [] b ms h w
+
 queued-fits : (q : Queued) → queuedOk [] q ≡ true → Fitting (queuedEvent q)
-unfolding queuedOk
-queued-fits (reading a) h = clash h refl
-queued-fits (writing b ms) h = back-fits [] b ms h
+queued-fits q h = let (four, w, k) = queued-parts [] q h in kind-fits (q .kind) (q .address) (q .masks) k w
 
 backs-fit : (qs : List Queued) → all (queuedOk []) qs ≡ true → AllFitting (map queuedEvent qs)
 backs-fit [] h = tt
@@ -121,10 +124,13 @@ access-fits S x t range ok = access-fits-in S range t (parts S t ok) x
 
 -- ---- send, fill, tick
 
+kind-sent-fits : (S : Settings) (t : Tables) → Sound S t → (k : QueueKind) (a : ℕ) (ms : List ℕ) → kindOk (t .misses) k a ms ≡ true → words ms ≡ true
+    → Fitting (sentAs k a ms)
+kind-sent-fits S t ok queue.Read a ms h w = entered-low S t ok (λ e. not (e .sent)) a (and-1 (any (unsentFor a) (t .misses)) (all (λ m. eqb m 0) ms) h)
+kind-sent-fits S t ok queue.WriteBack b ms h w = back-fits (t .misses) b ms h w
+
 sent-fits : (S : Settings) (t : Tables) → Sound S t → (q : Queued) → queuedOk (t .misses) q ≡ true → Fitting (sentEvent q)
-unfolding queuedOk
-sent-fits S t ok (reading a) h = entered-low S t ok (λ e. not (e .sent)) a h
-sent-fits S t ok (writing b ms) h = back-fits (t .misses) b ms h
+sent-fits S t ok q h = let (four, w, k) = queued-parts (t .misses) q h in kind-sent-fits S t ok (q .kind) (q .address) (q .masks) k w
 
 pub send-fits : (S : Settings) (t : Tables) → sound S t ≡ true → AllFitting (eventsOf (send t))
 unfolding send
@@ -220,10 +226,13 @@ module _ (t : Tables) (few : stamped t ≡ true) where
   unfolding send
   send-stamped = from (t .queue)
     where
+      kept : (k : QueueKind) (a : ℕ) → stamped (withMisses (markedFor k a (t .misses)) t) ≡ true
+      kept queue.Read a = map-stamps (mark a) (mark-words a) (t .misses) few
+      kept queue.WriteBack a = few
+
       from : (qs : List Queued) → Kept (sendFrom qs t)
       from [] = few
-      from (reading a ∷ qs) = map-stamps (mark a) (mark-words a) (t .misses) few
-      from (writing b ms ∷ qs) = few
+      from (q ∷ qs) = kept (q .kind) (q .address)
 
   pub fill-stamped : (a : ℕ) → stamped (after t (fill a t)) ≡ true
   unfolding fill

@@ -9,7 +9,6 @@ pub mod Decoding
 pub mod RoundTrip
 pub mod WholeRun
 pub mod Log
-pub mod Words
 pub mod Told
 pub mod Room
 pub mod Fits

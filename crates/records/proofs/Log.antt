@@ -1,20 +1,20 @@
 -- A log of events as bytes, part by part, as the code stores it.
 use mathlib.Core.Path.{_≡_, refl, sym, ap, _∙_}
-use mathlib.Core.Bool.{Bool, true, false}
 use mathlib.Core.List.{List, [], _∷_, _++_, map, append-assoc, append-nil}
-use Prim.Native.Nat.{ℕ, _+_, _*_, _≤_, _<_}
+use Prim.Native.Nat.{ℕ, zero, suc, _+_, _*_, _≤_, _<_}
 use native.Mathlib.Nat.{add-zero}
 use native.Mathlib.Numerals.{add-one}
 use native.Mathlib.Omega.{arith}
-use lib.ListN.{length, take, getD}
+use lib.ListN.{length, take, getD, length-append}
 use lib.Seq.{take-suc, length-take-le}
-use Rattle.model.specs.Words.{pick}
+use Rattle.model.specs.Steps.{queuedEvent}
 use Rattle.model.specs.RecordsOf as records
 use Rattle.model.specs.Records.{bytesOf, eventBytes, logBytes}
+use Rattle.model.specs.declared.Queued.{Queued}
 use Rattle.model.specs.declared.Event.{Event}
 use Rattle.model.specs.declared.Event.the-variants.{Released}
 use Rattle.records.specs.Stores.{Laid}
-use Rattle.records.specs.Parts.{ticketsTold}
+use Rattle.records.specs.Parts.{queuedTold, ticketsTold}
 use Rattle.records.proofs.Stores.{laid-then, laid-as, laid-sized}
 
 pub log-append : (es fs : List Event) → logBytes (es ++ fs) ≡ logBytes es ++ logBytes fs
@@ -26,18 +26,39 @@ pub log-one : (e : Event) → logBytes (e ∷ []) ≡ eventBytes e
 unfolding records.logBytes
 log-one e = append-nil (eventBytes e)
 
--- ---- an event that is there if a flag is set
+-- ---- entries that were queued
 
-pub part-room : {b : Bool} (at k : ℕ) {n : ℕ} → at + pick b k 0 ≤ n → b ≡ true → at + k ≤ n
-part-room at k h e = rw e at h
+queued-append : (xs ys : List Queued) → map queuedEvent (xs ++ ys) ≡ map queuedEvent xs ++ map queuedEvent ys
+queued-append [] ys = refl
+queued-append (x ∷ xs) ys = rw (queued-append xs ys)
 
-pub part-there : (e : Event) {b : Bool} {l m : List ℕ} {at r : ℕ} → Laid l at (length (eventBytes e)) (eventBytes e) r m → b ≡ true
-    → Laid l at (pick b (length (eventBytes e)) 0) (logBytes (pick b (e ∷ []) [])) r m
-part-there e u q = rw q (laid-as u (sym (log-one e)))
-
-pub part-none : (e : Event) (k : ℕ) {b : Bool} (l : List ℕ) (at : ℕ) → b ≡ false → Laid l at (pick b k 0) (logBytes (pick b (e ∷ []) [])) at l
+-- fewer of them are no more bytes
+pub queued-fewer : (m n : ℕ) (xs : List Queued) → m ≤ n → length (logBytes (queuedTold m xs)) ≤ length (logBytes (queuedTold n xs))
 unfolding records.logBytes
-part-none e k l at q = rw q (record { next = sym (add-zero at); slice = refl })
+queued-fewer zero n xs h = omega arith
+queued-fewer (suc m) zero xs h = absurd (omega arith)
+queued-fewer (suc m) (suc n) [] h = omega arith
+queued-fewer (suc m) (suc n) (x ∷ xs) h =
+    let k = queued-fewer m n xs (omega arith) in
+    omega (arith, length-append (eventBytes (queuedEvent x)) (logBytes (queuedTold m xs)), length-append (eventBytes (queuedEvent x)) (logBytes (queuedTold n xs)))
+
+pub queued-start : (xs : List Queued) (l : List ℕ) (at : ℕ) → Laid l at (length (logBytes (queuedTold 0 xs))) (logBytes (queuedTold 0 xs)) at l
+unfolding records.logBytes
+queued-start xs l at = record { next = sym (add-zero at); slice = refl }
+
+module _ (xs : List Queued) (d : Queued) (j : ℕ) (h : j < length xs) {e : Event} (is : e ≡ queuedEvent (getD xs j d)) where
+  pub queued-next : queuedTold (j + 1) xs ≡ queuedTold j xs ++ (e ∷ [])
+  queued-next = rw (is, add-one, take-suc xs j d h, queued-append)
+
+  queued-bytes : logBytes (queuedTold j xs) ++ eventBytes e ≡ logBytes (queuedTold (j + 1) xs)
+  queued-bytes = rw (queued-next, log-append, log-one)
+
+  pub queued-longer : length (logBytes (queuedTold (j + 1) xs)) ≡ length (logBytes (queuedTold j xs)) + length (eventBytes e)
+  queued-longer = ap length (sym queued-bytes) ∙ length-append (logBytes (queuedTold j xs)) (eventBytes e)
+
+  pub queued-turn : {l m g : List ℕ} {at i r : ℕ} → Laid l at (length (logBytes (queuedTold j xs))) (logBytes (queuedTold j xs)) i m
+      → Laid m i (length (eventBytes e)) (eventBytes e) r g → Laid l at (length (logBytes (queuedTold (j + 1) xs))) (logBytes (queuedTold (j + 1) xs)) r g
+  queued-turn u v = laid-sized (laid-as (laid-then u refl v) queued-bytes) (sym queued-longer)
 
 -- ---- tickets
 

@@ -11,7 +11,7 @@ use lib.Dec.{leb, eqb, lit≤}
 use lib.ListN.{length, getD}
 use Rattle.model.specs.Words.{all, table, fit, places, joined}
 use Rattle.model.specs.Range.{inRange, linesOf}
-use Rattle.model.specs.Tables.{Line, Entry, Queued, reading, writing, Tables, Outcome, after, eventsOf, fresh}
+use Rattle.model.specs.Tables.{Line, Entry, Tables, Outcome, after, eventsOf, fresh}
 use Rattle.model.specs.Lent.{Lent, lengthsFit, tablesOf, encode, ticketAt, entryAt, ticketCountAt, cycleOf, masksOf, ticketsIn, queueMasksOf, wordBlocks}
 use Rattle.model.specs.Sound.{allOnes, lastCycle, maskOk, sectorOk, lineOk, queuedOk, sound}
 use Rattle.model.specs.SoundLent.{soundLent}
@@ -19,6 +19,7 @@ use Rattle.model.specs.Calls.{call}
 use Rattle.model.specs.Records.{logBytes, fillBytes}
 use Rattle.model.specs.Inner.{Is}
 use Rattle.model.specs.declared.Settings.{Settings}
+use Rattle.model.specs.declared.Queued.{Queued}
 use Rattle.model.specs.declared.Status.{Status}
 use Rattle.model.specs.declared.Status.the-variants.{Invalid, Reserved, Valid, Modified}
 use Rattle.model.specs.declared.Sector.{Sector}
@@ -29,7 +30,7 @@ use Rattle.model.specs.declared.Event.the-variants.{Refused}
 use Rattle.model.proofs.Flags.{and-1, and-2, and-i, by-flag}
 use Rattle.model.proofs.Below.{every-at}
 use Rattle.model.proofs.Lists.{In, all-in, in-index}
-use Rattle.model.proofs.SoundFacts.{Sound, LineIs, parts, line-parts}
+use Rattle.model.proofs.SoundFacts.{Sound, LineIs, parts, line-parts, queued-parts}
 use Rattle.model.proofs.Decoded.{Small}
 use Rattle.model.proofs.Bridge.{sound-encoded, after-encoded, events-encoded}
 use Rattle.records.specs.Fitting.{AllFitting, words, stamped}
@@ -109,9 +110,7 @@ masks-words (s ∷ ss) h =
     and-i (mask-word (s .status) (s .mask) (s .readable) (and-1 (sectorOk s) (all sectorOk ss) h)) (masks-words ss (and-2 (sectorOk s) (all sectorOk ss) h))
 
 queue-words : (es : List Entry) (q : Queued) → queuedOk es q ≡ true → words (queueMasksOf q) ≡ true
-unfolding queuedOk
-queue-words es (reading a) h = refl
-queue-words es (writing b ms) h = search (and-1, and-2) depth 9
+queue-words es q h = queued-parts es q h .1
 
 module _ (S : Settings) (t : Tables) (ok : Sound S t) (few : stamped t ≡ true) where
   line-is : (l : Line) → In l (t .lines) → (i : ℕ) × LineIs S (t .now) i l

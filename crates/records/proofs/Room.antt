@@ -1,4 +1,4 @@
--- How many bytes a call's events are: of any value, and of each step on tables.
+-- How many bytes a call's events are, of each step on tables.
 use mathlib.Core.Path.{_≡_, refl}
 use mathlib.Core.Bool.{Bool, true, false, _&&_, _||_}
 use mathlib.Core.List.{List, [], _∷_, _++_, map}
@@ -11,15 +11,15 @@ use lib.ListN.{length, getD, length-append}
 use Rattle.model.specs.Words.{pick, all, any}
 use Rattle.model.specs.Range.{inRange, within}
 use Rattle.model.specs.Address.{addressOf, isRead, blockOf, lineNumber, wellFormed}
-use Rattle.model.specs.Tables.{Line, Entry, Queued, reading, Tables, Outcome, refused, done, eventsOf, dirty, holds, entryFor, fresh, withNow}
+use Rattle.model.specs.Tables.{Line, Entry, reading, Tables, Outcome, refused, done, eventsOf, dirty, holds, entryFor, fresh, withNow}
 use Rattle.model.specs.Sound.{lastCycle, entryOk, sound}
-use Rattle.model.specs.Probe.{Spot, Place, no, at, waysOf, dirtyLines, first, victim, writeBack, takeOver, meet, probe, Rule, ruleOf}
+use Rattle.model.specs.Probe.{Spot, Place, no, at, waysOf, first, victim, writeBack, takeOver, meet, probe, Rule, ruleOf}
 use Rattle.model.specs.Steps.{isMerge, isMiss, fetches, queues, queuedEvent, sentEvent, placesNeeded, accept, entryFull, proceed, access, afterSend, sendFrom, send, ticketsOf, afterFill, sentFor, fill, tick}
-use Rattle.model.specs.Calls.{eventsTold}
 use Rattle.model.specs.RecordsOf as records
 use Rattle.model.specs.Records.{bytesOf, eventBytes, logBytes, fillBytes}
 use Rattle.model.specs.Runner.{stepOf}
 use Rattle.model.specs.declared.Settings.{Settings}
+use Rattle.model.specs.declared.Queued.{Queued}
 use Rattle.model.specs.declared.Answer.{Answer}
 use Rattle.model.specs.declared.Refusal.{Refusal}
 use Rattle.model.specs.declared.Refusal.the-variants.{SettingOutOfRange, BadAccess, QueueFull, EntryFull, MissTableFull, NotSent, BadCycle, QueueEmpty}
@@ -31,21 +31,10 @@ use Rattle.model.specs.declared.Event.{Event}
 use Rattle.model.specs.declared.Event.the-variants.{Answered, Released, Filled, Ticked}
 use Rattle.model.specs.declared.Command.{Command}
 use Rattle.model.specs.declared.Command.the-variants as cmd
-use Rattle.model.specs.declared.Told.{Told}
 use Rattle.model.proofs.Flags.{and-1, and-2, by-flag}
 use Rattle.model.proofs.Lists.{all-in, in-all}
 use Rattle.records.proofs.Encoding.{event-short}
 use Rattle.records.proofs.Log.{log-append, released-length}
-use Rattle.records.proofs.Told.{told-length, size-most}
-
--- ---- a value: its first event, a read, a write-back and eight tickets
-
-pub told-room : (t : Told) (k : ℕ) → length (eventBytes (t .first)) ≤ k → length (t .tickets) ≡ 8 → length (logBytes (eventsTold t)) ≤ k + 74
-told-room t k h e =
-    let n = told-length t in
-    let r = size-most (t .reads) 9 in
-    let b = size-most (t .backs) 25 in
-    omega arith
 
 -- ---- a log's length, event by event
 

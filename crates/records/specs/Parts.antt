@@ -1,18 +1,14 @@
--- The events of a call's value behind its first, part by part: the read queued, the write-back queued, the tickets released.
+-- The events of a call's value behind its first, part by part: the entries queued, the tickets released.
 use Prim.Native.Nat.{ℕ}
-use mathlib.Core.Bool.{Bool}
-use mathlib.Core.List.{List, [], _∷_, map}
-use lib.ListN.{take, getD}
-use Rattle.model.specs.Words.{pick}
+use mathlib.Core.List.{List, map}
+use lib.ListN.{take}
+use Rattle.model.specs.Steps.{queuedEvent}
+use Rattle.model.specs.declared.Queued.{Queued}
 use Rattle.model.specs.declared.Event.{Event}
-use Rattle.model.specs.declared.Event.the-variants.{ReadQueued, WriteBackQueued, Released}
+use Rattle.model.specs.declared.Event.the-variants.{Released}
 
-abbrev pub readTold : Bool → ℕ → List Event
-readTold reads address = pick reads (ReadQueued address ∷ []) []
-
-abbrev pub backTold : Bool → ℕ → List ℕ → List Event
-backTold backs block masks =
-    pick backs (WriteBackQueued block (getD masks 0 0) (getD masks 1 0) (getD masks 2 0) (getD masks 3 0) ∷ []) []
+abbrev pub queuedTold : ℕ → List Queued → List Event
+queuedTold count queued = map queuedEvent (take count queued)
 
 abbrev pub ticketsTold : ℕ → List ℕ → List Event
 ticketsTold count tickets = map Released (take count tickets)

@@ -5,8 +5,7 @@ ghost use mathlib.Core.List.{_∷_, _++_};
 ghost use lib.ListN.{length};
 ghost use Rattle.records.specs.Stores.{Laid};
 ghost use Rattle.records.specs.Fitting.{Fitting, AllFitting, CommandFits};
-ghost use Rattle.records.specs.Parts.{readTold, backTold, ticketsTold};
-ghost use Rattle.model.specs.Words.{pick};
+ghost use Rattle.records.specs.Parts.{queuedTold, ticketsTold};
 ghost use Rattle.model.specs.Calls.{eventsTold};
 ghost use Rattle.model.specs.Records.{bytesOf, writeBackBytes, eventBytes, logBytes, commandBytes};
 use crate::format::SETTINGS_KIND;
@@ -18,6 +17,7 @@ use crate::numbers::put8;
 use model::Answer;
 use model::Command;
 use model::Event;
+use model::Queued;
 use model::Refusal;
 use model::Told;
 
@@ -218,28 +218,20 @@ pub(crate) fn put_command(c: Command, out: &mut [u8], at: usize) -> usize
     }
 }
 
-// The read that a call queued, if it did.
-fn put_read(out: &mut [u8], at: usize, reads: bool, address: u64) -> usize
-    requires { ⌜ at + pick reads 9 0 ≤ length (now out) ⌝ }
-    ensures { λ r. ⌜ Laid (now (out .entry)) at (pick reads 9 0) (logBytes (readTold reads address)) r (now (out .exit)) ⌝ }
+// The entries that a call queued, in order.
+fn put_queued(out: &mut [u8], at: usize, count: usize, queued: [Queued; 2]) -> usize
+    requires { ⌜ (count ≤ 2) × (at + length (logBytes (queuedTold count queued)) ≤ length (now out)) ⌝ }
+    ensures { λ r. ⌜ Laid (now (out .entry)) at (length (logBytes (queuedTold count queued))) (logBytes (queuedTold count queued)) r (now (out .exit)) ⌝ }
 {
-    if reads {
-        put_address(out, at, 0x12, address)
-    } else {
-        at
+    let mut i = at;
+    let mut j = 0;
+    while j < count {
+        let x = queued[j];
+        let e = model::queued_event(x);
+        i = put_event(e, out, i);
+        j += 1;
     }
-}
-
-// The write-back that a call queued, if it did.
-fn put_write_back(out: &mut [u8], at: usize, backs: bool, block: u64, masks: [u32; 4]) -> usize
-    requires { ⌜ at + pick backs 25 0 ≤ length (now out) ⌝ }
-    ensures { λ r. ⌜ Laid (now (out .entry)) at (pick backs 25 0) (logBytes (backTold backs block masks)) r (now (out .exit)) ⌝ }
-{
-    if backs {
-        put_back(out, at, 0x13, block, masks[0], masks[1], masks[2], masks[3])
-    } else {
-        at
-    }
+    i
 }
 
 // The tickets that a call released, in order.
@@ -256,17 +248,27 @@ fn put_tickets(out: &mut [u8], at: usize, count: usize, tickets: [u32; 8]) -> us
     i
 }
 
-fn size_if(there: bool, n: usize) -> usize
-    ensures { λ r. ⌜ r ≡ pick there n 0 ⌝ }
+// A value has room for two entries and eight tickets.
+fn at_most(count: usize, most: usize) -> usize
+    ensures { λ r. ⌜ r ≡ min count most ⌝ }
 {
-    if there { n } else { 0 }
+    if count < most { count } else { most }
 }
 
-// A value has room for eight tickets.
-fn ticket_count(count: usize) -> usize
-    ensures { λ r. ⌜ r ≡ min count 8 ⌝ }
+// How many bytes the events of the entries are, with numbers that fit theirs.
+fn queued_size(count: usize, queued: [Queued; 2]) -> usize
+    requires { ⌜ count ≤ 2 ⌝ }
+    ensures { λ r. ⌜ (r ≡ length (logBytes (queuedTold count queued))) × (r ≤ 50) × AllFitting (queuedTold count queued) ⌝ }
 {
-    if count < 8 { count } else { 8 }
+    let mut n: usize = 0;
+    let mut j = 0;
+    while j < count {
+        let x = queued[j];
+        let e = model::queued_event(x);
+        n += event_size(e);
+        j += 1;
+    }
+    n
 }
 
 // How many bytes the events of a call's value are.
@@ -274,11 +276,11 @@ pub(crate) fn told_size(told: Told) -> usize
     ensures { λ r. ⌜ (r ≡ length (logBytes (eventsTold told))) × AllFitting (eventsTold told) ⌝ }
 {
     let e = told.first;
+    let queued = told.queued;
     let first = event_size(e);
-    let read = size_if(told.reads, 9);
-    let back = size_if(told.backs, 25);
-    let count = ticket_count(told.count);
-    first + read + back + 5 * count
+    let entries = queued_size(at_most(told.queues, 2), queued);
+    let count = at_most(told.count, 8);
+    first + entries + 5 * count
 }
 
 pub(crate) fn put_told(told: Told, out: &mut [u8], at: usize) -> usize
@@ -286,11 +288,11 @@ pub(crate) fn put_told(told: Told, out: &mut [u8], at: usize) -> usize
     ensures { λ r. ⌜ Laid (now (out .entry)) at (length (logBytes (eventsTold told))) (logBytes (eventsTold told)) r (now (out .exit)) ⌝ }
 {
     let first = told.first;
-    let masks = told.masks;
+    let queued = told.queued;
     let tickets = told.tickets;
-    let count = ticket_count(told.count);
+    let queues = at_most(told.queues, 2);
+    let count = at_most(told.count, 8);
     let i = put_event(first, out, at);
-    let j = put_read(out, i, told.reads, told.address);
-    let k = put_write_back(out, j, told.backs, told.block, masks);
-    put_tickets(out, k, count, tickets)
+    let j = put_queued(out, i, queues, queued);
+    put_tickets(out, j, count, tickets)
 }

@@ -10,7 +10,7 @@ use lib.Dec.{eqb}
 use lib.ListN.{length}
 use Rattle.model.specs.Words.{pick}
 use Rattle.model.specs.Address.{maskOf}
-use Rattle.model.specs.Tables.{Entry, Queued, Tables, Outcome, after, eventsOf}
+use Rattle.model.specs.Tables.{Entry, Tables, Outcome, after, eventsOf}
 use Rattle.model.specs.Lent.{Lent, lent, tablesOf}
 use Rattle.model.specs.Sound.{allOnes, sound}
 use Rattle.model.specs.Calls.{call, accessCall, sendCall, fillCall, eventsTold, Leaves}
@@ -21,6 +21,7 @@ use Rattle.model.specs.Records.{logBytes, fillBytes}
 use Rattle.model.specs.Rounds.{Turn, still, andThen, isEmpty}
 use Rattle.model.specs.Seen.{accepts, sendTurn, fillFirst, drain, seen, callActs}
 use Rattle.model.specs.declared.Settings.{Settings}
+use Rattle.model.specs.declared.Queued.{Queued}
 use Rattle.model.specs.declared.Access.{Access}
 use Rattle.model.specs.declared.Access.the-variants.{Read}
 use Rattle.model.specs.declared.Event.the-variants as event

@@ -11,13 +11,14 @@ use lib.Dec.{eqb, leb}
 use borrow.Author.Tests.{leb-true, eqb-true, eqb-false, eq-eqb, ne-eqb}
 use Rattle.model.specs.Words.{any, count, keep}
 use Rattle.model.specs.Regions.{dropped}
-use Rattle.model.specs.Tables.{Entry, Queued, reading, Tables, entryFor, noEntry}
+use Rattle.model.specs.Tables.{Entry, Tables, entryFor, isFetch, idle, noEntry}
 use Rattle.model.specs.Sound.{unsentFor, queuedOk}
 use Rattle.model.specs.Steps.{mark, others, ticketsOf, sentFor}
 use Rattle.model.specs.declared.Settings.{Settings}
+use Rattle.model.specs.declared.Queued.{Queued}
 use Rattle.model.proofs.Flags.{and-1, and-2, flag, iff, clash}
 use Rattle.model.proofs.Lists.{any-in, in-any, in-index, in-getD, count-index}
-use Rattle.model.proofs.SoundFacts.{Sound, entry-at, queued-at}
+use Rattle.model.proofs.SoundFacts.{Sound, entry-at, queued-at, queued-parts, queued-unsent}
 use Rattle.tables.proofs.Ones.{map-one, keep-one}
 use Rattle.tables.proofs.Misses.{withSent}
 
@@ -64,14 +65,22 @@ module _ (S : Settings) (t : Tables) (ok : Sound S t) where
       let c : count (entryFor a) (t .misses) ≡ 1 = eqb-true (count (entryFor a) (t .misses)) 1 (subst (λ (b : ℕ). eqb (count (entryFor b) (t .misses)) 1 ≡ true) e o) in
       count-index (entryFor a) noEntry (t .misses) c i j h k (eq-eqb (getD (t .misses) i noEntry .address) a e) (eq-eqb (getD (t .misses) j noEntry .address) a f)
 
-  -- the entry of a read at the head
-  pub head-entry : (a : ℕ) (x : Queued) → 1 ≤ length (t .queue) → getD (t .queue) 0 x ≡ reading a → (k : ℕ) × (k < length (t .misses)) × (getD (t .misses) k noEntry .address ≡ a)
-  unfolding queuedOk
-  head-entry a x some e =
-      let q : any (unsentFor a) (t .misses) ≡ true = subst (λ (y : Queued). queuedOk (t .misses) y ≡ true) e (queued-at S t ok (getD (t .queue) 0 x) (in-getD (t .queue) 0 x some)) in
-      let (d, m, g) = any-in (unsentFor a) (t .misses) q in
-      let (k, b, z) = in-index (t .misses) noEntry d m in
-      (k, b, ap (λ (v : Entry). v .address) z ∙ eqb-true (d .address) a (and-1 (entryFor a d) (not (d .sent)) g))
+  -- the head of the queue
+  module _ (some : 1 ≤ length (t .queue)) where
+    head-ok : queuedOk (t .misses) (getD (t .queue) 0 idle) ≡ true
+    head-ok = queued-at S t ok (getD (t .queue) 0 idle) (in-getD (t .queue) 0 idle some)
+
+    pub head-four : length (getD (t .queue) 0 idle .masks) ≡ 4
+    head-four = queued-parts (t .misses) (getD (t .queue) 0 idle) head-ok .0
+
+    -- the entry of a read there
+    pub head-entry : isFetch (getD (t .queue) 0 idle .kind) ≡ true
+        → (k : ℕ) × (k < length (t .misses)) × (getD (t .misses) k noEntry .address ≡ getD (t .queue) 0 idle .address)
+    head-entry f =
+        let a : ℕ = getD (t .queue) 0 idle .address in
+        let (d, m, g) = any-in (unsentFor a) (t .misses) (queued-unsent (t .misses) (getD (t .queue) 0 idle) f head-ok) in
+        let (k, b, z) = in-index (t .misses) noEntry d m in
+        (k, b, ap (λ (v : Entry). v .address) z ∙ eqb-true (d .address) a (and-1 (entryFor a d) (not (d .sent)) g))
 
   -- entry e, whose address is a
   module _ (a e : ℕ) (below : e < length (t .misses)) (is : getD (t .misses) e noEntry .address ≡ a) where

@@ -232,7 +232,7 @@ module _ (a : ℕ) (ts : List ℕ) (few : length ts ≤ 8) where
 
 -- the one event, and then the tickets that are copied out
 pub released : (a : ℕ) (words : List ℕ) (i n : ℕ) {ts : List ℕ} {told : Told} → i + n ≤ length words → ts ≡ fit 8 (region words i n) → told ≡ telling (event.Filled a)
-    → record { first = told .first; reads = told .reads; address = told .address; backs = told .backs; block = told .block; masks = told .masks; count = n; tickets = ts }
+    → record { first = told .first; queued = told .queued; queues = told .queues; count = n; tickets = ts }
     ≡ releasing a (region words i n)
 released a words i n room e f = rw (e, f, length-region words i n room)
 

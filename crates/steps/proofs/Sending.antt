@@ -1,34 +1,41 @@
 -- Send: what its parts leave is what the step on the tables says.
 use mathlib.Core.Path.{_≡_, refl, sym, ap, subst, _∙_}
+use mathlib.Core.Bool.{true}
 use mathlib.Core.List.{List, [], _∷_}
 use Prim.Native.Nat.{ℕ, _+_, _*_, _≤_, _<_}
 use native.Mathlib.Decide.{decLe}
 use native.Mathlib.Omega.{arith}
 use lib.ListN.{length, getD, drop}
 use lib.Seq.{drop-cons}
+use borrow.Author.Tests.{eq-eqb}
 use Rattle.model.specs.Regions.{closed}
-use Rattle.model.specs.Tables.{Queued, reading, writing, Tables, withMisses}
+use Rattle.model.specs.Numbers.{queueKindNumber}
+use Rattle.model.specs.Tables.{isFetch, idle, Tables, withMisses}
 use Rattle.model.specs.Lent.{lent}
-use Rattle.model.specs.Steps.{marked, afterSend, sendFrom, send, sentEvent}
+use Rattle.model.specs.Steps.{markedFor, marked, afterSend, sendFrom, send, sentEvent}
 use Rattle.model.specs.Calls.{encoded, Leaves}
 use Rattle.model.specs.Inner.{Is}
 use Rattle.model.specs.declared.Settings.{Settings}
+use Rattle.model.specs.declared.QueueKind.{QueueKind}
+use Rattle.model.specs.declared.QueueKind.the-variants as queue
+use Rattle.model.specs.declared.Queued.{Queued}
 use Rattle.model.specs.declared.Refusal.the-variants.{QueueEmpty}
 use Rattle.model.specs.declared.Event.{Event}
 use Rattle.model.specs.declared.Event.the-variants as event
 use Rattle.model.specs.declared.Told.{Told}
 use Rattle.model.proofs.SoundFacts.{Sound, parts}
+use Rattle.model.proofs.Shapes.{fetch-number}
+use Rattle.tables.specs.Raw.{frontAt}
 use Rattle.layout.specs.declared.Layout.{Layout}
 use Rattle.layout.specs.Layout.{Placed}
 use Rattle.layout.specs.Places.{First}
-use Rattle.tables.specs.Raw.{frontAt}
 use Rattle.tables.specs.Telling.{telling}
+use Rattle.tables.proofs.Queue.{queue-used, pop-stands, head-kind, head-address, front-is}
 use Rattle.layout.proofs.Stands.{Stands, is-stands, stands-encode}
-use Rattle.tables.proofs.Queue.{idle, queue-used, pop-stands, head-reading, head-kind-reading, head-kind-writing, front-is}
 use Rattle.tables.proofs.Misses.{address-at, sent-stands, entry-first}
 use Rattle.tables.proofs.Tellings.{telling-tells, telling-tidy, refusal-leaves, done-leaves}
 use Rattle.steps.specs.Parts.{HeadAsked, Marked, HeadMarked}
-use Rattle.steps.proofs.Entries.{few-misses, few-queued, head-entry, marked-one}
+use Rattle.steps.proofs.Entries.{few-misses, few-queued, head-four, head-entry, marked-one}
 
 -- what some place has is found
 pub first-inside : {l : List ℕ} {i n x r : ℕ} → First l i n x r → (k : ℕ) × (k < n) × (getD l (i + k) 0 ≡ x) → r < n
@@ -64,43 +71,39 @@ module _ (S : Settings) (t : Tables) {longs words marks : List ℕ} (i : Is S (l
     some : 1 ≤ length (t .queue)
     some = let q = queued in omega arith
 
-    head : Queued
+    abbrev head : Queued
     head = getD (t .queue) 0 idle
 
-    asked : (a : ℕ) → getD (t .queue) 0 idle ≡ reading a → (k : ℕ) × (k < length (t .misses)) × (getD longs (at .misses + k) 0 ≡ a)
-    asked a e =
-        let (k, b, q) = head-entry S t ok a idle some e in
-        (k, b, address-at S t h p (few-misses S t ok) k b ∙ q)
+    kind-is : getD marks (at .kinds) 0 ≡ queueKindNumber (head .kind)
+    kind-is = head-kind S t h p (few-queued S t ok) some
+
+    address-is : getD longs (at .queue) 0 ≡ head .address
+    address-is = head-address S t h p (few-queued S t ok) some
 
     pub send-asked : HeadAsked at (S .entries) longs marks
     send-asked e =
-        let (k, b, q) = asked (getD longs (at .queue) 0) (head-reading S t h p (few-queued S t ok) some e) in
-        (k, omega (arith, few-misses S t ok), q)
+        let f : isFetch (head .kind) ≡ true = sym (fetch-number (head .kind)) ∙ eq-eqb (queueKindNumber (head .kind)) 1 (sym kind-is ∙ e) in
+        let (k, b, q) = head-entry S t ok some f in
+        (k, omega (arith, few-misses S t ok), address-at S t h p (few-misses S t ok) k b ∙ q ∙ sym address-is)
 
     module _ {marks₁ : List ℕ} (m : HeadMarked at (S .entries) longs marks marks₁) where
-      marked-stands : (x : Queued) → getD (t .queue) 0 idle ≡ x → Stands S longs words marks₁ (withMisses (marked x (t .misses)) t)
-      marked-stands (reading a) e =
+      marked-stands : (k : QueueKind) → head .kind ≡ k → Stands S longs words marks₁ (withMisses (markedFor k (head .address) (t .misses)) t)
+      marked-stands queue.Read e =
           let few = few-misses S t ok in
-          let d : Marked at (S .entries) longs (getD longs (at .queue) 0) marks marks₁ = m .reads (head-kind-reading S t h p (few-queued S t ok) some a e) in
-          let f = head-reading S t h p (few-queued S t ok) some (head-kind-reading S t h p (few-queued S t ok) some a e) in
-          let w : getD longs (at .queue) 0 ≡ a = reading-one (sym f ∙ e) in
-          let (k, b, q) = head-entry S t ok a idle some e in
-          let g = entry-first S t h p few (d .first) (d .inside) k b (q ∙ sym w) in
-          rw (marked-one S t ok a (d .entry) (g .0) (g .1 ∙ w)) (sent-stands S t h p few (d .entry) (g .0) (d .marks-are))
-        where
-          reading-one : {b c : ℕ} → reading b ≡ reading c → b ≡ c
-          reading-one r = cc
-      marked-stands (writing b ms) e =
-          subst (λ (l : List ℕ). Stands S longs words l t) (sym (m .other (head-kind-writing S t h p (few-queued S t ok) some b ms e))) h
+          let d : Marked at (S .entries) longs (getD longs (at .queue) 0) marks marks₁ = m .reads (kind-is ∙ ap queueKindNumber e) in
+          let (k, b, q) = head-entry S t ok some (ap isFetch e) in
+          let g = entry-first S t h p few (d .first) (d .inside) k b (q ∙ sym address-is) in
+          rw (marked-one S t ok (head .address) (d .entry) (g .0) (g .1 ∙ address-is)) (sent-stands S t h p few (d .entry) (g .0) (d .marks-are))
+      marked-stands queue.WriteBack e =
+          subst (λ (l : List ℕ). Stands S longs words l t) (sym (m .other (λ one. let z : _≡_ {A = ℕ} 2 1 = sym (kind-is ∙ ap queueKindNumber e) ∙ one in omega arith))) h
 
       pub send-leaves : {longs₁ words₁ marks₂ : List ℕ} {first : Event} {r : Told}
           → (longs₁ ≡ closed longs (at .queue) n 1) × (words₁ ≡ closed words (at .backs) (4 * n) 4) × (marks₂ ≡ closed marks₁ (at .kinds) n 1)
-          → first ≡ frontAt longs (at .queue) words (at .backs) marks (at .kinds) → r ≡ telling first
+          → {x : Queued} → x ≡ frontAt longs (at .queue) words (at .backs) marks (at .kinds) → first ≡ sentEvent x → r ≡ telling first
           → Leaves (encoded S (send t)) (lent longs words marks) r (lent longs₁ words₁ marks₂)
       unfolding send
-      send-leaves c f e =
-          let x : Queued = getD (t .queue) 0 idle in
-          let told = e ∙ ap telling (f ∙ front-is S t h p (few-queued S t ok) some) in
-          let popped = pop-stands S (withMisses (marked x (t .misses)) t) (marked-stands x refl) p (few-queued S t ok) n some (omega (arith, queued)) (u .most) c in
-          done-leaves S {t = afterSend x (drop 1 (t .queue)) t} (ap (λ (q : List Queued). sendFrom q t) (drop-cons (t .queue) 0 idle some))
-          (rw told (telling-tells (sentEvent x))) (rw told (telling-tidy (sentEvent x))) (stands-encode popped)
+      send-leaves c front f e =
+          let told = e ∙ ap telling (f ∙ ap sentEvent (front ∙ front-is S t h p (few-queued S t ok) some (head-four S t ok some))) in
+          let popped = pop-stands S (withMisses (marked head (t .misses)) t) (marked-stands (head .kind) refl) p (few-queued S t ok) n some (omega (arith, queued)) (u .most) c in
+          done-leaves S {t = afterSend head (drop 1 (t .queue)) t} (ap (λ (q : List Queued). sendFrom q t) (drop-cons (t .queue) 0 idle some))
+          (rw told (telling-tells (sentEvent head))) (rw told (telling-tidy (sentEvent head))) (stands-encode popped)

@@ -9,7 +9,7 @@ use Rattle.model.specs.Words.{fit, one}
 use Rattle.model.specs.Range.{linesOf}
 use Rattle.model.specs.Lent.{sectorsAt}
 use Rattle.model.specs.Regions.{put}
-use Rattle.model.specs.Tables.{empty}
+use Rattle.model.specs.Tables.{empty, idle}
 use Rattle.model.specs.Steps.{arrived}
 use Rattle.model.specs.declared.Settings.{Settings}
 use Rattle.model.specs.declared.Sector.{Sector}
@@ -75,11 +75,8 @@ pub record LineFilled (S : Settings) (at : Layout) (block k : ℕ) (longs words 
 abbrev pub releasing : ℕ → List ℕ → Told
 releasing a ts = record {
   first = Filled a;
-  reads = false;
-  address = 0;
-  backs = false;
-  block = 0;
-  masks = replicate 4 0;
+  queued = replicate 2 idle;
+  queues = 0;
   count = length ts;
   tickets = fit 8 ts;
 }

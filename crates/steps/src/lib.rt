@@ -56,7 +56,7 @@ pub fn send_step(s: Settings, longs: &mut [u64], words: &mut [u32], marks: &mut 
     let head = tables::front(at, longs, words, marks);
     mark_head(at, longs, marks, s.entries);
     tables::pop(at, longs, words, marks, n);
-    tables::blank(head)
+    tables::blank(model::sent_event(head))
 }
 
 // ---- fill

@@ -5,31 +5,27 @@ use Prim.Native.Nat.{ℕ, zero, suc, _+_, _*_, _≤_, _<_}
 use native.Mathlib.Nat.{le-of-suc-le-suc, not-suc-le-zero}
 use native.Mathlib.Omega.{arith}
 use lib.ListN.{length, getD, drop}
-use lib.Dec.{eqb}
-use Rattle.model.specs.Words.{pick, fit, places}
+use Rattle.model.specs.Words.{fit, places}
 use Rattle.model.specs.Regions.{put, closed, ahead}
-use Rattle.model.specs.Tables.{Queued, reading, writing, Tables, withQueue}
+use Rattle.model.specs.Tables.{idle, Tables, withQueue}
+use Rattle.model.specs.Numbers.{queueKindNumber, queueKindOf}
 use Rattle.model.specs.Lent.{longBlocks, wordBlocks, markBlocks, queuedOf, queueMasksOf, kindOf}
-use Rattle.model.specs.Steps.{sentEvent}
 use Rattle.model.specs.declared.Settings.{Settings}
-use Rattle.model.specs.declared.Event.the-variants.{ReadSent, WriteBackSent}
+use Rattle.model.specs.declared.Queued.{Queued}
 use Rattle.model.proofs.Places.{length-places, field-get}
+use Rattle.model.proofs.Shapes.{kind-some, kind-back, queued-back}
+use Rattle.tables.specs.Raw.{frontAt}
 use Rattle.layout.specs.declared.Layout.{Layout}
 use Rattle.layout.specs.Layout.{Placed}
 use Rattle.layout.specs.Places.{First}
-use Rattle.tables.specs.Raw.{frontAt}
 use Rattle.tables.proofs.Ones.{dropped-first}
+use Rattle.layout.proofs.Stores.{four-whole}
 use Rattle.layout.proofs.Stands.{Stands}
-use Rattle.layout.proofs.Grown.{places-push-idle, field-push, field-close-first, field-used}
-
--- what stands past the end of a queue
-abbrev pub idle : Queued
-idle = reading 0
+use Rattle.layout.proofs.Grown.{field-push, field-close-first, field-used}
 
 kind-used : (x : Queued) → getD (fit 1 (kindOf x)) 0 0 ≡ 0 → ⊥
 unfolding fit
-kind-used (reading a) e = let z : _≡_ {A = ℕ} 1 0 = e in omega arith
-kind-used (writing b ms) e = let z : _≡_ {A = ℕ} 2 0 = e in omega arith
+kind-used x = kind-some (x .kind)
 
 pub fit-get : (w : ℕ) (l : List ℕ) (j : ℕ) → j < w → getD (fit w l) j 0 ≡ getD l j 0
 unfolding fit
@@ -39,19 +35,11 @@ fit-get (suc w) [] (suc j) h = fit-get w [] j (le-of-suc-le-suc h)
 fit-get (suc w) (x ∷ l) zero h = refl
 fit-get (suc w) (x ∷ l) (suc j) h = fit-get w l j (le-of-suc-le-suc h)
 
--- a queue's entry, read off its numbers, as the event of its sending
-front-of : (x : Queued) {k a m0 m1 m2 m3 : ℕ} → k ≡ getD (fit 1 (kindOf x)) 0 0 → a ≡ getD (fit 1 (queuedOf x)) 0 0
-    → m0 ≡ getD (fit 4 (queueMasksOf x)) 0 0 → m1 ≡ getD (fit 4 (queueMasksOf x)) 1 0 → m2 ≡ getD (fit 4 (queueMasksOf x)) 2 0 → m3 ≡ getD (fit 4 (queueMasksOf x)) 3 0
-    → pick (eqb k 1) (ReadSent a) (WriteBackSent a m0 m1 m2 m3) ≡ sentEvent x
-unfolding fit
-front-of (reading b) e f g0 g1 g2 g3 = rw (e, f)
-front-of (writing b ms) e f g0 g1 g2 g3 =
-    rw (e, f, g0, g1, g2, g3, fit-get 4 ms 0 (omega arith), fit-get 4 ms 1 (omega arith), fit-get 4 ms 2 (omega arith), fit-get 4 ms 3 (omega arith))
-
-read-of : (x : Queued) {a : ℕ} → getD (fit 1 (kindOf x)) 0 0 ≡ 1 → a ≡ getD (fit 1 (queuedOf x)) 0 0 → x ≡ reading a
-unfolding fit
-read-of (reading b) e f = ap reading (sym f)
-read-of (writing b ms) e f = let z : _≡_ {A = ℕ} 2 1 = e in absurd (omega arith)
+-- a queue's entry, read off its numbers
+front-of : (x : Queued) → length (x .masks) ≡ 4 → {k a m0 m1 m2 m3 : ℕ} → k ≡ queueKindNumber (x .kind) → a ≡ x .address
+    → m0 ≡ getD (x .masks) 0 0 → m1 ≡ getD (x .masks) 1 0 → m2 ≡ getD (x .masks) 2 0 → m3 ≡ getD (x .masks) 3 0
+    → record { kind = queueKindOf k; address = a; masks = m0 ∷ m1 ∷ m2 ∷ m3 ∷ [] } ≡ x
+front-of x four e f g0 g1 g2 g3 = queued-back x (ap queueKindOf e ∙ kind-back (x .kind)) f (rw (g0, g1, g2, g3) (four-whole 0 (x .masks) four))
 
 module _ (S : Settings) (t : Tables) {longs words marks : List ℕ} (h : Stands S longs words marks t) {at : Layout} (p : Placed S at) (few : length (t .queue) ≤ S .places) where
   pub queue-used : {r : ℕ} → First marks (at .kinds) (S .places) 0 r → r ≡ length (t .queue)
@@ -70,54 +58,37 @@ module _ (S : Settings) (t : Tables) {longs words marks : List ℕ} (h : Stands 
         as-marks = field-close-first kindOf 1 (S .places) (t .queue) (markBlocks S t) 4 (h .as-marks) refl (omega arith) few m 0 (simp length-places (omega arith)) some f g (omega arith) (c .2);
       }
 
-  -- a read at the first free place
-  pub push-read-stands : (a n : ℕ) → n ≡ length (t .queue) → n < S .places → {longs′ marks′ : List ℕ}
-      → (longs′ ≡ put longs (at .queue + n) (a ∷ [])) × (marks′ ≡ put marks (at .kinds + n) (1 ∷ []))
-      → Stands S longs′ words marks′ (withQueue (t .queue ++ (reading a ∷ [])) t)
-  push-read-stands a n e room c = record {
-    as-longs = field-push queuedOf 1 (S .places) (t .queue) (longBlocks S t) 2 (h .as-longs) refl (omega arith) few (simp length-places (omega arith)) (omega arith) (reading a) refl (omega arith) (c .0);
-    as-words = rw (places-push-idle queueMasksOf 4 (S .places) (t .queue) (reading a) refl) (h .as-words);
-    as-marks = field-push kindOf 1 (S .places) (t .queue) (markBlocks S t) 4 (h .as-marks) refl (omega arith) few (simp length-places (omega arith)) (omega arith) (reading a) refl (omega arith) (c .1);
-  }
-
-  -- a write-back at the first free place
-  pub push-write-back-stands : (b : ℕ) (ms : List ℕ) (n : ℕ) → length ms ≡ 4 → n ≡ length (t .queue) → n < S .places → {longs′ words′ marks′ : List ℕ}
-      → (longs′ ≡ put longs (at .queue + n) (b ∷ [])) × (words′ ≡ put words (at .backs + 4 * n) ms) × (marks′ ≡ put marks (at .kinds + n) (2 ∷ []))
-      → Stands S longs′ words′ marks′ (withQueue (t .queue ++ (writing b ms ∷ [])) t)
-  push-write-back-stands b ms n four e room c = record {
-    as-longs = field-push queuedOf 1 (S .places) (t .queue) (longBlocks S t) 2 (h .as-longs) refl (omega arith) few (simp length-places (omega arith)) (omega arith) (writing b ms) refl (omega arith) (c .0);
-    as-words = field-push queueMasksOf 4 (S .places) (t .queue) (wordBlocks S t) 4 (h .as-words) refl (omega arith) few (simp length-places (omega arith)) (omega arith) (writing b ms) refl (omega arith) (c .1);
-    as-marks = field-push kindOf 1 (S .places) (t .queue) (markBlocks S t) 4 (h .as-marks) refl (omega arith) few (simp length-places (omega arith)) (omega arith) (writing b ms) refl (omega arith) (c .2);
+  -- an entry at the first free place
+  pub push-stands : (x : Queued) (n : ℕ) → length (x .masks) ≡ 4 → n ≡ length (t .queue) → n < S .places → {longs′ words′ marks′ : List ℕ}
+      → (longs′ ≡ put longs (at .queue + n) (x .address ∷ [])) × (words′ ≡ put words (at .backs + 4 * n) (x .masks))
+      × (marks′ ≡ put marks (at .kinds + n) (queueKindNumber (x .kind) ∷ []))
+      → Stands S longs′ words′ marks′ (withQueue (t .queue ++ (x ∷ [])) t)
+  push-stands x n four e room c = record {
+    as-longs = field-push queuedOf 1 (S .places) (t .queue) (longBlocks S t) 2 (h .as-longs) refl (omega arith) few (simp length-places (omega arith)) (omega arith) x refl (omega arith) (c .0);
+    as-words = field-push queueMasksOf 4 (S .places) (t .queue) (wordBlocks S t) 4 (h .as-words) refl (omega arith) few (simp length-places (omega arith)) (omega arith) x refl (omega arith) (c .1);
+    as-marks = field-push kindOf 1 (S .places) (t .queue) (markBlocks S t) 4 (h .as-marks) refl (omega arith) few (simp length-places (omega arith)) (omega arith) x refl (omega arith) (c .2);
   }
 
   -- ---- the head
 
   module _ (some : 1 ≤ length (t .queue)) where
-    pub head-kind : getD marks (at .kinds) 0 ≡ getD (fit 1 (kindOf (getD (t .queue) 0 idle))) 0 0
+    pub head-kind : getD marks (at .kinds) 0 ≡ queueKindNumber (getD (t .queue) 0 idle .kind)
+    unfolding fit
     head-kind =
         field-get kindOf 1 (S .places) (t .queue) (markBlocks S t) 4 0 {i = at .kinds} (h .as-marks) refl (simp length-places (omega arith)) (omega arith) some few idle 0 (omega arith) (omega arith)
 
-    pub head-address : getD longs (at .queue) 0 ≡ getD (fit 1 (queuedOf (getD (t .queue) 0 idle))) 0 0
+    pub head-address : getD longs (at .queue) 0 ≡ getD (t .queue) 0 idle .address
+    unfolding fit
     head-address =
         field-get queuedOf 1 (S .places) (t .queue) (longBlocks S t) 2 0 {i = at .queue} (h .as-longs) refl (simp length-places (omega arith)) (omega arith) some few idle 0 (omega arith) (omega arith)
 
-    -- as the event of its sending
-    pub front-is : frontAt longs (at .queue) words (at .backs) marks (at .kinds) ≡ sentEvent (getD (t .queue) 0 idle)
-    front-is =
+    head-mask : (j q : ℕ) → j < 4 → q ≡ at .backs + j → getD words q 0 ≡ getD (getD (t .queue) 0 idle .masks) j 0
+    head-mask j q b f =
         let start : at .backs ≡ ahead (wordBlocks S t) 4 + 4 * 0 = simp length-places (omega arith) in
-        let m : (j q : ℕ) → j < 4 → q ≡ at .backs + j → getD words q 0 ≡ getD (fit 4 (queueMasksOf (getD (t .queue) 0 idle))) j 0 =
-        λ j q b f. field-get queueMasksOf 4 (S .places) (t .queue) (wordBlocks S t) 4 0 {i = at .backs} (h .as-words) refl start (omega arith) some few idle j b f in
-        front-of (getD (t .queue) 0 idle) head-kind head-address
-        (m 0 (at .backs) (omega arith) (omega arith)) (m 1 (at .backs + 1) (omega arith) refl) (m 2 (at .backs + 2) (omega arith) refl) (m 3 (at .backs + 3) (omega arith) refl)
+        field-get queueMasksOf 4 (S .places) (t .queue) (wordBlocks S t) 4 0 {i = at .backs} (h .as-words) refl start (omega arith) some few idle j b f
+        ∙ fit-get 4 (getD (t .queue) 0 idle .masks) j b
 
-    -- a read's kind is 1, and no other's
-    pub head-reading : getD marks (at .kinds) 0 ≡ 1 → getD (t .queue) 0 idle ≡ reading (getD longs (at .queue) 0)
-    head-reading e = read-of (getD (t .queue) 0 idle) (sym head-kind ∙ e) head-address
-
-    pub head-kind-reading : (a : ℕ) → getD (t .queue) 0 idle ≡ reading a → getD marks (at .kinds) 0 ≡ 1
-    unfolding fit
-    head-kind-reading a e = head-kind ∙ ap (λ (x : Queued). getD (fit 1 (kindOf x)) 0 0) e
-
-    pub head-kind-writing : (b : ℕ) (ms : List ℕ) → getD (t .queue) 0 idle ≡ writing b ms → getD marks (at .kinds) 0 ≡ 1 → ⊥
-    unfolding fit
-    head-kind-writing b ms e f = let z : _≡_ {A = ℕ} 2 1 = sym (head-kind ∙ ap (λ (x : Queued). getD (fit 1 (kindOf x)) 0 0) e) ∙ f in omega arith
+    pub front-is : length (getD (t .queue) 0 idle .masks) ≡ 4 → frontAt longs (at .queue) words (at .backs) marks (at .kinds) ≡ getD (t .queue) 0 idle
+    front-is four =
+        front-of (getD (t .queue) 0 idle) four head-kind head-address
+        (head-mask 0 (at .backs) (omega arith) (omega arith)) (head-mask 1 (at .backs + 1) (omega arith) refl) (head-mask 2 (at .backs + 2) (omega arith) refl) (head-mask 3 (at .backs + 3) (omega arith) refl)

@@ -1,19 +1,20 @@
 -- Words for the raw numbers of the lent slices, which the leaves' contracts speak of.
 use Prim.Native.Nat.{ℕ, _+_, _*_}
 use mathlib.Core.Bool.{Bool, not, _&&_}
-use mathlib.Core.List.{List}
+use mathlib.Core.List.{List, [], _∷_}
 use lib.ListN.{getD}
 use lib.Dec.{eqb}
-use Rattle.model.specs.Words.{pick}
+use Rattle.model.specs.Numbers.{queueKindOf}
 use Rattle.model.specs.Lent.{tagAt, statusAt}
-use Rattle.model.specs.declared.Event.{Event}
-use Rattle.model.specs.declared.Event.the-variants.{ReadSent, WriteBackSent}
+use Rattle.model.specs.declared.Queued.{Queued}
 
--- the head of the queue as the event of its sending: a read if its kind is 1, else a write-back
-abbrev pub frontAt : List ℕ → ℕ → List ℕ → ℕ → List ℕ → ℕ → Event
-frontAt longs lq words wq marks mq =
-    pick (eqb (getD marks mq 0) 1) (ReadSent (getD longs lq 0))
-    (WriteBackSent (getD longs lq 0) (getD words wq 0) (getD words (wq + 1) 0) (getD words (wq + 2) 0) (getD words (wq + 3) 0))
+-- the head of the queue
+abbrev pub frontAt : List ℕ → ℕ → List ℕ → ℕ → List ℕ → ℕ → Queued
+frontAt longs lq words wq marks mq = record {
+  kind = queueKindOf (getD marks mq 0);
+  address = getD longs lq 0;
+  masks = getD words wq 0 ∷ getD words (wq + 1) 0 ∷ getD words (wq + 2) 0 ∷ getD words (wq + 3) 0 ∷ [];
+}
 
 -- ---- line l
 

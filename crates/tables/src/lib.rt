@@ -3,15 +3,20 @@
 use layout::Layout;
 use model::BlockAddress;
 use model::Event;
+use model::Queued;
 use model::Refusal;
 use model::SectorAddress;
 use model::Told;
+use model::idle;
+use model::queue_kind_number;
+use model::queue_kind_of;
 ghost use mathlib.Core.Path.{_≡_};
 ghost use Prim.Native.Nat.{_+_, _-_, _*_, _≤_, _<_};
 ghost use mathlib.Core.List.{[], _∷_};
 ghost use lib.ListN.{length};
 ghost use lib.Dec.{eqb};
 ghost use Rattle.model.specs.Words.{fit};
+ghost use Rattle.model.specs.Numbers.{queueKindNumber};
 ghost use Rattle.model.specs.Regions.{region, put, closed};
 ghost use Rattle.model.specs.declared.Event.the-variants as event;
 ghost use Rattle.layout.specs.Places.{First};
@@ -24,13 +29,10 @@ pub fn blank(first: Event) -> Told
 {
     Told {
         first,
-        reads: false,
-        address: 0,
-        backs: false,
-        block: 0,
-        masks: [0; 4],
-        count: 0,
+        queued: [idle(); 2],
+        queues: 0,
         tickets: [0; 8],
+        count: 0,
     }
 }
 
@@ -108,24 +110,18 @@ pub fn copy_out(words: &[u32], at: usize, n: usize) -> [u32; 8]
 
 // ---- the queue
 
-// The head, as the event of its sending.
-pub fn front(at: Layout, longs: &[u64], words: &[u32], marks: &[u8]) -> Event
+// The entry at the head.
+pub fn front(at: Layout, longs: &[u64], words: &[u32], marks: &[u8]) -> Queued
     requires { ⌜ (at .queue < length (now longs)) × (at .backs + 4 ≤ length (now words)) × (at .kinds < length (now marks)) ⌝ }
     ensures { λ r. ⌜ r ≡ frontAt (now (longs .entry)) (at .queue) (now (words .entry)) (at .backs) (now (marks .entry)) (at .kinds) ⌝ }
 {
     let l = at.queue;
     let w = at.backs;
     let m = at.kinds;
-    if marks[m] == 1 {
-        Event::ReadSent(longs[l])
-    } else {
-        Event::WriteBackSent {
-            block: longs[l],
-            m0: words[w],
-            m1: words[w + 1],
-            m2: words[w + 2],
-            m3: words[w + 3],
-        }
+    Queued {
+        address: longs[l],
+        masks: [words[w], words[w + 1], words[w + 2], words[w + 3]],
+        kind: queue_kind_of(marks[m]),
     }
 }
 
@@ -141,42 +137,31 @@ pub fn pop(at: Layout, longs: &mut [u64], words: &mut [u32], marks: &mut [u8], n
     close_marks(marks, at.kinds, n, 1);
 }
 
-// Puts a read at place `n`, the first free one.
-pub fn push_read(at: Layout, longs: &mut [u64], marks: &mut [u8], n: usize, address: SectorAddress)
-    requires { ⌜ (at .queue + n < length (now longs)) × (at .kinds + n < length (now marks)) ⌝ }
-    ensures { λ _. ⌜ (now (longs .exit) ≡ put (now (longs .entry)) (at .queue + n) (address .0 ∷ []))
-        × (now (marks .exit) ≡ put (now (marks .entry)) (at .kinds + n) (1 ∷ [])) ⌝ }
-{
-    let l = at.queue + n;
-    let m = at.kinds + n;
-    longs[l] = address.0;
-    marks[m] = 1;
-}
-
-// Puts a write-back at place `n`, the first free one.
-pub fn push_write_back(
+// Puts an entry at place `n`, the first free one.
+pub fn push(
     at: Layout,
     longs: &mut [u64],
     words: &mut [u32],
     marks: &mut [u8],
     n: usize,
-    block: BlockAddress,
-    masks: [u32; 4],
+    entry: Queued,
 )
     requires { ⌜ (at .queue + n < length (now longs)) × (at .backs + 4 * n + 4 ≤ length (now words)) × (at .kinds + n < length (now marks)) ⌝ }
-    ensures { λ _. ⌜ (now (longs .exit) ≡ put (now (longs .entry)) (at .queue + n) (block .0 ∷ []))
-        × (now (words .exit) ≡ put (now (words .entry)) (at .backs + 4 * n) masks)
-        × (now (marks .exit) ≡ put (now (marks .entry)) (at .kinds + n) (2 ∷ [])) ⌝ }
+    ensures { λ _. ⌜ (now (longs .exit) ≡ put (now (longs .entry)) (at .queue + n) (entry .address ∷ []))
+        × (now (words .exit) ≡ put (now (words .entry)) (at .backs + 4 * n) (entry .masks))
+        × (now (marks .exit) ≡ put (now (marks .entry)) (at .kinds + n) (queueKindNumber (entry .kind) ∷ [])) ⌝ }
 {
     let l = at.queue + n;
     let w = at.backs + 4 * n;
     let m = at.kinds + n;
-    longs[l] = block.0;
+    let masks = entry.masks;
+    let kind = entry.kind;
+    longs[l] = entry.address;
     words[w] = masks[0];
     words[w + 1] = masks[1];
     words[w + 2] = masks[2];
     words[w + 3] = masks[3];
-    marks[m] = 2;
+    marks[m] = queue_kind_number(kind);
 }
 
 // ---- the miss table, of `readers` ticket places an entry

@@ -5,7 +5,7 @@ use mathlib.Core.Bool.{Bool, true, false, not, _||_}
 use mathlib.Core.List.{List, [], _∷_, _++_, map}
 use Prim.Native.Nat.{ℕ, _+_, _≤_}
 use native.Mathlib.Omega.{arith}
-use lib.ListN.{length, length-append, take, getD}
+use lib.ListN.{length, length-append, take}
 use Rattle.model.specs.Words.{pick, any}
 use Rattle.model.specs.Tables.{Outcome, refused, done, accepted, eventsOf}
 use Rattle.model.specs.Calls.{eventsTold}
@@ -18,7 +18,7 @@ use Rattle.model.specs.declared.Event.the-variants as event
 use Rattle.model.specs.declared.Told.{Told}
 use Rattle.model.proofs.Flags.{not-yes, no-not}
 use Rattle.model.proofs.Lists.{any-append}
-use Rattle.model.proofs.SeenRounds.{Clear, unrefused}
+use Rattle.model.proofs.SeenRounds.{Clear, unrefused, queued-clear}
 use Rattle.records.specs.Stores.{Stored, Laid}
 use Rattle.records.specs.Fitting.{AllFitting}
 use Rattle.records.proofs.Stores.{was-stored, laid-then}
@@ -38,10 +38,6 @@ refusing-is (event.WriteBackSent b m0 m1 m2 m3) = refl
 refusing-is (event.Filled a) = refl
 refusing-is event.Ticked = refl
 
-one-clear : (b : Bool) (e : Event) → refusing e ≡ false → any refusing (pick b (e ∷ []) []) ≡ false
-one-clear true e h = rw h
-one-clear false e h = refl
-
 released-clear : (ks : List ℕ) → any refusing (map event.Released ks) ≡ false
 released-clear [] = refl
 released-clear (k ∷ ks) = released-clear ks
@@ -55,9 +51,7 @@ unfolding eventsTold
 told-refusing r =
     rw (
       any-append,
-      any-append,
-      one-clear (r .reads) (event.ReadQueued (r .address)) refl,
-      one-clear (r .backs) (event.WriteBackQueued (r .block) (getD (r .masks) 0 0) (getD (r .masks) 1 0) (getD (r .masks) 2 0) (getD (r .masks) 3 0)) refl,
+      queued-clear (take (r .queues) (r .queued)),
       released-clear (take (r .count) (r .tickets)),
       or-false,
       refusing-is (r .first),

@@ -8,7 +8,7 @@ use native.Mathlib.Omega.{arith}
 use lib.ListN.{length, getD}
 use Rattle.model.specs.Words.{pick}
 use Rattle.model.specs.Address.{maskOf}
-use Rattle.model.specs.Tables.{Entry, Queued, Tables, Outcome, refused, after}
+use Rattle.model.specs.Tables.{Entry, Tables, Outcome, refused, after}
 use Rattle.model.specs.Lent.{Lent, lent, bit}
 use Rattle.model.specs.Sound.{allOnes, sound}
 use Rattle.model.specs.Calls.{eventsTold}
@@ -18,6 +18,7 @@ use Rattle.model.specs.RecordsOf as records
 use Rattle.model.specs.Records.{logBytes, fillBytes}
 use Rattle.model.specs.Rounds.{steps, Turn, still, took, andThen, sendTurn, fillFirst, drain}
 use Rattle.model.specs.declared.Settings.{Settings}
+use Rattle.model.specs.declared.Queued.{Queued}
 use Rattle.model.specs.declared.Access.{Access}
 use Rattle.model.specs.declared.Command.the-variants as cmd
 use Rattle.model.specs.declared.Told.{Told}

@@ -46,7 +46,7 @@ access-step-spec =
           let then = offered .before .before .before .before in
           let decided = then .before .before in
           let laid = decided .before .before .before .before in
-    let else = laid .before in
+          let else = laid .before in
           access-offered _ _ _ (decided .decide .ensures) (sym (else .before .well-formed .ensures .0) ∙ no-not (else .if1 .left)) t is
           (sym (then .before .spotted .ensures) ∙ then .if2 .taken) (offered .offer .ensures);
     })
@@ -60,7 +60,7 @@ access-step-spec =
           let other = c .before .before in
           let decided = other .before .before in
           let laid = decided .before .before .before .before in
-    let else = laid .before in
+          let else = laid .before in
           access-stops _ _ _ (decided .decide .ensures) (sym (else .before .well-formed .ensures .0) ∙ no-not (else .if1 .left)) t is
           (sym (other .before .spotted .ensures) ∙ other .if2 .left)
           (c .refused2 .ensures ∙ ap (λ (n : Refusal). telling (event.Refused n)) (c .before .refusal-met .ensures));

@@ -19,9 +19,11 @@ queue-reason-spec =
     let z = stands-fit (i .range) (is-stands i) in
     let p = laid .laid-out .ensures in
     (omega arith, omega arith, omega arith))  -- front-requires
-    (λ c. omega (arith, c .before .before .before .used .ensures .most))  -- sub-free
+    (λ c κs. search needs)  -- sent-event-requires
+    (λ c. omega (arith, c .before .before .before .before .used .ensures .most))  -- sub-free
     (λ c.
-    let front = c .before in
+    let event = c .before in
+    let front = event .before in
     let test = front .before in
     let used = test .before in
-    record { on = λ t i. head-shown _ t i (used .before .laid-out .ensures) (used .used .ensures) (test .if1 .left) (front .front .ensures) }))  -- returns-2
+    record { on = λ t i. head-shown _ t i (used .before .laid-out .ensures) (used .used .ensures) (test .if1 .left) (front .front .ensures) (event .sent-event .ensures) }))  -- returns-2

@@ -31,15 +31,17 @@ send-step-spec =
     let start = laid .before .before .before .before in
     let i = start .pre .are in let z = stands-fit (i .range) (is-stands i) in let p = laid .laid-out .ensures in ((omega arith, omega arith, omega arith, omega arith), send-asked _ _ i p (used .used .ensures) (test .if1 .left)))  -- mark-head-requires
     (λ c κs. let i = c .before .before .before .before .before .before .before .before .before .before .before .before .before .before .before .before .before .before .before .pre .are in let z = stands-fit (i .range) (is-stands i) in let p = c .before .before .before .before .before .before .before .before .before .before .before .before .before .before .before .laid-out .ensures in let u = c .before .before .before .before .before .before .before .before .before .before .before .before .before .used .ensures .most in (omega arith, omega arith, omega arith, omega arith))  -- pop-requires
+    (λ c κs. search needs)  -- sent-event-requires
     (λ c κs. search needs)  -- blank-requires
     (λ c. search needs)  -- same-length-2
     (λ c. search needs)  -- same-length-3
     (λ c. search needs)  -- same-length-4
     (λ c.
-    let popped = c .before .before .before .before .before .before .before in
+    let event = c .before in
+    let popped = event .before .before .before .before .before .before .before in
     let marked = popped .before .before .before .before .before .before in
     let head = marked .before .before .before in
     let test = head .before .before .before .before in
     let used = test .before in
     let laid = used .before .before in
-    record { on = λ t i. send-leaves _ t i (laid .laid-out .ensures) (used .used .ensures) (test .if1 .left) (marked .mark-head .ensures) (popped .pop .ensures) (head .front .ensures) (c .blank .ensures) }))  -- returns-2
+    record { on = λ t i. send-leaves _ t i (laid .laid-out .ensures) (used .used .ensures) (test .if1 .left) (marked .mark-head .ensures) (popped .pop .ensures) (head .front .ensures) (event .sent-event .ensures) (c .blank .ensures) }))  -- returns-2

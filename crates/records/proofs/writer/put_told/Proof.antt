@@ -1,60 +1,73 @@
--- The four parts, one after the other; their lengths add up to the room asked for.
-use mathlib.Core.Path.{_≡_}
+-- The three parts, one after the other; their lengths add up to the room asked for.
+use mathlib.Core.Path.{_≡_, sym, ap, _∙_}
+use mathlib.Core.List.{List}
 use native.Mathlib.Omega.{arith}
-use lib.ListN.{length}
-use Rattle.records.proofs.Words.{words-length}
-use Rattle.records.proofs.Told.{told-length, told-laid}
+use lib.ListN.{length, length-map}
+use Rattle.model.specs.Records.{logBytes}
+use Rattle.model.specs.declared.Event.{Event}
+use Rattle.model.proofs.Arrays.{words-length}
+use Rattle.records.specs.Parts.{queuedTold}
+use Rattle.records.proofs.Told.{queued-least, told-length, told-laid}
 use borrow.Author.Needs.{needs}
 use Rattle.records.proofs.writer.put_told.Statement.{statement}
 use Rattle.records.proofs.writer.put_told.Tie as tie
 
--- a value has eight tickets
+-- a value has two entries and eight tickets
+two : (c : tie.Start) → length (c .args .told .queued) ≡ 2
+two c = sym (length-map (c .args .told .queued) _) ∙ c .good .0 .1 .1 .1 .0 .1 .0 .1
+
 long : (c : tie.Start) → length (c .args .told .tickets) ≡ 8
-long c = words-length 8 (c .args .told .tickets) _ (c .good .0 .1 .1 .1 .1 .1 .1 .1 .0)
+long c = words-length 8 (c .args .told .tickets) _ (c .good .0 .1 .1 .1 .1 .1 .0)
+
+-- as many of its entries as there are
+few : (c : tie.After-at-most) → let t = c .before .before .before .before .args .told in
+    length (logBytes (queuedTold (c .at-most .result) (t .queued))) ≡ length (logBytes (queuedTold (t .queues) (t .queued)))
+few c =
+    let s = c .before .before .before .before in
+    let t = s .args .told in
+    ap (λ (es : List Event). length (logBytes es)) (queued-least (t .queues) 2 (t .queued) (two s) (c .at-most .ensures))
 
 put-event-requires : tie.Need-put-event-requires
 put-event-requires c κs =
-    let s = c .before .before .before .before .before in
+    let s = c .before .before .before .before .before .before in
     let n = told-length (s .args .told) in
     omega arith
 
-put-read-requires : tie.Need-put-read-requires
-put-read-requires c κs =
-    let s = c .before .before .before .before .before .before .before .before .before in
+put-queued-requires : tie.Need-put-queued-requires
+put-queued-requires c κs =
+    let m = c .before .before .before .before .before .before in
+    let s = m .before .before .before .before in
     let n = told-length (s .args .told) in
-    omega arith
-
-put-write-back-requires : tie.Need-put-write-back-requires
-put-write-back-requires c κs =
-    let s = c .before .before .before .before .before .before .before .before .before .before .before .before .before in
-    let n = told-length (s .args .told) in
-    omega arith
+    let f = few m in
+    (omega arith, omega arith)
 
 put-tickets-requires : tie.Need-put-tickets-requires
 put-tickets-requires c κs =
-    let s = c .before .before .before .before .before .before .before .before .before .before .before .before .before .before .before .before .before in
+    let m = c .before .before .before .before .before .before .before .before .before .before in
+    let s = m .before .before .before .before in
     let n = told-length (s .args .told) in
+    let f = few m in
     let h = long s in
-    omega arith
+    (omega arith, omega arith)
 
 returns : tie.Need-returns
 returns c =
-    let p4 = c .before .before in
-    let p3 = p4 .before .before .before .before in
+    let p3 = c .before .before in
     let p2 = p3 .before .before .before .before in
     let p1 = p2 .before .before .before .before in
     let n = p1 .before .before in
-    let s = n .before .before .before .before in
-    told-laid (s .args .told) (long s) (n .ticket-count .ensures) (p1 .put-event .ensures) (p2 .put-read .ensures) (p3 .put-write-back .ensures) (p4 .put-tickets .ensures)
+    let k = n .before in
+    let s = k .before .before .before .before in
+    told-laid (s .args .told) (two s) (long s) (k .at-most .ensures) (n .at-most2 .ensures) (p1 .put-event .ensures) (p2 .put-queued .ensures) (p3 .put-tickets .ensures)
 
 pub put-told-spec : {M : Type 1} → statement M
 put-told-spec =
     tie.close
     (tie.spec
-    (λ c κs. search needs)
+    (λ c κs. search needs)  -- at-most-requires
+    (λ c κs. search needs)  -- at-most-requires-2
     put-event-requires
-    put-read-requires
-    put-write-back-requires
+    put-queued-requires
     put-tickets-requires
-    (λ c. search needs)
+    (λ c. search needs)  -- same-length
     returns)

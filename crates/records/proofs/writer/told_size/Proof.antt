@@ -1,52 +1,48 @@
 -- The sizes of the parts add up; the numbers fit, as the fields' types say.
+use mathlib.Core.Path.{_≡_, sym, _∙_}
 use Prim.Native.Nat.{_≤_}
 use native.Mathlib.Omega.{arith}
+use lib.ListN.{length, length-map}
+use Rattle.model.proofs.Arrays.{words-length, words-below}
+use Rattle.records.specs.Fitting.{AllFitting}
 use Rattle.records.proofs.Encoding.{event-short}
-use Rattle.records.proofs.Words.{words-length, words-below}
-use Rattle.records.proofs.Told.{size-most, told-sized, told-fits}
+use Rattle.records.proofs.Told.{queued-least, told-sized, told-fits}
 use borrow.Author.Needs.{needs}
 use Rattle.records.proofs.writer.told_size.Statement.{statement}
 use Rattle.records.proofs.writer.told_size.Tie as tie
 
 -- the sizes of the parts
-small : (c : tie.After-ticket-count) → let b = c .before in let r = b .before in let e = r .before in
-    (e .event-size .result ≤ 25) × (r .size-if .result ≤ 9) × (b .size-if2 .result ≤ 25) × (c .ticket-count .result ≤ 8)
+small : (c : tie.After-at-most2) → let q = c .before in let e = q .before .before in
+    (e .event-size .result ≤ 25) × (q .queued-size .result ≤ 50) × (c .at-most2 .result ≤ 8)
 small c =
-    let b = c .before in
-    let r = b .before in
-    let e = r .before in
-    let t = e .before .args .told in (
-      rw (e .event-size .ensures .0) (event-short (t .first)),
-      rw (r .size-if .ensures) (size-most (t .reads) 9),
-      rw (b .size-if2 .ensures) (size-most (t .backs) 25),
-      omega arith,
-    )
+    let q = c .before in
+    let e = q .before .before in
+    (rw (e .event-size .ensures .0) (event-short (e .before .before .args .told .first)), q .queued-size .ensures .1, omega arith)
 
 returns : tie.Need-returns
 returns c =
-    let b = c .before in
-    let r = b .before in
-    let e = r .before in
-    let s = e .before in
+    let q = c .before in
+    let k = q .before in
+    let e = k .before in
+    let s = e .before .before in
     let t = s .args .told in
     let g = s .good .0 .1 .1 in
-    let masks = words-below 4 (t .masks) _ (g .1 .1 .1 .1 .0) in
-    let tickets = words-below 8 (t .tickets) _ (g .1 .1 .1 .1 .1 .0) in
-    let long = words-length 8 (t .tickets) _ (g .1 .1 .1 .1 .1 .0) in (
-      told-sized t long (e .event-size .ensures .0) (r .size-if .ensures) (b .size-if2 .ensures) (c .ticket-count .ensures),
-      told-fits t (e .event-size .ensures .1) (g .1 .0 .1) (g .1 .1 .0 .1) masks tickets,
+    let two : length (t .queued) ≡ 2 = sym (length-map (t .queued) _) ∙ g .1 .0 .1 .0 .1 in
+    let long = words-length 8 (t .tickets) _ (g .1 .1 .1 .0) in
+    let tickets = words-below 8 (t .tickets) _ (g .1 .1 .1 .0) in (
+      told-sized t two long (k .at-most .ensures) (c .at-most2 .ensures) (e .event-size .ensures .0) (q .queued-size .ensures .0),
+      told-fits t (e .event-size .ensures .1) (rw (queued-least (t .queues) 2 (t .queued) two (k .at-most .ensures)) at (q .queued-size .ensures .2)) tickets,
     )
 
 pub told-size-spec : {M : Type 1} → statement M
 told-size-spec =
     tie.close
     (tie.spec
-    (λ c κs. search needs)
-    (λ c κs. search needs)
-    (λ c κs. search needs)
-    (λ c κs. search needs)
-    (λ c. let s = small c in omega arith)
-    (λ c. let s = small c in omega arith)
-    (λ c. search needs)
-    (λ c. let s = small c in omega arith)
+    (λ c κs. search needs)  -- event-size-requires
+    (λ c κs. search needs)  -- at-most-requires
+    (λ c κs. search needs)  -- queued-size-requires
+    (λ c κs. search needs)  -- at-most-requires-2
+    (λ c. let h = small c in omega arith)  -- add-result
+    (λ c. let h = small c in omega arith)  -- mul-result
+    (λ c. let h = small c in omega arith)  -- add-result-2
     returns)
