@@ -11,7 +11,7 @@ use lib.Dec.{leb, eqb, lit≤}
 use lib.ListN.{length, getD}
 use Rattle.model.specs.Words.{all, table, fit, places, joined}
 use Rattle.model.specs.Range.{inRange, linesOf}
-use Rattle.model.specs.Tables.{Line, Entry, Tables, Outcome, after, eventsOf, fresh}
+use Rattle.model.specs.Tables.{Line, Entry, Tables, Outcome, after, eventsOf, fresh, dirty, dirtyLines}
 use Rattle.model.specs.Lent.{Lent, lengthsFit, tablesOf, encode, ticketAt, entryAt, ticketCountAt, cycleOf, masksOf, ticketsIn, queueMasksOf, wordBlocks}
 use Rattle.model.specs.Sound.{allOnes, lastCycle, maskOk, sectorOk, lineOk, queuedOk, sound}
 use Rattle.model.specs.SoundLent.{soundLent}
@@ -36,6 +36,8 @@ use Rattle.model.proofs.Bridge.{sound-encoded, after-encoded, events-encoded}
 use Rattle.records.specs.Fitting.{AllFitting, words, stamped}
 use Rattle.records.proofs.Room.{Takes, refused-takes}
 use Rattle.records.proofs.Fits.{all-at, all-append, one-word}
+use Rattle.model.proofs.Counting.{count-length}
+use Rattle.model.proofs.Fits.{ranged}
 
 -- ---- the tables that the slices hold
 
@@ -112,7 +114,7 @@ masks-words (s ∷ ss) h =
 queue-words : (es : List Entry) (q : Queued) → queuedOk es q ≡ true → words (queueMasksOf q) ≡ true
 queue-words es q h = queued-parts es q h .1
 
-module _ (S : Settings) (t : Tables) (ok : Sound S t) (few : stamped t ≡ true) where
+module _ (S : Settings) (range : inRange S ≡ true) (t : Tables) (ok : Sound S t) (few : stamped t ≡ true) where
   line-is : (l : Line) → In l (t .lines) → (i : ℕ) × LineIs S (t .now) i l
   line-is l m =
       let f = in-index (t .lines) fresh l m in
@@ -129,6 +131,13 @@ module _ (S : Settings) (t : Tables) (ok : Sound S t) (few : stamped t ≡ true)
       let n = now-low in
       one-word (l .cycle) (omega arith)
 
+  -- no more lines are dirty than there are
+  count-word : words (t .dirtyCount ∷ []) ≡ true
+  count-word =
+      let e = eqb-true (t .dirtyCount) (dirtyLines t) (ok .counted) in
+      let n = eqb-true (length (t .lines)) (linesOf S) (ok .sized) in
+      one-word (t .dirtyCount) (omega (arith, ranged S range .lines, count-length dirty (t .lines)))
+
   encode-words : words (encode S t .words) ≡ true
   unfolding encode
   encode-words =
@@ -137,10 +146,11 @@ module _ (S : Settings) (t : Tables) (ok : Sound S t) (few : stamped t ≡ true)
       (and-i (places-words cycleOf 1 (linesOf S) (t .lines) cycle-words)
       (and-i (places-words masksOf 4 (linesOf S) (t .lines) (λ l m. masks-words (l .sectors) (line-is l m .1 .sectorly)))
       (and-i (places-words ticketsIn (S .readers) (S .entries) (t .misses) (λ e m. all-in (λ e. words (e .tickets)) (t .misses) few m))
-      (and-i (places-words queueMasksOf 4 (S .places) (t .queue) (λ q m. queue-words (t .misses) q (all-in (queuedOk (t .misses)) (t .queue) (ok .lining) m))) refl)))))
+      (and-i (places-words queueMasksOf 4 (S .places) (t .queue) (λ q m. queue-words (t .misses) q (all-in (queuedOk (t .misses)) (t .queue) (ok .lining) m)))
+      (and-i count-word refl))))))
 
-pub encode-small : (S : Settings) (t : Tables) → sound S t ≡ true → stamped t ≡ true → Small (encode S t)
-encode-small S t ok few i = leb-true (getD (encode S t .words) i 0) allOnes (all-at (λ m. leb m allOnes) refl (encode S t .words) i (encode-words S t (parts S t ok) few))
+pub encode-small : (S : Settings) → inRange S ≡ true → (t : Tables) → sound S t ≡ true → stamped t ≡ true → Small (encode S t)
+encode-small S range t ok few i = leb-true (getD (encode S t .words) i 0) allOnes (all-at (λ m. leb m allOnes) refl (encode S t .words) i (encode-words S range t (parts S t ok) few))
 
 pub call-small : (S : Settings) (step : Tables → Outcome Tables) (L : Lent) → Small L
     → ((t : Tables) → inRange S ≡ true → sound S t ≡ true → stamped t ≡ true → (sound S (after t (step t)) ≡ true) × (stamped (after t (step t)) ≡ true))
@@ -153,7 +163,7 @@ call-small S step L small keeps =
     (λ s.
     let i = sound-encoded S L r f small s in
     let k = keeps (tablesOf S L) r (i .soundly) (tables-stamped S L small) in
-    subst Small (sym (after-encoded S L (tablesOf S L) (step (tablesOf S L)) (i .encoded))) (encode-small S (after (tablesOf S L) (step (tablesOf S L))) (k .0) (k .1)))
+    subst Small (sym (after-encoded S L (tablesOf S L) (step (tablesOf S L)) (i .encoded))) (encode-small S r (after (tablesOf S L) (step (tablesOf S L))) (k .0) (k .1)))
     (λ s. small))
     (λ f. small))
     (λ r. small)

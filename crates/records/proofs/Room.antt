@@ -127,7 +127,7 @@ pub access-takes : (S : Settings) (x : Access) (t : Tables) → Takes 38 (access
 unfolding access
 access-takes S x t =
     takes-by (wellFormed x)
-    (proceed-takes S x t _ (probe-few (ruleOf S t (addressOf x)) S (dirtyLines t) (waysOf S (t .lines) (addressOf x)) x))
+    (proceed-takes S x t _ (probe-few (ruleOf S t (addressOf x)) S (t .dirtyCount) (waysOf S (t .lines) (addressOf x)) x))
     (refused-within _ BadAccess (lit≤ tt))
 
 -- ---- send, tick, fill

@@ -3,6 +3,7 @@ use mathlib.Core.Path.{_≡_, refl, _∙_}
 use Prim.Native.Nat.{_*_, _-_, _≤_}
 use native.Mathlib.Omega.{arith}
 use lib.ListN.{length}
+use Rattle.model.specs.RecordsOf as records
 use Rattle.model.specs.Records.{logBytes}
 use Rattle.records.specs.Fitting.{AllFitting}
 use Rattle.records.specs.Parts.{queuedTold}
@@ -20,7 +21,7 @@ abbrev μ-loop : tie.MeasureT-loop
 μ-loop count queued n₀ j₀ n j = count - j
 
 loop-holds : tie.Need-loop-holds Inv-loop μ-loop
-unfolding logBytes
+unfolding records.logBytes
 loop-holds c = (omega arith, refl, omega arith, tt)
 
 loop-again : tie.Need-loop-again Inv-loop μ-loop
