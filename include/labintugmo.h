@@ -151,13 +151,15 @@ enum {
  *     [lines + entry]                              miss entry: sector address
  *     [lines + misses + place]                     queue: sector or block address
  *
- *   words, 1 + 5 * lines + misses * readers + 4 * queue:
+ *   words, 2 + 5 * lines + misses * readers + 4 * queue:
  *     [0]                                          current cycle
  *     [1 + line]                                   cycle of the line's last access
  *     [1 + lines + 4 * line + sector]              dirty mask, bit i for byte i
  *     [1 + 5 * lines + readers * entry + i]        miss entry: ticket i
  *     [1 + 5 * lines + readers * misses
  *        + 4 * place + sector]                     queue: mask of a write-back
+ *     [1 + 5 * lines + readers * misses
+ *        + 4 * queue]                              how many lines have a MODIFIED sector
  *
  *   marks, 8 * lines + 2 * misses + queue:
  *     [4 * line + sector]                          status

@@ -77,7 +77,7 @@ inline bool operator!=(const Tables& a, const Tables& b) { return !(a == b); }
 class Layout {
 public:
     explicit Layout(const Settings& s) noexcept
-        : lines_(s.lines()), misses_(s.misses), readers_(s.readers) {}
+        : lines_(s.lines()), misses_(s.misses), readers_(s.readers), queue_(s.queue) {}
 
     // In longs.
     std::size_t tag(std::size_t line) const noexcept { return line; }
@@ -98,6 +98,7 @@ public:
     std::size_t queue_mask(std::size_t place, std::size_t sector) const noexcept {
         return 1 + 5 * lines_ + readers_ * misses_ + 4 * place + sector;
     }
+    std::size_t dirty_count() const noexcept { return queue_mask(queue_, 0); }
 
     // In marks.
     std::size_t status(std::size_t line, std::size_t sector) const noexcept {
@@ -118,6 +119,7 @@ private:
     std::size_t lines_;
     std::size_t misses_;
     std::size_t readers_;
+    std::size_t queue_;
 };
 
 // ---- Answers, refusals and stops ----

@@ -30,12 +30,12 @@ static const uint32_t base[LABINTUGMO_SETTINGS] = {
     [LABINTUGMO_SETS] = 1,   [LABINTUGMO_WAYS] = 2,    [LABINTUGMO_DIRTY] = 50,
     [LABINTUGMO_MISSES] = 2, [LABINTUGMO_READERS] = 2, [LABINTUGMO_QUEUE] = 4};
 #define BASE base, LABINTUGMO_SETTINGS
-enum { LONGS = 2 + 2 + 4, WORDS = 1 + 5 * 2 + 2 * 2 + 4 * 4, MARKS = 8 * 2 + 2 * 2 + 4 };
+enum { LONGS = 2 + 2 + 4, WORDS = 1 + 5 * 2 + 2 * 2 + 4 * 4 + 1, MARKS = 8 * 2 + 2 * 2 + 4 };
 
 /* The largest tables: 256 sets of 4 ways, 64 miss entries of 8 readers, 64 queue places. */
 static const uint32_t large[LABINTUGMO_SETTINGS] = {256, 4, 0, 64, 8, 64};
 #define LARGE large, LABINTUGMO_SETTINGS
-enum { L_LONGS = 1024 + 64 + 64, L_WORDS = 1 + 5 * 1024 + 64 * 8 + 4 * 64, L_MARKS = 8 * 1024 + 3 * 64 };
+enum { L_LONGS = 1024 + 64 + 64, L_WORDS = 1 + 5 * 1024 + 64 * 8 + 4 * 64 + 1, L_MARKS = 8 * 1024 + 3 * 64 };
 
 /* One element more than the lengths ask for, so that a slice can be too long by one. */
 struct tables {

@@ -25,6 +25,7 @@ struct View<'a> {
     masks: &'a [[u32; 4]],
     tickets: &'a [u32],
     queue_masks: &'a [[u32; 4]],
+    dirty_lines: u32,
     statuses: &'a [[u8; 4]],
     readable: &'a [[u8; 4]],
     sent: &'a [u8],
@@ -41,7 +42,8 @@ impl<'a> View<'a> {
         let (&cycle, words) = words.split_first().expect("words hold the current cycle");
         let (cycles, words) = words.split_at(lines);
         let (masks, rest) = words.split_at(4 * lines);
-        let (tickets, queue_masks) = rest.split_at(entries * settings.readers as usize);
+        let (tickets, rest) = rest.split_at(entries * settings.readers as usize);
+        let (&dirty_lines, queue_masks) = rest.split_last().expect("words hold the dirty count");
         let (statuses, marks) = marks.split_at(4 * lines);
         let (readable, marks) = marks.split_at(4 * lines);
         let (sent, marks) = marks.split_at(entries);
@@ -56,6 +58,7 @@ impl<'a> View<'a> {
             masks: masks.as_chunks().0,
             tickets,
             queue_masks: queue_masks.as_chunks().0,
+            dirty_lines,
             statuses: statuses.as_chunks().0,
             readable: readable.as_chunks().0,
             sent,
@@ -73,7 +76,8 @@ pub fn sound(settings: &Settings, longs: &[u64], words: &[u32], marks: &[u8]) ->
     let Some(reserved) = lines_sound(&view) else {
         return false;
     };
-    entries_sound(&view) == Some(reserved) && queue_sound(&view)
+    let dirty = view.statuses.iter().filter(|four| four.contains(&MODIFIED)).count();
+    entries_sound(&view) == Some(reserved) && queue_sound(&view) && view.dirty_lines as usize == dirty
 }
 
 /// The number of RESERVED sectors, if every line is sound in itself and in its set.
