@@ -16,9 +16,9 @@ use Rattle.model.specs.Tables.{Tables, start}
 use Rattle.model.specs.Range.{inRange}
 use Rattle.model.specs.Lent.{Lent, encode, lengthsFit}
 use Rattle.model.specs.Inner.{Is}
-use Rattle.model.specs.Records.{isCommand, lengthOf}
+use Rattle.model.specs.Records.{isCommand, isSettings, lengthOf}
 use Rattle.model.specs.RunnerOf as runner
-use Rattle.model.specs.Runner.{firstStop, goesOn, Result, halt, ahead, runFrom, lentResult, run}
+use Rattle.model.specs.Runner.{settingsOf, firstStop, goesOn, Result, halt, ahead, runFrom, lentResult, run}
 use Rattle.model.specs.declared.Settings.{Settings}
 use Rattle.model.specs.declared.Stop.{Stop}
 use Rattle.model.specs.declared.Stop.the-variants as stop
@@ -59,15 +59,15 @@ abbrev Early : Stop → Type 0
 Early n = goesOn n ≡ false → ofEnd n ≡ false
 
 there-early : (L : Lent) (k : ℕ) (bs : List ℕ) → firstThere (k ∷ bs) ≡ true → Early (firstStop L k bs)
-unfolding firstThere firstStop
+unfolding firstThere runner.firstStop
 there-early L k bs h =
     by-flag Early (isCommand k) _ _
     (λ a.
     by-flag Early (ltb (length bs) (lengthOf k)) _ _
     (λ b. let w = ltb-true (length bs) (lengthOf k) b in let v = leb-true (lengthOf k) (length bs) (rw a at h) in absurd (omega arith))
     (λ b.
-    by-flag Early (eqb k 0) _ _
-    (λ c. by-flag Early (inRange (settingsOf bs)) _ _ (λ d. by-flag Early (lengthsFit (settingsOf bs) L) _ _ (λ e z. clash refl z) (λ e z. refl)) (λ d z. refl))
+    by-flag Early (isSettings k) _ _
+    (λ c. by-flag Early (inRange (settingsOf k bs)) _ _ (λ d. by-flag Early (lengthsFit (settingsOf k bs) L) _ _ (λ e z. clash refl z) (λ e z. refl)) (λ d z. refl))
     (λ c z. refl)))
     (λ a z. refl)
 
