@@ -64,7 +64,8 @@ module _ (S : Settings) {longs words marks : List ℕ} (t : Tables) (i : Is S (l
   head-shown e front is =
       let all = queued in
       let some : 1 ≤ length (t .queue) = some-from (length (t .queue)) (λ z. e (all ∙ z)) in
-      rw (is, front, front-is S t (is-stands i) p short some (head-four S t (parts S t (i .soundly)) some), all) (sym (head-told (S .places) (t .queue) some))
+      let head = is ∙ ap sentEvent (front ∙ front-is S t (is-stands i) p short some (head-four S t (parts S t (i .soundly)) some)) in
+      rw (head, all) (sym (head-told (S .places) (t .queue) some))
     where
       some-from : (k : ℕ) → (k ≡ 0 → ⊥) → 1 ≤ k
       some-from k f = omega arith
