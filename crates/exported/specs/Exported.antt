@@ -17,7 +17,7 @@ use Rattle.model.specs.declared.Access.{Access}
 use Rattle.model.specs.declared.Access.the-variants.{Read, Write}
 use Rattle.model.specs.declared.Verdict.{Verdict}
 use Rattle.model.specs.declared.Verdict.the-variants.{Passed, Refused}
-use Rattle.model.specs.Runner.{Result}
+use Rattle.model.specs.Runner.{Result, eventRoom}
 use Rattle.rounds.specs.Waiting.{Wait, waitRoom}
 use Rattle.rounds.specs.declared.Waiting.{Waiting}
 use Rattle.rounds.specs.declared.Waiting.the-variants.{Accepted, NoRoom}
@@ -52,10 +52,6 @@ lengthFor S n = pick (inRange S) n 0
 -- 0 is a read, any other number a write
 abbrev pub accessFor : ℕ → ℕ → ℕ → ℕ → Access
 accessFor w address mask ticket = pick (eqb w 0) (Read address mask ticket) (Write address mask ticket)
-
--- with fewer bytes of event room nothing is called
-abbrev pub eventRoom : ℕ
-eventRoom = 64
 
 -- a call with the outcome o on L and the event buffer e: its records stand at the buffer's start, and the slices are those that it left
 pub record Called (o : Outcome Lent) (L : Lent) (e : List ℕ) (r : ℕ) (f : List ℕ) (M : Lent) : Type 0 where

@@ -8,6 +8,8 @@ use model::Access;
 use model::Ran;
 use model::Settings;
 use model::Verdict;
+use records::EVENT_ROOM;
+use records::WAIT_ROOM;
 use rounds::Waiting;
 ghost use mathlib.Core.Path.{_≡_};
 ghost use mathlib.Core.List.{[], _∷_};
@@ -21,11 +23,6 @@ ghost use Rattle.model.specs.Numbers.{stopNumber};
 ghost use Rattle.model.specs.Runner.{run, resume};
 ghost use Rattle.rounds.specs.Waiting.{waitCall};
 ghost use Rattle.exported.specs.Exported.{settingsFrom, verdictNumber, lengthFor, accessFor, roundNumber, Called, WaitCalled, RunCalled};
-
-// With fewer bytes of event room nothing is called: what one call, and what a wait, can need.
-pub(crate) const EVENT_ROOM: usize = 64;
-
-const WAIT_ROOM: usize = 9600;
 
 // How many settings there are.
 const SETTINGS: usize = 6;

@@ -1,8 +1,8 @@
 // The steps of the calls without their check, for a caller whose tables nobody else can write: each asks for slices that are the encoding of
 // sound tables, leaves such slices, and leaves and writes what the checked call does (include/labintugmo_steps.h).
-use crate::EVENT_ROOM;
 use crate::settings_from;
 use model::Access;
+use records::EVENT_ROOM;
 ghost use Rattle.model.specs.Lent.{lent};
 ghost use Rattle.model.specs.Inner.{Held};
 ghost use Rattle.model.specs.Calls.{accessCall, sendCall, fillCall, tickCall};
