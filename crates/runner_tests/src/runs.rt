@@ -25,7 +25,7 @@ pub(crate) fn new_trial() -> Trial {
         len: 0,
         room: 256,
         longs: 8,
-        words: 31,
+        words: 32,
         marks: 24,
     }
 }
@@ -98,7 +98,7 @@ fn base() -> Settings {
 // Fresh tables of those settings, in the numbers that they take.
 fn make_fresh(longs: &mut [u64], words: &mut [u32], marks: &mut [u8]) {
     let l = scripts::least(8, longs.len());
-    let w = scripts::least(31, words.len());
+    let w = scripts::least(32, words.len());
     let m = scripts::least(24, marks.len());
     cache::fresh(base(), &mut longs[..l], &mut words[..w], &mut marks[..m]);
 }

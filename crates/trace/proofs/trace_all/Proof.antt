@@ -17,7 +17,7 @@ trace-all-spec =
     (λ c κs.
     let s = c .before .before .before .before .before in
     let b = s .before .before .before .before .before .before .before .before in
-    let a = b .before .before .before .before .before .before .before in
+    let a = b .before .before .before .before .before .before .before .before in
     begun-held (accepts-begins _ (a .pre .1) (b .begin .ensures)) (s .settings .given .1))  -- trace-behind-requires
     (λ c. search needs)  -- same-length
     (λ c. search needs)  -- same-length-2
@@ -25,7 +25,7 @@ trace-all-spec =
     (λ c.
     let n = c .before .before in
     let b = n .before .before .before .before .before .before .before .before in
-    let a = b .before .before .before .before .before .before .before in
+    let a = b .before .before .before .before .before .before .before .before in
     first-over _ (a .args .buf .now) (a .pre .0) (sym (accepts-begins _ (a .pre .1) (b .begin .ensures) .says) ∙ n .stop .given .1) (c .at-once .ensures))  -- returns
     (λ c. search needs)  -- same-length-4
     (λ c. search needs)  -- same-length-5

@@ -43,6 +43,6 @@ trace-stream-spec =
     (λ c κs.
     let l = c .before .before .before .before .before .before .before in
     let f = l .before .before in
-    (f .before .before .before .before .pre, l .before .first-record .ensures ∙ ap firstRecord (f .front .ensures)))
+    (f .before .before .before .pre, l .before .first-record .ensures ∙ ap firstRecord (f .front .ensures)))
     (λ c. search needs)
     (λ c. search needs))
