@@ -73,7 +73,7 @@ void settings_and_layout() {
     CHECK(at.queue_address(31) + 1 == wide.longs_length());
     CHECK(at.current_cycle() + 1 == at.line_cycle(0) && at.line_cycle(255) + 1 == at.mask(0, 0));
     CHECK(at.mask(255, 3) + 1 == at.ticket(0, 0) && at.ticket(15, 7) + 1 == at.queue_mask(0, 0));
-    CHECK(at.queue_mask(31, 3) + 1 == wide.words_length());
+    CHECK(at.queue_mask(31, 3) + 1 == at.dirty_count() && at.dirty_count() + 1 == wide.words_length());
     CHECK(at.status(255, 3) + 1 == at.readable(0, 0) && at.readable(255, 3) + 1 == at.sent(0));
     CHECK(at.sent(15) + 1 == at.ticket_count(0) && at.ticket_count(15) + 1 == at.queue_kind(0));
     CHECK(at.queue_kind(31) + 1 == wide.marks_length());
