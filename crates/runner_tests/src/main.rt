@@ -1,4 +1,4 @@
-// Runs streams by `runner::run` as a script from standard input writes them, on tables and an event room full of stale
+// Runs streams by `runner::run`, and parts that go on by `runner::resume`, as a script from standard input writes them, on tables and an event room full of stale
 // numbers, and prints how each run stops and what it leaves. The expected output, `stdout`, is from document 01: the whole
 // run's 45 bytes stand there; the rest is worked out by the reference, which is written from document 01 alone and reads
 // the same script.
@@ -10,6 +10,8 @@
 //     room N           so much event room
 //     lengths L W M    so many numbers of each slice
 //     run              runs the stream
+//     resume N         goes on with it as a part, on fresh tables of document 01's settings, lent with N for sets
+//     stale N          the same on the stale tables
 mod runs;
 
 use assembly::Assembled;
@@ -51,7 +53,18 @@ fn on_word(line: &[u8], t: Trial, stream: &mut [u8; 256]) -> Trial {
         runs::on_run(t, stream);
         return t;
     }
-    io::write_all(STDOUT_FILENO, b"a line that is none\n");
+    on_part(line, at, n.value, t, stream)
+}
+
+// A part that goes on, on fresh tables or on the stale ones.
+fn on_part(line: &[u8], at: usize, sets: u64, t: Trial, stream: &mut [u8; 256]) -> Trial {
+    if text::word_is(line, at, b"resume") {
+        runs::on_resume(t, sets, stream);
+    } else if text::word_is(line, at, b"stale") {
+        runs::on_stale(t, sets, stream);
+    } else {
+        io::write_all(STDOUT_FILENO, b"a line that is none\n");
+    }
     t
 }
 

@@ -83,10 +83,10 @@ pub(crate) fn cut(t: Trial, n: u64) -> Trial {
     with_len(t, len - fewer)
 }
 
-// Document 01's settings for the whole run and the fourteen accesses.
-fn base() -> Settings {
+// Document 01's settings for the whole run and the fourteen accesses, with so many sets.
+fn with_sets(sets: u64) -> Settings {
     Settings {
-        sets: 1,
+        sets: sets as usize,
         ways: 2,
         percent: 50,
         entries: 2,
@@ -100,7 +100,12 @@ fn make_fresh(longs: &mut [u64], words: &mut [u32], marks: &mut [u8]) {
     let l = scripts::least(8, longs.len());
     let w = scripts::least(32, words.len());
     let m = scripts::least(24, marks.len());
-    cache::fresh(base(), &mut longs[..l], &mut words[..w], &mut marks[..m]);
+    cache::fresh(
+        with_sets(1),
+        &mut longs[..l],
+        &mut words[..w],
+        &mut marks[..m],
+    );
 }
 
 // How the tables compare with the stale ones, and with those made fresh.
@@ -133,6 +138,30 @@ fn run_lent(
     let m = scripts::least(t.marks, marks.len());
     runner::run(
         stream,
+        &mut events[..e],
+        &mut longs[..l],
+        &mut words[..w],
+        &mut marks[..m],
+    )
+}
+
+// Goes on with the stream as a part, on as much of each slice as is lent.
+fn resume_lent(
+    t: Trial,
+    s: Settings,
+    part: &[u8],
+    events: &mut [u8],
+    longs: &mut [u64],
+    words: &mut [u32],
+    marks: &mut [u8],
+) -> Ran {
+    let e = scripts::least(t.room, events.len());
+    let l = scripts::least(t.longs, longs.len());
+    let w = scripts::least(t.words, words.len());
+    let m = scripts::least(t.marks, marks.len());
+    runner::resume(
+        s,
+        part,
         &mut events[..e],
         &mut longs[..l],
         &mut words[..w],
@@ -199,13 +228,60 @@ fn put_events(events: &[u8], out: &mut [u8], at: usize) -> usize {
     text::put_text(b"\n", out, end)
 }
 
-// Runs the stream on stale tables, and prints how it stops and what it leaves.
+// How a run stops and what it leaves.
+fn print(ran: Ran, events: &[u8], longs: &[u64], words: &[u32], marks: &[u8]) {
+    let mut out = [0u8; 1024];
+    let written = ran.written;
+    let a = put_ran(ran, &mut out);
+    let b = put_left(left_in(longs, words, marks), &mut out, a);
+    let c = put_beyond(events, written, &mut out, b);
+    let d = put_events(text::front(events, written), &mut out, c);
+    io::write_all(STDOUT_FILENO, text::front(&out, d));
+}
+
+// Goes on with the stream as a part, on fresh tables.
+pub(crate) fn on_resume(t: Trial, sets: u64, stream: &[u8]) {
+    let mut longs = [9u64; 16];
+    let mut words = [9u32; 64];
+    let mut marks = [9u8; 64];
+    let mut events = [0xEEu8; 256];
+    make_fresh(&mut longs, &mut words, &mut marks);
+    let ran = resume_lent(
+        t,
+        with_sets(sets),
+        text::front(stream, t.len),
+        &mut events,
+        &mut longs,
+        &mut words,
+        &mut marks,
+    );
+    print(ran, &events, &longs, &words, &marks);
+}
+
+// Goes on with it on stale tables.
+pub(crate) fn on_stale(t: Trial, sets: u64, stream: &[u8]) {
+    let mut longs = [9u64; 16];
+    let mut words = [9u32; 64];
+    let mut marks = [9u8; 64];
+    let mut events = [0xEEu8; 256];
+    let ran = resume_lent(
+        t,
+        with_sets(sets),
+        text::front(stream, t.len),
+        &mut events,
+        &mut longs,
+        &mut words,
+        &mut marks,
+    );
+    print(ran, &events, &longs, &words, &marks);
+}
+
+// Runs the stream on stale tables.
 pub(crate) fn on_run(t: Trial, stream: &[u8]) {
     let mut longs = [9u64; 16];
     let mut words = [9u32; 64];
     let mut marks = [9u8; 64];
     let mut events = [0xEEu8; 256];
-    let mut out = [0u8; 1024];
     let ran = run_lent(
         t,
         text::front(stream, t.len),
@@ -214,10 +290,5 @@ pub(crate) fn on_run(t: Trial, stream: &[u8]) {
         &mut words,
         &mut marks,
     );
-    let written = ran.written;
-    let a = put_ran(ran, &mut out);
-    let b = put_left(left_in(&longs, &words, &marks), &mut out, a);
-    let c = put_beyond(&events, written, &mut out, b);
-    let d = put_events(text::front(&events, written), &mut out, c);
-    io::write_all(STDOUT_FILENO, text::front(&out, d));
+    print(ran, &events, &longs, &words, &marks);
 }

@@ -216,21 +216,46 @@ impl Stream {
         Stream { name: name.to_string(), bytes: Vec::new(), lengths, room: 256 }
     }
 
-    fn run(&self) {
+    fn stale(&self) -> Tables {
         let [longs, words, marks] = self.lengths;
-        let before = Tables {
+        Tables {
             longs: vec![STALE; longs],
             words: vec![STALE as u32; words],
             marks: vec![STALE as u8; marks],
-        };
-        let mut tables = before.clone();
+        }
+    }
+
+    fn run(&self) {
+        let mut tables = self.stale();
         let mut room = vec![BLANK; self.room];
-        let runner::Stopped { number, consumed, written } =
-            runner::run(&self.bytes, &mut tables, &mut room);
+        let stopped = runner::run(&self.bytes, &mut tables, &mut room);
+        self.print(stopped, &tables, &room);
+    }
+
+    /// A part that goes on from these tables, where they have the lengths that are lent.
+    fn resume(&self, sets: u64, from: Tables) {
+        let mut tables = self.stale();
+        let cut = |a: usize, b: usize| a.min(b);
+        let [l, w, m] = [
+            cut(tables.longs.len(), from.longs.len()),
+            cut(tables.words.len(), from.words.len()),
+            cut(tables.marks.len(), from.marks.len()),
+        ];
+        tables.longs[..l].copy_from_slice(&from.longs[..l]);
+        tables.words[..w].copy_from_slice(&from.words[..w]);
+        tables.marks[..m].copy_from_slice(&from.marks[..m]);
+        let mut room = vec![BLANK; self.room];
+        let settings = Settings { sets: sets as u32, ..USUAL };
+        let stopped = runner::resume(&settings, &self.bytes, &mut tables, &mut room);
+        self.print(stopped, &tables, &room);
+    }
+
+    fn print(&self, stopped: runner::Stopped, tables: &Tables, room: &[u8]) {
+        let runner::Stopped { number, consumed, written } = stopped;
         assert!(room[written..].iter().all(|&byte| byte == BLANK));
-        let left = if tables == before {
+        let left = if *tables == self.stale() {
             "unchanged"
-        } else if tables == Tables::fresh(&USUAL) {
+        } else if *tables == Tables::fresh(&USUAL) {
             "fresh"
         } else {
             "as run"
@@ -256,6 +281,8 @@ impl Stream {
             "room" => self.room = line.numbers[0] as usize,
             "lengths" => self.lengths = line.lengths(),
             "run" => self.run(),
+            "resume" => self.resume(line.numbers[0], Tables::fresh(&USUAL)),
+            "stale" => self.resume(line.numbers[0], self.stale()),
             _ => self.bytes.extend(call_record(&line.call().expect("a line of the script"))),
         }
     }
