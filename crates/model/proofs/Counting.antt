@@ -10,10 +10,7 @@ use lib.ListN.{length, getD, set}
 use Rattle.model.specs.Words.{pick, any, count, one}
 use Rattle.model.proofs.Flags.{flag, clash}
 use Rattle.model.proofs.Lists.{In, any-in, count-in, none-count}
-
-counts : (b : Bool) (n : ℕ) → pick b (suc n) n ≡ one b + n
-counts true n = omega arith
-counts false n = omega arith
+use Rattle.model.proofs.Tabled.{pick-one}
 
 one-most : (b : Bool) → one b ≤ 1
 one-most true = omega arith
@@ -24,22 +21,22 @@ module _ {A : Type 0} where
     -- element n becomes v
     pub count-set : (l : List A) (n : ℕ) (v d : A) → n < length l → count p (set l n v) + one (p (getD l n d)) ≡ count p l + one (p v)
     count-set [] n v d h = absurd (not-suc-le-zero h)
-    count-set (x ∷ l) zero v d h = omega (arith, counts (p v) (count p l), counts (p x) (count p l))
+    count-set (x ∷ l) zero v d h = omega (arith, pick-one (p v) (count p l), pick-one (p x) (count p l))
     count-set (x ∷ l) (suc n) v d h =
-        omega (arith, counts (p x) (count p (set l n v)), counts (p x) (count p l), count-set l n v d (le-of-suc-le-suc h))
+        omega (arith, pick-one (p x) (count p (set l n v)), pick-one (p x) (count p l), count-set l n v d (le-of-suc-le-suc h))
 
     pub recount : (l : List A) (n : ℕ) (v d : A) → n < length l → {c : ℕ} → c ≡ count p l → c + one (p v) - one (p (getD l n d)) ≡ count p (set l n v)
     recount l n v d h e = omega (arith, count-set l n v d h)
 
     pub count-length : (l : List A) → count p l ≤ length l
     count-length [] = omega arith
-    count-length (x ∷ l) = omega (arith, counts (p x) (count p l), one-most (p x), count-length l)
+    count-length (x ∷ l) = omega (arith, pick-one (p x) (count p l), one-most (p x), count-length l)
 
     -- an element that passes is counted
     pub one-counted : (l : List A) (n : ℕ) (d : A) → n < length l → one (p (getD l n d)) ≤ count p l
     one-counted [] n d h = absurd (not-suc-le-zero h)
-    one-counted (x ∷ l) zero d h = omega (arith, counts (p x) (count p l))
-    one-counted (x ∷ l) (suc n) d h = omega (arith, counts (p x) (count p l), one-counted l n d (le-of-suc-le-suc h))
+    one-counted (x ∷ l) zero d h = omega (arith, pick-one (p x) (count p l))
+    one-counted (x ∷ l) (suc n) d h = omega (arith, pick-one (p x) (count p l), one-counted l n d (le-of-suc-le-suc h))
 
     -- those that the map makes pass are added
     pub count-gains : (f : A → A) (l : List A) → ((x : A) → In x l → p x ≡ true → p (f x) ≡ true)

@@ -32,7 +32,7 @@ count-first : (n : ℕ) (p : ℕ → Bool) → countBelow (suc n) p ≡ one (p 0
 count-first zero p = omega arith
 count-first (suc n) p = omega (arith, count-first n p)
 
-pick-one : (b : Bool) (n : ℕ) → pick b (suc n) n ≡ one b + n
+pub pick-one : (b : Bool) (n : ℕ) → pick b (suc n) n ≡ one b + n
 pick-one true n = omega arith
 pick-one false n = omega arith
 
