@@ -154,12 +154,12 @@ module _ (S : Settings) {longs words marks : List ℕ} (x : Access) (d : Decisio
   misses-written ls k L₁ L₂ h (Joins i n) e g q =
       let w = subst (Means S x p t) (sym e) (course-means S x p t) in
       let j = join-one (w .0 .merges) i (w .1) (ticketOf x) in
-      let few : length (t .misses) ≤ S .entries = leb-true (length (t .misses)) (S .entries) (ok .few) in
+      let few : length (t .misses) ≤ S .misses = leb-true (length (t .misses)) (S .misses) (ok .few) in
       rw (q, misses-join x (p .answer) (t .misses) (w .0 .merges), j .1)
       (append-stands S (withDirtyCount k (withLines ls t)) h pl few i (j .0) (ticketOf x) n (w .2) (w .3) (refl, refl))
   misses-written ls k L₁ L₂ h (Starts i) e g q =
       let w = subst (Means S x p t) (sym e) (course-means S x p t) in
-      let few : length (t .misses) ≤ S .entries = leb-true (length (t .misses)) (S .entries) (ok .few) in
+      let few : length (t .misses) ≤ S .misses = leb-true (length (t .misses)) (S .misses) (ok .few) in
       rw (q, misses-start x (p .answer) (t .misses) (w .0 .merges) (w .0 .misses refl))
       (new-entry-stands S (withDirtyCount k (withLines ls t)) h pl few (addressOf x) (ticketOf x) i (w .1) (w .2) (readers-some S (m .is .range)) (refl, refl, refl))
 
@@ -174,7 +174,7 @@ module _ (S : Settings) {longs words marks : List ℕ} (x : Access) (d : Decisio
       go (inr j) = queued-parts [] y (all-in (queuedOk []) (p .backs) (spot .backed []) j) .0
 
   entries-written : (xs : List Queued) → ((y : Queued) → In y xs → length (y .masks) ≡ 4) → (u : Tables) (L : Lent) (n : ℕ)
-      → Stands S (L .longs) (L .words) (L .marks) u → n ≡ length (u .queue) → length (u .queue) + length xs ≤ S .places
+      → Stands S (L .longs) (L .words) (L .marks) u → n ≡ length (u .queue) → length (u .queue) + length xs ≤ S .queue
       → Stands S (queueWritten place n xs L .longs) (queueWritten place n xs L .words) (queueWritten place n xs L .marks) (withQueue (u .queue ++ xs) u)
   entries-written [] four u L n h e r = rw (append-nil (u .queue)) h
   entries-written (y ∷ ys) four u L n h e r =
@@ -186,7 +186,7 @@ module _ (S : Settings) {longs words marks : List ℕ} (x : Access) (d : Decisio
       rw (append-assoc (u .queue) (y ∷ []) ys) at w
 
   pub queue-written : (u : Tables) → u .queue ≡ t .queue → (L₂ : Lent) {L₃ : Lent} {n : ℕ} → Stands S (L₂ .longs) (L₂ .words) (L₂ .marks) u
-      → n ≡ length (t .queue) → length (t .queue) + placesNeeded x p ≤ S .places → L₃ ≡ queueWritten place n (queues x p) L₂
+      → n ≡ length (t .queue) → length (t .queue) + placesNeeded x p ≤ S .queue → L₃ ≡ queueWritten place n (queues x p) L₂
       → Stands S (L₃ .longs) (L₃ .words) (L₃ .marks) (withQueue (t .queue ++ queues x p) u)
   queue-written u same L₂ {n = n} h e room q = rw (q, ← same) (entries-written (queues x p) four-masks u L₂ n h (e ∙ ap length (sym same)) (rw (ap length same) room))
 

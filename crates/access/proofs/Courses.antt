@@ -69,8 +69,8 @@ module _ (S : Settings) {L : Lent} (x : Access) (d : Decision) (t : Tables) (p :
   pub answer-is : p .answer ≡ d .answer
   answer-is = shows .answer
 
-  pub few-queued : length (t .queue) ≤ S .places
-  few-queued = leb-true (length (t .queue)) (S .places) (parts S t (m .is .soundly) .short)
+  pub few-queued : length (t .queue) ≤ S .queue
+  few-queued = leb-true (length (t .queue)) (S .queue) (parts S t (m .is .soundly) .short)
 
   pub queues-are : queues x p ≡ queuesOf x d
   queues-are = rw (shows .backs, answer-is) (ap (λ (l : List Queued). l ++ backsOf d) (fetches-are x (d .answer)))
@@ -84,23 +84,23 @@ module _ (S : Settings) {L : Lent} (x : Access) (d : Decision) (t : Tables) (p :
     needed : n ≡ placesNeeded x p
     needed = asked ∙ sym needed-is
 
-    pub course-full : S .places < q + n → Refused QueueFull ≡ courseOf S x p t
-    course-full h = rw (← counted, ← needed, answer-is, lt-ltb (S .places) (q + n) h)
+    pub course-full : S .queue < q + n → Refused QueueFull ≡ courseOf S x p t
+    course-full h = rw (← counted, ← needed, answer-is, lt-ltb (S .queue) (q + n) h)
 
-    module _ (room : q + n ≤ S .places) where
+    module _ (room : q + n ≤ S .queue) where
       pub course-write : isRead x ≡ false → Stays ≡ courseOf S x p t
-      course-write r = rw (← counted, ← needed, answer-is, le-ltb (S .places) (q + n) room, r)
+      course-write r = rw (← counted, ← needed, answer-is, le-ltb (S .queue) (q + n) room, r)
 
       module _ (reads : isRead x ≡ true) where
         pub course-join : isMerge (d .answer) ≡ true → {r : Course} → r ≡ joining S (entryIndex (addressOf x) (t .misses)) (ticketsAt (entryIndex (addressOf x) (t .misses)) (t .misses)) → r ≡ courseOf S x p t
-        course-join merges e = e ∙ rw (← counted, ← needed, answer-is, le-ltb (S .places) (q + n) room, reads, merges)
+        course-join merges e = e ∙ rw (← counted, ← needed, answer-is, le-ltb (S .queue) (q + n) room, reads, merges)
 
         module _ (other : isMerge (d .answer) ≡ false) where
           pub course-start : isMiss (d .answer) ≡ true → {r : Course} → r ≡ starting S (length (t .misses)) → r ≡ courseOf S x p t
-          course-start misses e = e ∙ rw (← counted, ← needed, answer-is, le-ltb (S .places) (q + n) room, reads, misses, other)
+          course-start misses e = e ∙ rw (← counted, ← needed, answer-is, le-ltb (S .queue) (q + n) room, reads, misses, other)
 
           pub course-hit : isMiss (d .answer) ≡ false → Stays ≡ courseOf S x p t
-          course-hit hits = rw (← counted, ← needed, answer-is, le-ltb (S .places) (q + n) room, reads, hits, other)
+          course-hit hits = rw (← counted, ← needed, answer-is, le-ltb (S .queue) (q + n) room, reads, hits, other)
 
   pub merge-entered : isMerge (d .answer) ≡ true → any (entryFor (addressOf x)) (t .misses) ≡ true
   merge-entered h = merged-entry S (m .is .range) t (parts S t (m .is .soundly)) x (m .formed) p (m .probed) (ap isMerge answer-is ∙ h)

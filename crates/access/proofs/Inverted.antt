@@ -20,7 +20,7 @@ use Rattle.access.specs.declared.course.Course.the-variants.{Refused, St
 
 -- the tests behind a course that is not refused
 pub record Tested (S : Settings) (x : Access) (p : Spot) (t : Tables) (merge miss : Bool) : Type 0 where
-  pub roomy : length (t .queue) + placesNeeded x p ≤ S .places
+  pub roomy : length (t .queue) + placesNeeded x p ≤ S .queue
   pub merges : (isRead x && isMerge (p .answer)) ≡ merge
   pub misses : merge ≡ false → (isRead x && isMiss (p .answer)) ≡ miss
 
@@ -30,34 +30,34 @@ module _ (S : Settings) (x : Access) (p : Spot) (t : Tables) where
   Means (Refused n) = Unit {0}
   Means Stays = Tested S x p t false false
   Means (Joins e n) = Tested S x p t true false × (e ≡ entryIndex (addressOf x) (t .misses)) × (n ≡ ticketsAt e (t .misses)) × (n < S .readers)
-  Means (Starts m) = Tested S x p t false true × (m ≡ length (t .misses)) × (m < S .entries)
+  Means (Starts m) = Tested S x p t false true × (m ≡ length (t .misses)) × (m < S .misses)
 
   pub course-means : Means (courseOf S x p t)
-  course-means = room (ltb (S .places) (length (t .queue) + placesNeeded x p)) refl
+  course-means = room (ltb (S .queue) (length (t .queue) + placesNeeded x p)) refl
     where
       joins : (b : Bool) → leb (S .readers) (ticketsAt (entryIndex (addressOf x) (t .misses)) (t .misses)) ≡ b → Tested S x p t true false
           → Means (pick b (Refused EntryFull) (Joins (entryIndex (addressOf x) (t .misses)) (ticketsAt (entryIndex (addressOf x) (t .misses)) (t .misses))))
       joins true e w = tt
       joins false e w = (w, refl, refl, leb-false (S .readers) (ticketsAt (entryIndex (addressOf x) (t .misses)) (t .misses)) e)
 
-      starts : (b : Bool) → leb (S .entries) (length (t .misses)) ≡ b → Tested S x p t false true → Means (pick b (Refused MissTableFull) (Starts (length (t .misses))))
+      starts : (b : Bool) → leb (S .misses) (length (t .misses)) ≡ b → Tested S x p t false true → Means (pick b (Refused MissTableFull) (Starts (length (t .misses))))
       starts true e w = tt
-      starts false e w = (w, refl, leb-false (S .entries) (length (t .misses)) e)
+      starts false e w = (w, refl, leb-false (S .misses) (length (t .misses)) e)
 
-      miss : (b : Bool) → (isRead x && isMiss (p .answer)) ≡ b → (isRead x && isMerge (p .answer)) ≡ false → length (t .queue) + placesNeeded x p ≤ S .places
+      miss : (b : Bool) → (isRead x && isMiss (p .answer)) ≡ b → (isRead x && isMerge (p .answer)) ≡ false → length (t .queue) + placesNeeded x p ≤ S .queue
           → Means (pick b (starting S (length (t .misses))) Stays)
-      miss true e f r = starts (leb (S .entries) (length (t .misses))) refl (record { roomy = r; merges = f; misses = λ z. e })
+      miss true e f r = starts (leb (S .misses) (length (t .misses))) refl (record { roomy = r; merges = f; misses = λ z. e })
       miss false e f r = record { roomy = r; merges = f; misses = λ z. e }
 
-      merge : (b : Bool) → (isRead x && isMerge (p .answer)) ≡ b → length (t .queue) + placesNeeded x p ≤ S .places
+      merge : (b : Bool) → (isRead x && isMerge (p .answer)) ≡ b → length (t .queue) + placesNeeded x p ≤ S .queue
           → Means (pick b (joining S (entryIndex (addressOf x) (t .misses)) (ticketsAt (entryIndex (addressOf x) (t .misses)) (t .misses))) (pick (isRead x && isMiss (p .answer)) (starting S (length (t .misses))) Stays))
       merge true e r =
           joins (leb (S .readers) (ticketsAt (entryIndex (addressOf x) (t .misses)) (t .misses))) refl
           (record { roomy = r; merges = e; misses = λ z. let w : _≡_ {A = ℕ} 0 1 = cc in absurd (omega arith) })
       merge false e r = miss (isRead x && isMiss (p .answer)) refl e r
 
-      room : (b : Bool) → ltb (S .places) (length (t .queue) + placesNeeded x p) ≡ b
+      room : (b : Bool) → ltb (S .queue) (length (t .queue) + placesNeeded x p) ≡ b
           → Means (pick b (Refused QueueFull) (pick (isRead x && isMerge (p .answer)) (joining S (entryIndex (addressOf x) (t .misses)) (ticketsAt (entryIndex (addressOf x) (t .misses)) (t .misses)))
           (pick (isRead x && isMiss (p .answer)) (starting S (length (t .misses))) Stays)))
       room true e = tt
-      room false e = merge (isRead x && isMerge (p .answer)) refl (ltb-false (S .places) (length (t .queue) + placesNeeded x p) e)
+      room false e = merge (isRead x && isMerge (p .answer)) refl (ltb-false (S .queue) (length (t .queue) + placesNeeded x p) e)

@@ -103,14 +103,14 @@ module _ (S : Settings) (range : inRange S ≡ true) (t : Tables) (ok : Sound S 
 
   pub course-is : proceed S x t (at p) ≡ following S x p t (courseOf S x p t)
   unfolding proceed
-  course-is = room (ltb (S .places) (length (t .queue) + placesNeeded x p))
+  course-is = room (ltb (S .queue) (length (t .queue) + placesNeeded x p))
     where
       start : (b : Bool) → pick b (refused MissTableFull) (accept S x p t) ≡ following S x p t (pick b (Refused MissTableFull) (Starts (length (t .misses))))
       start true = refl
       start false = refl
 
-      starts : (b : Bool) → pick (b && leb (S .entries) (length (t .misses))) (refused MissTableFull) (accept S x p t) ≡ following S x p t (pick b (starting S (length (t .misses))) Stays)
-      starts true = start (leb (S .entries) (length (t .misses)))
+      starts : (b : Bool) → pick (b && leb (S .misses) (length (t .misses))) (refused MissTableFull) (accept S x p t) ≡ following S x p t (pick b (starting S (length (t .misses))) Stays)
+      starts true = start (leb (S .misses) (length (t .misses)))
       starts false = refl
 
       joins : (b : Bool) → pick b (refused EntryFull) (accept S x p t)
@@ -119,7 +119,7 @@ module _ (S : Settings) (range : inRange S ≡ true) (t : Tables) (ok : Sound S 
       joins false = refl
 
       merge : (r m : Bool) → isRead x ≡ r → isMerge (p .answer) ≡ m
-          → pick ((r && m) && any (entryFull S (addressOf x)) (t .misses)) (refused EntryFull) (pick ((r && isMiss (p .answer)) && leb (S .entries) (length (t .misses))) (refused MissTableFull) (accept S x p t))
+          → pick ((r && m) && any (entryFull S (addressOf x)) (t .misses)) (refused EntryFull) (pick ((r && isMiss (p .answer)) && leb (S .misses) (length (t .misses))) (refused MissTableFull) (accept S x p t))
           ≡ following S x p t (pick (r && m) (joining S (entryIndex (addressOf x) (t .misses)) (ticketsAt (entryIndex (addressOf x) (t .misses)) (t .misses))) (pick (r && isMiss (p .answer)) (starting S (length (t .misses))) Stays))
       merge false m e f = refl
       merge true false e f = starts (isMiss (p .answer))
@@ -130,7 +130,7 @@ module _ (S : Settings) (range : inRange S ≡ true) (t : Tables) (ok : Sound S 
 
       room : (b : Bool)
           → pick b (refused QueueFull) (pick ((isRead x && isMerge (p .answer)) && any (entryFull S (addressOf x)) (t .misses)) (refused EntryFull)
-          (pick ((isRead x && isMiss (p .answer)) && leb (S .entries) (length (t .misses))) (refused MissTableFull) (accept S x p t)))
+          (pick ((isRead x && isMiss (p .answer)) && leb (S .misses) (length (t .misses))) (refused MissTableFull) (accept S x p t)))
           ≡ following S x p t (pick b (Refused QueueFull) (pick (isRead x && isMerge (p .answer)) (joining S (entryIndex (addressOf x) (t .misses)) (ticketsAt (entryIndex (addressOf x) (t .misses)) (t .misses)))
           (pick (isRead x && isMiss (p .answer)) (starting S (length (t .misses))) Stays)))
       room true = refl
@@ -142,18 +142,18 @@ module _ (S : Settings) {longs words marks : List ℕ} (t : Tables) (is : Is S (
   ok : Sound S t
   ok = parts S t (is .soundly)
 
-  few : length (t .misses) ≤ S .entries
-  few = leb-true (length (t .misses)) (S .entries) (ok .few)
+  few : length (t .misses) ≤ S .misses
+  few = leb-true (length (t .misses)) (S .misses) (ok .few)
 
-  pub queue-counted : {n : ℕ} → First marks (place .kinds) (S .places) 0 n → n ≡ length (t .queue)
-  queue-counted f = queue-used S t (is-stands is) p (leb-true (length (t .queue)) (S .places) (ok .short)) f
+  pub queue-counted : {n : ℕ} → First marks (place .kinds) (S .queue) 0 n → n ≡ length (t .queue)
+  queue-counted f = queue-used S t (is-stands is) p (leb-true (length (t .queue)) (S .queue) (ok .short)) f
 
   some-tickets : (k : ℕ) → k < length (t .misses) → 1 ≤ length (getD (t .misses) k noEntry .tickets)
   some-tickets k h =
       leb-true 1 (length (getD (t .misses) k noEntry .tickets))
       (and-1 (leb 1 (length (getD (t .misses) k noEntry .tickets))) _ (entry-at S t ok (getD (t .misses) k noEntry) (in-getD (t .misses) k noEntry h) .readers))
 
-  pub misses-counted : {m : ℕ} → First marks (place .counts) (S .entries) 0 m → m ≡ length (t .misses)
+  pub misses-counted : {m : ℕ} → First marks (place .counts) (S .misses) 0 m → m ≡ length (t .misses)
   misses-counted f = misses-used S t (is-stands is) p few some-tickets f
 
   -- the search finds the one entry for the address
@@ -163,7 +163,7 @@ module _ (S : Settings) {longs words marks : List ℕ} (t : Tables) (is : Is S (
     pub index : e ≡ entryIndex a (t .misses)
     pub tickets : getD marks (place .counts + e) 0 ≡ ticketsAt e (t .misses)
 
-  pub found : (a : ℕ) {m e : ℕ} → any (entryFor a) (t .misses) ≡ true → First marks (place .counts) (S .entries) 0 m → First longs (place .misses) m a e → Found a m e
+  pub found : (a : ℕ) {m e : ℕ} → any (entryFor a) (t .misses) ≡ true → First marks (place .counts) (S .misses) 0 m → First longs (place .misses) m a e → Found a m e
   found a {m} {e} h f g =
       let all : m ≡ length (t .misses) = misses-counted f in
       let w = index-found a (t .misses) h in

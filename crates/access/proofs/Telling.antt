@@ -63,7 +63,7 @@ told-tidy x d = rw (two-back (queuesOf x d) (queues-few x d))
 
 -- ---- room for its writes
 
-tested : (S : Settings) (x : Access) (p : Spot) (t : Tables) (c : Course) → Means S x p t c → goes c ≡ true → length (t .queue) + placesNeeded x p ≤ S .places
+tested : (S : Settings) (x : Access) (p : Spot) (t : Tables) (c : Course) → Means S x p t c → goes c ≡ true → length (t .queue) + placesNeeded x p ≤ S .queue
 tested S x p t (Refused n) w g = let z : _≡_ {A = ℕ} 0 1 = cc in absurd (omega arith)
 tested S x p t Stays w g = w .roomy
 tested S x p t (Joins e n) w g = w .0 .roomy
@@ -77,7 +77,7 @@ module _ (S : Settings) {longs words marks : List ℕ} (x : Access) (d : Decisio
   means : Means S x p t c
   means = subst (Means S x p t) (sym (a .planned)) (course-means S x p t)
 
-  roomy : length (t .queue) + placesNeeded x p ≤ S .places
+  roomy : length (t .queue) + placesNeeded x p ≤ S .queue
   roomy = tested S x p t c means (a .going)
 
   pub acts-fit : Fit S longs words marks
@@ -87,8 +87,8 @@ module _ (S : Settings) {longs words marks : List ℕ} (x : Access) (d : Decisio
       → MissRoom place (S .readers) c longs′ words′ marks′
   miss-room l w k e f g = go c means
     where
-      few : length (t .misses) ≤ S .entries
-      few = leb-true (length (t .misses)) (S .entries) (parts S t (m .is .soundly) .few)
+      few : length (t .misses) ≤ S .misses
+      few = leb-true (length (t .misses)) (S .misses) (parts S t (m .is .soundly) .few)
 
       go : (c : Course) → Means S x p t c → MissRoom place (S .readers) c l w k
       go (Refused r) z = tt
@@ -96,12 +96,12 @@ module _ (S : Settings) {longs words marks : List ℕ} (x : Access) (d : Decisio
       go (Joins i j) z =
           let h = acts-fit in
           let inside : i < length (t .misses) = join-inside S x d t p m i (z .0 .merges) (z .1) in
-          let b : S .readers * suc i ≤ S .readers * S .entries = mul-le-mul-left (S .readers) (le-trans inside few) in
+          let b : S .readers * suc i ≤ S .readers * S .misses = mul-le-mul-left (S .readers) (le-trans inside few) in
           let s = mul-suc (S .readers) i in
           (omega (arith, z .3), omega (arith, z .3), omega (arith, few))
       go (Starts i) z =
           let h = acts-fit in
-          let b : S .readers * suc i ≤ S .readers * S .entries = mul-le-mul-left (S .readers) (z .2) in
+          let b : S .readers * suc i ≤ S .readers * S .misses = mul-le-mul-left (S .readers) (z .2) in
           let s = mul-suc (S .readers) i in
           (omega (arith, z .2), omega arith, omega (arith, z .2))
 
@@ -112,7 +112,7 @@ module _ (S : Settings) {longs words marks : List ℕ} (x : Access) (d : Decisio
       let few : length (queuesOf x d) ≤ 2 = queues-few x d in
       let told : r .queues ≡ length (queuesOf x d) = ap (λ (z : Told). z .queues) tells in
       let needs : placesNeeded x p ≡ length (queuesOf x d) = ap length (queues-are S x d t p m) in
-      let b : n + r .queues ≤ S .places = omega (arith, roomy, a .counted) in
+      let b : n + r .queues ≤ S .queue = omega (arith, roomy, a .counted) in
       (omega arith, (omega arith, omega arith, omega arith))
 
   -- ---- what it leaves

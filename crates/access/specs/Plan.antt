@@ -41,11 +41,11 @@ joining S e n = pick (leb (S .readers) n) (Refused EntryFull) (Joins e n)
 
 -- a new entry behind m others, if one more fits
 abbrev pub starting : Settings → ℕ → Course
-starting S m = pick (leb (S .entries) m) (Refused MissTableFull) (Starts m)
+starting S m = pick (leb (S .misses) m) (Refused MissTableFull) (Starts m)
 
 abbrev pub courseOf : Settings → Access → Spot → Tables → Course
 courseOf S x p t =
-    pick (ltb (S .places) (length (t .queue) + placesNeeded x p)) (Refused QueueFull)
+    pick (ltb (S .queue) (length (t .queue) + placesNeeded x p)) (Refused QueueFull)
     (pick (isRead x && isMerge (p .answer)) (joining S (entryIndex (addressOf x) (t .misses)) (ticketsAt (entryIndex (addressOf x) (t .misses)) (t .misses)))
     (pick (isRead x && isMiss (p .answer)) (starting S (length (t .misses))) Stays))
 

@@ -54,7 +54,7 @@ fn join_course(
     requires { ⌜ Placed s at × Entered s (lent (now longs) (now words) (now marks)) (address .0) ⌝ }
     ensures { λ r. ⌜ Joining s (lent (now (longs .entry)) (now (words .entry)) (now (marks .entry))) (address .0) r ⌝ }
 {
-    let m = layout::used(marks, at.counts, s.entries);
+    let m = layout::used(marks, at.counts, s.misses);
     let e = tables::find_entry(longs, at.misses, m, address);
     let n = marks[at.counts + e] as usize;
     if s.readers <= n {
@@ -68,8 +68,8 @@ fn start_course(s: Settings, at: Layout, longs: &[u64], words: &[u32], marks: &[
     requires { ⌜ Placed s at × Held s (lent (now longs) (now words) (now marks)) ⌝ }
     ensures { λ r. ⌜ Starting s (lent (now (longs .entry)) (now (words .entry)) (now (marks .entry))) r ⌝ }
 {
-    let m = layout::used(marks, at.counts, s.entries);
-    if s.entries <= m {
+    let m = layout::used(marks, at.counts, s.misses);
+    if s.misses <= m {
         return Course::Refused(Refusal::MissTableFull);
     }
     Course::Starts(m)
@@ -90,7 +90,7 @@ pub(crate) fn course_of(
     ensures { λ r. ⌜ Planned s (lent (now (longs .entry)) (now (words .entry)) (now (marks .entry))) x d r ⌝ }
 {
     let a = d.answer;
-    if s.places < queued + places_needed(x, a, d.backs) {
+    if s.queue < queued + places_needed(x, a, d.backs) {
         return Course::Refused(Refusal::QueueFull);
     }
     if !is_read(x) {

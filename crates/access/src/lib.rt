@@ -88,7 +88,7 @@ fn offer(
     ensures { λ r. ⌜ Offered s (lent (now (longs .entry)) (now (words .entry)) (now (marks .entry))) x d r
         (lent (now (longs .exit)) (now (words .exit)) (now (marks .exit))) ⌝ }
 {
-    let queued = layout::used(marks, at.kinds, s.places);
+    let queued = layout::used(marks, at.kinds, s.queue);
     let course = course_of(s, at, longs, words, marks, x, d, queued);
     if going(course) {
         return act(s, at, longs, words, marks, x, d, queued, course);

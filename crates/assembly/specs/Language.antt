@@ -66,18 +66,18 @@ whole s at c = pick (endsAt s at) (line.Command c) (line.Bad expected.End)
 
 -- the last three settings, behind the first three
 unfoldable pub buffersFrom : List ℕ → ℕ → ℕ → ℕ → ℕ → Line
-buffersFrom s at sets ways percent =
-    andThen expected.Misses (fieldNext missesWord most8 s at) (λ entries a.
+buffersFrom s at sets ways dirty =
+    andThen expected.Misses (fieldNext missesWord most8 s at) (λ misses a.
     andThen expected.Readers (fieldNext readersWord most8 s a) (λ readers b.
-    andThen expected.Queue (fieldNext queueWord most8 s b) (λ places c.
-    whole s c (cmd.Settings sets ways percent entries readers places))))
+    andThen expected.Queue (fieldNext queueWord most8 s b) (λ queue c.
+    whole s c (cmd.Settings sets ways dirty misses readers queue))))
 
 unfoldable pub settingsFrom : List ℕ → ℕ → Line
 settingsFrom s at =
     andThen expected.Sets (fieldNext setsWord most16 s at) (λ sets a.
     andThen expected.Ways (fieldNext waysWord most8 s a) (λ ways b.
-    andThen expected.Dirty (fieldNext dirtyWord most8 s b) (λ percent c.
-    buffersFrom s c sets ways percent)))
+    andThen expected.Dirty (fieldNext dirtyWord most8 s b) (λ dirty c.
+    buffersFrom s c sets ways dirty)))
 
 unfoldable pub readFrom : List ℕ → ℕ → Line
 readFrom s at =

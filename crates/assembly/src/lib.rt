@@ -90,11 +90,11 @@ fn ended(line: &[u8], at: usize, c: Command) -> Line
 }
 
 // The last three settings, behind the first three.
-fn buffers_line(line: &[u8], at: usize, sets: u16, ways: u8, percent: u8) -> Line
-    ensures { λ r. ⌜ r ≡ buffersFrom (now (line .entry)) at sets ways percent ⌝ }
+fn buffers_line(line: &[u8], at: usize, sets: u16, ways: u8, dirty: u8) -> Line
+    ensures { λ r. ⌜ r ≡ buffersFrom (now (line .entry)) at sets ways dirty ⌝ }
 {
     let Field::Got {
-        value: entries,
+        value: misses,
         next: a,
     } = field_next(line, at, b"misses", 0xff)
     else {
@@ -108,7 +108,7 @@ fn buffers_line(line: &[u8], at: usize, sets: u16, ways: u8, percent: u8) -> Lin
         return Line::Bad(Expected::Readers);
     };
     let Field::Got {
-        value: places,
+        value: queue,
         next: c,
     } = field_next(line, b, b"queue", 0xff)
     else {
@@ -117,10 +117,10 @@ fn buffers_line(line: &[u8], at: usize, sets: u16, ways: u8, percent: u8) -> Lin
     let settings = Command::Settings {
         sets,
         ways,
-        percent,
-        entries: entries as u8,
+        dirty,
+        misses: misses as u8,
         readers: readers as u8,
-        places: places as u8,
+        queue: queue as u8,
     };
     ended(line, c, settings)
 }
@@ -143,13 +143,13 @@ fn settings_line(line: &[u8], at: usize) -> Line
         return Line::Bad(Expected::Ways);
     };
     let Field::Got {
-        value: percent,
+        value: dirty,
         next: c,
     } = field_next(line, b, b"dirty", 0xff)
     else {
         return Line::Bad(Expected::Dirty);
     };
-    buffers_line(line, c, sets as u16, ways as u8, percent as u8)
+    buffers_line(line, c, sets as u16, ways as u8, dirty as u8)
 }
 
 fn read_line(line: &[u8], at: usize) -> Line

@@ -31,10 +31,10 @@ pub(crate) fn empty_bench() -> Bench {
     let settings = Settings {
         sets: 0,
         ways: 0,
-        percent: 0,
-        entries: 0,
+        dirty: 0,
+        misses: 0,
         readers: 0,
-        places: 0,
+        queue: 0,
     };
     Bench {
         settings,
@@ -82,10 +82,10 @@ pub(crate) fn deed_of(c: Command) -> Deed {
         Command::Settings {
             sets: _,
             ways: _,
-            percent: _,
-            entries: _,
+            dirty: _,
+            misses: _,
             readers: _,
-            places: _,
+            queue: _,
         } => Deed::Fresh,
         Command::Read { address, ticket } => Deed::Read { address, ticket },
         Command::Write { address, mask } => Deed::Write { address, mask },
@@ -100,10 +100,10 @@ pub(crate) fn set_up(c: Command, b: Bench) -> Bench {
     let Command::Settings {
         sets,
         ways,
-        percent,
-        entries,
+        dirty,
+        misses,
         readers,
-        places,
+        queue,
     } = c
     else {
         return b;
@@ -111,10 +111,10 @@ pub(crate) fn set_up(c: Command, b: Bench) -> Bench {
     let s = Settings {
         sets: sets as usize,
         ways: ways as usize,
-        percent: percent as usize,
-        entries: entries as usize,
+        dirty: dirty as usize,
+        misses: misses as usize,
         readers: readers as usize,
-        places: places as usize,
+        queue: queue as usize,
     };
     with_settings(b, s)
 }

@@ -27,7 +27,7 @@ use Rattle.rounds.specs.declared.Waiting.the-variants as waiting
 
 -- by its places, in the order of the table of settings: sets, ways, dirty, misses, readers, queue
 abbrev pub numbered : List ℕ → Settings
-numbered l = record { sets = getD l 0 0; ways = getD l 1 0; percent = getD l 2 0; entries = getD l 3 0; readers = getD l 4 0; places = getD l 5 0 }
+numbered l = record { sets = getD l 0 0; ways = getD l 1 0; dirty = getD l 2 0; misses = getD l 3 0; readers = getD l 4 0; queue = getD l 5 0 }
 
 -- how many numbers may be lent. A setting that is added later comes last: its number joins this one, and `getD` gives a slice without it its
 -- older default

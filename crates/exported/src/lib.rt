@@ -45,19 +45,19 @@ pub(crate) fn settings_from(settings: &[u32]) -> Settings
         return Settings {
             sets: 0,
             ways: 0,
-            percent: 0,
-            entries: 0,
+            dirty: 0,
+            misses: 0,
             readers: 0,
-            places: 0,
+            queue: 0,
         };
     }
     Settings {
         sets: number(settings, 0),
         ways: number(settings, 1),
-        percent: number(settings, 2),
-        entries: number(settings, 3),
+        dirty: number(settings, 2),
+        misses: number(settings, 3),
         readers: number(settings, 4),
-        places: number(settings, 5),
+        queue: number(settings, 5),
     }
 }
 

@@ -95,24 +95,24 @@ module _ (S : Settings) where
   fresh-longs : joined (longBlocks S (start S)) ≡ zeros (longsLength S)
   unfolding fit
   fresh-longs =
-      let k : 1 * n + (1 * S .entries + 1 * S .places) ≡ longsLength S = omega arith in
-      rw (even-places tagOf 1 fresh 0 n refl, no-places missOf 1 (S .entries), no-places queuedOf 1 (S .places), append-nil, replicate-append-replicate, replicate-append-replicate)
+      let k : 1 * n + (1 * S .misses + 1 * S .queue) ≡ longsLength S = omega arith in
+      rw (even-places tagOf 1 fresh 0 n refl, no-places missOf 1 (S .misses), no-places queuedOf 1 (S .queue), append-nil, replicate-append-replicate, replicate-append-replicate)
       (as-many 0 k)
 
   fresh-words : joined (wordBlocks S (start S)) ≡ zeros (wordsLength S)
   unfolding fit
   fresh-words =
-      let k : suc (1 * n + (4 * n + (S .readers * S .entries + (4 * S .places + 1)))) ≡ wordsLength S = omega arith in
-      let last : zeros (4 * S .places) ++ (0 ∷ []) ≡ zeros (4 * S .places + 1) = replicate-append-replicate (4 * S .places) 1 0 in
-      rw (even-places cycleOf 1 fresh 0 n refl, even-places masksOf 4 fresh 0 n refl, no-places ticketsIn (S .readers) (S .entries), no-places queueMasksOf 4 (S .places), last, replicate-append-replicate, replicate-append-replicate, replicate-append-replicate)
+      let k : suc (1 * n + (4 * n + (S .readers * S .misses + (4 * S .queue + 1)))) ≡ wordsLength S = omega arith in
+      let last : zeros (4 * S .queue) ++ (0 ∷ []) ≡ zeros (4 * S .queue + 1) = replicate-append-replicate (4 * S .queue) 1 0 in
+      rw (even-places cycleOf 1 fresh 0 n refl, even-places masksOf 4 fresh 0 n refl, no-places ticketsIn (S .readers) (S .misses), no-places queueMasksOf 4 (S .queue), last, replicate-append-replicate, replicate-append-replicate, replicate-append-replicate)
       (as-many 0 k)
 
   fresh-marks : joined (markBlocks S (start S)) ≡ put (zeros (marksLength S)) (4 * n) (replicate (4 * n) 1)
   unfolding fit
   fresh-marks =
-      let m = 1 * S .entries + (1 * S .entries + 1 * S .places) in
+      let m = 1 * S .misses + (1 * S .misses + 1 * S .queue) in
       let k : marksLength S ≡ 4 * n + (4 * n + m) = omega arith in
-      rw (even-places statusesOf 4 fresh 0 n refl, even-places readablesOf 4 fresh 1 n refl, no-places sentOf 1 (S .entries), no-places ticketCountOf 1 (S .entries), no-places kindOf 1 (S .places), append-nil, replicate-append-replicate, replicate-append-replicate)
+      rw (even-places statusesOf 4 fresh 0 n refl, even-places readablesOf 4 fresh 1 n refl, no-places sentOf 1 (S .misses), no-places ticketCountOf 1 (S .misses), no-places kindOf 1 (S .queue), append-nil, replicate-append-replicate, replicate-append-replicate)
       (sym (ap (λ (j : ℕ). put (zeros j) (4 * n) (replicate (4 * n) 1)) k ∙ put-between (4 * n) m 1))
 
 -- what `make_fresh` leaves

@@ -57,12 +57,12 @@ module _ (S : Settings) (r : Bool) (power : r ≡ powerTo256 (S .sets)) where
         let w : leb (S .ways) 16 ≡ true = search (and-1, and-2) in
         mul-le-mul (power-most _ p) (leb-true _ _ w)
 
-    pub range-rest : (leb (linesOf S) 1024 && leb (S .percent) 100 && within 1 64 (S .entries) && within 1 8 (S .readers) && within 2 64 (S .places)) ≡ inRange S
+    pub range-rest : (leb (linesOf S) 1024 && leb (S .dirty) 100 && within 1 64 (S .misses) && within 1 8 (S .readers) && within 2 64 (S .queue)) ≡ inRange S
     unfolding inRange
     range-rest = rw yes
 
-pub tickets-most : (S : Settings) → inRange S ≡ true → S .readers * S .entries ≤ 8 * 64
-tickets-most S e = let a = ranged S e in mul-le-mul (a .readers) (a .entries)
+pub tickets-most : (S : Settings) → inRange S ≡ true → S .readers * S .misses ≤ 8 * 64
+tickets-most S e = let a = ranged S e in mul-le-mul (a .readers) (a .misses)
 
 -- no refusal 1 and no refusal 2
 pub lengths-fit : (S : Settings) (longs words marks : List ℕ) → inRange S ≡ true → lengthsFit S (lent longs words marks) ≡ true → Fit S longs words marks

@@ -47,18 +47,18 @@ pub fn laid_out(s: Settings) -> Layout
 {
     let lines = s.sets * s.ways;
     let tickets = 1 + 5 * lines;
-    let backs = tickets + s.readers * s.entries;
+    let backs = tickets + s.readers * s.misses;
     let sent = 8 * lines;
     Layout {
         misses: lines,
-        queue: lines + s.entries,
+        queue: lines + s.misses,
         masks: 1 + lines,
         tickets,
         backs,
-        dirty: backs + 4 * s.places,
+        dirty: backs + 4 * s.queue,
         readables: 4 * lines,
         sent,
-        counts: sent + s.entries,
-        kinds: sent + 2 * s.entries,
+        counts: sent + s.misses,
+        kinds: sent + 2 * s.misses,
     }
 }

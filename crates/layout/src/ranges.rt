@@ -30,31 +30,31 @@ pub fn in_range(s: Settings) -> bool
         return false;
     }
     (s.sets * s.ways <= 1024)
-        & (s.percent <= 100)
-        & ((1 <= s.entries) & (s.entries <= 64))
+        & (s.dirty <= 100)
+        & ((1 <= s.misses) & (s.misses <= 64))
         & ((1 <= s.readers) & (s.readers <= 8))
-        & ((2 <= s.places) & (s.places <= 64))
+        & ((2 <= s.queue) & (s.queue <= 64))
 }
 
 pub fn longs_length(s: Settings) -> usize
     requires { ⌜ inRange s ≡ true ⌝ }
     ensures { λ r. ⌜ r ≡ longsLength s ⌝ }
 {
-    s.sets * s.ways + s.entries + s.places
+    s.sets * s.ways + s.misses + s.queue
 }
 
 pub fn words_length(s: Settings) -> usize
     requires { ⌜ inRange s ≡ true ⌝ }
     ensures { λ r. ⌜ r ≡ wordsLength s ⌝ }
 {
-    1 + 5 * (s.sets * s.ways) + s.readers * s.entries + 4 * s.places + 1
+    1 + 5 * (s.sets * s.ways) + s.readers * s.misses + 4 * s.queue + 1
 }
 
 pub fn marks_length(s: Settings) -> usize
     requires { ⌜ inRange s ≡ true ⌝ }
     ensures { λ r. ⌜ r ≡ marksLength s ⌝ }
 {
-    8 * (s.sets * s.ways) + 2 * s.entries + s.places
+    8 * (s.sets * s.ways) + 2 * s.misses + s.queue
 }
 
 // Refusal 2 does not apply.

@@ -47,9 +47,9 @@ pub data Stands (S : Settings) (t : Tables) (x : Access) (p : Spot) : Type 0 whe
 pub record Judged (R : Rules) (S : Settings) (t : Tables) (x : Access) (p : Spot) : Type 0 where
   pub formed : wellFormed x ≡ true
   pub met : metUnder R S x t ≡ at p
-  pub roomy : ltb (S .places) (length (t .queue) + placesNeeded x p) ≡ false
+  pub roomy : ltb (S .queue) (length (t .queue) + placesNeeded x p) ≡ false
   pub joins : (isRead x && isMerge (p .answer) && any (entryFull S (addressOf x)) (t .misses)) ≡ false
-  pub enters : (isRead x && isMiss (p .answer) && leb (S .entries) (length (t .misses))) ≡ false
+  pub enters : (isRead x && isMiss (p .answer) && leb (S .misses) (length (t .misses))) ≡ false
 
 -- and what the spot is in sound tables
 pub record Accepted (R : Rules) (S : Settings) (t : Tables) (x : Access) (p : Spot) : Type 0 where
@@ -131,9 +131,9 @@ module _ (R : Rules) (S : Settings) (t : Tables) (x : Access) where
       go : wellFormed x ≡ true → (q : Place) → probe (R t (addressOf x)) S (t .dirtyCount) (ways S t x) x ≡ q → P (proceed S x t q)
       go f (no n) e = no-call n
       go f (at p) e =
-          by-flag P (ltb (S .places) (length (t .queue) + placesNeeded x p)) (refused QueueFull) _ (λ z. no-call QueueFull)
+          by-flag P (ltb (S .queue) (length (t .queue) + placesNeeded x p)) (refused QueueFull) _ (λ z. no-call QueueFull)
           (λ roomy. by-flag P (isRead x && isMerge (p .answer) && any (entryFull S (addressOf x)) (t .misses)) (refused EntryFull) _ (λ z. no-call EntryFull)
-          (λ joins. by-flag P (isRead x && isMiss (p .answer) && leb (S .entries) (length (t .misses))) (refused MissTableFull) _ (λ z. no-call MissTableFull)
+          (λ joins. by-flag P (isRead x && isMiss (p .answer) && leb (S .misses) (length (t .misses))) (refused MissTableFull) _ (λ z. no-call MissTableFull)
           (λ enters. made p record { formed = f; met = e; roomy = roomy; joins = joins; enters = enters })))
 
   -- of sound ones

@@ -79,15 +79,15 @@ module _ (S : Settings) (t : Tables) (ok : Sound S t) (no-misses : t .misses ≡
     unfolding proceed accept
     proceed-settles (no n) h = inr (ap refused h)
     proceed-settles (at p) h =
-        let room : ltb (S .places) (length (t .queue) + placesNeeded x p) ≡ false =
-        le-ltb (S .places) (length (t .queue) + placesNeeded x p) (omega (arith, ap length no-queue, places-at-most-two x p h, places-two S range)) in
+        let room : ltb (S .queue) (length (t .queue) + placesNeeded x p) ≡ false =
+        le-ltb (S .queue) (length (t .queue) + placesNeeded x p) (omega (arith, ap length no-queue, places-at-most-two x p h, places-two S range)) in
         let merge : any (entryFull S (addressOf x)) (t .misses) ≡ false = rw no-misses in
-        let entry : leb (S .entries) (length (t .misses)) ≡ false =
-        lt-leb (S .entries) (length (t .misses)) (omega (arith, ap length no-misses, entries-some S range)) in
+        let entry : leb (S .misses) (length (t .misses)) ≡ false =
+        lt-leb (S .misses) (length (t .misses)) (omega (arith, ap length no-misses, entries-some S range)) in
         inl (rw (
           room,
           and-no (isRead x && isMerge (p .answer)) (any (entryFull S (addressOf x)) (t .misses)) merge,
-          and-no (isRead x && isMiss (p .answer)) (leb (S .entries) (length (t .misses))) entry,
+          and-no (isRead x && isMiss (p .answer)) (leb (S .misses) (length (t .misses))) entry,
         ))
 
     access-settles : wellFormed x ≡ true → (accepted (access S x t) ≡ true) ⊎ (access S x t ≡ refused SetHeld)

@@ -39,7 +39,7 @@ module _ (S : Settings) (L : Lent) (is : SoundIs S L) where
       squeeze l k (λ h. is .lines k hk .alone vk l h p vl e) (λ h. is .lines l hl .alone vl k h (sym p) vk (sym e))
 
   -- an address is in one used entry only
-  one-entry : (d e : ℕ) → d < S .entries → e < S .entries → Used S L d → Used S L e → miss S L d ≡ miss S L e → d ≡ e
+  one-entry : (d e : ℕ) → d < S .misses → e < S .misses → Used S L d → Used S L e → miss S L d ≡ miss S L e → d ≡ e
   one-entry d e hd he ud ue q = squeeze d e (λ h. is .entries e he .alone ue d h ud q) (λ h. is .entries d hd .alone ud e h ue (sym q))
 
 -- ---- tables that stand in them
@@ -103,7 +103,7 @@ module _ (S : Settings) (L : Lent) (t : Tables) (st : Stands S L t) (sh : Shape 
       fro : some (length (t .misses)) (λ e. entryFor (line t l .tag + 32 * k) (entry t e)) ≡ true → isReserved (sector t l k .status) ≡ true
       fro s =
           let (e, i, q) = some-at (λ e. entryFor (line t l .tag + 32 * k) (entry t e)) (length (t .misses)) s in
-          let b : e < S .entries = omega (arith, sh .few) in
+          let b : e < S .misses = omega (arith, sh .few) in
           let a : miss S L e ≡ tag S L l + 32 * k =
           miss-is S L t st sh e b ∙ eqb-true _ _ q ∙ ap (λ (n : ℕ). n + 32 * k) (sym (tag-is S L t st sh l h)) in
           let (n, c, w) = is .entries e b .backed (in-entry S L t st sh e i) in
@@ -118,7 +118,7 @@ module _ (S : Settings) (L : Lent) (t : Tables) (st : Stands S L t) (sh : Shape 
 
   entry-ok : (e : ℕ) → e < length (t .misses) → EntryOk S t e
   entry-ok e i =
-      let b : e < S .entries = omega (arith, sh .few) in
+      let b : e < S .misses = omega (arith, sh .few) in
       let u = in-entry S L t st sh e i in
       let f = is .entries e b in
       let a = miss-is S L t st sh e b in
@@ -131,7 +131,7 @@ module _ (S : Settings) (L : Lent) (t : Tables) (st : Stands S L t) (sh : Shape 
         low = rw a at (below (miss S L e) (tag S L l) low even has);
         home = (l, omega (arith, sh .size), (lives l h (w .lives), sym (tag-is S L t st sh l h) ∙ rw a at has));
         alone = λ d k q.
-            let c : d < S .entries = omega (arith, sh .few) in
+            let c : d < S .misses = omega (arith, sh .few) in
             one-entry S L is d e c b (in-entry S L t st sh d k) u (miss-is S L t st sh d c ∙ q ∙ sym a);
         held = sh .held e i;
         short = sh .short e i;
@@ -143,7 +143,7 @@ module _ (S : Settings) (L : Lent) (t : Tables) (st : Stands S L t) (sh : Shape 
 
   queued-ok : (p : ℕ) → p < length (t .queue) → QueuedOk S t (place t p)
   queued-ok p l =
-      let h : p < S .places = omega (arith, sh .deep) in
+      let h : p < S .queue = omega (arith, sh .deep) in
       let f = is .places p h in
       let a = queued-in S L t st sh p l in
       let n = kind-in S L t st sh p l in
@@ -213,32 +213,32 @@ kind-made (suc (suc (suc k))) h f = absurd (omega arith)
 
 module _ (S : Settings) (L : Lent) (is : SoundIs S L) where
   abbrev few : ℕ
-  few = inUse (S .entries) (ticketCount S L)
+  few = inUse (S .misses) (ticketCount S L)
 
   abbrev deep : ℕ
-  deep = inUse (S .places) (kind S L)
+  deep = inUse (S .queue) (kind S L)
 
-  free-entry : (e : ℕ) → e < S .entries → few ≤ e → ticketCount S L e ≡ 0
-  free-entry e h k = free-past (ticketCount S L) (S .entries) e (is .entries-first) h k
+  free-entry : (e : ℕ) → e < S .misses → few ≤ e → ticketCount S L e ≡ 0
+  free-entry e h k = free-past (ticketCount S L) (S .misses) e (is .entries-first) h k
 
-  free-place : (p : ℕ) → p < S .places → deep ≤ p → kind S L p ≡ 0
-  free-place p h k = free-past (kind S L) (S .places) p (is .places-first) h k
+  free-place : (p : ℕ) → p < S .queue → deep ≤ p → kind S L p ≡ 0
+  free-place p h k = free-past (kind S L) (S .queue) p (is .places-first) h k
 
-  used-place : (p : ℕ) → p < deep → (p < S .places) × (kind S L p ≡ 0 → ⊥)
-  used-place p h = below-used (kind S L) (S .places) p (is .places-first) h
+  used-place : (p : ℕ) → p < deep → (p < S .queue) × (kind S L p ≡ 0 → ⊥)
+  used-place p h = below-used (kind S L) (S .queue) p (is .places-first) h
 
   abbrev lineOf : ℕ → Line
   lineOf = lineAt S (L .longs) (L .words) (L .marks)
 
   -- place k of the tickets of entry e, past them 0
-  ticket-past : 1 ≤ S .readers → (e k : ℕ) → e < S .entries → k < S .readers → ticketCount S L e ≤ k → ticket S L (S .readers * e + k) ≡ 0
+  ticket-past : 1 ≤ S .readers → (e k : ℕ) → e < S .misses → k < S .readers → ticketCount S L e ≤ k → ticket S L (S .readers * e + k) ≡ 0
   ticket-past pos e k h j c =
       let x : (S .readers * e + k) / S .readers ≡ e = ap (λ (n : ℕ). (n + k) / S .readers) (mul-comm (S .readers) e) ∙ row-of (S .readers) pos e k j in
       let y : (S .readers * e + k) % S .readers ≡ k = mul-add-mod-self-left (S .readers) e k ∙ mod-eq-of-lt j in
-      let b = stride (S .readers) (S .entries) e h in
+      let b = stride (S .readers) (S .misses) e h in
       is .tickets (S .readers * e + k) (omega arith) (rw (x, y) c)
 
-  ticket-at : 1 ≤ S .readers → (e k : ℕ) → e < S .entries → k < S .readers
+  ticket-at : 1 ≤ S .readers → (e k : ℕ) → e < S .misses → k < S .readers
       → ticket S L (S .readers * e + k) ≡ getD (table (ticketCount S L e) (λ j. ticket S L (S .readers * e + j))) k 0
   ticket-at pos e k h j =
       ⊎-elim
@@ -247,7 +247,7 @@ module _ (S : Settings) (L : Lent) (is : SoundIs S L) where
       (lt-or-ge k (ticketCount S L e))
 
   -- numbers of the entries and of the queue: those in use and, past them, zeros
-  of-entries : (g : Entry → List ℕ) (k e : ℕ) {n : ℕ} → e < S .entries → n ≡ getD (g (entryAt S L e)) k 0 → (ticketCount S L e ≡ 0 → n ≡ 0)
+  of-entries : (g : Entry → List ℕ) (k e : ℕ) {n : ℕ} → e < S .misses → n ≡ getD (g (entryAt S L e)) k 0 → (ticketCount S L e ≡ 0 → n ≡ 0)
       → n ≡ field g (table few (entryAt S L)) e k
   of-entries g k e h p z =
       ⊎-elim
@@ -255,7 +255,7 @@ module _ (S : Settings) (L : Lent) (is : SoundIs S L) where
       (λ o. z (free-entry e h o) ∙ sym (field-past g few (entryAt S L) e k o))
       (lt-or-ge e few)
 
-  of-queue : (g : Queued → List ℕ) (k p : ℕ) {n : ℕ} → p < S .places
+  of-queue : (g : Queued → List ℕ) (k p : ℕ) {n : ℕ} → p < S .queue
       → ((kind S L p ≡ 0 → ⊥) → n ≡ getD (g (queueAt S L p)) k 0) → (kind S L p ≡ 0 → n ≡ 0)
       → n ≡ field g (table deep (queueAt S L)) p k
   of-queue g k p h f z =
@@ -309,16 +309,16 @@ module _ (S : Settings) (L : Lent) (is : SoundIs S L) where
   read-shape = record {
     size = length-table (linesOf S) lineOf;
     fours = λ l h. ap (λ (x : Line). length (x .sectors)) (getD-table (linesOf S) lineOf l fresh h);
-    few = rw (length-table few (entryAt S L)) (in-use-few (ticketCount S L) (S .entries));
+    few = rw (length-table few (entryAt S L)) (in-use-few (ticketCount S L) (S .misses));
     held = λ e h.
         let i : e < few = rw (length-table few (entryAt S L)) at h in
-        let u = below-used (ticketCount S L) (S .entries) e (is .entries-first) i .1 in
+        let u = below-used (ticketCount S L) (S .misses) e (is .entries-first) i .1 in
         rw (tickets-read e i) (⊎-elim (λ k. k) (λ k. absurd (u (omega arith))) (lt-or-ge 0 (ticketCount S L e)));
     short = λ e h.
         let i : e < few = rw (length-table few (entryAt S L)) at h in
-        let b = below-used (ticketCount S L) (S .entries) e (is .entries-first) i .0 in
+        let b = below-used (ticketCount S L) (S .misses) e (is .entries-first) i .0 in
         rw (tickets-read e i) (is .entries e b .few);
-    deep = rw (length-table deep (queueAt S L)) (in-use-few (kind S L) (S .places));
+    deep = rw (length-table deep (queueAt S L)) (in-use-few (kind S L) (S .queue));
     masked = λ p h.
         let i : p < deep = rw (length-table deep (queueAt S L)) at h in
         rw (place-read p i) (length-table 4 (λ k. queueMask S L (4 * p + k)));

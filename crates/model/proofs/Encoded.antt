@@ -103,7 +103,7 @@ module _ (S : Settings) (L : Lent) (t : Tables) (st : Stands S L t) (so : Soundl
         backed = λ q. backed q;
       }
     where
-      backed : status S L (4 * l + k) ≡ 1 → (e : ℕ) × (e < S .entries) × (Used S L e × (miss S L e ≡ tag S L ((4 * l + k) / 4) + 32 * ((4 * l + k) % 4)))
+      backed : status S L (4 * l + k) ≡ 1 → (e : ℕ) × (e < S .misses) × (Used S L e × (miss S L e ≡ tag S L ((4 * l + k) / 4) + 32 * ((4 * l + k) % 4)))
       backed q =
           let r : isReserved (sector t l k .status) ≡ true =
           sym (reserved-number (sector t l k .status)) ∙ eq-eqb _ _ (sym (status-is S L t st sh l k h j) ∙ q) in
@@ -111,18 +111,18 @@ module _ (S : Settings) (L : Lent) (t : Tables) (st : Stands S L t) (so : Soundl
           let (e, i, w) = some-at (λ e. entryFor (line t l .tag + 32 * k) (entry t e)) (length (t .misses))
           (sym (any-get (entryFor (line t l .tag + 32 * k)) (t .misses) noEntry) ∙ a) in
           let few = so .few in
-          let b : e < S .entries = omega arith in
+          let b : e < S .misses = omega arith in
           let y : (4 * l + k) / 4 ≡ l = omega arith in
           let z : (4 * l + k) % 4 ≡ k = omega arith in
           (e, b, (in-entry S L t st sh e i, rw (y, z) (miss-is S L t st sh e b ∙ eqb-true _ _ w ∙ ap (λ (x : ℕ). x + 32 * k) (sym (tag-is S L t st sh l h)))))
 
   -- ---- entries
 
-  entry-out : (e : ℕ) → e < S .entries → ticketCount S L e ≡ 0 → length (t .misses) ≤ e
+  entry-out : (e : ℕ) → e < S .misses → ticketCount S L e ≡ 0 → length (t .misses) ≤ e
   entry-out e h z = ⊎-elim (λ l. absurd (in-entry S L t st sh e l z)) (λ k. k) (lt-or-ge e (length (t .misses)))
 
   -- the line of an entry has its sector, RESERVED
-  entry-home : (e : ℕ) → e < S .entries → Used S L e → (l : ℕ) × (l < linesOf S) × Reserves S L (miss S L e) l
+  entry-home : (e : ℕ) → e < S .misses → Used S L e → (l : ℕ) × (l < linesOf S) × Reserves S L (miss S L e) l
   entry-home e h u =
       let i : e < length (t .misses) = entry-in S L t st sh e h u in
       let f = so .entries e i in
@@ -141,7 +141,7 @@ module _ (S : Settings) (L : Lent) (t : Tables) (st : Stands S L t) (so : Soundl
       let m = miss-is S L t st sh e h in
       (l, n, record { lives = live-i l n v; has = rw m (tag-is S L t st sh l n ∙ at); waits = rw m x })
 
-  entry-is : (e : ℕ) → e < S .entries → EntryIs S L e
+  entry-is : (e : ℕ) → e < S .misses → EntryIs S L e
   entry-is e h =
       let m = miss-is S L t st sh e h in
       let x = sent-is S L t st sh e h in
@@ -154,7 +154,7 @@ module _ (S : Settings) (L : Lent) (t : Tables) (st : Stands S L t) (so : Soundl
         even = λ u. rw m (so .entries e (entry-in S L t st sh e h u) .even);
         backed = entry-home e h;
         alone = λ u d k v q.
-            let b : d < S .entries = omega arith in
+            let b : d < S .misses = omega arith in
             let i : e < length (t .misses) = entry-in S L t st sh e h u in
             let z : d ≡ e = so .entries e i .alone d (omega arith) (sym (miss-is S L t st sh d b) ∙ q ∙ m) in
             omega arith;
@@ -164,18 +164,18 @@ module _ (S : Settings) (L : Lent) (t : Tables) (st : Stands S L t) (so : Soundl
 
   -- ---- the queue
 
-  place-out : (p : ℕ) → p < S .places → kind S L p ≡ 0 → length (t .queue) ≤ p
+  place-out : (p : ℕ) → p < S .queue → kind S L p ≡ 0 → length (t .queue) ≤ p
   place-out p h z = ⊎-elim (λ l. absurd (in-place S L t st sh p l z)) (λ k. k) (lt-or-ge p (length (t .queue)))
 
   -- a place whose kind isn't 0
-  place-i : (p : ℕ) → p < S .places → {n : ℕ} → kind S L p ≡ suc n → p < length (t .queue)
+  place-i : (p : ℕ) → p < S .queue → {n : ℕ} → kind S L p ≡ suc n → p < length (t .queue)
   place-i p h {n} q = place-in S L t st sh p h (λ z. omega arith)
 
-  read-entry : (p : ℕ) → p < S .places → kind S L p ≡ 1 → (e : ℕ) × (e < S .entries) × Unsent S L (queued S L p) e
+  read-entry : (p : ℕ) → p < S .queue → kind S L p ≡ 1 → (e : ℕ) × (e < S .misses) × Unsent S L (queued S L p) e
   read-entry p h q =
       let l : p < length (t .queue) = place-i p h q in
       let (e, i, (a, s)) = so .queue p l .backed (sym (kind-in S L t st sh p l) ∙ q) in
-      let b : e < S .entries = omega (arith, so .few) in (
+      let b : e < S .misses = omega (arith, so .few) in (
         e,
         b,
         record {
@@ -185,7 +185,7 @@ module _ (S : Settings) (L : Lent) (t : Tables) (st : Stands S L t) (so : Soundl
         },
       )
 
-  place-is : (p : ℕ) → p < S .places → PlaceIs S L p
+  place-is : (p : ℕ) → p < S .queue → PlaceIs S L p
   place-is p h = record {
     known = ⊎-elim (λ l. rw (kind-in S L t st sh p l) (kind-low (place t p .kind))) (λ k. omega (arith, kind-out S L t st sh p h k)) (lt-or-ge p (length (t .queue)));
     blank = λ z. queued-out S L t st sh p h (place-out p h z);
@@ -204,9 +204,9 @@ module _ (S : Settings) (L : Lent) (t : Tables) (st : Stands S L t) (so : Soundl
 
   -- ---- all of it
 
-  tickets-are : 1 ≤ S .readers → (i : ℕ) → i < S .readers * S .entries → ticketCount S L (i / S .readers) ≤ i % S .readers → ticket S L i ≡ 0
+  tickets-are : 1 ≤ S .readers → (i : ℕ) → i < S .readers * S .misses → ticketCount S L (i / S .readers) ≤ i % S .readers → ticket S L i ≡ 0
   tickets-are pos i h k =
-      let b : i / S .readers < S .entries = div-lt-iff-lt-mul pos .1 (rw mul-comm at h) in
+      let b : i / S .readers < S .misses = div-lt-iff-lt-mul pos .1 (rw mul-comm at h) in
       let c : length (entry t (i / S .readers) .tickets) ≤ i % S .readers = rw (count-is S L t st sh (i / S .readers) b) at k in
       ap (ticket S L) (sym (div-add-mod i (S .readers)))
       ∙ ticket-is S L t st sh (i / S .readers) (i % S .readers) b (mod-lt i pos)

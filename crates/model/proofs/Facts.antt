@@ -97,7 +97,7 @@ module _ (S : Settings) (L : Lent) where
     pub clean : (status S L i ≡ 0) ⊎ (status S L i ≡ 2) → mask S L i ≡ 0
     pub dirty : status S L i ≡ 3 → mask S L i ≡ 0 → ⊥
     pub unreadable : readable S L i ≡ 0 → (status S L i ≡ 3) × (mask S L i ≡ allOnes → ⊥)
-    pub backed : status S L i ≡ 1 → (e : ℕ) × (e < S .entries) × (Used e × (miss S L e ≡ tag S L (i / 4) + 32 * (i % 4)))
+    pub backed : status S L i ≡ 1 → (e : ℕ) × (e < S .misses) × (Used e × (miss S L e ≡ tag S L (i / 4) + 32 * (i % 4)))
 
   -- line l has the sector of address a, RESERVED
   pub record Reserves (a l : ℕ) : Type 0 where
@@ -112,7 +112,7 @@ module _ (S : Settings) (L : Lent) where
     pub even : Used e → miss S L e % 32 ≡ 0
     pub backed : Used e → (l : ℕ) × (l < linesOf S) × Reserves (miss S L e) l
     pub alone : Used e → (d : ℕ) → d < e → Used d → miss S L d ≡ miss S L e → ⊥
-    pub asked : Used e → sent S L e ≡ 0 → countBelow (S .places) (readFor S L (miss S L e)) ≡ 1
+    pub asked : Used e → sent S L e ≡ 0 → countBelow (S .queue) (readFor S L (miss S L e)) ≡ 1
 
   pub record Unsent (a e : ℕ) : Type 0 where
     pub used : Used e
@@ -125,17 +125,17 @@ module _ (S : Settings) (L : Lent) where
     pub bare : kind S L p ≤ 1 → (k : ℕ) → k < 4 → queueMask S L (4 * p + k) ≡ 0
     pub block : kind S L p ≡ 2 → Block (queued S L p)
     pub dirty : kind S L p ≡ 2 → (k : ℕ) × (k < 4) × (queueMask S L (4 * p + k) ≡ 0 → ⊥)
-    pub backed : kind S L p ≡ 1 → (e : ℕ) × (e < S .entries) × Unsent (queued S L p) e
+    pub backed : kind S L p ≡ 1 → (e : ℕ) × (e < S .misses) × Unsent (queued S L p) e
 
   pub record SoundIs : Type 0 where
     pub time : now S L ≤ lastCycle
     pub lines : (l : ℕ) → l < linesOf S → LineIs l
     pub sectors : (i : ℕ) → i < 4 * linesOf S → SectorIs i
-    pub tickets : (i : ℕ) → i < S .readers * S .entries → ticketCount S L (i / S .readers) ≤ i % S .readers → ticket S L i ≡ 0
-    pub entries-first : First (S .entries) (ticketCount S L)
-    pub entries : (e : ℕ) → e < S .entries → EntryIs e
-    pub places-first : First (S .places) (kind S L)
-    pub places : (p : ℕ) → p < S .places → PlaceIs p
+    pub tickets : (i : ℕ) → i < S .readers * S .misses → ticketCount S L (i / S .readers) ≤ i % S .readers → ticket S L i ≡ 0
+    pub entries-first : First (S .misses) (ticketCount S L)
+    pub entries : (e : ℕ) → e < S .misses → EntryIs e
+    pub places-first : First (S .queue) (kind S L)
+    pub places : (p : ℕ) → p < S .queue → PlaceIs p
     pub counted : dirtyCount S L ≡ countBelow (linesOf S) (dirtyLine S L)
 
 -- ---- each test with its facts
@@ -175,7 +175,7 @@ module _ (S : Settings) (L : Lent) where
       (is-imp (is-or (is-eq (status S L i) 0) (is-eq (status S L i) 2)) (is-eq (mask S L i) 0)))
       (is-imp (is-eq (status S L i) 3) (is-not (is-eq (mask S L i) 0))))
       (is-imp (is-eq (readable S L i) 0) (is-and (is-eq (status S L i) 3) (is-not (is-eq (mask S L i) allOnes)))))
-      (is-imp (is-eq (status S L i) 1) (is-some (S .entries) (λ e. is-and (used-is e) (is-eq (miss S L e) (tag S L (i / 4) + 32 * (i % 4)))))))
+      (is-imp (is-eq (status S L i) 1) (is-some (S .misses) (λ e. is-and (used-is e) (is-eq (miss S L e) (tag S L (i / 4) + 32 * (i % 4)))))))
       (λ w. record { known = w .0 .0 .0 .0 .0; mark = w .0 .0 .0 .0 .1; clean = w .0 .0 .0 .1; dirty = w .0 .0 .1; unreadable = w .0 .1; backed = w .1 })
       (λ r. (((((r .known, r .mark), r .clean), r .dirty), r .unreadable), r .backed))
 
@@ -195,7 +195,7 @@ module _ (S : Settings) (L : Lent) where
       (is-imp (is-eq (ticketCount S L e) 0) (is-and (is-eq (miss S L e) 0) (is-eq (sent S L e) 0))))
       (is-imp (used-is e) (is-and (is-eq (miss S L e % 32) 0) (is-some (linesOf S) (reserves-is (miss S L e))))))
       (is-imp (used-is e) (is-none e (λ d. is-and (used-is d) (is-eq (miss S L d) (miss S L e))))))
-      (is-imp (is-and (used-is e) (is-eq (sent S L e) 0)) (is-eq (countBelow (S .places) (readFor S L (miss S L e))) 1)))
+      (is-imp (is-and (used-is e) (is-eq (sent S L e) 0)) (is-eq (countBelow (S .queue) (readFor S L (miss S L e))) 1)))
       (λ w. record {
         few = w .0 .0 .0 .0 .0;
         mark = w .0 .0 .0 .0 .1;
@@ -222,7 +222,7 @@ module _ (S : Settings) (L : Lent) where
       (is-and (is-le (kind S L p) 2) (is-imp (is-eq (kind S L p) 0) (is-eq (queued S L p) 0)))
       (is-imp (is-le (kind S L p) 1) (is-every 4 (λ k. is-eq (queueMask S L (4 * p + k)) 0))))
       (is-imp (is-eq (kind S L p) 2) (is-and (block-is (queued S L p)) (is-some 4 (λ k. is-not (is-eq (queueMask S L (4 * p + k)) 0))))))
-      (is-imp (is-eq (kind S L p) 1) (is-some (S .entries) (unsent-is (queued S L p)))))
+      (is-imp (is-eq (kind S L p) 1) (is-some (S .misses) (unsent-is (queued S L p)))))
       (λ w. record { known = w .0 .0 .0 .0; blank = w .0 .0 .0 .1; bare = w .0 .0 .1; block = λ k. w .0 .1 k .0; dirty = λ k. w .0 .1 k .1; backed = w .1 })
       (λ r. ((((r .known, r .blank), r .bare), λ k. (r .block k, r .dirty k)), r .backed))
 
@@ -237,11 +237,11 @@ module _ (S : Settings) (L : Lent) where
       (is-and
       (is-and
       (is-and (is-and (is-le (now S L) lastCycle) (is-every (linesOf S) line-is)) (is-every (4 * linesOf S) sector-is))
-      (is-every (S .readers * S .entries) (λ i. is-imp (is-le (ticketCount S L (i / S .readers)) (i % S .readers)) (is-eq (ticket S L i) 0))))
-      (first-is (S .entries) (ticketCount S L)))
-      (is-every (S .entries) entry-is))
-      (first-is (S .places) (kind S L)))
-      (is-every (S .places) place-is))
+      (is-every (S .readers * S .misses) (λ i. is-imp (is-le (ticketCount S L (i / S .readers)) (i % S .readers)) (is-eq (ticket S L i) 0))))
+      (first-is (S .misses) (ticketCount S L)))
+      (is-every (S .misses) entry-is))
+      (first-is (S .queue) (kind S L)))
+      (is-every (S .queue) place-is))
       (is-eq (dirtyCount S L) (countBelow (linesOf S) (dirtyLine S L))))
       (λ w. record {
         time = w .0 .0 .0 .0 .0 .0 .0 .0;

@@ -25,13 +25,13 @@ pub record Ranged (S : Settings) : Type 0 where
   pub ways : 1 ≤ S .ways
   pub few-ways : S .ways ≤ 16
   pub lines : linesOf S ≤ 1024
-  pub percent : S .percent ≤ 100
-  pub entry : 1 ≤ S .entries
-  pub entries : S .entries ≤ 64
+  pub dirty : S .dirty ≤ 100
+  pub entry : 1 ≤ S .misses
+  pub misses : S .misses ≤ 64
   pub reader : 1 ≤ S .readers
   pub readers : S .readers ≤ 8
-  pub place : 2 ≤ S .places
-  pub places : S .places ≤ 64
+  pub place : 2 ≤ S .queue
+  pub queue : S .queue ≤ 64
 
 pub ranged : (S : Settings) → inRange S ≡ true → Ranged S
 unfolding inRange
@@ -39,47 +39,47 @@ ranged S e =
     let sets : powerTo256 (S .sets) ≡ true = search (and-1, and-2) depth 9 in
     let ways : leb 1 (S .ways) ≡ true = search (and-1, and-2) depth 9 in
     let few-ways : leb (S .ways) 16 ≡ true = search (and-1, and-2) depth 9 in
-    let percent : leb (S .percent) 100 ≡ true = search (and-1, and-2) depth 9 in
+    let dirty : leb (S .dirty) 100 ≡ true = search (and-1, and-2) depth 9 in
     let lines : leb (linesOf S) 1024 ≡ true = search (and-1, and-2) depth 9 in
-    let entry : leb 1 (S .entries) ≡ true = search (and-1, and-2) depth 9 in
-    let entries : leb (S .entries) 64 ≡ true = search (and-1, and-2) depth 9 in
+    let entry : leb 1 (S .misses) ≡ true = search (and-1, and-2) depth 9 in
+    let misses : leb (S .misses) 64 ≡ true = search (and-1, and-2) depth 9 in
     let reader : leb 1 (S .readers) ≡ true = search (and-1, and-2) depth 9 in
     let readers : leb (S .readers) 8 ≡ true = search (and-1, and-2) depth 9 in
-    let place : leb 2 (S .places) ≡ true = search (and-1, and-2) depth 9 in
-    let places : leb (S .places) 64 ≡ true = search (and-1, and-2) depth 9 in
+    let place : leb 2 (S .queue) ≡ true = search (and-1, and-2) depth 9 in
+    let queue : leb (S .queue) 64 ≡ true = search (and-1, and-2) depth 9 in
     record {
       power = sets;
       sets = power-pos _ sets;
       ways = leb-true _ _ ways;
       few-ways = leb-true _ _ few-ways;
       lines = leb-true _ _ lines;
-      percent = leb-true _ _ percent;
+      dirty = leb-true _ _ dirty;
       entry = leb-true _ _ entry;
-      entries = leb-true _ _ entries;
+      misses = leb-true _ _ misses;
       reader = leb-true _ _ reader;
       readers = leb-true _ _ readers;
       place = leb-true _ _ place;
-      places = leb-true _ _ places;
+      queue = leb-true _ _ queue;
     }
 
 pub fit : (S : Settings) (longs words marks : List ℕ) → (inRange S ≡ true) × (length longs ≡ longsLength S) × (length words ≡ wordsLength S) × (length marks ≡ marksLength S) → Fit S longs words marks
 fit S longs words marks (r, l, w, m) =
     let a = ranged S r in
-    let t : S .readers * S .entries ≤ 8 * 64 = mul-le-mul (a .readers) (a .entries) in
+    let t : S .readers * S .misses ≤ 8 * 64 = mul-le-mul (a .readers) (a .misses) in
     record {
       power = a .power;
       sets = a .sets;
       ways = a .ways;
       few-ways = a .few-ways;
       lines = a .lines;
-      percent = a .percent;
+      dirty = a .dirty;
       entry = a .entry;
-      entries = a .entries;
+      misses = a .misses;
       reader = a .reader;
       readers = a .readers;
       tickets = t;
       place = a .place;
-      places = a .places;
+      queue = a .queue;
       longs-long = l;
       words-long = w;
       marks-long = m;

@@ -133,7 +133,7 @@ module _ (S : Settings) (t : Tables) (x : Queued) (q : List Queued) (at : t .que
     entered = in-all (entryOk S (afterSend x q t)) (marked x (t .misses)) (λ e m. entry-whole S (afterSend x q t) e (sent-entry e m));
     lining = in-all (queuedOk (marked x (t .misses))) q sent-queued;
     few = rw (marked-length (x .kind) (x .address) (t .misses)) (ok .few);
-    short = le-leb (length q) (S .places) (omega (arith, ap length at, leb-true (length (t .queue)) (S .places) (ok .short)));
+    short = le-leb (length q) (S .queue) (omega (arith, ap length at, leb-true (length (t .queue)) (S .queue) (ok .short)));
     counted = ok .counted;
   }
 
@@ -393,7 +393,7 @@ module _ (S : Settings) (t : Tables) (ok : Sound S t) (d : Entry) (m : In d (t .
     reserve = all-map (fillLine a) (reservedOk left) (t .lines) ∙ in-all (λ l. reservedOk left (fillLine a l)) (t .lines) filled-reserved;
     entered = in-all (entryOk S (afterFill a t)) left (λ e n. entry-whole S (afterFill a t) e (filled-entry e n));
     lining = in-all (queuedOk left) (t .queue) filled-queued;
-    few = le-leb (length left) (S .entries) (omega (arith, keep-le (others a) (t .misses), leb-true (length (t .misses)) (S .entries) (ok .few)));
+    few = le-leb (length left) (S .misses) (omega (arith, keep-le (others a) (t .misses), leb-true (length (t .misses)) (S .misses) (ok .few)));
     short = ok .short;
     counted = eq-eqb (t .dirtyCount + one (any (soiled a) (t .lines))) (count dirty filled) filled-dirty;
   }

@@ -315,8 +315,8 @@ start-is-sound S = record {
   reserve = in-all (reservedOk []) (replicate (linesOf S) fresh) (λ l m. rw (in-replicate (linesOf S) fresh l m));
   entered = refl;
   lining = refl;
-  few = le-leb 0 (S .entries) (omega arith);
-  short = le-leb 0 (S .places) (omega arith);
+  few = le-leb 0 (S .misses) (omega arith);
+  short = le-leb 0 (S .queue) (omega arith);
   counted = eq-eqb 0 (count dirty (replicate (linesOf S) fresh)) (sym (none-count dirty (replicate (linesOf S) fresh) (no-yes (λ h. let (l, m, q) = any-in dirty (replicate (linesOf S) fresh) h in clash q (ap dirty (in-replicate (linesOf S) fresh l m))))));
 }
 

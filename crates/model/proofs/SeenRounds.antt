@@ -123,9 +123,9 @@ proceed-clear : (S : Settings) (x : Access) (t : Tables) (p : Place) → Clear a
 unfolding proceed accept
 proceed-clear S x t (no n) = record { clear = refl }
 proceed-clear S x t (at p) =
-    clear-by accepts (ltb (S .places) (length (t .queue) + placesNeeded x p)) record { clear = refl }
+    clear-by accepts (ltb (S .queue) (length (t .queue) + placesNeeded x p)) record { clear = refl }
     (clear-by accepts (isRead x && isMerge (p .answer) && any (entryFull S (addressOf x)) (t .misses)) record { clear = refl }
-    (clear-by accepts (isRead x && isMiss (p .answer) && leb (S .entries) (length (t .misses))) record { clear = refl }
+    (clear-by accepts (isRead x && isMiss (p .answer) && leb (S .misses) (length (t .misses))) record { clear = refl }
     record { clear = ap not (queued-clear (queues x p)) }))
 
 pub access-clear : (S : Settings) (x : Access) (t : Tables) → Clear accepts (access S x t)

@@ -57,10 +57,10 @@ maskIn x k = getD (x .masks) k 0
 pub record Shape (S : Settings) (t : Tables) : Type 0 where
   pub size : length (t .lines) ≡ linesOf S
   pub fours : (l : ℕ) → l < linesOf S → length (line t l .sectors) ≡ 4
-  pub few : length (t .misses) ≤ S .entries
+  pub few : length (t .misses) ≤ S .misses
   pub held : (e : ℕ) → e < length (t .misses) → 1 ≤ length (entry t e .tickets)
   pub short : (e : ℕ) → e < length (t .misses) → length (entry t e .tickets) ≤ S .readers
-  pub deep : length (t .queue) ≤ S .places
+  pub deep : length (t .queue) ≤ S .queue
   pub masked : (p : ℕ) → p < length (t .queue) → length (place t p .masks) ≡ 4
 
 -- ---- numbers and what they stand for
@@ -212,23 +212,23 @@ module _ (S : Settings) (L : Lent) (t : Tables) (st : Stands S L t) (sh : Shape 
       ∙ ap (λ (n : ℕ). countBelow n (λ l. dirty (line t l))) (sym (sh .size))
       ∙ sym (count-get dirty (t .lines) fresh)
 
-  pub miss-is : (e : ℕ) → e < S .entries → miss S L e ≡ entry t e .address
+  pub miss-is : (e : ℕ) → e < S .misses → miss S L e ≡ entry t e .address
   miss-is e h = st .misses e h ∙ field-get missOf (t .misses) noEntry e 0 refl
 
-  pub sent-is : (e : ℕ) → e < S .entries → sent S L e ≡ bit (entry t e .sent)
+  pub sent-is : (e : ℕ) → e < S .misses → sent S L e ≡ bit (entry t e .sent)
   sent-is e h = st .sents e h ∙ field-get sentOf (t .misses) noEntry e 0 refl
 
-  pub count-is : (e : ℕ) → e < S .entries → ticketCount S L e ≡ length (entry t e .tickets)
+  pub count-is : (e : ℕ) → e < S .misses → ticketCount S L e ≡ length (entry t e .tickets)
   count-is e h = st .ticket-counts e h ∙ field-get ticketCountOf (t .misses) noEntry e 0 refl
 
-  pub ticket-is : (e k : ℕ) → e < S .entries → k < S .readers → ticket S L (S .readers * e + k) ≡ getD (entry t e .tickets) k 0
+  pub ticket-is : (e k : ℕ) → e < S .misses → k < S .readers → ticket S L (S .readers * e + k) ≡ getD (entry t e .tickets) k 0
   ticket-is e k h j = st .tickets e k h j ∙ field-get ticketsIn (t .misses) noEntry e k refl
 
   -- an entry is in use exactly if the tables have it
-  pub count-out : (e : ℕ) → e < S .entries → length (t .misses) ≤ e → ticketCount S L e ≡ 0
+  pub count-out : (e : ℕ) → e < S .misses → length (t .misses) ≤ e → ticketCount S L e ≡ 0
   count-out e h k = count-is e h ∙ ap (λ (x : Entry). length (x .tickets)) (List·getD-eq-default (t .misses) noEntry k)
 
-  pub entry-in : (e : ℕ) → e < S .entries → Used S L e → e < length (t .misses)
+  pub entry-in : (e : ℕ) → e < S .misses → Used S L e → e < length (t .misses)
   entry-in e h u = ⊎-elim (λ l. l) (λ k. absurd (u (count-out e h k))) (lt-or-ge e (length (t .misses)))
 
   pub in-entry : (e : ℕ) → e < length (t .misses) → Used S L e
@@ -243,27 +243,27 @@ module _ (S : Settings) (L : Lent) (t : Tables) (st : Stands S L t) (sh : Shape 
   pub kind-in : (p : ℕ) → p < length (t .queue) → kind S L p ≡ kindIn (place t p)
   kind-in p h = let d = sh .deep in st .kinds p (omega arith) ∙ field-in kindOf (t .queue) idle p 0 h
 
-  pub kind-out : (p : ℕ) → p < S .places → length (t .queue) ≤ p → kind S L p ≡ 0
+  pub kind-out : (p : ℕ) → p < S .queue → length (t .queue) ≤ p → kind S L p ≡ 0
   kind-out p h k = st .kinds p h ∙ field-out kindOf (t .queue) p 0 k
 
   pub queued-in : (p : ℕ) → p < length (t .queue) → queued S L p ≡ addressIn (place t p)
   queued-in p h = let d = sh .deep in st .queue p (omega arith) ∙ field-in queuedOf (t .queue) idle p 0 h
 
-  pub queued-out : (p : ℕ) → p < S .places → length (t .queue) ≤ p → queued S L p ≡ 0
+  pub queued-out : (p : ℕ) → p < S .queue → length (t .queue) ≤ p → queued S L p ≡ 0
   queued-out p h k = st .queue p h ∙ field-out queuedOf (t .queue) p 0 k
 
-  pub queue-mask-is : (p k : ℕ) → p < S .places → k < 4 → queueMask S L (4 * p + k) ≡ maskIn (place t p) k
+  pub queue-mask-is : (p k : ℕ) → p < S .queue → k < 4 → queueMask S L (4 * p + k) ≡ maskIn (place t p) k
   queue-mask-is p k h j = st .queue-masks p k h j ∙ field-get queueMasksOf (t .queue) idle p k (getD-replicate 4 k 0 0 j)
 
-  pub place-in : (p : ℕ) → p < S .places → (kind S L p ≡ 0 → ⊥) → p < length (t .queue)
+  pub place-in : (p : ℕ) → p < S .queue → (kind S L p ≡ 0 → ⊥) → p < length (t .queue)
   place-in p h u = ⊎-elim (λ l. l) (λ k. absurd (u (kind-out p h k))) (lt-or-ge p (length (t .queue)))
 
   pub in-place : (p : ℕ) → p < length (t .queue) → kind S L p ≡ 0 → ⊥
   in-place p h z = kind-some (place t p .kind) (sym (kind-in p h) ∙ z)
 
-  pub reads-are : (a : ℕ) → countBelow (S .places) (readFor S L a) ≡ count (readingOf a) (t .queue)
+  pub reads-are : (a : ℕ) → countBelow (S .queue) (readFor S L a) ≡ count (readingOf a) (t .queue)
   reads-are a =
-      count-short (readFor S L a) (S .places) (length (t .queue)) (sh .deep) (λ p h k. rw (kind-out p h k))
+      count-short (readFor S L a) (S .queue) (length (t .queue)) (sh .deep) (λ p h k. rw (kind-out p h k))
       ∙ count-same (readFor S L a) (λ p. readingOf a (place t p)) (length (t .queue))
       (λ p h. rw (kind-in p h, queued-in p h) (reading-numbers a (place t p)))
       ∙ sym (count-get (readingOf a) (t .queue) idle)
@@ -286,7 +286,7 @@ module _ (S : Settings) (L : Lent) (t : Tables) (st : Stands S L t) (sh : Shape 
   entry-again : (e : ℕ) → e < length (t .misses) → entryAt S L e ≡ entry t e
   entry-again e l =
       let few = sh .few in
-      let h : e < S .entries = omega arith in
+      let h : e < S .misses = omega arith in
       let c = count-is e h in
       let w = sh .short e l in
       entry-back (entry t e) (miss-is e h) (ap (λ (n : ℕ). eqb n 1) (sent-is e h) ∙ bit-back (entry t e .sent))
@@ -298,11 +298,11 @@ module _ (S : Settings) (L : Lent) (t : Tables) (st : Stands S L t) (sh : Shape 
       queued-back (place t p) (ap queueKindOf (kind-in p l) ∙ kind-back (place t p .kind)) (queued-in p l)
       (table-list 4 (λ k. queueMask S L (4 * p + k)) (place t p .masks) 0 (sh .masked p l) (λ k j. queue-mask-is p k (omega arith) j))
 
-  pub entries-in-use : inUse (S .entries) (ticketCount S L) ≡ length (t .misses)
-  entries-in-use = in-use-is (ticketCount S L) (S .entries) (length (t .misses)) (sh .few) in-entry count-out
+  pub entries-in-use : inUse (S .misses) (ticketCount S L) ≡ length (t .misses)
+  entries-in-use = in-use-is (ticketCount S L) (S .misses) (length (t .misses)) (sh .few) in-entry count-out
 
-  pub places-in-use : inUse (S .places) (kind S L) ≡ length (t .queue)
-  places-in-use = in-use-is (kind S L) (S .places) (length (t .queue)) (sh .deep) in-place kind-out
+  pub places-in-use : inUse (S .queue) (kind S L) ≡ length (t .queue)
+  places-in-use = in-use-is (kind S L) (S .queue) (length (t .queue)) (sh .deep) in-place kind-out
 
   pub stands-tables : tablesOf S L ≡ t
   unfolding tablesOf

@@ -32,8 +32,8 @@ pub record Sound (S : Settings) (t : Tables) : Type 0 where
   pub reserve : all (reservedOk (t .misses)) (t .lines) ≡ true
   pub entered : all (entryOk S t) (t .misses) ≡ true
   pub lining : all (queuedOk (t .misses)) (t .queue) ≡ true
-  pub few : leb (length (t .misses)) (S .entries) ≡ true
-  pub short : leb (length (t .queue)) (S .places) ≡ true
+  pub few : leb (length (t .misses)) (S .misses) ≡ true
+  pub short : leb (length (t .queue)) (S .queue) ≡ true
   pub counted : eqb (t .dirtyCount) (dirtyLines t) ≡ true
 
 pub parts : (S : Settings) (t : Tables) → sound S t ≡ true → Sound S t
@@ -84,17 +84,17 @@ pub ways-some : (S : Settings) → inRange S ≡ true → 1 ≤ S .ways
 unfolding inRange
 ways-some S h = leb-true 1 (S .ways) (search (and-1, and-2) depth 12)
 
-pub entries-some : (S : Settings) → inRange S ≡ true → 1 ≤ S .entries
+pub entries-some : (S : Settings) → inRange S ≡ true → 1 ≤ S .misses
 unfolding inRange
-entries-some S h = leb-true 1 (S .entries) (search (and-1, and-2) depth 12)
+entries-some S h = leb-true 1 (S .misses) (search (and-1, and-2) depth 12)
 
 pub readers-some : (S : Settings) → inRange S ≡ true → 1 ≤ S .readers
 unfolding inRange
 readers-some S h = leb-true 1 (S .readers) (search (and-1, and-2) depth 12)
 
-pub places-two : (S : Settings) → inRange S ≡ true → 2 ≤ S .places
+pub places-two : (S : Settings) → inRange S ≡ true → 2 ≤ S .queue
 unfolding inRange
-places-two S h = leb-true 2 (S .places) (search (and-1, and-2) depth 12)
+places-two S h = leb-true 2 (S .queue) (search (and-1, and-2) depth 12)
 
 -- ---- where an address lies
 

@@ -166,8 +166,8 @@ module _ (S : Settings) (t : Tables) where
     pub agrees : (l : ℕ) → l < linesOf S → Agrees l
     pub entries : (e : ℕ) → e < length (t .misses) → EntryOk e
     pub queue : (p : ℕ) → p < length (t .queue) → QueuedOk (place t p)
-    pub few : length (t .misses) ≤ S .entries
-    pub deep : length (t .queue) ≤ S .places
+    pub few : length (t .misses) ≤ S .misses
+    pub deep : length (t .queue) ≤ S .queue
     pub counted : t .dirtyCount ≡ dirtyLines t
 
   pub soundly-shape : Soundly → Shape S t
@@ -321,8 +321,8 @@ module _ (S : Settings) (t : Tables) where
       (is-all (reservedOk (t .misses)) (t .lines) fresh (λ l h. agrees-is l)))
       (is-all (entryOk S t) (t .misses) noEntry entry-ok-is))
       (is-all (queuedOk (t .misses)) (t .queue) idle (λ p h. queued-ok-is (place t p))))
-      (is-le (length (t .misses)) (S .entries)))
-      (is-le (length (t .queue)) (S .places)))
+      (is-le (length (t .misses)) (S .misses)))
+      (is-le (length (t .queue)) (S .queue)))
       (is-eq (t .dirtyCount) (dirtyLines t)))
       (λ w. let size = w .0 .0 .0 .0 .0 .0 .0 .0 .0 in record {
         size = size;

@@ -116,13 +116,13 @@ pub record Stands (S : Settings) (L : Lent) (t : Tables) : Type 0 where
   pub statuses : (l k : ℕ) → l < linesOf S → k < 4 → status S L (4 * l + k) ≡ field statusesOf (t .lines) l k
   pub masks : (l k : ℕ) → l < linesOf S → k < 4 → mask S L (4 * l + k) ≡ field masksOf (t .lines) l k
   pub readables : (l k : ℕ) → l < linesOf S → k < 4 → readable S L (4 * l + k) ≡ field readablesOf (t .lines) l k
-  pub misses : (e : ℕ) → e < S .entries → miss S L e ≡ field missOf (t .misses) e 0
-  pub sents : (e : ℕ) → e < S .entries → sent S L e ≡ field sentOf (t .misses) e 0
-  pub ticket-counts : (e : ℕ) → e < S .entries → ticketCount S L e ≡ field ticketCountOf (t .misses) e 0
-  pub tickets : (e k : ℕ) → e < S .entries → k < S .readers → ticket S L (S .readers * e + k) ≡ field ticketsIn (t .misses) e k
-  pub queue : (p : ℕ) → p < S .places → queued S L p ≡ field queuedOf (t .queue) p 0
-  pub kinds : (p : ℕ) → p < S .places → kind S L p ≡ field kindOf (t .queue) p 0
-  pub queue-masks : (p k : ℕ) → p < S .places → k < 4 → queueMask S L (4 * p + k) ≡ field queueMasksOf (t .queue) p k
+  pub misses : (e : ℕ) → e < S .misses → miss S L e ≡ field missOf (t .misses) e 0
+  pub sents : (e : ℕ) → e < S .misses → sent S L e ≡ field sentOf (t .misses) e 0
+  pub ticket-counts : (e : ℕ) → e < S .misses → ticketCount S L e ≡ field ticketCountOf (t .misses) e 0
+  pub tickets : (e k : ℕ) → e < S .misses → k < S .readers → ticket S L (S .readers * e + k) ≡ field ticketsIn (t .misses) e k
+  pub queue : (p : ℕ) → p < S .queue → queued S L p ≡ field queuedOf (t .queue) p 0
+  pub kinds : (p : ℕ) → p < S .queue → kind S L p ≡ field kindOf (t .queue) p 0
+  pub queue-masks : (p k : ℕ) → p < S .queue → k < 4 → queueMask S L (4 * p + k) ≡ field queueMasksOf (t .queue) p k
   pub time : now S L ≡ t .now
   pub count : dirtyCount S L ≡ t .dirtyCount
 
@@ -159,19 +159,19 @@ module _ (S : Settings) (t : Tables) where
   unfolding encode
   encode-stands = record {
     tags = λ l h. long-block tagOf 1 (linesOf S) (t .lines) tagRegion l 0 l refl (omega arith) (omega arith) h (omega arith);
-    misses = λ e h. long-block missOf 1 (S .entries) (t .misses) missRegion e 0 _ refl (omega arith) (omega arith) h (omega arith);
-    queue = λ p h. long-block queuedOf 1 (S .places) (t .queue) queueRegion p 0 _ refl (omega arith) (omega arith) h (omega arith);
+    misses = λ e h. long-block missOf 1 (S .misses) (t .misses) missRegion e 0 _ refl (omega arith) (omega arith) h (omega arith);
+    queue = λ p h. long-block queuedOf 1 (S .queue) (t .queue) queueRegion p 0 _ refl (omega arith) (omega arith) h (omega arith);
     time = refl;
     count = block-get (wordBlocks S t) dirtyCountRegion 0 {i = wordsFrom S dirtyCountRegion} refl (sym (begins (wordBlocks S t) dirtyCountRegion (word-sizes S t)) ∙ sym (add-zero (ahead (wordBlocks S t) dirtyCountRegion))) (omega arith) (omega arith);
     cycles = λ l h. word-block cycleOf 1 (linesOf S) (t .lines) cycleRegion l 0 (1 + l) refl (omega arith) (omega arith) h (omega arith);
     masks = λ l k h j. word-block masksOf 4 (linesOf S) (t .lines) maskRegion l k _ refl (omega arith) refl h j;
-    tickets = λ e k h j. word-block ticketsIn (S .readers) (S .entries) (t .misses) ticketRegion e k _ refl (omega arith) refl h j;
-    queue-masks = λ p k h j. word-block queueMasksOf 4 (S .places) (t .queue) queueMaskRegion p k _ refl (omega arith) refl h j;
+    tickets = λ e k h j. word-block ticketsIn (S .readers) (S .misses) (t .misses) ticketRegion e k _ refl (omega arith) refl h j;
+    queue-masks = λ p k h j. word-block queueMasksOf 4 (S .queue) (t .queue) queueMaskRegion p k _ refl (omega arith) refl h j;
     statuses = λ l k h j. mark-block statusesOf 4 (linesOf S) (t .lines) statusRegion l k (4 * l + k) refl (omega arith) (omega arith) h j;
     readables = λ l k h j. mark-block readablesOf 4 (linesOf S) (t .lines) readableRegion l k _ refl (omega arith) refl h j;
-    sents = λ e h. mark-block sentOf 1 (S .entries) (t .misses) sentRegion e 0 _ refl (omega arith) (omega arith) h (omega arith);
-    ticket-counts = λ e h. mark-block ticketCountOf 1 (S .entries) (t .misses) ticketCountRegion e 0 _ refl (omega arith) (omega arith) h (omega arith);
-    kinds = λ p h. mark-block kindOf 1 (S .places) (t .queue) kindRegion p 0 _ refl (omega arith) (omega arith) h (omega arith);
+    sents = λ e h. mark-block sentOf 1 (S .misses) (t .misses) sentRegion e 0 _ refl (omega arith) (omega arith) h (omega arith);
+    ticket-counts = λ e h. mark-block ticketCountOf 1 (S .misses) (t .misses) ticketCountRegion e 0 _ refl (omega arith) (omega arith) h (omega arith);
+    kinds = λ p h. mark-block kindOf 1 (S .queue) (t .queue) kindRegion p 0 _ refl (omega arith) (omega arith) h (omega arith);
   }
 
 -- ---- and slices in which they stand are the encoding
@@ -191,9 +191,9 @@ module _ (S : Settings) (L : Lent) (t : Tables) (st : Stands S L t) where
       regions-joined (L .longs) (longSizes S) (longBlocks S t) (
         region-singles (L .longs) 0 tagOf (linesOf S) (t .lines) (omega arith) (λ l h. rw zero-add (st .tags l h)),
         (
-          region-singles (L .longs) (longsFrom S missRegion) missOf (S .entries) (t .misses) (omega arith) (st .misses),
+          region-singles (L .longs) (longsFrom S missRegion) missOf (S .misses) (t .misses) (omega arith) (st .misses),
           (
-            region-singles (L .longs) (longsFrom S queueRegion) queuedOf (S .places) (t .queue) (omega arith) (st .queue),
+            region-singles (L .longs) (longsFrom S queueRegion) queuedOf (S .queue) (t .queue) (omega arith) (st .queue),
             e,
           ),
         ),
@@ -209,9 +209,9 @@ module _ (S : Settings) (L : Lent) (t : Tables) (st : Stands S L t) where
           (
             region-places (L .words) (wordsFrom S maskRegion) masksOf (linesOf S) (t .lines) 4 (omega arith) (st .masks),
             (
-              region-places (L .words) (wordsFrom S ticketRegion) ticketsIn (S .entries) (t .misses) (S .readers) (omega arith) (st .tickets),
+              region-places (L .words) (wordsFrom S ticketRegion) ticketsIn (S .misses) (t .misses) (S .readers) (omega arith) (st .tickets),
               (
-                region-places (L .words) (wordsFrom S queueMaskRegion) queueMasksOf (S .places) (t .queue) 4 (omega arith) (st .queue-masks),
+                region-places (L .words) (wordsFrom S queueMaskRegion) queueMasksOf (S .queue) (t .queue) 4 (omega arith) (st .queue-masks),
                 (
                   region-table (L .words) (wordsFrom S dirtyCountRegion) 1 (omega arith) ∙ ap (λ (c : ℕ). c ∷ []) (rw add-zero (st .count)),
                   e,
@@ -229,11 +229,11 @@ module _ (S : Settings) (L : Lent) (t : Tables) (st : Stands S L t) where
         (
           region-places (L .marks) (marksFrom S readableRegion) readablesOf (linesOf S) (t .lines) 4 (omega arith) (st .readables),
           (
-            region-singles (L .marks) (marksFrom S sentRegion) sentOf (S .entries) (t .misses) (omega arith) (st .sents),
+            region-singles (L .marks) (marksFrom S sentRegion) sentOf (S .misses) (t .misses) (omega arith) (st .sents),
             (
-              region-singles (L .marks) (marksFrom S ticketCountRegion) ticketCountOf (S .entries) (t .misses) (omega arith) (st .ticket-counts),
+              region-singles (L .marks) (marksFrom S ticketCountRegion) ticketCountOf (S .misses) (t .misses) (omega arith) (st .ticket-counts),
               (
-                region-singles (L .marks) (marksFrom S kindRegion) kindOf (S .places) (t .queue) (omega arith) (st .kinds),
+                region-singles (L .marks) (marksFrom S kindRegion) kindOf (S .queue) (t .queue) (omega arith) (st .kinds),
                 e,
               ),
             ),

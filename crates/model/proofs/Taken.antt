@@ -120,12 +120,12 @@ misses-count (Read a m k) Miss es c = count-append (entryFor c) es _
 misses-count (Read a m k) SectorMiss es c = count-append (entryFor c) es _
 misses-count (Write a m k) n es c = omega arith
 
-misses-few : (S : Settings) (x : Access) (n : Answer) (es : List Entry) → length es ≤ S .entries
-    → (isRead x && isMiss n && leb (S .entries) (length es)) ≡ false → length (onMisses x n es) ≤ S .entries
+misses-few : (S : Settings) (x : Access) (n : Answer) (es : List Entry) → length es ≤ S .misses
+    → (isRead x && isMiss n && leb (S .misses) (length es)) ≡ false → length (onMisses x n es) ≤ S .misses
 misses-few S (Read a m k) Hit es h f = h
 misses-few S (Read a m k) HitReserved es h f = rw length-map h
-misses-few S (Read a m k) Miss es h f = rw length-append (omega (arith, leb-false (S .entries) (length es) f))
-misses-few S (Read a m k) SectorMiss es h f = rw length-append (omega (arith, leb-false (S .entries) (length es) f))
+misses-few S (Read a m k) Miss es h f = rw length-append (omega (arith, leb-false (S .misses) (length es) f))
+misses-few S (Read a m k) SectorMiss es h f = rw length-append (omega (arith, leb-false (S .misses) (length es) f))
 misses-few S (Write a m k) n es h f = h
 
 -- reads queued by the access
@@ -470,8 +470,8 @@ module _ (S : Settings) (t : Tables) (ok : Sound S t) (x : Access) (formed : wel
         go (inl o) = queued-still x (p .answer) (t .misses) y (queued-at S t ok y o)
         go (inr o) = more (in-append (fetches x (p .answer)) (p .backs) y o)
 
-    module _ (entry : (isRead x && isMiss (p .answer) && leb (S .entries) (length (t .misses))) ≡ false)
-        (roomy : ltb (S .places) (length (t .queue) + placesNeeded x p) ≡ false) where
+    module _ (entry : (isRead x && isMiss (p .answer) && leb (S .misses) (length (t .misses))) ≡ false)
+        (roomy : ltb (S .queue) (length (t .queue) + placesNeeded x p) ≡ false) where
       pub taken-sound : Sound S (afterAccess S x p t)
       taken-sound = record {
         sized = eq-eqb (length (u .lines)) (linesOf S) lines-same;
@@ -483,9 +483,9 @@ module _ (S : Settings) (t : Tables) (ok : Sound S t) (x : Access) (formed : wel
             (λ l m. let (j, h, e) = in-index (u .lines) fresh l m in ap (reservedOk (u .misses)) (sym e) ∙ taken-reserved j h);
         entered = in-all (entryOk S u) (u .misses) (λ e m. entry-whole S u e (taken-entry e m));
         lining = in-all (queuedOk (u .misses)) (u .queue) taken-queued;
-        few = le-leb (length (u .misses)) (S .entries)
-            (misses-few S x (p .answer) (t .misses) (leb-true (length (t .misses)) (S .entries) (ok .few)) entry);
-        short = le-leb (length (u .queue)) (S .places)
-            (omega (arith, ltb-false (S .places) (length (t .queue) + placesNeeded x p) roomy, length-append (t .queue) (queues x p)));
+        few = le-leb (length (u .misses)) (S .misses)
+            (misses-few S x (p .answer) (t .misses) (leb-true (length (t .misses)) (S .misses) (ok .few)) entry);
+        short = le-leb (length (u .queue)) (S .queue)
+            (omega (arith, ltb-false (S .queue) (length (t .queue) + placesNeeded x p) roomy, length-append (t .queue) (queues x p)));
         counted = eq-eqb (u .dirtyCount) (dirtyLines u) (recount dirty (t .lines) n (lineAfter x p (t .now)) fresh (sp .inside) (eqb-true (t .dirtyCount) (dirtyLines t) (ok .counted)));
       }

@@ -35,15 +35,15 @@ pub record Case : Type 0 where
 
 -- "1 set, 2 ways, P 50, M 2, W 2, Q 4"
 abbrev pub base : Settings
-base = record { sets = 1; ways = 2; percent = 50; entries = 2; readers = 2; places = 4 }
+base = record { sets = 1; ways = 2; dirty = 50; misses = 2; readers = 2; queue = 4 }
 
 -- "Two sets, one way, P 60"
 abbrev pub narrow : ℕ → Settings
-narrow p = record { sets = 2; ways = 1; percent = p; entries = 2; readers = 2; places = 4 }
+narrow p = record { sets = 2; ways = 1; dirty = p; misses = 2; readers = 2; queue = 4 }
 
 -- "Q 2"
 abbrev pub short : Settings
-short = record { sets = 1; ways = 2; percent = 50; entries = 2; readers = 2; places = 2 }
+short = record { sets = 1; ways = 2; dirty = 50; misses = 2; readers = 2; queue = 2 }
 
 abbrev pub r : ℕ → Call
 r a = offer (Read a 0 7)

@@ -20,14 +20,14 @@ pub record Fit (S : Settings) (longs words marks : List ℕ) : Type 0 where
   pub ways : 1 ≤ S .ways
   pub few-ways : S .ways ≤ 16
   pub lines : linesOf S ≤ 1024
-  pub percent : S .percent ≤ 100
-  pub entry : 1 ≤ S .entries
-  pub entries : S .entries ≤ 64
+  pub dirty : S .dirty ≤ 100
+  pub entry : 1 ≤ S .misses
+  pub misses : S .misses ≤ 64
   pub reader : 1 ≤ S .readers
   pub readers : S .readers ≤ 8
-  pub tickets : S .readers * S .entries ≤ 512
-  pub place : 2 ≤ S .places
-  pub places : S .places ≤ 64
+  pub tickets : S .readers * S .misses ≤ 512
+  pub place : 2 ≤ S .queue
+  pub queue : S .queue ≤ 64
   pub longs-long : length longs ≡ longsLength S
   pub words-long : length words ≡ wordsLength S
   pub marks-long : length marks ≡ marksLength S

@@ -9,15 +9,15 @@ use Rattle.model.specs.declared.Settings.{Settings}
 
 -- 64-bit numbers: tags, miss addresses, queue addresses
 abbrev pub longSizes : Settings → List ℕ
-longSizes S = linesOf S ∷ S .entries ∷ S .places ∷ []
+longSizes S = linesOf S ∷ S .misses ∷ S .queue ∷ []
 
 -- 32-bit numbers: the current cycle, cycles, masks, tickets, queue masks, the dirty count
 abbrev pub wordSizes : Settings → List ℕ
-wordSizes S = 1 ∷ linesOf S ∷ 4 * linesOf S ∷ S .readers * S .entries ∷ 4 * S .places ∷ 1 ∷ []
+wordSizes S = 1 ∷ linesOf S ∷ 4 * linesOf S ∷ S .readers * S .misses ∷ 4 * S .queue ∷ 1 ∷ []
 
 -- bytes: statuses, readable marks, sent marks, ticket counts, queue kinds
 abbrev pub markSizes : Settings → List ℕ
-markSizes S = 4 * linesOf S ∷ 4 * linesOf S ∷ S .entries ∷ S .entries ∷ S .places ∷ []
+markSizes S = 4 * linesOf S ∷ 4 * linesOf S ∷ S .misses ∷ S .misses ∷ S .queue ∷ []
 
 -- ---- the regions by number
 

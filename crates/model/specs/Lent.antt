@@ -114,8 +114,8 @@ linesIn S longs words marks = table (linesOf S) (lineAt S longs words marks)
 unfoldable pub tablesOf : Settings → Lent → Tables
 tablesOf S L = record {
   lines = linesIn S (L .longs) (L .words) (L .marks);
-  misses = table (inUse (S .entries) (ticketCountAt S (L .marks))) (entryAt S L);
-  queue = table (inUse (S .places) (kindAt S (L .marks))) (queueAt S L);
+  misses = table (inUse (S .misses) (ticketCountAt S (L .marks))) (entryAt S L);
+  queue = table (inUse (S .queue) (kindAt S (L .marks))) (queueAt S L);
   now = nowAt (L .words);
   dirtyCount = dirtyCountAt S (L .words);
 }
@@ -165,8 +165,8 @@ queueMasksOf x = x .masks
 abbrev pub longBlocks : Settings → Tables → List (List ℕ)
 longBlocks S t =
     places tagOf 1 (linesOf S) (t .lines)
-    ∷ places missOf 1 (S .entries) (t .misses)
-    ∷ places queuedOf 1 (S .places) (t .queue)
+    ∷ places missOf 1 (S .misses) (t .misses)
+    ∷ places queuedOf 1 (S .queue) (t .queue)
     ∷ []
 
 abbrev pub wordBlocks : Settings → Tables → List (List ℕ)
@@ -174,8 +174,8 @@ wordBlocks S t =
     (t .now ∷ [])
     ∷ places cycleOf 1 (linesOf S) (t .lines)
     ∷ places masksOf 4 (linesOf S) (t .lines)
-    ∷ places ticketsIn (S .readers) (S .entries) (t .misses)
-    ∷ places queueMasksOf 4 (S .places) (t .queue)
+    ∷ places ticketsIn (S .readers) (S .misses) (t .misses)
+    ∷ places queueMasksOf 4 (S .queue) (t .queue)
     ∷ (t .dirtyCount ∷ [])
     ∷ []
 
@@ -183,9 +183,9 @@ abbrev pub markBlocks : Settings → Tables → List (List ℕ)
 markBlocks S t =
     places statusesOf 4 (linesOf S) (t .lines)
     ∷ places readablesOf 4 (linesOf S) (t .lines)
-    ∷ places sentOf 1 (S .entries) (t .misses)
-    ∷ places ticketCountOf 1 (S .entries) (t .misses)
-    ∷ places kindOf 1 (S .places) (t .queue)
+    ∷ places sentOf 1 (S .misses) (t .misses)
+    ∷ places ticketCountOf 1 (S .misses) (t .misses)
+    ∷ places kindOf 1 (S .queue) (t .queue)
     ∷ []
 
 unfoldable pub encode : Settings → Tables → Lent

@@ -51,7 +51,7 @@ waysOf S ls a = take (S .ways) (drop (setIndex S a * S .ways) ls)
 
 -- "100 × dirty ≥ P × lines", by the count that the tables keep (L3)
 abbrev pub enoughDirty : Settings → ℕ → Bool
-enoughDirty S d = leb (S .percent * linesOf S) (100 * d)
+enoughDirty S d = leb (S .dirty * linesOf S) (100 * d)
 
 -- "no sector is RESERVED and either none is MODIFIED or 100 × dirty ≥ P × lines"
 abbrev pub candidate : Bool → Line → Bool

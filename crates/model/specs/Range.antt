@@ -23,7 +23,7 @@ inRange S =
     powerTo256 (S .sets)
     && within 1 16 (S .ways)
     && leb (linesOf S) 1024
-    && leb (S .percent) 100
-    && within 1 64 (S .entries)
+    && leb (S .dirty) 100
+    && within 1 64 (S .misses)
     && within 1 8 (S .readers)
-    && within 2 64 (S .places)
+    && within 2 64 (S .queue)

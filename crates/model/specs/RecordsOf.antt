@@ -159,18 +159,18 @@ abbrev pub settingsIn : List ℕ → Settings
 settingsIn b = record {
   sets = numberAt b 0 2;
   ways = numberAt b 2 1;
-  percent = numberAt b 3 1;
-  entries = numberAt b 4 1;
+  dirty = numberAt b 3 1;
+  misses = numberAt b 4 1;
   readers = numberAt b 5 1;
-  places = numberAt b 6 1;
+  queue = numberAt b 6 1;
 }
 
 abbrev pub settingsCommand : Settings → Command
-settingsCommand S = cmd.Settings (S .sets) (S .ways) (S .percent) (S .entries) (S .readers) (S .places)
+settingsCommand S = cmd.Settings (S .sets) (S .ways) (S .dirty) (S .misses) (S .readers) (S .queue)
 
 module _ (F : Format) where
   abbrev pub commandKind : Command → ℕ
-  commandKind (cmd.Settings sets ways percent entries readers places) = settingsKind F
+  commandKind (cmd.Settings sets ways dirty misses readers queue) = settingsKind F
   commandKind (cmd.Read a k) = readKind F
   commandKind (cmd.Write a m) = kinds.write
   commandKind cmd.Send = kinds.send
@@ -178,8 +178,8 @@ module _ (F : Format) where
   commandKind (cmd.Tick c) = kinds.tick
 
   abbrev pub commandBody : Command → List ℕ
-  commandBody (cmd.Settings sets ways percent entries readers places) =
-      bytesOf 2 sets ++ (bytesOf 1 ways ++ (bytesOf 1 percent ++ (bytesOf 1 entries ++ (bytesOf 1 readers ++ bytesOf 1 places))))
+  commandBody (cmd.Settings sets ways dirty misses readers queue) =
+      bytesOf 2 sets ++ (bytesOf 1 ways ++ (bytesOf 1 dirty ++ (bytesOf 1 misses ++ (bytesOf 1 readers ++ bytesOf 1 queue))))
   commandBody (cmd.Read a k) = bytesOf 8 a ++ bytesOf (ticketBytes F) k
   commandBody (cmd.Write a m) = bytesOf 8 a ++ bytesOf 4 m
   commandBody cmd.Send = []

@@ -86,6 +86,6 @@ sound S t =
     && all (reservedOk (t .misses)) (t .lines)
     && all (entryOk S t) (t .misses)
     && all (queuedOk (t .misses)) (t .queue)
-    && leb (length (t .misses)) (S .entries)
-    && leb (length (t .queue)) (S .places)
+    && leb (length (t .misses)) (S .misses)
+    && leb (length (t .queue)) (S .queue)
     && eqb (t .dirtyCount) (dirtyLines t)

@@ -111,7 +111,7 @@ module _ (S : Settings) (longs words marks : List ℕ) where
 
   -- 17: a RESERVED sector has an entry
   abbrev pub sectorBacked : ℕ → Bool
-  sectorBacked i = imp (eqb (status i) 1) (some (S .entries) (entryFor (tag (i / 4) + 32 * (i % 4))))
+  sectorBacked i = imp (eqb (status i) 1) (some (S .misses) (entryFor (tag (i / 4) + 32 * (i % 4))))
 
   abbrev pub sectorFine : ℕ → Bool
   sectorFine i = sectorShape i && sectorBacked i
@@ -141,7 +141,7 @@ module _ (S : Settings) (longs words marks : List ℕ) where
 
   -- 24: "Each unsent entry has exactly one read in the queue"
   abbrev pub entryAsked : ℕ → Bool
-  entryAsked e = imp (used e && eqb (sent e) 0) (eqb (countBelow (S .places) (readFor (miss e))) 1)
+  entryAsked e = imp (used e && eqb (sent e) 0) (eqb (countBelow (S .queue) (readFor (miss e))) 1)
 
   abbrev pub entryFine : ℕ → Bool
   entryFine e = entryShape e && entryBacked e && entryAlone e && entryAsked e
@@ -159,7 +159,7 @@ module _ (S : Settings) (longs words marks : List ℕ) where
 
   -- 25: "no other read stands there": a read has an unsent entry
   abbrev pub readBacked : ℕ → Bool
-  readBacked p = imp (eqb (kind p) 1) (some (S .entries) (unsentFor (queued p)))
+  readBacked p = imp (eqb (kind p) 1) (some (S .misses) (unsentFor (queued p)))
 
   abbrev pub placeFine : ℕ → Bool
   placeFine p = placeShape p && readBacked p
@@ -184,11 +184,11 @@ module _ (S : Settings) (longs words marks : List ℕ) where
       nowFine
       && linesFine
       && every (4 * linesOf S) sectorFine
-      && every (S .readers * S .entries) ticketFine
-      && gathered (S .entries) ticketCount
-      && every (S .entries) entryFine
-      && gathered (S .places) kind
-      && every (S .places) placeFine
+      && every (S .readers * S .misses) ticketFine
+      && gathered (S .misses) ticketCount
+      && every (S .misses) entryFine
+      && gathered (S .queue) kind
+      && every (S .queue) placeFine
       && countFine
 
 abbrev pub soundLent : Settings → Lent → Bool

@@ -133,9 +133,9 @@ entryFull S a e = entryFor a e && leb (S .readers) (length (e .tickets))
 unfoldable pub proceed : Settings → Access → Tables → Place → Outcome Tables
 proceed S x t (no n) = refused n
 proceed S x t (at p) =
-    pick (ltb (S .places) (length (t .queue) + placesNeeded x p)) (refused QueueFull)
+    pick (ltb (S .queue) (length (t .queue) + placesNeeded x p)) (refused QueueFull)
     (pick (isRead x && isMerge (p .answer) && any (entryFull S (addressOf x)) (t .misses)) (refused EntryFull)
-    (pick (isRead x && isMiss (p .answer) && leb (S .entries) (length (t .misses))) (refused MissTableFull)
+    (pick (isRead x && isMiss (p .answer) && leb (S .misses) (length (t .misses))) (refused MissTableFull)
     (accept S x p t)))
 
 -- 4 "access address not a multiple of 32 or not below 2^48; write mask 0; read mask not 0", then what the access meets under the rules R

@@ -15,10 +15,10 @@ ghost use Rattle.model.specs.Address.{addressOf, blockOf, sectorAddressO
 pub struct Settings {
     pub sets: usize,
     pub ways: usize,
-    pub percent: usize,
-    pub entries: usize,
+    pub dirty: usize,
+    pub misses: usize,
     pub readers: usize,
-    pub places: usize,
+    pub queue: usize,
 }
 
 pub enum Status {
@@ -116,10 +116,10 @@ pub enum Command {
     Settings {
         sets: u16,
         ways: u8,
-        percent: u8,
-        entries: u8,
+        dirty: u8,
+        misses: u8,
         readers: u8,
-        places: u8,
+        queue: u8,
     },
     Read {
         address: u64,

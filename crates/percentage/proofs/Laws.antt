@@ -52,9 +52,9 @@ ranged d l p e =
     }
 
 -- ---- ours is the engine's rule for every cache of these lines and this P, whatever its sets, ways and other settings
-pub ours : (S : Settings) (d : ℕ) → enoughDirty S d ≡ wholeMeets d (linesOf S) (S .percent)
+pub ours : (S : Settings) (d : ℕ) → enoughDirty S d ≡ wholeMeets d (linesOf S) (S .dirty)
 unfolding wholeMeets
-ours S d = ap (λ (z : ℕ). leb (S .percent * z) (100 * d)) (sym (one-mul (linesOf S)))
+ours S d = ap (λ (z : ℕ). leb (S .dirty * z) (100 * d)) (sym (one-mul (linesOf S)))
 
 pub whole-is : (d l p : ℕ) → wholeMeets d l p ≡ leb (p * l) (100 * d)
 unfolding wholeMeets
@@ -168,8 +168,8 @@ agree-at d l p k e r =
     rw e
     (agree d k p (exponent k (subst (λ (z : ℕ). z ≤ 1024) e (r .most))) (subst (λ (z : ℕ). d ≤ z) e (r .part)) (r .cent))
 
-pub powers-agree : (S : Settings) (d k : ℕ) → linesOf S ≡ 2 ^ k → Ranged d (linesOf S) (S .percent) → floatMeets d (linesOf S) (S .percent) ≡ enoughDirty S d
-powers-agree S d k e r = agree-at d (linesOf S) (S .percent) k e r ∙ sym (ours S d)
+pub powers-agree : (S : Settings) (d k : ℕ) → linesOf S ≡ 2 ^ k → Ranged d (linesOf S) (S .dirty) → floatMeets d (linesOf S) (S .dirty) ≡ enoughDirty S d
+powers-agree S d k e r = agree-at d (linesOf S) (S .dirty) k e r ∙ sym (ours S d)
 
 pub same-answer : (d l p k : ℕ) → l ≡ 2 ^ k → answer (inRange d l p) (floatMeets d l p) ≡ answer (inRange d l p) (wholeMeets d l p)
 same-answer d l p k e = go (inRange d l p) (λ t. agree-at d l p k e (ranged d l p t))

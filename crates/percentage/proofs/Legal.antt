@@ -98,12 +98,12 @@ tied d l p s e = ⊎-elim (λ h. at-53 (eqb-true p 53 h)) (λ h. at-59 (eqb-true
         ap (λ (z : ℕ). z % 100) k ∙ mul-mod-right 100 (39 * d - 23 * l)
 
 module _ (S : Settings) (d : ℕ) (e : inRange S ≡ true) (D : d ≤ linesOf S) where
-  pub never-at-a-cache : differ d (linesOf S) (S .percent) ≡ false
+  pub never-at-a-cache : differ d (linesOf S) (S .dirty) ≡ false
   never-at-a-cache =
       let r = ranged S e in
-      differ-no d (linesOf S) (S .percent) (record { some = lines-some S e; most = r .lines; part = D; cent = r .percent }) (λ s h. not-hundred S e (tied d (linesOf S) (S .percent) s h))
+      differ-no d (linesOf S) (S .dirty) (record { some = lines-some S e; most = r .lines; part = D; cent = r .dirty }) (λ s h. not-hundred S e (tied d (linesOf S) (S .dirty) s h))
 
   -- the float answer is the engine's at every cache
-  pub caches-agree : floatMeets d (linesOf S) (S .percent) ≡ enoughDirty S d
+  pub caches-agree : floatMeets d (linesOf S) (S .dirty) ≡ enoughDirty S d
   unfolding differ
-  caches-agree = agreed (floatMeets d (linesOf S) (S .percent)) (wholeMeets d (linesOf S) (S .percent)) (not-false _ never-at-a-cache) ∙ sym (ours S d)
+  caches-agree = agreed (floatMeets d (linesOf S) (S .dirty)) (wholeMeets d (linesOf S) (S .dirty)) (not-false _ never-at-a-cache) ∙ sym (ours S d)

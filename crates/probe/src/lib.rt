@@ -192,12 +192,12 @@ pub fn chosen_by_tree(marks: &[u8], base: usize, ways: usize, enough: bool, tree
 
 // "100 × dirty ≥ P × lines", by the count that the tables keep.
 fn enough_dirty(s: Settings, at: Layout, words: &[u32]) -> bool
-    requires { ⌜ Placed s at × (s .percent ≤ 100) × (linesOf s ≤ 1024) × (at .dirty < length (now words)) ⌝ }
+    requires { ⌜ Placed s at × (s .dirty ≤ 100) × (linesOf s ≤ 1024) × (at .dirty < length (now words)) ⌝ }
     ensures { λ r. ⌜ r ≡ enoughIn s (now (words .entry)) ⌝ }
 {
     let place = at.dirty;
     let dirty = words[place] as usize;
-    s.percent * (s.sets * s.ways) <= 100 * dirty
+    s.dirty * (s.sets * s.ways) <= 100 * dirty
 }
 
 // The way to take over: the last wholly invalid one, else the candidate with the earliest cycle.

@@ -45,11 +45,11 @@ bit-flag false = refl
 
 -- n entries are in use
 module _ (S : Settings) {longs words marks : List ℕ} (t : Tables) (i : Is S (lent longs words marks) t) {at : Layout} (p : Placed S at)
-    {n : ℕ} (u : First marks (at .counts) (S .entries) 0 n) where
+    {n : ℕ} (u : First marks (at .counts) (S .misses) 0 n) where
   pub in-use : n ≡ length (t .misses)
   in-use = let ok = parts S t (i .soundly) in misses-used S t (is-stands i) p (few-misses S t ok) (some-tickets S t ok) u
 
-  few : length (t .misses) ≤ S .entries
+  few : length (t .misses) ≤ S .misses
   few = few-misses S t (parts S t (i .soundly))
 
   address-is : (e : ℕ) → e < length (t .misses) → getD longs (at .misses + e) 0 ≡ getD (t .misses) e noEntry .address

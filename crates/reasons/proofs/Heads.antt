@@ -49,23 +49,23 @@ none-told places [] h = refl
 none-told places (q ∷ qs) h = absurd (omega arith)
 
 module _ (S : Settings) {longs words marks : List ℕ} (t : Tables) (i : Is S (lent longs words marks) t) {at : Layout} (p : Placed S at)
-    {n : ℕ} (u : First marks (at .kinds) (S .places) 0 n) where
-  short : length (t .queue) ≤ S .places
+    {n : ℕ} (u : First marks (at .kinds) (S .queue) 0 n) where
+  short : length (t .queue) ≤ S .queue
   short = few-queued S t (parts S t (i .soundly))
 
   queued : n ≡ length (t .queue)
   queued = queue-used S t (is-stands i) p short u
 
-  pub queue-empty : n ≡ 0 → reason.Nothing ≡ queueReason (S .places) (t .queue)
-  queue-empty e = sym (none-told (S .places) (t .queue) (sym queued ∙ e))
+  pub queue-empty : n ≡ 0 → reason.Nothing ≡ queueReason (S .queue) (t .queue)
+  queue-empty e = sym (none-told (S .queue) (t .queue) (sym queued ∙ e))
 
   pub head-shown : (n ≡ 0 → ⊥) → {x : Queued} → x ≡ frontAt longs (at .queue) words (at .backs) marks (at .kinds) → {h : Event} → h ≡ sentEvent x
-      → reason.Queue h (S .places - n) ≡ queueReason (S .places) (t .queue)
+      → reason.Queue h (S .queue - n) ≡ queueReason (S .queue) (t .queue)
   head-shown e front is =
       let all = queued in
       let some : 1 ≤ length (t .queue) = some-from (length (t .queue)) (λ z. e (all ∙ z)) in
       let head = is ∙ ap sentEvent (front ∙ front-is S t (is-stands i) p short some (head-four S t (parts S t (i .soundly)) some)) in
-      rw (head, all) (sym (head-told (S .places) (t .queue) some))
+      rw (head, all) (sym (head-told (S .queue) (t .queue) some))
     where
       some-from : (k : ℕ) → (k ≡ 0 → ⊥) → 1 ≤ k
       some-from k f = omega arith
@@ -80,8 +80,8 @@ module _ (S : Settings) {longs words marks : List ℕ} (t : Tables) (i : Is S (l
       let e : getD words (at .dirty) 0 ≡ count dirty (t .lines) = dirty-count-at S t (is-stands i) p ∙ eqb-true (t .dirtyCount) (dirtyLines t) (ok .counted) in
       omega (arith, e, count-length dirty (t .lines), lines-are S t ok)
 
-  pub lines-shown : {d m : ℕ} → d ≡ getD words (at .dirty) 0 → m ≡ missingLines (S .percent) (linesOf S) d
-      → reason.Lines m d (linesOf S) (S .percent) ≡ linesReason S (t .dirtyCount)
+  pub lines-shown : {d m : ℕ} → d ≡ getD words (at .dirty) 0 → m ≡ missingLines (S .dirty) (linesOf S) d
+      → reason.Lines m d (linesOf S) (S .dirty) ≡ linesReason S (t .dirtyCount)
   lines-shown {d} f e = let same : d ≡ t .dirtyCount = f ∙ dirty-count-at S t (is-stands i) p in rw (e, same)
 
 -- ---- the check

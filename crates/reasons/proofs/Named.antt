@@ -92,13 +92,13 @@ module _ (S : Settings) (t : Tables) (ok : Sound S t) where
 
 -- ---- 6: "100 × dirty ≥ P × lines" does not hold
 
-pub held-misses-some : (S : Settings) (d : ℕ) → enoughDirty S d ≡ false → 1 ≤ missingLines (S .percent) (linesOf S) d
-held-misses-some S d h = let q = leb-false (S .percent * linesOf S) (100 * d) h in omega arith
+pub held-misses-some : (S : Settings) (d : ℕ) → enoughDirty S d ≡ false → 1 ≤ missingLines (S .dirty) (linesOf S) d
+held-misses-some S d h = let q = leb-false (S .dirty * linesOf S) (100 * d) h in omega arith
 
 -- ---- 7: "too few free queue places" for an access that needs two at the most
 
-pub queue-named : (S : Settings) (qs : List Queued) → inRange S ≡ true → (n : ℕ) → n ≤ 2 → ltb (S .places) (length qs + n) ≡ true → Named (queueReason (S .places) qs)
-queue-named S [] range n few h e = absurd (omega (arith, ltb-true (S .places) (0 + n) h, places-two S range))
+pub queue-named : (S : Settings) (qs : List Queued) → inRange S ≡ true → (n : ℕ) → n ≤ 2 → ltb (S .queue) (length qs + n) ≡ true → Named (queueReason (S .queue) qs)
+queue-named S [] range n few h e = absurd (omega (arith, ltb-true (S .queue) (0 + n) h, places-two S range))
 queue-named S (q ∷ qs) range n few h e = let z : _≡_ {A = ℕ} 0 1 = cc in omega arith
 
 -- ---- 8: "entry has W tickets"
@@ -110,6 +110,6 @@ readers-named S a es h =
 
 -- ---- 9: "M in use"
 
-pub table-named : (S : Settings) (es : List Entry) → inRange S ≡ true → leb (S .entries) (length es) ≡ true → Named (entryReason anyEntry es)
-table-named S [] range h n = absurd (omega (arith, leb-true (S .entries) 0 h, entries-some S range))
+pub table-named : (S : Settings) (es : List Entry) → inRange S ≡ true → leb (S .misses) (length es) ≡ true → Named (entryReason anyEntry es)
+table-named S [] range h n = absurd (omega (arith, leb-true (S .misses) 0 h, entries-some S range))
 table-named S (e ∷ es) range h n = let z : _≡_ {A = ℕ} 0 1 = cc in omega arith

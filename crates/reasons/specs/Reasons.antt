@@ -38,7 +38,7 @@ abbrev pub missingLines : ℕ → ℕ → ℕ → ℕ
 missingLines percent lines d = (percent * lines - 100 * d + 99) / 100
 
 abbrev pub linesReason : Settings → ℕ → Reason
-linesReason S d = reason.Lines (missingLines (S .percent) (linesOf S) d) d (linesOf S) (S .percent)
+linesReason S d = reason.Lines (missingLines (S .dirty) (linesOf S) d) d (linesOf S) (S .dirty)
 
 abbrev pub queueReason : ℕ → List Queued → Reason
 queueReason places [] = reason.Nothing
@@ -52,7 +52,7 @@ reasonFor S x t refusal.NotSound = reason.Nothing
 reasonFor S x t refusal.BadAccess = reason.Nothing
 reasonFor S x t refusal.SetBusy = entryReason (ofSet (S .sets) (setIndex S (addressOf x))) (t .misses)
 reasonFor S x t refusal.SetHeld = linesReason S (t .dirtyCount)
-reasonFor S x t refusal.QueueFull = queueReason (S .places) (t .queue)
+reasonFor S x t refusal.QueueFull = queueReason (S .queue) (t .queue)
 reasonFor S x t refusal.EntryFull = entryReason (entryFor (addressOf x)) (t .misses)
 reasonFor S x t refusal.MissTableFull = entryReason anyEntry (t .misses)
 reasonFor S x t refusal.NotSent = reason.Nothing

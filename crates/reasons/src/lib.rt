@@ -81,7 +81,7 @@ fn busy_reason(s: Settings, longs: &[u64], words: &[u32], marks: &[u8], x: Acces
     ensures { λ r. ⌜ Gives s (λ t. entryReason (ofSet (s .sets) (setIndex s (addressOf x))) (t .misses)) (lent (now (longs .entry)) (now (words .entry)) (now (marks .entry))) r ⌝ }
 {
     let at = layout::laid_out(s);
-    let n = layout::used(marks, at.counts, s.entries);
+    let n = layout::used(marks, at.counts, s.misses);
     let set = model::set_index(model::address_of(x), s.sets);
     let e = first_in_set(longs, at.misses, n, s.sets, set);
     entry_reason(at, longs, marks, e, n)
@@ -93,7 +93,7 @@ fn readers_reason(s: Settings, longs: &[u64], words: &[u32], marks: &[u8], x: Ac
     ensures { λ r. ⌜ Gives s (λ t. entryReason (entryFor (addressOf x)) (t .misses)) (lent (now (longs .entry)) (now (words .entry)) (now (marks .entry))) r ⌝ }
 {
     let at = layout::laid_out(s);
-    let n = layout::used(marks, at.counts, s.entries);
+    let n = layout::used(marks, at.counts, s.misses);
     let address = SectorAddress(model::address_of(x));
     let e = tables::find_entry(longs, at.misses, n, address);
     entry_reason(at, longs, marks, e, n)
@@ -105,7 +105,7 @@ fn table_reason(s: Settings, longs: &[u64], words: &[u32], marks: &[u8]) -> Reas
     ensures { λ r. ⌜ Gives s (λ t. entryReason anyEntry (t .misses)) (lent (now (longs .entry)) (now (words .entry)) (now (marks .entry))) r ⌝ }
 {
     let at = layout::laid_out(s);
-    let n = layout::used(marks, at.counts, s.entries);
+    let n = layout::used(marks, at.counts, s.misses);
     entry_reason(at, longs, marks, 0, n)
 }
 
@@ -131,7 +131,7 @@ fn held_reason(s: Settings, longs: &[u64], words: &[u32], marks: &[u8]) -> Reaso
     let at = layout::laid_out(s);
     let place = at.dirty;
     let dirty = words[place] as usize;
-    let percent = s.percent;
+    let percent = s.dirty;
     let missing = missing_lines(percent, lines, dirty);
     Reason::Lines {
         missing,
@@ -144,15 +144,15 @@ fn held_reason(s: Settings, longs: &[u64], words: &[u32], marks: &[u8]) -> Reaso
 // 7: the queue's head.
 fn queue_reason(s: Settings, longs: &[u64], words: &[u32], marks: &[u8]) -> Reason
     requires { ⌜ Held s (lent (now longs) (now words) (now marks)) ⌝ }
-    ensures { λ r. ⌜ Gives s (λ t. queueReason (s .places) (t .queue)) (lent (now (longs .entry)) (now (words .entry)) (now (marks .entry))) r ⌝ }
+    ensures { λ r. ⌜ Gives s (λ t. queueReason (s .queue) (t .queue)) (lent (now (longs .entry)) (now (words .entry)) (now (marks .entry))) r ⌝ }
 {
     let at = layout::laid_out(s);
-    let n = layout::used(marks, at.kinds, s.places);
+    let n = layout::used(marks, at.kinds, s.queue);
     if n == 0 {
         return Reason::Nothing;
     }
     let head = model::sent_event(tables::front(at, longs, words, marks));
-    let free = s.places - n;
+    let free = s.queue - n;
     Reason::Queue { head, free }
 }
 

@@ -40,11 +40,11 @@ refusal-bytes refusal.NotSent e = rw e
 refusal-bytes refusal.BadCycle e = rw e
 refusal-bytes refusal.QueueEmpty e = rw e
 
-pub settings-bytes : (sets ways percent entries readers places : ℕ) → ways < 256 → percent < 256 → entries < 256 → readers < 256 → places < 256
-    → 0 ∷ (bytesOf 2 sets ++ (ways ∷ percent ∷ entries ∷ readers ∷ places ∷ []))
-    ≡ commandBytes (cmd.Settings sets ways percent entries readers places)
+pub settings-bytes : (sets ways dirty misses readers queue : ℕ) → ways < 256 → dirty < 256 → misses < 256 → readers < 256 → queue < 256
+    → 0 ∷ (bytesOf 2 sets ++ (ways ∷ dirty ∷ misses ∷ readers ∷ queue ∷ []))
+    ≡ commandBytes (cmd.Settings sets ways dirty misses readers queue)
 unfolding records.commandBytes bytesOf
-settings-bytes sets ways percent entries readers places h1 h2 h3 h4 h5 =
+settings-bytes sets ways dirty misses readers queue h1 h2 h3 h4 h5 =
     rw (mod-eq-of-lt h1, mod-eq-of-lt h2, mod-eq-of-lt h3, mod-eq-of-lt h4, mod-eq-of-lt h5)
 
 -- ---- lengths
@@ -64,7 +64,7 @@ event-length ev.Ticked = refl
 
 pub command-length : (c : Command) → length (commandBytes c) ≡ 1 + lengthOf (commandKind c)
 unfolding records.commandBytes bytesOf records.lengthOf
-command-length (cmd.Settings sets ways percent entries readers places) = refl
+command-length (cmd.Settings sets ways dirty misses readers queue) = refl
 command-length (cmd.Read a k) = refl
 command-length (cmd.Write a m) = refl
 command-length cmd.Send = refl
@@ -85,7 +85,7 @@ event-short ev.Ticked = lit≤ tt
 
 pub command-short : (c : Command) → length (commandBytes c) ≤ 13
 unfolding records.commandBytes bytesOf
-command-short (cmd.Settings sets ways percent entries readers places) = lit≤ tt
+command-short (cmd.Settings sets ways dirty misses readers queue) = lit≤ tt
 command-short (cmd.Read a k) = lit≤ tt
 command-short (cmd.Write a m) = lit≤ tt
 command-short cmd.Send = lit≤ tt

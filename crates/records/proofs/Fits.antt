@@ -110,9 +110,9 @@ module _ (S : Settings) (range : inRange S ≡ true) (t : Tables) (ok : Sound S 
   unfolding proceed
   proceed-fits w (no n) e = (tt, tt)
   proceed-fits w (at p) e =
-      by-flag Fits (ltb (S .places) (length (t .queue) + placesNeeded x p)) _ _ (λ q. (tt, tt))
+      by-flag Fits (ltb (S .queue) (length (t .queue) + placesNeeded x p)) _ _ (λ q. (tt, tt))
       (λ q. by-flag Fits (isRead x && isMerge (p .answer) && any (entryFull S (addressOf x)) (t .misses)) _ _ (λ q. (tt, tt))
-      (λ q. by-flag Fits (isRead x && isMiss (p .answer) && leb (S .entries) (length (t .misses))) _ _ (λ q. (tt, tt))
+      (λ q. by-flag Fits (isRead x && isMiss (p .answer) && leb (S .misses) (length (t .misses))) _ _ (λ q. (tt, tt))
       (λ q. accept-fits w p (probe-spotted S range t ok x p e))))
 
   access-fits-in : Fits (access S x t)
@@ -217,9 +217,9 @@ module _ (t : Tables) (few : stamped t ≡ true) where
       met : (p : Place) → Kept (proceed S x t p)
       met (no n) = few
       met (at p) =
-          by-flag Kept (ltb (S .places) (length (t .queue) + placesNeeded x p)) _ _ (λ q. few)
+          by-flag Kept (ltb (S .queue) (length (t .queue) + placesNeeded x p)) _ _ (λ q. few)
           (λ q. by-flag Kept (isRead x && isMerge (p .answer) && any (entryFull S (addressOf x)) (t .misses)) _ _ (λ q. few)
-          (λ q. by-flag Kept (isRead x && isMiss (p .answer) && leb (S .entries) (length (t .misses))) _ _ (λ q. few)
+          (λ q. by-flag Kept (isRead x && isMiss (p .answer) && leb (S .misses) (length (t .misses))) _ _ (λ q. few)
           (λ q. misses-stamped x (p .answer) (t .misses) h few)))
 
   pub send-stamped : stamped (after t (send t)) ≡ true
@@ -269,7 +269,7 @@ command-read-fits k b h =
     let n = number-below b h in
     by-flag CommandReadFits (eqb (length b) (lengthOf k)) (commandIn k b) command.None
     (λ e. by-flag CommandReadFits (isSettings k) _ _
-    (λ e. record { sets = n 2 0; ways = n 1 2; percent = n 1 3; entries = n 1 4; readers = n 1 5; places = n 1 6 })
+    (λ e. record { sets = n 2 0; ways = n 1 2; dirty = n 1 3; misses = n 1 4; readers = n 1 5; queue = n 1 6 })
     (λ e. by-flag CommandReadFits (eqb k 1) _ _ (λ e. (n 8 0, n 4 8))
     (λ e. by-flag CommandReadFits (eqb k 2) _ _ (λ e. (n 8 0, n 4 8))
     (λ e. by-flag CommandReadFits (eqb k 3) _ _ (λ e. tt)

@@ -145,8 +145,8 @@ module _ (S : Settings) (range : inRange S ≡ true) (t : Tables) (ok : Sound S 
       (and-i (one-word (t .now) now-low)
       (and-i (places-words cycleOf 1 (linesOf S) (t .lines) cycle-words)
       (and-i (places-words masksOf 4 (linesOf S) (t .lines) (λ l m. masks-words (l .sectors) (line-is l m .1 .sectorly)))
-      (and-i (places-words ticketsIn (S .readers) (S .entries) (t .misses) (λ e m. all-in (λ e. words (e .tickets)) (t .misses) few m))
-      (and-i (places-words queueMasksOf 4 (S .places) (t .queue) (λ q m. queue-words (t .misses) q (all-in (queuedOk (t .misses)) (t .queue) (ok .lining) m)))
+      (and-i (places-words ticketsIn (S .readers) (S .misses) (t .misses) (λ e m. all-in (λ e. words (e .tickets)) (t .misses) few m))
+      (and-i (places-words queueMasksOf 4 (S .queue) (t .queue) (λ q m. queue-words (t .misses) q (all-in (queuedOk (t .misses)) (t .queue) (ok .lining) m)))
       (and-i count-word refl))))))
 
 pub encode-small : (S : Settings) → inRange S ≡ true → (t : Tables) → sound S t ≡ true → stamped t ≡ true → Small (encode S t)

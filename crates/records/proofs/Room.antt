@@ -118,9 +118,9 @@ proceed-takes : (S : Settings) (x : Access) (t : Tables) (p : Place) → Few p �
 unfolding proceed Few
 proceed-takes S x t (no r) h = refused-within _ r (lit≤ tt)
 proceed-takes S x t (at p) h =
-    takes-by (ltb (S .places) (length (t .queue) + placesNeeded x p)) (refused-within _ QueueFull (lit≤ tt))
+    takes-by (ltb (S .queue) (length (t .queue) + placesNeeded x p)) (refused-within _ QueueFull (lit≤ tt))
     (takes-by (isRead x && isMerge (p .answer) && any (entryFull S (addressOf x)) (t .misses)) (refused-within _ EntryFull (lit≤ tt))
-    (takes-by (isRead x && isMiss (p .answer) && leb (S .entries) (length (t .misses))) (refused-within _ MissTableFull (lit≤ tt))
+    (takes-by (isRead x && isMiss (p .answer) && leb (S .misses) (length (t .misses))) (refused-within _ MissTableFull (lit≤ tt))
     (accept-takes S x p t h)))
 
 pub access-takes : (S : Settings) (x : Access) (t : Tables) → Takes 38 (access S x t)

@@ -56,7 +56,7 @@ body-back ev.Ticked h = refl
 command-body-back : (c : Command) → CommandFits c → commandOf (commandKind c) (commandBody c) ≡ command.Got c
 unfolding records.commandOf bytesOf numberAt records.lengthOf
 command-body-back (cmd.Settings s w p m r q) h =
-    rw (number-bytes 2 s (h .sets), number-bytes 1 w (h .ways), number-bytes 1 p (h .percent), number-bytes 1 m (h .entries), number-bytes 1 r (h .readers), number-bytes 1 q (h .places))
+    rw (number-bytes 2 s (h .sets), number-bytes 1 w (h .ways), number-bytes 1 p (h .dirty), number-bytes 1 m (h .misses), number-bytes 1 r (h .readers), number-bytes 1 q (h .queue))
 command-body-back (cmd.Read a k) h = rw (number-bytes 8 a (h .0), number-bytes 4 k (h .1))
 command-body-back (cmd.Write a m) h = rw (number-bytes 8 a (h .0), number-bytes 4 m (h .1))
 command-body-back cmd.Send h = refl

@@ -42,13 +42,13 @@ AllFitting (e ∷ es) = Fitting e × AllFitting es
 pub record SettingsFit (s w p m r q : ℕ) : Type 0 where
   pub sets : s < 2 ^ 16
   pub ways : w < 2 ^ 8
-  pub percent : p < 2 ^ 8
-  pub entries : m < 2 ^ 8
+  pub dirty : p < 2 ^ 8
+  pub misses : m < 2 ^ 8
   pub readers : r < 2 ^ 8
-  pub places : q < 2 ^ 8
+  pub queue : q < 2 ^ 8
 
 abbrev pub CommandFits : Command → Type 0
-CommandFits (cmd.Settings sets ways percent entries readers places) = SettingsFit sets ways percent entries readers places
+CommandFits (cmd.Settings sets ways dirty misses readers queue) = SettingsFit sets ways dirty misses readers queue
 CommandFits (cmd.Read a k) = (a < 2 ^ 64) × (k < 2 ^ 32)
 CommandFits (cmd.Write a m) = (a < 2 ^ 64) × (m < 2 ^ 32)
 CommandFits cmd.Send = Unit

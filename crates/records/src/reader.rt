@@ -178,10 +178,10 @@ pub fn command_of(kind: u8, b: &[u8]) -> CommandRead
         0 => CommandRead::Got(Command::Settings {
             sets: number2(b, 0),
             ways: number1(b, 2),
-            percent: number1(b, 3),
-            entries: number1(b, 4),
+            dirty: number1(b, 3),
+            misses: number1(b, 4),
             readers: number1(b, 5),
-            places: number1(b, 6),
+            queue: number1(b, 6),
         }),
         1 => CommandRead::Got(Command::Read {
             address: number8(b, 0),

@@ -152,22 +152,22 @@ fn put_settings(
     at: usize,
     sets: u16,
     ways: u8,
-    percent: u8,
-    entries: u8,
+    dirty: u8,
+    misses: u8,
     readers: u8,
-    places: u8,
+    queue: u8,
 ) -> usize
-    requires { ⌜ at + length (commandBytes (Command.Settings sets ways percent entries readers places)) ≤ length (now out) ⌝ }
-    ensures { λ r. ⌜ Laid (now (out .entry)) at (length (commandBytes (Command.Settings sets ways percent entries readers places)))
-        (commandBytes (Command.Settings sets ways percent entries readers places)) r (now (out .exit)) ⌝ }
+    requires { ⌜ at + length (commandBytes (Command.Settings sets ways dirty misses readers queue)) ≤ length (now out) ⌝ }
+    ensures { λ r. ⌜ Laid (now (out .entry)) at (length (commandBytes (Command.Settings sets ways dirty misses readers queue)))
+        (commandBytes (Command.Settings sets ways dirty misses readers queue)) r (now (out .exit)) ⌝ }
 {
     let i = put1(out, at, SETTINGS_KIND);
     let j = put2(out, i, sets);
     let k = put1(out, j, ways);
-    let l = put1(out, k, percent);
-    let m = put1(out, l, entries);
+    let l = put1(out, k, dirty);
+    let m = put1(out, l, misses);
     let n = put1(out, m, readers);
-    put1(out, n, places)
+    put1(out, n, queue)
 }
 
 // How many bytes a command is, with numbers that fit theirs, as in event_size.
@@ -178,10 +178,10 @@ pub(crate) fn command_size(c: Command) -> usize
         Command::Settings {
             sets: _sets,
             ways: _ways,
-            percent: _percent,
-            entries: _entries,
+            dirty: _dirty,
+            misses: _misses,
             readers: _readers,
-            places: _places,
+            queue: _queue,
         } => SETTINGS_SIZE,
         Command::Read {
             address: _address,
@@ -205,11 +205,11 @@ pub(crate) fn put_command(c: Command, out: &mut [u8], at: usize) -> usize
         Command::Settings {
             sets,
             ways,
-            percent,
-            entries,
+            dirty,
+            misses,
             readers,
-            places,
-        } => put_settings(out, at, sets, ways, percent, entries, readers, places),
+            queue,
+        } => put_settings(out, at, sets, ways, dirty, misses, readers, queue),
         Command::Read { address, ticket } => put_request(out, at, 1, address, ticket),
         Command::Write { address, mask } => put_request(out, at, 2, address, mask),
         Command::Send => put1(out, at, 3),

@@ -82,7 +82,7 @@ empty-is (q ∷ qs) n e = ne-eqb n 0 (λ z. omega arith)
 
 -- q places of the queue are in use
 pub queueless : (S : Settings) {longs words marks : List ℕ} → Held S (lent longs words marks) → {at : Layout} → Placed S at
-    → {q : ℕ} → First marks (at .kinds) (S .places) 0 q → Queueless S (lent longs words marks) (eqb q 0)
+    → {q : ℕ} → First marks (at .kinds) (S .queue) 0 q → Queueless S (lent longs words marks) (eqb q 0)
 queueless S {longs} {words} {marks} h p {q} f =
     let i = is-read-off S h in
     let t = tablesOf S (lent longs words marks) in

@@ -36,7 +36,7 @@ fn nothing_queued(s: Settings, longs: &[u64], words: &[u32], marks: &[u8]) -> bo
     ensures { λ r. ⌜ Queueless s (lent (now (longs .entry)) (now (words .entry)) (now (marks .entry))) r ⌝ }
 {
     let at = layout::laid_out(s);
-    let n = layout::used(marks, at.kinds, s.places);
+    let n = layout::used(marks, at.kinds, s.queue);
     n == 0
 }
 

@@ -9,14 +9,14 @@ use model::Settings;
 use rounds::Went;
 
 // Two lines in two sets, two miss entries, two tickets in each, four places in the queue: the arrays below are as long as these ask.
-fn settings(percent: usize) -> Settings {
+fn settings(dirty: usize) -> Settings {
     Settings {
         sets: 2,
         ways: 1,
-        percent,
-        entries: 2,
+        dirty,
+        misses: 2,
         readers: 2,
-        places: 4,
+        queue: 4,
     }
 }
 

@@ -88,10 +88,10 @@ fn with_sets(sets: u64) -> Settings {
     Settings {
         sets: sets as usize,
         ways: 2,
-        percent: 50,
-        entries: 2,
+        dirty: 50,
+        misses: 2,
         readers: 2,
-        places: 4,
+        queue: 4,
     }
 }
 

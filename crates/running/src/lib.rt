@@ -58,10 +58,10 @@ fn settings_in(body: &[u8]) -> Settings
     Settings {
         sets: records::number2(body, 0) as usize,
         ways: records::number1(body, 2) as usize,
-        percent: records::number1(body, 3) as usize,
-        entries: records::number1(body, 4) as usize,
+        dirty: records::number1(body, 3) as usize,
+        misses: records::number1(body, 4) as usize,
         readers: records::number1(body, 5) as usize,
-        places: records::number1(body, 6) as usize,
+        queue: records::number1(body, 6) as usize,
     }
 }
 
@@ -152,10 +152,10 @@ fn step_of(
         Command::Settings {
             sets: _,
             ways: _,
-            percent: _,
-            entries: _,
+            dirty: _,
+            misses: _,
             readers: _,
-            places: _,
+            queue: _,
         } => records::write_told(tables::refused(Refusal::SettingOutOfRange), events, out),
         Command::Read { address, ticket } => {
             let access = Access::Read {

@@ -22,7 +22,7 @@ use Rattle.soundness.proofs.Tests.{some-same}
 use Rattle.soundness.proofs.FineLines.{reserved-short, own-set-reserves}
 
 -- the entry of a ticket place
-pub entry-below : (S : Settings) (i : ℕ) → 1 ≤ S .readers → i < S .readers * S .entries → i / S .readers < S .entries
+pub entry-below : (S : Settings) (i : ℕ) → 1 ≤ S .readers → i < S .readers * S .misses → i / S .readers < S .misses
 entry-below S i pos h = div-lt-iff-lt-mul pos .1 (rw mul-comm at h)
 
 -- an unused entry's sent mark is 0, so it is at most 1
@@ -75,7 +75,7 @@ module _ (S : Settings) (longs words marks : List ℕ) where
           rw (← count, ← mark, ← address, own-set-reserves S longs words marks fine a sets ways, ← holds, ← others, ne-eqb k 0 used, ne-eqb m 0 f)
           (and-yes named ∙ used-shape (leb k (S .readers)) (leb m 1) (eqb (a % 32) 0) held (not other) true)
 
-      pub unsent-entry : (n : ℕ) → m ≡ 0 → n ≡ countBelow (S .places) (readFor S longs words marks a) → (named && eqb n 1) ≡ entryFine S longs words marks e
+      pub unsent-entry : (n : ℕ) → m ≡ 0 → n ≡ countBelow (S .queue) (readFor S longs words marks a) → (named && eqb n 1) ≡ entryFine S longs words marks e
       unsent-entry n z r =
           rw (← count, ← mark, ← address, own-set-reserves S longs words marks fine a sets ways, ← holds, ← others, ← r, ne-eqb k 0 used, eq-eqb m 0 z)
           (used-shape (leb k (S .readers)) (leb m 1) (eqb (a % 32) 0) held (not other) (eqb n 1))

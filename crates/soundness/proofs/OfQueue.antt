@@ -54,7 +54,7 @@ module _ (S : Settings) {at : Layout} (laid : Placed S at) (longs words marks : 
   pub unused-place : k ≡ 0 → (clean && eqb a 0) ≡ placeFine S longs words marks p
   unused-place e = let q : kindAt S marks p ≡ 0 = sym kind ∙ e in rw (clean-is, address, q, add-zero) (unused-shape noMask _)
 
-  pub read-place : {r : Bool} → k ≡ 1 → r ≡ some (S .entries) (unsentFor S longs words marks a) → (clean && r) ≡ placeFine S longs words marks p
+  pub read-place : {r : Bool} → k ≡ 1 → r ≡ some (S .misses) (unsentFor S longs words marks a) → (clean && r) ≡ placeFine S longs words marks p
   read-place e h = let q : kindAt S marks p ≡ 1 = sym kind ∙ e in rw (clean-is, h, address, q, add-zero) (read-shape noMask _)
 
   pub back-place : k ≡ 2 → (goodBlock a && not clean) ≡ placeFine S longs words marks p

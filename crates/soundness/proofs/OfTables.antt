@@ -17,10 +17,10 @@ use Rattle.layout.specs.Layout.{Placed}
 
 -- 12 and 20, of the bytes that the code looks at
 module _ (S : Settings) {at : Layout} (p : Placed S at) (marks : List ℕ) where
-  pub counts-gathered : gathered (S .entries) (λ i. getD marks (at .counts + i) 0) ≡ gathered (S .entries) (ticketCountAt S marks)
+  pub counts-gathered : gathered (S .misses) (λ i. getD marks (at .counts + i) 0) ≡ gathered (S .misses) (ticketCountAt S marks)
   counts-gathered = rw (p .counts)
 
-  pub kinds-gathered : gathered (S .places) (λ i. getD marks (at .kinds + i) 0) ≡ gathered (S .places) (kindAt S marks)
+  pub kinds-gathered : gathered (S .queue) (λ i. getD marks (at .kinds + i) 0) ≡ gathered (S .queue) (kindAt S marks)
   kinds-gathered = rw (p .kinds)
 
 module _ (S : Settings) (longs words marks : List ℕ) (r : Bool) (lines : r ≡ linesFine S longs words marks) where
@@ -43,11 +43,11 @@ module _ (S : Settings) (longs words marks : List ℕ) (r : Bool) (lines : r ≡
 
     pub rest : {a b c d e f g : Bool}
         → a ≡ every (4 * linesOf S) (sectorFine S longs words marks)
-        → b ≡ every (S .readers * S .entries) (ticketFine S longs words marks)
-        → c ≡ gathered (S .entries) (ticketCountAt S marks)
-        → d ≡ every (S .entries) (entryFine S longs words marks)
-        → e ≡ gathered (S .places) (kindAt S marks)
-        → f ≡ every (S .places) (placeFine S longs words marks)
+        → b ≡ every (S .readers * S .misses) (ticketFine S longs words marks)
+        → c ≡ gathered (S .misses) (ticketCountAt S marks)
+        → d ≡ every (S .misses) (entryFine S longs words marks)
+        → e ≡ gathered (S .queue) (kindAt S marks)
+        → f ≡ every (S .queue) (placeFine S longs words marks)
         → g ≡ countFine S longs words marks
         → (a && b && c && d && e && f && g) ≡ soundNumbers S longs words marks
     unfolding soundNumbers

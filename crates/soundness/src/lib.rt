@@ -38,9 +38,9 @@ pub fn tables_sound(s: Settings, at: Layout, longs: &[u64], words: &[u32], marks
     }
     sectors_fine(s, at, longs, words, marks)
         & tickets_fine(s, at, longs, words, marks)
-        & gathered(marks, at.counts, s.entries)
+        & gathered(marks, at.counts, s.misses)
         & entries_fine(s, at, longs, words, marks)
-        & gathered(marks, at.kinds, s.places)
+        & gathered(marks, at.kinds, s.queue)
         & places_fine(s, at, longs, words, marks)
         & count_fine(s, at, longs, words, marks)
 }

@@ -128,7 +128,7 @@ fn sector_backed(
     }
     let sector = (i % 4) as u64;
     let a = SectorAddress(longs[i / 4] + 32 * sector);
-    has_entry(s, at, longs, words, marks, s.entries, a)
+    has_entry(s, at, longs, words, marks, s.misses, a)
 }
 
 fn sectors_backed(s: Settings, at: Layout, longs: &[u64], words: &[u32], marks: &[u8]) -> bool

@@ -44,9 +44,9 @@ pub(crate) fn tickets_fine(
     marks: &[u8],
 ) -> bool
     requires { ⌜ Placed s at × Fit s (now longs) (now words) (now marks) ⌝ }
-    ensures { λ r. ⌜ r ≡ every (s .readers * s .entries) (is.ticketFine s (now (longs .entry)) (now (words .entry)) (now (marks .entry))) ⌝ }
+    ensures { λ r. ⌜ r ≡ every (s .readers * s .misses) (is.ticketFine s (now (longs .entry)) (now (words .entry)) (now (marks .entry))) ⌝ }
 {
-    let n = s.readers * s.entries;
+    let n = s.readers * s.misses;
     let mut i = 0;
     while i < n {
         let count = marks[at.counts + i / s.readers] as usize;
@@ -60,7 +60,7 @@ pub(crate) fn tickets_fine(
 
 // The lines are fine, so only the set of an entry's address can have its sector.
 fn entry_fine(s: Settings, at: Layout, longs: &[u64], words: &[u32], marks: &[u8], e: usize) -> bool
-    requires { ⌜ Placed s at × Fit s (now longs) (now words) (now marks) × (is.linesFine s (now longs) (now words) (now marks) ≡ true) × (e < s .entries) ⌝ }
+    requires { ⌜ Placed s at × Fit s (now longs) (now words) (now marks) × (is.linesFine s (now longs) (now words) (now marks) ≡ true) × (e < s .misses) ⌝ }
     ensures { λ r. ⌜ r ≡ is.entryFine s (now (longs .entry)) (now (words .entry)) (now (marks .entry)) e ⌝ }
 {
     let count = marks[at.counts + e] as usize;
@@ -88,9 +88,9 @@ pub(crate) fn entries_fine(
     marks: &[u8],
 ) -> bool
     requires { ⌜ Placed s at × Fit s (now longs) (now words) (now marks) × (is.linesFine s (now longs) (now words) (now marks) ≡ true) ⌝ }
-    ensures { λ r. ⌜ r ≡ every (s .entries) (is.entryFine s (now (longs .entry)) (now (words .entry)) (now (marks .entry))) ⌝ }
+    ensures { λ r. ⌜ r ≡ every (s .misses) (is.entryFine s (now (longs .entry)) (now (words .entry)) (now (marks .entry))) ⌝ }
 {
-    let n = s.entries;
+    let n = s.misses;
     let mut e = 0;
     while e < n {
         if !entry_fine(s, at, longs, words, marks, e) {

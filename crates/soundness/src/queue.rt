@@ -11,7 +11,7 @@ use model::SectorAddress;
 use model::Settings;
 
 fn place_fine(s: Settings, at: Layout, longs: &[u64], words: &[u32], marks: &[u8], p: usize) -> bool
-    requires { ⌜ Placed s at × Fit s (now longs) (now words) (now marks) × (p < s .places) ⌝ }
+    requires { ⌜ Placed s at × Fit s (now longs) (now words) (now marks) × (p < s .queue) ⌝ }
     ensures { λ r. ⌜ r ≡ is.placeFine s (now (longs .entry)) (now (words .entry)) (now (marks .entry)) p ⌝ }
 {
     let a = longs[at.queue + p];
@@ -36,9 +36,9 @@ pub(crate) fn places_fine(
     marks: &[u8],
 ) -> bool
     requires { ⌜ Placed s at × Fit s (now longs) (now words) (now marks) ⌝ }
-    ensures { λ r. ⌜ r ≡ every (s .places) (is.placeFine s (now (longs .entry)) (now (words .entry)) (now (marks .entry))) ⌝ }
+    ensures { λ r. ⌜ r ≡ every (s .queue) (is.placeFine s (now (longs .entry)) (now (words .entry)) (now (marks .entry))) ⌝ }
 {
-    let n = s.places;
+    let n = s.queue;
     let mut p = 0;
     while p < n {
         if !place_fine(s, at, longs, words, marks, p) {

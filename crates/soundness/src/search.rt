@@ -19,7 +19,7 @@ pub(crate) fn has_entry(
     n: usize,
     a: SectorAddress,
 ) -> bool
-    requires { ⌜ Placed s at × Fit s (now longs) (now words) (now marks) × (n ≤ s .entries) ⌝ }
+    requires { ⌜ Placed s at × Fit s (now longs) (now words) (now marks) × (n ≤ s .misses) ⌝ }
     ensures { λ r. ⌜ r ≡ some n (is.entryFor s (now (longs .entry)) (now (words .entry)) (now (marks .entry)) (a .0)) ⌝ }
 {
     let mut e = 0;
@@ -42,9 +42,9 @@ pub(crate) fn has_unsent(
     a: SectorAddress,
 ) -> bool
     requires { ⌜ Placed s at × Fit s (now longs) (now words) (now marks) ⌝ }
-    ensures { λ r. ⌜ r ≡ some (s .entries) (is.unsentFor s (now (longs .entry)) (now (words .entry)) (now (marks .entry)) (a .0)) ⌝ }
+    ensures { λ r. ⌜ r ≡ some (s .misses) (is.unsentFor s (now (longs .entry)) (now (words .entry)) (now (marks .entry)) (a .0)) ⌝ }
 {
-    let n = s.entries;
+    let n = s.misses;
     let mut e = 0;
     while e < n {
         if (marks[at.counts + e] != 0) & (marks[at.sent + e] == 0) & (longs[at.misses + e] == a.0) {
@@ -65,9 +65,9 @@ pub(crate) fn reads_for(
     a: SectorAddress,
 ) -> usize
     requires { ⌜ Placed s at × Fit s (now longs) (now words) (now marks) ⌝ }
-    ensures { λ r. ⌜ r ≡ countBelow (s .places) (is.readFor s (now (longs .entry)) (now (words .entry)) (now (marks .entry)) (a .0)) ⌝ }
+    ensures { λ r. ⌜ r ≡ countBelow (s .queue) (is.readFor s (now (longs .entry)) (now (words .entry)) (now (marks .entry)) (a .0)) ⌝ }
 {
-    let n = s.places;
+    let n = s.queue;
     let mut count = 0;
     let mut p = 0;
     while p < n {

@@ -41,11 +41,11 @@ any-one p d l e h f = iff up (λ q. in-any p l (in-getD l e d h) q)
         (flag (eqb j e))
 
 module _ (S : Settings) (t : Tables) (ok : Sound S t) where
-  pub few-misses : length (t .misses) ≤ S .entries
-  few-misses = leb-true (length (t .misses)) (S .entries) (ok .few)
+  pub few-misses : length (t .misses) ≤ S .misses
+  few-misses = leb-true (length (t .misses)) (S .misses) (ok .few)
 
-  pub few-queued : length (t .queue) ≤ S .places
-  few-queued = leb-true (length (t .queue)) (S .places) (ok .short)
+  pub few-queued : length (t .queue) ≤ S .queue
+  few-queued = leb-true (length (t .queue)) (S .queue) (ok .short)
 
   pub some-tickets : (e : ℕ) → e < length (t .misses) → 1 ≤ length (getD (t .misses) e noEntry .tickets)
   some-tickets e below =

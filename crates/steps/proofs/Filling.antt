@@ -239,7 +239,7 @@ released a words i n room e f = rw (e, f, length-region words i n room)
 -- ---- fill, from what its parts ensure
 
 module _ (S : Settings) (a : ℕ) (t : Tables) {longs words marks : List ℕ} (i : Is S (lent longs words marks) t) {at : Layout} (p : Placed S at)
-    {n e : ℕ} (u : First marks (at .counts) (S .entries) 0 n) (f : First longs (at .misses) n a e) where
+    {n e : ℕ} (u : First marks (at .counts) (S .misses) 0 n) (f : First longs (at .misses) n a e) where
   ok : Sound S t
   ok = parts S t (i .soundly)
 

@@ -50,7 +50,7 @@ nothing [] e = refl
 nothing (x ∷ l) e = absurd (omega arith)
 
 module _ (S : Settings) (t : Tables) {longs words marks : List ℕ} (i : Is S (lent longs words marks) t) {at : Layout} (p : Placed S at)
-    {n : ℕ} (u : First marks (at .kinds) (S .places) 0 n) where
+    {n : ℕ} (u : First marks (at .kinds) (S .queue) 0 n) where
   ok : Sound S t
   ok = parts S t (i .soundly)
 
@@ -80,17 +80,17 @@ module _ (S : Settings) (t : Tables) {longs words marks : List ℕ} (i : Is S (l
     address-is : getD longs (at .queue) 0 ≡ head .address
     address-is = head-address S t h p (few-queued S t ok) some
 
-    pub send-asked : HeadAsked at (S .entries) longs marks
+    pub send-asked : HeadAsked at (S .misses) longs marks
     send-asked e =
         let f : isFetch (head .kind) ≡ true = sym (fetch-number (head .kind)) ∙ eq-eqb (queueKindNumber (head .kind)) 1 (sym kind-is ∙ e) in
         let (k, b, q) = head-entry S t ok some f in
         (k, omega (arith, few-misses S t ok), address-at S t h p (few-misses S t ok) k b ∙ q ∙ sym address-is)
 
-    module _ {marks₁ : List ℕ} (m : HeadMarked at (S .entries) longs marks marks₁) where
+    module _ {marks₁ : List ℕ} (m : HeadMarked at (S .misses) longs marks marks₁) where
       marked-stands : (k : QueueKind) → head .kind ≡ k → Stands S longs words marks₁ (withMisses (markedFor k (head .address) (t .misses)) t)
       marked-stands queue.Read e =
           let few = few-misses S t ok in
-          let d : Marked at (S .entries) longs (getD longs (at .queue) 0) marks marks₁ = m .reads (kind-is ∙ ap queueKindNumber e) in
+          let d : Marked at (S .misses) longs (getD longs (at .queue) 0) marks marks₁ = m .reads (kind-is ∙ ap queueKindNumber e) in
           let (k, b, q) = head-entry S t ok some (ap isFetch e) in
           let g = entry-first S t h p few (d .first) (d .inside) k b (q ∙ sym address-is) in
           rw (marked-one S t ok (head .address) (d .entry) (g .0) (g .1 ∙ address-is)) (sent-stands S t h p few (d .entry) (g .0) (d .marks-are))

@@ -49,12 +49,12 @@ pub fn send_step(s: Settings, longs: &mut [u64], words: &mut [u32], marks: &mut 
         (lent (now (longs .exit)) (now (words .exit)) (now (marks .exit))) ⌝ }
 {
     let at = layout::laid_out(s);
-    let n = layout::used(marks, at.kinds, s.places);
+    let n = layout::used(marks, at.kinds, s.queue);
     if n == 0 {
         return tables::refused(Refusal::QueueEmpty);
     }
     let head = tables::front(at, longs, words, marks);
-    mark_head(at, longs, marks, s.entries);
+    mark_head(at, longs, marks, s.misses);
     tables::pop(at, longs, words, marks, n);
     tables::blank(model::sent_event(head))
 }
@@ -167,7 +167,7 @@ pub fn fill_step(
         (lent (now (longs .exit)) (now (words .exit)) (now (marks .exit))) ⌝ }
 {
     let at = layout::laid_out(s);
-    let n = layout::used(marks, at.counts, s.entries);
+    let n = layout::used(marks, at.counts, s.misses);
     let e = tables::find_entry(longs, at.misses, n, SectorAddress(address));
     if !is_sent(at, marks, e, n) {
         return tables::refused(Refusal::NotSent);

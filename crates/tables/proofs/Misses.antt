@@ -34,36 +34,36 @@ region-part : (l : List ℕ) (i n w : ℕ) → n ≤ w → region l i n ≡ take
 unfolding region
 region-part l i n w h = sym (take-take n w (drop i l) h)
 
-module _ (S : Settings) (t : Tables) {longs words marks : List ℕ} (h : Stands S longs words marks t) {at : Layout} (p : Placed S at) (few : length (t .misses) ≤ S .entries) where
+module _ (S : Settings) (t : Tables) {longs words marks : List ℕ} (h : Stands S longs words marks t) {at : Layout} (p : Placed S at) (few : length (t .misses) ≤ S .misses) where
   -- ---- what is read
 
-  pub misses-used : ((k : ℕ) → k < length (t .misses) → 1 ≤ length (getD (t .misses) k noEntry .tickets)) → {r : ℕ} → First marks (at .counts) (S .entries) 0 r → r ≡ length (t .misses)
+  pub misses-used : ((k : ℕ) → k < length (t .misses) → 1 ≤ length (getD (t .misses) k noEntry .tickets)) → {r : ℕ} → First marks (at .counts) (S .misses) 0 r → r ≡ length (t .misses)
   unfolding fit
   misses-used some f =
-      field-used ticketCountOf (S .entries) (t .misses) (markBlocks S t) 3 {i = at .counts} (h .as-marks) refl (simp length-places (omega arith)) (omega arith) few noEntry
+      field-used ticketCountOf (S .misses) (t .misses) (markBlocks S t) 3 {i = at .counts} (h .as-marks) refl (simp length-places (omega arith)) (omega arith) few noEntry
       (λ k below e. let z : length (getD (t .misses) k noEntry .tickets) ≡ 0 = e in omega (arith, some k below)) f
 
   module _ (e : ℕ) (below : e < length (t .misses)) where
     pub address-at : getD longs (at .misses + e) 0 ≡ getD (t .misses) e noEntry .address
     unfolding fit
     address-at =
-        field-get missOf 1 (S .entries) (t .misses) (longBlocks S t) 1 e {i = at .misses + e} (h .as-longs) refl (simp length-places (omega arith)) (omega arith) below few noEntry 0 (omega arith) (omega arith)
+        field-get missOf 1 (S .misses) (t .misses) (longBlocks S t) 1 e {i = at .misses + e} (h .as-longs) refl (simp length-places (omega arith)) (omega arith) below few noEntry 0 (omega arith) (omega arith)
 
     pub sent-at : getD marks (at .sent + e) 0 ≡ bit (getD (t .misses) e noEntry .sent)
     unfolding fit
     sent-at =
-        field-get sentOf 1 (S .entries) (t .misses) (markBlocks S t) 2 e {i = at .sent + e} (h .as-marks) refl (simp length-places (omega arith)) (omega arith) below few noEntry 0 (omega arith) (omega arith)
+        field-get sentOf 1 (S .misses) (t .misses) (markBlocks S t) 2 e {i = at .sent + e} (h .as-marks) refl (simp length-places (omega arith)) (omega arith) below few noEntry 0 (omega arith) (omega arith)
 
     pub count-at : getD marks (at .counts + e) 0 ≡ length (getD (t .misses) e noEntry .tickets)
     unfolding fit
     count-at =
-        field-get ticketCountOf 1 (S .entries) (t .misses) (markBlocks S t) 3 e {i = at .counts + e} (h .as-marks) refl (simp length-places (omega arith)) (omega arith) below few noEntry 0 (omega arith) (omega arith)
+        field-get ticketCountOf 1 (S .misses) (t .misses) (markBlocks S t) 3 e {i = at .counts + e} (h .as-marks) refl (simp length-places (omega arith)) (omega arith) below few noEntry 0 (omega arith) (omega arith)
 
     pub tickets-at : length (getD (t .misses) e noEntry .tickets) ≤ S .readers → region words (at .tickets + S .readers * e) (length (getD (t .misses) e noEntry .tickets)) ≡ getD (t .misses) e noEntry .tickets
     tickets-at fits =
         region-part words (at .tickets + S .readers * e) (length (getD (t .misses) e noEntry .tickets)) (S .readers) fits
         ∙ ap (take (length (getD (t .misses) e noEntry .tickets)))
-        (field-region ticketsIn (S .readers) (S .entries) (t .misses) (wordBlocks S t) 3 e {i = at .tickets + S .readers * e} (h .as-words) refl (simp length-places (omega arith)) (omega arith) below few noEntry)
+        (field-region ticketsIn (S .readers) (S .misses) (t .misses) (wordBlocks S t) 3 e {i = at .tickets + S .readers * e} (h .as-words) refl (simp length-places (omega arith)) (omega arith) below few noEntry)
         ∙ take-fit (S .readers) (getD (t .misses) e noEntry .tickets) fits
 
     -- ---- what is written
@@ -73,24 +73,24 @@ module _ (S : Settings) (t : Tables) {longs words marks : List ℕ} (h : Stands 
     unfolding fit
     sent-stands c =
         let y = withSent (getD (t .misses) e noEntry) in record {
-          as-longs = rw (places-same missOf 1 (S .entries) e (t .misses) noEntry y refl) (h .as-longs);
-          as-words = rw (places-same ticketsIn (S .readers) (S .entries) e (t .misses) noEntry y refl) (h .as-words);
-          as-marks = rw (places-same ticketCountOf 1 (S .entries) e (t .misses) noEntry y refl)
-              (field-put sentOf 1 (S .entries) (t .misses) (markBlocks S t) 2 e (h .as-marks) refl (simp length-places (omega arith)) (omega arith) below few y refl c);
+          as-longs = rw (places-same missOf 1 (S .misses) e (t .misses) noEntry y refl) (h .as-longs);
+          as-words = rw (places-same ticketsIn (S .readers) (S .misses) e (t .misses) noEntry y refl) (h .as-words);
+          as-marks = rw (places-same ticketCountOf 1 (S .misses) e (t .misses) noEntry y refl)
+              (field-put sentOf 1 (S .misses) (t .misses) (markBlocks S t) 2 e (h .as-marks) refl (simp length-places (omega arith)) (omega arith) below few y refl c);
         }
 
     -- it goes, and the first m places close up
-    pub remove-stands : (m : ℕ) → length (t .misses) ≤ m → m ≤ S .entries → {longs′ words′ marks′ : List ℕ}
+    pub remove-stands : (m : ℕ) → length (t .misses) ≤ m → m ≤ S .misses → {longs′ words′ marks′ : List ℕ}
         → (longs′ ≡ closed longs (at .misses + e) (m - e) 1) × (words′ ≡ closed words (at .tickets + S .readers * e) (S .readers * (m - e)) (S .readers))
         × (marks′ ≡ closed (closed marks (at .sent + e) (m - e) 1) (at .counts + e) (m - e) 1)
         → Stands S longs′ words′ marks′ (withMisses (dropped e (t .misses)) t)
     remove-stands m f g c =
-        let first : closed marks (at .sent + e) (m - e) 1 ≡ joined (set (markBlocks S t) 2 (places sentOf 1 (S .entries) (dropped e (t .misses)))) =
-        field-close-first sentOf 1 (S .entries) (t .misses) (markBlocks S t) 2 (h .as-marks) refl (omega arith) few m e {i = at .sent + e} (simp length-places (omega arith)) below f g (omega arith) refl in
+        let first : closed marks (at .sent + e) (m - e) 1 ≡ joined (set (markBlocks S t) 2 (places sentOf 1 (S .misses) (dropped e (t .misses)))) =
+        field-close-first sentOf 1 (S .misses) (t .misses) (markBlocks S t) 2 (h .as-marks) refl (omega arith) few m e {i = at .sent + e} (simp length-places (omega arith)) below f g (omega arith) refl in
         record {
-          as-longs = field-close-first missOf 1 (S .entries) (t .misses) (longBlocks S t) 1 (h .as-longs) refl (omega arith) few m e (simp length-places (omega arith)) below f g (omega arith) (c .0);
-          as-words = field-close-first ticketsIn (S .readers) (S .entries) (t .misses) (wordBlocks S t) 3 (h .as-words) refl (omega arith) few m e (simp length-places (omega arith)) below f g refl (c .1);
-          as-marks = field-close-first ticketCountOf 1 (S .entries) (t .misses) (set (markBlocks S t) 2 (places sentOf 1 (S .entries) (dropped e (t .misses)))) 3 first refl (omega arith) few m e (simp length-places (omega arith)) below f g (omega arith) (c .2);
+          as-longs = field-close-first missOf 1 (S .misses) (t .misses) (longBlocks S t) 1 (h .as-longs) refl (omega arith) few m e (simp length-places (omega arith)) below f g (omega arith) (c .0);
+          as-words = field-close-first ticketsIn (S .readers) (S .misses) (t .misses) (wordBlocks S t) 3 (h .as-words) refl (omega arith) few m e (simp length-places (omega arith)) below f g refl (c .1);
+          as-marks = field-close-first ticketCountOf 1 (S .misses) (t .misses) (set (markBlocks S t) 2 (places sentOf 1 (S .misses) (dropped e (t .misses)))) 3 first refl (omega arith) few m e (simp length-places (omega arith)) below f g (omega arith) (c .2);
         }
 
     -- a ticket behind its n
@@ -102,24 +102,24 @@ module _ (S : Settings) (t : Tables) {longs words marks : List ℕ} (h : Stands 
         let y = withTicket k (getD (t .misses) e noEntry) in
         let one : ((n + 1) ∷ []) ≡ fit 1 (ticketCountOf (withTicket k (getD (t .misses) e noEntry))) = rw (length-append, is) in
         record {
-          as-longs = rw (places-same missOf 1 (S .entries) e (t .misses) noEntry y refl) (h .as-longs);
-          as-words = field-extend ticketsIn (S .readers) (S .entries) (t .misses) (wordBlocks S t) 3 (h .as-words) refl (omega arith) few e noEntry y (k ∷ []) (simp length-places (omega arith)) below (omega arith) refl (c .0);
-          as-marks = rw (places-same sentOf 1 (S .entries) e (t .misses) noEntry y refl)
-              (field-put ticketCountOf 1 (S .entries) (t .misses) (markBlocks S t) 3 e (h .as-marks) refl (simp length-places (omega arith)) (omega arith) below few y one (c .1));
+          as-longs = rw (places-same missOf 1 (S .misses) e (t .misses) noEntry y refl) (h .as-longs);
+          as-words = field-extend ticketsIn (S .readers) (S .misses) (t .misses) (wordBlocks S t) 3 (h .as-words) refl (omega arith) few e noEntry y (k ∷ []) (simp length-places (omega arith)) below (omega arith) refl (c .0);
+          as-marks = rw (places-same sentOf 1 (S .misses) e (t .misses) noEntry y refl)
+              (field-put ticketCountOf 1 (S .misses) (t .misses) (markBlocks S t) 3 e (h .as-marks) refl (simp length-places (omega arith)) (omega arith) below few y one (c .1));
         }
 
   -- an entry behind the others
-  pub new-entry-stands : (a k n : ℕ) → n ≡ length (t .misses) → n < S .entries → 1 ≤ S .readers → {longs′ words′ marks′ : List ℕ}
+  pub new-entry-stands : (a k n : ℕ) → n ≡ length (t .misses) → n < S .misses → 1 ≤ S .readers → {longs′ words′ marks′ : List ℕ}
       → (longs′ ≡ put longs (at .misses + n) (a ∷ [])) × (words′ ≡ put words (at .tickets + S .readers * n) (k ∷ [])) × (marks′ ≡ put marks (at .counts + n) (1 ∷ []))
       → Stands S longs′ words′ marks′ (withMisses (t .misses ++ (unsent a k ∷ [])) t)
   unfolding fit
   new-entry-stands a k n is room some c =
       let w : S .readers * n ≡ S .readers * length (t .misses) = ap (λ (x : ℕ). S .readers * x) is in
       record {
-        as-longs = field-push missOf 1 (S .entries) (t .misses) (longBlocks S t) 1 (h .as-longs) refl (omega arith) few (simp length-places (omega arith)) (omega arith) (unsent a k) refl (omega arith) (c .0);
-        as-words = field-push ticketsIn (S .readers) (S .entries) (t .misses) (wordBlocks S t) 3 (h .as-words) refl (omega arith) few (simp length-places (omega arith)) (omega arith) (unsent a k) refl some (c .1);
-        as-marks = rw (places-push-idle sentOf 1 (S .entries) (t .misses) (unsent a k) refl)
-            (field-push ticketCountOf 1 (S .entries) (t .misses) (markBlocks S t) 3 (h .as-marks) refl (omega arith) few (simp length-places (omega arith)) (omega arith) (unsent a k) refl (omega arith) (c .2));
+        as-longs = field-push missOf 1 (S .misses) (t .misses) (longBlocks S t) 1 (h .as-longs) refl (omega arith) few (simp length-places (omega arith)) (omega arith) (unsent a k) refl (omega arith) (c .0);
+        as-words = field-push ticketsIn (S .readers) (S .misses) (t .misses) (wordBlocks S t) 3 (h .as-words) refl (omega arith) few (simp length-places (omega arith)) (omega arith) (unsent a k) refl some (c .1);
+        as-marks = rw (places-push-idle sentOf 1 (S .misses) (t .misses) (unsent a k) refl)
+            (field-push ticketCountOf 1 (S .misses) (t .misses) (markBlocks S t) 3 (h .as-marks) refl (omega arith) few (simp length-places (omega arith)) (omega arith) (unsent a k) refl (omega arith) (c .2));
       }
 
   -- ---- the search, among the entries that there are

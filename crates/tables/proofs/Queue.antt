@@ -41,32 +41,32 @@ front-of : (x : Queued) → length (x .masks) ≡ 4 → {k a m0 m1 m2 m3 : ℕ} 
     → record { kind = queueKindOf k; address = a; masks = m0 ∷ m1 ∷ m2 ∷ m3 ∷ [] } ≡ x
 front-of x four e f g0 g1 g2 g3 = queued-back x (ap queueKindOf e ∙ kind-back (x .kind)) f (rw (g0, g1, g2, g3) (four-whole 0 (x .masks) four))
 
-module _ (S : Settings) (t : Tables) {longs words marks : List ℕ} (h : Stands S longs words marks t) {at : Layout} (p : Placed S at) (few : length (t .queue) ≤ S .places) where
-  pub queue-used : {r : ℕ} → First marks (at .kinds) (S .places) 0 r → r ≡ length (t .queue)
+module _ (S : Settings) (t : Tables) {longs words marks : List ℕ} (h : Stands S longs words marks t) {at : Layout} (p : Placed S at) (few : length (t .queue) ≤ S .queue) where
+  pub queue-used : {r : ℕ} → First marks (at .kinds) (S .queue) 0 r → r ≡ length (t .queue)
   queue-used f =
-      field-used kindOf (S .places) (t .queue) (markBlocks S t) 4 {i = at .kinds} (h .as-marks) refl (simp length-places (omega arith)) (omega arith) few idle
+      field-used kindOf (S .queue) (t .queue) (markBlocks S t) 4 {i = at .kinds} (h .as-marks) refl (simp length-places (omega arith)) (omega arith) few idle
       (λ k below. kind-used (getD (t .queue) k idle)) f
 
   -- the first m places close up
-  pub pop-stands : (m : ℕ) → 1 ≤ length (t .queue) → length (t .queue) ≤ m → m ≤ S .places → {longs′ words′ marks′ : List ℕ}
+  pub pop-stands : (m : ℕ) → 1 ≤ length (t .queue) → length (t .queue) ≤ m → m ≤ S .queue → {longs′ words′ marks′ : List ℕ}
       → (longs′ ≡ closed longs (at .queue) m 1) × (words′ ≡ closed words (at .backs) (4 * m) 4) × (marks′ ≡ closed marks (at .kinds) m 1)
       → Stands S longs′ words′ marks′ (withQueue (drop 1 (t .queue)) t)
   pop-stands m some f g c =
       rw (sym (dropped-first (t .queue))) record {
-        as-longs = field-close-first queuedOf 1 (S .places) (t .queue) (longBlocks S t) 2 (h .as-longs) refl (omega arith) few m 0 (simp length-places (omega arith)) some f g (omega arith) (c .0);
-        as-words = field-close-first queueMasksOf 4 (S .places) (t .queue) (wordBlocks S t) 4 (h .as-words) refl (omega arith) few m 0 (simp length-places (omega arith)) some f g (omega arith) (c .1);
-        as-marks = field-close-first kindOf 1 (S .places) (t .queue) (markBlocks S t) 4 (h .as-marks) refl (omega arith) few m 0 (simp length-places (omega arith)) some f g (omega arith) (c .2);
+        as-longs = field-close-first queuedOf 1 (S .queue) (t .queue) (longBlocks S t) 2 (h .as-longs) refl (omega arith) few m 0 (simp length-places (omega arith)) some f g (omega arith) (c .0);
+        as-words = field-close-first queueMasksOf 4 (S .queue) (t .queue) (wordBlocks S t) 4 (h .as-words) refl (omega arith) few m 0 (simp length-places (omega arith)) some f g (omega arith) (c .1);
+        as-marks = field-close-first kindOf 1 (S .queue) (t .queue) (markBlocks S t) 4 (h .as-marks) refl (omega arith) few m 0 (simp length-places (omega arith)) some f g (omega arith) (c .2);
       }
 
   -- an entry at the first free place
-  pub push-stands : (x : Queued) (n : ℕ) → length (x .masks) ≡ 4 → n ≡ length (t .queue) → n < S .places → {longs′ words′ marks′ : List ℕ}
+  pub push-stands : (x : Queued) (n : ℕ) → length (x .masks) ≡ 4 → n ≡ length (t .queue) → n < S .queue → {longs′ words′ marks′ : List ℕ}
       → (longs′ ≡ put longs (at .queue + n) (x .address ∷ [])) × (words′ ≡ put words (at .backs + 4 * n) (x .masks))
       × (marks′ ≡ put marks (at .kinds + n) (queueKindNumber (x .kind) ∷ []))
       → Stands S longs′ words′ marks′ (withQueue (t .queue ++ (x ∷ [])) t)
   push-stands x n four e room c = record {
-    as-longs = field-push queuedOf 1 (S .places) (t .queue) (longBlocks S t) 2 (h .as-longs) refl (omega arith) few (simp length-places (omega arith)) (omega arith) x refl (omega arith) (c .0);
-    as-words = field-push queueMasksOf 4 (S .places) (t .queue) (wordBlocks S t) 4 (h .as-words) refl (omega arith) few (simp length-places (omega arith)) (omega arith) x refl (omega arith) (c .1);
-    as-marks = field-push kindOf 1 (S .places) (t .queue) (markBlocks S t) 4 (h .as-marks) refl (omega arith) few (simp length-places (omega arith)) (omega arith) x refl (omega arith) (c .2);
+    as-longs = field-push queuedOf 1 (S .queue) (t .queue) (longBlocks S t) 2 (h .as-longs) refl (omega arith) few (simp length-places (omega arith)) (omega arith) x refl (omega arith) (c .0);
+    as-words = field-push queueMasksOf 4 (S .queue) (t .queue) (wordBlocks S t) 4 (h .as-words) refl (omega arith) few (simp length-places (omega arith)) (omega arith) x refl (omega arith) (c .1);
+    as-marks = field-push kindOf 1 (S .queue) (t .queue) (markBlocks S t) 4 (h .as-marks) refl (omega arith) few (simp length-places (omega arith)) (omega arith) x refl (omega arith) (c .2);
   }
 
   -- ---- the head
@@ -75,17 +75,17 @@ module _ (S : Settings) (t : Tables) {longs words marks : List ℕ} (h : Stands 
     pub head-kind : getD marks (at .kinds) 0 ≡ queueKindNumber (getD (t .queue) 0 idle .kind)
     unfolding fit
     head-kind =
-        field-get kindOf 1 (S .places) (t .queue) (markBlocks S t) 4 0 {i = at .kinds} (h .as-marks) refl (simp length-places (omega arith)) (omega arith) some few idle 0 (omega arith) (omega arith)
+        field-get kindOf 1 (S .queue) (t .queue) (markBlocks S t) 4 0 {i = at .kinds} (h .as-marks) refl (simp length-places (omega arith)) (omega arith) some few idle 0 (omega arith) (omega arith)
 
     pub head-address : getD longs (at .queue) 0 ≡ getD (t .queue) 0 idle .address
     unfolding fit
     head-address =
-        field-get queuedOf 1 (S .places) (t .queue) (longBlocks S t) 2 0 {i = at .queue} (h .as-longs) refl (simp length-places (omega arith)) (omega arith) some few idle 0 (omega arith) (omega arith)
+        field-get queuedOf 1 (S .queue) (t .queue) (longBlocks S t) 2 0 {i = at .queue} (h .as-longs) refl (simp length-places (omega arith)) (omega arith) some few idle 0 (omega arith) (omega arith)
 
     head-mask : (j q : ℕ) → j < 4 → q ≡ at .backs + j → getD words q 0 ≡ getD (getD (t .queue) 0 idle .masks) j 0
     head-mask j q b f =
         let start : at .backs ≡ ahead (wordBlocks S t) 4 + 4 * 0 = simp length-places (omega arith) in
-        field-get queueMasksOf 4 (S .places) (t .queue) (wordBlocks S t) 4 0 {i = at .backs} (h .as-words) refl start (omega arith) some few idle j b f
+        field-get queueMasksOf 4 (S .queue) (t .queue) (wordBlocks S t) 4 0 {i = at .backs} (h .as-words) refl start (omega arith) some few idle j b f
         ∙ fit-get 4 (getD (t .queue) 0 idle .masks) j b
 
     pub front-is : length (getD (t .queue) 0 idle .masks) ≡ 4 → frontAt longs (at .queue) words (at .backs) marks (at .kinds) ≡ getD (t .queue) 0 idle

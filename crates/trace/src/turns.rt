@@ -43,10 +43,10 @@ fn offered(c: Command) -> Offer
         Command::Settings {
             sets: _,
             ways: _,
-            percent: _,
-            entries: _,
+            dirty: _,
+            misses: _,
             readers: _,
-            places: _,
+            queue: _,
         } => Offer::Nothing,
         Command::Read { address, ticket } => Offer::Access(Access::Read {
             address,

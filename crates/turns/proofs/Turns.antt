@@ -103,7 +103,7 @@ bit-set false n e f = absurd (omega arith)
 
 -- n entries are in use, and mark r is the first of theirs that is set
 module _ (S : Settings) {longs words marks : List ℕ} (t : Tables) (i : Is S (lent longs words marks) t) {at : Layout} (p : Placed S at)
-    {n : ℕ} (u : First marks (at .counts) (S .entries) 0 n) {r : ℕ} (f : First marks (at .sent) n 1 r) where
+    {n : ℕ} (u : First marks (at .counts) (S .misses) 0 n) {r : ℕ} (f : First marks (at .sent) n 1 r) where
   in-use : n ≡ length (t .misses)
   in-use = let ok = parts S t (i .soundly) in misses-used S t (is-stands i) p (few-misses S t ok) (some-tickets S t ok) u
 
@@ -195,7 +195,7 @@ module _ (S : Settings) (x : Access) {L : Lent} {e : List ℕ} {out w : ℕ} {f 
 -- ---- how many rounds
 
 module _ (S : Settings) {longs words marks : List ℕ} {at : Layout} (p : Placed S at)
-    {q : ℕ} (f : First marks (at .kinds) (S .places) 0 q) {m : ℕ} (u : First marks (at .counts) (S .entries) 0 m) where
+    {q : ℕ} (f : First marks (at .kinds) (S .queue) 0 q) {m : ℕ} (u : First marks (at .counts) (S .misses) 0 m) where
   pub counted : (t : Tables) → Is S (lent longs words marks) t → (q ≡ length (t .queue)) × (m ≡ length (t .misses))
   counted t i =
       let ok = parts S t (i .soundly) in

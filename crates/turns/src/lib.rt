@@ -82,7 +82,7 @@ pub fn first_sent(s: Settings, longs: &[u64], words: &[u32], marks: &[u8]) -> Se
     ensures { λ r. ⌜ FindsSent s (lent (now (longs .entry)) (now (words .entry)) (now (marks .entry))) r ⌝ }
 {
     let at = layout::laid_out(s);
-    let n = layout::used(marks, at.counts, s.entries);
+    let n = layout::used(marks, at.counts, s.misses);
     let e = layout::find_mark(marks, at.sent, n, 1);
     if n <= e {
         return Sent::Nothing;
@@ -160,8 +160,8 @@ pub fn most_rounds(s: Settings, longs: &[u64], words: &[u32], marks: &[u8]) -> u
     ensures { λ r. ⌜ Enough s (lent (now (longs .entry)) (now (words .entry)) (now (marks .entry))) r ⌝ }
 {
     let at = layout::laid_out(s);
-    let queued = layout::used(marks, at.kinds, s.places);
-    let missed = layout::used(marks, at.counts, s.entries);
+    let queued = layout::used(marks, at.kinds, s.queue);
+    let missed = layout::used(marks, at.counts, s.misses);
     if queued + missed == 0 {
         return 1;
     }

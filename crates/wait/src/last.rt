@@ -25,10 +25,10 @@ fn last_command(c: Command) -> Last
         Command::Settings {
             sets: _,
             ways: _,
-            percent: _,
-            entries: _,
+            dirty: _,
+            misses: _,
             readers: _,
-            places: _,
+            queue: _,
         } => Last::Stopped(Stop::OutOfPlace),
         Command::Read { address, ticket } => Last::Offer(Access::Read {
             address,

@@ -32,8 +32,8 @@ fn in_use(s: Settings, longs: &[u64], words: &[u32], marks: &[u8]) -> Counts
     ensures { λ r. ⌜ Counted s (lent (now (longs .entry)) (now (words .entry)) (now (marks .entry))) r ⌝ }
 {
     let at = layout::laid_out(s);
-    let queued = layout::used(marks, at.kinds, s.places);
-    let missed = layout::used(marks, at.counts, s.entries);
+    let queued = layout::used(marks, at.kinds, s.queue);
+    let missed = layout::used(marks, at.counts, s.misses);
     Counts { queued, missed }
 }
 

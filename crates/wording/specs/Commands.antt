@@ -15,16 +15,16 @@ abbrev pub addressedWords : List ℕ → ℕ → List (List ℕ)
 addressedWords word a = word ∷ hexadecimal a ∷ []
 
 abbrev pub settingsWords : ℕ → ℕ → ℕ → ℕ → ℕ → ℕ → List (List ℕ)
-settingsWords sets ways percent entries readers places =
+settingsWords sets ways dirty misses readers queue =
     fieldWords (codes "settings sets ") sets
     ++ (fieldWords (codes " ways ") ways
-    ++ (fieldWords (codes " dirty ") percent
-    ++ (fieldWords (codes " misses ") entries
+    ++ (fieldWords (codes " dirty ") dirty
+    ++ (fieldWords (codes " misses ") misses
     ++ (fieldWords (codes " readers ") readers
-    ++ fieldWords (codes " queue ") places))))
+    ++ fieldWords (codes " queue ") queue))))
 
 unfoldable pub commandWords : Command → List (List ℕ)
-commandWords (cmd.Settings sets ways percent entries readers places) = settingsWords sets ways percent entries readers places
+commandWords (cmd.Settings sets ways dirty misses readers queue) = settingsWords sets ways dirty misses readers queue
 commandWords (cmd.Read a k) = addressedWords (codes "read ") a ++ fieldWords (codes " ticket ") k
 commandWords (cmd.Write a m) = addressedWords (codes "write ") a ++ addressedWords (codes " mask ") m
 commandWords cmd.Send = codes "send" ∷ []

@@ -16,18 +16,18 @@ setsWords n = settingWords (codes "sets is ") n (codes ", and has to be a power 
 
 -- the first that is outside; where each by itself is in range, sets times ways is not
 unfoldable pub outsideWords : ℕ → ℕ → ℕ → ℕ → ℕ → ℕ → List (List ℕ)
-outsideWords sets ways percent entries readers places =
+outsideWords sets ways dirty misses readers queue =
     pick (powerTo256 sets) (
     pick (within 1 16 ways) (
-    pick (within 0 100 percent) (
-    pick (within 1 64 entries) (
+    pick (within 0 100 dirty) (
+    pick (within 1 64 misses) (
     pick (within 1 8 readers) (
-    pick (within 2 64 places)
+    pick (within 2 64 queue)
     (codes "sets times ways has to be at most 1024" ∷ [])
-    (settingWords (codes "queue is ") places (codes ", and has to be 2 to 64")))
+    (settingWords (codes "queue is ") queue (codes ", and has to be 2 to 64")))
     (settingWords (codes "readers is ") readers (codes ", and has to be 1 to 8")))
-    (settingWords (codes "misses is ") entries (codes ", and has to be 1 to 64")))
-    (settingWords (codes "dirty is ") percent (codes ", and has to be 0 to 100")))
+    (settingWords (codes "misses is ") misses (codes ", and has to be 1 to 64")))
+    (settingWords (codes "dirty is ") dirty (codes ", and has to be 0 to 100")))
     (settingWords (codes "ways is ") ways (codes ", and has to be 1 to 16")))
     (setsWords sets)
 

@@ -13,21 +13,21 @@ fn put_field(word: &[u8], n: u64, out: &mut [u8], at: usize) -> usize
 fn put_settings(
     sets: u16,
     ways: u8,
-    percent: u8,
-    entries: u8,
+    dirty: u8,
+    misses: u8,
     readers: u8,
-    places: u8,
+    queue: u8,
     out: &mut [u8],
     at: usize,
 ) -> usize
-    ensures { λ r. ⌜ Puts (now (out .entry)) at (settingsWords sets ways percent entries readers places) r (now (out .exit)) ⌝ }
+    ensures { λ r. ⌜ Puts (now (out .entry)) at (settingsWords sets ways dirty misses readers queue) r (now (out .exit)) ⌝ }
 {
     let a = put_field(b"settings sets ", sets as u64, out, at);
     let b = put_field(b" ways ", ways as u64, out, a);
-    let c = put_field(b" dirty ", percent as u64, out, b);
-    let d = put_field(b" misses ", entries as u64, out, c);
+    let c = put_field(b" dirty ", dirty as u64, out, b);
+    let d = put_field(b" misses ", misses as u64, out, c);
     let e = put_field(b" readers ", readers as u64, out, d);
-    put_field(b" queue ", places as u64, out, e)
+    put_field(b" queue ", queue as u64, out, e)
 }
 
 fn put_addressed(word: &[u8], address: u64, out: &mut [u8], at: usize) -> usize
@@ -44,11 +44,11 @@ pub fn put_command(c: Command, out: &mut [u8], at: usize) -> usize
         Command::Settings {
             sets,
             ways,
-            percent,
-            entries,
+            dirty,
+            misses,
             readers,
-            places,
-        } => { put_settings(sets, ways, percent, entries, readers, places, out, at) }
+            queue,
+        } => { put_settings(sets, ways, dirty, misses, readers, queue, out, at) }
         Command::Read { address, ticket } => {
             let a = put_addressed(b"read ", address, out, at);
             put_field(b" ticket ", ticket as u64, out, a)

@@ -33,27 +33,27 @@ fn put_first(s: &[u8], out: &mut [u8], at: usize) -> usize
 {
     let sets = records::number2(s, 1);
     let ways = records::number1(s, 3);
-    let percent = records::number1(s, 4);
-    let entries = records::number1(s, 5);
+    let dirty = records::number1(s, 4);
+    let misses = records::number1(s, 5);
     let readers = records::number1(s, 6);
-    let places = records::number1(s, 7);
+    let queue = records::number1(s, 7);
     if !layout::power_to_256(sets as usize) {
         return put_sets(sets, out, at);
     }
     if outside(ways, 1, 16) {
         return put_setting(b"ways is ", ways, b", and has to be 1 to 16", out, at);
     }
-    if outside(percent, 0, 100) {
-        return put_setting(b"dirty is ", percent, b", and has to be 0 to 100", out, at);
+    if outside(dirty, 0, 100) {
+        return put_setting(b"dirty is ", dirty, b", and has to be 0 to 100", out, at);
     }
-    if outside(entries, 1, 64) {
-        return put_setting(b"misses is ", entries, b", and has to be 1 to 64", out, at);
+    if outside(misses, 1, 64) {
+        return put_setting(b"misses is ", misses, b", and has to be 1 to 64", out, at);
     }
     if outside(readers, 1, 8) {
         return put_setting(b"readers is ", readers, b", and has to be 1 to 8", out, at);
     }
-    if outside(places, 2, 64) {
-        return put_setting(b"queue is ", places, b", and has to be 2 to 64", out, at);
+    if outside(queue, 2, 64) {
+        return put_setting(b"queue is ", queue, b", and has to be 2 to 64", out, at);
     }
     text::put_text(b"sets times ways has to be at most 1024", out, at)
 }

@@ -19,7 +19,7 @@ returns-2 c =
     let f2 = c .before .before in
     let v1 = f2 .before .before .before in
     let f1 = v1 .before .before in
-    rw (sym (f1 .field-next .ensures) ∙ v1 .entries .given .1, sym (f2 .field-next2 .ensures) ∙ c .enum-told2 .given .1)
+    rw (sym (f1 .field-next .ensures) ∙ v1 .misses .given .1, sym (f2 .field-next2 .ensures) ∙ c .enum-told2 .given .1)
 
 returns-3 : tie.Need-returns-3
 unfolding buffersFrom
@@ -29,7 +29,7 @@ returns-3 c =
     let f2 = v2 .before .before in
     let v1 = f2 .before .before .before in
     let f1 = v1 .before .before in
-    rw (sym (f1 .field-next .ensures) ∙ v1 .entries .given .1, sym (f2 .field-next2 .ensures) ∙ v2 .readers .given .1, sym (f3 .field-next3 .ensures) ∙ c .enum-told3 .given .1)
+    rw (sym (f1 .field-next .ensures) ∙ v1 .misses .given .1, sym (f2 .field-next2 .ensures) ∙ v2 .readers .given .1, sym (f3 .field-next3 .ensures) ∙ c .enum-told3 .given .1)
 
 returns-4 : tie.Need-returns-4
 unfolding buffersFrom
@@ -40,7 +40,7 @@ returns-4 c =
     let f2 = v2 .before .before in
     let v1 = f2 .before .before .before in
     let f1 = v1 .before .before in
-    rw (sym (f1 .field-next .ensures) ∙ v1 .entries .given .1, sym (f2 .field-next2 .ensures) ∙ v2 .readers .given .1, sym (f3 .field-next3 .ensures) ∙ v3 .places .given .1) (c .ended .ensures)
+    rw (sym (f1 .field-next .ensures) ∙ v1 .misses .given .1, sym (f2 .field-next2 .ensures) ∙ v2 .readers .given .1, sym (f3 .field-next3 .ensures) ∙ v3 .queue .given .1) (c .ended .ensures)
 
 pub buffers-line-spec : {M : Type 1} → statement M
 buffers-line-spec =
@@ -63,7 +63,7 @@ buffers-line-spec =
     returns-3
     (λ c.
     let v1 = c .before .before .before .before .before .before .before .before .before .before .before in
-    let h = field-most _ _ _ _ (sym (v1 .before .before .field-next .ensures) ∙ v1 .entries .given .1) in
+    let h = field-most _ _ _ _ (sym (v1 .before .before .field-next .ensures) ∙ v1 .misses .given .1) in
     omega arith)
     (λ c.
     let v2 = c .before .before .before .before .before .before in
@@ -71,7 +71,7 @@ buffers-line-spec =
     omega arith)
     (λ c.
     let v3 = c .before in
-    let h = field-most _ _ _ _ (sym (v3 .before .before .field-next3 .ensures) ∙ v3 .places .given .1) in
+    let h = field-most _ _ _ _ (sym (v3 .before .before .field-next3 .ensures) ∙ v3 .queue .given .1) in
     omega arith)
     (λ c κs. search needs)
     returns-4)

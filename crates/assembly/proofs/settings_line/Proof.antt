@@ -40,7 +40,7 @@ returns-4 c =
     let f2 = v2 .before .before in
     let v1 = f2 .before .before .before in
     let f1 = v1 .before .before in
-    rw (sym (f1 .field-next .ensures) ∙ v1 .sets .given .1, sym (f2 .field-next2 .ensures) ∙ v2 .ways .given .1, sym (f3 .field-next3 .ensures) ∙ v3 .percent .given .1) (c .buffers-line .ensures)
+    rw (sym (f1 .field-next .ensures) ∙ v1 .sets .given .1, sym (f2 .field-next2 .ensures) ∙ v2 .ways .given .1, sym (f3 .field-next3 .ensures) ∙ v3 .dirty .given .1) (c .buffers-line .ensures)
 
 pub settings-line-spec : {M : Type 1} → statement M
 settings-line-spec =
@@ -71,7 +71,7 @@ settings-line-spec =
     omega arith)
     (λ c.
     let v3 = c .before in
-    let h = field-most _ _ _ _ (sym (v3 .before .before .field-next3 .ensures) ∙ v3 .percent .given .1) in
+    let h = field-most _ _ _ _ (sym (v3 .before .before .field-next3 .ensures) ∙ v3 .dirty .given .1) in
     omega arith)
     (λ c κs. search needs)
     returns-4)

@@ -21,5 +21,5 @@ held-reason-spec =
     let laid = c .before in
     let i = laid .before .before .before .before .before .pre .are in
     let z = stands-fit (i .range) (is-stands i) in
-    (share-fits (z .percent) (z .lines), dirty-few _ _ i (laid .laid-out .ensures)))  -- missing-lines-requires
+    (share-fits (z .dirty) (z .lines), dirty-few _ _ i (laid .laid-out .ensures)))  -- missing-lines-requires
     (λ c. record { on = λ t i. lines-shown _ t i (c .before .before .laid-out .ensures) refl (c .missing-lines .ensures) }))  -- returns

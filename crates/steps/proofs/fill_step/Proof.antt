@@ -44,7 +44,7 @@ fill-step-spec =
     let start = laid .before .before .before .before in
     let i = start .pre .are in let z = stands-fit (i .range) (is-stands i) in let p = laid .laid-out .ensures in let u = used .used .ensures in let f = found .find-entry in
     let k = fill-inside _ _ _ i p u (f .ensures) (sent .is-sent .ensures) (test .if1 .left) in let m = fill-count _ _ _ i p u (f .ensures) (sent .is-sent .ensures) (test .if1 .left) in
-    let s = stride (start .args .s .readers) (start .args .s .entries) (f .result) (omega arith) in (omega arith, omega arith, omega arith))  -- release-requires
+    let s = stride (start .args .s .readers) (start .args .s .misses) (f .result) (omega arith) in (omega arith, omega arith, omega arith))  -- release-requires
     (λ c κs.
     let test = c .before .before .before .before .before .before in
     let sent = test .before in

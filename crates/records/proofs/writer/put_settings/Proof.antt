@@ -22,7 +22,7 @@ returns c =
     laid-as
     (laid-then (p1 .put1 .ensures) refl (laid-then (p2 .put2 .ensures) refl (laid-then (p3 .put12 .ensures) refl
     (laid-then (p4 .put13 .ensures) refl (laid-then (p5 .put14 .ensures) refl (laid-then (p6 .put15 .ensures) refl (p7 .put16 .ensures)))))))
-    (settings-bytes _ _ _ _ _ _ (f .ways .fits) (f .percent .fits) (f .entries .fits) (f .readers .fits) (f .places .fits))
+    (settings-bytes _ _ _ _ _ _ (f .ways .fits) (f .dirty .fits) (f .misses .fits) (f .readers .fits) (f .queue .fits))
 
 pub put-settings-spec : {M : Type 1} → statement M
 unfolding records.commandBytes bytesOf

@@ -11,10 +11,10 @@ use Rattle.soundness.proofs.misses.tickets_fine.Statement.{statement}
 use Rattle.soundness.proofs.misses.tickets_fine.Tie as tie
 
 abbrev Inv-loop : tie.InvT-loop
-Inv-loop s at longs words marks n i₀ i = Passed (is.ticketFine s longs words marks) (s .readers * s .entries) i
+Inv-loop s at longs words marks n i₀ i = Passed (is.ticketFine s longs words marks) (s .readers * s .misses) i
 
 abbrev μ-loop : tie.MeasureT-loop
-μ-loop s at longs words marks n i₀ i = s .readers * s .entries - i
+μ-loop s at longs words marks n i₀ i = s .readers * s .misses - i
 
 pub tickets-fine-spec : {M : Type 1} → statement M
 tickets-fine-spec =

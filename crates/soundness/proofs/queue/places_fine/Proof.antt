@@ -8,10 +8,10 @@ use Rattle.soundness.proofs.queue.places_fine.Statement.{statement}
 use Rattle.soundness.proofs.queue.places_fine.Tie as tie
 
 abbrev Inv-loop : tie.InvT-loop
-Inv-loop s at longs words marks n p₀ p = Passed (is.placeFine s longs words marks) (s .places) p
+Inv-loop s at longs words marks n p₀ p = Passed (is.placeFine s longs words marks) (s .queue) p
 
 abbrev μ-loop : tie.MeasureT-loop
-μ-loop s at longs words marks n p₀ p = s .places - p
+μ-loop s at longs words marks n p₀ p = s .queue - p
 
 pub places-fine-spec : {M : Type 1} → statement M
 places-fine-spec =

@@ -30,11 +30,11 @@ has-unsent-spec =
     let body = c .before .before .before .before .before .before .before .before in
     let start = body .before .before in
     let a = start .args in
-    sought-stop (unsentRead (a .at) (a .longs .now) (a .marks .now) (a .a .0)) _ _ (body .loop-test .taken) refl (c .if1 .taken) ∙ unsent-sought (a .s) (start .pre .0) (a .longs .now) (a .words .now) (a .marks .now) (a .a .0) (a .s .entries))  -- returns
+    sought-stop (unsentRead (a .at) (a .longs .now) (a .marks .now) (a .a .0)) _ _ (body .loop-test .taken) refl (c .if1 .taken) ∙ unsent-sought (a .s) (start .pre .0) (a .longs .now) (a .words .now) (a .marks .now) (a .a .0) (a .s .misses))  -- returns
     (λ c. omega arith)  -- add-e
     (λ c. omega arith)  -- loop-less
     (λ c. let body = c .before .before .before .before .before .before .before .before in sought-more _ _ _ (body .loop-test .taken) refl (c .if1 .left) (body .before .loop .inv))  -- loop-again
     (λ c.
     let start = c .before .before in
     let a = start .args in
-    sought-end _ _ _ (c .loop-test .left) (c .before .loop .inv) ∙ unsent-sought (a .s) (start .pre .0) (a .longs .now) (a .words .now) (a .marks .now) (a .a .0) (a .s .entries)))  -- returns-2
+    sought-end _ _ _ (c .loop-test .left) (c .before .loop .inv) ∙ unsent-sought (a .s) (start .pre .0) (a .longs .now) (a .words .now) (a .marks .now) (a .a .0) (a .s .misses)))  -- returns-2

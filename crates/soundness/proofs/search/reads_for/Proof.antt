@@ -37,4 +37,4 @@ reads-for-spec =
     (λ c.
     let start = c .before .before in
     let a = start .args in
-    counted-end _ _ _ _ (c .loop-test .left) (c .before .loop .inv) ∙ read-counted (a .s) (start .pre .0) (a .longs .now) (a .words .now) (a .marks .now) (a .a .0) (a .s .places)))  -- returns
+    counted-end _ _ _ _ (c .loop-test .left) (c .before .loop .inv) ∙ read-counted (a .s) (start .pre .0) (a .longs .now) (a .words .now) (a .marks .now) (a .a .0) (a .s .queue)))  -- returns
