@@ -22,8 +22,12 @@
 #ifndef LABINTUGMO_H
 #define LABINTUGMO_H
 
-/* The version, here and nowhere else: CMake, pkg-config and ./labintugmo read this line. */
-#define LABINTUGMO_VERSION "2.0.0"
+/*
+ * The version, here and nowhere else: CMake, pkg-config and ./labintugmo read this line. The first
+ * number rises when a program has to be changed, the second when a setting, a record or a region of
+ * the tables is added. Tables that were kept belong to their version: another one has other lengths.
+ */
+#define LABINTUGMO_VERSION "2.1.0"
 
 #include <stddef.h>
 #include <stdint.h>
@@ -34,7 +38,8 @@ extern "C" {
 
 /*
  * Settings: one slice of LABINTUGMO_SETTINGS numbers, in this order. Any numbers may be lent;
- * one outside its range is refused (1), and so is a slice of another length.
+ * one outside its range is refused (1). The rule may be left out: six numbers mean rule 0. A
+ * slice of any other length is refused (1) too.
  *
  * A setting that a later version adds comes last, and a slice without it has its older
  * default: a program built for these settings then goes on meaning what it means.
@@ -47,7 +52,14 @@ enum {
     LABINTUGMO_MISSES = 3,  /* 1 to 64, entries of the miss table */
     LABINTUGMO_READERS = 4, /* 1 to 8, tickets that one miss entry holds */
     LABINTUGMO_QUEUE = 5,   /* 2 to 64, places of the miss queue */
-    LABINTUGMO_SETTINGS = 6 /* how many there are */
+    LABINTUGMO_RULE = 6,    /* how a victim is chosen where no line is wholly invalid: below */
+    LABINTUGMO_SETTINGS = 7 /* how many there are */
+};
+
+/* Replacement rules. Of equals the lowest way goes. */
+enum {
+    LABINTUGMO_LRU = 0, /* least recently used: the earliest last access */
+    LABINTUGMO_FIFO = 1 /* first in first out: the line that a MISS took the earliest */
 };
 
 /* Bytes of event room that a call, and that wait, asks for before it does anything. */
@@ -122,7 +134,8 @@ enum {
     LABINTUGMO_COMMAND_WRITE = 2,    /* 12: address 8, mask 4 */
     LABINTUGMO_COMMAND_SEND = 3,     /* 0 */
     LABINTUGMO_COMMAND_FILL = 4,     /* 8: sector address */
-    LABINTUGMO_COMMAND_TICK = 5      /* 4: cycle */
+    LABINTUGMO_COMMAND_TICK = 5,     /* 4: cycle */
+    LABINTUGMO_COMMAND_RULED = 6     /* 8: as settings, and rule 1; stands where settings do */
 };
 
 /*
@@ -151,7 +164,7 @@ enum {
  *     [lines + entry]                              miss entry: sector address
  *     [lines + misses + place]                     queue: sector or block address
  *
- *   words, 2 + 5 * lines + misses * readers + 4 * queue:
+ *   words, 2 + 6 * lines + misses * readers + 4 * queue:
  *     [0]                                          current cycle
  *     [1 + line]                                   cycle of the line's last access
  *     [1 + lines + 4 * line + sector]              dirty mask, bit i for byte i
@@ -160,6 +173,8 @@ enum {
  *        + 4 * place + sector]                     queue: mask of a write-back
  *     [1 + 5 * lines + readers * misses
  *        + 4 * queue]                              how many lines have a MODIFIED sector
+ *     [2 + 5 * lines + readers * misses
+ *        + 4 * queue + line]                       cycle at which a MISS last took the line
  *
  *   marks, 8 * lines + 2 * misses + queue:
  *     [4 * line + sector]                          status

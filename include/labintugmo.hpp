@@ -1,8 +1,8 @@
 // labintugmo.hpp: the verified GPU sector cache for C++17, header only, over labintugmo.h and,
 // for the steps of a Cache, labintugmo_steps.h.
 //
-// In order: settings, lent tables and where their numbers stand; answers, refusals and stops
-// by name; events and how they are read from bytes; what the calls return; command streams;
+// In order: settings, lent tables and where their numbers stand; answers, refusals, stops and
+// rules by name; events and how they are read from bytes; what the calls return; command streams;
 // the cache; whole runs.
 //
 // A refusal is a value, never an exception; only memory that cannot be had throws, from
@@ -27,6 +27,12 @@ namespace labintugmo {
 
 // ---- Settings and lent tables ----
 
+// How a victim is chosen where no line is wholly invalid.
+enum class Rule : std::uint32_t {
+    lru = LABINTUGMO_LRU,
+    fifo = LABINTUGMO_FIFO
+};
+
 // Any numbers; in_range says whether a cache can have them. The ranges stand in labintugmo.h.
 struct Settings {
     std::uint32_t sets = 0;
@@ -35,10 +41,13 @@ struct Settings {
     std::uint32_t misses = 0;
     std::uint32_t readers = 0;
     std::uint32_t queue = 0;
+    Rule rule = Rule::lru;
 
     // The slice that the calls in C are lent.
     using Numbers = std::array<std::uint32_t, LABINTUGMO_SETTINGS>;
-    Numbers numbers() const noexcept { return {sets, ways, dirty, misses, readers, queue}; }
+    Numbers numbers() const noexcept {
+        return {sets, ways, dirty, misses, readers, queue, static_cast<std::uint32_t>(rule)};
+    }
 
     std::size_t longs_length() const noexcept { return length(labintugmo_longs_length); }
     std::size_t words_length() const noexcept { return length(labintugmo_words_length); }
@@ -99,6 +108,7 @@ public:
         return 1 + 5 * lines_ + readers_ * misses_ + 4 * place + sector;
     }
     std::size_t dirty_count() const noexcept { return queue_mask(queue_, 0); }
+    std::size_t taken_cycle(std::size_t line) const noexcept { return dirty_count() + 1 + line; }
 
     // In marks.
     std::size_t status(std::size_t line, std::size_t sector) const noexcept {
@@ -122,7 +132,7 @@ private:
     std::size_t queue_;
 };
 
-// ---- Answers, refusals and stops ----
+// ---- Answers, refusals, stops and rules ----
 
 enum class Answer : std::uint8_t {
     hit = LABINTUGMO_HIT,
@@ -199,6 +209,15 @@ inline const char* name(Stop stop) noexcept {
     return "no stop";
 }
 
+// As the assembler has it.
+inline const char* name(Rule rule) noexcept {
+    switch (rule) {
+    case Rule::lru: return "lru";
+    case Rule::fifo: return "fifo";
+    }
+    return "no rule";
+}
+
 // ---- Events ----
 
 using Masks = std::array<std::uint32_t, LABINTUGMO_SECTORS>;
@@ -268,16 +287,25 @@ inline Masks masks(const std::uint8_t* at) noexcept {
     return {number32(at), number32(at + 4), number32(at + 8), number32(at + 12)};
 }
 
-// Body lengths of the event kinds 0x10 to 0x18, and of the command kinds 0 to 5.
+// Body lengths of the event kinds 0x10 to 0x18, and of the command kinds 0 to 6.
 constexpr std::array<std::size_t, 9> event_lengths{3, 1, 8, 24, 4, 8, 24, 8, 0};
-constexpr std::array<std::size_t, 6> command_lengths{7, 12, 12, 0, 8, 4};
+constexpr std::array<std::size_t, 7> command_lengths{7, 12, 12, 0, 8, 4, 8};
 
-constexpr std::size_t settings_record = 8;
-
-// Of a whole settings record.
-inline Settings settings_of(const std::uint8_t* record) noexcept {
-    return {static_cast<std::uint32_t>(number(record + 1, 2)),
-            record[3], record[4], record[5], record[6], record[7]};
+// Of a settings record, with its rule or without, at the start of a stream; none if another
+// record stands there, or the record is not whole.
+inline std::optional<Settings> settings_in(const std::uint8_t* stream,
+                                           std::size_t length) noexcept {
+    if (length == 0 || (stream[0] != LABINTUGMO_COMMAND_SETTINGS &&
+                        stream[0] != LABINTUGMO_COMMAND_RULED)) {
+        return std::nullopt;
+    }
+    if (length <= command_lengths[stream[0]]) {
+        return std::nullopt;
+    }
+    const bool ruled = stream[0] == LABINTUGMO_COMMAND_RULED;
+    return Settings{static_cast<std::uint32_t>(number(stream + 1, 2)),
+                    stream[3], stream[4], stream[5], stream[6], stream[7],
+                    ruled ? static_cast<Rule>(stream[8]) : Rule::lru};
 }
 
 }  // namespace detail
@@ -513,17 +541,23 @@ struct Access {
 // Command records in order, for a run that repeats the calls made beside them.
 class Commands {
 public:
-    // False, and nothing is added, if a number does not fit its field; those in range do.
+    // With a rule byte where the rule is not 0. False, and nothing is added, if a number does
+    // not fit its field; those in range do.
     bool settings(const Settings& s) {
         const std::uint32_t most = 0xFF;
+        const auto rule = static_cast<std::uint32_t>(s.rule);
         if (s.sets > 0xFFFF || s.ways > most || s.dirty > most || s.misses > most ||
-            s.readers > most || s.queue > most) {
+            s.readers > most || s.queue > most || rule > most) {
             return false;
         }
-        bytes_.push_back(LABINTUGMO_COMMAND_SETTINGS);
+        const bool ruled = s.rule != Rule::lru;
+        bytes_.push_back(ruled ? LABINTUGMO_COMMAND_RULED : LABINTUGMO_COMMAND_SETTINGS);
         put(s.sets, 2);
         for (const std::uint32_t number : {s.ways, s.dirty, s.misses, s.readers, s.queue}) {
             put(number, 1);
+        }
+        if (ruled) {
+            put(rule, 1);
         }
         return true;
     }
@@ -718,14 +752,13 @@ public:
     RunResult run(const std::uint8_t* stream, std::size_t length, std::uint8_t* events,
                   std::size_t room) {
         std::array<std::uint64_t, 2> counts{};
-        const Settings asked =
-            length >= detail::settings_record ? detail::settings_of(stream) : Settings{};
+        const std::optional<Settings> asked = detail::settings_in(stream, length);
         const std::uint32_t stop = labintugmo_run(
             stream, length, events, room, tables_.longs.data(), tables_.longs.size(),
             tables_.words.data(), tables_.words.size(), tables_.marks.data(),
             tables_.marks.size(), counts.data(), counts.size());
-        if (counts[0] >= detail::settings_record) {
-            settings_ = asked;
+        if (asked && counts[0] > 0) {
+            settings_ = *asked;
         }
         return {static_cast<Stop>(stop), counts[0], counts[1]};
     }
@@ -785,11 +818,11 @@ private:
 
 // Event room with which a run of the stream does not stop for want of it.
 inline std::size_t event_room(const std::uint8_t* stream, std::size_t length) noexcept {
-    // The most that a command of each kind 0 to 5 writes; a fill releases at most 8 tickets.
-    constexpr std::array<std::size_t, 6> most{0, 38, 29, 25, 49, 2};
+    // The most that a command of each kind 0 to 6 writes; a fill releases at most 8 tickets.
+    constexpr std::array<std::size_t, 7> most{0, 38, 29, 25, 49, 2, 0};
     std::size_t room = LABINTUGMO_ROOM;
     std::size_t at = 0;
-    while (at < length && stream[at] <= LABINTUGMO_COMMAND_TICK) {
+    while (at < length && stream[at] < most.size()) {
         room += most[stream[at]];
         at += 1 + detail::command_lengths[stream[at]];
     }
@@ -807,8 +840,8 @@ struct [[nodiscard]] Run {
 // Runs a stream from its own settings record on tables made for it.
 inline Run run(const std::uint8_t* stream, std::size_t length) {
     Run run{{}, std::vector<std::uint8_t>(event_room(stream, length)), std::nullopt};
-    if (length >= detail::settings_record && stream[0] == LABINTUGMO_COMMAND_SETTINGS) {
-        run.cache = Cache::make(detail::settings_of(stream));
+    if (const auto asked = detail::settings_in(stream, length)) {
+        run.cache = Cache::make(*asked);
     }
     if (run.cache) {
         run.result = run.cache->run(stream, length, run.log.data(), run.log.size());

@@ -1,5 +1,5 @@
-// The C++ header: the cache and what its calls return, events of calls and of logs whole and
-// damaged, wait and a longer wait by hand, runs, kept, restored, adopted and released tables,
+// The C++ header: the cache and what its calls return, the replacement rules, events of calls and
+// of logs whole and damaged, wait and a longer wait by hand, runs, kept, restored, adopted and released tables,
 // caches moved from, results that no call made.
 //
 // Ends with a line `header: N checks, M failed` and a status.
@@ -58,7 +58,8 @@ std::string letters(const Range& events) {
 
 void settings_and_layout() {
     for (const Settings bad : {Settings{}, Settings{3, 2, 50, 2, 2, 4}, Settings{256, 5, 50, 2, 2, 4},
-                               Settings{1, 2, 50, 2, 2, 0xFFFFFFFF}}) {
+                               Settings{1, 2, 50, 2, 2, 0xFFFFFFFF},
+                               Settings{1, 2, 50, 2, 2, 4, static_cast<Rule>(2)}}) {
         CHECK(!bad.in_range());
         CHECK(!Cache::make(bad));
     }
@@ -67,13 +68,15 @@ void settings_and_layout() {
     CHECK(numbers[LABINTUGMO_SETS] == wide.sets && numbers[LABINTUGMO_WAYS] == wide.ways);
     CHECK(numbers[LABINTUGMO_DIRTY] == wide.dirty && numbers[LABINTUGMO_MISSES] == wide.misses);
     CHECK(numbers[LABINTUGMO_READERS] == wide.readers && numbers[LABINTUGMO_QUEUE] == wide.queue);
+    CHECK(numbers[LABINTUGMO_RULE] == LABINTUGMO_LRU && wide.rule == Rule::lru);
     const Layout at(wide);
     CHECK(wide.in_range() && wide.lines() == 256);
     CHECK(at.tag(255) + 1 == at.miss_address(0) && at.miss_address(15) + 1 == at.queue_address(0));
     CHECK(at.queue_address(31) + 1 == wide.longs_length());
     CHECK(at.current_cycle() + 1 == at.line_cycle(0) && at.line_cycle(255) + 1 == at.mask(0, 0));
     CHECK(at.mask(255, 3) + 1 == at.ticket(0, 0) && at.ticket(15, 7) + 1 == at.queue_mask(0, 0));
-    CHECK(at.queue_mask(31, 3) + 1 == at.dirty_count() && at.dirty_count() + 1 == wide.words_length());
+    CHECK(at.queue_mask(31, 3) + 1 == at.dirty_count() && at.dirty_count() + 1 == at.taken_cycle(0));
+    CHECK(at.taken_cycle(255) + 1 == wide.words_length());
     CHECK(at.status(255, 3) + 1 == at.readable(0, 0) && at.readable(255, 3) + 1 == at.sent(0));
     CHECK(at.sent(15) + 1 == at.ticket_count(0) && at.ticket_count(15) + 1 == at.queue_kind(0));
     CHECK(at.queue_kind(31) + 1 == wide.marks_length());
@@ -138,6 +141,7 @@ void refusals() {
     CHECK(std::string(name(Refusal::queue_empty)) == "queue empty");
     CHECK(std::string(name(Answer::sector_miss)) == "SECTOR_MISS");
     CHECK(std::string(name(Stop::cut_short)) == "cut short");
+    CHECK(std::string(name(Rule::lru)) == "lru" && std::string(name(Rule::fifo)) == "fifo");
 }
 
 // A victim with dirty bytes, case 11 of document 01.
@@ -151,6 +155,63 @@ void write_back() {
     const SendResult sent = cache.send();
     CHECK(sent.write_back()->block == 128 && sent.write_back()->masks == queued->masks);
     CHECK(!sent.read());
+}
+
+// Line 1 is taken at cycle 1 and used at 9, line 0 is taken at 2 and left alone: which line a MISS
+// at 10 takes, and the same by a stream with these settings.
+std::uint16_t taken_line(const Settings& settings) {
+    Cache cache = fresh(settings);
+    Commands commands;
+    CHECK(commands.settings(settings));
+    const auto write = [&](std::uint32_t cycle, std::uint64_t address) {
+        CHECK(cache.tick(cycle).accepted());
+        commands.tick(cycle);
+        commands.write(address, 0xFF);
+        return cache.write(address, 0xFF);
+    };
+    CHECK(write(1, 0).line() == 1 && write(2, 128).line() == 0);
+    CHECK(write(9, 0).answer() == Answer::hit && !cache.check());
+    const Layout at = cache.layout();
+    CHECK(cache.tables().words[at.line_cycle(1)] == 9 && cache.tables().words[at.taken_cycle(1)] == 1);
+    CHECK(cache.tables().words[at.line_cycle(0)] == 2 && cache.tables().words[at.taken_cycle(0)] == 2);
+    const AccessResult miss = write(10, 256);
+    CHECK(miss.answer() == Answer::miss && miss.write_back_queued());
+    const Run repeated = run(commands.bytes());
+    CHECK(repeated.result.stop == Stop::end && repeated.cache->settings().rule == settings.rule);
+    CHECK(repeated.cache->tables() == cache.tables());
+    return *miss.line();
+}
+
+void rules() {
+    Settings settings = base;
+    CHECK(taken_line(settings) == 0);
+    settings.rule = Rule::fifo;
+    CHECK(taken_line(settings) == 1);
+    CHECK(taken_line({1, 2, 50, 2, 2, 4, Rule::lru}) == 0);
+
+    // A rule byte only where it says something; one that is no rule is refused by the runner.
+    Commands commands;
+    CHECK(commands.settings(base) && commands.bytes().size() == 8);
+    Commands ruled;
+    CHECK(ruled.settings(settings) && ruled.bytes().size() == 9 && ruled.bytes()[0] == 6);
+    CHECK(run(ruled.bytes()).cache->settings().rule == Rule::fifo);
+    Bytes other = ruled.bytes();
+    other[8] = 2;
+    CHECK(run(other).result.stop == Stop::bad_settings && !run(other).cache);
+    other.pop_back();
+    CHECK(run(other).result.stop == Stop::cut_short && !run(other).cache);
+    CHECK(!commands.settings({1, 2, 50, 2, 2, 4, static_cast<Rule>(256)}));
+    CHECK(commands.bytes().size() == 8);
+
+    // Tables fit every rule; a cache that runs a stream has the stream's rule.
+    Cache cache = fresh();
+    Bytes events(LABINTUGMO_ROOM);
+    CHECK(cache.run(ruled.bytes().data(), 9, events.data(), events.size()).consumed == 9);
+    CHECK(cache.settings().rule == Rule::fifo && cache.run(nullptr, 0, nullptr, 0).stop == Stop::end);
+    CHECK(cache.settings().rule == Rule::fifo && Cache::adopt(base, cache.tables()));
+    Tables later = cache.tables();
+    later.words[cache.layout().taken_cycle(0)] = 1;
+    CHECK(cache.restore(later) == Refusal::not_sound);
 }
 
 void damaged_logs() {
@@ -302,8 +363,8 @@ void parts() {
 }
 
 // A cache steps without a check; its answers, events and tables are those of the checked calls.
-void as_the_calls() {
-    const Settings s{2, 2, 30, 3, 2, 5};
+void as_the_calls(Rule rule) {
+    const Settings s{2, 2, 30, 3, 2, 5, rule};
     const Settings::Numbers numbers = s.numbers();
     Cache cache = fresh(s);
     Tables t = cache.tables();
@@ -448,12 +509,14 @@ int main() {
     whole_run();
     refusals();
     write_back();
+    rules();
     damaged_logs();
     waits();
     held_waits();
     runs();
     parts();
-    as_the_calls();
+    as_the_calls(Rule::lru);
+    as_the_calls(Rule::fifo);
     kept_tables();
     moved();
     adopted();

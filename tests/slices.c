@@ -1,7 +1,7 @@
 /*
  * The C header used from C99: lengths by settings, settings of another length, the whole run of
- * document 01, wrong lengths, null and empty slices, too little room, a stream in parts, the
- * stack that each call takes. Everything lent is compared with what it was wherever nothing may
+ * document 01, the replacement rules, wrong lengths, null and empty slices, too little room, a
+ * stream in parts, the stack that each call takes. Everything lent is compared with what it was wherever nothing may
  * change.
  *
  * Ends with a line `slices: N checks, M failed` and a status.
@@ -25,17 +25,21 @@ static int checks, failures;
         }                                                                       \
     } while (0)
 
-/* Base settings, of 2 lines. */
+/* Base settings, of 2 lines, with rule 0. */
 static const uint32_t base[LABINTUGMO_SETTINGS] = {
     [LABINTUGMO_SETS] = 1,   [LABINTUGMO_WAYS] = 2,    [LABINTUGMO_DIRTY] = 50,
     [LABINTUGMO_MISSES] = 2, [LABINTUGMO_READERS] = 2, [LABINTUGMO_QUEUE] = 4};
 #define BASE base, LABINTUGMO_SETTINGS
-enum { LONGS = 2 + 2 + 4, WORDS = 1 + 5 * 2 + 2 * 2 + 4 * 4 + 1, MARKS = 8 * 2 + 2 * 2 + 4 };
+enum { LONGS = 2 + 2 + 4, WORDS = 1 + 5 * 2 + 2 * 2 + 4 * 4 + 1 + 2, MARKS = 8 * 2 + 2 * 2 + 4 };
 
 /* The largest tables: 256 sets of 4 ways, 64 miss entries of 8 readers, 64 queue places. */
 static const uint32_t large[LABINTUGMO_SETTINGS] = {256, 4, 0, 64, 8, 64};
 #define LARGE large, LABINTUGMO_SETTINGS
-enum { L_LONGS = 1024 + 64 + 64, L_WORDS = 1 + 5 * 1024 + 64 * 8 + 4 * 64 + 1, L_MARKS = 8 * 1024 + 3 * 64 };
+enum {
+    L_LONGS = 1024 + 64 + 64,
+    L_WORDS = 1 + 5 * 1024 + 64 * 8 + 4 * 64 + 1 + 1024,
+    L_MARKS = 8 * 1024 + 3 * 64
+};
 
 /* One element more than the lengths ask for, so that a slice can be too long by one. */
 struct tables {
@@ -112,30 +116,34 @@ static void lengths(void)
         {1, 2, 50, 2, 0, 4},          {1, 2, 50, 2, 9, 4},    {1, 2, 50, 2, 2, 1},
         {1, 2, 50, 2, 2, 65},         {65536, 65536, 50, 2, 2, 4},
         {1, 2, UINT32_MAX, 2, 2, 4},  {0x80000000u, 2, 50, 2, 2, 4},
-        {1, 2, 50, 2, UINT32_MAX, UINT32_MAX}};
+        {1, 2, 50, 2, UINT32_MAX, UINT32_MAX}, {1, 2, 50, 2, 2, 4, 2},
+        {1, 2, 50, 2, 2, 4, UINT32_MAX}};
     size_t i;
     CHECK(labintugmo_longs_length(BASE) == LONGS);
     CHECK(labintugmo_words_length(BASE) == WORDS);
     CHECK(labintugmo_marks_length(BASE) == MARKS);
     CHECK(labintugmo_longs_length(LARGE) == L_LONGS);
-    CHECK(labintugmo_words_length(LARGE) == L_WORDS);
+    CHECK(labintugmo_words_length(LARGE) == L_WORDS && L_WORDS == 6914);
     CHECK(labintugmo_marks_length(LARGE) == L_MARKS);
     for (i = 0; i < sizeof bad / sizeof bad[0]; ++i) {
         refused_settings(bad[i], LABINTUGMO_SETTINGS);
     }
 }
 
-/* Fewer numbers than there are settings, none, and one more, all of them in range. */
+/* Fewer numbers than six, none, and more than there are settings, all of them in range. */
 static void other_settings(void)
 {
-    static const uint32_t more[LABINTUGMO_SETTINGS + 1] = {1, 2, 50, 2, 2, 4, 0};
+    static const uint32_t more[LABINTUGMO_SETTINGS + 1] = {1, 2, 50, 2, 2, 4, 0, 0};
     size_t length;
-    for (length = 0; length < LABINTUGMO_SETTINGS; ++length) {
+    for (length = 0; length < LABINTUGMO_RULE; ++length) {
         refused_settings(more, length);
     }
     refused_settings(NULL, 0);
     refused_settings(more, LABINTUGMO_SETTINGS + 1);
     CHECK(labintugmo_longs_length(more, LABINTUGMO_SETTINGS) == LONGS);
+    CHECK(labintugmo_longs_length(more, LABINTUGMO_RULE) == LONGS);
+    CHECK(labintugmo_words_length(more, LABINTUGMO_RULE) == WORDS);
+    CHECK(labintugmo_marks_length(more, LABINTUGMO_RULE) == MARKS);
 }
 
 static void whole_run(void)
@@ -165,6 +173,53 @@ static void whole_run(void)
     CHECK(memcmp(t.words, run.words, WORDS * sizeof run.words[0]) == 0);
     CHECK(memcmp(t.marks, run.marks, MARKS) == 0);
     CHECK(labintugmo_check(BASE, LENT(run)) == 0);
+}
+
+/* Where the cycles of line 0 and of line 1 stand: of the last access, and of the MISS. */
+enum { ACCESSED = 1, TAKEN = WORDS - 2 };
+
+/* Line 1 is taken at cycle 1 and used at 9, line 0 is taken at 2. The line that a MISS at 10 takes. */
+static int taken_line(const uint32_t *s, size_t sn)
+{
+    struct tables t = fresh_tables();
+    uint8_t events[LABINTUGMO_ROOM];
+    const size_t room = sizeof events;
+    int line;
+    CHECK(labintugmo_tick(s, sn, LENT(t), 1, events, room) == 1);
+    CHECK(labintugmo_write(s, sn, LENT(t), 0, 0xFF, events, room) == 4 && events[2] == 1);
+    CHECK(labintugmo_tick(s, sn, LENT(t), 2, events, room) == 1);
+    CHECK(labintugmo_write(s, sn, LENT(t), 128, 0xF0, events, room) == 4 && events[2] == 0);
+    CHECK(labintugmo_tick(s, sn, LENT(t), 9, events, room) == 1);
+    CHECK(labintugmo_write(s, sn, LENT(t), 32, 0xF, events, room) == 4);
+    CHECK(events[1] == LABINTUGMO_SECTOR_MISS && events[2] == 1);
+    CHECK(t.words[ACCESSED] == 2 && t.words[ACCESSED + 1] == 9);
+    CHECK(t.words[TAKEN] == 2 && t.words[TAKEN + 1] == 1);
+    CHECK(labintugmo_tick(s, sn, LENT(t), 10, events, room) == 1);
+    CHECK(labintugmo_write(s, sn, LENT(t), 256, 1, events, room) == 29);
+    CHECK(events[0] == 0x10 && events[1] == LABINTUGMO_MISS && events[4] == 0x13);
+    line = events[2];
+    CHECK(t.words[ACCESSED + line] == 10 && t.words[TAKEN + line] == 10);
+
+    /* Taken no later than the last access, and never where the line is wholly invalid. */
+    t.words[TAKEN] = t.words[ACCESSED] + 1;
+    CHECK(labintugmo_check(s, sn, LENT(t)) == 3);
+    CHECK(labintugmo_fresh(s, sn, LENT(t)) == 0);
+    CHECK(t.words[TAKEN] == 0 && t.words[TAKEN + 1] == 0);
+    CHECK(labintugmo_tick(s, sn, LENT(t), 3, events, room) == 1);
+    t.words[TAKEN] = 1;
+    CHECK(labintugmo_check(s, sn, LENT(t)) == 3);
+    return line;
+}
+
+/* Six numbers are rule 0. */
+static void rules(void)
+{
+    static const uint32_t lru[] = {1, 2, 50, 2, 2, 4, LABINTUGMO_LRU};
+    static const uint32_t fifo[] = {1, 2, 50, 2, 2, 4, LABINTUGMO_FIFO};
+    CHECK(taken_line(lru, LABINTUGMO_SETTINGS) == 0);
+    CHECK(taken_line(lru, LABINTUGMO_RULE) == 0);
+    CHECK(taken_line(fifo, LABINTUGMO_RULE) == 0);
+    CHECK(taken_line(fifo, LABINTUGMO_SETTINGS) == 1);
 }
 
 /* Which call; each gets slices as they are given and returns its refusal number. */
@@ -275,6 +330,8 @@ static void runs(void)
     static const uint8_t settings[] = {0, 1, 0, 2, 50, 2, 2, 4};
     static const uint8_t tick[] = {0, 1, 0, 2, 50, 2, 2, 4, 5, 1, 0, 0, 0};
     static const uint8_t bad[] = {0, 3, 0, 2, 50, 2, 2, 4};
+    static const uint8_t ruled[] = {6, 1, 0, 2, 50, 2, 2, 4, 1, 5, 1, 0, 0, 0};
+    static const uint8_t bad_rule[] = {6, 1, 0, 2, 50, 2, 2, 4, 2};
     struct tables t, before;
     uint8_t events[64], untouched[64];
     uint64_t counts[3] = {4, 5, 6};
@@ -297,6 +354,8 @@ static void runs(void)
     /* Settings that are refused, or tables that do not fit them. */
     CHECK(labintugmo_run(bad, sizeof bad, events, 64, LENT(t), counts, 2) == 1);
     CHECK(labintugmo_run(settings, 7, events, 64, LENT(t), counts, 2) == 15);
+    CHECK(labintugmo_run(bad_rule, sizeof bad_rule, events, 64, LENT(t), counts, 2) == 1);
+    CHECK(labintugmo_run(ruled, 8, events, 64, LENT(t), counts, 2) == 15);
     CHECK(labintugmo_run(tick, sizeof tick, events, 64, NULL, 0, NULL, 0, NULL, 0, counts, 2) == 2);
     CHECK(labintugmo_run(tick, sizeof tick, events, 64, t.longs, LONGS + 1, t.words, WORDS,
                          t.marks, MARKS, counts, 2) == 2);
@@ -315,12 +374,19 @@ static void runs(void)
     CHECK(labintugmo_run(tick, sizeof tick, events, 64, LENT(t), counts, 2) == 0);
     CHECK(counts[0] == 13 && counts[1] == 1 && events[0] == 0x18);
     CHECK(memcmp(events + 1, untouched + 1, 63) == 0 && t.words[0] == 1);
+
+    /* Settings with a rule stand where settings do. */
+    CHECK(labintugmo_run(ruled, 9, NULL, 0, LENT(t), counts, 2) == 0);
+    CHECK(counts[0] == 9 && counts[1] == 0 && t.words[0] == 0);
+    CHECK(labintugmo_run(ruled, sizeof ruled, events, 64, LENT(t), counts, 2) == 0);
+    CHECK(counts[0] == 14 && counts[1] == 1 && t.words[0] == 1);
 }
 
 /* A stream in two parts, and what a part that goes on is refused with before its first record. */
 static void parts(void)
 {
     static const uint8_t settings[] = {0, 1, 0, 2, 50, 2, 2, 4};
+    static const uint8_t ruled[] = {6, 1, 0, 2, 50, 2, 2, 4, 1};
     static const uint8_t tick[] = {5, 1, 0, 0, 0};
     static const uint32_t three[LABINTUGMO_SETTINGS] = {3, 2, 50, 2, 2, 4};
     struct tables t, before;
@@ -342,6 +408,7 @@ static void parts(void)
     CHECK(labintugmo_resume(BASE, tick, 5, events, 64, LENT(t), counts, 2) == 3);
     t.marks[0] = before.marks[0];
     CHECK(labintugmo_resume(BASE, settings, 8, events, 64, LENT(t), counts, 2) == 13);
+    CHECK(labintugmo_resume(BASE, ruled, 9, events, 64, LENT(t), counts, 2) == 13);
     CHECK(labintugmo_resume(BASE, tick, 5, events, 63, LENT(t), counts, 2) == 16);
     CHECK(labintugmo_resume(BASE, tick, 4, events, 64, LENT(t), counts, 2) == 15);
     CHECK(labintugmo_resume(BASE, events, 1, untouched, 64, LENT(t), counts, 2) == 14);
@@ -360,11 +427,26 @@ static uint8_t large_events[LABINTUGMO_WAIT_ROOM];
 #define LENT_LARGE large_longs, L_LONGS, large_words, L_WORDS, large_marks, L_MARKS
 #define ROOM large_events, LABINTUGMO_ROOM
 
+/* A part of a stream with a read and a write. */
+static size_t read_and_write(uint8_t *part, uint64_t address)
+{
+    size_t i;
+    memset(part, 0, 26);
+    part[0] = LABINTUGMO_COMMAND_READ;
+    part[13] = LABINTUGMO_COMMAND_WRITE;
+    part[22] = 1;
+    for (i = 0; i < 8; ++i) {
+        part[1 + i] = part[14 + i] = (uint8_t)(address >> 8 * i);
+    }
+    return 26;
+}
+
 /* Every call, on a cache in which lines are replaced, written back, sent and filled. */
 static void every_call(void)
 {
     static const uint8_t tick[] = {0, 0, 1, 4, 0, 64, 8, 64, 5, 1, 0, 0, 0};
     uint64_t round[1], counts[2];
+    uint8_t part[26];
     uint32_t i;
     (void)labintugmo_run(tick, sizeof tick, ROOM, LENT_LARGE, counts, 2);
     (void)labintugmo_fresh(LARGE, LENT_LARGE);
@@ -381,6 +463,8 @@ static void every_call(void)
         if (i % 100 == 0) {
             (void)labintugmo_wait(LARGE, LENT_LARGE, 0, address ^ 96, 0, i, large_events,
                                   sizeof large_events, round, 1);
+            (void)labintugmo_resume(LARGE, part, read_and_write(part, address + 4096), large_events,
+                                    sizeof large_events, LENT_LARGE, counts, 2);
         }
     }
     (void)labintugmo_check(LARGE, LENT_LARGE);
@@ -415,6 +499,7 @@ int main(void)
     lengths();
     other_settings();
     whole_run();
+    rules();
     wrong_lengths();
     not_fresh();
     small_rooms();

@@ -18,9 +18,9 @@ pub struct Tables {
 }
 
 /// The numbers that are lent as settings.
-fn numbers(settings: Settings) -> [u32; 6] {
-    let Settings { sets, ways, percent, entries, readers, places } = settings;
-    [sets, ways, percent, entries, readers, places]
+fn numbers(settings: Settings) -> [u32; 7] {
+    let Settings { sets, ways, dirty, misses, readers, queue, rule } = settings;
+    [sets, ways, dirty, misses, readers, queue, rule]
 }
 
 /// The settings of some tables, then their three slices, as arguments of a call.

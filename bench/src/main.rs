@@ -42,7 +42,7 @@ fn options() -> Option<Options> {
 const SIZES: [(u32, u32); 3] = [(1, 4), (64, 4), (256, 4)];
 
 fn settings_for((sets, ways): (u32, u32)) -> Settings {
-    Settings { sets, ways, percent: 25, entries: 16, readers: 4, places: 16 }
+    Settings { sets, ways, dirty: 25, misses: 16, readers: 4, queue: 16, rule: 0 }
 }
 
 /// The C library's time, on 64-bit Linux.
@@ -248,7 +248,8 @@ fn single_calls(options: &Options, streams: &[Measured]) -> Table {
 /// Tables of 1,024 lines, so many of them live, with so many reads in the queue. A third of
 /// the live lines have a dirty sector, and each entry but the last has four readers.
 fn filled(lines: u64, reads: u64) -> Tables {
-    let settings = Settings { sets: 256, ways: 4, percent: 0, entries: 64, readers: 4, places: 64 };
+    let settings =
+        Settings { sets: 256, ways: 4, dirty: 0, misses: 64, readers: 4, queue: 64, rule: 0 };
     let mut tables = Tables::fresh(settings);
     let mut call = |command| {
         let mut room = [0; 64];
@@ -300,9 +301,11 @@ fn plain_sound(tables: &Tables) -> bool {
 
 /// Both checks say the same of tables with any one number changed in a few ways.
 fn same_check() -> usize {
-    let settings = Settings { sets: 2, ways: 2, percent: 0, entries: 3, readers: 2, places: 4 };
+    let settings =
+        Settings { sets: 2, ways: 2, dirty: 0, misses: 3, readers: 2, queue: 4, rule: 0 };
     let mut tables = Tables::fresh(settings);
     let mut room = [0; 64];
+    tables.call(Command::Tick { cycle: 5 }, &mut room);
     for address in [0, 256, 128] {
         tables.call(Command::Write { address, mask: 0xFF }, &mut room);
     }

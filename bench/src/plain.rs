@@ -14,10 +14,11 @@ use std::collections::VecDeque;
 pub struct Settings {
     pub sets: u32,
     pub ways: u32,
-    pub percent: u32,
-    pub entries: u32,
+    pub dirty: u32,
+    pub misses: u32,
     pub readers: u32,
-    pub places: u32,
+    pub queue: u32,
+    pub rule: u32,
 }
 
 impl Settings {
@@ -25,6 +26,9 @@ impl Settings {
         (self.sets * self.ways) as usize
     }
 }
+
+/// The replacement rules, by their bytes in a settings record: least recently used is 0.
+const FIFO: u32 = 1;
 
 #[derive(Clone, Copy, PartialEq, Eq)]
 enum Status {
@@ -38,13 +42,21 @@ enum Status {
 struct Line {
     tag: u64,
     cycle: u32,
+    /// The cycle at which a MISS last took the line.
+    taken: u32,
     masks: [u32; 4],
     statuses: [Status; 4],
     readable: [bool; 4],
 }
 
-const EMPTY: Line =
-    Line { tag: 0, cycle: 0, masks: [0; 4], statuses: [Status::Invalid; 4], readable: [true; 4] };
+const EMPTY: Line = Line {
+    tag: 0,
+    cycle: 0,
+    taken: 0,
+    masks: [0; 4],
+    statuses: [Status::Invalid; 4],
+    readable: [true; 4],
+};
 
 impl Line {
     fn has(&self, status: Status) -> bool {
@@ -151,8 +163,8 @@ impl<const RECOUNT: bool> Cache<RECOUNT> {
         Cache {
             settings,
             lines: vec![EMPTY; settings.lines()],
-            misses: Vec::with_capacity(settings.entries as usize),
-            queue: VecDeque::with_capacity(settings.places as usize),
+            misses: Vec::with_capacity(settings.misses as usize),
+            queue: VecDeque::with_capacity(settings.queue as usize),
             dirty: 0,
             cycle: 0,
         }
@@ -161,8 +173,8 @@ impl<const RECOUNT: bool> Cache<RECOUNT> {
     /// Bytes of the vectors, beside the structure itself.
     pub fn memory(settings: &Settings) -> usize {
         settings.lines() * size_of::<Line>()
-            + settings.entries as usize * size_of::<MissEntry>()
-            + settings.places as usize * size_of::<Queued>()
+            + settings.misses as usize * size_of::<MissEntry>()
+            + settings.queue as usize * size_of::<Queued>()
             + size_of::<Self>()
     }
 
@@ -216,7 +228,7 @@ impl<const RECOUNT: bool> Cache<RECOUNT> {
         if self.free_places() < 1 + self.writes_back(answer, number) {
             return Err(QUEUE_FULL);
         }
-        if self.misses.len() >= self.settings.entries as usize {
+        if self.misses.len() >= self.settings.misses as usize {
             return Err(MISSES_FULL);
         }
         let write_back = self.take_line(answer, number, address);
@@ -321,7 +333,7 @@ impl<const RECOUNT: bool> Cache<RECOUNT> {
     }
 
     fn free_places(&self) -> usize {
-        self.settings.places as usize - self.queue.len()
+        self.settings.queue as usize - self.queue.len()
     }
 
     /// The number of the first line of the address's set.
@@ -356,15 +368,17 @@ impl<const RECOUNT: bool> Cache<RECOUNT> {
             return Ok(start + way);
         }
         let may_evict_dirty = self.dirty_enough();
+        let first_in = self.settings.rule == FIFO;
         let mut best: Option<(u32, usize)> = None;
         let mut busy = false;
         for (way, line) in set.iter().enumerate() {
+            let age = if first_in { line.taken } else { line.cycle };
             if line.has(Status::Reserved) {
                 busy = true;
             } else if (may_evict_dirty || !line.has(Status::Modified))
-                && best.is_none_or(|(cycle, _)| line.cycle < cycle)
+                && best.is_none_or(|(least, _)| age < least)
             {
-                best = Some((line.cycle, way));
+                best = Some((age, way));
             }
         }
         match best {
@@ -379,7 +393,7 @@ impl<const RECOUNT: bool> Cache<RECOUNT> {
         } else {
             self.dirty
         };
-        100 * dirty >= self.settings.percent as usize * self.lines.len()
+        100 * dirty >= self.settings.dirty as usize * self.lines.len()
     }
 
     /// Moves the line's cycle; on a miss the line takes the new tag, and a dirty victim's
@@ -396,7 +410,7 @@ impl<const RECOUNT: bool> Cache<RECOUNT> {
             return None;
         }
         let victim = *line;
-        *line = Line { tag: address & !127, cycle: self.cycle, ..EMPTY };
+        *line = Line { tag: address & !127, cycle: self.cycle, taken: self.cycle, ..EMPTY };
         let dirty = victim.has(Status::Modified);
         self.dirty -= usize::from(dirty);
         dirty.then_some((victim.tag, victim.masks))
@@ -437,13 +451,13 @@ pub fn decode(bytes: &[u8]) -> Result<(Command, usize), u8> {
         0 => 7,
         1 | 2 => 12,
         3 => 0,
-        4 => 8,
+        4 | 6 => 8,
         5 => 4,
         _ => return Err(14),
     };
     let body = body.get(..length).ok_or(CUT_SHORT)?;
     let command = match bytes[0] {
-        0 => return Err(13),
+        0 | 6 => return Err(13),
         1 => Command::Read { address: u64_at(body), ticket: u32_at(&body[8..]) },
         2 => Command::Write { address: u64_at(body), mask: u32_at(&body[8..]) },
         3 => Command::Send,
@@ -453,16 +467,24 @@ pub fn decode(bytes: &[u8]) -> Result<(Command, usize), u8> {
     Ok((command, 1 + length))
 }
 
-pub const SETTINGS_RECORD: usize = 8;
+/// The length of a settings record by its kind: 6 has a rule byte more than 0.
+pub fn settings_length(kind: u8) -> usize {
+    if kind == 6 {
+        9
+    } else {
+        8
+    }
+}
 
 pub fn settings_of(record: &[u8]) -> Settings {
     Settings {
         sets: u32::from(u16::from_le_bytes([record[1], record[2]])),
         ways: record[3].into(),
-        percent: record[4].into(),
-        entries: record[5].into(),
+        dirty: record[4].into(),
+        misses: record[5].into(),
         readers: record[6].into(),
-        places: record[7].into(),
+        queue: record[7].into(),
+        rule: if record[0] == 6 { record[8].into() } else { 0 },
     }
 }
 
@@ -476,7 +498,7 @@ pub struct Stopped {
 pub fn run<const RECOUNT: bool>(stream: &[u8], room: &mut [u8]) -> Stopped {
     let mut cache = Cache::<RECOUNT>::new(settings_of(stream));
     let mut events = Events::new(room);
-    let mut consumed = SETTINGS_RECORD;
+    let mut consumed = settings_length(stream[0]);
     let number = loop {
         if consumed == stream.len() {
             break 0;

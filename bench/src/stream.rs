@@ -65,7 +65,12 @@ pub const USUAL: Mix = Mix { ticks: true, writes: 30 };
 
 /// Makes the commands one after another and hands each on with its event bytes. They follow the
 /// cache's state, so a cache is kept beside them.
-pub fn generate(settings: Settings, accesses: usize, mix: Mix, mut sink: impl FnMut(Command, &[u8])) {
+pub fn generate(
+    settings: Settings,
+    accesses: usize,
+    mix: Mix,
+    mut sink: impl FnMut(Command, &[u8]),
+) {
     let mut cache = Cache::<false>::new(settings);
     let mut room = [0; 64];
     let mut make = |cache: &mut Cache<false>, command: Command| {
@@ -96,13 +101,15 @@ pub fn generate(settings: Settings, accesses: usize, mix: Mix, mut sink: impl Fn
     }
 }
 
-/// The settings record.
+/// The settings record, with a rule byte where the rule is not 0.
 pub fn settings_record(settings: Settings) -> Vec<u8> {
-    let [sets_low, sets_high, ..] = settings.sets.to_le_bytes();
-    let small = [settings.ways, settings.percent, settings.entries, settings.readers];
-    let mut bytes = vec![0, sets_low, sets_high];
-    bytes.extend(small.map(|number| number as u8));
-    bytes.push(settings.places as u8);
+    let Settings { sets, ways, dirty, misses, readers, queue, rule } = settings;
+    let [sets_low, sets_high, ..] = sets.to_le_bytes();
+    let mut bytes = vec![if rule == 0 { 0 } else { 6 }, sets_low, sets_high];
+    bytes.extend([ways, dirty, misses, readers, queue].map(|number| number as u8));
+    if rule != 0 {
+        bytes.push(rule as u8);
+    }
     bytes
 }
 

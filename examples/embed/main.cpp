@@ -26,6 +26,7 @@ using labintugmo::Access;
 using labintugmo::Answer;
 using labintugmo::Cache;
 using labintugmo::Refusal;
+using labintugmo::Rule;
 using labintugmo::Settings;
 
 // ---- The access list ----
@@ -54,6 +55,24 @@ std::optional<std::uint64_t> number_after(std::istream& words, const char* expec
     return number;
 }
 
+// `rule` and its name, or nothing, which is rule lru.
+bool read_rule(std::istream& words, Rule& rule) {
+    std::string word;
+    if (!(words >> word)) {
+        return true;
+    }
+    if (word != "rule" || !(words >> word)) {
+        return false;
+    }
+    for (const Rule known : {Rule::lru, Rule::fifo}) {
+        if (word == name(known)) {
+            rule = known;
+            return true;
+        }
+    }
+    return false;
+}
+
 bool read_settings(std::istream& words, Settings& settings) {
     const std::pair<const char*, std::uint32_t*> fields[] = {
         {"sets", &settings.sets},       {"ways", &settings.ways},
@@ -66,7 +85,7 @@ bool read_settings(std::istream& words, Settings& settings) {
         }
         *field = static_cast<std::uint32_t>(*number);
     }
-    return true;
+    return read_rule(words, settings.rule);
 }
 
 // False if the line is no `settings`, `read` or `write` line.

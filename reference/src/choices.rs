@@ -1,46 +1,53 @@
 //! Random choices of settings, addresses, masks and calls, made so that small
 //! runs meet every answer and every refusal.
 
-use crate::model::{Access, Cache, Call, Settings};
+use crate::model::{Access, Cache, Call, Settings, RULE_FIFO, RULE_LRU};
 use crate::model::{ADDRESS_LIMIT, FULL_MASK, LAST_CYCLE, LINE_BYTES, SECTORS, SECTOR_BYTES};
 use crate::random::Random;
 
 /// Few lines, entries and places, so that all of them run out soon.
 pub fn tight_settings(random: &mut Random) -> Settings {
-    Settings::new([
+    let settings = Settings::new([
         random.pick(&[1, 2, 4]),
         random.between(1, 3) as u32,
         random.pick(&[0, 34, 50, 51, 60, 100]),
         random.between(1, 4) as u32,
         random.between(1, 3) as u32,
         random.between(2, 5) as u32,
-    ])
+    ]);
+    settings.with_rule(any_rule(random))
+}
+
+fn any_rule(random: &mut Random) -> u32 {
+    random.pick(&[RULE_LRU, RULE_FIFO])
 }
 
 pub fn any_settings(random: &mut Random) -> Settings {
     let sets = 1 << random.between(0, 8);
     let ways = random.between(1, (1024 / sets).min(16));
-    Settings::new([
+    let settings = Settings::new([
         sets as u32,
         ways as u32,
         random.between(0, 100) as u32,
         random.between(1, 64) as u32,
         random.between(1, 8) as u32,
         random.between(2, 64) as u32,
-    ])
+    ]);
+    settings.with_rule(any_rule(random))
 }
 
 /// Every number at one end of its range.
 pub fn edge_settings(random: &mut Random) -> Settings {
     let [sets, ways] = random.pick(&[[1, 1], [1, 16], [256, 1], [256, 4], [64, 16], [128, 8]]);
-    Settings::new([
+    let settings = Settings::new([
         sets,
         ways,
         random.pick(&[0, 100]),
         random.pick(&[1, 64]),
         random.pick(&[1, 8]),
         random.pick(&[2, 64]),
-    ])
+    ]);
+    settings.with_rule(any_rule(random))
 }
 
 /// Mostly tight ones, which cost least and refuse most.
@@ -54,17 +61,25 @@ pub fn good_settings(random: &mut Random) -> Settings {
 
 /// One number out of its range, or too many lines; all fit a settings record.
 pub fn bad_record_settings(random: &mut Random) -> Settings {
-    let mut six = good_settings(random).six();
-    match random.below(7) {
+    let good = good_settings(random);
+    let mut six = good.six();
+    match random.below(8) {
         0 => six[0] = random.pick(&[0, 3, 5, 6, 12, 255, 257, 512, 1024, 4096, 32768, 65535]),
         1 => six[1] = random.pick(&[0, 17, 32, 255]),
         2 => six[2] = random.between(101, 255) as u32,
         3 => six[3] = random.pick(&[0, 65, 128, 255]),
         4 => six[4] = random.pick(&[0, 9, 16, 255]),
         5 => six[5] = random.pick(&[0, 1, 65, 128, 255]),
-        _ => [six[0], six[1]] = random.pick(&[[256, 5], [256, 16], [128, 9], [128, 16]]),
+        6 => [six[0], six[1]] = random.pick(&[[256, 5], [256, 16], [128, 9], [128, 16]]),
+        _ => return bad_rule(random, good),
     }
-    Settings::new(six)
+    Settings::new(six).with_rule(good.rule)
+}
+
+/// A rule byte that no rule has.
+fn bad_rule(random: &mut Random, good: Settings) -> Settings {
+    let rules = [RULE_FIFO + 1, RULE_FIFO + 2, 7, 128, 255];
+    good.with_rule(random.pick(&rules))
 }
 
 /// As above, or with numbers that only a direct call can give.
@@ -72,13 +87,21 @@ pub fn bad_settings(random: &mut Random) -> Settings {
     if random.percent(50) {
         return bad_record_settings(random);
     }
-    let mut six = good_settings(random).six();
+    let mut seven = good_settings(random).seven();
     let wide = [1 << 16, 1 << 24, 1 << 28, 1 << 30, 1 << 31, 0x1_0001, u32::MAX - 1, u32::MAX];
-    six[random.index(6)] = random.pick(&wide);
+    seven[random.index(7)] = random.pick(&wide);
     if random.percent(30) {
-        six[random.index(6)] = random.pick(&wide);
+        seven[random.index(7)] = random.pick(&wide);
     }
-    Settings::new(six)
+    Settings::from_numbers(&seven)
+}
+
+/// The numbers that a call lends for settings: six will do for rule 0.
+pub fn lent_numbers(random: &mut Random, settings: &Settings) -> Vec<u32> {
+    if settings.rule == RULE_LRU && random.percent(50) {
+        return settings.six().to_vec();
+    }
+    settings.seven().to_vec()
 }
 
 /// The address of a sector, often of a line that is there or of one that crowds its set.

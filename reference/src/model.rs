@@ -1,5 +1,6 @@
 //! The modelled cache on plain structures (document 01, sections "The modelled
-//! cache", "Probe and victim", "What an accepted access does" and refusals 4 to 12).
+//! cache", "Probe and victim", "What an accepted access does" and refusals 4 to 12), with
+//! document 02's L1 and L2 where they say otherwise.
 //!
 //! In order: the structures; access, send, fill and tick; probe and victim.
 //! In the files below this one: the settings and their ranges (`settings`), the
@@ -13,7 +14,7 @@ mod sound;
 
 pub use events::{event_bytes, outcome_bytes, Event, ROOM_NEEDED};
 pub use lent::{call_bytes, call_on, check, fresh_on, lengths_for, Layout, Place, Tables};
-pub use settings::Settings;
+pub use settings::{Settings, RULE_FIFO, RULE_LRU};
 pub use sound::{broken, sound, CONDITIONS};
 
 use std::collections::VecDeque;
@@ -61,12 +62,15 @@ impl Sector {
 #[derive(Clone, Copy, PartialEq, Eq, Debug)]
 pub struct Line {
     pub tag: u64,
+    /// Of the last access.
     pub cycle: u32,
+    /// The cycle at which a MISS last took the line (document 02, L1).
+    pub taken: u32,
     pub sectors: [Sector; SECTORS],
 }
 
 impl Line {
-    pub const EMPTY: Line = Line { tag: 0, cycle: 0, sectors: [Sector::EMPTY; SECTORS] };
+    pub const EMPTY: Line = Line { tag: 0, cycle: 0, taken: 0, sectors: [Sector::EMPTY; SECTORS] };
 
     pub fn wholly_invalid(&self) -> bool {
         self.sectors.iter().all(|sector| sector.status == Status::Invalid)
@@ -229,7 +233,7 @@ impl Cache {
             return Ok((answer, number));
         }
         let readers = self.settings.readers as usize;
-        let entries = self.settings.entries as usize;
+        let entries = self.settings.misses as usize;
         match answer {
             Answer::HitReserved if self.entry_of(access.address).tickets.len() >= readers => {
                 Err(Refusal::EntryFull)
@@ -255,7 +259,7 @@ impl Cache {
 
     /// Of the miss queue.
     fn free_places(&self) -> usize {
-        self.settings.places as usize - self.queue.len()
+        self.settings.queue as usize - self.queue.len()
     }
 
     fn entry_of(&self, address: u64) -> &MissEntry {
@@ -268,7 +272,7 @@ impl Cache {
     /// The line takes a new tag, with all sectors empty; a dirty victim's block and masks come back.
     fn replace_line(&mut self, number: usize, block: u64) -> Option<(u64, [u32; SECTORS])> {
         let victim = self.lines[number];
-        self.lines[number] = Line { tag: block, ..Line::EMPTY };
+        self.lines[number] = Line { tag: block, taken: self.cycle, ..Line::EMPTY };
         victim.has(Status::Modified).then(|| (victim.tag, victim.masks()))
     }
 
@@ -371,7 +375,7 @@ impl Cache {
             .filter(|&number| is_candidate(&self.lines[number], may_evict_dirty))
             .collect();
         let highest_invalid = candidates.iter().rev().find(|&&n| self.lines[n].wholly_invalid());
-        let earliest = candidates.iter().min_by_key(|&&n| (self.lines[n].cycle, n));
+        let earliest = candidates.iter().min_by_key(|&&n| (self.age_key(n), n));
         match highest_invalid.or(earliest) {
             Some(&number) => Ok(number),
             None if self.lines_of_set(block).any(|n| self.lines[n].has(Status::Reserved)) => {
@@ -381,13 +385,21 @@ impl Cache {
         }
     }
 
+    /// The cycle that the rule compares: of the last access, or of the MISS that took the line.
+    fn age_key(&self, number: usize) -> u32 {
+        match self.settings.rule {
+            RULE_FIFO => self.lines[number].taken,
+            _ => self.lines[number].cycle,
+        }
+    }
+
     /// Lines of the whole cache with a MODIFIED sector.
     pub fn dirty_lines(&self) -> usize {
         self.lines.iter().filter(|line| line.has(Status::Modified)).count()
     }
 
     fn dirty_enough(&self) -> bool {
-        100 * self.dirty_lines() >= self.settings.percent as usize * self.lines.len()
+        100 * self.dirty_lines() >= self.settings.dirty as usize * self.lines.len()
     }
 }
 

@@ -3,6 +3,7 @@
 use crate::model::ROOM_NEEDED;
 use crate::model::{
     call_on, check, fresh_on, outcome_bytes, Access, Cache, Call, Refusal, Settings, Tables,
+    RULE_LRU,
 };
 
 /// The stop numbers; 1 and 2 are those of the refusals.
@@ -20,6 +21,13 @@ pub const KIND_WRITE: u8 = 2;
 pub const KIND_SEND: u8 = 3;
 pub const KIND_FILL: u8 = 4;
 pub const KIND_TICK: u8 = 5;
+/// Settings with a rule byte (document 02, L1).
+pub const KIND_RULED_SETTINGS: u8 = 6;
+
+/// Kind 0, or kind 6, which stands wherever document 01 names kind 0.
+pub fn is_settings(kind: u8) -> bool {
+    kind == KIND_SETTINGS || kind == KIND_RULED_SETTINGS
+}
 
 /// The length of the body of a command or event record.
 pub fn body_length(kind: u8) -> Option<usize> {
@@ -29,6 +37,7 @@ pub fn body_length(kind: u8) -> Option<usize> {
 pub fn command_length(kind: u8) -> Option<usize> {
     match kind {
         KIND_SETTINGS => Some(7),
+        KIND_RULED_SETTINGS => Some(8),
         KIND_READ | KIND_WRITE => Some(12),
         KIND_SEND => Some(0),
         KIND_FILL => Some(8),
@@ -98,7 +107,7 @@ fn next_call(rest: &[u8], free: usize) -> Result<(Call, usize), u8> {
     let kind = rest[0];
     let length = 1 + command_length(kind).ok_or(STOP_UNKNOWN_KIND)?;
     let body = rest.get(1..length).ok_or(STOP_CUT_SHORT)?;
-    if kind == KIND_SETTINGS {
+    if is_settings(kind) {
         return Err(STOP_SETTINGS_PLACE);
     }
     if free < ROOM_NEEDED {
@@ -138,12 +147,13 @@ impl Run<'_> {
         command_length(self.stream[self.consumed]).ok_or(STOP_UNKNOWN_KIND)?;
         let (kind, body) = read_record(self.stream, self.consumed)?;
         match (&mut self.cache, kind) {
-            (None, KIND_SETTINGS) => {
+            (None, _) if is_settings(kind) => {
                 let settings = Settings::from_body(body);
                 fresh_on(&settings, tables).map_err(Refusal::number)?;
                 self.cache = Some(Cache::fresh(settings));
             }
-            (None, _) | (Some(_), KIND_SETTINGS) => return Err(STOP_SETTINGS_PLACE),
+            (None, _) => return Err(STOP_SETTINGS_PLACE),
+            (Some(_), _) if is_settings(kind) => return Err(STOP_SETTINGS_PLACE),
             (Some(cache), _) => {
                 if self.room.len() - self.written < ROOM_NEEDED {
                     return Err(STOP_NO_ROOM);
@@ -158,7 +168,7 @@ impl Run<'_> {
     }
 }
 
-/// The call that a whole command record names; it is not the settings record.
+/// The call that a whole command record names; it is not a settings record.
 fn command(kind: u8, body: &[u8]) -> Call {
     match kind {
         KIND_READ => Call::Access(Access::read(u64_at(body, 0), u32_at(body, 8))),
@@ -180,17 +190,33 @@ fn u32_at(body: &[u8], at: usize) -> u32 {
 
 /// Zero tables of the lengths that the stream's own settings ask for, if it has good ones.
 pub fn tables_for(stream: &[u8]) -> Tables {
-    match read_record(stream, 0) {
-        Ok((KIND_SETTINGS, body)) if Settings::from_body(body).in_range() => {
-            Tables::zero(&Settings::from_body(body))
-        }
+    match first_settings(stream) {
+        Some(settings) if settings.in_range() => Tables::zero(&settings),
         _ => Tables::default(),
     }
 }
 
+/// The settings of a stream that begins with a whole settings record.
+pub fn first_settings(stream: &[u8]) -> Option<Settings> {
+    match read_record(stream, 0) {
+        Ok((kind, body)) if is_settings(kind) => Some(Settings::from_body(body)),
+        _ => None,
+    }
+}
+
+/// Of kind 0 where that can hold them, else of kind 6.
 pub fn settings_record(settings: &Settings) -> Vec<u8> {
     let body = settings.body().expect("settings fit their record");
-    [&[KIND_SETTINGS][..], &body].concat()
+    match settings.rule {
+        RULE_LRU => [&[KIND_SETTINGS][..], &body[..7]].concat(),
+        _ => ruled_record(settings),
+    }
+}
+
+/// Of kind 6, under any rule.
+pub fn ruled_record(settings: &Settings) -> Vec<u8> {
+    let body = settings.body().expect("settings fit their record");
+    [&[KIND_RULED_SETTINGS][..], &body].concat()
 }
 
 pub fn call_record(call: &Call) -> Vec<u8> {

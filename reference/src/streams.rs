@@ -2,9 +2,9 @@
 //! settings, and damaged in one way each.
 
 use crate::choices;
-use crate::model::{Access, Cache, Call, Settings, ADDRESS_LIMIT};
+use crate::model::{Access, Cache, Call, Settings, ADDRESS_LIMIT, RULE_LRU};
 use crate::random::Random;
-use crate::runner::{call_record, settings_record};
+use crate::runner::{call_record, ruled_record, settings_record};
 
 /// What a stream was made for; the names stand in the counts of a test.
 #[derive(Clone, Copy, PartialEq, Eq, PartialOrd, Ord, Debug)]
@@ -80,7 +80,7 @@ pub fn stream(random: &mut Random, kind: Kind) -> Vec<u8> {
         }
         Kind::CutShort => cut_short(random),
         Kind::UnknownKind => {
-            let (least, most) = random.pick(&[(6, 0x0F), (0x19, 0xFF)]);
+            let (least, most) = random.pick(&[(7, 0x0F), (0x19, 0xFF)]);
             let kind = random.between(least, most) as u8;
             with_record(random, |random| strange_record(random, kind))
         }
@@ -96,12 +96,27 @@ pub fn stream(random: &mut Random, kind: Kind) -> Vec<u8> {
         Kind::ZeroMasks => short_run(random, zero_mask_call).concat(),
         Kind::EarlyTicks => short_run(random, early_tick_call).concat(),
         Kind::Empty => Vec::new(),
-        Kind::OnlySettings => settings_record(&choices::good_settings(random)),
-        Kind::RandomBytes => {
-            let length = random.index(200);
-            (0..length).map(|_| random.draw() as u8).collect()
-        }
+        Kind::OnlySettings => only_settings(random),
+        Kind::RandomBytes => random_bytes(random),
     }
+}
+
+fn only_settings(random: &mut Random) -> Vec<u8> {
+    let settings = choices::good_settings(random);
+    any_record(random, &settings)
+}
+
+fn random_bytes(random: &mut Random) -> Vec<u8> {
+    let length = random.index(200);
+    (0..length).map(|_| random.draw() as u8).collect()
+}
+
+/// A settings record of kind 6, or of kind 0 where that can hold them.
+pub fn any_record(random: &mut Random, settings: &Settings) -> Vec<u8> {
+    if settings.rule == RULE_LRU && random.percent(50) {
+        return settings_record(settings);
+    }
+    ruled_record(settings)
 }
 
 type Choose = fn(&mut Random, &Cache) -> Call;
@@ -110,7 +125,7 @@ type Choose = fn(&mut Random, &Cache) -> Call;
 /// that fills find sent entries and addresses find lines.
 fn good_run(random: &mut Random, settings: Settings, calls: usize, choose: Choose) -> Vec<Vec<u8>> {
     let mut cache = Cache::fresh(settings);
-    let mut records = vec![settings_record(&settings)];
+    let mut records = vec![any_record(random, &settings)];
     for _ in 0..calls {
         let call = choose(random, &cache);
         // A refused call is as good a record as any other.
@@ -150,17 +165,19 @@ fn strange_record(random: &mut Random, kind: u8) -> Vec<u8> {
 /// Whole, or cut short as the last record.
 fn second_settings(random: &mut Random) -> Vec<u8> {
     let settings = choices::good_settings(random);
+    let record = any_record(random, &settings);
     if random.percent(70) {
-        return with_record(random, |_| settings_record(&settings));
+        return with_record(random, |_| record.clone());
     }
     let mut stream = short_run(random, choices::record_call).concat();
-    stream.extend(&settings_record(&settings)[..1 + random.index(7)]);
+    stream.extend(&record[..1 + random.index(record.len() - 1)]);
     stream
 }
 
 fn bad_settings(random: &mut Random) -> Vec<u8> {
     let mut records = short_run(random, choices::record_call);
-    records[0] = settings_record(&choices::bad_record_settings(random));
+    let settings = choices::bad_record_settings(random);
+    records[0] = any_record(random, &settings);
     let mut stream = records.concat();
     if random.percent(20) {
         stream.truncate(random.index(12));

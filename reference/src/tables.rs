@@ -75,7 +75,7 @@ fn put_lines(random: &mut Random, mood: &Mood, cache: &mut Cache) -> Vec<u64> {
         let tags = set_tags(random, &settings, set);
         for (way, tag) in tags.into_iter().enumerate() {
             if random.percent(mood.live) {
-                let room = settings.entries as usize - reserved.len();
+                let room = settings.misses as usize - reserved.len();
                 let line = live_line(random, mood, tag, cache.cycle, room);
                 reserved.extend(reserved_sectors(&line));
                 cache.lines[set * settings.ways as usize + way] = line;
@@ -102,7 +102,8 @@ fn set_tags(random: &mut Random, settings: &Settings, set: usize) -> Vec<u64> {
 
 /// A line with at least one sector that is not INVALID and at most `room` RESERVED ones.
 fn live_line(random: &mut Random, mood: &Mood, tag: u64, current: u32, room: usize) -> Line {
-    let mut line = Line { tag, cycle: line_cycle(random, current), ..Line::EMPTY };
+    let cycle = line_cycle(random, current);
+    let mut line = Line { tag, cycle, taken: line_cycle(random, cycle), ..Line::EMPTY };
     let mut room = room;
     for sector in &mut line.sectors {
         *sector = any_sector(random, mood, room > 0);
@@ -114,7 +115,7 @@ fn live_line(random: &mut Random, mood: &Mood, tag: u64, current: u32, room: usi
     line
 }
 
-/// Not later than the current cycle; often equal to that of other lines.
+/// Not later than the given cycle; often equal to that of other lines.
 fn line_cycle(random: &mut Random, current: u32) -> u32 {
     match random.below(4) {
         0 => 0,
@@ -149,7 +150,7 @@ fn reserved_sectors(line: &Line) -> impl Iterator<Item = u64> + '_ {
 /// One entry for each RESERVED sector, in any order, no more of them unsent than the queue holds.
 fn put_entries(random: &mut Random, mood: &Mood, cache: &mut Cache, mut reserved: Vec<u64>) {
     random.shuffle(&mut reserved);
-    let most_unsent = reserved.len().min(cache.settings.places as usize);
+    let most_unsent = reserved.len().min(cache.settings.queue as usize);
     let unsent = random.index(most_unsent + 1);
     let mut sent: Vec<bool> = (0..reserved.len()).map(|number| number >= unsent).collect();
     random.shuffle(&mut sent);
@@ -168,7 +169,7 @@ fn put_queue(random: &mut Random, mood: &Mood, cache: &mut Cache) {
     if !mood.orderly {
         random.shuffle(&mut queue);
     }
-    let free = cache.settings.places as usize - queue.len();
+    let free = cache.settings.queue as usize - queue.len();
     for _ in 0..mood.count(random, free) {
         let write_back = any_write_back(random, cache, &queue);
         queue.insert(random.index(queue.len() + 1), write_back);

@@ -3,7 +3,7 @@
 
 use reference::choices;
 use reference::model::{block_of, check, sector_index, Access, Answer, Cache, Call, Event, Layout};
-use reference::model::{Line, Outcome, Refusal, Settings, Status, Tables};
+use reference::model::{Line, Outcome, Place, Refusal, Settings, Status, Tables};
 use reference::random::Random;
 use reference::tables::{sound_cache, sound_tables};
 use std::collections::BTreeMap;
@@ -15,9 +15,9 @@ fn stored(cache: &Cache) -> u64 {
 }
 
 #[test]
-fn it_is_the_last_of_the_words() {
+fn it_stands_behind_the_masks_of_the_queue() {
     let tables = Tables::fresh(&USUAL);
-    assert_eq!(tables.words.len(), 32);
+    assert_eq!(Layout::of(&USUAL).dirty_count(), Place::Word(31));
     let mut cache = Cache::fresh(USUAL);
     cache.access(Access::write(0, 1)).expect("accepted");
     assert_eq!(cache.encode().words[31], 1);

@@ -2,9 +2,10 @@
 //! and streams cut between records beside one run.
 
 use reference::choices;
-use reference::model::{Access, Cache, Call, Settings, Tables};
+use reference::model::{Access, Cache, Call, Settings, Tables, RULE_FIFO};
 use reference::random::Random;
-use reference::runner::{self, call_record, read_record, resume, settings_record, Stopped};
+use reference::runner::{self, call_record, read_record, resume, Stopped};
+use reference::runner::{ruled_record, settings_record};
 use reference::streams::{any_kind, stream};
 use reference::tables::{damage_any, sound_tables};
 use std::collections::BTreeSet;
@@ -71,8 +72,8 @@ fn an_empty_part_ends_at_once() {
 fn any_settings_record_stops_with_13() {
     let tables = kept().encode();
     let settings = settings_record(&USUAL);
-    let out_of_range = vec![0; 8];
-    for record in [&settings, &out_of_range] {
+    let ruled = ruled_record(&USUAL.with_rule(RULE_FIFO));
+    for record in [&settings, &ruled, &ruled_record(&USUAL), &vec![0; 8], &vec![6; 9]] {
         stops(&USUAL, &tables, record, 0, [13, 0, 0]);
         stops(&USUAL, &tables, &[a_read(), record.clone()].concat(), 64, [13, 13, 4]);
         stops(&USUAL, &tables, &[record.clone(), a_read()].concat(), 64, [13, 0, 0]);
@@ -81,12 +82,15 @@ fn any_settings_record_stops_with_13() {
     for length in 1..8 {
         stops(&USUAL, &tables, &settings[..length], 64, [15, 0, 0]);
     }
+    for length in 1..9 {
+        stops(&USUAL, &tables, &ruled[..length], 64, [15, 0, 0]);
+    }
 }
 
 #[test]
 fn the_order_at_a_record_is_14_15_13_16() {
     let tables = kept().encode();
-    for kind in 6..=0xFF {
+    for kind in 7..=0xFF {
         stops(&USUAL, &tables, &[kind], 0, [14, 0, 0]);
         stops(&USUAL, &tables, &[a_read(), vec![kind; 30]].concat(), 64, [14, 13, 4]);
     }
@@ -185,7 +189,7 @@ fn a_cut_stream_ends_as_one_run() {
         if tables == Tables::default() || ends.is_empty() {
             continue;
         }
-        let settings = Settings::from_body(&bytes[1..8]);
+        let settings = runner::first_settings(&bytes).expect("it has tables");
         let mut whole = (Stopped { number: 0, consumed: 0, written: 0 }, tables, Vec::new());
         whole.2 = vec![0; 25 * bytes.len() + 64];
         whole.0 = runner::run(&bytes, &mut whole.1, &mut whole.2);

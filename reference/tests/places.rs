@@ -36,7 +36,7 @@ fn answer(outcome: &Outcome) -> Option<Answer> {
 
 /// Fills the queue with write-backs until only so many places are free.
 fn with_free(mut cache: Cache, free: usize) -> Cache {
-    while (cache.settings.places as usize) > cache.queue.len() + free {
+    while (cache.settings.queue as usize) > cache.queue.len() + free {
         cache.queue.push_back(Queued::WriteBack { block: 1 << 40, masks: [1, 0, 0, 0] });
     }
     cache
@@ -44,7 +44,7 @@ fn with_free(mut cache: Cache, free: usize) -> Cache {
 
 /// The access is refused with 7 exactly where fewer places are free than `needed`.
 fn needs(cache: &Cache, call: Call, needed: usize, answered: Answer) {
-    let most = cache.settings.places as usize - cache.queue.len();
+    let most = cache.settings.queue as usize - cache.queue.len();
     for free in 0..=most {
         let mut cache = with_free(cache.clone(), free);
         let before = cache.clone();
@@ -145,12 +145,12 @@ fn any_access_needs_what_it_queues() {
         let call = Call::Access(choices::well_formed_access(&mut random, &cache));
         let mut after = cache.clone();
         let outcome = after.call(call);
-        let free = settings.places as usize - cache.queue.len();
+        let free = settings.queue as usize - cache.queue.len();
         match number(&outcome) {
-            0 => assert!(after.queue.len() <= settings.places as usize),
+            0 => assert!(after.queue.len() <= settings.queue as usize),
             7 => {
                 let mut longer = cache.clone();
-                longer.settings.places += 2;
+                longer.settings.queue += 2;
                 let other = longer.call(call);
                 assert!(matches!(number(&other), 0 | 9), "{other:?}");
                 assert!(other.is_err() || longer.queue.len() - cache.queue.len() > free);

@@ -87,7 +87,8 @@ fn every_place_has_a_name_of_its_own() {
     assert_eq!(layout.describe(layout.queue_mask(5, 2)), "mask 2 of queue place 5");
     assert_eq!(layout.describe(layout.readable(1, 3)), "readable mark of line 1 sector 3");
     assert_eq!(layout.describe(layout.dirty_count()), "count of dirty lines");
-    assert_eq!(layout.dirty_count(), Place::Word(words - 1));
+    assert_eq!(layout.describe(layout.taken(5)), "taken cycle of line 5");
+    assert_eq!(layout.taken(5), Place::Word(words - 1));
 }
 
 #[test]

@@ -57,7 +57,7 @@ fn stop_13_settings_place() {
 
 #[test]
 fn stop_14_unknown_kind() {
-    for kind in (6..=0x0F).chain(0x10..=0x18).chain(0x19..=0xFF) {
+    for kind in (7..=0x0F).chain(0x10..=0x18).chain(0x19..=0xFF) {
         stops(&[kind], 64, 14, 0, 0);
         stops(&[good(), vec![kind; 40]].concat(), 0, 14, 8, 0);
     }

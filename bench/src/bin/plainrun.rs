@@ -1,8 +1,7 @@
 //! The unchecked runner as a program: a stream from a file through a buffer of 64 KiB, its events to standard output through
 //! another; a last line on standard error.
 
-
-use bench::plain::{decode, settings_of, Cache, Events, SETTINGS_RECORD};
+use bench::plain::{decode, settings_length, settings_of, Cache, Events};
 use std::fs::File;
 use std::io::{Read, Write};
 
@@ -14,9 +13,11 @@ fn main() {
     let mut output = std::io::stdout().lock();
     let mut buffer = vec![0; BUFFER];
     let mut room = vec![0; BUFFER];
-    input.read_exact(&mut buffer[..SETTINGS_RECORD]).expect("settings");
+    input.read_exact(&mut buffer[..1]).expect("a kind");
+    let settings = settings_length(buffer[0]);
+    input.read_exact(&mut buffer[1..settings]).expect("settings");
     let mut cache = Cache::<false>::new(settings_of(&buffer));
-    let (mut have, mut consumed, mut total) = (0, SETTINGS_RECORD, 0);
+    let (mut have, mut consumed, mut total) = (0, settings, 0);
     let stop = 'all: loop {
         let got = input.read(&mut buffer[have..]).expect("read");
         if got == 0 {

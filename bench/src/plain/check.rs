@@ -26,6 +26,7 @@ struct View<'a> {
     tickets: &'a [u32],
     queue_masks: &'a [[u32; 4]],
     dirty_lines: u32,
+    taken: &'a [u32],
     statuses: &'a [[u8; 4]],
     readable: &'a [[u8; 4]],
     sent: &'a [u8],
@@ -36,18 +37,19 @@ struct View<'a> {
 impl<'a> View<'a> {
     fn new(settings: &'a Settings, longs: &'a [u64], words: &'a [u32], marks: &'a [u8]) -> Self {
         let lines = settings.lines();
-        let entries = settings.entries as usize;
+        let misses = settings.misses as usize;
         let (tags, longs) = longs.split_at(lines);
-        let (miss_addresses, queue_addresses) = longs.split_at(entries);
+        let (miss_addresses, queue_addresses) = longs.split_at(misses);
         let (&cycle, words) = words.split_first().expect("words hold the current cycle");
         let (cycles, words) = words.split_at(lines);
         let (masks, rest) = words.split_at(4 * lines);
-        let (tickets, rest) = rest.split_at(entries * settings.readers as usize);
-        let (&dirty_lines, queue_masks) = rest.split_last().expect("words hold the dirty count");
+        let (tickets, rest) = rest.split_at(misses * settings.readers as usize);
+        let (queue_masks, rest) = rest.split_at(4 * settings.queue as usize);
+        let (&dirty_lines, taken) = rest.split_first().expect("words hold the dirty count");
         let (statuses, marks) = marks.split_at(4 * lines);
         let (readable, marks) = marks.split_at(4 * lines);
-        let (sent, marks) = marks.split_at(entries);
-        let (counts, kinds) = marks.split_at(entries);
+        let (sent, marks) = marks.split_at(misses);
+        let (counts, kinds) = marks.split_at(misses);
         View {
             settings,
             tags,
@@ -59,6 +61,7 @@ impl<'a> View<'a> {
             tickets,
             queue_masks: queue_masks.as_chunks().0,
             dirty_lines,
+            taken,
             statuses: statuses.as_chunks().0,
             readable: readable.as_chunks().0,
             sent,
@@ -77,7 +80,9 @@ pub fn sound(settings: &Settings, longs: &[u64], words: &[u32], marks: &[u8]) ->
         return false;
     };
     let dirty = view.statuses.iter().filter(|four| four.contains(&MODIFIED)).count();
-    entries_sound(&view) == Some(reserved) && queue_sound(&view) && view.dirty_lines as usize == dirty
+    entries_sound(&view) == Some(reserved)
+        && queue_sound(&view)
+        && view.dirty_lines as usize == dirty
 }
 
 /// The number of RESERVED sectors, if every line is sound in itself and in its set.
@@ -87,7 +92,8 @@ fn lines_sound(view: &View) -> Option<usize> {
         let statuses = &view.statuses[line];
         if *statuses == [INVALID; 4] {
             let empty = view.masks[line] == [0; 4] && view.readable[line] == [1; 4];
-            if !empty || view.tags[line] != 0 || view.cycles[line] != 0 {
+            let cycles = [view.cycles[line], view.taken[line]];
+            if !empty || view.tags[line] != 0 || cycles != [0; 2] {
                 return None;
             }
             continue;
@@ -110,7 +116,8 @@ fn lines_sound(view: &View) -> Option<usize> {
             }
             reserved += usize::from(status == RESERVED);
         }
-        if view.cycles[line] > view.cycle || !own_tag(view, line) {
+        let (cycle, taken) = (view.cycles[line], view.taken[line]);
+        if taken > cycle || cycle > view.cycle || !own_tag(view, line) {
             return None;
         }
     }

@@ -6,6 +6,7 @@ use mathlib.Core.List.{List, [], _∷_, _++_, map, append-nil, append-assoc}
 use Prim.Native.Nat.{ℕ, zero, suc, _+_, _*_, _≤_, _<_, _-_}
 use native.Mathlib.Omega.{arith}
 use lib.ListN.{length, getD, set, length-set, length-append}
+use lib.Seq.{getD-set-same, set-set}
 use lib.Dec.{eqb}
 use borrow.Author.Tests.{eqb-true, eq-eqb, ne-eqb, leb-true}
 use Rattle.model.specs.Words.{any, count, one}
@@ -13,33 +14,35 @@ use Rattle.model.specs.Range.{linesOf}
 use Rattle.model.specs.Address.{addressOf, isRead, blockOf, sectorIndex, lineNumber}
 use Rattle.model.specs.Tables.{Line, Entry, Tables, entryFor, noEntry, fresh, withLines, withMisses, withQueue, withDirtyCount}
 use Rattle.model.specs.Lent.{Lent, lent, sectorsAt, lineAt}
-use Rattle.model.specs.Probe.{Spot}
-use Rattle.model.specs.Steps.{isMerge, isMiss, onSector, update, join, onMisses, fetches, queues, placesNeeded, recounted}
+use Rattle.model.specs.Regions.{put}
+use Rattle.model.specs.Probe.{Spot, waysOf, ruleOf}
+use Rattle.model.specs.Steps.{isMerge, isMiss, onSector, update, takesLine, join, onMisses, fetches, queues, placesNeeded, recounted, lineAfter}
 use Rattle.model.specs.declared.Settings.{Settings}
 use Rattle.model.specs.declared.Queued.{Queued}
 use Rattle.model.specs.declared.Access.{Access}
 use Rattle.model.specs.declared.Access.the-variants.{Read, Write}
 use Rattle.model.specs.declared.Answer.{Answer}
 use Rattle.model.specs.Sound.{queuedOk}
-use Rattle.model.proofs.Flags.{and-2, by-flag}
+use Rattle.model.proofs.Flags.{and-2, flag, by-flag}
 use Rattle.model.proofs.SoundFacts.{Sound, parts, lines-are, readers-some, queued-parts}
 use Rattle.model.proofs.Lists.{In, all-in, in-append, count-index}
 use Rattle.model.proofs.Taken.{Spotted}
 use Rattle.model.proofs.Offered.{probe-spotted}
+use Rattle.model.proofs.Victims.{line-stays}
 use Rattle.model.proofs.Bridge.{is-tables}
 use Rattle.model.proofs.Standing.{encode-stands}
 use Rattle.model.proofs.Tabled.{getD-table}
 use Rattle.layout.specs.declared.Layout.{Layout}
 use Rattle.layout.specs.Layout.{Placed}
 use Rattle.layout.proofs.Stands.{Stands, is-stands}
-use Rattle.layout.proofs.Lines.{line-stands}
+use Rattle.layout.proofs.Lines.{takenAs, line-stands, taken-stands}
 use Rattle.tables.proofs.Misses.{withTicket, unsent, append-stands, new-entry-stands}
 use Rattle.tables.proofs.Queue.{push-stands}
 use Rattle.tables.proofs.Ones.{map-one}
 use Rattle.probe.specs.declared.Decision.{Decision}
 use Rattle.probe.proofs.Held.{lines-held, way-line}
 use Rattle.access.specs.Plan.{Met, entryIndex, courseOf, goes, ticketOf}
-use Rattle.access.specs.Written.{sectorsFor, sectorsAfter, missesWritten, entryWritten, queueWritten, lineLeft}
+use Rattle.access.specs.Written.{sectorsFor, sectorsAfter, missesWritten, entryWritten, queueWritten, lineLeft, lineTaken}
 use Rattle.access.specs.declared.course.Course.{Course}
 use Rattle.access.specs.declared.course.Course.the-variants.{Refused, Stays, Joins, Starts}
 use Rattle.access.proofs.Plans.{index-found, merged-entry, entry-once}
@@ -80,9 +83,12 @@ module _ (S : Settings) {longs words marks : List ℕ} (x : Access) (d : Decisio
 
   -- ---- the line
 
-  -- the line that the access leaves
+  -- the line that the access leaves, and what it is before the cycle at which it was taken is written
   abbrev pub newLine : Line
-  newLine = update (sectorIndex (addressOf x)) (onSector x (p .answer)) (t .now) (p .line)
+  newLine = lineAfter x p (t .now)
+
+  abbrev pub leftLine : Line
+  leftLine = update (sectorIndex (addressOf x)) (onSector x (p .answer)) (t .now) (getD (t .lines) (d .line) fresh .taken) (p .line)
 
   line-is : getD (t .lines) (d .line) fresh ≡ lineAt S longs words marks (d .line)
   line-is =
@@ -114,9 +120,9 @@ module _ (S : Settings) {longs words marks : List ℕ} (x : Access) (d : Decisio
   count-is : getD words (place .dirty) 0 + one (someModified (newLine .sectors)) - one (dirtyAt marks (d .line)) ≡ newCount
   count-is = rw (count-at S t (m .is) pl, was-dirty S t (m .is) pl (d .line) (m .below))
 
-  pub line-written : {L₁ : Lent} → L₁ ≡ lineLeft place (lent longs words marks) (d .line) (blockOf (addressOf x)) (sectorsAfter x d (sectorsFor (d .meeting) (sectorsAt S words marks (d .line))))
-      → Stands S (L₁ .longs) (L₁ .words) (L₁ .marks) (withDirtyCount newCount (withLines (set (t .lines) (d .line) newLine) t))
-  line-written e =
+  pub line-left : {L₁ : Lent} → L₁ ≡ lineLeft place (lent longs words marks) (d .line) (blockOf (addressOf x)) (sectorsAfter x d (sectorsFor (d .meeting) (sectorsAt S words marks (d .line))))
+      → Stands S (L₁ .longs) (L₁ .words) (L₁ .marks) (withDirtyCount newCount (withLines (set (t .lines) (d .line) leftLine) t))
+  line-left e =
       let b = m .below in
       let s = sized in
       let four : length (newLine .sectors) ≡ 4 = simp length-set (spot .four) in
@@ -124,8 +130,52 @@ module _ (S : Settings) {longs words marks : List ℕ} (x : Access) (d : Decisio
       let counted = dirty-count-stands S t (is-stands (m .is)) pl newCount refl in
       let time = sym (now-of counted) in
       let e₂ = rw (sym time) at e₁ in
-      line-stands S (withDirtyCount newCount t) counted pl sized (d .line) (omega arith) newLine four
+      line-stands S (withDirtyCount newCount t) counted pl sized (d .line) (omega arith) leftLine four refl
       (ap (λ (L : Lent). L .longs) e₂, ap (λ (L : Lent). L .words) e₂, ap (λ (L : Lent). L .marks) e₂)
+
+  -- ---- when it was taken
+
+  -- a line that no MISS takes stays as taken as it was
+  taken-stays : takesLine (p .answer) ≡ false → p .line .taken ≡ getD (t .lines) (d .line) fresh .taken
+  taken-stays n =
+      ap (λ (l : Line). l .taken)
+      (line-stays (ruleOf S t (addressOf x)) S (t .dirtyCount) (waysOf S (t .lines) (addressOf x)) x p n (m .probed)
+      ∙ way-line S (t .lines) (addressOf x) (p .way) (rw (shows S x d t p m .way) (m .way))
+      ∙ ap (λ (i : ℕ). getD (t .lines) i fresh) (sym (m .numbered)))
+
+  abbrev lefts : Tables
+  lefts = withDirtyCount newCount (withLines (set (t .lines) (d .line) leftLine) t)
+
+  left-there : getD (set (t .lines) (d .line) leftLine) (d .line) fresh ≡ leftLine
+  left-there = getD-set-same (t .lines) (d .line) leftLine fresh (omega (arith, sized, m .below))
+
+  pub line-written : (L₀ : Lent) {L₁ : Lent} → L₀ ≡ lineLeft place (lent longs words marks) (d .line) (blockOf (addressOf x)) (sectorsAfter x d (sectorsFor (d .meeting) (sectorsAt S words marks (d .line))))
+      → L₁ ≡ lineTaken place (d .answer) (d .line) L₀
+      → Stands S (L₁ .longs) (L₁ .words) (L₁ .marks) (withDirtyCount newCount (withLines (set (t .lines) (d .line) newLine) t))
+  line-written L₀ {L₁} e f = ⊎-elim took kept (flag (takesLine (p .answer)))
+    where
+      left : Stands S (L₀ .longs) (L₀ .words) (L₀ .marks) lefts
+      left = line-left e
+
+      same-answer : d .answer ≡ p .answer
+      same-answer = sym (answer-is S x d t p m)
+
+      long : length (lefts .lines) ≡ linesOf S
+      long = length-set (t .lines) (d .line) leftLine ∙ sized
+
+      took : takesLine (p .answer) ≡ true → Stands S (L₁ .longs) (L₁ .words) (L₁ .marks) (withDirtyCount newCount (withLines (set (t .lines) (d .line) newLine) t))
+      took y =
+          let g = rw (same-answer, y) at f in
+          let h = taken-stands S lefts left pl long (d .line) (rw long (m .below)) (t .now) (ap (λ (n : ℕ). put (L₀ .words) (place .taken + d .line) (n ∷ [])) (now-of left)) in
+          let k : set (set (t .lines) (d .line) leftLine) (d .line) (takenAs (t .now) leftLine) ≡ set (t .lines) (d .line) newLine =
+          set-set (t .lines) (d .line) leftLine _ ∙ rw y in
+          rw g (rw (left-there, k) at h)
+
+      kept : takesLine (p .answer) ≡ false → Stands S (L₁ .longs) (L₁ .words) (L₁ .marks) (withDirtyCount newCount (withLines (set (t .lines) (d .line) newLine) t))
+      kept n =
+          let g = rw (same-answer, n) at f in
+          let k : leftLine ≡ newLine = rw (n, taken-stays n) in
+          rw (g, ← k) left
 
   -- ---- the miss table
 

@@ -11,7 +11,7 @@ use Rattle.model.specs.Range.{linesOf}
 use Rattle.model.specs.Regions.{put}
 use Rattle.model.specs.Address.{addressOf, isRead, blockOf, sectorIndex, lineNumber}
 use Rattle.model.specs.Tables.{Line, Tables, empty, fresh, emptied, withLines, withDirtyCount, dirty, isModified}
-use Rattle.model.specs.Lent.{lent, sectorsAt, bit, wordBlocks, tagOf, cycleOf, masksOf, statusesOf, readablesOf, encode}
+use Rattle.model.specs.Lent.{lent, sectorsAt, bit, wordBlocks, tagOf, cycleOf, takenOf, masksOf, statusesOf, readablesOf, encode}
 use Rattle.model.specs.Numbers.{statusNumber}
 use Rattle.model.specs.Probe.{Spot, at, waysOf}
 use Rattle.model.specs.Steps.{isMiss, onSector}
@@ -34,7 +34,7 @@ use Rattle.probe.proofs.Held.{way-line}
 use Rattle.access.specs.Plan.{Met}
 use Rattle.access.specs.Written.{sectorsFor, sectorsAfter, lineLeft}
 use Rattle.access.proofs.Courses.{shows, answer-is}
-use Rattle.access.proofs.Acting.{spot, sized, now-is, newLine, line-written, newCount}
+use Rattle.access.proofs.Acting.{spot, sized, now-is, leftLine, line-left, newCount}
 
 sector-kept : (x : Access) (n : Answer) (s : Sector) → (isRead x && not (isMiss n)) ≡ true → onSector x n s ≡ s
 sector-kept (Read a m k) n s e = rw (not-yes {b = isMiss n} e)
@@ -46,7 +46,7 @@ module _ (S : Settings) {longs words marks : List ℕ} (x : Access) (d : Decisio
   line = getD (t .lines) (d .line) fresh
 
   abbrev new : Line
-  new = newLine S x d t p m pl
+  new = leftLine S x d t p m pl
 
   kept-there : (isRead x && not (isMiss (p .answer))) ≡ true
   kept-there = rw (answer-is S x d t p m) kept
@@ -86,7 +86,7 @@ module _ (S : Settings) {longs words marks : List ℕ} (x : Access) (d : Decisio
       let c = now-is S x d t p m pl in
       record {
         as-longs = rw (places-same tagOf 1 (linesOf S) (d .line) (t .lines) fresh new (ap (λ (n : ℕ). n ∷ []) same-tag)) (h .as-longs);
-        as-words = rw (places-same masksOf 4 (linesOf S) (d .line) (t .lines) fresh new (ap (map (λ (s : Sector). s .mask)) same-sectors))
+        as-words = rw (places-same masksOf 4 (linesOf S) (d .line) (t .lines) fresh new (ap (map (λ (s : Sector). s .mask)) same-sectors), places-same takenOf 1 (linesOf S) (d .line) (t .lines) fresh new refl)
             (field-put cycleOf 1 (linesOf S) (t .lines) (wordBlocks S t) 1 (d .line) {i = 1 + d .line} (h .as-words) refl (omega arith) (omega arith) (omega arith) (omega arith) new refl (rw c));
         as-marks = rw (
           places-same statusesOf 4 (linesOf S) (d .line) (t .lines) fresh new (ap (map (λ (s : Sector). statusNumber (s .status))) same-sectors),
@@ -107,4 +107,4 @@ module _ (S : Settings) {longs words marks : List ℕ} (x : Access) (d : Decisio
   touched =
       stands-encode touched-stands
       ∙ ap (λ (k : ℕ). encode S (withDirtyCount k (withLines (set (t .lines) (d .line) new) t))) (sym same-count)
-      ∙ sym (stands-encode (line-written S x d t p m pl refl))
+      ∙ sym (stands-encode (line-left S x d t p m pl refl))

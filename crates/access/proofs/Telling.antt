@@ -28,7 +28,7 @@ use Rattle.layout.specs.Layout.{Placed}
 use Rattle.layout.proofs.Stands.{stands-encode}
 use Rattle.probe.specs.declared.Decision.{Decision}
 use Rattle.access.specs.Plan.{Met, Acts, goes, ticketOf}
-use Rattle.access.specs.Written.{sectorsFor, sectorsAfter, missesWritten, queueWritten, queuesOf, tellingOf, MissRoom, QueueRoom, lineLeft}
+use Rattle.access.specs.Written.{sectorsFor, sectorsAfter, missesWritten, queueWritten, queuesOf, tellingOf, MissRoom, QueueRoom, lineLeft, lineTaken}
 use Rattle.access.specs.declared.course.Course.{Course}
 use Rattle.access.specs.declared.course.Course.the-variants.{Refused, Stays, Joins, Starts}
 use Rattle.access.proofs.Courses.{queues-count, queues-are, answer-is}
@@ -118,14 +118,14 @@ module _ (S : Settings) {longs words marks : List ℕ} (x : Access) (d : Decisio
   -- ---- what it leaves
 
   pub acted : (L₁ L₂ L₃ : Lent) {r : Told}
-      → L₁ ≡ lineLeft place (lent longs words marks) (d .line) (blockOf (addressOf x)) (sectorsAfter x d (sectorsFor (d .meeting) (sectorsAt S words marks (d .line))))
+      → L₁ ≡ lineTaken place (d .answer) (d .line) (lineLeft place (lent longs words marks) (d .line) (blockOf (addressOf x)) (sectorsAfter x d (sectorsFor (d .meeting) (sectorsAt S words marks (d .line)))))
       → L₂ ≡ missesWritten place (S .readers) c (addressOf x) (ticketOf x) L₁
       → r ≡ tellingOf x d
       → L₃ ≡ queueWritten place n (take (r .queues) (r .queued)) L₂
       → Leaves (encoded S (accept S x p t)) (lent longs words marks) r L₃
   unfolding accept
   acted L₁ L₂ L₃ line misses tells queue =
-      let s₁ = line-written S x d t p m pl line in
+      let s₁ = line-written S x d t p m pl _ refl line in
       let s₂ = misses-written S x d t p m pl (set (t .lines) (d .line) (newLine S x d t p m pl)) (newCount S x d t p m pl) L₁ L₂ s₁ c (a .planned) (a .going) misses in
       let q : L₃ ≡ queueWritten place n (queues x p) L₂ = rw (tells, two-back (queuesOf x d) (queues-few x d), ← queues-are S x d t p m) at queue in
       let s₃ = queue-written S x d t p m pl (withMisses (onMisses x (p .answer) (t .misses)) (withDirtyCount (newCount S x d t p m pl) (withLines (set (t .lines) (d .line) (newLine S x d t p m pl)) t))) refl L₂ s₂ (a .counted) roomy q in

@@ -9,9 +9,10 @@ use Rattle.model.specs.Address.{addressOf, isRead, sectorIndex}
 use Rattle.model.specs.Tables.{empty, reading}
 use Rattle.model.specs.Lent.{Lent, lent, sectorsAt}
 use Rattle.model.specs.Regions.{put}
-use Rattle.model.specs.Steps.{isMiss, onSector}
+use Rattle.model.specs.Steps.{isMiss, takesLine, onSector}
 use Rattle.model.specs.Calls.{inTwo}
 use Rattle.model.specs.declared.Access.{Access}
+use Rattle.model.specs.declared.Answer.{Answer}
 use Rattle.model.specs.declared.Sector.{Sector}
 use Rattle.model.specs.declared.Queued.{Queued}
 use Rattle.model.specs.declared.Told.{Told}
@@ -52,6 +53,13 @@ lineWritten at L l block four =
 -- the dirty count and the line
 abbrev pub lineLeft : Layout → Lent → ℕ → ℕ → List Sector → Lent
 lineLeft at L l block four = lineWritten at (countWritten at (dirtyAt (L .marks) l) (someModified four) L) l block four
+
+-- the cycle at which it was taken: where the answer is MISS, the current one
+abbrev pub takenWritten : Layout → Answer → ℕ → List ℕ → List ℕ
+takenWritten at a l words = pick (takesLine a) (put words (at .taken + l) (getD words 0 0 ∷ [])) words
+
+abbrev pub lineTaken : Layout → Answer → ℕ → Lent → Lent
+lineTaken at a l L = lent (L .longs) (takenWritten at a l (L .words)) (L .marks)
 
 -- the miss table by the course: a ticket that joins, or a new entry
 abbrev pub missesWritten : Layout → ℕ → Course → ℕ → ℕ → Lent → Lent

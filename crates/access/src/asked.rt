@@ -3,7 +3,7 @@ ghost use mathlib.Core.Path.{_≡_};
 ghost use mathlib.Core.Bool.{_&&_};
 ghost use Rattle.model.specs.Address.{isRead};
 ghost use Rattle.access.specs.Plan.{ticketOf};
-ghost use Rattle.model.specs.Steps.{isMerge, isMiss};
+ghost use Rattle.model.specs.Steps.{isMerge, isMiss, takesLine};
 use model::Access;
 use model::Answer;
 
@@ -48,6 +48,18 @@ pub(crate) fn is_merge(a: Answer) -> bool
         Answer::Hit => false,
         Answer::HitReserved => true,
         Answer::Miss => false,
+        Answer::SectorMiss => false,
+    }
+}
+
+// Whether the answer is MISS: a line is taken over.
+pub(crate) fn takes_line(a: Answer) -> bool
+    ensures { λ r. ⌜ r ≡ takesLine a ⌝ }
+{
+    match a {
+        Answer::Hit => false,
+        Answer::HitReserved => false,
+        Answer::Miss => true,
         Answer::SectorMiss => false,
     }
 }

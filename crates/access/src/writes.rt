@@ -1,4 +1,5 @@
-// The writes of an access that is not refused, in order: the dirty count and its line, the miss table, the queue. Then what it tells.
+// The writes of an access that is not refused, in order: the dirty count and its line, the cycle at which that was taken, the miss
+// table, the queue. Then what it tells.
 ghost use mathlib.Core.Path.{_≡_};
 ghost use Prim.Native.Nat.{ℕ, _+_, _*_, _≤_, _<_};
 ghost use mathlib.Core.List.{List, [], _∷_};
@@ -14,12 +15,13 @@ ghost use Rattle.probe.specs.Scan.{dirtyAt};
 ghost use Rattle.access.specs.Plan.{Meets, MayAct, Acted};
 ghost use Rattle.model.specs.Tables.{reading, writing};
 ghost use Rattle.model.specs.Calls.{inTwo};
-ghost use Rattle.access.specs.Written.{sectorsFor, sectorsAfter, lineWritten, missesWritten, queueWritten, queuesOf, tellingOf, MissRoom, QueueRoom, lineLeft};
+ghost use Rattle.access.specs.Written.{sectorsFor, sectorsAfter, lineWritten, missesWritten, queueWritten, queuesOf, tellingOf, MissRoom, QueueRoom, lineLeft, takenWritten, lineTaken};
 ghost use mathlib.Core.Bool.{not, _&&_};
 ghost use Rattle.model.specs.Steps.{isMiss};
 use crate::asked::fetches;
 use crate::asked::is_miss;
 use crate::asked::is_read;
+use crate::asked::takes_line;
 use crate::asked::ticket_of;
 use crate::course::Course;
 use crate::course::places_needed;
@@ -105,7 +107,7 @@ fn keeps_line(x: Access, a: Answer) -> bool
 }
 
 // The access's line. Where its tag and sectors stay as they are, only its cycle is written.
-fn act_line(
+fn leave_line(
     s: Settings,
     at: Layout,
     longs: &mut [u64],
@@ -125,6 +127,36 @@ fn act_line(
     } else {
         change_line(s, at, longs, words, marks, x, d);
     }
+}
+
+// A line that a MISS takes over keeps the current cycle as the one at which it was taken.
+fn mark_taken(at: Layout, words: &mut [u32], line: usize, a: Answer)
+    requires { ⌜ (at .taken + line < length (now words)) × (length (now words) ≤ 8192) ⌝ }
+    ensures { λ _. ⌜ now (words .exit) ≡ takenWritten at a line (now (words .entry)) ⌝ }
+{
+    if takes_line(a) {
+        words[at.taken + line] = words[0];
+    }
+}
+
+// The access's line, and when it was taken.
+fn act_line(
+    s: Settings,
+    at: Layout,
+    longs: &mut [u64],
+    words: &mut [u32],
+    marks: &mut [u8],
+    x: Access,
+    d: Decision,
+)
+    requires { ⌜ Placed s at × Meets s (lent (now longs) (now words) (now marks)) x d ⌝ }
+    ensures { λ _. ⌜ lent (now (longs .exit)) (now (words .exit)) (now (marks .exit))
+        ≡ lineTaken at (d .answer) (d .line) (lineLeft at (lent (now (longs .entry)) (now (words .entry)) (now (marks .entry))) (d .line) (blockOf (addressOf x))
+        (sectorsAfter x d (sectorsFor (d .meeting) (sectorsAt s (now (words .entry)) (now (marks .entry)) (d .line))))) ⌝ }
+{
+    leave_line(s, at, longs, words, marks, x, d);
+    let a = d.answer;
+    mark_taken(at, words, d.line, a);
 }
 
 // The miss table by the course: a ticket joins, or a new entry stands behind the others.

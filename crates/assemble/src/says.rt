@@ -1,6 +1,7 @@
 // What is wrong with a line, on standard error.
 use assembly::Expected;
 use libc::STDERR_FILENO;
+use text::rules;
 
 // Bytes of a bad line that are shown.
 const SHOWN: usize = 120;
@@ -45,6 +46,28 @@ pub fn bad(line: u64, e: Expected, words: &[u8]) {
     ends();
 }
 
+fn rule_name(n: u8) {
+    let mut name = [0; 4];
+    let len = rules::put_rule(n, &mut name, 0);
+    say(text::front(&name, len));
+    say(b", ");
+}
+
+// All of them, as they stand in their table.
+fn rule_names() {
+    let mut n = 0;
+    while rules::has_name(n) {
+        rule_name(n);
+        n += 1;
+    }
+}
+
+fn expected_rule() {
+    say(b"rule and ");
+    rule_names();
+    say(b"or a number from 0 to 255; or the end of the line or a comment");
+}
+
 fn expected(e: Expected) {
     match e {
         Expected::Command => say(b"settings, read, write, send, fill or tick"),
@@ -54,6 +77,9 @@ fn expected(e: Expected) {
         Expected::Misses => say(b"misses and a number from 0 to 255"),
         Expected::Readers => say(b"readers and a number from 0 to 255"),
         Expected::Queue => say(b"queue and a number from 0 to 255"),
+        Expected::Rule => say(
+            b"rule and lru, fifo or a number from 0 to 255, or the end of the line",
+        ),
         Expected::Address => say(b"an address of at most 64 bits, decimal or behind 0x"),
         Expected::Ticket => say(b"ticket and a number of at most 32 bits"),
         Expected::Mask => say(b"mask and a number of at most 32 bits"),

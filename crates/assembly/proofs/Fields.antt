@@ -11,14 +11,19 @@ use Rattle.model.specs.declared.Command.{Command}
 use Rattle.model.proofs.Flags.{and-1}
 use Rattle.text.specs.Words.{skipSpaces, wordEnd, wordAt, sameText}
 use Rattle.text.specs.Digits.{parseNumber}
+use Rattle.text.specs.Rules.{ruleNames, ruleOf}
+use Rattle.text.specs.declared.rules.Named.{Named}
+use Rattle.text.specs.declared.rules.Named.the-variants.{Rule, Nothing}
+use Rattle.text.proofs.RuleNames.{rule-below}
 use Rattle.text.specs.declared.Parsed.{Parsed}
 use Rattle.text.specs.declared.Parsed.the-variants as parsed
+use Rattle.assembly.specs.Spelling.{ruleWord}
 use Rattle.assembly.specs.declared.Expected.the-variants as expected
 use Rattle.assembly.specs.declared.Field.{Field}
 use Rattle.assembly.specs.declared.Field.the-variants.{Got, Missing}
 use Rattle.assembly.specs.declared.Line.{Line}
 use Rattle.assembly.specs.declared.Line.the-variants as line
-use Rattle.assembly.specs.Language.{wholeNumber, numberNext, wordIs, fieldNext, whole, byWord, parseLine}
+use Rattle.assembly.specs.Language.{most8, wholeNumber, numberNext, wordIs, behindWord, fieldNext, ruleBy, ruleValue, ruleNext, endsAt, whole, byWord, parseLine}
 
 module _ (most : ℕ) (s : List ℕ) (v next : ℕ) where
   pub number-over : most < v → Missing ≡ wholeNumber most s (parsed.Number v next)
@@ -49,31 +54,62 @@ module _ (most : ℕ) (s : List ℕ) (at : ℕ) where
       by-number parsed.Nothing q = let z : _≡_ {A = ℕ} 0 1 = cc in omega arith
       by-number parsed.TooLarge q = let z : _≡_ {A = ℕ} 0 1 = cc in omega arith
 
-module _ (w : List ℕ) (most : ℕ) (s : List ℕ) (at : ℕ) where
-  pub field-there : {a e : ℕ} {t : Bool} {r : Field} → a ≡ skipSpaces s at → t ≡ wordIs s a w → t ≡ true → e ≡ wordEnd s a → r ≡ numberNext most s e → r ≡ fieldNext w most s at
-  unfolding fieldNext
-  field-there p q t e h = let z = sym q ∙ t in rw (← p, z, ← e) h
+module _ (w : List ℕ) (f : List ℕ → ℕ → Field) (s : List ℕ) (at : ℕ) where
+  pub word-there : {a e : ℕ} {t : Bool} {r : Field} → a ≡ skipSpaces s at → t ≡ wordIs s a w → t ≡ true → e ≡ wordEnd s a → r ≡ f s e → r ≡ behindWord w f s at
+  unfolding behindWord
+  word-there p q t e h = let z = sym q ∙ t in rw (← p, z, ← e) h
 
-  pub field-missing : {a : ℕ} {t : Bool} → a ≡ skipSpaces s at → t ≡ wordIs s a w → t ≡ false → Missing ≡ fieldNext w most s at
-  unfolding fieldNext
-  field-missing p q t = let z = sym q ∙ t in rw (← p, z)
+  pub word-missing : {a : ℕ} {t : Bool} → a ≡ skipSpaces s at → t ≡ wordIs s a w → t ≡ false → Missing ≡ behindWord w f s at
+  unfolding behindWord
+  word-missing p q t = let z = sym q ∙ t in rw (← p, z)
 
-  pub field-most : {v next : ℕ} → fieldNext w most s at ≡ Got v next → v ≤ most
-  unfolding fieldNext
-  field-most {v} {next} e = go (wordIs s (skipSpaces s at) w) e
+  -- what is behind the word is no larger for it
+  behind-most : (most : ℕ) → ((i v next : ℕ) → f s i ≡ Got v next → v ≤ most) → {v next : ℕ} → behindWord w f s at ≡ Got v next → v ≤ most
+  unfolding behindWord
+  behind-most most small {v} {next} e = go (wordIs s (skipSpaces s at) w) e
     where
-      go : (t : Bool) → pick t (numberNext most s (wordEnd s (skipSpaces s at))) Missing ≡ Got v next → v ≤ most
-      go true q = number-most most s (wordEnd s (skipSpaces s at)) q
+      go : (t : Bool) → pick t (f s (wordEnd s (skipSpaces s at))) Missing ≡ Got v next → v ≤ most
+      go true q = small (wordEnd s (skipSpaces s at)) v next q
       go false q = let z : _≡_ {A = ℕ} 0 1 = cc in omega arith
 
-module _ (s : List ℕ) (at : ℕ) (c : Command) where
-  pub whole-ended : {a e : ℕ} → a ≡ skipSpaces s at → e ≡ wordEnd s a → e ≡ a → line.Command c ≡ whole s at c
-  unfolding whole
-  whole-ended p q e = rw (← p, eq-eqb _ _ (sym q ∙ e))
+pub field-most : (w : List ℕ) (most : ℕ) (s : List ℕ) (at : ℕ) {v next : ℕ} → fieldNext w most s at ≡ Got v next → v ≤ most
+field-most w most s at e = behind-most w (numberNext most) s at most (λ i v next q. number-most most s i q) e
 
-  pub whole-more : {a e : ℕ} → a ≡ skipSpaces s at → e ≡ wordEnd s a → (e ≡ a → ⊥) → line.Bad expected.End ≡ whole s at c
+-- ---- a rule
+
+module _ (s : List ℕ) (at : ℕ) where
+  pub value-named : {a e n : ℕ} {x : Named} → a ≡ skipSpaces s at → x ≡ ruleOf (wordAt s a) → x ≡ Rule n → e ≡ wordEnd s a → Got n e ≡ ruleValue s at
+  unfolding ruleValue
+  value-named p q h e = let z = sym q ∙ h in rw (← p, z, e)
+
+  pub value-number : {a : ℕ} {x : Named} {r : Field} → a ≡ skipSpaces s at → x ≡ ruleOf (wordAt s a) → x ≡ Nothing → r ≡ numberNext most8 s at → r ≡ ruleValue s at
+  unfolding ruleValue
+  value-number p q h e = let z = sym q ∙ h in rw (← p, z) e
+
+  value-most : (v next : ℕ) → ruleValue s at ≡ Got v next → v ≤ most8
+  unfolding ruleValue
+  value-most v next = go (ruleOf (wordAt s (skipSpaces s at))) refl
+    where
+      go : (x : Named) → ruleOf (wordAt s (skipSpaces s at)) ≡ x → ruleBy s at (skipSpaces s at) x ≡ Got v next → v ≤ most8
+      go (Rule n) e q = let z : n ≡ v = cc in omega (arith, rule-below 0 ruleNames (wordAt s (skipSpaces s at)) e)
+      go Nothing e q = number-most most8 s at q
+
+pub rule-most : (s : List ℕ) (at : ℕ) {v next : ℕ} → ruleNext s at ≡ Got v next → v ≤ most8
+rule-most s at e = behind-most ruleWord ruleValue s at most8 (λ i v next q. value-most s i v next q) e
+
+-- ---- the end of a line
+
+pub ends-at : (s : List ℕ) (at : ℕ) {a e : ℕ} → a ≡ skipSpaces s at → e ≡ wordEnd s a → eqb e a ≡ endsAt s at
+ends-at s at p q = rw (q, p)
+
+module _ (s : List ℕ) (at : ℕ) (c : Command) {t : Bool} (e : t ≡ endsAt s at) where
+  pub whole-ended : t ≡ true → line.Command c ≡ whole s at c
   unfolding whole
-  whole-more p q e = rw (← p, ne-eqb _ _ (λ z. e (q ∙ z)))
+  whole-ended h = rw (sym e ∙ h)
+
+  pub whole-more : t ≡ false → line.Bad expected.End ≡ whole s at c
+  unfolding whole
+  whole-more h = rw (sym e ∙ h)
 
 -- a line goes by its first word
 pub line-opened : (s : List ℕ) {at end : ℕ} → at ≡ skipSpaces s 0 → end ≡ wordEnd s at → parseLine s ≡ byWord s at end

@@ -1,18 +1,24 @@
 -- What a line means: words and numbers in order, each number within its field, a comment from `#` on.
---     settings sets N ways N dirty N misses N readers N queue N
+--     settings sets N ways N dirty N misses N readers N queue N        settings .. queue N rule RULE, a RULE being a name or a number
 --     read ADDRESS ticket N        write ADDRESS mask N        send        fill ADDRESS        tick CYCLE
 use Prim.Native.Nat.{ℕ, _^_}
 use mathlib.Core.Bool.{Bool, _&&_}
 use mathlib.Core.List.{List}
 use lib.Dec.{eqb, leb}
 use Rattle.model.specs.Words.{pick}
+use Rattle.model.specs.declared.Given.{Given}
+use Rattle.model.specs.declared.GivenRule.the-variants.{LeftOut, Byte}
 use Rattle.model.specs.declared.Command.{Command}
 use Rattle.model.specs.declared.Command.the-variants as cmd
 use Rattle.text.specs.Words.{skipSpaces, wordEnd, wordAt, sameText}
 use Rattle.text.specs.Digits.{parseNumber}
+use Rattle.text.specs.Rules.{ruleOf}
+use Rattle.text.specs.declared.rules.Named.{Named}
+use Rattle.text.specs.declared.rules.Named.the-variants.{Rule, Nothing}
 use Rattle.text.specs.declared.Parsed.{Parsed}
 use Rattle.text.specs.declared.Parsed.the-variants as parsed
-use Rattle.assembly.specs.Spelling.{settingsWord, setsWord, waysWord, dirtyWord, missesWord, readersWord, queueWord, readWord, ticketWord, writeWord, maskWord, sendWord, fillWord, tickWord}
+use Rattle.records.specs.Parts.{given}
+use Rattle.assembly.specs.Spelling.{settingsWord, setsWord, waysWord, dirtyWord, missesWord, readersWord, queueWord, ruleWord, readWord, ticketWord, writeWord, maskWord, sendWord, fillWord, tickWord}
 use Rattle.assembly.specs.declared.Expected.{Expected}
 use Rattle.assembly.specs.declared.Expected.the-variants as expected
 use Rattle.assembly.specs.declared.Field.{Field}
@@ -46,9 +52,24 @@ numberNext most s at = wholeNumber most s (parseNumber s (skipSpaces s at))
 abbrev pub wordIs : List ℕ → ℕ → List ℕ → Bool
 wordIs s at w = sameText (wordAt s at) w
 
+-- the next word is w, and f is behind it
+unfoldable pub behindWord : List ℕ → (List ℕ → ℕ → Field) → List ℕ → ℕ → Field
+behindWord w f s at = pick (wordIs s (skipSpaces s at) w) (f s (wordEnd s (skipSpaces s at))) Missing
+
 -- the next word is w, and the one behind it such a number
-unfoldable pub fieldNext : List ℕ → ℕ → List ℕ → ℕ → Field
-fieldNext w most s at = pick (wordIs s (skipSpaces s at) w) (numberNext most s (wordEnd s (skipSpaces s at))) Missing
+abbrev pub fieldNext : List ℕ → ℕ → List ℕ → ℕ → Field
+fieldNext w most = behindWord w (numberNext most)
+
+-- a rule: the word at start, behind `at`, names it, or is a number of a byte
+abbrev pub ruleBy : List ℕ → ℕ → ℕ → Named → Field
+ruleBy s at start (Rule n) = Got n (wordEnd s start)
+ruleBy s at start Nothing = numberNext most8 s at
+
+unfoldable pub ruleValue : List ℕ → ℕ → Field
+ruleValue s at = ruleBy s at (skipSpaces s at) (ruleOf (wordAt s (skipSpaces s at)))
+
+abbrev pub ruleNext : List ℕ → ℕ → Field
+ruleNext = behindWord ruleWord ruleValue
 
 -- the field, and what follows it; without it the line is bad
 abbrev pub andThen : Expected → Field → (ℕ → ℕ → Line) → Line
@@ -64,13 +85,23 @@ whole s at c = pick (endsAt s at) (line.Command c) (line.Bad expected.End)
 
 -- ---- each command, behind its own word
 
--- the last three settings, behind the first three
+-- the same settings with a rule byte
+abbrev pub ruled : Given → ℕ → Given
+ruled g n = given (g .sets) (g .ways) (g .dirty) (g .misses) (g .readers) (g .queue) (Byte n)
+
+-- the settings without a rule, and the rule behind them if there is one
+unfoldable pub ruleFrom : List ℕ → ℕ → Given → Line
+ruleFrom s at g =
+    pick (endsAt s at) (line.Command (cmd.Settings g))
+    (andThen expected.Rule (ruleNext s at) (λ rule a. whole s a (cmd.Settings (ruled g rule))))
+
+-- the last three settings of them, behind the first three
 unfoldable pub buffersFrom : List ℕ → ℕ → ℕ → ℕ → ℕ → Line
 buffersFrom s at sets ways dirty =
     andThen expected.Misses (fieldNext missesWord most8 s at) (λ misses a.
     andThen expected.Readers (fieldNext readersWord most8 s a) (λ readers b.
     andThen expected.Queue (fieldNext queueWord most8 s b) (λ queue c.
-    whole s c (cmd.Settings sets ways dirty misses readers queue))))
+    ruleFrom s c (given sets ways dirty misses readers queue LeftOut))))
 
 unfoldable pub settingsFrom : List ℕ → ℕ → Line
 settingsFrom s at =

@@ -1,45 +1,49 @@
 -- The words of the assembler's language, as the bytes that spell them.
 use Prim.Native.Nat.{ℕ}
-use mathlib.Core.List.{List, [], _∷_}
+use mathlib.Core.List.{List}
+use Rattle.text.specs.Words.{codes}
 
 abbrev pub settingsWord : List ℕ
-settingsWord = 115 ∷ 101 ∷ 116 ∷ 116 ∷ 105 ∷ 110 ∷ 103 ∷ 115 ∷ []
+settingsWord = codes "settings"
 
 abbrev pub setsWord : List ℕ
-setsWord = 115 ∷ 101 ∷ 116 ∷ 115 ∷ []
+setsWord = codes "sets"
 
 abbrev pub waysWord : List ℕ
-waysWord = 119 ∷ 97 ∷ 121 ∷ 115 ∷ []
+waysWord = codes "ways"
 
 abbrev pub dirtyWord : List ℕ
-dirtyWord = 100 ∷ 105 ∷ 114 ∷ 116 ∷ 121 ∷ []
+dirtyWord = codes "dirty"
 
 abbrev pub missesWord : List ℕ
-missesWord = 109 ∷ 105 ∷ 115 ∷ 115 ∷ 101 ∷ 115 ∷ []
+missesWord = codes "misses"
 
 abbrev pub readersWord : List ℕ
-readersWord = 114 ∷ 101 ∷ 97 ∷ 100 ∷ 101 ∷ 114 ∷ 115 ∷ []
+readersWord = codes "readers"
 
 abbrev pub queueWord : List ℕ
-queueWord = 113 ∷ 117 ∷ 101 ∷ 117 ∷ 101 ∷ []
+queueWord = codes "queue"
+
+abbrev pub ruleWord : List ℕ
+ruleWord = codes "rule"
 
 abbrev pub readWord : List ℕ
-readWord = 114 ∷ 101 ∷ 97 ∷ 100 ∷ []
+readWord = codes "read"
 
 abbrev pub ticketWord : List ℕ
-ticketWord = 116 ∷ 105 ∷ 99 ∷ 107 ∷ 101 ∷ 116 ∷ []
+ticketWord = codes "ticket"
 
 abbrev pub writeWord : List ℕ
-writeWord = 119 ∷ 114 ∷ 105 ∷ 116 ∷ 101 ∷ []
+writeWord = codes "write"
 
 abbrev pub maskWord : List ℕ
-maskWord = 109 ∷ 97 ∷ 115 ∷ 107 ∷ []
+maskWord = codes "mask"
 
 abbrev pub sendWord : List ℕ
-sendWord = 115 ∷ 101 ∷ 110 ∷ 100 ∷ []
+sendWord = codes "send"
 
 abbrev pub fillWord : List ℕ
-fillWord = 102 ∷ 105 ∷ 108 ∷ 108 ∷ []
+fillWord = codes "fill"
 
 abbrev pub tickWord : List ℕ
-tickWord = 116 ∷ 105 ∷ 99 ∷ 107 ∷ []
+tickWord = codes "tick"

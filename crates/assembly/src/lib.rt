@@ -1,9 +1,12 @@
 // One line of the assembler's language to a command: words and numbers in order.
 ghost use mathlib.Core.Path.{_≡_};
-ghost use Rattle.assembly.specs.Language.{wholeNumber, numberNext, fieldNext, endsAt, whole, buffersFrom, settingsFrom, readFrom, writeFrom, fillFrom, tickFrom, parseLine};
+ghost use Rattle.assembly.specs.Language.{wholeNumber, numberNext, fieldNext, ruleValue, ruleNext, endsAt, whole, ruled, ruleFrom, buffersFrom, settingsFrom, readFrom, writeFrom, fillFrom, tickFrom, parseLine};
 ghost use Rattle.assembly.specs.Output.{Assembles};
 use model::Command;
+use model::Given;
+use model::GivenRule;
 use text::Parsed;
+use text::rules::Named;
 
 // What a bad line lacks at the first place that is wrong.
 pub enum Expected {
@@ -14,6 +17,7 @@ pub enum Expected {
     Misses,
     Readers,
     Queue,
+    Rule,
     Address,
     Ticket,
     Mask,
@@ -77,16 +81,79 @@ fn field_next(line: &[u8], at: usize, word: &[u8], most: u64) -> Field
     }
 }
 
+// The next word as a rule: one with a name, or the number of its byte.
+fn rule_value(line: &[u8], at: usize) -> Field
+    ensures { λ r. ⌜ r ≡ ruleValue (now (line .entry)) at ⌝ }
+{
+    let start = text::skip_spaces(line, at);
+    match text::rules::rule_at(line, start) {
+        Named::Rule(n) => Field::Got {
+            value: n as u64,
+            next: text::word_end(line, start),
+        },
+        Named::Nothing => number_next(line, at, 0xff),
+    }
+}
+
+fn rule_next(line: &[u8], at: usize) -> Field
+    ensures { λ r. ⌜ r ≡ ruleNext (now (line .entry)) at ⌝ }
+{
+    let start = text::skip_spaces(line, at);
+    if text::word_is(line, start, b"rule") {
+        rule_value(line, text::word_end(line, start))
+    } else {
+        Field::Missing
+    }
+}
+
+// Whether no word is left.
+fn ends_at(line: &[u8], at: usize) -> bool
+    ensures { λ r. ⌜ r ≡ endsAt (now (line .entry)) at ⌝ }
+{
+    let start = text::skip_spaces(line, at);
+    text::word_end(line, start) == start
+}
+
 // The command, where no word is left.
 fn ended(line: &[u8], at: usize, c: Command) -> Line
     ensures { λ r. ⌜ r ≡ whole (now (line .entry)) at c ⌝ }
 {
-    let start = text::skip_spaces(line, at);
-    if text::word_end(line, start) == start {
+    if ends_at(line, at) {
         Line::Command(c)
     } else {
         Line::Bad(Expected::End)
     }
+}
+
+fn ruled(g: Given, n: u8) -> Given
+    ensures { λ r. ⌜ r ≡ ruled g n ⌝ }
+{
+    Given {
+        sets: g.sets,
+        ways: g.ways,
+        dirty: g.dirty,
+        misses: g.misses,
+        readers: g.readers,
+        queue: g.queue,
+        rule: GivenRule::Byte(n),
+    }
+}
+
+// The settings without a rule, and the rule behind them if there is one.
+fn rule_line(line: &[u8], at: usize, g: Given) -> Line
+    ensures { λ r. ⌜ r ≡ ruleFrom (now (line .entry)) at g ⌝ }
+{
+    if ends_at(line, at) {
+        return Line::Command(Command::Settings(g));
+    }
+    let Field::Got {
+        value: rule,
+        next: a,
+    } = rule_next(line, at)
+    else {
+        return Line::Bad(Expected::Rule);
+    };
+    ended(line, a, Command::Settings(ruled(g, rule as u8)))
 }
 
 // The last three settings, behind the first three.
@@ -114,15 +181,16 @@ fn buffers_line(line: &[u8], at: usize, sets: u16, ways: u8, dirty: u8) -> Line
     else {
         return Line::Bad(Expected::Queue);
     };
-    let settings = Command::Settings {
+    let settings = Given {
         sets,
         ways,
         dirty,
         misses: misses as u8,
         readers: readers as u8,
         queue: queue as u8,
+        rule: GivenRule::LeftOut,
     };
-    ended(line, c, settings)
+    rule_line(line, c, settings)
 }
 
 fn settings_line(line: &[u8], at: usize) -> Line

@@ -3,6 +3,7 @@ use crate::outcomes;
 use crate::outcomes::Outcome;
 use model::Access;
 use model::Command;
+use model::GivenRule;
 use model::Settings;
 
 // The settings and the lengths that calls are made with; whether the next one's outcome is asked for.
@@ -35,6 +36,7 @@ pub(crate) fn empty_bench() -> Bench {
         misses: 0,
         readers: 0,
         queue: 0,
+        rule: 0,
     };
     Bench {
         settings,
@@ -79,14 +81,7 @@ fn with_settings(b: Bench, s: Settings) -> Bench {
 // A command as a call: settings make the tables fresh.
 pub(crate) fn deed_of(c: Command) -> Deed {
     match c {
-        Command::Settings {
-            sets: _,
-            ways: _,
-            dirty: _,
-            misses: _,
-            readers: _,
-            queue: _,
-        } => Deed::Fresh,
+        Command::Settings(_) => Deed::Fresh,
         Command::Read { address, ticket } => Deed::Read { address, ticket },
         Command::Write { address, mask } => Deed::Write { address, mask },
         Command::Send => Deed::Send,
@@ -95,26 +90,28 @@ pub(crate) fn deed_of(c: Command) -> Deed {
     }
 }
 
+// A rule that is left out is least recently used.
+fn rule_of(rule: GivenRule) -> usize {
+    match rule {
+        GivenRule::LeftOut => 0,
+        GivenRule::Byte(n) => n as usize,
+    }
+}
+
 // Settings are taken over before they are judged.
 pub(crate) fn set_up(c: Command, b: Bench) -> Bench {
-    let Command::Settings {
-        sets,
-        ways,
-        dirty,
-        misses,
-        readers,
-        queue,
-    } = c
-    else {
+    let Command::Settings(g) = c else {
         return b;
     };
+    let rule = g.rule;
     let s = Settings {
-        sets: sets as usize,
-        ways: ways as usize,
-        dirty: dirty as usize,
-        misses: misses as usize,
-        readers: readers as usize,
-        queue: queue as usize,
+        sets: g.sets as usize,
+        ways: g.ways as usize,
+        dirty: g.dirty as usize,
+        misses: g.misses as usize,
+        readers: g.readers as usize,
+        queue: g.queue as usize,
+        rule: rule_of(rule),
     };
     with_settings(b, s)
 }

@@ -7,7 +7,7 @@ use lib.ListN.{length, drop, getD}
 use lib.Dec.{leb, eqb}
 use Rattle.model.specs.Words.{pick}
 use Rattle.model.specs.Numbers.{refusalNumber, stopNumber}
-use Rattle.model.specs.Range.{inRange}
+use Rattle.model.specs.Range.{within, inRange}
 use Rattle.model.specs.Tables.{Outcome, after, eventsOf}
 use Rattle.model.specs.Lent.{Lent}
 use Rattle.model.specs.Records.{logBytes}
@@ -25,14 +25,14 @@ use Rattle.rounds.specs.declared.Waiting.the-variants as waiting
 
 -- ---- settings, as one slice of numbers
 
--- by its places, in the order of the table of settings: sets, ways, dirty, misses, readers, queue
+-- by its places, in the order of the table of settings: sets, ways, dirty, misses, readers, queue; then the rule (L1)
 abbrev pub numbered : List ℕ → Settings
-numbered l = record { sets = getD l 0 0; ways = getD l 1 0; dirty = getD l 2 0; misses = getD l 3 0; readers = getD l 4 0; queue = getD l 5 0 }
+numbered l = record { sets = getD l 0 0; ways = getD l 1 0; dirty = getD l 2 0; misses = getD l 3 0; readers = getD l 4 0; queue = getD l 5 0; rule = getD l 6 0 }
 
 -- how many numbers may be lent. A setting that is added later comes last: its number joins this one, and `getD` gives a slice without it its
 -- older default
 abbrev pub mayLend : ℕ → Bool
-mayLend n = eqb n 6
+mayLend n = within 6 7 n
 
 -- with another number of them all are 0, and 0 sets are out of range: so it is refused as 1, "a setting outside its range"
 unfoldable pub settingsFrom : List ℕ → Settings

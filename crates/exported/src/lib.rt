@@ -24,8 +24,10 @@ ghost use Rattle.model.specs.Runner.{run, resume};
 ghost use Rattle.rounds.specs.Waiting.{waitCall};
 ghost use Rattle.exported.specs.Exported.{settingsFrom, verdictNumber, lengthFor, accessFor, roundNumber, Called, WaitCalled, RunCalled};
 
-// How many settings there are.
-const SETTINGS: usize = 6;
+// How many settings there are at the least and at the most: the rule may be left out.
+const FEWEST: usize = 6;
+
+const MOST: usize = 7;
 
 // The number at a place of the settings; 0 behind their end.
 fn number(settings: &[u32], place: usize) -> usize
@@ -41,7 +43,7 @@ fn number(settings: &[u32], place: usize) -> usize
 pub(crate) fn settings_from(settings: &[u32]) -> Settings
     ensures { λ r. ⌜ r ≡ settingsFrom (now (settings .entry)) ⌝ }
 {
-    if settings.len() != SETTINGS {
+    if (settings.len() < FEWEST) | (MOST < settings.len()) {
         return Settings {
             sets: 0,
             ways: 0,
@@ -49,6 +51,7 @@ pub(crate) fn settings_from(settings: &[u32]) -> Settings
             misses: 0,
             readers: 0,
             queue: 0,
+            rule: 0,
         };
     }
     Settings {
@@ -58,6 +61,7 @@ pub(crate) fn settings_from(settings: &[u32]) -> Settings
         misses: number(settings, 3),
         readers: number(settings, 4),
         queue: number(settings, 5),
+        rule: number(settings, 6),
     }
 }
 

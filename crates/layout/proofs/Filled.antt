@@ -12,9 +12,9 @@ use Rattle.model.specs.Words.{fit, places, joined}
 use Rattle.model.specs.Range.{linesOf}
 use Rattle.model.specs.Layout.{longsLength, wordsLength, marksLength}
 use Rattle.model.specs.Tables.{fresh, start}
-use Rattle.model.specs.Lent.{lent, tagOf, cycleOf, masksOf, statusesOf, readablesOf, missOf, sentOf, ticketCountOf, ticketsIn, queuedOf, kindOf, queueMasksOf, longBlocks, wordBlocks, markBlocks, encode}
+use Rattle.model.specs.Lent.{lent, tagOf, cycleOf, takenOf, masksOf, statusesOf, readablesOf, missOf, sentOf, ticketCountOf, ticketsIn, queuedOf, kindOf, queueMasksOf, longBlocks, wordBlocks, markBlocks, encode}
 use Rattle.model.specs.Regions.{put}
-use Rattle.model.specs.Inner.{Fit}
+use Rattle.model.specs.Inner.{Fit, told}
 use Rattle.model.proofs.Region.{put-paste}
 use Rattle.model.proofs.Places.{fit-zeros, put-whole, put-past, put-within}
 
@@ -102,9 +102,9 @@ module _ (S : Settings) where
   fresh-words : joined (wordBlocks S (start S)) ≡ zeros (wordsLength S)
   unfolding fit
   fresh-words =
-      let k : suc (1 * n + (4 * n + (S .readers * S .misses + (4 * S .queue + 1)))) ≡ wordsLength S = omega arith in
-      let last : zeros (4 * S .queue) ++ (0 ∷ []) ≡ zeros (4 * S .queue + 1) = replicate-append-replicate (4 * S .queue) 1 0 in
-      rw (even-places cycleOf 1 fresh 0 n refl, even-places masksOf 4 fresh 0 n refl, no-places ticketsIn (S .readers) (S .misses), no-places queueMasksOf 4 (S .queue), last, replicate-append-replicate, replicate-append-replicate, replicate-append-replicate)
+      let k : suc (1 * n + (4 * n + (S .readers * S .misses + (4 * S .queue + suc (1 * n))))) ≡ wordsLength S = omega arith in
+      let last : zeros (4 * S .queue) ++ (0 ∷ zeros (1 * n)) ≡ zeros (4 * S .queue + suc (1 * n)) = replicate-append-replicate (4 * S .queue) (suc (1 * n)) 0 in
+      rw (even-places cycleOf 1 fresh 0 n refl, even-places masksOf 4 fresh 0 n refl, no-places ticketsIn (S .readers) (S .misses), no-places queueMasksOf 4 (S .queue), even-places takenOf 1 fresh 0 n refl, append-nil, last, replicate-append-replicate, replicate-append-replicate, replicate-append-replicate)
       (as-many 0 k)
 
   fresh-marks : joined (markBlocks S (start S)) ≡ put (zeros (marksLength S)) (4 * n) (replicate (4 * n) 1)
@@ -123,7 +123,7 @@ unfolding encode
 fresh-filled S longs words marks {l} {w} {z} {m} f a b c d =
     let whole : put marks 0 (zeros (length marks)) ≡ zeros (length marks) = put-whole marks (zeros (length marks)) (length-replicate (length marks) 0) in
     let e : l ≡ joined (longBlocks S (start S)) = a ∙ as-many 0 (f .longs-long) ∙ sym (fresh-longs S) in
-    let g : w ≡ joined (wordBlocks S (start S)) = b ∙ as-many 0 (f .words-long) ∙ sym (fresh-words S) in
+    let g : w ≡ joined (wordBlocks S (start S)) = b ∙ as-many 0 (told (f .words-long)) ∙ sym (fresh-words S) in
     let y : z ≡ zeros (marksLength S) = c ∙ whole ∙ as-many 0 (f .marks-long) in
     let h : m ≡ joined (markBlocks S (start S)) = d ∙ ap (λ (x : List ℕ). put x (4 * linesOf S) (replicate (4 * linesOf S) 1)) y ∙ sym (fresh-marks S) in
     rw (e, g, h)

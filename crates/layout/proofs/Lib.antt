@@ -2,6 +2,7 @@
 -- fresh tables.
 pub mod Tests
 pub mod OfRange
+pub mod Room
 pub mod ByPlace
 pub mod Stores
 pub mod Grown

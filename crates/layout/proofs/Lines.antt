@@ -12,12 +12,13 @@ use Rattle.model.specs.Range.{linesOf}
 use Rattle.model.specs.Regions.{put, ahead}
 use Rattle.model.specs.Tables.{Line, Tables, fresh, withLines}
 use Rattle.model.specs.Layout.{wordsFrom, marksFrom, maskRegion, readableRegion}
-use Rattle.model.specs.Lent.{bit, sectorsAt, longBlocks, wordBlocks, markBlocks, tagOf, cycleOf, masksOf, statusesOf, readablesOf}
+use Rattle.model.specs.Lent.{bit, sectorsAt, longBlocks, wordBlocks, markBlocks, tagOf, cycleOf, takenOf, masksOf, statusesOf, readablesOf}
 use Rattle.model.specs.declared.Settings.{Settings}
 use Rattle.model.specs.declared.Sector.{Sector}
 use Rattle.model.proofs.Answers.{status-of-number}
 use Rattle.model.proofs.Places.{length-places, field-put, field-get}
 use Rattle.layout.specs.declared.Layout.{Layout}
+use Rattle.model.specs.Inner.{told}
 use Rattle.layout.specs.Layout.{Placed}
 use Rattle.layout.specs.Sectors.{statuses, masks, readables}
 use Rattle.layout.proofs.Stands.{Stands}
@@ -62,6 +63,10 @@ sectors-of (a ∷ b ∷ c ∷ d ∷ []) e S words marks l f g h =
     )
 sectors-of (a ∷ b ∷ c ∷ d ∷ x ∷ xs) e S words marks l f g h = absurd (omega arith)
 
+-- a line as taken at cycle k
+abbrev pub takenAs : ℕ → Line → Line
+takenAs k y = record { tag = y .tag; cycle = y .cycle; taken = k; sectors = y .sectors }
+
 module _ (S : Settings) (t : Tables) {longs words marks : List ℕ} (h : Stands S longs words marks t) {at : Layout} (p : Placed S at) (sized : length (t .lines) ≡ linesOf S)
     (l : ℕ) (below : l < length (t .lines)) where
   few : length (t .lines) ≤ linesOf S
@@ -104,29 +109,45 @@ module _ (S : Settings) (t : Tables) {longs words marks : List ℕ} (h : Stands 
         field-put readablesOf 4 (linesOf S) (t .lines) (set (markBlocks S t) 0 (places statusesOf 4 (linesOf S) (set (t .lines) l y))) 1 l first refl (simp length-places (omega arith)) (omega arith) below few y (column (λ s. bit (s .readable))) c
 
     -- its sectors alone
-    pub store-stands : y .tag ≡ getD (t .lines) l fresh .tag → y .cycle ≡ getD (t .lines) l fresh .cycle → {words′ marks′ : List ℕ}
+    pub store-stands : y .tag ≡ getD (t .lines) l fresh .tag → y .cycle ≡ getD (t .lines) l fresh .cycle
+        → y .taken ≡ getD (t .lines) l fresh .taken → {words′ marks′ : List ℕ}
         → (words′ ≡ put words (at .masks + 4 * l) (masks (y .sectors)))
         × (marks′ ≡ put (put marks (4 * l) (statuses (y .sectors))) (at .readables + 4 * l) (readables (y .sectors)))
         → Stands S longs words′ marks′ (withLines (set (t .lines) l y) t)
-    store-stands e f c = record {
+    store-stands e f k c = record {
       as-longs = rw (places-same tagOf 1 (linesOf S) l (t .lines) fresh y (ap (λ (n : ℕ). n ∷ []) e)) (h .as-longs);
-      as-words = rw (places-same cycleOf 1 (linesOf S) l (t .lines) fresh y (ap (λ (n : ℕ). n ∷ []) f))
+      as-words = rw (places-same cycleOf 1 (linesOf S) l (t .lines) fresh y (ap (λ (n : ℕ). n ∷ []) f), places-same takenOf 1 (linesOf S) l (t .lines) fresh y (ap (λ (n : ℕ). n ∷ []) k))
           (field-put masksOf 4 (linesOf S) (t .lines) (wordBlocks S t) 2 l (h .as-words) refl (simp length-places (omega arith)) (omega arith) below few y (column (λ s. s .mask)) (c .0));
       as-marks = marks-put (c .1);
     }
 
-    -- all of it
-    pub line-stands : {longs′ words′ marks′ : List ℕ}
+    -- all of it but the cycle at which it was taken
+    pub line-stands : y .taken ≡ getD (t .lines) l fresh .taken → {longs′ words′ marks′ : List ℕ}
         → (longs′ ≡ put longs l (y .tag ∷ []))
         × (words′ ≡ put (put words (1 + l) (y .cycle ∷ [])) (at .masks + 4 * l) (masks (y .sectors)))
         × (marks′ ≡ put (put marks (4 * l) (statuses (y .sectors))) (at .readables + 4 * l) (readables (y .sectors)))
         → Stands S longs′ words′ marks′ (withLines (set (t .lines) l y) t)
     unfolding fit
-    line-stands c =
+    line-stands k c =
         let first : put words (1 + l) (y .cycle ∷ []) ≡ joined (set (wordBlocks S t) 1 (places cycleOf 1 (linesOf S) (set (t .lines) l y))) =
         field-put cycleOf 1 (linesOf S) (t .lines) (wordBlocks S t) 1 l {i = 1 + l} (h .as-words) refl (omega arith) (omega arith) below few y refl refl in
         record {
           as-longs = field-put tagOf 1 (linesOf S) (t .lines) (longBlocks S t) 0 l (h .as-longs) refl (omega arith) (omega arith) below few y refl (c .0);
-          as-words = field-put masksOf 4 (linesOf S) (t .lines) (set (wordBlocks S t) 1 (places cycleOf 1 (linesOf S) (set (t .lines) l y))) 2 l first refl (simp length-places (omega arith)) (omega arith) below few y (column (λ s. s .mask)) (c .1);
+          as-words = rw (places-same takenOf 1 (linesOf S) l (t .lines) fresh y (ap (λ (n : ℕ). n ∷ []) k))
+              (field-put masksOf 4 (linesOf S) (t .lines) (set (wordBlocks S t) 1 (places cycleOf 1 (linesOf S) (set (t .lines) l y))) 2 l first refl (simp length-places (omega arith)) (omega arith) below few y (column (λ s. s .mask)) (c .1));
           as-marks = marks-put (c .2);
         }
+
+  -- the cycle at which it was taken alone
+  pub taken-stands : (k : ℕ) {words′ : List ℕ} → words′ ≡ put words (at .taken + l) (k ∷ [])
+      → Stands S longs words′ marks (withLines (set (t .lines) l (takenAs k (getD (t .lines) l fresh))) t)
+  unfolding fit
+  taken-stands k c =
+      let from = told (p .taken) in
+      let y : Line = takenAs k (getD (t .lines) l fresh) in
+      record {
+        as-longs = rw (places-same tagOf 1 (linesOf S) l (t .lines) fresh y refl) (h .as-longs);
+        as-words = rw (places-same cycleOf 1 (linesOf S) l (t .lines) fresh y refl, places-same masksOf 4 (linesOf S) l (t .lines) fresh y refl)
+            (field-put takenOf 1 (linesOf S) (t .lines) (wordBlocks S t) 6 l (h .as-words) refl (simp length-places (omega arith)) (omega arith) below few y refl c);
+        as-marks = rw (places-same statusesOf 4 (linesOf S) l (t .lines) fresh y refl, places-same readablesOf 4 (linesOf S) l (t .lines) fresh y refl) (h .as-marks);
+      }

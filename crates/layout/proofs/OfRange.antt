@@ -8,7 +8,7 @@ use lib.Dec.{eqb, leb}
 use lib.ListN.{length}
 use borrow.Author.Tests.{eqb-true, leb-true}
 use Rattle.model.specs.declared.Settings.{Settings}
-use Rattle.model.specs.Range.{powerTo256, within, linesOf, inRange}
+use Rattle.model.specs.Range.{powerTo256, within, linesOf, ruleFine, inRange}
 use Rattle.model.specs.Layout.{longsLength, wordsLength, marksLength}
 use Rattle.model.specs.Lent.{lent, lengthsFit}
 use Rattle.model.specs.Inner.{Fit}
@@ -57,7 +57,7 @@ module _ (S : Settings) (r : Bool) (power : r ≡ powerTo256 (S .sets)) where
         let w : leb (S .ways) 16 ≡ true = search (and-1, and-2) in
         mul-le-mul (power-most _ p) (leb-true _ _ w)
 
-    pub range-rest : (leb (linesOf S) 1024 && leb (S .dirty) 100 && within 1 64 (S .misses) && within 1 8 (S .readers) && within 2 64 (S .queue)) ≡ inRange S
+    pub range-rest : (leb (linesOf S) 1024 && leb (S .dirty) 100 && within 1 64 (S .misses) && within 1 8 (S .readers) && within 2 64 (S .queue) && ruleFine S) ≡ inRange S
     unfolding inRange
     range-rest = rw yes
 

@@ -35,6 +35,7 @@ pub struct Layout {
     pub tickets: usize,
     pub backs: usize,
     pub dirty: usize,
+    pub taken: usize,
     pub readables: usize,
     pub sent: usize,
     pub counts: usize,
@@ -48,6 +49,7 @@ pub fn laid_out(s: Settings) -> Layout
     let lines = s.sets * s.ways;
     let tickets = 1 + 5 * lines;
     let backs = tickets + s.readers * s.misses;
+    let dirty = backs + 4 * s.queue;
     let sent = 8 * lines;
     Layout {
         misses: lines,
@@ -55,7 +57,8 @@ pub fn laid_out(s: Settings) -> Layout
         masks: 1 + lines,
         tickets,
         backs,
-        dirty: backs + 4 * s.queue,
+        dirty,
+        taken: dirty + 1,
         readables: 4 * lines,
         sent,
         counts: sent + s.misses,

@@ -34,6 +34,7 @@ pub fn in_range(s: Settings) -> bool
         & ((1 <= s.misses) & (s.misses <= 64))
         & ((1 <= s.readers) & (s.readers <= 8))
         & ((2 <= s.queue) & (s.queue <= 64))
+        & (s.rule <= 1)
 }
 
 pub fn longs_length(s: Settings) -> usize
@@ -47,7 +48,8 @@ pub fn words_length(s: Settings) -> usize
     requires { ⌜ inRange s ≡ true ⌝ }
     ensures { λ r. ⌜ r ≡ wordsLength s ⌝ }
 {
-    1 + 5 * (s.sets * s.ways) + s.readers * s.misses + 4 * s.queue + 1
+    let lines = s.sets * s.ways;
+    1 + 5 * lines + s.readers * s.misses + 4 * s.queue + 1 + lines
 }
 
 pub fn marks_length(s: Settings) -> usize

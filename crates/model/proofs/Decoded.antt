@@ -18,7 +18,7 @@ use Rattle.model.specs.Range.{linesOf}
 use Rattle.model.specs.Address.{blockOf, sectorIndex, setIndex}
 use Rattle.model.specs.Tables.{Line, Entry, Tables, isReserved, unused, entryFor, idle, fresh, noEntry}
 use Rattle.model.specs.Layout.{wordsFrom, queueMaskRegion}
-use Rattle.model.specs.Lent.{Lent, bit, tagOf, cycleOf, masksOf, statusesOf, readablesOf, missOf, sentOf, ticketCountOf, ticketsIn, queuedOf, kindOf, queueMasksOf, inUse, sectorAt, sectorsAt, lineAt, entryAt, queueAt, tablesOf}
+use Rattle.model.specs.Lent.{Lent, bit, tagOf, cycleOf, masksOf, statusesOf, readablesOf, missOf, sentOf, ticketCountOf, ticketsIn, queuedOf, kindOf, queueMasksOf, inUse, sectorAt, sectorsAt, lineAt, entryAt, queueAt, tablesOf, takenOf}
 pub use Rattle.model.specs.SoundLent.{Small}
 use Rattle.model.proofs.Flags.{by-flag, not-yes, not-no, clash, iff}
 use Rattle.model.proofs.Below.{some-at, some-i}
@@ -28,7 +28,7 @@ use Rattle.model.proofs.Tabled.{any-get, length-table, getD-table}
 use Rattle.model.proofs.InUse.{lt-or-ge, squeeze, in-use-few, below-used, free-past}
 use Rattle.model.proofs.Facts.{tag, status, mask, readable, miss, sent, ticketCount, ticket, queued, kind, queueMask, Live, Used, SoundIs}
 use Rattle.model.proofs.Standing.{field, field-in, field-out, Stands}
-use Rattle.model.proofs.Shapes.{line, sector, entry, place, addressIn, kindIn, maskIn, Shape, reserved-number, tag-is, cycle-is, status-is, mask-is, readable-is, live-is, dirty-counts, miss-is, sent-is, entry-in, in-entry, kind-in, queued-in, queue-mask-is, reads-are}
+use Rattle.model.proofs.Shapes.{line, sector, entry, place, addressIn, kindIn, maskIn, Shape, reserved-number, tag-is, cycle-is, taken-is, status-is, mask-is, readable-is, live-is, dirty-counts, miss-is, sent-is, entry-in, in-entry, kind-in, queued-in, queue-mask-is, reads-are}
 use Rattle.model.proofs.Soundly.{Lives, SectorOk, LineOk, Alone, Agrees, EntryOk, QueuedOk, Soundly, bit-clear}
 
 module _ (S : Settings) (L : Lent) (is : SoundIs S L) where
@@ -72,11 +72,13 @@ module _ (S : Settings) (L : Lent) (t : Tables) (st : Stands S L t) (sh : Shape 
       let f = is .lines l h in
       let a = tag-is S L t st sh l h in
       let c = cycle-is S L t st sh l h in
+      let k = taken-is S L t st sh l h in
       record {
         four = sh .fours l h;
         sectors = λ k j. sector-ok l k h j;
         past = rw (c, st .time) at (f .past);
-        dead = λ u. let z = f .dead (λ v. clash u (lives l h v)) in (sym a ∙ z .0, sym c ∙ z .1);
+        since = rw (k, c) at (f .since);
+        dead = λ u. let z = f .dead (λ v. clash u (lives l h v)) in ((sym a ∙ z .0 .0, sym c ∙ z .0 .1), sym k ∙ z .1);
         block = λ v. rw a at (f .block (live-i l h v));
         home = λ v. rw a at (f .home (live-i l h v));
       }
@@ -269,6 +271,7 @@ module _ (S : Settings) (L : Lent) (is : SoundIs S L) where
   read-stands pos = record {
     tags = λ l h. sym (field-table tagOf (linesOf S) lineOf l 0 h);
     cycles = λ l h. sym (field-table cycleOf (linesOf S) lineOf l 0 h);
+    takens = λ l h. sym (field-table takenOf (linesOf S) lineOf l 0 h);
     statuses = λ l k h j.
         number-back (status S L (4 * l + k)) (is .sectors (4 * l + k) (omega arith) .known)
         ∙ sectors-at (λ s. statusNumber (s .status)) S (L .words) (L .marks) l k j

@@ -26,7 +26,7 @@ use Rattle.model.proofs.Tabled.{any-get}
 use Rattle.model.proofs.InUse.{lt-or-ge}
 use Rattle.model.proofs.Facts.{tag, status, readable, miss, sent, ticketCount, ticket, queued, kind, Live, Used, LineIs, SectorIs, Reserves, EntryIs, Unsent, PlaceIs, SoundIs}
 use Rattle.model.proofs.Standing.{Stands}
-use Rattle.model.proofs.Shapes.{line, sector, entry, place, kindIn, maskIn, Shape, reserved-number, tag-is, cycle-is, status-is, mask-is, readable-is, unused-is, live-is, dirty-counts, miss-is, sent-is, count-is, ticket-is, count-out, entry-in, in-entry, kind-in, kind-out, queued-in, queued-out, queue-mask-is, place-in, in-place, reads-are}
+use Rattle.model.proofs.Shapes.{line, sector, entry, place, kindIn, maskIn, Shape, reserved-number, tag-is, cycle-is, taken-is, status-is, mask-is, readable-is, unused-is, live-is, dirty-counts, miss-is, sent-is, count-is, ticket-is, count-out, entry-in, in-entry, kind-in, kind-out, queued-in, queued-out, queue-mask-is, place-in, in-place, reads-are}
 use Rattle.model.proofs.Soundly.{Lives, Soundly, soundly-shape, bit-clear}
 
 bit-low : (r : Bool) → bit r ≤ 1
@@ -67,11 +67,13 @@ module _ (S : Settings) (L : Lent) (t : Tables) (st : Stands S L t) (so : Soundl
       let f = so .lines l h in
       let a = tag-is S L t st sh l h in
       let c = cycle-is S L t st sh l h in
+      let k = taken-is S L t st sh l h in
       record {
-        dead = λ d. let z = f .dead (dies l h d) in (a ∙ z .0, c ∙ z .1);
+        dead = λ d. let z = f .dead (dies l h d) in ((a ∙ z .0 .0, c ∙ z .0 .1), k ∙ z .1);
         block = λ v. rw a (f .block (lives l h v));
         home = λ v. rw a (f .home (lives l h v));
         past = rw (c, st .time) (f .past);
+        since = rw (k, c) (f .since);
         alone = λ v m j r w e.
             let b : m < linesOf S = omega arith in
             let s = so .size in

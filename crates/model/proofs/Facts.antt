@@ -9,7 +9,7 @@ use Rattle.model.specs.Words.{countBelow}
 use Rattle.model.specs.Range.{linesOf}
 use Rattle.model.specs.Address.{goodBlock, blockOf, sectorIndex, setIndex}
 use Rattle.model.specs.Sound.{lastCycle, allOnes}
-use Rattle.model.specs.Lent.{Lent, tagAt, cycleAt, statusAt, maskAt, readableAt, missAt, sentAt, ticketCountAt, ticketAt, queuedAt, kindAt, queueMaskAt, nowAt, dirtyCountAt}
+use Rattle.model.specs.Lent.{Lent, tagAt, cycleAt, statusAt, maskAt, readableAt, missAt, sentAt, ticketCountAt, ticketAt, queuedAt, kindAt, queueMaskAt, nowAt, dirtyCountAt, takenAt}
 use Rattle.model.specs.SoundLent as lent
 use Rattle.model.proofs.Reflect.{Is, is-flag, is-eq, is-le, is-lt, is-not, is-and, is-or, is-imp, is-unless, is-every, is-some, is-none, is-as}
 
@@ -21,6 +21,9 @@ module _ (S : Settings) (L : Lent) where
 
   abbrev pub cycle : ℕ → ℕ
   cycle = cycleAt (L .words)
+
+  abbrev pub taken : ℕ → ℕ
+  taken = takenAt S (L .words)
 
   abbrev pub status : ℕ → ℕ
   status = statusAt (L .marks)
@@ -85,10 +88,11 @@ module _ (S : Settings) (L : Lent) where
   Used e = ticketCount S L e ≡ 0 → ⊥
 
   pub record LineIs (l : ℕ) : Type 0 where
-    pub dead : (Live l → ⊥) → (tag S L l ≡ 0) × (cycle S L l ≡ 0)
+    pub dead : (Live l → ⊥) → ((tag S L l ≡ 0) × (cycle S L l ≡ 0)) × (taken S L l ≡ 0)
     pub block : Live l → Block (tag S L l)
     pub home : Live l → setIndex S (tag S L l) ≡ l / S .ways
     pub past : cycle S L l ≤ now S L
+    pub since : taken S L l ≤ cycle S L l
     pub alone : Live l → (m : ℕ) → m < l → m / S .ways ≡ l / S .ways → Live m → tag S L m ≡ tag S L l → ⊥
 
   pub record SectorIs (i : ℕ) : Type 0 where
@@ -153,13 +157,22 @@ module _ (S : Settings) (L : Lent) where
       (is-and
       (is-and
       (is-and
-      (is-unless (is-flag (live S L l)) (is-and (is-eq (tag S L l) 0) (is-eq (cycle S L l) 0)))
+      (is-and
+      (is-unless (is-flag (live S L l)) (is-and (is-and (is-eq (tag S L l) 0) (is-eq (cycle S L l) 0)) (is-eq (taken S L l) 0)))
       (is-imp (is-flag (live S L l)) (is-and (block-is (tag S L l)) (is-eq (setIndex S (tag S L l)) (l / S .ways)))))
       (is-le (cycle S L l) (now S L)))
+      (is-le (taken S L l) (cycle S L l)))
       (is-imp (is-flag (live S L l))
       (is-every l (λ m. is-imp (is-eq (m / S .ways) (l / S .ways)) (is-imp (is-flag (live S L m)) (is-not (is-eq (tag S L m) (tag S L l))))))))
-      (λ w. record { dead = w .0 .0 .0; block = λ v. w .0 .0 .1 v .0; home = λ v. w .0 .0 .1 v .1; past = w .0 .1; alone = w .1 })
-      (λ r. (((r .dead, λ v. (r .block v, r .home v)), r .past), r .alone))
+      (λ w. record {
+        dead = w .0 .0 .0 .0;
+        block = λ v. w .0 .0 .0 .1 v .0;
+        home = λ v. w .0 .0 .0 .1 v .1;
+        past = w .0 .0 .1;
+        since = w .0 .1;
+        alone = w .1;
+      })
+      (λ r. ((((r .dead, λ v. (r .block v, r .home v)), r .past), r .since), r .alone))
 
   used-is : (e : ℕ) → Is (lent.used S (L .longs) (L .words) (L .marks) e) (Used S L e)
   used-is e = is-not (is-eq (ticketCount S L e) 0)

@@ -11,7 +11,7 @@ use borrow.Author.Tests.{leb-true}
 use Rattle.model.specs.declared.Settings.{Settings}
 use Rattle.model.specs.Range.{linesOf, inRange, powerTo256, within}
 use Rattle.model.specs.Layout.{longsLength, wordsLength, marksLength}
-use Rattle.model.specs.Inner.{Fit}
+use Rattle.model.specs.Inner.{Fit, aside}
 use Rattle.model.proofs.Flags.{and-1, and-2, clash}
 
 pub power-pos : (n : ℕ) → powerTo256 n ≡ true → 1 ≤ n
@@ -81,6 +81,7 @@ fit S longs words marks (r, l, w, m) =
       place = a .place;
       queue = a .queue;
       longs-long = l;
-      words-long = w;
+      words-room = omega arith;
+      words-long = aside w;
       marks-long = m;
     }

@@ -166,17 +166,23 @@ modified-arrived Valid m r h q = clash q refl
 modified-arrived Modified m r h q =
     let z : eqb m 0 ≡ false = not-yes (and-2 (leb m allOnes) (not (eqb m 0)) (and-1 (leb m allOnes && not (eqb m 0)) (r || not (eqb m allOnes)) h)) in rw z
 
-module _ (a : ℕ) (l : Line) (four : length (l .sectors) ≡ 4) where
-  old : Sector
-  old = getD (l .sectors) (sectorIndex a) empty
-
-  fill-tag : fillLine a l .tag ≡ l .tag
+-- a fill leaves the tag and both cycles
+module _ (a : ℕ) (l : Line) where
+  pub fill-tag : fillLine a l .tag ≡ l .tag
   unfolding fillLine
   fill-tag = by-flag (λ (m : Line). m .tag ≡ l .tag) (holds (blockOf a) l) _ _ (λ e. refl) (λ e. refl)
 
-  fill-cycle : fillLine a l .cycle ≡ l .cycle
+  pub fill-cycle : fillLine a l .cycle ≡ l .cycle
   unfolding fillLine
   fill-cycle = by-flag (λ (m : Line). m .cycle ≡ l .cycle) (holds (blockOf a) l) _ _ (λ e. refl) (λ e. refl)
+
+  pub fill-taken : fillLine a l .taken ≡ l .taken
+  unfolding fillLine
+  fill-taken = by-flag (λ (m : Line). m .taken ≡ l .taken) (holds (blockOf a) l) _ _ (λ e. refl) (λ e. refl)
+
+module _ (a : ℕ) (l : Line) (four : length (l .sectors) ≡ 4) where
+  old : Sector
+  old = getD (l .sectors) (sectorIndex a) empty
 
   fill-length : length (fillLine a l .sectors) ≡ length (l .sectors)
   unfolding fillLine
@@ -238,14 +244,15 @@ module _ (a : ℕ) (l : Line) (four : length (l .sectors) ≡ 4) where
       kept e = rw e
 
   fill-holds : (b : ℕ) → holds b (fillLine a l) ≡ holds b l
-  fill-holds b = rw (fill-unused, fill-tag)
+  fill-holds b = rw (fill-unused, fill-tag a l)
 
   fill-line : (S : Settings) (now i : ℕ) → LineIs S now i l → LineIs S now i (fillLine a l)
   fill-line S now i h = record {
     four = rw fill-length (h .four);
     sectorly = fill-sectors (h .sectorly);
-    past = rw fill-cycle (h .past);
-    tagged = rw (fill-unused, fill-tag, fill-cycle) (h .tagged);
+    past = rw (fill-cycle a l) (h .past);
+    since = rw (fill-taken a l, fill-cycle a l) (h .since);
+    tagged = rw (fill-unused, fill-tag a l, fill-cycle a l, fill-taken a l) (h .tagged);
   }
 
   -- another sector than the address's is left
@@ -304,7 +311,7 @@ module _ (S : Settings) (t : Tables) (ok : Sound S t) (d : Entry) (m : In d (t .
   filled-alone : (l : Line) → In l (t .lines) → alone filled (fillLine a l) ≡ true
   unfolding alone
   filled-alone l n =
-      rw (fill-unused a l (four-at S t ok l n), fill-tag a l (four-at S t ok l n), filled-count (l .tag))
+      rw (fill-unused a l (four-at S t ok l n), fill-tag a l, filled-count (l .tag))
       (all-in (alone (t .lines)) (t .lines) (ok .single) n)
 
   -- entries at another address are kept
@@ -333,7 +340,7 @@ module _ (S : Settings) (t : Tables) (ok : Sound S t) (d : Entry) (m : In d (t .
 
   filled-reserved : (l : Line) → In l (t .lines) → reservedOk left (fillLine a l) ≡ true
   unfolding reservedOk
-  filled-reserved l n = rw (fill-unused a l (four-at S t ok l n), fill-tag a l (four-at S t ok l n)) (go (flag (unused l)))
+  filled-reserved l n = rw (fill-unused a l (four-at S t ok l n), fill-tag a l) (go (flag (unused l)))
     where
       agreeing : ℕ → Bool
       agreeing k = same (isReserved (getD (fillLine a l .sectors) k empty .status)) (any (entryFor (l .tag + 32 * k)) left)

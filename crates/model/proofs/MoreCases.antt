@@ -1,4 +1,5 @@
--- More accesses, made as the fourteen are: one for each rule of document 01 that those leave open. One table, one statement.
+-- More accesses, made as the fourteen are: one for each rule of document 01 that those leave open, and some under each replacement rule.
+-- A table and a statement each.
 use mathlib.Core.Path.{_≡_, refl}
 use mathlib.Core.List.{map}
 use Rattle.model.specs.Words.{table, fit, places}
@@ -8,8 +9,12 @@ use Rattle.model.specs.SoundLent.{soundNumbers}
 use Rattle.model.specs.Probe.{probe, ruleOf}
 use Rattle.model.specs.Steps.{access, proceed, accept, send, fill, fillLine, tick}
 use Rattle.model.specs.Calls.{call}
-use Rattle.model.specs.Cases.{Case, moreCases, seenOf}
+use Rattle.model.specs.Cases.{Case, moreCases, ruleCases, seenOf}
 
 pub more-cases : map seenOf moreCases ≡ map (λ (c : Case). c .sees) moreCases
 unfolding table fit places inRange tablesOf encode soundNumbers ruleOf probe access proceed accept send fill fillLine tick call
 more-cases = refl
+
+pub rule-cases : map seenOf ruleCases ≡ map (λ (c : Case). c .sees) ruleCases
+unfolding table fit places inRange tablesOf encode soundNumbers ruleOf probe access proceed accept send fill fillLine tick call
+rule-cases = refl

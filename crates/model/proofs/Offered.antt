@@ -30,7 +30,7 @@ use Rattle.model.specs.declared.Refusal.the-variants.{BadCycle}
 use Rattle.model.proofs.Flags.{and-1, and-2, or-no-1, or-no-2, flag, not-yes, no-yes, clash, by-flag}
 use Rattle.model.proofs.Lists.{In, all-in, in-all, in-any, any-in, in-getD, in-index, all-map, any-map, in-replicate, none-count}
 use Rattle.model.proofs.Below.{every-i}
-use Rattle.model.proofs.SoundFacts.{Sound, LeavesSound, LineIs, line-whole, EntryIs, entry-whole, ways-some, mask-small, sector-below, sector-aligned, address-is, block-is, lines-are, line-at, four-at, sectors-at, tag-at, reserved-at, holder-one, entry-at}
+use Rattle.model.proofs.SoundFacts.{Sound, LeavesSound, LineIs, line-whole, EntryIs, entry-whole, ways-some, mask-small, sector-below, sector-aligned, address-is, block-is, lines-are, line-at, four-at, since-at, sectors-at, tag-at, reserved-at, holder-one, entry-at}
 use Rattle.model.proofs.Ways.{Finds, first-finds, victim-finds, Sits, way-sits, way-in, line-among, set-of-block, set-of-line}
 use Rattle.model.proofs.Taken.{Spotted}
 
@@ -191,6 +191,7 @@ module _ (S : Settings) (t : Tables) (ok : Sound S t) (some-ways : 1 ≤ S .ways
         inside = s .inside;
         tagged = tagged;
         four = four-at S t ok l m;
+        since = since-at S t ok l m;
         sectorly = sectors-at S t ok l m;
         own = set-of-block S a ∙ sym (set-of-line S a w (s .low));
         lone = λ j k z. no-yes (λ e. z (holder-one S t ok b j n k (s .inside) e g));
@@ -258,6 +259,7 @@ module _ (S : Settings) (t : Tables) (ok : Sound S t) (some-ways : 1 ≤ S .ways
           inside = s .inside;
           tagged = refl;
           four = refl;
+          since = omega arith;
           sectorly = refl;
           own = set-of-block S a ∙ sym (set-of-line S a w (s .low));
           lone = λ j k z. lacks j k;
@@ -283,6 +285,7 @@ tick-leaves S t ok c = by-flag (LeavesSound S) (ltb c (t .now) || ltb lastCycle 
       four = k .four;
       sectorly = k .sectorly;
       past = le-leb (l .cycle) c (omega (arith, leb-true (l .cycle) (t .now) (k .past)));
+      since = k .since;
       tagged = k .tagged;
     }
 

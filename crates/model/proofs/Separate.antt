@@ -40,7 +40,7 @@ module _ (S : Settings) (L : Lent) (t : Tables) (is : Is S L t) where
   call-read (command.Got cmd.Send) = call-is S L t is send
   call-read (command.Got (cmd.Fill a)) = call-is S L t is (fill a)
   call-read (command.Got (cmd.Tick c)) = call-is S L t is (tick c)
-  call-read (command.Got (cmd.Settings sets ways dirty misses readers queue)) = refl
+  call-read (command.Got (cmd.Settings g)) = refl
   call-read command.None = refl
 
   pub call-at : (k : ℕ) (rest : List ℕ) → callAt S k rest L ≡ encoded S (stepAt S k rest t)

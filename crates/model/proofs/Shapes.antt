@@ -21,13 +21,13 @@ use Rattle.model.specs.Words.{pick, count, table, every, some, countBelo
 use Rattle.model.specs.Numbers.{statusNumber, statusOf, queueKindNumber, queueKindOf}
 use Rattle.model.specs.Range.{linesOf}
 use Rattle.model.specs.Tables.{Line, Entry, Tables, isInvalid, isReserved, unused, isFetch, idle, empty, fresh, noEntry, isModified, dirty, dirtyLines}
-use Rattle.model.specs.Lent.{Lent, bit, tagOf, cycleOf, masksOf, statusesOf, readablesOf, missOf, sentOf, ticketCountOf, ticketsIn, queuedOf, kindOf, queueMasksOf, inUse, sectorAt, sectorsAt, lineAt, entryAt, queueAt, tablesOf}
+use Rattle.model.specs.Lent.{Lent, bit, tagOf, cycleOf, takenOf, masksOf, statusesOf, readablesOf, missOf, sentOf, ticketCountOf, ticketsIn, queuedOf, kindOf, queueMasksOf, inUse, sectorAt, sectorsAt, lineAt, entryAt, queueAt, tablesOf}
 use Rattle.model.specs.Sound.{readingOf}
 use Rattle.model.proofs.Flags.{iff}
 use Rattle.model.proofs.Answers.{status-of-number}
 use Rattle.model.proofs.Tabled.{all-get, any-get, count-get, table-list}
 use Rattle.model.proofs.InUse.{lt-or-ge, count-short, count-same, some-same, in-use-is}
-use Rattle.model.proofs.Facts.{tag, cycle, status, mask, readable, miss, sent, ticketCount, ticket, queued, kind, queueMask, now, live, dirtyLine, readFor, Used}
+use Rattle.model.proofs.Facts.{tag, cycle, taken, status, mask, readable, miss, sent, ticketCount, ticket, queued, kind, queueMask, now, live, dirtyLine, readFor, Used}
 use Rattle.model.proofs.Standing.{field, field-in, field-out, Stands}
 
 -- ---- records of the tables by their place
@@ -133,8 +133,9 @@ sector-back : (x : Sector) {s : Status} {m : ℕ} {r : Bool} → s ≡ x .status
     → record { status = s; mask = m; readable = r } ≡ x
 sector-back x p q r = rw (p, q, r)
 
-line-back : (x : Line) {a c : ℕ} {ss : List Sector} → a ≡ x .tag → c ≡ x .cycle → ss ≡ x .sectors → record { tag = a; cycle = c; sectors = ss } ≡ x
-line-back x p q r = rw (p, q, r)
+line-back : (x : Line) {a c k : ℕ} {ss : List Sector} → a ≡ x .tag → c ≡ x .cycle → k ≡ x .taken → ss ≡ x .sectors
+    → record { tag = a; cycle = c; taken = k; sectors = ss } ≡ x
+line-back x p q k r = rw (p, q, k, r)
 
 entry-back : (x : Entry) {a : ℕ} {s : Bool} {ts : List ℕ} → a ≡ x .address → s ≡ x .sent → ts ≡ x .tickets
     → record { address = a; sent = s; tickets = ts } ≡ x
@@ -164,6 +165,9 @@ module _ (S : Settings) (L : Lent) (t : Tables) (st : Stands S L t) (sh : Shape 
 
   pub cycle-is : (l : ℕ) → l < linesOf S → cycle S L l ≡ line t l .cycle
   cycle-is l h = st .cycles l h ∙ field-in cycleOf (t .lines) fresh l 0 (in-lines l h)
+
+  pub taken-is : (l : ℕ) → l < linesOf S → taken S L l ≡ line t l .taken
+  taken-is l h = st .takens l h ∙ field-in takenOf (t .lines) fresh l 0 (in-lines l h)
 
   in-sectors : (l k : ℕ) → l < linesOf S → k < 4 → k < length (line t l .sectors)
   in-sectors l k h j = let e = sh .fours l h in omega arith
@@ -279,7 +283,7 @@ module _ (S : Settings) (L : Lent) (t : Tables) (st : Stands S L t) (sh : Shape 
 
   line-again : (l : ℕ) → l < linesOf S → lineAt S (L .longs) (L .words) (L .marks) l ≡ line t l
   line-again l h =
-      line-back (line t l) (tag-is l h) (cycle-is l h)
+      line-back (line t l) (tag-is l h) (cycle-is l h) (taken-is l h)
       (sectors-table S (L .words) (L .marks) l
       ∙ table-list 4 (λ k. sectorAt S (L .words) (L .marks) (4 * l + k)) (line t l .sectors) empty (sh .fours l h) (λ k j. sector-again l k h j))
 

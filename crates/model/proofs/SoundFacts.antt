@@ -48,7 +48,8 @@ pub record LineIs (S : Settings) (now i : ℕ) (l : Line) : Type 0 where
   pub four : eqb (length (l .sectors)) 4 ≡ true
   pub sectorly : all sectorOk (l .sectors) ≡ true
   pub past : leb (l .cycle) now ≡ true
-  pub tagged : pick (unused l) (eqb (l .tag) 0 && eqb (l .cycle) 0) (goodBlock (l .tag) && eqb (setIndex S (l .tag)) (i / S .ways)) ≡ true
+  pub since : leb (l .taken) (l .cycle) ≡ true
+  pub tagged : pick (unused l) (eqb (l .tag) 0 && eqb (l .cycle) 0 && eqb (l .taken) 0) (goodBlock (l .tag) && eqb (setIndex S (l .tag)) (i / S .ways)) ≡ true
 
 pub line-parts : (S : Settings) (now i : ℕ) (l : Line) → lineOk S now i l ≡ true → LineIs S now i l
 unfolding lineOk
@@ -56,7 +57,7 @@ line-parts S now i l h = search (and-1, and-2) depth 9
 
 pub line-whole : (S : Settings) (now i : ℕ) (l : Line) → LineIs S now i l → lineOk S now i l ≡ true
 unfolding lineOk
-line-whole S now i l h = rw (h .four, h .sectorly, h .past, h .tagged)
+line-whole S now i l h = rw (h .four, h .sectorly, h .past, h .since, h .tagged)
 
 pub record EntryIs (S : Settings) (t : Tables) (e : Entry) : Type 0 where
   pub good : goodSector (e .address) ≡ true
@@ -136,6 +137,15 @@ module _ (S : Settings) (t : Tables) (ok : Sound S t) where
   four-at l m =
       let (i, h, e) = in-index (t .lines) fresh l m in
       eqb-true (length (l .sectors)) 4 (ap (λ (v : Line). eqb (length (v .sectors)) 4) (sym e) ∙ line-at i h .four)
+
+  -- taken no later than the current cycle
+  pub since-at : (l : Line) → In l (t .lines) → l .taken ≤ t .now
+  since-at l m = go (in-index (t .lines) fresh l m)
+    where
+      go : (i : ℕ) × (i < length (t .lines)) × (getD (t .lines) i fresh ≡ l) → l .taken ≤ t .now
+      go (i, h, e) =
+          let k : LineIs S (t .now) i l = rw e at (line-at i h) in
+          omega (arith, leb-true (l .taken) (l .cycle) (k .since), leb-true (l .cycle) (t .now) (k .past))
 
   pub sectors-at : (l : Line) → In l (t .lines) → all sectorOk (l .sectors) ≡ true
   sectors-at l m =

@@ -129,7 +129,8 @@ module _ (S : Settings) (t : Tables) where
     pub four : length (line t l .sectors) ≡ 4
     pub sectors : (k : ℕ) → k < 4 → SectorOk (statusNumber (sector t l k .status)) (sector t l k .mask) (bit (sector t l k .readable))
     pub past : line t l .cycle ≤ t .now
-    pub dead : unused (line t l) ≡ true → (line t l .tag ≡ 0) × (line t l .cycle ≡ 0)
+    pub since : line t l .taken ≤ line t l .cycle
+    pub dead : unused (line t l) ≡ true → ((line t l .tag ≡ 0) × (line t l .cycle ≡ 0)) × (line t l .taken ≡ 0)
     pub block : Lives l → Block (line t l .tag)
     pub home : Lives l → setIndex S (line t l .tag) ≡ l / S .ways
 
@@ -189,20 +190,23 @@ module _ (S : Settings) (t : Tables) where
   line-ok-is l =
       is-as
       (is-and
+      (is-and
       (is-and (is-and (is-eq (length (line t l .sectors)) 4) (is-all sectorOk (line t l .sectors) empty
       (λ k h. sector-ok-is (sector t l k .status) (sector t l k .mask) (sector t l k .readable))))
       (is-le (line t l .cycle) (t .now)))
-      (is-pick {b = unused (line t l)} (is-and (is-eq (line t l .tag) 0) (is-eq (line t l .cycle) 0))
+      (is-le (line t l .taken) (line t l .cycle)))
+      (is-pick {b = unused (line t l)} (is-and (is-and (is-eq (line t l .tag) 0) (is-eq (line t l .cycle) 0)) (is-eq (line t l .taken) 0))
       (is-and (block-is (line t l .tag)) (is-eq (setIndex S (line t l .tag)) (l / S .ways)))))
-      (λ w. let four = w .0 .0 .0 in record {
+      (λ w. let four = w .0 .0 .0 .0 in record {
         four = four;
-        sectors = λ k h. w .0 .0 .1 k (omega arith);
-        past = w .0 .1;
+        sectors = λ k h. w .0 .0 .0 .1 k (omega arith);
+        past = w .0 .0 .1;
+        since = w .0 .1;
         dead = w .1 .0;
         block = λ v. w .1 .1 v .0;
         home = λ v. w .1 .1 v .1;
       })
-      (λ r. let four = r .four in (((four, λ k h. r .sectors k (omega arith)), r .past), (r .dead, λ v. (r .block v, r .home v))))
+      (λ r. let four = r .four in ((((four, λ k h. r .sectors k (omega arith)), r .past), r .since), (r .dead, λ v. (r .block v, r .home v))))
 
   holds-i : (m : ℕ) (b : ℕ) → Lives S t m → line t m .tag ≡ b → holds b (line t m) ≡ true
   holds-i m b v e = and-i (not-no v) (eq-eqb _ _ e)

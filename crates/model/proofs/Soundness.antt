@@ -63,7 +63,7 @@ call-keeps-sound R S (ticking c) t range small ok = tick-keeps-sound S c t ok
 
 pub step-keeps-sound : (S : Settings) (c : Command) (t : Tables) → inRange S ≡ true → commandMask c ≤ allOnes → sound S t ≡ true
     → sound S (after t (stepOf S c t)) ≡ true
-step-keeps-sound S (cmd.Settings sets ways dirty misses readers queue) t range small ok = ok
+step-keeps-sound S (cmd.Settings g) t range small ok = ok
 step-keeps-sound S (cmd.Read a k) t range small ok = access-keeps-sound S (Read a 0 k) t range small ok
 step-keeps-sound S (cmd.Write a m) t range small ok = access-keeps-sound S (Write a m 0) t range small ok
 step-keeps-sound S cmd.Send t range small ok = send-keeps-sound S t ok

@@ -17,7 +17,7 @@ use Rattle.model.specs.Address.{blockOf, sectorIndex, setIndex, lineNumb
 use Rattle.model.specs.Tables.{Line, Entry, reading, Tables, isInvalid, isReserved, unused, holds, entryFor, isFetch, empty, fresh, dirty, dirtyLines}
 use Rattle.model.specs.Sound.{allOnes, maskOk, sectorOk, lineOk, alone, agrees, reservedOk, readingOf, unsentFor, entryOk, queuedOk}
 use Rattle.model.specs.Probe.{Spot}
-use Rattle.model.specs.Steps.{isHit, isMerge, isMiss, onSector, update, join, onMisses, fetches, queues, placesNeeded, entryFull, afterAccess, lineAfter}
+use Rattle.model.specs.Steps.{isHit, isMerge, isMiss, onSector, update, join, onMisses, fetches, queues, placesNeeded, entryFull, afterAccess, lineAfter, takenBy}
 use Rattle.model.specs.declared.Settings.{Settings}
 use Rattle.model.specs.declared.Status.{Status}
 use Rattle.model.specs.declared.Status.the-variants.{Invalid, Reserved, Valid, Modified}
@@ -222,6 +222,12 @@ module _ (S : Settings) (es : List Entry) (ok : (d : Entry) → In d es → with
 
 -- ---- the line that an access meets, and the tables that it leaves
 
+taken-past : {now k : ℕ} (n : Answer) → k ≤ now → takenBy n now k ≤ now
+taken-past Hit h = h
+taken-past HitReserved h = h
+taken-past Miss h = omega arith
+taken-past SectorMiss h = h
+
 abbrev pub spotNumber : Settings → Access → Spot → ℕ
 spotNumber S x p = lineNumber S (addressOf x) (p .way)
 
@@ -229,6 +235,7 @@ pub record Spotted (S : Settings) (t : Tables) (x : Access) (p : Spot) : Type 0 
   pub inside : spotNumber S x p < length (t .lines)
   pub tagged : p .line .tag ≡ blockOf (addressOf x)
   pub four : length (p .line .sectors) ≡ 4
+  pub since : p .line .taken ≤ t .now
   pub sectorly : all sectorOk (p .line .sectors) ≡ true
   pub own : setIndex S (blockOf (addressOf x)) ≡ spotNumber S x p / S .ways
   pub lone : (j : ℕ) → j < length (t .lines) → j ≢ spotNumber S x p → holds (blockOf (addressOf x)) (getD (t .lines) j fresh) ≡ false
@@ -261,7 +268,7 @@ module _ (S : Settings) (t : Tables) (ok : Sound S t) (x : Access) (formed : wel
   old = getD (p .line .sectors) i empty
 
   new : Line
-  new = update i (onSector x (p .answer)) (t .now) (p .line)
+  new = update i (onSector x (p .answer)) (t .now) (takenBy (p .answer) (t .now) (p .line .taken)) (p .line)
 
   abbrev u : Tables
   u = afterAccess S x p t
@@ -286,6 +293,7 @@ module _ (S : Settings) (t : Tables) (ok : Sound S t) (x : Access) (formed : wel
         (sector-after x (p .answer) old formed small (sp .merges)
         (all-in sectorOk (p .line .sectors) (sp .sectorly) (in-getD (p .line .sectors) i empty below)));
     past = le-leb (t .now) (t .now) (omega arith);
+    since = le-leb _ (t .now) (taken-past (p .answer) (sp .since));
     tagged = rw (new-used, sp .tagged) (and-i (and-i (eq-eqb (b % 128) 0 (omega arith))
         (lt-ltb b (2 ^ 48) (omega (arith, ltb-true a (2 ^ 48) (and-2 (eqb (a % 32) 0) _ (formed-good x formed))))))
         (eq-eqb _ _ (sp .own)));

@@ -1,6 +1,6 @@
 -- What document 01 says of the victim, its write-back and the queue, as laws of the definitions.
 use Prim.Native.Nat.{ℕ, _≤_, _<_}
-use mathlib.Core.Path.{_≡_, refl, ap, _∙_}
+use mathlib.Core.Path.{_≡_, refl, sym, ap, _∙_}
 use mathlib.Core.Logic.{_⊎_, inl, inr, ⊎-elim}
 use mathlib.Core.Bool.{Bool, true, false, not, _&&_, true≢false}
 use mathlib.Core.List.{List, [], _∷_, map}
@@ -14,13 +14,14 @@ use Rattle.model.specs.Tables.{Line, writing, Tables, Outcome, refused, 
 use Rattle.model.specs.Sound.{maskOk, sectorOk, sound}
 use Rattle.model.specs.Tree.{treeChoice, levels}
 use Rattle.model.specs.Probe.{waysOf, enoughDirty, candidate, first, last, earliest, Rule, byKey, byTree, choiceBy, orElse, victim, Spot, at, writeBack, takeOver, meet, probe, ruleOf}
-use Rattle.model.specs.Steps.{fetches, queues, placesNeeded, accept, access}
+use Rattle.model.specs.Steps.{takesLine, fetches, queues, placesNeeded, accept, access}
 use Rattle.model.specs.Meetings.{Matched, Replaced, Queues}
 use Rattle.model.specs.declared.Settings.{Settings}
 use Rattle.model.specs.declared.Status.{Status}
 use Rattle.model.specs.declared.Status.the-variants.{Invalid, Reserved, Valid, Modified}
 use Rattle.model.specs.declared.Sector.{Sector}
 use Rattle.model.specs.declared.Queued.{Queued}
+use Rattle.model.specs.declared.Answer.the-variants.{Miss}
 use Rattle.model.specs.declared.Refusal.{Refusal}
 use Rattle.model.specs.declared.Access.{Access}
 use Rattle.model.specs.declared.Event.{Event}
@@ -185,3 +186,21 @@ unfolding access accept
 nothing-else-queued S x t es u =
     access-judged (ruleOf S) S t x (λ o. o ≡ done es u → Queues S x t es u) (λ n h. let z : _≡_ {A = ℕ} 0 1 = cc in absurd (omega arith))
     (λ p j h. record { spot = p; met = j .met; queue = cc; told = cc })
+
+-- ---- a line that no MISS takes is the one that stands there
+
+module _ (R : Rule) (S : Settings) (d : ℕ) (ways : List Line) (x : Access) (p : Spot) (stays : takesLine (p .answer) ≡ false) where
+  over-takes : (v : Found) → takeOver (addressOf x) ways v ≡ at p → p .line ≡ getD ways (p .way) fresh
+  over-takes Nothing e = let z : _≡_ {A = ℕ} 0 1 = cc in absurd (omega arith)
+  over-takes (At w) e = let a : p .answer ≡ Miss = cc in clash (ap takesLine a) stays
+
+  meet-stands : (f : Found) → meet R S d ways x f ≡ at p → p .line ≡ getD ways (p .way) fresh
+  meet-stands Nothing e = over-takes (victim R S d ways) e
+  meet-stands (At w) e =
+      let l : p .line ≡ getD ways w fresh = cc in
+      let v : p .way ≡ w = cc in
+      l ∙ ap (λ (i : ℕ). getD ways i fresh) (sym v)
+
+  pub line-stays : probe R S d ways x ≡ at p → p .line ≡ getD ways (p .way) fresh
+  unfolding probe
+  line-stays e = meet-stands (first (holds (blockOf (addressOf x))) ways) e

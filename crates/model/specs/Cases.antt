@@ -1,5 +1,5 @@
 -- "Fourteen accesses to prove": one table, a row a case, made on lent tables through every check from fresh ones on. Then more, made in
--- the same way: one for each rule of document 01 that those leave open.
+-- the same way: one for each rule of document 01 that those leave open, and some under each replacement rule.
 use Prim.Native.Nat.{ℕ}
 use mathlib.Core.List.{List, [], _∷_}
 use Rattle.model.specs.Tables.{start, Outcome, refused, done, after, dirtyLines}
@@ -9,7 +9,7 @@ use Rattle.model.specs.declared.Settings.{Settings}
 use Rattle.model.specs.declared.Access.the-variants.{Read, Write}
 use Rattle.model.specs.declared.Answer.the-variants.{Hit, HitReserved, Miss, SectorMiss}
 use Rattle.model.specs.declared.Refusal.{Refusal}
-use Rattle.model.specs.declared.Refusal.the-variants.{BadAccess, SetBusy, SetHeld, QueueFull, EntryFull, MissTableFull, NotSent, BadCycle, QueueEmpty}
+use Rattle.model.specs.declared.Refusal.the-variants.{SettingOutOfRange, BadAccess, SetBusy, SetHeld, QueueFull, EntryFull, MissTableFull, NotSent, BadCycle, QueueEmpty}
 use Rattle.model.specs.declared.Event.{Event}
 use Rattle.model.specs.declared.Event.the-variants.{Answered, ReadQueued, WriteBackQueued}
 
@@ -35,15 +35,15 @@ pub record Case : Type 0 where
 
 -- "1 set, 2 ways, P 50, M 2, W 2, Q 4"
 abbrev pub base : Settings
-base = record { sets = 1; ways = 2; dirty = 50; misses = 2; readers = 2; queue = 4 }
+base = record { sets = 1; ways = 2; dirty = 50; misses = 2; readers = 2; queue = 4; rule = 0 }
 
 -- "Two sets, one way, P 60"
 abbrev pub narrow : ℕ → Settings
-narrow p = record { sets = 2; ways = 1; dirty = p; misses = 2; readers = 2; queue = 4 }
+narrow p = record { sets = 2; ways = 1; dirty = p; misses = 2; readers = 2; queue = 4; rule = 0 }
 
 -- "Q 2"
 abbrev pub short : Settings
-short = record { sets = 1; ways = 2; dirty = 50; misses = 2; readers = 2; queue = 2 }
+short = record { sets = 1; ways = 2; dirty = 50; misses = 2; readers = 2; queue = 2; rule = 0 }
 
 abbrev pub r : ℕ → Call
 r a = offer (Read a 0 7)
@@ -106,4 +106,26 @@ moreCases =
     ∷ case short (r 0 ∷ r 32 ∷ []) (w 128 0xFF) (yes (Answered Miss 0 ∷ []) 1)
     ∷ case short (r 0 ∷ r 32 ∷ []) (w 64 0xFF) (yes (Answered SectorMiss 1 ∷ []) 1)
     ∷ case short (w 128 0xFF ∷ r 0 ∷ r 32 ∷ []) (w 256 0xFF) (no QueueFull)
+    ∷ []
+
+-- ---- the replacement rules
+
+-- 1 set of 2 ways, under a rule
+abbrev pub ruled : ℕ → Settings
+ruled n = record { sets = 1; ways = 2; dirty = 50; misses = 2; readers = 2; queue = 4; rule = n }
+
+-- way 1 is taken at cycle 1, way 0 at 2; at 9 way 1 is used by this access; 10 comes
+abbrev pub usedLate : Call → List Call
+usedLate c = ticking 1 ∷ w 0 0xFF ∷ ticking 2 ∷ w 128 0xFF ∷ ticking 9 ∷ c ∷ ticking 10 ∷ []
+
+-- 1: least recently used, a MISS takes way 0. 2: first in first out, way 1. 3: also where it was used by a SECTOR_MISS. 4: the lowest way
+-- of two taken at the same cycle. 5: another rule byte
+abbrev pub ruleCases : List Case
+ruleCases =
+    case (ruled 0) (usedLate (w 0 0xFF)) (w 256 0xFF) (yes (Answered Miss 0 ∷ WriteBackQueued 128 0xFF 0 0 0 ∷ []) 2)
+    ∷ case (ruled 1) (usedLate (w 0 0xFF)) (w 256 0xFF) (yes (Answered Miss 1 ∷ WriteBackQueued 0 0xFF 0 0 0 ∷ []) 2)
+    ∷ case (ruled 1) (usedLate (w 32 0xFF)) (w 256 0xFF) (yes (Answered Miss 1 ∷ WriteBackQueued 0 0xFF 0xFF 0 0 ∷ []) 2)
+    ∷ case (ruled 1) (w 0 0xFF ∷ w 128 0xFF ∷ ticking 9 ∷ w 128 0xFF ∷ []) (w 256 0xFF)
+    (yes (Answered Miss 0 ∷ WriteBackQueued 128 0xFF 0 0 0 ∷ []) 2)
+    ∷ case (ruled 2) [] (r 0) (no SettingOutOfRange)
     ∷ []

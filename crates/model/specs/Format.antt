@@ -17,6 +17,7 @@ pub record Kind : Type 0 where
 abbrev pub commandKinds : Format → List Kind
 commandKinds current =
     record { kind = kinds.settings; body = 7 }
+    ∷ record { kind = kinds.ruled; body = 8 }
     ∷ record { kind = kinds.read; body = 12 }
     ∷ record { kind = kinds.write; body = 12 }
     ∷ record { kind = kinds.send; body = 0 }
@@ -37,12 +38,9 @@ eventKinds current =
     ∷ record { kind = kinds.ticked; body = 0 }
     ∷ []
 
--- the kinds of settings records, and the one that settings are written as
+-- the kinds of settings records
 abbrev pub settingsKinds : Format → List ℕ
-settingsKinds current = kinds.settings ∷ []
-
-abbrev pub settingsKind : Format → ℕ
-settingsKind current = kinds.settings
+settingsKinds current = kinds.settings ∷ kinds.ruled ∷ []
 
 -- ---- tickets: the kind of a read, the kind of a released reader, and how many bytes a ticket is in both
 

@@ -5,13 +5,20 @@ use mathlib.Core.Bool.{true}
 use mathlib.Core.List.{List}
 use lib.ListN.{length}
 use Rattle.model.specs.Range.{inRange, powerTo256, linesOf}
-use Rattle.model.specs.Layout.{longsLength, wordsLength, marksLength}
+use Rattle.model.specs.Layout.{longsLength, wordsLength, marksLength, wordsFrom, takenRegion}
 use Rattle.model.specs.Tables.{Tables, Outcome}
 use Rattle.model.specs.Lent.{Lent, encode}
 use Rattle.model.specs.Sound.{sound}
 use Rattle.model.specs.Calls.{encoded, Leaves}
 use Rattle.model.specs.declared.Settings.{Settings}
 use Rattle.model.specs.declared.Told.{Told}
+
+-- a fact that only a proof that asks for it reads: all of them at once are more than `omega` holds
+pub data Aside (P : Type 0) : Type 0 where
+  aside : P → Aside P
+
+abbrev pub told : {P : Type 0} → Aside P → P
+told (aside p) = p
 
 -- settings in range and slices of the right lengths, as numbers
 pub record Fit (S : Settings) (longs words marks : List ℕ) : Type 0 where
@@ -29,7 +36,8 @@ pub record Fit (S : Settings) (longs words marks : List ℕ) : Type 0 where
   pub place : 2 ≤ S .queue
   pub queue : S .queue ≤ 64
   pub longs-long : length longs ≡ longsLength S
-  pub words-long : length words ≡ wordsLength S
+  pub words-room : wordsFrom S takenRegion ≤ length words
+  pub words-long : Aside (length words ≡ wordsLength S)
   pub marks-long : length marks ≡ marksLength S
 
 -- the slices are the encoding of the tables t, which are sound

@@ -6,6 +6,10 @@ use Prim.Native.Nat.{ℕ}
 abbrev pub settings : ℕ
 settings = 0
 
+-- settings with a rule byte (L1)
+abbrev pub ruled : ℕ
+ruled = 6
+
 abbrev pub read : ℕ
 read = 1
 

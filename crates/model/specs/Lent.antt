@@ -9,7 +9,7 @@ use lib.Dec.{eqb}
 use Rattle.model.specs.Words.{pick, table, countBelow, places, joined}
 use Rattle.model.specs.Numbers.{statusNumber, statusOf, queueKindNumber, queueKindOf}
 use Rattle.model.specs.Range.{linesOf}
-use Rattle.model.specs.Layout.{longsLength, wordsLength, marksLength, longsFrom, wordsFrom, marksFrom, missRegion, queueRegion, maskRegion, ticketRegion, queueMaskRegion, readableRegion, sentRegion, ticketCountRegion, kindRegion, dirtyCountRegion}
+use Rattle.model.specs.Layout.{longsLength, wordsLength, marksLength, longsFrom, wordsFrom, marksFrom, missRegion, queueRegion, maskRegion, ticketRegion, queueMaskRegion, readableRegion, sentRegion, ticketCountRegion, kindRegion, dirtyCountRegion, takenRegion}
 use Rattle.model.specs.Tables.{Line, Entry, Tables}
 use Rattle.model.specs.declared.Settings.{Settings}
 use Rattle.model.specs.declared.Sector.{Sector}
@@ -36,6 +36,9 @@ tagAt longs l = getD longs l 0
 
 abbrev pub cycleAt : List ℕ → ℕ → ℕ
 cycleAt words l = getD words (1 + l) 0
+
+abbrev pub takenAt : Settings → List ℕ → ℕ → ℕ
+takenAt S words l = getD words (wordsFrom S takenRegion + l) 0
 
 -- of sector i of all lines, four to a line
 abbrev pub statusAt : List ℕ → ℕ → ℕ
@@ -88,7 +91,7 @@ module _ (S : Settings) (words marks : List ℕ) where
   sectorsAt l = sectorAt (4 * l) ∷ sectorAt (4 * l + 1) ∷ sectorAt (4 * l + 2) ∷ sectorAt (4 * l + 3) ∷ []
 
 abbrev pub lineAt : Settings → List ℕ → List ℕ → List ℕ → ℕ → Line
-lineAt S longs words marks l = record { tag = tagAt longs l; cycle = cycleAt words l; sectors = sectorsAt S words marks l }
+lineAt S longs words marks l = record { tag = tagAt longs l; cycle = cycleAt words l; taken = takenAt S words l; sectors = sectorsAt S words marks l }
 
 abbrev pub entryAt : Settings → Lent → ℕ → Entry
 entryAt S L e = record {
@@ -131,6 +134,9 @@ tagOf l = l .tag ∷ []
 
 abbrev pub cycleOf : Line → List ℕ
 cycleOf l = l .cycle ∷ []
+
+abbrev pub takenOf : Line → List ℕ
+takenOf l = l .taken ∷ []
 
 abbrev pub masksOf : Line → List ℕ
 masksOf l = map (λ s. s .mask) (l .sectors)
@@ -177,6 +183,7 @@ wordBlocks S t =
     ∷ places ticketsIn (S .readers) (S .misses) (t .misses)
     ∷ places queueMasksOf 4 (S .queue) (t .queue)
     ∷ (t .dirtyCount ∷ [])
+    ∷ places takenOf 1 (linesOf S) (t .lines)
     ∷ []
 
 abbrev pub markBlocks : Settings → Tables → List (List ℕ)

@@ -3,7 +3,7 @@ use Prim.Native.Nat.{ℕ, suc, _+_, _*_}
 use mathlib.Core.Bool.{Bool, true, false, not, _&&_, _||_}
 use mathlib.Core.List.{List, [], _∷_, map}
 use lib.ListN.{length, getD, take, drop, replicate}
-use lib.Dec.{leb}
+use lib.Dec.{leb, eqb}
 use Rattle.model.specs.Words.{pick, any}
 use Rattle.model.specs.Numbers.{statusNumber}
 use Rattle.model.specs.Range.{linesOf}
@@ -85,9 +85,13 @@ earliest key p (l ∷ ls) = pick (p l) (older key ls (key l) (earliest key p ls)
 
 -- ---- the victim
 
--- what a candidate goes by: its last-access cycle
+-- "rule 1 picks the earliest of these instead" (L1)
+abbrev pub isFifo : Settings → Bool
+isFifo S = eqb (S .rule) 1
+
+-- what a candidate goes by: its last-access cycle, or the cycle at which it was taken
 abbrev pub age : Settings → Line → ℕ
-age S l = l .cycle
+age S l = pick (isFifo S) (l .taken) (l .cycle)
 
 -- how a set chooses among its candidates: the least key, the lowest way among equals; or by its tree
 pub data Rule : Type 0 where

@@ -17,7 +17,11 @@ powerTo256 n = any (eqb n) (1 ∷ 2 ∷ 4 ∷ 8 ∷ 16 ∷ 32 ∷ 64 ∷ 128 ∷
 abbrev pub linesOf : Settings → ℕ
 linesOf S = S .sets * S .ways
 
--- the table of settings: sets, ways, dirty percent P, miss table entries M, readers per entry W, miss queue Q
+-- "0 for least recently used, 1 for first in first out" (L1)
+abbrev pub ruleFine : Settings → Bool
+ruleFine S = leb (S .rule) 1
+
+-- the table of settings: sets, ways, dirty percent P, miss table entries M, readers per entry W, miss queue Q; the rule
 unfoldable pub inRange : Settings → Bool
 inRange S =
     powerTo256 (S .sets)
@@ -27,3 +31,4 @@ inRange S =
     && within 1 64 (S .misses)
     && within 1 8 (S .readers)
     && within 2 64 (S .queue)
+    && ruleFine S

@@ -11,7 +11,7 @@ use Rattle.model.specs.declared.Command.{Command}
 use Rattle.model.specs.declared.EventRead.{EventRead}
 use Rattle.model.specs.declared.CommandRead.{CommandRead}
 use Rattle.model.specs.declared.Record.{Record}
-unfoldable pub use Rattle.model.specs.RecordsOf.{bytes, noKind, bodyIn, bytesOf, numberAt, part, writeBackBytes, answered, refusals, refusedBy, settingsIn, settingsCommand, recordAt, bodyOf, before, nextOf}
+unfoldable pub use Rattle.model.specs.RecordsOf.{bytes, noKind, bodyIn, bytesOf, numberAt, part, writeBackBytes, answered, refusals, refusedBy, settingsIn, ruleIn, givenIn, settingsKind, ruleBytes, givenBytes, recordAt, bodyOf, before, nextOf}
 pub use Rattle.model.specs.RecordsOf.{Parsed, parsed, broken}
 unfoldable pub use Rattle.model.specs.Format.{sendBytes, accessBytes}
 pub use Rattle.model.specs.Format.{Kind}

@@ -9,8 +9,11 @@ use Rattle.model.specs.Words.{pick, all, any}
 use Rattle.model.specs.Numbers.{answerNumber, refusalNumber}
 use Rattle.model.specs.Range.{within}
 use Rattle.model.specs.Kinds as kinds
-use Rattle.model.specs.Format.{Format, Kind, commandKinds, eventKinds, settingsKinds, settingsKind, readKind, releasedKind, ticketBytes}
+use Rattle.model.specs.Format.{Format, Kind, commandKinds, eventKinds, settingsKinds, readKind, releasedKind, ticketBytes}
 use Rattle.model.specs.declared.Settings.{Settings}
+use Rattle.model.specs.declared.Given.{Given}
+use Rattle.model.specs.declared.GivenRule.{GivenRule}
+use Rattle.model.specs.declared.GivenRule.the-variants.{LeftOut, Byte}
 use Rattle.model.specs.declared.Answer.the-variants.{Hit, HitReserved, Miss, SectorMiss}
 use Rattle.model.specs.declared.Refusal.{Refusal}
 use Rattle.model.specs.declared.Refusal.the-variants as refusal
@@ -154,7 +157,8 @@ module _ (F : Format) where
 
 -- ---- commands as bytes and out of a body, unjudged
 
--- "settings (sets 2, ways, P, M, W, Q one each: 7)", of a body of any settings kind: what a shorter one lacks is 0, as `numberAt` has it
+-- "settings (sets 2, ways, P, M, W, Q one each: 7)", kind 6 "one byte more" (L1), of a body of any settings kind: what a shorter one
+-- lacks is 0, as `numberAt` has it
 abbrev pub settingsIn : List ℕ → Settings
 settingsIn b = record {
   sets = numberAt b 0 2;
@@ -163,14 +167,41 @@ settingsIn b = record {
   misses = numberAt b 4 1;
   readers = numberAt b 5 1;
   queue = numberAt b 6 1;
+  rule = numberAt b 7 1;
 }
 
-abbrev pub settingsCommand : Settings → Command
-settingsCommand S = cmd.Settings (S .sets) (S .ways) (S .dirty) (S .misses) (S .readers) (S .queue)
+-- the same, as the record of kind k gives them
+abbrev pub ruleIn : ℕ → List ℕ → GivenRule
+ruleIn k b = pick (eqb k kinds.ruled) (Byte (numberAt b 7 1)) LeftOut
+
+abbrev pub givenIn : ℕ → List ℕ → Given
+givenIn k b = record {
+  sets = numberAt b 0 2;
+  ways = numberAt b 2 1;
+  dirty = numberAt b 3 1;
+  misses = numberAt b 4 1;
+  readers = numberAt b 5 1;
+  queue = numberAt b 6 1;
+  rule = ruleIn k b;
+}
+
+abbrev pub settingsKind : GivenRule → ℕ
+settingsKind LeftOut = kinds.settings
+settingsKind (Byte r) = kinds.ruled
+
+abbrev pub ruleBytes : GivenRule → List ℕ
+ruleBytes LeftOut = []
+ruleBytes (Byte r) = bytesOf 1 r
+
+abbrev pub givenBytes : Given → List ℕ
+givenBytes g =
+    bytesOf 2 (g .sets)
+    ++ (bytesOf 1 (g .ways)
+    ++ (bytesOf 1 (g .dirty) ++ (bytesOf 1 (g .misses) ++ (bytesOf 1 (g .readers) ++ (bytesOf 1 (g .queue) ++ ruleBytes (g .rule))))))
 
 module _ (F : Format) where
   abbrev pub commandKind : Command → ℕ
-  commandKind (cmd.Settings sets ways dirty misses readers queue) = settingsKind F
+  commandKind (cmd.Settings g) = settingsKind (g .rule)
   commandKind (cmd.Read a k) = readKind F
   commandKind (cmd.Write a m) = kinds.write
   commandKind cmd.Send = kinds.send
@@ -178,8 +209,7 @@ module _ (F : Format) where
   commandKind (cmd.Tick c) = kinds.tick
 
   abbrev pub commandBody : Command → List ℕ
-  commandBody (cmd.Settings sets ways dirty misses readers queue) =
-      bytesOf 2 sets ++ (bytesOf 1 ways ++ (bytesOf 1 dirty ++ (bytesOf 1 misses ++ (bytesOf 1 readers ++ bytesOf 1 queue))))
+  commandBody (cmd.Settings g) = givenBytes g
   commandBody (cmd.Read a k) = bytesOf 8 a ++ bytesOf (ticketBytes F) k
   commandBody (cmd.Write a m) = bytesOf 8 a ++ bytesOf 4 m
   commandBody cmd.Send = []
@@ -191,7 +221,7 @@ module _ (F : Format) where
 
   abbrev pub commandIn : ℕ → List ℕ → CommandRead
   commandIn k b =
-      pick (isSettings F k) (command.Got (settingsCommand (settingsIn b))) (
+      pick (isSettings F k) (command.Got (cmd.Settings (givenIn k b))) (
       pick (eqb k (readKind F)) (command.Got (cmd.Read (numberAt b 0 8) (numberAt b 8 (ticketBytes F)))) (
       pick (eqb k kinds.write) (command.Got (cmd.Write (numberAt b 0 8) (numberAt b 8 4))) (
       pick (eqb k kinds.send) (command.Got cmd.Send) (

@@ -69,11 +69,11 @@ stepOf S (cmd.Write a m) t = access S (Write a m 0) t
 stepOf S cmd.Send t = send t
 stepOf S (cmd.Fill a) t = fill a t
 stepOf S (cmd.Tick c) t = tick c t
-stepOf S (cmd.Settings sets ways dirty misses readers queue) t = refused refusal.SettingOutOfRange
+stepOf S (cmd.Settings g) t = refused refusal.SettingOutOfRange
 
 -- the mask of a command, if it has one
 abbrev pub commandMask : Command → ℕ
-commandMask (cmd.Settings sets ways dirty misses readers queue) = 0
+commandMask (cmd.Settings g) = 0
 commandMask (cmd.Read a k) = 0
 commandMask (cmd.Write a m) = m
 commandMask cmd.Send = 0

@@ -24,7 +24,7 @@ callOf S (cmd.Write a m) L = accessCall S (Write a m 0) L
 callOf S cmd.Send L = sendCall S L
 callOf S (cmd.Fill a) L = fillCall S a L
 callOf S (cmd.Tick c) L = tickCall S c L
-callOf S (cmd.Settings sets ways dirty misses readers queue) L = refused refusal.SettingOutOfRange
+callOf S (cmd.Settings g) L = refused refusal.SettingOutOfRange
 
 abbrev pub callRead : Settings → CommandRead → Lent → Outcome Lent
 callRead S (command.Got c) L = callOf S c L

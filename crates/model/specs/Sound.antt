@@ -33,12 +33,13 @@ maskOk Modified m r = leb m allOnes && not (eqb m 0) && (r || not (eqb m allOnes
 abbrev pub sectorOk : Sector → Bool
 sectorOk s = maskOk (s .status) (s .mask) (s .readable)
 
--- line i: four sectors; "No line's cycle is later than the current one"; wholly invalid, "its tag and cycle are then 0"; "any other
--- line has a tag that is a block address of its own set"
+-- line i: four sectors; "No line's cycle is later than the current one"; the cycle at which it was taken "is no later than the
+-- line's last access, and 0 on a wholly invalid line" (L1); wholly invalid, "its tag and cycle are then 0"; "any other line has a tag
+-- that is a block address of its own set"
 unfoldable pub lineOk : Settings → ℕ → ℕ → Line → Bool
 lineOk S now i l =
-    eqb (length (l .sectors)) 4 && all sectorOk (l .sectors) && leb (l .cycle) now
-    && pick (unused l) (eqb (l .tag) 0 && eqb (l .cycle) 0) (goodBlock (l .tag) && eqb (setIndex S (l .tag)) (i / S .ways))
+    eqb (length (l .sectors)) 4 && all sectorOk (l .sectors) && leb (l .cycle) now && leb (l .taken) (l .cycle)
+    && pick (unused l) (eqb (l .tag) 0 && eqb (l .cycle) 0 && eqb (l .taken) 0) (goodBlock (l .tag) && eqb (setIndex S (l .tag)) (i / S .ways))
 
 -- "no two such lines of a set share a tag": a tag tells its set
 unfoldable pub alone : List Line → Line → Bool

@@ -1,4 +1,4 @@
--- "Sound tables", of the numbers in the three lent slices, whatever they are: conditions 1 to 26, each beside document 01's words.
+-- "Sound tables", of the numbers in the three lent slices, whatever they are: conditions 1 to 28, each beside document 01's words.
 -- The check of refusal 3 computes `soundLent`. proofs/ ties it to Sound: sound slices are the encoding of sound tables.
 use Prim.Native.Nat.{ℕ, _+_, _*_, _-_, _/_, _%_, _^_, _≤_}
 use mathlib.Core.Bool.{Bool, true, false, not, _&&_, _||_}
@@ -9,7 +9,7 @@ use Rattle.model.specs.Words.{imp, every, some, countBelow}
 use Rattle.model.specs.Range.{linesOf}
 use Rattle.model.specs.Address.{blockOf, sectorIndex, setIndex, goodBlock}
 use Rattle.model.specs.Sound.{lastCycle, allOnes}
-use Rattle.model.specs.Lent.{Lent, tagAt, cycleAt, statusAt, maskAt, readableAt, missAt, sentAt, ticketCountAt, ticketAt, queuedAt, kindAt, queueMaskAt, nowAt, dirtyCountAt}
+use Rattle.model.specs.Lent.{Lent, tagAt, cycleAt, statusAt, maskAt, readableAt, missAt, sentAt, ticketCountAt, ticketAt, queuedAt, kindAt, queueMaskAt, nowAt, dirtyCountAt, takenAt}
 use Rattle.model.specs.declared.Settings.{Settings}
 
 -- of n places those whose f isn't 0 are the first: behind a 0 stands a 0
@@ -22,6 +22,9 @@ module _ (S : Settings) (longs words marks : List ℕ) where
 
   abbrev cycle : ℕ → ℕ
   cycle = cycleAt words
+
+  abbrev taken : ℕ → ℕ
+  taken = takenAt S words
 
   abbrev status : ℕ → ℕ
   status = statusAt marks
@@ -80,12 +83,14 @@ module _ (S : Settings) (longs words marks : List ℕ) where
   -- ---- line l
 
   -- 7: wholly invalid, "its tag and cycle are then 0". 8: "any other line has a tag that is a block address of its own set".
-  -- 9: "No line's cycle is later than the current one"
+  -- 9: "No line's cycle is later than the current one". 27, 28 (L1): the cycle at which it was taken "is no later than the line's last
+  -- access, and 0 on a wholly invalid line"
   abbrev pub lineShape : ℕ → Bool
   lineShape l =
-      (live l || eqb (tag l) 0 && eqb (cycle l) 0)
+      (live l || eqb (tag l) 0 && eqb (cycle l) 0 && eqb (taken l) 0)
       && imp (live l) (goodBlock (tag l) && eqb (setIndex S (tag l)) (l / S .ways))
       && leb (cycle l) (nowAt words)
+      && leb (taken l) (cycle l)
 
   -- 10: "no two such lines of a set share a tag": none before line l has its tag
   abbrev pub apart : ℕ → ℕ → Bool

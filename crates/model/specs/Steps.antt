@@ -55,9 +55,19 @@ onSector (Write a m k) n s =
       readable = eqb (bitOr (s .mask) m) allOnes || (s .readable && not (isInvalid (s .status)));
     }
 
--- a line whose sector i is changed, at cycle c
-abbrev pub update : ℕ → (Sector → Sector) → ℕ → Line → Line
-update i f c l = record { tag = l .tag; cycle = c; sectors = set (l .sectors) i (f (getD (l .sectors) i empty)) }
+-- a line whose sector i is changed, at cycle c, taken at cycle k
+abbrev pub update : ℕ → (Sector → Sector) → ℕ → ℕ → Line → Line
+update i f c k l = record { tag = l .tag; cycle = c; taken = k; sectors = set (l .sectors) i (f (getD (l .sectors) i empty)) }
+
+-- "the cycle at which it was last taken by a MISS" (L1)
+abbrev pub takesLine : Answer → Bool
+takesLine Hit = false
+takesLine HitReserved = false
+takesLine Miss = true
+takesLine SectorMiss = false
+
+abbrev pub takenBy : Answer → ℕ → ℕ → ℕ
+takenBy a now k = pick (takesLine a) now k
 
 -- ---- the dirty count (L3)
 
@@ -112,7 +122,7 @@ placesNeeded x p = length (queues x p)
 
 -- the line that an accepted access leaves at its spot
 abbrev pub lineAfter : Access → Spot → ℕ → Line
-lineAfter x p now = update (sectorIndex (addressOf x)) (onSector x (p .answer)) now (p .line)
+lineAfter x p now = update (sectorIndex (addressOf x)) (onSector x (p .answer)) now (takenBy (p .answer) now (p .line .taken)) (p .line)
 
 -- the line at its number, the dirty count, the miss table and the queue move, and nothing else
 abbrev pub afterAccess : Settings → Access → Spot → Tables → Tables
@@ -175,7 +185,7 @@ arrived s = record { status = pick (eqb (s .mask) 0) Valid Modified; mask = s .m
 
 -- "Cycles on lines stay."
 unfoldable pub fillLine : ℕ → Line → Line
-fillLine a l = pick (holds (blockOf a) l) (update (sectorIndex a) arrived (l .cycle) l) l
+fillLine a l = pick (holds (blockOf a) l) (update (sectorIndex a) arrived (l .cycle) (l .taken) l) l
 
 abbrev pub ticketsOf : ℕ → List Entry → List ℕ
 ticketsOf a [] = []

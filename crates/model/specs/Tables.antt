@@ -18,10 +18,11 @@ use Rattle.model.specs.declared.Refusal.{Refusal}
 use Rattle.model.specs.declared.Event.{Event}
 use Rattle.model.specs.declared.Event.the-variants as ev
 
--- "A line has a tag, a last-access cycle and four sectors"
+-- "A line has a tag, a last-access cycle and four sectors"; "the cycle at which it was last taken by a MISS" (L1)
 pub record Line : Type 0 where
   pub tag : ℕ
   pub cycle : ℕ
+  pub taken : ℕ
   pub sectors : List Sector
 
 -- "A miss entry has a sector address, a sent mark and 1 to W tickets in order of arrival"
@@ -127,7 +128,7 @@ empty = record { status = Invalid; mask = 0; readable = true }
 
 -- "all sectors INVALID, readable, with mask 0", under a tag
 abbrev pub emptied : ℕ → Line
-emptied b = record { tag = b; cycle = 0; sectors = replicate 4 empty }
+emptied b = record { tag = b; cycle = 0; taken = 0; sectors = replicate 4 empty }
 
 abbrev pub fresh : Line
 fresh = emptied 0

@@ -32,7 +32,7 @@ written =
 -- sector 0 has arrived in line 1; nothing waits
 abbrev pub left : Tables
 left = record {
-  lines = fresh ∷ record { tag = 0; cycle = 0; sectors = record { status = Valid; mask = 0; readable = true } ∷ empty ∷ empty ∷ empty ∷ [] } ∷ [];
+  lines = fresh ∷ record { tag = 0; cycle = 0; taken = 0; sectors = record { status = Valid; mask = 0; readable = true } ∷ empty ∷ empty ∷ empty ∷ [] } ∷ [];
   misses = [];
   queue = [];
   now = 0;

@@ -19,6 +19,7 @@ pub struct Settings {
     pub misses: usize,
     pub readers: usize,
     pub queue: usize,
+    pub rule: usize,
 }
 
 pub enum Status {
@@ -111,24 +112,28 @@ pub enum Event {
     Ticked,
 }
 
+// The rule byte of a settings record; kind 0 has none, which means least recently used (L1).
+pub enum GivenRule {
+    LeftOut,
+    Byte(u8),
+}
+
+// The settings as a record gives them, unjudged.
+pub struct Given {
+    pub sets: u16,
+    pub ways: u8,
+    pub dirty: u8,
+    pub misses: u8,
+    pub readers: u8,
+    pub queue: u8,
+    pub rule: GivenRule,
+}
+
 // "Records": the commands, unjudged.
 pub enum Command {
-    Settings {
-        sets: u16,
-        ways: u8,
-        dirty: u8,
-        misses: u8,
-        readers: u8,
-        queue: u8,
-    },
-    Read {
-        address: u64,
-        ticket: u32,
-    },
-    Write {
-        address: u64,
-        mask: u32,
-    },
+    Settings(Given),
+    Read { address: u64, ticket: u32 },
+    Write { address: u64, mask: u32 },
     Send,
     Fill(u64),
     Tick(u32),

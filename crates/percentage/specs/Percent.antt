@@ -31,7 +31,7 @@ floatMeets d l p = le (single p) (percentOf d l)
 
 -- settings with these sets, ways and P, the others the least in range; as one set of any number of ways they put any size to the engine's rule
 abbrev pub cacheOf : ℕ → ℕ → ℕ → Settings
-cacheOf s w p = record { sets = s; ways = w; dirty = p; misses = 1; readers = 1; queue = 2 }
+cacheOf s w p = record { sets = s; ways = w; dirty = p; misses = 1; readers = 1; queue = 2; rule = 0 }
 
 -- ours: the engine's own rule
 unfoldable pub wholeMeets : ℕ → ℕ → ℕ → Bool

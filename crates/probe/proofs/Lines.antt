@@ -7,10 +7,11 @@ use mathlib.Core.List.{List, [], _∷_, map}
 use native.Mathlib.Nat.{add-zero}
 use native.Mathlib.Omega.{arith}
 use lib.ListN.{length, getD, take, drop}
-use Rattle.model.specs.Words.{all, any, table, some}
+use Rattle.model.specs.Words.{pick, all, any, table, some}
 use Rattle.model.specs.Tables.{Line, isInvalid, isReserved, isModified, unused, waiting, holds, fresh}
-use Rattle.model.specs.Lent.{sectorAt, sectorsAt, lineAt, linesIn}
-use Rattle.model.specs.Probe.{first, orElse, candidate, enoughDirty, age, victim, Rule, byKey, byTree, choiceBy}
+use Rattle.model.specs.Layout.{wordsFrom, cycleRegion, takenRegion}
+use Rattle.model.specs.Lent.{sectorAt, sectorsAt, lineAt, linesIn, takenAt, cycleAt}
+use Rattle.model.specs.Probe.{first, orElse, candidate, enoughDirty, isFifo, age, victim, Rule, byKey, byTree, choiceBy}
 use Rattle.model.specs.Tree.{treeChoice, powerTo16, levels}
 use Rattle.model.specs.declared.Settings.{Settings}
 use Rattle.model.specs.declared.Status.{Status}
@@ -21,7 +22,7 @@ use Rattle.model.proofs.Flags.{flag}
 use Rattle.model.proofs.Tabled.{length-table}
 use Rattle.model.proofs.Ways.{flag-is}
 use Rattle.model.proofs.Trees.{choice-same, levels-are}
-use Rattle.probe.specs.Scan.{waitingAt, candidateAt, foundIn, lastUnusedIn, victimIn, wayOf, treeIn}
+use Rattle.probe.specs.Scan.{waitingAt, candidateAt, foundIn, lastUnusedIn, agesFrom, victimIn, wayOf, treeIn}
 use Rattle.probe.proofs.Statuses.{unused-bytes, waiting-bytes, holds-bytes, candidate-bytes}
 use Rattle.probe.proofs.Ways.{getD-table, part-table, any-table, first-table, last-table, earliest-table, some-ext, first-ext, last-ext, best-ext}
 use Rattle.model.specs.Range.{linesOf}
@@ -95,11 +96,19 @@ module _ (S : Settings) (longs words marks : List ℕ) where
         ∙ last-ext _ _ m (λ w. unused-candidate (enoughDirty S d) (line w) ∙ unused-bytes S longs words marks (b + w)))
         ∙ ap (orElse (lastUnusedIn marks b m)) e
 
-    pub victim-is : (d : ℕ) → victim (byKey (age S)) S d (take m (drop b (linesIn S longs words marks))) ≡ victimIn words marks b m (enoughDirty S d)
+    -- the cycle by which the rule compares a line
+    age-at : (l : ℕ) → age S (lineAt S longs words marks l) ≡ getD words (agesFrom S + l) 0
+    age-at l = go (isFifo S)
+      where
+        go : (f : Bool) → pick f (takenAt S words l) (cycleAt words l) ≡ getD words (pick f (wordsFrom S takenRegion) (wordsFrom S cycleRegion) + l) 0
+        go true = refl
+        go false = refl
+
+    pub victim-is : (d : ℕ) → victim (byKey (age S)) S d (take m (drop b (linesIn S longs words marks))) ≡ victimIn S words marks b m (enoughDirty S d)
     victim-is d =
         victim-by (byKey (age S)) d
         (earliest-table (candidate (enoughDirty S d)) line (age S) m
-        ∙ ap wayOf (best-ext _ _ _ m (λ w. candidate-bytes S longs words marks (b + w) (enoughDirty S d))))
+        ∙ ap wayOf (best-ext _ _ _ _ m (λ w. candidate-bytes S longs words marks (b + w) (enoughDirty S d)) (λ w. age-at (b + w))))
 
     pub victim-by-tree : (t : ℕ) (d : ℕ) → powerTo16 m ≡ true
         → victim (byTree t) S d (take m (drop b (linesIn S longs words marks))) ≡ orElse (lastUnusedIn marks b m) (treeIn marks b m (enoughDirty S d) t)

@@ -95,7 +95,7 @@ module _ (S : Settings) (longs words marks : List ℕ) (x : Access) (way : 1 ≤
       go false = refl
 
   pub own-missed : (v : Found) → foundIn longs marks base (S .ways) (blockOf (addressOf x)) ≡ Nothing
-      → v ≡ victimIn words marks base (S .ways) (enoughDirty S dirtyCount)
+      → v ≡ victimIn S words marks base (S .ways) (enoughDirty S dirtyCount)
       → Decided S longs words marks x (missIs S longs words marks base (S .ways) v)
   unfolding probe
   own-missed v e q = go v under place
@@ -135,8 +135,9 @@ module _ (S : Settings) (longs words marks : List ℕ) (x : Access) (way : 1 ≤
 
 -- ---- after a match on what is found
 
-pub victim-below : (words marks : List ℕ) (base ways : ℕ) (enough : Bool) {v : Found} {w : ℕ} → v ≡ victimIn words marks base ways enough → v ≡ At w → w < ways
-victim-below words marks base ways enough e g = at-under ways (victimIn words marks base ways enough) (victim-under _ _ _ ways) e g
+pub victim-below : (S : Settings) (words marks : List ℕ) (base : ℕ) (enough : Bool) {v : Found} {w : ℕ} → v ≡ victimIn S words marks base (S .ways) enough → v ≡ At w
+    → w < S .ways
+victim-below S words marks base enough e g = at-under (S .ways) (victimIn S words marks base (S .ways) enough) (victim-under _ _ _ (S .ways)) e g
 
 module _ (S : Settings) (longs words marks : List ℕ) (base ways : ℕ) {r : Decision} {v u : Found} (e : v ≡ u) where
   pub missed-at : {w : ℕ} → v ≡ At w → r ≡ missIs S longs words marks base ways (At w) → r ≡ missIs S longs words marks base ways u
@@ -170,11 +171,11 @@ module _ (S : Settings) (longs words marks : List ℕ) (fit : Fit S longs words 
         (own-met S longs words marks x (fit .ways) room w (sym found ∙ g))
 
     pub decided-missed : {d : ℕ} {r : Decision} → f ≡ Nothing → d ≡ dirtyCountAt S words
-        → r ≡ missIs S longs words marks (set * S .ways) (S .ways) (victimIn words marks (set * S .ways) (S .ways) (enoughDirty S d))
+        → r ≡ missIs S longs words marks (set * S .ways) (S .ways) (victimIn S words marks (set * S .ways) (S .ways) (enoughDirty S d))
         → Decided S longs words marks x r
     decided-missed {d} {r} g ed q =
         subst (Decided S longs words marks x)
         (sym (q
-        ∙ ap (λ (k : ℕ). missIs S longs words marks (k * S .ways) (S .ways) (victimIn words marks (k * S .ways) (S .ways) (enoughDirty S d))) here
-        ∙ ap (λ (k : ℕ). missIs S longs words marks (setIndex S (addressOf x) * S .ways) (S .ways) (victimIn words marks (setIndex S (addressOf x) * S .ways) (S .ways) (enoughDirty S k))) ed))
+        ∙ ap (λ (k : ℕ). missIs S longs words marks (k * S .ways) (S .ways) (victimIn S words marks (k * S .ways) (S .ways) (enoughDirty S d))) here
+        ∙ ap (λ (k : ℕ). missIs S longs words marks (setIndex S (addressOf x) * S .ways) (S .ways) (victimIn S words marks (setIndex S (addressOf x) * S .ways) (S .ways) (enoughDirty S k))) ed))
         (own-missed S longs words marks x (fit .ways) room _ (sym found ∙ g) refl)

@@ -1,13 +1,15 @@
 -- Searches over the numbers below n: one turn of each loop, and what the loop has found where it ends.
 use Prim.Native.Nat.{ℕ, zero, suc, _+_, _*_, _≤_, _<_}
 use mathlib.Core.Path.{_≡_, refl, sym, ap, _∙_}
-use mathlib.Core.Logic.{⊎-elim}
+use mathlib.Core.Logic.{⊎-elim, _≢_}
 use mathlib.Core.Bool.{Bool, true, false}
+use mathlib.Core.List.{List}
+use lib.ListN.{length}
 use native.Mathlib.Nat.{not-suc-le-zero, le-of-suc-le-suc, eq-or-lt-of-le}
 use native.Mathlib.Numerals.{add-one}
 use native.Mathlib.Omega.{arith}
 use lib.Dec.{leb}
-use borrow.Author.Tests.{lt-ltb, le-ltb, le-leb}
+use borrow.Author.Tests.{lt-ltb, le-ltb, le-leb, eq-eqb, ne-eqb}
 use Rattle.model.specs.Words.{countBelow}
 use Rattle.model.specs.Probe.{orElse}
 use Rattle.model.specs.declared.Found.{Found}
@@ -15,7 +17,15 @@ use Rattle.model.specs.declared.Found.the-variants.{At, Nothing}
 use Rattle.model.proofs.Below.{Counted, counted-end}
 use Rattle.probe.specs.declared.Best.{Best}
 use Rattle.probe.specs.declared.Best.the-variants.{Way, Nowhere}
-use Rattle.probe.specs.Scan.{firstBelow, lastBelow, bestBelow, nearerOf}
+use Rattle.model.specs.Range.{linesOf}
+use Rattle.model.specs.Layout.{wordsFrom, cycleRegion, takenRegion}
+use Rattle.model.specs.Probe.{isFifo}
+use Rattle.model.specs.Inner.{Fit, told}
+use Rattle.model.proofs.Flags.{by-flag}
+use Rattle.model.specs.declared.Settings.{Settings}
+use Rattle.layout.specs.declared.Layout.{Layout}
+use Rattle.layout.specs.Layout.{Placed}
+use Rattle.probe.specs.Scan.{firstBelow, lastBelow, bestBelow, nearerOf, agesFrom}
 
 module _ (p : ℕ → Bool) where
   -- ---- the first: none before i passed
@@ -96,6 +106,20 @@ module _ (p : ℕ → Bool) where
 
   pub share-end : (share n i k : ℕ) → n ≤ i → Counted p n i k → leb share (100 * k) ≡ leb share (100 * countBelow n p)
   share-end share n i k h c = ap (λ (d : ℕ). leb share (100 * d)) (counted-end p n i k h c)
+
+-- ---- where the cycles begin by which the rule compares candidates
+
+pub ages-taken : {S : Settings} {at : Layout} → Placed S at → S .rule ≡ 1 → at .taken ≡ agesFrom S
+ages-taken {S} p e = rw (eq-eqb (S .rule) 1 e) (told (p .taken))
+
+pub ages-used : (S : Settings) → S .rule ≢ 1 → 1 ≡ agesFrom S
+ages-used S n = rw (ne-eqb (S .rule) 1 n)
+
+-- they lie inside
+pub ages-room : {S : Settings} {longs words marks : List ℕ} → Fit S longs words marks → (l : ℕ) → l ≤ linesOf S → agesFrom S + l ≤ length words
+ages-room {S} {longs} {words} f l h =
+    let long = told (f .words-long) in
+    by-flag (λ (n : ℕ). n + l ≤ length words) (isFifo S) (wordsFrom S takenRegion) (wordsFrom S cycleRegion) (λ e. omega arith) (λ e. omega arith)
 
 -- ---- the best against one more
 

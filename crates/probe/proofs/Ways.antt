@@ -90,10 +90,10 @@ unfolding lastBelow
 last-ext p q zero h = refl
 last-ext p q (suc n) h = rw (last-ext p q n h, h n)
 
-pub best-ext : (p q : ℕ → Bool) (key : ℕ → ℕ) (n : ℕ) → ((i : ℕ) → p i ≡ q i) → bestBelow n p key ≡ bestBelow n q key
+pub best-ext : (p q : ℕ → Bool) (key age : ℕ → ℕ) (n : ℕ) → ((i : ℕ) → p i ≡ q i) → ((i : ℕ) → key i ≡ age i) → bestBelow n p key ≡ bestBelow n q age
 unfolding bestBelow
-best-ext p q key zero h = refl
-best-ext p q key (suc n) h = rw (best-ext p q key n h, h n)
+best-ext p q key age zero h k = refl
+best-ext p q key age (suc n) h k = rw (best-ext p q key age n h k, h n, k n)
 
 -- ---- one more line at the end
 

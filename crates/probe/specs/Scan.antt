@@ -3,10 +3,12 @@
 use Prim.Native.Nat.{ℕ, zero, suc, _+_, _*_}
 use mathlib.Core.Bool.{Bool, not, _&&_, _||_}
 use mathlib.Core.List.{List}
+use lib.ListN.{getD}
 use lib.Dec.{eqb, ltb}
 use Rattle.model.specs.Words.{pick}
-use Rattle.model.specs.Lent.{cycleAt, statusAt, dirtyCountAt}
-use Rattle.model.specs.Probe.{orElse, enoughDirty}
+use Rattle.model.specs.Layout.{wordsFrom, cycleRegion, takenRegion}
+use Rattle.model.specs.Lent.{statusAt, dirtyCountAt}
+use Rattle.model.specs.Probe.{orElse, enoughDirty, isFifo}
 use Rattle.model.specs.Tree.{treeChoice, levels}
 use Rattle.model.specs.declared.Settings.{Settings}
 use Rattle.model.specs.declared.Found.{Found}
@@ -67,12 +69,21 @@ foundIn longs marks base ways b = firstBelow ways (λ w. holdsAt longs marks b (
 abbrev pub lastUnusedIn : List ℕ → ℕ → ℕ → Found
 lastUnusedIn marks base ways = lastBelow ways (λ w. unusedAt marks (base + w))
 
-abbrev pub earliestIn : List ℕ → List ℕ → ℕ → ℕ → Bool → Best
-earliestIn words marks base ways enough = bestBelow ways (λ w. candidateAt marks enough (base + w)) (λ w. cycleAt words (base + w))
-
-abbrev pub victimIn : List ℕ → List ℕ → ℕ → ℕ → Bool → Found
-victimIn words marks base ways enough = orElse (lastUnusedIn marks base ways) (wayOf (earliestIn words marks base ways enough))
+-- by the cycles that begin at `ages`
+abbrev pub earliestIn : List ℕ → List ℕ → ℕ → ℕ → ℕ → Bool → Best
+earliestIn words marks ages base ways enough = bestBelow ways (λ w. candidateAt marks enough (base + w)) (λ w. getD words (ages + (base + w)) 0)
 
 -- by the set's tree
 abbrev pub treeIn : List ℕ → ℕ → ℕ → Bool → ℕ → Found
 treeIn marks base ways enough tree = treeChoice (λ w. candidateAt marks enough (base + w)) tree (levels ways)
+
+-- where the cycles begin by which the rule compares candidates
+abbrev pub agesFrom : Settings → ℕ
+agesFrom S = pick (isFifo S) (wordsFrom S takenRegion) (wordsFrom S cycleRegion)
+
+-- the candidate that the rule chooses
+abbrev pub choiceIn : Settings → List ℕ → List ℕ → ℕ → ℕ → Bool → Found
+choiceIn S words marks base ways enough = wayOf (earliestIn words marks (agesFrom S) base ways enough)
+
+abbrev pub victimIn : Settings → List ℕ → List ℕ → ℕ → ℕ → Bool → Found
+victimIn S words marks base ways enough = orElse (lastUnusedIn marks base ways) (choiceIn S words marks base ways enough)

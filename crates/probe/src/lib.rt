@@ -15,7 +15,7 @@ ghost use Rattle.model.specs.Range.{linesOf};
 ghost use Rattle.model.specs.Tree.{isIn, powerTo16};
 ghost use Rattle.model.specs.Inner.{Fit};
 ghost use Rattle.layout.specs.Layout.{Placed};
-ghost use Rattle.probe.specs.Scan.{waitingAt, dirtyAt, candidateAt, foundIn, lastUnusedIn, nearerOf, earliestIn, wayOf, victimIn, enoughIn, treeIn};
+ghost use Rattle.probe.specs.Scan.{waitingAt, dirtyAt, candidateAt, foundIn, lastUnusedIn, nearerOf, earliestIn, wayOf, agesFrom, choiceIn, victimIn, enoughIn, treeIn};
 ghost use Rattle.probe.specs.Values.{masksAt, metIs, takenIs, refusedIs, refusalIs, missIs};
 ghost use Rattle.probe.specs.Decided.{Decided};
 
@@ -24,7 +24,10 @@ const RESERVED: u8 = 1;
 
 const VALID: u8 = 2;
 
-// The best candidate so far, with its last-access cycle.
+// The rule that goes by the cycle at which a line was taken.
+const FIFO: usize = 1;
+
+// The best candidate so far, with the cycle by which the rule compares it.
 enum Best {
     Way { way: usize, cycle: u32 },
     Nowhere,
@@ -140,17 +143,24 @@ fn nearer(best: Best, w: usize, k: u32) -> Best
     }
 }
 
-// The candidate of the set with the earliest cycle, the lowest way among equals.
-fn earliest(words: &[u32], marks: &[u8], base: usize, ways: usize, enough: bool) -> Best
-    requires { ⌜ (1 + (base + ways) ≤ length (now words)) × (4 * (base + ways) ≤ length (now marks)) ⌝ }
-    ensures { λ r. ⌜ r ≡ earliestIn (now (words .entry)) (now (marks .entry)) base ways enough ⌝ }
+// The candidate of the set with the earliest cycle of those that begin at `ages`, the lowest way among equals.
+fn earliest(
+    words: &[u32],
+    marks: &[u8],
+    ages: usize,
+    base: usize,
+    ways: usize,
+    enough: bool,
+) -> Best
+    requires { ⌜ (ages + (base + ways) ≤ length (now words)) × (4 * (base + ways) ≤ length (now marks)) ⌝ }
+    ensures { λ r. ⌜ r ≡ earliestIn (now (words .entry)) (now (marks .entry)) ages base ways enough ⌝ }
 {
     let mut best = Best::Nowhere;
     let mut w = 0;
     while w < ways {
         let l = base + w;
         if is_candidate(marks, l, enough) {
-            best = nearer(best, w, words[1 + l]);
+            best = nearer(best, w, words[ages + l]);
         }
         w += 1;
     }
@@ -200,15 +210,35 @@ fn enough_dirty(s: Settings, at: Layout, words: &[u32]) -> bool
     s.dirty * (s.sets * s.ways) <= 100 * dirty
 }
 
-// The way to take over: the last wholly invalid one, else the candidate with the earliest cycle.
-fn victim(words: &[u32], marks: &[u8], base: usize, ways: usize, enough: bool) -> Found
-    requires { ⌜ (1 + (base + ways) ≤ length (now words)) × (4 * (base + ways) ≤ length (now marks)) ⌝ }
-    ensures { λ r. ⌜ r ≡ victimIn (now (words .entry)) (now (marks .entry)) base ways enough ⌝ }
+// Where the cycles begin by which the rule compares candidates.
+fn ages_from(s: Settings, at: Layout) -> usize
+    requires { ⌜ Placed s at ⌝ }
+    ensures { λ r. ⌜ r ≡ agesFrom s ⌝ }
 {
-    let free = last_unused(marks, base, ways);
+    if s.rule == FIFO {
+        return at.taken;
+    }
+    1
+}
+
+// The candidate that the rule chooses.
+fn chosen(s: Settings, at: Layout, words: &[u32], marks: &[u8], base: usize, enough: bool) -> Found
+    requires { ⌜ Placed s at × (agesFrom s + (base + s .ways) ≤ length (now words)) × (4 * (base + s .ways) ≤ length (now marks)) ⌝ }
+    ensures { λ r. ⌜ r ≡ choiceIn s (now (words .entry)) (now (marks .entry)) base (s .ways) enough ⌝ }
+{
+    let ages = ages_from(s, at);
+    way_of(earliest(words, marks, ages, base, s.ways, enough))
+}
+
+// The way to take over: the last wholly invalid one, else the candidate that the rule chooses.
+fn victim(s: Settings, at: Layout, words: &[u32], marks: &[u8], base: usize, enough: bool) -> Found
+    requires { ⌜ Placed s at × (agesFrom s + (base + s .ways) ≤ length (now words)) × (4 * (base + s .ways) ≤ length (now marks)) ⌝ }
+    ensures { λ r. ⌜ r ≡ victimIn s (now (words .entry)) (now (marks .entry)) base (s .ways) enough ⌝ }
+{
+    let free = last_unused(marks, base, s.ways);
     match free {
         Found::At(w) => Found::At(w),
-        Found::Nothing => way_of(earliest(words, marks, base, ways, enough)),
+        Found::Nothing => chosen(s, at, words, marks, base, enough),
     }
 }
 
@@ -333,11 +363,11 @@ fn take_over(
 ) -> Decision
     requires { ⌜ (base + s .ways ≤ linesOf s) × Placed s at × Fit s (now longs) (now words) (now marks) ⌝ }
     ensures { λ r. ⌜ r ≡ missIs s (now (longs .entry)) (now (words .entry)) (now (marks .entry)) base (s .ways)
-        (victimIn (now (words .entry)) (now (marks .entry)) base (s .ways) (enoughIn s (now (words .entry)))) ⌝ }
+        (victimIn s (now (words .entry)) (now (marks .entry)) base (s .ways) (enoughIn s (now (words .entry)))) ⌝ }
 {
     let ways = s.ways;
     let enough = enough_dirty(s, at, words);
-    let v = victim(words, marks, base, ways, enough);
+    let v = victim(s, at, words, marks, base, enough);
     match v {
         Found::At(w) => taken(s, at, longs, words, marks, base, w),
         Found::Nothing => refusal(marks, base, ways),

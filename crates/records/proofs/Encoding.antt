@@ -3,16 +3,21 @@ use mathlib.Core.Path.{_≡_, refl}
 use mathlib.Core.List.{List, [], _∷_, _++_}
 use Prim.Native.Nat.{ℕ, _+_, _≤_, _<_}
 use native.Mathlib.Nat.{mod-eq-of-lt}
+use native.Mathlib.Omega.{arith}
 use lib.Dec.{lit≤}
 use lib.ListN.{length}
 use Rattle.records.specs.Stores.{Laid}
+use Rattle.records.specs.Parts.{given}
 use Rattle.model.specs.Numbers.{answerNumber, refusalNumber}
 use Rattle.model.specs.RecordsOf as records
-use Rattle.model.specs.Records.{lengthOf, bytesOf, kindOf, eventBytes, commandKind, commandBytes}
+use Rattle.model.specs.Records.{lengthOf, bytesOf, kindOf, eventBytes, settingsKind, ruleBytes, givenBytes, commandKind, commandBytes}
 use Rattle.model.specs.declared.Answer.{Answer}
 use Rattle.model.specs.declared.Answer.the-variants.{Hit, HitReserved, Miss, SectorMiss}
 use Rattle.model.specs.declared.Refusal.{Refusal}
 use Rattle.model.specs.declared.Refusal.the-variants as refusal
+use Rattle.model.specs.declared.Given.{Given}
+use Rattle.model.specs.declared.GivenRule.{GivenRule}
+use Rattle.model.specs.declared.GivenRule.the-variants.{LeftOut, Byte}
 use Rattle.model.specs.declared.Event.{Event}
 use Rattle.model.specs.declared.Event.the-variants as ev
 use Rattle.model.specs.declared.Command.{Command}
@@ -40,12 +45,21 @@ refusal-bytes refusal.NotSent e = rw e
 refusal-bytes refusal.BadCycle e = rw e
 refusal-bytes refusal.QueueEmpty e = rw e
 
-pub settings-bytes : (sets ways dirty misses readers queue : ℕ) → ways < 256 → dirty < 256 → misses < 256 → readers < 256 → queue < 256
-    → 0 ∷ (bytesOf 2 sets ++ (ways ∷ dirty ∷ misses ∷ readers ∷ queue ∷ []))
-    ≡ commandBytes (cmd.Settings sets ways dirty misses readers queue)
-unfolding records.commandBytes bytesOf
-settings-bytes sets ways dirty misses readers queue h1 h2 h3 h4 h5 =
+pub numbers-bytes : (s w p m r q : ℕ) → w < 256 → p < 256 → m < 256 → r < 256 → q < 256
+    → bytesOf 2 s ++ (w ∷ p ∷ m ∷ r ∷ q ∷ []) ≡ givenBytes (given s w p m r q LeftOut)
+unfolding bytesOf
+numbers-bytes s w p m r q h1 h2 h3 h4 h5 =
     rw (mod-eq-of-lt h1, mod-eq-of-lt h2, mod-eq-of-lt h3, mod-eq-of-lt h4, mod-eq-of-lt h5)
+
+-- the kind, the numbers and the rule as they are stored
+pub settings-bytes : (g : Given) {k : ℕ} → k ≡ settingsKind (g .rule)
+    → k ∷ (givenBytes (given (g .sets) (g .ways) (g .dirty) (g .misses) (g .readers) (g .queue) LeftOut) ++ ruleBytes (g .rule)) ≡ commandBytes (cmd.Settings g)
+unfolding records.commandBytes bytesOf
+settings-bytes g e = rw e
+
+pub rule-bytes : (r : ℕ) → r < 256 → r ∷ [] ≡ ruleBytes (Byte r)
+unfolding bytesOf
+rule-bytes r h = rw (mod-eq-of-lt h)
 
 -- ---- lengths
 
@@ -62,9 +76,23 @@ event-length (ev.WriteBackSent b m0 m1 m2 m3) = refl
 event-length (ev.Filled a) = refl
 event-length ev.Ticked = refl
 
+rule-length : (u : GivenRule) → 7 + length (ruleBytes u) ≡ lengthOf (settingsKind u)
+unfolding bytesOf records.lengthOf
+rule-length LeftOut = refl
+rule-length (Byte r) = refl
+
+rule-short : (u : GivenRule) → length (ruleBytes u) ≤ 1
+unfolding bytesOf
+rule-short LeftOut = lit≤ tt
+rule-short (Byte r) = lit≤ tt
+
+pub settings-length : (g : Given) → 1 + (7 + length (ruleBytes (g .rule))) ≡ length (commandBytes (cmd.Settings g))
+unfolding records.commandBytes bytesOf
+settings-length g = omega arith
+
 pub command-length : (c : Command) → length (commandBytes c) ≡ 1 + lengthOf (commandKind c)
 unfolding records.commandBytes bytesOf records.lengthOf
-command-length (cmd.Settings sets ways dirty misses readers queue) = refl
+command-length (cmd.Settings g) = omega (arith, rule-length (g .rule))
 command-length (cmd.Read a k) = refl
 command-length (cmd.Write a m) = refl
 command-length cmd.Send = refl
@@ -85,14 +113,14 @@ event-short ev.Ticked = lit≤ tt
 
 pub command-short : (c : Command) → length (commandBytes c) ≤ 13
 unfolding records.commandBytes bytesOf
-command-short (cmd.Settings sets ways dirty misses readers queue) = lit≤ tt
+command-short (cmd.Settings g) = omega (arith, rule-short (g .rule))
 command-short (cmd.Read a k) = lit≤ tt
 command-short (cmd.Write a m) = lit≤ tt
 command-short cmd.Send = lit≤ tt
 command-short (cmd.Fill a) = lit≤ tt
 command-short (cmd.Tick c) = lit≤ tt
 
--- ---- an event and a command that are known by their case
+-- ---- an event, a command and a rule that are known by their case
 
 module _ {e f : Event} (at : ℕ) where
   pub event-room : {n : ℕ} → at + length (eventBytes e) ≤ n → e ≡ f → at + length (eventBytes f) ≤ n
@@ -107,3 +135,10 @@ module _ {c d : Command} (at : ℕ) where
 
   pub command-laid : {l m : List ℕ} {r : ℕ} → Laid l at (length (commandBytes d)) (commandBytes d) r m → c ≡ d → Laid l at (length (commandBytes c)) (commandBytes c) r m
   command-laid u q = rw q u
+
+module _ {u v : GivenRule} (at : ℕ) where
+  pub rule-room : {n : ℕ} → at + length (ruleBytes u) ≤ n → u ≡ v → at + length (ruleBytes v) ≤ n
+  rule-room h q = rw q at h
+
+  pub rule-laid : {l m : List ℕ} {r : ℕ} → Laid l at (length (ruleBytes v)) (ruleBytes v) r m → u ≡ v → Laid l at (length (ruleBytes u)) (ruleBytes u) r m
+  rule-laid w q = rw q w

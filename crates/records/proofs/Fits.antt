@@ -16,6 +16,7 @@ use Rattle.model.specs.Tables.{Entry, reading, Tables, Outcome, after, eventsOf
 use Rattle.model.specs.Sound.{allOnes, lastCycle, unsentFor, entryOk, kindOk, queuedOk, sound}
 use Rattle.model.specs.Probe.{Spot, Place, no, at, metIn}
 use Rattle.model.specs.Steps.{isMerge, isMiss, join, onMisses, fetches, queuedAs, queuedEvent, sentAs, sentEvent, placesNeeded, entryFull, accept, proceed, access, mark, markedFor, sendFrom, send, ticketsOf, others, sentFor, fill, tick}
+use Rattle.model.specs.Kinds as kinds
 use Rattle.model.specs.RecordsOf as records
 use Rattle.model.specs.Records.{isSettings, lengthOf, numberAt, commandIn, commandOf}
 use Rattle.model.specs.Runner.{stepOf}
@@ -27,6 +28,7 @@ use Rattle.model.specs.declared.Answer.{Answer}
 use Rattle.model.specs.declared.Access.{Access}
 use Rattle.model.specs.declared.Access.the-variants.{Read, Write}
 use Rattle.model.specs.declared.Event.the-variants.{Released}
+use Rattle.model.specs.declared.GivenRule.the-variants.{LeftOut, Byte}
 use Rattle.model.specs.declared.Command.{Command}
 use Rattle.model.specs.declared.Command.the-variants as cmd
 use Rattle.model.specs.declared.CommandRead.the-variants as command
@@ -37,7 +39,7 @@ use Rattle.model.proofs.Fits.{ranged}
 use Rattle.model.proofs.Taken.{Spotted, formed-good}
 use Rattle.model.proofs.Offered.{probe-spotted}
 use Rattle.model.proofs.RunSound.{bytes}
-use Rattle.records.specs.Fitting.{WriteBackFits, Fitting, AllFitting, CommandFits, CommandReadFits, words, stamped, TicketFits}
+use Rattle.records.specs.Fitting.{WriteBackFits, Fitting, AllFitting, RuleFits, CommandFits, CommandReadFits, words, stamped, TicketFits}
 
 -- the events of an outcome fit
 abbrev Fits : Outcome Tables → Type 0
@@ -163,7 +165,7 @@ unfolding tick
 tick-fits c t = by-flag Fits (ltb c (t .now) || ltb lastCycle c) _ _ (λ h. (tt, tt)) (λ h. (tt, tt))
 
 pub step-fits : (S : Settings) (c : Command) (t : Tables) → inRange S ≡ true → sound S t ≡ true → stamped t ≡ true → AllFitting (eventsOf (stepOf S c t))
-step-fits S (cmd.Settings s w p m r q) t range ok few = (tt, tt)
+step-fits S (cmd.Settings g) t range ok few = (tt, tt)
 step-fits S (cmd.Read a k) t range ok few = access-fits S (Read a 0 k) t range ok
 step-fits S (cmd.Write a m) t range ok few = access-fits S (Write a m 0) t range ok
 step-fits S cmd.Send t range ok few = send-fits S t ok
@@ -246,7 +248,7 @@ module _ (t : Tables) (few : stamped t ≡ true) where
   tick-stamped c = by-flag Kept (ltb c (t .now) || ltb lastCycle c) _ _ (λ h. few) (λ h. few)
 
   pub step-stamped : (S : Settings) (c : Command) → CommandFits c → stamped (after t (stepOf S c t)) ≡ true
-  step-stamped S (cmd.Settings s w p m r q) h = few
+  step-stamped S (cmd.Settings g) h = few
   step-stamped S (cmd.Read a k) h = access-stamped S (Read a 0 k) (let l = h .1 in omega arith)
   step-stamped S (cmd.Write a m) h = access-stamped S (Write a m 0) tt
   step-stamped S cmd.Send h = send-stamped
@@ -269,7 +271,7 @@ command-read-fits k b h =
     let n = number-below b h in
     by-flag CommandReadFits (eqb (length b) (lengthOf k)) (commandIn k b) command.None
     (λ e. by-flag CommandReadFits (isSettings k) _ _
-    (λ e. record { sets = n 2 0; ways = n 1 2; dirty = n 1 3; misses = n 1 4; readers = n 1 5; queue = n 1 6 })
+    (λ e. record { sets = n 2 0; ways = n 1 2; dirty = n 1 3; misses = n 1 4; readers = n 1 5; queue = n 1 6; rule = by-flag RuleFits (eqb k kinds.ruled) (Byte (numberAt b 7 1)) LeftOut (λ e. n 1 7) (λ e. tt) })
     (λ e. by-flag CommandReadFits (eqb k 1) _ _ (λ e. (n 8 0, n 4 8))
     (λ e. by-flag CommandReadFits (eqb k 2) _ _ (λ e. (n 8 0, n 4 8))
     (λ e. by-flag CommandReadFits (eqb k 3) _ _ (λ e. tt)

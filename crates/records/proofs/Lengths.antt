@@ -1,7 +1,7 @@
 -- The constant table of lengths: its rule, by one computed test over the whole table; no kind is past it; the kinds of commands and of settings.
 use mathlib.Core.Path.{_≡_, refl, sym, _∙_}
 use mathlib.Core.Logic.{⊎-elim}
-use mathlib.Core.Bool.{Bool, true, false}
+use mathlib.Core.Bool.{Bool, true, false, _||_}
 use mathlib.Core.List.{List, [], _∷_, _++_}
 use Prim.Native.Nat.{ℕ, _≤_, _<_}
 use native.Mathlib.Omega.{arith}
@@ -16,7 +16,7 @@ use Rattle.model.proofs.Below.{every-at}
 
 abbrev pub lengths : List ℕ
 lengths =
-    7 ∷ 12 ∷ 12 ∷ 0 ∷ 8 ∷ 4 ∷ 255 ∷ 255 ∷ 255 ∷ 255 ∷ 255 ∷ 255 ∷ 255 ∷ 255 ∷ 255 ∷ 255
+    7 ∷ 12 ∷ 12 ∷ 0 ∷ 8 ∷ 4 ∷ 8 ∷ 255 ∷ 255 ∷ 255 ∷ 255 ∷ 255 ∷ 255 ∷ 255 ∷ 255 ∷ 255
     ∷ 3 ∷ 1 ∷ 8 ∷ 24 ∷ 4 ∷ 8 ∷ 24 ∷ 8 ∷ 0 ∷ []
 
 abbrev ruled : ℕ → Bool
@@ -54,13 +54,13 @@ none n k (x ∷ xs) e h =
     let p : x .kind < n = ltb-true (x .kind) n (and-1 (ltb (x .kind) n) (below n xs) e) in
     rw (ne-eqb k (x .kind) (λ q. omega arith)) (none n k xs (and-2 (ltb (x .kind) n) (below n xs) e) h)
 
-pub command-kinds : (k : ℕ) → ltb k 6 ≡ isCommand k
+pub command-kinds : (k : ℕ) → ltb k 7 ≡ isCommand k
 unfolding below
 command-kinds k =
     ⊎-elim
-    (λ e. same-is (ltb k 6) (isCommand k) (every-at (λ i. same (ltb i 6) (isCommand i)) 6 k refl (ltb-true k 6 e)))
-    (λ e. e ∙ sym (none 6 k commandKinds refl (ltb-false k 6 e)))
-    (flag (ltb k 6))
+    (λ e. same-is (ltb k 7) (isCommand k) (every-at (λ i. same (ltb i 7) (isCommand i)) 7 k refl (ltb-true k 7 e)))
+    (λ e. e ∙ sym (none 7 k commandKinds refl (ltb-false k 7 e)))
+    (flag (ltb k 7))
 
-pub settings-kinds : (k : ℕ) → eqb k 0 ≡ isSettings k
-settings-kinds k = sym (or-false (eqb k 0))
+pub settings-kinds : (k : ℕ) → (eqb k 0 || eqb k 6) ≡ isSettings k
+settings-kinds k = rw (or-false (eqb k 6))

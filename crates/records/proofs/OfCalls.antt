@@ -12,7 +12,7 @@ use lib.ListN.{length, getD}
 use Rattle.model.specs.Words.{all, table, fit, places, joined}
 use Rattle.model.specs.Range.{inRange, linesOf}
 use Rattle.model.specs.Tables.{Line, Entry, Tables, Outcome, after, eventsOf, fresh, dirty, dirtyLines}
-use Rattle.model.specs.Lent.{Lent, lengthsFit, tablesOf, encode, ticketAt, entryAt, ticketCountAt, cycleOf, masksOf, ticketsIn, queueMasksOf, wordBlocks}
+use Rattle.model.specs.Lent.{Lent, lengthsFit, tablesOf, encode, ticketAt, entryAt, ticketCountAt, cycleOf, takenOf, masksOf, ticketsIn, queueMasksOf, wordBlocks}
 use Rattle.model.specs.Sound.{allOnes, lastCycle, maskOk, sectorOk, lineOk, queuedOk, sound}
 use Rattle.model.specs.SoundLent.{soundLent}
 use Rattle.model.specs.Calls.{call}
@@ -131,6 +131,13 @@ module _ (S : Settings) (range : inRange S ≡ true) (t : Tables) (ok : Sound S 
       let n = now-low in
       one-word (l .cycle) (omega arith)
 
+  taken-words : (l : Line) → In l (t .lines) → words (takenOf l) ≡ true
+  taken-words l m =
+      let h = leb-true (l .cycle) (t .now) (line-is l m .1 .past) in
+      let k = leb-true (l .taken) (l .cycle) (line-is l m .1 .since) in
+      let n = now-low in
+      one-word (l .taken) (omega arith)
+
   -- no more lines are dirty than there are
   count-word : words (t .dirtyCount ∷ []) ≡ true
   count-word =
@@ -147,7 +154,8 @@ module _ (S : Settings) (range : inRange S ≡ true) (t : Tables) (ok : Sound S 
       (and-i (places-words masksOf 4 (linesOf S) (t .lines) (λ l m. masks-words (l .sectors) (line-is l m .1 .sectorly)))
       (and-i (places-words ticketsIn (S .readers) (S .misses) (t .misses) (λ e m. all-in (λ e. words (e .tickets)) (t .misses) few m))
       (and-i (places-words queueMasksOf 4 (S .queue) (t .queue) (λ q m. queue-words (t .misses) q (all-in (queuedOk (t .misses)) (t .queue) (ok .lining) m)))
-      (and-i count-word refl))))))
+      (and-i count-word
+      (and-i (places-words takenOf 1 (linesOf S) (t .lines) taken-words) refl)))))))
 
 pub encode-small : (S : Settings) → inRange S ≡ true → (t : Tables) → sound S t ≡ true → stamped t ≡ true → Small (encode S t)
 encode-small S range t ok few i = leb-true (getD (encode S t .words) i 0) allOnes (all-at (λ m. leb m allOnes) refl (encode S t .words) i (encode-words S range t (parts S t ok) few))

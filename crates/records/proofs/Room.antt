@@ -184,7 +184,7 @@ sound-few S t r h =
     (λ e i. le-leb (length (e .tickets)) 8 (le-trans (entry-few S t e (all-in (entryOk S t) (t .misses) m i)) (readers-most S r)))
 
 pub step-takes : (S : Settings) (c : Command) (t : Tables) → inRange S ≡ true → sound S t ≡ true → Takes fillBytes (stepOf S c t)
-step-takes S (cmd.Settings s w p m r q) t e h = refused-within _ SettingOutOfRange (lit≤ tt)
+step-takes S (cmd.Settings g) t e h = refused-within _ SettingOutOfRange (lit≤ tt)
 step-takes S (cmd.Read a k) t e h = takes-more (access-takes S (Read a 0 k) t) (lit≤ tt)
 step-takes S (cmd.Write a m) t e h = takes-more (access-takes S (Write a m 0) t) (lit≤ tt)
 step-takes S cmd.Send t e h = takes-more (send-takes t) (lit≤ tt)

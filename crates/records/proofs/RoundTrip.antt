@@ -4,24 +4,46 @@ use mathlib.Core.List.{List, [], _∷_, _++_, append-assoc, append-nil}
 use Prim.Native.Nat.{ℕ, zero, suc, _+_, _≤_, _<_}
 use native.Mathlib.Omega.{arith}
 use borrow.Author.Tests.{le-ltb, lt-ltb}
+use mathlib.Core.Bool.{true}
+use lib.Dec.{eqb}
 use lib.ListN.{length, getD, take, drop, length-append}
 use lib.Seq.{getD-append-seam, drop-append-add, take-append-seam, sets, sets-eq, length-take-le}
+use Rattle.model.specs.Words.{pick}
+use Rattle.model.specs.Kinds as kinds
 use Rattle.model.specs.RecordsOf as records
-use Rattle.model.specs.Records.{lengthOf, bytesOf, numberAt, kindOf, bodyBytes, eventBytes, logBytes, eventOf, eventAt, commandKind, commandBody, commandBytes, commandOf, commandAt, readAt, bodyAt, parsed, eventsFrom, eventsIn}
+use Rattle.model.specs.Records.{lengthOf, isSettings, bytesOf, numberAt, kindOf, bodyBytes, eventBytes, logBytes, eventOf, eventAt, commandKind, commandBody, commandBytes, settingsKind, ruleBytes, givenBytes, commandIn, commandOf, commandAt, readAt, bodyAt, parsed, eventsFrom, eventsIn}
 use Rattle.model.specs.declared.Answer.the-variants.{Hit, HitReserved, Miss, SectorMiss}
 use Rattle.model.specs.declared.Refusal.the-variants as refusal
 use Rattle.model.specs.declared.Event.{Event}
 use Rattle.model.specs.declared.Event.the-variants as ev
 use Rattle.model.specs.declared.EventRead.the-variants as event
+use Rattle.model.specs.declared.Given.{Given}
+use Rattle.model.specs.declared.GivenRule.{GivenRule}
+use Rattle.model.specs.declared.GivenRule.the-variants.{LeftOut, Byte}
 use Rattle.model.specs.declared.Command.{Command}
 use Rattle.model.specs.declared.Command.the-variants as cmd
 use Rattle.model.specs.declared.CommandRead.the-variants as command
 use Rattle.model.specs.declared.Record.the-variants.{Whole}
-use Rattle.records.specs.Fitting.{Fitting, AllFitting, CommandFits}
+use Rattle.records.specs.Fitting.{Fitting, AllFitting, RuleFits, GivenFits, CommandFits}
 use Rattle.records.proofs.Digits.{number-bytes}
 use Rattle.records.proofs.Reading.{read-whole}
 use Rattle.records.proofs.Encoding.{event-length, event-short, command-length, command-short}
 use Rattle.records.proofs.Decoding.{event-whole, command-whole}
+use Rattle.records.proofs.Decoding as decoding
+
+-- ---- how long bodies are
+
+-- a body is as long as the table says, and no body is as long as the table's mark
+abbrev Sized : ℕ → List ℕ → Type 0
+Sized k bs = (length bs ≡ lengthOf k) × (length bs ≤ 24)
+
+event-sized : (e : Event) → Sized (kindOf e) (bodyBytes e)
+unfolding records.eventBytes
+event-sized e = let n = event-length e in let s = event-short e in (omega arith, omega arith)
+
+command-sized : (c : Command) → Sized (commandKind c) (commandBody c)
+unfolding records.commandBytes
+command-sized c = let n = command-length c in let s = command-short c in (omega arith, omega arith)
 
 -- ---- a body by itself
 
@@ -53,10 +75,24 @@ body-back (ev.WriteBackSent b m0 m1 m2 m3) h =
 body-back (ev.Filled a) h = rw (number-bytes 8 a h)
 body-back ev.Ticked h = refl
 
+-- a settings record by its rule
+rule-kind : (u : GivenRule) → isSettings (settingsKind u) ≡ true
+rule-kind LeftOut = refl
+rule-kind (Byte r) = refl
+
+rule-back : (u : GivenRule) → RuleFits u → pick (eqb (settingsKind u) kinds.ruled) (Byte (numberAt (ruleBytes u) 0 1)) LeftOut ≡ u
+unfolding bytesOf numberAt
+rule-back LeftOut h = refl
+rule-back (Byte r) h = rw (number-bytes 1 r h)
+
+settings-back : (g : Given) → GivenFits g → commandIn (settingsKind (g .rule)) (givenBytes g) ≡ command.Got (cmd.Settings g)
+unfolding bytesOf numberAt
+settings-back g h =
+    rw (rule-kind (g .rule), number-bytes 2 (g .sets) (h .sets), number-bytes 1 (g .ways) (h .ways), number-bytes 1 (g .dirty) (h .dirty), number-bytes 1 (g .misses) (h .misses), number-bytes 1 (g .readers) (h .readers), number-bytes 1 (g .queue) (h .queue), rule-back (g .rule) (h .rule))
+
 command-body-back : (c : Command) → CommandFits c → commandOf (commandKind c) (commandBody c) ≡ command.Got c
 unfolding records.commandOf bytesOf numberAt records.lengthOf
-command-body-back (cmd.Settings s w p m r q) h =
-    rw (number-bytes 2 s (h .sets), number-bytes 1 w (h .ways), number-bytes 1 p (h .dirty), number-bytes 1 m (h .misses), number-bytes 1 r (h .readers), number-bytes 1 q (h .queue))
+command-body-back (cmd.Settings g) h = decoding.command-sized (settingsKind (g .rule)) (givenBytes g) _ refl (command-sized (cmd.Settings g) .0) ∙ settings-back g h
 command-body-back (cmd.Read a k) h = rw (number-bytes 8 a (h .0), number-bytes 4 k (h .1))
 command-body-back (cmd.Write a m) h = rw (number-bytes 8 a (h .0), number-bytes 4 m (h .1))
 command-body-back cmd.Send h = refl
@@ -80,18 +116,6 @@ module _ (p q : List ℕ) (k : ℕ) (bs : List ℕ) (sized : length bs ≡ lengt
   pub record-body : bodyAt stream (length p) ≡ bs
   unfolding records.bodyAt
   record-body = rw record-read (ap (take (length bs)) (drop-append-add p (k ∷ (bs ++ q)) 1) ∙ take-append-seam bs q)
-
--- a body is as long as the table says, and no body is as long as the table's mark
-abbrev Sized : ℕ → List ℕ → Type 0
-Sized k bs = (length bs ≡ lengthOf k) × (length bs ≤ 24)
-
-event-sized : (e : Event) → Sized (kindOf e) (bodyBytes e)
-unfolding records.eventBytes
-event-sized e = let n = event-length e in let s = event-short e in (omega arith, omega arith)
-
-command-sized : (c : Command) → Sized (commandKind c) (commandBody c)
-unfolding records.commandBytes
-command-sized c = let n = command-length c in let s = command-short c in (omega arith, omega arith)
 
 pub event-back : (p q : List ℕ) (e : Event) → Fitting e → eventAt (p ++ (eventBytes e ++ q)) (length p) ≡ event.Got e
 unfolding records.eventBytes

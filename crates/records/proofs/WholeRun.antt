@@ -6,6 +6,9 @@ use lib.ListN.{length}
 use Rattle.model.specs.RecordsOf as records
 use Rattle.model.specs.Records.{bytesOf, numberAt, logBytes, commandBytes, commandAt, readAt, eventsIn, parsed}
 use Rattle.model.specs.declared.Answer.the-variants.{HitReserved, Miss}
+use Rattle.model.specs.declared.Given.{Given}
+use Rattle.model.specs.declared.GivenRule.{GivenRule}
+use Rattle.model.specs.declared.GivenRule.the-variants.{LeftOut, Byte}
 use Rattle.model.specs.declared.Event.{Event}
 use Rattle.model.specs.declared.Event.the-variants as ev
 use Rattle.model.specs.declared.Command.the-variants as cmd
@@ -32,24 +35,29 @@ run-read : eventsIn written ≡ parsed told
 unfolding records.eventsIn records.eventsFrom records.eventAt records.readAt records.eventOf records.lengthOf numberAt
 run-read = refl
 
+-- the settings of the example, with a rule byte and without one
+abbrev example : GivenRule → Given
+example r = record { sets = 1; ways = 2; dirty = 50; misses = 2; readers = 2; queue = 4; rule = r }
+
 abbrev commands : List ℕ
 commands =
-    commandBytes (cmd.Settings 1 2 50 2 2 4)
-    ++ (commandBytes (cmd.Read 0 7) ++ (commandBytes (cmd.Read 0 9) ++ (commandBytes cmd.Send ++ (commandBytes (cmd.Fill 0) ++ (0x12 ∷ 6 ∷ [])))))
+    commandBytes (cmd.Settings (example LeftOut))
+    ++ (commandBytes (cmd.Read 0 7) ++ (commandBytes (cmd.Read 0 9) ++ (commandBytes cmd.Send ++ (commandBytes (cmd.Fill 0) ++ (commandBytes (cmd.Settings (example (Byte 1))) ++ (0x12 ∷ 7 ∷ []))))))
 
--- the commands one after the other; then an event's kind with its body cut short, and a kind in neither list
+-- the commands one after the other, the last a settings record with a rule byte; then an event's kind with its body cut short, and a kind in neither list
 abbrev Commands-read : Type 0
 Commands-read =
-    (commandAt commands 0 ≡ command.Got (cmd.Settings 1 2 50 2 2 4))
+    (commandAt commands 0 ≡ command.Got (cmd.Settings (example LeftOut)))
     × (commandAt commands 8 ≡ command.Got (cmd.Read 0 7))
     × (commandAt commands 21 ≡ command.Got (cmd.Read 0 9))
     × (commandAt commands 34 ≡ command.Got cmd.Send)
     × (commandAt commands 35 ≡ command.Got (cmd.Fill 0))
     × (readAt commands 35 ≡ Whole 4 36 8 44)
-    × (readAt commands 44 ≡ Stopped CutShort)
-    × (readAt commands 45 ≡ Stopped UnknownKind)
-    × (readAt commands 46 ≡ Stopped CutShort)
+    × (commandAt commands 44 ≡ command.Got (cmd.Settings (example (Byte 1))))
+    × (readAt commands 53 ≡ Stopped CutShort)
+    × (readAt commands 54 ≡ Stopped UnknownKind)
+    × (readAt commands 55 ≡ Stopped CutShort)
 
 commands-read : Commands-read
 unfolding records.commandBytes bytesOf records.commandAt records.commandOf records.readAt records.lengthOf numberAt
-commands-read = (refl, refl, refl, refl, refl, refl, refl, refl, refl)
+commands-read = (refl, refl, refl, refl, refl, refl, refl, refl, refl, refl)

@@ -8,6 +8,9 @@ use Rattle.model.specs.Tables.{Tables}
 use Rattle.model.specs.Sound.{allOnes}
 use Rattle.model.specs.declared.Access.{Access}
 use Rattle.model.specs.declared.Access.the-variants.{Read, Write}
+use Rattle.model.specs.declared.Given.{Given}
+use Rattle.model.specs.declared.GivenRule.{GivenRule}
+use Rattle.model.specs.declared.GivenRule.the-variants.{LeftOut, Byte}
 use Rattle.model.specs.declared.Event.{Event}
 use Rattle.model.specs.declared.Event.the-variants as ev
 use Rattle.model.specs.declared.Command.{Command}
@@ -39,16 +42,21 @@ AllFitting [] = Unit
 AllFitting (e ∷ es) = Fitting e × AllFitting es
 
 -- sets 2 bytes, the other settings 1 each
-pub record SettingsFit (s w p m r q : ℕ) : Type 0 where
-  pub sets : s < 2 ^ 16
-  pub ways : w < 2 ^ 8
-  pub dirty : p < 2 ^ 8
-  pub misses : m < 2 ^ 8
-  pub readers : r < 2 ^ 8
-  pub queue : q < 2 ^ 8
+abbrev pub RuleFits : GivenRule → Type 0
+RuleFits LeftOut = Unit
+RuleFits (Byte r) = r < 2 ^ 8
+
+pub record GivenFits (g : Given) : Type 0 where
+  pub sets : g .sets < 2 ^ 16
+  pub ways : g .ways < 2 ^ 8
+  pub dirty : g .dirty < 2 ^ 8
+  pub misses : g .misses < 2 ^ 8
+  pub readers : g .readers < 2 ^ 8
+  pub queue : g .queue < 2 ^ 8
+  pub rule : RuleFits (g .rule)
 
 abbrev pub CommandFits : Command → Type 0
-CommandFits (cmd.Settings sets ways dirty misses readers queue) = SettingsFit sets ways dirty misses readers queue
+CommandFits (cmd.Settings g) = GivenFits g
 CommandFits (cmd.Read a k) = (a < 2 ^ 64) × (k < 2 ^ 32)
 CommandFits (cmd.Write a m) = (a < 2 ^ 64) × (m < 2 ^ 32)
 CommandFits cmd.Send = Unit

@@ -1,4 +1,4 @@
--- What the writers promise of a slice; events and commands whose numbers fit their bytes; the parts of a call's events.
+-- What the writers promise of a slice; events and commands whose numbers fit their bytes; the parts of a call's events, settings by their numbers.
 pub mod Stores
 pub mod Fitting
 pub mod Parts

@@ -1,7 +1,10 @@
 // Records, events and commands read out of a stream of any bytes.
 ghost use mathlib.Core.Path.{_≡_};
-ghost use Rattle.model.specs.Records.{lengthOf, isCommand, isSettings, readAt, answered, refusedBy, eventOf, eventAt, commandOf, commandAt};
+ghost use Rattle.model.specs.Records.{lengthOf, isCommand, isSettings, readAt, answered, refusedBy, eventOf, eventAt, ruleIn, givenIn, commandOf, commandAt};
+use crate::format::COMMAND_KINDS;
 use crate::format::LENGTHS;
+use crate::format::RULE_PLACE;
+use crate::format::RULED_KIND;
 use crate::format::SETTINGS_KIND;
 use crate::numbers::number1;
 use crate::numbers::number2;
@@ -12,6 +15,8 @@ use model::Command;
 use model::CommandRead;
 use model::Event;
 use model::EventRead;
+use model::Given;
+use model::GivenRule;
 use model::Record;
 use model::Refusal;
 use model::Stop;
@@ -28,14 +33,14 @@ pub fn length_of(kind: u8) -> u8
 pub fn is_command(kind: u8) -> bool
     ensures { λ r. ⌜ r ≡ isCommand kind ⌝ }
 {
-    kind < 6
+    kind < COMMAND_KINDS
 }
 
 // Whether a kind is that of a settings record.
 pub fn is_settings(kind: u8) -> bool
     ensures { λ r. ⌜ r ≡ isSettings kind ⌝ }
 {
-    kind == SETTINGS_KIND
+    (kind == SETTINGS_KIND) | (kind == RULED_KIND)
 }
 
 // "it refuses with 14 (a kind in neither list), then 15, also where no byte is left"
@@ -167,6 +172,32 @@ pub fn event_at(stream: &[u8], at: usize) -> EventRead
     }
 }
 
+// The rule byte, where the kind has one.
+fn rule_in(kind: u8, b: &[u8]) -> GivenRule
+    ensures { λ r. ⌜ r ≡ ruleIn kind (now (b .entry)) ⌝ }
+{
+    if kind == RULED_KIND {
+        GivenRule::Byte(number1(b, RULE_PLACE))
+    } else {
+        GivenRule::LeftOut
+    }
+}
+
+// The settings of a body of a settings kind.
+fn given_in(kind: u8, b: &[u8]) -> Given
+    ensures { λ r. ⌜ r ≡ givenIn kind (now (b .entry)) ⌝ }
+{
+    Given {
+        sets: number2(b, 0),
+        ways: number1(b, 2),
+        dirty: number1(b, 3),
+        misses: number1(b, 4),
+        readers: number1(b, 5),
+        queue: number1(b, 6),
+        rule: rule_in(kind, b),
+    }
+}
+
 // The command of a body of a kind, unjudged.
 pub fn command_of(kind: u8, b: &[u8]) -> CommandRead
     ensures { λ r. ⌜ r ≡ commandOf kind (now (b .entry)) ⌝ }
@@ -174,15 +205,10 @@ pub fn command_of(kind: u8, b: &[u8]) -> CommandRead
     if b.len() != length_of(kind) as usize {
         return CommandRead::None;
     }
+    if is_settings(kind) {
+        return CommandRead::Got(Command::Settings(given_in(kind, b)));
+    }
     match kind {
-        0 => CommandRead::Got(Command::Settings {
-            sets: number2(b, 0),
-            ways: number1(b, 2),
-            dirty: number1(b, 3),
-            misses: number1(b, 4),
-            readers: number1(b, 5),
-            queue: number1(b, 6),
-        }),
         1 => CommandRead::Got(Command::Read {
             address: number8(b, 0),
             ticket: number4(b, 8),

@@ -5,9 +5,11 @@ ghost use mathlib.Core.List.{_∷_, _++_};
 ghost use lib.ListN.{length};
 ghost use Rattle.records.specs.Stores.{Laid};
 ghost use Rattle.records.specs.Fitting.{Fitting, AllFitting, CommandFits};
-ghost use Rattle.records.specs.Parts.{queuedTold, ticketsTold};
+ghost use Rattle.records.specs.Parts.{queuedTold, ticketsTold, given};
 ghost use Rattle.model.specs.Calls.{eventsTold};
-ghost use Rattle.model.specs.Records.{bytesOf, writeBackBytes, eventBytes, logBytes, commandBytes};
+ghost use Rattle.model.specs.Records.{bytesOf, writeBackBytes, eventBytes, logBytes, settingsKind, ruleBytes, givenBytes, commandBytes};
+use crate::format::RULED_KIND;
+use crate::format::RULED_SIZE;
 use crate::format::SETTINGS_KIND;
 use crate::format::SETTINGS_SIZE;
 use crate::numbers::put1;
@@ -17,6 +19,8 @@ use crate::numbers::put8;
 use model::Answer;
 use model::Command;
 use model::Event;
+use model::Given;
+use model::GivenRule;
 use model::Queued;
 use model::Refusal;
 use model::Told;
@@ -147,7 +151,28 @@ fn put_request(out: &mut [u8], at: usize, kind: u8, address: u64, x: u32) -> usi
     put4(out, i, x)
 }
 
-fn put_settings(
+// The kind of a settings record with this rule.
+fn settings_kind(rule: GivenRule) -> u8
+    ensures { λ r. ⌜ r ≡ settingsKind rule ⌝ }
+{
+    match rule {
+        GivenRule::LeftOut => SETTINGS_KIND,
+        GivenRule::Byte(_) => RULED_KIND,
+    }
+}
+
+fn put_rule(out: &mut [u8], at: usize, rule: GivenRule) -> usize
+    requires { ⌜ at + length (ruleBytes rule) ≤ length (now out) ⌝ }
+    ensures { λ r. ⌜ Laid (now (out .entry)) at (length (ruleBytes rule)) (ruleBytes rule) r (now (out .exit)) ⌝ }
+{
+    match rule {
+        GivenRule::LeftOut => at,
+        GivenRule::Byte(r) => put1(out, at, r),
+    }
+}
+
+// The settings in front of the rule byte.
+fn put_numbers(
     out: &mut [u8],
     at: usize,
     sets: u16,
@@ -157,17 +182,53 @@ fn put_settings(
     readers: u8,
     queue: u8,
 ) -> usize
-    requires { ⌜ at + length (commandBytes (Command.Settings sets ways dirty misses readers queue)) ≤ length (now out) ⌝ }
-    ensures { λ r. ⌜ Laid (now (out .entry)) at (length (commandBytes (Command.Settings sets ways dirty misses readers queue)))
-        (commandBytes (Command.Settings sets ways dirty misses readers queue)) r (now (out .exit)) ⌝ }
+    requires { ⌜ at + 7 ≤ length (now out) ⌝ }
+    ensures { λ r. ⌜ Laid (now (out .entry)) at 7 (givenBytes (given sets ways dirty misses readers queue GivenRule.LeftOut)) r (now (out .exit)) ⌝ }
 {
-    let i = put1(out, at, SETTINGS_KIND);
-    let j = put2(out, i, sets);
-    let k = put1(out, j, ways);
-    let l = put1(out, k, dirty);
-    let m = put1(out, l, misses);
-    let n = put1(out, m, readers);
-    put1(out, n, queue)
+    let i = put2(out, at, sets);
+    let j = put1(out, i, ways);
+    let k = put1(out, j, dirty);
+    let l = put1(out, k, misses);
+    let m = put1(out, l, readers);
+    put1(out, m, queue)
+}
+
+fn put_settings(out: &mut [u8], at: usize, g: Given) -> usize
+    requires { ⌜ at + length (commandBytes (Command.Settings g)) ≤ length (now out) ⌝ }
+    ensures { λ r. ⌜ Laid (now (out .entry)) at (length (commandBytes (Command.Settings g))) (commandBytes (Command.Settings g)) r (now (out .exit)) ⌝ }
+{
+    let rule = g.rule;
+    let i = put1(out, at, settings_kind(rule));
+    let j = put_numbers(
+        out,
+        i,
+        g.sets,
+        g.ways,
+        g.dirty,
+        g.misses,
+        g.readers,
+        g.queue,
+    );
+    put_rule(out, j, rule)
+}
+
+// How many bytes settings are, with numbers that fit theirs, as in event_size.
+fn settings_size(
+    sets: u16,
+    ways: u8,
+    dirty: u8,
+    misses: u8,
+    readers: u8,
+    queue: u8,
+    rule: GivenRule,
+) -> usize
+    ensures { λ r. ⌜ (r ≡ length (commandBytes (Command.Settings (given sets ways dirty misses readers queue rule))))
+        × CommandFits (Command.Settings (given sets ways dirty misses readers queue rule)) ⌝ }
+{
+    match rule {
+        GivenRule::LeftOut => SETTINGS_SIZE,
+        GivenRule::Byte(_rule) => RULED_SIZE,
+    }
 }
 
 // How many bytes a command is, with numbers that fit theirs, as in event_size.
@@ -175,14 +236,10 @@ pub(crate) fn command_size(c: Command) -> usize
     ensures { λ r. ⌜ (r ≡ length (commandBytes c)) × CommandFits c ⌝ }
 {
     match c {
-        Command::Settings {
-            sets: _sets,
-            ways: _ways,
-            dirty: _dirty,
-            misses: _misses,
-            readers: _readers,
-            queue: _queue,
-        } => SETTINGS_SIZE,
+        Command::Settings(g) => {
+            let rule = g.rule;
+            settings_size(g.sets, g.ways, g.dirty, g.misses, g.readers, g.queue, rule)
+        }
         Command::Read {
             address: _address,
             ticket: _ticket,
@@ -202,14 +259,7 @@ pub(crate) fn put_command(c: Command, out: &mut [u8], at: usize) -> usize
     ensures { λ r. ⌜ Laid (now (out .entry)) at (length (commandBytes c)) (commandBytes c) r (now (out .exit)) ⌝ }
 {
     match c {
-        Command::Settings {
-            sets,
-            ways,
-            dirty,
-            misses,
-            readers,
-            queue,
-        } => put_settings(out, at, sets, ways, dirty, misses, readers, queue),
+        Command::Settings(g) => put_settings(out, at, g),
         Command::Read { address, ticket } => put_request(out, at, 1, address, ticket),
         Command::Write { address, mask } => put_request(out, at, 2, address, mask),
         Command::Send => put1(out, at, 3),

@@ -25,7 +25,7 @@ pub(crate) fn new_trial() -> Trial {
         len: 0,
         room: 256,
         longs: 8,
-        words: 32,
+        words: 34,
         marks: 24,
     }
 }
@@ -92,13 +92,14 @@ fn with_sets(sets: u64) -> Settings {
         misses: 2,
         readers: 2,
         queue: 4,
+        rule: 0,
     }
 }
 
 // Fresh tables of those settings, in the numbers that they take.
 fn make_fresh(longs: &mut [u64], words: &mut [u32], marks: &mut [u8]) {
     let l = scripts::least(8, longs.len());
-    let w = scripts::least(32, words.len());
+    let w = scripts::least(34, words.len());
     let m = scripts::least(24, marks.len());
     cache::fresh(
         with_sets(1),

@@ -49,7 +49,7 @@ lengths-out S h = rw h
 
 pub record Most (n : Lengths) : Type 0 where
   pub longs : n .longs ≤ 1152
-  pub words : n .words ≤ 5890
+  pub words : n .words ≤ 6914
   pub marks : n .marks ≤ 8384
 
 most-of : (S : Settings) → Most (lengthsOf S)

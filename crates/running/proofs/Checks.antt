@@ -92,12 +92,12 @@ there-by true false = refl
 there-by false cut = refl
 
 -- a command's body is at most twelve bytes
-short : every 6 (λ k. leb (lengthOf k) 12) ≡ true
+short : every 7 (λ k. leb (lengthOf k) 12) ≡ true
 unfolding records.lengthOf
 short = refl
 
 command-short : (k : ℕ) → isCommand k ≡ true → lengthOf k ≤ 12
-command-short k c = leb-true (lengthOf k) 12 (every-at (λ k. leb (lengthOf k) 12) 6 k short (ltb-true k 6 (command-kinds k ∙ c)))
+command-short k c = leb-true (lengthOf k) 12 (every-at (λ k. leb (lengthOf k) 12) 7 k short (ltb-true k 7 (command-kinds k ∙ c)))
 
 cut-head : (k : ℕ) → isCommand k ≡ true → headStop k (Stopped CutShort) ≡ CutShort
 unfolding headStop

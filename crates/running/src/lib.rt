@@ -62,6 +62,7 @@ fn settings_in(body: &[u8]) -> Settings
         misses: records::number1(body, 4) as usize,
         readers: records::number1(body, 5) as usize,
         queue: records::number1(body, 6) as usize,
+        rule: records::number1(body, 7) as usize,
     }
 }
 
@@ -149,14 +150,11 @@ fn step_of(
         (now (events .exit)) (lent (now (longs .exit)) (now (words .exit)) (now (marks .exit))) ⌝ }
 {
     match x {
-        Command::Settings {
-            sets: _,
-            ways: _,
-            dirty: _,
-            misses: _,
-            readers: _,
-            queue: _,
-        } => records::write_told(tables::refused(Refusal::SettingOutOfRange), events, out),
+        Command::Settings(_) => records::write_told(
+            tables::refused(Refusal::SettingOutOfRange),
+            events,
+            out,
+        ),
         Command::Read { address, ticket } => {
             let access = Access::Read {
                 address,

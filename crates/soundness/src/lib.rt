@@ -33,7 +33,7 @@ pub fn tables_sound(s: Settings, at: Layout, longs: &[u64], words: &[u32], marks
     requires { ⌜ Placed s at × Fit s (now longs) (now words) (now marks) ⌝ }
     ensures { λ r. ⌜ r ≡ soundNumbers s (now (longs .entry)) (now (words .entry)) (now (marks .entry)) ⌝ }
 {
-    if !((words[0] <= 0xFFFF_FFFE) & lines_fine(s, longs, words, marks)) {
+    if !((words[0] <= 0xFFFF_FFFE) & lines_fine(s, at, longs, words, marks)) {
         return false;
     }
     sectors_fine(s, at, longs, words, marks)

@@ -1,4 +1,4 @@
-// Conditions 2 to 10 and 17 of sound tables: lines and their sectors. A line looks only into its own set, a RESERVED sector only
+// Conditions 2 to 10, 17, 27 and 28 of sound tables: lines and their sectors. A line looks only into its own set, a RESERVED sector only
 // into the miss table.
 ghost use mathlib.Core.Path.{_≡_};
 ghost use mathlib.Core.Bool.{true};
@@ -41,15 +41,16 @@ fn no_twin(s: Settings, longs: &[u64], words: &[u32], marks: &[u8], first: usize
     true
 }
 
-fn line_fine(s: Settings, longs: &[u64], words: &[u32], marks: &[u8], l: usize) -> bool
-    requires { ⌜ Fit s (now longs) (now words) (now marks) × (l < linesOf s) ⌝ }
+fn line_fine(s: Settings, at: Layout, longs: &[u64], words: &[u32], marks: &[u8], l: usize) -> bool
+    requires { ⌜ Placed s at × Fit s (now longs) (now words) (now marks) × (l < linesOf s) ⌝ }
     ensures { λ r. ⌜ r ≡ is.lineFine s (now (longs .entry)) (now (words .entry)) (now (marks .entry)) l ⌝ }
 {
     let tag = longs[l];
     let cycle = words[1 + l];
+    let taken = words[at.taken + l];
     let latest = words[0];
     if !live(s, longs, words, marks, l) {
-        return (tag == 0) & (cycle == 0);
+        return (tag == 0) & (cycle == 0) & (taken == 0);
     }
     let set = l / s.ways;
     let home = model::set_index(tag, s.sets);
@@ -57,17 +58,24 @@ fn line_fine(s: Settings, longs: &[u64], words: &[u32], marks: &[u8], l: usize) 
         & (tag < 0x1_0000_0000_0000)
         & (home == set)
         & (cycle <= latest)
+        & (taken <= cycle)
         & no_twin(s, longs, words, marks, set * s.ways, l)
 }
 
-pub(crate) fn lines_fine(s: Settings, longs: &[u64], words: &[u32], marks: &[u8]) -> bool
-    requires { ⌜ Fit s (now longs) (now words) (now marks) ⌝ }
+pub(crate) fn lines_fine(
+    s: Settings,
+    at: Layout,
+    longs: &[u64],
+    words: &[u32],
+    marks: &[u8],
+) -> bool
+    requires { ⌜ Placed s at × Fit s (now longs) (now words) (now marks) ⌝ }
     ensures { λ r. ⌜ r ≡ is.linesFine s (now (longs .entry)) (now (words .entry)) (now (marks .entry)) ⌝ }
 {
     let n = s.sets * s.ways;
     let mut l = 0;
     while l < n {
-        if !line_fine(s, longs, words, marks, l) {
+        if !line_fine(s, at, longs, words, marks, l) {
             return false;
         }
         l += 1;

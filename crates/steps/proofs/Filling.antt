@@ -40,6 +40,7 @@ use Rattle.tables.specs.Telling.{telling}
 use Rattle.layout.proofs.Stores.{none}
 use Rattle.layout.proofs.Stands.{Stands, is-stands, stands-encode}
 use Rattle.tables.proofs.Ones.{map-one}
+use Rattle.model.proofs.Keep.{fill-tag, fill-cycle, fill-taken}
 use Rattle.layout.proofs.Lines.{flag-of-bit, tag-at, status-at, lifted, store-stands}
 use Rattle.tables.proofs.Misses.{misses-used, sent-at, count-at, tickets-at, remove-stands, entry-found, entry-missing}
 use Rattle.tables.proofs.Tellings.{refusal-leaves, done-leaves}
@@ -125,14 +126,6 @@ held-of (p ∷ q ∷ r ∷ s ∷ []) tag b l e f0 f1 f2 f3 =
     (held-order (eqb tag b) (isInvalid (p .status)) (isInvalid (q .status)) (isInvalid (r .status)) (isInvalid (s .status)))
 held-of (p ∷ q ∷ r ∷ s ∷ u ∷ xs) tag b l e f0 f1 f2 f3 = absurd (omega arith)
 
-fill-tag : (a : ℕ) (l : Line) → fillLine a l .tag ≡ l .tag
-unfolding fillLine
-fill-tag a l = by-flag (λ (m : Line). m .tag ≡ l .tag) (holds (blockOf a) l) _ _ (λ e. refl) (λ e. refl)
-
-fill-cycle : (a : ℕ) (l : Line) → fillLine a l .cycle ≡ l .cycle
-unfolding fillLine
-fill-cycle a l = by-flag (λ (m : Line). m .cycle ≡ l .cycle) (holds (blockOf a) l) _ _ (λ e. refl) (λ e. refl)
-
 fill-held : (a : ℕ) (l : Line) → holds (blockOf a) l ≡ true → fillLine a l .sectors ≡ arrivedAt (sectorIndex a) (l .sectors)
 unfolding fillLine
 fill-held a l e = rw e
@@ -192,7 +185,7 @@ module _ (S : Settings) (t : Tables) (ok : Sound S t) {longs words marks : List 
       ∙ ap (λ (b : Bool). t .dirtyCount + one (dirty (fillLine a x)) - one b) before in
       let counted : Stands S longs (put words (at .dirty) (d ∷ [])) marks (withDirtyCount d t) = dirty-count-stands S t h p d refl in
       rw (fill-one a l k e)
-      (store-stands S (withDirtyCount d t) counted p (lines-are S t ok) l k (fillLine a x) len (fill-tag a x) (fill-cycle a x) (
+      (store-stands S (withDirtyCount d t) counted p (lines-are S t ok) l k (fillLine a x) len (fill-tag a x) (fill-cycle a x) (fill-taken a x) (
         f .filled .words-are
             ∙ ap (λ (y : List Sector). put (countAfter S at l words marks y) (at .masks + 4 * l) (masks y)) is
             ∙ ap (λ (n : ℕ). put (put words (at .dirty) (n ∷ [])) (at .masks + 4 * l) (masks (fillLine a x .sectors))) same,

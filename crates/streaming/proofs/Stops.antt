@@ -205,7 +205,8 @@ command-short (suc (suc zero)) z = rw (← length-is 2 (omega arith)) (omega ari
 command-short (suc (suc (suc zero))) z = rw (← length-is 3 (omega arith)) (omega arith)
 command-short (suc (suc (suc (suc zero)))) z = rw (← length-is 4 (omega arith)) (omega arith)
 command-short (suc (suc (suc (suc (suc zero))))) z = rw (← length-is 5 (omega arith)) (omega arith)
-command-short (suc (suc (suc (suc (suc (suc k)))))) z = let h = ltb-true (suc (suc (suc (suc (suc (suc k)))))) 6 (command-kinds (suc (suc (suc (suc (suc (suc k)))))) ∙ z) in absurd (omega arith)
+command-short (suc (suc (suc (suc (suc (suc zero)))))) z = rw (← length-is 6 (omega arith)) (omega arith)
+command-short (suc (suc (suc (suc (suc (suc (suc k))))))) z = let h = ltb-true (suc (suc (suc (suc (suc (suc (suc k))))))) 7 (command-kinds (suc (suc (suc (suc (suc (suc (suc k))))))) ∙ z) in absurd (omega arith)
 
 pub alone-short : (s : List ℕ) → Alone s → length s < 64
 alone-short [] h = omega arith

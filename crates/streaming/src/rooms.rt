@@ -9,10 +9,10 @@ pub fn longs_room() -> [u64; 1152]
     [0; 1152]
 }
 
-pub fn words_room() -> [u32; 5890]
-    ensures { λ r. ⌜ 5890 ≡ length r ⌝ }
+pub fn words_room() -> [u32; 6914]
+    ensures { λ r. ⌜ 6914 ≡ length r ⌝ }
 {
-    [0; 5890]
+    [0; 6914]
 }
 
 pub fn marks_room() -> [u8; 8384]

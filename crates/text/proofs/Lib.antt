@@ -3,3 +3,4 @@ pub mod Runs
 pub mod Spelling
 pub mod Puts
 pub mod Reading
+pub mod RuleNames

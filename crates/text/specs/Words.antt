@@ -1,10 +1,17 @@
--- Words of a line: what spaces and words are, where they end, which word stands at a place.
+-- Text as bytes. Words of a line: what spaces and words are, where they end, which word stands at a place.
 use Prim.Native.Nat.{ℕ, zero, suc, _+_, _-_}
+use Prim.Native.Char.{code}
+use Prim.Native.String.{String, [] as end, _∷_ as _then_}
 use mathlib.Core.Bool.{Bool, true, false, not, _&&_, _||_}
 use mathlib.Core.List.{List, [], _∷_}
 use lib.ListN.{length, take, drop}
 use lib.Dec.{eqb, leb}
 use Rattle.model.specs.Words.{pick}
+
+-- the bytes of a text
+abbrev pub codes : String → List ℕ
+codes end = []
+codes (c then s) = code c ∷ codes s
 
 -- how many characters that pass s begins with
 unfoldable pub run : (ℕ → Bool) → List ℕ → ℕ

@@ -1,4 +1,7 @@
-// Numbers and words as text: a number put into a slice of bytes, a number read from a line, where words begin and end.
+// Numbers and words as text: a number put into a slice of bytes, a number read from a line, where words begin and end; in `rules`
+// the names of the replacement rules.
+pub mod rules;
+
 ghost use mathlib.Core.Path.{_≡_};
 ghost use Prim.Native.Nat.{_+_, _-_, _≤_, _<_};
 ghost use lib.ListN.{length, take, getD, replicate};

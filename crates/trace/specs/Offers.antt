@@ -10,7 +10,7 @@ use Rattle.trace.specs.declared.turns.Offer.{Offer}
 use Rattle.trace.specs.declared.turns.Offer.the-variants as offer
 
 abbrev pub offered : Command → Offer
-offered (command.Settings s w p m r q) = offer.Nothing
+offered (command.Settings g) = offer.Nothing
 offered (command.Read a k) = offer.Access (access.Read a 0 k)
 offered (command.Write a m) = offer.Access (access.Write a m 0)
 offered command.Send = offer.Nothing

@@ -40,14 +40,7 @@ fn offered(c: Command) -> Offer
     ensures { λ r. ⌜ r ≡ offered c ⌝ }
 {
     match c {
-        Command::Settings {
-            sets: _,
-            ways: _,
-            dirty: _,
-            misses: _,
-            readers: _,
-            queue: _,
-        } => Offer::Nothing,
+        Command::Settings(_) => Offer::Nothing,
         Command::Read { address, ticket } => Offer::Access(Access::Read {
             address,
             mask: 0,

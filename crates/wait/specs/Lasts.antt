@@ -20,7 +20,7 @@ lastCommand (cmd.Write a m) = Offer (access.Write a m 0)
 lastCommand cmd.Send = Other cmd.Send
 lastCommand (cmd.Fill a) = Other (cmd.Fill a)
 lastCommand (cmd.Tick c) = Other (cmd.Tick c)
-lastCommand (cmd.Settings sets ways dirty misses readers queue) = Stopped OutOfPlace
+lastCommand (cmd.Settings g) = Stopped OutOfPlace
 
 -- "To the runner event kinds are unknown kinds", cut short or not
 abbrev pub lastCut : ℕ → Last

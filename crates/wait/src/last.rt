@@ -22,14 +22,7 @@ fn last_command(c: Command) -> Last
     ensures { λ r. ⌜ r ≡ lastCommand c ⌝ }
 {
     match c {
-        Command::Settings {
-            sets: _,
-            ways: _,
-            dirty: _,
-            misses: _,
-            readers: _,
-            queue: _,
-        } => Last::Stopped(Stop::OutOfPlace),
+        Command::Settings(_) => Last::Stopped(Stop::OutOfPlace),
         Command::Read { address, ticket } => Last::Offer(Access::Read {
             address,
             mask: 0,

@@ -44,3 +44,6 @@ module _ {l : List ℕ} {at r : ℕ} {l₁ : List ℕ} {ys : List (List ℕ)} {q
 
 pub put-one : {l : List ℕ} {at : ℕ} {s : List ℕ} {r : ℕ} {l₁ : List ℕ} → Put l at s r l₁ → Puts l at (s ∷ []) r l₁
 put-one p = put-then p puts-none
+
+pub puts-as : {l : List ℕ} {at : ℕ} {xs ys : List (List ℕ)} {r : ℕ} {l₁ : List ℕ} → Puts l at xs r l₁ → xs ≡ ys → Puts l at ys r l₁
+puts-as p e = rw (← e) p

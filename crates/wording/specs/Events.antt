@@ -11,7 +11,7 @@ use Rattle.model.specs.declared.Event.the-variants as ev
 use Rattle.text.specs.Digits.{decimal, hexadecimal, spelled, padded}
 use Rattle.listing.specs.Names.{answerName, meaningOf}
 use Rattle.billing.specs.Dues.{dirtyBytes}
-use Rattle.wording.specs.Pieces.{codes}
+use Rattle.text.specs.Words.{codes}
 
 abbrev pub answeredWords : Answer → ℕ → List (List ℕ)
 answeredWords a line = codes "answer " ∷ answerName a ∷ codes " line " ∷ decimal line ∷ []

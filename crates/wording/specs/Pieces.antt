@@ -1,18 +1,11 @@
 -- Text put into a slice piece by piece: each piece where there is room for all of it, or not at all.
 use Prim.Native.Nat.{ℕ, _+_}
-use Prim.Native.Char.{code}
-use Prim.Native.String.{String, [] as end, _∷_ as _then_}
 use mathlib.Core.Path.{_≡_}
 use mathlib.Core.List.{List, [], _∷_}
 use lib.ListN.{length}
 use lib.Seq.{sets}
 use Rattle.model.specs.Words.{pick}
 use Rattle.text.specs.Digits.{room}
-
--- the bytes of a text
-abbrev pub codes : String → List ℕ
-codes end = []
-codes (c then s) = code c ∷ codes s
 
 -- a slice, and the place in it where text goes on
 pub record Page : Type 0 where

@@ -4,11 +4,11 @@ use mathlib.Core.List.{List, [], _∷_, _++_}
 use lib.ListN.{length}
 use lib.Dec.{eqb}
 use Rattle.model.specs.Words.{pick}
-use Rattle.model.specs.Records.{lengthOf, noKind, numberAt}
+use Rattle.model.specs.Records.{isSettings, lengthOf, noKind, numberAt}
 use Rattle.model.specs.declared.Stop.{Stop}
 use Rattle.model.specs.declared.Stop.the-variants as stop
 use Rattle.text.specs.Digits.{decimal, hexadecimal}
-use Rattle.wording.specs.Pieces.{codes}
+use Rattle.text.specs.Words.{codes}
 use Rattle.wording.specs.Settings.{badWords}
 
 -- words, then a number
@@ -28,12 +28,12 @@ cutWords kind left place =
     ++ (numberWords (codes " bytes, ") left
     ++ (codes " are left" ∷ []))))
 
--- kind 0 not first, or another kind first
+-- settings not first, or another kind first
 abbrev pub placeWords : ℕ → ℕ → List (List ℕ)
 placeWords kind place =
-    pick (eqb kind 0)
+    pick (isSettings kind)
     (codes "settings at byte " ∷ decimal place ∷ codes ": they stand only at the start of a stream" ∷ [])
-    (codes "kind " ∷ decimal kind ∷ codes " at byte " ∷ decimal place ∷ codes ": a stream starts with its settings, kind 0" ∷ [])
+    (codes "kind " ∷ decimal kind ∷ codes " at byte " ∷ decimal place ∷ codes ": a stream starts with its settings, kind 0 or 6" ∷ [])
 
 -- stops 2, 3 and 16 come to no program here: the tables are as long as the settings ask and kept sound, events are written out before their room ends
 unfoldable pub whyWords : Stop → List ℕ → ℕ → List (List ℕ)

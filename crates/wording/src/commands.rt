@@ -1,7 +1,9 @@
 // Commands in the assembler's own language.
 ghost use Rattle.wording.specs.Pieces.{Puts};
-ghost use Rattle.wording.specs.Commands.{fieldWords, settingsWords, addressedWords, commandWords};
+ghost use Rattle.wording.specs.Commands.{fieldWords, ruleWords, buffersWords, settingsWords, addressedWords, commandWords};
 use model::Command;
+use model::Given;
+use model::GivenRule;
 
 fn put_field(word: &[u8], n: u64, out: &mut [u8], at: usize) -> usize
     ensures { λ r. ⌜ Puts (now (out .entry)) at (fieldWords (now (word .entry)) n) r (now (out .exit)) ⌝ }
@@ -10,24 +12,36 @@ fn put_field(word: &[u8], n: u64, out: &mut [u8], at: usize) -> usize
     text::put_decimal(n, out, a)
 }
 
-fn put_settings(
-    sets: u16,
-    ways: u8,
-    dirty: u8,
-    misses: u8,
-    readers: u8,
-    queue: u8,
-    out: &mut [u8],
-    at: usize,
-) -> usize
-    ensures { λ r. ⌜ Puts (now (out .entry)) at (settingsWords sets ways dirty misses readers queue) r (now (out .exit)) ⌝ }
+fn put_rule(rule: GivenRule, out: &mut [u8], at: usize) -> usize
+    ensures { λ r. ⌜ Puts (now (out .entry)) at (ruleWords rule) r (now (out .exit)) ⌝ }
 {
-    let a = put_field(b"settings sets ", sets as u64, out, at);
-    let b = put_field(b" ways ", ways as u64, out, a);
-    let c = put_field(b" dirty ", dirty as u64, out, b);
-    let d = put_field(b" misses ", misses as u64, out, c);
-    let e = put_field(b" readers ", readers as u64, out, d);
-    put_field(b" queue ", queue as u64, out, e)
+    match rule {
+        GivenRule::LeftOut => at,
+        GivenRule::Byte(n) => {
+            let a = text::put_text(b" rule ", out, at);
+            text::rules::put_rule(n, out, a)
+        }
+    }
+}
+
+// The settings behind the first three.
+fn put_buffers(g: Given, out: &mut [u8], at: usize) -> usize
+    ensures { λ r. ⌜ Puts (now (out .entry)) at (buffersWords g) r (now (out .exit)) ⌝ }
+{
+    let rule = g.rule;
+    let a = put_field(b" misses ", g.misses as u64, out, at);
+    let b = put_field(b" readers ", g.readers as u64, out, a);
+    let c = put_field(b" queue ", g.queue as u64, out, b);
+    put_rule(rule, out, c)
+}
+
+fn put_settings(g: Given, out: &mut [u8], at: usize) -> usize
+    ensures { λ r. ⌜ Puts (now (out .entry)) at (settingsWords g) r (now (out .exit)) ⌝ }
+{
+    let a = put_field(b"settings sets ", g.sets as u64, out, at);
+    let b = put_field(b" ways ", g.ways as u64, out, a);
+    let c = put_field(b" dirty ", g.dirty as u64, out, b);
+    put_buffers(g, out, c)
 }
 
 fn put_addressed(word: &[u8], address: u64, out: &mut [u8], at: usize) -> usize
@@ -41,14 +55,7 @@ pub fn put_command(c: Command, out: &mut [u8], at: usize) -> usize
     ensures { λ r. ⌜ Puts (now (out .entry)) at (commandWords c) r (now (out .exit)) ⌝ }
 {
     match c {
-        Command::Settings {
-            sets,
-            ways,
-            dirty,
-            misses,
-            readers,
-            queue,
-        } => { put_settings(sets, ways, dirty, misses, readers, queue, out, at) }
+        Command::Settings(g) => put_settings(g, out, at),
         Command::Read { address, ticket } => {
             let a = put_addressed(b"read ", address, out, at);
             put_field(b" ticket ", ticket as u64, out, a)

@@ -4,6 +4,7 @@ ghost use mathlib.Core.Bool.{not};
 ghost use Rattle.model.specs.Range.{within};
 ghost use Rattle.wording.specs.Pieces.{Puts};
 ghost use Rattle.wording.specs.Settings.{settingWords, setsWords, firstWords, badWords};
+use model::Record;
 
 fn put_setting(name: &[u8], n: u8, range: &[u8], out: &mut [u8], at: usize) -> usize
     ensures { λ r. ⌜ Puts (now (out .entry)) at (settingWords (now (name .entry)) n (now (range .entry))) r (now (out .exit)) ⌝ }
@@ -27,16 +28,17 @@ fn put_sets(sets: u16, out: &mut [u8], at: usize) -> usize
     text::put_text(b", and has to be a power of two, 1 to 256", out, b)
 }
 
-// Where each setting by itself is in range, sets times ways is not.
-fn put_first(s: &[u8], out: &mut [u8], at: usize) -> usize
-    ensures { λ r. ⌜ Puts (now (out .entry)) at (firstWords (now (s .entry))) r (now (out .exit)) ⌝ }
+// Of a settings record's body. Where each setting by itself is in range, sets times ways is not.
+fn put_first(b: &[u8], out: &mut [u8], at: usize) -> usize
+    ensures { λ r. ⌜ Puts (now (out .entry)) at (firstWords (now (b .entry))) r (now (out .exit)) ⌝ }
 {
-    let sets = records::number2(s, 1);
-    let ways = records::number1(s, 3);
-    let dirty = records::number1(s, 4);
-    let misses = records::number1(s, 5);
-    let readers = records::number1(s, 6);
-    let queue = records::number1(s, 7);
+    let sets = records::number2(b, 0);
+    let ways = records::number1(b, 2);
+    let dirty = records::number1(b, 3);
+    let misses = records::number1(b, 4);
+    let readers = records::number1(b, 5);
+    let queue = records::number1(b, 6);
+    let rule = records::number1(b, 7);
     if !layout::power_to_256(sets as usize) {
         return put_sets(sets, out, at);
     }
@@ -55,6 +57,9 @@ fn put_first(s: &[u8], out: &mut [u8], at: usize) -> usize
     if outside(queue, 2, 64) {
         return put_setting(b"queue is ", queue, b", and has to be 2 to 64", out, at);
     }
+    if outside(rule, 0, 1) {
+        return put_setting(b"rule is ", rule, b", and has to be 0 or 1", out, at);
+    }
     text::put_text(b"sets times ways has to be at most 1024", out, at)
 }
 
@@ -63,5 +68,13 @@ pub(crate) fn put_bad(s: &[u8], out: &mut [u8], at: usize) -> usize
     ensures { λ r. ⌜ Puts (now (out .entry)) at (badWords (now (s .entry))) r (now (out .exit)) ⌝ }
 {
     let a = text::put_text(b"bad settings at byte 0: ", out, at);
-    put_first(s, out, a)
+    match records::read_at(s, 0) {
+        Record::Whole {
+            kind: _,
+            start,
+            len: _,
+            next,
+        } => put_first(&s[start..next], out, a),
+        Record::Stopped(_) => put_first(&s[..0], out, a),
+    }
 }

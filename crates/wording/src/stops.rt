@@ -49,13 +49,13 @@ fn put_cut(kind: u8, left: usize, place: u64, out: &mut [u8], at: usize) -> usiz
 fn put_out_of_place(kind: u8, place: u64, out: &mut [u8], at: usize) -> usize
     ensures { λ r. ⌜ Puts (now (out .entry)) at (placeWords kind place) r (now (out .exit)) ⌝ }
 {
-    if kind == 0 {
+    if records::is_settings(kind) {
         let a = put_number(b"settings at byte ", place, out, at);
         text::put_text(b": they stand only at the start of a stream", out, a)
     } else {
         let a = put_number(b"kind ", kind as u64, out, at);
         let b = put_number(b" at byte ", place, out, a);
-        text::put_text(b": a stream starts with its settings, kind 0", out, b)
+        text::put_text(b": a stream starts with its settings, kind 0 or 6", out, b)
     }
 }
 

@@ -31,14 +31,10 @@ impl Counts {
 }
 
 /// What the library left and wrote.
-fn made(
-    settings: &Settings,
-    tables: &Tables,
-    call: &Exported,
-) -> Result<(Tables, Vec<u8>), String> {
+fn made(numbers: &[u32], tables: &Tables, call: &Exported) -> Result<(Tables, Vec<u8>), String> {
     let room = [0xEE; ROOM_NEEDED];
     let beside = Beside { room: &room, numbers: &[], empty: EmptySlice::Buffer };
-    let made = make(&settings.six(), tables, call, beside);
+    let made = make(numbers, tables, call, beside);
     if !made.guards_intact || made.returned > room.len() {
         return Err(format!("{}: written where it may not", call.name()));
     }
@@ -52,7 +48,8 @@ fn first_tables(random: &mut Random, settings: &Settings, fresh: bool) -> Result
     }
     let noise = noise_tables(random, lengths_for(settings));
     let beside = Beside { room: &[], numbers: &[], empty: EmptySlice::Buffer };
-    let made = make(&settings.six(), &noise, &Exported::Fresh, beside);
+    let numbers = choices::lent_numbers(random, settings);
+    let made = make(&numbers, &noise, &Exported::Fresh, beside);
     match made.returned {
         0 => Ok(made.tables),
         number => Err(format!("fresh: refused with {number}")),
@@ -74,7 +71,7 @@ pub fn run_case(random: &mut Random, counts: &mut Counts) -> Result<(), String> 
     counts.fresh += u64::from(fresh);
     first_tables(random, &settings, fresh)
         .and_then(|tables| replay(random, &settings, tables, counts))
-        .map_err(|text| format!("settings {:?}, from fresh {fresh}\n{text}", settings.six()))
+        .map_err(|text| format!("settings {:?}, from fresh {fresh}\n{text}", settings.seven()))
 }
 
 fn replay(
@@ -88,7 +85,8 @@ fn replay(
         let call = choices::any_call(random, &Cache::decode(settings, &tables));
         let exported = Exported::from_call(call, random.percent(50));
         let at = |text: String| format!("call {number}, {call:x?}: {text}");
-        let (after, log) = made(settings, &tables, &exported).map_err(at)?;
+        let numbers = choices::lent_numbers(random, settings);
+        let (after, log) = made(&numbers, &tables, &exported).map_err(at)?;
         check(settings, &after).map_err(|refusal| at(format!("left tables: {refusal:?}")))?;
         owed.call(&call, &log).map_err(at)?;
         owed.compare(&Cache::decode(settings, &after)).map_err(at)?;

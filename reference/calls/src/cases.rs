@@ -8,7 +8,7 @@ use crate::parts;
 use crate::runs;
 use crate::trial::{Counts, Trial, WAIT_ROOM};
 use reference::choices;
-use reference::model::{Cache, Settings, Tables, CONDITIONS};
+use reference::model::{Cache, Settings, Tables, CONDITIONS, RULE_FIFO, RULE_LRU};
 use reference::random::Random;
 use reference::tables::{damage_any, damage_many, damage_one, sound_tables};
 
@@ -35,7 +35,7 @@ fn trial<'a>(
     settings: Settings,
     tables: Tables,
 ) -> Trial<'a> {
-    let settings = settings.six().to_vec();
+    let settings = choices::lent_numbers(random, &settings);
     let length = if random.percent(30) { 64 } else { random.between(64, 200) as usize };
     let room = noise(random, length);
     let wait_length = WAIT_ROOM + if random.percent(50) { 0 } else { random.index(9) };
@@ -177,10 +177,11 @@ fn aimed(random: &mut Random, settings: &Settings, counts: &mut Counts) -> Table
     damaged.tables
 }
 
-/// Another dirty percent, or sets and ways that make as many lines.
+/// Another dirty percent and any rule, or sets and ways that make as many lines.
 fn other_settings(random: &mut Random, settings: &Settings) -> Settings {
     let mut other = *settings;
-    other.percent = random.between(0, 100) as u32;
+    other.dirty = random.between(0, 100) as u32;
+    other.rule = random.pick(&[RULE_LRU, RULE_FIFO]);
     if random.percent(70) {
         let lines = settings.sets * settings.ways;
         let fits = |sets: &u32| lines.is_multiple_of(*sets) && lines / sets <= 16;
@@ -248,11 +249,11 @@ fn bad_settings(random: &mut Random, counts: &mut Counts, nulls: bool) -> Result
     Ok(())
 }
 
-/// The first of some settings, or all of them and more.
+/// The first of some settings, fewer than six, or all seven and more.
 fn other_number(random: &mut Random, settings: &Settings) -> Vec<u32> {
-    let mut numbers = settings.six().to_vec();
-    match random.index(numbers.len() + 2) {
-        fewer if fewer < numbers.len() => numbers.truncate(fewer),
+    let mut numbers = settings.seven().to_vec();
+    match random.index(8) {
+        fewer if fewer < 6 => numbers.truncate(fewer),
         _ => numbers.extend((0..=random.below(3)).map(|_| random.below(3) as u32)),
     }
     numbers

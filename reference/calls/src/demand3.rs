@@ -4,7 +4,7 @@
 
 use crate::exported::labintugmo::{labintugmo_rounds, labintugmo_struck};
 use crate::exported::{write_number, EmptySlice, Guarded, GuardedTables, IN_RANGE};
-use reference::model::{Access, Settings, Tables};
+use reference::model::{Access, Tables};
 use reference::random::Random;
 use reference::rounds::Rounds;
 
@@ -48,12 +48,12 @@ impl Stood {
 
 /// The call on copies between guards: the rounds if there is a number of them, else the struck rounds.
 fn make(
-    settings: &Settings,
+    settings: &[u32],
     before: &Stood,
     access: Access,
     n: Option<usize>,
 ) -> Result<Stood, String> {
-    let mut settings = Guarded::new(&settings.six(), IN_RANGE, EmptySlice::Buffer);
+    let mut settings = Guarded::new(settings, IN_RANGE, EmptySlice::Buffer);
     let (s, sn) = (settings.pointer(), settings.length());
     let mut lent = GuardedTables::new(&before.tables, EmptySlice::Buffer);
     let mut flags = Guarded::new(&before.flags, 0x5B, EmptySlice::Buffer);
@@ -107,7 +107,7 @@ fn expect(name: &str, wanted: &Stood, found: &Stood) -> Result<(), String> {
 /// `first` holds the rounds of this access from these tables, up to the accepting one.
 pub fn compare_runs(
     random: &mut Random,
-    settings: &Settings,
+    settings: &[u32],
     tables: &Tables,
     access: Access,
     first: &Rounds,
@@ -135,7 +135,7 @@ pub fn compare_runs(
 /// Too few flags, bytes or counts, and a malformed access that comes before the first two.
 fn compare_unmade(
     random: &mut Random,
-    settings: &Settings,
+    settings: &[u32],
     tables: &Tables,
     access: Access,
     n: usize,

@@ -5,7 +5,7 @@
 pub mod labintugmo;
 
 use labintugmo::*;
-use reference::model::{Access, Call, Settings, Tables};
+use reference::model::{Access, Call, Tables};
 
 /// One exported call on lent tables.
 #[derive(Clone, Copy, Debug)]
@@ -78,7 +78,7 @@ pub enum EmptySlice {
 
 const GUARD: usize = 8;
 
-/// Beside numbers lent as settings stands one that is in every range: a call that reads too many takes it.
+/// Beside numbers lent as settings stands one that is in the range of each of the six: a call that reads too many takes it.
 pub const IN_RANGE: u32 = 2;
 
 /// Numbers between guards.
@@ -197,11 +197,6 @@ pub fn write_number(access: &Access) -> u32 {
         true => access.ticket.max(1),
         false => 0,
     }
-}
-
-/// What numbers lent as settings mean: six are the settings, any others none that a call takes.
-pub fn settings_from(numbers: &[u32]) -> Settings {
-    Settings::new(numbers.try_into().unwrap_or([0; 6]))
 }
 
 /// Makes one exported call on copies of the tables and of what stands beside them.

@@ -6,11 +6,11 @@ use crate::cases::{any_empty, noise, noise_tables};
 use crate::exported::{make_resume, make_run, Beside, EmptySlice, Made};
 use crate::trial::{difference, Counts, End, Expected};
 use reference::choices;
-use reference::model::{Cache, Settings, Tables};
+use reference::model::{Cache, Settings, Tables, RULE_FIFO, RULE_LRU};
 use reference::random::Random;
-use reference::runner::{self, call_record, read_record, settings_record, Stopped};
+use reference::runner::{self, call_record, read_record, Stopped};
 use reference::runner::{STOP_END, STOP_OTHER_LENGTH};
-use reference::streams::{any_kind, stream};
+use reference::streams::{any_kind, any_record, stream};
 use reference::tables::{damage_any, sound_tables};
 
 /// A queued write-back is sent for one byte; no other record writes more for each of its bytes.
@@ -21,6 +21,8 @@ const NEVER_FULL: usize = 64;
 struct Part {
     source: &'static str,
     settings: Settings,
+    /// The settings as they are lent.
+    numbers: Vec<u32>,
     tables: Tables,
     bytes: Vec<u8>,
     empty: EmptySlice,
@@ -52,8 +54,9 @@ fn any_part(random: &mut Random, nulls: bool) -> Part {
     let tables = sound_tables(random, &settings);
     let bytes = any_records(random, Cache::decode(&settings, &tables));
     let empty = any_empty(random, nulls);
-    let mut part = Part { source: "a part that goes on", settings, tables, bytes, empty };
-    match random.below(10) {
+    let numbers = Vec::new();
+    let mut part = Part { source: "a part that goes on", settings, numbers, tables, bytes, empty };
+    match random.below(11) {
         0..=1 => {
             part.source = "a part, settings out of range";
             part.settings = choices::bad_settings(random);
@@ -72,10 +75,15 @@ fn any_part(random: &mut Random, nulls: bool) -> Part {
         }
         6 => {
             part.source = "a part, another dirty percent";
-            part.settings.percent = random.between(0, 100) as u32;
+            part.settings.dirty = random.between(0, 100) as u32;
+        }
+        7 => {
+            part.source = "a part, another rule";
+            part.settings.rule = random.pick(&[RULE_LRU, RULE_FIFO]);
         }
         _ => (),
     }
+    part.numbers = choices::lent_numbers(random, &part.settings);
     part
 }
 
@@ -106,9 +114,15 @@ fn any_records(random: &mut Random, mut cache: Cache) -> Vec<u8> {
     }
     let place = if random.percent(40) { 0 } else { random.index(records.len() + 1) };
     match random.below(10) {
-        0 => records.insert(place, settings_record(&kept)),
-        1 => records.insert(place, settings_record(&choices::good_settings(random))),
-        2 => records.insert(place, settings_record(&choices::bad_record_settings(random))),
+        0 => records.insert(place, any_record(random, &kept)),
+        1 => {
+            let good = choices::good_settings(random);
+            records.insert(place, any_record(random, &good));
+        }
+        2 => {
+            let bad = choices::bad_record_settings(random);
+            records.insert(place, any_record(random, &bad));
+        }
         3 => records.insert(place, vec![random.between(6, 255) as u8; 1 + random.index(30)]),
         4 => {
             let mut bytes = records.concat();
@@ -146,12 +160,12 @@ fn expected(part: &Part, beside: Beside) -> (Expected, End) {
 
 fn compare(part: &Part, beside: Beside, counts: &mut Counts) -> Result<(), String> {
     let (expected, end) = expected(part, beside);
-    let made = make_resume(&part.settings.six(), &part.bytes, &part.tables, beside);
+    let made = make_resume(&part.numbers, &part.bytes, &part.tables, beside);
     if let Some(text) = difference(Some(&part.settings), beside, &expected, &made) {
         return Err(format!(
             "{}, settings {:?}, lengths {:?}, event room {}, counts {}, empty slices {:?}\npart {:02x?}\n{text}",
             part.source,
-            part.settings.six(),
+            part.numbers,
             part.tables.lengths(),
             beside.room.len(),
             beside.numbers.len(),
@@ -242,7 +256,8 @@ fn in_parts(
     tables: &Tables,
     cuts: &[usize],
 ) -> Result<Left, String> {
-    let settings = Settings::from_body(&bytes[1..8]);
+    let settings = runner::first_settings(bytes).expect("it has tables");
+    let numbers = choices::lent_numbers(random, &settings);
     let mut left = in_one_run(random, &bytes[..cuts[0]], tables)?;
     let room = noise(random, ample(bytes));
     let beside = Beside { room: &room, numbers: &[7, 7], empty: EmptySlice::Buffer };
@@ -251,7 +266,7 @@ fn in_parts(
             break;
         }
         let end = cuts.get(number + 1).copied().unwrap_or(bytes.len());
-        left.then(make_resume(&settings.six(), &bytes[cut..end], &left.tables, beside))?;
+        left.then(make_resume(&numbers, &bytes[cut..end], &left.tables, beside))?;
     }
     Ok(left)
 }

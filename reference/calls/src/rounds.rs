@@ -18,6 +18,8 @@ use std::collections::BTreeMap;
 #[derive(Clone)]
 struct Library {
     settings: Settings,
+    /// The settings as they are lent.
+    numbers: Vec<u32>,
     tables: Tables,
     /// Read and write by their own calls, not by access.
     thin: bool,
@@ -29,7 +31,7 @@ impl Library {
     fn call(&mut self, call: Exported) -> Result<Vec<u8>, u8> {
         let room = [0xEE; 80];
         let beside = Beside { room: &room, numbers: &[], empty: EmptySlice::Buffer };
-        let made = make(&self.settings.six(), &self.tables, &call, beside);
+        let made = make(&self.numbers, &self.tables, &call, beside);
         self.tables = made.tables;
         let (events, rest) = made.events.split_at(made.returned.min(room.len()));
         match events {
@@ -146,9 +148,10 @@ pub fn run_case(random: &mut Random, counts: &mut Counts) -> Result<(), String> 
     };
     let access = late_access(random, &cache);
     let thin = random.percent(50);
-    let start = Library { settings, tables: cache.encode(), thin };
+    let numbers = choices::lent_numbers(random, &settings);
+    let start = Library { settings, numbers, tables: cache.encode(), thin };
     compare(random, &cache, &start, access, counts)
-        .map_err(|text| format!("settings {:?}, access {access:x?}\n{text}", settings.six()))
+        .map_err(|text| format!("settings {:?}, access {access:x?}\n{text}", settings.seven()))
 }
 
 fn compare(
@@ -175,7 +178,7 @@ fn compare(
     let model_struck = struck_run(&mut cache.clone(), access, &first.flags());
     same(&layout, "model's struck rounds, struck rounds", &model_struck, &struck)?;
     compare_wait(start, access, &first, bound)?;
-    compare_runs(random, &start.settings, &start.tables, access, &first)?;
+    compare_runs(random, &start.numbers, &start.tables, access, &first)?;
     counts.add(&first);
     Ok(())
 }
@@ -197,7 +200,7 @@ fn compare_wait(
 
     let room = [0xEE; WAIT_ROOM];
     let beside = Beside { room: &room, numbers: &[u64::MAX], empty: EmptySlice::Buffer };
-    let made = make(&start.settings.six(), &start.tables, &Exported::Wait(access), beside);
+    let made = make(&start.numbers, &start.tables, &Exported::Wait(access), beside);
     if !made.guards_intact {
         return Err("wait: a number outside the lent slices was written".to_string());
     }

@@ -5,7 +5,7 @@
 use crate::cases::{any_empty, noise, noise_tables};
 use crate::exported::{make_run, Beside, EmptySlice};
 use crate::trial::{difference, Counts, End, Expected};
-use reference::model::{lengths_for, Settings, Tables};
+use reference::model::{lengths_for, Tables};
 use reference::random::Random;
 use reference::runner::{self, Stopped, STOP_OTHER_LENGTH};
 use reference::streams::{any_kind, stream, Kind};
@@ -82,7 +82,7 @@ fn compare(
 ) -> Result<(), String> {
     let (expected, end) = expected(bytes, tables, beside);
     let made = make_run(bytes, tables, beside);
-    let settings = bytes.get(1..8).map(Settings::from_body);
+    let settings = runner::first_settings(bytes);
     if let Some(text) = difference(settings.as_ref(), beside, &expected, &made) {
         return Err(format!(
             "run of {kind:?} stream {:02x?}\nlengths {:?} of {:?}, event room {}, counts {}, empty slices {:?}\n{text}",

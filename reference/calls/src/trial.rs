@@ -1,7 +1,7 @@
 //! One exported call compared with the model: the return, the whole event room,
 //! all three slices and wait's round. Also the counts of what was tried.
 
-use crate::exported::{lengths, make, settings_from, Beside, EmptySlice, Exported, Made};
+use crate::exported::{lengths, make, Beside, EmptySlice, Exported, Made};
 use reference::model::{call_bytes, check, fresh_on, lengths_for, Refusal, Settings, Tables};
 use reference::model::{Access, Cache, Layout, Place, ROOM_NEEDED};
 use reference::rounds::{bound, first_run};
@@ -165,7 +165,7 @@ impl Trial<'_> {
     /// Makes a call on both sides; the tables are then those after it.
     pub fn call(&mut self, call: Exported) -> Result<End, String> {
         let beside = self.beside(&call);
-        let settings = settings_from(&self.settings);
+        let settings = Settings::from_numbers(&self.settings);
         let expected = expected(&settings, &self.tables, &call, beside);
         let made = make(&self.settings, &self.tables, &call, beside);
         if let Some(text) = difference(Some(&settings), beside, &expected, &made) {
@@ -195,7 +195,7 @@ impl Trial<'_> {
 
     /// The lengths are asked of any settings.
     pub fn lengths(&mut self) -> Result<(), String> {
-        let expected = lengths_for(&settings_from(&self.settings));
+        let expected = lengths_for(&Settings::from_numbers(&self.settings));
         let found = lengths(&self.settings, self.empty);
         if expected != found {
             return Err(format!(

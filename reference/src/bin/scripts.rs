@@ -4,7 +4,7 @@
 
 use reference::model::{broken, call_on, check, fresh_on, lengths_for, Access, Answer, Cache};
 use reference::model::{Call, Event, Outcome, Refusal, Settings, Tables};
-use reference::runner::{self, call_record, settings_record};
+use reference::runner::{self, call_record, ruled_record, settings_record};
 use std::io::{self, Read};
 
 /// Numbers that the programs have for each slice, of which they lend some.
@@ -32,8 +32,17 @@ impl Line<'_> {
     }
 
     fn settings(&self) -> Settings {
-        let six: Vec<u32> = self.numbers.iter().map(|&n| n as u32).collect();
-        Settings::new(six.try_into().expect("six settings"))
+        let numbers: Vec<u32> = self.numbers.iter().map(|&n| n as u32).collect();
+        assert!(numbers.len() == 6 || numbers.len() == 7, "six settings, or seven with the rule");
+        Settings::from_numbers(&numbers)
+    }
+
+    /// Of kind 0, or of kind 6 where the line names the rule.
+    fn settings_record(&self) -> Vec<u8> {
+        match self.numbers.len() {
+            7 => ruled_record(&self.settings()),
+            _ => settings_record(&self.settings()),
+        }
     }
 
     fn call(&self) -> Option<Call> {
@@ -275,7 +284,7 @@ impl Stream {
     fn line(&mut self, line: &Line) {
         match line.word {
             "test" => *self = Stream::named(line.rest),
-            "settings" => self.bytes.extend(settings_record(&line.settings())),
+            "settings" => self.bytes.extend(line.settings_record()),
             "byte" => self.bytes.push(line.numbers[0] as u8),
             "cut" => self.bytes.truncate(self.bytes.len() - line.numbers[0] as usize),
             "room" => self.room = line.numbers[0] as usize,

@@ -3,7 +3,7 @@
 //! `bill` are those of the log; `wait` ends as the rounds of the reference do.
 
 use reference::choices::well_formed_access;
-use reference::model::{Access, Cache, Call, Settings};
+use reference::model::{Access, Cache, Call};
 use reference::process::{hex, output_of, status};
 use reference::random::Random;
 use reference::rounds::{bound, first_run};
@@ -153,7 +153,8 @@ fn difference(options: &Options, case: u64) -> io::Result<Option<String>> {
     let mut tables = runner::tables_for(&bytes);
     let mut room = vec![0; ROOM];
     let stopped = runner::run(&bytes, &mut tables, &mut room);
-    let mut cache = Cache::decode(&Settings::from_body(&bytes[1..8]), &tables);
+    let mut cache =
+        Cache::decode(&runner::first_settings(&bytes).expect("settings first"), &tables);
     for found in [
         there_and_back(options, &bytes)?,
         bill(options, &room[..stopped.written])?,

@@ -77,9 +77,9 @@ impl Layout {
     pub fn of(settings: &Settings) -> Layout {
         Layout {
             lines: settings.lines(),
-            entries: settings.entries as usize,
+            entries: settings.misses as usize,
             readers: settings.readers as usize,
-            places: settings.places as usize,
+            places: settings.queue as usize,
         }
     }
 
@@ -87,7 +87,7 @@ impl Layout {
     pub fn lengths(&self) -> [usize; 3] {
         [
             self.lines + self.entries + self.places,
-            1 + 5 * self.lines + self.entries * self.readers + 4 * self.places + 1,
+            2 + 6 * self.lines + self.entries * self.readers + 4 * self.places,
             8 * self.lines + 2 * self.entries + self.places,
         ]
     }
@@ -126,7 +126,16 @@ impl Layout {
     }
 
     pub fn dirty_count(&self) -> Place {
-        Place::Word(1 + 5 * self.lines + self.entries * self.readers + 4 * self.places)
+        Place::Word(self.dirty_count_index())
+    }
+
+    fn dirty_count_index(&self) -> usize {
+        1 + 5 * self.lines + self.entries * self.readers + 4 * self.places
+    }
+
+    /// Behind the count of dirty lines.
+    pub fn taken(&self, line: usize) -> Place {
+        Place::Word(self.dirty_count_index() + 1 + line)
     }
 
     pub fn status(&self, line: usize, sector: usize) -> Place {
@@ -183,7 +192,8 @@ impl Layout {
             _ if index < count => {
                 format!("mask {} of queue place {}", (index - queue) % 4, (index - queue) / 4)
             }
-            _ => "count of dirty lines".to_string(),
+            _ if index == count => "count of dirty lines".to_string(),
+            _ => format!("taken cycle of line {}", index - count - 1),
         }
     }
 
@@ -269,13 +279,18 @@ fn decode_line(layout: &Layout, tables: &Tables, line: usize) -> Line {
         sector.mask = tables.get(layout.mask(line, number)) as u32;
         sector.readable = tables.get(layout.readable(line, number)) == 1;
     }
-    let tag = tables.get(layout.tag(line));
-    Line { tag, cycle: tables.get(layout.line_cycle(line)) as u32, sectors }
+    Line {
+        tag: tables.get(layout.tag(line)),
+        cycle: tables.get(layout.line_cycle(line)) as u32,
+        taken: tables.get(layout.taken(line)) as u32,
+        sectors,
+    }
 }
 
 fn encode_line(layout: &Layout, tables: &mut Tables, number: usize, line: &Line) {
     tables.set(layout.tag(number), line.tag);
     tables.set(layout.line_cycle(number), u64::from(line.cycle));
+    tables.set(layout.taken(number), u64::from(line.taken));
     for (index, sector) in line.sectors.iter().enumerate() {
         tables.set(layout.status(number, index), status_number(sector.status));
         tables.set(layout.mask(number, index), u64::from(sector.mask));

@@ -1,4 +1,4 @@
-//! Document 01's section "Sound tables" and what document 02 adds to it (26: L3), as numbered
+//! Document 01's section "Sound tables" and what document 02 adds to it (26: L3; 27, 28: L1), as numbered
 //! conditions on the lent numbers, so that a test can tell which one fails. Settings are in range and
 //! lengths are right before any is asked; nothing else is taken for granted,
 //! so a condition stands alone also where an earlier one fails.
@@ -11,7 +11,7 @@ use super::{ADDRESS_LIMIT, FULL_MASK, LAST_CYCLE, LINE_BYTES, SECTORS, SECTOR_BY
 type Condition = (&'static str, fn(&View) -> bool);
 
 /// The conditions in order; number n stands at index n - 1.
-pub const CONDITIONS: [Condition; 26] = [
+pub const CONDITIONS: [Condition; 28] = [
     ("the current cycle is at most 4,294,967,294", current_cycle_in_range),
     ("a status is 0 to 3", statuses_known),
     ("a readable mark is 0 or 1", readable_marks_known),
@@ -38,6 +38,8 @@ pub const CONDITIONS: [Condition; 26] = [
     ("an unsent entry has exactly one read in the queue", unsent_entries_queued_once),
     ("a queued read has an unsent entry", queued_reads_unsent),
     ("the stored count is that of the lines with a MODIFIED sector", dirty_lines_counted),
+    ("a live line was taken no later than its last access", lines_taken_before_access),
+    ("a wholly invalid line has taken cycle 0", invalid_lines_not_taken),
 ];
 
 /// All hold.
@@ -75,6 +77,10 @@ impl<'a> View<'a> {
 
     fn line_cycle(&self, line: usize) -> u64 {
         self.tables.get(self.layout.line_cycle(line))
+    }
+
+    fn taken(&self, line: usize) -> u64 {
+        self.tables.get(self.layout.taken(line))
     }
 
     fn status(&self, line: usize, sector: usize) -> u64 {
@@ -297,4 +303,13 @@ fn dirty_lines_counted(view: &View) -> bool {
     let dirty = |l: &usize| (0..SECTORS).any(|s| view.status(*l, s) == MODIFIED);
     let counted = (0..view.layout.lines).filter(dirty).count() as u64;
     view.tables.get(view.layout.dirty_count()) == counted
+}
+
+/// Of live lines, so that this and the next condition can fail alone.
+fn lines_taken_before_access(view: &View) -> bool {
+    view.every_line(|l| !view.live[l] || view.taken(l) <= view.line_cycle(l))
+}
+
+fn invalid_lines_not_taken(view: &View) -> bool {
+    view.every_line(|l| view.live[l] || view.taken(l) == 0)
 }

@@ -87,7 +87,9 @@ impl<'a> Target<'a> {
             1..=10 => self.aim_at_lines(random, condition),
             11..=18 => self.aim_at_entries(random, condition),
             19..=25 => self.aim_at_queue(random, condition),
-            _ => Some((self.layout.dirty_count(), self.other_count(random))),
+            26 => Some((self.layout.dirty_count(), self.other_count(random))),
+            27 => self.aim_at_taken(random),
+            _ => self.aim_at_taken_of_invalid(random),
         }
     }
 
@@ -101,6 +103,23 @@ impl<'a> Target<'a> {
             3 => self.layout.lines as u64 + 1,
             _ => u64::from(choices::write_mask(random)),
         }
+    }
+
+    /// Taken after its last access, or a last access before the line was taken.
+    fn aim_at_taken(&self, random: &mut Random) -> Aim {
+        let line = self.pick_line(random, |line| !line.wholly_invalid())?;
+        let Line { cycle, taken, .. } = self.cache.lines[line];
+        if taken > 0 && random.percent(40) {
+            return Some((self.layout.line_cycle(line), random.below(u64::from(taken))));
+        }
+        let later = random.pick(&[cycle + 1, cycle.saturating_add(1000), u32::MAX]);
+        Some((self.layout.taken(line), u64::from(later)))
+    }
+
+    fn aim_at_taken_of_invalid(&self, random: &mut Random) -> Aim {
+        let line = self.pick_line(random, Line::wholly_invalid)?;
+        let taken = random.pick(&[1, self.cache.cycle.max(1), u32::MAX]);
+        Some((self.layout.taken(line), u64::from(taken)))
     }
 
     fn aim_at_lines(&self, random: &mut Random, condition: usize) -> Aim {
@@ -434,14 +453,14 @@ fn entry_without_sector(random: &mut Random, cache: &Cache) -> Option<Cache> {
     let entered = cache.misses.iter().any(|entry| entry.address == address);
     let mut added = cache.clone();
     added.misses.push(MissEntry { address, sent: true, tickets: vec![choices::ticket(random)] });
-    let possible = !entered && cache.misses.len() < cache.settings.entries as usize;
+    let possible = !entered && cache.misses.len() < cache.settings.misses as usize;
     possible.then_some(added)
 }
 
 /// A second entry for an address, sent, so that the queue still fits the first.
 fn double_entry(random: &mut Random, cache: &Cache) -> Option<Cache> {
     let used = cache.misses.len();
-    if used == 0 || used == cache.settings.entries as usize {
+    if used == 0 || used == cache.settings.misses as usize {
         return None;
     }
     let mut doubled = cache.clone();
@@ -470,7 +489,7 @@ fn read_of_sent(random: &mut Random, cache: &Cache) -> Option<Cache> {
 
 fn add_queued(random: &mut Random, cache: &Cache, queued: Queued) -> Option<Cache> {
     let used = cache.queue.len();
-    if used == cache.settings.places as usize {
+    if used == cache.settings.queue as usize {
         return None;
     }
     let mut added = cache.clone();

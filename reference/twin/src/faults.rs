@@ -27,9 +27,19 @@ impl Fault {
     pub fn alter_settings(self, numbers: &[u32]) -> Vec<u32> {
         match (self.0, numbers.len()) {
             ("five-settings-taken", 5) => [numbers, &[2]].concat(),
-            ("more-settings-taken", 7..) => numbers[..6].to_vec(),
+            ("more-settings-taken", 8..) => numbers[..7].to_vec(),
+            ("seventh-setting-ignored", 7) => numbers[..6].to_vec(),
             _ => numbers.to_vec(),
         }
+    }
+
+    /// A rule byte of kind 6 that is read as 0.
+    pub fn alter_stream(self, stream: &[u8]) -> Vec<u8> {
+        let mut stream = stream.to_vec();
+        if self.is("rule-byte-ignored") && stream.first() == Some(&runner::KIND_RULED_SETTINGS) {
+            stream.get_mut(8).into_iter().for_each(|rule| *rule = 0);
+        }
+        stream
     }
 
     /// Slips that a call on another argument shows.
@@ -62,6 +72,7 @@ impl Fault {
             "way-order-reversed" => access_reversed,
             "dirty-counted-in-set" => access_in_set,
             "victim-thrown-out-early" => access_too_early,
+            "oldest-by-last-access" => access_least_recent,
             _ => return None,
         };
         model::check(settings, before).ok()?;
@@ -122,6 +133,21 @@ impl Fault {
         }
     }
 
+    /// Slips in what the replacement rules go by, after the call.
+    pub fn alter_ages(self, settings: &Settings, tables: &mut Tables, written: &[u8]) {
+        let answered = written.first() == Some(&0x10);
+        let missed = written.starts_with(&[0x10, 3]);
+        match self.0 {
+            "taken-by-every-access" if answered => {
+                set_taken(settings, tables, written, |cycle| cycle);
+            }
+            "taken-only-under-its-rule" if missed && settings.rule != model::RULE_FIFO => {
+                set_taken(settings, tables, written, |_| 0);
+            }
+            _ => (),
+        }
+    }
+
     pub fn alter_rest(self, rest: &mut [u8]) {
         if self.0 == "rest-of-room-cleared" {
             rest.fill(0);
@@ -168,6 +194,10 @@ impl Fault {
             "run-makes-up-consumed" if early => stopped.consumed = stream.len(),
             "run-leaves-settings-out" => stopped.consumed = stopped.consumed.saturating_sub(8),
             "run-empty-is-cut-short" if stream.is_empty() => stopped.number = 15,
+            "run-kind-6-unknown" if stream.first() == Some(&runner::KIND_RULED_SETTINGS) => {
+                *tables = before.clone();
+                *stopped = Stopped { number: 14, consumed: 0, written: 0 };
+            }
             _ => (),
         }
     }
@@ -181,7 +211,7 @@ impl Fault {
         room: &mut [u8],
     ) -> Stopped {
         let before = tables.clone();
-        let settings_first = part.first() == Some(&runner::KIND_SETTINGS);
+        let settings_first = part.first().is_some_and(|&kind| runner::is_settings(kind));
         match self.0 {
             "resume-starts-anew" => return runner::run(part, tables, room),
             "resume-takes-settings" if settings_first => return runner::run(part, tables, room),
@@ -272,7 +302,7 @@ fn access_too_early(cache: &mut Cache, access: Access) -> Outcome {
     let outcome = cache.access(access);
     if outcome == Err(Refusal::QueueFull) {
         let mut roomy = cache.clone();
-        roomy.settings.places += 4;
+        roomy.settings.queue += 4;
         if roomy.access(access).is_ok() {
             let changed =
                 (0..cache.lines.len()).find(|&n| cache.lines[n].tag != roomy.lines[n].tag);
@@ -280,6 +310,22 @@ fn access_too_early(cache: &mut Cache, access: Access) -> Outcome {
         }
     }
     outcome
+}
+
+/// The victim is chosen by the last access, whatever the rule.
+fn access_least_recent(cache: &mut Cache, access: Access) -> Outcome {
+    let rule = cache.settings.rule;
+    cache.settings.rule = model::RULE_LRU;
+    let outcome = cache.access(access);
+    cache.settings.rule = rule;
+    outcome
+}
+
+/// The taken cycle of the line that an answer names becomes another one, told by the current cycle.
+fn set_taken(settings: &Settings, tables: &mut Tables, written: &[u8], other: fn(u64) -> u64) {
+    let layout = Layout::of(settings);
+    let line = usize::from(u16::from_le_bytes([written[2], written[3]]));
+    tables.set(layout.taken(line), other(tables.get(layout.current_cycle())));
 }
 
 /// The write-back of a sector that was fetched while partly dirty loses its bytes.
@@ -305,7 +351,7 @@ fn move_cycle(settings: &Settings, tables: &mut Tables, address: u64) {
 /// The refusal that 7 stands before, found by emptying a queue that has places enough.
 fn number_without_queue(settings: &Settings, before: &Tables, access: &Access) -> u8 {
     let mut cache = Cache::decode(settings, before);
-    cache.settings.places += 4;
+    cache.settings.queue += 4;
     cache.access(*access).err().map_or(7, Refusal::number)
 }
 

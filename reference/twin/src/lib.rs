@@ -25,10 +25,10 @@ unsafe fn slice_mut<'a, T>(start: *mut T, length: usize) -> &'a mut [T] {
     std::slice::from_raw_parts_mut(start, length)
 }
 
-/// The settings of an exported call: six numbers; any others are out of range.
+/// The settings of an exported call: six numbers, or seven with the rule; any others are out of range.
 unsafe fn settings_from(start: *const u32, length: usize) -> Settings {
     let numbers = Fault::planted().alter_settings(slice(start, length));
-    Settings::new(numbers.try_into().unwrap_or([0; 6]))
+    Settings::from_numbers(&numbers)
 }
 
 /// The caller's three slices.
@@ -72,6 +72,7 @@ fn serve(settings: Settings, mut lent: Lent, call: Call, events: &mut [u8]) -> u
         }
     }
     fault.alter_result(&settings, &before, &mut tables, &call, &mut written);
+    fault.alter_ages(&settings, &mut tables, &written);
     written.truncate(events.len());
     lent.store(&tables);
     events[..written.len()].copy_from_slice(&written);
@@ -113,7 +114,7 @@ fn serve_run(stream: &[u8], events: &mut [u8], mut lent: Lent, counts: &mut [u64
     let before = lent.tables();
     let mut tables = before.clone();
     let mut room = vec![0; fault.alter_run_room(events.len())];
-    let mut stopped = runner::run(stream, &mut tables, &mut room);
+    let mut stopped = runner::run(&fault.alter_stream(stream), &mut tables, &mut room);
     fault.alter_run(stream, &before, &mut tables, &mut stopped);
     let written = stopped.written.min(events.len());
     events[..written].copy_from_slice(&room[..written]);

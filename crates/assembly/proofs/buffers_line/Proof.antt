@@ -40,7 +40,7 @@ returns-4 c =
     let f2 = v2 .before .before in
     let v1 = f2 .before .before .before in
     let f1 = v1 .before .before in
-    rw (sym (f1 .field-next .ensures) ∙ v1 .misses .given .1, sym (f2 .field-next2 .ensures) ∙ v2 .readers .given .1, sym (f3 .field-next3 .ensures) ∙ v3 .queue .given .1) (c .ended .ensures)
+    rw (sym (f1 .field-next .ensures) ∙ v1 .misses .given .1, sym (f2 .field-next2 .ensures) ∙ v2 .readers .given .1, sym (f3 .field-next3 .ensures) ∙ v3 .queue .given .1) (c .rule-line .ensures)
 
 pub buffers-line-spec : {M : Type 1} → statement M
 buffers-line-spec =

@@ -9,6 +9,5 @@ ended-spec =
     tie.close
     (tie.spec
     (λ c κs. search needs)
-    (λ c κs. search needs)
-    (λ c. whole-ended _ _ _ (c .before .before .skip-spaces .ensures) (c .before .word-end .ensures) (c .if1 .taken))
-    (λ c. whole-more _ _ _ (c .before .before .skip-spaces .ensures) (c .before .word-end .ensures) (c .if1 .left)))
+    (λ c. whole-ended _ _ _ (c .before .ends-at .ensures) (c .if1 .taken))
+    (λ c. whole-more _ _ _ (c .before .ends-at .ensures) (c .if1 .left)))

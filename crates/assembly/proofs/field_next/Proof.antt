@@ -1,6 +1,6 @@
 -- `assembly::field_next` meets its contract.
 use borrow.Author.Needs.{needs}
-use Rattle.assembly.proofs.Fields.{field-there, field-missing}
+use Rattle.assembly.proofs.Fields.{word-there, word-missing}
 use Rattle.assembly.proofs.field_next.Statement.{statement}
 use Rattle.assembly.proofs.field_next.Tie as tie
 
@@ -15,5 +15,5 @@ field-next-spec =
     (λ c.
     let e = c .before in
     let w = e .before .before in
-    field-there _ _ _ _ (w .before .skip-spaces .ensures) (w .word-is .ensures) (e .before .if1 .taken) (e .word-end .ensures) (c .number-next .ensures))
-    (λ c. let w = c .before in field-missing _ _ _ _ (w .before .skip-spaces .ensures) (w .word-is .ensures) (c .if1 .left)))
+    word-there _ _ _ _ (w .before .skip-spaces .ensures) (w .word-is .ensures) (e .before .if1 .taken) (e .word-end .ensures) (c .number-next .ensures))
+    (λ c. let w = c .before in word-missing _ _ _ _ (w .before .skip-spaces .ensures) (w .word-is .ensures) (c .if1 .left)))

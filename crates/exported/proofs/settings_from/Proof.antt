@@ -1,23 +1,24 @@
--- Six numbers by their places, or zeros for another length.
+-- Six or seven numbers by their places, or zeros for another length.
 use borrow.Author.Needs.{needs}
-use borrow.Author.Tests.{eq-eqb, ne-eqb}
 use Rattle.exported.specs.Exported.{settingsFrom}
+use Rattle.exported.proofs.Calling.{may-lend}
 use Rattle.exported.proofs.settings_from.Statement.{statement}
 use Rattle.exported.proofs.settings_from.Tie as tie
 
 returns : tie.Need-returns
 unfolding settingsFrom
-returns c = rw (ne-eqb _ _ (c .if1 .taken))
+returns c = rw (may-lend _ (c .if1 .taken))
 
 returns-2 : tie.Need-returns-2
 unfolding settingsFrom
 returns-2 c =
-    let n5 = c .before in
+    let n6 = c .before in
+    let n5 = n6 .before in
     let n4 = n5 .before in
     let n3 = n4 .before in
     let n2 = n3 .before in
     let n1 = n2 .before in
-    rw (eq-eqb _ _ (n1 .before .if1 .left), n1 .number .ensures, n2 .number2 .ensures, n3 .number3 .ensures, n4 .number4 .ensures, n5 .number5 .ensures, c .number6 .ensures)
+    rw (may-lend _ (n1 .before .if1 .left), n1 .number .ensures, n2 .number2 .ensures, n3 .number3 .ensures, n4 .number4 .ensures, n5 .number5 .ensures, n6 .number6 .ensures, c .number7 .ensures)
 
 pub settings-from-spec : {M : Type 1} → statement M
 settings-from-spec =
@@ -30,4 +31,5 @@ settings-from-spec =
     (λ c κs. search needs)  -- number-requires-4
     (λ c κs. search needs)  -- number-requires-5
     (λ c κs. search needs)  -- number-requires-6
+    (λ c κs. search needs)  -- number-requires-7
     returns-2)

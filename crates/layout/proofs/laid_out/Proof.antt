@@ -3,6 +3,7 @@ use native.Mathlib.Nat.{mul-le-mul}
 use native.Mathlib.Omega.{arith}
 use Rattle.model.proofs.Fits.{ranged}
 use borrow.Author.Needs.{needs}
+use Rattle.model.specs.Inner.{aside}
 use Rattle.layout.proofs.laid_out.Statement.{statement}
 use Rattle.layout.proofs.laid_out.Tie as tie
 
@@ -15,13 +16,26 @@ laid-out-spec =
     (λ c. let g = ranged _ (c .before .pre) in omega arith)  -- add-tickets
     (λ c. let g = ranged _ (c .before .before .pre) in omega (arith, mul-le-mul (g .readers) (g .misses)))  -- mul-backs
     (λ c. let g = ranged _ (c .before .before .pre) in omega (arith, mul-le-mul (g .readers) (g .misses)))  -- add-backs
-    (λ c. let g = ranged _ (c .before .before .pre) in omega arith)  -- mul-sent
-    (λ c. let g = ranged _ (c .before .before .before .pre) in omega arith)  -- add-t6
-    (λ c. let g = ranged _ (c .before .before .before .pre) in omega arith)  -- add-t7
-    (λ c. let g = ranged _ (c .before .before .before .before .pre) in omega arith)  -- mul-t8
-    (λ c. let g = ranged _ (c .before .before .before .before .pre) in omega (arith, mul-le-mul (g .readers) (g .misses)))  -- add-t9
-    (λ c. let g = ranged _ (c .before .before .before .before .pre) in omega arith)  -- mul-t10
-    (λ c. let g = ranged _ (c .before .before .before .before .before .pre) in omega arith)  -- add-t11
-    (λ c. let g = ranged _ (c .before .before .before .before .before .before .pre) in omega arith)  -- mul-t12
-    (λ c. let g = ranged _ (c .before .before .before .before .before .before .pre) in omega arith)  -- add-t13
-    (λ c. search needs))  -- returns
+    (λ c. let g = ranged _ (c .before .before .before .pre) in omega arith)  -- mul-dirty
+    (λ c. let g = ranged _ (c .before .before .before .pre) in omega (arith, mul-le-mul (g .readers) (g .misses)))  -- add-dirty
+    (λ c. let g = ranged _ (c .before .before .before .pre) in omega arith)  -- mul-sent
+    (λ c. let g = ranged _ (c .before .before .before .before .pre) in omega arith)  -- add-queue
+    (λ c. let g = ranged _ (c .before .before .before .before .pre) in omega arith)  -- add-masks
+    (λ c. let g = ranged _ (c .before .before .before .before .pre) in omega (arith, mul-le-mul (g .readers) (g .misses)))  -- add-taken
+    (λ c. let g = ranged _ (c .before .before .before .before .pre) in omega arith)  -- mul-readables
+    (λ c. let g = ranged _ (c .before .before .before .before .before .pre) in omega arith)  -- add-counts
+    (λ c. let g = ranged _ (c .before .before .before .before .before .before .pre) in omega arith)  -- mul-kinds
+    (λ c. let g = ranged _ (c .before .before .before .before .before .before .pre) in omega arith)  -- add-kinds
+    (λ c. record {
+      misses = omega arith;
+      queue = omega arith;
+      masks = omega arith;
+      tickets = omega arith;
+      backs = omega arith;
+      dirty = omega arith;
+      taken = aside (omega arith);
+      readables = omega arith;
+      sent = omega arith;
+      counts = omega arith;
+      kinds = omega arith;
+    }))  -- returns

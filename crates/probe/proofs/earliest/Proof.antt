@@ -3,17 +3,18 @@ use mathlib.Core.Path.{_∙_}
 use mathlib.Core.Logic.{⊎-elim}
 use native.Mathlib.Omega.{arith}
 use borrow.Author.Needs.{needs}
-use Rattle.model.specs.Lent.{cycleAt}
+use lib.ListN.{getD}
 use Rattle.probe.specs.Scan.{candidateAt}
 use Rattle.probe.proofs.Scans.{Leads, leads-start, leads-yes, leads-no, leads-end}
 use Rattle.probe.proofs.earliest.Statement.{statement}
 use Rattle.probe.proofs.earliest.Tie as tie
 
 abbrev Inv-loop : tie.InvT-loop
-Inv-loop words marks base ways enough best₀ w₀ best w = Leads (λ v. candidateAt marks enough (base + v)) (λ v. cycleAt words (base + v)) ways w best
+Inv-loop words marks ages base ways enough best₀ w₀ best w =
+    Leads (λ v. candidateAt marks enough (base + v)) (λ v. getD words (ages + (base + v)) 0) ways w best
 
 abbrev μ-loop : tie.MeasureT-loop
-μ-loop words marks base ways enough best₀ w₀ best w = ways - w
+μ-loop words marks ages base ways enough best₀ w₀ best w = ways - w
 
 pub earliest-spec : {M : Type 1} → statement M
 earliest-spec =

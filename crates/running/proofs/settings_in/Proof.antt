@@ -19,4 +19,12 @@ settings-in-spec =
     (λ c. search needs)
     (λ c κs. search needs)
     (λ c. search needs)
-    (λ c. rw (c .before .before .before .before .before .number2 .ensures, c .before .before .before .before .number1 .ensures, c .before .before .before .number12 .ensures, c .before .before .number13 .ensures, c .before .number14 .ensures, c .number15 .ensures)))
+    (λ c κs. search needs)
+    (λ c. search needs)
+    (λ c.
+    let queue = c .before in
+    let readers = queue .before in
+    let misses = readers .before in
+    let dirty = misses .before in
+    let ways = dirty .before in
+    rw (ways .before .number2 .ensures, ways .number1 .ensures, dirty .number12 .ensures, misses .number13 .ensures, readers .number14 .ensures, queue .number15 .ensures, c .number16 .ensures)))

@@ -1,4 +1,5 @@
 use mathlib.Core.Path.{_∙_}
+use native.Mathlib.Omega.{arith}
 use borrow.Author.Needs.{needs}
 use Rattle.access.proofs.writes.change_line.Statement.{statement}
 use Rattle.access.proofs.writes.change_line.Tie as tie
@@ -14,7 +15,11 @@ change-line-spec =
     tie.close
     (tie.spec
     (λ c κs. search needs)  -- is-dirty-requires
-    (λ c κs. search needs)  -- sectors-found-requires
+    (λ c κs.
+    let pre = c .before .before .before .before .before .before .before .pre in
+    let p = pre .0 in
+    let f = pre .1 in
+    ((p, omega arith, omega arith), pre .2))  -- sectors-found-requires
     (λ c κs. search needs)  -- sectors-left-requires
     (λ c κs. search needs)  -- some-modified-requires
     (λ c κs.

@@ -17,4 +17,5 @@ words-length-spec =
     (λ c. let r = ranged _ (c .before .before .before .pre) in omega arith)
     (λ c. let r = ranged _ (c .before .before .before .pre) in omega (arith, tickets-most _ (c .before .before .before .pre)))
     (λ c. let r = ranged _ (c .before .before .before .pre) in omega (arith, tickets-most _ (c .before .before .before .pre)))
+    (λ c. let r = ranged _ (c .before .before .before .pre) in omega (arith, tickets-most _ (c .before .before .before .pre)))
     (λ c. search needs))

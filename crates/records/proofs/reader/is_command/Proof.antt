@@ -1,4 +1,4 @@
--- The first six kinds are the commands'.
+-- The kinds below the constant are the commands'.
 use Rattle.records.proofs.Lengths.{command-kinds}
 use Rattle.records.proofs.reader.is_command.Statement.{statement}
 use Rattle.records.proofs.reader.is_command.Tie as tie

@@ -1,4 +1,4 @@
--- The one kind of settings.
+-- The two kinds of settings.
 use Rattle.records.proofs.Lengths.{settings-kinds}
 use Rattle.records.proofs.reader.is_settings.Statement.{statement}
 use Rattle.records.proofs.reader.is_settings.Tie as tie

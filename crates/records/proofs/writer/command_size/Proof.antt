@@ -11,12 +11,13 @@ command-size-spec =
     tie.close
     (tie.spec
     (λ c. search needs)
+    (λ c κs. search needs)
     (λ c. search needs)
     (λ c. search needs)
     (λ c. search needs)
     (λ c. search needs)
     (λ c. search needs)
-    (λ c. rw (c .before .c .given .1) (search needs))
+    (λ c. rw (c .before .before .c .given .1) (c .settings-size .ensures))
     (λ c. rw (c .before .c2 .given .1) (search needs))
     (λ c. rw (c .before .c3 .given .1) (search needs))
     (λ c. rw (c .enum-told .given .1) (search needs))

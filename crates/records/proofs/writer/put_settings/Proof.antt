@@ -1,9 +1,9 @@
--- The kind, the sets, then a byte each.
+-- The kind, the numbers, the rule.
 use mathlib.Core.Path.{refl}
 use Rattle.model.specs.RecordsOf as records
 use Rattle.model.specs.Records.{bytesOf}
-use Rattle.records.proofs.Stores.{laid-then, laid-as}
-use Rattle.records.proofs.Encoding.{settings-bytes}
+use Rattle.records.proofs.Stores.{laid-then, laid-as, laid-sized}
+use Rattle.records.proofs.Encoding.{settings-bytes, settings-length}
 use borrow.Author.Needs.{needs}
 use Rattle.records.proofs.writer.put_settings.Statement.{statement}
 use Rattle.records.proofs.writer.put_settings.Tie as tie
@@ -11,27 +11,21 @@ use Rattle.records.proofs.writer.put_settings.Tie as tie
 returns : tie.Need-returns
 unfolding records.commandBytes bytesOf
 returns c =
-    let p7 = c .before .before in
-    let p6 = p7 .before .before .before .before in
-    let p5 = p6 .before .before .before .before in
-    let p4 = p5 .before .before .before .before in
-    let p3 = p4 .before .before .before .before in
+    let p3 = c .before .before in
     let p2 = p3 .before .before .before .before in
     let p1 = p2 .before .before .before .before in
-    let f = p1 .before .before .before .fits in
-    laid-as
-    (laid-then (p1 .put1 .ensures) refl (laid-then (p2 .put2 .ensures) refl (laid-then (p3 .put12 .ensures) refl
-    (laid-then (p4 .put13 .ensures) refl (laid-then (p5 .put14 .ensures) refl (laid-then (p6 .put15 .ensures) refl (p7 .put16 .ensures)))))))
-    (settings-bytes _ _ _ _ _ _ (f .ways .fits) (f .dirty .fits) (f .misses .fits) (f .readers .fits) (f .queue .fits))
+    let g = p1 .before .before .before .before .args .g in
+    laid-sized
+    (laid-as
+    (laid-then (p1 .put1 .ensures) refl (laid-then (p2 .put-numbers .ensures) refl (p3 .put-rule .ensures)))
+    (settings-bytes g (p1 .before .settings-kind .ensures)))
+    (settings-length g)
 
 pub put-settings-spec : {M : Type 1} → statement M
 unfolding records.commandBytes bytesOf
 put-settings-spec =
     tie.close
     (tie.spec
-    (λ c κs. search needs)
-    (λ c κs. search needs)
-    (λ c κs. search needs)
     (λ c κs. search needs)
     (λ c κs. search needs)
     (λ c κs. search needs)

@@ -3,6 +3,7 @@ use native.Mathlib.Omega.{arith}
 use native.Mathlib.Nat.{div-add-mod'}
 use borrow.Author.Needs.{needs}
 use Rattle.layout.proofs.Tests.{said-no, said-yes}
+use Rattle.layout.proofs.Room.{taken-room, taken-is}
 use Rattle.soundness.proofs.OfLines.{idle-line, live-line}
 use Rattle.soundness.proofs.lines.line_fine.Statement.{statement}
 use Rattle.soundness.proofs.lines.line_fine.Tie as tie
@@ -11,21 +12,36 @@ pub line-fine-spec : {M : Type 1} → statement M
 line-fine-spec =
     tie.close
     (tie.spec
-    (λ c. search needs)
-    (λ c. search needs)
-    (λ c. search needs)
-    (λ c. search needs)
-    (λ c. search needs)
-    (λ c. search needs)
-    (λ c κs. search needs)
-    (λ c. let a = c .before .before .before .before .before .before .before .before .args in idle-line (a .s) (a .longs .now) (a .words .now) (a .marks .now) (a .l) (said-no (c .before .live .ensures) (c .if1 .taken)))
-    (λ c. search needs)
-    (λ c κs. search needs)
-    (λ c. let a = c .before .before .before .before .before .before .before .before .before .before .before .args in omega (arith, div-add-mod' (a .l) (a .s .ways)))
-    (λ c κs. let start = c .before .before .before .before .before .before .before .before .before .before .before in let a = start .args in (start .pre .0, omega (arith, div-add-mod' (a .l) (a .s .ways)), start .pre .1))
+    (λ c. search needs)  -- mul-tag
+    (λ c. search needs)  -- shared-slice-read-tag
+    (λ c. search needs)  -- add-cycle
+    (λ c. search needs)  -- mul-cycle
+    (λ c. search needs)  -- shared-slice-read-cycle
+    (λ c.
+    let pre = c .before .before .before .before .before .before .pre in
+    let room = taken-room (pre .0) (pre .1) _ (pre .2) in
+    omega arith)  -- add-taken
+    (λ c.
+    let pre = c .before .before .before .before .before .before .pre in
+    let room = taken-room (pre .0) (pre .1) _ (pre .2) in
+    omega arith)  -- mul-taken
+    (λ c.
+    let pre = c .before .before .before .before .before .before .before .pre in
+    taken-room (pre .0) (pre .1) _ (pre .2) .inside)  -- shared-slice-read-taken
+    (λ c. search needs)  -- shared-slice-read-latest
+    (λ c κs. search needs)  -- live-requires
+    (λ c.
+    let start = c .before .before .before .before .before .before .before .before .before .before in
+    let a = start .args in
+    rw (taken-is (start .pre .0) (a .words .now) (a .l))
+    (idle-line (a .s) (a .longs .now) (a .words .now) (a .marks .now) (a .l) (said-no (c .before .live .ensures) (c .if1 .taken))))  -- returns
+    (λ c. search needs)  -- div-set
+    (λ c κs. search needs)  -- set-index-requires
+    (λ c. let a = c .before .before .before .before .before .before .before .before .before .before .before .before .before .args in omega (arith, div-add-mod' (a .l) (a .s .ways)))  -- mul-no-twin
+    (λ c κs. let start = c .before .before .before .before .before .before .before .before .before .before .before .before .before in let a = start .args in (start .pre .1, omega (arith, div-add-mod' (a .l) (a .s .ways)), start .pre .2))  -- no-twin-requires
     (λ c.
     let tested = c .before .before .before .before in
-    let start = tested .before .before .before .before .before .before .before .before in
+    let start = tested .before .before .before .before .before .before .before .before .before .before in
     let a = start .args in
-    rw (c .before .before .set-index .ensures)
-    (live-line (a .s) (a .longs .now) (a .words .now) (a .marks .now) (a .l) (start .pre .0 .ways) (said-yes (tested .before .live .ensures) (tested .if1 .left)) (c .no-twin .ensures))))
+    rw (c .before .before .set-index .ensures, taken-is (start .pre .0) (a .words .now) (a .l))
+    (live-line (a .s) (a .longs .now) (a .words .now) (a .marks .now) (a .l) (start .pre .1 .ways) (said-yes (tested .before .live .ensures) (tested .if1 .left)) (c .no-twin .ensures))))  -- returns-2

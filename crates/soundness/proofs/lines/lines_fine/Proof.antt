@@ -9,10 +9,10 @@ use Rattle.soundness.proofs.lines.lines_fine.Statement.{statement}
 use Rattle.soundness.proofs.lines.lines_fine.Tie as tie
 
 abbrev Inv-loop : tie.InvT-loop
-Inv-loop s longs words marks n l₀ l = Passed (is.lineFine s longs words marks) (linesOf s) l
+Inv-loop s at longs words marks n l₀ l = Passed (is.lineFine s longs words marks) (linesOf s) l
 
 abbrev μ-loop : tie.MeasureT-loop
-μ-loop s longs words marks n l₀ l = linesOf s - l
+μ-loop s at longs words marks n l₀ l = linesOf s - l
 
 pub lines-fine-spec : {M : Type 1} → statement M
 lines-fine-spec =

@@ -6,29 +6,25 @@ use Rattle.wording.proofs.commands.put_settings.Tie as tie
 
 returns : tie.Need-returns
 returns c =
-    let p6 = c .before .before in
-    let p5 = p6 .before .before .before .before .before in
-    let p4 = p5 .before .before .before .before .before in
-    let p3 = p4 .before .before .before .before .before in
-    let p2 = p3 .before .before .before .before .before in
-    let p1 = p2 .before .before .before .before .before in
-    puts-then (p1 .put-field .ensures) (puts-then (p2 .put-field2 .ensures) (puts-then (p3 .put-field3 .ensures) (puts-then (p4 .put-field4 .ensures) (puts-then (p5 .put-field5 .ensures) (p6 .put-field6 .ensures)))))
+    let p4 = c .before .before in
+    let p3 = p4 .before .before .before .before in
+    let p2 = p3 .before .before .before .before .before .before in
+    let p1 = p2 .before .before .before .before .before .before in
+    puts-then (p1 .put-field .ensures) (puts-then (p2 .put-field2 .ensures) (puts-then (p3 .put-field3 .ensures) (p4 .put-buffers .ensures)))
 
 pub put-settings-spec : {M : Type 1} → statement M
 put-settings-spec =
     tie.close
     (tie.spec
     (λ c. search needs)
-    (λ c κs. search needs)
     (λ c. search needs)
     (λ c κs. search needs)
     (λ c. search needs)
-    (λ c κs. search needs)
     (λ c. search needs)
     (λ c κs. search needs)
     (λ c. search needs)
-    (λ c κs. search needs)
     (λ c. search needs)
+    (λ c κs. search needs)
     (λ c κs. search needs)
     (λ c. search needs)
     returns)

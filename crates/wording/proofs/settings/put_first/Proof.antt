@@ -1,146 +1,118 @@
 -- The first setting that is outside its range.
-use mathlib.Core.Path.{_≡_}
+use mathlib.Core.Path.{_≡_, _∙_}
+use mathlib.Core.List.{List}
+use Prim.Native.Nat.{ℕ}
 use borrow.Author.Needs.{needs}
-use Rattle.wording.specs.Settings.{outsideWords, firstWords}
+use Rattle.model.specs.declared.Settings.{Settings}
+use Rattle.wording.specs.Settings.{fromWays, fromDirty, fromMisses, fromReaders, fromQueue, fromRule, outsideWords, firstWords}
 use Rattle.wording.proofs.Pieces.{put-one}
 use Rattle.wording.proofs.Ranges.{is-inside, is-outside, is-power, is-no-power}
 use Rattle.wording.proofs.settings.put_first.Statement.{statement}
 use Rattle.wording.proofs.settings.put_first.Tie as tie
 
 -- the numbers as they were read
-seen : (c : tie.After-number15)
-    → firstWords (c .before .before .before .before .before .before .before .before .args .s .now)
-    ≡ outsideWords (c .before .before .before .before .before .number2 .result) (c .before .before .before .before .number1 .result) (c .before .before .before .number12 .result) (c .before .before .number13 .result) (c .before .number14 .result) (c .number15 .result)
-seen c = rw (← (c .before .before .before .before .before .number2 .ensures), ← (c .before .before .before .before .number1 .ensures), ← (c .before .before .before .number12 .ensures), ← (c .before .before .number13 .ensures), ← (c .before .number14 .ensures), ← (c .number15 .ensures))
+abbrev S : tie.After-number16 → Settings
+S c = record {
+  sets = c .before .before .before .before .before .before .number2 .result;
+  ways = c .before .before .before .before .before .number1 .result;
+  dirty = c .before .before .before .before .number12 .result;
+  misses = c .before .before .before .number13 .result;
+  readers = c .before .before .number14 .result;
+  queue = c .before .number15 .result;
+  rule = c .number16 .result;
+}
+
+abbrev words : tie.After-number16 → List (List ℕ)
+words c = firstWords (c .before .before .before .before .before .before .before .before .before .args .b .now)
+
+seen : (c : tie.After-number16) → words c ≡ outsideWords (S c)
+seen c = rw (← (c .before .before .before .before .before .before .number2 .ensures), ← (c .before .before .before .before .before .number1 .ensures), ← (c .before .before .before .before .number12 .ensures), ← (c .before .before .before .number13 .ensures), ← (c .before .before .number14 .ensures), ← (c .before .number15 .ensures), ← (c .number16 .ensures))
+
+-- ---- behind each test that a setting passed
+
+after-1 : (c : tie.Else1) → let n = c .before .before in words n ≡ fromWays (S n)
+unfolding outsideWords
+after-1 c = let n = c .before .before in seen n ∙ rw (is-power (S n .sets) (c .before .power-to-256 .ensures) (c .if1 .left))
+
+after-2 : (c : tie.Else2) → let n = c .before .before .before .before in words n ≡ fromDirty (S n)
+after-2 c = let n = c .before .before .before .before in after-1 (c .before .before) ∙ rw (is-inside 1 16 (S n .ways) (c .before .outside .ensures) (c .if2 .left))
+
+after-3 : (c : tie.Else3) → let n = c .before .before .before .before .before .before in words n ≡ fromMisses (S n)
+after-3 c = let n = c .before .before .before .before .before .before in after-2 (c .before .before) ∙ rw (is-inside 0 100 (S n .dirty) (c .before .outside2 .ensures) (c .if3 .left))
+
+after-4 : (c : tie.Else4) → let n = c .before .before .before .before .before .before .before .before in words n ≡ fromReaders (S n)
+after-4 c = let n = c .before .before .before .before .before .before .before .before in after-3 (c .before .before) ∙ rw (is-inside 1 64 (S n .misses) (c .before .outside3 .ensures) (c .if4 .left))
+
+after-5 : (c : tie.Else5) → let n = c .before .before .before .before .before .before .before .before .before .before in words n ≡ fromQueue (S n)
+after-5 c = let n = c .before .before .before .before .before .before .before .before .before .before in after-4 (c .before .before) ∙ rw (is-inside 1 8 (S n .readers) (c .before .outside4 .ensures) (c .if5 .left))
+
+after-6 : (c : tie.Else6) → let n = c .before .before .before .before .before .before .before .before .before .before .before .before in words n ≡ fromRule (S n)
+after-6 c = let n = c .before .before .before .before .before .before .before .before .before .before .before .before in after-5 (c .before .before) ∙ rw (is-inside 2 64 (S n .queue) (c .before .outside5 .ensures) (c .if6 .left))
+
+-- ---- the first that does not
 
 returns : tie.Need-returns
 unfolding outsideWords
 returns c =
     let t = c .before .before in
-    let i1 = t .before .before in
-    let n = i1 .before .before in
-    rw (
-      seen n,
-      is-no-power (n .before .before .before .before .before .number2 .result) (i1 .before .power-to-256 .ensures) (i1 .if1 .taken),
-    )
-    (t .put-sets .ensures)
+    let i = t .before .before in
+    let n = i .before .before in
+    rw (seen n, is-no-power (S n .sets) (i .before .power-to-256 .ensures) (i .if1 .taken)) (t .put-sets .ensures)
 
 returns-2 : tie.Need-returns-2
-unfolding outsideWords
 returns-2 c =
     let t = c .before .before in
-    let i2 = t .before .before .before .before in
-    let i1 = i2 .before .before in
-    let n = i1 .before .before in
-    rw (
-      seen n,
-      is-power (n .before .before .before .before .before .number2 .result) (i1 .before .power-to-256 .ensures) (i1 .if1 .left),
-      is-outside 1 16 (n .before .before .before .before .number1 .result) (i2 .before .outside .ensures) (i2 .if2 .taken),
-    )
-    (t .put-setting .ensures)
+    let i = t .before .before .before .before in
+    let n = i .before .before .before .before in
+    rw (after-1 (i .before .before), is-outside 1 16 (S n .ways) (i .before .outside .ensures) (i .if2 .taken)) (t .put-setting .ensures)
 
 returns-3 : tie.Need-returns-3
-unfolding outsideWords
 returns-3 c =
     let t = c .before .before in
-    let i3 = t .before .before .before .before in
-    let i2 = i3 .before .before in
-    let i1 = i2 .before .before in
-    let n = i1 .before .before in
-    rw (
-      seen n,
-      is-power (n .before .before .before .before .before .number2 .result) (i1 .before .power-to-256 .ensures) (i1 .if1 .left),
-      is-inside 1 16 (n .before .before .before .before .number1 .result) (i2 .before .outside .ensures) (i2 .if2 .left),
-      is-outside 0 100 (n .before .before .before .number12 .result) (i3 .before .outside2 .ensures) (i3 .if3 .taken),
-    )
-    (t .put-setting2 .ensures)
+    let i = t .before .before .before .before in
+    let n = i .before .before .before .before .before .before in
+    rw (after-2 (i .before .before), is-outside 0 100 (S n .dirty) (i .before .outside2 .ensures) (i .if3 .taken)) (t .put-setting2 .ensures)
 
 returns-4 : tie.Need-returns-4
-unfolding outsideWords
 returns-4 c =
     let t = c .before .before in
-    let i4 = t .before .before .before .before in
-    let i3 = i4 .before .before in
-    let i2 = i3 .before .before in
-    let i1 = i2 .before .before in
-    let n = i1 .before .before in
-    rw (
-      seen n,
-      is-power (n .before .before .before .before .before .number2 .result) (i1 .before .power-to-256 .ensures) (i1 .if1 .left),
-      is-inside 1 16 (n .before .before .before .before .number1 .result) (i2 .before .outside .ensures) (i2 .if2 .left),
-      is-inside 0 100 (n .before .before .before .number12 .result) (i3 .before .outside2 .ensures) (i3 .if3 .left),
-      is-outside 1 64 (n .before .before .number13 .result) (i4 .before .outside3 .ensures) (i4 .if4 .taken),
-    )
-    (t .put-setting3 .ensures)
+    let i = t .before .before .before .before in
+    let n = i .before .before .before .before .before .before .before .before in
+    rw (after-3 (i .before .before), is-outside 1 64 (S n .misses) (i .before .outside3 .ensures) (i .if4 .taken)) (t .put-setting3 .ensures)
 
 returns-5 : tie.Need-returns-5
-unfolding outsideWords
 returns-5 c =
     let t = c .before .before in
-    let i5 = t .before .before .before .before in
-    let i4 = i5 .before .before in
-    let i3 = i4 .before .before in
-    let i2 = i3 .before .before in
-    let i1 = i2 .before .before in
-    let n = i1 .before .before in
-    rw (
-      seen n,
-      is-power (n .before .before .before .before .before .number2 .result) (i1 .before .power-to-256 .ensures) (i1 .if1 .left),
-      is-inside 1 16 (n .before .before .before .before .number1 .result) (i2 .before .outside .ensures) (i2 .if2 .left),
-      is-inside 0 100 (n .before .before .before .number12 .result) (i3 .before .outside2 .ensures) (i3 .if3 .left),
-      is-inside 1 64 (n .before .before .number13 .result) (i4 .before .outside3 .ensures) (i4 .if4 .left),
-      is-outside 1 8 (n .before .number14 .result) (i5 .before .outside4 .ensures) (i5 .if5 .taken),
-    )
-    (t .put-setting4 .ensures)
+    let i = t .before .before .before .before in
+    let n = i .before .before .before .before .before .before .before .before .before .before in
+    rw (after-4 (i .before .before), is-outside 1 8 (S n .readers) (i .before .outside4 .ensures) (i .if5 .taken)) (t .put-setting4 .ensures)
 
 returns-6 : tie.Need-returns-6
-unfolding outsideWords
 returns-6 c =
     let t = c .before .before in
-    let i6 = t .before .before .before .before in
-    let i5 = i6 .before .before in
-    let i4 = i5 .before .before in
-    let i3 = i4 .before .before in
-    let i2 = i3 .before .before in
-    let i1 = i2 .before .before in
-    let n = i1 .before .before in
-    rw (
-      seen n,
-      is-power (n .before .before .before .before .before .number2 .result) (i1 .before .power-to-256 .ensures) (i1 .if1 .left),
-      is-inside 1 16 (n .before .before .before .before .number1 .result) (i2 .before .outside .ensures) (i2 .if2 .left),
-      is-inside 0 100 (n .before .before .before .number12 .result) (i3 .before .outside2 .ensures) (i3 .if3 .left),
-      is-inside 1 64 (n .before .before .number13 .result) (i4 .before .outside3 .ensures) (i4 .if4 .left),
-      is-inside 1 8 (n .before .number14 .result) (i5 .before .outside4 .ensures) (i5 .if5 .left),
-      is-outside 2 64 (n .number15 .result) (i6 .before .outside5 .ensures) (i6 .if6 .taken),
-    )
-    (t .put-setting5 .ensures)
+    let i = t .before .before .before .before in
+    let n = i .before .before .before .before .before .before .before .before .before .before .before .before in
+    rw (after-5 (i .before .before), is-outside 2 64 (S n .queue) (i .before .outside5 .ensures) (i .if6 .taken)) (t .put-setting5 .ensures)
 
 returns-7 : tie.Need-returns-7
-unfolding outsideWords
 returns-7 c =
     let t = c .before .before in
-    let i6 = t .before .before .before in
-    let i5 = i6 .before .before in
-    let i4 = i5 .before .before in
-    let i3 = i4 .before .before in
-    let i2 = i3 .before .before in
-    let i1 = i2 .before .before in
-    let n = i1 .before .before in
-    rw (
-      seen n,
-      is-power (n .before .before .before .before .before .number2 .result) (i1 .before .power-to-256 .ensures) (i1 .if1 .left),
-      is-inside 1 16 (n .before .before .before .before .number1 .result) (i2 .before .outside .ensures) (i2 .if2 .left),
-      is-inside 0 100 (n .before .before .before .number12 .result) (i3 .before .outside2 .ensures) (i3 .if3 .left),
-      is-inside 1 64 (n .before .before .number13 .result) (i4 .before .outside3 .ensures) (i4 .if4 .left),
-      is-inside 1 8 (n .before .number14 .result) (i5 .before .outside4 .ensures) (i5 .if5 .left),
-      is-inside 2 64 (n .number15 .result) (i6 .before .outside5 .ensures) (i6 .if6 .left),
-    )
-    (put-one (t .put-text .ensures))
+    let i = t .before .before .before .before in
+    let n = i .before .before .before .before .before .before .before .before .before .before .before .before .before .before in
+    rw (after-6 (i .before .before), is-outside 0 1 (S n .rule) (i .before .outside6 .ensures) (i .if7 .taken)) (t .put-setting6 .ensures)
+
+returns-8 : tie.Need-returns-8
+returns-8 c =
+    let t = c .before .before in
+    let i = t .before .before .before in
+    let n = i .before .before .before .before .before .before .before .before .before .before .before .before .before .before in
+    rw (after-6 (i .before .before), is-inside 0 1 (S n .rule) (i .before .outside6 .ensures) (i .if7 .left)) (put-one (t .put-text .ensures))
 
 pub put-first-spec : {M : Type 1} → statement M
 put-first-spec =
     tie.close
     (tie.spec
+    (λ c κs. search needs)
     (λ c κs. search needs)
     (λ c κs. search needs)
     (λ c κs. search needs)
@@ -182,7 +154,13 @@ put-first-spec =
     (λ c κs. search needs)
     (λ c. search needs)
     returns-6
+    (λ c κs. search needs)
+    (λ c. search needs)
     (λ c. search needs)
     (λ c κs. search needs)
     (λ c. search needs)
-    returns-7)
+    returns-7
+    (λ c. search needs)
+    (λ c κs. search needs)
+    (λ c. search needs)
+    returns-8)

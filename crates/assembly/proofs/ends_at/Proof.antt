@@ -1,0 +1,8 @@
+-- `assembly::ends_at` meets its contract.
+use borrow.Author.Needs.{needs}
+use Rattle.assembly.proofs.Fields.{ends-at}
+use Rattle.assembly.proofs.ends_at.Statement.{statement}
+use Rattle.assembly.proofs.ends_at.Tie as tie
+
+pub ends-at-spec : {M : Type 1} → statement M
+ends-at-spec = tie.close (tie.spec (λ c κs. search needs) (λ c κs. search needs) (λ c. ends-at _ _ (c .before .skip-spaces .ensures) (c .word-end .ensures)))

@@ -1,0 +1,27 @@
+-- By the case: nothing, or the byte.
+use mathlib.Core.Path.{refl, sym}
+use native.Mathlib.Nat.{add-zero}
+use Rattle.model.specs.Records.{bytesOf}
+use Rattle.records.proofs.Stores.{laid-as}
+use Rattle.records.proofs.Encoding.{rule-bytes, rule-room, rule-laid}
+use borrow.Author.Needs.{needs}
+use Rattle.records.proofs.writer.put_rule.Statement.{statement}
+use Rattle.records.proofs.writer.put_rule.Tie as tie
+
+returns-2 : tie.Need-returns-2
+unfolding bytesOf
+returns-2 c =
+    let k = c .before .before .before .before in
+    rule-laid _ (laid-as (c .before .before .put1 .ensures) (rule-bytes _ (search needs))) (k .before .rule .given .1)
+
+pub put-rule-spec : {M : Type 1} → statement M
+unfolding bytesOf
+put-rule-spec =
+    tie.close
+    (tie.spec
+    (λ c. search needs)
+    (λ c. search needs)
+    (λ c κs. rule-room _ (c .before .before .before .before .before .pre) (c .before .before .rule .given .1))
+    (λ c. rule-laid _ (record { next = sym (add-zero _); slice = refl }) (c .enum-told .given .1))
+    (λ c. search needs)
+    returns-2)

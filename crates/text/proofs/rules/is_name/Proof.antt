@@ -1,0 +1,8 @@
+-- The name in the row.
+use mathlib.Core.Path.{_∙_, ap}
+use borrow.Author.Needs.{needs}
+use Rattle.text.proofs.rules.is_name.Statement.{statement}
+use Rattle.text.proofs.rules.is_name.Tie as tie
+
+pub is-name-spec : {M : Type 1} → statement M
+is-name-spec = tie.close (tie.spec (λ c κs. search needs) (λ c κs. search needs) (λ c κs. search needs) (λ c. rw (c .word-is .ensures, c .before .name-in .ensures, c .before .before .before .row-of .ensures)))

@@ -1,0 +1,9 @@
+-- Up to the end of the word at the front.
+use mathlib.Core.Path.{_∙_}
+use native.Mathlib.Nat.{zero-add}
+use borrow.Author.Needs.{needs}
+use Rattle.text.proofs.rules.name_in.Statement.{statement}
+use Rattle.text.proofs.rules.name_in.Tie as tie
+
+pub name-in-spec : {M : Type 1} → statement M
+name-in-spec = tie.close (tie.spec (λ c κs. search needs) (λ c κs. search needs) (λ c. c .front .ensures ∙ rw (c .before .word-end .ensures, zero-add)))
