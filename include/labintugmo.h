@@ -27,7 +27,7 @@
  * number rises when a program has to be changed, the second when a setting, a record or a region of
  * the tables is added. Tables that were kept belong to their version: another one has other lengths.
  */
-#define LABINTUGMO_VERSION "2.1.0"
+#define LABINTUGMO_VERSION "2.2.0"
 
 #include <stddef.h>
 #include <stdint.h>
@@ -56,10 +56,11 @@ enum {
     LABINTUGMO_SETTINGS = 7 /* how many there are */
 };
 
-/* Replacement rules. Of equals the lowest way goes. */
+/* Replacement rules. Under the first two the lowest way goes of equals. */
 enum {
-    LABINTUGMO_LRU = 0, /* least recently used: the earliest last access */
-    LABINTUGMO_FIFO = 1 /* first in first out: the line that a MISS took the earliest */
+    LABINTUGMO_LRU = 0,  /* least recently used: the earliest last access */
+    LABINTUGMO_FIFO = 1, /* first in first out: the line that a MISS took the earliest */
+    LABINTUGMO_TREE = 2  /* the tree of the set; ways has to be a power of two */
 };
 
 /* Bytes of event room that a call, and that wait, asks for before it does anything. */
@@ -164,7 +165,7 @@ enum {
  *     [lines + entry]                              miss entry: sector address
  *     [lines + misses + place]                     queue: sector or block address
  *
- *   words, 2 + 6 * lines + misses * readers + 4 * queue:
+ *   words, 2 + 6 * lines + misses * readers + 4 * queue + sets:
  *     [0]                                          current cycle
  *     [1 + line]                                   cycle of the line's last access
  *     [1 + lines + 4 * line + sector]              dirty mask, bit i for byte i
@@ -175,6 +176,9 @@ enum {
  *        + 4 * queue]                              how many lines have a MODIFIED sector
  *     [2 + 5 * lines + readers * misses
  *        + 4 * queue + line]                       cycle at which a MISS last took the line
+ *     [2 + 6 * lines + readers * misses
+ *        + 4 * queue + set]                        tree: bit n - 1 for node n, 0 the lower half;
+ *                                                  node 1 is the top, 2n and 2n + 1 lie below n
  *
  *   marks, 8 * lines + 2 * misses + queue:
  *     [4 * line + sector]                          status

@@ -30,7 +30,8 @@ namespace labintugmo {
 // How a victim is chosen where no line is wholly invalid.
 enum class Rule : std::uint32_t {
     lru = LABINTUGMO_LRU,
-    fifo = LABINTUGMO_FIFO
+    fifo = LABINTUGMO_FIFO,
+    tree = LABINTUGMO_TREE
 };
 
 // Any numbers; in_range says whether a cache can have them. The ranges stand in labintugmo.h.
@@ -109,6 +110,7 @@ public:
     }
     std::size_t dirty_count() const noexcept { return queue_mask(queue_, 0); }
     std::size_t taken_cycle(std::size_t line) const noexcept { return dirty_count() + 1 + line; }
+    std::size_t tree(std::size_t set) const noexcept { return taken_cycle(lines_) + set; }
 
     // In marks.
     std::size_t status(std::size_t line, std::size_t sector) const noexcept {
@@ -214,6 +216,7 @@ inline const char* name(Rule rule) noexcept {
     switch (rule) {
     case Rule::lru: return "lru";
     case Rule::fifo: return "fifo";
+    case Rule::tree: return "tree";
     }
     return "no rule";
 }

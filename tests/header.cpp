@@ -59,7 +59,8 @@ std::string letters(const Range& events) {
 void settings_and_layout() {
     for (const Settings bad : {Settings{}, Settings{3, 2, 50, 2, 2, 4}, Settings{256, 5, 50, 2, 2, 4},
                                Settings{1, 2, 50, 2, 2, 0xFFFFFFFF},
-                               Settings{1, 2, 50, 2, 2, 4, static_cast<Rule>(2)}}) {
+                               Settings{1, 2, 50, 2, 2, 4, static_cast<Rule>(3)},
+                               Settings{1, 3, 50, 2, 2, 4, Rule::tree}}) {
         CHECK(!bad.in_range());
         CHECK(!Cache::make(bad));
     }
@@ -76,7 +77,7 @@ void settings_and_layout() {
     CHECK(at.current_cycle() + 1 == at.line_cycle(0) && at.line_cycle(255) + 1 == at.mask(0, 0));
     CHECK(at.mask(255, 3) + 1 == at.ticket(0, 0) && at.ticket(15, 7) + 1 == at.queue_mask(0, 0));
     CHECK(at.queue_mask(31, 3) + 1 == at.dirty_count() && at.dirty_count() + 1 == at.taken_cycle(0));
-    CHECK(at.taken_cycle(255) + 1 == wide.words_length());
+    CHECK(at.taken_cycle(255) + 1 == at.tree(0) && at.tree(63) + 1 == wide.words_length());
     CHECK(at.status(255, 3) + 1 == at.readable(0, 0) && at.readable(255, 3) + 1 == at.sent(0));
     CHECK(at.sent(15) + 1 == at.ticket_count(0) && at.ticket_count(15) + 1 == at.queue_kind(0));
     CHECK(at.queue_kind(31) + 1 == wide.marks_length());
@@ -142,6 +143,7 @@ void refusals() {
     CHECK(std::string(name(Answer::sector_miss)) == "SECTOR_MISS");
     CHECK(std::string(name(Stop::cut_short)) == "cut short");
     CHECK(std::string(name(Rule::lru)) == "lru" && std::string(name(Rule::fifo)) == "fifo");
+    CHECK(std::string(name(Rule::tree)) == "tree");
 }
 
 // A victim with dirty bytes, case 11 of document 01.
@@ -196,14 +198,14 @@ void rules() {
     CHECK(ruled.settings(settings) && ruled.bytes().size() == 9 && ruled.bytes()[0] == 6);
     CHECK(run(ruled.bytes()).cache->settings().rule == Rule::fifo);
     Bytes other = ruled.bytes();
-    other[8] = 2;
+    other[8] = 3;
     CHECK(run(other).result.stop == Stop::bad_settings && !run(other).cache);
     other.pop_back();
     CHECK(run(other).result.stop == Stop::cut_short && !run(other).cache);
     CHECK(!commands.settings({1, 2, 50, 2, 2, 4, static_cast<Rule>(256)}));
     CHECK(commands.bytes().size() == 8);
 
-    // Tables fit every rule; a cache that runs a stream has the stream's rule.
+    // Tables have the same lengths under every rule; a cache that runs a stream has the stream's rule.
     Cache cache = fresh();
     Bytes events(LABINTUGMO_ROOM);
     CHECK(cache.run(ruled.bytes().data(), 9, events.data(), events.size()).consumed == 9);
@@ -212,6 +214,33 @@ void rules() {
     Tables later = cache.tables();
     later.words[cache.layout().taken_cycle(0)] = 1;
     CHECK(cache.restore(later) == Refusal::not_sound);
+}
+
+// The worked examples of the tree rule: the tree that each access leaves, and the line that it takes.
+void trees() {
+    const Settings settings{1, 4, 50, 4, 1, 4, Rule::tree};
+    Cache cache = fresh(settings);
+    const std::size_t tree = cache.layout().tree(0);
+    for (std::uint64_t block = 0; block < 4; ++block) {
+        CHECK(cache.read(128 * block, 1).line() == 3 - block && cache.send() && cache.fill(128 * block));
+    }
+    CHECK(cache.tables().words[tree] == 7 && cache.read(1, 1).refusal() && cache.tables().words[tree] == 7);
+    CHECK(cache.read(512, 1).line() == 3 && cache.tables().words[tree] == 2 && !cache.check());
+
+    // With ways 2 and 3 RESERVED the half that the tree names has no candidate.
+    CHECK(!cache.reset() && cache.tables().words[tree] == 0);
+    for (std::uint64_t block = 0; block < 4; ++block) {
+        CHECK(cache.read(128 * block, 1) && cache.send());
+    }
+    CHECK(cache.fill(256) && cache.fill(384) && cache.tables().words[tree] == 7);
+    CHECK(cache.read(512, 1).line() == 1 && cache.tables().words[tree] == 5);
+
+    Tables other = cache.tables();
+    other.words[tree] = 8;
+    CHECK(cache.restore(other) == Refusal::not_sound);
+    Settings lru = settings;
+    lru.rule = Rule::lru;
+    CHECK(!Cache::adopt(lru, cache.tables()));
 }
 
 void damaged_logs() {
@@ -314,10 +343,10 @@ void runs() {
     CHECK(stopped.result.consumed == good.bytes().size() && letters(Log(stopped.log)) == "a.ar");
 
     // On a cache of other settings whose tables have the same lengths; then of other lengths.
-    Cache same_lengths = fresh({2, 1, 10, 2, 2, 4});
+    Cache same_lengths = fresh({1, 2, 10, 2, 2, 4, Rule::tree});
     Bytes events(event_room(stream.data(), stream.size()));
     RunResult result = same_lengths.run(stream.data(), stream.size(), events.data(), events.size());
-    CHECK(result.stop == Stop::unknown_kind && same_lengths.settings().sets == 1);
+    CHECK(result.stop == Stop::unknown_kind && same_lengths.settings().rule == Rule::lru);
     CHECK(same_lengths.settings().dirty == 50 && !same_lengths.check());
     CHECK(same_lengths.tables() == stopped.cache->tables());
     Cache other_lengths = fresh({4, 1, 10, 2, 2, 4});
@@ -510,6 +539,7 @@ int main() {
     refusals();
     write_back();
     rules();
+    trees();
     damaged_logs();
     waits();
     held_waits();
@@ -517,6 +547,7 @@ int main() {
     parts();
     as_the_calls(Rule::lru);
     as_the_calls(Rule::fifo);
+    as_the_calls(Rule::tree);
     kept_tables();
     moved();
     adopted();

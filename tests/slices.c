@@ -30,14 +30,14 @@ static const uint32_t base[LABINTUGMO_SETTINGS] = {
     [LABINTUGMO_SETS] = 1,   [LABINTUGMO_WAYS] = 2,    [LABINTUGMO_DIRTY] = 50,
     [LABINTUGMO_MISSES] = 2, [LABINTUGMO_READERS] = 2, [LABINTUGMO_QUEUE] = 4};
 #define BASE base, LABINTUGMO_SETTINGS
-enum { LONGS = 2 + 2 + 4, WORDS = 1 + 5 * 2 + 2 * 2 + 4 * 4 + 1 + 2, MARKS = 8 * 2 + 2 * 2 + 4 };
+enum { LONGS = 2 + 2 + 4, WORDS = 1 + 5 * 2 + 2 * 2 + 4 * 4 + 1 + 2 + 1, MARKS = 8 * 2 + 2 * 2 + 4 };
 
-/* The largest tables: 256 sets of 4 ways, 64 miss entries of 8 readers, 64 queue places. */
-static const uint32_t large[LABINTUGMO_SETTINGS] = {256, 4, 0, 64, 8, 64};
+/* The largest tables: 256 sets of 4 ways, 64 miss entries of 8 readers, 64 queue places; with trees. */
+static const uint32_t large[LABINTUGMO_SETTINGS] = {256, 4, 0, 64, 8, 64, LABINTUGMO_TREE};
 #define LARGE large, LABINTUGMO_SETTINGS
 enum {
     L_LONGS = 1024 + 64 + 64,
-    L_WORDS = 1 + 5 * 1024 + 64 * 8 + 4 * 64 + 1 + 1024,
+    L_WORDS = 1 + 5 * 1024 + 64 * 8 + 4 * 64 + 1 + 1024 + 256,
     L_MARKS = 8 * 1024 + 3 * 64
 };
 
@@ -116,14 +116,15 @@ static void lengths(void)
         {1, 2, 50, 2, 0, 4},          {1, 2, 50, 2, 9, 4},    {1, 2, 50, 2, 2, 1},
         {1, 2, 50, 2, 2, 65},         {65536, 65536, 50, 2, 2, 4},
         {1, 2, UINT32_MAX, 2, 2, 4},  {0x80000000u, 2, 50, 2, 2, 4},
-        {1, 2, 50, 2, UINT32_MAX, UINT32_MAX}, {1, 2, 50, 2, 2, 4, 2},
-        {1, 2, 50, 2, 2, 4, UINT32_MAX}};
+        {1, 2, 50, 2, UINT32_MAX, UINT32_MAX}, {1, 2, 50, 2, 2, 4, 3},
+        {1, 2, 50, 2, 2, 4, UINT32_MAX},       {1, 3, 50, 2, 2, 4, LABINTUGMO_TREE},
+        {64, 12, 50, 2, 2, 4, LABINTUGMO_TREE}};
     size_t i;
     CHECK(labintugmo_longs_length(BASE) == LONGS);
     CHECK(labintugmo_words_length(BASE) == WORDS);
     CHECK(labintugmo_marks_length(BASE) == MARKS);
     CHECK(labintugmo_longs_length(LARGE) == L_LONGS);
-    CHECK(labintugmo_words_length(LARGE) == L_WORDS && L_WORDS == 6914);
+    CHECK(labintugmo_words_length(LARGE) == L_WORDS && L_WORDS == 7170);
     CHECK(labintugmo_marks_length(LARGE) == L_MARKS);
     for (i = 0; i < sizeof bad / sizeof bad[0]; ++i) {
         refused_settings(bad[i], LABINTUGMO_SETTINGS);
@@ -175,8 +176,8 @@ static void whole_run(void)
     CHECK(labintugmo_check(BASE, LENT(run)) == 0);
 }
 
-/* Where the cycles of line 0 and of line 1 stand: of the last access, and of the MISS. */
-enum { ACCESSED = 1, TAKEN = WORDS - 2 };
+/* Where the cycles of line 0 and of line 1 stand, of the last access and of the MISS; the tree. */
+enum { ACCESSED = 1, TAKEN = WORDS - 3, TREE = WORDS - 1 };
 
 /* Line 1 is taken at cycle 1 and used at 9, line 0 is taken at 2. The line that a MISS at 10 takes. */
 static int taken_line(const uint32_t *s, size_t sn)
@@ -220,6 +221,72 @@ static void rules(void)
     CHECK(taken_line(lru, LABINTUGMO_RULE) == 0);
     CHECK(taken_line(fifo, LABINTUGMO_RULE) == 0);
     CHECK(taken_line(fifo, LABINTUGMO_SETTINGS) == 1);
+}
+
+/* One set of four ways under rule 2, and its tree as the last number of words. */
+static const uint32_t four[] = {1, 4, 50, 4, 1, 4, LABINTUGMO_TREE};
+#define FOUR four, LABINTUGMO_SETTINGS
+enum { F_LONGS = 4 + 4 + 4, F_WORDS = 1 + 5 * 4 + 4 + 4 * 4 + 1 + 4 + 1, F_MARKS = 8 * 4 + 2 * 4 + 4 };
+static uint64_t four_longs[F_LONGS];
+static uint32_t four_words[F_WORDS];
+static uint8_t four_marks[F_MARKS];
+#define LENT_FOUR four_longs, F_LONGS, four_words, F_WORDS, four_marks, F_MARKS
+
+/* The line of an accepted read. */
+static int read_line(uint64_t address)
+{
+    uint8_t events[LABINTUGMO_ROOM];
+    CHECK(labintugmo_read(FOUR, LENT_FOUR, address, 1, events, sizeof events) == 13);
+    return events[2];
+}
+
+static void fetch(uint64_t address)
+{
+    uint8_t events[LABINTUGMO_ROOM];
+    CHECK(labintugmo_send(FOUR, LENT_FOUR, events, sizeof events) == 9);
+    CHECK(labintugmo_fill(FOUR, LENT_FOUR, address, events, sizeof events) == 14);
+}
+
+/* The worked examples of the tree rule, and the trees that are not sound. */
+static void trees(void)
+{
+    uint32_t *tree = four_words + F_WORDS - 1;
+    uint64_t block;
+    uint8_t events[LABINTUGMO_ROOM];
+    struct tables t = fresh_tables();
+    CHECK(labintugmo_longs_length(FOUR) == F_LONGS && labintugmo_words_length(FOUR) == F_WORDS);
+    CHECK(labintugmo_marks_length(FOUR) == F_MARKS);
+    CHECK(labintugmo_fresh(FOUR, LENT_FOUR) == 0 && *tree == 0);
+    for (block = 0; block < 4; ++block) {
+        CHECK(read_line(128 * block) == (int)(3 - block));
+        fetch(128 * block);
+    }
+    CHECK(*tree == 7);
+    CHECK(labintugmo_read(FOUR, LENT_FOUR, 1, 1, events, sizeof events) == 2 && *tree == 7);
+    CHECK(read_line(512) == 3 && *tree == 2);
+
+    /* With ways 2 and 3 RESERVED the half that the tree names has no candidate. */
+    CHECK(labintugmo_fresh(FOUR, LENT_FOUR) == 0 && *tree == 0);
+    for (block = 0; block < 4; ++block) {
+        CHECK(read_line(128 * block) == (int)(3 - block));
+    }
+    for (block = 0; block < 4; ++block) {
+        CHECK(labintugmo_send(FOUR, LENT_FOUR, events, sizeof events) == 9);
+    }
+    CHECK(labintugmo_fill(FOUR, LENT_FOUR, 256, events, sizeof events) == 14);
+    CHECK(labintugmo_fill(FOUR, LENT_FOUR, 384, events, sizeof events) == 14 && *tree == 7);
+    CHECK(read_line(512) == 1 && *tree == 5);
+
+    /* Three nodes are in use; under another rule there is none. */
+    *tree = 8;
+    CHECK(labintugmo_check(FOUR, LENT_FOUR) == 3);
+    *tree = 7;
+    CHECK(labintugmo_check(FOUR, LENT_FOUR) == 0);
+    CHECK(labintugmo_check(four, LABINTUGMO_RULE, LENT_FOUR) == 3);
+    *tree = 0;
+    CHECK(labintugmo_check(four, LABINTUGMO_RULE, LENT_FOUR) == 0);
+    t.words[TREE] = 1;
+    CHECK(labintugmo_check(BASE, LENT(t)) == 3);
 }
 
 /* Which call; each gets slices as they are given and returns its refusal number. */
@@ -331,7 +398,7 @@ static void runs(void)
     static const uint8_t tick[] = {0, 1, 0, 2, 50, 2, 2, 4, 5, 1, 0, 0, 0};
     static const uint8_t bad[] = {0, 3, 0, 2, 50, 2, 2, 4};
     static const uint8_t ruled[] = {6, 1, 0, 2, 50, 2, 2, 4, 1, 5, 1, 0, 0, 0};
-    static const uint8_t bad_rule[] = {6, 1, 0, 2, 50, 2, 2, 4, 2};
+    static const uint8_t bad_rule[] = {6, 1, 0, 2, 50, 2, 2, 4, 3};
     struct tables t, before;
     uint8_t events[64], untouched[64];
     uint64_t counts[3] = {4, 5, 6};
@@ -444,13 +511,13 @@ static size_t read_and_write(uint8_t *part, uint64_t address)
 /* Every call, on a cache in which lines are replaced, written back, sent and filled. */
 static void every_call(void)
 {
-    static const uint8_t tick[] = {0, 0, 1, 4, 0, 64, 8, 64, 5, 1, 0, 0, 0};
+    static const uint8_t tick[] = {6, 0, 1, 4, 0, 64, 8, 64, LABINTUGMO_TREE, 5, 1, 0, 0, 0};
     uint64_t round[1], counts[2];
     uint8_t part[26];
     uint32_t i;
     (void)labintugmo_run(tick, sizeof tick, ROOM, LENT_LARGE, counts, 2);
     (void)labintugmo_fresh(LARGE, LENT_LARGE);
-    (void)labintugmo_resume(LARGE, tick + 8, 5, ROOM, LENT_LARGE, counts, 2);
+    (void)labintugmo_resume(LARGE, tick + 9, 5, ROOM, LENT_LARGE, counts, 2);
     for (i = 0; i < 1500; ++i) {
         const uint64_t address = 32 * (uint64_t)(i * 2654435761u % 65536);
         (void)labintugmo_write(LARGE, LENT_LARGE, address, i | 1, ROOM);
@@ -500,6 +567,7 @@ int main(void)
     other_settings();
     whole_run();
     rules();
+    trees();
     wrong_lengths();
     not_fresh();
     small_rooms();

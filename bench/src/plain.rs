@@ -29,6 +29,7 @@ impl Settings {
 
 /// The replacement rules, by their bytes in a settings record: least recently used is 0.
 const FIFO: u32 = 1;
+const TREE: u32 = 2;
 
 #[derive(Clone, Copy, PartialEq, Eq)]
 enum Status {
@@ -152,6 +153,8 @@ impl<'a> Events<'a> {
 pub struct Cache<const RECOUNT: bool> {
     settings: Settings,
     lines: Vec<Line>,
+    /// A tree for each set: bit n - 1 is node n, and names the half to go to, 0 the lower.
+    trees: Vec<u32>,
     misses: Vec<MissEntry>,
     queue: VecDeque<Queued>,
     dirty: usize,
@@ -163,6 +166,7 @@ impl<const RECOUNT: bool> Cache<RECOUNT> {
         Cache {
             settings,
             lines: vec![EMPTY; settings.lines()],
+            trees: vec![0; settings.sets as usize],
             misses: Vec::with_capacity(settings.misses as usize),
             queue: VecDeque::with_capacity(settings.queue as usize),
             dirty: 0,
@@ -173,6 +177,7 @@ impl<const RECOUNT: bool> Cache<RECOUNT> {
     /// Bytes of the vectors, beside the structure itself.
     pub fn memory(settings: &Settings) -> usize {
         settings.lines() * size_of::<Line>()
+            + settings.sets as usize * size_of::<u32>()
             + settings.misses as usize * size_of::<MissEntry>()
             + settings.queue as usize * size_of::<Queued>()
             + size_of::<Self>()
@@ -215,13 +220,13 @@ impl<const RECOUNT: bool> Cache<RECOUNT> {
             _ => Answer::Hit,
         })?;
         if answer == Answer::Hit {
-            self.lines[number].cycle = self.cycle;
+            self.touch(address, number);
             self.answer(answer, number, events);
             return Ok(());
         }
         if answer == Answer::HitReserved {
             self.join(address, ticket)?;
-            self.lines[number].cycle = self.cycle;
+            self.touch(address, number);
             self.answer(answer, number, events);
             return Ok(());
         }
@@ -336,10 +341,13 @@ impl<const RECOUNT: bool> Cache<RECOUNT> {
         self.settings.queue as usize - self.queue.len()
     }
 
+    fn set_of(&self, address: u64) -> usize {
+        (address / 128) as usize & (self.settings.sets as usize - 1)
+    }
+
     /// The number of the first line of the address's set.
     fn set_start(&self, address: u64) -> usize {
-        let set = (address / 128) as usize & (self.settings.sets as usize - 1);
-        set * self.settings.ways as usize
+        self.set_of(address) * self.settings.ways as usize
     }
 
     fn matching(&self, address: u64) -> Option<usize> {
@@ -370,20 +378,46 @@ impl<const RECOUNT: bool> Cache<RECOUNT> {
         let may_evict_dirty = self.dirty_enough();
         let first_in = self.settings.rule == FIFO;
         let mut best: Option<(u32, usize)> = None;
-        let mut busy = false;
+        let (mut busy, mut candidates) = (false, 0);
         for (way, line) in set.iter().enumerate() {
-            let age = if first_in { line.taken } else { line.cycle };
             if line.has(Status::Reserved) {
                 busy = true;
-            } else if (may_evict_dirty || !line.has(Status::Modified))
-                && best.is_none_or(|(least, _)| age < least)
-            {
-                best = Some((age, way));
+            } else if may_evict_dirty || !line.has(Status::Modified) {
+                candidates |= 1 << way;
+                let age = if first_in { line.taken } else { line.cycle };
+                if best.is_none_or(|(least, _)| age < least) {
+                    best = Some((age, way));
+                }
             }
         }
         match best {
-            Some((_, way)) => Ok(start + way),
             None => Err(if busy { SET_BUSY } else { SET_HELD }),
+            Some(_) if self.settings.rule == TREE => {
+                Ok(start + descend(self.trees[self.set_of(address)], candidates, set.len()))
+            }
+            Some((_, way)) => Ok(start + way),
+        }
+    }
+
+    /// What every accepted access does to its line: its cycle moves, and under the tree rule each
+    /// node on the path points away from it.
+    fn touch(&mut self, address: u64, number: usize) {
+        self.lines[number].cycle = self.cycle;
+        if self.settings.rule == TREE {
+            self.turn_tree(address, number);
+        }
+    }
+
+    fn turn_tree(&mut self, address: u64, number: usize) {
+        let ways = self.settings.ways as usize;
+        let set = self.set_of(address);
+        let tree = &mut self.trees[set];
+        let (mut node, mut half) = (1, ways / 2);
+        while half > 0 {
+            let upper = usize::from(number % ways & half != 0);
+            *tree = *tree & !(1 << (node - 1)) | (1 - upper as u32) << (node - 1);
+            node = 2 * node + upper;
+            half /= 2;
         }
     }
 
@@ -404,11 +438,11 @@ impl<const RECOUNT: bool> Cache<RECOUNT> {
         number: usize,
         address: u64,
     ) -> Option<(u64, [u32; 4])> {
-        let line = &mut self.lines[number];
+        self.touch(address, number);
         if answer != Answer::Miss {
-            line.cycle = self.cycle;
             return None;
         }
+        let line = &mut self.lines[number];
         let victim = *line;
         *line = Line { tag: address & !127, cycle: self.cycle, taken: self.cycle, ..EMPTY };
         let dirty = victim.has(Status::Modified);
@@ -433,6 +467,21 @@ impl<const RECOUNT: bool> Cache<RECOUNT> {
         entry.count += 1;
         Ok(())
     }
+}
+
+/// The way that a tree chooses among candidates, a bit a way: to the half that a node names if it
+/// has one, else to the other.
+fn descend(tree: u32, candidates: u32, ways: usize) -> usize {
+    let (mut node, mut first, mut half) = (1, 0, ways / 2);
+    while half > 0 {
+        let named = (tree >> (node - 1) & 1) as usize;
+        let span = ((1u32 << half) - 1) << (first + named * half);
+        let upper = if candidates & span != 0 { named } else { 1 - named };
+        node = 2 * node + upper;
+        first += upper * half;
+        half /= 2;
+    }
+    first
 }
 
 fn u64_at(body: &[u8]) -> u64 {

@@ -64,7 +64,7 @@ bool read_rule(std::istream& words, Rule& rule) {
     if (word != "rule" || !(words >> word)) {
         return false;
     }
-    for (const Rule known : {Rule::lru, Rule::fifo}) {
+    for (const Rule known : {Rule::lru, Rule::fifo, Rule::tree}) {
         if (word == name(known)) {
             rule = known;
             return true;

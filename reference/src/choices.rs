@@ -1,25 +1,34 @@
 //! Random choices of settings, addresses, masks and calls, made so that small
 //! runs meet every answer and every refusal.
 
-use crate::model::{Access, Cache, Call, Settings, RULE_FIFO, RULE_LRU};
+use crate::model::{Access, Cache, Call, Settings, RULE_FIFO, RULE_LRU, RULE_TREE};
 use crate::model::{ADDRESS_LIMIT, FULL_MASK, LAST_CYCLE, LINE_BYTES, SECTORS, SECTOR_BYTES};
 use crate::random::Random;
 
 /// Few lines, entries and places, so that all of them run out soon.
 pub fn tight_settings(random: &mut Random) -> Settings {
+    let rule = random.pick(&[RULE_LRU, RULE_FIFO, RULE_TREE]);
+    let ways = match rule {
+        RULE_TREE => random.pick(&[1, 2, 4, 4, 8]),
+        _ => random.between(1, 3) as u32,
+    };
     let settings = Settings::new([
         random.pick(&[1, 2, 4]),
-        random.between(1, 3) as u32,
+        ways,
         random.pick(&[0, 34, 50, 51, 60, 100]),
         random.between(1, 4) as u32,
         random.between(1, 3) as u32,
         random.between(2, 5) as u32,
     ]);
-    settings.with_rule(any_rule(random))
+    settings.with_rule(rule)
 }
 
-fn any_rule(random: &mut Random) -> u32 {
-    random.pick(&[RULE_LRU, RULE_FIFO])
+/// Any rule that the ways allow.
+fn any_rule(random: &mut Random, ways: u32) -> u32 {
+    match ways.is_power_of_two() {
+        true => random.pick(&[RULE_LRU, RULE_FIFO, RULE_TREE]),
+        false => random.pick(&[RULE_LRU, RULE_FIFO]),
+    }
 }
 
 pub fn any_settings(random: &mut Random) -> Settings {
@@ -33,7 +42,7 @@ pub fn any_settings(random: &mut Random) -> Settings {
         random.between(1, 8) as u32,
         random.between(2, 64) as u32,
     ]);
-    settings.with_rule(any_rule(random))
+    settings.with_rule(any_rule(random, settings.ways))
 }
 
 /// Every number at one end of its range.
@@ -47,7 +56,7 @@ pub fn edge_settings(random: &mut Random) -> Settings {
         random.pick(&[1, 8]),
         random.pick(&[2, 64]),
     ]);
-    settings.with_rule(any_rule(random))
+    settings.with_rule(any_rule(random, ways))
 }
 
 /// Mostly tight ones, which cost least and refuse most.
@@ -76,10 +85,13 @@ pub fn bad_record_settings(random: &mut Random) -> Settings {
     Settings::new(six).with_rule(good.rule)
 }
 
-/// A rule byte that no rule has.
+/// A rule byte that no rule has, or a tree over ways that are no power of two.
 fn bad_rule(random: &mut Random, good: Settings) -> Settings {
-    let rules = [RULE_FIFO + 1, RULE_FIFO + 2, 7, 128, 255];
-    good.with_rule(random.pick(&rules))
+    if random.percent(50) {
+        return good.with_rule(random.pick(&[RULE_TREE + 1, RULE_TREE + 2, 7, 128, 255]));
+    }
+    let ways = random.pick(&[3, 5, 6, 7, 9, 10, 12, 15]);
+    Settings { sets: random.pick(&[1, 2, 4, 64]), ways, ..good }.with_rule(RULE_TREE)
 }
 
 /// As above, or with numbers that only a direct call can give.

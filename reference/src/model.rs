@@ -1,21 +1,24 @@
 //! The modelled cache on plain structures (document 01, sections "The modelled
 //! cache", "Probe and victim", "What an accepted access does" and refusals 4 to 12), with
-//! document 02's L1 and L2 where they say otherwise.
+//! document 02's L1, L2 and L9 where they say otherwise.
 //!
 //! In order: the structures; access, send, fill and tick; probe and victim.
 //! In the files below this one: the settings and their ranges (`settings`), the
 //! events and their bytes (`events`), the lent tables, their layout and the
-//! calls on them (`lent`), the soundness of lent tables (`sound`).
+//! calls on them (`lent`), the soundness of lent tables (`sound`), and the trees of
+//! rule 2 (`tree`).
 
 mod events;
 mod lent;
 mod settings;
 mod sound;
+mod tree;
 
 pub use events::{event_bytes, outcome_bytes, Event, ROOM_NEEDED};
 pub use lent::{call_bytes, call_on, check, fresh_on, lengths_for, Layout, Place, Tables};
-pub use settings::{Settings, RULE_FIFO, RULE_LRU};
+pub use settings::{Settings, RULE_FIFO, RULE_LRU, RULE_TREE};
 pub use sound::{broken, sound, CONDITIONS};
+pub use tree::{chosen, node_bits, turned};
 
 use std::collections::VecDeque;
 
@@ -175,10 +178,12 @@ pub struct Cache {
     pub misses: Vec<MissEntry>,
     pub queue: VecDeque<Queued>,
     pub cycle: u32,
+    /// By set (document 02, L9); all 0 under the other rules.
+    pub trees: Vec<u32>,
 }
 
 impl Cache {
-    /// Fresh tables: all invalid and readable, all empty, cycle 0.
+    /// Fresh tables: all invalid and readable, all empty, cycle 0, trees 0.
     pub fn fresh(settings: Settings) -> Cache {
         Cache {
             settings,
@@ -186,6 +191,7 @@ impl Cache {
             misses: Vec::new(),
             queue: VecDeque::new(),
             cycle: 0,
+            trees: vec![0; settings.sets as usize],
         }
     }
 
@@ -206,6 +212,7 @@ impl Cache {
             _ => None,
         };
         self.lines[number].cycle = self.cycle;
+        self.turn_tree(number);
 
         let mut events = vec![Event::Answer { answer, line: number as u16 }];
         if access.is_write {
@@ -274,6 +281,15 @@ impl Cache {
         let victim = self.lines[number];
         self.lines[number] = Line { tag: block, taken: self.cycle, ..Line::EMPTY };
         victim.has(Status::Modified).then(|| (victim.tag, victim.masks()))
+    }
+
+    /// "After every accepted access each node on the path to its way points to the half not taken."
+    fn turn_tree(&mut self, number: usize) {
+        let ways = self.settings.ways as usize;
+        if self.settings.rule == RULE_TREE {
+            let tree = &mut self.trees[number / ways];
+            *tree = turned(*tree, ways, number % ways);
+        }
     }
 
     fn read_sector(&mut self, answer: Answer, number: usize, access: &Access) -> Option<Event> {
@@ -375,14 +391,24 @@ impl Cache {
             .filter(|&number| is_candidate(&self.lines[number], may_evict_dirty))
             .collect();
         let highest_invalid = candidates.iter().rev().find(|&&n| self.lines[n].wholly_invalid());
-        let earliest = candidates.iter().min_by_key(|&&n| (self.age_key(n), n));
-        match highest_invalid.or(earliest) {
-            Some(&number) => Ok(number),
+        match highest_invalid.copied().or_else(|| self.chosen_by_rule(block, &candidates)) {
+            Some(number) => Ok(number),
             None if self.lines_of_set(block).any(|n| self.lines[n].has(Status::Reserved)) => {
                 Err(Refusal::SetBusy)
             }
             None => Err(Refusal::SetHeld),
         }
+    }
+
+    /// Among candidates none of which is wholly invalid.
+    fn chosen_by_rule(&self, block: u64, candidates: &[usize]) -> Option<usize> {
+        if self.settings.rule != RULE_TREE {
+            return candidates.iter().copied().min_by_key(|&n| (self.age_key(n), n));
+        }
+        let lines = self.lines_of_set(block);
+        let marked: Vec<bool> = lines.clone().map(|n| candidates.contains(&n)).collect();
+        let way = chosen(self.trees[self.settings.set_of(block)], &marked)?;
+        Some(lines.start + way)
     }
 
     /// The cycle that the rule compares: of the last access, or of the MISS that took the line.

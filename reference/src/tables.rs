@@ -6,8 +6,8 @@ mod damage;
 pub use damage::{damage_any, damage_many, damage_one, Damaged};
 
 use crate::choices;
-use crate::model::{block_of, broken, sound, Cache, Line, MissEntry, Queued, Sector};
-use crate::model::{Settings, Status, Tables};
+use crate::model::{block_of, broken, node_bits, sound, Cache, Line, MissEntry, Queued, Sector};
+use crate::model::{Settings, Status, Tables, RULE_TREE};
 use crate::model::{ADDRESS_LIMIT, FULL_MASK, LAST_CYCLE, LINE_BYTES, SECTORS, SECTOR_BYTES};
 use crate::random::Random;
 
@@ -64,7 +64,20 @@ pub fn sound_cache(random: &mut Random, settings: &Settings) -> Cache {
     let reserved = put_lines(random, &mood, &mut cache);
     put_entries(random, &mood, &mut cache, reserved);
     put_queue(random, &mood, &mut cache);
+    put_trees(random, &mut cache);
     cache
+}
+
+/// Any bits of the nodes in use; none under another rule.
+fn put_trees(random: &mut Random, cache: &mut Cache) {
+    if cache.settings.rule != RULE_TREE {
+        return;
+    }
+    let in_use = node_bits(cache.settings.ways as usize);
+    for tree in &mut cache.trees {
+        let any = random.draw() as u32;
+        *tree = in_use & random.pick(&[0, u32::MAX, any, any, any]);
+    }
 }
 
 /// Fills the lines; gives the addresses of the RESERVED sectors, never more than there are entries.

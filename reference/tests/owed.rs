@@ -5,10 +5,12 @@ use reference::model::{outcome_bytes, Access, Cache, Call, Settings};
 use reference::owed::Owed;
 use reference::random::Random;
 use reference::tables::sound_cache;
+use std::collections::BTreeSet;
 
 #[test]
 fn every_dirty_byte_is_billed_once() {
     let (mut covered, mut carried) = (0, 0);
+    let mut rules = BTreeSet::new();
     for case in 0..600 {
         let mut random = Random::for_case(11, case);
         let settings = choices::tight_settings(&mut random);
@@ -23,10 +25,12 @@ fn every_dirty_byte_is_billed_once() {
             owed.call(&call, &log).expect("only what is owed is carried");
             assert_eq!(owed.compare(&cache), Ok(()));
         }
+        rules.insert(settings.rule);
         covered += owed.covered;
         carried += owed.carried;
     }
     assert!(covered > 100_000 && carried > 100_000, "{covered} covered, {carried} carried");
+    assert_eq!(rules, [0, 1, 2].into());
 }
 
 /// One set of one way: the second write takes the first one's line.

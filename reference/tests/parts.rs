@@ -178,7 +178,7 @@ fn in_parts(bytes: &[u8], settings: &Settings, cuts: &[usize]) -> (Stopped, Tabl
 /// One cut between any two records, a cut between all of them, and a cut twice at one place.
 #[test]
 fn a_cut_stream_ends_as_one_run() {
-    let mut stopped_with = BTreeSet::new();
+    let (mut stopped_with, mut rules) = (BTreeSet::new(), BTreeSet::new());
     for case in 0..600 {
         let mut random = Random::for_case(8, case);
         let kind = any_kind(&mut random);
@@ -199,8 +199,10 @@ fn a_cut_stream_ends_as_one_run() {
             assert_eq!(in_parts(&bytes, &settings, &cuts), whole, "cut at {cuts:?}");
         }
         stopped_with.insert(whole.0.number);
+        rules.insert(settings.rule);
     }
     assert_eq!(stopped_with, [0, 13, 14, 15].into());
+    assert_eq!(rules, [0, 1, 2].into());
 }
 
 /// On any tables and settings a part gives 1, 2 or 3 before it looks at its records.

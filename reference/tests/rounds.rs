@@ -8,8 +8,9 @@ use reference::tables::sound_cache;
 
 #[test]
 fn rounds_end_in_time_and_struck_rounds_agree() {
-    let (mut accepted, mut held) = (0, 0);
-    for case in 0..4000 {
+    // By rule.
+    let (mut accepted, mut held) = ([0; 3], [0; 3]);
+    for case in 0..8000 {
         let mut random = Random::for_case(7, case);
         let settings = choices::good_settings(&mut random);
         let cache = sound_cache(&mut random, &settings);
@@ -20,12 +21,13 @@ fn rounds_end_in_time_and_struck_rounds_agree() {
         let struck = struck_run(&mut cache.clone(), access, &first.flags());
         assert_eq!(first_apart(&first, &struck), None);
         if first.accepted() {
-            accepted += 1;
+            accepted[settings.rule as usize] += 1;
         } else {
-            held += 1;
+            held[settings.rule as usize] += 1;
         }
     }
-    assert!(accepted > 1000 && held > 20, "{accepted} accepted, {held} held");
+    let enough = accepted.iter().all(|&n| n > 400) && held.iter().all(|&n| n > 20);
+    assert!(enough, "{accepted:?} accepted, {held:?} held");
 }
 
 /// A set held in one round can be free in the next, when a fill makes another line dirty.

@@ -1,7 +1,8 @@
 //! The conditions of soundness: each can be broken, and alone wherever that is possible.
 
 use reference::choices;
-use reference::model::{broken, sound, Access, Cache, Layout, Place, Settings, CONDITIONS};
+use reference::model::{broken, check, sound, Access, Cache, Layout, Place, Refusal, Settings};
+use reference::model::{Tables, CONDITIONS, RULE_FIFO, RULE_LRU, RULE_TREE};
 use reference::random::Random;
 use reference::tables::{damage_any, damage_many, damage_one, sound_tables};
 use std::collections::BTreeSet;
@@ -88,7 +89,9 @@ fn every_place_has_a_name_of_its_own() {
     assert_eq!(layout.describe(layout.readable(1, 3)), "readable mark of line 1 sector 3");
     assert_eq!(layout.describe(layout.dirty_count()), "count of dirty lines");
     assert_eq!(layout.describe(layout.taken(5)), "taken cycle of line 5");
-    assert_eq!(layout.taken(5), Place::Word(words - 1));
+    assert_eq!(layout.describe(layout.tree(1)), "tree of set 1");
+    assert_eq!(layout.taken(5), Place::Word(words - 3));
+    assert_eq!(layout.tree(1), Place::Word(words - 1));
 }
 
 #[test]
@@ -106,15 +109,30 @@ fn any_damage_changes_one_number() {
     assert!((1..1000).contains(&still_sound));
 }
 
-/// Settings that swap sets and ways have tables of equal lengths; only soundness tells.
+/// Every rule has tables of the same lengths; only soundness tells which they were kept under.
 #[test]
-fn swapped_settings_are_judged_by_soundness() {
+fn another_rule_is_judged_by_soundness() {
+    let settings = Settings::new([1, 4, 50, 1, 1, 2]);
+    for (kept, judged, expected) in [
+        (RULE_TREE, RULE_TREE, vec![]),
+        (RULE_TREE, RULE_LRU, vec![29]),
+        (RULE_TREE, RULE_FIFO, vec![29]),
+        (RULE_LRU, RULE_TREE, vec![]),
+        (RULE_FIFO, RULE_LRU, vec![]),
+    ] {
+        let mut cache = Cache::fresh(settings.with_rule(kept));
+        for block in [0, 128] {
+            cache.access(Access::write(block, 1)).expect("accepted");
+        }
+        assert_eq!(broken(&settings.with_rule(judged), &cache.encode()), expected);
+    }
+}
+
+/// Settings with other sets and as many lines have tables of other lengths.
+#[test]
+fn swapped_sets_and_ways_are_told_by_the_lengths() {
     let one = Settings::new([2, 1, 50, 1, 1, 2]);
     let other = Settings::new([1, 2, 50, 1, 1, 2]);
-    let mut cache = Cache::fresh(one);
-    cache.access(Access::write(128, 1)).expect("accepted");
-    assert!(sound(&other, &cache.encode()));
-    let mut cache = Cache::fresh(other);
-    cache.access(Access::write(0, 1)).expect("accepted");
-    assert_eq!(broken(&one, &cache.encode()), [8]);
+    assert_eq!(check(&other, &Tables::fresh(&one)), Err(Refusal::OtherLength));
+    assert_eq!(check(&one, &Tables::fresh(&other)), Err(Refusal::OtherLength));
 }

@@ -140,3 +140,54 @@ fn random_streams_meet_every_stop_and_refusal() {
     assert_eq!(stopped_with, [0, 1, 13, 14, 15, 16].into());
     assert_eq!(refused_with, (4..=12).collect());
 }
+
+/// What a stream's settings records show: the first one's kind and rule, and how it stopped where
+/// a settings record is the one it stopped at.
+fn settings_shown(bytes: &[u8], stopped: &Stopped) -> Vec<String> {
+    let at = bytes.get(stopped.consumed).copied().filter(|&kind| runner::is_settings(kind));
+    let mut shown = Vec::new();
+    if let (Some(settings), true) = (runner::first_settings(bytes), stopped.consumed > 0) {
+        shown.push(format!("first {} rule {}", bytes[0], settings.rule));
+    }
+    match (at, stopped.number) {
+        (Some(kind), 13) => shown.push(format!("{kind} after {}", bytes[0])),
+        (Some(kind), 15) => shown.push(format!("{kind} cut short")),
+        (Some(6), 1) => {
+            let settings = runner::first_settings(bytes).expect("it was judged");
+            let plain = settings.with_rule(0).in_range();
+            let which = if settings.rule == 2 { "over such ways" } else { "unknown" };
+            shown.push(format!("rule {}", if plain { which } else { "beside others" }));
+        }
+        _ => (),
+    }
+    shown
+}
+
+#[test]
+fn random_streams_have_settings_of_both_kinds() {
+    let mut met = BTreeSet::new();
+    let mut room = vec![0; 1 << 20];
+    for case in 0..6000 {
+        let mut random = Random::for_case(3, case);
+        let kind = any_kind(&mut random);
+        let bytes = stream(&mut random, kind);
+        let stopped = runner::run(&bytes, &mut runner::tables_for(&bytes), &mut room);
+        met.extend(settings_shown(&bytes, &stopped));
+    }
+    let expected = [
+        "0 after 0",
+        "0 after 6",
+        "0 cut short",
+        "6 after 0",
+        "6 after 6",
+        "6 cut short",
+        "first 0 rule 0",
+        "first 6 rule 0",
+        "first 6 rule 1",
+        "first 6 rule 2",
+        "rule beside others",
+        "rule over such ways",
+        "rule unknown",
+    ];
+    assert_eq!(met, expected.map(String::from).into());
+}

@@ -2,7 +2,7 @@
 //! over the lines, one over the miss entries, one over the queue. Settings are in range and
 //! the slices have their lengths.
 
-use super::Settings;
+use super::{Settings, TREE};
 
 const INVALID: u8 = 0;
 const RESERVED: u8 = 1;
@@ -27,6 +27,7 @@ struct View<'a> {
     queue_masks: &'a [[u32; 4]],
     dirty_lines: u32,
     taken: &'a [u32],
+    trees: &'a [u32],
     statuses: &'a [[u8; 4]],
     readable: &'a [[u8; 4]],
     sent: &'a [u8],
@@ -45,7 +46,8 @@ impl<'a> View<'a> {
         let (masks, rest) = words.split_at(4 * lines);
         let (tickets, rest) = rest.split_at(misses * settings.readers as usize);
         let (queue_masks, rest) = rest.split_at(4 * settings.queue as usize);
-        let (&dirty_lines, taken) = rest.split_first().expect("words hold the dirty count");
+        let (&dirty_lines, rest) = rest.split_first().expect("words hold the dirty count");
+        let (taken, trees) = rest.split_at(lines);
         let (statuses, marks) = marks.split_at(4 * lines);
         let (readable, marks) = marks.split_at(4 * lines);
         let (sent, marks) = marks.split_at(misses);
@@ -62,6 +64,7 @@ impl<'a> View<'a> {
             queue_masks: queue_masks.as_chunks().0,
             dirty_lines,
             taken,
+            trees,
             statuses: statuses.as_chunks().0,
             readable: readable.as_chunks().0,
             sent,
@@ -80,7 +83,10 @@ pub fn sound(settings: &Settings, longs: &[u64], words: &[u32], marks: &[u8]) ->
         return false;
     };
     let dirty = view.statuses.iter().filter(|four| four.contains(&MODIFIED)).count();
-    entries_sound(&view) == Some(reserved)
+    // A bit for each node in use, of which there is one fewer than ways; under another rule none.
+    let nodes = if settings.rule == TREE { settings.ways - 1 } else { 0 };
+    view.trees.iter().all(|tree| tree >> nodes == 0)
+        && entries_sound(&view) == Some(reserved)
         && queue_sound(&view)
         && view.dirty_lines as usize == dirty
 }

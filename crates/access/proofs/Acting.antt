@@ -10,13 +10,14 @@ use lib.Seq.{getD-set-same, set-set}
 use lib.Dec.{eqb}
 use borrow.Author.Tests.{eqb-true, eq-eqb, ne-eqb, leb-true}
 use Rattle.model.specs.Words.{any, count, one}
-use Rattle.model.specs.Range.{linesOf}
-use Rattle.model.specs.Address.{addressOf, isRead, blockOf, sectorIndex, lineNumber}
-use Rattle.model.specs.Tables.{Line, Entry, Tables, entryFor, noEntry, fresh, withLines, withMisses, withQueue, withDirtyCount}
+use Rattle.model.specs.Range.{linesOf, isTree}
+use Rattle.model.specs.Tree.{levels, touchedTree}
+use Rattle.model.specs.Address.{addressOf, isRead, blockOf, sectorIndex, setIndex, lineNumber}
+use Rattle.model.specs.Tables.{Line, Entry, Tables, entryFor, noEntry, fresh, withLines, withMisses, withQueue, withDirtyCount, withTrees}
 use Rattle.model.specs.Lent.{Lent, lent, sectorsAt, lineAt}
 use Rattle.model.specs.Regions.{put}
 use Rattle.model.specs.Probe.{Spot, waysOf, ruleOf}
-use Rattle.model.specs.Steps.{isMerge, isMiss, onSector, update, takesLine, join, onMisses, fetches, queues, placesNeeded, recounted, lineAfter}
+use Rattle.model.specs.Steps.{isMerge, isMiss, onSector, update, takesLine, join, onMisses, fetches, queues, placesNeeded, recounted, lineAfter, turnedFor}
 use Rattle.model.specs.declared.Settings.{Settings}
 use Rattle.model.specs.declared.Queued.{Queued}
 use Rattle.model.specs.declared.Access.{Access}
@@ -29,6 +30,7 @@ use Rattle.model.proofs.Lists.{In, all-in, in-append, count-index}
 use Rattle.model.proofs.Taken.{Spotted}
 use Rattle.model.proofs.Offered.{probe-spotted}
 use Rattle.model.proofs.Victims.{line-stays}
+use Rattle.model.proofs.Turning.{set-below}
 use Rattle.model.proofs.Bridge.{is-tables}
 use Rattle.model.proofs.Standing.{encode-stands}
 use Rattle.model.proofs.Tabled.{getD-table}
@@ -36,13 +38,14 @@ use Rattle.layout.specs.declared.Layout.{Layout}
 use Rattle.layout.specs.Layout.{Placed}
 use Rattle.layout.proofs.Stands.{Stands, is-stands}
 use Rattle.layout.proofs.Lines.{takenAs, line-stands, taken-stands}
+use Rattle.layout.proofs.TreeStands.{tree-stands, tree-at}
 use Rattle.tables.proofs.Misses.{withTicket, unsent, append-stands, new-entry-stands}
 use Rattle.tables.proofs.Queue.{push-stands}
-use Rattle.tables.proofs.Ones.{map-one}
+use Rattle.model.proofs.Counting.{map-one}
 use Rattle.probe.specs.declared.Decision.{Decision}
 use Rattle.probe.proofs.Held.{lines-held, way-line}
 use Rattle.access.specs.Plan.{Met, entryIndex, courseOf, goes, ticketOf}
-use Rattle.access.specs.Written.{sectorsFor, sectorsAfter, missesWritten, entryWritten, queueWritten, lineLeft, lineTaken}
+use Rattle.access.specs.Written.{sectorsFor, sectorsAfter, missesWritten, entryWritten, queueWritten, lineLeft, lineTaken, setTurned}
 use Rattle.access.specs.declared.course.Course.{Course}
 use Rattle.access.specs.declared.course.Course.the-variants.{Refused, Stays, Joins, Starts}
 use Rattle.access.proofs.Plans.{index-found, merged-entry, entry-once}
@@ -177,6 +180,34 @@ module _ (S : Settings) {longs words marks : List ℕ} (x : Access) (d : Decisio
           let k : leftLine ≡ newLine = rw (n, taken-stays n) in
           rw (g, ← k) left
 
+  -- ---- the tree of its set
+
+  abbrev pub treesNew : List ℕ
+  treesNew = turnedFor S (addressOf x) (p .way) (t .trees)
+
+  pub set-turned : (u : Tables) → u .trees ≡ t .trees → (L₁ : Lent) {L₂ : Lent} → Stands S (L₁ .longs) (L₁ .words) (L₁ .marks) u
+      → L₂ ≡ setTurned S place (setIndex S (addressOf x)) (d .way) L₁
+      → Stands S (L₂ .longs) (L₂ .words) (L₂ .marks) (withTrees treesNew u)
+  set-turned u same L₁ {L₂} h e = ⊎-elim by-tree by-age (flag (isTree S))
+    where
+      treed : length (u .trees) ≡ S .sets
+      treed = ap length same ∙ eqb-true (length (t .trees)) (S .sets) (ok .treed)
+
+      inside : setIndex S (addressOf x) < S .sets
+      inside = set-below S (m .is .range) (addressOf x)
+
+      by-tree : isTree S ≡ true → Stands S (L₂ .longs) (L₂ .words) (L₂ .marks) (withTrees treesNew u)
+      by-tree y =
+          let g = rw y at e in
+          let w : touchedTree (getD (L₁ .words) (place .trees + setIndex S (addressOf x)) 0) (levels (S .ways)) (d .way)
+          ≡ touchedTree (getD (t .trees) (setIndex S (addressOf x)) 0) (levels (S .ways)) (p .way) =
+          rw (tree-at S u h pl treed (setIndex S (addressOf x)) inside, same, shows S x d t p m .way) in
+          let k = tree-stands S u h pl treed (setIndex S (addressOf x)) _ inside (ap (λ (n : ℕ). put (L₁ .words) (place .trees + setIndex S (addressOf x)) (n ∷ [])) w) in
+          rw (g, y) (rw same at k)
+
+      by-age : isTree S ≡ false → Stands S (L₂ .longs) (L₂ .words) (L₂ .marks) (withTrees treesNew u)
+      by-age n = let g = rw n at e in rw (g, n, ← same) h
+
   -- ---- the miss table
 
   -- a ticket joins one entry, and no other is for the address
@@ -194,24 +225,24 @@ module _ (S : Settings) {longs words marks : List ℕ} (x : Access) (d : Decisio
             ∙ rw here,
       )
 
-  pub misses-written : (ls : List Line) (k : ℕ) (L₁ L₂ : Lent) → Stands S (L₁ .longs) (L₁ .words) (L₁ .marks) (withDirtyCount k (withLines ls t))
+  pub misses-written : (ls : List Line) (k : ℕ) (ts : List ℕ) (L₁ L₂ : Lent) → Stands S (L₁ .longs) (L₁ .words) (L₁ .marks) (withTrees ts (withDirtyCount k (withLines ls t)))
       → (c : Course) → c ≡ courseOf S x p t → goes c ≡ true → L₂ ≡ missesWritten place (S .readers) c (addressOf x) (ticketOf x) L₁
-      → Stands S (L₂ .longs) (L₂ .words) (L₂ .marks) (withMisses (onMisses x (p .answer) (t .misses)) (withDirtyCount k (withLines ls t)))
-  misses-written ls k L₁ L₂ h (Refused n) e g q = absurd (false≢true g)
-  misses-written ls k L₁ L₂ h Stays e g q =
+      → Stands S (L₂ .longs) (L₂ .words) (L₂ .marks) (withMisses (onMisses x (p .answer) (t .misses)) (withTrees ts (withDirtyCount k (withLines ls t))))
+  misses-written ls k ts L₁ L₂ h (Refused n) e g q = absurd (false≢true g)
+  misses-written ls k ts L₁ L₂ h Stays e g q =
       let w = subst (Means S x p t) (sym e) (course-means S x p t) in
       rw (q, misses-stay x (p .answer) (t .misses) (w .merges) (w .misses refl)) h
-  misses-written ls k L₁ L₂ h (Joins i n) e g q =
+  misses-written ls k ts L₁ L₂ h (Joins i n) e g q =
       let w = subst (Means S x p t) (sym e) (course-means S x p t) in
       let j = join-one (w .0 .merges) i (w .1) (ticketOf x) in
       let few : length (t .misses) ≤ S .misses = leb-true (length (t .misses)) (S .misses) (ok .few) in
       rw (q, misses-join x (p .answer) (t .misses) (w .0 .merges), j .1)
-      (append-stands S (withDirtyCount k (withLines ls t)) h pl few i (j .0) (ticketOf x) n (w .2) (w .3) (refl, refl))
-  misses-written ls k L₁ L₂ h (Starts i) e g q =
+      (append-stands S (withTrees ts (withDirtyCount k (withLines ls t))) h pl few i (j .0) (ticketOf x) n (w .2) (w .3) (refl, refl))
+  misses-written ls k ts L₁ L₂ h (Starts i) e g q =
       let w = subst (Means S x p t) (sym e) (course-means S x p t) in
       let few : length (t .misses) ≤ S .misses = leb-true (length (t .misses)) (S .misses) (ok .few) in
       rw (q, misses-start x (p .answer) (t .misses) (w .0 .merges) (w .0 .misses refl))
-      (new-entry-stands S (withDirtyCount k (withLines ls t)) h pl few (addressOf x) (ticketOf x) i (w .1) (w .2) (readers-some S (m .is .range)) (refl, refl, refl))
+      (new-entry-stands S (withTrees ts (withDirtyCount k (withLines ls t))) h pl few (addressOf x) (ticketOf x) i (w .1) (w .2) (readers-some S (m .is .range)) (refl, refl, refl))
 
   -- ---- the queue
 

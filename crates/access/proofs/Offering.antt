@@ -25,6 +25,7 @@ use Rattle.probe.specs.declared.Meeting.{Meeting}
 use Rattle.probe.specs.declared.Meeting.the-variants as meeting
 use Rattle.probe.specs.declared.Decision.{Decision}
 use Rattle.probe.specs.Decided.{Decided, placeFor, placeIs}
+use Rattle.model.proofs.Turning.{set-below}
 use Rattle.probe.proofs.Held.{decided-probe}
 use Rattle.access.specs.Plan.{Met, Offered, courseOf, following, goes, refusalIn, isSpot, refusalMet}
 use Rattle.access.specs.declared.course.Course.{Course}
@@ -81,7 +82,7 @@ place-spot meeting.Held ways a d e = absurd (false≢true e)
 module _ (S : Settings) {longs words marks : List ℕ} (x : Access) (d : Decision) (decided : Decided S longs words marks x d) (formed : wellFormed x ≡ true)
     (t : Tables) (is : Is S (lent longs words marks) t) where
   place-is : placeIs (waysOf S (t .lines) (addressOf x)) (addressOf x) d ≡ metIn S x t
-  place-is = decided-probe S (lent longs words marks) (is-tables S (lent longs words marks) t is) decided
+  place-is = decided-probe S (lent longs words marks) (is-tables S (lent longs words marks) t is) (set-below S (is .range) (addressOf x)) decided
 
   -- the spot, where there is one
   pub spot-met : isSpot (d .meeting) ≡ true → (p : Spot) × Met S (lent longs words marks) x d t p

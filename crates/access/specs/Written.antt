@@ -5,12 +5,15 @@ use mathlib.Core.List.{List, [], _∷_, _++_}
 use lib.ListN.{length, getD, set, replicate}
 use Rattle.model.specs.Words.{pick, one}
 use Rattle.model.specs.Numbers.{queueKindNumber}
+use Rattle.model.specs.Range.{isTree}
+use Rattle.model.specs.Tree.{levels, touchedTree}
 use Rattle.model.specs.Address.{addressOf, isRead, sectorIndex}
 use Rattle.model.specs.Tables.{empty, reading}
 use Rattle.model.specs.Lent.{Lent, lent, sectorsAt}
 use Rattle.model.specs.Regions.{put}
 use Rattle.model.specs.Steps.{isMiss, takesLine, onSector}
 use Rattle.model.specs.Calls.{inTwo}
+use Rattle.model.specs.declared.Settings.{Settings}
 use Rattle.model.specs.declared.Access.{Access}
 use Rattle.model.specs.declared.Answer.{Answer}
 use Rattle.model.specs.declared.Sector.{Sector}
@@ -60,6 +63,14 @@ takenWritten at a l words = pick (takesLine a) (put words (at .taken + l) (getD 
 
 abbrev pub lineTaken : Layout → Answer → ℕ → Lent → Lent
 lineTaken at a l L = lent (L .longs) (takenWritten at a l (L .words)) (L .marks)
+
+-- the tree of set i after an access to way w, under rule 2
+abbrev pub treesWritten : Settings → Layout → ℕ → ℕ → List ℕ → List ℕ
+treesWritten S at i w words =
+    pick (isTree S) (put words (at .trees + i) (touchedTree (getD words (at .trees + i) 0) (levels (S .ways)) w ∷ [])) words
+
+abbrev pub setTurned : Settings → Layout → ℕ → ℕ → Lent → Lent
+setTurned S at i w L = lent (L .longs) (treesWritten S at i w (L .words)) (L .marks)
 
 -- the miss table by the course: a ticket that joins, or a new entry
 abbrev pub missesWritten : Layout → ℕ → Course → ℕ → ℕ → Lent → Lent

@@ -1,22 +1,23 @@
-// The writes of an access that is not refused, in order: the dirty count and its line, the cycle at which that was taken, the miss
-// table, the queue. Then what it tells.
+// The writes of an access that is not refused, in order: the dirty count and its line, the cycle at which that was taken and the
+// tree of its set, the miss table, the queue. Then what it tells.
 ghost use mathlib.Core.Path.{_≡_};
 ghost use Prim.Native.Nat.{ℕ, _+_, _*_, _≤_, _<_};
 ghost use mathlib.Core.List.{List, [], _∷_};
 ghost use lib.ListN.{length, getD, take};
 ghost use Rattle.model.specs.Regions.{put};
-ghost use Rattle.model.specs.Address.{isRead, addressOf, blockOf};
+ghost use Rattle.model.specs.Address.{isRead, addressOf, blockOf, setIndex};
 ghost use Rattle.model.specs.Words.{pick, one};
 ghost use Rattle.model.specs.Lent.{lent, sectorsAt};
 ghost use Rattle.model.specs.Inner.{Fit};
-ghost use Rattle.model.specs.Range.{linesOf};
+ghost use Rattle.model.specs.Range.{linesOf, isTree, powerTo256};
+ghost use Rattle.model.specs.Tree.{powerTo16};
 ghost use Rattle.layout.specs.Layout.{Placed};
 ghost use Rattle.probe.specs.Scan.{dirtyAt};
 ghost use Rattle.access.specs.Plan.{Meets, MayAct, Acted};
 ghost use Rattle.model.specs.Tables.{reading, writing};
 ghost use Rattle.model.specs.Calls.{inTwo};
-ghost use Rattle.access.specs.Written.{sectorsFor, sectorsAfter, lineWritten, missesWritten, queueWritten, queuesOf, tellingOf, MissRoom, QueueRoom, lineLeft, takenWritten, lineTaken};
-ghost use mathlib.Core.Bool.{not, _&&_};
+ghost use Rattle.access.specs.Written.{sectorsFor, sectorsAfter, lineWritten, missesWritten, queueWritten, queuesOf, tellingOf, MissRoom, QueueRoom, lineLeft, takenWritten, lineTaken, treesWritten, setTurned};
+ghost use mathlib.Core.Bool.{true, not, _&&_};
 ghost use Rattle.model.specs.Steps.{isMiss};
 use crate::asked::fetches;
 use crate::asked::is_miss;
@@ -139,7 +140,20 @@ fn mark_taken(at: Layout, words: &mut [u32], line: usize, a: Answer)
     }
 }
 
-// The access's line, and when it was taken.
+// Under the rule by trees each node on the path to the access's way points to the half not taken.
+fn turn_tree(s: Settings, at: Layout, words: &mut [u32], x: Access, way: usize)
+    requires { ⌜ (at .trees + setIndex s (addressOf x) < length (now words)) × (length (now words) ≤ 8192) × (1 ≤ s .sets) × (powerTo256 (s .sets) ≡ true)
+        × (isTree s ≡ true → powerTo16 (s .ways) ≡ true) ⌝ }
+    ensures { λ _. ⌜ now (words .exit) ≡ treesWritten s at (setIndex s (addressOf x)) way (now (words .entry)) ⌝ }
+{
+    if s.rule == trees::TREE {
+        let place = at.trees + model::set_index(model::address_of(x), s.sets);
+        let tree = words[place];
+        words[place] = trees::touched(tree, way, s.ways);
+    }
+}
+
+// The access's line, when it was taken, and the tree of its set.
 fn act_line(
     s: Settings,
     at: Layout,
@@ -151,12 +165,14 @@ fn act_line(
 )
     requires { ⌜ Placed s at × Meets s (lent (now longs) (now words) (now marks)) x d ⌝ }
     ensures { λ _. ⌜ lent (now (longs .exit)) (now (words .exit)) (now (marks .exit))
-        ≡ lineTaken at (d .answer) (d .line) (lineLeft at (lent (now (longs .entry)) (now (words .entry)) (now (marks .entry))) (d .line) (blockOf (addressOf x))
-        (sectorsAfter x d (sectorsFor (d .meeting) (sectorsAt s (now (words .entry)) (now (marks .entry)) (d .line))))) ⌝ }
+        ≡ setTurned s at (setIndex s (addressOf x)) (d .way)
+        (lineTaken at (d .answer) (d .line) (lineLeft at (lent (now (longs .entry)) (now (words .entry)) (now (marks .entry))) (d .line) (blockOf (addressOf x))
+        (sectorsAfter x d (sectorsFor (d .meeting) (sectorsAt s (now (words .entry)) (now (marks .entry)) (d .line)))))) ⌝ }
 {
     leave_line(s, at, longs, words, marks, x, d);
     let a = d.answer;
     mark_taken(at, words, d.line, a);
+    turn_tree(s, at, words, x, d.way);
 }
 
 // The miss table by the course: a ticket joins, or a new entry stands behind the others.

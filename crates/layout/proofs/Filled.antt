@@ -12,7 +12,7 @@ use Rattle.model.specs.Words.{fit, places, joined}
 use Rattle.model.specs.Range.{linesOf}
 use Rattle.model.specs.Layout.{longsLength, wordsLength, marksLength}
 use Rattle.model.specs.Tables.{fresh, start}
-use Rattle.model.specs.Lent.{lent, tagOf, cycleOf, takenOf, masksOf, statusesOf, readablesOf, missOf, sentOf, ticketCountOf, ticketsIn, queuedOf, kindOf, queueMasksOf, longBlocks, wordBlocks, markBlocks, encode}
+use Rattle.model.specs.Lent.{lent, tagOf, cycleOf, takenOf, treeOf, masksOf, statusesOf, readablesOf, missOf, sentOf, ticketCountOf, ticketsIn, queuedOf, kindOf, queueMasksOf, longBlocks, wordBlocks, markBlocks, encode}
 use Rattle.model.specs.Regions.{put}
 use Rattle.model.specs.Inner.{Fit, told}
 use Rattle.model.proofs.Region.{put-paste}
@@ -102,9 +102,10 @@ module _ (S : Settings) where
   fresh-words : joined (wordBlocks S (start S)) ≡ zeros (wordsLength S)
   unfolding fit
   fresh-words =
-      let k : suc (1 * n + (4 * n + (S .readers * S .misses + (4 * S .queue + suc (1 * n))))) ≡ wordsLength S = omega arith in
-      let last : zeros (4 * S .queue) ++ (0 ∷ zeros (1 * n)) ≡ zeros (4 * S .queue + suc (1 * n)) = replicate-append-replicate (4 * S .queue) (suc (1 * n)) 0 in
-      rw (even-places cycleOf 1 fresh 0 n refl, even-places masksOf 4 fresh 0 n refl, no-places ticketsIn (S .readers) (S .misses), no-places queueMasksOf 4 (S .queue), even-places takenOf 1 fresh 0 n refl, append-nil, last, replicate-append-replicate, replicate-append-replicate, replicate-append-replicate)
+      let k : suc (1 * n + (4 * n + (S .readers * S .misses + (4 * S .queue + suc (1 * n + 1 * S .sets))))) ≡ wordsLength S = omega arith in
+      let tail : zeros (1 * n) ++ zeros (1 * S .sets) ≡ zeros (1 * n + 1 * S .sets) = replicate-append-replicate (1 * n) (1 * S .sets) 0 in
+      let last : zeros (4 * S .queue) ++ (0 ∷ zeros (1 * n + 1 * S .sets)) ≡ zeros (4 * S .queue + suc (1 * n + 1 * S .sets)) = replicate-append-replicate (4 * S .queue) (suc (1 * n + 1 * S .sets)) 0 in
+      rw (even-places cycleOf 1 fresh 0 n refl, even-places masksOf 4 fresh 0 n refl, no-places ticketsIn (S .readers) (S .misses), no-places queueMasksOf 4 (S .queue), even-places takenOf 1 fresh 0 n refl, even-places treeOf 1 0 0 (S .sets) refl, append-nil, tail, last, replicate-append-replicate, replicate-append-replicate, replicate-append-replicate)
       (as-many 0 k)
 
   fresh-marks : joined (markBlocks S (start S)) ≡ put (zeros (marksLength S)) (4 * n) (replicate (4 * n) 1)

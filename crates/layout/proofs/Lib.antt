@@ -8,5 +8,6 @@ pub mod Stores
 pub mod Grown
 pub mod Stands
 pub mod Lines
+pub mod TreeStands
 pub mod DirtyCount
 pub mod Filled

@@ -9,6 +9,7 @@ use lib.ListN.{length}
 use borrow.Author.Tests.{eqb-true, leb-true}
 use Rattle.model.specs.declared.Settings.{Settings}
 use Rattle.model.specs.Range.{powerTo256, within, linesOf, ruleFine, inRange}
+use Rattle.model.specs.Tree.{powerTo16}
 use Rattle.model.specs.Layout.{longsLength, wordsLength, marksLength}
 use Rattle.model.specs.Lent.{lent, lengthsFit}
 use Rattle.model.specs.Inner.{Fit}
@@ -30,6 +31,17 @@ one-of false false false false false false false false false = refl
 
 pub power-is : (n : ℕ) → (eqb n 1 || eqb n 2 || eqb n 4 || eqb n 8 || eqb n 16 || eqb n 32 || eqb n 64 || eqb n 128 || eqb n 256) ≡ powerTo256 n
 power-is n = one-of (eqb n 1) (eqb n 2) (eqb n 4) (eqb n 8) (eqb n 16) (eqb n 32) (eqb n 64) (eqb n 128) (eqb n 256)
+
+one-of-five : (a b c d e : Bool) → (a || b || c || d || e) ≡ (a || (b || (c || (d || (e || false)))))
+one-of-five true b c d e = refl
+one-of-five false true c d e = refl
+one-of-five false false true d e = refl
+one-of-five false false false true e = refl
+one-of-five false false false false true = refl
+one-of-five false false false false false = refl
+
+pub power-16-is : (n : ℕ) → (eqb n 1 || eqb n 2 || eqb n 4 || eqb n 8 || eqb n 16) ≡ powerTo16 n
+power-16-is n = one-of-five (eqb n 1) (eqb n 2) (eqb n 4) (eqb n 8) (eqb n 16)
 
 power-most : (n : ℕ) → powerTo256 n ≡ true → n ≤ 256
 power-most n e =
@@ -57,9 +69,12 @@ module _ (S : Settings) (r : Bool) (power : r ≡ powerTo256 (S .sets)) where
         let w : leb (S .ways) 16 ≡ true = search (and-1, and-2) in
         mul-le-mul (power-most _ p) (leb-true _ _ w)
 
-    pub range-rest : (leb (linesOf S) 1024 && leb (S .dirty) 100 && within 1 64 (S .misses) && within 1 8 (S .readers) && within 2 64 (S .queue) && ruleFine S) ≡ inRange S
+    pub range-rest : {f : Bool} → f ≡ ruleFine S → (leb (linesOf S) 1024 && leb (S .dirty) 100 && within 1 64 (S .misses) && within 1 8 (S .readers) && within 2 64 (S .queue) && f) ≡ inRange S
     unfolding inRange
-    range-rest = rw yes
+    range-rest g = rw (g, yes)
+
+pub sets-most : (S : Settings) → inRange S ≡ true → S .sets ≤ 256
+sets-most S e = power-most (S .sets) (ranged S e .power)
 
 pub tickets-most : (S : Settings) → inRange S ≡ true → S .readers * S .misses ≤ 8 * 64
 tickets-most S e = let a = ranged S e in mul-le-mul (a .readers) (a .misses)

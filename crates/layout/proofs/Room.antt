@@ -1,15 +1,23 @@
--- Where the cycles at which lines were taken lie: facts set aside in `Placed` and `Fit`, asked for here.
+-- Where the cycles at which lines were taken lie, and the trees: facts set aside in `Placed` and `Fit`, asked for here.
 use mathlib.Core.Path.{_≡_, ap}
 use mathlib.Core.List.{List}
-use Prim.Native.Nat.{ℕ, _+_, _≤_, _<_}
+use Prim.Native.Nat.{ℕ, _+_, _*_, _≤_, _<_}
+use native.Mathlib.Nat.{mul-le-mul-left}
 use native.Mathlib.Omega.{arith}
 use lib.ListN.{length, getD}
 use Rattle.model.specs.Range.{linesOf}
-use Rattle.model.specs.Lent.{takenAt}
+use Rattle.model.specs.Lent.{takenAt, treeAt}
 use Rattle.model.specs.Inner.{Fit, told}
 use Rattle.model.specs.declared.Settings.{Settings}
 use Rattle.layout.specs.declared.Layout.{Layout}
 use Rattle.layout.specs.Layout.{Placed}
+
+-- a set is a line or more
+pub sets-few : {S : Settings} {longs words marks : List ℕ} → Fit S longs words marks → S .sets ≤ 1024
+sets-few {S} f = let n : S .sets * 1 ≤ S .sets * S .ways = mul-le-mul-left (S .sets) (f .ways) in omega (arith, f .lines)
+
+words-small : {S : Settings} {longs words marks : List ℕ} → Fit S longs words marks → length words ≤ 8192
+words-small f = let long = told (f .words-long) in omega (arith, f .lines, f .tickets, f .queue, sets-few f)
 
 -- the place of line l is inside, and its number does not wrap
 pub record TakenRoom (at : Layout) (words : List ℕ) (l : ℕ) : Type 0 where
@@ -20,7 +28,21 @@ pub taken-room : {S : Settings} {at : Layout} {longs words marks : List ℕ} →
 taken-room {S} {at} {longs} {words} {marks} p f l h =
     let from = told (p .taken) in
     let long = told (f .words-long) in
-    record { inside = omega arith; small = omega arith }
+    record { inside = omega arith; small = words-small f }
+
+-- the same of set i
+pub record TreeRoom (at : Layout) (words : List ℕ) (i : ℕ) : Type 0 where
+  pub inside : at .trees + i < length words
+  pub small : length words ≤ 8192
+
+pub tree-room : {S : Settings} {at : Layout} {longs words marks : List ℕ} → Placed S at → Fit S longs words marks → (i : ℕ) → i < S .sets → TreeRoom at words i
+tree-room {S} {at} {longs} {words} {marks} p f i h =
+    let from = told (p .trees) in
+    let long = told (f .words-long) in
+    record { inside = omega arith; small = words-small f }
+
+pub tree-is : {S : Settings} {at : Layout} → Placed S at → (words : List ℕ) (i : ℕ) → getD words (at .trees + i) 0 ≡ treeAt S words i
+tree-is p words i = ap (λ (n : ℕ). getD words (n + i) 0) (told (p .trees))
 
 pub taken-is : {S : Settings} {at : Layout} → Placed S at → (words : List ℕ) (l : ℕ) → getD words (at .taken + l) 0 ≡ takenAt S words l
 taken-is p words l = ap (λ (n : ℕ). getD words (n + l) 0) (told (p .taken))

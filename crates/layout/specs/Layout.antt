@@ -1,6 +1,6 @@
 -- Where each part of the tables begins in the three lent slices, by the settings.
 use mathlib.Core.Path.{_≡_}
-use Rattle.model.specs.Layout.{longsFrom, wordsFrom, marksFrom, missRegion, queueRegion, maskRegion, ticketRegion, queueMaskRegion, dirtyCountRegion, takenRegion, readableRegion, sentRegion, ticketCountRegion, kindRegion}
+use Rattle.model.specs.Layout.{longsFrom, wordsFrom, marksFrom, missRegion, queueRegion, maskRegion, ticketRegion, queueMaskRegion, dirtyCountRegion, takenRegion, treeRegion, readableRegion, sentRegion, ticketCountRegion, kindRegion}
 use Rattle.model.specs.Inner.{Aside}
 use Rattle.model.specs.declared.Settings.{Settings}
 use Rattle.layout.specs.declared.Layout.{Layout}
@@ -15,6 +15,7 @@ pub record Placed (S : Settings) (at : Layout) : Type 0 where
   pub backs : at .backs ≡ wordsFrom S queueMaskRegion
   pub dirty : at .dirty ≡ wordsFrom S dirtyCountRegion
   pub taken : Aside (at .taken ≡ wordsFrom S takenRegion)
+  pub trees : Aside (at .trees ≡ wordsFrom S treeRegion)
   -- of marks, behind the statuses
   pub readables : at .readables ≡ marksFrom S readableRegion
   pub sent : at .sent ≡ marksFrom S sentRegion

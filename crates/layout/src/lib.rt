@@ -16,6 +16,7 @@ pub use ranges::in_range;
 pub use ranges::lengths_fit;
 pub use ranges::longs_length;
 pub use ranges::marks_length;
+pub use ranges::power_to_16;
 pub use ranges::power_to_256;
 pub use ranges::words_length;
 pub use sectors::lift;
@@ -36,6 +37,7 @@ pub struct Layout {
     pub backs: usize,
     pub dirty: usize,
     pub taken: usize,
+    pub trees: usize,
     pub readables: usize,
     pub sent: usize,
     pub counts: usize,
@@ -50,6 +52,7 @@ pub fn laid_out(s: Settings) -> Layout
     let tickets = 1 + 5 * lines;
     let backs = tickets + s.readers * s.misses;
     let dirty = backs + 4 * s.queue;
+    let taken = dirty + 1;
     let sent = 8 * lines;
     Layout {
         misses: lines,
@@ -58,7 +61,8 @@ pub fn laid_out(s: Settings) -> Layout
         tickets,
         backs,
         dirty,
-        taken: dirty + 1,
+        taken,
+        trees: taken + lines,
         readables: 4 * lines,
         sent,
         counts: sent + s.misses,

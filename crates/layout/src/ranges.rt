@@ -2,7 +2,8 @@
 // tests look at both sides.
 ghost use mathlib.Core.Path.{_≡_};
 ghost use mathlib.Core.Bool.{true};
-ghost use Rattle.model.specs.Range.{powerTo256, inRange};
+ghost use Rattle.model.specs.Range.{powerTo256, ruleFine, inRange};
+ghost use Rattle.model.specs.Tree.{powerTo16};
 ghost use Rattle.model.specs.Layout.{longsLength, wordsLength, marksLength};
 ghost use Rattle.model.specs.Lent.{lent, lengthsFit};
 use model::Settings;
@@ -22,6 +23,19 @@ pub fn power_to_256(n: usize) -> bool
         | (n == 256)
 }
 
+pub fn power_to_16(n: usize) -> bool
+    ensures { λ r. ⌜ r ≡ powerTo16 n ⌝ }
+{
+    (n == 1) | (n == 2) | (n == 4) | (n == 8) | (n == 16)
+}
+
+// A rule that there is; a tree goes over a power of two of ways.
+fn rule_fine(s: Settings) -> bool
+    ensures { λ r. ⌜ r ≡ ruleFine s ⌝ }
+{
+    (s.rule <= 1) | ((s.rule == 2) & power_to_16(s.ways))
+}
+
 // Refusal 1 does not apply. Sets and ways are held to their ranges before they are multiplied.
 pub fn in_range(s: Settings) -> bool
     ensures { λ r. ⌜ r ≡ inRange s ⌝ }
@@ -34,7 +48,7 @@ pub fn in_range(s: Settings) -> bool
         & ((1 <= s.misses) & (s.misses <= 64))
         & ((1 <= s.readers) & (s.readers <= 8))
         & ((2 <= s.queue) & (s.queue <= 64))
-        & (s.rule <= 1)
+        & rule_fine(s)
 }
 
 pub fn longs_length(s: Settings) -> usize
@@ -49,7 +63,7 @@ pub fn words_length(s: Settings) -> usize
     ensures { λ r. ⌜ r ≡ wordsLength s ⌝ }
 {
     let lines = s.sets * s.ways;
-    1 + 5 * lines + s.readers * s.misses + 4 * s.queue + 1 + lines
+    1 + 5 * lines + s.readers * s.misses + 4 * s.queue + 1 + lines + s.sets
 }
 
 pub fn marks_length(s: Settings) -> usize

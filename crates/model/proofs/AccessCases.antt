@@ -154,4 +154,4 @@ module _ (R : Rules) (S : Settings) (t : Tables) (x : Access) where
         made : (p : Spot) → Accepted R S t x p → LeavesSound S (accept S x p t)
         made p a =
             let j = a .judged in
-            taken-sound S t ok x (j .formed) small p (a .spotted) (readers-some S range) (j .joins) (j .enters) (j .roomy)
+            taken-sound S t ok x (j .formed) small p (a .spotted) (readers-some S range) (j .joins) (j .enters) (j .roomy) range

@@ -1,15 +1,17 @@
--- Laws of a count over a list that changes: in one element, or by a map that loses none.
+-- Laws of a count over a list in which one element changes; a map that changes one.
 use Prim.Native.Nat.{ℕ, zero, suc, _+_, _-_, _≤_, _<_}
 use mathlib.Core.Path.{_≡_, refl, ap}
-use mathlib.Core.Logic.{_⊎_, inl, inr, ⊎-elim}
-use mathlib.Core.Bool.{Bool, true, false, not, _&&_}
+use mathlib.Core.Logic.{⊎-elim, _≢_}
+use mathlib.Core.Bool.{Bool, true, false}
 use mathlib.Core.List.{List, [], _∷_, map}
 use native.Mathlib.Nat.{not-suc-le-zero, le-of-suc-le-suc}
 use native.Mathlib.Omega.{arith}
 use lib.ListN.{length, getD, set}
-use Rattle.model.specs.Words.{pick, any, count, one}
-use Rattle.model.proofs.Flags.{flag, clash}
-use Rattle.model.proofs.Lists.{In, any-in, count-in, none-count}
+use lib.Dec.{eqb}
+use borrow.Author.Tests.{eqb-true, eqb-false}
+use Rattle.model.specs.Words.{any, count, one}
+use Rattle.model.proofs.Flags.{flag, clash, iff}
+use Rattle.model.proofs.Lists.{any-in, in-any, in-getD, in-index}
 use Rattle.model.proofs.Tabled.{pick-one}
 
 one-most : (b : Bool) → one b ≤ 1
@@ -38,31 +40,26 @@ module _ {A : Type 0} where
     one-counted (x ∷ l) zero d h = omega (arith, pick-one (p x) (count p l))
     one-counted (x ∷ l) (suc n) d h = omega (arith, pick-one (p x) (count p l), one-counted l n d (le-of-suc-le-suc h))
 
-    -- those that the map makes pass are added
-    pub count-gains : (f : A → A) (l : List A) → ((x : A) → In x l → p x ≡ true → p (f x) ≡ true)
-        → count p (map f l) ≡ count p l + count (λ x. not (p x) && p (f x)) l
-    count-gains f [] h = refl
-    count-gains f (x ∷ l) h = go (p x) refl (p (f x)) refl (count-gains f l (λ y m. h y (inr m)))
+    -- element n alone can pass
+    pub any-one : (l : List A) (n : ℕ) (d : A) → n < length l → ((j : ℕ) → j < length l → j ≢ n → p (getD l j d) ≡ false) → any p l ≡ p (getD l n d)
+    any-one l n d h other = iff to (λ e. in-any p l (in-getD l n d h) e)
       where
-        go : (b : Bool) → p x ≡ b → (c : Bool) → p (f x) ≡ c → count p (map f l) ≡ count p l + count (λ y. not (p y) && p (f y)) l
-            → pick c (suc (count p (map f l))) (count p (map f l))
-            ≡ pick b (suc (count p l)) (count p l) + pick (not b && c) (suc (count (λ y. not (p y) && p (f y)) l)) (count (λ y. not (p y) && p (f y)) l)
-        go true e true g k = omega arith
-        go true e false g k = clash (h x (inl refl) e) g
-        go false e true g k = omega arith
-        go false e false g k = omega arith
+        to : any p l ≡ true → p (getD l n d) ≡ true
+        to e =
+            let (x, m, q) = any-in p l e in
+            let (j, k, g) = in-index l d x m in
+            ⊎-elim (λ z. rw (← (eqb-true j n z), g) q) (λ z. clash (rw g q) (other j k (eqb-false j n z))) (flag (eqb j n))
 
-    pub few-any : (l : List A) → count p l ≤ 1 → count p l ≡ one (any p l)
-    few-any l h = ⊎-elim
-        (λ e. let (x, m, q) = any-in p l e in let o : one (any p l) ≡ 1 = ap one e in omega (arith, count-in p l m q))
-        (λ e. let o : one (any p l) ≡ 0 = ap one e in omega (arith, none-count p l e)) (flag (any p l))
+  -- ---- a map that changes one element only
 
-  pub count-le : (p q : A → Bool) (l : List A) → ((x : A) → In x l → p x ≡ true → q x ≡ true) → count p l ≤ count q l
-  count-le p q [] h = omega arith
-  count-le p q (x ∷ l) h = go (p x) refl (q x) refl (count-le p q l (λ y m. h y (inr m)))
-    where
-      go : (b : Bool) → p x ≡ b → (c : Bool) → q x ≡ c → count p l ≤ count q l → pick b (suc (count p l)) (count p l) ≤ pick c (suc (count q l)) (count q l)
-      go true e true g k = omega arith
-      go true e false g k = clash (h x (inl refl) e) g
-      go false e true g k = omega arith
-      go false e false g k = k
+  map-none : (f : A → A) (d : A) (l : List A) → ((j : ℕ) → j < length l → f (getD l j d) ≡ getD l j d) → map f l ≡ l
+  map-none f d [] h = refl
+  map-none f d (x ∷ l) h = rw (h 0 (omega arith), map-none f d l (λ j k. h (suc j) (omega arith)))
+
+  -- a map that changes one record only
+  pub map-one : (f : A → A) (d : A) (l : List A) (e : ℕ) → e < length l → ((j : ℕ) → j < length l → j ≢ e → f (getD l j d) ≡ getD l j d) → map f l ≡ set l e (f (getD l e d))
+  map-one f d [] e k h = absurd (not-suc-le-zero k)
+  map-one f d (x ∷ l) zero k h = ap (λ (r : List A). f x ∷ r) (map-none f d l (λ j i. h (suc j) (omega arith) (λ q. let z : suc j ≡ 0 = q in omega arith)))
+  map-one f d (x ∷ l) (suc e) k h =
+      rw (h 0 (omega arith) (λ q. let z : 0 ≡ suc e = q in omega arith))
+      (ap (λ (r : List A). x ∷ r) (map-one f d l e (le-of-suc-le-suc k) (λ j i n. h (suc j) (omega arith) (λ q. let z : suc j ≡ suc e = q in n (omega arith)))))

@@ -18,7 +18,7 @@ use Rattle.model.specs.Range.{linesOf}
 use Rattle.model.specs.Address.{blockOf, sectorIndex, setIndex}
 use Rattle.model.specs.Tables.{Line, Entry, Tables, isReserved, unused, entryFor, idle, fresh, noEntry}
 use Rattle.model.specs.Layout.{wordsFrom, queueMaskRegion}
-use Rattle.model.specs.Lent.{Lent, bit, tagOf, cycleOf, masksOf, statusesOf, readablesOf, missOf, sentOf, ticketCountOf, ticketsIn, queuedOf, kindOf, queueMasksOf, inUse, sectorAt, sectorsAt, lineAt, entryAt, queueAt, tablesOf, takenOf}
+use Rattle.model.specs.Lent.{Lent, bit, tagOf, cycleOf, masksOf, statusesOf, readablesOf, missOf, sentOf, ticketCountOf, ticketsIn, queuedOf, kindOf, queueMasksOf, inUse, sectorAt, sectorsAt, lineAt, entryAt, queueAt, tablesOf, takenOf, treeOf}
 pub use Rattle.model.specs.SoundLent.{Small}
 use Rattle.model.proofs.Flags.{by-flag, not-yes, not-no, clash, iff}
 use Rattle.model.proofs.Below.{some-at, some-i}
@@ -26,9 +26,9 @@ use Rattle.model.proofs.Rows.{row-of}
 use Rattle.model.proofs.Places.{stride}
 use Rattle.model.proofs.Tabled.{any-get, length-table, getD-table}
 use Rattle.model.proofs.InUse.{lt-or-ge, squeeze, in-use-few, below-used, free-past}
-use Rattle.model.proofs.Facts.{tag, status, mask, readable, miss, sent, ticketCount, ticket, queued, kind, queueMask, Live, Used, SoundIs}
+use Rattle.model.proofs.Facts.{tag, status, mask, readable, miss, sent, ticketCount, ticket, queued, kind, queueMask, Live, Used, SoundIs, tree}
 use Rattle.model.proofs.Standing.{field, field-in, field-out, Stands}
-use Rattle.model.proofs.Shapes.{line, sector, entry, place, addressIn, kindIn, maskIn, Shape, reserved-number, tag-is, cycle-is, taken-is, status-is, mask-is, readable-is, live-is, dirty-counts, miss-is, sent-is, entry-in, in-entry, kind-in, queued-in, queue-mask-is, reads-are}
+use Rattle.model.proofs.Shapes.{line, sector, entry, place, addressIn, kindIn, maskIn, Shape, reserved-number, tag-is, cycle-is, taken-is, tree-is, status-is, mask-is, readable-is, live-is, dirty-counts, miss-is, sent-is, entry-in, in-entry, kind-in, queued-in, queue-mask-is, reads-are}
 use Rattle.model.proofs.Soundly.{Lives, SectorOk, LineOk, Alone, Agrees, EntryOk, QueuedOk, Soundly, bit-clear}
 
 module _ (S : Settings) (L : Lent) (is : SoundIs S L) where
@@ -175,6 +175,8 @@ module _ (S : Settings) (L : Lent) (t : Tables) (st : Stands S L t) (sh : Shape 
     few = sh .few;
     deep = sh .deep;
     counted = sym (st .count) ∙ is .counted ∙ dirty-counts S L t st sh;
+    treed = sh .treed;
+    turned = λ i h. let j : i < S .sets = rw (sh .treed) at h in rw (tree-is S L t st sh i j) at (is .trees i j);
   }
 
 -- ---- the tables that are read off
@@ -293,6 +295,7 @@ module _ (S : Settings) (L : Lent) (is : SoundIs S L) where
         (λ z. is .places p h .bare (omega arith) k j);
     time = refl;
     count = refl;
+    trees = λ i h. sym (field-table treeOf (S .sets) (tree S L) i 0 h);
   }
 
   -- an entry and a queue place that are read off
@@ -325,4 +328,5 @@ module _ (S : Settings) (L : Lent) (is : SoundIs S L) where
     masked = λ p h.
         let i : p < deep = rw (length-table deep (queueAt S L)) at h in
         rw (place-read p i) (length-table 4 (λ k. queueMask S L (4 * p + k)));
+    treed = length-table (S .sets) (tree S L);
   }

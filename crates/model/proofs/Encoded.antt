@@ -26,7 +26,7 @@ use Rattle.model.proofs.Tabled.{any-get}
 use Rattle.model.proofs.InUse.{lt-or-ge}
 use Rattle.model.proofs.Facts.{tag, status, readable, miss, sent, ticketCount, ticket, queued, kind, Live, Used, LineIs, SectorIs, Reserves, EntryIs, Unsent, PlaceIs, SoundIs}
 use Rattle.model.proofs.Standing.{Stands}
-use Rattle.model.proofs.Shapes.{line, sector, entry, place, kindIn, maskIn, Shape, reserved-number, tag-is, cycle-is, taken-is, status-is, mask-is, readable-is, unused-is, live-is, dirty-counts, miss-is, sent-is, count-is, ticket-is, count-out, entry-in, in-entry, kind-in, kind-out, queued-in, queued-out, queue-mask-is, place-in, in-place, reads-are}
+use Rattle.model.proofs.Shapes.{line, sector, entry, place, kindIn, maskIn, Shape, reserved-number, tag-is, cycle-is, taken-is, tree-is, status-is, mask-is, readable-is, unused-is, live-is, dirty-counts, miss-is, sent-is, count-is, ticket-is, count-out, entry-in, in-entry, kind-in, kind-out, queued-in, queued-out, queue-mask-is, place-in, in-place, reads-are}
 use Rattle.model.proofs.Soundly.{Lives, Soundly, soundly-shape, bit-clear}
 
 bit-low : (r : Bool) → bit r ≤ 1
@@ -225,4 +225,5 @@ module _ (S : Settings) (L : Lent) (t : Tables) (st : Stands S L t) (so : Soundl
     places-first = λ p h z. let k : length (t .queue) ≤ p = place-out p (omega arith) z in kind-out S L t st sh (p + 1) (omega arith) (omega arith);
     places = place-is;
     counted = st .count ∙ so .counted ∙ sym (dirty-counts S L t st sh);
+    trees = λ i h. rw (tree-is S L t st sh i h) (so .turned i (rw (so .treed) h));
   }

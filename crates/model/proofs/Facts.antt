@@ -6,10 +6,11 @@ use mathlib.Core.Bool.{Bool, true}
 use Prim.Native.Nat.{ℕ, _+_, _*_, _-_, _/_, _%_, _^_, _≤_, _<_}
 use Rattle.model.specs.declared.Settings.{Settings}
 use Rattle.model.specs.Words.{countBelow}
-use Rattle.model.specs.Range.{linesOf}
+use Rattle.model.specs.Range.{linesOf, isTree}
+use Rattle.model.specs.Tree.{treeFine}
 use Rattle.model.specs.Address.{goodBlock, blockOf, sectorIndex, setIndex}
 use Rattle.model.specs.Sound.{lastCycle, allOnes}
-use Rattle.model.specs.Lent.{Lent, tagAt, cycleAt, statusAt, maskAt, readableAt, missAt, sentAt, ticketCountAt, ticketAt, queuedAt, kindAt, queueMaskAt, nowAt, dirtyCountAt, takenAt}
+use Rattle.model.specs.Lent.{Lent, tagAt, cycleAt, statusAt, maskAt, readableAt, missAt, sentAt, ticketCountAt, ticketAt, queuedAt, kindAt, queueMaskAt, nowAt, dirtyCountAt, takenAt, treeAt}
 use Rattle.model.specs.SoundLent as lent
 use Rattle.model.proofs.Reflect.{Is, is-flag, is-eq, is-le, is-lt, is-not, is-and, is-or, is-imp, is-unless, is-every, is-some, is-none, is-as}
 
@@ -60,6 +61,9 @@ module _ (S : Settings) (L : Lent) where
 
   abbrev pub dirtyCount : ℕ
   dirtyCount = dirtyCountAt S (L .words)
+
+  abbrev pub tree : ℕ → ℕ
+  tree = treeAt S (L .words)
 
   abbrev pub dirtyLine : ℕ → Bool
   dirtyLine = lent.dirtyLine S (L .longs) (L .words) (L .marks)
@@ -141,6 +145,7 @@ module _ (S : Settings) (L : Lent) where
     pub places-first : First (S .queue) (kind S L)
     pub places : (p : ℕ) → p < S .queue → PlaceIs p
     pub counted : dirtyCount S L ≡ countBelow (linesOf S) (dirtyLine S L)
+    pub trees : (i : ℕ) → i < S .sets → treeFine (isTree S) (S .ways) (tree S L i) ≡ true
 
 -- ---- each test with its facts
 
@@ -249,6 +254,7 @@ module _ (S : Settings) (L : Lent) where
       (is-and
       (is-and
       (is-and
+      (is-and
       (is-and (is-and (is-le (now S L) lastCycle) (is-every (linesOf S) line-is)) (is-every (4 * linesOf S) sector-is))
       (is-every (S .readers * S .misses) (λ i. is-imp (is-le (ticketCount S L (i / S .readers)) (i % S .readers)) (is-eq (ticket S L i) 0))))
       (first-is (S .misses) (ticketCount S L)))
@@ -256,15 +262,17 @@ module _ (S : Settings) (L : Lent) where
       (first-is (S .queue) (kind S L)))
       (is-every (S .queue) place-is))
       (is-eq (dirtyCount S L) (countBelow (linesOf S) (dirtyLine S L))))
+      (is-every (S .sets) (λ i. is-flag (treeFine (isTree S) (S .ways) (tree S L i)))))
       (λ w. record {
-        time = w .0 .0 .0 .0 .0 .0 .0 .0;
-        lines = w .0 .0 .0 .0 .0 .0 .0 .1;
-        sectors = w .0 .0 .0 .0 .0 .0 .1;
-        tickets = w .0 .0 .0 .0 .0 .1;
-        entries-first = w .0 .0 .0 .0 .1;
-        entries = w .0 .0 .0 .1;
-        places-first = w .0 .0 .1;
-        places = w .0 .1;
-        counted = w .1;
+        time = w .0 .0 .0 .0 .0 .0 .0 .0 .0;
+        lines = w .0 .0 .0 .0 .0 .0 .0 .0 .1;
+        sectors = w .0 .0 .0 .0 .0 .0 .0 .1;
+        tickets = w .0 .0 .0 .0 .0 .0 .1;
+        entries-first = w .0 .0 .0 .0 .0 .1;
+        entries = w .0 .0 .0 .0 .1;
+        places-first = w .0 .0 .0 .1;
+        places = w .0 .0 .1;
+        counted = w .0 .1;
+        trees = w .1;
       })
-      (λ r. ((((((((r .time, r .lines), r .sectors), r .tickets), r .entries-first), r .entries), r .places-first), r .places), r .counted))
+      (λ r. (((((((((r .time, r .lines), r .sectors), r .tickets), r .entries-first), r .entries), r .places-first), r .places), r .counted), r .trees))

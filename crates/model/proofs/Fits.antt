@@ -7,9 +7,10 @@ use native.Mathlib.Nat.{mul-le-mul}
 use native.Mathlib.Omega.{arith}
 use lib.Dec.{leb}
 use lib.ListN.{length}
-use borrow.Author.Tests.{leb-true}
+use borrow.Author.Tests.{leb-true, eqb-true}
 use Rattle.model.specs.declared.Settings.{Settings}
-use Rattle.model.specs.Range.{linesOf, inRange, powerTo256, within}
+use Rattle.model.specs.Range.{linesOf, inRange, powerTo256, within, isTree, ruleFine}
+use Rattle.model.specs.Tree.{powerTo16}
 use Rattle.model.specs.Layout.{longsLength, wordsLength, marksLength}
 use Rattle.model.specs.Inner.{Fit, aside}
 use Rattle.model.proofs.Flags.{and-1, and-2, clash}
@@ -62,6 +63,14 @@ ranged S e =
       queue = leb-true _ _ queue;
     }
 
+-- a tree goes over a power of two of ways
+pub tree-power : (S : Settings) → inRange S ≡ true → isTree S ≡ true → powerTo16 (S .ways) ≡ true
+unfolding inRange
+tree-power S range e =
+    let fine : ruleFine S ≡ true = search (and-1, and-2) in
+    let two : S .rule ≡ 2 = eqb-true (S .rule) 2 e in
+    rw two at fine
+
 pub fit : (S : Settings) (longs words marks : List ℕ) → (inRange S ≡ true) × (length longs ≡ longsLength S) × (length words ≡ wordsLength S) × (length marks ≡ marksLength S) → Fit S longs words marks
 fit S longs words marks (r, l, w, m) =
     let a = ranged S r in
@@ -80,6 +89,7 @@ fit S longs words marks (r, l, w, m) =
       tickets = t;
       place = a .place;
       queue = a .queue;
+      tree = tree-power S r;
       longs-long = l;
       words-room = omega arith;
       words-long = aside w;

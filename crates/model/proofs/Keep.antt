@@ -1,5 +1,5 @@
 -- Send and fill keep sound tables sound.
-use Prim.Native.Nat.{ℕ, _+_, _*_, _%_, _<_}
+use Prim.Native.Nat.{ℕ, _+_, _*_, _%_, _<_, _-_}
 use mathlib.Core.Path.{_≡_, refl, sym, ap, _∙_}
 use mathlib.Core.Logic.{_⊎_, inl, inr, _≢_, ⊎-elim}
 use mathlib.Core.Bool.{Bool, true, false, not, _&&_, _||_, true≢false}
@@ -24,10 +24,10 @@ use Rattle.model.specs.declared.QueueKind.the-variants as queue
 use Rattle.model.specs.declared.Queued.{Queued}
 use Rattle.model.specs.declared.Refusal.the-variants.{NotSent}
 use Rattle.model.proofs.Flags.{and-1, and-2, and-i, flag, not-yes, not-no, no-yes, clash, by-flag, is-same}
-use Rattle.model.proofs.Lists.{In, all-in, in-all, in-any, any-in, in-keep, keep-in, keep-le, not-twice, count-ext, any-ext, count-keep, any-keep, in-getD, all-set, set-some, map-in, in-map, any-map, all-map, count-map, in-index, in-set-same, in-set-other}
+use Rattle.model.proofs.Lists.{In, all-in, in-all, in-any, any-in, in-keep, keep-in, keep-le, not-twice, count-ext, any-ext, count-keep, any-keep, in-getD, all-set, set-some, map-in, in-map, any-map, all-map, count-map, in-index, in-set-same, in-set-other, count-index}
 use Rattle.model.proofs.Below.{every-i}
 use Rattle.model.proofs.SoundFacts.{Sound, LeavesSound, LineIs, line-whole, EntryIs, entry-whole, mask-small, sector-aligned, address-is, block-is, sector-is, lines-are, line-at, four-at, tag-aligned, reserved-at, entry-at, entry-one, queued-at, unsent-once, queued-when, sectors-at}
-use Rattle.model.proofs.Counting.{count-gains, few-any, count-le}
+use Rattle.model.proofs.Counting.{recount, any-one, map-one}
 
 -- ---- send
 
@@ -135,6 +135,8 @@ module _ (S : Settings) (t : Tables) (x : Queued) (q : List Queued) (at : t .que
     few = rw (marked-length (x .kind) (x .address) (t .misses)) (ok .few);
     short = le-leb (length q) (S .queue) (omega (arith, ap length at, leb-true (length (t .queue)) (S .queue) (ok .short)));
     counted = ok .counted;
+    treed = ok .treed;
+    turned = ok .turned;
   }
 
 pub send-leaves : (S : Settings) (t : Tables) → Sound S t → LeavesSound S (send t)
@@ -384,12 +386,45 @@ module _ (S : Settings) (t : Tables) (ok : Sound S t) (d : Entry) (m : In d (t .
       let live : unused l ≡ false = not-yes (and-1 (not (unused l)) (eqb (l .tag) (blockOf a)) h) in
       eqb-true (count (holds (blockOf a)) (t .lines)) 1 (rw (live, tag) at (all-in (alone (t .lines)) (t .lines) (ok .single) n))
 
+  -- a fill loses no dirty line
+  gained : (b c : Bool) (n : ℕ) → (b ≡ true → c ≡ true) → n + one (not b && c) ≡ n + one c - one b
+  gained true true n h = omega arith
+  gained true false n h = clash (h refl) refl
+  gained false true n h = omega arith
+  gained false false n h = omega arith
+
+  -- line i, which has the block, is the only one that it changes
+  module _ (i : ℕ) (inside : i < length (t .lines)) (there : holds (blockOf a) (getD (t .lines) i fresh) ≡ true) where
+    other : (j : ℕ) → j < length (t .lines) → j ≢ i → holds (blockOf a) (getD (t .lines) j fresh) ≡ false
+    other j h z = no-yes (λ e. z (count-index (holds (blockOf a)) fresh (t .lines) one-holds j i h inside e there))
+
+    others-stay : (j : ℕ) → j < length (t .lines) → j ≢ i → fillLine a (getD (t .lines) j fresh) ≡ getD (t .lines) j fresh
+    unfolding fillLine
+    others-stay j h z = rw (other j h z)
+
+    abbrev line : Line
+    line = getD (t .lines) i fresh
+
+    line-in : In line (t .lines)
+    line-in = in-getD (t .lines) i fresh inside
+
+    one-soiled : any (soiled a) (t .lines) ≡ soiled a line
+    one-soiled = any-one (soiled a) (t .lines) i fresh inside
+        (λ j h z. no-yes (λ e. clash (soiled-holds a (getD (t .lines) j fresh) (four-at S t ok (getD (t .lines) j fresh) (in-getD (t .lines) j fresh h)) e) (other j h z)))
+
+    counted-filled : t .dirtyCount + one (any (soiled a) (t .lines)) ≡ count dirty filled
+    counted-filled =
+        let e : t .dirtyCount ≡ count dirty (t .lines) = eqb-true (t .dirtyCount) (dirtyLines t) (ok .counted) in
+        ap (λ (b : Bool). t .dirtyCount + one b) one-soiled
+        ∙ gained (dirty line) (dirty (fillLine a line)) (t .dirtyCount) (fill-dirty a line (four-at S t ok line line-in) (sectors-at S t ok line line-in))
+        ∙ recount dirty (t .lines) i (fillLine a line) fresh inside e
+        ∙ ap (count dirty) (sym (map-one (fillLine a) fresh (t .lines) i inside others-stay))
+
   filled-dirty : t .dirtyCount + one (any (soiled a) (t .lines)) ≡ count dirty filled
   filled-dirty =
-      let e : t .dirtyCount ≡ count dirty (t .lines) = eqb-true (t .dirtyCount) (dirtyLines t) (ok .counted) in
-      let g = count-gains dirty (fillLine a) (t .lines) (λ l n. fill-dirty a l (four-at S t ok l n) (sectors-at S t ok l n)) in
-      let f = count-le (soiled a) (holds (blockOf a)) (t .lines) (λ l n. soiled-holds a l (four-at S t ok l n)) in
-      omega (arith, few-any (soiled a) (t .lines) (omega (arith, one-holds)))
+      let (l, n, h) = any-in (holds (blockOf a)) (t .lines) (entry-at S t ok d m .held) in
+      let (i, k, e) = in-index (t .lines) fresh l n in
+      counted-filled i k (rw e h)
 
   pub filled-sound : Sound S (afterFill (d .address) t)
   filled-sound = record {
@@ -403,6 +438,8 @@ module _ (S : Settings) (t : Tables) (ok : Sound S t) (d : Entry) (m : In d (t .
     few = le-leb (length left) (S .misses) (omega (arith, keep-le (others a) (t .misses), leb-true (length (t .misses)) (S .misses) (ok .few)));
     short = ok .short;
     counted = eq-eqb (t .dirtyCount + one (any (soiled a) (t .lines))) (count dirty filled) filled-dirty;
+    treed = ok .treed;
+    turned = ok .turned;
   }
 
 pub fill-leaves : (S : Settings) (t : Tables) → Sound S t → (a : ℕ) → LeavesSound S (fill a t)

@@ -13,6 +13,7 @@ pub mod Fits
 pub mod Powers
 pub mod TreeBits
 pub mod Trees
+pub mod Turning
 pub mod Answers
 pub mod Fourteen
 pub mod MoreCases

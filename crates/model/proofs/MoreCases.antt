@@ -1,7 +1,7 @@
 -- More accesses, made as the fourteen are: one for each rule of document 01 that those leave open, and some under each replacement rule.
 -- A table and a statement each.
 use mathlib.Core.Path.{_≡_, refl}
-use mathlib.Core.List.{map}
+use mathlib.Core.List.{List, map}
 use Rattle.model.specs.Words.{table, fit, places}
 use Rattle.model.specs.Range.{inRange}
 use Rattle.model.specs.Lent.{tablesOf, encode}
@@ -9,7 +9,8 @@ use Rattle.model.specs.SoundLent.{soundNumbers}
 use Rattle.model.specs.Probe.{probe, ruleOf}
 use Rattle.model.specs.Steps.{access, proceed, accept, send, fill, fillLine, tick}
 use Rattle.model.specs.Calls.{call}
-use Rattle.model.specs.Cases.{Case, moreCases, ruleCases, seenOf}
+use Rattle.model.specs.Tree.{bit, withBit, goes, descent, turned, levels}
+use Rattle.model.specs.Cases.{Case, moreCases, ruleCases, seenOf, Turned, turnedBy, treeCases, treesLeft}
 
 pub more-cases : map seenOf moreCases ≡ map (λ (c : Case). c .sees) moreCases
 unfolding table fit places inRange tablesOf encode soundNumbers ruleOf probe access proceed accept send fill fillLine tick call
@@ -18,3 +19,7 @@ more-cases = refl
 pub rule-cases : map seenOf ruleCases ≡ map (λ (c : Case). c .sees) ruleCases
 unfolding table fit places inRange tablesOf encode soundNumbers ruleOf probe access proceed accept send fill fillLine tick call
 rule-cases = refl
+
+pub tree-cases : map (λ c. turnedBy (c .0) (c .1)) treeCases ≡ treesLeft
+unfolding table fit places inRange tablesOf encode soundNumbers ruleOf probe access proceed accept send fill fillLine tick call bit withBit goes descent turned levels
+tree-cases = refl

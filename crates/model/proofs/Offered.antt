@@ -1,5 +1,5 @@
 -- What the probe finds is as `Spotted` says; a tick leaves sound tables sound, and fresh tables are sound.
-use Prim.Native.Nat.{ℕ, _+_, _*_, _/_, _≤_, _<_}
+use Prim.Native.Nat.{ℕ, _+_, _*_, _/_, _-_, _^_, _≤_, _<_}
 use mathlib.Core.Path.{_≡_, refl, sym, ap, _∙_, subst}
 use mathlib.Core.Logic.{_⊎_, inl, inr, _≢_}
 use mathlib.Core.Bool.{Bool, true, false, not, _&&_, _||_, false≢true}
@@ -7,9 +7,11 @@ use mathlib.Core.List.{List, [], _∷_, _++_, map}
 use native.Mathlib.Omega.{arith}
 use lib.ListN.{length, getD, replicate, length-map, getD-replicate, length-replicate}
 use lib.Dec.{leb, ltb, eqb}
-use borrow.Author.Tests.{leb-true, ltb-false, eqb-true, eqb-false, eq-eqb, le-leb}
+use lib.Pow.{pow-pos}
+use borrow.Author.Tests.{leb-true, ltb-false, lt-ltb, eqb-true, eqb-false, eq-eqb, le-leb}
 use Rattle.model.specs.Words.{pick, all, any, count}
-use Rattle.model.specs.Range.{inRange, linesOf}
+use Rattle.model.specs.Range.{inRange, linesOf, isTree}
+use Rattle.model.specs.Tree.{treeFine}
 use Rattle.model.specs.Address.{blockOf, sectorIndex, setIndex, lineNumber, addressOf, goodBlock}
 use Rattle.model.specs.Tables.{Line, Entry, writing, Tables, start, refused, isInvalid, isReserved, isModified, unused, waiting, dirty, holds, entryFor, empty, fresh, emptied, withNow}
 use Rattle.model.specs.Sound.{allOnes, lastCycle, maskOk, sectorOk, lineOk, alone, reservedOk, readingOf, entryOk, queuedOk}
@@ -306,7 +308,14 @@ tick-leaves S t ok c = by-flag (LeavesSound S) (ltb c (t .now) || ltb lastCycle 
       few = ok .few;
       short = ok .short;
       counted = ok .counted;
+      treed = ok .treed;
+      turned = ok .turned;
     }
+
+-- a tree of 0 under every rule
+blank-fine : (b : Bool) (ways : ℕ) → treeFine b ways 0 ≡ true
+blank-fine true ways = lt-ltb 0 (2 ^ (ways - 1)) (pow-pos (ways - 1))
+blank-fine false ways = refl
 
 pub start-is-sound : (S : Settings) → Sound S (start S)
 unfolding lineOk alone reservedOk
@@ -321,6 +330,8 @@ start-is-sound S = record {
   few = le-leb 0 (S .misses) (omega arith);
   short = le-leb 0 (S .queue) (omega arith);
   counted = eq-eqb 0 (count dirty (replicate (linesOf S) fresh)) (sym (none-count dirty (replicate (linesOf S) fresh) (no-yes (λ h. let (l, m, q) = any-in dirty (replicate (linesOf S) fresh) h in clash q (ap dirty (in-replicate (linesOf S) fresh l m))))));
+  treed = eq-eqb _ (S .sets) (length-replicate (S .sets) 0);
+  turned = in-all (treeFine (isTree S) (S .ways)) (replicate (S .sets) 0) (λ t m. rw (in-replicate (S .sets) 0 t m) (blank-fine (isTree S) (S .ways)));
 }
 
 -- what an access meets is as `Spotted` says

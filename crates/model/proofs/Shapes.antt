@@ -21,13 +21,13 @@ use Rattle.model.specs.Words.{pick, count, table, every, some, countBelo
 use Rattle.model.specs.Numbers.{statusNumber, statusOf, queueKindNumber, queueKindOf}
 use Rattle.model.specs.Range.{linesOf}
 use Rattle.model.specs.Tables.{Line, Entry, Tables, isInvalid, isReserved, unused, isFetch, idle, empty, fresh, noEntry, isModified, dirty, dirtyLines}
-use Rattle.model.specs.Lent.{Lent, bit, tagOf, cycleOf, takenOf, masksOf, statusesOf, readablesOf, missOf, sentOf, ticketCountOf, ticketsIn, queuedOf, kindOf, queueMasksOf, inUse, sectorAt, sectorsAt, lineAt, entryAt, queueAt, tablesOf}
+use Rattle.model.specs.Lent.{Lent, bit, tagOf, cycleOf, takenOf, treeOf, masksOf, statusesOf, readablesOf, missOf, sentOf, ticketCountOf, ticketsIn, queuedOf, kindOf, queueMasksOf, inUse, sectorAt, sectorsAt, lineAt, entryAt, queueAt, tablesOf}
 use Rattle.model.specs.Sound.{readingOf}
 use Rattle.model.proofs.Flags.{iff}
 use Rattle.model.proofs.Answers.{status-of-number}
 use Rattle.model.proofs.Tabled.{all-get, any-get, count-get, table-list}
 use Rattle.model.proofs.InUse.{lt-or-ge, count-short, count-same, some-same, in-use-is}
-use Rattle.model.proofs.Facts.{tag, cycle, taken, status, mask, readable, miss, sent, ticketCount, ticket, queued, kind, queueMask, now, live, dirtyLine, readFor, Used}
+use Rattle.model.proofs.Facts.{tag, cycle, taken, status, mask, readable, miss, sent, ticketCount, ticket, queued, kind, queueMask, now, tree, live, dirtyLine, readFor, Used}
 use Rattle.model.proofs.Standing.{field, field-in, field-out, Stands}
 
 -- ---- records of the tables by their place
@@ -62,6 +62,7 @@ pub record Shape (S : Settings) (t : Tables) : Type 0 where
   pub short : (e : ℕ) → e < length (t .misses) → length (entry t e .tickets) ≤ S .readers
   pub deep : length (t .queue) ≤ S .queue
   pub masked : (p : ℕ) → p < length (t .queue) → length (place t p .masks) ≡ 4
+  pub treed : length (t .trees) ≡ S .sets
 
 -- ---- numbers and what they stand for
 
@@ -145,9 +146,9 @@ pub queued-back : (x : Queued) {k : QueueKind} {a : ℕ} {ms : List ℕ} → k �
     → record { kind = k; address = a; masks = ms } ≡ x
 queued-back x p q r = rw (p, q, r)
 
-tables-back : (t : Tables) {ls : List Line} {es : List Entry} {q : List Queued} {c d : ℕ} → ls ≡ t .lines → es ≡ t .misses → q ≡ t .queue → c ≡ t .now → d ≡ t .dirtyCount
-    → record { lines = ls; misses = es; queue = q; now = c; dirtyCount = d } ≡ t
-tables-back t p q r w v = rw (p, q, r, w, v)
+tables-back : (t : Tables) {ls : List Line} {es : List Entry} {q : List Queued} {c d : ℕ} {ts : List ℕ} → ls ≡ t .lines → es ≡ t .misses → q ≡ t .queue → c ≡ t .now
+    → d ≡ t .dirtyCount → ts ≡ t .trees → record { lines = ls; misses = es; queue = q; now = c; dirtyCount = d; trees = ts } ≡ t
+tables-back t p q r w v u = rw (p, q, r, w, v, u)
 
 -- the four sectors of a line, as a table
 pub sectors-table : (S : Settings) (words marks : List ℕ) (l : ℕ) → sectorsAt S words marks l ≡ table 4 (λ k. sectorAt S words marks (4 * l + k))
@@ -168,6 +169,9 @@ module _ (S : Settings) (L : Lent) (t : Tables) (st : Stands S L t) (sh : Shape 
 
   pub taken-is : (l : ℕ) → l < linesOf S → taken S L l ≡ line t l .taken
   taken-is l h = st .takens l h ∙ field-in takenOf (t .lines) fresh l 0 (in-lines l h)
+
+  pub tree-is : (i : ℕ) → i < S .sets → tree S L i ≡ getD (t .trees) i 0
+  tree-is i h = st .trees i h ∙ field-in treeOf (t .trees) 0 i 0 (rw (sh .treed) h)
 
   in-sectors : (l k : ℕ) → l < linesOf S → k < 4 → k < length (line t l .sectors)
   in-sectors l k h j = let e = sh .fours l h in omega arith
@@ -317,3 +321,4 @@ module _ (S : Settings) (L : Lent) (t : Tables) (st : Stands S L t) (sh : Shape 
       (ap (λ (n : ℕ). table n (queueAt S L)) places-in-use ∙ table-list (length (t .queue)) (queueAt S L) (t .queue) idle refl place-again)
       (st .time)
       (st .count)
+      (table-list (S .sets) (tree S L) (t .trees) 0 (sh .treed) tree-is)

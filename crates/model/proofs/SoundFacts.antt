@@ -8,7 +8,8 @@ use lib.ListN.{length, getD}
 use lib.Dec.{leb, ltb, eqb}
 use borrow.Author.Tests.{eqb-true, eq-eqb, leb-true}
 use Rattle.model.specs.Words.{pick, all, any, count, every}
-use Rattle.model.specs.Range.{inRange, within, linesOf}
+use Rattle.model.specs.Range.{inRange, within, linesOf, isTree}
+use Rattle.model.specs.Tree.{treeFine}
 use Rattle.model.specs.Address.{blockOf, sectorIndex, setIndex, goodSector, goodBlock}
 use Rattle.model.specs.Tables.{Line, Entry, Tables, Outcome, refused, done, isReserved, unused, holds, entryFor, isFetch, empty, fresh, dirtyLines}
 use Rattle.model.specs.Sound.{allOnes, lastCycle, maskOk, sectorOk, lineOk, alone, agrees, reservedOk, readingOf, unsentFor, entryOk, kindOk, queuedOk, sound}
@@ -35,14 +36,16 @@ pub record Sound (S : Settings) (t : Tables) : Type 0 where
   pub few : leb (length (t .misses)) (S .misses) ≡ true
   pub short : leb (length (t .queue)) (S .queue) ≡ true
   pub counted : eqb (t .dirtyCount) (dirtyLines t) ≡ true
+  pub treed : eqb (length (t .trees)) (S .sets) ≡ true
+  pub turned : all (treeFine (isTree S) (S .ways)) (t .trees) ≡ true
 
 pub parts : (S : Settings) (t : Tables) → sound S t ≡ true → Sound S t
 unfolding sound
-parts S t e = search (and-1, and-2) depth 11
+parts S t e = search (and-1, and-2) depth 13
 
 pub whole : (S : Settings) (t : Tables) → Sound S t → sound S t ≡ true
 unfolding sound
-whole S t h = rw (h .sized, h .time, h .lined, h .single, h .reserve, h .entered, h .lining, h .few, h .short, h .counted)
+whole S t h = rw (h .sized, h .time, h .lined, h .single, h .reserve, h .entered, h .lining, h .few, h .short, h .counted, h .treed, h .turned)
 
 pub record LineIs (S : Settings) (now i : ℕ) (l : Line) : Type 0 where
   pub four : eqb (length (l .sectors)) 4 ≡ true

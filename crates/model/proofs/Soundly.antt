@@ -16,7 +16,8 @@ use Rattle.model.specs.declared.Queued.{Queued}
 use Rattle.model.specs.declared.Status.{Status}
 use Rattle.model.specs.declared.Status.the-variants.{Invalid, Reserved, Valid, Modified}
 use Rattle.model.specs.Words.{pick, all, any, count}
-use Rattle.model.specs.Range.{linesOf}
+use Rattle.model.specs.Range.{linesOf, isTree}
+use Rattle.model.specs.Tree.{treeFine}
 use Rattle.model.specs.Address.{blockOf, setIndex}
 use Rattle.model.specs.Tables.{Tables, isReserved, unused, holds, entryFor, idle, empty, fresh, noEntry, dirtyLines}
 use Rattle.model.specs.Numbers.{statusNumber, queueKindNumber}
@@ -170,6 +171,8 @@ module _ (S : Settings) (t : Tables) where
     pub few : length (t .misses) ≤ S .misses
     pub deep : length (t .queue) ≤ S .queue
     pub counted : t .dirtyCount ≡ dirtyLines t
+    pub treed : length (t .trees) ≡ S .sets
+    pub turned : (i : ℕ) → i < length (t .trees) → treeFine (isTree S) (S .ways) (getD (t .trees) i 0) ≡ true
 
   pub soundly-shape : Soundly → Shape S t
   soundly-shape s = record {
@@ -180,6 +183,7 @@ module _ (S : Settings) (t : Tables) where
     short = λ e h. s .entries e h .short;
     deep = s .deep;
     masked = λ p h. s .queue p h .masked;
+    treed = s .treed;
   }
 
 -- ---- each test with its facts
@@ -319,6 +323,8 @@ module _ (S : Settings) (t : Tables) where
       (is-and
       (is-and
       (is-and
+      (is-and
+      (is-and
       (is-and (is-eq (length (t .lines)) (linesOf S)) (is-le (t .now) lastCycle))
       (is-every (linesOf S) line-ok-is))
       (is-all (alone (t .lines)) (t .lines) fresh alone-is))
@@ -328,19 +334,23 @@ module _ (S : Settings) (t : Tables) where
       (is-le (length (t .misses)) (S .misses)))
       (is-le (length (t .queue)) (S .queue)))
       (is-eq (t .dirtyCount) (dirtyLines t)))
-      (λ w. let size = w .0 .0 .0 .0 .0 .0 .0 .0 .0 in record {
+      (is-eq (length (t .trees)) (S .sets)))
+      (is-all (treeFine (isTree S) (S .ways)) (t .trees) 0 (λ i h. is-flag (treeFine (isTree S) (S .ways) (getD (t .trees) i 0)))))
+      (λ w. let size = w .0 .0 .0 .0 .0 .0 .0 .0 .0 .0 .0 in record {
         size = size;
-        time = w .0 .0 .0 .0 .0 .0 .0 .0 .1;
-        lines = w .0 .0 .0 .0 .0 .0 .0 .1;
-        alone = λ l h. w .0 .0 .0 .0 .0 .0 .1 l (omega arith);
-        agrees = λ l h. w .0 .0 .0 .0 .0 .1 l (omega arith);
-        entries = w .0 .0 .0 .0 .1;
-        queue = w .0 .0 .0 .1;
-        few = w .0 .0 .1;
-        deep = w .0 .1;
-        counted = w .1;
+        time = w .0 .0 .0 .0 .0 .0 .0 .0 .0 .0 .1;
+        lines = w .0 .0 .0 .0 .0 .0 .0 .0 .0 .1;
+        alone = λ l h. w .0 .0 .0 .0 .0 .0 .0 .0 .1 l (omega arith);
+        agrees = λ l h. w .0 .0 .0 .0 .0 .0 .0 .1 l (omega arith);
+        entries = w .0 .0 .0 .0 .0 .0 .1;
+        queue = w .0 .0 .0 .0 .0 .1;
+        few = w .0 .0 .0 .0 .1;
+        deep = w .0 .0 .0 .1;
+        counted = w .0 .0 .1;
+        treed = w .0 .1;
+        turned = w .1;
       })
       (λ r. let size = r .size in (
-        ((((((((size, r .time), r .lines), λ l h. r .alone l (omega arith)), λ l h. r .agrees l (omega arith)), r .entries), r .queue), r .few), r .deep),
-        r .counted,
+        ((((((((((size, r .time), r .lines), λ l h. r .alone l (omega arith)), λ l h. r .agrees l (omega arith)), r .entries), r .queue), r .few), r .deep), r .counted), r .treed),
+        r .turned,
       ))

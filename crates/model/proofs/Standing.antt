@@ -9,14 +9,14 @@ use lib.Seq.{getD-append-add}
 use Rattle.model.specs.declared.Settings.{Settings}
 use Rattle.model.specs.Words.{table, fit, places, joined}
 use Rattle.model.specs.Range.{linesOf}
-use Rattle.model.specs.Layout.{longSizes, wordSizes, markSizes, longsLength, wordsLength, marksLength, longsFrom, wordsFrom, marksFrom, tagRegion, missRegion, queueRegion, cycleRegion, maskRegion, ticketRegion, queueMaskRegion, dirtyCountRegion, takenRegion, statusRegion, readableRegion, sentRegion, ticketCountRegion, kindRegion}
+use Rattle.model.specs.Layout.{longSizes, wordSizes, markSizes, longsLength, wordsLength, marksLength, longsFrom, wordsFrom, marksFrom, tagRegion, missRegion, queueRegion, cycleRegion, maskRegion, ticketRegion, queueMaskRegion, dirtyCountRegion, takenRegion, treeRegion, statusRegion, readableRegion, sentRegion, ticketCountRegion, kindRegion}
 use Rattle.model.specs.Tables.{Tables}
-use Rattle.model.specs.Lent.{Lent, encode, tagOf, cycleOf, takenOf, masksOf, statusesOf, readablesOf, missOf, sentOf, ticketCountOf, ticketsIn, queuedOf, kindOf, queueMasksOf, longBlocks, wordBlocks, markBlocks}
+use Rattle.model.specs.Lent.{Lent, encode, tagOf, cycleOf, takenOf, treeOf, masksOf, statusesOf, readablesOf, missOf, sentOf, ticketCountOf, ticketsIn, queuedOf, kindOf, queueMasksOf, longBlocks, wordBlocks, markBlocks}
 use Rattle.model.specs.Regions.{region, ahead}
 use Rattle.model.proofs.Places.{length-fit, length-places, block-get, stride}
 use Rattle.model.proofs.Tabled.{list-table, table-append}
 use Rattle.model.proofs.Slices.{long-sizes, word-sizes, mark-sizes, begins, regions-joined, region-table}
-use Rattle.model.proofs.Facts.{tag, cycle, taken, status, mask, readable, miss, sent, ticketCount, ticket, queued, kind, queueMask, now, dirtyCount}
+use Rattle.model.proofs.Facts.{tag, cycle, taken, status, mask, readable, miss, sent, ticketCount, ticket, queued, kind, queueMask, now, dirtyCount, tree}
 
 -- number k of the field g of record e, 0 where there is none
 unfoldable pub field : {A : Type 0} → (A → List ℕ) → List A → ℕ → ℕ → ℕ
@@ -126,6 +126,7 @@ pub record Stands (S : Settings) (L : Lent) (t : Tables) : Type 0 where
   pub queue-masks : (p k : ℕ) → p < S .queue → k < 4 → queueMask S L (4 * p + k) ≡ field queueMasksOf (t .queue) p k
   pub time : now S L ≡ t .now
   pub count : dirtyCount S L ≡ t .dirtyCount
+  pub trees : (i : ℕ) → i < S .sets → tree S L i ≡ field treeOf (t .trees) i 0
 
 -- ---- in the encoding the tables stand
 
@@ -146,7 +147,7 @@ module _ (S : Settings) (t : Tables) where
   long-block g w n xs j e k i here h at =
       in-block g w n xs (longBlocks S t) j e k i here h (at ∙ ap (λ (m : ℕ). m + (w * e + k)) (sym (begins (longBlocks S t) j (long-sizes S t))))
 
-  word-block : {A : Type 0} (g : A → List ℕ) (w n : ℕ) (xs : List A) (j e k i : ℕ) → getD (wordBlocks S t) j [] ≡ places g w n xs → j < 7
+  word-block : {A : Type 0} (g : A → List ℕ) (w n : ℕ) (xs : List A) (j e k i : ℕ) → getD (wordBlocks S t) j [] ≡ places g w n xs → j < 8
       → i ≡ wordsFrom S j + (w * e + k) → e < n → k < w → getD (joined (wordBlocks S t)) i 0 ≡ field g xs e k
   word-block g w n xs j e k i here h at =
       in-block g w n xs (wordBlocks S t) j e k i here h (at ∙ ap (λ (m : ℕ). m + (w * e + k)) (sym (begins (wordBlocks S t) j (word-sizes S t))))
@@ -166,6 +167,7 @@ module _ (S : Settings) (t : Tables) where
     count = block-get (wordBlocks S t) dirtyCountRegion 0 {i = wordsFrom S dirtyCountRegion} refl (sym (begins (wordBlocks S t) dirtyCountRegion (word-sizes S t)) ∙ sym (add-zero (ahead (wordBlocks S t) dirtyCountRegion))) (omega arith) (omega arith);
     cycles = λ l h. word-block cycleOf 1 (linesOf S) (t .lines) cycleRegion l 0 (1 + l) refl (omega arith) (omega arith) h (omega arith);
     takens = λ l h. word-block takenOf 1 (linesOf S) (t .lines) takenRegion l 0 (wordsFrom S takenRegion + l) refl (omega arith) (omega arith) h (omega arith);
+    trees = λ i h. word-block treeOf 1 (S .sets) (t .trees) treeRegion i 0 (wordsFrom S treeRegion + i) refl (omega arith) (omega arith) h (omega arith);
     masks = λ l k h j. word-block masksOf 4 (linesOf S) (t .lines) maskRegion l k _ refl (omega arith) refl h j;
     tickets = λ e k h j. word-block ticketsIn (S .readers) (S .misses) (t .misses) ticketRegion e k _ refl (omega arith) refl h j;
     queue-masks = λ p k h j. word-block queueMasksOf 4 (S .queue) (t .queue) queueMaskRegion p k _ refl (omega arith) refl h j;
@@ -218,7 +220,10 @@ module _ (S : Settings) (L : Lent) (t : Tables) (st : Stands S L t) where
                   region-table (L .words) (wordsFrom S dirtyCountRegion) 1 (omega arith) ∙ ap (λ (c : ℕ). c ∷ []) (rw add-zero (st .count)),
                   (
                     region-singles (L .words) (wordsFrom S takenRegion) takenOf (linesOf S) (t .lines) (omega arith) (st .takens),
-                    e,
+                    (
+                      region-singles (L .words) (wordsFrom S treeRegion) treeOf (S .sets) (t .trees) (omega arith) (st .trees),
+                      e,
+                    ),
                   ),
                 ),
               ),

@@ -12,7 +12,7 @@ use lib.Bits.{bitOr, or-lt, or-add-and, and-le-l}
 use lib.Dec.{leb, ltb, eqb}
 use borrow.Author.Tests.{leb-true, leb-false, ltb-true, ltb-false, lt-ltb, eqb-true, eqb-false, eq-eqb, ne-eqb, le-leb}
 use Rattle.model.specs.Words.{pick, all, any, count, every}
-use Rattle.model.specs.Range.{within, linesOf}
+use Rattle.model.specs.Range.{within, linesOf, inRange}
 use Rattle.model.specs.Address.{blockOf, sectorIndex, setIndex, lineNumber, addressOf, maskOf, isRead, goodSector, wellFormed}
 use Rattle.model.specs.Tables.{Line, Entry, reading, Tables, isInvalid, isReserved, unused, holds, entryFor, isFetch, empty, fresh, dirty, dirtyLines}
 use Rattle.model.specs.Sound.{allOnes, maskOk, sectorOk, lineOk, alone, agrees, reservedOk, readingOf, unsentFor, entryOk, queuedOk}
@@ -30,6 +30,8 @@ use Rattle.model.specs.declared.Access.the-variants.{Read, Write}
 use Rattle.model.proofs.Flags.{and-1, and-2, and-i, and-false, and-true, or-false, or-1, or-2, flag, not-yes, not-no, no-yes, clash, by-flag, is-same}
 use Rattle.model.proofs.Lists.{In, all-in, in-all, in-any, any-in, index-count, count-append, any-append, in-append, none-count, each, in-set-same, in-set-other, count-ext, any-ext, in-getD, in-index, all-set, set-some, in-map, any-map, count-map}
 use Rattle.model.proofs.Below.{every-i}
+use Rattle.model.proofs.Fits.{tree-power}
+use Rattle.model.proofs.Turning.{set-below, turned-length, turned-fine}
 use Rattle.model.proofs.SoundFacts.{Sound, LineIs, line-whole, EntryIs, entry-whole, mask-small, sector-below, sector-aligned, address-is, block-is, sector-is, lines-are, line-at, tag-aligned, reserved-at, holder-one, entry-at, queued-at, queued-when, queued-unsent}
 use Rattle.model.proofs.Counting.{recount}
 
@@ -479,7 +481,10 @@ module _ (S : Settings) (t : Tables) (ok : Sound S t) (x : Access) (formed : wel
         go (inr o) = more (in-append (fetches x (p .answer)) (p .backs) y o)
 
     module _ (entry : (isRead x && isMiss (p .answer) && leb (S .misses) (length (t .misses))) ≡ false)
-        (roomy : ltb (S .queue) (length (t .queue) + placesNeeded x p) ≡ false) where
+        (roomy : ltb (S .queue) (length (t .queue) + placesNeeded x p) ≡ false) (range : inRange S ≡ true) where
+      trees-are : length (t .trees) ≡ S .sets
+      trees-are = eqb-true (length (t .trees)) (S .sets) (ok .treed)
+
       pub taken-sound : Sound S (afterAccess S x p t)
       taken-sound = record {
         sized = eq-eqb (length (u .lines)) (linesOf S) lines-same;
@@ -496,4 +501,6 @@ module _ (S : Settings) (t : Tables) (ok : Sound S t) (x : Access) (formed : wel
         short = le-leb (length (u .queue)) (S .queue)
             (omega (arith, ltb-false (S .queue) (length (t .queue) + placesNeeded x p) roomy, length-append (t .queue) (queues x p)));
         counted = eq-eqb (u .dirtyCount) (dirtyLines u) (recount dirty (t .lines) n (lineAfter x p (t .now)) fresh (sp .inside) (eqb-true (t .dirtyCount) (dirtyLines t) (ok .counted)));
+        treed = eq-eqb (length (u .trees)) (S .sets) (turned-length S a (p .way) (t .trees) ∙ trees-are);
+        turned = turned-fine S a (p .way) (t .trees) (tree-power S range) (rw trees-are (set-below S range a)) (ok .turned);
       }

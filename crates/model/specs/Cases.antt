@@ -1,8 +1,9 @@
 -- "Fourteen accesses to prove": one table, a row a case, made on lent tables through every check from fresh ones on. Then more, made in
 -- the same way: one for each rule of document 01 that those leave open, and some under each replacement rule.
 use Prim.Native.Nat.{ℕ}
-use mathlib.Core.List.{List, [], _∷_}
-use Rattle.model.specs.Tables.{start, Outcome, refused, done, after, dirtyLines}
+use mathlib.Core.List.{List, [], _∷_, _++_}
+use lib.ListN.{getD}
+use Rattle.model.specs.Tables.{start, Outcome, refused, done, after, eventsOf, dirtyLines}
 use Rattle.model.specs.Lent.{Lent, tablesOf, encode}
 use Rattle.model.specs.History.{Call, offer, sending, filling, ticking, make}
 use Rattle.model.specs.declared.Settings.{Settings}
@@ -11,7 +12,7 @@ use Rattle.model.specs.declared.Answer.the-variants.{Hit, HitReserved, M
 use Rattle.model.specs.declared.Refusal.{Refusal}
 use Rattle.model.specs.declared.Refusal.the-variants.{SettingOutOfRange, BadAccess, SetBusy, SetHeld, QueueFull, EntryFull, MissTableFull, NotSent, BadCycle, QueueEmpty}
 use Rattle.model.specs.declared.Event.{Event}
-use Rattle.model.specs.declared.Event.the-variants.{Answered, ReadQueued, WriteBackQueued}
+use Rattle.model.specs.declared.Event.the-variants.{Answered, Refused, ReadQueued, WriteBackQueued}
 
 -- the outcome of the last of the calls, made from the first on
 abbrev pub makeAll : Settings → List Call → Call → Lent → Outcome Lent
@@ -114,12 +115,15 @@ moreCases =
 abbrev pub ruled : ℕ → Settings
 ruled n = record { sets = 1; ways = 2; dirty = 50; misses = 2; readers = 2; queue = 4; rule = n }
 
+abbrev pub threeWays : ℕ → Settings
+threeWays n = record { sets = 1; ways = 3; dirty = 50; misses = 2; readers = 2; queue = 4; rule = n }
+
 -- way 1 is taken at cycle 1, way 0 at 2; at 9 way 1 is used by this access; 10 comes
 abbrev pub usedLate : Call → List Call
 usedLate c = ticking 1 ∷ w 0 0xFF ∷ ticking 2 ∷ w 128 0xFF ∷ ticking 9 ∷ c ∷ ticking 10 ∷ []
 
 -- 1: least recently used, a MISS takes way 0. 2: first in first out, way 1. 3: also where it was used by a SECTOR_MISS. 4: the lowest way
--- of two taken at the same cycle. 5: another rule byte
+-- of two taken at the same cycle. 5: another rule byte. 6: a tree over three ways
 abbrev pub ruleCases : List Case
 ruleCases =
     case (ruled 0) (usedLate (w 0 0xFF)) (w 256 0xFF) (yes (Answered Miss 0 ∷ WriteBackQueued 128 0xFF 0 0 0 ∷ []) 2)
@@ -127,5 +131,58 @@ ruleCases =
     ∷ case (ruled 1) (usedLate (w 32 0xFF)) (w 256 0xFF) (yes (Answered Miss 1 ∷ WriteBackQueued 0 0xFF 0xFF 0 0 ∷ []) 2)
     ∷ case (ruled 1) (w 0 0xFF ∷ w 128 0xFF ∷ ticking 9 ∷ w 128 0xFF ∷ []) (w 256 0xFF)
     (yes (Answered Miss 0 ∷ WriteBackQueued 128 0xFF 0 0 0 ∷ []) 2)
-    ∷ case (ruled 2) [] (r 0) (no SettingOutOfRange)
+    ∷ case (ruled 3) [] (r 0) (no SettingOutOfRange)
+    ∷ case (threeWays 2) [] (r 0) (no SettingOutOfRange)
+    ∷ []
+
+-- ---- trees (L9): four ways under rule 2
+
+abbrev pub fourWays : Settings
+fourWays = record { sets = 1; ways = 4; dirty = 50; misses = 4; readers = 1; queue = 4; rule = 2 }
+
+-- the events of the last call, and the tree that it leaves
+pub record Turned : Type 0 where
+  pub events : List Event
+  pub tree : ℕ
+
+abbrev pub lastTurned : Call → Lent → Turned
+lastTurned c L = record {
+  events = eventsOf (make fourWays c L);
+  tree = getD (tablesOf fourWays (after L (make fourWays c L)) .trees) 0 0;
+}
+
+abbrev pub turnedFrom : List Call → Call → Lent → Turned
+turnedFrom [] c L = lastTurned c L
+turnedFrom (d ∷ ds) c L = turnedFrom ds c (after L (make fourWays d L))
+
+abbrev pub turnedBy : List Call → Call → Turned
+turnedBy ds c = turnedFrom ds c (encode fourWays (start fourWays))
+
+-- a read that comes back
+abbrev pub fetched : ℕ → List Call
+fetched a = r a ∷ sending ∷ filling a ∷ []
+
+abbrev pub allFour : List Call
+allFour = fetched 0 ++ (fetched 128 ++ (fetched 256 ++ fetched 384))
+
+-- the lines 3 and 2 wait, 1 and 0 are there
+abbrev pub lowerBack : List Call
+lowerBack = r 0 ∷ r 128 ∷ r 256 ∷ r 384 ∷ sending ∷ sending ∷ sending ∷ sending ∷ filling 256 ∷ filling 384 ∷ []
+
+-- 1: wholly invalid ways go first, the highest, and the path to them is turned: the fourth leaves tree 7. 2: the next MISS takes line 3 and
+-- leaves tree 2. 3: with ways 2 and 3 RESERVED it takes line 1. 4: a refused access turns nothing
+abbrev pub treeCases : List (List Call × Call)
+treeCases =
+    (fetched 0 ++ (fetched 128 ++ fetched 256), r 384)
+    ∷ (allFour, r 512)
+    ∷ (lowerBack, r 512)
+    ∷ (allFour, r 1)
+    ∷ []
+
+abbrev pub treesLeft : List Turned
+treesLeft =
+    record { events = Answered Miss 0 ∷ ReadQueued 384 ∷ []; tree = 7 }
+    ∷ record { events = Answered Miss 3 ∷ ReadQueued 512 ∷ []; tree = 2 }
+    ∷ record { events = Answered Miss 1 ∷ ReadQueued 512 ∷ []; tree = 5 }
+    ∷ record { events = Refused BadAccess ∷ []; tree = 7 }
     ∷ []

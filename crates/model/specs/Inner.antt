@@ -4,7 +4,8 @@ use Prim.Native.Nat.{ℕ, _+_, _*_, _≤_}
 use mathlib.Core.Bool.{true}
 use mathlib.Core.List.{List}
 use lib.ListN.{length}
-use Rattle.model.specs.Range.{inRange, powerTo256, linesOf}
+use Rattle.model.specs.Range.{inRange, powerTo256, linesOf, isTree}
+use Rattle.model.specs.Tree.{powerTo16}
 use Rattle.model.specs.Layout.{longsLength, wordsLength, marksLength, wordsFrom, takenRegion}
 use Rattle.model.specs.Tables.{Tables, Outcome}
 use Rattle.model.specs.Lent.{Lent, encode}
@@ -35,6 +36,7 @@ pub record Fit (S : Settings) (longs words marks : List ℕ) : Type 0 where
   pub tickets : S .readers * S .misses ≤ 512
   pub place : 2 ≤ S .queue
   pub queue : S .queue ≤ 64
+  pub tree : isTree S ≡ true → powerTo16 (S .ways) ≡ true
   pub longs-long : length longs ≡ longsLength S
   pub words-room : wordsFrom S takenRegion ≤ length words
   pub words-long : Aside (length words ≡ wordsLength S)

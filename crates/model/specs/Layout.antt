@@ -11,9 +11,9 @@ use Rattle.model.specs.declared.Settings.{Settings}
 abbrev pub longSizes : Settings → List ℕ
 longSizes S = linesOf S ∷ S .misses ∷ S .queue ∷ []
 
--- 32-bit numbers: the current cycle, cycles, masks, tickets, queue masks, the dirty count, taken cycles
+-- 32-bit numbers: the current cycle, cycles, masks, tickets, queue masks, the dirty count, taken cycles, trees
 abbrev pub wordSizes : Settings → List ℕ
-wordSizes S = 1 ∷ linesOf S ∷ 4 * linesOf S ∷ S .readers * S .misses ∷ 4 * S .queue ∷ 1 ∷ linesOf S ∷ []
+wordSizes S = 1 ∷ linesOf S ∷ 4 * linesOf S ∷ S .readers * S .misses ∷ 4 * S .queue ∷ 1 ∷ linesOf S ∷ S .sets ∷ []
 
 -- bytes: statuses, readable marks, sent marks, ticket counts, queue kinds
 abbrev pub markSizes : Settings → List ℕ
@@ -50,6 +50,9 @@ dirtyCountRegion = 5
 
 abbrev pub takenRegion : ℕ
 takenRegion = 6
+
+abbrev pub treeRegion : ℕ
+treeRegion = 7
 
 abbrev pub statusRegion : ℕ
 statusRegion = 0

@@ -9,7 +9,7 @@ use lib.Dec.{eqb}
 use Rattle.model.specs.Words.{pick, table, countBelow, places, joined}
 use Rattle.model.specs.Numbers.{statusNumber, statusOf, queueKindNumber, queueKindOf}
 use Rattle.model.specs.Range.{linesOf}
-use Rattle.model.specs.Layout.{longsLength, wordsLength, marksLength, longsFrom, wordsFrom, marksFrom, missRegion, queueRegion, maskRegion, ticketRegion, queueMaskRegion, readableRegion, sentRegion, ticketCountRegion, kindRegion, dirtyCountRegion, takenRegion}
+use Rattle.model.specs.Layout.{longsLength, wordsLength, marksLength, longsFrom, wordsFrom, marksFrom, missRegion, queueRegion, maskRegion, ticketRegion, queueMaskRegion, readableRegion, sentRegion, ticketCountRegion, kindRegion, dirtyCountRegion, takenRegion, treeRegion}
 use Rattle.model.specs.Tables.{Line, Entry, Tables}
 use Rattle.model.specs.declared.Settings.{Settings}
 use Rattle.model.specs.declared.Sector.{Sector}
@@ -80,6 +80,10 @@ nowAt words = getD words 0 0
 abbrev pub dirtyCountAt : Settings → List ℕ → ℕ
 dirtyCountAt S words = getD words (wordsFrom S dirtyCountRegion) 0
 
+-- of set i
+abbrev pub treeAt : Settings → List ℕ → ℕ → ℕ
+treeAt S words i = getD words (wordsFrom S treeRegion + i) 0
+
 -- ---- the tables read off the slices
 
 module _ (S : Settings) (words marks : List ℕ) where
@@ -121,6 +125,7 @@ tablesOf S L = record {
   queue = table (inUse (S .queue) (kindAt S (L .marks))) (queueAt S L);
   now = nowAt (L .words);
   dirtyCount = dirtyCountAt S (L .words);
+  trees = table (S .sets) (treeAt S (L .words));
 }
 
 -- ---- the slices that tables give: a block of places for each field, unused places zero
@@ -168,6 +173,9 @@ kindOf x = queueKindNumber (x .kind) ∷ []
 abbrev pub queueMasksOf : Queued → List ℕ
 queueMasksOf x = x .masks
 
+abbrev pub treeOf : ℕ → List ℕ
+treeOf t = t ∷ []
+
 abbrev pub longBlocks : Settings → Tables → List (List ℕ)
 longBlocks S t =
     places tagOf 1 (linesOf S) (t .lines)
@@ -184,6 +192,7 @@ wordBlocks S t =
     ∷ places queueMasksOf 4 (S .queue) (t .queue)
     ∷ (t .dirtyCount ∷ [])
     ∷ places takenOf 1 (linesOf S) (t .lines)
+    ∷ places treeOf 1 (S .sets) (t .trees)
     ∷ []
 
 abbrev pub markBlocks : Settings → Tables → List (List ℕ)

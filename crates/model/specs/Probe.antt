@@ -3,10 +3,10 @@ use Prim.Native.Nat.{ℕ, suc, _+_, _*_}
 use mathlib.Core.Bool.{Bool, true, false, not, _&&_, _||_}
 use mathlib.Core.List.{List, [], _∷_, map}
 use lib.ListN.{length, getD, take, drop, replicate}
-use lib.Dec.{leb, eqb}
+use lib.Dec.{leb}
 use Rattle.model.specs.Words.{pick, any}
 use Rattle.model.specs.Numbers.{statusNumber}
-use Rattle.model.specs.Range.{linesOf}
+use Rattle.model.specs.Range.{linesOf, isFifo, isTree}
 use Rattle.model.specs.Address.{addressOf, blockOf, sectorIndex, setIndex}
 use Rattle.model.specs.Tables.{Line, writing, Tables, unused, waiting, dirty, holds, empty, emptied, fresh}
 use Rattle.model.specs.Tree.{treeChoice, levels}
@@ -85,11 +85,7 @@ earliest key p (l ∷ ls) = pick (p l) (older key ls (key l) (earliest key p ls)
 
 -- ---- the victim
 
--- "rule 1 picks the earliest of these instead" (L1)
-abbrev pub isFifo : Settings → Bool
-isFifo S = eqb (S .rule) 1
-
--- what a candidate goes by: its last-access cycle, or the cycle at which it was taken
+-- what a candidate goes by: its last-access cycle, or the cycle at which it was taken: "rule 1 picks the earliest of these instead" (L1)
 abbrev pub age : Settings → Line → ℕ
 age S l = pick (isFifo S) (l .taken) (l .cycle)
 
@@ -107,7 +103,7 @@ abbrev pub Rules : Type 0
 Rules = Tables → ℕ → Rule
 
 unfoldable pub ruleOf : Settings → Rules
-ruleOf S t a = byKey (age S)
+ruleOf S t a = pick (isTree S) (byTree (getD (t .trees) (setIndex S a) 0)) (byKey (age S))
 
 -- "the highest wholly invalid candidate; with none", the candidate that the rule chooses
 abbrev pub victim : Rule → Settings → ℕ → List Line → Found

@@ -1,9 +1,10 @@
 -- "The modelled cache": the settings in range.
 use Prim.Native.Nat.{ℕ, _*_}
-use mathlib.Core.Bool.{Bool, _&&_}
+use mathlib.Core.Bool.{Bool, _&&_, _||_}
 use mathlib.Core.List.{List, [], _∷_}
 use lib.Dec.{eqb, leb}
 use Rattle.model.specs.Words.{any}
+use Rattle.model.specs.Tree.{powerTo16}
 use Rattle.model.specs.declared.Settings.{Settings}
 
 abbrev pub within : ℕ → ℕ → ℕ → Bool
@@ -17,9 +18,16 @@ powerTo256 n = any (eqb n) (1 ∷ 2 ∷ 4 ∷ 8 ∷ 16 ∷ 32 ∷ 64 ∷ 128 ∷
 abbrev pub linesOf : Settings → ℕ
 linesOf S = S .sets * S .ways
 
--- "0 for least recently used, 1 for first in first out" (L1)
+-- "0 for least recently used, 1 for first in first out" (L1), "rule byte 2: each set has a binary tree over its ways" (L9)
+abbrev pub isFifo : Settings → Bool
+isFifo S = eqb (S .rule) 1
+
+abbrev pub isTree : Settings → Bool
+isTree S = eqb (S .rule) 2
+
+-- "1 for rule 2 unless ways is a power of two"
 abbrev pub ruleFine : Settings → Bool
-ruleFine S = leb (S .rule) 1
+ruleFine S = leb (S .rule) 1 || (isTree S && powerTo16 (S .ways))
 
 -- the table of settings: sets, ways, dirty percent P, miss table entries M, readers per entry W, miss queue Q; the rule
 unfoldable pub inRange : Settings → Bool

@@ -5,7 +5,8 @@ use mathlib.Core.List.{List, [], _∷_}
 use lib.ListN.{length, getD}
 use lib.Dec.{ltb, leb, eqb}
 use Rattle.model.specs.Words.{pick, all, any, count, every, same}
-use Rattle.model.specs.Range.{within, linesOf}
+use Rattle.model.specs.Range.{within, linesOf, isTree}
+use Rattle.model.specs.Tree.{treeFine}
 use Rattle.model.specs.Address.{blockOf, setIndex, goodSector, goodBlock}
 use Rattle.model.specs.Tables.{Line, Entry, Tables, isReserved, unused, holds, entryFor, isFetch, empty, fresh, dirtyLines}
 use Rattle.model.specs.declared.Settings.{Settings}
@@ -77,7 +78,8 @@ kindOk es queue.WriteBack b ms = goodBlock b && any (λ m. not (eqb m 0)) ms
 unfoldable pub queuedOk : List Entry → Queued → Bool
 queuedOk es x = eqb (length (x .masks)) 4 && all (λ m. leb m allOnes) (x .masks) && kindOk es (x .kind) (x .address) (x .masks)
 
--- as many lines as the settings say; "the current one, itself at most 4,294,967,294"; "At most M entries and Q queue places are in use"; the stored count is that of the dirty lines (L3)
+-- as many lines as the settings say; "the current one, itself at most 4,294,967,294"; "At most M entries and Q queue places are in use"; the stored count is that of the dirty lines (L3);
+-- a tree for each set, with no "tree bits set beyond the nodes in use or under another rule" (L9)
 unfoldable pub sound : Settings → Tables → Bool
 sound S t =
     eqb (length (t .lines)) (linesOf S)
@@ -90,3 +92,5 @@ sound S t =
     && leb (length (t .misses)) (S .misses)
     && leb (length (t .queue)) (S .queue)
     && eqb (t .dirtyCount) (dirtyLines t)
+    && eqb (length (t .trees)) (S .sets)
+    && all (treeFine (isTree S) (S .ways)) (t .trees)

@@ -1,4 +1,4 @@
--- "Sound tables", of the numbers in the three lent slices, whatever they are: conditions 1 to 28, each beside document 01's words.
+-- "Sound tables", of the numbers in the three lent slices, whatever they are: conditions 1 to 29, each beside document 01's words.
 -- The check of refusal 3 computes `soundLent`. proofs/ ties it to Sound: sound slices are the encoding of sound tables.
 use Prim.Native.Nat.{ℕ, _+_, _*_, _-_, _/_, _%_, _^_, _≤_}
 use mathlib.Core.Bool.{Bool, true, false, not, _&&_, _||_}
@@ -6,10 +6,11 @@ use mathlib.Core.List.{List}
 use lib.ListN.{getD}
 use lib.Dec.{eqb, leb, ltb}
 use Rattle.model.specs.Words.{imp, every, some, countBelow}
-use Rattle.model.specs.Range.{linesOf}
+use Rattle.model.specs.Range.{linesOf, isTree}
+use Rattle.model.specs.Tree.{treeFine}
 use Rattle.model.specs.Address.{blockOf, sectorIndex, setIndex, goodBlock}
 use Rattle.model.specs.Sound.{lastCycle, allOnes}
-use Rattle.model.specs.Lent.{Lent, tagAt, cycleAt, statusAt, maskAt, readableAt, missAt, sentAt, ticketCountAt, ticketAt, queuedAt, kindAt, queueMaskAt, nowAt, dirtyCountAt, takenAt}
+use Rattle.model.specs.Lent.{Lent, tagAt, cycleAt, statusAt, maskAt, readableAt, missAt, sentAt, ticketCountAt, ticketAt, queuedAt, kindAt, queueMaskAt, nowAt, dirtyCountAt, takenAt, treeAt}
 use Rattle.model.specs.declared.Settings.{Settings}
 
 -- of n places those whose f isn't 0 are the first: behind a 0 stands a 0
@@ -179,6 +180,12 @@ module _ (S : Settings) (longs words marks : List ℕ) where
   abbrev pub countFine : Bool
   countFine = eqb (dirtyCountAt S words) (countBelow (linesOf S) dirtyLine)
 
+  -- ---- the trees
+
+  -- 29 (L9): no "tree bits set beyond the nodes in use or under another rule"
+  abbrev pub setFine : ℕ → Bool
+  setFine i = treeFine (isTree S) (S .ways) (treeAt S words i)
+
   -- ---- all of it; 12 and 20, used places stand first, are the two `gathered`
 
   abbrev pub linesFine : Bool
@@ -195,6 +202,7 @@ module _ (S : Settings) (longs words marks : List ℕ) where
       && gathered (S .queue) kind
       && every (S .queue) placeFine
       && countFine
+      && every (S .sets) setFine
 
 abbrev pub soundLent : Settings → Lent → Bool
 soundLent S L = soundNumbers S (L .longs) (L .words) (L .marks)

@@ -6,8 +6,10 @@ use lib.ListN.{length, getD, set}
 use lib.Dec.{ltb, leb, eqb}
 use lib.Bits.{bitOr}
 use Rattle.model.specs.Words.{pick, any, keep, one}
-use Rattle.model.specs.Address.{addressOf, isRead, blockOf, sectorIndex, lineNumber, wellFormed}
-use Rattle.model.specs.Tables.{Line, Entry, reading, Tables, withLines, withMisses, withQueue, withNow, Outcome, refused, done, isInvalid, holds, entryFor, empty, withDirtyCount, dirty, fresh}
+use Rattle.model.specs.Range.{isTree}
+use Rattle.model.specs.Tree.{levels, touchedTree}
+use Rattle.model.specs.Address.{addressOf, isRead, blockOf, sectorIndex, setIndex, lineNumber, wellFormed}
+use Rattle.model.specs.Tables.{Line, Entry, reading, Tables, withLines, withMisses, withQueue, withNow, withTrees, Outcome, refused, done, isInvalid, holds, entryFor, empty, withDirtyCount, dirty, fresh}
 use Rattle.model.specs.Sound.{allOnes, lastCycle}
 use Rattle.model.specs.Probe.{Spot, Place, no, at, Rules, ruleOf, metUnder}
 use Rattle.model.specs.declared.Settings.{Settings}
@@ -75,6 +77,12 @@ takenBy a now k = pick (takesLine a) now k
 abbrev pub recounted : Line → Line → ℕ → ℕ
 recounted l m d = d + one (dirty m) - one (dirty l)
 
+-- ---- the trees (L9)
+
+-- "After every accepted access each node on the path to its way points to the half not taken"
+abbrev pub turnedFor : Settings → ℕ → ℕ → List ℕ → List ℕ
+turnedFor S a w ts = pick (isTree S) (set ts (setIndex S a) (touchedTree (getD ts (setIndex S a) 0) (levels (S .ways)) w)) ts
+
 -- ---- the miss table
 
 -- "the ticket joins the entry"
@@ -124,13 +132,14 @@ placesNeeded x p = length (queues x p)
 abbrev pub lineAfter : Access → Spot → ℕ → Line
 lineAfter x p now = update (sectorIndex (addressOf x)) (onSector x (p .answer)) now (takenBy (p .answer) now (p .line .taken)) (p .line)
 
--- the line at its number, the dirty count, the miss table and the queue move, and nothing else
+-- the line at its number, the dirty count, the set's tree, the miss table and the queue move, and nothing else
 abbrev pub afterAccess : Settings → Access → Spot → Tables → Tables
 afterAccess S x p t =
     withQueue (t .queue ++ queues x p)
     (withMisses (onMisses x (p .answer) (t .misses))
+    (withTrees (turnedFor S (addressOf x) (p .way) (t .trees))
     (withDirtyCount (recounted (getD (t .lines) (lineNumber S (addressOf x) (p .way)) fresh) (lineAfter x p (t .now)) (t .dirtyCount))
-    (withLines (set (t .lines) (lineNumber S (addressOf x) (p .way)) (lineAfter x p (t .now))) t)))
+    (withLines (set (t .lines) (lineNumber S (addressOf x) (p .way)) (lineAfter x p (t .now))) t))))
 
 unfoldable pub accept : Settings → Access → Spot → Tables → Outcome Tables
 accept S x p t = done (Answered (p .answer) (lineNumber S (addressOf x) (p .way)) ∷ map queuedEvent (queues x p)) (afterAccess S x p t)

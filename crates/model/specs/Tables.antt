@@ -38,30 +38,35 @@ reading a = record { kind = queue.Read; address = a; masks = replicate 4 0 }
 abbrev pub writing : ℕ → List ℕ → Queued
 writing b ms = record { kind = queue.WriteBack; address = b; masks = ms }
 
--- "entries stand in order of creation, the oldest first"; the queue "first in first out"; how many lines have a MODIFIED sector (L3)
+-- "entries stand in order of creation, the oldest first"; the queue "first in first out"; how many lines have a MODIFIED sector (L3);
+-- the tree of each set (L9)
 pub record Tables : Type 0 where
   pub lines : List Line
   pub misses : List Entry
   pub queue : List Queued
   pub now : ℕ
   pub dirtyCount : ℕ
+  pub trees : List ℕ
 
 -- ---- tables with one part another
 
 abbrev pub withLines : List Line → Tables → Tables
-withLines ls t = record { lines = ls; misses = t .misses; queue = t .queue; now = t .now; dirtyCount = t .dirtyCount }
+withLines ls t = record { lines = ls; misses = t .misses; queue = t .queue; now = t .now; dirtyCount = t .dirtyCount; trees = t .trees }
 
 abbrev pub withMisses : List Entry → Tables → Tables
-withMisses es t = record { lines = t .lines; misses = es; queue = t .queue; now = t .now; dirtyCount = t .dirtyCount }
+withMisses es t = record { lines = t .lines; misses = es; queue = t .queue; now = t .now; dirtyCount = t .dirtyCount; trees = t .trees }
 
 abbrev pub withQueue : List Queued → Tables → Tables
-withQueue q t = record { lines = t .lines; misses = t .misses; queue = q; now = t .now; dirtyCount = t .dirtyCount }
+withQueue q t = record { lines = t .lines; misses = t .misses; queue = q; now = t .now; dirtyCount = t .dirtyCount; trees = t .trees }
 
 abbrev pub withNow : ℕ → Tables → Tables
-withNow c t = record { lines = t .lines; misses = t .misses; queue = t .queue; now = c; dirtyCount = t .dirtyCount }
+withNow c t = record { lines = t .lines; misses = t .misses; queue = t .queue; now = c; dirtyCount = t .dirtyCount; trees = t .trees }
 
 abbrev pub withDirtyCount : ℕ → Tables → Tables
-withDirtyCount d t = record { lines = t .lines; misses = t .misses; queue = t .queue; now = t .now; dirtyCount = d }
+withDirtyCount d t = record { lines = t .lines; misses = t .misses; queue = t .queue; now = t .now; dirtyCount = d; trees = t .trees }
+
+abbrev pub withTrees : List ℕ → Tables → Tables
+withTrees ts t = record { lines = t .lines; misses = t .misses; queue = t .queue; now = t .now; dirtyCount = t .dirtyCount; trees = ts }
 
 -- ---- sectors and lines
 
@@ -121,7 +126,7 @@ isFetch queue.WriteBack = false
 abbrev pub idle : Queued
 idle = reading 0
 
--- ---- fresh tables: "all invalid and readable, all empty, cycle 0"
+-- ---- fresh tables: "all invalid and readable, all empty, cycle 0"; "Fresh trees are all 0" (L9)
 
 abbrev pub empty : Sector
 empty = record { status = Invalid; mask = 0; readable = true }
@@ -134,7 +139,7 @@ abbrev pub fresh : Line
 fresh = emptied 0
 
 abbrev pub start : Settings → Tables
-start S = record { lines = replicate (linesOf S) fresh; misses = []; queue = []; now = 0; dirtyCount = 0 }
+start S = record { lines = replicate (linesOf S) fresh; misses = []; queue = []; now = 0; dirtyCount = 0; trees = replicate (S .sets) 0 }
 
 -- ---- what a call comes to, on tables of any kind: a refusal, or its events and the tables that it leaves
 

@@ -68,7 +68,7 @@ touchedTree t k w = turned t k 1 0 w
 
 -- ---- the number of ways
 
--- "1 for rule 2 unless ways is a power of two"
+-- a power of two up to 16
 abbrev pub powerTo16 : ℕ → Bool
 powerTo16 n = any (eqb n) (1 ∷ 2 ∷ 4 ∷ 8 ∷ 16 ∷ [])
 

@@ -37,4 +37,5 @@ left = record {
   queue = [];
   now = 0;
   dirtyCount = 0;
+  trees = 0 ∷ [];
 }

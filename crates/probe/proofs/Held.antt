@@ -7,12 +7,15 @@ use lib.ListN.{getD, drop}
 use lib.Seq.{getD-take, getD-drop}
 use Rattle.model.specs.Address.{addressOf, setIndex, lineNumber}
 use Rattle.model.specs.Tables.{Line, Tables, fresh}
-use Rattle.model.specs.Lent.{Lent, tablesOf, dirtyCountAt}
-use Rattle.model.specs.Probe.{waysOf, probe, ruleOf, byKey, age, metIn}
+use Rattle.model.specs.Lent.{Lent, tablesOf, dirtyCountAt, treeAt}
+use Rattle.model.specs.Words.{pick}
+use Rattle.model.specs.Range.{isTree}
+use Rattle.model.specs.Probe.{Rule, byKey, byTree, age, waysOf, probe, ruleOf, metIn}
+use Rattle.model.proofs.Tabled.{getD-table}
 use Rattle.model.specs.declared.Settings.{Settings}
 use Rattle.model.specs.declared.Access.{Access}
 use Rattle.probe.specs.declared.Decision.{Decision}
-use Rattle.probe.specs.Decided.{Decided, placeIs, linesHeld}
+use Rattle.probe.specs.Decided.{Decided, placeIs, linesHeld, ruleHeld}
 
 module _ (S : Settings) (L : Lent) {t : Tables} (e : tablesOf S L ≡ t) where
   pub lines-held : t .lines ≡ linesHeld S (L .longs) (L .words) (L .marks)
@@ -23,13 +26,21 @@ module _ (S : Settings) (L : Lent) {t : Tables} (e : tablesOf S L ≡ t) where
   unfolding tablesOf
   dirty-held = sym (ap (λ (t : Tables). t .dirtyCount) e)
 
-  pub decided-probe : {x : Access} {r : Decision} → Decided S (L .longs) (L .words) (L .marks) x r
+  -- the rule of a set by the tree in the slices is that of the tables
+  rule-held : (a : ℕ) → setIndex S a < S .sets → ruleHeld S (L .words) a ≡ ruleOf S t a
+  unfolding tablesOf ruleOf
+  rule-held a h =
+      ap (λ (k : ℕ). pick (isTree S) (byTree k) (byKey (age S)))
+      (sym (ap (λ (t : Tables). getD (t .trees) (setIndex S a) 0) (sym e) ∙ getD-table (S .sets) (treeAt S (L .words)) (setIndex S a) 0 h))
+
+  pub decided-probe : {x : Access} {r : Decision} → setIndex S (addressOf x) < S .sets → Decided S (L .longs) (L .words) (L .marks) x r
       → placeIs (waysOf S (t .lines) (addressOf x)) (addressOf x) r ≡ metIn S x t
   unfolding ruleOf
-  decided-probe {x} {r} d =
-      subst (λ (ls : List Line). placeIs (waysOf S ls (addressOf x)) (addressOf x) r ≡ probe (byKey (age S)) S (dirtyCountAt S (L .words)) (waysOf S ls (addressOf x)) x)
+  decided-probe {x} {r} inside d =
+      subst (λ (ls : List Line). placeIs (waysOf S ls (addressOf x)) (addressOf x) r ≡ probe (ruleHeld S (L .words) (addressOf x)) S (dirtyCountAt S (L .words)) (waysOf S ls (addressOf x)) x)
       (sym lines-held) (d .place)
-      ∙ ap (λ (k : ℕ). probe (byKey (age S)) S k (waysOf S (t .lines) (addressOf x)) x) (sym dirty-held)
+      ∙ ap (λ (k : ℕ). probe (ruleHeld S (L .words) (addressOf x)) S k (waysOf S (t .lines) (addressOf x)) x) (sym dirty-held)
+      ∙ ap (λ (R : Rule). probe R S (t .dirtyCount) (waysOf S (t .lines) (addressOf x)) x) (rule-held (addressOf x) inside)
 
 -- a way of a set, among all lines
 pub way-line : (S : Settings) (ls : List Line) (a w : ℕ) → w < S .ways → getD (waysOf S ls a) w fresh ≡ getD ls (lineNumber S a w) fresh

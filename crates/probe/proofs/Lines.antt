@@ -9,9 +9,10 @@ use native.Mathlib.Omega.{arith}
 use lib.ListN.{length, getD, take, drop}
 use Rattle.model.specs.Words.{pick, all, any, table, some}
 use Rattle.model.specs.Tables.{Line, isInvalid, isReserved, isModified, unused, waiting, holds, fresh}
+use Rattle.model.specs.Range.{linesOf, isFifo, isTree}
 use Rattle.model.specs.Layout.{wordsFrom, cycleRegion, takenRegion}
-use Rattle.model.specs.Lent.{sectorAt, sectorsAt, lineAt, linesIn, takenAt, cycleAt}
-use Rattle.model.specs.Probe.{first, orElse, candidate, enoughDirty, isFifo, age, victim, Rule, byKey, byTree, choiceBy}
+use Rattle.model.specs.Lent.{sectorAt, sectorsAt, lineAt, linesIn, takenAt, cycleAt, treeAt}
+use Rattle.model.specs.Probe.{first, orElse, candidate, enoughDirty, age, victim, Rule, byKey, byTree, choiceBy}
 use Rattle.model.specs.Tree.{treeChoice, powerTo16, levels}
 use Rattle.model.specs.declared.Settings.{Settings}
 use Rattle.model.specs.declared.Status.{Status}
@@ -22,10 +23,9 @@ use Rattle.model.proofs.Flags.{flag}
 use Rattle.model.proofs.Tabled.{length-table}
 use Rattle.model.proofs.Ways.{flag-is}
 use Rattle.model.proofs.Trees.{choice-same, levels-are}
-use Rattle.probe.specs.Scan.{waitingAt, candidateAt, foundIn, lastUnusedIn, agesFrom, victimIn, wayOf, treeIn}
+use Rattle.probe.specs.Scan.{waitingAt, candidateAt, foundIn, lastUnusedIn, earliestIn, agesFrom, victimIn, wayOf, treeIn}
 use Rattle.probe.proofs.Statuses.{unused-bytes, waiting-bytes, holds-bytes, candidate-bytes}
 use Rattle.probe.proofs.Ways.{getD-table, part-table, any-table, first-table, last-table, earliest-table, some-ext, first-ext, last-ext, best-ext}
-use Rattle.model.specs.Range.{linesOf}
 
 -- ---- a wholly invalid line is a candidate
 
@@ -104,13 +104,14 @@ module _ (S : Settings) (longs words marks : List ℕ) where
         go true = refl
         go false = refl
 
-    pub victim-is : (d : ℕ) → victim (byKey (age S)) S d (take m (drop b (linesIn S longs words marks))) ≡ victimIn S words marks b m (enoughDirty S d)
-    victim-is d =
+    victim-by-age : (d : ℕ) → victim (byKey (age S)) S d (take m (drop b (linesIn S longs words marks)))
+        ≡ orElse (lastUnusedIn marks b m) (wayOf (earliestIn words marks (agesFrom S) b m (enoughDirty S d)))
+    victim-by-age d =
         victim-by (byKey (age S)) d
         (earliest-table (candidate (enoughDirty S d)) line (age S) m
         ∙ ap wayOf (best-ext _ _ _ _ m (λ w. candidate-bytes S longs words marks (b + w) (enoughDirty S d)) (λ w. age-at (b + w))))
 
-    pub victim-by-tree : (t : ℕ) (d : ℕ) → powerTo16 m ≡ true
+    victim-by-tree : (t : ℕ) (d : ℕ) → powerTo16 m ≡ true
         → victim (byTree t) S d (take m (drop b (linesIn S longs words marks))) ≡ orElse (lastUnusedIn marks b m) (treeIn marks b m (enoughDirty S d) t)
     victim-by-tree t d power =
         let able : Line → Bool = candidate (enoughDirty S d) in
@@ -120,3 +121,13 @@ module _ (S : Settings) (longs words marks : List ℕ) where
         ∙ choice-same (λ w. getD (map able (table m line)) w false) (λ w. candidateAt marks (enoughDirty S d) (b + w)) t (levels m)
         (λ w l. let l′ : w < m = omega (arith, levels-are m power .0) in
         flag-is able (table m line) w (omega arith) ∙ ap able (getD-table m line w fresh l′) ∙ candidate-bytes S longs words marks (b + w) (enoughDirty S d)))
+
+  -- under the rule of set i, whose lines begin at b
+  pub victim-is : (i b : ℕ) → b + S .ways ≤ linesOf S → (isTree S ≡ true → powerTo16 (S .ways) ≡ true) → (d : ℕ)
+      → victim (pick (isTree S) (byTree (treeAt S words i)) (byKey (age S))) S d (take (S .ways) (drop b (linesIn S longs words marks)))
+      ≡ victimIn S words marks i b (enoughDirty S d)
+  victim-is i b h power d =
+      ⊎-elim
+      (λ (e : isTree S ≡ true). rw e (victim-by-tree b (S .ways) h (treeAt S words i) d (power e)))
+      (λ (e : isTree S ≡ false). rw e (victim-by-age b (S .ways) h d))
+      (flag (isTree S))

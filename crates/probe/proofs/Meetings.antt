@@ -7,11 +7,12 @@ use native.Mathlib.Nat.{add-zero, mod-lt, mul-le-mul}
 use native.Mathlib.Omega.{arith}
 use lib.ListN.{getD, replicate}
 use Rattle.model.specs.Words.{pick, some}
-use Rattle.model.specs.Range.{linesOf}
+use Rattle.model.specs.Range.{linesOf, isTree}
+use Rattle.model.specs.Tree.{powerTo16}
 use Rattle.model.specs.Address.{addressOf, blockOf, sectorIndex, setIndex}
 use Rattle.model.specs.Tables.{Line, writing, empty, fresh, emptied}
 use Rattle.model.specs.Lent.{tagAt, dirtyCountAt}
-use Rattle.model.specs.Probe.{no, at, answerOf, waysOf, enoughDirty, victim, writeBack, takeOver, meet, probe, byKey, age}
+use Rattle.model.specs.Probe.{no, at, answerOf, waysOf, enoughDirty, victim, writeBack, takeOver, meet, probe}
 use Rattle.model.specs.Inner.{Fit}
 use Rattle.model.specs.declared.Settings.{Settings}
 use Rattle.model.specs.declared.Queued.{Queued}
@@ -24,7 +25,7 @@ use Rattle.model.specs.declared.Found.the-variants.{At, Nothing}
 use Rattle.model.proofs.Rows.{set-room}
 use Rattle.probe.specs.declared.Meeting.the-variants.{Busy, Held}
 use Rattle.probe.specs.declared.Decision.{Decision}
-use Rattle.probe.specs.Decided.{Decided, backsOf, placeIs, linesHeld}
+use Rattle.probe.specs.Decided.{Decided, backsOf, placeIs, linesHeld, ruleHeld}
 use Rattle.probe.specs.Scan.{waitingAt, dirtyAt, foundIn, victimIn}
 use Rattle.probe.specs.Values.{masksAt, metIs, takenIs, refusedIs, missIs}
 use Rattle.probe.proofs.Statuses.{dirty-bytes}
@@ -40,7 +41,8 @@ sector-below a = omega arith
 
 -- ---- the access's own set, whose lines begin at `base`
 
-module _ (S : Settings) (longs words marks : List ℕ) (x : Access) (way : 1 ≤ S .ways) (room : setIndex S (addressOf x) * S .ways + S .ways ≤ linesOf S) where
+module _ (S : Settings) (longs words marks : List ℕ) (x : Access) (way : 1 ≤ S .ways) (room : setIndex S (addressOf x) * S .ways + S .ways ≤ linesOf S)
+    (power : isTree S ≡ true → powerTo16 (S .ways) ≡ true) where
   abbrev base : ℕ
   base = setIndex S (addressOf x) * S .ways
 
@@ -51,13 +53,13 @@ module _ (S : Settings) (longs words marks : List ℕ) (x : Access) (way : 1 ≤
   dirtyCount = dirtyCountAt S words
 
   met-place : (w : ℕ) → w < S .ways → foundIn longs marks base (S .ways) (blockOf (addressOf x)) ≡ At w
-      → placeIs ways (addressOf x) (metIs S words marks base w x) ≡ probe (byKey (age S)) S dirtyCount ways x
+      → placeIs ways (addressOf x) (metIs S words marks base w x) ≡ probe (ruleHeld S words (addressOf x)) S dirtyCount ways x
   unfolding probe
   met-place w below e =
       ap (λ (s : Sector). at record { way = w; line = getD ways w fresh; answer = answerOf x s; backs = [] })
       (sym (ap (λ (l : Line). getD (l .sectors) (sectorIndex (addressOf x)) empty) (way-is S longs words marks base (S .ways) room w below)
       ∙ sector-of-four S words marks (base + w) (sectorIndex (addressOf x)) empty (sector-below (addressOf x))))
-      ∙ ap (meet (byKey (age S)) S dirtyCount ways x) (sym (found-is S longs words marks base (S .ways) room (blockOf (addressOf x)) ∙ e))
+      ∙ ap (meet (ruleHeld S words (addressOf x)) S dirtyCount ways x) (sym (found-is S longs words marks base (S .ways) room (blockOf (addressOf x)) ∙ e))
 
   pub own-met : (w : ℕ) → foundIn longs marks base (S .ways) (blockOf (addressOf x)) ≡ At w
       → Decided S longs words marks x (metIs S words marks base w x)
@@ -95,26 +97,26 @@ module _ (S : Settings) (longs words marks : List ℕ) (x : Access) (way : 1 ≤
       go false = refl
 
   pub own-missed : (v : Found) → foundIn longs marks base (S .ways) (blockOf (addressOf x)) ≡ Nothing
-      → v ≡ victimIn S words marks base (S .ways) (enoughDirty S dirtyCount)
+      → v ≡ victimIn S words marks (setIndex S (addressOf x)) base (enoughDirty S dirtyCount)
       → Decided S longs words marks x (missIs S longs words marks base (S .ways) v)
   unfolding probe
   own-missed v e q = go v under place
     where
       under : Under (S .ways) v
-      under = rw q (victim-under _ _ _ (S .ways))
+      under = rw q (victim-under S words marks (setIndex S (addressOf x)) base _ power)
 
-      place : placeIs ways (addressOf x) (missIs S longs words marks base (S .ways) v) ≡ probe (byKey (age S)) S dirtyCount ways x
+      place : placeIs ways (addressOf x) (missIs S longs words marks base (S .ways) v) ≡ probe (ruleHeld S words (addressOf x)) S dirtyCount ways x
       place =
           taken-place v under
-          ∙ ap (takeOver (addressOf x) ways) (q ∙ sym (victim-is S longs words marks base (S .ways) room dirtyCount))
-          ∙ ap (meet (byKey (age S)) S dirtyCount ways x) (sym (found-is S longs words marks base (S .ways) room (blockOf (addressOf x)) ∙ e))
+          ∙ ap (takeOver (addressOf x) ways) (q ∙ sym (victim-is S longs words marks (setIndex S (addressOf x)) base room power dirtyCount))
+          ∙ ap (meet (ruleHeld S words (addressOf x)) S dirtyCount ways x) (sym (found-is S longs words marks base (S .ways) room (blockOf (addressOf x)) ∙ e))
 
       zero-unless : {A : Type 0} (b : Bool) (y z : A) → pick b y z ≡ pick b (pick b y z) z
       zero-unless true y z = refl
       zero-unless false y z = refl
 
       go : (v : Found) → Under (S .ways) v
-          → placeIs ways (addressOf x) (missIs S longs words marks base (S .ways) v) ≡ probe (byKey (age S)) S dirtyCount ways x
+          → placeIs ways (addressOf x) (missIs S longs words marks base (S .ways) v) ≡ probe (ruleHeld S words (addressOf x)) S dirtyCount ways x
           → Decided S longs words marks x (missIs S longs words marks base (S .ways) v)
       go (At w) below p = record {
         place = p;
@@ -135,9 +137,9 @@ module _ (S : Settings) (longs words marks : List ℕ) (x : Access) (way : 1 ≤
 
 -- ---- after a match on what is found
 
-pub victim-below : (S : Settings) (words marks : List ℕ) (base : ℕ) (enough : Bool) {v : Found} {w : ℕ} → v ≡ victimIn S words marks base (S .ways) enough → v ≡ At w
-    → w < S .ways
-victim-below S words marks base enough e g = at-under (S .ways) (victimIn S words marks base (S .ways) enough) (victim-under _ _ _ (S .ways)) e g
+pub victim-below : (S : Settings) (words marks : List ℕ) (i base : ℕ) (enough : Bool) → (isTree S ≡ true → powerTo16 (S .ways) ≡ true) → {v : Found} {w : ℕ}
+    → v ≡ victimIn S words marks i base enough → v ≡ At w → w < S .ways
+victim-below S words marks i base enough power e g = at-under (S .ways) (victimIn S words marks i base enough) (victim-under S words marks i base enough power) e g
 
 module _ (S : Settings) (longs words marks : List ℕ) (base ways : ℕ) {r : Decision} {v u : Found} (e : v ≡ u) where
   pub missed-at : {w : ℕ} → v ≡ At w → r ≡ missIs S longs words marks base ways (At w) → r ≡ missIs S longs words marks base ways u
@@ -151,6 +153,9 @@ module _ (S : Settings) (longs words marks : List ℕ) (base ways : ℕ) {r : De
 module _ (S : Settings) (longs words marks : List ℕ) (fit : Fit S longs words marks) (x : Access) {address set : ℕ} (ea : address ≡ addressOf x) (es : set ≡ address / 128 % S .sets) where
   here : set ≡ setIndex S (addressOf x)
   here = es ∙ ap (λ (a : ℕ). a / 128 % S .sets) ea
+
+  pub set-inside : set < S .sets
+  set-inside = rw here (mod-lt (addressOf x / 128) (fit .sets))
 
   pub ways-room : set * S .ways + S .ways ≤ linesOf S
   ways-room = set-room S address es (fit .sets) (fit .ways)
@@ -168,14 +173,14 @@ module _ (S : Settings) (longs words marks : List ℕ) (fit : Fit S longs words 
     pub decided-met : {w : ℕ} {r : Decision} → f ≡ At w → r ≡ metIs S words marks (set * S .ways) w x → Decided S longs words marks x r
     decided-met {w} g q =
         rw (q ∙ ap (λ (k : ℕ). metIs S words marks (k * S .ways) w x) here)
-        (own-met S longs words marks x (fit .ways) room w (sym found ∙ g))
+        (own-met S longs words marks x (fit .ways) room (fit .tree) w (sym found ∙ g))
 
     pub decided-missed : {d : ℕ} {r : Decision} → f ≡ Nothing → d ≡ dirtyCountAt S words
-        → r ≡ missIs S longs words marks (set * S .ways) (S .ways) (victimIn S words marks (set * S .ways) (S .ways) (enoughDirty S d))
+        → r ≡ missIs S longs words marks (set * S .ways) (S .ways) (victimIn S words marks set (set * S .ways) (enoughDirty S d))
         → Decided S longs words marks x r
     decided-missed {d} {r} g ed q =
         subst (Decided S longs words marks x)
         (sym (q
-        ∙ ap (λ (k : ℕ). missIs S longs words marks (k * S .ways) (S .ways) (victimIn S words marks (k * S .ways) (S .ways) (enoughDirty S d))) here
-        ∙ ap (λ (k : ℕ). missIs S longs words marks (setIndex S (addressOf x) * S .ways) (S .ways) (victimIn S words marks (setIndex S (addressOf x) * S .ways) (S .ways) (enoughDirty S k))) ed))
-        (own-missed S longs words marks x (fit .ways) room _ (sym found ∙ g) refl)
+        ∙ ap (λ (k : ℕ). missIs S longs words marks (k * S .ways) (S .ways) (victimIn S words marks k (k * S .ways) (enoughDirty S d))) here
+        ∙ ap (λ (k : ℕ). missIs S longs words marks (setIndex S (addressOf x) * S .ways) (S .ways) (victimIn S words marks (setIndex S (addressOf x)) (setIndex S (addressOf x) * S .ways) (enoughDirty S k))) ed))
+        (own-missed S longs words marks x (fit .ways) room (fit .tree) _ (sym found ∙ g) refl)

@@ -17,9 +17,8 @@ use Rattle.model.specs.declared.Found.the-variants.{At, Nothing}
 use Rattle.model.proofs.Below.{Counted, counted-end}
 use Rattle.probe.specs.declared.Best.{Best}
 use Rattle.probe.specs.declared.Best.the-variants.{Way, Nowhere}
-use Rattle.model.specs.Range.{linesOf}
+use Rattle.model.specs.Range.{linesOf, isFifo}
 use Rattle.model.specs.Layout.{wordsFrom, cycleRegion, takenRegion}
-use Rattle.model.specs.Probe.{isFifo}
 use Rattle.model.specs.Inner.{Fit, told}
 use Rattle.model.proofs.Flags.{by-flag}
 use Rattle.model.specs.declared.Settings.{Settings}

@@ -1,6 +1,6 @@
 -- The searches of Probe over lines that stand in a table are searches over the numbers of the lines.
-use Prim.Native.Nat.{ℕ, zero, suc, _+_, _≤_, _<_}
-use mathlib.Core.Path.{_≡_, refl, sym, ap, _∙_}
+use Prim.Native.Nat.{ℕ, zero, suc, _+_, _^_, _≤_, _<_}
+use mathlib.Core.Path.{_≡_, refl, sym, ap, subst, _∙_}
 use mathlib.Core.Logic.{⊎-elim}
 use mathlib.Core.Bool.{Bool, true, false, _||_}
 use mathlib.Core.List.{List, [], _∷_, _++_}
@@ -13,13 +13,18 @@ use borrow.Author.Tests.{leb-true, leb-false, ltb-true, ltb-false, lt-leb, lt-lt
 use Rattle.model.specs.Words.{pick, any, count, table, some, countBelow, one}
 use Rattle.model.specs.Tables.{Line, fresh}
 use Rattle.model.specs.Probe.{next, orElse, first, last, older, earliest}
+use Rattle.model.specs.Range.{isTree}
+use Rattle.model.specs.Lent.{treeAt}
+use Rattle.model.specs.Tree.{powerTo16, levels}
+use Rattle.model.specs.declared.Settings.{Settings}
 use Rattle.model.specs.declared.Found.{Found}
 use Rattle.model.specs.declared.Found.the-variants.{At, Nothing}
-use Rattle.model.proofs.Flags.{flag}
+use Rattle.model.proofs.Flags.{flag, by-flag}
+use Rattle.model.proofs.Trees.{Chooses, choice-chooses, levels-are}
 use Rattle.model.proofs.Lists.{count-append, any-append}
 use Rattle.probe.specs.declared.Best.{Best}
 use Rattle.probe.specs.declared.Best.the-variants.{Way, Nowhere}
-use Rattle.probe.specs.Scan.{firstBelow, lastBelow, bestBelow, nearerOf, wayOf}
+use Rattle.probe.specs.Scan.{firstBelow, lastBelow, bestBelow, nearerOf, wayOf, candidateAt, lastUnusedIn, treeIn, victimIn}
 
 -- ---- a table, place by place
 
@@ -242,8 +247,21 @@ unfolding bestBelow
 best-under p key zero = tt
 best-under p key (suc n) = best-under-pick n (key n) (p n) (bestBelow n p key) (best-under p key n)
 
-pub victim-under : (free p : ℕ → Bool) (key : ℕ → ℕ) (n : ℕ) → Under n (orElse (lastBelow n free) (wayOf (bestBelow n p key)))
-victim-under free p key n = under-or n (lastBelow n free) _ (last-under free n) (best-under p key n)
+-- by the tree too
+chooses-under : (p : ℕ → Bool) (n : ℕ) (v : Found) → Chooses p n v → Under n v
+chooses-under p n Nothing h = tt
+chooses-under p n (At w) h = h .0
+
+tree-under : (marks : List ℕ) (base ways : ℕ) (enough : Bool) (t : ℕ) → powerTo16 ways ≡ true → Under ways (treeIn marks base ways enough t)
+tree-under marks base ways enough t power =
+    subst (λ (n : ℕ). Under n (treeIn marks base ways enough t)) (sym (levels-are ways power .0))
+    (chooses-under (λ w. candidateAt marks enough (base + w)) (2 ^ levels ways) (treeIn marks base ways enough t) (choice-chooses (λ w. candidateAt marks enough (base + w)) t (levels ways)))
+
+pub victim-under : (S : Settings) (words marks : List ℕ) (i base : ℕ) (enough : Bool) → (isTree S ≡ true → powerTo16 (S .ways) ≡ true)
+    → Under (S .ways) (victimIn S words marks i base enough)
+victim-under S words marks i base enough power =
+    under-or (S .ways) (lastUnusedIn marks base (S .ways)) _ (last-under _ (S .ways))
+    (by-flag (Under (S .ways)) (isTree S) _ _ (λ e. tree-under marks base (S .ways) enough (treeAt S words i) (power e)) (λ e. best-under _ _ (S .ways)))
 
 pub at-under : {r : Found} {w : ℕ} (n : ℕ) (v : Found) → Under n v → r ≡ v → r ≡ At w → w < n
 at-under n v h e g = rw (← e, g) at h

@@ -4,11 +4,11 @@ use Prim.Native.Nat.{ℕ, _<_}
 use mathlib.Core.List.{List, [], _∷_}
 use lib.ListN.{getD, replicate}
 use Rattle.model.specs.Words.{pick}
-use Rattle.model.specs.Range.{linesOf}
-use Rattle.model.specs.Address.{addressOf, blockOf, lineNumber}
+use Rattle.model.specs.Range.{linesOf, isTree}
+use Rattle.model.specs.Address.{addressOf, blockOf, setIndex, lineNumber}
 use Rattle.model.specs.Tables.{Line, writing, fresh, emptied}
-use Rattle.model.specs.Lent.{linesIn, dirtyCountAt}
-use Rattle.model.specs.Probe.{Place, no, at, waysOf, probe, byKey, age}
+use Rattle.model.specs.Lent.{linesIn, dirtyCountAt, treeAt}
+use Rattle.model.specs.Probe.{Place, no, at, waysOf, probe, Rule, byKey, byTree, age}
 use Rattle.model.specs.declared.Settings.{Settings}
 use Rattle.model.specs.declared.Queued.{Queued}
 use Rattle.model.specs.declared.Access.{Access}
@@ -41,9 +41,13 @@ placeIs ways a d = placeFor (d .meeting) ways a d
 abbrev pub linesHeld : Settings → List ℕ → List ℕ → List ℕ → List Line
 linesHeld S longs words marks = linesIn S longs words marks
 
+-- the rule of an address's set, by the tree in the slices
+abbrev pub ruleHeld : Settings → List ℕ → ℕ → Rule
+ruleHeld S words a = pick (isTree S) (byTree (treeAt S words (setIndex S a))) (byKey (age S))
+
 pub record Decided (S : Settings) (longs words marks : List ℕ) (x : Access) (r : Decision) : Type 0 where
   pub place : placeIs (waysOf S (linesHeld S longs words marks) (addressOf x)) (addressOf x) r
-      ≡ probe (byKey (age S)) S (dirtyCountAt S words) (waysOf S (linesHeld S longs words marks) (addressOf x)) x
+      ≡ probe (ruleHeld S words (addressOf x)) S (dirtyCountAt S words) (waysOf S (linesHeld S longs words marks) (addressOf x)) x
   -- of a busy or held set its way 0
   pub way : r .way < S .ways
   pub line : r .line ≡ lineNumber S (addressOf x) (r .way)

@@ -6,9 +6,10 @@ use mathlib.Core.List.{List}
 use lib.ListN.{getD}
 use lib.Dec.{eqb, ltb}
 use Rattle.model.specs.Words.{pick}
+use Rattle.model.specs.Range.{isFifo, isTree}
 use Rattle.model.specs.Layout.{wordsFrom, cycleRegion, takenRegion}
-use Rattle.model.specs.Lent.{statusAt, dirtyCountAt}
-use Rattle.model.specs.Probe.{orElse, enoughDirty, isFifo}
+use Rattle.model.specs.Lent.{statusAt, dirtyCountAt, treeAt}
+use Rattle.model.specs.Probe.{orElse, enoughDirty}
 use Rattle.model.specs.Tree.{treeChoice, levels}
 use Rattle.model.specs.declared.Settings.{Settings}
 use Rattle.model.specs.declared.Found.{Found}
@@ -83,7 +84,9 @@ agesFrom S = pick (isFifo S) (wordsFrom S takenRegion) (wordsFrom S cycleRegion)
 
 -- the candidate that the rule chooses
 abbrev pub choiceIn : Settings → List ℕ → List ℕ → ℕ → ℕ → Bool → Found
-choiceIn S words marks base ways enough = wayOf (earliestIn words marks (agesFrom S) base ways enough)
+choiceIn S words marks i base enough =
+    pick (isTree S) (treeIn marks base (S .ways) enough (treeAt S words i)) (wayOf (earliestIn words marks (agesFrom S) base (S .ways) enough))
 
+-- the way to take over in set i, whose lines begin at `base`
 abbrev pub victimIn : Settings → List ℕ → List ℕ → ℕ → ℕ → Bool → Found
-victimIn S words marks base ways enough = orElse (lastUnusedIn marks base ways) (choiceIn S words marks base ways enough)
+victimIn S words marks i base enough = orElse (lastUnusedIn marks base (S .ways)) (choiceIn S words marks i base enough)

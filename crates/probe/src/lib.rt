@@ -11,11 +11,12 @@ ghost use Prim.Native.Nat.{ℕ, _+_, _*_, _≤_, _<_};
 ghost use lib.ListN.{length};
 ghost use Rattle.model.specs.Words.{some};
 ghost use mathlib.Core.Bool.{true};
-ghost use Rattle.model.specs.Range.{linesOf};
+ghost use Rattle.model.specs.Range.{linesOf, isTree};
 ghost use Rattle.model.specs.Tree.{isIn, powerTo16};
 ghost use Rattle.model.specs.Inner.{Fit};
 ghost use Rattle.layout.specs.Layout.{Placed};
 ghost use Rattle.probe.specs.Scan.{waitingAt, dirtyAt, candidateAt, foundIn, lastUnusedIn, nearerOf, earliestIn, wayOf, agesFrom, choiceIn, victimIn, enoughIn, treeIn};
+ghost use Rattle.probe.specs.Room.{VictimRoom};
 ghost use Rattle.probe.specs.Values.{masksAt, metIs, takenIs, refusedIs, refusalIs, missIs};
 ghost use Rattle.probe.specs.Decided.{Decided};
 
@@ -193,7 +194,7 @@ fn candidates(marks: &[u8], base: usize, ways: usize, enough: bool) -> u32
 }
 
 // The candidate that the set's tree chooses.
-pub fn chosen_by_tree(marks: &[u8], base: usize, ways: usize, enough: bool, tree: u32) -> Found
+fn chosen_by_tree(marks: &[u8], base: usize, ways: usize, enough: bool, tree: u32) -> Found
     requires { ⌜ (powerTo16 ways ≡ true) × (4 * (base + ways) ≤ length (now marks)) ⌝ }
     ensures { λ r. ⌜ r ≡ treeIn (now (marks .entry)) base ways enough tree ⌝ }
 {
@@ -221,24 +222,44 @@ fn ages_from(s: Settings, at: Layout) -> usize
     1
 }
 
-// The candidate that the rule chooses.
-fn chosen(s: Settings, at: Layout, words: &[u32], marks: &[u8], base: usize, enough: bool) -> Found
-    requires { ⌜ Placed s at × (agesFrom s + (base + s .ways) ≤ length (now words)) × (4 * (base + s .ways) ≤ length (now marks)) ⌝ }
-    ensures { λ r. ⌜ r ≡ choiceIn s (now (words .entry)) (now (marks .entry)) base (s .ways) enough ⌝ }
+// The candidate that the rule chooses in set `i`, whose lines begin at `base`.
+fn chosen(
+    s: Settings,
+    at: Layout,
+    words: &[u32],
+    marks: &[u8],
+    i: usize,
+    base: usize,
+    enough: bool,
+) -> Found
+    requires { ⌜ Placed s at × VictimRoom s at i base (now words) (now marks) ⌝ }
+    ensures { λ r. ⌜ r ≡ choiceIn s (now (words .entry)) (now (marks .entry)) i base enough ⌝ }
 {
+    if s.rule == trees::TREE {
+        let tree = words[at.trees + i];
+        return chosen_by_tree(marks, base, s.ways, enough, tree);
+    }
     let ages = ages_from(s, at);
     way_of(earliest(words, marks, ages, base, s.ways, enough))
 }
 
 // The way to take over: the last wholly invalid one, else the candidate that the rule chooses.
-fn victim(s: Settings, at: Layout, words: &[u32], marks: &[u8], base: usize, enough: bool) -> Found
-    requires { ⌜ Placed s at × (agesFrom s + (base + s .ways) ≤ length (now words)) × (4 * (base + s .ways) ≤ length (now marks)) ⌝ }
-    ensures { λ r. ⌜ r ≡ victimIn s (now (words .entry)) (now (marks .entry)) base (s .ways) enough ⌝ }
+fn victim(
+    s: Settings,
+    at: Layout,
+    words: &[u32],
+    marks: &[u8],
+    i: usize,
+    base: usize,
+    enough: bool,
+) -> Found
+    requires { ⌜ Placed s at × VictimRoom s at i base (now words) (now marks) ⌝ }
+    ensures { λ r. ⌜ r ≡ victimIn s (now (words .entry)) (now (marks .entry)) i base enough ⌝ }
 {
     let free = last_unused(marks, base, s.ways);
     match free {
         Found::At(w) => Found::At(w),
-        Found::Nothing => chosen(s, at, words, marks, base, enough),
+        Found::Nothing => chosen(s, at, words, marks, i, base, enough),
     }
 }
 
@@ -352,22 +373,23 @@ fn refusal(marks: &[u8], base: usize, ways: usize) -> Decision
     }
 }
 
-// No way has the block.
+// No way of set `i` has the block.
 fn take_over(
     s: Settings,
     at: Layout,
     longs: &[u64],
     words: &[u32],
     marks: &[u8],
+    i: usize,
     base: usize,
 ) -> Decision
-    requires { ⌜ (base + s .ways ≤ linesOf s) × Placed s at × Fit s (now longs) (now words) (now marks) ⌝ }
+    requires { ⌜ (base + s .ways ≤ linesOf s) × (i < s .sets) × (isTree s ≡ true → powerTo16 (s .ways) ≡ true) × Placed s at × Fit s (now longs) (now words) (now marks) ⌝ }
     ensures { λ r. ⌜ r ≡ missIs s (now (longs .entry)) (now (words .entry)) (now (marks .entry)) base (s .ways)
-        (victimIn s (now (words .entry)) (now (marks .entry)) base (s .ways) (enoughIn s (now (words .entry)))) ⌝ }
+        (victimIn s (now (words .entry)) (now (marks .entry)) i base (enoughIn s (now (words .entry)))) ⌝ }
 {
     let ways = s.ways;
     let enough = enough_dirty(s, at, words);
-    let v = victim(s, at, words, marks, base, enough);
+    let v = victim(s, at, words, marks, i, base, enough);
     match v {
         Found::At(w) => taken(s, at, longs, words, marks, base, w),
         Found::Nothing => refusal(marks, base, ways),
@@ -388,10 +410,11 @@ pub fn decide(
 {
     let ways = s.ways;
     let address = model::address_of(x);
-    let base = model::set_index(address, s.sets) * ways;
+    let set = model::set_index(address, s.sets);
+    let base = set * ways;
     let found = find(longs, marks, base, ways, model::block_of(address));
     match found {
         Found::At(w) => met(s, at, words, marks, base, w, x),
-        Found::Nothing => take_over(s, at, longs, words, marks, base),
+        Found::Nothing => take_over(s, at, longs, words, marks, set, base),
     }
 }

@@ -5,9 +5,9 @@ use mathlib.Core.Bool.{Bool, true, false, _||_}
 use mathlib.Core.List.{List, [], _∷_, _++_}
 use Prim.Native.Nat.{ℕ, _≤_, _<_}
 use native.Mathlib.Omega.{arith}
-use borrow.Author.Tests.{ne-eqb, eqb-true, ltb-true, ltb-false}
+use borrow.Author.Tests.{ne-eqb, eqb-true, leb-true, ltb-true, ltb-false}
 use lib.ListN.{getD}
-use lib.Dec.{eqb, ltb}
+use lib.Dec.{eqb, leb, ltb}
 use Rattle.model.specs.Words.{all, any, every, same}
 use Rattle.model.specs.RecordsOf as records
 use Rattle.model.specs.Records.{Kind, commandKinds, eventKinds, bodyIn, lengthOf, isCommand, isSettings}
@@ -64,3 +64,11 @@ command-kinds k =
 
 pub settings-kinds : (k : ℕ) → (eqb k 0 || eqb k 6) ≡ isSettings k
 settings-kinds k = rw (or-false (eqb k 6))
+
+-- a command's body is at most twelve bytes
+short : every 7 (λ k. leb (lengthOf k) 12) ≡ true
+unfolding records.lengthOf
+short = refl
+
+pub body-short : (k : ℕ) → isCommand k ≡ true → lengthOf k ≤ 12
+body-short k c = leb-true (lengthOf k) 12 (every-at (λ k. leb (lengthOf k) 12) 7 k short (ltb-true k 7 (command-kinds k ∙ c)))

@@ -1,18 +1,20 @@
 -- Calls on slices of 32-bit words: their events fit, and take 49 bytes at most; the words after them are 32 bits again.
 use mathlib.Core.Path.{_≡_, refl, sym, subst}
 use mathlib.Core.Logic.{inl, inr}
-use mathlib.Core.Bool.{Bool, true}
+use mathlib.Core.Bool.{Bool, true, false}
 use mathlib.Core.List.{List, [], _∷_, map}
-use Prim.Native.Nat.{ℕ, zero, suc, _+_, _*_, _≤_}
+use Prim.Native.Nat.{ℕ, zero, suc, _+_, _*_, _≤_, _-_, _^_, _<_}
 use native.Mathlib.Nat.{le-trans}
 use native.Mathlib.Omega.{arith}
-use borrow.Author.Tests.{le-leb, leb-true, eqb-true}
+use lib.Pow.{pow-lt}
+use borrow.Author.Tests.{le-leb, leb-true, eqb-true, ltb-true}
 use lib.Dec.{leb, eqb, lit≤}
 use lib.ListN.{length, getD}
 use Rattle.model.specs.Words.{all, table, fit, places, joined}
-use Rattle.model.specs.Range.{inRange, linesOf}
+use Rattle.model.specs.Range.{inRange, linesOf, isTree}
+use Rattle.model.specs.Tree.{treeFine}
 use Rattle.model.specs.Tables.{Line, Entry, Tables, Outcome, after, eventsOf, fresh, dirty, dirtyLines}
-use Rattle.model.specs.Lent.{Lent, lengthsFit, tablesOf, encode, ticketAt, entryAt, ticketCountAt, cycleOf, takenOf, masksOf, ticketsIn, queueMasksOf, wordBlocks}
+use Rattle.model.specs.Lent.{Lent, lengthsFit, tablesOf, encode, ticketAt, entryAt, ticketCountAt, cycleOf, takenOf, treeOf, masksOf, ticketsIn, queueMasksOf, wordBlocks}
 use Rattle.model.specs.Sound.{allOnes, lastCycle, maskOk, sectorOk, lineOk, queuedOk, sound}
 use Rattle.model.specs.SoundLent.{soundLent}
 use Rattle.model.specs.Calls.{call}
@@ -145,6 +147,18 @@ module _ (S : Settings) (range : inRange S ≡ true) (t : Tables) (ok : Sound S 
       let n = eqb-true (length (t .lines)) (linesOf S) (ok .sized) in
       one-word (t .dirtyCount) (omega (arith, ranged S range .lines, count-length dirty (t .lines)))
 
+  -- a tree has fewer than 16 bits
+  tree-words : (k : ℕ) → In k (t .trees) → words (treeOf k) ≡ true
+  tree-words k m = go (isTree S) (all-in (treeFine (isTree S) (S .ways)) (t .trees) (ok .turned) m)
+    where
+      go : (b : Bool) → treeFine b (S .ways) k ≡ true → words (treeOf k) ≡ true
+      go true h =
+          let few = ranged S range .few-ways in
+          let low : S .ways - 1 < 32 = omega arith in
+          let most : 2 ^ (S .ways - 1) < 2 ^ 32 = pow-lt low in
+          one-word k (omega (arith, ltb-true k (2 ^ (S .ways - 1)) h))
+      go false h = let z = eqb-true k 0 h in one-word k (omega arith)
+
   encode-words : words (encode S t .words) ≡ true
   unfolding encode
   encode-words =
@@ -155,7 +169,8 @@ module _ (S : Settings) (range : inRange S ≡ true) (t : Tables) (ok : Sound S 
       (and-i (places-words ticketsIn (S .readers) (S .misses) (t .misses) (λ e m. all-in (λ e. words (e .tickets)) (t .misses) few m))
       (and-i (places-words queueMasksOf 4 (S .queue) (t .queue) (λ q m. queue-words (t .misses) q (all-in (queuedOk (t .misses)) (t .queue) (ok .lining) m)))
       (and-i count-word
-      (and-i (places-words takenOf 1 (linesOf S) (t .lines) taken-words) refl)))))))
+      (and-i (places-words takenOf 1 (linesOf S) (t .lines) taken-words)
+      (and-i (places-words treeOf 1 (S .sets) (t .trees) tree-words) refl))))))))
 
 pub encode-small : (S : Settings) → inRange S ≡ true → (t : Tables) → sound S t ≡ true → stamped t ≡ true → Small (encode S t)
 encode-small S range t ok few i = leb-true (getD (encode S t .words) i 0) allOnes (all-at (λ m. leb m allOnes) refl (encode S t .words) i (encode-words S range t (parts S t ok) few))

@@ -94,7 +94,7 @@ fn show(
     s: Settings,
     x: Access,
     longs: &mut [u64; 8],
-    words: &mut [u32; 34],
+    words: &mut [u32; 36],
     marks: &mut [u8; 24],
 ) {
     let mut long = *longs;
@@ -116,7 +116,7 @@ fn show(
 // Set 0 waits for a fill, and set 1's comes first.
 fn busy() {
     let mut longs = [0u64; 8];
-    let mut words = [0u32; 34];
+    let mut words = [0u32; 36];
     let mut marks = [0u8; 24];
     let s = settings(60);
     cache::fresh(s, &mut longs, &mut words, &mut marks);
@@ -136,7 +136,7 @@ fn busy() {
 // One dirty line of two, where 60 percent are asked for: nothing is on its way that could change it.
 fn held() {
     let mut longs = [0u64; 8];
-    let mut words = [0u32; 34];
+    let mut words = [0u32; 36];
     let mut marks = [0u8; 24];
     let s = settings(60);
     cache::fresh(s, &mut longs, &mut words, &mut marks);
@@ -154,7 +154,7 @@ fn held() {
 // The same, but a fill makes the other line dirty.
 fn held_at_first() {
     let mut longs = [0u64; 8];
-    let mut words = [0u32; 34];
+    let mut words = [0u32; 36];
     let mut marks = [0u8; 24];
     let s = settings(60);
     cache::fresh(s, &mut longs, &mut words, &mut marks);
@@ -175,7 +175,7 @@ fn held_at_first() {
 // Four write-backs wait; a read with a dirty victim needs two places.
 fn full() {
     let mut longs = [0u64; 8];
-    let mut words = [0u32; 34];
+    let mut words = [0u32; 36];
     let mut marks = [0u8; 24];
     let s = settings(0);
     cache::fresh(s, &mut longs, &mut words, &mut marks);

@@ -4,7 +4,7 @@
 // the same script.
 //
 // A script has the assembler's commands, whose bytes are put behind the stream's. Beside them:
-//     test NAME        a new stream, with 256 bytes of event room and 8, 34 and 24 numbers lent
+//     test NAME        a new stream, with 256 bytes of event room and 8, 35 and 24 numbers lent
 //     byte N           one byte more
 //     cut N            the last N bytes fewer
 //     room N           so much event room

@@ -25,7 +25,7 @@ pub(crate) fn new_trial() -> Trial {
         len: 0,
         room: 256,
         longs: 8,
-        words: 34,
+        words: 35,
         marks: 24,
     }
 }
@@ -99,7 +99,7 @@ fn with_sets(sets: u64) -> Settings {
 // Fresh tables of those settings, in the numbers that they take.
 fn make_fresh(longs: &mut [u64], words: &mut [u32], marks: &mut [u8]) {
     let l = scripts::least(8, longs.len());
-    let w = scripts::least(34, words.len());
+    let w = scripts::least(35, words.len());
     let m = scripts::least(24, marks.len());
     cache::fresh(
         with_sets(1),

@@ -21,7 +21,7 @@ use Rattle.model.specs.declared.Stop.{Stop}
 use Rattle.model.specs.declared.Stop.the-variants.{Nothing, SettingOutOfRange, SliceLength, NotSound, OutOfPlace, UnknownKind, CutShort, NoRoom}
 use Rattle.model.proofs.Flags.{clash, by-flag, flag}
 use Rattle.model.proofs.Fits.{ranged}
-use Rattle.layout.proofs.OfRange.{tickets-most}
+use Rattle.layout.proofs.OfRange.{tickets-most, sets-most}
 use Rattle.running.specs.declared.Lengths.{Lengths}
 use Rattle.running.specs.declared.Begun.{Begun}
 use Rattle.running.specs.declared.Begun.the-variants.{Accepted, Stopped}
@@ -49,14 +49,14 @@ lengths-out S h = rw h
 
 pub record Most (n : Lengths) : Type 0 where
   pub longs : n .longs ≤ 1152
-  pub words : n .words ≤ 6914
+  pub words : n .words ≤ 7170
   pub marks : n .marks ≤ 8384
 
 most-of : (S : Settings) → Most (lengthsOf S)
 unfolding lengthsOf
 most-of S =
     by-flag Most (inRange S) _ _
-    (λ z. let a = ranged S z in let t = tickets-most S z in record { longs = omega arith; words = omega arith; marks = omega arith })
+    (λ z. let a = ranged S z in let t = tickets-most S z in let s = sets-most S z in record { longs = omega arith; words = omega arith; marks = omega arith })
     (λ z. record { longs = omega arith; words = omega arith; marks = omega arith })
 
 pub asked-most : (x : Opening) → Most (lengthsAsked x)

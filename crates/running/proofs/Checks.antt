@@ -20,7 +20,7 @@ use Rattle.model.specs.declared.Stop.{Stop}
 use Rattle.model.specs.declared.Stop.the-variants.{Nothing, OutOfPlace, UnknownKind, CutShort, NoRoom}
 use Rattle.model.proofs.Flags.{clash, flag}
 use Rattle.model.proofs.Below.{every-at}
-use Rattle.records.proofs.Lengths.{command-kinds}
+use Rattle.records.proofs.Lengths.{command-kinds, body-short}
 use Rattle.records.proofs.Reading.{read-cut, read-whole}
 use Rattle.reader.specs.Taken.{behind}
 use Rattle.running.specs.Resume.{kindAt, restAt, headStop, foundStop, laterFound}
@@ -91,14 +91,6 @@ there-by true true = refl
 there-by true false = refl
 there-by false cut = refl
 
--- a command's body is at most twelve bytes
-short : every 7 (λ k. leb (lengthOf k) 12) ≡ true
-unfolding records.lengthOf
-short = refl
-
-command-short : (k : ℕ) → isCommand k ≡ true → lengthOf k ≤ 12
-command-short k c = leb-true (lengthOf k) 12 (every-at (λ k. leb (lengthOf k) 12) 7 k short (ltb-true k 7 (command-kinds k ∙ c)))
-
 cut-head : (k : ℕ) → isCommand k ≡ true → headStop k (Stopped CutShort) ≡ CutShort
 unfolding headStop
 cut-head k c = rw c
@@ -120,7 +112,7 @@ module _ (s : List ℕ) (at : ℕ) (inside : at < length s) where
 
   whole-read : isCommand k ≡ true → cut ≡ false → readAt s at ≡ Whole k (at + 1) (lengthOf k) (at + 1 + lengthOf k)
   whole-read c w =
-      let m = command-short k c in
+      let m = body-short k c in
       let l = left in
       let g = ltb-false (length (restAt s at)) (lengthOf k) w in
       sym (read-whole s at (lengthOf k) inside refl (λ q. omega arith) (omega arith))
@@ -129,7 +121,7 @@ module _ (s : List ℕ) (at : ℕ) (inside : at < length s) where
   head-read =
       ⊎-elim
       (λ c.
-      let m = command-short k c in
+      let m = body-short k c in
       let l = left in
       ⊎-elim
       (λ w.

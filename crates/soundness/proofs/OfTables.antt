@@ -1,19 +1,23 @@
 -- What `tables_sound` answers, of what the checks of each part ensure.
-use mathlib.Core.Path.{_≡_, sym, _∙_}
+use mathlib.Core.Path.{_≡_, refl, sym, _∙_}
 use mathlib.Core.Bool.{Bool, true, false, not, _&&_}
 use mathlib.Core.List.{List}
-use Prim.Native.Nat.{ℕ, _+_, _*_}
-use lib.Dec.{leb}
+use Prim.Native.Nat.{ℕ, zero, suc, _+_, _*_, _-_, _^_}
+use lib.Dec.{leb, ltb, eqb}
 use lib.ListN.{getD}
+use native.Mathlib.Omega.{arith}
+use borrow.Author.Tests.{le-ltb, ne-eqb}
 use Rattle.model.specs.declared.Settings.{Settings}
-use Rattle.model.specs.Words.{every}
-use Rattle.model.specs.Range.{linesOf}
+use Rattle.model.specs.Words.{pick, every}
+use Rattle.model.specs.Range.{linesOf, isTree}
+use Rattle.model.specs.Tree.{treeFine}
 use Rattle.model.specs.Sound.{lastCycle}
 use Rattle.model.specs.Lent.{nowAt, ticketCountAt, kindAt}
-use Rattle.model.specs.SoundLent.{gathered, nowFine, linesFine, sectorFine, ticketFine, entryFine, placeFine, soundNumbers, countFine}
+use Rattle.model.specs.SoundLent.{gathered, nowFine, linesFine, sectorFine, ticketFine, entryFine, placeFine, soundNumbers, countFine, setFine}
 use Rattle.model.proofs.Flags.{and-2, not-yes, no-not}
 use Rattle.layout.specs.declared.Layout.{Layout}
 use Rattle.layout.specs.Layout.{Placed}
+use Rattle.soundness.specs.Limits.{treeLimit}
 
 -- 12 and 20, of the bytes that the code looks at
 module _ (S : Settings) {at : Layout} (p : Placed S at) (marks : List ℕ) where
@@ -41,7 +45,7 @@ module _ (S : Settings) (longs words marks : List ℕ) (r : Bool) (lines : r ≡
     pub lines-yes : linesFine S longs words marks ≡ true
     lines-yes = and-2 (nowFine S longs words marks) _ yes
 
-    pub rest : {a b c d e f g : Bool}
+    pub rest : {a b c d e f g h : Bool}
         → a ≡ every (4 * linesOf S) (sectorFine S longs words marks)
         → b ≡ every (S .readers * S .misses) (ticketFine S longs words marks)
         → c ≡ gathered (S .misses) (ticketCountAt S marks)
@@ -49,6 +53,19 @@ module _ (S : Settings) (longs words marks : List ℕ) (r : Bool) (lines : r ≡
         → e ≡ gathered (S .queue) (kindAt S marks)
         → f ≡ every (S .queue) (placeFine S longs words marks)
         → g ≡ countFine S longs words marks
-        → (a && b && c && d && e && f && g) ≡ soundNumbers S longs words marks
+        → h ≡ every (S .sets) (setFine S longs words marks)
+        → (a && b && c && d && e && f && g && h) ≡ soundNumbers S longs words marks
     unfolding soundNumbers
-    rest qa qb qc qd qe qf qg = rw (yes, qa, qb, qc, qd, qe, qf, qg)
+    rest qa qb qc qd qe qf qg qh = rw (yes, qa, qb, qc, qd, qe, qf, qg, qh)
+
+-- a tree below the limit
+pub below-limit : (S : Settings) (t : ℕ) → ltb t (treeLimit S) ≡ treeFine (isTree S) (S .ways) t
+below-limit S t = go (isTree S) t
+  where
+    none : (t : ℕ) → ltb t 1 ≡ eqb t 0
+    none zero = refl
+    none (suc t) = le-ltb (suc t) 1 (omega arith) ∙ sym (ne-eqb (suc t) 0 (λ e. absurd (omega arith)))
+
+    go : (b : Bool) (t : ℕ) → ltb t (pick b (2 ^ (S .ways - 1)) 1) ≡ treeFine b (S .ways) t
+    go true t = refl
+    go false t = none t

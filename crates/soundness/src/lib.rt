@@ -6,6 +6,7 @@ mod lines;
 mod misses;
 mod queue;
 mod search;
+mod sets;
 
 ghost use mathlib.Core.Path.{_≡_};
 ghost use Rattle.model.specs.Lent.{lent};
@@ -27,6 +28,7 @@ use model::Refusal;
 use model::Settings;
 use model::Verdict;
 use queue::places_fine;
+use sets::trees_fine;
 
 // Refusal 3 does not apply. Lines first: what follows relies on them.
 pub fn tables_sound(s: Settings, at: Layout, longs: &[u64], words: &[u32], marks: &[u8]) -> bool
@@ -43,6 +45,7 @@ pub fn tables_sound(s: Settings, at: Layout, longs: &[u64], words: &[u32], marks
         & gathered(marks, at.kinds, s.queue)
         & places_fine(s, at, longs, words, marks)
         & count_fine(s, at, longs, words, marks)
+        & trees_fine(s, at, longs, words, marks)
 }
 
 // Refusals 1, 2 and 3 in document 01's order.

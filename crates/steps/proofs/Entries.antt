@@ -19,7 +19,8 @@ use Rattle.model.specs.declared.Queued.{Queued}
 use Rattle.model.proofs.Flags.{and-1, and-2, flag, iff, clash}
 use Rattle.model.proofs.Lists.{any-in, in-any, in-index, in-getD, count-index}
 use Rattle.model.proofs.SoundFacts.{Sound, entry-at, queued-at, queued-parts, queued-unsent}
-use Rattle.tables.proofs.Ones.{map-one, keep-one}
+use Rattle.model.proofs.Counting.{map-one}
+use Rattle.tables.proofs.Ones.{keep-one}
 use Rattle.tables.proofs.Misses.{withSent}
 
 tickets-first : (a : ℕ) (l : List Entry) (i : ℕ) → i < length l → entryFor a (getD l i noEntry) ≡ true → ((j : ℕ) → j < i → entryFor a (getD l j noEntry) ≡ false) → ticketsOf a l ≡ getD l i noEntry .tickets

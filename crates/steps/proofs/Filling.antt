@@ -39,7 +39,6 @@ use Rattle.tables.specs.Raw.{holdsAt}
 use Rattle.tables.specs.Telling.{telling}
 use Rattle.layout.proofs.Stores.{none}
 use Rattle.layout.proofs.Stands.{Stands, is-stands, stands-encode}
-use Rattle.tables.proofs.Ones.{map-one}
 use Rattle.model.proofs.Keep.{fill-tag, fill-cycle, fill-taken}
 use Rattle.layout.proofs.Lines.{flag-of-bit, tag-at, status-at, lifted, store-stands}
 use Rattle.tables.proofs.Misses.{misses-used, sent-at, count-at, tickets-at, remove-stands, entry-found, entry-missing}
@@ -47,7 +46,7 @@ use Rattle.tables.proofs.Tellings.{refusal-leaves, done-leaves}
 use Rattle.steps.specs.Parts.{Holding, arrivedAt, SectorFilled, LineFilled, releasing, CountFits, countAfter}
 use Rattle.steps.proofs.Entries.{few-misses, some-tickets, few-tickets, kept-others, tickets-are, sent-is}
 use Rattle.model.proofs.Keep.{fill-leaves as fill-sound}
-use Rattle.model.proofs.Counting.{recount, count-length, one-counted}
+use Rattle.model.proofs.Counting.{recount, count-length, one-counted, map-one}
 use Rattle.layout.proofs.DirtyCount.{dirty-count-at, dirty-count-stands}
 
 -- ---- one sector

@@ -150,7 +150,7 @@ module _ (p : List ℕ) {x : Opening} (read : x ≡ firstRecord p) {n : Lengths}
   pub lent-most : Most n
   lent-most = rw asked (asked-most x)
 
-  pub lent-long : (s : List ℕ) → p ≡ s → (x y z : List ℕ) → 1152 ≡ length x → 6914 ≡ length y → 8384 ≡ length z
+  pub lent-long : (s : List ℕ) → p ≡ s → (x y z : List ℕ) → 1152 ≡ length x → 7170 ≡ length y → 8384 ≡ length z
       → Long (lent (take (n .longs) x) (take (n .words) y) (take (n .marks) z)) (lengthsFor s)
   lent-long s e x y z a b c =
       let m = lent-most in

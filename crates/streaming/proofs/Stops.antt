@@ -20,7 +20,7 @@ use Rattle.model.specs.declared.Settings.{Settings}
 use Rattle.model.specs.declared.Stop.{Stop}
 use Rattle.model.specs.declared.Stop.the-variants as stop
 use Rattle.model.proofs.Flags.{clash, by-flag, flag}
-use Rattle.records.proofs.Lengths.{length-is, command-kinds}
+use Rattle.records.proofs.Lengths.{body-short}
 use Rattle.running.proofs.Running.{going, from-stops, from-goes}
 use Rattle.streaming.specs.Scopes.{beforeLast}
 use Rattle.streaming.specs.Halts.{ofEnd, Behind, Alone}
@@ -198,26 +198,16 @@ module _ (S : Settings) where
 
 -- ---- what waits is short
 
-command-short : (k : ℕ) → isCommand k ≡ true → lengthOf k ≤ 12
-command-short zero z = rw (← length-is 0 (omega arith)) (omega arith)
-command-short (suc zero) z = rw (← length-is 1 (omega arith)) (omega arith)
-command-short (suc (suc zero)) z = rw (← length-is 2 (omega arith)) (omega arith)
-command-short (suc (suc (suc zero))) z = rw (← length-is 3 (omega arith)) (omega arith)
-command-short (suc (suc (suc (suc zero)))) z = rw (← length-is 4 (omega arith)) (omega arith)
-command-short (suc (suc (suc (suc (suc zero))))) z = rw (← length-is 5 (omega arith)) (omega arith)
-command-short (suc (suc (suc (suc (suc (suc zero)))))) z = rw (← length-is 6 (omega arith)) (omega arith)
-command-short (suc (suc (suc (suc (suc (suc (suc k))))))) z = let h = ltb-true (suc (suc (suc (suc (suc (suc (suc k))))))) 7 (command-kinds (suc (suc (suc (suc (suc (suc (suc k))))))) ∙ z) in absurd (omega arith)
-
 pub alone-short : (s : List ℕ) → Alone s → length s < 64
 alone-short [] h = omega arith
-alone-short (k ∷ s) h = let l = command-short k (h .0) in omega arith
+alone-short (k ∷ s) h = let l = body-short k (h .0) in omega arith
 
 module _ (S : Settings) where
   pub cut-short : (room : ℕ) (a : List ℕ) (t : Tables) → runFrom S 0 room a t ≡ halt stop.CutShort t → length a < 64
   cut-short room [] t h = omega arith
   cut-short room (k ∷ a) t h =
       let c = cut-stop room k a (halted-by S room k a t h .0) in
-      let l = command-short k (c .0) in
+      let l = body-short k (c .0) in
       omega arith
 
   -- ---- the records before the last are whole

@@ -9,10 +9,10 @@ pub fn longs_room() -> [u64; 1152]
     [0; 1152]
 }
 
-pub fn words_room() -> [u32; 6914]
-    ensures { λ r. ⌜ 6914 ≡ length r ⌝ }
+pub fn words_room() -> [u32; 7170]
+    ensures { λ r. ⌜ 7170 ≡ length r ⌝ }
 {
-    [0; 6914]
+    [0; 7170]
 }
 
 pub fn marks_room() -> [u8; 8384]

@@ -1,4 +1,4 @@
--- A table in which one record changes or goes.
+-- A table in which one record goes.
 use mathlib.Core.Path.{_≡_, refl, ap}
 use mathlib.Core.Logic.{_≢_}
 use mathlib.Core.Bool.{Bool, true, false}
@@ -11,18 +11,6 @@ use Rattle.model.specs.Words.{places, keep}
 use Rattle.model.specs.Regions.{dropped}
 
 module _ {A : Type 0} where
-  map-none : (f : A → A) (d : A) (l : List A) → ((j : ℕ) → j < length l → f (getD l j d) ≡ getD l j d) → map f l ≡ l
-  map-none f d [] h = refl
-  map-none f d (x ∷ l) h = rw (h 0 (omega arith), map-none f d l (λ j k. h (suc j) (omega arith)))
-
-  -- a map that changes one record only
-  pub map-one : (f : A → A) (d : A) (l : List A) (e : ℕ) → e < length l → ((j : ℕ) → j < length l → j ≢ e → f (getD l j d) ≡ getD l j d) → map f l ≡ set l e (f (getD l e d))
-  map-one f d [] e k h = absurd (not-suc-le-zero k)
-  map-one f d (x ∷ l) zero k h = ap (λ (r : List A). f x ∷ r) (map-none f d l (λ j i. h (suc j) (omega arith) (λ q. let z : suc j ≡ 0 = q in omega arith)))
-  map-one f d (x ∷ l) (suc e) k h =
-      rw (h 0 (omega arith) (λ q. let z : 0 ≡ suc e = q in omega arith))
-      (ap (λ (r : List A). x ∷ r) (map-one f d l e (le-of-suc-le-suc k) (λ j i n. h (suc j) (omega arith) (λ q. let z : suc j ≡ suc e = q in n (omega arith)))))
-
   keep-all : (p : A → Bool) (d : A) (l : List A) → ((j : ℕ) → j < length l → p (getD l j d) ≡ true) → keep p l ≡ l
   keep-all p d [] h = refl
   keep-all p d (x ∷ l) h = rw (h 0 (omega arith), keep-all p d l (λ j k. h (suc j) (omega arith)))

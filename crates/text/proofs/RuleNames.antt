@@ -20,7 +20,7 @@ use Rattle.text.specs.declared.rules.Named.the-variants.{Rule, Nothing}
 -- ---- the table
 
 abbrev rows : List (List ℕ)
-rows = (108 ∷ 114 ∷ 117 ∷ 32 ∷ []) ∷ (102 ∷ 105 ∷ 102 ∷ 111 ∷ []) ∷ []
+rows = (108 ∷ 114 ∷ 117 ∷ 32 ∷ []) ∷ (102 ∷ 105 ∷ 102 ∷ 111 ∷ []) ∷ (116 ∷ 114 ∷ 101 ∷ 101 ∷ []) ∷ []
 
 rows-named : map (λ r. wordAt r 0) rows ≡ ruleNames
 unfolding run
@@ -46,7 +46,7 @@ module _ (w : List ℕ) (i : ℕ) where
   rule-none h = rw (drop-of-length-le ruleNames h)
 
 -- each name reads back as its byte
-names-back : map ruleOf ruleNames ≡ Rule 0 ∷ Rule 1 ∷ []
+names-back : map ruleOf ruleNames ≡ Rule 0 ∷ Rule 1 ∷ Rule 2 ∷ []
 unfolding ruleFrom
 names-back = refl
 

@@ -11,7 +11,7 @@ use Rattle.text.specs.declared.rules.Named.the-variants.{Rule, Nothing}
 
 -- a name at its byte
 abbrev pub ruleNames : List (List ℕ)
-ruleNames = codes "lru" ∷ codes "fifo" ∷ []
+ruleNames = codes "lru" ∷ codes "fifo" ∷ codes "tree" ∷ []
 
 -- the rule that a word names, of names from byte n on
 unfoldable pub ruleFrom : ℕ → List (List ℕ) → List ℕ → Named

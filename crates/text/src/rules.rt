@@ -15,7 +15,7 @@ pub enum Named {
 }
 
 // A name at its byte, with spaces behind one that is shorter than the row.
-const NAMES: [[u8; 4]; 2] = [*b"lru ", *b"fifo"];
+const NAMES: [[u8; 4]; 3] = [*b"lru ", *b"fifo", *b"tree"];
 
 // The row of a rule byte that has a name.
 fn row_of(i: usize) -> [u8; 4]

@@ -3,8 +3,19 @@
 use model::Found;
 ghost use mathlib.Core.Path.{_≡_};
 ghost use mathlib.Core.Bool.{true};
-ghost use Prim.Native.Nat.{ℕ, _+_, _^_, _≤_, _<_};
+ghost use Prim.Native.Nat.{ℕ, _+_, _-_, _^_, _≤_, _<_};
 ghost use Rattle.model.specs.Tree.{withBit, isIn, named, pointed, someFrom, goes, descent, treeChoice, sideOf, turned, touchedTree, powerTo16, levels, Span};
+
+// The rule byte.
+pub const TREE: usize = 2;
+
+// What a tree is below: a bit for each node in use, of which there is one fewer than ways.
+pub fn limit(ways: usize) -> u32
+    requires { ⌜ (1 ≤ ways) × (ways ≤ 16) ⌝ }
+    ensures { λ r. ⌜ r ≡ 2 ^ (ways - 1) ⌝ }
+{
+    1u32 << (ways - 1)
+}
 
 // The half that a node names: 0 the lower, 1 the upper.
 fn named_half(tree: u32, node: usize) -> usize

@@ -2,7 +2,10 @@
 use Prim.Native.Nat.{ℕ}
 use mathlib.Core.List.{List, [], _∷_, _++_}
 use Rattle.model.specs.Words.{pick}
+use mathlib.Core.Bool.{not, _&&_}
+use lib.Dec.{eqb}
 use Rattle.model.specs.Range.{within, powerTo256}
+use Rattle.model.specs.Tree.{powerTo16}
 use Rattle.model.specs.Records.{settingsIn, bodyAt}
 use Rattle.model.specs.declared.Settings.{Settings}
 use Rattle.text.specs.Digits.{decimal}
@@ -15,9 +18,16 @@ settingWords name n range = name ∷ decimal n ∷ range ∷ []
 abbrev pub setsWords : ℕ → List (List ℕ)
 setsWords n = settingWords (codes "sets is ") n (codes ", and has to be a power of two, 1 to 256")
 
--- the first that is outside, of those from a setting on; where each by itself is in range, sets times ways is not
+-- where each by itself is in range, these are not together
+unfoldable pub togetherWords : ℕ → ℕ → List (List ℕ)
+togetherWords ways rule =
+    pick (eqb rule 2 && not (powerTo16 ways))
+    (settingWords (codes "ways is ") ways (codes ", and has to be a power of two under rule tree"))
+    (codes "sets times ways has to be at most 1024" ∷ [])
+
+-- the first that is outside, of those from a setting on
 abbrev pub fromRule : Settings → List (List ℕ)
-fromRule S = pick (within 0 1 (S .rule)) (codes "sets times ways has to be at most 1024" ∷ []) (settingWords (codes "rule is ") (S .rule) (codes ", and has to be 0 or 1"))
+fromRule S = pick (within 0 2 (S .rule)) (togetherWords (S .ways) (S .rule)) (settingWords (codes "rule is ") (S .rule) (codes ", and has to be 0, 1 or 2"))
 
 abbrev pub fromQueue : Settings → List (List ℕ)
 fromQueue S = pick (within 2 64 (S .queue)) (fromRule S) (settingWords (codes "queue is ") (S .queue) (codes ", and has to be 2 to 64"))

@@ -3,7 +3,7 @@ ghost use mathlib.Core.Path.{_≡_};
 ghost use mathlib.Core.Bool.{not};
 ghost use Rattle.model.specs.Range.{within};
 ghost use Rattle.wording.specs.Pieces.{Puts};
-ghost use Rattle.wording.specs.Settings.{settingWords, setsWords, firstWords, badWords};
+ghost use Rattle.wording.specs.Settings.{settingWords, setsWords, togetherWords, firstWords, badWords};
 use model::Record;
 
 fn put_setting(name: &[u8], n: u8, range: &[u8], out: &mut [u8], at: usize) -> usize
@@ -28,7 +28,23 @@ fn put_sets(sets: u16, out: &mut [u8], at: usize) -> usize
     text::put_text(b", and has to be a power of two, 1 to 256", out, b)
 }
 
-// Of a settings record's body. Where each setting by itself is in range, sets times ways is not.
+// Each setting by itself is in range: a tree over these ways is not, or else sets times ways.
+fn put_together(ways: u8, rule: u8, out: &mut [u8], at: usize) -> usize
+    ensures { λ r. ⌜ Puts (now (out .entry)) at (togetherWords ways rule) r (now (out .exit)) ⌝ }
+{
+    if (rule == 2) & !layout::power_to_16(ways as usize) {
+        return put_setting(
+            b"ways is ",
+            ways,
+            b", and has to be a power of two under rule tree",
+            out,
+            at,
+        );
+    }
+    text::put_text(b"sets times ways has to be at most 1024", out, at)
+}
+
+// Of a settings record's body.
 fn put_first(b: &[u8], out: &mut [u8], at: usize) -> usize
     ensures { λ r. ⌜ Puts (now (out .entry)) at (firstWords (now (b .entry))) r (now (out .exit)) ⌝ }
 {
@@ -57,10 +73,10 @@ fn put_first(b: &[u8], out: &mut [u8], at: usize) -> usize
     if outside(queue, 2, 64) {
         return put_setting(b"queue is ", queue, b", and has to be 2 to 64", out, at);
     }
-    if outside(rule, 0, 1) {
-        return put_setting(b"rule is ", rule, b", and has to be 0 or 1", out, at);
+    if outside(rule, 0, 2) {
+        return put_setting(b"rule is ", rule, b", and has to be 0, 1 or 2", out, at);
     }
-    text::put_text(b"sets times ways has to be at most 1024", out, at)
+    put_together(ways, rule, out, at)
 }
 
 // Of the settings record at the front of s.

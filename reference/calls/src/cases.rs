@@ -8,7 +8,7 @@ use crate::parts;
 use crate::runs;
 use crate::trial::{Counts, Trial, WAIT_ROOM};
 use reference::choices;
-use reference::model::{Cache, Settings, Tables, CONDITIONS, RULE_FIFO, RULE_LRU};
+use reference::model::{Cache, Settings, Tables, CONDITIONS, RULE_FIFO, RULE_LRU, RULE_TREE};
 use reference::random::Random;
 use reference::tables::{damage_any, damage_many, damage_one, sound_tables};
 
@@ -177,12 +177,12 @@ fn aimed(random: &mut Random, settings: &Settings, counts: &mut Counts) -> Table
     damaged.tables
 }
 
-/// Another dirty percent and any rule, or sets and ways that make as many lines.
+/// Another dirty percent and any rule; at times also sets and ways that make as many lines.
 fn other_settings(random: &mut Random, settings: &Settings) -> Settings {
     let mut other = *settings;
     other.dirty = random.between(0, 100) as u32;
-    other.rule = random.pick(&[RULE_LRU, RULE_FIFO]);
-    if random.percent(70) {
+    other.rule = random.pick(&[RULE_LRU, RULE_FIFO, RULE_TREE]);
+    if random.percent(30) {
         let lines = settings.sets * settings.ways;
         let fits = |sets: &u32| lines.is_multiple_of(*sets) && lines / sets <= 16;
         let choices: Vec<u32> = (0..=8).map(|power| 1 << power).filter(fits).collect();

@@ -6,7 +6,7 @@ use crate::cases::{any_empty, noise, noise_tables};
 use crate::exported::{make_resume, make_run, Beside, EmptySlice, Made};
 use crate::trial::{difference, Counts, End, Expected};
 use reference::choices;
-use reference::model::{Cache, Settings, Tables, RULE_FIFO, RULE_LRU};
+use reference::model::{Cache, Settings, Tables, RULE_FIFO, RULE_LRU, RULE_TREE};
 use reference::random::Random;
 use reference::runner::{self, call_record, read_record, Stopped};
 use reference::runner::{STOP_END, STOP_OTHER_LENGTH};
@@ -79,7 +79,7 @@ fn any_part(random: &mut Random, nulls: bool) -> Part {
         }
         7 => {
             part.source = "a part, another rule";
-            part.settings.rule = random.pick(&[RULE_LRU, RULE_FIFO]);
+            part.settings.rule = random.pick(&[RULE_LRU, RULE_FIFO, RULE_TREE]);
         }
         _ => (),
     }

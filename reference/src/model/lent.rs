@@ -67,6 +67,7 @@ impl Tables {
 /// Where each number stands, for settings in range.
 #[derive(Clone, Copy, Debug)]
 pub struct Layout {
+    pub sets: usize,
     pub lines: usize,
     pub entries: usize,
     pub readers: usize,
@@ -76,6 +77,7 @@ pub struct Layout {
 impl Layout {
     pub fn of(settings: &Settings) -> Layout {
         Layout {
+            sets: settings.sets as usize,
             lines: settings.lines(),
             entries: settings.misses as usize,
             readers: settings.readers as usize,
@@ -87,7 +89,7 @@ impl Layout {
     pub fn lengths(&self) -> [usize; 3] {
         [
             self.lines + self.entries + self.places,
-            2 + 6 * self.lines + self.entries * self.readers + 4 * self.places,
+            2 + 6 * self.lines + self.entries * self.readers + 4 * self.places + self.sets,
             8 * self.lines + 2 * self.entries + self.places,
         ]
     }
@@ -136,6 +138,11 @@ impl Layout {
     /// Behind the count of dirty lines.
     pub fn taken(&self, line: usize) -> Place {
         Place::Word(self.dirty_count_index() + 1 + line)
+    }
+
+    /// Behind the taken cycles.
+    pub fn tree(&self, set: usize) -> Place {
+        Place::Word(self.dirty_count_index() + 1 + self.lines + set)
     }
 
     pub fn status(&self, line: usize, sector: usize) -> Place {
@@ -193,7 +200,10 @@ impl Layout {
                 format!("mask {} of queue place {}", (index - queue) % 4, (index - queue) / 4)
             }
             _ if index == count => "count of dirty lines".to_string(),
-            _ => format!("taken cycle of line {}", index - count - 1),
+            _ if index <= count + self.lines => {
+                format!("taken cycle of line {}", index - count - 1)
+            }
+            _ => format!("tree of set {}", index - count - self.lines - 1),
         }
     }
 
@@ -250,7 +260,8 @@ impl Cache {
         let queue =
             (0..layout.places).filter_map(|place| decode_queued(&layout, tables, place)).collect();
         let cycle = tables.get(layout.current_cycle()) as u32;
-        Cache { settings: *settings, lines, misses, queue, cycle }
+        let trees = (0..layout.sets).map(|set| tables.get(layout.tree(set)) as u32).collect();
+        Cache { settings: *settings, lines, misses, queue, cycle, trees }
     }
 
     /// Unused entries, tickets, queue places and masks of reads are zero.
@@ -267,6 +278,9 @@ impl Cache {
         }
         for (place, queued) in self.queue.iter().enumerate() {
             encode_queued(&layout, &mut tables, place, queued);
+        }
+        for (set, &tree) in self.trees.iter().enumerate() {
+            tables.set(layout.tree(set), u64::from(tree));
         }
         tables
     }

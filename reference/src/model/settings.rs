@@ -1,11 +1,12 @@
 //! The settings, their ranges (refusal 1) and what follows from them: document 01's six, and the
-//! rule that document 02 adds in L1.
+//! rule that document 02 adds in L1 and L9.
 
 use super::LINE_BYTES;
 
 /// The replacement rules by their byte.
 pub const RULE_LRU: u32 = 0;
 pub const RULE_FIFO: u32 = 1;
+pub const RULE_TREE: u32 = 2;
 
 /// Wide enough that any number can be offered and refused.
 #[derive(Clone, Copy, PartialEq, Eq, Debug)]
@@ -67,8 +68,13 @@ impl Settings {
             && self.rule_in_range()
     }
 
+    /// A tree halves its ways until one is left.
     fn rule_in_range(&self) -> bool {
-        self.rule <= RULE_FIFO
+        match self.rule {
+            RULE_LRU | RULE_FIFO => true,
+            RULE_TREE => self.ways.is_power_of_two(),
+            _ => false,
+        }
     }
 
     /// Asked only of settings in range.

@@ -1,17 +1,17 @@
-//! Document 01's section "Sound tables" and what document 02 adds to it (26: L3; 27, 28: L1), as numbered
+//! Document 01's section "Sound tables" and what document 02 adds to it (26: L3; 27, 28: L1; 29: L9), as numbered
 //! conditions on the lent numbers, so that a test can tell which one fails. Settings are in range and
 //! lengths are right before any is asked; nothing else is taken for granted,
 //! so a condition stands alone also where an earlier one fails.
 
 use super::lent::{KIND_READ, KIND_WRITE_BACK};
-use super::{block_of, sector_index, Layout, Settings, Tables};
+use super::{block_of, node_bits, sector_index, Layout, Settings, Tables, RULE_TREE};
 use super::{ADDRESS_LIMIT, FULL_MASK, LAST_CYCLE, LINE_BYTES, SECTORS, SECTOR_BYTES};
 
 /// What a condition says, and whether it holds.
 type Condition = (&'static str, fn(&View) -> bool);
 
 /// The conditions in order; number n stands at index n - 1.
-pub const CONDITIONS: [Condition; 28] = [
+pub const CONDITIONS: [Condition; 29] = [
     ("the current cycle is at most 4,294,967,294", current_cycle_in_range),
     ("a status is 0 to 3", statuses_known),
     ("a readable mark is 0 or 1", readable_marks_known),
@@ -40,6 +40,7 @@ pub const CONDITIONS: [Condition; 28] = [
     ("the stored count is that of the lines with a MODIFIED sector", dirty_lines_counted),
     ("a live line was taken no later than its last access", lines_taken_before_access),
     ("a wholly invalid line has taken cycle 0", invalid_lines_not_taken),
+    ("a tree has bits of nodes in use only, and none under another rule", trees_in_use),
 ];
 
 /// All hold.
@@ -312,4 +313,12 @@ fn lines_taken_before_access(view: &View) -> bool {
 
 fn invalid_lines_not_taken(view: &View) -> bool {
     view.every_line(|l| view.live[l] || view.taken(l) == 0)
+}
+
+fn trees_in_use(view: &View) -> bool {
+    let in_use = match view.settings.rule {
+        RULE_TREE => u64::from(node_bits(view.settings.ways as usize)),
+        _ => 0,
+    };
+    (0..view.layout.sets).all(|set| view.tables.get(view.layout.tree(set)) & !in_use == 0)
 }

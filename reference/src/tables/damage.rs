@@ -4,8 +4,8 @@
 //! several numbers, for what one number cannot break alone; damage to any one number.
 
 use crate::choices;
-use crate::model::{block_of, broken, Cache, Layout, Line, MissEntry, Place, Queued, Sector};
-use crate::model::{Settings, Status, Tables};
+use crate::model::{block_of, broken, node_bits, Cache, Layout, Line, MissEntry, Place, Queued};
+use crate::model::{Sector, Settings, Status, Tables, RULE_TREE};
 use crate::model::{ADDRESS_LIMIT, FULL_MASK, LINE_BYTES, SECTORS, SECTOR_BYTES};
 use crate::random::Random;
 
@@ -89,7 +89,8 @@ impl<'a> Target<'a> {
             19..=25 => self.aim_at_queue(random, condition),
             26 => Some((self.layout.dirty_count(), self.other_count(random))),
             27 => self.aim_at_taken(random),
-            _ => self.aim_at_taken_of_invalid(random),
+            28 => self.aim_at_taken_of_invalid(random),
+            _ => self.aim_at_tree(random),
         }
     }
 
@@ -120,6 +121,20 @@ impl<'a> Target<'a> {
         let line = self.pick_line(random, Line::wholly_invalid)?;
         let taken = random.pick(&[1, self.cache.cycle.max(1), u32::MAX]);
         Some((self.layout.taken(line), u64::from(taken)))
+    }
+
+    /// A bit beyond the nodes in use, or any bits under another rule.
+    fn aim_at_tree(&self, random: &mut Random) -> Aim {
+        let Settings { ways, rule, .. } = self.cache.settings;
+        let set = random.index(self.layout.sets);
+        let tree = match rule {
+            RULE_TREE => {
+                let beyond = 1u32 << random.between(u64::from(ways) - 1, 31);
+                self.cache.trees[set] | random.pick(&[beyond, 1 << (ways - 1), u32::MAX])
+            }
+            _ => random.pick(&[1, 2, node_bits(ways as usize).max(1), u32::MAX]),
+        };
+        Some((self.layout.tree(set), u64::from(tree)))
     }
 
     fn aim_at_lines(&self, random: &mut Random, condition: usize) -> Aim {

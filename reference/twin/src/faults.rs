@@ -29,6 +29,7 @@ impl Fault {
             ("five-settings-taken", 5) => [numbers, &[2]].concat(),
             ("more-settings-taken", 8..) => numbers[..7].to_vec(),
             ("seventh-setting-ignored", 7) => numbers[..6].to_vec(),
+            ("tree-over-any-ways", 7) if numbers[6] == model::RULE_TREE => over_any_ways(numbers),
             _ => numbers.to_vec(),
         }
     }
@@ -73,6 +74,8 @@ impl Fault {
             "dirty-counted-in-set" => access_in_set,
             "victim-thrown-out-early" => access_too_early,
             "oldest-by-last-access" => access_least_recent,
+            "tree-read-upside-down" => access_inverted,
+            "tree-blind-to-candidates" => access_blind,
             _ => return None,
         };
         model::check(settings, before).ok()?;
@@ -134,7 +137,13 @@ impl Fault {
     }
 
     /// Slips in what the replacement rules go by, after the call.
-    pub fn alter_ages(self, settings: &Settings, tables: &mut Tables, written: &[u8]) {
+    pub fn alter_ages(
+        self,
+        settings: &Settings,
+        before: &Tables,
+        tables: &mut Tables,
+        written: &[u8],
+    ) {
         let answered = written.first() == Some(&0x10);
         let missed = written.starts_with(&[0x10, 3]);
         match self.0 {
@@ -143,6 +152,14 @@ impl Fault {
             }
             "taken-only-under-its-rule" if missed && settings.rule != model::RULE_FIFO => {
                 set_taken(settings, tables, written, |_| 0);
+            }
+            "tree-not-turned" if answered => keep_trees(settings, before, tables),
+            "tree-not-turned-by-a-miss" if missed => keep_trees(settings, before, tables),
+            "tree-turned-by-a-fill" if written.first() == Some(&0x17) => {
+                turn_filled(settings, tables, written);
+            }
+            "tree-turned-under-every-rule" if answered && settings.rule != model::RULE_TREE => {
+                tables.set(Layout::of(settings).tree(0), 1);
             }
             _ => (),
         }
@@ -285,8 +302,10 @@ fn access_in_set(cache: &mut Cache, access: Access) -> Outcome {
     let mut alone = cache.clone();
     alone.settings.sets = 1;
     alone.lines = cache.lines[first..first + ways].to_vec();
+    alone.trees = vec![cache.trees[first / ways]];
     let mut outcome = alone.access(access);
     cache.lines[first..first + ways].copy_from_slice(&alone.lines);
+    cache.trees[first / ways] = alone.trees[0];
     cache.misses = alone.misses;
     cache.queue = alone.queue;
     for event in outcome.iter_mut().flatten() {
@@ -312,13 +331,76 @@ fn access_too_early(cache: &mut Cache, access: Access) -> Outcome {
     outcome
 }
 
-/// The victim is chosen by the last access, whatever the rule.
+/// First in first out chooses the victim by the last access.
 fn access_least_recent(cache: &mut Cache, access: Access) -> Outcome {
-    let rule = cache.settings.rule;
+    if cache.settings.rule != model::RULE_FIFO {
+        return cache.access(access);
+    }
     cache.settings.rule = model::RULE_LRU;
     let outcome = cache.access(access);
-    cache.settings.rule = rule;
+    cache.settings.rule = model::RULE_FIFO;
     outcome
+}
+
+/// A tree over ways that are no power of two is let pass, as if it were rule 0.
+fn over_any_ways(numbers: &[u32]) -> Vec<u32> {
+    let mut numbers = numbers.to_vec();
+    if !numbers[1].is_power_of_two() {
+        numbers[6] = model::RULE_LRU;
+    }
+    numbers
+}
+
+/// A bit of 1 names the lower half.
+fn access_inverted(cache: &mut Cache, access: Access) -> Outcome {
+    if cache.settings.rule != model::RULE_TREE {
+        return cache.access(access);
+    }
+    let nodes = model::node_bits(cache.settings.ways as usize);
+    cache.trees.iter_mut().for_each(|tree| *tree ^= nodes);
+    let outcome = cache.access(access);
+    cache.trees.iter_mut().for_each(|tree| *tree ^= nodes);
+    outcome
+}
+
+/// The tree is followed although the half that a bit names has no candidate; the set is then busy.
+fn access_blind(cache: &mut Cache, access: Access) -> Outcome {
+    let before = cache.clone();
+    let ways = cache.settings.ways as usize;
+    let set = cache.settings.set_of(access.address);
+    let outcome = cache.access(access);
+    let Some(model::Event::Answer { answer: model::Answer::Miss, line }) =
+        outcome.as_ref().ok().and_then(|events| events.first())
+    else {
+        return outcome;
+    };
+    let line = usize::from(*line);
+    let blind = model::chosen(before.trees[set], &vec![true; ways]).map(|way| set * ways + way);
+    let by_tree = before.settings.rule == model::RULE_TREE && !before.lines[line].wholly_invalid();
+    if by_tree && blind != Some(line) {
+        *cache = before;
+        return Err(Refusal::SetBusy);
+    }
+    outcome
+}
+
+fn keep_trees(settings: &Settings, before: &Tables, tables: &mut Tables) {
+    let layout = Layout::of(settings);
+    for set in 0..layout.sets {
+        tables.set(layout.tree(set), before.get(layout.tree(set)));
+    }
+}
+
+/// The path to the line that a fill names is turned as by an access.
+fn turn_filled(settings: &Settings, tables: &mut Tables, written: &[u8]) {
+    let address = u64::from_le_bytes(written[1..9].try_into().expect("an address"));
+    let mut cache = Cache::decode(settings, tables);
+    let ways = settings.ways as usize;
+    if let Some(line) = cache.matching_line(block_of(address)) {
+        let tree = &mut cache.trees[line / ways];
+        *tree = model::turned(*tree, ways, line % ways);
+    }
+    *tables = cache.encode();
 }
 
 /// The taken cycle of the line that an answer names becomes another one, told by the current cycle.

@@ -72,7 +72,7 @@ fn serve(settings: Settings, mut lent: Lent, call: Call, events: &mut [u8]) -> u
         }
     }
     fault.alter_result(&settings, &before, &mut tables, &call, &mut written);
-    fault.alter_ages(&settings, &mut tables, &written);
+    fault.alter_ages(&settings, &before, &mut tables, &written);
     written.truncate(events.len());
     lent.store(&tables);
     events[..written.len()].copy_from_slice(&written);

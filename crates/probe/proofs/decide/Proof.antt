@@ -3,7 +3,7 @@ use mathlib.Core.Path.{refl}
 use native.Mathlib.Omega.{arith}
 use borrow.Author.Needs.{needs}
 use Rattle.model.specs.Range.{linesOf}
-use Rattle.probe.proofs.Meetings.{ways-room, found-below, decided-met, decided-missed}
+use Rattle.probe.proofs.Meetings.{ways-room, set-inside, found-below, decided-met, decided-missed}
 use Rattle.probe.proofs.decide.Statement.{statement}
 use Rattle.probe.proofs.decide.Tie as tie
 
@@ -30,7 +30,14 @@ decide-spec =
     let k = found-below (a .s) (a .longs .now) (a .words .now) (a .marks .now) (start .pre .1) (a .x) (at .before .address-of .ensures) (at .set-index .ensures) (c .before .before .before .before .block-of .ensures) (c .before .before .before .find .ensures) (c .before .found .given .1) in
     search needs)
     (λ c. search needs)
-    (λ c κs. let h = room (c .before .before .before .before) in search needs)
+    (λ c κs.
+    let at = c .before .before .before .before in
+    let start = at .before .before .before .before .before in
+    let a = start .args in
+    let h = room at in
+    let fit = start .pre .1 in
+    let inside = set-inside (a .s) (a .longs .now) (a .words .now) (a .marks .now) fit (a .x) (at .before .address-of .ensures) (at .set-index .ensures) in
+    (h, inside, fit .tree, start .pre .0, fit))
     (λ c. let at = c .before .before .before .before .before .before in
     let start = at .before .before .before .before .before in
     let a = start .args in

@@ -20,12 +20,14 @@ tables-sound-spec =
     (λ c κs. let pre = c .before .before .before .before .before .before .before .before .before .before .pre in let at = pre .0 in let fit = pre .1 in omega arith)  -- gathered-requires-2
     (λ c κs. let pre = c .before .before .before .before .before .before .before .before .before .before .before .pre in (pre .0, pre .1))  -- places-fine-requires
     (λ c κs. let pre = c .before .before .before .before .before .before .before .before .before .before .before .before .pre in (pre .0, pre .1))  -- count-fine-requires
+    (λ c κs. let pre = c .before .before .before .before .before .before .before .before .before .before .before .before .before .pre in (pre .0, pre .1))  -- trees-fine-requires
     (λ c.
-    let placed = c .before in
+    let counted = c .before in
+    let placed = counted .before in
     let sectors = placed .before .before .before .before .before in
     let tested = sectors .before in
     let start = tested .before .before .before .before .before .before in
     let a = start .args in
     rest (a .s) (a .longs .now) (a .words .now) (a .marks .now) _ (tested .before .lines-fine .ensures) (tested .if1 .left) (sectors .sectors-fine .ensures) (placed .before .before .before .before .tickets-fine .ensures)
     (placed .before .before .before .gathered .ensures ∙ counts-gathered (a .s) (start .pre .0) (a .marks .now)) (placed .before .before .entries-fine .ensures)
-    (placed .before .gathered2 .ensures ∙ kinds-gathered (a .s) (start .pre .0) (a .marks .now)) (placed .places-fine .ensures) (c .count-fine .ensures)))  -- returns-2
+    (placed .before .gathered2 .ensures ∙ kinds-gathered (a .s) (start .pre .0) (a .marks .now)) (placed .places-fine .ensures) (counted .count-fine .ensures) (c .trees-fine .ensures)))  -- returns-2

@@ -1,7 +1,7 @@
 use native.Mathlib.Omega.{arith}
 use borrow.Author.Needs.{needs}
 use Rattle.model.proofs.Fits.{ranged}
-use Rattle.layout.proofs.OfRange.{tickets-most}
+use Rattle.layout.proofs.OfRange.{tickets-most, sets-most}
 use Rattle.layout.proofs.ranges.words_length.Statement.{statement}
 use Rattle.layout.proofs.ranges.words_length.Tie as tie
 
@@ -18,4 +18,5 @@ words-length-spec =
     (λ c. let r = ranged _ (c .before .before .before .pre) in omega (arith, tickets-most _ (c .before .before .before .pre)))
     (λ c. let r = ranged _ (c .before .before .before .pre) in omega (arith, tickets-most _ (c .before .before .before .pre)))
     (λ c. let r = ranged _ (c .before .before .before .pre) in omega (arith, tickets-most _ (c .before .before .before .pre)))
+    (λ c. let r = ranged _ (c .before .before .before .before .pre) in omega (arith, tickets-most _ (c .before .before .before .before .pre), sets-most _ (c .before .before .before .before .pre)))
     (λ c. search needs))

@@ -5,7 +5,6 @@ use Prim.Native.Nat.{ℕ}
 use borrow.Author.Needs.{needs}
 use Rattle.model.specs.declared.Settings.{Settings}
 use Rattle.wording.specs.Settings.{fromWays, fromDirty, fromMisses, fromReaders, fromQueue, fromRule, outsideWords, firstWords}
-use Rattle.wording.proofs.Pieces.{put-one}
 use Rattle.wording.proofs.Ranges.{is-inside, is-outside, is-power, is-no-power}
 use Rattle.wording.proofs.settings.put_first.Statement.{statement}
 use Rattle.wording.proofs.settings.put_first.Tie as tie
@@ -99,14 +98,14 @@ returns-7 c =
     let t = c .before .before in
     let i = t .before .before .before .before in
     let n = i .before .before .before .before .before .before .before .before .before .before .before .before .before .before in
-    rw (after-6 (i .before .before), is-outside 0 1 (S n .rule) (i .before .outside6 .ensures) (i .if7 .taken)) (t .put-setting6 .ensures)
+    rw (after-6 (i .before .before), is-outside 0 2 (S n .rule) (i .before .outside6 .ensures) (i .if7 .taken)) (t .put-setting6 .ensures)
 
 returns-8 : tie.Need-returns-8
 returns-8 c =
     let t = c .before .before in
-    let i = t .before .before .before in
+    let i = t .before .before in
     let n = i .before .before .before .before .before .before .before .before .before .before .before .before .before .before in
-    rw (after-6 (i .before .before), is-inside 0 1 (S n .rule) (i .before .outside6 .ensures) (i .if7 .left)) (put-one (t .put-text .ensures))
+    rw (after-6 (i .before .before), is-inside 0 2 (S n .rule) (i .before .outside6 .ensures) (i .if7 .left)) (t .put-together .ensures)
 
 pub put-first-spec : {M : Type 1} → statement M
 put-first-spec =
@@ -160,7 +159,6 @@ put-first-spec =
     (λ c κs. search needs)
     (λ c. search needs)
     returns-7
-    (λ c. search needs)
     (λ c κs. search needs)
     (λ c. search needs)
     returns-8)

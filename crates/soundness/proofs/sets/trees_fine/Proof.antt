@@ -1,0 +1,27 @@
+use mathlib.Core.Path.{refl}
+use native.Mathlib.Omega.{arith}
+use borrow.Author.Needs.{needs}
+use Prim.Native.Nat.{_-_}
+use Rattle.model.specs.SoundLent as is
+use Rattle.model.proofs.Below.{Passed, passed-stop, passed-more, passed-end}
+use Rattle.soundness.proofs.sets.trees_fine.Statement.{statement}
+use Rattle.soundness.proofs.sets.trees_fine.Tie as tie
+
+abbrev Inv-loop : tie.InvT-loop
+Inv-loop s at longs words marks n most i₀ i = Passed (is.setFine s longs words marks) (s .sets) i
+
+abbrev μ-loop : tie.MeasureT-loop
+μ-loop s at longs words marks n most i₀ i = s .sets - i
+
+pub trees-fine-spec : {M : Type 1} → statement M
+trees-fine-spec =
+    tie.close
+    (tie.spec Inv-loop μ-loop
+    (λ c κs. search needs)  -- limit-requires
+    (λ c. (omega arith, refl))  -- loop-holds
+    (λ c κs. search needs)  -- set-fine-requires
+    (λ c. passed-stop _ _ _ (c .before .before .loop-test .taken) (c .before .set-fine .ensures) (c .if1 .taken))
+    (λ c. omega arith)
+    (λ c. omega arith)
+    (λ c. passed-more _ _ _ (c .before .before .loop-test .taken) (c .before .set-fine .ensures) (c .if1 .left) (c .before .before .before .loop .inv))
+    (λ c. passed-end _ _ _ (c .loop-test .left) (c .before .loop .inv)))

@@ -1,0 +1,2 @@
+-- What the trees are below.
+pub mod Limits
