@@ -99,19 +99,19 @@ fn offer(
 // An access on sound tables.
 pub fn access_step(
     s: Settings,
+    at: Layout,
     longs: &mut [u64],
     words: &mut [u32],
     marks: &mut [u8],
     x: Access,
 ) -> Told
-    requires { ⌜ Held s (lent (now longs) (now words) (now marks)) ⌝ }
+    requires { ⌜ Placed s at × Held s (lent (now longs) (now words) (now marks)) ⌝ }
     ensures { λ r. ⌜ Does s (access s x) (lent (now (longs .entry)) (now (words .entry)) (now (marks .entry))) r
         (lent (now (longs .exit)) (now (words .exit)) (now (marks .exit))) ⌝ }
 {
     if !well_formed(x) {
         return tables::refused(Refusal::BadAccess);
     }
-    let at = layout::laid_out(s);
     let d = probe::decide(s, at, longs, words, marks, x);
     let m = d.meeting;
     if spotted(m) {

@@ -1,2 +1,3 @@
--- What making fresh tables comes to.
+-- What making fresh tables comes to, and what the checks before a step come to.
 pub mod Made
+pub mod Laid

@@ -32,7 +32,8 @@ pub extern "C" fn labintugmo_step_read(
         mask: 0,
         ticket,
     };
-    let told = access::access_step(s, longs, words, marks, x);
+    let at = layout::laid_out(s);
+    let told = access::access_step(s, at, longs, words, marks, x);
     records::write_told(told, events, 0)
 }
 
@@ -59,7 +60,8 @@ pub extern "C" fn labintugmo_step_write(
         mask,
         ticket: 0,
     };
-    let told = access::access_step(s, longs, words, marks, x);
+    let at = layout::laid_out(s);
+    let told = access::access_step(s, at, longs, words, marks, x);
     records::write_told(told, events, 0)
 }
 
@@ -79,7 +81,8 @@ pub extern "C" fn labintugmo_step_send(
         return 0;
     }
     let s = settings_from(settings);
-    let told = steps::send_step(s, longs, words, marks);
+    let at = layout::laid_out(s);
+    let told = steps::send_step(s, at, longs, words, marks);
     records::write_told(told, events, 0)
 }
 
@@ -100,7 +103,8 @@ pub extern "C" fn labintugmo_step_fill(
         return 0;
     }
     let s = settings_from(settings);
-    let told = steps::fill_step(s, longs, words, marks, address);
+    let at = layout::laid_out(s);
+    let told = steps::fill_step(s, at, longs, words, marks, address);
     records::write_told(told, events, 0)
 }
 

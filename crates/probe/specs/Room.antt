@@ -13,6 +13,6 @@ use Rattle.probe.specs.Scan.{agesFrom}
 pub record VictimRoom (S : Settings) (at : Layout) (i base : ℕ) (words marks : List ℕ) : Type 0 where
   pub ages : agesFrom S + (base + S .ways) ≤ length words
   pub tree : at .trees + i < length words
-  pub small : length words ≤ 8192
+  pub small : length words ≤ 65536
   pub statuses : 4 * (base + S .ways) ≤ length marks
   pub power : isTree S ≡ true → powerTo16 (S .ways) ≡ true

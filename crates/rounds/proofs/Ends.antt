@@ -19,16 +19,16 @@ use Rattle.model.specs.declared.Access.{Access}
 use Rattle.model.specs.declared.Refusal.{Refusal}
 use Rattle.model.specs.declared.Refusal.the-variants.{BadAccess, SetHeld}
 use Rattle.model.specs.declared.Event.the-variants as event
-use Rattle.model.specs.declared.Verdict.{Verdict}
 use Rattle.model.specs.declared.Verdict.the-variants as verdict
 use Rattle.model.specs.declared.Told.{Told}
-use Rattle.model.proofs.Decoded.{Small}
-use Rattle.model.proofs.Bridge.{sound-held, is-tables, is-fits, is-sound-lent}
+use Rattle.model.proofs.Bridge.{is-tables, is-fits, is-sound-lent}
 use Rattle.model.proofs.LentRounds.{runOf, rounds-encoded}
 use Rattle.model.proofs.Demand.{steps-keep}
 use Rattle.records.specs.Stores.{Stored}
 use Rattle.records.proofs.Stores.{was-stored}
-use Rattle.soundness.proofs.Verdicts.{passed-is}
+use Rattle.cache.specs.Laid.{Checks, verdictIn}
+use Rattle.cache.specs.declared.LaidVerdict.{LaidVerdict}
+use Rattle.cache.specs.declared.LaidVerdict.the-variants as laid
 use Rattle.tables.specs.Telling.{telling}
 use Rattle.tables.proofs.Tellings.{telling-tells}
 use Rattle.rounds.specs.declared.Waiting.the-variants as wait
@@ -106,10 +106,6 @@ turns-away n e {told} is {w} {f} s room =
 
 -- ---- the call
 
--- what the rounds ask
-pub passed-held : (S : Settings) (L : Lent) {v : Verdict} → Small L → v ≡ verdictOf (checkCall S L) → v ≡ verdict.Passed → Held S L
-passed-held S L small says is = let (range, fits, soundly) = passed-is S L (sym says ∙ is) in sound-held S L range fits small soundly
-
 module _ (S : Settings) (x : Access) (L : Lent) (e : List ℕ) where
   roomy : waitRoom ≤ length e → waitWithin (length e) S x L ≡ waitCall S x L
   roomy h = rw (le-leb waitRoom (length e) h)
@@ -118,11 +114,14 @@ module _ (S : Settings) (x : Access) (L : Lent) (e : List ℕ) where
   unfolding records.logBytes records.eventsIn records.eventsFrom
   waits-no-room h = rw (lt-leb waitRoom (length e) h) record { waiting = refl; written = refl; events = refl; reads = refl; left = refl }
 
-  pub waits-refused : {v : Verdict} {n : Refusal} {r : Waited} {f : List ℕ} → waitRoom ≤ length e → v ≡ verdictOf (checkCall S L) → v ≡ verdict.Refused n
+  pub waits-refused : {v : LaidVerdict} {n : Refusal} {r : Waited} {f : List ℕ} → waitRoom ≤ length e → Checks S L v → v ≡ laid.Refused n
       → TurnsAway n e r f → Waits (waitWithin (length e) S x L) e r f L
   unfolding waitCall
-  waits-refused {v} {n} {r} {f} h says is t = rw (roomy h) (go (checkCall S L) refl)
+  waits-refused {v} {n} {r} {f} h checks is t = rw (roomy h) (go (checkCall S L) refl)
     where
+      says : verdict.Refused n ≡ verdictOf (checkCall S L)
+      says = sym (ap verdictIn is) ∙ checks .says
+
       go : (o : Outcome Lent) → checkCall S L ≡ o → Waits (waitCall S x L) e r f L
       go (refused k) q = let z : k ≡ n = cc in rw (q, z) (t .on L)
       go (done es M) q = let z : verdict.Passed ≡ verdict.Refused n = cc in let o : _≡_ {A = ℕ} 0 1 = cc in absurd (omega arith)

@@ -17,9 +17,12 @@ use Rattle.model.specs.Seen.{Acts, accepts, marks, sendTurn, fillFirst, drain, 
 use Rattle.model.specs.declared.Settings.{Settings}
 use Rattle.model.specs.declared.Access.{Access}
 use Rattle.model.specs.declared.Refusal.{Refusal}
-use Rattle.model.specs.declared.Verdict.{Verdict}
+use Rattle.layout.specs.Layout.{Placed}
+use Rattle.layout.specs.declared.Layout.{Layout}
+use Rattle.cache.specs.Laid.{verdictIn}
+use Rattle.cache.specs.declared.LaidVerdict.{LaidVerdict}
 use Rattle.model.specs.Records.{fillBytes, roundBytes, settleBytes}
-use Rattle.model.specs.declared.Verdict.the-variants.{Passed}
+use Rattle.cache.specs.declared.LaidVerdict.the-variants.{Passed}
 use Rattle.turns.specs.Parts.{Noted}
 use Rattle.rounds.specs.declared.Waited.{Waited}
 use Rattle.rounds.specs.declared.Went.{Went}
@@ -48,10 +51,10 @@ pub record WaitsHeld (S : Settings) (x : Access) (L : Lent) (e : List ℕ) (r : 
 -- ---- the rounds and the struck rounds
 
 -- the check before the first round
-pub record MayRun (S : Settings) (x : Access) (L : Lent) (r : Verdict) : Type 0 where
-  pub says : r ≡ verdictOf (startCall S x L)
-  pub held : r ≡ Passed → Held S L
-  pub small : r ≡ Passed → maskOf x ≤ allOnes
+pub record MayRun (S : Settings) (x : Access) (L : Lent) (r : LaidVerdict) : Type 0 where
+  pub says : verdictIn r ≡ verdictOf (startCall S x L)
+  pub ready : (at : Layout) → r ≡ Passed at → Placed S at × Held S L
+  pub small : (at : Layout) → r ≡ Passed at → maskOf x ≤ allOnes
 
 -- the others are on slices that are the encoding of sound tables
 

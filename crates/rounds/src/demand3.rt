@@ -2,11 +2,12 @@
 // `run_struck`, which ask nothing, below their parts. They write every event, refusals too.
 use crate::Offer;
 use crate::Went;
+use cache::LaidVerdict;
+use layout::Layout;
 use model::Access;
 use model::Refusal;
 use model::Settings;
 use model::Told;
-use model::Verdict;
 use turns::Sent;
 ghost use mathlib.Core.Path.{_≡_};
 ghost use Prim.Native.Nat.{_+_, _*_, _≤_};
@@ -18,6 +19,7 @@ ghost use Rattle.model.specs.Lent.{lent, bit};
 ghost use Rattle.model.specs.Calls.{eventsTold};
 ghost use Rattle.model.specs.Inner.{Held};
 ghost use Rattle.model.specs.Records.{logBytes, fillBytes, roundBytes, settleBytes};
+ghost use Rattle.layout.specs.Layout.{Placed};
 ghost use Rattle.turns.specs.Parts.{Noted};
 ghost use Rattle.rounds.specs.Demand3.{shown, roundsCall, flagsCall, struckCall};
 ghost use Rattle.rounds.specs.Parts.{Queueless, SeesSend, SeesFill, SeesDrain, SeesRound, SeesStruck, RunsOn, StrikesOn, MayRun};
@@ -31,11 +33,10 @@ fn tell(told: Told, events: &mut [u8], out: usize) -> usize
     out + n
 }
 
-fn nothing_queued(s: Settings, longs: &[u64], words: &[u32], marks: &[u8]) -> bool
-    requires { ⌜ Held s (lent (now longs) (now words) (now marks)) ⌝ }
+fn nothing_queued(s: Settings, at: Layout, longs: &[u64], words: &[u32], marks: &[u8]) -> bool
+    requires { ⌜ Placed s at × Held s (lent (now longs) (now words) (now marks)) ⌝ }
     ensures { λ r. ⌜ Queueless s (lent (now (longs .entry)) (now (words .entry)) (now (marks .entry))) r ⌝ }
 {
-    let at = layout::laid_out(s);
     let n = layout::used(marks, at.kinds, s.queue);
     n == 0
 }
@@ -43,18 +44,19 @@ fn nothing_queued(s: Settings, longs: &[u64], words: &[u32], marks: &[u8]) -> bo
 // Sends the queue head, if there is one.
 fn see_send(
     s: Settings,
+    at: Layout,
     longs: &mut [u64],
     words: &mut [u32],
     marks: &mut [u8],
     events: &mut [u8],
     out: usize,
 ) -> usize
-    requires { ⌜ Held s (lent (now longs) (now words) (now marks)) ⌝ }
+    requires { ⌜ Placed s at × Held s (lent (now longs) (now words) (now marks)) ⌝ }
     requires { ⌜ out + 25 ≤ length (now events) ⌝ }
     ensures { λ r. ⌜ SeesSend s (lent (now (longs .entry)) (now (words .entry)) (now (marks .entry))) (now (events .entry)) out r
         (now (events .exit)) (lent (now (longs .exit)) (now (words .exit)) (now (marks .exit))) ⌝ }
 {
-    if nothing_queued(s, longs, words, marks) {
+    if nothing_queued(s, at, longs, words, marks) {
         return out;
     }
     let told = cache::send(s, longs, words, marks);
@@ -64,18 +66,19 @@ fn see_send(
 // Fills the oldest sent miss, if there is one.
 fn see_fill(
     s: Settings,
+    at: Layout,
     longs: &mut [u64],
     words: &mut [u32],
     marks: &mut [u8],
     events: &mut [u8],
     out: usize,
 ) -> usize
-    requires { ⌜ Held s (lent (now longs) (now words) (now marks)) ⌝ }
+    requires { ⌜ Placed s at × Held s (lent (now longs) (now words) (now marks)) ⌝ }
     requires { ⌜ out + fillBytes ≤ length (now events) ⌝ }
     ensures { λ r. ⌜ SeesFill s (lent (now (longs .entry)) (now (words .entry)) (now (marks .entry))) (now (events .entry)) out r
         (now (events .exit)) (lent (now (longs .exit)) (now (words .exit)) (now (marks .exit))) ⌝ }
 {
-    match turns::first_sent(s, longs, words, marks) {
+    match turns::first_sent(s, at, longs, words, marks) {
         Sent::At(address) => {
             let told = cache::fill(s, longs, words, marks, address);
             tell(told, events, out)
@@ -87,24 +90,26 @@ fn see_fill(
 // The send and the fill of a round.
 fn see_drain(
     s: Settings,
+    at: Layout,
     longs: &mut [u64],
     words: &mut [u32],
     marks: &mut [u8],
     events: &mut [u8],
     out: usize,
 ) -> usize
-    requires { ⌜ Held s (lent (now longs) (now words) (now marks)) ⌝ }
+    requires { ⌜ Placed s at × Held s (lent (now longs) (now words) (now marks)) ⌝ }
     requires { ⌜ out + settleBytes ≤ length (now events) ⌝ }
     ensures { λ r. ⌜ SeesDrain s (lent (now (longs .entry)) (now (words .entry)) (now (marks .entry))) (now (events .entry)) out r
         (now (events .exit)) (lent (now (longs .exit)) (now (words .exit)) (now (marks .exit))) ⌝ }
 {
-    let sent = see_send(s, longs, words, marks, events, out);
-    see_fill(s, longs, words, marks, events, sent)
+    let sent = see_send(s, at, longs, words, marks, events, out);
+    see_fill(s, at, longs, words, marks, events, sent)
 }
 
 // One round: the send, the fill, the offer.
 fn see_round(
     s: Settings,
+    at: Layout,
     longs: &mut [u64],
     words: &mut [u32],
     marks: &mut [u8],
@@ -112,12 +117,12 @@ fn see_round(
     events: &mut [u8],
     out: usize,
 ) -> Offer
-    requires { ⌜ Held s (lent (now longs) (now words) (now marks)) ⌝ }
+    requires { ⌜ Placed s at × Held s (lent (now longs) (now words) (now marks)) ⌝ }
     requires { ⌜ (out + roundBytes ≤ length (now events)) × (maskOf x ≤ allOnes) ⌝ }
     ensures { λ r. ⌜ SeesRound s x (lent (now (longs .entry)) (now (words .entry)) (now (marks .entry))) (now (events .entry)) out r
         (now (events .exit)) (lent (now (longs .exit)) (now (words .exit)) (now (marks .exit))) ⌝ }
 {
-    let drained = see_drain(s, longs, words, marks, events, out);
+    let drained = see_drain(s, at, longs, words, marks, events, out);
     let told = cache::access(s, longs, words, marks, x);
     let written = tell(told, events, drained);
     let taken = turns::accepted(told);
@@ -127,6 +132,7 @@ fn see_round(
 // One round of the struck rounds: the access is offered if the round is marked.
 fn see_struck(
     s: Settings,
+    at: Layout,
     longs: &mut [u64],
     words: &mut [u32],
     marks: &mut [u8],
@@ -135,16 +141,16 @@ fn see_struck(
     events: &mut [u8],
     out: usize,
 ) -> usize
-    requires { ⌜ Held s (lent (now longs) (now words) (now marks)) ⌝ }
+    requires { ⌜ Placed s at × Held s (lent (now longs) (now words) (now marks)) ⌝ }
     requires { ⌜ (out + roundBytes ≤ length (now events)) × (maskOf x ≤ allOnes) ⌝ }
     ensures { λ r. ⌜ SeesStruck s x (eqb flag 1) (lent (now (longs .entry)) (now (words .entry)) (now (marks .entry))) (now (events .entry)) out r
         (now (events .exit)) (lent (now (longs .exit)) (now (words .exit)) (now (marks .exit))) ⌝ }
 {
     if flag == 1 {
-        let made = see_round(s, longs, words, marks, x, events, out);
+        let made = see_round(s, at, longs, words, marks, x, events, out);
         return made.written;
     }
-    see_drain(s, longs, words, marks, events, out)
+    see_drain(s, at, longs, words, marks, events, out)
 }
 
 fn flag_of(taken: bool) -> u8
@@ -156,6 +162,7 @@ fn flag_of(taken: bool) -> u8
 // The rounds, on sound tables.
 fn rounds_on(
     s: Settings,
+    at: Layout,
     longs: &mut [u64],
     words: &mut [u32],
     marks: &mut [u8],
@@ -164,7 +171,7 @@ fn rounds_on(
     flags: &mut [u8],
     events: &mut [u8],
 ) -> Went
-    requires { ⌜ Held s (lent (now longs) (now words) (now marks)) ⌝ }
+    requires { ⌜ Placed s at × Held s (lent (now longs) (now words) (now marks)) ⌝ }
     requires { ⌜ (n ≤ length (now flags)) × (roundBytes * n ≤ length (now events)) × (maskOf x ≤ allOnes) ⌝ }
     ensures { λ r. ⌜ RunsOn s x n (lent (now (longs .entry)) (now (words .entry)) (now (marks .entry))) (now (flags .entry)) (now (events .entry)) r
         (lent (now (longs .exit)) (now (words .exit)) (now (marks .exit))) (now (flags .exit)) (now (events .exit)) ⌝ }
@@ -172,7 +179,7 @@ fn rounds_on(
     let mut i = 0;
     let mut out = 0;
     while i < n {
-        let made = see_round(s, longs, words, marks, x, events, out);
+        let made = see_round(s, at, longs, words, marks, x, events, out);
         let taken = made.taken;
         flags[i] = flag_of(taken);
         i += 1;
@@ -193,6 +200,7 @@ fn rounds_on(
 // The struck rounds, on sound tables.
 fn struck_on(
     s: Settings,
+    at: Layout,
     longs: &mut [u64],
     words: &mut [u32],
     marks: &mut [u8],
@@ -200,7 +208,7 @@ fn struck_on(
     flags: &[u8],
     events: &mut [u8],
 ) -> Went
-    requires { ⌜ Held s (lent (now longs) (now words) (now marks)) ⌝ }
+    requires { ⌜ Placed s at × Held s (lent (now longs) (now words) (now marks)) ⌝ }
     requires { ⌜ (roundBytes * length (now flags) ≤ length (now events)) × (maskOf x ≤ allOnes) ⌝ }
     ensures { λ r. ⌜ StrikesOn s x (lent (now (longs .entry)) (now (words .entry)) (now (marks .entry))) (now (flags .entry)) (now (events .entry)) r
         (lent (now (longs .exit)) (now (words .exit)) (now (marks .exit))) (now (events .exit)) ⌝ }
@@ -209,7 +217,7 @@ fn struck_on(
     let mut out = 0;
     while i < flags.len() {
         let flag = flags[i];
-        out = see_struck(s, longs, words, marks, x, flag, events, out);
+        out = see_struck(s, at, longs, words, marks, x, flag, events, out);
         i += 1;
     }
     Went::Ran {
@@ -219,16 +227,16 @@ fn struck_on(
 }
 
 // Refusals 1 to 4, before the first round.
-fn may_run(s: Settings, longs: &[u64], words: &[u32], marks: &[u8], x: Access) -> Verdict
+fn may_run(s: Settings, longs: &[u64], words: &[u32], marks: &[u8], x: Access) -> LaidVerdict
     ensures { λ r. ⌜ MayRun s x (lent (now (longs .entry)) (now (words .entry)) (now (marks .entry))) r ⌝ }
 {
-    match cache::check(s, longs, words, marks) {
-        Verdict::Refused(n) => Verdict::Refused(n),
-        Verdict::Passed => {
+    match cache::checked_layout(s, longs, words, marks) {
+        LaidVerdict::Refused(n) => LaidVerdict::Refused(n),
+        LaidVerdict::Passed(at) => {
             if access::well_formed(x) {
-                Verdict::Passed
+                LaidVerdict::Passed(at)
             } else {
-                Verdict::Refused(Refusal::BadAccess)
+                LaidVerdict::Refused(Refusal::BadAccess)
             }
         }
     }
@@ -252,15 +260,15 @@ pub fn run_rounds(
         ≡ flagsCall s x n (lent (now (longs .entry)) (now (words .entry)) (now (marks .entry))) (now (flags .entry)) (now (events .entry)) ⌝ }
 {
     match may_run(s, longs, words, marks, x) {
-        Verdict::Refused(k) => Went::Refused(k),
-        Verdict::Passed => {
+        LaidVerdict::Refused(k) => Went::Refused(k),
+        LaidVerdict::Passed(at) => {
             if flags.len() < n {
                 return Went::NoRoom;
             }
             if events.len() / records::ROUND_ROOM < n {
                 return Went::NoRoom;
             }
-            rounds_on(s, longs, words, marks, x, n, flags, events)
+            rounds_on(s, at, longs, words, marks, x, n, flags, events)
         }
     }
 }
@@ -279,12 +287,12 @@ pub fn run_struck(
         ≡ struckCall s x (lent (now (longs .entry)) (now (words .entry)) (now (marks .entry))) (now (flags .entry)) (now (events .entry)) ⌝ }
 {
     match may_run(s, longs, words, marks, x) {
-        Verdict::Refused(k) => Went::Refused(k),
-        Verdict::Passed => {
+        LaidVerdict::Refused(k) => Went::Refused(k),
+        LaidVerdict::Passed(at) => {
             if events.len() / records::ROUND_ROOM < flags.len() {
                 return Went::NoRoom;
             }
-            struck_on(s, longs, words, marks, x, flags, events)
+            struck_on(s, at, longs, words, marks, x, flags, events)
         }
     }
 }

@@ -2,13 +2,14 @@
 // `cache`: demand 3 is said of them. Here: `wait`, which runs the rounds until an access is accepted, and says where waiting does not help.
 mod demand3;
 
+use cache::LaidVerdict;
 pub use demand3::run_rounds;
 pub use demand3::run_struck;
+use layout::Layout;
 use model::Access;
 use model::Event;
 use model::Refusal;
 use model::Settings;
-use model::Verdict;
 ghost use mathlib.Core.Path.{_≡_};
 ghost use mathlib.Core.Bool.{true};
 ghost use Prim.Native.Nat.{_≤_};
@@ -18,6 +19,7 @@ ghost use Rattle.model.specs.Sound.{allOnes};
 ghost use Rattle.model.specs.Lent.{lent};
 ghost use Rattle.model.specs.Records.{waitRoom};
 ghost use Rattle.model.specs.Inner.{Held};
+ghost use Rattle.layout.specs.Layout.{Placed};
 ghost use Rattle.turns.specs.Parts.{Enough};
 ghost use Rattle.rounds.specs.Waiting.{waitWithin, Waits};
 ghost use Rattle.rounds.specs.Parts.{TurnsAway, Settles, WaitsHeld};
@@ -66,6 +68,7 @@ fn turned_away(n: Refusal, events: &mut [u8]) -> Waited
 // The rounds, on sound tables; `most` of them settle it.
 fn wait_rounds(
     s: Settings,
+    at: Layout,
     longs: &mut [u64],
     words: &mut [u32],
     marks: &mut [u8],
@@ -73,7 +76,7 @@ fn wait_rounds(
     events: &mut [u8],
     most: usize,
 ) -> Waited
-    requires { ⌜ Held s (lent (now longs) (now words) (now marks)) ⌝ }
+    requires { ⌜ Placed s at × Held s (lent (now longs) (now words) (now marks)) ⌝ }
     requires { ⌜ (wellFormed x ≡ true) × (maskOf x ≤ allOnes) × (waitRoom ≤ length (now events)) ⌝ }
     requires { ⌜ Enough s (lent (now longs) (now words) (now marks)) most ⌝ }
     ensures { λ r. ⌜ Settles s x most (lent (now (longs .entry)) (now (words .entry)) (now (marks .entry))) (now (events .entry)) r
@@ -82,7 +85,7 @@ fn wait_rounds(
     let mut round = 0;
     let mut out = 0;
     while round < most {
-        let made = turns::one_round(s, longs, words, marks, x, events, out);
+        let made = turns::one_round(s, at, longs, words, marks, x, events, out);
         round += 1;
         out = made.written;
         let told = made.told;
@@ -104,13 +107,14 @@ fn wait_rounds(
 // Behind the check of refusals 1, 2 and 3.
 fn wait_checked(
     s: Settings,
+    at: Layout,
     longs: &mut [u64],
     words: &mut [u32],
     marks: &mut [u8],
     x: Access,
     events: &mut [u8],
 ) -> Waited
-    requires { ⌜ Held s (lent (now longs) (now words) (now marks)) ⌝ }
+    requires { ⌜ Placed s at × Held s (lent (now longs) (now words) (now marks)) ⌝ }
     requires { ⌜ waitRoom ≤ length (now events) ⌝ }
     ensures { λ r. ⌜ WaitsHeld s x (lent (now (longs .entry)) (now (words .entry)) (now (marks .entry))) (now (events .entry)) r
         (now (events .exit)) (lent (now (longs .exit)) (now (words .exit)) (now (marks .exit))) ⌝ }
@@ -118,8 +122,8 @@ fn wait_checked(
     if !access::well_formed(x) {
         return turned_away(Refusal::BadAccess, events);
     }
-    let most = turns::most_rounds(s, longs, words, marks);
-    wait_rounds(s, longs, words, marks, x, events, most)
+    let most = turns::most_rounds(s, at, longs, words, marks);
+    wait_rounds(s, at, longs, words, marks, x, events, most)
 }
 
 // Offers an access, with a send and a fill before each offer, until it is accepted or no wait will help.
@@ -140,8 +144,8 @@ pub fn wait(
             written: 0,
         };
     }
-    match soundness::check(s, longs, words, marks) {
-        Verdict::Refused(n) => turned_away(n, events),
-        Verdict::Passed => wait_checked(s, longs, words, marks, x, events),
+    match cache::checked_layout(s, longs, words, marks) {
+        LaidVerdict::Refused(n) => turned_away(n, events),
+        LaidVerdict::Passed(at) => wait_checked(s, at, longs, words, marks, x, events),
     }
 }

@@ -1,5 +1,6 @@
 // The stream runner (document 01, "Records"), which asks nothing of its caller: `run` runs a stream from its settings on, `resume` goes on
 // from kept tables and settings with the next part. What they are made of stands in `running`.
+use layout::Layout;
 use model::Ran;
 use model::Settings;
 use model::Stop;
@@ -7,7 +8,14 @@ use running::Begun;
 ghost use mathlib.Core.Path.{_≡_};
 ghost use lib.ListN.{length};
 ghost use Rattle.model.specs.Lent.{lent};
-ghost use Rattle.model.specs.Runner.{run, keptStop, resume, Runs};
+ghost use Rattle.model.specs.Runner.{run, resume, Runs};
+ghost use Rattle.runner.specs.Keeps.{Keeps};
+
+// What the checks before a part that goes on come to: where each part of sound tables begins, or the stop.
+enum Going {
+    On(Layout),
+    Stopped(Stop),
+}
 
 // Runs a stream: its events, and the tables as the records run left them.
 pub fn run(
@@ -34,19 +42,20 @@ pub fn run(
 }
 
 // The checks before a part that goes on: 1, 2 and 3, once.
-fn kept_stop(s: Settings, longs: &[u64], words: &[u32], marks: &[u8]) -> Stop
-    ensures { λ r. ⌜ r ≡ keptStop s (lent (now (longs .entry)) (now (words .entry)) (now (marks .entry))) ⌝ }
+fn kept_going(s: Settings, longs: &[u64], words: &[u32], marks: &[u8]) -> Going
+    ensures { λ r. ⌜ Keeps s (lent (now (longs .entry)) (now (words .entry)) (now (marks .entry))) r ⌝ }
 {
     if !layout::in_range(s) {
-        return Stop::SettingOutOfRange;
+        return Going::Stopped(Stop::SettingOutOfRange);
     }
     if !layout::lengths_fit(s, longs, words, marks) {
-        return Stop::SliceLength;
+        return Going::Stopped(Stop::SliceLength);
     }
-    if !soundness::tables_sound(s, layout::laid_out(s), longs, words, marks) {
-        return Stop::NotSound;
+    let at = layout::laid_out(s);
+    if !soundness::tables_sound(s, at, longs, words, marks) {
+        return Going::Stopped(Stop::NotSound);
     }
-    Stop::Nothing
+    Going::On(at)
 }
 
 // Goes on from kept tables and settings with the next part of a stream: its events, and the tables as its records left them.
@@ -61,13 +70,12 @@ pub fn resume(
     ensures { λ r. ⌜ Runs (resume s (length (now (events .entry))) (now (stream .entry)) (lent (now (longs .entry)) (now (words .entry)) (now (marks .entry))))
         (now (events .entry)) r (now (events .exit)) (lent (now (longs .exit)) (now (words .exit)) (now (marks .exit))) ⌝ }
 {
-    let stop = kept_stop(s, longs, words, marks);
-    if !running::goes_on(stop) {
-        return Ran {
+    match kept_going(s, longs, words, marks) {
+        Going::Stopped(stop) => Ran {
             stop,
             consumed: 0,
             written: 0,
-        };
+        },
+        Going::On(at) => { running::run_records(s, at, stream, 0, events, 0, longs, words, marks) }
     }
-    running::go_on(s, stream, 0, events, 0, longs, words, marks)
 }

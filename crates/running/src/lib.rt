@@ -1,6 +1,8 @@
 // The inner layer of the stream runner (document 01, "Records"): the checks at a record, what a record does, the first record, and the
 // records behind it on tables that are known to be sound. `begin` and `go_on` are the two halves of a run, for a caller that holds the
-// tables between them; `first_there`, `first_record` and `lengths_for` tell such a caller when to begin, with what, and what to lend.
+// tables between them, and `run_records` is `go_on` with the caller's layout; `first_there`, `first_record` and `lengths_for` tell such a
+// caller when to begin, with what, and what to lend.
+use layout::Layout;
 use model::Access;
 use model::Command;
 use model::CommandRead;
@@ -18,6 +20,7 @@ ghost use Rattle.model.specs.Inner.{Held};
 ghost use Rattle.model.specs.Steps.{access};
 ghost use Rattle.model.specs.Records.{settingsIn};
 ghost use Rattle.model.specs.Runner.{roomStop, goesOn, stepOf, stepRead};
+ghost use Rattle.layout.specs.Layout.{Placed};
 ghost use Rattle.running.specs.Begin.{firstRecord, freshStop, Accepts, firstThere};
 ghost use Rattle.running.specs.Lengths.{noLengths, lengthsOf, lengthsAsked};
 ghost use Rattle.running.specs.Resume.{headStop, foundStop, laterFound, Stands, Noted, Notes, recordFrom, restFrom, Resumes};
@@ -119,6 +122,7 @@ fn later_stop(kind: u8, found: Record, room: usize) -> Stop
 // One access on sound tables, and its events behind `out` bytes.
 fn note_access(
     s: Settings,
+    at: Layout,
     longs: &mut [u64],
     words: &mut [u32],
     marks: &mut [u8],
@@ -126,11 +130,11 @@ fn note_access(
     events: &mut [u8],
     out: usize,
 ) -> usize
-    requires { ⌜ Held s (lent (now longs) (now words) (now marks)) ⌝ }
+    requires { ⌜ Placed s at × Held s (lent (now longs) (now words) (now marks)) ⌝ }
     ensures { λ r. ⌜ Noted s (access s x) (lent (now (longs .entry)) (now (words .entry)) (now (marks .entry))) (now (events .entry)) out r
         (now (events .exit)) (lent (now (longs .exit)) (now (words .exit)) (now (marks .exit))) ⌝ }
 {
-    let told = access::access_step(s, longs, words, marks, x);
+    let told = access::access_step(s, at, longs, words, marks, x);
     records::write_told(told, events, out)
 }
 
@@ -138,6 +142,7 @@ fn note_access(
 // through. Each arm writes what its own step tells, so that no such value, which is large, is copied to a common place.
 fn step_of(
     s: Settings,
+    at: Layout,
     longs: &mut [u64],
     words: &mut [u32],
     marks: &mut [u8],
@@ -145,7 +150,7 @@ fn step_of(
     events: &mut [u8],
     out: usize,
 ) -> usize
-    requires { ⌜ Held s (lent (now longs) (now words) (now marks)) ⌝ }
+    requires { ⌜ Placed s at × Held s (lent (now longs) (now words) (now marks)) ⌝ }
     ensures { λ r. ⌜ Notes s (stepOf s x) (lent (now (longs .entry)) (now (words .entry)) (now (marks .entry))) (now (events .entry)) out r
         (now (events .exit)) (lent (now (longs .exit)) (now (words .exit)) (now (marks .exit))) ⌝ }
 {
@@ -161,7 +166,7 @@ fn step_of(
                 mask: 0,
                 ticket,
             };
-            note_access(s, longs, words, marks, access, events, out)
+            note_access(s, at, longs, words, marks, access, events, out)
         }
         Command::Write { address, mask } => {
             let access = Access::Write {
@@ -169,11 +174,14 @@ fn step_of(
                 mask,
                 ticket: 0,
             };
-            note_access(s, longs, words, marks, access, events, out)
+            note_access(s, at, longs, words, marks, access, events, out)
         }
-        Command::Send => records::write_told(steps::send_step(s, longs, words, marks), events, out),
+        Command::Send => {
+            let told = steps::send_step(s, at, longs, words, marks);
+            records::write_told(told, events, out)
+        }
         Command::Fill(address) => {
-            let told = steps::fill_step(s, longs, words, marks, address);
+            let told = steps::fill_step(s, at, longs, words, marks, address);
             records::write_told(told, events, out)
         }
         Command::Tick(cycle) => {
@@ -186,6 +194,7 @@ fn step_of(
 // The same of a body that was read; one that is no command's is refused too.
 fn step_read(
     s: Settings,
+    at: Layout,
     longs: &mut [u64],
     words: &mut [u32],
     marks: &mut [u8],
@@ -193,12 +202,12 @@ fn step_read(
     events: &mut [u8],
     out: usize,
 ) -> usize
-    requires { ⌜ Held s (lent (now longs) (now words) (now marks)) ⌝ }
+    requires { ⌜ Placed s at × Held s (lent (now longs) (now words) (now marks)) ⌝ }
     ensures { λ r. ⌜ Notes s (stepRead s x) (lent (now (longs .entry)) (now (words .entry)) (now (marks .entry))) (now (events .entry)) out r
         (now (events .exit)) (lent (now (longs .exit)) (now (words .exit)) (now (marks .exit))) ⌝ }
 {
     match x {
-        CommandRead::Got(c) => step_of(s, longs, words, marks, c, events, out),
+        CommandRead::Got(c) => step_of(s, at, longs, words, marks, c, events, out),
         CommandRead::None => {
             records::write_told(tables::refused(Refusal::SettingOutOfRange), events, out)
         }
@@ -209,6 +218,7 @@ fn step_read(
 // speed: `next` hands back a struct with the record and the part, which goes through memory.
 fn run_one(
     s: Settings,
+    laid: Layout,
     stream: &[u8],
     at: usize,
     events: &mut [u8],
@@ -217,7 +227,7 @@ fn run_one(
     words: &mut [u32],
     marks: &mut [u8],
 ) -> Ran
-    requires { ⌜ Held s (lent (now longs) (now words) (now marks)) ⌝ }
+    requires { ⌜ Placed s laid × Held s (lent (now longs) (now words) (now marks)) ⌝ }
     requires { ⌜ Stands (now stream) at out (now events) ⌝ }
     requires { ⌜ at < length (now stream) ⌝ }
     ensures { λ r. ⌜ Resumes s (recordFrom s (now (stream .entry)) at out (now (events .entry)))
@@ -238,7 +248,7 @@ fn run_one(
     let start = at + 1;
     let next = reader::place_after(stream, at);
     let x = records::command_of(kind, &stream[start..next]);
-    let n = step_read(s, longs, words, marks, x, events, out);
+    let n = step_read(s, laid, longs, words, marks, x, events, out);
     Ran {
         stop: Stop::Nothing,
         consumed: next,
@@ -246,7 +256,45 @@ fn run_one(
     }
 }
 
-// The records from byte `start` on, at fixed settings and on sound tables; events go behind the first `first` bytes.
+// The records from byte `start` on, at fixed settings and on sound tables; events go behind the first `first` bytes. The layout is the
+// caller's, computed once for all of them.
+pub fn run_records(
+    s: Settings,
+    laid: Layout,
+    stream: &[u8],
+    start: usize,
+    events: &mut [u8],
+    first: usize,
+    longs: &mut [u64],
+    words: &mut [u32],
+    marks: &mut [u8],
+) -> Ran
+    requires { ⌜ Placed s laid × Held s (lent (now longs) (now words) (now marks)) ⌝ }
+    requires { ⌜ Stands (now stream) start first (now events) ⌝ }
+    ensures { λ r. ⌜ Resumes s (restFrom s (now (stream .entry)) start first (now (events .entry)))
+        (now (stream .entry)) start first (now (events .entry))
+        (lent (now (longs .entry)) (now (words .entry)) (now (marks .entry))) r
+        (now (events .exit)) (lent (now (longs .exit)) (now (words .exit)) (now (marks .exit))) ⌝ }
+{
+    let mut at = start;
+    let mut out = first;
+    while at < stream.len() {
+        let ran = run_one(s, laid, stream, at, events, out, longs, words, marks);
+        let stop = ran.stop;
+        if !goes_on(stop) {
+            return ran;
+        }
+        at = ran.consumed;
+        out = ran.written;
+    }
+    Ran {
+        stop: Stop::Nothing,
+        consumed: at,
+        written: out,
+    }
+}
+
+// The same for a caller that has no layout.
 pub fn go_on(
     s: Settings,
     stream: &[u8],
@@ -264,22 +312,8 @@ pub fn go_on(
         (lent (now (longs .entry)) (now (words .entry)) (now (marks .entry))) r
         (now (events .exit)) (lent (now (longs .exit)) (now (words .exit)) (now (marks .exit))) ⌝ }
 {
-    let mut at = start;
-    let mut out = first;
-    while at < stream.len() {
-        let ran = run_one(s, stream, at, events, out, longs, words, marks);
-        let stop = ran.stop;
-        if !goes_on(stop) {
-            return ran;
-        }
-        at = ran.consumed;
-        out = ran.written;
-    }
-    Ran {
-        stop: Stop::Nothing,
-        consumed: at,
-        written: out,
-    }
+    let laid = layout::laid_out(s);
+    run_records(s, laid, stream, start, events, first, longs, words, marks)
 }
 
 // The first record, read once; whoever begins a run is handed it.

@@ -43,12 +43,17 @@ fn mark_head(at: Layout, longs: &[u64], marks: &mut [u8], n: usize)
 }
 
 // Takes the queue head; a read marks its entry sent.
-pub fn send_step(s: Settings, longs: &mut [u64], words: &mut [u32], marks: &mut [u8]) -> Told
-    requires { ⌜ Held s (lent (now longs) (now words) (now marks)) ⌝ }
+pub fn send_step(
+    s: Settings,
+    at: Layout,
+    longs: &mut [u64],
+    words: &mut [u32],
+    marks: &mut [u8],
+) -> Told
+    requires { ⌜ Placed s at × Held s (lent (now longs) (now words) (now marks)) ⌝ }
     ensures { λ r. ⌜ Does s send (lent (now (longs .entry)) (now (words .entry)) (now (marks .entry))) r
         (lent (now (longs .exit)) (now (words .exit)) (now (marks .exit))) ⌝ }
 {
-    let at = layout::laid_out(s);
     let n = layout::used(marks, at.kinds, s.queue);
     if n == 0 {
         return tables::refused(Refusal::QueueEmpty);
@@ -157,16 +162,16 @@ fn release(at: Layout, words: &[u32], marks: &[u8], e: usize, readers: usize, ad
 // Of a sent sector address: its sector arrives, its entry goes, its tickets are released in order.
 pub fn fill_step(
     s: Settings,
+    at: Layout,
     longs: &mut [u64],
     words: &mut [u32],
     marks: &mut [u8],
     address: u64,
 ) -> Told
-    requires { ⌜ Held s (lent (now longs) (now words) (now marks)) ⌝ }
+    requires { ⌜ Placed s at × Held s (lent (now longs) (now words) (now marks)) ⌝ }
     ensures { λ r. ⌜ Does s (fill address) (lent (now (longs .entry)) (now (words .entry)) (now (marks .entry))) r
         (lent (now (longs .exit)) (now (words .exit)) (now (marks .exit))) ⌝ }
 {
-    let at = layout::laid_out(s);
     let n = layout::used(marks, at.counts, s.misses);
     let e = tables::find_entry(longs, at.misses, n, SectorAddress(address));
     if !is_sent(at, marks, e, n) {

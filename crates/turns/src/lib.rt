@@ -1,5 +1,6 @@
 // One round of demand 3 (document 01) over lent tables, and how many rounds settle an access: for callers that have checked the tables.
 // `rounds` has the calls that ask nothing.
+use layout::Layout;
 use model::Access;
 use model::Event;
 use model::Settings;
@@ -14,6 +15,7 @@ ghost use Rattle.model.specs.Lent.{lent};
 ghost use Rattle.model.specs.Calls.{eventsTold};
 ghost use Rattle.model.specs.Inner.{Held};
 ghost use Rattle.model.specs.Records.{logBytes, fillBytes, roundBytes};
+ghost use Rattle.layout.specs.Layout.{Placed};
 ghost use Rattle.turns.specs.Parts.{isRefusal, noted, Noted, FindsSent, Sends, Fills, Offers, Enough};
 
 // One round: what its offer told, and the bytes of events up to and with this round.
@@ -77,11 +79,10 @@ fn note(told: Told, events: &mut [u8], out: usize) -> usize
 }
 
 // The first entry marked sent, the oldest.
-pub fn first_sent(s: Settings, longs: &[u64], words: &[u32], marks: &[u8]) -> Sent
-    requires { ⌜ Held s (lent (now longs) (now words) (now marks)) ⌝ }
+pub fn first_sent(s: Settings, at: Layout, longs: &[u64], words: &[u32], marks: &[u8]) -> Sent
+    requires { ⌜ Placed s at × Held s (lent (now longs) (now words) (now marks)) ⌝ }
     ensures { λ r. ⌜ FindsSent s (lent (now (longs .entry)) (now (words .entry)) (now (marks .entry))) r ⌝ }
 {
-    let at = layout::laid_out(s);
     let n = layout::used(marks, at.counts, s.misses);
     let e = layout::find_mark(marks, at.sent, n, 1);
     if n <= e {
@@ -94,38 +95,40 @@ pub fn first_sent(s: Settings, longs: &[u64], words: &[u32], marks: &[u8]) -> Se
 // Sends the queue head, if there is one: with none, send is refused and nothing is written.
 fn send_turn(
     s: Settings,
+    at: Layout,
     longs: &mut [u64],
     words: &mut [u32],
     marks: &mut [u8],
     events: &mut [u8],
     out: usize,
 ) -> usize
-    requires { ⌜ Held s (lent (now longs) (now words) (now marks)) ⌝ }
+    requires { ⌜ Placed s at × Held s (lent (now longs) (now words) (now marks)) ⌝ }
     requires { ⌜ out + 25 ≤ length (now events) ⌝ }
     ensures { λ r. ⌜ Sends s (lent (now (longs .entry)) (now (words .entry)) (now (marks .entry))) (now (events .entry)) out r
         (now (events .exit)) (lent (now (longs .exit)) (now (words .exit)) (now (marks .exit))) ⌝ }
 {
-    let told = steps::send_step(s, longs, words, marks);
+    let told = steps::send_step(s, at, longs, words, marks);
     note(told, events, out)
 }
 
 // Fills the oldest sent miss, if there is one.
 fn fill_turn(
     s: Settings,
+    at: Layout,
     longs: &mut [u64],
     words: &mut [u32],
     marks: &mut [u8],
     events: &mut [u8],
     out: usize,
 ) -> usize
-    requires { ⌜ Held s (lent (now longs) (now words) (now marks)) ⌝ }
+    requires { ⌜ Placed s at × Held s (lent (now longs) (now words) (now marks)) ⌝ }
     requires { ⌜ out + fillBytes ≤ length (now events) ⌝ }
     ensures { λ r. ⌜ Fills s (lent (now (longs .entry)) (now (words .entry)) (now (marks .entry))) (now (events .entry)) out r
         (now (events .exit)) (lent (now (longs .exit)) (now (words .exit)) (now (marks .exit))) ⌝ }
 {
-    match first_sent(s, longs, words, marks) {
+    match first_sent(s, at, longs, words, marks) {
         Sent::At(address) => {
-            let told = steps::fill_step(s, longs, words, marks, address);
+            let told = steps::fill_step(s, at, longs, words, marks, address);
             note(told, events, out)
         }
         Sent::Nothing => out,
@@ -135,6 +138,7 @@ fn fill_turn(
 // One round: the send, the fill, the offer; the events of all but a refused offer go behind `out` bytes.
 pub fn one_round(
     s: Settings,
+    at: Layout,
     longs: &mut [u64],
     words: &mut [u32],
     marks: &mut [u8],
@@ -142,24 +146,23 @@ pub fn one_round(
     events: &mut [u8],
     out: usize,
 ) -> Round
-    requires { ⌜ Held s (lent (now longs) (now words) (now marks)) ⌝ }
+    requires { ⌜ Placed s at × Held s (lent (now longs) (now words) (now marks)) ⌝ }
     requires { ⌜ (out + roundBytes ≤ length (now events)) × (maskOf x ≤ allOnes) ⌝ }
     ensures { λ r. ⌜ Offers s x (lent (now (longs .entry)) (now (words .entry)) (now (marks .entry))) (now (events .entry)) out r
         (now (events .exit)) (lent (now (longs .exit)) (now (words .exit)) (now (marks .exit))) ⌝ }
 {
-    let sent = send_turn(s, longs, words, marks, events, out);
-    let filled = fill_turn(s, longs, words, marks, events, sent);
-    let told = access::access_step(s, longs, words, marks, x);
+    let sent = send_turn(s, at, longs, words, marks, events, out);
+    let filled = fill_turn(s, at, longs, words, marks, events, sent);
+    let told = access::access_step(s, at, longs, words, marks, x);
     let written = note(told, events, filled);
     Round { told, written }
 }
 
 // Queue entries and miss entries together, and at least 1.
-pub fn most_rounds(s: Settings, longs: &[u64], words: &[u32], marks: &[u8]) -> usize
-    requires { ⌜ Held s (lent (now longs) (now words) (now marks)) ⌝ }
+pub fn most_rounds(s: Settings, at: Layout, longs: &[u64], words: &[u32], marks: &[u8]) -> usize
+    requires { ⌜ Placed s at × Held s (lent (now longs) (now words) (now marks)) ⌝ }
     ensures { λ r. ⌜ Enough s (lent (now (longs .entry)) (now (words .entry)) (now (marks .entry))) r ⌝ }
 {
-    let at = layout::laid_out(s);
     let queued = layout::used(marks, at.kinds, s.queue);
     let missed = layout::used(marks, at.counts, s.misses);
     if queued + missed == 0 {

@@ -1,5 +1,6 @@
 // The rounds for an access, shown as they go; their end is what the call `rounds::wait` says.
 use crate::says;
+use layout::Layout;
 use model::Access;
 use model::Refusal;
 use model::Settings;
@@ -11,6 +12,7 @@ ghost use Rattle.model.specs.Address.{maskOf, wellFormed};
 ghost use Rattle.model.specs.Sound.{allOnes};
 ghost use Rattle.model.specs.Lent.{lent};
 ghost use Rattle.model.specs.Inner.{Held};
+ghost use Rattle.layout.specs.Layout.{Placed};
 ghost use Rattle.rounds.specs.Waiting.{waitCall};
 ghost use Rattle.turns.specs.Parts.{Enough};
 ghost use Rattle.wait.specs.Counts.{Counted};
@@ -27,11 +29,10 @@ struct Ended {
     shown: bool,
 }
 
-fn in_use(s: Settings, longs: &[u64], words: &[u32], marks: &[u8]) -> Counts
-    requires { ⌜ Held s (lent (now longs) (now words) (now marks)) ⌝ }
+fn in_use(s: Settings, at: Layout, longs: &[u64], words: &[u32], marks: &[u8]) -> Counts
+    requires { ⌜ Placed s at × Held s (lent (now longs) (now words) (now marks)) ⌝ }
     ensures { λ r. ⌜ Counted s (lent (now (longs .entry)) (now (words .entry)) (now (marks .entry))) r ⌝ }
 {
-    let at = layout::laid_out(s);
     let queued = layout::used(marks, at.kinds, s.queue);
     let missed = layout::used(marks, at.counts, s.misses);
     Counts { queued, missed }
@@ -40,6 +41,7 @@ fn in_use(s: Settings, longs: &[u64], words: &[u32], marks: &[u8]) -> Counts
 // The rounds, `most` of them at most; each is printed if all before it were.
 fn wait_rounds(
     s: Settings,
+    at: Layout,
     longs: &mut [u64],
     words: &mut [u32],
     marks: &mut [u8],
@@ -47,7 +49,7 @@ fn wait_rounds(
     most: usize,
     started: bool,
 ) -> Ended
-    requires { ⌜ Held s (lent (now longs) (now words) (now marks)) ⌝ }
+    requires { ⌜ Placed s at × Held s (lent (now longs) (now words) (now marks)) ⌝ }
     requires { ⌜ (wellFormed x ≡ true) × (maskOf x ≤ allOnes) ⌝ }
     requires { ⌜ Enough s (lent (now longs) (now words) (now marks)) most ⌝ }
     ensures { λ r. ⌜ r .waiting ≡ waitCall s x (lent (now (longs .entry)) (now (words .entry)) (now (marks .entry))) .waiting ⌝ }
@@ -58,7 +60,7 @@ fn wait_rounds(
     let mut out = 0;
     let mut shown = started;
     while round < most {
-        let made = turns::one_round(s, longs, words, marks, x, events, out);
+        let made = turns::one_round(s, at, longs, words, marks, x, events, out);
         round += 1;
         let told = made.told;
         shown = says::round(shown, round, text::part(events, out, made.written), told);
@@ -89,10 +91,11 @@ pub(crate) fn wait_for(
         says::malformed(x, place);
         return Waiting::Refused(Refusal::BadAccess);
     }
-    let n = in_use(s, longs, words, marks);
-    let most = turns::most_rounds(s, longs, words, marks);
+    let at = layout::laid_out(s);
+    let n = in_use(s, at, longs, words, marks);
+    let most = turns::most_rounds(s, at, longs, words, marks);
     let started = says::start(x, place, n, most);
-    let ended = wait_rounds(s, longs, words, marks, x, most, started);
+    let ended = wait_rounds(s, at, longs, words, marks, x, most, started);
     let waiting = ended.waiting;
     says::end(ended.shown, waiting, most);
     waiting

@@ -1,7 +1,8 @@
 -- Room for the events, refusals 1, 2 and 3, then the rounds.
 use native.Mathlib.Omega.{arith}
 use borrow.Author.Needs.{needs}
-use Rattle.rounds.proofs.Ends.{waits-no-room, waits-refused, passed-held, waits-passed}
+use Rattle.cache.proofs.Checked.{passed-laid}
+use Rattle.rounds.proofs.Ends.{waits-no-room, waits-refused, waits-passed}
 use Rattle.rounds.proofs.wait.Statement.{statement}
 use Rattle.rounds.proofs.wait.Tie as tie
 
@@ -10,23 +11,23 @@ returns c = waits-no-room _ _ _ _ (c .if1 .taken)
 
 wait-checked-requires : tie.Need-wait-checked-requires
 wait-checked-requires c κs =
-    let m = c .before .before .before .before in
+    let m = c .before .before .before .before .before in
     let k = m .before .before in
-    (passed-held _ _ (λ i. omega (arith, k .before .before .before .before .before .before .before .slice-known2 .given i)) (k .check .ensures) (m .enum-told .given .1), k .before .before .before .before .if1 .left)
+    (passed-laid _ _ (k .checked-layout .ensures) (λ i. omega (arith, k .before .before .before .before .before .before .before .slice-known2 .given i)) (m .at .given .1), k .before .before .before .before .if1 .left)
 
 returns-2 : tie.Need-returns-2
 returns-2 c =
     let t = c .before .before in
     let n = t .before .before .before in
     let k = n .before .before in
-    waits-refused _ _ _ _ (k .before .before .before .before .if1 .left) (k .check .ensures) (n .n .given .1) (t .turned-away .ensures)
+    waits-refused _ _ _ _ (k .before .before .before .before .if1 .left) (k .checked-layout .ensures) (n .n .given .1) (t .turned-away .ensures)
 
 returns-3 : tie.Need-returns-3
 returns-3 c =
     let w = c .before .before .before .before .before .before .before .before in
-    let m = w .before .before .before .before .before in
+    let m = w .before .before .before .before .before .before in
     let k = m .before .before in
-    waits-passed _ _ _ _ (k .before .before .before .before .if1 .left) (passed-held _ _ (λ i. omega (arith, k .before .before .before .before .before .before .before .slice-known2 .given i)) (k .check .ensures) (m .enum-told .given .1)) (w .wait-checked .ensures)
+    waits-passed _ _ _ _ (k .before .before .before .before .if1 .left) (passed-laid _ _ (k .checked-layout .ensures) (λ i. omega (arith, k .before .before .before .before .before .before .before .slice-known2 .given i)) (m .at .given .1) .1) (w .wait-checked .ensures)
 
 pub wait-spec : {M : Type 1} → statement M
 wait-spec =

@@ -10,11 +10,11 @@ use Rattle.rounds.proofs.wait_rounds.Statement.{statement}
 use Rattle.rounds.proofs.wait_rounds.Tie as tie
 
 abbrev Inv-loop : tie.InvT-loop
-Inv-loop s longs₀ words₀ marks₀ x events₀ most round₀ out₀ longs words marks events round out =
+Inv-loop s at longs₀ words₀ marks₀ x events₀ most round₀ out₀ longs words marks events round out =
     Goes s x most (lent longs₀ words₀ marks₀) events₀ round out (lent longs words marks) events
 
 abbrev μ-loop : tie.MeasureT-loop
-μ-loop s longs₀ words₀ marks₀ x events₀ most round₀ out₀ longs words marks events round out = most - round
+μ-loop s at longs₀ words₀ marks₀ x events₀ most round₀ out₀ longs words marks events round out = most - round
 
 one-round-requires : tie.Need-one-round-requires Inv-loop μ-loop
 one-round-requires c κs =
@@ -23,7 +23,7 @@ one-round-requires c κs =
     let p = l .before .before .before .before .before in
     let g = l .loop .inv in
     let room = p .pre .1 .0 .2 in
-    (goes-held g (p .pre .0), (omega (arith, g .short, g .few, g .size, p .pre .1 .1 .few, i .loop-test .taken, room), p .pre .1 .0 .1))
+    ((p .pre .0 .0, goes-held g (p .pre .0 .1)), (omega (arith, g .short, g .few, g .size, p .pre .1 .1 .few, i .loop-test .taken, room), p .pre .1 .0 .1))
 
 returns : tie.Need-returns Inv-loop μ-loop
 returns c =
@@ -40,12 +40,12 @@ loop-again c =
     let r = a .before .before .before .before .before .before .before .before .before .before in
     let i = r .before .before .before .before .before in
     let l = i .before in
-    let k = r .one-round .kept .1 in
+    let k = r .one-round .kept .1 .1 in
     goes-again (l .loop .inv) (i .loop-test .taken) (r .one-round .ensures) (no-not (sym (a .accepted .ensures) ∙ c .if1 .left))
     (k .1 .1 .1 .1 .0) (k .0) (k .1 .0) (k .1 .1 .0)
 
-add-t30 : tie.Need-add-t30 Inv-loop μ-loop
-add-t30 c =
+add-t31 : tie.Need-add-t31 Inv-loop μ-loop
+add-t31 c =
     let w = c .before .before in
     let t = w .before .before in
     let e = t .before in
@@ -72,16 +72,16 @@ wait-rounds-spec =
     one-round-requires
     (λ c. omega arith)
     (λ c κs. search needs)
-    (λ c. let r = c .before .before .before .before .before .before .before .before .before .before .before in let l = r .before .before .before .before .before .before in r .one-round .kept .1 .0 ∙ l .loop .inv .longs)
-    (λ c. let r = c .before .before .before .before .before .before .before .before .before .before .before in let l = r .before .before .before .before .before .before in r .one-round .kept .1 .1 .0 ∙ l .loop .inv .words)
-    (λ c. let r = c .before .before .before .before .before .before .before .before .before .before .before in let l = r .before .before .before .before .before .before in r .one-round .kept .1 .1 .1 .0 ∙ l .loop .inv .marks)
-    (λ c. let r = c .before .before .before .before .before .before .before .before .before .before .before in let l = r .before .before .before .before .before .before in r .one-round .kept .1 .1 .1 .1 .1 .0 ∙ l .loop .inv .size)
+    (λ c. let r = c .before .before .before .before .before .before .before .before .before .before .before in let l = r .before .before .before .before .before .before in r .one-round .kept .1 .1 .0 ∙ l .loop .inv .longs)
+    (λ c. let r = c .before .before .before .before .before .before .before .before .before .before .before in let l = r .before .before .before .before .before .before in r .one-round .kept .1 .1 .1 .0 ∙ l .loop .inv .words)
+    (λ c. let r = c .before .before .before .before .before .before .before .before .before .before .before in let l = r .before .before .before .before .before .before in r .one-round .kept .1 .1 .1 .1 .0 ∙ l .loop .inv .marks)
+    (λ c. let r = c .before .before .before .before .before .before .before .before .before .before .before in let l = r .before .before .before .before .before .before in r .one-round .kept .1 .1 .1 .1 .1 .1 .0 ∙ l .loop .inv .size)
     returns
     (λ c. omega (arith, c .before .before .before .before .before .before .before .before .before .before .before .before .before .before .before .before .loop-test .taken))
     loop-again
     (λ c κs. search needs)
     (λ c κs. search needs)
-    add-t30
+    add-t31
     (λ c. c .before .before .before .before .before .before .loop .inv .longs)
     (λ c. c .before .before .before .before .before .before .loop .inv .words)
     (λ c. c .before .before .before .before .before .before .loop .inv .marks)

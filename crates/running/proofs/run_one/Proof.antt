@@ -22,7 +22,7 @@ returns-2 c =
     single-runs (a .s) (a .stream .now) (a .at) (a .out) (a .events .now) _ (p .pre .1 .0)
     (found-later (a .stream .now) (a .at) (p .pre .1 .1) (f .record-at .ensures) _ (l .later-stop .ensures)) z
     (found-next (a .stream .now) (a .at) (p .pre .1 .1) (f .record-at .ensures) _ _ (l .later-stop .ensures) z (n .place-after .ensures))
-    (x .command-of .ensures) (r .step-read .ensures) (p .pre .0) (p .pre .1 .1) (r .step-read .kept .1 .1 .1 .1 .1 .0)
+    (x .command-of .ensures) (r .step-read .ensures) (p .pre .0 .1) (p .pre .1 .1) (r .step-read .kept .1 .1 .1 .1 .1 .1 .0)
 
 sub-command-of : tie.Need-sub-command-of
 sub-command-of c =
@@ -79,8 +79,8 @@ run-one-spec =
     let r = c .before .before .before .before .before .before .before .before in
     let p = r .before .before .before .before .before .before .before .before .before .before .before .before .before .before .before .before .before .before in
     let n = returns-2 c .stands .room in
-    let k = r .step-read .kept .1 .1 .1 .1 .1 .0 in
-    let b = p .good .1 .1 .1 .0 .0 in
+    let k = r .step-read .kept .1 .1 .1 .1 .1 .1 .0 in
+    let b = p .good .1 .1 .1 .1 .0 .0 in
     omega arith)
     (λ c. search needs)
     (λ c. search needs)

@@ -13,19 +13,16 @@ pub fill-step-spec : {M : Type 1} → statement M
 fill-step-spec =
     tie.close
     (tie.spec
-    (λ c κs. search needs)  -- laid-out-requires
     (λ c κs.
-    let start = c .before .before .before .before .before in
-    let i = start .pre .are in let z = stands-fit (i .range) (is-stands i) in let p = c .before .laid-out .ensures in omega arith)  -- used-requires
+    let start = c .before .before .before .before in
+    let i = start .pre .1 .are in let z = stands-fit (i .range) (is-stands i) in let p = start .pre .0 in omega arith)  -- used-requires
     (λ c κs.
-    let laid = c .before .before .before in
-    let start = laid .before .before .before .before in
-    let i = start .pre .are in let z = stands-fit (i .range) (is-stands i) in let p = laid .laid-out .ensures in let u = c .before .used .ensures .most in omega arith)  -- find-entry-requires
+    let start = c .before .before .before .before .before .before in
+    let i = start .pre .1 .are in let z = stands-fit (i .range) (is-stands i) in let p = start .pre .0 in let u = c .before .used .ensures .most in omega arith)  -- find-entry-requires
     (λ c κs.
     let used = c .before .before .before in
-    let laid = used .before .before in
-    let start = laid .before .before .before .before in
-    let i = start .pre .are in let z = stands-fit (i .range) (is-stands i) in let p = laid .laid-out .ensures in let u = used .used .ensures .most in omega arith)  -- is-sent-requires
+    let start = used .before .before .before .before .before in
+    let i = start .pre .1 .are in let z = stands-fit (i .range) (is-stands i) in let p = start .pre .0 in let u = used .used .ensures .most in omega arith)  -- is-sent-requires
     (λ c κs. search needs)  -- refused-requires
     (λ c. search needs)  -- same-length
     (λ c. search needs)  -- same-length-2
@@ -33,16 +30,15 @@ fill-step-spec =
     let sent = c .before .before in
     let found = sent .before .before in
     let used = found .before .before in
-    let laid = used .before .before in
-    record { on = λ t i. fill-refused _ _ t i (laid .laid-out .ensures) (used .used .ensures) (found .find-entry .ensures) (sent .is-sent .ensures) (c .before .if1 .taken) (c .refused .ensures) })  -- returns
+    let start = used .before .before .before .before .before in
+    record { on = λ t i. fill-refused _ _ t i (start .pre .0) (used .used .ensures) (found .find-entry .ensures) (sent .is-sent .ensures) (c .before .if1 .taken) (c .refused .ensures) })  -- returns
     (λ c κs.
     let test = c .before .before in
     let sent = test .before in
     let found = sent .before .before in
     let used = found .before .before in
-    let laid = used .before .before in
-    let start = laid .before .before .before .before in
-    let i = start .pre .are in let z = stands-fit (i .range) (is-stands i) in let p = laid .laid-out .ensures in let u = used .used .ensures in let f = found .find-entry in
+    let start = used .before .before .before .before .before in
+    let i = start .pre .1 .are in let z = stands-fit (i .range) (is-stands i) in let p = start .pre .0 in let u = used .used .ensures in let f = found .find-entry in
     let k = fill-inside _ _ _ i p u (f .ensures) (sent .is-sent .ensures) (test .if1 .left) in let m = fill-count _ _ _ i p u (f .ensures) (sent .is-sent .ensures) (test .if1 .left) in
     let s = stride (start .args .s .readers) (start .args .s .misses) (f .result) (omega arith) in (omega arith, omega arith, omega arith))  -- release-requires
     (λ c κs.
@@ -50,12 +46,11 @@ fill-step-spec =
     let sent = test .before in
     let found = sent .before .before in
     let used = found .before .before in
-    let laid = used .before .before in
-    let start = laid .before .before .before .before in
-    let i = start .pre .are in let z = stands-fit (i .range) (is-stands i) in let p = laid .laid-out .ensures in
+    let start = used .before .before .before .before .before in
+    let i = start .pre .1 .are in let z = stands-fit (i .range) (is-stands i) in let p = start .pre .0 in
     (z, (p, (fill-holding _ _ _ i p (used .used .ensures) (found .find-entry .ensures) (sent .is-sent .ensures) (test .if1 .left) (z .ways), λ l b. count-fits _ _ (parts _ _ (i .soundly)) (is-stands i) p l b (z .lines)))))  -- fill-line-requires
-    (λ c κs. let i = c .before .before .before .before .before .before .before .before .before .before .before .before .before .before .before .before .before .before .before .before .before .before .before .before .before .pre .are in let z = stands-fit (i .range) (is-stands i) in let p = c .before .before .before .before .before .before .before .before .before .before .before .before .before .before .before .before .before .before .before .before .before .laid-out .ensures in let u = c .before .before .before .before .before .before .before .before .before .before .before .before .before .before .before .before .before .before .before .used .ensures in let f = c .before .before .before .before .before .before .before .before .before .before .before .before .before .before .before .before .before .find-entry .ensures in
-    let k = fill-inside _ _ _ i p u f (c .before .before .before .before .before .before .before .before .before .before .before .before .before .before .before .is-sent .ensures) (c .before .before .before .before .before .before .before .before .before .before .before .before .before .before .if1 .left) in let m = mul-le-mul-left (c .before .before .before .before .before .before .before .before .before .before .before .before .before .before .before .before .before .before .before .before .before .before .before .before .before .args .s .readers) (u .most) in (k, omega arith, omega arith, omega arith, omega arith))  -- remove-requires
+    (λ c κs. let start = c .before .before .before .before .before .before .before .before .before .before .before .before .before .before .before .before .before .before .before .before .before .before .before .before in let i = start .pre .1 .are in let z = stands-fit (i .range) (is-stands i) in let p = start .pre .0 in let u = c .before .before .before .before .before .before .before .before .before .before .before .before .before .before .before .before .before .before .before .used .ensures in let f = c .before .before .before .before .before .before .before .before .before .before .before .before .before .before .before .before .before .find-entry .ensures in
+    let k = fill-inside _ _ _ i p u f (c .before .before .before .before .before .before .before .before .before .before .before .before .before .before .before .is-sent .ensures) (c .before .before .before .before .before .before .before .before .before .before .before .before .before .before .if1 .left) in let m = mul-le-mul-left (start .args .s .readers) (u .most) in (k, omega arith, omega arith, omega arith, omega arith))  -- remove-requires
     (λ c. search needs)  -- same-length-3
     (λ c. search needs)  -- same-length-4
     (λ c. search needs)  -- same-length-5
@@ -67,9 +62,8 @@ fill-step-spec =
     let sent = test .before in
     let found = sent .before .before in
     let used = found .before .before in
-    let laid = used .before .before in
-    let start = laid .before .before .before .before in
-    let z = stands-fit (start .pre .are .range) (is-stands (start .pre .are)) in record {
-      on = λ t i. fill-leaves _ _ t i (laid .laid-out .ensures) (used .used .ensures) (found .find-entry .ensures) (sent .is-sent .ensures) (test .if1 .left) (z .readers)
+    let start = used .before .before .before .before .before in
+    let z = stands-fit (start .pre .1 .are .range) (is-stands (start .pre .1 .are)) in record {
+      on = λ t i. fill-leaves _ _ t i (start .pre .0) (used .used .ensures) (found .find-entry .ensures) (sent .is-sent .ensures) (test .if1 .left) (z .readers)
           (told .release .ensures) (filled .fill-line .ensures) (removed .remove .ensures);
     }))  -- returns-2

@@ -10,27 +10,24 @@ pub send-step-spec : {M : Type 1} → statement M
 send-step-spec =
     tie.close
     (tie.spec
-    (λ c κs. search needs)  -- laid-out-requires
     (λ c κs.
-    let start = c .before .before .before .before .before in
-    let i = start .pre .are in let z = stands-fit (i .range) (is-stands i) in let p = c .before .laid-out .ensures in omega arith)  -- used-requires
+    let start = c .before .before .before .before in
+    let i = start .pre .1 .are in let z = stands-fit (i .range) (is-stands i) in let p = start .pre .0 in omega arith)  -- used-requires
     (λ c κs. search needs)  -- refused-requires
     (λ c. search needs)  -- same-length
     (λ c.
     let used = c .before .before in
-    let laid = used .before .before in
-    record { on = λ t i. send-empty _ t i (laid .laid-out .ensures) (used .used .ensures) (c .before .if1 .taken) (c .refused .ensures) })  -- returns
+    let start = used .before .before .before .before .before in
+    record { on = λ t i. send-empty _ t i (start .pre .0) (used .used .ensures) (c .before .if1 .taken) (c .refused .ensures) })  -- returns
     (λ c κs.
-    let laid = c .before .before .before .before .before .before in
-    let start = laid .before .before .before .before in
-    let i = start .pre .are in let z = stands-fit (i .range) (is-stands i) in let p = laid .laid-out .ensures in (omega arith, omega arith, omega arith))  -- front-requires
+    let start = c .before .before .before .before .before .before .before .before .before in
+    let i = start .pre .1 .are in let z = stands-fit (i .range) (is-stands i) in let p = start .pre .0 in (omega arith, omega arith, omega arith))  -- front-requires
     (λ c κs.
     let test = c .before .before .before .before .before .before in
     let used = test .before in
-    let laid = used .before .before in
-    let start = laid .before .before .before .before in
-    let i = start .pre .are in let z = stands-fit (i .range) (is-stands i) in let p = laid .laid-out .ensures in ((omega arith, omega arith, omega arith, omega arith), send-asked _ _ i p (used .used .ensures) (test .if1 .left)))  -- mark-head-requires
-    (λ c κs. let i = c .before .before .before .before .before .before .before .before .before .before .before .before .before .before .before .before .before .before .before .pre .are in let z = stands-fit (i .range) (is-stands i) in let p = c .before .before .before .before .before .before .before .before .before .before .before .before .before .before .before .laid-out .ensures in let u = c .before .before .before .before .before .before .before .before .before .before .before .before .before .used .ensures .most in (omega arith, omega arith, omega arith, omega arith))  -- pop-requires
+    let start = used .before .before .before .before .before in
+    let i = start .pre .1 .are in let z = stands-fit (i .range) (is-stands i) in let p = start .pre .0 in ((omega arith, omega arith, omega arith, omega arith), send-asked _ _ i p (used .used .ensures) (test .if1 .left)))  -- mark-head-requires
+    (λ c κs. let i = c .before .before .before .before .before .before .before .before .before .before .before .before .before .before .before .before .before .before .pre .1 .are in let z = stands-fit (i .range) (is-stands i) in let p = c .before .before .before .before .before .before .before .before .before .before .before .before .before .before .before .before .before .before .pre .0 in let u = c .before .before .before .before .before .before .before .before .before .before .before .before .before .used .ensures .most in (omega arith, omega arith, omega arith, omega arith))  -- pop-requires
     (λ c κs. search needs)  -- sent-event-requires
     (λ c κs. search needs)  -- blank-requires
     (λ c. search needs)  -- same-length-2
@@ -43,5 +40,5 @@ send-step-spec =
     let head = marked .before .before .before in
     let test = head .before .before .before .before in
     let used = test .before in
-    let laid = used .before .before in
-    record { on = λ t i. send-leaves _ t i (laid .laid-out .ensures) (used .used .ensures) (test .if1 .left) (marked .mark-head .ensures) (popped .pop .ensures) (head .front .ensures) (event .sent-event .ensures) (c .blank .ensures) }))  -- returns-2
+    let start = used .before .before .before .before .before in
+    record { on = λ t i. send-leaves _ t i (start .pre .0) (used .used .ensures) (test .if1 .left) (marked .mark-head .ensures) (popped .pop .ensures) (head .front .ensures) (event .sent-event .ensures) (c .blank .ensures) }))  -- returns-2

@@ -11,7 +11,7 @@ note-requires c κs =
     let m = f .before .before .before .before .before in
     let s = m .before .before in
     let p = s .before .before .before .before .before .before .before .before in
-    omega (arith, fill-bytes _ (s .first-sent .ensures) (m .address .given .1) (f .fill-step .ensures) (p .pre .0), p .pre .1)
+    omega (arith, fill-bytes _ (s .first-sent .ensures) (m .address .given .1) (f .fill-step .ensures) (p .pre .0 .1), p .pre .1)
 
 returns : tie.Need-returns
 returns c =
@@ -20,7 +20,7 @@ returns c =
     let m = f .before .before .before .before .before in
     let s = m .before .before in
     let p = s .before .before .before .before .before .before .before .before in
-    fills-sent _ (s .first-sent .ensures) (m .address .given .1) (f .fill-step .ensures) (p .pre .0) (n .note .ensures)
+    fills-sent _ (s .first-sent .ensures) (m .address .given .1) (f .fill-step .ensures) (p .pre .0 .1) (n .note .ensures)
 
 returns-2 : tie.Need-returns-2
 returns-2 c = fills-none _ (c .before .before .first-sent .ensures) (c .enum-told .given .1) _ _

@@ -10,23 +10,22 @@ pub first-sent-spec : {M : Type 1} → statement M
 first-sent-spec =
     tie.close
     (tie.spec
-    (λ c κs. search needs)
-    (λ c κs. let i = c .before .before .before .before .pre .are in let z = stands-fit (i .range) (is-stands i) in let p = c .laid-out .ensures in omega arith)
-    (λ c κs. let i = c .before .before .before .before .before .pre .are in let z = stands-fit (i .range) (is-stands i) in let p = c .before .laid-out .ensures in let u = c .used .ensures .most in omega arith)
-    (λ c. record { on = λ t i. found-none _ t i (c .before .before .before .laid-out .ensures) (c .before .before .used .ensures) (c .before .find-mark .ensures) (c .if1 .taken) })
+    (λ c κs. let i = c .before .before .before .pre .1 .are in let z = stands-fit (i .range) (is-stands i) in let p = c .before .before .before .pre .0 in omega arith)
+    (λ c κs. let i = c .before .before .before .before .pre .1 .are in let z = stands-fit (i .range) (is-stands i) in let p = c .before .before .before .before .pre .0 in let u = c .used .ensures .most in omega arith)
+    (λ c. record { on = λ t i. found-none _ t i (c .before .before .before .before .before .before .pre .0) (c .before .before .used .ensures) (c .before .find-mark .ensures) (c .if1 .taken) })
     (λ c. search needs)
     (λ c.
-    let i = c .before .before .before .before .before .before .before .before .pre .are in
+    let i = c .before .before .before .before .before .before .before .pre .1 .are in
     let z = stands-fit (i .range) (is-stands i) in
-    let p = c .before .before .before .before .laid-out .ensures in
+    let p = c .before .before .before .before .before .before .before .pre .0 in
     let u = c .before .before .before .used .ensures .most in
     let e = c .before .if1 .left in
     omega arith)
     (λ c.
-    let i = c .before .before .before .before .before .before .before .before .before .pre .are in
+    let i = c .before .before .before .before .before .before .before .before .pre .1 .are in
     let z = stands-fit (i .range) (is-stands i) in
-    let p = c .before .before .before .before .before .laid-out .ensures in
+    let p = c .before .before .before .before .before .before .before .before .pre .0 in
     let u = c .before .before .before .before .used .ensures .most in
     let e = c .before .before .if1 .left in
     omega arith)
-    (λ c. record { on = λ t i. found-sent _ t i (c .before .before .before .before .before .laid-out .ensures) (c .before .before .before .before .used .ensures) (c .before .before .before .find-mark .ensures) (c .before .before .if1 .left) }))
+    (λ c. record { on = λ t i. found-sent _ t i (c .before .before .before .before .before .before .before .before .pre .0) (c .before .before .before .before .used .ensures) (c .before .before .before .find-mark .ensures) (c .before .before .if1 .left) }))

@@ -10,14 +10,14 @@ fill-turn-requires : tie.Need-fill-turn-requires
 fill-turn-requires c κs =
     let s = c .before .before .before .before .before .before .before .before .before .before .before .before in
     let p = s .before .before .before .before .before .before .before .before .before in
-    (sends-held _ (p .args .x) (s .send-turn .ensures) (p .pre .0), omega (arith, s .send-turn .ensures .short, s .send-turn .kept .1 .1 .1 .1 .0, p .pre .1 .0))
+    ((p .pre .0 .0, sends-held _ (p .args .x) (s .send-turn .ensures) (p .pre .0 .1)), omega (arith, s .send-turn .ensures .short, s .send-turn .kept .1 .1 .1 .1 .1 .0, p .pre .1 .0))
 
 access-step-requires : tie.Need-access-step-requires
 access-step-requires c κs =
     let f = c .before .before .before .before .before .before .before .before .before .before .before in
     let s = f .before .before .before .before .before .before .before .before .before .before .before .before .before in
     let p = s .before .before .before .before .before .before .before .before .before in
-    drained-held _ (p .args .x) (s .send-turn .ensures) (f .fill-turn .ensures) (p .pre .0)
+    (p .pre .0 .0, drained-held _ (p .args .x) (s .send-turn .ensures) (f .fill-turn .ensures) (p .pre .0 .1))
 
 note-requires : tie.Need-note-requires
 note-requires c κs =
@@ -25,18 +25,18 @@ note-requires c κs =
     let f = a .before .before .before .before .before .before .before .before .before .before .before .before in
     let s = f .before .before .before .before .before .before .before .before .before .before .before .before .before in
     let p = s .before .before .before .before .before .before .before .before .before in
-    let h = drained-held _ (p .args .x) (s .send-turn .ensures) (f .fill-turn .ensures) (p .pre .0) in
+    let h = drained-held _ (p .args .x) (s .send-turn .ensures) (f .fill-turn .ensures) (p .pre .0 .1) in
     let b = offer-bytes _ (p .args .x) (s .send-turn .ensures) (f .fill-turn .ensures) (a .access-step .ensures) h in
-    omega (arith, b, s .send-turn .ensures .short, f .fill-turn .ensures .short, s .send-turn .kept .1 .1 .1 .1 .0, f .fill-turn .kept .1 .1 .1 .1 .0, p .pre .1 .0)
+    omega (arith, b, s .send-turn .ensures .short, f .fill-turn .ensures .short, s .send-turn .kept .1 .1 .1 .1 .1 .0, f .fill-turn .kept .1 .1 .1 .1 .1 .0, p .pre .1 .0)
 
 same-length : tie.Need-same-length
-same-length c = let a = c .before .before .before .before .before .before .before .before .before .before in let f = a .before .before .before .before .before .before .before .before .before .before .before .before in let s = f .before .before .before .before .before .before .before .before .before .before .before .before .before in a .access-step .kept .1 .0 ∙ f .fill-turn .kept .1 .0 ∙ s .send-turn .kept .1 .0
+same-length c = let a = c .before .before .before .before .before .before .before .before .before .before in let f = a .before .before .before .before .before .before .before .before .before .before .before .before in let s = f .before .before .before .before .before .before .before .before .before .before .before .before .before in a .access-step .kept .1 .1 .0 ∙ f .fill-turn .kept .1 .1 .0 ∙ s .send-turn .kept .1 .1 .0
 
 same-length-2 : tie.Need-same-length-2
-same-length-2 c = let a = c .before .before .before .before .before .before .before .before .before .before in let f = a .before .before .before .before .before .before .before .before .before .before .before .before in let s = f .before .before .before .before .before .before .before .before .before .before .before .before .before in a .access-step .kept .1 .1 .0 ∙ f .fill-turn .kept .1 .1 .0 ∙ s .send-turn .kept .1 .1 .0
+same-length-2 c = let a = c .before .before .before .before .before .before .before .before .before .before in let f = a .before .before .before .before .before .before .before .before .before .before .before .before in let s = f .before .before .before .before .before .before .before .before .before .before .before .before .before in a .access-step .kept .1 .1 .1 .0 ∙ f .fill-turn .kept .1 .1 .1 .0 ∙ s .send-turn .kept .1 .1 .1 .0
 
 same-length-3 : tie.Need-same-length-3
-same-length-3 c = let a = c .before .before .before .before .before .before .before .before .before .before in let f = a .before .before .before .before .before .before .before .before .before .before .before .before in let s = f .before .before .before .before .before .before .before .before .before .before .before .before .before in a .access-step .kept .1 .1 .1 .0 ∙ f .fill-turn .kept .1 .1 .1 .0 ∙ s .send-turn .kept .1 .1 .1 .0
+same-length-3 c = let a = c .before .before .before .before .before .before .before .before .before .before in let f = a .before .before .before .before .before .before .before .before .before .before .before .before in let s = f .before .before .before .before .before .before .before .before .before .before .before .before .before in a .access-step .kept .1 .1 .1 .1 .0 ∙ f .fill-turn .kept .1 .1 .1 .1 .0 ∙ s .send-turn .kept .1 .1 .1 .1 .0
 
 returns : tie.Need-returns
 returns c =
@@ -45,7 +45,7 @@ returns c =
     let f = a .before .before .before .before .before .before .before .before .before .before .before .before in
     let s = f .before .before .before .before .before .before .before .before .before .before .before .before .before in
     let p = s .before .before .before .before .before .before .before .before .before in
-    offers _ (p .args .x) (s .send-turn .ensures) (f .fill-turn .ensures) (a .access-step .ensures) (p .pre .0) (p .pre .1 .1) (n .note .ensures)
+    offers _ (p .args .x) (s .send-turn .ensures) (f .fill-turn .ensures) (a .access-step .ensures) (p .pre .0 .1) (p .pre .1 .1) (n .note .ensures)
 
 pub one-round-spec : {M : Type 1} → statement M
 one-round-spec =

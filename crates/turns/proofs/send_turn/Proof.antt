@@ -10,9 +10,9 @@ send-turn-spec =
     tie.close
     (tie.spec
     (λ c κs. search needs)
-    (λ c κs. let s = c .before .before .before .before .before .before .before in let p = s .before .before .before .before .before .before .before .before in omega (arith, send-bytes _ (s .send-step .ensures) (p .pre .0), p .pre .1))
+    (λ c κs. let s = c .before .before .before .before .before .before .before in let p = s .before .before .before .before .before .before .before .before in omega (arith, send-bytes _ (s .send-step .ensures) (p .pre .0 .1), p .pre .1))
     (λ c. search needs)
     (λ c. search needs)
     (λ c. search needs)
     (λ c. search needs)
-    (λ c. let n = c .before .before in let s = n .before .before .before .before .before .before .before .before in let p = s .before .before .before .before .before .before .before .before in sends _ (s .send-step .ensures) (p .pre .0) (n .note .ensures)))
+    (λ c. let n = c .before .before in let s = n .before .before .before .before .before .before .before .before in let p = s .before .before .before .before .before .before .before .before in sends _ (s .send-step .ensures) (p .pre .0 .1) (n .note .ensures)))

@@ -16,7 +16,7 @@ here c = let a = c .before .before .before .before .before .args in c .set-index
 inside : (c : tie.After-set-index) → let a = c .before .before .before .before .before .args in a .at .trees + c .set-index .result < length (a .words .now)
 inside c = rw (here c) (c .before .before .before .before .before .pre .0)
 
-small : (c : tie.After-set-index) → let a = c .before .before .before .before .before .args in a .at .trees + c .set-index .result < 8192
+small : (c : tie.After-set-index) → let a = c .before .before .before .before .before .args in a .at .trees + c .set-index .result < 65536
 small c = omega (arith, inside c, c .before .before .before .before .before .pre .1)
 
 pub turn-tree-spec : {M : Type 1} → statement M

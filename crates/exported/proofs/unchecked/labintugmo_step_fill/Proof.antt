@@ -12,7 +12,8 @@ labintugmo-step-fill-spec =
     (tie.spec
     (λ c. step-unmade _ _ _ _ (c .before .before .before .before .before .before .pre) (c .if1 .taken))  -- returns
     (λ c κs. search needs)  -- settings-from-requires
-    (λ c κs. let s = c .before .before .before in rw (s .settings-from .ensures) (s .before .before .before .before .before .before .before .pre))  -- fill-step-requires
+    (λ c κs. rw (c .settings-from .ensures) (c .before .before .before .before .before .before .before .pre .are .range))  -- laid-out-requires
+    (λ c κs. let l = c .before .before .before in let s = l .before in (l .laid-out .ensures, rw (s .settings-from .ensures) (s .before .before .before .before .before .before .before .pre)))  -- fill-step-requires
     (λ c κs. search needs)  -- write-told-requires
     (λ c. search needs)  -- same-length
     (λ c. search needs)  -- same-length-2
@@ -21,6 +22,6 @@ labintugmo-step-fill-spec =
     (λ c.
     let told = c .before .before in
     let done = told .before .before .before .before .before .before .before .before in
-    let s = done .before .before .before .before in
+    let s = done .before .before .before .before .before in
     let a = s .before .before .before .before .before .before .before in
     step-made _ (cmd.Fill (a .args .address)) _ _ _ (omega arith) (a .pre) (s .before .if1 .left) (rw (s .settings-from .ensures) at (done .fill-step .ensures)) (told .write-told .ensures .0)))  -- returns-2

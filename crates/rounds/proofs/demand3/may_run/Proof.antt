@@ -8,21 +8,21 @@ use Rattle.rounds.proofs.demand3.may_run.Tie as tie
 
 returns : tie.Need-returns
 returns c =
-    start-refused _ _ _ (c .before .before .before .check .ensures) (c .before .n .given .1)
+    start-refused _ _ _ (c .before .before .before .checked-layout .ensures) (c .before .n .given .1)
 
 returns-2 : tie.Need-returns-2
 returns-2 c =
     let w = c .before in
-    let e = w .before in
+    let e = w .before .before in
     let k = e .before .before in
-    start-passed _ _ _ (k .check .ensures) (e .enum-told .given .1) (λ i. omega (arith, k .before .before .shared-slice-known2 .given i)) (sym (w .well-formed .ensures .0) ∙ c .if1 .taken) (w .well-formed .ensures .1)
+    start-passed _ _ _ (k .checked-layout .ensures) (e .at .given .1) (λ i. omega (arith, k .before .before .shared-slice-known2 .given i)) (sym (w .well-formed .ensures .0) ∙ c .if1 .taken) (w .well-formed .ensures .1)
 
 returns-3 : tie.Need-returns-3
 returns-3 c =
     let w = c .before in
-    let e = w .before in
+    let e = w .before .before in
     let k = e .before .before in
-    start-malformed _ _ _ (k .check .ensures) (e .enum-told .given .1) (sym (w .well-formed .ensures .0) ∙ c .if1 .left)
+    start-malformed _ _ _ (k .checked-layout .ensures) (e .at .given .1) (sym (w .well-formed .ensures .0) ∙ c .if1 .left)
 
 pub may-run-spec : {M : Type 1} → statement M
 may-run-spec =

@@ -8,15 +8,15 @@ use Rattle.rounds.proofs.demand3.run_struck.Tie as tie
 -- too few bytes
 returns : tie.Need-returns
 returns c =
-    let t = c .before in
-    few-struck (t .before .before .may-run .ensures) _ _ (t .enum-told .given .1) (c .if1 .taken)
+    let t = c .before .before in
+    few-struck (t .before .before .may-run .ensures) _ _ (t .at .given .1) (c .if1 .taken)
 
 struck-on-requires : tie.Need-struck-on-requires
 struck-on-requires c κs =
     let i = c .before .before .before .before in
-    let t = i .before in
+    let t = i .before .before in
     let m = t .before .before .may-run .ensures in
-    (m .held (t .enum-told .given .1), (omega (arith, i .if1 .left), m .small (t .enum-told .given .1)))
+    (m .ready _ (t .at .given .1), (omega (arith, i .if1 .left), m .small _ (t .at .given .1)))
 
 -- refused
 returns-2 : tie.Need-returns-2
@@ -26,8 +26,8 @@ returns-3 : tie.Need-returns-3
 returns-3 c =
     let r = c .before .before .before .before .before .before .before .before in
     let i = r .before .before .before .before .before in
-    let t = i .before in
-    struck-ran (t .before .before .may-run .ensures) _ _ (t .enum-told .given .1) (i .if1 .left) (r .struck-on .ensures)
+    let t = i .before .before in
+    struck-ran (t .before .before .may-run .ensures) _ _ (t .at .given .1) (i .if1 .left) (r .struck-on .ensures)
 
 pub run-struck-spec : {M : Type 1} → statement M
 run-struck-spec =

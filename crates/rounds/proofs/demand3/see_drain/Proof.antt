@@ -9,7 +9,7 @@ see-fill-requires : tie.Need-see-fill-requires
 see-fill-requires c κs =
     let s = c .before .before .before .before .before .before .before .before .before .before .before .before in
     let p = s .before .before .before .before .before .before .before .before .before in
-    (sent-held _ (s .see-send .ensures), omega (arith, s .see-send .ensures .short, s .see-send .kept .1 .1 .1 .1 .0, p .pre .1))
+    ((p .pre .0 .0, sent-held _ (s .see-send .ensures)), omega (arith, s .see-send .ensures .short, s .see-send .kept .1 .1 .1 .1 .1 .0, p .pre .1))
 
 returns : tie.Need-returns
 returns c =

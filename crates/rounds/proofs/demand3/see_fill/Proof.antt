@@ -11,7 +11,7 @@ tell-requires c κs =
     let m = f .before .before .before .before .before in
     let s = m .before .before in
     let p = s .before .before .before .before .before .before .before .before in
-    omega (arith, fill-room _ (p .pre .0) (s .first-sent .ensures) (m .address .given .1) (f .fill .ensures), p .pre .1)
+    omega (arith, fill-room _ (p .pre .0 .1) (s .first-sent .ensures) (m .address .given .1) (f .fill .ensures), p .pre .1)
 
 returns : tie.Need-returns
 returns c =
@@ -20,12 +20,12 @@ returns c =
     let m = f .before .before .before .before .before in
     let s = m .before .before in
     let p = s .before .before .before .before .before .before .before .before in
-    fills _ (p .pre .0) (s .first-sent .ensures) (m .address .given .1) (f .fill .ensures) (n .tell .ensures)
+    fills _ (p .pre .0 .1) (s .first-sent .ensures) (m .address .given .1) (f .fill .ensures) (n .tell .ensures)
 
 returns-2 : tie.Need-returns-2
 returns-2 c =
     let s = c .before .before in
-    no-fill _ (s .before .before .before .before .before .before .before .before .pre .0) (s .first-sent .ensures) (c .enum-told .given .1) _ _
+    no-fill _ (s .before .before .before .before .before .before .before .before .pre .0 .1) (s .first-sent .ensures) (c .enum-told .given .1) _ _
 
 pub see-fill-spec : {M : Type 1} → statement M
 see-fill-spec =

@@ -10,7 +10,7 @@ tell-requires c κs =
     let a = c .before .before .before .before .before .before .before in
     let d = a .before .before .before .before .before .before .before .before .before .before .before .before in
     let p = d .before .before .before .before .before .before .before .before .before in
-    omega (arith, offer-room _ (p .args .x) (d .see-drain .ensures) (a .access .ensures), d .see-drain .ensures .short, d .see-drain .kept .1 .1 .1 .1 .0, p .pre .1 .0)
+    omega (arith, offer-room _ (p .args .x) (d .see-drain .ensures) (a .access .ensures), d .see-drain .ensures .short, d .see-drain .kept .1 .1 .1 .1 .1 .0, p .pre .1 .0)
 
 returns : tie.Need-returns
 returns c =

@@ -7,13 +7,13 @@ use Rattle.rounds.proofs.demand3.see_send.Tie as tie
 
 returns : tie.Need-returns
 returns c =
-    no-send _ (c .before .before .before .before .before .before .before .before .before .pre .0) (c .before .nothing-queued .ensures) (c .if1 .taken) _ _
+    no-send _ (c .before .before .before .before .before .before .before .before .before .pre .0 .1) (c .before .nothing-queued .ensures) (c .if1 .taken) _ _
 
 tell-requires : tie.Need-tell-requires
 tell-requires c κs =
     let s = c .before .before .before .before .before .before .before in
     let p = s .before .before .before .before .before .before .before .before .before .before .before .before .before in
-    omega (arith, send-room _ (p .pre .0) (s .send .ensures), p .pre .1)
+    omega (arith, send-room _ (p .pre .0 .1) (s .send .ensures), p .pre .1)
 
 returns-2 : tie.Need-returns-2
 returns-2 c =
@@ -22,7 +22,7 @@ returns-2 c =
     let i = s .before .before .before .before in
     let q = i .before in
     let p = q .before .before .before .before .before .before .before .before in
-    sends _ (p .pre .0) (s .send .ensures) (q .nothing-queued .ensures) (i .if1 .left) (n .tell .ensures)
+    sends _ (p .pre .0 .1) (s .send .ensures) (q .nothing-queued .ensures) (i .if1 .left) (n .tell .ensures)
 
 pub see-send-spec : {M : Type 1} → statement M
 see-send-spec =

@@ -8,21 +8,21 @@ use Rattle.wait.proofs.waiting.in_use.Tie as tie
 
 used-requires : tie.Need-used-requires
 used-requires c κs =
-    let i = c .before .before .before .before .pre .are in
+    let i = c .before .before .before .pre .1 .are in
     let z = stands-fit (i .range) (is-stands i) in
-    let p = c .laid-out .ensures in
+    let p = c .before .before .before .pre .0 in
     omega arith
 
 used-requires-2 : tie.Need-used-requires-2
 used-requires-2 c κs =
-    let i = c .before .before .before .before .before .pre .are in
+    let i = c .before .before .before .before .pre .1 .are in
     let z = stands-fit (i .range) (is-stands i) in
-    let p = c .before .laid-out .ensures in
+    let p = c .before .before .before .before .pre .0 in
     omega arith
 
 returns : tie.Need-returns
 returns c =
-    let p = c .before .before .laid-out .ensures in
+    let p = c .before .before .before .before .before .pre .0 in
     let q = c .before .used .ensures in
     let m = c .used2 .ensures in
     record { queued = λ t i. counted _ p q m t i .0; missed = λ t i. counted _ p q m t i .1 }
@@ -31,7 +31,6 @@ pub in-use-spec : {M : Type 1} → statement M
 in-use-spec =
     tie.close
     (tie.spec
-    (λ c κs. search needs)
     used-requires
     used-requires-2
     returns)

@@ -15,10 +15,11 @@ returns c =
 wait-rounds-requires : tie.Need-wait-rounds-requires
 wait-rounds-requires c κs =
     let m = c .before .before .before .before in
-    let e = m .before .before .before .before .before .before .before .before in
+    let l = m .before .before .before .before .before .before .before .before in
+    let e = l .before in
     let w = e .before in
     let a = w .before .before .before .before in
-    (a .pre, ((sym (w .well-formed .ensures .0) ∙ no-not (e .if1 .left), w .well-formed .ensures .1), m .most-rounds .ensures))
+    ((l .laid-out .ensures, a .pre), ((sym (w .well-formed .ensures .0) ∙ no-not (e .if1 .left), w .well-formed .ensures .1), m .most-rounds .ensures))
 
 pub wait-for-spec : {M : Type 1} → statement M
 wait-for-spec =
@@ -27,6 +28,7 @@ wait-for-spec =
     (λ c κs. search needs)
     (λ c κs. search needs)
     returns
+    (λ c κs. search needs)
     (λ c κs. search needs)
     (λ c κs. search needs)
     (λ c κs. search needs)

@@ -11,11 +11,11 @@ use Rattle.wait.proofs.waiting.wait_rounds.Statement.{statement}
 use Rattle.wait.proofs.waiting.wait_rounds.Tie as tie
 
 abbrev Inv-loop : tie.InvT-loop
-Inv-loop s longs₀ words₀ marks₀ x most started events₀ round₀ out₀ shown₀ longs words marks events round out shown =
+Inv-loop s at longs₀ words₀ marks₀ x most started events₀ round₀ out₀ shown₀ longs words marks events round out shown =
     Goes s x most (lent longs₀ words₀ marks₀) events₀ round out (lent longs words marks) events
 
 abbrev μ-loop : tie.MeasureT-loop
-μ-loop s longs₀ words₀ marks₀ x most started events₀ round₀ out₀ shown₀ longs words marks events round out shown = most - round
+μ-loop s at longs₀ words₀ marks₀ x most started events₀ round₀ out₀ shown₀ longs words marks events round out shown = most - round
 
 one-round-requires : tie.Need-one-round-requires Inv-loop μ-loop
 one-round-requires c κs =
@@ -24,16 +24,16 @@ one-round-requires c κs =
     let p = l .before .before .before .before .before .before in
     let g = l .loop .inv in
     let room = l .before .before .large-buffer .ensures in
-    (goes-held g (p .pre .0), (omega (arith, g .short, g .few, g .size, p .pre .1 .1 .few, i .loop-test .taken, room), p .pre .1 .0 .1))
+    ((p .pre .0 .0, goes-held g (p .pre .0 .1)), (omega (arith, g .short, g .few, g .size, p .pre .1 .1 .few, i .loop-test .taken, room), p .pre .1 .0 .1))
 
 same-length : tie.Need-same-length Inv-loop μ-loop
-same-length c = let r = c .before .before .before .before .before .before .before .before .before .before .before .before .before .before .before in r .one-round .kept .1 .0 ∙ r .before .before .before .before .before .before .loop .inv .longs
+same-length c = let r = c .before .before .before .before .before .before .before .before .before .before .before .before .before .before .before in r .one-round .kept .1 .1 .0 ∙ r .before .before .before .before .before .before .loop .inv .longs
 
 same-length-2 : tie.Need-same-length-2 Inv-loop μ-loop
-same-length-2 c = let r = c .before .before .before .before .before .before .before .before .before .before .before .before .before .before .before in r .one-round .kept .1 .1 .0 ∙ r .before .before .before .before .before .before .loop .inv .words
+same-length-2 c = let r = c .before .before .before .before .before .before .before .before .before .before .before .before .before .before .before in r .one-round .kept .1 .1 .1 .0 ∙ r .before .before .before .before .before .before .loop .inv .words
 
 same-length-3 : tie.Need-same-length-3 Inv-loop μ-loop
-same-length-3 c = let r = c .before .before .before .before .before .before .before .before .before .before .before .before .before .before .before in r .one-round .kept .1 .1 .1 .0 ∙ r .before .before .before .before .before .before .loop .inv .marks
+same-length-3 c = let r = c .before .before .before .before .before .before .before .before .before .before .before .before .before .before .before in r .one-round .kept .1 .1 .1 .1 .0 ∙ r .before .before .before .before .before .before .loop .inv .marks
 
 returns : tie.Need-returns Inv-loop μ-loop
 returns c =
@@ -42,7 +42,7 @@ returns c =
     let i = r .before .before .before .before .before in
     let l = i .before in
     let p = l .before .before .before .before .before .before in
-    ends-accepted (l .loop .inv) (p .pre .0) (p .pre .1 .0 .0) (p .pre .1 .1) (i .loop-test .taken) (r .one-round .ensures)
+    ends-accepted (l .loop .inv) (p .pre .0 .1) (p .pre .1 .0 .0) (p .pre .1 .1) (i .loop-test .taken) (r .one-round .ensures)
     (not-yes (sym (a .accepted .ensures) ∙ c .before .if1 .taken)) (omega (arith, l .before .before .large-buffer .ensures))
 
 loop-less : tie.Need-loop-less Inv-loop μ-loop
@@ -54,7 +54,7 @@ loop-again c =
     let r = a .before .before .before .before .before .before .before .before .before .before .before .before .before in
     let i = r .before .before .before .before .before in
     let l = i .before in
-    let k = r .one-round .kept .1 in
+    let k = r .one-round .kept .1 .1 in
     goes-again (l .loop .inv) (i .loop-test .taken) (r .one-round .ensures) (no-not (sym (a .accepted .ensures) ∙ c .if1 .left))
     (k .1 .1 .1 .1 .0) (k .0) (k .1 .0) (k .1 .1 .0)
 
@@ -63,7 +63,7 @@ returns-2 c =
     let e = c .before in
     let l = e .before in
     let p = l .before .before .before .before .before .before in
-    ends-held (l .loop .inv) (p .pre .0) (p .pre .1 .0 .0) (p .pre .1 .1) (e .loop-test .left)
+    ends-held (l .loop .inv) (p .pre .0 .1) (p .pre .1 .0 .0) (p .pre .1 .1) (e .loop-test .left)
 
 pub wait-rounds-spec : {M : Type 1} → statement M
 wait-rounds-spec =
