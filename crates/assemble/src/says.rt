@@ -77,9 +77,7 @@ fn expected(e: Expected) {
         Expected::Misses => say(b"misses and a number from 0 to 255"),
         Expected::Readers => say(b"readers and a number from 0 to 255"),
         Expected::Queue => say(b"queue and a number from 0 to 255"),
-        Expected::Rule => say(
-            b"rule and lru, fifo or a number from 0 to 255, or the end of the line",
-        ),
+        Expected::Rule => expected_rule(),
         Expected::Address => say(b"an address of at most 64 bits, decimal or behind 0x"),
         Expected::Ticket => say(b"ticket and a number of at most 32 bits"),
         Expected::Mask => say(b"mask and a number of at most 32 bits"),
