@@ -1,4 +1,5 @@
 -- Six or seven numbers by their places, or zeros for another length.
+use lib.ListN.{length}
 use borrow.Author.Needs.{needs}
 use Rattle.exported.specs.Exported.{settingsFrom}
 use Rattle.exported.proofs.Calling.{may-lend}
@@ -7,7 +8,7 @@ use Rattle.exported.proofs.settings_from.Tie as tie
 
 returns : tie.Need-returns
 unfolding settingsFrom
-returns c = rw (may-lend _ (c .if1 .taken))
+returns c = rw (may-lend (length (c .before .before .args .settings .now)) (c .if1 .taken))
 
 returns-2 : tie.Need-returns-2
 unfolding settingsFrom
@@ -18,7 +19,8 @@ returns-2 c =
     let n3 = n4 .before in
     let n2 = n3 .before in
     let n1 = n2 .before in
-    rw (may-lend _ (n1 .before .if1 .left), n1 .number .ensures, n2 .number2 .ensures, n3 .number3 .ensures, n4 .number4 .ensures, n5 .number5 .ensures, n6 .number6 .ensures, c .number7 .ensures)
+    let tested = n1 .before in
+    rw (may-lend (length (tested .before .before .args .settings .now)) (tested .if1 .left), n1 .number .ensures, n2 .number2 .ensures, n3 .number3 .ensures, n4 .number4 .ensures, n5 .number5 .ensures, n6 .number6 .ensures, c .number7 .ensures)
 
 pub settings-from-spec : {M : Type 1} → statement M
 settings-from-spec =
