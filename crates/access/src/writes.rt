@@ -11,7 +11,7 @@ ghost use Rattle.model.specs.Lent.{lent, sectorsAt};
 ghost use Rattle.model.specs.Inner.{Fit};
 ghost use Rattle.model.specs.Range.{linesOf, isTree, powerTo256};
 ghost use Rattle.model.specs.Tree.{powerTo16};
-ghost use Rattle.layout.specs.Layout.{Placed};
+ghost use Rattle.layout.specs.Layout.{Placed, wordsMost};
 ghost use Rattle.probe.specs.Scan.{dirtyAt};
 ghost use Rattle.access.specs.Plan.{Meets, MayAct, Acted};
 ghost use Rattle.model.specs.Tables.{reading, writing};
@@ -132,7 +132,7 @@ fn leave_line(
 
 // A line that a MISS takes over keeps the current cycle as the one at which it was taken.
 fn mark_taken(at: Layout, words: &mut [u32], line: usize, a: Answer)
-    requires { ⌜ (at .taken + line < length (now words)) × (length (now words) ≤ 65536) ⌝ }
+    requires { ⌜ (at .taken + line < length (now words)) × (length (now words) ≤ wordsMost) ⌝ }
     ensures { λ _. ⌜ now (words .exit) ≡ takenWritten at a line (now (words .entry)) ⌝ }
 {
     if takes_line(a) {
@@ -142,7 +142,7 @@ fn mark_taken(at: Layout, words: &mut [u32], line: usize, a: Answer)
 
 // Under the rule by trees each node on the path to the access's way points to the half not taken.
 fn turn_tree(s: Settings, at: Layout, words: &mut [u32], x: Access, way: usize)
-    requires { ⌜ (at .trees + setIndex s (addressOf x) < length (now words)) × (length (now words) ≤ 65536) × (1 ≤ s .sets) × (powerTo256 (s .sets) ≡ true)
+    requires { ⌜ (at .trees + setIndex s (addressOf x) < length (now words)) × (length (now words) ≤ wordsMost) × (1 ≤ s .sets) × (powerTo256 (s .sets) ≡ true)
         × (isTree s ≡ true → powerTo16 (s .ways) ≡ true) ⌝ }
     ensures { λ _. ⌜ now (words .exit) ≡ treesWritten s at (setIndex s (addressOf x)) way (now (words .entry)) ⌝ }
 {

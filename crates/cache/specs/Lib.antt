@@ -1,3 +1,2 @@
--- What making fresh tables comes to, and what the checks before a step come to.
+-- What making fresh tables comes to.
 pub mod Made
-pub mod Laid

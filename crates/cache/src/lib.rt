@@ -1,23 +1,16 @@
 // The calls on lent tables (document 01), for any settings and any slices: making fresh tables, read and write, send, fill, tick, and
 // the check of refusals 1, 2 and 3 by itself. Each checks first and then does its step; a refusal leaves every slice as it was.
-use layout::Layout;
 use model::Access;
 use model::Refusal;
 use model::Settings;
 use model::Told;
 use model::Verdict;
+use soundness::LaidVerdict;
 ghost use mathlib.Core.Path.{_≡_};
 ghost use Rattle.model.specs.Lent.{lent};
 ghost use Rattle.model.specs.Calls.{freshCall, checkCall, verdictOf, accessCall, sendCall, fillCall, tickCall, Leaves};
 ghost use Rattle.model.specs.declared.Access.the-variants.{Read, Write};
 ghost use Rattle.cache.specs.Made.{Made};
-ghost use Rattle.cache.specs.Laid.{Checks};
-
-// What refusals 1, 2 and 3 come to: where each part of sound tables begins, or the refusal.
-pub enum LaidVerdict {
-    Passed(Layout),
-    Refused(Refusal),
-}
 
 // ---- fresh tables
 
@@ -39,23 +32,6 @@ pub fn fresh(s: Settings, longs: &mut [u64], words: &mut [u32], marks: &mut [u8]
 
 // ---- the steps behind the checks
 
-// Refusals 1, 2 and 3 in document 01's order. The layout that the last is asked by is handed on, so that a call computes it once.
-pub fn checked_layout(s: Settings, longs: &[u64], words: &[u32], marks: &[u8]) -> LaidVerdict
-    ensures { λ r. ⌜ Checks s (lent (now (longs .entry)) (now (words .entry)) (now (marks .entry))) r ⌝ }
-{
-    if !layout::in_range(s) {
-        return LaidVerdict::Refused(Refusal::SettingOutOfRange);
-    }
-    if !layout::lengths_fit(s, longs, words, marks) {
-        return LaidVerdict::Refused(Refusal::SliceLength);
-    }
-    let at = layout::laid_out(s);
-    if !soundness::tables_sound(s, at, longs, words, marks) {
-        return LaidVerdict::Refused(Refusal::NotSound);
-    }
-    LaidVerdict::Passed(at)
-}
-
 // One access; a read wants mask 0, and a write's ticket is not looked at.
 pub fn access(
     s: Settings,
@@ -68,7 +44,7 @@ pub fn access(
         (lent (now (longs .entry)) (now (words .entry)) (now (marks .entry))) r
         (lent (now (longs .exit)) (now (words .exit)) (now (marks .exit))) ⌝ }
 {
-    match checked_layout(s, longs, words, marks) {
+    match soundness::checked_layout(s, longs, words, marks) {
         LaidVerdict::Refused(n) => tables::refused(n),
         LaidVerdict::Passed(at) => access::access_step(s, at, longs, words, marks, x),
     }
@@ -120,7 +96,7 @@ pub fn send(s: Settings, longs: &mut [u64], words: &mut [u32], marks: &mut [u8])
         (lent (now (longs .entry)) (now (words .entry)) (now (marks .entry))) r
         (lent (now (longs .exit)) (now (words .exit)) (now (marks .exit))) ⌝ }
 {
-    match checked_layout(s, longs, words, marks) {
+    match soundness::checked_layout(s, longs, words, marks) {
         LaidVerdict::Refused(n) => tables::refused(n),
         LaidVerdict::Passed(at) => steps::send_step(s, at, longs, words, marks),
     }
@@ -138,7 +114,7 @@ pub fn fill(
         (lent (now (longs .entry)) (now (words .entry)) (now (marks .entry))) r
         (lent (now (longs .exit)) (now (words .exit)) (now (marks .exit))) ⌝ }
 {
-    match checked_layout(s, longs, words, marks) {
+    match soundness::checked_layout(s, longs, words, marks) {
         LaidVerdict::Refused(n) => tables::refused(n),
         LaidVerdict::Passed(at) => steps::fill_step(s, at, longs, words, marks, address),
     }
@@ -150,7 +126,7 @@ pub fn tick(s: Settings, longs: &mut [u64], words: &mut [u32], marks: &mut [u8],
         (lent (now (longs .entry)) (now (words .entry)) (now (marks .entry))) r
         (lent (now (longs .exit)) (now (words .exit)) (now (marks .exit))) ⌝ }
 {
-    match checked_layout(s, longs, words, marks) {
+    match soundness::checked_layout(s, longs, words, marks) {
         LaidVerdict::Refused(n) => tables::refused(n),
         LaidVerdict::Passed(_) => steps::tick_step(s, longs, words, marks, cycle),
     }

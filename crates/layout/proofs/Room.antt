@@ -10,19 +10,19 @@ use Rattle.model.specs.Lent.{takenAt, treeAt}
 use Rattle.model.specs.Inner.{Fit, told}
 use Rattle.model.specs.declared.Settings.{Settings}
 use Rattle.layout.specs.declared.Layout.{Layout}
-use Rattle.layout.specs.Layout.{Placed}
+use Rattle.layout.specs.Layout.{Placed, wordsMost}
 
 -- a set is a line or more
 pub sets-few : {S : Settings} {longs words marks : List ℕ} → Fit S longs words marks → S .sets ≤ 1024
 sets-few {S} f = let n : S .sets * 1 ≤ S .sets * S .ways = mul-le-mul-left (S .sets) (f .ways) in omega (arith, f .lines)
 
-words-small : {S : Settings} {longs words marks : List ℕ} → Fit S longs words marks → length words ≤ 65536
+words-small : {S : Settings} {longs words marks : List ℕ} → Fit S longs words marks → length words ≤ wordsMost
 words-small f = let long = told (f .words-long) in omega (arith, f .lines, f .tickets, f .queue, sets-few f)
 
 -- the place of line l is inside, and its number does not wrap
 pub record TakenRoom (at : Layout) (words : List ℕ) (l : ℕ) : Type 0 where
   pub inside : at .taken + l < length words
-  pub small : length words ≤ 65536
+  pub small : length words ≤ wordsMost
 
 pub taken-room : {S : Settings} {at : Layout} {longs words marks : List ℕ} → Placed S at → Fit S longs words marks → (l : ℕ) → l < linesOf S → TakenRoom at words l
 taken-room {S} {at} {longs} {words} {marks} p f l h =
@@ -33,7 +33,7 @@ taken-room {S} {at} {longs} {words} {marks} p f l h =
 -- the same of set i
 pub record TreeRoom (at : Layout) (words : List ℕ) (i : ℕ) : Type 0 where
   pub inside : at .trees + i < length words
-  pub small : length words ≤ 65536
+  pub small : length words ≤ wordsMost
 
 pub tree-room : {S : Settings} {at : Layout} {longs words marks : List ℕ} → Placed S at → Fit S longs words marks → (i : ℕ) → i < S .sets → TreeRoom at words i
 tree-room {S} {at} {longs} {words} {marks} p f i h =

@@ -1,5 +1,6 @@
--- Where each part of the tables begins in the three lent slices, by the settings.
+-- Where each part of the tables begins in the three lent slices, by the settings, and how long the slice of words is at most.
 use mathlib.Core.Path.{_≡_}
+use Prim.Native.Nat.{ℕ}
 use Rattle.model.specs.Layout.{longsFrom, wordsFrom, marksFrom, missRegion, queueRegion, maskRegion, ticketRegion, queueMaskRegion, dirtyCountRegion, takenRegion, treeRegion, readableRegion, sentRegion, ticketCountRegion, kindRegion}
 use Rattle.model.specs.Inner.{Aside}
 use Rattle.model.specs.declared.Settings.{Settings}
@@ -21,3 +22,7 @@ pub record Placed (S : Settings) (at : Layout) : Type 0 where
   pub sent : at .sent ≡ marksFrom S sentRegion
   pub counts : at .counts ≡ marksFrom S ticketCountRegion
   pub kinds : at .kinds ≡ marksFrom S kindRegion
+
+-- more than any settings in range ask for, so that no place in the words wraps
+abbrev pub wordsMost : ℕ
+wordsMost = 65536

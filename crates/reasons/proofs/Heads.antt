@@ -10,19 +10,21 @@ use Rattle.model.specs.Range.{linesOf}
 use Rattle.model.specs.Tables.{idle, Tables, Outcome, refused, done, dirty, dirtyLines}
 use Rattle.model.specs.Lent.{Lent, lent, tablesOf}
 use Rattle.model.specs.Calls.{checkCall, verdictOf}
-use Rattle.model.specs.Inner.{Is, Held}
+use Rattle.model.specs.Inner.{Is}
 use Rattle.model.specs.Steps.{sentEvent}
 use Rattle.model.specs.declared.Settings.{Settings}
 use Rattle.model.specs.declared.Queued.{Queued}
 use Rattle.model.specs.declared.Access.{Access}
 use Rattle.model.specs.declared.Event.{Event}
 use Rattle.model.specs.declared.Refusal.{Refusal}
-use Rattle.model.specs.declared.Verdict.{Verdict}
 use Rattle.model.specs.declared.Verdict.the-variants as verdict
 use Rattle.model.proofs.SoundFacts.{parts, lines-are}
 use Rattle.model.proofs.Decoded.{Small}
-use Rattle.model.proofs.Bridge.{sound-encoded, is-fit}
-use Rattle.soundness.proofs.Verdicts.{passed-is}
+use Rattle.model.proofs.Bridge.{is-fit}
+use Rattle.soundness.specs.Laid.{Checks}
+use Rattle.soundness.specs.declared.LaidVerdict.{LaidVerdict}
+use Rattle.soundness.specs.declared.LaidVerdict.the-variants as laid
+use Rattle.soundness.proofs.Checked.{says-refused, says-passed, passed-tables}
 use Rattle.layout.specs.declared.Layout.{Layout}
 use Rattle.layout.specs.Layout.{Placed}
 use Rattle.layout.specs.Places.{First}
@@ -96,18 +98,12 @@ checked-passed : (S : Settings) (x : Access) (n : Refusal) (L : Lent) (o : Outco
 checked-passed S x n L (refused j) e = let z : _≡_ {A = ℕ} 0 1 = cc in absurd (omega arith)
 checked-passed S x n L (done es M) e = refl
 
-module _ (S : Settings) (x : Access) (n : Refusal) (L : Lent) {v : Verdict} (says : v ≡ verdictOf (checkCall S L)) where
-  pub reason-refused : {k : Refusal} → v ≡ verdict.Refused k → reason.Refused k ≡ reasonCall S x n L
+module _ (S : Settings) (x : Access) (n : Refusal) (L : Lent) {v : LaidVerdict} (checks : Checks S L v) where
+  pub reason-refused : {k : Refusal} → v ≡ laid.Refused k → reason.Refused k ≡ reasonCall S x n L
   unfolding reasonCall
-  reason-refused {k} e = sym (checked-refused S x n L (checkCall S L) k (sym says ∙ e))
+  reason-refused {k} e = sym (checked-refused S x n L (checkCall S L) k (says-refused S L checks e))
 
-  module _ (small : Small L) (passed : v ≡ verdict.Passed) where
-    pub passed-tables : Is S L (tablesOf S L)
-    passed-tables = let (range, fits, soundly) = passed-is S L (sym says ∙ passed) in sound-encoded S L range fits small soundly
-
-    pub passed-held : Held S L
-    passed-held = record { tables = tablesOf S L; are = passed-tables }
-
-    pub reason-passed : {r : Reason} → Gives S (λ t. reasonFor S x t n) L r → r ≡ reasonCall S x n L
-    unfolding reasonCall
-    reason-passed g = g .on (tablesOf S L) passed-tables ∙ sym (checked-passed S x n L (checkCall S L) (sym says ∙ passed))
+  pub reason-passed : Small L → {at : Layout} → v ≡ laid.Passed at → {r : Reason} → Gives S (λ t. reasonFor S x t n) L r → r ≡ reasonCall S x n L
+  unfolding reasonCall
+  reason-passed small passed g =
+      g .on (tablesOf S L) (passed-tables S L checks small passed) ∙ sym (checked-passed S x n L (checkCall S L) (says-passed S L checks passed))

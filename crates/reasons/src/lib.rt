@@ -1,12 +1,13 @@
 // What a refused access waits for, read off the lent slices: a miss entry that has to come back, dirty lines, queue places. Nothing is
-// written here. `reason_for` is public and asks nothing; `reason_held` is its part behind the checks, for a caller that holds sound tables.
+// written here. `reason_for` is public and asks nothing; `reason_held` is its part behind the checks, for a caller that holds sound
+// tables and their layout.
 use layout::Layout;
 use model::Access;
 use model::Event;
 use model::Refusal;
 use model::SectorAddress;
 use model::Settings;
-use model::Verdict;
+use soundness::LaidVerdict;
 ghost use mathlib.Core.Path.{_≡_};
 ghost use mathlib.Core.Bool.{true};
 ghost use Prim.Native.Nat.{_+_, _*_, _≤_};
@@ -16,6 +17,7 @@ ghost use Rattle.model.specs.Address.{addressOf, setIndex};
 ghost use Rattle.model.specs.Tables.{entryFor};
 ghost use Rattle.model.specs.Lent.{lent};
 ghost use Rattle.model.specs.Inner.{Held};
+ghost use Rattle.layout.specs.Layout.{Placed};
 ghost use Rattle.reasons.specs.Reasons.{entryReason, ofSet, anyEntry, missingLines, linesReason, queueReason, reasonFor, reasonCall};
 ghost use Rattle.reasons.specs.Parts.{FirstInSet, entryShown, Gives};
 
@@ -76,11 +78,17 @@ fn entry_reason(at: Layout, longs: &[u64], marks: &[u8], e: usize, n: usize) -> 
 }
 
 // 5: the oldest entry of the access's set.
-fn busy_reason(s: Settings, longs: &[u64], words: &[u32], marks: &[u8], x: Access) -> Reason
-    requires { ⌜ Held s (lent (now longs) (now words) (now marks)) ⌝ }
+fn busy_reason(
+    s: Settings,
+    at: Layout,
+    longs: &[u64],
+    words: &[u32],
+    marks: &[u8],
+    x: Access,
+) -> Reason
+    requires { ⌜ Placed s at × Held s (lent (now longs) (now words) (now marks)) ⌝ }
     ensures { λ r. ⌜ Gives s (λ t. entryReason (ofSet (s .sets) (setIndex s (addressOf x))) (t .misses)) (lent (now (longs .entry)) (now (words .entry)) (now (marks .entry))) r ⌝ }
 {
-    let at = layout::laid_out(s);
     let n = layout::used(marks, at.counts, s.misses);
     let set = model::set_index(model::address_of(x), s.sets);
     let e = first_in_set(longs, at.misses, n, s.sets, set);
@@ -88,11 +96,17 @@ fn busy_reason(s: Settings, longs: &[u64], words: &[u32], marks: &[u8], x: Acces
 }
 
 // 8: the entry for the access's address, which has all its readers.
-fn readers_reason(s: Settings, longs: &[u64], words: &[u32], marks: &[u8], x: Access) -> Reason
-    requires { ⌜ Held s (lent (now longs) (now words) (now marks)) ⌝ }
+fn readers_reason(
+    s: Settings,
+    at: Layout,
+    longs: &[u64],
+    words: &[u32],
+    marks: &[u8],
+    x: Access,
+) -> Reason
+    requires { ⌜ Placed s at × Held s (lent (now longs) (now words) (now marks)) ⌝ }
     ensures { λ r. ⌜ Gives s (λ t. entryReason (entryFor (addressOf x)) (t .misses)) (lent (now (longs .entry)) (now (words .entry)) (now (marks .entry))) r ⌝ }
 {
-    let at = layout::laid_out(s);
     let n = layout::used(marks, at.counts, s.misses);
     let address = SectorAddress(model::address_of(x));
     let e = tables::find_entry(longs, at.misses, n, address);
@@ -100,11 +114,10 @@ fn readers_reason(s: Settings, longs: &[u64], words: &[u32], marks: &[u8], x: Ac
 }
 
 // 9: the oldest entry of all.
-fn table_reason(s: Settings, longs: &[u64], words: &[u32], marks: &[u8]) -> Reason
-    requires { ⌜ Held s (lent (now longs) (now words) (now marks)) ⌝ }
+fn table_reason(s: Settings, at: Layout, longs: &[u64], words: &[u32], marks: &[u8]) -> Reason
+    requires { ⌜ Placed s at × Held s (lent (now longs) (now words) (now marks)) ⌝ }
     ensures { λ r. ⌜ Gives s (λ t. entryReason anyEntry (t .misses)) (lent (now (longs .entry)) (now (words .entry)) (now (marks .entry))) r ⌝ }
 {
-    let at = layout::laid_out(s);
     let n = layout::used(marks, at.counts, s.misses);
     entry_reason(at, longs, marks, 0, n)
 }
@@ -123,12 +136,11 @@ fn missing_lines(percent: usize, lines: usize, dirty: usize) -> usize
 }
 
 // 6: the dirty lines that are missing.
-fn held_reason(s: Settings, longs: &[u64], words: &[u32], marks: &[u8]) -> Reason
-    requires { ⌜ Held s (lent (now longs) (now words) (now marks)) ⌝ }
+fn held_reason(s: Settings, at: Layout, longs: &[u64], words: &[u32], marks: &[u8]) -> Reason
+    requires { ⌜ Placed s at × Held s (lent (now longs) (now words) (now marks)) ⌝ }
     ensures { λ r. ⌜ Gives s (λ t. linesReason s (t .dirtyCount)) (lent (now (longs .entry)) (now (words .entry)) (now (marks .entry))) r ⌝ }
 {
     let lines = s.sets * s.ways;
-    let at = layout::laid_out(s);
     let place = at.dirty;
     let dirty = words[place] as usize;
     let percent = s.dirty;
@@ -142,11 +154,10 @@ fn held_reason(s: Settings, longs: &[u64], words: &[u32], marks: &[u8]) -> Reaso
 }
 
 // 7: the queue's head.
-fn queue_reason(s: Settings, longs: &[u64], words: &[u32], marks: &[u8]) -> Reason
-    requires { ⌜ Held s (lent (now longs) (now words) (now marks)) ⌝ }
+fn queue_reason(s: Settings, at: Layout, longs: &[u64], words: &[u32], marks: &[u8]) -> Reason
+    requires { ⌜ Placed s at × Held s (lent (now longs) (now words) (now marks)) ⌝ }
     ensures { λ r. ⌜ Gives s (λ t. queueReason (s .queue) (t .queue)) (lent (now (longs .entry)) (now (words .entry)) (now (marks .entry))) r ⌝ }
 {
-    let at = layout::laid_out(s);
     let n = layout::used(marks, at.kinds, s.queue);
     if n == 0 {
         return Reason::Nothing;
@@ -159,13 +170,14 @@ fn queue_reason(s: Settings, longs: &[u64], words: &[u32], marks: &[u8]) -> Reas
 // On sound tables: what the access waits for that was refused by this number.
 pub fn reason_held(
     s: Settings,
+    at: Layout,
     longs: &[u64],
     words: &[u32],
     marks: &[u8],
     x: Access,
     n: Refusal,
 ) -> Reason
-    requires { ⌜ Held s (lent (now longs) (now words) (now marks)) ⌝ }
+    requires { ⌜ Placed s at × Held s (lent (now longs) (now words) (now marks)) ⌝ }
     ensures { λ r. ⌜ Gives s (λ t. reasonFor s x t n) (lent (now (longs .entry)) (now (words .entry)) (now (marks .entry))) r ⌝ }
 {
     match n {
@@ -173,11 +185,11 @@ pub fn reason_held(
         Refusal::SliceLength => Reason::Nothing,
         Refusal::NotSound => Reason::Nothing,
         Refusal::BadAccess => Reason::Nothing,
-        Refusal::SetBusy => busy_reason(s, longs, words, marks, x),
-        Refusal::SetHeld => held_reason(s, longs, words, marks),
-        Refusal::QueueFull => queue_reason(s, longs, words, marks),
-        Refusal::EntryFull => readers_reason(s, longs, words, marks, x),
-        Refusal::MissTableFull => table_reason(s, longs, words, marks),
+        Refusal::SetBusy => busy_reason(s, at, longs, words, marks, x),
+        Refusal::SetHeld => held_reason(s, at, longs, words, marks),
+        Refusal::QueueFull => queue_reason(s, at, longs, words, marks),
+        Refusal::EntryFull => readers_reason(s, at, longs, words, marks, x),
+        Refusal::MissTableFull => table_reason(s, at, longs, words, marks),
         Refusal::NotSent => Reason::Nothing,
         Refusal::BadCycle => Reason::Nothing,
         Refusal::QueueEmpty => Reason::Nothing,
@@ -195,8 +207,8 @@ pub fn reason_for(
 ) -> Reason
     ensures { λ r. ⌜ r ≡ reasonCall s x n (lent (now (longs .entry)) (now (words .entry)) (now (marks .entry))) ⌝ }
 {
-    match soundness::check(s, longs, words, marks) {
-        Verdict::Refused(k) => Reason::Refused(k),
-        Verdict::Passed => reason_held(s, longs, words, marks, x, n),
+    match soundness::checked_layout(s, longs, words, marks) {
+        LaidVerdict::Refused(k) => Reason::Refused(k),
+        LaidVerdict::Passed(at) => reason_held(s, at, longs, words, marks, x, n),
     }
 }

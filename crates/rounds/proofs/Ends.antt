@@ -26,9 +26,9 @@ use Rattle.model.proofs.LentRounds.{runOf, rounds-encoded}
 use Rattle.model.proofs.Demand.{steps-keep}
 use Rattle.records.specs.Stores.{Stored}
 use Rattle.records.proofs.Stores.{was-stored}
-use Rattle.cache.specs.Laid.{Checks, verdictIn}
-use Rattle.cache.specs.declared.LaidVerdict.{LaidVerdict}
-use Rattle.cache.specs.declared.LaidVerdict.the-variants as laid
+use Rattle.soundness.specs.Laid.{Checks, verdictIn}
+use Rattle.soundness.specs.declared.LaidVerdict.{LaidVerdict}
+use Rattle.soundness.specs.declared.LaidVerdict.the-variants as laid
 use Rattle.tables.specs.Telling.{telling}
 use Rattle.tables.proofs.Tellings.{telling-tells}
 use Rattle.rounds.specs.declared.Waiting.the-variants as wait

@@ -21,10 +21,10 @@ use Rattle.model.specs.declared.Verdict.the-variants as verdict
 use Rattle.model.proofs.Decoded.{Small}
 use Rattle.soundness.proofs.Verdicts.{passed-is}
 use Rattle.layout.specs.declared.Layout.{Layout}
-use Rattle.cache.specs.Laid.{Checks, verdictIn}
-use Rattle.cache.specs.declared.LaidVerdict.{LaidVerdict}
-use Rattle.cache.specs.declared.LaidVerdict.the-variants as laid
-use Rattle.cache.proofs.Checked.{passed-laid}
+use Rattle.soundness.specs.Laid.{Checks, verdictIn}
+use Rattle.soundness.specs.declared.LaidVerdict.{LaidVerdict}
+use Rattle.soundness.specs.declared.LaidVerdict.the-variants as laid
+use Rattle.soundness.proofs.Checked.{says-passed, passed-laid}
 use Rattle.rounds.specs.declared.Went.{Went}
 use Rattle.rounds.specs.declared.Went.the-variants as went
 use Rattle.rounds.specs.Demand3.{shown, formed, startCall, roundsCall, flagsCall, struckCall}
@@ -49,12 +49,12 @@ module _ (S : Settings) (x : Access) (L : Lent) {v : LaidVerdict} (checks : Chec
   module _ {at : Layout} (is : v ≡ laid.Passed at) where
     pub start-malformed : wellFormed x ≡ false → MayRun S x L (laid.Refused BadAccess)
     start-malformed f =
-        let (range, fits, soundly) = passed-is S L (sym (checks .says) ∙ ap verdictIn is) in
+        let (range, fits, soundly) = passed-is S L (says-passed S L checks is) in
         record { says = rw (range, fits, soundly, f); ready = λ b e. unlaid e; small = λ b e. unlaid e }
 
     pub start-passed : Small L → wellFormed x ≡ true → maskOf x ≤ allOnes → MayRun S x L (laid.Passed at)
     start-passed small f few =
-        let (range, fits, soundly) = passed-is S L (sym (checks .says) ∙ ap verdictIn is) in
+        let (range, fits, soundly) = passed-is S L (says-passed S L checks is) in
         record {
           says = rw (range, fits, soundly, f);
           ready = λ b e. let z : at ≡ b = cc in rw (← z) (passed-laid S L checks small is);

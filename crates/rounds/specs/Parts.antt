@@ -19,10 +19,10 @@ use Rattle.model.specs.declared.Access.{Access}
 use Rattle.model.specs.declared.Refusal.{Refusal}
 use Rattle.layout.specs.Layout.{Placed}
 use Rattle.layout.specs.declared.Layout.{Layout}
-use Rattle.cache.specs.Laid.{verdictIn}
-use Rattle.cache.specs.declared.LaidVerdict.{LaidVerdict}
+use Rattle.soundness.specs.Laid.{verdictIn}
+use Rattle.soundness.specs.declared.LaidVerdict.{LaidVerdict}
 use Rattle.model.specs.Records.{fillBytes, roundBytes, settleBytes}
-use Rattle.cache.specs.declared.LaidVerdict.the-variants.{Passed}
+use Rattle.soundness.specs.declared.LaidVerdict.the-variants.{Passed}
 use Rattle.turns.specs.Parts.{Noted}
 use Rattle.rounds.specs.declared.Waited.{Waited}
 use Rattle.rounds.specs.declared.Went.{Went}

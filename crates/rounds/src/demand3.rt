@@ -2,12 +2,12 @@
 // `run_struck`, which ask nothing, below their parts. They write every event, refusals too.
 use crate::Offer;
 use crate::Went;
-use cache::LaidVerdict;
 use layout::Layout;
 use model::Access;
 use model::Refusal;
 use model::Settings;
 use model::Told;
+use soundness::LaidVerdict;
 use turns::Sent;
 ghost use mathlib.Core.Path.{_≡_};
 ghost use Prim.Native.Nat.{_+_, _*_, _≤_};
@@ -230,7 +230,7 @@ fn struck_on(
 fn may_run(s: Settings, longs: &[u64], words: &[u32], marks: &[u8], x: Access) -> LaidVerdict
     ensures { λ r. ⌜ MayRun s x (lent (now (longs .entry)) (now (words .entry)) (now (marks .entry))) r ⌝ }
 {
-    match cache::checked_layout(s, longs, words, marks) {
+    match soundness::checked_layout(s, longs, words, marks) {
         LaidVerdict::Refused(n) => LaidVerdict::Refused(n),
         LaidVerdict::Passed(at) => {
             if access::well_formed(x) {

@@ -2,7 +2,6 @@
 // `cache`: demand 3 is said of them. Here: `wait`, which runs the rounds until an access is accepted, and says where waiting does not help.
 mod demand3;
 
-use cache::LaidVerdict;
 pub use demand3::run_rounds;
 pub use demand3::run_struck;
 use layout::Layout;
@@ -10,6 +9,7 @@ use model::Access;
 use model::Event;
 use model::Refusal;
 use model::Settings;
+use soundness::LaidVerdict;
 ghost use mathlib.Core.Path.{_≡_};
 ghost use mathlib.Core.Bool.{true};
 ghost use Prim.Native.Nat.{_≤_};
@@ -144,7 +144,7 @@ pub fn wait(
             written: 0,
         };
     }
-    match cache::checked_layout(s, longs, words, marks) {
+    match soundness::checked_layout(s, longs, words, marks) {
         LaidVerdict::Refused(n) => turned_away(n, events),
         LaidVerdict::Passed(at) => wait_checked(s, at, longs, words, marks, x, events),
     }

@@ -1,83 +1,63 @@
--- A run that goes on from kept tables: the checks before it by the tests that the code makes, and what it leaves.
-use mathlib.Core.Path.{_≡_, refl, sym, ap, _∙_}
-use mathlib.Core.Bool.{true, false}
-use mathlib.Core.List.{List}
+-- A run that goes on from kept tables: stopped by the check before it, or run from the tables that the slices hold.
+use mathlib.Core.Path.{_≡_, refl, _∙_}
+use mathlib.Core.Bool.{Bool, true, false}
+use mathlib.Core.List.{List, []}
 use Prim.Native.Nat.{ℕ}
 use native.Mathlib.Nat.{sub-zero, zero-add}
 use native.Mathlib.Omega.{arith}
 use lib.ListN.{length}
+use Rattle.model.specs.Words.{pick}
 use Rattle.model.specs.Range.{inRange}
+use Rattle.model.specs.Tables.{done}
 use Rattle.model.specs.Lent.{Lent, lengthsFit, tablesOf}
 use Rattle.model.specs.SoundLent.{soundLent}
-use Rattle.model.specs.Runner.{keptStop, goesOn, resume, Runs}
-use Rattle.model.specs.Inner.{Held}
+use Rattle.model.specs.Calls.{verdictOf}
+use Rattle.model.specs.Runner.{goesOn, resume, Runs}
 use Rattle.model.specs.declared.Settings.{Settings}
+use Rattle.model.specs.declared.Refusal.{Refusal}
+use Rattle.model.specs.declared.Refusal.the-variants as refusal
 use Rattle.model.specs.declared.Stop.{Stop}
-use Rattle.model.specs.declared.Stop.the-variants.{Nothing, SettingOutOfRange, SliceLength, NotSound}
+use Rattle.model.specs.declared.Stop.the-variants as stop
+use Rattle.model.specs.declared.Verdict.the-variants as verdict
 use Rattle.model.specs.declared.Ran.{Ran}
 use Rattle.model.proofs.Decoded.{Small}
-use Rattle.model.proofs.Kept.{kept-is, resume-stops, resume-goes}
-use Rattle.layout.specs.Layout.{Placed}
+use Rattle.model.proofs.Kept.{resume-stops, resume-is}
 use Rattle.layout.specs.declared.Layout.{Layout}
-use Rattle.runner.specs.Keeps.{stopIn, Keeps}
-use Rattle.runner.specs.declared.Going.{Going}
-use Rattle.runner.specs.declared.Going.the-variants.{On, Stopped}
+use Rattle.soundness.specs.Laid.{Checks}
+use Rattle.soundness.specs.declared.LaidVerdict.{LaidVerdict}
+use Rattle.soundness.specs.declared.LaidVerdict.the-variants.{Passed, Refused}
+use Rattle.soundness.proofs.Verdicts.{checked}
+use Rattle.soundness.proofs.Checked.{says-refused, passed-tables}
 use Rattle.running.specs.Resume.{restFrom, Stands, Resumes}
+use Rattle.runner.specs.Stops.{stopOf}
 
-module _ (S : Settings) (L : Lent) where
-  kept-out : inRange S ≡ false → SettingOutOfRange ≡ keptStop S L
-  kept-out r = rw r
+-- ---- the stop of a refusal
 
-  kept-length : inRange S ≡ true → lengthsFit S L ≡ false → SliceLength ≡ keptStop S L
-  kept-length r l = rw (r, l)
+-- what the three checks stop with
+abbrev stopping : Bool → Bool → Bool → Stop
+stopping r l s = pick r (pick l (pick s stop.Nothing stop.NotSound) stop.SliceLength) stop.SettingOutOfRange
 
-  kept-unsound : inRange S ≡ true → lengthsFit S L ≡ true → soundLent S L ≡ false → NotSound ≡ keptStop S L
-  kept-unsound r l s = rw (r, l, s)
+refusal-stops : (r l s : Bool) (L : Lent) (n : Refusal) → verdictOf (checked r l s (done [] L)) ≡ verdict.Refused n
+    → (stopOf n ≡ stopping r l s) × (goesOn (stopping r l s) ≡ false)
+refusal-stops true true true L n e = let z : _≡_ {A = ℕ} 0 1 = cc in absurd (omega arith)
+refusal-stops true true false L n e = let z : refusal.NotSound ≡ n = cc in (rw (← z), refl)
+refusal-stops true false s L n e = let z : refusal.SliceLength ≡ n = cc in (rw (← z), refl)
+refusal-stops false l s L n e = let z : refusal.SettingOutOfRange ≡ n = cc in (rw (← z), refl)
 
-  kept-goes : inRange S ≡ true → lengthsFit S L ≡ true → soundLent S L ≡ true → Nothing ≡ keptStop S L
-  kept-goes r l s = rw (r, l, s)
+-- ---- the run
 
-  -- ---- with the layout
+pub resume-stands : (s e : List ℕ) → Stands s 0 0 e
+resume-stands s e = record { inside = omega arith; room = omega arith }
 
-  keeps-stopped : {n : Stop} → n ≡ keptStop S L → goesOn n ≡ false → Keeps S L (Stopped n)
-  keeps-stopped {n} d h = record {
-    says = d;
-    laid = λ at q. let z : _≡_ {A = ℕ} 0 1 = cc in absurd (omega arith);
-    stops = λ m q. let z : n ≡ m = cc in rw (← z) h;
-  }
+module _ (S : Settings) (s e : List ℕ) (L : Lent) {v : LaidVerdict} (checks : Checks S L v) where
+  pub resume-stopped : {n : Refusal} {m : Stop} → v ≡ Refused n → m ≡ stopOf n
+      → Runs (resume S (length e) s L) e record { stop = m; consumed = 0; written = 0 } e L
+  resume-stopped {n} is d =
+      let (same, z) = refusal-stops (inRange S) (lengthsFit S L) (soundLent S L) L n (says-refused S L checks is) in
+      rw (resume-stops S (length e) s L z) record { stop = d ∙ same; consumed = refl; written = refl; events = refl; tables = refl }
 
-  pub keeps-out : inRange S ≡ false → Keeps S L (Stopped SettingOutOfRange)
-  keeps-out r = keeps-stopped (kept-out r) refl
-
-  pub keeps-length : inRange S ≡ true → lengthsFit S L ≡ false → Keeps S L (Stopped SliceLength)
-  keeps-length r l = keeps-stopped (kept-length r l) refl
-
-  pub keeps-unsound : inRange S ≡ true → lengthsFit S L ≡ true → soundLent S L ≡ false → Keeps S L (Stopped NotSound)
-  keeps-unsound r l s = keeps-stopped (kept-unsound r l s) refl
-
-  pub keeps-on : {at : Layout} → inRange S ≡ true → lengthsFit S L ≡ true → soundLent S L ≡ true → Placed S at → Keeps S L (On at)
-  keeps-on {at} r l s p = record {
-    says = kept-goes r l s;
-    laid = λ b q. let z : at ≡ b = cc in rw (← z) p;
-    stops = λ m q. let z : _≡_ {A = ℕ} 0 1 = cc in absurd (omega arith);
-  }
-
-module _ (S : Settings) (s e : List ℕ) (L : Lent) {g : Going} (keeps : Keeps S L g) where
-  pub resume-stopped : {n : Stop} → g ≡ Stopped n → Runs (resume S (length e) s L) e record { stop = n; consumed = 0; written = 0 } e L
-  resume-stopped {n} is =
-      let d : n ≡ keptStop S L = sym (ap stopIn is) ∙ keeps .says in
-      let z : goesOn (keptStop S L) ≡ false = rw (← d) (keeps .stops n is) in
-      rw (resume-stops S (length e) s L z) record { stop = d; consumed = refl; written = refl; events = refl; tables = refl }
-
-  module _ (small : Small L) {at : Layout} (is : g ≡ On at) where
-    goes : goesOn (keptStop S L) ≡ true
-    goes = let d : Nothing ≡ keptStop S L = sym (ap stopIn is) ∙ keeps .says in rw (← d)
-
-    pub resume-laid : Placed S at × Held S L
-    resume-laid = (keeps .laid at is, record { tables = tablesOf S L; are = kept-is S L small goes })
-
-    pub resume-stands : Stands s 0 0 e
-    resume-stands = record { inside = omega arith; room = omega arith }
-
-    pub resume-went : {p : Ran} {f : List ℕ} {M : Lent} → Resumes S (restFrom S s 0 0 e) s 0 0 e L p f M → Runs (resume S (length e) s L) e p f M
-    resume-went u = rw (resume-goes S (length e) s L goes) (rw (sub-zero, zero-add) at (u .on (tablesOf S L) (kept-is S L small goes)))
+  pub resume-went : Small L → {at : Layout} → v ≡ Passed at → {p : Ran} {f : List ℕ} {M : Lent} → Resumes S (restFrom S s 0 0 e) s 0 0 e L p f M
+      → Runs (resume S (length e) s L) e p f M
+  resume-went small is u =
+      let are = passed-tables S L checks small is in
+      rw (resume-is S (length e) s L (tablesOf S L) are) (rw (sub-zero, zero-add) at (u .on (tablesOf S L) are))

@@ -1,3 +1,3 @@
--- The events that a run tells, and what the checks before a part that goes on come to.
+-- The events that a run tells, and what a part that goes on stops with.
 pub mod Told
-pub mod Keeps
+pub mod Stops

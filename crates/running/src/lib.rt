@@ -1,7 +1,7 @@
 // The inner layer of the stream runner (document 01, "Records"): the checks at a record, what a record does, the first record, and the
-// records behind it on tables that are known to be sound. `begin` and `go_on` are the two halves of a run, for a caller that holds the
-// tables between them, and `run_records` is `go_on` with the caller's layout; `first_there`, `first_record` and `lengths_for` tell such a
-// caller when to begin, with what, and what to lend.
+// records behind it on tables that are known to be sound. `begin` and `run_records` are the two halves of a run, for a caller that holds
+// the tables and their layout between them; `first_there`, `first_record` and `lengths_for` tell such a caller when to begin, with what,
+// and what to lend.
 use layout::Layout;
 use model::Access;
 use model::Command;
@@ -292,28 +292,6 @@ pub fn run_records(
         consumed: at,
         written: out,
     }
-}
-
-// The same for a caller that has no layout.
-pub fn go_on(
-    s: Settings,
-    stream: &[u8],
-    start: usize,
-    events: &mut [u8],
-    first: usize,
-    longs: &mut [u64],
-    words: &mut [u32],
-    marks: &mut [u8],
-) -> Ran
-    requires { ⌜ Held s (lent (now longs) (now words) (now marks)) ⌝ }
-    requires { ⌜ Stands (now stream) start first (now events) ⌝ }
-    ensures { λ r. ⌜ Resumes s (restFrom s (now (stream .entry)) start first (now (events .entry)))
-        (now (stream .entry)) start first (now (events .entry))
-        (lent (now (longs .entry)) (now (words .entry)) (now (marks .entry))) r
-        (now (events .exit)) (lent (now (longs .exit)) (now (words .exit)) (now (marks .exit))) ⌝ }
-{
-    let laid = layout::laid_out(s);
-    run_records(s, laid, stream, start, events, first, longs, words, marks)
 }
 
 // The first record, read once; whoever begins a run is handed it.

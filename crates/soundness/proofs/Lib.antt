@@ -7,3 +7,4 @@ pub mod OfMisses
 pub mod OfQueue
 pub mod OfTables
 pub mod Verdicts
+pub mod Checked

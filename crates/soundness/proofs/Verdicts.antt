@@ -18,7 +18,7 @@ use Rattle.model.specs.Inner.{Fit}
 use Rattle.layout.proofs.OfRange.{lengths-fit}
 
 -- the three checks in front of an outcome
-abbrev checked : Bool → Bool → Bool → Outcome Lent → Outcome Lent
+abbrev pub checked : Bool → Bool → Bool → Outcome Lent → Outcome Lent
 checked r l s o = pick r (pick l (pick s o (refused NotSound)) (refused SliceLength)) (refused SettingOutOfRange)
 
 never : {X : Type 0} {n : Refusal} → Refused n ≡ Passed → X

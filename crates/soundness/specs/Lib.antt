@@ -1,2 +1,3 @@
--- What the trees are below.
+-- What the trees are below, and the verdict of the checks with the layout.
 pub mod Limits
+pub mod Laid

@@ -14,6 +14,7 @@ ghost use Rattle.model.specs.SoundLent.{soundNumbers};
 ghost use Rattle.model.specs.Calls.{checkCall, verdictOf};
 ghost use Rattle.model.specs.Inner.{Fit};
 ghost use Rattle.layout.specs.Layout.{Placed};
+ghost use Rattle.soundness.specs.Laid.{Checks};
 use dirty::count_fine;
 use layout::Layout;
 use layout::gathered;
@@ -29,6 +30,12 @@ use model::Settings;
 use model::Verdict;
 use queue::places_fine;
 use sets::trees_fine;
+
+// What refusals 1, 2 and 3 come to: where each part of sound tables begins, or the refusal.
+pub enum LaidVerdict {
+    Passed(Layout),
+    Refused(Refusal),
+}
 
 // Refusal 3 does not apply. Lines first: what follows relies on them.
 pub fn tables_sound(s: Settings, at: Layout, longs: &[u64], words: &[u32], marks: &[u8]) -> bool
@@ -48,18 +55,29 @@ pub fn tables_sound(s: Settings, at: Layout, longs: &[u64], words: &[u32], marks
         & trees_fine(s, at, longs, words, marks)
 }
 
-// Refusals 1, 2 and 3 in document 01's order.
+// Refusals 1, 2 and 3 in document 01's order. The layout that the last is asked by is handed on, so that a call computes it once.
+pub fn checked_layout(s: Settings, longs: &[u64], words: &[u32], marks: &[u8]) -> LaidVerdict
+    ensures { λ r. ⌜ Checks s (lent (now (longs .entry)) (now (words .entry)) (now (marks .entry))) r ⌝ }
+{
+    if !in_range(s) {
+        return LaidVerdict::Refused(Refusal::SettingOutOfRange);
+    }
+    if !lengths_fit(s, longs, words, marks) {
+        return LaidVerdict::Refused(Refusal::SliceLength);
+    }
+    let at = laid_out(s);
+    if !tables_sound(s, at, longs, words, marks) {
+        return LaidVerdict::Refused(Refusal::NotSound);
+    }
+    LaidVerdict::Passed(at)
+}
+
+// The same for a caller that wants no layout.
 pub fn check(s: Settings, longs: &[u64], words: &[u32], marks: &[u8]) -> Verdict
     ensures { λ r. ⌜ r ≡ verdictOf (checkCall s (lent (now (longs .entry)) (now (words .entry)) (now (marks .entry)))) ⌝ }
 {
-    if !in_range(s) {
-        return Verdict::Refused(Refusal::SettingOutOfRange);
+    match checked_layout(s, longs, words, marks) {
+        LaidVerdict::Refused(n) => Verdict::Refused(n),
+        LaidVerdict::Passed(_) => Verdict::Passed,
     }
-    if !lengths_fit(s, longs, words, marks) {
-        return Verdict::Refused(Refusal::SliceLength);
-    }
-    if !tables_sound(s, laid_out(s), longs, words, marks) {
-        return Verdict::Refused(Refusal::NotSound);
-    }
-    Verdict::Passed
 }

@@ -4,6 +4,7 @@ use crate::scope::Scope;
 use crate::work;
 use crate::work::Work;
 use input::More;
+use layout::Layout;
 use libc::STDOUT_FILENO;
 use model::Settings;
 use running::Begun;
@@ -15,6 +16,7 @@ ghost use lib.ListN.{length, take};
 ghost use Rattle.model.specs.Lent.{lent};
 ghost use Rattle.model.specs.Inner.{Held};
 ghost use Rattle.model.specs.Runner.{eventRoom};
+ghost use Rattle.layout.specs.Layout.{Placed};
 ghost use Rattle.running.specs.Begin.{firstRecord};
 ghost use Rattle.running.specs.Lengths.{lengthsFor, Long};
 ghost use Rattle.streaming.specs.declared.work.Next.the-variants as next;
@@ -60,6 +62,7 @@ fn hand_out(scope: Scope, events: &[u8]) -> Handed
 // Of the bytes that wait runs what is in scope as far as it goes, and moves what is left of them to the front.
 fn run_part(
     s: Settings,
+    laid: Layout,
     buf: &mut [u8],
     events: &mut [u8],
     longs: &mut [u64],
@@ -68,7 +71,7 @@ fn run_part(
     w: Work,
     scope: Scope,
 ) -> Work
-    requires { ⌜ Held s (lent (now longs) (now words) (now marks)) ⌝ }
+    requires { ⌜ Placed s laid × Held s (lent (now longs) (now words) (now marks)) ⌝ }
     requires { ⌜ w .have ≤ length (now buf) ⌝ }
     requires { ⌜ w .consumed + w .have < 2 ^ 64 ⌝ }
     ensures { λ r. ⌜ Ran s scope (take (w .have) (now (buf .entry))) (now (events .entry)) (lent (now (longs .entry)) (now (words .entry)) (now (marks .entry)))
@@ -76,7 +79,8 @@ fn run_part(
 {
     let have = w.have;
     let end = scope::part_end(scope, text::front(buf, have));
-    let ran = running::go_on(s, text::front(buf, end), 0, events, 0, longs, words, marks);
+    let part = text::front(buf, end);
+    let ran = running::run_records(s, laid, part, 0, events, 0, longs, words, marks);
     let handed = hand_out(scope, text::front(events, ran.written));
     let rest = input::carry(buf, ran.consumed, have);
     let stop = ran.stop;
@@ -88,6 +92,7 @@ fn run_part(
 fn read_part(
     fd: i32,
     s: Settings,
+    laid: Layout,
     buf: &mut [u8],
     events: &mut [u8],
     longs: &mut [u64],
@@ -96,7 +101,7 @@ fn read_part(
     w: Work,
     scope: Scope,
 ) -> Work
-    requires { ⌜ Ready s scope (lent (now longs) (now words) (now marks)) (now buf) w ⌝ }
+    requires { ⌜ Placed s laid × Ready s scope (lent (now longs) (now words) (now marks)) (now buf) w ⌝ }
     requires { ⌜ w .next ≡ next.Read ⌝ }
     requires { ⌜ eventRoom ≤ length (now events) ⌝ }
     ensures { λ r. ⌜ Turned s scope (length (now (events .entry))) (lent (now (longs .entry)) (now (words .entry)) (now (marks .entry))) (take (w .have) (now (buf .entry)))
@@ -105,7 +110,7 @@ fn read_part(
     match input::read_more(fd, buf, w.have, w.left) {
         More::To { have, left } => {
             let v = work::read(w, have, left);
-            run_part(s, buf, events, longs, words, marks, v, scope)
+            run_part(s, laid, buf, events, longs, words, marks, v, scope)
         }
         More::End(end) => work::ended(w, end),
         More::Full => work::failed(w),
@@ -117,6 +122,7 @@ fn read_part(
 fn turn(
     fd: i32,
     s: Settings,
+    laid: Layout,
     buf: &mut [u8],
     events: &mut [u8],
     longs: &mut [u64],
@@ -125,20 +131,21 @@ fn turn(
     w: Work,
     scope: Scope,
 ) -> Work
-    requires { ⌜ Ready s scope (lent (now longs) (now words) (now marks)) (now buf) w ⌝ }
+    requires { ⌜ Placed s laid × Ready s scope (lent (now longs) (now words) (now marks)) (now buf) w ⌝ }
     requires { ⌜ goesNext (w .next) ≡ true ⌝ }
     requires { ⌜ eventRoom ≤ length (now events) ⌝ }
     ensures { λ r. ⌜ Turned s scope (length (now (events .entry))) (lent (now (longs .entry)) (now (words .entry)) (now (marks .entry))) (take (w .have) (now (buf .entry)))
         w r (now (buf .exit)) (lent (now (longs .exit)) (now (words .exit)) (now (marks .exit))) ⌝ }
 {
     if work::reads(w) {
-        read_part(fd, s, buf, events, longs, words, marks, w, scope)
+        read_part(fd, s, laid, buf, events, longs, words, marks, w, scope)
     } else {
-        run_part(s, buf, events, longs, words, marks, w, scope)
+        run_part(s, laid, buf, events, longs, words, marks, w, scope)
     }
 }
 
-// Turn by turn to the end: the run has stopped, or the system said that the input has ended, or reading or writing failed.
+// Turn by turn to the end: the run has stopped, or the system said that the input has ended, or reading or writing failed. The layout is
+// computed once, for all parts.
 pub fn run_rest(
     fd: i32,
     s: Settings,
@@ -154,11 +161,12 @@ pub fn run_rest(
     ensures { λ r. ⌜ Rested s scope 65536 (lent (now (longs .entry)) (now (words .entry)) (now (marks .entry))) (take (start .have) (now (buf .entry)))
         start r (now (buf .exit)) (lent (now (longs .exit)) (now (words .exit)) (now (marks .exit))) ⌝ }
 {
+    let laid = layout::laid_out(s);
     let mut space = io::large_buffer();
     let events: &mut [u8] = &mut space;
     let mut w = start;
     while work::goes_on(w) {
-        w = turn(fd, s, buf, events, longs, words, marks, w, scope);
+        w = turn(fd, s, laid, buf, events, longs, words, marks, w, scope);
     }
     w
 }

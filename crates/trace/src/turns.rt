@@ -1,5 +1,6 @@
 // The records of a buffer, one after another: each is run by itself and shown.
 use crate::page;
+use layout::Layout;
 use libc::STDOUT_FILENO;
 use listing::Look;
 use model::Access;
@@ -15,6 +16,7 @@ ghost use Prim.Native.Nat.{_≤_};
 ghost use lib.ListN.{length};
 ghost use Rattle.model.specs.Lent.{lent};
 ghost use Rattle.model.specs.Inner.{Held};
+ghost use Rattle.layout.specs.Layout.{Placed};
 ghost use Rattle.trace.specs.Offers.{offered, refusalOf};
 ghost use Rattle.trace.specs.Turns.{Traced};
 
@@ -123,6 +125,7 @@ fn refusal_in(events: &[u8]) -> Verdict {
 // Under a refused access what it waits for. A refusal left the tables as they were.
 fn put_wait(
     s: Settings,
+    laid: Layout,
     longs: &[u64],
     words: &[u32],
     marks: &[u8],
@@ -131,14 +134,14 @@ fn put_wait(
     out: &mut [u8],
     at: usize,
 ) -> usize
-    requires { ⌜ Held s (lent (now longs) (now words) (now marks)) ⌝ }
+    requires { ⌜ Placed s laid × Held s (lent (now longs) (now words) (now marks)) ⌝ }
 {
     match refusal {
         Verdict::Passed => at,
         Verdict::Refused(n) => match offer {
             Offer::Nothing => at,
             Offer::Access(x) => {
-                let reason = reasons::reason_held(s, longs, words, marks, x, n);
+                let reason = reasons::reason_held(s, laid, longs, words, marks, x, n);
                 page::put_reason(reason, out, at)
             }
         },
@@ -210,26 +213,29 @@ fn halted(t: Turn, stop: Stop) -> Turn
     }
 }
 
-// The command at a place, the events that it wrote and, where it was refused, what it waits for.
+// The command that a turn stands at, the events that it wrote and, where it was refused, what it waits for; `place` is that of the buffer
+// in the stream.
 fn put_record(
     s: Settings,
+    laid: Layout,
     longs: &[u64],
     words: &[u32],
     marks: &[u8],
     bytes: &[u8],
-    at: usize,
-    here: u64,
+    place: u64,
     told: &[u8],
     out: &mut [u8],
-    put: usize,
+    t: Turn,
 ) -> usize
-    requires { ⌜ Held s (lent (now longs) (now words) (now marks)) ⌝ }
+    requires { ⌜ Placed s laid × Held s (lent (now longs) (now words) (now marks)) ⌝ }
 {
-    let a = page::put_command_at(bytes, at, here, out, put);
+    let at = t.at;
+    let here = std::num::wrapping_add_u64(place, at as u64);
+    let a = page::put_command_at(bytes, at, here, out, t.put);
     let b = page::put_events(told, out, a);
     let offer = offered_at(bytes, at);
     let refusal = refusal_in(told);
-    put_wait(s, longs, words, marks, offer, refusal, out, b)
+    put_wait(s, laid, longs, words, marks, offer, refusal, out, b)
 }
 
 // Behind a record that was run, with so much text.
@@ -250,6 +256,7 @@ fn passed(t: Turn, ran: Ran, put: usize) -> Turn
 // The record at a place of the buffer, run by itself and shown; `place` is that of the buffer in the stream.
 fn trace_one(
     s: Settings,
+    laid: Layout,
     bytes: &[u8],
     place: u64,
     events: &mut [u8],
@@ -259,35 +266,27 @@ fn trace_one(
     out: &mut [u8],
     t: Turn,
 ) -> Turn
-    requires { ⌜ Held s (lent (now longs) (now words) (now marks)) ⌝ }
+    requires { ⌜ Placed s laid × Held s (lent (now longs) (now words) (now marks)) ⌝ }
     requires { ⌜ t .at ≤ length (now bytes) ⌝ }
     ensures { λ r. ⌜ Traced s (length (now (bytes .entry))) t r (lent (now (longs .exit)) (now (words .exit)) (now (marks .exit))) ⌝ }
 {
     let at = t.at;
     let end = record_end(bytes, at);
-    let ran = running::go_on(
-        s,
-        text::front(bytes, end),
-        at,
-        events,
-        0,
-        longs,
-        words,
-        marks,
-    );
+    let part = text::front(bytes, end);
+    let ran = running::run_records(s, laid, part, at, events, 0, longs, words, marks);
     if ran.consumed <= at {
         let stop = ran.stop;
         return halted(t, stop);
     }
     let told = text::front(events, ran.written);
-    let here = std::num::wrapping_add_u64(place, at as u64);
-    let put = put_record(s, longs, words, marks, bytes, at, here, told, out, t.put);
+    let put = put_record(s, laid, longs, words, marks, bytes, place, told, out, t);
     with_room(out, passed(t, ran, put))
 }
 
 // The whole records of a buffer.
 pub(crate) fn trace_records(
     s: Settings,
+    laid: Layout,
     bytes: &[u8],
     place: u64,
     events: &mut [u8],
@@ -297,7 +296,7 @@ pub(crate) fn trace_records(
     out: &mut [u8],
     put: usize,
 ) -> Turn
-    requires { ⌜ Held s (lent (now longs) (now words) (now marks)) ⌝ }
+    requires { ⌜ Placed s laid × Held s (lent (now longs) (now words) (now marks)) ⌝ }
     ensures { λ r. ⌜ Held s (lent (now (longs .exit)) (now (words .exit)) (now (marks .exit))) ⌝ }
 {
     let mut t = Turn {
@@ -309,7 +308,7 @@ pub(crate) fn trace_records(
         lost: false,
     };
     while t.more {
-        t = trace_one(s, bytes, place, events, longs, words, marks, out, t);
+        t = trace_one(s, laid, bytes, place, events, longs, words, marks, out, t);
     }
     t
 }

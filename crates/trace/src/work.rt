@@ -2,6 +2,7 @@
 use crate::turns;
 use crate::turns::Turn;
 use input::More;
+use layout::Layout;
 use libc::STDERR_FILENO;
 use model::Settings;
 use model::Stop;
@@ -13,6 +14,7 @@ ghost use Prim.Native.Nat.{_≤_};
 ghost use lib.ListN.{length};
 ghost use Rattle.model.specs.Lent.{lent};
 ghost use Rattle.model.specs.Inner.{Held};
+ghost use Rattle.layout.specs.Layout.{Placed};
 ghost use Rattle.streaming.specs.declared.work.Next.the-variants as next;
 ghost use Rattle.streaming.specs.Works.{goesNext, stoppedNext};
 ghost use Rattle.trace.specs.Turns.{afterRecords, endedBy, First, Standing, Reads, Turned, Over};
@@ -178,6 +180,7 @@ fn read(fd: i32, buf: &mut [u8], w: Work) -> Work
 fn turn(
     fd: i32,
     s: Settings,
+    laid: Layout,
     buf: &mut [u8],
     events: &mut [u8],
     longs: &mut [u64],
@@ -186,12 +189,13 @@ fn turn(
     out: &mut [u8],
     w: Work,
 ) -> Work
-    requires { ⌜ Held s (lent (now longs) (now words) (now marks)) ⌝ }
+    requires { ⌜ Placed s laid × Held s (lent (now longs) (now words) (now marks)) ⌝ }
     ensures { λ r. ⌜ Turned s (length (now (buf .exit))) w r (lent (now (longs .exit)) (now (words .exit)) (now (marks .exit))) ⌝ }
 {
     let bytes = text::front(buf, w.have);
     let t = turns::trace_records(
         s,
+        laid,
         bytes,
         w.consumed,
         events,
@@ -224,7 +228,7 @@ fn finished(out: &[u8], w: Work) -> Work
     }
 }
 
-// To where the stream stops, or to its end as the system told it.
+// To where the stream stops, or to its end as the system told it. The layout is computed once, for all buffers.
 pub(crate) fn trace_rest(
     fd: i32,
     s: Settings,
@@ -239,11 +243,12 @@ pub(crate) fn trace_rest(
     requires { ⌜ start .next ≡ next.Run ⌝ }
     ensures { λ r. ⌜ Over r ⌝ }
 {
+    let laid = layout::laid_out(s);
     let mut space = io::buffer();
     let events: &mut [u8] = &mut space;
     let mut w = start;
     while goes_on(w) {
-        w = turn(fd, s, buf, events, longs, words, marks, out, w);
+        w = turn(fd, s, laid, buf, events, longs, words, marks, out, w);
     }
     finished(out, w)
 }

@@ -2,7 +2,8 @@
 use borrow.Author.Needs.{needs}
 use native.Mathlib.Omega.{arith}
 use Rattle.model.specs.Steps.{fill}
-use Rattle.cache.proofs.Checked.{call-refused, passed-laid, call-passed}
+use Rattle.soundness.proofs.Checked.{passed-laid}
+use Rattle.cache.proofs.Checked.{call-refused, call-passed}
 use Rattle.cache.proofs.fill.Statement.{statement}
 use Rattle.cache.proofs.fill.Tie as tie
 

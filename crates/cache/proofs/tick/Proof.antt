@@ -2,7 +2,8 @@
 use borrow.Author.Needs.{needs}
 use native.Mathlib.Omega.{arith}
 use Rattle.model.specs.Steps.{tick}
-use Rattle.cache.proofs.Checked.{call-refused, passed-held, call-passed}
+use Rattle.soundness.proofs.Checked.{passed-held}
+use Rattle.cache.proofs.Checked.{call-refused, call-passed}
 use Rattle.cache.proofs.tick.Statement.{statement}
 use Rattle.cache.proofs.tick.Tie as tie
 

@@ -10,14 +10,13 @@ pub queue-reason-spec : {M : Type 1} → statement M
 queue-reason-spec =
     tie.close
     (tie.spec
-    (λ c κs. search needs)  -- laid-out-requires
-    (λ c κs. let i = c .before .before .before .before .pre .are in let z = stands-fit (i .range) (is-stands i) in let p = c .laid-out .ensures in omega arith)  -- used-requires
-    (λ c. let used = c .before in record { on = λ t i. queue-empty _ t i (used .before .laid-out .ensures) (used .used .ensures) (c .if1 .taken) })  -- returns
+    (λ c κs. let a = c .before .before .before in let i = a .pre .1 .are in let z = stands-fit (i .range) (is-stands i) in let p = a .pre .0 in omega arith)  -- used-requires
+    (λ c. let used = c .before in record { on = λ t i. queue-empty _ t i (used .before .before .before .before .pre .0) (used .used .ensures) (c .if1 .taken) })  -- returns
     (λ c κs.
-    let laid = c .before .before in
-    let i = laid .before .before .before .before .pre .are in
+    let a = c .before .before .before .before .before in
+    let i = a .pre .1 .are in
     let z = stands-fit (i .range) (is-stands i) in
-    let p = laid .laid-out .ensures in
+    let p = a .pre .0 in
     (omega arith, omega arith, omega arith))  -- front-requires
     (λ c κs. search needs)  -- sent-event-requires
     (λ c. omega (arith, c .before .before .before .before .used .ensures .most))  -- sub-free
@@ -26,4 +25,4 @@ queue-reason-spec =
     let front = event .before in
     let test = front .before in
     let used = test .before in
-    record { on = λ t i. head-shown _ t i (used .before .laid-out .ensures) (used .used .ensures) (test .if1 .left) (front .front .ensures) (event .sent-event .ensures) }))  -- returns-2
+    record { on = λ t i. head-shown _ t i (used .before .before .before .before .pre .0) (used .used .ensures) (test .if1 .left) (front .front .ensures) (event .sent-event .ensures) }))  -- returns-2

@@ -10,27 +10,26 @@ pub readers-reason-spec : {M : Type 1} → statement M
 readers-reason-spec =
     tie.close
     (tie.spec
-    (λ c κs. search needs)  -- laid-out-requires
-    (λ c κs. let i = c .before .before .before .before .pre .are in let z = stands-fit (i .range) (is-stands i) in let p = c .laid-out .ensures in omega arith)  -- used-requires
+    (λ c κs. let a = c .before .before .before in let i = a .pre .1 .are in let z = stands-fit (i .range) (is-stands i) in let p = a .pre .0 in omega arith)  -- used-requires
     (λ c κs. search needs)  -- address-of-requires
     (λ c κs.
     let used = c .before in
-    let laid = used .before in
-    let i = laid .before .before .before .before .pre .are in
+    let a = used .before .before .before .before in
+    let i = a .pre .1 .are in
     let z = stands-fit (i .range) (is-stands i) in
-    let p = laid .laid-out .ensures in
+    let p = a .pre .0 in
     omega (arith, used .used .ensures .most))  -- find-entry-requires
     (λ c κs.
     let used = c .before .before in
-    let laid = used .before in
-    let i = laid .before .before .before .before .pre .are in
+    let a = used .before .before .before .before in
+    let i = a .pre .1 .are in
     let z = stands-fit (i .range) (is-stands i) in
-    let p = laid .laid-out .ensures in
+    let p = a .pre .0 in
     let u = used .used .ensures .most in
     (omega arith, omega arith, omega arith))  -- entry-reason-requires
     (λ c.
     let found = c .before in
     let addressed = found .before in
     let used = addressed .before in
-    let laid = used .before in
-    record { on = λ t i. rw (← addressed .address-of .ensures) (address-shown _ t i (laid .laid-out .ensures) (used .used .ensures) (found .find-entry .ensures) (c .entry-reason .ensures)) }))  -- returns
+    let a = used .before .before .before .before in
+    record { on = λ t i. rw (← addressed .address-of .ensures) (address-shown _ t i (a .pre .0) (used .used .ensures) (found .find-entry .ensures) (c .entry-reason .ensures)) }))  -- returns

@@ -1,7 +1,7 @@
 -- Room for the events, refusals 1, 2 and 3, then the rounds.
 use native.Mathlib.Omega.{arith}
 use borrow.Author.Needs.{needs}
-use Rattle.cache.proofs.Checked.{passed-laid}
+use Rattle.soundness.proofs.Checked.{passed-laid}
 use Rattle.rounds.proofs.Ends.{waits-no-room, waits-refused, waits-passed}
 use Rattle.rounds.proofs.wait.Statement.{statement}
 use Rattle.rounds.proofs.wait.Tie as tie

@@ -2,7 +2,8 @@
 use native.Mathlib.Omega.{arith}
 use borrow.Author.Needs.{needs}
 use Rattle.model.specs.Lent.{lent}
-use Rattle.runner.proofs.Kept.{resume-stopped, resume-laid, resume-stands, resume-went}
+use Rattle.soundness.proofs.Checked.{passed-laid}
+use Rattle.runner.proofs.Kept.{resume-stands, resume-stopped, resume-went}
 use Rattle.runner.proofs.resume.Statement.{statement}
 use Rattle.runner.proofs.resume.Tie as tie
 
@@ -12,6 +13,7 @@ resume-spec =
     (tie.spec
     (λ c κs. search needs)
     (λ c. search needs)
+    (λ c κs. search needs)
     (λ c. search needs)
     -- run-records-requires
     (λ c κs.
@@ -19,18 +21,18 @@ resume-spec =
     let k = m .before .before in
     let w = k .before .before .before .before .before in
     let a = w .before .before .before .before .args in (
-      resume-laid (a .s) (a .stream .now) (a .events .now) (lent (a .longs .now) (a .words .now) (a .marks .now)) (k .kept-going .ensures) (λ n. omega (arith, w .slice-known3 .given n)) (m .at .given .1),
-      resume-stands (a .s) (a .stream .now) (a .events .now) (lent (a .longs .now) (a .words .now) (a .marks .now)) (k .kept-going .ensures) (λ n. omega (arith, w .slice-known3 .given n)) (m .at .given .1),
+      passed-laid (a .s) (lent (a .longs .now) (a .words .now) (a .marks .now)) (k .checked-layout .ensures) (λ n. omega (arith, w .slice-known3 .given n)) (m .at .given .1),
+      resume-stands (a .stream .now) (a .events .now),
     ))
     (λ c. search needs)
     (λ c. search needs)
     (λ c. search needs)
     -- returns
     (λ c.
-    let m = c .before in
+    let m = c .before .before in
     let k = m .before .before in
     let a = k .before .before .before .before .before .before .before .before .before .args in
-    resume-stopped (a .s) (a .stream .now) (a .events .now) (lent (a .longs .now) (a .words .now) (a .marks .now)) (k .kept-going .ensures) (m .stop .given .1))
+    resume-stopped (a .s) (a .stream .now) (a .events .now) (lent (a .longs .now) (a .words .now) (a .marks .now)) (k .checked-layout .ensures) (m .n .given .1) (c .stop-of .ensures))
     (λ c. search needs)
     (λ c. search needs)
     (λ c. search needs)
@@ -42,5 +44,5 @@ resume-spec =
     let k = m .before .before in
     let w = k .before .before .before .before .before in
     let a = w .before .before .before .before .args in
-    resume-went (a .s) (a .stream .now) (a .events .now) (lent (a .longs .now) (a .words .now) (a .marks .now)) (k .kept-going .ensures) (λ n. omega (arith, w .slice-known3 .given n)) (m .at .given .1)
+    resume-went (a .s) (a .stream .now) (a .events .now) (lent (a .longs .now) (a .words .now) (a .marks .now)) (k .checked-layout .ensures) (λ n. omega (arith, w .slice-known3 .given n)) (m .at .given .1)
     (r .run-records .ensures)))

@@ -1,4 +1,5 @@
 -- The first record, then the others.
+use mathlib.Core.Path.{_∙_}
 use borrow.Author.Needs.{needs}
 use Rattle.running.proofs.First.{accepts-begins, run-stopped, begun-held, begun-stands, run-begun}
 use Rattle.runner.proofs.run.Statement.{statement}
@@ -12,12 +13,19 @@ run-spec =
     (λ c κs. search needs)
     (λ c. search needs)
     (λ c. search needs)
-    -- go-on-requires
+    -- laid-out-requires
     (λ c κs.
-    let m = c .before .before .before .before .before in
+    let m = c .before in
     let g = m .before .before .before .before .before .before .before .before in
     let b = accepts-begins _ (g .before .before .before .before .first-record .ensures) (g .begin .ensures) in
-    (begun-held b (m .settings .given .1), begun-stands b (m .settings .given .1) _))
+    begun-held b (m .settings .given .1) .are .range)
+    -- run-records-requires
+    (λ c κs.
+    let l = c .before .before .before .before in
+    let m = l .before .before in
+    let g = m .before .before .before .before .before .before .before .before in
+    let b = accepts-begins _ (g .before .before .before .before .first-record .ensures) (g .begin .ensures) in
+    ((l .laid-out .ensures, begun-held b (m .settings .given .1)), begun-stands b (m .settings .given .1) _))
     (λ c. search needs)
     (λ c. search needs)
     (λ c. search needs)
@@ -27,13 +35,17 @@ run-spec =
     let b = accepts-begins _ (g .before .before .before .before .first-record .ensures) (g .begin .ensures) in
     run-stopped b _ _ (c .before .stop .given .1))
     (λ c. search needs)
-    (λ c. search needs)
+    -- same-length-5
+    (λ c.
+    let o = c .before .before .before .before .before .before .before .before in
+    let g = o .before .before .before .before .before .before .before .before .before .before .before .before .before .before .before in
+    o .run-records .kept .1 .1 .1 .1 .1 .1 .0 ∙ g .begin .kept .1 .0)
     (λ c. search needs)
     (λ c. search needs)
     -- returns-2
     (λ c.
     let o = c .before .before .before .before .before .before .before .before in
-    let m = o .before .before .before .before .before .before in
+    let m = o .before .before .before .before .before .before .before in
     let g = m .before .before .before .before .before .before .before .before in
     let b = accepts-begins _ (g .before .before .before .before .first-record .ensures) (g .begin .ensures) in
-    run-begun b (m .settings .given .1) _ (o .go-on .ensures)))
+    run-begun b (m .settings .given .1) _ (o .run-records .ensures)))

@@ -1,9 +1,7 @@
--- Refused by the first check that fails, or passed.
+-- The verdict without the layout.
+use mathlib.Core.Path.{sym}
 use borrow.Author.Needs.{needs}
-use Rattle.model.specs.Lent.{lent}
-use Rattle.layout.proofs.Tests.{said-no, said-yes}
-use Rattle.layout.proofs.OfRange.{lengths-fit}
-use Rattle.soundness.proofs.Verdicts.{setting-refused, length-refused, unsound-refused, none-refused}
+use Rattle.soundness.proofs.Checked.{says-refused, says-passed}
 use Rattle.soundness.proofs.check.Statement.{statement}
 use Rattle.soundness.proofs.check.Tie as tie
 
@@ -11,11 +9,8 @@ pub check-spec : {M : Type 1} → statement M
 check-spec =
     tie.close
     (tie.spec
-    (λ c κs. search needs)  -- in-range-requires
-    (λ c. let a = c .before .before .before .before .before .args in setting-refused (a .s) (lent (a .longs .now) (a .words .now) (a .marks .now)) (said-no (c .before .in-range .ensures) (c .if1 .taken)))  -- returns
-    (λ c κs. said-yes (c .before .in-range .ensures) (c .if1 .left))  -- lengths-fit-requires
-    (λ c. let ranged = c .before .before in let a = ranged .before .before .before .before .before .args in length-refused (a .s) (lent (a .longs .now) (a .words .now) (a .marks .now)) (said-yes (ranged .before .in-range .ensures) (ranged .if1 .left)) (said-no (c .before .lengths-fit .ensures) (c .if2 .taken)))  -- returns-2
-    (λ c κs. let ranged = c .before .before in said-yes (ranged .before .in-range .ensures) (ranged .if1 .left))  -- laid-out-requires
-    (λ c κs. let fitted = c .before in let ranged = fitted .before .before in let a = ranged .before .before .before .before .before .args in (c .laid-out .ensures, lengths-fit (a .s) (a .longs .now) (a .words .now) (a .marks .now) (said-yes (ranged .before .in-range .ensures) (ranged .if1 .left)) (said-yes (fitted .before .lengths-fit .ensures) (fitted .if2 .left))))  -- tables-sound-requires
-    (λ c. let fitted = c .before .before .before in let ranged = fitted .before .before in let a = ranged .before .before .before .before .before .args in unsound-refused (a .s) (lent (a .longs .now) (a .words .now) (a .marks .now)) (said-yes (ranged .before .in-range .ensures) (ranged .if1 .left)) (said-yes (fitted .before .lengths-fit .ensures) (fitted .if2 .left)) (said-no (c .before .tables-sound .ensures) (c .if3 .taken)))  -- returns-3
-    (λ c. let fitted = c .before .before .before in let ranged = fitted .before .before in let a = ranged .before .before .before .before .before .args in none-refused (a .s) (lent (a .longs .now) (a .words .now) (a .marks .now)) (said-yes (ranged .before .in-range .ensures) (ranged .if1 .left)) (said-yes (fitted .before .lengths-fit .ensures) (fitted .if2 .left)) (said-yes (c .before .tables-sound .ensures) (c .if3 .left))))  -- returns-4
+    (λ c κs. search needs)  -- checked-layout-requires
+    (λ c. search needs)  -- enum-known-n
+    (λ c. search needs)  -- enum-told
+    (λ c. sym (says-refused _ _ (c .before .before .before .checked-layout .ensures) (c .before .n .given .1)))  -- returns
+    (λ c. sym (says-passed _ _ (c .before .before .checked-layout .ensures) (c .enum-told .given .1))))  -- returns-2

@@ -6,6 +6,7 @@ use lib.ListN.{length}
 use borrow.Author.Needs.{needs}
 use borrow.Author.Tests.{eq-eqb, ne-eqb}
 use Rattle.model.specs.Address.{addressOf, setIndex}
+use Rattle.layout.specs.Layout.{wordsMost}
 use Rattle.layout.proofs.Stores.{one-put}
 use Rattle.access.proofs.writes.turn_tree.Statement.{statement}
 use Rattle.access.proofs.writes.turn_tree.Tie as tie
@@ -16,7 +17,7 @@ here c = let a = c .before .before .before .before .before .args in c .set-index
 inside : (c : tie.After-set-index) → let a = c .before .before .before .before .before .args in a .at .trees + c .set-index .result < length (a .words .now)
 inside c = rw (here c) (c .before .before .before .before .before .pre .0)
 
-small : (c : tie.After-set-index) → let a = c .before .before .before .before .before .args in a .at .trees + c .set-index .result < 65536
+small : (c : tie.After-set-index) → let a = c .before .before .before .before .before .args in a .at .trees + c .set-index .result < wordsMost
 small c = omega (arith, inside c, c .before .before .before .before .before .pre .1)
 
 pub turn-tree-spec : {M : Type 1} → statement M

@@ -16,8 +16,8 @@ read-part-spec =
     let h = v .before .before in
     let m = h .before .before .before .before in
     let a = m .before .before .before .before .before .before .before in (
-      a .pre .0 .held,
-      (read-inside (a .pre .0) (a .pre .1 .0) (m .read-more .kept .1 .0) (m .read-more .ensures) (h .have .given .1) (v .read .ensures), read-fits (a .pre .0) (a .pre .1 .0) (m .read-more .kept .1 .0) (m .read-more .ensures) (h .have .given .1) (v .read .ensures)),
+      (a .pre .0 .0, a .pre .0 .1 .held),
+      (read-inside (a .pre .0 .1) (a .pre .1 .0) (m .read-more .kept .1 .0) (m .read-more .ensures) (h .have .given .1) (v .read .ensures), read-fits (a .pre .0 .1) (a .pre .1 .0) (m .read-more .kept .1 .0) (m .read-more .ensures) (h .have .given .1) (v .read .ensures)),
     ))
     (λ c. search needs)
     (λ c κs. search needs)
@@ -36,20 +36,20 @@ read-part-spec =
     let h = v .before .before in
     let m = h .before .before .before .before in
     let a = m .before .before .before .before .before .before .before in
-    read-turned (a .pre .0) (a .pre .1 .0) (m .read-more .kept .1 .0) (m .read-more .ensures) (h .have .given .1) (v .read .ensures) (p .run-part .ensures) (a .pre .1 .1) (p .run-part .kept .1 .0))
+    read-turned (a .pre .0 .1) (a .pre .1 .0) (m .read-more .kept .1 .0) (m .read-more .ensures) (h .have .given .1) (v .read .ensures) (p .run-part .ensures) (a .pre .1 .1) (p .run-part .kept .1 .1 .0))
     (λ c. search needs)
     (λ c.
     let h = c .before .before in
     let m = h .before .before .before .before in
     let a = m .before .before .before .before .before .before .before in
-    ended-turned (a .pre .0) (a .pre .1 .0) (m .read-more .kept .1 .0) (m .read-more .ensures) _ (h .end .given .1) (c .ended .ensures))
+    ended-turned (a .pre .0 .1) (a .pre .1 .0) (m .read-more .kept .1 .0) (m .read-more .ensures) _ (h .end .given .1) (c .ended .ensures))
     (λ c. search needs)
     (λ c.
     let m = c .before .before .before .before .before in
     let a = m .before .before .before .before .before .before .before in
-    absurd (never-full (a .pre .0) (a .pre .1 .0) (m .read-more .kept .1 .0) (m .read-more .ensures) (c .before .enum-told .given .1)))
+    absurd (never-full (a .pre .0 .1) (a .pre .1 .0) (m .read-more .kept .1 .0) (m .read-more .ensures) (c .before .enum-told .given .1)))
     (λ c. search needs)
     (λ c.
     let m = c .before .before .before .before .before in
     let a = m .before .before .before .before .before .before .before in
-    failed-turned (a .pre .0) (a .pre .1 .0) (m .read-more .kept .1 .0) (m .read-more .ensures) _ (c .failed2 .ensures)))
+    failed-turned (a .pre .0 .1) (a .pre .1 .0) (m .read-more .kept .1 .0) (m .read-more .ensures) _ (c .failed2 .ensures)))

@@ -22,7 +22,7 @@ run-part-spec =
     let n = o .before .before in
     let q = n .before in
     let a = q .before .before .before .before .before .before .before in
-    let h = part-within (a .args .scope) (a .args .buf .now) (a .args .w .have) (a .pre .1 .0) (q .front .ensures) (n .part-end .ensures .0) (n .part-end .ensures .1) (o .front2 .ensures) (g .go-on .ensures) in
+    let h = part-within (a .args .scope) (a .args .buf .now) (a .args .w .have) (a .pre .1 .0) (q .front .ensures) (n .part-end .ensures .0) (n .part-end .ensures .1) (o .front2 .ensures) (g .run-records .ensures) in
     omega (arith, a .pre .1 .1))
     (λ c κs. search needs)
     (λ c. search needs)
@@ -40,7 +40,7 @@ run-part-spec =
     let q = n .before in
     let a = q .before .before .before .before .before .before .before in
     part-ran (a .args .scope) (a .args .buf .now) (a .args .w .have) (a .pre .1 .0) (q .front .ensures) (n .part-end .ensures .0) (n .part-end .ensures .1) (o .front2 .ensures)
-    (g .go-on .ensures) (y .carry .ensures .0) (y .carry .ensures .1) (y .carry .kept .0) (h .before .front3 .ensures) (h .hand-out .ensures) (b .behind .ensures))
+    (g .run-records .ensures) (y .carry .ensures .0) (y .carry .ensures .1) (y .carry .kept .0) (h .before .front3 .ensures) (h .hand-out .ensures) (b .behind .ensures))
     (λ c. search needs)
     (λ c. search needs)
     (λ c. search needs)
@@ -56,4 +56,4 @@ run-part-spec =
     let q = n .before in
     let a = q .before .before .before .before .before .before .before in
     part-failed (a .args .scope) (a .args .buf .now) (a .args .w .have) (a .pre .1 .0) (q .front .ensures) (n .part-end .ensures .0) (n .part-end .ensures .1) (o .front2 .ensures)
-    (g .go-on .ensures) (y .carry .ensures .0) (y .carry .ensures .1) (y .carry .kept .0) (h .before .front3 .ensures) (h .hand-out .ensures) (b .behind .ensures) (c .failed .ensures)))
+    (g .run-records .ensures) (y .carry .ensures .0) (y .carry .ensures .1) (y .carry .kept .0) (h .before .front3 .ensures) (h .hand-out .ensures) (b .behind .ensures) (c .failed .ensures)))

@@ -12,7 +12,7 @@ use Rattle.streaming.proofs.parts.run_rest.Statement.{statement}
 use Rattle.streaming.proofs.parts.run_rest.Tie as tie
 
 abbrev Inv-loop : tie.InvT-loop
-Inv-loop fd s buf₀ longs₀ words₀ marks₀ scope events₀ w₀ buf longs words marks events w =
+Inv-loop fd s buf₀ longs₀ words₀ marks₀ scope laid events₀ w₀ buf longs words marks events w =
     (length buf ≡ length buf₀)
     × (length longs ≡ length longs₀)
     × (length words ≡ length words₀)
@@ -23,13 +23,14 @@ Inv-loop fd s buf₀ longs₀ words₀ marks₀ scope events₀ w₀ buf longs w
     × Came s 65536 (lent longs₀ words₀ marks₀) (take (w₀ .have) buf₀) w₀ w (take (w .have) buf) (lent longs words marks)
 
 abbrev μ-loop : tie.MeasureT-loop
-μ-loop fd s buf₀ longs₀ words₀ marks₀ scope events₀ w₀ buf longs words marks events w = turnsOf (w .next) (w .have) (w .left)
+μ-loop fd s buf₀ longs₀ words₀ marks₀ scope laid events₀ w₀ buf longs words marks events w = turnsOf (w .next) (w .have) (w .left)
 
 -- that the loop goes on, or does not, is `cc`'s to find: the call that says so is not named, so that another call there is refused for what it says
 turn-requires : tie.Need-turn-requires Inv-loop μ-loop
 turn-requires c κs =
-    let i = c .before .before .before .before .before .before .before .loop .inv in
-    (i .5, (cc, omega (arith, i .4)))
+    let at = c .before .before .before .before .before .before .before in
+    let i = at .loop .inv in
+    ((at .before .before .before .laid-out .ensures, i .5), (cc, omega (arith, i .4)))
 
 returns : tie.Need-returns Inv-loop μ-loop
 returns c = let i = c .before .before .before .loop .inv in record { ready = i .5; over = cc; claims = i .6; came = i .7 }
@@ -40,10 +41,11 @@ run-rest-spec =
     (tie.spec
     Inv-loop
     μ-loop
+    (λ c κs. c .before .before .before .before .pre .0 .held .are .range)  -- laid-out-requires
     (λ c κs. search needs)
     (λ c. search needs)
     (λ c.
-    let a = c .before .before .before .before .before .before in
+    let a = c .before .before .before .before .before .before .before in
     (refl, refl, refl, refl, sym (c .before .large-buffer .ensures), a .pre .0, a .pre .1, start-came 65536 (a .pre .0)))
     (λ c κs. search needs)
     turn-requires
@@ -51,7 +53,7 @@ run-rest-spec =
     (λ c.
     let t = c .before .before .before .before .before .before .before .before .before .before in
     let i = t .before .before .before .before .before .before .before .before .loop .inv in
-    let k = t .turn .kept .1 .1 in (
+    let k = t .turn .kept .1 .1 .1 in (
       k .0 ∙ i .0,
       k .1 .1 .0 ∙ i .1,
       k .1 .1 .1 .0 ∙ i .2,

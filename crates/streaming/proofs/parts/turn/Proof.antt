@@ -16,7 +16,7 @@ turn-spec =
     let t = c .before .before .before .before .before in
     let a = t .before .before .before .before .before .before .before in
     (a .pre .0, (reads-next (a .args .w .next) (sym (t .before .reads .ensures) ∙ t .if1 .taken), a .pre .1 .1)))
-    (λ c κs. let a = c .before .before .before .before .before .before .before .before .before .before .before .before in (a .pre .0 .held, (a .pre .0 .inside, omega (arith, a .pre .0 .counted))))
+    (λ c κs. let a = c .before .before .before .before .before .before .before .before .before .before .before .before in ((a .pre .0 .0, a .pre .0 .1 .held), (a .pre .0 .1 .inside, omega (arith, a .pre .0 .1 .counted))))
     (λ c. search needs)
     (λ c. search needs)
     (λ c. search needs)
@@ -32,6 +32,6 @@ turn-spec =
     let p = c .before .before .before .before .before .before .before .before .before .before in
     let t = p .before .before .before .before .before .before in
     let a = t .before .before .before .before .before .before .before in
-    let y = a .pre .0 in
-    ran-turned (p .run-part .ensures) (y .held) (a .pre .1 .1) (omega (arith, y .roomy, p .run-part .kept .1 .0)) (length-take-le _ _ (y .inside)) (y .counted)
+    let y = a .pre .0 .1 in
+    ran-turned (p .run-part .ensures) (y .held) (a .pre .1 .1) (omega (arith, y .roomy, p .run-part .kept .1 .1 .0)) (length-take-le _ _ (y .inside)) (y .counted)
     (runs-next (a .args .w .next) (sym (t .before .reads .ensures) ∙ t .if1 .left) (a .pre .1 .0))))

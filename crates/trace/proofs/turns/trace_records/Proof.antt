@@ -12,7 +12,7 @@ use Rattle.trace.proofs.turns.trace_records.Statement.{statement}
 use Rattle.trace.proofs.turns.trace_records.Tie as tie
 
 abbrev Inv-loop : tie.InvT-loop
-Inv-loop s bytes place events₀ longs₀ words₀ marks₀ out₀ put t₀ events longs words marks out t =
+Inv-loop s laid bytes place events₀ longs₀ words₀ marks₀ out₀ put t₀ events longs words marks out t =
     (length events ≡ length events₀)
     × (length longs ≡ length longs₀)
     × (length words ≡ length words₀)
@@ -22,7 +22,7 @@ Inv-loop s bytes place events₀ longs₀ words₀ marks₀ out₀ put t₀ even
     × Held s (lent longs words marks)
 
 abbrev μ-loop : tie.MeasureT-loop
-μ-loop s bytes place events₀ longs₀ words₀ marks₀ out₀ put t₀ events longs words marks out t = turnsLeft (t .more) (length bytes - t .at)
+μ-loop s laid bytes place events₀ longs₀ words₀ marks₀ out₀ put t₀ events longs words marks out t = turnsLeft (t .more) (length bytes - t .at)
 
 pub trace-records-spec : {M : Type 1} → statement M
 trace-records-spec =
@@ -30,8 +30,8 @@ trace-records-spec =
     (tie.spec
     Inv-loop
     μ-loop
-    (λ c. (refl, refl, refl, refl, refl, omega arith, c .before .before .before .before .before .before .pre))  -- loop-holds
-    (λ c κs. let i = c .before .before .before .before .before .before .loop .inv in (i .6, i .5))  -- trace-one-requires
+    (λ c. (refl, refl, refl, refl, refl, omega arith, c .before .before .before .before .before .before .pre .1))  -- loop-holds
+    (λ c κs. let at = c .before .before .before .before .before .before in let i = at .loop .inv in ((at .before .before .before .before .before .before .before .pre .0, i .6), i .5))  -- trace-one-requires
     (λ c.
     let r = c .before .before .before .before .before .before .before .before .before .before in
     let t = r .before .before .before .before .before .before in
@@ -39,7 +39,7 @@ trace-records-spec =
     (λ c.
     let r = c .before .before .before .before .before .before .before .before .before .before in
     let i = r .before .before .before .before .before .before .before .loop .inv in
-    let k = r .trace-one .kept .1 .1 .1 in
+    let k = r .trace-one .kept .1 .1 .1 .1 in
     let e = r .trace-one .ensures in
     (k .0 ∙ i .0, k .1 .0 ∙ i .1, k .1 .1 .0 ∙ i .2, k .1 .1 .1 .0 ∙ i .3, k .1 .1 .1 .1 .0 ∙ i .4, e .inside, e .held))  -- loop-again
     (λ c. search needs)  -- same-length

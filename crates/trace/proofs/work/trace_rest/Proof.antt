@@ -13,7 +13,7 @@ use Rattle.trace.proofs.work.trace_rest.Statement.{statement}
 use Rattle.trace.proofs.work.trace_rest.Tie as tie
 
 abbrev Inv-loop : tie.InvT-loop
-Inv-loop fd s buf₀ longs₀ words₀ marks₀ out₀ events₀ w₀ buf longs words marks out events w =
+Inv-loop fd s buf₀ longs₀ words₀ marks₀ out₀ laid events₀ w₀ buf longs words marks out events w =
     (length buf ≡ length buf₀)
     × (length longs ≡ length longs₀)
     × (length words ≡ length words₀)
@@ -24,7 +24,7 @@ Inv-loop fd s buf₀ longs₀ words₀ marks₀ out₀ events₀ w₀ buf longs 
     × Claims (w .next) (w .stop) (w .have)
 
 abbrev μ-loop : tie.MeasureT-loop
-μ-loop fd s buf₀ longs₀ words₀ marks₀ out₀ events₀ w₀ buf longs words marks out events w = turnsLeft (goesNext (w .next)) (w .left)
+μ-loop fd s buf₀ longs₀ words₀ marks₀ out₀ laid events₀ w₀ buf longs words marks out events w = turnsLeft (goesNext (w .next)) (w .left)
 
 pub trace-rest-spec : {M : Type 1} → statement M
 trace-rest-spec =
@@ -32,11 +32,12 @@ trace-rest-spec =
     (tie.spec
     Inv-loop
     μ-loop
+    (λ c κs. c .before .before .before .before .before .pre .0 .are .range)  -- laid-out-requires
     (λ c κs. search needs)  -- buffer-requires
     (λ c. search needs)  -- slice-aggregate-events
-    (λ c. let a = c .before .before .before .before .before .before .before in (refl, refl, refl, refl, refl, refl, a .pre .0, rw (a .pre .1) tt))  -- loop-holds
+    (λ c. let a = c .before .before .before .before .before .before .before .before in (refl, refl, refl, refl, refl, refl, a .pre .0, rw (a .pre .1) tt))  -- loop-holds
     (λ c κs. search needs)  -- goes-on-requires
-    (λ c κs. c .before .before .before .before .before .before .before .before .loop .inv .6)  -- turn-requires
+    (λ c κs. let at = c .before .before .before .before .before .before .before .before in (at .before .before .before .laid-out .ensures, at .loop .inv .6))  -- turn-requires
     (λ c.
     let r = c .before .before .before .before .before .before .before .before .before .before .before .before in
     let t = r .before .before .before .before .before .before .before in
@@ -45,7 +46,7 @@ trace-rest-spec =
     (λ c.
     let r = c .before .before .before .before .before .before .before .before .before .before .before .before in
     let i = r .before .before .before .before .before .before .before .before .before .loop .inv in
-    let k = r .turn .kept .1 .1 in
+    let k = r .turn .kept .1 .1 .1 in
     (k .0 ∙ i .0, k .1 .1 .0 ∙ i .1, k .1 .1 .1 .0 ∙ i .2, k .1 .1 .1 .1 .0 ∙ i .3, k .1 .1 .1 .1 .1 .0 ∙ i .4, k .1 .0 ∙ i .5, r .turn .ensures .held, r .turn .ensures .read .claims))  -- loop-again
     (λ c κs. let e = c .before .before in record { over = sym (e .before .goes-on .ensures) ∙ e .if1 .left; claims = e .before .before .loop .inv .7 })  -- finished-requires
     (λ c. search needs)  -- same-length

@@ -3,10 +3,10 @@ use borrow.Author.Needs.{needs}
 use Rattle.model.specs.Lent.{lent}
 use Rattle.layout.proofs.Tests.{said-no, said-yes}
 use Rattle.layout.proofs.OfRange.{lengths-fit}
 use Rattle.soundness.proofs.Verdicts.{setting-refused, length-refused, unsound-refused, none-refused}
-use Rattle.cache.proofs.Checked.{laid-refused, laid-passed}
-use Rattle.cache.proofs.checked_layout.Statement.{statement}
-use Rattle.cache.proofs.checked_layout.Tie as tie
+use Rattle.soundness.proofs.Checked.{laid-refused, laid-passed}
+use Rattle.soundness.proofs.checked_layout.Statement.{statement}
+use Rattle.soundness.proofs.checked_layout.Tie as tie
 
 pub checked-layout-spec : {M : Type 1} → statement M
 checked-layout-spec =

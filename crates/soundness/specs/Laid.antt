@@ -7,8 +7,8 @@ use Rattle.model.specs.declared.Verdict.{Verdict}
 use Rattle.model.specs.declared.Verdict.the-variants as verdict
 use Rattle.layout.specs.Layout.{Placed}
 use Rattle.layout.specs.declared.Layout.{Layout}
-use Rattle.cache.specs.declared.LaidVerdict.{LaidVerdict}
-use Rattle.cache.specs.declared.LaidVerdict.the-variants.{Passed, Refused}
+use Rattle.soundness.specs.declared.LaidVerdict.{LaidVerdict}
+use Rattle.soundness.specs.declared.LaidVerdict.the-variants.{Passed, Refused}
 
 abbrev pub verdictIn : LaidVerdict → Verdict
 verdictIn (Passed at) = verdict.Passed
