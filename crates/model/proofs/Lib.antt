@@ -44,3 +44,4 @@ pub mod Separate
 pub mod LentRounds
 pub mod Demand
 pub mod SeenRounds
+pub mod ToldShapes

@@ -28,3 +28,4 @@ pub mod Cases
 pub mod WholeRun
 pub mod Inner
 pub mod Regions
+pub mod ToldShape

@@ -111,6 +111,13 @@ event-short (ev.WriteBackSent b m0 m1 m2 m3) = lit≤ tt
 event-short (ev.Filled a) = lit≤ tt
 event-short ev.Ticked = lit≤ tt
 
+-- room for any event, and where it ends at the latest
+pub any-room : (e : Event) (at : ℕ) {n : ℕ} → at + 25 ≤ n → at + length (eventBytes e) ≤ n
+any-room e at h = omega (arith, event-short e)
+
+pub any-end : (e : Event) {l m : List ℕ} {at r : ℕ} → Laid l at (length (eventBytes e)) (eventBytes e) r m → r ≤ at + 25
+any-end e u = omega (arith, event-short e, u .next)
+
 pub command-short : (c : Command) → length (commandBytes c) ≤ 13
 unfolding records.commandBytes bytesOf
 command-short (cmd.Settings g) = omega (arith, rule-short (g .rule))

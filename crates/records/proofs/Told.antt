@@ -16,7 +16,7 @@ use Rattle.records.specs.Fitting.{Fitting, AllFitting}
 use Rattle.records.specs.Stores.{Laid}
 use Rattle.records.specs.Parts.{queuedTold, ticketsTold}
 use Rattle.records.proofs.Stores.{laid-then, laid-as, laid-sized}
-use Rattle.records.proofs.Log.{log-append, released-length}
+use Rattle.records.proofs.Log.{log-append, log-one, released-length}
 
 -- ---- the numbers fit
 
@@ -64,6 +64,15 @@ module _ (t : Told) where
   told-length =
       let n : length tickets ≡ 5 * min (t .count) (length (t .tickets)) = released-length (take (t .count) (t .tickets)) ∙ ap (λ (k : ℕ). 5 * k) (length-take (t .count) (t .tickets)) in
       ap length (sym told-parts) ∙ rw (length-append, length-append, n) (omega arith)
+
+  -- where the first event is all
+  pub told-alone : t .queues ≤ 0 → t .count ≤ 0 → {l m : List ℕ} {at r : ℕ} → Laid l at (length (eventBytes (t .first))) (eventBytes (t .first)) r m
+      → Laid l at (length (logBytes (eventsTold t))) (logBytes (eventsTold t)) r m
+  unfolding eventsTold
+  told-alone q n u =
+      let no : t .queues ≡ 0 = omega arith in
+      let none : t .count ≡ 0 = omega arith in
+      rw (no, none, log-one (t .first)) u
 
   module _ (two : length (t .queued) ≡ 2) (long : length (t .tickets) ≡ 8) {k n : ℕ} (few : k ≡ min (t .queues) 2) (count : n ≡ min (t .count) 8) where
     -- by the sizes that the code adds up

@@ -1,4 +1,5 @@
--- What the writers promise of a slice; events and commands whose numbers fit their bytes; the parts of a call's events, settings by their numbers.
+-- What the writers promise of a slice; events and commands whose numbers fit their bytes; the parts of a call's events, settings by their numbers,
+-- a part of a stream.
 pub mod Stores
 pub mod Fitting
 pub mod Parts

@@ -1,5 +1,5 @@
 // The current format in numbers, each named once: the lengths of bodies by kind, which kinds are commands, the kinds and the sizes
-// of settings records, the rooms.
+// of settings records, the longest command, the rooms.
 // "Body length is fixed by kind through this table"; 255 for a number that is no kind.
 pub(crate) const LENGTHS: [u8; 25] = [
     7,
@@ -45,6 +45,9 @@ pub(crate) const SETTINGS_SIZE: usize = 8;
 
 // One with a rule byte.
 pub(crate) const RULED_SIZE: usize = 9;
+
+// A kind and the longest body of a command.
+pub const LONGEST: usize = 13;
 
 // "16 fewer than 64 bytes of event room"
 pub const EVENT_ROOM: usize = 64;

@@ -1,18 +1,20 @@
 // "Records" of document 01: a byte of kind, then a body whose length the kind gives. In order: `format` (its numbers), `numbers` (little-endian numbers, read
-// and put), `reader` (records, events and commands read out of a stream), `writer` (their bytes, put where there is room); here the
-// public writers, which look for room first.
+// and put), `reader` (records, events and commands read out of a stream), `writer` (their bytes, put where there is room; the
+// four that are public ask for it); here the public writers, which look for room first.
 mod format;
 mod numbers;
 mod reader;
 mod writer;
 
 pub use format::EVENT_ROOM;
+pub use format::LONGEST;
 pub use format::ROUND_ROOM;
 pub use format::WAIT_ROOM;
 pub use numbers::number1;
 pub use numbers::number2;
 pub use numbers::number4;
 pub use numbers::number8;
+pub use reader::body_of;
 pub use reader::command_at;
 pub use reader::command_of;
 pub use reader::event_at;
@@ -21,6 +23,10 @@ pub use reader::is_command;
 pub use reader::is_settings;
 pub use reader::length_of;
 pub use reader::read_at;
+pub use writer::put_access;
+pub use writer::put_filled;
+pub use writer::put_sent;
+pub use writer::put_ticked;
 ghost use mathlib.Core.Path.{_≡_};
 ghost use Prim.Native.Nat.{_+_};
 ghost use lib.Dec.{leb};

@@ -64,7 +64,7 @@ pub fn number8(b: &[u8], at: usize) -> u64
     low + 4294967296 * high
 }
 
-// A byte; says the next place. There is room, here, below and in `writer`: a public call has looked.
+// A byte; says the next place. There is room, here, below and in `writer`: a public call has looked, or asks for it.
 pub(crate) fn put1(out: &mut [u8], at: usize, x: u8) -> usize
     requires { ⌜ at + 1 ≤ length (now out) ⌝ }
     ensures { λ r. ⌜ Laid (now (out .entry)) at 1 (x ∷ []) r (now (out .exit)) ⌝ }

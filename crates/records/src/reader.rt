@@ -1,5 +1,9 @@
 // Records, events and commands read out of a stream of any bytes.
 ghost use mathlib.Core.Path.{_≡_};
+ghost use mathlib.Core.Bool.{true};
+ghost use Prim.Native.Nat.{_+_, _≤_};
+ghost use lib.ListN.{length};
+ghost use Rattle.records.specs.Parts.{PartAt};
 ghost use Rattle.model.specs.Records.{lengthOf, isCommand, isSettings, readAt, answered, refusedBy, eventOf, eventAt, ruleIn, givenIn, commandOf, commandAt};
 use crate::format::COMMAND_KINDS;
 use crate::format::LENGTHS;
@@ -67,6 +71,17 @@ pub fn read_at(stream: &[u8], at: usize) -> Record
     } else {
         Record::Stopped(Stop::CutShort)
     }
+}
+
+// The body of a command's record that is there whole. Where the caller's kind is a constant, the table of lengths folds away.
+pub fn body_of(stream: &[u8], at: usize, kind: u8) -> &[u8]
+    requires { ⌜ (isCommand kind ≡ true) × (at + 1 + lengthOf kind ≤ length (now stream)) ⌝ }
+    ensures { λ r. ⌜ PartAt (stream .entry) (at + 1) (lengthOf kind) r ⌝ }
+{
+    let k = kind as usize;
+    let start = at + 1;
+    let next = start + LENGTHS[k] as usize;
+    &stream[start..next]
 }
 
 // The answer of a number, with its line.

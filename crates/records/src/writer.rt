@@ -1,12 +1,17 @@
-// Events, commands and what a call tells, put where there is room for them; how many bytes each of them is.
+// Events, commands and what a call tells, put where there is room for them; how many bytes each of them is; what each step tells, by the
+// step.
 ghost use mathlib.Core.Path.{_≡_};
+ghost use mathlib.Core.Bool.{true};
 ghost use Prim.Native.Nat.{_+_, _*_, min, _≤_};
 ghost use mathlib.Core.List.{_∷_, _++_};
 ghost use lib.ListN.{length};
 ghost use Rattle.records.specs.Stores.{Laid};
 ghost use Rattle.records.specs.Fitting.{Fitting, AllFitting, CommandFits};
 ghost use Rattle.records.specs.Parts.{queuedTold, ticketsTold, given};
+ghost use Rattle.model.specs.Steps.{queuedEvent};
 ghost use Rattle.model.specs.Calls.{eventsTold};
+ghost use Rattle.model.specs.Runner.{eventRoom};
+ghost use Rattle.model.specs.ToldShape.{ofAccess, ofSend, ofFill, ofTick, Shaped};
 ghost use Rattle.model.specs.Records.{bytesOf, writeBackBytes, eventBytes, logBytes, settingsKind, ruleBytes, givenBytes, commandBytes};
 use crate::format::RULED_KIND;
 use crate::format::RULED_SIZE;
@@ -21,6 +26,7 @@ use model::Command;
 use model::Event;
 use model::Given;
 use model::GivenRule;
+use model::QueueKind;
 use model::Queued;
 use model::Refusal;
 use model::Told;
@@ -345,4 +351,107 @@ pub(crate) fn put_told(told: Told, out: &mut [u8], at: usize) -> usize
     let i = put_event(first, out, at);
     let j = put_queued(out, i, queues, queued);
     put_tickets(out, j, count, tickets)
+}
+
+// What a step tells, for a caller that knows which step it was and has looked for room: a writer for each step is small enough to be
+// inlined where the step is called. First the event of an entry.
+fn put_entry(out: &mut [u8], at: usize, x: Queued) -> usize
+    requires { ⌜ at + length (eventBytes (queuedEvent x)) ≤ length (now out) ⌝ }
+    ensures { λ r. ⌜ Laid (now (out .entry)) at (length (eventBytes (queuedEvent x))) (eventBytes (queuedEvent x)) r (now (out .exit)) ⌝ }
+{
+    let kind = x.kind;
+    let m = x.masks;
+    match kind {
+        QueueKind::Read => put_address(out, at, 0x12, x.address),
+        QueueKind::WriteBack => put_back(out, at, 0x13, x.address, m[0], m[1], m[2], m[3]),
+    }
+}
+
+// The first event of an access; the shape excludes the others, here and below.
+fn put_access_first(e: Event, out: &mut [u8], at: usize) -> usize
+    requires { ⌜ (ofAccess e ≡ true) × (at + length (eventBytes e) ≤ length (now out)) ⌝ }
+    ensures { λ r. ⌜ Laid (now (out .entry)) at (length (eventBytes e)) (eventBytes e) r (now (out .exit)) ⌝ }
+{
+    match e {
+        Event::Answered { answer, line } => put_answer(out, at, answer, line),
+        Event::Refused(n) => put_refusal(out, at, n),
+        _ => at,
+    }
+}
+
+// The events of an access: its answer or its refusal, then up to two entries. Each entry is read at a place that is known, in no loop: so an
+// inlined value stays out of memory.
+pub fn put_access(told: Told, out: &mut [u8], at: usize) -> usize
+    requires { ⌜ Shaped ofAccess 2 0 told × (at + eventRoom ≤ length (now out)) ⌝ }
+    ensures { λ r. ⌜ Laid (now (out .entry)) at (length (logBytes (eventsTold told))) (logBytes (eventsTold told)) r (now (out .exit)) ⌝ }
+{
+    let first = told.first;
+    let queued = told.queued;
+    let i = put_access_first(first, out, at);
+    if told.queues == 0 {
+        return i;
+    }
+    let x = queued[0];
+    let j = put_entry(out, i, x);
+    if told.queues == 1 {
+        return j;
+    }
+    let y = queued[1];
+    put_entry(out, j, y)
+}
+
+// The event of a send.
+pub fn put_sent(told: Told, out: &mut [u8], at: usize) -> usize
+    requires { ⌜ Shaped ofSend 0 0 told × (at + eventRoom ≤ length (now out)) ⌝ }
+    ensures { λ r. ⌜ Laid (now (out .entry)) at (length (logBytes (eventsTold told))) (logBytes (eventsTold told)) r (now (out .exit)) ⌝ }
+{
+    let first = told.first;
+    match first {
+        Event::ReadSent(a) => put_address(out, at, 0x15, a),
+        Event::WriteBackSent {
+            block,
+            m0,
+            m1,
+            m2,
+            m3,
+        } => put_back(out, at, 0x16, block, m0, m1, m2, m3),
+        Event::Refused(n) => put_refusal(out, at, n),
+        _ => at,
+    }
+}
+
+// The first event of a fill.
+fn put_fill_first(e: Event, out: &mut [u8], at: usize) -> usize
+    requires { ⌜ (ofFill e ≡ true) × (at + length (eventBytes e) ≤ length (now out)) ⌝ }
+    ensures { λ r. ⌜ Laid (now (out .entry)) at (length (eventBytes e)) (eventBytes e) r (now (out .exit)) ⌝ }
+{
+    match e {
+        Event::Filled(a) => put_address(out, at, 0x17, a),
+        Event::Refused(n) => put_refusal(out, at, n),
+        _ => at,
+    }
+}
+
+// The events of a fill: its sector or its refusal, then the tickets.
+pub fn put_filled(told: Told, out: &mut [u8], at: usize) -> usize
+    requires { ⌜ Shaped ofFill 0 8 told × (at + eventRoom ≤ length (now out)) ⌝ }
+    ensures { λ r. ⌜ Laid (now (out .entry)) at (length (logBytes (eventsTold told))) (logBytes (eventsTold told)) r (now (out .exit)) ⌝ }
+{
+    let first = told.first;
+    let tickets = told.tickets;
+    let i = put_fill_first(first, out, at);
+    put_tickets(out, i, told.count, tickets)
+}
+
+// The event of a tick.
+pub fn put_ticked(told: Told, out: &mut [u8], at: usize) -> usize
+    requires { ⌜ Shaped ofTick 0 0 told × (at + eventRoom ≤ length (now out)) ⌝ }
+    ensures { λ r. ⌜ Laid (now (out .entry)) at (length (logBytes (eventsTold told))) (logBytes (eventsTold told)) r (now (out .exit)) ⌝ }
+{
+    let first = told.first;
+    match first {
+        Event::Ticked => put1(out, at, 0x18),
+        Event::Refused(n) => put_refusal(out, at, n),
+        _ => at,
+    }
 }

@@ -1,41 +1,117 @@
--- The step of a command leaves the slices of sound tables, with its events stored; a refusal leaves them as they are.
-use mathlib.Core.Path.{_≡_}
-use Prim.Native.Nat.{ℕ, _≤_}
+-- A record that is run, by its kind: the command in its body, and what its step leaves.
+use mathlib.Core.Path.{_≡_, refl, sym, ap, _∙_}
+use mathlib.Core.Logic.{⊎-elim}
+use mathlib.Core.Bool.{true, false}
 use mathlib.Core.List.{List}
-use Rattle.model.specs.Tables.{refused}
+use Prim.Native.Nat.{ℕ, _+_, _≤_}
+use native.Mathlib.Omega.{arith}
+use borrow.Author.Tests.{ltb-true, eqb-false, eqb-true, ne-eqb}
+use lib.Dec.{eqb}
+use lib.ListN.{length, take}
+use Rattle.model.specs.Address.{maskOf}
 use Rattle.model.specs.Lent.{Lent}
 use Rattle.model.specs.Sound.{allOnes}
-use Rattle.model.specs.Inner.{Does}
+use Rattle.model.specs.Steps.{access, send, fill, tick}
 use Rattle.model.specs.Calls.{eventsTold}
-use Rattle.model.specs.Records.{logBytes}
-use Rattle.model.specs.Runner.{stepOf}
+use Rattle.model.specs.Inner.{Held, Does}
+use Rattle.model.specs.RecordsOf as records
+use Rattle.model.specs.Records.{lengthOf, numberAt, commandIn, commandOf, logBytes}
 use Rattle.model.specs.declared.Settings.{Settings}
-use Rattle.model.specs.declared.Refusal.{Refusal}
-use Rattle.model.specs.declared.Event.the-variants as event
-use Rattle.model.specs.declared.Command.{Command}
+use Rattle.model.specs.declared.Access.{Access}
+use Rattle.model.specs.declared.Access.the-variants.{Read, Write}
+use Rattle.model.specs.declared.Command.the-variants as cmd
+use Rattle.model.specs.declared.CommandRead.the-variants as command
+use Rattle.model.specs.declared.Stop.the-variants as stop
 use Rattle.model.specs.declared.Told.{Told}
-use Rattle.model.proofs.Bridge.{does-is}
-use Rattle.model.proofs.Soundness.{commandMask, step-keeps-sound}
-use Rattle.tables.specs.Telling.{telling}
-use Rattle.tables.proofs.Tellings.{refusal-leaves}
-use Rattle.records.specs.Stores.{Stored}
-use Rattle.running.specs.Resume.{Noted, Notes}
+use Rattle.model.proofs.Flags.{or-no-1, or-no-2, flag}
+use Rattle.records.specs.Stores.{Laid}
+use Rattle.records.proofs.Decoding.{command-sized}
+use Rattle.records.proofs.Lengths.{command-kinds, settings-kinds}
+use Rattle.running.specs.Resume.{kindAt, restAt, accessIn, recordFrom, Ready, Resumes}
+use Rattle.running.proofs.Singles.{ready-going, ready-whole, body-long, record-runs}
 
-module _ (S : Settings) {L : Lent} {e : List ℕ} {out n : ℕ} {f : List ℕ} where
-  pub refused-notes : {r : Told} {x : Refusal} → r ≡ telling (event.Refused x) → Stored e out (logBytes (eventsTold r)) n f → Notes S (λ t. refused x) L e out n f L
-  refused-notes {r} {x} q st =
-      record {
-        noted = record { told = r; does = rw q record { on = λ t i. refusal-leaves x L }; stored = st };
-        keeps = λ t i. i;
-      }
+lengths : (lengthOf 1 ≡ 12) × (lengthOf 2 ≡ 12) × (lengthOf 3 ≡ 0) × (lengthOf 4 ≡ 8) × (lengthOf 5 ≡ 4)
+unfolding records.lengthOf
+lengths = (refl, refl, refl, refl, refl)
 
-  -- a mask of 32 bits is all that soundness asks of the command
-  pub step-notes : {M : Lent} {x y : Command} → x ≡ y → commandMask y ≤ allOnes → Noted S (stepOf S y) L e out n f M → Notes S (stepOf S x) L e out n f M
-  step-notes {M} {x} {y} q small d =
-      rw q record {
-        noted = d;
-        keeps = λ t i. does-is S (d .does) t i (step-keeps-sound S y t (i .range) small (i .soundly));
-      }
+module _ (s : List ℕ) (at out : ℕ) (e : List ℕ) (ready : Ready s at out e) where
+  abbrev k : ℕ
+  k = kindAt s at
 
-  pub told-notes : {M : Lent} {r : Told} {x y : Command} → x ≡ y → commandMask y ≤ allOnes → Does S (stepOf S y) L r M → Stored e out (logBytes (eventsTold r)) n f → Notes S (stepOf S x) L e out n f M
-  told-notes {r = r} q small d st = step-notes q small record { told = r; does = d; stored = st }
+  -- it is of a step
+  pub kind-least : 1 ≤ k
+  kind-least =
+      let z = eqb-false k 0 (or-no-1 (eqb k 0) (eqb k 6) (settings-kinds k ∙ ready-going s at out e ready .later)) in
+      omega arith
+
+  pub kind-most : k ≤ 5
+  kind-most =
+      let z = eqb-false k 6 (or-no-2 (eqb k 0) (eqb k 6) (settings-kinds k ∙ ready-going s at out e ready .later)) in
+      let m = ltb-true k 7 (command-kinds k ∙ ready-going s at out e ready .command) in
+      omega arith
+
+  access-long : k ≤ 2 → lengthOf k ≡ 12
+  access-long most =
+      ⊎-elim
+      (λ y. ap lengthOf (eqb-true k 1 y) ∙ lengths .0)
+      (λ y. let z = eqb-false k 1 y in let g = kind-least in let h : k ≡ 2 = omega arith in ap lengthOf h ∙ lengths .1)
+      (flag (eqb k 1))
+
+  pub access-whole : k ≤ 2 → at + 13 ≤ length s
+  access-whole most = let l = access-long most in let h = ready-whole s at out e ready in omega arith
+
+  pub whole-at : (j : ℕ) → k ≡ j → at + 1 + lengthOf j ≤ length s
+  whole-at j h = let l : lengthOf k ≡ lengthOf j = ap lengthOf h in let w = ready-whole s at out e ready in omega arith
+
+  module _ (j : ℕ) (h : k ≡ j) {b : List ℕ} (p : b ≡ take (lengthOf j) (restAt s at)) where
+    body-is : take (lengthOf k) (restAt s at) ≡ b
+    body-is = ap (λ (i : ℕ). take (lengthOf i) (restAt s at)) h ∙ sym p
+
+    pub body-size : length b ≡ lengthOf j
+    body-size = sym (ap length body-is) ∙ body-long s at out e ready ∙ ap lengthOf h
+
+    command-is : commandOf k (take (lengthOf k) (restAt s at)) ≡ commandIn j b
+    command-is = command-sized k _ j h (body-long s at out e ready) ∙ ap (commandIn j) body-is
+
+  module _ (S : Settings) (L : Lent) (held : Held S L) (told : Told) (M : Lent) (w : ℕ) (f : List ℕ)
+      (laid : Laid e out (length (logBytes (eventsTold told))) (logBytes (eventsTold told)) w f) (size : length f ≡ length e) where
+    abbrev Left : ℕ → Type 0
+    Left n = Resumes S (recordFrom S s at out e) s at out e L record { stop = stop.Nothing; consumed = n; written = w } f M
+
+    pub send-runs : k ≡ 3 → Does S send L told M → Left (at + 1)
+    send-runs h d =
+        let l : lengthOf k ≡ 0 = ap lengthOf h ∙ lengths .2 in
+        record-runs s at out e ready S L held cmd.Send (command-is 3 h refl) (omega arith) d laid size (omega arith)
+
+    pub fill-runs : k ≡ 4 → {b : List ℕ} → b ≡ take (lengthOf 4) (restAt s at) → {a : ℕ} → a ≡ numberAt b 0 8 → Does S (fill a) L told M → Left (at + 1 + length b)
+    fill-runs h {b} p {a} q d =
+        let l : lengthOf k ≡ lengthOf 4 = ap lengthOf h in
+        let n = body-size 4 h p in
+        record-runs s at out e ready S L held (cmd.Fill a) (command-is 4 h p ∙ ap (λ (x : ℕ). command.Got (cmd.Fill x)) (sym q)) (omega arith) d laid size (omega arith)
+
+    pub tick-runs : k ≡ 5 → {b : List ℕ} → b ≡ take (lengthOf 5) (restAt s at) → {c : ℕ} → c ≡ numberAt b 0 4 → Does S (tick c) L told M → Left (at + 1 + length b)
+    tick-runs h {b} p {c} q d =
+        let l : lengthOf k ≡ lengthOf 5 = ap lengthOf h in
+        let n = body-size 5 h p in
+        record-runs s at out e ready S L held (cmd.Tick c) (command-is 5 h p ∙ ap (λ (x : ℕ). command.Got (cmd.Tick x)) (sym q)) (omega arith) d laid size (omega arith)
+
+    module _ {x : Access} (d : Does S (access S x) L told M) where
+      read-runs : k ≡ 1 → x ≡ Read (numberAt (take 12 (restAt s at)) 0 8) 0 (numberAt (take 12 (restAt s at)) 8 4) → Left (at + 13)
+      read-runs h q =
+          let l : lengthOf k ≡ 12 = ap lengthOf h ∙ lengths .0 in
+          let p : take 12 (restAt s at) ≡ take (lengthOf 1) (restAt s at) = rw (lengths .0) in
+          record-runs s at out e ready S L held (cmd.Read _ _) (command-is 1 h p) (omega arith) (rw q at d) laid size (omega arith)
+
+      write-runs : k ≡ 2 → x ≡ Write (numberAt (take 12 (restAt s at)) 0 8) (numberAt (take 12 (restAt s at)) 8 4) 0 → maskOf x ≤ allOnes → Left (at + 13)
+      write-runs h q small =
+          let l : lengthOf k ≡ 12 = ap lengthOf h ∙ lengths .1 in
+          let p : take 12 (restAt s at) ≡ take (lengthOf 2) (restAt s at) = rw (lengths .1) in
+          let m : numberAt (take 12 (restAt s at)) 8 4 ≤ allOnes = rw q at small in
+          record-runs s at out e ready S L held (cmd.Write _ _) (command-is 2 h p) m (rw q at d) laid size (omega arith)
+
+      pub access-runs : k ≤ 2 → x ≡ accessIn k (take 12 (restAt s at)) → maskOf x ≤ allOnes → Left (at + 13)
+      access-runs most q small =
+          ⊎-elim
+          (λ y. read-runs (eqb-true k 1 y) (q ∙ rw y))
+          (λ y. let z = eqb-false k 1 y in let g = kind-least in write-runs (omega arith) (q ∙ rw y) small)
+          (flag (eqb k 1))

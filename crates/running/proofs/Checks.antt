@@ -1,11 +1,11 @@
 -- The checks at a record, by what reading it came to; its body and the place behind it.
 use mathlib.Core.Path.{_≡_, refl, sym, ap, _∙_}
 use mathlib.Core.Logic.{⊎-elim}
-use mathlib.Core.Bool.{Bool, true, false, not, _||_}
+use mathlib.Core.Bool.{Bool, true, false, not, _&&_, _||_}
 use mathlib.Core.List.{List}
 use Prim.Native.Nat.{ℕ, _+_, _-_, _≤_, _<_}
 use native.Mathlib.Omega.{arith}
-use borrow.Author.Tests.{not-true, not-false, lt-ltb, le-ltb, ltb-true, ltb-false, leb-true}
+use borrow.Author.Tests.{not-true, not-false, ne-eqb, lt-ltb, le-ltb, ltb-true, ltb-false, leb-true}
 use lib.Dec.{ltb, leb, eqb}
 use lib.ListN.{length, take, length-drop}
 use Rattle.model.specs.Words.{pick, every}
@@ -18,9 +18,9 @@ use Rattle.model.specs.declared.Record.{Record}
 use Rattle.model.specs.declared.Record.the-variants.{Whole, Stopped}
 use Rattle.model.specs.declared.Stop.{Stop}
 use Rattle.model.specs.declared.Stop.the-variants.{Nothing, OutOfPlace, UnknownKind, CutShort, NoRoom}
-use Rattle.model.proofs.Flags.{clash, flag}
+use Rattle.model.proofs.Flags.{and-1, and-2, clash, flag}
 use Rattle.model.proofs.Below.{every-at}
-use Rattle.records.proofs.Lengths.{command-kinds, body-short}
+use Rattle.records.proofs.Lengths.{command-kinds, settings-kinds, body-short}
 use Rattle.records.proofs.Reading.{read-cut, read-whole}
 use Rattle.reader.specs.Taken.{behind}
 use Rattle.running.specs.Resume.{kindAt, restAt, headStop, foundStop, laterFound}
@@ -131,6 +131,20 @@ module _ (s : List ℕ) (at : ℕ) (inside : at < length s) where
       (flag cut))
       (λ c. no-command k (readAt s at) c ∙ (rw c))
       (flag (isCommand k))
+
+  -- of a step, with room for the longest of them and for its events
+  pub usual-later : (room : ℕ) → (leb 1 k && leb k 5 && leb 13 (length s - at) && leb eventRoom room) ≡ true → Nothing ≡ laterStop room k (restAt s at)
+  unfolding runner.laterStop
+  usual-later room test =
+      let least = leb-true 1 k (search (and-1, and-2) depth 5) in
+      let most = leb-true k 5 (search (and-1, and-2) depth 5) in
+      let long = leb-true 13 (length s - at) (search (and-1, and-2) depth 5) in
+      let roomy = leb-true eventRoom room (search (and-1, and-2) depth 5) in
+      let c : isCommand k ≡ true = sym (command-kinds k) ∙ lt-ltb k 7 (omega arith) in
+      let m = body-short k c in
+      let l = left in
+      let z : isSettings k ≡ false = sym (settings-kinds k) ∙ (rw (ne-eqb k 0 (λ q. omega arith), ne-eqb k 6 (λ q. omega arith))) in
+      rw (c, le-ltb (length (restAt s at)) (lengthOf k) (omega arith), z, le-ltb room eventRoom roomy)
 
   module _ {f : Record} (read : f ≡ readAt s at) where
     head-is : {n : Stop} → n ≡ headStop k f → n ≡ headBy (isCommand k) cut

@@ -1,4 +1,4 @@
--- A record by itself, from what the functions promise that check it, read it, do its step and write its events.
+-- A record by itself: one that stops; one that is run, from what the functions promise that do its step and write its events.
 use mathlib.Core.Path.{_≡_, refl, sym, ap, _∙_}
 use mathlib.Core.Bool.{true, false}
 use mathlib.Core.List.{List, append-nil}
@@ -11,23 +11,25 @@ use lib.Seq.{length-take-le, sets-eq}
 use Rattle.model.specs.Range.{inRange}
 use Rattle.model.specs.Tables.{Tables, after, eventsOf}
 use Rattle.model.specs.Lent.{Lent}
-use Rattle.model.specs.Sound.{sound}
+use Rattle.model.specs.Sound.{sound, allOnes}
 use Rattle.model.specs.Calls.{eventsTold}
 use Rattle.model.specs.Records.{lengthOf, commandOf, logBytes, fillBytes}
 use Rattle.model.specs.RunnerOf as runner
-use Rattle.model.specs.Runner.{goesOn, laterStop, stepRead, stepAt, halt}
-use Rattle.model.specs.Inner.{Is, Held}
+use Rattle.model.specs.Runner.{eventRoom, goesOn, laterStop, stepOf, commandMask, stepRead, stepAt, halt}
+use Rattle.model.specs.Inner.{Is, Held, Does}
 use Rattle.model.specs.declared.Settings.{Settings}
+use Rattle.model.specs.declared.Command.{Command}
 use Rattle.model.specs.declared.CommandRead.{CommandRead}
 use Rattle.model.specs.declared.CommandRead.the-variants as command
 use Rattle.model.specs.declared.Refusal.the-variants as refusal
 use Rattle.model.specs.declared.Stop.{Stop}
 use Rattle.model.specs.declared.Stop.the-variants as stop
 use Rattle.model.specs.declared.Told.{Told}
-use Rattle.model.proofs.Bridge.{does-tells}
-use Rattle.records.proofs.Stores.{was-stored}
+use Rattle.model.proofs.Bridge.{does-tells, does-is}
+use Rattle.model.proofs.Soundness.{step-keeps-sound}
+use Rattle.records.specs.Stores.{Laid}
 use Rattle.records.proofs.Room.{Takes, refused-takes, step-takes}
-use Rattle.running.specs.Resume.{kindAt, restAt, single, recordFrom, Stands, Notes, Resumes}
+use Rattle.running.specs.Resume.{kindAt, restAt, single, recordFrom, Stands, Ready, Resumes}
 use Rattle.running.proofs.Running.{Going, going}
 
 -- ---- the events of one step
@@ -44,40 +46,48 @@ step-room S k rest t range ok = read-takes S (commandOf k (take (lengthOf k) res
 
 -- ---- a record that stops, and one that is run
 
-module _ (s : List ℕ) (at out : ℕ) (e : List ℕ) {n : Stop} (d : n ≡ laterStop (length e - out) (kindAt s at) (restAt s at)) (goes : goesOn n ≡ true) where
-  checked : Going (length e - out) (kindAt s at) (restAt s at)
-  checked = going _ _ _ (rw (← d) goes)
+module _ (S : Settings) (s : List ℕ) (at out : ℕ) (e : List ℕ) (L : Lent) (here : Stands s at out e)
+    {n : Stop} (d : n ≡ laterStop (length e - out) (kindAt s at) (restAt s at)) (stops : goesOn n ≡ false) where
+  halted : (t : Tables) → recordFrom S s at out e t ≡ halt n t
+  unfolding single
+  halted t = rw (← d, stops)
 
-  pub next-inside : at < length s → {c : ℕ} → c ≡ at + 1 + lengthOf (kindAt s at) → c ≤ length s
-  next-inside inside c-is =
-      let w = checked .whole in
+  pub single-halts : Resumes S (recordFrom S s at out e) s at out e L record { stop = n; consumed = at; written = out } e L
+  single-halts =
+      let long = length-take-le out e (here .room) in
+      record {
+        on = λ t i. rw (halted t) record {
+          stop = refl;
+          consumed = sym (add-zero at);
+          written = sym (rw append-nil long);
+          events = rw (append-nil, long) (sym (take-append-drop out e));
+          tables = i .encoded;
+        };
+        keeps = λ t i. rw (halted t) i;
+        stands = here;
+      }
+
+module _ (s : List ℕ) (at out : ℕ) (e : List ℕ) (ready : Ready s at out e) where
+  pub ready-going : Going (length e - out) (kindAt s at) (restAt s at)
+  ready-going = going _ _ _ (ready .goes)
+
+  pub ready-room : out + eventRoom ≤ length e
+  ready-room = let g = ready-going .roomy in let r = ready .stands .room in omega arith
+
+  pub ready-whole : at + 1 + lengthOf (kindAt s at) ≤ length s
+  ready-whole =
+      let w = ready-going .whole in
+      let i = ready .inside in
       let l : length (restAt s at) ≡ length s - (at + 1) = length-drop (at + 1) s in
       omega arith
 
-module _ (S : Settings) (s : List ℕ) (at out : ℕ) (e : List ℕ) (L : Lent) (here : Stands s at out e)
-    {n : Stop} (d : n ≡ laterStop (length e - out) (kindAt s at) (restAt s at)) where
-  long : length (take out e) ≡ out
-  long = length-take-le out e (here .room)
+  abbrev body : List ℕ
+  body = take (lengthOf (kindAt s at)) (restAt s at)
 
-  module _ (stops : goesOn n ≡ false) where
-    halted : (t : Tables) → recordFrom S s at out e t ≡ halt n t
-    unfolding single
-    halted t = rw (← d, stops)
+  pub body-long : length body ≡ lengthOf (kindAt s at)
+  body-long = length-take-le (lengthOf (kindAt s at)) (restAt s at) (ready-going .whole)
 
-    pub single-halts : Resumes S (recordFrom S s at out e) s at out e L record { stop = n; consumed = at; written = out } e L
-    single-halts = record {
-      on = λ t i. rw (halted t) record {
-        stop = refl;
-        consumed = sym (add-zero at);
-        written = sym (rw append-nil long);
-        events = rw (append-nil, long) (sym (take-append-drop out e));
-        tables = i .encoded;
-      };
-      keeps = λ t i. rw (halted t) i;
-      stands = here;
-    }
-
-  module _ (goes : goesOn n ≡ true) where
+  module _ (S : Settings) (L : Lent) (held : Held S L) where
     ran : (t : Tables)
         → recordFrom S s at out e t
         ≡ record {
@@ -87,41 +97,43 @@ module _ (S : Settings) (s : List ℕ) (at out : ℕ) (e : List ℕ) (L : Lent) 
           tables = after t (stepAt S (kindAt s at) (restAt s at) t);
         }
     unfolding single
-    ran t = let z : goesOn (laterStop (length e - out) (kindAt s at) (restAt s at)) ≡ true = rw (← d) goes in rw z
+    ran t = rw (ready .goes)
 
-    -- its body is the part of the stream that the code hands over
-    module _ {c : ℕ} (c-is : c ≡ at + 1 + lengthOf (kindAt s at)) {x : CommandRead}
-        (read : x ≡ commandOf (kindAt s at) (take (c - (at + 1)) (drop (at + 1) s)))
-        {w : ℕ} {f : List ℕ} {M : Lent} (notes : Notes S (stepRead S x) L e out w f M) (held : Held S L) where
-      abbrev told : Told
-      told = notes .noted .told
-
-      step-is : (t : Tables) → stepRead S x t ≡ stepAt S (kindAt s at) (restAt s at) t
+    -- what the code does is the step of the command in the body; a mask of 32 bits is all that soundness asks of that
+    module _ (c : Command) (read : commandOf (kindAt s at) body ≡ command.Got c) (small : commandMask c ≤ allOnes)
+        {told : Told} {M : Lent} (does : Does S (stepOf S c) L told M) where
+      step-is : (t : Tables) → stepOf S c t ≡ stepAt S (kindAt s at) (restAt s at) t
       unfolding runner.stepAt
-      step-is t = let q : c - (at + 1) ≡ lengthOf (kindAt s at) = omega arith in rw (read, q)
+      step-is t = rw read
 
       told-is : (t : Tables) → Is S L t → eventsTold told ≡ eventsOf (stepAt S (kindAt s at) (restAt s at) t)
-      told-is t i = does-tells S (notes .noted .does) t i ∙ ap eventsOf (step-is t)
+      told-is t i = does-tells S does t i ∙ ap eventsOf (step-is t)
 
       told-room : out + length (logBytes (eventsTold told)) ≤ length e
       told-room =
           let i = held .are in
-          let g = checked s at out e d goes .roomy in
+          let g = ready-room in
           let w = step-room S (kindAt s at) (restAt s at) (held .tables) (i .range) (i .soundly) in
-          rw (told-is (held .tables) i) (let r = here .room in omega arith)
+          rw (told-is (held .tables) i) (omega arith)
 
-      pub single-runs : at < length s → length f ≡ length e
-          → Resumes S (recordFrom S s at out e) s at out e L record { stop = stop.Nothing; consumed = c; written = out + w } f M
-      single-runs inside size =
-          let (count, slice) = was-stored e out (logBytes (eventsTold told)) (notes .noted .stored) told-room in
+      after-is : (t : Tables) → Is S L t → Is S M (after t (stepAt S (kindAt s at) (restAt s at) t))
+      after-is t i = rw (← step-is t) (does-is S does t i (step-keeps-sound S c t (i .range) small (i .soundly)))
+
+      pub record-runs : {w : ℕ} {f : List ℕ} → Laid e out (length (logBytes (eventsTold told))) (logBytes (eventsTold told)) w f → length f ≡ length e
+          → {n : ℕ} → n ≡ at + 1 + lengthOf (kindAt s at)
+          → Resumes S (recordFrom S s at out e) s at out e L record { stop = stop.Nothing; consumed = n; written = w } f M
+      record-runs laid size next =
+          let long = length-take-le out e (ready .stands .room) in
+          let r = told-room in
+          let p = laid .next in
           record {
             on = λ t i. rw (ran t) record {
               stop = refl;
               consumed = omega arith;
-              written = rw (← told-is t i, length-append, long) (omega arith);
-              events = rw (← told-is t i, length-append, long) (slice ∙ sets-eq (logBytes (eventsTold told)) e out told-room);
-              tables = rw (← step-is t) (notes .keeps t i .encoded);
+              written = rw (← told-is t i, length-append, long) p;
+              events = rw (← told-is t i, length-append, long) (laid .slice ∙ sets-eq (logBytes (eventsTold told)) e out r);
+              tables = after-is t i .encoded;
             };
-            keeps = λ t i. rw (ran t, ← step-is t) (notes .keeps t i);
-            stands = record { inside = next-inside s at out e d goes inside c-is; room = let r = told-room in omega arith };
+            keeps = λ t i. rw (ran t) (after-is t i);
+            stands = record { inside = let h = ready-whole in omega arith; room = omega arith };
           }

@@ -1,24 +1,26 @@
 -- A run in parts: one record by itself, and a run that goes on from a place of the stream behind event bytes that are written.
 -- Nothing here is document 01's.
-use Prim.Native.Nat.{ℕ, _+_, _-_, _≤_}
+use mathlib.Core.Path.{_≡_}
+use mathlib.Core.Bool.{true}
+use Prim.Native.Nat.{ℕ, _+_, _-_, _≤_, _<_}
 use mathlib.Core.List.{List}
+use lib.Dec.{eqb}
 use lib.ListN.{length, take, drop, getD}
 use Rattle.model.specs.Words.{pick}
-use Rattle.model.specs.Tables.{Tables, Outcome, after, eventsOf}
+use Rattle.model.specs.Tables.{Tables, after, eventsOf}
 use Rattle.model.specs.Lent.{Lent}
-use Rattle.model.specs.Records.{isCommand, isSettings, lengthOf, logBytes}
+use Rattle.model.specs.Records.{isCommand, isSettings, lengthOf, numberAt, logBytes}
 use Rattle.model.specs.Runner.{roomStop, goesOn, laterStop, stepAt, Result, halt, ahead, runFrom, lentResult, Runs}
-use Rattle.model.specs.Inner.{Is, Does}
-use Rattle.model.specs.Calls.{eventsTold}
+use Rattle.model.specs.Inner.{Is}
 use Rattle.model.specs.declared.Settings.{Settings}
+use Rattle.model.specs.declared.Access.{Access}
+use Rattle.model.specs.declared.Access.the-variants.{Read, Write}
 use Rattle.model.specs.declared.Record.{Record}
 use Rattle.model.specs.declared.Record.the-variants.{Whole, Stopped}
 use Rattle.model.specs.declared.Stop.{Stop}
 use Rattle.model.specs.declared.Stop.the-variants.{OutOfPlace, UnknownKind}
 use Rattle.model.specs.declared.Stop.the-variants as stop
-use Rattle.model.specs.declared.Told.{Told}
 use Rattle.model.specs.declared.Ran.{Ran}
-use Rattle.records.specs.Stores.{Stored}
 
 -- the kind of the record at a place of a stream, and the bytes behind that
 abbrev pub kindAt : List ℕ → ℕ → ℕ
@@ -26,6 +28,10 @@ kindAt s at = getD s at 0
 
 abbrev pub restAt : List ℕ → ℕ → List ℕ
 restAt s at = drop (at + 1) s
+
+-- the access of a body of kind 1, or else of kind 2
+abbrev pub accessIn : ℕ → List ℕ → Access
+accessIn k b = pick (eqb k 1) (Read (numberAt b 0 8) 0 (numberAt b 8 4)) (Write (numberAt b 0 8) (numberAt b 8 4) 0)
 
 -- what stops at the head of a record, of its kind and what reading it came to: "To the runner event kinds are unknown kinds", cut short or not
 unfoldable pub headStop : ℕ → Record → Stop
@@ -62,16 +68,11 @@ pub record Stands (s : List ℕ) (at out : ℕ) (e : List ℕ) : Type 0 where
   pub inside : at ≤ length s
   pub room : out ≤ length e
 
--- a step on what the slices L hold left the slices M, and its events stand behind `out` bytes: n of them
-pub record Noted (S : Settings) (step : Tables → Outcome Tables) (L : Lent) (e : List ℕ) (out n : ℕ) (f : List ℕ) (M : Lent) : Type 0 where
-  pub told : Told
-  pub does : Does S step L told M
-  pub stored : Stored e out (logBytes (eventsTold told)) n f
-
--- the same, and M holds sound tables again
-pub record Notes (S : Settings) (step : Tables → Outcome Tables) (L : Lent) (e : List ℕ) (out n : ℕ) (f : List ℕ) (M : Lent) : Type 0 where
-  pub noted : Noted S step L e out n f M
-  pub keeps : (t : Tables) → Is S L t → Is S M (after t (step t))
+-- nothing stops at the record there: it is of a step, whole, and its events have room
+pub record Ready (s : List ℕ) (at out : ℕ) (e : List ℕ) : Type 0 where
+  pub stands : Stands s at out e
+  pub inside : at < length s
+  pub goes : goesOn (laterStop (length e - out) (kindAt s at) (restAt s at)) ≡ true
 
 -- the records that o runs from there, on the sound tables that L holds, leave this; consumed and written count from the start
 pub record Resumes (S : Settings) (o : Tables → Result Tables) (s : List ℕ) (at out : ℕ) (e : List ℕ) (L : Lent) (r : Ran) (f : List ℕ) (M : Lent) : Type 0 where

@@ -1,29 +1,25 @@
-// The inner layer of the stream runner (document 01, "Records"): the checks at a record, what a record does, the first record, and the
-// records behind it on tables that are known to be sound. `begin` and `run_records` are the two halves of a run, for a caller that holds
-// the tables and their layout between them; `first_there`, `first_record` and `lengths_for` tell such a caller when to begin, with what,
-// and what to lend.
+// The inner layer of the stream runner (document 01, "Records"): the checks at a record, the records behind the first on tables that are
+// known to be sound, each by `record`, and the first record. `begin` and `run_records` are the two halves of a run, for a caller that
+// holds the tables and their layout between them; `first_there`, `first_record` and `lengths_for` tell such a caller when to begin, with
+// what, and what to lend.
+mod record;
+
 use layout::Layout;
-use model::Access;
-use model::Command;
-use model::CommandRead;
 use model::Ran;
 use model::Record;
-use model::Refusal;
 use model::Settings;
 use model::Stop;
 use model::Verdict;
+use record::run_one;
 ghost use mathlib.Core.Path.{_≡_};
-ghost use Prim.Native.Nat.{_<_};
-ghost use lib.ListN.{length};
 ghost use Rattle.model.specs.Lent.{lent};
 ghost use Rattle.model.specs.Inner.{Held};
-ghost use Rattle.model.specs.Steps.{access};
 ghost use Rattle.model.specs.Records.{settingsIn};
-ghost use Rattle.model.specs.Runner.{roomStop, goesOn, stepOf, stepRead};
+ghost use Rattle.model.specs.Runner.{roomStop, goesOn};
 ghost use Rattle.layout.specs.Layout.{Placed};
 ghost use Rattle.running.specs.Begin.{firstRecord, freshStop, Accepts, firstThere};
 ghost use Rattle.running.specs.Lengths.{noLengths, lengthsOf, lengthsAsked};
-ghost use Rattle.running.specs.Resume.{headStop, foundStop, laterFound, Stands, Noted, Notes, recordFrom, restFrom, Resumes};
+ghost use Rattle.running.specs.Resume.{headStop, foundStop, laterFound, Stands, restFrom, Resumes};
 
 // "15 cut short"
 const CUT_SHORT: u8 = 15;
@@ -113,147 +109,10 @@ fn room_stop(room: usize) -> Stop
 }
 
 // The checks at a record that is not the first, with this much event room.
-fn later_stop(kind: u8, found: Record, room: usize) -> Stop
+pub(crate) fn later_stop(kind: u8, found: Record, room: usize) -> Stop
     ensures { λ r. ⌜ r ≡ laterFound room kind found ⌝ }
 {
     record_stop(kind, found, Stop::OutOfPlace, room_stop(room))
-}
-
-// One access on sound tables, and its events behind `out` bytes.
-fn note_access(
-    s: Settings,
-    at: Layout,
-    longs: &mut [u64],
-    words: &mut [u32],
-    marks: &mut [u8],
-    x: Access,
-    events: &mut [u8],
-    out: usize,
-) -> usize
-    requires { ⌜ Placed s at × Held s (lent (now longs) (now words) (now marks)) ⌝ }
-    ensures { λ r. ⌜ Noted s (access s x) (lent (now (longs .entry)) (now (words .entry)) (now (marks .entry))) (now (events .entry)) out r
-        (now (events .exit)) (lent (now (longs .exit)) (now (words .exit)) (now (marks .exit))) ⌝ }
-{
-    let told = access::access_step(s, at, longs, words, marks, x);
-    records::write_told(told, events, out)
-}
-
-// The step of a command, on sound tables, and its events behind `out` bytes. Settings are refused: the checks before it let none
-// through. Each arm writes what its own step tells, so that no such value, which is large, is copied to a common place.
-fn step_of(
-    s: Settings,
-    at: Layout,
-    longs: &mut [u64],
-    words: &mut [u32],
-    marks: &mut [u8],
-    x: Command,
-    events: &mut [u8],
-    out: usize,
-) -> usize
-    requires { ⌜ Placed s at × Held s (lent (now longs) (now words) (now marks)) ⌝ }
-    ensures { λ r. ⌜ Notes s (stepOf s x) (lent (now (longs .entry)) (now (words .entry)) (now (marks .entry))) (now (events .entry)) out r
-        (now (events .exit)) (lent (now (longs .exit)) (now (words .exit)) (now (marks .exit))) ⌝ }
-{
-    match x {
-        Command::Settings(_) => records::write_told(
-            tables::refused(Refusal::SettingOutOfRange),
-            events,
-            out,
-        ),
-        Command::Read { address, ticket } => {
-            let access = Access::Read {
-                address,
-                mask: 0,
-                ticket,
-            };
-            note_access(s, at, longs, words, marks, access, events, out)
-        }
-        Command::Write { address, mask } => {
-            let access = Access::Write {
-                address,
-                mask,
-                ticket: 0,
-            };
-            note_access(s, at, longs, words, marks, access, events, out)
-        }
-        Command::Send => {
-            let told = steps::send_step(s, at, longs, words, marks);
-            records::write_told(told, events, out)
-        }
-        Command::Fill(address) => {
-            let told = steps::fill_step(s, at, longs, words, marks, address);
-            records::write_told(told, events, out)
-        }
-        Command::Tick(cycle) => {
-            let told = steps::tick_step(s, longs, words, marks, cycle);
-            records::write_told(told, events, out)
-        }
-    }
-}
-
-// The same of a body that was read; one that is no command's is refused too.
-fn step_read(
-    s: Settings,
-    at: Layout,
-    longs: &mut [u64],
-    words: &mut [u32],
-    marks: &mut [u8],
-    x: CommandRead,
-    events: &mut [u8],
-    out: usize,
-) -> usize
-    requires { ⌜ Placed s at × Held s (lent (now longs) (now words) (now marks)) ⌝ }
-    ensures { λ r. ⌜ Notes s (stepRead s x) (lent (now (longs .entry)) (now (words .entry)) (now (marks .entry))) (now (events .entry)) out r
-        (now (events .exit)) (lent (now (longs .exit)) (now (words .exit)) (now (marks .exit))) ⌝ }
-{
-    match x {
-        CommandRead::Got(c) => step_of(s, at, longs, words, marks, c, events, out),
-        CommandRead::None => {
-            records::write_told(tables::refused(Refusal::SettingOutOfRange), events, out)
-        }
-    }
-}
-
-// One record, at byte `at`: every check, then its step, then its events behind the `out` bytes that are written. Its body is cut here, for
-// speed: `next` hands back a struct with the record and the part, which goes through memory.
-fn run_one(
-    s: Settings,
-    laid: Layout,
-    stream: &[u8],
-    at: usize,
-    events: &mut [u8],
-    out: usize,
-    longs: &mut [u64],
-    words: &mut [u32],
-    marks: &mut [u8],
-) -> Ran
-    requires { ⌜ Placed s laid × Held s (lent (now longs) (now words) (now marks)) ⌝ }
-    requires { ⌜ Stands (now stream) at out (now events) ⌝ }
-    requires { ⌜ at < length (now stream) ⌝ }
-    ensures { λ r. ⌜ Resumes s (recordFrom s (now (stream .entry)) at out (now (events .entry)))
-        (now (stream .entry)) at out (now (events .entry))
-        (lent (now (longs .entry)) (now (words .entry)) (now (marks .entry))) r
-        (now (events .exit)) (lent (now (longs .exit)) (now (words .exit)) (now (marks .exit))) ⌝ }
-{
-    let kind = stream[at];
-    let found = reader::record_at(stream, at);
-    let stop = later_stop(kind, found, events.len() - out);
-    if !goes_on(stop) {
-        return Ran {
-            stop,
-            consumed: at,
-            written: out,
-        };
-    }
-    let start = at + 1;
-    let next = reader::place_after(stream, at);
-    let x = records::command_of(kind, &stream[start..next]);
-    let n = step_read(s, laid, longs, words, marks, x, events, out);
-    Ran {
-        stop: Stop::Nothing,
-        consumed: next,
-        written: out + n,
-    }
 }
 
 // The records from byte `start` on, at fixed settings and on sound tables; events go behind the first `first` bytes. The layout is the

@@ -13,7 +13,7 @@ use model::queue_kind_of;
 ghost use mathlib.Core.Path.{_≡_};
 ghost use Prim.Native.Nat.{_+_, _-_, _*_, _≤_, _<_};
 ghost use mathlib.Core.List.{[], _∷_};
-ghost use lib.ListN.{length};
+ghost use lib.ListN.{length, replicate};
 ghost use lib.Dec.{eqb};
 ghost use Rattle.model.specs.Words.{fit};
 ghost use Rattle.model.specs.Numbers.{queueKindNumber};
@@ -42,39 +42,56 @@ pub fn refused(n: Refusal) -> Told
     blank(Event::Refused(n))
 }
 
-// A region of `n` numbers from `at` loses its first `by`; the others close up, and zeros stand at its end.
-pub fn close_longs(s: &mut [u64], at: usize, n: usize, by: usize)
-    requires { ⌜ (by ≤ n) × (at + n ≤ length (now s)) ⌝ }
-    ensures { λ _. ⌜ now (s .exit) ≡ closed (now (s .entry)) at n by ⌝ }
+// Number `e` of the `n` from `at` goes; later ones move down by one, and a zero stands at the end.
+fn close_longs(s: &mut [u64], at: usize, e: usize, n: usize)
+    requires { ⌜ (e < n) × (at + n ≤ length (now s)) ⌝ }
+    ensures { λ _. ⌜ now (s .exit) ≡ closed (now (s .entry)) (at + e) (n - e) 1 ⌝ }
 {
-    let mut i = 0;
-    while i < n {
-        let x = if i < n - by { s[at + i + by] } else { 0 };
-        s[at + i] = x;
+    let last = n - 1;
+    let mut i = e;
+    while i < last {
+        s[at + i] = s[at + i + 1];
         i += 1;
     }
+    s[at + last] = 0;
 }
 
-pub fn close_words(s: &mut [u32], at: usize, n: usize, by: usize)
-    requires { ⌜ (by ≤ n) × (at + n ≤ length (now s)) ⌝ }
-    ensures { λ _. ⌜ now (s .exit) ≡ closed (now (s .entry)) at n by ⌝ }
+fn close_marks(s: &mut [u8], at: usize, e: usize, n: usize)
+    requires { ⌜ (e < n) × (at + n ≤ length (now s)) ⌝ }
+    ensures { λ _. ⌜ now (s .exit) ≡ closed (now (s .entry)) (at + e) (n - e) 1 ⌝ }
 {
-    let mut i = 0;
-    while i < n {
-        let x = if i < n - by { s[at + i + by] } else { 0 };
-        s[at + i] = x;
+    let last = n - 1;
+    let mut i = e;
+    while i < last {
+        s[at + i] = s[at + i + 1];
         i += 1;
     }
+    s[at + last] = 0;
 }
 
-pub fn close_marks(s: &mut [u8], at: usize, n: usize, by: usize)
-    requires { ⌜ (by ≤ n) × (at + n ≤ length (now s)) ⌝ }
-    ensures { λ _. ⌜ now (s .exit) ≡ closed (now (s .entry)) at n by ⌝ }
+// The same of `n` rows of `by` numbers each.
+fn close_words(s: &mut [u32], at: usize, e: usize, n: usize, by: usize)
+    requires { ⌜ (e < n) × (at + by * n ≤ length (now s)) ⌝ }
+    ensures { λ _. ⌜ now (s .exit) ≡ closed (now (s .entry)) (at + by * e) (by * (n - e)) by ⌝ }
+{
+    let last = n - 1;
+    let from = at + by * e;
+    let left = by * (last - e);
+    let mut i = 0;
+    while i < left {
+        s[from + i] = s[from + i + by];
+        i += 1;
+    }
+    zero_words(s, at + by * last, by);
+}
+
+fn zero_words(s: &mut [u32], at: usize, n: usize)
+    requires { ⌜ at + n ≤ length (now s) ⌝ }
+    ensures { λ _. ⌜ now (s .exit) ≡ put (now (s .entry)) at (replicate n 0) ⌝ }
 {
     let mut i = 0;
     while i < n {
-        let x = if i < n - by { s[at + i + by] } else { 0 };
-        s[at + i] = x;
+        s[at + i] = 0;
         i += 1;
     }
 }
@@ -132,9 +149,28 @@ pub fn pop(at: Layout, longs: &mut [u64], words: &mut [u32], marks: &mut [u8], n
         × (now (words .exit) ≡ closed (now (words .entry)) (at .backs) (4 * n) 4)
         × (now (marks .exit) ≡ closed (now (marks .entry)) (at .kinds) n 1) ⌝ }
 {
-    close_longs(longs, at.queue, n, 1);
-    close_words(words, at.backs, 4 * n, 4);
-    close_marks(marks, at.kinds, n, 1);
+    let q = at.queue;
+    let b = at.backs;
+    let k = at.kinds;
+    let last = n - 1;
+    let mut i = 0;
+    while i < last {
+        longs[q + i] = longs[q + i + 1];
+        marks[k + i] = marks[k + i + 1];
+        let w = b + 4 * i;
+        words[w] = words[w + 4];
+        words[w + 1] = words[w + 5];
+        words[w + 2] = words[w + 6];
+        words[w + 3] = words[w + 7];
+        i += 1;
+    }
+    longs[q + last] = 0;
+    marks[k + last] = 0;
+    let w = b + 4 * last;
+    words[w] = 0;
+    words[w + 1] = 0;
+    words[w + 2] = 0;
+    words[w + 3] = 0;
 }
 
 // Puts an entry at place `n`, the first free one.
@@ -181,11 +217,10 @@ pub fn remove(
         × (now (words .exit) ≡ closed (now (words .entry)) (at .tickets + readers * e) (readers * (n - e)) readers)
         × (now (marks .exit) ≡ closed (closed (now (marks .entry)) (at .sent + e) (n - e) 1) (at .counts + e) (n - e) 1) ⌝ }
 {
-    let left = n - e;
-    close_longs(longs, at.misses + e, left, 1);
-    close_words(words, at.tickets + readers * e, readers * left, readers);
-    close_marks(marks, at.sent + e, left, 1);
-    close_marks(marks, at.counts + e, left, 1);
+    close_longs(longs, at.misses, e, n);
+    close_words(words, at.tickets, e, n, readers);
+    close_marks(marks, at.sent, e, n);
+    close_marks(marks, at.counts, e, n);
 }
 
 // A ticket joins entry `e`, which has `n` of them, behind these.

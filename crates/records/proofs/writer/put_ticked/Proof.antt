@@ -1,0 +1,39 @@
+-- By the case: the event is all that is told. An event of any other case is excluded.
+use Rattle.model.specs.RecordsOf as records
+use Rattle.model.specs.Records.{bytesOf}
+use Rattle.records.proofs.Encoding.{event-laid}
+use Rattle.records.proofs.Begun.{tick-begun}
+use Rattle.records.proofs.Told.{told-alone}
+use borrow.Author.Needs.{needs}
+use Rattle.records.proofs.writer.put_ticked.Statement.{statement}
+use Rattle.records.proofs.writer.put_ticked.Tie as tie
+
+returns : tie.Need-returns
+unfolding records.eventBytes bytesOf
+returns c =
+    let p = c .before .before in
+    let k = p .before .before in
+    let s = k .before .before .before in
+    told-alone (s .args .told) (s .pre .0 .entries) (s .pre .0 .tickets) (event-laid _ (p .put1 .ensures) (k .enum-told .given .1))
+
+returns-2 : tie.Need-returns-2
+unfolding records.eventBytes bytesOf
+returns-2 c =
+    let p = c .before .before in
+    let k = p .before .before .before in
+    let s = k .before .before .before in
+    told-alone (s .args .told) (s .pre .0 .entries) (s .pre .0 .tickets) (event-laid _ (p .put-refusal .ensures) (k .first .given .1))
+
+pub put-ticked-spec : {M : Type 1} → statement M
+put-ticked-spec =
+    tie.close
+    (tie.spec
+    (λ c. search needs)  -- enum-told
+    (λ c κs. search needs)  -- put1-requires
+    (λ c. search needs)  -- enum-known-first
+    (λ c κs. search needs)  -- put-refusal-requires
+    (λ c. search needs)  -- same-length
+    returns
+    (λ c. search needs)  -- same-length-2
+    returns-2
+    (λ c. absurd (tick-begun (c .before .before .args .told .first) (c .before .before .pre .0 .first) .none (c .match .keys3))))  -- returns-3

@@ -1,0 +1,245 @@
+// One record that is not the first, on sound tables: its checks, in one test where it is a usual one, then its step, and its events behind
+// those that are written. Each step's function and the writer of its events are called at one place alone, so that the compiler takes
+// them in and a step's value, which is large, stays out of memory.
+use crate::goes_on;
+use crate::later_stop;
+use layout::Layout;
+use model::Access;
+use model::Ran;
+use model::Settings;
+use model::Stop;
+ghost use mathlib.Core.Path.{_≡_};
+ghost use Prim.Native.Nat.{_+_, _≤_, _<_};
+ghost use lib.ListN.{length, take};
+ghost use Rattle.model.specs.Address.{maskOf};
+ghost use Rattle.model.specs.Lent.{lent};
+ghost use Rattle.model.specs.Sound.{allOnes};
+ghost use Rattle.model.specs.Inner.{Held};
+ghost use Rattle.model.specs.Records.{lengthOf};
+ghost use Rattle.model.specs.Runner.{laterStop};
+ghost use Rattle.layout.specs.Layout.{Placed};
+ghost use Rattle.running.specs.Resume.{kindAt, restAt, accessIn, Stands, Ready, recordFrom, Resumes};
+
+// The kinds of the commands that are steps: the first two are accesses.
+const READ: u8 = 1;
+
+const WRITE: u8 = 2;
+
+const SEND: u8 = 3;
+
+const FILL: u8 = 4;
+
+const TICK: u8 = 5;
+
+// What stops at a record, with this much event room. A step's record is whole, whichever step it is of, where the longest would be.
+fn stop_at(stream: &[u8], at: usize, room: usize) -> Stop
+    requires { ⌜ at < length (now stream) ⌝ }
+    ensures { λ r. ⌜ r ≡ laterStop room (kindAt (now (stream .entry)) at) (restAt (now (stream .entry)) at) ⌝ }
+{
+    let kind = stream[at];
+    let left = stream.len() - at;
+    if (READ <= kind)
+        & (kind <= TICK)
+        & (records::LONGEST <= left)
+        & (records::EVENT_ROOM <= room)
+    {
+        return Stop::Nothing;
+    }
+    let found = reader::record_at(stream, at);
+    later_stop(kind, found, room)
+}
+
+// The access of a record that is there whole, of kind 1 or 2.
+fn access_at(stream: &[u8], at: usize) -> Access
+    requires { ⌜ at + 13 ≤ length (now stream) ⌝ }
+    ensures { λ r. ⌜ (r ≡ accessIn (kindAt (now (stream .entry)) at) (take 12 (restAt (now (stream .entry)) at))) × (maskOf r ≤ allOnes) ⌝ }
+{
+    if stream[at] == READ {
+        let body = records::body_of(stream, at, READ);
+        return Access::Read {
+            address: records::number8(body, 0),
+            mask: 0,
+            ticket: records::number4(body, 8),
+        };
+    }
+    let body = records::body_of(stream, at, WRITE);
+    Access::Write {
+        address: records::number8(body, 0),
+        mask: records::number4(body, 8),
+        ticket: 0,
+    }
+}
+
+// A read or a write.
+fn access_record(
+    s: Settings,
+    laid: Layout,
+    stream: &[u8],
+    at: usize,
+    events: &mut [u8],
+    out: usize,
+    longs: &mut [u64],
+    words: &mut [u32],
+    marks: &mut [u8],
+) -> Ran
+    requires { ⌜ Placed s laid × Held s (lent (now longs) (now words) (now marks)) ⌝ }
+    requires { ⌜ Ready (now stream) at out (now events) × (kindAt (now stream) at ≤ 2) ⌝ }
+    ensures { λ r. ⌜ Resumes s (recordFrom s (now (stream .entry)) at out (now (events .entry)))
+        (now (stream .entry)) at out (now (events .entry))
+        (lent (now (longs .entry)) (now (words .entry)) (now (marks .entry))) r
+        (now (events .exit)) (lent (now (longs .exit)) (now (words .exit)) (now (marks .exit))) ⌝ }
+{
+    let x = access_at(stream, at);
+    let told = access::access_step(s, laid, longs, words, marks, x);
+    let written = records::put_access(told, events, out);
+    Ran {
+        stop: Stop::Nothing,
+        consumed: at + records::LONGEST,
+        written,
+    }
+}
+
+fn send_record(
+    s: Settings,
+    laid: Layout,
+    stream: &[u8],
+    at: usize,
+    events: &mut [u8],
+    out: usize,
+    longs: &mut [u64],
+    words: &mut [u32],
+    marks: &mut [u8],
+) -> Ran
+    requires { ⌜ Placed s laid × Held s (lent (now longs) (now words) (now marks)) ⌝ }
+    requires { ⌜ Ready (now stream) at out (now events) × (kindAt (now stream) at ≡ 3) ⌝ }
+    ensures { λ r. ⌜ Resumes s (recordFrom s (now (stream .entry)) at out (now (events .entry)))
+        (now (stream .entry)) at out (now (events .entry))
+        (lent (now (longs .entry)) (now (words .entry)) (now (marks .entry))) r
+        (now (events .exit)) (lent (now (longs .exit)) (now (words .exit)) (now (marks .exit))) ⌝ }
+{
+    let told = steps::send_step(s, laid, longs, words, marks);
+    let written = records::put_sent(told, events, out);
+    Ran {
+        stop: Stop::Nothing,
+        consumed: at + 1,
+        written,
+    }
+}
+
+fn fill_record(
+    s: Settings,
+    laid: Layout,
+    stream: &[u8],
+    at: usize,
+    events: &mut [u8],
+    out: usize,
+    longs: &mut [u64],
+    words: &mut [u32],
+    marks: &mut [u8],
+) -> Ran
+    requires { ⌜ Placed s laid × Held s (lent (now longs) (now words) (now marks)) ⌝ }
+    requires { ⌜ Ready (now stream) at out (now events) × (kindAt (now stream) at ≡ 4) ⌝ }
+    ensures { λ r. ⌜ Resumes s (recordFrom s (now (stream .entry)) at out (now (events .entry)))
+        (now (stream .entry)) at out (now (events .entry))
+        (lent (now (longs .entry)) (now (words .entry)) (now (marks .entry))) r
+        (now (events .exit)) (lent (now (longs .exit)) (now (words .exit)) (now (marks .exit))) ⌝ }
+{
+    let body = records::body_of(stream, at, FILL);
+    let told = steps::fill_step(s, laid, longs, words, marks, records::number8(body, 0));
+    let written = records::put_filled(told, events, out);
+    Ran {
+        stop: Stop::Nothing,
+        consumed: at + 1 + body.len(),
+        written,
+    }
+}
+
+fn tick_record(
+    s: Settings,
+    stream: &[u8],
+    at: usize,
+    events: &mut [u8],
+    out: usize,
+    longs: &mut [u64],
+    words: &mut [u32],
+    marks: &mut [u8],
+) -> Ran
+    requires { ⌜ Held s (lent (now longs) (now words) (now marks)) ⌝ }
+    requires { ⌜ Ready (now stream) at out (now events) × (kindAt (now stream) at ≡ 5) ⌝ }
+    ensures { λ r. ⌜ Resumes s (recordFrom s (now (stream .entry)) at out (now (events .entry)))
+        (now (stream .entry)) at out (now (events .entry))
+        (lent (now (longs .entry)) (now (words .entry)) (now (marks .entry))) r
+        (now (events .exit)) (lent (now (longs .exit)) (now (words .exit)) (now (marks .exit))) ⌝ }
+{
+    let body = records::body_of(stream, at, TICK);
+    let told = steps::tick_step(s, longs, words, marks, records::number4(body, 0));
+    let written = records::put_ticked(told, events, out);
+    Ran {
+        stop: Stop::Nothing,
+        consumed: at + 1 + body.len(),
+        written,
+    }
+}
+
+// The step of a record at which nothing stops: it is of a step.
+fn step_record(
+    s: Settings,
+    laid: Layout,
+    stream: &[u8],
+    at: usize,
+    events: &mut [u8],
+    out: usize,
+    longs: &mut [u64],
+    words: &mut [u32],
+    marks: &mut [u8],
+) -> Ran
+    requires { ⌜ Placed s laid × Held s (lent (now longs) (now words) (now marks)) ⌝ }
+    requires { ⌜ Ready (now stream) at out (now events) ⌝ }
+    ensures { λ r. ⌜ Resumes s (recordFrom s (now (stream .entry)) at out (now (events .entry)))
+        (now (stream .entry)) at out (now (events .entry))
+        (lent (now (longs .entry)) (now (words .entry)) (now (marks .entry))) r
+        (now (events .exit)) (lent (now (longs .exit)) (now (words .exit)) (now (marks .exit))) ⌝ }
+{
+    let kind = stream[at];
+    if kind <= WRITE {
+        return access_record(s, laid, stream, at, events, out, longs, words, marks);
+    }
+    if kind == SEND {
+        return send_record(s, laid, stream, at, events, out, longs, words, marks);
+    }
+    if kind == FILL {
+        return fill_record(s, laid, stream, at, events, out, longs, words, marks);
+    }
+    tick_record(s, stream, at, events, out, longs, words, marks)
+}
+
+// One record, at byte `at`: every check, then its step, then its events behind the `out` bytes that are written.
+pub(crate) fn run_one(
+    s: Settings,
+    laid: Layout,
+    stream: &[u8],
+    at: usize,
+    events: &mut [u8],
+    out: usize,
+    longs: &mut [u64],
+    words: &mut [u32],
+    marks: &mut [u8],
+) -> Ran
+    requires { ⌜ Placed s laid × Held s (lent (now longs) (now words) (now marks)) ⌝ }
+    requires { ⌜ Stands (now stream) at out (now events) ⌝ }
+    requires { ⌜ at < length (now stream) ⌝ }
+    ensures { λ r. ⌜ Resumes s (recordFrom s (now (stream .entry)) at out (now (events .entry)))
+        (now (stream .entry)) at out (now (events .entry))
+        (lent (now (longs .entry)) (now (words .entry)) (now (marks .entry))) r
+        (now (events .exit)) (lent (now (longs .exit)) (now (words .exit)) (now (marks .exit))) ⌝ }
+{
+    let stop = stop_at(stream, at, events.len() - out);
+    if !goes_on(stop) {
+        return Ran {
+            stop,
+            consumed: at,
+            written: out,
+        };
+    }
+    step_record(s, laid, stream, at, events, out, longs, words, marks)
+}
