@@ -255,21 +255,22 @@ module _ (S : Settings) {longs words marks : List ℕ} (x : Access) (d : Decisio
       go (inr j) = queued-parts [] y (all-in (queuedOk []) (p .backs) (spot .backed []) j) .0
 
   entries-written : (xs : List Queued) → ((y : Queued) → In y xs → length (y .masks) ≡ 4) → (u : Tables) (L : Lent) (n : ℕ)
-      → Stands S (L .longs) (L .words) (L .marks) u → n ≡ length (u .queue) → length (u .queue) + length xs ≤ S .queue
+      → Stands S (L .longs) (L .words) (L .marks) u → (1 ≤ length xs → n ≡ length (u .queue)) → length (u .queue) + length xs ≤ S .queue
       → Stands S (queueWritten place n xs L .longs) (queueWritten place n xs L .words) (queueWritten place n xs L .marks) (withQueue (u .queue ++ xs) u)
   entries-written [] four u L n h e r = rw (append-nil (u .queue)) h
   entries-written (y ∷ ys) four u L n h e r =
+      let here : n ≡ length (u .queue) = e (omega arith) in
       let v : Tables = withQueue (u .queue ++ (y ∷ [])) u in
       let longer : length (u .queue ++ (y ∷ [])) ≡ length (u .queue) + 1 = length-append (u .queue) (y ∷ []) in
       let s : Stands S (entryWritten place n y L .longs) (entryWritten place n y L .words) (entryWritten place n y L .marks) v =
-      push-stands S u h pl (omega arith) y n (four y (inl refl)) e (omega arith) (refl, refl, refl) in
-      let w = entries-written ys (λ z m. four z (inr m)) v (entryWritten place n y L) (n + 1) s (omega arith) (omega arith) in
+      push-stands S u h pl (omega arith) y n (four y (inl refl)) here (omega arith) (refl, refl, refl) in
+      let w = entries-written ys (λ z m. four z (inr m)) v (entryWritten place n y L) (n + 1) s (λ some. omega arith) (omega arith) in
       rw (append-assoc (u .queue) (y ∷ []) ys) at w
 
   pub queue-written : (u : Tables) → u .queue ≡ t .queue → (L₂ : Lent) {L₃ : Lent} {n : ℕ} → Stands S (L₂ .longs) (L₂ .words) (L₂ .marks) u
-      → n ≡ length (t .queue) → length (t .queue) + placesNeeded x p ≤ S .queue → L₃ ≡ queueWritten place n (queues x p) L₂
+      → (1 ≤ placesNeeded x p → n ≡ length (t .queue)) → length (t .queue) + placesNeeded x p ≤ S .queue → L₃ ≡ queueWritten place n (queues x p) L₂
       → Stands S (L₃ .longs) (L₃ .words) (L₃ .marks) (withQueue (t .queue ++ queues x p) u)
-  queue-written u same L₂ {n = n} h e room q = rw (q, ← same) (entries-written (queues x p) four-masks u L₂ n h (e ∙ ap length (sym same)) (rw (ap length same) room))
+  queue-written u same L₂ {n = n} h e room q = rw (q, ← same) (entries-written (queues x p) four-masks u L₂ n h (λ some. e some ∙ ap length (sym same)) (rw (ap length same) room))
 
 -- ---- room
 

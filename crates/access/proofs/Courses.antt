@@ -2,9 +2,10 @@
 use mathlib.Core.Path.{_≡_, refl, sym, ap, _∙_}
 use mathlib.Core.Bool.{Bool, true, false, not, _&&_}
 use mathlib.Core.List.{List, [], _∷_, _++_}
-use Prim.Native.Nat.{ℕ, _+_, _≤_, _<_}
+use Prim.Native.Nat.{ℕ, zero, suc, _+_, _≤_, _<_}
 use native.Mathlib.Omega.{arith}
 use lib.ListN.{length, getD, replicate, length-append}
+use lib.Dec.{ltb}
 use borrow.Author.Tests.{lt-ltb, le-ltb, leb-true}
 use Rattle.model.specs.Words.{pick, any, one}
 use Rattle.model.specs.Address.{addressOf, isRead, blockOf}
@@ -23,7 +24,7 @@ use Rattle.probe.specs.declared.Meeting.{Meeting}
 use Rattle.probe.specs.declared.Meeting.the-variants.{Met as MetWay, Taken, Busy, Held}
 use Rattle.probe.specs.declared.Decision.{Decision}
 use Rattle.probe.specs.Decided.{placeFor, backsOf}
-use Rattle.access.specs.Plan.{Met, entryIndex, ticketsAt, joining, starting, courseOf}
+use Rattle.access.specs.Plan.{Met, InUse, entryIndex, ticketsAt, joining, starting, courseOf}
 use Rattle.access.specs.Written.{sectorsFor, queuesOf}
 use Rattle.access.specs.declared.course.Course.{Course}
 use Rattle.access.specs.declared.course.Course.the-variants.{Refused, Stays}
@@ -80,27 +81,35 @@ module _ (S : Settings) {L : Lent} (x : Access) (d : Decision) (t : Tables) (p :
 
   -- ---- the course
 
-  module _ {q n : ℕ} (counted : q ≡ length (t .queue)) (asked : n ≡ one (isRead x && isMiss (d .answer)) + one (d .backs)) where
+  module _ {q n : ℕ} (counted : InUse S t x d q) (asked : n ≡ one (isRead x && isMiss (d .answer)) + one (d .backs)) where
     needed : n ≡ placesNeeded x p
     needed = asked ∙ sym needed-is
 
+    -- where no place is needed both fail: the tables have no more entries than the queue has places
+    same-test : ltb (S .queue) (length (t .queue) + placesNeeded x p) ≡ ltb (S .queue) (q + n)
+    same-test = rw (← needed) (go n (λ h. counted .all (rw (← queues-count x d) at (rw asked at h))))
+      where
+        go : (n : ℕ) → (1 ≤ n → q ≡ length (t .queue)) → ltb (S .queue) (length (t .queue) + n) ≡ ltb (S .queue) (q + n)
+        go zero u = le-ltb (S .queue) (length (t .queue) + 0) (omega (arith, few-queued)) ∙ sym (le-ltb (S .queue) (q + 0) (omega (arith, counted .most)))
+        go (suc k) u = ap (λ (l : ℕ). ltb (S .queue) (l + suc k)) (sym (u (omega arith)))
+
     pub course-full : S .queue < q + n → Refused QueueFull ≡ courseOf S x p t
-    course-full h = rw (← counted, ← needed, answer-is, lt-ltb (S .queue) (q + n) h)
+    course-full h = rw (same-test, answer-is, lt-ltb (S .queue) (q + n) h)
 
     module _ (room : q + n ≤ S .queue) where
       pub course-write : isRead x ≡ false → Stays ≡ courseOf S x p t
-      course-write r = rw (← counted, ← needed, answer-is, le-ltb (S .queue) (q + n) room, r)
+      course-write r = rw (same-test, answer-is, le-ltb (S .queue) (q + n) room, r)
 
       module _ (reads : isRead x ≡ true) where
         pub course-join : isMerge (d .answer) ≡ true → {r : Course} → r ≡ joining S (entryIndex (addressOf x) (t .misses)) (ticketsAt (entryIndex (addressOf x) (t .misses)) (t .misses)) → r ≡ courseOf S x p t
-        course-join merges e = e ∙ rw (← counted, ← needed, answer-is, le-ltb (S .queue) (q + n) room, reads, merges)
+        course-join merges e = e ∙ rw (same-test, answer-is, le-ltb (S .queue) (q + n) room, reads, merges)
 
         module _ (other : isMerge (d .answer) ≡ false) where
           pub course-start : isMiss (d .answer) ≡ true → {r : Course} → r ≡ starting S (length (t .misses)) → r ≡ courseOf S x p t
-          course-start misses e = e ∙ rw (← counted, ← needed, answer-is, le-ltb (S .queue) (q + n) room, reads, misses, other)
+          course-start misses e = e ∙ rw (same-test, answer-is, le-ltb (S .queue) (q + n) room, reads, misses, other)
 
           pub course-hit : isMiss (d .answer) ≡ false → Stays ≡ courseOf S x p t
-          course-hit hits = rw (← counted, ← needed, answer-is, le-ltb (S .queue) (q + n) room, reads, hits, other)
+          course-hit hits = rw (same-test, answer-is, le-ltb (S .queue) (q + n) room, reads, hits, other)
 
   pub merge-entered : isMerge (d .answer) ≡ true → any (entryFor (addressOf x)) (t .misses) ≡ true
   merge-entered h = merged-entry S (m .is .range) t (parts S t (m .is .soundly)) x (m .formed) p (m .probed) (ap isMerge answer-is ∙ h)

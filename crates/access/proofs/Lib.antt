@@ -9,3 +9,4 @@ pub mod Acting
 pub mod Kept
 pub mod Telling
 pub mod Offering
+pub mod Hits

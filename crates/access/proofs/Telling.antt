@@ -2,7 +2,7 @@
 use mathlib.Core.Path.{_≡_, refl, sym, ap, subst, _∙_}
 use mathlib.Core.Bool.{Bool, true, false, _&&_}
 use mathlib.Core.List.{List, [], _∷_, map, append-nil}
-use Prim.Native.Nat.{ℕ, suc, _+_, _*_, _≤_, _<_}
+use Prim.Native.Nat.{ℕ, zero, suc, _+_, _*_, _≤_, _<_}
 use native.Mathlib.Nat.{mul-suc, mul-le-mul-left, le-trans}
 use native.Mathlib.Omega.{arith}
 use lib.ListN.{length, set, take}
@@ -80,6 +80,17 @@ module _ (S : Settings) {longs words marks : List ℕ} (x : Access) (d : Decisio
   roomy : length (t .queue) + placesNeeded x p ≤ S .queue
   roomy = tested S x p t c means (a .going)
 
+  needs : placesNeeded x p ≡ length (queuesOf x d)
+  needs = ap length (queues-are S x d t p m)
+
+  -- there is room for what it queues behind the places in use
+  behind : n + length (queuesOf x d) ≤ S .queue
+  behind = go (length (queuesOf x d)) (a .counted .all) (rw needs at roomy)
+    where
+      go : (k : ℕ) → (1 ≤ k → n ≡ length (t .queue)) → length (t .queue) + k ≤ S .queue → n + k ≤ S .queue
+      go zero u r = omega (arith, a .counted .most)
+      go (suc k) u r = rw (u (omega arith)) r
+
   pub acts-fit : Fit S longs words marks
   acts-fit = is-fit S (lent longs words marks) t (m .is)
 
@@ -111,8 +122,7 @@ module _ (S : Settings) {longs words marks : List ℕ} (x : Access) (d : Decisio
       let h = acts-fit in
       let few : length (queuesOf x d) ≤ 2 = queues-few x d in
       let told : r .queues ≡ length (queuesOf x d) = ap (λ (z : Told). z .queues) tells in
-      let needs : placesNeeded x p ≡ length (queuesOf x d) = ap length (queues-are S x d t p m) in
-      let b : n + r .queues ≤ S .queue = omega (arith, roomy, a .counted) in
+      let b : n + r .queues ≤ S .queue = omega (arith, behind) in
       (omega arith, (omega arith, omega arith, omega arith))
 
   -- ---- what it leaves
@@ -130,7 +140,7 @@ module _ (S : Settings) {longs words marks : List ℕ} (x : Access) (d : Decisio
       let s₁ = set-turned S x d t p m pl _ refl _ s₀ line in
       let s₂ = misses-written S x d t p m pl (set (t .lines) (d .line) (newLine S x d t p m pl)) (newCount S x d t p m pl) (treesNew S x d t p m pl) L₁ L₂ s₁ c (a .planned) (a .going) misses in
       let q : L₃ ≡ queueWritten place n (queues x p) L₂ = rw (tells, two-back (queuesOf x d) (queues-few x d), ← queues-are S x d t p m) at queue in
-      let s₃ = queue-written S x d t p m pl (withMisses (onMisses x (p .answer) (t .misses)) (withTrees (treesNew S x d t p m pl) (withDirtyCount (newCount S x d t p m pl) (withLines (set (t .lines) (d .line) (newLine S x d t p m pl)) t)))) refl L₂ s₂ (a .counted) roomy q in
+      let s₃ = queue-written S x d t p m pl (withMisses (onMisses x (p .answer) (t .misses)) (withTrees (treesNew S x d t p m pl) (withDirtyCount (newCount S x d t p m pl) (withLines (set (t .lines) (d .line) (newLine S x d t p m pl)) t)))) refl L₂ s₂ (λ some. a .counted .all (rw needs at some)) roomy q in
       record {
         tells = rw (tells, queues-are S x d t p m, answer-is S x d t p m, ← m .numbered) (told-events x d);
         tidy = rw tells (told-tidy x d);

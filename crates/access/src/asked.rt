@@ -3,7 +3,7 @@ ghost use mathlib.Core.Path.{_≡_};
 ghost use mathlib.Core.Bool.{_&&_};
 ghost use Rattle.model.specs.Address.{isRead};
 ghost use Rattle.access.specs.Plan.{ticketOf};
-ghost use Rattle.model.specs.Steps.{isMerge, isMiss, takesLine};
+ghost use Rattle.model.specs.Steps.{isHit, isMerge, isMiss, takesLine};
 use model::Access;
 use model::Answer;
 
@@ -38,6 +38,17 @@ pub(crate) fn ticket_of(x: Access) -> u32
             mask: _,
             ticket,
         } => ticket,
+    }
+}
+
+fn is_hit(a: Answer) -> bool
+    ensures { λ r. ⌜ r ≡ isHit a ⌝ }
+{
+    match a {
+        Answer::Hit => true,
+        Answer::HitReserved => false,
+        Answer::Miss => false,
+        Answer::SectorMiss => false,
     }
 }
 
@@ -80,4 +91,11 @@ pub(crate) fn fetches(x: Access, a: Answer) -> bool
     ensures { λ r. ⌜ r ≡ isRead x && isMiss a ⌝ }
 {
     is_read(x) & is_miss(a)
+}
+
+// Whether the access is a read that hits.
+pub(crate) fn hits(x: Access, a: Answer) -> bool
+    ensures { λ r. ⌜ r ≡ isRead x && isHit a ⌝ }
+{
+    is_read(x) & is_hit(a)
 }

@@ -7,7 +7,9 @@ ghost use Rattle.model.specs.Words.{one};
 ghost use Rattle.model.specs.Lent.{lent};
 ghost use Rattle.model.specs.Inner.{Held};
 ghost use Rattle.layout.specs.Layout.{Placed};
+ghost use Rattle.layout.specs.Places.{First};
 ghost use Rattle.access.specs.Plan.{Meets, Counted, Entered, Joining, Starting, Planned, goes, refusalIn};
+ghost use lib.ListN.{length};
 ghost use Rattle.model.specs.Steps.{isMiss};
 use crate::asked::fetches;
 use crate::asked::is_merge;
@@ -40,6 +42,17 @@ pub(crate) fn places_needed(x: Access, a: Answer, backs: bool) -> usize
         return 1;
     }
     if backs { 1 } else { 0 }
+}
+
+// How many queue places are in use. Asked only where some are needed, else 0.
+pub(crate) fn places_used(s: Settings, at: Layout, marks: &[u8], needed: usize) -> usize
+    requires { ⌜ at .kinds + s .queue ≤ length (now marks) ⌝ }
+    ensures { λ r. ⌜ (r ≤ s .queue) × (1 ≤ needed → First (now (marks .entry)) (at .kinds) (s .queue) 0 r) ⌝ }
+{
+    if needed == 0 {
+        return 0;
+    }
+    layout::used(marks, at.kinds, s.queue)
 }
 
 // The course of a read that merges: the entry for its address has room for one more ticket, or not.
@@ -75,7 +88,7 @@ fn start_course(s: Settings, at: Layout, longs: &[u64], words: &[u32], marks: &[
     Course::Starts(m)
 }
 
-// The course of an access whose place is decided; so many queue places are in use.
+// The course of an access whose place is decided; so many queue places are in use, where it needs one.
 pub(crate) fn course_of(
     s: Settings,
     at: Layout,
@@ -86,7 +99,7 @@ pub(crate) fn course_of(
     d: Decision,
     queued: usize,
 ) -> Course
-    requires { ⌜ Placed s at × Meets s (lent (now longs) (now words) (now marks)) x d × Counted s (lent (now longs) (now words) (now marks)) queued ⌝ }
+    requires { ⌜ Placed s at × Meets s (lent (now longs) (now words) (now marks)) x d × Counted s (lent (now longs) (now words) (now marks)) x d queued ⌝ }
     ensures { λ r. ⌜ Planned s (lent (now (longs .entry)) (now (words .entry)) (now (marks .entry))) x d r ⌝ }
 {
     let a = d.answer;

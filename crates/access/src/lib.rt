@@ -15,8 +15,11 @@ ghost use Rattle.model.specs.Sound.{allOnes};
 ghost use Rattle.layout.specs.Layout.{Placed};
 ghost use Rattle.access.specs.Plan.{Meets, Offered, isSpot, refusalMet};
 ghost use Rattle.model.specs.Steps.{access};
+use asked::hits;
 use course::course_of;
 use course::going;
+use course::places_needed;
+use course::places_used;
 use course::refusal_in;
 use layout::Layout;
 use model::Access;
@@ -26,6 +29,7 @@ use model::Told;
 use probe::Decision;
 use probe::Meeting;
 use writes::act;
+use writes::act_hit;
 
 fn good_sector(address: u64) -> bool
     ensures { λ r. ⌜ r ≡ goodSector address ⌝ }
@@ -74,7 +78,8 @@ fn refusal_met(m: Meeting) -> Refusal
     }
 }
 
-// An access whose place is decided: refused by the queue or the miss table, or acted.
+// An access whose place is decided: refused by the queue or the miss table, or acted. A read that hits queues nothing and leaves the
+// miss table, so neither refuses it.
 fn offer(
     s: Settings,
     at: Layout,
@@ -88,7 +93,12 @@ fn offer(
     ensures { λ r. ⌜ Offered s (lent (now (longs .entry)) (now (words .entry)) (now (marks .entry))) x d r
         (lent (now (longs .exit)) (now (words .exit)) (now (marks .exit))) ⌝ }
 {
-    let queued = layout::used(marks, at.kinds, s.queue);
+    let a = d.answer;
+    if hits(x, a) {
+        return act_hit(s, at, words, x, d);
+    }
+    let needed = places_needed(x, a, d.backs);
+    let queued = places_used(s, at, marks, needed);
     let course = course_of(s, at, longs, words, marks, x, d, queued);
     if going(course) {
         return act(s, at, longs, words, marks, x, d, queued, course);

@@ -1,5 +1,5 @@
 // The writes of an access that is not refused, in order: the dirty count and its line, the cycle at which that was taken and the
-// tree of its set, the miss table, the queue. Then what it tells.
+// tree of its set, the miss table, the queue. Then what it tells. Last a read that hits, which needs two of these writes.
 ghost use mathlib.Core.Path.{_≡_};
 ghost use Prim.Native.Nat.{ℕ, _+_, _*_, _≤_, _<_};
 ghost use mathlib.Core.List.{List, [], _∷_};
@@ -19,6 +19,9 @@ ghost use Rattle.model.specs.Calls.{inTwo};
 ghost use Rattle.access.specs.Written.{sectorsFor, sectorsAfter, lineWritten, missesWritten, queueWritten, queuesOf, tellingOf, MissRoom, QueueRoom, lineLeft, takenWritten, lineTaken, treesWritten, setTurned};
 ghost use mathlib.Core.Bool.{true, not, _&&_};
 ghost use Rattle.model.specs.Steps.{isMiss};
+ghost use Rattle.model.specs.declared.Answer.the-variants.{Hit};
+ghost use Rattle.model.specs.declared.Event.the-variants.{Answered};
+ghost use Rattle.tables.specs.Telling.{telling};
 use crate::asked::fetches;
 use crate::asked::is_miss;
 use crate::asked::is_read;
@@ -314,4 +317,20 @@ pub(crate) fn act(
     let entries = told.queued;
     act_queue(at, longs, words, marks, queued, entries, told.queues);
     told
+}
+
+// A read that hits: its line's cycle and the tree of its set.
+pub(crate) fn act_hit(s: Settings, at: Layout, words: &mut [u32], x: Access, d: Decision) -> Told
+    requires { ⌜ (d .line < 1024) × (1 + d .line < length (now words)) × (at .trees + setIndex s (addressOf x) < length (now words))
+        × (length (now words) ≤ wordsMost) × (1 ≤ s .sets) × (powerTo256 (s .sets) ≡ true) × (isTree s ≡ true → powerTo16 (s .ways) ≡ true) ⌝ }
+    ensures { λ r. ⌜ r ≡ telling (Answered Hit (d .line)) ⌝ }
+    ensures { λ _. ⌜ now (words .exit)
+        ≡ treesWritten s at (setIndex s (addressOf x)) (d .way) (put (now (words .entry)) (1 + d .line) (getD (now (words .entry)) 0 0 ∷ [])) ⌝ }
+{
+    touch(words, d.line);
+    turn_tree(s, at, words, x, d.way);
+    tables::blank(Event::Answered {
+        answer: Answer::Hit,
+        line: d.line as u16,
+    })
 }

@@ -46,6 +46,14 @@ wayOf (Way w k) = At w
 
 -- ---- line l, by the bytes
 
+-- four numbers as one, the last the lowest byte
+abbrev pub fourBytes : ℕ → ℕ → ℕ → ℕ → ℕ
+fourBytes a b c d = ((a * 256 + b) * 256 + c) * 256 + d
+
+abbrev pub statusesAt : List ℕ → ℕ → ℕ
+statusesAt marks l =
+    fourBytes (statusAt marks (4 * l + 3)) (statusAt marks (4 * l + 2)) (statusAt marks (4 * l + 1)) (statusAt marks (4 * l))
+
 abbrev pub waitingAt : List ℕ → ℕ → Bool
 waitingAt marks l =
     eqb (statusAt marks (4 * l)) 1 || eqb (statusAt marks (4 * l + 1)) 1 || eqb (statusAt marks (4 * l + 2)) 1 || eqb (statusAt marks (4 * l + 3)) 1
@@ -54,6 +62,10 @@ waitingAt marks l =
 abbrev pub dirtyAt : List ℕ → ℕ → Bool
 dirtyAt marks l =
     ltb 2 (statusAt marks (4 * l)) || ltb 2 (statusAt marks (4 * l + 1)) || ltb 2 (statusAt marks (4 * l + 2)) || ltb 2 (statusAt marks (4 * l + 3))
+
+-- neither RESERVED nor MODIFIED
+abbrev pub cleanAt : List ℕ → ℕ → Bool
+cleanAt marks l = not (waitingAt marks l) && not (dirtyAt marks l)
 
 abbrev pub candidateAt : List ℕ → Bool → ℕ → Bool
 candidateAt marks enough l = not (waitingAt marks l) && (not (dirtyAt marks l) || enough)

@@ -15,15 +15,15 @@ ghost use Rattle.model.specs.Range.{linesOf, isTree};
 ghost use Rattle.model.specs.Tree.{isIn, powerTo16};
 ghost use Rattle.model.specs.Inner.{Fit};
 ghost use Rattle.layout.specs.Layout.{Placed};
-ghost use Rattle.probe.specs.Scan.{waitingAt, dirtyAt, candidateAt, foundIn, lastUnusedIn, nearerOf, earliestIn, wayOf, agesFrom, choiceIn, victimIn, enoughIn, treeIn};
+ghost use Rattle.probe.specs.Scan.{statusesAt, waitingAt, dirtyAt, cleanAt, candidateAt, foundIn, lastUnusedIn, nearerOf, earliestIn, wayOf, agesFrom, choiceIn, victimIn, enoughIn, treeIn};
 ghost use Rattle.probe.specs.Room.{VictimRoom};
 ghost use Rattle.probe.specs.Values.{masksAt, metIs, takenIs, refusedIs, refusalIs, missIs};
 ghost use Rattle.probe.specs.Decided.{Decided};
 
-// The status bytes that the tests on a line name; any above VALID reads as MODIFIED.
-const RESERVED: u8 = 1;
+// The low seven bits of each of four bytes, to which a number can be added inside the byte; then their top bits.
+const LOWS: u32 = 0x7f7f_7f7f;
 
-const VALID: u8 = 2;
+const TOPS: u32 = 0x8080_8080;
 
 // The rule that goes by the cycle at which a line was taken.
 const FIFO: usize = 1;
@@ -53,33 +53,54 @@ pub struct Decision {
     pub masks: [u32; 4],
 }
 
-// Whether a sector of line l is RESERVED.
+// The four status bytes of line l as one number, so that a test reads them once.
+fn statuses_at(marks: &[u8], l: usize) -> u32
+    requires { ⌜ 4 * l + 4 ≤ length (now marks) ⌝ }
+    ensures { λ r. ⌜ r ≡ statusesAt (now (marks .entry)) l ⌝ }
+{
+    let i = 4 * l;
+    let b0 = marks[i] as u32;
+    let b1 = marks[i + 1] as u32;
+    let b2 = marks[i + 2] as u32;
+    let b3 = marks[i + 3] as u32;
+    b0 + 256 * b1 + 65536 * b2 + 16777216 * b3
+}
+
+// Whether a sector of line l is RESERVED: a byte 1 is 0 in x, the one byte whose top bit 127 more does not set.
 fn is_waiting(marks: &[u8], l: usize) -> bool
     requires { ⌜ 4 * l + 4 ≤ length (now marks) ⌝ }
     ensures { λ r. ⌜ r ≡ waitingAt (now (marks .entry)) l ⌝ }
 {
-    let i = 4 * l;
-    (marks[i] == RESERVED)
-        | (marks[i + 1] == RESERVED)
-        | (marks[i + 2] == RESERVED)
-        | (marks[i + 3] == RESERVED)
+    let x = statuses_at(marks, l) ^ 0x0101_0101;
+    ((((x & LOWS) + LOWS) | x) & TOPS) != TOPS
 }
 
-// Whether a sector of line l is MODIFIED.
+// Whether a sector of line l is MODIFIED: a byte above 2, as any such number reads, has its top bit or gets it from 125 more.
 pub fn is_dirty(marks: &[u8], l: usize) -> bool
     requires { ⌜ 4 * l + 4 ≤ length (now marks) ⌝ }
     ensures { λ r. ⌜ r ≡ dirtyAt (now (marks .entry)) l ⌝ }
 {
-    let i = 4 * l;
-    (VALID < marks[i]) | (VALID < marks[i + 1]) | (VALID < marks[i + 2]) | (VALID < marks[i + 3])
+    let x = statuses_at(marks, l);
+    ((((x & LOWS) + 0x7d7d_7d7d) | x) & TOPS) != 0
 }
 
-// `enough`: so many lines of the cache are dirty that a dirty line may go.
+// Whether every sector of line l is INVALID or VALID: 0 and 2 have no bit but the second.
+fn is_clean(marks: &[u8], l: usize) -> bool
+    requires { ⌜ 4 * l + 4 ≤ length (now marks) ⌝ }
+    ensures { λ r. ⌜ r ≡ cleanAt (now (marks .entry)) l ⌝ }
+{
+    (statuses_at(marks, l) & 0xfdfd_fdfd) == 0
+}
+
+// `enough`: so many lines of the cache are dirty that a dirty line may go. Most lines are clean, and that test is the shortest.
 fn is_candidate(marks: &[u8], l: usize, enough: bool) -> bool
     requires { ⌜ 4 * l + 4 ≤ length (now marks) ⌝ }
     ensures { λ r. ⌜ r ≡ candidateAt (now (marks .entry)) enough l ⌝ }
 {
-    !is_waiting(marks, l) & (!is_dirty(marks, l) | enough)
+    if is_clean(marks, l) {
+        return true;
+    }
+    enough & !is_waiting(marks, l)
 }
 
 // The first way of the set that has the block; the set's lines begin at `base`.

@@ -3,7 +3,7 @@ use native.Mathlib.Omega.{arith}
 use borrow.Author.Needs.{needs}
 use Rattle.model.proofs.Bridge.{is-fit}
 use Rattle.model.proofs.Flags.{not-yes, no-not}
-use Rattle.access.proofs.Courses.{few-queued, course-full, course-write, course-join, course-start, course-hit, merge-entered}
+use Rattle.access.proofs.Courses.{course-full, course-write, course-join, course-start, course-hit, merge-entered}
 use Rattle.access.proofs.course.course_of.Statement.{statement}
 use Rattle.access.proofs.course.course_of.Tie as tie
 use Rattle.access.proofs.asked.is_merge.Reads as is-merge-reads
@@ -22,7 +22,7 @@ course-of-spec =
     (λ c. let pre = c .before .before .before .before .pre in
     let m = pre .1 .met in
     let f = is-fit _ _ _ (m .is) in
-    omega (arith, few-queued _ _ _ _ _ m, pre .2 .on _ (m .is), c .places-needed .ensures .1))
+    omega (arith, pre .2 .on _ (m .is) .most, c .places-needed .ensures .1))
     (λ c. record {
       on = λ t p m.
           let needed = c .before .before in

@@ -1,0 +1,20 @@
+use Prim.Native.Nat.{ℕ}
+use mathlib.Core.Path.{ap, _∙_}
+use mathlib.Core.Bool.{not}
+use native.Mathlib.Omega.{arith}
+use borrow.Author.Needs.{needs}
+use lib.Bits.{and-le-r}
+use lib.Dec.{eqb}
+use Rattle.probe.proofs.FourBytes.{tops, dirty-statuses}
+use Rattle.probe.proofs.is_dirty.Statement.{statement}
+use Rattle.probe.proofs.is_dirty.Tie as tie
+
+pub is-dirty-spec : {M : Type 1} → statement M
+is-dirty-spec =
+    tie.close
+    (tie.spec
+    (λ c κs. search needs)
+    (λ c. omega (arith, and-le-r (c .statuses-at .result) 0x7f7f7f7f))
+    (λ c. let a = c .before .before .args in
+    ap (λ (x : ℕ). not (eqb (tops 0x7d7d7d7d x) 0)) (c .statuses-at .ensures)
+    ∙ dirty-statuses (a .marks .now) (a .l) (λ i. c .before .shared-slice-known .given i .fits)))
