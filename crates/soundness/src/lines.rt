@@ -1,13 +1,17 @@
 // Conditions 2 to 10, 17, 27 and 28 of sound tables: lines and their sectors. A line looks only into its own set, a RESERVED sector only
 // into the miss table.
 ghost use mathlib.Core.Path.{_≡_};
-ghost use mathlib.Core.Bool.{true};
+ghost use mathlib.Core.Bool.{true, not};
 ghost use Prim.Native.Nat.{_+_, _*_, _-_, _≤_, _<_};
+ghost use lib.Dec.{eqb};
+ghost use lib.ListN.{length};
 ghost use Rattle.model.specs.Words.{every};
 ghost use Rattle.model.specs.Range.{linesOf};
 ghost use Rattle.model.specs.Inner.{Fit};
+ghost use Rattle.model.specs.Lent.{statusAt};
 ghost use Rattle.model.specs.SoundLent as is;
 ghost use Rattle.layout.specs.Layout.{Placed};
+ghost use Rattle.soundness.specs.Shapes.{marksShape, maskShape};
 use crate::search::has_entry;
 use layout::Layout;
 use model::SectorAddress;
@@ -33,8 +37,10 @@ fn no_twin(s: Settings, longs: &[u64], words: &[u32], marks: &[u8], first: usize
     let mut w = 0;
     while w < n {
         let m = first + w;
-        if live(s, longs, words, marks, m) & (longs[m] == longs[l]) {
-            return false;
+        if longs[m] == longs[l] {
+            if live(s, longs, words, marks, m) {
+                return false;
+            }
         }
         w += 1;
     }
@@ -83,40 +89,49 @@ pub(crate) fn lines_fine(
     true
 }
 
-// Conditions 2 to 6, with no branch, so that the loop over them compiles to several sectors at a time.
-fn sector_shaped(
-    s: Settings,
-    at: Layout,
-    longs: &[u64],
-    words: &[u32],
-    marks: &[u8],
-    i: usize,
-) -> bool
-    requires { ⌜ Placed s at × Fit s (now longs) (now words) (now marks) × (i < 4 * linesOf s) ⌝ }
-    ensures { λ r. ⌜ r ≡ is.sectorShape s (now (longs .entry)) (now (words .entry)) (now (marks .entry)) i ⌝ }
-{
-    let status = marks[i];
-    let readable = marks[at.readables + i];
-    let mask = words[at.masks + i];
-    (status <= 3)
-        & (readable <= 1)
-        & ((status == 1) | ((mask != 0) == (status == 3)))
-        & ((readable != 0) | ((status == 3) & (mask != 0xFFFF_FFFF)))
-}
-
-// It goes on behind a fault, since an exit inside the loop would keep it to one sector at a time.
-fn sectors_shaped(s: Settings, at: Layout, longs: &[u64], words: &[u32], marks: &[u8]) -> bool
+// Conditions 2, 3 and what 6 asks of the status. With no branch, and on behind a fault, so that the loop compiles to several sectors at
+// a time; apart from the masks, since bytes alone go four times as many.
+fn marks_shaped(s: Settings, at: Layout, longs: &[u64], words: &[u32], marks: &[u8]) -> bool
     requires { ⌜ Placed s at × Fit s (now longs) (now words) (now marks) ⌝ }
-    ensures { λ r. ⌜ r ≡ every (4 * linesOf s) (is.sectorShape s (now (longs .entry)) (now (words .entry)) (now (marks .entry))) ⌝ }
+    ensures { λ r. ⌜ r ≡ every (4 * linesOf s) (marksShape s (now (marks .entry))) ⌝ }
 {
     let n = 4 * (s.sets * s.ways);
     let mut fine = true;
     let mut i = 0;
     while i < n {
-        fine = fine & sector_shaped(s, at, longs, words, marks, i);
+        let status = marks[i];
+        let readable = marks[at.readables + i];
+        fine = fine & ((status <= 3) & (readable <= 1) & ((readable != 0) | (status == 3)));
         i += 1;
     }
     fine
+}
+
+// Conditions 4, 5 and what 6 asks of the mask, in the same way.
+fn masks_shaped(s: Settings, at: Layout, longs: &[u64], words: &[u32], marks: &[u8]) -> bool
+    requires { ⌜ Placed s at × Fit s (now longs) (now words) (now marks) ⌝ }
+    ensures { λ r. ⌜ r ≡ every (4 * linesOf s) (maskShape s (now (words .entry)) (now (marks .entry))) ⌝ }
+{
+    let n = 4 * (s.sets * s.ways);
+    let mut fine = true;
+    let mut i = 0;
+    while i < n {
+        let status = marks[i];
+        let readable = marks[at.readables + i];
+        let mask = words[at.masks + i];
+        let said = (status == 1) | ((mask != 0) == (status == 3));
+        fine = fine & (said & ((readable != 0) | (mask != 0xFFFF_FFFF)));
+        i += 1;
+    }
+    fine
+}
+
+// Conditions 2 to 6.
+fn sectors_shaped(s: Settings, at: Layout, longs: &[u64], words: &[u32], marks: &[u8]) -> bool
+    requires { ⌜ Placed s at × Fit s (now longs) (now words) (now marks) ⌝ }
+    ensures { λ r. ⌜ r ≡ every (4 * linesOf s) (is.sectorShape s (now (longs .entry)) (now (words .entry)) (now (marks .entry))) ⌝ }
+{
+    marks_shaped(s, at, longs, words, marks) & masks_shaped(s, at, longs, words, marks)
 }
 
 // Condition 17. The lines are fine, so a RESERVED sector's tag is below 2^48 and its address fits.
@@ -139,19 +154,76 @@ fn sector_backed(
     has_entry(s, at, longs, words, marks, s.misses, a)
 }
 
-fn sectors_backed(s: Settings, at: Layout, longs: &[u64], words: &[u32], marks: &[u8]) -> bool
-    requires { ⌜ Placed s at × Fit s (now longs) (now words) (now marks) × (is.linesFine s (now longs) (now words) (now marks) ≡ true) ⌝ }
-    ensures { λ r. ⌜ r ≡ every (4 * linesOf s) (is.sectorBacked s (now (longs .entry)) (now (words .entry)) (now (marks .entry))) ⌝ }
+// None of the sixteen sectors from `first` on is RESERVED. Few are, and the compiler asks this of all sixteen at once.
+fn none_reserved(marks: &[u8], first: usize) -> bool
+    requires { ⌜ first + 16 ≤ length (now marks) ⌝ }
+    ensures { λ r. ⌜ r ≡ every 16 (λ k. not (eqb (statusAt (now (marks .entry)) (first + k)) 1)) ⌝ }
 {
-    let n = 4 * (s.sets * s.ways);
+    let mut none = true;
+    let mut i = 0;
+    while i < 16 {
+        none = none & (marks[first + i] != 1);
+        i += 1;
+    }
+    none
+}
+
+// Condition 17 of `n` sectors from `first` on.
+fn backed_from(
+    s: Settings,
+    at: Layout,
+    longs: &[u64],
+    words: &[u32],
+    marks: &[u8],
+    first: usize,
+    n: usize,
+) -> bool
+    requires { ⌜ Placed s at × Fit s (now longs) (now words) (now marks) × (is.linesFine s (now longs) (now words) (now marks) ≡ true) × (first + n ≤ 4 * linesOf s) ⌝ }
+    ensures { λ r. ⌜ r ≡ every n (λ k. is.sectorBacked s (now (longs .entry)) (now (words .entry)) (now (marks .entry)) (first + k)) ⌝ }
+{
     let mut i = 0;
     while i < n {
-        if !sector_backed(s, at, longs, words, marks, i) {
+        if !sector_backed(s, at, longs, words, marks, first + i) {
             return false;
         }
         i += 1;
     }
     true
+}
+
+// The same of sixteen.
+fn sixteen_backed(
+    s: Settings,
+    at: Layout,
+    longs: &[u64],
+    words: &[u32],
+    marks: &[u8],
+    first: usize,
+) -> bool
+    requires { ⌜ Placed s at × Fit s (now longs) (now words) (now marks) × (is.linesFine s (now longs) (now words) (now marks) ≡ true) × (first + 16 ≤ 4 * linesOf s) ⌝ }
+    ensures { λ r. ⌜ r ≡ every 16 (λ k. is.sectorBacked s (now (longs .entry)) (now (words .entry)) (now (marks .entry)) (first + k)) ⌝ }
+{
+    if none_reserved(marks, first) {
+        return true;
+    }
+    backed_from(s, at, longs, words, marks, first, 16)
+}
+
+// Sixteen sectors at a time, then the rest.
+fn sectors_backed(s: Settings, at: Layout, longs: &[u64], words: &[u32], marks: &[u8]) -> bool
+    requires { ⌜ Placed s at × Fit s (now longs) (now words) (now marks) × (is.linesFine s (now longs) (now words) (now marks) ≡ true) ⌝ }
+    ensures { λ r. ⌜ r ≡ every (4 * linesOf s) (is.sectorBacked s (now (longs .entry)) (now (words .entry)) (now (marks .entry))) ⌝ }
+{
+    let n = 4 * (s.sets * s.ways);
+    let groups = n / 16;
+    let mut g = 0;
+    while g < groups {
+        if !sixteen_backed(s, at, longs, words, marks, 16 * g) {
+            return false;
+        }
+        g += 1;
+    }
+    backed_from(s, at, longs, words, marks, 16 * groups, n % 16)
 }
 
 pub(crate) fn sectors_fine(

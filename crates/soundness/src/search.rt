@@ -1,4 +1,4 @@
-// An address looked for among the miss entries and the queue's reads.
+// An address looked for among the miss entries and the queue's reads. The address is compared first, since it seldom is the one.
 ghost use mathlib.Core.Path.{_≡_};
 ghost use Prim.Native.Nat.{_≤_};
 ghost use Rattle.model.specs.Words.{some, countBelow};
@@ -24,8 +24,10 @@ pub(crate) fn has_entry(
 {
     let mut e = 0;
     while e < n {
-        if (marks[at.counts + e] != 0) & (longs[at.misses + e] == a.0) {
-            return true;
+        if longs[at.misses + e] == a.0 {
+            if marks[at.counts + e] != 0 {
+                return true;
+            }
         }
         e += 1;
     }
@@ -47,8 +49,10 @@ pub(crate) fn has_unsent(
     let n = s.misses;
     let mut e = 0;
     while e < n {
-        if (marks[at.counts + e] != 0) & (marks[at.sent + e] == 0) & (longs[at.misses + e] == a.0) {
-            return true;
+        if longs[at.misses + e] == a.0 {
+            if (marks[at.counts + e] != 0) & (marks[at.sent + e] == 0) {
+                return true;
+            }
         }
         e += 1;
     }
@@ -71,8 +75,10 @@ pub(crate) fn reads_for(
     let mut count = 0;
     let mut p = 0;
     while p < n {
-        if (marks[at.kinds + p] == 1) & (longs[at.queue + p] == a.0) {
-            count += 1;
+        if longs[at.queue + p] == a.0 {
+            if marks[at.kinds + p] == 1 {
+                count += 1;
+            }
         }
         p += 1;
     }

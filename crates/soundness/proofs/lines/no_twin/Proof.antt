@@ -1,8 +1,12 @@
-use mathlib.Core.Path.{refl}
+use mathlib.Core.Path.{refl, sym, _∙_}
+use mathlib.Core.Bool.{false}
+use mathlib.Core.Logic.{⊎-elim}
 use native.Mathlib.Omega.{arith}
 use borrow.Author.Needs.{needs}
+use borrow.Author.Tests.{eq-eqb, ne-eqb}
 use Prim.Native.Nat.{_-_, _+_}
 use Rattle.model.specs.SoundLent as is
+use Rattle.model.proofs.Flags.{and-i, and-no}
 use Rattle.model.proofs.Below.{Passed, passed-end}
 use Rattle.layout.proofs.Tests.{fault-stop, fault-none}
 use Rattle.soundness.proofs.OfLines.{not-twin}
@@ -19,16 +23,28 @@ pub no-twin-spec : {M : Type 1} → statement M
 no-twin-spec =
     tie.close
     (tie.spec Inv-loop μ-loop
-    (λ c. search needs)
-    (λ c. (omega arith, refl))
-    (λ c. search needs)
-    (λ c κs. search needs)
-    (λ c. search needs)
-    (λ c. search needs)
-    (λ c. search needs)
-    (λ c. search needs)
-    (λ c. let called = c .before .before .before in let loop = called .before .before in let a = loop .before .before .before .before .args in fault-stop _ _ _ (called .before .loop-test .taken) (not-twin (a .s) (a .longs .now) (a .words .now) (a .marks .now) (a .l) (a .first + loop .loop .w) (called .live .ensures)) (c .if1 .taken))
-    (λ c. omega arith)
-    (λ c. omega arith)
-    (λ c. let called = c .before .before .before in let loop = called .before .before in let a = loop .before .before .before .before .args in fault-none _ _ _ (called .before .loop-test .taken) (not-twin (a .s) (a .longs .now) (a .words .now) (a .marks .now) (a .l) (a .first + loop .loop .w) (called .live .ensures)) (c .if1 .left) (loop .loop .inv))
-    (λ c. passed-end _ _ _ (c .loop-test .left) (c .before .loop .inv)))
+    (λ c. search needs)  -- sub-n
+    (λ c. (omega arith, refl))  -- loop-holds
+    (λ c. search needs)  -- add-m
+    (λ c. search needs)  -- mul-if1
+    (λ c. search needs)  -- shared-slice-read-if1
+    (λ c. search needs)  -- mul-if1-2
+    (λ c. search needs)  -- shared-slice-read-if1-2
+    (λ c κs. search needs)  -- live-requires
+    (λ c.
+    let asked = c .before .before in
+    let body = asked .before .before .before in
+    let loop = body .before in
+    let a = loop .before .before .before .before .args in
+    fault-stop _ _ _ (body .loop-test .taken) (not-twin (a .s) (a .longs .now) (a .words .now) (a .marks .now) (a .l) (a .first + loop .loop .w) (c .before .live .ensures)) (and-i (c .if2 .taken) (eq-eqb _ _ (asked .if1 .taken))))  -- returns
+    (λ c. omega arith)  -- add-w
+    (λ c. omega arith)  -- loop-less
+    (λ c.
+    let body = c .before .before .before in
+    let loop = body .before in
+    let a = loop .before .before .before .before .args in
+    ⊎-elim
+    (λ w. fault-none _ _ _ {f = false} (body .loop-test .taken) (not-twin (a .s) (a .longs .now) (a .words .now) (a .marks .now) (a .l) (a .first + loop .loop .w) (sym (w .2 .left) ∙ w .1 .ensures)) refl (loop .loop .inv))
+    (λ w. fault-none _ _ _ (body .loop-test .taken) (not-twin (a .s) (a .longs .now) (a .words .now) (a .marks .now) (a .l) (a .first + loop .loop .w) refl) (and-no (is.live (a .s) (a .longs .now) (a .words .now) (a .marks .now) (a .first + loop .loop .w)) _ (ne-eqb _ _ (w .left))) (loop .loop .inv))
+    (c .if1 .came))  -- loop-again
+    (λ c. passed-end _ _ _ (c .loop-test .left) (c .before .loop .inv)))  -- returns-2

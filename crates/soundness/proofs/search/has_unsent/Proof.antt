@@ -1,8 +1,12 @@
 -- No entry passed is unsent and has the address.
-use mathlib.Core.Path.{refl, _∙_}
+use mathlib.Core.Path.{_≡_, refl, _∙_}
+use mathlib.Core.Bool.{true, false}
+use mathlib.Core.Logic.{⊎-elim}
 use native.Mathlib.Omega.{arith}
 use borrow.Author.Needs.{needs}
+use borrow.Author.Tests.{eq-eqb, ne-eqb}
 use Prim.Native.Nat.{_-_}
+use Rattle.model.proofs.Flags.{and-false}
 use Rattle.model.proofs.Below.{Sought, sought-stop, sought-more, sought-end}
 use Rattle.soundness.proofs.OfSearch.{unsentRead, unsent-sought}
 use Rattle.soundness.proofs.search.has_unsent.Statement.{statement}
@@ -20,20 +24,29 @@ has-unsent-spec =
     (tie.spec Inv-loop μ-loop
     (λ c. (omega arith, refl))  -- loop-holds
     (λ c. search needs)  -- add-if1
-    (λ c. search needs)  -- shared-slice-read-if1
-    (λ c. search needs)  -- add-if1-2
-    (λ c. search needs)  -- shared-slice-read-if1-2
-    (λ c. search needs)  -- add-if1-3
     (λ c. search needs)  -- mul-if1
-    (λ c. search needs)  -- shared-slice-read-if1-3
+    (λ c. search needs)  -- shared-slice-read-if1
+    (λ c. search needs)  -- add-if2
+    (λ c. search needs)  -- shared-slice-read-if2
+    (λ c. search needs)  -- add-if2-2
+    (λ c. search needs)  -- shared-slice-read-if2-2
     (λ c.
-    let body = c .before .before .before .before .before .before .before .before in
+    let asked = c .before .before .before .before .before in
+    let body = asked .before .before .before .before in
     let start = body .before .before in
     let a = start .args in
-    sought-stop (unsentRead (a .at) (a .longs .now) (a .marks .now) (a .a .0)) _ _ (body .loop-test .taken) refl (c .if1 .taken) ∙ unsent-sought (a .s) (start .pre .0) (a .longs .now) (a .words .now) (a .marks .now) (a .a .0) (a .s .misses))  -- returns
+    let e = body .before .loop .e in
+    let yes : unsentRead (a .at) (a .longs .now) (a .marks .now) (a .a .0) e ≡ true = rw (c .if2 .taken, eq-eqb _ _ (asked .if1 .taken)) in
+    sought-stop (unsentRead (a .at) (a .longs .now) (a .marks .now) (a .a .0)) _ _ (body .loop-test .taken) refl yes ∙ unsent-sought (a .s) (start .pre .0) (a .longs .now) (a .words .now) (a .marks .now) (a .a .0) (a .s .misses))  -- returns
     (λ c. omega arith)  -- add-e
     (λ c. omega arith)  -- loop-less
-    (λ c. let body = c .before .before .before .before .before .before .before .before in sought-more _ _ _ (body .loop-test .taken) refl (c .if1 .left) (body .before .loop .inv))  -- loop-again
+    (λ c.
+    let body = c .before .before .before .before in
+    let a = body .before .before .args in
+    let e = body .before .loop .e in
+    let no : unsentRead (a .at) (a .longs .now) (a .marks .now) (a .a .0) e ≡ false =
+    ⊎-elim (λ w. rw (w .5 .left)) (λ w. rw (ne-eqb _ _ (w .left), and-false)) (c .if1 .came) in
+    sought-more _ _ _ (body .loop-test .taken) refl no (body .before .loop .inv))  -- loop-again
     (λ c.
     let start = c .before .before in
     let a = start .args in

@@ -1,9 +1,12 @@
 -- So many places passed have a read of the address.
-use mathlib.Core.Path.{refl, _∙_}
+use mathlib.Core.Path.{_≡_, refl, _∙_}
+use mathlib.Core.Bool.{true, false}
 use mathlib.Core.Logic.{⊎-elim}
 use native.Mathlib.Omega.{arith}
 use borrow.Author.Needs.{needs}
+use borrow.Author.Tests.{eq-eqb, ne-eqb}
 use Prim.Native.Nat.{_-_}
+use Rattle.model.proofs.Flags.{and-false}
 use Rattle.model.proofs.Below.{Counted, counted-yes, counted-no, counted-end}
 use Rattle.soundness.proofs.OfSearch.{readRead, read-counted}
 use Rattle.soundness.proofs.search.reads_for.Statement.{statement}
@@ -21,18 +24,30 @@ reads-for-spec =
     (tie.spec Inv-loop μ-loop
     (λ c. (omega arith, refl, omega arith))  -- loop-holds
     (λ c. search needs)  -- add-if1
-    (λ c. search needs)  -- shared-slice-read-if1
-    (λ c. search needs)  -- add-if1-2
     (λ c. search needs)  -- mul-if1
-    (λ c. search needs)  -- shared-slice-read-if1-2
+    (λ c. search needs)  -- shared-slice-read-if1
+    (λ c. search needs)  -- add-if2
+    (λ c. search needs)  -- shared-slice-read-if2
     (λ c. omega arith)  -- add-count
     (λ c. omega arith)  -- add-p
     (λ c. omega arith)  -- loop-less
     (λ c.
-    let body = c .before .before .before .before .before .before in
+    let body = c .before .before .before .before in
+    let a = body .before .before .args in
+    let q = body .before .loop .p in
+    let below = body .loop-test .taken in
+    let inv = body .before .loop .inv in
     ⊎-elim
-    (λ w. counted-yes _ _ _ _ _ (body .loop-test .taken) refl (w .0 .taken) (w .1) (body .before .loop .inv))
-    (λ w. counted-no _ _ _ _ _ (body .loop-test .taken) refl (w .0 .left) (w .1) (body .before .loop .inv))
+    (λ w.
+    let yes : readRead (a .at) (a .longs .now) (a .marks .now) (a .a .0) q ≡ true = rw (eq-eqb _ _ (w .3 .taken), eq-eqb _ _ (w .0 .taken)) in
+    counted-yes _ _ _ _ _ below refl yes (w .4) inv)
+    (⊎-elim
+    (λ w.
+    let no : readRead (a .at) (a .longs .now) (a .marks .now) (a .a .0) q ≡ false = rw (ne-eqb _ _ (w .3 .left)) in
+    counted-no _ _ _ _ _ below refl no (w .4) inv)
+    (λ w.
+    let no : readRead (a .at) (a .longs .now) (a .marks .now) (a .a .0) q ≡ false = rw (ne-eqb _ _ (w .0 .left), and-false) in
+    counted-no _ _ _ _ _ below refl no (w .1) inv))
     (c .if1 .came))  -- loop-again
     (λ c.
     let start = c .before .before in
