@@ -7,8 +7,11 @@
 // over their number.
 //
 //   calls [RATIOS]
+//   calls --count TABLES CALL NUMBER
 //
-// Prints a Markdown table; the file RATIOS gets the ratios alone.
+// The first prints a Markdown table; the file RATIOS gets the ratios alone. The second makes one
+// call so many times, for a program that counts instructions: CALL is check, tick, read, or nothing
+// for all but the call.
 #include "labintugmo.hpp"
 
 #include <array>
@@ -72,8 +75,8 @@ void expect(bool fine, const char* what) {
     }
 }
 
-// So many live lines, a third of them with a dirty sector, and so many reads in the queue, each
-// entry but the last with four readers.
+// So many live lines, a third of them with a dirty sector, and so many miss entries, each but the
+// last with four readers, the later half of them in the queue and the others sent.
 Commands filling(const Settings& settings, std::uint64_t lines, std::uint64_t reads) {
     Commands commands;
     commands.settings(settings);
@@ -91,6 +94,9 @@ Commands filling(const Settings& settings, std::uint64_t lines, std::uint64_t re
         for (std::uint32_t ticket = 0; ticket < readers; ++ticket) {
             commands.read(128 * block + 64, ticket);
         }
+    }
+    for (std::uint64_t sent = 0; sent < reads / 2; ++sent) {
+        commands.send();
     }
     return commands;
 }
@@ -166,18 +172,52 @@ const char* const title = "### One exported call from C++\n\n"
     "its tables; a step of a labintugmo::Cache does not; a record of a stream is read and run "
     "without a check.\n\n";
 
-const struct {
-    const char* name;
+struct Kind {
+    const char *word, *name;
     Settings settings;
     std::uint64_t lines, reads;
-} kinds[] = {{"1 x 1, one live line", {1, 1, 0, 1, 4, 2}, 1, 0},
-             {"256 x 4, fresh", {256, 4, 0, 64, 4, 64}, 0, 0},
-             {"256 x 4, half full", {256, 4, 0, 64, 4, 64}, 512, 32},
-             {"256 x 4, full", {256, 4, 0, 64, 4, 64}, 1024, 63}};
+};
+
+const Kind kinds[] = {{"one", "1 x 1, one live line", {1, 1, 0, 1, 4, 2}, 1, 0},
+                      {"fresh", "256 x 4, fresh", {256, 4, 0, 64, 4, 64}, 0, 0},
+                      {"half", "256 x 4, half full", {256, 4, 0, 64, 4, 64}, 512, 32},
+                      {"full", "256 x 4, full", {256, 4, 0, 64, 4, 64}, 1024, 62}};
+
+// The same call so many times, each on a copy of the same tables.
+void repeat(const Kind& kind, const std::string& what, long number) {
+    const Cache cache = Stream(filling(kind.settings, kind.lines, kind.reads)).cache;
+    volatile std::size_t written = 0;
+    const std::uint64_t address = 0;
+    const std::uint32_t none = 0;
+    for (long i = 0; i < number; ++i) {
+        labintugmo::Tables tables = cache.tables();
+        if (what == "check") {
+            written = cache.check().has_value();
+            expect(written == 0, "the tables are not sound");
+        } else if (what == "tick") {
+            written = call(labintugmo_tick, kind.settings, tables, none);
+            expect(written == 1, "a tick is refused");
+        } else if (what == "read") {
+            written = call(labintugmo_read, kind.settings, tables, address, none);
+            expect(written == (kind.lines > 0 ? 4 : 13), "a read is no HIT, or no MISS on fresh tables");
+        } else {
+            expect(what == "nothing", "no such call");
+        }
+    }
+}
 
 }  // namespace
 
 int main(int argc, char** argv) {
+    if (argc == 5 && std::string(argv[1]) == "--count") {
+        for (const auto& kind : kinds) {
+            if (std::string(argv[2]) == kind.word) {
+                repeat(kind, argv[3], std::atol(argv[4]));
+                return 0;
+            }
+        }
+        expect(false, "no such tables");
+    }
     std::string figures = std::string(title) +
         "| | check alone | tick: call | step | record | read: call | step | record |\n"
         "|---|---:|---:|---:|---:|---:|---:|---:|\n";

@@ -5,7 +5,7 @@
 #[path = "../../include/labintugmo.rs"]
 mod labintugmo;
 
-use crate::plain::{Command, Settings, Stopped};
+use crate::plain::{runner::Stopped, Command, Settings};
 use labintugmo::*;
 
 /// Lent tables with their settings.

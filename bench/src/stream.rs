@@ -1,10 +1,11 @@
 //! The streams that are measured: accesses with some locality, each after a tick and followed
 //! by a send and by a fill of the oldest sent miss, where there is one.
 
-use crate::plain::{Cache, Command, Events, Settings};
+use crate::plain::{Cache, Command, Settings, ROOM};
+use std::collections::VecDeque;
 
 /// A splitmix64 generator, so that a stream is the same everywhere.
-struct Random(u64);
+pub struct Random(pub u64);
 
 impl Random {
     fn draw(&mut self) -> u64 {
@@ -15,7 +16,7 @@ impl Random {
         mixed ^ (mixed >> 31)
     }
 
-    fn below(&mut self, limit: u64) -> u64 {
+    pub fn below(&mut self, limit: u64) -> u64 {
         self.draw() % limit
     }
 }
@@ -72,12 +73,12 @@ pub fn generate(
     mut sink: impl FnMut(Command, &[u8]),
 ) {
     let mut cache = Cache::<false>::new(settings);
-    let mut room = [0; 64];
+    let mut sent = VecDeque::new();
     let mut make = |cache: &mut Cache<false>, command: Command| {
-        let mut events = Events::new(&mut room);
-        cache.call(command, &mut events);
-        let written = events.written();
+        let mut room = [0; ROOM];
+        let written = cache.call(command, &mut room);
         sink(command, &room[..written]);
+        room
     };
     let blocks = 4 * settings.lines() as u64;
     let mut addresses = Addresses { random: Random(1), recent: [0; RECENT], last: 0, blocks };
@@ -93,9 +94,12 @@ pub fn generate(
         };
         make(&mut cache, access);
         if cache.queued() > 0 {
-            make(&mut cache, Command::Send);
+            let [kind, event @ ..] = make(&mut cache, Command::Send);
+            if kind == 0x15 {
+                sent.push_back(u64::from_le_bytes(event[..8].try_into().expect("eight bytes")));
+            }
         }
-        if let Some(address) = cache.first_sent() {
+        if let Some(address) = sent.pop_front() {
             make(&mut cache, Command::Fill { address });
         }
     }

@@ -1,5 +1,5 @@
 -- What the searches answer: the numbers that they read at places of the layout are those of entries and queue places.
-use mathlib.Core.Path.{_≡_, refl}
+use mathlib.Core.Path.{_≡_, refl, sym}
 use mathlib.Core.Bool.{Bool, not, _&&_}
 use mathlib.Core.List.{List}
 use Prim.Native.Nat.{ℕ, zero, suc, _+_}
@@ -8,8 +8,10 @@ use lib.Dec.{eqb}
 use Rattle.model.specs.Words.{some, countBelow}
 use Rattle.model.specs.SoundLent.{entryFor, unsentFor, readFor}
 use Rattle.model.specs.declared.Settings.{Settings}
+use Rattle.model.proofs.InUse.{count-short}
 use Rattle.layout.specs.declared.Layout.{Layout}
 use Rattle.layout.specs.Layout.{Placed}
+use Rattle.soundness.specs.Queued.{Queued}
 
 -- entry e has tickets and the address a
 abbrev pub entryRead : Layout → List ℕ → List ℕ → ℕ → ℕ → Bool
@@ -33,3 +35,7 @@ module _ (S : Settings) {at : Layout} (p : Placed S at) (longs words marks : Lis
 
   pub read-counted : countBelow n (readRead at longs marks a) ≡ countBelow n (readFor S longs words marks a)
   read-counted = rw (p .kinds, p .queue)
+
+  -- behind the used places stands no read
+  pub read-queued : Queued S marks n → countBelow n (readFor S longs words marks a) ≡ countBelow (S .queue) (readFor S longs words marks a)
+  read-queued q = sym (count-short (readFor S longs words marks a) (S .queue) n (q .most) (λ j h l. rw (q .behind j h l)))

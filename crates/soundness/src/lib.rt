@@ -21,6 +21,7 @@ use layout::gathered;
 use layout::in_range;
 use layout::laid_out;
 use layout::lengths_fit;
+use layout::used;
 use lines::lines_fine;
 use lines::sectors_fine;
 use misses::entries_fine;
@@ -37,19 +38,21 @@ pub enum LaidVerdict {
     Refused(Refusal),
 }
 
-// Refusal 3 does not apply. Lines first: what follows relies on them.
+// Refusal 3 does not apply. Lines first, and where the queue ends: what follows relies on them.
 pub fn tables_sound(s: Settings, at: Layout, longs: &[u64], words: &[u32], marks: &[u8]) -> bool
     requires { ⌜ Placed s at × Fit s (now longs) (now words) (now marks) ⌝ }
     ensures { λ r. ⌜ r ≡ soundNumbers s (now (longs .entry)) (now (words .entry)) (now (marks .entry)) ⌝ }
 {
-    if !((words[0] <= 0xFFFF_FFFE) & lines_fine(s, at, longs, words, marks)) {
+    if !((words[0] <= 0xFFFF_FFFE)
+        & gathered(marks, at.kinds, s.queue)
+        & lines_fine(s, at, longs, words, marks)) {
         return false;
     }
+    let queued = used(marks, at.kinds, s.queue);
     sectors_fine(s, at, longs, words, marks)
         & tickets_fine(s, at, longs, words, marks)
         & gathered(marks, at.counts, s.misses)
-        & entries_fine(s, at, longs, words, marks)
-        & gathered(marks, at.kinds, s.queue)
+        & entries_fine(s, at, longs, words, marks, queued)
         & places_fine(s, at, longs, words, marks)
         & count_fine(s, at, longs, words, marks)
         & trees_fine(s, at, longs, words, marks)

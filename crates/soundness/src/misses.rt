@@ -7,6 +7,7 @@ ghost use Rattle.model.specs.Address.{setIndex};
 ghost use Rattle.model.specs.Inner.{Fit};
 ghost use Rattle.model.specs.SoundLent as is;
 ghost use Rattle.layout.specs.Layout.{Placed};
+ghost use Rattle.soundness.specs.Queued.{Queued};
 use crate::search::has_entry;
 use crate::search::reads_for;
 use layout::Layout;
@@ -58,9 +59,17 @@ pub(crate) fn tickets_fine(
     true
 }
 
-// The lines are fine, so only the set of an entry's address can have its sector.
-fn entry_fine(s: Settings, at: Layout, longs: &[u64], words: &[u32], marks: &[u8], e: usize) -> bool
-    requires { ⌜ Placed s at × Fit s (now longs) (now words) (now marks) × (is.linesFine s (now longs) (now words) (now marks) ≡ true) × (e < s .misses) ⌝ }
+// The lines are fine, so only the set of an entry's address can have its sector. The reads are among the first `queued` places.
+fn entry_fine(
+    s: Settings,
+    at: Layout,
+    longs: &[u64],
+    words: &[u32],
+    marks: &[u8],
+    queued: usize,
+    e: usize,
+) -> bool
+    requires { ⌜ Placed s at × Fit s (now longs) (now words) (now marks) × (is.linesFine s (now longs) (now words) (now marks) ≡ true) × Queued s (now marks) queued × (e < s .misses) ⌝ }
     ensures { λ r. ⌜ r ≡ is.entryFine s (now (longs .entry)) (now (words .entry)) (now (marks .entry)) e ⌝ }
 {
     let count = marks[at.counts + e] as usize;
@@ -77,7 +86,7 @@ fn entry_fine(s: Settings, at: Layout, longs: &[u64], words: &[u32], marks: &[u8
     if mark != 0 {
         return named;
     }
-    named & (reads_for(s, at, longs, words, marks, SectorAddress(a)) == 1)
+    named & (reads_for(s, at, longs, words, marks, queued, SectorAddress(a)) == 1)
 }
 
 pub(crate) fn entries_fine(
@@ -86,14 +95,15 @@ pub(crate) fn entries_fine(
     longs: &[u64],
     words: &[u32],
     marks: &[u8],
+    queued: usize,
 ) -> bool
-    requires { ⌜ Placed s at × Fit s (now longs) (now words) (now marks) × (is.linesFine s (now longs) (now words) (now marks) ≡ true) ⌝ }
+    requires { ⌜ Placed s at × Fit s (now longs) (now words) (now marks) × (is.linesFine s (now longs) (now words) (now marks) ≡ true) × Queued s (now marks) queued ⌝ }
     ensures { λ r. ⌜ r ≡ every (s .misses) (is.entryFine s (now (longs .entry)) (now (words .entry)) (now (marks .entry))) ⌝ }
 {
     let n = s.misses;
     let mut e = 0;
     while e < n {
-        if !entry_fine(s, at, longs, words, marks, e) {
+        if !entry_fine(s, at, longs, words, marks, queued, e) {
             return false;
         }
         e += 1;

@@ -5,6 +5,7 @@ ghost use Rattle.model.specs.Words.{some, countBelow};
 ghost use Rattle.model.specs.Inner.{Fit};
 ghost use Rattle.model.specs.SoundLent as is;
 ghost use Rattle.layout.specs.Layout.{Placed};
+ghost use Rattle.soundness.specs.Queued.{Queued};
 use layout::Layout;
 use model::SectorAddress;
 use model::Settings;
@@ -59,19 +60,19 @@ pub(crate) fn has_unsent(
     false
 }
 
-// How many reads of the address are queued.
+// How many reads of the address are queued, which are among the first `n` places.
 pub(crate) fn reads_for(
     s: Settings,
     at: Layout,
     longs: &[u64],
     words: &[u32],
     marks: &[u8],
+    n: usize,
     a: SectorAddress,
 ) -> usize
-    requires { ⌜ Placed s at × Fit s (now longs) (now words) (now marks) ⌝ }
+    requires { ⌜ Placed s at × Fit s (now longs) (now words) (now marks) × Queued s (now marks) n ⌝ }
     ensures { λ r. ⌜ r ≡ countBelow (s .queue) (is.readFor s (now (longs .entry)) (now (words .entry)) (now (marks .entry)) (a .0)) ⌝ }
 {
-    let n = s.queue;
     let mut count = 0;
     let mut p = 0;
     while p < n {

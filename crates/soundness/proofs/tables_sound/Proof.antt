@@ -1,8 +1,8 @@
--- The current cycle and the lines; then the rest, which relies on them.
+-- The current cycle, the queue's end and the lines; then the rest, which relies on them.
 use mathlib.Core.Path.{_∙_}
 use native.Mathlib.Omega.{arith}
 use borrow.Author.Needs.{needs}
-use Rattle.soundness.proofs.OfTables.{unsound, lines-yes, rest, counts-gathered, kinds-gathered}
+use Rattle.soundness.proofs.OfTables.{unsound, lines-yes, kinds-yes, rest, counts-gathered, kinds-gathered, queue-ends}
 use Rattle.soundness.proofs.tables_sound.Statement.{statement}
 use Rattle.soundness.proofs.tables_sound.Tie as tie
 
@@ -11,23 +11,34 @@ tables-sound-spec =
     tie.close
     (tie.spec
     (λ c. search needs)  -- shared-slice-read-if1
+    (λ c κs. let pre = c .before .before .before .before .pre in let at = pre .0 in let fit = pre .1 in omega arith)  -- gathered-requires
     (λ c κs. search needs)  -- lines-fine-requires
-    (λ c. let asked = c .before in let a = asked .before .before .before .before .before .args in unsound (a .s) (a .longs .now) (a .words .now) (a .marks .now) _ (asked .lines-fine .ensures) (c .if1 .taken))  -- returns
-    (λ c κs. let tested = c in let start = tested .before .before .before .before .before .before in let a = start .args in (start .pre .0, start .pre .1, lines-yes (a .s) (a .longs .now) (a .words .now) (a .marks .now) _ (tested .before .lines-fine .ensures) (tested .if1 .left)))  -- sectors-fine-requires
-    (λ c κs. let pre = c .before .before .before .before .before .before .before .pre in (pre .0, pre .1))  -- tickets-fine-requires
-    (λ c κs. let pre = c .before .before .before .before .before .before .before .before .pre in let at = pre .0 in let fit = pre .1 in omega arith)  -- gathered-requires
-    (λ c κs. let tested = c .before .before .before in let start = tested .before .before .before .before .before .before in let a = start .args in (start .pre .0, start .pre .1, lines-yes (a .s) (a .longs .now) (a .words .now) (a .marks .now) _ (tested .before .lines-fine .ensures) (tested .if1 .left)))  -- entries-fine-requires
+    (λ c. let looked = c .before in let start = looked .before .before .before .before .before .before in let a = start .args in unsound (a .s) (a .longs .now) (a .words .now) (a .marks .now) _ _ (looked .before .gathered .ensures ∙ kinds-gathered (a .s) (start .pre .0) (a .marks .now)) (looked .lines-fine .ensures) (c .if1 .taken))  -- returns
+    (λ c κs. let pre = c .before .before .before .before .before .before .before .pre in let at = pre .0 in let fit = pre .1 in omega arith)  -- used-requires
+    (λ c κs. let tested = c .before in let start = tested .before .before .before .before .before .before .before in let a = start .args in (start .pre .0, start .pre .1, lines-yes (a .s) (a .longs .now) (a .words .now) (a .marks .now) _ _ (tested .before .before .gathered .ensures ∙ kinds-gathered (a .s) (start .pre .0) (a .marks .now)) (tested .before .lines-fine .ensures) (tested .if1 .left)))  -- sectors-fine-requires
+    (λ c κs. let pre = c .before .before .before .before .before .before .before .before .before .pre in (pre .0, pre .1))  -- tickets-fine-requires
     (λ c κs. let pre = c .before .before .before .before .before .before .before .before .before .before .pre in let at = pre .0 in let fit = pre .1 in omega arith)  -- gathered-requires-2
-    (λ c κs. let pre = c .before .before .before .before .before .before .before .before .before .before .before .pre in (pre .0, pre .1))  -- places-fine-requires
-    (λ c κs. let pre = c .before .before .before .before .before .before .before .before .before .before .before .before .pre in (pre .0, pre .1))  -- count-fine-requires
-    (λ c κs. let pre = c .before .before .before .before .before .before .before .before .before .before .before .before .before .pre in (pre .0, pre .1))  -- trees-fine-requires
+    (λ c κs.
+    let ended = c .before .before .before in
+    let tested = ended .before in
+    let start = tested .before .before .before .before .before .before .before in
+    let a = start .args in (
+      start .pre .0,
+      start .pre .1,
+      lines-yes (a .s) (a .longs .now) (a .words .now) (a .marks .now) _ _ (tested .before .before .gathered .ensures ∙ kinds-gathered (a .s) (start .pre .0) (a .marks .now)) (tested .before .lines-fine .ensures) (tested .if1 .left),
+      queue-ends (a .s) (start .pre .0) (a .marks .now) (kinds-yes (a .s) (a .longs .now) (a .words .now) (a .marks .now) _ _ (tested .before .before .gathered .ensures ∙ kinds-gathered (a .s) (start .pre .0) (a .marks .now)) (tested .before .lines-fine .ensures) (tested .if1 .left)) (ended .used .ensures),
+    ))  -- entries-fine-requires
+    (λ c κs. let pre = c .before .before .before .before .before .before .before .before .before .before .before .before .pre in (pre .0, pre .1))  -- places-fine-requires
+    (λ c κs. let pre = c .before .before .before .before .before .before .before .before .before .before .before .before .before .pre in (pre .0, pre .1))  -- count-fine-requires
+    (λ c κs. let pre = c .before .before .before .before .before .before .before .before .before .before .before .before .before .before .pre in (pre .0, pre .1))  -- trees-fine-requires
     (λ c.
     let counted = c .before in
     let placed = counted .before in
-    let sectors = placed .before .before .before .before .before in
-    let tested = sectors .before in
-    let start = tested .before .before .before .before .before .before in
+    let gathered = placed .before .before in
+    let sectors = gathered .before .before in
+    let tested = sectors .before .before in
+    let start = tested .before .before .before .before .before .before .before in
     let a = start .args in
-    rest (a .s) (a .longs .now) (a .words .now) (a .marks .now) _ (tested .before .lines-fine .ensures) (tested .if1 .left) (sectors .sectors-fine .ensures) (placed .before .before .before .before .tickets-fine .ensures)
-    (placed .before .before .before .gathered .ensures ∙ counts-gathered (a .s) (start .pre .0) (a .marks .now)) (placed .before .before .entries-fine .ensures)
-    (placed .before .gathered2 .ensures ∙ kinds-gathered (a .s) (start .pre .0) (a .marks .now)) (placed .places-fine .ensures) (counted .count-fine .ensures) (c .trees-fine .ensures)))  -- returns-2
+    rest (a .s) (a .longs .now) (a .words .now) (a .marks .now) _ _ (tested .before .before .gathered .ensures ∙ kinds-gathered (a .s) (start .pre .0) (a .marks .now)) (tested .before .lines-fine .ensures) (tested .if1 .left) (sectors .sectors-fine .ensures) (gathered .before .tickets-fine .ensures)
+    (gathered .gathered2 .ensures ∙ counts-gathered (a .s) (start .pre .0) (a .marks .now)) (placed .before .entries-fine .ensures)
+    (placed .places-fine .ensures) (counted .count-fine .ensures) (c .trees-fine .ensures)))  -- returns-2

@@ -8,10 +8,10 @@ use Rattle.soundness.proofs.misses.entries_fine.Statement.{statement}
 use Rattle.soundness.proofs.misses.entries_fine.Tie as tie
 
 abbrev Inv-loop : tie.InvT-loop
-Inv-loop s at longs words marks n e₀ e = Passed (is.entryFine s longs words marks) (s .misses) e
+Inv-loop s at longs words marks queued n e₀ e = Passed (is.entryFine s longs words marks) (s .misses) e
 
 abbrev μ-loop : tie.MeasureT-loop
-μ-loop s at longs words marks n e₀ e = s .misses - e
+μ-loop s at longs words marks queued n e₀ e = s .misses - e
 
 pub entries-fine-spec : {M : Type 1} → statement M
 entries-fine-spec =

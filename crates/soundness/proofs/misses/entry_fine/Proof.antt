@@ -33,7 +33,7 @@ entry-fine-spec =
     let a = start .args in
     let at = start .pre .0 in
     sent-entry (a .s) (a .longs .now) (a .words .now) (a .marks .now) (a .e) _ _ _ (count-read (a .s) at (a .marks .now) (a .e)) (sent-read (a .s) at (a .marks .now) (a .e)) (miss-read (a .s) at (a .longs .now) (a .e)) (start .pre .2) (start .pre .1 .sets) (start .pre .1 .ways) (tested .if1 .left) _ _ (looked .before .set-reserves .ensures) (looked .has-entry .ensures) (c .if2 .taken))  -- returns-2
-    (λ c κs. let pre = c .before .before .before .before .before .before .before .before .before .before .before .before .before .before .pre in (pre .0, pre .1))  -- reads-for-requires
+    (λ c κs. let pre = c .before .before .before .before .before .before .before .before .before .before .before .before .before .before .pre in (pre .0, pre .1, pre .3))  -- reads-for-requires
     (λ c.
     let looked = c .before .before in
     let tested = looked .before .before .before in

@@ -8,15 +8,15 @@ use borrow.Author.Tests.{eq-eqb, ne-eqb}
 use Prim.Native.Nat.{_-_}
 use Rattle.model.proofs.Flags.{and-false}
 use Rattle.model.proofs.Below.{Counted, counted-yes, counted-no, counted-end}
-use Rattle.soundness.proofs.OfSearch.{readRead, read-counted}
+use Rattle.soundness.proofs.OfSearch.{readRead, read-counted, read-queued}
 use Rattle.soundness.proofs.search.reads_for.Statement.{statement}
 use Rattle.soundness.proofs.search.reads_for.Tie as tie
 
 abbrev Inv-loop : tie.InvT-loop
-Inv-loop at longs words marks a n count₀ p₀ count p = Counted (readRead at longs marks (a .0)) n p count
+Inv-loop at longs words marks n a count₀ p₀ count p = Counted (readRead at longs marks (a .0)) n p count
 
 abbrev μ-loop : tie.MeasureT-loop
-μ-loop at longs words marks a n count₀ p₀ count p = n - p
+μ-loop at longs words marks n a count₀ p₀ count p = n - p
 
 pub reads-for-spec : {M : Type 1} → statement M
 reads-for-spec =
@@ -52,4 +52,5 @@ reads-for-spec =
     (λ c.
     let start = c .before .before in
     let a = start .args in
-    counted-end _ _ _ _ (c .loop-test .left) (c .before .loop .inv) ∙ read-counted (a .s) (start .pre .0) (a .longs .now) (a .words .now) (a .marks .now) (a .a .0) (a .s .queue)))  -- returns
+    counted-end _ _ _ _ (c .loop-test .left) (c .before .loop .inv) ∙ read-counted (a .s) (start .pre .0) (a .longs .now) (a .words .now) (a .marks .now) (a .a .0) (a .n)
+    ∙ read-queued (a .s) (start .pre .0) (a .longs .now) (a .words .now) (a .marks .now) (a .a .0) (a .n) (start .pre .2)))  -- returns
