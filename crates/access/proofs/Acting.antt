@@ -9,13 +9,13 @@ use lib.ListN.{length, getD, set, length-set, length-append}
 use lib.Seq.{getD-set-same, set-set}
 use lib.Dec.{eqb}
 use borrow.Author.Tests.{eqb-true, eq-eqb, ne-eqb, leb-true}
-use Rattle.model.specs.Words.{any, count, one}
+use Rattle.words.specs.Words.{any, count, one}
 use Rattle.model.specs.Range.{linesOf, isTree}
 use Rattle.model.specs.Tree.{levels, touchedTree}
 use Rattle.model.specs.Address.{addressOf, isRead, blockOf, sectorIndex, setIndex, lineNumber}
 use Rattle.model.specs.Tables.{Line, Entry, Tables, entryFor, noEntry, fresh, withLines, withMisses, withQueue, withDirtyCount, withTrees}
 use Rattle.model.specs.Lent.{Lent, lent, sectorsAt, lineAt}
-use Rattle.model.specs.Regions.{put}
+use Rattle.words.specs.Regions.{put}
 use Rattle.model.specs.Probe.{Spot, waysOf, ruleOf}
 use Rattle.model.specs.Steps.{isMerge, isMiss, onSector, update, takesLine, join, onMisses, fetches, queues, placesNeeded, recounted, lineAfter, turnedFor}
 use Rattle.model.specs.declared.Settings.{Settings}
@@ -24,16 +24,16 @@ use Rattle.model.specs.declared.Access.{Access}
 use Rattle.model.specs.declared.Access.the-variants.{Read, Write}
 use Rattle.model.specs.declared.Answer.{Answer}
 use Rattle.model.specs.Sound.{queuedOk}
-use Rattle.model.proofs.Flags.{and-2, flag, by-flag}
+use Rattle.words.proofs.Flags.{and-2, flag, by-flag}
 use Rattle.model.proofs.SoundFacts.{Sound, parts, lines-are, readers-some, queued-parts}
-use Rattle.model.proofs.Lists.{In, all-in, in-append, count-index}
+use Rattle.words.proofs.Lists.{In, all-in, in-append, count-index}
 use Rattle.model.proofs.Taken.{Spotted}
 use Rattle.model.proofs.Offered.{probe-spotted}
 use Rattle.model.proofs.Victims.{line-stays}
 use Rattle.model.proofs.Turning.{set-below}
-use Rattle.model.proofs.Bridge.{is-tables}
-use Rattle.model.proofs.Standing.{encode-stands}
-use Rattle.model.proofs.Tabled.{getD-table}
+use Rattle.encoding.proofs.Bridge.{is-tables}
+use Rattle.encoding.proofs.Standing.{encode-stands}
+use Rattle.words.proofs.Tabled.{getD-table}
 use Rattle.layout.specs.declared.Layout.{Layout}
 use Rattle.layout.specs.Layout.{Placed}
 use Rattle.layout.proofs.Stands.{Stands, is-stands}
@@ -41,7 +41,7 @@ use Rattle.layout.proofs.Lines.{takenAs, line-stands, taken-stands}
 use Rattle.layout.proofs.TreeStands.{tree-stands, tree-at}
 use Rattle.tables.proofs.Misses.{withTicket, unsent, append-stands, new-entry-stands}
 use Rattle.tables.proofs.Queue.{push-stands}
-use Rattle.model.proofs.Counting.{map-one}
+use Rattle.words.proofs.Counting.{map-one}
 use Rattle.probe.specs.declared.Decision.{Decision}
 use Rattle.probe.proofs.Held.{lines-held, way-line}
 use Rattle.access.specs.Plan.{Met, entryIndex, courseOf, goes, ticketOf}

@@ -7,7 +7,7 @@ use native.Mathlib.Omega.{arith}
 use lib.ListN.{length, getD, replicate, length-append}
 use lib.Dec.{ltb}
 use borrow.Author.Tests.{lt-ltb, le-ltb, leb-true}
-use Rattle.model.specs.Words.{pick, any, one}
+use Rattle.words.specs.Words.{pick, any, one}
 use Rattle.model.specs.Address.{addressOf, isRead, blockOf}
 use Rattle.model.specs.Tables.{Line, reading, writing, Tables, entryFor, fresh, emptied}
 use Rattle.model.specs.Lent.{Lent}

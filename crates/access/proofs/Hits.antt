@@ -7,11 +7,11 @@ use mathlib.Core.List.{List, [], _∷_}
 use Prim.Native.Nat.{ℕ, _+_}
 use native.Mathlib.Omega.{arith}
 use lib.ListN.{length, getD}
-use Rattle.model.specs.Words.{pick, one}
+use Rattle.words.specs.Words.{pick, one}
 use Rattle.model.specs.Address.{addressOf, isRead, blockOf, setIndex}
 use Rattle.model.specs.Tables.{Tables, writing}
 use Rattle.model.specs.Lent.{Lent, lent, sectorsAt}
-use Rattle.model.specs.Regions.{put}
+use Rattle.words.specs.Regions.{put}
 use Rattle.model.specs.Probe.{Spot, at, waysOf, ruleOf}
 use Rattle.model.specs.Meetings.{Matched, Replaced}
 use Rattle.model.specs.Steps.{isHit, isMerge, isMiss, takesLine, proceed}
@@ -23,7 +23,7 @@ use Rattle.model.specs.declared.Answer.{Answer}
 use Rattle.model.specs.declared.Answer.the-variants.{Hit, HitReserved, Miss, SectorMiss}
 use Rattle.model.specs.declared.Event.the-variants.{Answered}
 use Rattle.model.specs.declared.Told.{Told}
-use Rattle.model.proofs.Flags.{and-1, and-2, clash}
+use Rattle.words.proofs.Flags.{and-1, and-2, clash}
 use Rattle.model.proofs.Victims.{probe-meets}
 use Rattle.layout.specs.declared.Layout.{Layout}
 use Rattle.layout.specs.Layout.{Placed}

@@ -6,9 +6,9 @@ use Prim.Native.Nat.{ℕ, _+_}
 use native.Mathlib.Omega.{arith}
 use lib.ListN.{getD, set, replicate, getD-replicate}
 use lib.Seq.{set-getD}
-use Rattle.model.specs.Words.{fit, any, one}
+use Rattle.words.specs.Words.{fit, any, one}
 use Rattle.model.specs.Range.{linesOf}
-use Rattle.model.specs.Regions.{put}
+use Rattle.words.specs.Regions.{put}
 use Rattle.model.specs.Address.{addressOf, isRead, blockOf, sectorIndex, lineNumber}
 use Rattle.model.specs.Tables.{Line, Tables, empty, fresh, emptied, withLines, withDirtyCount, dirty, isModified}
 use Rattle.model.specs.Lent.{lent, sectorsAt, bit, wordBlocks, tagOf, cycleOf, takenOf, masksOf, statusesOf, readablesOf, encode}
@@ -20,8 +20,8 @@ use Rattle.model.specs.declared.Access.{Access}
 use Rattle.model.specs.declared.Access.the-variants.{Read, Write}
 use Rattle.model.specs.declared.Answer.{Answer}
 use Rattle.model.specs.declared.Sector.{Sector}
-use Rattle.model.proofs.Flags.{not-yes, clash}
-use Rattle.model.proofs.Places.{field-put}
+use Rattle.words.proofs.Flags.{not-yes, clash}
+use Rattle.words.proofs.Places.{field-put}
 use Rattle.layout.specs.declared.Layout.{Layout}
 use Rattle.layout.specs.Layout.{Placed}
 use Rattle.layout.proofs.Grown.{places-same}

@@ -18,7 +18,7 @@ use Rattle.model.specs.declared.Refusal.the-variants.{BadAccess}
 use Rattle.model.specs.declared.Event.the-variants as event
 use Rattle.model.specs.declared.Told.{Told}
 use Rattle.model.proofs.SoundFacts.{parts}
-use Rattle.model.proofs.Bridge.{is-tables}
+use Rattle.encoding.proofs.Bridge.{is-tables}
 use Rattle.tables.specs.Telling.{telling}
 use Rattle.tables.proofs.Tellings.{refusal-leaves}
 use Rattle.probe.specs.declared.Meeting.{Meeting}

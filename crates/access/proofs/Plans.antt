@@ -10,7 +10,7 @@ use native.Mathlib.Decide.{decLe}
 use lib.ListN.{length, getD, set}
 use lib.Dec.{eqb, leb, ltb}
 use borrow.Author.Tests.{eqb-true, eq-eqb, le-leb, lt-leb, leb-true, leb-false, ltb-false, ne-eqb}
-use Rattle.model.specs.Words.{pick, any, count}
+use Rattle.words.specs.Words.{pick, any, count}
 use Rattle.model.specs.Range.{inRange}
 use Rattle.model.specs.Address.{addressOf, isRead, sectorIndex, wellFormed}
 use Rattle.model.specs.Tables.{Entry, Tables, refused, entryFor, noEntry}
@@ -21,8 +21,8 @@ use Rattle.model.specs.declared.Access.{Access}
 use Rattle.model.specs.declared.Answer.{Answer}
 use Rattle.model.specs.declared.Answer.the-variants.{Hit, HitReserved, Miss, SectorMiss}
 use Rattle.model.specs.declared.Refusal.the-variants.{QueueFull, EntryFull, MissTableFull}
-use Rattle.model.proofs.Flags.{and-1, or-false}
-use Rattle.model.proofs.Lists.{any-in, in-getD, count-in, count-index}
+use Rattle.words.proofs.Flags.{and-1, or-false}
+use Rattle.words.proofs.Lists.{any-in, in-getD, count-in, count-index}
 use Rattle.model.proofs.SoundFacts.{Sound, parts, entry-at, address-is, sector-aligned, sector-below}
 use Rattle.model.proofs.Taken.{Spotted, formed-good}
 use Rattle.model.proofs.Offered.{probe-spotted}

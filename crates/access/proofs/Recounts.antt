@@ -7,14 +7,14 @@ use Prim.Native.Nat.{ℕ, _+_, _-_, _≤_, _<_}
 use native.Mathlib.Omega.{arith}
 use lib.ListN.{length, getD}
 use borrow.Author.Tests.{eqb-true}
-use Rattle.model.specs.Words.{count, one}
+use Rattle.words.specs.Words.{count, one}
 use Rattle.model.specs.Range.{linesOf}
 use Rattle.model.specs.Tables.{Line, Tables, dirty, dirtyLines, fresh}
 use Rattle.model.specs.Lent.{lent, lineAt}
 use Rattle.model.specs.Inner.{Is}
 use Rattle.model.specs.declared.Settings.{Settings}
-use Rattle.model.proofs.Tabled.{getD-table}
-use Rattle.model.proofs.Bridge.{is-fit, is-tables}
+use Rattle.words.proofs.Tabled.{getD-table}
+use Rattle.encoding.proofs.Bridge.{is-fit, is-tables}
 use Rattle.model.proofs.SoundFacts.{parts, lines-are}
 use Rattle.layout.specs.declared.Layout.{Layout}
 use Rattle.layout.specs.Layout.{Placed}
@@ -23,7 +23,7 @@ use Rattle.layout.proofs.DirtyCount.{dirty-count-at}
 use Rattle.probe.specs.Scan.{dirtyAt}
 use Rattle.probe.proofs.Statuses.{dirty-bytes}
 use Rattle.probe.proofs.Held.{lines-held}
-use Rattle.model.proofs.Counting.{count-length, one-counted}
+use Rattle.words.proofs.Counting.{count-length, one-counted}
 
 module _ (S : Settings) {longs words marks : List ℕ} (t : Tables) (is : Is S (lent longs words marks) t) {at : Layout} (pl : Placed S at) where
   pub count-at : getD words (at .dirty) 0 ≡ t .dirtyCount

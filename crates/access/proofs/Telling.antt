@@ -7,7 +7,7 @@ use native.Mathlib.Nat.{mul-suc, mul-le-mul-left, le-trans}
 use native.Mathlib.Omega.{arith}
 use lib.ListN.{length, set, take}
 use borrow.Author.Tests.{leb-true}
-use Rattle.model.specs.Words.{fit, one}
+use Rattle.words.specs.Words.{fit, one}
 use Rattle.model.specs.Address.{addressOf, isRead, blockOf, setIndex}
 use Rattle.model.specs.Tables.{Tables, withLines, withMisses, withDirtyCount, withTrees}
 use Rattle.model.specs.Lent.{Lent, lent, sectorsAt}
@@ -21,7 +21,7 @@ use Rattle.model.specs.declared.Access.{Access}
 use Rattle.model.specs.declared.Event.{Event}
 use Rattle.model.specs.declared.Event.the-variants.{Answered}
 use Rattle.model.specs.declared.Told.{Told}
-use Rattle.model.proofs.Bridge.{is-fit}
+use Rattle.encoding.proofs.Bridge.{is-fit}
 use Rattle.model.proofs.SoundFacts.{parts}
 use Rattle.layout.specs.declared.Layout.{Layout}
 use Rattle.layout.specs.Layout.{Placed}

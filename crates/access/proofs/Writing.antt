@@ -8,7 +8,7 @@ use lib.ListN.{length, getD, take, drop, length-take, drop-of-length-le}
 use lib.Seq.{drop-cons, getD-take}
 use Rattle.model.specs.Numbers.{queueKindNumber}
 use Rattle.model.specs.Lent.{Lent, lent}
-use Rattle.model.specs.Regions.{put}
+use Rattle.words.specs.Regions.{put}
 use Rattle.model.specs.declared.Queued.{Queued}
 use Rattle.access.specs.Written.{queueWritten}
 use Rattle.layout.specs.declared.Layout.{Layout}

@@ -5,7 +5,7 @@ use mathlib.Core.Bool.{Bool, true, false, _&&_}
 use mathlib.Core.List.{List, [], _∷_}
 use lib.ListN.{length, getD}
 use lib.Dec.{ltb, leb}
-use Rattle.model.specs.Words.{pick, any}
+use Rattle.words.specs.Words.{pick, any}
 use Rattle.model.specs.Address.{addressOf, isRead, wellFormed, lineNumber}
 use Rattle.model.specs.Range.{linesOf}
 use Rattle.model.specs.Tables.{Entry, Tables, Outcome, refused, entryFor, noEntry}

@@ -3,14 +3,14 @@ use Prim.Native.Nat.{ℕ, _+_, _*_, _≤_, _<_, _-_}
 use mathlib.Core.Bool.{Bool, true, false, _&&_}
 use mathlib.Core.List.{List, [], _∷_, _++_}
 use lib.ListN.{length, getD, set, replicate}
-use Rattle.model.specs.Words.{pick, one}
+use Rattle.words.specs.Words.{pick, one}
 use Rattle.model.specs.Numbers.{queueKindNumber}
 use Rattle.model.specs.Range.{isTree}
 use Rattle.model.specs.Tree.{levels, touchedTree}
 use Rattle.model.specs.Address.{addressOf, isRead, sectorIndex}
 use Rattle.model.specs.Tables.{empty, reading}
 use Rattle.model.specs.Lent.{Lent, lent, sectorsAt}
-use Rattle.model.specs.Regions.{put}
+use Rattle.words.specs.Regions.{put}
 use Rattle.model.specs.Steps.{isMiss, takesLine, onSector}
 use Rattle.model.specs.Calls.{inTwo}
 use Rattle.model.specs.declared.Settings.{Settings}

@@ -3,7 +3,7 @@ ghost use mathlib.Core.Path.{_≡_};
 ghost use Prim.Native.Nat.{_+_, _≤_};
 ghost use mathlib.Core.Bool.{_&&_};
 ghost use Rattle.model.specs.Address.{isRead};
-ghost use Rattle.model.specs.Words.{one};
+ghost use Rattle.words.specs.Words.{one};
 ghost use Rattle.model.specs.Lent.{lent};
 ghost use Rattle.model.specs.Inner.{Held};
 ghost use Rattle.layout.specs.Layout.{Placed};
@@ -110,7 +110,7 @@ pub(crate) fn course_of(
         return Course::Stays;
     }
     if is_merge(a) {
-        let address = SectorAddress(model::address_of(x));
+        let address = SectorAddress(values::address_of(x));
         return join_course(s, at, longs, words, marks, address);
     }
     if is_miss(a) {

@@ -2,7 +2,7 @@
 ghost use mathlib.Core.Path.{_≡_};
 ghost use Prim.Native.Nat.{_+_, _*_, _≤_, _<_};
 ghost use lib.ListN.{length};
-ghost use Rattle.model.specs.Words.{pick};
+ghost use Rattle.words.specs.Words.{pick};
 ghost use Rattle.model.specs.Tables.{isInvalid, empty};
 ghost use Rattle.model.specs.Lent.{sectorsAt};
 ghost use Rattle.model.specs.Range.{linesOf};
@@ -122,7 +122,7 @@ pub(crate) fn sectors_found(
 pub(crate) fn sectors_left(x: Access, d: Decision, found: [Sector; 4]) -> [Sector; 4]
     ensures { λ r. ⌜ r ≡ sectorsAfter x d found ⌝ }
 {
-    let k = model::sector_index(model::address_of(x));
+    let k = values::sector_index(values::address_of(x));
     let a = d.answer;
     let mut four = found;
     let s = four[k];

@@ -4,9 +4,9 @@ ghost use mathlib.Core.Path.{_≡_};
 ghost use Prim.Native.Nat.{ℕ, _+_, _*_, _≤_, _<_};
 ghost use mathlib.Core.List.{List, [], _∷_};
 ghost use lib.ListN.{length, getD, take};
-ghost use Rattle.model.specs.Regions.{put};
+ghost use Rattle.words.specs.Regions.{put};
 ghost use Rattle.model.specs.Address.{isRead, addressOf, blockOf, setIndex};
-ghost use Rattle.model.specs.Words.{pick, one};
+ghost use Rattle.words.specs.Words.{pick, one};
 ghost use Rattle.model.specs.Lent.{lent, sectorsAt};
 ghost use Rattle.model.specs.Inner.{Fit};
 ghost use Rattle.model.specs.Range.{linesOf, isTree, powerTo256};
@@ -99,7 +99,7 @@ fn change_line(
     let found = sectors_found(s, at, words, marks, d);
     let four = sectors_left(x, d, found);
     layout::recount(words, at.dirty, was, layout::some_modified(four));
-    let block = model::block_of(model::address_of(x));
+    let block = values::block_of(values::address_of(x));
     write_line(at, longs, words, marks, d.line, block, four);
 }
 
@@ -150,7 +150,7 @@ fn turn_tree(s: Settings, at: Layout, words: &mut [u32], x: Access, way: usize)
     ensures { λ _. ⌜ now (words .exit) ≡ treesWritten s at (setIndex s (addressOf x)) way (now (words .entry)) ⌝ }
 {
     if s.rule == trees::TREE {
-        let place = at.trees + model::set_index(model::address_of(x), s.sets);
+        let place = at.trees + values::set_index(values::address_of(x), s.sets);
         let tree = words[place];
         words[place] = trees::touched(tree, way, s.ways);
     }
@@ -231,7 +231,7 @@ fn read_entry(x: Access) -> Queued
     ensures { λ r. ⌜ r ≡ reading (addressOf x) ⌝ }
 {
     Queued {
-        address: model::address_of(x),
+        address: values::address_of(x),
         masks: [0; 4],
         kind: QueueKind::Read,
     }
@@ -257,12 +257,12 @@ fn entries_of(x: Access, d: Decision) -> [Queued; 2]
         if d.backs {
             return [read_entry(x), write_back_entry(d)];
         }
-        return [read_entry(x), model::idle()];
+        return [read_entry(x), values::idle()];
     }
     if d.backs {
-        return [write_back_entry(d), model::idle()];
+        return [write_back_entry(d), values::idle()];
     }
-    [model::idle(); 2]
+    [values::idle(); 2]
 }
 
 // What the accepted access tells.
@@ -302,7 +302,7 @@ pub(crate) fn act(
         (lent (now (longs .exit)) (now (words .exit)) (now (marks .exit))) ⌝ }
 {
     act_line(s, at, longs, words, marks, x, d);
-    let address = SectorAddress(model::address_of(x));
+    let address = SectorAddress(values::address_of(x));
     write_misses(
         at,
         longs,

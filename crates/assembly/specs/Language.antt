@@ -5,7 +5,7 @@ use Prim.Native.Nat.{ℕ, _^_}
 use mathlib.Core.Bool.{Bool, _&&_}
 use mathlib.Core.List.{List}
 use lib.Dec.{eqb, leb}
-use Rattle.model.specs.Words.{pick}
+use Rattle.words.specs.Words.{pick}
 use Rattle.model.specs.declared.Given.{Given}
 use Rattle.model.specs.declared.GivenRule.the-variants.{LeftOut, Byte}
 use Rattle.model.specs.declared.Command.{Command}

@@ -54,7 +54,7 @@ fn put_answers(bill: Bill, out: &mut [u8], at: usize) -> usize {
 
 // The refusals of one number, where there are any.
 fn put_refusal(bill: Bill, n: Refusal, out: &mut [u8], at: usize) -> usize {
-    let number = model::refusal_number(n);
+    let number = values::refusal_number(n);
     let count = billing::count(bill, billing::REFUSALS + number as usize);
     if count == 0 {
         return at;

@@ -7,7 +7,7 @@ use native.Mathlib.Omega.{arith}
 use lib.ListN.{length, getD, replicate}
 use lib.Dec.{eqb, ltb}
 use borrow.Author.Tests.{eqb-true}
-use Rattle.model.specs.Words.{all, any}
+use Rattle.words.specs.Words.{all, any}
 use Rattle.model.specs.Range.{inRange}
 use Rattle.model.specs.Tables.{Entry, Tables, Outcome, refused, after, eventsOf}
 use Rattle.model.specs.Sound.{lastCycle, unsentFor, kindOk, queuedOk}
@@ -26,7 +26,7 @@ use Rattle.model.specs.declared.Event.{Event}
 use Rattle.model.specs.declared.Event.the-variants as ev
 use Rattle.model.specs.declared.Refusal.{Refusal}
 use Rattle.model.specs.declared.Refusal.the-variants.{NotSent, BadCycle, QueueEmpty}
-use Rattle.model.proofs.Flags.{and-1, and-2, by-flag}
+use Rattle.words.proofs.Flags.{and-1, and-2, by-flag}
 use Rattle.model.proofs.SoundFacts.{Sound, queued-parts}
 use Rattle.model.proofs.AccessCases.{Accepted, access-cases}
 use Rattle.billed.specs.Queue.{queuedOf, sentOf, entriesBy, queuedBy, sentBy}

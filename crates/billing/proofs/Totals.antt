@@ -10,8 +10,8 @@ use borrow.Author.Tests.{eqb-true, eqb-false}
 use lib.ListN.{length, getD, set, length-set, getD-replicate}
 use lib.Seq.{getD-set-same, getD-set-other}
 use lib.Dec.{eqb, ltb}
-use Rattle.model.specs.Words.{pick}
-use Rattle.model.proofs.Flags.{clash}
+use Rattle.words.specs.Words.{pick}
+use Rattle.words.proofs.Flags.{clash}
 use Rattle.model.specs.declared.Event.{Event}
 use Rattle.billing.specs.declared.Bill.{Bill}
 use Rattle.billing.specs.declared.Dues.{Dues}

@@ -6,7 +6,7 @@
 use Prim.Native.Nat.{ℕ, _+_}
 use lib.Count.{ones}
 use lib.Dec.{eqb}
-use Rattle.model.specs.Words.{pick}
+use Rattle.words.specs.Words.{pick}
 use Rattle.model.specs.Numbers.{answerNumber, refusalNumber}
 use Rattle.model.specs.declared.Event.{Event}
 use Rattle.model.specs.declared.Event.the-variants as ev

@@ -119,10 +119,10 @@ pub fn dues_of(e: Event) -> Dues
     match e {
         Event::Answered { answer, line: _ } => one_and(
             ACCESSES,
-            model::answer_number(answer) as usize,
+            values::answer_number(answer) as usize,
             1,
         ),
-        Event::Refused(n) => one_and(REFUSALS, REFUSALS + model::refusal_number(n) as usize, 1),
+        Event::Refused(n) => one_and(REFUSALS, REFUSALS + values::refusal_number(n) as usize, 1),
         Event::ReadQueued(_) => one(READS_QUEUED),
         Event::WriteBackQueued {
             block: _,

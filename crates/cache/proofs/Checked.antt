@@ -9,7 +9,7 @@ use Rattle.model.specs.Lent.{Lent, tablesOf}
 use Rattle.model.specs.SoundLent.{Small}
 use Rattle.model.specs.Calls.{call, Leaves}
 use Rattle.model.specs.Inner.{Does}
-use Rattle.model.proofs.Bridge.{call-is}
+use Rattle.encoding.proofs.Bridge.{call-is}
 use Rattle.layout.specs.declared.Layout.{Layout}
 use Rattle.soundness.specs.Laid.{Checks}
 use Rattle.soundness.specs.declared.LaidVerdict.{LaidVerdict}

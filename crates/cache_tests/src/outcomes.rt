@@ -16,7 +16,7 @@ pub(crate) struct Outcome {
 fn put_refused(n: Refusal, out: &mut [u8]) -> Outcome {
     let a = text::put_text(b"refused ", out, 0);
     Outcome {
-        end: text::put_decimal(model::refusal_number(n) as u64, out, a),
+        end: text::put_decimal(values::refusal_number(n) as u64, out, a),
         refused: true,
     }
 }

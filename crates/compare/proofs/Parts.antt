@@ -9,8 +9,8 @@ use borrow.Author.Tests.{lt-ltb, le-ltb, ltb-true, ltb-false}
 use lib.ListN.{length, take, length-append}
 use lib.Seq.{length-take-le}
 use lib.Dec.{ltb}
-use Rattle.model.specs.Words.{pick}
-use Rattle.model.proofs.Flags.{clash}
+use Rattle.words.specs.Words.{pick}
+use Rattle.words.proofs.Flags.{clash}
 use Rattle.comparing.specs.declared.Checking.{Checking}
 use Rattle.comparing.specs.Coming.{beginning, passedBytes, told}
 use Rattle.comparing.proofs.InParts.{passed-append}

@@ -6,8 +6,8 @@ use mathlib.Core.List.{List}
 use Prim.Native.Nat.{ℕ, _+_, _-_, _*_, _^_, _≤_, _<_}
 use native.Mathlib.Omega.{arith}
 use lib.ListN.{length}
-use Rattle.model.specs.Words.{pick}
-use Rattle.model.proofs.Flags.{clash}
+use Rattle.words.specs.Words.{pick}
+use Rattle.words.proofs.Flags.{clash}
 use Rattle.comparing.specs.declared.Walk.{Walk}
 use Rattle.comparing.specs.declared.Step.{Step}
 use Rattle.comparing.specs.declared.Step.the-variants as step

@@ -6,7 +6,7 @@ use mathlib.Core.Bool.{Bool, true, false, not}
 use mathlib.Core.List.{List}
 use lib.ListN.{length, take}
 use lib.Dec.{ltb}
-use Rattle.model.specs.Words.{pick}
+use Rattle.words.specs.Words.{pick}
 use Rattle.comparing.specs.declared.Checking.{Checking}
 use Rattle.comparing.specs.Coming.{beginning, passedBytes, told}
 use Rattle.comparing.specs.declared.Fault.{Fault}

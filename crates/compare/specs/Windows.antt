@@ -6,7 +6,7 @@ use mathlib.Core.Bool.{Bool, true, false}
 use mathlib.Core.List.{List}
 use lib.ListN.{length, take, drop}
 use lib.Dec.{leb, ltb}
-use Rattle.model.specs.Words.{pick}
+use Rattle.words.specs.Words.{pick}
 use Rattle.compare.specs.declared.reading.Window.{Window}
 use Rattle.compare.specs.declared.reading.Topped.{Topped}
 use Rattle.compare.specs.declared.reading.Met.{Met}

@@ -9,7 +9,7 @@ use borrow.Author.Tests.{eqb-true, eq-eqb, ne-eqb}
 use lib.ListN.{length, getD, drop, drop-of-length-le}
 use lib.Seq.{drop-cons}
 use lib.Dec.{eqb}
-use Rattle.model.proofs.Flags.{and-1, and-2, and-i, no-yes, clash}
+use Rattle.words.proofs.Flags.{and-1, and-2, and-i, no-yes, clash}
 use Rattle.comparing.specs.Pairs.{sameBytes}
 
 pub same-equal : (a b : List ℕ) → sameBytes a b ≡ true → a ≡ b

@@ -9,8 +9,8 @@ use native.Mathlib.Numerals.{add-one}
 use borrow.Author.Tests.{le-ltb, ltb-true, ltb-false}
 use lib.Dec.{ltb}
 use lib.ListN.{length, take, drop}
-use Rattle.model.specs.Words.{pick}
-use Rattle.model.proofs.Flags.{or-cases, or-no-1, or-no-2}
+use Rattle.words.specs.Words.{pick}
+use Rattle.words.proofs.Flags.{or-cases, or-no-1, or-no-2}
 use Rattle.comparing.specs.declared.Fault.{Fault}
 use Rattle.comparing.specs.declared.Fault.the-variants as fault
 use Rattle.comparing.specs.declared.Compared.{Compared}

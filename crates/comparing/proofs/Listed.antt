@@ -6,7 +6,7 @@ use Prim.Native.Nat.{ℕ, zero, suc, _+_, _-_, max, _≤_, _<_}
 use native.Mathlib.Omega.{arith}
 use native.Mathlib.Numerals.{add-one}
 use lib.ListN.{length}
-use Rattle.model.specs.Words.{pick}
+use Rattle.words.specs.Words.{pick}
 use Rattle.comparing.specs.declared.Compared.{Compared}
 use Rattle.comparing.specs.declared.Compared.the-variants as answer
 use Rattle.comparing.specs.Groups.{sideOf, groups}

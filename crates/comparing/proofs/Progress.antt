@@ -7,8 +7,8 @@ use Prim.Native.Nat.{ℕ, zero, suc, _+_, _≤_, _<_}
 use native.Mathlib.Omega.{arith}
 use lib.ListN.{length, take}
 use lib.Dec.{eqb}
-use Rattle.model.specs.Words.{pick}
-use Rattle.model.proofs.Flags.{clash}
+use Rattle.words.specs.Words.{pick}
+use Rattle.words.proofs.Flags.{clash}
 use Rattle.comparing.specs.declared.Walk.{Walk}
 use Rattle.comparing.specs.declared.Ahead.{Ahead}
 use Rattle.comparing.specs.declared.Ahead.the-variants as ahead-of

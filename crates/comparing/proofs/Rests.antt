@@ -8,9 +8,9 @@ use borrow.Author.Tests.{le-ltb, lt-ltb, eqb-true, eqb-false, eq-eqb, ne-eqb, le
 use lib.ListN.{length, getD, take, drop, length-append, length-take, length-drop, take-append-drop, List·getD-append}
 use lib.Seq.{length-take-le, take-add, getD-take}
 use lib.Dec.{eqb, leb, ltb}
-use Rattle.model.specs.Words.{pick}
+use Rattle.words.specs.Words.{pick}
 use Rattle.model.specs.Records.{lengthOf}
-use Rattle.model.proofs.Flags.{no-yes, clash, and-1}
+use Rattle.words.proofs.Flags.{no-yes, clash, and-1}
 use Rattle.comparing.specs.declared.Ahead.{Ahead}
 use Rattle.comparing.specs.declared.Ahead.the-variants as ahead-of
 use Rattle.comparing.specs.Kinds.{startsGroup}

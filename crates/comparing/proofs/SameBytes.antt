@@ -9,8 +9,8 @@ use borrow.Author.Tests.{le-ltb, lt-ltb, ltb-true, ltb-false}
 use lib.ListN.{length, getD, take, drop, length-take, length-drop, take-append-drop, drop-of-length-le, List·getD-eq-default, List·getD-map}
 use lib.Seq.{drop-drop}
 use lib.Dec.{ltb}
-use Rattle.model.specs.Words.{pick, joined}
-use Rattle.model.proofs.Flags.{no-yes}
+use Rattle.words.specs.Words.{pick, joined}
+use Rattle.words.proofs.Flags.{no-yes}
 use Rattle.comparing.specs.declared.Fault.the-variants as fault
 use Rattle.comparing.specs.declared.Compared.{Compared}
 use Rattle.comparing.specs.declared.Compared.the-variants as answer

@@ -8,7 +8,7 @@ use borrow.Author.Tests.{le-ltb, lt-ltb, ltb-true, ltb-false}
 use lib.ListN.{length, getD, length-append}
 use lib.Seq.{getD-append-add}
 use lib.Dec.{ltb}
-use Rattle.model.specs.Words.{pick}
+use Rattle.words.specs.Words.{pick}
 use Rattle.comparing.specs.Kinds.{startsGroup}
 use Rattle.comparing.specs.Groups.{recordEnd, past, endFrom, groupEnd}
 use Rattle.comparing.proofs.Walks.{end-steps}

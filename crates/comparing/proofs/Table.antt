@@ -9,11 +9,11 @@ use native.Mathlib.Omega.{arith}
 use borrow.Author.Tests.{ne-eqb, ltb-true, ltb-false}
 use lib.ListN.{getD}
 use lib.Dec.{eqb, ltb}
-use Rattle.model.specs.Words.{all, any, every, same}
+use Rattle.words.specs.Words.{all, any, every, same}
 use Rattle.model.specs.RecordsOf as records
 use Rattle.model.specs.Records.{Kind, eventKinds, lengthOf, isCommand}
-use Rattle.model.proofs.Flags.{and-1, and-2, flag, same-is}
-use Rattle.model.proofs.Below.{every-at}
+use Rattle.words.proofs.Flags.{and-1, and-2, flag, same-is}
+use Rattle.words.proofs.Below.{every-at}
 use Rattle.records.proofs.Lengths.{length-past}
 use Rattle.comparing.specs.Kinds.{starters, startsGroup, isEvent}
 

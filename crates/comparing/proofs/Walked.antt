@@ -10,8 +10,8 @@ use borrow.Author.Tests.{ltb-true, ltb-false, eqb-true, eqb-false, eq-eqb, ne-eq
 use lib.ListN.{length, getD, take, drop, length-append, length-drop, List·getD-eq-default}
 use lib.Seq.{drop-drop, take-append-le}
 use lib.Dec.{eqb, ltb}
-use Rattle.model.specs.Words.{pick}
-use Rattle.model.proofs.Flags.{and-1, and-2}
+use Rattle.words.specs.Words.{pick}
+use Rattle.words.proofs.Flags.{and-1, and-2}
 use Rattle.comparing.specs.declared.Compared.{Compared}
 use Rattle.comparing.specs.declared.Compared.the-variants as answer
 use Rattle.comparing.specs.declared.Side.{Side}

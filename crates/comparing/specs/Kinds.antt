@@ -3,7 +3,7 @@ use Prim.Native.Nat.{ℕ}
 use mathlib.Core.Bool.{Bool}
 use mathlib.Core.List.{List, [], _∷_}
 use lib.Dec.{eqb}
-use Rattle.model.specs.Words.{any}
+use Rattle.words.specs.Words.{any}
 use Rattle.model.specs.Records.{eventKinds}
 
 -- "A group starts at 0x10, 0x11, 0x15, 0x16, 0x17 or 0x18"

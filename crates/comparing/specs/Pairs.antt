@@ -5,7 +5,7 @@ use mathlib.Core.Bool.{Bool, true, false, _&&_, _||_}
 use mathlib.Core.List.{List, [], _∷_}
 use lib.ListN.{length}
 use lib.Dec.{eqb, ltb}
-use Rattle.model.specs.Words.{pick}
+use Rattle.words.specs.Words.{pick}
 use Rattle.comparing.specs.declared.Fault.{Fault}
 use Rattle.comparing.specs.declared.Fault.the-variants as fault
 use Rattle.comparing.specs.declared.Compared.{Compared}

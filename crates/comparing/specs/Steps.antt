@@ -5,7 +5,7 @@ use mathlib.Core.Bool.{Bool, true, false, not, _&&_, _||_}
 use mathlib.Core.List.{List, [], _∷_, _++_}
 use lib.ListN.{length, getD, take, drop}
 use lib.Dec.{eqb, leb}
-use Rattle.model.specs.Words.{pick}
+use Rattle.words.specs.Words.{pick}
 use Rattle.comparing.specs.declared.Compared.{Compared}
 use Rattle.comparing.specs.declared.Compared.the-variants as answer
 use Rattle.comparing.specs.declared.Side.{Side}

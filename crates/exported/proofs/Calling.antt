@@ -29,9 +29,9 @@ use Rattle.rounds.specs.Waiting.{waitCall, waitWithin, Waits}
 use Rattle.model.specs.declared.Command.{Command}
 use Rattle.model.specs.declared.Command.the-variants as cmd
 use Rattle.model.proofs.Soundness.{commandMask, step-keeps-sound}
-use Rattle.model.proofs.Decoded.{Small}
-use Rattle.model.proofs.Flags.{flag}
-use Rattle.model.proofs.Bridge.{call-is, events-encoded, does-is}
+use Rattle.encoding.proofs.Decoded.{Small}
+use Rattle.words.proofs.Flags.{flag}
+use Rattle.encoding.proofs.Bridge.{call-is, events-encoded, does-is}
 use Rattle.records.specs.Stores.{Stored}
 use Rattle.records.proofs.Stores.{stored-behind}
 use Rattle.records.proofs.Room.{Takes, access-takes, step-takes}

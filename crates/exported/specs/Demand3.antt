@@ -5,7 +5,7 @@ use Prim.Native.Nat.{ℕ}
 use mathlib.Core.List.{List, [], _∷_}
 use lib.ListN.{length}
 use lib.Dec.{eqb}
-use Rattle.model.specs.Words.{pick}
+use Rattle.words.specs.Words.{pick}
 use Rattle.model.specs.Numbers.{refusalNumber}
 use Rattle.model.specs.Lent.{Lent}
 use Rattle.model.specs.Records.{parsed, eventsIn}

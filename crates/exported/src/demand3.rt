@@ -18,7 +18,7 @@ fn went_number(w: Went) -> u32
             rounds: _,
             written: _,
         } => 0,
-        Went::Refused(n) => model::refusal_number(n) as u32,
+        Went::Refused(n) => values::refusal_number(n) as u32,
         Went::NoRoom => 16,
     }
 }

@@ -70,7 +70,7 @@ fn verdict_number(v: Verdict) -> u32
 {
     match v {
         Verdict::Passed => 0,
-        Verdict::Refused(n) => model::refusal_number(n) as u32,
+        Verdict::Refused(n) => values::refusal_number(n) as u32,
     }
 }
 
@@ -341,7 +341,7 @@ fn note_run(ran: Ran, counts: &mut [u64]) -> u32
     counts[0] = ran.consumed as u64;
     counts[1] = ran.written as u64;
     let stop = ran.stop;
-    model::stop_number(stop) as u32
+    values::stop_number(stop) as u32
 }
 
 #[no_mangle]

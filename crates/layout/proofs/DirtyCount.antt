@@ -6,14 +6,14 @@ use Prim.Native.Nat.{ℕ, _+_}
 use native.Mathlib.Nat.{add-zero}
 use native.Mathlib.Omega.{arith}
 use lib.ListN.{length, getD}
-use Rattle.model.specs.Regions.{put, ahead}
+use Rattle.words.specs.Regions.{put, ahead}
 use Rattle.model.specs.Layout.{wordsFrom, dirtyCountRegion}
 use Rattle.model.specs.Tables.{Tables, withDirtyCount, isModified}
 use Rattle.model.specs.Lent.{wordBlocks}
 use Rattle.model.specs.declared.Settings.{Settings}
 use Rattle.model.specs.declared.Sector.{Sector}
-use Rattle.model.proofs.Places.{block-get, block-put}
-use Rattle.model.proofs.Slices.{word-sizes, begins}
+use Rattle.words.proofs.Places.{block-get, block-put}
+use Rattle.encoding.proofs.Slices.{word-sizes, begins}
 use Rattle.layout.specs.declared.Layout.{Layout}
 use Rattle.layout.specs.Layout.{Placed}
 use Rattle.layout.specs.Sectors.{someModified}

@@ -8,15 +8,15 @@ use native.Mathlib.Numerals.{add-one}
 use lib.ListN.{length, set, replicate, length-set, length-replicate, getD-replicate, replicate-append-replicate}
 use lib.Seq.{paste, paste-zero, paste-suc}
 use Rattle.model.specs.declared.Settings.{Settings}
-use Rattle.model.specs.Words.{fit, places, joined}
+use Rattle.words.specs.Words.{fit, places, joined}
 use Rattle.model.specs.Range.{linesOf}
 use Rattle.model.specs.Layout.{longsLength, wordsLength, marksLength}
 use Rattle.model.specs.Tables.{fresh, start}
 use Rattle.model.specs.Lent.{lent, tagOf, cycleOf, takenOf, treeOf, masksOf, statusesOf, readablesOf, missOf, sentOf, ticketCountOf, ticketsIn, queuedOf, kindOf, queueMasksOf, longBlocks, wordBlocks, markBlocks, encode}
-use Rattle.model.specs.Regions.{put}
+use Rattle.words.specs.Regions.{put}
 use Rattle.model.specs.Inner.{Fit, told}
-use Rattle.model.proofs.Region.{put-paste}
-use Rattle.model.proofs.Places.{fit-zeros, put-whole, put-past, put-within}
+use Rattle.words.proofs.Region.{put-paste}
+use Rattle.words.proofs.Places.{fit-zeros, put-whole, put-past, put-within}
 
 -- ---- the loops: after i turns l has i times v from index `at`
 

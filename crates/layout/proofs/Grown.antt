@@ -7,10 +7,10 @@ use native.Mathlib.Nat.{zero-add, mul-zero, mul-suc, mul-le-mul-left, suc-add, a
 use native.Mathlib.Decide.{decLe}
 use native.Mathlib.Omega.{arith}
 use lib.ListN.{length, getD, set, drop}
-use Rattle.model.specs.Words.{fit, places, joined}
-use Rattle.model.specs.Regions.{region, put, closed, closedUp, ahead, dropped}
-use Rattle.model.proofs.Region.{length-region, length-closed}
-use Rattle.model.proofs.Places.{put-past, put-within, region-within, length-fit, length-places, places-close, block-region, block-put, block-get, field-get, stride}
+use Rattle.words.specs.Words.{fit, places, joined}
+use Rattle.words.specs.Regions.{region, put, closed, closedUp, ahead, dropped}
+use Rattle.words.proofs.Region.{length-region, length-closed}
+use Rattle.words.proofs.Places.{put-past, put-within, region-within, length-fit, length-places, places-close, block-region, block-put, block-get, field-get, stride}
 use Rattle.layout.specs.Places.{First}
 
 -- ---- one record

@@ -6,17 +6,17 @@ use Prim.Native.Nat.{ℕ, _+_, _*_, _≤_, _<_}
 use native.Mathlib.Omega.{arith}
 use lib.ListN.{length, getD, set, length-map}
 use lib.Dec.{eqb}
-use Rattle.model.specs.Words.{fit, places, joined}
+use Rattle.words.specs.Words.{fit, places, joined}
 use Rattle.model.specs.Numbers.{statusNumber, statusOf}
 use Rattle.model.specs.Range.{linesOf}
-use Rattle.model.specs.Regions.{put, ahead}
+use Rattle.words.specs.Regions.{put, ahead}
 use Rattle.model.specs.Tables.{Line, Tables, fresh, withLines}
 use Rattle.model.specs.Layout.{wordsFrom, marksFrom, maskRegion, readableRegion}
 use Rattle.model.specs.Lent.{bit, sectorsAt, longBlocks, wordBlocks, markBlocks, tagOf, cycleOf, takenOf, masksOf, statusesOf, readablesOf}
 use Rattle.model.specs.declared.Settings.{Settings}
 use Rattle.model.specs.declared.Sector.{Sector}
 use Rattle.model.proofs.Answers.{status-of-number}
-use Rattle.model.proofs.Places.{length-places, field-put, field-get}
+use Rattle.words.proofs.Places.{length-places, field-put, field-get}
 use Rattle.layout.specs.declared.Layout.{Layout}
 use Rattle.model.specs.Inner.{told}
 use Rattle.layout.specs.Layout.{Placed}

@@ -13,8 +13,8 @@ use Rattle.model.specs.Tree.{powerTo16}
 use Rattle.model.specs.Layout.{longsLength, wordsLength, marksLength}
 use Rattle.model.specs.Lent.{lent, lengthsFit}
 use Rattle.model.specs.Inner.{Fit}
-use Rattle.model.proofs.Flags.{and-1, and-2, not-yes, no-not}
-use Rattle.model.proofs.Lists.{any-in, all-in}
+use Rattle.words.proofs.Flags.{and-1, and-2, not-yes, no-not}
+use Rattle.words.proofs.Lists.{any-in, all-in}
 use Rattle.model.proofs.Fits.{ranged, fit}
 
 one-of : (a b c d e f g h i : Bool) → (a || b || c || d || e || f || g || h || i) ≡ (a || (b || (c || (d || (e || (f || (g || (h || (i || false)))))))))

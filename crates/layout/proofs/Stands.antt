@@ -5,14 +5,14 @@ use mathlib.Core.List.{List}
 use Prim.Native.Nat.{ℕ}
 use native.Mathlib.Omega.{arith}
 use lib.ListN.{length, length-append}
-use Rattle.model.specs.Words.{joined}
+use Rattle.words.specs.Words.{joined}
 use Rattle.model.specs.Range.{inRange}
 use Rattle.model.specs.Tables.{Tables}
 use Rattle.model.specs.Lent.{Lent, lent, longBlocks, wordBlocks, markBlocks, encode}
 use Rattle.model.specs.Inner.{Fit, Is}
 use Rattle.model.specs.declared.Settings.{Settings}
 use Rattle.model.proofs.Fits.{fit}
-use Rattle.model.proofs.Places.{length-places}
+use Rattle.words.proofs.Places.{length-places}
 
 pub record Stands (S : Settings) (longs words marks : List ℕ) (t : Tables) : Type 0 where
   pub as-longs : longs ≡ joined (longBlocks S t)

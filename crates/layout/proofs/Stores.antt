@@ -5,11 +5,11 @@ use mathlib.Core.List.{List, [], _∷_, map}
 use Prim.Native.Nat.{ℕ, _+_, _≤_, _<_}
 use native.Mathlib.Omega.{arith}
 use lib.ListN.{length, getD, set}
-use Rattle.model.specs.Regions.{put}
+use Rattle.words.specs.Regions.{put}
 use Rattle.model.specs.declared.Status.the-variants.{Invalid}
 use Rattle.model.specs.declared.Sector.{Sector}
-use Rattle.model.proofs.Region.{sets-four}
-use Rattle.model.proofs.Places.{sets-put}
+use Rattle.words.proofs.Region.{sets-four}
+use Rattle.words.proofs.Places.{sets-put}
 
 pub one-put : (l : List ℕ) (i v : ℕ) → i < length l → set l i v ≡ put l i (v ∷ [])
 one-put l i v h = sets-put l i (v ∷ []) (omega arith)

@@ -2,9 +2,9 @@
 use mathlib.Core.Path.{_≡_, refl, sym, _∙_}
 use mathlib.Core.Bool.{Bool, true, false, not, _&&_}
 use Prim.Native.Nat.{ℕ, _+_, _<_}
-use Rattle.model.specs.Words.{every, imp}
-use Rattle.model.proofs.Flags.{not-yes, no-not}
-use Rattle.model.proofs.Below.{Passed, passed-stop, passed-more}
+use Rattle.words.specs.Words.{every, imp}
+use Rattle.words.proofs.Flags.{not-yes, no-not}
+use Rattle.words.proofs.Below.{Passed, passed-stop, passed-more}
 
 -- `if !r` after a call whose answer is r
 pub said-no : {r b : Bool} → r ≡ b → not r ≡ true → b ≡ false

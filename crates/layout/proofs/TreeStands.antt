@@ -4,13 +4,13 @@ use mathlib.Core.List.{List, [], _∷_}
 use Prim.Native.Nat.{ℕ, _+_, _≤_, _<_}
 use native.Mathlib.Omega.{arith}
 use lib.ListN.{length, getD, set}
-use Rattle.model.specs.Words.{fit}
+use Rattle.words.specs.Words.{fit}
 use Rattle.model.specs.Tables.{Tables, withTrees}
 use Rattle.model.specs.Lent.{wordBlocks, treeOf}
-use Rattle.model.specs.Regions.{put}
+use Rattle.words.specs.Regions.{put}
 use Rattle.model.specs.Inner.{told}
 use Rattle.model.specs.declared.Settings.{Settings}
-use Rattle.model.proofs.Places.{length-places, field-put, field-get}
+use Rattle.words.proofs.Places.{length-places, field-put, field-get}
 use Rattle.layout.specs.declared.Layout.{Layout}
 use Rattle.layout.specs.Layout.{Placed}
 use Rattle.layout.proofs.Stands.{Stands}

@@ -3,7 +3,7 @@ use Prim.Native.Nat.{ℕ, _+_, _*_, _≤_}
 use mathlib.Core.Bool.{Bool}
 use mathlib.Core.List.{List, map}
 use lib.ListN.{length}
-use Rattle.model.specs.Words.{any}
+use Rattle.words.specs.Words.{any}
 use Rattle.model.specs.Tables.{isModified}
 use Rattle.model.specs.Numbers.{statusNumber}
 use Rattle.model.specs.Range.{linesOf}

@@ -2,7 +2,7 @@
 ghost use mathlib.Core.Path.{_≡_};
 ghost use Prim.Native.Nat.{_+_, _≤_};
 ghost use lib.ListN.{length, replicate};
-ghost use Rattle.model.specs.Regions.{put};
+ghost use Rattle.words.specs.Regions.{put};
 ghost use Rattle.model.specs.Tables.{start};
 ghost use Rattle.model.specs.Lent.{lent, encode};
 ghost use Rattle.model.specs.Inner.{Fit};

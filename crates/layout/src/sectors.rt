@@ -5,13 +5,13 @@ ghost use lib.ListN.{length};
 ghost use Rattle.model.specs.Numbers.{statusNumber};
 ghost use Rattle.model.specs.Range.{linesOf};
 ghost use Rattle.model.specs.Lent.{bit, sectorAt, sectorsAt};
-ghost use Rattle.model.specs.Regions.{put};
+ghost use Rattle.words.specs.Regions.{put};
 ghost use Rattle.layout.specs.Sectors.{SectorRoom, statuses, masks, readables};
 use crate::Layout;
 use model::Sector;
 use model::Settings;
-use model::status_number;
-use model::status_of;
+use values::status_number;
+use values::status_of;
 
 // Sector `i` of all lines.
 pub fn sector_at(s: Settings, at: Layout, words: &[u32], marks: &[u8], i: usize) -> Sector

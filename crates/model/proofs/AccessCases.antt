@@ -8,7 +8,7 @@ use mathlib.Core.List.{List, []}
 use native.Mathlib.Omega.{arith}
 use lib.ListN.{length, getD, replicate}
 use lib.Dec.{ltb, leb}
-use Rattle.model.specs.Words.{any}
+use Rattle.words.specs.Words.{any}
 use Rattle.model.specs.Range.{inRange}
 use Rattle.model.specs.Address.{addressOf, maskOf, isRead, blockOf, sectorIndex, wellFormed}
 use Rattle.model.specs.Tables.{Line, Tables, Outcome, refused, waiting, holds, empty, fresh, emptied}
@@ -22,8 +22,8 @@ use Rattle.model.specs.declared.Found.{Found}
 use Rattle.model.specs.declared.Found.the-variants.{At, Nothing}
 use Rattle.model.specs.declared.Refusal.{Refusal}
 use Rattle.model.specs.declared.Refusal.the-variants.{BadAccess, QueueFull, EntryFull, MissTableFull}
-use Rattle.model.proofs.Flags.{and-1, not-yes, by-flag}
-use Rattle.model.proofs.Lists.{In, in-getD}
+use Rattle.words.proofs.Flags.{and-1, not-yes, by-flag}
+use Rattle.words.proofs.Lists.{In, in-getD}
 use Rattle.model.proofs.SoundFacts.{Sound, LeavesSound, readers-some}
 use Rattle.model.proofs.Ways.{Finds, first-finds, victim-finds, Sits, way-sits}
 use Rattle.model.proofs.Taken.{Spotted, spotNumber, taken-sound}

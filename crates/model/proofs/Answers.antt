@@ -6,7 +6,7 @@ use mathlib.Core.List.{[]}
 use native.Mathlib.Omega.{arith}
 use lib.ListN.{getD}
 use lib.Dec.{eqb}
-use Rattle.model.specs.Words.{pick, every}
+use Rattle.words.specs.Words.{pick, every}
 use Rattle.model.specs.Numbers.{statusNumber, statusOf, answerNumber}
 use Rattle.model.specs.Probe.{answers, columnOf, answerAt, answerOf}
 use Rattle.model.specs.declared.Status.{Status}

@@ -10,7 +10,7 @@ use native.Mathlib.Nat.{zero-add, suc-add}
 use lib.ListN.{length, getD}
 use lib.Dec.{leb, ltb}
 use borrow.Author.Tests.{eq-eqb, lt-leb, le-ltb}
-use Rattle.model.specs.Words.{pick, all, any, count}
+use Rattle.words.specs.Words.{pick, all, any, count}
 use Rattle.model.specs.Range.{inRange}
 use Rattle.model.specs.Address.{addressOf, isRead, blockOf, wellFormed}
 use Rattle.model.specs.Tables.{Line, Entry, Tables, Outcome, refused, done, accepted, isInvalid, isReserved, unused, waiting, holds, empty, fresh}
@@ -27,8 +27,8 @@ use Rattle.model.specs.declared.Access.{Access}
 use Rattle.model.specs.declared.Found.{Found}
 use Rattle.model.specs.declared.Found.the-variants.{At, Nothing}
 use Rattle.model.specs.declared.Refusal.the-variants.{SetHeld}
-use Rattle.model.proofs.Flags.{and-1, and-i, and-no, flag, not-yes, no-yes, clash}
-use Rattle.model.proofs.Lists.{In, all-in, in-any, any-in, in-index, keep-lt}
+use Rattle.words.proofs.Flags.{and-1, and-i, and-no, flag, not-yes, no-yes, clash}
+use Rattle.words.proofs.Lists.{In, all-in, in-any, any-in, in-index, keep-lt}
 use Rattle.model.proofs.SoundFacts.{Sound, parts, entries-some, places-two, four-at, reserved-at, unsent-once}
 use Rattle.model.proofs.Ways.{way-in}
 use Rattle.model.proofs.Offered.{back-one}

@@ -6,7 +6,7 @@ use borrow.Author.Tests.{eqb-true}
 use Rattle.model.specs.declared.Settings.{Settings}
 use Rattle.model.specs.declared.Access.{Access}
 use Rattle.model.specs.declared.Refusal.the-variants.{BadAccess}
-use Rattle.model.specs.Words.{pick}
+use Rattle.words.specs.Words.{pick}
 use Rattle.model.specs.Address.{addressOf, wellFormed}
 use Rattle.model.specs.Tables.{Tables, dirtyLines, refused}
 use Rattle.model.specs.Sound.{sound}

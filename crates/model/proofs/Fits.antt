@@ -13,7 +13,7 @@ use Rattle.model.specs.Range.{linesOf, inRange, powerTo256, within, isTr
 use Rattle.model.specs.Tree.{powerTo16}
 use Rattle.model.specs.Layout.{longsLength, wordsLength, marksLength}
 use Rattle.model.specs.Inner.{Fit, aside}
-use Rattle.model.proofs.Flags.{and-1, and-2, clash}
+use Rattle.words.proofs.Flags.{and-1, and-2, clash}
 
 pub power-pos : (n : ℕ) → powerTo256 n ≡ true → 1 ≤ n
 power-pos zero e = clash e refl

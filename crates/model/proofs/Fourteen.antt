@@ -1,7 +1,7 @@
 -- The fourteen accesses of document 01: one table, one statement.
 use mathlib.Core.Path.{_≡_, refl}
 use mathlib.Core.List.{map}
-use Rattle.model.specs.Words.{table, fit, places}
+use Rattle.words.specs.Words.{table, fit, places}
 use Rattle.model.specs.Range.{inRange}
 use Rattle.model.specs.Lent.{tablesOf, encode}
 use Rattle.model.specs.SoundLent.{soundNumbers}

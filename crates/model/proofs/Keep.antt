@@ -9,7 +9,7 @@ use lib.ListN.{length, getD, length-map, length-set, List·getD-map, set}
 use lib.Seq.{getD-set-same, getD-set-other}
 use lib.Dec.{eqb, leb}
 use borrow.Author.Tests.{leb-true, eqb-true, eqb-false, eq-eqb, ne-eqb, le-leb}
-use Rattle.model.specs.Words.{all, any, count, keep, every, same, pick, one}
+use Rattle.words.specs.Words.{all, any, count, keep, every, same, pick, one}
 use Rattle.model.specs.Range.{linesOf}
 use Rattle.model.specs.Address.{blockOf, sectorIndex}
 use Rattle.model.specs.Tables.{Line, Entry, Tables, refused, isInvalid, isReserved, unused, holds, entryFor, isFetch, empty, fresh, isModified, dirty, dirtyLines}
@@ -23,11 +23,11 @@ use Rattle.model.specs.declared.QueueKind.{QueueKind}
 use Rattle.model.specs.declared.QueueKind.the-variants as queue
 use Rattle.model.specs.declared.Queued.{Queued}
 use Rattle.model.specs.declared.Refusal.the-variants.{NotSent}
-use Rattle.model.proofs.Flags.{and-1, and-2, and-i, flag, not-yes, not-no, no-yes, clash, by-flag, is-same}
-use Rattle.model.proofs.Lists.{In, all-in, in-all, in-any, any-in, in-keep, keep-in, keep-le, not-twice, count-ext, any-ext, count-keep, any-keep, in-getD, all-set, set-some, map-in, in-map, any-map, all-map, count-map, in-index, in-set-same, in-set-other, count-index}
-use Rattle.model.proofs.Below.{every-i}
+use Rattle.words.proofs.Flags.{and-1, and-2, and-i, flag, not-yes, not-no, no-yes, clash, by-flag, is-same}
+use Rattle.words.proofs.Lists.{In, all-in, in-all, in-any, any-in, in-keep, keep-in, keep-le, not-twice, count-ext, any-ext, count-keep, any-keep, in-getD, all-set, set-some, map-in, in-map, any-map, all-map, count-map, in-index, in-set-same, in-set-other, count-index}
+use Rattle.words.proofs.Below.{every-i}
 use Rattle.model.proofs.SoundFacts.{Sound, LeavesSound, LineIs, line-whole, EntryIs, entry-whole, mask-small, sector-aligned, address-is, block-is, sector-is, lines-are, line-at, four-at, tag-aligned, reserved-at, entry-at, entry-one, queued-at, unsent-once, queued-when, sectors-at}
-use Rattle.model.proofs.Counting.{recount, any-one, map-one}
+use Rattle.words.proofs.Counting.{recount, any-one, map-one}
 
 -- ---- send
 

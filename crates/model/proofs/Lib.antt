@@ -1,14 +1,5 @@
--- Laws of the definitions, and the theorems that document 01 asks for. First laws of flags, lists, numbers below n, regions and places;
--- then the tables: what sound ones are, that every step keeps them sound, demand 3 on them; then the lent slices that hold them.
-pub mod Flags
-pub mod Lists
-pub mod Counting
-pub mod Below
-pub mod Reflect
-pub mod Arrays
-pub mod Rows
-pub mod Region
-pub mod Places
+-- The theorems that document 01 asks for, on the tables: ranges, trees, answers, the worked cases; what sound tables are, that every step keeps
+-- them sound; the victim; demand 3. General laws are in `words`, the lent slices in `encoding`.
 pub mod Fits
 pub mod Powers
 pub mod TreeBits
@@ -29,19 +20,4 @@ pub mod Soundness
 pub mod RunSound
 pub mod Victims
 pub mod Bound
-pub mod Facts
-pub mod Tabled
-pub mod InUse
-pub mod Slices
-pub mod Standing
-pub mod Shapes
-pub mod Soundly
-pub mod Encoded
-pub mod Decoded
-pub mod Bridge
-pub mod Kept
-pub mod Separate
-pub mod LentRounds
-pub mod Demand
 pub mod SeenRounds
-pub mod ToldShapes

@@ -2,7 +2,7 @@
 -- A table and a statement each.
 use mathlib.Core.Path.{_≡_, refl}
 use mathlib.Core.List.{List, map}
-use Rattle.model.specs.Words.{table, fit, places}
+use Rattle.words.specs.Words.{table, fit, places}
 use Rattle.model.specs.Range.{inRange}
 use Rattle.model.specs.Lent.{tablesOf, encode}
 use Rattle.model.specs.SoundLent.{soundNumbers}

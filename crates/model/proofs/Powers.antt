@@ -7,9 +7,9 @@ use Prim.Native.Nat.{ℕ, _-_, _%_, _^_}
 use lib.Bits.{bitAnd, and-mask}
 use lib.Dec.{eqb}
 use borrow.Author.Tests.{eqb-true}
-use Rattle.model.specs.Words.{any}
+use Rattle.words.specs.Words.{any}
 use Rattle.model.specs.Range.{powerTo256}
-use Rattle.model.proofs.Flags.{or-cases, clash}
+use Rattle.words.proofs.Flags.{or-cases, clash}
 
 -- x & (2^k - 1) is x mod 2^k, for every k of a list
 masked : (x : ℕ) (ks : List ℕ) (n : ℕ) → any (eqb n) (map (λ k. 2 ^ k) ks) ≡ true → bitAnd x (n - 1) ≡ x % n

@@ -22,8 +22,8 @@ use Rattle.model.specs.declared.Command.the-variants as cmd
 use Rattle.model.specs.declared.CommandRead.{CommandRead}
 use Rattle.model.specs.declared.CommandRead.the-variants as command
 use Rattle.model.specs.declared.Stop.{Stop}
-use Rattle.model.proofs.Flags.{and-1, and-2, clash, by-flag}
-use Rattle.model.proofs.Lists.{all-in, in-all, in-take}
+use Rattle.words.proofs.Flags.{and-1, and-2, clash, by-flag}
+use Rattle.words.proofs.Lists.{all-in, in-all, in-take}
 use Rattle.model.proofs.Soundness.{start-sound, step-keeps-sound}
 
 pub byte-at : (s : List ℕ) (i : ℕ) → bytes s ≡ true → getD s i 0 < 256

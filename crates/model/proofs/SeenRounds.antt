@@ -8,7 +8,7 @@ use Prim.Native.Nat.{ℕ, zero, suc, _+_}
 use native.Mathlib.Omega.{arith}
 use lib.Dec.{ltb, leb}
 use lib.ListN.{length, getD, List·getD-map, length-append}
-use Rattle.model.specs.Words.{pick, any}
+use Rattle.words.specs.Words.{pick, any}
 use Rattle.model.specs.Range.{inRange}
 use Rattle.model.specs.Address.{addressOf, isRead, wellFormed}
 use Rattle.model.specs.Tables.{Entry, Tables, Outcome, refused, done, after, accepted, eventsOf, withNow}
@@ -30,10 +30,8 @@ use Rattle.model.specs.declared.Event.{Event}
 use Rattle.model.specs.declared.Event.the-variants as event
 use Rattle.model.specs.declared.Refusal.{Refusal}
 use Rattle.model.specs.declared.Refusal.the-variants.{SetHeld}
-use Rattle.model.proofs.Flags.{and-2, not-yes, clash, or-no-1, or-no-2}
+use Rattle.words.proofs.Flags.{and-2, not-yes, clash, or-no-1, or-no-2}
 use Rattle.model.proofs.Bound.{rounds-settled}
-use Rattle.model.proofs.Demand.{rounds-settled-lent}
-use Rattle.model.proofs.Decoded.{Small}
 
 -- ---- events but 0x11
 
@@ -218,7 +216,7 @@ module _ {T : Type 0} (C : Calls T) (clear : (t : T) → Clear accepts (C .offer
   held-seen : (n : ℕ) (t : T) → old.heldIn C n t → heldIn A n t
   held-seen n t h = rw (rounds-offers (suc n) t) (List·getD-map eventsOf (old.rounds C (suc n) t .offers) n (done [] t) ∙ ap eventsOf h)
 
-  demand-seen : (t : T) → old.Settles C t → Demand3 A t
+  pub demand-seen : (t : T) → old.Settles C t → Demand3 A t
   demand-seen t d = record {
     settles = ⊎-elim
         (λ h. inl (accepted-same (suc (waits A t)) t ∙ h))
@@ -301,12 +299,6 @@ lent-accepted S x = accepted-same (calls S x) (calls-clear S x .offers)
 
 pub demand-3-seen : (S : Settings) (x : Access) (t : Tables) → inRange S ≡ true → sound S t ≡ true → wellFormed x ≡ true → Demand3 (stepActs S x) t
 demand-3-seen S x t range soundly formed = demand-seen (steps S x) (access-clear S x) t (rounds-settled S x t range soundly formed)
-
--- words are 32-bit numbers, as their type says (`Small`)
-pub demand-3-seen-lent : (S : Settings) (x : Access) (L : Lent) → inRange S ≡ true → lengthsFit S L ≡ true → Small L → soundLent S L ≡ true → wellFormed x ≡ true
-    → Demand3 (callActs S x) L
-demand-3-seen-lent S x L range fits small soundly formed =
-    demand-seen (calls S x) (calls-clear S x .offers) L (rounds-settled-lent S x L range fits small soundly formed)
 
 -- ---- what demand 3 turns away
 

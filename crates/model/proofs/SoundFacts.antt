@@ -7,7 +7,7 @@ use native.Mathlib.Omega.{arith}
 use lib.ListN.{length, getD}
 use lib.Dec.{leb, ltb, eqb}
 use borrow.Author.Tests.{eqb-true, eq-eqb, leb-true}
-use Rattle.model.specs.Words.{pick, all, any, count, every}
+use Rattle.words.specs.Words.{pick, all, any, count, every}
 use Rattle.model.specs.Range.{inRange, within, linesOf, isTree}
 use Rattle.model.specs.Tree.{treeFine}
 use Rattle.model.specs.Address.{blockOf, sectorIndex, setIndex, goodSector, goodBlock}
@@ -19,9 +19,9 @@ use Rattle.model.specs.declared.QueueKind.the-variants as queue
 use Rattle.model.specs.declared.Queued.{Queued}
 use Rattle.model.specs.declared.Status.{Status}
 use Rattle.model.specs.declared.Status.the-variants.{Invalid, Reserved, Valid, Modified}
-use Rattle.model.proofs.Flags.{and-1, and-2, and-i, not-yes, same-is}
-use Rattle.model.proofs.Lists.{In, all-in, count-one, count-index, in-index, in-getD}
-use Rattle.model.proofs.Below.{every-at}
+use Rattle.words.proofs.Flags.{and-1, and-2, and-i, not-yes, same-is}
+use Rattle.words.proofs.Lists.{In, all-in, count-one, count-index, in-index, in-getD}
+use Rattle.words.proofs.Below.{every-at}
 
 -- ---- the records, and their tests both ways
 

@@ -11,7 +11,7 @@ use lib.Seq.{getD-set-same, getD-set-other}
 use lib.Bits.{bitOr, or-lt, or-add-and, and-le-l}
 use lib.Dec.{leb, ltb, eqb}
 use borrow.Author.Tests.{leb-true, leb-false, ltb-true, ltb-false, lt-ltb, eqb-true, eqb-false, eq-eqb, ne-eqb, le-leb}
-use Rattle.model.specs.Words.{pick, all, any, count, every}
+use Rattle.words.specs.Words.{pick, all, any, count, every}
 use Rattle.model.specs.Range.{within, linesOf, inRange}
 use Rattle.model.specs.Address.{blockOf, sectorIndex, setIndex, lineNumber, addressOf, maskOf, isRead, goodSector, wellFormed}
 use Rattle.model.specs.Tables.{Line, Entry, reading, Tables, isInvalid, isReserved, unused, holds, entryFor, isFetch, empty, fresh, dirty, dirtyLines}
@@ -27,13 +27,13 @@ use Rattle.model.specs.declared.Answer.{Answer}
 use Rattle.model.specs.declared.Answer.the-variants.{Hit, HitReserved, Miss, SectorMiss}
 use Rattle.model.specs.declared.Access.{Access}
 use Rattle.model.specs.declared.Access.the-variants.{Read, Write}
-use Rattle.model.proofs.Flags.{and-1, and-2, and-i, and-false, and-true, or-false, or-1, or-2, flag, not-yes, not-no, no-yes, clash, by-flag, is-same}
-use Rattle.model.proofs.Lists.{In, all-in, in-all, in-any, any-in, index-count, count-append, any-append, in-append, none-count, each, in-set-same, in-set-other, count-ext, any-ext, in-getD, in-index, all-set, set-some, in-map, any-map, count-map}
-use Rattle.model.proofs.Below.{every-i}
+use Rattle.words.proofs.Flags.{and-1, and-2, and-i, and-false, and-true, or-false, or-1, or-2, flag, not-yes, not-no, no-yes, clash, by-flag, is-same}
+use Rattle.words.proofs.Lists.{In, all-in, in-all, in-any, any-in, index-count, count-append, any-append, in-append, none-count, each, in-set-same, in-set-other, count-ext, any-ext, in-getD, in-index, all-set, set-some, in-map, any-map, count-map}
+use Rattle.words.proofs.Below.{every-i}
 use Rattle.model.proofs.Fits.{tree-power}
 use Rattle.model.proofs.Turning.{set-below, turned-length, turned-fine}
 use Rattle.model.proofs.SoundFacts.{Sound, LineIs, line-whole, EntryIs, entry-whole, mask-small, sector-below, sector-aligned, address-is, block-is, sector-is, lines-are, line-at, tag-aligned, reserved-at, holder-one, entry-at, queued-at, queued-when, queued-unsent}
-use Rattle.model.proofs.Counting.{recount}
+use Rattle.words.proofs.Counting.{recount}
 
 -- a read that misses: it takes a new entry and queues a read
 abbrev pub fetching : Access → Answer → Bool

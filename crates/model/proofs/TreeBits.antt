@@ -10,9 +10,9 @@ use lib.Pow.{pow-pos, shr-shr, mod-pow-add}
 use lib.Arith.{lt-of-le-ne}
 use lib.Dec.{eqb, ltb}
 use borrow.Author.Tests.{ne-eqb, eqb-true, eqb-false, lt-ltb, le-ltb, ltb-true, ltb-false}
-use Rattle.model.specs.Words.{some}
+use Rattle.words.specs.Words.{some}
 use Rattle.model.specs.Tree.{bit, withBit, isIn, someFrom}
-use Rattle.model.proofs.Flags.{or-false, or-2, flag}
+use Rattle.words.proofs.Flags.{or-false, or-2, flag}
 
 pub bit-zero : (t : ℕ) → bit t 0 ≡ t % 2
 unfolding bit

@@ -11,13 +11,13 @@ use lib.Pow.{pow-pos, high}
 use lib.Dec.{eqb, leb, ltb}
 use lib.ListN.{getD}
 use borrow.Author.Tests.{eqb-true, ltb-true, lt-ltb, ltb-false, leb-true, leb-false}
-use Rattle.model.specs.Words.{pick, any, some}
+use Rattle.words.specs.Words.{pick, any, some}
 use Rattle.model.specs.Tree.{bit, withBit, isIn, named, pointed, someFrom, goes, descent, treeChoice, sideOf, turned, touchedTree, powerTo16, halvings, levels, treeFine}
 use Rattle.model.specs.declared.Found.{Found}
 use Rattle.model.specs.declared.Found.the-variants.{At, Nothing}
-use Rattle.model.proofs.Flags.{and-1, and-2, flag, clash, iff, no-yes, by-flag}
-use Rattle.model.proofs.Below.{some-at, some-i}
-use Rattle.model.proofs.Lists.{In, all-in, any-in}
+use Rattle.words.proofs.Flags.{and-1, and-2, flag, clash, iff, no-yes, by-flag}
+use Rattle.words.proofs.Below.{some-at, some-i}
+use Rattle.words.proofs.Lists.{In, all-in, any-in}
 use Rattle.model.proofs.TreeBits.{bit-two, halves, put-same, put-other, put-below}
 
 -- ---- halves of a span

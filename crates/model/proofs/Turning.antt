@@ -5,15 +5,15 @@ use mathlib.Core.Bool.{Bool, true, false}
 use mathlib.Core.List.{List}
 use native.Mathlib.Nat.{mod-lt}
 use lib.ListN.{length, getD, set, length-set}
-use Rattle.model.specs.Words.{all}
+use Rattle.words.specs.Words.{all}
 use Rattle.model.specs.Range.{inRange, isTree}
 use Rattle.model.specs.Tree.{powerTo16, levels, touchedTree, treeFine}
 use Rattle.model.specs.Address.{setIndex}
 use Rattle.model.specs.Steps.{turnedFor}
 use Rattle.model.specs.declared.Settings.{Settings}
-use Rattle.model.proofs.Flags.{by-flag}
+use Rattle.words.proofs.Flags.{by-flag}
 use Rattle.model.proofs.Fits.{ranged}
-use Rattle.model.proofs.Lists.{all-in, in-getD, all-set}
+use Rattle.words.proofs.Lists.{all-in, in-getD, all-set}
 use Rattle.model.proofs.Trees.{touched-keeps}
 
 pub set-below : (S : Settings) → inRange S ≡ true → (a : ℕ) → setIndex S a < S .sets

@@ -8,7 +8,7 @@ use native.Mathlib.Omega.{arith}
 use lib.ListN.{length, getD, length-append}
 use lib.Dec.{eqb, leb}
 use borrow.Author.Tests.{eqb-true, leb-true, leb-false}
-use Rattle.model.specs.Words.{pick}
+use Rattle.words.specs.Words.{pick}
 use Rattle.model.specs.Address.{blockOf, addressOf, isRead}
 use Rattle.model.specs.Tables.{Line, writing, Tables, Outcome, refused, done, after, isReserved, isModified, unused, waiting, dirty, holds, fresh}
 use Rattle.model.specs.Sound.{maskOk, sectorOk, sound}
@@ -27,8 +27,8 @@ use Rattle.model.specs.declared.Access.{Access}
 use Rattle.model.specs.declared.Event.{Event}
 use Rattle.model.specs.declared.Found.{Found}
 use Rattle.model.specs.declared.Found.the-variants.{At, Nothing}
-use Rattle.model.proofs.Flags.{and-1, and-2, and-i, flag, not-yes, no-yes, clash, by-flag}
-use Rattle.model.proofs.Lists.{In, all-in, in-any, in-getD}
+use Rattle.words.proofs.Flags.{and-1, and-2, and-i, flag, not-yes, no-yes, clash, by-flag}
+use Rattle.words.proofs.Lists.{In, all-in, in-any, in-getD}
 use Rattle.model.proofs.SoundFacts.{parts, sectors-at}
 use Rattle.model.proofs.Ways.{Finds, last-finds, victim-finds, Last, last-is-last, Least, earliest-is-least, way-in}
 use Rattle.model.proofs.AccessCases.{access-judged}

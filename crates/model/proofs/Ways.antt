@@ -10,7 +10,7 @@ use lib.ListN.{length, getD, drop, length-take, length-drop}
 use lib.Seq.{getD-take, getD-drop}
 use lib.Dec.{leb}
 use borrow.Author.Tests.{leb-true, leb-false}
-use Rattle.model.specs.Words.{pick}
+use Rattle.words.specs.Words.{pick}
 use Rattle.model.specs.Address.{blockOf, setIndex, lineNumber}
 use Rattle.model.specs.Tables.{Line, unused, fresh}
 use Rattle.model.specs.Tree.{levels}
@@ -18,8 +18,8 @@ use Rattle.model.specs.Probe.{waysOf, enoughDirty, candidate, next, orEl
 use Rattle.model.specs.declared.Settings.{Settings}
 use Rattle.model.specs.declared.Found.{Found}
 use Rattle.model.specs.declared.Found.the-variants.{At, Nothing}
-use Rattle.model.proofs.Flags.{and-1, clash, by-flag}
-use Rattle.model.proofs.Lists.{In, in-getD, in-index, in-take, in-drop}
+use Rattle.words.proofs.Flags.{and-1, clash, by-flag}
+use Rattle.words.proofs.Lists.{In, in-getD, in-index, in-take, in-drop}
 use Rattle.model.proofs.Trees.{Chooses, choice-chooses, levels-reach}
 
 -- ---- searches

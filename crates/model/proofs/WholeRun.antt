@@ -2,7 +2,7 @@
 use mathlib.Core.Path.{_≡_, refl}
 use mathlib.Core.Bool.{true}
 use lib.ListN.{length}
-use Rattle.model.specs.Words.{fit, places}
+use Rattle.words.specs.Words.{fit, places}
 use Rattle.model.specs.Range.{inRange}
 use Rattle.model.specs.Lent.{Lent, lengthsFit, encode}
 use Rattle.model.specs.Probe.{probe, ruleOf}

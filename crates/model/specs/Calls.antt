@@ -4,7 +4,7 @@ use Prim.Native.Nat.{ℕ}
 use mathlib.Core.Bool.{Bool, true, false, _||_}
 use mathlib.Core.List.{List, [], _∷_, _++_, map}
 use lib.ListN.{length, take, replicate}
-use Rattle.model.specs.Words.{pick, fit}
+use Rattle.words.specs.Words.{pick, fit}
 use Rattle.model.specs.Range.{inRange}
 use Rattle.model.specs.Tables.{Tables, idle, start, Outcome, refused, done, after, eventsOf}
 use Rattle.model.specs.Lent.{Lent, lengthsFit, tablesOf, encode}

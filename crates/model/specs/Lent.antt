@@ -6,7 +6,7 @@ use mathlib.Core.Bool.{Bool, true, false, not, _&&_}
 use mathlib.Core.List.{List, [], _∷_, _++_, map}
 use lib.ListN.{length, getD}
 use lib.Dec.{eqb}
-use Rattle.model.specs.Words.{pick, table, countBelow, places, joined}
+use Rattle.words.specs.Words.{pick, table, countBelow, places, joined}
 use Rattle.model.specs.Numbers.{statusNumber, statusOf, queueKindNumber, queueKindOf}
 use Rattle.model.specs.Range.{linesOf}
 use Rattle.model.specs.Layout.{longsLength, wordsLength, marksLength, longsFrom, wordsFrom, marksFrom, missRegion, queueRegion, maskRegion, ticketRegion, queueMaskRegion, readableRegion, sentRegion, ticketCountRegion, kindRegion, dirtyCountRegion, takenRegion, treeRegion}

@@ -1,5 +1,4 @@
 -- Document 01 as definitions, in its order. Read from top to bottom; nothing here is proof.
-pub mod Words
 pub mod Numbers
 pub mod Range
 pub mod Address
@@ -27,5 +26,4 @@ pub mod Seen
 pub mod Cases
 pub mod WholeRun
 pub mod Inner
-pub mod Regions
 pub mod ToldShape

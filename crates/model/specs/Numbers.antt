@@ -2,7 +2,7 @@
 -- of a stop ("Records"). And the number by which the lent slices have a queued entry's kind.
 use Prim.Native.Nat.{ℕ}
 use lib.Dec.{eqb}
-use Rattle.model.specs.Words.{pick}
+use Rattle.words.specs.Words.{pick}
 use Rattle.model.specs.declared.Status.{Status}
 use Rattle.model.specs.declared.Status.the-variants.{Invalid, Reserved, Valid, Modified}
 use Rattle.model.specs.declared.QueueKind.{QueueKind}

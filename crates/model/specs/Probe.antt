@@ -4,7 +4,7 @@ use mathlib.Core.Bool.{Bool, true, false, not, _&&_, _||_}
 use mathlib.Core.List.{List, [], _∷_, map}
 use lib.ListN.{length, getD, take, drop, replicate}
 use lib.Dec.{leb}
-use Rattle.model.specs.Words.{pick, any}
+use Rattle.words.specs.Words.{pick, any}
 use Rattle.model.specs.Numbers.{statusNumber}
 use Rattle.model.specs.Range.{linesOf, isFifo, isTree}
 use Rattle.model.specs.Address.{addressOf, blockOf, sectorIndex, setIndex}

@@ -6,7 +6,7 @@ use mathlib.Core.Logic.{_⊎_}
 use mathlib.Core.Bool.{Bool, true, false}
 use mathlib.Core.List.{List, [], _∷_, _++_}
 use lib.ListN.{length, getD}
-use Rattle.model.specs.Words.{pick, any}
+use Rattle.words.specs.Words.{pick, any}
 use Rattle.model.specs.Tables.{Entry, Tables, Outcome, refused, done, accepted}
 use Rattle.model.specs.Lent.{Lent, tablesOf}
 use Rattle.model.specs.Steps.{access, send, fill}

@@ -5,7 +5,7 @@ use mathlib.Core.Bool.{Bool, true, false, not}
 use mathlib.Core.List.{List, [], _∷_, _++_}
 use lib.ListN.{length, take, drop, getD}
 use lib.Dec.{ltb, eqb}
-use Rattle.model.specs.Words.{pick}
+use Rattle.words.specs.Words.{pick}
 use Rattle.model.specs.Numbers.{stopNumber}
 use Rattle.model.specs.Range.{inRange}
 use Rattle.model.specs.Tables.{Tables, start, Outcome, refused, done, after, eventsOf}

@@ -7,7 +7,7 @@ use mathlib.Core.Bool.{Bool, true, not, _&&_}
 use mathlib.Core.List.{List, [], _∷_, map}
 use lib.ListN.{length, getD}
 use lib.Dec.{eqb}
-use Rattle.model.specs.Words.{pick, any, keep}
+use Rattle.words.specs.Words.{pick, any, keep}
 use Rattle.model.specs.Tables.{Entry, Tables, Outcome, after, eventsOf}
 use Rattle.model.specs.Lent.{Lent, tablesOf}
 use Rattle.model.specs.Steps.{access, send, fill}

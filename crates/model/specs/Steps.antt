@@ -5,7 +5,7 @@ use mathlib.Core.List.{List, [], _∷_, _++_, map}
 use lib.ListN.{length, getD, set}
 use lib.Dec.{ltb, leb, eqb}
 use lib.Bits.{bitOr}
-use Rattle.model.specs.Words.{pick, any, keep, one}
+use Rattle.words.specs.Words.{pick, any, keep, one}
 use Rattle.model.specs.Range.{isTree}
 use Rattle.model.specs.Tree.{levels, touchedTree}
 use Rattle.model.specs.Address.{addressOf, isRead, blockOf, sectorIndex, setIndex, lineNumber, wellFormed}

@@ -5,7 +5,7 @@ use mathlib.Core.Bool.{Bool, true, false, not, _&&_, _||_}
 use mathlib.Core.List.{List, [], _∷_}
 use lib.ListN.{replicate}
 use lib.Dec.{eqb}
-use Rattle.model.specs.Words.{all, any, count}
+use Rattle.words.specs.Words.{all, any, count}
 use Rattle.model.specs.Range.{linesOf}
 use Rattle.model.specs.declared.Settings.{Settings}
 use Rattle.model.specs.declared.Status.{Status}

@@ -9,7 +9,7 @@ use native.Mathlib.Omega.{arith}
 use lib.Dec.{eqb}
 use lib.ListN.{length}
 use borrow.Author.Tests.{eqb-true}
-use Rattle.model.proofs.Flags.{or-cases}
+use Rattle.words.proofs.Flags.{or-cases}
 use Rattle.percentage.specs.declared.Difference.{Difference}
 use Rattle.percentage.specs.Percent.{Ranged}
 use Rattle.percentage.specs.Differences.{range, triple, row, rows, tables, differ, keep, differences, hundreds, flat}

@@ -8,12 +8,12 @@ use native.Mathlib.Omega.{arith}
 use lib.Dec.{leb, eqb}
 use lib.Ieee.Positive.{first-pos}
 use borrow.Author.Tests.{le-leb, eqb-true, eq-eqb, not-true, not-false}
-use Rattle.model.specs.Words.{every, imp}
+use Rattle.words.specs.Words.{every, imp}
 use Rattle.model.specs.Range.{powerTo256, linesOf, inRange}
 use Rattle.model.specs.Probe.{enoughDirty}
 use Rattle.model.specs.declared.Settings.{Settings}
-use Rattle.model.proofs.Below.{every-at}
-use Rattle.model.proofs.Flags.{and-i, or-cases, clash}
+use Rattle.words.proofs.Below.{every-at}
+use Rattle.words.proofs.Flags.{and-i, or-cases, clash}
 use Rattle.model.proofs.Fits.{ranged}
 use Rattle.percentage.specs.Percent.{floatMeets, wholeMeets, cacheOf, Legal}
 use Rattle.percentage.specs.Differences.{differ}

@@ -18,9 +18,9 @@ use lib.Arith.{lt-of-le-ne}
 use native.Mathlib.Decide.{decLe}
 use lib.Pow.{pow-pos}
 use borrow.Author.Tests.{le-leb, lt-leb, eq-eqb, ne-eqb, eqb-true, eqb-false}
-use Rattle.model.specs.Words.{every}
-use Rattle.model.proofs.Below.{every-at}
-use Rattle.model.proofs.Flags.{flag, and-no}
+use Rattle.words.specs.Words.{every}
+use Rattle.words.proofs.Below.{every-at}
+use Rattle.words.proofs.Flags.{flag, and-no}
 use Rattle.percentage.specs.Percent.{single, percentOf, floatMeets, wholeMeets, Ranged}
 use Rattle.percentage.specs.Differences.{differ}
 use Rattle.percentage.proofs.Laws.{agreed, whole-is, div-at, mul-at, exact, single-value, values-le}

@@ -8,9 +8,9 @@ use lib.Bits.{bitAnd, bitOr, bitXor, and-le-r, or-lt, xor-lt, and-block, or-bloc
 use lib.ListN.{getD}
 use lib.Dec.{eqb, ltb}
 use borrow.Author.Tests.{eqb-true, ne-eqb}
-use Rattle.model.specs.Words.{pick, every, same}
-use Rattle.model.proofs.Flags.{and-1, and-2, same-is}
-use Rattle.model.proofs.Below.{every-at}
+use Rattle.words.specs.Words.{pick, every, same}
+use Rattle.words.proofs.Flags.{and-1, and-2, same-is}
+use Rattle.words.proofs.Below.{every-at}
 use Rattle.probe.specs.Scan.{fourBytes, statusesAt, waitingAt, dirtyAt, cleanAt}
 
 -- ---- byte by byte

@@ -8,10 +8,10 @@ use lib.Seq.{getD-take, getD-drop}
 use Rattle.model.specs.Address.{addressOf, setIndex, lineNumber}
 use Rattle.model.specs.Tables.{Line, Tables, fresh}
 use Rattle.model.specs.Lent.{Lent, tablesOf, dirtyCountAt, treeAt}
-use Rattle.model.specs.Words.{pick}
+use Rattle.words.specs.Words.{pick}
 use Rattle.model.specs.Range.{isTree}
 use Rattle.model.specs.Probe.{Rule, byKey, byTree, age, waysOf, probe, ruleOf, metIn}
-use Rattle.model.proofs.Tabled.{getD-table}
+use Rattle.words.proofs.Tabled.{getD-table}
 use Rattle.model.specs.declared.Settings.{Settings}
 use Rattle.model.specs.declared.Access.{Access}
 use Rattle.probe.specs.declared.Decision.{Decision}

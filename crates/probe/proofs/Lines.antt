@@ -7,7 +7,7 @@ use mathlib.Core.List.{List, [], _∷_, map}
 use native.Mathlib.Nat.{add-zero}
 use native.Mathlib.Omega.{arith}
 use lib.ListN.{length, getD, take, drop}
-use Rattle.model.specs.Words.{pick, all, any, table, some}
+use Rattle.words.specs.Words.{pick, all, any, table, some}
 use Rattle.model.specs.Tables.{Line, isInvalid, isReserved, isModified, unused, waiting, holds, fresh}
 use Rattle.model.specs.Range.{linesOf, isFifo, isTree}
 use Rattle.model.specs.Layout.{wordsFrom, cycleRegion, takenRegion}
@@ -19,8 +19,8 @@ use Rattle.model.specs.declared.Status.{Status}
 use Rattle.model.specs.declared.Status.the-variants.{Invalid, Reserved, Valid, Modified}
 use Rattle.model.specs.declared.Sector.{Sector}
 use Rattle.model.specs.declared.Found.{Found}
-use Rattle.model.proofs.Flags.{flag}
-use Rattle.model.proofs.Tabled.{length-table}
+use Rattle.words.proofs.Flags.{flag}
+use Rattle.words.proofs.Tabled.{length-table}
 use Rattle.model.proofs.Ways.{flag-is}
 use Rattle.model.proofs.Trees.{choice-same, levels-are}
 use Rattle.probe.specs.Scan.{waitingAt, candidateAt, foundIn, lastUnusedIn, earliestIn, agesFrom, victimIn, wayOf, treeIn}

@@ -10,17 +10,17 @@ use native.Mathlib.Numerals.{add-one}
 use native.Mathlib.Omega.{arith}
 use lib.Dec.{leb}
 use borrow.Author.Tests.{lt-ltb, le-ltb, le-leb, eq-eqb, ne-eqb}
-use Rattle.model.specs.Words.{countBelow}
+use Rattle.words.specs.Words.{countBelow}
 use Rattle.model.specs.Probe.{orElse}
 use Rattle.model.specs.declared.Found.{Found}
 use Rattle.model.specs.declared.Found.the-variants.{At, Nothing}
-use Rattle.model.proofs.Below.{Counted, counted-end}
+use Rattle.words.proofs.Below.{Counted, counted-end}
 use Rattle.probe.specs.declared.Best.{Best}
 use Rattle.probe.specs.declared.Best.the-variants.{Way, Nowhere}
 use Rattle.model.specs.Range.{linesOf, isFifo}
 use Rattle.model.specs.Layout.{wordsFrom, cycleRegion, takenRegion}
 use Rattle.model.specs.Inner.{Fit, told}
-use Rattle.model.proofs.Flags.{by-flag}
+use Rattle.words.proofs.Flags.{by-flag}
 use Rattle.model.specs.declared.Settings.{Settings}
 use Rattle.layout.specs.declared.Layout.{Layout}
 use Rattle.layout.specs.Layout.{Placed}

@@ -6,7 +6,7 @@ use mathlib.Core.List.{List}
 use native.Mathlib.Omega.{arith}
 use lib.Dec.{eqb, ltb}
 use borrow.Author.Tests.{eqb-true, ne-eqb, lt-ltb}
-use Rattle.model.specs.Words.{pick}
+use Rattle.words.specs.Words.{pick}
 use Rattle.model.specs.Numbers.{statusOf}
 use Rattle.model.specs.Tables.{isInvalid, isReserved, isModified, unused, waiting, dirty, holds}
 use Rattle.model.specs.Lent.{statusAt, tagAt, lineAt}

@@ -10,7 +10,7 @@ use lib.ListN.{length, getD, take, drop, length-take, length-drop}
 use lib.Seq.{ext-getD, getD-take, getD-drop}
 use lib.Dec.{leb, ltb}
 use borrow.Author.Tests.{leb-true, leb-false, ltb-true, ltb-false, lt-leb, lt-ltb, le-ltb}
-use Rattle.model.specs.Words.{pick, any, count, table, some, countBelow, one}
+use Rattle.words.specs.Words.{pick, any, count, table, some, countBelow, one}
 use Rattle.model.specs.Tables.{Line, fresh}
 use Rattle.model.specs.Probe.{next, orElse, first, last, older, earliest}
 use Rattle.model.specs.Range.{isTree}
@@ -19,9 +19,9 @@ use Rattle.model.specs.Tree.{powerTo16, levels}
 use Rattle.model.specs.declared.Settings.{Settings}
 use Rattle.model.specs.declared.Found.{Found}
 use Rattle.model.specs.declared.Found.the-variants.{At, Nothing}
-use Rattle.model.proofs.Flags.{flag, by-flag}
+use Rattle.words.proofs.Flags.{flag, by-flag}
 use Rattle.model.proofs.Trees.{Chooses, choice-chooses, levels-are}
-use Rattle.model.proofs.Lists.{count-append, any-append}
+use Rattle.words.proofs.Lists.{count-append, any-append}
 use Rattle.probe.specs.declared.Best.{Best}
 use Rattle.probe.specs.declared.Best.the-variants.{Way, Nowhere}
 use Rattle.probe.specs.Scan.{firstBelow, lastBelow, bestBelow, nearerOf, wayOf, candidateAt, lastUnusedIn, treeIn, victimIn}

@@ -3,7 +3,7 @@ use mathlib.Core.Path.{_≡_}
 use Prim.Native.Nat.{ℕ, _<_}
 use mathlib.Core.List.{List, [], _∷_}
 use lib.ListN.{getD, replicate}
-use Rattle.model.specs.Words.{pick}
+use Rattle.words.specs.Words.{pick}
 use Rattle.model.specs.Range.{linesOf, isTree}
 use Rattle.model.specs.Address.{addressOf, blockOf, setIndex, lineNumber}
 use Rattle.model.specs.Tables.{Line, writing, fresh, emptied}

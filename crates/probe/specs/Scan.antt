@@ -5,7 +5,7 @@ use mathlib.Core.Bool.{Bool, not, _&&_, _||_}
 use mathlib.Core.List.{List}
 use lib.ListN.{getD}
 use lib.Dec.{eqb, ltb}
-use Rattle.model.specs.Words.{pick}
+use Rattle.words.specs.Words.{pick}
 use Rattle.model.specs.Range.{isFifo, isTree}
 use Rattle.model.specs.Layout.{wordsFrom, cycleRegion, takenRegion}
 use Rattle.model.specs.Lent.{statusAt, dirtyCountAt, treeAt}

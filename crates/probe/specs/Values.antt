@@ -3,7 +3,7 @@ use Prim.Native.Nat.{ℕ, _+_, _*_}
 use mathlib.Core.Bool.{Bool, false}
 use mathlib.Core.List.{List, [], _∷_}
 use lib.ListN.{replicate}
-use Rattle.model.specs.Words.{pick, some}
+use Rattle.words.specs.Words.{pick, some}
 use Rattle.model.specs.Address.{addressOf, sectorIndex}
 use Rattle.model.specs.Lent.{tagAt, maskAt, sectorAt}
 use Rattle.model.specs.Probe.{answerOf}

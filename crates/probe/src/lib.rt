@@ -9,7 +9,7 @@ use model::Settings;
 ghost use mathlib.Core.Path.{_≡_};
 ghost use Prim.Native.Nat.{ℕ, _+_, _*_, _≤_, _<_};
 ghost use lib.ListN.{length};
-ghost use Rattle.model.specs.Words.{some};
+ghost use Rattle.words.specs.Words.{some};
 ghost use mathlib.Core.Bool.{true};
 ghost use Rattle.model.specs.Range.{linesOf, isTree};
 ghost use Rattle.model.specs.Tree.{isIn, powerTo16};
@@ -313,8 +313,8 @@ fn met(
     ensures { λ r. ⌜ r ≡ metIs s (now (words .entry)) (now (marks .entry)) base w x ⌝ }
 {
     let line = base + w;
-    let k = model::sector_index(model::address_of(x));
-    let answer = model::answer_of(x, layout::sector_at(s, at, words, marks, 4 * line + k));
+    let k = values::sector_index(values::address_of(x));
+    let answer = values::answer_of(x, layout::sector_at(s, at, words, marks, 4 * line + k));
     let masks = [0u32; 4];
     Decision {
         meeting: Meeting::Met,
@@ -430,10 +430,10 @@ pub fn decide(
     ensures { λ r. ⌜ Decided s (now (longs .entry)) (now (words .entry)) (now (marks .entry)) x r ⌝ }
 {
     let ways = s.ways;
-    let address = model::address_of(x);
-    let set = model::set_index(address, s.sets);
+    let address = values::address_of(x);
+    let set = values::set_index(address, s.sets);
     let base = set * ways;
-    let found = find(longs, marks, base, ways, model::block_of(address));
+    let found = find(longs, marks, base, ways, values::block_of(address));
     match found {
         Found::At(w) => met(s, at, words, marks, base, w, x),
         Found::Nothing => take_over(s, at, longs, words, marks, set, base),

@@ -5,7 +5,7 @@ use mathlib.Core.List.{List, [], _∷_}
 use Prim.Native.Nat.{ℕ, _-_, _≤_, _<_}
 use native.Mathlib.Omega.{arith}
 use lib.ListN.{length, getD}
-use Rattle.model.specs.Words.{count}
+use Rattle.words.specs.Words.{count}
 use Rattle.model.specs.Range.{linesOf}
 use Rattle.model.specs.Tables.{idle, Tables, Outcome, refused, done, dirty, dirtyLines}
 use Rattle.model.specs.Lent.{Lent, lent, tablesOf}
@@ -19,8 +19,8 @@ use Rattle.model.specs.declared.Event.{Event}
 use Rattle.model.specs.declared.Refusal.{Refusal}
 use Rattle.model.specs.declared.Verdict.the-variants as verdict
 use Rattle.model.proofs.SoundFacts.{parts, lines-are}
-use Rattle.model.proofs.Decoded.{Small}
-use Rattle.model.proofs.Bridge.{is-fit}
+use Rattle.encoding.proofs.Decoded.{Small}
+use Rattle.encoding.proofs.Bridge.{is-fit}
 use Rattle.soundness.specs.Laid.{Checks}
 use Rattle.soundness.specs.declared.LaidVerdict.{LaidVerdict}
 use Rattle.soundness.specs.declared.LaidVerdict.the-variants as laid
@@ -37,7 +37,7 @@ use Rattle.reasons.specs.declared.Reason.{Reason}
 use Rattle.reasons.specs.declared.Reason.the-variants as reason
 use Rattle.reasons.specs.Reasons.{linesReason, missingLines, queueReason, reasonFor, reasonChecked, reasonCall}
 use Rattle.reasons.specs.Parts.{Gives}
-use Rattle.model.proofs.Counting.{count-length}
+use Rattle.words.proofs.Counting.{count-length}
 use borrow.Author.Tests.{eqb-true}
 
 -- ---- the queue

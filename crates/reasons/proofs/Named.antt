@@ -9,7 +9,7 @@ use native.Mathlib.Omega.{arith}
 use lib.Dec.{leb, ltb, eqb}
 use lib.ListN.{length, getD}
 use borrow.Author.Tests.{eq-eqb, eqb-true, leb-true, leb-false, ltb-true}
-use Rattle.model.specs.Words.{pick, any}
+use Rattle.words.specs.Words.{pick, any}
 use Rattle.model.specs.Range.{inRange, linesOf}
 use Rattle.model.specs.Address.{setIndex, goodBlock, lineNumber}
 use Rattle.model.specs.Tables.{Line, Entry, Tables, isInvalid, isReserved, unused, waiting, entryFor, empty, fresh}
@@ -20,8 +20,8 @@ use Rattle.model.specs.declared.Queued.{Queued}
 use Rattle.model.specs.declared.Status.{Status}
 use Rattle.model.specs.declared.Status.the-variants.{Invalid, Reserved, Valid, Modified}
 use Rattle.model.specs.declared.Sector.{Sector}
-use Rattle.model.proofs.Flags.{and-1, and-2, flag}
-use Rattle.model.proofs.Lists.{In, all-in, any-in, in-any, in-getD, in-index}
+use Rattle.words.proofs.Flags.{and-1, and-2, flag}
+use Rattle.words.proofs.Lists.{In, all-in, any-in, in-any, in-getD, in-index}
 use Rattle.model.proofs.SoundFacts.{Sound, entries-some, places-two, line-at, four-at, tag-aligned, reserved-at}
 use Rattle.model.proofs.Ways.{Sits, way-sits, set-of-line}
 use Rattle.reasons.specs.declared.Reason.{Reason}

@@ -51,7 +51,7 @@ fn first_in_set(longs: &[u64], at: usize, n: usize, sets: usize, set: usize) -> 
 {
     let mut i = 0;
     while i < n {
-        if model::set_index(longs[at + i], sets) == set {
+        if values::set_index(longs[at + i], sets) == set {
             return i;
         }
         i += 1;
@@ -90,7 +90,7 @@ fn busy_reason(
     ensures { λ r. ⌜ Gives s (λ t. entryReason (ofSet (s .sets) (setIndex s (addressOf x))) (t .misses)) (lent (now (longs .entry)) (now (words .entry)) (now (marks .entry))) r ⌝ }
 {
     let n = layout::used(marks, at.counts, s.misses);
-    let set = model::set_index(model::address_of(x), s.sets);
+    let set = values::set_index(values::address_of(x), s.sets);
     let e = first_in_set(longs, at.misses, n, s.sets, set);
     entry_reason(at, longs, marks, e, n)
 }
@@ -108,7 +108,7 @@ fn readers_reason(
     ensures { λ r. ⌜ Gives s (λ t. entryReason (entryFor (addressOf x)) (t .misses)) (lent (now (longs .entry)) (now (words .entry)) (now (marks .entry))) r ⌝ }
 {
     let n = layout::used(marks, at.counts, s.misses);
-    let address = SectorAddress(model::address_of(x));
+    let address = SectorAddress(values::address_of(x));
     let e = tables::find_entry(longs, at.misses, n, address);
     entry_reason(at, longs, marks, e, n)
 }
@@ -162,7 +162,7 @@ fn queue_reason(s: Settings, at: Layout, longs: &[u64], words: &[u32], marks: &[
     if n == 0 {
         return Reason::Nothing;
     }
-    let head = model::sent_event(tables::front(at, longs, words, marks));
+    let head = values::sent_event(tables::front(at, longs, words, marks));
     let free = s.queue - n;
     Reason::Queue { head, free }
 }

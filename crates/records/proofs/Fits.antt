@@ -9,7 +9,7 @@ use native.Mathlib.Omega.{arith}
 use borrow.Author.Tests.{le-leb, leb-true, ltb-true, eqb-true}
 use lib.Dec.{leb, ltb, eqb}
 use lib.ListN.{length, getD}
-use Rattle.model.specs.Words.{all, any, keep, fit, places}
+use Rattle.words.specs.Words.{all, any, keep, fit, places}
 use Rattle.model.specs.Range.{inRange, linesOf}
 use Rattle.model.specs.Address.{addressOf, isRead, goodSector, goodBlock, wellFormed}
 use Rattle.model.specs.Tables.{Entry, reading, Tables, Outcome, after, eventsOf, entryFor, withMisses}
@@ -32,8 +32,8 @@ use Rattle.model.specs.declared.GivenRule.the-variants.{LeftOut, Byte}
 use Rattle.model.specs.declared.Command.{Command}
 use Rattle.model.specs.declared.Command.the-variants as cmd
 use Rattle.model.specs.declared.CommandRead.the-variants as command
-use Rattle.model.proofs.Flags.{and-1, and-2, and-i, clash, by-flag}
-use Rattle.model.proofs.Lists.{In, all-in, in-all, any-in, in-keep}
+use Rattle.words.proofs.Flags.{and-1, and-2, and-i, clash, by-flag}
+use Rattle.words.proofs.Lists.{In, all-in, in-all, any-in, in-keep}
 use Rattle.model.proofs.SoundFacts.{Sound, parts, entry-parts, queued-parts}
 use Rattle.model.proofs.Fits.{ranged}
 use Rattle.model.proofs.Taken.{Spotted, formed-good}

@@ -8,11 +8,11 @@ use native.Mathlib.Omega.{arith}
 use borrow.Author.Tests.{ne-eqb, eqb-true, leb-true, ltb-true, ltb-false}
 use lib.ListN.{getD}
 use lib.Dec.{eqb, leb, ltb}
-use Rattle.model.specs.Words.{all, any, every, same}
+use Rattle.words.specs.Words.{all, any, every, same}
 use Rattle.model.specs.RecordsOf as records
 use Rattle.model.specs.Records.{Kind, commandKinds, eventKinds, bodyIn, lengthOf, isCommand, isSettings}
-use Rattle.model.proofs.Flags.{and-1, and-2, or-false, flag, same-is}
-use Rattle.model.proofs.Below.{every-at}
+use Rattle.words.proofs.Flags.{and-1, and-2, or-false, flag, same-is}
+use Rattle.words.proofs.Below.{every-at}
 
 abbrev pub lengths : List ℕ
 lengths =

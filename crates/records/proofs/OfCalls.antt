@@ -10,7 +10,7 @@ use lib.Pow.{pow-lt}
 use borrow.Author.Tests.{le-leb, leb-true, eqb-true, ltb-true}
 use lib.Dec.{leb, eqb, lit≤}
 use lib.ListN.{length, getD}
-use Rattle.model.specs.Words.{all, table, fit, places, joined}
+use Rattle.words.specs.Words.{all, table, fit, places, joined}
 use Rattle.model.specs.Range.{inRange, linesOf, isTree}
 use Rattle.model.specs.Tree.{treeFine}
 use Rattle.model.specs.Tables.{Line, Entry, Tables, Outcome, after, eventsOf, fresh, dirty, dirtyLines}
@@ -29,16 +29,16 @@ use Rattle.model.specs.declared.Refusal.{Refusal}
 use Rattle.model.specs.declared.Refusal.the-variants.{SettingOutOfRange, SliceLength, NotSound}
 use Rattle.model.specs.declared.Event.{Event}
 use Rattle.model.specs.declared.Event.the-variants.{Refused}
-use Rattle.model.proofs.Flags.{and-1, and-2, and-i, by-flag}
-use Rattle.model.proofs.Below.{every-at}
-use Rattle.model.proofs.Lists.{In, all-in, in-index}
+use Rattle.words.proofs.Flags.{and-1, and-2, and-i, by-flag}
+use Rattle.words.proofs.Below.{every-at}
+use Rattle.words.proofs.Lists.{In, all-in, in-index}
 use Rattle.model.proofs.SoundFacts.{Sound, LineIs, parts, line-parts, queued-parts}
-use Rattle.model.proofs.Decoded.{Small}
-use Rattle.model.proofs.Bridge.{sound-encoded, after-encoded, events-encoded}
+use Rattle.encoding.proofs.Decoded.{Small}
+use Rattle.encoding.proofs.Bridge.{sound-encoded, after-encoded, events-encoded}
 use Rattle.records.specs.Fitting.{AllFitting, words, stamped}
 use Rattle.records.proofs.Room.{Takes, refused-takes}
 use Rattle.records.proofs.Fits.{all-at, all-append, one-word}
-use Rattle.model.proofs.Counting.{count-length}
+use Rattle.words.proofs.Counting.{count-length}
 use Rattle.model.proofs.Fits.{ranged}
 
 -- ---- the tables that the slices hold

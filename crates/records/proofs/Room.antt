@@ -8,7 +8,7 @@ use native.Mathlib.Omega.{arith}
 use borrow.Author.Tests.{le-leb, leb-true}
 use lib.Dec.{ltb, leb, lit≤}
 use lib.ListN.{length, getD, length-append}
-use Rattle.model.specs.Words.{pick, all, any}
+use Rattle.words.specs.Words.{pick, all, any}
 use Rattle.model.specs.Range.{inRange, within}
 use Rattle.model.specs.Address.{addressOf, isRead, blockOf, lineNumber, wellFormed}
 use Rattle.model.specs.Tables.{Line, Entry, reading, Tables, Outcome, refused, done, eventsOf, dirty, holds, entryFor, fresh, withNow}
@@ -31,8 +31,8 @@ use Rattle.model.specs.declared.Event.{Event}
 use Rattle.model.specs.declared.Event.the-variants.{Answered, Released, Filled, Ticked}
 use Rattle.model.specs.declared.Command.{Command}
 use Rattle.model.specs.declared.Command.the-variants as cmd
-use Rattle.model.proofs.Flags.{and-1, and-2, by-flag}
-use Rattle.model.proofs.Lists.{all-in, in-all}
+use Rattle.words.proofs.Flags.{and-1, and-2, by-flag}
+use Rattle.words.proofs.Lists.{all-in, in-all}
 use Rattle.records.proofs.Encoding.{event-short}
 use Rattle.records.proofs.Log.{log-append, released-length}
 

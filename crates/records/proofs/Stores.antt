@@ -11,7 +11,7 @@ use lib.Dec.{leb}
 use lib.ListN.{length, take, drop, set, length-append, length-drop}
 use lib.Seq.{sets, sets-eq, take-append-seam, drop-append-add, drop-drop}
 use Rattle.model.specs.Records.{bytesOf}
-use Rattle.model.proofs.Flags.{iff}
+use Rattle.words.proofs.Flags.{iff}
 use Rattle.records.specs.Stores.{stored, storedCount, Stored, Laid}
 
 -- ---- bytes stored one after the other

@@ -3,7 +3,7 @@ use Prim.Native.Nat.{ℕ, _^_, _≤_, _<_}
 use mathlib.Core.Bool.{Bool}
 use mathlib.Core.List.{List, [], _∷_}
 use lib.Dec.{leb}
-use Rattle.model.specs.Words.{all}
+use Rattle.words.specs.Words.{all}
 use Rattle.model.specs.Tables.{Tables}
 use Rattle.model.specs.Sound.{allOnes}
 use Rattle.model.specs.declared.Access.{Access}

@@ -6,7 +6,7 @@ use mathlib.Core.List.{List}
 use lib.ListN.{length}
 use lib.Seq.{sets}
 use lib.Dec.{leb}
-use Rattle.model.specs.Words.{pick}
+use Rattle.words.specs.Words.{pick}
 
 abbrev pub room : List ℕ → ℕ → ℕ → Bool
 room l at n = leb (at + n) (length l)

@@ -75,7 +75,7 @@ fn put_answer(out: &mut [u8], at: usize, answer: Answer, line: u16) -> usize
     ensures { λ r. ⌜ Laid (now (out .entry)) at 4 (eventBytes (Event.Answered answer line)) r (now (out .exit)) ⌝ }
 {
     let i = put1(out, at, 0x10);
-    let j = put1(out, i, model::answer_number(answer));
+    let j = put1(out, i, values::answer_number(answer));
     put2(out, j, line)
 }
 
@@ -84,7 +84,7 @@ fn put_refusal(out: &mut [u8], at: usize, n: Refusal) -> usize
     ensures { λ r. ⌜ Laid (now (out .entry)) at 2 (eventBytes (Event.Refused n)) r (now (out .exit)) ⌝ }
 {
     let i = put1(out, at, 0x11);
-    put1(out, i, model::refusal_number(n))
+    put1(out, i, values::refusal_number(n))
 }
 
 // How many bytes an event is. Its numbers fit their bytes: they are bound here because a bound number's type tells its range.
@@ -283,7 +283,7 @@ fn put_queued(out: &mut [u8], at: usize, count: usize, queued: [Queued; 2]) -> u
     let mut j = 0;
     while j < count {
         let x = queued[j];
-        let e = model::queued_event(x);
+        let e = values::queued_event(x);
         i = put_event(e, out, i);
         j += 1;
     }
@@ -320,7 +320,7 @@ fn queued_size(count: usize, queued: [Queued; 2]) -> usize
     let mut j = 0;
     while j < count {
         let x = queued[j];
-        let e = model::queued_event(x);
+        let e = values::queued_event(x);
         n += event_size(e);
         j += 1;
     }

@@ -6,7 +6,7 @@ use mathlib.Core.Bool.{true, false, false≢true}
 use Prim.Native.Nat.{ℕ, zero, suc, _+_, _≤_}
 use native.Mathlib.Omega.{arith}
 use lib.ListN.{length}
-use Rattle.model.specs.Words.{any}
+use Rattle.words.specs.Words.{any}
 use Rattle.model.specs.Range.{inRange}
 use Rattle.model.specs.Address.{wellFormed}
 use Rattle.model.specs.Tables.{Outcome, refused, done, accepted}
@@ -18,8 +18,9 @@ use Rattle.model.specs.declared.Settings.{Settings}
 use Rattle.model.specs.declared.Access.{Access}
 use Rattle.model.specs.declared.Event.{Event}
 use Rattle.model.specs.declared.Refusal.the-variants.{SetHeld}
-use Rattle.model.proofs.Decoded.{Small}
-use Rattle.model.proofs.SeenRounds.{lent-accepted, demand-3-seen-lent}
+use Rattle.encoding.proofs.Decoded.{Small}
+use Rattle.model.proofs.SeenRounds.{lent-accepted}
+use Rattle.encoding.proofs.Demand.{demand-3-seen-lent}
 use Rattle.rounds.specs.declared.Waiting.the-variants.{Accepted, Held}
 use Rattle.rounds.specs.Waiting.{lastOf, waitingOf, settled, waitCall}
 use Rattle.rounds.proofs.SameWait.{settled-same}

@@ -21,9 +21,9 @@ use Rattle.model.specs.declared.Refusal.the-variants.{BadAccess, SetHeld}
 use Rattle.model.specs.declared.Event.the-variants as event
 use Rattle.model.specs.declared.Verdict.the-variants as verdict
 use Rattle.model.specs.declared.Told.{Told}
-use Rattle.model.proofs.Bridge.{is-tables, is-fits, is-sound-lent}
-use Rattle.model.proofs.LentRounds.{runOf, rounds-encoded}
-use Rattle.model.proofs.Demand.{steps-keep}
+use Rattle.encoding.proofs.Bridge.{is-tables, is-fits, is-sound-lent}
+use Rattle.encoding.proofs.LentRounds.{runOf, rounds-encoded}
+use Rattle.encoding.proofs.Demand.{steps-keep}
 use Rattle.records.specs.Stores.{Stored}
 use Rattle.records.proofs.Stores.{was-stored}
 use Rattle.soundness.specs.Laid.{Checks, verdictIn}

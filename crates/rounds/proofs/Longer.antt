@@ -5,7 +5,7 @@ use mathlib.Core.List.{List, [], _∷_, _++_}
 use Prim.Native.Nat.{ℕ, zero, suc, _≤_, _<_}
 use native.Mathlib.Omega.{arith}
 use lib.ListN.{length, getD, replicate}
-use Rattle.model.specs.Words.{any}
+use Rattle.words.specs.Words.{any}
 use Rattle.model.specs.Seen.{Acts, accepts, behind, marks, drain, rounds}
 use Rattle.model.specs.Rounds.{Turn}
 use Rattle.model.specs.declared.Event.{Event}

@@ -10,7 +10,7 @@ use borrow.Author.Tests.{le-leb}
 use lib.Dec.{leb}
 use lib.ListN.{length, take, drop, replicate, length-map, length-append, length-replicate}
 use lib.Seq.{take-at}
-use Rattle.model.specs.Words.{pick, any}
+use Rattle.words.specs.Words.{pick, any}
 use Rattle.model.specs.Address.{wellFormed}
 use Rattle.model.specs.Tables.{Outcome, refused, done}
 use Rattle.model.specs.Lent.{Lent, bit}
@@ -24,8 +24,8 @@ use Rattle.model.specs.declared.Event.the-variants as event
 use Rattle.model.specs.declared.Refusal.the-variants.{BadAccess}
 use Rattle.model.specs.Records.{roundBytes}
 use Rattle.model.specs.declared.Verdict.the-variants.{Passed}
-use Rattle.model.proofs.Decoded.{Small}
-use Rattle.model.proofs.SeenRounds.{demand-3-seen-lent}
+use Rattle.encoding.proofs.Decoded.{Small}
+use Rattle.encoding.proofs.Demand.{demand-3-seen-lent}
 use Rattle.soundness.proofs.Verdicts.{passed-is}
 use Rattle.rounds.specs.declared.Went.{Went}
 use Rattle.rounds.specs.declared.Went.the-variants.{Ran, NoRoom}

@@ -8,7 +8,7 @@ use native.Mathlib.Nat.{add-zero}
 use native.Mathlib.Omega.{arith}
 use lib.ListN.{length, getD, length-append}
 use lib.Seq.{sets}
-use Rattle.model.specs.Words.{any}
+use Rattle.words.specs.Words.{any}
 use Rattle.model.specs.Address.{wellFormed}
 use Rattle.model.specs.Tables.{Tables, Outcome, refused, done, after, accepted, eventsOf}
 use Rattle.model.specs.Lent.{Lent}
@@ -25,7 +25,7 @@ use Rattle.model.specs.declared.Refusal.the-variants.{SetHeld}
 use Rattle.model.specs.declared.Event.{Event}
 use Rattle.model.specs.declared.Event.the-variants as event
 use Rattle.model.specs.declared.Told.{Told}
-use Rattle.model.proofs.Flags.{clash}
+use Rattle.words.proofs.Flags.{clash}
 use Rattle.model.proofs.Bound.{rounds-settled}
 use Rattle.model.proofs.SeenRounds.{unrefused-too, access-clear}
 use Rattle.records.specs.Stores.{Stored}

@@ -8,7 +8,7 @@ use native.Mathlib.Omega.{arith}
 use borrow.Author.Tests.{eq-eqb, ne-eqb}
 use lib.Dec.{eqb}
 use lib.ListN.{length}
-use Rattle.model.specs.Words.{pick}
+use Rattle.words.specs.Words.{pick}
 use Rattle.model.specs.Address.{maskOf}
 use Rattle.model.specs.Tables.{Entry, Tables, Outcome, after, eventsOf}
 use Rattle.model.specs.Lent.{Lent, lent, tablesOf}
@@ -27,7 +27,7 @@ use Rattle.model.specs.declared.Access.the-variants.{Read}
 use Rattle.model.specs.declared.Event.the-variants as event
 use Rattle.model.specs.declared.Command.the-variants as cmd
 use Rattle.model.specs.declared.Told.{Told}
-use Rattle.model.proofs.Bridge.{is-tables, call-is, does-tells, does-is}
+use Rattle.encoding.proofs.Bridge.{is-tables, call-is, does-tells, does-is}
 use Rattle.model.proofs.SeenRounds.{unrefused-too, calls-clear}
 use Rattle.model.proofs.Soundness.{send-keeps-sound, fill-keeps-sound, access-keeps-sound}
 use Rattle.layout.specs.declared.Layout.{Layout}

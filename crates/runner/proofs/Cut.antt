@@ -23,8 +23,8 @@ use Rattle.model.specs.declared.Stop.the-variants.{NoRoom}
 use Rattle.model.specs.declared.Ran.{Ran}
 use Rattle.model.proofs.Soundness.{start-sound}
 use Rattle.model.proofs.RunSound.{run-from-keeps-sound}
-use Rattle.model.proofs.Decoded.{Small}
-use Rattle.model.proofs.Kept.{kept-is, resume-goes, resume-is}
+use Rattle.encoding.proofs.Decoded.{Small}
+use Rattle.encoding.proofs.Kept.{kept-is, resume-goes, resume-is}
 use Rattle.running.proofs.First.{Settled, settled, run-accepts}
 use Rattle.running.proofs.Running.{run-skips}
 use Rattle.running.proofs.Parts.{goes-first, settings-more, first-more, run-cut}

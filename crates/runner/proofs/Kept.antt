@@ -6,7 +6,7 @@ use Prim.Native.Nat.{ℕ}
 use native.Mathlib.Nat.{sub-zero, zero-add}
 use native.Mathlib.Omega.{arith}
 use lib.ListN.{length}
-use Rattle.model.specs.Words.{pick}
+use Rattle.words.specs.Words.{pick}
 use Rattle.model.specs.Range.{inRange}
 use Rattle.model.specs.Tables.{done}
 use Rattle.model.specs.Lent.{Lent, lengthsFit, tablesOf}
@@ -20,8 +20,8 @@ use Rattle.model.specs.declared.Stop.{Stop}
 use Rattle.model.specs.declared.Stop.the-variants as stop
 use Rattle.model.specs.declared.Verdict.the-variants as verdict
 use Rattle.model.specs.declared.Ran.{Ran}
-use Rattle.model.proofs.Decoded.{Small}
-use Rattle.model.proofs.Kept.{resume-stops, resume-is}
+use Rattle.encoding.proofs.Decoded.{Small}
+use Rattle.encoding.proofs.Kept.{resume-stops, resume-is}
 use Rattle.layout.specs.declared.Layout.{Layout}
 use Rattle.soundness.specs.Laid.{Checks}
 use Rattle.soundness.specs.declared.LaidVerdict.{LaidVerdict}

@@ -20,12 +20,12 @@ use Rattle.model.specs.declared.CommandRead.{CommandRead}
 use Rattle.model.specs.declared.CommandRead.the-variants as command
 use Rattle.model.specs.declared.Event.{Event}
 use Rattle.model.specs.declared.Ran.{Ran}
-use Rattle.model.proofs.Flags.{and-2, flag, by-flag}
-use Rattle.model.proofs.Lists.{all-in, in-all, in-take}
+use Rattle.words.proofs.Flags.{and-2, flag, by-flag}
+use Rattle.words.proofs.Lists.{all-in, in-all, in-take}
 use Rattle.model.proofs.Soundness.{start-sound}
 use Rattle.model.proofs.RunSound.{bytes, record-keeps-sound}
-use Rattle.model.proofs.Decoded.{Small}
-use Rattle.model.proofs.Kept.{kept-is}
+use Rattle.encoding.proofs.Decoded.{Small}
+use Rattle.encoding.proofs.Kept.{kept-is}
 use Rattle.records.specs.Fitting.{AllFitting, CommandReadFits, stamped}
 use Rattle.records.proofs.Log.{log-append}
 use Rattle.records.proofs.Told.{fitting-append}

@@ -2,7 +2,7 @@
 use Prim.Native.Nat.{ℕ, zero, suc, _-_}
 use mathlib.Core.List.{List, [], _∷_, _++_}
 use lib.ListN.{length}
-use Rattle.model.specs.Words.{pick}
+use Rattle.words.specs.Words.{pick}
 use Rattle.model.specs.Tables.{Tables, start, after, eventsOf}
 use Rattle.model.specs.Lent.{Lent, tablesOf}
 use Rattle.model.specs.Records.{lengthOf, logBytes}

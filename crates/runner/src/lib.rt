@@ -41,7 +41,7 @@ pub fn run(
 fn stop_of(n: Refusal) -> Stop
     ensures { λ r. ⌜ r ≡ stopOf n ⌝ }
 {
-    let number = model::refusal_number(n);
+    let number = values::refusal_number(n);
     if number == 1 {
         return Stop::SettingOutOfRange;
     }

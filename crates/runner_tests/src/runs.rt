@@ -177,7 +177,7 @@ fn put_number(what: &[u8], n: usize, out: &mut [u8], at: usize) -> usize {
 
 fn put_ran(r: Ran, out: &mut [u8]) -> usize {
     let stop = r.stop;
-    let a = put_number(b"stop ", model::stop_number(stop) as usize, out, 0);
+    let a = put_number(b"stop ", values::stop_number(stop) as usize, out, 0);
     let b = put_number(b" consumed ", r.consumed, out, a);
     put_number(b" written ", r.written, out, b)
 }

@@ -23,7 +23,7 @@ use Rattle.model.specs.declared.Command.the-variants as cmd
 use Rattle.model.specs.declared.CommandRead.the-variants as command
 use Rattle.model.specs.declared.Stop.the-variants as stop
 use Rattle.model.specs.declared.Told.{Told}
-use Rattle.model.proofs.Flags.{or-no-1, or-no-2, flag}
+use Rattle.words.proofs.Flags.{or-no-1, or-no-2, flag}
 use Rattle.records.specs.Stores.{Laid}
 use Rattle.records.proofs.Decoding.{command-sized}
 use Rattle.records.proofs.Lengths.{command-kinds, settings-kinds}

@@ -8,7 +8,7 @@ use native.Mathlib.Omega.{arith}
 use borrow.Author.Tests.{eq-eqb}
 use lib.ListN.{length}
 use lib.Dec.{ltb}
-use Rattle.model.specs.Words.{pick}
+use Rattle.words.specs.Words.{pick}
 use Rattle.model.specs.Range.{inRange}
 use Rattle.model.specs.Layout.{longsLength, wordsLength, marksLength}
 use Rattle.model.specs.Tables.{Tables}
@@ -19,7 +19,7 @@ use Rattle.model.specs.Runner.{eventRoom, settingsStop, laterStop, goesOn, Resu
 use Rattle.model.specs.declared.Settings.{Settings}
 use Rattle.model.specs.declared.Stop.{Stop}
 use Rattle.model.specs.declared.Stop.the-variants.{Nothing, SettingOutOfRange, SliceLength, NotSound, OutOfPlace, UnknownKind, CutShort, NoRoom}
-use Rattle.model.proofs.Flags.{clash, by-flag, flag}
+use Rattle.words.proofs.Flags.{clash, by-flag, flag}
 use Rattle.model.proofs.Fits.{ranged}
 use Rattle.layout.proofs.OfRange.{tickets-most, sets-most}
 use Rattle.running.specs.declared.Lengths.{Lengths}

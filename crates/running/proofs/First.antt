@@ -9,7 +9,7 @@ use native.Mathlib.Omega.{arith}
 use borrow.Author.Tests.{eq-eqb, ne-eqb, ltb-false}
 use lib.Dec.{ltb}
 use lib.ListN.{length, drop, length-drop}
-use Rattle.model.specs.Words.{pick}
+use Rattle.words.specs.Words.{pick}
 use Rattle.model.specs.Numbers.{refusalNumber}
 use Rattle.model.specs.Range.{inRange}
 use Rattle.model.specs.Tables.{Tables, start, after}
@@ -27,7 +27,7 @@ use Rattle.model.specs.declared.Verdict.the-variants as verdict
 use Rattle.model.specs.declared.Stop.{Stop}
 use Rattle.model.specs.declared.Stop.the-variants.{Nothing, SettingOutOfRange, SliceLength, OutOfPlace, UnknownKind, CutShort}
 use Rattle.model.specs.declared.Ran.{Ran}
-use Rattle.model.proofs.Flags.{clash, by-flag, flag}
+use Rattle.words.proofs.Flags.{clash, by-flag, flag}
 use Rattle.model.proofs.Soundness.{start-sound}
 use Rattle.reader.specs.Taken.{behind}
 use Rattle.cache.specs.Made.{Made}

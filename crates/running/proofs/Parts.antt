@@ -10,7 +10,7 @@ use borrow.Author.Tests.{not-true, le-ltb, ltb-true, ltb-false, lt-leb, le-leb, 
 use lib.Dec.{leb, ltb, eqb}
 use lib.ListN.{length, drop, length-append}
 use lib.Seq.{take-append-le}
-use Rattle.model.specs.Words.{pick}
+use Rattle.words.specs.Words.{pick}
 use Rattle.model.specs.Tables.{Tables, start, after, eventsOf}
 use Rattle.model.specs.Lent.{Lent}
 use Rattle.model.specs.Numbers.{stopNumber}
@@ -21,7 +21,7 @@ use Rattle.model.specs.declared.Settings.{Settings}
 use Rattle.model.specs.declared.Record.{Record}
 use Rattle.model.specs.declared.Stop.{Stop}
 use Rattle.model.specs.declared.Stop.the-variants.{Nothing, OutOfPlace, UnknownKind, CutShort, NoRoom}
-use Rattle.model.proofs.Flags.{clash, by-flag, flag, or-cases}
+use Rattle.words.proofs.Flags.{clash, by-flag, flag, or-cases}
 use Rattle.running.specs.declared.Begun.the-variants.{Accepted, Stopped}
 use Rattle.running.specs.Resume.{kindAt, headStop}
 use Rattle.running.specs.Begin.{beginning, firstThere}

@@ -17,7 +17,7 @@ use Rattle.model.specs.Runner.{eventRoom, laterStop, goesOn, stepAt, Result, ha
 use Rattle.model.specs.declared.Settings.{Settings}
 use Rattle.model.specs.declared.Stop.{Stop}
 use Rattle.model.specs.declared.Stop.the-variants as stop
-use Rattle.model.proofs.Flags.{clash, by-flag}
+use Rattle.words.proofs.Flags.{clash, by-flag}
 use Rattle.running.specs.Resume.{kindAt, restAt, single}
 
 -- ---- the checks at a later record, where it goes on

@@ -25,7 +25,7 @@ use Rattle.model.specs.declared.Refusal.the-variants as refusal
 use Rattle.model.specs.declared.Stop.{Stop}
 use Rattle.model.specs.declared.Stop.the-variants as stop
 use Rattle.model.specs.declared.Told.{Told}
-use Rattle.model.proofs.Bridge.{does-tells, does-is}
+use Rattle.encoding.proofs.Bridge.{does-tells, does-is}
 use Rattle.model.proofs.Soundness.{step-keeps-sound}
 use Rattle.records.specs.Stores.{Laid}
 use Rattle.records.proofs.Room.{Takes, refused-takes, step-takes}

@@ -6,7 +6,7 @@ use mathlib.Core.Bool.{Bool, false, not, _||_}
 use mathlib.Core.List.{List, [], _∷_}
 use lib.Dec.{leb, eqb}
 use lib.ListN.{length}
-use Rattle.model.specs.Words.{pick}
+use Rattle.words.specs.Words.{pick}
 use Rattle.model.specs.Numbers.{refusalNumber}
 use Rattle.model.specs.Tables.{start}
 use Rattle.model.specs.Lent.{Lent, encode}

@@ -47,7 +47,7 @@ pub struct Lengths {
 pub fn goes_on(stop: Stop) -> bool
     ensures { λ r. ⌜ r ≡ goesOn stop ⌝ }
 {
-    model::stop_number(stop) == 0
+    values::stop_number(stop) == 0
 }
 
 // The settings in a body, unjudged.
@@ -178,7 +178,7 @@ fn fresh_stop(v: Verdict) -> Stop
     match v {
         Verdict::Passed => Stop::Nothing,
         Verdict::Refused(n) => {
-            if model::refusal_number(n) == 1 {
+            if values::refusal_number(n) == 1 {
                 Stop::SettingOutOfRange
             } else {
                 Stop::SliceLength
@@ -224,7 +224,7 @@ pub fn first_there(stream: &[u8]) -> bool
         return false;
     }
     let stop = head_stop(stream[0], reader::record_at(stream, 0));
-    model::stop_number(stop) != CUT_SHORT
+    values::stop_number(stop) != CUT_SHORT
 }
 
 fn no_lengths() -> Lengths

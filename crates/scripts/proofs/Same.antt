@@ -10,7 +10,7 @@ use lib.ListN.{length, getD}
 use lib.Seq.{ext-getD}
 use borrow.Author.Count.{below-none, below-more}
 use Rattle.model.specs.Lent.{Lent, lent}
-use Rattle.model.proofs.Flags.{and-1, and-2, and-i}
+use Rattle.words.proofs.Flags.{and-1, and-2, and-i}
 use Rattle.scripts.specs.Same.{Tells}
 
 abbrev Alike : List ℕ → List ℕ → ℕ → Type 0

@@ -7,8 +7,8 @@ use native.Mathlib.Omega.{arith}
 use borrow.Author.Tests.{ltb-true, leb-true}
 use lib.Dec.{ltb, leb, eqb}
 use lib.ListN.{length, getD}
-use Rattle.model.proofs.Flags.{by-flag}
-use Rattle.model.specs.Words.{pick}
+use Rattle.words.proofs.Flags.{by-flag}
+use Rattle.words.specs.Words.{pick}
 use Rattle.model.specs.RecordsOf as records
 use Rattle.model.specs.Records.{lengthOf, noKind, commandAt, eventAt}
 use Rattle.model.specs.declared.Record.{Record}

@@ -9,7 +9,7 @@ use Rattle.model.specs.Lent.{Lent, tablesOf}
 use Rattle.model.specs.SoundLent.{Small}
 use Rattle.model.specs.Calls.{checkCall, verdictOf}
 use Rattle.model.specs.Inner.{Is, Held}
-use Rattle.model.proofs.Bridge.{sound-encoded}
+use Rattle.encoding.proofs.Bridge.{sound-encoded}
 use Rattle.layout.specs.Layout.{Placed}
 use Rattle.layout.specs.declared.Layout.{Layout}
 use Rattle.soundness.specs.Laid.{Checks, verdictIn}

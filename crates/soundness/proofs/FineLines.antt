@@ -8,14 +8,14 @@ use native.Mathlib.Omega.{arith}
 use lib.Dec.{eqb, ltb}
 use borrow.Author.Tests.{ne-eqb, eqb-true, ltb-true}
 use Rattle.model.specs.declared.Settings.{Settings}
-use Rattle.model.specs.Words.{some, imp}
+use Rattle.words.specs.Words.{some, imp}
 use Rattle.model.specs.Range.{linesOf}
 use Rattle.model.specs.Address.{blockOf, sectorIndex, goodBlock, setIndex}
 use Rattle.model.specs.Lent.{tagAt, statusAt}
 use Rattle.model.specs.SoundLent.{live, lineFine, linesFine, reservedFor}
-use Rattle.model.proofs.Flags.{and-1, and-2, iff, imp-use}
-use Rattle.model.proofs.Below.{every-at, some-i}
-use Rattle.model.proofs.Rows.{some-row}
+use Rattle.words.proofs.Flags.{and-1, and-2, iff, imp-use}
+use Rattle.words.proofs.Below.{every-at, some-i}
+use Rattle.encoding.proofs.Rows.{some-row}
 
 module _ (S : Settings) (longs words marks : List ℕ) where
   abbrev lives : ℕ → Bool

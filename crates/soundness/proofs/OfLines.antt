@@ -8,12 +8,12 @@ use native.Mathlib.Omega.{arith}
 use lib.Dec.{eqb, leb}
 use borrow.Author.Tests.{eqb-true, le-leb}
 use Rattle.model.specs.declared.Settings.{Settings}
-use Rattle.model.specs.Words.{every}
+use Rattle.words.specs.Words.{every}
 use Rattle.model.specs.Lent.{tagAt, cycleAt, takenAt, nowAt}
 use Rattle.model.specs.SoundLent.{live, apart, lineFine}
 use Rattle.model.specs.Address.{goodBlock, setIndex}
-use Rattle.model.proofs.Flags.{and-1, and-2, and-i, iff}
-use Rattle.model.proofs.Rows.{every-row}
+use Rattle.words.proofs.Flags.{and-1, and-2, and-i, iff}
+use Rattle.encoding.proofs.Rows.{every-row}
 use Rattle.layout.proofs.Tests.{not-both}
 
 -- cycle 0 is no later than any

@@ -9,11 +9,11 @@ use lib.Dec.{eqb, leb}
 use lib.ListN.{getD}
 use borrow.Author.Tests.{eqb-true, eq-eqb, ne-eqb, le-leb}
 use Rattle.model.specs.declared.Settings.{Settings}
-use Rattle.model.specs.Words.{some, countBelow}
+use Rattle.words.specs.Words.{some, countBelow}
 use Rattle.model.specs.Address.{blockOf, sectorIndex, setIndex}
 use Rattle.model.specs.Lent.{tagAt, statusAt, missAt, sentAt, ticketCountAt, ticketAt}
 use Rattle.model.specs.SoundLent.{linesFine, entryFor, readFor, reservedFor, ticketFine, entryFine}
-use Rattle.model.proofs.Flags.{and-1, and-2, iff}
+use Rattle.words.proofs.Flags.{and-1, and-2, iff}
 use Rattle.layout.specs.declared.Layout.{Layout}
 use Rattle.layout.specs.Layout.{Placed}
 use Rattle.layout.proofs.Tests.{not-but}

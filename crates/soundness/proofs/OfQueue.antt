@@ -9,7 +9,7 @@ use lib.Dec.{eqb, leb}
 use lib.ListN.{getD}
 use borrow.Author.Tests.{lt-leb}
 use Rattle.model.specs.declared.Settings.{Settings}
-use Rattle.model.specs.Words.{some}
+use Rattle.words.specs.Words.{some}
 use Rattle.model.specs.Address.{goodBlock}
 use Rattle.model.specs.Lent.{queuedAt, kindAt, queueMaskAt}
 use Rattle.model.specs.SoundLent.{unsentFor, placeFine}

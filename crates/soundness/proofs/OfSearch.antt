@@ -5,10 +5,10 @@ use mathlib.Core.List.{List}
 use Prim.Native.Nat.{ℕ, zero, suc, _+_}
 use lib.ListN.{getD}
 use lib.Dec.{eqb}
-use Rattle.model.specs.Words.{some, countBelow}
+use Rattle.words.specs.Words.{some, countBelow}
 use Rattle.model.specs.SoundLent.{entryFor, unsentFor, readFor}
 use Rattle.model.specs.declared.Settings.{Settings}
-use Rattle.model.proofs.InUse.{count-short}
+use Rattle.encoding.proofs.InUse.{count-short}
 use Rattle.layout.specs.declared.Layout.{Layout}
 use Rattle.layout.specs.Layout.{Placed}
 use Rattle.soundness.specs.Queued.{Queued}

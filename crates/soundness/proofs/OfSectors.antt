@@ -8,12 +8,12 @@ use lib.Dec.{eqb, leb}
 use lib.ListN.{getD}
 use borrow.Author.Tests.{lt-leb}
 use Rattle.model.specs.declared.Settings.{Settings}
-use Rattle.model.specs.Words.{imp, every}
+use Rattle.words.specs.Words.{imp, every}
 use Rattle.model.specs.Sound.{allOnes}
 use Rattle.model.specs.Lent.{statusAt, maskAt, readableAt}
 use Rattle.model.specs.SoundLent.{sectorShape, sectorBacked}
-use Rattle.model.proofs.Flags.{or-1}
-use Rattle.model.proofs.Below.{every-at, every-i, every-same}
+use Rattle.words.proofs.Flags.{or-1}
+use Rattle.words.proofs.Below.{every-at, every-i, every-same}
 use Rattle.layout.specs.declared.Layout.{Layout}
 use Rattle.layout.specs.Layout.{Placed}
 use Rattle.soundness.specs.Shapes.{marksShape, maskShape}

@@ -9,14 +9,14 @@ use lib.ListN.{getD}
 use native.Mathlib.Omega.{arith}
 use borrow.Author.Tests.{le-ltb, eqb-true, eq-eqb, ne-eqb}
 use Rattle.model.specs.declared.Settings.{Settings}
-use Rattle.model.specs.Words.{pick, every, imp}
+use Rattle.words.specs.Words.{pick, every, imp}
 use Rattle.model.specs.Range.{linesOf, isTree}
 use Rattle.model.specs.Tree.{treeFine}
 use Rattle.model.specs.Sound.{lastCycle}
 use Rattle.model.specs.Lent.{nowAt, ticketCountAt, kindAt}
 use Rattle.model.specs.SoundLent.{gathered, nowFine, linesFine, sectorFine, ticketFine, entryFine, placeFine, soundNumbers, countFine, setFine}
-use Rattle.model.proofs.Flags.{and-1, and-2, and-false, and-true, not-yes, no-not, clash, imp-use}
-use Rattle.model.proofs.Below.{every-at}
+use Rattle.words.proofs.Flags.{and-1, and-2, and-false, and-true, not-yes, no-not, clash, imp-use}
+use Rattle.words.proofs.Below.{every-at}
 use Rattle.layout.specs.declared.Layout.{Layout}
 use Rattle.layout.specs.Layout.{Placed}
 use Rattle.layout.specs.Places.{First}

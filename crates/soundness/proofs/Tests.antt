@@ -6,9 +6,9 @@ use Prim.Native.Nat.{ℕ, zero, suc, _+_, _*_, _/_, _%_, _≤_, _<_}
 use native.Mathlib.Nat.{eq-or-lt-of-le}
 use native.Mathlib.Numerals.{add-one}
 use native.Mathlib.Omega.{arith}
-use Rattle.model.specs.Words.{every, some}
-use Rattle.model.proofs.Flags.{and-1, and-2, and-i, iff}
-use Rattle.model.proofs.Below.{every-at, every-i}
+use Rattle.words.specs.Words.{every, some}
+use Rattle.words.proofs.Flags.{and-1, and-2, and-i, iff}
+use Rattle.words.proofs.Below.{every-at, every-i}
 
 module _ (p : ℕ → Bool) where
   -- a loop that goes on behind a fault: b says that there was none

@@ -4,7 +4,7 @@ use Prim.Native.Nat.{ℕ}
 use mathlib.Core.Bool.{Bool, not, _&&_, _||_, Bool·beq}
 use mathlib.Core.List.{List}
 use lib.Dec.{eqb, leb}
-use Rattle.model.specs.Words.{imp}
+use Rattle.words.specs.Words.{imp}
 use Rattle.model.specs.Sound.{allOnes}
 use Rattle.model.specs.Lent.{statusAt, maskAt, readableAt}
 use Rattle.model.specs.declared.Settings.{Settings}

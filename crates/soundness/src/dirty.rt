@@ -1,7 +1,7 @@
 // Condition 26 of sound tables: the stored count is that of the lines with a MODIFIED sector. Only here the lines are counted.
 ghost use mathlib.Core.Path.{_≡_};
 ghost use Prim.Native.Nat.{_≤_, _<_};
-ghost use Rattle.model.specs.Words.{countBelow};
+ghost use Rattle.words.specs.Words.{countBelow};
 ghost use Rattle.model.specs.Range.{linesOf};
 ghost use Rattle.model.specs.Inner.{Fit};
 ghost use Rattle.model.specs.SoundLent as is;

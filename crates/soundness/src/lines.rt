@@ -5,7 +5,7 @@ ghost use mathlib.Core.Bool.{true, not};
 ghost use Prim.Native.Nat.{_+_, _*_, _-_, _≤_, _<_};
 ghost use lib.Dec.{eqb};
 ghost use lib.ListN.{length};
-ghost use Rattle.model.specs.Words.{every};
+ghost use Rattle.words.specs.Words.{every};
 ghost use Rattle.model.specs.Range.{linesOf};
 ghost use Rattle.model.specs.Inner.{Fit};
 ghost use Rattle.model.specs.Lent.{statusAt};
@@ -59,7 +59,7 @@ fn line_fine(s: Settings, at: Layout, longs: &[u64], words: &[u32], marks: &[u8]
         return (tag == 0) & (cycle == 0) & (taken == 0);
     }
     let set = l / s.ways;
-    let home = model::set_index(tag, s.sets);
+    let home = values::set_index(tag, s.sets);
     (tag % 128 == 0)
         & (tag < 0x1_0000_0000_0000)
         & (home == set)

@@ -2,7 +2,7 @@
 ghost use mathlib.Core.Path.{_≡_};
 ghost use mathlib.Core.Bool.{true};
 ghost use Prim.Native.Nat.{_+_, _*_, _<_};
-ghost use Rattle.model.specs.Words.{every, some};
+ghost use Rattle.words.specs.Words.{every, some};
 ghost use Rattle.model.specs.Address.{setIndex};
 ghost use Rattle.model.specs.Inner.{Fit};
 ghost use Rattle.model.specs.SoundLent as is;
@@ -13,8 +13,8 @@ use crate::search::reads_for;
 use layout::Layout;
 use model::SectorAddress;
 use model::Settings;
-use model::block_of;
-use model::sector_index;
+use values::block_of;
+use values::sector_index;
 
 // A line of the set of the address has its sector RESERVED. Such a line is live.
 fn set_reserves(s: Settings, longs: &[u64], words: &[u32], marks: &[u8], a: SectorAddress) -> bool
@@ -23,7 +23,7 @@ fn set_reserves(s: Settings, longs: &[u64], words: &[u32], marks: &[u8], a: Sect
 {
     let block = block_of(a.0);
     let sector = sector_index(a.0);
-    let first = model::set_index(a.0, s.sets) * s.ways;
+    let first = values::set_index(a.0, s.sets) * s.ways;
     let n = s.ways;
     let mut w = 0;
     while w < n {

@@ -1,7 +1,7 @@
 // Conditions 19, 21 to 23 and 25 of sound tables: the queue.
 ghost use mathlib.Core.Path.{_≡_};
 ghost use Prim.Native.Nat.{_<_};
-ghost use Rattle.model.specs.Words.{every};
+ghost use Rattle.words.specs.Words.{every};
 ghost use Rattle.model.specs.Inner.{Fit};
 ghost use Rattle.model.specs.SoundLent as is;
 ghost use Rattle.layout.specs.Layout.{Placed};

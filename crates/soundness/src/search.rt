@@ -1,7 +1,7 @@
 // An address looked for among the miss entries and the queue's reads. The address is compared first, since it seldom is the one.
 ghost use mathlib.Core.Path.{_≡_};
 ghost use Prim.Native.Nat.{_≤_};
-ghost use Rattle.model.specs.Words.{some, countBelow};
+ghost use Rattle.words.specs.Words.{some, countBelow};
 ghost use Rattle.model.specs.Inner.{Fit};
 ghost use Rattle.model.specs.SoundLent as is;
 ghost use Rattle.layout.specs.Layout.{Placed};

@@ -1,7 +1,7 @@
 // Condition 29 of sound tables: no tree has a bit beyond the nodes in use, and none has any under another rule.
 ghost use mathlib.Core.Path.{_≡_};
 ghost use Prim.Native.Nat.{_≤_, _<_};
-ghost use Rattle.model.specs.Words.{every};
+ghost use Rattle.words.specs.Words.{every};
 ghost use Rattle.model.specs.Inner.{Fit};
 ghost use Rattle.model.specs.SoundLent as is;
 ghost use Rattle.layout.specs.Layout.{Placed};

@@ -9,17 +9,17 @@ use native.Mathlib.Omega.{arith}
 use lib.ListN.{length, getD, set}
 use lib.Dec.{eqb, leb}
 use borrow.Author.Tests.{leb-true, eqb-true, eqb-false, eq-eqb, ne-eqb}
-use Rattle.model.specs.Words.{any, count, keep}
-use Rattle.model.specs.Regions.{dropped}
+use Rattle.words.specs.Words.{any, count, keep}
+use Rattle.words.specs.Regions.{dropped}
 use Rattle.model.specs.Tables.{Entry, Tables, entryFor, isFetch, idle, noEntry}
 use Rattle.model.specs.Sound.{unsentFor, queuedOk}
 use Rattle.model.specs.Steps.{mark, others, ticketsOf, sentFor}
 use Rattle.model.specs.declared.Settings.{Settings}
 use Rattle.model.specs.declared.Queued.{Queued}
-use Rattle.model.proofs.Flags.{and-1, and-2, flag, iff, clash}
-use Rattle.model.proofs.Lists.{any-in, in-any, in-index, in-getD, count-index}
+use Rattle.words.proofs.Flags.{and-1, and-2, flag, iff, clash}
+use Rattle.words.proofs.Lists.{any-in, in-any, in-index, in-getD, count-index}
 use Rattle.model.proofs.SoundFacts.{Sound, entry-at, queued-at, queued-parts, queued-unsent}
-use Rattle.model.proofs.Counting.{map-one}
+use Rattle.words.proofs.Counting.{map-one}
 use Rattle.tables.proofs.Ones.{keep-one}
 use Rattle.tables.proofs.Misses.{withSent}
 

@@ -9,10 +9,10 @@ use native.Mathlib.Omega.{arith}
 use lib.ListN.{length, getD, set, length-set}
 use lib.Dec.{eqb, ltb}
 use borrow.Author.Tests.{eqb-true, ltb-true, ltb-false}
-use Rattle.model.specs.Words.{fit, all, any, one, count}
+use Rattle.words.specs.Words.{fit, all, any, one, count}
 use Rattle.model.specs.Numbers.{statusNumber}
 use Rattle.model.specs.Range.{linesOf}
-use Rattle.model.specs.Regions.{region, put, closed}
+use Rattle.words.specs.Regions.{region, put, closed}
 use Rattle.model.specs.Address.{blockOf, sectorIndex, setIndex, goodBlock}
 use Rattle.model.specs.Tables.{Line, Entry, Tables, done, isInvalid, unused, holds, entryFor, noEntry, empty, fresh, withLines, withDirtyCount, dirty, dirtyLines}
 use Rattle.model.specs.Lent.{lent, sectorsAt}
@@ -26,10 +26,10 @@ use Rattle.model.specs.declared.Sector.{Sector}
 use Rattle.model.specs.declared.Refusal.the-variants.{NotSent}
 use Rattle.model.specs.declared.Event.the-variants as event
 use Rattle.model.specs.declared.Told.{Told}
-use Rattle.model.proofs.Flags.{and-1, and-2, not-yes, no-not, no-yes, flag, by-flag}
-use Rattle.model.proofs.Lists.{any-in, in-index, in-getD}
-use Rattle.model.proofs.Region.{length-region}
-use Rattle.model.proofs.Places.{take-fit}
+use Rattle.words.proofs.Flags.{and-1, and-2, not-yes, no-not, no-yes, flag, by-flag}
+use Rattle.words.proofs.Lists.{any-in, in-index, in-getD}
+use Rattle.words.proofs.Region.{length-region}
+use Rattle.words.proofs.Places.{take-fit}
 use Rattle.model.proofs.SoundFacts.{Sound, parts, lines-are, line-at, four-at, holder-one, entry-at, LeavesSound}
 use Rattle.layout.specs.declared.Layout.{Layout}
 use Rattle.layout.specs.Layout.{Placed}
@@ -46,7 +46,7 @@ use Rattle.tables.proofs.Tellings.{refusal-leaves, done-leaves}
 use Rattle.steps.specs.Parts.{Holding, arrivedAt, SectorFilled, LineFilled, releasing, CountFits, countAfter}
 use Rattle.steps.proofs.Entries.{few-misses, some-tickets, few-tickets, kept-others, tickets-are, sent-is}
 use Rattle.model.proofs.Keep.{fill-leaves as fill-sound}
-use Rattle.model.proofs.Counting.{recount, count-length, one-counted, map-one}
+use Rattle.words.proofs.Counting.{recount, count-length, one-counted, map-one}
 use Rattle.layout.proofs.DirtyCount.{dirty-count-at, dirty-count-stands}
 
 -- ---- one sector

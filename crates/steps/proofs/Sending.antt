@@ -8,7 +8,7 @@ use native.Mathlib.Omega.{arith}
 use lib.ListN.{length, getD, drop}
 use lib.Seq.{drop-cons}
 use borrow.Author.Tests.{eq-eqb}
-use Rattle.model.specs.Regions.{closed}
+use Rattle.words.specs.Regions.{closed}
 use Rattle.model.specs.Numbers.{queueKindNumber}
 use Rattle.model.specs.Tables.{isFetch, idle, Tables, withMisses}
 use Rattle.model.specs.Lent.{lent}
@@ -24,7 +24,7 @@ use Rattle.model.specs.declared.Event.{Event}
 use Rattle.model.specs.declared.Event.the-variants as event
 use Rattle.model.specs.declared.Told.{Told}
 use Rattle.model.proofs.SoundFacts.{Sound, parts}
-use Rattle.model.proofs.Shapes.{fetch-number}
+use Rattle.encoding.proofs.Shapes.{fetch-number}
 use Rattle.tables.specs.Raw.{frontAt}
 use Rattle.layout.specs.declared.Layout.{Layout}
 use Rattle.layout.specs.Layout.{Placed}

@@ -5,10 +5,10 @@ use mathlib.Core.Bool.{Bool, true, false, not, _&&_}
 use mathlib.Core.List.{List, [], _∷_}
 use lib.ListN.{length, getD, set, replicate}
 use lib.Dec.{eqb}
-use Rattle.model.specs.Words.{fit, one}
+use Rattle.words.specs.Words.{fit, one}
 use Rattle.model.specs.Range.{linesOf}
 use Rattle.model.specs.Lent.{sectorsAt}
-use Rattle.model.specs.Regions.{put}
+use Rattle.words.specs.Regions.{put}
 use Rattle.model.specs.Tables.{empty, idle}
 use Rattle.model.specs.Steps.{arrived}
 use Rattle.model.specs.declared.Settings.{Settings}

@@ -15,7 +15,7 @@ ghost use Prim.Native.Nat.{ℕ, _+_, _*_, _≤_, _<_};
 ghost use lib.ListN.{length, getD};
 ghost use lib.Dec.{eqb, ltb};
 ghost use Rattle.model.specs.Range.{linesOf};
-ghost use Rattle.model.specs.Regions.{region};
+ghost use Rattle.words.specs.Regions.{region};
 ghost use Rattle.model.specs.Address.{blockOf, sectorIndex, setIndex};
 ghost use Rattle.model.specs.Lent.{lent};
 ghost use Rattle.model.specs.Steps.{send, arrived, fill, tick};
@@ -61,7 +61,7 @@ pub fn send_step(
     let head = tables::front(at, longs, words, marks);
     mark_head(at, longs, marks, s.misses);
     tables::pop(at, longs, words, marks, n);
-    tables::blank(model::sent_event(head))
+    tables::blank(values::sent_event(head))
 }
 
 // ---- fill
@@ -126,10 +126,10 @@ fn fill_line(
         (now (words .exit)) (now (marks .exit)) ⌝ }
 {
     let ways = s.ways;
-    let set = model::set_index(address, s.sets);
-    let block = model::block_of(address);
+    let set = values::set_index(address, s.sets);
+    let block = values::block_of(address);
     let l = find_line(longs, marks, set * ways, ways, block);
-    fill_sector(s, at, words, marks, l, model::sector_index(address));
+    fill_sector(s, at, words, marks, l, values::sector_index(address));
 }
 
 // Whether entry `e` is one of the `n` that there are, and sent.

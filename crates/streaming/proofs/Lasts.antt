@@ -9,7 +9,7 @@ use borrow.Author.Tests.{not-true, not-false, lt-ltb, le-ltb, ltb-true, ltb-fals
 use lib.Dec.{ltb}
 use lib.ListN.{length, drop, getD, length-drop}
 use lib.Seq.{drop-cons, drop-drop, drop-length}
-use Rattle.model.proofs.Flags.{by-flag}
+use Rattle.words.proofs.Flags.{by-flag}
 use Rattle.model.specs.Records.{isCommand, lengthOf}
 use Rattle.streaming.specs.Scopes.{beforeLast}
 use Rattle.streaming.specs.Halts.{Alone}

@@ -5,7 +5,7 @@ use mathlib.Core.List.{List}
 use Prim.Native.Nat.{ℕ, _+_, _^_, _≤_}
 use native.Mathlib.Omega.{arith}
 use lib.ListN.{length, take}
-use Rattle.model.proofs.Flags.{by-flag}
+use Rattle.words.proofs.Flags.{by-flag}
 use Rattle.running.specs.Begin.{firstThere}
 use Rattle.input.specs.declared.Ended.{Ended}
 use Rattle.input.specs.Buffers.{Grown, turnsLeft}

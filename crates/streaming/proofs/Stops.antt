@@ -11,7 +11,7 @@ use borrow.Author.Tests.{le-ltb, ltb-true, ltb-false}
 use lib.Dec.{ltb}
 use lib.ListN.{length, take, drop, length-append}
 use lib.Seq.{length-take-le}
-use Rattle.model.specs.Words.{pick}
+use Rattle.words.specs.Words.{pick}
 use Rattle.model.specs.Tables.{Tables, after, eventsOf}
 use Rattle.model.specs.Records.{isCommand, isSettings, lengthOf, logBytes}
 use Rattle.model.specs.RunnerOf as runner
@@ -19,7 +19,7 @@ use Rattle.model.specs.Runner.{eventRoom, laterStop, goesOn, stepAt, Result, ha
 use Rattle.model.specs.declared.Settings.{Settings}
 use Rattle.model.specs.declared.Stop.{Stop}
 use Rattle.model.specs.declared.Stop.the-variants as stop
-use Rattle.model.proofs.Flags.{clash, by-flag, flag}
+use Rattle.words.proofs.Flags.{clash, by-flag, flag}
 use Rattle.records.proofs.Lengths.{body-short}
 use Rattle.running.proofs.Running.{going, from-stops, from-goes}
 use Rattle.streaming.specs.Scopes.{beforeLast}

@@ -8,8 +8,8 @@ use native.Mathlib.Nat.{zero-add, sub-zero, add-assoc, mod-lt, mod-eq-of-lt, mod
 use native.Mathlib.Omega.{arith}
 use lib.ListN.{length, take, drop, length-drop, length-append, take-append-drop}
 use lib.Seq.{length-take-le, take-append-le, drop-append-le}
-use Rattle.model.proofs.Flags.{clash}
-use Rattle.model.proofs.Bridge.{is-tables}
+use Rattle.words.proofs.Flags.{clash}
+use Rattle.encoding.proofs.Bridge.{is-tables}
 use Rattle.model.specs.Tables.{Tables}
 use Rattle.model.specs.Lent.{Lent}
 use Rattle.model.specs.Inner.{Is, Held}

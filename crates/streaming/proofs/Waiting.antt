@@ -11,7 +11,7 @@ use Rattle.model.specs.Runner.{eventRoom, Result, halt, runFrom}
 use Rattle.model.specs.declared.Settings.{Settings}
 use Rattle.model.specs.declared.Stop.{Stop}
 use Rattle.model.specs.declared.Stop.the-variants as stop
-use Rattle.model.proofs.Flags.{clash}
+use Rattle.words.proofs.Flags.{clash}
 use Rattle.running.proofs.Asked.{final}
 use Rattle.streaming.specs.declared.work.Next.the-variants as next
 use Rattle.streaming.specs.declared.scope.Scope.{Scope}

@@ -10,7 +10,7 @@ use borrow.Author.Tests.{le-leb, leb-true, ltb-true, ltb-false}
 use lib.Dec.{ltb, eqb}
 use lib.ListN.{length, take, drop}
 use lib.Seq.{drop-append-le, take-append-seam}
-use Rattle.model.proofs.Flags.{clash, by-flag, flag}
+use Rattle.words.proofs.Flags.{clash, by-flag, flag}
 use Rattle.model.proofs.Soundness.{start-sound}
 use Rattle.model.specs.Tables.{Tables, start}
 use Rattle.model.specs.Range.{inRange}

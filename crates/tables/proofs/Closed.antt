@@ -7,9 +7,9 @@ use native.Mathlib.Nat.{mul-add}
 use native.Mathlib.Omega.{arith}
 use lib.ListN.{length, take, drop, getD, set, replicate, length-drop, length-replicate}
 use lib.Seq.{paste, take-at, take-paste, drop-paste, drop-drop}
-use Rattle.model.specs.Regions.{region, put, closedUp}
-use Rattle.model.proofs.Region.{Closing, closing-start, closing-move, closing-zero, closing-done, length-closed, length-region}
-use Rattle.model.proofs.Places.{stride}
+use Rattle.words.specs.Regions.{region, put, closedUp}
+use Rattle.words.proofs.Region.{Closing, closing-start, closing-move, closing-zero, closing-done, length-closed, length-region}
+use Rattle.words.proofs.Places.{stride}
 
 -- the zeros behind what is left
 zeros-behind : (by : ℕ) (r : List ℕ) (m : ℕ) → m ≡ length r - by → take m (closedUp by r) ++ replicate by 0 ≡ closedUp by r

@@ -8,13 +8,13 @@ use native.Mathlib.Decide.{decLe}
 use native.Mathlib.Omega.{arith}
 use lib.ListN.{length, getD, set, drop, take, length-append}
 use lib.Seq.{take-take}
-use Rattle.model.specs.Words.{fit, places, joined}
-use Rattle.model.specs.Regions.{region, put, closed, dropped}
+use Rattle.words.specs.Words.{fit, places, joined}
+use Rattle.words.specs.Regions.{region, put, closed, dropped}
 use Rattle.model.specs.Tables.{Entry, Tables, withMisses}
 pub use Rattle.model.specs.Tables.{noEntry}
 use Rattle.model.specs.Lent.{bit, longBlocks, wordBlocks, markBlocks, missOf, sentOf, ticketCountOf, ticketsIn}
 use Rattle.model.specs.declared.Settings.{Settings}
-use Rattle.model.proofs.Places.{length-places, field-put, field-get, field-region, take-fit}
+use Rattle.words.proofs.Places.{length-places, field-put, field-get, field-region, take-fit}
 use Rattle.layout.specs.declared.Layout.{Layout}
 use Rattle.layout.specs.Layout.{Placed}
 use Rattle.layout.specs.Places.{First}

@@ -7,8 +7,8 @@ use Prim.Native.Nat.{ℕ, zero, suc, _<_}
 use native.Mathlib.Nat.{not-suc-le-zero, le-of-suc-le-suc}
 use native.Mathlib.Omega.{arith}
 use lib.ListN.{length, getD, set, drop}
-use Rattle.model.specs.Words.{places, keep}
-use Rattle.model.specs.Regions.{dropped}
+use Rattle.words.specs.Words.{places, keep}
+use Rattle.words.specs.Regions.{dropped}
 
 module _ {A : Type 0} where
   keep-all : (p : A → Bool) (d : A) (l : List A) → ((j : ℕ) → j < length l → p (getD l j d) ≡ true) → keep p l ≡ l

@@ -5,15 +5,15 @@ use Prim.Native.Nat.{ℕ, zero, suc, _+_, _*_, _≤_, _<_}
 use native.Mathlib.Nat.{le-of-suc-le-suc, not-suc-le-zero}
 use native.Mathlib.Omega.{arith}
 use lib.ListN.{length, getD, drop}
-use Rattle.model.specs.Words.{fit, places}
-use Rattle.model.specs.Regions.{put, closed, ahead}
+use Rattle.words.specs.Words.{fit, places}
+use Rattle.words.specs.Regions.{put, closed, ahead}
 use Rattle.model.specs.Tables.{idle, Tables, withQueue}
 use Rattle.model.specs.Numbers.{queueKindNumber, queueKindOf}
 use Rattle.model.specs.Lent.{longBlocks, wordBlocks, markBlocks, queuedOf, queueMasksOf, kindOf}
 use Rattle.model.specs.declared.Settings.{Settings}
 use Rattle.model.specs.declared.Queued.{Queued}
-use Rattle.model.proofs.Places.{length-places, field-get}
-use Rattle.model.proofs.Shapes.{kind-some, kind-back, queued-back}
+use Rattle.words.proofs.Places.{length-places, field-get}
+use Rattle.encoding.proofs.Shapes.{kind-some, kind-back, queued-back}
 use Rattle.tables.specs.Raw.{frontAt}
 use Rattle.layout.specs.declared.Layout.{Layout}
 use Rattle.layout.specs.Layout.{Placed}

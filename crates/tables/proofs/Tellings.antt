@@ -1,7 +1,7 @@
 -- What a value tells that has one event and no more: a refusal, or an outcome with that event.
 use mathlib.Core.Path.{_≡_, refl}
 use mathlib.Core.List.{List, [], _∷_}
-use Rattle.model.specs.Words.{fit}
+use Rattle.words.specs.Words.{fit}
 use Rattle.model.specs.Tables.{Tables, Outcome, refused, done}
 use Rattle.model.specs.Lent.{Lent, encode}
 use Rattle.model.specs.Calls.{encoded, eventsTold, tidied, Leaves}

@@ -10,7 +10,7 @@ use borrow.Author.Tests.{ltb-true}
 use lib.Dec.{ltb}
 use lib.ListN.{length, drop, getD, drop-of-length-le, List·getD-map}
 use lib.Seq.{drop-cons}
-use Rattle.model.proofs.Flags.{by-flag}
+use Rattle.words.proofs.Flags.{by-flag}
 use Rattle.text.specs.Words.{run, wordAt, sameText}
 use Rattle.text.specs.Digits.{decimal, Put}
 use Rattle.text.specs.Rules.{ruleNames, ruleFrom, ruleOf, ruleName}

@@ -10,8 +10,8 @@ use borrow.Author.Tests.{eqb-true, eq-eqb, ne-eqb, le-leb, lt-leb}
 use lib.ListN.{length, take, drop, getD, drop-of-length-le, length-drop}
 use lib.Seq.{drop-cons, take-nil}
 use lib.Dec.{eqb}
-use Rattle.model.proofs.Flags.{not-yes, no-not, and-1, and-2, and-i, iff}
-use Rattle.model.specs.Words.{pick}
+use Rattle.words.proofs.Flags.{not-yes, no-not, and-1, and-2, and-i, iff}
+use Rattle.words.specs.Words.{pick}
 use Rattle.text.specs.Words.{run, past, inWord, wordEnd, wordAt, partOf, sameText}
 
 module _ (p : ℕ → Bool) where

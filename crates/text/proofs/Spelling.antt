@@ -9,7 +9,7 @@ use native.Mathlib.Numerals.{add-one}
 use borrow.Author.Tests.{lt-ltb, le-ltb}
 use lib.ListN.{length, set, length-append, replicate}
 use lib.Seq.{sets, set-comm}
-use Rattle.model.specs.Words.{pick}
+use Rattle.words.specs.Words.{pick}
 use Rattle.text.specs.Digits.{glyphOf, digits, countFrom, digitCount, spelled}
 
 pub length-digits : (b k n : ℕ) → length (digits b k n) ≡ k

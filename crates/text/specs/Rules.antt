@@ -3,7 +3,7 @@ use Prim.Native.Nat.{ℕ, suc}
 use mathlib.Core.List.{List, [], _∷_}
 use lib.ListN.{length, getD}
 use lib.Dec.{ltb}
-use Rattle.model.specs.Words.{pick}
+use Rattle.words.specs.Words.{pick}
 use Rattle.text.specs.Words.{codes, sameText}
 use Rattle.text.specs.Digits.{decimal}
 use Rattle.text.specs.declared.rules.Named.{Named}

@@ -7,7 +7,7 @@ use native.Mathlib.Omega.{arith}
 use borrow.Author.Tests.{leb-true}
 use lib.Dec.{leb}
 use lib.ListN.{length, take, length-take}
-use Rattle.model.proofs.Flags.{by-flag, and-2}
+use Rattle.words.proofs.Flags.{by-flag, and-2}
 use Rattle.model.specs.Tables.{Tables}
 use Rattle.model.specs.Lent.{Lent}
 use Rattle.model.specs.Inner.{Held}

@@ -248,7 +248,7 @@ fn passed(t: Turn, ran: Ran, put: usize) -> Turn
         put,
         written: std::num::wrapping_add_u64(t.written, ran.written as u64),
         stop,
-        more: model::stop_number(stop) == 0,
+        more: values::stop_number(stop) == 0,
         lost: false,
     }
 }

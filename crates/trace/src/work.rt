@@ -255,7 +255,7 @@ pub(crate) fn trace_rest(
 
 fn put_last(rest: &[u8], w: Work, out: &mut [u8]) -> usize {
     let stop = w.stop;
-    let a = stops::put_number(b"stop ", model::stop_number(stop) as u64, out, 0);
+    let a = stops::put_number(b"stop ", values::stop_number(stop) as u64, out, 0);
     let b = stops::put_number(b" consumed ", w.consumed, out, a);
     let c = stops::put_number(b" written ", w.written, out, b);
     let d = text::put_text(b" (", out, c);

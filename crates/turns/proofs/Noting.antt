@@ -6,7 +6,7 @@ use mathlib.Core.List.{List, [], _∷_, _++_, map}
 use Prim.Native.Nat.{ℕ, _+_, _≤_}
 use native.Mathlib.Omega.{arith}
 use lib.ListN.{length, length-append, take}
-use Rattle.model.specs.Words.{pick, any}
+use Rattle.words.specs.Words.{pick, any}
 use Rattle.model.specs.Tables.{Outcome, refused, done, accepted, eventsOf}
 use Rattle.model.specs.Calls.{eventsTold}
 use Rattle.model.specs.RecordsOf as records
@@ -16,8 +16,8 @@ use Rattle.model.specs.Seen.{refusing}
 use Rattle.model.specs.declared.Event.{Event}
 use Rattle.model.specs.declared.Event.the-variants as event
 use Rattle.model.specs.declared.Told.{Told}
-use Rattle.model.proofs.Flags.{not-yes, no-not}
-use Rattle.model.proofs.Lists.{any-append}
+use Rattle.words.proofs.Flags.{not-yes, no-not}
+use Rattle.words.proofs.Lists.{any-append}
 use Rattle.model.proofs.SeenRounds.{Clear, unrefused, queued-clear}
 use Rattle.records.specs.Stores.{Stored, Laid}
 use Rattle.records.specs.Fitting.{AllFitting}

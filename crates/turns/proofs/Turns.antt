@@ -6,7 +6,7 @@ use Prim.Native.Nat.{ℕ, zero, suc, _+_, _≤_, _<_}
 use native.Mathlib.Nat.{not-suc-le-zero, le-of-suc-le-suc}
 use native.Mathlib.Omega.{arith}
 use lib.ListN.{length, getD}
-use Rattle.model.specs.Words.{pick}
+use Rattle.words.specs.Words.{pick}
 use Rattle.model.specs.Address.{maskOf}
 use Rattle.model.specs.Tables.{Entry, Tables, Outcome, refused, after}
 use Rattle.model.specs.Lent.{Lent, lent, bit}
@@ -22,8 +22,8 @@ use Rattle.model.specs.declared.Queued.{Queued}
 use Rattle.model.specs.declared.Access.{Access}
 use Rattle.model.specs.declared.Command.the-variants as cmd
 use Rattle.model.specs.declared.Told.{Told}
-use Rattle.model.proofs.Bridge.{does-tells, does-is}
-use Rattle.model.proofs.LentRounds.{took-left}
+use Rattle.encoding.proofs.Bridge.{does-tells, does-is}
+use Rattle.encoding.proofs.LentRounds.{took-left}
 use Rattle.model.proofs.SeenRounds.{Clear, unrefused, unrefused-too, send-clear, fill-clear, access-clear}
 use Rattle.model.proofs.SoundFacts.{parts}
 use Rattle.model.proofs.Soundness.{send-keeps-sound, fill-keeps-sound, access-keeps-sound}

@@ -1,7 +1,7 @@
 -- What a stream ends in, of the bytes from its last record on.
 use Prim.Native.Nat.{ℕ}
 use mathlib.Core.List.{List}
-use Rattle.model.specs.Words.{pick}
+use Rattle.words.specs.Words.{pick}
 use Rattle.model.specs.Records.{isCommand}
 use Rattle.model.specs.declared.Access.the-variants as access
 use Rattle.model.specs.declared.Command.{Command}

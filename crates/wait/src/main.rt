@@ -68,7 +68,7 @@ fn wait_rest(
         return;
     }
     let stop = w.stop;
-    if model::stop_number(stop) != 0 {
+    if values::stop_number(stop) != 0 {
         says::stopped(stop, text::front(buf, w.have), w.consumed);
         return;
     }

@@ -163,7 +163,7 @@ pub(crate) fn put_empty(out: &mut [u8]) -> usize {
 }
 
 pub(crate) fn put_stopped(stop: Stop, rest: &[u8], place: u64, out: &mut [u8]) -> usize {
-    let a = stops::put_number(b"stop ", model::stop_number(stop) as u64, out, 0);
+    let a = stops::put_number(b"stop ", values::stop_number(stop) as u64, out, 0);
     let b = stops::put_number(b" consumed ", place, out, a);
     let c = text::put_text(b" (", out, b);
     let d = stops::put_why(stop, rest, place, out, c);

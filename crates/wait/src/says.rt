@@ -74,7 +74,7 @@ pub(crate) fn stopped(stop: Stop, rest: &[u8], place: u64) {
 
 // With no byte there is no first record, and nothing has stopped.
 pub(crate) fn first_stop(stop: Stop, rest: &[u8]) {
-    if model::stop_number(stop) != 0 {
+    if values::stop_number(stop) != 0 {
         stopped(stop, rest, 0);
         return;
     }

@@ -3,7 +3,7 @@ use Prim.Native.Nat.{ℕ}
 use mathlib.Core.Path.{_≡_, sym, _∙_}
 use mathlib.Core.Bool.{Bool, true, false, not}
 use Rattle.model.specs.Range.{within, powerTo256}
-use Rattle.model.proofs.Flags.{not-yes, no-not}
+use Rattle.words.proofs.Flags.{not-yes, no-not}
 
 module _ (low high n : ℕ) {r : Bool} (e : r ≡ not (within low high n)) where
   pub is-inside : r ≡ false → within low high n ≡ true

@@ -1,7 +1,7 @@
 -- Which setting of a settings record is outside its range, in words.
 use Prim.Native.Nat.{ℕ}
 use mathlib.Core.List.{List, [], _∷_, _++_}
-use Rattle.model.specs.Words.{pick}
+use Rattle.words.specs.Words.{pick}
 use mathlib.Core.Bool.{not, _&&_}
 use lib.Dec.{eqb}
 use Rattle.model.specs.Range.{within, powerTo256}

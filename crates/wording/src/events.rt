@@ -18,7 +18,7 @@ fn put_refused(n: Refusal, out: &mut [u8], at: usize) -> usize
     ensures { λ r. ⌜ Puts (now (out .entry)) at (refusedWords n) r (now (out .exit)) ⌝ }
 {
     let a = text::put_text(b"refused ", out, at);
-    let b = text::put_decimal(model::refusal_number(n) as u64, out, a);
+    let b = text::put_decimal(values::refusal_number(n) as u64, out, a);
     let c = text::put_text(b" (", out, b);
     let d = listing::put_meaning(n, out, c);
     text::put_text(b")", out, d)

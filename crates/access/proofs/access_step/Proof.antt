@@ -2,8 +2,8 @@ use mathlib.Core.Path.{_≡_, sym, ap, _∙_}
 use borrow.Author.Needs.{needs}
 use Rattle.model.specs.declared.Refusal.{Refusal}
 use Rattle.model.specs.declared.Event.the-variants as event
-use Rattle.model.proofs.Flags.{not-yes, no-not}
-use Rattle.model.proofs.Bridge.{is-fit}
+use Rattle.words.proofs.Flags.{not-yes, no-not}
+use Rattle.encoding.proofs.Bridge.{is-fit}
 use Rattle.tables.specs.Telling.{telling}
 use Rattle.access.proofs.Offering.{formed-refused, spot-met, access-offered, access-stops}
 use Rattle.access.proofs.access_step.Statement.{statement}

@@ -5,7 +5,7 @@ use borrow.Author.Needs.{needs}
 use Rattle.model.specs.declared.Refusal.{Refusal}
 use Rattle.model.specs.declared.Event.the-variants as event
 use Rattle.model.specs.Address.{addressOf, setIndex}
-use Rattle.model.proofs.Bridge.{is-fit}
+use Rattle.encoding.proofs.Bridge.{is-fit}
 use Rattle.model.proofs.Turning.{set-below}
 use Rattle.layout.proofs.Room.{tree-room}
 use Rattle.tables.specs.Telling.{telling}

@@ -1,7 +1,7 @@
 -- Refusal 4, then the rounds.
 use mathlib.Core.Path.{sym, _∙_}
 use borrow.Author.Needs.{needs}
-use Rattle.model.proofs.Flags.{not-yes, no-not}
+use Rattle.words.proofs.Flags.{not-yes, no-not}
 use Rattle.rounds.proofs.Ends.{waits-rounds, waits-malformed}
 use Rattle.rounds.proofs.wait_checked.Statement.{statement}
 use Rattle.rounds.proofs.wait_checked.Tie as tie

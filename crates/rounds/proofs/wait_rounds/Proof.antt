@@ -4,7 +4,7 @@ use Prim.Native.Nat.{_-_}
 use native.Mathlib.Omega.{arith}
 use borrow.Author.Needs.{needs}
 use Rattle.model.specs.Lent.{lent}
-use Rattle.model.proofs.Flags.{not-yes, no-not}
+use Rattle.words.proofs.Flags.{not-yes, no-not}
 use Rattle.rounds.proofs.Settling.{Goes, goes-first, goes-held, goes-again, goes-accepted, held-fits, goes-held-end}
 use Rattle.rounds.proofs.wait_rounds.Statement.{statement}
 use Rattle.rounds.proofs.wait_rounds.Tie as tie

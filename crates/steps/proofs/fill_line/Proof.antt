@@ -4,7 +4,7 @@ use mathlib.Core.Path.{sym, subst}
 use native.Mathlib.Omega.{arith}
 use borrow.Author.Needs.{needs}
 use Rattle.model.specs.Address.{blockOf}
-use Rattle.model.proofs.Rows.{set-room}
+use Rattle.encoding.proofs.Rows.{set-room}
 use Rattle.steps.specs.Parts.{Holding}
 use Rattle.steps.proofs.Filling.{line-filled}
 use Rattle.steps.proofs.fill_line.Statement.{statement}

@@ -3,7 +3,7 @@ use mathlib.Core.Path.{_≡_, sym, subst}
 use mathlib.Core.List.{List}
 use Prim.Native.Nat.{_≤_}
 use lib.ListN.{getD}
-use Rattle.model.specs.Words.{one}
+use Rattle.words.specs.Words.{one}
 use Rattle.model.specs.declared.Sector.{Sector}
 use Rattle.layout.specs.Sectors.{someModified}
 use Rattle.steps.proofs.Filling.{sector-filled, was-fits}

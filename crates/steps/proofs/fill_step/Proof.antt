@@ -2,7 +2,7 @@
 use native.Mathlib.Nat.{mul-le-mul-left}
 use Rattle.steps.proofs.Filling.{count-fits, fill-refused, fill-inside, fill-count, fill-holding, fill-leaves}
 use Rattle.layout.proofs.Stands.{is-stands, stands-fit}
-use Rattle.model.proofs.Places.{stride}
+use Rattle.words.proofs.Places.{stride}
 use Rattle.model.proofs.SoundFacts.{parts}
 use native.Mathlib.Omega.{arith}
 use borrow.Author.Needs.{needs}

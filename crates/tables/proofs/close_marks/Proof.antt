@@ -2,7 +2,7 @@
 use Prim.Native.Nat.{_+_, _-_, _≤_}
 use native.Mathlib.Omega.{arith}
 use lib.ListN.{length-set}
-use Rattle.model.proofs.Region.{Closing}
+use Rattle.words.proofs.Region.{Closing}
 use Rattle.tables.proofs.Closed.{start-at, move-at, closing-last}
 use Rattle.tables.proofs.close_marks.Statement.{statement}
 use Rattle.tables.proofs.close_marks.Tie as tie

@@ -3,7 +3,7 @@ use mathlib.Core.Path.{_≡_, _∙_}
 use Prim.Native.Nat.{_+_, _*_, _-_, _≤_}
 use native.Mathlib.Omega.{arith}
 use lib.ListN.{length}
-use Rattle.model.proofs.Region.{Closing, closing-start, closing-move}
+use Rattle.words.proofs.Region.{Closing, closing-start, closing-move}
 use Rattle.tables.proofs.Closed.{rows, closing-rest}
 use Rattle.tables.proofs.close_words.Statement.{statement}
 use Rattle.tables.proofs.close_words.Tie as tie

@@ -2,9 +2,9 @@
 use Prim.Native.Nat.{_-_, _≤_}
 use native.Mathlib.Omega.{arith}
 use mathlib.Core.Path.{_≡_, _∙_}
-use Rattle.model.specs.Regions.{region}
-use Rattle.model.proofs.Region.{getD-region, length-region}
-use Rattle.model.proofs.Places.{Copying, copying-start, copying-turn, copying-done}
+use Rattle.words.specs.Regions.{region}
+use Rattle.words.proofs.Region.{getD-region, length-region}
+use Rattle.words.proofs.Places.{Copying, copying-start, copying-turn, copying-done}
 use Rattle.tables.proofs.copy_out.Statement.{statement}
 use Rattle.tables.proofs.copy_out.Tie as tie
 

@@ -3,7 +3,7 @@ use mathlib.Core.Path.{refl}
 use Prim.Native.Nat.{_+_, _*_, _-_, _≤_}
 use native.Mathlib.Omega.{arith}
 use lib.ListN.{length-set}
-use Rattle.model.proofs.Region.{Closing, closing-start, closing-move}
+use Rattle.words.proofs.Region.{Closing, closing-start, closing-move}
 use Rattle.tables.proofs.Closed.{closing-last, closing-four, closing-last-four}
 use Rattle.tables.proofs.pop.Statement.{statement}
 use Rattle.tables.proofs.pop.Tie as tie

@@ -2,7 +2,7 @@
 use mathlib.Core.Path.{ap, _∙_}
 use mathlib.Core.List.{List}
 use Prim.Native.Nat.{ℕ, _+_, _-_}
-use Rattle.model.specs.Regions.{closed}
+use Rattle.words.specs.Regions.{closed}
 use borrow.Author.Needs.{needs}
 use Rattle.tables.proofs.remove.Statement.{statement}
 use Rattle.tables.proofs.remove.Tie as tie

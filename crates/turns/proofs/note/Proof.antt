@@ -2,7 +2,7 @@
 use mathlib.Core.Path.{sym, _∙_}
 use native.Mathlib.Omega.{arith}
 use borrow.Author.Needs.{needs}
-use Rattle.model.proofs.Flags.{not-yes, no-not}
+use Rattle.words.proofs.Flags.{not-yes, no-not}
 use Rattle.records.proofs.Stores.{was-stored}
 use Rattle.turns.proofs.Noting.{noted-none, noted-stored}
 use Rattle.turns.proofs.note.Statement.{statement}

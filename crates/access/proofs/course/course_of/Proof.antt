@@ -1,8 +1,8 @@
 use mathlib.Core.Path.{_≡_, refl, sym, ap, _∙_}
 use native.Mathlib.Omega.{arith}
 use borrow.Author.Needs.{needs}
-use Rattle.model.proofs.Bridge.{is-fit}
-use Rattle.model.proofs.Flags.{not-yes, no-not}
+use Rattle.encoding.proofs.Bridge.{is-fit}
+use Rattle.words.proofs.Flags.{not-yes, no-not}
 use Rattle.access.proofs.Courses.{course-full, course-write, course-join, course-start, course-hit, merge-entered}
 use Rattle.access.proofs.course.course_of.Statement.{statement}
 use Rattle.access.proofs.course.course_of.Tie as tie
@@ -12,7 +12,7 @@ use Rattle.access.proofs.asked.is_read.Reads as is-read-reads
 use Rattle.access.proofs.course.join_course.Reads as join-course-reads
 use Rattle.access.proofs.course.places_needed.Reads as places-needed-reads
 use Rattle.access.proofs.course.start_course.Reads as start-course-reads
-use Rattle.model.proofs.address_of.Reads as address-of-reads
+use Rattle.values.proofs.address_of.Reads as address-of-reads
 
 pub course-of-spec : {M : Type 1} → statement M
 course-of-spec =

@@ -2,7 +2,7 @@ use mathlib.Core.Path.{_≡_, refl}
 use Prim.Native.Nat.{_≤_, _<_, _+_}
 use native.Mathlib.Omega.{arith}
 use borrow.Author.Needs.{needs}
-use Rattle.model.proofs.Bridge.{is-fit}
+use Rattle.encoding.proofs.Bridge.{is-fit}
 use Rattle.access.proofs.Plans.{found, joining-full, joining-room}
 use Rattle.access.proofs.course.join_course.Statement.{statement}
 use Rattle.access.proofs.course.join_course.Tie as tie

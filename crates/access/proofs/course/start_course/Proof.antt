@@ -2,7 +2,7 @@ use mathlib.Core.Path.{_≡_}
 use native.Mathlib.Omega.{arith}
 use borrow.Author.Needs.{needs}
 use borrow.Author.Tests.{le-leb, lt-leb}
-use Rattle.model.proofs.Bridge.{is-fit}
+use Rattle.encoding.proofs.Bridge.{is-fit}
 use Rattle.access.proofs.Plans.{misses-counted}
 use Rattle.access.proofs.course.start_course.Statement.{statement}
 use Rattle.access.proofs.course.start_course.Tie as tie

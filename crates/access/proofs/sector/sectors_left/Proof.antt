@@ -5,8 +5,8 @@ use Rattle.access.proofs.Sectors.{sectors-left}
 use Rattle.access.proofs.sector.sectors_left.Statement.{statement}
 use Rattle.access.proofs.sector.sectors_left.Tie as tie
 use Rattle.access.proofs.sector.changed.Reads as changed-reads
-use Rattle.model.proofs.address_of.Reads as address-of-reads
-use Rattle.model.proofs.sector_index.Reads as sector-index-reads
+use Rattle.values.proofs.address_of.Reads as address-of-reads
+use Rattle.values.proofs.sector_index.Reads as sector-index-reads
 
 pub sectors-left-spec : {M : Type 1} → statement M
 sectors-left-spec =

@@ -6,7 +6,7 @@ use native.Mathlib.Omega.{arith}
 use borrow.Author.Needs.{needs}
 use Rattle.model.specs.Address.{addressOf, setIndex}
 use Rattle.model.specs.Lent.{lent}
-use Rattle.model.proofs.Bridge.{is-fit}
+use Rattle.encoding.proofs.Bridge.{is-fit}
 use Rattle.model.proofs.Turning.{set-below}
 use Rattle.layout.proofs.Room.{taken-room, tree-room}
 use Rattle.access.specs.Written.{lineTaken, setTurned}

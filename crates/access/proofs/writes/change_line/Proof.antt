@@ -6,8 +6,8 @@ use Rattle.access.proofs.writes.change_line.Tie as tie
 use Rattle.access.proofs.sector.sectors_found.Reads as sectors-found-reads
 use Rattle.access.proofs.sector.sectors_left.Reads as sectors-left-reads
 use Rattle.access.proofs.writes.write_line.Reads as write-line-reads
-use Rattle.model.proofs.address_of.Reads as address-of-reads
-use Rattle.model.proofs.block_of.Reads as block-of-reads
+use Rattle.values.proofs.address_of.Reads as address-of-reads
+use Rattle.values.proofs.block_of.Reads as block-of-reads
 use Rattle.probe.proofs.is_dirty.Reads as is-dirty-reads
 
 pub change-line-spec : {M : Type 1} → statement M

@@ -4,7 +4,7 @@ use Prim.Native.Nat.{ℕ}
 use native.Mathlib.Omega.{arith}
 use borrow.Author.Needs.{needs}
 use Rattle.model.specs.Lent.{lent}
-use Rattle.model.proofs.Bridge.{is-fit}
+use Rattle.encoding.proofs.Bridge.{is-fit}
 use Rattle.access.proofs.Recounts.{count-few, was-counted}
 use Rattle.access.proofs.Kept.{touched}
 use Rattle.access.proofs.writes.leave_line.Statement.{statement}

@@ -2,7 +2,7 @@
 use mathlib.Core.Path.{_≡_, refl}
 use borrow.Author.Needs.{needs}
 use lib.ListN.{length}
-use Rattle.model.proofs.Flags.{clash}
+use Rattle.words.proofs.Flags.{clash}
 use Rattle.compare.specs.Lines.{PutWhere}
 use Rattle.compare.specs.Turns.{Ready}
 use Rattle.compare.proofs.Turning.{turnsLeft, goes-less}

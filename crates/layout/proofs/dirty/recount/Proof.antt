@@ -2,7 +2,7 @@ use borrow.Author.Needs.{needs}
 use mathlib.Core.Path.{ap, _∙_}
 use mathlib.Core.List.{List, [], _∷_}
 use Prim.Native.Nat.{ℕ}
-use Rattle.model.specs.Regions.{put}
+use Rattle.words.specs.Regions.{put}
 use Rattle.layout.proofs.Stores.{one-put}
 use Rattle.layout.proofs.dirty.recount.Statement.{statement}
 use Rattle.layout.proofs.dirty.recount.Tie as tie

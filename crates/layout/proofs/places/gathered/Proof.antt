@@ -4,8 +4,8 @@ use borrow.Author.Needs.{needs}
 use Prim.Native.Nat.{_+_, _-_}
 use lib.ListN.{getD}
 use lib.Dec.{eqb}
-use Rattle.model.specs.Words.{imp}
-use Rattle.model.proofs.Below.{Passed, passed-end}
+use Rattle.words.specs.Words.{imp}
+use Rattle.words.proofs.Below.{Passed, passed-end}
 use Rattle.layout.proofs.Tests.{fault-stop, fault-none, not-but}
 use Rattle.layout.proofs.places.gathered.Statement.{statement}
 use Rattle.layout.proofs.places.gathered.Tie as tie

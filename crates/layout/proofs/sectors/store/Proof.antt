@@ -1,6 +1,6 @@
 -- The three columns, one after the other.
 use Rattle.layout.specs.Sectors.{readables}
-use Rattle.model.specs.Regions.{put}
+use Rattle.words.specs.Regions.{put}
 use Prim.Native.Nat.{ℕ, _+_, _*_}
 use mathlib.Core.List.{List}
 use mathlib.Core.Path.{ap, _∙_}

@@ -2,7 +2,7 @@
 use mathlib.Core.Path.{_≡_, refl, sym, _∙_}
 use native.Mathlib.Omega.{arith}
 use lib.ListN.{length, length-map}
-use Rattle.model.proofs.Arrays.{words-length}
+use Rattle.words.proofs.Arrays.{words-length}
 use Rattle.records.proofs.Encoding.{any-room, any-end}
 use Rattle.records.proofs.Log.{queued-start, queued-turn, tickets-start}
 use Rattle.records.proofs.Begun.{access-begun}

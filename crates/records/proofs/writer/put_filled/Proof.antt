@@ -2,7 +2,7 @@
 use mathlib.Core.Path.{_≡_, sym, _∙_}
 use native.Mathlib.Omega.{arith}
 use lib.ListN.{length, length-map}
-use Rattle.model.proofs.Arrays.{words-length}
+use Rattle.words.proofs.Arrays.{words-length}
 use Rattle.records.proofs.Log.{queued-start}
 use Rattle.records.proofs.Begun.{fill-begun}
 use Rattle.records.proofs.Told.{told-laid}

@@ -5,7 +5,7 @@ use native.Mathlib.Omega.{arith}
 use lib.ListN.{length, length-map}
 use Rattle.model.specs.Records.{logBytes}
 use Rattle.model.specs.declared.Event.{Event}
-use Rattle.model.proofs.Arrays.{words-length}
+use Rattle.words.proofs.Arrays.{words-length}
 use Rattle.records.specs.Parts.{queuedTold}
 use Rattle.records.proofs.Told.{queued-least, told-length, told-laid}
 use borrow.Author.Needs.{needs}

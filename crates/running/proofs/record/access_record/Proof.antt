@@ -2,7 +2,7 @@
 use mathlib.Core.Path.{refl, sym}
 use native.Mathlib.Omega.{arith}
 use borrow.Author.Needs.{needs}
-use Rattle.model.proofs.ToldShapes.{access-shaped}
+use Rattle.encoding.proofs.ToldShapes.{access-shaped}
 use Rattle.running.proofs.Singles.{ready-room}
 use Rattle.running.proofs.Acting.{access-whole, access-runs}
 use Rattle.running.proofs.record.access_record.Statement.{statement}

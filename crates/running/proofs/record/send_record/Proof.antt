@@ -2,7 +2,7 @@
 use mathlib.Core.Path.{refl, sym}
 use native.Mathlib.Omega.{arith}
 use borrow.Author.Needs.{needs}
-use Rattle.model.proofs.ToldShapes.{send-shaped}
+use Rattle.encoding.proofs.ToldShapes.{send-shaped}
 use Rattle.running.proofs.Singles.{ready-room}
 use Rattle.running.proofs.Acting.{send-runs}
 use Rattle.running.proofs.record.send_record.Statement.{statement}

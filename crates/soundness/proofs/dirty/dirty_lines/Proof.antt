@@ -4,7 +4,7 @@ use native.Mathlib.Omega.{arith}
 use borrow.Author.Needs.{needs}
 use Rattle.model.specs.Range.{linesOf}
 use Rattle.model.specs.SoundLent.{dirtyLine}
-use Rattle.model.proofs.Below.{Counted, counted-start, counted-yes, counted-no, counted-end}
+use Rattle.words.proofs.Below.{Counted, counted-start, counted-yes, counted-no, counted-end}
 use Rattle.soundness.proofs.dirty.dirty_lines.Statement.{statement}
 use Rattle.soundness.proofs.dirty.dirty_lines.Tie as tie
 

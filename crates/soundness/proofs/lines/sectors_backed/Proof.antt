@@ -3,10 +3,10 @@ use mathlib.Core.Path.{refl}
 use native.Mathlib.Omega.{arith}
 use borrow.Author.Needs.{needs}
 use Prim.Native.Nat.{_+_, _-_, _*_}
-use Rattle.model.specs.Words.{every}
+use Rattle.words.specs.Words.{every}
 use Rattle.model.specs.Range.{linesOf}
 use Rattle.model.specs.SoundLent as is
-use Rattle.model.proofs.Below.{Passed, passed-stop, passed-more, passed-end}
+use Rattle.words.proofs.Below.{Passed, passed-stop, passed-more, passed-end}
 use Rattle.soundness.proofs.Tests.{sixteens-stop, sixteens-end}
 use Rattle.soundness.proofs.lines.sectors_backed.Statement.{statement}
 use Rattle.soundness.proofs.lines.sectors_backed.Tie as tie

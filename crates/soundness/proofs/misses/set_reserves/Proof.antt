@@ -6,11 +6,11 @@ use mathlib.Core.Bool.{_&&_}
 use Prim.Native.Nat.{ℕ, _-_, _+_, _*_, _/_, _%_, _≤_, _<_}
 use lib.Dec.{eqb}
 use lib.ListN.{length}
-use Rattle.model.specs.Words.{some}
+use Rattle.words.specs.Words.{some}
 use Rattle.model.specs.Lent.{tagAt, statusAt}
 use Rattle.model.specs.SoundLent.{reservedFor}
-use Rattle.model.proofs.Below.{Sought, sought-stop, sought-more, sought-end}
-use Rattle.model.proofs.Rows.{set-room}
+use Rattle.words.proofs.Below.{Sought, sought-stop, sought-more, sought-end}
+use Rattle.encoding.proofs.Rows.{set-room}
 use Rattle.soundness.proofs.OfMisses.{set-asked}
 use Rattle.soundness.proofs.misses.set_reserves.Statement.{statement}
 use Rattle.soundness.proofs.misses.set_reserves.Tie as tie

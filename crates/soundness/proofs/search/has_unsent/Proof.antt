@@ -6,8 +6,8 @@ use native.Mathlib.Omega.{arith}
 use borrow.Author.Needs.{needs}
 use borrow.Author.Tests.{eq-eqb, ne-eqb}
 use Prim.Native.Nat.{_-_}
-use Rattle.model.proofs.Flags.{and-false}
-use Rattle.model.proofs.Below.{Sought, sought-stop, sought-more, sought-end}
+use Rattle.words.proofs.Flags.{and-false}
+use Rattle.words.proofs.Below.{Sought, sought-stop, sought-more, sought-end}
 use Rattle.soundness.proofs.OfSearch.{unsentRead, unsent-sought}
 use Rattle.soundness.proofs.search.has_unsent.Statement.{statement}
 use Rattle.soundness.proofs.search.has_unsent.Tie as tie

@@ -6,8 +6,8 @@ use native.Mathlib.Omega.{arith}
 use borrow.Author.Needs.{needs}
 use borrow.Author.Tests.{eq-eqb, ne-eqb}
 use Prim.Native.Nat.{_-_}
-use Rattle.model.proofs.Flags.{and-false}
-use Rattle.model.proofs.Below.{Counted, counted-yes, counted-no, counted-end}
+use Rattle.words.proofs.Flags.{and-false}
+use Rattle.words.proofs.Below.{Counted, counted-yes, counted-no, counted-end}
 use Rattle.soundness.proofs.OfSearch.{readRead, read-counted, read-queued}
 use Rattle.soundness.proofs.search.reads_for.Statement.{statement}
 use Rattle.soundness.proofs.search.reads_for.Tie as tie

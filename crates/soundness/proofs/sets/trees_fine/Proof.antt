@@ -3,7 +3,7 @@ use native.Mathlib.Omega.{arith}
 use borrow.Author.Needs.{needs}
 use Prim.Native.Nat.{_-_}
 use Rattle.model.specs.SoundLent as is
-use Rattle.model.proofs.Below.{Passed, passed-stop, passed-more, passed-end}
+use Rattle.words.proofs.Below.{Passed, passed-stop, passed-more, passed-end}
 use Rattle.soundness.proofs.sets.trees_fine.Statement.{statement}
 use Rattle.soundness.proofs.sets.trees_fine.Tie as tie
 

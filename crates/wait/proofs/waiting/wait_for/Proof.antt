@@ -1,7 +1,7 @@
 -- Refusal 4, then the rounds.
 use mathlib.Core.Path.{sym, _∙_}
 use borrow.Author.Needs.{needs}
-use Rattle.model.proofs.Flags.{not-yes, no-not}
+use Rattle.words.proofs.Flags.{not-yes, no-not}
 use Rattle.wait.proofs.Verdicts.{ends-malformed}
 use Rattle.wait.proofs.waiting.wait_for.Statement.{statement}
 use Rattle.wait.proofs.waiting.wait_for.Tie as tie

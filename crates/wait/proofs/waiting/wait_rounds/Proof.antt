@@ -4,7 +4,7 @@ use Prim.Native.Nat.{_-_}
 use native.Mathlib.Omega.{arith}
 use borrow.Author.Needs.{needs}
 use Rattle.model.specs.Lent.{lent}
-use Rattle.model.proofs.Flags.{not-yes, no-not}
+use Rattle.words.proofs.Flags.{not-yes, no-not}
 use Rattle.rounds.proofs.Settling.{Goes, goes-first, goes-held, goes-again}
 use Rattle.wait.proofs.Verdicts.{ends-accepted, ends-held}
 use Rattle.wait.proofs.waiting.wait_rounds.Statement.{statement}

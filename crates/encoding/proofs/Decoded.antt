@@ -1,0 +1,332 @@
+-- Sound slices: tables that stand in them are sound, and those that are read off them do stand in them.
+use mathlib.Core.Path.{_≡_, refl, sym, ap, _∙_}
+use mathlib.Core.Logic.{_⊎_, ⊎-elim}
+use mathlib.Core.Bool.{Bool, true, false}
+use mathlib.Core.List.{List, map}
+use Prim.Native.Nat.{ℕ, zero, suc, _+_, _*_, _-_, _/_, _%_, _^_, _≤_, _<_}
+use native.Mathlib.Nat.{add-zero, mul-comm, mul-add-mod-self-left, mod-eq-of-lt}
+use native.Mathlib.Omega.{arith}
+use lib.Dec.{eqb}
+use lib.ListN.{length, getD, List·getD-eq-default}
+use borrow.Author.Tests.{eqb-true, eq-eqb}
+use Rattle.model.specs.declared.Settings.{Settings}
+use Rattle.model.specs.declared.Queued.{Queued}
+use Rattle.model.specs.declared.Sector.{Sector}
+use Rattle.words.specs.Words.{pick, table, some}
+use Rattle.model.specs.Numbers.{statusNumber, statusOf, queueKindNumber, queueKindOf}
+use Rattle.model.specs.Range.{linesOf}
+use Rattle.model.specs.Address.{blockOf, sectorIndex, setIndex}
+use Rattle.model.specs.Tables.{Line, Entry, Tables, isReserved, unused, entryFor, idle, fresh, noEntry}
+use Rattle.model.specs.Layout.{wordsFrom, queueMaskRegion}
+use Rattle.model.specs.Lent.{Lent, bit, tagOf, cycleOf, masksOf, statusesOf, readablesOf, missOf, sentOf, ticketCountOf, ticketsIn, queuedOf, kindOf, queueMasksOf, inUse, sectorAt, sectorsAt, lineAt, entryAt, queueAt, tablesOf, takenOf, treeOf}
+pub use Rattle.model.specs.SoundLent.{Small}
+use Rattle.words.proofs.Flags.{by-flag, not-yes, not-no, clash, iff}
+use Rattle.words.proofs.Below.{some-at, some-i}
+use Rattle.encoding.proofs.Rows.{row-of}
+use Rattle.words.proofs.Places.{stride}
+use Rattle.words.proofs.Tabled.{any-get, length-table, getD-table}
+use Rattle.encoding.proofs.InUse.{lt-or-ge, squeeze, in-use-few, below-used, free-past}
+use Rattle.encoding.proofs.Facts.{tag, status, mask, readable, miss, sent, ticketCount, ticket, queued, kind, queueMask, Live, Used, SoundIs, tree}
+use Rattle.encoding.proofs.Standing.{field, field-in, field-out, Stands}
+use Rattle.encoding.proofs.Shapes.{line, sector, entry, place, addressIn, kindIn, maskIn, Shape, reserved-number, tag-is, cycle-is, taken-is, tree-is, status-is, mask-is, readable-is, live-is, dirty-counts, miss-is, sent-is, entry-in, in-entry, kind-in, queued-in, queue-mask-is, reads-are}
+use Rattle.encoding.proofs.Soundly.{Lives, SectorOk, LineOk, Alone, Agrees, EntryOk, QueuedOk, Soundly, bit-clear}
+
+module _ (S : Settings) (L : Lent) (is : SoundIs S L) where
+  -- a tag is on one live line only
+  one-line : (l k : ℕ) → l < linesOf S → k < linesOf S → Live S L l → Live S L k → tag S L l ≡ tag S L k → l ≡ k
+  one-line l k hl hk vl vk e =
+      let p : l / S .ways ≡ k / S .ways = sym (is .lines l hl .home vl) ∙ ap (setIndex S) e ∙ is .lines k hk .home vk in
+      squeeze l k (λ h. is .lines k hk .alone vk l h p vl e) (λ h. is .lines l hl .alone vl k h (sym p) vk (sym e))
+
+  -- an address is in one used entry only
+  one-entry : (d e : ℕ) → d < S .misses → e < S .misses → Used S L d → Used S L e → miss S L d ≡ miss S L e → d ≡ e
+  one-entry d e hd he ud ue q = squeeze d e (λ h. is .entries e he .alone ue d h ud q) (λ h. is .entries d hd .alone ud e h ue (sym q))
+
+-- ---- tables that stand in them
+
+module _ (S : Settings) (L : Lent) (t : Tables) (st : Stands S L t) (sh : Shape S t) (is : SoundIs S L) (small : Small L) where
+  live-i : (l : ℕ) → l < linesOf S → Lives S t l → Live S L l
+  live-i l h v = live-is S L t st sh l h ∙ not-no v
+
+  lives : (l : ℕ) → l < linesOf S → Live S L l → Lives S t l
+  lives l h v = not-yes {b = unused (line t l)} (sym (live-is S L t st sh l h) ∙ v)
+
+  in-lines : (l : ℕ) → l < length (t .lines) → l < linesOf S
+  in-lines l h = let e = sh .size in omega arith
+
+  sector-ok : (l k : ℕ) → l < linesOf S → k < 4 → SectorOk (statusNumber (sector t l k .status)) (sector t l k .mask) (bit (sector t l k .readable))
+  sector-ok l k h j =
+      let f = is .sectors (4 * l + k) (omega arith) in
+      let x = status-is S L t st sh l k h j in
+      let m = mask-is S L t st sh l k h j in
+      let r = readable-is S L t st sh l k h j in
+      record {
+        small = rw m at (small (1 + linesOf S + (4 * l + k)));
+        clean = λ c. sym m ∙ f .clean (rw x c);
+        dirty = λ c z. f .dirty (x ∙ c) (m ∙ z);
+        unreadable = λ z. let w = f .unreadable (r ∙ z) in (sym x ∙ w .0, λ q. w .1 (m ∙ q));
+      }
+
+  line-ok : (l : ℕ) → l < linesOf S → LineOk S t l
+  line-ok l h =
+      let f = is .lines l h in
+      let a = tag-is S L t st sh l h in
+      let c = cycle-is S L t st sh l h in
+      let k = taken-is S L t st sh l h in
+      record {
+        four = sh .fours l h;
+        sectors = λ k j. sector-ok l k h j;
+        past = rw (c, st .time) at (f .past);
+        since = rw (k, c) at (f .since);
+        dead = λ u. let z = f .dead (λ v. clash u (lives l h v)) in ((sym a ∙ z .0 .0, sym c ∙ z .0 .1), sym k ∙ z .1);
+        block = λ v. rw a at (f .block (live-i l h v));
+        home = λ v. rw a at (f .home (live-i l h v));
+      }
+
+  alone : (l : ℕ) → l < linesOf S → Alone S t l
+  alone l h v m k u e =
+      let b = in-lines m k in
+      one-line S L is m l b h (live-i m b u) (live-i l h v) (tag-is S L t st sh m b ∙ e ∙ sym (tag-is S L t st sh l h))
+
+  -- a sector of a line that lives is RESERVED exactly if an entry has its address
+  agrees : (l : ℕ) → l < linesOf S → Agrees S t l
+  agrees l h v k j = iff to fro ∙ sym (any-get (entryFor (line t l .tag + 32 * k)) (t .misses) noEntry)
+    where
+      to : isReserved (sector t l k .status) ≡ true → some (length (t .misses)) (λ e. entryFor (line t l .tag + 32 * k) (entry t e)) ≡ true
+      to r =
+          let q : status S L (4 * l + k) ≡ 1 = status-is S L t st sh l k h j ∙ eqb-true _ _ (reserved-number (sector t l k .status) ∙ r) in
+          let (e, b, (u, a)) = is .sectors (4 * l + k) (omega arith) .backed q in
+          let x : (4 * l + k) / 4 ≡ l = omega arith in
+          let y : (4 * l + k) % 4 ≡ k = omega arith in
+          let z : miss S L e ≡ tag S L l + 32 * k = rw (x, y) at a in
+          some-i (λ e. entryFor (line t l .tag + 32 * k) (entry t e)) (length (t .misses)) e (entry-in S L t st sh e b u)
+          (eq-eqb _ _ (sym (miss-is S L t st sh e b) ∙ z ∙ ap (λ (n : ℕ). n + 32 * k) (tag-is S L t st sh l h)))
+
+      fro : some (length (t .misses)) (λ e. entryFor (line t l .tag + 32 * k) (entry t e)) ≡ true → isReserved (sector t l k .status) ≡ true
+      fro s =
+          let (e, i, q) = some-at (λ e. entryFor (line t l .tag + 32 * k) (entry t e)) (length (t .misses)) s in
+          let b : e < S .misses = omega (arith, sh .few) in
+          let a : miss S L e ≡ tag S L l + 32 * k =
+          miss-is S L t st sh e b ∙ eqb-true _ _ q ∙ ap (λ (n : ℕ). n + 32 * k) (sym (tag-is S L t st sh l h)) in
+          let (n, c, w) = is .entries e b .backed (in-entry S L t st sh e i) in
+          let even : tag S L l % 128 ≡ 0 = is .lines l h .block (live-i l h v) .even in
+          let same : tag S L n ≡ tag S L l = w .has ∙ omega arith in
+          let k-is : sectorIndex (miss S L e) ≡ k = omega arith in
+          let n-is : n ≡ l = one-line S L is n l c h (w .lives) (live-i l h v) same in
+          let waits : status S L (4 * l + k) ≡ 1 = rw (n-is, k-is) at (w .waits) in
+          sym (reserved-number (sector t l k .status)) ∙ eq-eqb _ _ (sym (status-is S L t st sh l k h j) ∙ waits)
+
+  -- ---- entries and the queue
+
+  entry-ok : (e : ℕ) → e < length (t .misses) → EntryOk S t e
+  entry-ok e i =
+      let b : e < S .misses = omega (arith, sh .few) in
+      let u = in-entry S L t st sh e i in
+      let f = is .entries e b in
+      let a = miss-is S L t st sh e b in
+      let (l, h, w) = f .backed u in
+      let low : tag S L l < 2 ^ 48 = is .lines l h .block (w .lives) .low in
+      let even : tag S L l % 128 ≡ 0 = is .lines l h .block (w .lives) .even in
+      let has : tag S L l ≡ blockOf (miss S L e) = w .has in
+      record {
+        even = rw a at (f .even u);
+        low = rw a at (below (miss S L e) (tag S L l) low even has);
+        home = (l, omega (arith, sh .size), (lives l h (w .lives), sym (tag-is S L t st sh l h) ∙ rw a at has));
+        alone = λ d k q.
+            let c : d < S .misses = omega (arith, sh .few) in
+            one-entry S L is d e c b (in-entry S L t st sh d k) u (miss-is S L t st sh d c ∙ q ∙ sym a);
+        held = sh .held e i;
+        short = sh .short e i;
+        asked = λ s. sym (reads-are S L t st sh (entry t e .address)) ∙ rw a at (f .asked u (sent-is S L t st sh e b ∙ ap bit s));
+      }
+    where
+      below : (a b : ℕ) → b < 2 ^ 48 → b % 128 ≡ 0 → b ≡ blockOf a → a < 2 ^ 48
+      below a b low even has = omega arith
+
+  queued-ok : (p : ℕ) → p < length (t .queue) → QueuedOk S t (place t p)
+  queued-ok p l =
+      let h : p < S .queue = omega (arith, sh .deep) in
+      let f = is .places p h in
+      let a = queued-in S L t st sh p l in
+      let n = kind-in S L t st sh p l in
+      record {
+        backed = λ q.
+            let (e, b, w) = f .backed (n ∙ q) in (
+              e,
+              entry-in S L t st sh e b (w .used),
+              (sym (miss-is S L t st sh e b) ∙ w .has ∙ a, bit-clear (entry t e .sent) (sym (sent-is S L t st sh e b) ∙ w .waits)),
+            );
+        bare = λ q k j. sym (queue-mask-is S L t st sh p k h j) ∙ f .bare (omega arith) k j;
+        block = λ q. rw a at (f .block (n ∙ q));
+        masked = sh .masked p l;
+        small = λ k j. rw (queue-mask-is S L t st sh p k h j) at (small (wordsFrom S queueMaskRegion + (4 * p + k)));
+        dirty = λ q. let (k, j, d) = f .dirty (n ∙ q) in (k, j, λ z. d (queue-mask-is S L t st sh p k h j ∙ z));
+      }
+
+  pub stands-soundly : Soundly S t
+  stands-soundly = record {
+    size = sh .size;
+    time = rw (st .time) at (is .time);
+    lines = line-ok;
+    alone = alone;
+    agrees = agrees;
+    entries = entry-ok;
+    queue = queued-ok;
+    few = sh .few;
+    deep = sh .deep;
+    counted = sym (st .count) ∙ is .counted ∙ dirty-counts S L t st sh;
+    treed = sh .treed;
+    turned = λ i h. let j : i < S .sets = rw (sh .treed) at h in rw (tree-is S L t st sh i j) at (is .trees i j);
+  }
+
+-- ---- the tables that are read off
+
+module _ {A : Type 0} (g : A → List ℕ) (n : ℕ) (f : ℕ → A) (e k : ℕ) where
+  field-table : e < n → field g (table n f) e k ≡ getD (g (f e)) k 0
+  field-table h = field-in g (table n f) (f e) e k (rw length-table h) ∙ ap (λ (x : A). getD (g x) k 0) (getD-table n f e (f e) h)
+
+  field-past : n ≤ e → field g (table n f) e k ≡ 0
+  field-past h = field-out g (table n f) e k (rw length-table h)
+
+number-back : (n : ℕ) → n ≤ 3 → n ≡ statusNumber (statusOf n)
+number-back zero h = refl
+number-back (suc zero) h = refl
+number-back (suc (suc zero)) h = refl
+number-back (suc (suc (suc zero))) h = refl
+number-back (suc (suc (suc (suc n)))) h = absurd (omega arith)
+
+mark-back : (n : ℕ) → n ≤ 1 → n ≡ bit (eqb n 1)
+mark-back zero h = refl
+mark-back (suc zero) h = refl
+mark-back (suc (suc n)) h = absurd (omega arith)
+
+sectors-at : (f : Sector → ℕ) (S : Settings) (words marks : List ℕ) (l k : ℕ) → k < 4
+    → f (sectorAt S words marks (4 * l + k)) ≡ getD (map f (sectorsAt S words marks l)) k 0
+sectors-at f S words marks l zero h = rw add-zero
+sectors-at f S words marks l (suc zero) h = refl
+sectors-at f S words marks l (suc (suc zero)) h = refl
+sectors-at f S words marks l (suc (suc (suc zero))) h = refl
+sectors-at f S words marks l (suc (suc (suc (suc k)))) h = absurd (omega arith)
+
+-- a kind by its number
+kind-made : (k : ℕ) → k ≤ 2 → (k ≡ 0 → ⊥) → k ≡ queueKindNumber (queueKindOf k)
+kind-made zero h f = absurd (f refl)
+kind-made (suc zero) h f = refl
+kind-made (suc (suc zero)) h f = refl
+kind-made (suc (suc (suc k))) h f = absurd (omega arith)
+
+module _ (S : Settings) (L : Lent) (is : SoundIs S L) where
+  abbrev few : ℕ
+  few = inUse (S .misses) (ticketCount S L)
+
+  abbrev deep : ℕ
+  deep = inUse (S .queue) (kind S L)
+
+  free-entry : (e : ℕ) → e < S .misses → few ≤ e → ticketCount S L e ≡ 0
+  free-entry e h k = free-past (ticketCount S L) (S .misses) e (is .entries-first) h k
+
+  free-place : (p : ℕ) → p < S .queue → deep ≤ p → kind S L p ≡ 0
+  free-place p h k = free-past (kind S L) (S .queue) p (is .places-first) h k
+
+  used-place : (p : ℕ) → p < deep → (p < S .queue) × (kind S L p ≡ 0 → ⊥)
+  used-place p h = below-used (kind S L) (S .queue) p (is .places-first) h
+
+  abbrev lineOf : ℕ → Line
+  lineOf = lineAt S (L .longs) (L .words) (L .marks)
+
+  -- place k of the tickets of entry e, past them 0
+  ticket-past : 1 ≤ S .readers → (e k : ℕ) → e < S .misses → k < S .readers → ticketCount S L e ≤ k → ticket S L (S .readers * e + k) ≡ 0
+  ticket-past pos e k h j c =
+      let x : (S .readers * e + k) / S .readers ≡ e = ap (λ (n : ℕ). (n + k) / S .readers) (mul-comm (S .readers) e) ∙ row-of (S .readers) pos e k j in
+      let y : (S .readers * e + k) % S .readers ≡ k = mul-add-mod-self-left (S .readers) e k ∙ mod-eq-of-lt j in
+      let b = stride (S .readers) (S .misses) e h in
+      is .tickets (S .readers * e + k) (omega arith) (rw (x, y) c)
+
+  ticket-at : 1 ≤ S .readers → (e k : ℕ) → e < S .misses → k < S .readers
+      → ticket S L (S .readers * e + k) ≡ getD (table (ticketCount S L e) (λ j. ticket S L (S .readers * e + j))) k 0
+  ticket-at pos e k h j =
+      ⊎-elim
+      (λ c. sym (getD-table (ticketCount S L e) (λ j. ticket S L (S .readers * e + j)) k 0 c))
+      (λ c. ticket-past pos e k h j c ∙ sym (List·getD-eq-default (table (ticketCount S L e) (λ j. ticket S L (S .readers * e + j))) 0 (rw length-table c)))
+      (lt-or-ge k (ticketCount S L e))
+
+  -- numbers of the entries and of the queue: those in use and, past them, zeros
+  of-entries : (g : Entry → List ℕ) (k e : ℕ) {n : ℕ} → e < S .misses → n ≡ getD (g (entryAt S L e)) k 0 → (ticketCount S L e ≡ 0 → n ≡ 0)
+      → n ≡ field g (table few (entryAt S L)) e k
+  of-entries g k e h p z =
+      ⊎-elim
+      (λ l. p ∙ sym (field-table g few (entryAt S L) e k l))
+      (λ o. z (free-entry e h o) ∙ sym (field-past g few (entryAt S L) e k o))
+      (lt-or-ge e few)
+
+  of-queue : (g : Queued → List ℕ) (k p : ℕ) {n : ℕ} → p < S .queue
+      → ((kind S L p ≡ 0 → ⊥) → n ≡ getD (g (queueAt S L p)) k 0) → (kind S L p ≡ 0 → n ≡ 0)
+      → n ≡ field g (table deep (queueAt S L)) p k
+  of-queue g k p h f z =
+      ⊎-elim
+      (λ l. f (used-place p l .1) ∙ sym (field-table g deep (queueAt S L) p k l))
+      (λ o. z (free-place p h o) ∙ sym (field-past g deep (queueAt S L) p k o))
+      (lt-or-ge p deep)
+
+  pub read-stands : 1 ≤ S .readers → Stands S L (tablesOf S L)
+  unfolding tablesOf
+  read-stands pos = record {
+    tags = λ l h. sym (field-table tagOf (linesOf S) lineOf l 0 h);
+    cycles = λ l h. sym (field-table cycleOf (linesOf S) lineOf l 0 h);
+    takens = λ l h. sym (field-table takenOf (linesOf S) lineOf l 0 h);
+    statuses = λ l k h j.
+        number-back (status S L (4 * l + k)) (is .sectors (4 * l + k) (omega arith) .known)
+        ∙ sectors-at (λ s. statusNumber (s .status)) S (L .words) (L .marks) l k j
+        ∙ sym (field-table statusesOf (linesOf S) lineOf l k h);
+    masks = λ l k h j. sectors-at (λ s. s .mask) S (L .words) (L .marks) l k j ∙ sym (field-table masksOf (linesOf S) lineOf l k h);
+    readables = λ l k h j.
+        mark-back (readable S L (4 * l + k)) (is .sectors (4 * l + k) (omega arith) .mark)
+        ∙ sectors-at (λ s. bit (s .readable)) S (L .words) (L .marks) l k j
+        ∙ sym (field-table readablesOf (linesOf S) lineOf l k h);
+    misses = λ e h. of-entries missOf 0 e h refl (λ z. is .entries e h .blank z .0);
+    sents = λ e h. of-entries sentOf 0 e h (mark-back (sent S L e) (is .entries e h .mark)) (λ z. is .entries e h .blank z .1);
+    ticket-counts = λ e h. of-entries ticketCountOf 0 e h (sym (length-table (ticketCount S L e) (λ j. ticket S L (S .readers * e + j)))) (λ z. z);
+    tickets = λ e k h j. of-entries ticketsIn k e h (ticket-at pos e k h j) (λ z. ticket-past pos e k h j (omega arith));
+    queue = λ p h. of-queue queuedOf 0 p h (λ u. refl) (λ z. is .places p h .blank z);
+    kinds = λ p h. of-queue kindOf 0 p h (λ u. kind-made (kind S L p) (is .places p h .known) u) (λ z. z);
+    queue-masks = λ p k h j.
+        of-queue queueMasksOf k p h
+        (λ u. sym (getD-table 4 (λ k. queueMask S L (4 * p + k)) k 0 j))
+        (λ z. is .places p h .bare (omega arith) k j);
+    time = refl;
+    count = refl;
+    trees = λ i h. sym (field-table treeOf (S .sets) (tree S L) i 0 h);
+  }
+
+  -- an entry and a queue place that are read off
+  entry-read : (e : ℕ) → e < few → entry (tablesOf S L) e ≡ entryAt S L e
+  unfolding tablesOf
+  entry-read e h = getD-table few (entryAt S L) e noEntry h
+
+  place-read : (p : ℕ) → p < deep → place (tablesOf S L) p ≡ queueAt S L p
+  unfolding tablesOf
+  place-read p h = getD-table deep (queueAt S L) p idle h
+
+  tickets-read : (e : ℕ) → e < few → length (entry (tablesOf S L) e .tickets) ≡ ticketCount S L e
+  tickets-read e h = ap (λ (x : Entry). length (x .tickets)) (entry-read e h) ∙ length-table (ticketCount S L e) (λ j. ticket S L (S .readers * e + j))
+
+  pub read-shape : Shape S (tablesOf S L)
+  unfolding tablesOf
+  read-shape = record {
+    size = length-table (linesOf S) lineOf;
+    fours = λ l h. ap (λ (x : Line). length (x .sectors)) (getD-table (linesOf S) lineOf l fresh h);
+    few = rw (length-table few (entryAt S L)) (in-use-few (ticketCount S L) (S .misses));
+    held = λ e h.
+        let i : e < few = rw (length-table few (entryAt S L)) at h in
+        let u = below-used (ticketCount S L) (S .misses) e (is .entries-first) i .1 in
+        rw (tickets-read e i) (⊎-elim (λ k. k) (λ k. absurd (u (omega arith))) (lt-or-ge 0 (ticketCount S L e)));
+    short = λ e h.
+        let i : e < few = rw (length-table few (entryAt S L)) at h in
+        let b = below-used (ticketCount S L) (S .misses) e (is .entries-first) i .0 in
+        rw (tickets-read e i) (is .entries e b .few);
+    deep = rw (length-table deep (queueAt S L)) (in-use-few (kind S L) (S .queue));
+    masked = λ p h.
+        let i : p < deep = rw (length-table deep (queueAt S L)) at h in
+        rw (place-read p i) (length-table 4 (λ k. queueMask S L (4 * p + k)));
+    treed = length-table (S .sets) (tree S L);
+  }

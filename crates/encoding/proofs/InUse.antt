@@ -1,0 +1,93 @@
+-- Places in use that are the first ones: how many they are tells which. Counts where none passes from some number on.
+use mathlib.Core.Path.{_≡_, refl, ap, _∙_}
+use mathlib.Core.Logic.{_⊎_, inl, inr, ⊎-elim}
+use mathlib.Core.Bool.{Bool, true, false, not}
+use Prim.Native.Nat.{ℕ, zero, suc, _+_, _-_, _≤_, _<_}
+use native.Mathlib.Nat.{not-suc-le-zero, le-of-suc-le-suc, eq-or-lt-of-le}
+use native.Mathlib.Omega.{arith}
+use lib.Dec.{eqb, ltb}
+use borrow.Author.Tests.{eqb-true, eqb-false, eq-eqb, ne-eqb, ltb-true, ltb-false}
+use Rattle.words.specs.Words.{some, countBelow}
+use Rattle.model.specs.Lent.{inUse}
+use Rattle.words.proofs.Flags.{flag}
+use Rattle.words.proofs.Below.{count-most}
+use Rattle.encoding.proofs.Facts.{First}
+
+pub lt-or-ge : (a b : ℕ) → (a < b) ⊎ (b ≤ a)
+lt-or-ge a b = ⊎-elim (λ t. inl (ltb-true a b t)) (λ t. inr (ltb-false a b t)) (flag (ltb a b))
+
+-- equal, if neither may be below the other
+pub squeeze : (a b : ℕ) → (a < b → ⊥) → (b < a → ⊥) → a ≡ b
+squeeze a b f g = ⊎-elim (λ h. absurd (f h)) (λ h. ⊎-elim (λ k. absurd (g k)) (λ k. omega arith) (lt-or-ge b a)) (lt-or-ge a b)
+
+last-or-below : (n i : ℕ) → i < suc n → (i ≡ n) ⊎ (i < n)
+last-or-below n i h = eq-or-lt-of-le (le-of-suc-le-suc h)
+
+-- ---- counts
+
+module _ (p : ℕ → Bool) where
+  pub count-short : (n k : ℕ) → k ≤ n → ((j : ℕ) → j < n → k ≤ j → p j ≡ false) → countBelow n p ≡ countBelow k p
+  count-short zero k h g = let e : k ≡ 0 = omega arith in rw e
+  count-short (suc n) k h g =
+      ⊎-elim (λ q. rw q)
+      (λ l. let z : countBelow n p ≡ countBelow k p = count-short n k (omega arith) (λ j a b. g j (omega arith) b) in
+      rw (z, g n (omega arith) (omega arith)) (omega arith))
+      (eq-or-lt-of-le h)
+
+module _ (p q : ℕ → Bool) where
+  pub count-same : (n : ℕ) → ((i : ℕ) → i < n → p i ≡ q i) → countBelow n p ≡ countBelow n q
+  count-same zero f = refl
+  count-same (suc n) f = rw (count-same n (λ i h. f i (omega arith)), f n (omega arith))
+
+  pub some-same : (n : ℕ) → ((i : ℕ) → i < n → p i ≡ q i) → some n p ≡ some n q
+  some-same zero f = refl
+  some-same (suc n) f = rw (some-same n (λ i h. f i (omega arith)), f n (omega arith))
+
+-- ---- places in use
+
+module _ (f : ℕ → ℕ) where
+  -- a used place has only used ones before it
+  used-down : (n i d : ℕ) → First n f → i + d < n → (f (i + d) ≡ 0 → ⊥) → f i ≡ 0 → ⊥
+  used-down n i zero g h u z = u (ap f (omega arith) ∙ z)
+  used-down n i (suc d) g h u z =
+      used-down n i d g (omega arith)
+      (λ e. let s : i + d + 1 ≡ i + suc d = omega arith in u (rw s at (g (i + d) (omega arith) e))) z
+
+  all-used : (n : ℕ) → ((i : ℕ) → i < n → f i ≡ 0 → ⊥) → inUse n f ≡ n
+  all-used zero g = refl
+  all-used (suc n) g = rw (all-used n (λ i h. g i (omega arith)), ne-eqb (f n) 0 (g n (omega arith))) (omega arith)
+
+  -- those before a used one
+  used-before : (n : ℕ) → First (suc n) f → eqb (f n) 0 ≡ false → (i : ℕ) → i < suc n → f i ≡ 0 → ⊥
+  used-before n g z i h = used-down (suc n) i (n - i) g (omega arith) (λ e. eqb-false _ _ z (ap f (omega arith) ∙ e))
+
+  pub in-use-few : (n : ℕ) → inUse n f ≤ n
+  in-use-few n = count-most (λ i. not (eqb (f i) 0)) n
+
+  pub in-use-is : (n m : ℕ) → m ≤ n → ((i : ℕ) → i < m → f i ≡ 0 → ⊥) → ((i : ℕ) → i < n → m ≤ i → f i ≡ 0) → inUse n f ≡ m
+  in-use-is n m h u z = count-short (λ i. not (eqb (f i) 0)) n m h (λ i a b. ap not (eq-eqb _ _ (z i a b))) ∙ all-used m u
+
+  pub used-below : (n i : ℕ) → First n f → i < n → (f i ≡ 0 → ⊥) → i < inUse n f
+  used-below zero i g h u = absurd (not-suc-le-zero h)
+  used-below (suc n) i g h u = go (flag (eqb (f n) 0)) (λ l. used-below n i (λ j k. g j (omega arith)) l u)
+    where
+      go : (eqb (f n) 0 ≡ true) ⊎ (eqb (f n) 0 ≡ false) → (i < n → i < inUse n f) → i < inUse (suc n) f
+      go (inl z) ih =
+          rw z (⊎-elim (λ q. absurd (u (ap f q ∙ eqb-true _ _ z))) (λ l. omega (arith, ih l)) (last-or-below n i h))
+      go (inr z) ih = let w : inUse n f ≡ n = all-used n (λ j k. used-before n g z j (omega arith)) in rw (z, w) (omega arith)
+
+  pub below-used : (n i : ℕ) → First n f → i < inUse n f → (i < n) × (f i ≡ 0 → ⊥)
+  below-used zero i g h = absurd (not-suc-le-zero h)
+  below-used (suc n) i g h = go (flag (eqb (f n) 0)) (λ l. below-used n i (λ j k. g j (omega arith)) l)
+    where
+      go : (eqb (f n) 0 ≡ true) ⊎ (eqb (f n) 0 ≡ false) → (i < inUse n f → (i < n) × (f i ≡ 0 → ⊥)) → (i < suc n) × (f i ≡ 0 → ⊥)
+      go (inl z) ih = let k : i < inUse n f + 0 = rw z at h in let w = ih (omega arith) in (omega arith, w .1)
+      go (inr z) ih =
+          let w : inUse n f ≡ n = all-used n (λ j k. used-before n g z j (omega arith)) in
+          let k : i < inUse n f + 1 = rw z at h in
+          (omega arith, used-before n g z i (omega arith))
+
+  -- from the number of those in use on, none is
+  pub free-past : (n i : ℕ) → First n f → i < n → inUse n f ≤ i → f i ≡ 0
+  free-past n i g h k =
+      ⊎-elim (λ t. eqb-true _ _ t) (λ t. let l : i < inUse n f = used-below n i g h (eqb-false _ _ t) in absurd (omega arith)) (flag (eqb (f i) 0))

@@ -1,0 +1,137 @@
+-- The rounds of demand 3 on lent slices: those on the tables, with every table encoded. So what holds of the tables' rounds holds of
+-- the slices'.
+use mathlib.Core.Path.{_≡_, refl, ap, _∙_}
+use mathlib.Core.Logic.{_⊎_, inl, inr, ⊎-elim}
+use mathlib.Core.Bool.{Bool, true, false}
+use mathlib.Core.List.{List, [], _∷_, map}
+use Prim.Native.Nat.{ℕ, zero, suc, _+_}
+use lib.ListN.{List·getD-map}
+use Rattle.model.specs.declared.Settings.{Settings}
+use Rattle.model.specs.declared.Access.{Access}
+use Rattle.words.specs.Words.{pick, any}
+use Rattle.model.specs.Range.{inRange}
+use Rattle.model.specs.Tables.{Entry, Tables, Outcome, refused, done, after, accepted}
+use Rattle.model.specs.Lent.{Lent, encode, tablesOf}
+use Rattle.model.specs.Sound.{sound}
+use Rattle.model.specs.Steps.{access, send, fill}
+use Rattle.model.specs.Calls.{encoded}
+use Rattle.model.specs.Inner.{Is}
+use Rattle.model.specs.Rounds.{steps, calls, Turn, still, took, andThen, Run, goOn, isEmpty, sendTurn, fillFirst, drain, rounds, heldIn, waits, Settles}
+use Rattle.encoding.proofs.Bridge.{tables-of-encode, call-on}
+
+-- what a round does before its offer keeps sound tables sound; the offer, accepted, is the last call
+pub record Keeps (S : Settings) : Type 0 where
+  pub sends : (t : Tables) → sound S t ≡ true → sound S (after t (send t)) ≡ true
+  pub fills : (a : ℕ) (t : Tables) → sound S t ≡ true → sound S (after t (fill a t)) ≡ true
+
+-- ---- the same turns and rounds with every table encoded
+
+abbrev pub turnOf : Settings → Turn Tables → Turn Lent
+turnOf S a = record { events = a .events; left = encode S (a .left) }
+
+abbrev pub runOf : Settings → Run Tables → Run Lent
+runOf S r = record { turn = turnOf S (r .turn); offers = map (encoded S) (r .offers) }
+
+pub took-left : (t : Tables) (o : Outcome Tables) → took t o .left ≡ after t o
+took-left t (refused n) = refl
+took-left t (done es u) = refl
+
+module _ (S : Settings) where
+  took-encoded : (t : Tables) (o : Outcome Tables) → took (encode S t) (encoded S o) ≡ turnOf S (took t o)
+  took-encoded t (refused n) = refl
+  took-encoded t (done es u) = refl
+
+  accepted-encoded : (os : List (Outcome Tables)) → any accepted (map (encoded S) os) ≡ any accepted os
+  accepted-encoded [] = refl
+  accepted-encoded (refused n ∷ os) = accepted-encoded os
+  accepted-encoded (done es u ∷ os) = refl
+
+  go-encoded : (a : Turn Tables) (rest : Tables → Run Tables) (more : Lent → Run Lent) (o : Outcome Tables)
+      → more (encode S (a .left)) ≡ runOf S (rest (a .left)) → goOn (turnOf S a) more (encoded S o) ≡ runOf S (goOn a rest o)
+  go-encoded a rest more (refused n) e = rw e
+  go-encoded a rest more (done es u) e = refl
+
+-- ---- the rounds
+
+module _ (S : Settings) (x : Access) (range : inRange S ≡ true) (keeps : Keeps S) where
+  send-sound : (t : Tables) → sound S t ≡ true → sound S (sendTurn (steps S x) t .left) ≡ true
+  unfolding sendTurn
+  send-sound t e = go (isEmpty (t .queue))
+    where
+      go : (b : Bool) → sound S (pick b (still t) (took t (send t)) .left) ≡ true
+      go true = e
+      go false = rw (took-left t (send t)) (keeps .sends t e)
+
+  fill-sound : (es : List Entry) (t : Tables) → sound S t ≡ true → sound S (fillFirst (steps S x) es t .left) ≡ true
+  unfolding fillFirst
+  fill-sound [] t e = e
+  fill-sound (y ∷ es) t e = go (y .sent) (fill-sound es t e)
+    where
+      go : (b : Bool) → sound S (fillFirst (steps S x) es t .left) ≡ true
+          → sound S (pick b (took t (fill (y .address) t)) (fillFirst (steps S x) es t) .left) ≡ true
+      go true ih = rw (took-left t (fill (y .address) t)) (keeps .fills (y .address) t e)
+      go false ih = ih
+
+  drain-sound : (t : Tables) → sound S t ≡ true → sound S (drain (steps S x) t .left) ≡ true
+  unfolding drain
+  drain-sound t e = fill-sound (sendTurn (steps S x) t .left .misses) (sendTurn (steps S x) t .left) (send-sound t e)
+
+  send-encoded : (t : Tables) → sound S t ≡ true → sendTurn (calls S x) (encode S t) ≡ turnOf S (sendTurn (steps S x) t)
+  unfolding sendTurn
+  send-encoded t e = rw (tables-of-encode S t e, call-on S send t range e) (go (isEmpty (t .queue)))
+    where
+      go : (b : Bool) → pick b (still (encode S t)) (took (encode S t) (encoded S (send t))) ≡ turnOf S (pick b (still t) (took t (send t)))
+      go true = refl
+      go false = took-encoded S t (send t)
+
+  fill-encoded : (es : List Entry) (t : Tables) → sound S t ≡ true → fillFirst (calls S x) es (encode S t) ≡ turnOf S (fillFirst (steps S x) es t)
+  unfolding fillFirst
+  fill-encoded [] t e = refl
+  fill-encoded (y ∷ es) t e = rw (call-on S (fill (y .address)) t range e) (go (y .sent) (fill-encoded es t e))
+    where
+      go : (b : Bool) → fillFirst (calls S x) es (encode S t) ≡ turnOf S (fillFirst (steps S x) es t)
+          → pick b (took (encode S t) (encoded S (fill (y .address) t))) (fillFirst (calls S x) es (encode S t))
+          ≡ turnOf S (pick b (took t (fill (y .address) t)) (fillFirst (steps S x) es t))
+      go true ih = took-encoded S t (fill (y .address) t)
+      go false ih = ih
+
+  drain-encoded : (t : Tables) → sound S t ≡ true → drain (calls S x) (encode S t) ≡ turnOf S (drain (steps S x) t)
+  unfolding drain
+  drain-encoded t e =
+      ap (λ (a : Turn Lent). andThen a (λ u. fillFirst (calls S x) (tablesOf S u .misses) u)) (send-encoded t e)
+      ∙ rw (tables-of-encode S (sendTurn (steps S x) t .left) (send-sound t e))
+      (rw (fill-encoded (sendTurn (steps S x) t .left .misses) (sendTurn (steps S x) t .left) (send-sound t e)))
+
+  pub rounds-encoded : (n : ℕ) (t : Tables) → sound S t ≡ true → rounds (calls S x) n (encode S t) ≡ runOf S (rounds (steps S x) n t)
+  unfolding rounds
+  rounds-encoded zero t e = refl
+  rounds-encoded (suc n) t e =
+      let d = drain-sound t e in
+      rw (drain-encoded t e, call-on S (access S x) (drain (steps S x) t .left) range d)
+      (go-encoded S (drain (steps S x) t) (rounds (steps S x) n) (rounds (calls S x) n) (access S x (drain (steps S x) t .left))
+      (rounds-encoded n (drain (steps S x) t .left) d))
+
+  -- ---- where they settle
+
+  waits-encoded : (t : Tables) → sound S t ≡ true → waits (calls S x) (encode S t) ≡ waits (steps S x) t
+  waits-encoded t e = rw (tables-of-encode S t e)
+
+  settles-encoded : (n : ℕ) (t : Tables) → sound S t ≡ true → any accepted (rounds (steps S x) n t .offers) ≡ true
+      → any accepted (rounds (calls S x) n (encode S t) .offers) ≡ true
+  settles-encoded n t e h = rw (rounds-encoded n t e) (accepted-encoded S (rounds (steps S x) n t .offers) ∙ h)
+
+  held-encoded : (n : ℕ) (t : Tables) → sound S t ≡ true → heldIn (steps S x) n t → heldIn (calls S x) n (encode S t)
+  held-encoded n t e h =
+      rw (rounds-encoded (suc n) t e) (List·getD-map (encoded S) (rounds (steps S x) (suc n) t .offers) n (done [] t) ∙ ap (encoded S) h)
+
+  pub settled-encoded : (t : Tables) → sound S t ≡ true → Settles (steps S x) t → Settles (calls S x) (encode S t)
+  settled-encoded t e d = record {
+    settles = ⊎-elim
+        (λ h. inl (rw (waits-encoded t e) (settles-encoded (suc (waits (steps S x) t)) t e h)))
+        (λ h. inr (λ j. rw (waits-encoded t e) (held-encoded (waits (steps S x) t + j) t e (h j))))
+        (d .settles);
+  }
+
+  -- of any sound slices
+  pub settled-lent : (L : Lent) (t : Tables) → Is S L t → Settles (steps S x) t → Settles (calls S x) L
+  settled-lent L t is d = rw (is .encoded) (settled-encoded t (is .soundly) d)

@@ -1,0 +1,356 @@
+-- What `sound` says of the tables, as facts on the records by their place: a record for a line, an entry and a queue place.
+-- `soundly-is`: `sound` is true exactly if they hold.
+use mathlib.Core.Path.{_≡_, refl, ap}
+use mathlib.Core.Logic.{_⊎_, inl, inr, ⊎-elim}
+use mathlib.Core.Bool.{Bool, true, false, not, _&&_, _||_}
+use mathlib.Core.List.{List}
+use Prim.Native.Nat.{ℕ, _+_, _*_, _/_, _%_, _^_, _≤_, _<_}
+use native.Mathlib.Omega.{arith}
+use lib.Dec.{eqb, leb}
+use lib.ListN.{length, getD}
+use borrow.Author.Tests.{eqb-true, eq-eqb}
+use Rattle.model.specs.declared.Settings.{Settings}
+use Rattle.model.specs.declared.QueueKind.{QueueKind}
+use Rattle.model.specs.declared.QueueKind.the-variants as queue
+use Rattle.model.specs.declared.Queued.{Queued}
+use Rattle.model.specs.declared.Status.{Status}
+use Rattle.model.specs.declared.Status.the-variants.{Invalid, Reserved, Valid, Modified}
+use Rattle.words.specs.Words.{pick, all, any, count}
+use Rattle.model.specs.Range.{linesOf, isTree}
+use Rattle.model.specs.Tree.{treeFine}
+use Rattle.model.specs.Address.{blockOf, setIndex}
+use Rattle.model.specs.Tables.{Tables, isReserved, unused, holds, entryFor, idle, empty, fresh, noEntry, dirtyLines}
+use Rattle.model.specs.Numbers.{statusNumber, queueKindNumber}
+use Rattle.model.specs.Lent.{bit}
+use Rattle.model.specs.Sound.{allOnes, lastCycle, maskOk, sectorOk, lineOk, alone, agrees, reservedOk, readingOf, unsentFor, entryOk, kindOk, queuedOk, sound}
+use Rattle.words.proofs.Flags.{and-1, and-2, and-i, not-no, not-yes, clash, same-is, is-same}
+use Rattle.words.proofs.Below.{every-at, every-i}
+use Rattle.words.proofs.Lists.{count-index, index-count}
+use Rattle.words.proofs.Reflect.{Is, is-flag, is-eq, is-le, is-lt, is-not, is-and, is-every, is-some, is-as}
+use Rattle.words.proofs.Tabled.{all-get, any-get}
+use Rattle.encoding.proofs.Facts.{Block, block-is}
+use Rattle.encoding.proofs.Shapes.{line, sector, entry, place, addressIn, kindIn, maskIn, Shape}
+
+-- ---- tests on a list, and choices, with what they decide
+
+is-test : {a b : Bool} {P : Type 0} → a ≡ b → Is b P → Is a P
+is-test e i = rw e i
+
+module _ {A : Type 0} (p : A → Bool) {P : ℕ → Type 0} (xs : List A) (d : A) where
+  is-all : ((i : ℕ) → i < length xs → Is (p (getD xs i d)) (P i)) → Is (all p xs) ((i : ℕ) → i < length xs → P i)
+  is-all f =
+      is-test (all-get p xs d) record {
+        fact = λ e i h. f i h .fact (every-at (λ i. p (getD xs i d)) (length xs) i e h);
+        test = λ g. every-i (λ i. p (getD xs i d)) (length xs) (λ i h. f i h .test (g i h));
+      }
+
+  is-any : ((i : ℕ) → Is (p (getD xs i d)) (P i)) → Is (any p xs) ((i : ℕ) × (i < length xs) × P i)
+  is-any f = is-test (any-get p xs d) (is-some (length xs) f)
+
+-- exactly one passes
+is-one : {A : Type 0} (p : A → Bool) (xs : List A) (d : A) (i : ℕ) → i < length xs → p (getD xs i d) ≡ true
+    → Is (eqb (count p xs) 1) ((j : ℕ) → j < length xs → p (getD xs j d) ≡ true → j ≡ i)
+is-one p xs d i h e = record {
+  fact = λ t j k f. count-index p d xs (eqb-true _ _ t) j i k h f e;
+  test = λ f. eq-eqb _ _ (index-count p d xs i h e f);
+}
+
+is-pick : {b x y : Bool} {P Q : Type 0} → Is x P → Is y Q → Is (pick b x y) ((b ≡ true → P) × (b ≡ false → Q))
+is-pick {b = true} i j = record { fact = λ e. (λ z. i .fact e, λ z. clash refl z); test = λ w. i .test (w .0 refl) }
+is-pick {b = false} i j = record { fact = λ e. (λ z. clash z refl, λ z. j .fact e); test = λ w. j .test (w .1 refl) }
+
+is-else : {a b : Bool} {Q : Type 0} → (a ≡ false → Is b Q) → Is (a || b) (a ≡ false → Q)
+is-else {a = true} i = record { fact = λ e z. clash refl z; test = λ f. refl }
+is-else {a = false} i = record { fact = λ e z. i refl .fact e; test = λ f. i refl .test (f refl) }
+
+-- ---- a sector, by its numbers
+
+pub record SectorOk (x m r : ℕ) : Type 0 where
+  pub small : m ≤ allOnes
+  pub clean : (x ≡ 0) ⊎ (x ≡ 2) → m ≡ 0
+  pub dirty : x ≡ 3 → m ≡ 0 → ⊥
+  pub unreadable : r ≡ 0 → (x ≡ 3) × (m ≡ allOnes → ⊥)
+
+bit-set : (r : Bool) → r ≡ true → bit r ≡ 0 → ⊥
+bit-set true e z = omega arith
+bit-set false e z = clash e refl
+
+set-bit : (r : Bool) → (bit r ≡ 0 → ⊥) → r ≡ true
+set-bit true f = refl
+set-bit false f = absurd (f refl)
+
+pub bit-clear : (r : Bool) → bit r ≡ 0 → r ≡ false
+bit-clear true z = absurd (omega arith)
+bit-clear false z = refl
+
+-- INVALID or VALID: mask 0, readable
+clean-is : (x m : ℕ) (r : Bool) → (x ≡ 0) ⊎ (x ≡ 2) → Is (eqb m 0 && r) (SectorOk x m (bit r))
+clean-is x m r c =
+    is-as (is-and (is-eq m 0) (is-flag r))
+    (λ w. let z = w .0 in record {
+      small = omega arith;
+      clean = λ d. z;
+      dirty = λ e. absurd (three e);
+      unreadable = λ e. absurd (bit-set r (w .1) e);
+    })
+    (λ f. (f .clean c, set-bit r (λ e. three (f .unreadable e .0))))
+  where
+    three : x ≡ 3 → ⊥
+    three e = ⊎-elim (λ z. omega arith) (λ z. omega arith) c
+
+sector-ok-is : (s : Status) (m : ℕ) (r : Bool) → Is (maskOk s m r) (SectorOk (statusNumber s) m (bit r))
+sector-ok-is Invalid m r = clean-is 0 m r (inl refl)
+sector-ok-is Reserved m r =
+    is-as (is-and (is-le m allOnes) (is-flag r))
+    (λ w. record {
+      small = w .0;
+      clean = λ c. absurd (⊎-elim (λ z. omega arith) (λ z. omega arith) c);
+      dirty = λ e. absurd (omega arith);
+      unreadable = λ e. absurd (bit-set r (w .1) e);
+    })
+    (λ f. (f .small, set-bit r (λ e. let z : _≡_ {A = ℕ} 1 3 = f .unreadable e .0 in omega arith)))
+sector-ok-is Valid m r = clean-is 2 m r (inr refl)
+sector-ok-is Modified m r =
+    is-as (is-and (is-and (is-le m allOnes) (is-not (is-eq m 0))) (is-else {a = r} (λ v. is-not (is-eq m allOnes))))
+    (λ w. record {
+      small = w .0 .0;
+      clean = λ c. absurd (⊎-elim (λ z. omega arith) (λ z. omega arith) c);
+      dirty = λ e. w .0 .1;
+      unreadable = λ e. (refl, w .1 (bit-clear r e));
+    })
+    (λ f. ((f .small, f .dirty refl), λ v. f .unreadable (ap bit v) .1))
+
+-- ---- the facts
+
+module _ (S : Settings) (t : Tables) where
+  abbrev pub Lives : ℕ → Type 0
+  Lives l = unused (line t l) ≡ false
+
+  pub record LineOk (l : ℕ) : Type 0 where
+    pub four : length (line t l .sectors) ≡ 4
+    pub sectors : (k : ℕ) → k < 4 → SectorOk (statusNumber (sector t l k .status)) (sector t l k .mask) (bit (sector t l k .readable))
+    pub past : line t l .cycle ≤ t .now
+    pub since : line t l .taken ≤ line t l .cycle
+    pub dead : unused (line t l) ≡ true → ((line t l .tag ≡ 0) × (line t l .cycle ≡ 0)) × (line t l .taken ≡ 0)
+    pub block : Lives l → Block (line t l .tag)
+    pub home : Lives l → setIndex S (line t l .tag) ≡ l / S .ways
+
+  -- no other line that lives has its tag
+  abbrev pub Alone : ℕ → Type 0
+  Alone l = Lives l → (m : ℕ) → m < length (t .lines) → Lives m → line t m .tag ≡ line t l .tag → m ≡ l
+
+  -- its sectors are RESERVED as the miss table says
+  abbrev pub Agrees : ℕ → Type 0
+  Agrees l = Lives l → (k : ℕ) → k < 4 → isReserved (sector t l k .status) ≡ any (entryFor (line t l .tag + 32 * k)) (t .misses)
+
+  pub record EntryOk (e : ℕ) : Type 0 where
+    pub even : entry t e .address % 32 ≡ 0
+    pub low : entry t e .address < 2 ^ 48
+    pub home : (l : ℕ) × (l < length (t .lines)) × (Lives l × (line t l .tag ≡ blockOf (entry t e .address)))
+    pub alone : (d : ℕ) → d < length (t .misses) → entry t d .address ≡ entry t e .address → d ≡ e
+    pub held : 1 ≤ length (entry t e .tickets)
+    pub short : length (entry t e .tickets) ≤ S .readers
+    pub asked : entry t e .sent ≡ false → count (readingOf (entry t e .address)) (t .queue) ≡ 1
+
+  pub record QueuedOk (x : Queued) : Type 0 where
+    pub masked : length (x .masks) ≡ 4
+    pub small : (k : ℕ) → k < 4 → maskIn x k ≤ allOnes
+    pub backed : kindIn x ≡ 1 → (e : ℕ) × (e < length (t .misses)) × ((entry t e .address ≡ addressIn x) × (entry t e .sent ≡ false))
+    pub bare : kindIn x ≡ 1 → (k : ℕ) → k < 4 → maskIn x k ≡ 0
+    pub block : kindIn x ≡ 2 → Block (addressIn x)
+    pub dirty : kindIn x ≡ 2 → (k : ℕ) × (k < 4) × (maskIn x k ≡ 0 → ⊥)
+
+  pub record Soundly : Type 0 where
+    pub size : length (t .lines) ≡ linesOf S
+    pub time : t .now ≤ lastCycle
+    pub lines : (l : ℕ) → l < linesOf S → LineOk l
+    pub alone : (l : ℕ) → l < linesOf S → Alone l
+    pub agrees : (l : ℕ) → l < linesOf S → Agrees l
+    pub entries : (e : ℕ) → e < length (t .misses) → EntryOk e
+    pub queue : (p : ℕ) → p < length (t .queue) → QueuedOk (place t p)
+    pub few : length (t .misses) ≤ S .misses
+    pub deep : length (t .queue) ≤ S .queue
+    pub counted : t .dirtyCount ≡ dirtyLines t
+    pub treed : length (t .trees) ≡ S .sets
+    pub turned : (i : ℕ) → i < length (t .trees) → treeFine (isTree S) (S .ways) (getD (t .trees) i 0) ≡ true
+
+  pub soundly-shape : Soundly → Shape S t
+  soundly-shape s = record {
+    size = s .size;
+    fours = λ l h. s .lines l h .four;
+    few = s .few;
+    held = λ e h. s .entries e h .held;
+    short = λ e h. s .entries e h .short;
+    deep = s .deep;
+    masked = λ p h. s .queue p h .masked;
+    treed = s .treed;
+  }
+
+-- ---- each test with its facts
+
+module _ (S : Settings) (t : Tables) where
+  line-ok-is : (l : ℕ) → Is (lineOk S (t .now) l (line t l)) (LineOk S t l)
+  unfolding lineOk
+  line-ok-is l =
+      is-as
+      (is-and
+      (is-and
+      (is-and (is-and (is-eq (length (line t l .sectors)) 4) (is-all sectorOk (line t l .sectors) empty
+      (λ k h. sector-ok-is (sector t l k .status) (sector t l k .mask) (sector t l k .readable))))
+      (is-le (line t l .cycle) (t .now)))
+      (is-le (line t l .taken) (line t l .cycle)))
+      (is-pick {b = unused (line t l)} (is-and (is-and (is-eq (line t l .tag) 0) (is-eq (line t l .cycle) 0)) (is-eq (line t l .taken) 0))
+      (is-and (block-is (line t l .tag)) (is-eq (setIndex S (line t l .tag)) (l / S .ways)))))
+      (λ w. let four = w .0 .0 .0 .0 in record {
+        four = four;
+        sectors = λ k h. w .0 .0 .0 .1 k (omega arith);
+        past = w .0 .0 .1;
+        since = w .0 .1;
+        dead = w .1 .0;
+        block = λ v. w .1 .1 v .0;
+        home = λ v. w .1 .1 v .1;
+      })
+      (λ r. let four = r .four in ((((four, λ k h. r .sectors k (omega arith)), r .past), r .since), (r .dead, λ v. (r .block v, r .home v))))
+
+  holds-i : (m : ℕ) (b : ℕ) → Lives S t m → line t m .tag ≡ b → holds b (line t m) ≡ true
+  holds-i m b v e = and-i (not-no v) (eq-eqb _ _ e)
+
+  holds-is : (b m : ℕ) → Is (holds b (line t m)) (Lives S t m × (line t m .tag ≡ b))
+  holds-is b m = record {
+    fact = λ e. (not-yes {b = unused (line t m)} (and-1 (not (unused (line t m))) _ e), eqb-true _ _ (and-2 (not (unused (line t m))) _ e));
+    test = λ w. holds-i m b (w .0) (w .1);
+  }
+
+  alone-is : (l : ℕ) → l < length (t .lines) → Is (alone (t .lines) (line t l)) (Alone S t l)
+  unfolding alone
+  alone-is l h =
+      is-else (λ v. is-as (is-one (holds (line t l .tag)) (t .lines) fresh l h (holds-i l (line t l .tag) v refl))
+      (λ f m k u e. f m k (holds-i m (line t l .tag) u e))
+      (λ f m k e. let w = holds-is (line t l .tag) m .fact e in f m k (w .0) (w .1)))
+
+  agrees-is : (l : ℕ) → Is (reservedOk (t .misses) (line t l)) (Agrees S t l)
+  unfolding reservedOk
+  agrees-is l =
+      is-else (λ v. is-every 4 (λ k. record { fact = λ e. same-is _ _ e; test = λ e. is-same _ _ e }))
+
+  entry-ok-is : (e : ℕ) → e < length (t .misses) → Is (entryOk S t (entry t e)) (EntryOk S t e)
+  unfolding entryOk
+  entry-ok-is e h =
+      is-as
+      (is-and
+      (is-and
+      (is-and
+      (is-and (is-and (is-eq (entry t e .address % 32) 0) (is-lt (entry t e .address) (2 ^ 48)))
+      (is-any (holds (blockOf (entry t e .address))) (t .lines) fresh (holds-is (blockOf (entry t e .address)))))
+      (is-one (entryFor (entry t e .address)) (t .misses) noEntry e h (eq-eqb (entry t e .address) (entry t e .address) refl)))
+      (is-and (is-le 1 (length (entry t e .tickets))) (is-le (length (entry t e .tickets)) (S .readers))))
+      (is-else (λ v. is-eq (count (readingOf (entry t e .address)) (t .queue)) 1)))
+      (λ w. record {
+        even = w .0 .0 .0 .0 .0;
+        low = w .0 .0 .0 .0 .1;
+        home = w .0 .0 .0 .1;
+        alone = λ d k q. w .0 .0 .1 d k (eq-eqb _ _ q);
+        held = w .0 .1 .0;
+        short = w .0 .1 .1;
+        asked = w .1;
+      })
+      (λ r. (((((r .even, r .low), r .home), λ d k q. r .alone d k (eqb-true _ _ q)), (r .held, r .short)), r .asked))
+
+  unsent-is : (a e : ℕ) → Is (unsentFor a (entry t e)) ((entry t e .address ≡ a) × (entry t e .sent ≡ false))
+  unsent-is a e = is-and (is-eq (entry t e .address) a) (record { fact = λ z. not-yes {b = entry t e .sent} z; test = λ z. not-no z })
+
+  -- what its kind asks of a queued entry
+  record KindOk (k : QueueKind) (a : ℕ) (ms : List ℕ) : Type 0 where
+    backed : queueKindNumber k ≡ 1 → (e : ℕ) × (e < length (t .misses)) × ((entry t e .address ≡ a) × (entry t e .sent ≡ false))
+    bare : queueKindNumber k ≡ 1 → (i : ℕ) → i < length ms → getD ms i 0 ≡ 0
+    block : queueKindNumber k ≡ 2 → Block a
+    dirty : queueKindNumber k ≡ 2 → (i : ℕ) × (i < length ms) × (getD ms i 0 ≡ 0 → ⊥)
+
+  kind-ok-is : (k : QueueKind) (a : ℕ) (ms : List ℕ) → Is (kindOk (t .misses) k a ms) (KindOk k a ms)
+  kind-ok-is queue.Read a ms =
+      is-as (is-and (is-any (unsentFor a) (t .misses) noEntry (unsent-is a)) (is-all (λ m. eqb m 0) ms 0 (λ i h. is-eq (getD ms i 0) 0)))
+      (λ w. record {
+        backed = λ z. w .0;
+        bare = λ z. w .1;
+        block = λ z. absurd (omega arith);
+        dirty = λ z. absurd (omega arith);
+      })
+      (λ r. (r .backed refl, r .bare refl))
+  kind-ok-is queue.WriteBack b ms =
+      is-as (is-and (block-is b) (is-any (λ m. not (eqb m 0)) ms 0 (λ i. is-not (is-eq (getD ms i 0) 0))))
+      (λ w. record {
+        backed = λ z. absurd (omega arith);
+        bare = λ z. absurd (omega arith);
+        block = λ z. w .0;
+        dirty = λ z. w .1;
+      })
+      (λ r. (r .block refl, r .dirty refl))
+
+  queued-ok-is : (x : Queued) → Is (queuedOk (t .misses) x) (QueuedOk S t x)
+  unfolding queuedOk
+  queued-ok-is x =
+      let ms : List ℕ = x .masks in
+      is-as
+      (is-and (is-and (is-eq (length ms) 4) (is-all (λ m. leb m allOnes) ms 0 (λ k h. is-le (getD ms k 0) allOnes)))
+      (kind-ok-is (x .kind) (x .address) ms))
+      (λ w. let four = w .0 .0 in record {
+        masked = four;
+        small = λ k h. w .0 .1 k (omega arith);
+        backed = w .1 .backed;
+        bare = λ z k h. w .1 .bare z k (omega arith);
+        block = w .1 .block;
+        dirty = λ z. let d = w .1 .dirty z in let j : d .0 < length ms = d .1 in (d .0, omega arith, d .2);
+      })
+      (λ r. let four : length ms ≡ 4 = r .masked in (
+        (four, λ k h. r .small k (omega arith)),
+        record {
+          backed = r .backed;
+          bare = λ z k h. r .bare z k (omega arith);
+          block = r .block;
+          dirty = λ z. let d = r .dirty z in let j : d .0 < 4 = d .1 in (d .0, omega arith, d .2);
+        },
+      ))
+
+  pub soundly-is : Is (sound S t) (Soundly S t)
+  unfolding sound
+  soundly-is =
+      is-as
+      (is-and
+      (is-and
+      (is-and
+      (is-and
+      (is-and
+      (is-and
+      (is-and
+      (is-and
+      (is-and
+      (is-and
+      (is-and (is-eq (length (t .lines)) (linesOf S)) (is-le (t .now) lastCycle))
+      (is-every (linesOf S) line-ok-is))
+      (is-all (alone (t .lines)) (t .lines) fresh alone-is))
+      (is-all (reservedOk (t .misses)) (t .lines) fresh (λ l h. agrees-is l)))
+      (is-all (entryOk S t) (t .misses) noEntry entry-ok-is))
+      (is-all (queuedOk (t .misses)) (t .queue) idle (λ p h. queued-ok-is (place t p))))
+      (is-le (length (t .misses)) (S .misses)))
+      (is-le (length (t .queue)) (S .queue)))
+      (is-eq (t .dirtyCount) (dirtyLines t)))
+      (is-eq (length (t .trees)) (S .sets)))
+      (is-all (treeFine (isTree S) (S .ways)) (t .trees) 0 (λ i h. is-flag (treeFine (isTree S) (S .ways) (getD (t .trees) i 0)))))
+      (λ w. let size = w .0 .0 .0 .0 .0 .0 .0 .0 .0 .0 .0 in record {
+        size = size;
+        time = w .0 .0 .0 .0 .0 .0 .0 .0 .0 .0 .1;
+        lines = w .0 .0 .0 .0 .0 .0 .0 .0 .0 .1;
+        alone = λ l h. w .0 .0 .0 .0 .0 .0 .0 .0 .1 l (omega arith);
+        agrees = λ l h. w .0 .0 .0 .0 .0 .0 .0 .1 l (omega arith);
+        entries = w .0 .0 .0 .0 .0 .0 .1;
+        queue = w .0 .0 .0 .0 .0 .1;
+        few = w .0 .0 .0 .0 .1;
+        deep = w .0 .0 .0 .1;
+        counted = w .0 .0 .1;
+        treed = w .0 .1;
+        turned = w .1;
+      })
+      (λ r. let size = r .size in (
+        ((((((((((size, r .time), r .lines), λ l h. r .alone l (omega arith)), λ l h. r .agrees l (omega arith)), r .entries), r .queue), r .few), r .deep), r .counted), r .treed),
+        r .turned,
+      ))

@@ -1,0 +1,224 @@
+-- The shape of a value that tells what a step on tables tells: which event it begins with, and how many entries and tickets it has.
+use mathlib.Core.Path.{_≡_, refl, sym, ap, _∙_}
+use mathlib.Core.Bool.{Bool, true, false, _&&_, _||_}
+use mathlib.Core.List.{List, [], _∷_, _++_, map}
+use Prim.Native.Nat.{ℕ, _+_, min, _≤_}
+use native.Mathlib.Omega.{arith}
+use lib.Dec.{ltb, leb}
+use lib.ListN.{length, take, replicate, length-take}
+use Rattle.words.specs.Words.{pick, all, any, fit}
+use Rattle.model.specs.Address.{addressOf, isRead, wellFormed}
+use Rattle.model.specs.Tables.{Tables, idle, Outcome, refused, done, eventsOf, withNow}
+use Rattle.model.specs.Lent.{Lent}
+use Rattle.model.specs.Sound.{lastCycle}
+use Rattle.model.specs.Probe.{Spot, Place, no, at, ruleOf}
+use Rattle.model.specs.Steps.{isMerge, isMiss, queues, queuedAs, queuedEvent, sentAs, placesNeeded, accept, entryFull, proceed, access, afterSend, sendFrom, send, ticketsOf, afterFill, sentFor, fill, tick}
+use Rattle.model.specs.Calls.{eventsTold, inTwo, tidied}
+use Rattle.model.specs.Inner.{Held, Does}
+use Rattle.model.specs.ToldShape.{ofAccess, ofSend, ofFill, ofTick, Shaped}
+use Rattle.model.specs.declared.Settings.{Settings}
+use Rattle.model.specs.declared.Access.{Access}
+use Rattle.model.specs.declared.Refusal.{Refusal}
+use Rattle.model.specs.declared.Refusal.the-variants.{BadAccess, QueueFull, EntryFull, MissTableFull, NotSent, BadCycle, QueueEmpty}
+use Rattle.model.specs.declared.Queued.{Queued}
+use Rattle.model.specs.declared.QueueKind.{QueueKind}
+use Rattle.model.specs.declared.QueueKind.the-variants as queue
+use Rattle.model.specs.declared.Event.{Event}
+use Rattle.model.specs.declared.Event.the-variants.{Answered, Refused, ReadQueued, WriteBackQueued, Released, ReadSent, WriteBackSent, Filled, Ticked}
+use Rattle.model.specs.declared.Told.{Told}
+use Rattle.words.proofs.Flags.{and-1, and-2, clash}
+use Rattle.words.proofs.Places.{length-fit}
+use Rattle.encoding.proofs.Bridge.{does-tells}
+
+-- ---- the events behind the first
+
+-- an entry queued
+abbrev queuing : Event → Bool
+queuing (Answered a line) = false
+queuing (Refused n) = false
+queuing (ReadQueued a) = true
+queuing (WriteBackQueued b m0 m1 m2 m3) = true
+queuing (Released t) = false
+queuing (ReadSent a) = false
+queuing (WriteBackSent b m0 m1 m2 m3) = false
+queuing (Filled a) = false
+queuing Ticked = false
+
+-- a ticket released
+abbrev releasing : Event → Bool
+releasing (Answered a line) = false
+releasing (Refused n) = false
+releasing (ReadQueued a) = false
+releasing (WriteBackQueued b m0 m1 m2 m3) = false
+releasing (Released t) = true
+releasing (ReadSent a) = false
+releasing (WriteBackSent b m0 m1 m2 m3) = false
+releasing (Filled a) = false
+releasing Ticked = false
+
+abbrev none : Event → Bool
+none e = false
+
+queued-as : (k : QueueKind) (a : ℕ) (ms : List ℕ) → (queuing (queuedAs k a ms) ≡ true) × (releasing (queuedAs k a ms) ≡ false)
+queued-as queue.Read a ms = (refl, refl)
+queued-as queue.WriteBack a ms = (refl, refl)
+
+sent-as : (k : QueueKind) (a : ℕ) (ms : List ℕ) → ofSend (sentAs k a ms) ≡ true
+sent-as queue.Read a ms = refl
+sent-as queue.WriteBack a ms = refl
+
+all-queuing : (qs : List Queued) → all queuing (map queuedEvent qs) ≡ true
+all-queuing [] = refl
+all-queuing (q ∷ qs) = rw (queued-as (q .kind) (q .address) (q .masks) .0, all-queuing qs)
+
+all-releasing : (ts : List ℕ) → all releasing (map Released ts) ≡ true
+all-releasing [] = refl
+all-releasing (t ∷ ts) = all-releasing ts
+
+-- ---- what an outcome tells
+
+-- its first event is such a one, and all behind that are such others
+abbrev tells : (Event → Bool) → (Event → Bool) → List Event → Bool
+tells begins rest [] = false
+tells begins rest (e ∷ es) = begins e && all rest es
+
+record Tells (begins rest : Event → Bool) (o : Outcome Tables) : Type 0 where
+  pub is : tells begins rest (eventsOf o) ≡ true
+
+tells-by : {begins rest : Event → Bool} (b : Bool) {o p : Outcome Tables} → Tells begins rest o → Tells begins rest p → Tells begins rest (pick b o p)
+tells-by true h g = h
+tells-by false h g = g
+
+refused-tells : (n : Refusal) → Tells ofAccess queuing (refused n)
+refused-tells n = record { is = refl }
+
+accept-tells : (S : Settings) (x : Access) (p : Spot) (t : Tables) → Tells ofAccess queuing (accept S x p t)
+unfolding accept
+accept-tells S x p t = record { is = all-queuing (queues x p) }
+
+proceed-tells : (S : Settings) (x : Access) (t : Tables) (p : Place) → Tells ofAccess queuing (proceed S x t p)
+unfolding proceed
+proceed-tells S x t (no n) = refused-tells n
+proceed-tells S x t (at p) =
+    tells-by (ltb (S .queue) (length (t .queue) + placesNeeded x p)) (refused-tells QueueFull)
+    (tells-by (isRead x && isMerge (p .answer) && any (entryFull S (addressOf x)) (t .misses)) (refused-tells EntryFull)
+    (tells-by (isRead x && isMiss (p .answer) && leb (S .misses) (length (t .misses))) (refused-tells MissTableFull)
+    (accept-tells S x p t)))
+
+access-tells : (S : Settings) (x : Access) (t : Tables) → Tells ofAccess queuing (access S x t)
+unfolding access
+access-tells S x t = tells-by (wellFormed x) (proceed-tells S x t _) (refused-tells BadAccess)
+
+send-tells : (t : Tables) → Tells ofSend none (send t)
+unfolding send
+send-tells t = from (t .queue)
+  where
+    from : (qs : List Queued) → Tells ofSend none (sendFrom qs t)
+    from [] = record { is = refl }
+    from (q ∷ qs) = record { is = rw (sent-as (q .kind) (q .address) (q .masks)) }
+
+fill-tells : (a : ℕ) (t : Tables) → Tells ofFill releasing (fill a t)
+unfolding fill
+fill-tells a t = tells-by (any (sentFor a) (t .misses)) record { is = all-releasing (ticketsOf a (t .misses)) } record { is = refl }
+
+tick-tells : (c : ℕ) (t : Tables) → Tells ofTick none (tick c t)
+unfolding tick
+tick-tells c t = tells-by (ltb c (t .now) || ltb lastCycle c) record { is = refl } record { is = refl }
+
+-- ---- the shape of a value
+
+all-left : (p : Event → Bool) (xs ys : List Event) → all p (xs ++ ys) ≡ true → all p xs ≡ true
+all-left p [] ys h = refl
+all-left p (x ∷ xs) ys h = rw (and-1 (p x) _ h, all-left p xs ys (and-2 (p x) _ h))
+
+all-right : (p : Event → Bool) (xs ys : List Event) → all p (xs ++ ys) ≡ true → all p ys ≡ true
+all-right p [] ys h = h
+all-right p (x ∷ xs) ys h = all-right p xs ys (and-2 (p x) _ h)
+
+none-left : {A : Type 0} (f : A → Event) (p : Event → Bool) → ((a : A) → p (f a) ≡ false) → (xs : List A) → all p (map f xs) ≡ true → length xs ≡ 0
+none-left f p never [] h = refl
+none-left f p never (x ∷ xs) h = clash (and-1 (p (f x)) _ h) (never x)
+
+module _ (r : Told) (tidy : tidied r ≡ r) where
+  queues-are : r .queues ≡ length (take (r .queues) (r .queued))
+  unfolding tidied
+  queues-are = sym (ap (λ (x : Told). x .queues) tidy)
+
+  count-is : r .count ≡ length (take (r .count) (r .tickets))
+  unfolding tidied
+  count-is = sym (ap (λ (x : Told). x .count) tidy)
+
+  queues-few : r .queues ≤ 2
+  unfolding tidied
+  queues-few =
+      let q : r .queued ≡ inTwo (take (r .queues) (r .queued)) = sym (ap (λ (x : Told). x .queued) tidy) in
+      let l = queues-are in
+      let m = length-take (r .queues) (r .queued) in
+      let n = ap length q in
+      let k : length (inTwo (take (r .queues) (r .queued))) ≡ min 2 (length (take (r .queues) (r .queued) ++ replicate 2 idle)) = length-take 2 (take (r .queues) (r .queued) ++ replicate 2 idle) in
+      omega arith
+
+  tickets-few : r .count ≤ 8
+  unfolding tidied
+  tickets-few =
+      let q : r .tickets ≡ fit 8 (take (r .count) (r .tickets)) = sym (ap (λ (x : Told). x .tickets) tidy) in
+      let l = count-is in
+      let m = length-take (r .count) (r .tickets) in
+      let n = ap length q in
+      let k = length-fit 8 (take (r .count) (r .tickets)) in
+      omega arith
+
+  module _ (begins rest : Event → Bool) (t : tells begins rest (eventsTold r) ≡ true) where
+    begins-so : begins (r .first) ≡ true
+    unfolding eventsTold
+    begins-so = and-1 (begins (r .first)) _ t
+
+    behind : all rest (map queuedEvent (take (r .queues) (r .queued)) ++ map Released (take (r .count) (r .tickets))) ≡ true
+    unfolding eventsTold
+    behind = and-2 (begins (r .first)) _ t
+
+    no-entries : ((q : Queued) → rest (queuedEvent q) ≡ false) → r .queues ≤ 0
+    no-entries never =
+        let z = none-left queuedEvent rest never (take (r .queues) (r .queued)) (all-left rest (map queuedEvent (take (r .queues) (r .queued))) (map Released (take (r .count) (r .tickets))) behind) in
+        let l = queues-are in
+        omega arith
+
+    no-tickets : ((k : ℕ) → rest (Released k) ≡ false) → r .count ≤ 0
+    no-tickets never =
+        let z = none-left Released rest never (take (r .count) (r .tickets)) (all-right rest (map queuedEvent (take (r .queues) (r .queued))) (map Released (take (r .count) (r .tickets))) behind) in
+        let l = count-is in
+        omega arith
+
+-- ---- the shape of what each step tells
+
+module _ (S : Settings) {L : Lent} (held : Held S L) {r : Told} {M : Lent} where
+  module _ {step : Tables → Outcome Tables} (d : Does S step L r M) where
+    tidy : tidied r ≡ r
+    tidy = d .on (held .tables) (held .are) .tidy
+
+    told : {begins rest : Event → Bool} → Tells begins rest (step (held .tables)) → tells begins rest (eventsTold r) ≡ true
+    told t = rw (does-tells S d (held .tables) (held .are)) (t .is)
+
+  pub access-shaped : (x : Access) → Does S (access S x) L r M → Shaped ofAccess 2 0 r
+  access-shaped x d =
+      let t = told d (access-tells S x (held .tables)) in
+      record { first = begins-so r (tidy d) ofAccess queuing t; entries = queues-few r (tidy d); tickets = no-tickets r (tidy d) ofAccess queuing t (λ k. refl) }
+
+  pub send-shaped : Does S send L r M → Shaped ofSend 0 0 r
+  send-shaped d =
+      let t = told d (send-tells (held .tables)) in
+      record { first = begins-so r (tidy d) ofSend none t; entries = no-entries r (tidy d) ofSend none t (λ q. refl); tickets = no-tickets r (tidy d) ofSend none t (λ k. refl) }
+
+  pub fill-shaped : (a : ℕ) → Does S (fill a) L r M → Shaped ofFill 0 8 r
+  fill-shaped a d =
+      let t = told d (fill-tells a (held .tables)) in
+      record {
+        first = begins-so r (tidy d) ofFill releasing t;
+        entries = no-entries r (tidy d) ofFill releasing t (λ q. queued-as (q .kind) (q .address) (q .masks) .1);
+        tickets = tickets-few r (tidy d);
+      }
+
+  pub tick-shaped : (c : ℕ) → Does S (tick c) L r M → Shaped ofTick 0 0 r
+  tick-shaped c d =
+      let t = told d (tick-tells c (held .tables)) in
+      record { first = begins-so r (tidy d) ofTick none t; entries = no-entries r (tidy d) ofTick none t (λ q. refl); tickets = no-tickets r (tidy d) ofTick none t (λ k. refl) }

@@ -1,0 +1,1 @@
+// How the lent slices hold the tables: theorems and no code.

@@ -1,0 +1,107 @@
+-- Laws of a loop over the numbers below n: one that leaves at the first that fails, one that leaves at the first that passes, one that counts.
+use mathlib.Core.Path.{_≡_, refl, sym, ap, subst, _∙_}
+use mathlib.Core.Logic.{_⊎_, inl, inr, ⊎-elim}
+use mathlib.Core.Bool.{Bool, true, false, not, _&&_, _||_}
+use Prim.Native.Nat.{ℕ, zero, suc, _+_, _≤_, _<_}
+use native.Mathlib.Nat.{not-suc-le-zero, le-of-suc-le-suc, eq-or-lt-of-le}
+use native.Mathlib.Numerals.{add-one}
+use native.Mathlib.Omega.{arith}
+use Rattle.words.specs.Words.{every, some, countBelow, one, imp}
+use Rattle.words.proofs.Flags.{and-1, and-2, and-i, and-no, or-cases, or-1, or-2, not-yes, no-not, clash, iff, imp-i, imp-use}
+
+module _ (p : ℕ → Bool) where
+  last-or-below : (n i : ℕ) → i < suc n → (i ≡ n) ⊎ (i < n)
+  last-or-below n i h = eq-or-lt-of-le (le-of-suc-le-suc h)
+
+  -- ---- every
+
+  pub every-at : (n i : ℕ) → every n p ≡ true → i < n → p i ≡ true
+  every-at zero i e h = absurd (not-suc-le-zero h)
+  every-at (suc n) i e h = ⊎-elim (λ q. rw q (and-2 (every n p) (p n) e)) (λ l. every-at n i (and-1 (every n p) (p n) e) l) (last-or-below n i h)
+
+  pub every-i : (n : ℕ) → ((i : ℕ) → i < n → p i ≡ true) → every n p ≡ true
+  every-i zero f = refl
+  every-i (suc n) f = and-i (every-i n (λ i h. f i (omega arith))) (f n (omega arith))
+
+  pub every-no : (n i : ℕ) → i < n → p i ≡ false → every n p ≡ false
+  every-no zero i h e = absurd (not-suc-le-zero h)
+  every-no (suc n) i h e = ⊎-elim (λ q. and-no (every n p) (p n) (rw q at e)) (λ l. rw (every-no n i l e)) (last-or-below n i h)
+
+  -- the loop's invariant: all before i passed
+  abbrev pub Passed : ℕ → ℕ → Type 0
+  Passed n i = (i ≤ n) × (every i p ≡ true)
+
+  pub passed-start : (n : ℕ) → Passed n 0
+  passed-start n = (omega arith, refl)
+
+  pub passed-stop : (n i : ℕ) {b : Bool} → i < n → b ≡ p i → not b ≡ true → false ≡ every n p
+  passed-stop n i h e t = sym (every-no n i h (sym e ∙ not-yes t))
+
+  pub passed-more : (n i : ℕ) {b : Bool} → i < n → b ≡ p i → not b ≡ false → Passed n i → Passed n (i + 1)
+  passed-more n i h e t w = (omega arith, rw add-one (and-i (w .1) (sym e ∙ no-not t)))
+
+  pub passed-end : (n i : ℕ) → n ≤ i → Passed n i → true ≡ every n p
+  passed-end n i h w = let e : n ≡ i = omega arith in rw e (sym (w .1))
+
+  -- ---- some
+
+  pub some-i : (n i : ℕ) → i < n → p i ≡ true → some n p ≡ true
+  some-i zero i h e = absurd (not-suc-le-zero h)
+  some-i (suc n) i h e = ⊎-elim (λ q. or-2 (some n p) (p n) (rw q at e)) (λ l. or-1 (some n p) (p n) (some-i n i l e)) (last-or-below n i h)
+
+  pub some-at : (n : ℕ) → some n p ≡ true → (i : ℕ) × (i < n) × (p i ≡ true)
+  some-at zero e = clash e refl
+  some-at (suc n) e = go (or-cases (some n p) (p n) e) (λ h. some-at n h)
+    where
+      go : (some n p ≡ true) ⊎ (p n ≡ true) → (some n p ≡ true → (i : ℕ) × (i < n) × (p i ≡ true)) → (i : ℕ) × (i < suc n) × (p i ≡ true)
+      go (inl h) ih = let (i, l, q) = ih h in (i, omega arith, q)
+      go (inr h) ih = (n, omega arith, h)
+
+  -- the loop's invariant: none before i passed
+  abbrev pub Sought : ℕ → ℕ → Type 0
+  Sought n i = (i ≤ n) × (some i p ≡ false)
+
+  pub sought-start : (n : ℕ) → Sought n 0
+  sought-start n = (omega arith, refl)
+
+  pub sought-stop : (n i : ℕ) {b : Bool} → i < n → b ≡ p i → b ≡ true → true ≡ some n p
+  sought-stop n i h e t = sym (some-i n i h (sym e ∙ t))
+
+  pub sought-more : (n i : ℕ) {b : Bool} → i < n → b ≡ p i → b ≡ false → Sought n i → Sought n (i + 1)
+  sought-more n i h e t w = (omega arith, rw (add-one, some, w .1, ← e, t))
+
+  pub sought-end : (n i : ℕ) → n ≤ i → Sought n i → false ≡ some n p
+  sought-end n i h w = let e : n ≡ i = omega arith in rw e (sym (w .1))
+
+  -- ---- count
+
+  pub count-most : (n : ℕ) → countBelow n p ≤ n
+  count-most zero = omega arith
+  count-most (suc n) = go (p n) (count-most n)
+    where
+      go : (b : Bool) → countBelow n p ≤ n → countBelow n p + one b ≤ suc n
+      go true h = omega arith
+      go false h = omega arith
+
+  -- the loop's invariant: so many before i passed
+  abbrev pub Counted : ℕ → ℕ → ℕ → Type 0
+  Counted n i k = (i ≤ n) × (k ≡ countBelow i p) × (k ≤ i)
+
+  pub counted-start : (n : ℕ) → Counted n 0 0
+  counted-start n = (omega arith, refl, omega arith)
+
+  pub counted-yes : (n i k j : ℕ) {b : Bool} → i < n → b ≡ p i → b ≡ true → j ≡ k + 1 → Counted n i k → Counted n (i + 1) j
+  counted-yes n i k j h e t q w = (omega arith, rw (q, add-one i, ← e, t, w .1), omega arith)
+
+  pub counted-no : (n i k j : ℕ) {b : Bool} → i < n → b ≡ p i → b ≡ false → j ≡ k → Counted n i k → Counted n (i + 1) j
+  counted-no n i k j h e t q w = (omega arith, rw (q, add-one i, ← e, t, w .1) (omega arith), omega arith)
+
+  pub counted-end : (n i k : ℕ) → n ≤ i → Counted n i k → k ≡ countBelow n p
+  counted-end n i k h w = let e : n ≡ i = omega arith in rw e (w .1)
+
+-- ---- two tests that agree below n
+
+module _ (p q : ℕ → Bool) where
+  pub every-same : (n : ℕ) → ((i : ℕ) → i < n → p i ≡ q i) → every n p ≡ every n q
+  every-same zero f = refl
+  every-same (suc n) f = rw (every-same n (λ i h. f i (omega arith)), f n (omega arith))

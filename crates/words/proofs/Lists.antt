@@ -1,0 +1,294 @@
+-- Laws of the tests on lists: membership, all, any, count, keep, and lists after `set`, `map`, `++`.
+use Prim.Native.Nat.{ℕ, zero, suc, _+_, _≤_, _<_}
+use mathlib.Core.Path.{_≡_, refl, sym, ap, subst, _∙_}
+use mathlib.Core.Logic.{_⊎_, inl, inr, _≢_}
+use mathlib.Core.Bool.{Bool, true, false, not, _&&_, _||_, true≢false, false≢true}
+use mathlib.Core.List.{List, [], _∷_, _++_, map}
+use native.Mathlib.Omega.{arith}
+use native.Mathlib.Decide.{decLe}
+use lib.ListN.{length, getD, set, take, drop, length-set, replicate}
+use lib.Seq.{getD-set-same, getD-set-other}
+use lib.Dec.{eqb}
+use borrow.Author.Tests.{eqb-true, eqb-false}
+use Rattle.words.specs.Words.{pick, all, any, count, keep}
+use Rattle.words.proofs.Flags.{and-1, and-2, and-i, and-no, or-cases, or-1, or-2, or-no-1, or-no-2, flag, not-yes, clash, iff, not-no, no-not, no-yes, by-flag, same-is, is-same, imp-use, imp-i, imp-idle, imp-met}
+
+module _ {A : Type 0} where
+  abbrev pub In : A → List A → Type 0
+  In x [] = ⊥
+  In x (y ∷ l) = (x ≡ y) ⊎ In x l
+
+  module _ (p : A → Bool) where
+    pub all-in : (l : List A) → all p l ≡ true → {x : A} → In x l → p x ≡ true
+    all-in [] e m = absurd m
+    all-in (y ∷ l) e (inl q) = rw q (and-1 (p y) (all p l) e)
+    all-in (y ∷ l) e (inr m) = all-in l (and-2 (p y) (all p l) e) m
+
+    pub in-all : (l : List A) → ((x : A) → In x l → p x ≡ true) → all p l ≡ true
+    in-all [] f = refl
+    in-all (y ∷ l) f = and-i (f y (inl refl)) (in-all l (λ x m. f x (inr m)))
+
+    pub in-any : (l : List A) {x : A} → In x l → p x ≡ true → any p l ≡ true
+    in-any [] m e = absurd m
+    in-any (y ∷ l) (inl q) e = or-1 (p y) (any p l) (rw q at e)
+    in-any (y ∷ l) (inr m) e = or-2 (p y) (any p l) (in-any l m e)
+
+    pub any-in : (l : List A) → any p l ≡ true → (x : A) × In x l × (p x ≡ true)
+    any-in [] e = absurd (false≢true e)
+    any-in (y ∷ l) e = go (or-cases (p y) (any p l) e) (λ h. any-in l h)
+      where
+        go : (p y ≡ true) ⊎ (any p l ≡ true) → (any p l ≡ true → (x : A) × In x l × (p x ≡ true)) → (x : A) × In x (y ∷ l) × (p x ≡ true)
+        go (inl h) ih = (y, inl refl, h)
+        go (inr h) ih = let (x, m, q) = ih h in (x, inr m, q)
+
+    pub in-keep : (l : List A) {x : A} → In x (keep p l) → In x l × (p x ≡ true)
+    in-keep [] m = absurd m
+    in-keep (y ∷ l) {x} m = go (λ n. in-keep l n) (p y) refl m
+      where
+        go : (In x (keep p l) → In x l × (p x ≡ true)) → (b : Bool) → p y ≡ b → In x (pick b (y ∷ keep p l) (keep p l)) → In x (y ∷ l) × (p x ≡ true)
+        go ih true e (inl q) = (inl q, rw q e)
+        go ih true e (inr n) = (inr (ih n .0), ih n .1)
+        go ih false e n = (inr (ih n .0), ih n .1)
+
+    pub keep-in : (l : List A) {x : A} → In x l → p x ≡ true → In x (keep p l)
+    keep-in [] m e = absurd m
+    keep-in (y ∷ l) {x} (inl q) e = let h : p y ≡ true = rw q at e in rw h (inl q)
+    keep-in (y ∷ l) {x} (inr m) e = go (keep-in l m e) (p y)
+      where
+        go : In x (keep p l) → (b : Bool) → In x (pick b (y ∷ keep p l) (keep p l))
+        go ih true = inr ih
+        go ih false = ih
+
+    pub keep-le : (l : List A) → length (keep p l) ≤ length l
+    keep-le [] = omega arith
+    keep-le (y ∷ l) = go (p y) (keep-le l)
+      where
+        go : (b : Bool) → length (keep p l) ≤ length l → length (pick b (y ∷ keep p l) (keep p l)) ≤ suc (length l)
+        go true h = omega arith
+        go false h = omega arith
+
+    pub keep-lt : (l : List A) {x : A} → In x l → p x ≡ false → length (keep p l) < length l
+    keep-lt [] m e = absurd m
+    keep-lt (y ∷ l) (inl q) e = let h : p y ≡ false = rw q at e in rw h (omega (arith, keep-le l))
+    keep-lt (y ∷ l) (inr m) e = go (p y) (keep-lt l m e)
+      where
+        go : (b : Bool) → length (keep p l) < length l → length (pick b (y ∷ keep p l) (keep p l)) < suc (length l)
+        go true h = omega arith
+        go false h = omega arith
+
+    pub count-in : (l : List A) {x : A} → In x l → p x ≡ true → 0 < count p l
+    count-in [] m e = absurd m
+    count-in (y ∷ l) (inl q) e = let h : p y ≡ true = rw q at e in rw h (omega arith)
+    count-in (y ∷ l) (inr m) e = go (p y) (count-in l m e)
+      where
+        go : (b : Bool) → 0 < count p l → 0 < pick b (suc (count p l)) (count p l)
+        go true h = omega arith
+        go false h = h
+
+    pub count-any : (l : List A) → 0 < count p l → any p l ≡ true
+    count-any [] h = absurd (omega arith)
+    count-any (y ∷ l) h = go (λ k. count-any l k) (p y) h
+      where
+        go : (0 < count p l → any p l ≡ true) → (b : Bool) → 0 < pick b (suc (count p l)) (count p l) → (b || any p l) ≡ true
+        go ih true k = refl
+        go ih false k = ih k
+
+    -- where one passes, those that pass are one
+    pub count-one : (l : List A) → count p l ≡ 1 → {x y : A} → In x l → p x ≡ true → In y l → p y ≡ true → x ≡ y
+    count-one [] c m e n f = absurd m
+    count-one (z ∷ l) c {x} {y} m e n f = go (λ k q r. count-one l k q e r f) (p z) refl c m n
+      where
+        go : (count p l ≡ 1 → In x l → In y l → x ≡ y) → (b : Bool) → p z ≡ b → pick b (suc (count p l)) (count p l) ≡ 1 → In x (z ∷ l) → In y (z ∷ l) → x ≡ y
+        go ih true h k (inl q) (inl r) = q ∙ sym r
+        go ih true h k (inl q) (inr r) = absurd (omega (arith, count-in l r f))
+        go ih true h k (inr q) r = absurd (omega (arith, count-in l q e))
+        go ih false h k (inl q) r = clash e (rw q h)
+        go ih false h k (inr q) (inl r) = clash f (rw r h)
+        go ih false h k (inr q) (inr r) = ih k q r
+
+  pub not-twice : (p : A → Bool) (y : A) (l : List A) → count p (y ∷ l) ≡ 1 → {x : A} → In x l → p x ≡ true → p y ≡ false
+  not-twice p y l c m e = go (p y) c
+    where
+      go : (b : Bool) → pick b (suc (count p l)) (count p l) ≡ 1 → b ≡ false
+      go true h = absurd (omega (arith, count-in p l m e))
+      go false h = refl
+
+  pub count-ext : (p q : A → Bool) (l : List A) → ((x : A) → In x l → p x ≡ q x) → count p l ≡ count q l
+  count-ext p q [] f = refl
+  count-ext p q (y ∷ l) f = rw (f y (inl refl), count-ext p q l (λ x m. f x (inr m)))
+
+  pub any-ext : (p q : A → Bool) (l : List A) → ((x : A) → In x l → p x ≡ q x) → any p l ≡ any q l
+  any-ext p q [] f = refl
+  any-ext p q (y ∷ l) f = rw (f y (inl refl), any-ext p q l (λ x m. f x (inr m)))
+
+  pub count-keep : (p r : A → Bool) (l : List A) → ((x : A) → p x ≡ true → r x ≡ true) → count p (keep r l) ≡ count p l
+  count-keep p r [] f = refl
+  count-keep p r (y ∷ l) f = go (count-keep p r l f) (r y) refl (p y) refl
+    where
+      go : count p (keep r l) ≡ count p l → (b : Bool) → r y ≡ b → (c : Bool) → p y ≡ c → count p (pick b (y ∷ keep r l) (keep r l)) ≡ pick c (suc (count p l)) (count p l)
+      go ih true e true h = rw (h, ih)
+      go ih true e false h = rw (h, ih)
+      go ih false e true h = clash (f y h) e
+      go ih false e false h = ih
+
+  pub any-keep : (p r : A → Bool) (l : List A) → ((x : A) → p x ≡ true → r x ≡ true) → any p (keep r l) ≡ any p l
+  any-keep p r l f = iff up down
+    where
+      up : any p (keep r l) ≡ true → any p l ≡ true
+      up e = let (x, m, q) = any-in p (keep r l) e in in-any p l (in-keep r l m .0) q
+
+      down : any p l ≡ true → any p (keep r l) ≡ true
+      down e = let (x, m, q) = any-in p l e in in-any p (keep r l) (keep-in r l m (f x q)) q
+
+  pub in-getD : (l : List A) (i : ℕ) (d : A) → i < length l → In (getD l i d) l
+  in-getD [] i d h = absurd (omega arith)
+  in-getD (x ∷ l) zero d h = inl refl
+  in-getD (x ∷ l) (suc i) d h = inr (in-getD l i d (omega arith))
+
+  pub in-index : (l : List A) (d x : A) → In x l → (i : ℕ) × (i < length l) × (getD l i d ≡ x)
+  in-index [] d x m = absurd m
+  in-index (y ∷ l) d x (inl q) = (0, omega arith, sym q)
+  in-index (y ∷ l) d x (inr m) = let (i, h, e) = in-index l d x m in (suc i, omega arith, e)
+
+  pub in-take : (n : ℕ) (l : List A) (x : A) → In x (take n l) → In x l
+  in-take zero l x m = absurd m
+  in-take (suc n) [] x m = absurd m
+  in-take (suc n) (y ∷ l) x (inl q) = inl q
+  in-take (suc n) (y ∷ l) x (inr m) = inr (in-take n l x m)
+
+  pub in-drop : (n : ℕ) (l : List A) (x : A) → In x (drop n l) → In x l
+  in-drop zero l x m = m
+  in-drop (suc n) [] x m = absurd m
+  in-drop (suc n) (y ∷ l) x m = inr (in-drop n l x m)
+
+  -- one place passes: as a count
+  module _ (p : A → Bool) (d : A) where
+    count-none : (l : List A) → ((j : ℕ) → j < length l → p (getD l j d) ≡ true → ⊥) → count p l ≡ 0
+    count-none [] f = refl
+    count-none (x ∷ l) f = rw (no-yes (f 0 (omega arith))) (count-none l (λ j h. f (suc j) (omega arith)))
+
+    pub count-index : (l : List A) → count p l ≡ 1 → (i j : ℕ) → i < length l → j < length l → p (getD l i d) ≡ true → p (getD l j d) ≡ true → i ≡ j
+    count-index [] c i j h k e f = absurd (omega arith)
+    count-index (x ∷ l) c zero zero h k e f = refl
+    count-index (x ∷ l) c zero (suc j) h k e f =
+        let z : suc (count p l) ≡ 1 = rw e at c in
+        absurd (omega (arith, count-in p l (in-getD l j d (omega arith)) f))
+    count-index (x ∷ l) c (suc i) zero h k e f =
+        let z : suc (count p l) ≡ 1 = rw f at c in
+        absurd (omega (arith, count-in p l (in-getD l i d (omega arith)) e))
+    count-index (x ∷ l) c (suc i) (suc j) h k e f = ap suc (count-index l (go (p x) c) i j (omega arith) (omega arith) e f)
+      where
+        go : (b : Bool) → pick b (suc (count p l)) (count p l) ≡ 1 → count p l ≡ 1
+        go true z = absurd (omega (arith, count-in p l (in-getD l i d (omega arith)) e))
+        go false z = z
+
+    pub index-count : (l : List A) (i : ℕ) → i < length l → p (getD l i d) ≡ true → ((j : ℕ) → j < length l → p (getD l j d) ≡ true → j ≡ i) → count p l ≡ 1
+    index-count [] i h e f = absurd (omega arith)
+    index-count (x ∷ l) zero h e f = rw e (ap suc (count-none l (λ j k q. let z : suc j ≡ 0 = f (suc j) (omega arith) q in omega arith)))
+    index-count (x ∷ l) (suc i) h e f =
+        let x-no : p x ≡ false = no-yes (λ q. let z : 0 ≡ suc i = f 0 (omega arith) q in omega arith) in
+        rw x-no (index-count l i (omega arith) e (λ j k q. let z : suc j ≡ suc i = f (suc j) (omega arith) q in omega arith))
+
+  pub count-append : (p : A → Bool) (l m : List A) → count p (l ++ m) ≡ count p l + count p m
+  count-append p [] m = omega arith
+  count-append p (x ∷ l) m = go (p x) (count-append p l m)
+    where
+      go : (b : Bool) → count p (l ++ m) ≡ count p l + count p m → pick b (suc (count p (l ++ m))) (count p (l ++ m)) ≡ pick b (suc (count p l)) (count p l) + count p m
+      go true h = omega arith
+      go false h = omega arith
+
+  pub any-append : (p : A → Bool) (l m : List A) → any p (l ++ m) ≡ (any p l || any p m)
+  any-append p [] m = refl
+  any-append p (x ∷ l) m = go (p x) (any-append p l m)
+    where
+      go : (b : Bool) → any p (l ++ m) ≡ (any p l || any p m) → (b || any p (l ++ m)) ≡ ((b || any p l) || any p m)
+      go true h = refl
+      go false h = h
+
+  pub in-append : (l m : List A) (x : A) → In x (l ++ m) → In x l ⊎ In x m
+  in-append [] m x n = inr n
+  in-append (y ∷ l) m x (inl q) = inl (inl q)
+  in-append (y ∷ l) m x (inr n) = go (in-append l m x n)
+    where
+      go : In x l ⊎ In x m → In x (y ∷ l) ⊎ In x m
+      go (inl a) = inl (inr a)
+      go (inr b) = inr b
+
+  pub none-count : (p : A → Bool) (l : List A) → any p l ≡ false → count p l ≡ 0
+  none-count p [] e = refl
+  none-count p (x ∷ l) e = go (p x) e (none-count p l)
+    where
+      go : (b : Bool) → (b || any p l) ≡ false → (any p l ≡ false → count p l ≡ 0) → pick b (suc (count p l)) (count p l) ≡ 0
+      go true h f = absurd (true≢false h)
+      go false h f = f h
+
+  -- a list with one place changed, place by place
+  pub each : (P : ℕ → A → Type 0) (l : List A) (d : A) (n : ℕ) (v : A) → P n v → ((j : ℕ) → j < length l → j ≢ n → P j (getD l j d))
+      → (j : ℕ) → j < length (set l n v) → P j (getD (set l n v) j d)
+  each P l d n v a f j h = go (flag (eqb j n))
+    where
+      k : j < length l
+      k = rw length-set at h
+
+      go : (eqb j n ≡ true) ⊎ (eqb j n ≡ false) → P j (getD (set l n v) j d)
+      go (inl e) = let q : j ≡ n = eqb-true j n e in rw (q, getD-set-same l n v d (rw q at k)) a
+      go (inr e) = rw (getD-set-other l n j v d (eqb-false j n e)) (f j k (eqb-false j n e))
+
+  -- neither the old one nor the new one passes
+  pub any-set-same : (p : A → Bool) (d : A) (l : List A) (n : ℕ) (v : A) → p v ≡ false → p (getD l n d) ≡ false → any p (set l n v) ≡ any p l
+  any-set-same p d [] n v e f = refl
+  any-set-same p d (x ∷ l) zero v e f = rw (e, f)
+  any-set-same p d (x ∷ l) (suc n) v e f = rw (any-set-same p d l n v e f)
+
+  pub in-set-same : (l : List A) (n : ℕ) (v : A) → n < length l → In v (set l n v)
+  in-set-same [] n v h = absurd (omega arith)
+  in-set-same (x ∷ l) zero v h = inl refl
+  in-set-same (x ∷ l) (suc n) v h = inr (in-set-same l n v (omega arith))
+
+  pub in-set-other : (l : List A) (n : ℕ) (v d : A) (j : ℕ) → j < length l → j ≢ n → In (getD l j d) (set l n v)
+  in-set-other l n v d j h k =
+      let m : In (getD (set l n v) j d) (set l n v) = in-getD (set l n v) j d (rw length-set h) in
+      rw (getD-set-other l n j v d k) at m
+
+  pub in-replicate : (n : ℕ) (a x : A) → In x (replicate n a) → x ≡ a
+  in-replicate zero a x m = absurd m
+  in-replicate (suc n) a x (inl q) = q
+  in-replicate (suc n) a x (inr m) = in-replicate n a x m
+
+  -- all after a change of one place
+  pub all-set : (p : A → Bool) (l : List A) (i : ℕ) (v : A) → all p l ≡ true → p v ≡ true → all p (set l i v) ≡ true
+  all-set p [] i v e h = refl
+  all-set p (x ∷ l) zero v e h = and-i h (and-2 (p x) (all p l) e)
+  all-set p (x ∷ l) (suc i) v e h = and-i (and-1 (p x) (all p l) e) (all-set p l i v (and-2 (p x) (all p l) e) h)
+
+  pub set-some : (p : A → Bool) (l : List A) (i : ℕ) (v : A) → i < length l → p v ≡ false → all p (set l i v) ≡ false
+  set-some p [] i v h e = absurd (omega arith)
+  set-some p (x ∷ l) zero v h e = rw e
+  set-some p (x ∷ l) (suc i) v h e = rw (set-some p l i v (omega arith) e) (go (p x))
+    where
+      go : (b : Bool) → (b && false) ≡ false
+      go true = refl
+      go false = refl
+
+module _ {A B : Type 0} (f : A → B) where
+  pub map-in : (l : List A) (x : A) → In x l → In (f x) (map f l)
+  map-in [] x m = absurd m
+  map-in (y ∷ l) x (inl q) = inl (ap f q)
+  map-in (y ∷ l) x (inr m) = inr (map-in l x m)
+
+  pub in-map : (l : List A) {y : B} → In y (map f l) → (x : A) × In x l × (y ≡ f x)
+  in-map [] m = absurd m
+  in-map (x ∷ l) (inl q) = (x, inl refl, q)
+  in-map (x ∷ l) (inr m) = let (z, n, e) = in-map l m in (z, inr n, e)
+
+  pub any-map : (p : B → Bool) (l : List A) → any p (map f l) ≡ any (λ x. p (f x)) l
+  any-map p [] = refl
+  any-map p (x ∷ l) = rw (any-map p l)
+
+  pub all-map : (p : B → Bool) (l : List A) → all p (map f l) ≡ all (λ x. p (f x)) l
+  all-map p [] = refl
+  all-map p (x ∷ l) = rw (all-map p l)
+
+  pub count-map : (p : B → Bool) (l : List A) → count p (map f l) ≡ count (λ x. p (f x)) l
+  count-map p [] = refl
+  count-map p (x ∷ l) = rw (count-map p l)

@@ -1,0 +1,242 @@
+-- Laws of places and blocks: how a region of a slice, and what is put there, is that of a block, and of one record of a table.
+use mathlib.Core.Path.{_≡_, refl, sym, ap, _∙_, subst}
+use mathlib.Core.List.{List, [], _∷_, _++_, append-assoc, append-nil}
+use Prim.Native.Nat.{ℕ, zero, suc, _+_, _-_, _*_, _≤_, _<_, zero-le}
+use native.Mathlib.Nat.{zero-add, suc-add, add-zero, add-suc, add-assoc, add-comm, mul-zero, mul-suc, mul-add, mul-le-mul-left, le-trans, sub-zero, le-of-suc-le-suc, not-suc-le-zero}
+use native.Mathlib.Numerals.{add-one}
+use native.Mathlib.Omega.{arith}
+use lib.ListN.{take-append-drop, length, take, drop, getD, set, replicate, length-append, length-take, length-drop, length-replicate, List·getD-append}
+use lib.Seq.{take-append-le, drop-append-le, drop-append-add, take-append-add, sets, sets-eq, drop-drop, take-at, drop-at, take-all, drop-length, getD-append-add, length-take-le, paste, paste-zero, paste-suc}
+use Rattle.words.specs.Regions.{region, put, closedUp, closed, ahead, dropped}
+use Rattle.words.specs.Words.{fit, places, joined}
+use Rattle.words.proofs.Region.{getD-region, length-closed, length-region}
+
+-- ---- a slice of two parts
+
+pub region-past : (p l : List ℕ) (k n : ℕ) → region (p ++ l) (length p + k) n ≡ region l k n
+unfolding region
+region-past p l k n = ap (take n) (drop-append-add p l k)
+
+pub region-within : (p l : List ℕ) (k n : ℕ) → k + n ≤ length p → region (p ++ l) k n ≡ region p k n
+unfolding region
+region-within p l k n h =
+    ap (take n) (drop-append-le k p l (omega arith)) ∙ take-append-le n (drop k p) l (rw length-drop (omega arith))
+
+pub put-past : (p l : List ℕ) (k : ℕ) (r : List ℕ) → put (p ++ l) (length p + k) r ≡ p ++ put l k r
+unfolding put
+put-past p l k r = simp (take-append-add, add-assoc, drop-append-add, append-assoc)
+
+pub put-within : (p l : List ℕ) (k : ℕ) (r : List ℕ) → k + length r ≤ length p → put (p ++ l) k r ≡ put p k r ++ l
+unfolding put
+put-within p l k r h =
+    let a : k ≤ length p = omega arith in
+    rw (take-append-le k p l a, drop-append-le (k + length r) p l h) (sym (append-assoc (take k p ++ r) (drop (k + length r) p) l))
+
+pub put-whole : (l r : List ℕ) → length r ≡ length l → put l 0 r ≡ r
+unfolding put
+put-whole l r e = rw (zero-add, e, drop-length) (append-nil r)
+
+pub region-whole : (l : List ℕ) (n : ℕ) → length l ≡ n → region l 0 n ≡ l
+unfolding region
+region-whole l n e = take-all n l (omega arith)
+
+pub sets-put : (l : List ℕ) (i : ℕ) (vs : List ℕ) → i + length vs ≤ length l → sets l i vs ≡ put l i vs
+unfolding put
+sets-put l i vs h = sets-eq vs l i h
+
+-- ---- blocks
+
+region-block : (bs : List (List ℕ)) (j k m : ℕ) → j < length bs → k + m ≤ length (getD bs j []) → region (joined bs) (ahead bs j + k) m ≡ region (getD bs j []) k m
+region-block [] j k m h g = absurd (not-suc-le-zero h)
+region-block (b ∷ bs) zero k m h g = rw zero-add (region-within b (joined bs) k m g)
+region-block (b ∷ bs) (suc j) k m h g = rw add-assoc (region-past b (joined bs) (ahead bs j + k) m ∙ region-block bs j k m (le-of-suc-le-suc h) g)
+
+put-block : (bs : List (List ℕ)) (j k : ℕ) (r : List ℕ) → j < length bs → k + length r ≤ length (getD bs j []) → put (joined bs) (ahead bs j + k) r ≡ joined (set bs j (put (getD bs j []) k r))
+put-block [] j k r h g = absurd (not-suc-le-zero h)
+put-block (b ∷ bs) zero k r h g = rw zero-add (put-within b (joined bs) k r g)
+put-block (b ∷ bs) (suc j) k r h g = rw add-assoc (put-past b (joined bs) (ahead bs j + k) r ∙ ap (λ (l : List ℕ). b ++ l) (put-block bs j k r (le-of-suc-le-suc h) g))
+
+get-block : (bs : List (List ℕ)) (j k : ℕ) → j < length bs → k < length (getD bs j []) → getD (joined bs) (ahead bs j + k) 0 ≡ getD (getD bs j []) k 0
+get-block [] j k h g = absurd (not-suc-le-zero h)
+get-block (b ∷ bs) zero k h g = rw zero-add (List·getD-append b (joined bs) 0 k g)
+get-block (b ∷ bs) (suc j) k h g = rw add-assoc (getD-append-add b (joined bs) (ahead bs j + k) 0 ∙ get-block bs j k (le-of-suc-le-suc h) g)
+
+-- the same of a slice that is those blocks, at an index that is k past the block's start
+module _ (bs : List (List ℕ)) (j k : ℕ) {l : List ℕ} {i : ℕ} (e : l ≡ joined bs) (at : i ≡ ahead bs j + k) (h : j < length bs) where
+  pub block-region : (m : ℕ) → k + m ≤ length (getD bs j []) → region l i m ≡ region (getD bs j []) k m
+  block-region m g = rw (e, at) (region-block bs j k m h g)
+
+  pub block-put : (r : List ℕ) → k + length r ≤ length (getD bs j []) → put l i r ≡ joined (set bs j (put (getD bs j []) k r))
+  block-put r g = rw (e, at) (put-block bs j k r h g)
+
+  pub block-get : k < length (getD bs j []) → getD l i 0 ≡ getD (getD bs j []) k 0
+  block-get g = rw (e, at) (get-block bs j k h g)
+
+-- ---- strides
+
+pub stride : (w n e : ℕ) → e < n → (w * e + w * (n - e) ≡ w * n) × (w ≤ w * (n - e)) × (w * e + w ≤ w * n)
+stride w n e h =
+    let z : e + (n - e) ≡ n = omega arith in
+    let a : w * e + w * (n - e) ≡ w * n = sym (mul-add w e (n - e)) ∙ ap (λ (x : ℕ). w * x) z in
+    let c : w * 1 ≤ w * (n - e) = mul-le-mul-left w (omega arith) in
+    (a, omega arith, omega arith)
+
+-- ---- one record
+
+pub length-fit : (w : ℕ) (l : List ℕ) → length (fit w l) ≡ w
+unfolding fit
+length-fit zero l = refl
+length-fit (suc w) [] = ap suc (length-fit w [])
+length-fit (suc w) (x ∷ l) = ap suc (length-fit w l)
+
+pub fit-zeros : (w : ℕ) → fit w [] ≡ replicate w 0
+unfolding fit
+fit-zeros zero = refl
+fit-zeros (suc w) = ap (λ (l : List ℕ). 0 ∷ l) (fit-zeros w)
+
+-- what fits stands first
+pub take-fit : (w : ℕ) (l : List ℕ) → length l ≤ w → take (length l) (fit w l) ≡ l
+unfolding fit
+take-fit zero [] h = refl
+take-fit zero (x ∷ l) h = absurd (not-suc-le-zero h)
+take-fit (suc w) [] h = refl
+take-fit (suc w) (x ∷ l) h = ap (λ (t : List ℕ). x ∷ t) (take-fit w l (le-of-suc-le-suc h))
+
+fit-append : (w : ℕ) (r : List ℕ) → length r ≤ w → r ++ drop (length r) (replicate w 0) ≡ fit w r
+unfolding fit
+fit-append w [] h = sym (fit-zeros w)
+fit-append zero (x ∷ r) h = absurd (not-suc-le-zero h)
+fit-append (suc w) (x ∷ r) h = ap (λ (t : List ℕ). x ∷ t) (fit-append w r (le-of-suc-le-suc h))
+
+-- ---- numbers copied out into zeros, one a turn
+
+abbrev pub Copying : ℕ → List ℕ → List ℕ → ℕ → Type 0
+Copying w r out i = out ≡ paste (replicate w 0) 0 r i
+
+pub copying-start : (w : ℕ) (r : List ℕ) → Copying w r (replicate w 0) 0
+copying-start w r = paste-zero (replicate w 0) 0 r
+
+pub copying-turn : (w : ℕ) (r out : List ℕ) (i v : ℕ) → i < w → i < length r → getD r i 0 ≡ v → Copying w r out i → Copying w r (set out i v) (i + 1)
+copying-turn w r out i v h k e c =
+    let n = length-replicate {A = ℕ} w 0 in
+    let z : 0 + i ≡ i = omega arith in
+    ap (λ (l : List ℕ). set l i v) c
+    ∙ ap (λ (x : ℕ). set (paste (replicate w 0) 0 r i) i x) (sym e)
+    ∙ ap (λ (x : ℕ). set (paste (replicate w 0) 0 r i) x (getD r i 0)) (sym z)
+    ∙ paste-suc (replicate w 0) 0 r i 0 (omega arith) k
+    ∙ ap (λ (x : ℕ). paste (replicate w 0) 0 r x) (sym (add-one i))
+
+pub copying-done : (w : ℕ) (r out : List ℕ) (i : ℕ) → length r ≡ i → i ≤ w → Copying w r out i → out ≡ fit w r
+copying-done w r out i e h c =
+    let z : 0 + i ≡ length r = omega arith in
+    c ∙ rw (take-all i r (omega arith), z) (fit-append w r (omega arith))
+
+module _ {A : Type 0} (g : A → List ℕ) (w : ℕ) where
+  pub length-places : (n : ℕ) (xs : List A) → length (places g w n xs) ≡ w * n
+  unfolding places
+  length-places zero xs = sym (mul-zero w)
+  length-places (suc n) [] = simp (length-append, length-fit, mul-suc, length-places n []) (omega arith)
+  length-places (suc n) (x ∷ xs) = simp (length-append, length-fit, mul-suc, length-places n xs) (omega arith)
+
+  -- an index past the first place
+  past : (x : A) (e : ℕ) → w * suc e ≡ length (fit w (g x)) + w * e
+  past x e = rw (length-fit, mul-suc) (omega arith)
+
+  pub places-region : (n e : ℕ) (xs : List A) (d : A) → e < length xs → length xs ≤ n → region (places g w n xs) (w * e) w ≡ fit w (g (getD xs e d))
+  unfolding places
+  places-region n e [] d h k = absurd (not-suc-le-zero h)
+  places-region zero e (x ∷ xs) d h k = absurd (not-suc-le-zero k)
+  places-region (suc n) zero (x ∷ xs) d h k =
+      let s : length (fit w (g x)) ≡ w = length-fit w (g x) in
+      rw mul-zero (region-within (fit w (g x)) (places g w n xs) 0 w (omega arith) ∙ region-whole (fit w (g x)) w s)
+  places-region (suc n) (suc e) (x ∷ xs) d h k =
+      rw (past x e) (region-past (fit w (g x)) (places g w n xs) (w * e) w ∙ places-region n e xs d (le-of-suc-le-suc h) (le-of-suc-le-suc k))
+
+  pub places-put : (n e : ℕ) (xs : List A) (y : A) → e < length xs → length xs ≤ n → put (places g w n xs) (w * e) (fit w (g y)) ≡ places g w n (set xs e y)
+  unfolding places
+  places-put n e [] y h k = absurd (not-suc-le-zero h)
+  places-put zero e (x ∷ xs) y h k = absurd (not-suc-le-zero k)
+  places-put (suc n) zero (x ∷ xs) y h k =
+      let s : length (fit w (g x)) ≡ w = length-fit w (g x) in
+      let r : length (fit w (g y)) ≡ w = length-fit w (g y) in
+      rw mul-zero (put-within (fit w (g x)) (places g w n xs) 0 (fit w (g y)) (omega arith) ∙ ap (λ (l : List ℕ). l ++ places g w n xs) (put-whole (fit w (g x)) (fit w (g y)) (r ∙ sym s)))
+  places-put (suc n) (suc e) (x ∷ xs) y h k =
+      rw (past x e) (put-past (fit w (g x)) (places g w n xs) (w * e) (fit w (g y)) ∙ ap (λ (l : List ℕ). fit w (g x) ++ l) (places-put n e xs y (le-of-suc-le-suc h) (le-of-suc-le-suc k)))
+
+  pad : (n : ℕ) (xs : List A) → length xs ≤ n → places g w n xs ++ replicate w 0 ≡ places g w (suc n) xs
+  unfolding places
+  pad zero [] h = rw fit-zeros (sym (append-nil (replicate w 0)))
+  pad zero (x ∷ xs) h = absurd (not-suc-le-zero h)
+  pad (suc n) [] h = append-assoc (fit w []) (places g w n []) (replicate w 0) ∙ ap (λ (l : List ℕ). fit w [] ++ l) (pad n [] zero-le)
+  pad (suc n) (x ∷ xs) h = append-assoc (fit w (g x)) (places g w n xs) (replicate w 0) ∙ ap (λ (l : List ℕ). fit w (g x) ++ l) (pad n xs (le-of-suc-le-suc h))
+
+  close-first : (n : ℕ) (x : A) (xs : List A) → length xs ≤ n → closedUp w (fit w (g x) ++ places g w n xs) ≡ places g w (suc n) xs
+  unfolding closedUp
+  close-first n x xs k = ap (λ (l : List ℕ). l ++ replicate w 0) (drop-at (fit w (g x)) (places g w n xs) w (length-fit w (g x))) ∙ pad n xs k
+
+  -- to take a record out is to close up from its place on
+  pub places-close : (n e : ℕ) (xs : List A) → e < length xs → length xs ≤ n → closed (places g w n xs) (w * e) (w * (n - e)) w ≡ places g w n (dropped e xs)
+  unfolding places
+  places-close n e [] h k = absurd (not-suc-le-zero h)
+  places-close zero e (x ∷ xs) h k = absurd (not-suc-le-zero k)
+  places-close (suc n) zero (x ∷ xs) h k =
+      let s : length (fit w (g x)) ≡ w = length-fit w (g x) in
+      let l : length (fit w (g x) ++ places g w n xs) ≡ w * suc n = simp (length-append, length-fit, mul-suc, length-places n xs) (omega arith) in
+      let c : length (closedUp w (fit w (g x) ++ places g w n xs)) ≡ length (fit w (g x) ++ places g w n xs) = length-closed w (fit w (g x) ++ places g w n xs) (rw length-append (omega arith)) in
+      rw (mul-zero, sub-zero)
+      (ap (λ (r : List ℕ). put (fit w (g x) ++ places g w n xs) 0 (closedUp w r)) (region-whole (fit w (g x) ++ places g w n xs) (w * suc n) l)
+      ∙ put-whole (fit w (g x) ++ places g w n xs) (closedUp w (fit w (g x) ++ places g w n xs)) c ∙ close-first n x xs (le-of-suc-le-suc k))
+  places-close (suc n) (suc e) (x ∷ xs) h k =
+      let z : suc n - suc e ≡ n - e = omega arith in
+      rw (past x e, z, region-past (fit w (g x)) (places g w n xs) (w * e) (w * (n - e)))
+      (put-past (fit w (g x)) (places g w n xs) (w * e) (closedUp w (region (places g w n xs) (w * e) (w * (n - e))))
+      ∙ ap (λ (l : List ℕ). fit w (g x) ++ l) (places-close n e xs (le-of-suc-le-suc h) (le-of-suc-le-suc k)))
+
+  -- number k of a record
+  pub places-get : (n e k : ℕ) (xs : List A) (d : A) → e < length xs → length xs ≤ n → k < w → getD (places g w n xs) (w * e + k) 0 ≡ getD (fit w (g (getD xs e d))) k 0
+  places-get n e k xs d h l m =
+      sym (getD-region (places g w n xs) (w * e) w k m) ∙ ap (λ (t : List ℕ). getD t k 0) (places-region n e xs d h l)
+
+-- ---- a field of a table in a slice of blocks: to take a record out, to store one anew, to read a number of one
+
+module _ {A : Type 0} (g : A → List ℕ) (w n : ℕ) (xs : List A) (bs : List (List ℕ)) (j e : ℕ) {l : List ℕ} {i : ℕ}
+    (is : l ≡ joined bs) (here : getD bs j [] ≡ places g w n xs) (at : i ≡ ahead bs j + w * e) (h : j < length bs) (k : e < length xs) (few : length xs ≤ n) where
+  size : length (getD bs j []) ≡ w * n
+  size = ap length here ∙ length-places g w n xs
+
+  one : w * e + w ≤ w * n
+  one = let a : w * suc e ≤ w * n = mul-le-mul-left w (le-trans k few) in let b = mul-suc w e in omega arith
+
+  rest : w * e + w * (n - e) ≡ w * n
+  rest = sym (mul-add w e (n - e)) ∙ ap (λ (x : ℕ). w * x) (omega arith)
+
+  pub field-close : {m : ℕ} {l′ : List ℕ} → m ≡ w * (n - e) → l′ ≡ closed l i m w → l′ ≡ joined (set bs j (places g w n (dropped e xs)))
+  field-close {m} {l′} f c =
+      let s = size in let o = one in let r = rest in
+      let z : length (closedUp w (region (getD bs j []) (w * e) (w * (n - e)))) ≡ w * (n - e) =
+      length-closed w (region (getD bs j []) (w * e) (w * (n - e))) (rw (length-region (getD bs j []) (w * e) (w * (n - e)) (omega arith)) (omega arith))
+      ∙ length-region (getD bs j []) (w * e) (w * (n - e)) (omega arith) in
+      c
+      ∙ ap (λ (x : ℕ). closed l i x w) f
+      ∙ ap (λ (x : List ℕ). put l i (closedUp w x)) (block-region bs j (w * e) is at h (w * (n - e)) (omega arith))
+      ∙ block-put bs j (w * e) is at h (closedUp w (region (getD bs j []) (w * e) (w * (n - e)))) (omega arith)
+      ∙ ap (λ (x : List ℕ). joined (set bs j (closed x (w * e) (w * (n - e)) w))) here
+      ∙ ap (λ (x : List ℕ). joined (set bs j x)) (places-close g w n e xs k few)
+
+  pub field-put : (y : A) {r l′ : List ℕ} → r ≡ fit w (g y) → l′ ≡ put l i r → l′ ≡ joined (set bs j (places g w n (set xs e y)))
+  field-put y {r} {l′} f c =
+      let s = size in let o = one in
+      let z : length (fit w (g y)) ≡ w = length-fit w (g y) in
+      c
+      ∙ ap (put l i) f
+      ∙ block-put bs j (w * e) is at h (fit w (g y)) (omega arith)
+      ∙ ap (λ (x : List ℕ). joined (set bs j (put x (w * e) (fit w (g y))))) here
+      ∙ ap (λ (x : List ℕ). joined (set bs j x)) (places-put g w n e xs y k few)
+
+  pub field-region : (d : A) → region l i w ≡ fit w (g (getD xs e d))
+  field-region d =
+      let s = size in let o = one in
+      block-region bs j (w * e) is at h w (omega arith) ∙ ap (λ (x : List ℕ). region x (w * e) w) here ∙ places-region g w n e xs d k few
+
+  pub field-get : (d : A) (p : ℕ) {q : ℕ} → p < w → q ≡ i + p → getD l q 0 ≡ getD (fit w (g (getD xs e d))) p 0
+  field-get d p below f = ap (λ (x : ℕ). getD l x 0) f ∙ sym (getD-region l i w p below) ∙ ap (λ (x : List ℕ). getD x p 0) (field-region d)

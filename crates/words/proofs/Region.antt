@@ -1,0 +1,200 @@
+-- Laws of a region of a slice, what is put in its place, a region that closes up.
+use mathlib.Core.Path.{_≡_, refl, sym, ap, _∙_, subst}
+use mathlib.Core.List.{List, [], _∷_, _++_, append-assoc}
+use Prim.Native.Nat.{ℕ, zero, suc, _+_, _-_, _≤_, _<_, zero-le}
+use native.Mathlib.Nat.{zero-add, suc-add, add-zero, add-suc, add-assoc, add-comm, add-sub-of-le, le-antisymm}
+use native.Mathlib.Numerals.{add-one}
+use native.Mathlib.Omega.{arith}
+use lib.ListN.{take-append-drop, length, take, drop, getD, set, replicate, length-append, length-take, length-drop, length-set, length-replicate, List·getD-append, getD-replicate, List·getD-eq-default}
+use lib.Seq.{take-append-le, drop-append-le, drop-append-add, sets, length-sets, set-append-left, drop-drop, take-at, drop-at, paste, paste-zero, paste-suc, length-paste, length-paste-head, length-take-le, take-all, getD-append-add, getD-take, getD-drop}
+use Rattle.words.specs.Regions.{region, put, closedUp}
+
+pub length-region : (l : List ℕ) (at n : ℕ) → at + n ≤ length l → length (region l at n) ≡ n
+unfolding region
+length-region l at n h = length-take-le n (drop at l) (rw length-drop (omega arith))
+
+pub getD-region : (l : List ℕ) (at n i : ℕ) → i < n → getD (region l at n) i 0 ≡ getD l (at + i) 0
+unfolding region
+getD-region l at n i h = getD-take n (drop at l) i 0 h ∙ getD-drop at l i 0
+
+pub put-paste : (l : List ℕ) (at : ℕ) (r : List ℕ) (n : ℕ) → length r ≡ n → paste l at r n ≡ put l at r
+unfolding put
+put-paste l at r n e = rw (take-all n r (omega arith), e)
+
+pub length-put : (l : List ℕ) (at : ℕ) (r : List ℕ) → at + length r ≤ length l → length (put l at r) ≡ length l
+length-put l at r h = ap length (sym (put-paste l at r (length r) refl)) ∙ length-paste l at r (length r) h (omega arith)
+
+-- past what is pasted stands what stood there
+pub getD-paste-past : (d : List ℕ) (at : ℕ) (s : List ℕ) (j k : ℕ) → at ≤ length d → j ≤ length s → getD (paste d at s j) (at + j + k) 0 ≡ getD d (at + j + k) 0
+getD-paste-past d at s j k h g =
+    ap (λ (x : ℕ). getD (paste d at s j) (x + k) 0) (sym (length-paste-head d at s j h g))
+    ∙ getD-append-add (take at d ++ take j s) (drop (at + j) d) k 0
+    ∙ getD-drop (at + j) d k 0
+
+pub length-closed : (by : ℕ) (r : List ℕ) → by ≤ length r → length (closedUp by r) ≡ length r
+unfolding closedUp
+length-closed by r h = simp (length-append, length-drop, length-replicate) (omega arith)
+
+pub closed-at : (by : ℕ) (r : List ℕ) (i : ℕ) → i < length r - by → getD (closedUp by r) i 0 ≡ getD r (by + i) 0
+unfolding closedUp
+closed-at by r i h =
+    List·getD-append (drop by r) (replicate by 0) 0 i (rw length-drop h) ∙ getD-drop by r i 0
+
+zeros-at : (n i : ℕ) → _≡_ {A = ℕ} (getD (replicate n 0) i 0) 0
+zeros-at zero i = refl
+zeros-at (suc n) zero = refl
+zeros-at (suc n) (suc i) = zeros-at n i
+
+pub closed-zero : (by : ℕ) (r : List ℕ) (i : ℕ) → length r - by ≤ i → getD (closedUp by r) i 0 ≡ 0
+unfolding closedUp
+closed-zero by r i h =
+    let e : i ≡ length (drop by r) + (i - (length r - by)) = rw length-drop (omega arith) in
+    ap (λ (k : ℕ). getD (drop by r ++ replicate by 0) k 0) e
+    ∙ getD-append-add (drop by r) (replicate by 0) (i - (length r - by)) 0
+    ∙ zeros-at by (i - (length r - by))
+
+-- ---- the two loops that close a region up: after i turns l has the first i numbers of the closed region
+
+abbrev pub Closing : List ℕ → ℕ → ℕ → ℕ → List ℕ → ℕ → Type 0
+Closing l at n by s i = (s ≡ paste l at (closedUp by (region l at n)) i) × (length s ≡ length l)
+
+module _ (l : List ℕ) (at n by : ℕ) (room : (by ≤ n) × (at + n ≤ length l)) where
+  closed-length : length (closedUp by (region l at n)) ≡ n
+  closed-length =
+      let e : length (region l at n) ≡ n = length-region l at n (room .1) in
+      length-closed by (region l at n) (omega arith) ∙ e
+
+  pub closing-start : Closing l at n by l 0
+  closing-start = (paste-zero l at (closedUp by (region l at n)), refl)
+
+  pub closing-turn : (s : List ℕ) (i v : ℕ) → i < n → getD (closedUp by (region l at n)) i 0 ≡ v → Closing l at n by s i → Closing l at n by (set s (at + i) v) (i + 1)
+  closing-turn s i v h e w =
+      let len = closed-length in (
+        ap (λ (x : List ℕ). set x (at + i) v) (w .0)
+            ∙ ap (λ (x : ℕ). set (paste l at (closedUp by (region l at n)) i) (at + i) x) (sym e)
+            ∙ paste-suc l at (closedUp by (region l at n)) i 0 (omega arith) (omega arith)
+            ∙ ap (λ (x : ℕ). paste l at (closedUp by (region l at n)) x) (sym (add-one i)),
+        length-set s (at + i) v ∙ w .1,
+      )
+
+  pub closing-move : (s : List ℕ) (i : ℕ) → i < n - by → Closing l at n by s i → Closing l at n by (set s (at + i) (getD s (at + i + by) 0)) (i + 1)
+  closing-move s i h w =
+      let len = closed-length in
+      let full : length (region l at n) ≡ n = length-region l at n (room .1) in
+      closing-turn s i (getD s (at + i + by) 0) (omega arith)
+      (closed-at by (region l at n) i (omega arith)
+      ∙ getD-region l at n (by + i) (omega arith)
+      ∙ ap (λ (x : ℕ). getD l x 0) (omega arith)
+      ∙ sym (getD-paste-past l at (closedUp by (region l at n)) i by (omega arith) (omega arith))
+      ∙ ap (λ (x : List ℕ). getD x (at + i + by) 0) (sym (w .0)))
+      w
+
+  pub closing-zero : (s : List ℕ) (i : ℕ) → n - by ≤ i → i < n → Closing l at n by s i → Closing l at n by (set s (at + i) 0) (i + 1)
+  closing-zero s i h k w =
+      let full : length (region l at n) ≡ n = length-region l at n (room .1) in
+      closing-turn s i 0 k (closed-zero by (region l at n) i (omega arith)) w
+
+  pub closing-done : (s : List ℕ) (i : ℕ) → i ≡ n → Closing l at n by s i → s ≡ put l at (closedUp by (region l at n))
+  closing-done s i e w = w .0 ∙ put-paste l at (closedUp by (region l at n)) i (closed-length ∙ sym e)
+
+-- four stores in a row
+pub sets-four : (l : List ℕ) (w a b c d : ℕ) → set (set (set (set l w a) (w + 1) b) (w + 2) c) (w + 3) d ≡ sets l w (a ∷ b ∷ c ∷ d ∷ [])
+sets-four l w a b c d =
+    let e : w + 1 ≡ suc w = omega arith in
+    let f : w + 2 ≡ suc (suc w) = omega arith in
+    let g : w + 3 ≡ suc (suc (suc w)) = omega arith in
+    rw (e, f, g)
+
+pub region-first : (l : List ℕ) (at n : ℕ) → 0 < n → getD (region l at n) 0 0 ≡ getD l at 0
+region-first l at n h = getD-region l at n 0 h ∙ ap (λ (k : ℕ). getD l k 0) (add-zero at)
+
+-- ---- a run of stores, and where the parts of a slice lie
+
+pub set-past : (p l : List ℕ) (k v : ℕ) → set (p ++ l) (length p + k) v ≡ p ++ set l k v
+set-past [] l k v = rw zero-add
+set-past (x ∷ p) l k v = rw suc-add (ap (λ (t : List ℕ). x ∷ t) (set-past p l k v))
+
+pub sets-past : (p l : List ℕ) (k : ℕ) (vs : List ℕ) → sets (p ++ l) (length p + k) vs ≡ p ++ sets l k vs
+sets-past p l k [] = refl
+sets-past p l k (v ∷ vs) =
+    ap (λ (t : List ℕ). sets t (suc (length p + k)) vs) (set-past p l k v)
+    ∙ ap (λ (m : ℕ). sets (p ++ set l k v) m vs) (sym (add-suc (length p) k))
+    ∙ sets-past p (set l k v) (suc k) vs
+
+pub sets-within : (r z : List ℕ) (k : ℕ) (vs : List ℕ) → k + length vs ≤ length r → sets (r ++ z) k vs ≡ sets r k vs ++ z
+sets-within r z k [] h = refl
+sets-within r z k (v ∷ vs) h =
+    let e : k + suc (length vs) ≤ length r = h in
+    ap (λ (t : List ℕ). sets t (suc k) vs) (set-append-left r z k v (omega arith))
+    ∙ sets-within (set r k v) z (suc k) vs (rw length-set (omega arith))
+
+pub region-split : (l : List ℕ) (at n : ℕ) → l ≡ take at l ++ (region l at n ++ drop (at + n) l)
+unfolding region
+region-split l at n =
+    sym (take-append-drop at l)
+    ∙ ap (λ (t : List ℕ). take at l ++ t) (sym (take-append-drop n (drop at l)) ∙ ap (λ (t : List ℕ). take n (drop at l) ++ t) (drop-drop n at l))
+
+-- stores in a region are the region, stored in
+pub sets-region : (l : List ℕ) (at n k : ℕ) (vs : List ℕ) → at + n ≤ length l → k + length vs ≤ n → sets l (at + k) vs ≡ put l at (sets (region l at n) k vs)
+unfolding put
+sets-region l at n k vs h g =
+    let full : length (region l at n) ≡ n = length-region l at n h in
+    let whole : length (sets (region l at n) k vs) ≡ n = length-sets (region l at n) k vs ∙ full in
+    let front : length (take at l) ≡ at = length-take-le at l (omega arith) in
+    ap (λ (t : List ℕ). sets t (at + k) vs) (region-split l at n)
+    ∙ ap (λ (m : ℕ). sets (take at l ++ (region l at n ++ drop (at + n) l)) (m + k) vs) (sym front)
+    ∙ sets-past (take at l) (region l at n ++ drop (at + n) l) k vs
+    ∙ ap (λ (t : List ℕ). take at l ++ t) (sets-within (region l at n) (drop (at + n) l) k vs (omega arith))
+    ∙ sym (append-assoc (take at l) (sets (region l at n) k vs) (drop (at + n) l))
+    ∙ ap (λ (m : ℕ). take at l ++ sets (region l at n) k vs ++ drop (at + m) l) (sym whole)
+
+-- the region of what is put there; to put again
+pub region-put : (l : List ℕ) (at : ℕ) (r : List ℕ) → at ≤ length l → region (put l at r) at (length r) ≡ r
+unfolding region put
+region-put l at r h =
+    let front : length (take at l) ≡ at = length-take-le at l h in
+    ap (λ (t : List ℕ). take (length r) (drop at t)) (append-assoc (take at l) r (drop (at + length r) l))
+    ∙ ap (λ (t : List ℕ). take (length r) t) (drop-at (take at l) (r ++ drop (at + length r) l) at front)
+    ∙ take-at r (drop (at + length r) l) (length r) refl
+
+pub put-region : (l : List ℕ) (at n : ℕ) → at + n ≤ length l → put l at (region l at n) ≡ l
+unfolding put
+put-region l at n h =
+    append-assoc (take at l) (region l at n) (drop (at + length (region l at n)) l)
+    ∙ ap (λ (m : ℕ). take at l ++ (region l at n ++ drop (at + m) l)) (length-region l at n h)
+    ∙ sym (region-split l at n)
+
+-- ---- a region beside one that is put
+
+pub region-put-before : (l : List ℕ) (at : ℕ) (r : List ℕ) (other n : ℕ) → at ≤ length l → other + n ≤ at → region (put l at r) other n ≡ region l other n
+unfolding region put
+region-put-before l at r other n h k =
+    let front : length (take at l) ≡ at = length-take-le at l h in
+    let part : n ≤ length (drop other (take at l)) = rw (length-drop, front) (omega arith) in
+    ap (λ (t : List ℕ). take n (drop other t)) (append-assoc (take at l) r (drop (at + length r) l))
+    ∙ ap (take n) (drop-append-le other (take at l) (r ++ drop (at + length r) l) (omega arith))
+    ∙ take-append-le n (drop other (take at l)) (r ++ drop (at + length r) l) part
+    ∙ sym (take-append-le n (drop other (take at l)) (drop at l) part)
+    ∙ ap (take n) (sym (drop-append-le other (take at l) (drop at l) (omega arith)))
+    ∙ ap (λ (t : List ℕ). take n (drop other t)) (take-append-drop at l)
+
+pub region-put-after : (l : List ℕ) (at : ℕ) (r : List ℕ) (other n : ℕ) → at + length r ≤ other → at + length r ≤ length l → region (put l at r) other n ≡ region l other n
+unfolding region put
+region-put-after l at r other n h k =
+    let front : length (take at l) ≡ at = length-take-le at l (omega arith) in
+    let e : length (take at l ++ r) + (other - (at + length r)) ≡ other = rw (length-append, front) (omega arith) in
+    let back : at + length r + (other - (at + length r)) ≡ other = omega arith in
+    ap (take n) (
+    ap (λ (m : ℕ). drop m (take at l ++ r ++ drop (at + length r) l)) (sym e)
+    ∙ drop-append-add (take at l ++ r) (drop (at + length r) l) (other - (at + length r))
+    ∙ drop-drop (other - (at + length r)) (at + length r) l
+    ∙ ap (λ (m : ℕ). drop m l) back)
+
+pub put-put : (l : List ℕ) (at : ℕ) (r s : List ℕ) → at + length r ≤ length l → length r ≡ length s → put (put l at r) at s ≡ put l at s
+unfolding put
+put-put l at r s h e =
+    let front : length (take at l) ≡ at = length-take-le at l (omega arith) in
+    let whole : length (take at l ++ r) ≡ at + length s = rw (length-append, front) (omega arith) in
+    ap (λ (t : List ℕ). t ++ s ++ drop (at + length s) (take at l ++ r ++ drop (at + length r) l))
+    (ap (take at) (append-assoc (take at l) r (drop (at + length r) l)) ∙ take-at (take at l) (r ++ drop (at + length r) l) at front)
+    ∙ ap (λ (t : List ℕ). take at l ++ s ++ t) (drop-at (take at l ++ r) (drop (at + length r) l) (at + length s) whole ∙ ap (λ (m : ℕ). drop (at + m) l) e)
