@@ -27,8 +27,8 @@ use Rattle.model.specs.Sound.{queuedOk}
 use Rattle.words.proofs.Flags.{and-2, flag, by-flag}
 use Rattle.model.proofs.SoundFacts.{Sound, parts, lines-are, readers-some, queued-parts}
 use Rattle.words.proofs.Lists.{In, all-in, in-append, count-index}
-use Rattle.model.proofs.Taken.{Spotted}
-use Rattle.model.proofs.Offered.{probe-spotted}
+use Rattle.model.proofs.AccessKeepsSound.{Spotted}
+use Rattle.model.proofs.ProbeFindsSpot.{probe-spotted}
 use Rattle.model.proofs.Victims.{line-stays}
 use Rattle.model.proofs.Turning.{set-below}
 use Rattle.encoding.proofs.Bridge.{is-tables}
@@ -36,14 +36,14 @@ use Rattle.encoding.proofs.Standing.{encode-stands}
 use Rattle.words.proofs.Tabled.{getD-table}
 use Rattle.layout.specs.declared.Layout.{Layout}
 use Rattle.layout.specs.Layout.{Placed}
-use Rattle.layout.proofs.Stands.{Stands, is-stands}
+use Rattle.layout.proofs.ByBlocks.{ByBlocks, is-stands}
 use Rattle.layout.proofs.Lines.{takenAs, line-stands, taken-stands}
 use Rattle.layout.proofs.TreeStands.{tree-stands, tree-at}
 use Rattle.tables.proofs.Misses.{withTicket, unsent, append-stands, new-entry-stands}
 use Rattle.tables.proofs.Queue.{push-stands}
 use Rattle.words.proofs.Counting.{map-one}
 use Rattle.probe.specs.declared.Decision.{Decision}
-use Rattle.probe.proofs.Held.{lines-held, way-line}
+use Rattle.probe.proofs.OfTables.{lines-held, way-line}
 use Rattle.access.specs.Plan.{Met, entryIndex, courseOf, goes, ticketOf}
 use Rattle.access.specs.Written.{sectorsFor, sectorsAfter, missesWritten, entryWritten, queueWritten, lineLeft, lineTaken, setTurned}
 use Rattle.access.specs.declared.course.Course.{Course}
@@ -110,7 +110,7 @@ module _ (S : Settings) {longs words marks : List ℕ} (x : Access) (d : Decisio
   left-is = rw (← found-is, ← answer-is S x d t p m)
 
   -- the current cycle, of slices in which tables stand
-  now-of : {longs words marks : List ℕ} {u : Tables} → Stands S longs words marks u → getD words 0 0 ≡ u .now
+  now-of : {longs words marks : List ℕ} {u : Tables} → ByBlocks S longs words marks u → getD words 0 0 ≡ u .now
   now-of h = ap (λ (l : List ℕ). getD l 0 0) (h .as-words)
 
   pub now-is : getD words 0 0 ≡ t .now
@@ -124,7 +124,7 @@ module _ (S : Settings) {longs words marks : List ℕ} (x : Access) (d : Decisio
   count-is = rw (count-at S t (m .is) pl, was-dirty S t (m .is) pl (d .line) (m .below))
 
   pub line-left : {L₁ : Lent} → L₁ ≡ lineLeft place (lent longs words marks) (d .line) (blockOf (addressOf x)) (sectorsAfter x d (sectorsFor (d .meeting) (sectorsAt S words marks (d .line))))
-      → Stands S (L₁ .longs) (L₁ .words) (L₁ .marks) (withDirtyCount newCount (withLines (set (t .lines) (d .line) leftLine) t))
+      → ByBlocks S (L₁ .longs) (L₁ .words) (L₁ .marks) (withDirtyCount newCount (withLines (set (t .lines) (d .line) leftLine) t))
   line-left e =
       let b = m .below in
       let s = sized in
@@ -154,10 +154,10 @@ module _ (S : Settings) {longs words marks : List ℕ} (x : Access) (d : Decisio
 
   pub line-written : (L₀ : Lent) {L₁ : Lent} → L₀ ≡ lineLeft place (lent longs words marks) (d .line) (blockOf (addressOf x)) (sectorsAfter x d (sectorsFor (d .meeting) (sectorsAt S words marks (d .line))))
       → L₁ ≡ lineTaken place (d .answer) (d .line) L₀
-      → Stands S (L₁ .longs) (L₁ .words) (L₁ .marks) (withDirtyCount newCount (withLines (set (t .lines) (d .line) newLine) t))
+      → ByBlocks S (L₁ .longs) (L₁ .words) (L₁ .marks) (withDirtyCount newCount (withLines (set (t .lines) (d .line) newLine) t))
   line-written L₀ {L₁} e f = ⊎-elim took kept (flag (takesLine (p .answer)))
     where
-      left : Stands S (L₀ .longs) (L₀ .words) (L₀ .marks) lefts
+      left : ByBlocks S (L₀ .longs) (L₀ .words) (L₀ .marks) lefts
       left = line-left e
 
       same-answer : d .answer ≡ p .answer
@@ -166,7 +166,7 @@ module _ (S : Settings) {longs words marks : List ℕ} (x : Access) (d : Decisio
       long : length (lefts .lines) ≡ linesOf S
       long = length-set (t .lines) (d .line) leftLine ∙ sized
 
-      took : takesLine (p .answer) ≡ true → Stands S (L₁ .longs) (L₁ .words) (L₁ .marks) (withDirtyCount newCount (withLines (set (t .lines) (d .line) newLine) t))
+      took : takesLine (p .answer) ≡ true → ByBlocks S (L₁ .longs) (L₁ .words) (L₁ .marks) (withDirtyCount newCount (withLines (set (t .lines) (d .line) newLine) t))
       took y =
           let g = rw (same-answer, y) at f in
           let h = taken-stands S lefts left pl long (d .line) (rw long (m .below)) (t .now) (ap (λ (n : ℕ). put (L₀ .words) (place .taken + d .line) (n ∷ [])) (now-of left)) in
@@ -174,7 +174,7 @@ module _ (S : Settings) {longs words marks : List ℕ} (x : Access) (d : Decisio
           set-set (t .lines) (d .line) leftLine _ ∙ rw y in
           rw g (rw (left-there, k) at h)
 
-      kept : takesLine (p .answer) ≡ false → Stands S (L₁ .longs) (L₁ .words) (L₁ .marks) (withDirtyCount newCount (withLines (set (t .lines) (d .line) newLine) t))
+      kept : takesLine (p .answer) ≡ false → ByBlocks S (L₁ .longs) (L₁ .words) (L₁ .marks) (withDirtyCount newCount (withLines (set (t .lines) (d .line) newLine) t))
       kept n =
           let g = rw (same-answer, n) at f in
           let k : leftLine ≡ newLine = rw (n, taken-stays n) in
@@ -185,9 +185,9 @@ module _ (S : Settings) {longs words marks : List ℕ} (x : Access) (d : Decisio
   abbrev pub treesNew : List ℕ
   treesNew = turnedFor S (addressOf x) (p .way) (t .trees)
 
-  pub set-turned : (u : Tables) → u .trees ≡ t .trees → (L₁ : Lent) {L₂ : Lent} → Stands S (L₁ .longs) (L₁ .words) (L₁ .marks) u
+  pub set-turned : (u : Tables) → u .trees ≡ t .trees → (L₁ : Lent) {L₂ : Lent} → ByBlocks S (L₁ .longs) (L₁ .words) (L₁ .marks) u
       → L₂ ≡ setTurned S place (setIndex S (addressOf x)) (d .way) L₁
-      → Stands S (L₂ .longs) (L₂ .words) (L₂ .marks) (withTrees treesNew u)
+      → ByBlocks S (L₂ .longs) (L₂ .words) (L₂ .marks) (withTrees treesNew u)
   set-turned u same L₁ {L₂} h e = ⊎-elim by-tree by-age (flag (isTree S))
     where
       treed : length (u .trees) ≡ S .sets
@@ -196,7 +196,7 @@ module _ (S : Settings) {longs words marks : List ℕ} (x : Access) (d : Decisio
       inside : setIndex S (addressOf x) < S .sets
       inside = set-below S (m .is .range) (addressOf x)
 
-      by-tree : isTree S ≡ true → Stands S (L₂ .longs) (L₂ .words) (L₂ .marks) (withTrees treesNew u)
+      by-tree : isTree S ≡ true → ByBlocks S (L₂ .longs) (L₂ .words) (L₂ .marks) (withTrees treesNew u)
       by-tree y =
           let g = rw y at e in
           let w : touchedTree (getD (L₁ .words) (place .trees + setIndex S (addressOf x)) 0) (levels (S .ways)) (d .way)
@@ -205,7 +205,7 @@ module _ (S : Settings) {longs words marks : List ℕ} (x : Access) (d : Decisio
           let k = tree-stands S u h pl treed (setIndex S (addressOf x)) _ inside (ap (λ (n : ℕ). put (L₁ .words) (place .trees + setIndex S (addressOf x)) (n ∷ [])) w) in
           rw (g, y) (rw same at k)
 
-      by-age : isTree S ≡ false → Stands S (L₂ .longs) (L₂ .words) (L₂ .marks) (withTrees treesNew u)
+      by-age : isTree S ≡ false → ByBlocks S (L₂ .longs) (L₂ .words) (L₂ .marks) (withTrees treesNew u)
       by-age n = let g = rw n at e in rw (g, n, ← same) h
 
   -- ---- the miss table
@@ -225,9 +225,9 @@ module _ (S : Settings) {longs words marks : List ℕ} (x : Access) (d : Decisio
             ∙ rw here,
       )
 
-  pub misses-written : (ls : List Line) (k : ℕ) (ts : List ℕ) (L₁ L₂ : Lent) → Stands S (L₁ .longs) (L₁ .words) (L₁ .marks) (withTrees ts (withDirtyCount k (withLines ls t)))
+  pub misses-written : (ls : List Line) (k : ℕ) (ts : List ℕ) (L₁ L₂ : Lent) → ByBlocks S (L₁ .longs) (L₁ .words) (L₁ .marks) (withTrees ts (withDirtyCount k (withLines ls t)))
       → (c : Course) → c ≡ courseOf S x p t → goes c ≡ true → L₂ ≡ missesWritten place (S .readers) c (addressOf x) (ticketOf x) L₁
-      → Stands S (L₂ .longs) (L₂ .words) (L₂ .marks) (withMisses (onMisses x (p .answer) (t .misses)) (withTrees ts (withDirtyCount k (withLines ls t))))
+      → ByBlocks S (L₂ .longs) (L₂ .words) (L₂ .marks) (withMisses (onMisses x (p .answer) (t .misses)) (withTrees ts (withDirtyCount k (withLines ls t))))
   misses-written ls k ts L₁ L₂ h (Refused n) e g q = absurd (false≢true g)
   misses-written ls k ts L₁ L₂ h Stays e g q =
       let w = subst (Means S x p t) (sym e) (course-means S x p t) in
@@ -255,21 +255,21 @@ module _ (S : Settings) {longs words marks : List ℕ} (x : Access) (d : Decisio
       go (inr j) = queued-parts [] y (all-in (queuedOk []) (p .backs) (spot .backed []) j) .0
 
   entries-written : (xs : List Queued) → ((y : Queued) → In y xs → length (y .masks) ≡ 4) → (u : Tables) (L : Lent) (n : ℕ)
-      → Stands S (L .longs) (L .words) (L .marks) u → (1 ≤ length xs → n ≡ length (u .queue)) → length (u .queue) + length xs ≤ S .queue
-      → Stands S (queueWritten place n xs L .longs) (queueWritten place n xs L .words) (queueWritten place n xs L .marks) (withQueue (u .queue ++ xs) u)
+      → ByBlocks S (L .longs) (L .words) (L .marks) u → (1 ≤ length xs → n ≡ length (u .queue)) → length (u .queue) + length xs ≤ S .queue
+      → ByBlocks S (queueWritten place n xs L .longs) (queueWritten place n xs L .words) (queueWritten place n xs L .marks) (withQueue (u .queue ++ xs) u)
   entries-written [] four u L n h e r = rw (append-nil (u .queue)) h
   entries-written (y ∷ ys) four u L n h e r =
       let here : n ≡ length (u .queue) = e (omega arith) in
       let v : Tables = withQueue (u .queue ++ (y ∷ [])) u in
       let longer : length (u .queue ++ (y ∷ [])) ≡ length (u .queue) + 1 = length-append (u .queue) (y ∷ []) in
-      let s : Stands S (entryWritten place n y L .longs) (entryWritten place n y L .words) (entryWritten place n y L .marks) v =
+      let s : ByBlocks S (entryWritten place n y L .longs) (entryWritten place n y L .words) (entryWritten place n y L .marks) v =
       push-stands S u h pl (omega arith) y n (four y (inl refl)) here (omega arith) (refl, refl, refl) in
       let w = entries-written ys (λ z m. four z (inr m)) v (entryWritten place n y L) (n + 1) s (λ some. omega arith) (omega arith) in
       rw (append-assoc (u .queue) (y ∷ []) ys) at w
 
-  pub queue-written : (u : Tables) → u .queue ≡ t .queue → (L₂ : Lent) {L₃ : Lent} {n : ℕ} → Stands S (L₂ .longs) (L₂ .words) (L₂ .marks) u
+  pub queue-written : (u : Tables) → u .queue ≡ t .queue → (L₂ : Lent) {L₃ : Lent} {n : ℕ} → ByBlocks S (L₂ .longs) (L₂ .words) (L₂ .marks) u
       → (1 ≤ placesNeeded x p → n ≡ length (t .queue)) → length (t .queue) + placesNeeded x p ≤ S .queue → L₃ ≡ queueWritten place n (queues x p) L₂
-      → Stands S (L₃ .longs) (L₃ .words) (L₃ .marks) (withQueue (t .queue ++ queues x p) u)
+      → ByBlocks S (L₃ .longs) (L₃ .words) (L₃ .marks) (withQueue (t .queue ++ queues x p) u)
   queue-written u same L₂ {n = n} h e room q = rw (q, ← same) (entries-written (queues x p) four-masks u L₂ n h (λ some. e some ∙ ap length (sym same)) (rw (ap length same) room))
 
 -- ---- room

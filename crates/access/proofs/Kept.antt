@@ -25,12 +25,12 @@ use Rattle.words.proofs.Places.{field-put}
 use Rattle.layout.specs.declared.Layout.{Layout}
 use Rattle.layout.specs.Layout.{Placed}
 use Rattle.layout.proofs.Grown.{places-same}
-use Rattle.layout.proofs.Stands.{Stands, is-stands, stands-encode}
+use Rattle.layout.proofs.ByBlocks.{ByBlocks, is-stands, stands-encode}
 use Rattle.probe.specs.declared.Meeting.{Meeting}
 use Rattle.probe.specs.declared.Meeting.the-variants.{Met as MetWay, Taken, Busy, Held}
 use Rattle.probe.specs.declared.Decision.{Decision}
 use Rattle.probe.specs.Decided.{placeFor}
-use Rattle.probe.proofs.Held.{way-line}
+use Rattle.probe.proofs.OfTables.{way-line}
 use Rattle.access.specs.Plan.{Met}
 use Rattle.access.specs.Written.{sectorsFor, sectorsAfter, lineLeft}
 use Rattle.access.proofs.Courses.{shows, answer-is}
@@ -77,7 +77,7 @@ module _ (S : Settings) {longs words marks : List ℕ} (x : Access) (d : Decisio
       rw (sector-kept x (p .answer) (getD (p .line .sectors) (sectorIndex (addressOf x)) empty) kept-there, set-getD (p .line .sectors) (sectorIndex (addressOf x)) empty)
       (ap (λ (l : Line). l .sectors) found)
 
-  touched-stands : Stands S longs (put words (1 + d .line) (getD words 0 0 ∷ [])) marks (withLines (set (t .lines) (d .line) new) t)
+  touched-stands : ByBlocks S longs (put words (1 + d .line) (getD words 0 0 ∷ [])) marks (withLines (set (t .lines) (d .line) new) t)
   unfolding fit
   touched-stands =
       let h = is-stands (m .is) in

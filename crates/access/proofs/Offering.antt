@@ -8,7 +8,7 @@ use lib.ListN.{length}
 use Rattle.model.specs.Address.{addressOf, wellFormed}
 use Rattle.model.specs.Tables.{Line, Tables, refused}
 use Rattle.model.specs.Lent.{Lent, lent}
-use Rattle.model.specs.Inner.{Is}
+use Rattle.model.specs.Inner.{Encodes}
 use Rattle.model.specs.Probe.{Spot, no, at, probe, waysOf, metIn}
 use Rattle.model.specs.Steps.{access, proceed, accept}
 use Rattle.model.specs.Calls.{Leaves, encoded}
@@ -26,7 +26,7 @@ use Rattle.probe.specs.declared.Meeting.the-variants as meeting
 use Rattle.probe.specs.declared.Decision.{Decision}
 use Rattle.probe.specs.Decided.{Decided, placeFor, placeIs}
 use Rattle.model.proofs.Turning.{set-below}
-use Rattle.probe.proofs.Held.{decided-probe}
+use Rattle.probe.proofs.OfTables.{decided-probe}
 use Rattle.access.specs.Plan.{Met, Offered, courseOf, following, goes, refusalIn, isSpot, refusalMet}
 use Rattle.access.specs.declared.course.Course.{Course}
 use Rattle.access.specs.declared.course.Course.the-variants.{Refused, Stays, Joins, Starts}
@@ -80,7 +80,7 @@ place-spot meeting.Busy ways a d e = absurd (false≢true e)
 place-spot meeting.Held ways a d e = absurd (false≢true e)
 
 module _ (S : Settings) {longs words marks : List ℕ} (x : Access) (d : Decision) (decided : Decided S longs words marks x d) (formed : wellFormed x ≡ true)
-    (t : Tables) (is : Is S (lent longs words marks) t) where
+    (t : Tables) (is : Encodes S (lent longs words marks) t) where
   place-is : placeIs (waysOf S (t .lines) (addressOf x)) (addressOf x) d ≡ metIn S x t
   place-is = decided-probe S (lent longs words marks) (is-tables S (lent longs words marks) t is) (set-below S (is .range) (addressOf x)) decided
 

@@ -24,14 +24,14 @@ use Rattle.model.specs.declared.Refusal.the-variants.{QueueFull, EntryFull, Mis
 use Rattle.words.proofs.Flags.{and-1, or-false}
 use Rattle.words.proofs.Lists.{any-in, in-getD, count-in, count-index}
 use Rattle.model.proofs.SoundFacts.{Sound, parts, entry-at, address-is, sector-aligned, sector-below}
-use Rattle.model.proofs.Taken.{Spotted, formed-good}
-use Rattle.model.proofs.Offered.{probe-spotted}
+use Rattle.model.proofs.AccessKeepsSound.{Spotted, formed-good}
+use Rattle.model.proofs.ProbeFindsSpot.{probe-spotted}
 use Rattle.model.specs.Lent.{lent}
-use Rattle.model.specs.Inner.{Is}
+use Rattle.model.specs.Inner.{Encodes}
 use Rattle.layout.specs.declared.Layout.{Layout}
 use Rattle.layout.specs.Layout.{Placed}
 use Rattle.layout.specs.Places.{First}
-use Rattle.layout.proofs.Stands.{is-stands}
+use Rattle.layout.proofs.ByBlocks.{is-stands}
 use Rattle.tables.proofs.Queue.{queue-used}
 use Rattle.tables.proofs.Misses.{misses-used, count-at, entry-found, entry-missing}
 use Rattle.probe.specs.declared.Decision.{Decision}
@@ -140,7 +140,7 @@ module _ (S : Settings) (range : inRange S ≡ true) (t : Tables) (ok : Sound S 
 
 -- ---- what the functions find
 
-module _ (S : Settings) {longs words marks : List ℕ} (t : Tables) (is : Is S (lent longs words marks) t) {place : Layout} (p : Placed S place) where
+module _ (S : Settings) {longs words marks : List ℕ} (t : Tables) (is : Encodes S (lent longs words marks) t) {place : Layout} (p : Placed S place) where
   ok : Sound S t
   ok = parts S t (is .soundly)
 

@@ -11,21 +11,21 @@ use Rattle.words.specs.Words.{count, one}
 use Rattle.model.specs.Range.{linesOf}
 use Rattle.model.specs.Tables.{Line, Tables, dirty, dirtyLines, fresh}
 use Rattle.model.specs.Lent.{lent, lineAt}
-use Rattle.model.specs.Inner.{Is}
+use Rattle.model.specs.Inner.{Encodes}
 use Rattle.model.specs.declared.Settings.{Settings}
 use Rattle.words.proofs.Tabled.{getD-table}
 use Rattle.encoding.proofs.Bridge.{is-fit, is-tables}
 use Rattle.model.proofs.SoundFacts.{parts, lines-are}
 use Rattle.layout.specs.declared.Layout.{Layout}
 use Rattle.layout.specs.Layout.{Placed}
-use Rattle.layout.proofs.Stands.{is-stands}
+use Rattle.layout.proofs.ByBlocks.{is-stands}
 use Rattle.layout.proofs.DirtyCount.{dirty-count-at}
 use Rattle.probe.specs.Scan.{dirtyAt}
 use Rattle.probe.proofs.Statuses.{dirty-bytes}
-use Rattle.probe.proofs.Held.{lines-held}
+use Rattle.probe.proofs.OfTables.{lines-held}
 use Rattle.words.proofs.Counting.{count-length, one-counted}
 
-module _ (S : Settings) {longs words marks : List ℕ} (t : Tables) (is : Is S (lent longs words marks) t) {at : Layout} (pl : Placed S at) where
+module _ (S : Settings) {longs words marks : List ℕ} (t : Tables) (is : Encodes S (lent longs words marks) t) {at : Layout} (pl : Placed S at) where
   pub count-at : getD words (at .dirty) 0 ≡ t .dirtyCount
   count-at = dirty-count-at S t (is-stands is) pl
 

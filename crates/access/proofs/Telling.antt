@@ -25,7 +25,7 @@ use Rattle.encoding.proofs.Bridge.{is-fit}
 use Rattle.model.proofs.SoundFacts.{parts}
 use Rattle.layout.specs.declared.Layout.{Layout}
 use Rattle.layout.specs.Layout.{Placed}
-use Rattle.layout.proofs.Stands.{stands-encode}
+use Rattle.layout.proofs.ByBlocks.{stands-encode}
 use Rattle.probe.specs.declared.Decision.{Decision}
 use Rattle.access.specs.Plan.{Met, Acts, goes, ticketOf}
 use Rattle.access.specs.Written.{sectorsFor, sectorsAfter, missesWritten, queueWritten, queuesOf, tellingOf, MissRoom, QueueRoom, lineLeft, lineTaken, setTurned}

@@ -13,7 +13,7 @@ use Rattle.model.specs.Lent.{Lent}
 use Rattle.model.specs.Probe.{Spot, at, probe, waysOf, metIn}
 use Rattle.model.specs.Steps.{isMerge, isMiss, placesNeeded, accept, proceed}
 use Rattle.model.specs.Calls.{Leaves, encoded}
-use Rattle.model.specs.Inner.{Is}
+use Rattle.model.specs.Inner.{Encodes}
 use Rattle.model.specs.declared.Settings.{Settings}
 use Rattle.model.specs.declared.Access.{Access}
 use Rattle.model.specs.declared.Access.the-variants.{Read, Write}
@@ -59,7 +59,7 @@ following S x p t (Starts e) = accept S x p t
 
 -- the access x met the spot p of the tables t, which are in the slices L, as the decision d says
 pub record Met (S : Settings) (L : Lent) (x : Access) (d : Decision) (t : Tables) (p : Spot) : Type 0 where
-  pub is : Is S L t
+  pub is : Encodes S L t
   pub formed : wellFormed x ≡ true
   pub probed : metIn S x t ≡ at p
   pub decided : placeIs (waysOf S (t .lines) (addressOf x)) (addressOf x) d ≡ at p
@@ -81,19 +81,19 @@ pub record InUse (S : Settings) (t : Tables) (x : Access) (d : Decision) (n : �
   pub all : 1 ≤ length (queuesOf x d) → n ≡ length (t .queue)
 
 pub record Counted (S : Settings) (L : Lent) (x : Access) (d : Decision) (n : ℕ) : Type 0 where
-  pub on : (t : Tables) → Is S L t → InUse S t x d n
+  pub on : (t : Tables) → Encodes S L t → InUse S t x d n
 
 -- the tables in the slices have an entry for the address
 pub record Entered (S : Settings) (L : Lent) (a : ℕ) : Type 0 where
   pub tables : Tables
-  pub is : Is S L tables
+  pub is : Encodes S L tables
   pub entered : any (entryFor a) (tables .misses) ≡ true
 
 pub record Joining (S : Settings) (L : Lent) (a : ℕ) (r : Course) : Type 0 where
-  pub on : (t : Tables) → Is S L t → any (entryFor a) (t .misses) ≡ true → r ≡ joining S (entryIndex a (t .misses)) (ticketsAt (entryIndex a (t .misses)) (t .misses))
+  pub on : (t : Tables) → Encodes S L t → any (entryFor a) (t .misses) ≡ true → r ≡ joining S (entryIndex a (t .misses)) (ticketsAt (entryIndex a (t .misses)) (t .misses))
 
 pub record Starting (S : Settings) (L : Lent) (r : Course) : Type 0 where
-  pub on : (t : Tables) → Is S L t → r ≡ starting S (length (t .misses))
+  pub on : (t : Tables) → Encodes S L t → r ≡ starting S (length (t .misses))
 
 pub record Planned (S : Settings) (L : Lent) (x : Access) (d : Decision) (r : Course) : Type 0 where
   pub on : (t : Tables) (p : Spot) → Met S L x d t p → r ≡ courseOf S x p t

@@ -5,7 +5,7 @@ ghost use mathlib.Core.Bool.{_&&_};
 ghost use Rattle.model.specs.Address.{isRead};
 ghost use Rattle.words.specs.Words.{one};
 ghost use Rattle.model.specs.Lent.{lent};
-ghost use Rattle.model.specs.Inner.{Held};
+ghost use Rattle.model.specs.Inner.{SoundSlices};
 ghost use Rattle.layout.specs.Layout.{Placed};
 ghost use Rattle.layout.specs.Places.{First};
 ghost use Rattle.access.specs.Plan.{Meets, Counted, Entered, Joining, Starting, Planned, goes, refusalIn};
@@ -78,7 +78,7 @@ fn join_course(
 
 // The course of a read that needs a new entry.
 fn start_course(s: Settings, at: Layout, longs: &[u64], words: &[u32], marks: &[u8]) -> Course
-    requires { ⌜ Placed s at × Held s (lent (now longs) (now words) (now marks)) ⌝ }
+    requires { ⌜ Placed s at × SoundSlices s (lent (now longs) (now words) (now marks)) ⌝ }
     ensures { λ r. ⌜ Starting s (lent (now (longs .entry)) (now (words .entry)) (now (marks .entry))) r ⌝ }
 {
     let m = layout::used(marks, at.counts, s.misses);

@@ -10,7 +10,7 @@ ghost use mathlib.Core.Path.{_≡_};
 ghost use Prim.Native.Nat.{_≤_};
 ghost use Rattle.model.specs.Address.{maskOf, wellFormed, goodSector};
 ghost use Rattle.model.specs.Lent.{lent};
-ghost use Rattle.model.specs.Inner.{Held, Does};
+ghost use Rattle.model.specs.Inner.{SoundSlices, Does};
 ghost use Rattle.model.specs.Sound.{allOnes};
 ghost use Rattle.layout.specs.Layout.{Placed};
 ghost use Rattle.access.specs.Plan.{Meets, Offered, isSpot, refusalMet};
@@ -115,7 +115,7 @@ pub fn access_step(
     marks: &mut [u8],
     x: Access,
 ) -> Told
-    requires { ⌜ Placed s at × Held s (lent (now longs) (now words) (now marks)) ⌝ }
+    requires { ⌜ Placed s at × SoundSlices s (lent (now longs) (now words) (now marks)) ⌝ }
     ensures { λ r. ⌜ Does s (access s x) (lent (now (longs .entry)) (now (words .entry)) (now (marks .entry))) r
         (lent (now (longs .exit)) (now (words .exit)) (now (marks .exit))) ⌝ }
 {

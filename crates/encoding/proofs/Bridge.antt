@@ -14,15 +14,15 @@ use Rattle.model.specs.Lent.{Lent, lengthsFit, tablesOf, encode}
 use Rattle.model.specs.Sound.{sound}
 use Rattle.model.specs.SoundLent.{soundLent, Small}
 use Rattle.model.specs.Calls.{call, encoded, eventsTold}
-use Rattle.model.specs.Inner.{Fit, Is, Held, Does}
+use Rattle.model.specs.Inner.{Fit, Encodes, SoundSlices, Does}
 use Rattle.words.proofs.Flags.{and-1, and-2, and-i}
 use Rattle.model.proofs.Fits.{ranged, fit}
-use Rattle.encoding.proofs.Facts.{sound-is}
+use Rattle.encoding.proofs.LentSoundFacts.{sound-is}
 use Rattle.encoding.proofs.Standing.{encode-stands, stands-encode, encode-lengths}
-use Rattle.encoding.proofs.Shapes.{stands-tables}
-use Rattle.encoding.proofs.Soundly.{soundly-shape, soundly-is}
-use Rattle.encoding.proofs.Encoded.{stands-sound}
-use Rattle.encoding.proofs.Decoded.{stands-soundly, read-stands, read-shape}
+use Rattle.encoding.proofs.NumbersAreTables.{stands-tables}
+use Rattle.encoding.proofs.SoundByPlace.{soundly-shape, soundly-is}
+use Rattle.encoding.proofs.EncodeIsSound.{stands-sound}
+use Rattle.encoding.proofs.DecodeIsSound.{stands-soundly, read-stands, read-shape}
 
 -- the three lengths as numbers
 lengths : (S : Settings) (L : Lent) → lengthsFit S L ≡ true
@@ -36,7 +36,7 @@ lengths S L e =
 -- ---- from the slices
 
 -- the words are 32-bit numbers, which the code knows of any slice
-pub sound-encoded : (S : Settings) (L : Lent) → inRange S ≡ true → lengthsFit S L ≡ true → Small L → soundLent S L ≡ true → Is S L (tablesOf S L)
+pub sound-encoded : (S : Settings) (L : Lent) → inRange S ≡ true → lengthsFit S L ≡ true → Small L → soundLent S L ≡ true → Encodes S L (tablesOf S L)
 sound-encoded S L range fits small e =
     let is = sound-is S L .fact e in
     let st = read-stands S L is (ranged S range .reader) in
@@ -47,7 +47,7 @@ sound-encoded S L range fits small e =
       encoded = stands-encode S L (tablesOf S L) st a b c;
     }
 
-pub sound-held : (S : Settings) (L : Lent) → inRange S ≡ true → lengthsFit S L ≡ true → Small L → soundLent S L ≡ true → Held S L
+pub sound-held : (S : Settings) (L : Lent) → inRange S ≡ true → lengthsFit S L ≡ true → Small L → soundLent S L ≡ true → SoundSlices S L
 sound-held S L range fits small e = record { tables = tablesOf S L; are = sound-encoded S L range fits small e }
 
 -- ---- from the tables
@@ -71,7 +71,7 @@ encode-injective S t u a b e = sym (tables-of-encode S t a) ∙ ap (tablesOf S) 
 
 -- ---- slices that are the encoding of sound tables
 
-module _ (S : Settings) (L : Lent) (t : Tables) (is : Is S L t) where
+module _ (S : Settings) (L : Lent) (t : Tables) (is : Encodes S L t) where
   pub is-tables : tablesOf S L ≡ t
   is-tables = ap (tablesOf S) (is .encoded) ∙ tables-of-encode S t (is .soundly)
 
@@ -103,9 +103,9 @@ pub events-encoded : (S : Settings) (o : Outcome Tables) → eventsOf (encoded S
 events-encoded S (refused n) = refl
 events-encoded S (done es t) = refl
 
-module _ (S : Settings) {step : Tables → Outcome Tables} {L : Lent} {r : Told} {M : Lent} (d : Does S step L r M) (t : Tables) (i : Is S L t) where
+module _ (S : Settings) {step : Tables → Outcome Tables} {L : Lent} {r : Told} {M : Lent} (d : Does S step L r M) (t : Tables) (i : Encodes S L t) where
   pub does-tells : eventsTold r ≡ eventsOf (step t)
   does-tells = d .on t i .tells ∙ events-encoded S (step t)
 
-  pub does-is : sound S (after t (step t)) ≡ true → Is S M (after t (step t))
+  pub does-is : sound S (after t (step t)) ≡ true → Encodes S M (after t (step t))
   does-is ok = record { range = i .range; soundly = ok; encoded = d .on t i .left ∙ after-encoded S L t (step t) (i .encoded) }

@@ -11,7 +11,7 @@ use Rattle.words.specs.Words.{some, countBelow}
 use Rattle.model.specs.Lent.{inUse}
 use Rattle.words.proofs.Flags.{flag}
 use Rattle.words.proofs.Below.{count-most}
-use Rattle.encoding.proofs.Facts.{First}
+use Rattle.encoding.proofs.LentSoundFacts.{First}
 
 pub lt-or-ge : (a b : ℕ) → (a < b) ⊎ (b ≤ a)
 lt-or-ge a b = ⊎-elim (λ t. inl (ltb-true a b t)) (λ t. inr (ltb-false a b t)) (flag (ltb a b))

@@ -15,7 +15,7 @@ use Rattle.model.specs.Lent.{Lent, encode, tablesOf}
 use Rattle.model.specs.Sound.{sound}
 use Rattle.model.specs.Steps.{access, send, fill}
 use Rattle.model.specs.Calls.{encoded}
-use Rattle.model.specs.Inner.{Is}
+use Rattle.model.specs.Inner.{Encodes}
 use Rattle.model.specs.Rounds.{steps, calls, Turn, still, took, andThen, Run, goOn, isEmpty, sendTurn, fillFirst, drain, rounds, heldIn, waits, Settles}
 use Rattle.encoding.proofs.Bridge.{tables-of-encode, call-on}
 
@@ -133,5 +133,5 @@ module _ (S : Settings) (x : Access) (range : inRange S ≡ true) (keeps : Keeps
   }
 
   -- of any sound slices
-  pub settled-lent : (L : Lent) (t : Tables) → Is S L t → Settles (steps S x) t → Settles (calls S x) L
+  pub settled-lent : (L : Lent) (t : Tables) → Encodes S L t → Settles (steps S x) t → Settles (calls S x) L
   settled-lent L t is d = rw (is .encoded) (settled-encoded t (is .soundly) d)

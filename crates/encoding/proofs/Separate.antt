@@ -17,7 +17,7 @@ use Rattle.model.specs.Records.{bytes, isCommand, isSettings, lengthOf, command
 use Rattle.model.specs.RunnerOf as runner
 use Rattle.model.specs.Runner.{settingsOf, firstStop, laterStop, keptStop, goesOn, stepRead, stepAt, halt, ahead, runFrom, lentResult, run, resume}
 use Rattle.model.specs.Separate.{callRead, callAt, callsFrom, runByCalls, resumeByCalls}
-use Rattle.model.specs.Inner.{Is}
+use Rattle.model.specs.Inner.{Encodes}
 use Rattle.model.specs.declared.Settings.{Settings}
 use Rattle.model.specs.declared.Access.the-variants.{Read, Write}
 use Rattle.model.specs.declared.Command.the-variants as cmd
@@ -29,11 +29,11 @@ use Rattle.words.proofs.Flags.{and-2, clash, by-flag, flag}
 use Rattle.model.proofs.Soundness.{start-sound}
 use Rattle.model.proofs.RunSound.{record-keeps-sound}
 use Rattle.encoding.proofs.Bridge.{call-is, after-encoded, events-encoded}
-use Rattle.encoding.proofs.Kept.{kept-is}
+use Rattle.encoding.proofs.RunGoesOn.{kept-is}
 
 -- ---- one record
 
-module _ (S : Settings) (L : Lent) (t : Tables) (is : Is S L t) where
+module _ (S : Settings) (L : Lent) (t : Tables) (is : Encodes S L t) where
   call-read : (c : CommandRead) → callRead S c L ≡ encoded S (stepRead S c t)
   call-read (command.Got (cmd.Read a k)) = call-is S L t is (access S (Read a 0 k))
   call-read (command.Got (cmd.Write a m)) = call-is S L t is (access S (Write a m 0))
@@ -75,7 +75,7 @@ module _ (S : Settings) (room k : ℕ) (bs : List ℕ) where
     from-stops z = rw z
 
 module _ (S : Settings) where
-  pub calls-from : (n room : ℕ) (s : List ℕ) (L : Lent) (t : Tables) → bytes s ≡ true → Is S L t
+  pub calls-from : (n room : ℕ) (s : List ℕ) (L : Lent) (t : Tables) → bytes s ≡ true → Encodes S L t
       → callsFrom S n room s L ≡ lentResult S (runFrom S n room s t)
   unfolding callsFrom runner.runFrom
   calls-from n room [] L t h is = ap (halt Nothing) (is .encoded)
@@ -86,7 +86,7 @@ module _ (S : Settings) where
       let es : eventsOf (callAt S k bs L) ≡ eventsOf o = ap eventsOf c ∙ events-encoded S o in
       let m : after L (callAt S k bs L) ≡ encode S (after t o) = ap (after L) c ∙ after-encoded S L t o (is .encoded) in
       let g = and-2 (ltb k 256) (bytes bs) h in
-      let then : Is S (after L (callAt S k bs L)) (after t o) =
+      let then : Encodes S (after L (callAt S k bs L)) (after t o) =
       record { range = is .range; soundly = record-keeps-sound S (is .range) k bs t g (is .soundly); encoded = m } in
       let i = calls-from (lengthOf k) (room - length (logBytes (eventsOf o))) bs (after L (callAt S k bs L)) (after t o) g then in
       ⊎-elim
@@ -117,7 +117,7 @@ first-passes L k s =
     Goes : Stop → Type 0
     Goes n = goesOn n ≡ true → Passes k (settingsOf k s) L
 
-pub fresh-is : (S : Settings) (L : Lent) → inRange S ≡ true → lengthsFit S L ≡ true → Is S (after L (freshCall S L)) (start S)
+pub fresh-is : (S : Settings) (L : Lent) → inRange S ≡ true → lengthsFit S L ≡ true → Encodes S (after L (freshCall S L)) (start S)
 fresh-is S L range fits = record { range = range; soundly = start-sound S; encoded = rw (range, fits) }
 
 -- ---- the theorems

@@ -8,7 +8,7 @@ use lib.ListN.{length, take, drop, getD, take-append-drop}
 use lib.Seq.{drop-drop, drop-length}
 use Rattle.model.specs.declared.Settings.{Settings}
 use Rattle.words.specs.Words.{table, joined}
-use Rattle.words.specs.Regions.{region, ahead}
+use Rattle.words.specs.Regions.{region, offsetIn}
 use Rattle.model.specs.Tables.{Tables}
 use Rattle.model.specs.Layout.{longSizes, wordSizes, markSizes, offsetFrom, offsetOf}
 use Rattle.model.specs.Lent.{longBlocks, wordBlocks, markBlocks}
@@ -27,20 +27,20 @@ word-sizes S t = simp (length-places, one-mul)
 pub mark-sizes : (S : Settings) (t : Tables) → map length (markBlocks S t) ≡ markSizes S
 mark-sizes S t = simp (length-places, one-mul)
 
-offset-from : (n : ℕ) (bs : List (List ℕ)) (j : ℕ) → offsetFrom n (map length bs) j ≡ n + ahead bs j
+offset-from : (n : ℕ) (bs : List (List ℕ)) (j : ℕ) → offsetFrom n (map length bs) j ≡ n + offsetIn bs j
 offset-from n [] zero = sym (add-zero n)
 offset-from n [] (suc j) = sym (add-zero n)
 offset-from n (b ∷ bs) zero = sym (add-zero n)
-offset-from n (b ∷ bs) (suc j) = offset-from (n + length b) bs j ∙ add-assoc n (length b) (ahead bs j)
+offset-from n (b ∷ bs) (suc j) = offset-from (n + length b) bs j ∙ add-assoc n (length b) (offsetIn bs j)
 
-pub ahead-offset : (bs : List (List ℕ)) (j : ℕ) → ahead bs j ≡ offsetOf (map length bs) j
+pub ahead-offset : (bs : List (List ℕ)) (j : ℕ) → offsetIn bs j ≡ offsetOf (map length bs) j
 ahead-offset [] zero = refl
 ahead-offset [] (suc j) = refl
 ahead-offset (b ∷ bs) zero = refl
 ahead-offset (b ∷ bs) (suc j) = sym (offset-from (length b) bs j)
 
 -- of blocks of these sizes
-pub begins : (bs : List (List ℕ)) (j : ℕ) {ns : List ℕ} → map length bs ≡ ns → ahead bs j ≡ offsetOf ns j
+pub begins : (bs : List (List ℕ)) (j : ℕ) {ns : List ℕ} → map length bs ≡ ns → offsetIn bs j ≡ offsetOf ns j
 begins bs j e = ahead-offset bs j ∙ ap (λ (ms : List ℕ). offsetOf ms j) e
 
 -- a region, number by number
@@ -87,4 +87,4 @@ regions-joined l (n ∷ ns) (b ∷ bs) e =
 pub joined-region : (l : List ℕ) (bs : List (List ℕ)) (j : ℕ) → l ≡ joined bs → j < length bs
     → region l (offsetOf (map length bs) j) (length (getD bs j [])) ≡ getD bs j []
 joined-region l bs j e h =
-    block-region bs j 0 {i = offsetOf (map length bs) j} e (sym (ahead-offset bs j) ∙ sym (add-zero (ahead bs j))) h (length (getD bs j [])) (omega arith) ∙ region-whole (getD bs j []) (length (getD bs j [])) refl
+    block-region bs j 0 {i = offsetOf (map length bs) j} e (sym (ahead-offset bs j) ∙ sym (add-zero (offsetIn bs j))) h (length (getD bs j [])) (omega arith) ∙ region-whole (getD bs j []) (length (getD bs j [])) refl

@@ -1,4 +1,4 @@
--- The slices hold the tables number by number: `Stands`. Slices of the right lengths do exactly if they are the tables' encoding.
+-- The slices hold the tables number by number: `ByNumber`. Slices of the right lengths do exactly if they are the tables' encoding.
 use mathlib.Core.Path.{_≡_, refl, sym, ap, _∙_}
 use mathlib.Core.List.{List, [], _∷_, _++_, map}
 use Prim.Native.Nat.{ℕ, zero, suc, _+_, _*_, _≤_, _<_}
@@ -7,16 +7,16 @@ use native.Mathlib.Omega.{arith}
 use lib.ListN.{length, getD, length-append, List·getD-append}
 use lib.Seq.{getD-append-add}
 use Rattle.model.specs.declared.Settings.{Settings}
-use Rattle.words.specs.Words.{table, fit, places, joined}
+use Rattle.words.specs.Words.{table, fit, packed, joined}
 use Rattle.model.specs.Range.{linesOf}
 use Rattle.model.specs.Layout.{longSizes, wordSizes, markSizes, longsLength, wordsLength, marksLength, longsFrom, wordsFrom, marksFrom, tagRegion, missRegion, queueRegion, cycleRegion, maskRegion, ticketRegion, queueMaskRegion, dirtyCountRegion, takenRegion, treeRegion, statusRegion, readableRegion, sentRegion, ticketCountRegion, kindRegion}
 use Rattle.model.specs.Tables.{Tables}
 use Rattle.model.specs.Lent.{Lent, encode, tagOf, cycleOf, takenOf, treeOf, masksOf, statusesOf, readablesOf, missOf, sentOf, ticketCountOf, ticketsIn, queuedOf, kindOf, queueMasksOf, longBlocks, wordBlocks, markBlocks}
-use Rattle.words.specs.Regions.{region, ahead}
+use Rattle.words.specs.Regions.{region, offsetIn}
 use Rattle.words.proofs.Places.{length-fit, length-places, block-get, stride}
 use Rattle.words.proofs.Tabled.{list-table, table-append}
 use Rattle.encoding.proofs.Slices.{long-sizes, word-sizes, mark-sizes, begins, regions-joined, region-table}
-use Rattle.encoding.proofs.Facts.{tag, cycle, taken, status, mask, readable, miss, sent, ticketCount, ticket, queued, kind, queueMask, now, dirtyCount, tree}
+use Rattle.encoding.proofs.LentSoundFacts.{tag, cycle, taken, status, mask, readable, miss, sent, ticketCount, ticket, queued, kind, queueMask, now, dirtyCount, tree}
 
 -- number k of the field g of record e, 0 where there is none
 unfoldable pub field : {A : Type 0} → (A → List ℕ) → List A → ℕ → ℕ → ℕ
@@ -62,13 +62,13 @@ later-place w e k l r =
     ap (λ (i : ℕ). getD (fit w l ++ r) i 0) q ∙ getD-append-add (fit w l) r (w * e + k) 0
 
 module _ {A : Type 0} (g : A → List ℕ) (w : ℕ) where
-  places-field : (n e k : ℕ) (xs : List A) → e < n → k < w → getD (places g w n xs) (w * e + k) 0 ≡ field g xs e k
-  unfolding places field
+  places-field : (n e k : ℕ) (xs : List A) → e < n → k < w → getD (packed g w n xs) (w * e + k) 0 ≡ field g xs e k
+  unfolding packed field
   places-field zero e k xs h j = absurd (not-suc-le-zero h)
-  places-field (suc n) zero k [] h j = first-place w k [] (places g w n []) j
-  places-field (suc n) (suc e) k [] h j = later-place w e k [] (places g w n []) ∙ places-field n e k [] (le-of-suc-le-suc h) j
-  places-field (suc n) zero k (x ∷ xs) h j = first-place w k (g x) (places g w n xs) j
-  places-field (suc n) (suc e) k (x ∷ xs) h j = later-place w e k (g x) (places g w n xs) ∙ places-field n e k xs (le-of-suc-le-suc h) j
+  places-field (suc n) zero k [] h j = first-place w k [] (packed g w n []) j
+  places-field (suc n) (suc e) k [] h j = later-place w e k [] (packed g w n []) ∙ places-field n e k [] (le-of-suc-le-suc h) j
+  places-field (suc n) zero k (x ∷ xs) h j = first-place w k (g x) (packed g w n xs) j
+  places-field (suc n) (suc e) k (x ∷ xs) h j = later-place w e k (g x) (packed g w n xs) ∙ places-field n e k xs (le-of-suc-le-suc h) j
 
   later-numbers : (f : ℕ → ℕ) (e k : ℕ) → f (w + (w * e + k)) ≡ f (w * suc e + k)
   later-numbers f e k = let q : w + (w * e + k) ≡ w * suc e + k = rw mul-suc (omega arith) in ap f q
@@ -77,8 +77,8 @@ module _ {A : Type 0} (g : A → List ℕ) (w : ℕ) where
   first-numbers f k = rw (mul-zero, zero-add)
 
   table-places : (n : ℕ) (xs : List A) (f : ℕ → ℕ)
-      → ((e k : ℕ) → e < n → k < w → f (w * e + k) ≡ field g xs e k) → table (w * n) f ≡ places g w n xs
-  unfolding places table field
+      → ((e k : ℕ) → e < n → k < w → f (w * e + k) ≡ field g xs e k) → table (w * n) f ≡ packed g w n xs
+  unfolding packed table field
   table-places zero xs f h = rw mul-zero
   table-places (suc n) [] f h =
       let q : w * suc n ≡ w + w * n = rw mul-suc (omega arith) in
@@ -99,7 +99,7 @@ module _ {A : Type 0} (g : A → List ℕ) (w : ℕ) where
 
 -- a place of one number
 table-singles : {A : Type 0} (g : A → List ℕ) (n : ℕ) (xs : List A) (f : ℕ → ℕ)
-    → ((e : ℕ) → e < n → f e ≡ field g xs e 0) → table n f ≡ places g 1 n xs
+    → ((e : ℕ) → e < n → f e ≡ field g xs e 0) → table n f ≡ packed g 1 n xs
 table-singles g n xs f h =
     let q : n ≡ 1 * n = omega arith in
     ap (λ (m : ℕ). table m f) q
@@ -110,7 +110,7 @@ table-singles g n xs f h =
 
 -- ---- what stands where
 
-pub record Stands (S : Settings) (L : Lent) (t : Tables) : Type 0 where
+pub record ByNumber (S : Settings) (L : Lent) (t : Tables) : Type 0 where
   pub tags : (l : ℕ) → l < linesOf S → tag S L l ≡ field tagOf (t .lines) l 0
   pub cycles : (l : ℕ) → l < linesOf S → cycle S L l ≡ field cycleOf (t .lines) l 0
   pub takens : (l : ℕ) → l < linesOf S → taken S L l ≡ field takenOf (t .lines) l 0
@@ -132,7 +132,7 @@ pub record Stands (S : Settings) (L : Lent) (t : Tables) : Type 0 where
 
 -- number k of record e of the block j, which stands at index i of the slice
 module _ {A : Type 0} (g : A → List ℕ) (w n : ℕ) (xs : List A) (bs : List (List ℕ)) (j : ℕ) where
-  in-block : (e k i : ℕ) → getD bs j [] ≡ places g w n xs → j < length bs → i ≡ ahead bs j + (w * e + k) → e < n → k < w
+  in-block : (e k i : ℕ) → getD bs j [] ≡ packed g w n xs → j < length bs → i ≡ offsetIn bs j + (w * e + k) → e < n → k < w
       → getD (joined bs) i 0 ≡ field g xs e k
   in-block e k i here h at a b =
       let s : length (getD bs j []) ≡ w * n = ap length here ∙ length-places g w n xs in
@@ -142,29 +142,29 @@ module _ {A : Type 0} (g : A → List ℕ) (w n : ℕ) (xs : List A) (bs : List 
       ∙ places-field g w n e k xs a b
 
 module _ (S : Settings) (t : Tables) where
-  long-block : {A : Type 0} (g : A → List ℕ) (w n : ℕ) (xs : List A) (j e k i : ℕ) → getD (longBlocks S t) j [] ≡ places g w n xs → j < 3
+  long-block : {A : Type 0} (g : A → List ℕ) (w n : ℕ) (xs : List A) (j e k i : ℕ) → getD (longBlocks S t) j [] ≡ packed g w n xs → j < 3
       → i ≡ longsFrom S j + (w * e + k) → e < n → k < w → getD (joined (longBlocks S t)) i 0 ≡ field g xs e k
   long-block g w n xs j e k i here h at =
       in-block g w n xs (longBlocks S t) j e k i here h (at ∙ ap (λ (m : ℕ). m + (w * e + k)) (sym (begins (longBlocks S t) j (long-sizes S t))))
 
-  word-block : {A : Type 0} (g : A → List ℕ) (w n : ℕ) (xs : List A) (j e k i : ℕ) → getD (wordBlocks S t) j [] ≡ places g w n xs → j < 8
+  word-block : {A : Type 0} (g : A → List ℕ) (w n : ℕ) (xs : List A) (j e k i : ℕ) → getD (wordBlocks S t) j [] ≡ packed g w n xs → j < 8
       → i ≡ wordsFrom S j + (w * e + k) → e < n → k < w → getD (joined (wordBlocks S t)) i 0 ≡ field g xs e k
   word-block g w n xs j e k i here h at =
       in-block g w n xs (wordBlocks S t) j e k i here h (at ∙ ap (λ (m : ℕ). m + (w * e + k)) (sym (begins (wordBlocks S t) j (word-sizes S t))))
 
-  mark-block : {A : Type 0} (g : A → List ℕ) (w n : ℕ) (xs : List A) (j e k i : ℕ) → getD (markBlocks S t) j [] ≡ places g w n xs → j < 5
+  mark-block : {A : Type 0} (g : A → List ℕ) (w n : ℕ) (xs : List A) (j e k i : ℕ) → getD (markBlocks S t) j [] ≡ packed g w n xs → j < 5
       → i ≡ marksFrom S j + (w * e + k) → e < n → k < w → getD (joined (markBlocks S t)) i 0 ≡ field g xs e k
   mark-block g w n xs j e k i here h at =
       in-block g w n xs (markBlocks S t) j e k i here h (at ∙ ap (λ (m : ℕ). m + (w * e + k)) (sym (begins (markBlocks S t) j (mark-sizes S t))))
 
-  pub encode-stands : Stands S (encode S t) t
+  pub encode-stands : ByNumber S (encode S t) t
   unfolding encode
   encode-stands = record {
     tags = λ l h. long-block tagOf 1 (linesOf S) (t .lines) tagRegion l 0 l refl (omega arith) (omega arith) h (omega arith);
     misses = λ e h. long-block missOf 1 (S .misses) (t .misses) missRegion e 0 _ refl (omega arith) (omega arith) h (omega arith);
     queue = λ p h. long-block queuedOf 1 (S .queue) (t .queue) queueRegion p 0 _ refl (omega arith) (omega arith) h (omega arith);
     time = refl;
-    count = block-get (wordBlocks S t) dirtyCountRegion 0 {i = wordsFrom S dirtyCountRegion} refl (sym (begins (wordBlocks S t) dirtyCountRegion (word-sizes S t)) ∙ sym (add-zero (ahead (wordBlocks S t) dirtyCountRegion))) (omega arith) (omega arith);
+    count = block-get (wordBlocks S t) dirtyCountRegion 0 {i = wordsFrom S dirtyCountRegion} refl (sym (begins (wordBlocks S t) dirtyCountRegion (word-sizes S t)) ∙ sym (add-zero (offsetIn (wordBlocks S t) dirtyCountRegion))) (omega arith) (omega arith);
     cycles = λ l h. word-block cycleOf 1 (linesOf S) (t .lines) cycleRegion l 0 (1 + l) refl (omega arith) (omega arith) h (omega arith);
     takens = λ l h. word-block takenOf 1 (linesOf S) (t .lines) takenRegion l 0 (wordsFrom S takenRegion + l) refl (omega arith) (omega arith) h (omega arith);
     trees = λ i h. word-block treeOf 1 (S .sets) (t .trees) treeRegion i 0 (wordsFrom S treeRegion + i) refl (omega arith) (omega arith) h (omega arith);
@@ -183,13 +183,13 @@ module _ (S : Settings) (t : Tables) where
 -- a field whose numbers stand from `at` on stands there as a region
 module _ (l : List ℕ) (at : ℕ) {A : Type 0} (g : A → List ℕ) (n : ℕ) (xs : List A) where
   region-places : (w : ℕ) → at + w * n ≤ length l → ((e k : ℕ) → e < n → k < w → getD l (at + (w * e + k)) 0 ≡ field g xs e k)
-      → region l at (w * n) ≡ places g w n xs
+      → region l at (w * n) ≡ packed g w n xs
   region-places w h f = region-table l at (w * n) h ∙ table-places g w n xs (λ i. getD l (at + i) 0) f
 
-  region-singles : at + n ≤ length l → ((e : ℕ) → e < n → getD l (at + e) 0 ≡ field g xs e 0) → region l at n ≡ places g 1 n xs
+  region-singles : at + n ≤ length l → ((e : ℕ) → e < n → getD l (at + e) 0 ≡ field g xs e 0) → region l at n ≡ packed g 1 n xs
   region-singles h f = region-table l at n h ∙ table-singles g n xs (λ i. getD l (at + i) 0) f
 
-module _ (S : Settings) (L : Lent) (t : Tables) (st : Stands S L t) where
+module _ (S : Settings) (L : Lent) (t : Tables) (st : ByNumber S L t) where
   longs-stand : length (L .longs) ≡ longsLength S → L .longs ≡ joined (longBlocks S t)
   longs-stand e =
       regions-joined (L .longs) (longSizes S) (longBlocks S t) (

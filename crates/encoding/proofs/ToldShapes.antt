@@ -14,7 +14,7 @@ use Rattle.model.specs.Sound.{lastCycle}
 use Rattle.model.specs.Probe.{Spot, Place, no, at, ruleOf}
 use Rattle.model.specs.Steps.{isMerge, isMiss, queues, queuedAs, queuedEvent, sentAs, placesNeeded, accept, entryFull, proceed, access, afterSend, sendFrom, send, ticketsOf, afterFill, sentFor, fill, tick}
 use Rattle.model.specs.Calls.{eventsTold, inTwo, tidied}
-use Rattle.model.specs.Inner.{Held, Does}
+use Rattle.model.specs.Inner.{SoundSlices, Does}
 use Rattle.model.specs.ToldShape.{ofAccess, ofSend, ofFill, ofTick, Shaped}
 use Rattle.model.specs.declared.Settings.{Settings}
 use Rattle.model.specs.declared.Access.{Access}
@@ -191,7 +191,7 @@ module _ (r : Told) (tidy : tidied r ≡ r) where
 
 -- ---- the shape of what each step tells
 
-module _ (S : Settings) {L : Lent} (held : Held S L) {r : Told} {M : Lent} where
+module _ (S : Settings) {L : Lent} (held : SoundSlices S L) {r : Told} {M : Lent} where
   module _ {step : Tables → Outcome Tables} (d : Does S step L r M) where
     tidy : tidied r ≡ r
     tidy = d .on (held .tables) (held .are) .tidy

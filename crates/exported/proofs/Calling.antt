@@ -17,7 +17,7 @@ use Rattle.model.specs.Records.{logBytes}
 use Rattle.model.specs.Sound.{allOnes, sound}
 use Rattle.model.specs.Steps.{access, send, fill, tick}
 use Rattle.model.specs.Calls.{call, encoded, Leaves, eventsTold}
-use Rattle.model.specs.Inner.{Held, Does}
+use Rattle.model.specs.Inner.{SoundSlices, Does}
 use Rattle.model.specs.Numbers.{stopNumber}
 use Rattle.model.specs.Runner.{stepOf, Result, Runs}
 use Rattle.model.specs.declared.Settings.{Settings}
@@ -29,7 +29,7 @@ use Rattle.rounds.specs.Waiting.{waitCall, waitWithin, Waits}
 use Rattle.model.specs.declared.Command.{Command}
 use Rattle.model.specs.declared.Command.the-variants as cmd
 use Rattle.model.proofs.Soundness.{commandMask, step-keeps-sound}
-use Rattle.encoding.proofs.Decoded.{Small}
+use Rattle.encoding.proofs.DecodeIsSound.{Small}
 use Rattle.words.proofs.Flags.{flag}
 use Rattle.encoding.proofs.Bridge.{call-is, events-encoded, does-is}
 use Rattle.records.specs.Stores.{Stored}
@@ -72,10 +72,10 @@ call-made S step L e told short small room l s = call-written (call S step L) L 
 
 -- ---- a step without the check leaves what the call leaves, and sound tables again
 
-pub step-unmade : (S : Settings) (o : Outcome Lent) (L : Lent) (e : List ℕ) → Held S L → length e < 64 → Stepped S o L e 0 e L
+pub step-unmade : (S : Settings) (o : Outcome Lent) (L : Lent) (e : List ℕ) → SoundSlices S L → length e < 64 → Stepped S o L e 0 e L
 step-unmade S o L e held h = record { called = call-unmade o L e h; held = held }
 
-pub step-made : (S : Settings) (c : Command) (L : Lent) (e : List ℕ) (told : Told) {r : ℕ} {f : List ℕ} {M : Lent} → commandMask c ≤ allOnes → Held S L
+pub step-made : (S : Settings) (c : Command) (L : Lent) (e : List ℕ) (told : Told) {r : ℕ} {f : List ℕ} {M : Lent} → commandMask c ≤ allOnes → SoundSlices S L
     → 64 ≤ length e → Does S (stepOf S c) L told M → Stored e 0 (logBytes (eventsTold told)) r f → Stepped S (call S (stepOf S c) L) L e r f M
 step-made S c L e told small held room d s =
     let t = held .tables in

@@ -17,7 +17,7 @@ use Rattle.model.specs.declared.Settings.{Settings}
 use Rattle.model.specs.declared.Access.{Access}
 use Rattle.model.specs.declared.Ran.{Ran}
 use Rattle.model.proofs.RunSound.{bytes}
-use Rattle.encoding.proofs.Decoded.{Small}
+use Rattle.encoding.proofs.DecodeIsSound.{Small}
 use Rattle.records.specs.Fitting.{AllFitting, stamped}
 use Rattle.records.proofs.RoundTrip.{log-written}
 use Rattle.records.proofs.Fits.{access-fits, send-fits, fill-fits, tick-fits}

@@ -11,7 +11,7 @@ use Rattle.model.specs.Range.{within, inRange}
 use Rattle.model.specs.Tables.{Outcome, after, eventsOf}
 use Rattle.model.specs.Lent.{Lent}
 use Rattle.model.specs.Records.{logBytes}
-use Rattle.model.specs.Inner.{Held}
+use Rattle.model.specs.Inner.{SoundSlices}
 use Rattle.model.specs.declared.Settings.{Settings}
 use Rattle.model.specs.declared.Access.{Access}
 use Rattle.model.specs.declared.Access.the-variants.{Read, Write}
@@ -62,7 +62,7 @@ pub record Called (o : Outcome Lent) (L : Lent) (e : List ℕ) (r : ℕ) (f : Li
 -- the same of a step without the check, on slices that are the encoding of sound tables: it leaves such slices again
 pub record Stepped (S : Settings) (o : Outcome Lent) (L : Lent) (e : List ℕ) (r : ℕ) (f : List ℕ) (M : Lent) : Type 0 where
   pub called : Called o L e r f M
-  pub held : Held S M
+  pub held : SoundSlices S M
 
 -- ---- wait: the accepting round goes to a slice of one number
 

@@ -4,7 +4,7 @@ use crate::settings_from;
 use model::Access;
 use records::EVENT_ROOM;
 ghost use Rattle.model.specs.Lent.{lent};
-ghost use Rattle.model.specs.Inner.{Held};
+ghost use Rattle.model.specs.Inner.{SoundSlices};
 ghost use Rattle.model.specs.Calls.{accessCall, sendCall, fillCall, tickCall};
 ghost use Rattle.model.specs.declared.Access.the-variants.{Read, Write};
 ghost use Rattle.exported.specs.Exported.{settingsFrom, Stepped};
@@ -19,7 +19,7 @@ pub extern "C" fn labintugmo_step_read(
     ticket: u32,
     events: &mut [u8],
 ) -> usize
-    requires { ⌜ Held (settingsFrom (now settings)) (lent (now longs) (now words) (now marks)) ⌝ }
+    requires { ⌜ SoundSlices (settingsFrom (now settings)) (lent (now longs) (now words) (now marks)) ⌝ }
     ensures { λ r. ⌜ Stepped (settingsFrom (now (settings .entry))) (accessCall (settingsFrom (now (settings .entry))) (Read address 0 ticket) (lent (now (longs .entry)) (now (words .entry)) (now (marks .entry)))) (lent (now (longs .entry)) (now (words .entry)) (now (marks .entry)))
         (now (events .entry)) r (now (events .exit)) (lent (now (longs .exit)) (now (words .exit)) (now (marks .exit))) ⌝ }
 {
@@ -47,7 +47,7 @@ pub extern "C" fn labintugmo_step_write(
     mask: u32,
     events: &mut [u8],
 ) -> usize
-    requires { ⌜ Held (settingsFrom (now settings)) (lent (now longs) (now words) (now marks)) ⌝ }
+    requires { ⌜ SoundSlices (settingsFrom (now settings)) (lent (now longs) (now words) (now marks)) ⌝ }
     ensures { λ r. ⌜ Stepped (settingsFrom (now (settings .entry))) (accessCall (settingsFrom (now (settings .entry))) (Write address mask 0) (lent (now (longs .entry)) (now (words .entry)) (now (marks .entry)))) (lent (now (longs .entry)) (now (words .entry)) (now (marks .entry)))
         (now (events .entry)) r (now (events .exit)) (lent (now (longs .exit)) (now (words .exit)) (now (marks .exit))) ⌝ }
 {
@@ -73,7 +73,7 @@ pub extern "C" fn labintugmo_step_send(
     marks: &mut [u8],
     events: &mut [u8],
 ) -> usize
-    requires { ⌜ Held (settingsFrom (now settings)) (lent (now longs) (now words) (now marks)) ⌝ }
+    requires { ⌜ SoundSlices (settingsFrom (now settings)) (lent (now longs) (now words) (now marks)) ⌝ }
     ensures { λ r. ⌜ Stepped (settingsFrom (now (settings .entry))) (sendCall (settingsFrom (now (settings .entry))) (lent (now (longs .entry)) (now (words .entry)) (now (marks .entry)))) (lent (now (longs .entry)) (now (words .entry)) (now (marks .entry)))
         (now (events .entry)) r (now (events .exit)) (lent (now (longs .exit)) (now (words .exit)) (now (marks .exit))) ⌝ }
 {
@@ -95,7 +95,7 @@ pub extern "C" fn labintugmo_step_fill(
     address: u64,
     events: &mut [u8],
 ) -> usize
-    requires { ⌜ Held (settingsFrom (now settings)) (lent (now longs) (now words) (now marks)) ⌝ }
+    requires { ⌜ SoundSlices (settingsFrom (now settings)) (lent (now longs) (now words) (now marks)) ⌝ }
     ensures { λ r. ⌜ Stepped (settingsFrom (now (settings .entry))) (fillCall (settingsFrom (now (settings .entry))) address (lent (now (longs .entry)) (now (words .entry)) (now (marks .entry)))) (lent (now (longs .entry)) (now (words .entry)) (now (marks .entry)))
         (now (events .entry)) r (now (events .exit)) (lent (now (longs .exit)) (now (words .exit)) (now (marks .exit))) ⌝ }
 {
@@ -117,7 +117,7 @@ pub extern "C" fn labintugmo_step_tick(
     cycle: u32,
     events: &mut [u8],
 ) -> usize
-    requires { ⌜ Held (settingsFrom (now settings)) (lent (now longs) (now words) (now marks)) ⌝ }
+    requires { ⌜ SoundSlices (settingsFrom (now settings)) (lent (now longs) (now words) (now marks)) ⌝ }
     ensures { λ r. ⌜ Stepped (settingsFrom (now (settings .entry))) (tickCall (settingsFrom (now (settings .entry))) cycle (lent (now (longs .entry)) (now (words .entry)) (now (marks .entry)))) (lent (now (longs .entry)) (now (words .entry)) (now (marks .entry)))
         (now (events .entry)) r (now (events .exit)) (lent (now (longs .exit)) (now (words .exit)) (now (marks .exit))) ⌝ }
 {

@@ -6,7 +6,7 @@ use Prim.Native.Nat.{ℕ, _+_}
 use native.Mathlib.Nat.{add-zero}
 use native.Mathlib.Omega.{arith}
 use lib.ListN.{length, getD}
-use Rattle.words.specs.Regions.{put, ahead}
+use Rattle.words.specs.Regions.{put, offsetIn}
 use Rattle.model.specs.Layout.{wordsFrom, dirtyCountRegion}
 use Rattle.model.specs.Tables.{Tables, withDirtyCount, isModified}
 use Rattle.model.specs.Lent.{wordBlocks}
@@ -17,16 +17,16 @@ use Rattle.encoding.proofs.Slices.{word-sizes, begins}
 use Rattle.layout.specs.declared.Layout.{Layout}
 use Rattle.layout.specs.Layout.{Placed}
 use Rattle.layout.specs.Sectors.{someModified}
-use Rattle.layout.proofs.Stands.{Stands}
+use Rattle.layout.proofs.ByBlocks.{ByBlocks}
 
-module _ (S : Settings) (t : Tables) {longs words marks : List ℕ} (h : Stands S longs words marks t) {at : Layout} (p : Placed S at) where
-  here : at .dirty ≡ ahead (wordBlocks S t) dirtyCountRegion + 0
-  here = p .dirty ∙ sym (begins (wordBlocks S t) dirtyCountRegion (word-sizes S t)) ∙ sym (add-zero (ahead (wordBlocks S t) dirtyCountRegion))
+module _ (S : Settings) (t : Tables) {longs words marks : List ℕ} (h : ByBlocks S longs words marks t) {at : Layout} (p : Placed S at) where
+  here : at .dirty ≡ offsetIn (wordBlocks S t) dirtyCountRegion + 0
+  here = p .dirty ∙ sym (begins (wordBlocks S t) dirtyCountRegion (word-sizes S t)) ∙ sym (add-zero (offsetIn (wordBlocks S t) dirtyCountRegion))
 
   pub dirty-count-at : getD words (at .dirty) 0 ≡ t .dirtyCount
   dirty-count-at = block-get (wordBlocks S t) dirtyCountRegion 0 {i = at .dirty} (h .as-words) here (omega arith) (omega arith)
 
-  pub dirty-count-stands : (d : ℕ) {words′ : List ℕ} → words′ ≡ put words (at .dirty) (d ∷ []) → Stands S longs words′ marks (withDirtyCount d t)
+  pub dirty-count-stands : (d : ℕ) {words′ : List ℕ} → words′ ≡ put words (at .dirty) (d ∷ []) → ByBlocks S longs words′ marks (withDirtyCount d t)
   unfolding put
   dirty-count-stands d e = record {
     as-longs = h .as-longs;

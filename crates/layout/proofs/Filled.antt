@@ -8,7 +8,7 @@ use native.Mathlib.Numerals.{add-one}
 use lib.ListN.{length, set, replicate, length-set, length-replicate, getD-replicate, replicate-append-replicate}
 use lib.Seq.{paste, paste-zero, paste-suc}
 use Rattle.model.specs.declared.Settings.{Settings}
-use Rattle.words.specs.Words.{fit, places, joined}
+use Rattle.words.specs.Words.{fit, packed, joined}
 use Rattle.model.specs.Range.{linesOf}
 use Rattle.model.specs.Layout.{longsLength, wordsLength, marksLength}
 use Rattle.model.specs.Tables.{fresh, start}
@@ -59,15 +59,15 @@ as-many v {m} {n} e = ap (λ (k : ℕ). replicate k v) e
 
 module _ {A : Type 0} (g : A → List ℕ) (w : ℕ) where
   -- n times the same record, of one number in all its places
-  even-places : (x : A) (v n : ℕ) → fit w (g x) ≡ replicate w v → places g w n (replicate n x) ≡ replicate (w * n) v
-  unfolding places
+  even-places : (x : A) (v n : ℕ) → fit w (g x) ≡ replicate w v → packed g w n (replicate n x) ≡ replicate (w * n) v
+  unfolding packed
   even-places x v zero e = rw (mul-zero w)
   even-places x v (suc n) e =
       let k : w + w * n ≡ w * suc n = rw mul-suc (omega arith) in
       rw (e, even-places x v n e, replicate-append-replicate) (as-many v k)
 
-  no-places : (n : ℕ) → places g w n [] ≡ zeros (w * n)
-  unfolding places
+  no-places : (n : ℕ) → packed g w n [] ≡ zeros (w * n)
+  unfolding packed
   no-places zero = rw (mul-zero w)
   no-places (suc n) =
       let k : w + w * n ≡ w * suc n = rw mul-suc (omega arith) in

@@ -6,7 +6,7 @@ pub mod Room
 pub mod ByPlace
 pub mod Stores
 pub mod Grown
-pub mod Stands
+pub mod ByBlocks
 pub mod Lines
 pub mod TreeStands
 pub mod DirtyCount

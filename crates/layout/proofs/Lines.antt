@@ -6,10 +6,10 @@ use Prim.Native.Nat.{ℕ, _+_, _*_, _≤_, _<_}
 use native.Mathlib.Omega.{arith}
 use lib.ListN.{length, getD, set, length-map}
 use lib.Dec.{eqb}
-use Rattle.words.specs.Words.{fit, places, joined}
+use Rattle.words.specs.Words.{fit, packed, joined}
 use Rattle.model.specs.Numbers.{statusNumber, statusOf}
 use Rattle.model.specs.Range.{linesOf}
-use Rattle.words.specs.Regions.{put, ahead}
+use Rattle.words.specs.Regions.{put, offsetIn}
 use Rattle.model.specs.Tables.{Line, Tables, fresh, withLines}
 use Rattle.model.specs.Layout.{wordsFrom, marksFrom, maskRegion, readableRegion}
 use Rattle.model.specs.Lent.{bit, sectorsAt, longBlocks, wordBlocks, markBlocks, tagOf, cycleOf, takenOf, masksOf, statusesOf, readablesOf}
@@ -21,7 +21,7 @@ use Rattle.layout.specs.declared.Layout.{Layout}
 use Rattle.model.specs.Inner.{told}
 use Rattle.layout.specs.Layout.{Placed}
 use Rattle.layout.specs.Sectors.{statuses, masks, readables}
-use Rattle.layout.proofs.Stands.{Stands}
+use Rattle.layout.proofs.ByBlocks.{ByBlocks}
 use Rattle.layout.proofs.Grown.{places-same}
 
 -- four numbers are their own places
@@ -67,7 +67,7 @@ sectors-of (a ∷ b ∷ c ∷ d ∷ x ∷ xs) e S words marks l f g h = absurd (
 abbrev pub takenAs : ℕ → Line → Line
 takenAs k y = record { tag = y .tag; cycle = y .cycle; taken = k; sectors = y .sectors }
 
-module _ (S : Settings) (t : Tables) {longs words marks : List ℕ} (h : Stands S longs words marks t) {at : Layout} (p : Placed S at) (sized : length (t .lines) ≡ linesOf S)
+module _ (S : Settings) (t : Tables) {longs words marks : List ℕ} (h : ByBlocks S longs words marks t) {at : Layout} (p : Placed S at) (sized : length (t .lines) ≡ linesOf S)
     (l : ℕ) (below : l < length (t .lines)) where
   few : length (t .lines) ≤ linesOf S
   few = omega arith
@@ -84,13 +84,13 @@ module _ (S : Settings) (t : Tables) {longs words marks : List ℕ} (h : Stands 
 
   pub status-at : (j q : ℕ) → j < 4 → q ≡ 4 * l + j → getD marks q 0 ≡ getD (fit 4 (statusesOf (getD (t .lines) l fresh))) j 0
   status-at j q b f =
-      let start : 4 * l ≡ ahead (markBlocks S t) 0 + 4 * l = omega arith in
+      let start : 4 * l ≡ offsetIn (markBlocks S t) 0 + 4 * l = omega arith in
       field-get statusesOf 4 (linesOf S) (t .lines) (markBlocks S t) 0 l {i = 4 * l} (h .as-marks) refl start (omega arith) below few fresh j b f
 
   pub lifted : length (getD (t .lines) l fresh .sectors) ≡ 4 → sectorsAt S words marks l ≡ getD (t .lines) l fresh .sectors
   lifted four =
-      let ws : at .masks + 4 * l ≡ ahead (wordBlocks S t) 2 + 4 * l = simp length-places (omega arith) in
-      let rs : at .readables + 4 * l ≡ ahead (markBlocks S t) 1 + 4 * l = simp length-places (omega arith) in
+      let ws : at .masks + 4 * l ≡ offsetIn (wordBlocks S t) 2 + 4 * l = simp length-places (omega arith) in
+      let rs : at .readables + 4 * l ≡ offsetIn (markBlocks S t) 1 + 4 * l = simp length-places (omega arith) in
       sectors-of (getD (t .lines) l fresh .sectors) four S words marks l status-at
       (λ j q b f. field-get masksOf 4 (linesOf S) (t .lines) (wordBlocks S t) 2 l {i = at .masks + 4 * l} (h .as-words) refl ws (omega arith) below few fresh j b (omega arith))
       (λ j q b f. field-get readablesOf 4 (linesOf S) (t .lines) (markBlocks S t) 1 l {i = at .readables + 4 * l} (h .as-marks) refl rs (omega arith) below few fresh j b (omega arith))
@@ -104,16 +104,16 @@ module _ (S : Settings) (t : Tables) {longs words marks : List ℕ} (h : Stands 
     marks-put : {marks′ : List ℕ} → marks′ ≡ put (put marks (4 * l) (statuses (y .sectors))) (at .readables + 4 * l) (readables (y .sectors))
         → marks′ ≡ joined (markBlocks S (withLines (set (t .lines) l y) t))
     marks-put c =
-        let first : put marks (4 * l) (statuses (y .sectors)) ≡ joined (set (markBlocks S t) 0 (places statusesOf 4 (linesOf S) (set (t .lines) l y))) =
+        let first : put marks (4 * l) (statuses (y .sectors)) ≡ joined (set (markBlocks S t) 0 (packed statusesOf 4 (linesOf S) (set (t .lines) l y))) =
         field-put statusesOf 4 (linesOf S) (t .lines) (markBlocks S t) 0 l {i = 4 * l} (h .as-marks) refl (omega arith) (omega arith) below few y (column (λ s. statusNumber (s .status))) refl in
-        field-put readablesOf 4 (linesOf S) (t .lines) (set (markBlocks S t) 0 (places statusesOf 4 (linesOf S) (set (t .lines) l y))) 1 l first refl (simp length-places (omega arith)) (omega arith) below few y (column (λ s. bit (s .readable))) c
+        field-put readablesOf 4 (linesOf S) (t .lines) (set (markBlocks S t) 0 (packed statusesOf 4 (linesOf S) (set (t .lines) l y))) 1 l first refl (simp length-places (omega arith)) (omega arith) below few y (column (λ s. bit (s .readable))) c
 
     -- its sectors alone
     pub store-stands : y .tag ≡ getD (t .lines) l fresh .tag → y .cycle ≡ getD (t .lines) l fresh .cycle
         → y .taken ≡ getD (t .lines) l fresh .taken → {words′ marks′ : List ℕ}
         → (words′ ≡ put words (at .masks + 4 * l) (masks (y .sectors)))
         × (marks′ ≡ put (put marks (4 * l) (statuses (y .sectors))) (at .readables + 4 * l) (readables (y .sectors)))
-        → Stands S longs words′ marks′ (withLines (set (t .lines) l y) t)
+        → ByBlocks S longs words′ marks′ (withLines (set (t .lines) l y) t)
     store-stands e f k c = record {
       as-longs = rw (places-same tagOf 1 (linesOf S) l (t .lines) fresh y (ap (λ (n : ℕ). n ∷ []) e)) (h .as-longs);
       as-words = rw (places-same cycleOf 1 (linesOf S) l (t .lines) fresh y (ap (λ (n : ℕ). n ∷ []) f), places-same takenOf 1 (linesOf S) l (t .lines) fresh y (ap (λ (n : ℕ). n ∷ []) k))
@@ -126,21 +126,21 @@ module _ (S : Settings) (t : Tables) {longs words marks : List ℕ} (h : Stands 
         → (longs′ ≡ put longs l (y .tag ∷ []))
         × (words′ ≡ put (put words (1 + l) (y .cycle ∷ [])) (at .masks + 4 * l) (masks (y .sectors)))
         × (marks′ ≡ put (put marks (4 * l) (statuses (y .sectors))) (at .readables + 4 * l) (readables (y .sectors)))
-        → Stands S longs′ words′ marks′ (withLines (set (t .lines) l y) t)
+        → ByBlocks S longs′ words′ marks′ (withLines (set (t .lines) l y) t)
     unfolding fit
     line-stands k c =
-        let first : put words (1 + l) (y .cycle ∷ []) ≡ joined (set (wordBlocks S t) 1 (places cycleOf 1 (linesOf S) (set (t .lines) l y))) =
+        let first : put words (1 + l) (y .cycle ∷ []) ≡ joined (set (wordBlocks S t) 1 (packed cycleOf 1 (linesOf S) (set (t .lines) l y))) =
         field-put cycleOf 1 (linesOf S) (t .lines) (wordBlocks S t) 1 l {i = 1 + l} (h .as-words) refl (omega arith) (omega arith) below few y refl refl in
         record {
           as-longs = field-put tagOf 1 (linesOf S) (t .lines) (longBlocks S t) 0 l (h .as-longs) refl (omega arith) (omega arith) below few y refl (c .0);
           as-words = rw (places-same takenOf 1 (linesOf S) l (t .lines) fresh y (ap (λ (n : ℕ). n ∷ []) k))
-              (field-put masksOf 4 (linesOf S) (t .lines) (set (wordBlocks S t) 1 (places cycleOf 1 (linesOf S) (set (t .lines) l y))) 2 l first refl (simp length-places (omega arith)) (omega arith) below few y (column (λ s. s .mask)) (c .1));
+              (field-put masksOf 4 (linesOf S) (t .lines) (set (wordBlocks S t) 1 (packed cycleOf 1 (linesOf S) (set (t .lines) l y))) 2 l first refl (simp length-places (omega arith)) (omega arith) below few y (column (λ s. s .mask)) (c .1));
           as-marks = marks-put (c .2);
         }
 
   -- the cycle at which it was taken alone
   pub taken-stands : (k : ℕ) {words′ : List ℕ} → words′ ≡ put words (at .taken + l) (k ∷ [])
-      → Stands S longs words′ marks (withLines (set (t .lines) l (takenAs k (getD (t .lines) l fresh))) t)
+      → ByBlocks S longs words′ marks (withLines (set (t .lines) l (takenAs k (getD (t .lines) l fresh))) t)
   unfolding fit
   taken-stands k c =
       let from = told (p .taken) in

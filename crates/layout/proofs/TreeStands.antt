@@ -13,10 +13,10 @@ use Rattle.model.specs.declared.Settings.{Settings}
 use Rattle.words.proofs.Places.{length-places, field-put, field-get}
 use Rattle.layout.specs.declared.Layout.{Layout}
 use Rattle.layout.specs.Layout.{Placed}
-use Rattle.layout.proofs.Stands.{Stands}
+use Rattle.layout.proofs.ByBlocks.{ByBlocks}
 
-pub tree-stands : (S : Settings) (t : Tables) {longs words marks : List ℕ} → Stands S longs words marks t → {at : Layout} → Placed S at → length (t .trees) ≡ S .sets
-    → (i v : ℕ) → i < S .sets → {words′ : List ℕ} → words′ ≡ put words (at .trees + i) (v ∷ []) → Stands S longs words′ marks (withTrees (set (t .trees) i v) t)
+pub tree-stands : (S : Settings) (t : Tables) {longs words marks : List ℕ} → ByBlocks S longs words marks t → {at : Layout} → Placed S at → length (t .trees) ≡ S .sets
+    → (i v : ℕ) → i < S .sets → {words′ : List ℕ} → words′ ≡ put words (at .trees + i) (v ∷ []) → ByBlocks S longs words′ marks (withTrees (set (t .trees) i v) t)
 unfolding fit
 tree-stands S t h {at} p sized i v below c =
     let from = told (p .trees) in
@@ -26,7 +26,7 @@ tree-stands S t h {at} p sized i v below c =
       as-marks = h .as-marks;
     }
 
-pub tree-at : (S : Settings) (t : Tables) {longs words marks : List ℕ} → Stands S longs words marks t → {at : Layout} → Placed S at → length (t .trees) ≡ S .sets
+pub tree-at : (S : Settings) (t : Tables) {longs words marks : List ℕ} → ByBlocks S longs words marks t → {at : Layout} → Placed S at → length (t .trees) ≡ S .sets
     → (i : ℕ) → i < S .sets → getD words (at .trees + i) 0 ≡ getD (t .trees) i 0
 unfolding fit
 tree-at S t h {at} p sized i below =

@@ -11,7 +11,7 @@ use lib.Dec.{ltb, leb}
 use Rattle.words.specs.Words.{any}
 use Rattle.model.specs.Range.{inRange}
 use Rattle.model.specs.Address.{addressOf, maskOf, isRead, blockOf, sectorIndex, wellFormed}
-use Rattle.model.specs.Tables.{Line, Tables, Outcome, refused, waiting, holds, empty, fresh, emptied}
+use Rattle.model.specs.Tables.{Line, Tables, Outcome, refused, hasReserved, holds, empty, fresh, emptied}
 use Rattle.model.specs.Sound.{allOnes}
 use Rattle.model.specs.Probe.{answerOf, waysOf, enoughDirty, candidate, first, Rule, Rules, victim, Spot, Place, no, at, writeBack, takeOver, meet, probe, metUnder}
 use Rattle.model.specs.Steps.{isMerge, isMiss, placesNeeded, entryFull, accept, proceed, accessUnder}
@@ -26,8 +26,8 @@ use Rattle.words.proofs.Flags.{and-1, not-yes, by-flag}
 use Rattle.words.proofs.Lists.{In, in-getD}
 use Rattle.model.proofs.SoundFacts.{Sound, LeavesSound, readers-some}
 use Rattle.model.proofs.Ways.{Finds, first-finds, victim-finds, Sits, way-sits}
-use Rattle.model.proofs.Taken.{Spotted, spotNumber, taken-sound}
-use Rattle.model.proofs.Offered.{rule-spotted}
+use Rattle.model.proofs.AccessKeepsSound.{Spotted, spotNumber, taken-sound}
+use Rattle.model.proofs.ProbeFindsSpot.{rule-spotted}
 
 -- ---- what a spot is in the tables
 
@@ -39,7 +39,7 @@ pub data Stands (S : Settings) (t : Tables) (x : Access) (p : Spot) : Type 0 whe
   -- it holds the block: it is met as it is, and nothing is written back
   found : p .line ≡ lineThere S t x p → p .backs ≡ [] → Stands S t x p
   -- it doesn't, and no sector of it is RESERVED: it is written back, and its line is met with no byte marked
-  taken : holds (blockOf (addressOf x)) (lineThere S t x p) ≡ false → waiting (lineThere S t x p) ≡ false
+  taken : holds (blockOf (addressOf x)) (lineThere S t x p) ≡ false → hasReserved (lineThere S t x p) ≡ false
       → p .backs ≡ writeBack (lineThere S t x p) → ((k : ℕ) → getD (p .line .sectors) k empty .mask ≡ 0)
       → Stands S t x p
 
@@ -83,14 +83,14 @@ module _ (x : Access) (ways : List Line) (w : ℕ) where
 -- all that is asked of a rule: the victim is a way of the set, and no sector of it is RESERVED
 abbrev pub Free : List Line → Found → Type 0
 Free ways Nothing = Unit {0}
-Free ways (At w) = (w < length ways) × (waiting (getD ways w fresh) ≡ false)
+Free ways (At w) = (w < length ways) × (hasReserved (getD ways w fresh) ≡ false)
 
 pub victim-free : (R : Rule) (S : Settings) (d : ℕ) (ways : List Line) → Free ways (victim R S d ways)
 victim-free R S d ways = go (victim R S d ways) (victim-finds R S d ways)
   where
     go : (v : Found) → Finds (candidate (enoughDirty S d)) ways v → Free ways v
     go Nothing f = tt
-    go (At w) f = (f .0, not-yes (and-1 (not (waiting (getD ways w fresh))) _ (f .1)))
+    go (At w) f = (f .0, not-yes (and-1 (not (hasReserved (getD ways w fresh))) _ (f .1)))
 
 -- ---- an access
 
@@ -106,7 +106,7 @@ module _ (S : Settings) (t : Tables) (x : Access) where
       let s : Sits S (t .lines) (addressOf x) w = way-sits S (t .lines) (addressOf x) w (h .0) in
       let q : Stands S t x (over x ways w) =
       taken (ap (holds (blockOf (addressOf x))) (sym (s .line)) ∙ f (getD ways w fresh) (in-getD ways w fresh (h .0)))
-      (ap waiting (sym (s .line)) ∙ h .1) (ap writeBack (s .line)) (empty-masks 4) in
+      (ap hasReserved (sym (s .line)) ∙ h .1) (ap writeBack (s .line)) (empty-masks 4) in
       subst (Stands S t x) (cc) q
 
   meet-stands : (R : Rule) (d : ℕ) (v : Found) → Finds (holds (blockOf (addressOf x))) ways v → (p : Spot) → meet R S d ways x v ≡ at p → Stands S t x p

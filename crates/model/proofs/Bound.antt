@@ -13,7 +13,7 @@ use borrow.Author.Tests.{eq-eqb, lt-leb, le-ltb}
 use Rattle.words.specs.Words.{pick, all, any, count}
 use Rattle.model.specs.Range.{inRange}
 use Rattle.model.specs.Address.{addressOf, isRead, blockOf, wellFormed}
-use Rattle.model.specs.Tables.{Line, Entry, Tables, Outcome, refused, done, accepted, isInvalid, isReserved, unused, waiting, holds, empty, fresh}
+use Rattle.model.specs.Tables.{Line, Entry, Tables, Outcome, refused, done, accepted, isInvalid, isReserved, whollyInvalid, hasReserved, holds, empty, fresh}
 use Rattle.model.specs.Sound.{readingOf, sound}
 use Rattle.model.specs.Probe.{Rule, Place, no, at, waysOf, first, victim, takeOver, meet, probe, ruleOf, metIn}
 use Rattle.model.specs.Steps.{isMerge, isMiss, placesNeeded, entryFull, accept, proceed, access, afterSend, send, others, afterFill, sentFor, fill}
@@ -31,9 +31,9 @@ use Rattle.words.proofs.Flags.{and-1, and-i, and-no, flag, not-yes, no-yes, cla
 use Rattle.words.proofs.Lists.{In, all-in, in-any, any-in, in-index, keep-lt}
 use Rattle.model.proofs.SoundFacts.{Sound, parts, entries-some, places-two, four-at, reserved-at, unsent-once}
 use Rattle.model.proofs.Ways.{way-in}
-use Rattle.model.proofs.Offered.{back-one}
+use Rattle.model.proofs.ProbeFindsSpot.{back-one}
 use Rattle.model.proofs.Victims.{places-at-most-two}
-use Rattle.model.proofs.Keep.{marked-length, sent-sound, filled-sound}
+use Rattle.model.proofs.SendFillKeepSound.{marked-length, sent-sound, filled-sound}
 
 -- ---- tables at rest: nothing queued, no entry
 
@@ -53,18 +53,18 @@ Free (no n) = n ≡ SetHeld
 Free (at p) = length (p .backs) ≤ 1
 
 module _ (S : Settings) (t : Tables) (ok : Sound S t) (no-misses : t .misses ≡ []) where
-  line-free : (l : Line) → In l (t .lines) → waiting l ≡ false
-  line-free l m = no-yes (λ w. go (flag (unused l)) (any-in (λ (v : Sector). isReserved (v .status)) (l .sectors) w))
+  line-free : (l : Line) → In l (t .lines) → hasReserved l ≡ false
+  line-free l m = no-yes (λ w. go (flag (whollyInvalid l)) (any-in (λ (v : Sector). isReserved (v .status)) (l .sectors) w))
     where
-      go : (unused l ≡ true) ⊎ (unused l ≡ false) → (s : Sector) × In s (l .sectors) × (isReserved (s .status) ≡ true) → ⊥
+      go : (whollyInvalid l ≡ true) ⊎ (whollyInvalid l ≡ false) → (s : Sector) × In s (l .sectors) × (isReserved (s .status) ≡ true) → ⊥
       go (inl u) (s, n, q) = clash q (invalid-free (s .status) (all-in (λ (v : Sector). isInvalid (v .status)) (l .sectors) u n))
       go (inr u) (s, n, q) =
           let (k, h, e) = in-index (l .sectors) empty s n in
           clash q (ap (λ (v : Sector). isReserved (v .status)) (sym e)
           ∙ reserved-at S t ok l m u k (omega (arith, four-at S t ok l m)) ∙ rw no-misses)
 
-  set-free : (a : ℕ) → any waiting (waysOf S (t .lines) a) ≡ false
-  set-free a = no-yes (λ w. let (l, m, q) = any-in waiting (waysOf S (t .lines) a) w in clash q (line-free l (way-in S (t .lines) a l m)))
+  set-free : (a : ℕ) → any hasReserved (waysOf S (t .lines) a) ≡ false
+  set-free a = no-yes (λ w. let (l, m, q) = any-in hasReserved (waysOf S (t .lines) a) w in clash q (line-free l (way-in S (t .lines) a l m)))
 
   over-free : (a : ℕ) (v : Found) → Free (takeOver a (waysOf S (t .lines) a) v)
   over-free a Nothing = rw (set-free a)

@@ -12,9 +12,9 @@ pub mod WholeRun
 pub mod SoundFacts
 pub mod Counted
 pub mod Ways
-pub mod Keep
-pub mod Taken
-pub mod Offered
+pub mod SendFillKeepSound
+pub mod AccessKeepsSound
+pub mod ProbeFindsSpot
 pub mod AccessCases
 pub mod Soundness
 pub mod RunSound

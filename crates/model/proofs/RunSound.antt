@@ -16,7 +16,7 @@ use Rattle.model.specs.Records.{isCommand, isSettings, lengthOf, numberA
 pub use Rattle.model.specs.Records.{bytes}
 use Rattle.model.specs.RunnerOf as runner
 use Rattle.model.specs.Runner.{commandMask, settingsOf, firstStop, laterStop, goesOn, stepRead, stepAt, Result, runFrom, run}
-use Rattle.model.specs.Inner.{Held}
+use Rattle.model.specs.Inner.{SoundSlices}
 use Rattle.model.specs.declared.Settings.{Settings}
 use Rattle.model.specs.declared.Command.the-variants as cmd
 use Rattle.model.specs.declared.CommandRead.{CommandRead}
@@ -92,7 +92,7 @@ first-in-range L k s =
 
 -- once its first record is accepted, a run leaves slices of sound tables
 pub run-leaves-sound : (room k : ℕ) (s : List ℕ) (L : Lent) → bytes s ≡ true → goesOn (firstStop L k s) ≡ true
-    → Held (settingsOf k s) (run room (k ∷ s) L .tables)
+    → SoundSlices (settingsOf k s) (run room (k ∷ s) L .tables)
 unfolding runner.run
 run-leaves-sound room k s L h go =
     let S : Settings = settingsOf k s in

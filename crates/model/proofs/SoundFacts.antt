@@ -11,7 +11,7 @@ use Rattle.words.specs.Words.{pick, all, any, count, every}
 use Rattle.model.specs.Range.{inRange, within, linesOf, isTree}
 use Rattle.model.specs.Tree.{treeFine}
 use Rattle.model.specs.Address.{blockOf, sectorIndex, setIndex, goodSector, goodBlock}
-use Rattle.model.specs.Tables.{Line, Entry, Tables, Outcome, refused, done, isReserved, unused, holds, entryFor, isFetch, empty, fresh, dirtyLines}
+use Rattle.model.specs.Tables.{Line, Entry, Tables, Outcome, refused, done, isReserved, whollyInvalid, holds, entryFor, isFetch, empty, fresh, dirtyLines}
 use Rattle.model.specs.Sound.{allOnes, lastCycle, maskOk, sectorOk, lineOk, alone, agrees, reservedOk, readingOf, unsentFor, entryOk, kindOk, queuedOk, sound}
 use Rattle.model.specs.declared.Settings.{Settings}
 use Rattle.model.specs.declared.QueueKind.{QueueKind}
@@ -52,7 +52,7 @@ pub record LineIs (S : Settings) (now i : ℕ) (l : Line) : Type 0 where
   pub sectorly : all sectorOk (l .sectors) ≡ true
   pub past : leb (l .cycle) now ≡ true
   pub since : leb (l .taken) (l .cycle) ≡ true
-  pub tagged : pick (unused l) (eqb (l .tag) 0 && eqb (l .cycle) 0 && eqb (l .taken) 0) (goodBlock (l .tag) && eqb (setIndex S (l .tag)) (i / S .ways)) ≡ true
+  pub tagged : pick (whollyInvalid l) (eqb (l .tag) 0 && eqb (l .cycle) 0 && eqb (l .taken) 0) (goodBlock (l .tag) && eqb (setIndex S (l .tag)) (i / S .ways)) ≡ true
 
 pub line-parts : (S : Settings) (now i : ℕ) (l : Line) → lineOk S now i l ≡ true → LineIs S now i l
 unfolding lineOk
@@ -156,7 +156,7 @@ module _ (S : Settings) (t : Tables) (ok : Sound S t) where
       ap (λ (v : Line). all sectorOk (v .sectors)) (sym e) ∙ line-at i h .sectorly
 
   -- the tag of a line that isn't wholly invalid
-  pub tag-at : (l : Line) → In l (t .lines) → unused l ≡ false → goodBlock (l .tag) ≡ true
+  pub tag-at : (l : Line) → In l (t .lines) → whollyInvalid l ≡ false → goodBlock (l .tag) ≡ true
   tag-at l m u = go (in-index (t .lines) fresh l m)
     where
       go : (i : ℕ) × (i < length (t .lines)) × (getD (t .lines) i fresh ≡ l) → goodBlock (l .tag) ≡ true
@@ -165,11 +165,11 @@ module _ (S : Settings) (t : Tables) (ok : Sound S t) where
           let q : (goodBlock (l .tag) && eqb (setIndex S (l .tag)) (i / S .ways)) ≡ true = rw u at (k .tagged) in
           and-1 (goodBlock (l .tag)) _ q
 
-  pub tag-aligned : (l : Line) → In l (t .lines) → unused l ≡ false → l .tag % 128 ≡ 0
+  pub tag-aligned : (l : Line) → In l (t .lines) → whollyInvalid l ≡ false → l .tag % 128 ≡ 0
   tag-aligned l m u = eqb-true (l .tag % 128) 0 (and-1 (eqb (l .tag % 128) 0) (ltb (l .tag) (2 ^ 48)) (tag-at l m u))
 
   -- its sectors are RESERVED where the entries say so
-  pub reserved-at : (l : Line) → In l (t .lines) → unused l ≡ false → (k : ℕ) → k < 4
+  pub reserved-at : (l : Line) → In l (t .lines) → whollyInvalid l ≡ false → (k : ℕ) → k < 4
       → isReserved (getD (l .sectors) k empty .status) ≡ any (entryFor (l .tag + 32 * k)) (t .misses)
   unfolding reservedOk
   reserved-at l m u k h = same-is _ _ (every-at (agrees (t .misses) l) 4 k (rw u at (all-in (reservedOk (t .misses)) (t .lines) (ok .reserve) m)) h)
@@ -180,8 +180,8 @@ module _ (S : Settings) (t : Tables) (ok : Sound S t) where
   unfolding alone
   holder-one b i j h k e f =
       let l : Line = getD (t .lines) i fresh in
-      let u : unused l ≡ false = not-yes (and-1 (not (unused l)) (eqb (l .tag) b) e) in
-      let q : l .tag ≡ b = eqb-true (l .tag) b (and-2 (not (unused l)) (eqb (l .tag) b) e) in
+      let u : whollyInvalid l ≡ false = not-yes (and-1 (not (whollyInvalid l)) (eqb (l .tag) b) e) in
+      let q : l .tag ≡ b = eqb-true (l .tag) b (and-2 (not (whollyInvalid l)) (eqb (l .tag) b) e) in
       let c : eqb (count (holds (l .tag)) (t .lines)) 1 ≡ true = rw u at (all-in (alone (t .lines)) (t .lines) (ok .single) (in-getD (t .lines) i fresh h)) in
       count-index (holds b) fresh (t .lines) (rw q at (eqb-true (count (holds (l .tag)) (t .lines)) 1 c)) i j h k e f
 

@@ -19,8 +19,8 @@ use Rattle.model.specs.declared.Event.{Event}
 use Rattle.model.specs.declared.Command.{Command}
 use Rattle.model.specs.declared.Command.the-variants as cmd
 use Rattle.model.proofs.SoundFacts.{LeavesSound, parts, whole}
-use Rattle.model.proofs.Keep.{send-leaves, fill-leaves}
-use Rattle.model.proofs.Offered.{tick-leaves, start-is-sound}
+use Rattle.model.proofs.SendFillKeepSound.{send-leaves, fill-leaves}
+use Rattle.model.proofs.ProbeFindsSpot.{tick-leaves, start-is-sound}
 use Rattle.model.proofs.AccessCases.{access-leaves}
 
 after-sound : (S : Settings) (t : Tables) → sound S t ≡ true → (o : Outcome Tables) → LeavesSound S o → sound S (after t o) ≡ true

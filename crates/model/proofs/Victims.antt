@@ -10,7 +10,7 @@ use lib.Dec.{eqb, leb}
 use borrow.Author.Tests.{eqb-true, leb-true, leb-false}
 use Rattle.words.specs.Words.{pick}
 use Rattle.model.specs.Address.{blockOf, addressOf, isRead}
-use Rattle.model.specs.Tables.{Line, writing, Tables, Outcome, refused, done, after, isReserved, isModified, unused, waiting, dirty, holds, fresh}
+use Rattle.model.specs.Tables.{Line, writing, Tables, Outcome, refused, done, after, isReserved, isModified, whollyInvalid, hasReserved, dirty, holds, fresh}
 use Rattle.model.specs.Sound.{maskOk, sectorOk, sound}
 use Rattle.model.specs.Tree.{treeChoice, levels}
 use Rattle.model.specs.Probe.{waysOf, enoughDirty, candidate, first, last, earliest, Rule, byKey, byTree, choiceBy, orElse, victim, Spot, at, writeBack, takeOver, meet, probe, ruleOf}
@@ -32,7 +32,7 @@ use Rattle.words.proofs.Lists.{In, all-in, in-any, in-getD}
 use Rattle.model.proofs.SoundFacts.{parts, sectors-at}
 use Rattle.model.proofs.Ways.{Finds, last-finds, victim-finds, Last, last-is-last, Least, earliest-is-least, way-in}
 use Rattle.model.proofs.AccessCases.{access-judged}
-use Rattle.model.proofs.Offered.{fetches-one, back-one}
+use Rattle.model.proofs.ProbeFindsSpot.{fetches-one, back-one}
 
 -- ---- the victim
 
@@ -41,7 +41,7 @@ module _ (R : Rule) (S : Settings) (d : ℕ) (ways : List Line) (w : ℕ) (chose
   able = candidate (enoughDirty S d)
 
   abbrev vacant : Line → Bool
-  vacant l = able l && unused l
+  vacant l = able l && whollyInvalid l
 
   pub victim-is-way : w < length ways
   victim-is-way = let f : Finds able ways (At w) = rw chosen at (victim-finds R S d ways) in f .0
@@ -49,27 +49,27 @@ module _ (R : Rule) (S : Settings) (d : ℕ) (ways : List Line) (w : ℕ) (chose
   pub victim-is-candidate : candidate (enoughDirty S d) (getD ways w fresh) ≡ true
   victim-is-candidate = let f : Finds able ways (At w) = rw chosen at (victim-finds R S d ways) in f .1
 
-  pub victim-not-reserved : waiting (getD ways w fresh) ≡ false
-  victim-not-reserved = not-yes (and-1 (not (waiting (getD ways w fresh))) _ victim-is-candidate)
+  pub victim-not-reserved : hasReserved (getD ways w fresh) ≡ false
+  victim-not-reserved = not-yes (and-1 (not (hasReserved (getD ways w fresh))) _ victim-is-candidate)
 
   -- "the highest wholly invalid candidate"
   pub victim-highest-invalid : (v : ℕ) → v < length ways → candidate (enoughDirty S d) (getD ways v fresh) ≡ true
-      → unused (getD ways v fresh) ≡ true
-      → (unused (getD ways w fresh) ≡ true) × (v ≤ w)
+      → whollyInvalid (getD ways v fresh) ≡ true
+      → (whollyInvalid (getD ways w fresh) ≡ true) × (v ≤ w)
   victim-highest-invalid v h c u = go (last vacant ways) chosen (last-finds vacant ways) (last-is-last vacant ways)
     where
       go : (r : Found) → orElse r (choiceBy R able ways) ≡ At w → Finds vacant ways r → Last vacant ways r
-          → (unused (getD ways w fresh) ≡ true) × (v ≤ w)
+          → (whollyInvalid (getD ways w fresh) ≡ true) × (v ≤ w)
       go Nothing e f g = clash (and-i c u) (f (getD ways v fresh) (in-getD ways v fresh h))
       go (At q) e f g =
           let i : q ≡ w = cc in (
-            and-2 (able (getD ways w fresh)) (unused (getD ways w fresh)) (rw i at (f .1)),
+            and-2 (able (getD ways w fresh)) (whollyInvalid (getD ways w fresh)) (rw i at (f .1)),
             ⊎-elim (λ l. leb-true v w l) (λ l. clash (and-i c u) (g v (omega (arith, leb-false v w l)) h)) (flag (leb v w)),
           )
 
 -- "with none, the candidate with the earliest cycle, the lowest way among equals": under a rule by a key
 module _ (key : Line → ℕ) (S : Settings) (d : ℕ) (ways : List Line) (w : ℕ) (chosen : victim (byKey key) S d ways ≡ At w) where
-  pub victim-earliest : unused (getD ways w fresh) ≡ false → (v : ℕ) → v < length ways
+  pub victim-earliest : whollyInvalid (getD ways w fresh) ≡ false → (v : ℕ) → v < length ways
       → candidate (enoughDirty S d) (getD ways v fresh) ≡ true
       → (key (getD ways w fresh) ≤ key (getD ways v fresh)) × (v < w → key (getD ways w fresh) < key (getD ways v fresh))
   victim-earliest u v h c = go (last empties ways) chosen (last-finds empties ways)
@@ -78,25 +78,25 @@ module _ (key : Line → ℕ) (S : Settings) (d : ℕ) (ways : List Line) (w : �
       fit = candidate (enoughDirty S d)
 
       empties : Line → Bool
-      empties l = fit l && unused l
+      empties l = fit l && whollyInvalid l
 
       go : (r : Found) → orElse r (earliest key fit ways) ≡ At w → Finds empties ways r
           → (key (getD ways w fresh) ≤ key (getD ways v fresh)) × (v < w → key (getD ways w fresh) < key (getD ways v fresh))
       go Nothing e f = let g : Least key fit ways (At w) = rw e at (earliest-is-least key fit ways) in g v h c
-      go (At q) e f = let i : q ≡ w = cc in clash (and-2 (fit (getD ways w fresh)) (unused (getD ways w fresh)) (rw i at (f .1))) u
+      go (At q) e f = let i : q ≡ w = cc in clash (and-2 (fit (getD ways w fresh)) (whollyInvalid (getD ways w fresh)) (rw i at (f .1))) u
 
 -- under a rule by a tree: the choice of its descent
-pub victim-by-tree : (t : ℕ) (S : Settings) (d : ℕ) (ways : List Line) (w : ℕ) → victim (byTree t) S d ways ≡ At w → unused (getD ways w fresh) ≡ false
+pub victim-by-tree : (t : ℕ) (S : Settings) (d : ℕ) (ways : List Line) (w : ℕ) → victim (byTree t) S d ways ≡ At w → whollyInvalid (getD ways w fresh) ≡ false
     → treeChoice (λ v. getD (map (candidate (enoughDirty S d)) ways) v false) t (levels (length ways)) ≡ At w
 victim-by-tree t S d ways w chosen u = go (last empties ways) chosen (last-finds empties ways)
   where
     empties : Line → Bool
-    empties l = candidate (enoughDirty S d) l && unused l
+    empties l = candidate (enoughDirty S d) l && whollyInvalid l
 
     go : (r : Found) → orElse r (choiceBy (byTree t) (candidate (enoughDirty S d)) ways) ≡ At w → Finds empties ways r
         → choiceBy (byTree t) (candidate (enoughDirty S d)) ways ≡ At w
     go Nothing e f = e
-    go (At q) e f = let i : q ≡ w = cc in clash (and-2 (candidate (enoughDirty S d) (getD ways w fresh)) (unused (getD ways w fresh)) (rw i at (f .1))) u
+    go (At q) e f = let i : q ≡ w = cc in clash (and-2 (candidate (enoughDirty S d) (getD ways w fresh)) (whollyInvalid (getD ways w fresh)) (rw i at (f .1))) u
 
 -- without a victim no way is a candidate
 pub victim-none : (R : Rule) (S : Settings) (d : ℕ) (ways : List Line) → victim R S d ways ≡ Nothing → (l : Line) → In l ways

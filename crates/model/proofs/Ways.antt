@@ -12,7 +12,7 @@ use lib.Dec.{leb}
 use borrow.Author.Tests.{leb-true, leb-false}
 use Rattle.words.specs.Words.{pick}
 use Rattle.model.specs.Address.{blockOf, setIndex, lineNumber}
-use Rattle.model.specs.Tables.{Line, unused, fresh}
+use Rattle.model.specs.Tables.{Line, whollyInvalid, fresh}
 use Rattle.model.specs.Tree.{levels}
 use Rattle.model.specs.Probe.{waysOf, enoughDirty, candidate, next, orElse, first, last, older, earliest, Rule, byKey, byTree, choiceBy, victim}
 use Rattle.model.specs.declared.Settings.{Settings}
@@ -92,12 +92,12 @@ choice-finds (byTree t) p ls = go (choiceBy (byTree t) p ls) (choice-chooses fla
 
 -- the victim is a candidate, and there is one if there is a candidate
 pub victim-finds : (R : Rule) (S : Settings) (d : ℕ) (ways : List Line) → Finds (candidate (enoughDirty S d)) ways (victim R S d ways)
-victim-finds R S d ways = go (last (λ l. candidate (enoughDirty S d) l && unused l) ways) (last-finds (λ l. candidate (enoughDirty S d) l && unused l) ways)
+victim-finds R S d ways = go (last (λ l. candidate (enoughDirty S d) l && whollyInvalid l) ways) (last-finds (λ l. candidate (enoughDirty S d) l && whollyInvalid l) ways)
   where
-    go : (v : Found) → Finds (λ l. candidate (enoughDirty S d) l && unused l) ways v
+    go : (v : Found) → Finds (λ l. candidate (enoughDirty S d) l && whollyInvalid l) ways v
         → Finds (candidate (enoughDirty S d)) ways (orElse v (choiceBy R (candidate (enoughDirty S d)) ways))
     go Nothing g = choice-finds R (candidate (enoughDirty S d)) ways
-    go (At w) g = (g .0, and-1 (candidate (enoughDirty S d) (getD ways w fresh)) (unused (getD ways w fresh)) (g .1))
+    go (At w) g = (g .0, and-1 (candidate (enoughDirty S d) (getD ways w fresh)) (whollyInvalid (getD ways w fresh)) (g .1))
 
 -- no later way passes than the last found
 abbrev pub Last : (Line → Bool) → List Line → Found → Type 0

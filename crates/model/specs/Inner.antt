@@ -43,16 +43,16 @@ pub record Fit (S : Settings) (longs words marks : List ℕ) : Type 0 where
   pub marks-long : length marks ≡ marksLength S
 
 -- the slices are the encoding of the tables t, which are sound
-pub record Is (S : Settings) (L : Lent) (t : Tables) : Type 0 where
+pub record Encodes (S : Settings) (L : Lent) (t : Tables) : Type 0 where
   pub range : inRange S ≡ true
   pub soundly : sound S t ≡ true
   pub encoded : L ≡ encode S t
 
 -- the slices are the encoding of some sound tables
-pub record Held (S : Settings) (L : Lent) : Type 0 where
+pub record SoundSlices (S : Settings) (L : Lent) : Type 0 where
   pub tables : Tables
-  pub are : Is S L tables
+  pub are : Encodes S L tables
 
 -- an inner step on L told r and left the slices M, as the step on the tables says
 pub record Does (S : Settings) (step : Tables → Outcome Tables) (L : Lent) (r : Told) (M : Lent) : Type 0 where
-  pub on : (t : Tables) → Is S L t → Leaves (encoded S (step t)) L r M
+  pub on : (t : Tables) → Encodes S L t → Leaves (encoded S (step t)) L r M

@@ -6,7 +6,7 @@ use mathlib.Core.Bool.{Bool, true, false, not, _&&_}
 use mathlib.Core.List.{List, [], _∷_, _++_, map}
 use lib.ListN.{length, getD}
 use lib.Dec.{eqb}
-use Rattle.words.specs.Words.{pick, table, countBelow, places, joined}
+use Rattle.words.specs.Words.{pick, table, countBelow, packed, joined}
 use Rattle.model.specs.Numbers.{statusNumber, statusOf, queueKindNumber, queueKindOf}
 use Rattle.model.specs.Range.{linesOf}
 use Rattle.model.specs.Layout.{longsLength, wordsLength, marksLength, longsFrom, wordsFrom, marksFrom, missRegion, queueRegion, maskRegion, ticketRegion, queueMaskRegion, readableRegion, sentRegion, ticketCountRegion, kindRegion, dirtyCountRegion, takenRegion, treeRegion}
@@ -178,30 +178,30 @@ treeOf t = t ∷ []
 
 abbrev pub longBlocks : Settings → Tables → List (List ℕ)
 longBlocks S t =
-    places tagOf 1 (linesOf S) (t .lines)
-    ∷ places missOf 1 (S .misses) (t .misses)
-    ∷ places queuedOf 1 (S .queue) (t .queue)
+    packed tagOf 1 (linesOf S) (t .lines)
+    ∷ packed missOf 1 (S .misses) (t .misses)
+    ∷ packed queuedOf 1 (S .queue) (t .queue)
     ∷ []
 
 abbrev pub wordBlocks : Settings → Tables → List (List ℕ)
 wordBlocks S t =
     (t .now ∷ [])
-    ∷ places cycleOf 1 (linesOf S) (t .lines)
-    ∷ places masksOf 4 (linesOf S) (t .lines)
-    ∷ places ticketsIn (S .readers) (S .misses) (t .misses)
-    ∷ places queueMasksOf 4 (S .queue) (t .queue)
+    ∷ packed cycleOf 1 (linesOf S) (t .lines)
+    ∷ packed masksOf 4 (linesOf S) (t .lines)
+    ∷ packed ticketsIn (S .readers) (S .misses) (t .misses)
+    ∷ packed queueMasksOf 4 (S .queue) (t .queue)
     ∷ (t .dirtyCount ∷ [])
-    ∷ places takenOf 1 (linesOf S) (t .lines)
-    ∷ places treeOf 1 (S .sets) (t .trees)
+    ∷ packed takenOf 1 (linesOf S) (t .lines)
+    ∷ packed treeOf 1 (S .sets) (t .trees)
     ∷ []
 
 abbrev pub markBlocks : Settings → Tables → List (List ℕ)
 markBlocks S t =
-    places statusesOf 4 (linesOf S) (t .lines)
-    ∷ places readablesOf 4 (linesOf S) (t .lines)
-    ∷ places sentOf 1 (S .misses) (t .misses)
-    ∷ places ticketCountOf 1 (S .misses) (t .misses)
-    ∷ places kindOf 1 (S .queue) (t .queue)
+    packed statusesOf 4 (linesOf S) (t .lines)
+    ∷ packed readablesOf 4 (linesOf S) (t .lines)
+    ∷ packed sentOf 1 (S .misses) (t .misses)
+    ∷ packed ticketCountOf 1 (S .misses) (t .misses)
+    ∷ packed kindOf 1 (S .queue) (t .queue)
     ∷ []
 
 unfoldable pub encode : Settings → Tables → Lent

@@ -8,7 +8,7 @@ use Rattle.words.specs.Words.{pick, any}
 use Rattle.model.specs.Numbers.{statusNumber}
 use Rattle.model.specs.Range.{linesOf, isFifo, isTree}
 use Rattle.model.specs.Address.{addressOf, blockOf, sectorIndex, setIndex}
-use Rattle.model.specs.Tables.{Line, writing, Tables, unused, waiting, dirty, holds, empty, emptied, fresh}
+use Rattle.model.specs.Tables.{Line, writing, Tables, whollyInvalid, hasReserved, dirty, holds, empty, emptied, fresh}
 use Rattle.model.specs.Tree.{treeChoice, levels}
 use Rattle.model.specs.declared.Settings.{Settings}
 use Rattle.model.specs.declared.Status.{Status}
@@ -55,7 +55,7 @@ enoughDirty S d = leb (S .dirty * linesOf S) (100 * d)
 
 -- "no sector is RESERVED and either none is MODIFIED or 100 × dirty ≥ P × lines"
 abbrev pub candidate : Bool → Line → Bool
-candidate enough l = not (waiting l) && (not (dirty l) || enough)
+candidate enough l = not (hasReserved l) && (not (dirty l) || enough)
 
 -- ---- searches among the ways: the first that passes, the last, the one with the least key and the lowest way among equals
 
@@ -108,7 +108,7 @@ ruleOf S t a = pick (isTree S) (byTree (getD (t .trees) (setIndex S a) 0)) (byKe
 -- "the highest wholly invalid candidate; with none", the candidate that the rule chooses
 abbrev pub victim : Rule → Settings → ℕ → List Line → Found
 victim R S d ways =
-    orElse (last (λ l. candidate (enoughDirty S d) l && unused l) ways) (choiceBy R (candidate (enoughDirty S d)) ways)
+    orElse (last (λ l. candidate (enoughDirty S d) l && whollyInvalid l) ways) (choiceBy R (candidate (enoughDirty S d)) ways)
 
 -- ---- what an access meets: its way, the line (emptied and with the new tag on a MISS), the answer, the write-back if there is one
 
@@ -128,7 +128,7 @@ writeBack l = pick (dirty l) (writing (l .tag) (map (λ s. s .mask) (l .sectors)
 
 -- "the line takes the new tag, all sectors INVALID, readable, with mask 0"; without a candidate refusal 5 or 6
 abbrev pub takeOver : ℕ → List Line → Found → Place
-takeOver a ways Nothing = no (pick (any waiting ways) SetBusy SetHeld)
+takeOver a ways Nothing = no (pick (any hasReserved ways) SetBusy SetHeld)
 takeOver a ways (At w) =
     at record {
       way = w;

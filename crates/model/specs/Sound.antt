@@ -8,7 +8,7 @@ use Rattle.words.specs.Words.{pick, all, any, count, every, same}
 use Rattle.model.specs.Range.{within, linesOf, isTree}
 use Rattle.model.specs.Tree.{treeFine}
 use Rattle.model.specs.Address.{blockOf, setIndex, goodSector, goodBlock}
-use Rattle.model.specs.Tables.{Line, Entry, Tables, isReserved, unused, holds, entryFor, isFetch, empty, fresh, dirtyLines}
+use Rattle.model.specs.Tables.{Line, Entry, Tables, isReserved, whollyInvalid, holds, entryFor, isFetch, empty, fresh, dirtyLines}
 use Rattle.model.specs.declared.Settings.{Settings}
 use Rattle.model.specs.declared.Status.{Status}
 use Rattle.model.specs.declared.Status.the-variants.{Invalid, Reserved, Valid, Modified}
@@ -40,18 +40,18 @@ sectorOk s = maskOk (s .status) (s .mask) (s .readable)
 unfoldable pub lineOk : Settings → ℕ → ℕ → Line → Bool
 lineOk S now i l =
     eqb (length (l .sectors)) 4 && all sectorOk (l .sectors) && leb (l .cycle) now && leb (l .taken) (l .cycle)
-    && pick (unused l) (eqb (l .tag) 0 && eqb (l .cycle) 0 && eqb (l .taken) 0) (goodBlock (l .tag) && eqb (setIndex S (l .tag)) (i / S .ways))
+    && pick (whollyInvalid l) (eqb (l .tag) 0 && eqb (l .cycle) 0 && eqb (l .taken) 0) (goodBlock (l .tag) && eqb (setIndex S (l .tag)) (i / S .ways))
 
 -- "no two such lines of a set share a tag": a tag tells its set
 unfoldable pub alone : List Line → Line → Bool
-alone ls l = unused l || eqb (count (holds (l .tag)) ls) 1
+alone ls l = whollyInvalid l || eqb (count (holds (l .tag)) ls) 1
 
 -- "A sector of a line that isn't wholly invalid is RESERVED exactly if the miss table has an entry for its address"
 abbrev pub agrees : List Entry → Line → ℕ → Bool
 agrees es l k = same (isReserved (getD (l .sectors) k empty .status)) (any (entryFor (l .tag + 32 * k)) es)
 
 unfoldable pub reservedOk : List Entry → Line → Bool
-reservedOk es l = unused l || every 4 (agrees es l)
+reservedOk es l = whollyInvalid l || every 4 (agrees es l)
 
 abbrev pub readingOf : ℕ → Queued → Bool
 readingOf a x = isFetch (x .kind) && eqb a (x .address)

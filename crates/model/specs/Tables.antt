@@ -89,12 +89,12 @@ isModified Valid = false
 isModified Modified = true
 
 -- "wholly invalid if all four sectors are INVALID"
-abbrev pub unused : Line → Bool
-unused l = all (λ s. isInvalid (s .status)) (l .sectors)
+abbrev pub whollyInvalid : Line → Bool
+whollyInvalid l = all (λ s. isInvalid (s .status)) (l .sectors)
 
 -- some sector is RESERVED
-abbrev pub waiting : Line → Bool
-waiting l = any (λ s. isReserved (s .status)) (l .sectors)
+abbrev pub hasReserved : Line → Bool
+hasReserved l = any (λ s. isReserved (s .status)) (l .sectors)
 
 -- some sector is MODIFIED
 abbrev pub dirty : Line → Bool
@@ -106,7 +106,7 @@ dirtyLines t = count dirty (t .lines)
 
 -- has the tag, and is not wholly invalid
 abbrev pub holds : ℕ → Line → Bool
-holds b l = not (unused l) && eqb (l .tag) b
+holds b l = not (whollyInvalid l) && eqb (l .tag) b
 
 -- an entry for the address
 abbrev pub entryFor : ℕ → Entry → Bool

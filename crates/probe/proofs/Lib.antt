@@ -6,4 +6,4 @@ pub mod Ways
 pub mod ByTree
 pub mod Lines
 pub mod Meetings
-pub mod Held
+pub mod OfTables

@@ -8,7 +8,7 @@ use native.Mathlib.Nat.{add-zero}
 use native.Mathlib.Omega.{arith}
 use lib.ListN.{length, getD, take, drop}
 use Rattle.words.specs.Words.{pick, all, any, table, some}
-use Rattle.model.specs.Tables.{Line, isInvalid, isReserved, isModified, unused, waiting, holds, fresh}
+use Rattle.model.specs.Tables.{Line, isInvalid, isReserved, isModified, whollyInvalid, hasReserved, holds, fresh}
 use Rattle.model.specs.Range.{linesOf, isFifo, isTree}
 use Rattle.model.specs.Layout.{wordsFrom, cycleRegion, takenRegion}
 use Rattle.model.specs.Lent.{sectorAt, sectorsAt, lineAt, linesIn, takenAt, cycleAt, treeAt}
@@ -43,12 +43,12 @@ invalid-all (s ∷ ss) e =
     let more = invalid-all ss (one .2) in
     (rw (one .0) (more .0), rw (one .1) (more .1))
 
-pub unused-candidate : (enough : Bool) (l : Line) → (candidate enough l && unused l) ≡ unused l
+pub unused-candidate : (enough : Bool) (l : Line) → (candidate enough l && whollyInvalid l) ≡ whollyInvalid l
 unused-candidate enough l =
     ⊎-elim
-    (λ (e : unused l ≡ true). let no = invalid-all (l .sectors) e in rw (e, no .0, no .1))
-    (λ (e : unused l ≡ false). rw e (and-none (candidate enough l)))
-    (flag (unused l))
+    (λ (e : whollyInvalid l ≡ true). let no = invalid-all (l .sectors) e in rw (e, no .0, no .1))
+    (λ (e : whollyInvalid l ≡ false). rw e (and-none (candidate enough l)))
+    (flag (whollyInvalid l))
   where
     and-none : (a : Bool) → (a && false) ≡ false
     and-none true = refl
@@ -80,10 +80,10 @@ module _ (S : Settings) (longs words marks : List ℕ) where
         ∙ first-table (holds a) line m
         ∙ first-ext _ _ m (λ w. holds-bytes S longs words marks (b + w) a)
 
-    pub waiting-is : any waiting (take m (drop b (linesIn S longs words marks))) ≡ some m (λ w. waitingAt marks (b + w))
+    pub waiting-is : any hasReserved (take m (drop b (linesIn S longs words marks))) ≡ some m (λ w. waitingAt marks (b + w))
     waiting-is =
-        ap (any waiting) ways-are
-        ∙ any-table waiting line m
+        ap (any hasReserved) ways-are
+        ∙ any-table hasReserved line m
         ∙ some-ext _ _ m (λ w. waiting-bytes S longs words marks (b + w))
 
     -- under every rule, of what the rule chooses among the candidates
@@ -92,7 +92,7 @@ module _ (S : Settings) (longs words marks : List ℕ) where
     victim-by R d e =
         ap (victim R S d) ways-are
         ∙ ap (λ (v : Found). orElse v (choiceBy R (candidate (enoughDirty S d)) (table m line)))
-        (last-table (λ l. candidate (enoughDirty S d) l && unused l) line m
+        (last-table (λ l. candidate (enoughDirty S d) l && whollyInvalid l) line m
         ∙ last-ext _ _ m (λ w. unused-candidate (enoughDirty S d) (line w) ∙ unused-bytes S longs words marks (b + w)))
         ∙ ap (orElse (lastUnusedIn marks b m)) e
 

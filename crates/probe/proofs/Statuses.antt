@@ -8,7 +8,7 @@ use lib.Dec.{eqb, ltb}
 use borrow.Author.Tests.{eqb-true, ne-eqb, lt-ltb}
 use Rattle.words.specs.Words.{pick}
 use Rattle.model.specs.Numbers.{statusOf}
-use Rattle.model.specs.Tables.{isInvalid, isReserved, isModified, unused, waiting, dirty, holds}
+use Rattle.model.specs.Tables.{isInvalid, isReserved, isModified, whollyInvalid, hasReserved, dirty, holds}
 use Rattle.model.specs.Lent.{statusAt, tagAt, lineAt}
 use Rattle.model.specs.Probe.{candidate}
 use Rattle.model.specs.declared.Status.the-variants.{Invalid, Reserved, Valid, Modified}
@@ -74,17 +74,17 @@ and-swap false false = refl
 -- ---- line l of n
 
 module _ (S : Settings) (longs words marks : List ℕ) (l : ℕ) where
-  pub unused-bytes : unused (lineAt S longs words marks l) ≡ unusedAt marks l
+  pub unused-bytes : whollyInvalid (lineAt S longs words marks l) ≡ unusedAt marks l
   unused-bytes = and-four (invalid-byte (statusAt marks (4 * l))) (invalid-byte (statusAt marks (4 * l + 1))) (invalid-byte (statusAt marks (4 * l + 2))) (invalid-byte (statusAt marks (4 * l + 3)))
 
-  pub waiting-bytes : waiting (lineAt S longs words marks l) ≡ waitingAt marks l
+  pub waiting-bytes : hasReserved (lineAt S longs words marks l) ≡ waitingAt marks l
   waiting-bytes = or-four (reserved-byte (statusAt marks (4 * l))) (reserved-byte (statusAt marks (4 * l + 1))) (reserved-byte (statusAt marks (4 * l + 2))) (reserved-byte (statusAt marks (4 * l + 3)))
 
   pub dirty-bytes : dirty (lineAt S longs words marks l) ≡ dirtyAt marks l
   dirty-bytes = or-four (modified-byte (statusAt marks (4 * l))) (modified-byte (statusAt marks (4 * l + 1))) (modified-byte (statusAt marks (4 * l + 2))) (modified-byte (statusAt marks (4 * l + 3)))
 
   pub holds-bytes : (b : ℕ) → holds b (lineAt S longs words marks l) ≡ holdsAt longs marks b l
-  holds-bytes b = and-swap (not (unused (lineAt S longs words marks l))) (eqb (tagAt longs l) b) ∙ ap (λ (u : Bool). eqb (tagAt longs l) b && not u) unused-bytes
+  holds-bytes b = and-swap (not (whollyInvalid (lineAt S longs words marks l))) (eqb (tagAt longs l) b) ∙ ap (λ (u : Bool). eqb (tagAt longs l) b && not u) unused-bytes
 
   pub candidate-bytes : (enough : Bool) → candidate enough (lineAt S longs words marks l) ≡ candidateAt marks enough l
   candidate-bytes enough = ap (λ (u : Bool). not u && (not (dirty (lineAt S longs words marks l)) || enough)) waiting-bytes ∙ ap (λ (u : Bool). not (waitingAt marks l) && (not u || enough)) dirty-bytes

@@ -12,13 +12,13 @@ use borrow.Author.Tests.{eq-eqb, ne-eqb, lt-ltb, le-ltb}
 use Rattle.model.specs.Address.{setIndex}
 use Rattle.model.specs.Tables.{Entry, Tables, entryFor}
 use Rattle.model.specs.Lent.{lent, bit}
-use Rattle.model.specs.Inner.{Is}
+use Rattle.model.specs.Inner.{Encodes}
 use Rattle.model.specs.declared.Settings.{Settings}
 use Rattle.model.proofs.SoundFacts.{parts}
 use Rattle.layout.specs.declared.Layout.{Layout}
 use Rattle.layout.specs.Layout.{Placed}
 use Rattle.layout.specs.Places.{First}
-use Rattle.layout.proofs.Stands.{is-stands}
+use Rattle.layout.proofs.ByBlocks.{is-stands}
 use Rattle.tables.proofs.Misses.{noEntry, misses-used, address-at, sent-at, count-at}
 use Rattle.steps.proofs.Entries.{few-misses, some-tickets}
 use Rattle.reasons.specs.declared.Reason.{Reason}
@@ -44,7 +44,7 @@ bit-flag true = refl
 bit-flag false = refl
 
 -- n entries are in use
-module _ (S : Settings) {longs words marks : List ℕ} (t : Tables) (i : Is S (lent longs words marks) t) {at : Layout} (p : Placed S at)
+module _ (S : Settings) {longs words marks : List ℕ} (t : Tables) (i : Encodes S (lent longs words marks) t) {at : Layout} (p : Placed S at)
     {n : ℕ} (u : First marks (at .counts) (S .misses) 0 n) where
   pub in-use : n ≡ length (t .misses)
   in-use = let ok = parts S t (i .soundly) in misses-used S t (is-stands i) p (few-misses S t ok) (some-tickets S t ok) u

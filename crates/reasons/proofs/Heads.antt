@@ -10,7 +10,7 @@ use Rattle.model.specs.Range.{linesOf}
 use Rattle.model.specs.Tables.{idle, Tables, Outcome, refused, done, dirty, dirtyLines}
 use Rattle.model.specs.Lent.{Lent, lent, tablesOf}
 use Rattle.model.specs.Calls.{checkCall, verdictOf}
-use Rattle.model.specs.Inner.{Is}
+use Rattle.model.specs.Inner.{Encodes}
 use Rattle.model.specs.Steps.{sentEvent}
 use Rattle.model.specs.declared.Settings.{Settings}
 use Rattle.model.specs.declared.Queued.{Queued}
@@ -19,7 +19,7 @@ use Rattle.model.specs.declared.Event.{Event}
 use Rattle.model.specs.declared.Refusal.{Refusal}
 use Rattle.model.specs.declared.Verdict.the-variants as verdict
 use Rattle.model.proofs.SoundFacts.{parts, lines-are}
-use Rattle.encoding.proofs.Decoded.{Small}
+use Rattle.encoding.proofs.DecodeIsSound.{Small}
 use Rattle.encoding.proofs.Bridge.{is-fit}
 use Rattle.soundness.specs.Laid.{Checks}
 use Rattle.soundness.specs.declared.LaidVerdict.{LaidVerdict}
@@ -29,7 +29,7 @@ use Rattle.layout.specs.declared.Layout.{Layout}
 use Rattle.layout.specs.Layout.{Placed}
 use Rattle.layout.specs.Places.{First}
 use Rattle.tables.specs.Raw.{frontAt}
-use Rattle.layout.proofs.Stands.{is-stands}
+use Rattle.layout.proofs.ByBlocks.{is-stands}
 use Rattle.tables.proofs.Queue.{queue-used, front-is}
 use Rattle.steps.proofs.Entries.{few-queued, head-four}
 use Rattle.layout.proofs.DirtyCount.{dirty-count-at}
@@ -50,7 +50,7 @@ none-told : (places : ℕ) (qs : List Queued) → length qs ≡ 0 → queueReaso
 none-told places [] h = refl
 none-told places (q ∷ qs) h = absurd (omega arith)
 
-module _ (S : Settings) {longs words marks : List ℕ} (t : Tables) (i : Is S (lent longs words marks) t) {at : Layout} (p : Placed S at)
+module _ (S : Settings) {longs words marks : List ℕ} (t : Tables) (i : Encodes S (lent longs words marks) t) {at : Layout} (p : Placed S at)
     {n : ℕ} (u : First marks (at .kinds) (S .queue) 0 n) where
   short : length (t .queue) ≤ S .queue
   short = few-queued S t (parts S t (i .soundly))
@@ -74,7 +74,7 @@ module _ (S : Settings) {longs words marks : List ℕ} (t : Tables) (i : Is S (l
 
 -- ---- the dirty lines
 
-module _ (S : Settings) {longs words marks : List ℕ} (t : Tables) (i : Is S (lent longs words marks) t) {at : Layout} (p : Placed S at) where
+module _ (S : Settings) {longs words marks : List ℕ} (t : Tables) (i : Encodes S (lent longs words marks) t) {at : Layout} (p : Placed S at) where
   pub dirty-few : getD words (at .dirty) 0 ≤ 1024
   dirty-few =
       let ok = parts S t (i .soundly) in

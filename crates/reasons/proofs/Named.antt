@@ -12,7 +12,7 @@ use borrow.Author.Tests.{eq-eqb, eqb-true, leb-true, leb-false, ltb-true}
 use Rattle.words.specs.Words.{pick, any}
 use Rattle.model.specs.Range.{inRange, linesOf}
 use Rattle.model.specs.Address.{setIndex, goodBlock, lineNumber}
-use Rattle.model.specs.Tables.{Line, Entry, Tables, isInvalid, isReserved, unused, waiting, entryFor, empty, fresh}
+use Rattle.model.specs.Tables.{Line, Entry, Tables, isInvalid, isReserved, whollyInvalid, hasReserved, entryFor, empty, fresh}
 use Rattle.model.specs.Probe.{waysOf, enoughDirty}
 use Rattle.model.specs.Steps.{entryFull}
 use Rattle.model.specs.declared.Settings.{Settings}
@@ -54,8 +54,8 @@ module _ (S : Settings) (t : Tables) (ok : Sound S t) where
   -- ---- 5: "some way has a RESERVED sector"
 
   -- a line of an address's set that waits has an entry of that set
-  way-entered : (a w : ℕ) → w < length (waysOf S (t .lines) a) → waiting (getD (waysOf S (t .lines) a) w fresh) ≡ true → any (ofSet (S .sets) (setIndex S a)) (t .misses) ≡ true
-  way-entered a w h waits = go (flag (unused l)) (any-in (λ (s : Sector). isReserved (s .status)) (l .sectors) (ap waiting (sym (sits .line)) ∙ waits))
+  way-entered : (a w : ℕ) → w < length (waysOf S (t .lines) a) → hasReserved (getD (waysOf S (t .lines) a) w fresh) ≡ true → any (ofSet (S .sets) (setIndex S a)) (t .misses) ≡ true
+  way-entered a w h waits = go (flag (whollyInvalid l)) (any-in (λ (s : Sector). isReserved (s .status)) (l .sectors) (ap hasReserved (sym (sits .line)) ∙ waits))
     where
       sits : Sits S (t .lines) a w
       sits = way-sits S (t .lines) a w h
@@ -66,13 +66,13 @@ module _ (S : Settings) (t : Tables) (ok : Sound S t) where
       m : In l (t .lines)
       m = in-getD (t .lines) (lineNumber S a w) fresh (sits .inside)
 
-      its-set : unused l ≡ false → setIndex S (l .tag) ≡ setIndex S a
+      its-set : whollyInvalid l ≡ false → setIndex S (l .tag) ≡ setIndex S a
       its-set u =
           let k = line-at S t ok (lineNumber S a w) (sits .inside) in
           let q : (goodBlock (l .tag) && eqb (setIndex S (l .tag)) (lineNumber S a w / S .ways)) ≡ true = rw u at (k .tagged) in
           eqb-true (setIndex S (l .tag)) (lineNumber S a w / S .ways) (and-2 (goodBlock (l .tag)) _ q) ∙ set-of-line S a w (sits .low)
 
-      go : (unused l ≡ true) ⊎ (unused l ≡ false) → (s : Sector) × In s (l .sectors) × (isReserved (s .status) ≡ true) → any (ofSet (S .sets) (setIndex S a)) (t .misses) ≡ true
+      go : (whollyInvalid l ≡ true) ⊎ (whollyInvalid l ≡ false) → (s : Sector) × In s (l .sectors) × (isReserved (s .status) ≡ true) → any (ofSet (S .sets) (setIndex S a)) (t .misses) ≡ true
       go (inl u) (s, n, q) = absurd (reserved-used (s .status) (all-in (λ (v : Sector). isInvalid (v .status)) (l .sectors) u n) q)
       go (inr u) (s, n, q) =
           let (k, b, e) = in-index (l .sectors) empty s n in
@@ -84,11 +84,11 @@ module _ (S : Settings) (t : Tables) (ok : Sound S t) where
           (eq-eqb (d .address / 128 % S .sets) (setIndex S a)
           (ap (setIndex S) (eqb-true (d .address) (l .tag + 32 * k) p) ∙ set-of-sector S (l .tag) k (tag-aligned S t ok l m u) four ∙ its-set u))
 
-  pub busy-named : (a : ℕ) → any waiting (waysOf S (t .lines) a) ≡ true → Named (entryReason (ofSet (S .sets) (setIndex S a)) (t .misses))
+  pub busy-named : (a : ℕ) → any hasReserved (waysOf S (t .lines) a) ≡ true → Named (entryReason (ofSet (S .sets) (setIndex S a)) (t .misses))
   busy-named a h =
-      let (l, m, q) = any-in waiting (waysOf S (t .lines) a) h in
+      let (l, m, q) = any-in hasReserved (waysOf S (t .lines) a) h in
       let (w, b, e) = in-index (waysOf S (t .lines) a) fresh l m in
-      any-named (ofSet (S .sets) (setIndex S a)) (t .misses) (way-entered a w b (ap waiting e ∙ q))
+      any-named (ofSet (S .sets) (setIndex S a)) (t .misses) (way-entered a w b (ap hasReserved e ∙ q))
 
 -- ---- 6: "100 × dirty ≥ P × lines" does not hold
 

@@ -7,7 +7,7 @@ use lib.Dec.{eqb, ltb}
 use Rattle.words.specs.Words.{pick}
 use Rattle.model.specs.Tables.{Tables}
 use Rattle.model.specs.Lent.{Lent}
-use Rattle.model.specs.Inner.{Is}
+use Rattle.model.specs.Inner.{Encodes}
 use Rattle.model.specs.declared.Settings.{Settings}
 use Rattle.layout.specs.declared.Layout.{Layout}
 use Rattle.reasons.specs.declared.Reason.{Reason}
@@ -26,4 +26,4 @@ entryShown at longs marks e n =
 
 -- r is what the definition gives of the tables in the slices L
 pub record Gives (S : Settings) (reason : Tables → Reason) (L : Lent) (r : Reason) : Type 0 where
-  pub on : (t : Tables) → Is S L t → r ≡ reason t
+  pub on : (t : Tables) → Encodes S L t → r ≡ reason t

@@ -9,7 +9,7 @@ use native.Mathlib.Omega.{arith}
 use borrow.Author.Tests.{le-leb, leb-true, ltb-true, eqb-true}
 use lib.Dec.{leb, ltb, eqb}
 use lib.ListN.{length, getD}
-use Rattle.words.specs.Words.{all, any, keep, fit, places}
+use Rattle.words.specs.Words.{all, any, keep, fit, packed}
 use Rattle.model.specs.Range.{inRange, linesOf}
 use Rattle.model.specs.Address.{addressOf, isRead, goodSector, goodBlock, wellFormed}
 use Rattle.model.specs.Tables.{Entry, reading, Tables, Outcome, after, eventsOf, entryFor, withMisses}
@@ -36,8 +36,8 @@ use Rattle.words.proofs.Flags.{and-1, and-2, and-i, clash, by-flag}
 use Rattle.words.proofs.Lists.{In, all-in, in-all, any-in, in-keep}
 use Rattle.model.proofs.SoundFacts.{Sound, parts, entry-parts, queued-parts}
 use Rattle.model.proofs.Fits.{ranged}
-use Rattle.model.proofs.Taken.{Spotted, formed-good}
-use Rattle.model.proofs.Offered.{probe-spotted}
+use Rattle.model.proofs.AccessKeepsSound.{Spotted, formed-good}
+use Rattle.model.proofs.ProbeFindsSpot.{probe-spotted}
 use Rattle.model.proofs.RunSound.{bytes}
 use Rattle.records.specs.Fitting.{WriteBackFits, Fitting, AllFitting, RuleFits, CommandFits, CommandReadFits, words, stamped, TicketFits}
 

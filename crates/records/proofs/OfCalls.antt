@@ -10,7 +10,7 @@ use lib.Pow.{pow-lt}
 use borrow.Author.Tests.{le-leb, leb-true, eqb-true, ltb-true}
 use lib.Dec.{leb, eqb, lit≤}
 use lib.ListN.{length, getD}
-use Rattle.words.specs.Words.{all, table, fit, places, joined}
+use Rattle.words.specs.Words.{all, table, fit, packed, joined}
 use Rattle.model.specs.Range.{inRange, linesOf, isTree}
 use Rattle.model.specs.Tree.{treeFine}
 use Rattle.model.specs.Tables.{Line, Entry, Tables, Outcome, after, eventsOf, fresh, dirty, dirtyLines}
@@ -19,7 +19,7 @@ use Rattle.model.specs.Sound.{allOnes, lastCycle, maskOk, sectorOk, lineOk, que
 use Rattle.model.specs.SoundLent.{soundLent}
 use Rattle.model.specs.Calls.{call}
 use Rattle.model.specs.Records.{logBytes, fillBytes}
-use Rattle.model.specs.Inner.{Is}
+use Rattle.model.specs.Inner.{Encodes}
 use Rattle.model.specs.declared.Settings.{Settings}
 use Rattle.model.specs.declared.Queued.{Queued}
 use Rattle.model.specs.declared.Status.{Status}
@@ -33,7 +33,7 @@ use Rattle.words.proofs.Flags.{and-1, and-2, and-i, by-flag}
 use Rattle.words.proofs.Below.{every-at}
 use Rattle.words.proofs.Lists.{In, all-in, in-index}
 use Rattle.model.proofs.SoundFacts.{Sound, LineIs, parts, line-parts, queued-parts}
-use Rattle.encoding.proofs.Decoded.{Small}
+use Rattle.encoding.proofs.DecodeIsSound.{Small}
 use Rattle.encoding.proofs.Bridge.{sound-encoded, after-encoded, events-encoded}
 use Rattle.records.specs.Fitting.{AllFitting, words, stamped}
 use Rattle.records.proofs.Room.{Takes, refused-takes}
@@ -56,7 +56,7 @@ tables-stamped S L small =
 
 -- what holds of a refusal's events and of the step's on the tables that the slices hold, holds of the call's
 pub call-events : (P : List Event → Type 0) (S : Settings) (step : Tables → Outcome Tables) (L : Lent) → Small L → ((n : Refusal) → P (Refused n ∷ []))
-    → (Is S L (tablesOf S L) → P (eventsOf (step (tablesOf S L)))) → P (eventsOf (call S step L))
+    → (Encodes S L (tablesOf S L) → P (eventsOf (step (tablesOf S L)))) → P (eventsOf (call S step L))
 unfolding call
 call-events P S step L small refuses steps =
     by-flag On (inRange S) _ _
@@ -91,8 +91,8 @@ fit-words zero l h = refl
 fit-words (suc w) [] h = and-i (le-leb 0 allOnes (lit≤ tt)) (fit-words w [] h)
 fit-words (suc w) (x ∷ l) h = and-i (and-1 (leb x allOnes) (words l) h) (fit-words w l (and-2 (leb x allOnes) (words l) h))
 
-places-words : {A : Type 0} (g : A → List ℕ) (w n : ℕ) (xs : List A) → ((x : A) → In x xs → words (g x) ≡ true) → words (places g w n xs) ≡ true
-unfolding places
+places-words : {A : Type 0} (g : A → List ℕ) (w n : ℕ) (xs : List A) → ((x : A) → In x xs → words (g x) ≡ true) → words (packed g w n xs) ≡ true
+unfolding packed
 places-words g w zero xs h = refl
 places-words g w (suc n) [] h = all-append (λ m. leb m allOnes) (fit w []) _ (fit-words w [] refl) (places-words g w n [] h)
 places-words g w (suc n) (x ∷ xs) h =

@@ -18,7 +18,7 @@ use Rattle.model.specs.declared.Settings.{Settings}
 use Rattle.model.specs.declared.Access.{Access}
 use Rattle.model.specs.declared.Event.{Event}
 use Rattle.model.specs.declared.Refusal.the-variants.{SetHeld}
-use Rattle.encoding.proofs.Decoded.{Small}
+use Rattle.encoding.proofs.DecodeIsSound.{Small}
 use Rattle.model.proofs.SeenRounds.{lent-accepted}
 use Rattle.encoding.proofs.Demand.{demand-3-seen-lent}
 use Rattle.rounds.specs.declared.Waiting.the-variants.{Accepted, Held}

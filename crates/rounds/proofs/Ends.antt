@@ -10,7 +10,7 @@ use Rattle.model.specs.Address.{wellFormed}
 use Rattle.model.specs.Tables.{Tables, Outcome, refused, done}
 use Rattle.model.specs.Lent.{Lent}
 use Rattle.model.specs.Calls.{encoded, checkCall, verdictOf, eventsTold}
-use Rattle.model.specs.Inner.{Is, Held}
+use Rattle.model.specs.Inner.{Encodes, SoundSlices}
 use Rattle.model.specs.RecordsOf as records
 use Rattle.model.specs.Records.{bytesOf, logBytes, waitRoom}
 use Rattle.model.specs.Rounds.{steps, calls, Run, rounds, waits}
@@ -58,7 +58,7 @@ module _ (S : Settings) where
   settled-encoded r =
       rw (last-encoded (refused SetHeld) (r .offers), length-map, says-encoded (length (r .offers)) (lastOf (refused SetHeld) (r .offers)), refusal-encoded (lastOf (refused SetHeld) (r .offers)))
 
-module _ (S : Settings) (x : Access) (L : Lent) (t : Tables) (i : Is S L t) where
+module _ (S : Settings) (x : Access) (L : Lent) (t : Tables) (i : Encodes S L t) where
   checked-done : checkCall S L ≡ done [] L
   checked-done = rw (i .range, is-fits S L t i, is-sound-lent S L t i)
 
@@ -126,6 +126,6 @@ module _ (S : Settings) (x : Access) (L : Lent) (e : List ℕ) where
       go (refused k) q = let z : k ≡ n = cc in rw (q, z) (t .on L)
       go (done es M) q = let z : verdict.Passed ≡ verdict.Refused n = cc in let o : _≡_ {A = ℕ} 0 1 = cc in absurd (omega arith)
 
-  pub waits-passed : {r : Waited} {f : List ℕ} {M : Lent} → waitRoom ≤ length e → Held S L → WaitsHeld S x L e r f M
+  pub waits-passed : {r : Waited} {f : List ℕ} {M : Lent} → waitRoom ≤ length e → SoundSlices S L → WaitsHeld S x L e r f M
       → Waits (waitWithin (length e) S x L) e r f M
   waits-passed h held w = rw (roomy h) (w .on (held .tables) (held .are))

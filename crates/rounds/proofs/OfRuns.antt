@@ -24,7 +24,7 @@ use Rattle.model.specs.declared.Event.the-variants as event
 use Rattle.model.specs.declared.Refusal.the-variants.{BadAccess}
 use Rattle.model.specs.Records.{roundBytes}
 use Rattle.model.specs.declared.Verdict.the-variants.{Passed}
-use Rattle.encoding.proofs.Decoded.{Small}
+use Rattle.encoding.proofs.DecodeIsSound.{Small}
 use Rattle.encoding.proofs.Demand.{demand-3-seen-lent}
 use Rattle.soundness.proofs.Verdicts.{passed-is}
 use Rattle.rounds.specs.declared.Went.{Went}

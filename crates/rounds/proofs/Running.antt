@@ -10,7 +10,7 @@ use lib.Dec.{eqb}
 use lib.ListN.{length, drop, getD, set, length-append, length-map, length-set}
 use lib.Seq.{sets-eq, drop-cons, drop-length}
 use Rattle.model.specs.Lent.{Lent, bit}
-use Rattle.model.specs.Inner.{Held}
+use Rattle.model.specs.Inner.{SoundSlices}
 use Rattle.model.specs.RecordsOf as records
 use Rattle.model.specs.Rounds.{Turn}
 use Rattle.model.specs.Seen.{Acts, accepts, Course, marks, drain, rounds, struck, callActs}
@@ -57,7 +57,7 @@ module _ (S : Settings) (x : Access) (n : ℕ) where
     pub words : length (L .words) ≡ length (L₀ .words)
     pub marks : length (L .marks) ≡ length (L₀ .marks)
     pub flags : length fl ≡ length fl₀
-    pub held : Held S L
+    pub held : SoundSlices S L
     pub events : List Event
     pub offers : List (List Event)
     pub made : length offers ≡ i
@@ -65,7 +65,7 @@ module _ (S : Settings) (x : Access) (n : ℕ) where
     pub bytes : Noted e₀ 0 events out e
     pub flagged : Laid fl₀ 0 i (flagsOf offers) i fl
 
-  pub runs-first : (L : Lent) → Held S L → (fl e : List ℕ) → Runs L fl e L fl e 0 0
+  pub runs-first : (L : Lent) → SoundSlices S L → (fl e : List ℕ) → Runs L fl e L fl e 0 0
   unfolding records.logBytes
   runs-first L h fl e = record {
     few = omega arith;
@@ -169,13 +169,13 @@ module _ (S : Settings) (x : Access) (fl : List ℕ) where
     pub longs : length (L .longs) ≡ length (L₀ .longs)
     pub words : length (L .words) ≡ length (L₀ .words)
     pub marks : length (L .marks) ≡ length (L₀ .marks)
-    pub held : Held S L
+    pub held : SoundSlices S L
     pub events : List Event
     pub rest : struck D (marked fl) L₀
         ≡ record { events = events ++ struck D (marked (drop i fl)) L .events; left = struck D (marked (drop i fl)) L .left }
     pub bytes : Noted e₀ 0 events out e
 
-  pub strikes-first : (L : Lent) → Held S L → (e : List ℕ) → Strikes L e L e 0 0
+  pub strikes-first : (L : Lent) → SoundSlices S L → (e : List ℕ) → Strikes L e L e 0 0
   unfolding records.logBytes
   strikes-first L h e = record {
     few = omega arith;

@@ -14,7 +14,7 @@ use Rattle.model.specs.Tables.{Tables, Outcome, refused, done, after, accepted,
 use Rattle.model.specs.Lent.{Lent}
 use Rattle.model.specs.Calls.{eventsTold}
 use Rattle.model.specs.Steps.{access}
-use Rattle.model.specs.Inner.{Is, Held}
+use Rattle.model.specs.Inner.{Encodes, SoundSlices}
 use Rattle.model.specs.RecordsOf as records
 use Rattle.model.specs.Records.{bytesOf, logBytes, settleBytes, waitRoom}
 use Rattle.model.specs.Rounds.{steps, Turn, took, Run, drain, rounds, waits}
@@ -103,7 +103,7 @@ module _ (S : Settings) (x : Access) (most : ℕ) where
   -- on tables from which the rest of the rounds gives what all of them give
   pub record Leads (t₀ : Tables) (e₀ : List ℕ) (round out : ℕ) (L : Lent) (e : List ℕ) : Type 0 where
     pub tables : Tables
-    pub are : Is S L tables
+    pub are : Encodes S L tables
     pub events : List Event
     pub offers : List (Outcome Tables)
     pub made : length offers ≡ round
@@ -118,7 +118,7 @@ module _ (S : Settings) (x : Access) (most : ℕ) where
     pub longs : length (L .longs) ≡ length (L₀ .longs)
     pub words : length (L .words) ≡ length (L₀ .words)
     pub marks : length (L .marks) ≡ length (L₀ .marks)
-    pub leads : (t₀ : Tables) → Is S L₀ t₀ → Leads t₀ e₀ round out L e
+    pub leads : (t₀ : Tables) → Encodes S L₀ t₀ → Leads t₀ e₀ round out L e
 
 module _ {S : Settings} {x : Access} {most : ℕ} where
   pub goes-first : (L : Lent) (e : List ℕ) → Goes S x most L e 0 0 L e
@@ -143,7 +143,7 @@ module _ {S : Settings} {x : Access} {most : ℕ} where
   }
 
   module _ {L₀ : Lent} {e₀ : List ℕ} {round out : ℕ} {L : Lent} {e : List ℕ} (g : Goes S x most L₀ e₀ round out L e) where
-    pub goes-held : Held S L₀ → Held S L
+    pub goes-held : SoundSlices S L₀ → SoundSlices S L
     goes-held h = let l = g .leads (h .tables) (h .are) in record { tables = l .tables; are = l .are }
 
     -- ---- one round more
@@ -152,13 +152,13 @@ module _ {S : Settings} {x : Access} {most : ℕ} where
       next : most - round ≡ suc (most - (round + 1))
       next = omega arith
 
-      offer-accepted : (t : Tables) → Is S L t → accepted (access S x (drain (steps S x) t .left)) ≡ not (isRefusal (r .told .first))
+      offer-accepted : (t : Tables) → Encodes S L t → accepted (access S x (drain (steps S x) t .left)) ≡ not (isRefusal (r .told .first))
       offer-accepted t i = told-accepted _ (r .told) (unrefused-too _ (access-clear S x (drain (steps S x) t .left))) (made .on t i .tells)
 
       -- ---- whose offer was refused
 
       module _ (q : isRefusal (r .told .first) ≡ true) where
-        led : (t₀ : Tables) → Is S L₀ t₀ → Leads S x most t₀ e₀ (round + 1) (r .written) M f
+        led : (t₀ : Tables) → Encodes S L₀ t₀ → Leads S x most t₀ e₀ (round + 1) (r .written) M f
         led t₀ i =
             let l = g .leads t₀ i in
             let t = l .tables in
@@ -168,7 +168,7 @@ module _ {S : Settings} {x : Access} {most : ℕ} where
             let z : a .events ++ took (a .left) (access S x (a .left)) .events ≡ a .events = rw (o, append-nil) in
             record {
               tables = a .left;
-              are = subst (λ (p : Outcome Tables). Is S M (after (a .left) p)) o (w .are);
+              are = subst (λ (p : Outcome Tables). Encodes S M (after (a .left) p)) o (w .are);
               events = l .events ++ a .events;
               offers = l .offers ++ (refused k ∷ []);
               made = rw length-append (let m = l .made in omega arith);
@@ -219,14 +219,14 @@ module _ {S : Settings} {x : Access} {most : ℕ} where
                 written = count;
                 events = slice;
                 reads = back;
-                left = subst (λ (p : Outcome Tables). Is S M (after (a .left) p)) o (w .are) .encoded;
+                left = subst (λ (p : Outcome Tables). Encodes S M (after (a .left) p)) o (w .are) .encoded;
               };
         }
 
     -- ---- all refused: 6, by demand 3
 
     module _ (end : most ≤ round) (formed : wellFormed x ≡ true) (enough : Enough S L₀ most) where
-      last-held : (t₀ : Tables) (i : Is S L₀ t₀) → lastOf (refused SetHeld) (g .leads t₀ i .offers) ≡ refused SetHeld
+      last-held : (t₀ : Tables) (i : Encodes S L₀ t₀) → lastOf (refused SetHeld) (g .leads t₀ i .offers) ≡ refused SetHeld
       last-held t₀ i =
           let l = g .leads t₀ i in
           let d = rounds-settled S x t₀ (i .range) (i .soundly) formed in

@@ -15,7 +15,7 @@ use Rattle.model.specs.Lent.{Lent, lent, tablesOf}
 use Rattle.model.specs.Sound.{allOnes, sound}
 use Rattle.model.specs.Calls.{call, accessCall, sendCall, fillCall, eventsTold, Leaves}
 use Rattle.model.specs.Steps.{access, send, fill}
-use Rattle.model.specs.Inner.{Is, Held, Does}
+use Rattle.model.specs.Inner.{Encodes, SoundSlices, Does}
 use Rattle.model.specs.RecordsOf as records
 use Rattle.model.specs.Records.{logBytes, fillBytes}
 use Rattle.model.specs.Rounds.{Turn, still, andThen, isEmpty}
@@ -34,7 +34,7 @@ use Rattle.layout.specs.declared.Layout.{Layout}
 use Rattle.layout.specs.Layout.{Placed}
 use Rattle.layout.specs.Places.{First}
 use Rattle.model.proofs.SoundFacts.{parts}
-use Rattle.layout.proofs.Stands.{is-stands}
+use Rattle.layout.proofs.ByBlocks.{is-stands}
 use Rattle.tables.proofs.Queue.{queue-used}
 use Rattle.steps.proofs.Entries.{few-queued}
 use Rattle.records.proofs.Room.{send-takes, access-takes, step-takes}
@@ -51,7 +51,7 @@ module _ (S : Settings) (step : Tables → Outcome Tables) {L : Lent} {r : Told}
   pub call-does : Does S step L r M
   call-does = record { on = λ t i. subst (λ (o : Outcome Lent). Leaves o L r M) (call-is S L t i step) l }
 
-  module _ (h : Held S L) (ok : sound S (after (h .tables) (step (h .tables))) ≡ true) where
+  module _ (h : SoundSlices S L) (ok : sound S (after (h .tables) (step (h .tables))) ≡ true) where
     call-sees : {e : List ℕ} {out w : ℕ} {f : List ℕ} → Noted e out (eventsTold r) w f → Sees S (seen L (call S step L)) e out w f M
     call-sees n = record {
       left = l .left;
@@ -59,7 +59,7 @@ module _ (S : Settings) (step : Tables → Outcome Tables) {L : Lent} {r : Told}
       held = record { tables = _; are = does-is S call-does (h .tables) (h .are) ok };
     }
 
-still-sees : (S : Settings) {L : Lent} → Held S L → (e : List ℕ) (out : ℕ) → Sees S (still L) e out out e L
+still-sees : (S : Settings) {L : Lent} → SoundSlices S L → (e : List ℕ) (out : ℕ) → Sees S (still L) e out out e L
 unfolding records.logBytes
 still-sees S h e out = record { left = refl; bytes = record { next = omega arith; slice = refl; fits = tt }; held = h }
 
@@ -73,22 +73,22 @@ sees-then S {a} g {w = w} {f = f} {M = M} {v = v} {h = h} {N = N} u s = record {
 
 -- ---- the send
 
-is-read-off : (S : Settings) {L : Lent} → Held S L → Is S L (tablesOf S L)
-is-read-off S {L} h = subst (λ (t : Tables). Is S L t) (sym (is-tables S L (h .tables) (h .are))) (h .are)
+is-read-off : (S : Settings) {L : Lent} → SoundSlices S L → Encodes S L (tablesOf S L)
+is-read-off S {L} h = subst (λ (t : Tables). Encodes S L t) (sym (is-tables S L (h .tables) (h .are))) (h .are)
 
 empty-is : (qs : List Queued) (n : ℕ) → n ≡ length qs → eqb n 0 ≡ isEmpty qs
 empty-is [] n e = eq-eqb n 0 e
 empty-is (q ∷ qs) n e = ne-eqb n 0 (λ z. omega arith)
 
 -- q places of the queue are in use
-pub queueless : (S : Settings) {longs words marks : List ℕ} → Held S (lent longs words marks) → {at : Layout} → Placed S at
+pub queueless : (S : Settings) {longs words marks : List ℕ} → SoundSlices S (lent longs words marks) → {at : Layout} → Placed S at
     → {q : ℕ} → First marks (at .kinds) (S .queue) 0 q → Queueless S (lent longs words marks) (eqb q 0)
 queueless S {longs} {words} {marks} h p {q} f =
     let i = is-read-off S h in
     let t = tablesOf S (lent longs words marks) in
     record { is = empty-is (t .queue) q (queue-used S t (is-stands i) p (few-queued S t (parts S t (i .soundly))) f) }
 
-module _ (S : Settings) {L : Lent} (h : Held S L) where
+module _ (S : Settings) {L : Lent} (h : SoundSlices S L) where
   pub no-send : {b : Bool} → Queueless S L b → b ≡ true → (e : List ℕ) (out : ℕ) → SeesSend S L e out out e L
   unfolding sendTurn
   no-send q is e out = let z : isEmpty (tablesOf S L .queue) ≡ true = sym (q .is) ∙ is in record { on = λ x. rw z (still-sees S h e out); short = omega arith }
@@ -120,7 +120,7 @@ fill-first S x (y ∷ es) L = go (y .sent) (fill-first S x es L)
     go true ih = refl
     go false ih = ih
 
-module _ (S : Settings) {L : Lent} (h : Held S L) {v : Sent} (found : FindsSent S L v) where
+module _ (S : Settings) {L : Lent} (h : SoundSlices S L) {v : Sent} (found : FindsSent S L v) where
   fill-at : (x : Access) {w : Sent} → v ≡ w → fillFirst (callActs S x) (tablesOf S L .misses) L ≡ fillAt S L w
   fill-at x e = fill-first S x (tablesOf S L .misses) L ∙ ap (fillAt S L) (sym (found .on (tablesOf S L) (is-read-off S h)) ∙ e)
 
@@ -144,7 +144,7 @@ module _ (S : Settings) {L : Lent} (h : Held S L) {v : Sent} (found : FindsSent 
 -- ---- both, and the offer
 
 -- what the fill asks; the send does not look at the access
-pub sent-held : (S : Settings) {L : Lent} {e : List ℕ} {out w : ℕ} {f : List ℕ} {M : Lent} → SeesSend S L e out w f M → Held S M
+pub sent-held : (S : Settings) {L : Lent} {e : List ℕ} {out w : ℕ} {f : List ℕ} {M : Lent} → SeesSend S L e out w f M → SoundSlices S M
 sent-held S s = s .on (Read 0 0 0) .held
 
 module _ (S : Settings) {L : Lent} {e : List ℕ} {out w : ℕ} {f : List ℕ} {M : Lent} where
@@ -156,7 +156,7 @@ module _ (S : Settings) {L : Lent} {e : List ℕ} {out w : ℕ} {f : List ℕ} {
   }
 
   module _ (x : Access) (d : SeesDrain S L e out w f M) where
-    pub drained : Held S M
+    pub drained : SoundSlices S M
     drained = d .on x .held
 
     module _ {r : Told} {N : Lent} (l : Leaves (accessCall S x M) M r N) where

@@ -18,7 +18,7 @@ use Rattle.model.specs.declared.Refusal.the-variants.{BadAccess}
 use Rattle.model.specs.declared.Event.{Event}
 use Rattle.model.specs.Records.{roundBytes}
 use Rattle.model.specs.declared.Verdict.the-variants as verdict
-use Rattle.encoding.proofs.Decoded.{Small}
+use Rattle.encoding.proofs.DecodeIsSound.{Small}
 use Rattle.soundness.proofs.Verdicts.{passed-is}
 use Rattle.layout.specs.declared.Layout.{Layout}
 use Rattle.soundness.specs.Laid.{Checks, verdictIn}

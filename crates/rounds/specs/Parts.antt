@@ -10,7 +10,7 @@ use Rattle.model.specs.Sound.{allOnes}
 use Rattle.model.specs.Tables.{Tables}
 use Rattle.model.specs.Lent.{Lent, bit, encode, tablesOf}
 use Rattle.model.specs.Calls.{verdictOf}
-use Rattle.model.specs.Inner.{Is, Held}
+use Rattle.model.specs.Inner.{Encodes, SoundSlices}
 use Rattle.model.specs.Rounds as inner
 use Rattle.model.specs.Rounds.{steps, Turn, still, andThen, isEmpty}
 use Rattle.model.specs.Seen.{Acts, accepts, marks, sendTurn, fillFirst, drain, rounds, struck, callActs}
@@ -37,7 +37,7 @@ lentWait S w = record { waiting = w .waiting; events = w .events; left = encode 
 
 -- n rounds at most, on sound tables
 pub record Settles (S : Settings) (x : Access) (n : ℕ) (L : Lent) (e : List ℕ) (r : Waited) (f : List ℕ) (M : Lent) : Type 0 where
-  pub on : (t : Tables) → Is S L t → Waits (lentWait S (settled (inner.rounds (steps S x) n t))) e r f M
+  pub on : (t : Tables) → Encodes S L t → Waits (lentWait S (settled (inner.rounds (steps S x) n t))) e r f M
 
 -- ---- the checks before them
 
@@ -46,14 +46,14 @@ pub record TurnsAway (n : Refusal) (e : List ℕ) (r : Waited) (f : List ℕ) : 
 
 -- behind the check of refusals 1, 2 and 3
 pub record WaitsHeld (S : Settings) (x : Access) (L : Lent) (e : List ℕ) (r : Waited) (f : List ℕ) (M : Lent) : Type 0 where
-  pub on : (t : Tables) → Is S L t → Waits (waitCall S x L) e r f M
+  pub on : (t : Tables) → Encodes S L t → Waits (waitCall S x L) e r f M
 
 -- ---- the rounds and the struck rounds
 
 -- the check before the first round
 pub record MayRun (S : Settings) (x : Access) (L : Lent) (r : LaidVerdict) : Type 0 where
   pub says : verdictIn r ≡ verdictOf (startCall S x L)
-  pub ready : (at : Layout) → r ≡ Passed at → Placed S at × Held S L
+  pub ready : (at : Layout) → r ≡ Passed at → Placed S at × SoundSlices S L
   pub small : (at : Layout) → r ≡ Passed at → maskOf x ≤ allOnes
 
 -- the others are on slices that are the encoding of sound tables
@@ -65,7 +65,7 @@ pub record Queueless (S : Settings) (L : Lent) (r : Bool) : Type 0 where
 pub record Sees (S : Settings) (a : Turn Lent) (e : List ℕ) (out w : ℕ) (f : List ℕ) (M : Lent) : Type 0 where
   pub left : M ≡ a .left
   pub bytes : Noted e out (a .events) w f
-  pub held : Held S M
+  pub held : SoundSlices S M
 
 -- a round's send, its fill, both, whatever is offered
 pub record SeesSend (S : Settings) (L : Lent) (e : List ℕ) (out w : ℕ) (f : List ℕ) (M : Lent) : Type 0 where

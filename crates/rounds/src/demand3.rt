@@ -17,7 +17,7 @@ ghost use Rattle.model.specs.Address.{maskOf};
 ghost use Rattle.model.specs.Sound.{allOnes};
 ghost use Rattle.model.specs.Lent.{lent, bit};
 ghost use Rattle.model.specs.Calls.{eventsTold};
-ghost use Rattle.model.specs.Inner.{Held};
+ghost use Rattle.model.specs.Inner.{SoundSlices};
 ghost use Rattle.model.specs.Records.{logBytes, fillBytes, roundBytes, settleBytes};
 ghost use Rattle.layout.specs.Layout.{Placed};
 ghost use Rattle.turns.specs.Parts.{Noted};
@@ -34,7 +34,7 @@ fn tell(told: Told, events: &mut [u8], out: usize) -> usize
 }
 
 fn nothing_queued(s: Settings, at: Layout, longs: &[u64], words: &[u32], marks: &[u8]) -> bool
-    requires { ⌜ Placed s at × Held s (lent (now longs) (now words) (now marks)) ⌝ }
+    requires { ⌜ Placed s at × SoundSlices s (lent (now longs) (now words) (now marks)) ⌝ }
     ensures { λ r. ⌜ Queueless s (lent (now (longs .entry)) (now (words .entry)) (now (marks .entry))) r ⌝ }
 {
     let n = layout::used(marks, at.kinds, s.queue);
@@ -51,7 +51,7 @@ fn see_send(
     events: &mut [u8],
     out: usize,
 ) -> usize
-    requires { ⌜ Placed s at × Held s (lent (now longs) (now words) (now marks)) ⌝ }
+    requires { ⌜ Placed s at × SoundSlices s (lent (now longs) (now words) (now marks)) ⌝ }
     requires { ⌜ out + 25 ≤ length (now events) ⌝ }
     ensures { λ r. ⌜ SeesSend s (lent (now (longs .entry)) (now (words .entry)) (now (marks .entry))) (now (events .entry)) out r
         (now (events .exit)) (lent (now (longs .exit)) (now (words .exit)) (now (marks .exit))) ⌝ }
@@ -73,7 +73,7 @@ fn see_fill(
     events: &mut [u8],
     out: usize,
 ) -> usize
-    requires { ⌜ Placed s at × Held s (lent (now longs) (now words) (now marks)) ⌝ }
+    requires { ⌜ Placed s at × SoundSlices s (lent (now longs) (now words) (now marks)) ⌝ }
     requires { ⌜ out + fillBytes ≤ length (now events) ⌝ }
     ensures { λ r. ⌜ SeesFill s (lent (now (longs .entry)) (now (words .entry)) (now (marks .entry))) (now (events .entry)) out r
         (now (events .exit)) (lent (now (longs .exit)) (now (words .exit)) (now (marks .exit))) ⌝ }
@@ -97,7 +97,7 @@ fn see_drain(
     events: &mut [u8],
     out: usize,
 ) -> usize
-    requires { ⌜ Placed s at × Held s (lent (now longs) (now words) (now marks)) ⌝ }
+    requires { ⌜ Placed s at × SoundSlices s (lent (now longs) (now words) (now marks)) ⌝ }
     requires { ⌜ out + settleBytes ≤ length (now events) ⌝ }
     ensures { λ r. ⌜ SeesDrain s (lent (now (longs .entry)) (now (words .entry)) (now (marks .entry))) (now (events .entry)) out r
         (now (events .exit)) (lent (now (longs .exit)) (now (words .exit)) (now (marks .exit))) ⌝ }
@@ -117,7 +117,7 @@ fn see_round(
     events: &mut [u8],
     out: usize,
 ) -> Offer
-    requires { ⌜ Placed s at × Held s (lent (now longs) (now words) (now marks)) ⌝ }
+    requires { ⌜ Placed s at × SoundSlices s (lent (now longs) (now words) (now marks)) ⌝ }
     requires { ⌜ (out + roundBytes ≤ length (now events)) × (maskOf x ≤ allOnes) ⌝ }
     ensures { λ r. ⌜ SeesRound s x (lent (now (longs .entry)) (now (words .entry)) (now (marks .entry))) (now (events .entry)) out r
         (now (events .exit)) (lent (now (longs .exit)) (now (words .exit)) (now (marks .exit))) ⌝ }
@@ -141,7 +141,7 @@ fn see_struck(
     events: &mut [u8],
     out: usize,
 ) -> usize
-    requires { ⌜ Placed s at × Held s (lent (now longs) (now words) (now marks)) ⌝ }
+    requires { ⌜ Placed s at × SoundSlices s (lent (now longs) (now words) (now marks)) ⌝ }
     requires { ⌜ (out + roundBytes ≤ length (now events)) × (maskOf x ≤ allOnes) ⌝ }
     ensures { λ r. ⌜ SeesStruck s x (eqb flag 1) (lent (now (longs .entry)) (now (words .entry)) (now (marks .entry))) (now (events .entry)) out r
         (now (events .exit)) (lent (now (longs .exit)) (now (words .exit)) (now (marks .exit))) ⌝ }
@@ -171,7 +171,7 @@ fn rounds_on(
     flags: &mut [u8],
     events: &mut [u8],
 ) -> Went
-    requires { ⌜ Placed s at × Held s (lent (now longs) (now words) (now marks)) ⌝ }
+    requires { ⌜ Placed s at × SoundSlices s (lent (now longs) (now words) (now marks)) ⌝ }
     requires { ⌜ (n ≤ length (now flags)) × (roundBytes * n ≤ length (now events)) × (maskOf x ≤ allOnes) ⌝ }
     ensures { λ r. ⌜ RunsOn s x n (lent (now (longs .entry)) (now (words .entry)) (now (marks .entry))) (now (flags .entry)) (now (events .entry)) r
         (lent (now (longs .exit)) (now (words .exit)) (now (marks .exit))) (now (flags .exit)) (now (events .exit)) ⌝ }
@@ -208,7 +208,7 @@ fn struck_on(
     flags: &[u8],
     events: &mut [u8],
 ) -> Went
-    requires { ⌜ Placed s at × Held s (lent (now longs) (now words) (now marks)) ⌝ }
+    requires { ⌜ Placed s at × SoundSlices s (lent (now longs) (now words) (now marks)) ⌝ }
     requires { ⌜ (roundBytes * length (now flags) ≤ length (now events)) × (maskOf x ≤ allOnes) ⌝ }
     ensures { λ r. ⌜ StrikesOn s x (lent (now (longs .entry)) (now (words .entry)) (now (marks .entry))) (now (flags .entry)) (now (events .entry)) r
         (lent (now (longs .exit)) (now (words .exit)) (now (marks .exit))) (now (events .exit)) ⌝ }

@@ -18,7 +18,7 @@ ghost use Rattle.model.specs.Address.{maskOf, wellFormed};
 ghost use Rattle.model.specs.Sound.{allOnes};
 ghost use Rattle.model.specs.Lent.{lent};
 ghost use Rattle.model.specs.Records.{waitRoom};
-ghost use Rattle.model.specs.Inner.{Held};
+ghost use Rattle.model.specs.Inner.{SoundSlices};
 ghost use Rattle.layout.specs.Layout.{Placed};
 ghost use Rattle.turns.specs.Parts.{Enough};
 ghost use Rattle.rounds.specs.Waiting.{waitWithin, Waits};
@@ -28,7 +28,7 @@ ghost use Rattle.rounds.specs.Parts.{TurnsAway, Settles, WaitsHeld};
 // that could follow. Refused: 1 to 4, before the first round. NoRoom: fewer bytes of event room than any wait can need.
 pub enum Waiting {
     Accepted { round: usize, answer: Event },
-    Held,
+    SoundSlices,
     Refused(Refusal),
     NoRoom,
 }
@@ -76,7 +76,7 @@ fn wait_rounds(
     events: &mut [u8],
     most: usize,
 ) -> Waited
-    requires { ⌜ Placed s at × Held s (lent (now longs) (now words) (now marks)) ⌝ }
+    requires { ⌜ Placed s at × SoundSlices s (lent (now longs) (now words) (now marks)) ⌝ }
     requires { ⌜ (wellFormed x ≡ true) × (maskOf x ≤ allOnes) × (waitRoom ≤ length (now events)) ⌝ }
     requires { ⌜ Enough s (lent (now longs) (now words) (now marks)) most ⌝ }
     ensures { λ r. ⌜ Settles s x most (lent (now (longs .entry)) (now (words .entry)) (now (marks .entry))) (now (events .entry)) r
@@ -114,7 +114,7 @@ fn wait_checked(
     x: Access,
     events: &mut [u8],
 ) -> Waited
-    requires { ⌜ Placed s at × Held s (lent (now longs) (now words) (now marks)) ⌝ }
+    requires { ⌜ Placed s at × SoundSlices s (lent (now longs) (now words) (now marks)) ⌝ }
     requires { ⌜ waitRoom ≤ length (now events) ⌝ }
     ensures { λ r. ⌜ WaitsHeld s x (lent (now (longs .entry)) (now (words .entry)) (now (marks .entry))) (now (events .entry)) r
         (now (events .exit)) (lent (now (longs .exit)) (now (words .exit)) (now (marks .exit))) ⌝ }

@@ -20,15 +20,15 @@ use Rattle.model.specs.declared.Stop.{Stop}
 use Rattle.model.specs.declared.Stop.the-variants as stop
 use Rattle.model.specs.declared.Verdict.the-variants as verdict
 use Rattle.model.specs.declared.Ran.{Ran}
-use Rattle.encoding.proofs.Decoded.{Small}
-use Rattle.encoding.proofs.Kept.{resume-stops, resume-is}
+use Rattle.encoding.proofs.DecodeIsSound.{Small}
+use Rattle.encoding.proofs.RunGoesOn.{resume-stops, resume-is}
 use Rattle.layout.specs.declared.Layout.{Layout}
 use Rattle.soundness.specs.Laid.{Checks}
 use Rattle.soundness.specs.declared.LaidVerdict.{LaidVerdict}
 use Rattle.soundness.specs.declared.LaidVerdict.the-variants.{Passed, Refused}
 use Rattle.soundness.proofs.Verdicts.{checked}
 use Rattle.soundness.proofs.Checked.{says-refused, passed-tables}
-use Rattle.running.specs.Resume.{restFrom, Stands, Resumes}
+use Rattle.running.specs.Resume.{restFrom, RunAt, Resumes}
 use Rattle.runner.specs.Stops.{stopOf}
 
 -- ---- the stop of a refusal
@@ -46,7 +46,7 @@ refusal-stops false l s L n e = let z : refusal.SettingOutOfRange ≡ n = cc in 
 
 -- ---- the run
 
-pub resume-stands : (s e : List ℕ) → Stands s 0 0 e
+pub resume-stands : (s e : List ℕ) → RunAt s 0 0 e
 resume-stands s e = record { inside = omega arith; room = omega arith }
 
 module _ (S : Settings) (s e : List ℕ) (L : Lent) {v : LaidVerdict} (checks : Checks S L v) where

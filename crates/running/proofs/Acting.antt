@@ -13,7 +13,7 @@ use Rattle.model.specs.Lent.{Lent}
 use Rattle.model.specs.Sound.{allOnes}
 use Rattle.model.specs.Steps.{access, send, fill, tick}
 use Rattle.model.specs.Calls.{eventsTold}
-use Rattle.model.specs.Inner.{Held, Does}
+use Rattle.model.specs.Inner.{SoundSlices, Does}
 use Rattle.model.specs.RecordsOf as records
 use Rattle.model.specs.Records.{lengthOf, numberAt, commandIn, commandOf, logBytes}
 use Rattle.model.specs.declared.Settings.{Settings}
@@ -73,7 +73,7 @@ module _ (s : List ℕ) (at out : ℕ) (e : List ℕ) (ready : Ready s at out e)
     command-is : commandOf k (take (lengthOf k) (restAt s at)) ≡ commandIn j b
     command-is = command-sized k _ j h (body-long s at out e ready) ∙ ap (commandIn j) body-is
 
-  module _ (S : Settings) (L : Lent) (held : Held S L) (told : Told) (M : Lent) (w : ℕ) (f : List ℕ)
+  module _ (S : Settings) (L : Lent) (held : SoundSlices S L) (told : Told) (M : Lent) (w : ℕ) (f : List ℕ)
       (laid : Laid e out (length (logBytes (eventsTold told))) (logBytes (eventsTold told)) w f) (size : length f ≡ length e) where
     abbrev Left : ℕ → Type 0
     Left n = Resumes S (recordFrom S s at out e) s at out e L record { stop = stop.Nothing; consumed = n; written = w } f M

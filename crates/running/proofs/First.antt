@@ -18,7 +18,7 @@ use Rattle.model.specs.Records.{isCommand, isSettings, lengthOf, settingsIn, re
 use Rattle.model.specs.RunnerOf as runner
 use Rattle.model.specs.Runner.{settingsOf, settingsStop, firstStop, goesOn, Result, halt, ahead, runFrom, lentResult, run, Runs}
 use Rattle.model.specs.Calls.{freshCall, verdictOf}
-use Rattle.model.specs.Inner.{Is, Held}
+use Rattle.model.specs.Inner.{Encodes, SoundSlices}
 use Rattle.model.specs.declared.Settings.{Settings}
 use Rattle.model.specs.declared.Record.{Record}
 use Rattle.model.specs.declared.Refusal.{Refusal}
@@ -35,7 +35,7 @@ use Rattle.running.specs.declared.Opening.{Opening}
 use Rattle.running.specs.declared.Opening.the-variants as opening
 use Rattle.running.specs.declared.Begun.{Begun}
 use Rattle.running.specs.declared.Begun.the-variants.{Accepted, Stopped}
-use Rattle.running.specs.Resume.{kindAt, restAt, foundStop, restFrom, Stands, Resumes}
+use Rattle.running.specs.Resume.{kindAt, restAt, foundStop, restFrom, RunAt, Resumes}
 use Rattle.running.specs.Begin.{firstHead, firstRecord, begunOn, beginning, begunTables, Begins, Accepts, freshStop}
 use Rattle.running.proofs.Running.{run-skips}
 use Rattle.running.proofs.Checks.{found-record, found-next, found-body}
@@ -243,17 +243,17 @@ module _ {L : Lent} {s : List ℕ} {r : Begun} {M : Lent} (b : Begins L s r M) w
     opened : Settled L (kindAt s 0) (restAt s 0)
     opened = settled L (kindAt s 0) (restAt s 0) (took .goes)
 
-    begun-is : Is S M (start S)
+    begun-is : Encodes S M (start S)
     begun-is = record {
       range = rw (took .are) at (opened .range);
       soundly = start-sound S;
       encoded = b .tables ∙ rw settings;
     }
 
-    pub begun-held : Held S M
+    pub begun-held : SoundSlices S M
     begun-held = record { tables = start S; are = begun-is }
 
-    pub begun-stands : (e : List ℕ) → Stands s n 0 e
+    pub begun-stands : (e : List ℕ) → RunAt s n 0 e
     begun-stands e = record { inside = accepted-long L s settings; room = omega arith }
 
     pub run-begun : (e : List ℕ) {p : Ran} {f : List ℕ} {N : Lent} → Resumes S (restFrom S s n 0 e) s n 0 e M p f N → Runs (run (length e) s L) e p f N

@@ -16,7 +16,7 @@ use Rattle.model.specs.Calls.{eventsTold}
 use Rattle.model.specs.Records.{lengthOf, commandOf, logBytes, fillBytes}
 use Rattle.model.specs.RunnerOf as runner
 use Rattle.model.specs.Runner.{eventRoom, goesOn, laterStop, stepOf, commandMask, stepRead, stepAt, halt}
-use Rattle.model.specs.Inner.{Is, Held, Does}
+use Rattle.model.specs.Inner.{Encodes, SoundSlices, Does}
 use Rattle.model.specs.declared.Settings.{Settings}
 use Rattle.model.specs.declared.Command.{Command}
 use Rattle.model.specs.declared.CommandRead.{CommandRead}
@@ -29,7 +29,7 @@ use Rattle.encoding.proofs.Bridge.{does-tells, does-is}
 use Rattle.model.proofs.Soundness.{step-keeps-sound}
 use Rattle.records.specs.Stores.{Laid}
 use Rattle.records.proofs.Room.{Takes, refused-takes, step-takes}
-use Rattle.running.specs.Resume.{kindAt, restAt, single, recordFrom, Stands, Ready, Resumes}
+use Rattle.running.specs.Resume.{kindAt, restAt, single, recordFrom, RunAt, Ready, Resumes}
 use Rattle.running.proofs.Running.{Going, going}
 
 -- ---- the events of one step
@@ -46,7 +46,7 @@ step-room S k rest t range ok = read-takes S (commandOf k (take (lengthOf k) res
 
 -- ---- a record that stops, and one that is run
 
-module _ (S : Settings) (s : List ℕ) (at out : ℕ) (e : List ℕ) (L : Lent) (here : Stands s at out e)
+module _ (S : Settings) (s : List ℕ) (at out : ℕ) (e : List ℕ) (L : Lent) (here : RunAt s at out e)
     {n : Stop} (d : n ≡ laterStop (length e - out) (kindAt s at) (restAt s at)) (stops : goesOn n ≡ false) where
   halted : (t : Tables) → recordFrom S s at out e t ≡ halt n t
   unfolding single
@@ -87,7 +87,7 @@ module _ (s : List ℕ) (at out : ℕ) (e : List ℕ) (ready : Ready s at out e)
   pub body-long : length body ≡ lengthOf (kindAt s at)
   body-long = length-take-le (lengthOf (kindAt s at)) (restAt s at) (ready-going .whole)
 
-  module _ (S : Settings) (L : Lent) (held : Held S L) where
+  module _ (S : Settings) (L : Lent) (held : SoundSlices S L) where
     ran : (t : Tables)
         → recordFrom S s at out e t
         ≡ record {
@@ -106,7 +106,7 @@ module _ (s : List ℕ) (at out : ℕ) (e : List ℕ) (ready : Ready s at out e)
       unfolding runner.stepAt
       step-is t = rw read
 
-      told-is : (t : Tables) → Is S L t → eventsTold told ≡ eventsOf (stepAt S (kindAt s at) (restAt s at) t)
+      told-is : (t : Tables) → Encodes S L t → eventsTold told ≡ eventsOf (stepAt S (kindAt s at) (restAt s at) t)
       told-is t i = does-tells S does t i ∙ ap eventsOf (step-is t)
 
       told-room : out + length (logBytes (eventsTold told)) ≤ length e
@@ -116,7 +116,7 @@ module _ (s : List ℕ) (at out : ℕ) (e : List ℕ) (ready : Ready s at out e)
           let w = step-room S (kindAt s at) (restAt s at) (held .tables) (i .range) (i .soundly) in
           rw (told-is (held .tables) i) (omega arith)
 
-      after-is : (t : Tables) → Is S L t → Is S M (after t (stepAt S (kindAt s at) (restAt s at) t))
+      after-is : (t : Tables) → Encodes S L t → Encodes S M (after t (stepAt S (kindAt s at) (restAt s at) t))
       after-is t i = rw (← step-is t) (does-is S does t i (step-keeps-sound S c t (i .range) small (i .soundly)))
 
       pub record-runs : {w : ℕ} {f : List ℕ} → Laid e out (length (logBytes (eventsTold told))) (logBytes (eventsTold told)) w f → length f ≡ length e

@@ -10,11 +10,11 @@ use lib.Seq.{length-take-le, take-append-seam, drop-append-seam, drop-drop}
 use Rattle.model.specs.Tables.{Tables}
 use Rattle.model.specs.Lent.{Lent}
 use Rattle.model.specs.Runner.{goesOn, Result, ahead, runFrom, lentResult, Runs}
-use Rattle.model.specs.Inner.{Is, Held}
+use Rattle.model.specs.Inner.{Encodes, SoundSlices}
 use Rattle.model.specs.declared.Settings.{Settings}
 use Rattle.model.specs.declared.Stop.the-variants as stop
 use Rattle.model.specs.declared.Ran.{Ran}
-use Rattle.running.specs.Resume.{recordFrom, restFrom, Stands, Resumes}
+use Rattle.running.specs.Resume.{recordFrom, restFrom, RunAt, Resumes}
 use Rattle.running.proofs.Running.{run-ends, single-stops, single-goes, single-further}
 
 -- ---- lists
@@ -48,17 +48,17 @@ module _ (S : Settings) (s : List ℕ) where
 
   pub record Leads (o : Result Tables) (at out : ℕ) (e : List ℕ) (L : Lent) : Type 0 where
     pub tables : Tables
-    pub are : Is S L tables
+    pub are : Encodes S L tables
     pub same : wholeFrom at out e tables ≡ o
 
   pub record Goes (at₀ out₀ : ℕ) (e₀ : List ℕ) (L₀ : Lent) (at out : ℕ) (e : List ℕ) (L : Lent) : Type 0 where
-    pub here : Stands s at out e
+    pub here : RunAt s at out e
     pub size : length e ≡ length e₀
     pub longs : length (L .longs) ≡ length (L₀ .longs)
     pub words : length (L .words) ≡ length (L₀ .words)
     pub marks : length (L .marks) ≡ length (L₀ .marks)
     pub beyond : drop out e ≡ drop out e₀
-    pub leads : (t₀ : Tables) → Is S L₀ t₀ → Leads (wholeFrom at₀ out₀ e₀ t₀) at out e L
+    pub leads : (t₀ : Tables) → Encodes S L₀ t₀ → Leads (wholeFrom at₀ out₀ e₀ t₀) at out e L
 
   -- from a place further on, behind what o consumed and wrote
   whole-further : (at out : ℕ) (e : List ℕ) (t : Tables) (o : Result Tables) (c w : ℕ) (f : List ℕ) → length (take out e) ≡ out
@@ -74,7 +74,7 @@ module _ (S : Settings) (s : List ℕ) where
       rw (a, b, p, turn, append-assoc, add-assoc)
 
 module _ {S : Settings} {s : List ℕ} where
-  pub goes-first : {at out : ℕ} {e : List ℕ} {L : Lent} → Stands s at out e → Goes S s at out e L at out e L
+  pub goes-first : {at out : ℕ} {e : List ℕ} {L : Lent} → RunAt s at out e → Goes S s at out e L at out e L
   goes-first h = record {
     here = h;
     size = refl;
@@ -86,7 +86,7 @@ module _ {S : Settings} {s : List ℕ} where
   }
 
   module _ {at₀ out₀ : ℕ} {e₀ : List ℕ} {L₀ : Lent} {at out : ℕ} {e : List ℕ} {L : Lent} (g : Goes S s at₀ out₀ e₀ L₀ at out e L) where
-    pub goes-held : Held S L₀ → Held S L
+    pub goes-held : SoundSlices S L₀ → SoundSlices S L
     goes-held h = let x = g .leads (h .tables) (h .are) in record { tables = x .tables; are = x .are }
 
     written-here : length (take out e) ≡ out
@@ -103,7 +103,7 @@ module _ {S : Settings} {s : List ℕ} where
           runs-as (ap (lentResult S) (x .same)) (runs-behind out e₀ (g .beyond) far (u .on (x .tables) (x .are)));
       keeps = λ t₀ i.
           let x = g .leads t₀ i in
-          subst (λ (o : Result Tables). Is S M (o .tables)) (x .same) (u .keeps (x .tables) (x .are));
+          subst (λ (o : Result Tables). Encodes S M (o .tables)) (x .same) (u .keeps (x .tables) (x .are));
       stands = u .stands;
     }
 
@@ -131,12 +131,12 @@ module _ {S : Settings} {s : List ℕ} where
             runs-as (ap (λ (p : Result Tables). ahead at (take out e) (lentResult S p)) (sym (single-stops S (length e - out) s at t inside z))) o;
         keeps = λ t i.
             let z : goesOn (recordFrom S s at out e t .stop) ≡ false = rw (← u .on t i .stop) h in
-            subst (λ (p : Result Tables). Is S M (p .tables)) (sym (single-stops S (length e - out) s at t inside z)) (u .keeps t i);
+            subst (λ (p : Result Tables). Encodes S M (p .tables)) (sym (single-stops S (length e - out) s at t inside z)) (u .keeps t i);
         stands = u .stands;
       }
 
-      module _ (held : Held S L₀) (h : goesOn (r .stop) ≡ true) where
-        went : (t : Tables) → Is S L t → goesOn (recordFrom S s at out e t .stop) ≡ true
+      module _ (held : SoundSlices S L₀) (h : goesOn (r .stop) ≡ true) where
+        went : (t : Tables) → Encodes S L t → goesOn (recordFrom S s at out e t .stop) ≡ true
         went t i = rw (← u .on t i .stop) h
 
         pub goes-nearer : length s - r .consumed < length s - at
@@ -147,14 +147,14 @@ module _ {S : Settings} {s : List ℕ} where
             omega arith
 
         -- behind what is written now the events are the caller's own
-        behind-written : (t : Tables) → Is S L t → drop (r .written) f ≡ drop (r .written) e₀
+        behind-written : (t : Tables) → Encodes S L t → drop (r .written) f ≡ drop (r .written) e₀
         behind-written t i =
             let o = u .on t i in
             let x = take out e ++ recordFrom S s at out e t .events in
             let far : out ≤ length x = let w = written-here in rw length-append (omega arith) in
             rw (o .written, o .events, drop-append-seam) (drop-further out (length x) e e₀ (g .beyond) far)
 
-        led : (t : Tables) (i : Is S L t) → length f ≡ length e
+        led : (t : Tables) (i : Encodes S L t) → length f ≡ length e
             → wholeFrom S s (r .consumed) (r .written) f (recordFrom S s at out e t .tables) ≡ wholeFrom S s at out e t
         led t i size =
             let o = u .on t i in

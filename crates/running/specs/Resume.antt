@@ -11,7 +11,7 @@ use Rattle.model.specs.Tables.{Tables, after, eventsOf}
 use Rattle.model.specs.Lent.{Lent}
 use Rattle.model.specs.Records.{isCommand, isSettings, lengthOf, numberAt, logBytes}
 use Rattle.model.specs.Runner.{roomStop, goesOn, laterStop, stepAt, Result, halt, ahead, runFrom, lentResult, Runs}
-use Rattle.model.specs.Inner.{Is}
+use Rattle.model.specs.Inner.{Encodes}
 use Rattle.model.specs.declared.Settings.{Settings}
 use Rattle.model.specs.declared.Access.{Access}
 use Rattle.model.specs.declared.Access.the-variants.{Read, Write}
@@ -64,18 +64,18 @@ abbrev pub restFrom : Settings → List ℕ → ℕ → ℕ → List ℕ → Tab
 restFrom S s at out e = runFrom S 0 (length e - out) (drop at s)
 
 -- where a run stands: before byte `at` of the stream, behind `out` bytes of events
-pub record Stands (s : List ℕ) (at out : ℕ) (e : List ℕ) : Type 0 where
+pub record RunAt (s : List ℕ) (at out : ℕ) (e : List ℕ) : Type 0 where
   pub inside : at ≤ length s
   pub room : out ≤ length e
 
 -- nothing stops at the record there: it is of a step, whole, and its events have room
 pub record Ready (s : List ℕ) (at out : ℕ) (e : List ℕ) : Type 0 where
-  pub stands : Stands s at out e
+  pub stands : RunAt s at out e
   pub inside : at < length s
   pub goes : goesOn (laterStop (length e - out) (kindAt s at) (restAt s at)) ≡ true
 
 -- the records that o runs from there, on the sound tables that L holds, leave this; consumed and written count from the start
 pub record Resumes (S : Settings) (o : Tables → Result Tables) (s : List ℕ) (at out : ℕ) (e : List ℕ) (L : Lent) (r : Ran) (f : List ℕ) (M : Lent) : Type 0 where
-  pub on : (t : Tables) → Is S L t → Runs (ahead at (take out e) (lentResult S (o t))) e r f M
-  pub keeps : (t : Tables) → Is S L t → Is S M (o t .tables)
-  pub stands : Stands s (r .consumed) (r .written) f
+  pub on : (t : Tables) → Encodes S L t → Runs (ahead at (take out e) (lentResult S (o t))) e r f M
+  pub keeps : (t : Tables) → Encodes S L t → Encodes S M (o t .tables)
+  pub stands : RunAt s (r .consumed) (r .written) f

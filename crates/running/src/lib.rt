@@ -13,13 +13,13 @@ use model::Verdict;
 use record::run_one;
 ghost use mathlib.Core.Path.{_≡_};
 ghost use Rattle.model.specs.Lent.{lent};
-ghost use Rattle.model.specs.Inner.{Held};
+ghost use Rattle.model.specs.Inner.{SoundSlices};
 ghost use Rattle.model.specs.Records.{settingsIn};
 ghost use Rattle.model.specs.Runner.{roomStop, goesOn};
 ghost use Rattle.layout.specs.Layout.{Placed};
 ghost use Rattle.running.specs.Begin.{firstRecord, freshStop, Accepts, firstThere};
 ghost use Rattle.running.specs.Lengths.{noLengths, lengthsOf, lengthsAsked};
-ghost use Rattle.running.specs.Resume.{headStop, foundStop, laterFound, Stands, restFrom, Resumes};
+ghost use Rattle.running.specs.Resume.{headStop, foundStop, laterFound, RunAt, restFrom, Resumes};
 
 // "15 cut short"
 const CUT_SHORT: u8 = 15;
@@ -128,8 +128,8 @@ pub fn run_records(
     words: &mut [u32],
     marks: &mut [u8],
 ) -> Ran
-    requires { ⌜ Placed s laid × Held s (lent (now longs) (now words) (now marks)) ⌝ }
-    requires { ⌜ Stands (now stream) start first (now events) ⌝ }
+    requires { ⌜ Placed s laid × SoundSlices s (lent (now longs) (now words) (now marks)) ⌝ }
+    requires { ⌜ RunAt (now stream) start first (now events) ⌝ }
     ensures { λ r. ⌜ Resumes s (restFrom s (now (stream .entry)) start first (now (events .entry)))
         (now (stream .entry)) start first (now (events .entry))
         (lent (now (longs .entry)) (now (words .entry)) (now (marks .entry))) r

@@ -14,11 +14,11 @@ ghost use lib.ListN.{length, take};
 ghost use Rattle.model.specs.Address.{maskOf};
 ghost use Rattle.model.specs.Lent.{lent};
 ghost use Rattle.model.specs.Sound.{allOnes};
-ghost use Rattle.model.specs.Inner.{Held};
+ghost use Rattle.model.specs.Inner.{SoundSlices};
 ghost use Rattle.model.specs.Records.{lengthOf};
 ghost use Rattle.model.specs.Runner.{laterStop};
 ghost use Rattle.layout.specs.Layout.{Placed};
-ghost use Rattle.running.specs.Resume.{kindAt, restAt, accessIn, Stands, Ready, recordFrom, Resumes};
+ghost use Rattle.running.specs.Resume.{kindAt, restAt, accessIn, RunAt, Ready, recordFrom, Resumes};
 
 // The kinds of the commands that are steps: the first two are accesses.
 const READ: u8 = 1;
@@ -82,7 +82,7 @@ fn access_record(
     words: &mut [u32],
     marks: &mut [u8],
 ) -> Ran
-    requires { ⌜ Placed s laid × Held s (lent (now longs) (now words) (now marks)) ⌝ }
+    requires { ⌜ Placed s laid × SoundSlices s (lent (now longs) (now words) (now marks)) ⌝ }
     requires { ⌜ Ready (now stream) at out (now events) × (kindAt (now stream) at ≤ 2) ⌝ }
     ensures { λ r. ⌜ Resumes s (recordFrom s (now (stream .entry)) at out (now (events .entry)))
         (now (stream .entry)) at out (now (events .entry))
@@ -110,7 +110,7 @@ fn send_record(
     words: &mut [u32],
     marks: &mut [u8],
 ) -> Ran
-    requires { ⌜ Placed s laid × Held s (lent (now longs) (now words) (now marks)) ⌝ }
+    requires { ⌜ Placed s laid × SoundSlices s (lent (now longs) (now words) (now marks)) ⌝ }
     requires { ⌜ Ready (now stream) at out (now events) × (kindAt (now stream) at ≡ 3) ⌝ }
     ensures { λ r. ⌜ Resumes s (recordFrom s (now (stream .entry)) at out (now (events .entry)))
         (now (stream .entry)) at out (now (events .entry))
@@ -137,7 +137,7 @@ fn fill_record(
     words: &mut [u32],
     marks: &mut [u8],
 ) -> Ran
-    requires { ⌜ Placed s laid × Held s (lent (now longs) (now words) (now marks)) ⌝ }
+    requires { ⌜ Placed s laid × SoundSlices s (lent (now longs) (now words) (now marks)) ⌝ }
     requires { ⌜ Ready (now stream) at out (now events) × (kindAt (now stream) at ≡ 4) ⌝ }
     ensures { λ r. ⌜ Resumes s (recordFrom s (now (stream .entry)) at out (now (events .entry)))
         (now (stream .entry)) at out (now (events .entry))
@@ -164,7 +164,7 @@ fn tick_record(
     words: &mut [u32],
     marks: &mut [u8],
 ) -> Ran
-    requires { ⌜ Held s (lent (now longs) (now words) (now marks)) ⌝ }
+    requires { ⌜ SoundSlices s (lent (now longs) (now words) (now marks)) ⌝ }
     requires { ⌜ Ready (now stream) at out (now events) × (kindAt (now stream) at ≡ 5) ⌝ }
     ensures { λ r. ⌜ Resumes s (recordFrom s (now (stream .entry)) at out (now (events .entry)))
         (now (stream .entry)) at out (now (events .entry))
@@ -193,7 +193,7 @@ fn step_record(
     words: &mut [u32],
     marks: &mut [u8],
 ) -> Ran
-    requires { ⌜ Placed s laid × Held s (lent (now longs) (now words) (now marks)) ⌝ }
+    requires { ⌜ Placed s laid × SoundSlices s (lent (now longs) (now words) (now marks)) ⌝ }
     requires { ⌜ Ready (now stream) at out (now events) ⌝ }
     ensures { λ r. ⌜ Resumes s (recordFrom s (now (stream .entry)) at out (now (events .entry)))
         (now (stream .entry)) at out (now (events .entry))
@@ -225,8 +225,8 @@ pub(crate) fn run_one(
     words: &mut [u32],
     marks: &mut [u8],
 ) -> Ran
-    requires { ⌜ Placed s laid × Held s (lent (now longs) (now words) (now marks)) ⌝ }
-    requires { ⌜ Stands (now stream) at out (now events) ⌝ }
+    requires { ⌜ Placed s laid × SoundSlices s (lent (now longs) (now words) (now marks)) ⌝ }
+    requires { ⌜ RunAt (now stream) at out (now events) ⌝ }
     requires { ⌜ at < length (now stream) ⌝ }
     ensures { λ r. ⌜ Resumes s (recordFrom s (now (stream .entry)) at out (now (events .entry)))
         (now (stream .entry)) at out (now (events .entry))

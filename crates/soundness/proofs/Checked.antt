@@ -8,7 +8,7 @@ use Rattle.model.specs.declared.Verdict.the-variants as verdict
 use Rattle.model.specs.Lent.{Lent, tablesOf}
 use Rattle.model.specs.SoundLent.{Small}
 use Rattle.model.specs.Calls.{checkCall, verdictOf}
-use Rattle.model.specs.Inner.{Is, Held}
+use Rattle.model.specs.Inner.{Encodes, SoundSlices}
 use Rattle.encoding.proofs.Bridge.{sound-encoded}
 use Rattle.layout.specs.Layout.{Placed}
 use Rattle.layout.specs.declared.Layout.{Layout}
@@ -36,12 +36,12 @@ module _ (S : Settings) (L : Lent) {v : LaidVerdict} (checks : Checks S L v) whe
   says-passed e = sym (checks .says) ∙ ap verdictIn e
 
   module _ (small : Small L) {at : Layout} (passed : v ≡ Passed at) where
-    pub passed-tables : Is S L (tablesOf S L)
+    pub passed-tables : Encodes S L (tablesOf S L)
     passed-tables = let (range, fits, soundly) = passed-is S L (says-passed passed) in sound-encoded S L range fits small soundly
 
-    pub passed-held : Held S L
+    pub passed-held : SoundSlices S L
     passed-held = record { tables = tablesOf S L; are = passed-tables }
 
     -- what the inner steps ask
-    pub passed-laid : Placed S at × Held S L
+    pub passed-laid : Placed S at × SoundSlices S L
     passed-laid = (checks .laid at passed, passed-held)

@@ -14,11 +14,11 @@ use Rattle.model.specs.Numbers.{statusNumber}
 use Rattle.model.specs.Range.{linesOf}
 use Rattle.words.specs.Regions.{region, put, closed}
 use Rattle.model.specs.Address.{blockOf, sectorIndex, setIndex, goodBlock}
-use Rattle.model.specs.Tables.{Line, Entry, Tables, done, isInvalid, unused, holds, entryFor, noEntry, empty, fresh, withLines, withDirtyCount, dirty, dirtyLines}
+use Rattle.model.specs.Tables.{Line, Entry, Tables, done, isInvalid, whollyInvalid, holds, entryFor, noEntry, empty, fresh, withLines, withDirtyCount, dirty, dirtyLines}
 use Rattle.model.specs.Lent.{lent, sectorsAt}
 use Rattle.model.specs.Steps.{arrived, fillLine, ticketsOf, afterFill, sentFor, fill, recounted, soiled}
 use Rattle.model.specs.Calls.{encoded, eventsTold, tidied, Leaves}
-use Rattle.model.specs.Inner.{Is}
+use Rattle.model.specs.Inner.{Encodes}
 use Rattle.model.specs.declared.Settings.{Settings}
 use Rattle.model.specs.declared.Status.{Status}
 use Rattle.model.specs.declared.Status.the-variants.{Invalid, Reserved, Valid, Modified}
@@ -38,14 +38,14 @@ use Rattle.layout.specs.Sectors.{statuses, masks, readables, someModified}
 use Rattle.tables.specs.Raw.{holdsAt}
 use Rattle.tables.specs.Telling.{telling}
 use Rattle.layout.proofs.Stores.{none}
-use Rattle.layout.proofs.Stands.{Stands, is-stands, stands-encode}
-use Rattle.model.proofs.Keep.{fill-tag, fill-cycle, fill-taken}
+use Rattle.layout.proofs.ByBlocks.{ByBlocks, is-stands, stands-encode}
+use Rattle.model.proofs.SendFillKeepSound.{fill-tag, fill-cycle, fill-taken}
 use Rattle.layout.proofs.Lines.{flag-of-bit, tag-at, status-at, lifted, store-stands}
 use Rattle.tables.proofs.Misses.{misses-used, sent-at, count-at, tickets-at, remove-stands, entry-found, entry-missing}
 use Rattle.tables.proofs.Tellings.{refusal-leaves, done-leaves}
 use Rattle.steps.specs.Parts.{Holding, arrivedAt, SectorFilled, LineFilled, releasing, CountFits, countAfter}
 use Rattle.steps.proofs.Entries.{few-misses, some-tickets, few-tickets, kept-others, tickets-are, sent-is}
-use Rattle.model.proofs.Keep.{fill-leaves as fill-sound}
+use Rattle.model.proofs.SendFillKeepSound.{fill-leaves as fill-sound}
 use Rattle.words.proofs.Counting.{recount, count-length, one-counted, map-one}
 use Rattle.layout.proofs.DirtyCount.{dirty-count-at, dirty-count-stands}
 
@@ -133,7 +133,7 @@ fill-other : (a : ℕ) (l : Line) → holds (blockOf a) l ≡ false → fillLine
 unfolding fillLine
 fill-other a l e = rw e
 
-module _ (S : Settings) (t : Tables) (ok : Sound S t) {longs words marks : List ℕ} (h : Stands S longs words marks t) {at : Layout} (p : Placed S at) where
+module _ (S : Settings) (t : Tables) (ok : Sound S t) {longs words marks : List ℕ} (h : ByBlocks S longs words marks t) {at : Layout} (p : Placed S at) where
   four : (l : ℕ) → l < length (t .lines) → length (getD (t .lines) l fresh .sectors) ≡ 4
   four l k = four-at S t ok (getD (t .lines) l fresh) (in-getD (t .lines) l fresh k)
 
@@ -159,8 +159,8 @@ module _ (S : Settings) (t : Tables) (ok : Sound S t) {longs words marks : List 
       set-of : (a i : ℕ) → i < length (t .lines) → holds (blockOf a) (getD (t .lines) i fresh) ≡ true → setIndex S a ≡ i / S .ways
       set-of a i b e =
           let l : Line = getD (t .lines) i fresh in
-          let u : unused l ≡ false = not-yes (and-1 (not (unused l)) (eqb (l .tag) (blockOf a)) e) in
-          let v : l .tag ≡ blockOf a = eqb-true (l .tag) (blockOf a) (and-2 (not (unused l)) (eqb (l .tag) (blockOf a)) e) in
+          let u : whollyInvalid l ≡ false = not-yes (and-1 (not (whollyInvalid l)) (eqb (l .tag) (blockOf a)) e) in
+          let v : l .tag ≡ blockOf a = eqb-true (l .tag) (blockOf a) (and-2 (not (whollyInvalid l)) (eqb (l .tag) (blockOf a)) e) in
           let o : (goodBlock (l .tag) && eqb (setIndex S (l .tag)) (i / S .ways)) ≡ true = rw u at (line-at S t ok i b .tagged) in
           let w : setIndex S (l .tag) ≡ i / S .ways = eqb-true (setIndex S (l .tag)) (i / S .ways) (and-2 (goodBlock (l .tag)) (eqb (setIndex S (l .tag)) (i / S .ways)) o) in
           let same : blockOf a / 128 ≡ a / 128 = omega arith in
@@ -168,7 +168,7 @@ module _ (S : Settings) (t : Tables) (ok : Sound S t) {longs words marks : List 
 
   -- its sector has come
   line-stands : (a : ℕ) {words′ marks′ : List ℕ} (f : LineFilled S at (blockOf a) (sectorIndex a) longs words marks words′ marks′)
-      → Stands S longs words′ marks′ (withDirtyCount (recounted (getD (t .lines) (f .line) fresh) (fillLine a (getD (t .lines) (f .line) fresh)) (t .dirtyCount)) (withLines (map (fillLine a) (t .lines)) t))
+      → ByBlocks S longs words′ marks′ (withDirtyCount (recounted (getD (t .lines) (f .line) fresh) (fillLine a (getD (t .lines) (f .line) fresh)) (t .dirtyCount)) (withLines (map (fillLine a) (t .lines)) t))
   line-stands a {words′} {marks′} f =
       let l : ℕ = f .line in
       let k : f .line < length (t .lines) = omega (arith, f .inside, lines-are S t ok) in
@@ -182,7 +182,7 @@ module _ (S : Settings) (t : Tables) (ok : Sound S t) {longs words marks : List 
       let same : getD words (at .dirty) 0 + one (someModified (fillLine a x .sectors)) - one (someModified (sectorsAt S words marks l)) ≡ d =
       ap (λ (n : ℕ). n + one (dirty (fillLine a x)) - one (someModified (sectorsAt S words marks l))) (dirty-count-at S t h p)
       ∙ ap (λ (b : Bool). t .dirtyCount + one (dirty (fillLine a x)) - one b) before in
-      let counted : Stands S longs (put words (at .dirty) (d ∷ [])) marks (withDirtyCount d t) = dirty-count-stands S t h p d refl in
+      let counted : ByBlocks S longs (put words (at .dirty) (d ∷ [])) marks (withDirtyCount d t) = dirty-count-stands S t h p d refl in
       rw (fill-one a l k e)
       (store-stands S (withDirtyCount d t) counted p (lines-are S t ok) l k (fillLine a x) len (fill-tag a x) (fill-cycle a x) (fill-taken a x) (
         f .filled .words-are
@@ -230,12 +230,12 @@ released a words i n room e f = rw (e, f, length-region words i n room)
 
 -- ---- fill, from what its parts ensure
 
-module _ (S : Settings) (a : ℕ) (t : Tables) {longs words marks : List ℕ} (i : Is S (lent longs words marks) t) {at : Layout} (p : Placed S at)
+module _ (S : Settings) (a : ℕ) (t : Tables) {longs words marks : List ℕ} (i : Encodes S (lent longs words marks) t) {at : Layout} (p : Placed S at)
     {n e : ℕ} (u : First marks (at .counts) (S .misses) 0 n) (f : First longs (at .misses) n a e) where
   ok : Sound S t
   ok = parts S t (i .soundly)
 
-  h : Stands S longs words marks t
+  h : ByBlocks S longs words marks t
   h = is-stands i
 
   used : n ≡ length (t .misses)

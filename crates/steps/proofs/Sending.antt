@@ -14,7 +14,7 @@ use Rattle.model.specs.Tables.{isFetch, idle, Tables, withMisses}
 use Rattle.model.specs.Lent.{lent}
 use Rattle.model.specs.Steps.{markedFor, marked, afterSend, sendFrom, send, sentEvent}
 use Rattle.model.specs.Calls.{encoded, Leaves}
-use Rattle.model.specs.Inner.{Is}
+use Rattle.model.specs.Inner.{Encodes}
 use Rattle.model.specs.declared.Settings.{Settings}
 use Rattle.model.specs.declared.QueueKind.{QueueKind}
 use Rattle.model.specs.declared.QueueKind.the-variants as queue
@@ -24,14 +24,14 @@ use Rattle.model.specs.declared.Event.{Event}
 use Rattle.model.specs.declared.Event.the-variants as event
 use Rattle.model.specs.declared.Told.{Told}
 use Rattle.model.proofs.SoundFacts.{Sound, parts}
-use Rattle.encoding.proofs.Shapes.{fetch-number}
+use Rattle.encoding.proofs.NumbersAreTables.{fetch-number}
 use Rattle.tables.specs.Raw.{frontAt}
 use Rattle.layout.specs.declared.Layout.{Layout}
 use Rattle.layout.specs.Layout.{Placed}
 use Rattle.layout.specs.Places.{First}
 use Rattle.tables.specs.Telling.{telling}
 use Rattle.tables.proofs.Queue.{queue-used, pop-stands, head-kind, head-address, front-is}
-use Rattle.layout.proofs.Stands.{Stands, is-stands, stands-encode}
+use Rattle.layout.proofs.ByBlocks.{ByBlocks, is-stands, stands-encode}
 use Rattle.tables.proofs.Misses.{address-at, sent-stands, entry-first}
 use Rattle.tables.proofs.Tellings.{telling-tells, telling-tidy, refusal-leaves, done-leaves}
 use Rattle.steps.specs.Parts.{HeadAsked, Marked, HeadMarked}
@@ -49,12 +49,12 @@ nothing : {A : Type 0} (l : List A) → length l ≡ 0 → l ≡ []
 nothing [] e = refl
 nothing (x ∷ l) e = absurd (omega arith)
 
-module _ (S : Settings) (t : Tables) {longs words marks : List ℕ} (i : Is S (lent longs words marks) t) {at : Layout} (p : Placed S at)
+module _ (S : Settings) (t : Tables) {longs words marks : List ℕ} (i : Encodes S (lent longs words marks) t) {at : Layout} (p : Placed S at)
     {n : ℕ} (u : First marks (at .kinds) (S .queue) 0 n) where
   ok : Sound S t
   ok = parts S t (i .soundly)
 
-  h : Stands S longs words marks t
+  h : ByBlocks S longs words marks t
   h = is-stands i
 
   queued : n ≡ length (t .queue)
@@ -87,7 +87,7 @@ module _ (S : Settings) (t : Tables) {longs words marks : List ℕ} (i : Is S (l
         (k, omega (arith, few-misses S t ok), address-at S t h p (few-misses S t ok) k b ∙ q ∙ sym address-is)
 
     module _ {marks₁ : List ℕ} (m : HeadMarked at (S .misses) longs marks marks₁) where
-      marked-stands : (k : QueueKind) → head .kind ≡ k → Stands S longs words marks₁ (withMisses (markedFor k (head .address) (t .misses)) t)
+      marked-stands : (k : QueueKind) → head .kind ≡ k → ByBlocks S longs words marks₁ (withMisses (markedFor k (head .address) (t .misses)) t)
       marked-stands queue.Read e =
           let few = few-misses S t ok in
           let d : Marked at (S .misses) longs (getD longs (at .queue) 0) marks marks₁ = m .reads (kind-is ∙ ap queueKindNumber e) in
@@ -95,7 +95,7 @@ module _ (S : Settings) (t : Tables) {longs words marks : List ℕ} (i : Is S (l
           let g = entry-first S t h p few (d .first) (d .inside) k b (q ∙ sym address-is) in
           rw (marked-one S t ok (head .address) (d .entry) (g .0) (g .1 ∙ address-is)) (sent-stands S t h p few (d .entry) (g .0) (d .marks-are))
       marked-stands queue.WriteBack e =
-          subst (λ (l : List ℕ). Stands S longs words l t) (sym (m .other (λ one. let z : _≡_ {A = ℕ} 2 1 = sym (kind-is ∙ ap queueKindNumber e) ∙ one in omega arith))) h
+          subst (λ (l : List ℕ). ByBlocks S longs words l t) (sym (m .other (λ one. let z : _≡_ {A = ℕ} 2 1 = sym (kind-is ∙ ap queueKindNumber e) ∙ one in omega arith))) h
 
       pub send-leaves : {longs₁ words₁ marks₂ : List ℕ} {first : Event} {r : Told}
           → (longs₁ ≡ closed longs (at .queue) n 1) × (words₁ ≡ closed words (at .backs) (4 * n) 4) × (marks₂ ≡ closed marks₁ (at .kinds) n 1)

@@ -10,17 +10,17 @@ use Rattle.model.specs.Sound.{lastCycle}
 use Rattle.model.specs.Lent.{lent}
 use Rattle.model.specs.Steps.{tick}
 use Rattle.model.specs.Calls.{encoded, Leaves}
-use Rattle.model.specs.Inner.{Is}
+use Rattle.model.specs.Inner.{Encodes}
 use Rattle.model.specs.declared.Settings.{Settings}
 use Rattle.model.specs.declared.Refusal.the-variants.{BadCycle}
 use Rattle.model.specs.declared.Event.the-variants as event
 use Rattle.model.specs.declared.Told.{Told}
 use Rattle.tables.specs.Telling.{telling}
-use Rattle.layout.proofs.Stands.{Stands, is-stands, stands-encode}
+use Rattle.layout.proofs.ByBlocks.{ByBlocks, is-stands, stands-encode}
 use Rattle.tables.proofs.Tellings.{telling-tells, telling-tidy, refusal-leaves, done-leaves}
 
-module _ (S : Settings) (c : ℕ) (t : Tables) {longs words marks : List ℕ} (i : Is S (lent longs words marks) t) where
-  h : Stands S longs words marks t
+module _ (S : Settings) (c : ℕ) (t : Tables) {longs words marks : List ℕ} (i : Encodes S (lent longs words marks) t) where
+  h : ByBlocks S longs words marks t
   h = is-stands i
 
   now-at : getD words 0 0 ≡ t .now
@@ -41,6 +41,6 @@ module _ (S : Settings) (c : ℕ) (t : Tables) {longs words marks : List ℕ} (i
   tick-leaves q e =
       let b = bad q in
       let outcome : tick c t ≡ done (event.Ticked ∷ []) (withNow c t) = rw b in
-      let left : Stands S longs (set words 0 c) marks (withNow c t) =
+      let left : ByBlocks S longs (set words 0 c) marks (withNow c t) =
       record { as-longs = h .as-longs; as-words = ap (λ (l : List ℕ). set l 0 c) (h .as-words); as-marks = h .as-marks } in
       done-leaves S outcome (rw e (telling-tells event.Ticked)) (rw e (telling-tidy event.Ticked)) (stands-encode left)

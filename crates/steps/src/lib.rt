@@ -19,7 +19,7 @@ ghost use Rattle.words.specs.Regions.{region};
 ghost use Rattle.model.specs.Address.{blockOf, sectorIndex, setIndex};
 ghost use Rattle.model.specs.Lent.{lent};
 ghost use Rattle.model.specs.Steps.{send, arrived, fill, tick};
-ghost use Rattle.model.specs.Inner.{Fit, Held, Does};
+ghost use Rattle.model.specs.Inner.{Fit, SoundSlices, Does};
 ghost use Rattle.layout.specs.Layout.{Placed};
 ghost use Rattle.layout.specs.Sectors.{SectorRoom};
 ghost use Rattle.tables.specs.Raw.{holdsAt};
@@ -50,7 +50,7 @@ pub fn send_step(
     words: &mut [u32],
     marks: &mut [u8],
 ) -> Told
-    requires { ⌜ Placed s at × Held s (lent (now longs) (now words) (now marks)) ⌝ }
+    requires { ⌜ Placed s at × SoundSlices s (lent (now longs) (now words) (now marks)) ⌝ }
     ensures { λ r. ⌜ Does s send (lent (now (longs .entry)) (now (words .entry)) (now (marks .entry))) r
         (lent (now (longs .exit)) (now (words .exit)) (now (marks .exit))) ⌝ }
 {
@@ -168,7 +168,7 @@ pub fn fill_step(
     marks: &mut [u8],
     address: u64,
 ) -> Told
-    requires { ⌜ Placed s at × Held s (lent (now longs) (now words) (now marks)) ⌝ }
+    requires { ⌜ Placed s at × SoundSlices s (lent (now longs) (now words) (now marks)) ⌝ }
     ensures { λ r. ⌜ Does s (fill address) (lent (now (longs .entry)) (now (words .entry)) (now (marks .entry))) r
         (lent (now (longs .exit)) (now (words .exit)) (now (marks .exit))) ⌝ }
 {
@@ -186,7 +186,7 @@ pub fn fill_step(
 // ---- tick
 
 pub fn tick_step(s: Settings, longs: &[u64], words: &mut [u32], marks: &[u8], cycle: u32) -> Told
-    requires { ⌜ Held s (lent (now longs) (now words) (now marks)) ⌝ }
+    requires { ⌜ SoundSlices s (lent (now longs) (now words) (now marks)) ⌝ }
     ensures { λ r. ⌜ Does s (tick cycle) (lent (now (longs .entry)) (now (words .entry)) (now (marks .entry))) r
         (lent (now (longs .entry)) (now (words .exit)) (now (marks .entry))) ⌝ }
 {

@@ -10,7 +10,7 @@ use lib.ListN.{length, take, drop, length-drop, take-append-drop}
 use lib.Seq.{length-take-le, take-append-le, take-append-seam}
 use Rattle.model.specs.Tables.{Tables}
 use Rattle.model.specs.Lent.{Lent, lent}
-use Rattle.model.specs.Inner.{Is}
+use Rattle.model.specs.Inner.{Encodes}
 use Rattle.model.specs.Runner.{runFrom}
 use Rattle.model.specs.declared.Settings.{Settings}
 use Rattle.model.specs.declared.Ran.{Ran as Run}
@@ -96,7 +96,7 @@ module _ {S : Settings} (k : Scope) (buf : List ℕ) (n : ℕ) (inside : n ≤ l
     waits : have ≡ n - ran .consumed
     waits = count ∙ carried-is buf (ran .consumed) n part-within inside
 
-    module _ (t : Tables) (i : Is S L t) where
+    module _ (t : Tables) (i : Encodes S L t) where
       stops : ran .stop ≡ runFrom S 0 (length e) part t .stop
       stops = rw sub-zero at (u .on t i .stop)
 
@@ -113,7 +113,7 @@ module _ {S : Settings} (k : Scope) (buf : List ℕ) (n : ℕ) (inside : n ≤ l
       module _ {w x : Work} (have-is : x .have ≡ have) (stop-is : x .stop ≡ ran .stop) (left-is : x .left ≡ w .left)
           (consumed-is : x .consumed ≡ w .consumed + ran .consumed) (written-is : x .written ≡ (w .written + out) % 2 ^ 64)
           (next-is : (x .next ≡ nextOf (ran .stop)) ⊎ (x .next ≡ next.Failed)) where
-        leaves : (t : Tables) → Is S L t → Leaves S (runFrom S 0 (length e) part t) waiting e w x b f M
+        leaves : (t : Tables) → Encodes S L t → Leaves S (runFrom S 0 (length e) part t) waiting e w x b f M
         leaves t i = record {
           tables = rw sub-zero at (u .keeps t i);
           events = rw sub-zero at (u .on t i .events);

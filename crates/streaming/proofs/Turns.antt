@@ -12,7 +12,7 @@ use Rattle.words.proofs.Flags.{clash}
 use Rattle.encoding.proofs.Bridge.{is-tables}
 use Rattle.model.specs.Tables.{Tables}
 use Rattle.model.specs.Lent.{Lent}
-use Rattle.model.specs.Inner.{Is, Held}
+use Rattle.model.specs.Inner.{Encodes, SoundSlices}
 use Rattle.model.specs.Runner.{Result, ahead, runFrom}
 use Rattle.model.specs.declared.Settings.{Settings}
 use Rattle.model.specs.declared.Stop.{Stop}
@@ -170,7 +170,7 @@ module _ (S : Settings) (size : ℕ) where
 -- ---- a part that ran
 
 module _ {S : Settings} {k : Scope} {p e : List ℕ} {L : Lent} {w r : Work} {buf f : List ℕ} {M : Lent} (x : Ran S k p e L w r buf f M)
-    (held : Held S L) (space : 64 ≤ length e) (roomy : 64 ≤ length buf) (long : length p ≡ w .have) (counted : w .consumed + w .have + w .left < 2 ^ 64) where
+    (held : SoundSlices S L) (space : 64 ≤ length e) (roomy : 64 ≤ length buf) (long : length p ≡ w .have) (counted : w .consumed + w .have + w .left < 2 ^ 64) where
   abbrev ranOn : Result Tables
   ranOn = runFrom S 0 (length e) (take (partEnd k p) p) (held .tables)
 
@@ -183,10 +183,10 @@ module _ {S : Settings} {k : Scope} {p e : List ℕ} {L : Lent} {w r : Work} {bu
   ran-before : Before S k (nextOf (ranOn .stop)) (ranOn .stop) (drop (ranOn .consumed) p) (ranOn .tables)
   ran-before = before-part S (length e) p (held .tables) k (ranOn .stop) refl
 
-  ran-same : (t : Tables) → Is S M t → ranOn .tables ≡ t
+  ran-same : (t : Tables) → Encodes S M t → ranOn .tables ≡ t
   ran-same t i = sym (is-tables S M (ranOn .tables) (l .tables)) ∙ is-tables S M t i
 
-  ran-told : (t : Tables) → Is S M t → Before S k (r .next) (r .stop) (take (r .have) buf) t
+  ran-told : (t : Tables) → Encodes S M t → Before S k (r .next) (r .stop) (take (r .have) buf) t
   ran-told t i =
       ⊎-elim
       (λ (z : r .next ≡ nextOf (ranOn .stop)). rw (z, l .stop, l .rest, ← ran-same t i) ran-before)

@@ -15,7 +15,7 @@ use Rattle.model.proofs.Soundness.{start-sound}
 use Rattle.model.specs.Tables.{Tables, start}
 use Rattle.model.specs.Range.{inRange}
 use Rattle.model.specs.Lent.{Lent, encode, lengthsFit}
-use Rattle.model.specs.Inner.{Is}
+use Rattle.model.specs.Inner.{Encodes}
 use Rattle.model.specs.Records.{isCommand, isSettings, lengthOf}
 use Rattle.model.specs.RunnerOf as runner
 use Rattle.model.specs.Runner.{settingsOf, firstStop, goesOn, Result, halt, ahead, runFrom, lentResult, run}
@@ -198,7 +198,7 @@ module _ {L M N : Lent} {p buf c : List ℕ} {w v r : Work} {S : Settings} (s : 
   q : beginning L p ≡ Accepted S size
   q = sym (s .says)
 
-  fresh : Is S M (start S)
+  fresh : Encodes S M (start S)
   fresh = record {
     range = s .after scope.All .2 .held .are .range;
     soundly = start-sound S;

@@ -7,7 +7,7 @@ use mathlib.Core.List.{List, _++_}
 use lib.ListN.{length, take, drop}
 use Rattle.model.specs.Tables.{Tables}
 use Rattle.model.specs.Lent.{Lent}
-use Rattle.model.specs.Inner.{Is, Held}
+use Rattle.model.specs.Inner.{Encodes, SoundSlices}
 use Rattle.model.specs.Runner.{eventRoom, Result, ahead, runFrom}
 use Rattle.model.specs.declared.Settings.{Settings}
 use Rattle.running.specs.declared.Begun.{Begun}
@@ -25,19 +25,19 @@ use Rattle.streaming.specs.Halts.{Claims, Before}
 -- before a turn: the slices hold sound tables, the bytes that wait are in the buffer and counted, the last stop may be told and says what it
 -- says of them
 pub record Ready (S : Settings) (k : Scope) (L : Lent) (buf : List ℕ) (w : Work) : Type 0 where
-  pub held : Held S L
+  pub held : SoundSlices S L
   pub inside : w .have ≤ length buf
   pub roomy : 64 ≤ length buf
   pub counted : w .consumed + w .have + w .left < 2 ^ 64
   pub small : w .written < 2 ^ 64
   pub sure : Sure (w .next) (w .stop)
   pub few : Few (w .next) (w .have)
-  pub before : (t : Tables) → Is S L t → Before S k (w .next) (w .stop) (take (w .have) buf) t
+  pub before : (t : Tables) → Encodes S L t → Before S k (w .next) (w .stop) (take (w .have) buf) t
 
 -- o is what the part that is run of the bytes p comes to; the rest of them waits at the front of the buffer, and the totals grow by
 -- what it says: the bytes written are those that were handed out, whose place is the front of f
 pub record Leaves (S : Settings) (o : Result Tables) (p e : List ℕ) (w r : Work) (buf f : List ℕ) (M : Lent) : Type 0 where
-  pub tables : Is S M (o .tables)
+  pub tables : Encodes S M (o .tables)
   pub events : f ≡ o .events ++ drop (length (o .events)) e
   pub rest : take (r .have) buf ≡ drop (o .consumed) p
   pub have : r .have + o .consumed ≡ length p
@@ -49,7 +49,7 @@ pub record Leaves (S : Settings) (o : Result Tables) (p e : List ℕ) (w r : Wor
 
 -- from the tables that L holds
 pub record Ran (S : Settings) (k : Scope) (p e : List ℕ) (L : Lent) (w r : Work) (buf f : List ℕ) (M : Lent) : Type 0 where
-  pub on : (t : Tables) → Is S L t → Leaves S (runFrom S 0 (length e) (take (partEnd k p) p) t) p e w r buf f M
+  pub on : (t : Tables) → Encodes S L t → Leaves S (runFrom S 0 (length e) (take (partEnd k p) p) t) p e w r buf f M
   pub inside : r .have ≤ length buf
 
 -- ---- parts put together. Which bytes come, only the system can say: what is stated is of those that came, whatever they are
@@ -66,7 +66,7 @@ pub record Went (S : Settings) (size : ℕ) (t : Tables) (s : List ℕ) (w r : W
   pub eaten : ℕ
   pub events : List ℕ
   pub tables : Tables
-  pub are : Is S M tables
+  pub are : Encodes S M tables
   pub consumed : r .consumed ≡ w .consumed + eaten
   pub written : r .written ≡ (w .written + length events) % 2 ^ 64
   pub goes : Goes S size t s eaten events tables q
@@ -75,7 +75,7 @@ pub record Went (S : Settings) (size : ℕ) (t : Tables) (s : List ℕ) (w r : W
 pub record Came (S : Settings) (size : ℕ) (L : Lent) (p : List ℕ) (w r : Work) (q : List ℕ) (M : Lent) : Type 0 where
   pub bytes : List ℕ
   pub counted : r .left + length bytes ≡ w .left
-  pub on : (t : Tables) → Is S L t → Went S size t (p ++ bytes) w r q M
+  pub on : (t : Tables) → Encodes S L t → Went S size t (p ++ bytes) w r q M
 
 -- one turn: the next can come, and fewer are left
 pub record Turned (S : Settings) (k : Scope) (size : ℕ) (L : Lent) (p : List ℕ) (w r : Work) (buf : List ℕ) (M : Lent) : Type 0 where

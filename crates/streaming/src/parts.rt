@@ -14,7 +14,7 @@ ghost use mathlib.Core.Bool.{true};
 ghost use Prim.Native.Nat.{_+_, _^_, _≤_, _<_};
 ghost use lib.ListN.{length, take};
 ghost use Rattle.model.specs.Lent.{lent};
-ghost use Rattle.model.specs.Inner.{Held};
+ghost use Rattle.model.specs.Inner.{SoundSlices};
 ghost use Rattle.model.specs.Runner.{eventRoom};
 ghost use Rattle.layout.specs.Layout.{Placed};
 ghost use Rattle.running.specs.Begin.{firstRecord};
@@ -71,7 +71,7 @@ fn run_part(
     w: Work,
     scope: Scope,
 ) -> Work
-    requires { ⌜ Placed s laid × Held s (lent (now longs) (now words) (now marks)) ⌝ }
+    requires { ⌜ Placed s laid × SoundSlices s (lent (now longs) (now words) (now marks)) ⌝ }
     requires { ⌜ w .have ≤ length (now buf) ⌝ }
     requires { ⌜ w .consumed + w .have < 2 ^ 64 ⌝ }
     ensures { λ r. ⌜ Ran s scope (take (w .have) (now (buf .entry))) (now (events .entry)) (lent (now (longs .entry)) (now (words .entry)) (now (marks .entry)))

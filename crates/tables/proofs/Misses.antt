@@ -8,7 +8,7 @@ use native.Mathlib.Decide.{decLe}
 use native.Mathlib.Omega.{arith}
 use lib.ListN.{length, getD, set, drop, take, length-append}
 use lib.Seq.{take-take}
-use Rattle.words.specs.Words.{fit, places, joined}
+use Rattle.words.specs.Words.{fit, packed, joined}
 use Rattle.words.specs.Regions.{region, put, closed, dropped}
 use Rattle.model.specs.Tables.{Entry, Tables, withMisses}
 pub use Rattle.model.specs.Tables.{noEntry}
@@ -18,7 +18,7 @@ use Rattle.words.proofs.Places.{length-places, field-put, field-get, field-regi
 use Rattle.layout.specs.declared.Layout.{Layout}
 use Rattle.layout.specs.Layout.{Placed}
 use Rattle.layout.specs.Places.{First}
-use Rattle.layout.proofs.Stands.{Stands}
+use Rattle.layout.proofs.ByBlocks.{ByBlocks}
 use Rattle.layout.proofs.Grown.{places-same, places-push-idle, field-push, field-extend, field-close-first, field-used}
 
 abbrev pub withSent : Entry → Entry
@@ -34,7 +34,7 @@ region-part : (l : List ℕ) (i n w : ℕ) → n ≤ w → region l i n ≡ take
 unfolding region
 region-part l i n w h = sym (take-take n w (drop i l) h)
 
-module _ (S : Settings) (t : Tables) {longs words marks : List ℕ} (h : Stands S longs words marks t) {at : Layout} (p : Placed S at) (few : length (t .misses) ≤ S .misses) where
+module _ (S : Settings) (t : Tables) {longs words marks : List ℕ} (h : ByBlocks S longs words marks t) {at : Layout} (p : Placed S at) (few : length (t .misses) ≤ S .misses) where
   -- ---- what is read
 
   pub misses-used : ((k : ℕ) → k < length (t .misses) → 1 ≤ length (getD (t .misses) k noEntry .tickets)) → {r : ℕ} → First marks (at .counts) (S .misses) 0 r → r ≡ length (t .misses)
@@ -69,7 +69,7 @@ module _ (S : Settings) (t : Tables) {longs words marks : List ℕ} (h : Stands 
     -- ---- what is written
 
     -- its sent mark
-    pub sent-stands : {marks′ : List ℕ} → marks′ ≡ put marks (at .sent + e) (1 ∷ []) → Stands S longs words marks′ (withMisses (set (t .misses) e (withSent (getD (t .misses) e noEntry))) t)
+    pub sent-stands : {marks′ : List ℕ} → marks′ ≡ put marks (at .sent + e) (1 ∷ []) → ByBlocks S longs words marks′ (withMisses (set (t .misses) e (withSent (getD (t .misses) e noEntry))) t)
     unfolding fit
     sent-stands c =
         let y = withSent (getD (t .misses) e noEntry) in record {
@@ -83,20 +83,20 @@ module _ (S : Settings) (t : Tables) {longs words marks : List ℕ} (h : Stands 
     pub remove-stands : (m : ℕ) → length (t .misses) ≤ m → m ≤ S .misses → {longs′ words′ marks′ : List ℕ}
         → (longs′ ≡ closed longs (at .misses + e) (m - e) 1) × (words′ ≡ closed words (at .tickets + S .readers * e) (S .readers * (m - e)) (S .readers))
         × (marks′ ≡ closed (closed marks (at .sent + e) (m - e) 1) (at .counts + e) (m - e) 1)
-        → Stands S longs′ words′ marks′ (withMisses (dropped e (t .misses)) t)
+        → ByBlocks S longs′ words′ marks′ (withMisses (dropped e (t .misses)) t)
     remove-stands m f g c =
-        let first : closed marks (at .sent + e) (m - e) 1 ≡ joined (set (markBlocks S t) 2 (places sentOf 1 (S .misses) (dropped e (t .misses)))) =
+        let first : closed marks (at .sent + e) (m - e) 1 ≡ joined (set (markBlocks S t) 2 (packed sentOf 1 (S .misses) (dropped e (t .misses)))) =
         field-close-first sentOf 1 (S .misses) (t .misses) (markBlocks S t) 2 (h .as-marks) refl (omega arith) few m e {i = at .sent + e} (simp length-places (omega arith)) below f g (omega arith) refl in
         record {
           as-longs = field-close-first missOf 1 (S .misses) (t .misses) (longBlocks S t) 1 (h .as-longs) refl (omega arith) few m e (simp length-places (omega arith)) below f g (omega arith) (c .0);
           as-words = field-close-first ticketsIn (S .readers) (S .misses) (t .misses) (wordBlocks S t) 3 (h .as-words) refl (omega arith) few m e (simp length-places (omega arith)) below f g refl (c .1);
-          as-marks = field-close-first ticketCountOf 1 (S .misses) (t .misses) (set (markBlocks S t) 2 (places sentOf 1 (S .misses) (dropped e (t .misses)))) 3 first refl (omega arith) few m e (simp length-places (omega arith)) below f g (omega arith) (c .2);
+          as-marks = field-close-first ticketCountOf 1 (S .misses) (t .misses) (set (markBlocks S t) 2 (packed sentOf 1 (S .misses) (dropped e (t .misses)))) 3 first refl (omega arith) few m e (simp length-places (omega arith)) below f g (omega arith) (c .2);
         }
 
     -- a ticket behind its n
     pub append-stands : (k n : ℕ) → n ≡ length (getD (t .misses) e noEntry .tickets) → n < S .readers → {words′ marks′ : List ℕ}
         → (words′ ≡ put words (at .tickets + S .readers * e + n) (k ∷ [])) × (marks′ ≡ put marks (at .counts + e) ((n + 1) ∷ []))
-        → Stands S longs words′ marks′ (withMisses (set (t .misses) e (withTicket k (getD (t .misses) e noEntry))) t)
+        → ByBlocks S longs words′ marks′ (withMisses (set (t .misses) e (withTicket k (getD (t .misses) e noEntry))) t)
     unfolding fit
     append-stands k n is room c =
         let y = withTicket k (getD (t .misses) e noEntry) in
@@ -111,7 +111,7 @@ module _ (S : Settings) (t : Tables) {longs words marks : List ℕ} (h : Stands 
   -- an entry behind the others
   pub new-entry-stands : (a k n : ℕ) → n ≡ length (t .misses) → n < S .misses → 1 ≤ S .readers → {longs′ words′ marks′ : List ℕ}
       → (longs′ ≡ put longs (at .misses + n) (a ∷ [])) × (words′ ≡ put words (at .tickets + S .readers * n) (k ∷ [])) × (marks′ ≡ put marks (at .counts + n) (1 ∷ []))
-      → Stands S longs′ words′ marks′ (withMisses (t .misses ++ (unsent a k ∷ [])) t)
+      → ByBlocks S longs′ words′ marks′ (withMisses (t .misses ++ (unsent a k ∷ [])) t)
   unfolding fit
   new-entry-stands a k n is room some c =
       let w : S .readers * n ≡ S .readers * length (t .misses) = ap (λ (x : ℕ). S .readers * x) is in

@@ -7,7 +7,7 @@ use Prim.Native.Nat.{ℕ, zero, suc, _<_}
 use native.Mathlib.Nat.{not-suc-le-zero, le-of-suc-le-suc}
 use native.Mathlib.Omega.{arith}
 use lib.ListN.{length, getD, set, drop}
-use Rattle.words.specs.Words.{places, keep}
+use Rattle.words.specs.Words.{packed, keep}
 use Rattle.words.specs.Regions.{dropped}
 
 module _ {A : Type 0} where
@@ -28,8 +28,8 @@ module _ {A : Type 0} where
   dropped-first (x ∷ l) = refl
 
   -- a field that a map leaves
-  pub places-map : (g : A → List ℕ) (f : A → A) → ((x : A) → g (f x) ≡ g x) → (w n : ℕ) (l : List A) → places g w n (map f l) ≡ places g w n l
-  unfolding places
+  pub places-map : (g : A → List ℕ) (f : A → A) → ((x : A) → g (f x) ≡ g x) → (w n : ℕ) (l : List A) → packed g w n (map f l) ≡ packed g w n l
+  unfolding packed
   places-map g f h w zero l = refl
   places-map g f h w (suc n) [] = refl
   places-map g f h w (suc n) (x ∷ l) = rw (h x, places-map g f h w n l)

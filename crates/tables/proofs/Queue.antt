@@ -5,22 +5,22 @@ use Prim.Native.Nat.{ℕ, zero, suc, _+_, _*_, _≤_, _<_}
 use native.Mathlib.Nat.{le-of-suc-le-suc, not-suc-le-zero}
 use native.Mathlib.Omega.{arith}
 use lib.ListN.{length, getD, drop}
-use Rattle.words.specs.Words.{fit, places}
-use Rattle.words.specs.Regions.{put, closed, ahead}
+use Rattle.words.specs.Words.{fit, packed}
+use Rattle.words.specs.Regions.{put, closed, offsetIn}
 use Rattle.model.specs.Tables.{idle, Tables, withQueue}
 use Rattle.model.specs.Numbers.{queueKindNumber, queueKindOf}
 use Rattle.model.specs.Lent.{longBlocks, wordBlocks, markBlocks, queuedOf, queueMasksOf, kindOf}
 use Rattle.model.specs.declared.Settings.{Settings}
 use Rattle.model.specs.declared.Queued.{Queued}
 use Rattle.words.proofs.Places.{length-places, field-get}
-use Rattle.encoding.proofs.Shapes.{kind-some, kind-back, queued-back}
+use Rattle.encoding.proofs.NumbersAreTables.{kind-some, kind-back, queued-back}
 use Rattle.tables.specs.Raw.{frontAt}
 use Rattle.layout.specs.declared.Layout.{Layout}
 use Rattle.layout.specs.Layout.{Placed}
 use Rattle.layout.specs.Places.{First}
 use Rattle.tables.proofs.Ones.{dropped-first}
 use Rattle.layout.proofs.Stores.{four-whole}
-use Rattle.layout.proofs.Stands.{Stands}
+use Rattle.layout.proofs.ByBlocks.{ByBlocks}
 use Rattle.layout.proofs.Grown.{field-push, field-close-first, field-used}
 
 kind-used : (x : Queued) → getD (fit 1 (kindOf x)) 0 0 ≡ 0 → ⊥
@@ -41,7 +41,7 @@ front-of : (x : Queued) → length (x .masks) ≡ 4 → {k a m0 m1 m2 m3 : ℕ} 
     → record { kind = queueKindOf k; address = a; masks = m0 ∷ m1 ∷ m2 ∷ m3 ∷ [] } ≡ x
 front-of x four e f g0 g1 g2 g3 = queued-back x (ap queueKindOf e ∙ kind-back (x .kind)) f (rw (g0, g1, g2, g3) (four-whole 0 (x .masks) four))
 
-module _ (S : Settings) (t : Tables) {longs words marks : List ℕ} (h : Stands S longs words marks t) {at : Layout} (p : Placed S at) (few : length (t .queue) ≤ S .queue) where
+module _ (S : Settings) (t : Tables) {longs words marks : List ℕ} (h : ByBlocks S longs words marks t) {at : Layout} (p : Placed S at) (few : length (t .queue) ≤ S .queue) where
   pub queue-used : {r : ℕ} → First marks (at .kinds) (S .queue) 0 r → r ≡ length (t .queue)
   queue-used f =
       field-used kindOf (S .queue) (t .queue) (markBlocks S t) 4 {i = at .kinds} (h .as-marks) refl (simp length-places (omega arith)) (omega arith) few idle
@@ -50,7 +50,7 @@ module _ (S : Settings) (t : Tables) {longs words marks : List ℕ} (h : Stands 
   -- the first m places close up
   pub pop-stands : (m : ℕ) → 1 ≤ length (t .queue) → length (t .queue) ≤ m → m ≤ S .queue → {longs′ words′ marks′ : List ℕ}
       → (longs′ ≡ closed longs (at .queue) m 1) × (words′ ≡ closed words (at .backs) (4 * m) 4) × (marks′ ≡ closed marks (at .kinds) m 1)
-      → Stands S longs′ words′ marks′ (withQueue (drop 1 (t .queue)) t)
+      → ByBlocks S longs′ words′ marks′ (withQueue (drop 1 (t .queue)) t)
   pop-stands m some f g c =
       rw (sym (dropped-first (t .queue))) record {
         as-longs = field-close-first queuedOf 1 (S .queue) (t .queue) (longBlocks S t) 2 (h .as-longs) refl (omega arith) few m 0 (simp length-places (omega arith)) some f g (omega arith) (c .0);
@@ -62,7 +62,7 @@ module _ (S : Settings) (t : Tables) {longs words marks : List ℕ} (h : Stands 
   pub push-stands : (x : Queued) (n : ℕ) → length (x .masks) ≡ 4 → n ≡ length (t .queue) → n < S .queue → {longs′ words′ marks′ : List ℕ}
       → (longs′ ≡ put longs (at .queue + n) (x .address ∷ [])) × (words′ ≡ put words (at .backs + 4 * n) (x .masks))
       × (marks′ ≡ put marks (at .kinds + n) (queueKindNumber (x .kind) ∷ []))
-      → Stands S longs′ words′ marks′ (withQueue (t .queue ++ (x ∷ [])) t)
+      → ByBlocks S longs′ words′ marks′ (withQueue (t .queue ++ (x ∷ [])) t)
   push-stands x n four e room c = record {
     as-longs = field-push queuedOf 1 (S .queue) (t .queue) (longBlocks S t) 2 (h .as-longs) refl (omega arith) few (simp length-places (omega arith)) (omega arith) x refl (omega arith) (c .0);
     as-words = field-push queueMasksOf 4 (S .queue) (t .queue) (wordBlocks S t) 4 (h .as-words) refl (omega arith) few (simp length-places (omega arith)) (omega arith) x refl (omega arith) (c .1);
@@ -84,7 +84,7 @@ module _ (S : Settings) (t : Tables) {longs words marks : List ℕ} (h : Stands 
 
     head-mask : (j q : ℕ) → j < 4 → q ≡ at .backs + j → getD words q 0 ≡ getD (getD (t .queue) 0 idle .masks) j 0
     head-mask j q b f =
-        let start : at .backs ≡ ahead (wordBlocks S t) 4 + 4 * 0 = simp length-places (omega arith) in
+        let start : at .backs ≡ offsetIn (wordBlocks S t) 4 + 4 * 0 = simp length-places (omega arith) in
         field-get queueMasksOf 4 (S .queue) (t .queue) (wordBlocks S t) 4 0 {i = at .backs} (h .as-words) refl start (omega arith) some few idle j b f
         ∙ fit-get 4 (getD (t .queue) 0 idle .masks) j b
 

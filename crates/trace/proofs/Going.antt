@@ -10,7 +10,7 @@ use lib.ListN.{length, take, length-take}
 use Rattle.words.proofs.Flags.{by-flag, and-2}
 use Rattle.model.specs.Tables.{Tables}
 use Rattle.model.specs.Lent.{Lent}
-use Rattle.model.specs.Inner.{Held}
+use Rattle.model.specs.Inner.{SoundSlices}
 use Rattle.model.specs.Runner.{Result}
 use Rattle.model.specs.declared.Settings.{Settings}
 use Rattle.model.specs.declared.Ran.{Ran}
@@ -18,7 +18,7 @@ use Rattle.model.specs.declared.Stop.{Stop}
 use Rattle.model.specs.declared.Stop.the-variants as stop
 use Rattle.running.specs.Begin.{beginning}
 use Rattle.running.specs.declared.Begun.the-variants.{Stopped}
-use Rattle.running.specs.Resume.{Stands, Resumes}
+use Rattle.running.specs.Resume.{RunAt, Resumes}
 use Rattle.input.specs.Buffers.{Grown, turnsLeft, carriedCount}
 use Rattle.input.specs.declared.Ended.{Ended}
 use Rattle.input.specs.declared.More.{More}
@@ -91,12 +91,12 @@ carried-inside l from to e k q = omega (arith, carried-most l from to)
 
 -- ---- a record
 
-pub front-stands : {q : List ℕ} (s : List ℕ) {at : ℕ} (end : ℕ) (e : List ℕ) → q ≡ take end s → at ≤ end → at ≤ length s → Stands q at 0 e
+pub front-stands : {q : List ℕ} (s : List ℕ) {at : ℕ} (end : ℕ) (e : List ℕ) → q ≡ take end s → at ≤ end → at ≤ length s → RunAt q at 0 e
 front-stands s end e is h k = record { inside = let z = ap length is ∙ length-take end s in omega arith; room = omega arith }
 
 module _ {S : Settings} {o : Tables → Result Tables} {q : List ℕ} {at out : ℕ} {e : List ℕ} {L : Lent} {r : Ran} {f : List ℕ} {M : Lent}
-    (v : Resumes S o q at out e L r f M) (h : Held S L) where
-  pub ran-held : Held S M
+    (v : Resumes S o q at out e L r f M) (h : SoundSlices S L) where
+  pub ran-held : SoundSlices S M
   ran-held = record { tables = o (h .tables) .tables; are = v .keeps (h .tables) (h .are) }
 
   module _ (s : List ℕ) (end : ℕ) (is : q ≡ take end s) (t : Turn) {u : Turn} where

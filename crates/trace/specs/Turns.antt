@@ -4,7 +4,7 @@ use mathlib.Core.Path.{_≡_}
 use mathlib.Core.Bool.{false}
 use Prim.Native.Nat.{ℕ, _-_, _≤_}
 use Rattle.model.specs.Lent.{Lent}
-use Rattle.model.specs.Inner.{Held}
+use Rattle.model.specs.Inner.{SoundSlices}
 use Rattle.model.specs.declared.Settings.{Settings}
 use Rattle.model.specs.declared.Stop.{Stop}
 use Rattle.model.specs.declared.Stop.the-variants as stop
@@ -19,7 +19,7 @@ use Rattle.trace.specs.declared.work.Work.{Work}
 
 -- one record of a buffer of this size
 pub record Traced (S : Settings) (size : ℕ) (t r : Turn) (M : Lent) : Type 0 where
-  pub held : Held S M
+  pub held : SoundSlices S M
   pub inside : r .at ≤ size
   pub further : turnsLeft (r .more) (size - r .at) ≤ size - t .at
 
@@ -51,7 +51,7 @@ pub record Reads (size left : ℕ) (r : Work) : Type 0 where
 
 -- the records that wait, then a read
 pub record Turned (S : Settings) (size : ℕ) (w r : Work) (M : Lent) : Type 0 where
-  pub held : Held S M
+  pub held : SoundSlices S M
   pub read : Reads size (w .left) r
 
 -- stopped by the first record

@@ -15,7 +15,7 @@ ghost use mathlib.Core.Path.{_≡_};
 ghost use Prim.Native.Nat.{_≤_};
 ghost use lib.ListN.{length, take};
 ghost use Rattle.model.specs.Lent.{lent};
-ghost use Rattle.model.specs.Inner.{Held};
+ghost use Rattle.model.specs.Inner.{SoundSlices};
 ghost use Rattle.running.specs.Begin.{firstRecord};
 ghost use Rattle.streaming.specs.First.{Opened};
 ghost use Rattle.trace.specs.Turns.{Over};
@@ -31,7 +31,7 @@ fn trace_behind(
     marks: &mut [u8],
     have: usize,
 ) -> Work
-    requires { ⌜ Held s (lent (now longs) (now words) (now marks)) ⌝ }
+    requires { ⌜ SoundSlices s (lent (now longs) (now words) (now marks)) ⌝ }
     ensures { λ r. ⌜ Over r ⌝ }
 {
     let mut space = io::large_buffer();

@@ -13,7 +13,7 @@ ghost use mathlib.Core.Bool.{false};
 ghost use Prim.Native.Nat.{_≤_};
 ghost use lib.ListN.{length};
 ghost use Rattle.model.specs.Lent.{lent};
-ghost use Rattle.model.specs.Inner.{Held};
+ghost use Rattle.model.specs.Inner.{SoundSlices};
 ghost use Rattle.layout.specs.Layout.{Placed};
 ghost use Rattle.streaming.specs.declared.work.Next.the-variants as next;
 ghost use Rattle.streaming.specs.Works.{goesNext, stoppedNext};
@@ -189,7 +189,7 @@ fn turn(
     out: &mut [u8],
     w: Work,
 ) -> Work
-    requires { ⌜ Placed s laid × Held s (lent (now longs) (now words) (now marks)) ⌝ }
+    requires { ⌜ Placed s laid × SoundSlices s (lent (now longs) (now words) (now marks)) ⌝ }
     ensures { λ r. ⌜ Turned s (length (now (buf .exit))) w r (lent (now (longs .exit)) (now (words .exit)) (now (marks .exit))) ⌝ }
 {
     let bytes = text::front(buf, w.have);
@@ -239,7 +239,7 @@ pub(crate) fn trace_rest(
     out: &mut [u8],
     start: Work,
 ) -> Work
-    requires { ⌜ Held s (lent (now longs) (now words) (now marks)) ⌝ }
+    requires { ⌜ SoundSlices s (lent (now longs) (now words) (now marks)) ⌝ }
     requires { ⌜ start .next ≡ next.Run ⌝ }
     ensures { λ r. ⌜ Over r ⌝ }
 {

@@ -13,7 +13,7 @@ use Rattle.model.specs.Lent.{Lent, lent, bit}
 use Rattle.model.specs.Sound.{allOnes, sound}
 use Rattle.model.specs.Calls.{eventsTold}
 use Rattle.model.specs.Steps.{access, send, fill}
-use Rattle.model.specs.Inner.{Is, Held, Does}
+use Rattle.model.specs.Inner.{Encodes, SoundSlices, Does}
 use Rattle.model.specs.RecordsOf as records
 use Rattle.model.specs.Records.{logBytes, fillBytes}
 use Rattle.model.specs.Rounds.{steps, Turn, still, took, andThen, sendTurn, fillFirst, drain}
@@ -30,7 +30,7 @@ use Rattle.model.proofs.Soundness.{send-keeps-sound, fill-keeps-sound, access-k
 use Rattle.layout.specs.declared.Layout.{Layout}
 use Rattle.layout.specs.Layout.{Placed}
 use Rattle.layout.specs.Places.{First}
-use Rattle.layout.proofs.Stands.{is-stands}
+use Rattle.layout.proofs.ByBlocks.{is-stands}
 use Rattle.tables.proofs.Misses.{noEntry, misses-used, address-at, sent-at}
 use Rattle.tables.proofs.Queue.{queue-used}
 use Rattle.steps.proofs.Entries.{few-misses, few-queued, some-tickets}
@@ -43,7 +43,7 @@ use Rattle.turns.proofs.Noting.{noted-took, noted-then, noted-short, no
 -- ---- one call of a round
 
 -- a step's turn, and what was written of it
-step-turned : (S : Settings) {step : Tables → Outcome Tables} {L : Lent} {r : Told} {M : Lent} (d : Does S step L r M) (t : Tables) → Is S L t
+step-turned : (S : Settings) {step : Tables → Outcome Tables} {L : Lent} {r : Told} {M : Lent} (d : Does S step L r M) (t : Tables) → Encodes S L t
     → sound S (after t (step t)) ≡ true → Clear unrefused (step t) → {e : List ℕ} {out w : ℕ} {f : List ℕ} → Noted e out (noted r) w f
     → Turned S (took t (step t)) e out w f M
 step-turned S {step} {r = r} d t i ok p n = record {
@@ -52,7 +52,7 @@ step-turned S {step} {r = r} d t i ok p n = record {
 }
 
 -- no call: nothing is written
-still-turned : (S : Settings) {L : Lent} (t : Tables) → Is S L t → (e : List ℕ) (out : ℕ) → Turned S (still t) e out out e L
+still-turned : (S : Settings) {L : Lent} (t : Tables) → Encodes S L t → (e : List ℕ) (out : ℕ) → Turned S (still t) e out out e L
 unfolding records.logBytes
 still-turned S t i e out = record { are = i; bytes = record { next = omega arith; slice = refl; fits = tt } }
 
@@ -72,10 +72,10 @@ send-took S x t = go (t .queue) refl
     go (y ∷ q) e = rw e
 
 module _ (S : Settings) {L : Lent} {r : Told} {M : Lent} (d : Does S send L r M) where
-  pub send-bytes : Held S L → length (logBytes (eventsTold r)) ≤ 25
+  pub send-bytes : SoundSlices S L → length (logBytes (eventsTold r)) ≤ 25
   send-bytes h = rw (does-tells S d (h .tables) (h .are)) (send-takes (h .tables) .most)
 
-  pub sends : {e : List ℕ} {out w : ℕ} {f : List ℕ} → Held S L → Noted e out (noted r) w f → Sends S L e out w f M
+  pub sends : {e : List ℕ} {out w : ℕ} {f : List ℕ} → SoundSlices S L → Noted e out (noted r) w f → Sends S L e out w f M
   sends h n = record {
     on = λ x t i. rw (send-took S x t) (step-turned S d t i (send-keeps-sound S t (i .soundly)) (send-clear t) n);
     short = noted-short r 25 (send-bytes h) n;
@@ -102,7 +102,7 @@ bit-set true n e f = refl
 bit-set false n e f = absurd (omega arith)
 
 -- n entries are in use, and mark r is the first of theirs that is set
-module _ (S : Settings) {longs words marks : List ℕ} (t : Tables) (i : Is S (lent longs words marks) t) {at : Layout} (p : Placed S at)
+module _ (S : Settings) {longs words marks : List ℕ} (t : Tables) (i : Encodes S (lent longs words marks) t) {at : Layout} (p : Placed S at)
     {n : ℕ} (u : First marks (at .counts) (S .misses) 0 n) {r : ℕ} (f : First marks (at .sent) n 1 r) where
   in-use : n ≡ length (t .misses)
   in-use = let ok = parts S t (i .soundly) in misses-used S t (is-stands i) p (few-misses S t ok) (some-tickets S t ok) u
@@ -139,13 +139,13 @@ fill-first S x (y ∷ es) t = go (y .sent) (fill-first S x es t)
     go false ih = ih
 
 module _ (S : Settings) {L : Lent} {v : Sent} (found : FindsSent S L v) where
-  fill-at : (x : Access) (t : Tables) → Is S L t → {w : Sent} → v ≡ w → fillFirst (steps S x) (t .misses) t ≡ fillAt t w
+  fill-at : (x : Access) (t : Tables) → Encodes S L t → {w : Sent} → v ≡ w → fillFirst (steps S x) (t .misses) t ≡ fillAt t w
   fill-at x t i e = fill-first S x (t .misses) t ∙ ap (fillAt t) (sym (found .on t i) ∙ e)
 
   pub fills-none : v ≡ Nothing → (e : List ℕ) (out : ℕ) → Fills S L e out out e L
   fills-none q e out = record { on = λ x t i. rw (fill-at x t i q) (still-turned S t i e out); short = omega arith }
 
-  module _ {a : ℕ} (q : v ≡ At a) {r : Told} {M : Lent} (d : Does S (fill a) L r M) (h : Held S L) where
+  module _ {a : ℕ} (q : v ≡ At a) {r : Told} {M : Lent} (d : Does S (fill a) L r M) (h : SoundSlices S L) where
     pub fill-bytes : length (logBytes (eventsTold r)) ≤ fillBytes
     fill-bytes = let i = h .are in rw (does-tells S d (h .tables) i) (step-takes S (cmd.Fill a) (h .tables) (i .range) (i .soundly) .most)
 
@@ -158,22 +158,22 @@ module _ (S : Settings) {L : Lent} {v : Sent} (found : FindsSent S L v) where
 -- ---- the whole round
 
 module _ (S : Settings) (x : Access) {L : Lent} {e : List ℕ} {out w : ℕ} {f : List ℕ} {M : Lent} (s : Sends S L e out w f M) where
-  pub sends-held : Held S L → Held S M
+  pub sends-held : SoundSlices S L → SoundSlices S M
   sends-held h = let u = s .on x (h .tables) (h .are) in record { tables = _; are = u .are }
 
   module _ {v : ℕ} {g : List ℕ} {N : Lent} (fs : Fills S M f w v g N) where
-    drained : (t : Tables) → Is S L t → Turned S (drain (steps S x) t) e out v g N
+    drained : (t : Tables) → Encodes S L t → Turned S (drain (steps S x) t) e out v g N
     unfolding drain
     drained t i = let u = s .on x t i in turned-then S (λ y. fillFirst (steps S x) (y .misses) y) u (fs .on x (sendTurn (steps S x) t .left) (u .are))
 
-    pub drained-held : Held S L → Held S N
+    pub drained-held : SoundSlices S L → SoundSlices S N
     drained-held h = let u = drained (h .tables) (h .are) in record { tables = _; are = u .are }
 
     module _ {r : Told} {O : Lent} (d : Does S (access S x) N r O) where
-      pub offer-bytes : Held S N → length (logBytes (eventsTold r)) ≤ 38
+      pub offer-bytes : SoundSlices S N → length (logBytes (eventsTold r)) ≤ 38
       offer-bytes h = rw (does-tells S d (h .tables) (h .are)) (access-takes S x (h .tables) .most)
 
-      pub offers : Held S L → maskOf x ≤ allOnes → {z : ℕ} {h : List ℕ} → Noted g v (noted r) z h → Offers S x L e out record { told = r; written = z } h O
+      pub offers : SoundSlices S L → maskOf x ≤ allOnes → {z : ℕ} {h : List ℕ} → Noted g v (noted r) z h → Offers S x L e out record { told = r; written = z } h O
       offers held small {z} n =
           let k = drained-held held in
           let b = noted-short r 38 (offer-bytes k) n in
@@ -196,7 +196,7 @@ module _ (S : Settings) (x : Access) {L : Lent} {e : List ℕ} {out w : ℕ} {f 
 
 module _ (S : Settings) {longs words marks : List ℕ} {at : Layout} (p : Placed S at)
     {q : ℕ} (f : First marks (at .kinds) (S .queue) 0 q) {m : ℕ} (u : First marks (at .counts) (S .misses) 0 m) where
-  pub counted : (t : Tables) → Is S (lent longs words marks) t → (q ≡ length (t .queue)) × (m ≡ length (t .misses))
+  pub counted : (t : Tables) → Encodes S (lent longs words marks) t → (q ≡ length (t .queue)) × (m ≡ length (t .misses))
   counted t i =
       let ok = parts S t (i .soundly) in
       (queue-used S t (is-stands i) p (few-queued S t ok) f, misses-used S t (is-stands i) p (few-misses S t ok) (some-tickets S t ok) u)

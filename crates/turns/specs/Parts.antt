@@ -9,7 +9,7 @@ use Rattle.words.specs.Words.{pick}
 use Rattle.model.specs.Tables.{Entry, Tables, Outcome, after, eventsOf}
 use Rattle.model.specs.Lent.{Lent}
 use Rattle.model.specs.Calls.{eventsTold, tidied}
-use Rattle.model.specs.Inner.{Is}
+use Rattle.model.specs.Inner.{Encodes}
 use Rattle.model.specs.Records.{logBytes, fillBytes, roundBytes, settleBytes}
 use Rattle.model.specs.Rounds.{steps, Turn, took, sendTurn, fillFirst, drain}
 use Rattle.model.specs.Steps.{access}
@@ -54,31 +54,31 @@ firstSent [] = Nothing
 firstSent (e ∷ es) = pick (e .sent) (At (e .address)) (firstSent es)
 
 pub record FindsSent (S : Settings) (L : Lent) (r : Sent) : Type 0 where
-  pub on : (t : Tables) → Is S L t → r ≡ firstSent (t .misses)
+  pub on : (t : Tables) → Encodes S L t → r ≡ firstSent (t .misses)
 
 -- the calls of a on the tables t wrote behind `out` bytes and left M
 pub record Turned (S : Settings) (a : Turn Tables) (e : List ℕ) (out w : ℕ) (f : List ℕ) (M : Lent) : Type 0 where
-  pub are : Is S M (a .left)
+  pub are : Encodes S M (a .left)
   pub bytes : Noted e out (a .events) w f
 
 -- a round's send, and its fill, whatever is offered
 pub record Sends (S : Settings) (L : Lent) (e : List ℕ) (out w : ℕ) (f : List ℕ) (M : Lent) : Type 0 where
-  pub on : (x : Access) (t : Tables) → Is S L t → Turned S (sendTurn (steps S x) t) e out w f M
+  pub on : (x : Access) (t : Tables) → Encodes S L t → Turned S (sendTurn (steps S x) t) e out w f M
   pub short : w ≤ out + 25
 
 pub record Fills (S : Settings) (L : Lent) (e : List ℕ) (out w : ℕ) (f : List ℕ) (M : Lent) : Type 0 where
-  pub on : (x : Access) (t : Tables) → Is S L t → Turned S (fillFirst (steps S x) (t .misses) t) e out w f M
+  pub on : (x : Access) (t : Tables) → Encodes S L t → Turned S (fillFirst (steps S x) (t .misses) t) e out w f M
   pub short : w ≤ out + fillBytes
 
 -- a round whose offer came to o on the tables u, which its send and fill left
 pub record Offered (S : Settings) (a : Turn Tables) (o : Outcome Tables) (e : List ℕ) (out : ℕ) (r : Round) (f : List ℕ) (M : Lent) : Type 0 where
-  pub are : Is S M (after (a .left) o)
+  pub are : Encodes S M (after (a .left) o)
   pub tells : eventsTold (r .told) ≡ eventsOf o
   pub tidy : tidied (r .told) ≡ r .told
   pub bytes : Noted e out (a .events ++ took (a .left) o .events) (r .written) f
 
 pub record Offers (S : Settings) (x : Access) (L : Lent) (e : List ℕ) (out : ℕ) (r : Round) (f : List ℕ) (M : Lent) : Type 0 where
-  pub on : (t : Tables) → Is S L t → Offered S (drain (steps S x) t) (access S x (drain (steps S x) t .left)) e out r f M
+  pub on : (t : Tables) → Encodes S L t → Offered S (drain (steps S x) t) (access S x (drain (steps S x) t .left)) e out r f M
   pub short : r .written ≤ out + roundBytes
   -- a send and a fill alone
   pub refused : isRefusal (r .told .first) ≡ true → r .written ≤ out + settleBytes
@@ -87,5 +87,5 @@ pub record Offers (S : Settings) (x : Access) (L : Lent) (e : List ℕ) (out : �
 
 -- round max(1, q + m)
 pub record Enough (S : Settings) (L : Lent) (r : ℕ) : Type 0 where
-  pub on : (t : Tables) → Is S L t → r ≡ suc (length (t .queue) + length (t .misses) - 1)
+  pub on : (t : Tables) → Encodes S L t → r ≡ suc (length (t .queue) + length (t .misses) - 1)
   pub few : r ≤ 128

@@ -13,7 +13,7 @@ ghost use Rattle.model.specs.Address.{maskOf};
 ghost use Rattle.model.specs.Sound.{allOnes};
 ghost use Rattle.model.specs.Lent.{lent};
 ghost use Rattle.model.specs.Calls.{eventsTold};
-ghost use Rattle.model.specs.Inner.{Held};
+ghost use Rattle.model.specs.Inner.{SoundSlices};
 ghost use Rattle.model.specs.Records.{logBytes, fillBytes, roundBytes};
 ghost use Rattle.layout.specs.Layout.{Placed};
 ghost use Rattle.turns.specs.Parts.{isRefusal, noted, Noted, FindsSent, Sends, Fills, Offers, Enough};
@@ -80,7 +80,7 @@ fn note(told: Told, events: &mut [u8], out: usize) -> usize
 
 // The first entry marked sent, the oldest.
 pub fn first_sent(s: Settings, at: Layout, longs: &[u64], words: &[u32], marks: &[u8]) -> Sent
-    requires { ⌜ Placed s at × Held s (lent (now longs) (now words) (now marks)) ⌝ }
+    requires { ⌜ Placed s at × SoundSlices s (lent (now longs) (now words) (now marks)) ⌝ }
     ensures { λ r. ⌜ FindsSent s (lent (now (longs .entry)) (now (words .entry)) (now (marks .entry))) r ⌝ }
 {
     let n = layout::used(marks, at.counts, s.misses);
@@ -102,7 +102,7 @@ fn send_turn(
     events: &mut [u8],
     out: usize,
 ) -> usize
-    requires { ⌜ Placed s at × Held s (lent (now longs) (now words) (now marks)) ⌝ }
+    requires { ⌜ Placed s at × SoundSlices s (lent (now longs) (now words) (now marks)) ⌝ }
     requires { ⌜ out + 25 ≤ length (now events) ⌝ }
     ensures { λ r. ⌜ Sends s (lent (now (longs .entry)) (now (words .entry)) (now (marks .entry))) (now (events .entry)) out r
         (now (events .exit)) (lent (now (longs .exit)) (now (words .exit)) (now (marks .exit))) ⌝ }
@@ -121,7 +121,7 @@ fn fill_turn(
     events: &mut [u8],
     out: usize,
 ) -> usize
-    requires { ⌜ Placed s at × Held s (lent (now longs) (now words) (now marks)) ⌝ }
+    requires { ⌜ Placed s at × SoundSlices s (lent (now longs) (now words) (now marks)) ⌝ }
     requires { ⌜ out + fillBytes ≤ length (now events) ⌝ }
     ensures { λ r. ⌜ Fills s (lent (now (longs .entry)) (now (words .entry)) (now (marks .entry))) (now (events .entry)) out r
         (now (events .exit)) (lent (now (longs .exit)) (now (words .exit)) (now (marks .exit))) ⌝ }
@@ -146,7 +146,7 @@ pub fn one_round(
     events: &mut [u8],
     out: usize,
 ) -> Round
-    requires { ⌜ Placed s at × Held s (lent (now longs) (now words) (now marks)) ⌝ }
+    requires { ⌜ Placed s at × SoundSlices s (lent (now longs) (now words) (now marks)) ⌝ }
     requires { ⌜ (out + roundBytes ≤ length (now events)) × (maskOf x ≤ allOnes) ⌝ }
     ensures { λ r. ⌜ Offers s x (lent (now (longs .entry)) (now (words .entry)) (now (marks .entry))) (now (events .entry)) out r
         (now (events .exit)) (lent (now (longs .exit)) (now (words .exit)) (now (marks .exit))) ⌝ }
@@ -160,7 +160,7 @@ pub fn one_round(
 
 // Queue entries and miss entries together, and at least 1.
 pub fn most_rounds(s: Settings, at: Layout, longs: &[u64], words: &[u32], marks: &[u8]) -> usize
-    requires { ⌜ Placed s at × Held s (lent (now longs) (now words) (now marks)) ⌝ }
+    requires { ⌜ Placed s at × SoundSlices s (lent (now longs) (now words) (now marks)) ⌝ }
     ensures { λ r. ⌜ Enough s (lent (now (longs .entry)) (now (words .entry)) (now (marks .entry))) r ⌝ }
 {
     let queued = layout::used(marks, at.kinds, s.queue);

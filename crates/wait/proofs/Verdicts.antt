@@ -9,7 +9,7 @@ use Rattle.words.specs.Words.{any}
 use Rattle.model.specs.Address.{wellFormed}
 use Rattle.model.specs.Tables.{Tables, Outcome, refused, done, accepted}
 use Rattle.model.specs.Lent.{Lent}
-use Rattle.model.specs.Inner.{Held}
+use Rattle.model.specs.Inner.{SoundSlices}
 use Rattle.model.specs.Rounds.{steps, Run, rounds}
 use Rattle.model.specs.declared.Settings.{Settings}
 use Rattle.model.specs.declared.Access.{Access}
@@ -38,11 +38,11 @@ unfolding rounds
 no-offers S x t = refl
 
 -- refused before the first round
-pub ends-malformed : {S : Settings} (x : Access) {L : Lent} → Held S L → wellFormed x ≡ false → wait.Refused BadAccess ≡ waitCall S x L .waiting
+pub ends-malformed : {S : Settings} (x : Access) {L : Lent} → SoundSlices S L → wellFormed x ≡ false → wait.Refused BadAccess ≡ waitCall S x L .waiting
 ends-malformed {S} x {L} h formed = sym (ap (λ (w : Wait Lent). w .waiting) (wait-malformed S x L (h .tables) (h .are) formed))
 
 module _ {S : Settings} {x : Access} {most : ℕ} {L₀ : Lent} {e₀ : List ℕ} {round out : ℕ} {L : Lent} {e : List ℕ}
-    (g : Goes S x most L₀ e₀ round out L e) (held : Held S L₀) (formed : wellFormed x ≡ true) (enough : Enough S L₀ most) where
+    (g : Goes S x most L₀ e₀ round out L e) (held : SoundSlices S L₀) (formed : wellFormed x ≡ true) (enough : Enough S L₀ most) where
   abbrev run : Run Tables
   run = rounds (steps S x) most (held .tables)
 

@@ -11,7 +11,7 @@ ghost use Prim.Native.Nat.{_≤_};
 ghost use Rattle.model.specs.Address.{maskOf, wellFormed};
 ghost use Rattle.model.specs.Sound.{allOnes};
 ghost use Rattle.model.specs.Lent.{lent};
-ghost use Rattle.model.specs.Inner.{Held};
+ghost use Rattle.model.specs.Inner.{SoundSlices};
 ghost use Rattle.layout.specs.Layout.{Placed};
 ghost use Rattle.rounds.specs.Waiting.{waitCall};
 ghost use Rattle.turns.specs.Parts.{Enough};
@@ -30,7 +30,7 @@ struct Ended {
 }
 
 fn in_use(s: Settings, at: Layout, longs: &[u64], words: &[u32], marks: &[u8]) -> Counts
-    requires { ⌜ Placed s at × Held s (lent (now longs) (now words) (now marks)) ⌝ }
+    requires { ⌜ Placed s at × SoundSlices s (lent (now longs) (now words) (now marks)) ⌝ }
     ensures { λ r. ⌜ Counted s (lent (now (longs .entry)) (now (words .entry)) (now (marks .entry))) r ⌝ }
 {
     let queued = layout::used(marks, at.kinds, s.queue);
@@ -49,7 +49,7 @@ fn wait_rounds(
     most: usize,
     started: bool,
 ) -> Ended
-    requires { ⌜ Placed s at × Held s (lent (now longs) (now words) (now marks)) ⌝ }
+    requires { ⌜ Placed s at × SoundSlices s (lent (now longs) (now words) (now marks)) ⌝ }
     requires { ⌜ (wellFormed x ≡ true) × (maskOf x ≤ allOnes) ⌝ }
     requires { ⌜ Enough s (lent (now longs) (now words) (now marks)) most ⌝ }
     ensures { λ r. ⌜ r .waiting ≡ waitCall s x (lent (now (longs .entry)) (now (words .entry)) (now (marks .entry))) .waiting ⌝ }
@@ -84,7 +84,7 @@ pub(crate) fn wait_for(
     x: Access,
     place: u64,
 ) -> Waiting
-    requires { ⌜ Held s (lent (now longs) (now words) (now marks)) ⌝ }
+    requires { ⌜ SoundSlices s (lent (now longs) (now words) (now marks)) ⌝ }
     ensures { λ r. ⌜ r ≡ waitCall s x (lent (now (longs .entry)) (now (words .entry)) (now (marks .entry))) .waiting ⌝ }
 {
     if !access::well_formed(x) {

@@ -7,8 +7,8 @@ use native.Mathlib.Numerals.{add-one}
 use native.Mathlib.Omega.{arith}
 use lib.ListN.{take-append-drop, length, take, drop, getD, set, replicate, length-append, length-take, length-drop, length-replicate, List·getD-append}
 use lib.Seq.{take-append-le, drop-append-le, drop-append-add, take-append-add, sets, sets-eq, drop-drop, take-at, drop-at, take-all, drop-length, getD-append-add, length-take-le, paste, paste-zero, paste-suc}
-use Rattle.words.specs.Regions.{region, put, closedUp, closed, ahead, dropped}
-use Rattle.words.specs.Words.{fit, places, joined}
+use Rattle.words.specs.Regions.{region, put, closedUp, closed, offsetIn, dropped}
+use Rattle.words.specs.Words.{fit, packed, joined}
 use Rattle.words.proofs.Region.{getD-region, length-closed, length-region}
 
 -- ---- a slice of two parts
@@ -46,23 +46,23 @@ sets-put l i vs h = sets-eq vs l i h
 
 -- ---- blocks
 
-region-block : (bs : List (List ℕ)) (j k m : ℕ) → j < length bs → k + m ≤ length (getD bs j []) → region (joined bs) (ahead bs j + k) m ≡ region (getD bs j []) k m
+region-block : (bs : List (List ℕ)) (j k m : ℕ) → j < length bs → k + m ≤ length (getD bs j []) → region (joined bs) (offsetIn bs j + k) m ≡ region (getD bs j []) k m
 region-block [] j k m h g = absurd (not-suc-le-zero h)
 region-block (b ∷ bs) zero k m h g = rw zero-add (region-within b (joined bs) k m g)
-region-block (b ∷ bs) (suc j) k m h g = rw add-assoc (region-past b (joined bs) (ahead bs j + k) m ∙ region-block bs j k m (le-of-suc-le-suc h) g)
+region-block (b ∷ bs) (suc j) k m h g = rw add-assoc (region-past b (joined bs) (offsetIn bs j + k) m ∙ region-block bs j k m (le-of-suc-le-suc h) g)
 
-put-block : (bs : List (List ℕ)) (j k : ℕ) (r : List ℕ) → j < length bs → k + length r ≤ length (getD bs j []) → put (joined bs) (ahead bs j + k) r ≡ joined (set bs j (put (getD bs j []) k r))
+put-block : (bs : List (List ℕ)) (j k : ℕ) (r : List ℕ) → j < length bs → k + length r ≤ length (getD bs j []) → put (joined bs) (offsetIn bs j + k) r ≡ joined (set bs j (put (getD bs j []) k r))
 put-block [] j k r h g = absurd (not-suc-le-zero h)
 put-block (b ∷ bs) zero k r h g = rw zero-add (put-within b (joined bs) k r g)
-put-block (b ∷ bs) (suc j) k r h g = rw add-assoc (put-past b (joined bs) (ahead bs j + k) r ∙ ap (λ (l : List ℕ). b ++ l) (put-block bs j k r (le-of-suc-le-suc h) g))
+put-block (b ∷ bs) (suc j) k r h g = rw add-assoc (put-past b (joined bs) (offsetIn bs j + k) r ∙ ap (λ (l : List ℕ). b ++ l) (put-block bs j k r (le-of-suc-le-suc h) g))
 
-get-block : (bs : List (List ℕ)) (j k : ℕ) → j < length bs → k < length (getD bs j []) → getD (joined bs) (ahead bs j + k) 0 ≡ getD (getD bs j []) k 0
+get-block : (bs : List (List ℕ)) (j k : ℕ) → j < length bs → k < length (getD bs j []) → getD (joined bs) (offsetIn bs j + k) 0 ≡ getD (getD bs j []) k 0
 get-block [] j k h g = absurd (not-suc-le-zero h)
 get-block (b ∷ bs) zero k h g = rw zero-add (List·getD-append b (joined bs) 0 k g)
-get-block (b ∷ bs) (suc j) k h g = rw add-assoc (getD-append-add b (joined bs) (ahead bs j + k) 0 ∙ get-block bs j k (le-of-suc-le-suc h) g)
+get-block (b ∷ bs) (suc j) k h g = rw add-assoc (getD-append-add b (joined bs) (offsetIn bs j + k) 0 ∙ get-block bs j k (le-of-suc-le-suc h) g)
 
 -- the same of a slice that is those blocks, at an index that is k past the block's start
-module _ (bs : List (List ℕ)) (j k : ℕ) {l : List ℕ} {i : ℕ} (e : l ≡ joined bs) (at : i ≡ ahead bs j + k) (h : j < length bs) where
+module _ (bs : List (List ℕ)) (j k : ℕ) {l : List ℕ} {i : ℕ} (e : l ≡ joined bs) (at : i ≡ offsetIn bs j + k) (h : j < length bs) where
   pub block-region : (m : ℕ) → k + m ≤ length (getD bs j []) → region l i m ≡ region (getD bs j []) k m
   block-region m g = rw (e, at) (region-block bs j k m h g)
 
@@ -132,8 +132,8 @@ copying-done w r out i e h c =
     c ∙ rw (take-all i r (omega arith), z) (fit-append w r (omega arith))
 
 module _ {A : Type 0} (g : A → List ℕ) (w : ℕ) where
-  pub length-places : (n : ℕ) (xs : List A) → length (places g w n xs) ≡ w * n
-  unfolding places
+  pub length-places : (n : ℕ) (xs : List A) → length (packed g w n xs) ≡ w * n
+  unfolding packed
   length-places zero xs = sym (mul-zero w)
   length-places (suc n) [] = simp (length-append, length-fit, mul-suc, length-places n []) (omega arith)
   length-places (suc n) (x ∷ xs) = simp (length-append, length-fit, mul-suc, length-places n xs) (omega arith)
@@ -142,65 +142,65 @@ module _ {A : Type 0} (g : A → List ℕ) (w : ℕ) where
   past : (x : A) (e : ℕ) → w * suc e ≡ length (fit w (g x)) + w * e
   past x e = rw (length-fit, mul-suc) (omega arith)
 
-  pub places-region : (n e : ℕ) (xs : List A) (d : A) → e < length xs → length xs ≤ n → region (places g w n xs) (w * e) w ≡ fit w (g (getD xs e d))
-  unfolding places
+  pub places-region : (n e : ℕ) (xs : List A) (d : A) → e < length xs → length xs ≤ n → region (packed g w n xs) (w * e) w ≡ fit w (g (getD xs e d))
+  unfolding packed
   places-region n e [] d h k = absurd (not-suc-le-zero h)
   places-region zero e (x ∷ xs) d h k = absurd (not-suc-le-zero k)
   places-region (suc n) zero (x ∷ xs) d h k =
       let s : length (fit w (g x)) ≡ w = length-fit w (g x) in
-      rw mul-zero (region-within (fit w (g x)) (places g w n xs) 0 w (omega arith) ∙ region-whole (fit w (g x)) w s)
+      rw mul-zero (region-within (fit w (g x)) (packed g w n xs) 0 w (omega arith) ∙ region-whole (fit w (g x)) w s)
   places-region (suc n) (suc e) (x ∷ xs) d h k =
-      rw (past x e) (region-past (fit w (g x)) (places g w n xs) (w * e) w ∙ places-region n e xs d (le-of-suc-le-suc h) (le-of-suc-le-suc k))
+      rw (past x e) (region-past (fit w (g x)) (packed g w n xs) (w * e) w ∙ places-region n e xs d (le-of-suc-le-suc h) (le-of-suc-le-suc k))
 
-  pub places-put : (n e : ℕ) (xs : List A) (y : A) → e < length xs → length xs ≤ n → put (places g w n xs) (w * e) (fit w (g y)) ≡ places g w n (set xs e y)
-  unfolding places
+  pub places-put : (n e : ℕ) (xs : List A) (y : A) → e < length xs → length xs ≤ n → put (packed g w n xs) (w * e) (fit w (g y)) ≡ packed g w n (set xs e y)
+  unfolding packed
   places-put n e [] y h k = absurd (not-suc-le-zero h)
   places-put zero e (x ∷ xs) y h k = absurd (not-suc-le-zero k)
   places-put (suc n) zero (x ∷ xs) y h k =
       let s : length (fit w (g x)) ≡ w = length-fit w (g x) in
       let r : length (fit w (g y)) ≡ w = length-fit w (g y) in
-      rw mul-zero (put-within (fit w (g x)) (places g w n xs) 0 (fit w (g y)) (omega arith) ∙ ap (λ (l : List ℕ). l ++ places g w n xs) (put-whole (fit w (g x)) (fit w (g y)) (r ∙ sym s)))
+      rw mul-zero (put-within (fit w (g x)) (packed g w n xs) 0 (fit w (g y)) (omega arith) ∙ ap (λ (l : List ℕ). l ++ packed g w n xs) (put-whole (fit w (g x)) (fit w (g y)) (r ∙ sym s)))
   places-put (suc n) (suc e) (x ∷ xs) y h k =
-      rw (past x e) (put-past (fit w (g x)) (places g w n xs) (w * e) (fit w (g y)) ∙ ap (λ (l : List ℕ). fit w (g x) ++ l) (places-put n e xs y (le-of-suc-le-suc h) (le-of-suc-le-suc k)))
+      rw (past x e) (put-past (fit w (g x)) (packed g w n xs) (w * e) (fit w (g y)) ∙ ap (λ (l : List ℕ). fit w (g x) ++ l) (places-put n e xs y (le-of-suc-le-suc h) (le-of-suc-le-suc k)))
 
-  pad : (n : ℕ) (xs : List A) → length xs ≤ n → places g w n xs ++ replicate w 0 ≡ places g w (suc n) xs
-  unfolding places
+  pad : (n : ℕ) (xs : List A) → length xs ≤ n → packed g w n xs ++ replicate w 0 ≡ packed g w (suc n) xs
+  unfolding packed
   pad zero [] h = rw fit-zeros (sym (append-nil (replicate w 0)))
   pad zero (x ∷ xs) h = absurd (not-suc-le-zero h)
-  pad (suc n) [] h = append-assoc (fit w []) (places g w n []) (replicate w 0) ∙ ap (λ (l : List ℕ). fit w [] ++ l) (pad n [] zero-le)
-  pad (suc n) (x ∷ xs) h = append-assoc (fit w (g x)) (places g w n xs) (replicate w 0) ∙ ap (λ (l : List ℕ). fit w (g x) ++ l) (pad n xs (le-of-suc-le-suc h))
+  pad (suc n) [] h = append-assoc (fit w []) (packed g w n []) (replicate w 0) ∙ ap (λ (l : List ℕ). fit w [] ++ l) (pad n [] zero-le)
+  pad (suc n) (x ∷ xs) h = append-assoc (fit w (g x)) (packed g w n xs) (replicate w 0) ∙ ap (λ (l : List ℕ). fit w (g x) ++ l) (pad n xs (le-of-suc-le-suc h))
 
-  close-first : (n : ℕ) (x : A) (xs : List A) → length xs ≤ n → closedUp w (fit w (g x) ++ places g w n xs) ≡ places g w (suc n) xs
+  close-first : (n : ℕ) (x : A) (xs : List A) → length xs ≤ n → closedUp w (fit w (g x) ++ packed g w n xs) ≡ packed g w (suc n) xs
   unfolding closedUp
-  close-first n x xs k = ap (λ (l : List ℕ). l ++ replicate w 0) (drop-at (fit w (g x)) (places g w n xs) w (length-fit w (g x))) ∙ pad n xs k
+  close-first n x xs k = ap (λ (l : List ℕ). l ++ replicate w 0) (drop-at (fit w (g x)) (packed g w n xs) w (length-fit w (g x))) ∙ pad n xs k
 
   -- to take a record out is to close up from its place on
-  pub places-close : (n e : ℕ) (xs : List A) → e < length xs → length xs ≤ n → closed (places g w n xs) (w * e) (w * (n - e)) w ≡ places g w n (dropped e xs)
-  unfolding places
+  pub places-close : (n e : ℕ) (xs : List A) → e < length xs → length xs ≤ n → closed (packed g w n xs) (w * e) (w * (n - e)) w ≡ packed g w n (dropped e xs)
+  unfolding packed
   places-close n e [] h k = absurd (not-suc-le-zero h)
   places-close zero e (x ∷ xs) h k = absurd (not-suc-le-zero k)
   places-close (suc n) zero (x ∷ xs) h k =
       let s : length (fit w (g x)) ≡ w = length-fit w (g x) in
-      let l : length (fit w (g x) ++ places g w n xs) ≡ w * suc n = simp (length-append, length-fit, mul-suc, length-places n xs) (omega arith) in
-      let c : length (closedUp w (fit w (g x) ++ places g w n xs)) ≡ length (fit w (g x) ++ places g w n xs) = length-closed w (fit w (g x) ++ places g w n xs) (rw length-append (omega arith)) in
+      let l : length (fit w (g x) ++ packed g w n xs) ≡ w * suc n = simp (length-append, length-fit, mul-suc, length-places n xs) (omega arith) in
+      let c : length (closedUp w (fit w (g x) ++ packed g w n xs)) ≡ length (fit w (g x) ++ packed g w n xs) = length-closed w (fit w (g x) ++ packed g w n xs) (rw length-append (omega arith)) in
       rw (mul-zero, sub-zero)
-      (ap (λ (r : List ℕ). put (fit w (g x) ++ places g w n xs) 0 (closedUp w r)) (region-whole (fit w (g x) ++ places g w n xs) (w * suc n) l)
-      ∙ put-whole (fit w (g x) ++ places g w n xs) (closedUp w (fit w (g x) ++ places g w n xs)) c ∙ close-first n x xs (le-of-suc-le-suc k))
+      (ap (λ (r : List ℕ). put (fit w (g x) ++ packed g w n xs) 0 (closedUp w r)) (region-whole (fit w (g x) ++ packed g w n xs) (w * suc n) l)
+      ∙ put-whole (fit w (g x) ++ packed g w n xs) (closedUp w (fit w (g x) ++ packed g w n xs)) c ∙ close-first n x xs (le-of-suc-le-suc k))
   places-close (suc n) (suc e) (x ∷ xs) h k =
       let z : suc n - suc e ≡ n - e = omega arith in
-      rw (past x e, z, region-past (fit w (g x)) (places g w n xs) (w * e) (w * (n - e)))
-      (put-past (fit w (g x)) (places g w n xs) (w * e) (closedUp w (region (places g w n xs) (w * e) (w * (n - e))))
+      rw (past x e, z, region-past (fit w (g x)) (packed g w n xs) (w * e) (w * (n - e)))
+      (put-past (fit w (g x)) (packed g w n xs) (w * e) (closedUp w (region (packed g w n xs) (w * e) (w * (n - e))))
       ∙ ap (λ (l : List ℕ). fit w (g x) ++ l) (places-close n e xs (le-of-suc-le-suc h) (le-of-suc-le-suc k)))
 
   -- number k of a record
-  pub places-get : (n e k : ℕ) (xs : List A) (d : A) → e < length xs → length xs ≤ n → k < w → getD (places g w n xs) (w * e + k) 0 ≡ getD (fit w (g (getD xs e d))) k 0
+  pub places-get : (n e k : ℕ) (xs : List A) (d : A) → e < length xs → length xs ≤ n → k < w → getD (packed g w n xs) (w * e + k) 0 ≡ getD (fit w (g (getD xs e d))) k 0
   places-get n e k xs d h l m =
-      sym (getD-region (places g w n xs) (w * e) w k m) ∙ ap (λ (t : List ℕ). getD t k 0) (places-region n e xs d h l)
+      sym (getD-region (packed g w n xs) (w * e) w k m) ∙ ap (λ (t : List ℕ). getD t k 0) (places-region n e xs d h l)
 
 -- ---- a field of a table in a slice of blocks: to take a record out, to store one anew, to read a number of one
 
 module _ {A : Type 0} (g : A → List ℕ) (w n : ℕ) (xs : List A) (bs : List (List ℕ)) (j e : ℕ) {l : List ℕ} {i : ℕ}
-    (is : l ≡ joined bs) (here : getD bs j [] ≡ places g w n xs) (at : i ≡ ahead bs j + w * e) (h : j < length bs) (k : e < length xs) (few : length xs ≤ n) where
+    (is : l ≡ joined bs) (here : getD bs j [] ≡ packed g w n xs) (at : i ≡ offsetIn bs j + w * e) (h : j < length bs) (k : e < length xs) (few : length xs ≤ n) where
   size : length (getD bs j []) ≡ w * n
   size = ap length here ∙ length-places g w n xs
 
@@ -210,7 +210,7 @@ module _ {A : Type 0} (g : A → List ℕ) (w n : ℕ) (xs : List A) (bs : List 
   rest : w * e + w * (n - e) ≡ w * n
   rest = sym (mul-add w e (n - e)) ∙ ap (λ (x : ℕ). w * x) (omega arith)
 
-  pub field-close : {m : ℕ} {l′ : List ℕ} → m ≡ w * (n - e) → l′ ≡ closed l i m w → l′ ≡ joined (set bs j (places g w n (dropped e xs)))
+  pub field-close : {m : ℕ} {l′ : List ℕ} → m ≡ w * (n - e) → l′ ≡ closed l i m w → l′ ≡ joined (set bs j (packed g w n (dropped e xs)))
   field-close {m} {l′} f c =
       let s = size in let o = one in let r = rest in
       let z : length (closedUp w (region (getD bs j []) (w * e) (w * (n - e)))) ≡ w * (n - e) =
@@ -223,7 +223,7 @@ module _ {A : Type 0} (g : A → List ℕ) (w n : ℕ) (xs : List A) (bs : List 
       ∙ ap (λ (x : List ℕ). joined (set bs j (closed x (w * e) (w * (n - e)) w))) here
       ∙ ap (λ (x : List ℕ). joined (set bs j x)) (places-close g w n e xs k few)
 
-  pub field-put : (y : A) {r l′ : List ℕ} → r ≡ fit w (g y) → l′ ≡ put l i r → l′ ≡ joined (set bs j (places g w n (set xs e y)))
+  pub field-put : (y : A) {r l′ : List ℕ} → r ≡ fit w (g y) → l′ ≡ put l i r → l′ ≡ joined (set bs j (packed g w n (set xs e y)))
   field-put y {r} {l′} f c =
       let s = size in let o = one in
       let z : length (fit w (g y)) ≡ w = length-fit w (g y) in

@@ -9,58 +9,58 @@ use Rattle.words.specs.Words.{imp, every, some}
 use Rattle.words.proofs.Flags.{and-1, and-2, and-i, or-cases, or-1, or-2, clash, imp-i, imp-use}
 use Rattle.words.proofs.Below.{every-at, every-i, some-at, some-i}
 
-pub record Is (b : Bool) (P : Type 0) : Type 0 where
+pub record Decides (b : Bool) (P : Type 0) : Type 0 where
   pub fact : b ≡ true → P
   pub test : P → b ≡ true
 
-pub is-flag : (b : Bool) → Is b (b ≡ true)
+pub is-flag : (b : Bool) → Decides b (b ≡ true)
 is-flag b = record { fact = λ e. e; test = λ e. e }
 
-pub is-eq : (m n : ℕ) → Is (eqb m n) (m ≡ n)
+pub is-eq : (m n : ℕ) → Decides (eqb m n) (m ≡ n)
 is-eq m n = record { fact = λ e. eqb-true m n e; test = λ e. eq-eqb m n e }
 
-pub is-le : (m n : ℕ) → Is (leb m n) (m ≤ n)
+pub is-le : (m n : ℕ) → Decides (leb m n) (m ≤ n)
 is-le m n = record { fact = λ e. leb-true m n e; test = λ e. le-leb m n e }
 
-pub is-lt : (m n : ℕ) → Is (ltb m n) (m < n)
+pub is-lt : (m n : ℕ) → Decides (ltb m n) (m < n)
 is-lt m n = record { fact = λ e. ltb-true m n e; test = λ e. lt-ltb m n e }
 
-pub is-not : {b : Bool} {P : Type 0} → Is b P → Is (not b) (P → ⊥)
+pub is-not : {b : Bool} {P : Type 0} → Decides b P → Decides (not b) (P → ⊥)
 is-not {b = true} i = record { fact = λ e. clash e refl; test = λ f. absurd (f (i .fact refl)) }
 is-not {b = false} i = record { fact = λ e p. clash (i .test p) refl; test = λ f. refl }
 
-pub is-and : {a b : Bool} {P Q : Type 0} → Is a P → Is b Q → Is (a && b) (P × Q)
+pub is-and : {a b : Bool} {P Q : Type 0} → Decides a P → Decides b Q → Decides (a && b) (P × Q)
 is-and {a} {b} i j = record { fact = λ e. (i .fact (and-1 a b e), j .fact (and-2 a b e)); test = λ w. and-i (i .test (w .0)) (j .test (w .1)) }
 
-pub is-or : {a b : Bool} {P Q : Type 0} → Is a P → Is b Q → Is (a || b) (P ⊎ Q)
+pub is-or : {a b : Bool} {P Q : Type 0} → Decides a P → Decides b Q → Decides (a || b) (P ⊎ Q)
 is-or {a} {b} i j = record {
   fact = λ e. ⊎-elim (λ h. inl (i .fact h)) (λ h. inr (j .fact h)) (or-cases a b e);
   test = λ w. ⊎-elim (λ h. or-1 a b (i .test h)) (λ h. or-2 a b (j .test h)) w;
 }
 
-pub is-imp : {a b : Bool} {P Q : Type 0} → Is a P → Is b Q → Is (imp a b) (P → Q)
+pub is-imp : {a b : Bool} {P Q : Type 0} → Decides a P → Decides b Q → Decides (imp a b) (P → Q)
 is-imp {a} {b} i j = record { fact = λ e p. j .fact (imp-use a b e (i .test p)); test = λ f. imp-i a b (λ h. j .test (f (i .fact h))) }
 
 -- the first, unless the second holds
-pub is-unless : {a b : Bool} {P Q : Type 0} → Is a P → Is b Q → Is (a || b) ((P → ⊥) → Q)
+pub is-unless : {a b : Bool} {P Q : Type 0} → Decides a P → Decides b Q → Decides (a || b) ((P → ⊥) → Q)
 is-unless {a = true} i j = record { fact = λ e f. absurd (f (i .fact refl)); test = λ f. refl }
 is-unless {a = false} i j = record { fact = λ e f. j .fact e; test = λ f. j .test (f (λ p. clash (i .test p) refl)) }
 
-pub is-every : (n : ℕ) {p : ℕ → Bool} {P : ℕ → Type 0} → ((i : ℕ) → Is (p i) (P i)) → Is (every n p) ((i : ℕ) → i < n → P i)
+pub is-every : (n : ℕ) {p : ℕ → Bool} {P : ℕ → Type 0} → ((i : ℕ) → Decides (p i) (P i)) → Decides (every n p) ((i : ℕ) → i < n → P i)
 is-every n {p} f = record { fact = λ e i h. f i .fact (every-at p n i e h); test = λ g. every-i p n (λ i h. f i .test (g i h)) }
 
-pub is-some : (n : ℕ) {p : ℕ → Bool} {P : ℕ → Type 0} → ((i : ℕ) → Is (p i) (P i)) → Is (some n p) ((i : ℕ) × (i < n) × P i)
+pub is-some : (n : ℕ) {p : ℕ → Bool} {P : ℕ → Type 0} → ((i : ℕ) → Decides (p i) (P i)) → Decides (some n p) ((i : ℕ) × (i < n) × P i)
 is-some n {p = p} f = record {
   fact = λ e. let (i, h, q) = some-at p n e in (i, h, f i .fact q);
   test = λ w. some-i p n (w .0) (w .1) (f (w .0) .test (w .2));
 }
 
-pub is-none : (n : ℕ) {p : ℕ → Bool} {P : ℕ → Type 0} → ((i : ℕ) → Is (p i) (P i)) → Is (not (some n p)) ((i : ℕ) → i < n → P i → ⊥)
+pub is-none : (n : ℕ) {p : ℕ → Bool} {P : ℕ → Type 0} → ((i : ℕ) → Decides (p i) (P i)) → Decides (not (some n p)) ((i : ℕ) → i < n → P i → ⊥)
 is-none n {p} f = record {
   fact = λ e i h q. is-not (is-some n {p = p} f) .fact e (i, h, q);
   test = λ g. is-not (is-some n {p = p} f) .test (λ w. g (w .0) (w .1) (w .2));
 }
 
 -- the same fact in other words
-pub is-as : {b : Bool} {P Q : Type 0} → Is b P → (P → Q) → (Q → P) → Is b Q
+pub is-as : {b : Bool} {P Q : Type 0} → Decides b P → (P → Q) → (Q → P) → Decides b Q
 is-as i f g = record { fact = λ e. f (i .fact e); test = λ q. i .test (g q) }

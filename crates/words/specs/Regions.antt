@@ -19,10 +19,10 @@ abbrev pub closed : List ℕ → ℕ → ℕ → ℕ → List ℕ
 closed l at n by = put l at (closedUp by (region l at n))
 
 -- how much stands before block j
-abbrev pub ahead : List (List ℕ) → ℕ → ℕ
-ahead bs zero = 0
-ahead [] (suc j) = 0
-ahead (b ∷ bs) (suc j) = length b + ahead bs j
+abbrev pub offsetIn : List (List ℕ) → ℕ → ℕ
+offsetIn bs zero = 0
+offsetIn [] (suc j) = 0
+offsetIn (b ∷ bs) (suc j) = length b + offsetIn bs j
 
 -- a list without its element e
 abbrev pub dropped : {A : Type 0} → ℕ → List A → List A

@@ -72,10 +72,10 @@ fit (suc w) [] = 0 ∷ fit w []
 fit (suc w) (x ∷ l) = x ∷ fit w l
 
 -- n places of w numbers each: those of the records, then zeros
-unfoldable pub places : {A : Type 0} → (A → List ℕ) → ℕ → ℕ → List A → List ℕ
-places g w zero xs = []
-places g w (suc n) [] = fit w [] ++ places g w n []
-places g w (suc n) (x ∷ xs) = fit w (g x) ++ places g w n xs
+unfoldable pub packed : {A : Type 0} → (A → List ℕ) → ℕ → ℕ → List A → List ℕ
+packed g w zero xs = []
+packed g w (suc n) [] = fit w [] ++ packed g w n []
+packed g w (suc n) (x ∷ xs) = fit w (g x) ++ packed g w n xs
 
 -- blocks one after the other
 abbrev pub joined : List (List ℕ) → List ℕ

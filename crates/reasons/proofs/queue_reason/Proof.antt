@@ -1,7 +1,7 @@
 -- The head of the queue, if there is one.
 use native.Mathlib.Omega.{arith}
 use borrow.Author.Needs.{needs}
-use Rattle.layout.proofs.Stands.{is-stands, stands-fit}
+use Rattle.layout.proofs.ByBlocks.{is-stands, stands-fit}
 use Rattle.reasons.proofs.Heads.{queue-empty, head-shown}
 use Rattle.reasons.proofs.queue_reason.Statement.{statement}
 use Rattle.reasons.proofs.queue_reason.Tie as tie

@@ -1,7 +1,7 @@
 -- Fill, from what its parts ensure.
 use native.Mathlib.Nat.{mul-le-mul-left}
 use Rattle.steps.proofs.Filling.{count-fits, fill-refused, fill-inside, fill-count, fill-holding, fill-leaves}
-use Rattle.layout.proofs.Stands.{is-stands, stands-fit}
+use Rattle.layout.proofs.ByBlocks.{is-stands, stands-fit}
 use Rattle.words.proofs.Places.{stride}
 use Rattle.model.proofs.SoundFacts.{parts}
 use native.Mathlib.Omega.{arith}

@@ -1,6 +1,6 @@
 -- Send, from what its parts ensure.
 use Rattle.steps.proofs.Sending.{send-empty, send-asked, send-leaves}
-use Rattle.layout.proofs.Stands.{is-stands, stands-fit}
+use Rattle.layout.proofs.ByBlocks.{is-stands, stands-fit}
 use native.Mathlib.Omega.{arith}
 use borrow.Author.Needs.{needs}
 use Rattle.steps.proofs.send_step.Statement.{statement}

@@ -6,7 +6,7 @@ use native.Mathlib.Omega.{arith}
 use borrow.Author.Needs.{needs}
 use Rattle.steps.proofs.Ticking.{tick-refused, tick-leaves}
 use Rattle.tables.specs.Telling.{telling}
-use Rattle.layout.proofs.Stands.{is-stands, stands-fit}
+use Rattle.layout.proofs.ByBlocks.{is-stands, stands-fit}
 use Rattle.steps.proofs.tick_step.Statement.{statement}
 use Rattle.steps.proofs.tick_step.Tie as tie
 

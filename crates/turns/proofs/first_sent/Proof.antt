@@ -1,7 +1,7 @@
 -- The entries in use, and the first of their sent marks that is set.
 use native.Mathlib.Omega.{arith}
 use borrow.Author.Needs.{needs}
-use Rattle.layout.proofs.Stands.{is-stands, stands-fit}
+use Rattle.layout.proofs.ByBlocks.{is-stands, stands-fit}
 use Rattle.turns.proofs.Turns.{found-sent, found-none}
 use Rattle.turns.proofs.first_sent.Statement.{statement}
 use Rattle.turns.proofs.first_sent.Tie as tie

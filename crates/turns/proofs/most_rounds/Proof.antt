@@ -1,7 +1,7 @@
 -- The queue places and the miss entries in use.
 use native.Mathlib.Omega.{arith}
 use borrow.Author.Needs.{needs}
-use Rattle.layout.proofs.Stands.{is-stands, stands-fit}
+use Rattle.layout.proofs.ByBlocks.{is-stands, stands-fit}
 use Rattle.turns.proofs.Turns.{counted}
 use Rattle.turns.proofs.most_rounds.Statement.{statement}
 use Rattle.turns.proofs.most_rounds.Tie as tie

@@ -5,7 +5,7 @@ use native.Mathlib.Omega.{arith}
 use borrow.Author.Needs.{needs}
 use lib.ListN.{length}
 use Rattle.model.specs.Lent.{lent}
-use Rattle.model.specs.Inner.{Held}
+use Rattle.model.specs.Inner.{SoundSlices}
 use Rattle.input.specs.Buffers.{turnsLeft}
 use Rattle.input.proofs.Counts.{turns-less}
 use Rattle.trace.proofs.turns.trace_records.Statement.{statement}
@@ -19,7 +19,7 @@ Inv-loop s laid bytes place events₀ longs₀ words₀ marks₀ out₀ put t₀
     × (length marks ≡ length marks₀)
     × (length out ≡ length out₀)
     × (t .at ≤ length bytes)
-    × Held s (lent longs words marks)
+    × SoundSlices s (lent longs words marks)
 
 abbrev μ-loop : tie.MeasureT-loop
 μ-loop s laid bytes place events₀ longs₀ words₀ marks₀ out₀ put t₀ events longs words marks out t = turnsLeft (t .more) (length bytes - t .at)

@@ -4,7 +4,7 @@ use Prim.Native.Nat.{_≤_}
 use borrow.Author.Needs.{needs}
 use lib.ListN.{length}
 use Rattle.model.specs.Lent.{lent}
-use Rattle.model.specs.Inner.{Held}
+use Rattle.model.specs.Inner.{SoundSlices}
 use Rattle.input.specs.Buffers.{turnsLeft}
 use Rattle.input.proofs.Counts.{turns-less}
 use Rattle.streaming.specs.Works.{goesNext}
@@ -20,7 +20,7 @@ Inv-loop fd s buf₀ longs₀ words₀ marks₀ out₀ laid events₀ w₀ buf l
     × (length marks ≡ length marks₀)
     × (length out ≡ length out₀)
     × (length events ≡ length events₀)
-    × Held s (lent longs words marks)
+    × SoundSlices s (lent longs words marks)
     × Claims (w .next) (w .stop) (w .have)
 
 abbrev μ-loop : tie.MeasureT-loop

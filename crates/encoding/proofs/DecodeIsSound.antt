@@ -16,7 +16,7 @@ use Rattle.words.specs.Words.{pick, table, some}
 use Rattle.model.specs.Numbers.{statusNumber, statusOf, queueKindNumber, queueKindOf}
 use Rattle.model.specs.Range.{linesOf}
 use Rattle.model.specs.Address.{blockOf, sectorIndex, setIndex}
-use Rattle.model.specs.Tables.{Line, Entry, Tables, isReserved, unused, entryFor, idle, fresh, noEntry}
+use Rattle.model.specs.Tables.{Line, Entry, Tables, isReserved, whollyInvalid, entryFor, idle, fresh, noEntry}
 use Rattle.model.specs.Layout.{wordsFrom, queueMaskRegion}
 use Rattle.model.specs.Lent.{Lent, bit, tagOf, cycleOf, masksOf, statusesOf, readablesOf, missOf, sentOf, ticketCountOf, ticketsIn, queuedOf, kindOf, queueMasksOf, inUse, sectorAt, sectorsAt, lineAt, entryAt, queueAt, tablesOf, takenOf, treeOf}
 pub use Rattle.model.specs.SoundLent.{Small}
@@ -26,10 +26,10 @@ use Rattle.encoding.proofs.Rows.{row-of}
 use Rattle.words.proofs.Places.{stride}
 use Rattle.words.proofs.Tabled.{any-get, length-table, getD-table}
 use Rattle.encoding.proofs.InUse.{lt-or-ge, squeeze, in-use-few, below-used, free-past}
-use Rattle.encoding.proofs.Facts.{tag, status, mask, readable, miss, sent, ticketCount, ticket, queued, kind, queueMask, Live, Used, SoundIs, tree}
-use Rattle.encoding.proofs.Standing.{field, field-in, field-out, Stands}
-use Rattle.encoding.proofs.Shapes.{line, sector, entry, place, addressIn, kindIn, maskIn, Shape, reserved-number, tag-is, cycle-is, taken-is, tree-is, status-is, mask-is, readable-is, live-is, dirty-counts, miss-is, sent-is, entry-in, in-entry, kind-in, queued-in, queue-mask-is, reads-are}
-use Rattle.encoding.proofs.Soundly.{Lives, SectorOk, LineOk, Alone, Agrees, EntryOk, QueuedOk, Soundly, bit-clear}
+use Rattle.encoding.proofs.LentSoundFacts.{tag, status, mask, readable, miss, sent, ticketCount, ticket, queued, kind, queueMask, Live, Used, SoundIs, tree}
+use Rattle.encoding.proofs.Standing.{field, field-in, field-out, ByNumber}
+use Rattle.encoding.proofs.NumbersAreTables.{line, sector, entry, place, addressIn, kindIn, maskIn, Shape, reserved-number, tag-is, cycle-is, taken-is, tree-is, status-is, mask-is, readable-is, live-is, dirty-counts, miss-is, sent-is, entry-in, in-entry, kind-in, queued-in, queue-mask-is, reads-are}
+use Rattle.encoding.proofs.SoundByPlace.{Lives, SectorOk, LineOk, Alone, Agrees, EntryOk, QueuedOk, Soundly, bit-clear}
 
 module _ (S : Settings) (L : Lent) (is : SoundIs S L) where
   -- a tag is on one live line only
@@ -44,12 +44,12 @@ module _ (S : Settings) (L : Lent) (is : SoundIs S L) where
 
 -- ---- tables that stand in them
 
-module _ (S : Settings) (L : Lent) (t : Tables) (st : Stands S L t) (sh : Shape S t) (is : SoundIs S L) (small : Small L) where
+module _ (S : Settings) (L : Lent) (t : Tables) (st : ByNumber S L t) (sh : Shape S t) (is : SoundIs S L) (small : Small L) where
   live-i : (l : ℕ) → l < linesOf S → Lives S t l → Live S L l
   live-i l h v = live-is S L t st sh l h ∙ not-no v
 
   lives : (l : ℕ) → l < linesOf S → Live S L l → Lives S t l
-  lives l h v = not-yes {b = unused (line t l)} (sym (live-is S L t st sh l h) ∙ v)
+  lives l h v = not-yes {b = whollyInvalid (line t l)} (sym (live-is S L t st sh l h) ∙ v)
 
   in-lines : (l : ℕ) → l < length (t .lines) → l < linesOf S
   in-lines l h = let e = sh .size in omega arith
@@ -268,7 +268,7 @@ module _ (S : Settings) (L : Lent) (is : SoundIs S L) where
       (λ o. z (free-place p h o) ∙ sym (field-past g deep (queueAt S L) p k o))
       (lt-or-ge p deep)
 
-  pub read-stands : 1 ≤ S .readers → Stands S L (tablesOf S L)
+  pub read-stands : 1 ≤ S .readers → ByNumber S L (tablesOf S L)
   unfolding tablesOf
   read-stands pos = record {
     tags = λ l h. sym (field-table tagOf (linesOf S) lineOf l 0 h);

@@ -13,7 +13,7 @@ use Rattle.words.specs.Words.{pick, all, any, count}
 use Rattle.model.specs.Range.{inRange, linesOf, isTree}
 use Rattle.model.specs.Tree.{treeFine}
 use Rattle.model.specs.Address.{blockOf, sectorIndex, setIndex, lineNumber, addressOf, goodBlock}
-use Rattle.model.specs.Tables.{Line, Entry, writing, Tables, start, refused, isInvalid, isReserved, isModified, unused, waiting, dirty, holds, entryFor, empty, fresh, emptied, withNow}
+use Rattle.model.specs.Tables.{Line, Entry, writing, Tables, start, refused, isInvalid, isReserved, isModified, whollyInvalid, hasReserved, dirty, holds, entryFor, empty, fresh, emptied, withNow}
 use Rattle.model.specs.Sound.{allOnes, lastCycle, maskOk, sectorOk, lineOk, alone, reservedOk, readingOf, entryOk, queuedOk}
 use Rattle.model.specs.Probe.{Rule, columnOf, answerAt, answerOf, waysOf, enoughDirty, candidate, first, victim, Spot, at, writeBack, takeOver, meet, probe, ruleOf, metIn}
 use Rattle.model.specs.Steps.{isMerge, isMiss, onSector, fetches, queues, tick}
@@ -34,7 +34,7 @@ use Rattle.words.proofs.Lists.{In, all-in, in-all, in-any, any-in, in-getD, in-
 use Rattle.words.proofs.Below.{every-i}
 use Rattle.model.proofs.SoundFacts.{Sound, LeavesSound, LineIs, line-whole, EntryIs, entry-whole, ways-some, mask-small, sector-below, sector-aligned, address-is, block-is, lines-are, line-at, four-at, since-at, sectors-at, tag-at, reserved-at, holder-one, entry-at}
 use Rattle.model.proofs.Ways.{Finds, first-finds, victim-finds, Sits, way-sits, way-in, line-among, set-of-block, set-of-line}
-use Rattle.model.proofs.Taken.{Spotted}
+use Rattle.model.proofs.AccessKeepsSound.{Spotted}
 
 -- ---- the table of answers
 
@@ -111,7 +111,7 @@ back-quiet l c = by-flag (λ (q : List Queued). any (readingOf c) q ≡ false) (
 pub back-one : (l : Line) → length (writeBack l) ≤ 1
 back-one l = by-flag (λ (q : List Queued). length q ≤ 1) (dirty l) _ [] (λ e. omega arith) (λ e. omega arith)
 
-dirty-used : (l : Line) → dirty l ≡ true → unused l ≡ false
+dirty-used : (l : Line) → dirty l ≡ true → whollyInvalid l ≡ false
 dirty-used l e = no-yes (λ z.
     let (v, m, q) = any-in (λ (v : Sector). isModified (v .status)) (l .sectors) e in
     clash (all-in (λ (v : Sector). isInvalid (v .status)) (l .sectors) z m) (modified-used (v .status) q))
@@ -187,8 +187,8 @@ module _ (S : Settings) (t : Tables) (ok : Sound S t) (some-ways : 1 ≤ S .ways
       let l : Line = getD ways w fresh in
       let m : In l (t .lines) = way-in S (t .lines) a l (in-getD ways w fresh h) in
       let g : holds b (getD (t .lines) n fresh) ≡ true = ap (holds b) (sym (s .line)) ∙ q in
-      let u : unused l ≡ false = not-yes (and-1 (not (unused l)) (eqb (l .tag) b) q) in
-      let tagged : l .tag ≡ b = eqb-true (l .tag) b (and-2 (not (unused l)) (eqb (l .tag) b) q) in
+      let u : whollyInvalid l ≡ false = not-yes (and-1 (not (whollyInvalid l)) (eqb (l .tag) b) q) in
+      let tagged : l .tag ≡ b = eqb-true (l .tag) b (and-2 (not (whollyInvalid l)) (eqb (l .tag) b) q) in
       record {
         inside = s .inside;
         tagged = tagged;
@@ -199,7 +199,7 @@ module _ (S : Settings) (t : Tables) (ok : Sound S t) (some-ways : 1 ≤ S .ways
         lone = λ j k z. no-yes (λ e. z (holder-one S t ok b j n k (s .inside) e g));
         agree = λ k z. reserved-at S t ok l m u k z ∙ ap (λ (c : ℕ). any (entryFor (c + 32 * k)) (t .misses)) tagged;
         kept = holder-kept n (λ e i z. let y : holds (blockOf (e .address)) l ≡ true = ap (holds (blockOf (e .address))) (s .line) ∙ z in
-            sym (eqb-true (l .tag) (blockOf (e .address)) (and-2 (not (unused l)) (eqb (l .tag) (blockOf (e .address))) y)) ∙ tagged);
+            sym (eqb-true (l .tag) (blockOf (e .address)) (and-2 (not (whollyInvalid l)) (eqb (l .tag) (blockOf (e .address))) y)) ∙ tagged);
         merges = merge-table x (getD (l .sectors) (sectorIndex a) empty);
         used = used-table x (getD (l .sectors) (sectorIndex a) empty);
         backed = λ es. refl;
@@ -215,18 +215,18 @@ module _ (S : Settings) (t : Tables) (ok : Sound S t) (some-ways : 1 ≤ S .ways
 
       own : holds b l ≡ true → setIndex S a ≡ j / S .ways
       own e =
-          let u : unused l ≡ false = not-yes (and-1 (not (unused l)) (eqb (l .tag) b) e) in
-          let tagged : l .tag ≡ b = eqb-true (l .tag) b (and-2 (not (unused l)) (eqb (l .tag) b) e) in
+          let u : whollyInvalid l ≡ false = not-yes (and-1 (not (whollyInvalid l)) (eqb (l .tag) b) e) in
+          let tagged : l .tag ≡ b = eqb-true (l .tag) b (and-2 (not (whollyInvalid l)) (eqb (l .tag) b) e) in
           let c : (goodBlock (l .tag) && eqb (setIndex S (l .tag)) (j / S .ways)) ≡ true = rw u at (line-at S t ok j h .tagged) in
           sym (set-of-block S a) ∙ ap (setIndex S) (sym tagged) ∙ eqb-true (setIndex S (l .tag)) (j / S .ways) (and-2 (goodBlock (l .tag)) _ c)
 
   -- a line without a RESERVED sector holds no entry's block
-  vacant : (l : Line) → In l (t .lines) → waiting l ≡ false → (e : Entry) → In e (t .misses) → holds (blockOf (e .address)) l ≡ true → ⊥
+  vacant : (l : Line) → In l (t .lines) → hasReserved l ≡ false → (e : Entry) → In e (t .misses) → holds (blockOf (e .address)) l ≡ true → ⊥
   vacant l i f e m z =
       let c : ℕ = e .address in
       let k : ℕ = sectorIndex c in
-      let u : unused l ≡ false = not-yes (and-1 (not (unused l)) (eqb (l .tag) (blockOf c)) z) in
-      let tagged : l .tag ≡ blockOf c = eqb-true (l .tag) (blockOf c) (and-2 (not (unused l)) (eqb (l .tag) (blockOf c)) z) in
+      let u : whollyInvalid l ≡ false = not-yes (and-1 (not (whollyInvalid l)) (eqb (l .tag) (blockOf c)) z) in
+      let tagged : l .tag ≡ blockOf c = eqb-true (l .tag) (blockOf c) (and-2 (not (whollyInvalid l)) (eqb (l .tag) (blockOf c)) z) in
       let q : l .tag + 32 * k ≡ c = ap (λ (v : ℕ). v + 32 * k) tagged ∙ address-is c (sector-aligned c (entry-at S t ok e m .good)) in
       let r : isReserved (getD (l .sectors) k empty .status) ≡ true =
       reserved-at S t ok l i u k (sector-below c) ∙ ap (λ (v : ℕ). any (entryFor v) (t .misses)) q ∙ in-any (entryFor c) (t .misses) m (eq-eqb c c refl) in
@@ -266,7 +266,7 @@ module _ (S : Settings) (t : Tables) (ok : Sound S t) (some-ways : 1 ≤ S .ways
           own = set-of-block S a ∙ sym (set-of-line S a w (s .low));
           lone = λ j k z. lacks j k;
           agree = λ k z. rw (getD-replicate 4 k empty empty z) (sym (no-entry k z));
-          kept = holder-kept n (λ e i z. absurd (vacant l m (not-yes (and-1 (not (waiting l)) _ q)) e i (ap (holds (blockOf (e .address))) (s .line) ∙ z)));
+          kept = holder-kept n (λ e i z. absurd (vacant l m (not-yes (and-1 (not (hasReserved l)) _ q)) e i (ap (holds (blockOf (e .address))) (s .line) ∙ z)));
           merges = rw (getD-replicate 4 (sectorIndex a) empty empty (sector-below a));
           used = used-miss x (getD (replicate 4 empty) (sectorIndex a) empty);
           backed = back-ok S t ok l m;

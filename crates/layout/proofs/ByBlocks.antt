@@ -9,17 +9,17 @@ use Rattle.words.specs.Words.{joined}
 use Rattle.model.specs.Range.{inRange}
 use Rattle.model.specs.Tables.{Tables}
 use Rattle.model.specs.Lent.{Lent, lent, longBlocks, wordBlocks, markBlocks, encode}
-use Rattle.model.specs.Inner.{Fit, Is}
+use Rattle.model.specs.Inner.{Fit, Encodes}
 use Rattle.model.specs.declared.Settings.{Settings}
 use Rattle.model.proofs.Fits.{fit}
 use Rattle.words.proofs.Places.{length-places}
 
-pub record Stands (S : Settings) (longs words marks : List ℕ) (t : Tables) : Type 0 where
+pub record ByBlocks (S : Settings) (longs words marks : List ℕ) (t : Tables) : Type 0 where
   pub as-longs : longs ≡ joined (longBlocks S t)
   pub as-words : words ≡ joined (wordBlocks S t)
   pub as-marks : marks ≡ joined (markBlocks S t)
 
-pub is-stands : {S : Settings} {longs words marks : List ℕ} {t : Tables} → Is S (lent longs words marks) t → Stands S longs words marks t
+pub is-stands : {S : Settings} {longs words marks : List ℕ} {t : Tables} → Encodes S (lent longs words marks) t → ByBlocks S longs words marks t
 unfolding encode
 is-stands i = record {
   as-longs = ap (λ (L : Lent). L .longs) (i .encoded);
@@ -27,11 +27,11 @@ is-stands i = record {
   as-marks = ap (λ (L : Lent). L .marks) (i .encoded);
 }
 
-pub stands-encode : {S : Settings} {longs words marks : List ℕ} {t : Tables} → Stands S longs words marks t → lent longs words marks ≡ encode S t
+pub stands-encode : {S : Settings} {longs words marks : List ℕ} {t : Tables} → ByBlocks S longs words marks t → lent longs words marks ≡ encode S t
 unfolding encode
 stands-encode h = rw (h .as-longs, h .as-words, h .as-marks)
 
-pub stands-fit : {S : Settings} {longs words marks : List ℕ} {t : Tables} → inRange S ≡ true → Stands S longs words marks t → Fit S longs words marks
+pub stands-fit : {S : Settings} {longs words marks : List ℕ} {t : Tables} → inRange S ≡ true → ByBlocks S longs words marks t → Fit S longs words marks
 stands-fit {S} {longs} {words} {marks} {t} r h =
     fit S longs words marks (
       r,

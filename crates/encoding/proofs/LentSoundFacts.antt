@@ -12,7 +12,7 @@ use Rattle.model.specs.Address.{goodBlock, blockOf, sectorIndex, setIndex}
 use Rattle.model.specs.Sound.{lastCycle, allOnes}
 use Rattle.model.specs.Lent.{Lent, tagAt, cycleAt, statusAt, maskAt, readableAt, missAt, sentAt, ticketCountAt, ticketAt, queuedAt, kindAt, queueMaskAt, nowAt, dirtyCountAt, takenAt, treeAt}
 use Rattle.model.specs.SoundLent as lent
-use Rattle.words.proofs.Reflect.{Is, is-flag, is-eq, is-le, is-lt, is-not, is-and, is-or, is-imp, is-unless, is-every, is-some, is-none, is-as}
+use Rattle.words.proofs.Reflect.{Decides, is-flag, is-eq, is-le, is-lt, is-not, is-and, is-or, is-imp, is-unless, is-every, is-some, is-none, is-as}
 
 -- ---- the numbers of the slices, and the tests on them that stay tests
 
@@ -149,14 +149,14 @@ module _ (S : Settings) (L : Lent) where
 
 -- ---- each test with its facts
 
-pub block-is : (a : ℕ) → Is (goodBlock a) (Block a)
+pub block-is : (a : ℕ) → Decides (goodBlock a) (Block a)
 block-is a = is-as (is-and (is-eq (a % 128) 0) (is-lt a (2 ^ 48))) (λ w. record { even = w .0; low = w .1 }) (λ r. (r .even, r .low))
 
-first-is : (n : ℕ) (f : ℕ → ℕ) → Is (lent.gathered n f) (First n f)
+first-is : (n : ℕ) (f : ℕ → ℕ) → Decides (lent.gathered n f) (First n f)
 first-is n f = is-every (n - 1) (λ i. is-imp (is-eq (f i) 0) (is-eq (f (i + 1)) 0))
 
 module _ (S : Settings) (L : Lent) where
-  line-is : (l : ℕ) → Is (lent.lineFine S (L .longs) (L .words) (L .marks) l) (LineIs S L l)
+  line-is : (l : ℕ) → Decides (lent.lineFine S (L .longs) (L .words) (L .marks) l) (LineIs S L l)
   line-is l =
       is-as
       (is-and
@@ -179,10 +179,10 @@ module _ (S : Settings) (L : Lent) where
       })
       (λ r. ((((r .dead, λ v. (r .block v, r .home v)), r .past), r .since), r .alone))
 
-  used-is : (e : ℕ) → Is (lent.used S (L .longs) (L .words) (L .marks) e) (Used S L e)
+  used-is : (e : ℕ) → Decides (lent.used S (L .longs) (L .words) (L .marks) e) (Used S L e)
   used-is e = is-not (is-eq (ticketCount S L e) 0)
 
-  sector-is : (i : ℕ) → Is (lent.sectorFine S (L .longs) (L .words) (L .marks) i) (SectorIs S L i)
+  sector-is : (i : ℕ) → Decides (lent.sectorFine S (L .longs) (L .words) (L .marks) i) (SectorIs S L i)
   sector-is i =
       is-as
       (is-and
@@ -197,13 +197,13 @@ module _ (S : Settings) (L : Lent) where
       (λ w. record { known = w .0 .0 .0 .0 .0; mark = w .0 .0 .0 .0 .1; clean = w .0 .0 .0 .1; dirty = w .0 .0 .1; unreadable = w .0 .1; backed = w .1 })
       (λ r. (((((r .known, r .mark), r .clean), r .dirty), r .unreadable), r .backed))
 
-  reserves-is : (a l : ℕ) → Is (lent.reservedFor S (L .longs) (L .words) (L .marks) a l) (Reserves S L a l)
+  reserves-is : (a l : ℕ) → Decides (lent.reservedFor S (L .longs) (L .words) (L .marks) a l) (Reserves S L a l)
   reserves-is a l =
       is-as (is-and (is-and (is-flag (live S L l)) (is-eq (tag S L l) (blockOf a))) (is-eq (status S L (4 * l + sectorIndex a)) 1))
       (λ w. record { lives = w .0 .0; has = w .0 .1; waits = w .1 })
       (λ r. ((r .lives, r .has), r .waits))
 
-  entry-is : (e : ℕ) → Is (lent.entryFine S (L .longs) (L .words) (L .marks) e) (EntryIs S L e)
+  entry-is : (e : ℕ) → Decides (lent.entryFine S (L .longs) (L .words) (L .marks) e) (EntryIs S L e)
   entry-is e =
       is-as
       (is-and
@@ -225,13 +225,13 @@ module _ (S : Settings) (L : Lent) where
       })
       (λ r. (((((r .few, r .mark), r .blank), λ u. (r .even u, r .backed u)), λ u d h v. r .alone u d h (v .0) (v .1)), λ v. r .asked (v .0) (v .1)))
 
-  unsent-is : (a e : ℕ) → Is (lent.unsentFor S (L .longs) (L .words) (L .marks) a e) (Unsent S L a e)
+  unsent-is : (a e : ℕ) → Decides (lent.unsentFor S (L .longs) (L .words) (L .marks) a e) (Unsent S L a e)
   unsent-is a e =
       is-as (is-and (is-and (used-is e) (is-eq (sent S L e) 0)) (is-eq (miss S L e) a))
       (λ w. record { used = w .0 .0; waits = w .0 .1; has = w .1 })
       (λ r. ((r .used, r .waits), r .has))
 
-  place-is : (p : ℕ) → Is (lent.placeFine S (L .longs) (L .words) (L .marks) p) (PlaceIs S L p)
+  place-is : (p : ℕ) → Decides (lent.placeFine S (L .longs) (L .words) (L .marks) p) (PlaceIs S L p)
   place-is p =
       is-as
       (is-and
@@ -244,7 +244,7 @@ module _ (S : Settings) (L : Lent) where
       (λ w. record { known = w .0 .0 .0 .0; blank = w .0 .0 .0 .1; bare = w .0 .0 .1; block = λ k. w .0 .1 k .0; dirty = λ k. w .0 .1 k .1; backed = w .1 })
       (λ r. ((((r .known, r .blank), r .bare), λ k. (r .block k, r .dirty k)), r .backed))
 
-  pub sound-is : Is (lent.soundLent S L) (SoundIs S L)
+  pub sound-is : Decides (lent.soundLent S L) (SoundIs S L)
   unfolding lent.soundNumbers
   sound-is =
       is-as

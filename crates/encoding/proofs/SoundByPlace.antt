@@ -19,47 +19,47 @@ use Rattle.words.specs.Words.{pick, all, any, count}
 use Rattle.model.specs.Range.{linesOf, isTree}
 use Rattle.model.specs.Tree.{treeFine}
 use Rattle.model.specs.Address.{blockOf, setIndex}
-use Rattle.model.specs.Tables.{Tables, isReserved, unused, holds, entryFor, idle, empty, fresh, noEntry, dirtyLines}
+use Rattle.model.specs.Tables.{Tables, isReserved, whollyInvalid, holds, entryFor, idle, empty, fresh, noEntry, dirtyLines}
 use Rattle.model.specs.Numbers.{statusNumber, queueKindNumber}
 use Rattle.model.specs.Lent.{bit}
 use Rattle.model.specs.Sound.{allOnes, lastCycle, maskOk, sectorOk, lineOk, alone, agrees, reservedOk, readingOf, unsentFor, entryOk, kindOk, queuedOk, sound}
 use Rattle.words.proofs.Flags.{and-1, and-2, and-i, not-no, not-yes, clash, same-is, is-same}
 use Rattle.words.proofs.Below.{every-at, every-i}
 use Rattle.words.proofs.Lists.{count-index, index-count}
-use Rattle.words.proofs.Reflect.{Is, is-flag, is-eq, is-le, is-lt, is-not, is-and, is-every, is-some, is-as}
+use Rattle.words.proofs.Reflect.{Decides, is-flag, is-eq, is-le, is-lt, is-not, is-and, is-every, is-some, is-as}
 use Rattle.words.proofs.Tabled.{all-get, any-get}
-use Rattle.encoding.proofs.Facts.{Block, block-is}
-use Rattle.encoding.proofs.Shapes.{line, sector, entry, place, addressIn, kindIn, maskIn, Shape}
+use Rattle.encoding.proofs.LentSoundFacts.{Block, block-is}
+use Rattle.encoding.proofs.NumbersAreTables.{line, sector, entry, place, addressIn, kindIn, maskIn, Shape}
 
 -- ---- tests on a list, and choices, with what they decide
 
-is-test : {a b : Bool} {P : Type 0} → a ≡ b → Is b P → Is a P
+is-test : {a b : Bool} {P : Type 0} → a ≡ b → Decides b P → Decides a P
 is-test e i = rw e i
 
 module _ {A : Type 0} (p : A → Bool) {P : ℕ → Type 0} (xs : List A) (d : A) where
-  is-all : ((i : ℕ) → i < length xs → Is (p (getD xs i d)) (P i)) → Is (all p xs) ((i : ℕ) → i < length xs → P i)
+  is-all : ((i : ℕ) → i < length xs → Decides (p (getD xs i d)) (P i)) → Decides (all p xs) ((i : ℕ) → i < length xs → P i)
   is-all f =
       is-test (all-get p xs d) record {
         fact = λ e i h. f i h .fact (every-at (λ i. p (getD xs i d)) (length xs) i e h);
         test = λ g. every-i (λ i. p (getD xs i d)) (length xs) (λ i h. f i h .test (g i h));
       }
 
-  is-any : ((i : ℕ) → Is (p (getD xs i d)) (P i)) → Is (any p xs) ((i : ℕ) × (i < length xs) × P i)
+  is-any : ((i : ℕ) → Decides (p (getD xs i d)) (P i)) → Decides (any p xs) ((i : ℕ) × (i < length xs) × P i)
   is-any f = is-test (any-get p xs d) (is-some (length xs) f)
 
 -- exactly one passes
 is-one : {A : Type 0} (p : A → Bool) (xs : List A) (d : A) (i : ℕ) → i < length xs → p (getD xs i d) ≡ true
-    → Is (eqb (count p xs) 1) ((j : ℕ) → j < length xs → p (getD xs j d) ≡ true → j ≡ i)
+    → Decides (eqb (count p xs) 1) ((j : ℕ) → j < length xs → p (getD xs j d) ≡ true → j ≡ i)
 is-one p xs d i h e = record {
   fact = λ t j k f. count-index p d xs (eqb-true _ _ t) j i k h f e;
   test = λ f. eq-eqb _ _ (index-count p d xs i h e f);
 }
 
-is-pick : {b x y : Bool} {P Q : Type 0} → Is x P → Is y Q → Is (pick b x y) ((b ≡ true → P) × (b ≡ false → Q))
+is-pick : {b x y : Bool} {P Q : Type 0} → Decides x P → Decides y Q → Decides (pick b x y) ((b ≡ true → P) × (b ≡ false → Q))
 is-pick {b = true} i j = record { fact = λ e. (λ z. i .fact e, λ z. clash refl z); test = λ w. i .test (w .0 refl) }
 is-pick {b = false} i j = record { fact = λ e. (λ z. clash z refl, λ z. j .fact e); test = λ w. j .test (w .1 refl) }
 
-is-else : {a b : Bool} {Q : Type 0} → (a ≡ false → Is b Q) → Is (a || b) (a ≡ false → Q)
+is-else : {a b : Bool} {Q : Type 0} → (a ≡ false → Decides b Q) → Decides (a || b) (a ≡ false → Q)
 is-else {a = true} i = record { fact = λ e z. clash refl z; test = λ f. refl }
 is-else {a = false} i = record { fact = λ e z. i refl .fact e; test = λ f. i refl .test (f refl) }
 
@@ -84,7 +84,7 @@ bit-clear true z = absurd (omega arith)
 bit-clear false z = refl
 
 -- INVALID or VALID: mask 0, readable
-clean-is : (x m : ℕ) (r : Bool) → (x ≡ 0) ⊎ (x ≡ 2) → Is (eqb m 0 && r) (SectorOk x m (bit r))
+clean-is : (x m : ℕ) (r : Bool) → (x ≡ 0) ⊎ (x ≡ 2) → Decides (eqb m 0 && r) (SectorOk x m (bit r))
 clean-is x m r c =
     is-as (is-and (is-eq m 0) (is-flag r))
     (λ w. let z = w .0 in record {
@@ -98,7 +98,7 @@ clean-is x m r c =
     three : x ≡ 3 → ⊥
     three e = ⊎-elim (λ z. omega arith) (λ z. omega arith) c
 
-sector-ok-is : (s : Status) (m : ℕ) (r : Bool) → Is (maskOk s m r) (SectorOk (statusNumber s) m (bit r))
+sector-ok-is : (s : Status) (m : ℕ) (r : Bool) → Decides (maskOk s m r) (SectorOk (statusNumber s) m (bit r))
 sector-ok-is Invalid m r = clean-is 0 m r (inl refl)
 sector-ok-is Reserved m r =
     is-as (is-and (is-le m allOnes) (is-flag r))
@@ -124,14 +124,14 @@ sector-ok-is Modified m r =
 
 module _ (S : Settings) (t : Tables) where
   abbrev pub Lives : ℕ → Type 0
-  Lives l = unused (line t l) ≡ false
+  Lives l = whollyInvalid (line t l) ≡ false
 
   pub record LineOk (l : ℕ) : Type 0 where
     pub four : length (line t l .sectors) ≡ 4
     pub sectors : (k : ℕ) → k < 4 → SectorOk (statusNumber (sector t l k .status)) (sector t l k .mask) (bit (sector t l k .readable))
     pub past : line t l .cycle ≤ t .now
     pub since : line t l .taken ≤ line t l .cycle
-    pub dead : unused (line t l) ≡ true → ((line t l .tag ≡ 0) × (line t l .cycle ≡ 0)) × (line t l .taken ≡ 0)
+    pub dead : whollyInvalid (line t l) ≡ true → ((line t l .tag ≡ 0) × (line t l .cycle ≡ 0)) × (line t l .taken ≡ 0)
     pub block : Lives l → Block (line t l .tag)
     pub home : Lives l → setIndex S (line t l .tag) ≡ l / S .ways
 
@@ -189,7 +189,7 @@ module _ (S : Settings) (t : Tables) where
 -- ---- each test with its facts
 
 module _ (S : Settings) (t : Tables) where
-  line-ok-is : (l : ℕ) → Is (lineOk S (t .now) l (line t l)) (LineOk S t l)
+  line-ok-is : (l : ℕ) → Decides (lineOk S (t .now) l (line t l)) (LineOk S t l)
   unfolding lineOk
   line-ok-is l =
       is-as
@@ -199,7 +199,7 @@ module _ (S : Settings) (t : Tables) where
       (λ k h. sector-ok-is (sector t l k .status) (sector t l k .mask) (sector t l k .readable))))
       (is-le (line t l .cycle) (t .now)))
       (is-le (line t l .taken) (line t l .cycle)))
-      (is-pick {b = unused (line t l)} (is-and (is-and (is-eq (line t l .tag) 0) (is-eq (line t l .cycle) 0)) (is-eq (line t l .taken) 0))
+      (is-pick {b = whollyInvalid (line t l)} (is-and (is-and (is-eq (line t l .tag) 0) (is-eq (line t l .cycle) 0)) (is-eq (line t l .taken) 0))
       (is-and (block-is (line t l .tag)) (is-eq (setIndex S (line t l .tag)) (l / S .ways)))))
       (λ w. let four = w .0 .0 .0 .0 in record {
         four = four;
@@ -215,25 +215,25 @@ module _ (S : Settings) (t : Tables) where
   holds-i : (m : ℕ) (b : ℕ) → Lives S t m → line t m .tag ≡ b → holds b (line t m) ≡ true
   holds-i m b v e = and-i (not-no v) (eq-eqb _ _ e)
 
-  holds-is : (b m : ℕ) → Is (holds b (line t m)) (Lives S t m × (line t m .tag ≡ b))
+  holds-is : (b m : ℕ) → Decides (holds b (line t m)) (Lives S t m × (line t m .tag ≡ b))
   holds-is b m = record {
-    fact = λ e. (not-yes {b = unused (line t m)} (and-1 (not (unused (line t m))) _ e), eqb-true _ _ (and-2 (not (unused (line t m))) _ e));
+    fact = λ e. (not-yes {b = whollyInvalid (line t m)} (and-1 (not (whollyInvalid (line t m))) _ e), eqb-true _ _ (and-2 (not (whollyInvalid (line t m))) _ e));
     test = λ w. holds-i m b (w .0) (w .1);
   }
 
-  alone-is : (l : ℕ) → l < length (t .lines) → Is (alone (t .lines) (line t l)) (Alone S t l)
+  alone-is : (l : ℕ) → l < length (t .lines) → Decides (alone (t .lines) (line t l)) (Alone S t l)
   unfolding alone
   alone-is l h =
       is-else (λ v. is-as (is-one (holds (line t l .tag)) (t .lines) fresh l h (holds-i l (line t l .tag) v refl))
       (λ f m k u e. f m k (holds-i m (line t l .tag) u e))
       (λ f m k e. let w = holds-is (line t l .tag) m .fact e in f m k (w .0) (w .1)))
 
-  agrees-is : (l : ℕ) → Is (reservedOk (t .misses) (line t l)) (Agrees S t l)
+  agrees-is : (l : ℕ) → Decides (reservedOk (t .misses) (line t l)) (Agrees S t l)
   unfolding reservedOk
   agrees-is l =
       is-else (λ v. is-every 4 (λ k. record { fact = λ e. same-is _ _ e; test = λ e. is-same _ _ e }))
 
-  entry-ok-is : (e : ℕ) → e < length (t .misses) → Is (entryOk S t (entry t e)) (EntryOk S t e)
+  entry-ok-is : (e : ℕ) → e < length (t .misses) → Decides (entryOk S t (entry t e)) (EntryOk S t e)
   unfolding entryOk
   entry-ok-is e h =
       is-as
@@ -256,7 +256,7 @@ module _ (S : Settings) (t : Tables) where
       })
       (λ r. (((((r .even, r .low), r .home), λ d k q. r .alone d k (eqb-true _ _ q)), (r .held, r .short)), r .asked))
 
-  unsent-is : (a e : ℕ) → Is (unsentFor a (entry t e)) ((entry t e .address ≡ a) × (entry t e .sent ≡ false))
+  unsent-is : (a e : ℕ) → Decides (unsentFor a (entry t e)) ((entry t e .address ≡ a) × (entry t e .sent ≡ false))
   unsent-is a e = is-and (is-eq (entry t e .address) a) (record { fact = λ z. not-yes {b = entry t e .sent} z; test = λ z. not-no z })
 
   -- what its kind asks of a queued entry
@@ -266,7 +266,7 @@ module _ (S : Settings) (t : Tables) where
     block : queueKindNumber k ≡ 2 → Block a
     dirty : queueKindNumber k ≡ 2 → (i : ℕ) × (i < length ms) × (getD ms i 0 ≡ 0 → ⊥)
 
-  kind-ok-is : (k : QueueKind) (a : ℕ) (ms : List ℕ) → Is (kindOk (t .misses) k a ms) (KindOk k a ms)
+  kind-ok-is : (k : QueueKind) (a : ℕ) (ms : List ℕ) → Decides (kindOk (t .misses) k a ms) (KindOk k a ms)
   kind-ok-is queue.Read a ms =
       is-as (is-and (is-any (unsentFor a) (t .misses) noEntry (unsent-is a)) (is-all (λ m. eqb m 0) ms 0 (λ i h. is-eq (getD ms i 0) 0)))
       (λ w. record {
@@ -286,7 +286,7 @@ module _ (S : Settings) (t : Tables) where
       })
       (λ r. (r .block refl, r .dirty refl))
 
-  queued-ok-is : (x : Queued) → Is (queuedOk (t .misses) x) (QueuedOk S t x)
+  queued-ok-is : (x : Queued) → Decides (queuedOk (t .misses) x) (QueuedOk S t x)
   unfolding queuedOk
   queued-ok-is x =
       let ms : List ℕ = x .masks in
@@ -311,7 +311,7 @@ module _ (S : Settings) (t : Tables) where
         },
       ))
 
-  pub soundly-is : Is (sound S t) (Soundly S t)
+  pub soundly-is : Decides (sound S t) (Soundly S t)
   unfolding sound
   soundly-is =
       is-as

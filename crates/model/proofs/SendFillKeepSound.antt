@@ -12,7 +12,7 @@ use borrow.Author.Tests.{leb-true, eqb-true, eqb-false, eq-eqb, ne-eqb, le-leb}
 use Rattle.words.specs.Words.{all, any, count, keep, every, same, pick, one}
 use Rattle.model.specs.Range.{linesOf}
 use Rattle.model.specs.Address.{blockOf, sectorIndex}
-use Rattle.model.specs.Tables.{Line, Entry, Tables, refused, isInvalid, isReserved, unused, holds, entryFor, isFetch, empty, fresh, isModified, dirty, dirtyLines}
+use Rattle.model.specs.Tables.{Line, Entry, Tables, refused, isInvalid, isReserved, whollyInvalid, holds, entryFor, isFetch, empty, fresh, isModified, dirty, dirtyLines}
 use Rattle.model.specs.Sound.{maskOk, sectorOk, lineOk, alone, reservedOk, readingOf, unsentFor, entryOk, kindOk, queuedOk, allOnes}
 use Rattle.model.specs.Steps.{mark, markedFor, marked, afterSend, sendFrom, send, arrived, fillLine, others, afterFill, sentFor, fill, soiled}
 use Rattle.model.specs.declared.Settings.{Settings}
@@ -192,12 +192,12 @@ module _ (a : ℕ) (l : Line) (four : length (l .sectors) ≡ 4) where
       by-flag (λ (m : Line). length (m .sectors) ≡ length (l .sectors)) (holds (blockOf a) l) _ _
       (λ e. length-set (l .sectors) (sectorIndex a) _) (λ e. refl)
 
-  fill-unused : unused (fillLine a l) ≡ unused l
+  fill-unused : whollyInvalid (fillLine a l) ≡ whollyInvalid l
   unfolding fillLine old
   fill-unused =
-      by-flag (λ (m : Line). unused m ≡ unused l) (holds (blockOf a) l) _ _
+      by-flag (λ (m : Line). whollyInvalid m ≡ whollyInvalid l) (holds (blockOf a) l) _ _
       (λ e. set-some (λ (s : Sector). isInvalid (s .status)) (l .sectors) (sectorIndex a) (arrived old) (omega arith) (arrived-used old)
-      ∙ sym (not-yes (and-1 (not (unused l)) (eqb (l .tag) (blockOf a)) e)))
+      ∙ sym (not-yes (and-1 (not (whollyInvalid l)) (eqb (l .tag) (blockOf a)) e)))
       (λ e. refl)
 
   fill-sectors : all sectorOk (l .sectors) ≡ true → all sectorOk (fillLine a l .sectors) ≡ true
@@ -263,11 +263,11 @@ module _ (a : ℕ) (l : Line) (four : length (l .sectors) ≡ 4) where
   fill-other k g n =
       by-flag (λ (m : Line). getD (m .sectors) k empty ≡ getD (l .sectors) k empty) (holds (blockOf a) l) _ _
       (λ e. getD-set-other (l .sectors) (sectorIndex a) k _ empty
-      (λ q. n (rw (q, eqb-true (l .tag) (blockOf a) (and-2 (not (unused l)) (eqb (l .tag) (blockOf a)) e)) (address-is a g))))
+      (λ q. n (rw (q, eqb-true (l .tag) (blockOf a) (and-2 (not (whollyInvalid l)) (eqb (l .tag) (blockOf a)) e)) (address-is a g))))
       (λ e. refl)
 
   -- the address's is RESERVED no more
-  fill-this : (k : ℕ) → unused l ≡ false → l .tag % 128 ≡ 0 → k < 4 → l .tag + 32 * k ≡ a
+  fill-this : (k : ℕ) → whollyInvalid l ≡ false → l .tag % 128 ≡ 0 → k < 4 → l .tag + 32 * k ≡ a
       → isReserved (getD (fillLine a l .sectors) k empty .status) ≡ false
   unfolding fillLine old
   fill-this k u g h e =
@@ -323,7 +323,7 @@ module _ (S : Settings) (t : Tables) (ok : Sound S t) (d : Entry) (m : In d (t .
   gone : any (entryFor a) left ≡ false
   gone = no-yes (λ h. let (e, n, q) = any-in (entryFor a) left h in clash q (not-yes (in-keep (others a) (t .misses) n .1)))
 
-  filled-sector : (l : Line) → In l (t .lines) → unused l ≡ false → (k : ℕ) → k < 4
+  filled-sector : (l : Line) → In l (t .lines) → whollyInvalid l ≡ false → (k : ℕ) → k < 4
       → isReserved (getD (fillLine a l .sectors) k empty .status) ≡ any (entryFor (l .tag + 32 * k)) left
   filled-sector l n u k h = go (flag (eqb (l .tag + 32 * k) a))
     where
@@ -342,12 +342,12 @@ module _ (S : Settings) (t : Tables) (ok : Sound S t) (d : Entry) (m : In d (t .
 
   filled-reserved : (l : Line) → In l (t .lines) → reservedOk left (fillLine a l) ≡ true
   unfolding reservedOk
-  filled-reserved l n = rw (fill-unused a l (four-at S t ok l n), fill-tag a l) (go (flag (unused l)))
+  filled-reserved l n = rw (fill-unused a l (four-at S t ok l n), fill-tag a l) (go (flag (whollyInvalid l)))
     where
       agreeing : ℕ → Bool
       agreeing k = same (isReserved (getD (fillLine a l .sectors) k empty .status)) (any (entryFor (l .tag + 32 * k)) left)
 
-      go : (unused l ≡ true) ⊎ (unused l ≡ false) → (unused l || every 4 agreeing) ≡ true
+      go : (whollyInvalid l ≡ true) ⊎ (whollyInvalid l ≡ false) → (whollyInvalid l || every 4 agreeing) ≡ true
       go (inl u) = rw u
       go (inr u) = rw u (every-i agreeing 4 (λ k h. is-same _ _ (filled-sector l n u k h)))
 
@@ -382,8 +382,8 @@ module _ (S : Settings) (t : Tables) (ok : Sound S t) (d : Entry) (m : In d (t .
   unfolding alone
   one-holds =
       let (l, n, h) = any-in (holds (blockOf a)) (t .lines) (entry-at S t ok d m .held) in
-      let tag : l .tag ≡ blockOf a = eqb-true (l .tag) (blockOf a) (and-2 (not (unused l)) (eqb (l .tag) (blockOf a)) h) in
-      let live : unused l ≡ false = not-yes (and-1 (not (unused l)) (eqb (l .tag) (blockOf a)) h) in
+      let tag : l .tag ≡ blockOf a = eqb-true (l .tag) (blockOf a) (and-2 (not (whollyInvalid l)) (eqb (l .tag) (blockOf a)) h) in
+      let live : whollyInvalid l ≡ false = not-yes (and-1 (not (whollyInvalid l)) (eqb (l .tag) (blockOf a)) h) in
       eqb-true (count (holds (blockOf a)) (t .lines)) 1 (rw (live, tag) at (all-in (alone (t .lines)) (t .lines) (ok .single) n))
 
   -- a fill loses no dirty line

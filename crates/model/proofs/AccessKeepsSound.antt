@@ -14,7 +14,7 @@ use borrow.Author.Tests.{leb-true, leb-false, ltb-true, ltb-false, lt-ltb, eqb-t
 use Rattle.words.specs.Words.{pick, all, any, count, every}
 use Rattle.model.specs.Range.{within, linesOf, inRange}
 use Rattle.model.specs.Address.{blockOf, sectorIndex, setIndex, lineNumber, addressOf, maskOf, isRead, goodSector, wellFormed}
-use Rattle.model.specs.Tables.{Line, Entry, reading, Tables, isInvalid, isReserved, unused, holds, entryFor, isFetch, empty, fresh, dirty, dirtyLines}
+use Rattle.model.specs.Tables.{Line, Entry, reading, Tables, isInvalid, isReserved, whollyInvalid, holds, entryFor, isFetch, empty, fresh, dirty, dirtyLines}
 use Rattle.model.specs.Sound.{allOnes, maskOk, sectorOk, lineOk, alone, agrees, reservedOk, readingOf, unsentFor, entryOk, queuedOk}
 use Rattle.model.specs.Probe.{Spot}
 use Rattle.model.specs.Steps.{isHit, isMerge, isMiss, onSector, update, join, onMisses, fetches, queues, placesNeeded, entryFull, afterAccess, lineAfter, takenBy}
@@ -283,7 +283,7 @@ module _ (S : Settings) (t : Tables) (ok : Sound S t) (x : Access) (formed : wel
 
   -- ---- the lines
 
-  new-used : unused new ≡ false
+  new-used : whollyInvalid new ≡ false
   unfolding new
   new-used = set-some (λ (s : Sector). isInvalid (s .status)) (p .line .sectors) i _ below (sp .used)
 
@@ -314,7 +314,7 @@ module _ (S : Settings) (t : Tables) (ok : Sound S t) (x : Access) (formed : wel
   apart : (c j : ℕ) → j < length (t .lines) → j ≢ n → holds c new ≡ true → holds c (getD (t .lines) j fresh) ≡ false
   unfolding new
   apart c j h z e =
-      let q : p .line .tag ≡ c = eqb-true (p .line .tag) c (and-2 (not (unused new)) (eqb (p .line .tag) c) e) in
+      let q : p .line .tag ≡ c = eqb-true (p .line .tag) c (and-2 (not (whollyInvalid new)) (eqb (p .line .tag) c) e) in
       ap (λ (c : ℕ). holds c (getD (t .lines) j fresh)) (sym q ∙ sp .tagged) ∙ sp .lone j h z
 
   taken-single : (c j : ℕ) → j < length (u .lines) → holds c (getD (u .lines) j fresh) ≡ true
@@ -327,16 +327,16 @@ module _ (S : Settings) (t : Tables) (ok : Sound S t) (x : Access) (formed : wel
 
   taken-alone : (j : ℕ) → j < length (u .lines) → alone (u .lines) (getD (u .lines) j fresh) ≡ true
   unfolding alone
-  taken-alone j h = go (flag (unused l))
+  taken-alone j h = go (flag (whollyInvalid l))
     where
       l : Line
       l = getD (u .lines) j fresh
 
-      go : (unused l ≡ true) ⊎ (unused l ≡ false) → (unused l || eqb (count (holds (l .tag)) (u .lines)) 1) ≡ true
+      go : (whollyInvalid l ≡ true) ⊎ (whollyInvalid l ≡ false) → (whollyInvalid l || eqb (count (holds (l .tag)) (u .lines)) 1) ≡ true
       go (inl e) = rw e
       go (inr e) =
           let m : holds (l .tag) l ≡ true = and-i (not-no e) (eq-eqb (l .tag) (l .tag) refl) in
-          or-2 (unused l) _ (eq-eqb _ 1 (index-count (holds (l .tag)) fresh (u .lines) j h m (taken-single (l .tag) j h m)))
+          or-2 (whollyInvalid l) _ (eq-eqb _ 1 (index-count (holds (l .tag)) fresh (u .lines) j h m (taken-single (l .tag) j h m)))
 
   -- an address outside the line's new sector has the entries that it had
   other-any : (c : ℕ) → c ≢ a → any (entryFor c) (u .misses) ≡ any (entryFor c) (t .misses)
@@ -365,7 +365,7 @@ module _ (S : Settings) (t : Tables) (ok : Sound S t) (x : Access) (formed : wel
           rw (getD-set-other (p .line .sectors) i k (onSector x (p .answer) old) empty (eqb-false k i e))
           (sp .agree k h ∙ sym (other-any (b + 32 * k) (λ q. eqb-false k i e (sector-is a b k (omega arith) h q))))
 
-  taken-other : (l : Line) → In l (t .lines) → holds b l ≡ false → unused l ≡ false → (k : ℕ) → k < 4
+  taken-other : (l : Line) → In l (t .lines) → holds b l ≡ false → whollyInvalid l ≡ false → (k : ℕ) → k < 4
       → isReserved (getD (l .sectors) k empty .status) ≡ any (entryFor (l .tag + 32 * k)) (u .misses)
   taken-other l m z e k h =
       reserved-at S t ok l m e k h
@@ -375,15 +375,15 @@ module _ (S : Settings) (t : Tables) (ok : Sound S t) (x : Access) (formed : wel
   unfolding reservedOk new
   taken-reserved =
       each (λ j l. reservedOk (u .misses) l ≡ true) (t .lines) fresh n new
-      (or-2 (unused new) (every 4 (agrees (u .misses) new)) (every-i (agrees (u .misses) new) 4 this))
-      (λ j h z. go (getD (t .lines) j fresh) (in-getD (t .lines) j fresh h) (sp .lone j h z) (flag (unused (getD (t .lines) j fresh))))
+      (or-2 (whollyInvalid new) (every 4 (agrees (u .misses) new)) (every-i (agrees (u .misses) new) 4 this))
+      (λ j h z. go (getD (t .lines) j fresh) (in-getD (t .lines) j fresh h) (sp .lone j h z) (flag (whollyInvalid (getD (t .lines) j fresh))))
     where
       this : (k : ℕ) → k < 4 → agrees (u .misses) new k ≡ true
       this k h = is-same (isReserved (getD (new .sectors) k empty .status)) (any (entryFor (new .tag + 32 * k)) (u .misses)) (rw (sp .tagged) (taken-new k h))
 
-      go : (l : Line) → In l (t .lines) → holds b l ≡ false → (unused l ≡ true) ⊎ (unused l ≡ false) → reservedOk (u .misses) l ≡ true
+      go : (l : Line) → In l (t .lines) → holds b l ≡ false → (whollyInvalid l ≡ true) ⊎ (whollyInvalid l ≡ false) → reservedOk (u .misses) l ≡ true
       go l m z (inl e) = rw e
-      go l m z (inr e) = or-2 (unused l) (every 4 (agrees (u .misses) l)) (every-i (agrees (u .misses) l) 4
+      go l m z (inr e) = or-2 (whollyInvalid l) (every 4 (agrees (u .misses) l)) (every-i (agrees (u .misses) l) 4
           (λ k h. is-same (isReserved (getD (l .sectors) k empty .status)) (any (entryFor (l .tag + 32 * k)) (u .misses)) (taken-other l m z e k h)))
 
   -- ---- the entries and the queue

@@ -17,17 +17,17 @@ use Rattle.model.specs.declared.Status.the-variants.{Invalid, Reserved, Valid, 
 use Rattle.words.specs.Words.{any}
 use Rattle.model.specs.Range.{linesOf}
 use Rattle.model.specs.Address.{sectorIndex}
-use Rattle.model.specs.Tables.{Entry, Tables, isInvalid, isReserved, unused, entryFor, idle, noEntry}
+use Rattle.model.specs.Tables.{Entry, Tables, isInvalid, isReserved, whollyInvalid, entryFor, idle, noEntry}
 use Rattle.model.specs.Lent.{Lent, bit}
 use Rattle.words.proofs.Flags.{flag, not-yes, not-no, clash}
 use Rattle.words.proofs.Below.{every-at, some-at, some-i}
 use Rattle.model.proofs.Answers.{status-below}
 use Rattle.words.proofs.Tabled.{any-get}
 use Rattle.encoding.proofs.InUse.{lt-or-ge}
-use Rattle.encoding.proofs.Facts.{tag, status, readable, miss, sent, ticketCount, ticket, queued, kind, Live, Used, LineIs, SectorIs, Reserves, EntryIs, Unsent, PlaceIs, SoundIs}
-use Rattle.encoding.proofs.Standing.{Stands}
-use Rattle.encoding.proofs.Shapes.{line, sector, entry, place, kindIn, maskIn, Shape, reserved-number, tag-is, cycle-is, taken-is, tree-is, status-is, mask-is, readable-is, unused-is, live-is, dirty-counts, miss-is, sent-is, count-is, ticket-is, count-out, entry-in, in-entry, kind-in, kind-out, queued-in, queued-out, queue-mask-is, place-in, in-place, reads-are}
-use Rattle.encoding.proofs.Soundly.{Lives, Soundly, soundly-shape, bit-clear}
+use Rattle.encoding.proofs.LentSoundFacts.{tag, status, readable, miss, sent, ticketCount, ticket, queued, kind, Live, Used, LineIs, SectorIs, Reserves, EntryIs, Unsent, PlaceIs, SoundIs}
+use Rattle.encoding.proofs.Standing.{ByNumber}
+use Rattle.encoding.proofs.NumbersAreTables.{line, sector, entry, place, kindIn, maskIn, Shape, reserved-number, tag-is, cycle-is, taken-is, tree-is, status-is, mask-is, readable-is, unused-is, live-is, dirty-counts, miss-is, sent-is, count-is, ticket-is, count-out, entry-in, in-entry, kind-in, kind-out, queued-in, queued-out, queue-mask-is, place-in, in-place, reads-are}
+use Rattle.encoding.proofs.SoundByPlace.{Lives, Soundly, soundly-shape, bit-clear}
 
 bit-low : (r : Bool) → bit r ≤ 1
 bit-low true = omega arith
@@ -47,20 +47,20 @@ kind-one : (k : QueueKind) → queueKindNumber k ≤ 1 → queueKindNumber k ≡
 kind-one queue.Read h = refl
 kind-one queue.WriteBack h = absurd (omega arith)
 
-module _ (S : Settings) (L : Lent) (t : Tables) (st : Stands S L t) (so : Soundly S t) where
+module _ (S : Settings) (L : Lent) (t : Tables) (st : ByNumber S L t) (so : Soundly S t) where
   sh : Shape S t
   sh = soundly-shape S t so
 
   -- ---- lines
 
   lives : (l : ℕ) → l < linesOf S → Live S L l → Lives S t l
-  lives l h v = not-yes {b = unused (line t l)} (sym (live-is S L t st sh l h) ∙ v)
+  lives l h v = not-yes {b = whollyInvalid (line t l)} (sym (live-is S L t st sh l h) ∙ v)
 
   live-i : (l : ℕ) → l < linesOf S → Lives S t l → Live S L l
   live-i l h v = live-is S L t st sh l h ∙ not-no v
 
-  dies : (l : ℕ) → l < linesOf S → (Live S L l → ⊥) → unused (line t l) ≡ true
-  dies l h f = ⊎-elim (λ u. u) (λ u. absurd (f (live-i l h u))) (flag (unused (line t l)))
+  dies : (l : ℕ) → l < linesOf S → (Live S L l → ⊥) → whollyInvalid (line t l) ≡ true
+  dies l h f = ⊎-elim (λ u. u) (λ u. absurd (f (live-i l h u))) (flag (whollyInvalid (line t l)))
 
   line-is : (l : ℕ) → l < linesOf S → LineIs S L l
   line-is l h =
@@ -88,7 +88,7 @@ module _ (S : Settings) (L : Lent) (t : Tables) (st : Stands S L t) (so : Soundl
       ⊎-elim
       (λ u. absurd (not-both (sector t l k .status) (every-at (λ k. isInvalid (sector t l k .status)) 4 k (sym (unused-is S L t st sh l h) ∙ u) j) r))
       (λ u. u)
-      (flag (unused (line t l)))
+      (flag (whollyInvalid (line t l)))
 
   sector-is : (l k : ℕ) → l < linesOf S → k < 4 → SectorIs S L (4 * l + k)
   sector-is l k h j =

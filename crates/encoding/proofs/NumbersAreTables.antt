@@ -20,15 +20,15 @@ use Rattle.model.specs.declared.Queued.{Queued}
 use Rattle.words.specs.Words.{pick, count, table, every, some, countBelow}
 use Rattle.model.specs.Numbers.{statusNumber, statusOf, queueKindNumber, queueKindOf}
 use Rattle.model.specs.Range.{linesOf}
-use Rattle.model.specs.Tables.{Line, Entry, Tables, isInvalid, isReserved, unused, isFetch, idle, empty, fresh, noEntry, isModified, dirty, dirtyLines}
+use Rattle.model.specs.Tables.{Line, Entry, Tables, isInvalid, isReserved, whollyInvalid, isFetch, idle, empty, fresh, noEntry, isModified, dirty, dirtyLines}
 use Rattle.model.specs.Lent.{Lent, bit, tagOf, cycleOf, takenOf, treeOf, masksOf, statusesOf, readablesOf, missOf, sentOf, ticketCountOf, ticketsIn, queuedOf, kindOf, queueMasksOf, inUse, sectorAt, sectorsAt, lineAt, entryAt, queueAt, tablesOf}
 use Rattle.model.specs.Sound.{readingOf}
 use Rattle.words.proofs.Flags.{iff}
 use Rattle.model.proofs.Answers.{status-of-number}
 use Rattle.words.proofs.Tabled.{all-get, any-get, count-get, table-list}
 use Rattle.encoding.proofs.InUse.{lt-or-ge, count-short, count-same, some-same, in-use-is}
-use Rattle.encoding.proofs.Facts.{tag, cycle, taken, status, mask, readable, miss, sent, ticketCount, ticket, queued, kind, queueMask, now, tree, live, dirtyLine, readFor, Used}
-use Rattle.encoding.proofs.Standing.{field, field-in, field-out, Stands}
+use Rattle.encoding.proofs.LentSoundFacts.{tag, cycle, taken, status, mask, readable, miss, sent, ticketCount, ticket, queued, kind, queueMask, now, tree, live, dirtyLine, readFor, Used}
+use Rattle.encoding.proofs.Standing.{field, field-in, field-out, ByNumber}
 
 -- ---- records of the tables by their place
 
@@ -157,7 +157,7 @@ sectors-table S words marks l = rw (add-zero (4 * l))
 
 -- ---- the numbers
 
-module _ (S : Settings) (L : Lent) (t : Tables) (st : Stands S L t) (sh : Shape S t) where
+module _ (S : Settings) (L : Lent) (t : Tables) (st : ByNumber S L t) (sh : Shape S t) where
   in-lines : (l : ℕ) → l < linesOf S → l < length (t .lines)
   in-lines l h = let e = sh .size in omega arith
 
@@ -194,12 +194,12 @@ module _ (S : Settings) (L : Lent) (t : Tables) (st : Stands S L t) (sh : Shape 
       ∙ field-in readablesOf (t .lines) fresh l k (in-lines l h)
       ∙ map-at (λ (s : Sector). bit (s .readable)) (line t l .sectors) empty k (in-sectors l k h j)
 
-  pub unused-is : (l : ℕ) → l < linesOf S → unused (line t l) ≡ every 4 (λ k. isInvalid (sector t l k .status))
+  pub unused-is : (l : ℕ) → l < linesOf S → whollyInvalid (line t l) ≡ every 4 (λ k. isInvalid (sector t l k .status))
   unused-is l h =
       all-get (λ (s : Sector). isInvalid (s .status)) (line t l .sectors) empty
       ∙ ap (λ (n : ℕ). every n (λ k. isInvalid (sector t l k .status))) (sh .fours l h)
 
-  pub live-is : (l : ℕ) → l < linesOf S → live S L l ≡ not (unused (line t l))
+  pub live-is : (l : ℕ) → l < linesOf S → live S L l ≡ not (whollyInvalid (line t l))
   live-is l h =
       some-same (λ k. not (eqb (status S L (4 * l + k)) 0)) (λ k. not (isInvalid (sector t l k .status))) 4
       (λ k j. ap not (ap (λ (n : ℕ). eqb n 0) (status-is l k h j) ∙ invalid-number (sector t l k .status)))

@@ -10,7 +10,7 @@ use Rattle.model.specs.Lent.{Lent, lengthsFit, tablesOf}
 use Rattle.model.specs.SoundLent.{soundLent, Small}
 use Rattle.model.specs.RunnerOf as runner
 use Rattle.model.specs.Runner.{keptStop, goesOn, halt, runFrom, lentResult, resume}
-use Rattle.model.specs.Inner.{Is}
+use Rattle.model.specs.Inner.{Encodes}
 use Rattle.model.specs.declared.Settings.{Settings}
 use Rattle.model.specs.declared.Stop.{Stop}
 use Rattle.model.specs.declared.Stop.the-variants.{Nothing}
@@ -34,7 +34,7 @@ kept S L =
     Goes n = goesOn n ≡ true → Kept S L
 
 -- the tables that the slices hold; the words are 32-bit numbers, which the code knows of any slice
-pub kept-is : (S : Settings) (L : Lent) → Small L → goesOn (keptStop S L) ≡ true → Is S L (tablesOf S L)
+pub kept-is : (S : Settings) (L : Lent) → Small L → goesOn (keptStop S L) ≡ true → Encodes S L (tablesOf S L)
 kept-is S L small h = let k = kept S L h in sound-encoded S L (k .range) (k .fits) small (k .soundly)
 
 module _ (S : Settings) (room : ℕ) (s : List ℕ) (L : Lent) where
@@ -47,7 +47,7 @@ module _ (S : Settings) (room : ℕ) (s : List ℕ) (L : Lent) where
   resume-goes z = rw z
 
   -- nothing stops a run that goes on from what sound tables are encoded as
-  module _ (t : Tables) (is : Is S L t) where
+  module _ (t : Tables) (is : Encodes S L t) where
     pub is-kept : keptStop S L ≡ Nothing
     is-kept = rw (is .range, is-fits S L t is, is-sound-lent S L t is)
 
