@@ -11,7 +11,9 @@ use borrow.Author.Tests.{eqb-true, ne-eqb}
 use Rattle.words.specs.Words.{pick, every, same}
 use Rattle.words.proofs.Flags.{and-1, and-2, same-is}
 use Rattle.words.proofs.Below.{every-at}
-use Rattle.probe.specs.Scan.{fourBytes, statusesAt, waitingAt, dirtyAt, cleanAt}
+use Rattle.tables.specs.Raw.{fourBytes, statusesAt}
+use Rattle.tables.proofs.Bytes.{zero-four, and-left}
+use Rattle.probe.specs.Scan.{waitingAt, dirtyAt, cleanAt}
 
 -- ---- byte by byte
 
@@ -73,17 +75,6 @@ clean b = not (eqb b 1) && not (ltb 2 b)
 byte-clean : (b : ℕ) → b < 256 → eqb (bitAnd b 253) 0 ≡ clean b
 byte-clean b h = same-is (eqb (bitAnd b 253) 0) (clean b) (every-at (λ b. same (eqb (bitAnd b 253) 0) (clean b)) 256 b refl h)
 
--- a number is zero if its low byte is and the rest
-zero-both : (a b : ℕ) → eqb (a * 256 + b) 0 ≡ (eqb b 0 && eqb a 0)
-zero-both zero zero = refl
-zero-both (suc a) zero = ne-eqb (suc a * 256 + 0) 0 (λ q. omega arith) ∙ sym (ne-eqb (suc a) 0 (λ q. omega arith))
-zero-both a (suc b) = rw (ne-eqb (suc b) 0 (λ q. omega arith)) (ne-eqb (a * 256 + suc b) 0 (λ q. omega arith))
-
-zero-four : (a b c d : ℕ) → eqb (fourBytes a b c d) 0 ≡ (eqb d 0 && (eqb c 0 && (eqb b 0 && eqb a 0)))
-zero-four a b c d =
-    zero-both ((a * 256 + b) * 256 + c) d
-    ∙ ap (λ (u : Bool). eqb d 0 && u) (zero-both (a * 256 + b) c ∙ ap (λ (u : Bool). eqb c 0 && u) (zero-both a b))
-
 module _ (a b c d : ℕ) (ha : a < 256) (hb : b < 256) (hc : c < 256) (hd : d < 256) where
   above-are : tops 0x7d7d7d7d (fourBytes a b c d) ≡ fourBytes (pick (ltb 2 a) 128 0) (pick (ltb 2 b) 128 0) (pick (ltb 2 c) 128 0) (pick (ltb 2 d) 128 0)
   above-are = tops-are 125 (omega arith) a b c d hb hc hd ∙ rw (byte-above a ha, byte-above b hb, byte-above c hc, byte-above d hd)
@@ -129,9 +120,6 @@ some-clear = sixteen _ (λ p q r s. p || q || r || s) refl
 
 neither : (p q r s : Bool) → ((not p && not q) && (not r && not s)) ≡ (not (p || r) && not (q || s))
 neither = sixteen _ (λ p q r s. not (p || r) && not (q || s)) refl
-
-and-left : (p q r s : Bool) → (p && (q && (r && s))) ≡ (p && q && r && s)
-and-left = sixteen _ (λ p q r s. p && q && r && s) refl
 
 -- ---- line l
 

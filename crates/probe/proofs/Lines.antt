@@ -20,12 +20,12 @@ use Rattle.model.specs.declared.Status.the-variants.{Invalid, Reserved, Valid, 
 use Rattle.model.specs.declared.Sector.{Sector}
 use Rattle.model.specs.declared.Found.{Found}
 use Rattle.words.proofs.Flags.{flag}
-use Rattle.words.proofs.Tabled.{length-table}
+use Rattle.words.proofs.Tabled.{length-table, getD-table}
 use Rattle.model.proofs.Ways.{flag-is}
 use Rattle.model.proofs.Trees.{choice-same, levels-are}
-use Rattle.probe.specs.Scan.{waitingAt, candidateAt, foundIn, lastUnusedIn, earliestIn, agesFrom, victimIn, wayOf, treeIn}
+use Rattle.probe.specs.Scan.{waitingAt, candidateAt, foundIn, lastUnusedIn, earliestIn, agesFrom, victimIn, treeIn}
 use Rattle.probe.proofs.Statuses.{unused-bytes, waiting-bytes, holds-bytes, candidate-bytes}
-use Rattle.probe.proofs.Ways.{getD-table, part-table, any-table, first-table, last-table, earliest-table, some-ext, first-ext, last-ext, best-ext}
+use Rattle.probe.proofs.Ways.{part-table, any-table, first-table, last-table, earliest-table, some-ext, first-ext, last-ext, least-ext}
 
 -- ---- a wholly invalid line is a candidate
 
@@ -105,11 +105,11 @@ module _ (S : Settings) (longs words marks : List ℕ) where
         go false = refl
 
     victim-by-age : (d : ℕ) → victim (byKey (age S)) S d (take m (drop b (linesIn S longs words marks)))
-        ≡ orElse (lastUnusedIn marks b m) (wayOf (earliestIn words marks (agesFrom S) b m (enoughDirty S d)))
+        ≡ orElse (lastUnusedIn marks b m) (earliestIn words marks (agesFrom S) b m (enoughDirty S d))
     victim-by-age d =
         victim-by (byKey (age S)) d
-        (earliest-table (candidate (enoughDirty S d)) line (age S) m
-        ∙ ap wayOf (best-ext _ _ _ _ m (λ w. candidate-bytes S longs words marks (b + w) (enoughDirty S d)) (λ w. age-at (b + w))))
+        (earliest-table (age S) (candidate (enoughDirty S d)) line m
+        ∙ least-ext _ _ _ _ (λ w. candidate-bytes S longs words marks (b + w) (enoughDirty S d)) (λ w. age-at (b + w)) m 0)
 
     victim-by-tree : (t : ℕ) (d : ℕ) → powerTo16 m ≡ true
         → victim (byTree t) S d (take m (drop b (linesIn S longs words marks))) ≡ orElse (lastUnusedIn marks b m) (treeIn marks b m (enoughDirty S d) t)

@@ -1,5 +1,5 @@
 -- Searches over the numbers below n: one turn of each loop, and what the loop has found where it ends.
-use Prim.Native.Nat.{ℕ, zero, suc, _+_, _*_, _≤_, _<_}
+use Prim.Native.Nat.{ℕ, zero, suc, _+_, _-_, _≤_, _<_}
 use mathlib.Core.Path.{_≡_, refl, sym, ap, _∙_}
 use mathlib.Core.Logic.{⊎-elim, _≢_}
 use mathlib.Core.Bool.{Bool, true, false}
@@ -8,15 +8,11 @@ use lib.ListN.{length}
 use native.Mathlib.Nat.{not-suc-le-zero, le-of-suc-le-suc, eq-or-lt-of-le}
 use native.Mathlib.Numerals.{add-one}
 use native.Mathlib.Omega.{arith}
-use lib.Dec.{leb}
-use borrow.Author.Tests.{lt-ltb, le-ltb, le-leb, eq-eqb, ne-eqb}
-use Rattle.words.specs.Words.{countBelow}
+use borrow.Author.Tests.{le-leb, lt-leb, eq-eqb, ne-eqb}
+use Rattle.words.specs.Words.{pick}
 use Rattle.model.specs.Probe.{orElse}
 use Rattle.model.specs.declared.Found.{Found}
 use Rattle.model.specs.declared.Found.the-variants.{At, Nothing}
-use Rattle.words.proofs.Below.{Counted, counted-end}
-use Rattle.probe.specs.declared.Best.{Best}
-use Rattle.probe.specs.declared.Best.the-variants.{Way, Nowhere}
 use Rattle.model.specs.Range.{linesOf, isFifo}
 use Rattle.model.specs.Layout.{wordsFrom, cycleRegion, takenRegion}
 use Rattle.model.specs.Inner.{Fit, told}
@@ -24,7 +20,7 @@ use Rattle.words.proofs.Flags.{by-flag}
 use Rattle.model.specs.declared.Settings.{Settings}
 use Rattle.layout.specs.declared.Layout.{Layout}
 use Rattle.layout.specs.Layout.{Placed}
-use Rattle.probe.specs.Scan.{firstBelow, lastBelow, bestBelow, nearerOf, agesFrom}
+use Rattle.probe.specs.Scan.{firstBelow, lastBelow, sooner, leastFrom, agesFrom}
 
 module _ (p : ℕ → Bool) where
   -- ---- the first: none before i passed
@@ -72,39 +68,63 @@ module _ (p : ℕ → Bool) where
   unfolding lastBelow
   unseen-end n i h u = rw (u .1, h)
 
-  -- ---- the best: b of those before i
+  -- ---- the same in one pass with the least: of those from i on that pass q the least key is c, at b; `n` is none, whose key no other is above
 
-  module _ (key : ℕ → ℕ) where
-    abbrev pub Leads : ℕ → ℕ → Best → Type 0
-    Leads n i b = (i ≤ n) × (b ≡ bestBelow i p key)
+  module _ (q : ℕ → Bool) (key : ℕ → ℕ) where
+    abbrev Keeps : ℕ → ℕ → ℕ → Found → Type 0
+    Keeps n b c Nothing = (b ≡ n) × (c ≡ 4294967295)
+    Keeps n b c (At v) = (b ≡ v) × (v < n) × (c ≡ key v)
 
-    pub leads-start : (n : ℕ) → Leads n 0 Nowhere
-    unfolding bestBelow
-    leads-start n = (omega arith, refl)
+    abbrev pub Leads : ℕ → ℕ → ℕ → ℕ → Type 0
+    Leads n i b c = Unseen n i × Keeps n b c (leastFrom (n - i) i q key)
 
-    pub leads-yes : (n i : ℕ) (b r : Best) {t : Bool} → i < n → t ≡ p i → t ≡ true → r ≡ nearerOf b i (key i) → Leads n i b → Leads n (i + 1) r
-    unfolding bestBelow
-    leads-yes n i b r h e t q u = (omega arith, rw (add-one i, ← e, t, ← (u .1)) q)
+    pub leads-start : (n : ℕ) → Leads n n n 4294967295
+    unfolding leastFrom
+    leads-start n = let e : n - n ≡ 0 = omega arith in (unseen-start n, rw e (refl, refl))
 
-    pub leads-no : (n i : ℕ) (b r : Best) {t : Bool} → i < n → t ≡ p i → t ≡ false → r ≡ b → Leads n i b → Leads n (i + 1) r
-    unfolding bestBelow
-    leads-no n i b r h e t q u = (omega arith, rw (add-one i, ← e, t, ← (u .1)) q)
+    -- one more below those from i on
+    one-more : (n i j : ℕ) → i ≡ j + 1 → i ≤ n → leastFrom (n - j) j q key ≡ pick (q j) (sooner key j (leastFrom (n - i) i q key)) (leastFrom (n - i) i q key)
+    unfolding leastFrom
+    one-more n i j h k = let e : n - j ≡ suc (n - i) = omega arith in let s : i ≡ suc j = omega arith in rw (e, s)
 
-    pub leads-end : (n i : ℕ) (b : Best) → n ≤ i → Leads n i b → b ≡ bestBelow n p key
-    leads-end n i b h u = let e : n ≡ i = omega arith in rw e (u .1)
+    module _ (n i j b c : ℕ) (h : i ≡ j + 1) {u : Bool} (e : u ≡ p j) (no : u ≡ false) (l : Leads n i b c) where
+      seen : Unseen n j
+      seen = unseen-more n i j h e no (l .0)
 
-  -- ---- a count against a share: reached before i, or not before the end
+      pub leads-take : {t : Bool} → t ≡ q j → t ≡ true → key j ≤ c → Leads n j j (key j)
+      leads-take f y g = (seen, rw (one-more n i j h (l .0 .0), ← f, y) (go (leastFrom (n - i) i q key) (l .1)))
+        where
+          go : (v : Found) → Keeps n b c v → Keeps n j (key j) (sooner key j v)
+          go Nothing k = (refl, omega arith, refl)
+          go (At v) k = rw (le-leb (key j) (key v) (omega arith)) (refl, omega arith, refl)
 
-  count-grows : (n i : ℕ) → i ≤ n → countBelow i p ≤ countBelow n p
-  count-grows zero i h = let e : i ≡ 0 = omega arith in rw e (omega arith)
-  count-grows (suc n) i h =
-      ⊎-elim (λ (e : i ≡ suc n). rw e (omega arith)) (λ (k : i < suc n). let m = count-grows n i (le-of-suc-le-suc k) in omega arith) (eq-or-lt-of-le h)
+      pub leads-pass : {t : Bool} → t ≡ q j → t ≡ false → Leads n j b c
+      leads-pass f y = (seen, rw (one-more n i j h (l .0 .0), ← f, y) (l .1))
 
-  pub share-stop : (share n i k : ℕ) → share ≤ 100 * k → Counted p n i k → true ≡ leb share (100 * countBelow n p)
-  share-stop share n i k h c = let m = count-grows n i (c .0) in sym (le-leb share (100 * countBelow n p) (omega arith))
+      pub leads-later : c < key j → key j ≤ 4294967295 → Leads n j b c
+      leads-later g m = (seen, rw (one-more n i j h (l .0 .0)) (by-flag (Keeps n b c) (q j) _ _ (λ y. go (leastFrom (n - i) i q key) (l .1)) (λ y. l .1)))
+        where
+          go : (v : Found) → Keeps n b c v → Keeps n b c (sooner key j v)
+          go Nothing k = absurd (omega arith)
+          go (At v) k = rw (lt-leb (key j) (key v) (omega arith)) k
 
-  pub share-end : (share n i k : ℕ) → n ≤ i → Counted p n i k → leb share (100 * k) ≡ leb share (100 * countBelow n p)
-  share-end share n i k h c = ap (λ (d : ℕ). leb share (100 * d)) (counted-end p n i k h c)
+    module _ (n i b c : ℕ) (h : i ≡ 0) (l : Leads n i b c) where
+      whole : leastFrom (n - i) i q key ≡ leastFrom n 0 q key
+      whole = let e : n - 0 ≡ n = omega arith in rw (h, e)
+
+      pub leads-some : b < n → At b ≡ orElse (lastBelow n p) (leastFrom n 0 q key)
+      leads-some g = rw (← unseen-end n i h (l .0), ← whole) (go (leastFrom (n - i) i q key) (l .1))
+        where
+          go : (v : Found) → Keeps n b c v → At b ≡ v
+          go Nothing k = absurd (omega arith)
+          go (At v) k = ap At (k .0)
+
+      pub leads-none : n ≤ b → Nothing ≡ orElse (lastBelow n p) (leastFrom n 0 q key)
+      leads-none g = rw (← unseen-end n i h (l .0), ← whole) (go (leastFrom (n - i) i q key) (l .1))
+        where
+          go : (v : Found) → Keeps n b c v → Nothing ≡ v
+          go Nothing k = refl
+          go (At v) k = absurd (omega arith)
 
 -- ---- where the cycles begin by which the rule compares candidates
 
@@ -119,17 +139,6 @@ pub ages-room : {S : Settings} {longs words marks : List ℕ} → Fit S longs wo
 ages-room {S} {longs} {words} f l h =
     let long = told (f .words-long) in
     by-flag (λ (n : ℕ). n + l ≤ length words) (isFifo S) (wordsFrom S takenRegion) (wordsFrom S cycleRegion) (λ e. omega arith) (λ e. omega arith)
-
--- ---- the best against one more
-
-pub nearer-first : {b : Best} (w k : ℕ) → b ≡ Nowhere → Way w k ≡ nearerOf b w k
-nearer-first w k e = rw e
-
-pub nearer-yes : {b : Best} {v j : ℕ} (w k : ℕ) → b ≡ Way v j → k < j → Way w k ≡ nearerOf b w k
-nearer-yes {j = j} w k e h = rw (e, lt-ltb k j h)
-
-pub nearer-no : {b : Best} {v j : ℕ} (w k : ℕ) → b ≡ Way v j → j ≤ k → Way v j ≡ nearerOf b w k
-nearer-no {j = j} w k e h = rw (e, le-ltb k j h)
 
 -- ---- one way, or else another
 

@@ -1,16 +1,14 @@
 -- The searches of Probe over lines that stand in a table are searches over the numbers of the lines.
 use Prim.Native.Nat.{ℕ, zero, suc, _+_, _^_, _≤_, _<_}
 use mathlib.Core.Path.{_≡_, refl, sym, ap, subst, _∙_}
-use mathlib.Core.Logic.{⊎-elim}
 use mathlib.Core.Bool.{Bool, true, false, _||_}
 use mathlib.Core.List.{List, [], _∷_, _++_}
-use native.Mathlib.Nat.{not-suc-le-zero, le-of-suc-le-suc}
+use native.Mathlib.Nat.{add-zero, zero-add}
 use native.Mathlib.Omega.{arith}
 use lib.ListN.{length, getD, take, drop, length-take, length-drop}
 use lib.Seq.{ext-getD, getD-take, getD-drop}
-use lib.Dec.{leb, ltb}
-use borrow.Author.Tests.{leb-true, leb-false, ltb-true, ltb-false, lt-leb, lt-ltb, le-ltb}
-use Rattle.words.specs.Words.{pick, any, count, table, some, countBelow, one}
+use lib.Dec.{leb}
+use Rattle.words.specs.Words.{pick, any, table, some}
 use Rattle.model.specs.Tables.{Line, fresh}
 use Rattle.model.specs.Probe.{next, orElse, first, last, older, earliest}
 use Rattle.model.specs.Range.{isTree}
@@ -19,27 +17,16 @@ use Rattle.model.specs.Tree.{powerTo16, levels}
 use Rattle.model.specs.declared.Settings.{Settings}
 use Rattle.model.specs.declared.Found.{Found}
 use Rattle.model.specs.declared.Found.the-variants.{At, Nothing}
-use Rattle.words.proofs.Flags.{flag, by-flag}
+use Rattle.words.proofs.Flags.{by-flag}
 use Rattle.model.proofs.Trees.{Chooses, choice-chooses, levels-are}
-use Rattle.words.proofs.Lists.{count-append, any-append}
-use Rattle.probe.specs.declared.Best.{Best}
-use Rattle.probe.specs.declared.Best.the-variants.{Way, Nowhere}
-use Rattle.probe.specs.Scan.{firstBelow, lastBelow, bestBelow, nearerOf, wayOf, candidateAt, lastUnusedIn, treeIn, victimIn}
+use Rattle.words.proofs.Lists.{any-append}
+use Rattle.words.proofs.Tabled.{length-table, getD-table}
+use Rattle.model.proofs.Ways.{Finds, earliest-finds}
+use Rattle.probe.specs.Scan.{firstBelow, lastBelow, sooner, leastFrom, candidateAt, lastUnusedIn, treeIn, victimIn}
 
 -- ---- a table, place by place
 
 module _ {A : Type 0} where
-  length-table : (n : ℕ) (f : ℕ → A) → length (table n f) ≡ n
-  unfolding table
-  length-table zero f = refl
-  length-table (suc n) f = ap suc (length-table n (λ i. f (suc i)))
-
-  pub getD-table : (n : ℕ) (f : ℕ → A) (i : ℕ) (d : A) → i < n → getD (table n f) i d ≡ f i
-  unfolding table
-  getD-table zero f i d h = absurd (not-suc-le-zero h)
-  getD-table (suc n) f zero d h = refl
-  getD-table (suc n) f (suc i) d h = getD-table n (λ i. f (suc i)) i d (le-of-suc-le-suc h)
-
   -- one more at the end
   table-snoc : (n : ℕ) (f : ℕ → A) → table (suc n) f ≡ table n f ++ (f n ∷ [])
   unfolding table
@@ -55,16 +42,6 @@ module _ {A : Type 0} where
       getD-take m (drop b (table n f)) i d k2 ∙ getD-drop b (table n f) i d ∙ getD-table n f (b + i) d (omega arith) ∙ sym (getD-table m (λ w. f (b + w)) i d k2))
 
   module _ (p : A → Bool) (f : ℕ → A) where
-    pub count-table : (n : ℕ) → count p (table n f) ≡ countBelow n (λ i. p (f i))
-    unfolding table
-    count-table zero = refl
-    count-table (suc n) =
-        ap (count p) (table-snoc n f) ∙ count-append p (table n f) (f n ∷ []) ∙ ap (λ (k : ℕ). k + count p (f n ∷ [])) (count-table n) ∙ ap (λ (k : ℕ). countBelow n (λ i. p (f i)) + k) (go (p (f n)))
-      where
-        go : (b : Bool) → pick b 1 0 ≡ one b
-        go true = refl
-        go false = refl
-
     pub any-table : (n : ℕ) → any p (table n f) ≡ some n (λ i. p (f i))
     unfolding table
     any-table zero = refl
@@ -76,10 +53,6 @@ module _ {A : Type 0} where
         go false = refl
 
 -- ---- tests that agree
-
-pub count-below-ext : (p q : ℕ → Bool) (n : ℕ) → ((i : ℕ) → p i ≡ q i) → countBelow n p ≡ countBelow n q
-count-below-ext p q zero h = refl
-count-below-ext p q (suc n) h = rw (count-below-ext p q n h, h n)
 
 pub some-ext : (p q : ℕ → Bool) (n : ℕ) → ((i : ℕ) → p i ≡ q i) → some n p ≡ some n q
 some-ext p q zero h = refl
@@ -95,10 +68,15 @@ unfolding lastBelow
 last-ext p q zero h = refl
 last-ext p q (suc n) h = rw (last-ext p q n h, h n)
 
-pub best-ext : (p q : ℕ → Bool) (key age : ℕ → ℕ) (n : ℕ) → ((i : ℕ) → p i ≡ q i) → ((i : ℕ) → key i ≡ age i) → bestBelow n p key ≡ bestBelow n q age
-unfolding bestBelow
-best-ext p q key age zero h k = refl
-best-ext p q key age (suc n) h k = rw (best-ext p q key age n h k, h n, k n)
+pub least-ext : (p q : ℕ → Bool) (key age : ℕ → ℕ) → ((i : ℕ) → p i ≡ q i) → ((i : ℕ) → key i ≡ age i)
+    → (n w : ℕ) → leastFrom n w p key ≡ leastFrom n w q age
+unfolding leastFrom
+least-ext p q key age h k zero w = refl
+least-ext p q key age h k (suc n) w = rw (least-ext p q key age h k n (suc w), h w) (ap (λ (v : Found). pick (q w) v (leastFrom n (suc w) q age)) (go (leastFrom n (suc w) q age)))
+  where
+    go : (v : Found) → sooner key w v ≡ sooner age w v
+    go Nothing = refl
+    go (At v) = rw (k w, k v)
 
 -- ---- one more line at the end
 
@@ -121,72 +99,6 @@ module _ (p : Line → Bool) (x : Line) where
   last-snoc [] = refl
   last-snoc (y ∷ l) = rw (last-snoc l) (last-step (p y) (p x) (last p l) (length l))
 
--- ---- the earliest, with its key beside it
-
-abbrev olderBest : ℕ → Best → Best
-olderBest c Nowhere = Way 0 c
-olderBest c (Way w k) = pick (leb c k) (Way 0 c) (Way (suc w) k)
-
-abbrev nextBest : Best → Best
-nextBest Nowhere = Nowhere
-nextBest (Way w k) = Way (suc w) k
-
-nearer-next : (b : Best) (n k : ℕ) → nextBest (nearerOf b n k) ≡ nearerOf (nextBest b) (suc n) k
-nearer-next Nowhere n k = refl
-nearer-next (Way v j) n k = ⊎-elim (λ e. rw e) (λ e. rw e) (flag (ltb k j))
-
-against : (c n k : ℕ) → pick (leb c k) (Way 0 c) (Way (suc n) k) ≡ pick (ltb k c) (Way (suc n) k) (Way 0 c)
-against c n k = ⊎-elim (λ (e : leb c k ≡ true). rw (e, le-ltb k c (leb-true c k e))) (λ (e : leb c k ≡ false). rw (e, lt-ltb k c (leb-false c k e))) (flag (leb c k))
-
-nearer-older : (c : ℕ) (b : Best) (n k : ℕ) → olderBest c (nearerOf b n k) ≡ nearerOf (olderBest c b) (suc n) k
-nearer-older c Nowhere n k = against c n k
-nearer-older c (Way v j) n k =
-    ⊎-elim
-    (λ (e : ltb k j ≡ true). let lt = ltb-true k j e in ⊎-elim
-    (λ (g : leb c j ≡ true). rw (e, g) (against c n k))
-    (λ (g : leb c j ≡ false). let gt = leb-false c j g in rw (e, g, e, lt-leb c k (omega arith)))
-    (flag (leb c j)))
-    (λ (e : ltb k j ≡ false). let ge = ltb-false k j e in ⊎-elim
-    (λ (g : leb c j ≡ true). let le = leb-true c j g in rw (e, g, le-ltb k c (omega arith)))
-    (λ (g : leb c j ≡ false). rw (e, g, e))
-    (flag (leb c j)))
-    (flag (ltb k j))
-
-best-step : (a b : Bool) (c : Best) (m n k : ℕ)
-    → pick a (olderBest m (pick b (nearerOf c n k) c)) (nextBest (pick b (nearerOf c n k) c))
-    ≡ pick b (nearerOf (pick a (olderBest m c) (nextBest c)) (suc n) k) (pick a (olderBest m c) (nextBest c))
-best-step true true c m n k = nearer-older m c n k
-best-step false true c m n k = nearer-next c n k
-best-step a false c m n k = refl
-
-module _ (key : Line → ℕ) (p : Line → Bool) where
-  abbrev bestOf : List Line → Best
-  bestOf [] = Nowhere
-  bestOf (l ∷ ls) = pick (p l) (olderBest (key l) (bestOf ls)) (nextBest (bestOf ls))
-
-  best-snoc : (x : Line) (l : List Line) → bestOf (l ++ (x ∷ [])) ≡ pick (p x) (nearerOf (bestOf l) (length l) (key x)) (bestOf l)
-  best-snoc x [] = refl
-  best-snoc x (y ∷ l) = rw (best-snoc x l) (best-step (p y) (p x) (bestOf l) (key y) (length l) (key x))
-
-  abbrev keyed : List Line → Found → Best
-  keyed ls Nothing = Nowhere
-  keyed ls (At w) = Way w (key (getD ls w fresh))
-
-  keyed-step : (a : Bool) (l : Line) (ls : List Line) (v : Found)
-      → pick a (olderBest (key l) (keyed ls v)) (nextBest (keyed ls v)) ≡ keyed (l ∷ ls) (pick a (older key ls (key l) v) (next v))
-  keyed-step true l ls Nothing = refl
-  keyed-step true l ls (At w) = ⊎-elim (λ e. rw e) (λ e. rw e) (flag (leb (key l) (key (getD ls w fresh))))
-  keyed-step false l ls Nothing = refl
-  keyed-step false l ls (At w) = refl
-
-  best-keyed : (ls : List Line) → bestOf ls ≡ keyed ls (earliest key p ls)
-  best-keyed [] = refl
-  best-keyed (l ∷ ls) = rw (best-keyed ls) (keyed-step (p l) l ls (earliest key p ls))
-
-  way-keyed : (ls : List Line) (v : Found) → wayOf (keyed ls v) ≡ v
-  way-keyed ls Nothing = refl
-  way-keyed ls (At w) = refl
-
 -- ---- searches of a table
 
 module _ (p : Line → Bool) (f : ℕ → Line) where
@@ -200,14 +112,46 @@ module _ (p : Line → Bool) (f : ℕ → Line) where
   last-table zero = refl
   last-table (suc n) = ap (last p) (table-snoc n f) ∙ last-snoc p (f n) (table n f) ∙ rw (last-table n, length-table n f)
 
-  best-table : (key : Line → ℕ) (n : ℕ) → bestOf key p (table n f) ≡ bestBelow n (λ i. p (f i)) (λ i. key (f i))
-  unfolding table bestBelow
-  best-table key zero = refl
-  best-table key (suc n) = ap (bestOf key p) (table-snoc n f) ∙ best-snoc key p (f n) (table n f) ∙ rw (best-table key n, length-table n f)
+-- ---- the earliest, way by way from the first: the ways of the list are the numbers from w on
 
-  pub earliest-table : (key : Line → ℕ) (n : ℕ) → earliest key p (table n f) ≡ wayOf (bestBelow n (λ i. p (f i)) (λ i. key (f i)))
-  earliest-table key n =
-      sym (way-keyed key p (table n f) (earliest key p (table n f))) ∙ ap wayOf (sym (best-keyed key p (table n f)) ∙ best-table key n)
+abbrev on : ℕ → Found → Found
+on w Nothing = Nothing
+on w (At v) = At (w + v)
+
+module _ (key : Line → ℕ) (p : Line → Bool) (f : ℕ → Line) where
+  -- a way before those of a table of n, of which v is found
+  least-step : (n w : ℕ) (g : ℕ → Line) → ((i : ℕ) → g i ≡ f (suc w + i)) → (v : Found) → Finds p (table n g) v
+      → on w (pick (p (f w)) (older key (table n g) (key (f w)) v) (next v))
+      ≡ pick (p (f w)) (sooner (λ i. key (f i)) w (on (suc w) v)) (on (suc w) v)
+  least-step n w g h Nothing e = go (p (f w))
+    where
+      go : (b : Bool) → on w (pick b (At 0) Nothing) ≡ pick b (At w) Nothing
+      go true = ap At (add-zero w)
+      go false = refl
+  least-step n w g h (At v) e =
+      let d : getD (table n g) v fresh ≡ f (suc w + v) = getD-table n g v fresh (omega (arith, e .0, length-table n g)) ∙ h v in
+      rw d (go (p (f w)) (leb (key (f w)) (key (f (suc w + v)))))
+    where
+      go : (b c : Bool) → on w (pick b (pick c (At 0) (At (suc v))) (At (suc v))) ≡ pick b (pick c (At w) (At (suc w + v))) (At (suc w + v))
+      go true true = ap At (add-zero w)
+      go true false = ap At (omega arith)
+      go false c = ap At (omega arith)
+
+  least-table : (n w : ℕ) (g : ℕ → Line) → ((i : ℕ) → g i ≡ f (w + i))
+      → on w (earliest key p (table n g)) ≡ leastFrom n w (λ i. p (f i)) (λ i. key (f i))
+  unfolding table leastFrom
+  least-table zero w g h = refl
+  least-table (suc n) w g h =
+      let later : (i : ℕ) → g (suc i) ≡ f (suc w + i) = λ i. h (suc i) ∙ ap f (omega arith) in
+      rw (h 0 ∙ ap f (add-zero w)) (least-step n w (λ i. g (suc i)) later (earliest key p (table n (λ i. g (suc i)))) (earliest-finds key p (table n (λ i. g (suc i)))))
+      ∙ ap (λ (v : Found). pick (p (f w)) (sooner (λ i. key (f i)) w v) v) (least-table n (suc w) (λ i. g (suc i)) later)
+
+  pub earliest-table : (n : ℕ) → earliest key p (table n f) ≡ leastFrom n 0 (λ i. p (f i)) (λ i. key (f i))
+  earliest-table n = sym (go (earliest key p (table n f))) ∙ least-table n 0 f (λ i. ap f (sym (zero-add i)))
+    where
+      go : (v : Found) → on 0 v ≡ v
+      go Nothing = refl
+      go (At v) = ap At (zero-add v)
 
 -- ---- a way that is found is below the number of ways
 
@@ -237,15 +181,16 @@ unfolding lastBelow
 last-under p zero = tt
 last-under p (suc n) = under-pick n (p n) (lastBelow n p) (last-under p n)
 
-best-under-pick : (n k : ℕ) (b : Bool) (v : Best) → Under n (wayOf v) → Under (suc n) (wayOf (pick b (nearerOf v n k) v))
-best-under-pick n k false v h = under-more n (wayOf v) h
-best-under-pick n k true Nowhere h = omega arith
-best-under-pick n k true (Way v j) h = ⊎-elim (λ (e : ltb k j ≡ true). rw e (omega arith)) (λ (e : ltb k j ≡ false). rw e (omega arith)) (flag (ltb k j))
-
-pub best-under : (p : ℕ → Bool) (key : ℕ → ℕ) (n : ℕ) → Under n (wayOf (bestBelow n p key))
-unfolding bestBelow
-best-under p key zero = tt
-best-under p key (suc n) = best-under-pick n (key n) (p n) (bestBelow n p key) (best-under p key n)
+pub least-under : (p : ℕ → Bool) (key : ℕ → ℕ) (n w m : ℕ) → w + n ≤ m → Under m (leastFrom n w p key)
+unfolding leastFrom
+least-under p key zero w m h = tt
+least-under p key (suc n) w m h =
+    let above : Under m (leastFrom n (suc w) p key) = least-under p key n (suc w) m (omega arith) in
+    by-flag (Under m) (p w) (sooner key w (leastFrom n (suc w) p key)) (leastFrom n (suc w) p key) (λ e. go (leastFrom n (suc w) p key) above) (λ e. above)
+  where
+    go : (v : Found) → Under m v → Under m (sooner key w v)
+    go Nothing u = omega arith
+    go (At v) u = by-flag (Under m) (leb (key w) (key v)) (At w) (At v) (λ e. omega arith) (λ e. u)
 
 -- by the tree too
 chooses-under : (p : ℕ → Bool) (n : ℕ) (v : Found) → Chooses p n v → Under n v
@@ -261,7 +206,7 @@ pub victim-under : (S : Settings) (words marks : List ℕ) (i base : ℕ) (enoug
     → Under (S .ways) (victimIn S words marks i base enough)
 victim-under S words marks i base enough power =
     under-or (S .ways) (lastUnusedIn marks base (S .ways)) _ (last-under _ (S .ways))
-    (by-flag (Under (S .ways)) (isTree S) _ _ (λ e. tree-under marks base (S .ways) enough (treeAt S words i) (power e)) (λ e. best-under _ _ (S .ways)))
+    (by-flag (Under (S .ways)) (isTree S) _ _ (λ e. tree-under marks base (S .ways) enough (treeAt S words i) (power e)) (λ e. least-under _ _ (S .ways) 0 (S .ways) (omega arith)))
 
 pub at-under : {r : Found} {w : ℕ} (n : ℕ) (v : Found) → Under n v → r ≡ v → r ≡ At w → w < n
 at-under n v h e g = rw (← e, g) at h

@@ -4,7 +4,7 @@ use Prim.Native.Nat.{ℕ, zero, suc, _+_, _*_}
 use mathlib.Core.Bool.{Bool, not, _&&_, _||_}
 use mathlib.Core.List.{List}
 use lib.ListN.{getD}
-use lib.Dec.{eqb, ltb}
+use lib.Dec.{eqb, ltb, leb}
 use Rattle.words.specs.Words.{pick}
 use Rattle.model.specs.Range.{isFifo, isTree}
 use Rattle.model.specs.Layout.{wordsFrom, cycleRegion, takenRegion}
@@ -15,8 +15,6 @@ use Rattle.model.specs.declared.Settings.{Settings}
 use Rattle.model.specs.declared.Found.{Found}
 use Rattle.model.specs.declared.Found.the-variants.{At, Nothing}
 use Rattle.tables.specs.Raw.{unusedAt, holdsAt}
-use Rattle.probe.specs.declared.Best.{Best}
-use Rattle.probe.specs.declared.Best.the-variants.{Way, Nowhere}
 
 -- ---- searches
 
@@ -30,29 +28,17 @@ unfoldable pub lastBelow : ℕ → (ℕ → Bool) → Found
 lastBelow zero p = Nothing
 lastBelow (suc n) p = pick (p n) (At n) (lastBelow n p)
 
--- the best so far against way w with key k: a later way is better only with a smaller key
-abbrev pub nearerOf : Best → ℕ → ℕ → Best
-nearerOf Nowhere w k = Way w k
-nearerOf (Way v j) w k = pick (ltb k j) (Way w k) (Way v j)
+-- w against what is found above it, which it beats unless its key is greater
+abbrev pub sooner : (ℕ → ℕ) → ℕ → Found → Found
+sooner key w Nothing = At w
+sooner key w (At v) = pick (leb (key w) (key v)) (At w) (At v)
 
--- of those that pass, the one with the least key, the lowest among equals
-unfoldable pub bestBelow : ℕ → (ℕ → Bool) → (ℕ → ℕ) → Best
-bestBelow zero p key = Nowhere
-bestBelow (suc n) p key = pick (p n) (nearerOf (bestBelow n p key) n (key n)) (bestBelow n p key)
-
-abbrev pub wayOf : Best → Found
-wayOf Nowhere = Nothing
-wayOf (Way w k) = At w
+-- of the n from w on that pass the one with the least key, the lowest among equals
+unfoldable pub leastFrom : ℕ → ℕ → (ℕ → Bool) → (ℕ → ℕ) → Found
+leastFrom zero w p key = Nothing
+leastFrom (suc n) w p key = pick (p w) (sooner key w (leastFrom n (suc w) p key)) (leastFrom n (suc w) p key)
 
 -- ---- line l, by the bytes
-
--- four numbers as one, the last the lowest byte
-abbrev pub fourBytes : ℕ → ℕ → ℕ → ℕ → ℕ
-fourBytes a b c d = ((a * 256 + b) * 256 + c) * 256 + d
-
-abbrev pub statusesAt : List ℕ → ℕ → ℕ
-statusesAt marks l =
-    fourBytes (statusAt marks (4 * l + 3)) (statusAt marks (4 * l + 2)) (statusAt marks (4 * l + 1)) (statusAt marks (4 * l))
 
 abbrev pub waitingAt : List ℕ → ℕ → Bool
 waitingAt marks l =
@@ -83,8 +69,8 @@ abbrev pub lastUnusedIn : List ℕ → ℕ → ℕ → Found
 lastUnusedIn marks base ways = lastBelow ways (λ w. unusedAt marks (base + w))
 
 -- by the cycles that begin at `ages`
-abbrev pub earliestIn : List ℕ → List ℕ → ℕ → ℕ → ℕ → Bool → Best
-earliestIn words marks ages base ways enough = bestBelow ways (λ w. candidateAt marks enough (base + w)) (λ w. getD words (ages + (base + w)) 0)
+abbrev pub earliestIn : List ℕ → List ℕ → ℕ → ℕ → ℕ → Bool → Found
+earliestIn words marks ages base ways enough = leastFrom ways 0 (λ w. candidateAt marks enough (base + w)) (λ w. getD words (ages + (base + w)) 0)
 
 -- by the set's tree
 abbrev pub treeIn : List ℕ → ℕ → ℕ → Bool → ℕ → Found
@@ -97,7 +83,7 @@ agesFrom S = pick (isFifo S) (wordsFrom S takenRegion) (wordsFrom S cycleRegion)
 -- the candidate that the rule chooses
 abbrev pub choiceIn : Settings → List ℕ → List ℕ → ℕ → ℕ → Bool → Found
 choiceIn S words marks i base enough =
-    pick (isTree S) (treeIn marks base (S .ways) enough (treeAt S words i)) (wayOf (earliestIn words marks (agesFrom S) base (S .ways) enough))
+    pick (isTree S) (treeIn marks base (S .ways) enough (treeAt S words i)) (earliestIn words marks (agesFrom S) base (S .ways) enough)
 
 -- the way to take over in set i, whose lines begin at `base`
 abbrev pub victimIn : Settings → List ℕ → List ℕ → ℕ → ℕ → Bool → Found

@@ -14,8 +14,9 @@ ghost use mathlib.Core.Bool.{true};
 ghost use Rattle.model.specs.Range.{linesOf, isTree};
 ghost use Rattle.model.specs.Tree.{isIn, powerTo16};
 ghost use Rattle.model.specs.Inner.{Fit};
+ghost use Rattle.model.specs.Probe.{orElse};
 ghost use Rattle.layout.specs.Layout.{Placed};
-ghost use Rattle.probe.specs.Scan.{statusesAt, waitingAt, dirtyAt, cleanAt, candidateAt, foundIn, lastUnusedIn, nearerOf, earliestIn, wayOf, agesFrom, choiceIn, victimIn, enoughIn, treeIn};
+ghost use Rattle.probe.specs.Scan.{waitingAt, dirtyAt, cleanAt, candidateAt, foundIn, lastUnusedIn, earliestIn, agesFrom, victimIn, enoughIn, treeIn};
 ghost use Rattle.probe.specs.Room.{VictimRoom};
 ghost use Rattle.probe.specs.Values.{masksAt, metIs, takenIs, refusedIs, refusalIs, missIs};
 ghost use Rattle.probe.specs.Decided.{Decided};
@@ -25,14 +26,11 @@ const LOWS: u32 = 0x7f7f_7f7f;
 
 const TOPS: u32 = 0x8080_8080;
 
+// No cycle is above it.
+const LATEST: u32 = 0xffff_ffff;
+
 // The rule that goes by the cycle at which a line was taken.
 const FIFO: usize = 1;
-
-// The best candidate so far, with the cycle by which the rule compares it.
-enum Best {
-    Way { way: usize, cycle: u32 },
-    Nowhere,
-}
 
 // A way has the block; one is taken over; none can be: the set is busy, or held.
 pub enum Meeting {
@@ -53,25 +51,12 @@ pub struct Decision {
     pub masks: [u32; 4],
 }
 
-// The four status bytes of line l as one number, so that a test reads them once.
-fn statuses_at(marks: &[u8], l: usize) -> u32
-    requires { ⌜ 4 * l + 4 ≤ length (now marks) ⌝ }
-    ensures { λ r. ⌜ r ≡ statusesAt (now (marks .entry)) l ⌝ }
-{
-    let i = 4 * l;
-    let b0 = marks[i] as u32;
-    let b1 = marks[i + 1] as u32;
-    let b2 = marks[i + 2] as u32;
-    let b3 = marks[i + 3] as u32;
-    b0 + 256 * b1 + 65536 * b2 + 16777216 * b3
-}
-
 // Whether a sector of line l is RESERVED: a byte 1 is 0 in x, the one byte whose top bit 127 more does not set.
 fn is_waiting(marks: &[u8], l: usize) -> bool
     requires { ⌜ 4 * l + 4 ≤ length (now marks) ⌝ }
     ensures { λ r. ⌜ r ≡ waitingAt (now (marks .entry)) l ⌝ }
 {
-    let x = statuses_at(marks, l) ^ 0x0101_0101;
+    let x = tables::statuses_at(marks, l) ^ 0x0101_0101;
     ((((x & LOWS) + LOWS) | x) & TOPS) != TOPS
 }
 
@@ -80,7 +65,7 @@ pub fn is_dirty(marks: &[u8], l: usize) -> bool
     requires { ⌜ 4 * l + 4 ≤ length (now marks) ⌝ }
     ensures { λ r. ⌜ r ≡ dirtyAt (now (marks .entry)) l ⌝ }
 {
-    let x = statuses_at(marks, l);
+    let x = tables::statuses_at(marks, l);
     ((((x & LOWS) + 0x7d7d_7d7d) | x) & TOPS) != 0
 }
 
@@ -89,7 +74,7 @@ fn is_clean(marks: &[u8], l: usize) -> bool
     requires { ⌜ 4 * l + 4 ≤ length (now marks) ⌝ }
     ensures { λ r. ⌜ r ≡ cleanAt (now (marks .entry)) l ⌝ }
 {
-    (statuses_at(marks, l) & 0xfdfd_fdfd) == 0
+    (tables::statuses_at(marks, l) & 0xfdfd_fdfd) == 0
 }
 
 // `enough`: so many lines of the cache are dirty that a dirty line may go. Most lines are clean, and that test is the shortest.
@@ -149,55 +134,6 @@ fn last_unused(marks: &[u8], base: usize, ways: usize) -> Found
     Found::Nothing
 }
 
-// A later way is better only with an earlier cycle.
-fn nearer(best: Best, w: usize, k: u32) -> Best
-    ensures { λ r. ⌜ r ≡ nearerOf best w k ⌝ }
-{
-    match best {
-        Best::Nowhere => Best::Way { way: w, cycle: k },
-        Best::Way { way: v, cycle: j } => {
-            if k < j {
-                Best::Way { way: w, cycle: k }
-            } else {
-                Best::Way { way: v, cycle: j }
-            }
-        }
-    }
-}
-
-// The candidate of the set with the earliest cycle of those that begin at `ages`, the lowest way among equals.
-fn earliest(
-    words: &[u32],
-    marks: &[u8],
-    ages: usize,
-    base: usize,
-    ways: usize,
-    enough: bool,
-) -> Best
-    requires { ⌜ (ages + (base + ways) ≤ length (now words)) × (4 * (base + ways) ≤ length (now marks)) ⌝ }
-    ensures { λ r. ⌜ r ≡ earliestIn (now (words .entry)) (now (marks .entry)) ages base ways enough ⌝ }
-{
-    let mut best = Best::Nowhere;
-    let mut w = 0;
-    while w < ways {
-        let l = base + w;
-        if is_candidate(marks, l, enough) {
-            best = nearer(best, w, words[ages + l]);
-        }
-        w += 1;
-    }
-    best
-}
-
-fn way_of(best: Best) -> Found
-    ensures { λ r. ⌜ r ≡ wayOf best ⌝ }
-{
-    match best {
-        Best::Nowhere => Found::Nothing,
-        Best::Way { way: w, cycle: _ } => Found::At(w),
-    }
-}
-
 // The candidates of the set, a mask with bit w for way w.
 fn candidates(marks: &[u8], base: usize, ways: usize, enough: bool) -> u32
     requires { ⌜ (ways ≤ 16) × (4 * (base + ways) ≤ length (now marks)) ⌝ }
@@ -243,28 +179,55 @@ fn ages_from(s: Settings, at: Layout) -> usize
     1
 }
 
-// The candidate that the rule chooses in set `i`, whose lines begin at `base`.
-fn chosen(
-    s: Settings,
-    at: Layout,
+// The way to take over by the cycles that begin at `ages`, in one pass down the ways: a wholly invalid one ends it, else the
+// candidate with the earliest cycle, the lowest way among equals. `ways` stands for none yet, whose cycle no other is above.
+fn victim_by_age(
     words: &[u32],
     marks: &[u8],
-    i: usize,
+    ages: usize,
     base: usize,
+    ways: usize,
     enough: bool,
 ) -> Found
-    requires { ⌜ Placed s at × VictimRoom s at i base (now words) (now marks) ⌝ }
-    ensures { λ r. ⌜ r ≡ choiceIn s (now (words .entry)) (now (marks .entry)) i base enough ⌝ }
+    requires { ⌜ (ages + (base + ways) ≤ length (now words)) × (4 * (base + ways) ≤ length (now marks)) ⌝ }
+    ensures { λ r. ⌜ r ≡ orElse (lastUnusedIn (now (marks .entry)) base ways) (earliestIn (now (words .entry)) (now (marks .entry)) ages base ways enough) ⌝ }
 {
-    if s.rule == trees::TREE {
-        let tree = words[at.trees + i];
-        return chosen_by_tree(marks, base, s.ways, enough, tree);
+    let mut best = ways;
+    let mut cycle = LATEST;
+    let mut w = ways;
+    while 0 < w {
+        w -= 1;
+        let l = base + w;
+        if tables::is_unused(marks, l) {
+            return Found::At(w);
+        }
+        let k = words[ages + l];
+        if k <= cycle {
+            if is_candidate(marks, l, enough) {
+                best = w;
+                cycle = k;
+            }
+        }
     }
-    let ages = ages_from(s, at);
-    way_of(earliest(words, marks, ages, base, s.ways, enough))
+    if best < ways {
+        return Found::At(best);
+    }
+    Found::Nothing
 }
 
-// The way to take over: the last wholly invalid one, else the candidate that the rule chooses.
+// The way to take over by the set's tree: the last wholly invalid one, else the candidate that the tree chooses.
+fn victim_by_tree(marks: &[u8], base: usize, ways: usize, enough: bool, tree: u32) -> Found
+    requires { ⌜ (powerTo16 ways ≡ true) × (4 * (base + ways) ≤ length (now marks)) ⌝ }
+    ensures { λ r. ⌜ r ≡ orElse (lastUnusedIn (now (marks .entry)) base ways) (treeIn (now (marks .entry)) base ways enough tree) ⌝ }
+{
+    let free = last_unused(marks, base, ways);
+    match free {
+        Found::At(w) => Found::At(w),
+        Found::Nothing => chosen_by_tree(marks, base, ways, enough, tree),
+    }
+}
+
+// The way to take over in set `i`, whose lines begin at `base`: the last wholly invalid one, else the candidate that the rule chooses.
 fn victim(
     s: Settings,
     at: Layout,
@@ -277,11 +240,12 @@ fn victim(
     requires { ⌜ Placed s at × VictimRoom s at i base (now words) (now marks) ⌝ }
     ensures { λ r. ⌜ r ≡ victimIn s (now (words .entry)) (now (marks .entry)) i base enough ⌝ }
 {
-    let free = last_unused(marks, base, s.ways);
-    match free {
-        Found::At(w) => Found::At(w),
-        Found::Nothing => chosen(s, at, words, marks, i, base, enough),
+    if s.rule == trees::TREE {
+        let tree = words[at.trees + i];
+        return victim_by_tree(marks, base, s.ways, enough, tree);
     }
+    let ages = ages_from(s, at);
+    victim_by_age(words, marks, ages, base, s.ways, enough)
 }
 
 // The four masks of line l.

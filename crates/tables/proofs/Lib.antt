@@ -1,4 +1,5 @@
 -- Laws that carry what the leaves leave to the tables.
+pub mod Bytes
 pub mod Closed
 pub mod Ones
 pub mod Queue

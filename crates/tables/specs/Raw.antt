@@ -18,6 +18,14 @@ frontAt longs lq words wq marks mq = record {
 
 -- ---- line l
 
+-- four numbers as one, the last the lowest byte
+abbrev pub fourBytes : ℕ → ℕ → ℕ → ℕ → ℕ
+fourBytes a b c d = ((a * 256 + b) * 256 + c) * 256 + d
+
+abbrev pub statusesAt : List ℕ → ℕ → ℕ
+statusesAt marks l =
+    fourBytes (statusAt marks (4 * l + 3)) (statusAt marks (4 * l + 2)) (statusAt marks (4 * l + 1)) (statusAt marks (4 * l))
+
 -- all four statuses are 0
 abbrev pub unusedAt : List ℕ → ℕ → Bool
 unusedAt marks l =

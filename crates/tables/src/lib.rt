@@ -20,7 +20,7 @@ ghost use Rattle.model.specs.Numbers.{queueKindNumber};
 ghost use Rattle.words.specs.Regions.{region, put, closed};
 ghost use Rattle.model.specs.declared.Event.the-variants as event;
 ghost use Rattle.layout.specs.Places.{First};
-ghost use Rattle.tables.specs.Raw.{frontAt, unusedAt, holdsAt};
+ghost use Rattle.tables.specs.Raw.{frontAt, statusesAt, unusedAt, holdsAt};
 ghost use Rattle.tables.specs.Telling.{telling};
 
 // One event and no more.
@@ -269,13 +269,25 @@ pub fn new_entry(
 
 // ---- a line's tag and statuses
 
+// The four status bytes of line `l` as one number, so that a test reads them once.
+pub fn statuses_at(marks: &[u8], l: usize) -> u32
+    requires { ⌜ 4 * l + 4 ≤ length (now marks) ⌝ }
+    ensures { λ r. ⌜ r ≡ statusesAt (now (marks .entry)) l ⌝ }
+{
+    let i = 4 * l;
+    let b0 = marks[i] as u32;
+    let b1 = marks[i + 1] as u32;
+    let b2 = marks[i + 2] as u32;
+    let b3 = marks[i + 3] as u32;
+    b0 + 256 * b1 + 65536 * b2 + 16777216 * b3
+}
+
 // Whether all four sectors of line `l` are INVALID.
 pub fn is_unused(marks: &[u8], l: usize) -> bool
     requires { ⌜ 4 * l + 4 ≤ length (now marks) ⌝ }
     ensures { λ r. ⌜ r ≡ unusedAt (now (marks .entry)) l ⌝ }
 {
-    let i = 4 * l;
-    (marks[i] == 0) & (marks[i + 1] == 0) & (marks[i + 2] == 0) & (marks[i + 3] == 0)
+    statuses_at(marks, l) == 0
 }
 
 // Tags are block addresses.

@@ -3,8 +3,8 @@ use Prim.Native.Nat.{_+_, _*_, _<_}
 use native.Mathlib.Omega.{arith}
 use borrow.Author.Needs.{needs}
 use lib.ListN.{getD}
-use Rattle.probe.proofs.statuses_at.Statement.{statement}
-use Rattle.probe.proofs.statuses_at.Tie as tie
+use Rattle.tables.proofs.statuses_at.Statement.{statement}
+use Rattle.tables.proofs.statuses_at.Tie as tie
 
 bytes : (c : tie.After-shared-slice-known4) → let a = c .before .before .before .before .args in let m = a .marks .now in
     (getD m (4 * a .l) 0 < 256) × (getD m (4 * a .l + 1) 0 < 256) × (getD m (4 * a .l + 2) 0 < 256) × (getD m (4 * a .l + 3) 0 < 256)
