@@ -50,6 +50,7 @@ use Rattle.access.specs.declared.course.Course.{Course}
 use Rattle.access.specs.declared.course.Course.the-variants.{Refused, Stays, Joins, Starts}
 use Rattle.access.proofs.Plans.{index-found, merged-entry, entry-once}
 use Rattle.access.proofs.Courses.{shows, answer-is}
+use Rattle.access.proofs.Lines.{stands, found-is}
 use Rattle.access.proofs.Inverted.{Means, course-means}
 use Rattle.probe.specs.Scan.{dirtyAt}
 use Rattle.access.proofs.Recounts.{count-at, was-dirty}
@@ -93,21 +94,8 @@ module _ (S : Settings) {longs words marks : List ℕ} (x : Access) (d : Decisio
   abbrev pub leftLine : Line
   leftLine = update (sectorIndex (addressOf x)) (onSector x (p .answer)) (t .now) (getD (t .lines) (d .line) fresh .taken) (p .line)
 
-  line-is : getD (t .lines) (d .line) fresh ≡ lineAt S longs words marks (d .line)
-  line-is =
-      ap (λ (ls : List Line). getD ls (d .line) fresh) (lines-held S (lent longs words marks) (is-tables S (lent longs words marks) t (m .is)))
-      ∙ getD-table (linesOf S) (lineAt S longs words marks) (d .line) fresh (m .below)
-
-  found-is : p .line .sectors ≡ sectorsFor (d .meeting) (sectorsAt S words marks (d .line))
-  found-is =
-      shows S x d t p m .sectors
-      ∙ ap (λ (l : Line). sectorsFor (d .meeting) (l .sectors))
-      (way-line S (t .lines) (addressOf x) (d .way) (m .way)
-      ∙ ap (λ (i : ℕ). getD (t .lines) i fresh) (ap (lineNumber S (addressOf x)) (sym (shows S x d t p m .way)) ∙ sym (m .numbered))
-      ∙ line-is)
-
   left-is : sectorsAfter x d (sectorsFor (d .meeting) (sectorsAt S words marks (d .line))) ≡ newLine .sectors
-  left-is = rw (← found-is, ← answer-is S x d t p m)
+  left-is = rw (← found-is S x d t p m, ← answer-is S x d t p m)
 
   -- the current cycle, of slices in which tables stand
   now-of : {longs words marks : List ℕ} {u : Tables} → ByBlocks S longs words marks u → getD words 0 0 ≡ u .now
@@ -140,11 +128,7 @@ module _ (S : Settings) {longs words marks : List ℕ} (x : Access) (d : Decisio
 
   -- a line that no MISS takes stays as taken as it was
   taken-stays : takesLine (p .answer) ≡ false → p .line .taken ≡ getD (t .lines) (d .line) fresh .taken
-  taken-stays n =
-      ap (λ (l : Line). l .taken)
-      (line-stays (ruleOf S t (addressOf x)) S (t .dirtyCount) (waysOf S (t .lines) (addressOf x)) x p n (m .probed)
-      ∙ way-line S (t .lines) (addressOf x) (p .way) (rw (shows S x d t p m .way) (m .way))
-      ∙ ap (λ (i : ℕ). getD (t .lines) i fresh) (sym (m .numbered)))
+  taken-stays n = ap (λ (l : Line). l .taken) (stands S x d t p m n)
 
   abbrev lefts : Tables
   lefts = withDirtyCount newCount (withLines (set (t .lines) (d .line) leftLine) t)

@@ -45,6 +45,13 @@ queues-count x d =
     length-append (pick (isRead x && isMiss (d .answer)) (reading (addressOf x) ∷ []) []) (backsOf d)
     ∙ rw (flag-length (isRead x && isMiss (d .answer)) (reading (addressOf x)), flag-length (d .backs) (writing (d .block) (d .masks)))
 
+-- how many places the two kinds need
+pub read-needs : (x : Access) (d : Decision) {n : ℕ} → isRead x ≡ true → n ≡ one (isMiss (d .answer)) + one (d .backs) → n ≡ one (isRead x && isMiss (d .answer)) + one (d .backs)
+read-needs x d r e = rw r e
+
+pub write-needs : (x : Access) (d : Decision) {n : ℕ} → isRead x ≡ false → n ≡ one (d .backs) → n ≡ one (isRead x && isMiss (d .answer)) + one (d .backs)
+write-needs x d r e = rw r (omega (arith, e))
+
 -- ---- the spot of a decision
 
 pub record Shown (ways : List Line) (a : ℕ) (d : Decision) (p : Spot) : Type 0 where

@@ -1,38 +1,35 @@
 -- A read that hits queues nothing and leaves the miss table, so none of refusals 7, 8 and 9 applies and two writes are all that
 -- `proceed` says: its line's cycle and the tree of its set.
 use mathlib.Core.Path.{_≡_, refl, sym, ap, _∙_}
-use mathlib.Core.Logic.{_⊎_, inl, inr}
 use mathlib.Core.Bool.{Bool, true, false, _&&_, false≢true}
 use mathlib.Core.List.{List, [], _∷_}
 use Prim.Native.Nat.{ℕ, _+_}
 use native.Mathlib.Omega.{arith}
 use lib.ListN.{length, getD}
-use Rattle.words.specs.Words.{pick, one}
+use Rattle.words.specs.Words.{one}
 use Rattle.model.specs.Address.{addressOf, isRead, blockOf, setIndex}
-use Rattle.model.specs.Tables.{Tables, writing}
+use Rattle.model.specs.Tables.{Tables}
 use Rattle.model.specs.Lent.{Lent, lent, sectorsAt}
 use Rattle.words.specs.Regions.{put}
-use Rattle.model.specs.Probe.{Spot, at, waysOf, ruleOf}
-use Rattle.model.specs.Meetings.{Matched, Replaced}
+use Rattle.model.specs.Probe.{Spot, at}
 use Rattle.model.specs.Steps.{isHit, isMerge, isMiss, takesLine, proceed}
 use Rattle.model.specs.Calls.{Leaves, encoded}
 use Rattle.model.specs.declared.Settings.{Settings}
-use Rattle.model.specs.declared.Queued.{Queued}
 use Rattle.model.specs.declared.Access.{Access}
 use Rattle.model.specs.declared.Answer.{Answer}
 use Rattle.model.specs.declared.Answer.the-variants.{Hit, HitReserved, Miss, SectorMiss}
 use Rattle.model.specs.declared.Event.the-variants.{Answered}
 use Rattle.model.specs.declared.Told.{Told}
-use Rattle.words.proofs.Flags.{and-1, and-2, clash}
-use Rattle.model.proofs.Victims.{probe-meets}
+use Rattle.words.proofs.Flags.{and-1, and-2}
 use Rattle.layout.specs.declared.Layout.{Layout}
 use Rattle.layout.specs.Layout.{Placed}
 use Rattle.tables.specs.Telling.{telling}
 use Rattle.probe.specs.declared.Decision.{Decision}
 use Rattle.access.specs.Plan.{Met, Acts, InUse}
-use Rattle.access.specs.Written.{sectorsFor, sectorsAfter, tellingOf, lineLeft, lineTaken, treesWritten, setTurned}
+use Rattle.access.specs.Written.{sectorsFor, sectorsAfter, queuesOf, tellingOf, lineLeft, lineTaken, treesWritten, setTurned}
 use Rattle.access.specs.declared.course.Course.the-variants.{Stays}
-use Rattle.access.proofs.Courses.{shows, answer-is, few-queued, course-hit}
+use Rattle.access.proofs.Courses.{few-queued, course-hit}
+use Rattle.access.proofs.Lines.{no-back}
 use Rattle.access.proofs.Kept.{touched}
 use Rattle.access.proofs.Telling.{acted}
 use Rattle.access.proofs.Offering.{offered-acts}
@@ -43,10 +40,6 @@ only-hit HitReserved e = absurd (false≢true e)
 only-hit Miss e = absurd (false≢true e)
 only-hit SectorMiss e = absurd (false≢true e)
 
-none-queued : (b : Bool) (y : Queued) → pick b (y ∷ []) [] ≡ [] → b ≡ false
-none-queued true y e = let z : _≡_ {A = ℕ} 0 1 = cc in absurd (omega arith)
-none-queued false y e = refl
-
 module _ (S : Settings) {longs words marks : List ℕ} (x : Access) (d : Decision) (t : Tables) (p : Spot) (m : Met S (lent longs words marks) x d t p) {place : Layout} (pl : Placed S place)
     (hits : (isRead x && isHit (d .answer)) ≡ true) where
   reads : isRead x ≡ true
@@ -55,19 +48,17 @@ module _ (S : Settings) {longs words marks : List ℕ} (x : Access) (d : Decisio
   hit : d .answer ≡ Hit
   hit = only-hit (d .answer) (and-2 (isRead x) (isHit (d .answer)) hits)
 
-  -- only a victim is written back
-  no-back : d .backs ≡ false
-  no-back = go (probe-meets (ruleOf S t (addressOf x)) S (t .dirtyCount) (waysOf S (t .lines) (addressOf x)) x p (m .probed))
-    where
-      go : Matched (waysOf S (t .lines) (addressOf x)) x p ⊎ Replaced (ruleOf S t (addressOf x)) S (t .dirtyCount) (waysOf S (t .lines) (addressOf x)) x p → d .backs ≡ false
-      go (inl w) = none-queued (d .backs) (writing (d .block) (d .masks)) (sym (shows S x d t p m .backs) ∙ w .backs)
-      go (inr w) = clash (ap takesLine (w .answer)) (ap takesLine (answer-is S x d t p m ∙ hit))
+  quiet : d .backs ≡ false
+  quiet = no-back S x d t p m (ap takesLine hit)
 
   none-needed : 0 ≡ one (isRead x && isMiss (d .answer)) + one (d .backs)
-  none-needed = rw (reads, hit, no-back)
+  none-needed = rw (reads, hit, quiet)
+
+  none : queuesOf x d ≡ []
+  none = rw (reads, hit, quiet)
 
   tells : telling (Answered Hit (d .line)) ≡ tellingOf x d
-  tells = rw (reads, hit, no-back)
+  tells = rw (reads, hit, quiet)
 
   counted : InUse S t x d (length (t .queue))
   counted = record { most = few-queued S x d t p m; all = λ some. refl }
@@ -94,4 +85,4 @@ module _ (S : Settings) {longs words marks : List ℕ} (x : Access) (d : Decisio
       let M : Lent = lent longs words′ marks in
       offered-acts S x d t p m (acts .planned) refl
       (acted S x d (length (t .queue)) Stays t p acts pl M M M
-      (ap (λ (ws : List ℕ). lent longs ws marks) w ∙ ap (setTurned S place (setIndex S (addressOf x)) (d .way)) line-left) refl (e ∙ tells) (rw e))
+      (ap (λ (ws : List ℕ). lent longs ws marks) w ∙ ap (setTurned S place (setIndex S (addressOf x)) (d .way)) line-left) refl (e ∙ tells) (rw none))

@@ -4,37 +4,34 @@ use mathlib.Core.Bool.{true, not, _&&_, false≢true}
 use mathlib.Core.List.{List, [], _∷_, map}
 use Prim.Native.Nat.{ℕ, _+_}
 use native.Mathlib.Omega.{arith}
-use lib.ListN.{getD, set, replicate, getD-replicate}
+use lib.ListN.{getD, set}
 use lib.Seq.{set-getD}
 use Rattle.words.specs.Words.{fit, any, one}
 use Rattle.model.specs.Range.{linesOf}
 use Rattle.words.specs.Regions.{put}
-use Rattle.model.specs.Address.{addressOf, isRead, blockOf, sectorIndex, lineNumber}
-use Rattle.model.specs.Tables.{Line, Tables, empty, fresh, emptied, withLines, withDirtyCount, dirty, isModified}
+use Rattle.model.specs.Address.{addressOf, isRead, blockOf, sectorIndex}
+use Rattle.model.specs.Tables.{Line, Tables, empty, fresh, withLines, withDirtyCount, dirty, isModified}
 use Rattle.model.specs.Lent.{lent, sectorsAt, bit, wordBlocks, tagOf, cycleOf, takenOf, masksOf, statusesOf, readablesOf, encode}
 use Rattle.model.specs.Numbers.{statusNumber}
-use Rattle.model.specs.Probe.{Spot, at, waysOf}
+use Rattle.model.specs.Probe.{Spot}
 use Rattle.model.specs.Steps.{isMiss, onSector}
 use Rattle.model.specs.declared.Settings.{Settings}
 use Rattle.model.specs.declared.Access.{Access}
 use Rattle.model.specs.declared.Access.the-variants.{Read, Write}
 use Rattle.model.specs.declared.Answer.{Answer}
 use Rattle.model.specs.declared.Sector.{Sector}
-use Rattle.words.proofs.Flags.{not-yes, clash}
+use Rattle.words.proofs.Flags.{not-yes, and-2}
 use Rattle.words.proofs.Places.{field-put}
 use Rattle.layout.specs.declared.Layout.{Layout}
 use Rattle.layout.specs.Layout.{Placed}
 use Rattle.layout.proofs.Grown.{places-same}
 use Rattle.layout.proofs.ByBlocks.{ByBlocks, is-stands, stands-encode}
-use Rattle.probe.specs.declared.Meeting.{Meeting}
-use Rattle.probe.specs.declared.Meeting.the-variants.{Met as MetWay, Taken, Busy, Held}
 use Rattle.probe.specs.declared.Decision.{Decision}
-use Rattle.probe.specs.Decided.{placeFor}
-use Rattle.probe.proofs.OfTables.{way-line}
 use Rattle.access.specs.Plan.{Met}
 use Rattle.access.specs.Written.{sectorsFor, sectorsAfter, lineLeft}
-use Rattle.access.proofs.Courses.{shows, answer-is}
-use Rattle.access.proofs.Acting.{spot, sized, now-is, leftLine, line-left, newCount}
+use Rattle.access.proofs.Courses.{answer-is}
+use Rattle.access.proofs.Lines.{kept-stays, stands}
+use Rattle.access.proofs.Acting.{sized, now-is, leftLine, line-left, newCount}
 
 sector-kept : (x : Access) (n : Answer) (s : Sector) → (isRead x && not (isMiss n)) ≡ true → onSector x n s ≡ s
 sector-kept (Read a m k) n s e = rw (not-yes {b = isMiss n} e)
@@ -51,23 +48,8 @@ module _ (S : Settings) {longs words marks : List ℕ} (x : Access) (d : Decisio
   kept-there : (isRead x && not (isMiss (p .answer))) ≡ true
   kept-there = rw (answer-is S x d t p m) kept
 
-  -- a line taken over has only empty sectors, and a sector that is read without a miss isn't INVALID
-  found-in : (k : Meeting) → placeFor k (waysOf S (t .lines) (addressOf x)) (addressOf x) d ≡ at p → p .line ≡ getD (waysOf S (t .lines) (addressOf x)) (d .way) fresh
-  found-in MetWay e = cc
-  found-in Taken e =
-      let l : p .line ≡ emptied (blockOf (addressOf x)) = cc in
-      let k = sectorIndex (addressOf x) in
-      let four : p .line .sectors ≡ replicate 4 empty = ap (λ (l : Line). l .sectors) l in
-      let same : onSector x (p .answer) (getD (p .line .sectors) k empty) ≡ empty = sector-kept x (p .answer) _ kept-there ∙ rw four (getD-replicate 4 k empty empty (omega arith)) in
-      clash refl (rw same at (spot S x d t p m pl .used))
-  found-in Busy e = let z : _≡_ {A = ℕ} 0 1 = cc in absurd (omega arith)
-  found-in Held e = let z : _≡_ {A = ℕ} 0 1 = cc in absurd (omega arith)
-
   found : p .line ≡ line
-  found =
-      found-in (d .meeting) (m .decided)
-      ∙ way-line S (t .lines) (addressOf x) (d .way) (m .way)
-      ∙ ap (λ (i : ℕ). getD (t .lines) i fresh) (ap (lineNumber S (addressOf x)) (sym (shows S x d t p m .way)) ∙ sym (m .numbered))
+  found = stands S x d t p m (kept-stays (p .answer) (not-yes (and-2 (isRead x) (not (isMiss (p .answer))) kept-there)))
 
   same-tag : new .tag ≡ line .tag
   same-tag = ap (λ (l : Line). l .tag) found

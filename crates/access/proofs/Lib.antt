@@ -2,8 +2,8 @@
 pub mod Sectors
 pub mod Plans
 pub mod Courses
+pub mod Lines
 pub mod Recounts
-pub mod Writing
 pub mod Inverted
 pub mod Acting
 pub mod Kept

@@ -117,13 +117,12 @@ module _ (S : Settings) {longs words marks : List ℕ} (x : Access) (d : Decisio
           (omega (arith, z .2), omega arith, omega (arith, z .2))
 
   pub queue-room : (longs′ words′ marks′ : List ℕ) → length longs′ ≡ length longs → length words′ ≡ length words → length marks′ ≡ length marks
-      → {r : Told} → r ≡ tellingOf x d → (r .queues ≤ 2) × QueueRoom place (n + r .queues) longs′ words′ marks′
-  queue-room l w k e f g {r} tells =
+      → {k : ℕ} → k ≡ one (isRead x && isMiss (d .answer)) + one (d .backs) → QueueRoom place (n + k) longs′ words′ marks′
+  queue-room l w k e f g asked =
       let h = acts-fit in
-      let few : length (queuesOf x d) ≤ 2 = queues-few x d in
-      let told : r .queues ≡ length (queuesOf x d) = ap (λ (z : Told). z .queues) tells in
-      let b : n + r .queues ≤ S .queue = omega (arith, behind) in
-      (omega arith, (omega arith, omega arith, omega arith))
+      let b = behind in
+      let c = asked ∙ sym (queues-count x d) in
+      (omega arith, omega arith, omega arith)
 
   -- ---- what it leaves
 
@@ -132,14 +131,14 @@ module _ (S : Settings) {longs words marks : List ℕ} (x : Access) (d : Decisio
       (lineTaken place (d .answer) (d .line) (lineLeft place (lent longs words marks) (d .line) (blockOf (addressOf x)) (sectorsAfter x d (sectorsFor (d .meeting) (sectorsAt S words marks (d .line))))))
       → L₂ ≡ missesWritten place (S .readers) c (addressOf x) (ticketOf x) L₁
       → r ≡ tellingOf x d
-      → L₃ ≡ queueWritten place n (take (r .queues) (r .queued)) L₂
+      → L₃ ≡ queueWritten place n (queuesOf x d) L₂
       → Leaves (encoded S (accept S x p t)) (lent longs words marks) r L₃
   unfolding accept
   acted L₁ L₂ L₃ line misses tells queue =
       let s₀ = line-written S x d t p m pl _ refl refl in
       let s₁ = set-turned S x d t p m pl _ refl _ s₀ line in
       let s₂ = misses-written S x d t p m pl (set (t .lines) (d .line) (newLine S x d t p m pl)) (newCount S x d t p m pl) (treesNew S x d t p m pl) L₁ L₂ s₁ c (a .planned) (a .going) misses in
-      let q : L₃ ≡ queueWritten place n (queues x p) L₂ = rw (tells, two-back (queuesOf x d) (queues-few x d), ← queues-are S x d t p m) at queue in
+      let q : L₃ ≡ queueWritten place n (queues x p) L₂ = rw (← queues-are S x d t p m) at queue in
       let s₃ = queue-written S x d t p m pl (withMisses (onMisses x (p .answer) (t .misses)) (withTrees (treesNew S x d t p m pl) (withDirtyCount (newCount S x d t p m pl) (withLines (set (t .lines) (d .line) (newLine S x d t p m pl)) t)))) refl L₂ s₂ (λ some. a .counted .all (rw needs at some)) roomy q in
       record {
         tells = rw (tells, queues-are S x d t p m, answer-is S x d t p m, ← m .numbered) (told-events x d);

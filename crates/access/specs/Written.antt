@@ -1,4 +1,5 @@
 -- What the writes of an accepted access leave of the slices, raw: a line, the miss table, the queue.
+use mathlib.Core.Path.{_≡_}
 use Prim.Native.Nat.{ℕ, _+_, _*_, _≤_, _<_, _-_}
 use mathlib.Core.Bool.{Bool, true, false, _&&_}
 use mathlib.Core.List.{List, [], _∷_, _++_}
@@ -110,12 +111,14 @@ QueueRoom at n longs words marks = (at .queue + n ≤ length longs) × (at .back
 abbrev pub queuesOf : Access → Decision → List Queued
 queuesOf x d = pick (isRead x && isMiss (d .answer)) (reading (addressOf x) ∷ []) [] ++ backsOf d
 
--- what it tells
+-- a read, which queues no write-back where it doesn't miss
+pub record Alone (x : Access) (d : Decision) : Type 0 where
+  pub reads : isRead x ≡ true
+  pub alone : isMiss (d .answer) ≡ false → d .backs ≡ false
+
+-- what it tells, with these entries in two places
+abbrev pub tellingQueued : Decision → List Queued → ℕ → Told
+tellingQueued d entries n = record { first = Answered (d .answer) (d .line); queued = entries; queues = n; count = 0; tickets = replicate 8 0 }
+
 abbrev pub tellingOf : Access → Decision → Told
-tellingOf x d = record {
-  first = Answered (d .answer) (d .line);
-  queued = inTwo (queuesOf x d);
-  queues = length (queuesOf x d);
-  count = 0;
-  tickets = replicate 8 0;
-}
+tellingOf x d = tellingQueued d (inTwo (queuesOf x d)) (length (queuesOf x d))

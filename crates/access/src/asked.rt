@@ -1,7 +1,6 @@
 // What an access asks, and how it was answered.
 ghost use mathlib.Core.Path.{_≡_};
-ghost use mathlib.Core.Bool.{_&&_};
-ghost use Rattle.model.specs.Address.{isRead};
+ghost use Rattle.model.specs.Address.{isRead, maskOf};
 ghost use Rattle.access.specs.Plan.{ticketOf};
 ghost use Rattle.model.specs.Steps.{isHit, isMerge, isMiss, takesLine};
 use model::Access;
@@ -41,7 +40,24 @@ pub(crate) fn ticket_of(x: Access) -> u32
     }
 }
 
-fn is_hit(a: Answer) -> bool
+pub(crate) fn mask_of(x: Access) -> u32
+    ensures { λ r. ⌜ r ≡ maskOf x ⌝ }
+{
+    match x {
+        Access::Read {
+            address: _,
+            mask,
+            ticket: _,
+        } => mask,
+        Access::Write {
+            address: _,
+            mask,
+            ticket: _,
+        } => mask,
+    }
+}
+
+pub(crate) fn is_hit(a: Answer) -> bool
     ensures { λ r. ⌜ r ≡ isHit a ⌝ }
 {
     match a {
@@ -84,18 +100,4 @@ pub(crate) fn is_miss(a: Answer) -> bool
         Answer::Miss => true,
         Answer::SectorMiss => true,
     }
-}
-
-// Whether the access queues a read.
-pub(crate) fn fetches(x: Access, a: Answer) -> bool
-    ensures { λ r. ⌜ r ≡ isRead x && isMiss a ⌝ }
-{
-    is_read(x) & is_miss(a)
-}
-
-// Whether the access is a read that hits.
-pub(crate) fn hits(x: Access, a: Answer) -> bool
-    ensures { λ r. ⌜ r ≡ isRead x && isHit a ⌝ }
-{
-    is_read(x) & is_hit(a)
 }

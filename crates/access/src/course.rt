@@ -1,7 +1,7 @@
-// Refusals 7, 8 and 9, or what becomes of the miss table. Nothing is written here.
+// Refusals 7, 8 and 9 of a read, or what becomes of the miss table. Nothing is written here.
 ghost use mathlib.Core.Path.{_≡_};
 ghost use Prim.Native.Nat.{_+_, _≤_};
-ghost use mathlib.Core.Bool.{_&&_};
+ghost use mathlib.Core.Bool.{true};
 ghost use Rattle.model.specs.Address.{isRead};
 ghost use Rattle.words.specs.Words.{one};
 ghost use Rattle.model.specs.Lent.{lent};
@@ -11,10 +11,8 @@ ghost use Rattle.layout.specs.Places.{First};
 ghost use Rattle.access.specs.Plan.{Meets, Counted, Entered, Joining, Starting, Planned, goes, refusalIn};
 ghost use lib.ListN.{length};
 ghost use Rattle.model.specs.Steps.{isMiss};
-use crate::asked::fetches;
 use crate::asked::is_merge;
 use crate::asked::is_miss;
-use crate::asked::is_read;
 use layout::Layout;
 use model::Access;
 use model::Answer;
@@ -31,17 +29,24 @@ pub enum Course {
     Starts(usize),
 }
 
-// How many free queue places an access with this answer needs: one for a read that misses, one for a write-back.
-pub(crate) fn places_needed(x: Access, a: Answer, backs: bool) -> usize
-    ensures { λ r. ⌜ (r ≡ one (isRead x && isMiss a) + one backs) × (r ≤ 2) ⌝ }
+// How many free queue places a write needs: one for a write-back.
+pub(crate) fn back_needed(backs: bool) -> usize
+    ensures { λ r. ⌜ (r ≡ one backs) × (r ≤ 1) ⌝ }
 {
-    if fetches(x, a) {
+    if backs { 1 } else { 0 }
+}
+
+// How many a read with this answer needs: one where it misses, one for a write-back.
+pub(crate) fn places_needed(a: Answer, backs: bool) -> usize
+    ensures { λ r. ⌜ (r ≡ one (isMiss a) + one backs) × (r ≤ 2) ⌝ }
+{
+    if is_miss(a) {
         if backs {
             return 2;
         }
         return 1;
     }
-    if backs { 1 } else { 0 }
+    back_needed(backs)
 }
 
 // How many queue places are in use. Asked only where some are needed, else 0.
@@ -88,7 +93,7 @@ fn start_course(s: Settings, at: Layout, longs: &[u64], words: &[u32], marks: &[
     Course::Starts(m)
 }
 
-// The course of an access whose place is decided; so many queue places are in use, where it needs one.
+// The course of a read whose place is decided; so many queue places are in use, where it needs one.
 pub(crate) fn course_of(
     s: Settings,
     at: Layout,
@@ -99,15 +104,12 @@ pub(crate) fn course_of(
     d: Decision,
     queued: usize,
 ) -> Course
-    requires { ⌜ Placed s at × Meets s (lent (now longs) (now words) (now marks)) x d × Counted s (lent (now longs) (now words) (now marks)) x d queued ⌝ }
+    requires { ⌜ Placed s at × Meets s (lent (now longs) (now words) (now marks)) x d × Counted s (lent (now longs) (now words) (now marks)) x d queued × (isRead x ≡ true) ⌝ }
     ensures { λ r. ⌜ Planned s (lent (now (longs .entry)) (now (words .entry)) (now (marks .entry))) x d r ⌝ }
 {
     let a = d.answer;
-    if s.queue < queued + places_needed(x, a, d.backs) {
+    if s.queue < queued + places_needed(a, d.backs) {
         return Course::Refused(Refusal::QueueFull);
-    }
-    if !is_read(x) {
-        return Course::Stays;
     }
     if is_merge(a) {
         let address = SectorAddress(values::address_of(x));

@@ -1,21 +1,24 @@
 // An access on sound tables: decided by reading alone, then written. In order: `asked` (the access and its answer), `sector` (what
 // it leaves in its line's sectors), `course` (refusals 7, 8 and 9, or what becomes of the miss table), `writes` (the writes, and what
-// it tells); here refusals 4, 5 and 6, and the whole step.
+// it tells); here refusals 4, 5 and 6, the two ways that a read and a write go, and the whole step.
 mod asked;
 mod course;
 mod sector;
 mod writes;
 
 ghost use mathlib.Core.Path.{_≡_};
+ghost use mathlib.Core.Bool.{true, false};
 ghost use Prim.Native.Nat.{_≤_};
-ghost use Rattle.model.specs.Address.{maskOf, wellFormed, goodSector};
+ghost use Rattle.model.specs.Address.{isRead, maskOf, wellFormed, goodSector};
 ghost use Rattle.model.specs.Lent.{lent};
 ghost use Rattle.model.specs.Inner.{SoundSlices, Does};
 ghost use Rattle.model.specs.Sound.{allOnes};
 ghost use Rattle.layout.specs.Layout.{Placed};
 ghost use Rattle.access.specs.Plan.{Meets, Offered, isSpot, refusalMet};
 ghost use Rattle.model.specs.Steps.{access};
-use asked::hits;
+use asked::is_hit;
+use asked::is_read;
+use course::back_needed;
 use course::course_of;
 use course::going;
 use course::places_needed;
@@ -28,8 +31,9 @@ use model::Settings;
 use model::Told;
 use probe::Decision;
 use probe::Meeting;
-use writes::act;
 use writes::act_hit;
+use writes::act_read;
+use writes::act_write;
 
 fn good_sector(address: u64) -> bool
     ensures { λ r. ⌜ r ≡ goodSector address ⌝ }
@@ -78,8 +82,57 @@ fn refusal_met(m: Meeting) -> Refusal
     }
 }
 
-// An access whose place is decided: refused by the queue or the miss table, or acted. A read that hits queues nothing and leaves the
-// miss table, so neither refuses it.
+// A read whose place is decided: refused by the queue or the miss table, or acted. One that hits queues nothing and leaves the miss
+// table, so neither refuses it.
+fn offer_read(
+    s: Settings,
+    at: Layout,
+    longs: &mut [u64],
+    words: &mut [u32],
+    marks: &mut [u8],
+    x: Access,
+    d: Decision,
+) -> Told
+    requires { ⌜ Placed s at × Meets s (lent (now longs) (now words) (now marks)) x d × (isRead x ≡ true) ⌝ }
+    ensures { λ r. ⌜ Offered s (lent (now (longs .entry)) (now (words .entry)) (now (marks .entry))) x d r
+        (lent (now (longs .exit)) (now (words .exit)) (now (marks .exit))) ⌝ }
+{
+    let a = d.answer;
+    if is_hit(a) {
+        return act_hit(s, at, words, x, d);
+    }
+    let needed = places_needed(a, d.backs);
+    let queued = places_used(s, at, marks, needed);
+    let course = course_of(s, at, longs, words, marks, x, d, queued);
+    if going(course) {
+        return act_read(s, at, longs, words, marks, x, d, queued, course);
+    }
+    tables::refused(refusal_in(course))
+}
+
+// A write whose place is decided: refused by the queue, or acted.
+fn offer_write(
+    s: Settings,
+    at: Layout,
+    longs: &mut [u64],
+    words: &mut [u32],
+    marks: &mut [u8],
+    x: Access,
+    d: Decision,
+) -> Told
+    requires { ⌜ Placed s at × Meets s (lent (now longs) (now words) (now marks)) x d × (isRead x ≡ false) ⌝ }
+    ensures { λ r. ⌜ Offered s (lent (now (longs .entry)) (now (words .entry)) (now (marks .entry))) x d r
+        (lent (now (longs .exit)) (now (words .exit)) (now (marks .exit))) ⌝ }
+{
+    let needed = back_needed(d.backs);
+    let queued = places_used(s, at, marks, needed);
+    if s.queue < queued + needed {
+        return tables::refused(Refusal::QueueFull);
+    }
+    act_write(s, at, longs, words, marks, x, d, queued)
+}
+
+// An access whose place is decided. From here on a read and a write go their own way.
 fn offer(
     s: Settings,
     at: Layout,
@@ -93,17 +146,10 @@ fn offer(
     ensures { λ r. ⌜ Offered s (lent (now (longs .entry)) (now (words .entry)) (now (marks .entry))) x d r
         (lent (now (longs .exit)) (now (words .exit)) (now (marks .exit))) ⌝ }
 {
-    let a = d.answer;
-    if hits(x, a) {
-        return act_hit(s, at, words, x, d);
+    if is_read(x) {
+        return offer_read(s, at, longs, words, marks, x, d);
     }
-    let needed = places_needed(x, a, d.backs);
-    let queued = places_used(s, at, marks, needed);
-    let course = course_of(s, at, longs, words, marks, x, d, queued);
-    if going(course) {
-        return act(s, at, longs, words, marks, x, d, queued, course);
-    }
-    tables::refused(refusal_in(course))
+    offer_write(s, at, longs, words, marks, x, d)
 }
 
 // An access on sound tables.

@@ -1,27 +1,20 @@
-// What an access finds in its line's four sectors, and what it leaves there.
+// What an access leaves of its line's four sectors.
 ghost use mathlib.Core.Path.{_≡_};
-ghost use Prim.Native.Nat.{_+_, _*_, _≤_, _<_};
-ghost use lib.ListN.{length};
 ghost use Rattle.words.specs.Words.{pick};
+ghost use Rattle.model.specs.Address.{isRead};
 ghost use Rattle.model.specs.Tables.{isInvalid, empty};
-ghost use Rattle.model.specs.Lent.{sectorsAt};
-ghost use Rattle.model.specs.Range.{linesOf};
-ghost use Rattle.layout.specs.Sectors.{SectorRoom};
-ghost use Rattle.access.specs.Written.{sectorsFor, sectorsAfter};
+ghost use Rattle.access.specs.Written.{sectorsAfter};
 ghost use Rattle.model.specs.declared.Status.the-variants.{Reserved};
-ghost use Rattle.model.specs.declared.Access.the-variants.{Write};
-ghost use mathlib.Core.Bool.{true};
+ghost use mathlib.Core.Bool.{true, false};
 ghost use Rattle.model.specs.Steps.{isMiss, onSector};
 use crate::asked::is_merge;
 use crate::asked::is_miss;
-use layout::Layout;
+use crate::asked::mask_of;
 use model::Access;
 use model::Answer;
 use model::Sector;
-use model::Settings;
 use model::Status;
 use probe::Decision;
-use probe::Meeting;
 
 fn is_invalid(s: Status) -> bool
     ensures { λ r. ⌜ r ≡ isInvalid s ⌝ }
@@ -50,10 +43,11 @@ fn read_sector(a: Answer, s: Sector) -> Sector
 }
 
 // The sector that a write leaves: its mask joined; MODIFIED, unless a fetch of it is on its way.
-fn written_sector(a: Answer, s: Sector, mask: u32) -> Sector
-    ensures { λ r. ⌜ r ≡ onSector (Write 0 mask 0) a s ⌝ }
+fn written_sector(x: Access, a: Answer, s: Sector) -> Sector
+    requires { ⌜ isRead x ≡ false ⌝ }
+    ensures { λ r. ⌜ r ≡ onSector x a s ⌝ }
 {
-    let joined = s.mask | mask;
+    let joined = s.mask | mask_of(x);
     let status = s.status;
     let was_readable = s.readable;
     if is_merge(a) {
@@ -71,24 +65,7 @@ fn written_sector(a: Answer, s: Sector, mask: u32) -> Sector
     }
 }
 
-fn changed(x: Access, a: Answer, s: Sector) -> Sector
-    ensures { λ r. ⌜ r ≡ onSector x a s ⌝ }
-{
-    match x {
-        Access::Read {
-            address: _,
-            mask: _,
-            ticket: _,
-        } => read_sector(a, s),
-        Access::Write {
-            address: _,
-            mask,
-            ticket: _,
-        } => written_sector(a, s, mask),
-    }
-}
-
-fn empty_sector() -> Sector
+pub(crate) fn empty_sector() -> Sector
     ensures { λ r. ⌜ r ≡ empty ⌝ }
 {
     Sector {
@@ -98,34 +75,28 @@ fn empty_sector() -> Sector
     }
 }
 
-// The sectors that the access finds in its line: those that stand there, or four empty ones of a line taken over.
-pub(crate) fn sectors_found(
-    s: Settings,
-    at: Layout,
-    words: &[u32],
-    marks: &[u8],
-    d: Decision,
-) -> [Sector; 4]
-    requires { ⌜ SectorRoom s at (now words) (now marks) × (d .line < linesOf s) ⌝ }
-    ensures { λ r. ⌜ r ≡ sectorsFor (d .meeting) (sectorsAt s (now (words .entry)) (now (marks .entry)) (d .line)) ⌝ }
-{
-    let m = d.meeting;
-    match m {
-        Meeting::Met => layout::lift(s, at, words, marks, d.line),
-        Meeting::Taken => [empty_sector(); 4],
-        Meeting::Busy => [empty_sector(); 4],
-        Meeting::Held => [empty_sector(); 4],
-    }
-}
-
-// The sectors that it leaves: one of the four changed.
-pub(crate) fn sectors_left(x: Access, d: Decision, found: [Sector; 4]) -> [Sector; 4]
+// The sectors that a read leaves of those that it finds: its own of the four changed.
+pub(crate) fn sectors_read(x: Access, d: Decision, found: [Sector; 4]) -> [Sector; 4]
+    requires { ⌜ isRead x ≡ true ⌝ }
     ensures { λ r. ⌜ r ≡ sectorsAfter x d found ⌝ }
 {
     let k = values::sector_index(values::address_of(x));
     let a = d.answer;
     let mut four = found;
     let s = four[k];
-    four[k] = changed(x, a, s);
+    four[k] = read_sector(a, s);
+    four
+}
+
+// The same of a write.
+pub(crate) fn sectors_written(x: Access, d: Decision, found: [Sector; 4]) -> [Sector; 4]
+    requires { ⌜ isRead x ≡ false ⌝ }
+    ensures { λ r. ⌜ r ≡ sectorsAfter x d found ⌝ }
+{
+    let k = values::sector_index(values::address_of(x));
+    let a = d.answer;
+    let mut four = found;
+    let s = four[k];
+    four[k] = written_sector(x, a, s);
     four
 }

@@ -1,36 +1,34 @@
 // The writes of an access that is not refused, in order: the dirty count and its line, the cycle at which that was taken and the
-// tree of its set, the miss table, the queue. Then what it tells. Last a read that hits, which needs two of these writes.
+// tree of its set, the miss table, the queue. Then what it tells. A read and a write each have their own, so that no write asks which
+// it is. Last a read that hits, which needs two of these writes.
 ghost use mathlib.Core.Path.{_≡_};
 ghost use Prim.Native.Nat.{ℕ, _+_, _*_, _≤_, _<_};
 ghost use mathlib.Core.List.{List, [], _∷_};
-ghost use lib.ListN.{length, getD, take};
+ghost use lib.ListN.{length, getD};
 ghost use Rattle.words.specs.Regions.{put};
 ghost use Rattle.model.specs.Address.{isRead, addressOf, blockOf, setIndex};
-ghost use Rattle.words.specs.Words.{pick, one};
+ghost use Rattle.words.specs.Words.{one};
 ghost use Rattle.model.specs.Lent.{lent, sectorsAt};
-ghost use Rattle.model.specs.Inner.{Fit};
-ghost use Rattle.model.specs.Range.{linesOf, isTree, powerTo256};
+ghost use Rattle.model.specs.Range.{isTree, powerTo256};
 ghost use Rattle.model.specs.Tree.{powerTo16};
 ghost use Rattle.layout.specs.Layout.{Placed, wordsMost};
-ghost use Rattle.probe.specs.Scan.{dirtyAt};
 ghost use Rattle.access.specs.Plan.{Meets, MayAct, Acted};
 ghost use Rattle.model.specs.Tables.{reading, writing};
-ghost use Rattle.model.specs.Calls.{inTwo};
-ghost use Rattle.access.specs.Written.{sectorsFor, sectorsAfter, lineWritten, missesWritten, queueWritten, queuesOf, tellingOf, MissRoom, QueueRoom, lineLeft, takenWritten, lineTaken, treesWritten, setTurned};
-ghost use mathlib.Core.Bool.{true, not, _&&_};
+ghost use Rattle.access.specs.Written.{sectorsFor, sectorsAfter, lineWritten, missesWritten, queueWritten, queuesOf, tellingQueued, tellingOf, Alone, MissRoom, QueueRoom, lineLeft, takenWritten, treesWritten};
+ghost use Rattle.access.specs.declared.course.Course.the-variants.{Stays};
+ghost use Rattle.probe.specs.Decided.{backsOf};
+ghost use mathlib.Core.Bool.{true, false};
 ghost use Rattle.model.specs.Steps.{isMiss};
 ghost use Rattle.model.specs.declared.Answer.the-variants.{Hit};
 ghost use Rattle.model.specs.declared.Event.the-variants.{Answered};
 ghost use Rattle.tables.specs.Telling.{telling};
-use crate::asked::fetches;
 use crate::asked::is_miss;
-use crate::asked::is_read;
 use crate::asked::takes_line;
 use crate::asked::ticket_of;
 use crate::course::Course;
-use crate::course::places_needed;
-use crate::sector::sectors_found;
-use crate::sector::sectors_left;
+use crate::sector::empty_sector;
+use crate::sector::sectors_read;
+use crate::sector::sectors_written;
 use layout::Layout;
 use model::Access;
 use model::Answer;
@@ -79,7 +77,55 @@ fn write_line(
     layout::store(at, words, marks, line, four);
 }
 
-// The access's line: what it finds there, changed and stored back, and counted.
+// The access's line with the four sectors that it leaves, and counted.
+fn leave_line(
+    s: Settings,
+    at: Layout,
+    longs: &mut [u64],
+    words: &mut [u32],
+    marks: &mut [u8],
+    x: Access,
+    d: Decision,
+    four: [Sector; 4],
+)
+    requires { ⌜ Placed s at × Meets s (lent (now longs) (now words) (now marks)) x d ⌝ }
+    ensures { λ _. ⌜ lent (now (longs .exit)) (now (words .exit)) (now (marks .exit))
+        ≡ lineLeft at (lent (now (longs .entry)) (now (words .entry)) (now (marks .entry))) (d .line) (blockOf (addressOf x))
+        four ⌝ }
+{
+    let was = probe::is_dirty(marks, d.line);
+    layout::recount(words, at.dirty, was, layout::some_modified(four));
+    let block = values::block_of(values::address_of(x));
+    write_line(at, longs, words, marks, d.line, block, four);
+}
+
+// The line of a read: empty if it is taken over, else as it stands, with the read's sector changed and stored back whole.
+fn fetch_line(
+    s: Settings,
+    at: Layout,
+    longs: &mut [u64],
+    words: &mut [u32],
+    marks: &mut [u8],
+    x: Access,
+    d: Decision,
+)
+    requires { ⌜ Placed s at × Meets s (lent (now longs) (now words) (now marks)) x d × (isRead x ≡ true) ⌝ }
+    ensures { λ _. ⌜ lent (now (longs .exit)) (now (words .exit)) (now (marks .exit))
+        ≡ lineLeft at (lent (now (longs .entry)) (now (words .entry)) (now (marks .entry))) (d .line) (blockOf (addressOf x))
+        (sectorsAfter x d (sectorsFor (d .meeting) (sectorsAt s (now (words .entry)) (now (marks .entry)) (d .line)))) ⌝ }
+{
+    let a = d.answer;
+    if takes_line(a) {
+        let four = sectors_read(x, d, [empty_sector(); 4]);
+        leave_line(s, at, longs, words, marks, x, d, four);
+    } else {
+        let found = layout::lift(s, at, words, marks, d.line);
+        let four = sectors_read(x, d, found);
+        leave_line(s, at, longs, words, marks, x, d, four);
+    }
+}
+
+// The same of a write.
 fn change_line(
     s: Settings,
     at: Layout,
@@ -89,29 +135,24 @@ fn change_line(
     x: Access,
     d: Decision,
 )
-    requires { ⌜ Placed s at × Fit s (now longs) (now words) (now marks) × (d .line < linesOf s) × (getD (now words) (at .dirty) 0 ≤ 1024)
-        × (one (dirtyAt (now marks) (d .line)) ≤ getD (now words) (at .dirty) 0) ⌝ }
+    requires { ⌜ Placed s at × Meets s (lent (now longs) (now words) (now marks)) x d × (isRead x ≡ false) ⌝ }
     ensures { λ _. ⌜ lent (now (longs .exit)) (now (words .exit)) (now (marks .exit))
         ≡ lineLeft at (lent (now (longs .entry)) (now (words .entry)) (now (marks .entry))) (d .line) (blockOf (addressOf x))
         (sectorsAfter x d (sectorsFor (d .meeting) (sectorsAt s (now (words .entry)) (now (marks .entry)) (d .line)))) ⌝ }
 {
-    let was = probe::is_dirty(marks, d.line);
-    let found = sectors_found(s, at, words, marks, d);
-    let four = sectors_left(x, d, found);
-    layout::recount(words, at.dirty, was, layout::some_modified(four));
-    let block = values::block_of(values::address_of(x));
-    write_line(at, longs, words, marks, d.line, block, four);
+    let a = d.answer;
+    if takes_line(a) {
+        let four = sectors_written(x, d, [empty_sector(); 4]);
+        leave_line(s, at, longs, words, marks, x, d, four);
+    } else {
+        let found = layout::lift(s, at, words, marks, d.line);
+        let four = sectors_written(x, d, found);
+        leave_line(s, at, longs, words, marks, x, d, four);
+    }
 }
 
-// Whether the access leaves its line's tag and sectors as they are: a read that does not miss.
-fn keeps_line(x: Access, a: Answer) -> bool
-    ensures { λ r. ⌜ r ≡ isRead x && not (isMiss a) ⌝ }
-{
-    is_read(x) & !is_miss(a)
-}
-
-// The access's line. Where its tag and sectors stay as they are, only its cycle is written.
-fn leave_line(
+// The line of a read. Where it doesn't miss the tag and the sectors stay as they are, and only the cycle is written.
+fn read_line(
     s: Settings,
     at: Layout,
     longs: &mut [u64],
@@ -120,16 +161,16 @@ fn leave_line(
     x: Access,
     d: Decision,
 )
-    requires { ⌜ Placed s at × Meets s (lent (now longs) (now words) (now marks)) x d ⌝ }
+    requires { ⌜ Placed s at × Meets s (lent (now longs) (now words) (now marks)) x d × (isRead x ≡ true) ⌝ }
     ensures { λ _. ⌜ lent (now (longs .exit)) (now (words .exit)) (now (marks .exit))
         ≡ lineLeft at (lent (now (longs .entry)) (now (words .entry)) (now (marks .entry))) (d .line) (blockOf (addressOf x))
         (sectorsAfter x d (sectorsFor (d .meeting) (sectorsAt s (now (words .entry)) (now (marks .entry)) (d .line)))) ⌝ }
 {
     let a = d.answer;
-    if keeps_line(x, a) {
-        touch(words, d.line);
+    if is_miss(a) {
+        fetch_line(s, at, longs, words, marks, x, d);
     } else {
-        change_line(s, at, longs, words, marks, x, d);
+        touch(words, d.line);
     }
 }
 
@@ -156,23 +197,12 @@ fn turn_tree(s: Settings, at: Layout, words: &mut [u32], x: Access, way: usize)
     }
 }
 
-// The access's line, when it was taken, and the tree of its set.
-fn act_line(
-    s: Settings,
-    at: Layout,
-    longs: &mut [u64],
-    words: &mut [u32],
-    marks: &mut [u8],
-    x: Access,
-    d: Decision,
-)
-    requires { ⌜ Placed s at × Meets s (lent (now longs) (now words) (now marks)) x d ⌝ }
-    ensures { λ _. ⌜ lent (now (longs .exit)) (now (words .exit)) (now (marks .exit))
-        ≡ setTurned s at (setIndex s (addressOf x)) (d .way)
-        (lineTaken at (d .answer) (d .line) (lineLeft at (lent (now (longs .entry)) (now (words .entry)) (now (marks .entry))) (d .line) (blockOf (addressOf x))
-        (sectorsAfter x d (sectorsFor (d .meeting) (sectorsAt s (now (words .entry)) (now (marks .entry)) (d .line)))))) ⌝ }
+// When the line was taken, and the tree of its set.
+fn mark_set(s: Settings, at: Layout, words: &mut [u32], x: Access, d: Decision)
+    requires { ⌜ (at .taken + d .line < length (now words)) × (at .trees + setIndex s (addressOf x) < length (now words)) × (length (now words) ≤ wordsMost)
+        × (1 ≤ s .sets) × (powerTo256 (s .sets) ≡ true) × (isTree s ≡ true → powerTo16 (s .ways) ≡ true) ⌝ }
+    ensures { λ _. ⌜ now (words .exit) ≡ treesWritten s at (setIndex s (addressOf x)) (d .way) (takenWritten at (d .answer) (d .line) (now (words .entry))) ⌝ }
 {
-    leave_line(s, at, longs, words, marks, x, d);
     let a = d.answer;
     mark_taken(at, words, d.line, a);
     turn_tree(s, at, words, x, d.way);
@@ -205,28 +235,6 @@ fn write_misses(
     }
 }
 
-// The queue: the entries from place n on.
-fn act_queue(
-    at: Layout,
-    longs: &mut [u64],
-    words: &mut [u32],
-    marks: &mut [u8],
-    n: usize,
-    entries: [Queued; 2],
-    count: usize,
-)
-    requires { ⌜ (count ≤ 2) × QueueRoom at (n + count) (now longs) (now words) (now marks) ⌝ }
-    ensures { λ _. ⌜ lent (now (longs .exit)) (now (words .exit)) (now (marks .exit))
-        ≡ queueWritten at n (take count entries) (lent (now (longs .entry)) (now (words .entry)) (now (marks .entry))) ⌝ }
-{
-    let mut i = 0;
-    while i < count {
-        let entry = entries[i];
-        tables::push(at, longs, words, marks, n + i, entry);
-        i += 1;
-    }
-}
-
 fn read_entry(x: Access) -> Queued
     ensures { λ r. ⌜ r ≡ reading (addressOf x) ⌝ }
 {
@@ -248,31 +256,51 @@ fn write_back_entry(d: Decision) -> Queued
     }
 }
 
-// What the accepted access queues: the read, then the write-back.
-fn entries_of(x: Access, d: Decision) -> [Queued; 2]
-    ensures { λ r. ⌜ r ≡ inTwo (queuesOf x d) ⌝ }
+// The write-back, if there is one, at queue place n.
+fn queue_back(
+    at: Layout,
+    longs: &mut [u64],
+    words: &mut [u32],
+    marks: &mut [u8],
+    n: usize,
+    d: Decision,
+)
+    requires { ⌜ QueueRoom at (n + one (d .backs)) (now longs) (now words) (now marks) ⌝ }
+    ensures { λ _. ⌜ lent (now (longs .exit)) (now (words .exit)) (now (marks .exit))
+        ≡ queueWritten at n (backsOf d) (lent (now (longs .entry)) (now (words .entry)) (now (marks .entry))) ⌝ }
 {
-    let a = d.answer;
-    if fetches(x, a) {
-        if d.backs {
-            return [read_entry(x), write_back_entry(d)];
-        }
-        return [read_entry(x), values::idle()];
-    }
     if d.backs {
-        return [write_back_entry(d), values::idle()];
+        tables::push(at, longs, words, marks, n, write_back_entry(d));
     }
-    [values::idle(); 2]
 }
 
-// What the accepted access tells.
-fn tell(x: Access, d: Decision) -> Told
+// What a read queues, from place n on: itself and the write-back, where it misses.
+fn queue_read(
+    at: Layout,
+    longs: &mut [u64],
+    words: &mut [u32],
+    marks: &mut [u8],
+    n: usize,
+    x: Access,
+    d: Decision,
+)
+    requires { ⌜ Alone x d × QueueRoom at (n + (one (isMiss (d .answer)) + one (d .backs))) (now longs) (now words) (now marks) ⌝ }
+    ensures { λ _. ⌜ lent (now (longs .exit)) (now (words .exit)) (now (marks .exit))
+        ≡ queueWritten at n (queuesOf x d) (lent (now (longs .entry)) (now (words .entry)) (now (marks .entry))) ⌝ }
+{
+    let a = d.answer;
+    if is_miss(a) {
+        tables::push(at, longs, words, marks, n, read_entry(x));
+        queue_back(at, longs, words, marks, n + 1, d);
+    }
+}
+
+// What an accepted access tells that queues so many entries.
+fn tell(d: Decision, queued: [Queued; 2], queues: usize) -> Told
     requires { ⌜ d .line < 1024 ⌝ }
-    ensures { λ r. ⌜ r ≡ tellingOf x d ⌝ }
+    ensures { λ r. ⌜ r ≡ tellingQueued d queued queues ⌝ }
 {
     let answer = d.answer;
-    let queued = entries_of(x, d);
-    let queues = places_needed(x, answer, d.backs);
     Told {
         first: Event::Answered {
             answer,
@@ -285,8 +313,32 @@ fn tell(x: Access, d: Decision) -> Told
     }
 }
 
-// The act of an access that is not refused; nothing is written before it.
-pub(crate) fn act(
+fn tell_read(x: Access, d: Decision) -> Told
+    requires { ⌜ Alone x d × (d .line < 1024) ⌝ }
+    ensures { λ r. ⌜ r ≡ tellingOf x d ⌝ }
+{
+    let a = d.answer;
+    if !is_miss(a) {
+        return tell(d, [values::idle(); 2], 0);
+    }
+    if d.backs {
+        return tell(d, [read_entry(x), write_back_entry(d)], 2);
+    }
+    tell(d, [read_entry(x), values::idle()], 1)
+}
+
+fn tell_write(x: Access, d: Decision) -> Told
+    requires { ⌜ (isRead x ≡ false) × (d .line < 1024) ⌝ }
+    ensures { λ r. ⌜ r ≡ tellingOf x d ⌝ }
+{
+    if d.backs {
+        return tell(d, [write_back_entry(d), values::idle()], 1);
+    }
+    tell(d, [values::idle(); 2], 0)
+}
+
+// The act of a read that is not refused; nothing is written before it.
+pub(crate) fn act_read(
     s: Settings,
     at: Layout,
     longs: &mut [u64],
@@ -297,11 +349,12 @@ pub(crate) fn act(
     queued: usize,
     course: Course,
 ) -> Told
-    requires { ⌜ Placed s at × MayAct s (lent (now longs) (now words) (now marks)) x d queued course ⌝ }
+    requires { ⌜ Placed s at × MayAct s (lent (now longs) (now words) (now marks)) x d queued course × (isRead x ≡ true) ⌝ }
     ensures { λ r. ⌜ Acted s (lent (now (longs .entry)) (now (words .entry)) (now (marks .entry))) x d queued course r
         (lent (now (longs .exit)) (now (words .exit)) (now (marks .exit))) ⌝ }
 {
-    act_line(s, at, longs, words, marks, x, d);
+    read_line(s, at, longs, words, marks, x, d);
+    mark_set(s, at, words, x, d);
     let address = SectorAddress(values::address_of(x));
     write_misses(
         at,
@@ -313,10 +366,29 @@ pub(crate) fn act(
         address,
         ticket_of(x),
     );
-    let told = tell(x, d);
-    let entries = told.queued;
-    act_queue(at, longs, words, marks, queued, entries, told.queues);
-    told
+    queue_read(at, longs, words, marks, queued, x, d);
+    tell_read(x, d)
+}
+
+// The act of a write that is not refused; it leaves the miss table.
+pub(crate) fn act_write(
+    s: Settings,
+    at: Layout,
+    longs: &mut [u64],
+    words: &mut [u32],
+    marks: &mut [u8],
+    x: Access,
+    d: Decision,
+    queued: usize,
+) -> Told
+    requires { ⌜ Placed s at × MayAct s (lent (now longs) (now words) (now marks)) x d queued Stays × (isRead x ≡ false) ⌝ }
+    ensures { λ r. ⌜ Acted s (lent (now (longs .entry)) (now (words .entry)) (now (marks .entry))) x d queued Stays r
+        (lent (now (longs .exit)) (now (words .exit)) (now (marks .exit))) ⌝ }
+{
+    change_line(s, at, longs, words, marks, x, d);
+    mark_set(s, at, words, x, d);
+    queue_back(at, longs, words, marks, queued, d);
+    tell_write(x, d)
 }
 
 // A read that hits: its line's cycle and the tree of its set.

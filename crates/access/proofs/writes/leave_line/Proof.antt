@@ -1,12 +1,8 @@
-use mathlib.Core.Path.{sym, ap, _∙_}
-use mathlib.Core.List.{List}
-use Prim.Native.Nat.{ℕ}
+use mathlib.Core.Path.{_∙_}
 use native.Mathlib.Omega.{arith}
 use borrow.Author.Needs.{needs}
-use Rattle.model.specs.Lent.{lent}
 use Rattle.encoding.proofs.Bridge.{is-fit}
 use Rattle.access.proofs.Recounts.{count-few, was-counted}
-use Rattle.access.proofs.Kept.{touched}
 use Rattle.access.proofs.writes.leave_line.Statement.{statement}
 use Rattle.access.proofs.writes.leave_line.Tie as tie
 
@@ -14,25 +10,34 @@ pub leave-line-spec : {M : Type 1} → statement M
 leave-line-spec =
     tie.close
     (tie.spec
-    (λ c κs. search needs)
     (λ c κs.
-    let start = c .before .before .before .before .before .before in
+    let start = c .before .before .before .before in
     let m = start .pre .1 .met in
     let f = is-fit _ _ _ (m .is) in
-    omega (arith, m .below))
+    let p = start .pre .0 in
+    omega (arith, m .below))  -- is-dirty-requires
+    (λ c κs. search needs)  -- some-modified-requires
     (λ c κs.
-    let start = c .before .before .before .before .before .before .before .before in
+    let start = c .before .before .before .before .before .before .before in
     let m = start .pre .1 .met in
-    (start .pre .0, is-fit _ _ _ (m .is), m .below, count-few _ _ (m .is) (start .pre .0), was-counted _ _ (m .is) (start .pre .0) _ (m .below)))
-    (λ c. search needs)
+    let f = is-fit _ _ _ (m .is) in
+    let p = start .pre .0 in
+    rw (c .before .before .is-dirty .ensures) (omega arith, count-few _ _ (m .is) p, was-counted _ _ (m .is) p _ (m .below)))  -- recount-requires
+    (λ c κs. search needs)  -- address-of-requires
+    (λ c κs. search needs)  -- block-of-requires
+    (λ c κs.
+    let start = c .before .before .before .before .before .before .before .before .before .before .before .before .before .before .before in
+    let m = start .pre .1 .met in
+    let f = is-fit _ _ _ (m .is) in
+    let p = start .pre .0 in
+    let k = c .before .before .before .before .before .before .before .recount .kept .0 in
+    (omega (arith, m .below), omega (arith, m .below), omega (arith, m .below), omega (arith, m .below), omega (arith, m .below)))  -- write-line-requires
+    (λ c. search needs)  -- same-length
+    (λ c. search needs)  -- same-length-2
+    (λ c. search needs)  -- same-length-3
     (λ c.
-    let touch = c .before .before in
-    let taken = touch .before .before in
-    let start = taken .before .before .before .before .before in
-    let a = start .args in
-    ap (λ (words : List ℕ). lent (a .longs .now) words (a .marks .now)) (touch .touch .ensures)
-    ∙ touched (a .s) (a .x) (a .d) _ _ (start .pre .1 .met) (start .pre .0) (sym (taken .before .keeps-line .ensures) ∙ taken .if1 .taken))
-    (λ c. search needs)
-    (λ c. search needs)
-    (λ c. search needs)
-    (λ c. search needs))
+    let written = c .before .before .before .before .before .before in
+    let blocked = written .before .before .before .before in
+    let counted = blocked .before .before .before .before in
+    written .write-line .ensures
+    ∙ rw (blocked .block-of .ensures, blocked .before .address-of .ensures, counted .recount .ensures, counted .before .some-modified .ensures, counted .before .before .before .is-dirty .ensures)))  -- returns

@@ -1,0 +1,107 @@
+use mathlib.Core.Path.{_≡_, refl, sym, ap, _∙_}
+use native.Mathlib.Omega.{arith}
+use lib.ListN.{length}
+use borrow.Author.Needs.{needs}
+use Rattle.encoding.proofs.Bridge.{is-fit}
+use Rattle.access.specs.Written.{queuesOf}
+use Rattle.access.proofs.Plans.{queue-in-use}
+use Rattle.model.specs.declared.Refusal.{Refusal}
+use Rattle.model.specs.declared.Event.the-variants as event
+use Rattle.model.specs.Address.{addressOf, setIndex}
+use Rattle.model.proofs.Turning.{set-below}
+use Rattle.layout.proofs.Room.{tree-room}
+use Rattle.tables.specs.Telling.{telling}
+use Rattle.access.proofs.Courses.{read-needs, queues-count}
+use Rattle.access.proofs.Offering.{offered-acts, offered-stops}
+use Rattle.access.proofs.Hits.{hit-offered}
+use Rattle.access.proofs.asked.is_hit.Reads as is-hit-reads
+use Rattle.access.proofs.writes.act_read.Reads as act-read-reads
+use Rattle.access.proofs.writes.act_hit.Reads as act-hit-reads
+use Rattle.access.proofs.course.course_of.Reads as course-of-reads
+use Rattle.access.proofs.course.going.Reads as going-reads
+use Rattle.access.proofs.course.places_needed.Reads as places-needed-reads
+use Rattle.access.proofs.course.places_used.Reads as places-used-reads
+use Rattle.access.proofs.course.refusal_in.Reads as refusal-in-reads
+use Rattle.tables.proofs.refused.Reads as refused-reads
+use Rattle.access.proofs.offer_read.Statement.{statement}
+use Rattle.access.proofs.offer_read.Tie as tie
+
+-- the places that it needs are those that it queues
+counts : (c : tie.After-places-used) → let a = c .before .before .before .before .before .before .before .before .args in c .before .before .places-needed .result ≡ length (queuesOf (a .x) (a .d))
+counts c =
+    let start = c .before .before .before .before .before .before .before .before in
+    let a = start .args in
+    read-needs (a .x) (a .d) (start .pre .2) (c .before .before .places-needed .ensures .0) ∙ sym (queues-count (a .x) (a .d))
+
+pub offer-read-spec : {M : Type 1} → statement M
+offer-read-spec =
+    tie.close
+    (tie.spec
+    (λ c κs. search needs)  -- is-hit-requires
+    (λ c κs.
+    let start = c .before .before .before .before .before .before in
+    let a = start .args in
+    let m = start .pre .1 .met in
+    let fit = is-fit _ _ _ (m .is) in
+    let room = tree-room (start .pre .0) fit (setIndex (a .s) (addressOf (a .x))) (set-below (a .s) (m .is .range) (addressOf (a .x))) in
+    (omega (arith, m .below), omega (arith, m .below), room .inside, room .small, fit .sets, fit .power, fit .tree))  -- act-hit-requires
+    (λ c. search needs)  -- same-length
+    (λ c. record {
+      on = λ t p m.
+          let acted = c .before .before in
+          let then = acted .before .before in
+          let start = then .before .before .before .before .before in
+          hit-offered _ _ _ t p m (start .pre .0) (rw (start .pre .2) (sym (then .before .is-hit .ensures) ∙ then .if1 .taken)) (acted .act-hit .ensures .0) (acted .act-hit .ensures .1);
+    })  -- returns
+    (λ c κs. search needs)  -- places-needed-requires
+    (λ c κs. let start = c .before .before .before .before .before .before .before in let f = is-fit _ _ _ (start .pre .1 .met .is) in let p = start .pre .0 in omega arith)  -- places-used-requires
+    (λ c κs.
+    let used = c .before .before .before in
+    let start = used .before .before .before .before .before .before .before .before in
+    (start .pre .0, start .pre .1, record { on = λ t is. queue-in-use _ t is (start .pre .0) _ _ (counts used) (used .places-used .ensures) }, start .pre .2))  -- course-of-requires
+    (λ c κs. search needs)  -- going-requires
+    (λ c κs.
+    let then = c .before .before .before in
+    let course = then .before .before in
+    let used = course .before .before .before .before in
+    let start = used .before .before .before .before .before .before .before .before in
+    let pre = start .pre .1 in (
+      start .pre .0,
+      record {
+        tables = pre .tables;
+        spot = pre .spot;
+        acts = record {
+          met = pre .met;
+          counted = queue-in-use _ _ (pre .met .is) (start .pre .0) _ _ (counts used) (used .places-used .ensures);
+          planned = course .course-of .ensures .on _ _ (pre .met);
+          going = sym (then .before .going .ensures) ∙ then .if2 .taken;
+        };
+      },
+      start .pre .2,
+    ))  -- act-read-requires
+    (λ c. search needs)  -- same-length-2
+    (λ c. search needs)  -- same-length-3
+    (λ c. search needs)  -- same-length-4
+    (λ c. record {
+      on = λ t p m.
+          let acted = c .before .before .before .before .before .before in
+          let then = acted .before .before .before .before in
+          let course = then .before .before in
+          let used = course .before .before .before .before in
+          let start = used .before .before .before .before .before .before .before .before in
+          let planned = course .course-of .ensures .on t p m in
+          let goes = sym (then .before .going .ensures) ∙ then .if2 .taken in
+          offered-acts _ _ _ t p m planned goes (acted .act-read .ensures .on t p
+          (record { met = m; counted = queue-in-use _ t (m .is) (start .pre .0) _ _ (counts used) (used .places-used .ensures); planned = planned; going = goes }));
+    })  -- returns-2
+    (λ c κs. search needs)  -- refusal-in-requires
+    (λ c κs. search needs)  -- refused-requires
+    (λ c. search needs)  -- same-length-5
+    (λ c. search needs)  -- same-length-6
+    (λ c. search needs)  -- same-length-7
+    (λ c. record {
+      on = λ t p m.
+          let else = c .before .before in
+          offered-stops _ _ _ t p m (else .before .before .course-of .ensures .on t p m) (sym (else .before .going .ensures) ∙ else .if2 .left)
+          (c .refused .ensures ∙ ap (λ (n : Refusal). telling (event.Refused n)) (c .before .refusal-in .ensures));
+    }))  -- returns-3

@@ -1,0 +1,22 @@
+use mathlib.Core.Path.{_≡_}
+use lib.ListN.{length}
+use borrow.Author.Needs.{needs}
+use Rattle.access.proofs.Sectors.{sectors-left}
+use Rattle.access.proofs.sector.sectors_written.Statement.{statement}
+use Rattle.access.proofs.sector.sectors_written.Tie as tie
+
+pub sectors-written-spec : {M : Type 1} → statement M
+sectors-written-spec =
+    tie.close
+    (tie.spec
+    (λ c κs. search needs)  -- address-of-requires
+    (λ c κs. search needs)  -- sector-index-requires
+    (λ c. search needs)  -- mul-s
+    (λ c. search needs)  -- array-copy-out-s
+    (λ c κs. search needs)  -- written-sector-requires
+    (λ c. search needs)  -- mul-four
+    (λ c. search needs)  -- array-set-from-four
+    (λ c.
+    let a = c .before .before .before .before .args in
+    let four : length (a .found) ≡ 4 = search needs in
+    sectors-left (a .x) (a .d) (a .found) _ four (c .before .before .sector-index .ensures .0) (c .before .before .before .address-of .ensures) (c .written-sector .ensures)))  -- returns

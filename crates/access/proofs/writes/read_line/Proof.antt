@@ -1,0 +1,35 @@
+use mathlib.Core.Path.{sym, ap, _∙_}
+use mathlib.Core.List.{List}
+use Prim.Native.Nat.{ℕ}
+use native.Mathlib.Omega.{arith}
+use borrow.Author.Needs.{needs}
+use Rattle.model.specs.Lent.{lent}
+use Rattle.encoding.proofs.Bridge.{is-fit}
+use Rattle.access.proofs.Kept.{touched}
+use Rattle.access.proofs.writes.read_line.Statement.{statement}
+use Rattle.access.proofs.writes.read_line.Tie as tie
+
+pub read-line-spec : {M : Type 1} → statement M
+read-line-spec =
+    tie.close
+    (tie.spec
+    (λ c κs. search needs)  -- is-miss-requires
+    (λ c κs. search needs)  -- fetch-line-requires
+    (λ c κs.
+    let start = c .before .before .before .before .before .before in
+    let m = start .pre .1 .met in
+    let f = is-fit _ _ _ (m .is) in
+    let p = start .pre .0 in
+    omega (arith, m .below))  -- touch-requires
+    (λ c. search needs)  -- same-length
+    (λ c. search needs)  -- same-length-2
+    (λ c. search needs)  -- same-length-3
+    (λ c. search needs)  -- returns
+    (λ c. search needs)  -- same-length-4
+    (λ c.
+    let touch = c .before .before in
+    let tested = touch .before .before in
+    let start = tested .before .before .before .before .before in
+    let a = start .args in
+    ap (λ (words : List ℕ). lent (a .longs .now) words (a .marks .now)) (touch .touch .ensures)
+    ∙ touched (a .s) (a .x) (a .d) _ _ (start .pre .1 .met) (start .pre .0) (rw (start .pre .2, sym (tested .before .is-miss .ensures) ∙ tested .if1 .left))))  -- returns-2
