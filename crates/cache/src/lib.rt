@@ -1,5 +1,6 @@
 // The calls on lent tables (document 01), for any settings and any slices: making fresh tables, read and write, send, fill, tick, and
 // the check of refusals 1, 2 and 3 by itself. Each checks first and then does its step; a refusal leaves every slice as it was.
+use layout::Layout;
 use model::Access;
 use model::Refusal;
 use model::Settings;
@@ -8,9 +9,20 @@ use model::Verdict;
 use soundness::LaidVerdict;
 ghost use mathlib.Core.Path.{_≡_};
 ghost use Rattle.model.specs.Lent.{lent};
-ghost use Rattle.model.specs.Calls.{freshCall, checkCall, verdictOf, accessCall, sendCall, fillCall, tickCall, Leaves};
+ghost use Rattle.model.specs.Calls.{freshCall, checkCall, verdictOf, call, accessCall, sendCall, fillCall, tickCall, Leaves};
+ghost use Rattle.model.specs.History.{stepBy};
+ghost use Rattle.model.specs.Inner.{SoundSlices, Does};
 ghost use Rattle.model.specs.declared.Access.the-variants.{Read, Write};
-ghost use Rattle.cache.specs.Made.{Made};
+ghost use Rattle.layout.specs.Layout.{Placed};
+ghost use Rattle.cache.specs.Made.{Made, callOf};
+
+// One call but the making of tables.
+pub enum Call {
+    Offer(Access),
+    Send,
+    Fill(u64),
+    Tick(u32),
+}
 
 // ---- fresh tables
 
@@ -30,7 +42,40 @@ pub fn fresh(s: Settings, longs: &mut [u64], words: &mut [u32], marks: &mut [u8]
     Verdict::Passed
 }
 
-// ---- the steps behind the checks
+// ---- the calls
+
+// The step of a call, for callers that have checked the tables.
+pub fn step(
+    s: Settings,
+    at: Layout,
+    longs: &mut [u64],
+    words: &mut [u32],
+    marks: &mut [u8],
+    k: Call,
+) -> Told
+    requires { ⌜ Placed s at × SoundSlices s (lent (now longs) (now words) (now marks)) ⌝ }
+    ensures { λ r. ⌜ Does s (stepBy s (callOf k)) (lent (now (longs .entry)) (now (words .entry)) (now (marks .entry))) r
+        (lent (now (longs .exit)) (now (words .exit)) (now (marks .exit))) ⌝ }
+{
+    match k {
+        Call::Offer(x) => access::access_step(s, at, longs, words, marks, x),
+        Call::Send => steps::send_step(s, at, longs, words, marks),
+        Call::Fill(address) => steps::fill_step(s, at, longs, words, marks, address),
+        Call::Tick(cycle) => steps::tick_step(s, longs, words, marks, cycle),
+    }
+}
+
+// Makes a call: the check, then its step.
+pub fn perform(s: Settings, longs: &mut [u64], words: &mut [u32], marks: &mut [u8], k: Call) -> Told
+    ensures { λ r. ⌜ Leaves (call s (stepBy s (callOf k)) (lent (now (longs .entry)) (now (words .entry)) (now (marks .entry))))
+        (lent (now (longs .entry)) (now (words .entry)) (now (marks .entry))) r
+        (lent (now (longs .exit)) (now (words .exit)) (now (marks .exit))) ⌝ }
+{
+    match soundness::checked_layout(s, longs, words, marks) {
+        LaidVerdict::Refused(n) => tables::refused(n),
+        LaidVerdict::Passed(at) => step(s, at, longs, words, marks, k),
+    }
+}
 
 // One access; a read wants mask 0, and a write's ticket is not looked at.
 pub fn access(
@@ -44,10 +89,7 @@ pub fn access(
         (lent (now (longs .entry)) (now (words .entry)) (now (marks .entry))) r
         (lent (now (longs .exit)) (now (words .exit)) (now (marks .exit))) ⌝ }
 {
-    match soundness::checked_layout(s, longs, words, marks) {
-        LaidVerdict::Refused(n) => tables::refused(n),
-        LaidVerdict::Passed(at) => access::access_step(s, at, longs, words, marks, x),
-    }
+    perform(s, longs, words, marks, Call::Offer(x))
 }
 
 pub fn read(
@@ -96,10 +138,7 @@ pub fn send(s: Settings, longs: &mut [u64], words: &mut [u32], marks: &mut [u8])
         (lent (now (longs .entry)) (now (words .entry)) (now (marks .entry))) r
         (lent (now (longs .exit)) (now (words .exit)) (now (marks .exit))) ⌝ }
 {
-    match soundness::checked_layout(s, longs, words, marks) {
-        LaidVerdict::Refused(n) => tables::refused(n),
-        LaidVerdict::Passed(at) => steps::send_step(s, at, longs, words, marks),
-    }
+    perform(s, longs, words, marks, Call::Send)
 }
 
 // The data of a sector address has come.
@@ -114,10 +153,7 @@ pub fn fill(
         (lent (now (longs .entry)) (now (words .entry)) (now (marks .entry))) r
         (lent (now (longs .exit)) (now (words .exit)) (now (marks .exit))) ⌝ }
 {
-    match soundness::checked_layout(s, longs, words, marks) {
-        LaidVerdict::Refused(n) => tables::refused(n),
-        LaidVerdict::Passed(at) => steps::fill_step(s, at, longs, words, marks, address),
-    }
+    perform(s, longs, words, marks, Call::Fill(address))
 }
 
 // Sets the current cycle.
@@ -126,10 +162,7 @@ pub fn tick(s: Settings, longs: &mut [u64], words: &mut [u32], marks: &mut [u8],
         (lent (now (longs .entry)) (now (words .entry)) (now (marks .entry))) r
         (lent (now (longs .exit)) (now (words .exit)) (now (marks .exit))) ⌝ }
 {
-    match soundness::checked_layout(s, longs, words, marks) {
-        LaidVerdict::Refused(n) => tables::refused(n),
-        LaidVerdict::Passed(_) => steps::tick_step(s, longs, words, marks, cycle),
-    }
+    perform(s, longs, words, marks, Call::Tick(cycle))
 }
 
 // ---- refusals 1, 2 and 3 by themselves

@@ -1,6 +1,7 @@
 // The calls that a script makes, on the first numbers of each slice, as many as are lent.
 use crate::outcomes;
 use crate::outcomes::Outcome;
+use cache::Call;
 use model::Access;
 use model::Command;
 use model::GivenRule;
@@ -18,12 +19,7 @@ pub(crate) struct Bench {
 pub(crate) enum Deed {
     Fresh,
     Check,
-    Read { address: u64, ticket: u32 },
-    Masked { address: u64, mask: u32 },
-    Write { address: u64, mask: u32 },
-    Send,
-    Fill(u64),
-    Tick(u32),
+    Made(Call),
     Dirty(u64),
 }
 
@@ -78,15 +74,32 @@ fn with_settings(b: Bench, s: Settings) -> Bench {
     }
 }
 
+// The call of a read, which wants mask 0.
+pub(crate) fn offered_read(address: u64, mask: u32, ticket: u32) -> Deed {
+    let x = Access::Read {
+        address,
+        mask,
+        ticket,
+    };
+    Deed::Made(Call::Offer(x))
+}
+
 // A command as a call: settings make the tables fresh.
 pub(crate) fn deed_of(c: Command) -> Deed {
     match c {
         Command::Settings(_) => Deed::Fresh,
-        Command::Read { address, ticket } => Deed::Read { address, ticket },
-        Command::Write { address, mask } => Deed::Write { address, mask },
-        Command::Send => Deed::Send,
-        Command::Fill(address) => Deed::Fill(address),
-        Command::Tick(cycle) => Deed::Tick(cycle),
+        Command::Read { address, ticket } => offered_read(address, 0, ticket),
+        Command::Write { address, mask } => {
+            let x = Access::Write {
+                address,
+                mask,
+                ticket: 0,
+            };
+            Deed::Made(Call::Offer(x))
+        }
+        Command::Send => Deed::Made(Call::Send),
+        Command::Fill(address) => Deed::Made(Call::Fill(address)),
+        Command::Tick(cycle) => Deed::Made(Call::Tick(cycle)),
     }
 }
 
@@ -191,28 +204,7 @@ fn make(
     match d {
         Deed::Fresh => outcomes::put_verdict(cache::fresh(s, longs, words, marks), b"fresh", out),
         Deed::Check => outcomes::put_verdict(cache::check(s, longs, words, marks), b"sound", out),
-        Deed::Read { address, ticket } => outcomes::put_told(
-            cache::read(s, longs, words, marks, address, ticket),
-            out,
-        ),
-        Deed::Masked { address, mask } => {
-            let x = Access::Read {
-                address,
-                mask,
-                ticket: 0,
-            };
-            outcomes::put_told(cache::access(s, longs, words, marks, x), out)
-        }
-        Deed::Write { address, mask } => outcomes::put_told(
-            cache::write(s, longs, words, marks, address, mask),
-            out,
-        ),
-        Deed::Send => outcomes::put_told(cache::send(s, longs, words, marks), out),
-        Deed::Fill(address) => outcomes::put_told(
-            cache::fill(s, longs, words, marks, address),
-            out,
-        ),
-        Deed::Tick(cycle) => outcomes::put_told(cache::tick(s, longs, words, marks, cycle), out),
+        Deed::Made(k) => outcomes::put_told(cache::perform(s, longs, words, marks, k), out),
         Deed::Dirty(lines) => outcomes::put_dirty(dirty_lines(marks, lines), out),
     }
 }

@@ -65,10 +65,7 @@ fn on_masked(
     let address = scripts::number_next(line, at);
     let mask = scripts::number_next(line, address.next);
     on_deed(
-        Deed::Masked {
-            address: address.value,
-            mask: calls::word_of(mask.value),
-        },
+        calls::offered_read(address.value, calls::word_of(mask.value), 0),
         b,
         longs,
         words,

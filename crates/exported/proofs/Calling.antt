@@ -14,21 +14,23 @@ use Rattle.model.specs.Range.{inRange}
 use Rattle.model.specs.Tables.{Tables, Outcome, after, eventsOf}
 use Rattle.model.specs.Lent.{Lent}
 use Rattle.model.specs.Records.{logBytes}
-use Rattle.model.specs.Sound.{allOnes, sound}
-use Rattle.model.specs.Steps.{access, send, fill, tick}
+use Rattle.model.specs.Sound.{sound}
+use Rattle.model.specs.Probe.{ruleOf}
+use Rattle.model.specs.Steps.{access}
+use Rattle.model.specs.History.{Call, offer, sending, filling, ticking, stepBy}
+use Rattle.model.specs.History as history
 use Rattle.model.specs.Calls.{call, encoded, Leaves, eventsTold}
 use Rattle.model.specs.Inner.{SoundSlices, Does}
 use Rattle.model.specs.Numbers.{stopNumber}
-use Rattle.model.specs.Runner.{stepOf, Result, Runs}
+use Rattle.model.specs.Runner.{Result, Runs}
 use Rattle.model.specs.declared.Settings.{Settings}
 use Rattle.model.specs.declared.Told.{Told}
 use Rattle.model.specs.declared.Access.{Access}
 use Rattle.model.specs.declared.Ran.{Ran}
 use Rattle.rounds.specs.declared.Waited.{Waited}
 use Rattle.rounds.specs.Waiting.{waitCall, waitWithin, Waits}
-use Rattle.model.specs.declared.Command.{Command}
 use Rattle.model.specs.declared.Command.the-variants as cmd
-use Rattle.model.proofs.Soundness.{commandMask, step-keeps-sound}
+use Rattle.model.proofs.Soundness.{call-keeps-sound}
 use Rattle.encoding.proofs.DecodeIsSound.{Small}
 use Rattle.words.proofs.Flags.{flag}
 use Rattle.encoding.proofs.Bridge.{call-is, events-encoded, does-is}
@@ -46,17 +48,11 @@ call-unmade o L e h = record { written = rw (lt-leb 64 (length e) h); events = r
 abbrev Short : Settings → (Tables → Outcome Tables) → Type 0
 Short S step = (t : Tables) → inRange S ≡ true → sound S t ≡ true → Takes 49 (step t)
 
-pub access-short : (S : Settings) (x : Access) → Short S (access S x)
-access-short S x t range ok = record { most = le-trans (access-takes S x t .most) (lit≤ tt) }
-
-pub send-short : (S : Settings) → Short S send
-send-short S = step-takes S cmd.Send
-
-pub fill-short : (S : Settings) (a : ℕ) → Short S (fill a)
-fill-short S a = step-takes S (cmd.Fill a)
-
-pub tick-short : (S : Settings) (c : ℕ) → Short S (tick c)
-tick-short S c = step-takes S (cmd.Tick c)
+pub call-short : (S : Settings) (k : Call) → Short S (stepBy S k)
+call-short S (offer x) t range ok = record { most = le-trans (access-takes S x t .most) (lit≤ tt) }
+call-short S sending t range ok = step-takes S cmd.Send t range ok
+call-short S (filling a) t range ok = step-takes S (cmd.Fill a) t range ok
+call-short S (ticking c) t range ok = step-takes S (cmd.Tick c) t range ok
 
 -- so the room suffices for all of it
 module _ (o : Outcome Lent) (L : Lent) (e : List ℕ) (told : Told) (room : 64 ≤ length e) (short : length (logBytes (eventsOf o)) ≤ 49) where
@@ -66,26 +62,28 @@ module _ (o : Outcome Lent) (L : Lent) (e : List ℕ) (told : Told) (room : 64 �
       let (count, slice) = stored-behind [] e (logBytes (eventsOf o)) (rw (l .tells) at s) (omega arith) in
       record { written = rw b count; events = rw b slice; left = rw b (l .left) }
 
-pub call-made : (S : Settings) (step : Tables → Outcome Tables) (L : Lent) (e : List ℕ) (told : Told) {r : ℕ} {f : List ℕ} {M : Lent} → Short S step → Small L
-    → 64 ≤ length e → Leaves (call S step L) L told M → Stored e 0 (logBytes (eventsTold told)) r f → Called (call S step L) L e r f M
-call-made S step L e told short small room l s = call-written (call S step L) L e told room (call-room S step L small short) l s
+module _ (S : Settings) (k : Call) (L : Lent) (e : List ℕ) (told : Told) where
+  abbrev out : Outcome Lent
+  out = call S (stepBy S k) L
 
--- ---- a step without the check leaves what the call leaves, and sound tables again
+  pub call-made : {r : ℕ} {f : List ℕ} {M : Lent} → Small L → 64 ≤ length e → Leaves out L told M → Stored e 0 (logBytes (eventsTold told)) r f → Called out L e r f M
+  call-made small room l s = call-written out L e told room (call-room S (stepBy S k) L small (call-short S k)) l s
+
+  -- a step without the check leaves what the call leaves, and sound tables again
+  pub step-made : {r : ℕ} {f : List ℕ} {M : Lent} → history.Small k → SoundSlices S L → 64 ≤ length e → Does S (stepBy S k) L told M → Stored e 0 (logBytes (eventsTold told)) r f → Stepped S out L e r f M
+  unfolding access
+  step-made small held room d s =
+      let t = held .tables in
+      let i = held .are in
+      let q : out ≡ encoded S (stepBy S k t) = call-is S L t i (stepBy S k) in
+      let n : length (logBytes (eventsOf out)) ≤ 49 = rw (q, events-encoded S (stepBy S k t)) (call-short S k t (i .range) (i .soundly) .most) in
+      record {
+        called = call-written out L e told room n (rw q (d .on t i)) s;
+        held = record { tables = after t (stepBy S k t); are = does-is S d t i (call-keeps-sound (ruleOf S) S k t (i .range) small (i .soundly)) };
+      }
 
 pub step-unmade : (S : Settings) (o : Outcome Lent) (L : Lent) (e : List ℕ) → SoundSlices S L → length e < 64 → Stepped S o L e 0 e L
 step-unmade S o L e held h = record { called = call-unmade o L e h; held = held }
-
-pub step-made : (S : Settings) (c : Command) (L : Lent) (e : List ℕ) (told : Told) {r : ℕ} {f : List ℕ} {M : Lent} → commandMask c ≤ allOnes → SoundSlices S L
-    → 64 ≤ length e → Does S (stepOf S c) L told M → Stored e 0 (logBytes (eventsTold told)) r f → Stepped S (call S (stepOf S c) L) L e r f M
-step-made S c L e told small held room d s =
-    let t = held .tables in
-    let i = held .are in
-    let q : call S (stepOf S c) L ≡ encoded S (stepOf S c t) = call-is S L t i (stepOf S c) in
-    let n : length (logBytes (eventsOf (call S (stepOf S c) L))) ≤ 49 = rw (q, events-encoded S (stepOf S c t)) (step-takes S c t (i .range) (i .soundly) .most) in
-    record {
-      called = call-written (call S (stepOf S c) L) L e told room n (rw q (d .on t i)) s;
-      held = record { tables = after t (stepOf S c t); are = does-is S d t i (step-keeps-sound S c t (i .range) small (i .soundly)) };
-    }
 
 -- ---- another number of settings is out of range, so every call refuses it
 

@@ -4,6 +4,7 @@
 mod demand3;
 mod unchecked;
 
+use cache::Call;
 use model::Access;
 use model::Ran;
 use model::Settings;
@@ -17,10 +18,12 @@ ghost use lib.ListN.{length, getD};
 ghost use Rattle.model.specs.Layout.{longsLength, wordsLength, marksLength};
 ghost use Rattle.model.specs.Tables.{after};
 ghost use Rattle.model.specs.Lent.{lent};
-ghost use Rattle.model.specs.Calls.{freshCall, checkCall, verdictOf, accessCall, sendCall, fillCall, tickCall};
+ghost use Rattle.model.specs.Calls.{freshCall, checkCall, verdictOf, call, accessCall, sendCall, fillCall, tickCall};
+ghost use Rattle.model.specs.History.{stepBy};
 ghost use Rattle.model.specs.declared.Access.the-variants.{Read, Write};
 ghost use Rattle.model.specs.Numbers.{stopNumber};
 ghost use Rattle.model.specs.Runner.{run, resume};
+ghost use Rattle.cache.specs.Made.{callOf};
 ghost use Rattle.rounds.specs.Waiting.{waitCall};
 ghost use Rattle.exported.specs.Exported.{settingsFrom, verdictNumber, lengthFor, accessFor, roundNumber, Called, WaitCalled, RunCalled};
 
@@ -151,23 +154,23 @@ pub extern "C" fn labintugmo_check(
     verdict_number(soundness::check(s, longs, words, marks))
 }
 
-// What read, write and access come to.
-fn offer(
+// Makes a call, where there is room for its events, and writes them.
+fn made(
     settings: &[u32],
     longs: &mut [u64],
     words: &mut [u32],
     marks: &mut [u8],
-    x: Access,
+    k: Call,
     events: &mut [u8],
 ) -> usize
-    ensures { λ r. ⌜ Called (accessCall (settingsFrom (now (settings .entry))) x (lent (now (longs .entry)) (now (words .entry)) (now (marks .entry)))) (lent (now (longs .entry)) (now (words .entry)) (now (marks .entry)))
+    ensures { λ r. ⌜ Called (call (settingsFrom (now (settings .entry))) (stepBy (settingsFrom (now (settings .entry))) (callOf k)) (lent (now (longs .entry)) (now (words .entry)) (now (marks .entry)))) (lent (now (longs .entry)) (now (words .entry)) (now (marks .entry)))
         (now (events .entry)) r (now (events .exit)) (lent (now (longs .exit)) (now (words .exit)) (now (marks .exit))) ⌝ }
 {
     if events.len() < EVENT_ROOM {
         return 0;
     }
     let s = settings_from(settings);
-    let told = cache::access(s, longs, words, marks, x);
+    let told = cache::perform(s, longs, words, marks, k);
     records::write_told(told, events, 0)
 }
 
@@ -189,7 +192,7 @@ pub extern "C" fn labintugmo_read(
         mask: 0,
         ticket,
     };
-    offer(settings, longs, words, marks, x, events)
+    made(settings, longs, words, marks, Call::Offer(x), events)
 }
 
 #[no_mangle]
@@ -210,7 +213,7 @@ pub extern "C" fn labintugmo_write(
         mask,
         ticket: 0,
     };
-    offer(settings, longs, words, marks, x, events)
+    made(settings, longs, words, marks, Call::Offer(x), events)
 }
 
 #[no_mangle]
@@ -224,12 +227,7 @@ pub extern "C" fn labintugmo_send(
     ensures { λ r. ⌜ Called (sendCall (settingsFrom (now (settings .entry))) (lent (now (longs .entry)) (now (words .entry)) (now (marks .entry)))) (lent (now (longs .entry)) (now (words .entry)) (now (marks .entry)))
         (now (events .entry)) r (now (events .exit)) (lent (now (longs .exit)) (now (words .exit)) (now (marks .exit))) ⌝ }
 {
-    if events.len() < EVENT_ROOM {
-        return 0;
-    }
-    let s = settings_from(settings);
-    let told = cache::send(s, longs, words, marks);
-    records::write_told(told, events, 0)
+    made(settings, longs, words, marks, Call::Send, events)
 }
 
 #[no_mangle]
@@ -244,12 +242,7 @@ pub extern "C" fn labintugmo_fill(
     ensures { λ r. ⌜ Called (fillCall (settingsFrom (now (settings .entry))) address (lent (now (longs .entry)) (now (words .entry)) (now (marks .entry)))) (lent (now (longs .entry)) (now (words .entry)) (now (marks .entry)))
         (now (events .entry)) r (now (events .exit)) (lent (now (longs .exit)) (now (words .exit)) (now (marks .exit))) ⌝ }
 {
-    if events.len() < EVENT_ROOM {
-        return 0;
-    }
-    let s = settings_from(settings);
-    let filled = cache::fill(s, longs, words, marks, address);
-    records::write_told(filled, events, 0)
+    made(settings, longs, words, marks, Call::Fill(address), events)
 }
 
 #[no_mangle]
@@ -264,12 +257,7 @@ pub extern "C" fn labintugmo_tick(
     ensures { λ r. ⌜ Called (tickCall (settingsFrom (now (settings .entry))) cycle (lent (now (longs .entry)) (now (words .entry)) (now (marks .entry)))) (lent (now (longs .entry)) (now (words .entry)) (now (marks .entry)))
         (now (events .entry)) r (now (events .exit)) (lent (now (longs .exit)) (now (words .exit)) (now (marks .exit))) ⌝ }
 {
-    if events.len() < EVENT_ROOM {
-        return 0;
-    }
-    let s = settings_from(settings);
-    let told = cache::tick(s, longs, words, marks, cycle);
-    records::write_told(told, events, 0)
+    made(settings, longs, words, marks, Call::Tick(cycle), events)
 }
 
 #[no_mangle]
@@ -288,7 +276,7 @@ pub extern "C" fn labintugmo_access(
         (now (events .entry)) r (now (events .exit)) (lent (now (longs .exit)) (now (words .exit)) (now (marks .exit))) ⌝ }
 {
     let x = access_for(is_write, address, mask, ticket);
-    offer(settings, longs, words, marks, x, events)
+    made(settings, longs, words, marks, Call::Offer(x), events)
 }
 
 // The accepting round; 0 where there is none.

@@ -1,4 +1,4 @@
--- What the offer of the access leaves.
+-- What the call leaves.
 use borrow.Author.Needs.{needs}
 use Rattle.exported.proofs.labintugmo_access.Statement.{statement}
 use Rattle.exported.proofs.labintugmo_access.Tie as tie
@@ -8,11 +8,11 @@ labintugmo-access-spec =
     tie.close
     (tie.spec
     (λ c κs. search needs)  -- access-for-requires
-    (λ c κs. search needs)  -- offer-requires
+    (λ c κs. search needs)  -- made-requires
     (λ c. search needs)  -- same-length
     (λ c. search needs)  -- same-length-2
     (λ c. search needs)  -- same-length-3
     (λ c. search needs)  -- same-length-4
     (λ c.
     let o = c .before .before .before .before .before .before .before .before in
-    rw (o .before .before .before .before .before .access-for .ensures) at (o .offer .ensures)))  -- returns
+    rw (o .before .before .before .before .before .access-for .ensures) at (o .made .ensures)))  -- returns
