@@ -4,6 +4,8 @@ ghost use mathlib.Core.Path.{_≡_};
 ghost use Prim.Native.Nat.{_/_, _%_, _≤_, _<_};
 ghost use mathlib.Core.Bool.{true};
 ghost use Rattle.model.specs.Range.{powerTo256};
+ghost use lib.ListN.{getD};
+ghost use Rattle.model.specs.declared.Answer.the-variants.{Hit};
 ghost use Rattle.model.specs.Numbers.{statusNumber, statusOf, queueKindNumber, queueKindOf, answerNumber, refusalNumber, stopNumber};
 ghost use Rattle.model.specs.Probe.{columnOf, answerOf};
 ghost use Rattle.model.specs.Tables.{idle};
@@ -229,12 +231,28 @@ fn column_of(x: Access, readable: bool) -> usize
     }
 }
 
+// A row's answer at a column. Each index is a constant, so that the compiler keeps no table in memory.
+fn in_row(row: [Answer; 3], column: usize) -> Answer
+    requires { ⌜ column < 3 ⌝ }
+    ensures { λ r. ⌜ r ≡ getD row column Hit ⌝ }
+{
+    match column {
+        0 => row[0],
+        1 => row[1],
+        _ => row[2],
+    }
+}
+
 // The answer of an access to a sector of a line that has its tag.
 pub fn answer_of(x: Access, s: Sector) -> Answer
     ensures { λ r. ⌜ r ≡ answerOf x s ⌝ }
 {
     let status = s.status;
-    let row = status_number(status) as usize;
     let column = column_of(x, s.readable);
-    ANSWERS[row][column]
+    match status {
+        Status::Invalid => in_row(ANSWERS[0], column),
+        Status::Reserved => in_row(ANSWERS[1], column),
+        Status::Valid => in_row(ANSWERS[2], column),
+        Status::Modified => in_row(ANSWERS[3], column),
+    }
 }
