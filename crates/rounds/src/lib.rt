@@ -28,7 +28,7 @@ ghost use Rattle.rounds.specs.Parts.{TurnsAway, Settles, WaitsHeld};
 // that could follow. Refused: 1 to 4, before the first round. NoRoom: fewer bytes of event room than any wait can need.
 pub enum Waiting {
     Accepted { round: usize, answer: Event },
-    SoundSlices,
+    Held,
     Refused(Refusal),
     NoRoom,
 }
