@@ -147,7 +147,7 @@ fn is_sent(at: Layout, marks: &[u8], e: usize, n: usize) -> bool
 
 // What a fill tells: the tickets of entry `e` in order, of `readers` places an entry.
 fn release(at: Layout, words: &[u32], marks: &[u8], e: usize, readers: usize, address: u64) -> Told
-    requires { ⌜ (at .counts + e < length (now marks)) × (getD (now marks) (at .counts + e) 0 ≤ 8) × (at .tickets + readers * e + getD (now marks) (at .counts + e) 0 ≤ length (now words)) ⌝ }
+    requires { ⌜ (at .counts + e < length (now marks)) × (1 ≤ getD (now marks) (at .counts + e) 0) × (getD (now marks) (at .counts + e) 0 ≤ 8) × (at .tickets + readers * e + getD (now marks) (at .counts + e) 0 ≤ length (now words)) ⌝ }
     ensures { λ r. ⌜ r ≡ releasing address (region (now (words .entry)) (at .tickets + readers * e) (getD (now (marks .entry)) (at .counts + e) 0)) ⌝ }
 {
     let m = at.counts + e;

@@ -54,6 +54,13 @@ pub closing-last : (l : List ℕ) (at n : ℕ) (room : (1 ≤ n) × (at + n ≤ 
 closing-last l at n room s i p e f c =
     closing-done l at n 1 room (set s p 0) n (omega arith) (zero-at l at n 1 room s i n p (omega arith) (omega arith) f (omega arith) c)
 
+-- where all of the region goes, nothing moves
+pub only-one : (l : List ℕ) (at n : ℕ) → n ≡ 1 → at + n ≤ length l → set l at 0 ≡ put l at (closedUp 1 (region l at n))
+only-one l at n e h = closing-last l at n (omega arith, h) l 0 at (omega arith) (omega arith) (closing-start l at n 1 (omega arith, h))
+
+pub only-row : (l : List ℕ) (at n by : ℕ) → n ≡ by → at + n ≤ length l → put l at (replicate by 0) ≡ put l at (closedUp by (region l at n))
+only-row l at n by e h = closing-rest l at n by (omega arith, h) l 0 at (omega arith) (omega arith) (closing-start l at n by (omega arith, h))
+
 -- of n rows of w numbers row e goes
 pub rows : (w n e : ℕ) → e < n → (w * e + w * (n - e) ≡ w * n) × (w * (n - 1 - e) + w ≡ w * (n - e)) × (w * (n - 1) + w ≡ w * n)
 rows w n e h =

@@ -111,13 +111,14 @@ pub fn find_entry(longs: &[u64], at: usize, n: usize, address: SectorAddress) ->
     i
 }
 
-// `n` numbers from `at`, then zeros.
+// `n` numbers from `at`, then zeros. Mostly there is one, which asks for no loop.
 pub fn copy_out(words: &[u32], at: usize, n: usize) -> [u32; 8]
-    requires { ⌜ (n ≤ 8) × (at + n ≤ length (now words)) ⌝ }
+    requires { ⌜ (1 ≤ n) × (n ≤ 8) × (at + n ≤ length (now words)) ⌝ }
     ensures { λ r. ⌜ r ≡ fit 8 (region (now (words .entry)) at n) ⌝ }
 {
     let mut out = [0u32; 8];
-    let mut i = 0;
+    out[0] = words[at];
+    let mut i = 1;
     while i < n {
         out[i] = words[at + i];
         i += 1;
@@ -202,7 +203,7 @@ pub fn push(
 
 // ---- the miss table, of `readers` ticket places an entry
 
-// Takes entry `e` out of the first `n`; later ones close up, and the last of them is zero.
+// Takes entry `e` out of the first `n`; later ones close up, and the last of them is zero. Behind the last nothing moves.
 pub fn remove(
     at: Layout,
     longs: &mut [u64],
@@ -217,6 +218,13 @@ pub fn remove(
         × (now (words .exit) ≡ closed (now (words .entry)) (at .tickets + readers * e) (readers * (n - e)) readers)
         × (now (marks .exit) ≡ closed (closed (now (marks .entry)) (at .sent + e) (n - e) 1) (at .counts + e) (n - e) 1) ⌝ }
 {
+    if e + 1 == n {
+        longs[at.misses + e] = 0;
+        zero_words(words, at.tickets + readers * e, readers);
+        marks[at.sent + e] = 0;
+        marks[at.counts + e] = 0;
+        return;
+    }
     close_longs(longs, at.misses, e, n);
     close_words(words, at.tickets, e, n, readers);
     close_marks(marks, at.sent, e, n);

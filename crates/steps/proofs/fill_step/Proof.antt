@@ -1,5 +1,5 @@
 -- Fill, from what its parts ensure.
-use native.Mathlib.Nat.{mul-le-mul-left}
+use native.Mathlib.Nat.{mul-le-mul-left, pos-of-ne-zero}
 use Rattle.steps.proofs.Filling.{count-fits, fill-refused, fill-inside, fill-count, fill-holding, fill-leaves}
 use Rattle.layout.proofs.ByBlocks.{is-stands, stands-fit}
 use Rattle.words.proofs.Places.{stride}
@@ -40,7 +40,7 @@ fill-step-spec =
     let start = used .before .before .before .before .before in
     let i = start .pre .1 .are in let z = stands-fit (i .range) (is-stands i) in let p = start .pre .0 in let u = used .used .ensures in let f = found .find-entry in
     let k = fill-inside _ _ _ i p u (f .ensures) (sent .is-sent .ensures) (test .if1 .left) in let m = fill-count _ _ _ i p u (f .ensures) (sent .is-sent .ensures) (test .if1 .left) in
-    let s = stride (start .args .s .readers) (start .args .s .misses) (f .result) (omega arith) in (omega arith, omega arith, omega arith))  -- release-requires
+    let s = stride (start .args .s .readers) (start .args .s .misses) (f .result) (omega arith) in (omega arith, pos-of-ne-zero (u .before _ k), omega arith, omega arith))  -- release-requires
     (λ c κs.
     let test = c .before .before .before .before .before .before in
     let sent = test .before in

@@ -15,4 +15,4 @@ release-spec =
     (λ c. search needs)  -- add-copy-out
     (λ c κs. search needs)  -- copy-out-requires
     (λ c κs. search needs)  -- blank-requires
-    (λ c. let start = c .before .before .before .before .before .before .before in let a = start .args in released (a .address) (a .words .now) _ _ (start .pre .2) (c .before .copy-out .ensures) (c .blank .ensures)))  -- returns
+    (λ c. let start = c .before .before .before .before .before .before .before in let a = start .args in released (a .address) (a .words .now) _ _ (start .pre .3) (c .before .copy-out .ensures) (c .blank .ensures)))  -- returns
