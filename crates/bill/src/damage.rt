@@ -1,22 +1,22 @@
 // Where a log stops before its end, and why.
-use listing::Look;
+use records::Item;
 
 // Whether what stands at a place may become whole with more bytes.
 pub fn may_go_on(s: &[u8], at: usize) -> bool {
-    match listing::look_at(s, at) {
-        Look::Command {
+    match records::item_at(s, at) {
+        Item::Command {
             command: _,
             next: _,
         } => false,
-        Look::Event { event: _, next: _ } => true,
-        Look::End => true,
-        Look::Cut {
+        Item::Event { event: _, next: _ } => true,
+        Item::End => true,
+        Item::Cut {
             kind: _,
             wants: _,
             left: _,
         } => true,
-        Look::Unknown(_) => false,
-        Look::Strange(_) => false,
+        Item::Unknown(_) => false,
+        Item::Strange(_) => false,
     }
 }
 
@@ -33,20 +33,20 @@ fn put_stop(place: u64, why: &[u8], out: &mut [u8], at: usize) -> usize {
 
 // What waits when the input has ended: nothing, or a log that is damaged there.
 pub fn put_damage(s: &[u8], place: u64, out: &mut [u8], at: usize) -> usize {
-    match listing::look_at(s, 0) {
-        Look::Command {
+    match records::item_at(s, 0) {
+        Item::Command {
             command: _,
             next: _,
         } => put_stop(place, b": a command, and no event, stands there.", out, at),
-        Look::Event { event: _, next: _ } => at,
-        Look::End => at,
-        Look::Cut {
+        Item::Event { event: _, next: _ } => at,
+        Item::End => at,
+        Item::Cut {
             kind: _,
             wants: _,
             left: _,
         } => put_stop(place, b": its last record is cut short.", out, at),
-        Look::Unknown(_) => put_stop(place, b": no record begins so.", out, at),
-        Look::Strange(_) => put_stop(place, b": its record is no event.", out, at),
+        Item::Unknown(_) => put_stop(place, b": no record begins so.", out, at),
+        Item::Strange(_) => put_stop(place, b": its record is no event.", out, at),
     }
 }
 

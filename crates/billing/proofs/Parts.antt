@@ -4,15 +4,11 @@ use mathlib.Core.List.{List, [], _∷_}
 use Prim.Native.Nat.{ℕ, zero, suc, _+_, _-_, _≤_, _<_}
 use native.Mathlib.Omega.{arith}
 use lib.ListN.{length}
-use Rattle.model.specs.RecordsOf as records
-use Rattle.model.specs.Records.{readAt, nextOf, eventAt, eventIn}
 use Rattle.model.specs.declared.Event.{Event}
-use Rattle.model.specs.declared.EventRead.{EventRead}
-use Rattle.model.specs.declared.EventRead.the-variants as event
-use Rattle.model.specs.declared.Stop.the-variants.{CutShort}
-use Rattle.model.specs.declared.Record.{Record}
-use Rattle.model.specs.declared.Record.the-variants.{Whole, Stopped}
-use Rattle.records.proofs.Reading.{was-whole, read-end}
+use Rattle.records.specs.declared.Item.{Item}
+use Rattle.records.specs.declared.Item.the-variants as item
+use Rattle.records.specs.Items.{itemAt}
+use Rattle.records.proofs.Items.{Past, item-end, item-past}
 use Rattle.billing.specs.declared.Bill.{Bill}
 use Rattle.billing.specs.declared.Billed.{Billed}
 use Rattle.billing.specs.declared.Step.{Step}
@@ -23,33 +19,25 @@ use Rattle.billing.specs.Logs.{stepOf, stepAt, Part, behind, nothingAt, 
 -- ---- one step
 
 module _ (s : List ℕ) (at : ℕ) where
-  pub step-none : {x : EventRead} → x ≡ eventAt s at → x ≡ event.None → Stop ≡ stepAt s at
-  unfolding stepAt
-  step-none p q = rw (sym p ∙ q)
-
-  pub step-event : {x : EventRead} {r : Record} {e : Event} {k start n next : ℕ} → x ≡ eventAt s at → x ≡ event.Got e → r ≡ readAt s at → r ≡ Whole k start n next → Next e next ≡ stepAt s at
-  unfolding stepAt
-  step-event p q u v = rw (sym p ∙ q, sym u ∙ v)
-
-  pub step-stopped : {r : Record} → r ≡ readAt s at → (z : Rattle.model.specs.declared.Stop.Stop) → r ≡ Stopped z → Stop ≡ stepAt s at
-  unfolding stepAt records.eventAt
-  step-stopped u z v = rw (sym u ∙ v)
-
   pub step-end : length s ≤ at → Stop ≡ stepAt s at
-  step-end h = step-stopped (read-end s at 0 h) CutShort refl
+  unfolding stepAt
+  step-end h = rw (← (item-end s at h))
 
   -- an event is a byte or more, and lies within the log
   pub step-past : {e : Event} {next : ℕ} → stepAt s at ≡ Next e next → (at < next) × (next ≤ length s)
-  unfolding stepAt records.eventAt
-  step-past {e} {next} q = by-record (readAt s at) refl q
+  unfolding stepAt
+  step-past {e} {next} q = by-item (itemAt s at) (item-past s at) q
     where
-      by-event : (x : EventRead) (m : ℕ) → (at < m) × (m ≤ length s) → stepOf x m ≡ Next e next → (at < next) × (next ≤ length s)
-      by-event (event.Got d) m w p = let z : m ≡ next = cc in rw z at w
-      by-event event.None m w p = let z : _≡_ {A = ℕ} 0 1 = cc in absurd (let n : ⊥ = omega arith in n)
+      none : {X : Type 0} → Stop ≡ Next e next → X
+      none p = let z : _≡_ {A = ℕ} 0 1 = cc in absurd (let n : ⊥ = omega arith in n)
 
-      by-record : (r : Record) → readAt s at ≡ r → stepOf (eventIn s r) (nextOf r at) ≡ Next e next → (at < next) × (next ≤ length s)
-      by-record (Whole k start n m) u p = let w = was-whole s at k start n m u in by-event (eventIn s (Whole k start n m)) m (omega arith, omega arith) p
-      by-record (Stopped z) u p = let z : _≡_ {A = ℕ} 0 1 = cc in absurd (let n : ⊥ = omega arith in n)
+      by-item : (i : Item) → Past (length s) at i → stepOf i ≡ Next e next → (at < next) × (next ≤ length s)
+      by-item (item.Event d m) w p = let z : m ≡ next = cc in rw z at w
+      by-item (item.Command c m) w p = none p
+      by-item item.End w p = none p
+      by-item (item.Cut k wants left) w p = none p
+      by-item (item.Unknown k) w p = none p
+      by-item (item.Strange k) w p = none p
 
 -- ---- many
 

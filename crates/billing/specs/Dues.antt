@@ -4,17 +4,13 @@
 --     18 reads queued, 19 write-backs queued, 20 reads sent, 21 write-backs sent, 22 their dirty bytes
 --     23 fills, 24 their bytes, 25 readers released, 26 ticks
 use Prim.Native.Nat.{ℕ, _+_}
-use lib.Count.{ones}
 use lib.Dec.{eqb}
 use Rattle.words.specs.Words.{pick}
 use Rattle.model.specs.Numbers.{answerNumber, refusalNumber}
 use Rattle.model.specs.declared.Event.{Event}
 use Rattle.model.specs.declared.Event.the-variants as ev
+use Rattle.records.specs.Masks.{dirtyBytes}
 use Rattle.billing.specs.declared.Dues.{Dues}
-
--- the dirty bytes that four masks mark, one for each bit
-abbrev pub dirtyBytes : ℕ → ℕ → ℕ → ℕ → ℕ
-dirtyBytes m0 m1 m2 m3 = ones m0 + ones m1 + ones m2 + ones m3
 
 -- 1 at one place; n at another besides
 abbrev pub one : ℕ → Dues

@@ -2,23 +2,27 @@
 use Prim.Native.Nat.{ℕ, zero, suc}
 use mathlib.Core.List.{List, [], _∷_}
 use lib.ListN.{length}
-use Rattle.model.specs.Records.{readAt, nextOf, eventAt}
 use Rattle.model.specs.declared.Event.{Event}
-use Rattle.model.specs.declared.EventRead.{EventRead}
-use Rattle.model.specs.declared.EventRead.the-variants as event
+use Rattle.records.specs.declared.Item.{Item}
+use Rattle.records.specs.declared.Item.the-variants as item
+use Rattle.records.specs.Items.{itemAt}
 use Rattle.billing.specs.declared.Bill.{Bill}
 use Rattle.billing.specs.declared.Billed.{Billed}
 use Rattle.billing.specs.declared.Step.{Step}
 use Rattle.billing.specs.declared.Step.the-variants.{Next, Stop}
 use Rattle.billing.specs.Bills.{allAdded}
 
--- the event at a place and the place behind it
-abbrev pub stepOf : EventRead → ℕ → Step
-stepOf (event.Got e) next = Next e next
-stepOf event.None next = Stop
+-- an event and the place behind it, or what is none
+abbrev pub stepOf : Item → Step
+stepOf (item.Event e next) = Next e next
+stepOf (item.Command c next) = Stop
+stepOf item.End = Stop
+stepOf (item.Cut k wants left) = Stop
+stepOf (item.Unknown k) = Stop
+stepOf (item.Strange k) = Stop
 
 unfoldable pub stepAt : List ℕ → ℕ → Step
-stepAt s at = stepOf (eventAt s at) (nextOf (readAt s at) at)
+stepAt s at = stepOf (itemAt s at)
 
 -- events, and the place behind the last
 pub record Part : Type 0 where

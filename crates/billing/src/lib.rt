@@ -1,15 +1,13 @@
 // What a log of events adds up to: a sum at each place of a bill, checked, and the bill of a log up to where it is damaged.
 ghost use mathlib.Core.Path.{_≡_};
-ghost use Prim.Native.Nat.{_≤_, _<_};
+ghost use Prim.Native.Nat.{_<_};
 ghost use lib.ListN.{getD};
-ghost use lib.Count.{ones};
-ghost use Rattle.billing.specs.Dues.{dirtyBytes, oneAnd, duesOf};
+ghost use Rattle.billing.specs.Dues.{oneAnd, duesOf};
 ghost use Rattle.billing.specs.Dues.{one as Dues·one};
 ghost use Rattle.billing.specs.Bills.{emptyBill, filledUp, raised, addedTo, rateOf};
 ghost use Rattle.billing.specs.Logs.{stepAt, billedLog};
 use model::Event;
-use model::EventRead;
-use model::Record;
+use records::Item;
 
 // The places of a bill. Accesses with an answer of number n stand at n, refusals of number n at REFUSALS + n.
 pub const ACCESSES: usize = 0;
@@ -82,20 +80,6 @@ pub fn count(bill: Bill, place: usize) -> u64
     if place < 27 { bill.counts[place] } else { 0 }
 }
 
-// The bits that are set in a mask.
-fn set_bits(mask: u32) -> u64
-    ensures { λ r. ⌜ (r ≡ ones mask) × (r ≤ 32) ⌝ }
-{
-    u32::count_ones(mask) as u64
-}
-
-// The dirty bytes that four masks mark.
-pub fn dirty_bytes(m0: u32, m1: u32, m2: u32, m3: u32) -> u64
-    ensures { λ r. ⌜ r ≡ dirtyBytes m0 m1 m2 m3 ⌝ }
-{
-    set_bits(m0) + set_bits(m1) + set_bits(m2) + set_bits(m3)
-}
-
 fn one(place: usize) -> Dues
     ensures { λ r. ⌜ r ≡ Dues·one place ⌝ }
 {
@@ -142,7 +126,7 @@ pub fn dues_of(e: Event) -> Dues
         } => one_and(
             WRITE_BACKS_SENT,
             DIRTY_BYTES_SENT,
-            dirty_bytes(m0, m1, m2, m3),
+            records::dirty_bytes(m0, m1, m2, m3),
         ),
         Event::Filled(_) => one_and(FILLS, BYTES_FILLED, 32),
         Event::Ticked => one(TICKS),
@@ -204,18 +188,10 @@ pub fn rate_of(part: u64, whole: u64) -> Rate
 fn step_at(log: &[u8], at: usize) -> Step
     ensures { λ r. ⌜ r ≡ stepAt (now (log .entry)) at ⌝ }
 {
-    let EventRead::Got(event) = records::event_at(log, at) else {
+    let Item::Event { event, next } = records::item_at(log, at) else {
         return Step::Stop;
     };
-    match records::read_at(log, at) {
-        Record::Whole {
-            kind: _,
-            start: _,
-            len: _,
-            next,
-        } => Step::Next { event, next },
-        Record::Stopped(_) => Step::Stop,
-    }
+    Step::Next { event, next }
 }
 
 // The bill with the events of a log up to the first place where no whole event stands, and that place.

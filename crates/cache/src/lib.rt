@@ -44,8 +44,8 @@ pub fn fresh(s: Settings, longs: &mut [u64], words: &mut [u32], marks: &mut [u8]
 
 // ---- the calls
 
-// The step of a call, for callers that have checked the tables.
-pub fn step(
+// The step of a call, behind the check.
+fn step(
     s: Settings,
     at: Layout,
     longs: &mut [u64],

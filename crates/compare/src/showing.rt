@@ -11,7 +11,7 @@ use crate::turns;
 use crate::turns::Pass;
 use crate::turns::Turned;
 use comparing::Side;
-use model::EventRead;
+use records::Item;
 
 // The reading, the text that waits, whether to go on, whether the logs could be read on.
 pub struct Shown {
@@ -50,13 +50,11 @@ fn put_bytes(s: &[u8], out: &mut [u8], at: usize) -> usize {
 
 // A record in words.
 fn put_words(s: &[u8], out: &mut [u8], at: usize) -> usize {
-    match records::event_at(s, 0) {
-        EventRead::Got(event) => wording::events::put_event(event, out, at),
-        EventRead::None => {
-            let a = text::put_text(b"no event's body:", out, at);
-            put_bytes(s, out, a)
-        }
-    }
+    let Item::Event { event, next: _ } = records::item_at(s, 0) else {
+        let a = text::put_text(b"no event's body:", out, at);
+        return put_bytes(s, out, a);
+    };
+    wording::events::put_event(event, out, at)
 }
 
 // The record of n bytes that a window comes to.

@@ -1,38 +1,13 @@
 // The steps of the calls without their check, for a caller whose tables nobody else can write: each asks for slices that are the encoding of
 // sound tables, leaves such slices, and leaves and writes what the checked call does (include/labintugmo_steps.h).
 use crate::settings_from;
-use cache::Call;
 use model::Access;
 use records::EVENT_ROOM;
 ghost use Rattle.model.specs.Lent.{lent};
 ghost use Rattle.model.specs.Inner.{SoundSlices};
-ghost use Rattle.model.specs.Calls.{call, accessCall, sendCall, fillCall, tickCall};
-ghost use Rattle.model.specs.History.{stepBy, Small};
+ghost use Rattle.model.specs.Calls.{accessCall, sendCall, fillCall, tickCall};
 ghost use Rattle.model.specs.declared.Access.the-variants.{Read, Write};
-ghost use Rattle.cache.specs.Made.{callOf};
 ghost use Rattle.exported.specs.Exported.{settingsFrom, Stepped};
-
-// Makes the step of a call, where there is room for its events, and writes them.
-fn stepped(
-    settings: &[u32],
-    longs: &mut [u64],
-    words: &mut [u32],
-    marks: &mut [u8],
-    k: Call,
-    events: &mut [u8],
-) -> usize
-    requires { ⌜ SoundSlices (settingsFrom (now settings)) (lent (now longs) (now words) (now marks)) × Small (callOf k) ⌝ }
-    ensures { λ r. ⌜ Stepped (settingsFrom (now (settings .entry))) (call (settingsFrom (now (settings .entry))) (stepBy (settingsFrom (now (settings .entry))) (callOf k)) (lent (now (longs .entry)) (now (words .entry)) (now (marks .entry)))) (lent (now (longs .entry)) (now (words .entry)) (now (marks .entry)))
-        (now (events .entry)) r (now (events .exit)) (lent (now (longs .exit)) (now (words .exit)) (now (marks .exit))) ⌝ }
-{
-    if events.len() < EVENT_ROOM {
-        return 0;
-    }
-    let s = settings_from(settings);
-    let at = layout::laid_out(s);
-    let told = cache::step(s, at, longs, words, marks, k);
-    records::write_told(told, events, 0)
-}
 
 #[no_mangle]
 pub extern "C" fn labintugmo_step_read(
@@ -48,12 +23,18 @@ pub extern "C" fn labintugmo_step_read(
     ensures { λ r. ⌜ Stepped (settingsFrom (now (settings .entry))) (accessCall (settingsFrom (now (settings .entry))) (Read address 0 ticket) (lent (now (longs .entry)) (now (words .entry)) (now (marks .entry)))) (lent (now (longs .entry)) (now (words .entry)) (now (marks .entry)))
         (now (events .entry)) r (now (events .exit)) (lent (now (longs .exit)) (now (words .exit)) (now (marks .exit))) ⌝ }
 {
+    if events.len() < EVENT_ROOM {
+        return 0;
+    }
+    let s = settings_from(settings);
     let x = Access::Read {
         address,
         mask: 0,
         ticket,
     };
-    stepped(settings, longs, words, marks, Call::Offer(x), events)
+    let at = layout::laid_out(s);
+    let told = access::access_step(s, at, longs, words, marks, x);
+    records::write_told(told, events, 0)
 }
 
 #[no_mangle]
@@ -70,12 +51,18 @@ pub extern "C" fn labintugmo_step_write(
     ensures { λ r. ⌜ Stepped (settingsFrom (now (settings .entry))) (accessCall (settingsFrom (now (settings .entry))) (Write address mask 0) (lent (now (longs .entry)) (now (words .entry)) (now (marks .entry)))) (lent (now (longs .entry)) (now (words .entry)) (now (marks .entry)))
         (now (events .entry)) r (now (events .exit)) (lent (now (longs .exit)) (now (words .exit)) (now (marks .exit))) ⌝ }
 {
+    if events.len() < EVENT_ROOM {
+        return 0;
+    }
+    let s = settings_from(settings);
     let x = Access::Write {
         address,
         mask,
         ticket: 0,
     };
-    stepped(settings, longs, words, marks, Call::Offer(x), events)
+    let at = layout::laid_out(s);
+    let told = access::access_step(s, at, longs, words, marks, x);
+    records::write_told(told, events, 0)
 }
 
 #[no_mangle]
@@ -90,7 +77,13 @@ pub extern "C" fn labintugmo_step_send(
     ensures { λ r. ⌜ Stepped (settingsFrom (now (settings .entry))) (sendCall (settingsFrom (now (settings .entry))) (lent (now (longs .entry)) (now (words .entry)) (now (marks .entry)))) (lent (now (longs .entry)) (now (words .entry)) (now (marks .entry)))
         (now (events .entry)) r (now (events .exit)) (lent (now (longs .exit)) (now (words .exit)) (now (marks .exit))) ⌝ }
 {
-    stepped(settings, longs, words, marks, Call::Send, events)
+    if events.len() < EVENT_ROOM {
+        return 0;
+    }
+    let s = settings_from(settings);
+    let at = layout::laid_out(s);
+    let told = steps::send_step(s, at, longs, words, marks);
+    records::write_told(told, events, 0)
 }
 
 #[no_mangle]
@@ -106,7 +99,13 @@ pub extern "C" fn labintugmo_step_fill(
     ensures { λ r. ⌜ Stepped (settingsFrom (now (settings .entry))) (fillCall (settingsFrom (now (settings .entry))) address (lent (now (longs .entry)) (now (words .entry)) (now (marks .entry)))) (lent (now (longs .entry)) (now (words .entry)) (now (marks .entry)))
         (now (events .entry)) r (now (events .exit)) (lent (now (longs .exit)) (now (words .exit)) (now (marks .exit))) ⌝ }
 {
-    stepped(settings, longs, words, marks, Call::Fill(address), events)
+    if events.len() < EVENT_ROOM {
+        return 0;
+    }
+    let s = settings_from(settings);
+    let at = layout::laid_out(s);
+    let told = steps::fill_step(s, at, longs, words, marks, address);
+    records::write_told(told, events, 0)
 }
 
 #[no_mangle]
@@ -122,5 +121,10 @@ pub extern "C" fn labintugmo_step_tick(
     ensures { λ r. ⌜ Stepped (settingsFrom (now (settings .entry))) (tickCall (settingsFrom (now (settings .entry))) cycle (lent (now (longs .entry)) (now (words .entry)) (now (marks .entry)))) (lent (now (longs .entry)) (now (words .entry)) (now (marks .entry)))
         (now (events .entry)) r (now (events .exit)) (lent (now (longs .exit)) (now (words .exit)) (now (marks .exit))) ⌝ }
 {
-    stepped(settings, longs, words, marks, Call::Tick(cycle), events)
+    if events.len() < EVENT_ROOM {
+        return 0;
+    }
+    let s = settings_from(settings);
+    let told = steps::tick_step(s, longs, words, marks, cycle);
+    records::write_told(told, events, 0)
 }

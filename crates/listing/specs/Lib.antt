@@ -1,3 +1,2 @@
--- What stands at a place of a log or a stream, and the names that are shown for it.
-pub mod Looks
+-- The names that are shown for answers and refusals.
 pub mod Names

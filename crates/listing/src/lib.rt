@@ -1,74 +1,8 @@
-// What stands at a place of a log or a stream: a command, an event, or why there is neither. What answers are called and
-// what refusals mean.
-ghost use mathlib.Core.Path.{_≡_};
+// What answers are called and what refusals mean.
 ghost use Rattle.text.specs.Digits.{Put};
-ghost use Rattle.listing.specs.Looks.{lookWhole, lookStopped, lookAt};
 ghost use Rattle.listing.specs.Names.{answerName, meaningOf};
 use model::Answer;
-use model::Command;
-use model::CommandRead;
-use model::Event;
-use model::EventRead;
-use model::Record;
 use model::Refusal;
-
-pub enum Look {
-    Command { command: Command, next: usize },
-    Event { event: Event, next: usize },
-    // No byte is left.
-    End,
-    // The body wants more bytes than are left behind its kind.
-    Cut { kind: u8, wants: u8, left: usize },
-    // A kind in neither list.
-    Unknown(u8),
-    // A body that is no event's.
-    Strange(u8),
-}
-
-fn look_whole(kind: u8, next: usize, c: CommandRead, e: EventRead) -> Look
-    ensures { λ r. ⌜ r ≡ lookWhole kind next c e ⌝ }
-{
-    match c {
-        CommandRead::Got(command) => Look::Command { command, next },
-        CommandRead::None => match e {
-            EventRead::Got(event) => Look::Event { event, next },
-            EventRead::None => Look::Strange(kind),
-        },
-    }
-}
-
-fn look_stopped(kind: u8, left: usize) -> Look
-    ensures { λ r. ⌜ r ≡ lookStopped kind left ⌝ }
-{
-    let wants = records::length_of(kind);
-    if wants == 255 {
-        Look::Unknown(kind)
-    } else {
-        Look::Cut { kind, wants, left }
-    }
-}
-
-pub fn look_at(s: &[u8], at: usize) -> Look
-    ensures { λ r. ⌜ r ≡ lookAt (now (s .entry)) at ⌝ }
-{
-    if s.len() <= at {
-        return Look::End;
-    }
-    match records::read_at(s, at) {
-        Record::Whole {
-            kind,
-            start: _,
-            len: _,
-            next,
-        } => look_whole(
-            kind,
-            next,
-            records::command_at(s, at),
-            records::event_at(s, at),
-        ),
-        Record::Stopped(_) => look_stopped(s[at], s.len() - (at + 1)),
-    }
-}
 
 // An answer's name, as document 01 writes it.
 pub fn put_answer(a: Answer, out: &mut [u8], at: usize) -> usize

@@ -1,21 +1,16 @@
 -- What a body says, by the tests that the code makes.
-use mathlib.Core.Path.{_≡_, refl, ap, _∙_}
+use mathlib.Core.Path.{_≡_, refl, ap}
 use mathlib.Core.List.{List, [], _∷_}
 use Prim.Native.Nat.{ℕ, zero, suc, _-_, _≤_, _<_}
 use native.Mathlib.Omega.{arith}
 use borrow.Author.Tests.{lt-leb, le-leb, eq-eqb, ne-eqb}
-use lib.ListN.{length, getD, take, drop}
+use lib.ListN.{length, getD}
 use Rattle.model.specs.RecordsOf as records
-use Rattle.model.specs.Records.{lengthOf, readAt, bodyAt, refusals, refusedBy, eventBody, eventOf, eventAt, commandIn, commandOf, commandAt}
-use Rattle.model.specs.declared.Stop.{Stop}
-use Rattle.model.specs.declared.Record.the-variants.{Whole, Stopped}
+use Rattle.model.specs.Records.{lengthOf, refusals, refusedBy, eventBody, eventOf, commandIn, commandOf}
 use Rattle.model.specs.declared.Refusal.{Refusal}
 use Rattle.model.specs.declared.Event.the-variants.{Refused}
-use Rattle.model.specs.declared.EventRead.{EventRead}
 use Rattle.model.specs.declared.EventRead.the-variants as event
-use Rattle.model.specs.declared.CommandRead.{CommandRead}
 use Rattle.model.specs.declared.CommandRead.the-variants as command
-use Rattle.records.proofs.Reading.{body-whole}
 
 -- ---- the refusal of a number
 
@@ -52,29 +47,3 @@ module _ (k : ℕ) (b : List ℕ) where
   pub command-unsized : (length b ≡ lengthOf k → ⊥) → command.None ≡ commandOf k b
   unfolding records.commandOf
   command-unsized q = rw (ne-eqb (length b) (lengthOf k) q)
-
--- ---- a record of a stream
-
-module _ (s : List ℕ) (at : ℕ) where
-  pub event-whole : (k start n next : ℕ) → readAt s at ≡ Whole k start n next → eventOf k (bodyAt s at) ≡ eventAt s at
-  unfolding records.eventAt records.bodyAt
-  event-whole k start n next e = rw e
-
-  pub event-none : (r : Stop) → readAt s at ≡ Stopped r → event.None ≡ eventAt s at
-  unfolding records.eventAt
-  event-none r e = rw e
-
-  pub command-whole : (k start n next : ℕ) → readAt s at ≡ Whole k start n next → commandOf k (bodyAt s at) ≡ commandAt s at
-  unfolding records.commandAt records.bodyAt
-  command-whole k start n next e = rw e
-
-  pub command-none : (r : Stop) → readAt s at ≡ Stopped r → command.None ≡ commandAt s at
-  unfolding records.commandAt
-  command-none r e = rw e
-
-  -- of the part that the code hands over
-  pub event-read : (k start n next : ℕ) {r : EventRead} → readAt s at ≡ Whole k start n next → r ≡ eventOf k (take (next - start) (drop start s)) → r ≡ eventAt s at
-  event-read k start n next e q = q ∙ ap (eventOf k) (body-whole s at k start n next e) ∙ event-whole k start n next e
-
-  pub command-read : (k start n next : ℕ) {r : CommandRead} → readAt s at ≡ Whole k start n next → r ≡ commandOf k (take (next - start) (drop start s)) → r ≡ commandAt s at
-  command-read k start n next e q = q ∙ ap (commandOf k) (body-whole s at k start n next e) ∙ command-whole k start n next e

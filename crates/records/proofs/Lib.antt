@@ -7,6 +7,7 @@ pub mod Stores
 pub mod Encoding
 pub mod Decoding
 pub mod RoundTrip
+pub mod Items
 pub mod WholeRun
 pub mod Log
 pub mod Told

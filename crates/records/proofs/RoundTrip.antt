@@ -11,7 +11,7 @@ use lib.Seq.{getD-append-seam, drop-append-add, take-append-seam, sets, sets-eq,
 use Rattle.words.specs.Words.{pick}
 use Rattle.model.specs.Kinds as kinds
 use Rattle.model.specs.RecordsOf as records
-use Rattle.model.specs.Records.{lengthOf, isSettings, bytesOf, numberAt, kindOf, bodyBytes, eventBytes, logBytes, eventOf, eventAt, commandKind, commandBody, commandBytes, settingsKind, ruleBytes, givenBytes, commandIn, commandOf, commandAt, readAt, bodyAt, parsed, eventsFrom, eventsIn}
+use Rattle.model.specs.Records.{lengthOf, isSettings, bytesOf, numberAt, kindOf, bodyBytes, eventBytes, logBytes, eventOf, eventAt, commandKind, commandBody, commandBytes, settingsKind, ruleBytes, givenBytes, commandIn, commandOf, commandAt, readAt, parsed, eventsFrom, eventsIn}
 use Rattle.model.specs.declared.Answer.the-variants.{Hit, HitReserved, Miss, SectorMiss}
 use Rattle.model.specs.declared.Refusal.the-variants as refusal
 use Rattle.model.specs.declared.Event.{Event}
@@ -28,7 +28,6 @@ use Rattle.records.specs.Fitting.{Fitting, AllFitting, RuleFits, GivenFi
 use Rattle.records.proofs.Digits.{number-bytes}
 use Rattle.records.proofs.Reading.{read-whole}
 use Rattle.records.proofs.Encoding.{event-length, event-short, command-length, command-short}
-use Rattle.records.proofs.Decoding.{event-whole, command-whole}
 use Rattle.records.proofs.Decoding as decoding
 
 -- ---- how long bodies are
@@ -99,71 +98,86 @@ command-body-back cmd.Send h = refl
 command-body-back (cmd.Fill a) h = rw (number-bytes 8 a h)
 command-body-back (cmd.Tick c) h = rw (number-bytes 4 c h)
 
+-- no event's kind is a command's
+other-kind : (e : Event) (b : List ℕ) → commandIn (kindOf e) b ≡ command.None
+other-kind (ev.Answered a line) b = refl
+other-kind (ev.Refused n) b = refl
+other-kind (ev.ReadQueued a) b = refl
+other-kind (ev.WriteBackQueued d m0 m1 m2 m3) b = refl
+other-kind (ev.Released t) b = refl
+other-kind (ev.ReadSent a) b = refl
+other-kind (ev.WriteBackSent d m0 m1 m2 m3) b = refl
+other-kind (ev.Filled a) b = refl
+other-kind ev.Ticked b = refl
+
 -- ---- a record anywhere in a stream: p before it, q after it
 
 module _ (p q : List ℕ) (k : ℕ) (bs : List ℕ) (sized : length bs ≡ lengthOf k) (short : length bs ≤ 24) where
   abbrev stream : List ℕ
   stream = p ++ (k ∷ (bs ++ q))
 
-  pub record-read : readAt stream (length p) ≡ Whole k (length p + 1) (length bs) (length p + 1 + length bs)
+  pub record-read : readAt stream (length p) ≡ Whole k (length p + 1) (length bs) (length (p ++ (k ∷ bs)))
   record-read =
       let here : length p < length stream = simp length-append (omega arith) in
       let g : getD stream (length p) 0 ≡ k = getD-append-seam p k (bs ++ q) 0 in
       let f : length stream ≡ length p + suc (length bs + length q) = simp length-append in
+      let n : length p + 1 + length bs ≡ length (p ++ (k ∷ bs)) = simp length-append (omega arith) in
       sym (read-whole stream (length p) (length bs) here (sized ∙ ap lengthOf (sym g)) (λ z. omega arith) (omega arith))
-      ∙ ap (λ (x : ℕ). Whole x (length p + 1) (length bs) (length p + 1 + length bs)) g
+      ∙ rw (g, n)
 
-  pub record-body : bodyAt stream (length p) ≡ bs
-  unfolding records.bodyAt
-  record-body = rw record-read (ap (take (length bs)) (drop-append-add p (k ∷ (bs ++ q)) 1) ∙ take-append-seam bs q)
+  pub record-part : take (length bs) (drop (length p + 1) stream) ≡ bs
+  record-part = ap (take (length bs)) (drop-append-add p (k ∷ (bs ++ q)) 1) ∙ take-append-seam bs q
 
-pub event-back : (p q : List ℕ) (e : Event) → Fitting e → eventAt (p ++ (eventBytes e ++ q)) (length p) ≡ event.Got e
-unfolding records.eventBytes
-event-back p q e h =
-    let z = event-sized e in
-    sym (event-whole (p ++ (kindOf e ∷ (bodyBytes e ++ q))) (length p) _ _ _ _ (record-read p q (kindOf e) (bodyBytes e) (z .0) (z .1)))
-    ∙ ap (eventOf (kindOf e)) (record-body p q (kindOf e) (bodyBytes e) (z .0) (z .1))
-    ∙ body-back e h
+module _ (p q : List ℕ) where
+  module _ (e : Event) where
+    pub event-next : readAt (p ++ (eventBytes e ++ q)) (length p) ≡ Whole (kindOf e) (length p + 1) (length (bodyBytes e)) (length (p ++ eventBytes e))
+    unfolding records.eventBytes
+    event-next = let z = event-sized e in record-read p q (kindOf e) (bodyBytes e) (z .0) (z .1)
 
-pub command-back : (p q : List ℕ) (c : Command) → CommandFits c → commandAt (p ++ (commandBytes c ++ q)) (length p) ≡ command.Got c
-unfolding records.commandBytes
-command-back p q c h =
-    let z = command-sized c in
-    sym (command-whole (p ++ (commandKind c ∷ (commandBody c ++ q))) (length p) _ _ _ _ (record-read p q (commandKind c) (commandBody c) (z .0) (z .1)))
-    ∙ ap (commandOf (commandKind c)) (record-body p q (commandKind c) (commandBody c) (z .0) (z .1))
-    ∙ command-body-back c h
+    event-part : take (length (bodyBytes e)) (drop (length p + 1) (p ++ (eventBytes e ++ q))) ≡ bodyBytes e
+    unfolding records.eventBytes
+    event-part = let z = event-sized e in record-part p q (kindOf e) (bodyBytes e) (z .0) (z .1)
+
+    pub event-back : Fitting e → eventAt (p ++ (eventBytes e ++ q)) (length p) ≡ event.Got e
+    unfolding records.eventAt
+    event-back h = rw (event-next, event-part) (body-back e h)
+
+    -- and it is no command
+    pub event-no-command : commandAt (p ++ (eventBytes e ++ q)) (length p) ≡ command.None
+    unfolding records.commandAt
+    event-no-command = rw (event-next, event-part) (decoding.command-sized (kindOf e) (bodyBytes e) _ refl (event-sized e .0) ∙ other-kind e (bodyBytes e))
+
+  module _ (c : Command) where
+    pub command-next : readAt (p ++ (commandBytes c ++ q)) (length p) ≡ Whole (commandKind c) (length p + 1) (length (commandBody c)) (length (p ++ commandBytes c))
+    unfolding records.commandBytes
+    command-next = let z = command-sized c in record-read p q (commandKind c) (commandBody c) (z .0) (z .1)
+
+    command-part : take (length (commandBody c)) (drop (length p + 1) (p ++ (commandBytes c ++ q))) ≡ commandBody c
+    unfolding records.commandBytes
+    command-part = let z = command-sized c in record-part p q (commandKind c) (commandBody c) (z .0) (z .1)
+
+    pub command-back : CommandFits c → commandAt (p ++ (commandBytes c ++ q)) (length p) ≡ command.Got c
+    unfolding records.commandAt
+    command-back h = rw (command-next, command-part) (command-body-back c h)
 
 -- ---- where it was stored
 
-module _ (l : List ℕ) (at : ℕ) (bs : List ℕ) (fits : at + length bs ≤ length l) where
-  stored-split : sets l at bs ≡ take at l ++ (bs ++ drop (at + length bs) l)
-  stored-split = sets-eq bs l at fits ∙ append-assoc (take at l) bs (drop (at + length bs) l)
-
-  stored-at : length (take at l) ≡ at
-  stored-at = length-take-le at l (omega arith)
+-- what is read of bytes anywhere in a stream is read of them there
+module _ {R : Type 0} (read : List ℕ → ℕ → R) (l : List ℕ) (at : ℕ) (bs : List ℕ) (fits : at + length bs ≤ length l) where
+  pub stored-back : {r : R} → ((p q : List ℕ) → read (p ++ (bs ++ q)) (length p) ≡ r) → read (sets l at bs) at ≡ r
+  stored-back back =
+      let split : sets l at bs ≡ take at l ++ (bs ++ drop (at + length bs) l) = sets-eq bs l at fits ∙ append-assoc (take at l) bs (drop (at + length bs) l) in
+      let here = length-take-le at l (omega arith) in
+      rw split (ap (read (take at l ++ (bs ++ drop (at + length bs) l))) (sym here) ∙ back (take at l) (drop (at + length bs) l))
 
 pub event-stored : (l : List ℕ) (at : ℕ) (e : Event) → Fitting e → at + length (eventBytes e) ≤ length l → eventAt (sets l at (eventBytes e)) at ≡ event.Got e
-event-stored l at e h g =
-    ap (λ (s : List ℕ). eventAt s at) (stored-split l at (eventBytes e) g)
-    ∙ ap (eventAt (take at l ++ (eventBytes e ++ drop (at + length (eventBytes e)) l))) (sym (stored-at l at (eventBytes e) g))
-    ∙ event-back (take at l) (drop (at + length (eventBytes e)) l) e h
+event-stored l at e h g = stored-back eventAt l at (eventBytes e) g (λ p q. event-back p q e h)
 
 pub command-stored : (l : List ℕ) (at : ℕ) (c : Command) → CommandFits c → at + length (commandBytes c) ≤ length l
     → commandAt (sets l at (commandBytes c)) at ≡ command.Got c
-command-stored l at c h g =
-    ap (λ (s : List ℕ). commandAt s at) (stored-split l at (commandBytes c) g)
-    ∙ ap (commandAt (take at l ++ (commandBytes c ++ drop (at + length (commandBytes c)) l))) (sym (stored-at l at (commandBytes c) g))
-    ∙ command-back (take at l) (drop (at + length (commandBytes c)) l) c h
+command-stored l at c h g = stored-back commandAt l at (commandBytes c) g (λ p q. command-back p q c h)
 
 -- ---- a log
-
--- the record behind an event begins where the event's bytes end
-event-next : (p q : List ℕ) (e : Event) → readAt (p ++ (eventBytes e ++ q)) (length p) ≡ Whole (kindOf e) (length p + 1) (length (bodyBytes e)) (length (p ++ eventBytes e))
-unfolding records.eventBytes
-event-next p q e =
-    let z = event-sized e in
-    let f : length p + 1 + length (bodyBytes e) ≡ length (p ++ (kindOf e ∷ bodyBytes e)) = simp length-append (omega arith) in
-    record-read p q (kindOf e) (bodyBytes e) (z .0) (z .1) ∙ ap (λ (x : ℕ). Whole (kindOf e) (length p + 1) (length (bodyBytes e)) x) f
 
 event-more : (e : Event) (q : List ℕ) → length (eventBytes e ++ q) ≡ suc (length (bodyBytes e) + length q)
 unfolding records.eventBytes

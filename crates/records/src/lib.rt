@@ -1,7 +1,8 @@
 // "Records" of document 01: a byte of kind, then a body whose length the kind gives. In order: `format` (its numbers), `numbers` (little-endian numbers, read
-// and put), `reader` (records, events and commands read out of a stream), `writer` (their bytes, put where there is room; the
-// four that are public ask for it); here the public writers, which look for room first.
+// and put), `reader` (records and items read out of a stream), `writer` (their bytes, put where there is room; the
+// four that are public ask for it), `masks` (the bytes that a write-back marks); here the public writers, which look for room first.
 mod format;
+mod masks;
 mod numbers;
 mod reader;
 mod writer;
@@ -10,17 +11,17 @@ pub use format::EVENT_ROOM;
 pub use format::LONGEST;
 pub use format::ROUND_ROOM;
 pub use format::WAIT_ROOM;
+pub use masks::dirty_bytes;
 pub use numbers::number1;
 pub use numbers::number2;
 pub use numbers::number4;
 pub use numbers::number8;
 pub use reader::body_of;
-pub use reader::command_at;
 pub use reader::command_of;
-pub use reader::event_at;
 pub use reader::event_of;
 pub use reader::is_command;
 pub use reader::is_settings;
+pub use reader::item_at;
 pub use reader::length_of;
 pub use reader::read_at;
 pub use writer::put_access;
@@ -43,6 +44,20 @@ use writer::put_command;
 use writer::put_event;
 use writer::put_told;
 use writer::told_size;
+
+// What stands at a place of a log or a stream: a command or an event, with the place behind it, or why there is neither.
+pub enum Item {
+    Command { command: Command, next: usize },
+    Event { event: Event, next: usize },
+    // No byte is left.
+    End,
+    // The body wants more bytes than are left behind its kind.
+    Cut { kind: u8, wants: u8, left: usize },
+    // A kind in neither list.
+    Unknown(u8),
+    // A body that is no event's.
+    Strange(u8),
+}
 
 // Whether n bytes from a place on are within a length.
 fn has_room(len: usize, at: usize, n: usize) -> bool

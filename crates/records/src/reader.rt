@@ -1,10 +1,12 @@
-// Records, events and commands read out of a stream of any bytes.
+// Records, and the events and commands that they are, read out of a stream of any bytes.
 ghost use mathlib.Core.Path.{_≡_};
 ghost use mathlib.Core.Bool.{true};
 ghost use Prim.Native.Nat.{_+_, _≤_};
 ghost use lib.ListN.{length};
 ghost use Rattle.records.specs.Parts.{PartAt};
-ghost use Rattle.model.specs.Records.{lengthOf, isCommand, isSettings, readAt, answered, refusedBy, eventOf, eventAt, ruleIn, givenIn, commandOf, commandAt};
+ghost use Rattle.records.specs.Items.{itemWhole, itemStopped, itemAt};
+ghost use Rattle.model.specs.Records.{lengthOf, isCommand, isSettings, readAt, answered, refusedBy, eventOf, ruleIn, givenIn, commandOf};
+use crate::Item;
 use crate::format::COMMAND_KINDS;
 use crate::format::LENGTHS;
 use crate::format::RULE_PLACE;
@@ -172,21 +174,6 @@ pub fn event_of(kind: u8, b: &[u8]) -> EventRead
     }
 }
 
-// The event at a place of a stream.
-pub fn event_at(stream: &[u8], at: usize) -> EventRead
-    ensures { λ r. ⌜ r ≡ eventAt (now (stream .entry)) at ⌝ }
-{
-    match read_at(stream, at) {
-        Record::Whole {
-            kind,
-            start,
-            len: _,
-            next,
-        } => event_of(kind, &stream[start..next]),
-        Record::Stopped(_) => EventRead::None,
-    }
-}
-
 // The rule byte, where the kind has one.
 fn rule_in(kind: u8, b: &[u8]) -> GivenRule
     ensures { λ r. ⌜ r ≡ ruleIn kind (now (b .entry)) ⌝ }
@@ -239,17 +226,48 @@ pub fn command_of(kind: u8, b: &[u8]) -> CommandRead
     }
 }
 
-// The command at a place of a stream.
-pub fn command_at(stream: &[u8], at: usize) -> CommandRead
-    ensures { λ r. ⌜ r ≡ commandAt (now (stream .entry)) at ⌝ }
+// A whole record: its command, or its event, if it is either's.
+fn whole_item(kind: u8, next: usize, c: CommandRead, e: EventRead) -> Item
+    ensures { λ r. ⌜ r ≡ itemWhole kind next c e ⌝ }
 {
+    match c {
+        CommandRead::Got(command) => Item::Command { command, next },
+        CommandRead::None => match e {
+            EventRead::Got(event) => Item::Event { event, next },
+            EventRead::None => Item::Strange(kind),
+        },
+    }
+}
+
+// A record that reading stops at, with so many bytes behind its kind.
+fn stopped_item(kind: u8, left: usize) -> Item
+    ensures { λ r. ⌜ r ≡ itemStopped kind left ⌝ }
+{
+    let wants = length_of(kind);
+    if wants == 255 {
+        Item::Unknown(kind)
+    } else {
+        Item::Cut { kind, wants, left }
+    }
+}
+
+// What stands at a place of a stream.
+pub fn item_at(stream: &[u8], at: usize) -> Item
+    ensures { λ r. ⌜ r ≡ itemAt (now (stream .entry)) at ⌝ }
+{
+    if stream.len() <= at {
+        return Item::End;
+    }
     match read_at(stream, at) {
         Record::Whole {
             kind,
             start,
             len: _,
             next,
-        } => command_of(kind, &stream[start..next]),
-        Record::Stopped(_) => CommandRead::None,
+        } => {
+            let body = &stream[start..next];
+            whole_item(kind, next, command_of(kind, body), event_of(kind, body))
+        }
+        Record::Stopped(_) => stopped_item(stream[at], stream.len() - (at + 1)),
     }
 }

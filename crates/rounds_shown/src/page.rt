@@ -1,7 +1,7 @@
 // What is printed: a run's rounds and its events in words, and whether two runs agree.
-use listing::Look;
 use model::Access;
 use model::Command;
+use records::Item;
 use rounds::Went;
 use wording::commands;
 use wording::events;
@@ -54,7 +54,7 @@ pub(crate) fn put_title(name: &[u8], x: Access, out: &mut [u8], at: usize) -> us
 
 // The event at a place as a line; where none stands, the place itself.
 fn put_next(s: &[u8], out: &mut [u8], t: Shown) -> Shown {
-    let Look::Event { event, next } = listing::look_at(s, t.at) else {
+    let Item::Event { event, next } = records::item_at(s, t.at) else {
         return t;
     };
     let a = text::put_text(b"  ", out, t.put);
@@ -86,7 +86,7 @@ pub(crate) fn put_run(name: &[u8], w: Went, log: &[u8], out: &mut [u8], at: usiz
 
 // The place behind the event at a place.
 fn next_of(s: &[u8], at: usize) -> usize {
-    let Look::Event { event: _, next } = listing::look_at(s, at) else {
+    let Item::Event { event: _, next } = records::item_at(s, at) else {
         return at;
     };
     next

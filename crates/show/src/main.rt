@@ -6,7 +6,7 @@ mod damage;
 use input::Ended;
 use input::More;
 use libc::STDOUT_FILENO;
-use listing::Look;
+use records::Item;
 ghost use Prim.Native.Nat.{_-_, _≤_};
 ghost use mathlib.Core.Path.{_≡_};
 ghost use mathlib.Core.Bool.{false};
@@ -115,28 +115,28 @@ fn show_one(s: &[u8], place: u64, out: &mut [u8], t: Turn) -> Turn
     }
     let at = r.at;
     let here = std::num::wrapping_add_u64(place, at as u64);
-    match listing::look_at(s, at) {
-        Look::Command { command, next } => {
+    match records::item_at(s, at) {
+        Item::Command { command, next } => {
             let start = put_place(here, out, r.put);
             let end = wording::commands::put_command(command, out, start);
             line_done(out, next, end, r)
         }
-        Look::Event { event, next } => {
+        Item::Event { event, next } => {
             let start = put_place(here, out, r.put);
             let end = wording::events::put_event(event, out, start);
             line_done(out, next, end, r)
         }
-        Look::End => waiting(r),
-        Look::Cut {
+        Item::End => waiting(r),
+        Item::Cut {
             kind: _,
             wants: _,
             left: _,
         } => waiting(r),
-        Look::Unknown(kind) => {
+        Item::Unknown(kind) => {
             let start = put_place(here, out, r.put);
             damaged(r, damage::put_unknown(kind, out, start))
         }
-        Look::Strange(kind) => {
+        Item::Strange(kind) => {
             let start = put_place(here, out, r.put);
             damaged(r, damage::put_strange(kind, out, start))
         }
@@ -192,20 +192,11 @@ fn show_rest(_end: Ended, buf: &[u8], out: &mut [u8], w: Work) -> Work
     ensures { λ r. ⌜ r .more ≡ false ⌝ }
 {
     let have = w.have;
-    match listing::look_at(text::front(buf, have), 0) {
-        Look::Cut { kind, wants, left } => {
-            let start = put_place(w.place, out, w.put);
-            stopped(w, damage::put_cut(kind, wants, left, out, start))
-        }
-        Look::Command {
-            command: _,
-            next: _,
-        } => stopped(w, w.put),
-        Look::Event { event: _, next: _ } => stopped(w, w.put),
-        Look::End => stopped(w, w.put),
-        Look::Unknown(_) => stopped(w, w.put),
-        Look::Strange(_) => stopped(w, w.put),
-    }
+    let Item::Cut { kind, wants, left } = records::item_at(text::front(buf, have), 0) else {
+        return stopped(w, w.put);
+    };
+    let start = put_place(w.place, out, w.put);
+    stopped(w, damage::put_cut(kind, wants, left, out, start))
 }
 
 // Reads once: fewer bytes may come then, or it was the last turn.

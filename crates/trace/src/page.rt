@@ -1,8 +1,8 @@
 // A command, its events and what a refused access waits for, as text.
-use listing::Look;
 use model::Command;
 use model::Event;
 use reasons::Reason;
+use records::Item;
 use wording::commands;
 use wording::events;
 use wording::stops;
@@ -38,18 +38,10 @@ fn put_event(e: Event, out: &mut [u8], at: usize) -> usize {
 
 // The command at an index of some bytes of a stream, which has its place in the whole stream in front.
 pub(crate) fn put_command_at(s: &[u8], at: usize, place: u64, out: &mut [u8], put: usize) -> usize {
-    match listing::look_at(s, at) {
-        Look::Command { command, next: _ } => put_command(command, place, out, put),
-        Look::Event { event: _, next: _ } => put,
-        Look::End => put,
-        Look::Cut {
-            kind: _,
-            wants: _,
-            left: _,
-        } => put,
-        Look::Unknown(_) => put,
-        Look::Strange(_) => put,
-    }
+    let Item::Command { command, next: _ } = records::item_at(s, at) else {
+        return put;
+    };
+    put_command(command, place, out, put)
 }
 
 // Behind what was shown; never back.
@@ -66,27 +58,15 @@ fn put_next(s: &[u8], out: &mut [u8], t: Shown) -> Shown
     ensures { λ r. ⌜ t .at < r .at ⌝ }
 {
     let end = s.len();
-    let over = Shown {
-        at: end,
-        put: t.put,
+    let Item::Event { event, next } = records::item_at(s, t.at) else {
+        return Shown {
+            at: end,
+            put: t.put,
+        };
     };
-    match listing::look_at(s, t.at) {
-        Look::Event { event, next } => Shown {
-            at: behind(t.at, next, end),
-            put: put_event(event, out, t.put),
-        },
-        Look::Command {
-            command: _,
-            next: _,
-        } => over,
-        Look::End => over,
-        Look::Cut {
-            kind: _,
-            wants: _,
-            left: _,
-        } => over,
-        Look::Unknown(_) => over,
-        Look::Strange(_) => over,
+    Shown {
+        at: behind(t.at, next, end),
+        put: put_event(event, out, t.put),
     }
 }
 

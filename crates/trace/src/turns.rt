@@ -2,7 +2,6 @@
 use crate::page;
 use layout::Layout;
 use libc::STDOUT_FILENO;
-use listing::Look;
 use model::Access;
 use model::Command;
 use model::Event;
@@ -10,6 +9,7 @@ use model::Ran;
 use model::Settings;
 use model::Stop;
 use model::Verdict;
+use records::Item;
 ghost use mathlib.Core.Path.{_≡_};
 ghost use mathlib.Core.Bool.{false};
 ghost use Prim.Native.Nat.{_≤_};
@@ -61,18 +61,10 @@ fn offered(c: Command) -> Offer
 
 // What the command at a place offers.
 fn offered_at(s: &[u8], at: usize) -> Offer {
-    match listing::look_at(s, at) {
-        Look::Command { command, next: _ } => offered(command),
-        Look::Event { event: _, next: _ } => Offer::Nothing,
-        Look::End => Offer::Nothing,
-        Look::Cut {
-            kind: _,
-            wants: _,
-            left: _,
-        } => Offer::Nothing,
-        Look::Unknown(_) => Offer::Nothing,
-        Look::Strange(_) => Offer::Nothing,
-    }
+    let Item::Command { command, next: _ } = records::item_at(s, at) else {
+        return Offer::Nothing;
+    };
+    offered(command)
 }
 
 fn refusal_of(e: Event) -> Verdict
@@ -105,21 +97,10 @@ fn refusal_of(e: Event) -> Verdict
 
 // Whether the first of a command's events is a refusal.
 fn refusal_in(events: &[u8]) -> Verdict {
-    match listing::look_at(events, 0) {
-        Look::Event { event, next: _ } => refusal_of(event),
-        Look::Command {
-            command: _,
-            next: _,
-        } => Verdict::Passed,
-        Look::End => Verdict::Passed,
-        Look::Cut {
-            kind: _,
-            wants: _,
-            left: _,
-        } => Verdict::Passed,
-        Look::Unknown(_) => Verdict::Passed,
-        Look::Strange(_) => Verdict::Passed,
-    }
+    let Item::Event { event, next: _ } = records::item_at(events, 0) else {
+        return Verdict::Passed;
+    };
+    refusal_of(event)
 }
 
 // Under a refused access what it waits for. A refusal left the tables as they were.
@@ -154,18 +135,10 @@ fn record_end(s: &[u8], at: usize) -> usize
     ensures { λ r. ⌜ at ≤ r ⌝ }
 {
     let end = s.len();
-    match listing::look_at(s, at) {
-        Look::Command { command: _, next } => { if at < next { next } else { end } }
-        Look::Event { event: _, next: _ } => end,
-        Look::End => end,
-        Look::Cut {
-            kind: _,
-            wants: _,
-            left: _,
-        } => end,
-        Look::Unknown(_) => end,
-        Look::Strange(_) => end,
-    }
+    let Item::Command { command: _, next } = records::item_at(s, at) else {
+        return end;
+    };
+    if at < next { next } else { end }
 }
 
 // Prints the first n bytes of a page; says whether they went.

@@ -7,9 +7,9 @@ use Rattle.model.specs.declared.Access.the-variants as access
 use Rattle.model.specs.declared.Command.{Command}
 use Rattle.model.specs.declared.Command.the-variants as cmd
 use Rattle.model.specs.declared.Stop.the-variants.{OutOfPlace, UnknownKind, CutShort}
-use Rattle.listing.specs.declared.Look.{Look}
-use Rattle.listing.specs.declared.Look.the-variants as look
-use Rattle.listing.specs.Looks.{lookAt}
+use Rattle.records.specs.declared.Item.{Item}
+use Rattle.records.specs.declared.Item.the-variants as item
+use Rattle.records.specs.Items.{itemAt}
 use Rattle.wait.specs.declared.last.Last.{Last}
 use Rattle.wait.specs.declared.last.Last.the-variants.{Offer, Other, Nothing, Stopped}
 
@@ -26,13 +26,13 @@ lastCommand (cmd.Settings g) = Stopped OutOfPlace
 abbrev pub lastCut : ℕ → Last
 lastCut k = pick (isCommand k) (Stopped CutShort) (Stopped UnknownKind)
 
-abbrev pub lastLook : Look → Last
-lastLook (look.Command c next) = lastCommand c
-lastLook (look.Event e next) = Stopped UnknownKind
-lastLook look.End = Nothing
-lastLook (look.Cut k wants left) = lastCut k
-lastLook (look.Unknown k) = Stopped UnknownKind
-lastLook (look.Strange k) = Stopped UnknownKind
+abbrev pub lastItem : Item → Last
+lastItem (item.Command c next) = lastCommand c
+lastItem (item.Event e next) = Stopped UnknownKind
+lastItem item.End = Nothing
+lastItem (item.Cut k wants left) = lastCut k
+lastItem (item.Unknown k) = Stopped UnknownKind
+lastItem (item.Strange k) = Stopped UnknownKind
 
 abbrev pub lastOf : List ℕ → Last
-lastOf s = lastLook (lookAt s 0)
+lastOf s = lastItem (itemAt s 0)

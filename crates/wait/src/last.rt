@@ -1,8 +1,8 @@
 // What a stream ends in.
-use listing::Look;
 use model::Access;
 use model::Command;
 use model::Stop;
+use records::Item;
 ghost use mathlib.Core.Path.{_≡_};
 ghost use Rattle.wait.specs.Lasts.{lastCommand, lastCut, lastOf};
 
@@ -54,16 +54,16 @@ fn last_cut(kind: u8) -> Last
 pub(crate) fn last_of(s: &[u8]) -> Last
     ensures { λ r. ⌜ r ≡ lastOf (now (s .entry)) ⌝ }
 {
-    match listing::look_at(s, 0) {
-        Look::Command { command, next: _ } => last_command(command),
-        Look::Event { event: _, next: _ } => Last::Stopped(Stop::UnknownKind),
-        Look::End => Last::Nothing,
-        Look::Cut {
+    match records::item_at(s, 0) {
+        Item::Command { command, next: _ } => last_command(command),
+        Item::Event { event: _, next: _ } => Last::Stopped(Stop::UnknownKind),
+        Item::End => Last::Nothing,
+        Item::Cut {
             kind,
             wants: _,
             left: _,
         } => last_cut(kind),
-        Look::Unknown(_) => Last::Stopped(Stop::UnknownKind),
-        Look::Strange(_) => Last::Stopped(Stop::UnknownKind),
+        Item::Unknown(_) => Last::Stopped(Stop::UnknownKind),
+        Item::Strange(_) => Last::Stopped(Stop::UnknownKind),
     }
 }

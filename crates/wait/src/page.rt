@@ -1,12 +1,12 @@
 // The lines as text.
 use crate::waiting::Counts;
-use listing::Look;
 use model::Access;
 use model::Command;
 use model::Event;
 use model::Refusal;
 use model::Stop;
 use model::Told;
+use records::Item;
 use rounds::Waiting;
 use wording::commands;
 use wording::events;
@@ -66,23 +66,12 @@ fn put_event(e: Event, out: &mut [u8], at: usize) -> usize {
 
 // The event at a place. What is no event ends the list: a round writes only events.
 fn put_next(s: &[u8], out: &mut [u8], t: Shown) -> Shown {
-    match listing::look_at(s, t.at) {
-        Look::Event { event, next } => Shown {
-            at: next,
-            put: put_event(event, out, t.put),
-        },
-        Look::Command {
-            command: _,
-            next: _,
-        } => t,
-        Look::End => t,
-        Look::Cut {
-            kind: _,
-            wants: _,
-            left: _,
-        } => t,
-        Look::Unknown(_) => t,
-        Look::Strange(_) => t,
+    let Item::Event { event, next } = records::item_at(s, t.at) else {
+        return t;
+    };
+    Shown {
+        at: next,
+        put: put_event(event, out, t.put),
     }
 }
 

@@ -10,7 +10,7 @@ use Rattle.model.specs.declared.Event.{Event}
 use Rattle.model.specs.declared.Event.the-variants as ev
 use Rattle.text.specs.Digits.{decimal, hexadecimal, spelled, padded}
 use Rattle.listing.specs.Names.{answerName, meaningOf}
-use Rattle.billing.specs.Dues.{dirtyBytes}
+use Rattle.records.specs.Masks.{dirtyBytes}
 use Rattle.text.specs.Words.{codes}
 
 abbrev pub answeredWords : Answer → ℕ → List (List ℕ)

@@ -54,7 +54,7 @@ fn put_dirty(n: u64, out: &mut [u8], at: usize) -> usize
 fn put_masks(m0: u32, m1: u32, m2: u32, m3: u32, out: &mut [u8], at: usize) -> usize
     ensures { λ r. ⌜ Puts (now (out .entry)) at (masksWords m0 m1 m2 m3) r (now (out .exit)) ⌝ }
 {
-    let a = put_dirty(billing::dirty_bytes(m0, m1, m2, m3), out, at);
+    let a = put_dirty(records::dirty_bytes(m0, m1, m2, m3), out, at);
     let b = put_mask(m0, out, a);
     let c = put_mask(m1, out, b);
     let d = put_mask(m2, out, c);

@@ -1,23 +1,32 @@
--- `billing::step_at` meets its contract.
+-- An event goes on, and anything else stops.
+use mathlib.Core.Path.{_≡_, refl, sym, ap, _∙_}
+use mathlib.Core.List.{[], _∷_}
 use borrow.Author.Needs.{needs}
-use Rattle.billing.proofs.Parts.{step-none, step-event, step-stopped}
+use types.Run.{OneOf, miss}
+use denote.Enum.Declared.{tagOf}
+use Rattle.records.specs.declared.Item.{Item}
+use Rattle.records.specs.declared.Item.the-variants as item
+use Rattle.records.proofs.Item.{the-type}
+use Rattle.billing.specs.declared.Step.the-variants.{Stop}
+use Rattle.billing.specs.Logs.{stepOf, stepAt}
 use Rattle.billing.proofs.step_at.Statement.{statement}
 use Rattle.billing.proofs.step_at.Tie as tie
 
+-- by the number of its variant: an event's is 1
+other : (i : Item) → OneOf (0 ∷ 2 ∷ 3 ∷ 4 ∷ 5 ∷ []) (tagOf the-type i) → Stop ≡ stepOf i
+other (item.Event e next) h = absurd (miss (0 ∷ 2 ∷ 3 ∷ 4 ∷ 5 ∷ []) 1 tt h)
+other (item.Command c next) h = refl
+other item.End h = refl
+other (item.Cut k wants left) h = refl
+other (item.Unknown k) h = refl
+other (item.Strange k) h = refl
+
 pub step-at-spec : {M : Type 1} → statement M
+unfolding stepAt
 step-at-spec =
     tie.close
     (tie.spec
-    (λ c κs. search needs)
-    (λ c. search needs)
-    (λ c. search needs)
-    (λ c. step-none _ _ (c .before .before .event-at .ensures) (c .enum-told .given .1))
-    (λ c κs. search needs)
-    (λ c. search needs)
-    (λ c. search needs)
-    (λ c.
-    let n = c .before in
-    let r = n .before .before in
-    let e = r .before .before in
-    step-event _ _ (e .before .before .event-at .ensures) (e .event .given .1) (r .read-at .ensures) (n .next .given .1))
-    (λ c. step-stopped _ _ (c .before .before .read-at .ensures) _ (c .enum-told2 .given .1)))
+    (λ c κs. search needs)  -- item-at-requires
+    (λ c. search needs)  -- enum-known-event
+    (λ c. other (c .before .item-at .result) (c .match .keys2) ∙ ap stepOf (c .before .item-at .ensures))  -- returns
+    (λ c. let e = c .before in ap stepOf (sym (e .event .given .1) ∙ e .before .before .item-at .ensures)))  -- returns-2

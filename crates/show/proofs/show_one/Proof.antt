@@ -40,13 +40,13 @@ show-one-spec =
     let d = c .before .before in
     let k = d .before .before .before .before .before .before .before .before .before .before .before in
     let l = k .before .before in
-    command-turns _ (l .before .before .before .with-room .ensures) (l .look-at .ensures) (k .command .given .1) (d .line-done .ensures) (d .line-done .result .more))
+    command-turns _ (l .before .before .before .with-room .ensures) (l .item-at .ensures) (k .command .given .1) (d .line-done .ensures) (d .line-done .result .more))
     (λ c. search needs)
     (λ c.
     let d = c .before .before in
     let k = d .before .before .before .before .before .before .before .before .before .before .before in
     let l = k .before .before in
-    event-turns _ (l .before .before .before .with-room .ensures) (l .look-at .ensures) (k .event .given .1) (d .line-done2 .ensures) (d .line-done2 .result .more))
+    event-turns _ (l .before .before .before .with-room .ensures) (l .item-at .ensures) (k .event .given .1) (d .line-done2 .ensures) (d .line-done2 .result .more))
     (λ c. search needs)
     (λ c. turns-none (c .waiting2 .result .more) _ _ (c .waiting2 .ensures))
     (λ c. search needs)

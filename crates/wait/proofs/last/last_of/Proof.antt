@@ -1,7 +1,7 @@
 -- By what stands there.
 use mathlib.Core.Path.{sym, ap, _∙_}
 use borrow.Author.Needs.{needs}
-use Rattle.wait.specs.Lasts.{lastLook}
+use Rattle.wait.specs.Lasts.{lastItem}
 use Rattle.wait.proofs.last.last_of.Statement.{statement}
 use Rattle.wait.proofs.last.last_of.Tie as tie
 
@@ -18,9 +18,9 @@ last-of-spec =
     (λ c κs. search needs)
     (λ c. search needs)
     (λ c. search needs)
-    (λ c. c .last-command .ensures ∙ ap lastLook (sym (c .before .before .command .given .1) ∙ c .before .before .before .before .look-at .ensures))
-    (λ c. ap lastLook (sym (c .enum-told .given .1) ∙ c .before .before .look-at .ensures))
-    (λ c. ap lastLook (sym (c .enum-told2 .given .1) ∙ c .before .before .look-at .ensures))
-    (λ c. c .last-cut .ensures ∙ ap lastLook (sym (c .before .before .kind .given .1) ∙ c .before .before .before .before .look-at .ensures))
-    (λ c. ap lastLook (sym (c .enum-told3 .given .1) ∙ c .before .before .look-at .ensures))
-    (λ c. ap lastLook (sym (c .enum-told4 .given .1) ∙ c .before .before .look-at .ensures)))
+    (λ c. c .last-command .ensures ∙ ap lastItem (sym (c .before .before .command .given .1) ∙ c .before .before .before .before .item-at .ensures))
+    (λ c. ap lastItem (sym (c .enum-told .given .1) ∙ c .before .before .item-at .ensures))
+    (λ c. ap lastItem (sym (c .enum-told2 .given .1) ∙ c .before .before .item-at .ensures))
+    (λ c. c .last-cut .ensures ∙ ap lastItem (sym (c .before .before .kind .given .1) ∙ c .before .before .before .before .item-at .ensures))
+    (λ c. ap lastItem (sym (c .enum-told3 .given .1) ∙ c .before .before .item-at .ensures))
+    (λ c. ap lastItem (sym (c .enum-told4 .given .1) ∙ c .before .before .item-at .ensures)))

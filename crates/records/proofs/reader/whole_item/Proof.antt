@@ -1,10 +1,10 @@
--- `listing::look_whole` meets its contract: by cases on what was read.
+-- By cases on what was read.
 use borrow.Author.Needs.{needs}
-use Rattle.listing.proofs.look_whole.Statement.{statement}
-use Rattle.listing.proofs.look_whole.Tie as tie
+use Rattle.records.proofs.reader.whole_item.Statement.{statement}
+use Rattle.records.proofs.reader.whole_item.Tie as tie
 
-pub look-whole-spec : {M : Type 1} → statement M
-look-whole-spec =
+pub whole-item-spec : {M : Type 1} → statement M
+whole-item-spec =
     tie.close
     (tie.spec
     (λ c. search needs)

@@ -1,12 +1,12 @@
--- `listing::look_stopped` meets its contract.
+-- By whether the kind has a length.
 use mathlib.Core.Path.{sym, _∙_}
 use borrow.Author.Needs.{needs}
 use borrow.Author.Tests.{eq-eqb, ne-eqb}
-use Rattle.listing.proofs.look_stopped.Statement.{statement}
-use Rattle.listing.proofs.look_stopped.Tie as tie
+use Rattle.records.proofs.reader.stopped_item.Statement.{statement}
+use Rattle.records.proofs.reader.stopped_item.Tie as tie
 
-pub look-stopped-spec : {M : Type 1} → statement M
-look-stopped-spec =
+pub stopped-item-spec : {M : Type 1} → statement M
+stopped-item-spec =
     tie.close
     (tie.spec
     (λ c κs. search needs)

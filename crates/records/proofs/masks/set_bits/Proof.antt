@@ -1,9 +1,9 @@
--- `billing::set_bits` meets its contract.
+-- A mask has 32 bits at most.
 use mathlib.Core.Path.{refl}
 use native.Mathlib.Omega.{arith}
 use lib.Count.{ones-le}
-use Rattle.billing.proofs.set_bits.Statement.{statement}
-use Rattle.billing.proofs.set_bits.Tie as tie
+use Rattle.records.proofs.masks.set_bits.Statement.{statement}
+use Rattle.records.proofs.masks.set_bits.Tie as tie
 
 pub set-bits-spec : {M : Type 1} → statement M
 set-bits-spec = tie.close (tie.spec

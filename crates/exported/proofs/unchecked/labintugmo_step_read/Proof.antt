@@ -1,0 +1,28 @@
+-- Nothing without the room; else the step, and its events.
+use native.Mathlib.Omega.{arith}
+use borrow.Author.Needs.{needs}
+use Rattle.model.specs.declared.Access.the-variants.{Read}
+use Rattle.model.specs.History.{offer}
+use Rattle.exported.proofs.Calling.{step-unmade, step-made}
+use Rattle.exported.proofs.unchecked.labintugmo_step_read.Statement.{statement}
+use Rattle.exported.proofs.unchecked.labintugmo_step_read.Tie as tie
+
+pub labintugmo-step-read-spec : {M : Type 1} → statement M
+labintugmo-step-read-spec =
+    tie.close
+    (tie.spec
+    (λ c. step-unmade _ _ _ _ (c .before .before .before .before .before .before .pre) (c .if1 .taken))  -- returns
+    (λ c κs. search needs)  -- settings-from-requires
+    (λ c κs. rw (c .settings-from .ensures) (c .before .before .before .before .before .before .before .pre .are .range))  -- laid-out-requires
+    (λ c κs. let l = c .before .before .before in let s = l .before in (l .laid-out .ensures, rw (s .settings-from .ensures) (s .before .before .before .before .before .before .before .pre)))  -- access-step-requires
+    (λ c κs. search needs)  -- write-told-requires
+    (λ c. search needs)  -- same-length
+    (λ c. search needs)  -- same-length-2
+    (λ c. search needs)  -- same-length-3
+    (λ c. search needs)  -- same-length-4
+    (λ c.
+    let told = c .before .before in
+    let done = told .before .before .before .before .before .before .before .before in
+    let s = done .before .before .before .before .before in
+    let a = s .before .before .before .before .before .before .before in
+    step-made _ (offer (Read (a .args .address) 0 (a .args .ticket))) _ _ _ (omega arith) (a .pre) (s .before .if1 .left) (rw (s .settings-from .ensures) at (done .access-step .ensures)) (told .write-told .ensures .0)))  -- returns-2
