@@ -46,7 +46,7 @@ pub fn bad(line: u64, e: Expected, words: &[u8]) {
     ends();
 }
 
-fn rule_name(n: u8) {
+fn rule_name(n: u64) {
     let mut name = [0; 4];
     let len = rules::put_rule(n, &mut name, 0);
     say(text::front(&name, len));

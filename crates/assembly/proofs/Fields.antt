@@ -9,7 +9,7 @@ use lib.Dec.{eqb, leb}
 use Rattle.words.specs.Words.{pick}
 use Rattle.model.specs.declared.Command.{Command}
 use Rattle.words.proofs.Flags.{and-1}
-use Rattle.text.specs.Words.{skipSpaces, wordEnd, wordAt, sameText}
+use Rattle.text.specs.Words.{codes, skipSpaces, wordEnd, wordAt, sameText}
 use Rattle.text.specs.Digits.{parseNumber}
 use Rattle.text.specs.Rules.{ruleNames, ruleOf}
 use Rattle.text.specs.declared.rules.Named.{Named}
@@ -17,7 +17,6 @@ use Rattle.text.specs.declared.rules.Named.the-variants.{Rule, Nothing}
 use Rattle.text.proofs.RuleNames.{rule-below}
 use Rattle.text.specs.declared.Parsed.{Parsed}
 use Rattle.text.specs.declared.Parsed.the-variants as parsed
-use Rattle.assembly.specs.Spelling.{ruleWord}
 use Rattle.assembly.specs.declared.Expected.the-variants as expected
 use Rattle.assembly.specs.declared.Field.{Field}
 use Rattle.assembly.specs.declared.Field.the-variants.{Got, Missing}
@@ -95,7 +94,7 @@ module _ (s : List ℕ) (at : ℕ) where
       go Nothing e q = number-most most8 s at q
 
 pub rule-most : (s : List ℕ) (at : ℕ) {v next : ℕ} → ruleNext s at ≡ Got v next → v ≤ most8
-rule-most s at e = behind-most ruleWord ruleValue s at most8 (λ i v next q. value-most s i v next q) e
+rule-most s at e = behind-most (codes "rule") ruleValue s at most8 (λ i v next q. value-most s i v next q) e
 
 -- ---- the end of a line
 

@@ -10,7 +10,7 @@ use Rattle.model.specs.declared.Given.{Given}
 use Rattle.model.specs.declared.GivenRule.the-variants.{LeftOut, Byte}
 use Rattle.model.specs.declared.Command.{Command}
 use Rattle.model.specs.declared.Command.the-variants as cmd
-use Rattle.text.specs.Words.{skipSpaces, wordEnd, wordAt, sameText}
+use Rattle.text.specs.Words.{codes, skipSpaces, wordEnd, wordAt, sameText}
 use Rattle.text.specs.Digits.{parseNumber}
 use Rattle.text.specs.Rules.{ruleOf}
 use Rattle.text.specs.declared.rules.Named.{Named}
@@ -18,7 +18,6 @@ use Rattle.text.specs.declared.rules.Named.the-variants.{Rule, Nothing}
 use Rattle.text.specs.declared.Parsed.{Parsed}
 use Rattle.text.specs.declared.Parsed.the-variants as parsed
 use Rattle.records.specs.Parts.{given}
-use Rattle.assembly.specs.Spelling.{settingsWord, setsWord, waysWord, dirtyWord, missesWord, readersWord, queueWord, ruleWord, readWord, ticketWord, writeWord, maskWord, sendWord, fillWord, tickWord}
 use Rattle.assembly.specs.declared.Expected.{Expected}
 use Rattle.assembly.specs.declared.Expected.the-variants as expected
 use Rattle.assembly.specs.declared.Field.{Field}
@@ -69,7 +68,7 @@ unfoldable pub ruleValue : List ℕ → ℕ → Field
 ruleValue s at = ruleBy s at (skipSpaces s at) (ruleOf (wordAt s (skipSpaces s at)))
 
 abbrev pub ruleNext : List ℕ → ℕ → Field
-ruleNext = behindWord ruleWord ruleValue
+ruleNext = behindWord (codes "rule") ruleValue
 
 -- the field, and what follows it; without it the line is bad
 abbrev pub andThen : Expected → Field → (ℕ → ℕ → Line) → Line
@@ -98,28 +97,28 @@ ruleFrom s at g =
 -- the last three settings of them, behind the first three
 unfoldable pub buffersFrom : List ℕ → ℕ → ℕ → ℕ → ℕ → Line
 buffersFrom s at sets ways dirty =
-    andThen expected.Misses (fieldNext missesWord most8 s at) (λ misses a.
-    andThen expected.Readers (fieldNext readersWord most8 s a) (λ readers b.
-    andThen expected.Queue (fieldNext queueWord most8 s b) (λ queue c.
+    andThen expected.Misses (fieldNext (codes "misses") most8 s at) (λ misses a.
+    andThen expected.Readers (fieldNext (codes "readers") most8 s a) (λ readers b.
+    andThen expected.Queue (fieldNext (codes "queue") most8 s b) (λ queue c.
     ruleFrom s c (given sets ways dirty misses readers queue LeftOut))))
 
 unfoldable pub settingsFrom : List ℕ → ℕ → Line
 settingsFrom s at =
-    andThen expected.Sets (fieldNext setsWord most16 s at) (λ sets a.
-    andThen expected.Ways (fieldNext waysWord most8 s a) (λ ways b.
-    andThen expected.Dirty (fieldNext dirtyWord most8 s b) (λ dirty c.
+    andThen expected.Sets (fieldNext (codes "sets") most16 s at) (λ sets a.
+    andThen expected.Ways (fieldNext (codes "ways") most8 s a) (λ ways b.
+    andThen expected.Dirty (fieldNext (codes "dirty") most8 s b) (λ dirty c.
     buffersFrom s c sets ways dirty)))
 
 unfoldable pub readFrom : List ℕ → ℕ → Line
 readFrom s at =
     andThen expected.Address (numberNext most64 s at) (λ address a.
-    andThen expected.Ticket (fieldNext ticketWord most32 s a) (λ ticket b.
+    andThen expected.Ticket (fieldNext (codes "ticket") most32 s a) (λ ticket b.
     whole s b (cmd.Read address ticket)))
 
 unfoldable pub writeFrom : List ℕ → ℕ → Line
 writeFrom s at =
     andThen expected.Address (numberNext most64 s at) (λ address a.
-    andThen expected.Mask (fieldNext maskWord most32 s a) (λ mask b.
+    andThen expected.Mask (fieldNext (codes "mask") most32 s a) (λ mask b.
     whole s b (cmd.Write address mask)))
 
 unfoldable pub fillFrom : List ℕ → ℕ → Line
@@ -134,12 +133,12 @@ tickFrom s at = andThen expected.Cycle (numberNext most32 s at) (λ cycle a. who
 abbrev pub byWord : List ℕ → ℕ → ℕ → Line
 byWord s at end =
     pick (eqb end at) line.Empty (
-    pick (wordIs s at settingsWord) (settingsFrom s end) (
-    pick (wordIs s at readWord) (readFrom s end) (
-    pick (wordIs s at writeWord) (writeFrom s end) (
-    pick (wordIs s at sendWord) (whole s end cmd.Send) (
-    pick (wordIs s at fillWord) (fillFrom s end) (
-    pick (wordIs s at tickWord) (tickFrom s end)
+    pick (wordIs s at (codes "settings")) (settingsFrom s end) (
+    pick (wordIs s at (codes "read")) (readFrom s end) (
+    pick (wordIs s at (codes "write")) (writeFrom s end) (
+    pick (wordIs s at (codes "send")) (whole s end cmd.Send) (
+    pick (wordIs s at (codes "fill")) (fillFrom s end) (
+    pick (wordIs s at (codes "tick")) (tickFrom s end)
     (line.Bad expected.Command)))))))
 
 unfoldable pub parseLine : List ℕ → Line

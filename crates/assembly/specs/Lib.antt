@@ -1,4 +1,3 @@
--- The assembler's language: its words, and what a line of it means.
-pub mod Spelling
+-- The assembler's language: what a line of it means.
 pub mod Language
 pub mod Output

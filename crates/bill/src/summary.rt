@@ -63,7 +63,7 @@ fn put_refusal(bill: Bill, n: Refusal, out: &mut [u8], at: usize) -> usize {
     let b = text::put_text(b"    ", out, a);
     let c = text::put_decimal(number as u64, out, b);
     let d = text::put_text(b" ", out, c);
-    let e = listing::put_meaning(n, out, d);
+    let e = wording::names::put_meaning(n, out, d);
     text::put_text(b"\n", out, e)
 }
 

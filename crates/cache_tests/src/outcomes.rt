@@ -58,7 +58,7 @@ fn put_address(what: &[u8], address: u64, out: &mut [u8], at: usize) -> usize {
 
 fn put_mask(mask: u32, out: &mut [u8], at: usize) -> usize {
     let a = text::put_text(b" ", out, at);
-    text::put_word(mask, out, a)
+    text::put_word(mask as u64, out, a)
 }
 
 fn put_masks(m0: u32, m1: u32, m2: u32, m3: u32, out: &mut [u8], at: usize) -> usize {
@@ -70,7 +70,7 @@ fn put_masks(m0: u32, m1: u32, m2: u32, m3: u32, out: &mut [u8], at: usize) -> u
 }
 
 fn put_answered(answer: Answer, line: u16, out: &mut [u8], at: usize) -> usize {
-    let a = listing::put_answer(answer, out, at);
+    let a = wording::names::put_answer(answer, out, at);
     let b = text::put_text(b" line ", out, a);
     text::put_decimal(line as u64, out, b)
 }

@@ -1,4 +1,5 @@
 -- A number as text, and text as a number: digits, decimal and hexadecimal, what stands in a slice after text is put there.
+use Prim.Native.Char.{code}
 use Prim.Native.Nat.{ℕ, zero, suc, _+_, _*_, _-_, _/_, _%_, _^_}
 use mathlib.Core.Path.{_≡_}
 use mathlib.Core.Bool.{Bool, true, false, _&&_}
@@ -8,7 +9,7 @@ use lib.Seq.{sets}
 use lib.Dec.{eqb, leb, ltb}
 use Rattle.words.specs.Words.{pick}
 use Rattle.model.specs.Range.{within}
-use Rattle.text.specs.Words.{run}
+use Rattle.text.specs.Words.{codes, run}
 use Rattle.text.specs.declared.Parsed.{Parsed}
 use Rattle.text.specs.declared.Parsed.the-variants.{Number, Nothing, TooLarge}
 use Rattle.text.specs.declared.Grown.{Grown}
@@ -19,7 +20,7 @@ use Rattle.text.specs.declared.Grown.the-variants.{To}
 
 -- the character of a digit below 16: `0` to `9`, then `a` to `f`
 abbrev pub glyphOf : ℕ → ℕ
-glyphOf d = pick (ltb d 10) (48 + d) (87 + d)
+glyphOf d = pick (ltb d 10) (code "0" + d) (87 + d)
 
 -- the last k digits of n in base b, the highest first
 unfoldable pub digits : ℕ → ℕ → ℕ → List ℕ
@@ -43,7 +44,7 @@ decimal n = spelled 10 n
 
 -- `0x`, then the digits
 abbrev pub hexadecimal : ℕ → List ℕ
-hexadecimal n = 48 ∷ 120 ∷ spelled 16 n
+hexadecimal n = codes "0x" ++ spelled 16 n
 
 -- s behind as many of a character as make it w characters
 abbrev pub padded : ℕ → ℕ → List ℕ → List ℕ
@@ -63,7 +64,7 @@ pub record Put (l : List ℕ) (at : ℕ) (s : List ℕ) (r : ℕ) (l₁ : List �
 
 -- the digit of a character, 16 where it is none
 abbrev pub digitOf : ℕ → ℕ
-digitOf c = pick (within 48 57 c) (c - 48) (pick (within 97 102 c) (c - 87) (pick (within 65 70 c) (c - 55) 16))
+digitOf c = pick (within (code "0") (code "9") c) (c - code "0") (pick (within (code "a") (code "f") c) (c - 87) (pick (within (code "A") (code "F") c) (c - 55) 16))
 
 abbrev pub isDigit : ℕ → ℕ → Bool
 isDigit b c = ltb (digitOf c) b
@@ -86,7 +87,7 @@ unfoldable pub numberIn : ℕ → List ℕ → ℕ → Parsed
 numberIn b s at = numberOf at (run (isDigit b) (drop at s)) (valueOf b 0 (drop at s))
 
 abbrev pub hexAt : List ℕ → ℕ → Bool
-hexAt s at = eqb (getD s at 0) 48 && eqb (getD s (at + 1) 0) 120
+hexAt s at = eqb (getD s at 0) (code "0") && eqb (getD s (at + 1) 0) (code "x")
 
 -- "decimal, or hexadecimal behind 0x"
 unfoldable pub parseNumber : List ℕ → ℕ → Parsed

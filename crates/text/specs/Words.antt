@@ -7,6 +7,8 @@ use mathlib.Core.List.{List, [], _∷_}
 use lib.ListN.{length, take, drop}
 use lib.Dec.{eqb, leb}
 use Rattle.words.specs.Words.{pick}
+use Rattle.text.specs.declared.Class.{Class}
+use Rattle.text.specs.declared.Class.the-variants.{Spaces, Word, Line}
 
 -- the bytes of a text
 abbrev pub codes : String → List ℕ
@@ -24,11 +26,19 @@ past p s at = at + run p (drop at s)
 
 -- a space, a tab, the carriage return of a line end
 abbrev pub isSpace : ℕ → Bool
-isSpace c = eqb c 32 || (eqb c 9 || eqb c 13)
+isSpace c = eqb c (code " ") || (eqb c (code "\t") || eqb c (code "\r"))
 
 -- what a word is made of: neither a space nor `#`, with which a comment begins
 abbrev pub inWord : ℕ → Bool
-inWord c = not (isSpace c || eqb c 35)
+inWord c = not (isSpace c || eqb c (code "#"))
+
+abbrev pub inLine : ℕ → Bool
+inLine c = not (eqb c (code "\n"))
+
+abbrev pub inClass : Class → ℕ → Bool
+inClass Spaces = isSpace
+inClass Word = inWord
+inClass Line = inLine
 
 abbrev pub skipSpaces : List ℕ → ℕ → ℕ
 skipSpaces s at = past isSpace s at
@@ -41,9 +51,6 @@ abbrev pub wordAt : List ℕ → ℕ → List ℕ
 wordAt s at = take (run inWord (drop at s)) (drop at s)
 
 -- the end of the line that begins at an index: that of its line feed, or of the whole text
-abbrev pub inLine : ℕ → Bool
-inLine c = not (eqb c 10)
-
 abbrev pub lineEnd : List ℕ → ℕ → ℕ
 lineEnd s at = past inLine s at
 

@@ -7,7 +7,7 @@ ghost use Prim.Native.Nat.{_+_, _-_, _≤_, _<_};
 ghost use lib.ListN.{length, take, getD, replicate};
 ghost use lib.Seq.{sets};
 ghost use Rattle.text.specs.Digits.{glyphOf, digits, digitCount, spelled, decimal, hexadecimal, padded, Put, digitOf, grownOf, numberOf, numberIn, hexAt, parseNumber};
-ghost use Rattle.text.specs.Words.{isSpace, inWord, skipSpaces, wordEnd, wordAt, lineEnd, partOf, sameText};
+ghost use Rattle.text.specs.Words.{isSpace, inClass, past, skipSpaces, wordEnd, wordAt, lineEnd, partOf, sameText};
 
 // What a number at a place of a line comes to.
 pub enum Parsed {
@@ -19,55 +19,61 @@ pub enum Parsed {
 fn is_space(c: u8) -> bool
     ensures { λ r. ⌜ r ≡ isSpace c ⌝ }
 {
-    (c == 32) | ((c == 9) | (c == 13))
+    (c == b' ') | ((c == b'\t') | (c == b'\r'))
 }
 
-fn in_word(c: u8) -> bool
-    ensures { λ r. ⌜ r ≡ inWord c ⌝ }
+// What a run is made of.
+enum Class {
+    Spaces,
+    Word,
+    Line,
+}
+
+// Whether a character goes on a run of that class.
+fn passes(class: Class, c: u8) -> bool
+    ensures { λ r. ⌜ r ≡ inClass class c ⌝ }
 {
-    !(is_space(c) | (c == 35))
+    match class {
+        Class::Spaces => is_space(c),
+        // A comment begins with `#`.
+        Class::Word => !(is_space(c) | (c == b'#')),
+        Class::Line => c != b'\n',
+    }
+}
+
+// The first place from `at` on whose character does not pass.
+fn run_end(s: &[u8], at: usize, class: Class) -> usize
+    ensures { λ r. ⌜ r ≡ past (inClass class) (now (s .entry)) at ⌝ }
+{
+    let mut i = at;
+    while i < s.len() {
+        if !passes(class, s[i]) {
+            return i;
+        }
+        i += 1;
+    }
+    i
 }
 
 // The first place from `at` on that holds no space.
 pub fn skip_spaces(line: &[u8], at: usize) -> usize
     ensures { λ r. ⌜ r ≡ skipSpaces (now (line .entry)) at ⌝ }
 {
-    let mut i = at;
-    while i < line.len() {
-        if !is_space(line[i]) {
-            return i;
-        }
-        i += 1;
-    }
-    i
+    run_end(line, at, Class::Spaces)
 }
 
 // The place behind the word at `at`: `at` itself where no word stands there.
 pub fn word_end(line: &[u8], at: usize) -> usize
     ensures { λ r. ⌜ r ≡ wordEnd (now (line .entry)) at ⌝ }
 {
-    let mut i = at;
-    while i < line.len() {
-        if !in_word(line[i]) {
-            return i;
-        }
-        i += 1;
-    }
-    i
+    run_end(line, at, Class::Word)
 }
 
 // Where the line that begins at `at` ends: at its line feed, or at the end of the text.
 pub fn line_end(text: &[u8], at: usize) -> usize
     ensures { λ r. ⌜ r ≡ lineEnd (now (text .entry)) at ⌝ }
 {
-    let mut i = at;
-    while i < text.len() {
-        if text[i] == 10 {
-            return i;
-        }
-        i += 1;
-    }
-    i
+    run_end(text, at, Class::Line)
 }
 
 // The text from one place to another; nothing where these are no part of it.
@@ -170,11 +176,11 @@ pub fn put_right(n: u64, width: usize, out: &mut [u8], at: usize) -> usize
     put_padded(n, 10, width, 32, out, at)
 }
 
-// A 32-bit number as eight hexadecimal digits.
-pub fn put_word(n: u32, out: &mut [u8], at: usize) -> usize
+// n as eight hexadecimal digits, or more where it has more.
+pub fn put_word(n: u64, out: &mut [u8], at: usize) -> usize
     ensures { λ r. ⌜ Put (now (out .entry)) at (padded 8 48 (spelled 16 n)) r (now (out .exit)) ⌝ }
 {
-    put_padded(n as u64, 16, 8, 48, out, at)
+    put_padded(n, 16, 8, 48, out, at)
 }
 
 // All of s, from `at` on.

@@ -55,19 +55,19 @@ pub fn rule_at(line: &[u8], at: usize) -> Named
     Named::Nothing
 }
 
-pub fn has_name(n: u8) -> bool
+pub fn has_name(n: u64) -> bool
     ensures { λ r. ⌜ r ≡ ltb n (length ruleNames) ⌝ }
 {
-    (n as usize) < NAMES.len()
+    n < NAMES.len() as u64
 }
 
-// The name of a rule byte; the number where it has none.
-pub fn put_rule(n: u8, out: &mut [u8], at: usize) -> usize
+// The name of a rule's number; the number itself where it has none.
+pub fn put_rule(n: u64, out: &mut [u8], at: usize) -> usize
     ensures { λ r. ⌜ Put (now (out .entry)) at (ruleName n) r (now (out .exit)) ⌝ }
 {
     if has_name(n) {
         let row = row_of(n as usize);
         return crate::put_text(name_in(&row), out, at);
     }
-    crate::put_decimal(n as u64, out, at)
+    crate::put_decimal(n, out, at)
 }

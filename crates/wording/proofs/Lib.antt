@@ -1,3 +1,5 @@
--- Laws of text put piece by piece, and of ranges.
+-- Laws of text put piece by piece, of lines as data, of names and of ranges.
 pub mod Pieces
+pub mod Lines
+pub mod Named
 pub mod Ranges

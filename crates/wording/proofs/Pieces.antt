@@ -13,7 +13,7 @@ pub puts-none : {l : List ℕ} {at : ℕ} → Puts l at [] at l
 unfolding withPieces
 puts-none = record { next = refl; left = refl }
 
-put-page : {l : List ℕ} {at : ℕ} {s : List ℕ} {r : ℕ} {l₁ : List ℕ} → Put l at s r l₁ → page l₁ r ≡ withPiece s (page l at)
+pub put-page : {l : List ℕ} {at : ℕ} {s : List ℕ} {r : ℕ} {l₁ : List ℕ} → Put l at s r l₁ → page l₁ r ≡ withPiece s (page l at)
 unfolding withPiece
 put-page {l} {at} {s} p = rw (p .left, p .next) (go (room l at (length s)))
   where
@@ -21,10 +21,10 @@ put-page {l} {at} {s} p = rw (p .left, p .next) (go (room l at (length s)))
     go true = refl
     go false = refl
 
-puts-page : {l : List ℕ} {at : ℕ} {ss : List (List ℕ)} {r : ℕ} {l₁ : List ℕ} → Puts l at ss r l₁ → page l₁ r ≡ withPieces ss (page l at)
+pub puts-page : {l : List ℕ} {at : ℕ} {ss : List (List ℕ)} {r : ℕ} {l₁ : List ℕ} → Puts l at ss r l₁ → page l₁ r ≡ withPieces ss (page l at)
 puts-page p = rw (p .left, p .next)
 
-page-puts : {l : List ℕ} {at : ℕ} {ss : List (List ℕ)} {r : ℕ} {l₁ : List ℕ} → page l₁ r ≡ withPieces ss (page l at) → Puts l at ss r l₁
+pub page-puts : {l : List ℕ} {at : ℕ} {ss : List (List ℕ)} {r : ℕ} {l₁ : List ℕ} → page l₁ r ≡ withPieces ss (page l at) → Puts l at ss r l₁
 page-puts e = record { next = ap (λ (p : Page). p .at) e; left = ap (λ (p : Page). p .slice) e }
 
 pieces-append : (xs ys : List (List ℕ)) (p : Page) → withPieces (xs ++ ys) p ≡ withPieces ys (withPieces xs p)
@@ -47,3 +47,6 @@ put-one p = put-then p puts-none
 
 pub puts-as : {l : List ℕ} {at : ℕ} {xs ys : List (List ℕ)} {r : ℕ} {l₁ : List ℕ} → Puts l at xs r l₁ → xs ≡ ys → Puts l at ys r l₁
 puts-as p e = rw (← e) p
+
+pub puts-from : {l l' : List ℕ} {at : ℕ} {ss : List (List ℕ)} {r : ℕ} {l₁ : List ℕ} → l ≡ l' → Puts l at ss r l₁ → Puts l' at ss r l₁
+puts-from e p = rw (← e) p

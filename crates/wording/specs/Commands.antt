@@ -10,38 +10,25 @@ use Rattle.text.specs.Digits.{decimal, hexadecimal}
 use Rattle.text.specs.Rules.{ruleName}
 use Rattle.text.specs.Words.{codes}
 
--- a word, then a number
-abbrev pub fieldWords : List ℕ → ℕ → List (List ℕ)
-fieldWords word n = word ∷ decimal n ∷ []
-
--- a word, then an address or a mask
-abbrev pub addressedWords : List ℕ → ℕ → List (List ℕ)
-addressedWords word a = word ∷ hexadecimal a ∷ []
-
 -- a rule that is given, by its name if it has one
 abbrev pub ruleWords : GivenRule → List (List ℕ)
 ruleWords LeftOut = []
 ruleWords (Byte n) = codes " rule " ∷ ruleName n ∷ []
 
--- the settings behind the first three
-abbrev pub buffersWords : Given → List (List ℕ)
-buffersWords g =
-    fieldWords (codes " misses ") (g .misses)
-    ++ (fieldWords (codes " readers ") (g .readers)
-    ++ (fieldWords (codes " queue ") (g .queue)
-    ++ ruleWords (g .rule)))
-
 abbrev pub settingsWords : Given → List (List ℕ)
 settingsWords g =
-    fieldWords (codes "settings sets ") (g .sets)
-    ++ (fieldWords (codes " ways ") (g .ways)
-    ++ (fieldWords (codes " dirty ") (g .dirty)
-    ++ buffersWords g))
+    codes "settings sets " ∷ decimal (g .sets)
+    ∷ codes " ways " ∷ decimal (g .ways)
+    ∷ codes " dirty " ∷ decimal (g .dirty)
+    ∷ codes " misses " ∷ decimal (g .misses)
+    ∷ codes " readers " ∷ decimal (g .readers)
+    ∷ codes " queue " ∷ decimal (g .queue)
+    ∷ ruleWords (g .rule)
 
 unfoldable pub commandWords : Command → List (List ℕ)
 commandWords (cmd.Settings g) = settingsWords g
-commandWords (cmd.Read a k) = addressedWords (codes "read ") a ++ fieldWords (codes " ticket ") k
-commandWords (cmd.Write a m) = addressedWords (codes "write ") a ++ addressedWords (codes " mask ") m
+commandWords (cmd.Read a k) = codes "read " ∷ hexadecimal a ∷ codes " ticket " ∷ decimal k ∷ []
+commandWords (cmd.Write a m) = codes "write " ∷ hexadecimal a ∷ codes " mask " ∷ hexadecimal m ∷ []
 commandWords cmd.Send = codes "send" ∷ []
-commandWords (cmd.Fill a) = addressedWords (codes "fill ") a
-commandWords (cmd.Tick c) = fieldWords (codes "tick ") c
+commandWords (cmd.Fill a) = codes "fill " ∷ hexadecimal a ∷ []
+commandWords (cmd.Tick c) = codes "tick " ∷ decimal c ∷ []

@@ -1,46 +1,29 @@
 -- Events in words.
 use Prim.Native.Nat.{ℕ}
-use mathlib.Core.List.{List, [], _∷_, _++_}
-use lib.Dec.{eqb}
-use Rattle.words.specs.Words.{pick}
+use mathlib.Core.List.{List, [], _∷_}
 use Rattle.model.specs.Numbers.{refusalNumber}
-use Rattle.model.specs.declared.Answer.{Answer}
-use Rattle.model.specs.declared.Refusal.{Refusal}
 use Rattle.model.specs.declared.Event.{Event}
 use Rattle.model.specs.declared.Event.the-variants as ev
-use Rattle.text.specs.Digits.{decimal, hexadecimal, spelled, padded}
-use Rattle.listing.specs.Names.{answerName, meaningOf}
-use Rattle.records.specs.Masks.{dirtyBytes}
+use Rattle.text.specs.Digits.{decimal, hexadecimal}
 use Rattle.text.specs.Words.{codes}
+use Rattle.records.specs.Masks.{dirtyBytes}
+use Rattle.wording.specs.Names.{answerName, meaningOf}
+use Rattle.wording.specs.Rows.{mask, plural}
 
-abbrev pub answeredWords : Answer → ℕ → List (List ℕ)
-answeredWords a line = codes "answer " ∷ answerName a ∷ codes " line " ∷ decimal line ∷ []
-
-abbrev pub refusedWords : Refusal → List (List ℕ)
-refusedWords n = codes "refused " ∷ decimal (refusalNumber n) ∷ codes " (" ∷ meaningOf n ∷ codes ")" ∷ []
-
--- what, then an address
-abbrev pub addressWords : List ℕ → ℕ → List (List ℕ)
-addressWords what a = what ∷ hexadecimal a ∷ []
-
--- eight digits
-abbrev pub maskWords : ℕ → List (List ℕ)
-maskWords m = codes " " ∷ padded 8 48 (spelled 16 m) ∷ []
-
-abbrev pub dirtyWords : ℕ → List (List ℕ)
-dirtyWords n = codes ", " ∷ decimal n ∷ pick (eqb n 1) (codes " dirty byte, masks") (codes " dirty bytes, masks") ∷ []
-
--- the dirty bytes that four masks mark, and the masks
-abbrev pub masksWords : ℕ → ℕ → ℕ → ℕ → List (List ℕ)
-masksWords m0 m1 m2 m3 = dirtyWords (dirtyBytes m0 m1 m2 m3) ++ (maskWords m0 ++ (maskWords m1 ++ (maskWords m2 ++ maskWords m3)))
+-- what becomes of a write-back, its block, the dirty bytes that its masks mark, the masks
+abbrev pub backWords : List ℕ → ℕ → ℕ → ℕ → ℕ → ℕ → List (List ℕ)
+backWords what b m0 m1 m2 m3 =
+    what ∷ codes " " ∷ hexadecimal b
+    ∷ codes ", " ∷ decimal (dirtyBytes m0 m1 m2 m3) ∷ codes " dirty byte" ∷ plural (dirtyBytes m0 m1 m2 m3)
+    ∷ codes ", masks " ∷ mask m0 ∷ codes " " ∷ mask m1 ∷ codes " " ∷ mask m2 ∷ codes " " ∷ mask m3 ∷ []
 
 unfoldable pub eventWords : Event → List (List ℕ)
-eventWords (ev.Answered a line) = answeredWords a line
-eventWords (ev.Refused n) = refusedWords n
-eventWords (ev.ReadQueued a) = addressWords (codes "read queued ") a
-eventWords (ev.WriteBackQueued b m0 m1 m2 m3) = addressWords (codes "write-back queued ") b ++ masksWords m0 m1 m2 m3
+eventWords (ev.Answered a line) = codes "answer " ∷ answerName a ∷ codes " line " ∷ decimal line ∷ []
+eventWords (ev.Refused n) = codes "refused " ∷ decimal (refusalNumber n) ∷ codes " (" ∷ meaningOf n ∷ codes ")" ∷ []
+eventWords (ev.ReadQueued a) = codes "read queued " ∷ hexadecimal a ∷ []
+eventWords (ev.WriteBackQueued b m0 m1 m2 m3) = backWords (codes "write-back queued") b m0 m1 m2 m3
 eventWords (ev.Released t) = codes "released ticket " ∷ decimal t ∷ []
-eventWords (ev.ReadSent a) = addressWords (codes "read sent ") a
-eventWords (ev.WriteBackSent b m0 m1 m2 m3) = addressWords (codes "write-back sent ") b ++ masksWords m0 m1 m2 m3
-eventWords (ev.Filled a) = addressWords (codes "filled ") a
+eventWords (ev.ReadSent a) = codes "read sent " ∷ hexadecimal a ∷ []
+eventWords (ev.WriteBackSent b m0 m1 m2 m3) = backWords (codes "write-back sent") b m0 m1 m2 m3
+eventWords (ev.Filled a) = codes "filled " ∷ hexadecimal a ∷ []
 eventWords ev.Ticked = codes "ticked" ∷ []

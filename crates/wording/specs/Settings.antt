@@ -1,9 +1,10 @@
 -- Which setting of a settings record is outside its range, in words.
 use Prim.Native.Nat.{ℕ}
-use mathlib.Core.List.{List, [], _∷_, _++_}
-use Rattle.words.specs.Words.{pick}
+use Prim.Native.String.{String}
 use mathlib.Core.Bool.{not, _&&_}
-use lib.Dec.{eqb}
+use mathlib.Core.List.{List, [], _∷_}
+use lib.Dec.{eqb, leb}
+use Rattle.words.specs.Words.{pick}
 use Rattle.model.specs.Range.{within, powerTo256}
 use Rattle.model.specs.Tree.{powerTo16}
 use Rattle.model.specs.Records.{settingsIn, bodyAt}
@@ -11,45 +12,53 @@ use Rattle.model.specs.declared.Settings.{Settings}
 use Rattle.text.specs.Digits.{decimal}
 use Rattle.text.specs.Words.{codes}
 
--- a name, a number, a range
-abbrev pub settingWords : List ℕ → ℕ → List ℕ → List (List ℕ)
-settingWords name n range = name ∷ decimal n ∷ range ∷ []
+-- a setting with its range
+pub record Ranged : Type 0 where
+  pub name : List ℕ
+  pub number : ℕ
+  pub least : ℕ
+  pub most : ℕ
 
-abbrev pub setsWords : ℕ → List (List ℕ)
-setsWords n = settingWords (codes "sets is ") n (codes ", and has to be a power of two, 1 to 256")
+abbrev pub ranged : List ℕ → ℕ → ℕ → ℕ → Ranged
+ranged name n least most = record { name = name; number = n; least = least; most = most }
 
--- where each by itself is in range, these are not together
-unfoldable pub togetherWords : ℕ → ℕ → List (List ℕ)
-togetherWords ways rule =
-    pick (eqb rule 2 && not (powerTo16 ways))
-    (settingWords (codes "ways is ") ways (codes ", and has to be a power of two under rule tree"))
-    (codes "sets times ways has to be at most 1024" ∷ [])
+-- in a settings record's order
+abbrev pub rangedOf : Settings → List Ranged
+rangedOf S =
+    ranged (codes "ways") (S .ways) 1 16
+    ∷ ranged (codes "dirty") (S .dirty) 0 100
+    ∷ ranged (codes "misses") (S .misses) 1 64
+    ∷ ranged (codes "readers") (S .readers) 1 8
+    ∷ ranged (codes "queue") (S .queue) 2 64
+    ∷ []
 
--- the first that is outside, of those from a setting on
-abbrev pub fromRule : Settings → List (List ℕ)
-fromRule S = pick (within 0 2 (S .rule)) (togetherWords (S .ways) (S .rule)) (settingWords (codes "rule is ") (S .rule) (codes ", and has to be 0, 1 or 2"))
+abbrev pub rangeWords : Ranged → List (List ℕ)
+rangeWords x = x .name ∷ codes " is " ∷ decimal (x .number) ∷ codes ", and has to be " ∷ decimal (x .least) ∷ codes " to " ∷ decimal (x .most) ∷ []
 
-abbrev pub fromQueue : Settings → List (List ℕ)
-fromQueue S = pick (within 2 64 (S .queue)) (fromRule S) (settingWords (codes "queue is ") (S .queue) (codes ", and has to be 2 to 64"))
+-- the first of them that is outside its range; other words where none is
+unfoldable pub outsideWords : List Ranged → List (List ℕ) → List (List ℕ)
+outsideWords [] other = other
+outsideWords (x ∷ xs) other = pick (within (x .least) (x .most) (x .number)) (outsideWords xs other) (rangeWords x)
 
-abbrev pub fromReaders : Settings → List (List ℕ)
-fromReaders S = pick (within 1 8 (S .readers)) (fromQueue S) (settingWords (codes "readers is ") (S .readers) (codes ", and has to be 1 to 8"))
+-- where those are in range: the rule, or ways and rule together, or sets and ways
+unfoldable pub lastWords : ℕ → ℕ → List (List ℕ)
+lastWords ways rule =
+    pick (leb rule 2)
+    (pick (eqb rule 2 && not (powerTo16 ways))
+    (codes "ways is " ∷ decimal ways ∷ codes ", and has to be a power of two under rule tree" ∷ [])
+    (codes "sets times ways has to be at most 1024" ∷ []))
+    (codes "rule is " ∷ decimal rule ∷ codes ", and has to be 0, 1 or 2" ∷ [])
 
-abbrev pub fromMisses : Settings → List (List ℕ)
-fromMisses S = pick (within 1 64 (S .misses)) (fromReaders S) (settingWords (codes "misses is ") (S .misses) (codes ", and has to be 1 to 64"))
-
-abbrev pub fromDirty : Settings → List (List ℕ)
-fromDirty S = pick (within 0 100 (S .dirty)) (fromMisses S) (settingWords (codes "dirty is ") (S .dirty) (codes ", and has to be 0 to 100"))
-
-abbrev pub fromWays : Settings → List (List ℕ)
-fromWays S = pick (within 1 16 (S .ways)) (fromDirty S) (settingWords (codes "ways is ") (S .ways) (codes ", and has to be 1 to 16"))
-
-unfoldable pub outsideWords : Settings → List (List ℕ)
-outsideWords S = pick (powerTo256 (S .sets)) (fromWays S) (setsWords (S .sets))
+-- of a settings record's body, behind its sets
+abbrev pub rangedWords : List ℕ → List (List ℕ)
+rangedWords b = outsideWords (rangedOf (settingsIn b)) (lastWords (settingsIn b .ways) (settingsIn b .rule))
 
 -- of a settings record's body
 abbrev pub firstWords : List ℕ → List (List ℕ)
-firstWords b = outsideWords (settingsIn b)
+firstWords b =
+    pick (powerTo256 (settingsIn b .sets))
+    (rangedWords b)
+    (codes "sets is " ∷ decimal (settingsIn b .sets) ∷ codes ", and has to be a power of two, 1 to 256" ∷ [])
 
 -- of the settings record at the front of s
 abbrev pub badWords : List ℕ → List (List ℕ)

@@ -1,6 +1,6 @@
 -- Why a run stopped, in words, of the bytes at which it did.
 use Prim.Native.Nat.{ℕ, _-_}
-use mathlib.Core.List.{List, [], _∷_, _++_}
+use mathlib.Core.List.{List, [], _∷_}
 use lib.ListN.{length}
 use lib.Dec.{eqb}
 use Rattle.words.specs.Words.{pick}
@@ -18,15 +18,16 @@ numberWords words n = words ∷ decimal n ∷ []
 -- a log is easily taken for a stream
 abbrev pub unknownWords : ℕ → ℕ → List (List ℕ)
 unknownWords kind place =
-    codes "unknown kind " ∷ hexadecimal kind ∷ codes " at byte " ∷ decimal place ∷ pick (eqb (lengthOf kind) noKind) [] (codes ": an event, and a stream has only commands" ∷ [])
+    codes "unknown kind " ∷ hexadecimal kind ∷ codes " at byte " ∷ decimal place
+    ∷ pick (eqb (lengthOf kind) noKind) [] (codes ": an event, and a stream has only commands" ∷ [])
 
 abbrev pub cutWords : ℕ → ℕ → ℕ → List (List ℕ)
 cutWords kind left place =
-    numberWords (codes "record cut short at byte ") place
-    ++ (numberWords (codes ": kind ") kind
-    ++ (numberWords (codes " wants ") (lengthOf kind)
-    ++ (numberWords (codes " bytes, ") left
-    ++ (codes " are left" ∷ []))))
+    codes "record cut short at byte " ∷ decimal place
+    ∷ codes ": kind " ∷ decimal kind
+    ∷ codes " wants " ∷ decimal (lengthOf kind)
+    ∷ codes " bytes, " ∷ decimal left
+    ∷ codes " are left" ∷ []
 
 -- settings not first, or another kind first
 abbrev pub placeWords : ℕ → ℕ → List (List ℕ)

@@ -3,7 +3,8 @@ ghost use mathlib.Core.Path.{_≡_};
 ghost use Prim.Native.Nat.{_-_};
 ghost use lib.ListN.{length};
 ghost use Rattle.wording.specs.Pieces.{Puts};
-ghost use Rattle.wording.specs.Stops.{numberWords, unknownWords, cutWords, placeWords, whyWords};
+ghost use Rattle.wording.specs.Stops.{numberWords, unknownWords, placeWords, whyWords};
+use crate::rows;
 use crate::settings;
 use model::Stop;
 
@@ -19,13 +20,15 @@ pub fn put_number(words: &[u8], n: u64, out: &mut [u8], at: usize) -> usize
 fn put_unknown(kind: u8, place: u64, out: &mut [u8], at: usize) -> usize
     ensures { λ r. ⌜ Puts (now (out .entry)) at (unknownWords kind place) r (now (out .exit)) ⌝ }
 {
-    let a = text::put_text(b"unknown kind ", out, at);
-    let b = text::put_hex(kind as u64, out, a);
-    let c = put_number(b" at byte ", place, out, b);
     if records::length_of(kind) == 255 {
-        c
+        rows::put_line(b"unknown kind $ at byte #", &[kind as u64, place], out, at)
     } else {
-        text::put_text(b": an event, and a stream has only commands", out, c)
+        rows::put_line(
+            b"unknown kind $ at byte #: an event, and a stream has only commands",
+            &[kind as u64, place],
+            out,
+            at,
+        )
     }
 }
 
@@ -36,26 +39,24 @@ fn behind_kind(rest: &[u8]) -> usize
     if 0 < rest.len() { rest.len() - 1 } else { 0 }
 }
 
-fn put_cut(kind: u8, left: usize, place: u64, out: &mut [u8], at: usize) -> usize
-    ensures { λ r. ⌜ Puts (now (out .entry)) at (cutWords kind left place) r (now (out .exit)) ⌝ }
-{
-    let a = put_number(b"record cut short at byte ", place, out, at);
-    let b = put_number(b": kind ", kind as u64, out, a);
-    let c = put_number(b" wants ", records::length_of(kind) as u64, out, b);
-    let d = put_number(b" bytes, ", left as u64, out, c);
-    text::put_text(b" are left", out, d)
-}
-
+// Settings that are not first, or another kind that is.
 fn put_out_of_place(kind: u8, place: u64, out: &mut [u8], at: usize) -> usize
     ensures { λ r. ⌜ Puts (now (out .entry)) at (placeWords kind place) r (now (out .exit)) ⌝ }
 {
     if records::is_settings(kind) {
-        let a = put_number(b"settings at byte ", place, out, at);
-        text::put_text(b": they stand only at the start of a stream", out, a)
+        rows::put_line(
+            b"settings at byte #: they stand only at the start of a stream",
+            &[place],
+            out,
+            at,
+        )
     } else {
-        let a = put_number(b"kind ", kind as u64, out, at);
-        let b = put_number(b" at byte ", place, out, a);
-        text::put_text(b": a stream starts with its settings, kind 0 or 6", out, b)
+        rows::put_line(
+            b"kind # at byte #: a stream starts with its settings, kind 0 or 6",
+            &[kind as u64, place],
+            out,
+            at,
+        )
     }
 }
 
@@ -72,7 +73,20 @@ pub fn put_why(stop: Stop, rest: &[u8], place: u64, out: &mut [u8], at: usize) -
         Stop::NotSound => text::put_text(b"tables not sound", out, at),
         Stop::OutOfPlace => put_out_of_place(kind, place, out, at),
         Stop::UnknownKind => put_unknown(kind, place, out, at),
-        Stop::CutShort => put_cut(kind, behind_kind(rest), place, out, at),
+        Stop::CutShort => {
+            let values = [
+                place,
+                kind as u64,
+                records::length_of(kind) as u64,
+                behind_kind(rest) as u64,
+            ];
+            rows::put_line(
+                b"record cut short at byte #: kind # wants # bytes, # are left",
+                &values,
+                out,
+                at,
+            )
+        }
         Stop::NoRoom => text::put_text(b"too little event room", out, at),
     }
 }

@@ -7,35 +7,22 @@ use Rattle.assembly.proofs.Fields.{rule-most}
 use Rattle.assembly.proofs.rule_line.Statement.{statement}
 use Rattle.assembly.proofs.rule_line.Tie as tie
 
-returns : tie.Need-returns
-unfolding ruleFrom
-returns c = rw (sym (c .before .ends-at .ensures) ∙ c .if1 .taken)
-
-returns-2 : tie.Need-returns-2
-unfolding ruleFrom
-returns-2 c =
-    let n = c .before .before in
-    rw (sym (n .before .before .ends-at .ensures) ∙ n .before .if1 .left, sym (n .rule-next .ensures) ∙ c .enum-told .given .1)
-
-returns-3 : tie.Need-returns-3
-unfolding ruleFrom
-returns-3 c =
-    let r = c .before in
-    let v = r .before .before in
-    let n = v .before .before in
-    rw (sym (n .before .before .ends-at .ensures) ∙ n .before .if1 .left, sym (n .rule-next .ensures) ∙ v .rule .given .1, ← (r .ruled .ensures)) (c .ended .ensures)
-
 pub rule-line-spec : {M : Type 1} → statement M
+unfolding ruleFrom
 rule-line-spec =
     tie.close
     (tie.spec
     (λ c κs. search needs)
-    returns
+    (λ c. rw (sym (c .before .ends-at .ensures) ∙ c .if1 .taken))  -- returns
     (λ c κs. search needs)
     (λ c. search needs)
     (λ c. search needs)
-    returns-2
+    (λ c. let n = c .before .before in rw (sym (n .before .before .ends-at .ensures) ∙ n .before .if1 .left, sym (n .rule-next .ensures) ∙ c .enum-told .given .1))  -- returns-2
     (λ c. let v = c .before in let h = rule-most _ _ (sym (v .before .before .rule-next .ensures) ∙ v .rule .given .1) in omega arith)
     (λ c κs. search needs)
     (λ c κs. search needs)
-    returns-3)
+    (λ c.
+    let r = c .before in
+    let v = r .before .before in
+    let n = v .before .before in
+    rw (sym (n .before .before .ends-at .ensures) ∙ n .before .if1 .left, sym (n .rule-next .ensures) ∙ v .rule .given .1, ← (r .ruled .ensures)) (c .ended .ensures)))  -- returns-3

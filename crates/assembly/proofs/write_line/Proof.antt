@@ -7,46 +7,20 @@ use Rattle.assembly.proofs.Fields.{field-most}
 use Rattle.assembly.proofs.write_line.Statement.{statement}
 use Rattle.assembly.proofs.write_line.Tie as tie
 
-returns : tie.Need-returns
-unfolding writeFrom
-returns c =
-    let f1 = c .before .before in
-    rw (sym (f1 .number-next .ensures) ∙ c .enum-told .given .1)
-
-returns-2 : tie.Need-returns-2
-unfolding writeFrom
-returns-2 c =
-    let f2 = c .before .before in
-    let v1 = f2 .before .before .before in
-    let f1 = v1 .before .before in
-    rw (sym (f1 .number-next .ensures) ∙ v1 .address .given .1, sym (f2 .field-next .ensures) ∙ c .enum-told2 .given .1)
-
-returns-3 : tie.Need-returns-3
-unfolding writeFrom
-returns-3 c =
-    let v2 = c .before .before in
-    let f2 = v2 .before .before in
-    let v1 = f2 .before .before .before in
-    let f1 = v1 .before .before in
-    rw (sym (f1 .number-next .ensures) ∙ v1 .address .given .1, sym (f2 .field-next .ensures) ∙ v2 .mask .given .1) (c .ended .ensures)
-
 pub write-line-spec : {M : Type 1} → statement M
+unfolding writeFrom
 write-line-spec =
     tie.close
     (tie.spec
     (λ c κs. search needs)
     (λ c. search needs)
     (λ c. search needs)
-    returns
+    (λ c. rw (sym (c .before .before .number-next .ensures) ∙ c .enum-told .given .1))  -- returns
     (λ c. search needs)
     (λ c κs. search needs)
     (λ c. search needs)
     (λ c. search needs)
-    returns-2
-    (λ c.
-    let v2 = c .before in
-    let f2 = v2 .before .before in
-    let h = field-most _ _ _ _ (sym (f2 .field-next .ensures) ∙ v2 .mask .given .1) in
-    omega arith)
+    (λ c. let f = c .before .before in let u = f .before .before .before in rw (sym (u .before .before .number-next .ensures) ∙ u .address .given .1, sym (f .field-next .ensures) ∙ c .enum-told2 .given .1))  -- returns-2
+    (λ c. let v2 = c .before in let h = field-most _ _ _ _ (sym (v2 .before .before .field-next .ensures) ∙ v2 .mask .given .1) in omega arith)
     (λ c κs. search needs)
-    returns-3)
+    (λ c. let v = c .before .before in let f = v .before .before in let u = f .before .before .before in rw (sym (u .before .before .number-next .ensures) ∙ u .address .given .1, sym (f .field-next .ensures) ∙ v .mask .given .1) (c .ended .ensures)))  -- returns-3

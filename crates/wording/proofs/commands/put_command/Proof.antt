@@ -1,91 +1,49 @@
--- By cases, each with its own words.
-use borrow.Author.Needs.{needs}
+-- By cases, a line each.
+use Rattle.wording.specs.Rows.{pieceAt, piecesFrom}
 use Rattle.wording.specs.Commands.{commandWords}
-use Rattle.wording.proofs.Pieces.{puts-then, put-one}
+use Rattle.wording.proofs.Pieces.{put-one}
+use borrow.Author.Needs.{needs}
 use Rattle.wording.proofs.commands.put_command.Statement.{statement}
 use Rattle.wording.proofs.commands.put_command.Tie as tie
 
-returns : tie.Need-returns
-unfolding commandWords
-returns c =
-    let p2 = c .before .before in
-    let p1 = p2 .before .before .before in
-    rw (p1 .c .given .1) (p2 .put-settings .ensures)
-
-returns-2 : tie.Need-returns-2
-unfolding commandWords
-returns-2 c =
-    let p3 = c .before .before in
-    let p2 = p3 .before .before .before .before .before in
-    let p1 = p2 .before .before .before .before in
-    rw (p1 .c2 .given .1) (puts-then (p2 .put-addressed .ensures) (p3 .put-field .ensures))
-
-returns-3 : tie.Need-returns-3
-unfolding commandWords
-returns-3 c =
-    let p3 = c .before .before in
-    let p2 = p3 .before .before .before .before .before in
-    let p1 = p2 .before .before .before .before in
-    rw (p1 .c3 .given .1) (puts-then (p2 .put-addressed2 .ensures) (p3 .put-addressed3 .ensures))
-
-returns-4 : tie.Need-returns-4
-unfolding commandWords
-returns-4 c =
-    let p2 = c .before .before in
-    let p1 = p2 .before .before .before in
-    rw (p1 .enum-told .given .1) (put-one (p2 .put-text .ensures))
-
-returns-5 : tie.Need-returns-5
-unfolding commandWords
-returns-5 c =
-    let p2 = c .before .before in
-    let p1 = p2 .before .before .before .before in
-    rw (p1 .c4 .given .1) (p2 .put-addressed4 .ensures)
-
-returns-6 : tie.Need-returns-6
-unfolding commandWords
-returns-6 c =
-    let p2 = c .before .before in
-    let p1 = p2 .before .before .before .before in
-    rw (p1 .c5 .given .1) (p2 .put-field2 .ensures)
-
 pub put-command-spec : {M : Type 1} → statement M
+unfolding commandWords pieceAt piecesFrom
 put-command-spec =
     tie.close
     (tie.spec
-    (λ c. search needs)
-    (λ c κs. search needs)
-    (λ c. search needs)
-    (λ c. search needs)
-    (λ c κs. search needs)
-    (λ c. search needs)
-    (λ c. search needs)
-    (λ c κs. search needs)
-    (λ c. search needs)
-    (λ c. search needs)
-    (λ c κs. search needs)
-    (λ c. search needs)
-    (λ c. search needs)
-    (λ c κs. search needs)
-    (λ c. search needs)
-    (λ c. search needs)
-    (λ c κs. search needs)
-    (λ c. search needs)
-    (λ c. search needs)
-    (λ c κs. search needs)
-    (λ c. search needs)
-    (λ c. search needs)
-    (λ c. search needs)
-    (λ c κs. search needs)
-    (λ c. search needs)
-    returns
-    (λ c. search needs)
-    returns-2
-    (λ c. search needs)
-    returns-3
-    (λ c. search needs)
-    returns-4
-    (λ c. search needs)
-    returns-5
-    (λ c. search needs)
-    returns-6)
+    (λ c. search needs)  -- enum-known-c
+    (λ c κs. search needs)  -- put-settings-requires
+    (λ c. search needs)  -- enum-known-c-2
+    (λ c. search needs)  -- slice-aggregate-put-line
+    (λ c. search needs)  -- cast-t23
+    (λ c. search needs)  -- slice-aggregate-put-line-2
+    (λ c κs. search needs)  -- put-line-requires
+    (λ c. search needs)  -- enum-known-c-3
+    (λ c. search needs)  -- slice-aggregate-put-line-3
+    (λ c. search needs)  -- cast-t31
+    (λ c. search needs)  -- slice-aggregate-put-line-4
+    (λ c κs. search needs)  -- put-line-requires-2
+    (λ c. search needs)  -- enum-told
+    (λ c. search needs)  -- slice-aggregate-put-text
+    (λ c κs. search needs)  -- put-text-requires
+    (λ c. search needs)  -- enum-known-c-4
+    (λ c. search needs)  -- slice-aggregate-put-line-7
+    (λ c. search needs)  -- slice-aggregate-put-line-8
+    (λ c κs. search needs)  -- put-line-requires-4
+    (λ c. search needs)  -- enum-known-c-5
+    (λ c. search needs)  -- slice-aggregate-put-line-9
+    (λ c. search needs)  -- cast-t52
+    (λ c. search needs)  -- slice-aggregate-put-line-10
+    (λ c κs. search needs)  -- put-line-requires-5
+    (λ c. search needs)  -- same-length
+    (λ c. let p = c .before .before in rw (p .before .before .before .c .given .1) (p .put-settings .ensures))  -- returns
+    (λ c. search needs)  -- same-length-2
+    (λ c. let p = c .before .before in rw (p .before .before .before .before .before .c2 .given .1) (p .put-line .ensures))  -- returns-2
+    (λ c. search needs)  -- same-length-3
+    (λ c. let p = c .before .before in rw (p .before .before .before .before .before .c3 .given .1) (p .put-line2 .ensures))  -- returns-3
+    (λ c. search needs)  -- same-length-4
+    (λ c. let p = c .before .before in rw (p .before .before .before .enum-told .given .1) (put-one (p .put-text .ensures)))  -- returns-4
+    (λ c. search needs)  -- same-length-5
+    (λ c. let p = c .before .before in rw (p .before .before .before .before .before .c4 .given .1) (p .put-line3 .ensures))  -- returns-5
+    (λ c. search needs)  -- same-length-6
+    (λ c. let p = c .before .before in rw (p .before .before .before .before .before .c5 .given .1) (p .put-line4 .ensures)))  -- returns-6

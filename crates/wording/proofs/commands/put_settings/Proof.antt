@@ -1,30 +1,24 @@
--- Its pieces, one after another.
-use borrow.Author.Needs.{needs}
+-- The line, then the rule.
+use Rattle.wording.specs.Rows.{pieceAt, piecesFrom}
 use Rattle.wording.proofs.Pieces.{puts-then}
+use borrow.Author.Needs.{needs}
 use Rattle.wording.proofs.commands.put_settings.Statement.{statement}
 use Rattle.wording.proofs.commands.put_settings.Tie as tie
 
-returns : tie.Need-returns
-returns c =
-    let p4 = c .before .before in
-    let p3 = p4 .before .before .before .before in
-    let p2 = p3 .before .before .before .before .before .before in
-    let p1 = p2 .before .before .before .before .before .before in
-    puts-then (p1 .put-field .ensures) (puts-then (p2 .put-field2 .ensures) (puts-then (p3 .put-field3 .ensures) (p4 .put-buffers .ensures)))
-
 pub put-settings-spec : {M : Type 1} → statement M
+unfolding pieceAt piecesFrom
 put-settings-spec =
     tie.close
     (tie.spec
-    (λ c. search needs)
-    (λ c. search needs)
-    (λ c κs. search needs)
-    (λ c. search needs)
-    (λ c. search needs)
-    (λ c κs. search needs)
-    (λ c. search needs)
-    (λ c. search needs)
-    (λ c κs. search needs)
-    (λ c κs. search needs)
-    (λ c. search needs)
-    returns)
+    (λ c. search needs)  -- cast-t8
+    (λ c. search needs)  -- cast-t9
+    (λ c. search needs)  -- cast-t10
+    (λ c. search needs)  -- cast-t11
+    (λ c. search needs)  -- cast-t12
+    (λ c. search needs)  -- cast-t13
+    (λ c. search needs)  -- slice-aggregate-put-line
+    (λ c. search needs)  -- slice-aggregate-put-line-2
+    (λ c κs. search needs)  -- put-line-requires
+    (λ c κs. search needs)  -- put-rule-requires
+    (λ c. search needs)  -- same-length
+    (λ c. let r = c .before .before in puts-then (r .before .before .before .before .put-line .ensures) (r .put-rule .ensures)))  -- returns

@@ -7,42 +7,6 @@ use Rattle.wording.proofs.Pieces.{put-then, puts-as}
 use Rattle.wording.proofs.settings.put_bad.Statement.{statement}
 use Rattle.wording.proofs.settings.put_bad.Tie as tie
 
-sub-put-first : tie.Need-sub-put-first
-sub-put-first c =
-    let k = c .before in
-    let w = was-whole _ _ _ _ _ _ (sym (k .before .before .read-at .ensures) ∙ k .start .given .1) in
-    search needs
-
-part-put-first-start : tie.Need-part-put-first-start
-part-put-first-start c =
-    let k = c .before in
-    let w = was-whole _ _ _ _ _ _ (sym (k .before .before .read-at .ensures) ∙ k .start .given .1) in
-    search needs
-
-part-put-first-end : tie.Need-part-put-first-end
-part-put-first-end c =
-    let k = c .before in
-    let w = was-whole _ _ _ _ _ _ (sym (k .before .before .read-at .ensures) ∙ k .start .given .1) in
-    search needs
-
-returns : tie.Need-returns
-returns c =
-    let p2 = c .before .before in
-    let k = p2 .before .before .before .before in
-    let r = k .before .before in
-    let p1 = r .before .before .before in
-    put-then (p1 .put-text .ensures)
-    (puts-as (p2 .put-first .ensures) (ap firstWords (body-whole _ _ _ _ _ _ (sym (r .read-at .ensures) ∙ k .start .given .1))))
-
-returns-2 : tie.Need-returns-2
-returns-2 c =
-    let p2 = c .before .before in
-    let k = p2 .before .before .before in
-    let r = k .before .before in
-    let p1 = r .before .before .before in
-    put-then (p1 .put-text .ensures)
-    (puts-as (p2 .put-first2 .ensures) (ap firstWords (body-none _ _ _ (sym (r .read-at .ensures) ∙ k .enum-told .given .1))))
-
 pub put-bad-spec : {M : Type 1} → statement M
 put-bad-spec =
     tie.close
@@ -51,14 +15,22 @@ put-bad-spec =
     (λ c κs. search needs)
     (λ c κs. search needs)
     (λ c. search needs)
-    sub-put-first
-    part-put-first-start
-    part-put-first-end
+    (λ c. let k = c .before in let w = was-whole _ _ _ _ _ _ (sym (k .before .before .read-at .ensures) ∙ k .start .given .1) in search needs)  -- sub-put-first
+    (λ c. let k = c .before in let w = was-whole _ _ _ _ _ _ (sym (k .before .before .read-at .ensures) ∙ k .start .given .1) in search needs)  -- part-put-first-start
+    (λ c. let k = c .before in let w = was-whole _ _ _ _ _ _ (sym (k .before .before .read-at .ensures) ∙ k .start .given .1) in search needs)  -- part-put-first-end
     (λ c κs. search needs)
     (λ c. search needs)
     (λ c. search needs)
     (λ c κs. search needs)
     (λ c. search needs)
-    returns
+    (λ c.
+    let p = c .before .before in
+    let k = p .before .before .before .before in
+    let r = k .before .before in
+    put-then (r .before .before .before .put-text .ensures) (puts-as (p .put-first .ensures) (ap firstWords (body-whole _ _ _ _ _ _ (sym (r .read-at .ensures) ∙ k .start .given .1)))))  -- returns
     (λ c. search needs)
-    returns-2)
+    (λ c.
+    let p = c .before .before in
+    let k = p .before .before .before in
+    let r = k .before .before in
+    put-then (r .before .before .before .put-text .ensures) (puts-as (p .put-first2 .ensures) (ap firstWords (body-none _ _ _ (sym (r .read-at .ensures) ∙ k .enum-told .given .1))))))  -- returns-2

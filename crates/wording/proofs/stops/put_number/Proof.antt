@@ -4,12 +4,6 @@ use Rattle.wording.proofs.Pieces.{put-then, put-one}
 use Rattle.wording.proofs.stops.put_number.Statement.{statement}
 use Rattle.wording.proofs.stops.put_number.Tie as tie
 
-returns : tie.Need-returns
-returns c =
-    let p2 = c .before .before in
-    let p1 = p2 .before .before .before .before in
-    put-then (p1 .put-text .ensures) (put-one (p2 .put-decimal .ensures))
-
 pub put-number-spec : {M : Type 1} → statement M
 put-number-spec =
     tie.close
@@ -17,4 +11,4 @@ put-number-spec =
     (λ c κs. search needs)
     (λ c κs. search needs)
     (λ c. search needs)
-    returns)
+    (λ c. let p = c .before .before in put-then (p .before .before .before .before .put-text .ensures) (put-one (p .put-decimal .ensures))))  -- returns

@@ -1,41 +1,23 @@
--- Its pieces, one after another; settings or another kind.
+-- Settings, or another kind.
 use mathlib.Core.Path.{sym, _∙_}
+use Rattle.wording.specs.Rows.{pieceAt, piecesFrom}
 use borrow.Author.Needs.{needs}
-use Rattle.wording.proofs.Pieces.{puts-then, put-one}
 use Rattle.wording.proofs.stops.put_out_of_place.Statement.{statement}
 use Rattle.wording.proofs.stops.put_out_of_place.Tie as tie
 
-returns : tie.Need-returns
-returns c =
-    let p3 = c .before .before in
-    let p2 = p3 .before .before .before .before .before in
-    let p1 = p2 .before .before .before in
-    rw (sym (p1 .before .is-settings .ensures) ∙ p1 .if1 .taken) (puts-then (p2 .put-number .ensures) (put-one (p3 .put-text .ensures)))
-
-returns-2 : tie.Need-returns-2
-returns-2 c =
-    let p4 = c .before .before in
-    let p3 = p4 .before .before .before .before .before in
-    let p2 = p3 .before .before .before .before .before in
-    let p1 = p2 .before .before .before in
-    rw (sym (p1 .before .is-settings .ensures) ∙ p1 .if1 .left) (puts-then (p2 .put-number2 .ensures) (puts-then (p3 .put-number3 .ensures) (put-one (p4 .put-text2 .ensures))))
-
 pub put-out-of-place-spec : {M : Type 1} → statement M
+unfolding pieceAt piecesFrom
 put-out-of-place-spec =
     tie.close
     (tie.spec
-    (λ c κs. search needs)
-    (λ c. search needs)
-    (λ c κs. search needs)
-    (λ c. search needs)
-    (λ c κs. search needs)
-    (λ c. search needs)
-    (λ c κs. search needs)
-    (λ c. search needs)
-    (λ c κs. search needs)
-    (λ c. search needs)
-    (λ c κs. search needs)
-    (λ c. search needs)
-    returns
-    (λ c. search needs)
-    returns-2)
+    (λ c κs. search needs)  -- is-settings-requires
+    (λ c. search needs)  -- slice-aggregate-put-line
+    (λ c. search needs)  -- slice-aggregate-put-line-2
+    (λ c κs. search needs)  -- put-line-requires
+    (λ c. search needs)  -- slice-aggregate-put-line-3
+    (λ c. search needs)  -- slice-aggregate-put-line-4
+    (λ c κs. search needs)  -- put-line-requires-2
+    (λ c. search needs)  -- same-length
+    (λ c. let p = c .before .before in let i = p .before .before .before .before in rw (sym (i .before .is-settings .ensures) ∙ i .if1 .taken) (p .put-line .ensures))  -- returns
+    (λ c. search needs)  -- same-length-2
+    (λ c. let p = c .before .before in let i = p .before .before .before .before in rw (sym (i .before .is-settings .ensures) ∙ i .if1 .left) (p .put-line2 .ensures)))  -- returns-2

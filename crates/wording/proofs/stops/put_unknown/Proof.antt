@@ -1,41 +1,23 @@
--- Its pieces, one after another; an event or no kind at all.
-use borrow.Author.Needs.{needs}
+-- No kind at all, or an event.
 use borrow.Author.Tests.{eq-eqb, ne-eqb}
-use Rattle.wording.proofs.Pieces.{put-then, puts-then, put-one}
+use Rattle.wording.specs.Rows.{pieceAt, piecesFrom}
+use borrow.Author.Needs.{needs}
 use Rattle.wording.proofs.stops.put_unknown.Statement.{statement}
 use Rattle.wording.proofs.stops.put_unknown.Tie as tie
 
-returns : tie.Need-returns
-returns c =
-    let p4 = c .before in
-    let p3 = p4 .before .before .before in
-    let p2 = p3 .before .before .before .before .before in
-    let p1 = p2 .before .before .before .before in
-    rw (← (p4 .length-of .ensures), eq-eqb _ _ (c .if1 .taken)) (put-then (p1 .put-text .ensures) (put-then (p2 .put-hex .ensures) (p3 .put-number .ensures)))
-
-returns-2 : tie.Need-returns-2
-returns-2 c =
-    let p6 = c .before .before in
-    let p5 = p6 .before .before .before in
-    let p4 = p5 .before in
-    let p3 = p4 .before .before .before in
-    let p2 = p3 .before .before .before .before .before in
-    let p1 = p2 .before .before .before .before in
-    rw (← (p4 .length-of .ensures), ne-eqb _ _ (p5 .if1 .left)) (put-then (p1 .put-text .ensures) (put-then (p2 .put-hex .ensures) (puts-then (p3 .put-number .ensures) (put-one (p6 .put-text2 .ensures)))))
-
 pub put-unknown-spec : {M : Type 1} → statement M
+unfolding pieceAt piecesFrom
 put-unknown-spec =
     tie.close
     (tie.spec
-    (λ c. search needs)
-    (λ c κs. search needs)
-    (λ c κs. search needs)
-    (λ c. search needs)
-    (λ c κs. search needs)
-    (λ c κs. search needs)
-    (λ c. search needs)
-    (λ c κs. search needs)
-    (λ c. search needs)
-    returns
-    (λ c. search needs)
-    returns-2)
+    (λ c κs. search needs)  -- length-of-requires
+    (λ c. search needs)  -- slice-aggregate-put-line
+    (λ c. search needs)  -- slice-aggregate-put-line-2
+    (λ c κs. search needs)  -- put-line-requires
+    (λ c. search needs)  -- slice-aggregate-put-line-3
+    (λ c. search needs)  -- slice-aggregate-put-line-4
+    (λ c κs. search needs)  -- put-line-requires-2
+    (λ c. search needs)  -- same-length
+    (λ c. let p = c .before .before in let i = p .before .before .before .before in rw (← (i .before .length-of .ensures), eq-eqb _ _ (i .if1 .taken)) (p .put-line .ensures))  -- returns
+    (λ c. search needs)  -- same-length-2
+    (λ c. let p = c .before .before in let i = p .before .before .before .before in rw (← (i .before .length-of .ensures), ne-eqb _ _ (i .if1 .left)) (p .put-line2 .ensures)))  -- returns-2

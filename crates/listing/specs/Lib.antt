@@ -1,2 +1,0 @@
--- The names that are shown for answers and refusals.
-pub mod Names
