@@ -24,7 +24,7 @@ use Rattle.probe.specs.declared.Meeting.{Meeting}
 use Rattle.probe.specs.declared.Meeting.the-variants.{Met as MetWay, Taken, Busy, Held}
 use Rattle.probe.specs.declared.Decision.{Decision}
 use Rattle.probe.specs.Decided.{placeFor, backsOf}
-use Rattle.access.specs.Plan.{Met, InUse, entryIndex, ticketsAt, joining, starting, courseOf}
+use Rattle.access.specs.Plan.{Met, entryIndex, ticketsAt, joining, starting, courseOf}
 use Rattle.access.specs.Written.{sectorsFor, queuesOf}
 use Rattle.access.specs.declared.course.Course.{Course}
 use Rattle.access.specs.declared.course.Course.the-variants.{Refused, Stays}
@@ -88,17 +88,9 @@ module _ (S : Settings) {L : Lent} (x : Access) (d : Decision) (t : Tables) (p :
 
   -- ---- the course
 
-  module _ {q n : ℕ} (counted : InUse S t x d q) (asked : n ≡ one (isRead x && isMiss (d .answer)) + one (d .backs)) where
-    needed : n ≡ placesNeeded x p
-    needed = asked ∙ sym needed-is
-
-    -- where no place is needed both fail: the tables have no more entries than the queue has places
+  module _ {q n : ℕ} (counted : q ≡ length (t .queue)) (asked : n ≡ one (isRead x && isMiss (d .answer)) + one (d .backs)) where
     same-test : ltb (S .queue) (length (t .queue) + placesNeeded x p) ≡ ltb (S .queue) (q + n)
-    same-test = rw (← needed) (go n (λ h. counted .all (rw (← queues-count x d) at (rw asked at h))))
-      where
-        go : (n : ℕ) → (1 ≤ n → q ≡ length (t .queue)) → ltb (S .queue) (length (t .queue) + n) ≡ ltb (S .queue) (q + n)
-        go zero u = le-ltb (S .queue) (length (t .queue) + 0) (omega (arith, few-queued)) ∙ sym (le-ltb (S .queue) (q + 0) (omega (arith, counted .most)))
-        go (suc k) u = ap (λ (l : ℕ). ltb (S .queue) (l + suc k)) (sym (u (omega arith)))
+    same-test = rw (counted, asked, needed-is)
 
     pub course-full : S .queue < q + n → Refused QueueFull ≡ courseOf S x p t
     course-full h = rw (same-test, answer-is, lt-ltb (S .queue) (q + n) h)

@@ -25,7 +25,7 @@ use Rattle.layout.specs.declared.Layout.{Layout}
 use Rattle.layout.specs.Layout.{Placed}
 use Rattle.tables.specs.Telling.{telling}
 use Rattle.probe.specs.declared.Decision.{Decision}
-use Rattle.access.specs.Plan.{Met, Acts, InUse}
+use Rattle.access.specs.Plan.{Met, Acts}
 use Rattle.access.specs.Written.{sectorsFor, sectorsAfter, queuesOf, tellingOf, lineLeft, lineTaken, treesWritten, setTurned}
 use Rattle.access.specs.declared.course.Course.the-variants.{Stays}
 use Rattle.access.proofs.Courses.{few-queued, course-hit}
@@ -60,14 +60,11 @@ module _ (S : Settings) {longs words marks : List ℕ} (x : Access) (d : Decisio
   tells : telling (Answered Hit (d .line)) ≡ tellingOf x d
   tells = rw (reads, hit, quiet)
 
-  counted : InUse S t x d (length (t .queue))
-  counted = record { most = few-queued S x d t p m; all = λ some. refl }
-
   acts : Acts S (lent longs words marks) x d (length (t .queue)) Stays t p
   acts = record {
     met = m;
-    counted = counted;
-    planned = course-hit S x d t p m counted none-needed (omega (arith, few-queued S x d t p m)) reads (ap isMerge hit) (ap isMiss hit);
+    counted = refl;
+    planned = course-hit S x d t p m refl none-needed (omega (arith, few-queued S x d t p m)) reads (ap isMerge hit) (ap isMiss hit);
     going = refl;
   }
 

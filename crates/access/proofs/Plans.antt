@@ -34,9 +34,7 @@ use Rattle.layout.specs.Places.{First}
 use Rattle.layout.proofs.ByBlocks.{is-stands}
 use Rattle.tables.proofs.Queue.{queue-used}
 use Rattle.tables.proofs.Misses.{misses-used, count-at, entry-found, entry-missing}
-use Rattle.probe.specs.declared.Decision.{Decision}
-use Rattle.access.specs.Plan.{InUse, entryIndex, ticketsAt, joining, starting, courseOf, following}
-use Rattle.access.specs.Written.{queuesOf}
+use Rattle.access.specs.Plan.{entryIndex, ticketsAt, joining, starting, courseOf, following}
 use Rattle.access.specs.declared.course.Course.{Course}
 use Rattle.access.specs.declared.course.Course.the-variants.{Refused, Stays, Joins, Starts}
 
@@ -147,8 +145,8 @@ module _ (S : Settings) {longs words marks : List ℕ} (t : Tables) (is : Encode
   few : length (t .misses) ≤ S .misses
   few = leb-true (length (t .misses)) (S .misses) (ok .few)
 
-  pub queue-in-use : (x : Access) (d : Decision) {k n : ℕ} → k ≡ length (queuesOf x d) → (n ≤ S .queue) × (1 ≤ k → First marks (place .kinds) (S .queue) 0 n) → InUse S t x d n
-  queue-in-use x d e w = record { most = w .0; all = λ some. queue-used S t (is-stands is) p (leb-true (length (t .queue)) (S .queue) (ok .short)) (w .1 (rw e some)) }
+  pub queue-counted : {n : ℕ} → First marks (place .kinds) (S .queue) 0 n → n ≡ length (t .queue)
+  queue-counted f = queue-used S t (is-stands is) p (leb-true (length (t .queue)) (S .queue) (ok .short)) f
 
   some-tickets : (k : ℕ) → k < length (t .misses) → 1 ≤ length (getD (t .misses) k noEntry .tickets)
   some-tickets k h =

@@ -85,11 +85,7 @@ module _ (S : Settings) {longs words marks : List ℕ} (x : Access) (d : Decisio
 
   -- there is room for what it queues behind the places in use
   behind : n + length (queuesOf x d) ≤ S .queue
-  behind = go (length (queuesOf x d)) (a .counted .all) (rw needs at roomy)
-    where
-      go : (k : ℕ) → (1 ≤ k → n ≡ length (t .queue)) → length (t .queue) + k ≤ S .queue → n + k ≤ S .queue
-      go zero u r = omega (arith, a .counted .most)
-      go (suc k) u r = rw (u (omega arith)) r
+  behind = rw (a .counted, ← needs) roomy
 
   pub acts-fit : Fit S longs words marks
   acts-fit = is-fit S (lent longs words marks) t (m .is)
@@ -139,7 +135,7 @@ module _ (S : Settings) {longs words marks : List ℕ} (x : Access) (d : Decisio
       let s₁ = set-turned S x d t p m pl _ refl _ s₀ line in
       let s₂ = misses-written S x d t p m pl (set (t .lines) (d .line) (newLine S x d t p m pl)) (newCount S x d t p m pl) (treesNew S x d t p m pl) L₁ L₂ s₁ c (a .planned) (a .going) misses in
       let q : L₃ ≡ queueWritten place n (queues x p) L₂ = rw (← queues-are S x d t p m) at queue in
-      let s₃ = queue-written S x d t p m pl (withMisses (onMisses x (p .answer) (t .misses)) (withTrees (treesNew S x d t p m pl) (withDirtyCount (newCount S x d t p m pl) (withLines (set (t .lines) (d .line) (newLine S x d t p m pl)) t)))) refl L₂ s₂ (λ some. a .counted .all (rw needs at some)) roomy q in
+      let s₃ = queue-written S x d t p m pl (withMisses (onMisses x (p .answer) (t .misses)) (withTrees (treesNew S x d t p m pl) (withDirtyCount (newCount S x d t p m pl) (withLines (set (t .lines) (d .line) (newLine S x d t p m pl)) t)))) refl L₂ s₂ (λ some. a .counted) roomy q in
       record {
         tells = rw (tells, queues-are S x d t p m, answer-is S x d t p m, ← m .numbered) (told-events x d);
         tidy = rw tells (told-tidy x d);

@@ -24,7 +24,6 @@ use Rattle.probe.specs.declared.Meeting.{Meeting}
 use Rattle.probe.specs.declared.Meeting.the-variants as meeting
 use Rattle.probe.specs.declared.Decision.{Decision}
 use Rattle.probe.specs.Decided.{placeIs}
-use Rattle.access.specs.Written.{queuesOf}
 use Rattle.access.specs.declared.course.Course.{Course}
 use Rattle.access.specs.declared.course.Course.the-variants.{Refused, Stays, Joins, Starts}
 
@@ -73,15 +72,7 @@ pub record Meets (S : Settings) (L : Lent) (x : Access) (d : Decision) : Type 0 
   pub spot : Spot
   pub met : Met S L x d tables spot
 
--- ---- what is known of the queue and of the miss table
-
--- n queue places are in use, where the access queues something; else n is any number of places that the queue has
-pub record InUse (S : Settings) (t : Tables) (x : Access) (d : Decision) (n : ℕ) : Type 0 where
-  pub most : n ≤ S .queue
-  pub all : 1 ≤ length (queuesOf x d) → n ≡ length (t .queue)
-
-pub record Counted (S : Settings) (L : Lent) (x : Access) (d : Decision) (n : ℕ) : Type 0 where
-  pub on : (t : Tables) → Encodes S L t → InUse S t x d n
+-- ---- what is known of the miss table
 
 -- the tables in the slices have an entry for the address
 pub record Entered (S : Settings) (L : Lent) (a : ℕ) : Type 0 where
@@ -91,9 +82,6 @@ pub record Entered (S : Settings) (L : Lent) (a : ℕ) : Type 0 where
 
 pub record Joining (S : Settings) (L : Lent) (a : ℕ) (r : Course) : Type 0 where
   pub on : (t : Tables) → Encodes S L t → any (entryFor a) (t .misses) ≡ true → r ≡ joining S (entryIndex a (t .misses)) (ticketsAt (entryIndex a (t .misses)) (t .misses))
-
-pub record Starting (S : Settings) (L : Lent) (r : Course) : Type 0 where
-  pub on : (t : Tables) → Encodes S L t → r ≡ starting S (length (t .misses))
 
 pub record Planned (S : Settings) (L : Lent) (x : Access) (d : Decision) (r : Course) : Type 0 where
   pub on : (t : Tables) (p : Spot) → Met S L x d t p → r ≡ courseOf S x p t
@@ -106,10 +94,10 @@ goes Stays = true
 goes (Joins e n) = true
 goes (Starts e) = true
 
--- the tables t, the spot p and the course are those of the access x, and n queue places are in use if it needs one
+-- the tables t, the spot p and the course are those of the access x, and n queue places are in use
 pub record Acts (S : Settings) (L : Lent) (x : Access) (d : Decision) (n : ℕ) (course : Course) (t : Tables) (p : Spot) : Type 0 where
   pub met : Met S L x d t p
-  pub counted : InUse S t x d n
+  pub counted : n ≡ length (t .queue)
   pub planned : course ≡ courseOf S x p t
   pub going : goes course ≡ true
 

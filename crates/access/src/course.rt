@@ -5,11 +5,9 @@ ghost use mathlib.Core.Bool.{true};
 ghost use Rattle.model.specs.Address.{isRead};
 ghost use Rattle.words.specs.Words.{one};
 ghost use Rattle.model.specs.Lent.{lent};
-ghost use Rattle.model.specs.Inner.{SoundSlices};
 ghost use Rattle.layout.specs.Layout.{Placed};
 ghost use Rattle.layout.specs.Places.{First};
-ghost use Rattle.access.specs.Plan.{Meets, Counted, Entered, Joining, Starting, Planned, goes, refusalIn};
-ghost use lib.ListN.{length};
+ghost use Rattle.access.specs.Plan.{Meets, Entered, Joining, starting, Planned, goes, refusalIn};
 ghost use Rattle.model.specs.Steps.{isMiss};
 use crate::asked::is_merge;
 use crate::asked::is_miss;
@@ -49,18 +47,7 @@ pub(crate) fn places_needed(a: Answer, backs: bool) -> usize
     back_needed(backs)
 }
 
-// How many queue places are in use. Asked only where some are needed, else 0.
-pub(crate) fn places_used(s: Settings, at: Layout, marks: &[u8], needed: usize) -> usize
-    requires { ⌜ at .kinds + s .queue ≤ length (now marks) ⌝ }
-    ensures { λ r. ⌜ (r ≤ s .queue) × (1 ≤ needed → First (now (marks .entry)) (at .kinds) (s .queue) 0 r) ⌝ }
-{
-    if needed == 0 {
-        return 0;
-    }
-    layout::used(marks, at.kinds, s.queue)
-}
-
-// The course of a read that merges: the entry for its address has room for one more ticket, or not.
+// The course of a read that merges: the entry for its address, one of m, has room for one more ticket, or not.
 fn join_course(
     s: Settings,
     at: Layout,
@@ -68,11 +55,11 @@ fn join_course(
     words: &[u32],
     marks: &[u8],
     address: SectorAddress,
+    m: usize,
 ) -> Course
-    requires { ⌜ Placed s at × Entered s (lent (now longs) (now words) (now marks)) (address .0) ⌝ }
+    requires { ⌜ Placed s at × Entered s (lent (now longs) (now words) (now marks)) (address .0) × First (now marks) (at .counts) (s .misses) 0 m ⌝ }
     ensures { λ r. ⌜ Joining s (lent (now (longs .entry)) (now (words .entry)) (now (marks .entry))) (address .0) r ⌝ }
 {
-    let m = layout::used(marks, at.counts, s.misses);
     let e = tables::find_entry(longs, at.misses, m, address);
     let n = marks[at.counts + e] as usize;
     if s.readers <= n {
@@ -81,19 +68,17 @@ fn join_course(
     Course::Joins { entry: e, count: n }
 }
 
-// The course of a read that needs a new entry.
-fn start_course(s: Settings, at: Layout, longs: &[u64], words: &[u32], marks: &[u8]) -> Course
-    requires { ⌜ Placed s at × SoundSlices s (lent (now longs) (now words) (now marks)) ⌝ }
-    ensures { λ r. ⌜ Starting s (lent (now (longs .entry)) (now (words .entry)) (now (marks .entry))) r ⌝ }
+// The course of a read that needs a new entry, behind m others.
+fn start_course(s: Settings, m: usize) -> Course
+    ensures { λ r. ⌜ r ≡ starting s m ⌝ }
 {
-    let m = layout::used(marks, at.counts, s.misses);
     if s.misses <= m {
         return Course::Refused(Refusal::MissTableFull);
     }
     Course::Starts(m)
 }
 
-// The course of a read whose place is decided; so many queue places are in use, where it needs one.
+// The course of a read whose place is decided; so many queue places and miss entries are in use.
 pub(crate) fn course_of(
     s: Settings,
     at: Layout,
@@ -103,8 +88,10 @@ pub(crate) fn course_of(
     x: Access,
     d: Decision,
     queued: usize,
+    missed: usize,
 ) -> Course
-    requires { ⌜ Placed s at × Meets s (lent (now longs) (now words) (now marks)) x d × Counted s (lent (now longs) (now words) (now marks)) x d queued × (isRead x ≡ true) ⌝ }
+    requires { ⌜ Placed s at × Meets s (lent (now longs) (now words) (now marks)) x d × First (now marks) (at .kinds) (s .queue) 0 queued
+        × First (now marks) (at .counts) (s .misses) 0 missed × (isRead x ≡ true) ⌝ }
     ensures { λ r. ⌜ Planned s (lent (now (longs .entry)) (now (words .entry)) (now (marks .entry))) x d r ⌝ }
 {
     let a = d.answer;
@@ -113,10 +100,10 @@ pub(crate) fn course_of(
     }
     if is_merge(a) {
         let address = SectorAddress(values::address_of(x));
-        return join_course(s, at, longs, words, marks, address);
+        return join_course(s, at, longs, words, marks, address, missed);
     }
     if is_miss(a) {
-        return start_course(s, at, longs, words, marks);
+        return start_course(s, missed);
     }
     Course::Stays
 }

@@ -14,6 +14,7 @@ ghost use Rattle.model.specs.Lent.{lent};
 ghost use Rattle.model.specs.Inner.{SoundSlices, Does};
 ghost use Rattle.model.specs.Sound.{allOnes};
 ghost use Rattle.layout.specs.Layout.{Placed};
+ghost use Rattle.layout.specs.Places.{First};
 ghost use Rattle.access.specs.Plan.{Meets, Offered, isSpot, refusalMet};
 ghost use Rattle.model.specs.Steps.{access};
 use asked::is_hit;
@@ -21,8 +22,6 @@ use asked::is_read;
 use course::back_needed;
 use course::course_of;
 use course::going;
-use course::places_needed;
-use course::places_used;
 use course::refusal_in;
 use layout::Layout;
 use model::Access;
@@ -92,8 +91,11 @@ fn offer_read(
     marks: &mut [u8],
     x: Access,
     d: Decision,
+    queued: usize,
+    missed: usize,
 ) -> Told
-    requires { ⌜ Placed s at × Meets s (lent (now longs) (now words) (now marks)) x d × (isRead x ≡ true) ⌝ }
+    requires { ⌜ Placed s at × Meets s (lent (now longs) (now words) (now marks)) x d × First (now marks) (at .kinds) (s .queue) 0 queued
+        × First (now marks) (at .counts) (s .misses) 0 missed × (isRead x ≡ true) ⌝ }
     ensures { λ r. ⌜ Offered s (lent (now (longs .entry)) (now (words .entry)) (now (marks .entry))) x d r
         (lent (now (longs .exit)) (now (words .exit)) (now (marks .exit))) ⌝ }
 {
@@ -101,9 +103,7 @@ fn offer_read(
     if is_hit(a) {
         return act_hit(s, at, words, x, d);
     }
-    let needed = places_needed(a, d.backs);
-    let queued = places_used(s, at, marks, needed);
-    let course = course_of(s, at, longs, words, marks, x, d, queued);
+    let course = course_of(s, at, longs, words, marks, x, d, queued, missed);
     if going(course) {
         return act_read(s, at, longs, words, marks, x, d, queued, course);
     }
@@ -119,14 +119,13 @@ fn offer_write(
     marks: &mut [u8],
     x: Access,
     d: Decision,
+    queued: usize,
 ) -> Told
-    requires { ⌜ Placed s at × Meets s (lent (now longs) (now words) (now marks)) x d × (isRead x ≡ false) ⌝ }
+    requires { ⌜ Placed s at × Meets s (lent (now longs) (now words) (now marks)) x d × First (now marks) (at .kinds) (s .queue) 0 queued × (isRead x ≡ false) ⌝ }
     ensures { λ r. ⌜ Offered s (lent (now (longs .entry)) (now (words .entry)) (now (marks .entry))) x d r
         (lent (now (longs .exit)) (now (words .exit)) (now (marks .exit))) ⌝ }
 {
-    let needed = back_needed(d.backs);
-    let queued = places_used(s, at, marks, needed);
-    if s.queue < queued + needed {
+    if s.queue < queued + back_needed(d.backs) {
         return tables::refused(Refusal::QueueFull);
     }
     act_write(s, at, longs, words, marks, x, d, queued)
@@ -141,18 +140,48 @@ fn offer(
     marks: &mut [u8],
     x: Access,
     d: Decision,
+    queued: usize,
+    missed: usize,
 ) -> Told
-    requires { ⌜ Placed s at × Meets s (lent (now longs) (now words) (now marks)) x d ⌝ }
+    requires { ⌜ Placed s at × Meets s (lent (now longs) (now words) (now marks)) x d × First (now marks) (at .kinds) (s .queue) 0 queued
+        × First (now marks) (at .counts) (s .misses) 0 missed ⌝ }
     ensures { λ r. ⌜ Offered s (lent (now (longs .entry)) (now (words .entry)) (now (marks .entry))) x d r
         (lent (now (longs .exit)) (now (words .exit)) (now (marks .exit))) ⌝ }
 {
     if is_read(x) {
-        return offer_read(s, at, longs, words, marks, x, d);
+        return offer_read(s, at, longs, words, marks, x, d, queued, missed);
     }
-    offer_write(s, at, longs, words, marks, x, d)
+    offer_write(s, at, longs, words, marks, x, d, queued)
 }
 
-// An access on sound tables.
+// An access on sound tables, of whose queue and miss table so many places are in use.
+pub fn access_counted(
+    s: Settings,
+    at: Layout,
+    longs: &mut [u64],
+    words: &mut [u32],
+    marks: &mut [u8],
+    x: Access,
+    queued: usize,
+    missed: usize,
+) -> Told
+    requires { ⌜ Placed s at × SoundSlices s (lent (now longs) (now words) (now marks)) × First (now marks) (at .kinds) (s .queue) 0 queued
+        × First (now marks) (at .counts) (s .misses) 0 missed ⌝ }
+    ensures { λ r. ⌜ Does s (access s x) (lent (now (longs .entry)) (now (words .entry)) (now (marks .entry))) r
+        (lent (now (longs .exit)) (now (words .exit)) (now (marks .exit))) ⌝ }
+{
+    if !well_formed(x) {
+        return tables::refused(Refusal::BadAccess);
+    }
+    let d = probe::decide(s, at, longs, words, marks, x);
+    let m = d.meeting;
+    if spotted(m) {
+        return offer(s, at, longs, words, marks, x, d, queued, missed);
+    }
+    tables::refused(refusal_met(m))
+}
+
+// The same, for a caller that doesn't know how many there are.
 pub fn access_step(
     s: Settings,
     at: Layout,
@@ -165,13 +194,7 @@ pub fn access_step(
     ensures { λ r. ⌜ Does s (access s x) (lent (now (longs .entry)) (now (words .entry)) (now (marks .entry))) r
         (lent (now (longs .exit)) (now (words .exit)) (now (marks .exit))) ⌝ }
 {
-    if !well_formed(x) {
-        return tables::refused(Refusal::BadAccess);
-    }
-    let d = probe::decide(s, at, longs, words, marks, x);
-    let m = d.meeting;
-    if spotted(m) {
-        return offer(s, at, longs, words, marks, x, d);
-    }
-    tables::refused(refusal_met(m))
+    let queued = layout::used(marks, at.kinds, s.queue);
+    let missed = layout::used(marks, at.counts, s.misses);
+    access_counted(s, at, longs, words, marks, x, queued, missed)
 }

@@ -3,6 +3,7 @@ pub mod Running
 pub mod Checks
 pub mod Acting
 pub mod Singles
+pub mod Counts
 pub mod Turns
 pub mod First
 pub mod Parts

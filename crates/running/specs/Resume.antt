@@ -15,12 +15,16 @@ use Rattle.model.specs.Inner.{Encodes}
 use Rattle.model.specs.declared.Settings.{Settings}
 use Rattle.model.specs.declared.Access.{Access}
 use Rattle.model.specs.declared.Access.the-variants.{Read, Write}
+use Rattle.model.specs.declared.Event.{Event}
+use Rattle.model.specs.declared.Event.the-variants.{Answered, Refused, ReadQueued, WriteBackQueued, Released, ReadSent, WriteBackSent, Filled, Ticked}
 use Rattle.model.specs.declared.Record.{Record}
 use Rattle.model.specs.declared.Record.the-variants.{Whole, Stopped}
 use Rattle.model.specs.declared.Stop.{Stop}
 use Rattle.model.specs.declared.Stop.the-variants.{OutOfPlace, UnknownKind}
 use Rattle.model.specs.declared.Stop.the-variants as stop
 use Rattle.model.specs.declared.Ran.{Ran}
+use Rattle.layout.specs.declared.Layout.{Layout}
+use Rattle.layout.specs.Places.{First}
 
 -- the kind of the record at a place of a stream, and the bytes behind that
 abbrev pub kindAt : List ℕ → ℕ → ℕ
@@ -79,3 +83,22 @@ pub record Resumes (S : Settings) (o : Tables → Result Tables) (s : List ℕ) 
   pub on : (t : Tables) → Encodes S L t → Runs (ahead at (take out e) (lentResult S (o t))) e r f M
   pub keeps : (t : Tables) → Encodes S L t → Encodes S M (o t .tables)
   pub stands : RunAt s (r .consumed) (r .written) f
+
+-- ---- what is in use
+
+-- so many queue places and miss entries, in the marks
+pub record Counted (S : Settings) (at : Layout) (marks : List ℕ) (q m : ℕ) : Type 0 where
+  pub queue : First marks (at .kinds) (S .queue) 0 q
+  pub misses : First marks (at .counts) (S .misses) 0 m
+
+-- of n miss entries, those that a fill leaves which tells this event first
+abbrev pub entriesLeft : Event → ℕ → ℕ
+entriesLeft (Filled a) n = n - 1
+entriesLeft (Answered a line) n = n
+entriesLeft (Refused r) n = n
+entriesLeft (ReadQueued a) n = n
+entriesLeft (WriteBackQueued b m0 m1 m2 m3) n = n
+entriesLeft (Released t) n = n
+entriesLeft (ReadSent a) n = n
+entriesLeft (WriteBackSent b m0 m1 m2 m3) n = n
+entriesLeft Ticked n = n

@@ -116,7 +116,8 @@ pub(crate) fn later_stop(kind: u8, found: Record, room: usize) -> Stop
 }
 
 // The records from byte `start` on, at fixed settings and on sound tables; events go behind the first `first` bytes. The layout is the
-// caller's, computed once for all of them.
+// caller's, computed once for all of them; how many queue places and miss entries are in use is found once, and then follows from what
+// each record tells.
 pub fn run_records(
     s: Settings,
     laid: Layout,
@@ -135,14 +136,31 @@ pub fn run_records(
         (lent (now (longs .entry)) (now (words .entry)) (now (marks .entry))) r
         (now (events .exit)) (lent (now (longs .exit)) (now (words .exit)) (now (marks .exit))) ⌝ }
 {
+    let mut queued = layout::used(marks, laid.kinds, s.queue);
+    let mut missed = layout::used(marks, laid.counts, s.misses);
     let mut at = start;
     let mut out = first;
     while at < stream.len() {
-        let ran = run_one(s, laid, stream, at, events, out, longs, words, marks);
+        let went = run_one(
+            s,
+            laid,
+            stream,
+            at,
+            events,
+            out,
+            queued,
+            missed,
+            longs,
+            words,
+            marks,
+        );
+        let ran = went.ran;
         let stop = ran.stop;
         if !goes_on(stop) {
             return ran;
         }
+        queued = went.queued;
+        missed = went.missed;
         at = ran.consumed;
         out = ran.written;
     }

@@ -5,20 +5,31 @@ use crate::goes_on;
 use crate::later_stop;
 use layout::Layout;
 use model::Access;
+use model::Event;
 use model::Ran;
 use model::Settings;
 use model::Stop;
 ghost use mathlib.Core.Path.{_≡_};
-ghost use Prim.Native.Nat.{_+_, _≤_, _<_};
+ghost use Prim.Native.Nat.{_+_, _-_, _≤_, _<_};
+ghost use mathlib.Core.Bool.{_&&_};
+ghost use lib.Dec.{ltb};
+ghost use Rattle.words.specs.Words.{one};
 ghost use lib.ListN.{length, take};
-ghost use Rattle.model.specs.Address.{maskOf};
+ghost use Rattle.model.specs.Address.{isRead, maskOf};
 ghost use Rattle.model.specs.Lent.{lent};
 ghost use Rattle.model.specs.Sound.{allOnes};
 ghost use Rattle.model.specs.Inner.{SoundSlices};
 ghost use Rattle.model.specs.Records.{lengthOf};
 ghost use Rattle.model.specs.Runner.{laterStop};
 ghost use Rattle.layout.specs.Layout.{Placed};
-ghost use Rattle.running.specs.Resume.{kindAt, restAt, accessIn, RunAt, Ready, recordFrom, Resumes};
+ghost use Rattle.running.specs.Resume.{kindAt, restAt, accessIn, RunAt, Ready, recordFrom, Resumes, Counted, entriesLeft};
+
+// What a record leaves: how far the run is, and how many queue places and miss entries are in use.
+pub struct Went {
+    pub ran: Ran,
+    pub queued: usize,
+    pub missed: usize,
+}
 
 // The kinds of the commands that are steps: the first two are accesses.
 const READ: u8 = 1;
@@ -70,6 +81,41 @@ fn access_at(stream: &[u8], at: usize) -> Access
     }
 }
 
+// How many miss entries an access makes that queues so many: a read that queues makes one.
+fn fetched(x: Access, queues: usize) -> usize
+    ensures { λ r. ⌜ (r ≡ one (isRead x && ltb 0 queues)) × (r ≤ 1) ⌝ }
+{
+    match x {
+        Access::Read {
+            address: _,
+            mask: _,
+            ticket: _,
+        } => { if 0 < queues { 1 } else { 0 } }
+        Access::Write {
+            address: _,
+            mask: _,
+            ticket: _,
+        } => 0,
+    }
+}
+
+// One fewer, where there is one.
+fn one_less(n: usize) -> usize
+    ensures { λ r. ⌜ r ≡ n - 1 ⌝ }
+{
+    if n == 0 { 0 } else { n - 1 }
+}
+
+// How many of n miss entries a fill leaves that begins with this event.
+fn left_after(first: Event, n: usize) -> usize
+    ensures { λ r. ⌜ r ≡ entriesLeft first n ⌝ }
+{
+    match first {
+        Event::Filled(_) => one_less(n),
+        _ => n,
+    }
+}
+
 // A read or a write.
 fn access_record(
     s: Settings,
@@ -78,24 +124,32 @@ fn access_record(
     at: usize,
     events: &mut [u8],
     out: usize,
+    queued: usize,
+    missed: usize,
     longs: &mut [u64],
     words: &mut [u32],
     marks: &mut [u8],
-) -> Ran
-    requires { ⌜ Placed s laid × SoundSlices s (lent (now longs) (now words) (now marks)) ⌝ }
+) -> Went
+    requires { ⌜ Placed s laid × SoundSlices s (lent (now longs) (now words) (now marks)) × Counted s laid (now marks) queued missed ⌝ }
     requires { ⌜ Ready (now stream) at out (now events) × (kindAt (now stream) at ≤ 2) ⌝ }
     ensures { λ r. ⌜ Resumes s (recordFrom s (now (stream .entry)) at out (now (events .entry)))
         (now (stream .entry)) at out (now (events .entry))
-        (lent (now (longs .entry)) (now (words .entry)) (now (marks .entry))) r
+        (lent (now (longs .entry)) (now (words .entry)) (now (marks .entry))) (r .ran)
         (now (events .exit)) (lent (now (longs .exit)) (now (words .exit)) (now (marks .exit))) ⌝ }
+    ensures { λ r. ⌜ Counted s laid (now (marks .exit)) (r .queued) (r .missed) ⌝ }
 {
     let x = access_at(stream, at);
-    let told = access::access_step(s, laid, longs, words, marks, x);
+    let told = access::access_counted(s, laid, longs, words, marks, x, queued, missed);
     let written = records::put_access(told, events, out);
-    Ran {
+    let ran = Ran {
         stop: Stop::Nothing,
         consumed: at + records::LONGEST,
         written,
+    };
+    Went {
+        ran,
+        queued: queued + told.queues,
+        missed: missed + fetched(x, told.queues),
     }
 }
 
@@ -106,23 +160,31 @@ fn send_record(
     at: usize,
     events: &mut [u8],
     out: usize,
+    queued: usize,
+    missed: usize,
     longs: &mut [u64],
     words: &mut [u32],
     marks: &mut [u8],
-) -> Ran
-    requires { ⌜ Placed s laid × SoundSlices s (lent (now longs) (now words) (now marks)) ⌝ }
+) -> Went
+    requires { ⌜ Placed s laid × SoundSlices s (lent (now longs) (now words) (now marks)) × Counted s laid (now marks) queued missed ⌝ }
     requires { ⌜ Ready (now stream) at out (now events) × (kindAt (now stream) at ≡ 3) ⌝ }
     ensures { λ r. ⌜ Resumes s (recordFrom s (now (stream .entry)) at out (now (events .entry)))
         (now (stream .entry)) at out (now (events .entry))
-        (lent (now (longs .entry)) (now (words .entry)) (now (marks .entry))) r
+        (lent (now (longs .entry)) (now (words .entry)) (now (marks .entry))) (r .ran)
         (now (events .exit)) (lent (now (longs .exit)) (now (words .exit)) (now (marks .exit))) ⌝ }
+    ensures { λ r. ⌜ Counted s laid (now (marks .exit)) (r .queued) (r .missed) ⌝ }
 {
-    let told = steps::send_step(s, laid, longs, words, marks);
+    let told = steps::send_counted(s, laid, longs, words, marks, queued);
     let written = records::put_sent(told, events, out);
-    Ran {
+    let ran = Ran {
         stop: Stop::Nothing,
         consumed: at + 1,
         written,
+    };
+    Went {
+        ran,
+        queued: one_less(queued),
+        missed: missed,
     }
 }
 
@@ -133,51 +195,70 @@ fn fill_record(
     at: usize,
     events: &mut [u8],
     out: usize,
+    queued: usize,
+    missed: usize,
     longs: &mut [u64],
     words: &mut [u32],
     marks: &mut [u8],
-) -> Ran
-    requires { ⌜ Placed s laid × SoundSlices s (lent (now longs) (now words) (now marks)) ⌝ }
+) -> Went
+    requires { ⌜ Placed s laid × SoundSlices s (lent (now longs) (now words) (now marks)) × Counted s laid (now marks) queued missed ⌝ }
     requires { ⌜ Ready (now stream) at out (now events) × (kindAt (now stream) at ≡ 4) ⌝ }
     ensures { λ r. ⌜ Resumes s (recordFrom s (now (stream .entry)) at out (now (events .entry)))
         (now (stream .entry)) at out (now (events .entry))
-        (lent (now (longs .entry)) (now (words .entry)) (now (marks .entry))) r
+        (lent (now (longs .entry)) (now (words .entry)) (now (marks .entry))) (r .ran)
         (now (events .exit)) (lent (now (longs .exit)) (now (words .exit)) (now (marks .exit))) ⌝ }
+    ensures { λ r. ⌜ Counted s laid (now (marks .exit)) (r .queued) (r .missed) ⌝ }
 {
     let body = records::body_of(stream, at, FILL);
-    let told = steps::fill_step(s, laid, longs, words, marks, records::number8(body, 0));
+    let address = records::number8(body, 0);
+    let told = steps::fill_counted(s, laid, longs, words, marks, missed, address);
+    let first = told.first;
     let written = records::put_filled(told, events, out);
-    Ran {
+    let ran = Ran {
         stop: Stop::Nothing,
         consumed: at + 1 + body.len(),
         written,
+    };
+    Went {
+        ran,
+        queued: queued,
+        missed: left_after(first, missed),
     }
 }
 
 fn tick_record(
     s: Settings,
+    laid: Layout,
     stream: &[u8],
     at: usize,
     events: &mut [u8],
     out: usize,
+    queued: usize,
+    missed: usize,
     longs: &mut [u64],
     words: &mut [u32],
     marks: &mut [u8],
-) -> Ran
-    requires { ⌜ SoundSlices s (lent (now longs) (now words) (now marks)) ⌝ }
+) -> Went
+    requires { ⌜ SoundSlices s (lent (now longs) (now words) (now marks)) × Counted s laid (now marks) queued missed ⌝ }
     requires { ⌜ Ready (now stream) at out (now events) × (kindAt (now stream) at ≡ 5) ⌝ }
     ensures { λ r. ⌜ Resumes s (recordFrom s (now (stream .entry)) at out (now (events .entry)))
         (now (stream .entry)) at out (now (events .entry))
-        (lent (now (longs .entry)) (now (words .entry)) (now (marks .entry))) r
+        (lent (now (longs .entry)) (now (words .entry)) (now (marks .entry))) (r .ran)
         (now (events .exit)) (lent (now (longs .exit)) (now (words .exit)) (now (marks .exit))) ⌝ }
+    ensures { λ r. ⌜ Counted s laid (now (marks .exit)) (r .queued) (r .missed) ⌝ }
 {
     let body = records::body_of(stream, at, TICK);
     let told = steps::tick_step(s, longs, words, marks, records::number4(body, 0));
     let written = records::put_ticked(told, events, out);
-    Ran {
+    let ran = Ran {
         stop: Stop::Nothing,
         consumed: at + 1 + body.len(),
         written,
+    };
+    Went {
+        ran,
+        queued: queued,
+        missed: missed,
     }
 }
 
@@ -189,28 +270,79 @@ fn step_record(
     at: usize,
     events: &mut [u8],
     out: usize,
+    queued: usize,
+    missed: usize,
     longs: &mut [u64],
     words: &mut [u32],
     marks: &mut [u8],
-) -> Ran
-    requires { ⌜ Placed s laid × SoundSlices s (lent (now longs) (now words) (now marks)) ⌝ }
+) -> Went
+    requires { ⌜ Placed s laid × SoundSlices s (lent (now longs) (now words) (now marks)) × Counted s laid (now marks) queued missed ⌝ }
     requires { ⌜ Ready (now stream) at out (now events) ⌝ }
     ensures { λ r. ⌜ Resumes s (recordFrom s (now (stream .entry)) at out (now (events .entry)))
         (now (stream .entry)) at out (now (events .entry))
-        (lent (now (longs .entry)) (now (words .entry)) (now (marks .entry))) r
+        (lent (now (longs .entry)) (now (words .entry)) (now (marks .entry))) (r .ran)
         (now (events .exit)) (lent (now (longs .exit)) (now (words .exit)) (now (marks .exit))) ⌝ }
+    ensures { λ r. ⌜ Counted s laid (now (marks .exit)) (r .queued) (r .missed) ⌝ }
 {
     let kind = stream[at];
     if kind <= WRITE {
-        return access_record(s, laid, stream, at, events, out, longs, words, marks);
+        return access_record(
+            s,
+            laid,
+            stream,
+            at,
+            events,
+            out,
+            queued,
+            missed,
+            longs,
+            words,
+            marks,
+        );
     }
     if kind == SEND {
-        return send_record(s, laid, stream, at, events, out, longs, words, marks);
+        return send_record(
+            s,
+            laid,
+            stream,
+            at,
+            events,
+            out,
+            queued,
+            missed,
+            longs,
+            words,
+            marks,
+        );
     }
     if kind == FILL {
-        return fill_record(s, laid, stream, at, events, out, longs, words, marks);
+        return fill_record(
+            s,
+            laid,
+            stream,
+            at,
+            events,
+            out,
+            queued,
+            missed,
+            longs,
+            words,
+            marks,
+        );
     }
-    tick_record(s, stream, at, events, out, longs, words, marks)
+    tick_record(
+        s,
+        laid,
+        stream,
+        at,
+        events,
+        out,
+        queued,
+        missed,
+        longs,
+        words,
+        marks,
+    )
 }
 
 // One record, at byte `at`: every check, then its step, then its events behind the `out` bytes that are written.
@@ -221,25 +353,45 @@ pub(crate) fn run_one(
     at: usize,
     events: &mut [u8],
     out: usize,
+    queued: usize,
+    missed: usize,
     longs: &mut [u64],
     words: &mut [u32],
     marks: &mut [u8],
-) -> Ran
-    requires { ⌜ Placed s laid × SoundSlices s (lent (now longs) (now words) (now marks)) ⌝ }
+) -> Went
+    requires { ⌜ Placed s laid × SoundSlices s (lent (now longs) (now words) (now marks)) × Counted s laid (now marks) queued missed ⌝ }
     requires { ⌜ RunAt (now stream) at out (now events) ⌝ }
     requires { ⌜ at < length (now stream) ⌝ }
     ensures { λ r. ⌜ Resumes s (recordFrom s (now (stream .entry)) at out (now (events .entry)))
         (now (stream .entry)) at out (now (events .entry))
-        (lent (now (longs .entry)) (now (words .entry)) (now (marks .entry))) r
+        (lent (now (longs .entry)) (now (words .entry)) (now (marks .entry))) (r .ran)
         (now (events .exit)) (lent (now (longs .exit)) (now (words .exit)) (now (marks .exit))) ⌝ }
+    ensures { λ r. ⌜ Counted s laid (now (marks .exit)) (r .queued) (r .missed) ⌝ }
 {
     let stop = stop_at(stream, at, events.len() - out);
     if !goes_on(stop) {
-        return Ran {
+        let ran = Ran {
             stop,
             consumed: at,
             written: out,
         };
+        return Went {
+            ran,
+            queued,
+            missed,
+        };
     }
-    step_record(s, laid, stream, at, events, out, longs, words, marks)
+    step_record(
+        s,
+        laid,
+        stream,
+        at,
+        events,
+        out,
+        queued,
+        missed,
+        longs,
+        words,
+        marks,
+    )
 }

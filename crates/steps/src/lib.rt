@@ -21,6 +21,7 @@ ghost use Rattle.model.specs.Lent.{lent};
 ghost use Rattle.model.specs.Steps.{send, arrived, fill, tick};
 ghost use Rattle.model.specs.Inner.{Fit, SoundSlices, Does};
 ghost use Rattle.layout.specs.Layout.{Placed};
+ghost use Rattle.layout.specs.Places.{First};
 ghost use Rattle.layout.specs.Sectors.{SectorRoom};
 ghost use Rattle.tables.specs.Raw.{holdsAt};
 ghost use Rattle.steps.specs.Parts.{HeadAsked, HeadMarked, Holding, SectorFilled, LineFilled, releasing, CountFits};
@@ -42,7 +43,29 @@ fn mark_head(at: Layout, longs: &[u64], marks: &mut [u8], n: usize)
     }
 }
 
-// Takes the queue head; a read marks its entry sent.
+// Takes the queue head of the n entries; a read marks its entry sent.
+pub fn send_counted(
+    s: Settings,
+    at: Layout,
+    longs: &mut [u64],
+    words: &mut [u32],
+    marks: &mut [u8],
+    n: usize,
+) -> Told
+    requires { ⌜ Placed s at × SoundSlices s (lent (now longs) (now words) (now marks)) × First (now marks) (at .kinds) (s .queue) 0 n ⌝ }
+    ensures { λ r. ⌜ Does s send (lent (now (longs .entry)) (now (words .entry)) (now (marks .entry))) r
+        (lent (now (longs .exit)) (now (words .exit)) (now (marks .exit))) ⌝ }
+{
+    if n == 0 {
+        return tables::refused(Refusal::QueueEmpty);
+    }
+    let head = tables::front(at, longs, words, marks);
+    mark_head(at, longs, marks, s.misses);
+    tables::pop(at, longs, words, marks, n);
+    tables::blank(values::sent_event(head))
+}
+
+// The same, for a caller that doesn't know how many entries there are.
 pub fn send_step(
     s: Settings,
     at: Layout,
@@ -55,13 +78,7 @@ pub fn send_step(
         (lent (now (longs .exit)) (now (words .exit)) (now (marks .exit))) ⌝ }
 {
     let n = layout::used(marks, at.kinds, s.queue);
-    if n == 0 {
-        return tables::refused(Refusal::QueueEmpty);
-    }
-    let head = tables::front(at, longs, words, marks);
-    mark_head(at, longs, marks, s.misses);
-    tables::pop(at, longs, words, marks, n);
-    tables::blank(values::sent_event(head))
+    send_counted(s, at, longs, words, marks, n)
 }
 
 // ---- fill
@@ -159,7 +176,31 @@ fn release(at: Layout, words: &[u32], marks: &[u8], e: usize, readers: usize, ad
     told
 }
 
-// Of a sent sector address: its sector arrives, its entry goes, its tickets are released in order.
+// Of a sent sector address: its sector arrives, its entry, one of n, goes, its tickets are released in order.
+pub fn fill_counted(
+    s: Settings,
+    at: Layout,
+    longs: &mut [u64],
+    words: &mut [u32],
+    marks: &mut [u8],
+    n: usize,
+    address: u64,
+) -> Told
+    requires { ⌜ Placed s at × SoundSlices s (lent (now longs) (now words) (now marks)) × First (now marks) (at .counts) (s .misses) 0 n ⌝ }
+    ensures { λ r. ⌜ Does s (fill address) (lent (now (longs .entry)) (now (words .entry)) (now (marks .entry))) r
+        (lent (now (longs .exit)) (now (words .exit)) (now (marks .exit))) ⌝ }
+{
+    let e = tables::find_entry(longs, at.misses, n, SectorAddress(address));
+    if !is_sent(at, marks, e, n) {
+        return tables::refused(Refusal::NotSent);
+    }
+    let told = release(at, words, marks, e, s.readers, address);
+    fill_line(s, at, longs, words, marks, address);
+    tables::remove(at, longs, words, marks, e, n, s.readers);
+    told
+}
+
+// The same, for a caller that doesn't know how many entries there are.
 pub fn fill_step(
     s: Settings,
     at: Layout,
@@ -173,14 +214,7 @@ pub fn fill_step(
         (lent (now (longs .exit)) (now (words .exit)) (now (marks .exit))) ⌝ }
 {
     let n = layout::used(marks, at.counts, s.misses);
-    let e = tables::find_entry(longs, at.misses, n, SectorAddress(address));
-    if !is_sent(at, marks, e, n) {
-        return tables::refused(Refusal::NotSent);
-    }
-    let told = release(at, words, marks, e, s.readers, address);
-    fill_line(s, at, longs, words, marks, address);
-    tables::remove(at, longs, words, marks, e, n, s.readers);
-    told
+    fill_counted(s, at, longs, words, marks, n, address)
 }
 
 // ---- tick

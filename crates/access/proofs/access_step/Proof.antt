@@ -1,62 +1,18 @@
-use mathlib.Core.Path.{_≡_, sym, ap, _∙_}
+-- The counts are what the searches find.
+use native.Mathlib.Omega.{arith}
 use borrow.Author.Needs.{needs}
-use Rattle.model.specs.declared.Refusal.{Refusal}
-use Rattle.model.specs.declared.Event.the-variants as event
-use Rattle.words.proofs.Flags.{not-yes, no-not}
 use Rattle.encoding.proofs.Bridge.{is-fit}
-use Rattle.tables.specs.Telling.{telling}
-use Rattle.access.proofs.Offering.{formed-refused, spot-met, access-offered, access-stops}
 use Rattle.access.proofs.access_step.Statement.{statement}
 use Rattle.access.proofs.access_step.Tie as tie
-use Rattle.access.proofs.offer.Reads as offer-reads
-use Rattle.access.proofs.refusal_met.Reads as refusal-met-reads
-use Rattle.access.proofs.spotted.Reads as spotted-reads
-use Rattle.access.proofs.well_formed.Reads as well-formed-reads
-use Rattle.probe.proofs.decide.Reads as decide-reads
-use Rattle.tables.proofs.refused.Reads as refused-reads
 
 pub access-step-spec : {M : Type 1} → statement M
 access-step-spec =
     tie.close
     (tie.spec
-    (λ c κs. search needs)
-    (λ c κs. search needs)
-    (λ c. record { on = λ t is. formed-refused _ _ _ (sym (c .before .before .well-formed .ensures .0) ∙ not-yes (c .before .if1 .taken)) (c .refused .ensures) t })
-    (λ c κs.
-    let pre = c .before .before .before .before .before .before .before .before .pre in
-    (pre .0, is-fit _ _ _ (pre .1 .are)))  -- decide-requires
-    (λ c κs. search needs)
-    (λ c κs.
-    let then = c .before .before .before in
-    let decided = then .before .before in
-    let else = decided .before .before .before .before in
-    let pre = else .before .before .before .before .before .pre in
-    let w = spot-met _ _ _ (decided .decide .ensures) (sym (else .before .well-formed .ensures .0) ∙ no-not (else .if1 .left)) (pre .1 .tables) (pre .1 .are)
-    (sym (then .before .spotted .ensures) ∙ then .if2 .taken) in
-    (pre .0, record { tables = pre .1 .tables; spot = w .0; met = w .1 }))  -- offer-requires
-    (λ c. search needs)
-    (λ c. search needs)
-    (λ c. search needs)
-    (λ c. record {
-      on = λ t is.
-          let offered = c .before .before .before .before .before .before in
-          let then = offered .before .before .before .before in
-          let decided = then .before .before in
-          let else = decided .before .before .before .before in
-          access-offered _ _ _ (decided .decide .ensures) (sym (else .before .well-formed .ensures .0) ∙ no-not (else .if1 .left)) t is
-          (sym (then .before .spotted .ensures) ∙ then .if2 .taken) (offered .offer .ensures);
-    })
-    (λ c κs. search needs)
-    (λ c κs. search needs)
-    (λ c. search needs)
-    (λ c. search needs)
-    (λ c. search needs)
-    (λ c. record {
-      on = λ t is.
-          let other = c .before .before in
-          let decided = other .before .before in
-          let else = decided .before .before .before .before in
-          access-stops _ _ _ (decided .decide .ensures) (sym (else .before .well-formed .ensures .0) ∙ no-not (else .if1 .left)) t is
-          (sym (other .before .spotted .ensures) ∙ other .if2 .left)
-          (c .refused2 .ensures ∙ ap (λ (n : Refusal). telling (event.Refused n)) (c .before .refusal-met .ensures));
-    }))
+    (λ c κs. let start = c .before .before .before .before in let f = is-fit _ _ _ (start .pre .1 .are) in let p = start .pre .0 in omega arith)  -- used-requires
+    (λ c κs. let start = c .before .before .before .before .before .before in let f = is-fit _ _ _ (start .pre .1 .are) in let p = start .pre .0 in omega arith)  -- used-requires-2
+    (λ c κs. search needs)  -- access-counted-requires
+    (λ c. search needs)  -- same-length
+    (λ c. search needs)  -- same-length-2
+    (λ c. search needs)  -- same-length-3
+    (λ c. search needs))  -- returns

@@ -1,17 +1,14 @@
-use mathlib.Core.Path.{_≡_, refl, sym, ap, _∙_}
+use mathlib.Core.Path.{_≡_, sym, ap, _∙_}
 use native.Mathlib.Omega.{arith}
-use lib.ListN.{length}
 use borrow.Author.Needs.{needs}
-use Rattle.encoding.proofs.Bridge.{is-fit}
-use Rattle.access.specs.Written.{queuesOf}
-use Rattle.access.proofs.Plans.{queue-in-use}
 use Rattle.model.specs.declared.Refusal.{Refusal}
 use Rattle.model.specs.declared.Event.the-variants as event
 use Rattle.model.specs.Address.{addressOf, setIndex}
+use Rattle.encoding.proofs.Bridge.{is-fit}
 use Rattle.model.proofs.Turning.{set-below}
 use Rattle.layout.proofs.Room.{tree-room}
 use Rattle.tables.specs.Telling.{telling}
-use Rattle.access.proofs.Courses.{read-needs, queues-count}
+use Rattle.access.proofs.Plans.{queue-counted}
 use Rattle.access.proofs.Offering.{offered-acts, offered-stops}
 use Rattle.access.proofs.Hits.{hit-offered}
 use Rattle.access.proofs.asked.is_hit.Reads as is-hit-reads
@@ -19,19 +16,10 @@ use Rattle.access.proofs.writes.act_read.Reads as act-read-reads
 use Rattle.access.proofs.writes.act_hit.Reads as act-hit-reads
 use Rattle.access.proofs.course.course_of.Reads as course-of-reads
 use Rattle.access.proofs.course.going.Reads as going-reads
-use Rattle.access.proofs.course.places_needed.Reads as places-needed-reads
-use Rattle.access.proofs.course.places_used.Reads as places-used-reads
 use Rattle.access.proofs.course.refusal_in.Reads as refusal-in-reads
 use Rattle.tables.proofs.refused.Reads as refused-reads
 use Rattle.access.proofs.offer_read.Statement.{statement}
 use Rattle.access.proofs.offer_read.Tie as tie
-
--- the places that it needs are those that it queues
-counts : (c : tie.After-places-used) → let a = c .before .before .before .before .before .before .before .before .args in c .before .before .places-needed .result ≡ length (queuesOf (a .x) (a .d))
-counts c =
-    let start = c .before .before .before .before .before .before .before .before in
-    let a = start .args in
-    read-needs (a .x) (a .d) (start .pre .2) (c .before .before .places-needed .ensures .0) ∙ sym (queues-count (a .x) (a .d))
 
 pub offer-read-spec : {M : Type 1} → statement M
 offer-read-spec =
@@ -51,20 +39,14 @@ offer-read-spec =
           let acted = c .before .before in
           let then = acted .before .before in
           let start = then .before .before .before .before .before in
-          hit-offered _ _ _ t p m (start .pre .0) (rw (start .pre .2) (sym (then .before .is-hit .ensures) ∙ then .if1 .taken)) (acted .act-hit .ensures .0) (acted .act-hit .ensures .1);
+          hit-offered _ _ _ t p m (start .pre .0) (rw (start .pre .4) (sym (then .before .is-hit .ensures) ∙ then .if1 .taken)) (acted .act-hit .ensures .0) (acted .act-hit .ensures .1);
     })  -- returns
-    (λ c κs. search needs)  -- places-needed-requires
-    (λ c κs. let start = c .before .before .before .before .before .before .before in let f = is-fit _ _ _ (start .pre .1 .met .is) in let p = start .pre .0 in omega arith)  -- places-used-requires
-    (λ c κs.
-    let used = c .before .before .before in
-    let start = used .before .before .before .before .before .before .before .before in
-    (start .pre .0, start .pre .1, record { on = λ t is. queue-in-use _ t is (start .pre .0) _ _ (counts used) (used .places-used .ensures) }, start .pre .2))  -- course-of-requires
+    (λ c κs. c .before .before .before .before .before .before .before .before .pre)  -- course-of-requires
     (λ c κs. search needs)  -- going-requires
     (λ c κs.
     let then = c .before .before .before in
     let course = then .before .before in
-    let used = course .before .before .before .before in
-    let start = used .before .before .before .before .before .before .before .before in
+    let start = course .before .before .before .before .before .before .before .before .before in
     let pre = start .pre .1 in (
       start .pre .0,
       record {
@@ -72,12 +54,12 @@ offer-read-spec =
         spot = pre .spot;
         acts = record {
           met = pre .met;
-          counted = queue-in-use _ _ (pre .met .is) (start .pre .0) _ _ (counts used) (used .places-used .ensures);
+          counted = queue-counted _ _ (pre .met .is) (start .pre .0) (start .pre .2);
           planned = course .course-of .ensures .on _ _ (pre .met);
           going = sym (then .before .going .ensures) ∙ then .if2 .taken;
         };
       },
-      start .pre .2,
+      start .pre .4,
     ))  -- act-read-requires
     (λ c. search needs)  -- same-length-2
     (λ c. search needs)  -- same-length-3
@@ -87,12 +69,11 @@ offer-read-spec =
           let acted = c .before .before .before .before .before .before in
           let then = acted .before .before .before .before in
           let course = then .before .before in
-          let used = course .before .before .before .before in
-          let start = used .before .before .before .before .before .before .before .before in
+          let start = course .before .before .before .before .before .before .before .before .before in
           let planned = course .course-of .ensures .on t p m in
           let goes = sym (then .before .going .ensures) ∙ then .if2 .taken in
           offered-acts _ _ _ t p m planned goes (acted .act-read .ensures .on t p
-          (record { met = m; counted = queue-in-use _ t (m .is) (start .pre .0) _ _ (counts used) (used .places-used .ensures); planned = planned; going = goes }));
+          (record { met = m; counted = queue-counted _ t (m .is) (start .pre .0) (start .pre .2); planned = planned; going = goes }));
     })  -- returns-2
     (λ c κs. search needs)  -- refusal-in-requires
     (λ c κs. search needs)  -- refused-requires

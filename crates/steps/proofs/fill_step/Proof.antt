@@ -1,11 +1,7 @@
--- Fill, from what its parts ensure.
-use native.Mathlib.Nat.{mul-le-mul-left, pos-of-ne-zero}
-use Rattle.steps.proofs.Filling.{count-fits, fill-refused, fill-inside, fill-count, fill-holding, fill-leaves}
-use Rattle.layout.proofs.ByBlocks.{is-stands, stands-fit}
-use Rattle.words.proofs.Places.{stride}
-use Rattle.model.proofs.SoundFacts.{parts}
+-- The count is what the search finds.
 use native.Mathlib.Omega.{arith}
 use borrow.Author.Needs.{needs}
+use Rattle.layout.proofs.ByBlocks.{is-stands, stands-fit}
 use Rattle.steps.proofs.fill_step.Statement.{statement}
 use Rattle.steps.proofs.fill_step.Tie as tie
 
@@ -16,54 +12,8 @@ fill-step-spec =
     (λ c κs.
     let start = c .before .before .before .before in
     let i = start .pre .1 .are in let z = stands-fit (i .range) (is-stands i) in let p = start .pre .0 in omega arith)  -- used-requires
-    (λ c κs.
-    let start = c .before .before .before .before .before .before in
-    let i = start .pre .1 .are in let z = stands-fit (i .range) (is-stands i) in let p = start .pre .0 in let u = c .before .used .ensures .most in omega arith)  -- find-entry-requires
-    (λ c κs.
-    let used = c .before .before .before in
-    let start = used .before .before .before .before .before in
-    let i = start .pre .1 .are in let z = stands-fit (i .range) (is-stands i) in let p = start .pre .0 in let u = used .used .ensures .most in omega arith)  -- is-sent-requires
-    (λ c κs. search needs)  -- refused-requires
+    (λ c κs. search needs)  -- fill-counted-requires
     (λ c. search needs)  -- same-length
     (λ c. search needs)  -- same-length-2
-    (λ c.
-    let sent = c .before .before in
-    let found = sent .before .before in
-    let used = found .before .before in
-    let start = used .before .before .before .before .before in
-    record { on = λ t i. fill-refused _ _ t i (start .pre .0) (used .used .ensures) (found .find-entry .ensures) (sent .is-sent .ensures) (c .before .if1 .taken) (c .refused .ensures) })  -- returns
-    (λ c κs.
-    let test = c .before .before in
-    let sent = test .before in
-    let found = sent .before .before in
-    let used = found .before .before in
-    let start = used .before .before .before .before .before in
-    let i = start .pre .1 .are in let z = stands-fit (i .range) (is-stands i) in let p = start .pre .0 in let u = used .used .ensures in let f = found .find-entry in
-    let k = fill-inside _ _ _ i p u (f .ensures) (sent .is-sent .ensures) (test .if1 .left) in let m = fill-count _ _ _ i p u (f .ensures) (sent .is-sent .ensures) (test .if1 .left) in
-    let s = stride (start .args .s .readers) (start .args .s .misses) (f .result) (omega arith) in (omega arith, pos-of-ne-zero (u .before _ k), omega arith, omega arith))  -- release-requires
-    (λ c κs.
-    let test = c .before .before .before .before .before .before in
-    let sent = test .before in
-    let found = sent .before .before in
-    let used = found .before .before in
-    let start = used .before .before .before .before .before in
-    let i = start .pre .1 .are in let z = stands-fit (i .range) (is-stands i) in let p = start .pre .0 in
-    (z, (p, (fill-holding _ _ _ i p (used .used .ensures) (found .find-entry .ensures) (sent .is-sent .ensures) (test .if1 .left) (z .ways), λ l b. count-fits _ _ (parts _ _ (i .soundly)) (is-stands i) p l b (z .lines)))))  -- fill-line-requires
-    (λ c κs. let start = c .before .before .before .before .before .before .before .before .before .before .before .before .before .before .before .before .before .before .before .before .before .before .before .before in let i = start .pre .1 .are in let z = stands-fit (i .range) (is-stands i) in let p = start .pre .0 in let u = c .before .before .before .before .before .before .before .before .before .before .before .before .before .before .before .before .before .before .before .used .ensures in let f = c .before .before .before .before .before .before .before .before .before .before .before .before .before .before .before .before .before .find-entry .ensures in
-    let k = fill-inside _ _ _ i p u f (c .before .before .before .before .before .before .before .before .before .before .before .before .before .before .before .is-sent .ensures) (c .before .before .before .before .before .before .before .before .before .before .before .before .before .before .if1 .left) in let m = mul-le-mul-left (start .args .s .readers) (u .most) in (k, omega arith, omega arith, omega arith, omega arith))  -- remove-requires
     (λ c. search needs)  -- same-length-3
-    (λ c. search needs)  -- same-length-4
-    (λ c. search needs)  -- same-length-5
-    (λ c.
-    let removed = c .before .before .before .before .before .before in
-    let filled = removed .before .before .before .before .before .before .before .before in
-    let told = filled .before .before .before .before in
-    let test = told .before .before .before in
-    let sent = test .before in
-    let found = sent .before .before in
-    let used = found .before .before in
-    let start = used .before .before .before .before .before in
-    let z = stands-fit (start .pre .1 .are .range) (is-stands (start .pre .1 .are)) in record {
-      on = λ t i. fill-leaves _ _ t i (start .pre .0) (used .used .ensures) (found .find-entry .ensures) (sent .is-sent .ensures) (test .if1 .left) (z .readers)
-          (told .release .ensures) (filled .fill-line .ensures) (removed .remove .ensures);
-    }))  -- returns-2
+    (λ c. search needs))  -- returns

@@ -1,8 +1,7 @@
--- Send, from what its parts ensure.
-use Rattle.steps.proofs.Sending.{send-empty, send-asked, send-leaves}
-use Rattle.layout.proofs.ByBlocks.{is-stands, stands-fit}
+-- The count is what the search finds.
 use native.Mathlib.Omega.{arith}
 use borrow.Author.Needs.{needs}
+use Rattle.layout.proofs.ByBlocks.{is-stands, stands-fit}
 use Rattle.steps.proofs.send_step.Statement.{statement}
 use Rattle.steps.proofs.send_step.Tie as tie
 
@@ -13,32 +12,8 @@ send-step-spec =
     (λ c κs.
     let start = c .before .before .before .before in
     let i = start .pre .1 .are in let z = stands-fit (i .range) (is-stands i) in let p = start .pre .0 in omega arith)  -- used-requires
-    (λ c κs. search needs)  -- refused-requires
+    (λ c κs. search needs)  -- send-counted-requires
     (λ c. search needs)  -- same-length
-    (λ c.
-    let used = c .before .before in
-    let start = used .before .before .before .before .before in
-    record { on = λ t i. send-empty _ t i (start .pre .0) (used .used .ensures) (c .before .if1 .taken) (c .refused .ensures) })  -- returns
-    (λ c κs.
-    let start = c .before .before .before .before .before .before .before .before .before in
-    let i = start .pre .1 .are in let z = stands-fit (i .range) (is-stands i) in let p = start .pre .0 in (omega arith, omega arith, omega arith))  -- front-requires
-    (λ c κs.
-    let test = c .before .before .before .before .before .before in
-    let used = test .before in
-    let start = used .before .before .before .before .before in
-    let i = start .pre .1 .are in let z = stands-fit (i .range) (is-stands i) in let p = start .pre .0 in ((omega arith, omega arith, omega arith, omega arith), send-asked _ _ i p (used .used .ensures) (test .if1 .left)))  -- mark-head-requires
-    (λ c κs. let i = c .before .before .before .before .before .before .before .before .before .before .before .before .before .before .before .before .before .before .pre .1 .are in let z = stands-fit (i .range) (is-stands i) in let p = c .before .before .before .before .before .before .before .before .before .before .before .before .before .before .before .before .before .before .pre .0 in let u = c .before .before .before .before .before .before .before .before .before .before .before .before .before .used .ensures .most in (omega arith, omega arith, omega arith, omega arith))  -- pop-requires
-    (λ c κs. search needs)  -- sent-event-requires
-    (λ c κs. search needs)  -- blank-requires
     (λ c. search needs)  -- same-length-2
     (λ c. search needs)  -- same-length-3
-    (λ c. search needs)  -- same-length-4
-    (λ c.
-    let event = c .before in
-    let popped = event .before .before .before .before .before .before .before in
-    let marked = popped .before .before .before .before .before .before in
-    let head = marked .before .before .before in
-    let test = head .before .before .before .before in
-    let used = test .before in
-    let start = used .before .before .before .before .before in
-    record { on = λ t i. send-leaves _ t i (start .pre .0) (used .used .ensures) (test .if1 .left) (marked .mark-head .ensures) (popped .pop .ensures) (head .front .ensures) (event .sent-event .ensures) (c .blank .ensures) }))  -- returns-2
+    (λ c. search needs))  -- returns

@@ -1,7 +1,10 @@
-use mathlib.Core.Path.{_≡_, sym, _∙_}
+use mathlib.Core.Path.{_≡_, sym, ap, _∙_}
 use native.Mathlib.Omega.{arith}
 use borrow.Author.Needs.{needs}
+use Prim.Native.Nat.{ℕ}
 use Rattle.encoding.proofs.Bridge.{is-fit}
+use Rattle.access.specs.Plan.{starting}
+use Rattle.access.proofs.Plans.{queue-counted, misses-counted}
 use Rattle.access.proofs.Courses.{read-needs, course-full, course-join, course-start, course-hit, merge-entered}
 use Rattle.access.proofs.asked.is_merge.Reads as is-merge-reads
 use Rattle.access.proofs.asked.is_miss.Reads as is-miss-reads
@@ -19,15 +22,14 @@ course-of-spec =
     (λ c κs. search needs)  -- places-needed-requires
     (λ c.
     let pre = c .before .before .before .before .pre in
-    let m = pre .1 .met in
-    let f = is-fit _ _ _ (m .is) in
-    omega (arith, pre .2 .on _ (m .is) .most, c .places-needed .ensures .1))  -- add-if1
+    let f = is-fit _ _ _ (pre .1 .met .is) in
+    omega (arith, pre .2 .most, c .places-needed .ensures .1))  -- add-if1
     (λ c. record {
       on = λ t p m.
           let needed = c .before .before in
           let start = needed .before .before .before .before in
-          let counted = start .pre .2 .on t (m .is) in
-          let asked = read-needs (start .args .x) (start .args .d) (start .pre .3) (needed .places-needed .ensures .0) in
+          let counted = queue-counted _ t (m .is) (start .pre .0) (start .pre .2) in
+          let asked = read-needs (start .args .x) (start .args .d) (start .pre .4) (needed .places-needed .ensures .0) in
           course-full _ _ _ t p m counted asked (c .if1 .taken);
     })  -- returns
     (λ c κs. search needs)  -- is-merge-requires
@@ -35,17 +37,17 @@ course-of-spec =
     (λ c κs.
     let pre = c .before .before .before .before .before .before .before .before .before .pre in
     let m = pre .1 .met in
-    (pre .0, record { tables = pre .1 .tables; is = m .is; entered = rw (c .address-of .ensures) (merge-entered _ _ _ _ _ m (sym (c .before .before .is-merge .ensures) ∙ c .before .if2 .taken)) }))  -- join-course-requires
+    (pre .0, record { tables = pre .1 .tables; is = m .is; entered = rw (c .address-of .ensures) (merge-entered _ _ _ _ _ m (sym (c .before .before .is-merge .ensures) ∙ c .before .if2 .taken)) }, pre .3))  -- join-course-requires
     (λ c. record {
       on = λ t p m.
           let addressed = c .before in
           let merged = addressed .before .before in
           let needed = c .before .before .before .before .before .before in
           let start = needed .before .before .before .before in
-          let counted = start .pre .2 .on t (m .is) in
-          let asked = read-needs (start .args .x) (start .args .d) (start .pre .3) (needed .places-needed .ensures .0) in
+          let counted = queue-counted _ t (m .is) (start .pre .0) (start .pre .2) in
+          let asked = read-needs (start .args .x) (start .args .d) (start .pre .4) (needed .places-needed .ensures .0) in
           let merges = sym (merged .is-merge .ensures) ∙ addressed .before .if2 .taken in
-          course-join _ _ _ t p m counted asked (merged .before .if1 .left) (start .pre .3) merges
+          course-join _ _ _ t p m counted asked (merged .before .if1 .left) (start .pre .4) merges
           (rw (addressed .address-of .ensures) at (c .join-course .ensures .on t (m .is) (rw (addressed .address-of .ensures) (merge-entered _ _ _ t p m merges))));
     })  -- returns-2
     (λ c κs. search needs)  -- is-miss-requires
@@ -56,11 +58,11 @@ course-of-spec =
           let merged = missed .before .before in
           let needed = c .before .before .before .before .before .before .before in
           let start = needed .before .before .before .before in
-          let counted = start .pre .2 .on t (m .is) in
-          let asked = read-needs (start .args .x) (start .args .d) (start .pre .3) (needed .places-needed .ensures .0) in
-          course-start _ _ _ t p m counted asked (merged .before .if1 .left) (start .pre .3)
+          let counted = queue-counted _ t (m .is) (start .pre .0) (start .pre .2) in
+          let asked = read-needs (start .args .x) (start .args .d) (start .pre .4) (needed .places-needed .ensures .0) in
+          course-start _ _ _ t p m counted asked (merged .before .if1 .left) (start .pre .4)
           (sym (merged .is-merge .ensures) ∙ missed .before .if2 .left) (sym (missed .is-miss .ensures) ∙ c .before .if3 .taken)
-          (c .start-course .ensures .on t (m .is));
+          (c .start-course .ensures ∙ ap (λ (n : ℕ). starting (start .args .s) n) (misses-counted _ t (m .is) (start .pre .0) (start .pre .3)));
     })  -- returns-3
     (λ c. record {
       on = λ t p m.
@@ -68,8 +70,8 @@ course-of-spec =
           let merged = missed .before .before in
           let needed = c .before .before .before .before .before .before in
           let start = needed .before .before .before .before in
-          let counted = start .pre .2 .on t (m .is) in
-          let asked = read-needs (start .args .x) (start .args .d) (start .pre .3) (needed .places-needed .ensures .0) in
-          course-hit _ _ _ t p m counted asked (merged .before .if1 .left) (start .pre .3)
+          let counted = queue-counted _ t (m .is) (start .pre .0) (start .pre .2) in
+          let asked = read-needs (start .args .x) (start .args .d) (start .pre .4) (needed .places-needed .ensures .0) in
+          course-hit _ _ _ t p m counted asked (merged .before .if1 .left) (start .pre .4)
           (sym (merged .is-merge .ensures) ∙ missed .before .if2 .left) (sym (missed .is-miss .ensures) ∙ c .if3 .left);
     }))  -- returns-4

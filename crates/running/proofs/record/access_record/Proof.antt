@@ -1,34 +1,41 @@
--- What the step leaves, its events written.
+-- What the step leaves, its events written, and what is in use then.
 use mathlib.Core.Path.{refl, sym}
 use native.Mathlib.Omega.{arith}
 use borrow.Author.Needs.{needs}
+use Rattle.encoding.proofs.Bridge.{is-fit}
 use Rattle.encoding.proofs.ToldShapes.{access-shaped}
 use Rattle.running.proofs.Singles.{ready-room}
 use Rattle.running.proofs.Acting.{access-whole, access-runs}
+use Rattle.running.proofs.Counts.{counted-access}
 use Rattle.running.proofs.record.access_record.Statement.{statement}
 use Rattle.running.proofs.record.access_record.Tie as tie
-
-returns : tie.Need-returns
-returns c =
-    let s = c .before .before .before .before .before .before .before .before .before .before .before .before .before .before .before .before .before .before .before .before in
-    let a = s .args in
-    let p = c .before .before in
-    access-runs (a .stream .now) (a .at) (a .out) (a .events .now) (s .pre .1 .0) (a .s) _ (s .pre .0 .1) _ _ _ _ (p .put-access .ensures) (p .put-access .kept .1 .0) (c .before .before .before .before .before .before .before .before .before .before .access-step .ensures) (s .pre .1 .1) (c .before .before .before .before .before .before .before .before .before .before .before .before .before .before .access-at .ensures .0) (c .before .before .before .before .before .before .before .before .before .before .before .before .before .before .access-at .ensures .1)
 
 pub access-record-spec : {M : Type 1} → statement M
 access-record-spec =
     tie.close
     (tie.spec
     (λ c κs. let s = c .before .before .before .before .before in let a = s .args in access-whole (a .stream .now) (a .at) (a .out) (a .events .now) (s .pre .1 .0) (s .pre .1 .1))  -- access-at-requires
-    (λ c κs. c .before .before .before .before .before .before .before .before .before .pre .0)  -- access-step-requires
-    -- put-access-requires
+    (λ c κs. let pre = c .before .before .before .before .before .before .before .before .before .pre .0 in (pre .0, pre .1, pre .2 .queue, pre .2 .misses))  -- access-counted-requires
     (λ c κs.
-    let s = c .before .before .before .before .before .before .before .before .before .before .before .before .before .before .before .before .before in
-    let a = s .args in
-    (access-shaped (a .s) (s .pre .0 .1) _ (c .before .before .before .before .before .before .before .access-step .ensures), ready-room (a .stream .now) (a .at) (a .out) (a .events .now) (s .pre .1 .0)))
+    let s = c .before .before .before .before .before .before .before .before .before .before .before .before .before .before .before .before .before in let a = s .args in
+    (access-shaped (a .s) (s .pre .0 .1) _ (c .before .before .before .before .before .before .before .access-counted .ensures), ready-room (a .stream .now) (a .at) (a .out) (a .events .now) (s .pre .1 .0)))  -- put-access-requires
     (λ c. let s = c .before .before .before .before .before .before .before .before .before .before .before .before .before .before .before .before .before .before .before .before in let a = s .args in let h = access-whole (a .stream .now) (a .at) (a .out) (a .events .now) (s .pre .1 .0) (s .pre .1 .1) in omega arith)  -- add
+    (λ c.
+    let s = c .before .before .before .before .before .before .before .before .before .before .before .before .before .before .before .before .before .before .before .before .before in let a = s .args in
+    let f = is-fit _ _ _ (s .pre .0 .1 .are) in
+    let few = access-shaped (a .s) (s .pre .0 .1) _ (c .before .before .before .before .before .before .before .before .before .before .before .access-counted .ensures) .entries in
+    omega (arith, s .pre .0 .2 .queue .most))  -- add-queued
+    (λ c κs. search needs)  -- fetched-requires
+    (λ c. let s = c .before .before .before .before .before .before .before .before .before .before .before .before .before .before .before .before .before .before .before .before .before .before in let f = is-fit _ _ _ (s .pre .0 .1 .are) in omega (arith, s .pre .0 .2 .misses .most, c .fetched .ensures .1))  -- add-missed
     (λ c. search needs)  -- same-length
-    (λ c. search needs)  -- same-length
-    (λ c. search needs)  -- same-length
-    (λ c. search needs)  -- same-length
-    (λ c. returns c))
+    (λ c. search needs)  -- same-length-2
+    (λ c. search needs)  -- same-length-3
+    (λ c. search needs)  -- same-length-4
+    (λ c.
+    let s = c .before .before .before .before .before .before .before .before .before .before .before .before .before .before .before .before .before .before .before .before .before .before in let a = s .args in
+    let p = c .before .before .before .before in
+    let does = c .before .before .before .before .before .before .before .before .before .before .before .before .access-counted .ensures in
+    let x = c .before .before .before .before .before .before .before .before .before .before .before .before .before .before .before .before .access-at in (
+      access-runs (a .stream .now) (a .at) (a .out) (a .events .now) (s .pre .1 .0) (a .s) _ (s .pre .0 .1) _ _ _ _ (p .put-access .ensures) (p .put-access .kept .1 .0) does (s .pre .1 .1) (x .ensures .0) (x .ensures .1),
+      rw (c .fetched .ensures .0) (counted-access (a .s) (s .pre .0 .1) (s .pre .0 .0) (s .pre .0 .2) _ (x .ensures .1) does),
+    )))  -- returns

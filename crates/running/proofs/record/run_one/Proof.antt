@@ -20,7 +20,7 @@ run-one-spec =
     let t = c .before .before in
     let s = t .before .before .before .before .before .before in
     let a = s .args in
-    single-halts (a .s) (a .stream .now) (a .at) (a .out) (a .events .now) _ (s .pre .1 .0) (t .stop-at .ensures) (sym (c .before .goes-on .ensures) ∙ not-true _ (c .if1 .taken)))
+    (single-halts (a .s) (a .stream .now) (a .at) (a .out) (a .events .now) _ (s .pre .1 .0) (t .stop-at .ensures) (sym (c .before .goes-on .ensures) ∙ not-true _ (c .if1 .taken)), s .pre .0 .2))
     -- step-record-requires
     (λ c κs.
     let i = c .before .before .before .before in

@@ -33,7 +33,7 @@ step-record-spec =
     let s = c .before .before .before .before .before .before .before .before .before .before .before .before .before in
     let a = s .args in
     let g = kind-most (a .stream .now) (a .at) (a .out) (a .events .now) (s .pre .1) in
-    (s .pre .0 .1, (s .pre .1, omega arith)))
+    ((s .pre .0 .1, s .pre .0 .2), (s .pre .1, omega arith)))
     (λ c. search needs)  -- same-length
     (λ c. search needs)  -- same-length
     (λ c. search needs)  -- same-length
