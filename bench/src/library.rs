@@ -5,7 +5,8 @@
 #[path = "../../include/labintugmo.rs"]
 mod labintugmo;
 
-use crate::plain::{runner::Stopped, Command, Settings};
+use bench::calls::{Command, Settings};
+use bench::runner::Stopped;
 use labintugmo::*;
 
 /// Lent tables with their settings.

@@ -1,17 +1,21 @@
-//! Measures the library beside plain Rust that does the same work, in one process, one after
-//! the other on the same stream, and prints the figures as Markdown tables.
+//! Measures the library beside plain Rust that does the same work, over the lent tables and over
+//! tables of its own, in one process, one after the other on the same stream, and prints the figures
+//! as Markdown tables.
 //!
 //!     bench [--accesses N] [--rounds N] [--ratios FILE]
 //!
-//! Both sides' events are compared before anything is timed. A time is the processor time of
+//! The events are compared before anything is timed, and flat's tables with the library's. A time is the processor time of
 //! this thread, the best of a few rounds in which the two sides take turns, so that neither
 //! another program nor a disturbance weighs on one side alone.
 
 mod library;
 
-use bench::{plain, stream};
+use bench::calls::{Calls, Command, Settings};
+use bench::events::ROOM;
+use bench::flat::check::sound;
+use bench::runner::Stopped;
+use bench::{flat, own, runner, stream};
 use library::Tables;
-use plain::{check::sound, runner, Cache, Command, Settings, ROOM};
 use std::fmt::Write;
 use std::hint::black_box;
 use std::process::ExitCode;
@@ -141,43 +145,74 @@ fn size_name((sets, ways): (u32, u32)) -> String {
     format!("{sets} x {ways}")
 }
 
+/// Runs a stream from its settings on, by a function that runs the part behind them.
+fn whole(bytes: &[u8], room: &mut [u8], part: impl FnOnce(&[u8], &mut [u8]) -> Stopped) -> Stopped {
+    let first = runner::settings_length(bytes[0]);
+    let stopped = part(&bytes[first..], room);
+    Stopped { consumed: first + stopped.consumed, ..stopped }
+}
+
+fn run_flat(measured: &Measured, room: &mut [u8]) -> (Stopped, flat::Tables) {
+    let mut tables = flat::Tables::fresh(measured.settings);
+    let stopped = whole(&measured.bytes, room, |part, room| tables.run(part, room));
+    (stopped, tables)
+}
+
+fn run_own(measured: &Measured, room: &mut [u8]) -> Stopped {
+    let mut cache = own::Cache::new(measured.settings);
+    whole(&measured.bytes, room, |part, room| cache.run(part, room))
+}
+
+/// The three write the same events and stop alike, and the library's tables and flat's are the same
+/// at the end, number for number.
+fn same_runs(measured: &Measured, room: &mut [u8]) {
+    let mut tables = Tables::fresh(measured.settings);
+    let check = |stopped: Stopped, room: &[u8], whose: &str| {
+        assert_eq!((stopped.number, stopped.consumed), (0, measured.bytes.len()));
+        assert!(room[..stopped.written] == measured.log[..], "the events of {whose} differ");
+    };
+    let stopped = tables.run(&measured.bytes, room);
+    check(stopped, room, "the library");
+    let (stopped, lent) = run_flat(measured, room);
+    check(stopped, room, "flat");
+    let stopped = run_own(measured, room);
+    check(stopped, room, "own");
+    assert!(tables.longs == lent.longs, "the longs differ");
+    assert!(tables.words == lent.words, "the words differ");
+    assert!(tables.marks == lent.marks, "the marks differ");
+}
+
 /// Whole streams through the runner.
 fn whole_streams(options: &Options, streams: &[Measured]) -> Table {
     let mut rows = Vec::new();
     for (size, measured) in SIZES.iter().zip(streams) {
-        let mut tables = Tables::fresh(measured.settings);
         let mut room = vec![0; measured.log.len() + 64];
-        let stopped = tables.run(&measured.bytes, &mut room);
-        assert_eq!((stopped.number, stopped.consumed), (0, measured.bytes.len()));
-        assert!(room[..stopped.written] == measured.log[..], "the library's events differ");
-        let stopped = runner::run::<true>(&measured.bytes, &mut room);
-        assert_eq!((stopped.number, stopped.consumed), (0, measured.bytes.len()));
-        assert!(room[..stopped.written] == measured.log[..], "plain Rust's events differ");
-
+        same_runs(measured, &mut room);
+        let mut tables = Tables::fresh(measured.settings);
         let (mut other, mut third) = (room.clone(), room.clone());
-        let [library, plain, recount] = best(
+        let [library, flat, own] = best(
             options.rounds,
             [
                 &mut || seen(tables.run(&measured.bytes, &mut room)),
-                &mut || seen(runner::run::<false>(&measured.bytes, &mut other)),
-                &mut || seen(runner::run::<true>(&measured.bytes, &mut third)),
+                &mut || seen(run_flat(measured, &mut other).0),
+                &mut || seen(run_own(measured, &mut third)),
             ],
         );
         let rate = |seconds| millions(measured.accesses, seconds);
         rows.push(Row {
             name: size_name(*size),
-            figures: vec![rate(library), rate(plain), rate(recount)],
-            ratios: vec![plain / library, recount / library],
+            figures: vec![rate(library), rate(flat), rate(own)],
+            ratios: vec![flat / library, own / library],
         });
     }
     Table {
         title: "The runner over a whole stream",
-        note: "Accesses a second, each with its tick, send and fill. Plain Rust keeps a count of \
-               dirty lines; the second plain figure counts all of them anew at each miss. Ratio: the \
-               library's speed over plain Rust's."
-            .to_string(),
-        figures: &["library", "plain Rust", "plain Rust, counting"],
-        ratios: &["ratio", "ratio to counting"],
+        note:
+            "Accesses a second, each with its tick, send and fill. Ratio: the library's speed over \
+               that of plain Rust, on the lent tables (flat) and on tables of its own (own)."
+                .to_string(),
+        figures: &["library", "flat", "own"],
+        ratios: &["over flat's", "over own's"],
         rows,
     }
 }
@@ -207,7 +242,7 @@ fn single_calls(options: &Options, streams: &[Measured]) -> Table {
         let commands = &measured.commands[..count];
         let accesses = commands.iter().filter(|c| matches!(c, Command::Tick { .. })).count();
         let start = Tables::fresh(measured.settings);
-        let [library, plain] = best(
+        let [library, own] = best(
             options.rounds,
             [
                 &mut || {
@@ -217,7 +252,7 @@ fn single_calls(options: &Options, streams: &[Measured]) -> Table {
                     }
                 },
                 &mut || {
-                    let (mut cache, mut room) = (Cache::<false>::new(measured.settings), [0; ROOM]);
+                    let (mut cache, mut room) = (own::Cache::new(measured.settings), [0; ROOM]);
                     for command in commands {
                         seen(cache.call(*command, &mut room));
                     }
@@ -227,18 +262,18 @@ fn single_calls(options: &Options, streams: &[Measured]) -> Table {
         let rate = |seconds| format!("{:.1} k/s", accesses as f64 / seconds / 1e3);
         rows.push(Row {
             name: size_name(*size),
-            figures: vec![rate(library), rate(plain)],
-            ratios: vec![library / plain],
+            figures: vec![rate(library), rate(own)],
+            ratios: vec![library / own],
         });
     }
     Table {
         title: "The single calls",
         note: "The same stream, call by call. Each of the library's calls checks the whole tables \
-               first; plain Rust checks nothing. Accesses a second, each with its tick, send and \
-               fill."
+               first; plain Rust with tables of its own checks nothing. Accesses a second, each with \
+               its tick, send and fill."
             .to_string(),
-        figures: &["library", "plain Rust"],
-        ratios: &["time over plain Rust's"],
+        figures: &["library", "own"],
+        ratios: &["time over own's"],
         rows,
     }
 }
@@ -383,20 +418,20 @@ fn memory() -> Table {
     let mut rows = Vec::new();
     for size in SIZES {
         let settings = settings_for(size);
-        let (lent, plain) = (Tables::fresh(settings).memory(), Cache::<false>::memory(&settings));
+        let (lent, own) = (Tables::fresh(settings).memory(), own::Cache::memory(&settings));
         rows.push(Row {
             name: size_name(size),
-            figures: vec![format!("{lent} B"), format!("{plain} B")],
-            ratios: vec![lent as f64 / plain as f64],
+            figures: vec![format!("{lent} B"), format!("{own} B")],
+            ratios: vec![lent as f64 / own as f64],
         });
     }
     Table {
         title: "Memory of the tables",
-        note: "The three lent slices, all that the library uses, and plain Rust's vectors with \
-               their structure, whose queue has 64 places at any settings."
+        note: "The three lent slices, all that the library and flat use, and own's vectors with their \
+               structure, whose queue has 64 places at any settings."
             .to_string(),
-        figures: &["library", "plain Rust"],
-        ratios: &["bytes over plain Rust's"],
+        figures: &["lent", "own"],
+        ratios: &["bytes over own's"],
         rows,
     }
 }

@@ -1,7 +1,9 @@
 //! The streams that are measured: accesses with some locality, each after a tick and followed
 //! by a send and by a fill of the oldest sent miss, where there is one.
 
-use crate::plain::{Cache, Command, Settings, ROOM};
+use crate::calls::{Calls, Command, Settings};
+use crate::events::ROOM;
+use crate::own::Cache;
 use std::collections::VecDeque;
 
 /// A splitmix64 generator, so that a stream is the same everywhere.
@@ -72,9 +74,9 @@ pub fn generate(
     mix: Mix,
     mut sink: impl FnMut(Command, &[u8]),
 ) {
-    let mut cache = Cache::<false>::new(settings);
+    let mut cache = Cache::new(settings);
     let mut sent = VecDeque::new();
-    let mut make = |cache: &mut Cache<false>, command: Command| {
+    let mut make = |cache: &mut Cache, command: Command| {
         let mut room = [0; ROOM];
         let written = cache.call(command, &mut room);
         sink(command, &room[..written]);

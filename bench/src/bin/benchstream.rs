@@ -1,7 +1,7 @@
 //! Writes a stream of any length to standard output:
 //! `benchstream ACCESSES SETS WAYS [--no-ticks] [--writes N] [--rule N]`.
 
-use bench::plain::Settings;
+use bench::calls::Settings;
 use bench::stream::{self, Mix};
 use std::io::{BufWriter, Write};
 

@@ -1,27 +1,25 @@
-//! The unchecked runner as a program: a stream from a file through a buffer of 64 KiB, its events to standard output through
-//! another; a last line on standard error.
+//! The unchecked runner as a program: `plainrun flat|own FILE`. A stream from a file through a buffer of 64 KiB, its events to
+//! standard output through another; a last line on standard error. `flat` runs it on the lent tables, `own` on tables of its own.
 
-use bench::plain::runner::{settings_length, settings_of, CUT_SHORT, NO_ROOM};
-use bench::plain::Cache;
+use bench::runner::{settings_length, settings_of, Stopped, CUT_SHORT, NO_ROOM};
+use bench::{flat, own};
 use std::fs::File;
 use std::io::{stdout, Read, Write};
 use std::os::fd::AsFd;
+use std::process::ExitCode;
 
 const BUFFER: usize = 1 << 16;
 
-fn main() {
-    let name = std::env::args().nth(1).expect("a file");
-    let mut input = File::open(name).expect("opened");
-    // Not through the buffer of standard output, which looks for the ends of lines.
-    let mut output = File::from(stdout().as_fd().try_clone_to_owned().expect("standard output"));
-    let mut space = vec![0; 2 * BUFFER];
+/// Runs the parts of a stream behind its settings: why it stops, the bytes consumed and written.
+fn run(
+    mut input: File,
+    mut output: File,
+    space: &mut [u8],
+    mut part: impl FnMut(&[u8], &mut [u8]) -> Stopped,
+) -> Stopped {
     let (buffer, room) = space.split_at_mut(BUFFER);
-    input.read_exact(&mut buffer[..1]).expect("a kind");
-    let settings = settings_length(buffer[0]);
-    input.read_exact(&mut buffer[1..settings]).expect("settings");
-    let mut cache = Cache::<false>::new(settings_of(buffer));
-    let (mut have, mut consumed, mut total) = (0, settings, 0);
-    let stop = 'all: loop {
+    let (mut have, mut consumed, mut written) = (0, 0, 0);
+    let number = 'all: loop {
         let got = input.read(&mut buffer[have..]).expect("read");
         if got == 0 {
             break if have == 0 { 0 } else { CUT_SHORT };
@@ -29,11 +27,11 @@ fn main() {
         have += got;
         let mut at = 0;
         loop {
-            let stopped = cache.run(&buffer[at..have], room);
+            let stopped = part(&buffer[at..have], room);
             output.write_all(&room[..stopped.written]).expect("written");
             at += stopped.consumed;
             consumed += stopped.consumed;
-            total += stopped.written;
+            written += stopped.written;
             match stopped.number {
                 NO_ROOM => continue,
                 0 | CUT_SHORT => break,
@@ -43,5 +41,31 @@ fn main() {
         buffer.copy_within(at..have, 0);
         have -= at;
     };
-    eprintln!("stop {stop} consumed {consumed} written {total}");
+    Stopped { number, consumed, written }
+}
+
+fn main() -> ExitCode {
+    let mut words = std::env::args().skip(1);
+    let (Some(which), Some(name)) = (words.next(), words.next()) else {
+        eprintln!("usage: plainrun flat|own FILE");
+        return ExitCode::from(2);
+    };
+    let mut input = File::open(name).expect("opened");
+    // Not through the buffer of standard output, which looks for the ends of lines.
+    let output = File::from(stdout().as_fd().try_clone_to_owned().expect("standard output"));
+    let mut space = vec![0; 2 * BUFFER];
+    input.read_exact(&mut space[..1]).expect("a kind");
+    let first = settings_length(space[0]);
+    input.read_exact(&mut space[1..first]).expect("settings");
+    let settings = settings_of(&space);
+    let stopped = if which == "flat" {
+        let mut tables = flat::Tables::fresh(settings);
+        run(input, output, &mut space, |part, room| tables.run(part, room))
+    } else {
+        let mut cache = own::Cache::new(settings);
+        run(input, output, &mut space, |part, room| cache.run(part, room))
+    };
+    let Stopped { number, consumed, written } = stopped;
+    eprintln!("stop {number} consumed {} written {written}", first + consumed);
+    ExitCode::SUCCESS
 }

@@ -1,7 +1,7 @@
 //! The lines and their sets: a line with its sectors, the line that matches an address, the victim
 //! of a MISS under each replacement rule.
 
-use super::{Settings, FIFO, SET_BUSY, SET_HELD, TREE};
+use crate::calls::{Settings, FIFO, SET_BUSY, SET_HELD, TREE};
 
 /// The status of a line's sectors, four bits of each kind, sector 0 the lowest. A VALID sector has
 /// READABLE, a RESERVED one RESERVED, a MODIFIED one MODIFIED and, if a read of it is a HIT,

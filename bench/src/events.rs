@@ -1,7 +1,5 @@
 //! The event bytes of one call, at fixed places of a room that holds those of any call.
 
-use super::waiting::Queued;
-
 pub const ROOM: usize = 64;
 
 /// The longest events are those of a fill with eight readers: 49 bytes.
@@ -55,20 +53,34 @@ pub fn write_back(kind: u8, block: u64, masks: &[u32; 4]) -> [u8; 25] {
     bytes
 }
 
+/// A ready event, of so many bytes that count.
 #[inline(always)]
-pub fn sent(room: &mut Room, head: &Queued) -> usize {
-    put(room, 0, head.event);
-    usize::from(head.length)
+pub fn ready(room: &mut Room, event: [u8; 25], length: u8) -> usize {
+    put(room, 0, event);
+    usize::from(length)
 }
 
 #[inline(always)]
-pub fn filled(room: &mut Room, sector: u64, tickets: &[u32]) -> usize {
+pub fn read_sent(room: &mut Room, sector: u64) -> usize {
+    address(room, 0, 0x15, sector)
+}
+
+#[inline(always)]
+pub fn write_back_sent(room: &mut Room, block: u64, masks: &[u32; 4]) -> usize {
+    put(room, 0, write_back(0x16, block, masks))
+}
+
+/// A fill and the first ticket that it releases.
+#[inline(always)]
+pub fn filled(room: &mut Room, sector: u64, ticket: u32) -> usize {
     let at = address(room, 0, 0x17, sector);
-    for (place, ticket) in room[at..].chunks_exact_mut(5).zip(tickets) {
-        place[0] = 0x14;
-        place[1..].copy_from_slice(&ticket.to_le_bytes());
-    }
-    at + 5 * tickets.len()
+    released(room, at, ticket)
+}
+
+#[inline(always)]
+pub fn released(room: &mut Room, at: usize, ticket: u32) -> usize {
+    put(room, at, [0x14]);
+    put(room, at + 1, ticket.to_le_bytes())
 }
 
 #[inline(always)]

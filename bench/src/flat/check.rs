@@ -2,15 +2,9 @@
 //! over the lines, one over the miss entries, one over the queue. Settings are in range and
 //! the slices have their lengths.
 
-use super::{Settings, TREE};
-
-const INVALID: u8 = 0;
-const RESERVED: u8 = 1;
-const VALID: u8 = 2;
-const MODIFIED: u8 = 3;
-
-const READ: u8 = 1;
-const WRITE_BACK: u8 = 2;
+use super::lines::{INVALID, MODIFIED, RESERVED, VALID};
+use super::waiting::{READ, WRITE_BACK};
+use crate::calls::{Settings, TREE};
 
 const MOST_SECTORS: usize = 4 * 1024;
 

@@ -1,7 +1,8 @@
 //! What waits: the miss table, whose entries keep their numbers while they are in use, and the
 //! queue, a ring whose places hold the events of their sends.
 
-use super::{events, Settings, ENTRY_FULL, NOT_SENT};
+use crate::calls::{Settings, ENTRY_FULL, NOT_SENT};
+use crate::events;
 
 const MOST_READERS: usize = 8;
 
