@@ -3,8 +3,7 @@ use Prim.Native.Nat.{ℕ}
 use mathlib.Core.Path.{_≡_, refl, sym, ap, _∙_}
 use mathlib.Core.Bool.{true, _||_}
 use mathlib.Core.List.{List, [], _∷_, _++_, map, append-nil, append-assoc}
-use native.Mathlib.Omega.{arith}
-use lib.ListN.{length, getD, replicate}
+use lib.ListN.{length, replicate}
 use lib.Dec.{eqb, ltb}
 use borrow.Author.Tests.{eqb-true}
 use Rattle.words.specs.Words.{all, any}
@@ -27,20 +26,12 @@ use Rattle.model.specs.declared.Event.the-variants as ev
 use Rattle.model.specs.declared.Refusal.{Refusal}
 use Rattle.model.specs.declared.Refusal.the-variants.{NotSent, BadCycle, QueueEmpty}
 use Rattle.words.proofs.Flags.{and-1, and-2, by-flag}
+use Rattle.words.proofs.Lists.{four-whole}
 use Rattle.model.proofs.SoundFacts.{Sound, queued-parts}
 use Rattle.model.proofs.AccessCases.{Accepted, access-cases}
 use Rattle.billed.specs.Queue.{queuedOf, sentOf, entriesBy, queuedBy, sentBy}
 
 -- ---- entries and their events
-
--- four masks, as the events have them
-four-masks : (ms : List ℕ) → length ms ≡ 4 → getD ms 0 0 ∷ getD ms 1 0 ∷ getD ms 2 0 ∷ getD ms 3 0 ∷ [] ≡ ms
-four-masks [] h = absurd (omega arith)
-four-masks (a ∷ []) h = absurd (omega arith)
-four-masks (a ∷ b ∷ []) h = absurd (omega arith)
-four-masks (a ∷ b ∷ c ∷ []) h = absurd (omega arith)
-four-masks (a ∷ b ∷ c ∷ d ∷ []) h = refl
-four-masks (a ∷ b ∷ c ∷ d ∷ e ∷ ms) h = absurd (omega arith)
 
 -- a read's masks, which are zero
 zero-masks : (ms : List ℕ) → all (λ m. eqb m 0) ms ≡ true → replicate (length ms) 0 ≡ ms
@@ -56,14 +47,14 @@ module _ (es : List Entry) where
   -- an entry of a sound queue is the one that its event tells
   told-as : (k : QueueKind) (a : ℕ) (ms : List ℕ) → length ms ≡ 4 → kindOk es k a ms ≡ true → queuedOf (queuedAs k a ms) ≡ record { kind = k; address = a; masks = ms } ∷ []
   told-as queue.Read a ms four h = rw (read-masks a ms four h)
-  told-as queue.WriteBack b ms four h = rw (four-masks ms four)
+  told-as queue.WriteBack b ms four h = rw (four-whole 0 ms four)
 
   queued-told : (q : Queued) → queuedOk es q ≡ true → queuedOf (queuedEvent q) ≡ q ∷ []
   queued-told q h = let (four, small, asked) = queued-parts es q h in told-as (q .kind) (q .address) (q .masks) four asked
 
   sent-as : (k : QueueKind) (a : ℕ) (ms : List ℕ) → length ms ≡ 4 → kindOk es k a ms ≡ true → sentOf (sentAs k a ms) ≡ record { kind = k; address = a; masks = ms } ∷ []
   sent-as queue.Read a ms four h = rw (read-masks a ms four h)
-  sent-as queue.WriteBack b ms four h = rw (four-masks ms four)
+  sent-as queue.WriteBack b ms four h = rw (four-whole 0 ms four)
 
   sent-told : (q : Queued) → queuedOk es q ≡ true → sentOf (sentEvent q) ≡ q ∷ []
   sent-told q h = let (four, small, asked) = queued-parts es q h in sent-as (q .kind) (q .address) (q .masks) four asked

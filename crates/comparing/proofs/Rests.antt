@@ -1,11 +1,12 @@
 -- What is left of a group in the bytes to come: its next record, and then the rest; what a front of those bytes shows of it.
 use mathlib.Core.Path.{_≡_, refl, sym, ap, _∙_}
-use mathlib.Core.Bool.{Bool, true, false, not, _&&_, _||_}
-use mathlib.Core.List.{List, [], _∷_, _++_, append-nil}
-use Prim.Native.Nat.{ℕ, zero, suc, _+_, _-_, min, _≤_, _<_}
+use mathlib.Core.Bool.{Bool, true, false, not, _&&_, _||_, and-assoc}
+use mathlib.Core.List.{List, [], _∷_, _++_}
+use Prim.Native.Nat.{ℕ, zero, suc, _+_, _-_, _≤_, _<_}
 use native.Mathlib.Omega.{arith}
-use borrow.Author.Tests.{le-ltb, lt-ltb, eqb-true, eqb-false, eq-eqb, ne-eqb, leb-true, leb-false}
-use lib.ListN.{length, getD, take, drop, length-append, length-take, length-drop, take-append-drop, List·getD-append}
+use native.Mathlib.Nat.{pos-of-ne-zero}
+use borrow.Author.Tests.{lt-ltb, eqb-true, eqb-false, eq-eqb, ne-eqb, leb-true, leb-false}
+use lib.ListN.{length, getD, take, drop, length-append, length-drop, take-append-drop, List·getD-append}
 use lib.Seq.{length-take-le, take-add, getD-take}
 use lib.Dec.{eqb, leb, ltb}
 use Rattle.words.specs.Words.{pick}
@@ -116,7 +117,7 @@ module _ (s : List ℕ) where
       go false q true r = over (over-next begun r) (λ e. clash (and-1 begun (startsGroup (getD s 0 0)) r) e)
       go false q false r =
           let z = eqb-false (length s) 0 q in
-          let h : 0 < length s = pos (length s) z in
+          let h : 0 < length s = pos-of-ne-zero z in
           let w = past-more s 0 h in
           record {
             fits = w .1;
@@ -124,10 +125,6 @@ module _ (s : List ℕ) where
             none = λ e. absurd (let y : ⊥ = omega arith in y);
             some = λ l. refl;
           }
-        where
-          pos : (n : ℕ) → (n ≡ 0 → ⊥) → 0 < n
-          pos zero f = absurd (f refl)
-          pos (suc n) f = omega arith
 
 -- ---- what a front shows
 
@@ -139,11 +136,7 @@ module _ (begun : Bool) {s a : List ℕ} {whole : Bool} (f : Front s a whole) wh
   none-behind w = ap length (f .all w)
 
   first-byte : (length a ≡ 0 → ⊥) → getD s 0 0 ≡ getD a 0 0
-  first-byte h = ap (λ l. getD l 0 0) (f .joins) ∙ List·getD-append a (f .behind) 0 0 (some (length a) h)
-    where
-      some : (n : ℕ) → (n ≡ 0 → ⊥) → 0 < n
-      some zero e = absurd (e refl)
-      some (suc n) e = omega arith
+  first-byte h = ap (λ l. getD l 0 0) (f .joins) ∙ List·getD-append a (f .behind) 0 0 (pos-of-ne-zero h)
 
   -- a record is shown only whole, or with the log's end; what is not shown does not stand whole in the front
   abbrev pub Shown : Ahead → Type 0
@@ -172,11 +165,7 @@ module _ (begun : Bool) {s a : List ℕ} {whole : Bool} (f : Front s a whole) wh
     same-past false false e r q = clash q refl
 
     some-byte : 0 < length a
-    some-byte = go (length a) h
-      where
-        go : (n : ℕ) → (n ≡ 0 → ⊥) → 0 < n
-        go zero e = absurd (e refl)
-        go (suc n) e = omega arith
+    some-byte = pos-of-ne-zero h
 
     by-record : (begun && startsGroup (getD a 0 0)) ≡ false → (w u : Bool) → whole ≡ w → leb (recordEnd a 0) (length a) ≡ u → Shown (pick (w || u) (ahead-of.Shows (past a 0)) ahead-of.Wants)
     by-record r true u e l = (rw (not-empty, first-byte h, r) (same-past true u e l refl), past-more a 0 some-byte .1)
@@ -199,16 +188,12 @@ module _ (begun : Bool) {s a : List ℕ} {whole : Bool} (f : Front s a whole) wh
 
 -- ---- two groups are the same where their next records are, and the rest
 
-pub and-join : (a b c : Bool) → ((a && b) && c) ≡ (a && (b && c))
-and-join true b c = refl
-and-join false b c = refl
-
 bytes-append : (x y u v : List ℕ) → length x ≡ length y → sameBytes (x ++ u) (y ++ v) ≡ (sameBytes x y && sameBytes u v)
 unfolding sameBytes
 bytes-append [] [] u v e = refl
 bytes-append [] (b ∷ y) u v e = absurd (let w : ⊥ = omega arith in w)
 bytes-append (a ∷ x) [] u v e = absurd (let w : ⊥ = omega arith in w)
-bytes-append (a ∷ x) (b ∷ y) u v e = rw (bytes-append x y u v (omega arith)) (sym (and-join (eqb a b) (sameBytes x y) (sameBytes u v)))
+bytes-append (a ∷ x) (b ∷ y) u v e = rw (bytes-append x y u v (omega arith)) (sym (and-assoc (eqb a b) (sameBytes x y) (sameBytes u v)))
 
 module _ {b c : Bool} {s t : List ℕ} {m n : ℕ} (p : Coming b s m) (q : Coming c t n) where
   r : ℕ

@@ -2,18 +2,18 @@
 -- by the tests that the code makes.
 use mathlib.Core.Path.{_≡_, refl, sym, ap, _∙_}
 use mathlib.Core.Logic.{⊎-elim}
-use mathlib.Core.Bool.{Bool, true, false, not, _&&_}
+use mathlib.Core.Bool.{Bool, true, false, not, _&&_, and-false}
 use mathlib.Core.List.{List, [], _∷_}
 use Prim.Native.Nat.{ℕ, _≤_, _<_}
-use native.Mathlib.Omega.{arith}
-use borrow.Author.Tests.{ne-eqb, ltb-true, ltb-false}
+use borrow.Author.Tests.{ltb-true, ltb-false}
 use lib.ListN.{getD}
 use lib.Dec.{eqb, ltb}
-use Rattle.words.specs.Words.{all, any, every, same}
+use Rattle.words.specs.Words.{every, same}
 use Rattle.model.specs.RecordsOf as records
-use Rattle.model.specs.Records.{Kind, eventKinds, lengthOf, isCommand}
-use Rattle.words.proofs.Flags.{and-1, and-2, flag, same-is}
+use Rattle.model.specs.Records.{eventKinds, lengthOf, isCommand}
+use Rattle.words.proofs.Flags.{flag, same-is}
 use Rattle.words.proofs.Below.{every-at}
+use Rattle.words.proofs.Lists.{none-past}
 use Rattle.records.proofs.Lengths.{length-past}
 use Rattle.comparing.specs.Kinds.{starters, startsGroup, isEvent}
 
@@ -32,21 +32,9 @@ starts-is k h = same-is (eqb (getD table k 0) 1) (startsGroup k) (every-at ruled
 
 -- ---- past the table
 
-none-past : (n k : ℕ) (xs : List ℕ) → all (λ x. ltb x n) xs ≡ true → n ≤ k → any (eqb k) xs ≡ false
-none-past n k [] e h = refl
-none-past n k (x ∷ xs) e h =
-    let p : x < n = ltb-true x n (and-1 (ltb x n) (all (λ y. ltb y n) xs) e) in
-    rw (ne-eqb k x (λ q. omega arith)) (none-past n k xs (and-2 (ltb x n) (all (λ y. ltb y n) xs) e) h)
-
 pub starts-past : (k : ℕ) → 25 ≤ k → startsGroup k ≡ false
 unfolding startsGroup
-starts-past k h = none-past 25 k starters refl h
-
-kind-past : (n k : ℕ) (xs : List Kind) → all (λ x. ltb (x .kind) n) xs ≡ true → n ≤ k → any (λ x. eqb k (x .kind)) xs ≡ false
-kind-past n k [] e h = refl
-kind-past n k (x ∷ xs) e h =
-    let p : x .kind < n = ltb-true (x .kind) n (and-1 (ltb (x .kind) n) (all (λ y. ltb (y .kind) n) xs) e) in
-    rw (ne-eqb k (x .kind) (λ q. omega arith)) (kind-past n k xs (and-2 (ltb (x .kind) n) (all (λ y. ltb (y .kind) n) xs) e) h)
+starts-past k h = none-past (λ x. x) 25 k starters refl h
 
 -- ---- the kinds of events
 
@@ -65,21 +53,15 @@ event-kinds k =
     (λ e. past (ltb-false k 25 e))
     (flag (ltb k 25))
   where
-    no : (t : Bool) → (t && false) ≡ false
-    no true = refl
-    no false = refl
-
     past : 25 ≤ k → told k ≡ isEvent k
-    past h = rw (length-past k h) (no (not (isCommand k)) ∙ sym (kind-past 25 k eventKinds refl h))
+    past h = rw (length-past k h) (and-false (not (isCommand k)) ∙ sym (none-past (λ x. x .kind) 25 k eventKinds refl h))
+
+-- by the two tests
+by-tests : (k : ℕ) (t u : Bool) → t ≡ isCommand k → u ≡ eqb (lengthOf k) 255 → (not t && not u) ≡ isEvent k
+by-tests k t u p q = rw (p, q) (event-kinds k)
 
 pub event-command : (k : ℕ) → true ≡ isCommand k → false ≡ isEvent k
-event-command k p = by-tests true (eqb (lengthOf k) 255) p refl
-  where
-    by-tests : (t u : Bool) → t ≡ isCommand k → u ≡ eqb (lengthOf k) 255 → (not t && not u) ≡ isEvent k
-    by-tests t u p q = rw (p, q) (event-kinds k)
+event-command k p = by-tests k true (eqb (lengthOf k) 255) p refl
 
 pub event-other : (k n : ℕ) → false ≡ isCommand k → n ≡ lengthOf k → not (eqb n 255) ≡ isEvent k
-event-other k n p q = by-tests false (eqb n 255) p (ap (λ m. eqb m 255) q)
-  where
-    by-tests : (t u : Bool) → t ≡ isCommand k → u ≡ eqb (lengthOf k) 255 → (not t && not u) ≡ isEvent k
-    by-tests t u p q = rw (p, q) (event-kinds k)
+event-other k n p q = by-tests k false (eqb n 255) p (ap (λ m. eqb m 255) q)

@@ -1,15 +1,14 @@
 -- Two logs passed step by step, however they come: where the steps come to the end, they listed exactly the pairs that differ.
 use mathlib.Core.Path.{_≡_, refl, sym, ap, _∙_}
-use mathlib.Core.Logic.{⊎-elim}
-use mathlib.Core.Bool.{Bool, true, false, not, _&&_, _||_}
+use mathlib.Core.Bool.{Bool, true, false, not, _&&_, and-true, and-assoc}
 use mathlib.Core.List.{List, [], _∷_, _++_, append-nil, append-assoc}
-use Prim.Native.Nat.{ℕ, zero, suc, _+_, _-_, _%_, _^_, max, _≤_, _<_}
+use Prim.Native.Nat.{ℕ, zero, suc, _+_, _-_, _%_, _^_, _≤_, _<_}
 use native.Mathlib.Omega.{arith}
 use native.Mathlib.Numerals.{add-one}
-use borrow.Author.Tests.{ltb-true, ltb-false, eqb-true, eqb-false, eq-eqb, ne-eqb}
-use lib.ListN.{length, getD, take, drop, length-append, length-drop, List·getD-eq-default}
+use borrow.Author.Tests.{eqb-true, eqb-false, eq-eqb, ne-eqb}
+use lib.ListN.{length, take, drop, length-append, length-drop}
 use lib.Seq.{drop-drop, take-append-le}
-use lib.Dec.{eqb, ltb}
+use lib.Dec.{eqb}
 use Rattle.words.specs.Words.{pick}
 use Rattle.words.proofs.Flags.{and-1, and-2}
 use Rattle.comparing.specs.declared.Compared.{Compared}
@@ -20,12 +19,12 @@ use Rattle.comparing.specs.declared.Ahead.{Ahead}
 use Rattle.comparing.specs.declared.Ahead.the-variants as ahead-of
 use Rattle.comparing.specs.declared.Step.{Step}
 use Rattle.comparing.specs.declared.Step.the-variants as step
-use Rattle.comparing.specs.Groups.{Part, partTo, bytesIn, recordEnd, groupEnd, groups, sideOf}
+use Rattle.comparing.specs.Groups.{partTo, bytesIn, recordEnd, groupEnd, groups, sideOf}
 use Rattle.comparing.specs.Pairs.{sameBytes, samePair, differs, pairs, listed, differences}
-use Rattle.comparing.specs.Steps.{side, beginning, recordOf, ahead, moved, behind, onward, counted, lowestOf, nextPair, pairOver, row, shown, begunSide, stepped, Front, pairOf, Walked, at-start, by-row, by-same, by-differing, lowestIn, Listed}
+use Rattle.comparing.specs.Steps.{side, beginning, ahead, moved, behind, onward, counted, lowestOf, nextPair, pairOver, row, shown, begunSide, stepped, Front, pairOf, Walked, at-start, by-row, by-same, by-differing, lowestIn, Listed}
 use Rattle.comparing.proofs.Sides.{placeFrom, place-next, place-grows, group-le, side-is, counted-out}
 use Rattle.comparing.proofs.Sides.{counted as group-counted}
-use Rattle.comparing.proofs.Rests.{rest, after, Coming, coming, Shown, same-split, and-join, group-drop}
+use Rattle.comparing.proofs.Rests.{rest, after, Coming, coming, Shown, same-split, group-drop}
 use Rattle.comparing.proofs.Rests.{shown as front-shows}
 
 fresh-rest : (s : List ℕ) → groupEnd s 0 ≡ rest false s
@@ -197,7 +196,7 @@ module _ {A B s t : List ℕ} {w : Walk} {ds : List Compared} (o : On A B s t w 
         record {
           first = side-moved (o .first) fa c;
           second = side-moved (o .second) fb d;
-          same = rw (no-wrap (o .first) fa c, no-wrap (o .second) fb d, begun-after (w .first .passed) m, begun-after (w .second .passed) n, e) (o .same ∙ rw (same-split c d) (sym (and-join (w .same) (sameBytes (take m s) (take n t)) _)));
+          same = rw (no-wrap (o .first) fa c, no-wrap (o .second) fb d, begun-after (w .first .passed) m, begun-after (w .second .passed) n, e) (o .same ∙ rw (same-split c d) (sym (and-assoc (w .same) (sameBytes (take m s) (take n t)) _)));
           lists = o .lists;
           count = o .count;
           lowest = o .lowest;
@@ -209,10 +208,6 @@ module _ {A B s t : List ℕ} {w : Walk} {ds : List Compared} (o : On A B s t w 
     pair-same : samePair A B (w .number) ≡ w .same
     unfolding sameBytes
     pair-same = o .same ∙ rw (y, z) (and-true (w .same))
-      where
-        and-true : (b : Bool) → (b && true) ≡ b
-        and-true true = refl
-        and-true false = refl
 
     the-pair : differs (w .number) (sideOf A (w .number)) (sideOf B (w .number)) ≡ pairOf w
     the-pair = rw (side-whole (o .first) fa y, side-whole (o .second) fb z)

@@ -1,35 +1,35 @@
 -- Sound slices: tables that stand in them are sound, and those that are read off them do stand in them.
 use mathlib.Core.Path.{_≡_, refl, sym, ap, _∙_}
 use mathlib.Core.Logic.{_⊎_, ⊎-elim}
-use mathlib.Core.Bool.{Bool, true, false}
+use mathlib.Core.Bool.{true}
 use mathlib.Core.List.{List, map}
 use Prim.Native.Nat.{ℕ, zero, suc, _+_, _*_, _-_, _/_, _%_, _^_, _≤_, _<_}
 use native.Mathlib.Nat.{add-zero, mul-comm, mul-add-mod-self-left, mod-eq-of-lt}
 use native.Mathlib.Omega.{arith}
 use lib.Dec.{eqb}
 use lib.ListN.{length, getD, List·getD-eq-default}
+use lib.Arith.{digits-div}
 use borrow.Author.Tests.{eqb-true, eq-eqb}
 use Rattle.model.specs.declared.Settings.{Settings}
 use Rattle.model.specs.declared.Queued.{Queued}
 use Rattle.model.specs.declared.Sector.{Sector}
-use Rattle.words.specs.Words.{pick, table, some}
+use Rattle.words.specs.Words.{table, some}
 use Rattle.model.specs.Numbers.{statusNumber, statusOf, queueKindNumber, queueKindOf}
 use Rattle.model.specs.Range.{linesOf}
 use Rattle.model.specs.Address.{blockOf, sectorIndex, setIndex}
-use Rattle.model.specs.Tables.{Line, Entry, Tables, isReserved, whollyInvalid, entryFor, idle, fresh, noEntry}
+use Rattle.model.specs.Tables.{Line, Entry, Tables, isReserved, entryFor, idle, fresh, noEntry}
 use Rattle.model.specs.Layout.{wordsFrom, queueMaskRegion}
 use Rattle.model.specs.Lent.{Lent, bit, tagOf, cycleOf, masksOf, statusesOf, readablesOf, missOf, sentOf, ticketCountOf, ticketsIn, queuedOf, kindOf, queueMasksOf, inUse, sectorAt, sectorsAt, lineAt, entryAt, queueAt, tablesOf, takenOf, treeOf}
 pub use Rattle.model.specs.SoundLent.{Small}
-use Rattle.words.proofs.Flags.{by-flag, not-yes, not-no, clash, iff}
-use Rattle.words.proofs.Below.{some-at, some-i}
-use Rattle.encoding.proofs.Rows.{row-of}
+use Rattle.words.proofs.Flags.{clash, iff}
+use Rattle.words.proofs.Below.{some-at, some-i, lt-or-ge, squeeze}
 use Rattle.words.proofs.Places.{stride}
 use Rattle.words.proofs.Tabled.{any-get, length-table, getD-table}
-use Rattle.encoding.proofs.InUse.{lt-or-ge, squeeze, in-use-few, below-used, free-past}
-use Rattle.encoding.proofs.LentSoundFacts.{tag, status, mask, readable, miss, sent, ticketCount, ticket, queued, kind, queueMask, Live, Used, SoundIs, tree}
+use Rattle.encoding.proofs.InUse.{in-use-few, below-used, free-past}
+use Rattle.encoding.proofs.LentSoundFacts.{tag, status, mask, readable, miss, sent, ticketCount, ticket, kind, queueMask, Live, Used, SoundIs, tree}
 use Rattle.encoding.proofs.Standing.{field, field-in, field-out, ByNumber}
-use Rattle.encoding.proofs.NumbersAreTables.{line, sector, entry, place, addressIn, kindIn, maskIn, Shape, reserved-number, tag-is, cycle-is, taken-is, tree-is, status-is, mask-is, readable-is, live-is, dirty-counts, miss-is, sent-is, entry-in, in-entry, kind-in, queued-in, queue-mask-is, reads-are}
-use Rattle.encoding.proofs.SoundByPlace.{Lives, SectorOk, LineOk, Alone, Agrees, EntryOk, QueuedOk, Soundly, bit-clear}
+use Rattle.encoding.proofs.NumbersAreTables.{line, sector, entry, place, Shape, reserved-number, tag-is, cycle-is, taken-is, tree-is, status-is, mask-is, readable-is, dirty-counts, miss-is, sent-is, entry-in, in-entry, kind-in, queued-in, queue-mask-is, reads-are, lives, live-i}
+use Rattle.encoding.proofs.SoundByPlace.{SectorOk, LineOk, Alone, Agrees, EntryOk, QueuedOk, Soundly, bit-clear}
 
 module _ (S : Settings) (L : Lent) (is : SoundIs S L) where
   -- a tag is on one live line only
@@ -45,12 +45,6 @@ module _ (S : Settings) (L : Lent) (is : SoundIs S L) where
 -- ---- tables that stand in them
 
 module _ (S : Settings) (L : Lent) (t : Tables) (st : ByNumber S L t) (sh : Shape S t) (is : SoundIs S L) (small : Small L) where
-  live-i : (l : ℕ) → l < linesOf S → Lives S t l → Live S L l
-  live-i l h v = live-is S L t st sh l h ∙ not-no v
-
-  lives : (l : ℕ) → l < linesOf S → Live S L l → Lives S t l
-  lives l h v = not-yes {b = whollyInvalid (line t l)} (sym (live-is S L t st sh l h) ∙ v)
-
   in-lines : (l : ℕ) → l < length (t .lines) → l < linesOf S
   in-lines l h = let e = sh .size in omega arith
 
@@ -78,15 +72,15 @@ module _ (S : Settings) (L : Lent) (t : Tables) (st : ByNumber S L t) (sh : Shap
         sectors = λ k j. sector-ok l k h j;
         past = rw (c, st .time) at (f .past);
         since = rw (k, c) at (f .since);
-        dead = λ u. let z = f .dead (λ v. clash u (lives l h v)) in ((sym a ∙ z .0 .0, sym c ∙ z .0 .1), sym k ∙ z .1);
-        block = λ v. rw a at (f .block (live-i l h v));
-        home = λ v. rw a at (f .home (live-i l h v));
+        dead = λ u. let z = f .dead (λ v. clash u (lives S L t st sh l h v)) in ((sym a ∙ z .0 .0, sym c ∙ z .0 .1), sym k ∙ z .1);
+        block = λ v. rw a at (f .block (live-i S L t st sh l h v));
+        home = λ v. rw a at (f .home (live-i S L t st sh l h v));
       }
 
   alone : (l : ℕ) → l < linesOf S → Alone S t l
   alone l h v m k u e =
       let b = in-lines m k in
-      one-line S L is m l b h (live-i m b u) (live-i l h v) (tag-is S L t st sh m b ∙ e ∙ sym (tag-is S L t st sh l h))
+      one-line S L is m l b h (live-i S L t st sh m b u) (live-i S L t st sh l h v) (tag-is S L t st sh m b ∙ e ∙ sym (tag-is S L t st sh l h))
 
   -- a sector of a line that lives is RESERVED exactly if an entry has its address
   agrees : (l : ℕ) → l < linesOf S → Agrees S t l
@@ -109,10 +103,10 @@ module _ (S : Settings) (L : Lent) (t : Tables) (st : ByNumber S L t) (sh : Shap
           let a : miss S L e ≡ tag S L l + 32 * k =
           miss-is S L t st sh e b ∙ eqb-true _ _ q ∙ ap (λ (n : ℕ). n + 32 * k) (sym (tag-is S L t st sh l h)) in
           let (n, c, w) = is .entries e b .backed (in-entry S L t st sh e i) in
-          let even : tag S L l % 128 ≡ 0 = is .lines l h .block (live-i l h v) .even in
+          let even : tag S L l % 128 ≡ 0 = is .lines l h .block (live-i S L t st sh l h v) .even in
           let same : tag S L n ≡ tag S L l = w .has ∙ omega arith in
           let k-is : sectorIndex (miss S L e) ≡ k = omega arith in
-          let n-is : n ≡ l = one-line S L is n l c h (w .lives) (live-i l h v) same in
+          let n-is : n ≡ l = one-line S L is n l c h (w .lives) (live-i S L t st sh l h v) same in
           let waits : status S L (4 * l + k) ≡ 1 = rw (n-is, k-is) at (w .waits) in
           sym (reserved-number (sector t l k .status)) ∙ eq-eqb _ _ (sym (status-is S L t st sh l k h j) ∙ waits)
 
@@ -131,7 +125,7 @@ module _ (S : Settings) (L : Lent) (t : Tables) (st : ByNumber S L t) (sh : Shap
       record {
         even = rw a at (f .even u);
         low = rw a at (below (miss S L e) (tag S L l) low even has);
-        home = (l, omega (arith, sh .size), (lives l h (w .lives), sym (tag-is S L t st sh l h) ∙ rw a at has));
+        home = (l, omega (arith, sh .size), (lives S L t st sh l h (w .lives), sym (tag-is S L t st sh l h) ∙ rw a at has));
         alone = λ d k q.
             let c : d < S .misses = omega (arith, sh .few) in
             one-entry S L is d e c b (in-entry S L t st sh d k) u (miss-is S L t st sh d c ∙ q ∙ sym a);
@@ -237,7 +231,7 @@ module _ (S : Settings) (L : Lent) (is : SoundIs S L) where
   -- place k of the tickets of entry e, past them 0
   ticket-past : 1 ≤ S .readers → (e k : ℕ) → e < S .misses → k < S .readers → ticketCount S L e ≤ k → ticket S L (S .readers * e + k) ≡ 0
   ticket-past pos e k h j c =
-      let x : (S .readers * e + k) / S .readers ≡ e = ap (λ (n : ℕ). (n + k) / S .readers) (mul-comm (S .readers) e) ∙ row-of (S .readers) pos e k j in
+      let x : (S .readers * e + k) / S .readers ≡ e = ap (λ (n : ℕ). (n + k) / S .readers) (mul-comm (S .readers) e) ∙ digits-div e j in
       let y : (S .readers * e + k) % S .readers ≡ k = mul-add-mod-self-left (S .readers) e k ∙ mod-eq-of-lt j in
       let b = stride (S .readers) (S .misses) e h in
       is .tickets (S .readers * e + k) (omega arith) (rw (x, y) c)

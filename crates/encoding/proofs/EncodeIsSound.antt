@@ -12,32 +12,24 @@ use Rattle.model.specs.declared.Settings.{Settings}
 use Rattle.model.specs.declared.QueueKind.{QueueKind}
 use Rattle.model.specs.declared.QueueKind.the-variants as queue
 use Rattle.model.specs.declared.Queued.{Queued}
-use Rattle.model.specs.declared.Status.{Status}
-use Rattle.model.specs.declared.Status.the-variants.{Invalid, Reserved, Valid, Modified}
 use Rattle.words.specs.Words.{any}
 use Rattle.model.specs.Range.{linesOf}
 use Rattle.model.specs.Address.{sectorIndex}
 use Rattle.model.specs.Tables.{Entry, Tables, isInvalid, isReserved, whollyInvalid, entryFor, idle, noEntry}
 use Rattle.model.specs.Lent.{Lent, bit}
-use Rattle.words.proofs.Flags.{flag, not-yes, not-no, clash}
-use Rattle.words.proofs.Below.{every-at, some-at, some-i}
+use Rattle.words.proofs.Flags.{flag, clash}
+use Rattle.words.proofs.Below.{every-at, some-at, some-i, lt-or-ge}
 use Rattle.model.proofs.Answers.{status-below}
+use Rattle.model.proofs.ProbeFindsSpot.{reserved-used}
 use Rattle.words.proofs.Tabled.{any-get}
-use Rattle.encoding.proofs.InUse.{lt-or-ge}
 use Rattle.encoding.proofs.LentSoundFacts.{tag, status, readable, miss, sent, ticketCount, ticket, queued, kind, Live, Used, LineIs, SectorIs, Reserves, EntryIs, Unsent, PlaceIs, SoundIs}
 use Rattle.encoding.proofs.Standing.{ByNumber}
-use Rattle.encoding.proofs.NumbersAreTables.{line, sector, entry, place, kindIn, maskIn, Shape, reserved-number, tag-is, cycle-is, taken-is, tree-is, status-is, mask-is, readable-is, unused-is, live-is, dirty-counts, miss-is, sent-is, count-is, ticket-is, count-out, entry-in, in-entry, kind-in, kind-out, queued-in, queued-out, queue-mask-is, place-in, in-place, reads-are}
+use Rattle.encoding.proofs.NumbersAreTables.{line, sector, entry, place, maskIn, Shape, reserved-number, tag-is, cycle-is, taken-is, tree-is, status-is, mask-is, readable-is, unused-is, dirty-counts, miss-is, sent-is, count-is, ticket-is, count-out, entry-in, in-entry, kind-in, kind-out, queued-in, queued-out, queue-mask-is, place-in, in-place, reads-are, lives, live-i}
 use Rattle.encoding.proofs.SoundByPlace.{Lives, Soundly, soundly-shape, bit-clear}
 
 bit-low : (r : Bool) → bit r ≤ 1
 bit-low true = omega arith
 bit-low false = omega arith
-
-not-both : (x : Status) → isInvalid x ≡ true → isReserved x ≡ true → ⊥
-not-both Invalid e f = clash f refl
-not-both Reserved e f = clash e refl
-not-both Valid e f = clash e refl
-not-both Modified e f = clash e refl
 
 kind-low : (k : QueueKind) → queueKindNumber k ≤ 2
 kind-low queue.Read = omega arith
@@ -53,14 +45,8 @@ module _ (S : Settings) (L : Lent) (t : Tables) (st : ByNumber S L t) (so : Soun
 
   -- ---- lines
 
-  lives : (l : ℕ) → l < linesOf S → Live S L l → Lives S t l
-  lives l h v = not-yes {b = whollyInvalid (line t l)} (sym (live-is S L t st sh l h) ∙ v)
-
-  live-i : (l : ℕ) → l < linesOf S → Lives S t l → Live S L l
-  live-i l h v = live-is S L t st sh l h ∙ not-no v
-
   dies : (l : ℕ) → l < linesOf S → (Live S L l → ⊥) → whollyInvalid (line t l) ≡ true
-  dies l h f = ⊎-elim (λ u. u) (λ u. absurd (f (live-i l h u))) (flag (whollyInvalid (line t l)))
+  dies l h f = ⊎-elim (λ u. u) (λ u. absurd (f (live-i S L t st sh l h u))) (flag (whollyInvalid (line t l)))
 
   line-is : (l : ℕ) → l < linesOf S → LineIs S L l
   line-is l h =
@@ -70,14 +56,14 @@ module _ (S : Settings) (L : Lent) (t : Tables) (st : ByNumber S L t) (so : Soun
       let k = taken-is S L t st sh l h in
       record {
         dead = λ d. let z = f .dead (dies l h d) in ((a ∙ z .0 .0, c ∙ z .0 .1), k ∙ z .1);
-        block = λ v. rw a (f .block (lives l h v));
-        home = λ v. rw a (f .home (lives l h v));
+        block = λ v. rw a (f .block (lives S L t st sh l h v));
+        home = λ v. rw a (f .home (lives S L t st sh l h v));
         past = rw (c, st .time) (f .past);
         since = rw (k, c) (f .since);
         alone = λ v m j r w e.
             let b : m < linesOf S = omega arith in
             let s = so .size in
-            let q : m ≡ l = so .alone l h (lives l h v) m (omega arith) (lives m b w) (sym (tag-is S L t st sh m b) ∙ e ∙ a) in
+            let q : m ≡ l = so .alone l h (lives S L t st sh l h v) m (omega arith) (lives S L t st sh m b w) (sym (tag-is S L t st sh m b) ∙ e ∙ a) in
             omega arith;
       }
 
@@ -86,7 +72,7 @@ module _ (S : Settings) (L : Lent) (t : Tables) (st : ByNumber S L t) (so : Soun
   reserved-lives : (l k : ℕ) → l < linesOf S → k < 4 → isReserved (sector t l k .status) ≡ true → Lives S t l
   reserved-lives l k h j r =
       ⊎-elim
-      (λ u. absurd (not-both (sector t l k .status) (every-at (λ k. isInvalid (sector t l k .status)) 4 k (sym (unused-is S L t st sh l h) ∙ u) j) r))
+      (λ u. clash (every-at (λ k. isInvalid (sector t l k .status)) 4 k (sym (unused-is S L t st sh l h) ∙ u) j) (reserved-used (sector t l k .status) r))
       (λ u. u)
       (flag (whollyInvalid (line t l)))
 
@@ -141,7 +127,7 @@ module _ (S : Settings) (L : Lent) (t : Tables) (st : ByNumber S L t) (so : Soun
       status-is S L t st sh l (sectorIndex (entry t e .address)) n j
       ∙ eqb-true _ _ (reserved-number (sector t l (sectorIndex (entry t e .address)) .status) ∙ r) in
       let m = miss-is S L t st sh e h in
-      (l, n, record { lives = live-i l n v; has = rw m (tag-is S L t st sh l n ∙ at); waits = rw m x })
+      (l, n, record { lives = live-i S L t st sh l n v; has = rw m (tag-is S L t st sh l n ∙ at); waits = rw m x })
 
   entry-is : (e : ℕ) → e < S .misses → EntryIs S L e
   entry-is e h =

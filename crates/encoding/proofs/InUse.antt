@@ -1,47 +1,16 @@
--- Places in use that are the first ones: how many they are tells which. Counts where none passes from some number on.
+-- Places in use that are the first ones: how many they are tells which.
 use mathlib.Core.Path.{_≡_, refl, ap, _∙_}
 use mathlib.Core.Logic.{_⊎_, inl, inr, ⊎-elim}
-use mathlib.Core.Bool.{Bool, true, false, not}
+use mathlib.Core.Bool.{true, false, not}
 use Prim.Native.Nat.{ℕ, zero, suc, _+_, _-_, _≤_, _<_}
-use native.Mathlib.Nat.{not-suc-le-zero, le-of-suc-le-suc, eq-or-lt-of-le}
+use native.Mathlib.Nat.{not-suc-le-zero}
 use native.Mathlib.Omega.{arith}
-use lib.Dec.{eqb, ltb}
-use borrow.Author.Tests.{eqb-true, eqb-false, eq-eqb, ne-eqb, ltb-true, ltb-false}
-use Rattle.words.specs.Words.{some, countBelow}
+use lib.Dec.{eqb}
+use borrow.Author.Tests.{eqb-true, eqb-false, eq-eqb, ne-eqb}
 use Rattle.model.specs.Lent.{inUse}
 use Rattle.words.proofs.Flags.{flag}
-use Rattle.words.proofs.Below.{count-most}
+use Rattle.words.proofs.Below.{count-most, last-or-below, count-short}
 use Rattle.encoding.proofs.LentSoundFacts.{First}
-
-pub lt-or-ge : (a b : ℕ) → (a < b) ⊎ (b ≤ a)
-lt-or-ge a b = ⊎-elim (λ t. inl (ltb-true a b t)) (λ t. inr (ltb-false a b t)) (flag (ltb a b))
-
--- equal, if neither may be below the other
-pub squeeze : (a b : ℕ) → (a < b → ⊥) → (b < a → ⊥) → a ≡ b
-squeeze a b f g = ⊎-elim (λ h. absurd (f h)) (λ h. ⊎-elim (λ k. absurd (g k)) (λ k. omega arith) (lt-or-ge b a)) (lt-or-ge a b)
-
-last-or-below : (n i : ℕ) → i < suc n → (i ≡ n) ⊎ (i < n)
-last-or-below n i h = eq-or-lt-of-le (le-of-suc-le-suc h)
-
--- ---- counts
-
-module _ (p : ℕ → Bool) where
-  pub count-short : (n k : ℕ) → k ≤ n → ((j : ℕ) → j < n → k ≤ j → p j ≡ false) → countBelow n p ≡ countBelow k p
-  count-short zero k h g = let e : k ≡ 0 = omega arith in rw e
-  count-short (suc n) k h g =
-      ⊎-elim (λ q. rw q)
-      (λ l. let z : countBelow n p ≡ countBelow k p = count-short n k (omega arith) (λ j a b. g j (omega arith) b) in
-      rw (z, g n (omega arith) (omega arith)) (omega arith))
-      (eq-or-lt-of-le h)
-
-module _ (p q : ℕ → Bool) where
-  pub count-same : (n : ℕ) → ((i : ℕ) → i < n → p i ≡ q i) → countBelow n p ≡ countBelow n q
-  count-same zero f = refl
-  count-same (suc n) f = rw (count-same n (λ i h. f i (omega arith)), f n (omega arith))
-
-  pub some-same : (n : ℕ) → ((i : ℕ) → i < n → p i ≡ q i) → some n p ≡ some n q
-  some-same zero f = refl
-  some-same (suc n) f = rw (some-same n (λ i h. f i (omega arith)), f n (omega arith))
 
 -- ---- places in use
 

@@ -18,6 +18,7 @@ use Rattle.model.specs.Calls.{encoded}
 use Rattle.model.specs.Inner.{Encodes}
 use Rattle.model.specs.Rounds.{steps, calls, Turn, still, took, andThen, Run, goOn, isEmpty, sendTurn, fillFirst, drain, rounds, heldIn, waits, Settles}
 use Rattle.encoding.proofs.Bridge.{tables-of-encode, call-on}
+use Rattle.model.proofs.SeenRounds.{took-left}
 
 -- what a round does before its offer keeps sound tables sound; the offer, accepted, is the last call
 pub record Keeps (S : Settings) : Type 0 where
@@ -31,10 +32,6 @@ turnOf S a = record { events = a .events; left = encode S (a .left) }
 
 abbrev pub runOf : Settings → Run Tables → Run Lent
 runOf S r = record { turn = turnOf S (r .turn); offers = map (encoded S) (r .offers) }
-
-pub took-left : (t : Tables) (o : Outcome Tables) → took t o .left ≡ after t o
-took-left t (refused n) = refl
-took-left t (done es u) = refl
 
 module _ (S : Settings) where
   took-encoded : (t : Tables) (o : Outcome Tables) → took (encode S t) (encoded S o) ≡ turnOf S (took t o)

@@ -17,17 +17,18 @@ use Rattle.model.specs.declared.Sector.{Sector}
 use Rattle.model.specs.declared.QueueKind.{QueueKind}
 use Rattle.model.specs.declared.QueueKind.the-variants as queue
 use Rattle.model.specs.declared.Queued.{Queued}
-use Rattle.words.specs.Words.{pick, count, table, every, some, countBelow}
+use Rattle.words.specs.Words.{count, table, every, some, countBelow}
 use Rattle.model.specs.Numbers.{statusNumber, statusOf, queueKindNumber, queueKindOf}
 use Rattle.model.specs.Range.{linesOf}
 use Rattle.model.specs.Tables.{Line, Entry, Tables, isInvalid, isReserved, whollyInvalid, isFetch, idle, empty, fresh, noEntry, isModified, dirty, dirtyLines}
 use Rattle.model.specs.Lent.{Lent, bit, tagOf, cycleOf, takenOf, treeOf, masksOf, statusesOf, readablesOf, missOf, sentOf, ticketCountOf, ticketsIn, queuedOf, kindOf, queueMasksOf, inUse, sectorAt, sectorsAt, lineAt, entryAt, queueAt, tablesOf}
 use Rattle.model.specs.Sound.{readingOf}
-use Rattle.words.proofs.Flags.{iff}
+use Rattle.words.proofs.Flags.{iff, not-yes, not-no, not-both}
 use Rattle.model.proofs.Answers.{status-of-number}
 use Rattle.words.proofs.Tabled.{all-get, any-get, count-get, table-list}
-use Rattle.encoding.proofs.InUse.{lt-or-ge, count-short, count-same, some-same, in-use-is}
-use Rattle.encoding.proofs.LentSoundFacts.{tag, cycle, taken, status, mask, readable, miss, sent, ticketCount, ticket, queued, kind, queueMask, now, tree, live, dirtyLine, readFor, Used}
+use Rattle.words.proofs.Below.{lt-or-ge, count-short, count-same, some-same}
+use Rattle.encoding.proofs.InUse.{in-use-is}
+use Rattle.encoding.proofs.LentSoundFacts.{tag, cycle, taken, status, mask, readable, miss, sent, ticketCount, ticket, queued, kind, queueMask, now, tree, live, dirtyLine, readFor, Used, Live}
 use Rattle.encoding.proofs.Standing.{field, field-in, field-out, ByNumber}
 
 -- ---- records of the tables by their place
@@ -72,7 +73,7 @@ modified-number Reserved = refl
 modified-number Valid = refl
 modified-number Modified = refl
 
-invalid-number : (x : Status) → eqb (statusNumber x) 0 ≡ isInvalid x
+pub invalid-number : (x : Status) → eqb (statusNumber x) 0 ≡ isInvalid x
 invalid-number Invalid = refl
 invalid-number Reserved = refl
 invalid-number Valid = refl
@@ -84,9 +85,9 @@ reserved-number Reserved = refl
 reserved-number Valid = refl
 reserved-number Modified = refl
 
-pub bit-back : (r : Bool) → eqb (bit r) 1 ≡ r
-bit-back true = refl
-bit-back false = refl
+pub flag-of-bit : (r : Bool) → eqb (bit r) 1 ≡ r
+flag-of-bit true = refl
+flag-of-bit false = refl
 
 pub kind-some : (k : QueueKind) → queueKindNumber k ≡ 0 → ⊥
 kind-some queue.Read z = omega arith
@@ -108,11 +109,7 @@ reading-numbers a x = rw (fetch-number (x .kind), eqb-swap (x .address) a)
 
 some-not : (n : ℕ) (p : ℕ → Bool) → some n (λ i. not (p i)) ≡ not (every n p)
 some-not zero p = refl
-some-not (suc n) p = ap (λ (b : Bool). b || not (p n)) (some-not n p) ∙ go (every n p) (p n)
-  where
-    go : (a b : Bool) → (not a || not b) ≡ not (a && b)
-    go true b = refl
-    go false b = refl
+some-not (suc n) p = ap (λ (b : Bool). b || not (p n)) (some-not n p) ∙ sym (not-both (every n p) (p n))
 
 module _ {A : Type 0} where
   map-at : (f : A → ℕ) (xs : List A) (d : A) (k : ℕ) → k < length xs → getD (map f xs) k 0 ≡ f (getD xs k d)
@@ -206,6 +203,12 @@ module _ (S : Settings) (L : Lent) (t : Tables) (st : ByNumber S L t) (sh : Shap
       ∙ some-not 4 (λ k. isInvalid (sector t l k .status))
       ∙ ap not (sym (unused-is l h))
 
+  pub lives : (l : ℕ) → l < linesOf S → Live S L l → whollyInvalid (line t l) ≡ false
+  lives l h v = not-yes {b = whollyInvalid (line t l)} (sym (live-is l h) ∙ v)
+
+  pub live-i : (l : ℕ) → l < linesOf S → whollyInvalid (line t l) ≡ false → Live S L l
+  live-i l h v = live-is l h ∙ not-no v
+
   pub dirty-is : (l : ℕ) → l < linesOf S → dirtyLine S L l ≡ dirty (line t l)
   dirty-is l h =
       some-same (λ k. eqb (status S L (4 * l + k)) 3) (λ k. isModified (sector t l k .status)) 4
@@ -283,7 +286,7 @@ module _ (S : Settings) (L : Lent) (t : Tables) (st : ByNumber S L t) (sh : Shap
       sector-back (sector t l k)
       (ap statusOf (status-is l k h j) ∙ status-of-number (sector t l k .status))
       (mask-is l k h j)
-      (ap (λ (n : ℕ). eqb n 1) (readable-is l k h j) ∙ bit-back (sector t l k .readable))
+      (ap (λ (n : ℕ). eqb n 1) (readable-is l k h j) ∙ flag-of-bit (sector t l k .readable))
 
   line-again : (l : ℕ) → l < linesOf S → lineAt S (L .longs) (L .words) (L .marks) l ≡ line t l
   line-again l h =
@@ -297,7 +300,7 @@ module _ (S : Settings) (L : Lent) (t : Tables) (st : ByNumber S L t) (sh : Shap
       let h : e < S .misses = omega arith in
       let c = count-is e h in
       let w = sh .short e l in
-      entry-back (entry t e) (miss-is e h) (ap (λ (n : ℕ). eqb n 1) (sent-is e h) ∙ bit-back (entry t e .sent))
+      entry-back (entry t e) (miss-is e h) (ap (λ (n : ℕ). eqb n 1) (sent-is e h) ∙ flag-of-bit (entry t e .sent))
       (table-list (ticketCount S L e) (λ j. ticket S L (S .readers * e + j)) (entry t e .tickets) 0 (sym c) (λ j k. ticket-is e j h (omega arith)))
 
   place-again : (p : ℕ) → p < length (t .queue) → queueAt S L p ≡ place t p

@@ -1,10 +1,11 @@
 -- Numbers in rows of w, as lines in sets: a test over all rows that only one row can meet is a test over that row.
-use mathlib.Core.Path.{_≡_, refl, sym, ap, _∙_}
-use mathlib.Core.Bool.{Bool, true, false}
-use Prim.Native.Nat.{ℕ, zero, suc, _+_, _*_, _/_, _%_, _≤_, _<_}
-use native.Mathlib.Nat.{mul-le-mul-right, suc-mul, mul-add-div-right, div-eq-of-lt, div-add-mod', mod-lt}
+use mathlib.Core.Path.{_≡_, sym, ap, _∙_}
+use mathlib.Core.Bool.{Bool, true}
+use Prim.Native.Nat.{ℕ, _+_, _*_, _/_, _%_, _≤_, _<_}
+use native.Mathlib.Nat.{mul-le-mul-right, suc-mul, div-add-mod', mod-lt}
 use native.Mathlib.Omega.{arith}
 use lib.Dec.{eqb}
+use lib.Arith.{digits-lt, digits-div}
 use borrow.Author.Tests.{eq-eqb, eqb-true}
 use Rattle.words.specs.Words.{every, some, imp}
 use Rattle.model.specs.Range.{linesOf}
@@ -17,12 +18,6 @@ module _ (w : ℕ) (pos : 0 < w) where
   pub row-fits : (k n : ℕ) → k < n → k * w + w ≤ n * w
   row-fits k n h = rw suc-mul at (mul-le-mul-right w h)
 
-  pub row-below : (k n x : ℕ) → k < n → x < w → k * w + x < n * w
-  row-below k n x h l = omega (arith, row-fits k n h)
-
-  pub row-of : (k x : ℕ) → x < w → (k * w + x) / w ≡ k
-  row-of k x l = let e : x / w ≡ 0 = div-eq-of-lt l in rw (mul-add-div-right pos, e) (omega arith)
-
   -- those of the row of l before l
   pub every-row : (q : ℕ → Bool) (l : ℕ) → every l (λ m. imp (eqb (m / w) (l / w)) (q m)) ≡ every (l % w) (λ k. q (l / w * w + k))
   every-row q l = iff down up
@@ -32,7 +27,7 @@ module _ (w : ℕ) (pos : 0 < w) where
           every-i (λ k. q (l / w * w + k)) (l % w)
           (λ k h. imp-use _ _
           (every-at (λ m. imp (eqb (m / w) (l / w)) (q m)) l (l / w * w + k) e (omega (arith, div-add-mod' l w)))
-          (eq-eqb _ _ (row-of (l / w) k (omega (arith, mod-lt l pos)))))
+          (eq-eqb _ _ (digits-div (l / w) (omega (arith, mod-lt l pos)))))
 
       back : every (l % w) (λ k. q (l / w * w + k)) ≡ true → (m : ℕ) → m < l → m / w ≡ l / w → q m ≡ true
       back e m h r =
@@ -56,7 +51,7 @@ module _ (w : ℕ) (pos : 0 < w) where
       up : some w (λ k. q (r * w + k)) ≡ true → some (n * w) q ≡ true
       up e =
           let (k, h, t) = some-at (λ k. q (r * w + k)) w e in
-          some-i q (n * w) (r * w + k) (row-below r n k below h) t
+          some-i q (n * w) (r * w + k) (digits-lt below h) t
 
 -- the ways of an address's set are among the lines
 pub set-room : (S : Settings) (a : ℕ) {k : ℕ} → k ≡ setIndex S a → 1 ≤ S .sets → 1 ≤ S .ways → k * S .ways + S .ways ≤ linesOf S

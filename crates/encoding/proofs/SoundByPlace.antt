@@ -2,7 +2,7 @@
 -- `soundly-is`: `sound` is true exactly if they hold.
 use mathlib.Core.Path.{_≡_, refl, ap}
 use mathlib.Core.Logic.{_⊎_, inl, inr, ⊎-elim}
-use mathlib.Core.Bool.{Bool, true, false, not, _&&_, _||_}
+use mathlib.Core.Bool.{Bool, true, false, not, _&&_}
 use mathlib.Core.List.{List}
 use Prim.Native.Nat.{ℕ, _+_, _*_, _/_, _%_, _^_, _≤_, _<_}
 use native.Mathlib.Omega.{arith}
@@ -15,7 +15,7 @@ use Rattle.model.specs.declared.QueueKind.the-variants as queue
 use Rattle.model.specs.declared.Queued.{Queued}
 use Rattle.model.specs.declared.Status.{Status}
 use Rattle.model.specs.declared.Status.the-variants.{Invalid, Reserved, Valid, Modified}
-use Rattle.words.specs.Words.{pick, all, any, count}
+use Rattle.words.specs.Words.{any, count}
 use Rattle.model.specs.Range.{linesOf, isTree}
 use Rattle.model.specs.Tree.{treeFine}
 use Rattle.model.specs.Address.{blockOf, setIndex}
@@ -24,44 +24,9 @@ use Rattle.model.specs.Numbers.{statusNumber, queueKindNumber}
 use Rattle.model.specs.Lent.{bit}
 use Rattle.model.specs.Sound.{allOnes, lastCycle, maskOk, sectorOk, lineOk, alone, agrees, reservedOk, readingOf, unsentFor, entryOk, kindOk, queuedOk, sound}
 use Rattle.words.proofs.Flags.{and-1, and-2, and-i, not-no, not-yes, clash, same-is, is-same}
-use Rattle.words.proofs.Below.{every-at, every-i}
-use Rattle.words.proofs.Lists.{count-index, index-count}
-use Rattle.words.proofs.Reflect.{Decides, is-flag, is-eq, is-le, is-lt, is-not, is-and, is-every, is-some, is-as}
-use Rattle.words.proofs.Tabled.{all-get, any-get}
+use Rattle.words.proofs.Reflect.{Decides, is-flag, is-eq, is-le, is-lt, is-not, is-and, is-every, is-as, is-all, is-any, is-one, is-pick, is-else}
 use Rattle.encoding.proofs.LentSoundFacts.{Block, block-is}
 use Rattle.encoding.proofs.NumbersAreTables.{line, sector, entry, place, addressIn, kindIn, maskIn, Shape}
-
--- ---- tests on a list, and choices, with what they decide
-
-is-test : {a b : Bool} {P : Type 0} → a ≡ b → Decides b P → Decides a P
-is-test e i = rw e i
-
-module _ {A : Type 0} (p : A → Bool) {P : ℕ → Type 0} (xs : List A) (d : A) where
-  is-all : ((i : ℕ) → i < length xs → Decides (p (getD xs i d)) (P i)) → Decides (all p xs) ((i : ℕ) → i < length xs → P i)
-  is-all f =
-      is-test (all-get p xs d) record {
-        fact = λ e i h. f i h .fact (every-at (λ i. p (getD xs i d)) (length xs) i e h);
-        test = λ g. every-i (λ i. p (getD xs i d)) (length xs) (λ i h. f i h .test (g i h));
-      }
-
-  is-any : ((i : ℕ) → Decides (p (getD xs i d)) (P i)) → Decides (any p xs) ((i : ℕ) × (i < length xs) × P i)
-  is-any f = is-test (any-get p xs d) (is-some (length xs) f)
-
--- exactly one passes
-is-one : {A : Type 0} (p : A → Bool) (xs : List A) (d : A) (i : ℕ) → i < length xs → p (getD xs i d) ≡ true
-    → Decides (eqb (count p xs) 1) ((j : ℕ) → j < length xs → p (getD xs j d) ≡ true → j ≡ i)
-is-one p xs d i h e = record {
-  fact = λ t j k f. count-index p d xs (eqb-true _ _ t) j i k h f e;
-  test = λ f. eq-eqb _ _ (index-count p d xs i h e f);
-}
-
-is-pick : {b x y : Bool} {P Q : Type 0} → Decides x P → Decides y Q → Decides (pick b x y) ((b ≡ true → P) × (b ≡ false → Q))
-is-pick {b = true} i j = record { fact = λ e. (λ z. i .fact e, λ z. clash refl z); test = λ w. i .test (w .0 refl) }
-is-pick {b = false} i j = record { fact = λ e. (λ z. clash z refl, λ z. j .fact e); test = λ w. j .test (w .1 refl) }
-
-is-else : {a b : Bool} {Q : Type 0} → (a ≡ false → Decides b Q) → Decides (a || b) (a ≡ false → Q)
-is-else {a = true} i = record { fact = λ e z. clash refl z; test = λ f. refl }
-is-else {a = false} i = record { fact = λ e z. i refl .fact e; test = λ f. i refl .test (f refl) }
 
 -- ---- a sector, by its numbers
 

@@ -13,8 +13,8 @@ use Rattle.model.specs.Layout.{longSizes, wordSizes, markSizes, longsLength, wo
 use Rattle.model.specs.Tables.{Tables}
 use Rattle.model.specs.Lent.{Lent, encode, tagOf, cycleOf, takenOf, treeOf, masksOf, statusesOf, readablesOf, missOf, sentOf, ticketCountOf, ticketsIn, queuedOf, kindOf, queueMasksOf, longBlocks, wordBlocks, markBlocks}
 use Rattle.words.specs.Regions.{region, offsetIn}
-use Rattle.words.proofs.Places.{length-fit, length-places, block-get, stride}
-use Rattle.words.proofs.Tabled.{list-table, table-append}
+use Rattle.words.proofs.Places.{length-fit, length-places, block-get, stride, fit-get}
+use Rattle.words.proofs.Tabled.{table-append}
 use Rattle.encoding.proofs.Slices.{long-sizes, word-sizes, mark-sizes, begins, regions-joined, region-table}
 use Rattle.encoding.proofs.LentSoundFacts.{tag, cycle, taken, status, mask, readable, miss, sent, ticketCount, ticket, queued, kind, queueMask, now, dirtyCount, tree}
 
@@ -36,14 +36,6 @@ module _ {A : Type 0} (g : A → List ℕ) where
   field-out (x ∷ xs) (suc e) k h = field-out xs e k (le-of-suc-le-suc h)
 
 -- ---- places
-
-fit-get : (w : ℕ) (l : List ℕ) (k : ℕ) → k < w → getD (fit w l) k 0 ≡ getD l k 0
-unfolding fit
-fit-get zero l k h = absurd (not-suc-le-zero h)
-fit-get (suc w) [] zero h = refl
-fit-get (suc w) [] (suc k) h = fit-get w [] k (le-of-suc-le-suc h)
-fit-get (suc w) (x ∷ l) zero h = refl
-fit-get (suc w) (x ∷ l) (suc k) h = fit-get w l k (le-of-suc-le-suc h)
 
 table-fit : (w : ℕ) (f : ℕ → ℕ) (l : List ℕ) → ((k : ℕ) → k < w → f k ≡ getD l k 0) → table w f ≡ fit w l
 unfolding table fit

@@ -8,18 +8,18 @@ use lib.Dec.{ltb, leb}
 use lib.ListN.{length, take, replicate, length-take}
 use Rattle.words.specs.Words.{pick, all, any, fit}
 use Rattle.model.specs.Address.{addressOf, isRead, wellFormed}
-use Rattle.model.specs.Tables.{Tables, idle, Outcome, refused, done, eventsOf, withNow}
+use Rattle.model.specs.Tables.{Tables, idle, Outcome, refused, eventsOf}
 use Rattle.model.specs.Lent.{Lent}
 use Rattle.model.specs.Sound.{lastCycle}
-use Rattle.model.specs.Probe.{Spot, Place, no, at, ruleOf}
-use Rattle.model.specs.Steps.{isMerge, isMiss, queues, queuedAs, queuedEvent, sentAs, placesNeeded, accept, entryFull, proceed, access, afterSend, sendFrom, send, ticketsOf, afterFill, sentFor, fill, tick}
+use Rattle.model.specs.Probe.{Spot, Place, no, at}
+use Rattle.model.specs.Steps.{isMerge, isMiss, queues, queuedAs, queuedEvent, sentAs, placesNeeded, accept, entryFull, proceed, access, sendFrom, send, ticketsOf, sentFor, fill, tick}
 use Rattle.model.specs.Calls.{eventsTold, inTwo, tidied}
 use Rattle.model.specs.Inner.{SoundSlices, Does}
 use Rattle.model.specs.ToldShape.{ofAccess, ofSend, ofFill, ofTick, Shaped}
 use Rattle.model.specs.declared.Settings.{Settings}
 use Rattle.model.specs.declared.Access.{Access}
 use Rattle.model.specs.declared.Refusal.{Refusal}
-use Rattle.model.specs.declared.Refusal.the-variants.{BadAccess, QueueFull, EntryFull, MissTableFull, NotSent, BadCycle, QueueEmpty}
+use Rattle.model.specs.declared.Refusal.the-variants.{BadAccess, QueueFull, EntryFull, MissTableFull}
 use Rattle.model.specs.declared.Queued.{Queued}
 use Rattle.model.specs.declared.QueueKind.{QueueKind}
 use Rattle.model.specs.declared.QueueKind.the-variants as queue
@@ -28,6 +28,7 @@ use Rattle.model.specs.declared.Event.the-variants.{Answered, Refused, ReadQueu
 use Rattle.model.specs.declared.Told.{Told}
 use Rattle.words.proofs.Flags.{and-1, and-2, clash}
 use Rattle.words.proofs.Places.{length-fit}
+use Rattle.words.proofs.Lists.{all-append}
 use Rattle.encoding.proofs.Bridge.{does-tells}
 
 -- ---- the events behind the first
@@ -127,14 +128,6 @@ tick-tells c t = tells-by (ltb c (t .now) || ltb lastCycle c) record { is = refl
 
 -- ---- the shape of a value
 
-all-left : (p : Event → Bool) (xs ys : List Event) → all p (xs ++ ys) ≡ true → all p xs ≡ true
-all-left p [] ys h = refl
-all-left p (x ∷ xs) ys h = rw (and-1 (p x) _ h, all-left p xs ys (and-2 (p x) _ h))
-
-all-right : (p : Event → Bool) (xs ys : List Event) → all p (xs ++ ys) ≡ true → all p ys ≡ true
-all-right p [] ys h = h
-all-right p (x ∷ xs) ys h = all-right p xs ys (and-2 (p x) _ h)
-
 none-left : {A : Type 0} (f : A → Event) (p : Event → Bool) → ((a : A) → p (f a) ≡ false) → (xs : List A) → all p (map f xs) ≡ true → length xs ≡ 0
 none-left f p never [] h = refl
 none-left f p never (x ∷ xs) h = clash (and-1 (p (f x)) _ h) (never x)
@@ -177,15 +170,21 @@ module _ (r : Told) (tidy : tidied r ≡ r) where
     unfolding eventsTold
     behind = and-2 (begins (r .first)) _ t
 
+    abbrev entries : List Event
+    entries = map queuedEvent (take (r .queues) (r .queued))
+
+    apart : (all rest entries && all rest (map Released (take (r .count) (r .tickets)))) ≡ true
+    apart = sym (all-append rest entries (map Released (take (r .count) (r .tickets)))) ∙ behind
+
     no-entries : ((q : Queued) → rest (queuedEvent q) ≡ false) → r .queues ≤ 0
     no-entries never =
-        let z = none-left queuedEvent rest never (take (r .queues) (r .queued)) (all-left rest (map queuedEvent (take (r .queues) (r .queued))) (map Released (take (r .count) (r .tickets))) behind) in
+        let z = none-left queuedEvent rest never (take (r .queues) (r .queued)) (and-1 (all rest entries) _ apart) in
         let l = queues-are in
         omega arith
 
     no-tickets : ((k : ℕ) → rest (Released k) ≡ false) → r .count ≤ 0
     no-tickets never =
-        let z = none-left Released rest never (take (r .count) (r .tickets)) (all-right rest (map queuedEvent (take (r .queues) (r .queued))) (map Released (take (r .count) (r .tickets))) behind) in
+        let z = none-left Released rest never (take (r .count) (r .tickets)) (and-2 (all rest entries) _ apart) in
         let l = count-is in
         omega arith
 

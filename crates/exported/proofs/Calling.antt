@@ -1,15 +1,14 @@
 -- What an exported call leaves: nothing where the event room is too small, else what the call left and the records of its value. Also what
 -- another number of settings is.
 use mathlib.Core.Path.{_≡_, refl, sym, ap, _∙_}
-use mathlib.Core.Bool.{Bool, true, false, not, _&&_, _||_}
-use mathlib.Core.Logic.{⊎-elim}
+use mathlib.Core.Bool.{Bool, true, false, not, _||_}
 use mathlib.Core.List.{List, [], _∷_}
 use Prim.Native.Nat.{ℕ, _≤_, _<_}
 use native.Mathlib.Nat.{le-trans}
 use native.Mathlib.Omega.{arith}
-use lib.Dec.{lit≤, leb, ltb}
+use lib.Dec.{lit≤, ltb}
 use lib.ListN.{length, set}
-use borrow.Author.Tests.{le-leb, lt-leb, ltb-true, ltb-false, eq-eqb, ne-eqb}
+use borrow.Author.Tests.{le-leb, lt-leb, eq-eqb, ne-eqb}
 use Rattle.model.specs.Range.{inRange}
 use Rattle.model.specs.Tables.{Tables, Outcome, after, eventsOf}
 use Rattle.model.specs.Lent.{Lent}
@@ -32,7 +31,8 @@ use Rattle.rounds.specs.Waiting.{waitCall, waitWithin, Waits}
 use Rattle.model.specs.declared.Command.the-variants as cmd
 use Rattle.model.proofs.Soundness.{call-keeps-sound}
 use Rattle.encoding.proofs.DecodeIsSound.{Small}
-use Rattle.words.proofs.Flags.{flag}
+use Rattle.words.proofs.Flags.{not-either}
+use Rattle.words.proofs.Below.{leb-not}
 use Rattle.encoding.proofs.Bridge.{call-is, events-encoded, does-is}
 use Rattle.records.specs.Stores.{Stored}
 use Rattle.records.proofs.Stores.{stored-behind}
@@ -92,15 +92,8 @@ unfolding settingsFrom inRange
 other-number-out-of-range l h = rw h
 
 -- fewer than six numbers, or more than seven
-not-above : (m n : ℕ) → leb m n ≡ not (ltb n m)
-not-above m n = ⊎-elim (λ (e : ltb n m ≡ true). rw e (lt-leb m n (ltb-true n m e))) (λ (e : ltb n m ≡ false). rw e (le-leb m n (ltb-false n m e))) (flag (ltb n m))
-
-neither : (a b : Bool) → (not a && not b) ≡ not (a || b)
-neither true b = refl
-neither false b = refl
-
 pub may-lend : (n : ℕ) {b : Bool} → (ltb n 6 || ltb 7 n) ≡ b → mayLend n ≡ not b
-may-lend n e = rw (not-above 6 n, not-above n 7) (neither (ltb n 6) (ltb 7 n)) ∙ ap not e
+may-lend n e = rw (leb-not 6 n, leb-not n 7) (sym (not-either (ltb n 6) (ltb 7 n))) ∙ ap not e
 
 -- ---- a length by the settings s, which are those lent as S
 

@@ -1,23 +1,29 @@
 -- The dirty count in the slices: where it is read, and the tables that stand when it is written; four sectors of which one is MODIFIED.
-use mathlib.Core.Path.{_≡_, refl, sym, _∙_}
-use mathlib.Core.Bool.{Bool, true, false, _||_}
+use mathlib.Core.Path.{_≡_, sym, _∙_}
+use mathlib.Core.Bool.{Bool, _||_}
 use mathlib.Core.List.{List, [], _∷_}
-use Prim.Native.Nat.{ℕ, _+_}
+use Prim.Native.Nat.{ℕ, _+_, _≤_}
 use native.Mathlib.Nat.{add-zero}
 use native.Mathlib.Omega.{arith}
 use lib.ListN.{length, getD}
 use Rattle.words.specs.Regions.{put, offsetIn}
-use Rattle.model.specs.Layout.{wordsFrom, dirtyCountRegion}
-use Rattle.model.specs.Tables.{Tables, withDirtyCount, isModified}
-use Rattle.model.specs.Lent.{wordBlocks}
+use Rattle.words.specs.Words.{count}
+use Rattle.model.specs.Layout.{dirtyCountRegion}
+use Rattle.model.specs.Tables.{Tables, withDirtyCount, isModified, dirty}
+use Rattle.model.specs.Lent.{wordBlocks, lent}
 use Rattle.model.specs.declared.Settings.{Settings}
 use Rattle.model.specs.declared.Sector.{Sector}
+use Rattle.model.specs.Inner.{Encodes}
 use Rattle.words.proofs.Places.{block-get, block-put}
+use Rattle.words.proofs.Flags.{or-four}
+use Rattle.words.proofs.Counting.{count-length}
 use Rattle.encoding.proofs.Slices.{word-sizes, begins}
+use Rattle.encoding.proofs.Bridge.{is-fit}
 use Rattle.layout.specs.declared.Layout.{Layout}
 use Rattle.layout.specs.Layout.{Placed}
 use Rattle.layout.specs.Sectors.{someModified}
-use Rattle.layout.proofs.ByBlocks.{ByBlocks}
+use Rattle.layout.proofs.ByBlocks.{ByBlocks, is-stands}
+use Rattle.model.proofs.SoundFacts.{parts, lines-are, dirty-count-is}
 
 module _ (S : Settings) (t : Tables) {longs words marks : List ℕ} (h : ByBlocks S longs words marks t) {at : Layout} (p : Placed S at) where
   here : at .dirty ≡ offsetIn (wordBlocks S t) dirtyCountRegion + 0
@@ -34,6 +40,14 @@ module _ (S : Settings) (t : Tables) {longs words marks : List ℕ} (h : ByBlock
     as-marks = h .as-marks;
   }
 
+-- of sound tables: the lines counted, so no more than there are
+module _ (S : Settings) {longs words marks : List ℕ} (t : Tables) (is : Encodes S (lent longs words marks) t) {at : Layout} (p : Placed S at) where
+  pub dirty-counted : getD words (at .dirty) 0 ≡ count dirty (t .lines)
+  dirty-counted = dirty-count-at S t (is-stands is) p ∙ dirty-count-is S t (parts S t (is .soundly))
+
+  pub dirty-few : getD words (at .dirty) 0 ≤ 1024
+  dirty-few = omega (arith, dirty-counted, count-length dirty (t .lines), lines-are S t (parts S t (is .soundly)), is-fit S (lent longs words marks) t is .lines)
+
 -- four tests, one after the other
 pub some-modified : (four : List Sector) (e : Sector) → length four ≡ 4 → {a b c d : Bool}
     → a ≡ isModified (getD four 0 e .status) → b ≡ isModified (getD four 1 e .status)
@@ -43,12 +57,5 @@ some-modified [] o n e f g h = absurd (omega arith)
 some-modified (w ∷ []) o n e f g h = absurd (omega arith)
 some-modified (w ∷ x ∷ []) o n e f g h = absurd (omega arith)
 some-modified (w ∷ x ∷ y ∷ []) o n e f g h = absurd (omega arith)
-some-modified (w ∷ x ∷ y ∷ z ∷ []) o n e f g h = rw (e, f, g, h) (nested (isModified (w .status)) (isModified (x .status)) (isModified (y .status)) (isModified (z .status)))
-  where
-    nested : (a b c d : Bool) → (a || b || c || d) ≡ (a || (b || (c || (d || false))))
-    nested true b c d = refl
-    nested false true c d = refl
-    nested false false true d = refl
-    nested false false false true = refl
-    nested false false false false = refl
+some-modified (w ∷ x ∷ y ∷ z ∷ []) o n e f g h = rw (e, f, g, h) (sym (or-four (isModified (w .status)) (isModified (x .status)) (isModified (y .status)) (isModified (z .status))))
 some-modified (w ∷ x ∷ y ∷ z ∷ v ∷ l) o n e f g h = absurd (omega arith)

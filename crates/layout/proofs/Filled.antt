@@ -4,9 +4,7 @@ use mathlib.Core.List.{List, [], _++_, append-nil, _∷_}
 use Prim.Native.Nat.{ℕ, zero, suc, _+_, _*_, _≤_, _<_}
 use native.Mathlib.Nat.{mul-zero, mul-suc, zero-add}
 use native.Mathlib.Omega.{arith}
-use native.Mathlib.Numerals.{add-one}
-use lib.ListN.{length, set, replicate, length-set, length-replicate, getD-replicate, replicate-append-replicate}
-use lib.Seq.{paste, paste-zero, paste-suc}
+use lib.ListN.{length, set, replicate, length-replicate, getD-replicate, replicate-append-replicate}
 use Rattle.model.specs.declared.Settings.{Settings}
 use Rattle.words.specs.Words.{fit, packed, joined}
 use Rattle.model.specs.Range.{linesOf}
@@ -15,30 +13,25 @@ use Rattle.model.specs.Tables.{fresh, start}
 use Rattle.model.specs.Lent.{lent, tagOf, cycleOf, takenOf, treeOf, masksOf, statusesOf, readablesOf, missOf, sentOf, ticketCountOf, ticketsIn, queuedOf, kindOf, queueMasksOf, longBlocks, wordBlocks, markBlocks, encode}
 use Rattle.words.specs.Regions.{put}
 use Rattle.model.specs.Inner.{Fit, told}
-use Rattle.words.proofs.Region.{put-paste}
+use Rattle.words.proofs.Region.{Pasting, pasting-start, pasting-turn, pasting-done}
 use Rattle.words.proofs.Places.{fit-zeros, put-whole, put-past, put-within}
 
 -- ---- the loops: after i turns l has i times v from index `at`
 
 abbrev pub Filling : List ℕ → ℕ → ℕ → ℕ → List ℕ → ℕ → Type 0
-Filling l at n v s i = (s ≡ paste l at (replicate n v) i) × (length s ≡ length l)
+Filling l at n v s i = Pasting l at (replicate n v) s i
 
 pub filling-start : (l : List ℕ) (at n v : ℕ) → Filling l at n v l 0
-filling-start l at n v = (paste-zero l at (replicate n v), refl)
+filling-start l at n v = pasting-start l at (replicate n v)
 
 module _ (l : List ℕ) (at n v : ℕ) (room : at + n ≤ length l) where
   pub filling-turn : (s : List ℕ) (i : ℕ) → i < n → Filling l at n v s i → Filling l at n v (set s (at + i) v) (i + 1)
   filling-turn s i h f =
-      let len : length (replicate n v) ≡ n = length-replicate n v in (
-        ap (λ (x : List ℕ). set x (at + i) v) (f .0)
-            ∙ ap (λ (x : ℕ). set (paste l at (replicate n v) i) (at + i) x) (sym (getD-replicate n i v 0 h))
-            ∙ paste-suc l at (replicate n v) i 0 (omega arith) (omega arith)
-            ∙ ap (λ (x : ℕ). paste l at (replicate n v) x) (sym (add-one i)),
-        length-set s (at + i) v ∙ f .1,
-      )
+      let len : length (replicate n v) ≡ n = length-replicate n v in
+      pasting-turn l at (replicate n v) s i v (omega arith) (omega arith) (getD-replicate n i v 0 h) f
 
   pub filling-done : (s : List ℕ) (i : ℕ) → i ≡ n → Filling l at n v s i → s ≡ put l at (replicate n v)
-  filling-done s i e f = f .0 ∙ put-paste l at (replicate n v) i (length-replicate n v ∙ sym e)
+  filling-done s i e f = pasting-done l at (replicate n v) s i (length-replicate n v ∙ sym e) f
 
 -- the whole list
 module _ (l : List ℕ) (v : ℕ) (s : List ℕ) (i : ℕ) where

@@ -1,6 +1,5 @@
 -- Laws of tests, of ranges and lengths, of the numbers by place; then how tables stand in the slices: stores, a record that comes or grows, lines and their sectors,
 -- fresh tables.
-pub mod Tests
 pub mod OfRange
 pub mod Room
 pub mod ByPlace

@@ -1,6 +1,5 @@
 -- A line's leaves on the slices of tables: what is read of a line, its four sectors, and what stands after they are stored.
 use mathlib.Core.Path.{_≡_, refl, ap, _∙_}
-use mathlib.Core.Bool.{Bool, true, false}
 use mathlib.Core.List.{List, [], _∷_, map}
 use Prim.Native.Nat.{ℕ, _+_, _*_, _≤_, _<_}
 use native.Mathlib.Omega.{arith}
@@ -16,13 +15,13 @@ use Rattle.model.specs.Lent.{bit, sectorsAt, longBlocks, wordBlocks, markBlocks
 use Rattle.model.specs.declared.Settings.{Settings}
 use Rattle.model.specs.declared.Sector.{Sector}
 use Rattle.model.proofs.Answers.{status-of-number}
-use Rattle.words.proofs.Places.{length-places, field-put, field-get}
+use Rattle.words.proofs.Places.{length-places, field-put, field-get, places-same}
 use Rattle.layout.specs.declared.Layout.{Layout}
 use Rattle.model.specs.Inner.{told}
 use Rattle.layout.specs.Layout.{Placed}
 use Rattle.layout.specs.Sectors.{statuses, masks, readables}
 use Rattle.layout.proofs.ByBlocks.{ByBlocks}
-use Rattle.layout.proofs.Grown.{places-same}
+use Rattle.encoding.proofs.NumbersAreTables.{flag-of-bit}
 
 -- four numbers are their own places
 pub fit-four : (l : List ℕ) → length l ≡ 4 → l ≡ fit 4 l
@@ -33,10 +32,6 @@ fit-four (a ∷ b ∷ []) e = absurd (omega arith)
 fit-four (a ∷ b ∷ c ∷ []) e = absurd (omega arith)
 fit-four (a ∷ b ∷ c ∷ d ∷ []) e = refl
 fit-four (a ∷ b ∷ c ∷ d ∷ f ∷ l) e = absurd (omega arith)
-
-pub flag-of-bit : (b : Bool) → eqb (bit b) 1 ≡ b
-flag-of-bit true = refl
-flag-of-bit false = refl
 
 sector-of : (x : Sector) {s m r : ℕ} → s ≡ statusNumber (x .status) → m ≡ x .mask → r ≡ bit (x .readable) → record { status = statusOf s; mask = m; readable = eqb r 1 } ≡ x
 sector-of x e f g = rw (e, f, g, status-of-number (x .status), flag-of-bit (x .readable))

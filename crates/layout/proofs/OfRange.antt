@@ -1,7 +1,7 @@
 -- What the checks of refusals 1 and 2 answer, of what their callees ensure; no sum or product of settings in range wraps.
-use mathlib.Core.Path.{_≡_, refl, sym, _∙_}
-use mathlib.Core.Bool.{Bool, true, false, not, _&&_, _||_}
-use mathlib.Core.List.{List, [], _∷_}
+use mathlib.Core.Path.{_≡_, sym, _∙_}
+use mathlib.Core.Bool.{Bool, true, false, not, _&&_, _||_, or-assoc, or-false}
+use mathlib.Core.List.{List}
 use Prim.Native.Nat.{ℕ, _*_, _≤_}
 use native.Mathlib.Nat.{mul-le-mul}
 use lib.Dec.{eqb, leb}
@@ -14,41 +14,19 @@ use Rattle.model.specs.Layout.{longsLength, wordsLength, marksLength}
 use Rattle.model.specs.Lent.{lent, lengthsFit}
 use Rattle.model.specs.Inner.{Fit}
 use Rattle.words.proofs.Flags.{and-1, and-2, not-yes, no-not}
-use Rattle.words.proofs.Lists.{any-in, all-in}
-use Rattle.model.proofs.Fits.{ranged, fit}
+use Rattle.model.proofs.Fits.{ranged, fit, power-most}
 
 one-of : (a b c d e f g h i : Bool) → (a || b || c || d || e || f || g || h || i) ≡ (a || (b || (c || (d || (e || (f || (g || (h || (i || false)))))))))
-one-of true b c d e f g h i = refl
-one-of false true c d e f g h i = refl
-one-of false false true d e f g h i = refl
-one-of false false false true e f g h i = refl
-one-of false false false false true f g h i = refl
-one-of false false false false false true g h i = refl
-one-of false false false false false false true h i = refl
-one-of false false false false false false false true i = refl
-one-of false false false false false false false false true = refl
-one-of false false false false false false false false false = refl
+one-of a b c d e f g h i = simp (or-assoc, or-false)
 
 pub power-is : (n : ℕ) → (eqb n 1 || eqb n 2 || eqb n 4 || eqb n 8 || eqb n 16 || eqb n 32 || eqb n 64 || eqb n 128 || eqb n 256) ≡ powerTo256 n
 power-is n = one-of (eqb n 1) (eqb n 2) (eqb n 4) (eqb n 8) (eqb n 16) (eqb n 32) (eqb n 64) (eqb n 128) (eqb n 256)
 
 one-of-five : (a b c d e : Bool) → (a || b || c || d || e) ≡ (a || (b || (c || (d || (e || false)))))
-one-of-five true b c d e = refl
-one-of-five false true c d e = refl
-one-of-five false false true d e = refl
-one-of-five false false false true e = refl
-one-of-five false false false false true = refl
-one-of-five false false false false false = refl
+one-of-five a b c d e = simp (or-assoc, or-false)
 
 pub power-16-is : (n : ℕ) → (eqb n 1 || eqb n 2 || eqb n 4 || eqb n 8 || eqb n 16) ≡ powerTo16 n
 power-16-is n = one-of-five (eqb n 1) (eqb n 2) (eqb n 4) (eqb n 8) (eqb n 16)
-
-power-most : (n : ℕ) → powerTo256 n ≡ true → n ≤ 256
-power-most n e =
-    let powers : List ℕ = 1 ∷ 2 ∷ 4 ∷ 8 ∷ 16 ∷ 32 ∷ 64 ∷ 128 ∷ 256 ∷ [] in
-    let (x, m, q) = any-in (eqb n) powers e in
-    let h : x ≤ 256 = leb-true x 256 (all-in (λ k. leb k 256) powers refl m) in
-    rw (eqb-true n x q) h
 
 module _ (S : Settings) (r : Bool) (power : r ≡ powerTo256 (S .sets)) where
   sized : (r && within 1 16 (S .ways)) ≡ (powerTo256 (S .sets) && within 1 16 (S .ways))
@@ -72,9 +50,6 @@ module _ (S : Settings) (r : Bool) (power : r ≡ powerTo256 (S .sets)) where
     pub range-rest : {f : Bool} → f ≡ ruleFine S → (leb (linesOf S) 1024 && leb (S .dirty) 100 && within 1 64 (S .misses) && within 1 8 (S .readers) && within 2 64 (S .queue) && f) ≡ inRange S
     unfolding inRange
     range-rest g = rw (g, yes)
-
-pub sets-most : (S : Settings) → inRange S ≡ true → S .sets ≤ 256
-sets-most S e = power-most (S .sets) (ranged S e .power)
 
 pub tickets-most : (S : Settings) → inRange S ≡ true → S .readers * S .misses ≤ 8 * 64
 tickets-most S e = let a = ranged S e in mul-le-mul (a .readers) (a .misses)

@@ -1,8 +1,7 @@
 -- Where the cycles at which lines were taken lie, and the trees: facts set aside in `Placed` and `Fit`, asked for here.
 use mathlib.Core.Path.{_≡_, ap}
 use mathlib.Core.List.{List}
-use Prim.Native.Nat.{ℕ, _+_, _*_, _≤_, _<_}
-use native.Mathlib.Nat.{mul-le-mul-left}
+use Prim.Native.Nat.{ℕ, _+_, _≤_, _<_}
 use native.Mathlib.Omega.{arith}
 use lib.ListN.{length, getD}
 use Rattle.model.specs.Range.{linesOf}
@@ -11,13 +10,10 @@ use Rattle.model.specs.Inner.{Fit, told}
 use Rattle.model.specs.declared.Settings.{Settings}
 use Rattle.layout.specs.declared.Layout.{Layout}
 use Rattle.layout.specs.Layout.{Placed, wordsMost}
-
--- a set is a line or more
-pub sets-few : {S : Settings} {longs words marks : List ℕ} → Fit S longs words marks → S .sets ≤ 1024
-sets-few {S} f = let n : S .sets * 1 ≤ S .sets * S .ways = mul-le-mul-left (S .sets) (f .ways) in omega (arith, f .lines)
+use Rattle.model.proofs.Fits.{power-most}
 
 words-small : {S : Settings} {longs words marks : List ℕ} → Fit S longs words marks → length words ≤ wordsMost
-words-small f = let long = told (f .words-long) in omega (arith, f .lines, f .tickets, f .queue, sets-few f)
+words-small {S} f = let long = told (f .words-long) in omega (arith, f .lines, f .tickets, f .queue, power-most (S .sets) (f .power))
 
 -- the place of line l is inside, and its number does not wrap
 pub record TakenRoom (at : Layout) (words : List ℕ) (l : ℕ) : Type 0 where

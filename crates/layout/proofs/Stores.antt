@@ -1,5 +1,5 @@
 -- Stores one by one, as numbers that are put in their place.
-use mathlib.Core.Path.{_≡_, refl, ap, _∙_}
+use mathlib.Core.Path.{_≡_, ap, _∙_}
 use mathlib.Core.Bool.{false}
 use mathlib.Core.List.{List, [], _∷_, map}
 use Prim.Native.Nat.{ℕ, _+_, _≤_, _<_}
@@ -10,18 +10,10 @@ use Rattle.model.specs.declared.Status.the-variants.{Invalid}
 use Rattle.model.specs.declared.Sector.{Sector}
 use Rattle.words.proofs.Region.{sets-four}
 use Rattle.words.proofs.Places.{sets-put}
+use Rattle.words.proofs.Lists.{four-whole}
 
 pub one-put : (l : List ℕ) (i v : ℕ) → i < length l → set l i v ≡ put l i (v ∷ [])
 one-put l i v h = sets-put l i (v ∷ []) (omega arith)
-
--- an array of four is its elements
-pub four-whole : {A : Type 0} (d : A) (xs : List A) → length xs ≡ 4 → getD xs 0 d ∷ getD xs 1 d ∷ getD xs 2 d ∷ getD xs 3 d ∷ [] ≡ xs
-four-whole d [] e = absurd (omega arith)
-four-whole d (a ∷ []) e = absurd (omega arith)
-four-whole d (a ∷ b ∷ []) e = absurd (omega arith)
-four-whole d (a ∷ b ∷ c ∷ []) e = absurd (omega arith)
-four-whole d (a ∷ b ∷ c ∷ f ∷ []) e = refl
-four-whole d (a ∷ b ∷ c ∷ f ∷ g ∷ xs) e = absurd (omega arith)
 
 pub four-put : (l : List ℕ) (w : ℕ) (ms : List ℕ) → w + 4 ≤ length l → length ms ≡ 4
     → set (set (set (set l w (getD ms 0 0)) (w + 1) (getD ms 1 0)) (w + 2) (getD ms 2 0)) (w + 3) (getD ms 3 0) ≡ put l w ms

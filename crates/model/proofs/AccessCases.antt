@@ -24,10 +24,11 @@ use Rattle.model.specs.declared.Refusal.{Refusal}
 use Rattle.model.specs.declared.Refusal.the-variants.{BadAccess, QueueFull, EntryFull, MissTableFull}
 use Rattle.words.proofs.Flags.{and-1, not-yes, by-flag}
 use Rattle.words.proofs.Lists.{In, in-getD}
-use Rattle.model.proofs.SoundFacts.{Sound, LeavesSound, readers-some}
+use Rattle.model.proofs.SoundFacts.{Sound, LeavesSound}
 use Rattle.model.proofs.Ways.{Finds, first-finds, victim-finds, Sits, way-sits}
 use Rattle.model.proofs.AccessKeepsSound.{Spotted, spotNumber, taken-sound}
 use Rattle.model.proofs.ProbeFindsSpot.{rule-spotted}
+use Rattle.model.proofs.Fits.{ranged}
 
 -- ---- what a spot is in the tables
 
@@ -154,4 +155,4 @@ module _ (R : Rules) (S : Settings) (t : Tables) (x : Access) where
         made : (p : Spot) → Accepted R S t x p → LeavesSound S (accept S x p t)
         made p a =
             let j = a .judged in
-            taken-sound S t ok x (j .formed) small p (a .spotted) (readers-some S range) (j .joins) (j .enters) (j .roomy) range
+            taken-sound S t ok x (j .formed) small p (a .spotted) (ranged S range .reader) (j .joins) (j .enters) (j .roomy) range

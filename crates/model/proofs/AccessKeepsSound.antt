@@ -2,7 +2,7 @@
 use Prim.Native.Nat.{ℕ, _+_, _*_, _/_, _%_, _^_, _≤_, _<_}
 use mathlib.Core.Path.{_≡_, refl, sym, ap, _∙_}
 use mathlib.Core.Logic.{_⊎_, inl, inr, _≢_}
-use mathlib.Core.Bool.{Bool, true, false, not, _&&_, _||_, false≢true}
+use mathlib.Core.Bool.{Bool, true, false, not, _&&_, _||_, false≢true, and-false, and-true, or-false}
 use mathlib.Core.List.{List, [], _∷_, _++_}
 use native.Mathlib.Omega.{arith}
 use native.Mathlib.Nat.{add-zero}
@@ -14,7 +14,7 @@ use borrow.Author.Tests.{leb-true, leb-false, ltb-true, ltb-false, lt-ltb, eqb-t
 use Rattle.words.specs.Words.{pick, all, any, count, every}
 use Rattle.model.specs.Range.{within, linesOf, inRange}
 use Rattle.model.specs.Address.{blockOf, sectorIndex, setIndex, lineNumber, addressOf, maskOf, isRead, goodSector, wellFormed}
-use Rattle.model.specs.Tables.{Line, Entry, reading, Tables, isInvalid, isReserved, whollyInvalid, holds, entryFor, isFetch, empty, fresh, dirty, dirtyLines}
+use Rattle.model.specs.Tables.{Line, Entry, Tables, isInvalid, isReserved, whollyInvalid, holds, entryFor, isFetch, empty, fresh, dirty, dirtyLines}
 use Rattle.model.specs.Sound.{allOnes, maskOk, sectorOk, lineOk, alone, agrees, reservedOk, readingOf, unsentFor, entryOk, queuedOk}
 use Rattle.model.specs.Probe.{Spot}
 use Rattle.model.specs.Steps.{isHit, isMerge, isMiss, onSector, update, join, onMisses, fetches, queues, placesNeeded, entryFull, afterAccess, lineAfter, takenBy}
@@ -27,12 +27,12 @@ use Rattle.model.specs.declared.Answer.{Answer}
 use Rattle.model.specs.declared.Answer.the-variants.{Hit, HitReserved, Miss, SectorMiss}
 use Rattle.model.specs.declared.Access.{Access}
 use Rattle.model.specs.declared.Access.the-variants.{Read, Write}
-use Rattle.words.proofs.Flags.{and-1, and-2, and-i, and-false, and-true, or-false, or-1, or-2, flag, not-yes, not-no, no-yes, clash, by-flag, is-same}
+use Rattle.words.proofs.Flags.{and-1, and-2, and-i, or-1, or-2, flag, not-yes, not-no, no-yes, clash, by-flag, is-same}
 use Rattle.words.proofs.Lists.{In, all-in, in-all, in-any, any-in, index-count, count-append, any-append, in-append, none-count, each, in-set-same, in-set-other, count-ext, any-ext, in-getD, in-index, all-set, set-some, in-map, any-map, count-map}
 use Rattle.words.proofs.Below.{every-i}
 use Rattle.model.proofs.Fits.{tree-power}
 use Rattle.model.proofs.Turning.{set-below, turned-length, turned-fine}
-use Rattle.model.proofs.SoundFacts.{Sound, LineIs, line-whole, EntryIs, entry-whole, mask-small, sector-below, sector-aligned, address-is, block-is, sector-is, lines-are, line-at, tag-aligned, reserved-at, holder-one, entry-at, queued-at, queued-when, queued-unsent}
+use Rattle.model.proofs.SoundFacts.{Sound, LineIs, line-whole, EntryIs, entry-whole, mask-small, sector-below, sector-aligned, address-is, block-is, sector-is, lines-are, line-at, tag-aligned, reserved-at, holder-one, entry-at, queued-at, queued-when, queued-unsent, trees-are, few-misses, dirty-count-is}
 use Rattle.words.proofs.Counting.{recount}
 
 -- a read that misses: it takes a new entry and queues a read
@@ -482,9 +482,6 @@ module _ (S : Settings) (t : Tables) (ok : Sound S t) (x : Access) (formed : wel
 
     module _ (entry : (isRead x && isMiss (p .answer) && leb (S .misses) (length (t .misses))) ≡ false)
         (roomy : ltb (S .queue) (length (t .queue) + placesNeeded x p) ≡ false) (range : inRange S ≡ true) where
-      trees-are : length (t .trees) ≡ S .sets
-      trees-are = eqb-true (length (t .trees)) (S .sets) (ok .treed)
-
       pub taken-sound : Sound S (afterAccess S x p t)
       taken-sound = record {
         sized = eq-eqb (length (u .lines)) (linesOf S) lines-same;
@@ -497,10 +494,10 @@ module _ (S : Settings) (t : Tables) (ok : Sound S t) (x : Access) (formed : wel
         entered = in-all (entryOk S u) (u .misses) (λ e m. entry-whole S u e (taken-entry e m));
         lining = in-all (queuedOk (u .misses)) (u .queue) taken-queued;
         few = le-leb (length (u .misses)) (S .misses)
-            (misses-few S x (p .answer) (t .misses) (leb-true (length (t .misses)) (S .misses) (ok .few)) entry);
+            (misses-few S x (p .answer) (t .misses) (few-misses S t ok) entry);
         short = le-leb (length (u .queue)) (S .queue)
             (omega (arith, ltb-false (S .queue) (length (t .queue) + placesNeeded x p) roomy, length-append (t .queue) (queues x p)));
-        counted = eq-eqb (u .dirtyCount) (dirtyLines u) (recount dirty (t .lines) n (lineAfter x p (t .now)) fresh (sp .inside) (eqb-true (t .dirtyCount) (dirtyLines t) (ok .counted)));
-        treed = eq-eqb (length (u .trees)) (S .sets) (turned-length S a (p .way) (t .trees) ∙ trees-are);
-        turned = turned-fine S a (p .way) (t .trees) (tree-power S range) (rw trees-are (set-below S range a)) (ok .turned);
+        counted = eq-eqb (u .dirtyCount) (dirtyLines u) (recount dirty (t .lines) n (lineAfter x p (t .now)) fresh (sp .inside) (dirty-count-is S t ok));
+        treed = eq-eqb (length (u .trees)) (S .sets) (turned-length S a (p .way) (t .trees) ∙ trees-are S t ok);
+        turned = turned-fine S a (p .way) (t .trees) (tree-power S range) (rw (trees-are S t ok) (set-below S range a)) (ok .turned);
       }

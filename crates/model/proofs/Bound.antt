@@ -20,32 +20,21 @@ use Rattle.model.specs.Steps.{isMerge, isMiss, placesNeeded, entryFull, 
 use Rattle.model.specs.Rounds.{Calls, steps, Turn, still, took, Run, goOn, sendTurn, fillFirst, drain, rounds, heldIn, waits, Settles}
 use Rattle.model.specs.declared.Settings.{Settings}
 use Rattle.model.specs.declared.Queued.{Queued}
-use Rattle.model.specs.declared.Status.{Status}
-use Rattle.model.specs.declared.Status.the-variants.{Invalid, Reserved, Valid, Modified}
 use Rattle.model.specs.declared.Sector.{Sector}
 use Rattle.model.specs.declared.Access.{Access}
 use Rattle.model.specs.declared.Found.{Found}
 use Rattle.model.specs.declared.Found.the-variants.{At, Nothing}
 use Rattle.model.specs.declared.Refusal.the-variants.{SetHeld}
 use Rattle.words.proofs.Flags.{and-1, and-i, and-no, flag, not-yes, no-yes, clash}
-use Rattle.words.proofs.Lists.{In, all-in, in-any, any-in, in-index, keep-lt}
-use Rattle.model.proofs.SoundFacts.{Sound, parts, entries-some, places-two, four-at, reserved-at, unsent-once}
+use Rattle.words.proofs.Lists.{In, all-in, in-any, any-in, in-index, keep-lt, none-of}
+use Rattle.model.proofs.SoundFacts.{Sound, parts, four-at, reserved-at, unsent-once}
 use Rattle.model.proofs.Ways.{way-in}
-use Rattle.model.proofs.ProbeFindsSpot.{back-one}
+use Rattle.model.proofs.ProbeFindsSpot.{back-one, reserved-used}
 use Rattle.model.proofs.Victims.{places-at-most-two}
 use Rattle.model.proofs.SendFillKeepSound.{marked-length, sent-sound, filled-sound}
+use Rattle.model.proofs.Fits.{ranged}
 
 -- ---- tables at rest: nothing queued, no entry
-
-none-of : {A : Type 0} (l : List A) → length l ≤ 0 → l ≡ []
-none-of [] h = refl
-none-of (x ∷ l) h = absurd (omega arith)
-
-invalid-free : (c : Status) → isInvalid c ≡ true → isReserved c ≡ false
-invalid-free Invalid e = refl
-invalid-free Reserved e = absurd (false≢true e)
-invalid-free Valid e = refl
-invalid-free Modified e = refl
 
 -- a place, or 6
 abbrev Free : Place → Type 0
@@ -57,7 +46,7 @@ module _ (S : Settings) (t : Tables) (ok : Sound S t) (no-misses : t .misses ≡
   line-free l m = no-yes (λ w. go (flag (whollyInvalid l)) (any-in (λ (v : Sector). isReserved (v .status)) (l .sectors) w))
     where
       go : (whollyInvalid l ≡ true) ⊎ (whollyInvalid l ≡ false) → (s : Sector) × In s (l .sectors) × (isReserved (s .status) ≡ true) → ⊥
-      go (inl u) (s, n, q) = clash q (invalid-free (s .status) (all-in (λ (v : Sector). isInvalid (v .status)) (l .sectors) u n))
+      go (inl u) (s, n, q) = clash (all-in (λ (v : Sector). isInvalid (v .status)) (l .sectors) u n) (reserved-used (s .status) q)
       go (inr u) (s, n, q) =
           let (k, h, e) = in-index (l .sectors) empty s n in
           clash q (ap (λ (v : Sector). isReserved (v .status)) (sym e)
@@ -80,10 +69,10 @@ module _ (S : Settings) (t : Tables) (ok : Sound S t) (no-misses : t .misses ≡
     proceed-settles (no n) h = inr (ap refused h)
     proceed-settles (at p) h =
         let room : ltb (S .queue) (length (t .queue) + placesNeeded x p) ≡ false =
-        le-ltb (S .queue) (length (t .queue) + placesNeeded x p) (omega (arith, ap length no-queue, places-at-most-two x p h, places-two S range)) in
+        le-ltb (S .queue) (length (t .queue) + placesNeeded x p) (omega (arith, ap length no-queue, places-at-most-two x p h, ranged S range .place)) in
         let merge : any (entryFull S (addressOf x)) (t .misses) ≡ false = rw no-misses in
         let entry : leb (S .misses) (length (t .misses)) ≡ false =
-        lt-leb (S .misses) (length (t .misses)) (omega (arith, ap length no-misses, entries-some S range)) in
+        lt-leb (S .misses) (length (t .misses)) (omega (arith, ap length no-misses, ranged S range .entry)) in
         inl (rw (
           room,
           and-no (isRead x && isMerge (p .answer)) (any (entryFull S (addressOf x)) (t .misses)) merge,

@@ -2,25 +2,21 @@
 use mathlib.Core.Path.{_≡_, ap}
 use mathlib.Core.Bool.{true}
 use Prim.Native.Nat.{ℕ}
-use borrow.Author.Tests.{eqb-true}
 use Rattle.model.specs.declared.Settings.{Settings}
 use Rattle.model.specs.declared.Access.{Access}
 use Rattle.model.specs.declared.Refusal.the-variants.{BadAccess}
 use Rattle.words.specs.Words.{pick}
 use Rattle.model.specs.Address.{addressOf, wellFormed}
-use Rattle.model.specs.Tables.{Tables, dirtyLines, refused}
+use Rattle.model.specs.Tables.{Tables, refused}
 use Rattle.model.specs.Sound.{sound}
 use Rattle.model.specs.Probe.{probe, ruleOf, waysOf, metIn}
 use Rattle.model.specs.Steps.{proceed, access}
 use Rattle.model.specs.Counted.{metCounting, accessCounting}
-use Rattle.model.proofs.SoundFacts.{parts}
+use Rattle.model.proofs.SoundFacts.{parts, dirty-count-is}
 
 module _ (S : Settings) (x : Access) (t : Tables) (ok : sound S t ≡ true) where
-  count-is : t .dirtyCount ≡ dirtyLines t
-  count-is = eqb-true (t .dirtyCount) (dirtyLines t) (parts S t ok .counted)
-
   pub met-as-counted : metIn S x t ≡ metCounting S x t
-  met-as-counted = ap (λ (d : ℕ). probe (ruleOf S t (addressOf x)) S d (waysOf S (t .lines) (addressOf x)) x) count-is
+  met-as-counted = ap (λ (d : ℕ). probe (ruleOf S t (addressOf x)) S d (waysOf S (t .lines) (addressOf x)) x) (dirty-count-is S t (parts S t ok))
 
   pub access-as-counted : access S x t ≡ accessCounting S x t
   unfolding access accessCounting

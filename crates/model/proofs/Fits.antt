@@ -1,23 +1,31 @@
 -- Settings in range and slices of the right lengths are fit: the ranges as facts.
 use mathlib.Core.Path.{_≡_, refl}
-use mathlib.Core.Bool.{Bool, true, _&&_}
-use mathlib.Core.List.{List}
-use Prim.Native.Nat.{ℕ, zero, suc, _+_, _*_, _≤_}
+use mathlib.Core.Bool.{true}
+use mathlib.Core.List.{List, [], _∷_}
+use Prim.Native.Nat.{ℕ, zero, suc, _*_, _≤_}
 use native.Mathlib.Nat.{mul-le-mul}
 use native.Mathlib.Omega.{arith}
-use lib.Dec.{leb}
+use lib.Dec.{leb, eqb}
 use lib.ListN.{length}
 use borrow.Author.Tests.{leb-true, eqb-true}
 use Rattle.model.specs.declared.Settings.{Settings}
-use Rattle.model.specs.Range.{linesOf, inRange, powerTo256, within, isTree, ruleFine}
+use Rattle.model.specs.Range.{linesOf, inRange, powerTo256, isTree, ruleFine}
 use Rattle.model.specs.Tree.{powerTo16}
 use Rattle.model.specs.Layout.{longsLength, wordsLength, marksLength}
 use Rattle.model.specs.Inner.{Fit, aside}
 use Rattle.words.proofs.Flags.{and-1, and-2, clash}
+use Rattle.words.proofs.Lists.{any-in, all-in}
 
 pub power-pos : (n : ℕ) → powerTo256 n ≡ true → 1 ≤ n
 power-pos zero e = clash e refl
 power-pos (suc n) e = omega arith
+
+pub power-most : (n : ℕ) → powerTo256 n ≡ true → n ≤ 256
+power-most n e =
+    let powers : List ℕ = 1 ∷ 2 ∷ 4 ∷ 8 ∷ 16 ∷ 32 ∷ 64 ∷ 128 ∷ 256 ∷ [] in
+    let (x, m, q) = any-in (eqb n) powers e in
+    let h : x ≤ 256 = leb-true x 256 (all-in (λ k. leb k 256) powers refl m) in
+    rw (eqb-true n x q) h
 
 -- the ranges, as facts
 pub record Ranged (S : Settings) : Type 0 where
@@ -62,6 +70,9 @@ ranged S e =
       place = leb-true _ _ place;
       queue = leb-true _ _ queue;
     }
+
+pub sets-most : (S : Settings) → inRange S ≡ true → S .sets ≤ 256
+sets-most S e = power-most (S .sets) (ranged S e .power)
 
 -- a tree goes over a power of two of ways
 pub tree-power : (S : Settings) → inRange S ≡ true → isTree S ≡ true → powerTo16 (S .ways) ≡ true

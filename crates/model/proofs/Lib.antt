@@ -11,6 +11,7 @@ pub mod MoreCases
 pub mod WholeRun
 pub mod SoundFacts
 pub mod Counted
+pub mod Logs
 pub mod Ways
 pub mod SendFillKeepSound
 pub mod AccessKeepsSound

@@ -1,9 +1,9 @@
 -- What the probe finds is as `Spotted` says; a tick leaves sound tables sound, and fresh tables are sound.
-use Prim.Native.Nat.{ℕ, _+_, _*_, _/_, _-_, _^_, _≤_, _<_}
+use Prim.Native.Nat.{ℕ, _+_, _*_, _-_, _^_, _≤_, _<_}
 use mathlib.Core.Path.{_≡_, refl, sym, ap, _∙_, subst}
 use mathlib.Core.Logic.{_⊎_, inl, inr, _≢_}
-use mathlib.Core.Bool.{Bool, true, false, not, _&&_, _||_, false≢true}
-use mathlib.Core.List.{List, [], _∷_, _++_, map}
+use mathlib.Core.Bool.{Bool, true, false, not, _||_, false≢true}
+use mathlib.Core.List.{List, [], _∷_, map}
 use native.Mathlib.Omega.{arith}
 use lib.ListN.{length, getD, replicate, length-map, getD-replicate, length-replicate}
 use lib.Dec.{leb, ltb, eqb}
@@ -12,7 +12,7 @@ use borrow.Author.Tests.{leb-true, ltb-false, lt-ltb, eqb-true, eqb-false, eq-eq
 use Rattle.words.specs.Words.{pick, all, any, count}
 use Rattle.model.specs.Range.{inRange, linesOf, isTree}
 use Rattle.model.specs.Tree.{treeFine}
-use Rattle.model.specs.Address.{blockOf, sectorIndex, setIndex, lineNumber, addressOf, goodBlock}
+use Rattle.model.specs.Address.{blockOf, sectorIndex, lineNumber, addressOf, goodBlock}
 use Rattle.model.specs.Tables.{Line, Entry, writing, Tables, start, refused, isInvalid, isReserved, isModified, whollyInvalid, hasReserved, dirty, holds, entryFor, empty, fresh, emptied, withNow}
 use Rattle.model.specs.Sound.{allOnes, lastCycle, maskOk, sectorOk, lineOk, alone, reservedOk, readingOf, entryOk, queuedOk}
 use Rattle.model.specs.Probe.{Rule, columnOf, answerAt, answerOf, waysOf, enoughDirty, candidate, first, victim, Spot, at, writeBack, takeOver, meet, probe, ruleOf, metIn}
@@ -32,9 +32,10 @@ use Rattle.model.specs.declared.Refusal.the-variants.{BadCycle}
 use Rattle.words.proofs.Flags.{and-1, and-2, or-no-1, or-no-2, flag, not-yes, no-yes, clash, by-flag}
 use Rattle.words.proofs.Lists.{In, all-in, in-all, in-any, any-in, in-getD, in-index, all-map, any-map, in-replicate, none-count}
 use Rattle.words.proofs.Below.{every-i}
-use Rattle.model.proofs.SoundFacts.{Sound, LeavesSound, LineIs, line-whole, EntryIs, entry-whole, ways-some, mask-small, sector-below, sector-aligned, address-is, block-is, lines-are, line-at, four-at, since-at, sectors-at, tag-at, reserved-at, holder-one, entry-at}
-use Rattle.model.proofs.Ways.{Finds, first-finds, victim-finds, Sits, way-sits, way-in, line-among, set-of-block, set-of-line}
+use Rattle.model.proofs.SoundFacts.{Sound, LeavesSound, LineIs, line-whole, EntryIs, entry-whole, mask-small, sector-below, sector-aligned, address-is, block-is, lines-are, line-at, four-at, since-at, sectors-at, tag-at, reserved-at, holder-one, entry-at, set-of-block, holder-set, holds-used, holds-tag}
+use Rattle.model.proofs.Ways.{Finds, first-finds, victim-finds, Sits, way-sits, way-in, line-among, set-of-line}
 use Rattle.model.proofs.AccessKeepsSound.{Spotted}
+use Rattle.model.proofs.Fits.{ranged}
 
 -- ---- the table of answers
 
@@ -58,13 +59,13 @@ merge-table (Write a m k) s = go (s .status)
     go Valid = refl
     go Modified = refl
 
-reserved-used : (c : Status) → isReserved c ≡ true → isInvalid c ≡ false
+pub reserved-used : (c : Status) → isReserved c ≡ true → isInvalid c ≡ false
 reserved-used Invalid e = absurd (false≢true e)
 reserved-used Reserved e = refl
 reserved-used Valid e = refl
 reserved-used Modified e = refl
 
-modified-used : (c : Status) → isModified c ≡ true → isInvalid c ≡ false
+pub modified-used : (c : Status) → isModified c ≡ true → isInvalid c ≡ false
 modified-used Invalid e = absurd (false≢true e)
 modified-used Reserved e = refl
 modified-used Valid e = refl
@@ -187,8 +188,8 @@ module _ (S : Settings) (t : Tables) (ok : Sound S t) (some-ways : 1 ≤ S .ways
       let l : Line = getD ways w fresh in
       let m : In l (t .lines) = way-in S (t .lines) a l (in-getD ways w fresh h) in
       let g : holds b (getD (t .lines) n fresh) ≡ true = ap (holds b) (sym (s .line)) ∙ q in
-      let u : whollyInvalid l ≡ false = not-yes (and-1 (not (whollyInvalid l)) (eqb (l .tag) b) q) in
-      let tagged : l .tag ≡ b = eqb-true (l .tag) b (and-2 (not (whollyInvalid l)) (eqb (l .tag) b) q) in
+      let u : whollyInvalid l ≡ false = holds-used b l q in
+      let tagged : l .tag ≡ b = holds-tag b l q in
       record {
         inside = s .inside;
         tagged = tagged;
@@ -199,7 +200,7 @@ module _ (S : Settings) (t : Tables) (ok : Sound S t) (some-ways : 1 ≤ S .ways
         lone = λ j k z. no-yes (λ e. z (holder-one S t ok b j n k (s .inside) e g));
         agree = λ k z. reserved-at S t ok l m u k z ∙ ap (λ (c : ℕ). any (entryFor (c + 32 * k)) (t .misses)) tagged;
         kept = holder-kept n (λ e i z. let y : holds (blockOf (e .address)) l ≡ true = ap (holds (blockOf (e .address))) (s .line) ∙ z in
-            sym (eqb-true (l .tag) (blockOf (e .address)) (and-2 (not (whollyInvalid l)) (eqb (l .tag) (blockOf (e .address))) y)) ∙ tagged);
+            sym (holds-tag (blockOf (e .address)) l y) ∙ tagged);
         merges = merge-table x (getD (l .sectors) (sectorIndex a) empty);
         used = used-table x (getD (l .sectors) (sectorIndex a) empty);
         backed = λ es. refl;
@@ -208,25 +209,15 @@ module _ (S : Settings) (t : Tables) (ok : Sound S t) (some-ways : 1 ≤ S .ways
 
   -- no way holds the block: no line does
   none-holds : ((l : Line) → In l ways → holds b l ≡ false) → (j : ℕ) → j < length (t .lines) → holds b (getD (t .lines) j fresh) ≡ false
-  none-holds f j h = no-yes (λ e. clash e (f (getD (t .lines) j fresh) (line-among S (t .lines) a j some-ways h (own e))))
-    where
-      l : Line
-      l = getD (t .lines) j fresh
-
-      own : holds b l ≡ true → setIndex S a ≡ j / S .ways
-      own e =
-          let u : whollyInvalid l ≡ false = not-yes (and-1 (not (whollyInvalid l)) (eqb (l .tag) b) e) in
-          let tagged : l .tag ≡ b = eqb-true (l .tag) b (and-2 (not (whollyInvalid l)) (eqb (l .tag) b) e) in
-          let c : (goodBlock (l .tag) && eqb (setIndex S (l .tag)) (j / S .ways)) ≡ true = rw u at (line-at S t ok j h .tagged) in
-          sym (set-of-block S a) ∙ ap (setIndex S) (sym tagged) ∙ eqb-true (setIndex S (l .tag)) (j / S .ways) (and-2 (goodBlock (l .tag)) _ c)
+  none-holds f j h = no-yes (λ e. clash e (f (getD (t .lines) j fresh) (line-among S (t .lines) a j some-ways h (holder-set S t ok a j h e))))
 
   -- a line without a RESERVED sector holds no entry's block
   vacant : (l : Line) → In l (t .lines) → hasReserved l ≡ false → (e : Entry) → In e (t .misses) → holds (blockOf (e .address)) l ≡ true → ⊥
   vacant l i f e m z =
       let c : ℕ = e .address in
       let k : ℕ = sectorIndex c in
-      let u : whollyInvalid l ≡ false = not-yes (and-1 (not (whollyInvalid l)) (eqb (l .tag) (blockOf c)) z) in
-      let tagged : l .tag ≡ blockOf c = eqb-true (l .tag) (blockOf c) (and-2 (not (whollyInvalid l)) (eqb (l .tag) (blockOf c)) z) in
+      let u : whollyInvalid l ≡ false = holds-used (blockOf c) l z in
+      let tagged : l .tag ≡ blockOf c = holds-tag (blockOf c) l z in
       let q : l .tag + 32 * k ≡ c = ap (λ (v : ℕ). v + 32 * k) tagged ∙ address-is c (sector-aligned c (entry-at S t ok e m .good)) in
       let r : isReserved (getD (l .sectors) k empty .status) ≡ true =
       reserved-at S t ok l i u k (sector-below c) ∙ ap (λ (v : ℕ). any (entryFor v) (t .misses)) q ∙ in-any (entryFor c) (t .misses) m (eq-eqb c c refl) in
@@ -340,13 +331,13 @@ module _ (S : Settings) (range : inRange S ≡ true) (t : Tables) (ok : Sound S 
       → (d : ℕ) (v : Found) → Finds (candidate (enoughDirty S d)) (waysOf S (t .lines) (addressOf x)) v
       → (p : Spot) → takeOver (addressOf x) (waysOf S (t .lines) (addressOf x)) v ≡ at p → Spotted S t x p
   over-spotted g d Nothing h p e = let z : _≡_ {A = ℕ} 0 1 = cc in absurd (omega arith)
-  over-spotted g d (At w) h p e = subst (Spotted S t x) (cc) (taken-over S t ok (ways-some S range) x g d w (h .0) (h .1))
+  over-spotted g d (At w) h p e = subst (Spotted S t x) (cc) (taken-over S t ok (ranged S range .ways) x g d w (h .0) (h .1))
 
   meet-spotted : (R : Rule) (d : ℕ) (v : Found) → Finds (holds (blockOf (addressOf x))) (waysOf S (t .lines) (addressOf x)) v
       → (p : Spot) → meet R S d (waysOf S (t .lines) (addressOf x)) x v ≡ at p → Spotted S t x p
   meet-spotted R d Nothing h p e =
-      over-spotted (none-holds S t ok (ways-some S range) x h) d (victim R S d (waysOf S (t .lines) (addressOf x))) (victim-finds R S d (waysOf S (t .lines) (addressOf x))) p e
-  meet-spotted R d (At w) h p e = subst (Spotted S t x) (cc) (met S t ok (ways-some S range) x w (h .0) (h .1))
+      over-spotted (none-holds S t ok (ranged S range .ways) x h) d (victim R S d (waysOf S (t .lines) (addressOf x))) (victim-finds R S d (waysOf S (t .lines) (addressOf x))) p e
+  meet-spotted R d (At w) h p e = subst (Spotted S t x) (cc) (met S t ok (ranged S range .ways) x w (h .0) (h .1))
 
   -- under every rule
   pub rule-spotted : (R : Rule) (p : Spot) → probe R S (t .dirtyCount) (waysOf S (t .lines) (addressOf x)) x ≡ at p → Spotted S t x p

@@ -100,7 +100,7 @@ send-clear t = from (t .queue)
     from [] = record { clear = refl }
     from (q ∷ qs) = record { clear = rw (sent-clear (q .kind) (q .address) (q .masks)) }
 
-released-clear : (ks : List ℕ) → any refusing (map event.Released ks) ≡ false
+pub released-clear : (ks : List ℕ) → any refusing (map event.Released ks) ≡ false
 released-clear [] = refl
 released-clear (k ∷ ks) = released-clear ks
 
@@ -150,6 +150,10 @@ call-clear p none S step L c =
 abbrev actsOf : {T : Type 0} → Calls T → Acts T
 actsOf C = record { sends = λ t. seen t (C .sends t); fills = λ a t. seen t (C .fills a t); offers = λ t. seen t (C .offers t); tables = C .tables }
 
+pub took-left : {T : Type 0} (t : T) (o : Outcome T) → took t o .left ≡ after t o
+took-left t (refused n) = refl
+took-left t (done es u) = refl
+
 module _ {T : Type 0} (C : Calls T) (clear : (t : T) → Clear accepts (C .offers t)) where
   abbrev A : Acts T
   A = actsOf C
@@ -166,10 +170,6 @@ module _ {T : Type 0} (C : Calls T) (clear : (t : T) → Clear accepts (C .offer
       leaves t (done es u) c h = clash (c .clear) h
 
   -- ---- the tables and the offers are those of the rounds that `Bound` speaks of
-
-  took-left : (t : T) (o : Outcome T) → took t o .left ≡ after t o
-  took-left t (refused n) = refl
-  took-left t (done es u) = refl
 
   sent-left : (t : T) → sendTurn A t .left ≡ old.sendTurn C t .left
   unfolding sendTurn old.sendTurn

@@ -8,12 +8,12 @@ use native.Mathlib.Omega.{arith}
 use lib.ListN.{length, getD, length-map, length-set, List·getD-map, set}
 use lib.Seq.{getD-set-same, getD-set-other}
 use lib.Dec.{eqb, leb}
-use borrow.Author.Tests.{leb-true, eqb-true, eqb-false, eq-eqb, ne-eqb, le-leb}
+use borrow.Author.Tests.{eqb-true, eqb-false, eq-eqb, ne-eqb, le-leb}
 use Rattle.words.specs.Words.{all, any, count, keep, every, same, pick, one}
 use Rattle.model.specs.Range.{linesOf}
 use Rattle.model.specs.Address.{blockOf, sectorIndex}
-use Rattle.model.specs.Tables.{Line, Entry, Tables, refused, isInvalid, isReserved, whollyInvalid, holds, entryFor, isFetch, empty, fresh, isModified, dirty, dirtyLines}
-use Rattle.model.specs.Sound.{maskOk, sectorOk, lineOk, alone, reservedOk, readingOf, unsentFor, entryOk, kindOk, queuedOk, allOnes}
+use Rattle.model.specs.Tables.{Line, Entry, Tables, refused, isInvalid, isReserved, whollyInvalid, holds, entryFor, isFetch, empty, fresh, isModified, dirty}
+use Rattle.model.specs.Sound.{maskOk, sectorOk, lineOk, alone, reservedOk, readingOf, unsentFor, entryOk, queuedOk, allOnes}
 use Rattle.model.specs.Steps.{mark, markedFor, marked, afterSend, sendFrom, send, arrived, fillLine, others, afterFill, sentFor, fill, soiled}
 use Rattle.model.specs.declared.Settings.{Settings}
 use Rattle.model.specs.declared.Status.{Status}
@@ -26,7 +26,7 @@ use Rattle.model.specs.declared.Refusal.the-variants.{NotSent}
 use Rattle.words.proofs.Flags.{and-1, and-2, and-i, flag, not-yes, not-no, no-yes, clash, by-flag, is-same}
 use Rattle.words.proofs.Lists.{In, all-in, in-all, in-any, any-in, in-keep, keep-in, keep-le, not-twice, count-ext, any-ext, count-keep, any-keep, in-getD, all-set, set-some, map-in, in-map, any-map, all-map, count-map, in-index, in-set-same, in-set-other, count-index}
 use Rattle.words.proofs.Below.{every-i}
-use Rattle.model.proofs.SoundFacts.{Sound, LeavesSound, LineIs, line-whole, EntryIs, entry-whole, mask-small, sector-aligned, address-is, block-is, sector-is, lines-are, line-at, four-at, tag-aligned, reserved-at, entry-at, entry-one, queued-at, unsent-once, queued-when, sectors-at}
+use Rattle.model.proofs.SoundFacts.{Sound, LeavesSound, LineIs, line-whole, EntryIs, entry-whole, mask-small, sector-aligned, address-is, block-is, sector-is, lines-are, line-at, four-at, tag-aligned, reserved-at, entry-at, entry-one, queued-at, unsent-once, queued-when, sectors-at, few-queued, few-misses, dirty-count-is, holds-used, holds-tag}
 use Rattle.words.proofs.Counting.{recount, any-one, map-one}
 
 -- ---- send
@@ -133,7 +133,7 @@ module _ (S : Settings) (t : Tables) (x : Queued) (q : List Queued) (at : t .que
     entered = in-all (entryOk S (afterSend x q t)) (marked x (t .misses)) (λ e m. entry-whole S (afterSend x q t) e (sent-entry e m));
     lining = in-all (queuedOk (marked x (t .misses))) q sent-queued;
     few = rw (marked-length (x .kind) (x .address) (t .misses)) (ok .few);
-    short = le-leb (length q) (S .queue) (omega (arith, ap length at, leb-true (length (t .queue)) (S .queue) (ok .short)));
+    short = le-leb (length q) (S .queue) (omega (arith, ap length at, few-queued S t ok));
     counted = ok .counted;
     treed = ok .treed;
     turned = ok .turned;
@@ -168,8 +168,12 @@ modified-arrived Valid m r h q = clash q refl
 modified-arrived Modified m r h q =
     let z : eqb m 0 ≡ false = not-yes (and-2 (leb m allOnes) (not (eqb m 0)) (and-1 (leb m allOnes && not (eqb m 0)) (r || not (eqb m allOnes)) h)) in rw z
 
--- a fill leaves the tag and both cycles
+-- a fill leaves every other line, and the tag and both cycles of the one
 module _ (a : ℕ) (l : Line) where
+  pub fill-kept : holds (blockOf a) l ≡ false → fillLine a l ≡ l
+  unfolding fillLine
+  fill-kept e = rw e
+
   pub fill-tag : fillLine a l .tag ≡ l .tag
   unfolding fillLine
   fill-tag = by-flag (λ (m : Line). m .tag ≡ l .tag) (holds (blockOf a) l) _ _ (λ e. refl) (λ e. refl)
@@ -197,7 +201,7 @@ module _ (a : ℕ) (l : Line) (four : length (l .sectors) ≡ 4) where
   fill-unused =
       by-flag (λ (m : Line). whollyInvalid m ≡ whollyInvalid l) (holds (blockOf a) l) _ _
       (λ e. set-some (λ (s : Sector). isInvalid (s .status)) (l .sectors) (sectorIndex a) (arrived old) (omega arith) (arrived-used old)
-      ∙ sym (not-yes (and-1 (not (whollyInvalid l)) (eqb (l .tag) (blockOf a)) e)))
+      ∙ sym (holds-used (blockOf a) l e))
       (λ e. refl)
 
   fill-sectors : all sectorOk (l .sectors) ≡ true → all sectorOk (fillLine a l .sectors) ≡ true
@@ -236,14 +240,10 @@ module _ (a : ℕ) (l : Line) (four : length (l .sectors) ≡ 4) where
           by-index j b q (inr f) = in-any modified (set (l .sectors) (sectorIndex a) (arrived old)) (in-set-other (l .sectors) (sectorIndex a) (arrived old) empty j b (eqb-false j (sectorIndex a) f)) q
 
   soiled-holds : soiled a l ≡ true → holds (blockOf a) l ≡ true
-  unfolding fillLine
   soiled-holds h =
       ⊎-elim (λ e. e)
-      (λ e. clash (and-2 (not (dirty l)) (dirty (fillLine a l)) h) (ap dirty (kept e) ∙ not-yes (and-1 (not (dirty l)) (dirty (fillLine a l)) h)))
+      (λ e. clash (and-2 (not (dirty l)) (dirty (fillLine a l)) h) (ap dirty (fill-kept a l e) ∙ not-yes (and-1 (not (dirty l)) (dirty (fillLine a l)) h)))
       (flag (holds (blockOf a) l))
-    where
-      kept : holds (blockOf a) l ≡ false → fillLine a l ≡ l
-      kept e = rw e
 
   fill-holds : (b : ℕ) → holds b (fillLine a l) ≡ holds b l
   fill-holds b = rw (fill-unused, fill-tag a l)
@@ -263,7 +263,7 @@ module _ (a : ℕ) (l : Line) (four : length (l .sectors) ≡ 4) where
   fill-other k g n =
       by-flag (λ (m : Line). getD (m .sectors) k empty ≡ getD (l .sectors) k empty) (holds (blockOf a) l) _ _
       (λ e. getD-set-other (l .sectors) (sectorIndex a) k _ empty
-      (λ q. n (rw (q, eqb-true (l .tag) (blockOf a) (and-2 (not (whollyInvalid l)) (eqb (l .tag) (blockOf a)) e)) (address-is a g))))
+      (λ q. n (rw (q, holds-tag (blockOf a) l e) (address-is a g))))
       (λ e. refl)
 
   -- the address's is RESERVED no more
@@ -382,8 +382,8 @@ module _ (S : Settings) (t : Tables) (ok : Sound S t) (d : Entry) (m : In d (t .
   unfolding alone
   one-holds =
       let (l, n, h) = any-in (holds (blockOf a)) (t .lines) (entry-at S t ok d m .held) in
-      let tag : l .tag ≡ blockOf a = eqb-true (l .tag) (blockOf a) (and-2 (not (whollyInvalid l)) (eqb (l .tag) (blockOf a)) h) in
-      let live : whollyInvalid l ≡ false = not-yes (and-1 (not (whollyInvalid l)) (eqb (l .tag) (blockOf a)) h) in
+      let tag : l .tag ≡ blockOf a = holds-tag (blockOf a) l h in
+      let live : whollyInvalid l ≡ false = holds-used (blockOf a) l h in
       eqb-true (count (holds (blockOf a)) (t .lines)) 1 (rw (live, tag) at (all-in (alone (t .lines)) (t .lines) (ok .single) n))
 
   -- a fill loses no dirty line
@@ -414,7 +414,7 @@ module _ (S : Settings) (t : Tables) (ok : Sound S t) (d : Entry) (m : In d (t .
 
     counted-filled : t .dirtyCount + one (any (soiled a) (t .lines)) ≡ count dirty filled
     counted-filled =
-        let e : t .dirtyCount ≡ count dirty (t .lines) = eqb-true (t .dirtyCount) (dirtyLines t) (ok .counted) in
+        let e : t .dirtyCount ≡ count dirty (t .lines) = dirty-count-is S t ok in
         ap (λ (b : Bool). t .dirtyCount + one b) one-soiled
         ∙ gained (dirty line) (dirty (fillLine a line)) (t .dirtyCount) (fill-dirty a line (four-at S t ok line line-in) (sectors-at S t ok line line-in))
         ∙ recount dirty (t .lines) i (fillLine a line) fresh inside e
@@ -435,7 +435,7 @@ module _ (S : Settings) (t : Tables) (ok : Sound S t) (d : Entry) (m : In d (t .
     reserve = all-map (fillLine a) (reservedOk left) (t .lines) ∙ in-all (λ l. reservedOk left (fillLine a l)) (t .lines) filled-reserved;
     entered = in-all (entryOk S (afterFill a t)) left (λ e n. entry-whole S (afterFill a t) e (filled-entry e n));
     lining = in-all (queuedOk left) (t .queue) filled-queued;
-    few = le-leb (length left) (S .misses) (omega (arith, keep-le (others a) (t .misses), leb-true (length (t .misses)) (S .misses) (ok .few)));
+    few = le-leb (length left) (S .misses) (omega (arith, keep-le (others a) (t .misses), few-misses S t ok));
     short = ok .short;
     counted = eq-eqb (t .dirtyCount + one (any (soiled a) (t .lines))) (count dirty filled) filled-dirty;
     treed = ok .treed;

@@ -8,10 +8,10 @@ use lib.ListN.{length, getD}
 use lib.Dec.{leb, ltb, eqb}
 use borrow.Author.Tests.{eqb-true, eq-eqb, leb-true}
 use Rattle.words.specs.Words.{pick, all, any, count, every}
-use Rattle.model.specs.Range.{inRange, within, linesOf, isTree}
+use Rattle.model.specs.Range.{within, linesOf, isTree}
 use Rattle.model.specs.Tree.{treeFine}
 use Rattle.model.specs.Address.{blockOf, sectorIndex, setIndex, goodSector, goodBlock}
-use Rattle.model.specs.Tables.{Line, Entry, Tables, Outcome, refused, done, isReserved, whollyInvalid, holds, entryFor, isFetch, empty, fresh, dirtyLines}
+use Rattle.model.specs.Tables.{Line, Entry, Tables, Outcome, refused, done, isReserved, whollyInvalid, holds, entryFor, isFetch, empty, fresh, dirtyLines, noEntry}
 use Rattle.model.specs.Sound.{allOnes, lastCycle, maskOk, sectorOk, lineOk, alone, agrees, reservedOk, readingOf, unsentFor, entryOk, kindOk, queuedOk, sound}
 use Rattle.model.specs.declared.Settings.{Settings}
 use Rattle.model.specs.declared.QueueKind.{QueueKind}
@@ -82,24 +82,6 @@ abbrev pub LeavesSound : Settings → Outcome Tables → Type 0
 LeavesSound S (refused n) = Unit {0}
 LeavesSound S (done es u) = Sound S u
 
--- ---- settings in range
-
-pub ways-some : (S : Settings) → inRange S ≡ true → 1 ≤ S .ways
-unfolding inRange
-ways-some S h = leb-true 1 (S .ways) (search (and-1, and-2) depth 12)
-
-pub entries-some : (S : Settings) → inRange S ≡ true → 1 ≤ S .misses
-unfolding inRange
-entries-some S h = leb-true 1 (S .misses) (search (and-1, and-2) depth 12)
-
-pub readers-some : (S : Settings) → inRange S ≡ true → 1 ≤ S .readers
-unfolding inRange
-readers-some S h = leb-true 1 (S .readers) (search (and-1, and-2) depth 12)
-
-pub places-two : (S : Settings) → inRange S ≡ true → 2 ≤ S .queue
-unfolding inRange
-places-two S h = leb-true 2 (S .queue) (search (and-1, and-2) depth 12)
-
 -- ---- where an address lies
 
 pub sector-below : (a : ℕ) → sectorIndex a < 4
@@ -117,6 +99,9 @@ sector-is a b k h l e = omega arith
 pub sector-aligned : (a : ℕ) → goodSector a ≡ true → a % 32 ≡ 0
 sector-aligned a h = eqb-true (a % 32) 0 (and-1 (eqb (a % 32) 0) (ltb a (2 ^ 48)) h)
 
+pub set-of-block : (S : Settings) (a : ℕ) → setIndex S (blockOf a) ≡ setIndex S a
+set-of-block S a = let e : blockOf a / 128 ≡ a / 128 = omega arith in ap (λ (c : ℕ). c % S .sets) e
+
 -- ---- masks
 
 pub mask-small : (c : Status) (m : ℕ) (r : Bool) → maskOk c m r ≡ true → leb m allOnes ≡ true
@@ -125,11 +110,32 @@ mask-small Reserved m r h = and-1 (leb m allOnes) r h
 mask-small Valid m r h = rw (eqb-true m 0 (and-1 (eqb m 0) r h))
 mask-small Modified m r h = search (and-1, and-2)
 
+-- ---- a line that holds a block
+
+module _ (b : ℕ) (l : Line) (e : holds b l ≡ true) where
+  pub holds-used : whollyInvalid l ≡ false
+  holds-used = not-yes (and-1 (not (whollyInvalid l)) (eqb (l .tag) b) e)
+
+  pub holds-tag : l .tag ≡ b
+  holds-tag = eqb-true (l .tag) b (and-2 (not (whollyInvalid l)) (eqb (l .tag) b) e)
+
 -- ---- of sound tables: a line, an entry, what is queued
 
 module _ (S : Settings) (t : Tables) (ok : Sound S t) where
   pub lines-are : length (t .lines) ≡ linesOf S
   lines-are = eqb-true (length (t .lines)) (linesOf S) (ok .sized)
+
+  pub few-misses : length (t .misses) ≤ S .misses
+  few-misses = leb-true (length (t .misses)) (S .misses) (ok .few)
+
+  pub few-queued : length (t .queue) ≤ S .queue
+  few-queued = leb-true (length (t .queue)) (S .queue) (ok .short)
+
+  pub dirty-count-is : t .dirtyCount ≡ dirtyLines t
+  dirty-count-is = eqb-true (t .dirtyCount) (dirtyLines t) (ok .counted)
+
+  pub trees-are : length (t .trees) ≡ S .sets
+  trees-are = eqb-true (length (t .trees)) (S .sets) (ok .treed)
 
   pub line-at : (i : ℕ) → i < length (t .lines) → LineIs S (t .now) i (getD (t .lines) i fresh)
   line-at i h =
@@ -180,13 +186,34 @@ module _ (S : Settings) (t : Tables) (ok : Sound S t) where
   unfolding alone
   holder-one b i j h k e f =
       let l : Line = getD (t .lines) i fresh in
-      let u : whollyInvalid l ≡ false = not-yes (and-1 (not (whollyInvalid l)) (eqb (l .tag) b) e) in
-      let q : l .tag ≡ b = eqb-true (l .tag) b (and-2 (not (whollyInvalid l)) (eqb (l .tag) b) e) in
+      let u : whollyInvalid l ≡ false = holds-used b l e in
+      let q : l .tag ≡ b = holds-tag b l e in
       let c : eqb (count (holds (l .tag)) (t .lines)) 1 ≡ true = rw u at (all-in (alone (t .lines)) (t .lines) (ok .single) (in-getD (t .lines) i fresh h)) in
       count-index (holds b) fresh (t .lines) (rw q at (eqb-true (count (holds (l .tag)) (t .lines)) 1 c)) i j h k e f
 
+  -- and stand in the block's set
+  pub holder-set : (a i : ℕ) → i < length (t .lines) → holds (blockOf a) (getD (t .lines) i fresh) ≡ true → setIndex S a ≡ i / S .ways
+  holder-set a i h e =
+      let l : Line = getD (t .lines) i fresh in
+      let u : whollyInvalid l ≡ false = holds-used (blockOf a) l e in
+      let o : (goodBlock (l .tag) && eqb (setIndex S (l .tag)) (i / S .ways)) ≡ true = rw u at (line-at i h .tagged) in
+      sym (set-of-block S a) ∙ ap (setIndex S) (sym (holds-tag (blockOf a) l e)) ∙ eqb-true (setIndex S (l .tag)) (i / S .ways) (and-2 (goodBlock (l .tag)) _ o)
+
   pub entry-at : (e : Entry) → In e (t .misses) → EntryIs S t e
   entry-at e m = entry-parts S t e (all-in (entryOk S t) (t .misses) (ok .entered) m)
+
+  -- one ticket or more, and no more than there are places for
+  pub tickets-of : (e : Entry) → In e (t .misses) → (1 ≤ length (e .tickets)) × (length (e .tickets) ≤ S .readers)
+  tickets-of e m =
+      let w = entry-at e m .readers in
+      let n : ℕ = length (e .tickets) in
+      (leb-true 1 n (and-1 (leb 1 n) (leb n (S .readers)) w), leb-true n (S .readers) (and-2 (leb 1 n) (leb n (S .readers)) w))
+
+  pub some-tickets : (i : ℕ) → i < length (t .misses) → 1 ≤ length (getD (t .misses) i noEntry .tickets)
+  some-tickets i h = tickets-of (getD (t .misses) i noEntry) (in-getD (t .misses) i noEntry h) .0
+
+  pub few-tickets : (i : ℕ) → i < length (t .misses) → length (getD (t .misses) i noEntry .tickets) ≤ S .readers
+  few-tickets i h = tickets-of (getD (t .misses) i noEntry) (in-getD (t .misses) i noEntry h) .1
 
   pub entry-one : (e d : Entry) → In e (t .misses) → In d (t .misses) → d .address ≡ e .address → d ≡ e
   entry-one e d m n q =

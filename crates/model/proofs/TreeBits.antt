@@ -1,7 +1,7 @@
 -- Laws of the bits of a number: one bit read, one bit put, and a test of the low bits.
 use mathlib.Core.Path.{_≡_, refl, sym, ap, _∙_}
-use mathlib.Core.Logic.{_⊎_, inl, inr, ⊎-elim}
-use mathlib.Core.Bool.{Bool, true, false, not, _&&_, _||_}
+use mathlib.Core.Logic.{_⊎_, inl, inr}
+use mathlib.Core.Bool.{Bool, true, false, not, _&&_, or-false}
 use Prim.Native.Nat.{ℕ, zero, suc, _+_, _*_, _-_, _/_, _%_, _^_, _≤_, _<_, max}
 use native.Mathlib.Nat.{pow-suc, mod-one, div-one, zero-div}
 use native.Mathlib.Omega.{arith}
@@ -12,7 +12,8 @@ use lib.Dec.{eqb, ltb}
 use borrow.Author.Tests.{ne-eqb, eqb-true, eqb-false, lt-ltb, le-ltb, ltb-true, ltb-false}
 use Rattle.words.specs.Words.{some}
 use Rattle.model.specs.Tree.{bit, withBit, isIn, someFrom}
-use Rattle.words.proofs.Flags.{or-false, or-2, flag}
+use Rattle.words.proofs.Flags.{or-2, flag}
+use Rattle.words.proofs.Below.{some-same}
 
 pub bit-zero : (t : ℕ) → bit t 0 ≡ t % 2
 unfolding bit
@@ -102,10 +103,6 @@ some-low x zero = rw (mod-one x)
 some-low x (suc w) =
     let c : 1 + w ≡ suc w = omega arith in
     some-step x w (x % 2 ^ w) (some-low x w) (ap (λ (k : ℕ). x % 2 ^ k) (sym c) ∙ mod-pow-add x 1 w) (halves (bit-two x w))
-
-some-same : (p q : ℕ → Bool) (n : ℕ) → ((i : ℕ) → i < n → p i ≡ q i) → some n p ≡ some n q
-some-same p q zero f = refl
-some-same p q (suc n) f = rw (f n (omega arith), some-same p q n (λ i l. f i (omega arith)))
 
 -- the bits of a mask from `first` on
 pub some-shifted : (m first w : ℕ) → someFrom (isIn m) first w ≡ not (eqb (m / 2 ^ first % 2 ^ w) 0)

@@ -2,21 +2,20 @@
 -- others, and sets no bit beyond the nodes in use. Then the worked examples.
 use mathlib.Core.Path.{_≡_, refl, sym, ap, subst, _∙_}
 use mathlib.Core.Logic.{_⊎_, inl, inr, ⊎-elim}
-use mathlib.Core.Bool.{Bool, true, false, not, _&&_, _||_}
+use mathlib.Core.Bool.{Bool, true, false, not, _&&_}
 use mathlib.Core.List.{List, [], _∷_}
 use Prim.Native.Nat.{ℕ, zero, suc, _+_, _*_, _-_, _/_, _%_, _^_, _≤_, _<_}
-use native.Mathlib.Nat.{pow-suc, mul-assoc, mul-comm, add-mul, add-zero, mul-le-mul, eq-or-lt-of-le, le-of-suc-le-suc}
+use native.Mathlib.Nat.{pow-suc, mul-assoc, add-mul, add-zero, mul-le-mul, eq-or-lt-of-le, le-of-suc-le-suc}
 use native.Mathlib.Omega.{arith}
 use lib.Pow.{pow-pos, high}
 use lib.Dec.{eqb, leb, ltb}
-use lib.ListN.{getD}
 use borrow.Author.Tests.{eqb-true, ltb-true, lt-ltb, ltb-false, leb-true, leb-false}
-use Rattle.words.specs.Words.{pick, any, some}
+use Rattle.words.specs.Words.{pick, any}
 use Rattle.model.specs.Tree.{bit, withBit, isIn, named, pointed, someFrom, goes, descent, treeChoice, sideOf, turned, touchedTree, powerTo16, halvings, levels, treeFine}
 use Rattle.model.specs.declared.Found.{Found}
 use Rattle.model.specs.declared.Found.the-variants.{At, Nothing}
-use Rattle.words.proofs.Flags.{and-1, and-2, flag, clash, iff, no-yes, by-flag}
-use Rattle.words.proofs.Below.{some-at, some-i}
+use Rattle.words.proofs.Flags.{and-1, and-2, flag, clash, no-yes, by-flag}
+use Rattle.words.proofs.Below.{some-at, some-i, some-same}
 use Rattle.words.proofs.Lists.{In, all-in, any-in}
 use Rattle.model.proofs.TreeBits.{bit-two, halves, put-same, put-other, put-below}
 
@@ -156,10 +155,8 @@ module _ (p q : ℕ → Bool) (t : ℕ) (fewer : (w : ℕ) → q w ≡ true → 
       go (inl h) (inl g) = let d : At (descent p t k 1 0) ≡ Nothing = rw g at e in let z : _≡_ {A = ℕ} 0 1 = cc in absurd (omega arith)
 
 -- the same candidates
-some-same : (p q : ℕ → Bool) (first width : ℕ) → ((w : ℕ) → first ≤ w → w < first + width → p w ≡ q w) → someFrom p first width ≡ someFrom q first width
-some-same p q first width f =
-    iff (λ y. let (w, a, b, e) = in-some p first width y in some-in q first width w a b (sym (f w a b) ∙ e))
-    (λ y. let (w, a, b, e) = in-some q first width y in some-in p first width w a b (f w a b ∙ e))
+from-same : (p q : ℕ → Bool) (first width : ℕ) → ((w : ℕ) → first ≤ w → w < first + width → p w ≡ q w) → someFrom p first width ≡ someFrom q first width
+from-same p q first width f = some-same (λ i. p (first + i)) (λ i. q (first + i)) width (λ i h. f (first + i) (omega arith) (omega arith))
 
 module _ (p q : ℕ → Bool) (t : ℕ) where
   pub descent-same : (k n first : ℕ) → ((w : ℕ) → first ≤ w → w < first + 2 ^ k → p w ≡ q w) → descent p t k n first ≡ descent q t k n first
@@ -167,14 +164,14 @@ module _ (p q : ℕ → Bool) (t : ℕ) where
   descent-same zero n first f = refl
   descent-same (suc k) n first f =
       let e : someFrom p (first + named t n * 2 ^ k) (2 ^ k) ≡ someFrom q (first + named t n * 2 ^ k) (2 ^ k) =
-      some-same p q _ _ (λ w a b. let h = half-inside k first w (bit-two t (n - 1)) a b in f w (h .0) (h .1)) in
+      from-same p q _ _ (λ w a b. let h = half-inside k first w (bit-two t (n - 1)) a b in f w (h .0) (h .1)) in
       let g : goes p t k n first ≡ goes q t k n first = ap (λ (b : Bool). pick b (named t n) (1 - named t n)) e in
       descent-same k _ _ (λ w a b. let h = half-inside k first w (goes-two p t k n first) a b in f w (h .0) (h .1))
       ∙ ap (λ (h : ℕ). descent q t k (2 * n + h) (first + h * 2 ^ k)) g
 
   pub choice-same : (k : ℕ) → ((w : ℕ) → w < 2 ^ k → p w ≡ q w) → treeChoice p t k ≡ treeChoice q t k
   choice-same k f =
-      let e = some-same p q 0 (2 ^ k) (λ w a b. f w (omega arith)) in
+      let e = from-same p q 0 (2 ^ k) (λ w a b. f w (omega arith)) in
       rw (e, descent-same k 1 0 (λ w a b. f w (omega arith)))
 
 -- ---- after an access

@@ -11,7 +11,7 @@ use lib.Seq.{getD-take, getD-drop}
 use lib.Dec.{leb}
 use borrow.Author.Tests.{leb-true, leb-false}
 use Rattle.words.specs.Words.{pick}
-use Rattle.model.specs.Address.{blockOf, setIndex, lineNumber}
+use Rattle.model.specs.Address.{setIndex, lineNumber}
 use Rattle.model.specs.Tables.{Line, whollyInvalid, fresh}
 use Rattle.model.specs.Tree.{levels}
 use Rattle.model.specs.Probe.{waysOf, enoughDirty, candidate, next, orElse, first, last, older, earliest, Rule, byKey, byTree, choiceBy, victim}
@@ -170,12 +170,15 @@ pub record Sits (S : Settings) (ls : List Line) (a w : ℕ) : Type 0 where
   pub low : w < S .ways
   pub line : getD (waysOf S ls a) w fresh ≡ getD ls (lineNumber S a w) fresh
 
+pub way-line : (S : Settings) (ls : List Line) (a w : ℕ) → w < S .ways → getD (waysOf S ls a) w fresh ≡ getD ls (lineNumber S a w) fresh
+way-line S ls a w h = getD-take (S .ways) (drop (setIndex S a * S .ways) ls) w fresh h ∙ getD-drop (setIndex S a * S .ways) ls w fresh
+
 pub way-sits : (S : Settings) (ls : List Line) (a w : ℕ) → w < length (waysOf S ls a) → Sits S ls a w
 way-sits S ls a w h =
     let n : ℕ = setIndex S a * S .ways in
     let k : length (waysOf S ls a) ≡ min (S .ways) (length ls - n) = length-take (S .ways) (drop n ls) ∙ rw length-drop in
     let low : w < S .ways = omega arith in
-    record { inside = omega arith; low = low; line = getD-take (S .ways) (drop n ls) w fresh low ∙ getD-drop n ls w fresh }
+    record { inside = omega arith; low = low; line = way-line S ls a w low }
 
 pub way-in : (S : Settings) (ls : List Line) (a : ℕ) (l : Line) → In l (waysOf S ls a) → In l ls
 way-in S ls a l m = in-drop (setIndex S a * S .ways) ls l (in-take (S .ways) (drop (setIndex S a * S .ways) ls) l m)
@@ -189,12 +192,8 @@ line-among S ls a j z h e =
     let low : w < S .ways = mod-lt j z in
     let q : n + w ≡ j = ap (λ (c : ℕ). c * S .ways + w) e ∙ div-add-mod' j (S .ways) in
     let k : length (waysOf S ls a) ≡ min (S .ways) (length ls - n) = length-take (S .ways) (drop n ls) ∙ rw length-drop in
-    let g : getD (waysOf S ls a) w fresh ≡ getD ls j fresh =
-    getD-take (S .ways) (drop n ls) w fresh low ∙ getD-drop n ls w fresh ∙ ap (λ (c : ℕ). getD ls c fresh) q in
+    let g : getD (waysOf S ls a) w fresh ≡ getD ls j fresh = way-line S ls a w low ∙ ap (λ (c : ℕ). getD ls c fresh) q in
     subst (λ (l : Line). In l (waysOf S ls a)) g (in-getD (waysOf S ls a) w fresh (omega arith))
-
-pub set-of-block : (S : Settings) (a : ℕ) → setIndex S (blockOf a) ≡ setIndex S a
-set-of-block S a = let e : blockOf a / 128 ≡ a / 128 = omega arith in ap (λ (c : ℕ). c % S .sets) e
 
 pub set-of-line : (S : Settings) (a w : ℕ) → w < S .ways → lineNumber S a w / S .ways ≡ setIndex S a
 set-of-line S a w h = mul-add-div-right (omega arith) (setIndex S a) w ∙ rw (div-eq-of-lt h) (add-zero (setIndex S a))

@@ -14,7 +14,7 @@ use Rattle.model.specs.Probe.{enoughDirty}
 use Rattle.model.specs.declared.Settings.{Settings}
 use Rattle.words.proofs.Below.{every-at}
 use Rattle.words.proofs.Flags.{and-i, or-cases, clash}
-use Rattle.model.proofs.Fits.{ranged}
+use Rattle.model.proofs.Fits.{ranged, sets-most}
 use Rattle.percentage.specs.Percent.{floatMeets, wholeMeets, cacheOf, Legal}
 use Rattle.percentage.specs.Differences.{differ}
 use Rattle.percentage.proofs.Laws.{ours, agreed}
@@ -52,11 +52,8 @@ module _ (S : Settings) (e : inRange S ≡ true) where
   pub lines-some : 1 ≤ linesOf S
   lines-some = let r = ranged S e in le-trans (r .sets) (le-mul-of-pos-right (S .sets) (r .ways))
 
-  sets-most : S .sets ≤ 1024
-  sets-most = let r = ranged S e in le-trans (le-mul-of-pos-right (S .sets) (r .ways)) (r .lines)
-
   sets-divide : eqb (256 % S .sets) 0 ≡ true
-  sets-divide = let r = ranged S e in sym (power-is (S .sets) (r .sets) sets-most) ∙ r .power
+  sets-divide = let r = ranged S e in sym (power-is (S .sets) (r .sets) (omega (arith, sets-most S e))) ∙ r .power
 
   pub split : Split (linesOf S) (S .ways)
   split =

@@ -9,22 +9,21 @@ use native.Mathlib.Omega.{arith}
 use lib.ListN.{length, getD}
 use lib.Dec.{eqb}
 use borrow.Author.Tests.{eq-eqb, ne-eqb, lt-ltb, le-ltb}
-use Rattle.model.specs.Address.{setIndex}
 use Rattle.model.specs.Tables.{Entry, Tables, entryFor}
-use Rattle.model.specs.Lent.{lent, bit}
+use Rattle.model.specs.Lent.{lent}
 use Rattle.model.specs.Inner.{Encodes}
 use Rattle.model.specs.declared.Settings.{Settings}
-use Rattle.model.proofs.SoundFacts.{parts}
+use Rattle.model.proofs.SoundFacts.{parts, few-misses}
 use Rattle.layout.specs.declared.Layout.{Layout}
 use Rattle.layout.specs.Layout.{Placed}
 use Rattle.layout.specs.Places.{First}
 use Rattle.layout.proofs.ByBlocks.{is-stands}
-use Rattle.tables.proofs.Misses.{noEntry, misses-used, address-at, sent-at, count-at}
-use Rattle.steps.proofs.Entries.{few-misses, some-tickets}
+use Rattle.tables.proofs.Misses.{noEntry, address-at, sent-at, count-at, misses-counted}
 use Rattle.reasons.specs.declared.Reason.{Reason}
 use Rattle.reasons.specs.declared.Reason.the-variants as reason
 use Rattle.reasons.specs.Reasons.{entryReason, ofSet, anyEntry}
 use Rattle.reasons.specs.Parts.{FirstInSet, entryShown}
+use Rattle.encoding.proofs.NumbersAreTables.{flag-of-bit}
 
 abbrev told : Entry → Reason
 told e = reason.Entry (e .address) (e .sent) (length (e .tickets))
@@ -39,15 +38,11 @@ none-told : (q : Entry → Bool) (es : List Entry) → ((k : ℕ) → k < length
 none-told q [] f = refl
 none-told q (x ∷ es) f = rw (f 0 (omega arith)) (none-told q es (λ k j. f (suc k) (omega arith)))
 
-bit-flag : (b : Bool) → eqb (bit b) 1 ≡ b
-bit-flag true = refl
-bit-flag false = refl
-
 -- n entries are in use
 module _ (S : Settings) {longs words marks : List ℕ} (t : Tables) (i : Encodes S (lent longs words marks) t) {at : Layout} (p : Placed S at)
     {n : ℕ} (u : First marks (at .counts) (S .misses) 0 n) where
   pub in-use : n ≡ length (t .misses)
-  in-use = let ok = parts S t (i .soundly) in misses-used S t (is-stands i) p (few-misses S t ok) (some-tickets S t ok) u
+  in-use = misses-counted S t i p u
 
   few : length (t .misses) ≤ S .misses
   few = few-misses S t (parts S t (i .soundly))
@@ -56,7 +51,7 @@ module _ (S : Settings) {longs words marks : List ℕ} (t : Tables) (i : Encodes
   address-is e h = address-at S t (is-stands i) p few e h
 
   sent-is : (e : ℕ) → e < length (t .misses) → eqb (getD marks (at .sent + e) 0) 1 ≡ getD (t .misses) e noEntry .sent
-  sent-is e h = ap (λ (k : ℕ). eqb k 1) (sent-at S t (is-stands i) p few e h) ∙ bit-flag (getD (t .misses) e noEntry .sent)
+  sent-is e h = ap (λ (k : ℕ). eqb k 1) (sent-at S t (is-stands i) p few e h) ∙ flag-of-bit (getD (t .misses) e noEntry .sent)
 
   module _ (q : Entry → Bool) {e : ℕ} (before : (k : ℕ) → k < length (t .misses) → k < e → q (getD (t .misses) k noEntry) ≡ false)
       (there : e < length (t .misses) → q (getD (t .misses) e noEntry) ≡ true) where

@@ -1,13 +1,12 @@
 -- The queue's head and its free places; the dirty lines; the check before a reason.
 use mathlib.Core.Path.{_≡_, refl, sym, ap, _∙_}
-use mathlib.Core.Bool.{Bool, true, false}
 use mathlib.Core.List.{List, [], _∷_}
-use Prim.Native.Nat.{ℕ, _-_, _≤_, _<_}
+use Prim.Native.Nat.{ℕ, _-_, _≤_}
 use native.Mathlib.Omega.{arith}
+use native.Mathlib.Nat.{pos-of-ne-zero}
 use lib.ListN.{length, getD}
-use Rattle.words.specs.Words.{count}
 use Rattle.model.specs.Range.{linesOf}
-use Rattle.model.specs.Tables.{idle, Tables, Outcome, refused, done, dirty, dirtyLines}
+use Rattle.model.specs.Tables.{idle, Tables, Outcome, refused, done, dirty}
 use Rattle.model.specs.Lent.{Lent, lent, tablesOf}
 use Rattle.model.specs.Calls.{checkCall, verdictOf}
 use Rattle.model.specs.Inner.{Encodes}
@@ -18,9 +17,8 @@ use Rattle.model.specs.declared.Access.{Access}
 use Rattle.model.specs.declared.Event.{Event}
 use Rattle.model.specs.declared.Refusal.{Refusal}
 use Rattle.model.specs.declared.Verdict.the-variants as verdict
-use Rattle.model.proofs.SoundFacts.{parts, lines-are}
+use Rattle.model.proofs.SoundFacts.{parts, few-queued}
 use Rattle.encoding.proofs.DecodeIsSound.{Small}
-use Rattle.encoding.proofs.Bridge.{is-fit}
 use Rattle.soundness.specs.Laid.{Checks}
 use Rattle.soundness.specs.declared.LaidVerdict.{LaidVerdict}
 use Rattle.soundness.specs.declared.LaidVerdict.the-variants as laid
@@ -30,15 +28,13 @@ use Rattle.layout.specs.Layout.{Placed}
 use Rattle.layout.specs.Places.{First}
 use Rattle.tables.specs.Raw.{frontAt}
 use Rattle.layout.proofs.ByBlocks.{is-stands}
-use Rattle.tables.proofs.Queue.{queue-used, front-is}
-use Rattle.steps.proofs.Entries.{few-queued, head-four}
+use Rattle.tables.proofs.Queue.{front-is, queue-counted}
+use Rattle.steps.proofs.Entries.{head-four}
 use Rattle.layout.proofs.DirtyCount.{dirty-count-at}
 use Rattle.reasons.specs.declared.Reason.{Reason}
 use Rattle.reasons.specs.declared.Reason.the-variants as reason
 use Rattle.reasons.specs.Reasons.{linesReason, missingLines, queueReason, reasonFor, reasonChecked, reasonCall}
 use Rattle.reasons.specs.Parts.{Gives}
-use Rattle.words.proofs.Counting.{count-length}
-use borrow.Author.Tests.{eqb-true}
 
 -- ---- the queue
 
@@ -56,7 +52,7 @@ module _ (S : Settings) {longs words marks : List ℕ} (t : Tables) (i : Encodes
   short = few-queued S t (parts S t (i .soundly))
 
   queued : n ≡ length (t .queue)
-  queued = queue-used S t (is-stands i) p short u
+  queued = queue-counted S t i p u
 
   pub queue-empty : n ≡ 0 → reason.Nothing ≡ queueReason (S .queue) (t .queue)
   queue-empty e = sym (none-told (S .queue) (t .queue) (sym queued ∙ e))
@@ -65,23 +61,13 @@ module _ (S : Settings) {longs words marks : List ℕ} (t : Tables) (i : Encodes
       → reason.Queue h (S .queue - n) ≡ queueReason (S .queue) (t .queue)
   head-shown e front is =
       let all = queued in
-      let some : 1 ≤ length (t .queue) = some-from (length (t .queue)) (λ z. e (all ∙ z)) in
+      let some : 1 ≤ length (t .queue) = pos-of-ne-zero (λ z. e (all ∙ z)) in
       let head = is ∙ ap sentEvent (front ∙ front-is S t (is-stands i) p short some (head-four S t (parts S t (i .soundly)) some)) in
       rw (head, all) (sym (head-told (S .queue) (t .queue) some))
-    where
-      some-from : (k : ℕ) → (k ≡ 0 → ⊥) → 1 ≤ k
-      some-from k f = omega arith
 
 -- ---- the dirty lines
 
 module _ (S : Settings) {longs words marks : List ℕ} (t : Tables) (i : Encodes S (lent longs words marks) t) {at : Layout} (p : Placed S at) where
-  pub dirty-few : getD words (at .dirty) 0 ≤ 1024
-  dirty-few =
-      let ok = parts S t (i .soundly) in
-      let f = is-fit S (lent longs words marks) t i in
-      let e : getD words (at .dirty) 0 ≡ count dirty (t .lines) = dirty-count-at S t (is-stands i) p ∙ eqb-true (t .dirtyCount) (dirtyLines t) (ok .counted) in
-      omega (arith, e, count-length dirty (t .lines), lines-are S t ok)
-
   pub lines-shown : {d m : ℕ} → d ≡ getD words (at .dirty) 0 → m ≡ missingLines (S .dirty) (linesOf S) d
       → reason.Lines m d (linesOf S) (S .dirty) ≡ linesReason S (t .dirtyCount)
   lines-shown {d} f e = let same : d ≡ t .dirtyCount = f ∙ dirty-count-at S t (is-stands i) p in rw (e, same)

@@ -1,6 +1,6 @@
 -- Every refusal of an access by 5 to 9 names what it waits for: of what the refusal's own test says, the reason is never empty, and a
 -- held set misses a line at least.
-use mathlib.Core.Path.{_≡_, refl, sym, ap, _∙_}
+use mathlib.Core.Path.{_≡_, sym, ap, _∙_}
 use mathlib.Core.Logic.{_⊎_, inl, inr}
 use mathlib.Core.Bool.{Bool, true, false, _&&_, _||_, false≢true}
 use mathlib.Core.List.{List, [], _∷_}
@@ -17,13 +17,13 @@ use Rattle.model.specs.Probe.{waysOf, enoughDirty}
 use Rattle.model.specs.Steps.{entryFull}
 use Rattle.model.specs.declared.Settings.{Settings}
 use Rattle.model.specs.declared.Queued.{Queued}
-use Rattle.model.specs.declared.Status.{Status}
-use Rattle.model.specs.declared.Status.the-variants.{Invalid, Reserved, Valid, Modified}
 use Rattle.model.specs.declared.Sector.{Sector}
-use Rattle.words.proofs.Flags.{and-1, and-2, flag}
+use Rattle.words.proofs.Flags.{and-1, and-2, flag, clash}
 use Rattle.words.proofs.Lists.{In, all-in, any-in, in-any, in-getD, in-index}
-use Rattle.model.proofs.SoundFacts.{Sound, entries-some, places-two, line-at, four-at, tag-aligned, reserved-at}
+use Rattle.model.proofs.SoundFacts.{Sound, line-at, four-at, tag-aligned, reserved-at}
 use Rattle.model.proofs.Ways.{Sits, way-sits, set-of-line}
+use Rattle.model.proofs.Fits.{ranged}
+use Rattle.model.proofs.ProbeFindsSpot.{reserved-used}
 use Rattle.reasons.specs.declared.Reason.{Reason}
 use Rattle.reasons.specs.declared.Reason.the-variants as reason
 use Rattle.reasons.specs.Reasons.{entryReason, ofSet, anyEntry, missingLines, queueReason}
@@ -39,12 +39,6 @@ any-named q (e ∷ es) h = go (q e) h (any-named q es)
     go : (b : Bool) → (b || any q es) ≡ true → (any q es ≡ true → Named (entryReason q es)) → Named (pick b (reason.Entry (e .address) (e .sent) (length (e .tickets))) (entryReason q es))
     go true k f n = let z : _≡_ {A = ℕ} 0 1 = cc in omega arith
     go false k f n = f k n
-
-reserved-used : (c : Status) → isInvalid c ≡ true → isReserved c ≡ true → ⊥
-reserved-used Invalid i r = false≢true r
-reserved-used Reserved i r = false≢true i
-reserved-used Valid i r = false≢true i
-reserved-used Modified i r = false≢true i
 
 -- a sector of a block lies in the block's set
 set-of-sector : (S : Settings) (b k : ℕ) → b % 128 ≡ 0 → k < 4 → setIndex S (b + 32 * k) ≡ setIndex S b
@@ -73,7 +67,7 @@ module _ (S : Settings) (t : Tables) (ok : Sound S t) where
           eqb-true (setIndex S (l .tag)) (lineNumber S a w / S .ways) (and-2 (goodBlock (l .tag)) _ q) ∙ set-of-line S a w (sits .low)
 
       go : (whollyInvalid l ≡ true) ⊎ (whollyInvalid l ≡ false) → (s : Sector) × In s (l .sectors) × (isReserved (s .status) ≡ true) → any (ofSet (S .sets) (setIndex S a)) (t .misses) ≡ true
-      go (inl u) (s, n, q) = absurd (reserved-used (s .status) (all-in (λ (v : Sector). isInvalid (v .status)) (l .sectors) u n) q)
+      go (inl u) (s, n, q) = clash (all-in (λ (v : Sector). isInvalid (v .status)) (l .sectors) u n) (reserved-used (s .status) q)
       go (inr u) (s, n, q) =
           let (k, b, e) = in-index (l .sectors) empty s n in
           let four : k < 4 = omega (arith, four-at S t ok l m) in
@@ -98,7 +92,7 @@ held-misses-some S d h = let q = leb-false (S .dirty * linesOf S) (100 * d) h in
 -- ---- 7: "too few free queue places" for an access that needs two at the most
 
 pub queue-named : (S : Settings) (qs : List Queued) → inRange S ≡ true → (n : ℕ) → n ≤ 2 → ltb (S .queue) (length qs + n) ≡ true → Named (queueReason (S .queue) qs)
-queue-named S [] range n few h e = absurd (omega (arith, ltb-true (S .queue) (0 + n) h, places-two S range))
+queue-named S [] range n few h e = absurd (omega (arith, ltb-true (S .queue) (0 + n) h, ranged S range .place))
 queue-named S (q ∷ qs) range n few h e = let z : _≡_ {A = ℕ} 0 1 = cc in omega arith
 
 -- ---- 8: "entry has W tickets"
@@ -111,5 +105,5 @@ readers-named S a es h =
 -- ---- 9: "M in use"
 
 pub table-named : (S : Settings) (es : List Entry) → inRange S ≡ true → leb (S .misses) (length es) ≡ true → Named (entryReason anyEntry es)
-table-named S [] range h n = absurd (omega (arith, leb-true (S .misses) 0 h, entries-some S range))
+table-named S [] range h n = absurd (omega (arith, leb-true (S .misses) 0 h, ranged S range .entry))
 table-named S (e ∷ es) range h n = let z : _≡_ {A = ℕ} 0 1 = cc in omega arith

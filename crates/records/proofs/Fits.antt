@@ -1,6 +1,6 @@
 -- The events of a step on sound tables whose tickets are 32 bits fit the bytes that document 01 gives them, and the tables after it have such
 -- tickets again; a command read out of bytes fits. What fits reads back (RoundTrip).
-use mathlib.Core.Path.{_≡_, refl}
+use mathlib.Core.Path.{_≡_, refl, _∙_}
 use mathlib.Core.Bool.{Bool, true, not, _&&_, _||_}
 use mathlib.Core.List.{List, [], _∷_, _++_, map}
 use Prim.Native.Nat.{ℕ, zero, suc, _+_, _%_, _^_, _≤_, _<_}
@@ -9,7 +9,7 @@ use native.Mathlib.Omega.{arith}
 use borrow.Author.Tests.{le-leb, leb-true, ltb-true, eqb-true}
 use lib.Dec.{leb, ltb, eqb}
 use lib.ListN.{length, getD}
-use Rattle.words.specs.Words.{all, any, keep, fit, packed}
+use Rattle.words.specs.Words.{all, any, keep, fit}
 use Rattle.model.specs.Range.{inRange, linesOf}
 use Rattle.model.specs.Address.{addressOf, isRead, goodSector, goodBlock, wellFormed}
 use Rattle.model.specs.Tables.{Entry, reading, Tables, Outcome, after, eventsOf, entryFor, withMisses}
@@ -33,7 +33,7 @@ use Rattle.model.specs.declared.Command.{Command}
 use Rattle.model.specs.declared.Command.the-variants as cmd
 use Rattle.model.specs.declared.CommandRead.the-variants as command
 use Rattle.words.proofs.Flags.{and-1, and-2, and-i, clash, by-flag}
-use Rattle.words.proofs.Lists.{In, all-in, in-all, any-in, in-keep}
+use Rattle.words.proofs.Lists.{In, all-in, in-all, any-in, in-keep, all-append}
 use Rattle.model.proofs.SoundFacts.{Sound, parts, entry-parts, queued-parts}
 use Rattle.model.proofs.Fits.{ranged}
 use Rattle.model.proofs.AccessKeepsSound.{Spotted, formed-good}
@@ -174,10 +174,6 @@ step-fits S (cmd.Tick c) t range ok few = tick-fits c t
 
 -- ---- the tickets after a step
 
-pub all-append : {A : Type 0} (p : A → Bool) (l m : List A) → all p l ≡ true → all p m ≡ true → all p (l ++ m) ≡ true
-all-append p [] m h g = g
-all-append p (x ∷ l) m h g = and-i (and-1 (p x) (all p l) h) (all-append p l m (and-2 (p x) (all p l) h) g)
-
 abbrev stamps : List Entry → Bool
 stamps es = all (λ e. words (e .tickets)) es
 
@@ -192,7 +188,7 @@ one-word k h = and-i (le-leb k allOnes h) refl
 join-words : (a k : ℕ) → k ≤ allOnes → (e : Entry) → words (e .tickets) ≡ true → words (join a k e .tickets) ≡ true
 join-words a k h e w =
     by-flag (λ (d : Entry). words (d .tickets) ≡ true) (entryFor a e) _ _
-    (λ q. all-append (λ m. leb m allOnes) (e .tickets) (k ∷ []) w (one-word k h))
+    (λ q. all-append (λ m. leb m allOnes) (e .tickets) (k ∷ []) ∙ and-i w (one-word k h))
     (λ q. w)
 
 mark-words : (a : ℕ) (e : Entry) → words (e .tickets) ≡ true → words (mark a e .tickets) ≡ true
@@ -203,7 +199,7 @@ misses-stamped (Read a m k) n es h w =
     by-flag (λ (l : List Entry). stamps l ≡ true) (isMerge n) _ _
     (λ q. map-stamps (join a k) (join-words a k h) es w)
     (λ q. by-flag (λ (l : List Entry). stamps l ≡ true) (isMiss n) _ _
-    (λ q. all-append (λ e. words (e .tickets)) es _ w (and-i (one-word k h) refl))
+    (λ q. all-append (λ e. words (e .tickets)) es _ ∙ and-i w (and-i (one-word k h) refl))
     (λ q. w))
 misses-stamped (Write a m k) n es h w = w
 

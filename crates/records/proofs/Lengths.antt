@@ -1,18 +1,19 @@
 -- The constant table of lengths: its rule, by one computed test over the whole table; no kind is past it; the kinds of commands and of settings.
 use mathlib.Core.Path.{_≡_, refl, sym, _∙_}
 use mathlib.Core.Logic.{⊎-elim}
-use mathlib.Core.Bool.{Bool, true, false, _||_}
+use mathlib.Core.Bool.{Bool, true, _||_, or-false}
 use mathlib.Core.List.{List, [], _∷_, _++_}
 use Prim.Native.Nat.{ℕ, _≤_, _<_}
 use native.Mathlib.Omega.{arith}
 use borrow.Author.Tests.{ne-eqb, eqb-true, leb-true, ltb-true, ltb-false}
 use lib.ListN.{getD}
 use lib.Dec.{eqb, leb, ltb}
-use Rattle.words.specs.Words.{all, any, every, same}
+use Rattle.words.specs.Words.{all, every, same}
 use Rattle.model.specs.RecordsOf as records
 use Rattle.model.specs.Records.{Kind, commandKinds, eventKinds, bodyIn, lengthOf, isCommand, isSettings}
-use Rattle.words.proofs.Flags.{and-1, and-2, or-false, flag, same-is}
+use Rattle.words.proofs.Flags.{and-1, and-2, flag, same-is}
 use Rattle.words.proofs.Below.{every-at}
+use Rattle.words.proofs.Lists.{none-past}
 
 abbrev pub lengths : List ℕ
 lengths =
@@ -47,19 +48,11 @@ length-past k h = past 25 k (commandKinds ++ eventKinds) refl h
 
 -- ---- the kinds of commands
 
-none : (n k : ℕ) (xs : List Kind) → below n xs ≡ true → n ≤ k → any (λ x. eqb k (x .kind)) xs ≡ false
-unfolding below
-none n k [] e h = refl
-none n k (x ∷ xs) e h =
-    let p : x .kind < n = ltb-true (x .kind) n (and-1 (ltb (x .kind) n) (below n xs) e) in
-    rw (ne-eqb k (x .kind) (λ q. omega arith)) (none n k xs (and-2 (ltb (x .kind) n) (below n xs) e) h)
-
 pub command-kinds : (k : ℕ) → ltb k 7 ≡ isCommand k
-unfolding below
 command-kinds k =
     ⊎-elim
     (λ e. same-is (ltb k 7) (isCommand k) (every-at (λ i. same (ltb i 7) (isCommand i)) 7 k refl (ltb-true k 7 e)))
-    (λ e. e ∙ sym (none 7 k commandKinds refl (ltb-false k 7 e)))
+    (λ e. e ∙ sym (none-past (λ x. x .kind) 7 k commandKinds refl (ltb-false k 7 e)))
     (flag (ltb k 7))
 
 pub settings-kinds : (k : ℕ) → (eqb k 0 || eqb k 6) ≡ isSettings k

@@ -1,6 +1,6 @@
 -- A log of events as bytes, part by part, as the code stores it.
 use mathlib.Core.Path.{_≡_, refl, sym, ap, _∙_}
-use mathlib.Core.List.{List, [], _∷_, _++_, map, append-assoc, append-nil}
+use mathlib.Core.List.{List, [], _∷_, _++_, map, append-nil, map-append}
 use Prim.Native.Nat.{ℕ, zero, suc, _+_, _*_, _≤_, _<_}
 use native.Mathlib.Nat.{add-zero}
 use native.Mathlib.Numerals.{add-one}
@@ -16,21 +16,13 @@ use Rattle.model.specs.declared.Event.the-variants.{Released}
 use Rattle.records.specs.Stores.{Laid}
 use Rattle.records.specs.Parts.{queuedTold, ticketsTold}
 use Rattle.records.proofs.Stores.{laid-then, laid-as, laid-sized}
-
-pub log-append : (es fs : List Event) → logBytes (es ++ fs) ≡ logBytes es ++ logBytes fs
-unfolding records.logBytes
-log-append [] fs = refl
-log-append (e ∷ es) fs = rw (log-append es fs, append-assoc)
+use Rattle.model.proofs.Logs.{log-append}
 
 pub log-one : (e : Event) → logBytes (e ∷ []) ≡ eventBytes e
 unfolding records.logBytes
 log-one e = append-nil (eventBytes e)
 
 -- ---- entries that were queued
-
-queued-append : (xs ys : List Queued) → map queuedEvent (xs ++ ys) ≡ map queuedEvent xs ++ map queuedEvent ys
-queued-append [] ys = refl
-queued-append (x ∷ xs) ys = rw (queued-append xs ys)
 
 -- fewer of them are no more bytes
 pub queued-fewer : (m n : ℕ) (xs : List Queued) → m ≤ n → length (logBytes (queuedTold m xs)) ≤ length (logBytes (queuedTold n xs))
@@ -48,7 +40,7 @@ queued-start xs l at = record { next = sym (add-zero at); slice = refl }
 
 module _ (xs : List Queued) (d : Queued) (j : ℕ) (h : j < length xs) {e : Event} (is : e ≡ queuedEvent (getD xs j d)) where
   pub queued-next : queuedTold (j + 1) xs ≡ queuedTold j xs ++ (e ∷ [])
-  queued-next = rw (is, add-one, take-suc xs j d h, queued-append)
+  queued-next = rw (is, add-one, take-suc xs j d h, map-append)
 
   queued-bytes : logBytes (queuedTold j xs) ++ eventBytes e ≡ logBytes (queuedTold (j + 1) xs)
   queued-bytes = rw (queued-next, log-append, log-one)
@@ -66,10 +58,6 @@ pub released-length : (ts : List ℕ) → length (logBytes (map Released ts)) �
 unfolding records.logBytes records.eventBytes bytesOf
 released-length [] = refl
 released-length (t ∷ ts) = let h = released-length ts in omega arith
-
-map-append : (ts us : List ℕ) → map Released (ts ++ us) ≡ map Released ts ++ map Released us
-map-append [] us = refl
-map-append (t ∷ ts) us = rw (map-append ts us)
 
 module _ (ts : List ℕ) where
   pub tickets-length : (j : ℕ) → j ≤ length ts → length (logBytes (ticketsTold j ts)) ≡ 5 * j

@@ -1,5 +1,5 @@
 -- Calls on slices of 32-bit words: their events fit, and take 49 bytes at most; the words after them are 32 bits again.
-use mathlib.Core.Path.{_≡_, refl, sym, subst}
+use mathlib.Core.Path.{_≡_, refl, sym, subst, _∙_}
 use mathlib.Core.Logic.{inl, inr}
 use mathlib.Core.Bool.{Bool, true, false}
 use mathlib.Core.List.{List, [], _∷_, map}
@@ -8,51 +8,47 @@ use native.Mathlib.Nat.{le-trans}
 use native.Mathlib.Omega.{arith}
 use lib.Pow.{pow-lt}
 use borrow.Author.Tests.{le-leb, leb-true, eqb-true, ltb-true}
-use lib.Dec.{leb, eqb, lit≤}
+use lib.Dec.{leb, lit≤}
 use lib.ListN.{length, getD}
-use Rattle.words.specs.Words.{all, table, fit, packed, joined}
+use Rattle.words.specs.Words.{all, fit, packed, joined}
 use Rattle.model.specs.Range.{inRange, linesOf, isTree}
 use Rattle.model.specs.Tree.{treeFine}
-use Rattle.model.specs.Tables.{Line, Entry, Tables, Outcome, after, eventsOf, fresh, dirty, dirtyLines}
-use Rattle.model.specs.Lent.{Lent, lengthsFit, tablesOf, encode, ticketAt, entryAt, ticketCountAt, cycleOf, takenOf, treeOf, masksOf, ticketsIn, queueMasksOf, wordBlocks}
-use Rattle.model.specs.Sound.{allOnes, lastCycle, maskOk, sectorOk, lineOk, queuedOk, sound}
+use Rattle.model.specs.Tables.{Line, Entry, Tables, Outcome, after, eventsOf, fresh, dirty}
+use Rattle.model.specs.Lent.{Lent, lengthsFit, tablesOf, encode, ticketAt, entryAt, ticketCountAt, cycleOf, takenOf, treeOf, masksOf, ticketsIn, queueMasksOf, wordBlocks, inUse}
+use Rattle.model.specs.Sound.{allOnes, lastCycle, sectorOk, queuedOk, sound}
 use Rattle.model.specs.SoundLent.{soundLent}
 use Rattle.model.specs.Calls.{call}
 use Rattle.model.specs.Records.{logBytes, fillBytes}
 use Rattle.model.specs.Inner.{Encodes}
 use Rattle.model.specs.declared.Settings.{Settings}
 use Rattle.model.specs.declared.Queued.{Queued}
-use Rattle.model.specs.declared.Status.{Status}
-use Rattle.model.specs.declared.Status.the-variants.{Invalid, Reserved, Valid, Modified}
 use Rattle.model.specs.declared.Sector.{Sector}
 use Rattle.model.specs.declared.Refusal.{Refusal}
 use Rattle.model.specs.declared.Refusal.the-variants.{SettingOutOfRange, SliceLength, NotSound}
 use Rattle.model.specs.declared.Event.{Event}
 use Rattle.model.specs.declared.Event.the-variants.{Refused}
 use Rattle.words.proofs.Flags.{and-1, and-2, and-i, by-flag}
-use Rattle.words.proofs.Below.{every-at}
-use Rattle.words.proofs.Lists.{In, all-in, in-index}
-use Rattle.model.proofs.SoundFacts.{Sound, LineIs, parts, line-parts, queued-parts}
+use Rattle.words.proofs.Below.{every-i}
+use Rattle.words.proofs.Lists.{In, all-in, in-index, all-append}
+use Rattle.model.proofs.SoundFacts.{Sound, LineIs, parts, queued-parts, mask-small, line-at, dirty-count-is, lines-are}
 use Rattle.encoding.proofs.DecodeIsSound.{Small}
 use Rattle.encoding.proofs.Bridge.{sound-encoded, after-encoded, events-encoded}
 use Rattle.records.specs.Fitting.{AllFitting, words, stamped}
 use Rattle.records.proofs.Room.{Takes, refused-takes}
-use Rattle.records.proofs.Fits.{all-at, all-append, one-word}
+use Rattle.records.proofs.Fits.{all-at, one-word}
 use Rattle.words.proofs.Counting.{count-length}
+use Rattle.words.proofs.Tabled.{all-table}
 use Rattle.model.proofs.Fits.{ranged}
 
 -- ---- the tables that the slices hold
 
-all-table : {A : Type 0} (p : A → Bool) (n : ℕ) (f : ℕ → A) → ((i : ℕ) → p (f i) ≡ true) → all p (table n f) ≡ true
-unfolding table
-all-table p zero f h = refl
-all-table p (suc n) f h = and-i (h 0) (all-table p n (λ i. f (suc i)) (λ i. h (suc i)))
-
 pub tables-stamped : (S : Settings) (L : Lent) → Small L → stamped (tablesOf S L) ≡ true
 unfolding tablesOf
 tables-stamped S L small =
-    all-table (λ e. words (e .tickets)) _ (entryAt S L)
-    (λ e. all-table (λ m. leb m allOnes) (ticketCountAt S (L .marks) e) (λ j. ticketAt S (L .words) (S .readers * e + j)) (λ j. le-leb _ allOnes (small _)))
+    all-table (λ e. words (e .tickets)) (inUse (S .misses) (ticketCountAt S (L .marks))) (entryAt S L)
+    ∙ every-i (λ e. words (entryAt S L e .tickets)) (inUse (S .misses) (ticketCountAt S (L .marks)))
+    (λ e h. all-table (λ m. leb m allOnes) (ticketCountAt S (L .marks) e) (λ j. ticketAt S (L .words) (S .readers * e + j))
+    ∙ every-i (λ j. leb (ticketAt S (L .words) (S .readers * e + j)) allOnes) (ticketCountAt S (L .marks) e) (λ j k. le-leb _ allOnes (small _)))
 
 -- what holds of a refusal's events and of the step's on the tables that the slices hold, holds of the call's
 pub call-events : (P : List Event → Type 0) (S : Settings) (step : Tables → Outcome Tables) (L : Lent) → Small L → ((n : Refusal) → P (Refused n ∷ []))
@@ -94,24 +90,18 @@ fit-words (suc w) (x ∷ l) h = and-i (and-1 (leb x allOnes) (words l) h) (fit-w
 places-words : {A : Type 0} (g : A → List ℕ) (w n : ℕ) (xs : List A) → ((x : A) → In x xs → words (g x) ≡ true) → words (packed g w n xs) ≡ true
 unfolding packed
 places-words g w zero xs h = refl
-places-words g w (suc n) [] h = all-append (λ m. leb m allOnes) (fit w []) _ (fit-words w [] refl) (places-words g w n [] h)
+places-words g w (suc n) [] h = all-append (λ m. leb m allOnes) (fit w []) _ ∙ and-i (fit-words w [] refl) (places-words g w n [] h)
 places-words g w (suc n) (x ∷ xs) h =
-    all-append (λ m. leb m allOnes) (fit w (g x)) _ (fit-words w (g x) (h x (inl refl))) (places-words g w n xs (λ y i. h y (inr i)))
+    all-append (λ m. leb m allOnes) (fit w (g x)) _ ∙ and-i (fit-words w (g x) (h x (inl refl))) (places-words g w n xs (λ y i. h y (inr i)))
 
 joined-words : (bs : List (List ℕ)) → all words bs ≡ true → words (joined bs) ≡ true
 joined-words [] h = refl
-joined-words (b ∷ bs) h = all-append (λ m. leb m allOnes) b (joined bs) (and-1 (words b) (all words bs) h) (joined-words bs (and-2 (words b) (all words bs) h))
-
-mask-word : (x : Status) (m : ℕ) (r : Bool) → maskOk x m r ≡ true → leb m allOnes ≡ true
-mask-word Invalid m r h = let e = eqb-true m 0 (and-1 (eqb m 0) r h) in le-leb m allOnes (omega arith)
-mask-word Reserved m r h = and-1 (leb m allOnes) r h
-mask-word Valid m r h = let e = eqb-true m 0 (and-1 (eqb m 0) r h) in le-leb m allOnes (omega arith)
-mask-word Modified m r h = search (and-1, and-2) depth 9
+joined-words (b ∷ bs) h = all-append (λ m. leb m allOnes) b (joined bs) ∙ and-i (and-1 (words b) (all words bs) h) (joined-words bs (and-2 (words b) (all words bs) h))
 
 masks-words : (ss : List Sector) → all sectorOk ss ≡ true → words (map (λ s. s .mask) ss) ≡ true
 masks-words [] h = refl
 masks-words (s ∷ ss) h =
-    and-i (mask-word (s .status) (s .mask) (s .readable) (and-1 (sectorOk s) (all sectorOk ss) h)) (masks-words ss (and-2 (sectorOk s) (all sectorOk ss) h))
+    and-i (mask-small (s .status) (s .mask) (s .readable) (and-1 (sectorOk s) (all sectorOk ss) h)) (masks-words ss (and-2 (sectorOk s) (all sectorOk ss) h))
 
 queue-words : (es : List Entry) (q : Queued) → queuedOk es q ≡ true → words (queueMasksOf q) ≡ true
 queue-words es q h = queued-parts es q h .1
@@ -120,9 +110,7 @@ module _ (S : Settings) (range : inRange S ≡ true) (t : Tables) (ok : Sound S 
   line-is : (l : Line) → In l (t .lines) → (i : ℕ) × LineIs S (t .now) i l
   line-is l m =
       let f = in-index (t .lines) fresh l m in
-      let size : length (t .lines) ≡ linesOf S = eqb-true (length (t .lines)) (linesOf S) (ok .sized) in
-      let k = every-at (λ i. lineOk S (t .now) i (getD (t .lines) i fresh)) (linesOf S) (f .0) (ok .lined) (omega (arith, f .1)) in
-      (f .0, line-parts S (t .now) (f .0) l (rw (f .2) at k))
+      (f .0, rw (f .2) at (line-at S t ok (f .0) (f .1)))
 
   now-low : t .now ≤ allOnes
   now-low = let h = leb-true (t .now) lastCycle (ok .time) in omega arith
@@ -143,8 +131,8 @@ module _ (S : Settings) (range : inRange S ≡ true) (t : Tables) (ok : Sound S 
   -- no more lines are dirty than there are
   count-word : words (t .dirtyCount ∷ []) ≡ true
   count-word =
-      let e = eqb-true (t .dirtyCount) (dirtyLines t) (ok .counted) in
-      let n = eqb-true (length (t .lines)) (linesOf S) (ok .sized) in
+      let e = dirty-count-is S t ok in
+      let n = lines-are S t ok in
       one-word (t .dirtyCount) (omega (arith, ranged S range .lines, count-length dirty (t .lines)))
 
   -- a tree has fewer than 16 bits

@@ -1,7 +1,7 @@
 -- How many bytes a call's events are, of each step on tables.
-use mathlib.Core.Path.{_≡_, refl}
+use mathlib.Core.Path.{_≡_}
 use mathlib.Core.Bool.{Bool, true, false, _&&_, _||_}
-use mathlib.Core.List.{List, [], _∷_, _++_, map}
+use mathlib.Core.List.{List, [], _∷_, map, map-append}
 use Prim.Native.Nat.{ℕ, _+_, _≤_}
 use native.Mathlib.Nat.{le-trans}
 use native.Mathlib.Omega.{arith}
@@ -9,11 +9,11 @@ use borrow.Author.Tests.{le-leb, leb-true}
 use lib.Dec.{ltb, leb, lit≤}
 use lib.ListN.{length, getD, length-append}
 use Rattle.words.specs.Words.{pick, all, any}
-use Rattle.model.specs.Range.{inRange, within}
+use Rattle.model.specs.Range.{inRange}
 use Rattle.model.specs.Address.{addressOf, isRead, blockOf, lineNumber, wellFormed}
-use Rattle.model.specs.Tables.{Line, Entry, reading, Tables, Outcome, refused, done, eventsOf, dirty, holds, entryFor, fresh, withNow}
-use Rattle.model.specs.Sound.{lastCycle, entryOk, sound}
-use Rattle.model.specs.Probe.{Spot, Place, no, at, waysOf, first, victim, writeBack, takeOver, meet, probe, Rule, ruleOf}
+use Rattle.model.specs.Tables.{Line, Entry, reading, Tables, Outcome, refused, done, eventsOf, holds, entryFor, fresh, withNow}
+use Rattle.model.specs.Sound.{lastCycle, sound}
+use Rattle.model.specs.Probe.{Spot, Place, no, at, waysOf, first, victim, takeOver, meet, probe, Rule, ruleOf}
 use Rattle.model.specs.Steps.{isMerge, isMiss, fetches, queues, queuedEvent, sentEvent, placesNeeded, accept, entryFull, proceed, access, afterSend, sendFrom, send, ticketsOf, afterFill, sentFor, fill, tick}
 use Rattle.model.specs.RecordsOf as records
 use Rattle.model.specs.Records.{bytesOf, eventBytes, logBytes, fillBytes}
@@ -32,9 +32,13 @@ use Rattle.model.specs.declared.Event.the-variants.{Answered, Released, Filled,
 use Rattle.model.specs.declared.Command.{Command}
 use Rattle.model.specs.declared.Command.the-variants as cmd
 use Rattle.words.proofs.Flags.{and-1, and-2, by-flag}
-use Rattle.words.proofs.Lists.{all-in, in-all}
+use Rattle.words.proofs.Lists.{in-all}
 use Rattle.records.proofs.Encoding.{event-short}
-use Rattle.records.proofs.Log.{log-append, released-length}
+use Rattle.records.proofs.Log.{released-length}
+use Rattle.model.proofs.Logs.{log-append}
+use Rattle.model.proofs.SoundFacts.{parts, tickets-of}
+use Rattle.model.proofs.Fits.{ranged}
+use Rattle.model.proofs.ProbeFindsSpot.{back-one}
 
 -- ---- a log's length, event by event
 
@@ -74,16 +78,13 @@ Few : Place → Type 0
 Few (no r) = Unit
 Few (at p) = length (p .backs) ≤ 1
 
-backs-few : (l : Line) → length (writeBack l) ≤ 1
-backs-few l = by-flag (λ (q : List Queued). length q ≤ 1) (dirty l) _ [] (λ e. lit≤ tt) (λ e. lit≤ tt)
-
 probe-few : (R : Rule) (S : Settings) (d : ℕ) (ways : List Line) (x : Access) → Few (probe R S d ways x)
 unfolding probe Few
 probe-few R S d ways x = met (first (holds (blockOf (addressOf x))) ways)
   where
     over : (f : Found) → Few (takeOver (addressOf x) ways f)
     over Nothing = tt
-    over (At w) = backs-few (getD ways w fresh)
+    over (At w) = back-one (getD ways w fresh)
 
     met : (f : Found) → Few (meet R S d ways x f)
     met Nothing = over (victim R S d ways)
@@ -99,10 +100,6 @@ fetch-short : (x : Access) (a : Answer) → length (logBytes (map queuedEvent (f
 unfolding records.logBytes records.eventBytes bytesOf
 fetch-short (Read a m k) n = by-flag (λ (q : List Queued). length (logBytes (map queuedEvent q)) ≤ 9) (isMiss n) (reading a ∷ []) [] (λ e. lit≤ tt) (λ e. lit≤ tt)
 fetch-short (Write a m k) n = lit≤ tt
-
-map-append : (ps qs : List Queued) → map queuedEvent (ps ++ qs) ≡ map queuedEvent ps ++ map queuedEvent qs
-map-append [] qs = refl
-map-append (p ∷ ps) qs = rw (map-append ps qs)
 
 accept-takes : (S : Settings) (x : Access) (p : Spot) (t : Tables) → length (p .backs) ≤ 1 → Takes 38 (accept S x p t)
 unfolding accept records.eventBytes bytesOf
@@ -164,24 +161,10 @@ fill-takes a t h =
 
 -- ---- every step of a command on sound tables
 
-readers-most : (S : Settings) → inRange S ≡ true → S .readers ≤ 8
-unfolding inRange
-readers-most S e =
-    let w : within 1 8 (S .readers) ≡ true = search (and-1, and-2) depth 9 in
-    leb-true (S .readers) 8 (and-2 (leb 1 (S .readers)) (leb (S .readers) 8) w)
-
-entry-few : (S : Settings) (t : Tables) (e : Entry) → entryOk S t e ≡ true → length (e .tickets) ≤ S .readers
-unfolding entryOk
-entry-few S t e h =
-    let w : within 1 (S .readers) (length (e .tickets)) ≡ true = search (and-1, and-2) depth 9 in
-    leb-true (length (e .tickets)) (S .readers) (and-2 (leb 1 (length (e .tickets))) (leb (length (e .tickets)) (S .readers)) w)
-
 sound-few : (S : Settings) (t : Tables) → inRange S ≡ true → sound S t ≡ true → all (λ e. leb (length (e .tickets)) 8) (t .misses) ≡ true
-unfolding sound
 sound-few S t r h =
-    let m : all (entryOk S t) (t .misses) ≡ true = search (and-1, and-2) depth 9 in
     in-all (λ e. leb (length (e .tickets)) 8) (t .misses)
-    (λ e i. le-leb (length (e .tickets)) 8 (le-trans (entry-few S t e (all-in (entryOk S t) (t .misses) m i)) (readers-most S r)))
+    (λ e i. le-leb (length (e .tickets)) 8 (le-trans (tickets-of S t (parts S t h) e i .1) (ranged S r .readers)))
 
 pub step-takes : (S : Settings) (c : Command) (t : Tables) → inRange S ≡ true → sound S t ≡ true → Takes fillBytes (stepOf S c t)
 step-takes S (cmd.Settings g) t e h = refused-within _ SettingOutOfRange (lit≤ tt)

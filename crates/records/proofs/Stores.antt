@@ -1,9 +1,8 @@
 -- Bytes stored one after the other, where there is room and where not.
 use mathlib.Core.Path.{_≡_, refl, sym, _∙_}
 use mathlib.Core.Bool.{Bool, true, false}
-use mathlib.Core.List.{List, [], _∷_, _++_}
-use Prim.Native.Nat.{ℕ, suc, _+_, _-_, _/_, _%_, _≤_, _<_}
-use native.Mathlib.Nat.{add-zero}
+use mathlib.Core.List.{List, _++_}
+use Prim.Native.Nat.{ℕ, _+_, _-_, _/_, _%_, _≤_, _<_}
 use native.Mathlib.Numerals.{towards-suc}
 use native.Mathlib.Omega.{arith}
 use borrow.Author.Tests.{le-leb, lt-leb, leb-true}
@@ -12,15 +11,10 @@ use lib.ListN.{length, take, drop, set, length-append, length-drop}
 use lib.Seq.{sets, sets-eq, take-append-seam, drop-append-add, drop-drop}
 use Rattle.model.specs.Records.{bytesOf}
 use Rattle.words.proofs.Flags.{iff}
+use Rattle.words.proofs.Region.{sets-append}
 use Rattle.records.specs.Stores.{stored, storedCount, Stored, Laid}
 
 -- ---- bytes stored one after the other
-
-sets-append : (l : List ℕ) (at : ℕ) (a b : List ℕ) → sets (sets l at a) (at + length a) b ≡ sets l at (a ++ b)
-sets-append l at [] b = rw add-zero
-sets-append l at (x ∷ a) b =
-    let e : at + suc (length a) ≡ suc at + length a = omega arith in
-    rw e (sets-append (set l at x) (suc at) a b)
 
 module _ {l : List ℕ} {at n : ℕ} {a : List ℕ} {i : ℕ} {m : List ℕ} where
   pub laid-then : {k j : ℕ} {b h : List ℕ} → Laid l at n a i m → length a ≡ n → Laid m i k b j h → Laid l at (n + k) (a ++ b) j h

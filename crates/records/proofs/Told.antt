@@ -16,7 +16,8 @@ use Rattle.records.specs.Fitting.{Fitting, AllFitting}
 use Rattle.records.specs.Stores.{Laid}
 use Rattle.records.specs.Parts.{queuedTold, ticketsTold}
 use Rattle.records.proofs.Stores.{laid-then, laid-as, laid-sized}
-use Rattle.records.proofs.Log.{log-append, log-one, released-length}
+use Rattle.records.proofs.Log.{log-one, released-length}
+use Rattle.model.proofs.Logs.{log-append}
 
 -- ---- the numbers fit
 

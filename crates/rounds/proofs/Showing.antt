@@ -27,23 +27,21 @@ use Rattle.model.specs.declared.Access.the-variants.{Read}
 use Rattle.model.specs.declared.Event.the-variants as event
 use Rattle.model.specs.declared.Command.the-variants as cmd
 use Rattle.model.specs.declared.Told.{Told}
-use Rattle.encoding.proofs.Bridge.{is-tables, call-is, does-tells, does-is}
+use Rattle.encoding.proofs.Bridge.{is-tables, call-is, does-is}
 use Rattle.model.proofs.SeenRounds.{unrefused-too, calls-clear}
 use Rattle.model.proofs.Soundness.{send-keeps-sound, fill-keeps-sound, access-keeps-sound}
 use Rattle.layout.specs.declared.Layout.{Layout}
 use Rattle.layout.specs.Layout.{Placed}
 use Rattle.layout.specs.Places.{First}
 use Rattle.model.proofs.SoundFacts.{parts}
-use Rattle.layout.proofs.ByBlocks.{is-stands}
-use Rattle.tables.proofs.Queue.{queue-used}
-use Rattle.steps.proofs.Entries.{few-queued}
-use Rattle.records.proofs.Room.{send-takes, access-takes, step-takes}
+use Rattle.tables.proofs.Queue.{queue-counted}
 use Rattle.turns.specs.declared.Sent.{Sent}
 use Rattle.turns.specs.declared.Sent.the-variants.{At, Nothing}
 use Rattle.rounds.specs.declared.Offer.{Offer}
 use Rattle.turns.specs.Parts.{isRefusal, Noted, firstSent, FindsSent}
 use Rattle.rounds.specs.Parts.{Queueless, Sees, SeesSend, SeesFill, SeesDrain, SeesRound, SeesStruck}
 use Rattle.turns.proofs.Noting.{told-accepted, noted-then}
+use Rattle.turns.proofs.Turns.{send-bytes, fill-bytes, offer-bytes}
 
 -- ---- one call
 
@@ -86,7 +84,7 @@ pub queueless : (S : Settings) {longs words marks : List ℕ} → SoundSlices S 
 queueless S {longs} {words} {marks} h p {q} f =
     let i = is-read-off S h in
     let t = tablesOf S (lent longs words marks) in
-    record { is = empty-is (t .queue) q (queue-used S t (is-stands i) p (few-queued S t (parts S t (i .soundly))) f) }
+    record { is = empty-is (t .queue) q (queue-counted S t i p f) }
 
 module _ (S : Settings) {L : Lent} (h : SoundSlices S L) where
   pub no-send : {b : Bool} → Queueless S L b → b ≡ true → (e : List ℕ) (out : ℕ) → SeesSend S L e out out e L
@@ -95,7 +93,7 @@ module _ (S : Settings) {L : Lent} (h : SoundSlices S L) where
 
   module _ {r : Told} {M : Lent} (l : Leaves (sendCall S L) L r M) where
     pub send-room : length (logBytes (eventsTold r)) ≤ 25
-    send-room = rw (does-tells S (call-does S send l) (h .tables) (h .are)) (send-takes (h .tables) .most)
+    send-room = send-bytes S (call-does S send l) h
 
     pub sends : {b : Bool} → Queueless S L b → b ≡ false → {e : List ℕ} {out w : ℕ} {f : List ℕ} → Noted e out (eventsTold r) w f → SeesSend S L e out w f M
     unfolding sendTurn
@@ -129,9 +127,7 @@ module _ (S : Settings) {L : Lent} (h : SoundSlices S L) {v : Sent} (found : Fin
 
   module _ {a : ℕ} (q : v ≡ At a) {r : Told} {M : Lent} (l : Leaves (fillCall S a L) L r M) where
     pub fill-room : length (logBytes (eventsTold r)) ≤ fillBytes
-    fill-room =
-        let i = h .are in
-        rw (does-tells S (call-does S (fill a) l) (h .tables) i) (step-takes S (cmd.Fill a) (h .tables) (i .range) (i .soundly) .most)
+    fill-room = fill-bytes S found q (call-does S (fill a) l) h
 
     pub fills : {e : List ℕ} {out w : ℕ} {f : List ℕ} → Noted e out (eventsTold r) w f → SeesFill S L e out w f M
     fills n =
@@ -161,7 +157,7 @@ module _ (S : Settings) {L : Lent} {e : List ℕ} {out w : ℕ} {f : List ℕ} {
 
     module _ {r : Told} {N : Lent} (l : Leaves (accessCall S x M) M r N) where
       pub offer-room : length (logBytes (eventsTold r)) ≤ 38
-      offer-room = rw (does-tells S (call-does S (access S x) l) (drained .tables) (drained .are)) (access-takes S x (drained .tables) .most)
+      offer-room = offer-bytes S x (call-does S (access S x) l) drained
 
       pub offers : maskOf x ≤ allOnes → {z : ℕ} {h : List ℕ} → Noted f w (eventsTold r) z h → {b : Bool} → b ≡ not (isRefusal (r .first))
           → SeesRound S x L e out record { taken = b; written = z } h N

@@ -24,10 +24,10 @@ use Rattle.words.proofs.Flags.{and-2, flag, by-flag}
 use Rattle.words.proofs.Lists.{all-in, in-all, in-take}
 use Rattle.model.proofs.Soundness.{start-sound}
 use Rattle.model.proofs.RunSound.{bytes, record-keeps-sound}
+use Rattle.model.proofs.Logs.{log-append}
 use Rattle.encoding.proofs.DecodeIsSound.{Small}
 use Rattle.encoding.proofs.RunGoesOn.{kept-is}
 use Rattle.records.specs.Fitting.{AllFitting, CommandReadFits, stamped}
-use Rattle.records.proofs.Log.{log-append}
 use Rattle.records.proofs.Told.{fitting-append}
 use Rattle.records.proofs.RoundTrip.{log-back}
 use Rattle.records.proofs.Fits.{step-fits, step-stamped, command-read-fits}

@@ -20,8 +20,8 @@ use Rattle.model.specs.declared.Settings.{Settings}
 use Rattle.model.specs.declared.Stop.{Stop}
 use Rattle.model.specs.declared.Stop.the-variants.{Nothing, SettingOutOfRange, SliceLength, NotSound, OutOfPlace, UnknownKind, CutShort, NoRoom}
 use Rattle.words.proofs.Flags.{clash, by-flag, flag}
-use Rattle.model.proofs.Fits.{ranged}
-use Rattle.layout.proofs.OfRange.{tickets-most, sets-most}
+use Rattle.model.proofs.Fits.{ranged, sets-most}
+use Rattle.layout.proofs.OfRange.{tickets-most}
 use Rattle.running.specs.declared.Lengths.{Lengths}
 use Rattle.running.specs.declared.Begun.{Begun}
 use Rattle.running.specs.declared.Begun.the-variants.{Accepted, Stopped}

@@ -165,7 +165,7 @@ settled L k rest =
 -- ---- the first record by itself, and the run behind it, as equations
 
 -- what was stopped, and what was accepted
-run-halts : (room : ℕ) (L : Lent) (s : List ℕ) (n : Stop) → beginning L s ≡ Stopped n → run room s L ≡ halt n L
+pub run-halts : (room : ℕ) (L : Lent) (s : List ℕ) (n : Stop) → beginning L s ≡ Stopped n → run room s L ≡ halt n L
 unfolding beginning runner.run
 run-halts room L [] n q = let e : Nothing ≡ n = cc in rw e
 run-halts room L (k ∷ bs) n h =

@@ -1,12 +1,12 @@
 -- A run in two parts, cut between two records or anywhere; the event room decides nothing but stop 16; the first record of a front part.
 use mathlib.Core.Path.{_≡_, refl, sym, ap, _∙_}
 use mathlib.Core.Logic.{⊎-elim}
-use mathlib.Core.Bool.{Bool, true, false, not, _||_}
+use mathlib.Core.Bool.{Bool, true, false, not}
 use mathlib.Core.List.{List, [], _∷_, _++_, append-assoc}
 use Prim.Native.Nat.{ℕ, zero, suc, _+_, _-_, _≤_}
 use native.Mathlib.Nat.{le-of-suc-le-suc, add-assoc, zero-add, sub-zero, sub-add-eq}
 use native.Mathlib.Omega.{arith}
-use borrow.Author.Tests.{not-true, le-ltb, ltb-true, ltb-false, lt-leb, le-leb, leb-true}
+use borrow.Author.Tests.{not-true, le-ltb, ltb-false, leb-true}
 use lib.Dec.{leb, ltb, eqb}
 use lib.ListN.{length, drop, length-append}
 use lib.Seq.{take-append-le}
@@ -22,6 +22,7 @@ use Rattle.model.specs.declared.Record.{Record}
 use Rattle.model.specs.declared.Stop.{Stop}
 use Rattle.model.specs.declared.Stop.the-variants.{Nothing, OutOfPlace, UnknownKind, CutShort, NoRoom}
 use Rattle.words.proofs.Flags.{clash, by-flag, flag, or-cases}
+use Rattle.words.proofs.Below.{leb-not}
 use Rattle.running.specs.declared.Begun.the-variants.{Accepted, Stopped}
 use Rattle.running.specs.Resume.{kindAt, headStop}
 use Rattle.running.specs.Begin.{beginning, firstThere}
@@ -32,7 +33,7 @@ use Rattle.running.proofs.Running.{going, from-stops, from-goes}
 -- ---- at a record: more bytes behind a whole one change nothing, and the room decides only stop 16
 
 -- the checks at a later record, by what they come to
-abbrev stopBy : Bool → Bool → Bool → Bool → Stop
+abbrev pub stopBy : Bool → Bool → Bool → Bool → Stop
 stopBy known cut settings full = pick known (pick cut CutShort (pick settings OutOfPlace (pick full NoRoom Nothing))) UnknownKind
 
 -- a record that stops for want of room is whole
@@ -51,7 +52,7 @@ roomy-same true false false false true g h = absurd (h refl)
 roomy-same true false false false false g h = refl
 
 module _ (room k : ℕ) (a : List ℕ) where
-  later-more : (b : List ℕ) → lengthOf k ≤ length a → laterStop room k (a ++ b) ≡ laterStop room k a
+  pub later-more : (b : List ℕ) → lengthOf k ≤ length a → laterStop room k (a ++ b) ≡ laterStop room k a
   unfolding runner.laterStop
   later-more b h =
       let l : lengthOf k ≤ length (a ++ b) = rw length-append (omega arith) in
@@ -61,7 +62,7 @@ module _ (room k : ℕ) (a : List ℕ) where
   unfolding runner.laterStop
   later-full h = ltb-false (length a) (lengthOf k) (full-whole (isCommand k) (ltb (length a) (lengthOf k)) (isSettings k) (ltb room eventRoom) h)
 
-  later-roomy : (other : ℕ) → (laterStop room k a ≡ NoRoom → ⊥) → (laterStop other k a ≡ NoRoom → ⊥) → laterStop room k a ≡ laterStop other k a
+  pub later-roomy : (other : ℕ) → (laterStop room k a ≡ NoRoom → ⊥) → (laterStop other k a ≡ NoRoom → ⊥) → laterStop room k a ≡ laterStop other k a
   unfolding runner.laterStop
   later-roomy other g h = roomy-same (isCommand k) (ltb (length a) (lengthOf k)) (isSettings k) (ltb room eventRoom) (ltb other eventRoom) g h
 
@@ -232,14 +233,11 @@ unfolding firstThere
 there-none [] h = refl
 there-none (x ∷ s) h = absurd (omega arith)
 
-leb-not : (m n : ℕ) → leb n m ≡ not (ltb m n)
-leb-not m n = ⊎-elim (λ z. lt-leb n m (ltb-true m n z) ∙ sym (ap not z)) (λ z. le-leb n m (ltb-false m n z) ∙ sym (ap not z)) (flag (ltb m n))
-
 pub there-some : (s : List ℕ) → (length s ≡ 0 → ⊥) → {f : Record} {n : Stop} {m : ℕ} → f ≡ readAt s 0 → n ≡ headStop (kindAt s 0) f → m ≡ stopNumber n
     → not (eqb m 15) ≡ firstThere s
 unfolding firstThere
 there-some [] h read d e = absurd (h refl)
-there-some (k ∷ bs) h read d e = head-there (k ∷ bs) 0 (omega arith) read d e ∙ (rw (leb-not (length bs) (lengthOf k)))
+there-some (k ∷ bs) h read d e = head-there (k ∷ bs) 0 (omega arith) read d e ∙ (rw (leb-not (lengthOf k) (length bs)))
 
 first-there : (L : Lent) (k : ℕ) (a b : List ℕ) → firstThere (k ∷ a) ≡ true → firstStop L k (a ++ b) ≡ firstStop L k a
 unfolding firstThere runner.firstStop

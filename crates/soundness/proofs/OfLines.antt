@@ -12,9 +12,8 @@ use Rattle.words.specs.Words.{every}
 use Rattle.model.specs.Lent.{tagAt, cycleAt, takenAt, nowAt}
 use Rattle.model.specs.SoundLent.{live, apart, lineFine}
 use Rattle.model.specs.Address.{goodBlock, setIndex}
-use Rattle.words.proofs.Flags.{and-1, and-2, and-i, iff}
+use Rattle.words.proofs.Flags.{and-1, and-2, and-i, iff, not-both}
 use Rattle.encoding.proofs.Rows.{every-row}
-use Rattle.layout.proofs.Tests.{not-both}
 
 -- cycle 0 is no later than any
 idle-shape : (t : Bool) (c k n : ℕ) → (t && eqb c 0 && eqb k 0) ≡ (t && eqb c 0 && eqb k 0 && true && leb c n && leb k c && true)

@@ -1,6 +1,6 @@
 -- What the functions of the miss table answer, of what their callees ensure.
 use mathlib.Core.Path.{_≡_, refl, sym, _∙_}
-use mathlib.Core.Bool.{Bool, true, false, not, _&&_}
+use mathlib.Core.Bool.{Bool, true, false, not, _&&_, and-true}
 use mathlib.Core.List.{List}
 use Prim.Native.Nat.{ℕ, _+_, _*_, _/_, _%_, _≤_, _<_}
 use native.Mathlib.Nat.{div-lt-iff-lt-mul, mul-comm}
@@ -13,12 +13,11 @@ use Rattle.words.specs.Words.{some, countBelow}
 use Rattle.model.specs.Address.{blockOf, sectorIndex, setIndex}
 use Rattle.model.specs.Lent.{tagAt, statusAt, missAt, sentAt, ticketCountAt, ticketAt}
 use Rattle.model.specs.SoundLent.{linesFine, entryFor, readFor, reservedFor, ticketFine, entryFine}
-use Rattle.words.proofs.Flags.{and-1, and-2, iff}
+use Rattle.words.proofs.Flags.{and-1, and-2, iff, not-but}
+use Rattle.words.proofs.Below.{some-same}
 use Rattle.layout.specs.declared.Layout.{Layout}
 use Rattle.layout.specs.Layout.{Placed}
-use Rattle.layout.proofs.Tests.{not-but}
 use Rattle.layout.proofs.ByPlace.{count-read, ticket-read}
-use Rattle.soundness.proofs.Tests.{some-same}
 use Rattle.soundness.proofs.FineLines.{reserved-short, own-set-reserves}
 
 -- the entry of a ticket place
@@ -40,10 +39,6 @@ used-shape true false even held alone asked = refl
 used-shape true true false held alone asked = refl
 used-shape true true true held alone asked = refl
 
-and-yes : (a : Bool) → a ≡ (a && true)
-and-yes true = refl
-and-yes false = refl
-
 module _ (S : Settings) (longs words marks : List ℕ) where
   pub ticket-kept : {at : Layout} → Placed S at → (i : ℕ)
       → not (leb (getD marks (at .counts + i / S .readers) 0) (i % S .readers) && not (eqb (getD words (at .tickets + i) 0) 0)) ≡ ticketFine S longs words marks i
@@ -56,7 +51,7 @@ module _ (S : Settings) (longs words marks : List ℕ) where
       → some n (λ w. eqb (tagAt longs (first + w)) block && eqb (statusAt marks (4 * (first + w) + sector)) 1) ≡ some n (λ w. reservedFor S longs words marks a (first + w))
   set-asked a first n block sector b s =
       some-same (λ w. eqb (tagAt longs (first + w)) block && eqb (statusAt marks (4 * (first + w) + sector)) 1) (λ w. reservedFor S longs words marks a (first + w))
-      (λ w. rw (b, s) (reserved-short S longs words marks a (first + w))) n
+      n (λ w h. rw (b, s) (reserved-short S longs words marks a (first + w)))
 
   module _ (e k m a : ℕ) (count : k ≡ ticketCountAt S marks e) (mark : m ≡ sentAt S marks e) (address : a ≡ missAt S longs e) where
     pub unused-entry : k ≡ 0 → (eqb a 0 && eqb m 0) ≡ entryFine S longs words marks e
@@ -73,7 +68,7 @@ module _ (S : Settings) (longs words marks : List ℕ) where
       pub sent-entry : (m ≡ 0 → ⊥) → named ≡ entryFine S longs words marks e
       sent-entry f =
           rw (← count, ← mark, ← address, own-set-reserves S longs words marks fine a sets ways, ← holds, ← others, ne-eqb k 0 used, ne-eqb m 0 f)
-          (and-yes named ∙ used-shape (leb k (S .readers)) (leb m 1) (eqb (a % 32) 0) held (not other) true)
+          (sym (and-true named) ∙ used-shape (leb k (S .readers)) (leb m 1) (eqb (a % 32) 0) held (not other) true)
 
       pub unsent-entry : (n : ℕ) → m ≡ 0 → n ≡ countBelow (S .queue) (readFor S longs words marks a) → (named && eqb n 1) ≡ entryFine S longs words marks e
       unsent-entry n z r =

@@ -1,6 +1,6 @@
 -- What `tables_sound` answers, of what the checks of each part ensure.
 use mathlib.Core.Path.{_≡_, refl, sym, _∙_}
-use mathlib.Core.Bool.{Bool, true, false, not, _&&_}
+use mathlib.Core.Bool.{Bool, true, false, not, _&&_, and-false, and-true}
 use mathlib.Core.List.{List}
 use Prim.Native.Nat.{ℕ, zero, suc, _+_, _*_, _-_, _^_, _<_}
 use native.Mathlib.Nat.{add-zero}
@@ -15,7 +15,7 @@ use Rattle.model.specs.Tree.{treeFine}
 use Rattle.model.specs.Sound.{lastCycle}
 use Rattle.model.specs.Lent.{nowAt, ticketCountAt, kindAt}
 use Rattle.model.specs.SoundLent.{gathered, nowFine, linesFine, sectorFine, ticketFine, entryFine, placeFine, soundNumbers, countFine, setFine}
-use Rattle.words.proofs.Flags.{and-1, and-2, and-false, and-true, not-yes, no-not, clash, imp-use}
+use Rattle.words.proofs.Flags.{and-1, and-2, not-yes, no-not, clash, imp-use}
 use Rattle.words.proofs.Below.{every-at}
 use Rattle.layout.specs.declared.Layout.{Layout}
 use Rattle.layout.specs.Layout.{Placed}

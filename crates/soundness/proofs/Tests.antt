@@ -1,4 +1,4 @@
--- A loop that goes on behind a fault, two tests that agree, two tests at each place, and a test of sixteen places at a time.
+-- A loop that goes on behind a fault, two tests at each place, and a test of sixteen places at a time.
 use mathlib.Core.Path.{_≡_, refl, ap, _∙_}
 use mathlib.Core.Bool.{Bool, true, false, _&&_}
 use mathlib.Core.Logic.{⊎-elim}
@@ -6,7 +6,7 @@ use Prim.Native.Nat.{ℕ, zero, suc, _+_, _*_, _/_, _%_, _≤_, _<_}
 use native.Mathlib.Nat.{eq-or-lt-of-le}
 use native.Mathlib.Numerals.{add-one}
 use native.Mathlib.Omega.{arith}
-use Rattle.words.specs.Words.{every, some}
+use Rattle.words.specs.Words.{every}
 use Rattle.words.proofs.Flags.{and-1, and-2, and-i, iff}
 use Rattle.words.proofs.Below.{every-at, every-i}
 
@@ -20,13 +20,6 @@ module _ (p : ℕ → Bool) where
 
   pub joined-end : (n i : ℕ) {b : Bool} → n ≤ i → Joined n i b → b ≡ every n p
   joined-end n i h w = let e : n ≡ i = omega arith in rw e (w .1)
-
--- ---- two tests that agree
-
-module _ (p q : ℕ → Bool) (same : (i : ℕ) → p i ≡ q i) where
-  pub some-same : (n : ℕ) → some n p ≡ some n q
-  some-same zero = refl
-  some-same (suc n) = rw (some-same n, same n)
 
 -- ---- two tests at each place
 

@@ -1,25 +1,24 @@
 -- What sound tables say of their entries by place: one entry an address, its tickets, and where the head of the queue has its entry.
-use mathlib.Core.Path.{_≡_, sym, ap, subst, _∙_}
-use mathlib.Core.Logic.{⊎-elim, _≢_}
-use mathlib.Core.Bool.{Bool, true, false, not}
+use mathlib.Core.Path.{_≡_, ap, subst, _∙_}
+use mathlib.Core.Logic.{_≢_}
+use mathlib.Core.Bool.{true, false, not}
 use mathlib.Core.List.{List, [], _∷_, map}
 use Prim.Native.Nat.{ℕ, zero, suc, _≤_, _<_}
 use native.Mathlib.Nat.{not-suc-le-zero, le-of-suc-le-suc}
 use native.Mathlib.Omega.{arith}
 use lib.ListN.{length, getD, set}
-use lib.Dec.{eqb, leb}
-use borrow.Author.Tests.{leb-true, eqb-true, eqb-false, eq-eqb, ne-eqb}
+use lib.Dec.{eqb}
+use borrow.Author.Tests.{eqb-true, eq-eqb, ne-eqb}
 use Rattle.words.specs.Words.{any, count, keep}
 use Rattle.words.specs.Regions.{dropped}
 use Rattle.model.specs.Tables.{Entry, Tables, entryFor, isFetch, idle, noEntry}
 use Rattle.model.specs.Sound.{unsentFor, queuedOk}
 use Rattle.model.specs.Steps.{mark, others, ticketsOf, sentFor}
 use Rattle.model.specs.declared.Settings.{Settings}
-use Rattle.model.specs.declared.Queued.{Queued}
-use Rattle.words.proofs.Flags.{and-1, and-2, flag, iff, clash}
-use Rattle.words.proofs.Lists.{any-in, in-any, in-index, in-getD, count-index}
+use Rattle.words.proofs.Flags.{and-1}
+use Rattle.words.proofs.Lists.{any-in, in-index, in-getD, count-index}
 use Rattle.model.proofs.SoundFacts.{Sound, entry-at, queued-at, queued-parts, queued-unsent}
-use Rattle.words.proofs.Counting.{map-one}
+use Rattle.words.proofs.Counting.{map-one, any-one}
 use Rattle.tables.proofs.Ones.{keep-one}
 use Rattle.tables.proofs.Misses.{withSent}
 
@@ -28,38 +27,7 @@ tickets-first a [] i h e f = absurd (not-suc-le-zero h)
 tickets-first a (x ∷ l) zero h e f = rw e
 tickets-first a (x ∷ l) (suc i) h e f = rw (f 0 (omega arith)) (tickets-first a l i (le-of-suc-le-suc h) e (λ j k. f (suc j) (omega arith)))
 
--- where no other passes
-any-one : (p : Entry → Bool) (d : Entry) (l : List Entry) (e : ℕ) → e < length l → ((j : ℕ) → j < length l → j ≢ e → p (getD l j d) ≡ false) → any p l ≡ p (getD l e d)
-any-one p d l e h f = iff up (λ q. in-any p l (in-getD l e d h) q)
-  where
-    up : any p l ≡ true → p (getD l e d) ≡ true
-    up q =
-        let (x, m, r) = any-in p l q in
-        let (j, k, z) = in-index l d x m in
-        ⊎-elim
-        (λ b. ap (λ (i : ℕ). p (getD l i d)) (sym (eqb-true j e b)) ∙ ap p z ∙ r)
-        (λ b. clash (ap p z ∙ r) (f j k (eqb-false j e b)))
-        (flag (eqb j e))
-
 module _ (S : Settings) (t : Tables) (ok : Sound S t) where
-  pub few-misses : length (t .misses) ≤ S .misses
-  few-misses = leb-true (length (t .misses)) (S .misses) (ok .few)
-
-  pub few-queued : length (t .queue) ≤ S .queue
-  few-queued = leb-true (length (t .queue)) (S .queue) (ok .short)
-
-  pub some-tickets : (e : ℕ) → e < length (t .misses) → 1 ≤ length (getD (t .misses) e noEntry .tickets)
-  some-tickets e below =
-      leb-true 1 (length (getD (t .misses) e noEntry .tickets))
-      (and-1 (leb 1 (length (getD (t .misses) e noEntry .tickets))) (leb (length (getD (t .misses) e noEntry .tickets)) (S .readers))
-      (entry-at S t ok (getD (t .misses) e noEntry) (in-getD (t .misses) e noEntry below) .readers))
-
-  pub few-tickets : (e : ℕ) → e < length (t .misses) → length (getD (t .misses) e noEntry .tickets) ≤ S .readers
-  few-tickets e below =
-      leb-true (length (getD (t .misses) e noEntry .tickets)) (S .readers)
-      (and-2 (leb 1 (length (getD (t .misses) e noEntry .tickets))) (leb (length (getD (t .misses) e noEntry .tickets)) (S .readers))
-      (entry-at S t ok (getD (t .misses) e noEntry) (in-getD (t .misses) e noEntry below) .readers))
-
   pub entry-place : (a i j : ℕ) → i < length (t .misses) → j < length (t .misses) → getD (t .misses) i noEntry .address ≡ a → getD (t .misses) j noEntry .address ≡ a → i ≡ j
   entry-place a i j h k e f =
       let o : eqb (count (entryFor (getD (t .misses) i noEntry .address)) (t .misses)) 1 ≡ true = entry-at S t ok (getD (t .misses) i noEntry) (in-getD (t .misses) i noEntry h) .once in
@@ -112,7 +80,7 @@ module _ (S : Settings) (t : Tables) (ok : Sound S t) where
     -- is sent if an entry for the address is sent
     pub sent-is : any (sentFor a) (t .misses) ≡ getD (t .misses) e noEntry .sent
     sent-is =
-        any-one (sentFor a) noEntry (t .misses) e below (λ j k n. not-sent (getD (t .misses) j noEntry) (no j k n)) ∙ sent (getD (t .misses) e noEntry) yes
+        any-one (sentFor a) (t .misses) e noEntry below (λ j k n. not-sent (getD (t .misses) j noEntry) (no j k n)) ∙ sent (getD (t .misses) e noEntry) yes
       where
         not-sent : (x : Entry) → entryFor a x ≡ false → sentFor a x ≡ false
         not-sent x z = rw z

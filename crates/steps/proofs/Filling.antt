@@ -3,34 +3,31 @@ use mathlib.Core.Path.{_≡_, refl, sym, ap, subst, _∙_}
 use mathlib.Core.Logic.{⊎-elim}
 use mathlib.Core.Bool.{Bool, true, false, not, _&&_}
 use mathlib.Core.List.{List, [], _∷_, map}
-use Prim.Native.Nat.{ℕ, zero, suc, _+_, _-_, _*_, _/_, _%_, _≤_, _<_}
-use native.Mathlib.Nat.{mod-lt, div-add-mod', not-suc-le-zero, le-of-suc-le-suc}
+use Prim.Native.Nat.{ℕ, _+_, _-_, _*_, _%_, _≤_, _<_}
+use native.Mathlib.Nat.{mod-lt, div-add-mod'}
 use native.Mathlib.Omega.{arith}
 use lib.ListN.{length, getD, set, length-set}
 use lib.Dec.{eqb, ltb}
 use borrow.Author.Tests.{eqb-true, ltb-true, ltb-false}
 use Rattle.words.specs.Words.{fit, all, any, one, count}
-use Rattle.model.specs.Numbers.{statusNumber}
 use Rattle.model.specs.Range.{linesOf}
 use Rattle.words.specs.Regions.{region, put, closed}
-use Rattle.model.specs.Address.{blockOf, sectorIndex, setIndex, goodBlock}
-use Rattle.model.specs.Tables.{Line, Entry, Tables, done, isInvalid, whollyInvalid, holds, entryFor, noEntry, empty, fresh, withLines, withDirtyCount, dirty, dirtyLines}
+use Rattle.model.specs.Address.{blockOf, sectorIndex, setIndex}
+use Rattle.model.specs.Tables.{Line, Entry, Tables, done, isInvalid, holds, entryFor, noEntry, empty, fresh, withLines, withDirtyCount, dirty}
 use Rattle.model.specs.Lent.{lent, sectorsAt}
 use Rattle.model.specs.Steps.{arrived, fillLine, ticketsOf, afterFill, sentFor, fill, recounted, soiled}
 use Rattle.model.specs.Calls.{encoded, eventsTold, tidied, Leaves}
 use Rattle.model.specs.Inner.{Encodes}
 use Rattle.model.specs.declared.Settings.{Settings}
-use Rattle.model.specs.declared.Status.{Status}
-use Rattle.model.specs.declared.Status.the-variants.{Invalid, Reserved, Valid, Modified}
 use Rattle.model.specs.declared.Sector.{Sector}
 use Rattle.model.specs.declared.Refusal.the-variants.{NotSent}
 use Rattle.model.specs.declared.Event.the-variants as event
 use Rattle.model.specs.declared.Told.{Told}
-use Rattle.words.proofs.Flags.{and-1, and-2, not-yes, no-not, no-yes, flag, by-flag}
-use Rattle.words.proofs.Lists.{any-in, in-index, in-getD}
+use Rattle.words.proofs.Flags.{and-1, not-yes, no-not, no-yes, flag}
+use Rattle.words.proofs.Lists.{any-in, in-index, in-getD, getD-inside}
 use Rattle.words.proofs.Region.{length-region}
 use Rattle.words.proofs.Places.{take-fit}
-use Rattle.model.proofs.SoundFacts.{Sound, parts, lines-are, line-at, four-at, holder-one, entry-at, LeavesSound}
+use Rattle.model.proofs.SoundFacts.{Sound, parts, lines-are, four-at, holder-one, entry-at, LeavesSound, holder-set, dirty-count-is, few-misses, few-tickets}
 use Rattle.layout.specs.declared.Layout.{Layout}
 use Rattle.layout.specs.Layout.{Placed}
 use Rattle.layout.specs.Places.{First}
@@ -39,22 +36,18 @@ use Rattle.tables.specs.Raw.{holdsAt}
 use Rattle.tables.specs.Telling.{telling}
 use Rattle.layout.proofs.Stores.{none}
 use Rattle.layout.proofs.ByBlocks.{ByBlocks, is-stands, stands-encode}
-use Rattle.model.proofs.SendFillKeepSound.{fill-tag, fill-cycle, fill-taken}
-use Rattle.layout.proofs.Lines.{flag-of-bit, tag-at, status-at, lifted, store-stands}
-use Rattle.tables.proofs.Misses.{misses-used, sent-at, count-at, tickets-at, remove-stands, entry-found, entry-missing}
+use Rattle.model.proofs.SendFillKeepSound.{fill-tag, fill-cycle, fill-taken, fill-kept}
+use Rattle.layout.proofs.Lines.{tag-at, status-at, lifted, store-stands}
+use Rattle.tables.proofs.Misses.{sent-at, count-at, tickets-at, remove-stands, entry-found, entry-missing, misses-counted}
 use Rattle.tables.proofs.Tellings.{refusal-leaves, done-leaves}
 use Rattle.steps.specs.Parts.{Holding, arrivedAt, SectorFilled, LineFilled, releasing, CountFits, countAfter}
-use Rattle.steps.proofs.Entries.{few-misses, some-tickets, few-tickets, kept-others, tickets-are, sent-is}
+use Rattle.steps.proofs.Entries.{kept-others, tickets-are, sent-is}
 use Rattle.model.proofs.SendFillKeepSound.{fill-leaves as fill-sound}
 use Rattle.words.proofs.Counting.{recount, count-length, one-counted, map-one}
 use Rattle.layout.proofs.DirtyCount.{dirty-count-at, dirty-count-stands}
+use Rattle.encoding.proofs.NumbersAreTables.{invalid-number, flag-of-bit}
 
 -- ---- one sector
-
-getD-inside : {A : Type 0} (l : List A) (k : ℕ) (d e : A) → k < length l → getD l k d ≡ getD l k e
-getD-inside [] k d e h = absurd (not-suc-le-zero h)
-getD-inside (x ∷ l) zero d e h = refl
-getD-inside (x ∷ l) (suc k) d e h = getD-inside l k d e (le-of-suc-le-suc h)
 
 -- four sectors that are lifted, of which one has come, counted and stored back
 pub sector-filled : (S : Settings) (at : Layout) (l k : ℕ) (words marks : List ℕ) {four : List Sector} {x : Sector} {was is : Bool} {words₁ words′ marks′ : List ℕ} → k < 4
@@ -93,12 +86,6 @@ line-filled S a {at} {l} {longs = longs} {words = words} {marks = marks} {words�
   filled = subst (λ (j : ℕ). SectorFilled S at l j words marks words′ marks′) f c;
 }
 
-status-zero : (c : Status) → eqb (statusNumber c) 0 ≡ isInvalid c
-status-zero Invalid = refl
-status-zero Reserved = refl
-status-zero Valid = refl
-status-zero Modified = refl
-
 -- the tag and the four tests in the order of the code, and in that of the definition
 held-order : (g a b c d : Bool) → (g && not (a && b && c && d)) ≡ (not (a && (b && (c && (d && true)))) && g)
 held-order true true true true true = refl
@@ -121,17 +108,13 @@ held-of (p ∷ []) tag b l e f0 f1 f2 f3 = absurd (omega arith)
 held-of (p ∷ q ∷ []) tag b l e f0 f1 f2 f3 = absurd (omega arith)
 held-of (p ∷ q ∷ r ∷ []) tag b l e f0 f1 f2 f3 = absurd (omega arith)
 held-of (p ∷ q ∷ r ∷ s ∷ []) tag b l e f0 f1 f2 f3 =
-    rw (e, f0, f1, f2, f3, status-zero (p .status), status-zero (q .status), status-zero (r .status), status-zero (s .status))
+    rw (e, f0, f1, f2, f3, invalid-number (p .status), invalid-number (q .status), invalid-number (r .status), invalid-number (s .status))
     (held-order (eqb tag b) (isInvalid (p .status)) (isInvalid (q .status)) (isInvalid (r .status)) (isInvalid (s .status)))
 held-of (p ∷ q ∷ r ∷ s ∷ u ∷ xs) tag b l e f0 f1 f2 f3 = absurd (omega arith)
 
 fill-held : (a : ℕ) (l : Line) → holds (blockOf a) l ≡ true → fillLine a l .sectors ≡ arrivedAt (sectorIndex a) (l .sectors)
 unfolding fillLine
 fill-held a l e = rw e
-
-fill-other : (a : ℕ) (l : Line) → holds (blockOf a) l ≡ false → fillLine a l ≡ l
-unfolding fillLine
-fill-other a l e = rw e
 
 module _ (S : Settings) (t : Tables) (ok : Sound S t) {longs words marks : List ℕ} (h : ByBlocks S longs words marks t) {at : Layout} (p : Placed S at) where
   four : (l : ℕ) → l < length (t .lines) → length (getD (t .lines) l fresh .sectors) ≡ 4
@@ -145,7 +128,7 @@ module _ (S : Settings) (t : Tables) (ok : Sound S t) {longs words marks : List 
 
   fill-one : (a l : ℕ) → l < length (t .lines) → holds (blockOf a) (getD (t .lines) l fresh) ≡ true → map (fillLine a) (t .lines) ≡ set (t .lines) l (fillLine a (getD (t .lines) l fresh))
   fill-one a l b e =
-      map-one (fillLine a) fresh (t .lines) l b (λ j k n. fill-other a (getD (t .lines) j fresh) (no-yes (λ z. n (holder-one S t ok (blockOf a) j l k b z e))))
+      map-one (fillLine a) fresh (t .lines) l b (λ j k n. fill-kept a (getD (t .lines) j fresh) (no-yes (λ z. n (holder-one S t ok (blockOf a) j l k b z e))))
 
   -- a line that has the block is one of its set
   pub holding : 1 ≤ S .ways → (a : ℕ) → any (holds (blockOf a)) (t .lines) ≡ true → Holding longs marks (setIndex S a * S .ways) (S .ways) (blockOf a)
@@ -153,18 +136,8 @@ module _ (S : Settings) (t : Tables) (ok : Sound S t) {longs words marks : List 
       let (x, m, q) = any-in (holds (blockOf a)) (t .lines) g in
       let (i, b, z) = in-index (t .lines) fresh x m in
       let e : holds (blockOf a) (getD (t .lines) i fresh) ≡ true = ap (holds (blockOf a)) z ∙ q in
-      let place : setIndex S a * S .ways + i % S .ways ≡ i = ap (λ (n : ℕ). n * S .ways + i % S .ways) (set-of a i b e) ∙ div-add-mod' i (S .ways) in
+      let place : setIndex S a * S .ways + i % S .ways ≡ i = ap (λ (n : ℕ). n * S .ways + i % S .ways) (holder-set S t ok a i b e) ∙ div-add-mod' i (S .ways) in
       (i % S .ways, mod-lt i some, ap (holdsAt longs marks (blockOf a)) place ∙ held-at i (blockOf a) b ∙ e)
-    where
-      set-of : (a i : ℕ) → i < length (t .lines) → holds (blockOf a) (getD (t .lines) i fresh) ≡ true → setIndex S a ≡ i / S .ways
-      set-of a i b e =
-          let l : Line = getD (t .lines) i fresh in
-          let u : whollyInvalid l ≡ false = not-yes (and-1 (not (whollyInvalid l)) (eqb (l .tag) (blockOf a)) e) in
-          let v : l .tag ≡ blockOf a = eqb-true (l .tag) (blockOf a) (and-2 (not (whollyInvalid l)) (eqb (l .tag) (blockOf a)) e) in
-          let o : (goodBlock (l .tag) && eqb (setIndex S (l .tag)) (i / S .ways)) ≡ true = rw u at (line-at S t ok i b .tagged) in
-          let w : setIndex S (l .tag) ≡ i / S .ways = eqb-true (setIndex S (l .tag)) (i / S .ways) (and-2 (goodBlock (l .tag)) (eqb (setIndex S (l .tag)) (i / S .ways)) o) in
-          let same : blockOf a / 128 ≡ a / 128 = omega arith in
-          sym (ap (λ (n : ℕ). n % S .sets) same) ∙ sym (ap (setIndex S) v) ∙ w
 
   -- its sector has come
   line-stands : (a : ℕ) {words′ marks′ : List ℕ} (f : LineFilled S at (blockOf a) (sectorIndex a) longs words marks words′ marks′)
@@ -198,7 +171,7 @@ module _ (S : Settings) (t : Tables) (ok : Sound S t) {longs words marks : List 
       let l : ℕ = f .line in
       let k : f .line < length (t .lines) = omega (arith, f .inside, lines-are S t ok) in
       let e : holds (blockOf a) (getD (t .lines) (f .line) fresh) ≡ true = sym (held-at l (blockOf a) k) ∙ f .held in
-      recount dirty (t .lines) l (fillLine a (getD (t .lines) l fresh)) fresh k (eqb-true (t .dirtyCount) (dirtyLines t) (ok .counted)) ∙ ap (count dirty) (sym (fill-one a l k e))
+      recount dirty (t .lines) l (fillLine a (getD (t .lines) l fresh)) fresh k (dirty-count-is S t ok) ∙ ap (count dirty) (sym (fill-one a l k e))
 
   -- the count has room for the line
   pub count-fits : (l : ℕ) → l < linesOf S → linesOf S ≤ 1024 → CountFits S at l words marks
@@ -206,7 +179,7 @@ module _ (S : Settings) (t : Tables) (ok : Sound S t) {longs words marks : List 
       let n = lines-are S t ok in
       let k : l < length (t .lines) = omega arith in
       let was : sectorsAt S words marks l ≡ getD (t .lines) l fresh .sectors = lifted S t h p n l k (four l k) in
-      let c : getD words (at .dirty) 0 ≡ count dirty (t .lines) = dirty-count-at S t h p ∙ eqb-true (t .dirtyCount) (dirtyLines t) (ok .counted) in (
+      let c : getD words (at .dirty) 0 ≡ count dirty (t .lines) = dirty-count-at S t h p ∙ dirty-count-is S t ok in (
         omega (arith, c, count-length dirty (t .lines)),
         subst (λ (y : List Sector). one (someModified y) ≤ getD words (at .dirty) 0) (sym was) (omega (arith, c, one-counted dirty (t .lines) l fresh k)),
       )
@@ -239,7 +212,7 @@ module _ (S : Settings) (a : ℕ) (t : Tables) {longs words marks : List ℕ} (i
   h = is-stands i
 
   used : n ≡ length (t .misses)
-  used = misses-used S t h p (few-misses S t ok) (some-tickets S t ok) u
+  used = misses-counted S t i p u
 
   -- whether an entry for the address is sent
   sent-test : (ltb e n && eqb (getD marks (at .sent + e) 0) 1) ≡ any (sentFor a) (t .misses)

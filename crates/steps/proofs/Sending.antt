@@ -1,7 +1,7 @@
 -- Send: what its parts leave is what the step on the tables says.
 use mathlib.Core.Path.{_≡_, refl, sym, ap, subst, _∙_}
 use mathlib.Core.Bool.{true}
-use mathlib.Core.List.{List, [], _∷_}
+use mathlib.Core.List.{List}
 use Prim.Native.Nat.{ℕ, _+_, _*_, _≤_, _<_}
 use native.Mathlib.Decide.{decLe}
 use native.Mathlib.Omega.{arith}
@@ -23,19 +23,20 @@ use Rattle.model.specs.declared.Refusal.the-variants.{QueueEmpty}
 use Rattle.model.specs.declared.Event.{Event}
 use Rattle.model.specs.declared.Event.the-variants as event
 use Rattle.model.specs.declared.Told.{Told}
-use Rattle.model.proofs.SoundFacts.{Sound, parts}
+use Rattle.model.proofs.SoundFacts.{Sound, parts, few-misses, few-queued}
 use Rattle.encoding.proofs.NumbersAreTables.{fetch-number}
 use Rattle.tables.specs.Raw.{frontAt}
 use Rattle.layout.specs.declared.Layout.{Layout}
 use Rattle.layout.specs.Layout.{Placed}
 use Rattle.layout.specs.Places.{First}
 use Rattle.tables.specs.Telling.{telling}
-use Rattle.tables.proofs.Queue.{queue-used, pop-stands, head-kind, head-address, front-is}
+use Rattle.tables.proofs.Queue.{pop-stands, head-kind, head-address, front-is, queue-counted}
 use Rattle.layout.proofs.ByBlocks.{ByBlocks, is-stands, stands-encode}
 use Rattle.tables.proofs.Misses.{address-at, sent-stands, entry-first}
 use Rattle.tables.proofs.Tellings.{telling-tells, telling-tidy, refusal-leaves, done-leaves}
 use Rattle.steps.specs.Parts.{HeadAsked, Marked, HeadMarked}
-use Rattle.steps.proofs.Entries.{few-misses, few-queued, head-four, head-entry, marked-one}
+use Rattle.steps.proofs.Entries.{head-four, head-entry, marked-one}
+use Rattle.words.proofs.Lists.{none-of}
 
 -- what some place has is found
 pub first-inside : {l : List ℕ} {i n x r : ℕ} → First l i n x r → (k : ℕ) × (k < n) × (getD l (i + k) 0 ≡ x) → r < n
@@ -44,10 +45,6 @@ first-inside {l} {i} {n} {x} {r} f w = go (decLe n r)
     go : Dec (n ≤ r) → r < n
     go (yes b) = absurd (f .before (w .0) (omega arith) (w .2))
     go (no b) = omega arith
-
-nothing : {A : Type 0} (l : List A) → length l ≡ 0 → l ≡ []
-nothing [] e = refl
-nothing (x ∷ l) e = absurd (omega arith)
 
 module _ (S : Settings) (t : Tables) {longs words marks : List ℕ} (i : Encodes S (lent longs words marks) t) {at : Layout} (p : Placed S at)
     {n : ℕ} (u : First marks (at .kinds) (S .queue) 0 n) where
@@ -58,14 +55,14 @@ module _ (S : Settings) (t : Tables) {longs words marks : List ℕ} (i : Encodes
   h = is-stands i
 
   queued : n ≡ length (t .queue)
-  queued = queue-used S t h p (few-queued S t ok) u
+  queued = queue-counted S t i p u
 
   pub send-empty : n ≡ 0 → {r : Told} → r ≡ telling (event.Refused QueueEmpty) → Leaves (encoded S (send t)) (lent longs words marks) r (lent longs words marks)
   unfolding send
   send-empty z e =
       rw e
       (subst (λ (q : List Queued). Leaves (encoded S (sendFrom q t)) (lent longs words marks) (telling (event.Refused QueueEmpty)) (lent longs words marks))
-      (sym (nothing (t .queue) (sym queued ∙ z))) (refusal-leaves QueueEmpty (lent longs words marks)))
+      (sym (none-of (t .queue) (sym queued ∙ z))) (refusal-leaves QueueEmpty (lent longs words marks)))
 
   module _ (not-0 : n ≡ 0 → ⊥) where
     some : 1 ≤ length (t .queue)

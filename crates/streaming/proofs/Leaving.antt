@@ -1,5 +1,5 @@
 -- What a part leaves, of what the runner and the buffer promise.
-use mathlib.Core.Path.{_≡_, refl, sym, ap, subst, _∙_}
+use mathlib.Core.Path.{_≡_, sym, ap, subst, _∙_}
 use mathlib.Core.Logic.{_⊎_, inl, inr}
 use mathlib.Core.List.{List, [], _∷_, _++_}
 use Prim.Native.Nat.{ℕ, zero, suc, _+_, _-_, _%_, _^_, _≤_}
@@ -7,7 +7,7 @@ use native.Mathlib.Nat.{zero-add, sub-zero, le-of-suc-le-suc}
 use native.Mathlib.Omega.{arith}
 use borrow.Author.Tests.{le-leb}
 use lib.ListN.{length, take, drop, length-drop, take-append-drop}
-use lib.Seq.{length-take-le, take-append-le, take-append-seam}
+use lib.Seq.{length-take-le, take-append-le, take-nil, take-at}
 use Rattle.model.specs.Tables.{Tables}
 use Rattle.model.specs.Lent.{Lent, lent}
 use Rattle.model.specs.Inner.{Encodes}
@@ -30,20 +30,13 @@ use Rattle.streaming.specs.Parts.{Leaves, Ran}
 
 -- ---- the rest of a part, at the front of the buffer
 
-take-none : (n : ℕ) → _≡_ {A = List ℕ} (take n []) []
-take-none zero = refl
-take-none (suc n) = refl
-
 drop-front : (c n : ℕ) (l : List ℕ) → c ≤ n → drop c (take n l) ≡ take (n - c) (drop c l)
 drop-front zero n l h = rw sub-zero
 drop-front (suc c) zero l h = absurd (omega arith)
-drop-front (suc c) (suc n) [] h = sym (take-none (suc n - suc c))
+drop-front (suc c) (suc n) [] h = sym (take-nil (suc n - suc c))
 drop-front (suc c) (suc n) (x ∷ l) h =
     let e : suc n - suc c ≡ n - c = omega arith in
     rw e (drop-front c n l (le-of-suc-le-suc h))
-
-take-front : (n : ℕ) (x y : List ℕ) → length x ≡ n → take n (x ++ y) ≡ x
-take-front n x y e = rw (← e) (take-append-seam x y)
 
 module _ (l : List ℕ) (c n : ℕ) (h : c ≤ n) (k : n ≤ length l) where
   pub carried-rest : take (carriedCount l c n) (carried l c n) ≡ drop c (take n l)
@@ -51,7 +44,7 @@ module _ (l : List ℕ) (c n : ℕ) (h : c ≤ n) (k : n ≤ length l) where
   carried-rest =
       let x = take (n - c) (drop c l) in
       let e : length x ≡ n - c = length-take-le (n - c) (drop c l) (omega (arith, length-drop c l)) in
-      let p : take (n - c) (x ++ drop (n - c) l) ≡ x = take-front (n - c) x (drop (n - c) l) e in
+      let p : take (n - c) (x ++ drop (n - c) l) ≡ x = take-at x (drop (n - c) l) (n - c) e in
       rw (le-leb c n h, le-leb n (length l) k) (p ∙ sym (drop-front c n l h))
 
   pub carried-is : carriedCount l c n ≡ n - c

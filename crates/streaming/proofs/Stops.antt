@@ -9,9 +9,8 @@ use native.Mathlib.Nat.{le-of-suc-le-suc}
 use native.Mathlib.Omega.{arith}
 use borrow.Author.Tests.{le-ltb, ltb-true, ltb-false}
 use lib.Dec.{ltb}
-use lib.ListN.{length, take, drop, length-append}
+use lib.ListN.{length, take, drop}
 use lib.Seq.{length-take-le}
-use Rattle.words.specs.Words.{pick}
 use Rattle.model.specs.Tables.{Tables, after, eventsOf}
 use Rattle.model.specs.Records.{isCommand, isSettings, lengthOf, logBytes}
 use Rattle.model.specs.RunnerOf as runner
@@ -22,43 +21,33 @@ use Rattle.model.specs.declared.Stop.the-variants as stop
 use Rattle.words.proofs.Flags.{clash, by-flag, flag}
 use Rattle.records.proofs.Lengths.{body-short}
 use Rattle.running.proofs.Running.{going, from-stops, from-goes}
+use Rattle.running.proofs.Parts.{stopBy, later-more, later-roomy}
 use Rattle.streaming.specs.Scopes.{beforeLast}
 use Rattle.streaming.specs.Halts.{ofEnd, Behind, Alone}
 use Rattle.streaming.proofs.Lasts.{last-most, last-least}
 
 -- ---- the checks at a record, by what they come to
 
-abbrev by : Bool → Bool → Bool → Bool → Stop
-by known cut settings full = pick known (pick cut stop.CutShort (pick settings stop.OutOfPlace (pick full stop.NoRoom stop.Nothing))) stop.UnknownKind
-
-by-roomy : (a b c p : Bool) → (by a b c p ≡ stop.NoRoom → ⊥) → by a b c p ≡ by a b c false
-by-roomy a b c false g = refl
-by-roomy false b c true g = refl
-by-roomy true true c true g = refl
-by-roomy true false true true g = refl
-by-roomy true false false true g = absurd (g refl)
-
-by-room : (a b c : Bool) → by a b c false ≡ stop.NoRoom → ⊥
+by-room : (a b c : Bool) → stopBy a b c false ≡ stop.NoRoom → ⊥
 by-room false b c e = let z : _≡_ {A = ℕ} 0 1 = cc in omega arith
 by-room true true c e = let z : _≡_ {A = ℕ} 0 1 = cc in omega arith
 by-room true false true e = let z : _≡_ {A = ℕ} 0 1 = cc in omega arith
 by-room true false false e = let z : _≡_ {A = ℕ} 0 1 = cc in omega arith
 
-by-whole : (a c p : Bool) → by a false c p ≡ stop.CutShort → ⊥
+by-whole : (a c p : Bool) → stopBy a false c p ≡ stop.CutShort → ⊥
 by-whole false c p e = let z : _≡_ {A = ℕ} 0 1 = cc in omega arith
 by-whole true true p e = let z : _≡_ {A = ℕ} 0 1 = cc in omega arith
 by-whole true false true e = let z : _≡_ {A = ℕ} 0 1 = cc in omega arith
 by-whole true false false e = let z : _≡_ {A = ℕ} 0 1 = cc in omega arith
 
+roomy-stop : (room k : ℕ) (a : List ℕ) → eventRoom ≤ room → laterStop room k a ≡ stop.NoRoom → ⊥
+unfolding runner.laterStop
+roomy-stop room k a w e = by-room (isCommand k) (ltb (length a) (lengthOf k)) (isSettings k) (rw (le-ltb room eventRoom w) at e)
+
 module _ (room k : ℕ) (a : List ℕ) where
   -- with room for one record
   roomy-same : (other : ℕ) → eventRoom ≤ other → (laterStop room k a ≡ stop.NoRoom → ⊥) → laterStop room k a ≡ laterStop other k a
-  unfolding runner.laterStop
-  roomy-same other w g = rw (le-ltb other eventRoom w) (by-roomy (isCommand k) (ltb (length a) (lengthOf k)) (isSettings k) (ltb room eventRoom) g)
-
-  roomy-stop : eventRoom ≤ room → laterStop room k a ≡ stop.NoRoom → ⊥
-  unfolding runner.laterStop
-  roomy-stop w e = by-room (isCommand k) (ltb (length a) (lengthOf k)) (isSettings k) (rw (le-ltb room eventRoom w) at e)
+  roomy-same other w g = later-roomy room k a other g (roomy-stop other k a w)
 
   whole-stop : lengthOf k ≤ length a → laterStop room k a ≡ stop.CutShort → ⊥
   unfolding runner.laterStop
@@ -87,10 +76,7 @@ module _ (room k : ℕ) (a : List ℕ) where
       (λ (z : isCommand k ≡ true).
       ⊎-elim
       (λ (y : ltb (length a) (lengthOf k) ≡ true). absurd (g (rw (z, y))))
-      (λ (y : ltb (length a) (lengthOf k) ≡ false).
-      let w = ltb-false (length a) (lengthOf k) y in
-      let l : lengthOf k ≤ length (a ++ b) = rw length-append (omega arith) in
-      rw (le-ltb (length (a ++ b)) (lengthOf k) l, y))
+      (λ (y : ltb (length a) (lengthOf k) ≡ false). later-more room k a b (ltb-false (length a) (lengthOf k) y))
       (flag (ltb (length a) (lengthOf k))))
       (λ (z : isCommand k ≡ false). rw z)
       (flag (isCommand k))

@@ -7,7 +7,7 @@ use Prim.Native.Nat.{ℕ, _+_, _-_, _%_, _^_, _≤_}
 use native.Mathlib.Nat.{zero-add}
 use native.Mathlib.Omega.{arith}
 use borrow.Author.Tests.{le-leb, leb-true, ltb-true, ltb-false}
-use lib.Dec.{ltb, eqb}
+use lib.Dec.{ltb}
 use lib.ListN.{length, take, drop}
 use lib.Seq.{drop-append-le, take-append-seam}
 use Rattle.words.proofs.Flags.{clash, by-flag, flag}
@@ -26,7 +26,7 @@ use Rattle.running.specs.declared.Begun.{Begun}
 use Rattle.running.specs.declared.Begun.the-variants.{Accepted, Stopped}
 use Rattle.running.specs.Lengths.{Final}
 use Rattle.running.specs.Begin.{beginning, begunTables, firstThere}
-use Rattle.running.proofs.First.{accepted-long, accepted-runs}
+use Rattle.running.proofs.First.{accepted-long, accepted-runs, run-halts}
 use Rattle.running.proofs.Parts.{begins-more}
 use Rattle.streaming.specs.declared.work.Next.{Next}
 use Rattle.streaming.specs.declared.work.Next.the-variants as next
@@ -89,15 +89,6 @@ module _ (L : Lent) where
       by-flag (λ (x : Begun). x ≡ Stopped n → firstThere (k ∷ bs) ≡ true) (goesOn (firstStop L k bs)) _ _
       (λ z h. let e : _≡_ {A = ℕ} 0 1 = cc in absurd (omega arith))
       (λ z h. let e : firstStop L k bs ≡ n = cc in there-goes L k bs (λ c. g (sym e ∙ c)))
-      q
-
-  pub stopped-run : (s : List ℕ) (n : Stop) (room : ℕ) → beginning L s ≡ Stopped n → run room s L ≡ halt n L
-  unfolding beginning runner.run
-  stopped-run [] n room q = let e : stop.Nothing ≡ n = cc in rw e
-  stopped-run (k ∷ bs) n room q =
-      by-flag (λ (x : Begun). x ≡ Stopped n → run room (k ∷ bs) L ≡ halt n L) (goesOn (firstStop L k bs)) _ _
-      (λ z h. let e : _≡_ {A = ℕ} 0 1 = cc in absurd (omega arith))
-      (λ z h. let e : firstStop L k bs ≡ n = cc in rw (z, e))
       q
 
   -- also with what may come behind
@@ -179,7 +170,7 @@ module _ {L M : Lent} {b buf : List ℕ} {w x : Work} (o : Opened b w) (s : Star
             let h : x .have ≡ w .have = ap (λ (y : Work). y .have) e in
             rw (n, h) (first-claims L b o (x .stop) q);
         final = λ z. stopped-final (x .next) (x .stop) z (a .1);
-        is = λ z d room h g. rw (append-nil, c, m) (stopped-run L (p ++ d) (x .stop) room (stopped-more L p d (x .stop) q h));
+        is = λ z d room h g. rw (append-nil, c, m) (run-halts room L (p ++ d) (x .stop) (stopped-more L p d (x .stop) q h));
         front = λ d room g. refl;
       }
 

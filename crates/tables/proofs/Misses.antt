@@ -12,14 +12,16 @@ use Rattle.words.specs.Words.{fit, packed, joined}
 use Rattle.words.specs.Regions.{region, put, closed, dropped}
 use Rattle.model.specs.Tables.{Entry, Tables, withMisses}
 pub use Rattle.model.specs.Tables.{noEntry}
-use Rattle.model.specs.Lent.{bit, longBlocks, wordBlocks, markBlocks, missOf, sentOf, ticketCountOf, ticketsIn}
+use Rattle.model.specs.Lent.{bit, longBlocks, wordBlocks, markBlocks, missOf, sentOf, ticketCountOf, ticketsIn, lent}
 use Rattle.model.specs.declared.Settings.{Settings}
-use Rattle.words.proofs.Places.{length-places, field-put, field-get, field-region, take-fit}
+use Rattle.model.specs.Inner.{Encodes}
+use Rattle.words.proofs.Places.{length-places, field-put, field-get, field-region, take-fit, places-same, places-push-idle, field-push, field-extend, field-close-first}
 use Rattle.layout.specs.declared.Layout.{Layout}
 use Rattle.layout.specs.Layout.{Placed}
 use Rattle.layout.specs.Places.{First}
-use Rattle.layout.proofs.ByBlocks.{ByBlocks}
-use Rattle.layout.proofs.Grown.{places-same, places-push-idle, field-push, field-extend, field-close-first, field-used}
+use Rattle.layout.proofs.ByBlocks.{ByBlocks, is-stands}
+use Rattle.layout.proofs.Grown.{field-used}
+use Rattle.model.proofs.SoundFacts.{parts, few-misses, some-tickets}
 
 abbrev pub withSent : Entry → Entry
 withSent x = record { address = x .address; sent = true; tickets = x .tickets }
@@ -139,3 +141,8 @@ module _ (S : Settings) (t : Tables) {longs words marks : List ℕ} (h : ByBlock
       go : Dec (r ≤ k) → (r < length (t .misses)) × (getD (t .misses) r noEntry .address ≡ a)
       go (yes b) = let c : r < length (t .misses) = omega arith in (c, sym (address-at r c) ∙ f .there i)
       go (no b) = absurd (f .before k (omega arith) (address-at k below ∙ q))
+
+-- how many entries are in use, of slices that hold sound tables
+pub misses-counted : (S : Settings) {longs words marks : List ℕ} (t : Tables) → Encodes S (lent longs words marks) t → {at : Layout} → Placed S at
+    → {n : ℕ} → First marks (at .counts) (S .misses) 0 n → n ≡ length (t .misses)
+misses-counted S t i p u = let ok = parts S t (i .soundly) in misses-used S t (is-stands i) p (few-misses S t ok) (some-tickets S t ok) u

@@ -1,39 +1,32 @@
 -- The queue's leaves on the slices of tables: how many places are used, the head, what a pop and a push leave.
 use mathlib.Core.Path.{_≡_, refl, sym, ap, _∙_}
 use mathlib.Core.List.{List, [], _∷_, _++_}
-use Prim.Native.Nat.{ℕ, zero, suc, _+_, _*_, _≤_, _<_}
-use native.Mathlib.Nat.{le-of-suc-le-suc, not-suc-le-zero}
+use Prim.Native.Nat.{ℕ, _+_, _*_, _≤_, _<_}
 use native.Mathlib.Omega.{arith}
 use lib.ListN.{length, getD, drop}
-use Rattle.words.specs.Words.{fit, packed}
+use Rattle.words.specs.Words.{fit}
 use Rattle.words.specs.Regions.{put, closed, offsetIn}
 use Rattle.model.specs.Tables.{idle, Tables, withQueue}
 use Rattle.model.specs.Numbers.{queueKindNumber, queueKindOf}
-use Rattle.model.specs.Lent.{longBlocks, wordBlocks, markBlocks, queuedOf, queueMasksOf, kindOf}
+use Rattle.model.specs.Lent.{longBlocks, wordBlocks, markBlocks, queuedOf, queueMasksOf, kindOf, lent}
 use Rattle.model.specs.declared.Settings.{Settings}
 use Rattle.model.specs.declared.Queued.{Queued}
-use Rattle.words.proofs.Places.{length-places, field-get}
+use Rattle.model.specs.Inner.{Encodes}
+use Rattle.words.proofs.Places.{length-places, field-get, fit-get, field-push, field-close-first}
+use Rattle.words.proofs.Lists.{four-whole}
 use Rattle.encoding.proofs.NumbersAreTables.{kind-some, kind-back, queued-back}
 use Rattle.tables.specs.Raw.{frontAt}
 use Rattle.layout.specs.declared.Layout.{Layout}
 use Rattle.layout.specs.Layout.{Placed}
 use Rattle.layout.specs.Places.{First}
 use Rattle.tables.proofs.Ones.{dropped-first}
-use Rattle.layout.proofs.Stores.{four-whole}
-use Rattle.layout.proofs.ByBlocks.{ByBlocks}
-use Rattle.layout.proofs.Grown.{field-push, field-close-first, field-used}
+use Rattle.layout.proofs.ByBlocks.{ByBlocks, is-stands}
+use Rattle.layout.proofs.Grown.{field-used}
+use Rattle.model.proofs.SoundFacts.{parts, few-queued}
 
 kind-used : (x : Queued) → getD (fit 1 (kindOf x)) 0 0 ≡ 0 → ⊥
 unfolding fit
 kind-used x = kind-some (x .kind)
-
-pub fit-get : (w : ℕ) (l : List ℕ) (j : ℕ) → j < w → getD (fit w l) j 0 ≡ getD l j 0
-unfolding fit
-fit-get zero l j h = absurd (not-suc-le-zero h)
-fit-get (suc w) [] zero h = refl
-fit-get (suc w) [] (suc j) h = fit-get w [] j (le-of-suc-le-suc h)
-fit-get (suc w) (x ∷ l) zero h = refl
-fit-get (suc w) (x ∷ l) (suc j) h = fit-get w l j (le-of-suc-le-suc h)
 
 -- a queue's entry, read off its numbers
 front-of : (x : Queued) → length (x .masks) ≡ 4 → {k a m0 m1 m2 m3 : ℕ} → k ≡ queueKindNumber (x .kind) → a ≡ x .address
@@ -92,3 +85,8 @@ module _ (S : Settings) (t : Tables) {longs words marks : List ℕ} (h : ByBlock
     front-is four =
         front-of (getD (t .queue) 0 idle) four head-kind head-address
         (head-mask 0 (at .backs) (omega arith) (omega arith)) (head-mask 1 (at .backs + 1) (omega arith) refl) (head-mask 2 (at .backs + 2) (omega arith) refl) (head-mask 3 (at .backs + 3) (omega arith) refl)
+
+-- how many places are in use, of slices that hold sound tables
+pub queue-counted : (S : Settings) {longs words marks : List ℕ} (t : Tables) → Encodes S (lent longs words marks) t → {at : Layout} → Placed S at
+    → {n : ℕ} → First marks (at .kinds) (S .queue) 0 n → n ≡ length (t .queue)
+queue-counted S t i p u = queue-used S t (is-stands i) p (few-queued S t (parts S t (i .soundly))) u

@@ -2,7 +2,6 @@
 use mathlib.Core.Path.{_≡_, refl, sym, ap, _∙_}
 use mathlib.Core.List.{List, [], _∷_, _++_}
 use Prim.Native.Nat.{ℕ, suc, _+_, _-_, _≤_, _<_}
-use native.Mathlib.Nat.{add-zero}
 use native.Mathlib.Omega.{arith}
 use borrow.Author.Tests.{le-leb, lt-leb}
 use native.Mathlib.Numerals.{add-one}
@@ -10,6 +9,7 @@ use lib.ListN.{length, set, drop, getD, length-append, length-replicate, replica
 use lib.Seq.{sets, drop-cons}
 use Rattle.text.specs.Digits.{Put, digitCount, spelled, padded, hexadecimal, digits}
 use Rattle.text.proofs.Spelling.{length-spelled}
+use Rattle.words.proofs.Region.{sets-append}
 
 pub put-none : (l : List ℕ) (at : ℕ) (s : List ℕ) (n : ℕ) → length s ≡ n → length l < at + n → Put l at s at l
 put-none l at s n e h = let g : length l < at + length s = rw e h in record { next = rw (lt-leb (at + length s) (length l) g); left = rw (lt-leb (at + length s) (length l) g) }
@@ -18,12 +18,6 @@ pub put-all : (l : List ℕ) (at : ℕ) (s : List ℕ) (n : ℕ) {l₁ : List �
 put-all l at s n e h q =
     let g : at + length s ≤ length l = rw e h in
     record { next = rw (le-leb (at + length s) (length l) g, e); left = rw (le-leb (at + length s) (length l) g) q }
-
-pub sets-append : (l : List ℕ) (at : ℕ) (a b : List ℕ) → sets (sets l at a) (at + length a) b ≡ sets l at (a ++ b)
-sets-append l at [] b = rw add-zero
-sets-append l at (x ∷ a) b =
-    let e : at + suc (length a) ≡ suc at + length a = omega arith in
-    rw e (sets-append (set l at x) (suc at) a b)
 
 -- ---- one text behind another
 

@@ -1,8 +1,8 @@
 -- What a step told, without its refusals: 0x11 stands first or nowhere, and not in what an accepted step told, so what is written of a step
 -- are the events of its turn.
 use mathlib.Core.Path.{_≡_, refl, sym, ap, _∙_}
-use mathlib.Core.Bool.{Bool, true, false, not, _||_}
-use mathlib.Core.List.{List, [], _∷_, _++_, map}
+use mathlib.Core.Bool.{Bool, true, false, not, or-false}
+use mathlib.Core.List.{List, [], _++_}
 use Prim.Native.Nat.{ℕ, _+_, _≤_}
 use native.Mathlib.Omega.{arith}
 use lib.ListN.{length, length-append, take}
@@ -18,11 +18,12 @@ use Rattle.model.specs.declared.Event.the-variants as event
 use Rattle.model.specs.declared.Told.{Told}
 use Rattle.words.proofs.Flags.{not-yes, no-not}
 use Rattle.words.proofs.Lists.{any-append}
-use Rattle.model.proofs.SeenRounds.{Clear, unrefused, queued-clear}
+use Rattle.model.proofs.SeenRounds.{Clear, unrefused, queued-clear, released-clear}
+use Rattle.model.proofs.Logs.{log-append}
 use Rattle.records.specs.Stores.{Stored, Laid}
 use Rattle.records.specs.Fitting.{AllFitting}
 use Rattle.records.proofs.Stores.{was-stored, laid-then}
-use Rattle.records.proofs.Log.{log-append}
+use Rattle.records.proofs.Told.{fitting-append}
 use Rattle.turns.specs.Parts.{isRefusal, noted, Noted}
 
 -- ---- what a step told
@@ -37,14 +38,6 @@ refusing-is (event.ReadSent a) = refl
 refusing-is (event.WriteBackSent b m0 m1 m2 m3) = refl
 refusing-is (event.Filled a) = refl
 refusing-is event.Ticked = refl
-
-released-clear : (ks : List ℕ) → any refusing (map event.Released ks) ≡ false
-released-clear [] = refl
-released-clear (k ∷ ks) = released-clear ks
-
-or-false : (b : Bool) → (b || false) ≡ b
-or-false true = refl
-or-false false = refl
 
 told-refusing : (r : Told) → any refusing (eventsTold r) ≡ isRefusal (r .first)
 unfolding eventsTold
@@ -82,10 +75,6 @@ pub noted-stored : (e : List ℕ) (out : ℕ) (r : Told) {n : ℕ} {f : List ℕ
     → Stored e out (logBytes (eventsTold r)) n f → AllFitting (eventsTold r) → Noted e out (noted r) (out + n) f
 noted-stored e out r h room s fits = rw h (tells e out r room s fits)
 
-fits-append : (es fs : List Event) → AllFitting es → AllFitting fs → AllFitting (es ++ fs)
-fits-append [] fs p q = q
-fits-append (e ∷ es) fs p q = (p .0, fits-append es fs (p .1) q)
-
 abbrev laid : {e : List ℕ} {out : ℕ} {es : List Event} {w : ℕ} {f : List ℕ} → Noted e out es w f → Laid e out (length (logBytes es)) (logBytes es) w f
 laid n = record { next = n .next; slice = n .slice }
 
@@ -96,7 +85,7 @@ noted-then xs ys u v =
     record {
       next = rw (log-append, length-append) (both .next);
       slice = rw log-append (both .slice);
-      fits = fits-append xs ys (u .fits) (v .fits);
+      fits = fitting-append xs ys (u .fits) (v .fits);
     }
 
 -- at most as much as it told

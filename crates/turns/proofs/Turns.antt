@@ -23,17 +23,15 @@ use Rattle.model.specs.declared.Access.{Access}
 use Rattle.model.specs.declared.Command.the-variants as cmd
 use Rattle.model.specs.declared.Told.{Told}
 use Rattle.encoding.proofs.Bridge.{does-tells, does-is}
-use Rattle.encoding.proofs.LentRounds.{took-left}
-use Rattle.model.proofs.SeenRounds.{Clear, unrefused, unrefused-too, send-clear, fill-clear, access-clear}
-use Rattle.model.proofs.SoundFacts.{parts}
+use Rattle.model.proofs.SeenRounds.{Clear, unrefused, unrefused-too, send-clear, fill-clear, access-clear, took-left}
+use Rattle.model.proofs.SoundFacts.{parts, few-misses}
 use Rattle.model.proofs.Soundness.{send-keeps-sound, fill-keeps-sound, access-keeps-sound}
 use Rattle.layout.specs.declared.Layout.{Layout}
 use Rattle.layout.specs.Layout.{Placed}
 use Rattle.layout.specs.Places.{First}
 use Rattle.layout.proofs.ByBlocks.{is-stands}
-use Rattle.tables.proofs.Misses.{noEntry, misses-used, address-at, sent-at}
-use Rattle.tables.proofs.Queue.{queue-used}
-use Rattle.steps.proofs.Entries.{few-misses, few-queued, some-tickets}
+use Rattle.tables.proofs.Misses.{noEntry, address-at, sent-at, misses-counted}
+use Rattle.tables.proofs.Queue.{queue-counted}
 use Rattle.records.proofs.Room.{send-takes, access-takes, step-takes}
 use Rattle.turns.specs.declared.Sent.{Sent}
 use Rattle.turns.specs.declared.Sent.the-variants.{At, Nothing}
@@ -105,7 +103,7 @@ bit-set false n e f = absurd (omega arith)
 module _ (S : Settings) {longs words marks : List ℕ} (t : Tables) (i : Encodes S (lent longs words marks) t) {at : Layout} (p : Placed S at)
     {n : ℕ} (u : First marks (at .counts) (S .misses) 0 n) {r : ℕ} (f : First marks (at .sent) n 1 r) where
   in-use : n ≡ length (t .misses)
-  in-use = let ok = parts S t (i .soundly) in misses-used S t (is-stands i) p (few-misses S t ok) (some-tickets S t ok) u
+  in-use = misses-counted S t i p u
 
   mark-at : (e : ℕ) → e < length (t .misses) → getD marks (at .sent + e) 0 ≡ bit (getD (t .misses) e noEntry .sent)
   mark-at e h = sent-at S t (is-stands i) p (few-misses S t (parts S t (i .soundly))) e h
@@ -157,6 +155,9 @@ module _ (S : Settings) {L : Lent} {v : Sent} (found : FindsSent S L v) where
 
 -- ---- the whole round
 
+pub offer-bytes : (S : Settings) (x : Access) {L : Lent} {r : Told} {M : Lent} → Does S (access S x) L r M → SoundSlices S L → length (logBytes (eventsTold r)) ≤ 38
+offer-bytes S x d h = rw (does-tells S d (h .tables) (h .are)) (access-takes S x (h .tables) .most)
+
 module _ (S : Settings) (x : Access) {L : Lent} {e : List ℕ} {out w : ℕ} {f : List ℕ} {M : Lent} (s : Sends S L e out w f M) where
   pub sends-held : SoundSlices S L → SoundSlices S M
   sends-held h = let u = s .on x (h .tables) (h .are) in record { tables = _; are = u .are }
@@ -170,13 +171,10 @@ module _ (S : Settings) (x : Access) {L : Lent} {e : List ℕ} {out w : ℕ} {f 
     drained-held h = let u = drained (h .tables) (h .are) in record { tables = _; are = u .are }
 
     module _ {r : Told} {O : Lent} (d : Does S (access S x) N r O) where
-      pub offer-bytes : SoundSlices S N → length (logBytes (eventsTold r)) ≤ 38
-      offer-bytes h = rw (does-tells S d (h .tables) (h .are)) (access-takes S x (h .tables) .most)
-
       pub offers : SoundSlices S L → maskOf x ≤ allOnes → {z : ℕ} {h : List ℕ} → Noted g v (noted r) z h → Offers S x L e out record { told = r; written = z } h O
       offers held small {z} n =
           let k = drained-held held in
-          let b = noted-short r 38 (offer-bytes k) n in
+          let b = noted-short r 38 (offer-bytes S x d k) n in
           record {
             on = λ t i.
                 let u = drained t i in
@@ -197,6 +195,4 @@ module _ (S : Settings) (x : Access) {L : Lent} {e : List ℕ} {out w : ℕ} {f 
 module _ (S : Settings) {longs words marks : List ℕ} {at : Layout} (p : Placed S at)
     {q : ℕ} (f : First marks (at .kinds) (S .queue) 0 q) {m : ℕ} (u : First marks (at .counts) (S .misses) 0 m) where
   pub counted : (t : Tables) → Encodes S (lent longs words marks) t → (q ≡ length (t .queue)) × (m ≡ length (t .misses))
-  counted t i =
-      let ok = parts S t (i .soundly) in
-      (queue-used S t (is-stands i) p (few-queued S t ok) f, misses-used S t (is-stands i) p (few-misses S t ok) (some-tickets S t ok) u)
+  counted t i = (queue-counted S t i p f, misses-counted S t i p u)

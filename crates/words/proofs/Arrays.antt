@@ -1,6 +1,6 @@
 -- What a function knows of an array of 32-bit words in a value that it takes: how many they are, and that each is one.
-use mathlib.Core.Path.{_≡_, refl, sym, ap, _∙_}
-use mathlib.Core.List.{List, [], _∷_, map}
+use mathlib.Core.Path.{_≡_, sym, ap, _∙_}
+use mathlib.Core.List.{List, [], _∷_, map, map-id}
 use Prim.Native.Nat.{ℕ, zero, suc, _^_, _<_}
 use lib.Dec.{lit<}
 use lib.ListN.{length, getD}
@@ -19,13 +19,9 @@ each-below (w ∷ ws) (u ∷ us) s zero = s .0 .1
 each-below (w ∷ ws) (u ∷ us) s (suc i) = each-below ws us (s .1) i
 
 -- a field that is an array comes as its words, mapped one by one
-map-same : (ws : List ℕ) → map (λ (w : ℕ). w) ws ≡ ws
-map-same [] = refl
-map-same (w ∷ ws) = rw (map-same ws)
-
 module _ (n : ℕ) (ws : List ℕ) (vs : List Val) (p : Is (Array (UInt w32) n) (map (λ (w : ℕ). w) ws) vs) where
   pub words-length : length ws ≡ n
-  words-length = ap length (sym (map-same ws)) ∙ good-length (eInt w32) n (map (λ (w : ℕ). w) ws) vs p
+  words-length = ap length (sym (map-id ws)) ∙ good-length (eInt w32) n (map (λ (w : ℕ). w) ws) vs p
 
   pub words-below : (i : ℕ) → getD ws i 0 < 2 ^ 32
-  words-below i = rw map-same at (each-below (map (λ (w : ℕ). w) ws) (p .0) (p .1 .1) i)
+  words-below i = rw map-id at (each-below (map (λ (w : ℕ). w) ws) (p .0) (p .1 .1) i)

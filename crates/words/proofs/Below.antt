@@ -1,18 +1,30 @@
--- Laws of a loop over the numbers below n: one that leaves at the first that fails, one that leaves at the first that passes, one that counts.
-use mathlib.Core.Path.{_≡_, refl, sym, ap, subst, _∙_}
+-- Laws of the numbers below n: a loop over them, one that leaves at the first that fails, one that leaves at the first that passes, one that counts.
+use mathlib.Core.Path.{_≡_, refl, sym, _∙_}
 use mathlib.Core.Logic.{_⊎_, inl, inr, ⊎-elim}
-use mathlib.Core.Bool.{Bool, true, false, not, _&&_, _||_}
+use mathlib.Core.Bool.{Bool, true, false, not}
 use Prim.Native.Nat.{ℕ, zero, suc, _+_, _≤_, _<_}
 use native.Mathlib.Nat.{not-suc-le-zero, le-of-suc-le-suc, eq-or-lt-of-le}
 use native.Mathlib.Numerals.{add-one}
 use native.Mathlib.Omega.{arith}
-use Rattle.words.specs.Words.{every, some, countBelow, one, imp}
-use Rattle.words.proofs.Flags.{and-1, and-2, and-i, and-no, or-cases, or-1, or-2, not-yes, no-not, clash, iff, imp-i, imp-use}
+use lib.Dec.{ltb, leb}
+use borrow.Author.Tests.{ltb-true, ltb-false, lt-leb, le-leb, lt-ltb, le-ltb}
+use Rattle.words.specs.Words.{every, some, countBelow, one}
+use Rattle.words.proofs.Flags.{and-1, and-2, and-i, and-no, or-cases, or-1, or-2, not-yes, no-not, clash, flag}
+
+pub lt-or-ge : (a b : ℕ) → (a < b) ⊎ (b ≤ a)
+lt-or-ge a b = ⊎-elim (λ t. inl (ltb-true a b t)) (λ t. inr (ltb-false a b t)) (flag (ltb a b))
+
+pub leb-not : (m n : ℕ) → leb m n ≡ not (ltb n m)
+leb-not m n = ⊎-elim (λ h. rw (lt-leb m n h, lt-ltb n m h)) (λ h. rw (le-leb m n h, le-ltb n m h)) (lt-or-ge n m)
+
+-- equal, if neither may be below the other
+pub squeeze : (a b : ℕ) → (a < b → ⊥) → (b < a → ⊥) → a ≡ b
+squeeze a b f g = ⊎-elim (λ h. absurd (f h)) (λ h. ⊎-elim (λ k. absurd (g k)) (λ k. omega arith) (lt-or-ge b a)) (lt-or-ge a b)
+
+pub last-or-below : (n i : ℕ) → i < suc n → (i ≡ n) ⊎ (i < n)
+last-or-below n i h = eq-or-lt-of-le (le-of-suc-le-suc h)
 
 module _ (p : ℕ → Bool) where
-  last-or-below : (n i : ℕ) → i < suc n → (i ≡ n) ⊎ (i < n)
-  last-or-below n i h = eq-or-lt-of-le (le-of-suc-le-suc h)
-
   -- ---- every
 
   pub every-at : (n i : ℕ) → every n p ≡ true → i < n → p i ≡ true
@@ -42,6 +54,13 @@ module _ (p : ℕ → Bool) where
 
   pub passed-end : (n i : ℕ) → n ≤ i → Passed n i → true ≡ every n p
   passed-end n i h w = let e : n ≡ i = omega arith in rw e (sym (w .1))
+
+  -- the same of a loop that leaves at the first fault
+  pub fault-stop : (n i : ℕ) {f : Bool} → i < n → not f ≡ p i → f ≡ true → false ≡ every n p
+  fault-stop n i h e t = passed-stop n i h e (rw t)
+
+  pub fault-none : (n i : ℕ) {f : Bool} → i < n → not f ≡ p i → f ≡ false → Passed n i → Passed n (i + 1)
+  fault-none n i h e t w = passed-more n i h e (rw t) w
 
   -- ---- some
 
@@ -83,6 +102,15 @@ module _ (p : ℕ → Bool) where
       go true h = omega arith
       go false h = omega arith
 
+  -- where none passes from number k on
+  pub count-short : (n k : ℕ) → k ≤ n → ((j : ℕ) → j < n → k ≤ j → p j ≡ false) → countBelow n p ≡ countBelow k p
+  count-short zero k h g = let e : k ≡ 0 = omega arith in rw e
+  count-short (suc n) k h g =
+      ⊎-elim (λ q. rw q)
+      (λ l. let z : countBelow n p ≡ countBelow k p = count-short n k (omega arith) (λ j a b. g j (omega arith) b) in
+      rw (z, g n (omega arith) (omega arith)) (omega arith))
+      (eq-or-lt-of-le h)
+
   -- the loop's invariant: so many before i passed
   abbrev pub Counted : ℕ → ℕ → ℕ → Type 0
   Counted n i k = (i ≤ n) × (k ≡ countBelow i p) × (k ≤ i)
@@ -105,3 +133,11 @@ module _ (p q : ℕ → Bool) where
   pub every-same : (n : ℕ) → ((i : ℕ) → i < n → p i ≡ q i) → every n p ≡ every n q
   every-same zero f = refl
   every-same (suc n) f = rw (every-same n (λ i h. f i (omega arith)), f n (omega arith))
+
+  pub some-same : (n : ℕ) → ((i : ℕ) → i < n → p i ≡ q i) → some n p ≡ some n q
+  some-same zero f = refl
+  some-same (suc n) f = rw (some-same n (λ i h. f i (omega arith)), f n (omega arith))
+
+  pub count-same : (n : ℕ) → ((i : ℕ) → i < n → p i ≡ q i) → countBelow n p ≡ countBelow n q
+  count-same zero f = refl
+  count-same (suc n) f = rw (count-same n (λ i h. f i (omega arith)), f n (omega arith))

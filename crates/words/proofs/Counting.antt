@@ -14,7 +14,7 @@ use Rattle.words.proofs.Flags.{flag, clash, iff}
 use Rattle.words.proofs.Lists.{any-in, in-any, in-getD, in-index}
 use Rattle.words.proofs.Tabled.{pick-one}
 
-one-most : (b : Bool) → one b ≤ 1
+pub one-most : (b : Bool) → one b ≤ 1
 one-most true = omega arith
 one-most false = omega arith
 

@@ -1,7 +1,7 @@
 -- Laws of flags: conjunction, disjunction, negation, implication, and choice by a flag.
 use mathlib.Core.Path.{_≡_, refl, sym, _∙_}
 use mathlib.Core.Logic.{_⊎_, inl, inr}
-use mathlib.Core.Bool.{Bool, true, false, not, _&&_, _||_, true≢false, false≢true}
+use mathlib.Core.Bool.{Bool, true, false, not, _&&_, _||_, true≢false, false≢true, and-assoc, and-true, or-assoc, or-false}
 use Rattle.words.specs.Words.{pick, same, imp}
 
 pub and-1 : (a b : Bool) → (a && b) ≡ true → a ≡ true
@@ -18,17 +18,6 @@ and-i p q = rw (p, q)
 pub and-no : (a b : Bool) → b ≡ false → (a && b) ≡ false
 and-no true b e = e
 and-no false b e = refl
-
-pub and-false : (a : Bool) → (a && false) ≡ false
-and-false a = and-no a false refl
-
-pub and-true : (a : Bool) → (a && true) ≡ a
-and-true true = refl
-and-true false = refl
-
-pub or-false : (a : Bool) → (a || false) ≡ a
-or-false true = refl
-or-false false = refl
 
 pub or-cases : (a b : Bool) → (a || b) ≡ true → (a ≡ true) ⊎ (b ≡ true)
 or-cases true b e = inl refl
@@ -102,3 +91,31 @@ imp-idle a b e = rw e
 
 pub imp-met : (a b r : Bool) → a ≡ true → r ≡ b → r ≡ imp a b
 imp-met a b r e q = rw (e, q)
+
+-- a conjunction and a disjunction, denied
+pub not-both : (a b : Bool) → not (a && b) ≡ (not a || not b)
+not-both true b = refl
+not-both false b = refl
+
+pub not-either : (a b : Bool) → not (a || b) ≡ (not a && not b)
+not-either true b = refl
+not-either false b = refl
+
+pub not-but : (a b : Bool) → not (a && not b) ≡ imp a b
+not-but true true = refl
+not-but true false = refl
+not-but false b = refl
+
+-- `if !r` after a call whose answer is r
+pub said-no : {r b : Bool} → r ≡ b → not r ≡ true → b ≡ false
+said-no e t = sym e ∙ not-yes t
+
+pub said-yes : {r b : Bool} → r ≡ b → not r ≡ false → b ≡ true
+said-yes e t = sym e ∙ no-not t
+
+-- four tests one after the other, as a list has them
+pub and-four : (a b c d : Bool) → (a && (b && (c && (d && true)))) ≡ (a && b && c && d)
+and-four a b c d = simp (and-assoc, and-true)
+
+pub or-four : (a b c d : Bool) → (a || (b || (c || (d || false)))) ≡ (a || b || c || d)
+or-four a b c d = simp (or-assoc, or-false)

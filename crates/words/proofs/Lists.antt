@@ -1,17 +1,16 @@
 -- Laws of the tests on lists: membership, all, any, count, keep, and lists after `set`, `map`, `++`.
 use Prim.Native.Nat.{ℕ, zero, suc, _+_, _≤_, _<_}
-use mathlib.Core.Path.{_≡_, refl, sym, ap, subst, _∙_}
+use mathlib.Core.Path.{_≡_, refl, sym, ap, _∙_}
 use mathlib.Core.Logic.{_⊎_, inl, inr, _≢_}
-use mathlib.Core.Bool.{Bool, true, false, not, _&&_, _||_, true≢false, false≢true}
+use mathlib.Core.Bool.{Bool, true, false, not, _&&_, _||_, true≢false, false≢true, and-false, and-assoc}
 use mathlib.Core.List.{List, [], _∷_, _++_, map}
 use native.Mathlib.Omega.{arith}
-use native.Mathlib.Decide.{decLe}
 use lib.ListN.{length, getD, set, take, drop, length-set, replicate}
 use lib.Seq.{getD-set-same, getD-set-other}
-use lib.Dec.{eqb}
-use borrow.Author.Tests.{eqb-true, eqb-false}
+use lib.Dec.{eqb, ltb}
+use borrow.Author.Tests.{eqb-true, eqb-false, ltb-true, ne-eqb}
 use Rattle.words.specs.Words.{pick, all, any, count, keep}
-use Rattle.words.proofs.Flags.{and-1, and-2, and-i, and-no, or-cases, or-1, or-2, or-no-1, or-no-2, flag, not-yes, clash, iff, not-no, no-not, no-yes, by-flag, same-is, is-same, imp-use, imp-i, imp-idle, imp-met}
+use Rattle.words.proofs.Flags.{and-1, and-2, and-i, or-cases, or-1, or-2, flag, clash, iff, no-yes}
 
 module _ {A : Type 0} where
   abbrev pub In : A → List A → Type 0
@@ -140,6 +139,25 @@ module _ {A : Type 0} where
       down : any p l ≡ true → any p (keep r l) ≡ true
       down e = let (x, m, q) = any-in p l e in in-any p (keep r l) (keep-in r l m (f x q)) q
 
+  -- what stands inside a list does not depend on what stands past it
+  pub getD-inside : (l : List A) (i : ℕ) (d e : A) → i < length l → getD l i d ≡ getD l i e
+  getD-inside [] i d e h = absurd (omega arith)
+  getD-inside (x ∷ l) zero d e h = refl
+  getD-inside (x ∷ l) (suc i) d e h = getD-inside l i d e (omega arith)
+
+  pub none-of : (l : List A) → length l ≡ 0 → l ≡ []
+  none-of [] h = refl
+  none-of (x ∷ l) h = absurd (omega arith)
+
+  -- a list of four is its elements
+  pub four-whole : (d : A) (xs : List A) → length xs ≡ 4 → getD xs 0 d ∷ getD xs 1 d ∷ getD xs 2 d ∷ getD xs 3 d ∷ [] ≡ xs
+  four-whole d [] e = absurd (omega arith)
+  four-whole d (a ∷ []) e = absurd (omega arith)
+  four-whole d (a ∷ b ∷ []) e = absurd (omega arith)
+  four-whole d (a ∷ b ∷ c ∷ []) e = absurd (omega arith)
+  four-whole d (a ∷ b ∷ c ∷ f ∷ []) e = refl
+  four-whole d (a ∷ b ∷ c ∷ f ∷ g ∷ xs) e = absurd (omega arith)
+
   pub in-getD : (l : List A) (i : ℕ) (d : A) → i < length l → In (getD l i d) l
   in-getD [] i d h = absurd (omega arith)
   in-getD (x ∷ l) zero d h = inl refl
@@ -205,6 +223,10 @@ module _ {A : Type 0} where
       go true h = refl
       go false h = h
 
+  pub all-append : (p : A → Bool) (l m : List A) → all p (l ++ m) ≡ (all p l && all p m)
+  all-append p [] m = refl
+  all-append p (x ∷ l) m = rw (all-append p l m) (sym (and-assoc (p x) (all p l) (all p m)))
+
   pub in-append : (l m : List A) (x : A) → In x (l ++ m) → In x l ⊎ In x m
   in-append [] m x n = inr n
   in-append (y ∷ l) m x (inl q) = inl (inl q)
@@ -264,11 +286,14 @@ module _ {A : Type 0} where
   pub set-some : (p : A → Bool) (l : List A) (i : ℕ) (v : A) → i < length l → p v ≡ false → all p (set l i v) ≡ false
   set-some p [] i v h e = absurd (omega arith)
   set-some p (x ∷ l) zero v h e = rw e
-  set-some p (x ∷ l) (suc i) v h e = rw (set-some p l i v (omega arith) e) (go (p x))
-    where
-      go : (b : Bool) → (b && false) ≡ false
-      go true = refl
-      go false = refl
+  set-some p (x ∷ l) (suc i) v h e = rw (set-some p l i v (omega arith) e) (and-false (p x))
+
+-- numbers that are all below n
+pub none-past : {A : Type 0} (f : A → ℕ) (n k : ℕ) (xs : List A) → all (λ x. ltb (f x) n) xs ≡ true → n ≤ k → any (λ x. eqb k (f x)) xs ≡ false
+none-past f n k [] e h = refl
+none-past f n k (x ∷ xs) e h =
+    let p : f x < n = ltb-true (f x) n (and-1 (ltb (f x) n) (all (λ y. ltb (f y) n) xs) e) in
+    rw (ne-eqb k (f x) (λ q. omega arith)) (none-past f n k xs (and-2 (ltb (f x) n) (all (λ y. ltb (f y) n) xs) e) h)
 
 module _ {A B : Type 0} (f : A → B) where
   pub map-in : (l : List A) (x : A) → In x l → In (f x) (map f l)

@@ -1,13 +1,17 @@
 -- A test and the fact that it decides, put together as the tests are.
-use mathlib.Core.Path.{_≡_, refl, sym, ap, _∙_}
+use mathlib.Core.Path.{_≡_, refl}
 use mathlib.Core.Logic.{_⊎_, inl, inr, ⊎-elim}
 use mathlib.Core.Bool.{Bool, true, false, not, _&&_, _||_}
+use mathlib.Core.List.{List}
 use Prim.Native.Nat.{ℕ, _≤_, _<_}
 use lib.Dec.{eqb, leb, ltb}
-use borrow.Author.Tests.{eq-eqb, eqb-true, eqb-false, le-leb, leb-true, lt-ltb, ltb-true}
-use Rattle.words.specs.Words.{imp, every, some}
+use lib.ListN.{length, getD}
+use borrow.Author.Tests.{eq-eqb, eqb-true, le-leb, leb-true, lt-ltb, ltb-true}
+use Rattle.words.specs.Words.{imp, every, some, pick, all, any, count}
 use Rattle.words.proofs.Flags.{and-1, and-2, and-i, or-cases, or-1, or-2, clash, imp-i, imp-use}
 use Rattle.words.proofs.Below.{every-at, every-i, some-at, some-i}
+use Rattle.words.proofs.Lists.{count-index, index-count}
+use Rattle.words.proofs.Tabled.{all-get, any-get}
 
 pub record Decides (b : Bool) (P : Type 0) : Type 0 where
   pub fact : b ≡ true → P
@@ -64,3 +68,35 @@ is-none n {p} f = record {
 -- the same fact in other words
 pub is-as : {b : Bool} {P Q : Type 0} → Decides b P → (P → Q) → (Q → P) → Decides b Q
 is-as i f g = record { fact = λ e. f (i .fact e); test = λ q. i .test (g q) }
+
+-- ---- tests on a list, and choices
+
+pub is-test : {a b : Bool} {P : Type 0} → a ≡ b → Decides b P → Decides a P
+is-test e i = rw e i
+
+module _ {A : Type 0} (p : A → Bool) {P : ℕ → Type 0} (xs : List A) (d : A) where
+  pub is-all : ((i : ℕ) → i < length xs → Decides (p (getD xs i d)) (P i)) → Decides (all p xs) ((i : ℕ) → i < length xs → P i)
+  is-all f =
+      is-test (all-get p xs d) record {
+        fact = λ e i h. f i h .fact (every-at (λ i. p (getD xs i d)) (length xs) i e h);
+        test = λ g. every-i (λ i. p (getD xs i d)) (length xs) (λ i h. f i h .test (g i h));
+      }
+
+  pub is-any : ((i : ℕ) → Decides (p (getD xs i d)) (P i)) → Decides (any p xs) ((i : ℕ) × (i < length xs) × P i)
+  is-any f = is-test (any-get p xs d) (is-some (length xs) f)
+
+-- exactly one passes
+pub is-one : {A : Type 0} (p : A → Bool) (xs : List A) (d : A) (i : ℕ) → i < length xs → p (getD xs i d) ≡ true
+    → Decides (eqb (count p xs) 1) ((j : ℕ) → j < length xs → p (getD xs j d) ≡ true → j ≡ i)
+is-one p xs d i h e = record {
+  fact = λ t j k f. count-index p d xs (eqb-true _ _ t) j i k h f e;
+  test = λ f. eq-eqb _ _ (index-count p d xs i h e f);
+}
+
+pub is-pick : {b x y : Bool} {P Q : Type 0} → Decides x P → Decides y Q → Decides (pick b x y) ((b ≡ true → P) × (b ≡ false → Q))
+is-pick {b = true} i j = record { fact = λ e. (λ z. i .fact e, λ z. clash refl z); test = λ w. i .test (w .0 refl) }
+is-pick {b = false} i j = record { fact = λ e. (λ z. clash z refl, λ z. j .fact e); test = λ w. j .test (w .1 refl) }
+
+pub is-else : {a b : Bool} {Q : Type 0} → (a ≡ false → Decides b Q) → Decides (a || b) (a ≡ false → Q)
+is-else {a = true} i = record { fact = λ e z. clash refl z; test = λ f. refl }
+is-else {a = false} i = record { fact = λ e z. i refl .fact e; test = λ f. i refl .test (f refl) }

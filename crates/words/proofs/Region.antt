@@ -1,11 +1,11 @@
 -- Laws of a region of a slice, what is put in its place, a region that closes up.
-use mathlib.Core.Path.{_≡_, refl, sym, ap, _∙_, subst}
+use mathlib.Core.Path.{_≡_, refl, sym, ap, _∙_}
 use mathlib.Core.List.{List, [], _∷_, _++_, append-assoc}
-use Prim.Native.Nat.{ℕ, zero, suc, _+_, _-_, _≤_, _<_, zero-le}
-use native.Mathlib.Nat.{zero-add, suc-add, add-zero, add-suc, add-assoc, add-comm, add-sub-of-le, le-antisymm}
+use Prim.Native.Nat.{ℕ, zero, suc, _+_, _-_, _≤_, _<_}
+use native.Mathlib.Nat.{zero-add, suc-add, add-zero, add-suc}
 use native.Mathlib.Numerals.{add-one}
 use native.Mathlib.Omega.{arith}
-use lib.ListN.{take-append-drop, length, take, drop, getD, set, replicate, length-append, length-take, length-drop, length-set, length-replicate, List·getD-append, getD-replicate, List·getD-eq-default}
+use lib.ListN.{take-append-drop, length, take, drop, getD, set, replicate, length-append, length-drop, length-set, length-replicate, List·getD-append}
 use lib.Seq.{take-append-le, drop-append-le, drop-append-add, sets, length-sets, set-append-left, drop-drop, take-at, drop-at, paste, paste-zero, paste-suc, length-paste, length-paste-head, length-take-le, take-all, getD-append-add, getD-take, getD-drop}
 use Rattle.words.specs.Regions.{region, put, closedUp}
 
@@ -53,10 +53,29 @@ closed-zero by r i h =
     ∙ getD-append-add (drop by r) (replicate by 0) (i - (length r - by)) 0
     ∙ zeros-at by (i - (length r - by))
 
--- ---- the two loops that close a region up: after i turns l has the first i numbers of the closed region
+-- ---- a loop that stores the numbers of r from index `at` on, one a turn: after i turns s has the first i of them
+
+pub paste-next : (l : List ℕ) (at : ℕ) (r : List ℕ) (i v : ℕ) → at + i < length l → i < length r → getD r i 0 ≡ v → set (paste l at r i) (at + i) v ≡ paste l at r (i + 1)
+paste-next l at r i v g h e =
+    ap (λ (x : ℕ). set (paste l at r i) (at + i) x) (sym e) ∙ paste-suc l at r i 0 g h ∙ ap (λ (x : ℕ). paste l at r x) (sym (add-one i))
+
+abbrev pub Pasting : List ℕ → ℕ → List ℕ → List ℕ → ℕ → Type 0
+Pasting l at r s i = (s ≡ paste l at r i) × (length s ≡ length l)
+
+module _ (l : List ℕ) (at : ℕ) (r : List ℕ) where
+  pub pasting-start : Pasting l at r l 0
+  pasting-start = (paste-zero l at r, refl)
+
+  pub pasting-turn : (s : List ℕ) (i v : ℕ) → at + length r ≤ length l → i < length r → getD r i 0 ≡ v → Pasting l at r s i → Pasting l at r (set s (at + i) v) (i + 1)
+  pasting-turn s i v room h e w = (ap (λ (x : List ℕ). set x (at + i) v) (w .0) ∙ paste-next l at r i v (omega arith) h e, length-set s (at + i) v ∙ w .1)
+
+  pub pasting-done : (s : List ℕ) (i : ℕ) → length r ≡ i → Pasting l at r s i → s ≡ put l at r
+  pasting-done s i e w = w .0 ∙ put-paste l at r i e
+
+-- ---- the two loops that close a region up
 
 abbrev pub Closing : List ℕ → ℕ → ℕ → ℕ → List ℕ → ℕ → Type 0
-Closing l at n by s i = (s ≡ paste l at (closedUp by (region l at n)) i) × (length s ≡ length l)
+Closing l at n by s i = Pasting l at (closedUp by (region l at n)) s i
 
 module _ (l : List ℕ) (at n by : ℕ) (room : (by ≤ n) × (at + n ≤ length l)) where
   closed-length : length (closedUp by (region l at n)) ≡ n
@@ -65,17 +84,10 @@ module _ (l : List ℕ) (at n by : ℕ) (room : (by ≤ n) × (at + n ≤ length
       length-closed by (region l at n) (omega arith) ∙ e
 
   pub closing-start : Closing l at n by l 0
-  closing-start = (paste-zero l at (closedUp by (region l at n)), refl)
+  closing-start = pasting-start l at (closedUp by (region l at n))
 
   pub closing-turn : (s : List ℕ) (i v : ℕ) → i < n → getD (closedUp by (region l at n)) i 0 ≡ v → Closing l at n by s i → Closing l at n by (set s (at + i) v) (i + 1)
-  closing-turn s i v h e w =
-      let len = closed-length in (
-        ap (λ (x : List ℕ). set x (at + i) v) (w .0)
-            ∙ ap (λ (x : ℕ). set (paste l at (closedUp by (region l at n)) i) (at + i) x) (sym e)
-            ∙ paste-suc l at (closedUp by (region l at n)) i 0 (omega arith) (omega arith)
-            ∙ ap (λ (x : ℕ). paste l at (closedUp by (region l at n)) x) (sym (add-one i)),
-        length-set s (at + i) v ∙ w .1,
-      )
+  closing-turn s i v h e w = let len = closed-length in pasting-turn l at (closedUp by (region l at n)) s i v (omega arith) (omega arith) e w
 
   pub closing-move : (s : List ℕ) (i : ℕ) → i < n - by → Closing l at n by s i → Closing l at n by (set s (at + i) (getD s (at + i + by) 0)) (i + 1)
   closing-move s i h w =
@@ -95,7 +107,7 @@ module _ (l : List ℕ) (at n by : ℕ) (room : (by ≤ n) × (at + n ≤ length
       closing-turn s i 0 k (closed-zero by (region l at n) i (omega arith)) w
 
   pub closing-done : (s : List ℕ) (i : ℕ) → i ≡ n → Closing l at n by s i → s ≡ put l at (closedUp by (region l at n))
-  closing-done s i e w = w .0 ∙ put-paste l at (closedUp by (region l at n)) i (closed-length ∙ sym e)
+  closing-done s i e w = pasting-done l at (closedUp by (region l at n)) s i (closed-length ∙ sym e) w
 
 -- four stores in a row
 pub sets-four : (l : List ℕ) (w a b c d : ℕ) → set (set (set (set l w a) (w + 1) b) (w + 2) c) (w + 3) d ≡ sets l w (a ∷ b ∷ c ∷ d ∷ [])
@@ -127,6 +139,12 @@ sets-within r z k (v ∷ vs) h =
     let e : k + suc (length vs) ≤ length r = h in
     ap (λ (t : List ℕ). sets t (suc k) vs) (set-append-left r z k v (omega arith))
     ∙ sets-within (set r k v) z (suc k) vs (rw length-set (omega arith))
+
+pub sets-append : (l : List ℕ) (at : ℕ) (a b : List ℕ) → sets (sets l at a) (at + length a) b ≡ sets l at (a ++ b)
+sets-append l at [] b = rw add-zero
+sets-append l at (x ∷ a) b =
+    let e : at + suc (length a) ≡ suc at + length a = omega arith in
+    rw e (sets-append (set l at x) (suc at) a b)
 
 pub region-split : (l : List ℕ) (at n : ℕ) → l ≡ take at l ++ (region l at n ++ drop (at + n) l)
 unfolding region

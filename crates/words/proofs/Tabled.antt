@@ -1,24 +1,16 @@
 -- Laws of `table`, the list of a function's first values: its length and elements, tables side by side, and tests over a list as tests
 -- on the numbers below its length.
 use mathlib.Core.Path.{_≡_, refl, sym, ap, _∙_}
-use mathlib.Core.Bool.{Bool, true, false, _&&_, _||_}
+use mathlib.Core.Bool.{Bool, true, false, _&&_, _||_, and-true, or-false, and-assoc, or-assoc}
 use mathlib.Core.List.{List, [], _∷_, _++_}
-use Prim.Native.Nat.{ℕ, zero, suc, _+_, _<_}
+use Prim.Native.Nat.{ℕ, zero, suc, _+_, _<_, _≤_}
 use native.Mathlib.Nat.{not-suc-le-zero, le-of-suc-le-suc, zero-add, suc-add}
 use native.Mathlib.Omega.{arith}
-use lib.ListN.{length, getD}
+use lib.ListN.{length, getD, take, drop, length-take, length-drop}
+use lib.Seq.{ext-getD, getD-take, getD-drop}
 use Rattle.words.specs.Words.{pick, all, any, count, table, every, some, countBelow, one}
-use Rattle.words.proofs.Flags.{and-true, or-false}
 
 -- ---- the first of the numbers below n apart from the others
-
-and-assoc : (a b c : Bool) → (a && b && c) ≡ (a && (b && c))
-and-assoc true b c = refl
-and-assoc false b c = refl
-
-or-assoc : (a b c : Bool) → (a || b || c) ≡ (a || (b || c))
-or-assoc true b c = refl
-or-assoc false b c = refl
 
 every-first : (n : ℕ) (p : ℕ → Bool) → every (suc n) p ≡ (p 0 && every n (λ i. p (suc i)))
 every-first zero p = sym (and-true (p 0))
@@ -71,6 +63,20 @@ module _ {A : Type 0} where
       rw suc-add (ap (λ (l : List A). f 0 ∷ l) (table-append a b (λ i. f (suc i))
       ∙ ap (λ (l : List A). table a (λ i. f (suc i)) ++ l) (table-same b (λ i. f (suc (a + i))) (λ i. f (suc a + i)) (λ i h. ap f (sym (suc-add a i))))))
 
+  -- one more at the end
+  pub table-snoc : (n : ℕ) (f : ℕ → A) → table (suc n) f ≡ table n f ++ (f n ∷ [])
+  unfolding table
+  table-snoc zero f = refl
+  table-snoc (suc n) f = ap (λ (l : List A). f 0 ∷ l) (table-snoc n (λ i. f (suc i)))
+
+  -- m places from place b
+  pub part-table : (n : ℕ) (f : ℕ → A) (b m : ℕ) (d : A) → b + m ≤ n → take m (drop b (table n f)) ≡ table m (λ w. f (b + w))
+  part-table n f b m d h =
+      let e : length (take m (drop b (table n f))) ≡ m = simp (length-take, length-drop, length-table) (omega arith) in
+      ext-getD d _ _ (e ∙ sym (length-table m (λ w. f (b + w))))
+      (λ i k. let k2 : i < m = omega arith in
+      getD-take m (drop b (table n f)) i d k2 ∙ getD-drop b (table n f) i d ∙ getD-table n f (b + i) d (omega arith) ∙ sym (getD-table m (λ w. f (b + w)) i d k2))
+
   -- ---- tests
 
   pub all-table : (p : A → Bool) (n : ℕ) (f : ℕ → A) → all p (table n f) ≡ every n (λ i. p (f i))
@@ -78,12 +84,12 @@ module _ {A : Type 0} where
   all-table p zero f = refl
   all-table p (suc n) f = ap (λ (b : Bool). p (f 0) && b) (all-table p n (λ i. f (suc i))) ∙ sym (every-first n (λ i. p (f i)))
 
-  any-table : (p : A → Bool) (n : ℕ) (f : ℕ → A) → any p (table n f) ≡ some n (λ i. p (f i))
+  pub any-table : (p : A → Bool) (n : ℕ) (f : ℕ → A) → any p (table n f) ≡ some n (λ i. p (f i))
   unfolding table
   any-table p zero f = refl
   any-table p (suc n) f = ap (λ (b : Bool). p (f 0) || b) (any-table p n (λ i. f (suc i))) ∙ sym (some-first n (λ i. p (f i)))
 
-  count-table : (p : A → Bool) (n : ℕ) (f : ℕ → A) → count p (table n f) ≡ countBelow n (λ i. p (f i))
+  pub count-table : (p : A → Bool) (n : ℕ) (f : ℕ → A) → count p (table n f) ≡ countBelow n (λ i. p (f i))
   unfolding table
   count-table p zero f = refl
   count-table p (suc n) f =

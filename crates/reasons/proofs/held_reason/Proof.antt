@@ -3,8 +3,9 @@ use mathlib.Core.Path.{refl}
 use native.Mathlib.Omega.{arith}
 use borrow.Author.Needs.{needs}
 use Rattle.layout.proofs.ByBlocks.{is-stands, stands-fit}
+use Rattle.layout.proofs.DirtyCount.{dirty-few}
 use Rattle.probe.proofs.Meetings.{share-fits}
-use Rattle.reasons.proofs.Heads.{dirty-few, lines-shown}
+use Rattle.reasons.proofs.Heads.{lines-shown}
 use Rattle.reasons.proofs.held_reason.Statement.{statement}
 use Rattle.reasons.proofs.held_reason.Tie as tie
 

@@ -26,7 +26,7 @@ note-requires c κs =
     let s = f .before .before .before .before .before .before .before .before .before .before .before .before .before in
     let p = s .before .before .before .before .before .before .before .before .before in
     let h = drained-held _ (p .args .x) (s .send-turn .ensures) (f .fill-turn .ensures) (p .pre .0 .1) in
-    let b = offer-bytes _ (p .args .x) (s .send-turn .ensures) (f .fill-turn .ensures) (a .access-step .ensures) h in
+    let b = offer-bytes _ (p .args .x) (a .access-step .ensures) h in
     omega (arith, b, s .send-turn .ensures .short, f .fill-turn .ensures .short, s .send-turn .kept .1 .1 .1 .1 .1 .0, f .fill-turn .kept .1 .1 .1 .1 .1 .0, p .pre .1 .0)
 
 same-length : tie.Need-same-length

@@ -5,8 +5,8 @@ use Prim.Native.Nat.{_+_, _-_}
 use lib.ListN.{getD}
 use lib.Dec.{eqb}
 use Rattle.words.specs.Words.{imp}
-use Rattle.words.proofs.Below.{Passed, passed-end}
-use Rattle.layout.proofs.Tests.{fault-stop, fault-none, not-but}
+use Rattle.words.proofs.Below.{Passed, passed-end, fault-stop, fault-none}
+use Rattle.words.proofs.Flags.{not-but}
 use Rattle.layout.proofs.places.gathered.Statement.{statement}
 use Rattle.layout.proofs.places.gathered.Tie as tie
 

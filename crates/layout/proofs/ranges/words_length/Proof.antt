@@ -1,7 +1,7 @@
 use native.Mathlib.Omega.{arith}
 use borrow.Author.Needs.{needs}
-use Rattle.model.proofs.Fits.{ranged}
-use Rattle.layout.proofs.OfRange.{tickets-most, sets-most}
+use Rattle.model.proofs.Fits.{ranged, sets-most}
+use Rattle.layout.proofs.OfRange.{tickets-most}
 use Rattle.layout.proofs.ranges.words_length.Statement.{statement}
 use Rattle.layout.proofs.ranges.words_length.Tie as tie
 

@@ -2,11 +2,11 @@
 use native.Mathlib.Omega.{arith}
 use native.Mathlib.Nat.{div-add-mod'}
 use borrow.Author.Needs.{needs}
-use Rattle.layout.proofs.Tests.{said-no, said-yes}
 use Rattle.layout.proofs.Room.{taken-room, taken-is}
 use Rattle.soundness.proofs.OfLines.{idle-line, live-line}
 use Rattle.soundness.proofs.lines.line_fine.Statement.{statement}
 use Rattle.soundness.proofs.lines.line_fine.Tie as tie
+use Rattle.words.proofs.Flags.{said-no, said-yes}
 
 pub line-fine-spec : {M : Type 1} → statement M
 line-fine-spec =

@@ -7,8 +7,7 @@ use borrow.Author.Tests.{eq-eqb, ne-eqb}
 use Prim.Native.Nat.{_-_, _+_}
 use Rattle.model.specs.SoundLent as is
 use Rattle.words.proofs.Flags.{and-i, and-no}
-use Rattle.words.proofs.Below.{Passed, passed-end}
-use Rattle.layout.proofs.Tests.{fault-stop, fault-none}
+use Rattle.words.proofs.Below.{Passed, passed-end, fault-stop, fault-none}
 use Rattle.soundness.proofs.OfLines.{not-twin}
 use Rattle.soundness.proofs.lines.no_twin.Statement.{statement}
 use Rattle.soundness.proofs.lines.no_twin.Tie as tie

@@ -4,8 +4,7 @@ use native.Mathlib.Omega.{arith}
 use borrow.Author.Needs.{needs}
 use Prim.Native.Nat.{_+_, _-_, _*_, _/_}
 use Rattle.model.specs.SoundLent as is
-use Rattle.words.proofs.Below.{Passed, passed-end}
-use Rattle.layout.proofs.Tests.{fault-stop, fault-none}
+use Rattle.words.proofs.Below.{Passed, passed-end, fault-stop, fault-none}
 use Rattle.soundness.proofs.OfMisses.{entry-below, ticket-kept}
 use Rattle.soundness.proofs.misses.tickets_fine.Statement.{statement}
 use Rattle.soundness.proofs.misses.tickets_fine.Tie as tie

@@ -1,12 +1,11 @@
 -- No entry passed is unsent and has the address.
 use mathlib.Core.Path.{_≡_, refl, _∙_}
-use mathlib.Core.Bool.{true, false}
+use mathlib.Core.Bool.{true, false, and-false}
 use mathlib.Core.Logic.{⊎-elim}
 use native.Mathlib.Omega.{arith}
 use borrow.Author.Needs.{needs}
 use borrow.Author.Tests.{eq-eqb, ne-eqb}
 use Prim.Native.Nat.{_-_}
-use Rattle.words.proofs.Flags.{and-false}
 use Rattle.words.proofs.Below.{Sought, sought-stop, sought-more, sought-end}
 use Rattle.soundness.proofs.OfSearch.{unsentRead, unsent-sought}
 use Rattle.soundness.proofs.search.has_unsent.Statement.{statement}

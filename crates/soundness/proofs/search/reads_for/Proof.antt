@@ -1,12 +1,11 @@
 -- So many places passed have a read of the address.
 use mathlib.Core.Path.{_≡_, refl, _∙_}
-use mathlib.Core.Bool.{true, false}
+use mathlib.Core.Bool.{true, false, and-false}
 use mathlib.Core.Logic.{⊎-elim}
 use native.Mathlib.Omega.{arith}
 use borrow.Author.Needs.{needs}
 use borrow.Author.Tests.{eq-eqb, ne-eqb}
 use Prim.Native.Nat.{_-_}
-use Rattle.words.proofs.Flags.{and-false}
 use Rattle.words.proofs.Below.{Counted, counted-yes, counted-no, counted-end}
 use Rattle.soundness.proofs.OfSearch.{readRead, read-counted, read-queued}
 use Rattle.soundness.proofs.search.reads_for.Statement.{statement}
