@@ -6,6 +6,7 @@ ghost use Rattle.model.specs.Steps.{isHit, isMerge, isMiss, takesLine};
 use model::Access;
 use model::Answer;
 
+// Whether the access is a read.
 pub(crate) fn is_read(x: Access) -> bool
     ensures { λ r. ⌜ r ≡ isRead x ⌝ }
 {
@@ -23,6 +24,7 @@ pub(crate) fn is_read(x: Access) -> bool
     }
 }
 
+// The ticket of an access.
 pub(crate) fn ticket_of(x: Access) -> u32
     ensures { λ r. ⌜ r ≡ ticketOf x ⌝ }
 {
@@ -57,6 +59,7 @@ pub(crate) fn mask_of(x: Access) -> u32
     }
 }
 
+// Whether the answer is HIT.
 pub(crate) fn is_hit(a: Answer) -> bool
     ensures { λ r. ⌜ r ≡ isHit a ⌝ }
 {
@@ -68,6 +71,7 @@ pub(crate) fn is_hit(a: Answer) -> bool
     }
 }
 
+// Whether the answer is HIT_RESERVED.
 pub(crate) fn is_merge(a: Answer) -> bool
     ensures { λ r. ⌜ r ≡ isMerge a ⌝ }
 {
@@ -91,6 +95,7 @@ pub(crate) fn takes_line(a: Answer) -> bool
     }
 }
 
+// Whether the answer is MISS or SECTOR_MISS.
 pub(crate) fn is_miss(a: Answer) -> bool
     ensures { λ r. ⌜ r ≡ isMiss a ⌝ }
 {

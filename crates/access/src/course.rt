@@ -108,6 +108,7 @@ pub(crate) fn course_of(
     Course::Stays
 }
 
+// Whether the access is not refused.
 pub(crate) fn going(c: Course) -> bool
     ensures { λ r. ⌜ r ≡ goes c ⌝ }
 {
@@ -119,6 +120,7 @@ pub(crate) fn going(c: Course) -> bool
     }
 }
 
+// The refusal of an access that is.
 pub(crate) fn refusal_in(c: Course) -> Refusal
     ensures { λ r. ⌜ r ≡ refusalIn c ⌝ }
 {

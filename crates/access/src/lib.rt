@@ -34,6 +34,7 @@ use writes::act_hit;
 use writes::act_read;
 use writes::act_write;
 
+// Whether an address is a sector's: a multiple of 32 below 2^48.
 fn good_sector(address: u64) -> bool
     ensures { λ r. ⌜ r ≡ goodSector address ⌝ }
 {
@@ -59,6 +60,7 @@ pub fn well_formed(x: Access) -> bool
     }
 }
 
+// Whether there is a way for the access.
 fn spotted(m: Meeting) -> bool
     ensures { λ r. ⌜ r ≡ isSpot m ⌝ }
 {
@@ -70,6 +72,7 @@ fn spotted(m: Meeting) -> bool
     }
 }
 
+// 5 or 6, where there is none.
 fn refusal_met(m: Meeting) -> Refusal
     ensures { λ r. ⌜ r ≡ refusalMet m ⌝ }
 {

@@ -16,6 +16,7 @@ use model::Sector;
 use model::Status;
 use probe::Decision;
 
+// Whether the status is INVALID.
 fn is_invalid(s: Status) -> bool
     ensures { λ r. ⌜ r ≡ isInvalid s ⌝ }
 {
@@ -65,6 +66,7 @@ fn written_sector(x: Access, a: Answer, s: Sector) -> Sector
     }
 }
 
+// A sector of a line that was just taken over.
 pub(crate) fn empty_sector() -> Sector
     ensures { λ r. ⌜ r ≡ empty ⌝ }
 {

@@ -50,6 +50,7 @@ fn touch(words: &mut [u32], line: usize)
     words[1 + line] = words[0];
 }
 
+// The line's tag.
 fn write_tag(longs: &mut [u64], line: usize, block: BlockAddress)
     requires { ⌜ line < length (now longs) ⌝ }
     ensures { λ _. ⌜ now (longs .exit) ≡ put (now (longs .entry)) line (block .0 ∷ []) ⌝ }
@@ -235,6 +236,7 @@ fn write_misses(
     }
 }
 
+// The queue entry of the access's read.
 fn read_entry(x: Access) -> Queued
     ensures { λ r. ⌜ r ≡ reading (addressOf x) ⌝ }
 {
@@ -245,6 +247,7 @@ fn read_entry(x: Access) -> Queued
     }
 }
 
+// The queue entry of the victim's write-back.
 fn write_back_entry(d: Decision) -> Queued
     ensures { λ r. ⌜ r ≡ writing (d .block) (d .masks) ⌝ }
 {

@@ -93,6 +93,7 @@ fn text_end(line: &[u8]) -> usize {
     i
 }
 
+// Assembles one line, or says why it is bad and ends the stream there.
 fn one_line(line: &[u8], out: &mut [u8], w: Work) -> Work
     ensures { λ r. ⌜ r .left ≡ w .left ⌝ }
 {
@@ -199,6 +200,7 @@ fn end_stream(out: &[u8], w: Work) {
     }
 }
 
+// Assembles a text line by line, to its end or to its first bad line.
 fn assemble_all(fd: i32, buf: &mut [u8], out: &mut [u8]) {
     let mut w = Work {
         have: 0,
@@ -215,6 +217,7 @@ fn assemble_all(fd: i32, buf: &mut [u8], out: &mut [u8]) {
     end_stream(out, w);
 }
 
+// Assembles the text that is named or comes on standard input.
 fn main() {
     let fd = input::open_input();
     if fd < 0 {

@@ -6,20 +6,24 @@ use text::rules;
 // Bytes of a bad line that are shown.
 const SHOWN: usize = 120;
 
+// Writes to standard error.
 fn say(s: &[u8]) {
     io::write_all(STDERR_FILENO, s);
 }
 
+// Begins a complaint with the line's number.
 fn line_number(line: u64) {
     say(b"line ");
     io::print_decimal(STDERR_FILENO, line);
     say(b": ");
 }
 
+// Says where the stream then ends.
 fn ends() {
     say(b"The stream ends before this line, with an unknown kind.\n");
 }
 
+// Complains of a line that is too long.
 pub fn too_long(line: u64, most: usize) {
     line_number(line);
     say(b"longer than ");
@@ -37,6 +41,7 @@ fn found(words: &[u8]) {
     }
 }
 
+// Complains of a bad line: what was expected, and the line itself.
 pub fn bad(line: u64, e: Expected, words: &[u8]) {
     line_number(line);
     say(b"expected ");
@@ -46,6 +51,7 @@ pub fn bad(line: u64, e: Expected, words: &[u8]) {
     ends();
 }
 
+// One rule's name in a list of them.
 fn rule_name(n: u64) {
     let mut name = [0; 4];
     let len = rules::put_rule(n, &mut name, 0);
@@ -62,12 +68,14 @@ fn rule_names() {
     }
 }
 
+// What may follow the six settings.
 fn expected_rule() {
     say(b"rule and ");
     rule_names();
     say(b"or a number from 0 to 255; or the end of the line or a comment");
 }
 
+// What was expected, in words.
 fn expected(e: Expected) {
     match e {
         Expected::Command => say(b"settings, read, write, send, fill or tick"),

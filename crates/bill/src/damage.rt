@@ -20,6 +20,7 @@ pub fn may_go_on(s: &[u8], at: usize) -> bool {
     }
 }
 
+// Where a log is damaged, why, and what the bill is of.
 fn put_stop(place: u64, why: &[u8], out: &mut [u8], at: usize) -> usize {
     let a = text::put_text(b"The log is damaged at byte ", out, at);
     let b = text::put_decimal(place, out, a);

@@ -79,6 +79,7 @@ fn read_once(fd: i32, buf: &mut [u8], w: Work, b: Bill) -> Account
     }
 }
 
+// Bills a log part by part, to its end or to its damage.
 fn bill_all(fd: i32, buf: &mut [u8]) -> Account {
     let mut w = Work {
         have: 0,
@@ -107,6 +108,7 @@ fn put_lack(buf: &[u8], w: Work, out: &mut [u8], at: usize) -> usize {
     }
 }
 
+// Prints the bill, and what it lacks.
 fn print(buf: &[u8], a: Account, out: &mut [u8]) {
     let w = a.work;
     let summary = summary::put_summary(w.place, a.bill, out, 0);
@@ -116,6 +118,7 @@ fn print(buf: &[u8], a: Account, out: &mut [u8]) {
     }
 }
 
+// Bills the log that is named or comes on standard input.
 fn main() {
     let fd = input::open_input();
     if fd < 0 {

@@ -3,6 +3,7 @@ use billing::Bill;
 use billing::Rate;
 use model::Refusal;
 
+// A number in its column and what it counts.
 fn put_number(n: u64, what: &[u8], out: &mut [u8], at: usize) -> usize {
     let a = text::put_right(n, 12, out, at);
     let b = text::put_text(b"  ", out, a);
@@ -15,6 +16,7 @@ fn put_count(bill: Bill, place: usize, what: &[u8], out: &mut [u8], at: usize) -
     put_number(billing::count(bill, place), what, out, at)
 }
 
+// A percentage with one decimal.
 fn put_tenths(n: u64, out: &mut [u8], at: usize) -> usize {
     let a = text::put_right(n / 10, 8, out, at);
     let b = text::put_text(b".", out, a);
@@ -22,6 +24,7 @@ fn put_tenths(n: u64, out: &mut [u8], at: usize) -> usize {
     text::put_text(b" %", out, c)
 }
 
+// The share of accesses that hit, if there is one.
 fn put_rate(bill: Bill, out: &mut [u8], at: usize) -> usize {
     let hits = billing::count(bill, 1);
     let accesses = billing::count(bill, billing::ACCESSES);
@@ -43,6 +46,7 @@ fn put_rate(bill: Bill, out: &mut [u8], at: usize) -> usize {
     }
 }
 
+// How accesses were answered.
 fn put_answers(bill: Bill, out: &mut [u8], at: usize) -> usize {
     let a = put_count(bill, billing::ACCESSES, b"accesses answered", out, at);
     let b = put_count(bill, 1, b"  HIT", out, a);
@@ -67,6 +71,7 @@ fn put_refusal(bill: Bill, n: Refusal, out: &mut [u8], at: usize) -> usize {
     text::put_text(b"\n", out, e)
 }
 
+// Refusals 1 to 4.
 fn put_call_refusals(bill: Bill, out: &mut [u8], at: usize) -> usize {
     let a = put_refusal(bill, Refusal::SettingOutOfRange, out, at);
     let b = put_refusal(bill, Refusal::SliceLength, out, a);
@@ -74,6 +79,7 @@ fn put_call_refusals(bill: Bill, out: &mut [u8], at: usize) -> usize {
     put_refusal(bill, Refusal::BadAccess, out, c)
 }
 
+// Refusals 5 to 9.
 fn put_access_refusals(bill: Bill, out: &mut [u8], at: usize) -> usize {
     let a = put_refusal(bill, Refusal::SetBusy, out, at);
     let b = put_refusal(bill, Refusal::SetHeld, out, a);
@@ -82,12 +88,14 @@ fn put_access_refusals(bill: Bill, out: &mut [u8], at: usize) -> usize {
     put_refusal(bill, Refusal::MissTableFull, out, d)
 }
 
+// Refusals 10 to 12.
 fn put_step_refusals(bill: Bill, out: &mut [u8], at: usize) -> usize {
     let a = put_refusal(bill, Refusal::NotSent, out, at);
     let b = put_refusal(bill, Refusal::BadCycle, out, a);
     put_refusal(bill, Refusal::QueueEmpty, out, b)
 }
 
+// All refusals, by their number.
 fn put_refusals(bill: Bill, out: &mut [u8], at: usize) -> usize {
     let a = put_count(bill, billing::REFUSALS, b"refused", out, at);
     let b = put_call_refusals(bill, out, a);
@@ -95,6 +103,7 @@ fn put_refusals(bill: Bill, out: &mut [u8], at: usize) -> usize {
     put_step_refusals(bill, out, c)
 }
 
+// Reads from their queueing to their readers.
 fn put_reads(bill: Bill, out: &mut [u8], at: usize) -> usize {
     let a = put_count(bill, billing::READS_QUEUED, b"reads queued", out, at);
     let b = put_count(bill, billing::READS_SENT, b"reads sent", out, a);
@@ -102,6 +111,7 @@ fn put_reads(bill: Bill, out: &mut [u8], at: usize) -> usize {
     put_count(bill, billing::RELEASED, b"readers released", out, c)
 }
 
+// Write-backs queued and sent, and ticks.
 fn put_write_backs(bill: Bill, out: &mut [u8], at: usize) -> usize {
     let a = put_count(
         bill,
@@ -114,6 +124,7 @@ fn put_write_backs(bill: Bill, out: &mut [u8], at: usize) -> usize {
     put_count(bill, billing::TICKS, b"ticks", out, b)
 }
 
+// Bytes over the memory bus, each way.
 fn put_bytes(bill: Bill, out: &mut [u8], at: usize) -> usize {
     let a = put_count(
         bill,
@@ -144,6 +155,7 @@ fn put_full(bill: Bill, out: &mut [u8], at: usize) -> usize {
     }
 }
 
+// The whole bill.
 pub fn put_summary(bytes: u64, bill: Bill, out: &mut [u8], at: usize) -> usize {
     let a = put_number(bytes, b"bytes of log", out, at);
     let b = put_answers(bill, out, a);

@@ -64,6 +64,7 @@ enum Step {
     Stop,
 }
 
+// A bill of nothing.
 pub fn empty_bill() -> Bill
     ensures { λ r. ⌜ r ≡ emptyBill ⌝ }
 {
@@ -80,6 +81,7 @@ pub fn count(bill: Bill, place: usize) -> u64
     if place < 27 { bill.counts[place] } else { 0 }
 }
 
+// One more at a place of the bill.
 fn one(place: usize) -> Dues
     ensures { λ r. ⌜ r ≡ Dues·one place ⌝ }
 {
@@ -90,6 +92,7 @@ fn one(place: usize) -> Dues
     }
 }
 
+// One more at a place, and so many at another.
 fn one_and(place: usize, other: usize, also: u64) -> Dues
     ensures { λ r. ⌜ r ≡ oneAnd place other also ⌝ }
 {
@@ -185,6 +188,7 @@ pub fn rate_of(part: u64, whole: u64) -> Rate
     Rate::Tenths((part * 1000 + half) / whole)
 }
 
+// What the event at byte `at` adds to the bill, or that the bill ends there.
 fn step_at(log: &[u8], at: usize) -> Step
     ensures { λ r. ⌜ r ≡ stepAt (now (log .entry)) at ⌝ }
 {

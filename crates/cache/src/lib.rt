@@ -92,6 +92,7 @@ pub fn access(
     perform(s, longs, words, marks, Call::Offer(x))
 }
 
+// A read: an access with mask 0.
 pub fn read(
     s: Settings,
     longs: &mut [u64],
@@ -112,6 +113,7 @@ pub fn read(
     access(s, longs, words, marks, x)
 }
 
+// A write: an access without a ticket.
 pub fn write(
     s: Settings,
     longs: &mut [u64],
@@ -167,6 +169,7 @@ pub fn tick(s: Settings, longs: &mut [u64], words: &mut [u32], marks: &mut [u8],
 
 // ---- refusals 1, 2 and 3 by themselves
 
+// Whether the tables are sound: refusals 1, 2 and 3.
 pub fn check(s: Settings, longs: &[u64], words: &[u32], marks: &[u8]) -> Verdict
     ensures { λ r. ⌜ r ≡ verdictOf (checkCall s (lent (now (longs .entry)) (now (words .entry)) (now (marks .entry)))) ⌝ }
 {

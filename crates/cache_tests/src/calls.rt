@@ -43,6 +43,7 @@ pub(crate) fn empty_bench() -> Bench {
     }
 }
 
+// A bench that says or does not say whether the call was refused.
 pub(crate) fn asking(b: Bench, asked: bool) -> Bench {
     let settings = b.settings;
     Bench {
@@ -161,6 +162,7 @@ pub(crate) fn put_long(longs: &mut [u64], at: u64, n: u64) {
     }
 }
 
+// Puts a number into `words`, if there is such a place.
 pub(crate) fn put_word(words: &mut [u32], at: u64, n: u64) {
     let i = at as usize;
     if i < words.len() {
@@ -168,6 +170,7 @@ pub(crate) fn put_word(words: &mut [u32], at: u64, n: u64) {
     }
 }
 
+// Puts a number into `marks`, if there is such a place.
 pub(crate) fn put_mark(marks: &mut [u8], at: u64, n: u64) {
     let i = at as usize;
     if i < marks.len() {

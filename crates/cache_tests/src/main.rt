@@ -19,6 +19,7 @@ use calls::Deed;
 use libc::STDIN_FILENO;
 use libc::STDOUT_FILENO;
 
+// Writes the first n bytes to standard output.
 fn write_out(out: &[u8], n: usize) {
     io::write_all(STDOUT_FILENO, text::front(out, n));
 }
@@ -54,6 +55,7 @@ fn on_deed(
     calls::asking(b, false)
 }
 
+// A read with a mask, which refusal 4 is for.
 fn on_masked(
     line: &[u8],
     at: usize,
@@ -135,6 +137,7 @@ fn on_word(
     b
 }
 
+// One line of the script: a command, or a word of the script's own.
 fn one_line(
     line: &[u8],
     b: Bench,
@@ -172,6 +175,7 @@ fn run(script: &[u8]) {
     }
 }
 
+// Runs the script on standard input.
 fn main() {
     let mut script = io::large_buffer();
     let n = io::read_full(STDIN_FILENO, &mut script);

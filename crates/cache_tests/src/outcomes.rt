@@ -13,6 +13,7 @@ pub(crate) struct Outcome {
     pub refused: bool,
 }
 
+// A refusal by its number.
 fn put_refused(n: Refusal, out: &mut [u8]) -> Outcome {
     let a = text::put_text(b"refused ", out, 0);
     Outcome {
@@ -21,6 +22,7 @@ fn put_refused(n: Refusal, out: &mut [u8]) -> Outcome {
     }
 }
 
+// What a check or fresh tables came to.
 pub(crate) fn put_verdict(v: Verdict, passed: &[u8], out: &mut [u8]) -> Outcome {
     match v {
         Verdict::Passed => Outcome {
@@ -31,6 +33,7 @@ pub(crate) fn put_verdict(v: Verdict, passed: &[u8], out: &mut [u8]) -> Outcome 
     }
 }
 
+// How many lines are dirty.
 pub(crate) fn put_dirty(n: usize, out: &mut [u8]) -> Outcome {
     let a = text::put_text(b"dirty lines ", out, 0);
     Outcome {
@@ -51,16 +54,19 @@ pub(crate) fn put_left(refused: bool, unchanged: bool, out: &mut [u8], at: usize
     }
 }
 
+// What it is, and its address.
 fn put_address(what: &[u8], address: u64, out: &mut [u8], at: usize) -> usize {
     let a = text::put_text(what, out, at);
     text::put_hex(address, out, a)
 }
 
+// A mask behind a space.
 fn put_mask(mask: u32, out: &mut [u8], at: usize) -> usize {
     let a = text::put_text(b" ", out, at);
     text::put_word(mask as u64, out, a)
 }
 
+// A write-back's four masks.
 fn put_masks(m0: u32, m1: u32, m2: u32, m3: u32, out: &mut [u8], at: usize) -> usize {
     let a = text::put_text(b" masks", out, at);
     let b = put_mask(m0, out, a);
@@ -69,6 +75,7 @@ fn put_masks(m0: u32, m1: u32, m2: u32, m3: u32, out: &mut [u8], at: usize) -> u
     put_mask(m3, out, d)
 }
 
+// An answer and its line.
 fn put_answered(answer: Answer, line: u16, out: &mut [u8], at: usize) -> usize {
     let a = wording::names::put_answer(answer, out, at);
     let b = text::put_text(b" line ", out, a);
@@ -105,6 +112,7 @@ fn put_first(e: Event, out: &mut [u8], at: usize) -> usize {
     }
 }
 
+// Whether the event is a refusal.
 fn is_refusal(e: Event) -> bool {
     match e {
         Event::Refused(_) => true,
@@ -131,6 +139,7 @@ fn is_refusal(e: Event) -> bool {
     }
 }
 
+// An entry that was queued.
 fn put_entry(x: Queued, out: &mut [u8], at: usize) -> usize {
     let kind = x.kind;
     let masks = x.masks;
@@ -155,6 +164,7 @@ fn put_queued(count: usize, queued: [Queued; 2], out: &mut [u8], at: usize) -> u
     end
 }
 
+// A ticket that was released.
 fn put_ticket(ticket: u32, out: &mut [u8], at: usize) -> usize {
     let a = text::put_text(b", released ", out, at);
     text::put_decimal(ticket as u64, out, a)
@@ -172,6 +182,7 @@ fn put_tickets(count: usize, tickets: [u32; 8], out: &mut [u8], at: usize) -> us
     end
 }
 
+// All that a call told, on one line.
 pub(crate) fn put_told(told: Told, out: &mut [u8]) -> Outcome {
     let first = told.first;
     let queued = told.queued;

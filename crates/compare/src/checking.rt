@@ -22,6 +22,7 @@ pub enum Verdict {
     Failed,
 }
 
+// The check has come to its end; `failed`: the log could not be read.
 fn over(c: Check, failed: bool) -> Check
     ensures { λ r. ⌜ r ≡ overOf c failed ⌝ }
 {
@@ -58,6 +59,7 @@ fn came(buf: &[u8], n: usize, c: Check) -> Check
     }
 }
 
+// Reads the next part of a log and checks it.
 fn read_part(log: usize, fd: i32, buf: &mut [u8], c: Check) -> Check
     ensures { λ r. ⌜ ReadOn (now (buf .exit)) c r ⌝ }
 {
@@ -72,6 +74,7 @@ fn read_part(log: usize, fd: i32, buf: &mut [u8], c: Check) -> Check
     }
 }
 
+// A check of which nothing has come yet.
 fn begin() -> Check
     ensures { λ r. ⌜ r ≡ started ⌝ }
 {
@@ -94,6 +97,7 @@ pub fn check_log(log: usize, fd: i32, buf: &mut [u8]) -> Check
     c
 }
 
+// What the check of a whole log came to.
 pub fn judge(c: Check) -> Verdict
     ensures { λ r. ⌜ r ≡ verdictOf c ⌝ }
 {

@@ -32,6 +32,7 @@ struct Work {
     more: bool,
 }
 
+// The listing goes on from here.
 fn on(pass: Pass, shown: Shown) -> Work
     ensures { λ r. ⌜ (r .pass ≡ pass) × (r .shown ≡ shown) × (r .more ≡ yes) ⌝ }
 {
@@ -42,6 +43,7 @@ fn on(pass: Pass, shown: Shown) -> Work
     }
 }
 
+// The listing ends here.
 fn halted(pass: Pass, shown: Shown) -> Work
     ensures { λ r. ⌜ (r .pass ≡ pass) × (r .shown ≡ shown) × (r .more ≡ no) ⌝ }
 {
@@ -78,6 +80,7 @@ fn side_checked(s: Side, length: usize) -> bool {
     (s.passed != 0) | (s.place == length)
 }
 
+// Whether both logs were as long as when they were checked.
 fn as_checked(l: Logs, w: Walk) -> bool {
     side_checked(w.first, l.first) & side_checked(w.second, l.second)
 }
@@ -113,6 +116,7 @@ fn finish(l: Logs, out: &mut [u8], w: Walk, s: Shown) -> Shown
     s
 }
 
+// One turn of the listing: a step over both logs, and the lines of a pair that differs.
 fn list_turn(
     l: Logs,
     a: &mut [u8],
@@ -165,6 +169,7 @@ fn list_all(
     s.page
 }
 
+// Lists every pair of groups that differs, through the two buffers of each log.
 pub fn list(l: Logs, out: &mut [u8]) {
     let mut a = io::large_buffer();
     let mut b = io::large_buffer();

@@ -74,6 +74,7 @@ fn compare_logs(buf: &mut [u8], out: &mut [u8]) {
     list_logs(first, second, out);
 }
 
+// Checks both logs, then lists how they differ.
 fn main() {
     if os::arg_count() != 3 {
         io::write_all(STDERR_FILENO, b"usage: compare FILE FILE\n");

@@ -38,6 +38,7 @@ pub fn with_room(out: &[u8], p: Page) -> Page {
     }
 }
 
+// A page that ends at this place.
 pub fn ended(put: usize, p: Page) -> Page {
     Page { put, good: p.good }
 }

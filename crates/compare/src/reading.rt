@@ -38,6 +38,7 @@ pub struct Topped {
     pub met: Met,
 }
 
+// A window of which nothing has been read.
 pub fn fresh() -> Window
     ensures { λ r. ⌜ r ≡ unread ⌝ }
 {
@@ -70,6 +71,7 @@ pub fn moved(w: Window, n: usize) -> Window
     }
 }
 
+// Says which log could not be read.
 pub fn say_failed(log: usize) {
     if log == 1 {
         os::fail(b"reading the first log");
@@ -78,6 +80,7 @@ pub fn say_failed(log: usize) {
     }
 }
 
+// A window that begins at byte `base` of its log, with these bytes in it.
 fn filled(base: usize, have: usize, met: Met) -> Topped
     ensures { λ r. ⌜ r ≡ topped base have false met ⌝ }
 {

@@ -5,6 +5,7 @@ use comparing::Side;
 use comparing::Walk;
 use libc::STDERR_FILENO;
 
+// Says on standard error why nothing is compared.
 pub fn stop(why: &[u8]) {
     io::write_all(STDERR_FILENO, why);
 }
@@ -21,6 +22,7 @@ fn write_name(i: usize, good: bool) -> bool {
     page::write(text::front(&path, length), good)
 }
 
+// What is wrong with a log, by its refusal number, and what to do about it.
 fn put_why(number: u8, out: &mut [u8], at: usize) -> usize {
     match number {
         14 => text::put_text(
@@ -61,6 +63,7 @@ pub fn write_names(good: bool) -> bool {
     page::write(b"\n", d)
 }
 
+// A count and what is counted, in the plural unless it is one.
 fn put_many(n: usize, what: &[u8], out: &mut [u8], at: usize) -> usize {
     let a = text::put_decimal(n as u64, out, at);
     let b = text::put_text(what, out, a);

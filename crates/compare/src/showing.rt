@@ -21,6 +21,7 @@ pub struct Shown {
     pub good: bool,
 }
 
+// Nothing is shown yet.
 pub fn fresh() -> Shown
     ensures { λ r. ⌜ r .pass ≡ begun ⌝ }
 {
@@ -32,6 +33,7 @@ pub fn fresh() -> Shown
     }
 }
 
+// A byte as a 64-bit number.
 fn wide(x: u8) -> u64 {
     x as u64
 }
@@ -73,6 +75,7 @@ fn place(s: Side) -> u64 {
     std::num::wrapping_add_usize(s.place, s.passed) as u64
 }
 
+// A mark, a record's place in its column, and a gap.
 fn put_place(mark: &[u8], place: u64, gap: &[u8], out: &mut [u8], at: usize) -> usize {
     let a = text::put_text(mark, out, at);
     let b = text::put_right(place, 11, out, a);
@@ -104,6 +107,7 @@ fn put_first(s: &[u8], place: u64, out: &mut [u8], p: Page) -> Page {
     put_one(b"< ", s, place, b"             ", out, p)
 }
 
+// A line of the second log's record, if there is one.
 fn put_second(s: &[u8], place: u64, out: &mut [u8], p: Page) -> Page {
     if s.len() == 0 {
         return p;
@@ -134,6 +138,7 @@ fn put_row(
     put_second(t, second, out, r)
 }
 
+// The pair's lines go on from here.
 fn on(t: Turned, page: Page) -> Shown
     ensures { λ r. ⌜ (r .pass ≡ t .pass) × (r .more ≡ r .page .good) ⌝ }
 {
@@ -146,6 +151,7 @@ fn on(t: Turned, page: Page) -> Shown
     }
 }
 
+// The pair's lines end here; `good`: they could be shown.
 fn halted(pass: Pass, page: Page, good: bool) -> Shown
     ensures { λ r. ⌜ (r .pass ≡ pass) × (r .more ≡ no) × (r .good ≡ good) ⌝ }
 {
@@ -157,6 +163,7 @@ fn halted(pass: Pass, page: Page, good: bool) -> Shown
     }
 }
 
+// What is shown, with another page.
 pub fn with_page(s: Shown, page: Page) -> Shown
     ensures { λ r. ⌜ r .pass ≡ s .pass ⌝ }
 {
@@ -191,6 +198,7 @@ fn row_met(
     on(t, s.page)
 }
 
+// One turn of a pair's lines, as long as the walk stands at the pair.
 fn show_turn(
     third: i32,
     fourth: i32,

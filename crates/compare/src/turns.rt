@@ -20,6 +20,7 @@ pub struct Turned {
     pub met: Met,
 }
 
+// A pass over two logs of which nothing has been read.
 pub fn fresh() -> Pass
     ensures { λ r. ⌜ r ≡ begun ⌝ }
 {
@@ -30,6 +31,7 @@ pub fn fresh() -> Pass
     }
 }
 
+// What a turn came to, with its windows and its walk.
 fn came_to(a: Window, b: Window, walk: Walk, m: Met) -> Turned
     ensures { λ r. ⌜ r ≡ turned a b walk m ⌝ }
 {
@@ -39,6 +41,7 @@ fn came_to(a: Window, b: Window, walk: Walk, m: Met) -> Turned
     }
 }
 
+// One step of the walk over both logs, or a part more of the one that it wants.
 pub fn turn(first: i32, second: i32, a: &mut [u8], b: &mut [u8], p: Pass) -> Turned
     requires { ⌜ Ready (length (now a)) (length (now b)) p ⌝ }
     ensures { λ r. ⌜ Comes (now (a .entry)) (now (b .entry)) p r (now (a .exit)) (now (b .exit)) (nextStep (now (a .entry)) (now (b .entry)) p) ⌝ }

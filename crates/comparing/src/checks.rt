@@ -5,6 +5,7 @@ ghost use Rattle.comparing.specs.Coming.{beginning, begunInside, passedB
 use crate::Checking;
 use crate::Fault;
 
+// A check that has seen no byte.
 pub fn begin() -> Checking
     ensures { λ r. ⌜ r ≡ beginning ⌝ }
 {
@@ -28,6 +29,7 @@ fn begun_inside(c: Checking, kind: u8) -> bool
     }
 }
 
+// The check after one byte more.
 fn pass_byte(c: Checking, byte: u8) -> Checking
     ensures { λ r. ⌜ r ≡ passedByte c byte ⌝ }
 {

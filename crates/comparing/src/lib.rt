@@ -242,6 +242,7 @@ fn skip(log: &[u8], number: usize) -> usize
     at
 }
 
+// The lower of two numbers.
 fn lower(a: usize, b: usize) -> usize
     ensures { λ r. ⌜ r ≡ min a b ⌝ }
 {

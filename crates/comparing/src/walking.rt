@@ -8,6 +8,7 @@ use crate::Side;
 use crate::Step;
 use crate::Walk;
 
+// A walk that stands at the first pair.
 pub fn begin() -> Walk
     ensures { λ r. ⌜ r ≡ beginning ⌝ }
 {

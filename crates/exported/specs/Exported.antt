@@ -5,9 +5,9 @@ use mathlib.Core.Bool.{Bool, _&&_}
 use mathlib.Core.List.{List, [], _∷_, _++_}
 use lib.ListN.{length, drop, getD}
 use lib.Dec.{leb, eqb}
-use Rattle.words.specs.Words.{pick}
+use Rattle.words.specs.Words.{pick, within}
 use Rattle.model.specs.Numbers.{refusalNumber, stopNumber}
-use Rattle.model.specs.Range.{within, inRange}
+use Rattle.model.specs.Range.{inRange}
 use Rattle.model.specs.Tables.{Outcome, after, eventsOf}
 use Rattle.model.specs.Lent.{Lent}
 use Rattle.model.specs.Records.{logBytes}

@@ -23,6 +23,7 @@ fn went_number(w: Went) -> u32
     }
 }
 
+// How many rounds ran.
 fn rounds_run(w: Went) -> u64
     ensures { λ r. ⌜ r ≡ roundsRun w ⌝ }
 {
@@ -33,6 +34,7 @@ fn rounds_run(w: Went) -> u64
     }
 }
 
+// How many bytes of events the rounds wrote.
 fn bytes_written(w: Went) -> u64
     ensures { λ r. ⌜ r ≡ bytesWritten w ⌝ }
 {
@@ -43,6 +45,7 @@ fn bytes_written(w: Went) -> u64
     }
 }
 
+// `rounds::run_rounds` for C: 0 for rounds that ran, 1 to 4, or 16 for no room; `counts` takes rounds and bytes.
 #[no_mangle]
 pub extern "C" fn labintugmo_rounds(
     settings: &[u32],
@@ -74,6 +77,7 @@ pub extern "C" fn labintugmo_rounds(
     went_number(went)
 }
 
+// `rounds::run_struck` for C, from the flags that the rounds left.
 #[no_mangle]
 pub extern "C" fn labintugmo_struck(
     settings: &[u32],

@@ -68,6 +68,7 @@ pub(crate) fn settings_from(settings: &[u32]) -> Settings
     }
 }
 
+// A verdict as its number: 0 where nothing is refused.
 fn verdict_number(v: Verdict) -> u32
     ensures { λ r. ⌜ r ≡ verdictNumber v ⌝ }
 {
@@ -77,6 +78,7 @@ fn verdict_number(v: Verdict) -> u32
     }
 }
 
+// The access that C asks for.
 fn access_for(is_write: u32, address: u64, mask: u32, ticket: u32) -> Access
     ensures { λ r. ⌜ r ≡ accessFor «is_write» address mask ticket ⌝ }
 {
@@ -94,6 +96,7 @@ fn access_for(is_write: u32, address: u64, mask: u32, ticket: u32) -> Access
     }
 }
 
+// How long `longs` must be; 0 for settings out of range.
 #[no_mangle]
 pub extern "C" fn labintugmo_longs_length(settings: &[u32]) -> usize
     ensures { λ r. ⌜ r ≡ lengthFor (settingsFrom (now (settings .entry))) (longsLength (settingsFrom (now (settings .entry)))) ⌝ }
@@ -105,6 +108,7 @@ pub extern "C" fn labintugmo_longs_length(settings: &[u32]) -> usize
     0
 }
 
+// How long `words` must be; 0 for settings out of range.
 #[no_mangle]
 pub extern "C" fn labintugmo_words_length(settings: &[u32]) -> usize
     ensures { λ r. ⌜ r ≡ lengthFor (settingsFrom (now (settings .entry))) (wordsLength (settingsFrom (now (settings .entry)))) ⌝ }
@@ -116,6 +120,7 @@ pub extern "C" fn labintugmo_words_length(settings: &[u32]) -> usize
     0
 }
 
+// How long `marks` must be; 0 for settings out of range.
 #[no_mangle]
 pub extern "C" fn labintugmo_marks_length(settings: &[u32]) -> usize
     ensures { λ r. ⌜ r ≡ lengthFor (settingsFrom (now (settings .entry))) (marksLength (settingsFrom (now (settings .entry)))) ⌝ }
@@ -127,6 +132,7 @@ pub extern "C" fn labintugmo_marks_length(settings: &[u32]) -> usize
     0
 }
 
+// Makes the tables fresh: 0, or refusal 1 or 2.
 #[no_mangle]
 pub extern "C" fn labintugmo_fresh(
     settings: &[u32],
@@ -141,6 +147,7 @@ pub extern "C" fn labintugmo_fresh(
     verdict_number(cache::fresh(s, longs, words, marks))
 }
 
+// Whether the tables are sound: 0, or refusal 1, 2 or 3.
 #[no_mangle]
 pub extern "C" fn labintugmo_check(
     settings: &[u32],
@@ -174,6 +181,7 @@ fn made(
     records::write_told(told, events, 0)
 }
 
+// A read; its events are written, and how many bytes they are is returned.
 #[no_mangle]
 pub extern "C" fn labintugmo_read(
     settings: &[u32],
@@ -195,6 +203,7 @@ pub extern "C" fn labintugmo_read(
     made(settings, longs, words, marks, Call::Offer(x), events)
 }
 
+// A write; its events are written, and how many bytes they are is returned.
 #[no_mangle]
 pub extern "C" fn labintugmo_write(
     settings: &[u32],
@@ -216,6 +225,7 @@ pub extern "C" fn labintugmo_write(
     made(settings, longs, words, marks, Call::Offer(x), events)
 }
 
+// A send; its events are written, and how many bytes they are is returned.
 #[no_mangle]
 pub extern "C" fn labintugmo_send(
     settings: &[u32],
@@ -230,6 +240,7 @@ pub extern "C" fn labintugmo_send(
     made(settings, longs, words, marks, Call::Send, events)
 }
 
+// A fill; its events are written, and how many bytes they are is returned.
 #[no_mangle]
 pub extern "C" fn labintugmo_fill(
     settings: &[u32],
@@ -245,6 +256,7 @@ pub extern "C" fn labintugmo_fill(
     made(settings, longs, words, marks, Call::Fill(address), events)
 }
 
+// A tick; its events are written, and how many bytes they are is returned.
 #[no_mangle]
 pub extern "C" fn labintugmo_tick(
     settings: &[u32],
@@ -260,6 +272,7 @@ pub extern "C" fn labintugmo_tick(
     made(settings, longs, words, marks, Call::Tick(cycle), events)
 }
 
+// Any access, also one that refusal 4 turns away.
 #[no_mangle]
 pub extern "C" fn labintugmo_access(
     settings: &[u32],
@@ -291,6 +304,7 @@ fn round_number(w: Waiting) -> u64
     }
 }
 
+// `rounds::wait` for C: the bytes of its events; `round` takes the accepting round, or 0.
 #[no_mangle]
 pub extern "C" fn labintugmo_wait(
     settings: &[u32],
@@ -332,6 +346,7 @@ fn note_run(ran: Ran, counts: &mut [u64]) -> u32
     values::stop_number(stop) as u32
 }
 
+// `runner::run` for C: the stop number; `counts` takes bytes consumed and written.
 #[no_mangle]
 pub extern "C" fn labintugmo_run(
     stream: &[u8],

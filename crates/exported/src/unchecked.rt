@@ -9,6 +9,7 @@ ghost use Rattle.model.specs.Calls.{accessCall, sendCall, fillCall, tickCall};
 ghost use Rattle.model.specs.declared.Access.the-variants.{Read, Write};
 ghost use Rattle.exported.specs.Exported.{settingsFrom, Stepped};
 
+// A read on tables that the caller has kept sound.
 #[no_mangle]
 pub extern "C" fn labintugmo_step_read(
     settings: &[u32],
@@ -37,6 +38,7 @@ pub extern "C" fn labintugmo_step_read(
     records::write_told(told, events, 0)
 }
 
+// A write on tables that the caller has kept sound.
 #[no_mangle]
 pub extern "C" fn labintugmo_step_write(
     settings: &[u32],
@@ -65,6 +67,7 @@ pub extern "C" fn labintugmo_step_write(
     records::write_told(told, events, 0)
 }
 
+// A send on tables that the caller has kept sound.
 #[no_mangle]
 pub extern "C" fn labintugmo_step_send(
     settings: &[u32],
@@ -86,6 +89,7 @@ pub extern "C" fn labintugmo_step_send(
     records::write_told(told, events, 0)
 }
 
+// A fill on tables that the caller has kept sound.
 #[no_mangle]
 pub extern "C" fn labintugmo_step_fill(
     settings: &[u32],
@@ -108,6 +112,7 @@ pub extern "C" fn labintugmo_step_fill(
     records::write_told(told, events, 0)
 }
 
+// A tick on tables that the caller has kept sound.
 #[no_mangle]
 pub extern "C" fn labintugmo_step_tick(
     settings: &[u32],

@@ -8,7 +8,8 @@ use lib.Dec.{eqb, leb}
 use lib.ListN.{length}
 use borrow.Author.Tests.{eqb-true, leb-true}
 use Rattle.model.specs.declared.Settings.{Settings}
-use Rattle.model.specs.Range.{powerTo256, within, linesOf, ruleFine, inRange}
+use Rattle.words.specs.Words.{within}
+use Rattle.model.specs.Range.{powerTo256, linesOf, ruleFine, inRange}
 use Rattle.model.specs.Tree.{powerTo16}
 use Rattle.model.specs.Layout.{longsLength, wordsLength, marksLength}
 use Rattle.model.specs.Lent.{lent, lengthsFit}

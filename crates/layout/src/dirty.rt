@@ -10,6 +10,7 @@ ghost use Rattle.layout.specs.Sectors.{someModified};
 use model::Sector;
 use model::Status;
 
+// Whether a sector is MODIFIED.
 fn is_modified(s: Sector) -> bool
     ensures { λ r. ⌜ r ≡ isModified (s .status) ⌝ }
 {

@@ -8,6 +8,7 @@ ghost use Rattle.model.specs.Lent.{lent, encode};
 ghost use Rattle.model.specs.Inner.{Fit};
 use model::Settings;
 
+// Every 64-bit number becomes 0.
 fn clear_longs(s: &mut [u64])
     ensures { λ _. ⌜ now (s .exit) ≡ replicate (length (now (s .entry))) 0 ⌝ }
 {
@@ -18,6 +19,7 @@ fn clear_longs(s: &mut [u64])
     }
 }
 
+// Every 32-bit number becomes 0.
 fn clear_words(s: &mut [u32])
     ensures { λ _. ⌜ now (s .exit) ≡ replicate (length (now (s .entry))) 0 ⌝ }
 {

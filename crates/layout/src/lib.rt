@@ -44,6 +44,7 @@ pub struct Layout {
     pub kinds: usize,
 }
 
+// Where each part of the slices begins.
 pub fn laid_out(s: Settings) -> Layout
     requires { ⌜ inRange s ≡ true ⌝ }
     ensures { λ r. ⌜ Placed s r ⌝ }

@@ -23,6 +23,7 @@ pub fn power_to_256(n: usize) -> bool
         | (n == 256)
 }
 
+// Whether n is a power of two from 1 to 16.
 pub fn power_to_16(n: usize) -> bool
     ensures { λ r. ⌜ r ≡ powerTo16 n ⌝ }
 {
@@ -51,6 +52,7 @@ pub fn in_range(s: Settings) -> bool
         & rule_fine(s)
 }
 
+// How long `longs` is: tags, miss addresses, queue addresses.
 pub fn longs_length(s: Settings) -> usize
     requires { ⌜ inRange s ≡ true ⌝ }
     ensures { λ r. ⌜ r ≡ longsLength s ⌝ }
@@ -58,6 +60,7 @@ pub fn longs_length(s: Settings) -> usize
     s.sets * s.ways + s.misses + s.queue
 }
 
+// How long `words` is: cycles, masks, tickets, the queue's masks, the dirty count, taken cycles, trees.
 pub fn words_length(s: Settings) -> usize
     requires { ⌜ inRange s ≡ true ⌝ }
     ensures { λ r. ⌜ r ≡ wordsLength s ⌝ }
@@ -66,6 +69,7 @@ pub fn words_length(s: Settings) -> usize
     1 + 5 * lines + s.readers * s.misses + 4 * s.queue + 1 + lines + s.sets
 }
 
+// How long `marks` is: statuses, readable marks, sent marks, ticket counts, queue kinds.
 pub fn marks_length(s: Settings) -> usize
     requires { ⌜ inRange s ≡ true ⌝ }
     ensures { λ r. ⌜ r ≡ marksLength s ⌝ }

@@ -39,6 +39,7 @@ pub fn lift(s: Settings, at: Layout, words: &[u32], marks: &[u8], line: usize) -
     ]
 }
 
+// Stores the masks of a line's four sectors.
 fn store_masks(words: &mut [u32], w: usize, four: [Sector; 4])
     requires { ⌜ w + 4 ≤ length (now words) ⌝ }
     ensures { λ _. ⌜ now (words .exit) ≡ put (now (words .entry)) w (masks four) ⌝ }
@@ -53,6 +54,7 @@ fn store_masks(words: &mut [u32], w: usize, four: [Sector; 4])
     words[w + 3] = d.mask;
 }
 
+// A sector's status as it is stored.
 fn status_byte(x: Sector) -> u8
     ensures { λ r. ⌜ r ≡ statusNumber (x .status) ⌝ }
 {
@@ -60,6 +62,7 @@ fn status_byte(x: Sector) -> u8
     status_number(status)
 }
 
+// Stores the statuses of a line's four sectors.
 fn store_statuses(marks: &mut [u8], s: usize, four: [Sector; 4])
     requires { ⌜ s + 4 ≤ length (now marks) ⌝ }
     ensures { λ _. ⌜ now (marks .exit) ≡ put (now (marks .entry)) s (statuses four) ⌝ }
@@ -70,12 +73,14 @@ fn store_statuses(marks: &mut [u8], s: usize, four: [Sector; 4])
     marks[s + 3] = status_byte(four[3]);
 }
 
+// Whether a sector is readable, as it is stored.
 fn readable_byte(x: Sector) -> u8
     ensures { λ r. ⌜ r ≡ bit (x .readable) ⌝ }
 {
     if x.readable { 1 } else { 0 }
 }
 
+// Stores whether each of a line's four sectors is readable.
 fn store_readables(marks: &mut [u8], r: usize, four: [Sector; 4])
     requires { ⌜ r + 4 ≤ length (now marks) ⌝ }
     ensures { λ _. ⌜ now (marks .exit) ≡ put (now (marks .entry)) r (readables four) ⌝ }

@@ -11,8 +11,8 @@ use lib.Seq.{getD-set-same, getD-set-other}
 use lib.Bits.{bitOr, or-lt, or-add-and, and-le-l}
 use lib.Dec.{leb, ltb, eqb}
 use borrow.Author.Tests.{leb-true, leb-false, ltb-true, ltb-false, lt-ltb, eqb-true, eqb-false, eq-eqb, ne-eqb, le-leb}
-use Rattle.words.specs.Words.{pick, all, any, count, every}
-use Rattle.model.specs.Range.{within, linesOf, inRange}
+use Rattle.words.specs.Words.{pick, all, any, count, every, within}
+use Rattle.model.specs.Range.{linesOf, inRange}
 use Rattle.model.specs.Address.{blockOf, sectorIndex, setIndex, lineNumber, addressOf, maskOf, isRead, goodSector, wellFormed}
 use Rattle.model.specs.Tables.{Line, Entry, Tables, isInvalid, isReserved, whollyInvalid, holds, entryFor, isFetch, empty, fresh, dirty, dirtyLines}
 use Rattle.model.specs.Sound.{allOnes, maskOk, sectorOk, lineOk, alone, agrees, reservedOk, readingOf, unsentFor, entryOk, queuedOk}

@@ -7,8 +7,8 @@ use native.Mathlib.Omega.{arith}
 use lib.ListN.{length, getD}
 use lib.Dec.{leb, ltb, eqb}
 use borrow.Author.Tests.{eqb-true, eq-eqb, leb-true}
-use Rattle.words.specs.Words.{pick, all, any, count, every}
-use Rattle.model.specs.Range.{within, linesOf, isTree}
+use Rattle.words.specs.Words.{pick, all, any, count, every, within}
+use Rattle.model.specs.Range.{linesOf, isTree}
 use Rattle.model.specs.Tree.{treeFine}
 use Rattle.model.specs.Address.{blockOf, sectorIndex, setIndex, goodSector, goodBlock}
 use Rattle.model.specs.Tables.{Line, Entry, Tables, Outcome, refused, done, isReserved, whollyInvalid, holds, entryFor, isFetch, empty, fresh, dirtyLines, noEntry}

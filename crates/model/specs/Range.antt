@@ -3,12 +3,9 @@ use Prim.Native.Nat.{ℕ, _*_}
 use mathlib.Core.Bool.{Bool, _&&_, _||_}
 use mathlib.Core.List.{List, [], _∷_}
 use lib.Dec.{eqb, leb}
-use Rattle.words.specs.Words.{any}
+use Rattle.words.specs.Words.{any, within}
 use Rattle.model.specs.Tree.{powerTo16}
 use Rattle.model.specs.declared.Settings.{Settings}
-
-abbrev pub within : ℕ → ℕ → ℕ → Bool
-within low high n = leb low n && leb n high
 
 -- "power of two, 1 to 256"
 abbrev pub powerTo256 : ℕ → Bool

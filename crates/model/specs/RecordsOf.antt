@@ -5,9 +5,8 @@ use mathlib.Core.Bool.{Bool, true, false}
 use mathlib.Core.List.{List, [], _∷_, _++_}
 use lib.ListN.{length, take, drop, getD}
 use lib.Dec.{ltb, leb, eqb}
-use Rattle.words.specs.Words.{pick, all, any}
+use Rattle.words.specs.Words.{pick, all, any, within}
 use Rattle.model.specs.Numbers.{answerNumber, refusalNumber}
-use Rattle.model.specs.Range.{within}
 use Rattle.model.specs.Kinds as kinds
 use Rattle.model.specs.Format.{Format, Kind, commandKinds, eventKinds, settingsKinds, readKind, releasedKind, ticketBytes}
 use Rattle.model.specs.declared.Settings.{Settings}

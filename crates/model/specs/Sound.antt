@@ -4,8 +4,8 @@ use mathlib.Core.Bool.{Bool, true, false, not, _&&_, _||_}
 use mathlib.Core.List.{List, [], _∷_}
 use lib.ListN.{length, getD}
 use lib.Dec.{ltb, leb, eqb}
-use Rattle.words.specs.Words.{pick, all, any, count, every, same}
-use Rattle.model.specs.Range.{within, linesOf, isTree}
+use Rattle.words.specs.Words.{pick, all, any, count, every, same, within}
+use Rattle.model.specs.Range.{linesOf, isTree}
 use Rattle.model.specs.Tree.{treeFine}
 use Rattle.model.specs.Address.{blockOf, setIndex, goodSector, goodBlock}
 use Rattle.model.specs.Tables.{Line, Entry, Tables, isReserved, whollyInvalid, holds, entryFor, isFetch, empty, fresh, dirtyLines}

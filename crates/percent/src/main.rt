@@ -4,15 +4,18 @@ use libc::STDOUT_FILENO;
 use percentage::Listed;
 use percentage::Share;
 
+// A 32-bit number as a 64-bit one.
 fn wide(x: u32) -> u64 {
     x as u64
 }
 
+// A number and a space.
 fn number(n: u64) {
     io::print_decimal(STDOUT_FILENO, n);
     io::write_all(STDOUT_FILENO, b" ");
 }
 
+// Whether a share meets its percentage, in a word.
 fn answer(s: Share) {
     match s {
         Share::Meets(yes) => {
@@ -28,6 +31,7 @@ fn answer(s: Share) {
     }
 }
 
+// One difference: lines, dirty, P, the float answer and ours.
 fn line(lines: u32, dirty: u32, percent: u32) {
     number(wide(lines));
     number(wide(dirty));
@@ -55,6 +59,7 @@ fn show(s: &[u32]) -> usize {
     legal
 }
 
+// Lists where the two percentages differ.
 fn main() {
     io::write_all(STDOUT_FILENO, b"lines dirty P float ours\n");
     let mut out = [0u32; 60];

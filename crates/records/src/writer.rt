@@ -70,6 +70,7 @@ fn put_back(
     put4(out, l, m3)
 }
 
+// An answer's record.
 fn put_answer(out: &mut [u8], at: usize, answer: Answer, line: u16) -> usize
     requires { ⌜ at + 4 ≤ length (now out) ⌝ }
     ensures { λ r. ⌜ Laid (now (out .entry)) at 4 (eventBytes (Event.Answered answer line)) r (now (out .exit)) ⌝ }
@@ -79,6 +80,7 @@ fn put_answer(out: &mut [u8], at: usize, answer: Answer, line: u16) -> usize
     put2(out, j, line)
 }
 
+// A refusal's record.
 fn put_refusal(out: &mut [u8], at: usize, n: Refusal) -> usize
     requires { ⌜ at + 2 ≤ length (now out) ⌝ }
     ensures { λ r. ⌜ Laid (now (out .entry)) at 2 (eventBytes (Event.Refused n)) r (now (out .exit)) ⌝ }
@@ -119,6 +121,7 @@ pub(crate) fn event_size(e: Event) -> usize
     }
 }
 
+// An event's record.
 pub(crate) fn put_event(e: Event, out: &mut [u8], at: usize) -> usize
     requires { ⌜ at + length (eventBytes e) ≤ length (now out) ⌝ }
     ensures { λ r. ⌜ Laid (now (out .entry)) at (length (eventBytes e)) (eventBytes e) r (now (out .exit)) ⌝ }
@@ -167,6 +170,7 @@ fn settings_kind(rule: GivenRule) -> u8
     }
 }
 
+// The rule byte of a settings record that says it.
 fn put_rule(out: &mut [u8], at: usize, rule: GivenRule) -> usize
     requires { ⌜ at + length (ruleBytes rule) ≤ length (now out) ⌝ }
     ensures { λ r. ⌜ Laid (now (out .entry)) at (length (ruleBytes rule)) (ruleBytes rule) r (now (out .exit)) ⌝ }
@@ -199,6 +203,7 @@ fn put_numbers(
     put1(out, m, queue)
 }
 
+// A settings record.
 fn put_settings(out: &mut [u8], at: usize, g: Given) -> usize
     requires { ⌜ at + length (commandBytes (Command.Settings g)) ≤ length (now out) ⌝ }
     ensures { λ r. ⌜ Laid (now (out .entry)) at (length (commandBytes (Command.Settings g))) (commandBytes (Command.Settings g)) r (now (out .exit)) ⌝ }
@@ -260,6 +265,7 @@ pub(crate) fn command_size(c: Command) -> usize
     }
 }
 
+// A command's record.
 pub(crate) fn put_command(c: Command, out: &mut [u8], at: usize) -> usize
     requires { ⌜ at + length (commandBytes c) ≤ length (now out) ⌝ }
     ensures { λ r. ⌜ Laid (now (out .entry)) at (length (commandBytes c)) (commandBytes c) r (now (out .exit)) ⌝ }
@@ -339,6 +345,7 @@ pub(crate) fn told_size(told: Told) -> usize
     first + entries + 5 * count
 }
 
+// The records of all that a call told.
 pub(crate) fn put_told(told: Told, out: &mut [u8], at: usize) -> usize
     requires { ⌜ at + length (logBytes (eventsTold told)) ≤ length (now out) ⌝ }
     ensures { λ r. ⌜ Laid (now (out .entry)) at (length (logBytes (eventsTold told))) (logBytes (eventsTold told)) r (now (out .exit)) ⌝ }

@@ -33,6 +33,7 @@ fn tell(told: Told, events: &mut [u8], out: usize) -> usize
     out + n
 }
 
+// Whether the queue is empty.
 fn nothing_queued(s: Settings, at: Layout, longs: &[u64], words: &[u32], marks: &[u8]) -> bool
     requires { ⌜ Placed s at × SoundSlices s (lent (now longs) (now words) (now marks)) ⌝ }
     ensures { λ r. ⌜ Queueless s (lent (now (longs .entry)) (now (words .entry)) (now (marks .entry))) r ⌝ }
@@ -153,6 +154,7 @@ fn see_struck(
     see_drain(s, at, longs, words, marks, events, out)
 }
 
+// A round's flag: 1 where its offer was accepted.
 fn flag_of(taken: bool) -> u8
     ensures { λ r. ⌜ r ≡ bit taken ⌝ }
 {

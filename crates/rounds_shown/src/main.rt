@@ -21,6 +21,7 @@ fn settings(dirty: usize) -> Settings {
     }
 }
 
+// An offered write of one byte mask.
 fn write_to(address: u64) -> Access {
     Access::Write {
         address,
@@ -29,6 +30,7 @@ fn write_to(address: u64) -> Access {
     }
 }
 
+// Prints a case: its rounds, its struck rounds, and whether they agree.
 fn print(
     name: &[u8],
     x: Access,
@@ -192,6 +194,7 @@ fn full() {
     show(b"a full queue", s, x, &mut longs, &mut words, &mut marks);
 }
 
+// A busy set, a held one, one that is held at first, a full queue.
 fn main() {
     busy();
     held();

@@ -13,6 +13,7 @@ struct Shown {
     put: usize,
 }
 
+// How many rounds ran.
 pub(crate) fn rounds_of(w: Went) -> usize {
     match w {
         Went::Ran { rounds, written: _ } => rounds,
@@ -21,6 +22,7 @@ pub(crate) fn rounds_of(w: Went) -> usize {
     }
 }
 
+// How many bytes of events there are.
 fn bytes_of(w: Went) -> usize {
     match w {
         Went::Ran { rounds: _, written } => written,
@@ -45,6 +47,7 @@ fn put_access(x: Access, out: &mut [u8], at: usize) -> usize {
     }
 }
 
+// The case's name and its access.
 pub(crate) fn put_title(name: &[u8], x: Access, out: &mut [u8], at: usize) -> usize {
     let a = text::put_text(name, out, at);
     let b = text::put_text(b", offered ", out, a);
@@ -78,6 +81,7 @@ fn put_events(s: &[u8], out: &mut [u8], at: usize) -> usize {
     t.put
 }
 
+// How many rounds ran, and their events.
 pub(crate) fn put_run(name: &[u8], w: Went, log: &[u8], out: &mut [u8], at: usize) -> usize {
     let a = stops::put_number(name, rounds_of(w) as u64, out, at);
     let b = text::put_text(b"\n", out, a);
@@ -109,6 +113,7 @@ fn leave_out(s: &[u8], out: &mut [u8]) -> usize {
     put
 }
 
+// Whether the events but 0x11 are the same.
 pub(crate) fn same_events(ran: Went, log: &[u8], struck: Went, struck_log: &[u8]) -> bool {
     let mut left = io::buffer();
     let n = leave_out(text::front(log, bytes_of(ran)), &mut left);
@@ -118,6 +123,7 @@ pub(crate) fn same_events(ran: Went, log: &[u8], struck: Went, struck_log: &[u8]
     )
 }
 
+// What agrees, or not.
 fn put_agree(name: &[u8], agree: bool, out: &mut [u8], at: usize) -> usize {
     let a = text::put_text(name, out, at);
     if agree {
@@ -126,6 +132,7 @@ fn put_agree(name: &[u8], agree: bool, out: &mut [u8], at: usize) -> usize {
     text::put_text(b"differ\n", out, a)
 }
 
+// Whether tables and events agree.
 pub(crate) fn put_same(tables: bool, events: bool, out: &mut [u8], at: usize) -> usize {
     let a = put_agree(b"the numbers of the tables ", tables, out, at);
     let b = put_agree(b"the events but 0x11 ", events, out, a);

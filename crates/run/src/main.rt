@@ -76,6 +76,7 @@ fn run_stream(fd: i32, buf: &mut [u8], w: Work) -> Work
     )
 }
 
+// Runs the stream that is named or comes on standard input.
 fn main() {
     let fd = input::open_input();
     if fd < 0 {

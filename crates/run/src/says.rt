@@ -3,6 +3,7 @@ use libc::STDERR_FILENO;
 use streaming::work::Work;
 use wording::stops;
 
+// The last line: stop, bytes consumed and written, and why.
 fn put_line(rest: &[u8], w: Work, out: &mut [u8]) -> usize {
     let stop = w.stop;
     let a = stops::put_number(b"stop ", values::stop_number(stop) as u64, out, 0);
@@ -13,6 +14,7 @@ fn put_line(rest: &[u8], w: Work, out: &mut [u8]) -> usize {
     text::put_text(b")\n", out, e)
 }
 
+// Writes the last line to standard error.
 pub fn last_line(buf: &[u8], w: Work) {
     let mut page = io::buffer();
     let end = put_line(text::front(buf, w.have), w, &mut page);

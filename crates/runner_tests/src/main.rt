@@ -68,6 +68,7 @@ fn on_part(line: &[u8], at: usize, sets: u64, t: Trial, stream: &mut [u8; 256]) 
     t
 }
 
+// One line of the script: a command for the stream, or a word of the script's own.
 fn one_line(line: &[u8], t: Trial, stream: &mut [u8; 256]) -> Trial {
     match assembly::assemble_line(line, stream, t.len) {
         Assembled::Next(len) => runs::with_len(t, len),
@@ -91,6 +92,7 @@ fn run(script: &[u8]) {
     }
 }
 
+// Runs the script on standard input.
 fn main() {
     let mut script = io::large_buffer();
     let n = io::read_full(STDIN_FILENO, &mut script);

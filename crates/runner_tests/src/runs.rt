@@ -20,6 +20,7 @@ enum Left {
     AsRun,
 }
 
+// An empty stream with room and tables as the whole run has them.
 pub(crate) fn new_trial() -> Trial {
     Trial {
         len: 0,
@@ -30,6 +31,7 @@ pub(crate) fn new_trial() -> Trial {
     }
 }
 
+// The trial with so many bytes of stream.
 pub(crate) fn with_len(t: Trial, len: usize) -> Trial {
     Trial {
         len,
@@ -40,6 +42,7 @@ pub(crate) fn with_len(t: Trial, len: usize) -> Trial {
     }
 }
 
+// The trial with so much event room.
 pub(crate) fn with_room(t: Trial, room: u64) -> Trial {
     Trial {
         len: t.len,
@@ -50,6 +53,7 @@ pub(crate) fn with_room(t: Trial, room: u64) -> Trial {
     }
 }
 
+// The trial with lent slices of these lengths.
 pub(crate) fn with_lengths(t: Trial, line: &[u8], at: usize) -> Trial {
     let longs = scripts::number_next(line, at);
     let words = scripts::number_next(line, longs.next);
@@ -170,11 +174,13 @@ fn resume_lent(
     )
 }
 
+// A word and a number.
 fn put_number(what: &[u8], n: usize, out: &mut [u8], at: usize) -> usize {
     let a = text::put_text(what, out, at);
     text::put_decimal(n as u64, out, a)
 }
 
+// Stop, bytes consumed and bytes written.
 fn put_ran(r: Ran, out: &mut [u8]) -> usize {
     let stop = r.stop;
     let a = put_number(b"stop ", values::stop_number(stop) as usize, out, 0);
@@ -182,6 +188,7 @@ fn put_ran(r: Ran, out: &mut [u8]) -> usize {
     put_number(b" written ", r.written, out, b)
 }
 
+// What became of the tables.
 fn put_left(left: Left, out: &mut [u8], at: usize) -> usize {
     match left {
         Left::Unchanged => text::put_text(b", tables unchanged", out, at),
@@ -204,12 +211,14 @@ fn put_beyond(events: &[u8], written: usize, out: &mut [u8], at: usize) -> usize
     }
 }
 
+// A digit of base 16.
 fn glyph(d: u8) -> u8
     requires { ⌜ d < 16 ⌝ }
 {
     if d < 10 { 48 + d } else { 87 + d }
 }
 
+// A byte in two digits behind a space.
 fn put_byte(b: u8, out: &mut [u8], at: usize) -> usize {
     let digits = [32, glyph(b / 16), glyph(b % 16)];
     text::put_text(&digits, out, at)

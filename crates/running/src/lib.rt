@@ -98,6 +98,7 @@ fn record_stop(kind: u8, found: Record, settings: Stop, other: Stop) -> Stop
     }
 }
 
+// 16, where there is less event room than a record may need.
 fn room_stop(room: usize) -> Stop
     ensures { λ r. ⌜ r ≡ roomStop room ⌝ }
 {
@@ -245,6 +246,7 @@ pub fn first_there(stream: &[u8]) -> bool
     values::stop_number(stop) != CUT_SHORT
 }
 
+// Lengths for no settings.
 fn no_lengths() -> Lengths
     ensures { λ r. ⌜ r ≡ noLengths ⌝ }
 {

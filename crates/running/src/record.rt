@@ -153,6 +153,7 @@ fn access_record(
     }
 }
 
+// A send.
 fn send_record(
     s: Settings,
     laid: Layout,
@@ -188,6 +189,7 @@ fn send_record(
     }
 }
 
+// A fill.
 fn fill_record(
     s: Settings,
     laid: Layout,
@@ -226,6 +228,7 @@ fn fill_record(
     }
 }
 
+// A tick.
 fn tick_record(
     s: Settings,
     laid: Layout,

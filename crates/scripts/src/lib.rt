@@ -37,6 +37,7 @@ pub fn least(a: usize, b: usize) -> usize
     if a < b { a } else { b }
 }
 
+// Whether two slices of 64-bit numbers hold the same.
 fn same_longs(a: &[u64], b: &[u64]) -> bool
     ensures { λ r. ⌜ Tells (now (a .entry)) (now (b .entry)) r ⌝ }
 {
@@ -53,6 +54,7 @@ fn same_longs(a: &[u64], b: &[u64]) -> bool
     true
 }
 
+// Whether two slices of 32-bit numbers hold the same.
 fn same_words(a: &[u32], b: &[u32]) -> bool
     ensures { λ r. ⌜ Tells (now (a .entry)) (now (b .entry)) r ⌝ }
 {

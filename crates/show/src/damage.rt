@@ -1,5 +1,6 @@
 // The line that says why a log stops and what to do.
 
+// That a byte is no record's kind.
 pub fn put_unknown(kind: u8, out: &mut [u8], at: usize) -> usize {
     let a = text::put_text(b"stops here: ", out, at);
     let b = text::put_hex(kind as u64, out, a);
@@ -10,6 +11,7 @@ pub fn put_unknown(kind: u8, out: &mut [u8], at: usize) -> usize {
     )
 }
 
+// That a record is cut short: what it wants and what is left.
 pub fn put_cut(kind: u8, wants: u8, left: usize, out: &mut [u8], at: usize) -> usize {
     let a = text::put_text(b"stops here: a record of kind ", out, at);
     let b = text::put_hex(kind as u64, out, a);

@@ -63,6 +63,7 @@ fn with_room(out: &[u8], t: Turn) -> Turn
     }
 }
 
+// A record's place in its column.
 fn put_place(place: u64, out: &mut [u8], at: usize) -> usize {
     let next = text::put_right(place, 12, out, at);
     text::put_text(b"  ", out, next)
@@ -81,6 +82,7 @@ fn line_done(out: &mut [u8], at: usize, put: usize, t: Turn) -> Turn
     }
 }
 
+// This turn ends: the rest waits for more bytes.
 fn waiting(t: Turn) -> Turn
     ensures { λ r. ⌜ r .more ≡ false ⌝ }
 {
@@ -93,6 +95,7 @@ fn waiting(t: Turn) -> Turn
     }
 }
 
+// This turn ends at a damage.
 fn damaged(t: Turn, put: usize) -> Turn
     ensures { λ r. ⌜ r .more ≡ false ⌝ }
 {
@@ -174,6 +177,7 @@ fn show_buffer(buf: &mut [u8], n: usize, left: u64, out: &mut [u8], w: Work) -> 
     }
 }
 
+// The work ends here.
 fn stopped(w: Work, put: usize) -> Work
     ensures { λ r. ⌜ r .more ≡ false ⌝ }
 {
@@ -229,6 +233,7 @@ fn show_all(fd: i32, buf: &mut [u8], out: &mut [u8]) {
     }
 }
 
+// Shows the stream or log that is named or comes on standard input.
 fn main() {
     let fd = input::open_input();
     if fd < 0 {

@@ -20,6 +20,7 @@ fn dirty(s: Settings, longs: &[u64], words: &[u32], marks: &[u8], l: usize) -> b
         | (marks[4 * l + 3] == 3)
 }
 
+// How many lines have a MODIFIED sector.
 fn dirty_lines(s: Settings, longs: &[u64], words: &[u32], marks: &[u8]) -> usize
     requires { ⌜ Fit s (now longs) (now words) (now marks) ⌝ }
     ensures { λ r. ⌜ (r ≡ countBelow (linesOf s) (is.dirtyLine s (now (longs .entry)) (now (words .entry)) (now (marks .entry)))) × (r ≤ 1024) ⌝ }
@@ -36,6 +37,7 @@ fn dirty_lines(s: Settings, longs: &[u64], words: &[u32], marks: &[u8]) -> usize
     count
 }
 
+// Whether the stored count of dirty lines is right.
 pub(crate) fn count_fine(
     s: Settings,
     at: Layout,

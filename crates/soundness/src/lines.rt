@@ -47,6 +47,7 @@ fn no_twin(s: Settings, longs: &[u64], words: &[u32], marks: &[u8], first: usize
     true
 }
 
+// The conditions on one line's tag and cycles.
 fn line_fine(s: Settings, at: Layout, longs: &[u64], words: &[u32], marks: &[u8], l: usize) -> bool
     requires { ⌜ Placed s at × Fit s (now longs) (now words) (now marks) × (l < linesOf s) ⌝ }
     ensures { λ r. ⌜ r ≡ is.lineFine s (now (longs .entry)) (now (words .entry)) (now (marks .entry)) l ⌝ }
@@ -68,6 +69,7 @@ fn line_fine(s: Settings, at: Layout, longs: &[u64], words: &[u32], marks: &[u8]
         & no_twin(s, longs, words, marks, set * s.ways, l)
 }
 
+// Those on every line.
 pub(crate) fn lines_fine(
     s: Settings,
     at: Layout,
@@ -226,6 +228,7 @@ fn sectors_backed(s: Settings, at: Layout, longs: &[u64], words: &[u32], marks: 
     backed_from(s, at, longs, words, marks, 16 * groups, n % 16)
 }
 
+// The conditions on all sectors: each by itself, then against the miss table.
 pub(crate) fn sectors_fine(
     s: Settings,
     at: Layout,

@@ -89,6 +89,7 @@ fn entry_fine(
     named & (reads_for(s, at, longs, words, marks, queued, SectorAddress(a)) == 1)
 }
 
+// The conditions on every miss entry.
 pub(crate) fn entries_fine(
     s: Settings,
     at: Layout,

@@ -10,6 +10,7 @@ use layout::Layout;
 use model::SectorAddress;
 use model::Settings;
 
+// The conditions on one queue place, by its kind.
 fn place_fine(s: Settings, at: Layout, longs: &[u64], words: &[u32], marks: &[u8], p: usize) -> bool
     requires { ⌜ Placed s at × Fit s (now longs) (now words) (now marks) × (p < s .queue) ⌝ }
     ensures { λ r. ⌜ r ≡ is.placeFine s (now (longs .entry)) (now (words .entry)) (now (marks .entry)) p ⌝ }
@@ -28,6 +29,7 @@ fn place_fine(s: Settings, at: Layout, longs: &[u64], words: &[u32], marks: &[u8
     }
 }
 
+// Those on every queue place.
 pub(crate) fn places_fine(
     s: Settings,
     at: Layout,

@@ -36,6 +36,7 @@ fn set_fine(
     words[at.trees + i] < most
 }
 
+// The condition on every set's tree.
 pub(crate) fn trees_fine(
     s: Settings,
     at: Layout,

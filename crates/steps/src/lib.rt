@@ -219,6 +219,7 @@ pub fn fill_step(
 
 // ---- tick
 
+// Sets the current cycle, if it is neither earlier nor above the limit.
 pub fn tick_step(s: Settings, longs: &[u64], words: &mut [u32], marks: &[u8], cycle: u32) -> Told
     requires { ⌜ SoundSlices s (lent (now longs) (now words) (now marks)) ⌝ }
     ensures { λ r. ⌜ Does s (tick cycle) (lent (now (longs .entry)) (now (words .entry)) (now (marks .entry))) r

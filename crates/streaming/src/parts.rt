@@ -36,6 +36,7 @@ struct Handed {
     done: bool,
 }
 
+// Writes events to standard output, and says it if that fails.
 fn write_out(events: &[u8]) -> bool {
     let done = io::write_all(STDOUT_FILENO, events);
     if !done {

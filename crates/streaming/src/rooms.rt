@@ -3,18 +3,21 @@
 ghost use mathlib.Core.Path.{_≡_};
 ghost use lib.ListN.{length};
 
+// Room for `longs` of any settings.
 pub fn longs_room() -> [u64; 1152]
     ensures { λ r. ⌜ 1152 ≡ length r ⌝ }
 {
     [0; 1152]
 }
 
+// Room for `words` of any settings.
 pub fn words_room() -> [u32; 7170]
     ensures { λ r. ⌜ 7170 ≡ length r ⌝ }
 {
     [0; 7170]
 }
 
+// Room for `marks` of any settings.
 pub fn marks_room() -> [u8; 8384]
     ensures { λ r. ⌜ 8384 ≡ length r ⌝ }
 {

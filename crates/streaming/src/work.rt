@@ -114,6 +114,7 @@ pub fn ended(w: Work, end: Ended) -> Work
     }
 }
 
+// The work ends: the input could not be read, or the output written.
 pub fn failed(w: Work) -> Work
     ensures { λ r. ⌜ r ≡ failedOf w ⌝ }
 {
@@ -203,6 +204,7 @@ pub fn has_stopped(w: Work) -> bool
     }
 }
 
+// Whether it ended so.
 pub fn has_failed(w: Work) -> bool
     ensures { λ r. ⌜ r ≡ failedNext (w .next) ⌝ }
 {

@@ -36,6 +36,7 @@ pub fn blank(first: Event) -> Told
     }
 }
 
+// What a refused call tells.
 pub fn refused(n: Refusal) -> Told
     ensures { λ r. ⌜ r ≡ telling (event.Refused n) ⌝ }
 {
@@ -56,6 +57,7 @@ fn close_longs(s: &mut [u64], at: usize, e: usize, n: usize)
     s[at + last] = 0;
 }
 
+// A column of bytes closes up over entry `e`.
 fn close_marks(s: &mut [u8], at: usize, e: usize, n: usize)
     requires { ⌜ (e < n) × (at + n ≤ length (now s)) ⌝ }
     ensures { λ _. ⌜ now (s .exit) ≡ closed (now (s .entry)) (at + e) (n - e) 1 ⌝ }
@@ -85,6 +87,7 @@ fn close_words(s: &mut [u32], at: usize, e: usize, n: usize, by: usize)
     zero_words(s, at + by * last, by);
 }
 
+// n numbers become 0.
 fn zero_words(s: &mut [u32], at: usize, n: usize)
     requires { ⌜ at + n ≤ length (now s) ⌝ }
     ensures { λ _. ⌜ now (s .exit) ≡ put (now (s .entry)) at (replicate n 0) ⌝ }

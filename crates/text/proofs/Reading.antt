@@ -11,8 +11,7 @@ use borrow.Author.Tests.{lt-ltb, le-ltb, ltb-true, ltb-false, leb-true, eq-eqb, 
 use lib.ListN.{length, drop, getD, drop-of-length-le, List·getD-eq-default}
 use lib.Seq.{drop-cons}
 use lib.Dec.{eqb, ltb, leb}
-use Rattle.words.specs.Words.{pick}
-use Rattle.model.specs.Range.{within}
+use Rattle.words.specs.Words.{pick, within}
 use Rattle.words.proofs.Flags.{and-1, and-2}
 use Rattle.text.specs.declared.Parsed.{Parsed}
 use Rattle.text.specs.declared.Parsed.the-variants.{Number, Nothing, TooLarge}

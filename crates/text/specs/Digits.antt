@@ -7,8 +7,7 @@ use mathlib.Core.List.{List, [], _∷_, _++_}
 use lib.ListN.{length, drop, getD, replicate}
 use lib.Seq.{sets}
 use lib.Dec.{eqb, leb, ltb}
-use Rattle.words.specs.Words.{pick}
-use Rattle.model.specs.Range.{within}
+use Rattle.words.specs.Words.{pick, within}
 use Rattle.text.specs.Words.{codes, run}
 use Rattle.text.specs.declared.Parsed.{Parsed}
 use Rattle.text.specs.declared.Parsed.the-variants.{Number, Nothing, TooLarge}

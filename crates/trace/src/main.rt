@@ -88,6 +88,7 @@ fn trace_stream(fd: i32, buf: &mut [u8], first: streaming::work::Work) -> Work
     )
 }
 
+// Traces the stream that is named or comes on standard input.
 fn main() {
     let fd = input::open_input();
     if fd < 0 {

@@ -15,14 +15,17 @@ struct Shown {
     put: usize,
 }
 
+// The end of a line.
 fn put_line_end(out: &mut [u8], at: usize) -> usize {
     text::put_text(b"\n", out, at)
 }
 
+// What stands under a command begins here.
 fn put_indent(out: &mut [u8], at: usize) -> usize {
     text::put_text(b"                ", out, at)
 }
 
+// A command's line, with its place.
 fn put_command(c: Command, place: u64, out: &mut [u8], at: usize) -> usize {
     let a = text::put_right(place, 12, out, at);
     let b = text::put_text(b"  ", out, a);
@@ -30,6 +33,7 @@ fn put_command(c: Command, place: u64, out: &mut [u8], at: usize) -> usize {
     put_line_end(out, d)
 }
 
+// An event's line, under its command.
 fn put_event(e: Event, out: &mut [u8], at: usize) -> usize {
     let a = put_indent(out, at);
     let b = events::put_event(e, out, a);
@@ -89,6 +93,7 @@ fn put_count(n: usize, one: &[u8], more: &[u8], out: &mut [u8], at: usize) -> us
     }
 }
 
+// Whether the read of a sector was sent.
 fn put_sent(sent: bool, out: &mut [u8], at: usize) -> usize {
     if sent {
         text::put_text(b", sent, ", out, at)
@@ -97,6 +102,7 @@ fn put_sent(sent: bool, out: &mut [u8], at: usize) -> usize {
     }
 }
 
+// The miss entry that an access waits for.
 fn put_entry(address: u64, sent: bool, readers: usize, out: &mut [u8], at: usize) -> usize {
     let a = text::put_text(b"waits for the sector at ", out, at);
     let b = text::put_hex(address, out, a);
@@ -104,6 +110,7 @@ fn put_entry(address: u64, sent: bool, readers: usize, out: &mut [u8], at: usize
     put_count(readers, b" reader", b" readers", out, c)
 }
 
+// How many dirty lines are missing, and of how many.
 fn put_lines(
     missing: usize,
     dirty: usize,
@@ -152,6 +159,7 @@ fn put_head(head: Event, out: &mut [u8], at: usize) -> usize {
     }
 }
 
+// That a send is waited for, and what goes next.
 fn put_queue(head: Event, free: usize, out: &mut [u8], at: usize) -> usize {
     let a = text::put_text(b"waits for a send: ", out, at);
     let b = put_count(

@@ -67,6 +67,7 @@ fn offered_at(s: &[u8], at: usize) -> Offer {
     offered(command)
 }
 
+// The refusal that an event tells, if any.
 fn refusal_of(e: Event) -> Verdict
     ensures { λ r. ⌜ r ≡ refusalOf e ⌝ }
 {

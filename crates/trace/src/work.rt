@@ -253,6 +253,7 @@ pub(crate) fn trace_rest(
     finished(out, w)
 }
 
+// The last line: stop, bytes consumed and written, and why.
 fn put_last(rest: &[u8], w: Work, out: &mut [u8]) -> usize {
     let stop = w.stop;
     let a = stops::put_number(b"stop ", values::stop_number(stop) as u64, out, 0);

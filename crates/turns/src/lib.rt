@@ -30,6 +30,7 @@ pub enum Sent {
     Nothing,
 }
 
+// Whether the event is a refusal.
 fn is_refusal(e: Event) -> bool
     ensures { λ r. ⌜ r ≡ isRefusal e ⌝ }
 {

@@ -47,6 +47,7 @@ pub fn status_of(n: u8) -> Status
     }
 }
 
+// A queued entry's kind as it is stored.
 pub fn queue_kind_number(k: QueueKind) -> u8
     ensures { λ r. ⌜ r ≡ queueKindNumber k ⌝ }
 {
@@ -113,6 +114,7 @@ pub fn sent_event(x: Queued) -> Event
     }
 }
 
+// An answer as its number.
 pub fn answer_number(a: Answer) -> u8
     ensures { λ r. ⌜ r ≡ answerNumber a ⌝ }
 {
@@ -124,6 +126,7 @@ pub fn answer_number(a: Answer) -> u8
     }
 }
 
+// A refusal as its number.
 pub fn refusal_number(n: Refusal) -> u8
     ensures { λ r. ⌜ r ≡ refusalNumber n ⌝ }
 {
@@ -143,6 +146,7 @@ pub fn refusal_number(n: Refusal) -> u8
     }
 }
 
+// A stop as its number.
 pub fn stop_number(s: Stop) -> u8
     ensures { λ r. ⌜ r ≡ stopNumber s ⌝ }
 {
@@ -158,6 +162,7 @@ pub fn stop_number(s: Stop) -> u8
     }
 }
 
+// The address of an access.
 pub fn address_of(x: Access) -> u64
     ensures { λ r. ⌜ r ≡ addressOf x ⌝ }
 {
@@ -175,6 +180,7 @@ pub fn address_of(x: Access) -> u64
     }
 }
 
+// The block that an address lies in.
 pub fn block_of(address: u64) -> BlockAddress
     ensures { λ r. ⌜ r .0 ≡ blockOf address ⌝ }
 {
@@ -189,6 +195,7 @@ pub fn set_index(address: u64, sets: usize) -> usize
     (address / 128 & (sets as u64 - 1)) as usize
 }
 
+// The sector that an address lies in.
 pub fn sector_of(address: u64) -> SectorAddress
     ensures { λ r. ⌜ r .0 ≡ sectorAddressOf address ⌝ }
 {
@@ -214,6 +221,7 @@ const ANSWERS: [[Answer; 3]; 4] = [
     [Answer::Hit, Answer::Hit, Answer::SectorMiss],
 ];
 
+// The column of the table of answers.
 fn column_of(x: Access, readable: bool) -> usize
     ensures { λ r. ⌜ r ≡ columnOf x readable ⌝ }
 {

@@ -123,6 +123,7 @@ fn wait_stream(fd: i32, buf: &mut [u8], w: Work)
     );
 }
 
+// Runs a stream up to its last record and shows the rounds for that.
 fn main() {
     let fd = input::open_input();
     if fd < 0 {

@@ -34,11 +34,13 @@ fn put_access(x: Access, out: &mut [u8], at: usize) -> usize {
     }
 }
 
+// A place in the stream, in brackets.
 fn put_place(place: u64, out: &mut [u8], at: usize) -> usize {
     let a = stops::put_number(b" (byte ", place, out, at);
     text::put_text(b")", out, a)
 }
 
+// How many rounds there are at the most.
 fn put_most(most: usize, out: &mut [u8], at: usize) -> usize {
     let a = stops::put_number(b": at most ", most as u64, out, at);
     if most == 1 {
@@ -48,6 +50,7 @@ fn put_most(most: usize, out: &mut [u8], at: usize) -> usize {
     }
 }
 
+// The first line: the access, its place, what is queued and missed, the most rounds.
 pub(crate) fn put_start(x: Access, place: u64, n: Counts, most: usize, out: &mut [u8]) -> usize {
     let a = text::put_text(b"waiting for ", out, 0);
     let b = put_access(x, out, a);
@@ -58,6 +61,7 @@ pub(crate) fn put_start(x: Access, place: u64, n: Counts, most: usize, out: &mut
     put_most(most, out, f)
 }
 
+// An event on a line of its own, under its round.
 fn put_event(e: Event, out: &mut [u8], at: usize) -> usize {
     let a = text::put_text(b"  ", out, at);
     let b = events::put_event(e, out, a);
@@ -100,6 +104,7 @@ pub(crate) fn put_round(round: usize, events: &[u8], told: Told, out: &mut [u8])
     put_event(refusal, out, c)
 }
 
+// The last line: what waiting came to.
 pub(crate) fn put_end(waiting: Waiting, most: usize, out: &mut [u8]) -> usize {
     match waiting {
         Waiting::Accepted { round, answer: _ } => {
@@ -116,6 +121,7 @@ pub(crate) fn put_end(waiting: Waiting, most: usize, out: &mut [u8]) -> usize {
     }
 }
 
+// Why an access that is not well formed is not waited for.
 pub(crate) fn put_malformed(x: Access, place: u64, out: &mut [u8]) -> usize {
     let a = events::put_event(Event::Refused(Refusal::BadAccess), out, 0);
     let b = text::put_text(b": ", out, a);
@@ -128,6 +134,7 @@ pub(crate) fn put_malformed(x: Access, place: u64, out: &mut [u8]) -> usize {
     )
 }
 
+// Why a stream that ends in another command has nothing to wait for.
 pub(crate) fn put_no_access(c: Command, place: u64, out: &mut [u8]) -> usize {
     let a = text::put_text(b"the stream ends in ", out, 0);
     let b = commands::put_command(c, out, a);
@@ -135,6 +142,7 @@ pub(crate) fn put_no_access(c: Command, place: u64, out: &mut [u8]) -> usize {
     text::put_text(b"; end it in the read or the write to wait for\n", out, d)
 }
 
+// Why a stream of settings alone has nothing to wait for.
 pub(crate) fn put_only_settings(out: &mut [u8]) -> usize {
     text::put_text(
         b"the stream ends behind its settings; end it in the read or the write to wait for\n",
@@ -143,6 +151,7 @@ pub(crate) fn put_only_settings(out: &mut [u8]) -> usize {
     )
 }
 
+// Why an empty stream has nothing to wait for.
 pub(crate) fn put_empty(out: &mut [u8]) -> usize {
     text::put_text(
         b"the stream is empty; start it with its settings, end it in the read or the write to wait for\n",
@@ -151,6 +160,7 @@ pub(crate) fn put_empty(out: &mut [u8]) -> usize {
     )
 }
 
+// Where and why the stream stopped before its last record.
 pub(crate) fn put_stopped(stop: Stop, rest: &[u8], place: u64, out: &mut [u8]) -> usize {
     let a = stops::put_number(b"stop ", values::stop_number(stop) as u64, out, 0);
     let b = stops::put_number(b" consumed ", place, out, a);

@@ -19,10 +19,12 @@ fn print(page: &[u8], n: usize) -> bool {
     done
 }
 
+// Writes a page to standard error.
 fn complain(page: &[u8], n: usize) {
     io::write_all(STDERR_FILENO, text::front(page, n));
 }
 
+// Says what is waited for; whether it could be written.
 pub(crate) fn start(x: Access, place: u64, n: Counts, most: usize) -> bool {
     let mut page = io::buffer();
     let end = page::put_start(x, place, n, most, &mut page);
@@ -39,6 +41,7 @@ pub(crate) fn round(shown: bool, round: usize, events: &[u8], told: Told) -> boo
     print(&page, end)
 }
 
+// Says what waiting came to, if the rounds could be shown.
 pub(crate) fn end(shown: bool, waiting: Waiting, most: usize) {
     if !shown {
         return;
@@ -48,24 +51,28 @@ pub(crate) fn end(shown: bool, waiting: Waiting, most: usize) {
     print(&page, end);
 }
 
+// Complains of an access that is not well formed.
 pub(crate) fn malformed(x: Access, place: u64) {
     let mut page = io::buffer();
     let end = page::put_malformed(x, place, &mut page);
     complain(&page, end);
 }
 
+// Complains of a stream that does not end in an access.
 pub(crate) fn no_access(c: Command, place: u64) {
     let mut page = io::buffer();
     let end = page::put_no_access(c, place, &mut page);
     complain(&page, end);
 }
 
+// Complains of a stream that ends behind its settings.
 pub(crate) fn only_settings() {
     let mut page = io::buffer();
     let end = page::put_only_settings(&mut page);
     complain(&page, end);
 }
 
+// Complains of a stream that stopped.
 pub(crate) fn stopped(stop: Stop, rest: &[u8], place: u64) {
     let mut page = io::buffer();
     let end = page::put_stopped(stop, rest, place, &mut page);

@@ -29,6 +29,7 @@ struct Ended {
     shown: bool,
 }
 
+// How many queue places and miss entries are in use.
 fn in_use(s: Settings, at: Layout, longs: &[u64], words: &[u32], marks: &[u8]) -> Counts
     requires { ⌜ Placed s at × SoundSlices s (lent (now longs) (now words) (now marks)) ⌝ }
     ensures { λ r. ⌜ Counted s (lent (now (longs .entry)) (now (words .entry)) (now (marks .entry))) r ⌝ }

@@ -8,7 +8,7 @@ use native.Mathlib.Numerals.{add-one}
 use lib.ListN.{length, drop, getD, drop-of-length-le}
 use lib.Seq.{drop-cons}
 use Rattle.words.proofs.Flags.{not-yes, no-not}
-use Rattle.model.specs.Range.{within}
+use Rattle.words.specs.Words.{within}
 use Rattle.model.specs.Records.{settingsIn, numberAt}
 use Rattle.text.specs.Words.{codes}
 use Rattle.wording.specs.Names.{nameOf}

@@ -4,8 +4,8 @@ use Prim.Native.String.{String}
 use mathlib.Core.Bool.{not, _&&_}
 use mathlib.Core.List.{List, [], _∷_}
 use lib.Dec.{eqb, leb}
-use Rattle.words.specs.Words.{pick}
-use Rattle.model.specs.Range.{within, powerTo256}
+use Rattle.words.specs.Words.{pick, within}
+use Rattle.model.specs.Range.{powerTo256}
 use Rattle.model.specs.Tree.{powerTo16}
 use Rattle.model.specs.Records.{settingsIn, bodyAt}
 use Rattle.model.specs.declared.Settings.{Settings}

@@ -1,7 +1,7 @@
 // Which setting is outside its range.
 ghost use mathlib.Core.Path.{_≡_};
 ghost use mathlib.Core.Bool.{not};
-ghost use Rattle.model.specs.Range.{within};
+ghost use Rattle.words.specs.Words.{within};
 ghost use Rattle.wording.specs.Pieces.{Puts};
 ghost use Rattle.wording.specs.Settings.{lastWords, rangedWords, firstWords, badWords};
 use crate::rows;

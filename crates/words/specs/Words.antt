@@ -4,7 +4,7 @@ use Prim.Native.Nat.{ℕ, zero, suc, _+_, _-_}
 use mathlib.Core.Bool.{Bool, true, false, not, _&&_, _||_}
 use mathlib.Core.List.{List, [], _∷_, _++_}
 use lib.ListN.{length, replicate}
-use lib.Dec.{eqb}
+use lib.Dec.{eqb, leb}
 
 module _ {ℓ} {A : Type ℓ} where
   -- x if the test holds, else y
@@ -36,6 +36,11 @@ module _ {A : Type 0} where
   unfoldable pub table : ℕ → (ℕ → A) → List A
   table zero f = []
   table (suc n) f = f 0 ∷ table n (λ i. f (suc i))
+
+-- ---- of numbers
+
+abbrev pub within : ℕ → ℕ → ℕ → Bool
+within low high n = leb low n && leb n high
 
 -- ---- of the numbers below n
 
