@@ -25,7 +25,8 @@ use Rattle.model.specs.declared.Access.the-variants.{Read, Write}
 use Rattle.model.specs.declared.Answer.{Answer}
 use Rattle.model.specs.Sound.{queuedOk}
 use Rattle.words.proofs.Flags.{and-2, flag, by-flag}
-use Rattle.model.proofs.SoundFacts.{Sound, parts, lines-are, readers-some, queued-parts}
+use Rattle.model.proofs.Fits.{ranged}
+use Rattle.model.proofs.SoundFacts.{Sound, parts, lines-are, queued-parts}
 use Rattle.words.proofs.Lists.{In, all-in, in-append, count-index}
 use Rattle.model.proofs.AccessKeepsSound.{Spotted}
 use Rattle.model.proofs.ProbeFindsSpot.{probe-spotted}
@@ -226,7 +227,7 @@ module _ (S : Settings) {longs words marks : List ℕ} (x : Access) (d : Decisio
       let w = subst (Means S x p t) (sym e) (course-means S x p t) in
       let few : length (t .misses) ≤ S .misses = leb-true (length (t .misses)) (S .misses) (ok .few) in
       rw (q, misses-start x (p .answer) (t .misses) (w .0 .merges) (w .0 .misses refl))
-      (new-entry-stands S (withTrees ts (withDirtyCount k (withLines ls t))) h pl few (addressOf x) (ticketOf x) i (w .1) (w .2) (readers-some S (m .is .range)) (refl, refl, refl))
+      (new-entry-stands S (withTrees ts (withDirtyCount k (withLines ls t))) h pl few (addressOf x) (ticketOf x) i (w .1) (w .2) (ranged S (m .is .range) .reader) (refl, refl, refl))
 
   -- ---- the queue
 

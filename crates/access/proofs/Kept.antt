@@ -21,10 +21,9 @@ use Rattle.model.specs.declared.Access.the-variants.{Read, Write}
 use Rattle.model.specs.declared.Answer.{Answer}
 use Rattle.model.specs.declared.Sector.{Sector}
 use Rattle.words.proofs.Flags.{not-yes, and-2}
-use Rattle.words.proofs.Places.{field-put}
+use Rattle.words.proofs.Places.{field-put, places-same}
 use Rattle.layout.specs.declared.Layout.{Layout}
 use Rattle.layout.specs.Layout.{Placed}
-use Rattle.layout.proofs.Grown.{places-same}
 use Rattle.layout.proofs.ByBlocks.{ByBlocks, is-stands, stands-encode}
 use Rattle.probe.specs.declared.Decision.{Decision}
 use Rattle.access.specs.Plan.{Met}

@@ -1,7 +1,7 @@
 -- The course of an access: the entry that a merged read joins, and that the course tells what `proceed` comes to.
 use mathlib.Core.Path.{_≡_, refl, sym, ap, _∙_}
 use mathlib.Core.Logic.{_⊎_, inl, inr, _≢_}
-use mathlib.Core.Bool.{Bool, true, false, not, _&&_, _||_, true≢false, false≢true}
+use mathlib.Core.Bool.{Bool, true, false, not, _&&_, _||_, true≢false, false≢true, or-false}
 use mathlib.Core.List.{List, [], _∷_, _++_, map}
 use Prim.Native.Nat.{ℕ, zero, suc, _+_, _*_, _≤_, _<_}
 use native.Mathlib.Nat.{not-suc-le-zero, le-of-suc-le-suc}
@@ -21,7 +21,7 @@ use Rattle.model.specs.declared.Access.{Access}
 use Rattle.model.specs.declared.Answer.{Answer}
 use Rattle.model.specs.declared.Answer.the-variants.{Hit, HitReserved, Miss, SectorMiss}
 use Rattle.model.specs.declared.Refusal.the-variants.{QueueFull, EntryFull, MissTableFull}
-use Rattle.words.proofs.Flags.{and-1, or-false}
+use Rattle.words.proofs.Flags.{and-1}
 use Rattle.words.proofs.Lists.{any-in, in-getD, count-in, count-index}
 use Rattle.model.proofs.SoundFacts.{Sound, parts, entry-at, address-is, sector-aligned, sector-below}
 use Rattle.model.proofs.AccessKeepsSound.{Spotted, formed-good}
