@@ -42,6 +42,7 @@ pub(crate) fn ticket_of(x: Access) -> u32
     }
 }
 
+// The mask of an access.
 pub(crate) fn mask_of(x: Access) -> u32
     ensures { λ r. ⌜ r ≡ maskOf x ⌝ }
 {

@@ -316,6 +316,7 @@ fn tell(d: Decision, queued: [Queued; 2], queues: usize) -> Told
     }
 }
 
+// What an accepted read tells.
 fn tell_read(x: Access, d: Decision) -> Told
     requires { ⌜ Alone x d × (d .line < 1024) ⌝ }
     ensures { λ r. ⌜ r ≡ tellingOf x d ⌝ }
@@ -330,6 +331,7 @@ fn tell_read(x: Access, d: Decision) -> Told
     tell(d, [read_entry(x), values::idle()], 1)
 }
 
+// What an accepted write tells.
 fn tell_write(x: Access, d: Decision) -> Told
     requires { ⌜ (isRead x ≡ false) × (d .line < 1024) ⌝ }
     ensures { λ r. ⌜ r ≡ tellingOf x d ⌝ }

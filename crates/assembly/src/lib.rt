@@ -45,6 +45,7 @@ enum Field {
     Missing,
 }
 
+// A number that is a whole word and not above the most.
 fn whole_number(line: &[u8], value: u64, next: usize, most: u64) -> Field
     ensures { λ r. ⌜ r ≡ wholeNumber most (now (line .entry)) (Parsed.Number value next) ⌝ }
 {
@@ -95,6 +96,7 @@ fn rule_value(line: &[u8], at: usize) -> Field
     }
 }
 
+// The rule behind the word `rule`, if that comes next.
 fn rule_next(line: &[u8], at: usize) -> Field
     ensures { λ r. ⌜ r ≡ ruleNext (now (line .entry)) at ⌝ }
 {
@@ -125,6 +127,7 @@ fn ended(line: &[u8], at: usize, c: Command) -> Line
     }
 }
 
+// Settings that say their rule.
 fn ruled(g: Given, n: u8) -> Given
     ensures { λ r. ⌜ r ≡ ruled g n ⌝ }
 {
@@ -193,6 +196,7 @@ fn buffers_line(line: &[u8], at: usize, sets: u16, ways: u8, dirty: u8) -> Line
     rule_line(line, c, settings)
 }
 
+// A line of settings.
 fn settings_line(line: &[u8], at: usize) -> Line
     ensures { λ r. ⌜ r ≡ settingsFrom (now (line .entry)) at ⌝ }
 {
@@ -220,6 +224,7 @@ fn settings_line(line: &[u8], at: usize) -> Line
     buffers_line(line, c, sets as u16, ways as u8, dirty as u8)
 }
 
+// A line of a read.
 fn read_line(line: &[u8], at: usize) -> Line
     ensures { λ r. ⌜ r ≡ readFrom (now (line .entry)) at ⌝ }
 {
@@ -247,6 +252,7 @@ fn read_line(line: &[u8], at: usize) -> Line
     )
 }
 
+// A line of a write.
 fn write_line(line: &[u8], at: usize) -> Line
     ensures { λ r. ⌜ r ≡ writeFrom (now (line .entry)) at ⌝ }
 {
@@ -274,6 +280,7 @@ fn write_line(line: &[u8], at: usize) -> Line
     )
 }
 
+// A line of a fill.
 fn fill_line(line: &[u8], at: usize) -> Line
     ensures { λ r. ⌜ r ≡ fillFrom (now (line .entry)) at ⌝ }
 {
@@ -287,6 +294,7 @@ fn fill_line(line: &[u8], at: usize) -> Line
     ended(line, a, Command::Fill(address))
 }
 
+// A line of a tick.
 fn tick_line(line: &[u8], at: usize) -> Line
     ensures { λ r. ⌜ r ≡ tickFrom (now (line .entry)) at ⌝ }
 {
@@ -330,6 +338,7 @@ pub fn parse_line(line: &[u8]) -> Line
     Line::Bad(Expected::Command)
 }
 
+// Puts a command's record into the stream, if there is room.
 fn put_command(c: Command, out: &mut [u8], at: usize) -> Assembled
     ensures { λ r. ⌜ Assembles (Line.Command c) (now (out .entry)) at r (now (out .exit)) ⌝ }
 {

@@ -16,6 +16,7 @@ pub enum Parsed {
     TooLarge,
 }
 
+// Whether a byte parts words.
 fn is_space(c: u8) -> bool
     ensures { λ r. ⌜ r ≡ isSpace c ⌝ }
 {
@@ -97,6 +98,7 @@ fn glyph(d: u64) -> u8
     if d < 10 { 48 + d as u8 } else { 87 + d as u8 }
 }
 
+// How many digits a number has in a base.
 fn count_digits(n: u64, base: u64) -> usize
     requires { ⌜ 1 < base ⌝ }
     ensures { λ r. ⌜ r ≡ digitCount base n ⌝ }
@@ -215,6 +217,7 @@ pub fn put_hex(n: u64, out: &mut [u8], at: usize) -> usize
     start + k
 }
 
+// Puts text at a place, if there is room for all of it.
 pub fn put_text(s: &[u8], out: &mut [u8], at: usize) -> usize
     ensures { λ r. ⌜ Put (now (out .entry)) at (now (s .entry)) r (now (out .exit)) ⌝ }
 {
@@ -264,6 +267,7 @@ enum Grown {
     TooLarge,
 }
 
+// A number with one digit more, or that it grows too large.
 fn with_digit(value: u64, base: u64, d: u64) -> Grown
     requires { ⌜ (0 < base) × (d < base) × (base ≤ 16) ⌝ }
     ensures { λ r. ⌜ r ≡ grownOf value base d ⌝ }
@@ -275,6 +279,7 @@ fn with_digit(value: u64, base: u64, d: u64) -> Grown
     }
 }
 
+// The number that was read, if there was a digit.
 fn number_of(at: usize, end: usize, value: u64) -> Parsed
     requires { ⌜ at ≤ end ⌝ }
     ensures { λ r. ⌜ r ≡ numberOf at (end - at) value ⌝ }
@@ -306,6 +311,7 @@ fn number_from(s: &[u8], at: usize, base: u64) -> Parsed
     number_of(at, i, value)
 }
 
+// Whether a number in base 16 begins here.
 fn is_hex(s: &[u8], at: usize) -> bool
     ensures { λ r. ⌜ r ≡ hexAt (now (s .entry)) at ⌝ }
 {

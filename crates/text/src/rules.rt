@@ -55,6 +55,7 @@ pub fn rule_at(line: &[u8], at: usize) -> Named
     Named::Nothing
 }
 
+// Whether the rule has a name.
 pub fn has_name(n: u64) -> bool
     ensures { λ r. ⌜ r ≡ ltb n (length ruleNames) ⌝ }
 {
