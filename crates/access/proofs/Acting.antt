@@ -44,7 +44,8 @@ use Rattle.tables.proofs.Misses.{withTicket, unsent, append-stands, new-entry-s
 use Rattle.tables.proofs.Queue.{push-stands}
 use Rattle.words.proofs.Counting.{map-one}
 use Rattle.probe.specs.declared.Decision.{Decision}
-use Rattle.probe.proofs.OfTables.{lines-held, way-line}
+use Rattle.model.proofs.Ways.{way-line}
+use Rattle.probe.proofs.OfTables.{lines-held}
 use Rattle.access.specs.Plan.{Met, entryIndex, courseOf, goes, ticketOf}
 use Rattle.access.specs.Written.{sectorsFor, sectorsAfter, missesWritten, entryWritten, queueWritten, lineLeft, lineTaken, setTurned}
 use Rattle.access.specs.declared.course.Course.{Course}
@@ -54,8 +55,8 @@ use Rattle.access.proofs.Courses.{shows, answer-is}
 use Rattle.access.proofs.Lines.{stands, found-is}
 use Rattle.access.proofs.Inverted.{Means, course-means}
 use Rattle.probe.specs.Scan.{dirtyAt}
-use Rattle.access.proofs.Recounts.{count-at, was-dirty}
-use Rattle.layout.proofs.DirtyCount.{dirty-count-stands}
+use Rattle.access.proofs.Recounts.{was-dirty}
+use Rattle.layout.proofs.DirtyCount.{dirty-count-stands, dirty-count-at}
 use Rattle.layout.specs.Sectors.{someModified}
 
 -- ---- what becomes of the miss table and the queue, by the flags
@@ -110,7 +111,7 @@ module _ (S : Settings) {longs words marks : List ℕ} (x : Access) (d : Decisio
   newCount = recounted (getD (t .lines) (d .line) fresh) newLine (t .dirtyCount)
 
   count-is : getD words (place .dirty) 0 + one (someModified (newLine .sectors)) - one (dirtyAt marks (d .line)) ≡ newCount
-  count-is = rw (count-at S t (m .is) pl, was-dirty S t (m .is) pl (d .line) (m .below))
+  count-is = rw (dirty-count-at S t (is-stands (m .is)) pl, was-dirty S t (m .is) pl (d .line) (m .below))
 
   pub line-left : {L₁ : Lent} → L₁ ≡ lineLeft place (lent longs words marks) (d .line) (blockOf (addressOf x)) (sectorsAfter x d (sectorsFor (d .meeting) (sectorsAt S words marks (d .line))))
       → ByBlocks S (L₁ .longs) (L₁ .words) (L₁ .marks) (withDirtyCount newCount (withLines (set (t .lines) (d .line) leftLine) t))

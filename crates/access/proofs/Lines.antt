@@ -30,7 +30,8 @@ use Rattle.encoding.proofs.Bridge.{is-tables}
 use Rattle.words.proofs.Tabled.{getD-table}
 use Rattle.model.proofs.Victims.{probe-meets, line-stays}
 use Rattle.probe.specs.declared.Decision.{Decision}
-use Rattle.probe.proofs.OfTables.{lines-held, way-line}
+use Rattle.model.proofs.Ways.{way-line}
+use Rattle.probe.proofs.OfTables.{lines-held}
 use Rattle.access.specs.Plan.{Met}
 use Rattle.access.specs.Written.{sectorsFor}
 use Rattle.access.proofs.Courses.{shows, answer-is}

@@ -23,7 +23,7 @@ use Rattle.model.specs.declared.Answer.the-variants.{Hit, HitReserved, Miss, Se
 use Rattle.model.specs.declared.Refusal.the-variants.{QueueFull, EntryFull, MissTableFull}
 use Rattle.words.proofs.Flags.{and-1}
 use Rattle.words.proofs.Lists.{any-in, in-getD, count-in, count-index}
-use Rattle.model.proofs.SoundFacts.{Sound, parts, entry-at, address-is, sector-aligned, sector-below}
+use Rattle.model.proofs.SoundFacts.{Sound, parts, entry-at, some-tickets, address-is, sector-aligned, sector-below}
 use Rattle.model.proofs.AccessKeepsSound.{Spotted, formed-good}
 use Rattle.model.proofs.ProbeFindsSpot.{probe-spotted}
 use Rattle.model.specs.Lent.{lent}
@@ -148,13 +148,8 @@ module _ (S : Settings) {longs words marks : List ℕ} (t : Tables) (is : Encode
   pub queue-counted : {n : ℕ} → First marks (place .kinds) (S .queue) 0 n → n ≡ length (t .queue)
   queue-counted f = queue-used S t (is-stands is) p (leb-true (length (t .queue)) (S .queue) (ok .short)) f
 
-  some-tickets : (k : ℕ) → k < length (t .misses) → 1 ≤ length (getD (t .misses) k noEntry .tickets)
-  some-tickets k h =
-      leb-true 1 (length (getD (t .misses) k noEntry .tickets))
-      (and-1 (leb 1 (length (getD (t .misses) k noEntry .tickets))) _ (entry-at S t ok (getD (t .misses) k noEntry) (in-getD (t .misses) k noEntry h) .readers))
-
   pub misses-counted : {m : ℕ} → First marks (place .counts) (S .misses) 0 m → m ≡ length (t .misses)
-  misses-counted f = misses-used S t (is-stands is) p few some-tickets f
+  misses-counted f = misses-used S t (is-stands is) p few (some-tickets S t ok) f
 
   -- the search finds the one entry for the address
   pub record Found (a m e : ℕ) : Type 0 where

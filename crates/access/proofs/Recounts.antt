@@ -6,38 +6,24 @@ use mathlib.Core.List.{List}
 use Prim.Native.Nat.{ℕ, _+_, _-_, _≤_, _<_}
 use native.Mathlib.Omega.{arith}
 use lib.ListN.{length, getD}
-use borrow.Author.Tests.{eqb-true}
-use Rattle.words.specs.Words.{count, one}
+use Rattle.words.specs.Words.{one}
 use Rattle.model.specs.Range.{linesOf}
-use Rattle.model.specs.Tables.{Line, Tables, dirty, dirtyLines, fresh}
+use Rattle.model.specs.Tables.{Line, Tables, dirty, fresh}
 use Rattle.model.specs.Lent.{lent, lineAt}
 use Rattle.model.specs.Inner.{Encodes}
 use Rattle.model.specs.declared.Settings.{Settings}
 use Rattle.words.proofs.Tabled.{getD-table}
-use Rattle.encoding.proofs.Bridge.{is-fit, is-tables}
+use Rattle.encoding.proofs.Bridge.{is-tables}
 use Rattle.model.proofs.SoundFacts.{parts, lines-are}
 use Rattle.layout.specs.declared.Layout.{Layout}
 use Rattle.layout.specs.Layout.{Placed}
-use Rattle.layout.proofs.ByBlocks.{is-stands}
-use Rattle.layout.proofs.DirtyCount.{dirty-count-at}
+use Rattle.layout.proofs.DirtyCount.{dirty-counted}
 use Rattle.probe.specs.Scan.{dirtyAt}
 use Rattle.probe.proofs.Statuses.{dirty-bytes}
 use Rattle.probe.proofs.OfTables.{lines-held}
-use Rattle.words.proofs.Counting.{count-length, one-counted}
+use Rattle.words.proofs.Counting.{one-counted}
 
 module _ (S : Settings) {longs words marks : List ℕ} (t : Tables) (is : Encodes S (lent longs words marks) t) {at : Layout} (pl : Placed S at) where
-  pub count-at : getD words (at .dirty) 0 ≡ t .dirtyCount
-  count-at = dirty-count-at S t (is-stands is) pl
-
-  count-is : getD words (at .dirty) 0 ≡ count dirty (t .lines)
-  count-is = count-at ∙ eqb-true (t .dirtyCount) (dirtyLines t) (parts S t (is .soundly) .counted)
-
-  pub count-few : getD words (at .dirty) 0 ≤ 1024
-  count-few =
-      let f = is-fit S (lent longs words marks) t is in
-      let n = lines-are S t (parts S t (is .soundly)) in
-      omega (arith, count-is, count-length dirty (t .lines))
-
   module _ (l : ℕ) (below : l < linesOf S) where
     pub was-dirty : dirtyAt marks l ≡ dirty (getD (t .lines) l fresh)
     was-dirty =
@@ -48,4 +34,4 @@ module _ (S : Settings) {longs words marks : List ℕ} (t : Tables) (is : Encode
     pub was-counted : one (dirtyAt marks l) ≤ getD words (at .dirty) 0
     was-counted =
         let inside : l < length (t .lines) = omega (arith, lines-are S t (parts S t (is .soundly))) in
-        rw was-dirty (omega (arith, count-is, one-counted dirty (t .lines) l fresh inside))
+        rw was-dirty (omega (arith, dirty-counted S t is pl, one-counted dirty (t .lines) l fresh inside))

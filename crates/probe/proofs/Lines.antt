@@ -20,12 +20,13 @@ use Rattle.model.specs.declared.Status.the-variants.{Invalid, Reserved, Valid, 
 use Rattle.model.specs.declared.Sector.{Sector}
 use Rattle.model.specs.declared.Found.{Found}
 use Rattle.words.proofs.Flags.{flag}
-use Rattle.words.proofs.Tabled.{length-table, getD-table}
+use Rattle.words.proofs.Below.{some-same}
+use Rattle.words.proofs.Tabled.{length-table, getD-table, part-table, any-table}
 use Rattle.model.proofs.Ways.{flag-is}
 use Rattle.model.proofs.Trees.{choice-same, levels-are}
 use Rattle.probe.specs.Scan.{waitingAt, candidateAt, foundIn, lastUnusedIn, earliestIn, agesFrom, victimIn, treeIn}
 use Rattle.probe.proofs.Statuses.{unused-bytes, waiting-bytes, holds-bytes, candidate-bytes}
-use Rattle.probe.proofs.Ways.{part-table, any-table, first-table, last-table, earliest-table, some-ext, first-ext, last-ext, least-ext}
+use Rattle.probe.proofs.Ways.{first-table, last-table, earliest-table, first-ext, last-ext, least-ext}
 
 -- ---- a wholly invalid line is a candidate
 
@@ -83,8 +84,8 @@ module _ (S : Settings) (longs words marks : List ℕ) where
     pub waiting-is : any hasReserved (take m (drop b (linesIn S longs words marks))) ≡ some m (λ w. waitingAt marks (b + w))
     waiting-is =
         ap (any hasReserved) ways-are
-        ∙ any-table hasReserved line m
-        ∙ some-ext _ _ m (λ w. waiting-bytes S longs words marks (b + w))
+        ∙ any-table hasReserved m line
+        ∙ some-same _ _ m (λ w h. waiting-bytes S longs words marks (b + w))
 
     -- under every rule, of what the rule chooses among the candidates
     victim-by : (R : Rule) (d : ℕ) {v : Found} → choiceBy R (candidate (enoughDirty S d)) (table m line) ≡ v

@@ -23,6 +23,7 @@ use Rattle.model.specs.declared.Refusal.the-variants.{SetBusy, SetHeld}
 use Rattle.model.specs.declared.Found.{Found}
 use Rattle.model.specs.declared.Found.the-variants.{At, Nothing}
 use Rattle.encoding.proofs.Rows.{set-room}
+use Rattle.model.proofs.SoundFacts.{sector-below}
 use Rattle.probe.specs.declared.Meeting.the-variants.{Busy, Held}
 use Rattle.probe.specs.declared.Decision.{Decision}
 use Rattle.probe.specs.Decided.{Decided, backsOf, placeIs, linesHeld, ruleHeld}
@@ -35,9 +36,6 @@ use Rattle.probe.proofs.Lines.{sector-of-four, way-is, found-is, waitin
 -- the share of the lines, in a word
 pub share-fits : {p n : ℕ} → p ≤ 100 → n ≤ 1024 → p * n ≤ 102400
 share-fits h k = mul-le-mul h k
-
-sector-below : (a : ℕ) → sectorIndex a < 4
-sector-below a = omega arith
 
 -- ---- the access's own set, whose lines begin at `base`
 

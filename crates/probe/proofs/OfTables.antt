@@ -41,8 +41,3 @@ module _ (S : Settings) (L : Lent) {t : Tables} (e : tablesOf S L ≡ t) where
       (sym lines-held) (d .place)
       ∙ ap (λ (k : ℕ). probe (ruleHeld S (L .words) (addressOf x)) S k (waysOf S (t .lines) (addressOf x)) x) (sym dirty-held)
       ∙ ap (λ (R : Rule). probe R S (t .dirtyCount) (waysOf S (t .lines) (addressOf x)) x) (rule-held (addressOf x) inside)
-
--- a way of a set, among all lines
-pub way-line : (S : Settings) (ls : List Line) (a w : ℕ) → w < S .ways → getD (waysOf S ls a) w fresh ≡ getD ls (lineNumber S a w) fresh
-way-line S ls a w h =
-    getD-take (S .ways) (drop (setIndex S a * S .ways) ls) w fresh h ∙ getD-drop (setIndex S a * S .ways) ls w fresh

@@ -6,6 +6,7 @@ use mathlib.Core.List.{List}
 use native.Mathlib.Omega.{arith}
 use lib.Dec.{eqb, ltb}
 use borrow.Author.Tests.{eqb-true, ne-eqb, lt-ltb}
+use Rattle.words.proofs.Flags.{and-four, or-four}
 use Rattle.words.specs.Words.{pick}
 use Rattle.model.specs.Numbers.{statusOf}
 use Rattle.model.specs.Tables.{isInvalid, isReserved, isModified, whollyInvalid, hasReserved, dirty, holds}
@@ -45,25 +46,11 @@ modified-byte (suc (suc (suc k))) =
 
 -- ---- four
 
-and-four : {a b c d e f g h : Bool} → a ≡ e → b ≡ f → c ≡ g → d ≡ h → (a && (b && (c && (d && true)))) ≡ (e && f && g && h)
-and-four {e} {f} {g} {h} i j k l = rw (i, j, k, l) (go e f g h)
-  where
-    go : (a b c d : Bool) → (a && (b && (c && (d && true)))) ≡ (a && b && c && d)
-    go false b c d = refl
-    go true false c d = refl
-    go true true false d = refl
-    go true true true false = refl
-    go true true true true = refl
+all-four : {a b c d e f g h : Bool} → a ≡ e → b ≡ f → c ≡ g → d ≡ h → (a && (b && (c && (d && true)))) ≡ (e && f && g && h)
+all-four {e} {f} {g} {h} i j k l = rw (i, j, k, l) (and-four e f g h)
 
-or-four : {a b c d e f g h : Bool} → a ≡ e → b ≡ f → c ≡ g → d ≡ h → (a || (b || (c || (d || false)))) ≡ (e || f || g || h)
-or-four {e} {f} {g} {h} i j k l = rw (i, j, k, l) (go e f g h)
-  where
-    go : (a b c d : Bool) → (a || (b || (c || (d || false)))) ≡ (a || b || c || d)
-    go true b c d = refl
-    go false true c d = refl
-    go false false true d = refl
-    go false false false true = refl
-    go false false false false = refl
+any-four : {a b c d e f g h : Bool} → a ≡ e → b ≡ f → c ≡ g → d ≡ h → (a || (b || (c || (d || false)))) ≡ (e || f || g || h)
+any-four {e} {f} {g} {h} i j k l = rw (i, j, k, l) (or-four e f g h)
 
 and-swap : (a b : Bool) → (a && b) ≡ (b && a)
 and-swap true true = refl
@@ -75,13 +62,13 @@ and-swap false false = refl
 
 module _ (S : Settings) (longs words marks : List ℕ) (l : ℕ) where
   pub unused-bytes : whollyInvalid (lineAt S longs words marks l) ≡ unusedAt marks l
-  unused-bytes = and-four (invalid-byte (statusAt marks (4 * l))) (invalid-byte (statusAt marks (4 * l + 1))) (invalid-byte (statusAt marks (4 * l + 2))) (invalid-byte (statusAt marks (4 * l + 3)))
+  unused-bytes = all-four (invalid-byte (statusAt marks (4 * l))) (invalid-byte (statusAt marks (4 * l + 1))) (invalid-byte (statusAt marks (4 * l + 2))) (invalid-byte (statusAt marks (4 * l + 3)))
 
   pub waiting-bytes : hasReserved (lineAt S longs words marks l) ≡ waitingAt marks l
-  waiting-bytes = or-four (reserved-byte (statusAt marks (4 * l))) (reserved-byte (statusAt marks (4 * l + 1))) (reserved-byte (statusAt marks (4 * l + 2))) (reserved-byte (statusAt marks (4 * l + 3)))
+  waiting-bytes = any-four (reserved-byte (statusAt marks (4 * l))) (reserved-byte (statusAt marks (4 * l + 1))) (reserved-byte (statusAt marks (4 * l + 2))) (reserved-byte (statusAt marks (4 * l + 3)))
 
   pub dirty-bytes : dirty (lineAt S longs words marks l) ≡ dirtyAt marks l
-  dirty-bytes = or-four (modified-byte (statusAt marks (4 * l))) (modified-byte (statusAt marks (4 * l + 1))) (modified-byte (statusAt marks (4 * l + 2))) (modified-byte (statusAt marks (4 * l + 3)))
+  dirty-bytes = any-four (modified-byte (statusAt marks (4 * l))) (modified-byte (statusAt marks (4 * l + 1))) (modified-byte (statusAt marks (4 * l + 2))) (modified-byte (statusAt marks (4 * l + 3)))
 
   pub holds-bytes : (b : ℕ) → holds b (lineAt S longs words marks l) ≡ holdsAt longs marks b l
   holds-bytes b = and-swap (not (whollyInvalid (lineAt S longs words marks l))) (eqb (tagAt longs l) b) ∙ ap (λ (u : Bool). eqb (tagAt longs l) b && not u) unused-bytes

@@ -1,14 +1,13 @@
 -- The searches of Probe over lines that stand in a table are searches over the numbers of the lines.
 use Prim.Native.Nat.{ℕ, zero, suc, _+_, _^_, _≤_, _<_}
 use mathlib.Core.Path.{_≡_, refl, sym, ap, subst, _∙_}
-use mathlib.Core.Bool.{Bool, true, false, _||_}
+use mathlib.Core.Bool.{Bool, true, false}
 use mathlib.Core.List.{List, [], _∷_, _++_}
 use native.Mathlib.Nat.{add-zero, zero-add}
 use native.Mathlib.Omega.{arith}
-use lib.ListN.{length, getD, take, drop, length-take, length-drop}
-use lib.Seq.{ext-getD, getD-take, getD-drop}
+use lib.ListN.{length, getD}
 use lib.Dec.{leb}
-use Rattle.words.specs.Words.{pick, any, table, some}
+use Rattle.words.specs.Words.{pick, table}
 use Rattle.model.specs.Tables.{Line, fresh}
 use Rattle.model.specs.Probe.{next, orElse, first, last, older, earliest}
 use Rattle.model.specs.Range.{isTree}
@@ -19,44 +18,11 @@ use Rattle.model.specs.declared.Found.{Found}
 use Rattle.model.specs.declared.Found.the-variants.{At, Nothing}
 use Rattle.words.proofs.Flags.{by-flag}
 use Rattle.model.proofs.Trees.{Chooses, choice-chooses, levels-are}
-use Rattle.words.proofs.Lists.{any-append}
-use Rattle.words.proofs.Tabled.{length-table, getD-table}
+use Rattle.words.proofs.Tabled.{length-table, getD-table, table-snoc}
 use Rattle.model.proofs.Ways.{Finds, earliest-finds}
 use Rattle.probe.specs.Scan.{firstBelow, lastBelow, sooner, leastFrom, candidateAt, lastUnusedIn, treeIn, victimIn}
 
--- ---- a table, place by place
-
-module _ {A : Type 0} where
-  -- one more at the end
-  table-snoc : (n : ℕ) (f : ℕ → A) → table (suc n) f ≡ table n f ++ (f n ∷ [])
-  unfolding table
-  table-snoc zero f = refl
-  table-snoc (suc n) f = ap (λ (l : List A). f 0 ∷ l) (table-snoc n (λ i. f (suc i)))
-
-  -- m places from place b
-  pub part-table : (n : ℕ) (f : ℕ → A) (b m : ℕ) (d : A) → b + m ≤ n → take m (drop b (table n f)) ≡ table m (λ w. f (b + w))
-  part-table n f b m d h =
-      let e : length (take m (drop b (table n f))) ≡ m = simp (length-take, length-drop, length-table) (omega arith) in
-      ext-getD d _ _ (e ∙ sym (length-table m (λ w. f (b + w))))
-      (λ i k. let k2 : i < m = omega arith in
-      getD-take m (drop b (table n f)) i d k2 ∙ getD-drop b (table n f) i d ∙ getD-table n f (b + i) d (omega arith) ∙ sym (getD-table m (λ w. f (b + w)) i d k2))
-
-  module _ (p : A → Bool) (f : ℕ → A) where
-    pub any-table : (n : ℕ) → any p (table n f) ≡ some n (λ i. p (f i))
-    unfolding table
-    any-table zero = refl
-    any-table (suc n) =
-        ap (any p) (table-snoc n f) ∙ any-append p (table n f) (f n ∷ []) ∙ ap (λ (b : Bool). b || any p (f n ∷ [])) (any-table n) ∙ ap (λ (b : Bool). some n (λ i. p (f i)) || b) (go (p (f n)))
-      where
-        go : (b : Bool) → (b || false) ≡ b
-        go true = refl
-        go false = refl
-
 -- ---- tests that agree
-
-pub some-ext : (p q : ℕ → Bool) (n : ℕ) → ((i : ℕ) → p i ≡ q i) → some n p ≡ some n q
-some-ext p q zero h = refl
-some-ext p q (suc n) h = rw (some-ext p q n h, h n)
 
 pub first-ext : (p q : ℕ → Bool) (n : ℕ) → ((i : ℕ) → p i ≡ q i) → firstBelow n p ≡ firstBelow n q
 unfolding firstBelow

@@ -18,7 +18,7 @@ use Rattle.model.specs.Lent.{Lent, lent}
 use Rattle.model.specs.Sound.{allOnes}
 use Rattle.model.specs.Probe.{Spot, at, waysOf, ruleOf, metIn}
 use Rattle.model.specs.Meetings.{Matched, Replaced}
-use Rattle.model.specs.Steps.{takesLine, onMisses, fetches, queues, queuedEvent, accept, access, mark, markedFor, sendFrom, send, others, sentFor, fill}
+use Rattle.model.specs.Steps.{takesLine, onMisses, fetches, queues, queuedEvent, accept, access, sendFrom, send, others, sentFor, fill}
 use Rattle.model.specs.Calls.{eventsTold, tidied}
 use Rattle.model.specs.Inner.{Encodes, SoundSlices, Does}
 use Rattle.model.specs.declared.Settings.{Settings}
@@ -31,9 +31,8 @@ use Rattle.model.specs.declared.Event.the-variants.{Answered, Refused, ReadQueu
 use Rattle.model.specs.declared.Refusal.{Refusal}
 use Rattle.model.specs.declared.Refusal.the-variants.{NotSent}
 use Rattle.model.specs.declared.Queued.{Queued}
-use Rattle.model.specs.declared.QueueKind.{QueueKind}
-use Rattle.model.specs.declared.QueueKind.the-variants as queue
 use Rattle.model.specs.declared.Told.{Told}
+use Rattle.model.proofs.SendFillKeepSound.{marked-length}
 use Rattle.model.proofs.Event.{the-type}
 use Rattle.words.proofs.Flags.{and-1, by-flag, clash}
 use Rattle.words.proofs.Lists.{any-in}
@@ -135,17 +134,13 @@ told-long r tidy none =
 
 -- ---- a send and a fill
 
-marked-long : (k : QueueKind) (a : ℕ) (es : List Entry) → length (markedFor k a es) ≡ length es
-marked-long queue.Read a es = length-map es (mark a)
-marked-long queue.WriteBack a es = refl
-
 send-counts : (t : Tables) → (length (after t (send t) .queue) ≡ length (t .queue) - 1) × (length (after t (send t) .misses) ≡ length (t .misses))
 unfolding send
 send-counts t = go (t .queue) refl
   where
     go : (qs : List Queued) → t .queue ≡ qs → (length (after t (sendFrom qs t) .queue) ≡ length qs - 1) × (length (after t (sendFrom qs t) .misses) ≡ length (t .misses))
     go [] e = (rw e, refl)
-    go (x ∷ qs) e = (omega arith, marked-long (x .kind) (x .address) (t .misses))
+    go (x ∷ qs) e = (omega arith, marked-length (x .kind) (x .address) (t .misses))
 
 kept-long : (a : ℕ) (l : List Entry) → length (keep (others a) l) + count (entryFor a) l ≡ length l
 kept-long a [] = refl

@@ -2,7 +2,8 @@ use mathlib.Core.Path.{_∙_}
 use native.Mathlib.Omega.{arith}
 use borrow.Author.Needs.{needs}
 use Rattle.encoding.proofs.Bridge.{is-fit}
-use Rattle.access.proofs.Recounts.{count-few, was-counted}
+use Rattle.layout.proofs.DirtyCount.{dirty-few}
+use Rattle.access.proofs.Recounts.{was-counted}
 use Rattle.access.proofs.writes.leave_line.Statement.{statement}
 use Rattle.access.proofs.writes.leave_line.Tie as tie
 
@@ -22,7 +23,7 @@ leave-line-spec =
     let m = start .pre .1 .met in
     let f = is-fit _ _ _ (m .is) in
     let p = start .pre .0 in
-    rw (c .before .before .is-dirty .ensures) (omega arith, count-few _ _ (m .is) p, was-counted _ _ (m .is) p _ (m .below)))  -- recount-requires
+    rw (c .before .before .is-dirty .ensures) (omega arith, dirty-few _ _ (m .is) p, was-counted _ _ (m .is) p _ (m .below)))  -- recount-requires
     (λ c κs. search needs)  -- address-of-requires
     (λ c κs. search needs)  -- block-of-requires
     (λ c κs.
