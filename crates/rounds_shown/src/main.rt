@@ -21,7 +21,7 @@ fn settings(dirty: usize) -> Settings {
     }
 }
 
-// An offered write of one byte mask.
+// A write of a sector's first eight bytes.
 fn write_to(address: u64) -> Access {
     Access::Write {
         address,
