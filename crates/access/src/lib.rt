@@ -51,12 +51,24 @@ pub fn well_formed(x: Access) -> bool
             address,
             mask,
             ticket: _,
-        } => good_sector(address) & (mask == 0),
+        } => {
+            if mask == 0 {
+                good_sector(address)
+            } else {
+                false
+            }
+        }
         Access::Write {
             address,
             mask,
             ticket: _,
-        } => good_sector(address) & !(mask == 0),
+        } => {
+            if mask == 0 {
+                false
+            } else {
+                good_sector(address)
+            }
+        }
     }
 }
 

@@ -84,10 +84,8 @@ pub(crate) fn sectors_read(x: Access, d: Decision, found: [Sector; 4]) -> [Secto
 {
     let k = values::sector_index(values::address_of(x));
     let a = d.answer;
-    let mut four = found;
-    let s = four[k];
-    four[k] = read_sector(a, s);
-    four
+    let s = layout::sector_in(found, k);
+    layout::with_sector(found, k, read_sector(a, s))
 }
 
 // The same of a write.
@@ -97,8 +95,6 @@ pub(crate) fn sectors_written(x: Access, d: Decision, found: [Sector; 4]) -> [Se
 {
     let k = values::sector_index(values::address_of(x));
     let a = d.answer;
-    let mut four = found;
-    let s = four[k];
-    four[k] = written_sector(x, a, s);
-    four
+    let s = layout::sector_in(found, k);
+    layout::with_sector(found, k, written_sector(x, a, s))
 }

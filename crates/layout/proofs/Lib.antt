@@ -7,6 +7,7 @@ pub mod Stores
 pub mod Grown
 pub mod ByBlocks
 pub mod Lines
+pub mod OneOfFour
 pub mod TreeStands
 pub mod DirtyCount
 pub mod Filled

@@ -1,15 +1,19 @@
-// Sectors in the slices: one of them, and a line's four lifted as one array and stored back, column by column.
+// Sectors in the slices: one of them, and a line's four lifted as one array and stored back, column by column; one of four, and four with
+// one of them changed.
 ghost use mathlib.Core.Path.{_≡_};
 ghost use Prim.Native.Nat.{_+_, _*_, _≤_, _<_};
-ghost use lib.ListN.{length};
+ghost use lib.ListN.{length, getD, set};
 ghost use Rattle.model.specs.Numbers.{statusNumber};
 ghost use Rattle.model.specs.Range.{linesOf};
 ghost use Rattle.model.specs.Lent.{bit, sectorAt, sectorsAt};
+ghost use Rattle.model.specs.Tables.{empty};
+ghost use Rattle.words.specs.Words.{pick};
 ghost use Rattle.words.specs.Regions.{put};
 ghost use Rattle.layout.specs.Sectors.{SectorRoom, statuses, masks, readables};
 use crate::Layout;
 use model::Sector;
 use model::Settings;
+use model::Status;
 use values::status_number;
 use values::status_of;
 
@@ -101,4 +105,61 @@ pub fn store(at: Layout, words: &mut [u32], marks: &mut [u8], line: usize, four:
     store_masks(words, at.masks + s, four);
     store_statuses(marks, s, four);
     store_readables(marks, at.readables + s, four);
+}
+
+// One of two statuses.
+fn status_or(first: bool, x: Status, y: Status) -> Status
+    ensures { λ r. ⌜ r ≡ pick first x y ⌝ }
+{
+    if first { x } else { y }
+}
+
+// One of two masks.
+fn mask_or(first: bool, x: u32, y: u32) -> u32
+    ensures { λ r. ⌜ r ≡ pick first x y ⌝ }
+{
+    if first { x } else { y }
+}
+
+// One of two flags.
+fn flag_or(first: bool, x: bool, y: bool) -> bool
+    ensures { λ r. ⌜ r ≡ pick first x y ⌝ }
+{
+    if first { x } else { y }
+}
+
+// One of two sectors, number by number: the compiler chooses between numbers without a jump, where one by sector numbers is mostly guessed wrong.
+fn sector_or(first: bool, x: Sector, y: Sector) -> Sector
+    ensures { λ r. ⌜ r ≡ pick first x y ⌝ }
+{
+    let a = x.status;
+    let b = y.status;
+    Sector {
+        status: status_or(first, a, b),
+        mask: mask_or(first, x.mask, y.mask),
+        readable: flag_or(first, x.readable, y.readable),
+    }
+}
+
+// Sector `k` of four.
+pub fn sector_in(four: [Sector; 4], k: usize) -> Sector
+    requires { ⌜ k < 4 ⌝ }
+    ensures { λ r. ⌜ r ≡ getD four k empty ⌝ }
+{
+    let last = sector_or(k == 2, four[2], four[3]);
+    let later = sector_or(k == 1, four[1], last);
+    sector_or(k == 0, four[0], later)
+}
+
+// The four with sector `k` changed.
+pub fn with_sector(four: [Sector; 4], k: usize, x: Sector) -> [Sector; 4]
+    requires { ⌜ k < 4 ⌝ }
+    ensures { λ r. ⌜ r ≡ set four k x ⌝ }
+{
+    [
+        sector_or(k == 0, x, four[0]),
+        sector_or(k == 1, x, four[1]),
+        sector_or(k == 2, x, four[2]),
+        sector_or(k == 3, x, four[3]),
+    ]
 }

@@ -24,6 +24,7 @@ use Rattle.model.specs.declared.Found.{Found}
 use Rattle.model.specs.declared.Found.the-variants.{At, Nothing}
 use Rattle.encoding.proofs.Rows.{set-room}
 use Rattle.model.proofs.SoundFacts.{sector-below}
+use Rattle.model.proofs.Fits.{power-most}
 use Rattle.probe.specs.declared.Meeting.the-variants.{Busy, Held}
 use Rattle.probe.specs.declared.Decision.{Decision}
 use Rattle.probe.specs.Decided.{Decided, backsOf, placeIs, linesHeld, ruleHeld}
@@ -155,30 +156,37 @@ module _ (S : Settings) (longs words marks : List ℕ) (fit : Fit S longs words 
   pub set-inside : set < S .sets
   set-inside = rw here (mod-lt (addressOf x / 128) (fit .sets))
 
+  pub few-sets : set < 256
+  few-sets = let h = set-inside in let m = power-most (S .sets) (fit .power) in omega arith
+
   pub ways-room : set * S .ways + S .ways ≤ linesOf S
   ways-room = set-room S address es (fit .sets) (fit .ways)
 
   room : setIndex S (addressOf x) * S .ways + S .ways ≤ linesOf S
   room = subst (λ (k : ℕ). k * S .ways + S .ways ≤ linesOf S) here ways-room
 
-  module _ {block : ℕ} {f : Found} (eb : block ≡ blockOf address) (ef : f ≡ foundIn longs marks (set * S .ways) (S .ways) block) where
+  module _ {block base : ℕ} {f : Found} (eb : block ≡ blockOf address) (el : base ≡ set * S .ways) (ef : f ≡ foundIn longs marks base (S .ways) block) where
     pub found-below : {w : ℕ} → f ≡ At w → w < S .ways
     found-below g = at-under (S .ways) _ (first-under _ (S .ways)) ef g
 
-    found : f ≡ foundIn longs marks (setIndex S (addressOf x) * S .ways) (S .ways) (blockOf (addressOf x))
-    found = ef ∙ ap (λ (k : ℕ). foundIn longs marks (k * S .ways) (S .ways) block) here ∙ ap (foundIn longs marks (setIndex S (addressOf x) * S .ways) (S .ways)) (eb ∙ ap blockOf ea)
+    first : base ≡ setIndex S (addressOf x) * S .ways
+    first = el ∙ ap (λ (k : ℕ). k * S .ways) here
 
-    pub decided-met : {w : ℕ} {r : Decision} → f ≡ At w → r ≡ metIs S words marks (set * S .ways) w x → Decided S longs words marks x r
+    found : f ≡ foundIn longs marks (setIndex S (addressOf x) * S .ways) (S .ways) (blockOf (addressOf x))
+    found = ef ∙ ap (λ (b : ℕ). foundIn longs marks b (S .ways) block) first ∙ ap (foundIn longs marks (setIndex S (addressOf x) * S .ways) (S .ways)) (eb ∙ ap blockOf ea)
+
+    pub decided-met : {w : ℕ} {r : Decision} → f ≡ At w → r ≡ metIs S words marks base w x → Decided S longs words marks x r
     decided-met {w} g q =
-        rw (q ∙ ap (λ (k : ℕ). metIs S words marks (k * S .ways) w x) here)
+        rw (q ∙ ap (λ (b : ℕ). metIs S words marks b w x) first)
         (own-met S longs words marks x (fit .ways) room (fit .tree) w (sym found ∙ g))
 
     pub decided-missed : {d : ℕ} {r : Decision} → f ≡ Nothing → d ≡ dirtyCountAt S words
-        → r ≡ missIs S longs words marks (set * S .ways) (S .ways) (victimIn S words marks set (set * S .ways) (enoughDirty S d))
+        → r ≡ missIs S longs words marks base (S .ways) (victimIn S words marks set base (enoughDirty S d))
         → Decided S longs words marks x r
     decided-missed {d} {r} g ed q =
         subst (Decided S longs words marks x)
         (sym (q
-        ∙ ap (λ (k : ℕ). missIs S longs words marks (k * S .ways) (S .ways) (victimIn S words marks k (k * S .ways) (enoughDirty S d))) here
+        ∙ ap (λ (b : ℕ). missIs S longs words marks b (S .ways) (victimIn S words marks set b (enoughDirty S d))) first
+        ∙ ap (λ (k : ℕ). missIs S longs words marks (setIndex S (addressOf x) * S .ways) (S .ways) (victimIn S words marks k (setIndex S (addressOf x) * S .ways) (enoughDirty S d))) here
         ∙ ap (λ (k : ℕ). missIs S longs words marks (setIndex S (addressOf x) * S .ways) (S .ways) (victimIn S words marks (setIndex S (addressOf x)) (setIndex S (addressOf x) * S .ways) (enoughDirty S k))) ed))
         (own-missed S longs words marks x (fit .ways) room (fit .tree) _ (sym found ∙ g) refl)

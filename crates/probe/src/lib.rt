@@ -88,19 +88,21 @@ fn is_candidate(marks: &[u8], l: usize, enough: bool) -> bool
     enough & !is_waiting(marks, l)
 }
 
-// The first way of the set that has the block; the set's lines begin at `base`.
+// The first way of the set that has the block; the set's lines begin at `base`. There is a way, so the first is looked at before any count.
 fn find(longs: &[u64], marks: &[u8], base: usize, ways: usize, block: BlockAddress) -> Found
-    requires { ⌜ (base + ways ≤ length (now longs)) × (4 * (base + ways) ≤ length (now marks)) ⌝ }
+    requires { ⌜ (1 ≤ ways) × (base + ways ≤ length (now longs)) × (4 * (base + ways) ≤ length (now marks)) ⌝ }
     ensures { λ r. ⌜ r ≡ foundIn (now (longs .entry)) (now (marks .entry)) base ways (block .0) ⌝ }
 {
     let mut w = 0;
-    while w < ways {
+    loop {
         if tables::holds_block(longs, marks, base + w, block) {
             return Found::At(w);
         }
         w += 1;
+        if ways <= w {
+            return Found::Nothing;
+        }
     }
-    Found::Nothing
 }
 
 // Whether a way of the set has a RESERVED sector.
@@ -381,6 +383,14 @@ fn take_over(
     }
 }
 
+// The first line of a set. In 32 bits: the compiler then multiplies once, and not once for each slice.
+fn first_line(set: usize, ways: usize) -> usize
+    requires { ⌜ (set < 256) × (ways ≤ 16) × (set * ways ≤ 1024) ⌝ }
+    ensures { λ r. ⌜ r ≡ set * ways ⌝ }
+{
+    ((set as u32) * (ways as u32)) as usize
+}
+
 // What the access meets.
 pub fn decide(
     s: Settings,
@@ -396,7 +406,7 @@ pub fn decide(
     let ways = s.ways;
     let address = values::address_of(x);
     let set = values::set_index(address, s.sets);
-    let base = set * ways;
+    let base = first_line(set, ways);
     let found = find(longs, marks, base, ways, values::block_of(address));
     match found {
         Found::At(w) => met(s, at, words, marks, base, w, x),

@@ -133,13 +133,15 @@ module _ (s : List ℕ) (at : ℕ) (inside : at < length s) where
       (flag (isCommand k))
 
   -- of a step, with room for the longest of them and for its events
-  pub usual-later : (room : ℕ) → (leb 1 k && leb k 5 && leb 13 (length s - at) && leb eventRoom room) ≡ true → Nothing ≡ laterStop room k (restAt s at)
+  pub usual-later : (room whole ample out : ℕ) → whole ≡ length s + 1 - 13 → ample ≡ out + room + 1 - eventRoom
+      → (leb 1 k && leb k 5 && ltb at whole && ltb out ample) ≡ true → Nothing ≡ laterStop room k (restAt s at)
   unfolding runner.laterStop
-  usual-later room test =
+  usual-later room whole ample out ends fits test =
       let least = leb-true 1 k (search (and-1, and-2) depth 5) in
       let most = leb-true k 5 (search (and-1, and-2) depth 5) in
-      let long = leb-true 13 (length s - at) (search (and-1, and-2) depth 5) in
-      let roomy = leb-true eventRoom room (search (and-1, and-2) depth 5) in
+      let long = ltb-true at whole (search (and-1, and-2) depth 5) in
+      let out-below = ltb-true out ample (search (and-1, and-2) depth 5) in
+      let roomy : eventRoom ≤ room = omega arith in
       let c : isCommand k ≡ true = sym (command-kinds k) ∙ lt-ltb k 7 (omega arith) in
       let m = body-short k c in
       let l = left in

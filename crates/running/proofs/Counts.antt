@@ -4,6 +4,7 @@ use mathlib.Core.Logic.{_⊎_, inl, inr}
 use mathlib.Core.Bool.{Bool, true, false, not, _&&_}
 use mathlib.Core.List.{List, [], _∷_, _++_, map}
 use Prim.Native.Nat.{ℕ, zero, suc, _+_, _-_, _≤_, _<_}
+use native.Mathlib.Nat.{add-zero}
 use native.Mathlib.Omega.{arith}
 use native.Mathlib.Decide.{decLe}
 use types.Run.{OneOf, miss}
@@ -42,7 +43,9 @@ use Rattle.model.proofs.Victims.{probe-meets}
 use Rattle.model.proofs.AccessCases.{access-judged}
 use Rattle.encoding.proofs.Bridge.{does-tells, does-is}
 use Rattle.encoding.proofs.ToldShapes.{access-shaped}
+use Rattle.model.specs.declared.Ran.{Ran}
 use Rattle.layout.specs.declared.Layout.{Layout}
+use Rattle.running.specs.declared.record.Went.{Went}
 use Rattle.layout.specs.Layout.{Placed}
 use Rattle.layout.specs.Places.{First}
 use Rattle.access.proofs.Plans.{queue-counted, misses-counted}
@@ -216,3 +219,15 @@ module _ (S : Settings) {longs words marks : List ℕ} (held : SoundSlices S (le
       let w = fill-counts S t (parts S t (i .soundly)) a (sym (does-tells S d t i) ∙ first-told told) in
       counted-as S (after t (fill a t)) (does-is S d t i (fill-keeps-sound S a t (i .soundly))) p
       (before .0 ∙ ap length (sym (w .0))) (ap (entriesLeft (told .first)) (before .1) ∙ sym (w .1))
+
+-- what an access leaves that queues nothing
+pub went-none : (r : Ran) (x : Access) (q m : ℕ) {n : ℕ} → n ≡ 0
+    → _≡_ {A = Went} (record { ran = r; queued = q; missed = m }) (record { ran = r; queued = q + n; missed = m + one (isRead x && ltb 0 n) })
+went-none r (Read a b c) q m e = rw (e, add-zero q, add-zero m)
+went-none r (Write a b c) q m e = rw (e, add-zero q, add-zero m)
+
+-- and that queues something
+pub went-some : (r : Ran) (x : Access) (q m n : ℕ) {f : ℕ} → 0 < n → f ≡ one (isRead x)
+    → _≡_ {A = Went} (record { ran = r; queued = q + n; missed = m + f }) (record { ran = r; queued = q + n; missed = m + one (isRead x && ltb 0 n) })
+went-some r (Read a b c) q m n h e = rw (e, lt-ltb 0 n h)
+went-some r (Write a b c) q m n h e = rw e

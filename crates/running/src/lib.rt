@@ -12,6 +12,7 @@ use model::Stop;
 use model::Verdict;
 use record::run_one;
 ghost use mathlib.Core.Path.{_≡_};
+ghost use Prim.Native.Nat.{_+_, _-_, _≤_};
 ghost use Rattle.model.specs.Lent.{lent};
 ghost use Rattle.model.specs.Inner.{SoundSlices};
 ghost use Rattle.model.specs.Records.{settingsIn};
@@ -116,6 +117,14 @@ pub(crate) fn later_stop(kind: u8, found: Record, room: usize) -> Stop
     record_stop(kind, found, Stop::OutOfPlace, room_stop(room))
 }
 
+// At how many places of n bytes so many begin that all lie among them.
+fn starts(n: usize, size: usize) -> usize
+    requires { ⌜ 1 ≤ size ⌝ }
+    ensures { λ r. ⌜ r ≡ n + 1 - size ⌝ }
+{
+    if n < size { 0 } else { n - size + 1 }
+}
+
 // The records from byte `start` on, at fixed settings and on sound tables; events go behind the first `first` bytes. The layout is the
 // caller's, computed once for all of them; how many queue places and miss entries are in use is found once, and then follows from what
 // each record tells.
@@ -139,6 +148,8 @@ pub fn run_records(
 {
     let mut queued = layout::used(marks, laid.kinds, s.queue);
     let mut missed = layout::used(marks, laid.counts, s.misses);
+    let whole = starts(stream.len(), records::LONGEST);
+    let ample = starts(events.len(), records::EVENT_ROOM);
     let mut at = start;
     let mut out = first;
     while at < stream.len() {
@@ -151,6 +162,8 @@ pub fn run_records(
             out,
             queued,
             missed,
+            whole,
+            ample,
             longs,
             words,
             marks,

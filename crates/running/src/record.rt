@@ -42,18 +42,14 @@ const FILL: u8 = 4;
 
 const TICK: u8 = 5;
 
-// What stops at a record, with this much event room. A step's record is whole, whichever step it is of, where the longest would be.
-fn stop_at(stream: &[u8], at: usize, room: usize) -> Stop
-    requires { ⌜ at < length (now stream) ⌝ }
+// What stops at a record, with this much event room behind `out` bytes. Below `whole` a step's record is there, whichever step it is of;
+// below `ample` there is room for its events.
+fn stop_at(stream: &[u8], at: usize, out: usize, room: usize, whole: usize, ample: usize) -> Stop
+    requires { ⌜ (at < length (now stream)) × (whole ≡ length (now stream) + 1 - 13) × (ample ≡ out + room + 1 - 64) ⌝ }
     ensures { λ r. ⌜ r ≡ laterStop room (kindAt (now (stream .entry)) at) (restAt (now (stream .entry)) at) ⌝ }
 {
     let kind = stream[at];
-    let left = stream.len() - at;
-    if (READ <= kind)
-        & (kind <= TICK)
-        & (records::LONGEST <= left)
-        & (records::EVENT_ROOM <= room)
-    {
+    if (READ <= kind) & (kind <= TICK) & (at < whole) & (out < ample) {
         return Stop::Nothing;
     }
     let found = reader::record_at(stream, at);
@@ -81,21 +77,40 @@ fn access_at(stream: &[u8], at: usize) -> Access
     }
 }
 
-// How many miss entries an access makes that queues so many: a read that queues makes one.
-fn fetched(x: Access, queues: usize) -> usize
-    ensures { λ r. ⌜ (r ≡ one (isRead x && ltb 0 queues)) × (r ≤ 1) ⌝ }
+// How many miss entries an access makes that queues something: a read makes one.
+fn fetched(x: Access) -> usize
+    ensures { λ r. ⌜ (r ≡ one (isRead x)) × (r ≤ 1) ⌝ }
 {
     match x {
         Access::Read {
             address: _,
             mask: _,
             ticket: _,
-        } => { if 0 < queues { 1 } else { 0 } }
+        } => 1,
         Access::Write {
             address: _,
             mask: _,
             ticket: _,
         } => 0,
+    }
+}
+
+// What an access leaves that queues so many. Mostly that is nothing, and then no count is touched.
+fn went_on(ran: Ran, x: Access, queued: usize, missed: usize, queues: usize) -> Went
+    requires { ⌜ (queued + queues ≤ 66) × (missed ≤ 64) ⌝ }
+    ensures { λ r. ⌜ r ≡ record { ran = ran; queued = queued + queues; missed = missed + one (isRead x && ltb 0 queues) } ⌝ }
+{
+    if queues == 0 {
+        return Went {
+            ran,
+            queued,
+            missed,
+        };
+    }
+    Went {
+        ran,
+        queued: queued + queues,
+        missed: missed + fetched(x),
     }
 }
 
@@ -146,11 +161,7 @@ fn access_record(
         consumed: at + records::LONGEST,
         written,
     };
-    Went {
-        ran,
-        queued: queued + told.queues,
-        missed: missed + fetched(x, told.queues),
-    }
+    went_on(ran, x, queued, missed, told.queues)
 }
 
 // A send.
@@ -348,7 +359,8 @@ fn step_record(
     )
 }
 
-// One record, at byte `at`: every check, then its step, then its events behind the `out` bytes that are written.
+// One record, at byte `at`: every check, then its step, then its events behind the `out` bytes that are written. `whole` and `ample` are
+// the places below which the usual record is sure to be there and to have room, worked out once for all.
 pub(crate) fn run_one(
     s: Settings,
     laid: Layout,
@@ -358,20 +370,22 @@ pub(crate) fn run_one(
     out: usize,
     queued: usize,
     missed: usize,
+    whole: usize,
+    ample: usize,
     longs: &mut [u64],
     words: &mut [u32],
     marks: &mut [u8],
 ) -> Went
     requires { ⌜ Placed s laid × SoundSlices s (lent (now longs) (now words) (now marks)) × Counted s laid (now marks) queued missed ⌝ }
     requires { ⌜ RunAt (now stream) at out (now events) ⌝ }
-    requires { ⌜ at < length (now stream) ⌝ }
+    requires { ⌜ (at < length (now stream)) × (whole ≡ length (now stream) + 1 - 13) × (ample ≡ length (now events) + 1 - 64) ⌝ }
     ensures { λ r. ⌜ Resumes s (recordFrom s (now (stream .entry)) at out (now (events .entry)))
         (now (stream .entry)) at out (now (events .entry))
         (lent (now (longs .entry)) (now (words .entry)) (now (marks .entry))) (r .ran)
         (now (events .exit)) (lent (now (longs .exit)) (now (words .exit)) (now (marks .exit))) ⌝ }
     ensures { λ r. ⌜ Counted s laid (now (marks .exit)) (r .queued) (r .missed) ⌝ }
 {
-    let stop = stop_at(stream, at, events.len() - out);
+    let stop = stop_at(stream, at, out, events.len() - out, whole, ample);
     if !goes_on(stop) {
         let ran = Ran {
             stop,

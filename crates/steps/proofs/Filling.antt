@@ -50,15 +50,14 @@ use Rattle.encoding.proofs.NumbersAreTables.{invalid-number, flag-of-bit}
 -- ---- one sector
 
 -- four sectors that are lifted, of which one has come, counted and stored back
-pub sector-filled : (S : Settings) (at : Layout) (l k : ℕ) (words marks : List ℕ) {four : List Sector} {x : Sector} {was is : Bool} {words₁ words′ marks′ : List ℕ} → k < 4
-    → four ≡ sectorsAt S words marks l → was ≡ someModified four → x ≡ arrived (getD four k none) → is ≡ someModified (set four k x)
+pub sector-filled : (S : Settings) (at : Layout) (l k : ℕ) (words marks : List ℕ) {four four′ : List Sector} {x y : Sector} {was is : Bool} {words₁ words′ marks′ : List ℕ}
+    → four ≡ sectorsAt S words marks l → was ≡ someModified four → y ≡ getD four k empty → x ≡ arrived y → four′ ≡ set four k x → is ≡ someModified four′
     → words₁ ≡ put words (at .dirty) ((getD words (at .dirty) 0 + one is - one was) ∷ [])
-    → (words′ ≡ put words₁ (at .masks + 4 * l) (masks (set four k x))) × (marks′ ≡ put (put marks (4 * l) (statuses (set four k x))) (at .readables + 4 * l) (readables (set four k x)))
+    → (words′ ≡ put words₁ (at .masks + 4 * l) (masks four′)) × (marks′ ≡ put (put marks (4 * l) (statuses four′)) (at .readables + 4 * l) (readables four′))
     → SectorFilled S at l k words marks words′ marks′
-sector-filled S at l k words marks {four} {x} {was} {is} {words₁} below e v f w d c =
+sector-filled S at l k words marks {four} {four′} {x} {y} {was} {is} {words₁} e v g f q w d c =
     let xs : List Sector = sectorsAt S words marks l in
-    let g : x ≡ arrived (getD xs k empty) = f ∙ ap (λ (y : List Sector). arrived (getD y k none)) e ∙ ap arrived (getD-inside xs k none empty below) in
-    let s : set four k x ≡ arrivedAt k xs = rw (g, e) in
+    let s : four′ ≡ arrivedAt k xs = q ∙ rw (f, g, e) in
     let before : was ≡ someModified xs = v ∙ ap someModified e in
     let after : is ≡ someModified (arrivedAt k xs) = w ∙ ap someModified s in
     let counted : words₁ ≡ countAfter S at l words marks (arrivedAt k xs) =

@@ -118,10 +118,10 @@ fn fill_sector(s: Settings, at: Layout, words: &mut [u32], marks: &mut [u8], l: 
     requires { ⌜ (at .dirty < length (now words)) × CountFits s at l (now words) (now marks) ⌝ }
     ensures { λ _. ⌜ SectorFilled s at l k (now (words .entry)) (now (marks .entry)) (now (words .exit)) (now (marks .exit)) ⌝ }
 {
-    let mut four = layout::lift(s, at, words, marks, l);
-    let was = layout::some_modified(four);
-    let x = four[k];
-    four[k] = arrive(x);
+    let found = layout::lift(s, at, words, marks, l);
+    let was = layout::some_modified(found);
+    let x = layout::sector_in(found, k);
+    let four = layout::with_sector(found, k, arrive(x));
     layout::recount(words, at.dirty, was, layout::some_modified(four));
     layout::store(at, words, marks, l, four);
 }

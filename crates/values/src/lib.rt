@@ -7,7 +7,7 @@ ghost use Rattle.model.specs.Range.{powerTo256};
 ghost use lib.ListN.{getD};
 ghost use Rattle.model.specs.declared.Answer.the-variants.{Hit};
 ghost use Rattle.model.specs.Numbers.{statusNumber, statusOf, queueKindNumber, queueKindOf, answerNumber, refusalNumber, stopNumber};
-ghost use Rattle.model.specs.Probe.{columnOf, answerOf};
+ghost use Rattle.model.specs.Probe.{answerAt, answerOf};
 ghost use Rattle.model.specs.Tables.{idle};
 ghost use Rattle.model.specs.Steps.{queuedEvent, sentEvent};
 ghost use Rattle.model.specs.Address.{addressOf, blockOf, sectorAddressOf, sectorIndex};
@@ -221,24 +221,6 @@ const ANSWERS: [[Answer; 3]; 4] = [
     [Answer::Hit, Answer::Hit, Answer::SectorMiss],
 ];
 
-// The column of the table of answers.
-fn column_of(x: Access, readable: bool) -> usize
-    ensures { λ r. ⌜ r ≡ columnOf x readable ⌝ }
-{
-    match x {
-        Access::Read {
-            address: _,
-            mask: _,
-            ticket: _,
-        } => { if readable { 1 } else { 2 } }
-        Access::Write {
-            address: _,
-            mask: _,
-            ticket: _,
-        } => 0,
-    }
-}
-
 // A row's answer at a column. Each index is a constant, so that the compiler keeps no table in memory.
 fn in_row(row: [Answer; 3], column: usize) -> Answer
     requires { ⌜ column < 3 ⌝ }
@@ -251,16 +233,40 @@ fn in_row(row: [Answer; 3], column: usize) -> Answer
     }
 }
 
-// The answer of an access to a sector of a line that has its tag.
-pub fn answer_of(x: Access, s: Sector) -> Answer
-    ensures { λ r. ⌜ r ≡ answerOf x s ⌝ }
+// A status's answer at a column of the table: 0 of a write, 1 of a read that may read the sector, 2 of a read that may not.
+fn in_column(status: Status, column: usize) -> Answer
+    requires { ⌜ column < 3 ⌝ }
+    ensures { λ r. ⌜ r ≡ answerAt status column ⌝ }
 {
-    let status = s.status;
-    let column = column_of(x, s.readable);
     match status {
         Status::Invalid => in_row(ANSWERS[0], column),
         Status::Reserved => in_row(ANSWERS[1], column),
         Status::Valid => in_row(ANSWERS[2], column),
         Status::Modified => in_row(ANSWERS[3], column),
+    }
+}
+
+// The answer of an access to a sector of a line that has its tag. A read and a write part here: a write doesn't ask what may be read.
+pub fn answer_of(x: Access, s: Sector) -> Answer
+    ensures { λ r. ⌜ r ≡ answerOf x s ⌝ }
+{
+    let status = s.status;
+    match x {
+        Access::Read {
+            address: _,
+            mask: _,
+            ticket: _,
+        } => {
+            if s.readable {
+                in_column(status, 1)
+            } else {
+                in_column(status, 2)
+            }
+        }
+        Access::Write {
+            address: _,
+            mask: _,
+            ticket: _,
+        } => in_column(status, 0),
     }
 }

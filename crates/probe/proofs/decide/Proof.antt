@@ -1,9 +1,9 @@
-use Prim.Native.Nat.{_+_, _*_, _≤_}
+use Prim.Native.Nat.{_+_, _*_, _≤_, _<_}
 use mathlib.Core.Path.{refl}
 use native.Mathlib.Omega.{arith}
 use borrow.Author.Needs.{needs}
 use Rattle.model.specs.Range.{linesOf}
-use Rattle.probe.proofs.Meetings.{ways-room, set-inside, found-below, decided-met, decided-missed}
+use Rattle.probe.proofs.Meetings.{ways-room, few-sets, set-inside, found-below, decided-met, decided-missed}
 use Rattle.probe.proofs.decide.Statement.{statement}
 use Rattle.probe.proofs.decide.Tie as tie
 
@@ -13,36 +13,46 @@ room c =
     let a = start .args in
     ways-room (a .s) (a .longs .now) (a .words .now) (a .marks .now) (start .pre .1) (a .x) (c .before .address-of .ensures) (c .set-index .ensures)
 
+few : (c : tie.After-set-index) → c .set-index .result < 256
+few c =
+    let start = c .before .before .before .before .before in
+    let a = start .args in
+    few-sets (a .s) (a .longs .now) (a .words .now) (a .marks .now) (start .pre .1) (a .x) (c .before .address-of .ensures) (c .set-index .ensures)
+
 pub decide-spec : {M : Type 1} → statement M
 decide-spec =
     tie.close
     (tie.spec
-    (λ c κs. search needs)
-    (λ c κs. search needs)
-    (λ c. let h = room c in omega arith)
-    (λ c κs. search needs)
-    (λ c κs. let h = room (c .before) in search needs)
-    (λ c. search needs)
-    (λ c κs. let at = c .before .before .before .before .before in
+    (λ c κs. search needs)  -- address-of-requires
+    (λ c κs. search needs)  -- set-index-requires
+    (λ c κs. let h = room c in let l = few c in search needs)  -- first-line-requires
+    (λ c κs. search needs)  -- block-of-requires
+    (λ c κs. let h = room (c .before .before) in let e = c .before .first-line .ensures in search needs)  -- find-requires
+    (λ c. search needs)  -- enum-known-found
+    (λ c κs. let at = c .before .before .before .before .before .before in
     let start = at .before .before .before .before .before in
     let a = start .args in
     let h = room at in
-    let k = found-below (a .s) (a .longs .now) (a .words .now) (a .marks .now) (start .pre .1) (a .x) (at .before .address-of .ensures) (at .set-index .ensures) (c .before .before .before .before .block-of .ensures) (c .before .before .before .find .ensures) (c .before .found .given .1) in
-    search needs)
-    (λ c. search needs)
+    let e = c .before .before .before .before .before .first-line .ensures in
+    let k = found-below (a .s) (a .longs .now) (a .words .now) (a .marks .now) (start .pre .1) (a .x) (at .before .address-of .ensures) (at .set-index .ensures) (c .before .before .before .before .block-of .ensures) e (c .before .before .before .find .ensures) (c .before .found .given .1) in
+    search needs)  -- met-requires
+    (λ c. search needs)  -- enum-told
     (λ c κs.
-    let at = c .before .before .before .before in
+    let at = c .before .before .before .before .before in
     let start = at .before .before .before .before .before in
     let a = start .args in
     let h = room at in
+    let e = c .before .before .before .before .first-line .ensures in
     let fit = start .pre .1 in
     let inside = set-inside (a .s) (a .longs .now) (a .words .now) (a .marks .now) fit (a .x) (at .before .address-of .ensures) (at .set-index .ensures) in
-    (h, inside, fit .tree, start .pre .0, fit))
-    (λ c. let at = c .before .before .before .before .before .before in
+    (omega arith, inside, fit .tree, start .pre .0, fit))  -- take-over-requires
+    (λ c. let first = c .before .before .before .before .before .before in
+    let at = first .before in
     let start = at .before .before .before .before .before in
     let a = start .args in
-    decided-met (a .s) (a .longs .now) (a .words .now) (a .marks .now) (start .pre .1) (a .x) (at .before .address-of .ensures) (at .set-index .ensures) (c .before .before .before .before .before .block-of .ensures) (c .before .before .before .before .find .ensures) (c .before .before .found .given .1) (c .met .ensures))
-    (λ c. let at = c .before .before .before .before .before in
+    decided-met (a .s) (a .longs .now) (a .words .now) (a .marks .now) (start .pre .1) (a .x) (at .before .address-of .ensures) (at .set-index .ensures) (c .before .before .before .before .before .block-of .ensures) (first .first-line .ensures) (c .before .before .before .before .find .ensures) (c .before .before .found .given .1) (c .met .ensures))  -- returns
+    (λ c. let first = c .before .before .before .before .before in
+    let at = first .before in
     let start = at .before .before .before .before .before in
     let a = start .args in
-    decided-missed (a .s) (a .longs .now) (a .words .now) (a .marks .now) (start .pre .1) (a .x) (at .before .address-of .ensures) (at .set-index .ensures) (c .before .before .before .before .block-of .ensures) (c .before .before .before .find .ensures) (c .before .enum-told .given .1) refl (c .take-over .ensures)))
+    decided-missed (a .s) (a .longs .now) (a .words .now) (a .marks .now) (start .pre .1) (a .x) (at .before .address-of .ensures) (at .set-index .ensures) (c .before .before .before .before .block-of .ensures) (first .first-line .ensures) (c .before .before .before .find .ensures) (c .before .enum-told .given .1) refl (c .take-over .ensures)))  -- returns-2

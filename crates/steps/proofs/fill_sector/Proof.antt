@@ -17,14 +17,12 @@ fill-sector-spec =
     (tie.spec
     (λ c κs. search needs)  -- lift-requires
     (λ c κs. search needs)  -- some-modified-requires
-    (λ c. search needs)  -- mul-x
-    (λ c. search needs)  -- array-copy-out-x
+    (λ c κs. search needs)  -- sector-in-requires
     (λ c κs. search needs)  -- arrive-requires
-    (λ c. search needs)  -- mul-four
-    (λ c. search needs)  -- array-set-from-four
+    (λ c κs. search needs)  -- with-sector-requires
     (λ c κs. search needs)  -- some-modified-requires-2
     (λ c κs.
-    let asked = c .before .before .before .before in
+    let asked = c .before .before .before .before .before in
     let lift = asked .before in
     let start = lift .before .before .before .before .before in
     let a = start .args in
@@ -36,10 +34,12 @@ fill-sector-spec =
     let stored = c .before .before .before .before in
     let counted = stored .before .before .before .before .before in
     let after = counted .before in
-    let arrived = after .before .before in
-    let asked = arrived .before .before in
+    let changed = after .before .before in
+    let come = changed .before in
+    let own = come .before in
+    let asked = own .before in
     let lift = asked .before in
     let start = lift .before .before .before .before .before in
     let a = start .args in
-    sector-filled (a .s) (a .at) (a .l) (a .k) (a .words .now) (a .marks .now) (start .pre .0 .0) (lift .lift .ensures) (asked .some-modified .ensures) (arrived .arrive .ensures)
-    (after .some-modified2 .ensures) (counted .recount .ensures) (stored .store .ensures)))  -- returns
+    sector-filled (a .s) (a .at) (a .l) (a .k) (a .words .now) (a .marks .now) (lift .lift .ensures) (asked .some-modified .ensures) (own .sector-in .ensures) (come .arrive .ensures)
+    (changed .with-sector .ensures) (after .some-modified2 .ensures) (counted .recount .ensures) (stored .store .ensures)))  -- returns

@@ -1,9 +1,6 @@
--- By the status, which is matched: a row of the table; the column lies in it.
-use mathlib.Core.Path.{sym, ap, _∙_}
-use native.Mathlib.Omega.{arith}
+-- By the access, which is matched, and by what may be read.
+use mathlib.Core.Path.{_≡_, refl, sym, _∙_}
 use borrow.Author.Needs.{needs}
-use Rattle.model.specs.Numbers.{statusNumber}
-use Rattle.model.proofs.Answers.{column-below, answer-is}
 use Rattle.values.proofs.answer_of.Statement.{statement}
 use Rattle.values.proofs.answer_of.Tie as tie
 
@@ -11,28 +8,11 @@ pub answer-of-spec : {M : Type 1} → statement M
 answer-of-spec =
     tie.close
     (tie.spec
-    (λ c κs. search needs)  -- column-of-requires
     (λ c. search needs)  -- enum-told
-    (λ c. search needs)  -- array-copy-out-in-row
-    (λ c κs. let p = c .before .before .before in let h = column-below (p .before .args .x) (p .before .args .s .readable) in
-    let e = p .column-of .ensures in omega arith)  -- in-row-requires
+    (λ c κs. search needs)  -- in-column-requires
+    (λ c κs. search needs)  -- in-column-requires-2
     (λ c. search needs)  -- enum-told-2
-    (λ c. search needs)  -- array-copy-out-in-row-2
-    (λ c κs. let p = c .before .before .before in let h = column-below (p .before .args .x) (p .before .args .s .readable) in
-    let e = p .column-of .ensures in omega arith)  -- in-row-requires-2
-    (λ c. search needs)  -- enum-told-3
-    (λ c. search needs)  -- array-copy-out-in-row-3
-    (λ c κs. let p = c .before .before .before in let h = column-below (p .before .args .x) (p .before .args .s .readable) in
-    let e = p .column-of .ensures in omega arith)  -- in-row-requires-3
-    (λ c. search needs)  -- enum-told-4
-    (λ c. search needs)  -- array-copy-out-in-row-4
-    (λ c κs. let p = c .before .before .before in let h = column-below (p .before .args .x) (p .before .args .s .readable) in
-    let e = p .column-of .ensures in omega arith)  -- in-row-requires-4
-    (λ c. let p = c .before .before .before .before in
-    c .in-row .ensures ∙ answer-is (p .before .args .x) (p .before .args .s) (sym (ap statusNumber (c .before .before .enum-told .given .1))) (p .column-of .ensures))  -- returns
-    (λ c. let p = c .before .before .before .before in
-    c .in-row2 .ensures ∙ answer-is (p .before .args .x) (p .before .args .s) (sym (ap statusNumber (c .before .before .enum-told2 .given .1))) (p .column-of .ensures))  -- returns-2
-    (λ c. let p = c .before .before .before .before in
-    c .in-row3 .ensures ∙ answer-is (p .before .args .x) (p .before .args .s) (sym (ap statusNumber (c .before .before .enum-told3 .given .1))) (p .column-of .ensures))  -- returns-3
-    (λ c. let p = c .before .before .before .before in
-    c .in-row4 .ensures ∙ answer-is (p .before .args .x) (p .before .args .s) (sym (ap statusNumber (c .before .before .enum-told4 .given .1))) (p .column-of .ensures)))  -- returns-4
+    (λ c κs. search needs)  -- in-column-requires-3
+    (λ c. c .in-column .ensures ∙ rw (c .before .before .enum-told .given .1, c .before .if1 .taken))  -- returns
+    (λ c. c .in-column2 .ensures ∙ rw (c .before .before .enum-told .given .1, c .before .if1 .left))  -- returns-2
+    (λ c. c .in-column3 .ensures ∙ rw (c .before .enum-told2 .given .1)))  -- returns-3

@@ -1,5 +1,5 @@
 use mathlib.Core.Path.{_≡_, _∙_}
-use lib.ListN.{length}
+use native.Mathlib.Omega.{arith}
 use borrow.Author.Needs.{needs}
 use Rattle.access.proofs.Sectors.{sector-read, sectors-left}
 use Rattle.access.proofs.sector.sectors_read.Statement.{statement}
@@ -11,13 +11,14 @@ sectors-read-spec =
     (tie.spec
     (λ c κs. search needs)  -- address-of-requires
     (λ c κs. search needs)  -- sector-index-requires
-    (λ c. search needs)  -- mul-s
-    (λ c. search needs)  -- array-copy-out-s
+    (λ c κs. search needs)  -- sector-in-requires
     (λ c κs. search needs)  -- read-sector-requires
-    (λ c. search needs)  -- mul-four
-    (λ c. search needs)  -- array-set-from-four
+    (λ c κs. search needs)  -- with-sector-requires
     (λ c.
-    let start = c .before .before .before .before in
+    let left = c .before in
+    let own = left .before in
+    let here = own .before in
+    let is = here .before in
+    let start = is .before in
     let a = start .args in
-    let four : length (a .found) ≡ 4 = search needs in
-    sectors-left (a .x) (a .d) (a .found) _ four (c .before .before .sector-index .ensures .0) (c .before .before .before .address-of .ensures) (c .read-sector .ensures ∙ sector-read (a .x) (a .d .answer) _ (start .pre))))  -- returns
+    c .with-sector .ensures ∙ sectors-left (a .x) (a .d) (a .found) (here .sector-index .ensures .0) (is .address-of .ensures) (own .sector-in .ensures) (left .read-sector .ensures ∙ sector-read (a .x) (a .d .answer) _ (start .pre))))  -- returns

@@ -20,22 +20,21 @@ access-record-spec =
     let s = c .before .before .before .before .before .before .before .before .before .before .before .before .before .before .before .before .before in let a = s .args in
     (access-shaped (a .s) (s .pre .0 .1) _ (c .before .before .before .before .before .before .before .access-counted .ensures), ready-room (a .stream .now) (a .at) (a .out) (a .events .now) (s .pre .1 .0)))  -- put-access-requires
     (λ c. let s = c .before .before .before .before .before .before .before .before .before .before .before .before .before .before .before .before .before .before .before .before in let a = s .args in let h = access-whole (a .stream .now) (a .at) (a .out) (a .events .now) (s .pre .1 .0) (s .pre .1 .1) in omega arith)  -- add
-    (λ c.
-    let s = c .before .before .before .before .before .before .before .before .before .before .before .before .before .before .before .before .before .before .before .before .before in let a = s .args in
+    (λ c κs.
+    let s = c .before .before .before .before .before .before .before .before .before .before .before .before .before .before .before .before .before .before .before .before in let a = s .args in
     let f = is-fit _ _ _ (s .pre .0 .1 .are) in
-    let few = access-shaped (a .s) (s .pre .0 .1) _ (c .before .before .before .before .before .before .before .before .before .before .before .access-counted .ensures) .entries in
-    omega (arith, s .pre .0 .2 .queue .most))  -- add-queued
-    (λ c κs. search needs)  -- fetched-requires
-    (λ c. let s = c .before .before .before .before .before .before .before .before .before .before .before .before .before .before .before .before .before .before .before .before .before .before in let f = is-fit _ _ _ (s .pre .0 .1 .are) in omega (arith, s .pre .0 .2 .misses .most, c .fetched .ensures .1))  -- add-missed
+    let few = access-shaped (a .s) (s .pre .0 .1) _ (c .before .before .before .before .before .before .before .before .before .before .access-counted .ensures) .entries in
+    omega (arith, s .pre .0 .2 .queue .most, s .pre .0 .2 .misses .most))  -- went-on-requires
     (λ c. search needs)  -- same-length
     (λ c. search needs)  -- same-length-2
     (λ c. search needs)  -- same-length-3
     (λ c. search needs)  -- same-length-4
     (λ c.
-    let s = c .before .before .before .before .before .before .before .before .before .before .before .before .before .before .before .before .before .before .before .before .before .before in let a = s .args in
-    let p = c .before .before .before .before in
-    let does = c .before .before .before .before .before .before .before .before .before .before .before .before .access-counted .ensures in
-    let x = c .before .before .before .before .before .before .before .before .before .before .before .before .before .before .before .before .access-at in (
+    let s = c .before .before .before .before .before .before .before .before .before .before .before .before .before .before .before .before .before .before .before .before .before in let a = s .args in
+    let p = c .before .before .before in
+    let does = c .before .before .before .before .before .before .before .before .before .before .before .access-counted .ensures in
+    let x = c .before .before .before .before .before .before .before .before .before .before .before .before .before .before .before .access-at in
+    rw (c .went-on .ensures) (
       access-runs (a .stream .now) (a .at) (a .out) (a .events .now) (s .pre .1 .0) (a .s) _ (s .pre .0 .1) _ _ _ _ (p .put-access .ensures) (p .put-access .kept .1 .0) does (s .pre .1 .1) (x .ensures .0) (x .ensures .1),
-      rw (c .fetched .ensures .0) (counted-access (a .s) (s .pre .0 .1) (s .pre .0 .0) (s .pre .0 .2) _ (x .ensures .1) does),
+      counted-access (a .s) (s .pre .0 .1) (s .pre .0 .0) (s .pre .0 .2) _ (x .ensures .1) does,
     )))  -- returns

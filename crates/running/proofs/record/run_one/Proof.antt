@@ -26,9 +26,9 @@ run-one-spec =
     let i = c .before .before .before .before in
     let t = i .before .before in
     let s = t .before .before .before .before .before .before in
-    (s .pre .0, record { stands = s .pre .1 .0; inside = s .pre .1 .1; goes = ap goesOn (sym (t .stop-at .ensures)) ∙ sym (i .before .goes-on .ensures) ∙ not-false _ (i .if1 .left) }))
+    (s .pre .0, record { stands = s .pre .1 .0; inside = s .pre .1 .1 .0; goes = ap goesOn (sym (t .stop-at .ensures)) ∙ sym (i .before .goes-on .ensures) ∙ not-false _ (i .if1 .left) }))
     (λ c. search needs)  -- same-length
-    (λ c. search needs)  -- same-length
-    (λ c. search needs)  -- same-length
-    (λ c. search needs)  -- same-length
-    (λ c. search needs))
+    (λ c. search needs)  -- same-length-2
+    (λ c. search needs)  -- same-length-3
+    (λ c. search needs)  -- same-length-4
+    (λ c. search needs))  -- returns-2

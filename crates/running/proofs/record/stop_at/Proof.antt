@@ -10,9 +10,8 @@ stop-at-spec =
     tie.close
     (tie.spec
     (λ c. search needs)  -- shared-slice-read-kind
-    (λ c. search needs)  -- sub-left
-    (λ c. let s = c .before .before .before in usual-later (s .args .stream .now) (s .args .at) (s .pre) (s .args .room) (c .if1 .taken))  -- returns
+    (λ c. let s = c .before .before .before in usual-later (s .args .stream .now) (s .args .at) (s .pre .0) (s .args .room) (s .args .whole) (s .args .ample) (s .args .out) (s .pre .1) (s .pre .2) (c .if1 .taken))  -- returns
     (λ c κs. search needs)  -- record-at-requires
     (λ c κs. search needs)  -- later-stop-requires
     -- returns-2
-    (λ c. let s = c .before .before .before .before .before in found-later (s .args .stream .now) (s .args .at) (s .pre) (c .before .record-at .ensures) (s .args .room) (c .later-stop .ensures)))
+    (λ c. let s = c .before .before .before .before .before in found-later (s .args .stream .now) (s .args .at) (s .pre .0) (c .before .record-at .ensures) (s .args .room) (c .later-stop .ensures)))

@@ -1,0 +1,2 @@
+-- Laws of the table of answers.
+pub mod Columns
