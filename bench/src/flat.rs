@@ -20,12 +20,12 @@ pub use tables::Tables;
 use waiting::Waiting;
 
 /// What the calls work on. The rule is known where they are compiled.
-struct Cache<'a, const RULE: u32> {
-    lines: Lines<'a, RULE>,
+struct Cache<'a, const RULE: u32, const WHOLE: bool> {
+    lines: Lines<'a, RULE, WHOLE>,
     waiting: Waiting<'a>,
 }
 
-impl<const RULE: u32> Cache<'_, RULE> {
+impl<const RULE: u32, const WHOLE: bool> Cache<'_, RULE, WHOLE> {
     /// A read whose block has no line.
     #[inline(always)]
     fn read_new(&mut self, address: u64, ticket: u32, room: &mut Room) -> Result<usize, u8> {
@@ -39,7 +39,14 @@ impl<const RULE: u32> Cache<'_, RULE> {
             written = self.write_back(line, room, written);
         }
         self.lines.take(line, address);
-        self.lines.statuses[line][sector_of(address)] = RESERVED;
+        let sector = sector_of(address);
+        if WHOLE {
+            let mut four = [EMPTY; 4];
+            four[sector].status = RESERVED;
+            self.lines.store(line, four);
+        } else {
+            self.lines.statuses[line][sector] = RESERVED;
+        }
         Ok(written)
     }
 
@@ -56,11 +63,46 @@ impl<const RULE: u32> Cache<'_, RULE> {
         }
         self.lines.take(line, address);
         let sector = sector_of(address);
-        self.lines.masks[line][sector] = mask;
-        self.lines.statuses[line][sector] = MODIFIED;
-        self.lines.readable[line][sector] = u8::from(mask == u32::MAX);
+        let readable = u8::from(mask == u32::MAX);
+        if WHOLE {
+            let mut four = [EMPTY; 4];
+            four[sector] = Sector { status: MODIFIED, mask, readable };
+            self.lines.store(line, four);
+        } else {
+            self.lines.masks[line][sector] = mask;
+            self.lines.statuses[line][sector] = MODIFIED;
+            self.lines.readable[line][sector] = readable;
+        }
         *self.lines.dirty += 1;
         Ok(written)
+    }
+
+    /// A write to a line that has its block, lifted and stored back whole.
+    #[inline(always)]
+    fn write_whole(
+        &mut self,
+        line: usize,
+        statuses: u32,
+        sector: usize,
+        mask: u32,
+        room: &mut Room,
+    ) -> usize {
+        let mut four = self.lines.lift(line);
+        let found = four[sector];
+        let joined = found.mask | mask;
+        let whole = u8::from(joined == u32::MAX);
+        let (answer, left) = match found.status {
+            RESERVED => (HIT_RESERVED, Sector { mask: joined, ..found }),
+            INVALID => (SECTOR_MISS, Sector { status: MODIFIED, mask: joined, readable: whole }),
+            _ => {
+                let readable = found.readable | whole;
+                (HIT, Sector { status: MODIFIED, mask: joined, readable })
+            }
+        };
+        four[sector] = left;
+        self.lines.store(line, four);
+        *self.lines.dirty += u32::from(answer != HIT_RESERVED && !is_dirty(statuses));
+        events::answer(room, answer, line)
     }
 
     /// Queues the write-back of a dirty line; its event goes behind the others.
@@ -73,7 +115,7 @@ impl<const RULE: u32> Cache<'_, RULE> {
     }
 }
 
-impl<const RULE: u32> Calls for Cache<'_, RULE> {
+impl<const RULE: u32, const WHOLE: bool> Calls for Cache<'_, RULE, WHOLE> {
     #[inline(always)]
     fn read(&mut self, address: u64, ticket: u32, room: &mut Room) -> Result<usize, u8> {
         if !names_sector(address) {
@@ -100,8 +142,15 @@ impl<const RULE: u32> Calls for Cache<'_, RULE> {
         self.waiting.push_read(address);
         self.waiting.start_entry(address, ticket);
         let sector = sector_of(address);
-        self.lines.statuses[line][sector] = RESERVED;
-        self.lines.readable[line][sector] = 1;
+        if WHOLE {
+            self.lines.change(line, sector, |x| {
+                x.status = RESERVED;
+                x.readable = 1;
+            });
+        } else {
+            self.lines.statuses[line][sector] = RESERVED;
+            self.lines.readable[line][sector] = 1;
+        }
         let left = u32::from_le_bytes(self.lines.statuses[line]);
         *self.lines.dirty -= u32::from(is_dirty(statuses)) - u32::from(is_dirty(left));
         self.lines.touch(line, address);
@@ -125,6 +174,9 @@ impl<const RULE: u32> Calls for Cache<'_, RULE> {
         };
         let sector = sector_of(address);
         self.lines.touch(line, address);
+        if WHOLE {
+            return Ok(self.write_whole(line, statuses, sector, mask, room));
+        }
         let place = &mut self.lines.masks[line][sector];
         *place |= mask;
         let whole = *place == u32::MAX;
@@ -156,7 +208,12 @@ impl<const RULE: u32> Calls for Cache<'_, RULE> {
         if let Some((line, statuses)) = self.lines.matching(address) {
             let sector = sector_of(address);
             let dirty = self.lines.masks[line][sector] != 0;
-            self.lines.statuses[line][sector] = VALID + u8::from(dirty);
+            let status = VALID + u8::from(dirty);
+            if WHOLE {
+                self.lines.change(line, sector, |x| x.status = status);
+            } else {
+                self.lines.statuses[line][sector] = status;
+            }
             *self.lines.dirty += u32::from(dirty & !is_dirty(statuses));
         }
         Ok(written)

@@ -1,5 +1,6 @@
-//! The unchecked runner as a program: `plainrun flat|own FILE`. A stream from a file through a buffer of 64 KiB, its events to
-//! standard output through another; a last line on standard error. `flat` runs it on the lent tables, `own` on tables of its own.
+//! The unchecked runner as a program: `plainrun flat|whole|own FILE`. A stream from a file through a buffer of 64 KiB, its events to
+//! standard output through another; a last line on standard error. `flat` runs it on the lent tables,
+//! `whole` on these too, each line that changes lifted as one array and stored back whole, `own` on tables of its own.
 
 use bench::runner::{settings_length, settings_of, Stopped, CUT_SHORT, NO_ROOM};
 use bench::{flat, own};
@@ -47,7 +48,7 @@ fn run(
 fn main() -> ExitCode {
     let mut words = std::env::args().skip(1);
     let (Some(which), Some(name)) = (words.next(), words.next()) else {
-        eprintln!("usage: plainrun flat|own FILE");
+        eprintln!("usage: plainrun flat|whole|own FILE");
         return ExitCode::from(2);
     };
     let mut input = File::open(name).expect("opened");
@@ -58,12 +59,14 @@ fn main() -> ExitCode {
     let first = settings_length(space[0]);
     input.read_exact(&mut space[1..first]).expect("settings");
     let settings = settings_of(&space);
-    let stopped = if which == "flat" {
-        let mut tables = flat::Tables::fresh(settings);
-        run(input, output, &mut space, |part, room| tables.run(part, room))
-    } else {
-        let mut cache = own::Cache::new(settings);
-        run(input, output, &mut space, |part, room| cache.run(part, room))
+    let mut tables = flat::Tables::fresh(settings);
+    let stopped = match which.as_str() {
+        "flat" => run(input, output, &mut space, |part, room| tables.run(part, room)),
+        "whole" => run(input, output, &mut space, |part, room| tables.run_whole(part, room)),
+        _ => {
+            let mut cache = own::Cache::new(settings);
+            run(input, output, &mut space, |part, room| cache.run(part, room))
+        }
     };
     let Stopped { number, consumed, written } = stopped;
     eprintln!("stop {number} consumed {} written {written}", first + consumed);

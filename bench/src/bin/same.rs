@@ -1,5 +1,5 @@
 //! Compares plain Rust with the library on random streams, good and damaged, under every rule: `same [STREAMS]`. Events, stops and
-//! what was consumed, of all three; the tables at the end, number for number, of `flat`.
+//! what was consumed, of all; the tables at the end, number for number, of `flat`, with single sectors and with whole lines.
 
 #[allow(dead_code)] // the single calls
 #[path = "../library.rs"]
@@ -90,12 +90,18 @@ fn compare(random: &mut Random, seen: &mut [usize; 32]) {
     let (mut lent, mut room) = (Tables::fresh(settings), vec![0; size]);
     let library = came(lent.run(&bytes, &mut room), 0, &room);
     let first = settings_length(bytes[0]);
-    let mut tables = flat::Tables::fresh(settings);
-    let flat = came(tables.run(&bytes[first..], &mut room), first, &room);
-    assert!(library == flat, "flat differs from the library");
-    assert!(lent.longs == tables.longs, "the longs differ");
-    assert!(lent.words == tables.words, "the words differ");
-    assert!(lent.marks == tables.marks, "the marks differ");
+    for whole in [false, true] {
+        let mut tables = flat::Tables::fresh(settings);
+        let stopped = if whole {
+            tables.run_whole(&bytes[first..], &mut room)
+        } else {
+            tables.run(&bytes[first..], &mut room)
+        };
+        assert!(library == came(stopped, first, &room), "flat differs from the library");
+        assert!(lent.longs == tables.longs, "the longs differ");
+        assert!(lent.words == tables.words, "the words differ");
+        assert!(lent.marks == tables.marks, "the marks differ");
+    }
     let own = came(own::Cache::new(settings).run(&bytes[first..], &mut room), first, &room);
     assert!(library == own, "own differs from the library");
     seen[usize::from(library.0)] += 1;

@@ -27,7 +27,19 @@ fn is_reserved(statuses: u32) -> bool {
 /// Where the current cycle stands among the cycles; those of the lines come behind it.
 pub const NOW: usize = 0;
 
-pub struct Lines<'a, const RULE: u32> {
+/// A sector by itself, for the runs that change a line as one array.
+#[derive(Clone, Copy)]
+pub struct Sector {
+    pub status: u8,
+    pub mask: u32,
+    pub readable: u8,
+}
+
+/// A sector of a line that was just taken.
+pub const EMPTY: Sector = Sector { status: INVALID, mask: 0, readable: 1 };
+
+/// WHOLE: a line that changes is lifted as one array and stored back whole, as document 01 has it.
+pub struct Lines<'a, const RULE: u32, const WHOLE: bool> {
     pub tags: &'a mut [u64],
     pub cycles: &'a mut [u32],
     pub masks: &'a mut [[u32; 4]],
@@ -44,7 +56,33 @@ pub struct Lines<'a, const RULE: u32> {
     pub enough: u32,
 }
 
-impl<const RULE: u32> Lines<'_, RULE> {
+impl<const RULE: u32, const WHOLE: bool> Lines<'_, RULE, WHOLE> {
+    #[inline(always)]
+    pub fn lift(&self, line: usize) -> [Sector; 4] {
+        let (statuses, masks) = (self.statuses[line], self.masks[line]);
+        let readable = self.readable[line];
+        std::array::from_fn(|k| Sector {
+            status: statuses[k],
+            mask: masks[k],
+            readable: readable[k],
+        })
+    }
+
+    #[inline(always)]
+    pub fn store(&mut self, line: usize, four: [Sector; 4]) {
+        self.masks[line] = four.map(|sector| sector.mask);
+        self.statuses[line] = four.map(|sector| sector.status);
+        self.readable[line] = four.map(|sector| sector.readable);
+    }
+
+    /// Changes one sector of a line, which is lifted and stored back whole.
+    #[inline(always)]
+    pub fn change(&mut self, line: usize, sector: usize, change: impl FnOnce(&mut Sector)) {
+        let mut four = self.lift(line);
+        change(&mut four[sector]);
+        self.store(line, four);
+    }
+
     #[inline(always)]
     fn set_of(&self, address: u64) -> usize {
         (address / 128) as usize & usize::from(self.last_set)
@@ -80,14 +118,16 @@ impl<const RULE: u32> Lines<'_, RULE> {
         }
     }
 
-    /// A line that a MISS takes, its sectors INVALID and readable.
+    /// A line that a MISS takes, its sectors INVALID and readable; with WHOLE they are stored with the one that changes.
     #[inline(always)]
     pub fn take(&mut self, line: usize, address: u64) {
         self.tags[line] = address & !127;
         self.taken[line] = self.cycles[NOW];
-        self.masks[line] = [0; 4];
-        self.statuses[line] = [INVALID; 4];
-        self.readable[line] = [1; 4];
+        if !WHOLE {
+            self.masks[line] = [0; 4];
+            self.statuses[line] = [INVALID; 4];
+            self.readable[line] = [1; 4];
+        }
         self.touch(line, address);
     }
 

@@ -33,31 +33,52 @@ impl Tables {
 
     /// Runs the records of a part of a stream.
     pub fn run(&mut self, part: &[u8], room: &mut [u8]) -> Stopped {
+        self.run_with::<false>(part, room)
+    }
+
+    /// The same, where a line that changes is lifted as one array and stored back whole.
+    pub fn run_whole(&mut self, part: &[u8], room: &mut [u8]) -> Stopped {
+        self.run_with::<true>(part, room)
+    }
+
+    fn run_with<const WHOLE: bool>(&mut self, part: &[u8], room: &mut [u8]) -> Stopped {
         match self.settings.rule {
-            FIFO => self.run_by::<FIFO>(part, room),
-            TREE => self.run_by::<TREE>(part, room),
-            _ => self.run_by::<LRU>(part, room),
+            FIFO => self.run_by::<FIFO, WHOLE>(part, room),
+            TREE => self.run_by::<TREE, WHOLE>(part, room),
+            _ => self.run_by::<LRU, WHOLE>(part, room),
         }
     }
 
-    fn run_by<const RULE: u32>(&mut self, part: &[u8], room: &mut [u8]) -> Stopped {
-        let ran = self.usual::<RULE>(part, room);
-        self.last::<RULE>(part, room, ran)
+    fn run_by<const RULE: u32, const WHOLE: bool>(&mut self, part: &[u8], room: &mut [u8]) -> Stopped {
+        let ran = self.usual::<RULE, WHOLE>(part, room);
+        self.last::<RULE, WHOLE>(part, room, ran)
     }
 
     #[inline(never)]
-    fn usual<const RULE: u32>(&mut self, part: &[u8], room: &mut [u8]) -> Ran {
-        self.with(|cache: &mut Cache<RULE>| runner::usual(cache, part, room))
+    fn usual<const RULE: u32, const WHOLE: bool>(
+        &mut self,
+        part: &[u8],
+        room: &mut [u8],
+    ) -> Ran {
+        self.with(|cache: &mut Cache<RULE, WHOLE>| runner::usual(cache, part, room))
     }
 
     #[inline(never)]
-    fn last<const RULE: u32>(&mut self, part: &[u8], room: &mut [u8], ran: Ran) -> Stopped {
-        self.with(|cache: &mut Cache<RULE>| runner::last(cache, part, room, ran))
+    fn last<const RULE: u32, const WHOLE: bool>(
+        &mut self,
+        part: &[u8],
+        room: &mut [u8],
+        ran: Ran,
+    ) -> Stopped {
+        self.with(|cache: &mut Cache<RULE, WHOLE>| runner::last(cache, part, room, ran))
     }
 
     /// What some calls come to, with the slices cut once for all of them.
     #[inline(always)]
-    fn with<T, const RULE: u32>(&mut self, calls: impl FnOnce(&mut Cache<RULE>) -> T) -> T {
+    fn with<T, const RULE: u32, const WHOLE: bool>(
+        &mut self,
+        calls: impl FnOnce(&mut Cache<RULE, WHOLE>) -> T,
+    ) -> T {
         let mut cache = self.cut();
         let result = calls(&mut cache);
         (self.queued, self.missed) = (cache.waiting.queued, cache.waiting.missed);
@@ -67,7 +88,7 @@ impl Tables {
     /// The regions. Those of the lines are seen to be of one length, so that one comparison does for
     /// a line's places in all of them; those of the miss table too, and those of the queue.
     #[inline(always)]
-    fn cut<const RULE: u32>(&mut self) -> Cache<'_, RULE> {
+    fn cut<const RULE: u32, const WHOLE: bool>(&mut self) -> Cache<'_, RULE, WHOLE> {
         let settings = &self.settings;
         let (count, misses, places) =
             (settings.lines(), settings.misses as usize, settings.queue as usize);
