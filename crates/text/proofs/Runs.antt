@@ -13,16 +13,14 @@ use lib.Dec.{eqb}
 use Rattle.words.proofs.Flags.{not-yes, no-not, and-1, and-2, and-i, iff}
 use Rattle.words.specs.Words.{pick}
 use Rattle.text.specs.Words.{run, past, inWord, wordEnd, wordAt, partOf, sameText}
+use mathlib.Core.Logic.{⊎-elim}
+use Rattle.words.proofs.Flags.{flag}
 
 module _ (p : ℕ → Bool) where
   pub run-le : (s : List ℕ) → run p s ≤ length s
   unfolding run
   run-le [] = omega arith
-  run-le (c ∷ s) = go (p c) (run-le s)
-    where
-      go : (b : Bool) → run p s ≤ length s → pick b (suc (run p s)) 0 ≤ suc (length s)
-      go true h = omega arith
-      go false h = omega arith
+  run-le (c ∷ s) = let h = run-le s in ⊎-elim (λ q. rw q (omega arith)) (λ q. rw q (omega arith)) (flag (p c))
 
   module _ (s : List ℕ) (i : ℕ) where
     pub past-le : i ≤ length s → past p s i ≤ length s
