@@ -12,8 +12,6 @@ nothing-queued-spec =
     (tie.spec
     (λ c κs.
     let i = c .before .before .before .pre .1 .are in
-    let z = stands-fit (i .range) (is-stands i) in
-    let p = c .before .before .before .pre .0 in
-    omega arith)  -- used-requires
+    omega (arith, stands-fit (i .range) (is-stands i), c .before .before .before .pre .0))  -- used-requires
     (λ c.
     queueless _ (c .before .before .before .before .pre .1) (c .before .before .before .before .pre .0) (c .used .ensures)))  -- returns
