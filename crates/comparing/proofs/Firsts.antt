@@ -90,9 +90,7 @@ module _ (a b : List ℕ) where
         let k = ltb-false y (length b) (or-no-2 (ltb x (length a)) (ltb y (length b)) t) in
         let p = at-a in
         let q = at-b in
-        let u = counted-out a n (omega arith) in
-        let v = counted-out b n (omega arith) in
-        omega arith
+        omega (arith, counted-out a n (omega arith), counted-out b n (omega arith))
 
     pub going-over : left x y ≡ false → answer.Same ≡ firstDifference a b m
     going-over t = sym (g .same ∙ first-over n (over-count t))

@@ -176,12 +176,11 @@ module _ (begun : Bool) {s a : List ℕ} {whole : Bool} (f : Front s a whole) wh
 
   pub shown : Shown (ahead begun a whole)
   unfolding ahead
-  shown = go (eqb (length a) 0) refl
-    where
-      go : (t : Bool) → eqb (length a) 0 ≡ t
-          → Shown (pick t (pick whole (ahead-of.Shows 0) ahead-of.Wants) (pick (begun && startsGroup (getD a 0 0)) (ahead-of.Shows 0) (pick (whole || leb (recordEnd a 0) (length a)) (ahead-of.Shows (past a 0)) ahead-of.Wants)))
-      go true q = empty (eqb-true (length a) 0 q) whole refl
-      go false q = by-start (eqb-false (length a) 0 q) (begun && startsGroup (getD a 0 0)) refl
+  shown =
+      ⊎-elim
+      (λ q. rw q (empty (eqb-true (length a) 0 q) whole refl))
+      (λ q. rw q (by-start (eqb-false (length a) 0 q) (begun && startsGroup (getD a 0 0)) refl))
+      (flag (eqb (length a) 0))
 
 -- ---- two groups are the same where their next records are, and the rest
 

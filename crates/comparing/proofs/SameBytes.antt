@@ -102,9 +102,7 @@ module _ (a b : List ℕ) (n : ℕ) where
       let w = group-end a p l in
       let z : take (groupEnd a p - p) (drop p a) ≡ [] = rw (side-is a n) at e in
       let y : length (take (groupEnd a p - p) (drop p a)) ≡ 0 = ap length z in
-      let u = length-take (groupEnd a p - p) (drop p a) in
-      let v = length-drop p a in
-      omega arith
+      omega (arith, length-take (groupEnd a p - p) (drop p a), length-drop p a)
 
   pub second-run-out : n < length (groups a) → length (groups b) ≤ n → samePair a b n ≡ false
   unfolding samePair

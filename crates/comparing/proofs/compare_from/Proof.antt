@@ -32,12 +32,10 @@ compare-from-spec =
     (λ c κs. search needs)
     (λ c.
     let i = c .before .before .before .before .before .before .before in
-    let w = group-le (i .before .before .before .before .args .a .now) (i .before .loop .x) in
-    omega arith)  -- sub-t17
+    omega (arith, group-le (i .before .before .before .before .args .a .now) (i .before .loop .x)))  -- sub-t17
     (λ c.
     let i = c .before .before .before .before .before .before .before in
-    let w = group-le (i .before .before .before .before .args .b .now) (i .before .loop .y) in
-    omega arith)  -- sub-t18
+    omega (arith, group-le (i .before .before .before .before .args .b .now) (i .before .loop .y)))  -- sub-t18
     (λ c.
     let s = c .before in
     let p2 = s .before in
