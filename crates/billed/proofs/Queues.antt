@@ -45,39 +45,29 @@ module _ (es : List Entry) where
   read-masks a ms four h = ap (λ (n : ℕ). replicate n 0) (sym four) ∙ zero-masks ms (and-2 (any (unsentFor a) es) (all (λ m. eqb m 0) ms) h)
 
   -- an entry of a sound queue is the one that its event tells
-  told-as : (k : QueueKind) (a : ℕ) (ms : List ℕ) → length ms ≡ 4 → kindOk es k a ms ≡ true → queuedOf (queuedAs k a ms) ≡ record { kind = k; address = a; masks = ms } ∷ []
-  told-as queue.Read a ms four h = rw (read-masks a ms four h)
-  told-as queue.WriteBack b ms four h = rw (four-whole 0 ms four)
+  told-as : (k : QueueKind) (a : ℕ) (ms : List ℕ) → length ms ≡ 4 → kindOk es k a ms ≡ true
+      → (queuedOf (queuedAs k a ms) ≡ record { kind = k; address = a; masks = ms } ∷ []) × (sentOf (sentAs k a ms) ≡ record { kind = k; address = a; masks = ms } ∷ [])
+  told-as queue.Read a ms four h = let z = read-masks a ms four h in (rw z, rw z)
+  told-as queue.WriteBack b ms four h = let z = four-whole 0 ms four in (rw z, rw z)
 
-  queued-told : (q : Queued) → queuedOk es q ≡ true → queuedOf (queuedEvent q) ≡ q ∷ []
-  queued-told q h = let (four, small, asked) = queued-parts es q h in told-as (q .kind) (q .address) (q .masks) four asked
-
-  sent-as : (k : QueueKind) (a : ℕ) (ms : List ℕ) → length ms ≡ 4 → kindOk es k a ms ≡ true → sentOf (sentAs k a ms) ≡ record { kind = k; address = a; masks = ms } ∷ []
-  sent-as queue.Read a ms four h = rw (read-masks a ms four h)
-  sent-as queue.WriteBack b ms four h = rw (four-whole 0 ms four)
-
-  sent-told : (q : Queued) → queuedOk es q ≡ true → sentOf (sentEvent q) ≡ q ∷ []
-  sent-told q h = let (four, small, asked) = queued-parts es q h in sent-as (q .kind) (q .address) (q .masks) four asked
+  told : (q : Queued) → queuedOk es q ≡ true → (queuedOf (queuedEvent q) ≡ q ∷ []) × (sentOf (sentEvent q) ≡ q ∷ [])
+  told q h = let (four, small, asked) = queued-parts es q h in told-as (q .kind) (q .address) (q .masks) four asked
 
   all-told : (qs : List Queued) → all (queuedOk es) qs ≡ true → queuedBy (map queuedEvent qs) ≡ qs
   unfolding entriesBy
   all-told [] h = refl
   all-told (q ∷ qs) h =
-      rw (queued-told q (and-1 (queuedOk es q) _ h)) (ap (λ (l : List Queued). q ∷ l) (all-told qs (and-2 (queuedOk es q) _ h)))
+      rw (told q (and-1 (queuedOk es q) _ h) .0) (ap (λ (l : List Queued). q ∷ l) (all-told qs (and-2 (queuedOk es q) _ h)))
 
 -- what is queued tells of nothing sent, and what is sent of nothing queued
+apart : (k : QueueKind) (a : ℕ) (ms : List ℕ) → (sentOf (queuedAs k a ms) ≡ []) × (queuedOf (sentAs k a ms) ≡ [])
+apart queue.Read a ms = (refl, refl)
+apart queue.WriteBack b ms = (refl, refl)
+
 none-sent : (qs : List Queued) → sentBy (map queuedEvent qs) ≡ []
 unfolding entriesBy
 none-sent [] = refl
-none-sent (q ∷ qs) = rw (unsent (q .kind) (q .address) (q .masks)) (none-sent qs)
-  where
-    unsent : (k : QueueKind) (a : ℕ) (ms : List ℕ) → sentOf (queuedAs k a ms) ≡ []
-    unsent queue.Read a ms = refl
-    unsent queue.WriteBack b ms = refl
-
-none-queued : (k : QueueKind) (a : ℕ) (ms : List ℕ) → queuedOf (sentAs k a ms) ≡ []
-none-queued queue.Read a ms = refl
-none-queued queue.WriteBack b ms = refl
+none-sent (q ∷ qs) = rw (apart (q .kind) (q .address) (q .masks) .0) (none-sent qs)
 
 tickets-none : (f : Event → List Queued) → ((k : ℕ) → f (ev.Released k) ≡ []) → (ts : List ℕ) → entriesBy f (map ev.Released ts) ≡ []
 unfolding entriesBy
@@ -116,7 +106,7 @@ module _ (R : Rules) (S : Settings) (range : inRange S ≡ true) (t : Tables) (o
     where
       go : (q : List Queued) → t .queue ≡ q → all (queuedOk (t .misses)) q ≡ true → Tells t (sendFrom q t)
       go [] h f = refused-tells t QueueEmpty
-      go (e ∷ q) h f = rw (none-queued (e .kind) (e .address) (e .masks), sent-told (t .misses) e (and-1 (queuedOk (t .misses) e) _ f), h) (append-nil (e ∷ q))
+      go (e ∷ q) h f = rw (apart (e .kind) (e .address) (e .masks) .1, told (t .misses) e (and-1 (queuedOk (t .misses) e) _ f) .1, h) (append-nil (e ∷ q))
 
   fill-tells : (a : ℕ) → Tells t (fill a t)
   unfolding fill entriesBy

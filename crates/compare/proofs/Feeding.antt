@@ -2,14 +2,14 @@
 use mathlib.Core.Path.{_≡_, refl, sym, ap, _∙_}
 use mathlib.Core.Logic.{_⊎_, inl, inr, ⊎-elim}
 use mathlib.Core.Bool.{Bool, true, false, _&&_}
-use mathlib.Core.List.{List, [], _∷_, _++_}
-use Prim.Native.Nat.{ℕ, _+_, _-_, _*_, _%_, _^_, min, _≤_, _<_}
+use mathlib.Core.List.{List}
+use Prim.Native.Nat.{ℕ, _+_, _-_, _*_, _%_, _^_, _≤_, _<_}
 use native.Mathlib.Omega.{arith}
-use borrow.Author.Tests.{le-leb, lt-leb, leb-true, leb-false, lt-ltb, le-ltb, ltb-true, ltb-false}
+use borrow.Author.Tests.{le-leb, lt-ltb, le-ltb}
 use lib.ListN.{length, take, drop, length-append, length-take, length-drop, take-append-drop}
 use lib.Seq.{length-take-le, take-all, take-append-le, drop-append-le}
-use lib.Dec.{leb, ltb}
-use Rattle.words.specs.Words.{pick}
+use lib.Dec.{leb}
+use Rattle.words.proofs.Below.{lt-or-ge}
 use Rattle.input.specs.declared.Filled.{Filled}
 use Rattle.input.specs.declared.Filled.the-variants as filled
 use Rattle.input.specs.Buffers.{Reaches, Read, movedDown, carried, carriedCount}
@@ -18,17 +18,6 @@ use Rattle.compare.specs.declared.reading.Topped.{Topped}
 use Rattle.compare.specs.declared.reading.Met.{Met}
 use Rattle.compare.specs.declared.reading.Met.the-variants as met
 use Rattle.compare.specs.Windows.{window, waitingIn, movedBy, Sound, Grown, topped, cameTo, Fed, leftOf}
-
--- ---- what comes
-
-module _ (base have n : ℕ) where
-  pub came-long : 2 ^ 64 - 1 - base < n → {r : Topped} → r ≡ topped base have false met.Stuck → r ≡ cameTo base have n
-  unfolding cameTo
-  came-long l e = rw (lt-ltb (2 ^ 64 - 1 - base) n l) e
-
-  pub came-more : n ≤ 2 ^ 64 - 1 - base → {r : Topped} → r ≡ topped base n false met.Read → r ≡ cameTo base have n
-  unfolding cameTo
-  came-more l e = rw (le-ltb (2 ^ 64 - 1 - base) n l) e
 
 -- ---- the bytes that wait
 
@@ -102,20 +91,13 @@ module _ (l : List ℕ) (w : Window) (s : Sound (length l) w) where
 
       pub fed-came : {n : ℕ} → f ≡ filled.To n → {r : Topped} → r ≡ cameTo (w .base + w .at) have n → Fed l w (r .window) (r .met) l₁
       unfolding cameTo
-      fed-came {n} g {r} e = go (ltb (2 ^ 64 - 1 - (w .base + w .at)) n) refl e
-        where
-          reach : Reaches have (length l₀) (filled.To n)
-          reach = rw g at (k .reaches)
-
-          go : (u : Bool) → ltb (2 ^ 64 - 1 - (w .base + w .at)) n ≡ u
-              → r ≡ pick u (topped (w .base + w .at) have false met.Stuck) (topped (w .base + w .at) n false met.Read) → Fed l w (r .window) (r .met) l₁
-          go true b e = fed-stuck e
-          go false b e =
-              let c = count in
-              let x = reach .0 in
-              let y = ltb-false (2 ^ 64 - 1 - (w .base + w .at)) n b in
-              let z = reach .1 in
-              let i = same-size in
-              let j = s .placed in
-              let o = s .within in
-              feeds n false met.Read (omega arith) (omega arith) (inl (omega arith, refl)) e
+      fed-came {n} g {r} e =
+          let reach : Reaches have (length l₀) (filled.To n) = rw g at (k .reaches) in
+          let c = count in
+          let i = same-size in
+          let j = s .placed in
+          let o = s .within in
+          ⊎-elim
+          (λ y. fed-stuck (rw (lt-ltb (2 ^ 64 - 1 - (w .base + w .at)) n y) at e))
+          (λ y. feeds n false met.Read (omega arith) (omega arith) (inl (omega arith, refl)) (rw (le-ltb (2 ^ 64 - 1 - (w .base + w .at)) n y) at e))
+          (lt-or-ge (2 ^ 64 - 1 - (w .base + w .at)) n)

@@ -1,36 +1,23 @@
 -- The check part by part: what each part comes to, and that the parts are the log.
-use mathlib.Core.Path.{_≡_, refl, sym, ap, _∙_}
+use mathlib.Core.Path.{_≡_, refl, sym, ap}
 use mathlib.Core.Logic.{_⊎_, inl, inr, ⊎-elim}
-use mathlib.Core.Bool.{Bool, true, false, not}
+use mathlib.Core.Bool.{Bool, true, false}
 use mathlib.Core.List.{List, [], _++_}
-use Prim.Native.Nat.{ℕ, zero, suc, _+_, _-_, _^_, _≤_, _<_}
+use Prim.Native.Nat.{ℕ, _+_, _-_, _^_, _≤_, _<_}
 use native.Mathlib.Omega.{arith}
-use borrow.Author.Tests.{lt-ltb, le-ltb, ltb-true, ltb-false}
+use borrow.Author.Tests.{lt-ltb, le-ltb}
 use lib.ListN.{length, take, length-append}
 use lib.Seq.{length-take-le}
-use lib.Dec.{ltb}
 use Rattle.words.specs.Words.{pick}
-use Rattle.words.proofs.Flags.{clash}
-use Rattle.comparing.specs.declared.Checking.{Checking}
-use Rattle.comparing.specs.Coming.{beginning, passedBytes, told}
+use Rattle.words.proofs.Flags.{flag, clash}
+use Rattle.words.proofs.Below.{lt-or-ge}
+use Rattle.comparing.specs.Coming.{beginning, passedBytes}
 use Rattle.comparing.proofs.InParts.{passed-append}
 use Rattle.input.specs.declared.Filled.{Filled}
 use Rattle.input.specs.declared.Filled.the-variants as filled
 use Rattle.input.specs.Buffers.{Reaches, Read}
-use Rattle.comparing.specs.declared.Fault.{Fault}
-use Rattle.comparing.specs.declared.Fault.the-variants as fault
 use Rattle.compare.specs.declared.checking.Check.{Check}
-use Rattle.compare.specs.declared.checking.Verdict.the-variants as verdict
-use Rattle.compare.specs.Checking.{started, overOf, passedOf, cameOf, Came, ReadOn, Checked, verdictOf}
-
-module _ (l : List ℕ) (n : ℕ) (c : Check) where
-  pub came-long : 2 ^ 64 - 1 - c .read < n → {r : Check} → r ≡ overOf c true → r ≡ cameOf l n c
-  unfolding cameOf
-  came-long k e = rw (lt-ltb (2 ^ 64 - 1 - c .read) n k) e
-
-  pub came-part : n ≤ 2 ^ 64 - 1 - c .read → {s : List ℕ} → s ≡ take n l → {d : Checking} → d ≡ passedBytes (c .checking) s → passedOf d (c .read + n) ≡ cameOf l n c
-  unfolding cameOf
-  came-part k e g = rw (le-ltb (2 ^ 64 - 1 - c .read) n k, g, e)
+use Rattle.compare.specs.Checking.{started, overOf, passedOf, cameOf, ReadOn, Checked}
 
 -- a turn of the loop: the bytes that came are checked with those before, and where there is another turn some came
 abbrev pub Onward : Check → Check → Type 0
@@ -42,23 +29,20 @@ module _ {c : Check} (k : Checked c) {r : Check} where
 
   part-came : (l : List ℕ) (n : ℕ) → 0 < n → n ≤ length l → r ≡ cameOf l n c → Onward c r
   unfolding cameOf
-  part-came l n y h e = go (ltb (2 ^ 64 - 1 - c .read) n) refl e
-    where
-      go : (u : Bool) → ltb (2 ^ 64 - 1 - c .read) n ≡ u
-          → r ≡ pick u (overOf c true) (passedOf (passedBytes (c .checking) (take n l)) (c .read + n)) → Onward c r
-      go true q e = stops true e
-      go false q e =
-          let z = ltb-false (2 ^ 64 - 1 - c .read) n q in
-          let x = length-append (k .bytes) (take n l) in
-          let v = length-take-le n l h in
-          let w = k .read in (
-            rw e (record {
-              bytes = k .bytes ++ take n l;
-              checking = rw (k .checking) (sym (passed-append beginning (k .bytes) (take n l)));
-              read = omega arith;
-            }),
-            λ m. rw e (omega arith, omega arith),
-          )
+  part-came l n y h e =
+      ⊎-elim
+      (λ z. stops true (rw (lt-ltb (2 ^ 64 - 1 - c .read) n z) at e))
+      (λ z.
+      let x = length-append (k .bytes) (take n l) in
+      let v = length-take-le n l h in
+      let w = k .read in
+      let e′ : r ≡ passedOf (passedBytes (c .checking) (take n l)) (c .read + n) = rw (le-ltb (2 ^ 64 - 1 - c .read) n z) at e in
+      rw e′ (record {
+        bytes = k .bytes ++ take n l;
+        checking = rw (k .checking) (sym (passed-append beginning (k .bytes) (take n l)));
+        read = omega arith;
+      }, λ m. omega arith))
+      (lt-or-ge (2 ^ 64 - 1 - c .read) n)
 
   pub reads-on : (l : List ℕ) → ReadOn l c r → Onward c r
   reads-on l x = ⊎-elim (λ e. stops true e) (λ y. ⊎-elim (λ e. stops false e) (λ v. part-came l (v .n) (v .some) (v .within) (v .is)) y) x
@@ -80,24 +64,4 @@ abbrev pub toRead : Check → ℕ
 toRead c = pick (c .more) (1 + (2 ^ 64 - c .read)) 0
 
 pub less-to-read : (c r : Check) → c .more ≡ true → (r .more ≡ true → (c .read < r .read) × (r .read < 2 ^ 64)) → toRead r < toRead c
-less-to-read c r m f = rw m (go (r .more) f)
-  where
-    go : (b : Bool) → (b ≡ true → (c .read < r .read) × (r .read < 2 ^ 64)) → pick b (1 + (2 ^ 64 - r .read)) 0 < 1 + (2 ^ 64 - c .read)
-    go true f = let x = f refl in omega arith
-    go false f = omega arith
-
--- ---- the verdict
-
-module _ (c : Check) where
-  pub verdict-failed : c .failed ≡ true → verdict.Failed ≡ verdictOf c
-  unfolding verdictOf
-  verdict-failed q = rw q
-
-  module _ (q : c .failed ≡ false) {f : Fault} (p : f ≡ told (c .checking)) where
-    pub verdict-good : f ≡ fault.None → verdict.Good (c .read) ≡ verdictOf c
-    unfolding verdictOf
-    verdict-good e = rw (q, sym p ∙ e)
-
-    pub verdict-refused : {n at : ℕ} → f ≡ fault.At n at → verdict.Refused n at ≡ verdictOf c
-    unfolding verdictOf
-    verdict-refused e = rw (q, sym p ∙ e)
+less-to-read c r m f = rw m (⊎-elim (λ q. let x = f q in rw q (omega arith)) (λ q. rw q (omega arith)) (flag (r .more)))

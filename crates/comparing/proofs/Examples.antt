@@ -5,7 +5,7 @@ use Prim.Native.Nat.{ℕ}
 use Rattle.model.specs.RecordsOf as records
 use Rattle.comparing.specs.declared.Compared.the-variants as answer
 use Rattle.comparing.specs.Kinds.{startsGroup, isEvent}
-use Rattle.comparing.specs.Groups.{Part, recordEnd, past, endFrom, groupEnd, groupsFrom, groups, sideOf}
+use Rattle.comparing.specs.Groups.{recordEnd, past, endFrom, groupEnd, groupsFrom, groups, sideOf}
 use Rattle.comparing.specs.Checks.{wrongAt, scannedFrom, scanned, checked}
 use Rattle.comparing.specs.Pairs.{sameBytes, samePair, firstOf, firstDifference, compared}
 

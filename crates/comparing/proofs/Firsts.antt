@@ -2,7 +2,7 @@
 use mathlib.Core.Path.{_≡_, refl, sym, ap, _∙_}
 use mathlib.Core.Logic.{_⊎_, inl, inr, ⊎-elim}
 use mathlib.Core.Bool.{Bool, true, false, _||_}
-use mathlib.Core.List.{List, [], _∷_}
+use mathlib.Core.List.{List}
 use Prim.Native.Nat.{ℕ, zero, suc, _+_, _-_, _%_, _^_, max, _≤_, _<_}
 use native.Mathlib.Omega.{arith}
 use native.Mathlib.Numerals.{add-one}
@@ -10,15 +10,11 @@ use borrow.Author.Tests.{le-ltb, ltb-true, ltb-false}
 use lib.Dec.{ltb}
 use lib.ListN.{length, take, drop}
 use Rattle.words.specs.Words.{pick}
-use Rattle.words.proofs.Flags.{or-cases, or-no-1, or-no-2}
-use Rattle.comparing.specs.declared.Fault.{Fault}
-use Rattle.comparing.specs.declared.Fault.the-variants as fault
-use Rattle.comparing.specs.declared.Compared.{Compared}
+use Rattle.words.proofs.Flags.{flag, or-cases, or-no-1, or-no-2}
 use Rattle.comparing.specs.declared.Compared.the-variants as answer
-use Rattle.comparing.specs.Groups.{Part, partTo, bytesIn, groupEnd, groups, sideOf}
+use Rattle.comparing.specs.Groups.{partTo, bytesIn, groupEnd, sideOf}
 use Rattle.comparing.specs.declared.Cursor.{Cursor}
-use Rattle.comparing.specs.Pairs.{sameBytes, samePair, differs, firstOf, pairs, firstDifference, compared, atStart, behind, groupAt, foundFrom, found, Stands, Behind, GoesOn}
-use Rattle.comparing.specs.Checks.{checked}
+use Rattle.comparing.specs.Pairs.{sameBytes, samePair, differs, firstOf, pairs, firstDifference, atStart, behind, groupAt, foundFrom, found, Stands, GoesOn}
 use Rattle.comparing.proofs.Walks.{group-end}
 use Rattle.comparing.proofs.Sides.{placeFrom, place-next, place-grows, group-le, side-is, counted, counted-out}
 
@@ -94,9 +90,7 @@ module _ (a b : List ℕ) where
         let k = ltb-false y (length b) (or-no-2 (ltb x (length a)) (ltb y (length b)) t) in
         let p = at-a in
         let q = at-b in
-        let u = counted-out a n (omega arith) in
-        let v = counted-out b n (omega arith) in
-        omega arith
+        omega (arith, counted-out a n (omega arith), counted-out b n (omega arith))
 
     pub going-over : left x y ≡ false → answer.Same ≡ firstDifference a b m
     going-over t = sym (g .same ∙ first-over n (over-count t))
@@ -165,14 +159,11 @@ module _ (a b : List ℕ) where
   found-steps zero zero c h k = refl
   found-steps zero (suc e) c h k = rw (none-ahead c h)
   found-steps (suc d) zero c h k = rw (none-ahead c k)
-  found-steps (suc d) (suc e) c h k = go (left a b (c .first) (c .second)) refl (sameBytes (bytesIn a (groupAt a (c .first))) (bytesIn b (groupAt b (c .second)))) (λ v p q. found-steps d e v p q)
-    where
-      go : (t : Bool) → left a b (c .first) (c .second) ≡ t → (u : Bool) → ((v : Cursor) → ahead v ≤ d → ahead v ≤ e → foundFrom d a b v ≡ foundFrom e a b v)
-          → pick t (pick u (foundFrom d a b (behind a b c)) (record { answer = differs (c .number) (groupAt a (c .first)) (groupAt b (c .second)); next = behind a b c })) (record { answer = answer.Same; next = c })
-          ≡ pick t (pick u (foundFrom e a b (behind a b c)) (record { answer = differs (c .number) (groupAt a (c .first)) (groupAt b (c .second)); next = behind a b c })) (record { answer = answer.Same; next = c })
-      go true q true ih = let l = behind-less c q in ih (behind a b c) (omega arith) (omega arith)
-      go true q false ih = refl
-      go false q u ih = refl
+  found-steps (suc d) (suc e) c h k =
+      ⊎-elim
+      (λ q. let l = behind-less c q in rw (q, found-steps d e (behind a b c) (omega arith) (omega arith)))
+      (λ q. rw q)
+      (flag (left a b (c .first) (c .second)))
 
   -- the loop over the pairs: what is found from where it stands
   abbrev pub Finds : Cursor → Cursor → Type 0
@@ -223,22 +214,6 @@ module _ (a b : List ℕ) where
     unfolding found ahead
     found-goes-on c s = goes-from (length a + length b) (c .number) c (omega arith) (record { in-a = s .in-a; in-b = s .in-b; same = refl; from = omega arith; to = omega arith })
 
--- ---- the answer to any two logs
-
 pub begin-stands : (a b : List ℕ) → Stands a b atStart
 unfolding placeFrom
 begin-stands a b = record { in-a = ap (λ p. p .place) (sym (side-is a 0)); in-b = ap (λ p. p .place) (sym (side-is b 0)) }
-
-module _ (a b : List ℕ) (from : ℕ) {f : Fault} (p : f ≡ checked a) where
-  pub compared-first : {n place : ℕ} → f ≡ fault.At n place → answer.Refused 1 n place ≡ compared a b from
-  unfolding compared
-  compared-first q = rw (sym p ∙ q)
-
-  module _ (q : f ≡ fault.None) {g : Fault} (u : g ≡ checked b) where
-    pub compared-second : {n place : ℕ} → g ≡ fault.At n place → answer.Refused 2 n place ≡ compared a b from
-    unfolding compared
-    compared-second v = rw (sym p ∙ q, sym u ∙ v)
-
-    pub compared-pairs : g ≡ fault.None → {r : Compared} → r ≡ firstDifference a b from → r ≡ compared a b from
-    unfolding compared
-    compared-pairs v e = rw (sym p ∙ q, sym u ∙ v) e

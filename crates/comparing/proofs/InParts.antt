@@ -1,6 +1,7 @@
 -- A log checked as it comes is the log checked whole, however it is cut into parts.
 use mathlib.Core.Path.{_≡_, refl, sym, ap, _∙_}
-use mathlib.Core.Bool.{Bool, true, false, not, _&&_}
+use mathlib.Core.Logic.{⊎-elim}
+use mathlib.Core.Bool.{Bool, true, false, not}
 use mathlib.Core.List.{List, [], _∷_, _++_}
 use Prim.Native.Nat.{ℕ, zero, suc, _+_, _-_, _%_, _^_, min, _≤_, _<_}
 use native.Mathlib.Omega.{arith}
@@ -9,6 +10,8 @@ use lib.ListN.{length, getD, take, drop, length-append, length-take, length-drop
 use lib.Seq.{getD-append-add}
 use lib.Dec.{eqb, leb, ltb}
 use Rattle.words.specs.Words.{pick}
+use Rattle.words.proofs.Flags.{flag}
+use Rattle.words.proofs.Below.{lt-or-ge}
 use Rattle.model.specs.Records.{lengthOf}
 use Rattle.comparing.specs.declared.Fault.{Fault}
 use Rattle.comparing.specs.declared.Fault.the-variants as fault
@@ -44,30 +47,21 @@ shifted-none (fault.At n x) = let e : 0 + x ≡ x = omega arith in rw e
 module _ (r s : List ℕ) where
   wrong-shift : (x : ℕ) → wrongAt (r ++ s) (length r + x) ≡ wrongAt s x
   unfolding wrongAt recordEnd
-  wrong-shift x = rw (getD-append-add r s x 0) (go (leb (x + 1 + lengthOf (getD s x 0)) (length s)) refl)
-    where
-      n : ℕ
-      n = lengthOf (getD s x 0)
-
-      test : (t : Bool) → leb (x + 1 + n) (length s) ≡ t → leb (length r + x + 1 + n) (length (r ++ s)) ≡ t
-      test true q = let k = length-append r s in let l = leb-true (x + 1 + n) (length s) q in le-leb (length r + x + 1 + n) (length (r ++ s)) (omega arith)
-      test false q = let k = length-append r s in let l = leb-false (x + 1 + n) (length s) q in lt-leb (length r + x + 1 + n) (length (r ++ s)) (omega arith)
-
-      go : (t : Bool) → leb (x + 1 + n) (length s) ≡ t
-          → _≡_ {A = ℕ} (pick (isEvent (getD s x 0)) (pick (leb (length r + x + 1 + n) (length (r ++ s))) 0 15) 14) (pick (isEvent (getD s x 0)) (pick (leb (x + 1 + n) (length s)) 0 15) 14)
-      go t q = rw (test t q, q)
+  wrong-shift x =
+      let k = length-append r s in
+      let n = lengthOf (getD s x 0) in
+      rw (getD-append-add r s x 0)
+      (⊎-elim
+      (λ l. rw (le-leb (x + 1 + n) (length s) (omega arith), le-leb (length r + x + 1 + n) (length (r ++ s)) (omega arith)))
+      (λ l. rw (lt-leb (x + 1 + n) (length s) (omega arith), lt-leb (length r + x + 1 + n) (length (r ++ s)) (omega arith)))
+      (lt-or-ge (x + n) (length s)))
 
   scan-shift : (n x : ℕ) → scannedFrom n (r ++ s) (length r + x) ≡ shifted (length r) (scannedFrom n s x)
   unfolding scannedFrom
   scan-shift zero x = refl
-  scan-shift (suc n) x = rw (shift-test r s x, wrong-shift x, past-shift r s x) (go (ltb x (length s)) (eqb (wrongAt s x) 0) (scan-shift n (past s x)))
-    where
-      go : (t u : Bool) → scannedFrom n (r ++ s) (length r + past s x) ≡ shifted (length r) (scannedFrom n s (past s x))
-          → pick t (pick u (scannedFrom n (r ++ s) (length r + past s x)) (fault.At (wrongAt s x) (length r + x))) fault.None
-          ≡ shifted (length r) (pick t (pick u (scannedFrom n s (past s x)) (fault.At (wrongAt s x) x)) fault.None)
-      go true true ih = ih
-      go true false ih = refl
-      go false u ih = refl
+  scan-shift (suc n) x =
+      rw (shift-test r s x, wrong-shift x, past-shift r s x, scan-shift n (past s x))
+      (⊎-elim (λ t. rw t (⊎-elim (λ u. rw u) (λ u. rw u) (flag (eqb (wrongAt s x) 0)))) (λ t. rw t) (flag (ltb x (length s))))
 
 -- ---- the body of a record, passed byte by byte
 
@@ -85,14 +79,14 @@ one-within p q m k i h =
 skip-body : (m : ℕ) (s : List ℕ) (p q : ℕ) (i : Bool) → m ≤ length s → p + length s < 2 ^ 64 → passedBytes (so-far p q m i) s ≡ passedBytes (so-far (p + m) q 0 i) (drop m s)
 unfolding passedBytes
 skip-body zero s p q i h k = let e : p + 0 ≡ p = omega arith in rw e
-skip-body (suc m) [] p q i h k = absurd (let w : ⊥ = omega arith in w)
+skip-body (suc m) [] p q i h k = absurd (omega arith)
 skip-body (suc m) (x ∷ s) p q i h k =
     let e : p + suc m ≡ p + 1 + m = omega arith in
     ap (λ c. passedBytes c s) (one-within p q m x i (omega arith)) ∙ rw e (skip-body m s (p + 1) q i (omega arith) (omega arith))
 
 cut-body : (m : ℕ) (s : List ℕ) (p q : ℕ) (i : Bool) → length s < m → p + length s < 2 ^ 64 → told (passedBytes (so-far p q m i) s) ≡ fault.At 15 q
 unfolding passedBytes told
-cut-body zero s p q i h k = absurd (let w : ⊥ = omega arith in w)
+cut-body zero s p q i h k = absurd (omega arith)
 cut-body (suc m) [] p q i h k = rw (ne-eqb (suc m) 0 (λ z. omega arith))
 cut-body (suc m) (x ∷ s) p q i h k = ap (λ c. told (passedBytes c s)) (one-within p q m x i (omega arith)) ∙ cut-body m s (p + 1) q i (omega arith) (omega arith)
 
@@ -171,7 +165,7 @@ scan-coming : (n : ℕ) (s : List ℕ) (p q : ℕ) (i : Bool) → length s ≤ n
 unfolding passedBytes told scannedFrom ends Told m j
 scan-coming zero [] p q i h room = refl
 scan-coming (suc n) [] p q i h room = refl
-scan-coming zero (k ∷ s) p q i h room = absurd (let w : ⊥ = omega arith in w)
+scan-coming zero (k ∷ s) p q i h room = absurd (omega arith)
 scan-coming (suc n) (k ∷ s) p q i h room = go (isEvent k) refl (leb (lengthOf k) (length s)) refl (λ t a b c d. scan-coming n t a b c d)
   where
     go : (e : Bool) → isEvent k ≡ e → (l : Bool) → leb (lengthOf k) (length s) ≡ l
@@ -189,11 +183,7 @@ scan-coming (suc n) (k ∷ s) p q i h room = go (isEvent k) refl (leb (lengthOf 
 ends-first : (s : List ℕ) → ends 0 false s ≡ inside s
 unfolding ends
 ends-first [] = refl
-ends-first (k ∷ s) = go (startsGroup k)
-  where
-    go : (t : Bool) → pick (not t) (fault.At 17 0) fault.None ≡ pick t fault.None (fault.At 17 0)
-    go true = refl
-    go false = refl
+ends-first (k ∷ s) = ⊎-elim (λ t. rw t) (λ t. rw t) (flag (startsGroup k))
 
 -- with passed-append: the parts of a log, passed in order, come to what is told of the log
 pub checked-coming : (s : List ℕ) → length s < 2 ^ 64 → told (passedBytes beginning s) ≡ checked s

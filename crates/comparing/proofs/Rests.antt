@@ -1,6 +1,7 @@
 -- What is left of a group in the bytes to come: its next record, and then the rest; what a front of those bytes shows of it.
 use mathlib.Core.Path.{_≡_, refl, sym, ap, _∙_}
-use mathlib.Core.Bool.{Bool, true, false, not, _&&_, _||_, and-assoc}
+use mathlib.Core.Logic.{⊎-elim}
+use mathlib.Core.Bool.{Bool, true, false, _&&_, _||_, and-assoc}
 use mathlib.Core.List.{List, [], _∷_, _++_}
 use Prim.Native.Nat.{ℕ, zero, suc, _+_, _-_, _≤_, _<_}
 use native.Mathlib.Omega.{arith}
@@ -11,7 +12,7 @@ use lib.Seq.{length-take-le, take-add, getD-take}
 use lib.Dec.{eqb, leb, ltb}
 use Rattle.words.specs.Words.{pick}
 use Rattle.model.specs.Records.{lengthOf}
-use Rattle.words.proofs.Flags.{no-yes, clash, and-1}
+use Rattle.words.proofs.Flags.{flag, no-yes, clash, and-1}
 use Rattle.comparing.specs.declared.Ahead.{Ahead}
 use Rattle.comparing.specs.declared.Ahead.the-variants as ahead-of
 use Rattle.comparing.specs.Kinds.{startsGroup}
@@ -58,11 +59,7 @@ pub record Coming (begun : Bool) (s : List ℕ) (m : ℕ) : Type 0 where
 start-ends : (n : ℕ) (s : List ℕ) → startsGroup (getD s 0 0) ≡ true → endFrom n s 0 ≡ 0
 unfolding endFrom
 start-ends zero s q = refl
-start-ends (suc n) s q = rw q (go (ltb 0 (length s)))
-  where
-    go : (t : Bool) → _≡_ {A = ℕ} (pick t 0 0) 0
-    go true = refl
-    go false = refl
+start-ends (suc n) s q = ⊎-elim (λ (t : ltb 0 (length s) ≡ true). rw (q, t)) (λ (t : ltb 0 (length s) ≡ false). rw (q, t)) (flag (ltb 0 (length s)))
 
 end-once : (n : ℕ) (s : List ℕ) → 0 < length s → startsGroup (getD s 0 0) ≡ false → endFrom (suc n) s 0 ≡ endFrom n s (past s 0)
 unfolding endFrom
@@ -109,7 +106,7 @@ module _ (s : List ℕ) where
             fits = omega arith;
             size = let z : rest begun s ≡ 0 + rest begun s = omega arith in z;
             none = λ z. (e, f);
-            some = λ l. absurd (let w : ⊥ = omega arith in w);
+            some = λ l. absurd (omega arith);
           }
 
       go : (t : Bool) → eqb (length s) 0 ≡ t → (u : Bool) → (begun && startsGroup (getD s 0 0)) ≡ u → Coming begun s (pick (t || u) 0 (past s 0))
@@ -122,7 +119,7 @@ module _ (s : List ℕ) where
           record {
             fits = w .1;
             size = rw (ne-eqb (past s 0) 0 (λ e. omega arith)) (rest-record h begun r);
-            none = λ e. absurd (let y : ⊥ = omega arith in y);
+            none = λ e. absurd (omega arith);
             some = λ l. refl;
           }
 
@@ -179,20 +176,19 @@ module _ (begun : Bool) {s a : List ℕ} {whole : Bool} (f : Front s a whole) wh
 
   pub shown : Shown (ahead begun a whole)
   unfolding ahead
-  shown = go (eqb (length a) 0) refl
-    where
-      go : (t : Bool) → eqb (length a) 0 ≡ t
-          → Shown (pick t (pick whole (ahead-of.Shows 0) ahead-of.Wants) (pick (begun && startsGroup (getD a 0 0)) (ahead-of.Shows 0) (pick (whole || leb (recordEnd a 0) (length a)) (ahead-of.Shows (past a 0)) ahead-of.Wants)))
-      go true q = empty (eqb-true (length a) 0 q) whole refl
-      go false q = by-start (eqb-false (length a) 0 q) (begun && startsGroup (getD a 0 0)) refl
+  shown =
+      ⊎-elim
+      (λ q. rw q (empty (eqb-true (length a) 0 q) whole refl))
+      (λ q. rw q (by-start (eqb-false (length a) 0 q) (begun && startsGroup (getD a 0 0)) refl))
+      (flag (eqb (length a) 0))
 
 -- ---- two groups are the same where their next records are, and the rest
 
 bytes-append : (x y u v : List ℕ) → length x ≡ length y → sameBytes (x ++ u) (y ++ v) ≡ (sameBytes x y && sameBytes u v)
 unfolding sameBytes
 bytes-append [] [] u v e = refl
-bytes-append [] (b ∷ y) u v e = absurd (let w : ⊥ = omega arith in w)
-bytes-append (a ∷ x) [] u v e = absurd (let w : ⊥ = omega arith in w)
+bytes-append [] (b ∷ y) u v e = absurd (omega arith)
+bytes-append (a ∷ x) [] u v e = absurd (omega arith)
 bytes-append (a ∷ x) (b ∷ y) u v e = rw (bytes-append x y u v (omega arith)) (sym (and-assoc (eqb a b) (sameBytes x y) (sameBytes u v)))
 
 module _ {b c : Bool} {s t : List ℕ} {m n : ℕ} (p : Coming b s m) (q : Coming c t n) where
@@ -240,17 +236,12 @@ module _ {b c : Bool} {s t : List ℕ} {m n : ℕ} (p : Coming b s m) (q : Comin
 
   pub same-split : sameBytes (take (rest b s) s) (take (rest c t) t) ≡ (sameBytes (take m s) (take n t) && sameBytes (take (rest (after b m) (drop m s)) (drop m s)) (take (rest (after c n) (drop n t)) (drop n t)))
   unfolding r r′
-  same-split = go (eqb m n) refl
-    where
-      short : (m ≡ n → ⊥) → false ≡ sameBytes (take m s) (take n t)
-      short h =
-          let i = length-take-le m s (p .fits) in
-          let j = length-take-le n t (q .fits) in
-          same-lengths (take m s) (take n t) (λ e. h (omega arith))
-
-      go : (u : Bool) → eqb m n ≡ u
-          → sameBytes (take (rest b s) s) (take (rest c t) t) ≡ (sameBytes (take m s) (take n t) && sameBytes (take (rest (after b m) (drop m s)) (drop m s)) (take (rest (after c n) (drop n t)) (drop n t)))
-      go true e = split-same (eqb-true m n e)
-      go false e =
-          let h = eqb-false m n e in
-          no-yes (λ z. no-split h (same-equal (take (rest b s) s) (take (rest c t) t) z)) ∙ rw (← (short h))
+  same-split =
+      let i = length-take-le m s (p .fits) in
+      let j = length-take-le n t (q .fits) in
+      ⊎-elim
+      (λ e. split-same (eqb-true m n e))
+      (λ e.
+      let h = eqb-false m n e in
+      no-yes (λ z. no-split h (same-equal (take (rest b s) s) (take (rest c t) t) z)) ∙ rw (← (same-lengths (take m s) (take n t) (λ e. h (omega arith)))))
+      (flag (eqb m n))

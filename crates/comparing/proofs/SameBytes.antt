@@ -1,22 +1,22 @@
 -- "Asked from 0 and refusing neither log, it says none exactly if both have the same bytes".
 use mathlib.Core.Path.{_≡_, refl, sym, ap, _∙_}
 use mathlib.Core.Logic.{_↔_}
+use mathlib.Core.Logic.{⊎-elim}
 use mathlib.Core.Bool.{Bool, true, false}
-use mathlib.Core.List.{List, [], _∷_, _++_, map}
-use Prim.Native.Nat.{ℕ, zero, suc, _+_, _-_, max, _≤_, _<_}
+use mathlib.Core.List.{List, [], _∷_, map}
+use Prim.Native.Nat.{ℕ, zero, suc, _+_, _-_, _≤_, _<_}
 use native.Mathlib.Omega.{arith}
-use borrow.Author.Tests.{le-ltb, lt-ltb, ltb-true, ltb-false}
+use borrow.Author.Tests.{le-ltb, lt-ltb}
 use lib.ListN.{length, getD, take, drop, length-take, length-drop, take-append-drop, drop-of-length-le, List·getD-eq-default, List·getD-map}
 use lib.Seq.{drop-drop}
-use lib.Dec.{ltb}
 use Rattle.words.specs.Words.{pick, joined}
+use Rattle.words.proofs.Below.{lt-or-ge}
 use Rattle.words.proofs.Flags.{no-yes}
 use Rattle.comparing.specs.declared.Fault.the-variants as fault
-use Rattle.comparing.specs.declared.Compared.{Compared}
 use Rattle.comparing.specs.declared.Compared.the-variants as answer
-use Rattle.comparing.specs.Groups.{groupEnd, Part, partTo, bytesIn, groupsFrom, groups, sideOf}
+use Rattle.comparing.specs.Groups.{groupEnd, bytesIn, groupsFrom, groups, sideOf}
 use Rattle.comparing.specs.Checks.{checked}
-use Rattle.comparing.specs.Pairs.{sameBytes, samePair, differs, firstOf, pairs, firstDifference, compared}
+use Rattle.comparing.specs.Pairs.{samePair, differs, firstOf, pairs, firstDifference, compared}
 use Rattle.comparing.proofs.Walks.{group-end}
 use Rattle.comparing.proofs.Sides.{placeFrom, side-is, counted-out}
 use Rattle.comparing.proofs.Bytes.{same-equal, same-self}
@@ -27,17 +27,16 @@ module _ (s : List ℕ) where
   join-from : (d at : ℕ) → length s ≤ at + d → joined (map (bytesIn s) (groupsFrom d s at)) ≡ drop at s
   unfolding groupsFrom
   join-from zero at k = sym (drop-of-length-le s {i = at} (omega arith))
-  join-from (suc d) at k = go (ltb at (length s)) refl (λ m p. join-from d m p)
-    where
-      go : (t : Bool) → ltb at (length s) ≡ t → ((m : ℕ) → length s ≤ m + d → joined (map (bytesIn s) (groupsFrom d s m)) ≡ drop m s)
-          → joined (map (bytesIn s) (pick t (partTo at (groupEnd s at) ∷ groupsFrom d s (groupEnd s at)) [])) ≡ drop at s
-      go true q ih =
-          let w = group-end s at (ltb-true at (length s) q) in
-          let e = groupEnd s at in
-          let z : at + (e - at) ≡ e = omega arith in
-          let r : drop (e - at) (drop at s) ≡ drop e s = drop-drop (e - at) at s ∙ ap (λ n. drop n s) z in
-          rw (ih e (omega arith), ← r) (take-append-drop (e - at) (drop at s))
-      go false q ih = sym (drop-of-length-le s {i = at} (ltb-false at (length s) q))
+  join-from (suc d) at k =
+      ⊎-elim
+      (λ l.
+      let w = group-end s at l in
+      let e = groupEnd s at in
+      let z : at + (e - at) ≡ e = omega arith in
+      let r : drop (e - at) (drop at s) ≡ drop e s = drop-drop (e - at) at s ∙ ap (λ n. drop n s) z in
+      rw (lt-ltb at (length s) l, join-from d e (omega arith), ← r) (take-append-drop (e - at) (drop at s)))
+      (λ l. rw (le-ltb at (length s) l) (sym (drop-of-length-le s {i = at} l)))
+      (lt-or-ge at (length s))
 
   pub joined-groups : joined (map (bytesIn s) (groups s)) ≡ s
   unfolding groups
@@ -62,32 +61,27 @@ join-same (x ∷ xs) (y ∷ ys) f = rw (f 0, join-same xs ys (λ n. f (suc n)))
 module _ (a b : List ℕ) where
   none-of : (d n : ℕ) → firstOf d a b n ≡ answer.Same → (k : ℕ) → n ≤ k → k < n + d → samePair a b k ≡ true
   unfolding firstOf
-  none-of zero n e k h l = absurd (let w : ⊥ = omega arith in w)
+  none-of zero n e k h l = absurd (omega arith)
   none-of (suc d) n e k h l = go (samePair a b n) refl e (λ r i j. none-of d (suc n) r k i j)
     where
-      later : (suc n ≤ k → k < suc n + d → samePair a b k ≡ true) → (t : Bool) → ltb n k ≡ t → samePair a b n ≡ true → samePair a b k ≡ true
-      later ih true q s = let w = ltb-true n k q in ih (omega arith) (omega arith)
-      later ih false q s = let w = ltb-false n k q in let z : k ≡ n = omega arith in rw z s
-
       go : (t : Bool) → samePair a b n ≡ t → pick t (firstOf d a b (suc n)) (differs n (sideOf a n) (sideOf b n)) ≡ answer.Same
           → (firstOf d a b (suc n) ≡ answer.Same → suc n ≤ k → k < suc n + d → samePair a b k ≡ true) → samePair a b k ≡ true
-      go true q r ih = later (ih r) (ltb n k) refl q
-      go false q r ih = let z : _≡_ {A = ℕ} 0 1 = cc in absurd (let w : ⊥ = omega arith in w)
+      go true q r ih = ⊎-elim (λ w. ih r (omega arith) (omega arith)) (λ w. let z : k ≡ n = omega arith in rw z q) (lt-or-ge n k)
+      go false q r ih = let z : _≡_ {A = ℕ} 0 1 = cc in absurd (omega arith)
 
   none-same : firstDifference a b 0 ≡ answer.Same → a ≡ b
   unfolding firstDifference samePair
   none-same e = sym (joined-groups a) ∙ join-same (map (bytesIn a) (groups a)) (map (bytesIn b) (groups b)) at ∙ joined-groups b
     where
-      side : (n : ℕ) → (t : Bool) → ltb n (pairs a b) ≡ t → bytesIn a (sideOf a n) ≡ bytesIn b (sideOf b n)
-      side n true q =
-          let w = ltb-true n (pairs a b) q in
-          same-equal (bytesIn a (sideOf a n)) (bytesIn b (sideOf b n)) (none-of (pairs a b - 0) 0 e n (omega arith) (omega arith))
-      side n false q =
-          let w = ltb-false n (pairs a b) q in
-          out-bytes a n (omega arith) ∙ sym (out-bytes b n (omega arith))
+      side : (n : ℕ) → bytesIn a (sideOf a n) ≡ bytesIn b (sideOf b n)
+      side n =
+          ⊎-elim
+          (λ w. same-equal (bytesIn a (sideOf a n)) (bytesIn b (sideOf b n)) (none-of (pairs a b - 0) 0 e n (omega arith) (omega arith)))
+          (λ w. out-bytes a n (omega arith) ∙ sym (out-bytes b n (omega arith)))
+          (lt-or-ge n (pairs a b))
 
       at : (n : ℕ) → getD (map (bytesIn a) (groups a)) n [] ≡ getD (map (bytesIn b) (groups b)) n []
-      at n = side-bytes a n ∙ side n (ltb n (pairs a b)) refl ∙ sym (side-bytes b n)
+      at n = side-bytes a n ∙ side n ∙ sym (side-bytes b n)
 
 self-none : (a : List ℕ) (d n : ℕ) → firstOf d a a n ≡ answer.Same
 unfolding firstOf samePair
@@ -104,17 +98,11 @@ module _ (a b : List ℕ) (n : ℕ) where
   group-bytes : n < length (groups a) → bytesIn a (sideOf a n) ≡ [] → ⊥
   group-bytes h e =
       let p = placeFrom n a 0 in
-      let l : p < length a = by-place (ltb p (length a)) refl in
+      let l : p < length a = ⊎-elim (λ q. q) (λ q. absurd (let k = counted-out a n q in omega arith)) (lt-or-ge p (length a)) in
       let w = group-end a p l in
       let z : take (groupEnd a p - p) (drop p a) ≡ [] = rw (side-is a n) at e in
       let y : length (take (groupEnd a p - p) (drop p a)) ≡ 0 = ap length z in
-      let u = length-take (groupEnd a p - p) (drop p a) in
-      let v = length-drop p a in
-      omega arith
-    where
-      by-place : (t : Bool) → ltb (placeFrom n a 0) (length a) ≡ t → placeFrom n a 0 < length a
-      by-place true q = ltb-true (placeFrom n a 0) (length a) q
-      by-place false q = absurd (let k = counted-out a n (ltb-false (placeFrom n a 0) (length a) q) in let w : ⊥ = omega arith in w)
+      omega (arith, length-take (groupEnd a p - p) (drop p a), length-drop p a)
 
   pub second-run-out : n < length (groups a) → length (groups b) ≤ n → samePair a b n ≡ false
   unfolding samePair

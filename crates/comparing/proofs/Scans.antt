@@ -1,19 +1,18 @@
 -- The check of a log: the numbers of a record by the tests that the code makes, the loop over the records, and what follows the last.
-use mathlib.Core.Path.{_≡_, refl, sym, ap, _∙_}
-use mathlib.Core.Bool.{Bool, true, false}
+use mathlib.Core.Path.{_≡_, refl, sym, _∙_}
+use mathlib.Core.Logic.{⊎-elim}
+use mathlib.Core.Bool.{true, false}
 use mathlib.Core.List.{List, [], _∷_}
 use Prim.Native.Nat.{ℕ, zero, suc, _+_, _-_, _≤_, _<_}
 use native.Mathlib.Omega.{arith}
-use borrow.Author.Tests.{le-ltb, lt-ltb, ltb-true, le-leb, lt-leb, ne-eqb}
+use borrow.Author.Tests.{le-ltb, lt-ltb, le-leb, lt-leb, ne-eqb}
 use lib.ListN.{length, getD}
-use lib.Dec.{ltb, leb, eqb}
-use Rattle.words.specs.Words.{pick}
+use Rattle.words.proofs.Below.{lt-or-ge}
 use Rattle.model.specs.Records.{lengthOf}
-use Rattle.comparing.specs.declared.Fault.{Fault}
 use Rattle.comparing.specs.declared.Fault.the-variants as fault
 use Rattle.comparing.specs.Kinds.{startsGroup, isEvent}
 use Rattle.comparing.specs.Groups.{recordEnd, past}
-use Rattle.comparing.specs.Checks.{wrongAt, scannedFrom, scanned, inside, orThen, checked}
+use Rattle.comparing.specs.Checks.{wrongAt, scannedFrom, scanned, inside}
 use Rattle.comparing.proofs.Walks.{past-more}
 
 module _ (s : List ℕ) (at n : ℕ) where
@@ -35,13 +34,11 @@ module _ (s : List ℕ) where
   scan-steps zero zero at h k = refl
   scan-steps zero (suc e) at h k = rw (le-ltb at (length s) (omega arith))
   scan-steps (suc d) zero at h k = rw (le-ltb at (length s) (omega arith))
-  scan-steps (suc d) (suc e) at h k = go (ltb at (length s)) refl (eqb (wrongAt s at) 0) (λ m p q. scan-steps d e m p q)
-    where
-      go : (t : Bool) → ltb at (length s) ≡ t → (u : Bool) → ((m : ℕ) → length s ≤ m + d → length s ≤ m + e → scannedFrom d s m ≡ scannedFrom e s m)
-          → pick t (pick u (scannedFrom d s (past s at)) (fault.At (wrongAt s at) at)) fault.None ≡ pick t (pick u (scannedFrom e s (past s at)) (fault.At (wrongAt s at) at)) fault.None
-      go true q true ih = let w = past-more s at (ltb-true at (length s) q) in ih (past s at) (omega arith) (omega arith)
-      go true q false ih = refl
-      go false q u ih = refl
+  scan-steps (suc d) (suc e) at h k =
+      ⊎-elim
+      (λ l. let w = past-more s at l in rw (lt-ltb at (length s) l, scan-steps d e (past s at) (omega arith) (omega arith)))
+      (λ l. rw (le-ltb at (length s) l))
+      (lt-or-ge at (length s))
 
   -- the loop over the records
   abbrev pub Scans : ℕ → Type 0
@@ -68,16 +65,7 @@ module _ (s : List ℕ) where
   unfolding scannedFrom
   scans-over at h w = let k : length s - at ≡ 0 = omega arith in sym (w ∙ rw k)
 
-  -- ---- after the last record
-
-  module _ {f : Fault} (p : f ≡ scanned s) where
-    pub checked-at : {n place : ℕ} → f ≡ fault.At n place → fault.At n place ≡ checked s
-    unfolding checked
-    checked-at q = rw (sym p ∙ q)
-
-    pub checked-by : f ≡ fault.None → {g : Fault} → g ≡ inside s → g ≡ checked s
-    unfolding checked
-    checked-by q e = rw (sym p ∙ q) e
+-- ---- after the last record
 
 pub inside-empty : (s : List ℕ) → length s ≡ 0 → fault.None ≡ inside s
 inside-empty [] e = refl

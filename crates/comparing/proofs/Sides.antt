@@ -1,13 +1,15 @@
 -- The groups of a log one behind the other: the side of a number begins where the groups before it end.
 use mathlib.Core.Path.{_≡_, refl, sym, ap, _∙_}
+use mathlib.Core.Logic.{⊎-elim}
 use mathlib.Core.Bool.{Bool, true, false}
 use mathlib.Core.List.{List, [], _∷_}
 use Prim.Native.Nat.{ℕ, zero, suc, _+_, _-_, _≤_, _<_}
 use native.Mathlib.Omega.{arith}
-use borrow.Author.Tests.{le-ltb, lt-ltb, ltb-true, ltb-false}
+use borrow.Author.Tests.{ltb-true, ltb-false}
 use lib.ListN.{length, getD}
 use lib.Dec.{ltb}
 use Rattle.words.specs.Words.{pick}
+use Rattle.words.proofs.Below.{lt-or-ge}
 use Rattle.comparing.specs.Groups.{groupEnd, Part, partTo, groupsFrom, groups, sideOf}
 use Rattle.comparing.proofs.Walks.{group-end, group-none}
 
@@ -31,11 +33,7 @@ module _ (s : List ℕ) where
   place-next (suc n) at = place-next n (groupEnd s at)
 
   pub group-within : (at : ℕ) → at ≤ length s → (at ≤ groupEnd s at) × (groupEnd s at ≤ length s)
-  group-within at h = go (ltb at (length s)) refl
-    where
-      go : (t : Bool) → ltb at (length s) ≡ t → (at ≤ groupEnd s at) × (groupEnd s at ≤ length s)
-      go true q = let w = group-end s at (ltb-true at (length s) q) in (omega arith, omega arith)
-      go false q = let w = group-none s at (ltb-false at (length s) q) in (omega arith, omega arith)
+  group-within at h = ⊎-elim (λ l. let w = group-end s at l in omega arith) (λ l. let w = group-none s at l in omega arith) (lt-or-ge at (length s))
 
   pub place-within : (n at : ℕ) → at ≤ length s → placeFrom n s at ≤ length s
   unfolding placeFrom
@@ -46,21 +44,15 @@ module _ (s : List ℕ) where
   pub place-grows : (n at : ℕ) → placeFrom n s at < length s → at + n ≤ placeFrom n s at
   unfolding placeFrom
   place-grows zero at h = omega arith
-  place-grows (suc n) at h = go (ltb at (length s)) refl (place-grows n (groupEnd s at) h)
-    where
-      go : (t : Bool) → ltb at (length s) ≡ t → groupEnd s at + n ≤ placeFrom n s (groupEnd s at) → at + suc n ≤ placeFrom n s (groupEnd s at)
-      go true q ih = let w = group-end s at (ltb-true at (length s) q) in omega arith
-      go false q ih =
-          let l : length s ≤ at = ltb-false at (length s) q in
-          let e : placeFrom n s (groupEnd s at) ≡ at = rw (group-none s at l) (stay n at l) in
-          absurd (let w : ⊥ = omega arith in w)
+  place-grows (suc n) at h =
+      let ih = place-grows n (groupEnd s at) h in
+      ⊎-elim
+      (λ l. let w = group-end s at l in omega arith)
+      (λ l. let e : placeFrom n s (groupEnd s at) ≡ at = rw (group-none s at l) (stay n at l) in omega arith)
+      (lt-or-ge at (length s))
 
   pub group-le : (at : ℕ) → at ≤ groupEnd s at
-  group-le at = go (ltb at (length s)) refl
-    where
-      go : (t : Bool) → ltb at (length s) ≡ t → at ≤ groupEnd s at
-      go true q = let w = group-end s at (ltb-true at (length s) q) in omega arith
-      go false q = let w = group-none s at (ltb-false at (length s) q) in omega arith
+  group-le at = ⊎-elim (λ l. let w = group-end s at l in omega arith) (λ l. let w = group-none s at l in omega arith) (lt-or-ge at (length s))
 
   -- ---- by number
 

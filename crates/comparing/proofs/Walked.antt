@@ -1,5 +1,6 @@
 -- Two logs passed step by step, however they come: where the steps come to the end, they listed exactly the pairs that differ.
 use mathlib.Core.Path.{_≡_, refl, sym, ap, _∙_}
+use mathlib.Core.Logic.{⊎-elim}
 use mathlib.Core.Bool.{Bool, true, false, not, _&&_, and-true, and-assoc}
 use mathlib.Core.List.{List, [], _∷_, _++_, append-nil, append-assoc}
 use Prim.Native.Nat.{ℕ, zero, suc, _+_, _-_, _%_, _^_, _≤_, _<_}
@@ -10,7 +11,7 @@ use lib.ListN.{length, take, drop, length-append, length-drop}
 use lib.Seq.{drop-drop, take-append-le}
 use lib.Dec.{eqb}
 use Rattle.words.specs.Words.{pick}
-use Rattle.words.proofs.Flags.{and-1, and-2}
+use Rattle.words.proofs.Flags.{flag, and-1, and-2}
 use Rattle.comparing.specs.declared.Compared.{Compared}
 use Rattle.comparing.specs.declared.Compared.the-variants as answer
 use Rattle.comparing.specs.declared.Side.{Side}
@@ -40,11 +41,11 @@ record SideAt (A s : List ℕ) (n : ℕ) (d : Side) : Type 0 where
   within : d .place + d .passed ≤ length A
 
 begun-after : (x m : ℕ) → not (eqb (x + m) 0) ≡ after (not (eqb x 0)) m
-begun-after x m = go (eqb m 0) refl
-  where
-    go : (t : Bool) → eqb m 0 ≡ t → not (eqb (x + m) 0) ≡ pick t (not (eqb x 0)) true
-    go true q = let z = eqb-true m 0 q in let e : x + m ≡ x = omega arith in rw e
-    go false q = let z = eqb-false m 0 q in rw (ne-eqb (x + m) 0 (λ e. z (omega arith)))
+begun-after x m =
+    ⊎-elim
+    (λ q. let z = eqb-true m 0 q in let e : x + m ≡ x = omega arith in rw (q, e))
+    (λ q. let z = eqb-false m 0 q in rw (q, ne-eqb (x + m) 0 (λ e. z (omega arith))))
+    (flag (eqb m 0))
 
 module _ {A s : List ℕ} {n : ℕ} {d : Side} (i : SideAt A s n d) (fits : length A < 2 ^ 64) where
   to-come : length s ≡ length A - (d .place + d .passed)
@@ -221,34 +222,25 @@ module _ {A B s t : List ℕ} {w : Walk} {ds : List Compared} (o : On A B s t w 
       with-pair = pick (w .same) ds (ds ++ (pairOf w ∷ []))
 
       lists-next : differences A B 0 ≡ with-pair ++ differences A B (w .number + 1)
-      lists-next = o .lists ∙ rw (lists-more A B (w .number) h, pair-same, the-pair) (go (w .same))
-        where
-          go : (b : Bool) → ds ++ pick b (differences A B (w .number + 1)) (pairOf w ∷ differences A B (w .number + 1)) ≡ pick b ds (ds ++ (pairOf w ∷ [])) ++ differences A B (w .number + 1)
-          go true = refl
-          go false = sym (append-assoc ds (pairOf w ∷ []) (differences A B (w .number + 1)))
+      lists-next =
+          o .lists
+          ∙ rw (lists-more A B (w .number) h, pair-same, the-pair)
+          (⊎-elim (λ q. rw q) (λ q. rw q (sym (append-assoc ds (pairOf w ∷ []) (differences A B (w .number + 1))))) (flag (w .same)))
 
       counts-next : counted w ≡ length with-pair
       unfolding counted
-      counts-next = go (w .same)
-        where
-          go : (b : Bool) → pick b (w .differing) ((w .differing + 1) % 2 ^ 64) ≡ length (pick b ds (ds ++ (pairOf w ∷ [])))
-          go true = o .count
-          go false = let k = length-append ds (pairOf w ∷ []) in let c = o .count in let f = o .few in omega arith
+      counts-next = ⊎-elim (λ q. rw q (o .count)) (λ q. rw q (omega (arith, length-append ds (pairOf w ∷ []), o .count, o .few))) (flag (w .same))
 
       lowest-next : lowestOf w ≡ lowestIn with-pair
       unfolding lowestOf
-      lowest-next = go (w .same)
-        where
-          go : (b : Bool) → pick b (w .lowest) (pick (eqb (w .differing) 0) (w .number) (w .lowest)) ≡ lowestIn (pick b ds (ds ++ (pairOf w ∷ [])))
-          go true = o .lowest
-          go false = rw (lowest-snoc ds (w .number) (w .first .place) (w .first .passed) (w .second .place) (w .second .passed), o .count, o .lowest)
+      lowest-next =
+          ⊎-elim
+          (λ q. rw q (o .lowest))
+          (λ (q : w .same ≡ false). rw (q, lowest-snoc ds (w .number) (w .first .place) (w .first .passed) (w .second .place) (w .second .passed), o .count, o .lowest))
+          (flag (w .same))
 
       few-next : length with-pair ≤ w .number + 1
-      few-next = go (w .same)
-        where
-          go : (b : Bool) → length (pick b ds (ds ++ (pairOf w ∷ []))) ≤ w .number + 1
-          go true = let f = o .few in omega arith
-          go false = let k = length-append ds (pairOf w ∷ []) in let f = o .few in omega arith
+      few-next = ⊎-elim (λ q. rw q (omega (arith, o .few))) (λ q. rw q (omega (arith, length-append ds (pairOf w ∷ []), o .few))) (flag (w .same))
 
       on-pair : On A B s t (nextPair w) with-pair
       on-pair =
@@ -266,11 +258,11 @@ module _ {A B s t : List ℕ} {w : Walk} {ds : List Compared} (o : On A B s t w 
           }
 
     pair-there : (eqb (w .first .passed) 0 && eqb (w .second .passed) 0) ≡ false → (w .number < pairs A B) × (w .number + 1 < 2 ^ 64)
-    pair-there q = go (eqb (w .first .passed) 0) refl q
-      where
-        go : (b : Bool) → eqb (w .first .passed) 0 ≡ b → (b && eqb (w .second .passed) 0) ≡ false → (w .number < pairs A B) × (w .number + 1 < 2 ^ 64)
-        go false e q = let g = group-there (o .first) fa y (eqb-false (w .first .passed) 0 e) in (omega arith, omega arith)
-        go true e q = let g = group-there (o .second) fb z (eqb-false (w .second .passed) 0 q) in (omega arith, omega arith)
+    pair-there q =
+        ⊎-elim
+        (λ e. let g = group-there (o .second) fb z (eqb-false (w .second .passed) 0 (rw e at q)) in omega arith)
+        (λ e. let g = group-there (o .first) fa y (eqb-false (w .first .passed) 0 e) in omega arith)
+        (flag (eqb (w .first .passed) 0))
 
   on-over : (eqb (w .first .passed) 0 && eqb (w .second .passed) 0) ≡ true → Coming (begunSide (w .first)) s 0 → Coming (begunSide (w .second)) t 0 → Listed A B w ds
   on-over q c d =

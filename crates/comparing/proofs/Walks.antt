@@ -1,13 +1,14 @@
 -- The steps over a log: a record is a byte or more, and how many steps are allowed does not matter once they are enough.
-use mathlib.Core.Path.{_≡_, refl, sym, ap, _∙_}
-use mathlib.Core.Bool.{Bool, true, false}
-use mathlib.Core.List.{List, [], _∷_}
-use Prim.Native.Nat.{ℕ, zero, suc, _+_, _-_, min, _≤_, _<_}
+use mathlib.Core.Path.{_≡_, refl, sym, _∙_}
+use mathlib.Core.Logic.{⊎-elim}
+use mathlib.Core.Bool.{true, false}
+use mathlib.Core.List.{List}
+use Prim.Native.Nat.{ℕ, zero, suc, _+_, _-_, _≤_, _<_}
 use native.Mathlib.Omega.{arith}
-use borrow.Author.Tests.{le-ltb, lt-ltb, ltb-true, ltb-false}
+use borrow.Author.Tests.{le-ltb, lt-ltb}
 use lib.ListN.{length, getD}
-use lib.Dec.{ltb, leb, eqb}
-use Rattle.words.specs.Words.{pick}
+use Rattle.words.proofs.Flags.{by-flag}
+use Rattle.words.proofs.Below.{lt-or-ge}
 use Rattle.comparing.specs.Kinds.{startsGroup}
 use Rattle.comparing.specs.Groups.{recordEnd, past, endFrom, groupEnd}
 
@@ -23,27 +24,23 @@ module _ (s : List ℕ) where
   end-steps zero zero at h k = refl
   end-steps zero (suc e) at h k = rw (le-ltb at (length s) (omega arith))
   end-steps (suc d) zero at h k = rw (le-ltb at (length s) (omega arith))
-  end-steps (suc d) (suc e) at h k = go (ltb at (length s)) refl (startsGroup (getD s at 0)) (λ m p q. end-steps d e m p q)
-    where
-      go : (t : Bool) → ltb at (length s) ≡ t → (u : Bool) → ((m : ℕ) → length s ≤ m + d → length s ≤ m + e → endFrom d s m ≡ endFrom e s m)
-          → pick t (pick u at (endFrom d s (past s at))) at ≡ pick t (pick u at (endFrom e s (past s at))) at
-      go true q true ih = refl
-      go true q false ih = let w = past-more at (ltb-true at (length s) q) in ih (past s at) (omega arith) (omega arith)
-      go false q u ih = refl
+  end-steps (suc d) (suc e) at h k =
+      ⊎-elim
+      (λ l. let w = past-more at l in rw (lt-ltb at (length s) l, end-steps d e (past s at) (omega arith) (omega arith)))
+      (λ l. rw (le-ltb at (length s) l))
+      (lt-or-ge at (length s))
 
   pub end-bounds : (n at : ℕ) → at ≤ length s → (at ≤ endFrom n s at) × (endFrom n s at ≤ length s)
   unfolding endFrom
   end-bounds zero at h = (omega arith, h)
-  end-bounds (suc n) at h = go (ltb at (length s)) refl (startsGroup (getD s at 0)) (λ m p. end-bounds n m p)
-    where
-      go : (t : Bool) → ltb at (length s) ≡ t → (u : Bool) → ((m : ℕ) → m ≤ length s → (m ≤ endFrom n s m) × (endFrom n s m ≤ length s))
-          → (at ≤ pick t (pick u at (endFrom n s (past s at))) at) × (pick t (pick u at (endFrom n s (past s at))) at ≤ length s)
-      go true q true ih = (omega arith, h)
-      go true q false ih =
-          let w = past-more at (ltb-true at (length s) q) in
-          let v = ih (past s at) (w .1) in
-          (omega arith, omega arith)
-      go false q u ih = (omega arith, h)
+  end-bounds (suc n) at h =
+      ⊎-elim
+      (λ l.
+      let w = past-more at l in
+      let v = end-bounds n (past s at) (w .1) in
+      rw (lt-ltb at (length s) l) (by-flag (λ x. (at ≤ x) × (x ≤ length s)) (startsGroup (getD s at 0)) at (endFrom n s (past s at)) (λ u. omega arith) (λ u. omega arith)))
+      (λ l. rw (le-ltb at (length s) l) (omega arith))
+      (lt-or-ge at (length s))
 
   pub group-end : (at : ℕ) → at < length s → (at < groupEnd s at) × (groupEnd s at ≤ length s)
   unfolding groupEnd

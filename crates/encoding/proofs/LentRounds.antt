@@ -19,6 +19,7 @@ use Rattle.model.specs.Inner.{Encodes}
 use Rattle.model.specs.Rounds.{steps, calls, Turn, still, took, andThen, Run, goOn, isEmpty, sendTurn, fillFirst, drain, rounds, heldIn, waits, Settles}
 use Rattle.encoding.proofs.Bridge.{tables-of-encode, call-on}
 use Rattle.model.proofs.SeenRounds.{took-left}
+use Rattle.words.proofs.Flags.{flag}
 
 -- what a round does before its offer keeps sound tables sound; the offer, accepted, is the last call
 pub record Keeps (S : Settings) : Type 0 where
@@ -53,21 +54,12 @@ module _ (S : Settings) where
 module _ (S : Settings) (x : Access) (range : inRange S ≡ true) (keeps : Keeps S) where
   send-sound : (t : Tables) → sound S t ≡ true → sound S (sendTurn (steps S x) t .left) ≡ true
   unfolding sendTurn
-  send-sound t e = go (isEmpty (t .queue))
-    where
-      go : (b : Bool) → sound S (pick b (still t) (took t (send t)) .left) ≡ true
-      go true = e
-      go false = rw (took-left t (send t)) (keeps .sends t e)
+  send-sound t e = ⊎-elim (λ q. rw q e) (λ q. rw q (rw (took-left t (send t)) (keeps .sends t e))) (flag (isEmpty (t .queue)))
 
   fill-sound : (es : List Entry) (t : Tables) → sound S t ≡ true → sound S (fillFirst (steps S x) es t .left) ≡ true
   unfolding fillFirst
   fill-sound [] t e = e
-  fill-sound (y ∷ es) t e = go (y .sent) (fill-sound es t e)
-    where
-      go : (b : Bool) → sound S (fillFirst (steps S x) es t .left) ≡ true
-          → sound S (pick b (took t (fill (y .address) t)) (fillFirst (steps S x) es t) .left) ≡ true
-      go true ih = rw (took-left t (fill (y .address) t)) (keeps .fills (y .address) t e)
-      go false ih = ih
+  fill-sound (y ∷ es) t e = ⊎-elim (λ q. rw q (rw (took-left t (fill (y .address) t)) (keeps .fills (y .address) t e))) (λ q. rw q (fill-sound es t e)) (flag (y .sent))
 
   drain-sound : (t : Tables) → sound S t ≡ true → sound S (drain (steps S x) t .left) ≡ true
   unfolding drain
@@ -75,22 +67,17 @@ module _ (S : Settings) (x : Access) (range : inRange S ≡ true) (keeps : Keeps
 
   send-encoded : (t : Tables) → sound S t ≡ true → sendTurn (calls S x) (encode S t) ≡ turnOf S (sendTurn (steps S x) t)
   unfolding sendTurn
-  send-encoded t e = rw (tables-of-encode S t e, call-on S send t range e) (go (isEmpty (t .queue)))
-    where
-      go : (b : Bool) → pick b (still (encode S t)) (took (encode S t) (encoded S (send t))) ≡ turnOf S (pick b (still t) (took t (send t)))
-      go true = refl
-      go false = took-encoded S t (send t)
+  send-encoded t e = rw (tables-of-encode S t e, call-on S send t range e) (⊎-elim (λ q. rw q) (λ q. rw q (took-encoded S t (send t))) (flag (isEmpty (t .queue))))
 
   fill-encoded : (es : List Entry) (t : Tables) → sound S t ≡ true → fillFirst (calls S x) es (encode S t) ≡ turnOf S (fillFirst (steps S x) es t)
   unfolding fillFirst
   fill-encoded [] t e = refl
-  fill-encoded (y ∷ es) t e = rw (call-on S (fill (y .address)) t range e) (go (y .sent) (fill-encoded es t e))
-    where
-      go : (b : Bool) → fillFirst (calls S x) es (encode S t) ≡ turnOf S (fillFirst (steps S x) es t)
-          → pick b (took (encode S t) (encoded S (fill (y .address) t))) (fillFirst (calls S x) es (encode S t))
-          ≡ turnOf S (pick b (took t (fill (y .address) t)) (fillFirst (steps S x) es t))
-      go true ih = took-encoded S t (fill (y .address) t)
-      go false ih = ih
+  fill-encoded (y ∷ es) t e =
+      rw (call-on S (fill (y .address)) t range e)
+      (⊎-elim
+      (λ q. rw q (took-encoded S t (fill (y .address) t)))
+      (λ q. rw q (fill-encoded es t e))
+      (flag (y .sent)))
 
   drain-encoded : (t : Tables) → sound S t ≡ true → drain (calls S x) (encode S t) ≡ turnOf S (drain (steps S x) t)
   unfolding drain

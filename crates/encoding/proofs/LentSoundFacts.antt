@@ -12,7 +12,7 @@ use Rattle.model.specs.Address.{goodBlock, blockOf, sectorIndex, setIndex}
 use Rattle.model.specs.Sound.{lastCycle, allOnes}
 use Rattle.model.specs.Lent.{Lent, tagAt, cycleAt, statusAt, maskAt, readableAt, missAt, sentAt, ticketCountAt, ticketAt, queuedAt, kindAt, queueMaskAt, nowAt, dirtyCountAt, takenAt, treeAt}
 use Rattle.model.specs.SoundLent as lent
-use Rattle.words.proofs.Reflect.{Decides, is-flag, is-eq, is-le, is-lt, is-not, is-and, is-or, is-imp, is-unless, is-every, is-some, is-none, is-as}
+use Rattle.words.proofs.Reflect.{Decides, is-flag, is-eq, is-le, is-lt, is-not, _⊓_, is-or, is-imp, is-unless, is-every, is-some, is-none, is-as}
 
 -- ---- the numbers of the slices, and the tests on them that stay tests
 
@@ -150,7 +150,7 @@ module _ (S : Settings) (L : Lent) where
 -- ---- each test with its facts
 
 pub block-is : (a : ℕ) → Decides (goodBlock a) (Block a)
-block-is a = is-as (is-and (is-eq (a % 128) 0) (is-lt a (2 ^ 48))) (λ w. record { even = w .0; low = w .1 }) (λ r. (r .even, r .low))
+block-is a = is-as (is-eq (a % 128) 0 ⊓ is-lt a (2 ^ 48)) (λ w. record { even = w .0; low = w .1 }) (λ r. (r .even, r .low))
 
 first-is : (n : ℕ) (f : ℕ → ℕ) → Decides (lent.gathered n f) (First n f)
 first-is n f = is-every (n - 1) (λ i. is-imp (is-eq (f i) 0) (is-eq (f (i + 1)) 0))
@@ -159,16 +159,11 @@ module _ (S : Settings) (L : Lent) where
   line-is : (l : ℕ) → Decides (lent.lineFine S (L .longs) (L .words) (L .marks) l) (LineIs S L l)
   line-is l =
       is-as
-      (is-and
-      (is-and
-      (is-and
-      (is-and
-      (is-unless (is-flag (live S L l)) (is-and (is-and (is-eq (tag S L l) 0) (is-eq (cycle S L l) 0)) (is-eq (taken S L l) 0)))
-      (is-imp (is-flag (live S L l)) (is-and (block-is (tag S L l)) (is-eq (setIndex S (tag S L l)) (l / S .ways)))))
-      (is-le (cycle S L l) (now S L)))
-      (is-le (taken S L l) (cycle S L l)))
-      (is-imp (is-flag (live S L l))
-      (is-every l (λ m. is-imp (is-eq (m / S .ways) (l / S .ways)) (is-imp (is-flag (live S L m)) (is-not (is-eq (tag S L m) (tag S L l))))))))
+      (is-unless (is-flag (live S L l)) (is-eq (tag S L l) 0 ⊓ is-eq (cycle S L l) 0 ⊓ is-eq (taken S L l) 0)
+      ⊓ is-imp (is-flag (live S L l)) (block-is (tag S L l) ⊓ is-eq (setIndex S (tag S L l)) (l / S .ways))
+      ⊓ is-le (cycle S L l) (now S L)
+      ⊓ is-le (taken S L l) (cycle S L l)
+      ⊓ is-imp (is-flag (live S L l)) (is-every l (λ m. is-imp (is-eq (m / S .ways) (l / S .ways)) (is-imp (is-flag (live S L m)) (is-not (is-eq (tag S L m) (tag S L l)))))))
       (λ w. record {
         dead = w .0 .0 .0 .0;
         block = λ v. w .0 .0 .0 .1 v .0;
@@ -185,35 +180,30 @@ module _ (S : Settings) (L : Lent) where
   sector-is : (i : ℕ) → Decides (lent.sectorFine S (L .longs) (L .words) (L .marks) i) (SectorIs S L i)
   sector-is i =
       is-as
-      (is-and
-      (is-and
-      (is-and
-      (is-and
-      (is-and (is-le (status S L i) 3) (is-le (readable S L i) 1))
-      (is-imp (is-or (is-eq (status S L i) 0) (is-eq (status S L i) 2)) (is-eq (mask S L i) 0)))
-      (is-imp (is-eq (status S L i) 3) (is-not (is-eq (mask S L i) 0))))
-      (is-imp (is-eq (readable S L i) 0) (is-and (is-eq (status S L i) 3) (is-not (is-eq (mask S L i) allOnes)))))
-      (is-imp (is-eq (status S L i) 1) (is-some (S .misses) (λ e. is-and (used-is e) (is-eq (miss S L e) (tag S L (i / 4) + 32 * (i % 4)))))))
+      (is-le (status S L i) 3
+      ⊓ is-le (readable S L i) 1
+      ⊓ is-imp (is-or (is-eq (status S L i) 0) (is-eq (status S L i) 2)) (is-eq (mask S L i) 0)
+      ⊓ is-imp (is-eq (status S L i) 3) (is-not (is-eq (mask S L i) 0))
+      ⊓ is-imp (is-eq (readable S L i) 0) (is-eq (status S L i) 3 ⊓ is-not (is-eq (mask S L i) allOnes))
+      ⊓ is-imp (is-eq (status S L i) 1) (is-some (S .misses) (λ e. used-is e ⊓ is-eq (miss S L e) (tag S L (i / 4) + 32 * (i % 4)))))
       (λ w. record { known = w .0 .0 .0 .0 .0; mark = w .0 .0 .0 .0 .1; clean = w .0 .0 .0 .1; dirty = w .0 .0 .1; unreadable = w .0 .1; backed = w .1 })
       (λ r. (((((r .known, r .mark), r .clean), r .dirty), r .unreadable), r .backed))
 
   reserves-is : (a l : ℕ) → Decides (lent.reservedFor S (L .longs) (L .words) (L .marks) a l) (Reserves S L a l)
   reserves-is a l =
-      is-as (is-and (is-and (is-flag (live S L l)) (is-eq (tag S L l) (blockOf a))) (is-eq (status S L (4 * l + sectorIndex a)) 1))
+      is-as (is-flag (live S L l) ⊓ is-eq (tag S L l) (blockOf a) ⊓ is-eq (status S L (4 * l + sectorIndex a)) 1)
       (λ w. record { lives = w .0 .0; has = w .0 .1; waits = w .1 })
       (λ r. ((r .lives, r .has), r .waits))
 
   entry-is : (e : ℕ) → Decides (lent.entryFine S (L .longs) (L .words) (L .marks) e) (EntryIs S L e)
   entry-is e =
       is-as
-      (is-and
-      (is-and
-      (is-and
-      (is-and (is-and (is-le (ticketCount S L e) (S .readers)) (is-le (sent S L e) 1))
-      (is-imp (is-eq (ticketCount S L e) 0) (is-and (is-eq (miss S L e) 0) (is-eq (sent S L e) 0))))
-      (is-imp (used-is e) (is-and (is-eq (miss S L e % 32) 0) (is-some (linesOf S) (reserves-is (miss S L e))))))
-      (is-imp (used-is e) (is-none e (λ d. is-and (used-is d) (is-eq (miss S L d) (miss S L e))))))
-      (is-imp (is-and (used-is e) (is-eq (sent S L e) 0)) (is-eq (countBelow (S .queue) (readFor S L (miss S L e))) 1)))
+      (is-le (ticketCount S L e) (S .readers)
+      ⊓ is-le (sent S L e) 1
+      ⊓ is-imp (is-eq (ticketCount S L e) 0) (is-eq (miss S L e) 0 ⊓ is-eq (sent S L e) 0)
+      ⊓ is-imp (used-is e) (is-eq (miss S L e % 32) 0 ⊓ is-some (linesOf S) (reserves-is (miss S L e)))
+      ⊓ is-imp (used-is e) (is-none e (λ d. used-is d ⊓ is-eq (miss S L d) (miss S L e)))
+      ⊓ is-imp (used-is e ⊓ is-eq (sent S L e) 0) (is-eq (countBelow (S .queue) (readFor S L (miss S L e))) 1))
       (λ w. record {
         few = w .0 .0 .0 .0 .0;
         mark = w .0 .0 .0 .0 .1;
@@ -227,20 +217,18 @@ module _ (S : Settings) (L : Lent) where
 
   unsent-is : (a e : ℕ) → Decides (lent.unsentFor S (L .longs) (L .words) (L .marks) a e) (Unsent S L a e)
   unsent-is a e =
-      is-as (is-and (is-and (used-is e) (is-eq (sent S L e) 0)) (is-eq (miss S L e) a))
+      is-as (used-is e ⊓ is-eq (sent S L e) 0 ⊓ is-eq (miss S L e) a)
       (λ w. record { used = w .0 .0; waits = w .0 .1; has = w .1 })
       (λ r. ((r .used, r .waits), r .has))
 
   place-is : (p : ℕ) → Decides (lent.placeFine S (L .longs) (L .words) (L .marks) p) (PlaceIs S L p)
   place-is p =
       is-as
-      (is-and
-      (is-and
-      (is-and
-      (is-and (is-le (kind S L p) 2) (is-imp (is-eq (kind S L p) 0) (is-eq (queued S L p) 0)))
-      (is-imp (is-le (kind S L p) 1) (is-every 4 (λ k. is-eq (queueMask S L (4 * p + k)) 0))))
-      (is-imp (is-eq (kind S L p) 2) (is-and (block-is (queued S L p)) (is-some 4 (λ k. is-not (is-eq (queueMask S L (4 * p + k)) 0))))))
-      (is-imp (is-eq (kind S L p) 1) (is-some (S .misses) (unsent-is (queued S L p)))))
+      (is-le (kind S L p) 2
+      ⊓ is-imp (is-eq (kind S L p) 0) (is-eq (queued S L p) 0)
+      ⊓ is-imp (is-le (kind S L p) 1) (is-every 4 (λ k. is-eq (queueMask S L (4 * p + k)) 0))
+      ⊓ is-imp (is-eq (kind S L p) 2) (block-is (queued S L p) ⊓ is-some 4 (λ k. is-not (is-eq (queueMask S L (4 * p + k)) 0)))
+      ⊓ is-imp (is-eq (kind S L p) 1) (is-some (S .misses) (unsent-is (queued S L p))))
       (λ w. record { known = w .0 .0 .0 .0; blank = w .0 .0 .0 .1; bare = w .0 .0 .1; block = λ k. w .0 .1 k .0; dirty = λ k. w .0 .1 k .1; backed = w .1 })
       (λ r. ((((r .known, r .blank), r .bare), λ k. (r .block k, r .dirty k)), r .backed))
 
@@ -248,21 +236,16 @@ module _ (S : Settings) (L : Lent) where
   unfolding lent.soundNumbers
   sound-is =
       is-as
-      (is-and
-      (is-and
-      (is-and
-      (is-and
-      (is-and
-      (is-and
-      (is-and
-      (is-and (is-and (is-le (now S L) lastCycle) (is-every (linesOf S) line-is)) (is-every (4 * linesOf S) sector-is))
-      (is-every (S .readers * S .misses) (λ i. is-imp (is-le (ticketCount S L (i / S .readers)) (i % S .readers)) (is-eq (ticket S L i) 0))))
-      (first-is (S .misses) (ticketCount S L)))
-      (is-every (S .misses) entry-is))
-      (first-is (S .queue) (kind S L)))
-      (is-every (S .queue) place-is))
-      (is-eq (dirtyCount S L) (countBelow (linesOf S) (dirtyLine S L))))
-      (is-every (S .sets) (λ i. is-flag (treeFine (isTree S) (S .ways) (tree S L i)))))
+      (is-le (now S L) lastCycle
+      ⊓ is-every (linesOf S) line-is
+      ⊓ is-every (4 * linesOf S) sector-is
+      ⊓ is-every (S .readers * S .misses) (λ i. is-imp (is-le (ticketCount S L (i / S .readers)) (i % S .readers)) (is-eq (ticket S L i) 0))
+      ⊓ first-is (S .misses) (ticketCount S L)
+      ⊓ is-every (S .misses) entry-is
+      ⊓ first-is (S .queue) (kind S L)
+      ⊓ is-every (S .queue) place-is
+      ⊓ is-eq (dirtyCount S L) (countBelow (linesOf S) (dirtyLine S L))
+      ⊓ is-every (S .sets) (λ i. is-flag (treeFine (isTree S) (S .ways) (tree S L i))))
       (λ w. record {
         time = w .0 .0 .0 .0 .0 .0 .0 .0 .0;
         lines = w .0 .0 .0 .0 .0 .0 .0 .0 .1;

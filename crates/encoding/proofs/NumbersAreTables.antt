@@ -21,7 +21,7 @@ use Rattle.words.specs.Words.{count, table, every, some, countBelow}
 use Rattle.model.specs.Numbers.{statusNumber, statusOf, queueKindNumber, queueKindOf}
 use Rattle.model.specs.Range.{linesOf}
 use Rattle.model.specs.Tables.{Line, Entry, Tables, isInvalid, isReserved, whollyInvalid, isFetch, idle, empty, fresh, noEntry, isModified, dirty, dirtyLines}
-use Rattle.model.specs.Lent.{Lent, bit, tagOf, cycleOf, takenOf, treeOf, masksOf, statusesOf, readablesOf, missOf, sentOf, ticketCountOf, ticketsIn, queuedOf, kindOf, queueMasksOf, inUse, sectorAt, sectorsAt, lineAt, entryAt, queueAt, tablesOf}
+use Rattle.model.specs.Lent.{Lent, bit, tagOf, cycleOf, takenOf, treeOf, missOf, sentOf, ticketCountOf, ticketsIn, queuedOf, kindOf, queueMasksOf, inUse, sectorAt, sectorsAt, lineAt, entryAt, queueAt, tablesOf}
 use Rattle.model.specs.Sound.{readingOf}
 use Rattle.words.proofs.Flags.{iff, not-yes, not-no, not-both}
 use Rattle.model.proofs.Answers.{status-of-number}
@@ -173,23 +173,17 @@ module _ (S : Settings) (L : Lent) (t : Tables) (st : ByNumber S L t) (sh : Shap
   in-sectors : (l k : ℕ) → l < linesOf S → k < 4 → k < length (line t l .sectors)
   in-sectors l k h j = let e = sh .fours l h in omega arith
 
+  of-sectors : (f : Sector → ℕ) (l k : ℕ) → l < linesOf S → k < 4 → field (λ (x : Line). map f (x .sectors)) (t .lines) l k ≡ f (sector t l k)
+  of-sectors f l k h j = field-in (λ (x : Line). map f (x .sectors)) (t .lines) fresh l k (in-lines l h) ∙ map-at f (line t l .sectors) empty k (in-sectors l k h j)
+
   pub status-is : (l k : ℕ) → l < linesOf S → k < 4 → status S L (4 * l + k) ≡ statusNumber (sector t l k .status)
-  status-is l k h j =
-      st .statuses l k h j
-      ∙ field-in statusesOf (t .lines) fresh l k (in-lines l h)
-      ∙ map-at (λ (s : Sector). statusNumber (s .status)) (line t l .sectors) empty k (in-sectors l k h j)
+  status-is l k h j = st .statuses l k h j ∙ of-sectors (λ (s : Sector). statusNumber (s .status)) l k h j
 
   pub mask-is : (l k : ℕ) → l < linesOf S → k < 4 → mask S L (4 * l + k) ≡ sector t l k .mask
-  mask-is l k h j =
-      st .masks l k h j
-      ∙ field-in masksOf (t .lines) fresh l k (in-lines l h)
-      ∙ map-at (λ (s : Sector). s .mask) (line t l .sectors) empty k (in-sectors l k h j)
+  mask-is l k h j = st .masks l k h j ∙ of-sectors (λ (s : Sector). s .mask) l k h j
 
   pub readable-is : (l k : ℕ) → l < linesOf S → k < 4 → readable S L (4 * l + k) ≡ bit (sector t l k .readable)
-  readable-is l k h j =
-      st .readables l k h j
-      ∙ field-in readablesOf (t .lines) fresh l k (in-lines l h)
-      ∙ map-at (λ (s : Sector). bit (s .readable)) (line t l .sectors) empty k (in-sectors l k h j)
+  readable-is l k h j = st .readables l k h j ∙ of-sectors (λ (s : Sector). bit (s .readable)) l k h j
 
   pub unused-is : (l : ℕ) → l < linesOf S → whollyInvalid (line t l) ≡ every 4 (λ k. isInvalid (sector t l k .status))
   unused-is l h =

@@ -24,7 +24,7 @@ use Rattle.model.specs.Numbers.{statusNumber, queueKindNumber}
 use Rattle.model.specs.Lent.{bit}
 use Rattle.model.specs.Sound.{allOnes, lastCycle, maskOk, sectorOk, lineOk, alone, agrees, reservedOk, readingOf, unsentFor, entryOk, kindOk, queuedOk, sound}
 use Rattle.words.proofs.Flags.{and-1, and-2, and-i, not-no, not-yes, clash, same-is, is-same}
-use Rattle.words.proofs.Reflect.{Decides, is-flag, is-eq, is-le, is-lt, is-not, is-and, is-every, is-as, is-all, is-any, is-one, is-pick, is-else}
+use Rattle.words.proofs.Reflect.{Decides, is-flag, is-eq, is-le, is-lt, is-not, _⊓_, is-every, is-as, is-all, is-any, is-one, is-pick, is-else}
 use Rattle.encoding.proofs.LentSoundFacts.{Block, block-is}
 use Rattle.encoding.proofs.NumbersAreTables.{line, sector, entry, place, addressIn, kindIn, maskIn, Shape}
 
@@ -51,7 +51,7 @@ bit-clear false z = refl
 -- INVALID or VALID: mask 0, readable
 clean-is : (x m : ℕ) (r : Bool) → (x ≡ 0) ⊎ (x ≡ 2) → Decides (eqb m 0 && r) (SectorOk x m (bit r))
 clean-is x m r c =
-    is-as (is-and (is-eq m 0) (is-flag r))
+    is-as (is-eq m 0 ⊓ is-flag r)
     (λ w. let z = w .0 in record {
       small = omega arith;
       clean = λ d. z;
@@ -66,7 +66,7 @@ clean-is x m r c =
 sector-ok-is : (s : Status) (m : ℕ) (r : Bool) → Decides (maskOk s m r) (SectorOk (statusNumber s) m (bit r))
 sector-ok-is Invalid m r = clean-is 0 m r (inl refl)
 sector-ok-is Reserved m r =
-    is-as (is-and (is-le m allOnes) (is-flag r))
+    is-as (is-le m allOnes ⊓ is-flag r)
     (λ w. record {
       small = w .0;
       clean = λ c. absurd (⊎-elim (λ z. omega arith) (λ z. omega arith) c);
@@ -76,7 +76,7 @@ sector-ok-is Reserved m r =
     (λ f. (f .small, set-bit r (λ e. let z : _≡_ {A = ℕ} 1 3 = f .unreadable e .0 in omega arith)))
 sector-ok-is Valid m r = clean-is 2 m r (inr refl)
 sector-ok-is Modified m r =
-    is-as (is-and (is-and (is-le m allOnes) (is-not (is-eq m 0))) (is-else {a = r} (λ v. is-not (is-eq m allOnes))))
+    is-as (is-le m allOnes ⊓ is-not (is-eq m 0) ⊓ is-else {a = r} (λ v. is-not (is-eq m allOnes)))
     (λ w. record {
       small = w .0 .0;
       clean = λ c. absurd (⊎-elim (λ z. omega arith) (λ z. omega arith) c);
@@ -158,14 +158,11 @@ module _ (S : Settings) (t : Tables) where
   unfolding lineOk
   line-ok-is l =
       is-as
-      (is-and
-      (is-and
-      (is-and (is-and (is-eq (length (line t l .sectors)) 4) (is-all sectorOk (line t l .sectors) empty
-      (λ k h. sector-ok-is (sector t l k .status) (sector t l k .mask) (sector t l k .readable))))
-      (is-le (line t l .cycle) (t .now)))
-      (is-le (line t l .taken) (line t l .cycle)))
-      (is-pick {b = whollyInvalid (line t l)} (is-and (is-and (is-eq (line t l .tag) 0) (is-eq (line t l .cycle) 0)) (is-eq (line t l .taken) 0))
-      (is-and (block-is (line t l .tag)) (is-eq (setIndex S (line t l .tag)) (l / S .ways)))))
+      (is-eq (length (line t l .sectors)) 4
+      ⊓ is-all sectorOk (line t l .sectors) empty (λ k h. sector-ok-is (sector t l k .status) (sector t l k .mask) (sector t l k .readable))
+      ⊓ is-le (line t l .cycle) (t .now)
+      ⊓ is-le (line t l .taken) (line t l .cycle)
+      ⊓ is-pick {b = whollyInvalid (line t l)} (is-eq (line t l .tag) 0 ⊓ is-eq (line t l .cycle) 0 ⊓ is-eq (line t l .taken) 0) (block-is (line t l .tag) ⊓ is-eq (setIndex S (line t l .tag)) (l / S .ways)))
       (λ w. let four = w .0 .0 .0 .0 in record {
         four = four;
         sectors = λ k h. w .0 .0 .0 .1 k (omega arith);
@@ -202,14 +199,12 @@ module _ (S : Settings) (t : Tables) where
   unfolding entryOk
   entry-ok-is e h =
       is-as
-      (is-and
-      (is-and
-      (is-and
-      (is-and (is-and (is-eq (entry t e .address % 32) 0) (is-lt (entry t e .address) (2 ^ 48)))
-      (is-any (holds (blockOf (entry t e .address))) (t .lines) fresh (holds-is (blockOf (entry t e .address)))))
-      (is-one (entryFor (entry t e .address)) (t .misses) noEntry e h (eq-eqb (entry t e .address) (entry t e .address) refl)))
-      (is-and (is-le 1 (length (entry t e .tickets))) (is-le (length (entry t e .tickets)) (S .readers))))
-      (is-else (λ v. is-eq (count (readingOf (entry t e .address)) (t .queue)) 1)))
+      (is-eq (entry t e .address % 32) 0
+      ⊓ is-lt (entry t e .address) (2 ^ 48)
+      ⊓ is-any (holds (blockOf (entry t e .address))) (t .lines) fresh (holds-is (blockOf (entry t e .address)))
+      ⊓ is-one (entryFor (entry t e .address)) (t .misses) noEntry e h (eq-eqb (entry t e .address) (entry t e .address) refl)
+      ⊓ (is-le 1 (length (entry t e .tickets)) ⊓ is-le (length (entry t e .tickets)) (S .readers))
+      ⊓ is-else (λ v. is-eq (count (readingOf (entry t e .address)) (t .queue)) 1))
       (λ w. record {
         even = w .0 .0 .0 .0 .0;
         low = w .0 .0 .0 .0 .1;
@@ -222,7 +217,7 @@ module _ (S : Settings) (t : Tables) where
       (λ r. (((((r .even, r .low), r .home), λ d k q. r .alone d k (eqb-true _ _ q)), (r .held, r .short)), r .asked))
 
   unsent-is : (a e : ℕ) → Decides (unsentFor a (entry t e)) ((entry t e .address ≡ a) × (entry t e .sent ≡ false))
-  unsent-is a e = is-and (is-eq (entry t e .address) a) (record { fact = λ z. not-yes {b = entry t e .sent} z; test = λ z. not-no z })
+  unsent-is a e = is-eq (entry t e .address) a ⊓ (record { fact = λ z. not-yes {b = entry t e .sent} z; test = λ z. not-no z })
 
   -- what its kind asks of a queued entry
   record KindOk (k : QueueKind) (a : ℕ) (ms : List ℕ) : Type 0 where
@@ -233,7 +228,7 @@ module _ (S : Settings) (t : Tables) where
 
   kind-ok-is : (k : QueueKind) (a : ℕ) (ms : List ℕ) → Decides (kindOk (t .misses) k a ms) (KindOk k a ms)
   kind-ok-is queue.Read a ms =
-      is-as (is-and (is-any (unsentFor a) (t .misses) noEntry (unsent-is a)) (is-all (λ m. eqb m 0) ms 0 (λ i h. is-eq (getD ms i 0) 0)))
+      is-as (is-any (unsentFor a) (t .misses) noEntry (unsent-is a) ⊓ is-all (λ m. eqb m 0) ms 0 (λ i h. is-eq (getD ms i 0) 0))
       (λ w. record {
         backed = λ z. w .0;
         bare = λ z. w .1;
@@ -242,7 +237,7 @@ module _ (S : Settings) (t : Tables) where
       })
       (λ r. (r .backed refl, r .bare refl))
   kind-ok-is queue.WriteBack b ms =
-      is-as (is-and (block-is b) (is-any (λ m. not (eqb m 0)) ms 0 (λ i. is-not (is-eq (getD ms i 0) 0))))
+      is-as (block-is b ⊓ is-any (λ m. not (eqb m 0)) ms 0 (λ i. is-not (is-eq (getD ms i 0) 0)))
       (λ w. record {
         backed = λ z. absurd (omega arith);
         bare = λ z. absurd (omega arith);
@@ -256,8 +251,7 @@ module _ (S : Settings) (t : Tables) where
   queued-ok-is x =
       let ms : List ℕ = x .masks in
       is-as
-      (is-and (is-and (is-eq (length ms) 4) (is-all (λ m. leb m allOnes) ms 0 (λ k h. is-le (getD ms k 0) allOnes)))
-      (kind-ok-is (x .kind) (x .address) ms))
+      (is-eq (length ms) 4 ⊓ is-all (λ m. leb m allOnes) ms 0 (λ k h. is-le (getD ms k 0) allOnes) ⊓ kind-ok-is (x .kind) (x .address) ms)
       (λ w. let four = w .0 .0 in record {
         masked = four;
         small = λ k h. w .0 .1 k (omega arith);
@@ -280,27 +274,18 @@ module _ (S : Settings) (t : Tables) where
   unfolding sound
   soundly-is =
       is-as
-      (is-and
-      (is-and
-      (is-and
-      (is-and
-      (is-and
-      (is-and
-      (is-and
-      (is-and
-      (is-and
-      (is-and
-      (is-and (is-eq (length (t .lines)) (linesOf S)) (is-le (t .now) lastCycle))
-      (is-every (linesOf S) line-ok-is))
-      (is-all (alone (t .lines)) (t .lines) fresh alone-is))
-      (is-all (reservedOk (t .misses)) (t .lines) fresh (λ l h. agrees-is l)))
-      (is-all (entryOk S t) (t .misses) noEntry entry-ok-is))
-      (is-all (queuedOk (t .misses)) (t .queue) idle (λ p h. queued-ok-is (place t p))))
-      (is-le (length (t .misses)) (S .misses)))
-      (is-le (length (t .queue)) (S .queue)))
-      (is-eq (t .dirtyCount) (dirtyLines t)))
-      (is-eq (length (t .trees)) (S .sets)))
-      (is-all (treeFine (isTree S) (S .ways)) (t .trees) 0 (λ i h. is-flag (treeFine (isTree S) (S .ways) (getD (t .trees) i 0)))))
+      (is-eq (length (t .lines)) (linesOf S)
+      ⊓ is-le (t .now) lastCycle
+      ⊓ is-every (linesOf S) line-ok-is
+      ⊓ is-all (alone (t .lines)) (t .lines) fresh alone-is
+      ⊓ is-all (reservedOk (t .misses)) (t .lines) fresh (λ l h. agrees-is l)
+      ⊓ is-all (entryOk S t) (t .misses) noEntry entry-ok-is
+      ⊓ is-all (queuedOk (t .misses)) (t .queue) idle (λ p h. queued-ok-is (place t p))
+      ⊓ is-le (length (t .misses)) (S .misses)
+      ⊓ is-le (length (t .queue)) (S .queue)
+      ⊓ is-eq (t .dirtyCount) (dirtyLines t)
+      ⊓ is-eq (length (t .trees)) (S .sets)
+      ⊓ is-all (treeFine (isTree S) (S .ways)) (t .trees) 0 (λ i h. is-flag (treeFine (isTree S) (S .ways) (getD (t .trees) i 0))))
       (λ w. let size = w .0 .0 .0 .0 .0 .0 .0 .0 .0 .0 .0 in record {
         size = size;
         time = w .0 .0 .0 .0 .0 .0 .0 .0 .0 .0 .1;

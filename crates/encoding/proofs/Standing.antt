@@ -9,7 +9,7 @@ use lib.Seq.{getD-append-add}
 use Rattle.model.specs.declared.Settings.{Settings}
 use Rattle.words.specs.Words.{table, fit, packed, joined}
 use Rattle.model.specs.Range.{linesOf}
-use Rattle.model.specs.Layout.{longSizes, wordSizes, markSizes, longsLength, wordsLength, marksLength, longsFrom, wordsFrom, marksFrom, tagRegion, missRegion, queueRegion, cycleRegion, maskRegion, ticketRegion, queueMaskRegion, dirtyCountRegion, takenRegion, treeRegion, statusRegion, readableRegion, sentRegion, ticketCountRegion, kindRegion}
+use Rattle.model.specs.Layout.{offsetOf, longSizes, wordSizes, markSizes, longsLength, wordsLength, marksLength, longsFrom, wordsFrom, marksFrom, tagRegion, missRegion, queueRegion, cycleRegion, maskRegion, ticketRegion, queueMaskRegion, dirtyCountRegion, takenRegion, treeRegion, statusRegion, readableRegion, sentRegion, ticketCountRegion, kindRegion}
 use Rattle.model.specs.Tables.{Tables}
 use Rattle.model.specs.Lent.{Lent, encode, tagOf, cycleOf, takenOf, treeOf, masksOf, statusesOf, readablesOf, missOf, sentOf, ticketCountOf, ticketsIn, queuedOf, kindOf, queueMasksOf, longBlocks, wordBlocks, markBlocks}
 use Rattle.words.specs.Regions.{region, offsetIn}
@@ -17,6 +17,12 @@ use Rattle.words.proofs.Places.{length-fit, length-places, block-get, stride, f
 use Rattle.words.proofs.Tabled.{table-append}
 use Rattle.encoding.proofs.Slices.{long-sizes, word-sizes, mark-sizes, begins, regions-joined, region-table}
 use Rattle.encoding.proofs.LentSoundFacts.{tag, cycle, taken, status, mask, readable, miss, sent, ticketCount, ticket, queued, kind, queueMask, now, dirtyCount, tree}
+
+infixr 2 _⨾_
+
+-- one fact after another
+_⨾_ : {A B : Type 0} → A → B → A × B
+_⨾_ a b = (a, b)
 
 -- number k of the field g of record e, 0 where there is none
 unfoldable pub field : {A : Type 0} → (A → List ℕ) → List A → ℕ → ℕ → ℕ
@@ -68,26 +74,18 @@ module _ {A : Type 0} (g : A → List ℕ) (w : ℕ) where
   first-numbers : (f : ℕ → ℕ) (k : ℕ) → f k ≡ f (w * 0 + k)
   first-numbers f k = rw (mul-zero, zero-add)
 
+  table-step : (n : ℕ) (l : List ℕ) (f : ℕ → ℕ) {r : List ℕ} → ((k : ℕ) → k < w → f (w * 0 + k) ≡ getD l k 0) → table (w * n) (λ i. f (w + i)) ≡ r
+      → table (w * suc n) f ≡ fit w l ++ r
+  table-step n l f first rest =
+      let q : w * suc n ≡ w + w * n = rw mul-suc (omega arith) in
+      ap (λ (m : ℕ). table m f) q ∙ table-append w (w * n) f ∙ rw (table-fit w f l (λ k j. first-numbers f k ∙ first k j), rest)
+
   table-places : (n : ℕ) (xs : List A) (f : ℕ → ℕ)
       → ((e k : ℕ) → e < n → k < w → f (w * e + k) ≡ field g xs e k) → table (w * n) f ≡ packed g w n xs
   unfolding packed table field
   table-places zero xs f h = rw mul-zero
-  table-places (suc n) [] f h =
-      let q : w * suc n ≡ w + w * n = rw mul-suc (omega arith) in
-      ap (λ (m : ℕ). table m f) q
-      ∙ table-append w (w * n) f
-      ∙ rw (
-        table-fit w f [] (λ k j. first-numbers f k ∙ h 0 k (omega arith) j),
-        table-places n [] (λ i. f (w + i)) (λ e k i j. later-numbers f e k ∙ h (suc e) k (omega arith) j),
-      )
-  table-places (suc n) (x ∷ xs) f h =
-      let q : w * suc n ≡ w + w * n = rw mul-suc (omega arith) in
-      ap (λ (m : ℕ). table m f) q
-      ∙ table-append w (w * n) f
-      ∙ rw (
-        table-fit w f (g x) (λ k j. first-numbers f k ∙ h 0 k (omega arith) j),
-        table-places n xs (λ i. f (w + i)) (λ e k i j. later-numbers f e k ∙ h (suc e) k (omega arith) j),
-      )
+  table-places (suc n) [] f h = table-step n [] f (λ k j. h 0 k (omega arith) j) (table-places n [] (λ i. f (w + i)) (λ e k i j. later-numbers f e k ∙ h (suc e) k (omega arith) j))
+  table-places (suc n) (x ∷ xs) f h = table-step n (g x) f (λ k j. h 0 k (omega arith) j) (table-places n xs (λ i. f (w + i)) (λ e k i j. later-numbers f e k ∙ h (suc e) k (omega arith) j))
 
 -- a place of one number
 table-singles : {A : Type 0} (g : A → List ℕ) (n : ℕ) (xs : List A) (f : ℕ → ℕ)
@@ -122,52 +120,36 @@ pub record ByNumber (S : Settings) (L : Lent) (t : Tables) : Type 0 where
 
 -- ---- in the encoding the tables stand
 
--- number k of record e of the block j, which stands at index i of the slice
-module _ {A : Type 0} (g : A → List ℕ) (w n : ℕ) (xs : List A) (bs : List (List ℕ)) (j : ℕ) where
-  in-block : (e k i : ℕ) → getD bs j [] ≡ packed g w n xs → j < length bs → i ≡ offsetIn bs j + (w * e + k) → e < n → k < w
-      → getD (joined bs) i 0 ≡ field g xs e k
-  in-block e k i here h at a b =
-      let s : length (getD bs j []) ≡ w * n = ap length here ∙ length-places g w n xs in
-      let r = stride w n e a in
-      block-get bs j (w * e + k) {i = i} refl at h (omega arith)
-      ∙ ap (λ (l : List ℕ). getD l (w * e + k) 0) here
-      ∙ places-field g w n e k xs a b
+-- number k of record e of the block j of blocks of sizes ns, which stands at index i of the slice
+in-block : (bs : List (List ℕ)) {ns : List ℕ} → map length bs ≡ ns → {A : Type 0} (g : A → List ℕ) (w n : ℕ) (xs : List A) (j e k i : ℕ) → getD bs j [] ≡ packed g w n xs → j < length bs
+    → i ≡ offsetOf ns j + (w * e + k) → e < n → k < w → getD (joined bs) i 0 ≡ field g xs e k
+in-block bs sizes g w n xs j e k i here h at a b =
+    let s : length (getD bs j []) ≡ w * n = ap length here ∙ length-places g w n xs in
+    let r = stride w n e a in
+    block-get bs j (w * e + k) {i = i} refl (at ∙ ap (λ (m : ℕ). m + (w * e + k)) (sym (begins bs j sizes))) h (omega arith)
+    ∙ ap (λ (l : List ℕ). getD l (w * e + k) 0) here
+    ∙ places-field g w n e k xs a b
 
 module _ (S : Settings) (t : Tables) where
-  long-block : {A : Type 0} (g : A → List ℕ) (w n : ℕ) (xs : List A) (j e k i : ℕ) → getD (longBlocks S t) j [] ≡ packed g w n xs → j < 3
-      → i ≡ longsFrom S j + (w * e + k) → e < n → k < w → getD (joined (longBlocks S t)) i 0 ≡ field g xs e k
-  long-block g w n xs j e k i here h at =
-      in-block g w n xs (longBlocks S t) j e k i here h (at ∙ ap (λ (m : ℕ). m + (w * e + k)) (sym (begins (longBlocks S t) j (long-sizes S t))))
-
-  word-block : {A : Type 0} (g : A → List ℕ) (w n : ℕ) (xs : List A) (j e k i : ℕ) → getD (wordBlocks S t) j [] ≡ packed g w n xs → j < 8
-      → i ≡ wordsFrom S j + (w * e + k) → e < n → k < w → getD (joined (wordBlocks S t)) i 0 ≡ field g xs e k
-  word-block g w n xs j e k i here h at =
-      in-block g w n xs (wordBlocks S t) j e k i here h (at ∙ ap (λ (m : ℕ). m + (w * e + k)) (sym (begins (wordBlocks S t) j (word-sizes S t))))
-
-  mark-block : {A : Type 0} (g : A → List ℕ) (w n : ℕ) (xs : List A) (j e k i : ℕ) → getD (markBlocks S t) j [] ≡ packed g w n xs → j < 5
-      → i ≡ marksFrom S j + (w * e + k) → e < n → k < w → getD (joined (markBlocks S t)) i 0 ≡ field g xs e k
-  mark-block g w n xs j e k i here h at =
-      in-block g w n xs (markBlocks S t) j e k i here h (at ∙ ap (λ (m : ℕ). m + (w * e + k)) (sym (begins (markBlocks S t) j (mark-sizes S t))))
-
   pub encode-stands : ByNumber S (encode S t) t
   unfolding encode
   encode-stands = record {
-    tags = λ l h. long-block tagOf 1 (linesOf S) (t .lines) tagRegion l 0 l refl (omega arith) (omega arith) h (omega arith);
-    misses = λ e h. long-block missOf 1 (S .misses) (t .misses) missRegion e 0 _ refl (omega arith) (omega arith) h (omega arith);
-    queue = λ p h. long-block queuedOf 1 (S .queue) (t .queue) queueRegion p 0 _ refl (omega arith) (omega arith) h (omega arith);
+    tags = λ l h. in-block (longBlocks S t) (long-sizes S t) tagOf 1 (linesOf S) (t .lines) tagRegion l 0 l refl (omega arith) (omega arith) h (omega arith);
+    misses = λ e h. in-block (longBlocks S t) (long-sizes S t) missOf 1 (S .misses) (t .misses) missRegion e 0 _ refl (omega arith) (omega arith) h (omega arith);
+    queue = λ p h. in-block (longBlocks S t) (long-sizes S t) queuedOf 1 (S .queue) (t .queue) queueRegion p 0 _ refl (omega arith) (omega arith) h (omega arith);
     time = refl;
     count = block-get (wordBlocks S t) dirtyCountRegion 0 {i = wordsFrom S dirtyCountRegion} refl (sym (begins (wordBlocks S t) dirtyCountRegion (word-sizes S t)) ∙ sym (add-zero (offsetIn (wordBlocks S t) dirtyCountRegion))) (omega arith) (omega arith);
-    cycles = λ l h. word-block cycleOf 1 (linesOf S) (t .lines) cycleRegion l 0 (1 + l) refl (omega arith) (omega arith) h (omega arith);
-    takens = λ l h. word-block takenOf 1 (linesOf S) (t .lines) takenRegion l 0 (wordsFrom S takenRegion + l) refl (omega arith) (omega arith) h (omega arith);
-    trees = λ i h. word-block treeOf 1 (S .sets) (t .trees) treeRegion i 0 (wordsFrom S treeRegion + i) refl (omega arith) (omega arith) h (omega arith);
-    masks = λ l k h j. word-block masksOf 4 (linesOf S) (t .lines) maskRegion l k _ refl (omega arith) refl h j;
-    tickets = λ e k h j. word-block ticketsIn (S .readers) (S .misses) (t .misses) ticketRegion e k _ refl (omega arith) refl h j;
-    queue-masks = λ p k h j. word-block queueMasksOf 4 (S .queue) (t .queue) queueMaskRegion p k _ refl (omega arith) refl h j;
-    statuses = λ l k h j. mark-block statusesOf 4 (linesOf S) (t .lines) statusRegion l k (4 * l + k) refl (omega arith) (omega arith) h j;
-    readables = λ l k h j. mark-block readablesOf 4 (linesOf S) (t .lines) readableRegion l k _ refl (omega arith) refl h j;
-    sents = λ e h. mark-block sentOf 1 (S .misses) (t .misses) sentRegion e 0 _ refl (omega arith) (omega arith) h (omega arith);
-    ticket-counts = λ e h. mark-block ticketCountOf 1 (S .misses) (t .misses) ticketCountRegion e 0 _ refl (omega arith) (omega arith) h (omega arith);
-    kinds = λ p h. mark-block kindOf 1 (S .queue) (t .queue) kindRegion p 0 _ refl (omega arith) (omega arith) h (omega arith);
+    cycles = λ l h. in-block (wordBlocks S t) (word-sizes S t) cycleOf 1 (linesOf S) (t .lines) cycleRegion l 0 (1 + l) refl (omega arith) (omega arith) h (omega arith);
+    takens = λ l h. in-block (wordBlocks S t) (word-sizes S t) takenOf 1 (linesOf S) (t .lines) takenRegion l 0 (wordsFrom S takenRegion + l) refl (omega arith) (omega arith) h (omega arith);
+    trees = λ i h. in-block (wordBlocks S t) (word-sizes S t) treeOf 1 (S .sets) (t .trees) treeRegion i 0 (wordsFrom S treeRegion + i) refl (omega arith) (omega arith) h (omega arith);
+    masks = λ l k h j. in-block (wordBlocks S t) (word-sizes S t) masksOf 4 (linesOf S) (t .lines) maskRegion l k _ refl (omega arith) refl h j;
+    tickets = λ e k h j. in-block (wordBlocks S t) (word-sizes S t) ticketsIn (S .readers) (S .misses) (t .misses) ticketRegion e k _ refl (omega arith) refl h j;
+    queue-masks = λ p k h j. in-block (wordBlocks S t) (word-sizes S t) queueMasksOf 4 (S .queue) (t .queue) queueMaskRegion p k _ refl (omega arith) refl h j;
+    statuses = λ l k h j. in-block (markBlocks S t) (mark-sizes S t) statusesOf 4 (linesOf S) (t .lines) statusRegion l k (4 * l + k) refl (omega arith) (omega arith) h j;
+    readables = λ l k h j. in-block (markBlocks S t) (mark-sizes S t) readablesOf 4 (linesOf S) (t .lines) readableRegion l k _ refl (omega arith) refl h j;
+    sents = λ e h. in-block (markBlocks S t) (mark-sizes S t) sentOf 1 (S .misses) (t .misses) sentRegion e 0 _ refl (omega arith) (omega arith) h (omega arith);
+    ticket-counts = λ e h. in-block (markBlocks S t) (mark-sizes S t) ticketCountOf 1 (S .misses) (t .misses) ticketCountRegion e 0 _ refl (omega arith) (omega arith) h (omega arith);
+    kinds = λ p h. in-block (markBlocks S t) (mark-sizes S t) kindOf 1 (S .queue) (t .queue) kindRegion p 0 _ refl (omega arith) (omega arith) h (omega arith);
   }
 
 -- ---- and slices in which they stand are the encoding
@@ -185,63 +167,34 @@ module _ (S : Settings) (L : Lent) (t : Tables) (st : ByNumber S L t) where
   longs-stand : length (L .longs) ≡ longsLength S → L .longs ≡ joined (longBlocks S t)
   longs-stand e =
       regions-joined (L .longs) (longSizes S) (longBlocks S t) (
-        region-singles (L .longs) 0 tagOf (linesOf S) (t .lines) (omega arith) (λ l h. rw zero-add (st .tags l h)),
-        (
-          region-singles (L .longs) (longsFrom S missRegion) missOf (S .misses) (t .misses) (omega arith) (st .misses),
-          (
-            region-singles (L .longs) (longsFrom S queueRegion) queuedOf (S .queue) (t .queue) (omega arith) (st .queue),
-            e,
-          ),
-        ),
-      )
+      region-singles (L .longs) 0 tagOf (linesOf S) (t .lines) (omega arith) (λ l h. rw zero-add (st .tags l h))
+      ⨾ region-singles (L .longs) (longsFrom S missRegion) missOf (S .misses) (t .misses) (omega arith) (st .misses)
+      ⨾ region-singles (L .longs) (longsFrom S queueRegion) queuedOf (S .queue) (t .queue) (omega arith) (st .queue)
+      ⨾ e)
 
   words-stand : length (L .words) ≡ wordsLength S → L .words ≡ joined (wordBlocks S t)
   unfolding table
   words-stand e =
       regions-joined (L .words) (wordSizes S) (wordBlocks S t) (
-        region-table (L .words) 0 1 (omega arith) ∙ ap (λ (c : ℕ). c ∷ []) (st .time),
-        (
-          region-singles (L .words) (wordsFrom S cycleRegion) cycleOf (linesOf S) (t .lines) (omega arith) (st .cycles),
-          (
-            region-places (L .words) (wordsFrom S maskRegion) masksOf (linesOf S) (t .lines) 4 (omega arith) (st .masks),
-            (
-              region-places (L .words) (wordsFrom S ticketRegion) ticketsIn (S .misses) (t .misses) (S .readers) (omega arith) (st .tickets),
-              (
-                region-places (L .words) (wordsFrom S queueMaskRegion) queueMasksOf (S .queue) (t .queue) 4 (omega arith) (st .queue-masks),
-                (
-                  region-table (L .words) (wordsFrom S dirtyCountRegion) 1 (omega arith) ∙ ap (λ (c : ℕ). c ∷ []) (rw add-zero (st .count)),
-                  (
-                    region-singles (L .words) (wordsFrom S takenRegion) takenOf (linesOf S) (t .lines) (omega arith) (st .takens),
-                    (
-                      region-singles (L .words) (wordsFrom S treeRegion) treeOf (S .sets) (t .trees) (omega arith) (st .trees),
-                      e,
-                    ),
-                  ),
-                ),
-              ),
-            ),
-          ),
-        ),
-      )
+      region-table (L .words) 0 1 (omega arith) ∙ ap (λ (c : ℕ). c ∷ []) (st .time)
+      ⨾ region-singles (L .words) (wordsFrom S cycleRegion) cycleOf (linesOf S) (t .lines) (omega arith) (st .cycles)
+      ⨾ region-places (L .words) (wordsFrom S maskRegion) masksOf (linesOf S) (t .lines) 4 (omega arith) (st .masks)
+      ⨾ region-places (L .words) (wordsFrom S ticketRegion) ticketsIn (S .misses) (t .misses) (S .readers) (omega arith) (st .tickets)
+      ⨾ region-places (L .words) (wordsFrom S queueMaskRegion) queueMasksOf (S .queue) (t .queue) 4 (omega arith) (st .queue-masks)
+      ⨾ region-table (L .words) (wordsFrom S dirtyCountRegion) 1 (omega arith) ∙ ap (λ (c : ℕ). c ∷ []) (rw add-zero (st .count))
+      ⨾ region-singles (L .words) (wordsFrom S takenRegion) takenOf (linesOf S) (t .lines) (omega arith) (st .takens)
+      ⨾ region-singles (L .words) (wordsFrom S treeRegion) treeOf (S .sets) (t .trees) (omega arith) (st .trees)
+      ⨾ e)
 
   marks-stand : length (L .marks) ≡ marksLength S → L .marks ≡ joined (markBlocks S t)
   marks-stand e =
       regions-joined (L .marks) (markSizes S) (markBlocks S t) (
-        region-places (L .marks) 0 statusesOf (linesOf S) (t .lines) 4 (omega arith) (λ l k h j. rw zero-add (st .statuses l k h j)),
-        (
-          region-places (L .marks) (marksFrom S readableRegion) readablesOf (linesOf S) (t .lines) 4 (omega arith) (st .readables),
-          (
-            region-singles (L .marks) (marksFrom S sentRegion) sentOf (S .misses) (t .misses) (omega arith) (st .sents),
-            (
-              region-singles (L .marks) (marksFrom S ticketCountRegion) ticketCountOf (S .misses) (t .misses) (omega arith) (st .ticket-counts),
-              (
-                region-singles (L .marks) (marksFrom S kindRegion) kindOf (S .queue) (t .queue) (omega arith) (st .kinds),
-                e,
-              ),
-            ),
-          ),
-        ),
-      )
+      region-places (L .marks) 0 statusesOf (linesOf S) (t .lines) 4 (omega arith) (λ l k h j. rw zero-add (st .statuses l k h j))
+      ⨾ region-places (L .marks) (marksFrom S readableRegion) readablesOf (linesOf S) (t .lines) 4 (omega arith) (st .readables)
+      ⨾ region-singles (L .marks) (marksFrom S sentRegion) sentOf (S .misses) (t .misses) (omega arith) (st .sents)
+      ⨾ region-singles (L .marks) (marksFrom S ticketCountRegion) ticketCountOf (S .misses) (t .misses) (omega arith) (st .ticket-counts)
+      ⨾ region-singles (L .marks) (marksFrom S kindRegion) kindOf (S .queue) (t .queue) (omega arith) (st .kinds)
+      ⨾ e)
 
   pub stands-encode : length (L .longs) ≡ longsLength S → length (L .words) ≡ wordsLength S → length (L .marks) ≡ marksLength S → L ≡ encode S t
   unfolding encode

@@ -155,11 +155,7 @@ module _ (r : Told) (tidy : tidied r ≡ r) where
   unfolding tidied
   tickets-few =
       let q : r .tickets ≡ fit 8 (take (r .count) (r .tickets)) = sym (ap (λ (x : Told). x .tickets) tidy) in
-      let l = count-is in
-      let m = length-take (r .count) (r .tickets) in
-      let n = ap length q in
-      let k = length-fit 8 (take (r .count) (r .tickets)) in
-      omega arith
+      omega (arith, count-is, length-take (r .count) (r .tickets), ap length q, length-fit 8 (take (r .count) (r .tickets)))
 
   module _ (begins rest : Event → Bool) (t : tells begins rest (eventsTold r) ≡ true) where
     begins-so : begins (r .first) ≡ true
@@ -177,16 +173,10 @@ module _ (r : Told) (tidy : tidied r ≡ r) where
     apart = sym (all-append rest entries (map Released (take (r .count) (r .tickets)))) ∙ behind
 
     no-entries : ((q : Queued) → rest (queuedEvent q) ≡ false) → r .queues ≤ 0
-    no-entries never =
-        let z = none-left queuedEvent rest never (take (r .queues) (r .queued)) (and-1 (all rest entries) _ apart) in
-        let l = queues-are in
-        omega arith
+    no-entries never = omega (arith, none-left queuedEvent rest never (take (r .queues) (r .queued)) (and-1 (all rest entries) _ apart), queues-are)
 
     no-tickets : ((k : ℕ) → rest (Released k) ≡ false) → r .count ≤ 0
-    no-tickets never =
-        let z = none-left Released rest never (take (r .count) (r .tickets)) (and-2 (all rest entries) _ apart) in
-        let l = count-is in
-        omega arith
+    no-tickets never = omega (arith, none-left Released rest never (take (r .count) (r .tickets)) (and-2 (all rest entries) _ apart), count-is)
 
 -- ---- the shape of what each step tells
 

@@ -34,6 +34,7 @@ use Rattle.model.proofs.Fits.{tree-power}
 use Rattle.model.proofs.Turning.{set-below, turned-length, turned-fine}
 use Rattle.model.proofs.SoundFacts.{Sound, LineIs, line-whole, EntryIs, entry-whole, mask-small, sector-below, sector-aligned, address-is, block-is, sector-is, lines-are, line-at, tag-aligned, reserved-at, holder-one, entry-at, queued-at, queued-when, queued-unsent, trees-are, few-misses, dirty-count-is}
 use Rattle.words.proofs.Counting.{recount}
+use mathlib.Core.Logic.{⊎-elim}
 
 -- a read that misses: it takes a new entry and queues a read
 abbrev pub fetching : Access → Answer → Bool
@@ -356,14 +357,13 @@ module _ (S : Settings) (t : Tables) (ok : Sound S t) (x : Access) (formed : wel
 
   taken-new : (k : ℕ) → k < 4 → isReserved (getD (new .sectors) k empty .status) ≡ any (entryFor (b + 32 * k)) (u .misses)
   unfolding new
-  taken-new k h = go (flag (eqb k i))
-    where
-      go : (eqb k i ≡ true) ⊎ (eqb k i ≡ false)
-          → isReserved (getD (set (p .line .sectors) i (onSector x (p .answer) old)) k empty .status) ≡ any (entryFor (b + 32 * k)) (u .misses)
-      go (inl e) = rw (eqb-true k i e, getD-set-same (p .line .sectors) i (onSector x (p .answer) old) empty below, address-is a aligned) taken-this
-      go (inr e) =
-          rw (getD-set-other (p .line .sectors) i k (onSector x (p .answer) old) empty (eqb-false k i e))
-          (sp .agree k h ∙ sym (other-any (b + 32 * k) (λ q. eqb-false k i e (sector-is a b k (omega arith) h q))))
+  taken-new k h =
+      ⊎-elim
+      (λ e. rw (eqb-true k i e, getD-set-same (p .line .sectors) i (onSector x (p .answer) old) empty below, address-is a aligned) taken-this)
+      (λ e.
+      rw (getD-set-other (p .line .sectors) i k (onSector x (p .answer) old) empty (eqb-false k i e))
+      (sp .agree k h ∙ sym (other-any (b + 32 * k) (λ q. eqb-false k i e (sector-is a b k (omega arith) h q)))))
+      (flag (eqb k i))
 
   taken-other : (l : Line) → In l (t .lines) → holds b l ≡ false → whollyInvalid l ≡ false → (k : ℕ) → k < 4
       → isReserved (getD (l .sectors) k empty .status) ≡ any (entryFor (l .tag + 32 * k)) (u .misses)
@@ -430,12 +430,11 @@ module _ (S : Settings) (t : Tables) (ok : Sound S t) (x : Access) (formed : wel
   new-holds = in-any (holds b) (u .lines) (in-set-same (t .lines) n new (sp .inside)) (and-i (not-no new-used) (eq-eqb (p .line .tag) b (sp .tagged)))
 
   held-still : (e : Entry) → In e (t .misses) → any (holds (blockOf (e .address))) (u .lines) ≡ true
-  held-still e m = go (sp .kept e m)
-    where
-      go : (blockOf (e .address) ≡ b) ⊎ ((j : ℕ) × (j < length (t .lines)) × (j ≢ n) × (holds (blockOf (e .address)) (getD (t .lines) j fresh) ≡ true))
-          → any (holds (blockOf (e .address))) (u .lines) ≡ true
-      go (inl q) = ap (λ (c : ℕ). any (holds c) (u .lines)) q ∙ new-holds
-      go (inr (j, h, z, f)) = in-any (holds (blockOf (e .address))) (u .lines) (in-set-other (t .lines) n _ fresh j h z) f
+  held-still e m =
+      ⊎-elim
+      (λ q. ap (λ (c : ℕ). any (holds c) (u .lines)) q ∙ new-holds)
+      (λ (j, h, z, f). in-any (holds (blockOf (e .address))) (u .lines) (in-set-other (t .lines) n _ fresh j h z) f)
+      (sp .kept e m)
 
   module _ (some-readers : 1 ≤ S .readers) (merge : (isRead x && isMerge (p .answer) && any (entryFull S a) (t .misses)) ≡ false) where
     old-entry : (e : Entry) → Old (S .readers) (t .misses) e → EntryIs S u e
@@ -463,11 +462,7 @@ module _ (S : Settings) (t : Tables) (ok : Sound S t) (x : Access) (formed : wel
         }
 
     taken-entry : (e : Entry) → In e (u .misses) → EntryIs S u e
-    taken-entry e m = go (entry-from S (t .misses) (λ d o. entry-at S t ok d o .readers) x (p .answer) merge e m)
-      where
-        go : Old (S .readers) (t .misses) e ⊎ New x (p .answer) e → EntryIs S u e
-        go (inl o) = old-entry e o
-        go (inr w) = new-entry e w
+    taken-entry e m = ⊎-elim (λ o. old-entry e o) (λ w. new-entry e w) (entry-from S (t .misses) (λ d o. entry-at S t ok d o .readers) x (p .answer) merge e m)
 
     taken-queued : (y : Queued) → In y (u .queue) → queuedOk (u .misses) y ≡ true
     taken-queued y m = go (in-append (t .queue) (queues x p) y m)

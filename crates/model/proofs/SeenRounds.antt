@@ -32,17 +32,13 @@ use Rattle.model.specs.declared.Refusal.{Refusal}
 use Rattle.model.specs.declared.Refusal.the-variants.{SetHeld}
 use Rattle.words.proofs.Flags.{and-2, not-yes, clash, or-no-1, or-no-2}
 use Rattle.model.proofs.Bound.{rounds-settled}
+use Rattle.words.proofs.Flags.{flag}
 
 -- ---- events but 0x11
 
 pub but11-append : (es fs : List Event) → but11 (es ++ fs) ≡ but11 es ++ but11 fs
 but11-append [] fs = refl
-but11-append (e ∷ es) fs = go (not (refusing e)) (but11-append es fs)
-  where
-    go : (b : Bool) → but11 (es ++ fs) ≡ but11 es ++ but11 fs
-        → pick b (e ∷ but11 (es ++ fs)) (but11 (es ++ fs)) ≡ pick b (e ∷ but11 es) (but11 es) ++ but11 fs
-    go true ih = rw ih
-    go false ih = ih
+but11-append (e ∷ es) fs = ⊎-elim (λ q. rw q (rw (but11-append es fs))) (λ q. rw q (but11-append es fs)) (flag (not (refusing e)))
 
 -- ---- the struck rounds
 
@@ -173,21 +169,12 @@ module _ {T : Type 0} (C : Calls T) (clear : (t : T) → Clear accepts (C .offer
 
   sent-left : (t : T) → sendTurn A t .left ≡ old.sendTurn C t .left
   unfolding sendTurn old.sendTurn
-  sent-left t = go (isEmpty (C .tables t .queue))
-    where
-      go : (b : Bool) → pick b (still t) (seen t (C .sends t)) .left ≡ pick b (still t) (took t (C .sends t)) .left
-      go true = refl
-      go false = sym (took-left t (C .sends t))
+  sent-left t = ⊎-elim (λ q. rw q) (λ q. rw q (sym (took-left t (C .sends t)))) (flag (isEmpty (C .tables t .queue)))
 
   filled-left : (es : List Entry) (t : T) → fillFirst A es t .left ≡ old.fillFirst C es t .left
   unfolding fillFirst old.fillFirst
   filled-left [] t = refl
-  filled-left (e ∷ es) t = go (e .sent) (filled-left es t)
-    where
-      go : (b : Bool) → fillFirst A es t .left ≡ old.fillFirst C es t .left
-          → pick b (seen t (C .fills (e .address) t)) (fillFirst A es t) .left ≡ pick b (took t (C .fills (e .address) t)) (old.fillFirst C es t) .left
-      go true ih = sym (took-left t (C .fills (e .address) t))
-      go false ih = ih
+  filled-left (e ∷ es) t = ⊎-elim (λ q. rw q (sym (took-left t (C .fills (e .address) t)))) (λ q. rw q (filled-left es t)) (flag (e .sent))
 
   drained-left : (t : T) → drain A t .left ≡ old.drain C t .left
   unfolding drain old.drain
@@ -244,21 +231,12 @@ pub record ClearCalls {T : Type 0} (C : Calls T) : Type 0 where
 module _ {T : Type 0} (C : Calls T) (clear : ClearCalls C) where
   sent-same : (t : T) → compared (sendTurn (actsOf C) t) ≡ old.sendTurn C t
   unfolding sendTurn old.sendTurn
-  sent-same t = go (isEmpty (C .tables t .queue))
-    where
-      go : (b : Bool) → compared (pick b (still t) (seen t (C .sends t))) ≡ pick b (still t) (took t (C .sends t))
-      go true = refl
-      go false = seen-took t (C .sends t) (clear .sends t)
+  sent-same t = ⊎-elim (λ q. rw q) (λ q. rw q (seen-took t (C .sends t) (clear .sends t))) (flag (isEmpty (C .tables t .queue)))
 
   filled-same : (es : List Entry) (t : T) → compared (fillFirst (actsOf C) es t) ≡ old.fillFirst C es t
   unfolding fillFirst old.fillFirst
   filled-same [] t = refl
-  filled-same (e ∷ es) t = go (e .sent) (filled-same es t)
-    where
-      go : (b : Bool) → compared (fillFirst (actsOf C) es t) ≡ old.fillFirst C es t
-          → compared (pick b (seen t (C .fills (e .address) t)) (fillFirst (actsOf C) es t)) ≡ pick b (took t (C .fills (e .address) t)) (old.fillFirst C es t)
-      go true ih = seen-took t (C .fills (e .address) t) (clear .fills (e .address) t)
-      go false ih = ih
+  filled-same (e ∷ es) t = ⊎-elim (λ q. rw q (seen-took t (C .fills (e .address) t) (clear .fills (e .address) t))) (λ q. rw q (filled-same es t)) (flag (e .sent))
 
   drained-same : (t : T) → compared (drain (actsOf C) t) ≡ old.drain C t
   unfolding drain old.drain

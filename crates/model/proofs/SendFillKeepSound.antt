@@ -325,20 +325,19 @@ module _ (S : Settings) (t : Tables) (ok : Sound S t) (d : Entry) (m : In d (t .
 
   filled-sector : (l : Line) → In l (t .lines) → whollyInvalid l ≡ false → (k : ℕ) → k < 4
       → isReserved (getD (fillLine a l .sectors) k empty .status) ≡ any (entryFor (l .tag + 32 * k)) left
-  filled-sector l n u k h = go (flag (eqb (l .tag + 32 * k) a))
-    where
-      go : (eqb (l .tag + 32 * k) a ≡ true) ⊎ (eqb (l .tag + 32 * k) a ≡ false)
-          → isReserved (getD (fillLine a l .sectors) k empty .status) ≡ any (entryFor (l .tag + 32 * k)) left
-      go (inl e) =
-          let q : l .tag + 32 * k ≡ a = eqb-true (l .tag + 32 * k) a e in
-          fill-this a l (four-at S t ok l n) k u (tag-aligned S t ok l n u) h q ∙ rw q (sym gone)
-      go (inr e) =
-          let q : l .tag + 32 * k ≢ a = eqb-false (l .tag + 32 * k) a e in
-          rw (
-            fill-other a l (four-at S t ok l n) k (sector-aligned a (entry-at S t ok d m .good)) q,
-            any-keep (entryFor (l .tag + 32 * k)) (others a) (t .misses) (kept (l .tag + 32 * k) q),
-          )
-          (reserved-at S t ok l n u k h)
+  filled-sector l n u k h =
+      ⊎-elim
+      (λ e.
+      let q : l .tag + 32 * k ≡ a = eqb-true (l .tag + 32 * k) a e in
+      fill-this a l (four-at S t ok l n) k u (tag-aligned S t ok l n u) h q ∙ rw q (sym gone))
+      (λ e.
+      let q : l .tag + 32 * k ≢ a = eqb-false (l .tag + 32 * k) a e in
+      rw (
+      fill-other a l (four-at S t ok l n) k (sector-aligned a (entry-at S t ok d m .good)) q,
+      any-keep (entryFor (l .tag + 32 * k)) (others a) (t .misses) (kept (l .tag + 32 * k) q),
+      )
+      (reserved-at S t ok l n u k h))
+      (flag (eqb (l .tag + 32 * k) a))
 
   filled-reserved : (l : Line) → In l (t .lines) → reservedOk left (fillLine a l) ≡ true
   unfolding reservedOk

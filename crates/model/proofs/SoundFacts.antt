@@ -22,6 +22,8 @@ use Rattle.model.specs.declared.Status.the-variants.{Invalid, Reserved, 
 use Rattle.words.proofs.Flags.{and-1, and-2, and-i, not-yes, same-is}
 use Rattle.words.proofs.Lists.{In, all-in, count-one, count-index, in-index, in-getD}
 use Rattle.words.proofs.Below.{every-at}
+use mathlib.Core.Logic.{⊎-elim}
+use Rattle.words.proofs.Flags.{flag}
 
 -- ---- the records, and their tests both ways
 
@@ -149,12 +151,10 @@ module _ (S : Settings) (t : Tables) (ok : Sound S t) where
 
   -- taken no later than the current cycle
   pub since-at : (l : Line) → In l (t .lines) → l .taken ≤ t .now
-  since-at l m = go (in-index (t .lines) fresh l m)
-    where
-      go : (i : ℕ) × (i < length (t .lines)) × (getD (t .lines) i fresh ≡ l) → l .taken ≤ t .now
-      go (i, h, e) =
-          let k : LineIs S (t .now) i l = rw e at (line-at i h) in
-          omega (arith, leb-true (l .taken) (l .cycle) (k .since), leb-true (l .cycle) (t .now) (k .past))
+  since-at l m =
+      let (i, h, e) = in-index (t .lines) fresh l m in
+      let k : LineIs S (t .now) i l = rw e at (line-at i h) in
+      omega (arith, leb-true (l .taken) (l .cycle) (k .since), leb-true (l .cycle) (t .now) (k .past))
 
   pub sectors-at : (l : Line) → In l (t .lines) → all sectorOk (l .sectors) ≡ true
   sectors-at l m =
@@ -163,13 +163,11 @@ module _ (S : Settings) (t : Tables) (ok : Sound S t) where
 
   -- the tag of a line that isn't wholly invalid
   pub tag-at : (l : Line) → In l (t .lines) → whollyInvalid l ≡ false → goodBlock (l .tag) ≡ true
-  tag-at l m u = go (in-index (t .lines) fresh l m)
-    where
-      go : (i : ℕ) × (i < length (t .lines)) × (getD (t .lines) i fresh ≡ l) → goodBlock (l .tag) ≡ true
-      go (i, h, e) =
-          let k : LineIs S (t .now) i l = rw e at (line-at i h) in
-          let q : (goodBlock (l .tag) && eqb (setIndex S (l .tag)) (i / S .ways)) ≡ true = rw u at (k .tagged) in
-          and-1 (goodBlock (l .tag)) _ q
+  tag-at l m u =
+      let (i, h, e) = in-index (t .lines) fresh l m in
+      let k : LineIs S (t .now) i l = rw e at (line-at i h) in
+      let q : (goodBlock (l .tag) && eqb (setIndex S (l .tag)) (i / S .ways)) ≡ true = rw u at (k .tagged) in
+      and-1 (goodBlock (l .tag)) _ q
 
   pub tag-aligned : (l : Line) → In l (t .lines) → whollyInvalid l ≡ false → l .tag % 128 ≡ 0
   tag-aligned l m u = eqb-true (l .tag % 128) 0 (and-1 (eqb (l .tag % 128) 0) (ltb (l .tag) (2 ^ 48)) (tag-at l m u))

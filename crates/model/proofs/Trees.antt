@@ -237,8 +237,7 @@ module _ (k n first w : ℕ) (from : first ≤ w) (to : w < first + 2 ^ suc k) w
       let e : n * 2 ^ suc k ≡ n * 2 ^ k * 2 = ap (λ (x : ℕ). n * x) (pow-suc 2 k) ∙ sym (mul-assoc n (2 ^ k) 2) in
       let c : (2 * n + h) * 2 ^ k ≡ 2 * n * 2 ^ k + h * 2 ^ k = add-mul (2 * n) h (2 ^ k) in
       let a : 2 * n * 2 ^ k ≡ 2 * (n * 2 ^ k) = mul-assoc 2 n (2 ^ k) in
-      let l = path-leads k first w from to in
-      omega arith
+      omega (arith, path-leads k first w from to)
 
   leaf-node : n ≡ leaf (suc k) n first w / 2 ^ suc k
   leaf-node = sym (high n (suc k) (omega arith))

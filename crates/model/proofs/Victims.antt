@@ -149,11 +149,7 @@ module _ (R : Rule) (S : Settings) (d : ℕ) (ways : List Line) (x : Access) (p 
 
   -- nothing is written back but a victim
   pub backs-at-most-one : probe R S d ways x ≡ at p → length (p .backs) ≤ 1
-  backs-at-most-one h = go (probe-meets h)
-    where
-      go : Matched ways x p ⊎ Replaced R S d ways x p → length (p .backs) ≤ 1
-      go (inl m) = rw (m .backs) (omega arith)
-      go (inr r) = rw (r .backs) (back-one (getD ways (p .way) fresh))
+  backs-at-most-one h = ⊎-elim (λ m. rw (m .backs) (omega arith)) (λ r. rw (r .backs) (back-one (getD ways (p .way) fresh))) (probe-meets h)
 
 -- "an access needs exactly as many free places as it will queue"
 pub needed-is-queued : (x : Access) (p : Spot) → placesNeeded x p ≡ length (queues x p)

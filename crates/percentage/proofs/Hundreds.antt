@@ -121,20 +121,14 @@ tables-skip a b A u B n =
 after : (n k : ℕ) → k + n ≡ 10 → keep (tables (100 * k + 1)) ≡ flatMap pair (range (k + 1) 11)
 unfolding flatMap keep
 after zero k e =
-    tables-skip (100 * k + 1) 1025 (omega arith) (omega arith) (omega arith) (λ l u v h. last l u v h)
+    tables-skip (100 * k + 1) 1025 (omega arith) (omega arith) (omega arith) (λ l u v h. omega arith)
     ∙ ap keep (tables-none 1025 (omega arith))
     ∙ sym (ap (flatMap pair) (range-none (k + 1) 11 (omega arith)))
-  where
-    last : (l : ℕ) → 100 * k + 1 ≤ l → l < 1025 → l % 100 ≡ 0 → ⊥
-    last l u v h = omega arith
 after (suc n) k e =
-    tables-skip (100 * k + 1) (100 * (k + 1)) (omega arith) (omega arith) (omega arith) (λ l u v h. within l u v h)
+    tables-skip (100 * k + 1) (100 * (k + 1)) (omega arith) (omega arith) (omega arith) (λ l u v h. omega arith)
     ∙ tables-step (100 * (k + 1)) (omega arith)
     ∙ ap₂ (λ (s t : List Difference). s ++ t) (rows-hundred (k + 1) (omega arith) (omega arith)) (after n (k + 1) (omega arith))
     ∙ sym (ap (flatMap pair) (range-cons (k + 1) 11 (omega arith)))
-  where
-    within : (l : ℕ) → 100 * k + 1 ≤ l → l < 100 * (k + 1) → l % 100 ≡ 0 → ⊥
-    within l u v h = omega arith
 
 pub differences-are : differences ≡ hundreds
 unfolding differences hundreds pair

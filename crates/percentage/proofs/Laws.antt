@@ -1,7 +1,10 @@
 -- What the range test says; ours as the engine's rule, and the refusal's number; quotient, product and order of floats by the fractions that
 -- they are; and that at a power of two, where nothing is rounded, the two answers are the same. Other sizes: Ties. Assumes nothing.
 use mathlib.Core.Path.{_≡_, refl, sym, ap, ap₂, _∙_, subst}
-use mathlib.Core.Bool.{Bool, true, false, _&&_, _||_, cond, Bool·beq, true≢false}
+use mathlib.Core.Bool.{Bool, true, false, _&&_, _||_, cond, Bool·beq}
+use mathlib.Core.Logic.{⊎-elim}
+use lib.IntN.{ℤ}
+use Rattle.words.proofs.Flags.{flag}
 use Prim.Native.Nat.{ℕ, _+_, _-_, _*_, _^_, _≤_, _<_}
 use native.Mathlib.Nat.{le-trans, le-of-eq, lt-of-lt-of-le, lt-of-le-of-lt, not-le-of-lt, mul-one, one-mul, mul-comm, mul-assoc, mul-left-comm, mul-pos, mul-mul-mul-comm}
 use native.Mathlib.Omega.{arith}
@@ -65,37 +68,36 @@ pub refused-by-1 : refusalNumber outOfRange ≡ 1
 refused-by-1 = refl
 
 -- ---- two values that are not negative: their quotient and product are the fractions', rounded, and their order is the fractions'
+number : (x : Float) (a c : ℕ) → HasValue x false a c → (m : ℕ) × (e : ℤ) × (x ≡ fin false m e) × (m * up e * c ≡ a * down e)
+number nan a c h = absurd h
+number (inf s) a c h = absurd h
+number (fin s m e) a c h = (m, e, rw (h .0), h .1)
+
 pub div-at : (f : Format) (x y : Float) (a c b d : ℕ) → 0 < c → 0 < d → 0 < b → HasValue x false a c → HasValue y false b d → div f x y ≡ round f false (a * d) (c * b)
 unfolding div
-div-at f nan y a c b d C D B h k = absurd h
-div-at f (inf s) y a c b d C D B h k = absurd h
-div-at f (fin true m e) y a c b d C D B h k = absurd (true≢false (h .0))
-div-at f (fin false m e) nan a c b d C D B h k = absurd k
-div-at f (fin false m e) (inf s) a c b d C D B h k = absurd k
-div-at f (fin false m e) (fin true n g) a c b d C D B h k = absurd (true≢false (k .0))
-div-at f (fin false m e) (fin false n g) a c b d C D B h k =
+div-at f x y a c b d C D B hx hy =
+    let (m, e, x-is, h) = number x a c hx in
+    let (n, g, y-is, k) = number y b d hy in
     let E = down e in
     let G = down g in
     let M = m * up e in
     let N = n * up g in
-    let N-pos : 0 < N = first-pos N d (subst (λ (z : ℕ). 0 < z) (sym (k .1)) (mul-pos B (down-pos g))) in
+    let N-pos : 0 < N = first-pos N d (subst (λ (z : ℕ). 0 < z) (sym k) (mul-pos B (down-pos g))) in
     let n-pos : 0 < n = first-pos n (up g) N-pos in
     let swap : a * E * (N * d) ≡ a * d * (N * E) = simp (mul-assoc, mul-comm, mul-left-comm) in
-    ap (λ (z : Bool). cond z (cond (eqb m 0) nan (inf false)) (round f false (M * G) (N * E))) (ne-eqb n 0 (λ e. omega arith))
+    rw (x-is, y-is)
+    (ap (λ (z : Bool). cond z (cond (eqb m 0) nan (inf false)) (round f false (M * G) (N * E))) (ne-eqb n 0 (λ e. omega arith))
     ∙ round-same f false (M * G) (N * E) (a * d) (c * b) (mul-pos N-pos (down-pos e)) (mul-pos C B)
-    (mul-mul-mul-comm M G c b ∙ ap (λ (z : ℕ). z * (G * b)) (h .1) ∙ ap (λ (z : ℕ). a * E * z) (mul-comm G b ∙ sym (k .1)) ∙ swap)
+    (mul-mul-mul-comm M G c b ∙ ap (λ (z : ℕ). z * (G * b)) h ∙ ap (λ (z : ℕ). a * E * z) (mul-comm G b ∙ sym k) ∙ swap))
 
 pub mul-at : (f : Format) (x y : Float) (a c b d : ℕ) → 0 < c → 0 < d → HasValue x false a c → HasValue y false b d → mul f x y ≡ round f false (a * b) (c * d)
 unfolding mul
-mul-at f nan y a c b d C D h k = absurd h
-mul-at f (inf s) y a c b d C D h k = absurd h
-mul-at f (fin true m e) y a c b d C D h k = absurd (true≢false (h .0))
-mul-at f (fin false m e) nan a c b d C D h k = absurd k
-mul-at f (fin false m e) (inf s) a c b d C D h k = absurd k
-mul-at f (fin false m e) (fin true n g) a c b d C D h k = absurd (true≢false (k .0))
-mul-at f (fin false m e) (fin false n g) a c b d C D h k =
-    round-same f false (m * up e * (n * up g)) (down e * down g) (a * b) (c * d) (mul-pos (down-pos e) (down-pos g)) (mul-pos C D)
-    (mul-mul-mul-comm (m * up e) (n * up g) c d ∙ ap (λ (z : ℕ). z * (n * up g * d)) (h .1) ∙ ap (λ (z : ℕ). a * down e * z) (k .1) ∙ mul-mul-mul-comm a (down e) b (down g))
+mul-at f x y a c b d C D hx hy =
+    let (m, e, x-is, h) = number x a c hx in
+    let (n, g, y-is, k) = number y b d hy in
+    rw (x-is, y-is)
+    (round-same f false (m * up e * (n * up g)) (down e * down g) (a * b) (c * d) (mul-pos (down-pos e) (down-pos g)) (mul-pos C D)
+    (mul-mul-mul-comm (m * up e) (n * up g) c d ∙ ap (λ (z : ℕ). z * (n * up g * d)) h ∙ ap (λ (z : ℕ). a * down e * z) k ∙ mul-mul-mul-comm a (down e) b (down g)))
 
 le-level : (a b : ℕ) → T (ltb a b || (eqb a b && true)) → a ≤ b
 le-level a b t = go (ltb a b) (eqb a b) (ltb→lt a b) (eqb→eq a b) t
@@ -107,14 +109,10 @@ le-level a b t = go (ltb a b) (eqb a b) (ltb→lt a b) (eqb→eq a b) t
 
 pub values-le : (x y : Float) (a c b d : ℕ) → HasValue x false a c → HasValue y false b d → T (le x y) → a * d ≤ b * c
 unfolding le
-values-le nan y a c b d h k t = absurd h
-values-le (inf s) y a c b d h k t = absurd h
-values-le (fin true m e) y a c b d h k t = absurd (true≢false (h .0))
-values-le (fin false m e) nan a c b d h k t = absurd k
-values-le (fin false m e) (inf s) a c b d h k t = absurd k
-values-le (fin false m e) (fin true n g) a c b d h k t = absurd (true≢false (k .0))
-values-le (fin false m e) (fin false n g) a c b d h k t =
-    transfer a b c d (m * up e) (n * up g) (down e) (down g) (down-pos e) (down-pos g) (sym (h .1)) (sym (k .1)) (le-level (m * up e * down g) (n * up g * down e) t)
+values-le x y a c b d hx hy t =
+    let (m, e, x-is, h) = number x a c hx in
+    let (n, g, y-is, k) = number y b d hy in
+    transfer a b c d (m * up e) (n * up g) (down e) (down g) (down-pos e) (down-pos g) (sym h) (sym k) (le-level (m * up e * down g) (n * up g * down e) (rw (x-is, y-is) at t))
 
 pub le-at : (x y : Float) (a c b d : ℕ) → 0 < c → 0 < d → HasValue x false a c → HasValue y false b d → le x y ≡ leb (a * d) (b * c)
 le-at x y a c b d C D h k =
@@ -172,8 +170,4 @@ pub powers-agree : (S : Settings) (d k : ℕ) → linesOf S ≡ 2 ^ k → Ranged
 powers-agree S d k e r = agree-at d (linesOf S) (S .dirty) k e r ∙ sym (ours S d)
 
 pub same-answer : (d l p k : ℕ) → l ≡ 2 ^ k → answer (inRange d l p) (floatMeets d l p) ≡ answer (inRange d l p) (wholeMeets d l p)
-same-answer d l p k e = go (inRange d l p) (λ t. agree-at d l p k e (ranged d l p t))
-  where
-    go : (b : Bool) → (b ≡ true → floatMeets d l p ≡ wholeMeets d l p) → answer b (floatMeets d l p) ≡ answer b (wholeMeets d l p)
-    go true h = ap Meets (h refl)
-    go false h = refl
+same-answer d l p k e = ⊎-elim (λ t. rw t (ap Meets (agree-at d l p k e (ranged d l p t)))) (λ t. rw t) (flag (inRange d l p))

@@ -80,19 +80,14 @@ not-hundred S e h =
 
 -- a tie at 53 or at 59 has a multiple of a hundred for lines
 pub tied : (d l p : ℕ) → short p ≡ true → 100 * d ≡ p * l → l % 100 ≡ 0
-tied d l p s e = ⊎-elim (λ h. at-53 (eqb-true p 53 h)) (λ h. at-59 (eqb-true p 59 h)) (or-cases (eqb p 53) (eqb p 59) s)
+tied d l p s e =
+    ⊎-elim
+    (λ h. let g : 100 * d ≡ 53 * l = e ∙ ap (λ (z : ℕ). z * l) (eqb-true p 53 h) in at (17 * d - 9 * l) (omega arith))
+    (λ h. let g : 100 * d ≡ 59 * l = e ∙ ap (λ (z : ℕ). z * l) (eqb-true p 59 h) in at (39 * d - 23 * l) (omega arith))
+    (or-cases (eqb p 53) (eqb p 59) s)
   where
-    at-53 : p ≡ 53 → l % 100 ≡ 0
-    at-53 h =
-        let g : 100 * d ≡ 53 * l = e ∙ ap (λ (z : ℕ). z * l) h in
-        let k : l ≡ 100 * (17 * d - 9 * l) = omega arith in
-        ap (λ (z : ℕ). z % 100) k ∙ mul-mod-right 100 (17 * d - 9 * l)
-
-    at-59 : p ≡ 59 → l % 100 ≡ 0
-    at-59 h =
-        let g : 100 * d ≡ 59 * l = e ∙ ap (λ (z : ℕ). z * l) h in
-        let k : l ≡ 100 * (39 * d - 23 * l) = omega arith in
-        ap (λ (z : ℕ). z % 100) k ∙ mul-mod-right 100 (39 * d - 23 * l)
+    at : (z : ℕ) → l ≡ 100 * z → l % 100 ≡ 0
+    at z k = ap (λ (z : ℕ). z % 100) k ∙ mul-mod-right 100 z
 
 module _ (S : Settings) (d : ℕ) (e : inRange S ≡ true) (D : d ≤ linesOf S) where
   pub never-at-a-cache : differ d (linesOf S) (S .dirty) ≡ false

@@ -2,6 +2,8 @@
 use mathlib.Core.Path.{_≡_, refl, ap, ap₂, _∙_}
 use mathlib.Core.List.{List, [], _∷_, _++_, map, flatMap, append-assoc}
 use mathlib.Core.Bool.{Bool, true, false, cond}
+use mathlib.Core.Logic.{⊎-elim}
+use Rattle.words.proofs.Flags.{flag}
 use Prim.Native.Nat.{ℕ, suc, _+_, _-_, _≤_, _<_}
 use native.Mathlib.Omega.{arith}
 use Rattle.percentage.specs.declared.Difference.{Difference}
@@ -10,17 +12,11 @@ use Rattle.percentage.specs.Differences.{count, range, triple, row, rows
 -- ---- the numbers from a up to b
 pub range-cons : (a b : ℕ) → a < b → range a b ≡ a ∷ range (a + 1) b
 unfolding range
-range-cons a b h = ap (count a) (one-more a b h)
-  where
-    one-more : (a b : ℕ) → a < b → b - a ≡ suc (b - (a + 1))
-    one-more a b h = omega arith
+range-cons a b h = let e : b - a ≡ suc (b - (a + 1)) = omega arith in ap (count a) e
 
 pub range-none : (a b : ℕ) → b ≤ a → range a b ≡ []
 unfolding range
-range-none a b h = ap (count a) (none a b h)
-  where
-    none : (a b : ℕ) → b ≤ a → b - a ≡ 0
-    none a b h = omega arith
+range-none a b h = let e : b - a ≡ 0 = omega arith in ap (count a) e
 
 -- ---- the triples
 pub row-cons : (l d p : ℕ) → p ≤ 100 → row l d p ≡ triple l d p ∷ row l d (p + 1)
@@ -58,11 +54,7 @@ table l h =
 pub keep-append : (s t : List Difference) → keep (s ++ t) ≡ keep s ++ keep t
 unfolding keep
 keep-append [] t = refl
-keep-append (x ∷ xs) t = ap (λ (a : List Difference). cond (differ (x .dirty) (x .lines) (x .percent)) (x ∷ a) a) (keep-append xs t) ∙ pick (differ (x .dirty) (x .lines) (x .percent)) (keep xs) (keep t)
-  where
-    pick : (b : Bool) (u v : List Difference) → cond b (x ∷ (u ++ v)) (u ++ v) ≡ cond b (x ∷ u) u ++ v
-    pick true u v = refl
-    pick false u v = refl
+keep-append (x ∷ xs) t = rw (keep-append xs t) (⊎-elim (λ q. rw q) (λ q. rw q) (flag (differ (x .dirty) (x .lines) (x .percent))))
 
 pub keep-yes : (l d p : ℕ) (ts : List Difference) → differ d l p ≡ true → keep (triple l d p ∷ ts) ≡ triple l d p ∷ keep ts
 unfolding keep

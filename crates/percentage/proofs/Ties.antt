@@ -2,7 +2,7 @@
 -- Away from such a tie a fraction over 2 ^ 17, which no step rounds, lies between dirty / lines and P / 100, since lines is at most 1,024;
 -- rounding keeps the order, so it cannot carry the percentage past P. At a tie the answer is that of P lines of 100.
 use mathlib.Core.Path.{_≡_, refl, sym, ap, ap₂, _∙_, subst}
-use mathlib.Core.Bool.{Bool, true, false, not, _&&_, _||_, cond, Bool·beq}
+use mathlib.Core.Bool.{Bool, true, false, not, _&&_, _||_, Bool·beq}
 use mathlib.Core.Logic.{⊎-elim}
 use Prim.Native.Nat.{ℕ, zero, suc, _+_, _-_, _*_, _/_, _^_, _≤_, _<_, zero-le}
 use native.Mathlib.Nat.{le-trans, le-of-eq, not-le-of-lt, lt-of-not-le, lt-of-le-of-lt, add-mul, mul-one, one-mul, mul-comm, mul-right-comm, mul-le-mul-right}
@@ -38,11 +38,7 @@ odd-nonneg d (suc q) k l = tt
 
 units-nonneg : (f : Format) (q k : ℕ) → T (nonneg (units f false q k))
 unfolding units
-units-nonneg f q k = go (ltb (q * 2 ^ k) (2 ^ (low f + suc (emax f))))
-  where
-    go : (b : Bool) → T (nonneg (cond b (odd (suc (prec f)) false q k (low f)) (inf false)))
-    go true = odd-nonneg (suc (prec f)) q k (low f)
-    go false = tt
+units-nonneg f q k = ⊎-elim (λ e. rw e (odd-nonneg (suc (prec f)) q k (low f))) (λ e. rw e tt) (flag (ltb (q * 2 ^ k) (2 ^ (low f + suc (emax f)))))
 
 round-nonneg : (f : Format) (a c : ℕ) → T (nonneg (round f false a c))
 unfolding round

@@ -68,8 +68,7 @@ module _ (S : Settings) (x : Access) (L : Lent) (range : inRange S ≡ true) (fi
   pub accepted-in-time : (n : ℕ) (e : Event) → waitCall S x L .waiting ≡ Accepted n e → n ≤ suc (waits (callActs S x) L)
   accepted-in-time n e h =
       let r : Run Lent = rounds (calls S x) (suc (waits (callActs S x) L)) L in
-      let q = said-round (length (r .offers)) n (lastOf (refused SetHeld) (r .offers)) e (rw wait-is at h) in
-      omega (arith, offers-few (calls S x) (suc (waits (callActs S x) L)) L)
+      omega (arith, said-round (length (r .offers)) n (lastOf (refused SetHeld) (r .offers)) e (rw wait-is at h), offers-few (calls S x) (suc (waits (callActs S x) L)) L)
 
   -- words are 32-bit numbers, as their type says (`Small`)
   pub held-for-ever : Small L → waitCall S x L .waiting ≡ Held → (j : ℕ) → heldIn (callActs S x) (waits (callActs S x) L + j) L

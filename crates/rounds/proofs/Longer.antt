@@ -11,6 +11,8 @@ use Rattle.model.specs.Rounds.{Turn}
 use Rattle.model.specs.declared.Event.{Event}
 use Rattle.model.specs.declared.Event.the-variants as event
 use Rattle.model.specs.declared.Refusal.the-variants.{SetHeld}
+use mathlib.Core.Logic.{⊎-elim}
+use Rattle.words.proofs.Flags.{flag}
 
 module _ {T : Type 0} (C : Acts T) where
   abbrev offered : T → Turn T
@@ -28,45 +30,33 @@ module _ {T : Type 0} (C : Acts T) where
   pub offers-few : (n : ℕ) (t : T) → length (rounds C n t .offers) ≤ n
   unfolding rounds
   offers-few zero t = omega arith
-  offers-few (suc n) t = go (accepts (offered t .events)) refl (offers-few n (offered t .left))
-    where
-      go : (b : Bool) → accepts (offered t .events) ≡ b → length (rounds C n (offered t .left) .offers) ≤ n → length (rounds C (suc n) t .offers) ≤ suc n
-      go true q ih = rw q (omega arith)
-      go false q ih = rw q (omega arith)
+  offers-few (suc n) t = let ih = offers-few n (offered t .left) in ⊎-elim (λ q. rw q (omega arith)) (λ q. rw q (omega arith)) (flag (accepts (offered t .events)))
 
   pub longer : (m n : ℕ) (t : T) → m ≤ n → any accepts (rounds C m t .offers) ≡ true → rounds C n t ≡ rounds C m t
   unfolding rounds
   longer zero n t h a = absurd (false≢true a)
   longer (suc m) zero t h a = absurd (omega arith)
-  longer (suc m) (suc n) t h a = go (accepts (offered t .events)) refl (longer m n (offered t .left) (omega arith))
-    where
-      go : (b : Bool) → accepts (offered t .events) ≡ b
-          → (any accepts (rounds C m (offered t .left) .offers) ≡ true → rounds C n (offered t .left) ≡ rounds C m (offered t .left))
-          → rounds C (suc n) t ≡ rounds C (suc m) t
-      go true q ih = rw q
-      go false q ih = round-on n t q ∙ ap (behind (drain C t) (offered t)) (ih (rw q at a)) ∙ sym (round-on m t q)
+  longer (suc m) (suc n) t h a =
+      ⊎-elim
+      (λ q. rw q)
+      (λ q. round-on n t q ∙ ap (behind (drain C t) (offered t)) ((longer m n (offered t .left) (omega arith)) (rw q at a)) ∙ sym (round-on m t q))
+      (flag (accepts (offered t .events)))
 
   pub marks-accepted : (n : ℕ) (t : T) → any accepts (rounds C n t .offers) ≡ true → (j : ℕ) × (marks (rounds C n t) ≡ replicate j false ++ (true ∷ []))
   unfolding rounds
   marks-accepted zero t a = absurd (false≢true a)
-  marks-accepted (suc n) t a = go (accepts (offered t .events)) refl (marks-accepted n (offered t .left))
-    where
-      go : (b : Bool) → accepts (offered t .events) ≡ b
-          → (any accepts (rounds C n (offered t .left) .offers) ≡ true → (j : ℕ) × (marks (rounds C n (offered t .left)) ≡ replicate j false ++ (true ∷ [])))
-          → (j : ℕ) × (marks (rounds C (suc n) t) ≡ replicate j false ++ (true ∷ []))
-      go true q ih = (0, rw q)
-      go false q ih =
-          let (j, e) = ih (rw q at a) in
-          (suc j, rw q (ap (λ (l : List Bool). false ∷ l) e))
+  marks-accepted (suc n) t a =
+      ⊎-elim
+      (λ q. (0, rw q))
+      (λ q.
+      let (j, e) = (marks-accepted n (offered t .left)) (rw q at a) in
+      (suc j, rw q (ap (λ (l : List Bool). false ∷ l) e)))
+      (flag (accepts (offered t .events)))
 
   -- round n + 1 was offered and refused, so all before it were
   pub marks-held : (n : ℕ) (t : T) → getD (rounds C (suc n) t .offers) n [] ≡ event.Refused SetHeld ∷ [] → marks (rounds C (suc n) t) ≡ replicate (suc n) false
   unfolding rounds
-  marks-held zero t h = go (accepts (offered t .events)) refl
-    where
-      go : (b : Bool) → accepts (offered t .events) ≡ b → marks (rounds C 1 t) ≡ false ∷ []
-      go true q = absurd (false≢true (sym (ap accepts h) ∙ q))
-      go false q = rw q
+  marks-held zero t h = ⊎-elim (λ q. absurd (false≢true (sym (ap accepts h) ∙ q))) (λ q. rw q) (flag (accepts (offered t .events)))
   marks-held (suc n) t h = go (accepts (offered t .events)) refl (marks-held n (offered t .left))
     where
       none : {X : Type 0} → _≡_ {A = List Event} [] (event.Refused SetHeld ∷ []) → X
@@ -85,10 +75,8 @@ module _ {T : Type 0} (C : Acts T) where
       go : (b : Bool) → accepts (offered t .events) ≡ b → getD (rounds C (suc n) t .offers) 0 [] ≡ getD (rounds C 1 t .offers) 0 []
       go true q = rw (round-last n t q, round-last zero t q)
       go false q = rw (round-on n t q, round-on zero t q)
-  offers-first (suc i) (suc n) t h = go (accepts (offered t .events)) refl (offers-first i n (offered t .left) (omega arith))
-    where
-      go : (b : Bool) → accepts (offered t .events) ≡ b
-          → getD (rounds C n (offered t .left) .offers) i [] ≡ getD (rounds C (suc i) (offered t .left) .offers) i []
-          → getD (rounds C (suc n) t .offers) (suc i) [] ≡ getD (rounds C (suc (suc i)) t .offers) (suc i) []
-      go true q ih = rw (round-last n t q, round-last (suc i) t q)
-      go false q ih = rw (round-on n t q, round-on (suc i) t q) ih
+  offers-first (suc i) (suc n) t h =
+      ⊎-elim
+      (λ q. rw (round-last n t q, round-last (suc i) t q))
+      (λ q. rw (round-on n t q, round-on (suc i) t q) (offers-first i n (offered t .left) (omega arith)))
+      (flag (accepts (offered t .events)))

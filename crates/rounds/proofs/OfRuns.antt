@@ -20,7 +20,6 @@ use Rattle.model.specs.Seen.{Acts, accepts, Course, marks, rounds, struck, held
 use Rattle.model.specs.declared.Settings.{Settings}
 use Rattle.model.specs.declared.Access.{Access}
 use Rattle.model.specs.declared.Event.{Event}
-use Rattle.model.specs.declared.Event.the-variants as event
 use Rattle.model.specs.declared.Refusal.the-variants.{BadAccess}
 use Rattle.model.specs.Records.{roundBytes}
 use Rattle.model.specs.declared.Verdict.the-variants.{Passed}

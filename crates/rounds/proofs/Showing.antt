@@ -8,7 +8,6 @@ use native.Mathlib.Omega.{arith}
 use borrow.Author.Tests.{eq-eqb, ne-eqb}
 use lib.Dec.{eqb}
 use lib.ListN.{length}
-use Rattle.words.specs.Words.{pick}
 use Rattle.model.specs.Address.{maskOf}
 use Rattle.model.specs.Tables.{Entry, Tables, Outcome, after, eventsOf}
 use Rattle.model.specs.Lent.{Lent, lent, tablesOf}
@@ -24,8 +23,6 @@ use Rattle.model.specs.declared.Settings.{Settings}
 use Rattle.model.specs.declared.Queued.{Queued}
 use Rattle.model.specs.declared.Access.{Access}
 use Rattle.model.specs.declared.Access.the-variants.{Read}
-use Rattle.model.specs.declared.Event.the-variants as event
-use Rattle.model.specs.declared.Command.the-variants as cmd
 use Rattle.model.specs.declared.Told.{Told}
 use Rattle.encoding.proofs.Bridge.{is-tables, call-is, does-is}
 use Rattle.model.proofs.SeenRounds.{unrefused-too, calls-clear}
@@ -33,7 +30,6 @@ use Rattle.model.proofs.Soundness.{send-keeps-sound, fill-keeps-sound, access-k
 use Rattle.layout.specs.declared.Layout.{Layout}
 use Rattle.layout.specs.Layout.{Placed}
 use Rattle.layout.specs.Places.{First}
-use Rattle.model.proofs.SoundFacts.{parts}
 use Rattle.tables.proofs.Queue.{queue-counted}
 use Rattle.turns.specs.declared.Sent.{Sent}
 use Rattle.turns.specs.declared.Sent.the-variants.{At, Nothing}
@@ -42,6 +38,8 @@ use Rattle.turns.specs.Parts.{isRefusal, Noted, firstSent, FindsSent}
 use Rattle.rounds.specs.Parts.{Queueless, Sees, SeesSend, SeesFill, SeesDrain, SeesRound, SeesStruck}
 use Rattle.turns.proofs.Noting.{told-accepted, noted-then}
 use Rattle.turns.proofs.Turns.{send-bytes, fill-bytes, offer-bytes}
+use mathlib.Core.Logic.{⊎-elim}
+use Rattle.words.proofs.Flags.{flag}
 
 -- ---- one call
 
@@ -111,12 +109,7 @@ fillAt S L Nothing = still L
 fill-first : (S : Settings) (x : Access) (es : List Entry) (L : Lent) → fillFirst (callActs S x) es L ≡ fillAt S L (firstSent es)
 unfolding fillFirst
 fill-first S x [] L = refl
-fill-first S x (y ∷ es) L = go (y .sent) (fill-first S x es L)
-  where
-    go : (b : Bool) → fillFirst (callActs S x) es L ≡ fillAt S L (firstSent es)
-        → pick b (seen L (fillCall S (y .address) L)) (fillFirst (callActs S x) es L) ≡ fillAt S L (pick b (At (y .address)) (firstSent es))
-    go true ih = refl
-    go false ih = ih
+fill-first S x (y ∷ es) L = ⊎-elim (λ q. rw q) (λ q. rw q (fill-first S x es L)) (flag (y .sent))
 
 module _ (S : Settings) {L : Lent} (h : SoundSlices S L) {v : Sent} (found : FindsSent S L v) where
   fill-at : (x : Access) {w : Sent} → v ≡ w → fillFirst (callActs S x) (tablesOf S L .misses) L ≡ fillAt S L w

@@ -5,8 +5,8 @@ use mathlib.Core.List.{List}
 use Prim.Native.Nat.{ℕ, _+_}
 use lib.ListN.{getD}
 use lib.Dec.{eqb}
-use Rattle.words.specs.Words.{some, countBelow}
-use Rattle.model.specs.SoundLent.{entryFor, unsentFor, readFor}
+use Rattle.words.specs.Words.{countBelow}
+use Rattle.model.specs.SoundLent.{readFor}
 use Rattle.model.specs.declared.Settings.{Settings}
 use Rattle.layout.specs.declared.Layout.{Layout}
 use Rattle.layout.specs.Layout.{Placed}
@@ -27,12 +27,6 @@ abbrev pub readRead : Layout → List ℕ → List ℕ → ℕ → ℕ → Bool
 readRead at longs marks a q = eqb (getD marks (at .kinds + q) 0) 1 && eqb (getD longs (at .queue + q) 0) a
 
 module _ (S : Settings) {at : Layout} (p : Placed S at) (longs words marks : List ℕ) (a n : ℕ) where
-  pub entry-sought : some n (entryRead at longs marks a) ≡ some n (entryFor S longs words marks a)
-  entry-sought = rw (p .counts, p .misses)
-
-  pub unsent-sought : some n (unsentRead at longs marks a) ≡ some n (unsentFor S longs words marks a)
-  unsent-sought = rw (p .counts, p .sent, p .misses)
-
   pub read-counted : countBelow n (readRead at longs marks a) ≡ countBelow n (readFor S longs words marks a)
   read-counted = rw (p .kinds, p .queue)
 

@@ -15,7 +15,6 @@ use Rattle.model.specs.SoundLent.{sectorShape, sectorBacked}
 use Rattle.words.proofs.Flags.{or-1}
 use Rattle.words.proofs.Below.{every-at, every-i, every-same}
 use Rattle.layout.specs.declared.Layout.{Layout}
-use Rattle.layout.specs.Layout.{Placed}
 use Rattle.soundness.specs.Shapes.{marksShape, maskShape}
 use Rattle.soundness.proofs.Tests.{swap, every-both}
 
@@ -75,10 +74,3 @@ abbrev pub maskRead : Layout → List ℕ → List ℕ → ℕ → Bool
 maskRead at words marks i =
     (eqb (getD marks i 0) 1 || Bool·beq (not (eqb (getD words (at .masks + i) 0) 0)) (eqb (getD marks i 0) 3))
     && imp (eqb (getD marks (at .readables + i) 0) 0) (not (eqb (getD words (at .masks + i) 0) allOnes))
-
-module _ (S : Settings) {at : Layout} (p : Placed S at) (words marks : List ℕ) (n : ℕ) where
-  pub marks-joined : every n (marksRead at marks) ≡ every n (marksShape S marks)
-  marks-joined = rw (p .readables)
-
-  pub masks-joined : every n (maskRead at words marks) ≡ every n (maskShape S words marks)
-  masks-joined = rw (p .readables, p .masks)

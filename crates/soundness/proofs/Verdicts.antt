@@ -37,20 +37,6 @@ first-refuses true false s L o n e = cc
 first-refuses false l s L o n e = cc
 
 module _ (S : Settings) (L : Lent) where
-  -- ---- what the verdict is
-
-  pub setting-refused : inRange S ≡ false → Refused SettingOutOfRange ≡ verdictOf (checkCall S L)
-  setting-refused r = rw r
-
-  pub length-refused : inRange S ≡ true → lengthsFit S L ≡ false → Refused SliceLength ≡ verdictOf (checkCall S L)
-  length-refused r l = rw (r, l)
-
-  pub unsound-refused : inRange S ≡ true → lengthsFit S L ≡ true → soundLent S L ≡ false → Refused NotSound ≡ verdictOf (checkCall S L)
-  unsound-refused r l s = rw (r, l, s)
-
-  pub none-refused : inRange S ≡ true → lengthsFit S L ≡ true → soundLent S L ≡ true → Passed ≡ verdictOf (checkCall S L)
-  none-refused r l s = rw (r, l, s)
-
   -- ---- what it tells
 
   pub passed-is : verdictOf (checkCall S L) ≡ Passed → (inRange S ≡ true) × (lengthsFit S L ≡ true) × (soundLent S L ≡ true)

@@ -51,8 +51,7 @@ module _ (s : List ℕ) (at : ℕ) (here : at < length s) (inv : at + beforeLast
   pub walk-unknown : {b : _} → b ≡ isCommand k → not b ≡ true → length s ≡ beforeLast 0 s
   walk-unknown {b} q z =
       let e : beforeLast 0 (drop at s) ≡ 1 + length bs = rw split (kind-unknown k bs (sym q ∙ not-true b z)) in
-      let l = long in
-      omega arith
+      omega (arith, long)
 
   module _ {b : _} (q : b ≡ isCommand k) (z : not b ≡ false) {n : ℕ} (n-is : n ≡ lengthOf k) where
     command : isCommand k ≡ true

@@ -78,9 +78,7 @@ module _ {S : Settings} (k : Scope) (buf : List ℕ) (n : ℕ) (inside : n ≤ l
   part-within =
       let w = length-take-le n buf inside in
       let l : length p ≡ end = ap length p-is ∙ length-take-le end buf (let h = ends in omega arith) in
-      let h = v .stands .inside in
-      let g = ends in
-      omega arith
+      omega (arith, v .stands .inside, ends)
 
   module _ {b : List ℕ} {have : ℕ} (count : have ≡ carriedCount buf (ran .consumed) n) (moved : b ≡ carried buf (ran .consumed) n) (size : length b ≡ length buf) where
     left : take have b ≡ drop (ran .consumed) (take n buf)

@@ -121,9 +121,7 @@ module _ (S : Settings) where
 
   module _ (room k : ℕ) (a : List ℕ) (t : Tables) {n : Stop} (h : runFrom S 0 room (k ∷ a) t ≡ halt n t) where
     stays : goesOn (laterStop room k a) ≡ true → ⊥
-    stays z =
-        let p = ap (λ (r : Result Tables). r .consumed) (sym (from-goes S room k a t z) ∙ h) in
-        omega arith
+    stays z = omega (arith, ap (λ (r : Result Tables). r .consumed) (sym (from-goes S room k a t z) ∙ h))
 
     pub halted-by : (laterStop room k a ≡ n) × (goesOn (laterStop room k a) ≡ false)
     halted-by =
@@ -162,8 +160,7 @@ module _ (S : Settings) where
       ⊎-elim
       (λ z.
       let p = ap (λ (r : Result Tables). r .consumed) (from-goes S room k a t z) in
-      let i = eats-inside (lengthOf k) (room - length (logBytes (eventsOf (stepAt S k a t)))) a (after t (stepAt S k a t)) (going room k a z .whole) in
-      omega arith)
+      omega (arith, eats-inside (lengthOf k) (room - length (logBytes (eventsOf (stepAt S k a t)))) a (after t (stepAt S k a t)) (going room k a z .whole)))
       (λ z. let p = ap (λ (r : Result Tables). r .consumed) (from-stops S room k a t z) in omega arith)
       (flag (goesOn (laterStop room k a)))
 
@@ -193,8 +190,7 @@ module _ (S : Settings) where
   cut-short room [] t h = omega arith
   cut-short room (k ∷ a) t h =
       let c = cut-stop room k a (halted-by S room k a t h .0) in
-      let l = body-short k (c .0) in
-      omega arith
+      omega (arith, body-short k (c .0))
 
   -- ---- the records before the last are whole
 

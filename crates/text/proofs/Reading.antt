@@ -1,13 +1,12 @@
 -- Numbers out of text: the digit of a character, a value with one more digit, the loop that reads digits.
-use mathlib.Core.Path.{_≡_, refl, sym, ap, _∙_}
-use mathlib.Core.Logic.{_⊎_, inl, inr}
-use mathlib.Core.Bool.{Bool, true, false, not, _&&_}
+use mathlib.Core.Path.{_≡_, refl, _∙_}
+use mathlib.Core.Bool.{Bool, true, false}
 use mathlib.Core.List.{List, [], _∷_}
-use Prim.Native.Nat.{ℕ, zero, suc, _+_, _-_, _*_, _/_, _^_, _≤_, _<_}
+use Prim.Native.Nat.{ℕ, _+_, _-_, _*_, _/_, _^_, _≤_, _<_}
 use native.Mathlib.Nat.{le-div-iff-mul-le, le-trans, mul-le-mul-left, mul-one, lt-of-not-le}
 use native.Mathlib.Numerals.{add-one}
 use native.Mathlib.Omega.{arith}
-use borrow.Author.Tests.{lt-ltb, le-ltb, ltb-true, ltb-false, leb-true, eq-eqb, ne-eqb, eqb-true}
+use borrow.Author.Tests.{lt-ltb, le-ltb, ltb-true, ltb-false, leb-true, ne-eqb, eqb-true}
 use lib.ListN.{length, drop, getD, drop-of-length-le, List·getD-eq-default}
 use lib.Seq.{drop-cons}
 use lib.Dec.{eqb, ltb, leb}
@@ -15,11 +14,10 @@ use Rattle.words.specs.Words.{pick, within}
 use Rattle.words.proofs.Flags.{and-1, and-2}
 use Rattle.text.specs.declared.Parsed.{Parsed}
 use Rattle.text.specs.declared.Parsed.the-variants.{Number, Nothing, TooLarge}
-use Rattle.text.specs.declared.Grown.{Grown}
 use Rattle.text.specs.declared.Grown.the-variants as grown
 use Rattle.text.specs.Words.{run, past}
 use Rattle.text.proofs.Runs.{past-on}
-use Rattle.text.specs.Digits.{digitOf, isDigit, valueOf, grownOf, numberOf, numberIn, hexAt, parseNumber}
+use Rattle.text.specs.Digits.{digitOf, isDigit, valueOf, grownOf, numberOf, numberIn, hexAt}
 
 -- ---- the digit of a character
 
@@ -133,19 +131,5 @@ pub byte-within : (s : List ℕ) (i n : ℕ) → 0 < n → getD s i 0 ≡ n → 
 byte-within s i n h e = lt-of-not-le (λ (k : length s ≤ i). let z : getD s i 0 ≡ 0 = List·getD-eq-default s 0 k in omega arith)
 
 module _ (s : List ℕ) (at : ℕ) where
-  pub hex-not : (getD s at 0 ≡ 48 → ⊥) → false ≡ hexAt s at
-  hex-not e = rw (ne-eqb (getD s at 0) 48 e)
-
-  pub hex-next : getD s at 0 ≡ 48 → eqb (getD s (at + 1) 0) 120 ≡ hexAt s at
-  hex-next e = rw (eq-eqb (getD s at 0) 48 e)
-
   pub hex-within : hexAt s at ≡ true → at + 1 < length s
   hex-within e = byte-within s (at + 1) 120 (omega arith) (eqb-true _ _ (and-2 (eqb (getD s at 0) 48) (eqb (getD s (at + 1) 0) 120) e))
-
-  pub parse-hex : hexAt s at ≡ true → numberIn 16 s (at + 2) ≡ parseNumber s at
-  unfolding parseNumber
-  parse-hex e = rw e
-
-  pub parse-decimal : hexAt s at ≡ false → numberIn 10 s at ≡ parseNumber s at
-  unfolding parseNumber
-  parse-decimal e = rw e

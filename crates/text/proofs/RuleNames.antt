@@ -3,7 +3,7 @@
 use mathlib.Core.Path.{_≡_, refl, sym, ap, _∙_}
 use mathlib.Core.Bool.{Bool, true, false}
 use mathlib.Core.List.{List, [], _∷_, map}
-use Prim.Native.Nat.{ℕ, zero, suc, _+_, _≤_, _<_}
+use Prim.Native.Nat.{ℕ, suc, _+_, _≤_, _<_}
 use native.Mathlib.Omega.{arith}
 use native.Mathlib.Numerals.{add-one}
 use borrow.Author.Tests.{ltb-true}
@@ -12,8 +12,7 @@ use lib.ListN.{length, drop, getD, drop-of-length-le, List·getD-map}
 use lib.Seq.{drop-cons}
 use Rattle.words.proofs.Flags.{by-flag}
 use Rattle.text.specs.Words.{run, wordAt, sameText}
-use Rattle.text.specs.Digits.{decimal, Put}
-use Rattle.text.specs.Rules.{ruleNames, ruleFrom, ruleOf, ruleName}
+use Rattle.text.specs.Rules.{ruleNames, ruleFrom, ruleOf}
 use Rattle.text.specs.declared.rules.Named.{Named}
 use Rattle.text.specs.declared.rules.Named.the-variants.{Rule, Nothing}
 
@@ -62,15 +61,5 @@ rule-below n (x ∷ xs) w {k} e =
 
 -- ---- the name of a rule byte, by what a test of it answered
 
-module _ (n : ℕ) {b : Bool} (e : b ≡ ltb n (length ruleNames)) where
-  pub has-row : b ≡ true → n < length ruleNames
-  has-row h = ltb-true n (length ruleNames) (sym e ∙ h)
-
-  module _ {l : List ℕ} {at r : ℕ} {m : List ℕ} where
-    pub named : b ≡ true → {s : List ℕ} → Put l at s r m → s ≡ getD ruleNames n [] → Put l at (ruleName n) r m
-    unfolding ruleName
-    named h w q = rw (sym e ∙ h, ← q) w
-
-    pub unnamed : b ≡ false → Put l at (decimal n) r m → Put l at (ruleName n) r m
-    unfolding ruleName
-    unnamed h w = rw (sym e ∙ h) w
+pub has-row : (n : ℕ) {b : Bool} → b ≡ ltb n (length ruleNames) → b ≡ true → n < length ruleNames
+has-row n e h = ltb-true n (length ruleNames) (sym e ∙ h)

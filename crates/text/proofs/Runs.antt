@@ -1,28 +1,25 @@
 -- Runs of characters: what a loop that walks one knows at each turn, and where a run ends.
-use mathlib.Core.Path.{_≡_, refl, sym, ap, _∙_}
+use mathlib.Core.Path.{_≡_, refl, sym, _∙_}
 use mathlib.Core.Bool.{Bool, true, false, not, false≢true}
 use mathlib.Core.List.{List, [], _∷_}
-use Prim.Native.Nat.{ℕ, zero, suc, _+_, _-_, _≤_, _<_}
+use Prim.Native.Nat.{ℕ, suc, _+_, _-_, _≤_, _<_}
 use native.Mathlib.Omega.{arith}
 use native.Mathlib.Numerals.{add-one}
 use native.Mathlib.Nat.{add-zero}
-use borrow.Author.Tests.{eqb-true, eq-eqb, ne-eqb, le-leb, lt-leb}
+use borrow.Author.Tests.{eqb-true, eq-eqb, ne-eqb}
 use lib.ListN.{length, take, drop, getD, drop-of-length-le, length-drop}
 use lib.Seq.{drop-cons, take-nil}
 use lib.Dec.{eqb}
 use Rattle.words.proofs.Flags.{not-yes, no-not, and-1, and-2, and-i, iff}
-use Rattle.words.specs.Words.{pick}
-use Rattle.text.specs.Words.{run, past, inWord, wordEnd, wordAt, partOf, sameText}
+use Rattle.text.specs.Words.{run, past, inWord, wordEnd, wordAt, sameText}
+use mathlib.Core.Logic.{⊎-elim}
+use Rattle.words.proofs.Flags.{flag}
 
 module _ (p : ℕ → Bool) where
   pub run-le : (s : List ℕ) → run p s ≤ length s
   unfolding run
   run-le [] = omega arith
-  run-le (c ∷ s) = go (p c) (run-le s)
-    where
-      go : (b : Bool) → run p s ≤ length s → pick b (suc (run p s)) 0 ≤ suc (length s)
-      go true h = omega arith
-      go false h = omega arith
+  run-le (c ∷ s) = let h = run-le s in ⊎-elim (λ q. rw q (omega arith)) (λ q. rw q (omega arith)) (flag (p c))
 
   module _ (s : List ℕ) (i : ℕ) where
     pub past-le : i ≤ length s → past p s i ≤ length s
@@ -46,21 +43,6 @@ module _ (p : ℕ → Bool) where
 
     pub past-out : {b : Bool} → i < length s → b ≡ p (getD s i 0) → not b ≡ true → i ≡ past p s i
     past-out h e t = past-off h (sym e ∙ not-yes t)
-
--- ---- a part
-
-module _ (s : List ℕ) (from to : ℕ) where
-  pub part-backwards : to < from → [] ≡ partOf s from to
-  unfolding partOf
-  part-backwards h = rw (lt-leb from to h)
-
-  pub part-beyond : from ≤ to → length s < to → [] ≡ partOf s from to
-  unfolding partOf
-  part-beyond h k = rw (le-leb from to h, lt-leb to (length s) k)
-
-  pub part-there : from ≤ to → to ≤ length s → take (to - from) (drop from s) ≡ partOf s from to
-  unfolding partOf
-  part-there h k = rw (le-leb from to h, le-leb to (length s) k)
 
 -- ---- which word
 

@@ -6,7 +6,6 @@ use Prim.Native.Nat.{ℕ, zero, suc, _+_, _≤_, _<_}
 use native.Mathlib.Nat.{not-suc-le-zero, le-of-suc-le-suc}
 use native.Mathlib.Omega.{arith}
 use lib.ListN.{length, getD}
-use Rattle.words.specs.Words.{pick}
 use Rattle.model.specs.Address.{maskOf}
 use Rattle.model.specs.Tables.{Entry, Tables, Outcome, refused, after}
 use Rattle.model.specs.Lent.{Lent, lent, bit}
@@ -37,6 +36,8 @@ use Rattle.turns.specs.declared.Sent.{Sent}
 use Rattle.turns.specs.declared.Sent.the-variants.{At, Nothing}
 use Rattle.turns.specs.Parts.{noted, Noted, firstSent, FindsSent, Turned, Sends, Fills, Offers}
 use Rattle.turns.proofs.Noting.{noted-took, noted-then, noted-short, noted-refused}
+use mathlib.Core.Logic.{⊎-elim}
+use Rattle.words.proofs.Flags.{flag}
 
 -- ---- one call of a round
 
@@ -129,12 +130,7 @@ fillAt t Nothing = still t
 fill-first : (S : Settings) (x : Access) (es : List Entry) (t : Tables) → fillFirst (steps S x) es t ≡ fillAt t (firstSent es)
 unfolding fillFirst
 fill-first S x [] t = refl
-fill-first S x (y ∷ es) t = go (y .sent) (fill-first S x es t)
-  where
-    go : (b : Bool) → fillFirst (steps S x) es t ≡ fillAt t (firstSent es)
-        → pick b (took t (fill (y .address) t)) (fillFirst (steps S x) es t) ≡ fillAt t (pick b (At (y .address)) (firstSent es))
-    go true ih = refl
-    go false ih = ih
+fill-first S x (y ∷ es) t = ⊎-elim (λ q. rw q) (λ q. rw q (fill-first S x es t)) (flag (y .sent))
 
 module _ (S : Settings) {L : Lent} {v : Sent} (found : FindsSent S L v) where
   fill-at : (x : Access) (t : Tables) → Encodes S L t → {w : Sent} → v ≡ w → fillFirst (steps S x) (t .misses) t ≡ fillAt t w

@@ -1,6 +1,6 @@
 -- A line as data: what the loop over it knows at each turn.
-use mathlib.Core.Path.{_≡_, refl, sym, ap, _∙_}
-use mathlib.Core.Bool.{Bool, true, false, not}
+use mathlib.Core.Path.{_≡_, refl}
+use mathlib.Core.Bool.{Bool, true, false}
 use mathlib.Core.List.{List, [], _∷_, _++_}
 use Prim.Native.Nat.{ℕ, suc, _+_, _-_, _≤_, _<_}
 use native.Mathlib.Omega.{arith}
@@ -8,22 +8,19 @@ use native.Mathlib.Numerals.{add-one}
 use native.Mathlib.Nat.{add-zero}
 use borrow.Author.Tests.{le-leb}
 use lib.ListN.{length, take, drop, getD, length-drop, drop-of-length-le}
-use lib.Seq.{sets, drop-cons, take-suc, getD-drop}
-use Rattle.words.specs.Words.{pick}
+use lib.Seq.{drop-cons, take-suc, getD-drop}
 use Rattle.text.specs.Digits.{room, Put}
 use Rattle.text.specs.Words.{partOf}
-use Rattle.wording.specs.Pieces.{Page, page, withPiece, withPieces, Puts}
+use Rattle.wording.specs.Pieces.{Page, page, withPiece, withPieces}
 use Rattle.wording.specs.Rows.{isMark, pieceAt, before, piecesFrom, shown}
-use Rattle.wording.proofs.Pieces.{put-page, puts-page, page-puts}
+use Rattle.wording.proofs.Pieces.{put-page}
+use mathlib.Core.Logic.{⊎-elim}
+use Rattle.words.proofs.Flags.{flag}
 
 -- no piece leaves the page as it is
 none-there : (p : Page) → withPiece [] p ≡ p
 unfolding withPiece
-none-there p = go (room (p .slice) (p .at) 0)
-  where
-    go : (b : Bool) → pick b (page (p .slice) (p .at + 0)) p ≡ p
-    go true = rw (add-zero (p .at))
-    go false = refl
+none-there p = ⊎-elim (λ q. rw q (rw (add-zero (p .at)))) (λ q. rw q) (flag (room (p .slice) (p .at) 0))
 
 before-page : (w : List ℕ) (ps : List (List ℕ)) (p : Page) → withPieces (before w ps) p ≡ withPieces ps (withPiece w p)
 unfolding withPieces

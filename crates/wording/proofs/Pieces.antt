@@ -1,13 +1,12 @@
 -- Pieces of text one after another.
 use Prim.Native.Nat.{ℕ, _+_}
 use mathlib.Core.Path.{_≡_, refl, ap, _∙_}
-use mathlib.Core.Bool.{Bool, true, false}
 use mathlib.Core.List.{List, [], _∷_, _++_}
 use lib.ListN.{length}
-use lib.Seq.{sets}
-use Rattle.words.specs.Words.{pick}
 use Rattle.text.specs.Digits.{room, Put}
 use Rattle.wording.specs.Pieces.{Page, page, withPiece, withPieces, Puts}
+use mathlib.Core.Logic.{⊎-elim}
+use Rattle.words.proofs.Flags.{flag}
 
 pub puts-none : {l : List ℕ} {at : ℕ} → Puts l at [] at l
 unfolding withPieces
@@ -15,11 +14,7 @@ puts-none = record { next = refl; left = refl }
 
 pub put-page : {l : List ℕ} {at : ℕ} {s : List ℕ} {r : ℕ} {l₁ : List ℕ} → Put l at s r l₁ → page l₁ r ≡ withPiece s (page l at)
 unfolding withPiece
-put-page {l} {at} {s} p = rw (p .left, p .next) (go (room l at (length s)))
-  where
-    go : (b : Bool) → page (pick b (sets l at s) l) (pick b (at + length s) at) ≡ pick b (page (sets l at s) (at + length s)) (page l at)
-    go true = refl
-    go false = refl
+put-page {l} {at} {s} p = rw (p .left, p .next) (⊎-elim (λ q. rw q) (λ q. rw q) (flag (room l at (length s))))
 
 pub puts-page : {l : List ℕ} {at : ℕ} {ss : List (List ℕ)} {r : ℕ} {l₁ : List ℕ} → Puts l at ss r l₁ → page l₁ r ≡ withPieces ss (page l at)
 puts-page p = rw (p .left, p .next)

@@ -70,11 +70,7 @@ module _ (p : ℕ → Bool) where
 
   pub some-at : (n : ℕ) → some n p ≡ true → (i : ℕ) × (i < n) × (p i ≡ true)
   some-at zero e = clash e refl
-  some-at (suc n) e = go (or-cases (some n p) (p n) e) (λ h. some-at n h)
-    where
-      go : (some n p ≡ true) ⊎ (p n ≡ true) → (some n p ≡ true → (i : ℕ) × (i < n) × (p i ≡ true)) → (i : ℕ) × (i < suc n) × (p i ≡ true)
-      go (inl h) ih = let (i, l, q) = ih h in (i, omega arith, q)
-      go (inr h) ih = (n, omega arith, h)
+  some-at (suc n) e = ⊎-elim (λ h. let (i, l, q) = some-at n h in (i, omega arith, q)) (λ h. (n, omega arith, h)) (or-cases (some n p) (p n) e)
 
   -- the loop's invariant: none before i passed
   abbrev pub Sought : ℕ → ℕ → Type 0
@@ -96,11 +92,7 @@ module _ (p : ℕ → Bool) where
 
   pub count-most : (n : ℕ) → countBelow n p ≤ n
   count-most zero = omega arith
-  count-most (suc n) = go (p n) (count-most n)
-    where
-      go : (b : Bool) → countBelow n p ≤ n → countBelow n p + one b ≤ suc n
-      go true h = omega arith
-      go false h = omega arith
+  count-most (suc n) = let h = count-most n in ⊎-elim (λ q. rw q (omega arith)) (λ q. rw q (omega arith)) (flag (p n))
 
   -- where none passes from number k on
   pub count-short : (n k : ℕ) → k ≤ n → ((j : ℕ) → j < n → k ≤ j → p j ≡ false) → countBelow n p ≡ countBelow k p

@@ -11,6 +11,7 @@ use lib.Dec.{eqb, ltb}
 use borrow.Author.Tests.{eqb-true, eqb-false, ltb-true, ne-eqb}
 use Rattle.words.specs.Words.{pick, all, any, count, keep}
 use Rattle.words.proofs.Flags.{and-1, and-2, and-i, or-cases, or-1, or-2, flag, clash, iff, no-yes}
+use mathlib.Core.Logic.{⊎-elim}
 
 module _ {A : Type 0} where
   abbrev pub In : A → List A → Type 0
@@ -34,11 +35,7 @@ module _ {A : Type 0} where
 
     pub any-in : (l : List A) → any p l ≡ true → (x : A) × In x l × (p x ≡ true)
     any-in [] e = absurd (false≢true e)
-    any-in (y ∷ l) e = go (or-cases (p y) (any p l) e) (λ h. any-in l h)
-      where
-        go : (p y ≡ true) ⊎ (any p l ≡ true) → (any p l ≡ true → (x : A) × In x l × (p x ≡ true)) → (x : A) × In x (y ∷ l) × (p x ≡ true)
-        go (inl h) ih = (y, inl refl, h)
-        go (inr h) ih = let (x, m, q) = ih h in (x, inr m, q)
+    any-in (y ∷ l) e = ⊎-elim (λ h. (y, inl refl, h)) (λ h. let (x, m, q) = any-in l h in (x, inr m, q)) (or-cases (p y) (any p l) e)
 
     pub in-keep : (l : List A) {x : A} → In x (keep p l) → In x l × (p x ≡ true)
     in-keep [] m = absurd m
@@ -60,29 +57,17 @@ module _ {A : Type 0} where
 
     pub keep-le : (l : List A) → length (keep p l) ≤ length l
     keep-le [] = omega arith
-    keep-le (y ∷ l) = go (p y) (keep-le l)
-      where
-        go : (b : Bool) → length (keep p l) ≤ length l → length (pick b (y ∷ keep p l) (keep p l)) ≤ suc (length l)
-        go true h = omega arith
-        go false h = omega arith
+    keep-le (y ∷ l) = let h = keep-le l in ⊎-elim (λ q. rw q (omega arith)) (λ q. rw q (omega arith)) (flag (p y))
 
     pub keep-lt : (l : List A) {x : A} → In x l → p x ≡ false → length (keep p l) < length l
     keep-lt [] m e = absurd m
     keep-lt (y ∷ l) (inl q) e = let h : p y ≡ false = rw q at e in rw h (omega (arith, keep-le l))
-    keep-lt (y ∷ l) (inr m) e = go (p y) (keep-lt l m e)
-      where
-        go : (b : Bool) → length (keep p l) < length l → length (pick b (y ∷ keep p l) (keep p l)) < suc (length l)
-        go true h = omega arith
-        go false h = omega arith
+    keep-lt (y ∷ l) (inr m) e = let h = keep-lt l m e in ⊎-elim (λ q. rw q (omega arith)) (λ q. rw q (omega arith)) (flag (p y))
 
     pub count-in : (l : List A) {x : A} → In x l → p x ≡ true → 0 < count p l
     count-in [] m e = absurd m
     count-in (y ∷ l) (inl q) e = let h : p y ≡ true = rw q at e in rw h (omega arith)
-    count-in (y ∷ l) (inr m) e = go (p y) (count-in l m e)
-      where
-        go : (b : Bool) → 0 < count p l → 0 < pick b (suc (count p l)) (count p l)
-        go true h = omega arith
-        go false h = h
+    count-in (y ∷ l) (inr m) e = let h = count-in l m e in ⊎-elim (λ q. rw q (omega arith)) (λ q. rw q (count-in l m e)) (flag (p y))
 
     pub count-any : (l : List A) → 0 < count p l → any p l ≡ true
     count-any [] h = absurd (omega arith)
@@ -209,19 +194,11 @@ module _ {A : Type 0} where
 
   pub count-append : (p : A → Bool) (l m : List A) → count p (l ++ m) ≡ count p l + count p m
   count-append p [] m = omega arith
-  count-append p (x ∷ l) m = go (p x) (count-append p l m)
-    where
-      go : (b : Bool) → count p (l ++ m) ≡ count p l + count p m → pick b (suc (count p (l ++ m))) (count p (l ++ m)) ≡ pick b (suc (count p l)) (count p l) + count p m
-      go true h = omega arith
-      go false h = omega arith
+  count-append p (x ∷ l) m = let h = count-append p l m in ⊎-elim (λ q. rw q (omega arith)) (λ q. rw q (omega arith)) (flag (p x))
 
   pub any-append : (p : A → Bool) (l m : List A) → any p (l ++ m) ≡ (any p l || any p m)
   any-append p [] m = refl
-  any-append p (x ∷ l) m = go (p x) (any-append p l m)
-    where
-      go : (b : Bool) → any p (l ++ m) ≡ (any p l || any p m) → (b || any p (l ++ m)) ≡ ((b || any p l) || any p m)
-      go true h = refl
-      go false h = h
+  any-append p (x ∷ l) m = ⊎-elim (λ q. rw q) (λ q. rw q (any-append p l m)) (flag (p x))
 
   pub all-append : (p : A → Bool) (l m : List A) → all p (l ++ m) ≡ (all p l && all p m)
   all-append p [] m = refl
@@ -230,11 +207,7 @@ module _ {A : Type 0} where
   pub in-append : (l m : List A) (x : A) → In x (l ++ m) → In x l ⊎ In x m
   in-append [] m x n = inr n
   in-append (y ∷ l) m x (inl q) = inl (inl q)
-  in-append (y ∷ l) m x (inr n) = go (in-append l m x n)
-    where
-      go : In x l ⊎ In x m → In x (y ∷ l) ⊎ In x m
-      go (inl a) = inl (inr a)
-      go (inr b) = inr b
+  in-append (y ∷ l) m x (inr n) = ⊎-elim (λ a. inl (inr a)) (λ b. inr b) (in-append l m x n)
 
   pub none-count : (p : A → Bool) (l : List A) → any p l ≡ false → count p l ≡ 0
   none-count p [] e = refl

@@ -217,11 +217,7 @@ module _ {A : Type 0} (g : A → List ℕ) (w n : ℕ) (xs : List A) (bs : List 
   field-put y {r} {l′} f c =
       let s = block-size g w n xs bs j here in let o = one in
       let z : length (fit w (g y)) ≡ w = length-fit w (g y) in
-      c
-      ∙ ap (put l i) f
-      ∙ block-put bs j (w * e) is at h (fit w (g y)) (omega arith)
-      ∙ ap (λ (x : List ℕ). joined (set bs j (put x (w * e) (fit w (g y))))) here
-      ∙ ap (λ (x : List ℕ). joined (set bs j x)) (places-put g w n e xs y k few)
+      rw (c, f, block-put bs j (w * e) is at h (fit w (g y)) (omega arith), here, places-put g w n e xs y k few)
 
   pub field-region : (d : A) → region l i w ≡ fit w (g (getD xs e d))
   field-region d =
@@ -348,11 +344,7 @@ module _ {A : Type 0} (g : A → List ℕ) (w n : ℕ) (xs : List A) (bs : List 
   field-push {i} at k y {r} {l′} f m c =
       let s = block-size g w n xs bs j here in
       let o = stride w n (length xs) k in
-      c
-      ∙ ap (put l i) f
-      ∙ block-put bs j (w * length xs) is at h (g y) (omega arith)
-      ∙ ap (λ (x : List ℕ). joined (set bs j (put x (w * length xs) (g y)))) here
-      ∙ ap (λ (x : List ℕ). joined (set bs j x)) (places-push g w n xs y k m)
+      rw (c, f, block-put bs j (w * length xs) is at h (g y) (omega arith), here, places-push g w n xs y k m)
 
   -- numbers behind those of record e
   pub field-extend : (e : ℕ) {i : ℕ} (d y : A) (v : List ℕ) → i ≡ offsetIn bs j + (w * e + length (g (getD xs e d))) → e < length xs → length (g (getD xs e d)) + length v ≤ w → g y ≡ g (getD xs e d) ++ v
@@ -360,10 +352,7 @@ module _ {A : Type 0} (g : A → List ℕ) (w n : ℕ) (xs : List A) (bs : List 
   field-extend e {i} d y v at k m f {l′} c =
       let s = block-size g w n xs bs j here in
       let o = stride w n e (le-trans k few) in
-      c
-      ∙ block-put bs j (w * e + length (g (getD xs e d))) is at h v (omega arith)
-      ∙ ap (λ (x : List ℕ). joined (set bs j (put x (w * e + length (g (getD xs e d))) v))) here
-      ∙ ap (λ (x : List ℕ). joined (set bs j x)) (places-extend g w n e xs d y v k few m f)
+      rw (c, block-put bs j (w * e + length (g (getD xs e d))) is at h v (omega arith), here, places-extend g w n e xs d y v k few m f)
 
   -- a record that goes, where the first m places are used at most
   pub field-close-first : (m e : ℕ) {i : ℕ} → i ≡ offsetIn bs j + w * e → e < length xs → length xs ≤ m → m ≤ n → {span : ℕ} {l′ : List ℕ} → span ≡ w * (m - e) → l′ ≡ closed l i span w → l′ ≡ joined (set bs j (packed g w n (dropped e xs)))
@@ -375,8 +364,4 @@ module _ {A : Type 0} (g : A → List ℕ) (w n : ℕ) (xs : List A) (bs : List 
       length-closed w (region (getD bs j []) (w * e) (w * (m - e))) (rw (length-region (getD bs j []) (w * e) (w * (m - e)) (omega arith)) (o .1))
       ∙ length-region (getD bs j []) (w * e) (w * (m - e)) (omega arith) in
       c
-      ∙ ap (λ (x : ℕ). closed l i x w) q
-      ∙ ap (λ (x : List ℕ). put l i (closedUp w x)) (block-region bs j (w * e) is at h (w * (m - e)) (omega arith))
-      ∙ block-put bs j (w * e) is at h (closedUp w (region (getD bs j []) (w * e) (w * (m - e)))) (omega arith)
-      ∙ ap (λ (x : List ℕ). joined (set bs j (closed x (w * e) (w * (m - e)) w))) here
-      ∙ ap (λ (x : List ℕ). joined (set bs j x)) (places-close-first g w n m e xs k f u)
+      ∙ rw (q, block-region bs j (w * e) is at h (w * (m - e)) (omega arith), block-put bs j (w * e) is at h (closedUp w (region (getD bs j []) (w * e) (w * (m - e)))) (omega arith), here, places-close-first g w n m e xs k f u)

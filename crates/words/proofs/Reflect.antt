@@ -13,6 +13,8 @@ use Rattle.words.proofs.Below.{every-at, every-i, some-at, some-i}
 use Rattle.words.proofs.Lists.{count-index, index-count}
 use Rattle.words.proofs.Tabled.{all-get, any-get}
 
+infixl 5 _⊓_
+
 pub record Decides (b : Bool) (P : Type 0) : Type 0 where
   pub fact : b ≡ true → P
   pub test : P → b ≡ true
@@ -33,8 +35,8 @@ pub is-not : {b : Bool} {P : Type 0} → Decides b P → Decides (not b) (P → 
 is-not {b = true} i = record { fact = λ e. clash e refl; test = λ f. absurd (f (i .fact refl)) }
 is-not {b = false} i = record { fact = λ e p. clash (i .test p) refl; test = λ f. refl }
 
-pub is-and : {a b : Bool} {P Q : Type 0} → Decides a P → Decides b Q → Decides (a && b) (P × Q)
-is-and {a} {b} i j = record { fact = λ e. (i .fact (and-1 a b e), j .fact (and-2 a b e)); test = λ w. and-i (i .test (w .0)) (j .test (w .1)) }
+pub _⊓_ : {a b : Bool} {P Q : Type 0} → Decides a P → Decides b Q → Decides (a && b) (P × Q)
+_⊓_ {a} {b} i j = record { fact = λ e. (i .fact (and-1 a b e), j .fact (and-2 a b e)); test = λ w. and-i (i .test (w .0)) (j .test (w .1)) }
 
 pub is-or : {a b : Bool} {P Q : Type 0} → Decides a P → Decides b Q → Decides (a || b) (P ⊎ Q)
 is-or {a} {b} i j = record {

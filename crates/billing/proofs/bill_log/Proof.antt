@@ -32,8 +32,7 @@ bill-log-spec =
     (λ c.
     let e = c .before .before in
     let p = e .before .before in
-    let w = step-past (p .before .before .before .before .args .log .now) (p .before .before .loop .at) (sym (p .step-at .ensures) ∙ e .event .given .1) in
-    omega arith)
+    omega (arith, step-past (p .before .before .before .before .args .log .now) (p .before .before .loop .at) (sym (p .step-at .ensures) ∙ e .event .given .1)))
     (λ c.
     let e = c .before .before in
     let p = e .before .before in

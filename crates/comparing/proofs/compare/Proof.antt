@@ -1,20 +1,22 @@
 -- `comparing::compare` meets its contract.
 use Prim.Native.Nat.{_^_, _<_}
-use mathlib.Core.Path.{ap, _∙_}
+use mathlib.Core.Path.{sym, ap, _∙_}
 use borrow.Author.Needs.{needs}
 use native.Mathlib.Omega.{arith}
 use lib.ListN.{length}
-use Rattle.comparing.proofs.Firsts.{found-goes-on, compared-first, compared-second, compared-pairs}
+use Rattle.comparing.proofs.Firsts.{found-goes-on}
+use Rattle.comparing.specs.Pairs.{compared}
 use Rattle.comparing.proofs.compare.Statement.{statement}
 use Rattle.comparing.proofs.compare.Tie as tie
 
 pub compare-spec : {M : Type 1} → statement M
+unfolding compared
 compare-spec =
     tie.close
     (tie.spec
     (λ c κs. search needs)
     (λ c. search needs)
-    (λ c. let n = c .before in compared-first _ _ _ (n .before .before .check .ensures) (n .number .given .1))
+    (λ c. let n = c .before in rw (sym (n .before .before .check .ensures) ∙ n .number .given .1))
     (λ c. search needs)
     (λ c κs. search needs)
     (λ c. search needs)
@@ -22,7 +24,7 @@ compare-spec =
     let n = c .before in
     let k = n .before .before in
     let t = k .before in
-    compared-second _ _ _ (t .before .before .check .ensures) (t .enum-told .given .1) (k .check2 .ensures) (n .number2 .given .1))
+    rw (sym (t .before .before .check .ensures) ∙ t .enum-told .given .1, sym (k .check2 .ensures) ∙ n .number2 .given .1))
     (λ c. search needs)
     (λ c κs. search needs)
     (λ c κs. search needs)
@@ -40,4 +42,4 @@ compare-spec =
     let long-a : length (start .args .a .now) < 2 ^ 64 = omega arith in
     let long-b : length (start .args .b .now) < 2 ^ 64 = omega arith in
     let g = found-goes-on _ _ long-a long-b _ (record { in-a = s1 .skip .ensures; in-b = s2 .skip2 .ensures }) in
-    compared-pairs _ _ _ (t .before .before .check .ensures) (t .enum-told .given .1) (k .check2 .ensures) (u .enum-told2 .given .1) (ap (λ f. f .answer) (c .compare-from .ensures) ∙ g .says)))
+    rw (sym (t .before .before .check .ensures) ∙ t .enum-told .given .1, sym (k .check2 .ensures) ∙ u .enum-told2 .given .1) (ap (λ f. f .answer) (c .compare-from .ensures) ∙ g .says)))

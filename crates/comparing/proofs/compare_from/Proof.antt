@@ -16,55 +16,8 @@ Inv-loop a b number₀ x₀ y₀ number x y = Finds a b (record { number = numbe
 abbrev μ-loop : tie.MeasureT-loop
 μ-loop a b number₀ x₀ y₀ number x y = (length a - x) + (length b - y)
 
-sub-t17 : tie.Need-sub-t17 Inv-loop μ-loop
-sub-t17 c =
-    let i = c .before .before .before .before .before .before .before in
-    let w = group-le (i .before .before .before .before .args .a .now) (i .before .loop .x) in
-    omega arith
-
-sub-t18 : tie.Need-sub-t18 Inv-loop μ-loop
-sub-t18 c =
-    let i = c .before .before .before .before .before .before .before in
-    let w = group-le (i .before .before .before .before .args .b .now) (i .before .loop .y) in
-    omega arith
-
-returns : tie.Need-returns Inv-loop μ-loop
-unfolding left
-returns c =
-    let s = c .before in
-    let p2 = s .before in
-    let p1 = p2 .before in
-    let n = p1 .before in
-    let e2 = n .before in
-    let e1 = e2 .before in
-    let i = e1 .before in
-    finds-here _ _ _ _ (i .before .loop .inv) (i .loop-test .taken) (e1 .group-end .ensures) (e2 .group-end2 .ensures) (n .wrapping-add-usize .ensures) (p1 .part .ensures) (p2 .part2 .ensures) (sym (s .same .ensures) ∙ not-true _ (c .if1 .taken))
-
-loop-less : tie.Need-loop-less Inv-loop μ-loop
-unfolding left
-loop-less c =
-    let e2 = c .before .before .before .before .before in
-    let e1 = e2 .before in
-    let i = e1 .before in
-    left-less _ _ (i .before .loop .x) (i .before .loop .y) (i .loop-test .taken) (e1 .group-end .ensures) (e2 .group-end2 .ensures)
-
-loop-again : tie.Need-loop-again Inv-loop μ-loop
-unfolding left
-loop-again c =
-    let s = c .before in
-    let p2 = s .before in
-    let p1 = p2 .before in
-    let n = p1 .before in
-    let e2 = n .before in
-    let e1 = e2 .before in
-    let i = e1 .before in
-    finds-more _ _ _ _ (i .before .loop .inv) (i .loop-test .taken) (e1 .group-end .ensures) (e2 .group-end2 .ensures) (n .wrapping-add-usize .ensures) (p1 .part .ensures) (p2 .part2 .ensures) (sym (s .same .ensures) ∙ not-false _ (c .if1 .left))
-
-returns-2 : tie.Need-returns-2 Inv-loop μ-loop
-unfolding left
-returns-2 c = finds-none _ _ _ _ (c .before .loop .inv) (c .loop-test .left)
-
 pub compare-from-spec : {M : Type 1} → statement M
+unfolding left
 compare-from-spec =
     tie.close
     (tie.spec
@@ -77,9 +30,33 @@ compare-from-spec =
     (λ c κs. search needs)
     (λ c κs. search needs)
     (λ c κs. search needs)
-    sub-t17
-    sub-t18
-    returns
-    loop-less
-    loop-again
-    returns-2)
+    (λ c.
+    let i = c .before .before .before .before .before .before .before in
+    omega (arith, group-le (i .before .before .before .before .args .a .now) (i .before .loop .x)))  -- sub-t17
+    (λ c.
+    let i = c .before .before .before .before .before .before .before in
+    omega (arith, group-le (i .before .before .before .before .args .b .now) (i .before .loop .y)))  -- sub-t18
+    (λ c.
+    let s = c .before in
+    let p2 = s .before in
+    let p1 = p2 .before in
+    let n = p1 .before in
+    let e2 = n .before in
+    let e1 = e2 .before in
+    let i = e1 .before in
+    finds-here _ _ _ _ (i .before .loop .inv) (i .loop-test .taken) (e1 .group-end .ensures) (e2 .group-end2 .ensures) (n .wrapping-add-usize .ensures) (p1 .part .ensures) (p2 .part2 .ensures) (sym (s .same .ensures) ∙ not-true _ (c .if1 .taken)))  -- returns
+    (λ c.
+    let e2 = c .before .before .before .before .before in
+    let e1 = e2 .before in
+    let i = e1 .before in
+    left-less _ _ (i .before .loop .x) (i .before .loop .y) (i .loop-test .taken) (e1 .group-end .ensures) (e2 .group-end2 .ensures))  -- loop-less
+    (λ c.
+    let s = c .before in
+    let p2 = s .before in
+    let p1 = p2 .before in
+    let n = p1 .before in
+    let e2 = n .before in
+    let e1 = e2 .before in
+    let i = e1 .before in
+    finds-more _ _ _ _ (i .before .loop .inv) (i .loop-test .taken) (e1 .group-end .ensures) (e2 .group-end2 .ensures) (n .wrapping-add-usize .ensures) (p1 .part .ensures) (p2 .part2 .ensures) (sym (s .same .ensures) ∙ not-false _ (c .if1 .left)))  -- loop-again
+    (λ c. finds-none _ _ _ _ (c .before .loop .inv) (c .loop-test .left)))  -- returns-2

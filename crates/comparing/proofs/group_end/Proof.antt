@@ -31,8 +31,7 @@ group-end-spec =
     (λ c κs. search needs)
     (λ c.
     let l = c .before .before .before .before in
-    let v = past-more (l .before .before .before .before .before .args .log .now) (l .before .loop .end) (l .loop-test .taken) in
-    omega (arith, c .past2 .ensures))
+    omega (arith, past-more (l .before .before .before .before .before .args .log .now) (l .before .loop .end) (l .loop-test .taken), c .past2 .ensures))
     (λ c.
     let e = c .before in
     let l = e .before .before .before in

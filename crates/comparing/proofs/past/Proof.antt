@@ -5,15 +5,8 @@ use native.Mathlib.Omega.{arith}
 use Rattle.comparing.proofs.past.Statement.{statement}
 use Rattle.comparing.proofs.past.Tie as tie
 
-returns : tie.Need-returns
-unfolding past recordEnd
-returns c = search needs
-
-returns-2 : tie.Need-returns-2
-unfolding past recordEnd
-returns-2 c = search needs
-
 pub past-spec : {M : Type 1} → statement M
+unfolding past recordEnd
 past-spec =
     tie.close
     (tie.spec
@@ -23,5 +16,5 @@ past-spec =
     (λ c. search needs)
     (λ c. search needs)
     (λ c. search needs)
-    returns
-    returns-2)
+    (λ c. search needs)  -- returns
+    (λ c. search needs))  -- returns-2

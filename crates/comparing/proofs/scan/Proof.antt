@@ -29,8 +29,7 @@ scan-spec =
     (λ c κs. search needs)
     (λ c.
     let l = c .before .before .before in
-    let v = past-more (l .before .before .before .args .log .now) (l .before .loop .at) (l .loop-test .taken) in
-    omega (arith, c .past .ensures))
+    omega (arith, past-more (l .before .before .before .args .log .now) (l .before .loop .at) (l .loop-test .taken), c .past .ensures))
     (λ c.
     let w = c .before .before in
     let l = w .before in

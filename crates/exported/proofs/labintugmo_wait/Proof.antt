@@ -4,13 +4,6 @@ use Rattle.exported.proofs.Calling.{wait-no-round, wait-no-room, wait-m
 use Rattle.exported.proofs.labintugmo_wait.Statement.{statement}
 use Rattle.exported.proofs.labintugmo_wait.Tie as tie
 
-returns-3 : tie.Need-returns-3
-returns-3 c =
-    let w = c .before .before .before .before .before .before .before .before .before in
-    let a = w .before .before .before .before .before in
-    let s = a .before in
-    wait-made _ _ _ _ _ (s .before .before .if1 .left) (s .before .if2 .left) (rw (s .settings-from .ensures, a .access-for .ensures) at (w .wait .ensures)) (c .round-number .ensures)
-
 pub labintugmo-wait-spec : {M : Type 1} → statement M
 labintugmo-wait-spec =
     tie.close
@@ -27,4 +20,8 @@ labintugmo-wait-spec =
     (λ c. search needs)  -- same-length-3
     (λ c. search needs)  -- same-length-4
     (λ c. search needs)  -- same-length-5
-    returns-3)
+    (λ c.
+    let w = c .before .before .before .before .before .before .before .before .before in
+    let a = w .before .before .before .before .before in
+    let s = a .before in
+    wait-made _ _ _ _ _ (s .before .before .if1 .left) (s .before .if2 .left) (rw (s .settings-from .ensures, a .access-for .ensures) at (w .wait .ensures)) (c .round-number .ensures)))  -- returns-3

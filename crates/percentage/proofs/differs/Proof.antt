@@ -10,15 +10,11 @@ use Rattle.percentage.proofs.differs.Lts as lts
 use Rattle.percentage.proofs.float_meets.Reads as float-meets-reads
 use Rattle.percentage.proofs.whole_meets.Reads as whole-meets-reads
 
-float-meets-requires : tie.Need-float-meets-requires
-float-meets-requires c κs = search needs
-
-whole-meets-requires : tie.Need-whole-meets-requires
-whole-meets-requires c κs = search needs
-
-returns : tie.Need-returns
-unfolding differ
-returns c = ap₂ (λ (a b : Bool). not (Bool·beq a b)) (c .before .float-meets .ensures) (c .whole-meets .ensures)
-
 pub differs-spec : {M : Type 1} → statement M
-differs-spec = tie.close (tie.spec float-meets-requires whole-meets-requires returns)
+unfolding differ
+differs-spec =
+    tie.close
+    (tie.spec
+    (λ c κs. search needs)  -- float-meets-requires
+    (λ c κs. search needs)  -- whole-meets-requires
+    (λ c. ap₂ (λ (a b : Bool). not (Bool·beq a b)) (c .before .float-meets .ensures) (c .whole-meets .ensures)))  -- returns

@@ -20,20 +20,14 @@ hundred : ofBits binary32 0x42c80000 ≡ single 100
 unfolding ofBits ofInt
 hundred = refl
 
-int-to-float-part : tie.Need-int-to-float-part
-int-to-float-part c = held _ (omega arith)
-
-int-to-float-part-2 : tie.Need-int-to-float-part-2
-int-to-float-part-2 c = held _ (omega arith)
-
-int-to-float-result : tie.Need-int-to-float-result
-int-to-float-result c = held _ (omega arith)
-
-returns : tie.Need-returns
-unfolding floatMeets
-returns c =
-    let a = c .before .before .before .args in
-    ap (λ (z : Float). le (single (a .percent)) (mul binary32 (div binary32 (single (a .dirty)) (single (a .lines))) z)) hundred
-
 pub float-meets-spec : {M : Type 1} → statement M
-float-meets-spec = tie.close (tie.spec int-to-float-part int-to-float-part-2 int-to-float-result returns)
+unfolding floatMeets
+float-meets-spec =
+    tie.close
+    (tie.spec
+    (λ c. held _ (omega arith))  -- int-to-float-part
+    (λ c. held _ (omega arith))  -- int-to-float-part-2
+    (λ c. held _ (omega arith))  -- int-to-float-result
+    (λ c.
+    let a = c .before .before .before .args in
+    ap (λ (z : Float). le (single (a .percent)) (mul binary32 (div binary32 (single (a .dirty)) (single (a .lines))) z)) hundred))  -- returns

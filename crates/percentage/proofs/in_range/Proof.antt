@@ -5,17 +5,11 @@ use Rattle.percentage.proofs.in_range.Tie as tie
 use Rattle.percentage.proofs.in_range.Reads as reads
 use Rattle.percentage.proofs.in_range.Lts as lts
 
-returns : tie.Need-returns
-returns c = simp (lt-leb 1 _ (c .if1 .taken))
-
-returns-2 : tie.Need-returns-2
-returns-2 c = simp (le-leb 1 _ (c .before .if1 .left), lt-leb _ 1024 (c .if2 .taken))
-
-returns-3 : tie.Need-returns-3
-returns-3 c = simp (le-leb 1 _ (c .before .before .if1 .left), le-leb _ 1024 (c .before .if2 .left), lt-leb _ _ (c .if3 .taken))
-
-returns-4 : tie.Need-returns-4
-returns-4 c = simp (le-leb 1 _ (c .before .before .if1 .left), le-leb _ 1024 (c .before .if2 .left), le-leb _ _ (c .if3 .left))
-
 pub in-range-spec : {M : Type 1} → statement M
-in-range-spec = tie.close (tie.spec returns returns-2 returns-3 returns-4)
+in-range-spec =
+    tie.close
+    (tie.spec
+    (λ c. simp (lt-leb 1 _ (c .if1 .taken)))  -- returns
+    (λ c. simp (le-leb 1 _ (c .before .if1 .left), lt-leb _ 1024 (c .if2 .taken)))  -- returns-2
+    (λ c. simp (le-leb 1 _ (c .before .before .if1 .left), le-leb _ 1024 (c .before .if2 .left), lt-leb _ _ (c .if3 .taken)))  -- returns-3
+    (λ c. simp (le-leb 1 _ (c .before .before .if1 .left), le-leb _ 1024 (c .before .if2 .left), le-leb _ _ (c .if3 .left))))  -- returns-4

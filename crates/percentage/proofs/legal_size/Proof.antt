@@ -18,57 +18,24 @@ Inv-loop lines ways₀ ways = (1 ≤ ways) × (ways ≤ 17) × (1 ≤ lines) × 
 abbrev μ-loop : tie.MeasureT-loop
 μ-loop lines ways₀ ways = 17 - ways
 
-returns : tie.Need-returns Inv-loop μ-loop
-returns c = λ S e h. let g = lines-some S e in omega (arith, g, h, c .if1 .taken)
-
-returns-2 : tie.Need-returns-2 Inv-loop μ-loop
-returns-2 c = λ S e h. let g = ranged S e .lines in omega (arith, g, h, c .if2 .taken)
-
-loop-holds : tie.Need-loop-holds Inv-loop μ-loop
-loop-holds c = (omega arith, omega arith, omega arith, omega arith, λ w u v s. omega arith)
-
-rem-if3 : tie.Need-rem-if3 Inv-loop μ-loop
-rem-if3 c = search needs
-
-div-if4 : tie.Need-div-if4 Inv-loop μ-loop
-div-if4 c = search needs
-
-rem-if4 : tie.Need-rem-if4 Inv-loop μ-loop
-rem-if4 c = sets-pos _ _ (c .if3 .taken) (omega arith)
-
-returns-3 : tie.Need-returns-3 Inv-loop μ-loop
-returns-3 c = legal _ _ (omega arith) (omega arith) (omega arith) (omega arith) (c .before .if3 .taken, c .if4 .taken)
-
-add-ways : tie.Need-add-ways Inv-loop μ-loop
-add-ways c = search needs
-
-loop-less : tie.Need-loop-less Inv-loop μ-loop
-loop-less c = search needs
-
-loop-again : tie.Need-loop-again Inv-loop μ-loop
-loop-again c =
-    let v = c .before .before .loop in
-    (omega arith, omega arith, v .inv .2, v .inv .3, below-more _ (v .ways) (v .inv .4) (λ u s. ⊎-elim (λ h. h .1 .left (s .1)) (λ h. h .left (s .0)) (c .if3 .came)))
-
-returns-4 : tie.Need-returns-4 Inv-loop μ-loop
-returns-4 c = λ S e h.
-    let r = ranged S e in
-    c .before .loop .inv .4 (S .ways) (omega (arith, r .few-ways)) (r .ways) (subst (λ (l : ℕ). Split l (S .ways)) h (split S e))
-
 pub legal-size-spec : {M : Type 1} → statement M
 legal-size-spec =
     tie.close
     (tie.spec
     Inv-loop
     μ-loop
-    returns
-    returns-2
-    loop-holds
-    rem-if3
-    div-if4
-    rem-if4
-    returns-3
-    add-ways
-    loop-less
-    loop-again
-    returns-4)
+    (λ c S e h. let g = lines-some S e in omega (arith, g, h, c .if1 .taken))  -- returns
+    (λ c S e h. let g = ranged S e .lines in omega (arith, g, h, c .if2 .taken))  -- returns-2
+    (λ c. (omega arith, omega arith, omega arith, omega arith, λ w u v s. omega arith))  -- loop-holds
+    (λ c. search needs)  -- rem-if3
+    (λ c. search needs)  -- div-if4
+    (λ c. sets-pos _ _ (c .if3 .taken) (omega arith))  -- rem-if4
+    (λ c. legal _ _ (omega arith) (omega arith) (omega arith) (omega arith) (c .before .if3 .taken, c .if4 .taken))  -- returns-3
+    (λ c. search needs)  -- add-ways
+    (λ c. search needs)  -- loop-less
+    (λ c.
+    let v = c .before .before .loop in
+    (omega arith, omega arith, v .inv .2, v .inv .3, below-more _ (v .ways) (v .inv .4) (λ u s. ⊎-elim (λ h. h .1 .left (s .1)) (λ h. h .left (s .0)) (c .if3 .came))))  -- loop-again
+    (λ c S e h.
+    let r = ranged S e in
+    c .before .loop .inv .4 (S .ways) (omega (arith, r .few-ways)) (r .ways) (subst (λ (l : ℕ). Split l (S .ways)) h (split S e))))  -- returns-4

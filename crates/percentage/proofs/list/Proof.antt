@@ -38,85 +38,31 @@ module _ (c : lts.After-known-told (next-reads.Asked, next-reads.Learnt) reads.P
   room : let v = c .before .before .before .before .loop in v .n + 3 ≤ length (v .out)
   room = let v = c .before .before .before .before .loop in written-room _ (v .out) (v .n) _ (v .inv .1) (c .before .found .given .0 .0) _ (hit .1) (v .inv .2)
 
-returns : tie.Need-returns Inv-loop μ-loop
-returns c = written-none _ (omega arith)
-
-loop-holds : tie.Need-loop-holds Inv-loop μ-loop
-loop-holds c = (omega arith, written-first _, omega arith)
-
-next-requires : tie.Need-next-requires Inv-loop μ-loop
-next-requires c κs = c .loop .inv .0
-
-enum-known-found : tie.Need-enum-known-found Inv-loop μ-loop
-enum-known-found c = c .match .keys1
-
-same-length : tie.Need-same-length Inv-loop μ-loop
-same-length c = c .before .before .loop .inv .1 .long
-
-returns-2 : tie.Need-returns-2 Inv-loop μ-loop
-returns-2 c =
-    let v = c .before .before .loop in
-    written-all _ (v .out) (v .n) _ (v .inv .1) (none-left (v .d) (v .l) (v .p) (c .before .next .result) (c .match .keys2) (c .before .next .ensures))
-
-mul-out : tie.Need-mul-out Inv-loop μ-loop
-mul-out c = search needs
-
-slice-write-out : tie.Need-slice-write-out Inv-loop μ-loop
-slice-write-out c = omega (arith, room c)
-
-add-out : tie.Need-add-out Inv-loop μ-loop
-add-out c = search needs
-
-mul-out-2 : tie.Need-mul-out-2 Inv-loop μ-loop
-mul-out-2 c = search needs
-
-slice-write-out-2 : tie.Need-slice-write-out-2 Inv-loop μ-loop
-slice-write-out-2 c = simp length-set (omega (arith, room c))
-
-add-out-2 : tie.Need-add-out-2 Inv-loop μ-loop
-add-out-2 c = search needs
-
-mul-out-3 : tie.Need-mul-out-3 Inv-loop μ-loop
-mul-out-3 c = search needs
-
-slice-write-out-3 : tie.Need-slice-write-out-3 Inv-loop μ-loop
-slice-write-out-3 c = simp length-set (omega (arith, room c))
-
-add-p : tie.Need-add-p Inv-loop μ-loop
-add-p c = omega (arith, hit c .0 .cent)
-
-add-n : tie.Need-add-n Inv-loop μ-loop
-add-n c = search needs
-
-loop-less : tie.Need-loop-less Inv-loop μ-loop
-loop-less c = omega (arith, room c)
-
-loop-again : tie.Need-loop-again Inv-loop μ-loop
-loop-again c =
-    let v = c .before .before .before .before .loop in
-    (omega (arith, hit c .0 .some, hit c .0 .most, hit c .0 .part, hit c .0 .cent), written-more _ (v .out) (v .n) _ (v .inv .1) (c .before .found .given .0 .0) _ (hit c .1) (room c), v .inv .2)
-
 pub list-spec : {M : Type 1} → statement M
 list-spec =
     tie.close
     (tie.spec
     Inv-loop
     μ-loop
-    returns
-    loop-holds
-    next-requires
-    enum-known-found
-    same-length
-    returns-2
-    mul-out
-    slice-write-out
-    add-out
-    mul-out-2
-    slice-write-out-2
-    add-out-2
-    mul-out-3
-    slice-write-out-3
-    add-p
-    add-n
-    loop-less
-    loop-again)
+    (λ c. written-none _ (omega arith))  -- returns
+    (λ c. (omega arith, written-first _, omega arith))  -- loop-holds
+    (λ c κs. c .loop .inv .0)  -- next-requires
+    (λ c. c .match .keys1)  -- enum-known-found
+    (λ c. c .before .before .loop .inv .1 .long)  -- same-length
+    (λ c.
+    let v = c .before .before .loop in
+    written-all _ (v .out) (v .n) _ (v .inv .1) (none-left (v .d) (v .l) (v .p) (c .before .next .result) (c .match .keys2) (c .before .next .ensures)))  -- returns-2
+    (λ c. search needs)  -- mul-out
+    (λ c. omega (arith, room c))  -- slice-write-out
+    (λ c. search needs)  -- add-out
+    (λ c. search needs)  -- mul-out-2
+    (λ c. simp length-set (omega (arith, room c)))  -- slice-write-out-2
+    (λ c. search needs)  -- add-out-2
+    (λ c. search needs)  -- mul-out-3
+    (λ c. simp length-set (omega (arith, room c)))  -- slice-write-out-3
+    (λ c. omega (arith, hit c .0 .cent))  -- add-p
+    (λ c. search needs)  -- add-n
+    (λ c. omega (arith, room c))  -- loop-less
+    (λ c.
+    let v = c .before .before .before .before .loop in
+    (omega (arith, hit c .0 .some, hit c .0 .most, hit c .0 .part, hit c .0 .cent), written-more _ (v .out) (v .n) _ (v .inv .1) (c .before .found .given .0 .0) _ (hit c .1) (room c), v .inv .2)))  -- loop-again

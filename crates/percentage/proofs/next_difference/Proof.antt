@@ -13,17 +13,11 @@ use Rattle.percentage.proofs.next_difference.Tie as tie
 place : {d l p : ℕ} → Ranged d l p → Startable d l p
 place r = record { some = r .some; most = r .most; part = r .part; cent = omega (arith, r .cent) }
 
-in-range-requires : tie.Need-in-range-requires
-in-range-requires c κs = search needs
-
-next-requires : tie.Need-next-requires
-next-requires c κs = place (ranged _ _ _ (sym (c .before .in-range .ensures) ∙ c .if1 .taken))
-
-returns : tie.Need-returns
-returns c = rw (sym (c .before .before .in-range .ensures) ∙ c .before .if1 .taken) (c .next .ensures)
-
-returns-2 : tie.Need-returns-2
-returns-2 c = rw (sym (c .before .in-range .ensures) ∙ c .if1 .left) refl
-
 pub next-difference-spec : {M : Type 1} → statement M
-next-difference-spec = tie.close (tie.spec in-range-requires next-requires returns returns-2)
+next-difference-spec =
+    tie.close
+    (tie.spec
+    (λ c κs. search needs)  -- in-range-requires
+    (λ c κs. place (ranged _ _ _ (sym (c .before .in-range .ensures) ∙ c .if1 .taken)))  -- next-requires
+    (λ c. rw (sym (c .before .before .in-range .ensures) ∙ c .before .if1 .taken) (c .next .ensures))  -- returns
+    (λ c. rw (sym (c .before .in-range .ensures) ∙ c .if1 .left) refl))  -- returns-2

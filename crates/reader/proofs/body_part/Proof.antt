@@ -6,30 +6,21 @@ use Rattle.reader.proofs.Places.{part-whole, part-none}
 use Rattle.reader.proofs.body_part.Statement.{statement}
 use Rattle.reader.proofs.body_part.Tie as tie
 
-sub-result : tie.Need-sub-result
-sub-result c =
-    let w = was-whole _ _ _ _ _ _ (sym (c .before .before .before .read-at .ensures) ∙ c .before .start .given .1) in
-    search needs
-
-part-result-start : tie.Need-part-result-start
-part-result-start c =
-    let w = was-whole _ _ _ _ _ _ (sym (c .before .before .before .read-at .ensures) ∙ c .before .start .given .1) in
-    search needs
-
-part-result-end : tie.Need-part-result-end
-part-result-end c =
-    let w = was-whole _ _ _ _ _ _ (sym (c .before .before .before .read-at .ensures) ∙ c .before .start .given .1) in
-    search needs
-
 pub body-part-spec : {M : Type 1} → statement M
 body-part-spec =
     tie.close
     (tie.spec
     (λ c κs. search needs)
     (λ c. search needs)
-    sub-result
-    part-result-start
-    part-result-end
+    (λ c.
+    let w = was-whole _ _ _ _ _ _ (sym (c .before .before .before .read-at .ensures) ∙ c .before .start .given .1) in
+    search needs)  -- sub-result
+    (λ c.
+    let w = was-whole _ _ _ _ _ _ (sym (c .before .before .before .read-at .ensures) ∙ c .before .start .given .1) in
+    search needs)  -- part-result-start
+    (λ c.
+    let w = was-whole _ _ _ _ _ _ (sym (c .before .before .before .read-at .ensures) ∙ c .before .start .given .1) in
+    search needs)  -- part-result-end
     (λ c. search needs)
     (λ c. search needs)
     (λ c. part-whole _ _ _ _ _ _ _ (sym (c .before .before .before .before .read-at .ensures) ∙ c .before .before .start .given .1) refl refl)

@@ -16,9 +16,7 @@ readers-reason-spec =
     let used = c .before in
     let a = used .before .before .before .before in
     let i = a .pre .1 .are in
-    let z = stands-fit (i .range) (is-stands i) in
-    let p = a .pre .0 in
-    omega (arith, used .used .ensures .most))  -- find-entry-requires
+    omega (arith, stands-fit (i .range) (is-stands i), a .pre .0, used .used .ensures .most))  -- find-entry-requires
     (λ c κs.
     let used = c .before .before in
     let a = used .before .before .before .before in

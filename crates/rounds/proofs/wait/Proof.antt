@@ -6,46 +6,34 @@ use Rattle.rounds.proofs.Ends.{waits-no-room, waits-refused, waits-pass
 use Rattle.rounds.proofs.wait.Statement.{statement}
 use Rattle.rounds.proofs.wait.Tie as tie
 
-returns : tie.Need-returns
-returns c = waits-no-room _ _ _ _ (c .if1 .taken)
-
-wait-checked-requires : tie.Need-wait-checked-requires
-wait-checked-requires c κs =
-    let m = c .before .before .before .before .before in
-    let k = m .before .before in
-    (passed-laid _ _ (k .checked-layout .ensures) (λ i. omega (arith, k .before .before .before .before .before .before .before .slice-known2 .given i)) (m .at .given .1), k .before .before .before .before .if1 .left)
-
-returns-2 : tie.Need-returns-2
-returns-2 c =
-    let t = c .before .before in
-    let n = t .before .before .before in
-    let k = n .before .before in
-    waits-refused _ _ _ _ (k .before .before .before .before .if1 .left) (k .checked-layout .ensures) (n .n .given .1) (t .turned-away .ensures)
-
-returns-3 : tie.Need-returns-3
-returns-3 c =
-    let w = c .before .before .before .before .before .before .before .before in
-    let m = w .before .before .before .before .before .before in
-    let k = m .before .before in
-    waits-passed _ _ _ _ (k .before .before .before .before .if1 .left) (passed-laid _ _ (k .checked-layout .ensures) (λ i. omega (arith, k .before .before .before .before .before .before .before .slice-known2 .given i)) (m .at .given .1) .1) (w .wait-checked .ensures)
-
 pub wait-spec : {M : Type 1} → statement M
 wait-spec =
     tie.close
     (tie.spec
-    returns
+    (λ c. waits-no-room _ _ _ _ (c .if1 .taken))  -- returns
     (λ c κs. search needs)
     (λ c. search needs)
     (λ c κs. search needs)
     (λ c. search needs)
-    wait-checked-requires
+    (λ c κs.
+    let m = c .before .before .before .before .before in
+    let k = m .before .before in
+    (passed-laid _ _ (k .checked-layout .ensures) (λ i. omega (arith, k .before .before .before .before .before .before .before .slice-known2 .given i)) (m .at .given .1), k .before .before .before .before .if1 .left))  -- wait-checked-requires
     (λ c. search needs)
     (λ c. search needs)
     (λ c. search needs)
     (λ c. search needs)
-    returns-2
+    (λ c.
+    let t = c .before .before in
+    let n = t .before .before .before in
+    let k = n .before .before in
+    waits-refused _ _ _ _ (k .before .before .before .before .if1 .left) (k .checked-layout .ensures) (n .n .given .1) (t .turned-away .ensures))  -- returns-2
     (λ c. search needs)
     (λ c. search needs)
     (λ c. search needs)
     (λ c. search needs)
-    returns-3)
+    (λ c.
+    let w = c .before .before .before .before .before .before .before .before in
+    let m = w .before .before .before .before .before .before in
+    let k = m .before .before in
+    waits-passed _ _ _ _ (k .before .before .before .before .if1 .left) (passed-laid _ _ (k .checked-layout .ensures) (λ i. omega (arith, k .before .before .before .before .before .before .before .slice-known2 .given i)) (m .at .given .1) .1) (w .wait-checked .ensures)))  -- returns-3

@@ -6,25 +6,6 @@ use Rattle.rounds.proofs.Ends.{waits-rounds, waits-malformed}
 use Rattle.rounds.proofs.wait_checked.Statement.{statement}
 use Rattle.rounds.proofs.wait_checked.Tie as tie
 
-returns : tie.Need-returns
-returns c = let t = c .before .before in let w = t .before .before .before in waits-malformed (sym (w .well-formed .ensures .0) ∙ not-yes (t .before .before .if1 .taken)) (t .turned-away .ensures)
-
-wait-rounds-requires : tie.Need-wait-rounds-requires
-wait-rounds-requires c κs =
-    let m = c .before .before .before .before in
-    let e = m .before .before .before .before in
-    let w = e .before in
-    let p = w .before .before .before .before .before in
-    (p .pre .0, ((sym (w .well-formed .ensures .0) ∙ no-not (e .if1 .left), w .well-formed .ensures .1, p .pre .1), m .most-rounds .ensures))
-
-returns-2 : tie.Need-returns-2
-returns-2 c =
-    let r = c .before .before .before .before .before .before .before .before in
-    let m = r .before .before .before .before .before in
-    let e = m .before .before .before .before in
-    let w = e .before in
-    waits-rounds (sym (w .well-formed .ensures .0) ∙ no-not (e .if1 .left)) (m .most-rounds .ensures) (r .wait-rounds .ensures)
-
 pub wait-checked-spec : {M : Type 1} → statement M
 wait-checked-spec =
     tie.close
@@ -32,11 +13,21 @@ wait-checked-spec =
     (λ c κs. search needs)
     (λ c κs. search needs)
     (λ c. search needs)
-    returns
+    (λ c. let t = c .before .before in let w = t .before .before .before in waits-malformed (sym (w .well-formed .ensures .0) ∙ not-yes (t .before .before .if1 .taken)) (t .turned-away .ensures))  -- returns
     (λ c κs. search needs)
-    wait-rounds-requires
+    (λ c κs.
+    let m = c .before .before .before .before in
+    let e = m .before .before .before .before in
+    let w = e .before in
+    let p = w .before .before .before .before .before in
+    (p .pre .0, ((sym (w .well-formed .ensures .0) ∙ no-not (e .if1 .left), w .well-formed .ensures .1, p .pre .1), m .most-rounds .ensures)))  -- wait-rounds-requires
     (λ c. search needs)
     (λ c. search needs)
     (λ c. search needs)
     (λ c. search needs)
-    returns-2)
+    (λ c.
+    let r = c .before .before .before .before .before .before .before .before in
+    let m = r .before .before .before .before .before in
+    let e = m .before .before .before .before in
+    let w = e .before in
+    waits-rounds (sym (w .well-formed .ensures .0) ∙ no-not (e .if1 .left)) (m .most-rounds .ensures) (r .wait-rounds .ensures)))  -- returns-2

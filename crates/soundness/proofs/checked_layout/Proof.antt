@@ -1,8 +1,6 @@
 -- Refused by the first check that fails, or passed and laid out.
 use borrow.Author.Needs.{needs}
-use Rattle.model.specs.Lent.{lent}
 use Rattle.layout.proofs.OfRange.{lengths-fit}
-use Rattle.soundness.proofs.Verdicts.{setting-refused, length-refused, unsound-refused, none-refused}
 use Rattle.soundness.proofs.Checked.{laid-refused, laid-passed}
 use Rattle.soundness.proofs.checked_layout.Statement.{statement}
 use Rattle.soundness.proofs.checked_layout.Tie as tie
@@ -13,10 +11,10 @@ checked-layout-spec =
     tie.close
     (tie.spec
     (λ c κs. search needs)  -- in-range-requires
-    (λ c. let a = c .before .before .before .before .before .args in laid-refused _ _ (setting-refused (a .s) (lent (a .longs .now) (a .words .now) (a .marks .now)) (said-no (c .before .in-range .ensures) (c .if1 .taken))))  -- returns
+    (λ c. laid-refused _ _ (rw (said-no (c .before .in-range .ensures) (c .if1 .taken))))  -- returns
     (λ c κs. said-yes (c .before .in-range .ensures) (c .if1 .left))  -- lengths-fit-requires
-    (λ c. let ranged = c .before .before in let a = ranged .before .before .before .before .before .args in laid-refused _ _ (length-refused (a .s) (lent (a .longs .now) (a .words .now) (a .marks .now)) (said-yes (ranged .before .in-range .ensures) (ranged .if1 .left)) (said-no (c .before .lengths-fit .ensures) (c .if2 .taken))))  -- returns-2
+    (λ c. let ranged = c .before .before in laid-refused _ _ (rw (said-yes (ranged .before .in-range .ensures) (ranged .if1 .left), said-no (c .before .lengths-fit .ensures) (c .if2 .taken))))  -- returns-2
     (λ c κs. let ranged = c .before .before in said-yes (ranged .before .in-range .ensures) (ranged .if1 .left))  -- laid-out-requires
     (λ c κs. let fitted = c .before in let ranged = fitted .before .before in let a = ranged .before .before .before .before .before .args in (c .laid-out .ensures, lengths-fit (a .s) (a .longs .now) (a .words .now) (a .marks .now) (said-yes (ranged .before .in-range .ensures) (ranged .if1 .left)) (said-yes (fitted .before .lengths-fit .ensures) (fitted .if2 .left))))  -- tables-sound-requires
-    (λ c. let fitted = c .before .before .before in let ranged = fitted .before .before in let a = ranged .before .before .before .before .before .args in laid-refused _ _ (unsound-refused (a .s) (lent (a .longs .now) (a .words .now) (a .marks .now)) (said-yes (ranged .before .in-range .ensures) (ranged .if1 .left)) (said-yes (fitted .before .lengths-fit .ensures) (fitted .if2 .left)) (said-no (c .before .tables-sound .ensures) (c .if3 .taken))))  -- returns-3
-    (λ c. let laid = c .before .before in let fitted = laid .before in let ranged = fitted .before .before in let a = ranged .before .before .before .before .before .args in laid-passed _ _ (none-refused (a .s) (lent (a .longs .now) (a .words .now) (a .marks .now)) (said-yes (ranged .before .in-range .ensures) (ranged .if1 .left)) (said-yes (fitted .before .lengths-fit .ensures) (fitted .if2 .left)) (said-yes (c .before .tables-sound .ensures) (c .if3 .left))) (laid .laid-out .ensures)))  -- returns-4
+    (λ c. let fitted = c .before .before .before in let ranged = fitted .before .before in laid-refused _ _ (rw (said-yes (ranged .before .in-range .ensures) (ranged .if1 .left), said-yes (fitted .before .lengths-fit .ensures) (fitted .if2 .left), said-no (c .before .tables-sound .ensures) (c .if3 .taken))))  -- returns-3
+    (λ c. let laid = c .before .before in let fitted = laid .before in let ranged = fitted .before .before in laid-passed _ _ (rw (said-yes (ranged .before .in-range .ensures) (ranged .if1 .left), said-yes (fitted .before .lengths-fit .ensures) (fitted .if2 .left), said-yes (c .before .tables-sound .ensures) (c .if3 .left))) (laid .laid-out .ensures)))  -- returns-4

@@ -5,26 +5,6 @@ use Rattle.turns.proofs.Turns.{fill-bytes, fills-none, fills-sent}
 use Rattle.turns.proofs.fill_turn.Statement.{statement}
 use Rattle.turns.proofs.fill_turn.Tie as tie
 
-note-requires : tie.Need-note-requires
-note-requires c κs =
-    let f = c .before .before .before .before .before .before .before in
-    let m = f .before .before .before .before .before in
-    let s = m .before .before in
-    let p = s .before .before .before .before .before .before .before .before in
-    omega (arith, fill-bytes _ (s .first-sent .ensures) (m .address .given .1) (f .fill-step .ensures) (p .pre .0 .1), p .pre .1)
-
-returns : tie.Need-returns
-returns c =
-    let n = c .before .before in
-    let f = n .before .before .before .before .before .before .before .before in
-    let m = f .before .before .before .before .before in
-    let s = m .before .before in
-    let p = s .before .before .before .before .before .before .before .before in
-    fills-sent _ (s .first-sent .ensures) (m .address .given .1) (f .fill-step .ensures) (p .pre .0 .1) (n .note .ensures)
-
-returns-2 : tie.Need-returns-2
-returns-2 c = fills-none _ (c .before .before .first-sent .ensures) (c .enum-told .given .1) _ _
-
 pub fill-turn-spec : {M : Type 1} → statement M
 fill-turn-spec =
     tie.close
@@ -32,14 +12,25 @@ fill-turn-spec =
     (λ c κs. search needs)
     (λ c. search needs)
     (λ c κs. search needs)
-    note-requires
+    (λ c κs.
+    let f = c .before .before .before .before .before .before .before in
+    let m = f .before .before .before .before .before in
+    let s = m .before .before in
+    let p = s .before .before .before .before .before .before .before .before in
+    omega (arith, fill-bytes _ (s .first-sent .ensures) (m .address .given .1) (f .fill-step .ensures) (p .pre .0 .1), p .pre .1))  -- note-requires
     (λ c. search needs)
     (λ c. search needs)
     (λ c. search needs)
     (λ c. search needs)
     (λ c. search needs)
-    returns
+    (λ c.
+    let n = c .before .before in
+    let f = n .before .before .before .before .before .before .before .before in
+    let m = f .before .before .before .before .before in
+    let s = m .before .before in
+    let p = s .before .before .before .before .before .before .before .before in
+    fills-sent _ (s .first-sent .ensures) (m .address .given .1) (f .fill-step .ensures) (p .pre .0 .1) (n .note .ensures))  -- returns
     (λ c. search needs)
     (λ c. search needs)
     (λ c. search needs)
-    returns-2)
+    (λ c. fills-none _ (c .before .before .first-sent .ensures) (c .enum-told .given .1) _ _))  -- returns-2

@@ -16,16 +16,9 @@ first-sent-spec =
     (λ c. search needs)
     (λ c.
     let i = c .before .before .before .before .before .before .before .pre .1 .are in
-    let z = stands-fit (i .range) (is-stands i) in
-    let p = c .before .before .before .before .before .before .before .pre .0 in
-    let u = c .before .before .before .used .ensures .most in
-    let e = c .before .if1 .left in
-    omega arith)
+    omega (arith, stands-fit (i .range) (is-stands i), c .before .before .before .before .before .before .before .pre .0, c .before .before .before .used .ensures .most, c .before .if1 .left))
     (λ c.
     let i = c .before .before .before .before .before .before .before .before .pre .1 .are in
     let z = stands-fit (i .range) (is-stands i) in
-    let p = c .before .before .before .before .before .before .before .before .pre .0 in
-    let u = c .before .before .before .before .used .ensures .most in
-    let e = c .before .before .if1 .left in
-    omega arith)
+    omega (arith, c .before .before .before .before .before .before .before .before .pre .0, c .before .before .before .before .used .ensures .most, c .before .before .if1 .left))
     (λ c. record { on = λ t i. found-sent _ t i (c .before .before .before .before .before .before .before .before .pre .0) (c .before .before .before .before .used .ensures) (c .before .before .before .find-mark .ensures) (c .before .before .if1 .left) }))

@@ -6,57 +6,36 @@ use Rattle.turns.proofs.Turns.{sends-held, drained-held, offer-bytes, o
 use Rattle.turns.proofs.one_round.Statement.{statement}
 use Rattle.turns.proofs.one_round.Tie as tie
 
-fill-turn-requires : tie.Need-fill-turn-requires
-fill-turn-requires c κs =
+pub one-round-spec : {M : Type 1} → statement M
+one-round-spec =
+    tie.close
+    (tie.spec
+    (λ c κs. search needs)
+    (λ c κs.
     let s = c .before .before .before .before .before .before .before .before .before .before .before .before in
     let p = s .before .before .before .before .before .before .before .before .before in
-    ((p .pre .0 .0, sends-held _ (p .args .x) (s .send-turn .ensures) (p .pre .0 .1)), omega (arith, s .send-turn .ensures .short, s .send-turn .kept .1 .1 .1 .1 .1 .0, p .pre .1 .0))
-
-access-step-requires : tie.Need-access-step-requires
-access-step-requires c κs =
+    ((p .pre .0 .0, sends-held _ (p .args .x) (s .send-turn .ensures) (p .pre .0 .1)), omega (arith, s .send-turn .ensures .short, s .send-turn .kept .1 .1 .1 .1 .1 .0, p .pre .1 .0)))  -- fill-turn-requires
+    (λ c κs.
     let f = c .before .before .before .before .before .before .before .before .before .before .before in
     let s = f .before .before .before .before .before .before .before .before .before .before .before .before .before in
     let p = s .before .before .before .before .before .before .before .before .before in
-    (p .pre .0 .0, drained-held _ (p .args .x) (s .send-turn .ensures) (f .fill-turn .ensures) (p .pre .0 .1))
-
-note-requires : tie.Need-note-requires
-note-requires c κs =
+    (p .pre .0 .0, drained-held _ (p .args .x) (s .send-turn .ensures) (f .fill-turn .ensures) (p .pre .0 .1)))  -- access-step-requires
+    (λ c κs.
     let a = c .before .before .before .before .before .before .before in
     let f = a .before .before .before .before .before .before .before .before .before .before .before .before in
     let s = f .before .before .before .before .before .before .before .before .before .before .before .before .before in
     let p = s .before .before .before .before .before .before .before .before .before in
     let h = drained-held _ (p .args .x) (s .send-turn .ensures) (f .fill-turn .ensures) (p .pre .0 .1) in
     let b = offer-bytes _ (p .args .x) (a .access-step .ensures) h in
-    omega (arith, b, s .send-turn .ensures .short, f .fill-turn .ensures .short, s .send-turn .kept .1 .1 .1 .1 .1 .0, f .fill-turn .kept .1 .1 .1 .1 .1 .0, p .pre .1 .0)
-
-same-length : tie.Need-same-length
-same-length c = let a = c .before .before .before .before .before .before .before .before .before .before in let f = a .before .before .before .before .before .before .before .before .before .before .before .before in let s = f .before .before .before .before .before .before .before .before .before .before .before .before .before in a .access-step .kept .1 .1 .0 ∙ f .fill-turn .kept .1 .1 .0 ∙ s .send-turn .kept .1 .1 .0
-
-same-length-2 : tie.Need-same-length-2
-same-length-2 c = let a = c .before .before .before .before .before .before .before .before .before .before in let f = a .before .before .before .before .before .before .before .before .before .before .before .before in let s = f .before .before .before .before .before .before .before .before .before .before .before .before .before in a .access-step .kept .1 .1 .1 .0 ∙ f .fill-turn .kept .1 .1 .1 .0 ∙ s .send-turn .kept .1 .1 .1 .0
-
-same-length-3 : tie.Need-same-length-3
-same-length-3 c = let a = c .before .before .before .before .before .before .before .before .before .before in let f = a .before .before .before .before .before .before .before .before .before .before .before .before in let s = f .before .before .before .before .before .before .before .before .before .before .before .before .before in a .access-step .kept .1 .1 .1 .1 .0 ∙ f .fill-turn .kept .1 .1 .1 .1 .0 ∙ s .send-turn .kept .1 .1 .1 .1 .0
-
-returns : tie.Need-returns
-returns c =
+    omega (arith, b, s .send-turn .ensures .short, f .fill-turn .ensures .short, s .send-turn .kept .1 .1 .1 .1 .1 .0, f .fill-turn .kept .1 .1 .1 .1 .1 .0, p .pre .1 .0))  -- note-requires
+    (λ c. let a = c .before .before .before .before .before .before .before .before .before .before in let f = a .before .before .before .before .before .before .before .before .before .before .before .before in let s = f .before .before .before .before .before .before .before .before .before .before .before .before .before in a .access-step .kept .1 .1 .0 ∙ f .fill-turn .kept .1 .1 .0 ∙ s .send-turn .kept .1 .1 .0)  -- same-length
+    (λ c. let a = c .before .before .before .before .before .before .before .before .before .before in let f = a .before .before .before .before .before .before .before .before .before .before .before .before in let s = f .before .before .before .before .before .before .before .before .before .before .before .before .before in a .access-step .kept .1 .1 .1 .0 ∙ f .fill-turn .kept .1 .1 .1 .0 ∙ s .send-turn .kept .1 .1 .1 .0)  -- same-length-2
+    (λ c. let a = c .before .before .before .before .before .before .before .before .before .before in let f = a .before .before .before .before .before .before .before .before .before .before .before .before in let s = f .before .before .before .before .before .before .before .before .before .before .before .before .before in a .access-step .kept .1 .1 .1 .1 .0 ∙ f .fill-turn .kept .1 .1 .1 .1 .0 ∙ s .send-turn .kept .1 .1 .1 .1 .0)  -- same-length-3
+    (λ c. search needs)
+    (λ c.
     let n = c .before .before in
     let a = n .before .before .before .before .before .before .before .before in
     let f = a .before .before .before .before .before .before .before .before .before .before .before .before in
     let s = f .before .before .before .before .before .before .before .before .before .before .before .before .before in
     let p = s .before .before .before .before .before .before .before .before .before in
-    offers _ (p .args .x) (s .send-turn .ensures) (f .fill-turn .ensures) (a .access-step .ensures) (p .pre .0 .1) (p .pre .1 .1) (n .note .ensures)
-
-pub one-round-spec : {M : Type 1} → statement M
-one-round-spec =
-    tie.close
-    (tie.spec
-    (λ c κs. search needs)
-    fill-turn-requires
-    access-step-requires
-    note-requires
-    same-length
-    same-length-2
-    same-length-3
-    (λ c. search needs)
-    returns)
+    offers _ (p .args .x) (s .send-turn .ensures) (f .fill-turn .ensures) (a .access-step .ensures) (p .pre .0 .1) (p .pre .1 .1) (n .note .ensures)))  -- returns

@@ -1,10 +1,12 @@
 -- `compare::checking::came` meets its contract.
 use borrow.Author.Needs.{needs}
-use Rattle.compare.proofs.Parts.{came-long, came-part}
+use borrow.Author.Tests.{lt-ltb, le-ltb}
+use Rattle.compare.specs.Checking.{cameOf}
 use Rattle.compare.proofs.checking.came.Statement.{statement}
 use Rattle.compare.proofs.checking.came.Tie as tie
 
 pub came-spec : {M : Type 1} → statement M
+unfolding cameOf
 came-spec =
     tie.close
     (tie.spec
@@ -13,7 +15,7 @@ came-spec =
     (λ c κs. search needs)
     (λ c κs. search needs)
     -- returns
-    (λ c. came-long _ _ _ (c .before .before .before .if1 .taken) (c .over .ensures))
+    (λ c. rw (lt-ltb _ _ (c .before .before .before .if1 .taken)) (c .over .ensures))
     (λ c κs. search needs)
     (λ c κs. search needs)
     (λ c. search needs)
@@ -21,4 +23,4 @@ came-spec =
     (λ c.
     let p = c .before .before in
     let f = p .before in
-    came-part _ _ _ (f .before .if1 .left) (f .front .ensures) (p .pass .ensures)))
+    rw (le-ltb _ _ (f .before .if1 .left), p .pass .ensures, f .front .ensures)))

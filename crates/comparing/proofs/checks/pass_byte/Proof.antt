@@ -1,28 +1,29 @@
 -- `comparing::checks::pass_byte` meets its contract.
 use mathlib.Core.Path.{sym, _∙_}
 use borrow.Author.Needs.{needs}
-use borrow.Author.Tests.{not-true, not-false}
-use Rattle.comparing.proofs.Coming.{byte-wrong, byte-within, byte-stuck, byte-begun}
+use borrow.Author.Tests.{not-true, not-false, eq-eqb, ne-eqb}
+use Rattle.comparing.specs.Coming.{passedByte}
 use Rattle.comparing.proofs.checks.pass_byte.Statement.{statement}
 use Rattle.comparing.proofs.checks.pass_byte.Tie as tie
 
 pub pass-byte-spec : {M : Type 1} → statement M
+unfolding passedByte
 pass-byte-spec =
     tie.close
     (tie.spec
-    (λ c. byte-wrong _ _ (c .if1 .taken))
+    (λ c. rw (c .if1 .taken))
     (λ c κs. search needs)
     (λ c. search needs)
     -- returns-2
     (λ c.
     let t = c .before in
     let n = t .before .before in
-    byte-within _ _ (n .before .if1 .left) (n .wrapping-add-usize .ensures) (t .if2 .taken))
+    rw (n .before .if1 .left, ne-eqb _ 0 (t .if2 .taken), n .wrapping-add-usize .ensures))
     (λ c κs. search needs)
     -- returns-3
     (λ c.
     let e = c .before .before in
-    byte-stuck _ _ (e .before .before .before .if1 .left) (e .if2 .left) (sym (c .before .is-event .ensures) ∙ not-true _ (c .if3 .taken)))
+    rw (e .before .before .before .if1 .left, eq-eqb _ 0 (e .if2 .left), sym (c .before .is-event .ensures) ∙ not-true _ (c .if3 .taken)))
     (λ c κs. search needs)
     (λ c κs. search needs)
     -- returns-4
@@ -31,4 +32,4 @@ pass-byte-spec =
     let t = l .before in
     let e = t .before .before in
     let n = e .before .before in
-    byte-begun _ _ (n .before .if1 .left) (e .if2 .left) (n .wrapping-add-usize .ensures) (sym (t .before .is-event .ensures) ∙ not-false _ (t .if3 .left)) (l .length-of .ensures) (c .begun-inside .ensures)))
+    rw (n .before .if1 .left, eq-eqb _ 0 (e .if2 .left), n .wrapping-add-usize .ensures, sym (t .before .is-event .ensures) ∙ not-false _ (t .if3 .left), l .length-of .ensures, c .begun-inside .ensures)))

@@ -1,16 +1,18 @@
 -- `comparing::walking::row` meets its contract.
 use mathlib.Core.Path.{_∙_}
 use borrow.Author.Needs.{needs}
-use Rattle.comparing.proofs.Stepping.{row-over, row-next}
+use Rattle.comparing.specs.Steps.{row}
+use Rattle.comparing.proofs.Stepping.{row-next}
 use Rattle.comparing.proofs.walking.row.Statement.{statement}
 use Rattle.comparing.proofs.walking.row.Tie as tie
 
 pub row-spec : {M : Type 1} → statement M
+unfolding row
 row-spec =
     tie.close
     (tie.spec
     (λ c κs. search needs)
-    (λ c. row-over _ _ _ _ _ (c .before .if1 .taken) (c .pair-over .ensures))
+    (λ c. rw (c .before .if1 .taken) (c .pair-over .ensures))
     (λ c κs. search needs)
     (λ c κs. search needs)
     (λ c κs. search needs)

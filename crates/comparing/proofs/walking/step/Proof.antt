@@ -1,10 +1,12 @@
 -- `comparing::walking::step` meets its contract.
 use borrow.Author.Needs.{needs}
-use Rattle.comparing.proofs.Stepping.{step-first, step-second, step-row}
+use mathlib.Core.Path.{sym, _∙_}
+use Rattle.comparing.specs.Steps.{stepped}
 use Rattle.comparing.proofs.walking.step.Statement.{statement}
 use Rattle.comparing.proofs.walking.step.Tie as tie
 
 pub step-spec : {M : Type 1} → statement M
+unfolding stepped
 step-spec =
     tie.close
     (tie.spec
@@ -15,15 +17,15 @@ step-spec =
     (λ c. search needs)
     (λ c. search needs)
     (λ c κs. search needs)
-    (λ c. step-first _ _ _ _ _ (c .before .before .next-record .ensures) (c .enum-told .given .1))
+    (λ c. rw (sym (c .before .before .next-record .ensures) ∙ c .enum-told .given .1))
     -- returns-2
     (λ c.
     let n2 = c .before .before in
     let m = n2 .before .before .before in
-    step-second _ _ _ _ _ (m .before .before .next-record .ensures) (m .m .given .1) (n2 .next-record2 .ensures) (c .enum-told2 .given .1))
+    rw (sym (m .before .before .next-record .ensures) ∙ m .m .given .1, sym (n2 .next-record2 .ensures) ∙ c .enum-told2 .given .1))
     -- returns-3
     (λ c.
     let n = c .before .before in
     let n2 = n .before .before in
     let m = n2 .before .before .before in
-    step-row _ _ _ _ _ (m .before .before .next-record .ensures) (m .m .given .1) (n2 .next-record2 .ensures) (n .n .given .1) (c .row .ensures)))
+    rw (sym (m .before .before .next-record .ensures) ∙ m .m .given .1, sym (n2 .next-record2 .ensures) ∙ n .n .given .1) (c .row .ensures)))

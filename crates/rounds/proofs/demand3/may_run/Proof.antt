@@ -6,24 +6,6 @@ use Rattle.rounds.proofs.Starting.{start-refused, start-malformed, star
 use Rattle.rounds.proofs.demand3.may_run.Statement.{statement}
 use Rattle.rounds.proofs.demand3.may_run.Tie as tie
 
-returns : tie.Need-returns
-returns c =
-    start-refused _ _ _ (c .before .before .before .checked-layout .ensures) (c .before .n .given .1)
-
-returns-2 : tie.Need-returns-2
-returns-2 c =
-    let w = c .before in
-    let e = w .before .before in
-    let k = e .before .before in
-    start-passed _ _ _ (k .checked-layout .ensures) (e .at .given .1) (λ i. omega (arith, k .before .before .shared-slice-known2 .given i)) (sym (w .well-formed .ensures .0) ∙ c .if1 .taken) (w .well-formed .ensures .1)
-
-returns-3 : tie.Need-returns-3
-returns-3 c =
-    let w = c .before in
-    let e = w .before .before in
-    let k = e .before .before in
-    start-malformed _ _ _ (k .checked-layout .ensures) (e .at .given .1) (sym (w .well-formed .ensures .0) ∙ c .if1 .left)
-
 pub may-run-spec : {M : Type 1} → statement M
 may-run-spec =
     tie.close
@@ -32,6 +14,15 @@ may-run-spec =
     (λ c. search needs)
     (λ c. search needs)
     (λ c κs. search needs)
-    returns
-    returns-2
-    returns-3)
+    (λ c.
+    start-refused _ _ _ (c .before .before .before .checked-layout .ensures) (c .before .n .given .1))  -- returns
+    (λ c.
+    let w = c .before in
+    let e = w .before .before in
+    let k = e .before .before in
+    start-passed _ _ _ (k .checked-layout .ensures) (e .at .given .1) (λ i. omega (arith, k .before .before .shared-slice-known2 .given i)) (sym (w .well-formed .ensures .0) ∙ c .if1 .taken) (w .well-formed .ensures .1))  -- returns-2
+    (λ c.
+    let w = c .before in
+    let e = w .before .before in
+    let k = e .before .before in
+    start-malformed _ _ _ (k .checked-layout .ensures) (e .at .given .1) (sym (w .well-formed .ensures .0) ∙ c .if1 .left)))  -- returns-3

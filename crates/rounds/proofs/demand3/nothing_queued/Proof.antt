@@ -6,20 +6,12 @@ use Rattle.rounds.proofs.Showing.{queueless}
 use Rattle.rounds.proofs.demand3.nothing_queued.Statement.{statement}
 use Rattle.rounds.proofs.demand3.nothing_queued.Tie as tie
 
-used-requires : tie.Need-used-requires
-used-requires c κs =
-    let i = c .before .before .before .pre .1 .are in
-    let z = stands-fit (i .range) (is-stands i) in
-    let p = c .before .before .before .pre .0 in
-    omega arith
-
-returns : tie.Need-returns
-returns c =
-    queueless _ (c .before .before .before .before .pre .1) (c .before .before .before .before .pre .0) (c .used .ensures)
-
 pub nothing-queued-spec : {M : Type 1} → statement M
 nothing-queued-spec =
     tie.close
     (tie.spec
-    used-requires
-    returns)
+    (λ c κs.
+    let i = c .before .before .before .pre .1 .are in
+    omega (arith, stands-fit (i .range) (is-stands i), c .before .before .before .pre .0))  -- used-requires
+    (λ c.
+    queueless _ (c .before .before .before .before .pre .1) (c .before .before .before .before .pre .0) (c .used .ensures)))  -- returns

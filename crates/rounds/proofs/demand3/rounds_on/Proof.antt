@@ -16,29 +16,6 @@ Inv-loop s at longs₀ words₀ marks₀ x n flags₀ events₀ i₀ out₀ long
 abbrev μ-loop : tie.MeasureT-loop
 μ-loop s at longs₀ words₀ marks₀ x n flags₀ events₀ i₀ out₀ longs words marks flags events i out = n - i
 
-see-round-requires : tie.Need-see-round-requires Inv-loop μ-loop
-see-round-requires c κs =
-    let l = c .before .before .before .before .before in
-    let g = l .loop .inv in
-    let p = l .before .before .before .before .before .before in
-    ((p .pre .0 .0, g .held), (omega (arith, g .short, g .size, c .before .before .before .before .loop-test .taken, p .pre .1 .1), p .pre .1 .2))
-
-returns : tie.Need-returns Inv-loop μ-loop
-returns c =
-    let r = c .before .before .before .before .before .before .before .before .before .before in
-    let l = r .before .before .before .before .before .before in
-    let p = l .before .before .before .before .before .before in
-    runs-accepted _ _ _ (p .pre .1 .0) (p .pre .1 .1) (l .loop .inv) (r .before .before .before .before .before .loop-test .taken) (r .see-round .ensures) (c .before .flag-of .ensures) (c .if1 .taken)
-
-loop-again : tie.Need-loop-again Inv-loop μ-loop
-loop-again c =
-    let r = c .before .before .before .before .before .before .before .before .before .before in
-    let l = r .before .before .before .before .before .before in
-    let p = l .before .before .before .before .before .before in
-    let k = r .see-round .kept .1 .1 in
-    runs-again _ _ _ (p .pre .1 .0) (p .pre .1 .1) (l .loop .inv) (r .before .before .before .before .before .loop-test .taken) (r .see-round .ensures) (c .before .flag-of .ensures) (c .if1 .left)
-    (k .1 .1 .1 .1 .0) (k .0) (k .1 .0) (k .1 .1 .0)
-
 pub rounds-on-spec : {M : Type 1} → statement M
 rounds-on-spec =
     tie.close
@@ -46,7 +23,11 @@ rounds-on-spec =
     Inv-loop
     μ-loop
     (λ c. runs-first _ _ _ _ (c .before .before .before .before .before .pre .0 .1) _ _)
-    see-round-requires
+    (λ c κs.
+    let l = c .before .before .before .before .before in
+    let g = l .loop .inv in
+    let p = l .before .before .before .before .before .before in
+    ((p .pre .0 .0, g .held), (omega (arith, g .short, g .size, c .before .before .before .before .loop-test .taken, p .pre .1 .1), p .pre .1 .2)))  -- see-round-requires
     (λ c κs. search needs)
     (λ c. omega (arith, c .before .before .before .before .before .before .before .before .before .before .before .before .before .before .before .loop .inv .flags, c .before .before .before .before .before .before .before .before .before .before .before .before .before .before .loop-test .taken, c .before .before .before .before .before .before .before .before .before .before .before .before .before .before .before .before .before .before .before .before .before .pre .1 .0))
     (λ c. omega (arith, c .before .before .before .before .before .before .before .before .before .before .before .before .before .before .loop-test .taken))
@@ -55,9 +36,19 @@ rounds-on-spec =
     (λ c. c .before .before .before .before .before .before .before .before .before .before .see-round .kept .1 .1 .1 .1 .0 ∙ c .before .before .before .before .before .before .before .before .before .before .before .before .before .before .before .before .loop .inv .marks)
     (λ c. let l = c .before .before .before .before .before .before .before .before .before .before .before .before .before .before .before .before in length-set (l .loop .flags) (l .loop .i) (c .before .flag-of .result) ∙ l .loop .inv .flags)
     (λ c. c .before .before .before .before .before .before .before .before .before .before .see-round .kept .1 .1 .1 .1 .1 .1 .0 ∙ c .before .before .before .before .before .before .before .before .before .before .before .before .before .before .before .before .loop .inv .size)
-    returns
+    (λ c.
+    let r = c .before .before .before .before .before .before .before .before .before .before in
+    let l = r .before .before .before .before .before .before in
+    let p = l .before .before .before .before .before .before in
+    runs-accepted _ _ _ (p .pre .1 .0) (p .pre .1 .1) (l .loop .inv) (r .before .before .before .before .before .loop-test .taken) (r .see-round .ensures) (c .before .flag-of .ensures) (c .if1 .taken))  -- returns
     (λ c. omega (arith, c .before .before .before .before .before .before .before .before .before .before .before .before .before .before .before .loop-test .taken))
-    loop-again
+    (λ c.
+    let r = c .before .before .before .before .before .before .before .before .before .before in
+    let l = r .before .before .before .before .before .before in
+    let p = l .before .before .before .before .before .before in
+    let k = r .see-round .kept .1 .1 in
+    runs-again _ _ _ (p .pre .1 .0) (p .pre .1 .1) (l .loop .inv) (r .before .before .before .before .before .loop-test .taken) (r .see-round .ensures) (c .before .flag-of .ensures) (c .if1 .left)
+    (k .1 .1 .1 .1 .0) (k .0) (k .1 .0) (k .1 .1 .0))  -- loop-again
     (λ c. c .before .loop .inv .longs)
     (λ c. c .before .loop .inv .words)
     (λ c. c .before .loop .inv .marks)

@@ -5,30 +5,6 @@ use Rattle.rounds.proofs.Starting.{few-struck, struck-refused, struck-r
 use Rattle.rounds.proofs.demand3.run_struck.Statement.{statement}
 use Rattle.rounds.proofs.demand3.run_struck.Tie as tie
 
--- too few bytes
-returns : tie.Need-returns
-returns c =
-    let t = c .before .before in
-    few-struck (t .before .before .may-run .ensures) _ _ (t .at .given .1) (c .if1 .taken)
-
-struck-on-requires : tie.Need-struck-on-requires
-struck-on-requires c κs =
-    let i = c .before .before .before .before in
-    let t = i .before .before in
-    let m = t .before .before .may-run .ensures in
-    (m .ready _ (t .at .given .1), (omega (arith, i .if1 .left), m .small _ (t .at .given .1)))
-
--- refused
-returns-2 : tie.Need-returns-2
-returns-2 c = struck-refused (c .before .before .before .may-run .ensures) _ _ (c .before .k .given .1)
-
-returns-3 : tie.Need-returns-3
-returns-3 c =
-    let r = c .before .before .before .before .before .before .before .before in
-    let i = r .before .before .before .before .before in
-    let t = i .before .before in
-    struck-ran (t .before .before .may-run .ensures) _ _ (t .at .given .1) (i .if1 .left) (r .struck-on .ensures)
-
 pub run-struck-spec : {M : Type 1} → statement M
 run-struck-spec =
     tie.close
@@ -39,14 +15,26 @@ run-struck-spec =
     (λ c. search needs)
     (λ c. search needs)
     (λ c. search needs)
-    returns
-    struck-on-requires
+    -- too few bytes
+    (λ c.
+    let t = c .before .before in
+    few-struck (t .before .before .may-run .ensures) _ _ (t .at .given .1) (c .if1 .taken))  -- returns
+    (λ c κs.
+    let i = c .before .before .before .before in
+    let t = i .before .before in
+    let m = t .before .before .may-run .ensures in
+    (m .ready _ (t .at .given .1), (omega (arith, i .if1 .left), m .small _ (t .at .given .1))))  -- struck-on-requires
     (λ c. search needs)
     (λ c. search needs)
     (λ c. search needs)
-    returns-2
+    -- refused
+    (λ c. struck-refused (c .before .before .before .may-run .ensures) _ _ (c .before .k .given .1))  -- returns-2
     (λ c. search needs)
     (λ c. search needs)
     (λ c. search needs)
     (λ c. search needs)
-    returns-3)
+    (λ c.
+    let r = c .before .before .before .before .before .before .before .before in
+    let i = r .before .before .before .before .before in
+    let t = i .before .before in
+    struck-ran (t .before .before .may-run .ensures) _ _ (t .at .given .1) (i .if1 .left) (r .struck-on .ensures)))  -- returns-3

@@ -5,26 +5,20 @@ use Rattle.rounds.proofs.Showing.{sent-held, drains}
 use Rattle.rounds.proofs.demand3.see_drain.Statement.{statement}
 use Rattle.rounds.proofs.demand3.see_drain.Tie as tie
 
-see-fill-requires : tie.Need-see-fill-requires
-see-fill-requires c κs =
-    let s = c .before .before .before .before .before .before .before .before .before .before .before .before in
-    let p = s .before .before .before .before .before .before .before .before .before in
-    ((p .pre .0 .0, sent-held _ (s .see-send .ensures)), omega (arith, s .see-send .ensures .short, s .see-send .kept .1 .1 .1 .1 .1 .0, p .pre .1))
-
-returns : tie.Need-returns
-returns c =
-    let f = c .before .before .before .before .before .before .before .before in
-    let s = f .before .before .before .before .before .before .before .before .before .before .before .before .before in
-    drains _ (s .see-send .ensures) (f .see-fill .ensures)
-
 pub see-drain-spec : {M : Type 1} → statement M
 see-drain-spec =
     tie.close
     (tie.spec
     (λ c κs. search needs)
-    see-fill-requires
+    (λ c κs.
+    let s = c .before .before .before .before .before .before .before .before .before .before .before .before in
+    let p = s .before .before .before .before .before .before .before .before .before in
+    ((p .pre .0 .0, sent-held _ (s .see-send .ensures)), omega (arith, s .see-send .ensures .short, s .see-send .kept .1 .1 .1 .1 .1 .0, p .pre .1)))  -- see-fill-requires
     (λ c. search needs)
     (λ c. search needs)
     (λ c. search needs)
     (λ c. search needs)
-    returns)
+    (λ c.
+    let f = c .before .before .before .before .before .before .before .before in
+    let s = f .before .before .before .before .before .before .before .before .before .before .before .before .before in
+    drains _ (s .see-send .ensures) (f .see-fill .ensures)))  -- returns

@@ -5,28 +5,6 @@ use Rattle.rounds.proofs.Showing.{no-fill, fill-room, fills}
 use Rattle.rounds.proofs.demand3.see_fill.Statement.{statement}
 use Rattle.rounds.proofs.demand3.see_fill.Tie as tie
 
-tell-requires : tie.Need-tell-requires
-tell-requires c κs =
-    let f = c .before .before .before .before .before .before .before in
-    let m = f .before .before .before .before .before in
-    let s = m .before .before in
-    let p = s .before .before .before .before .before .before .before .before in
-    omega (arith, fill-room _ (p .pre .0 .1) (s .first-sent .ensures) (m .address .given .1) (f .fill .ensures), p .pre .1)
-
-returns : tie.Need-returns
-returns c =
-    let n = c .before .before in
-    let f = n .before .before .before .before .before .before .before .before in
-    let m = f .before .before .before .before .before in
-    let s = m .before .before in
-    let p = s .before .before .before .before .before .before .before .before in
-    fills _ (p .pre .0 .1) (s .first-sent .ensures) (m .address .given .1) (f .fill .ensures) (n .tell .ensures)
-
-returns-2 : tie.Need-returns-2
-returns-2 c =
-    let s = c .before .before in
-    no-fill _ (s .before .before .before .before .before .before .before .before .pre .0 .1) (s .first-sent .ensures) (c .enum-told .given .1) _ _
-
 pub see-fill-spec : {M : Type 1} → statement M
 see-fill-spec =
     tie.close
@@ -34,14 +12,27 @@ see-fill-spec =
     (λ c κs. search needs)
     (λ c. search needs)
     (λ c κs. search needs)
-    tell-requires
+    (λ c κs.
+    let f = c .before .before .before .before .before .before .before in
+    let m = f .before .before .before .before .before in
+    let s = m .before .before in
+    let p = s .before .before .before .before .before .before .before .before in
+    omega (arith, fill-room _ (p .pre .0 .1) (s .first-sent .ensures) (m .address .given .1) (f .fill .ensures), p .pre .1))  -- tell-requires
     (λ c. search needs)
     (λ c. search needs)
     (λ c. search needs)
     (λ c. search needs)
     (λ c. search needs)
-    returns
+    (λ c.
+    let n = c .before .before in
+    let f = n .before .before .before .before .before .before .before .before in
+    let m = f .before .before .before .before .before in
+    let s = m .before .before in
+    let p = s .before .before .before .before .before .before .before .before in
+    fills _ (p .pre .0 .1) (s .first-sent .ensures) (m .address .given .1) (f .fill .ensures) (n .tell .ensures))  -- returns
     (λ c. search needs)
     (λ c. search needs)
     (λ c. search needs)
-    returns-2)
+    (λ c.
+    let s = c .before .before in
+    no-fill _ (s .before .before .before .before .before .before .before .before .pre .0 .1) (s .first-sent .ensures) (c .enum-told .given .1) _ _))  -- returns-2

@@ -5,25 +5,6 @@ use Rattle.rounds.proofs.Showing.{no-send, send-room, sends}
 use Rattle.rounds.proofs.demand3.see_send.Statement.{statement}
 use Rattle.rounds.proofs.demand3.see_send.Tie as tie
 
-returns : tie.Need-returns
-returns c =
-    no-send _ (c .before .before .before .before .before .before .before .before .before .pre .0 .1) (c .before .nothing-queued .ensures) (c .if1 .taken) _ _
-
-tell-requires : tie.Need-tell-requires
-tell-requires c κs =
-    let s = c .before .before .before .before .before .before .before in
-    let p = s .before .before .before .before .before .before .before .before .before .before .before .before .before in
-    omega (arith, send-room _ (p .pre .0 .1) (s .send .ensures), p .pre .1)
-
-returns-2 : tie.Need-returns-2
-returns-2 c =
-    let n = c .before .before in
-    let s = n .before .before .before .before .before .before .before .before in
-    let i = s .before .before .before .before in
-    let q = i .before in
-    let p = q .before .before .before .before .before .before .before .before in
-    sends _ (p .pre .0 .1) (s .send .ensures) (q .nothing-queued .ensures) (i .if1 .left) (n .tell .ensures)
-
 pub see-send-spec : {M : Type 1} → statement M
 see-send-spec =
     tie.close
@@ -32,11 +13,21 @@ see-send-spec =
     (λ c. search needs)
     (λ c. search needs)
     (λ c. search needs)
-    returns
+    (λ c.
+    no-send _ (c .before .before .before .before .before .before .before .before .before .pre .0 .1) (c .before .nothing-queued .ensures) (c .if1 .taken) _ _)  -- returns
     (λ c κs. search needs)
-    tell-requires
+    (λ c κs.
+    let s = c .before .before .before .before .before .before .before in
+    let p = s .before .before .before .before .before .before .before .before .before .before .before .before .before in
+    omega (arith, send-room _ (p .pre .0 .1) (s .send .ensures), p .pre .1))  -- tell-requires
     (λ c. search needs)
     (λ c. search needs)
     (λ c. search needs)
     (λ c. search needs)
-    returns-2)
+    (λ c.
+    let n = c .before .before in
+    let s = n .before .before .before .before .before .before .before .before in
+    let i = s .before .before .before .before in
+    let q = i .before in
+    let p = q .before .before .before .before .before .before .before .before in
+    sends _ (p .pre .0 .1) (s .send .ensures) (q .nothing-queued .ensures) (i .if1 .left) (n .tell .ensures)))  -- returns-2

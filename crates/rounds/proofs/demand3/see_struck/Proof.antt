@@ -5,16 +5,6 @@ use Rattle.rounds.proofs.Showing.{struck-offers, struck-drains}
 use Rattle.rounds.proofs.demand3.see_struck.Statement.{statement}
 use Rattle.rounds.proofs.demand3.see_struck.Tie as tie
 
-returns : tie.Need-returns
-returns c =
-    let r = c .before .before .before .before .before .before .before .before in
-    struck-offers _ _ (eq-eqb _ _ (r .before .before .before .before .before .if1 .taken)) (r .see-round .ensures)
-
-returns-2 : tie.Need-returns-2
-returns-2 c =
-    let d = c .before .before .before .before .before .before .before .before in
-    struck-drains _ _ (ne-eqb _ _ (d .before .before .before .before .before .if1 .left)) (d .see-drain .ensures)
-
 pub see-struck-spec : {M : Type 1} → statement M
 see-struck-spec =
     tie.close
@@ -24,10 +14,14 @@ see-struck-spec =
     (λ c. search needs)
     (λ c. search needs)
     (λ c. search needs)
-    returns
+    (λ c.
+    let r = c .before .before .before .before .before .before .before .before in
+    struck-offers _ _ (eq-eqb _ _ (r .before .before .before .before .before .if1 .taken)) (r .see-round .ensures))  -- returns
     (λ c κs. search needs)
     (λ c. search needs)
     (λ c. search needs)
     (λ c. search needs)
     (λ c. search needs)
-    returns-2)
+    (λ c.
+    let d = c .before .before .before .before .before .before .before .before in
+    struck-drains _ _ (ne-eqb _ _ (d .before .before .before .before .before .if1 .left)) (d .see-drain .ensures)))  -- returns-2

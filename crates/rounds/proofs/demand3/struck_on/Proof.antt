@@ -14,21 +14,6 @@ Inv-loop s at longs₀ words₀ marks₀ x flags events₀ i₀ out₀ longs wor
 abbrev μ-loop : tie.MeasureT-loop
 μ-loop s at longs₀ words₀ marks₀ x flags events₀ i₀ out₀ longs words marks events i out = length flags - i
 
-see-struck-requires : tie.Need-see-struck-requires Inv-loop μ-loop
-see-struck-requires c κs =
-    let l = c .before .before .before .before .before .before in
-    let g = l .loop .inv in
-    let p = l .before .before .before .before .before .before in
-    ((p .pre .0 .0, g .held), (omega (arith, g .short, g .size, c .before .before .before .before .before .loop-test .taken, p .pre .1 .0), p .pre .1 .1))
-
-loop-again : tie.Need-loop-again Inv-loop μ-loop
-loop-again c =
-    let r = c .before .before .before .before .before .before .before .before in
-    let l = r .before .before .before .before .before .before .before in
-    let k = r .see-struck .kept .1 .1 in
-    strikes-again _ _ _ (l .loop .inv) (r .before .before .before .before .before .before .loop-test .taken) (r .see-struck .ensures)
-    (k .1 .1 .1 .1 .1 .0) (k .0) (k .1 .0) (k .1 .1 .0)
-
 pub struck-on-spec : {M : Type 1} → statement M
 struck-on-spec =
     tie.close
@@ -37,10 +22,19 @@ struck-on-spec =
     μ-loop
     (λ c. strikes-first _ _ _ _ (c .before .before .before .before .before .pre .0 .1) _)
     (λ c. omega (arith, c .before .loop-test .taken))
-    see-struck-requires
+    (λ c κs.
+    let l = c .before .before .before .before .before .before in
+    let g = l .loop .inv in
+    let p = l .before .before .before .before .before .before in
+    ((p .pre .0 .0, g .held), (omega (arith, g .short, g .size, c .before .before .before .before .before .loop-test .taken, p .pre .1 .0), p .pre .1 .1)))  -- see-struck-requires
     (λ c. omega (arith, c .before .before .before .before .before .before .before .before .before .before .before .before .before .before .loop-test .taken, c .before .before .before .before .before .before .before .before .before .before .before .before .before .before .before .before .before .before .before .before .before .good .1 .1 .1 .1 .1 .1 .0 .0))
     (λ c. omega (arith, c .before .before .before .before .before .before .before .before .before .before .before .before .before .before .loop-test .taken))
-    loop-again
+    (λ c.
+    let r = c .before .before .before .before .before .before .before .before in
+    let l = r .before .before .before .before .before .before .before in
+    let k = r .see-struck .kept .1 .1 in
+    strikes-again _ _ _ (l .loop .inv) (r .before .before .before .before .before .before .loop-test .taken) (r .see-struck .ensures)
+    (k .1 .1 .1 .1 .1 .0) (k .0) (k .1 .0) (k .1 .1 .0))  -- loop-again
     (λ c. c .before .loop .inv .longs)
     (λ c. c .before .loop .inv .words)
     (λ c. c .before .loop .inv .marks)

@@ -6,24 +6,18 @@ use Rattle.turns.proofs.Noting.{tells}
 use Rattle.rounds.proofs.demand3.tell.Statement.{statement}
 use Rattle.rounds.proofs.demand3.tell.Tie as tie
 
-add-result : tie.Need-add-result
-add-result c =
-    let w = c .before .before in
-    let p = w .before .before .before in
-    let k = was-stored (p .args .events .now) (p .args .out) _ (w .write-told .ensures .0) (p .pre) in
-    omega (arith, k .0)
-
-returns : tie.Need-returns
-returns c =
-    let w = c .before .before in
-    let p = w .before .before .before in
-    tells (p .args .events .now) (p .args .out) (p .args .told) (p .pre) (w .write-told .ensures .0) (w .write-told .ensures .1)
-
 pub tell-spec : {M : Type 1} → statement M
 tell-spec =
     tie.close
     (tie.spec
     (λ c κs. search needs)
-    add-result
+    (λ c.
+    let w = c .before .before in
+    let p = w .before .before .before in
+    let k = was-stored (p .args .events .now) (p .args .out) _ (w .write-told .ensures .0) (p .pre) in
+    omega (arith, k .0))  -- add-result
     (λ c. search needs)
-    returns)
+    (λ c.
+    let w = c .before .before in
+    let p = w .before .before .before in
+    tells (p .args .events .now) (p .args .out) (p .args .told) (p .pre) (w .write-told .ensures .0) (w .write-told .ensures .1)))  -- returns

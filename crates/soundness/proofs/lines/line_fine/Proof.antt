@@ -19,12 +19,10 @@ line-fine-spec =
     (λ c. search needs)  -- shared-slice-read-cycle
     (λ c.
     let pre = c .before .before .before .before .before .before .pre in
-    let room = taken-room (pre .0) (pre .1) _ (pre .2) in
-    omega arith)  -- add-taken
+    omega (arith, taken-room (pre .0) (pre .1) _ (pre .2)))  -- add-taken
     (λ c.
     let pre = c .before .before .before .before .before .before .pre in
-    let room = taken-room (pre .0) (pre .1) _ (pre .2) in
-    omega arith)  -- mul-taken
+    omega (arith, taken-room (pre .0) (pre .1) _ (pre .2)))  -- mul-taken
     (λ c.
     let pre = c .before .before .before .before .before .before .before .pre in
     taken-room (pre .0) (pre .1) _ (pre .2) .inside)  -- shared-slice-read-taken

@@ -2,10 +2,9 @@
 use mathlib.Core.Path.{refl, _∙_}
 use native.Mathlib.Omega.{arith}
 use borrow.Author.Needs.{needs}
-use Prim.Native.Nat.{_-_, _*_}
-use Rattle.model.specs.Range.{linesOf}
+use Prim.Native.Nat.{_-_}
 use Rattle.soundness.proofs.Tests.{Joined, joined-more, joined-end}
-use Rattle.soundness.proofs.OfSectors.{maskRead, masks-joined}
+use Rattle.soundness.proofs.OfSectors.{maskRead}
 use Rattle.soundness.proofs.lines.masks_shaped.Statement.{statement}
 use Rattle.soundness.proofs.lines.masks_shaped.Tie as tie
 
@@ -31,7 +30,4 @@ masks-shaped-spec =
     (λ c. omega arith)  -- add-i
     (λ c. omega arith)  -- loop-less
     (λ c. let body = c .before .before .before .before .before in joined-more _ _ _ (body .loop-test .taken) refl (body .before .loop .inv))  -- loop-again
-    (λ c.
-    let start = c .before .before .before in
-    let a = start .args in
-    joined-end _ _ _ (c .loop-test .left) (c .before .loop .inv) ∙ masks-joined (a .s) (start .pre .0) (a .words .now) (a .marks .now) (4 * linesOf (a .s))))  -- returns
+    (λ c. let start = c .before .before .before in joined-end _ _ _ (c .loop-test .left) (c .before .loop .inv) ∙ rw (start .pre .0 .readables, start .pre .0 .masks)))  -- returns

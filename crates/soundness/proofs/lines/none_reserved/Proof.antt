@@ -3,8 +3,7 @@ use mathlib.Core.Bool.{not}
 use native.Mathlib.Omega.{arith}
 use borrow.Author.Needs.{needs}
 use lib.Dec.{eqb}
-use Prim.Native.Nat.{_+_, _-_, _≤_}
-use lib.ListN.{length}
+use Prim.Native.Nat.{_+_, _-_}
 use Rattle.model.specs.Lent.{statusAt}
 use Rattle.soundness.proofs.Tests.{Joined, joined-more, joined-end}
 use Rattle.soundness.proofs.lines.none_reserved.Statement.{statement}

@@ -1,7 +1,6 @@
 -- All groups passed are backed, then the rest.
 use mathlib.Core.Path.{refl}
 use native.Mathlib.Omega.{arith}
-use borrow.Author.Needs.{needs}
 use Prim.Native.Nat.{_+_, _-_, _*_}
 use Rattle.words.specs.Words.{every}
 use Rattle.model.specs.Range.{linesOf}

@@ -1,6 +1,5 @@
 use mathlib.Core.Path.{sym, _∙_}
 use borrow.Author.Needs.{needs}
-use native.Mathlib.Omega.{arith}
 use Rattle.soundness.proofs.OfSectors.{none-backed}
 use Rattle.soundness.proofs.lines.sixteen_backed.Statement.{statement}
 use Rattle.soundness.proofs.lines.sixteen_backed.Tie as tie

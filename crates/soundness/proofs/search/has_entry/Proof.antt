@@ -7,7 +7,7 @@ use borrow.Author.Needs.{needs}
 use borrow.Author.Tests.{eq-eqb, ne-eqb}
 use Prim.Native.Nat.{_-_}
 use Rattle.words.proofs.Below.{Sought, sought-stop, sought-more, sought-end}
-use Rattle.soundness.proofs.OfSearch.{entryRead, entry-sought}
+use Rattle.soundness.proofs.OfSearch.{entryRead}
 use Rattle.soundness.proofs.search.has_entry.Statement.{statement}
 use Rattle.soundness.proofs.search.has_entry.Tie as tie
 
@@ -34,7 +34,7 @@ has-entry-spec =
     let a = start .args in
     let e = body .before .loop .e in
     let yes : entryRead (a .at) (a .longs .now) (a .marks .now) (a .a .0) e ≡ true = rw (ne-eqb _ _ (c .if2 .taken), eq-eqb _ _ (asked .if1 .taken)) in
-    sought-stop (entryRead (a .at) (a .longs .now) (a .marks .now) (a .a .0)) _ _ (body .loop-test .taken) refl yes ∙ entry-sought (a .s) (start .pre .0) (a .longs .now) (a .words .now) (a .marks .now) (a .a .0) (a .n))  -- returns
+    sought-stop (entryRead (a .at) (a .longs .now) (a .marks .now) (a .a .0)) _ _ (body .loop-test .taken) refl yes ∙ rw (start .pre .0 .counts, start .pre .0 .misses))  -- returns
     (λ c. omega arith)  -- add-e
     (λ c. omega arith)  -- loop-less
     (λ c.
@@ -46,5 +46,4 @@ has-entry-spec =
     sought-more _ _ _ (body .loop-test .taken) refl no (body .before .loop .inv))  -- loop-again
     (λ c.
     let start = c .before .before in
-    let a = start .args in
-    sought-end _ _ _ (c .loop-test .left) (c .before .loop .inv) ∙ entry-sought (a .s) (start .pre .0) (a .longs .now) (a .words .now) (a .marks .now) (a .a .0) (a .n)))  -- returns-2
+    sought-end _ _ _ (c .loop-test .left) (c .before .loop .inv) ∙ rw (start .pre .0 .counts, start .pre .0 .misses)))  -- returns-2

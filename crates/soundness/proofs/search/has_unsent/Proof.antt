@@ -7,7 +7,7 @@ use borrow.Author.Needs.{needs}
 use borrow.Author.Tests.{eq-eqb, ne-eqb}
 use Prim.Native.Nat.{_-_}
 use Rattle.words.proofs.Below.{Sought, sought-stop, sought-more, sought-end}
-use Rattle.soundness.proofs.OfSearch.{unsentRead, unsent-sought}
+use Rattle.soundness.proofs.OfSearch.{unsentRead}
 use Rattle.soundness.proofs.search.has_unsent.Statement.{statement}
 use Rattle.soundness.proofs.search.has_unsent.Tie as tie
 
@@ -36,7 +36,7 @@ has-unsent-spec =
     let a = start .args in
     let e = body .before .loop .e in
     let yes : unsentRead (a .at) (a .longs .now) (a .marks .now) (a .a .0) e ≡ true = rw (c .if2 .taken, eq-eqb _ _ (asked .if1 .taken)) in
-    sought-stop (unsentRead (a .at) (a .longs .now) (a .marks .now) (a .a .0)) _ _ (body .loop-test .taken) refl yes ∙ unsent-sought (a .s) (start .pre .0) (a .longs .now) (a .words .now) (a .marks .now) (a .a .0) (a .s .misses))  -- returns
+    sought-stop (unsentRead (a .at) (a .longs .now) (a .marks .now) (a .a .0)) _ _ (body .loop-test .taken) refl yes ∙ rw (start .pre .0 .counts, start .pre .0 .sent, start .pre .0 .misses))  -- returns
     (λ c. omega arith)  -- add-e
     (λ c. omega arith)  -- loop-less
     (λ c.
@@ -48,5 +48,4 @@ has-unsent-spec =
     sought-more _ _ _ (body .loop-test .taken) refl no (body .before .loop .inv))  -- loop-again
     (λ c.
     let start = c .before .before in
-    let a = start .args in
-    sought-end _ _ _ (c .loop-test .left) (c .before .loop .inv) ∙ unsent-sought (a .s) (start .pre .0) (a .longs .now) (a .words .now) (a .marks .now) (a .a .0) (a .s .misses)))  -- returns-2
+    sought-end _ _ _ (c .loop-test .left) (c .before .loop .inv) ∙ rw (start .pre .0 .counts, start .pre .0 .sent, start .pre .0 .misses)))  -- returns-2

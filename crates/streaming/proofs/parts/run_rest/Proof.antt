@@ -25,16 +25,6 @@ Inv-loop fd s buf₀ longs₀ words₀ marks₀ scope laid events₀ w₀ buf lo
 abbrev μ-loop : tie.MeasureT-loop
 μ-loop fd s buf₀ longs₀ words₀ marks₀ scope laid events₀ w₀ buf longs words marks events w = turnsOf (w .next) (w .have) (w .left)
 
--- that the loop goes on, or does not, is `cc`'s to find: the call that says so is not named, so that another call there is refused for what it says
-turn-requires : tie.Need-turn-requires Inv-loop μ-loop
-turn-requires c κs =
-    let at = c .before .before .before .before .before .before .before in
-    let i = at .loop .inv in
-    ((at .before .before .before .laid-out .ensures, i .5), (cc, omega (arith, i .4)))
-
-returns : tie.Need-returns Inv-loop μ-loop
-returns c = let i = c .before .before .before .loop .inv in record { ready = i .5; over = cc; claims = i .6; came = i .7 }
-
 pub run-rest-spec : {M : Type 1} → statement M
 run-rest-spec =
     tie.close
@@ -48,7 +38,11 @@ run-rest-spec =
     let a = c .before .before .before .before .before .before .before in
     (refl, refl, refl, refl, sym (c .before .large-buffer .ensures), a .pre .0, a .pre .1, start-came 65536 (a .pre .0)))
     (λ c κs. search needs)
-    turn-requires
+    -- that the loop goes on, or does not, is `cc`'s to find: the call that says so is not named, so that another call there is refused for what it says
+    (λ c κs.
+    let at = c .before .before .before .before .before .before .before in
+    let i = at .loop .inv in
+    ((at .before .before .before .laid-out .ensures, i .5), (cc, omega (arith, i .4))))  -- turn-requires
     (λ c. c .before .before .before .before .before .before .before .before .before .before .turn .ensures .fewer)
     (λ c.
     let t = c .before .before .before .before .before .before .before .before .before .before in
@@ -67,4 +61,4 @@ run-rest-spec =
     (λ c. search needs)
     (λ c. search needs)
     (λ c. search needs)
-    returns)
+    (λ c. let i = c .before .before .before .loop .inv in record { ready = i .5; over = cc; claims = i .6; came = i .7 }))  -- returns

@@ -7,16 +7,6 @@ use Rattle.streaming.specs.Scopes.{partEnd}
 use Rattle.streaming.proofs.scope.part_end.Statement.{statement}
 use Rattle.streaming.proofs.scope.part_end.Tie as tie
 
-returns : tie.Need-returns
-returns c =
-    let s = c .before .before .before .args .s .now in
-    (ap (λ (k : Scope). partEnd k s) (sym (c .enum-told .given .1)), omega arith)
-
-returns-2 : tie.Need-returns-2
-returns-2 c =
-    let s = c .before .before .before .before .args .s .now in
-    (c .last-start .ensures .0 ∙ ap (λ (k : Scope). partEnd k s) (sym (c .before .enum-told2 .given .1)), c .last-start .ensures .1)
-
 pub part-end-spec : {M : Type 1} → statement M
 part-end-spec =
     tie.close
@@ -24,5 +14,9 @@ part-end-spec =
     (λ c. search needs)
     (λ c. search needs)
     (λ c κs. search needs)
-    returns
-    returns-2)
+    (λ c.
+    let s = c .before .before .before .args .s .now in
+    (ap (λ (k : Scope). partEnd k s) (sym (c .enum-told .given .1)), omega arith))  -- returns
+    (λ c.
+    let s = c .before .before .before .before .args .s .now in
+    (c .last-start .ensures .0 ∙ ap (λ (k : Scope). partEnd k s) (sym (c .before .enum-told2 .given .1)), c .last-start .ensures .1)))  -- returns-2

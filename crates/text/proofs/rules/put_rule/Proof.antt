@@ -1,24 +1,13 @@
 -- A byte with a name, and one without.
-use mathlib.Core.Path.{_∙_}
+use mathlib.Core.Path.{sym, _∙_}
 use borrow.Author.Needs.{needs}
-use Rattle.text.proofs.RuleNames.{has-row, named, unnamed}
+use Rattle.text.proofs.RuleNames.{has-row}
+use Rattle.text.specs.Rules.{ruleName}
 use Rattle.text.proofs.rules.put_rule.Statement.{statement}
 use Rattle.text.proofs.rules.put_rule.Tie as tie
 
-returns : tie.Need-returns
-returns c =
-    let p = c .before .before in
-    let n = p .before .before in
-    let t = n .before .before .before in
-    named _ (t .before .has-name .ensures) (t .if1 .taken) (p .put-text .ensures) (n .name-in .ensures ∙ n .before .before .row-of .ensures)
-
-returns-2 : tie.Need-returns-2
-returns-2 c =
-    let p = c .before .before in
-    let t = p .before .before in
-    unnamed _ (t .before .has-name .ensures) (t .if1 .left) (p .put-decimal .ensures)
-
 pub put-rule-spec : {M : Type 1} → statement M
+unfolding ruleName
 put-rule-spec =
     tie.close
     (tie.spec
@@ -27,7 +16,14 @@ put-rule-spec =
     (λ c κs. search needs)
     (λ c κs. search needs)
     (λ c. search needs)
-    returns
+    (λ c.
+    let p = c .before .before in
+    let n = p .before .before in
+    let t = n .before .before .before in
+    rw (sym (t .before .has-name .ensures) ∙ t .if1 .taken, ← (n .name-in .ensures ∙ n .before .before .row-of .ensures)) (p .put-text .ensures))  -- returns
     (λ c κs. search needs)
     (λ c. search needs)
-    returns-2)
+    (λ c.
+    let p = c .before .before in
+    let t = p .before .before in
+    rw (sym (t .before .has-name .ensures) ∙ t .if1 .left) (p .put-decimal .ensures)))  -- returns-2

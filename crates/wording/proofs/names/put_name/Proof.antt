@@ -5,13 +5,6 @@ use borrow.Author.Needs.{needs}
 use Rattle.wording.proofs.names.put_name.Statement.{statement}
 use Rattle.wording.proofs.names.put_name.Tie as tie
 
-returns : tie.Need-returns
-returns c =
-    let p = c .before .before in
-    let f = p .before .before in
-    let e = f .before .before in
-    rw (← (e .before .before .row-of .ensures)) (rw (f .front .ensures, e .line-end .ensures, zero-add) at (p .put-text .ensures))
-
 pub put-name-spec : {M : Type 1} → statement M
 put-name-spec =
     tie.close
@@ -23,4 +16,8 @@ put-name-spec =
     (λ c κs. search needs)  -- front-requires
     (λ c κs. search needs)  -- put-text-requires
     (λ c. search needs)  -- same-length
-    returns)
+    (λ c.
+    let p = c .before .before in
+    let f = p .before .before in
+    let e = f .before .before in
+    rw (← (e .before .before .row-of .ensures)) (rw (f .front .ensures, e .line-end .ensures, zero-add) at (p .put-text .ensures))))  -- returns

@@ -20,13 +20,20 @@ Inv-loop line values out₀ at a₀ start₀ i₀ k₀ out a start i k = (start 
 abbrev μ-loop : tie.MeasureT-loop
 μ-loop line values out₀ at a₀ start₀ i₀ k₀ out a start i k = length line - i
 
-loop-holds : tie.Need-loop-holds Inv-loop μ-loop
-loop-holds c =
+pub put-line-spec : {M : Type 1} → statement M
+put-line-spec =
+    tie.close
+    (tie.spec
+    Inv-loop
+    μ-loop
+    (λ c.
     let a = c .before .before .before .args in
-    (omega arith, omega arith, omega arith, search needs, ap (λ (ps : List (List ℕ)). withPieces ps (page (a .out .now) (a .at))) (rest-start _ _))
-
-loop-again : tie.Need-loop-again Inv-loop μ-loop
-loop-again c =
+    (omega arith, omega arith, omega arith, search needs, ap (λ (ps : List (List ℕ)). withPieces ps (page (a .out .now) (a .at))) (rest-start _ _)))  -- loop-holds
+    (λ c. search needs)  -- shared-slice-read-c
+    (λ c κs. search needs)  -- is-mark-requires
+    (λ c. search needs)  -- add-i
+    (λ c. search needs)  -- loop-less
+    (λ c.
     let m = c .before in
     let l = m .before .before in
     let v = l .before .loop .inv in (
@@ -36,10 +43,15 @@ loop-again c =
       v .3,
       ap (λ (ps : List (List ℕ)). withPieces ps (page (l .before .loop .out) (l .before .loop .a)))
           (sym (word-on _ _ _ _ _ (m .is-mark .ensures) (v .0) (l .loop-test .taken) (not-yes (c .if1 .taken)))) ∙ v .4,
-    )
-
-loop-again-2 : tie.Need-loop-again-2 Inv-loop μ-loop
-loop-again-2 c =
+    ))  -- loop-again
+    (λ c κs. search needs)  -- part-requires
+    (λ c κs. search needs)  -- put-text-requires
+    (λ c κs. search needs)  -- value-at-requires
+    (λ c κs. search needs)  -- put-value-requires
+    (λ c. search needs)  -- add-k
+    (λ c. search needs)  -- add-i-2
+    (λ c. search needs)  -- loop-less-2
+    (λ c.
     let p = c .before .before in
     let n = p .before .before in
     let t = n .before .before .before in
@@ -52,36 +64,12 @@ loop-again-2 c =
       omega arith,
       search needs,
       mark-on _ _ _ _ _ (m .is-mark .ensures) (v .0) (l .loop-test .taken) (no-not (q .before .if1 .left)) (q .part .ensures) (n .value-at .ensures) (t .put-text .ensures) (p .put-value .ensures) ∙ v .4,
-    )
-
-returns : tie.Need-returns Inv-loop μ-loop
-returns c =
-    let t = c .before .before in
-    let q = t .before .before in
-    let l = q .before in
-    page-puts (rest-end _ _ _ _ _ (l .loop-test .left) (q .part2 .ensures) (t .put-text2 .ensures) ∙ l .before .loop .inv .4)
-
-pub put-line-spec : {M : Type 1} → statement M
-put-line-spec =
-    tie.close
-    (tie.spec
-    Inv-loop
-    μ-loop
-    loop-holds
-    (λ c. search needs)  -- shared-slice-read-c
-    (λ c κs. search needs)  -- is-mark-requires
-    (λ c. search needs)  -- add-i
-    (λ c. search needs)  -- loop-less
-    loop-again
-    (λ c κs. search needs)  -- part-requires
-    (λ c κs. search needs)  -- put-text-requires
-    (λ c κs. search needs)  -- value-at-requires
-    (λ c κs. search needs)  -- put-value-requires
-    (λ c. search needs)  -- add-k
-    (λ c. search needs)  -- add-i-2
-    (λ c. search needs)  -- loop-less-2
-    loop-again-2
+    ))  -- loop-again-2
     (λ c κs. search needs)  -- part-requires-2
     (λ c κs. search needs)  -- put-text-requires-2
     (λ c. search needs)  -- same-length
-    returns)
+    (λ c.
+    let t = c .before .before in
+    let q = t .before .before in
+    let l = q .before in
+    page-puts (rest-end _ _ _ _ _ (l .loop-test .left) (q .part2 .ensures) (t .put-text2 .ensures) ∙ l .before .loop .inv .4)))  -- returns
