@@ -26,23 +26,26 @@ offer-read-spec =
     tie.close
     (tie.spec
     (λ c κs. search needs)  -- is-hit-requires
+    -- act-hit-requires
     (λ c κs.
     let start = c .before .before .before .before .before .before in
     let a = start .args in
     let m = start .pre .1 .met in
     let fit = is-fit _ _ _ (m .is) in
     let room = tree-room (start .pre .0) fit (setIndex (a .s) (addressOf (a .x))) (set-below (a .s) (m .is .range) (addressOf (a .x))) in
-    (omega (arith, m .below), omega (arith, m .below), room .inside, room .small, fit .sets, fit .power, fit .tree))  -- act-hit-requires
+    (omega (arith, m .below), omega (arith, m .below), room .inside, room .small, fit .sets, fit .power, fit .tree))
     (λ c. search needs)  -- same-length
+    -- returns
     (λ c. record {
       on = λ t p m.
           let acted = c .before .before in
           let then = acted .before .before in
           let start = then .before .before .before .before .before in
           hit-offered _ _ _ t p m (start .pre .0) (rw (start .pre .4) (sym (then .before .is-hit .ensures) ∙ then .if1 .taken)) (acted .act-hit .ensures .0) (acted .act-hit .ensures .1);
-    })  -- returns
+    })
     (λ c κs. c .before .before .before .before .before .before .before .before .pre)  -- course-of-requires
     (λ c κs. search needs)  -- going-requires
+    -- act-read-requires
     (λ c κs.
     let then = c .before .before .before in
     let course = then .before .before in
@@ -60,10 +63,11 @@ offer-read-spec =
         };
       },
       start .pre .4,
-    ))  -- act-read-requires
+    ))
     (λ c. search needs)  -- same-length-2
     (λ c. search needs)  -- same-length-3
     (λ c. search needs)  -- same-length-4
+    -- returns-2
     (λ c. record {
       on = λ t p m.
           let acted = c .before .before .before .before .before .before in
@@ -74,15 +78,16 @@ offer-read-spec =
           let goes = sym (then .before .going .ensures) ∙ then .if2 .taken in
           offered-acts _ _ _ t p m planned goes (acted .act-read .ensures .on t p
           (record { met = m; counted = queue-counted _ t (m .is) (start .pre .0) (start .pre .2); planned = planned; going = goes }));
-    })  -- returns-2
+    })
     (λ c κs. search needs)  -- refusal-in-requires
     (λ c κs. search needs)  -- refused-requires
     (λ c. search needs)  -- same-length-5
     (λ c. search needs)  -- same-length-6
     (λ c. search needs)  -- same-length-7
+    -- returns-3
     (λ c. record {
       on = λ t p m.
           let else = c .before .before in
           offered-stops _ _ _ t p m (else .before .before .course-of .ensures .on t p m) (sym (else .before .going .ensures) ∙ else .if2 .left)
           (c .refused .ensures ∙ ap (λ (n : Refusal). telling (event.Refused n)) (c .before .refusal-in .ensures));
-    }))  -- returns-3
+    }))

@@ -18,6 +18,7 @@ offer-write-spec =
     (λ c κs. search needs)  -- back-needed-requires
     (λ c. let start = c .before .before .before .before in let f = is-fit _ _ _ (start .pre .1 .met .is) in omega (arith, start .pre .2 .most, c .back-needed .ensures .1))  -- add-if1
     (λ c κs. search needs)  -- refused-requires
+    -- returns
     (λ c. record {
       on = λ t p m.
           let needed = c .before .before .before in
@@ -25,7 +26,8 @@ offer-write-spec =
           let asked = write-needs (start .args .x) (start .args .d) (start .pre .3) (needed .back-needed .ensures .0) in
           let counted = queue-counted _ t (m .is) (start .pre .0) (start .pre .2) in
           offered-stops _ _ _ t p m (course-full _ _ _ t p m counted asked (c .before .if1 .taken)) refl (c .refused .ensures);
-    })  -- returns
+    })
+    -- act-write-requires
     (λ c κs.
     let needed = c .before .before .before .before .before in
     let start = needed .before .before .before .before in
@@ -39,10 +41,11 @@ offer-write-spec =
         acts = record { met = pre .met; counted = counted; planned = course-write _ _ _ _ _ (pre .met) counted asked (c .before .before .before .if1 .left) (start .pre .3); going = refl };
       },
       start .pre .3,
-    ))  -- act-write-requires
+    ))
     (λ c. search needs)  -- same-length
     (λ c. search needs)  -- same-length-2
     (λ c. search needs)  -- same-length-3
+    -- returns-2
     (λ c. record {
       on = λ t p m.
           let needed = c .before .before .before .before .before .before .before .before .before .before .before .before in
@@ -51,4 +54,4 @@ offer-write-spec =
           let counted = queue-counted _ t (m .is) (start .pre .0) (start .pre .2) in
           let planned = course-write _ _ _ t p m counted asked (c .before .before .before .before .before .before .before .before .before .before .if1 .left) (start .pre .3) in
           offered-acts _ _ _ t p m planned refl (c .before .before .before .before .before .before .act-write .ensures .on t p (record { met = m; counted = counted; planned = planned; going = refl }));
-    }))  -- returns-2
+    }))

@@ -8,26 +8,27 @@ pub read-once-spec : {M : Type 1} → statement M
 read-once-spec =
     tie.close
     (tie.spec
-    (λ c κs. search needs)
-    (λ c. search needs)
-    (λ c κs. search needs)
-    (λ c. search needs)
-    (λ c κs. search needs)
-    (λ c. search needs)
-    (λ c κs. search needs)
-    (λ c. search needs)
-    (λ c κs. search needs)
-    (λ c. search needs)
-    (λ c. search needs)
+    (λ c κs. search needs)  -- read-more-requires
+    (λ c. search needs)  -- enum-known-have
+    (λ c κs. search needs)  -- whole-lines-requires
+    (λ c. search needs)  -- enum-known-end
+    (λ c κs. search needs)  -- last-line-requires
+    (λ c. search needs)  -- enum-told
+    (λ c κs. search needs)  -- stopped-requires
+    (λ c. search needs)  -- enum-told-2
+    (λ c κs. search needs)  -- stopped-requires-2
+    (λ c. search needs)  -- same-length
+    (λ c. search needs)  -- same-length-2
+    -- returns
     (λ c.
     let b = c .before .before .before .before in
     let h = b .before .before .before .before in
     let r = h .before .before .before .before in
     rw (b .whole-lines .ensures) (turns-fall (r .read-more .ensures) (h .have .given .1) (b .whole-lines .result .more)))
-    (λ c. search needs)
-    (λ c. search needs)
-    (λ c. let s = c .before .before in turns-none (s .last-line .result .more) _ _ (s .last-line .ensures))
-    (λ c. search needs)
-    (λ c. turns-none (c .stopped .result .more) _ _ (c .stopped .ensures .0))
-    (λ c. search needs)
-    (λ c. turns-none (c .stopped2 .result .more) _ _ (c .stopped2 .ensures .0)))
+    (λ c. search needs)  -- same-length-3
+    (λ c. search needs)  -- same-length-4
+    (λ c. let s = c .before .before in turns-none (s .last-line .result .more) _ _ (s .last-line .ensures))  -- returns-2
+    (λ c. search needs)  -- same-length-5
+    (λ c. turns-none (c .stopped .result .more) _ _ (c .stopped .ensures .0))  -- returns-3
+    (λ c. search needs)  -- same-length-6
+    (λ c. turns-none (c .stopped2 .result .more) _ _ (c .stopped2 .ensures .0)))  -- returns-4

@@ -15,20 +15,18 @@ abbrev μ-loop : tie.MeasureT-loop
 pub whole-lines-spec : {M : Type 1} → statement M
 whole-lines-spec =
     tie.close
-    (tie.spec
-    Inv-loop
-    μ-loop
-    (λ c. refl)
-    (λ c κs. search needs)
-    (λ c κs. search needs)
-    (λ c κs. search needs)
-    (λ c κs. search needs)
-    (λ c. search needs)
-    (λ c. search needs)
-    (λ c. search needs)
-    (λ c κs. search needs)
-    (λ c κs. search needs)
-    (λ c κs. search needs)
-    (λ c. search needs)
-    (λ c. search needs)
-    (λ c. search needs))
+    (tie.spec Inv-loop μ-loop
+    (λ c. refl)  -- loop-holds
+    (λ c κs. search needs)  -- front-requires
+    (λ c κs. search needs)  -- line-end-requires
+    (λ c κs. search needs)  -- part-requires
+    (λ c κs. search needs)  -- one-line-requires
+    (λ c. search needs)  -- add-at
+    (λ c. search needs)  -- loop-less
+    (λ c. search needs)  -- loop-again
+    (λ c κs. search needs)  -- carry-requires
+    (λ c κs. search needs)  -- front-requires-2
+    (λ c κs. search needs)  -- part-line-requires
+    (λ c. search needs)  -- same-length
+    (λ c. search needs)  -- same-length-2
+    (λ c. search needs))  -- returns

@@ -10,9 +10,9 @@ unfolding fillFrom
 fill-line-spec =
     tie.close
     (tie.spec
-    (λ c κs. search needs)
-    (λ c. search needs)
-    (λ c. search needs)
+    (λ c κs. search needs)  -- number-next-requires
+    (λ c. search needs)  -- enum-known-address
+    (λ c. search needs)  -- enum-told
     (λ c. rw (sym (c .before .before .number-next .ensures) ∙ c .enum-told .given .1))  -- returns
-    (λ c κs. search needs)
+    (λ c κs. search needs)  -- ended-requires
     (λ c. let v = c .before .before in rw (sym (v .before .before .number-next .ensures) ∙ v .address .given .1) (c .ended .ensures)))  -- returns-2

@@ -99,31 +99,31 @@ pub parse-line-spec : {M : Type 1} → statement M
 parse-line-spec =
     tie.close
     (tie.spec
-    (λ c κs. search needs)
-    (λ c κs. search needs)
-    (λ c. let e = c .before in rw (line-opened _ (e .before .skip-spaces .ensures) (e .word-end .ensures), eq-eqb _ _ (c .if1 .taken)))
-    (λ c. search needs)
-    (λ c κs. search needs)
-    (λ c κs. search needs)
+    (λ c κs. search needs)  -- skip-spaces-requires
+    (λ c κs. search needs)  -- word-end-requires
+    (λ c. let e = c .before in rw (line-opened _ (e .before .skip-spaces .ensures) (e .word-end .ensures), eq-eqb _ _ (c .if1 .taken)))  -- returns
+    (λ c. search needs)  -- slice-aggregate-word-is
+    (λ c κs. search needs)  -- word-is-requires
+    (λ c κs. search needs)  -- settings-line-requires
     returns-2
-    (λ c. search needs)
-    (λ c κs. search needs)
-    (λ c κs. search needs)
+    (λ c. search needs)  -- slice-aggregate-word-is-2
+    (λ c κs. search needs)  -- word-is-requires-2
+    (λ c κs. search needs)  -- read-line-requires
     returns-3
-    (λ c. search needs)
-    (λ c κs. search needs)
-    (λ c κs. search needs)
+    (λ c. search needs)  -- slice-aggregate-word-is-3
+    (λ c κs. search needs)  -- word-is-requires-3
+    (λ c κs. search needs)  -- write-line-requires
     returns-4
-    (λ c. search needs)
-    (λ c κs. search needs)
-    (λ c κs. search needs)
+    (λ c. search needs)  -- slice-aggregate-word-is-4
+    (λ c κs. search needs)  -- word-is-requires-4
+    (λ c κs. search needs)  -- ended-requires
     returns-5
-    (λ c. search needs)
-    (λ c κs. search needs)
-    (λ c κs. search needs)
+    (λ c. search needs)  -- slice-aggregate-word-is-5
+    (λ c κs. search needs)  -- word-is-requires-5
+    (λ c κs. search needs)  -- fill-line-requires
     returns-6
-    (λ c. search needs)
-    (λ c κs. search needs)
-    (λ c κs. search needs)
+    (λ c. search needs)  -- slice-aggregate-word-is-6
+    (λ c κs. search needs)  -- word-is-requires-6
+    (λ c κs. search needs)  -- tick-line-requires
     returns-7
     returns-8)

@@ -8,17 +8,19 @@ pub rule-value-spec : {M : Type 1} → statement M
 rule-value-spec =
     tie.close
     (tie.spec
-    (λ c κs. search needs)
-    (λ c κs. search needs)
-    (λ c. search needs)
-    (λ c. search needs)
-    (λ c κs. search needs)
-    (λ c. search needs)
-    (λ c κs. search needs)
+    (λ c κs. search needs)  -- skip-spaces-requires
+    (λ c κs. search needs)  -- rule-at-requires
+    (λ c. search needs)  -- enum-known-n
+    (λ c. search needs)  -- cast-t7
+    (λ c κs. search needs)  -- word-end-requires
+    (λ c. search needs)  -- enum-told
+    (λ c κs. search needs)  -- number-next-requires
+    -- returns
     (λ c.
     let n = c .before .before in
     let r = n .before .before in
     value-named _ _ (r .before .skip-spaces .ensures) (r .rule-at .ensures) (n .n .given .1) (c .word-end .ensures))
+    -- returns-2
     (λ c.
     let r = c .before .before .before in
     value-number _ _ (r .before .skip-spaces .ensures) (r .rule-at .ensures) (c .before .enum-told .given .1) (c .number-next .ensures)))

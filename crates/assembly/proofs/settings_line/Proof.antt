@@ -12,31 +12,33 @@ unfolding settingsFrom
 settings-line-spec =
     tie.close
     (tie.spec
-    (λ c. search needs)
-    (λ c κs. search needs)
-    (λ c. search needs)
-    (λ c. search needs)
+    (λ c. search needs)  -- slice-aggregate-field-next
+    (λ c κs. search needs)  -- field-next-requires
+    (λ c. search needs)  -- enum-known-sets
+    (λ c. search needs)  -- enum-told
     (λ c. rw (sym (c .before .before .field-next .ensures) ∙ c .enum-told .given .1))  -- returns
-    (λ c. search needs)
-    (λ c κs. search needs)
-    (λ c. search needs)
-    (λ c. search needs)
+    (λ c. search needs)  -- slice-aggregate-field-next-2
+    (λ c κs. search needs)  -- field-next-requires-2
+    (λ c. search needs)  -- enum-known-ways
+    (λ c. search needs)  -- enum-told-2
     (λ c. let f = c .before .before in let u = f .before .before .before in rw (sym (u .before .before .field-next .ensures) ∙ u .sets .given .1, sym (f .field-next2 .ensures) ∙ c .enum-told2 .given .1))  -- returns-2
-    (λ c. search needs)
-    (λ c κs. search needs)
-    (λ c. search needs)
-    (λ c. search needs)
+    (λ c. search needs)  -- slice-aggregate-field-next-3
+    (λ c κs. search needs)  -- field-next-requires-3
+    (λ c. search needs)  -- enum-known-dirty
+    (λ c. search needs)  -- enum-told-3
+    -- returns-3
     (λ c.
     let f = c .before .before in
     let v = f .before .before .before in
     let u = v .before .before .before .before .before in
-    rw (sym (u .before .before .field-next .ensures) ∙ u .sets .given .1, sym (v .before .before .field-next2 .ensures) ∙ v .ways .given .1, sym (f .field-next3 .ensures) ∙ c .enum-told3 .given .1))  -- returns-3
-    (λ c. let v1 = c .before .before .before .before .before .before .before .before .before .before .before in let h = field-most _ _ _ _ (sym (v1 .before .before .field-next .ensures) ∙ v1 .sets .given .1) in omega arith)
-    (λ c. let v2 = c .before .before .before .before .before .before in let h = field-most _ _ _ _ (sym (v2 .before .before .field-next2 .ensures) ∙ v2 .ways .given .1) in omega arith)
-    (λ c. let v3 = c .before in let h = field-most _ _ _ _ (sym (v3 .before .before .field-next3 .ensures) ∙ v3 .dirty .given .1) in omega arith)
-    (λ c κs. search needs)
+    rw (sym (u .before .before .field-next .ensures) ∙ u .sets .given .1, sym (v .before .before .field-next2 .ensures) ∙ v .ways .given .1, sym (f .field-next3 .ensures) ∙ c .enum-told3 .given .1))
+    (λ c. let v1 = c .before .before .before .before .before .before .before .before .before .before .before in let h = field-most _ _ _ _ (sym (v1 .before .before .field-next .ensures) ∙ v1 .sets .given .1) in omega arith)  -- cast-buffers-line
+    (λ c. let v2 = c .before .before .before .before .before .before in let h = field-most _ _ _ _ (sym (v2 .before .before .field-next2 .ensures) ∙ v2 .ways .given .1) in omega arith)  -- cast-buffers-line-2
+    (λ c. let v3 = c .before in let h = field-most _ _ _ _ (sym (v3 .before .before .field-next3 .ensures) ∙ v3 .dirty .given .1) in omega arith)  -- cast-buffers-line-3
+    (λ c κs. search needs)  -- buffers-line-requires
+    -- returns-4
     (λ c.
     let w = c .before .before in
     let v = w .before .before .before .before .before in
     let u = v .before .before .before .before .before in
-    rw (sym (u .before .before .field-next .ensures) ∙ u .sets .given .1, sym (v .before .before .field-next2 .ensures) ∙ v .ways .given .1, sym (w .before .before .field-next3 .ensures) ∙ w .dirty .given .1) (c .buffers-line .ensures)))  -- returns-4
+    rw (sym (u .before .before .field-next .ensures) ∙ u .sets .given .1, sym (v .before .before .field-next2 .ensures) ∙ v .ways .given .1, sym (w .before .before .field-next3 .ensures) ∙ w .dirty .given .1) (c .buffers-line .ensures)))

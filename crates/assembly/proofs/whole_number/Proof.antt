@@ -8,7 +8,7 @@ pub whole-number-spec : {M : Type 1} → statement M
 whole-number-spec =
     tie.close
     (tie.spec
-    (λ c. number-over _ _ _ _ (c .if1 .taken))
-    (λ c κs. search needs)
-    (λ c. number-whole _ _ _ _ (c .before .before .if1 .left) (c .before .word-end .ensures) (c .if2 .taken))
-    (λ c. number-stuck _ _ _ _ (c .before .before .if1 .left) (c .before .word-end .ensures) (c .if2 .left)))
+    (λ c. number-over _ _ _ _ (c .if1 .taken))  -- returns
+    (λ c κs. search needs)  -- word-end-requires
+    (λ c. number-whole _ _ _ _ (c .before .before .if1 .left) (c .before .word-end .ensures) (c .if2 .taken))  -- returns-2
+    (λ c. number-stuck _ _ _ _ (c .before .before .if1 .left) (c .before .word-end .ensures) (c .if2 .left)))  -- returns-3

@@ -16,16 +16,15 @@ abbrev μ-loop : tie.MeasureT-loop
 pub bill-all-spec : {M : Type 1} → statement M
 bill-all-spec =
     tie.close
-    (tie.spec
-    Inv-loop
-    μ-loop
-    (λ c κs. search needs)
-    (λ c. refl)
-    (λ c κs. search needs)
+    (tie.spec Inv-loop μ-loop
+    (λ c κs. search needs)  -- empty-bill-requires
+    (λ c. refl)  -- loop-holds
+    (λ c κs. search needs)  -- read-once-requires
+    -- loop-less
     (λ c.
     let r = c .before .before .before .before in
     let w = r .before .before .before .loop .w in
     turns-less (w .more) (w .left) _ (r .before .before .loop-test .taken) (r .read-once .ensures))
-    (λ c. search needs)
-    (λ c. search needs)
-    (λ c. search needs))
+    (λ c. search needs)  -- loop-again
+    (λ c. search needs)  -- same-length
+    (λ c. search needs))  -- returns

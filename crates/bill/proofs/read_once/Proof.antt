@@ -15,20 +15,20 @@ pub read-once-spec : {M : Type 1} → statement M
 read-once-spec =
     tie.close
     (tie.spec
-    (λ c κs. search needs)
-    (λ c. search needs)
-    (λ c κs. search needs)
-    (λ c. search needs)
-    (λ c κs. search needs)
-    (λ c. search needs)
-    (λ c κs. search needs)
-    (λ c. search needs)
-    (λ c κs. search needs)
-    (λ c. search needs)
+    (λ c κs. search needs)  -- read-more-requires
+    (λ c. search needs)  -- enum-known-have
+    (λ c κs. search needs)  -- bill-buffer-requires
+    (λ c. search needs)  -- enum-known-end
+    (λ c κs. search needs)  -- ended-requires
+    (λ c. search needs)  -- enum-told
+    (λ c κs. search needs)  -- stops-requires
+    (λ c. search needs)  -- enum-told-2
+    (λ c κs. search needs)  -- stops-requires-2
+    (λ c. search needs)  -- same-length
     returns
-    (λ c. search needs)
-    (λ c. search needs)
-    (λ c. search needs)
-    (λ c. search needs)
-    (λ c. search needs)
-    (λ c. search needs))
+    (λ c. search needs)  -- same-length-2
+    (λ c. search needs)  -- returns-2
+    (λ c. search needs)  -- same-length-3
+    (λ c. search needs)  -- returns-3
+    (λ c. search needs)  -- same-length-4
+    (λ c. search needs))  -- returns-4

@@ -10,9 +10,10 @@ pub count-spec : {M : Type 1} → statement M
 count-spec =
     tie.close
     (tie.spec
-    (λ c. search needs)
-    (λ c. search needs)
-    (λ c. search needs)
+    (λ c. search needs)  -- mul-result
+    (λ c. search needs)  -- element-copy-out-result
+    (λ c. search needs)  -- returns
+    -- returns-2
     (λ c.
     let h : length (c .before .args .t1 .counts) ≡ 27 = search needs in
     sym (List·getD-eq-default (c .before .args .t1 .counts) 0 {n = c .before .args .place} (omega arith))))

@@ -10,30 +10,30 @@ unfolding duesOf
 dues-of-spec =
     tie.close
     (tie.spec
-    (λ c. search needs)
-    (λ c κs. search needs)
-    (λ c. search needs)
-    (λ c κs. search needs)
-    (λ c. search needs)
-    (λ c κs. search needs)
-    (λ c. search needs)
-    (λ c. search needs)
-    (λ c κs. search needs)
-    (λ c. search needs)
-    (λ c κs. search needs)
-    (λ c. search needs)
-    (λ c κs. search needs)
-    (λ c. search needs)
-    (λ c κs. search needs)
-    (λ c. search needs)
-    (λ c κs. search needs)
-    (λ c. search needs)
-    (λ c κs. search needs)
-    (λ c κs. search needs)
-    (λ c. search needs)
-    (λ c κs. search needs)
-    (λ c. search needs)
-    (λ c κs. search needs)
+    (λ c. search needs)  -- enum-known-e
+    (λ c κs. search needs)  -- answer-number-requires
+    (λ c. search needs)  -- cast-one-and
+    (λ c κs. search needs)  -- one-and-requires
+    (λ c. search needs)  -- enum-known-e-2
+    (λ c κs. search needs)  -- refusal-number-requires
+    (λ c. search needs)  -- cast-one-and-2
+    (λ c. search needs)  -- add-one-and
+    (λ c κs. search needs)  -- one-and-requires-2
+    (λ c. search needs)  -- enum-told
+    (λ c κs. search needs)  -- one-requires
+    (λ c. search needs)  -- enum-told-2
+    (λ c κs. search needs)  -- one-requires-2
+    (λ c. search needs)  -- enum-told-3
+    (λ c κs. search needs)  -- one-requires-3
+    (λ c. search needs)  -- enum-told-4
+    (λ c κs. search needs)  -- one-requires-4
+    (λ c. search needs)  -- enum-known-e-3
+    (λ c κs. search needs)  -- dirty-bytes-requires
+    (λ c κs. search needs)  -- one-and-requires-3
+    (λ c. search needs)  -- enum-told-5
+    (λ c κs. search needs)  -- one-and-requires-4
+    (λ c. search needs)  -- enum-told-6
+    (λ c κs. search needs)  -- one-requires-5
     (λ c. rw (c .before .before .before .e .given .1, ← (c .before .answer-number .ensures)) (c .one-and .ensures))  -- returns
     (λ c. rw (c .before .before .before .e2 .given .1, ← (c .before .refusal-number .ensures)) (c .one-and2 .ensures))  -- returns-2
     (λ c. rw (c .before .enum-told .given .1) (c .one .ensures))  -- returns-3

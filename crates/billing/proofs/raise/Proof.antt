@@ -10,17 +10,19 @@ pub raise-spec : {M : Type 1} → statement M
 raise-spec =
     tie.close
     (tie.spec
-    (λ c. raised-full _ _ _ (c .if1 .taken))
-    (λ c. search needs)
-    (λ c. search needs)
-    (λ c. search needs)
-    (λ c κs. search needs)
+    (λ c. raised-full _ _ _ (c .if1 .taken))  -- returns
+    (λ c. search needs)  -- mul-sum
+    (λ c. search needs)  -- element-copy-out-sum
+    (λ c. search needs)  -- sub-if2
+    (λ c κs. search needs)  -- filled-up-requires
+    -- returns-2
     (λ c.
     let a = c .before .before .before .before .args in
     c .filled-up .ensures ∙ raised-over (a .bill) (a .place) (a .by) (c .before .before .before .if1 .left) (omega arith))
-    (λ c. search needs)
-    (λ c. search needs)
-    (λ c. search needs)
+    (λ c. search needs)  -- add-b
+    (λ c. search needs)  -- mul-b
+    (λ c. search needs)  -- element-write-b
+    -- returns-3
     (λ c.
     let a = c .before .before .before .args in
     raised-more (a .bill) (a .place) (a .by) (c .before .before .if1 .left) (omega arith)))

@@ -14,16 +14,14 @@ abbrev μ-loop : tie.MeasureT-loop
 pub run-spec : {M : Type 1} → statement M
 run-spec =
     tie.close
-    (tie.spec
-    Inv-loop
-    μ-loop
-    (λ c κs. search needs)
-    (λ c. tt)
-    (λ c κs. search needs)
-    (λ c κs. search needs)
-    (λ c κs. search needs)
-    (λ c. search needs)
-    (λ c. search needs)
-    (λ c. tt)
-    (λ c. search needs)
-    (λ c. search needs))
+    (tie.spec Inv-loop μ-loop
+    (λ c κs. search needs)  -- empty-bench-requires
+    (λ c. tt)  -- loop-holds
+    (λ c κs. search needs)  -- line-end-requires
+    (λ c κs. search needs)  -- part-requires
+    (λ c κs. search needs)  -- one-line-requires
+    (λ c. search needs)  -- add-at
+    (λ c. search needs)  -- loop-less
+    (λ c. tt)  -- loop-again
+    (λ c. search needs)  -- returns
+    (λ c. search needs))  -- returns-2

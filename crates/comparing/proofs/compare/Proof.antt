@@ -14,21 +14,22 @@ unfolding compared
 compare-spec =
     tie.close
     (tie.spec
-    (λ c κs. search needs)
-    (λ c. search needs)
-    (λ c. let n = c .before in rw (sym (n .before .before .check .ensures) ∙ n .number .given .1))
-    (λ c. search needs)
-    (λ c κs. search needs)
-    (λ c. search needs)
+    (λ c κs. search needs)  -- check-requires
+    (λ c. search needs)  -- enum-known-number
+    (λ c. let n = c .before in rw (sym (n .before .before .check .ensures) ∙ n .number .given .1))  -- returns
+    (λ c. search needs)  -- enum-told
+    (λ c κs. search needs)  -- check-requires-2
+    (λ c. search needs)  -- enum-known-number-2
+    -- returns-2
     (λ c.
     let n = c .before in
     let k = n .before .before in
     let t = k .before in
     rw (sym (t .before .before .check .ensures) ∙ t .enum-told .given .1, sym (k .check2 .ensures) ∙ n .number2 .given .1))
-    (λ c. search needs)
-    (λ c κs. search needs)
-    (λ c κs. search needs)
-    (λ c κs. search needs)
+    (λ c. search needs)  -- enum-told-2
+    (λ c κs. search needs)  -- skip-requires
+    (λ c κs. search needs)  -- skip-requires-2
+    (λ c κs. search needs)  -- compare-from-requires
     -- returns-3
     (λ c.
     let s2 = c .before in

@@ -10,7 +10,7 @@ pub is-event-spec : {M : Type 1} → statement M
 is-event-spec =
     tie.close
     (tie.spec
-    (λ c κs. search needs)
-    (λ c. event-command _ (sym (c .if1 .taken) ∙ c .before .is-command .ensures))
-    (λ c κs. search needs)
-    (λ c. event-other _ _ (sym (c .before .if1 .left) ∙ c .before .before .is-command .ensures) (c .length-of .ensures)))
+    (λ c κs. search needs)  -- is-command-requires
+    (λ c. event-command _ (sym (c .if1 .taken) ∙ c .before .is-command .ensures))  -- returns
+    (λ c κs. search needs)  -- length-of-requires
+    (λ c. event-other _ _ (sym (c .before .if1 .left) ∙ c .before .before .is-command .ensures) (c .length-of .ensures)))  -- returns-2

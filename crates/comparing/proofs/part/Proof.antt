@@ -10,13 +10,15 @@ pub part-spec : {M : Type 1} → statement M
 part-spec =
     tie.close
     (tie.spec
-    (λ c κs. search needs)
-    (λ c. search needs)
+    (λ c κs. search needs)  -- lower-requires
+    (λ c. search needs)  -- slice-aggregate-result
+    -- returns
     (λ c.
     let a = c .before .before .before .before .args in
     part-none (a .log .now) (a .from) (a .to) (omega (arith, c .before .before .lower .ensures)))
-    (λ c. search needs)
-    (λ c. let w = c .before .lower .ensures in omega arith)
+    (λ c. search needs)  -- part-result-start
+    (λ c. let w = c .before .lower .ensures in omega arith)  -- part-result-end
+    -- returns-2
     (λ c.
     let a = c .before .before .before .before .args in
     let e = c .before .before .lower .ensures in

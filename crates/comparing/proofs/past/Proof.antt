@@ -10,11 +10,11 @@ unfolding past recordEnd
 past-spec =
     tie.close
     (tie.spec
-    (λ c. search needs)
-    (λ c κs. search needs)
-    (λ c. search needs)
-    (λ c. search needs)
-    (λ c. search needs)
-    (λ c. search needs)
+    (λ c. search needs)  -- shared-slice-read-length-of
+    (λ c κs. search needs)  -- length-of-requires
+    (λ c. search needs)  -- cast-n
+    (λ c. search needs)  -- sub-if1
+    (λ c. search needs)  -- add-result
+    (λ c. search needs)  -- add-result-2
     (λ c. search needs)  -- returns
     (λ c. search needs))  -- returns-2

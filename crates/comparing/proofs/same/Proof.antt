@@ -17,19 +17,19 @@ abbrev μ-loop : tie.MeasureT-loop
 pub same-spec : {M : Type 1} → statement M
 same-spec =
     tie.close
-    (tie.spec
-    Inv-loop
-    μ-loop
-    (λ c. same-lengths _ _ (c .if1 .taken))
-    (λ c. (omega arith, c .if1 .left, refl))
-    (λ c. search needs)
-    (λ c. search needs)
+    (tie.spec Inv-loop μ-loop
+    (λ c. same-lengths _ _ (c .if1 .taken))  -- returns
+    (λ c. (omega arith, c .if1 .left, refl))  -- loop-holds
+    (λ c. search needs)  -- shared-slice-read-if2
+    (λ c. search needs)  -- shared-slice-read-if2-2
+    -- returns-2
     (λ c.
     let l = c .before .before .before in
     same-not _ _ (l .before .loop .i) (l .loop-test .taken) (c .if2 .taken) (l .before .loop .inv))
-    (λ c. search needs)
-    (λ c. search needs)
+    (λ c. search needs)  -- add-i
+    (λ c. search needs)  -- loop-less
+    -- loop-again
     (λ c.
     let l = c .before .before .before in
     same-more _ _ (l .before .loop .i) (l .loop-test .taken) (c .if2 .left) (l .before .loop .inv))
-    (λ c. let v = c .before .loop in same-over _ _ (v .i) (c .loop-test .left) (v .inv)))
+    (λ c. let v = c .before .loop in same-over _ _ (v .i) (c .loop-test .left) (v .inv)))  -- returns-3

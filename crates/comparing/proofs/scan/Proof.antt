@@ -17,21 +17,22 @@ abbrev μ-loop : tie.MeasureT-loop
 pub scan-spec : {M : Type 1} → statement M
 scan-spec =
     tie.close
-    (tie.spec
-    Inv-loop
-    μ-loop
-    (λ c. scans-start _)
-    (λ c κs. search needs)
+    (tie.spec Inv-loop μ-loop
+    (λ c. scans-start _)  -- loop-holds
+    (λ c κs. search needs)  -- wrong-at-requires
+    -- returns
     (λ c.
     let w = c .before in
     let l = w .before in
     scans-wrong _ (l .before .loop .at) _ (l .loop-test .taken) (w .wrong-at .ensures) (c .if1 .taken) (l .before .loop .inv))
-    (λ c κs. search needs)
+    (λ c κs. search needs)  -- past-requires
+    -- loop-less
     (λ c.
     let l = c .before .before .before in
     omega (arith, past-more (l .before .before .before .args .log .now) (l .before .loop .at) (l .loop-test .taken), c .past .ensures))
+    -- loop-again
     (λ c.
     let w = c .before .before in
     let l = w .before in
     scans-more _ (l .before .loop .at) _ (l .loop-test .taken) (w .wrong-at .ensures) (c .before .if1 .left) (c .past .ensures) (l .before .loop .inv))
-    (λ c. let v = c .before .loop in scans-over _ (v .at) (c .loop-test .left) (v .inv)))
+    (λ c. let v = c .before .loop in scans-over _ (v .at) (c .loop-test .left) (v .inv)))  -- returns-2

@@ -15,16 +15,15 @@ abbrev μ-loop : tie.MeasureT-loop
 pub skip-spec : {M : Type 1} → statement M
 skip-spec =
     tie.close
-    (tie.spec
-    Inv-loop
-    μ-loop
-    (λ c. skips-start _ _)
-    (λ c. let l = c .before .before .loop in skips-out _ _ (l .at) (l .left) (c .if1 .taken) (l .inv))
-    (λ c κs. search needs)
-    (λ c. search needs)
-    (λ c. search needs)
+    (tie.spec Inv-loop μ-loop
+    (λ c. skips-start _ _)  -- loop-holds
+    (λ c. let l = c .before .before .loop in skips-out _ _ (l .at) (l .left) (c .if1 .taken) (l .inv))  -- returns
+    (λ c κs. search needs)  -- group-end-requires
+    (λ c. search needs)  -- sub-left
+    (λ c. search needs)  -- loop-less
+    -- loop-again
     (λ c.
     let i = c .before .before in
     let l = i .before .loop in
     skips-more _ _ (l .at) (l .left) (i .loop-test .taken) (c .group-end .ensures) (l .inv))
-    (λ c. let l = c .before .loop in skips-over _ _ (l .at) (l .left) (c .loop-test .left) (l .inv)))
+    (λ c. let l = c .before .loop in skips-over _ _ (l .at) (l .left) (c .loop-test .left) (l .inv)))  -- returns-2

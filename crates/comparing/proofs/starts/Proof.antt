@@ -10,6 +10,6 @@ pub starts-spec : {M : Type 1} → statement M
 starts-spec =
     tie.close
     (tie.spec
-    (λ c. search needs)
-    (λ c. starts-is (c .before .args .kind) (c .if1 .taken))
-    (λ c. sym (starts-past (c .before .args .kind) (c .if1 .left))))
+    (λ c. search needs)  -- array-read-result
+    (λ c. starts-is (c .before .args .kind) (c .if1 .taken))  -- returns
+    (λ c. sym (starts-past (c .before .args .kind) (c .if1 .left))))  -- returns-2

@@ -13,6 +13,7 @@ labintugmo-access-spec =
     (λ c. search needs)  -- same-length-2
     (λ c. search needs)  -- same-length-3
     (λ c. search needs)  -- same-length-4
+    -- returns
     (λ c.
     let o = c .before .before .before .before .before .before .before .before in
-    rw (o .before .before .before .before .before .access-for .ensures) at (o .made .ensures)))  -- returns
+    rw (o .before .before .before .before .before .access-for .ensures) at (o .made .ensures)))

@@ -15,8 +15,9 @@ labintugmo-fresh-spec =
     (λ c. search needs)  -- same-length
     (λ c. search needs)  -- same-length-2
     (λ c. search needs)  -- same-length-3
+    -- returns
     (λ c.
     let made = c .before .before .before .before .before .before .before in
     let e = made .before .before .before .before .settings-from .ensures in
     let m = rw e at (made .fresh .ensures) in
-    (c .verdict-number .ensures ∙ ap verdictNumber (m .says), m .left)))  -- returns
+    (c .verdict-number .ensures ∙ ap verdictNumber (m .says), m .left)))

@@ -13,7 +13,8 @@ labintugmo-marks-length-spec =
     (λ c κs. search needs)  -- settings-from-requires
     (λ c κs. search needs)  -- in-range-requires
     (λ c κs. sym (c .before .in-range .ensures) ∙ c .if1 .taken)  -- marks-length-requires
+    -- returns
     (λ c.
     let tested = c .before .before in
-    length-given _ _ marksLength (tested .before .settings-from .ensures) (tested .in-range .ensures) (c .before .if1 .taken) (c .marks-length .ensures))  -- returns
+    length-given _ _ marksLength (tested .before .settings-from .ensures) (tested .in-range .ensures) (c .before .if1 .taken) (c .marks-length .ensures))
     (λ c. length-none _ _ marksLength (c .before .before .settings-from .ensures) (c .before .in-range .ensures) (c .if1 .left)))  -- returns-2

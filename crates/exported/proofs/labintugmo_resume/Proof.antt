@@ -17,8 +17,9 @@ labintugmo-resume-spec =
     (λ c. search needs)  -- same-length-3
     (λ c. search needs)  -- same-length-4
     (λ c. search needs)  -- same-length-5
+    -- returns-2
     (λ c.
     let n = c .before .before in
     let r = n .before .before .before .before .before .before .before .before .before .before in
     let s = r .before .before .before .before .before in
-    run-made _ _ _ _ (s .before .if1 .left) (rw (s .settings-from .ensures) at (r .resume .ensures)) (n .note-run .ensures)))  -- returns-2
+    run-made _ _ _ _ (s .before .if1 .left) (rw (s .settings-from .ensures) at (r .resume .ensures)) (n .note-run .ensures)))

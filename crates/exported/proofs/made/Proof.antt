@@ -18,8 +18,9 @@ made-spec =
     (λ c. search needs)  -- same-length-2
     (λ c. search needs)  -- same-length-3
     (λ c. search needs)  -- same-length-4
+    -- returns-2
     (λ c.
     let told = c .before .before in
     let called = told .before .before .before .before .before .before .before .before in
     let set = called .before .before .before .before in
-    call-made _ (callOf (set .before .before .before .before .before .before .before .args .k)) _ _ _ (λ i. omega (arith, set .before .before .before .before .slice-known2 .given i)) (set .before .if1 .left) (rw (set .settings-from .ensures) at (called .perform .ensures)) (told .write-told .ensures .0)))  -- returns-2
+    call-made _ (callOf (set .before .before .before .before .before .before .before .args .k)) _ _ _ (λ i. omega (arith, set .before .before .before .before .slice-known2 .given i)) (set .before .if1 .left) (rw (set .settings-from .ensures) at (called .perform .ensures)) (told .write-told .ensures .0)))

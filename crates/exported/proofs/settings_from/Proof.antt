@@ -19,6 +19,7 @@ settings-from-spec =
     (λ c κs. search needs)  -- number-requires-5
     (λ c κs. search needs)  -- number-requires-6
     (λ c κs. search needs)  -- number-requires-7
+    -- returns-2
     (λ c.
     let n6 = c .before in
     let n5 = n6 .before in
@@ -27,4 +28,4 @@ settings-from-spec =
     let n2 = n3 .before in
     let n1 = n2 .before in
     let tested = n1 .before in
-    rw (may-lend (length (tested .before .before .args .settings .now)) (tested .if1 .left), n1 .number .ensures, n2 .number2 .ensures, n3 .number3 .ensures, n4 .number4 .ensures, n5 .number5 .ensures, n6 .number6 .ensures, c .number7 .ensures)))  -- returns-2
+    rw (may-lend (length (tested .before .before .args .settings .now)) (tested .if1 .left), n1 .number .ensures, n2 .number2 .ensures, n3 .number3 .ensures, n4 .number4 .ensures, n5 .number5 .ensures, n6 .number6 .ensures, c .number7 .ensures)))

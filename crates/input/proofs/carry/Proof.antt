@@ -8,10 +8,11 @@ pub carry-spec : {M : Type 1} → statement M
 carry-spec =
     tie.close
     (tie.spec
-    (λ c. carried-backwards _ _ _ (c .if1 .taken))
-    (λ c. carried-beyond _ _ _ (c .before .if1 .left) (c .if2 .taken))
-    (λ c κs. search needs)
-    (λ c. search needs)
+    (λ c. carried-backwards _ _ _ (c .if1 .taken))  -- returns
+    (λ c. carried-beyond _ _ _ (c .before .if1 .left) (c .if2 .taken))  -- returns-2
+    (λ c κs. search needs)  -- move-down-requires
+    (λ c. search needs)  -- same-length
+    -- returns-3
     (λ c.
     let m = c .before .before in
     let l = m .before .before in

@@ -17,19 +17,19 @@ pub fill-spec : {M : Type 1} → statement M
 fill-spec =
     tie.close
     (tie.spec
-    (λ c. search needs)
-    (λ c. search needs)
-    (λ c. search needs)
-    (λ c. search needs)
-    (λ c κs. search needs)
-    (λ c. search needs)
-    (λ c. record { reaches = tt; before = kept (c .before .before .before) })
-    (λ c. search needs)
-    (λ c. search needs)
-    (λ c. search needs)
-    (λ c κs. search needs)
-    (λ c. search needs)
-    (λ c. record { reaches = refl; before = kept (c .before .before .before .before .before .before .before) })
-    (λ c. search needs)
-    (λ c. search needs)
-    (λ c. record { reaches = search needs; before = kept (c .before .before .before .before .before .before .before) }))
+    (λ c. search needs)  -- returns
+    (λ c. search needs)  -- sub-read
+    (λ c. search needs)  -- part-read-start
+    (λ c. search needs)  -- part-read-end
+    (λ c κs. search needs)  -- read-requires
+    (λ c. search needs)  -- same-length
+    (λ c. record { reaches = tt; before = kept (c .before .before .before) })  -- returns-2
+    (λ c. search needs)  -- sub-count
+    (λ c. search needs)  -- part-count-start
+    (λ c. search needs)  -- part-count-end
+    (λ c κs. search needs)  -- count-requires
+    (λ c. search needs)  -- same-length-2
+    (λ c. record { reaches = refl; before = kept (c .before .before .before .before .before .before .before) })  -- returns-3
+    (λ c. search needs)  -- add-t6
+    (λ c. search needs)  -- same-length-3
+    (λ c. record { reaches = search needs; before = kept (c .before .before .before .before .before .before .before) }))  -- returns-4

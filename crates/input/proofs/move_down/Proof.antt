@@ -18,19 +18,18 @@ abbrev μ-loop : tie.MeasureT-loop
 pub move-down-spec : {M : Type 1} → statement M
 move-down-spec =
     tie.close
-    (tie.spec
-    Inv-loop
-    μ-loop
-    (λ c. (omega arith, refl, refl))
-    (λ c. search needs)
-    (λ c. search needs)
-    (λ c. search needs)
-    (λ c. search needs)
-    (λ c. search needs)
+    (tie.spec Inv-loop μ-loop
+    (λ c. (omega arith, refl, refl))  -- loop-holds
+    (λ c. search needs)  -- add-buf
+    (λ c. search needs)  -- slice-read-buf
+    (λ c. search needs)  -- slice-write-buf
+    (λ c. search needs)  -- add-i
+    (λ c. search needs)  -- loop-less
+    -- loop-again
     (λ c.
     let l = c .before in
     let v = l .before .loop in
     let s = l .before .before in
     (omega arith, simp length-set (v .inv .1), move-turn (s .args .buf .now) (s .args .from) (s .args .n) (v .i) (s .pre) (l .loop-test .taken) (v .inv .2)))
-    (λ c. search needs)
-    (λ c. let v = c .before .loop in let e : v .i ≡ c .before .before .args .n = omega arith in rw (← e) (v .inv .2)))
+    (λ c. search needs)  -- same-length
+    (λ c. let v = c .before .loop in let e : v .i ≡ c .before .before .args .n = omega arith in rw (← e) (v .inv .2)))  -- returns

@@ -23,19 +23,19 @@ pub read-more-spec : {M : Type 1} → statement M
 read-more-spec =
     tie.close
     (tie.spec
-    (λ c κs. search needs)
-    (λ c. search needs)
+    (λ c κs. search needs)  -- fill-requires
+    (λ c. search needs)  -- enum-known-n
     counted-requires
-    (λ c. search needs)
-    (λ c. search needs)
-    (λ c. search needs)
-    (λ c. search needs)
-    (λ c κs. search needs)
-    (λ c. search needs)
+    (λ c. search needs)  -- enum-known-end
+    (λ c. search needs)  -- enum-told
+    (λ c. search needs)  -- enum-told-2
+    (λ c. search needs)  -- slice-aggregate-fail
+    (λ c κs. search needs)  -- fail-requires
+    (λ c. search needs)  -- same-length
     returns
-    (λ c. search needs)
+    (λ c. search needs)  -- same-length-2
     returns-2
-    (λ c. search needs)
+    (λ c. search needs)  -- same-length-3
     returns-3
-    (λ c. search needs)
-    (λ c. search needs))
+    (λ c. search needs)  -- same-length-4
+    (λ c. search needs))  -- returns-4

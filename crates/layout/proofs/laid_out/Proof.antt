@@ -20,13 +20,14 @@ laid-out-spec =
     (λ c. let g = ranged _ (c .before .before .before .pre) in omega (arith, mul-le-mul (g .readers) (g .misses)))  -- add-dirty
     (λ c. let g = ranged _ (c .before .before .before .pre) in omega (arith, mul-le-mul (g .readers) (g .misses)))  -- add-taken
     (λ c. let g = ranged _ (c .before .before .before .pre) in omega arith)  -- mul-sent
-    (λ c. let g = ranged _ (c .before .before .before .before .pre) in omega arith)  -- add-queue
-    (λ c. let g = ranged _ (c .before .before .before .before .pre) in omega arith)  -- add-masks
-    (λ c. let g = ranged _ (c .before .before .before .before .pre) in omega (arith, mul-le-mul (g .readers) (g .misses)))  -- add-trees
-    (λ c. let g = ranged _ (c .before .before .before .before .pre) in omega arith)  -- mul-readables
-    (λ c. let g = ranged _ (c .before .before .before .before .before .pre) in omega arith)  -- add-counts
-    (λ c. let g = ranged _ (c .before .before .before .before .before .before .pre) in omega arith)  -- mul-kinds
-    (λ c. let g = ranged _ (c .before .before .before .before .before .before .pre) in omega arith)  -- add-kinds
+    (λ c. let g = ranged _ (c .before .before .before .before .pre) in omega arith)  -- add-t8
+    (λ c. let g = ranged _ (c .before .before .before .before .pre) in omega arith)  -- add-t9
+    (λ c. let g = ranged _ (c .before .before .before .before .pre) in omega (arith, mul-le-mul (g .readers) (g .misses)))  -- add-t10
+    (λ c. let g = ranged _ (c .before .before .before .before .pre) in omega arith)  -- mul-t11
+    (λ c. let g = ranged _ (c .before .before .before .before .before .pre) in omega arith)  -- add-t12
+    (λ c. let g = ranged _ (c .before .before .before .before .before .before .pre) in omega arith)  -- mul-t13
+    (λ c. let g = ranged _ (c .before .before .before .before .before .before .pre) in omega arith)  -- add-t14
+    -- returns
     (λ c. record {
       misses = omega arith;
       queue = omega arith;
@@ -40,4 +41,4 @@ laid-out-spec =
       sent = omega arith;
       counts = omega arith;
       kinds = omega arith;
-    }))  -- returns
+    }))

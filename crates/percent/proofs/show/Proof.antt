@@ -20,9 +20,7 @@ abbrev μ-loop : tie.MeasureT-loop
 pub show-spec : {M : Type 1} → statement M
 show-spec =
     tie.close
-    (tie.spec
-    Inv-loop
-    μ-loop
+    (tie.spec Inv-loop μ-loop
     (λ c. search needs)  -- loop-holds
     (λ c. search needs)  -- sub-if1
     (λ c. search needs)  -- returns

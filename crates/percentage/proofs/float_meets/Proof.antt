@@ -28,6 +28,7 @@ float-meets-spec =
     (λ c. held _ (omega arith))  -- int-to-float-part
     (λ c. held _ (omega arith))  -- int-to-float-part-2
     (λ c. held _ (omega arith))  -- int-to-float-result
+    -- returns
     (λ c.
     let a = c .before .before .before .args in
-    ap (λ (z : Float). le (single (a .percent)) (mul binary32 (div binary32 (single (a .dirty)) (single (a .lines))) z)) hundred))  -- returns
+    ap (λ (z : Float). le (single (a .percent)) (mul binary32 (div binary32 (single (a .dirty)) (single (a .lines))) z)) hundred))

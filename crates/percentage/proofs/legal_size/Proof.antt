@@ -21,9 +21,7 @@ abbrev μ-loop : tie.MeasureT-loop
 pub legal-size-spec : {M : Type 1} → statement M
 legal-size-spec =
     tie.close
-    (tie.spec
-    Inv-loop
-    μ-loop
+    (tie.spec Inv-loop μ-loop
     (λ c S e h. let g = lines-some S e in omega (arith, g, h, c .if1 .taken))  -- returns
     (λ c S e h. let g = ranged S e .lines in omega (arith, g, h, c .if2 .taken))  -- returns-2
     (λ c. (omega arith, omega arith, omega arith, omega arith, λ w u v s. omega arith))  -- loop-holds
@@ -33,9 +31,11 @@ legal-size-spec =
     (λ c. legal _ _ (omega arith) (omega arith) (omega arith) (omega arith) (c .before .if3 .taken, c .if4 .taken))  -- returns-3
     (λ c. search needs)  -- add-ways
     (λ c. search needs)  -- loop-less
+    -- loop-again
     (λ c.
     let v = c .before .before .loop in
-    (omega arith, omega arith, v .inv .2, v .inv .3, below-more _ (v .ways) (v .inv .4) (λ u s. ⊎-elim (λ h. h .1 .left (s .1)) (λ h. h .left (s .0)) (c .if3 .came))))  -- loop-again
+    (omega arith, omega arith, v .inv .2, v .inv .3, below-more _ (v .ways) (v .inv .4) (λ u s. ⊎-elim (λ h. h .1 .left (s .1)) (λ h. h .left (s .0)) (c .if3 .came))))
+    -- returns-4
     (λ c S e h.
     let r = ranged S e in
-    c .before .loop .inv .4 (S .ways) (omega (arith, r .few-ways)) (r .ways) (subst (λ (l : ℕ). Split l (S .ways)) h (split S e))))  -- returns-4
+    c .before .loop .inv .4 (S .ways) (omega (arith, r .few-ways)) (r .ways) (subst (λ (l : ℕ). Split l (S .ways)) h (split S e))))

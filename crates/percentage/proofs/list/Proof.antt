@@ -41,17 +41,16 @@ module _ (c : lts.After-known-told (next-reads.Asked, next-reads.Learnt) reads.P
 pub list-spec : {M : Type 1} → statement M
 list-spec =
     tie.close
-    (tie.spec
-    Inv-loop
-    μ-loop
+    (tie.spec Inv-loop μ-loop
     (λ c. written-none _ (omega arith))  -- returns
     (λ c. (omega arith, written-first _, omega arith))  -- loop-holds
     (λ c κs. c .loop .inv .0)  -- next-requires
     (λ c. c .match .keys1)  -- enum-known-found
     (λ c. c .before .before .loop .inv .1 .long)  -- same-length
+    -- returns-2
     (λ c.
     let v = c .before .before .loop in
-    written-all _ (v .out) (v .n) _ (v .inv .1) (none-left (v .d) (v .l) (v .p) (c .before .next .result) (c .match .keys2) (c .before .next .ensures)))  -- returns-2
+    written-all _ (v .out) (v .n) _ (v .inv .1) (none-left (v .d) (v .l) (v .p) (c .before .next .result) (c .match .keys2) (c .before .next .ensures)))
     (λ c. search needs)  -- mul-out
     (λ c. omega (arith, room c))  -- slice-write-out
     (λ c. search needs)  -- add-out
@@ -63,6 +62,7 @@ list-spec =
     (λ c. omega (arith, hit c .0 .cent))  -- add-p
     (λ c. search needs)  -- add-n
     (λ c. omega (arith, room c))  -- loop-less
+    -- loop-again
     (λ c.
     let v = c .before .before .before .before .loop in
-    (omega (arith, hit c .0 .some, hit c .0 .most, hit c .0 .part, hit c .0 .cent), written-more _ (v .out) (v .n) _ (v .inv .1) (c .before .found .given .0 .0) _ (hit c .1) (room c), v .inv .2)))  -- loop-again
+    (omega (arith, hit c .0 .some, hit c .0 .most, hit c .0 .part, hit c .0 .cent), written-more _ (v .out) (v .n) _ (v .inv .1) (c .before .found .given .0 .0) _ (hit c .1) (room c), v .inv .2)))

@@ -21,29 +21,32 @@ abbrev μ-loop : tie.MeasureT-loop
 pub next-spec : {M : Type 1} → statement M
 next-spec =
     tie.close
-    (tie.spec
-    Inv-loop
-    μ-loop
+    (tie.spec Inv-loop μ-loop
     (λ c. (search needs, refl))  -- loop-holds
     (λ c. omega arith)  -- add-d
     (λ c. omega arith)  -- loop-less
+    -- loop-again
     (λ c.
     let v = c .before .before .loop in
-    (omega arith, v .inv .1 ∙ rest-down (v .d) (v .l) (v .p) (omega arith) (omega arith)))  -- loop-again
+    (omega arith, v .inv .1 ∙ rest-down (v .d) (v .l) (v .p) (omega arith) (omega arith)))
     (λ c. omega arith)  -- add-l
     (λ c. omega arith)  -- loop-less-2
+    -- loop-again-2
     (λ c.
     let v = c .before .before .before .loop in
-    (omega arith, v .inv .1 ∙ rest-over (v .d) (v .l) (v .p) (omega arith) (omega arith) (omega arith)))  -- loop-again-2
+    (omega arith, v .inv .1 ∙ rest-over (v .d) (v .l) (v .p) (omega arith) (omega arith) (omega arith)))
+    -- returns
     (λ c.
     let v = c .before .before .before .loop in
-    v .inv .1 ∙ rest-end (v .d) (v .l) (v .p) (omega arith) (omega arith) (omega arith))  -- returns
+    v .inv .1 ∙ rest-end (v .d) (v .l) (v .p) (omega arith) (omega arith) (omega arith))
     (λ c κs. omega arith)  -- differs-requires
+    -- returns-2
     (λ c.
     let v = c .before .before .before .loop in
-    (omega arith, v .inv .1 ∙ rest-hit (v .d) (v .l) (v .p) (omega arith) (sym (c .before .differs .ensures) ∙ c .if4 .taken)))  -- returns-2
+    (omega arith, v .inv .1 ∙ rest-hit (v .d) (v .l) (v .p) (omega arith) (sym (c .before .differs .ensures) ∙ c .if4 .taken)))
     (λ c. omega arith)  -- add-p
     (λ c. omega arith)  -- loop-less-3
+    -- loop-again-3
     (λ c.
     let v = c .before .before .before .loop in
-    (omega arith, v .inv .1 ∙ rest-miss (v .d) (v .l) (v .p) (omega arith) (sym (c .before .differs .ensures) ∙ c .if4 .left))))  -- loop-again-3
+    (omega arith, v .inv .1 ∙ rest-miss (v .d) (v .l) (v .p) (omega arith) (sym (c .before .differs .ensures) ∙ c .if4 .left))))

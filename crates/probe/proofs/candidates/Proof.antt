@@ -17,15 +17,14 @@ abbrev μ-loop : tie.MeasureT-loop
 pub candidates-spec : {M : Type 1} → statement M
 candidates-spec =
     tie.close
-    (tie.spec
-    Inv-loop
-    μ-loop
-    (λ c. (omega arith, masked-start _))
-    (λ c. omega arith)
-    (λ c κs. search needs)
-    (λ c κs. search needs)
-    (λ c. omega arith)
-    (λ c. omega arith)
+    (tie.spec Inv-loop μ-loop
+    (λ c. (omega arith, masked-start _))  -- loop-holds
+    (λ c. omega arith)  -- add-is-candidate
+    (λ c κs. search needs)  -- is-candidate-requires
+    (λ c κs. search needs)  -- marked-requires
+    (λ c. omega arith)  -- add-w
+    (λ c. omega arith)  -- loop-less
+    -- loop-again
     (λ c.
     let loop = c .before .before .before .loop in
     let below = c .before .before .loop-test .taken in (
@@ -35,4 +34,4 @@ candidates-spec =
           (λ w. masked-no _ _ _ (c .before .is-candidate .ensures) (w .0 .left) (w .1) (loop .inv .1))
           (c .if1 .came),
     ))
-    (λ c. masked-end _ _ _ _ (c .loop-test .left) (c .before .loop .inv .1)))
+    (λ c. masked-end _ _ _ _ (c .loop-test .left) (c .before .loop .inv .1)))  -- returns

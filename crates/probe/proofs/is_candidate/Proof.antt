@@ -21,10 +21,12 @@ pub is-candidate-spec : {M : Type 1} → statement M
 is-candidate-spec =
     tie.close
     (tie.spec
-    (λ c κs. search needs)
+    (λ c κs. search needs)  -- is-clean-requires
+    -- returns
     (λ c. let a = c .before .before .before .args in
     clean-may (waitingAt (a .marks .now) (a .l)) (dirtyAt (a .marks .now) (a .l)) (a .enough) (sym (c .before .is-clean .ensures) ∙ c .if1 .taken))
-    (λ c κs. search needs)
+    (λ c κs. search needs)  -- is-waiting-requires
+    -- returns-2
     (λ c. let a = c .before .before .before .before .args in
     ap (λ (w : Bool). a .enough && not w) (c .is-waiting .ensures)
     ∙ unclean-may (waitingAt (a .marks .now) (a .l)) (dirtyAt (a .marks .now) (a .l)) (a .enough) (sym (c .before .before .is-clean .ensures) ∙ c .before .if1 .left)))

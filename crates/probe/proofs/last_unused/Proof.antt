@@ -16,18 +16,18 @@ abbrev μ-loop : tie.MeasureT-loop
 pub last-unused-spec : {M : Type 1} → statement M
 last-unused-spec =
     tie.close
-    (tie.spec
-    Inv-loop
-    μ-loop
-    (λ c. unseen-start _ _)
-    (λ c. omega arith)
-    (λ c. omega arith)
-    (λ c κs. search needs)
+    (tie.spec Inv-loop μ-loop
+    (λ c. unseen-start _ _)  -- loop-holds
+    (λ c. omega arith)  -- sub-v
+    (λ c. omega arith)  -- add-is-unused
+    (λ c κs. search needs)  -- is-unused-requires
+    -- returns
     (λ c. let loop = c .before .before .before .loop in
     let e : loop .w ≡ loop .w - 1 + 1 = omega arith in
     unseen-stop _ _ _ _ e (c .before .is-unused .ensures) (c .if1 .taken) (loop .inv))
-    (λ c. omega arith)
+    (λ c. omega arith)  -- loop-less
+    -- loop-again
     (λ c. let loop = c .before .before .before .loop in
     let e : loop .w ≡ loop .w - 1 + 1 = omega arith in
     unseen-more _ _ _ _ e (c .before .is-unused .ensures) (c .if1 .left) (loop .inv))
-    (λ c. let end : c .before .loop .w ≡ 0 = omega arith in unseen-end _ _ _ end (c .before .loop .inv)))
+    (λ c. let end : c .before .loop .w ≡ 0 = omega arith in unseen-end _ _ _ end (c .before .loop .inv)))  -- returns-2

@@ -25,8 +25,9 @@ masks-at-spec =
     (λ c. search needs)  -- add-t22
     (λ c. search needs)  -- mul-t23
     (λ c. search needs)  -- shared-slice-read-t25
+    -- returns
     (λ c.
     let start = c .before .before .before .before in
     let a = start .args in
     let at = start .pre .0 in
-    rw (mask-read (a .s) at (a .words .now) (4 * a .l), mask-read (a .s) at (a .words .now) (4 * a .l + 1), mask-read (a .s) at (a .words .now) (4 * a .l + 2), mask-read (a .s) at (a .words .now) (4 * a .l + 3))))  -- returns
+    rw (mask-read (a .s) at (a .words .now) (4 * a .l), mask-read (a .s) at (a .words .now) (4 * a .l + 1), mask-read (a .s) at (a .words .now) (4 * a .l + 2), mask-read (a .s) at (a .words .now) (4 * a .l + 3))))

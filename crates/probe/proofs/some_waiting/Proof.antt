@@ -20,14 +20,12 @@ abbrev μ-loop : tie.MeasureT-loop
 pub some-waiting-spec : {M : Type 1} → statement M
 some-waiting-spec =
     tie.close
-    (tie.spec
-    Inv-loop
-    μ-loop
-    (λ c. sought-start (here (c .before .args .marks .now) (c .before .args .base)) _)
-    (λ c. omega arith)
-    (λ c κs. search needs)
-    (λ c. let a = c .before .before .before .before .before .args in sought-stop (here (a .marks .now) (a .base)) _ _ (c .before .before .loop-test .taken) (c .before .is-waiting .ensures) (c .if1 .taken))
-    (λ c. omega arith)
-    (λ c. omega arith)
-    (λ c. let a = c .before .before .before .before .before .args in sought-more (here (a .marks .now) (a .base)) _ _ (c .before .before .loop-test .taken) (c .before .is-waiting .ensures) (c .if1 .left) (c .before .before .before .loop .inv))
-    (λ c. let a = c .before .before .before .args in sought-end (here (a .marks .now) (a .base)) _ _ (c .loop-test .left) (c .before .loop .inv)))
+    (tie.spec Inv-loop μ-loop
+    (λ c. sought-start (here (c .before .args .marks .now) (c .before .args .base)) _)  -- loop-holds
+    (λ c. omega arith)  -- add-is-waiting
+    (λ c κs. search needs)  -- is-waiting-requires
+    (λ c. let a = c .before .before .before .before .before .args in sought-stop (here (a .marks .now) (a .base)) _ _ (c .before .before .loop-test .taken) (c .before .is-waiting .ensures) (c .if1 .taken))  -- returns
+    (λ c. omega arith)  -- add-w
+    (λ c. omega arith)  -- loop-less
+    (λ c. let a = c .before .before .before .before .before .args in sought-more (here (a .marks .now) (a .base)) _ _ (c .before .before .loop-test .taken) (c .before .is-waiting .ensures) (c .if1 .left) (c .before .before .before .loop .inv))  -- loop-again
+    (λ c. let a = c .before .before .before .args in sought-end (here (a .marks .now) (a .base)) _ _ (c .loop-test .left) (c .before .loop .inv)))  -- returns-2

@@ -22,20 +22,24 @@ take-over-spec =
     tie.close
     (tie.spec
     (λ c κs. search needs)  -- enough-dirty-requires
+    -- victim-requires
     (λ c κs.
     let pre = c .before .before .before .before .pre in
     let f = pre .4 in
     let room = tree-room (pre .3) f _ (pre .1) in
-    (pre .3, record { ages = ages-room f _ (pre .0); tree = room .inside; small = room .small; statuses = omega (arith, pre .0, f .marks-long); power = pre .2 }))  -- victim-requires
-    (λ c. search needs)
+    (pre .3, record { ages = ages-room f _ (pre .0); tree = room .inside; small = room .small; statuses = omega (arith, pre .0, f .marks-long); power = pre .2 }))
+    (λ c. search needs)  -- enum-known-v
+    -- taken-requires
     (λ c κs. let a = c .before .before .before .before .before .before .before .before .args in
     let h = victim-below (a .s) (a .words .now) (a .marks .now) (a .i) (a .base) (enoughIn (a .s) (a .words .now)) (c .before .before .before .before .before .before .before .before .pre .2) (by-count (c .before .before .before)) (c .before .v .given .1) in search needs)
-    (λ c. search needs)
-    (λ c κs. search needs)
+    (λ c. search needs)  -- enum-told
+    (λ c κs. search needs)  -- refusal-requires
+    -- returns
     (λ c. let a = c .before .before .before .before .before .before .before .before .before .args in
     missed-at (a .s) (a .longs .now) (a .words .now) (a .marks .now) (a .base) (a .s .ways)
     {u = victimIn (a .s) (a .words .now) (a .marks .now) (a .i) (a .base) (enoughIn (a .s) (a .words .now))}
     (by-count (c .before .before .before .before)) (c .before .before .v .given .1) (c .taken .ensures))
+    -- returns-2
     (λ c. let a = c .before .before .before .before .before .before .before .before .args in
     missed-nothing (a .s) (a .longs .now) (a .words .now) (a .marks .now) (a .base) (a .s .ways)
     {u = victimIn (a .s) (a .words .now) (a .marks .now) (a .i) (a .base) (enoughIn (a .s) (a .words .now))}

@@ -9,8 +9,8 @@ pub behind-spec : {M : Type 1} → statement M
 behind-spec =
     tie.close
     (tie.spec
-    (λ c κs. search needs)
-    (λ c. search needs)
-    (λ c. search needs)
-    (λ c. behind-whole _ _ _ _ _ _ (sym (c .before .before .before .read-at .ensures) ∙ c .before .next .given .1))
-    (λ c. behind-none _ _ _ (sym (c .before .before .read-at .ensures) ∙ c .enum-told .given .1)))
+    (λ c κs. search needs)  -- read-at-requires
+    (λ c. search needs)  -- enum-known-next
+    (λ c. search needs)  -- enum-told
+    (λ c. behind-whole _ _ _ _ _ _ (sym (c .before .before .before .read-at .ensures) ∙ c .before .next .given .1))  -- returns
+    (λ c. behind-none _ _ _ (sym (c .before .before .read-at .ensures) ∙ c .enum-told .given .1)))  -- returns-2

@@ -10,18 +10,21 @@ pub body-part-spec : {M : Type 1} → statement M
 body-part-spec =
     tie.close
     (tie.spec
-    (λ c κs. search needs)
-    (λ c. search needs)
+    (λ c κs. search needs)  -- read-at-requires
+    (λ c. search needs)  -- enum-known-start
+    -- sub-result
     (λ c.
     let w = was-whole _ _ _ _ _ _ (sym (c .before .before .before .read-at .ensures) ∙ c .before .start .given .1) in
-    search needs)  -- sub-result
+    search needs)
+    -- part-result-start
     (λ c.
     let w = was-whole _ _ _ _ _ _ (sym (c .before .before .before .read-at .ensures) ∙ c .before .start .given .1) in
-    search needs)  -- part-result-start
+    search needs)
+    -- part-result-end
     (λ c.
     let w = was-whole _ _ _ _ _ _ (sym (c .before .before .before .read-at .ensures) ∙ c .before .start .given .1) in
-    search needs)  -- part-result-end
-    (λ c. search needs)
-    (λ c. search needs)
-    (λ c. part-whole _ _ _ _ _ _ _ (sym (c .before .before .before .before .read-at .ensures) ∙ c .before .before .start .given .1) refl refl)
-    (λ c. part-none _ _ _ _ (sym (c .before .before .before .read-at .ensures) ∙ c .before .enum-told .given .1) refl refl))
+    search needs)
+    (λ c. search needs)  -- enum-told
+    (λ c. search needs)  -- slice-aggregate-result
+    (λ c. part-whole _ _ _ _ _ _ _ (sym (c .before .before .before .before .read-at .ensures) ∙ c .before .before .start .given .1) refl refl)  -- returns
+    (λ c. part-none _ _ _ _ (sym (c .before .before .before .read-at .ensures) ∙ c .before .enum-told .given .1) refl refl))  -- returns-2

@@ -13,13 +13,15 @@ busy-reason-spec =
     (λ c κs. let a = c .before .before .before in let i = a .pre .1 .are in let z = stands-fit (i .range) (is-stands i) in let p = a .pre .0 in omega arith)  -- used-requires
     (λ c κs. search needs)  -- address-of-requires
     (λ c κs. let i = c .before .before .before .before .before .pre .1 .are in stands-fit (i .range) (is-stands i) .power)  -- set-index-requires
+    -- first-in-set-requires
     (λ c κs.
     let used = c .before .before in
     let a = used .before .before .before .before in
     let i = a .pre .1 .are in
     let z = stands-fit (i .range) (is-stands i) in
     let p = a .pre .0 in
-    (omega (arith, used .used .ensures .most), z .power))  -- first-in-set-requires
+    (omega (arith, used .used .ensures .most), z .power))
+    -- entry-reason-requires
     (λ c κs.
     let used = c .before .before .before in
     let a = used .before .before .before .before in
@@ -27,10 +29,11 @@ busy-reason-spec =
     let z = stands-fit (i .range) (is-stands i) in
     let p = a .pre .0 in
     let u = used .used .ensures .most in
-    (omega arith, omega arith, omega arith))  -- entry-reason-requires
+    (omega arith, omega arith, omega arith))
+    -- returns
     (λ c.
     let found = c .before in
     let set = found .before in
     let used = set .before .before in
     let a = used .before .before .before .before in
-    record { on = λ t i. rw (← set .before .address-of .ensures, ← set .set-index .ensures) (set-shown _ t i (a .pre .0) (used .used .ensures) (found .first-in-set .ensures) (c .entry-reason .ensures)) }))  -- returns
+    record { on = λ t i. rw (← set .before .address-of .ensures, ← set .set-index .ensures) (set-shown _ t i (a .pre .0) (used .used .ensures) (found .first-in-set .ensures) (c .entry-reason .ensures)) }))

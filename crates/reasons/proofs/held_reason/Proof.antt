@@ -17,9 +17,10 @@ held-reason-spec =
     (λ c. let a = c .before .before .before .before in let i = a .pre .1 .are in let z = stands-fit (i .range) (is-stands i) in let p = a .pre .0 .dirty in omega arith)  -- mul-dirty
     (λ c. let a = c .before .before .before .before .before in let i = a .pre .1 .are in let z = stands-fit (i .range) (is-stands i) in let p = a .pre .0 .dirty in omega arith)  -- shared-slice-read-dirty
     (λ c. let f = c .shared-slice-known4 .given (c .before .before .before .before .before .args .at .dirty) in omega arith)  -- cast-dirty
+    -- missing-lines-requires
     (λ c κs.
     let a = c .before .before .before .before .before in
     let i = a .pre .1 .are in
     let z = stands-fit (i .range) (is-stands i) in
-    (share-fits (z .dirty) (z .lines), dirty-few _ _ i (a .pre .0)))  -- missing-lines-requires
+    (share-fits (z .dirty) (z .lines), dirty-few _ _ i (a .pre .0)))
     (λ c. record { on = λ t i. lines-shown _ t i (c .before .before .before .before .before .before .pre .0) refl (c .missing-lines .ensures) }))  -- returns

@@ -12,17 +12,19 @@ queue-reason-spec =
     (tie.spec
     (λ c κs. let a = c .before .before .before in let i = a .pre .1 .are in let z = stands-fit (i .range) (is-stands i) in let p = a .pre .0 in omega arith)  -- used-requires
     (λ c. let used = c .before in record { on = λ t i. queue-empty _ t i (used .before .before .before .before .pre .0) (used .used .ensures) (c .if1 .taken) })  -- returns
+    -- front-requires
     (λ c κs.
     let a = c .before .before .before .before .before in
     let i = a .pre .1 .are in
     let z = stands-fit (i .range) (is-stands i) in
     let p = a .pre .0 in
-    (omega arith, omega arith, omega arith))  -- front-requires
+    (omega arith, omega arith, omega arith))
     (λ c κs. search needs)  -- sent-event-requires
     (λ c. omega (arith, c .before .before .before .before .used .ensures .most))  -- sub-free
+    -- returns-2
     (λ c.
     let event = c .before in
     let front = event .before in
     let test = front .before in
     let used = test .before in
-    record { on = λ t i. head-shown _ t i (used .before .before .before .before .pre .0) (used .used .ensures) (test .if1 .left) (front .front .ensures) (event .sent-event .ensures) }))  -- returns-2
+    record { on = λ t i. head-shown _ t i (used .before .before .before .before .pre .0) (used .used .ensures) (test .if1 .left) (front .front .ensures) (event .sent-event .ensures) }))

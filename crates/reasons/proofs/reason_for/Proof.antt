@@ -13,12 +13,14 @@ reason-for-spec =
     (λ c κs. search needs)  -- checked-layout-requires
     (λ c. search needs)  -- enum-known-k
     (λ c. search needs)  -- enum-known-at
+    -- reason-held-requires
     (λ c κs.
     let m = c .before in
     let k = m .before .before in
-    passed-laid _ _ (k .checked-layout .ensures) (λ i. omega (arith, k .before .before .shared-slice-known2 .given i)) (m .at .given .1))  -- reason-held-requires
+    passed-laid _ _ (k .checked-layout .ensures) (λ i. omega (arith, k .before .before .shared-slice-known2 .given i)) (m .at .given .1))
     (λ c. let m = c .before in reason-refused _ _ _ _ (m .before .before .checked-layout .ensures) (m .k .given .1))  -- returns
+    -- returns-2
     (λ c.
     let m = c .before .before in
     let k = m .before .before in
-    reason-passed _ _ _ _ (k .checked-layout .ensures) (λ i. omega (arith, k .before .before .shared-slice-known2 .given i)) (m .at .given .1) (c .reason-held .ensures)))  -- returns-2
+    reason-passed _ _ _ _ (k .checked-layout .ensures) (λ i. omega (arith, k .before .before .shared-slice-known2 .given i)) (m .at .given .1) (c .reason-held .ensures)))

@@ -7,5 +7,5 @@ pub has-room-spec : {M : Type 1} → statement M
 has-room-spec =
     tie.close
     (tie.spec
-    (λ c. let a = c .before .args in room-past (a .len) (a .at) (a .n) (c .if1 .taken))
-    (λ c. let a = c .before .args in room-left (a .len) (a .at) (a .n) (c .if1 .left)))
+    (λ c. let a = c .before .args in room-past (a .len) (a .at) (a .n) (c .if1 .taken))  -- returns
+    (λ c. let a = c .before .args in room-left (a .len) (a .at) (a .n) (c .if1 .left)))  -- returns-2

@@ -8,7 +8,7 @@ pub turned-away-spec : {M : Type 1} → statement M
 turned-away-spec =
     tie.close
     (tie.spec
-    (λ c κs. search needs)
-    (λ c κs. search needs)
-    (λ c. search needs)
-    (λ c. let w = c .before .before in let t = w .before .before in let p = t .before .before in turns-away _ (p .args .events .now) (t .refused .ensures) (w .write-told .ensures .0) (p .pre)))
+    (λ c κs. search needs)  -- refused-requires
+    (λ c κs. search needs)  -- write-told-requires
+    (λ c. search needs)  -- same-length
+    (λ c. let w = c .before .before in let t = w .before .before in let p = t .before .before in turns-away _ (p .args .events .now) (t .refused .ensures) (w .write-told .ensures .0) (p .pre)))  -- returns

@@ -11,29 +11,32 @@ wait-spec =
     tie.close
     (tie.spec
     (λ c. waits-no-room _ _ _ _ (c .if1 .taken))  -- returns
-    (λ c κs. search needs)
-    (λ c. search needs)
-    (λ c κs. search needs)
-    (λ c. search needs)
+    (λ c κs. search needs)  -- checked-layout-requires
+    (λ c. search needs)  -- enum-known-n
+    (λ c κs. search needs)  -- turned-away-requires
+    (λ c. search needs)  -- enum-known-at
+    -- wait-checked-requires
     (λ c κs.
     let m = c .before .before .before .before .before in
     let k = m .before .before in
-    (passed-laid _ _ (k .checked-layout .ensures) (λ i. omega (arith, k .before .before .before .before .before .before .before .slice-known2 .given i)) (m .at .given .1), k .before .before .before .before .if1 .left))  -- wait-checked-requires
-    (λ c. search needs)
-    (λ c. search needs)
-    (λ c. search needs)
-    (λ c. search needs)
+    (passed-laid _ _ (k .checked-layout .ensures) (λ i. omega (arith, k .before .before .before .before .before .before .before .slice-known2 .given i)) (m .at .given .1), k .before .before .before .before .if1 .left))
+    (λ c. search needs)  -- same-length
+    (λ c. search needs)  -- same-length-2
+    (λ c. search needs)  -- same-length-3
+    (λ c. search needs)  -- same-length-4
+    -- returns-2
     (λ c.
     let t = c .before .before in
     let n = t .before .before .before in
     let k = n .before .before in
-    waits-refused _ _ _ _ (k .before .before .before .before .if1 .left) (k .checked-layout .ensures) (n .n .given .1) (t .turned-away .ensures))  -- returns-2
-    (λ c. search needs)
-    (λ c. search needs)
-    (λ c. search needs)
-    (λ c. search needs)
+    waits-refused _ _ _ _ (k .before .before .before .before .if1 .left) (k .checked-layout .ensures) (n .n .given .1) (t .turned-away .ensures))
+    (λ c. search needs)  -- same-length-5
+    (λ c. search needs)  -- same-length-6
+    (λ c. search needs)  -- same-length-7
+    (λ c. search needs)  -- same-length-8
+    -- returns-3
     (λ c.
     let w = c .before .before .before .before .before .before .before .before in
     let m = w .before .before .before .before .before .before in
     let k = m .before .before in
-    waits-passed _ _ _ _ (k .before .before .before .before .if1 .left) (passed-laid _ _ (k .checked-layout .ensures) (λ i. omega (arith, k .before .before .before .before .before .before .before .slice-known2 .given i)) (m .at .given .1) .1) (w .wait-checked .ensures)))  -- returns-3
+    waits-passed _ _ _ _ (k .before .before .before .before .if1 .left) (passed-laid _ _ (k .checked-layout .ensures) (λ i. omega (arith, k .before .before .before .before .before .before .before .slice-known2 .given i)) (m .at .given .1) .1) (w .wait-checked .ensures)))

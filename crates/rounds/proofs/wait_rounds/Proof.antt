@@ -19,31 +19,32 @@ abbrev μ-loop : tie.MeasureT-loop
 pub wait-rounds-spec : {M : Type 1} → statement M
 wait-rounds-spec =
     tie.close
-    (tie.spec
-    Inv-loop
-    μ-loop
-    (λ c. goes-first _ _)
+    (tie.spec Inv-loop μ-loop
+    (λ c. goes-first _ _)  -- loop-holds
+    -- one-round-requires
     (λ c κs.
     let i = c .before .before .before .before in
     let l = i .before in
     let p = l .before .before .before .before .before in
     let g = l .loop .inv in
     let room = p .pre .1 .0 .2 in
-    ((p .pre .0 .0, goes-held g (p .pre .0 .1)), (omega (arith, g .short, g .few, g .size, p .pre .1 .1 .few, i .loop-test .taken, room), p .pre .1 .0 .1)))  -- one-round-requires
-    (λ c. omega arith)
-    (λ c κs. search needs)
-    (λ c. let r = c .before .before .before .before .before .before .before .before .before .before .before in let l = r .before .before .before .before .before .before in r .one-round .kept .1 .1 .0 ∙ l .loop .inv .longs)
-    (λ c. let r = c .before .before .before .before .before .before .before .before .before .before .before in let l = r .before .before .before .before .before .before in r .one-round .kept .1 .1 .1 .0 ∙ l .loop .inv .words)
-    (λ c. let r = c .before .before .before .before .before .before .before .before .before .before .before in let l = r .before .before .before .before .before .before in r .one-round .kept .1 .1 .1 .1 .0 ∙ l .loop .inv .marks)
-    (λ c. let r = c .before .before .before .before .before .before .before .before .before .before .before in let l = r .before .before .before .before .before .before in r .one-round .kept .1 .1 .1 .1 .1 .1 .0 ∙ l .loop .inv .size)
+    ((p .pre .0 .0, goes-held g (p .pre .0 .1)), (omega (arith, g .short, g .few, g .size, p .pre .1 .1 .few, i .loop-test .taken, room), p .pre .1 .0 .1)))
+    (λ c. omega arith)  -- add-round
+    (λ c κs. search needs)  -- accepted-requires
+    (λ c. let r = c .before .before .before .before .before .before .before .before .before .before .before in let l = r .before .before .before .before .before .before in r .one-round .kept .1 .1 .0 ∙ l .loop .inv .longs)  -- same-length
+    (λ c. let r = c .before .before .before .before .before .before .before .before .before .before .before in let l = r .before .before .before .before .before .before in r .one-round .kept .1 .1 .1 .0 ∙ l .loop .inv .words)  -- same-length-2
+    (λ c. let r = c .before .before .before .before .before .before .before .before .before .before .before in let l = r .before .before .before .before .before .before in r .one-round .kept .1 .1 .1 .1 .0 ∙ l .loop .inv .marks)  -- same-length-3
+    (λ c. let r = c .before .before .before .before .before .before .before .before .before .before .before in let l = r .before .before .before .before .before .before in r .one-round .kept .1 .1 .1 .1 .1 .1 .0 ∙ l .loop .inv .size)  -- same-length-4
+    -- returns
     (λ c.
     let a = c .before in
     let r = a .before .before .before .before .before .before .before .before .before .before in
     let i = r .before .before .before .before .before in
     let l = i .before in
     let p = l .before .before .before .before .before in
-    goes-accepted (l .loop .inv) (i .loop-test .taken) (r .one-round .ensures) (not-yes (sym (a .accepted .ensures) ∙ c .if1 .taken)) (p .pre .1 .1 .few) (p .pre .1 .0 .2))  -- returns
-    (λ c. omega (arith, c .before .before .before .before .before .before .before .before .before .before .before .before .before .before .before .before .loop-test .taken))
+    goes-accepted (l .loop .inv) (i .loop-test .taken) (r .one-round .ensures) (not-yes (sym (a .accepted .ensures) ∙ c .if1 .taken)) (p .pre .1 .1 .few) (p .pre .1 .0 .2))
+    (λ c. omega (arith, c .before .before .before .before .before .before .before .before .before .before .before .before .before .before .before .before .loop-test .taken))  -- loop-less
+    -- loop-again
     (λ c.
     let a = c .before in
     let r = a .before .before .before .before .before .before .before .before .before .before in
@@ -51,24 +52,26 @@ wait-rounds-spec =
     let l = i .before in
     let k = r .one-round .kept .1 .1 in
     goes-again (l .loop .inv) (i .loop-test .taken) (r .one-round .ensures) (no-not (sym (a .accepted .ensures) ∙ c .if1 .left))
-    (k .1 .1 .1 .1 .0) (k .0) (k .1 .0) (k .1 .1 .0))  -- loop-again
-    (λ c κs. search needs)
-    (λ c κs. search needs)
+    (k .1 .1 .1 .1 .0) (k .0) (k .1 .0) (k .1 .1 .0))
+    (λ c κs. search needs)  -- refused-requires
+    (λ c κs. search needs)  -- write-told-requires
+    -- add-t31
     (λ c.
     let w = c .before .before in
     let t = w .before .before in
     let e = t .before in
     let l = e .before in
     let p = l .before .before .before .before .before in
-    omega (arith, held-fits (l .loop .inv) (e .loop-test .left) (p .pre .1 .0 .0) (p .pre .1 .1) (p .pre .1 .0 .2) (t .refused .ensures) (w .write-told .ensures .0)))  -- add-t31
-    (λ c. c .before .before .before .before .before .before .loop .inv .longs)
-    (λ c. c .before .before .before .before .before .before .loop .inv .words)
-    (λ c. c .before .before .before .before .before .before .loop .inv .marks)
-    (λ c. c .before .before .write-told .kept .1 .0 ∙ c .before .before .before .before .before .before .loop .inv .size)
+    omega (arith, held-fits (l .loop .inv) (e .loop-test .left) (p .pre .1 .0 .0) (p .pre .1 .1) (p .pre .1 .0 .2) (t .refused .ensures) (w .write-told .ensures .0)))
+    (λ c. c .before .before .before .before .before .before .loop .inv .longs)  -- same-length-5
+    (λ c. c .before .before .before .before .before .before .loop .inv .words)  -- same-length-6
+    (λ c. c .before .before .before .before .before .before .loop .inv .marks)  -- same-length-7
+    (λ c. c .before .before .write-told .kept .1 .0 ∙ c .before .before .before .before .before .before .loop .inv .size)  -- same-length-8
+    -- returns-2
     (λ c.
     let w = c .before .before in
     let t = w .before .before in
     let e = t .before in
     let l = e .before in
     let p = l .before .before .before .before .before in
-    goes-held-end (l .loop .inv) (e .loop-test .left) (p .pre .1 .0 .0) (p .pre .1 .1) (p .pre .1 .0 .2) (t .refused .ensures) (w .write-told .ensures .0)))  -- returns-2
+    goes-held-end (l .loop .inv) (e .loop-test .left) (p .pre .1 .0 .0) (p .pre .1 .1) (p .pre .1 .0 .2) (t .refused .ensures) (w .write-told .ensures .0)))

@@ -16,22 +16,22 @@ pub run-both-spec : {M : Type 1} → statement M
 run-both-spec =
     tie.close
     (tie.spec
-    (λ c. search needs)
-    (λ c. search needs)
-    (λ c κs. search needs)
-    (λ c. search needs)
-    (λ c κs. search needs)
-    (λ c κs. search needs)
-    (λ c. search needs)
-    (λ c κs. search needs)
-    (λ c κs. search needs)
-    (λ c. search needs)
-    (λ c. search needs)
-    (λ c κs. search needs)
+    (λ c. search needs)  -- slice-aggregate-run-rounds
+    (λ c. search needs)  -- slice-aggregate-run-rounds-2
+    (λ c κs. search needs)  -- run-rounds-requires
+    (λ c. search needs)  -- slice-aggregate-front
+    (λ c κs. search needs)  -- rounds-of-requires
+    (λ c κs. search needs)  -- front-requires
+    (λ c. search needs)  -- slice-aggregate-run-struck
+    (λ c κs. search needs)  -- run-struck-requires
+    (λ c κs. search needs)  -- same-tables-requires
+    (λ c. search needs)  -- slice-aggregate-print
+    (λ c. search needs)  -- slice-aggregate-print-2
+    (λ c κs. search needs)  -- print-requires
     same-length
     same-length-2
     same-length-3
-    (λ c. search needs)
-    (λ c. search needs)
-    (λ c. search needs)
-    (λ c. search needs))
+    (λ c. search needs)  -- same-length-4
+    (λ c. search needs)  -- same-length-5
+    (λ c. search needs)  -- same-length-6
+    (λ c. search needs))  -- returns

@@ -27,18 +27,19 @@ pub run-stream-spec : {M : Type 1} → statement M
 run-stream-spec =
     tie.close
     (tie.spec
-    (λ c κs. search needs)
-    (λ c κs. search needs)
-    (λ c κs. search needs)
-    (λ c κs. search needs)
-    (λ c κs. search needs)
-    (λ c κs. search needs)
-    (λ c. longs-fit (c .before .before .before))
-    (λ c. sym (length-take-le _ _ (longs-fit (c .before .before .before .before))))
-    (λ c. words-fit (c .before .before .before))
-    (λ c. sym (length-take-le _ _ (words-fit (c .before .before .before .before))))
-    (λ c. marks-fit (c .before .before .before))
-    (λ c. sym (length-take-le _ _ (marks-fit (c .before .before .before .before))))
+    (λ c κs. search needs)  -- front-requires
+    (λ c κs. search needs)  -- first-record-requires
+    (λ c κs. search needs)  -- lengths-for-requires
+    (λ c κs. search needs)  -- longs-room-requires
+    (λ c κs. search needs)  -- words-room-requires
+    (λ c κs. search needs)  -- marks-room-requires
+    (λ c. longs-fit (c .before .before .before))  -- array-borrow-prefix-longs
+    (λ c. sym (length-take-le _ _ (longs-fit (c .before .before .before .before))))  -- slice-aggregate-run-all
+    (λ c. words-fit (c .before .before .before))  -- array-borrow-prefix-words
+    (λ c. sym (length-take-le _ _ (words-fit (c .before .before .before .before))))  -- slice-aggregate-run-all-2
+    (λ c. marks-fit (c .before .before .before))  -- array-borrow-prefix-marks
+    (λ c. sym (length-take-le _ _ (marks-fit (c .before .before .before .before))))  -- slice-aggregate-run-all-3
+    -- run-all-requires
     (λ c κs.
     let m = c .before .before .before .before in
     let l = m .before .before .before in
@@ -54,7 +55,8 @@ run-stream-spec =
         ),
       ),
     ))
-    (λ c. search needs)
+    (λ c. search needs)  -- same-length
+    -- returns
     (λ c.
     let r = c .before .before .before .before .before in
     let m = r .before .before .before .before .before in

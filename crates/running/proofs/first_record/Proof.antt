@@ -12,19 +12,21 @@ first-record-spec =
     tie.close
     (tie.spec
     (λ c. first-none (c .before .before .args .stream .now) (c .if1 .taken))  -- returns
-    (λ c. search needs)
-    (λ c κs. search needs)
-    (λ c κs. search needs)
-    (λ c κs. search needs)
+    (λ c. search needs)  -- shared-slice-read-kind
+    (λ c κs. search needs)  -- record-at-requires
+    (λ c κs. search needs)  -- record-stop-requires
+    (λ c κs. search needs)  -- goes-on-requires
+    -- returns-2
     (λ c.
     let r = c .before .before in
     let f = r .before in
     let e = f .before .before in
     first-stopped (e .before .before .args .stream .now) (e .if1 .left) (f .record-at .ensures) (r .record-stop .ensures)
-    (sym (c .before .goes-on .ensures) ∙ not-true _ (c .if2 .taken)))  -- returns-2
-    (λ c κs. search needs)
-    (λ c κs. search needs)
-    (λ c κs. search needs)
+    (sym (c .before .goes-on .ensures) ∙ not-true _ (c .if2 .taken)))
+    (λ c κs. search needs)  -- body-at-requires
+    (λ c κs. search needs)  -- settings-in-requires
+    (λ c κs. search needs)  -- place-after-requires
+    -- returns-3
     (λ c.
     let s = c .before in
     let b = s .before in

@@ -8,11 +8,12 @@ pub first-there-spec : {M : Type 1} → statement M
 first-there-spec =
     tie.close
     (tie.spec
-    (λ c. there-none (c .before .before .args .stream .now) (c .if1 .taken))
-    (λ c. search needs)
-    (λ c κs. search needs)
-    (λ c κs. search needs)
-    (λ c κs. search needs)
+    (λ c. there-none (c .before .before .args .stream .now) (c .if1 .taken))  -- returns
+    (λ c. search needs)  -- shared-slice-read-head-stop
+    (λ c κs. search needs)  -- record-at-requires
+    (λ c κs. search needs)  -- head-stop-requires
+    (λ c κs. search needs)  -- stop-number-requires
+    -- returns-2
     (λ c.
     let h = c .before in
     let r = h .before in

@@ -10,5 +10,5 @@ pub goes-on-spec : {M : Type 1} → statement M
 goes-on-spec =
     tie.close
     (tie.spec
-    (λ c κs. search needs)
-    (λ c. ap (λ (n : ℕ). eqb n 0) (c .stop-number .ensures)))
+    (λ c κs. search needs)  -- stop-number-requires
+    (λ c. ap (λ (n : ℕ). eqb n 0) (c .stop-number .ensures)))  -- returns

@@ -11,7 +11,6 @@ pub later-stop-spec : {M : Type 1} → statement M
 later-stop-spec =
     tie.close
     (tie.spec
-    (λ c κs. search needs)
-    (λ c κs. search needs)
-    -- returns
-    (λ c. let a = c .before .before .args in c .record-stop .ensures ∙ ap (foundStop (a .kind) (a .found) OutOfPlace) (c .before .room-stop .ensures)))
+    (λ c κs. search needs)  -- room-stop-requires
+    (λ c κs. search needs)  -- record-stop-requires
+    (λ c. let a = c .before .before .args in c .record-stop .ensures ∙ ap (foundStop (a .kind) (a .found) OutOfPlace) (c .before .room-stop .ensures)))  -- returns

@@ -7,9 +7,9 @@ pub lengths-for-spec : {M : Type 1} → statement M
 lengths-for-spec =
     tie.close
     (tie.spec
-    (λ c. search needs)
-    (λ c κs. search needs)
-    (λ c. search needs)
-    (λ c κs. search needs)
+    (λ c. search needs)  -- enum-told
+    (λ c κs. search needs)  -- no-lengths-requires
+    (λ c. search needs)  -- enum-known-first
+    (λ c κs. search needs)  -- lengths-of-requires
     (λ c. search needs)  -- returns
-    (λ c. rw (c .before .before .first .given .1) (c .lengths-of .ensures)))
+    (λ c. rw (c .before .before .first .given .1) (c .lengths-of .ensures)))  -- returns-2

@@ -10,18 +10,21 @@ pub record-stop-spec : {M : Type 1} → statement M
 record-stop-spec =
     tie.close
     (tie.spec
-    (λ c κs. search needs)
-    (λ c κs. search needs)
+    (λ c κs. search needs)  -- head-stop-requires
+    (λ c κs. search needs)  -- goes-on-requires
+    -- returns
     (λ c.
     let h = c .before .before in
     let a = h .before .args in
-    found-stopped (a .kind) (a .found) (a .settings) (a .other) (h .head-stop .ensures) (sym (c .before .goes-on .ensures) ∙ not-true _ (c .if1 .taken)))  -- returns
-    (λ c κs. search needs)
+    found-stopped (a .kind) (a .found) (a .settings) (a .other) (h .head-stop .ensures) (sym (c .before .goes-on .ensures) ∙ not-true _ (c .if1 .taken)))
+    (λ c κs. search needs)  -- is-settings-requires
+    -- returns-2
     (λ c.
     let i = c .before .before in
     let h = i .before .before in
     let a = h .before .args in
-    found-settings (a .kind) (a .found) (a .settings) (a .other) (h .head-stop .ensures) (sym (i .before .goes-on .ensures) ∙ not-false _ (i .if1 .left)) (c .before .is-settings .ensures) (c .if2 .taken))  -- returns-2
+    found-settings (a .kind) (a .found) (a .settings) (a .other) (h .head-stop .ensures) (sym (i .before .goes-on .ensures) ∙ not-false _ (i .if1 .left)) (c .before .is-settings .ensures) (c .if2 .taken))
+    -- returns-3
     (λ c.
     let i = c .before .before in
     let h = i .before .before in

@@ -8,4 +8,4 @@ room-stop-spec =
     tie.close
     (tie.spec
     (λ c. room-full (c .before .args .room) (c .if1 .taken))  -- returns
-    (λ c. room-enough (c .before .args .room) (c .if1 .left)))
+    (λ c. room-enough (c .before .args .room) (c .if1 .left)))  -- returns-2

@@ -7,20 +7,21 @@ pub settings-in-spec : {M : Type 1} → statement M
 settings-in-spec =
     tie.close
     (tie.spec
-    (λ c κs. search needs)
-    (λ c. search needs)
-    (λ c κs. search needs)
-    (λ c. search needs)
-    (λ c κs. search needs)
-    (λ c. search needs)
-    (λ c κs. search needs)
-    (λ c. search needs)
-    (λ c κs. search needs)
-    (λ c. search needs)
-    (λ c κs. search needs)
-    (λ c. search needs)
-    (λ c κs. search needs)
-    (λ c. search needs)
+    (λ c κs. search needs)  -- number2-requires
+    (λ c. search needs)  -- cast-t3
+    (λ c κs. search needs)  -- number1-requires
+    (λ c. search needs)  -- cast-t5
+    (λ c κs. search needs)  -- number1-requires-2
+    (λ c. search needs)  -- cast-t7
+    (λ c κs. search needs)  -- number1-requires-3
+    (λ c. search needs)  -- cast-t9
+    (λ c κs. search needs)  -- number1-requires-4
+    (λ c. search needs)  -- cast-t11
+    (λ c κs. search needs)  -- number1-requires-5
+    (λ c. search needs)  -- cast-t13
+    (λ c κs. search needs)  -- number1-requires-6
+    (λ c. search needs)  -- cast-t15
+    -- returns
     (λ c.
     let queue = c .before in
     let readers = queue .before in

@@ -8,9 +8,10 @@ pub same-tables-spec : {M : Type 1} → statement M
 same-tables-spec =
     tie.close
     (tie.spec
-    (λ c κs. search needs)
-    (λ c κs. search needs)
-    (λ c κs. search needs)
+    (λ c κs. search needs)  -- same-longs-requires
+    (λ c κs. search needs)  -- same-words-requires
+    (λ c κs. search needs)  -- same-requires
+    -- returns
     (λ c.
     let w = c .before in
     let l = w .before in

@@ -16,21 +16,20 @@ abbrev μ-loop : tie.MeasureT-loop
 pub show-all-spec : {M : Type 1} → statement M
 show-all-spec =
     tie.close
-    (tie.spec
-    Inv-loop
-    μ-loop
-    (λ c. (refl, refl))
-    (λ c κs. search needs)
+    (tie.spec Inv-loop μ-loop
+    (λ c. (refl, refl))  -- loop-holds
+    (λ c κs. search needs)  -- read-once-requires
+    -- loop-less
     (λ c.
     let r = c .before .before .before .before in
     let t = r .before .before .before in
     let w = t .before .loop .w in
     turns-less (w .more) (w .left) _ (t .loop-test .taken) (r .read-once .ensures))
-    (λ c. search needs)
-    (λ c κs. search needs)
-    (λ c. search needs)
-    (λ c. search needs)
-    (λ c. search needs)
-    (λ c. search needs)
-    (λ c. search needs)
-    (λ c. search needs))
+    (λ c. search needs)  -- loop-again
+    (λ c κs. search needs)  -- write-out-requires
+    (λ c. search needs)  -- same-length
+    (λ c. search needs)  -- same-length-2
+    (λ c. search needs)  -- returns
+    (λ c. search needs)  -- same-length-3
+    (λ c. search needs)  -- same-length-4
+    (λ c. search needs))  -- returns-2

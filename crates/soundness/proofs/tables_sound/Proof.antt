@@ -18,6 +18,7 @@ tables-sound-spec =
     (λ c κs. let tested = c .before in let start = tested .before .before .before .before .before .before .before in let a = start .args in (start .pre .0, start .pre .1, lines-yes (a .s) (a .longs .now) (a .words .now) (a .marks .now) _ _ (tested .before .before .gathered .ensures ∙ kinds-gathered (a .s) (start .pre .0) (a .marks .now)) (tested .before .lines-fine .ensures) (tested .if1 .left)))  -- sectors-fine-requires
     (λ c κs. let pre = c .before .before .before .before .before .before .before .before .before .pre in (pre .0, pre .1))  -- tickets-fine-requires
     (λ c κs. let pre = c .before .before .before .before .before .before .before .before .before .before .pre in let at = pre .0 in let fit = pre .1 in omega arith)  -- gathered-requires-2
+    -- entries-fine-requires
     (λ c κs.
     let ended = c .before .before .before in
     let tested = ended .before in
@@ -27,10 +28,11 @@ tables-sound-spec =
       start .pre .1,
       lines-yes (a .s) (a .longs .now) (a .words .now) (a .marks .now) _ _ (tested .before .before .gathered .ensures ∙ kinds-gathered (a .s) (start .pre .0) (a .marks .now)) (tested .before .lines-fine .ensures) (tested .if1 .left),
       queue-ends (a .s) (start .pre .0) (a .marks .now) (kinds-yes (a .s) (a .longs .now) (a .words .now) (a .marks .now) _ _ (tested .before .before .gathered .ensures ∙ kinds-gathered (a .s) (start .pre .0) (a .marks .now)) (tested .before .lines-fine .ensures) (tested .if1 .left)) (ended .used .ensures),
-    ))  -- entries-fine-requires
+    ))
     (λ c κs. let pre = c .before .before .before .before .before .before .before .before .before .before .before .before .pre in (pre .0, pre .1))  -- places-fine-requires
     (λ c κs. let pre = c .before .before .before .before .before .before .before .before .before .before .before .before .before .pre in (pre .0, pre .1))  -- count-fine-requires
     (λ c κs. let pre = c .before .before .before .before .before .before .before .before .before .before .before .before .before .before .pre in (pre .0, pre .1))  -- trees-fine-requires
+    -- returns-2
     (λ c.
     let counted = c .before in
     let placed = counted .before in
@@ -41,4 +43,4 @@ tables-sound-spec =
     let a = start .args in
     rest (a .s) (a .longs .now) (a .words .now) (a .marks .now) _ _ (tested .before .before .gathered .ensures ∙ kinds-gathered (a .s) (start .pre .0) (a .marks .now)) (tested .before .lines-fine .ensures) (tested .if1 .left) (sectors .sectors-fine .ensures) (gathered .before .tickets-fine .ensures)
     (gathered .gathered2 .ensures ∙ counts-gathered (a .s) (start .pre .0) (a .marks .now)) (placed .before .entries-fine .ensures)
-    (placed .places-fine .ensures) (counted .count-fine .ensures) (c .trees-fine .ensures)))  -- returns-2
+    (placed .places-fine .ensures) (counted .count-fine .ensures) (c .trees-fine .ensures)))

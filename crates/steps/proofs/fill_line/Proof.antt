@@ -44,16 +44,17 @@ pub fill-line-spec : {M : Type 1} → statement M
 fill-line-spec =
     tie.close
     (tie.spec
-    (λ c κs. search needs)
-    (λ c κs. search needs)
+    (λ c κs. search needs)  -- set-index-requires
+    (λ c κs. search needs)  -- block-of-requires
+    -- mul-find-line
     (λ c.
     let set = c .before .before in
     let start = set .before .before .before .before in
     let a = start .args in
     omega (arith, set-room (a .s) (a .address) (set .set-index .ensures) (start .pre .0 .sets) (start .pre .0 .ways)))
     find-line-requires
-    (λ c κs. search needs)
+    (λ c κs. search needs)  -- sector-index-requires
     fill-sector-requires
-    (λ c. search needs)
-    (λ c. search needs)
+    (λ c. search needs)  -- same-length
+    (λ c. search needs)  -- same-length-2
     returns)

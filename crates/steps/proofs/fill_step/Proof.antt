@@ -9,9 +9,10 @@ pub fill-step-spec : {M : Type 1} → statement M
 fill-step-spec =
     tie.close
     (tie.spec
+    -- used-requires
     (λ c κs.
     let start = c .before .before .before .before in
-    let i = start .pre .1 .are in let z = stands-fit (i .range) (is-stands i) in let p = start .pre .0 in omega arith)  -- used-requires
+    let i = start .pre .1 .are in let z = stands-fit (i .range) (is-stands i) in let p = start .pre .0 in omega arith)
     (λ c κs. search needs)  -- fill-counted-requires
     (λ c. search needs)  -- same-length
     (λ c. search needs)  -- same-length-2

@@ -28,13 +28,15 @@ close-longs-spec =
     (λ c. omega arith)  -- slice-write-s
     (λ c. omega arith)  -- add-i
     (λ c. omega arith)  -- loop-less
+    -- loop-again
     (λ c.
     let t = c .before .before in let a = t .before .args in let i = t .loop .i in
-    (omega arith, omega arith, move-at (a .s .now) (a .at + a .e) (a .n - a .e) 1 (omega arith, omega arith) _ (i - a .e) (i + 1 - a .e) (a .at + i) (a .at + i + 1) (omega arith) (omega arith) (omega arith) (omega arith) (t .loop .inv .2)))  -- loop-again
+    (omega arith, omega arith, move-at (a .s .now) (a .at + a .e) (a .n - a .e) 1 (omega arith, omega arith) _ (i - a .e) (i + 1 - a .e) (a .at + i) (a .at + i + 1) (omega arith) (omega arith) (omega arith) (omega arith) (t .loop .inv .2)))
     (λ c. omega arith)  -- add-s-4
     (λ c. omega arith)  -- mul-s-3
     (λ c. omega arith)  -- slice-write-s-2
     (λ c. simp length-set (omega arith))  -- same-length
+    -- returns
     (λ c.
     let t = c .before in let a = t .before .args in
-    closing-last (a .s .now) (a .at + a .e) (a .n - a .e) (omega arith, omega arith) _ (t .loop .i - a .e) (a .at + (a .n - 1)) (omega arith) (omega arith) (t .loop .inv .2)))  -- returns
+    closing-last (a .s .now) (a .at + a .e) (a .n - a .e) (omega arith, omega arith) _ (t .loop .i - a .e) (a .at + (a .n - 1)) (omega arith) (omega arith) (t .loop .inv .2)))

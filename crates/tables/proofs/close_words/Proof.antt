@@ -33,16 +33,18 @@ close-words-spec =
     (λ c. omega arith)  -- slice-write-s
     (λ c. omega arith)  -- add-i
     (λ c. omega arith)  -- loop-less
+    -- loop-again
     (λ c.
     let t = c .before .before in let a = t .before .before .args in let inv = t .loop .inv in
-    (omega arith, inv .1, inv .2, closing-move (a .s .now) (a .at + a .by * a .e) (a .by * (a .n - a .e)) (a .by) (omega arith, inv .2) _ _ (omega arith) (inv .3)))  -- loop-again
+    (omega arith, inv .1, inv .2, closing-move (a .s .now) (a .at + a .by * a .e) (a .by * (a .n - a .e)) (a .by) (omega arith, inv .2) _ _ (omega arith) (inv .3)))
     (λ c. let start = c .before .before .before .before in let a = start .args in let r = rows (a .by) (a .n) (a .e) (start .pre .0) in omega arith)  -- mul-zero-words
     (λ c. let start = c .before .before .before .before in let a = start .args in let r = rows (a .by) (a .n) (a .e) (start .pre .0) in omega arith)  -- add-zero-words
     (λ c κs. let start = c .before .before .before .before in let a = start .args in let r = rows (a .by) (a .n) (a .e) (start .pre .0) in omega arith)  -- zero-words-requires
     (λ c. omega arith)  -- same-length
+    -- returns
     (λ c.
     let called = c .before .before in
     let t = called .before .before .before in
     let start = t .before .before in let a = start .args in let r = rows (a .by) (a .n) (a .e) (start .pre .0) in let inv = t .loop .inv in
     called .zero-words .ensures
-    ∙ closing-rest (a .s .now) (a .at + a .by * a .e) (a .by * (a .n - a .e)) (a .by) (omega arith, inv .2) _ (t .loop .i) (a .at + a .by * (a .n - 1)) (omega arith) (omega arith) (inv .3)))  -- returns
+    ∙ closing-rest (a .s .now) (a .at + a .by * a .e) (a .by * (a .n - a .e)) (a .by) (omega arith, inv .2) _ (t .loop .i) (a .at + a .by * (a .n - 1)) (omega arith) (omega arith) (inv .3)))

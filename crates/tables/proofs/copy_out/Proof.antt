@@ -21,10 +21,11 @@ copy-out-spec =
     (λ c. omega arith)  -- mul-out
     (λ c. omega arith)  -- shared-slice-read-out
     (λ c. omega arith)  -- array-write-out
+    -- loop-holds
     (λ c.
     let a = c .before .args in
     let r = length-region (a .words .now) (a .at) (a .n) (omega arith) in
-    (omega arith, copying-turn 8 (region (a .words .now) (a .at) (a .n)) _ 0 _ (omega arith) (omega arith) (region-first (a .words .now) (a .at) (a .n) (omega arith)) (copying-start 8 (region (a .words .now) (a .at) (a .n)))))  -- loop-holds
+    (omega arith, copying-turn 8 (region (a .words .now) (a .at) (a .n)) _ 0 _ (omega arith) (omega arith) (region-first (a .words .now) (a .at) (a .n) (omega arith)) (copying-start 8 (region (a .words .now) (a .at) (a .n)))))
     (λ c. omega arith)  -- add-out
     (λ c. omega arith)  -- mul-out-2
     (λ c. omega arith)  -- shared-slice-read-out-2
@@ -32,9 +33,11 @@ copy-out-spec =
     (λ c. omega arith)  -- array-write-out-2
     (λ c. omega arith)  -- add-i
     (λ c. omega arith)  -- loop-less
+    -- loop-again
     (λ c. let a = c .before .before .before .before .args in let l = c .before .before .loop in
     let r = length-region (a .words .now) (a .at) (a .n) (omega arith) in
-    (omega arith, copying-turn 8 (region (a .words .now) (a .at) (a .n)) (l .out) (l .i) _ (omega arith) (omega arith) (getD-region (a .words .now) (a .at) (a .n) (l .i) (omega arith)) (l .inv .1)))  -- loop-again
+    (omega arith, copying-turn 8 (region (a .words .now) (a .at) (a .n)) (l .out) (l .i) _ (omega arith) (omega arith) (getD-region (a .words .now) (a .at) (a .n) (l .i) (omega arith)) (l .inv .1)))
+    -- returns
     (λ c. let a = c .before .before .before .args in let l = c .before .loop in
     let e : a .n ≡ l .i = omega arith in
-    copying-done 8 (region (a .words .now) (a .at) (a .n)) (l .out) (l .i) (length-region (a .words .now) (a .at) (a .n) (omega arith) ∙ e) (omega arith) (l .inv .1)))  -- returns
+    copying-done 8 (region (a .words .now) (a .at) (a .n)) (l .out) (l .i) (length-region (a .words .now) (a .at) (a .n) (omega arith) ∙ e) (omega arith) (l .inv .1)))

@@ -11,5 +11,6 @@ is-unused-spec =
     tie.close
     (tie.spec
     (λ c κs. search needs)  -- statuses-at-requires
+    -- returns
     (λ c. let a = c .before .before .args in
-    ap (λ (x : ℕ). eqb x 0) (c .statuses-at .ensures) ∙ unused-statuses (a .marks .now) (a .l)))  -- returns
+    ap (λ (x : ℕ). eqb x 0) (c .statuses-at .ensures) ∙ unused-statuses (a .marks .now) (a .l)))

@@ -59,6 +59,7 @@ pop-spec =
     (λ c. simp length-set (omega arith))  -- slice-write-words-4
     (λ c. omega arith)  -- add-i
     (λ c. omega arith)  -- loop-less
+    -- loop-again
     (λ c.
     let test = c .before .before .before .before .before .before in
     let t = test .before in let p = t .before .pre in let inv = t .loop .inv in let k = test .loop-test .taken in let i = t .loop .i in (
@@ -66,7 +67,7 @@ pop-spec =
       closing-move _ _ _ _ (p .0, p .1) _ i k (inv .1),
       closing-four _ _ _ (omega arith, p .2) _ (4 * i) (4 * (i + 1)) _ (omega arith) refl (omega arith) (inv .2),
       closing-move _ _ _ _ (p .0, p .3) _ i k (inv .3),
-    ))  -- loop-again
+    ))
     (λ c. omega arith)  -- add-longs-4
     (λ c. omega arith)  -- mul-longs-3
     (λ c. omega arith)  -- slice-write-longs-2
@@ -88,9 +89,10 @@ pop-spec =
     (λ c. simp length-set (omega arith))  -- same-length
     (λ c. simp length-set (omega arith))  -- same-length-2
     (λ c. simp length-set (omega arith))  -- same-length-3
+    -- returns
     (λ c.
     let t = c .before in let p = t .before .pre in let inv = t .loop .inv in let i = t .loop .i in (
       closing-last _ _ _ (p .0, p .1) _ i _ (omega arith) (omega arith) (inv .1),
       closing-last-four _ _ _ (omega arith, p .2) _ (4 * i) _ (omega arith) (omega arith) (inv .2),
       closing-last _ _ _ (p .0, p .3) _ i _ (omega arith) (omega arith) (inv .3),
-    )))  -- returns
+    )))

@@ -37,8 +37,9 @@ push-spec =
     (λ c. search needs)  -- same-length
     (λ c. search needs)  -- same-length-2
     (λ c. search needs)  -- same-length-3
+    -- returns
     (λ c. let start = c .before .before .before .before .before .before .before .before in let a = start .args in (
       one-put (a .longs .now) _ _ (start .pre .0),
       four-put (a .words .now) _ (a .entry .masks) (start .pre .1) (words-length 4 (a .entry .masks) _ (start .good .1 .1 .1 .1 .1 .0 .1 .1 .1 .0)),
       rw (c .queue-kind-number .ensures) (one-put (a .marks .now) _ _ (start .pre .2)),
-    )))  -- returns
+    )))

@@ -20,9 +20,10 @@ remove-spec =
     (λ c. search needs)  -- slice-write-longs
     (λ c. let start = c .before .before .before .before .before .before in let a = start .args in let r = rows (a .readers) (a .n) (a .e) (start .pre .0) in omega arith)  -- mul-zero-words
     (λ c. let start = c .before .before .before .before .before .before .before in let a = start .args in let r = rows (a .readers) (a .n) (a .e) (start .pre .0) in omega arith)  -- add-zero-words
+    -- zero-words-requires
     (λ c κs.
     let start = c .before .before .before .before .before .before .before in let a = start .args in let r = rows (a .readers) (a .n) (a .e) (start .pre .0) in
-    let one : a .n - a .e ≡ 1 = omega arith in let m = ap (λ (x : ℕ). a .readers * x) one in omega arith)  -- zero-words-requires
+    let one : a .n - a .e ≡ 1 = omega arith in let m = ap (λ (x : ℕ). a .readers * x) one in omega arith)
     (λ c. search needs)  -- add-marks
     (λ c. search needs)  -- slice-write-marks
     (λ c. let start = c .before .before .before .before .before .before .before .before .before .before .before .before in let a = start .args in omega (arith, start .pre, length-set (a .marks .now) (a .at .sent + a .e) 0))  -- add-marks-2
@@ -30,6 +31,7 @@ remove-spec =
     (λ c. search needs)  -- same-length
     (λ c. search needs)  -- same-length-2
     (λ c. search needs)  -- same-length-3
+    -- returns
     (λ c.
     let zeroed = c .before .before .before .before in
     let start = zeroed .before .before .before .before .before .before .before .before in
@@ -43,7 +45,7 @@ remove-spec =
       zeroed .zero-words .ensures ∙ only-row (a .words .now) (at .tickets + a .readers * a .e) (a .readers * left) (a .readers) (omega arith) (omega arith),
       only-one _ (at .counts + a .e) left one (simp length-set (omega arith))
           ∙ ap (λ (l : List ℕ). closed l (at .counts + a .e) left 1) (only-one (a .marks .now) (at .sent + a .e) left one (omega arith)),
-    ))  -- returns
+    ))
     (λ c κs. search needs)  -- close-longs-requires
     (λ c κs. search needs)  -- close-words-requires
     (λ c κs. search needs)  -- close-marks-requires
@@ -51,10 +53,11 @@ remove-spec =
     (λ c. search needs)  -- same-length-4
     (λ c. search needs)  -- same-length-5
     (λ c. search needs)  -- same-length-6
+    -- returns-2
     (λ c.
     let again = c .before .before in
     let marks = again .before .before .before .before in
     let words = marks .before .before .before .before in
     let longs = words .before .before .before .before in
     let start = longs .before .before .before .before .before .before in
-    let a = start .args in (longs .close-longs .ensures, words .close-words .ensures, again .close-marks2 .ensures ∙ ap (λ (l : List ℕ). closed l (a .at .counts + a .e) (a .n - a .e) 1) (marks .close-marks .ensures))))  -- returns-2
+    let a = start .args in (longs .close-longs .ensures, words .close-words .ensures, again .close-marks2 .ensures ∙ ap (λ (l : List ℕ). closed l (a .at .counts + a .e) (a .n - a .e) 1) (marks .close-marks .ensures))))

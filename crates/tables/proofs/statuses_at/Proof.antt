@@ -17,22 +17,22 @@ pub statuses-at-spec : {M : Type 1} → statement M
 statuses-at-spec =
     tie.close
     (tie.spec
-    (λ c. search needs)
-    (λ c. search needs)
-    (λ c. omega (arith, c .shared-slice-known .given (4 * c .before .args .l)))
-    (λ c. search needs)
-    (λ c. search needs)
-    (λ c. omega (arith, c .shared-slice-known2 .given (4 * c .before .before .args .l + 1)))
-    (λ c. search needs)
-    (λ c. search needs)
-    (λ c. omega (arith, c .shared-slice-known3 .given (4 * c .before .before .before .args .l + 2)))
-    (λ c. search needs)
-    (λ c. search needs)
-    (λ c. omega (arith, bytes c))
-    (λ c. omega (arith, bytes c))
-    (λ c. omega (arith, bytes c))
-    (λ c. omega (arith, bytes c))
-    (λ c. omega (arith, bytes c))
-    (λ c. omega (arith, bytes c))
-    (λ c. omega (arith, bytes c))
-    (λ c. omega arith))
+    (λ c. search needs)  -- mul-i
+    (λ c. search needs)  -- shared-slice-read-b0
+    (λ c. omega (arith, c .shared-slice-known .given (4 * c .before .args .l)))  -- cast-b0
+    (λ c. search needs)  -- add-b1
+    (λ c. search needs)  -- shared-slice-read-b1
+    (λ c. omega (arith, c .shared-slice-known2 .given (4 * c .before .before .args .l + 1)))  -- cast-b1
+    (λ c. search needs)  -- add-b2
+    (λ c. search needs)  -- shared-slice-read-b2
+    (λ c. omega (arith, c .shared-slice-known3 .given (4 * c .before .before .before .args .l + 2)))  -- cast-b2
+    (λ c. search needs)  -- add-b3
+    (λ c. search needs)  -- shared-slice-read-b3
+    (λ c. omega (arith, bytes c))  -- cast-b3
+    (λ c. omega (arith, bytes c))  -- mul-result
+    (λ c. omega (arith, bytes c))  -- add-result
+    (λ c. omega (arith, bytes c))  -- mul-result-2
+    (λ c. omega (arith, bytes c))  -- add-result-2
+    (λ c. omega (arith, bytes c))  -- mul-result-3
+    (λ c. omega (arith, bytes c))  -- add-result-3
+    (λ c. omega arith))  -- returns

@@ -19,15 +19,13 @@ abbrev μ-loop : tie.MeasureT-loop
 pub copy-spec : {M : Type 1} → statement M
 copy-spec =
     tie.close
-    (tie.spec
-    Inv-loop
-    μ-loop
-    (λ c. (refl, rw add-zero))
-    (λ c. search needs)
-    (λ c. search needs)
-    (λ c. search needs)
-    (λ c. search needs)
-    (λ c. search needs)
-    (λ c. let l = c .before in let v = l .before .loop in (simp length-set (v .inv .0), v .inv .1 ∙ copy-turn (v .out) _ _ (v .i) (l .loop-test .taken)))
-    (λ c. search needs)
-    (λ c. let v = c .before .loop in sym (v .inv .1 ∙ copy-done (v .out) _ _ (v .i) (c .loop-test .left))))
+    (tie.spec Inv-loop μ-loop
+    (λ c. (refl, rw add-zero))  -- loop-holds
+    (λ c. search needs)  -- shared-slice-read-out
+    (λ c. search needs)  -- add-out
+    (λ c. search needs)  -- slice-write-out
+    (λ c. search needs)  -- add-i
+    (λ c. search needs)  -- loop-less
+    (λ c. let l = c .before in let v = l .before .loop in (simp length-set (v .inv .0), v .inv .1 ∙ copy-turn (v .out) _ _ (v .i) (l .loop-test .taken)))  -- loop-again
+    (λ c. search needs)  -- same-length
+    (λ c. let v = c .before .loop in sym (v .inv .1 ∙ copy-done (v .out) _ _ (v .i) (c .loop-test .left))))  -- returns

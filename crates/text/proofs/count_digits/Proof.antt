@@ -17,12 +17,10 @@ abbrev μ-loop : tie.MeasureT-loop
 pub count-digits-spec : {M : Type 1} → statement M
 count-digits-spec =
     tie.close
-    (tie.spec
-    Inv-loop
-    μ-loop
-    (λ c. (omega arith, omega arith))
-    (λ c. search needs)
-    (λ c. search needs)
-    (λ c. div-falls _ _ (c .before .before .pre) (c .loop-test .taken))
-    (λ c. let h = div-falls _ _ (c .before .before .pre) (c .loop-test .taken) in (omega (arith, count-more _ _ (c .before .before .pre) (c .loop-test .taken)), omega arith))
-    (λ c. omega (arith, count-last _ _ (c .loop-test .left))))
+    (tie.spec Inv-loop μ-loop
+    (λ c. (omega arith, omega arith))  -- loop-holds
+    (λ c. search needs)  -- div-rest
+    (λ c. search needs)  -- add-k
+    (λ c. div-falls _ _ (c .before .before .pre) (c .loop-test .taken))  -- loop-less
+    (λ c. let h = div-falls _ _ (c .before .before .pre) (c .loop-test .taken) in (omega (arith, count-more _ _ (c .before .before .pre) (c .loop-test .taken)), omega arith))  -- loop-again
+    (λ c. omega (arith, count-last _ _ (c .loop-test .left))))  -- returns

@@ -18,17 +18,16 @@ abbrev μ-loop : tie.MeasureT-loop
 pub fill-spec : {M : Type 1} → statement M
 fill-spec =
     tie.close
-    (tie.spec
-    Inv-loop
-    μ-loop
-    (λ c. (omega arith, refl, fill-start (c .args .out .now) (c .args .at) (c .args .k) (c .args .c)))
-    (λ c. search needs)
-    (λ c. search needs)
-    (λ c. search needs)
-    (λ c. search needs)
+    (tie.spec Inv-loop μ-loop
+    (λ c. (omega arith, refl, fill-start (c .args .out .now) (c .args .at) (c .args .k) (c .args .c)))  -- loop-holds
+    (λ c. search needs)  -- add-out
+    (λ c. search needs)  -- slice-write-out
+    (λ c. search needs)  -- add-i
+    (λ c. search needs)  -- loop-less
+    -- loop-again
     (λ c.
     let a = c .before .before .args in
     let v = c .before .loop in
     (omega arith, simp length-set (v .inv .1), v .inv .2 ∙ fill-turn (v .out) (a .at) (a .k) (v .i) (a .c) (c .loop-test .taken)))
-    (λ c. search needs)
-    (λ c. let a = c .before .before .args in let v = c .before .loop in sym (v .inv .2 ∙ fill-done (v .out) (a .at) (a .k) (v .i) (a .c) (c .loop-test .left))))
+    (λ c. search needs)  -- same-length
+    (λ c. let a = c .before .before .args in let v = c .before .loop in sym (v .inv .2 ∙ fill-done (v .out) (a .at) (a .k) (v .i) (a .c) (c .loop-test .left))))  -- returns

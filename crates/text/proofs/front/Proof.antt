@@ -10,6 +10,6 @@ pub front-spec : {M : Type 1} → statement M
 front-spec =
     tie.close
     (tie.spec
-    (λ c. sym (length-take-le _ _ (omega arith)))
-    (λ c. search needs)
-    (λ c. sym (take-all _ _ (c .if1 .left))))
+    (λ c. sym (length-take-le _ _ (omega arith)))  -- slice-aggregate-result
+    (λ c. search needs)  -- returns
+    (λ c. sym (take-all _ _ (c .if1 .left))))  -- returns-2

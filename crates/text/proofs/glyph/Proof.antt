@@ -8,9 +8,9 @@ pub glyph-spec : {M : Type 1} → statement M
 glyph-spec =
     tie.close
     (tie.spec
-    (λ c. search needs)
-    (λ c. search needs)
-    (λ c. search needs)
-    (λ c. search needs)
-    (λ c. rw (lt-ltb _ 10 (c .if1 .taken)))
-    (λ c. rw (le-ltb _ 10 (c .if1 .left))))
+    (λ c. search needs)  -- cast-result
+    (λ c. search needs)  -- add-result
+    (λ c. search needs)  -- cast-result-2
+    (λ c. search needs)  -- add-result-2
+    (λ c. rw (lt-ltb _ 10 (c .if1 .taken)))  -- returns
+    (λ c. rw (le-ltb _ 10 (c .if1 .left))))  -- returns-2

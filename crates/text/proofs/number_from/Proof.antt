@@ -21,13 +21,12 @@ abbrev μ-loop : tie.MeasureT-loop
 pub number-from-spec : {M : Type 1} → statement M
 number-from-spec =
     tie.close
-    (tie.spec
-    Inv-loop
-    μ-loop
-    (λ c. (omega arith, refl, refl))
-    (λ c. search needs)
-    (λ c κs. search needs)
-    (λ c κs. search needs)
+    (tie.spec Inv-loop μ-loop
+    (λ c. (omega arith, refl, refl))  -- loop-holds
+    (λ c. search needs)  -- shared-slice-read-digit
+    (λ c κs. search needs)  -- digit-requires
+    (λ c κs. search needs)  -- number-of-requires
+    -- returns
     (λ c.
     let d = c .before .before in
     let l = d .before .before in
@@ -38,9 +37,10 @@ number-from-spec =
     (past-off _ _ _ (l .loop-test .taken) q ∙ sym (v .inv .1))
     (v .inv .2 ∙ value-off _ _ (v .i) _ _ (l .loop-test .taken) (d .digit .ensures .0) (c .before .if1 .taken))
     (c .number-of .ensures))
-    (λ c κs. search needs)
-    (λ c. search needs)
-    (λ c. search needs)
+    (λ c κs. search needs)  -- with-digit-requires
+    (λ c. search needs)  -- enum-known-v
+    (λ c. search needs)  -- enum-told
+    -- returns-2
     (λ c.
     let g = c .before .before in
     let d = g .before .before in
@@ -49,8 +49,9 @@ number-from-spec =
     let v = l .before .loop in
     number-large _ _ (s .args .at) (v .i) (v .value) (d .digit .result) (s .pre .0) (v .inv .0) (l .loop-test .taken) (d .digit .ensures .0) (g .before .if1 .left) (v .inv .1) (v .inv .2)
     (grown-over _ _ _ (sym (c .enum-told .given .1) ∙ g .with-digit .ensures)))
-    (λ c. search needs)
-    (λ c. search needs)
+    (λ c. search needs)  -- add-i
+    (λ c. search needs)  -- loop-less
+    -- loop-again
     (λ c.
     let g = c .before .before .before in
     let d = g .before .before in
@@ -62,7 +63,8 @@ number-from-spec =
       v .inv .1 ∙ past-on _ _ _ (l .loop-test .taken) (digit-yes _ (getD (a .s .now) (v .i) 0) (d .digit .ensures .0) (g .before .if1 .left)),
       v .inv .2 ∙ rw (n .0) (value-on _ _ (v .i) _ _ (l .loop-test .taken) (d .digit .ensures .0) (g .before .if1 .left)),
     ))
-    (λ c κs. search needs)
+    (λ c κs. search needs)  -- number-of-requires-2
+    -- returns-3
     (λ c.
     let l = c .before in
     let v = l .before .loop in

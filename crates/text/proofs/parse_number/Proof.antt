@@ -12,11 +12,12 @@ unfolding parseNumber
 parse-number-spec =
     tie.close
     (tie.spec
-    (λ c κs. search needs)
+    (λ c κs. search needs)  -- is-hex-requires
+    -- add-number-from
     (λ c.
     let a = c .before .before .before .args in
     omega (arith, hex-within (a .line .now) (a .at) (sym (c .before .is-hex .ensures) ∙ c .if1 .taken)))
-    (λ c κs. search needs)
-    (λ c κs. search needs)
-    (λ c. rw (sym (c .before .before .is-hex .ensures) ∙ c .before .if1 .taken) (c .number-from .ensures))
-    (λ c. rw (sym (c .before .before .is-hex .ensures) ∙ c .before .if1 .left) (c .number-from2 .ensures)))
+    (λ c κs. search needs)  -- number-from-requires
+    (λ c κs. search needs)  -- number-from-requires-2
+    (λ c. rw (sym (c .before .before .is-hex .ensures) ∙ c .before .if1 .taken) (c .number-from .ensures))  -- returns
+    (λ c. rw (sym (c .before .before .is-hex .ensures) ∙ c .before .if1 .left) (c .number-from2 .ensures)))  -- returns-2

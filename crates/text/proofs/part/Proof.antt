@@ -10,10 +10,10 @@ unfolding partOf
 part-spec =
     tie.close
     (tie.spec
-    (λ c. search needs)
-    (λ c. rw (lt-leb _ _ (c .before .if1 .taken)))
-    (λ c. search needs)
-    (λ c. rw (le-leb _ _ (c .before .before .if1 .left), lt-leb _ _ (c .before .if2 .taken)))
-    (λ c. search needs)
-    (λ c. search needs)
-    (λ c. rw (le-leb _ _ (c .before .before .if1 .left), le-leb _ _ (c .before .if2 .left))))
+    (λ c. search needs)  -- slice-aggregate-result
+    (λ c. rw (lt-leb _ _ (c .before .if1 .taken)))  -- returns
+    (λ c. search needs)  -- slice-aggregate-result-2
+    (λ c. rw (le-leb _ _ (c .before .before .if1 .left), lt-leb _ _ (c .before .if2 .taken)))  -- returns-2
+    (λ c. search needs)  -- part-result-start
+    (λ c. search needs)  -- part-result-end
+    (λ c. rw (le-leb _ _ (c .before .before .if1 .left), le-leb _ _ (c .before .if2 .left))))  -- returns-3

@@ -12,6 +12,6 @@ passes-spec =
     (λ c. search needs)  -- enum-told-2
     (λ c κs. search needs)  -- is-space-requires-2
     (λ c. search needs)  -- enum-told-3
-    (λ c. rw (c .before .enum-told .given .1) (c .is-space .ensures))
-    (λ c. rw (c .before .enum-told2 .given .1, c .is-space2 .ensures))
-    (λ c. rw (c .enum-told3 .given .1)))
+    (λ c. rw (c .before .enum-told .given .1) (c .is-space .ensures))  -- returns
+    (λ c. rw (c .before .enum-told2 .given .1, c .is-space2 .ensures))  -- returns-2
+    (λ c. rw (c .enum-told3 .given .1)))  -- returns-3

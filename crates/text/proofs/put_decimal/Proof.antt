@@ -5,4 +5,9 @@ use Rattle.text.proofs.put_decimal.Statement.{statement}
 use Rattle.text.proofs.put_decimal.Tie as tie
 
 pub put-decimal-spec : {M : Type 1} → statement M
-put-decimal-spec = tie.close (tie.spec (λ c κs. search needs) (λ c. search needs) (λ c. rw (padded-not 32 10 _) at (c .before .before .put-padded .ensures)))
+put-decimal-spec =
+    tie.close
+    (tie.spec
+    (λ c κs. search needs)  -- put-padded-requires
+    (λ c. search needs)  -- same-length
+    (λ c. rw (padded-not 32 10 _) at (c .before .before .put-padded .ensures)))  -- returns

@@ -9,21 +9,24 @@ pub put-padded-spec : {M : Type 1} → statement M
 put-padded-spec =
     tie.close
     (tie.spec
-    (λ c κs. search needs)
-    (λ c κs. search needs)
-    (λ c. search needs)
+    (λ c κs. search needs)  -- count-digits-requires
+    (λ c κs. search needs)  -- lacking-requires
+    (λ c. search needs)  -- add-size
+    -- returns
     (λ c.
     let p = c .before in
     padded-none _ _ _ _ _ _ (p .before .count-digits .ensures) (p .lacking .ensures) (omega arith))
-    (λ c. search needs)
+    (λ c. search needs)  -- sub-if2
+    -- returns-2
     (λ c.
     let p = c .before .before in
     padded-none _ _ _ _ _ _ (p .before .count-digits .ensures) (p .lacking .ensures) (omega arith))
-    (λ c κs. search needs)
-    (λ c. search needs)
-    (λ c κs. search needs)
-    (λ c. search needs)
-    (λ c. search needs)
+    (λ c κs. search needs)  -- fill-requires
+    (λ c. search needs)  -- add-spell
+    (λ c κs. search needs)  -- spell-requires
+    (λ c. search needs)  -- add-result
+    (λ c. search needs)  -- same-length
+    -- returns-3
     (λ c.
     let s = c .before .before in
     let f = s .before .before .before .before in

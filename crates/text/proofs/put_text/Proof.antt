@@ -10,10 +10,10 @@ pub put-text-spec : {M : Type 1} → statement M
 put-text-spec =
     tie.close
     (tie.spec
-    (λ c. put-none _ _ _ _ refl (omega arith))
-    (λ c. search needs)
-    (λ c. put-none _ _ _ _ refl (omega arith))
-    (λ c κs. search needs)
-    (λ c. search needs)
-    (λ c. search needs)
-    (λ c. put-all _ _ _ _ refl (omega arith) (c .before .before .copy .ensures)))
+    (λ c. put-none _ _ _ _ refl (omega arith))  -- returns
+    (λ c. search needs)  -- sub-if2
+    (λ c. put-none _ _ _ _ refl (omega arith))  -- returns-2
+    (λ c κs. search needs)  -- copy-requires
+    (λ c. search needs)  -- add-result
+    (λ c. search needs)  -- same-length
+    (λ c. put-all _ _ _ _ refl (omega arith) (c .before .before .copy .ensures)))  -- returns-3

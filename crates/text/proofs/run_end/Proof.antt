@@ -17,14 +17,12 @@ abbrev μ-loop : tie.MeasureT-loop
 pub run-end-spec : {M : Type 1} → statement M
 run-end-spec =
     tie.close
-    (tie.spec
-    Inv-loop
-    μ-loop
-    (λ c. refl)
-    (λ c. search needs)
-    (λ c κs. search needs)
-    (λ c. let l = c .before .before .before in past-out _ _ _ (l .loop-test .taken) (c .before .passes .ensures) (c .if1 .taken) ∙ sym (l .before .loop .inv))
-    (λ c. search needs)
-    (λ c. search needs)
-    (λ c. let l = c .before .before .before in l .before .loop .inv ∙ past-in _ _ _ (l .loop-test .taken) (c .before .passes .ensures) (c .if1 .left))
-    (λ c. past-end _ _ _ (c .loop-test .left) ∙ sym (c .before .loop .inv)))
+    (tie.spec Inv-loop μ-loop
+    (λ c. refl)  -- loop-holds
+    (λ c. search needs)  -- shared-slice-read-passes
+    (λ c κs. search needs)  -- passes-requires
+    (λ c. let l = c .before .before .before in past-out _ _ _ (l .loop-test .taken) (c .before .passes .ensures) (c .if1 .taken) ∙ sym (l .before .loop .inv))  -- returns
+    (λ c. search needs)  -- add-i
+    (λ c. search needs)  -- loop-less
+    (λ c. let l = c .before .before .before in l .before .loop .inv ∙ past-in _ _ _ (l .loop-test .taken) (c .before .passes .ensures) (c .if1 .left))  -- loop-again
+    (λ c. past-end _ _ _ (c .loop-test .left) ∙ sym (c .before .loop .inv)))  -- returns-2

@@ -20,19 +20,18 @@ abbrev μ-loop : tie.MeasureT-loop
 pub spell-spec : {M : Type 1} → statement M
 spell-spec =
     tie.close
-    (tie.spec
-    Inv-loop
-    μ-loop
-    (λ c. (omega arith, refl, refl))
-    (λ c. search needs)
-    (λ c. search needs)
-    (λ c κs. let s = c .before .before .before in omega (arith, mod-lt (c .before .loop .rest) (s .pre .0)))
-    (λ c. search needs)
-    (λ c. search needs)
-    (λ c. search needs)
-    (λ c. search needs)
+    (tie.spec Inv-loop μ-loop
+    (λ c. (omega arith, refl, refl))  -- loop-holds
+    (λ c. search needs)  -- sub-i
+    (λ c. search needs)  -- rem-glyph
+    (λ c κs. let s = c .before .before .before in omega (arith, mod-lt (c .before .loop .rest) (s .pre .0)))  -- glyph-requires
+    (λ c. search needs)  -- add-out
+    (λ c. search needs)  -- slice-write-out
+    (λ c. search needs)  -- div-rest
+    (λ c. search needs)  -- loop-less
+    -- loop-again
     (λ c.
     let v = c .before .before .loop in
     (omega arith, simp length-set (v .inv .1), v .inv .2 ∙ spell-turn _ _ _ (v .i) (v .rest) (c .before .loop-test .taken) (c .glyph .ensures)))
-    (λ c. search needs)
-    (λ c. let v = c .before .loop in sym (v .inv .2 ∙ spell-done _ _ _ _ _ (c .loop-test .left))))
+    (λ c. search needs)  -- same-length
+    (λ c. let v = c .before .loop in sym (v .inv .2 ∙ spell-done _ _ _ _ _ (c .loop-test .left))))  -- returns

@@ -10,14 +10,16 @@ pub word-is-spec : {M : Type 1} → statement M
 word-is-spec =
     tie.close
     (tie.spec
-    (λ c. let a = c .before .before .before .args in word-beyond _ _ (a .at) (c .if1 .taken))
-    (λ c κs. search needs)
-    (λ c. search needs)
-    (λ c. search needs)
+    (λ c. let a = c .before .before .before .args in word-beyond _ _ (a .at) (c .if1 .taken))  -- returns
+    (λ c κs. search needs)  -- word-end-requires
+    (λ c. search needs)  -- sub-same
+    (λ c. search needs)  -- part-same-start
+    -- part-same-end
     (λ c.
     let a = c .before .before .before .before .args in
     rw (c .word-end .ensures) (past-le inWord (a .line .now) (a .at) (c .before .if1 .left)))
-    (λ c κs. search needs)
+    (λ c κs. search needs)  -- same-requires
+    -- returns-2
     (λ c.
     let e = c .before .before in
     let a = e .before .before .before .before .args in

@@ -14,19 +14,21 @@ trace-all-spec =
     (λ c. search needs)  -- enum-known-stop
     (λ c κs. search needs)  -- at-once-requires
     (λ c. search needs)  -- enum-known-settings
+    -- trace-behind-requires
     (λ c κs.
     let s = c .before .before .before .before .before in
     let b = s .before .before .before .before .before .before .before .before in
     let a = b .before .before .before .before .before .before .before .before in
-    begun-held (accepts-begins _ (a .pre .1) (b .begin .ensures)) (s .settings .given .1))  -- trace-behind-requires
+    begun-held (accepts-begins _ (a .pre .1) (b .begin .ensures)) (s .settings .given .1))
     (λ c. search needs)  -- same-length
     (λ c. search needs)  -- same-length-2
     (λ c. search needs)  -- same-length-3
+    -- returns
     (λ c.
     let n = c .before .before in
     let b = n .before .before .before .before .before .before .before .before in
     let a = b .before .before .before .before .before .before .before .before in
-    first-over _ (a .args .buf .now) (a .pre .0) (sym (accepts-begins _ (a .pre .1) (b .begin .ensures) .says) ∙ n .stop .given .1) (c .at-once .ensures))  -- returns
+    first-over _ (a .args .buf .now) (a .pre .0) (sym (accepts-begins _ (a .pre .1) (b .begin .ensures) .says) ∙ n .stop .given .1) (c .at-once .ensures))
     (λ c. search needs)  -- same-length-4
     (λ c. search needs)  -- same-length-5
     (λ c. search needs)  -- same-length-6

@@ -24,9 +24,9 @@ pub has-candidate-spec : {M : Type 1} → statement M
 has-candidate-spec =
     tie.close
     (tie.spec
-    (λ c. search needs)
-    (λ c. search needs)
-    (λ c. search needs)
-    (λ c. search needs)
-    (λ c. omega (arith, one-shifted {i = c .args .width} (omega arith), pow-pos (c .args .width)))
+    (λ c. search needs)  -- cast-result
+    (λ c. search needs)  -- shr-result
+    (λ c. search needs)  -- cast-result-2
+    (λ c. search needs)  -- shl-result
+    (λ c. omega (arith, one-shifted {i = c .args .width} (omega arith), pow-pos (c .args .width)))  -- sub-result
     returns)

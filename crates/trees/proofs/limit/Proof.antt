@@ -9,7 +9,7 @@ pub limit-spec : {M : Type 1} → statement M
 limit-spec =
     tie.close
     (tie.spec
-    (λ c. search needs)
-    (λ c. search needs)
-    (λ c. search needs)
-    (λ c. one-shifted {i = c .args .ways - 1} (omega arith)))
+    (λ c. search needs)  -- sub-result
+    (λ c. search needs)  -- cast-result
+    (λ c. search needs)  -- shl-result
+    (λ c. one-shifted {i = c .args .ways - 1} (omega arith)))  -- returns

@@ -11,6 +11,6 @@ pub marked-spec : {M : Type 1} → statement M
 marked-spec =
     tie.close
     (tie.spec
-    (λ c. search needs)
-    (λ c. search needs)
-    (λ c. ap (λ (x : ℕ). bitOr (c .args .candidates) x) (one-shifted (c .pre)) ∙ or-puts (c .args .candidates) (c .args .way)))
+    (λ c. search needs)  -- cast-result
+    (λ c. search needs)  -- shl-result
+    (λ c. ap (λ (x : ℕ). bitOr (c .args .candidates) x) (one-shifted (c .pre)) ∙ or-puts (c .args .candidates) (c .args .way)))  -- returns

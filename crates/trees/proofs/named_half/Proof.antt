@@ -14,8 +14,8 @@ pub named-half-spec : {M : Type 1} → statement M
 named-half-spec =
     tie.close
     (tie.spec
-    (λ c. search needs)
-    (λ c. search needs)
-    (λ c. search needs)
-    (λ c. record { fits = omega (arith, mask-lt (c .args .tree / 2 ^ (c .args .node - 1)) 1) })
+    (λ c. search needs)  -- sub-result
+    (λ c. search needs)  -- cast-result
+    (λ c. search needs)  -- shr-result
+    (λ c. record { fits = omega (arith, mask-lt (c .args .tree / 2 ^ (c .args .node - 1)) 1) })  -- cast-result-2
     returns)

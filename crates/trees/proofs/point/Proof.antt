@@ -17,13 +17,15 @@ pub point-spec : {M : Type 1} → statement M
 point-spec =
     tie.close
     (tie.spec
-    (λ c. search needs)
-    (λ c. search needs)
-    (λ c. search needs)
-    (λ c. let a = c .before .args in omega (arith, put (a .tree) (a .node - 1) (omega arith), one-shifted {i = a .node - 1} (omega arith)))
+    (λ c. search needs)  -- sub-bit
+    (λ c. search needs)  -- cast-bit
+    (λ c. search needs)  -- shl-bit
+    (λ c. let a = c .before .args in omega (arith, put (a .tree) (a .node - 1) (omega arith), one-shifted {i = a .node - 1} (omega arith)))  -- sub-result
+    -- returns
     (λ c. let a = c .before .args in
     let i : ℕ = a .node - 1 in
     put (a .tree) i (omega arith) ∙ sym (put-less (a .tree) i) ∙ ap (λ (h : ℕ). withBit (a .tree) i h) (sym (c .if1 .taken)))
+    -- returns-2
     (λ c. let a = c .before .args in
     let i : ℕ = a .node - 1 in
     let z : a .half ≡ 0 = omega arith in

@@ -16,15 +16,17 @@ pub side-spec : {M : Type 1} → statement M
 side-spec =
     tie.close
     (tie.spec
-    (λ c κs. search needs)
-    (λ c. record { fits = omega (arith, half-most (c .before .args .half) (two c)) })
-    (λ c. record { fits = omega (arith, half-most (c .before .args .half) (two c)) })
-    (λ c κs. omega (arith, half-most (c .before .args .half) (two c)))
-    (λ c. omega (arith, two (c .before .before)))
+    (λ c κs. search needs)  -- named-half-requires
+    (λ c. record { fits = omega (arith, half-most (c .before .args .half) (two c)) })  -- mul-has-candidate
+    (λ c. record { fits = omega (arith, half-most (c .before .args .half) (two c)) })  -- add-has-candidate
+    (λ c κs. omega (arith, half-most (c .before .args .half) (two c)))  -- has-candidate-requires
+    (λ c. omega (arith, two (c .before .before)))  -- sub-result
+    -- returns
     (λ c.
     let h = c .before .before in
     let a = h .before .args in
     (two h, λ k e. goes-named (isIn (a .candidates)) (a .tree) k (a .node) (a .first) (h .named-half .ensures) e (c .before .has-candidate .ensures) (c .if1 .taken)))
+    -- returns-2
     (λ c.
     let h = c .before .before in
     let a = h .before .args in

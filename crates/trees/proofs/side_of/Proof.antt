@@ -8,6 +8,6 @@ pub side-of-spec : {M : Type 1} → statement M
 side-of-spec =
     tie.close
     (tie.spec
-    (λ c. search needs)
-    (λ c. let a = c .before .args in (omega arith, λ k e. side-lower k (a .first) (a .way) e (c .if1 .taken)))
-    (λ c. let a = c .before .args in (omega arith, λ k e. side-upper k (a .first) (a .way) e (c .if1 .left))))
+    (λ c. search needs)  -- add-if1
+    (λ c. let a = c .before .args in (omega arith, λ k e. side-lower k (a .first) (a .way) e (c .if1 .taken)))  -- returns
+    (λ c. let a = c .before .args in (omega arith, λ k e. side-upper k (a .first) (a .way) e (c .if1 .left))))  -- returns-2

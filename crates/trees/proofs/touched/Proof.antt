@@ -8,5 +8,5 @@ pub touched-spec : {M : Type 1} → statement M
 touched-spec =
     tie.close
     (tie.spec
-    (λ c κs. span-of (c .args .ways) (c .pre))
-    (λ c. c .turn .ensures (levels (c .before .args .ways)) (levels-are (c .before .args .ways) (c .before .pre) .0)))
+    (λ c κs. span-of (c .args .ways) (c .pre))  -- turn-requires
+    (λ c. c .turn .ensures (levels (c .before .args .ways)) (levels-are (c .before .args .ways) (c .before .pre) .0)))  -- returns

@@ -9,28 +9,30 @@ pub fill-turn-spec : {M : Type 1} → statement M
 fill-turn-spec =
     tie.close
     (tie.spec
-    (λ c κs. search needs)
-    (λ c. search needs)
-    (λ c κs. search needs)
+    (λ c κs. search needs)  -- first-sent-requires
+    (λ c. search needs)  -- enum-known-address
+    (λ c κs. search needs)  -- fill-step-requires
+    -- note-requires
     (λ c κs.
     let f = c .before .before .before .before .before .before .before in
     let m = f .before .before .before .before .before in
     let s = m .before .before in
     let p = s .before .before .before .before .before .before .before .before in
-    omega (arith, fill-bytes _ (s .first-sent .ensures) (m .address .given .1) (f .fill-step .ensures) (p .pre .0 .1), p .pre .1))  -- note-requires
-    (λ c. search needs)
-    (λ c. search needs)
-    (λ c. search needs)
-    (λ c. search needs)
-    (λ c. search needs)
+    omega (arith, fill-bytes _ (s .first-sent .ensures) (m .address .given .1) (f .fill-step .ensures) (p .pre .0 .1), p .pre .1))
+    (λ c. search needs)  -- enum-told
+    (λ c. search needs)  -- same-length
+    (λ c. search needs)  -- same-length-2
+    (λ c. search needs)  -- same-length-3
+    (λ c. search needs)  -- same-length-4
+    -- returns
     (λ c.
     let n = c .before .before in
     let f = n .before .before .before .before .before .before .before .before in
     let m = f .before .before .before .before .before in
     let s = m .before .before in
     let p = s .before .before .before .before .before .before .before .before in
-    fills-sent _ (s .first-sent .ensures) (m .address .given .1) (f .fill-step .ensures) (p .pre .0 .1) (n .note .ensures))  -- returns
-    (λ c. search needs)
-    (λ c. search needs)
-    (λ c. search needs)
+    fills-sent _ (s .first-sent .ensures) (m .address .given .1) (f .fill-step .ensures) (p .pre .0 .1) (n .note .ensures))
+    (λ c. search needs)  -- same-length-5
+    (λ c. search needs)  -- same-length-6
+    (λ c. search needs)  -- same-length-7
     (λ c. fills-none _ (c .before .before .first-sent .ensures) (c .enum-told .given .1) _ _))  -- returns-2

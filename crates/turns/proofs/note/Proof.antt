@@ -12,19 +12,22 @@ pub note-spec : {M : Type 1} → statement M
 note-spec =
     tie.close
     (tie.spec
-    (λ c κs. search needs)
-    (λ c κs. search needs)
+    (λ c κs. search needs)  -- accepted-requires
+    (λ c κs. search needs)  -- write-told-requires
+    -- add-result
     (λ c.
     let w = c .before .before in
     let p = w .before .before .before .before .before in
     let k = was-stored (p .args .events .now) (p .args .out) _ (w .write-told .ensures .0) (p .pre) in
     omega (arith, k .0))
-    (λ c. search needs)
+    (λ c. search needs)  -- same-length
+    -- returns
     (λ c.
     let w = c .before .before in
     let a = w .before .before .before in
     let p = a .before .before in
     noted-stored (p .args .events .now) (p .args .out) (p .args .told) (not-yes (sym (a .accepted .ensures) ∙ w .before .before .if1 .taken)) (p .pre) (w .write-told .ensures .0) (w .write-told .ensures .1))
+    -- returns-2
     (λ c.
     let a = c .before in
     let p = a .before .before in

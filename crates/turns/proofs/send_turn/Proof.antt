@@ -9,10 +9,10 @@ pub send-turn-spec : {M : Type 1} → statement M
 send-turn-spec =
     tie.close
     (tie.spec
-    (λ c κs. search needs)
-    (λ c κs. let s = c .before .before .before .before .before .before .before in let p = s .before .before .before .before .before .before .before .before in omega (arith, send-bytes _ (s .send-step .ensures) (p .pre .0 .1), p .pre .1))
-    (λ c. search needs)
-    (λ c. search needs)
-    (λ c. search needs)
-    (λ c. search needs)
-    (λ c. let n = c .before .before in let s = n .before .before .before .before .before .before .before .before in let p = s .before .before .before .before .before .before .before .before in sends _ (s .send-step .ensures) (p .pre .0 .1) (n .note .ensures)))
+    (λ c κs. search needs)  -- send-step-requires
+    (λ c κs. let s = c .before .before .before .before .before .before .before in let p = s .before .before .before .before .before .before .before .before in omega (arith, send-bytes _ (s .send-step .ensures) (p .pre .0 .1), p .pre .1))  -- note-requires
+    (λ c. search needs)  -- same-length
+    (λ c. search needs)  -- same-length-2
+    (λ c. search needs)  -- same-length-3
+    (λ c. search needs)  -- same-length-4
+    (λ c. let n = c .before .before in let s = n .before .before .before .before .before .before .before .before in let p = s .before .before .before .before .before .before .before .before in sends _ (s .send-step .ensures) (p .pre .0 .1) (n .note .ensures)))  -- returns

@@ -14,5 +14,6 @@ in-row-spec =
     (λ c. search needs)  -- array-copy-out-result-3
     (λ c. rw (c .before .match .keys1))  -- returns
     (λ c. rw (c .before .match .keys2))  -- returns-2
+    -- returns-3
     (λ c. let k = c .before .match .rest in
-    let e : c .before .before .args .column ≡ 2 = omega (arith, k .0 .1, k .1, c .before .before .pre) in rw e))  -- returns-3
+    let e : c .before .before .args .column ≡ 2 = omega (arith, k .0 .1, k .1, c .before .before .pre) in rw e))

@@ -10,5 +10,5 @@ pub set-index-spec : {M : Type 1} → statement M
 set-index-spec =
     tie.close
     (tie.spec
-    (λ c. power-pos (c .args .sets) (c .pre))
-    (λ c. masked-is-remainder (c .args .address / 128) (c .args .sets) (c .pre)))
+    (λ c. power-pos (c .args .sets) (c .pre))  -- sub-result
+    (λ c. masked-is-remainder (c .args .address / 128) (c .args .sets) (c .pre)))  -- returns

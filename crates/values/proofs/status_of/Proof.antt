@@ -6,7 +6,7 @@ pub status-of-spec : {M : Type 1} → statement M
 status-of-spec =
     tie.close
     (tie.spec
-    (λ c. rw (c .match .keys1))
-    (λ c. rw (c .match .keys2))
-    (λ c. rw (c .match .keys3))
-    (λ c. let r = c .match .rest in simp (ne-eqb _ _ (r .0 .0 .1), ne-eqb _ _ (r .0 .1), ne-eqb _ _ (r .1))))
+    (λ c. rw (c .match .keys1))  -- returns
+    (λ c. rw (c .match .keys2))  -- returns-2
+    (λ c. rw (c .match .keys3))  -- returns-3
+    (λ c. let r = c .match .rest in simp (ne-eqb _ _ (r .0 .0 .1), ne-eqb _ _ (r .0 .1), ne-eqb _ _ (r .1))))  -- returns-4

@@ -20,10 +20,12 @@ course-of-spec =
     tie.close
     (tie.spec
     (λ c κs. search needs)  -- places-needed-requires
+    -- add-if1
     (λ c.
     let pre = c .before .before .before .before .pre in
     let f = is-fit _ _ _ (pre .1 .met .is) in
-    omega (arith, pre .2 .most, c .places-needed .ensures .1))  -- add-if1
+    omega (arith, pre .2 .most, c .places-needed .ensures .1))
+    -- returns
     (λ c. record {
       on = λ t p m.
           let needed = c .before .before in
@@ -31,13 +33,15 @@ course-of-spec =
           let counted = queue-counted _ t (m .is) (start .pre .0) (start .pre .2) in
           let asked = read-needs (start .args .x) (start .args .d) (start .pre .4) (needed .places-needed .ensures .0) in
           course-full _ _ _ t p m counted asked (c .if1 .taken);
-    })  -- returns
+    })
     (λ c κs. search needs)  -- is-merge-requires
     (λ c κs. search needs)  -- address-of-requires
+    -- join-course-requires
     (λ c κs.
     let pre = c .before .before .before .before .before .before .before .before .before .pre in
     let m = pre .1 .met in
-    (pre .0, record { tables = pre .1 .tables; is = m .is; entered = rw (c .address-of .ensures) (merge-entered _ _ _ _ _ m (sym (c .before .before .is-merge .ensures) ∙ c .before .if2 .taken)) }, pre .3))  -- join-course-requires
+    (pre .0, record { tables = pre .1 .tables; is = m .is; entered = rw (c .address-of .ensures) (merge-entered _ _ _ _ _ m (sym (c .before .before .is-merge .ensures) ∙ c .before .if2 .taken)) }, pre .3))
+    -- returns-2
     (λ c. record {
       on = λ t p m.
           let addressed = c .before in
@@ -49,9 +53,10 @@ course-of-spec =
           let merges = sym (merged .is-merge .ensures) ∙ addressed .before .if2 .taken in
           course-join _ _ _ t p m counted asked (merged .before .if1 .left) (start .pre .4) merges
           (rw (addressed .address-of .ensures) at (c .join-course .ensures .on t (m .is) (rw (addressed .address-of .ensures) (merge-entered _ _ _ t p m merges))));
-    })  -- returns-2
+    })
     (λ c κs. search needs)  -- is-miss-requires
     (λ c κs. search needs)  -- start-course-requires
+    -- returns-3
     (λ c. record {
       on = λ t p m.
           let missed = c .before .before in
@@ -63,7 +68,8 @@ course-of-spec =
           course-start _ _ _ t p m counted asked (merged .before .if1 .left) (start .pre .4)
           (sym (merged .is-merge .ensures) ∙ missed .before .if2 .left) (sym (missed .is-miss .ensures) ∙ c .before .if3 .taken)
           (c .start-course .ensures ∙ ap (λ (n : ℕ). starting (start .args .s) n) (misses-counted _ t (m .is) (start .pre .0) (start .pre .3)));
-    })  -- returns-3
+    })
+    -- returns-4
     (λ c. record {
       on = λ t p m.
           let missed = c .before in
@@ -74,4 +80,4 @@ course-of-spec =
           let asked = read-needs (start .args .x) (start .args .d) (start .pre .4) (needed .places-needed .ensures .0) in
           course-hit _ _ _ t p m counted asked (merged .before .if1 .left) (start .pre .4)
           (sym (merged .is-merge .ensures) ∙ missed .before .if2 .left) (sym (missed .is-miss .ensures) ∙ c .if3 .left);
-    }))  -- returns-4
+    }))

@@ -8,6 +8,6 @@ pub read-sector-spec : {M : Type 1} → statement M
 read-sector-spec =
     tie.close
     (tie.spec
-    (λ c κs. search needs)
-    (λ c. rw (sym (c .before .is-miss .ensures) ∙ c .if1 .taken))
-    (λ c. rw (sym (c .before .is-miss .ensures) ∙ c .if1 .left)))
+    (λ c κs. search needs)  -- is-miss-requires
+    (λ c. rw (sym (c .before .is-miss .ensures) ∙ c .if1 .taken))  -- returns
+    (λ c. rw (sym (c .before .is-miss .ensures) ∙ c .if1 .left)))  -- returns-2

@@ -16,10 +16,11 @@ act-hit-spec =
     (λ c. search needs)  -- cast-t12
     (λ c κs. search needs)  -- blank-requires
     (λ c. search needs)  -- same-length
+    -- returns
     (λ c.
     let turned = c .before .before .before .before in
     let touched = turned .before .before .before .before in
     let a = touched .before .before .before .args in (
       c .blank .ensures,
       turned .turn-tree .ensures ∙ ap (treesWritten (a .s) (a .at) (setIndex (a .s) (addressOf (a .x))) (a .d .way)) (touched .touch .ensures),
-    )))  -- returns
+    )))

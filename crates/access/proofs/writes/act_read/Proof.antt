@@ -23,6 +23,7 @@ act-read-spec =
     tie.close
     (tie.spec
     (λ c κs. let start = c .before .before .before .before .before .before in (start .pre .0, record { tables = start .pre .1 .tables; spot = start .pre .1 .spot; met = start .pre .1 .acts .met }, start .pre .2))  -- read-line-requires
+    -- mark-set-requires
     (λ c κs.
     let lined = c .before .before .before .before .before .before .before in
     let start = lined .before .before .before .before .before .before .before in
@@ -32,15 +33,17 @@ act-read-spec =
     let same = lined .read-line .kept .1 .1 .1 .0 in
     let taken = taken-room (start .pre .0) fit (a .d .line) (m .below) in
     let tree = tree-room (start .pre .0) fit (setIndex (a .s) (addressOf (a .x))) (set-below (a .s) (m .is .range) (addressOf (a .x))) in
-    (rw same (taken .inside), rw same (tree .inside), rw same (tree .small), fit .sets, fit .power, fit .tree))  -- mark-set-requires
+    (rw same (taken .inside), rw same (tree .inside), rw same (tree .small), fit .sets, fit .power, fit .tree))
     (λ c κs. search needs)  -- address-of-requires
     (λ c κs. search needs)  -- ticket-of-requires
+    -- write-misses-requires
     (λ c κs.
     let marked = c .before .before .before .before .before .before .before in
     let lined = marked .before .before .before .before .before .before .before .before in
     let start = lined .before .before .before .before .before .before .before in
     let k = lined .read-line .kept in
-    miss-room _ _ _ _ _ _ _ (start .pre .1 .acts) (start .pre .0) _ _ _ (k .1 .1 .0) (marked .mark-set .kept .1 .1 .0 ∙ k .1 .1 .1 .0) (k .1 .1 .1 .1 .0))  -- write-misses-requires
+    miss-room _ _ _ _ _ _ _ (start .pre .1 .acts) (start .pre .0) _ _ _ (k .1 .1 .0) (marked .mark-set .kept .1 .1 .0 ∙ k .1 .1 .1 .0) (k .1 .1 .1 .1 .0))
+    -- queue-read-requires
     (λ c κs.
     let missed = c .before .before .before .before .before .before .before .before .before in
     let marked = missed .before .before .before .before .before .before .before .before in
@@ -51,28 +54,33 @@ act-read-spec =
     let n = missed .write-misses .last in (
       alone-read start,
       queue-room _ _ _ _ _ _ _ (start .pre .1 .acts) (start .pre .0) (n .1 .0) (n .1 .1 .0) (n .1 .1 .1 .0) (k .1 .0 ∙ l .1 .1 .0) (k .1 .1 .0 ∙ marked .mark-set .kept .1 .1 .0 ∙ l .1 .1 .1 .0) (k .1 .1 .1 .0 ∙ l .1 .1 .1 .1 .0) (read-needs (start .args .x) (start .args .d) (start .pre .2) refl),
-    ))  -- queue-read-requires
+    ))
+    -- tell-read-requires
     (λ c κs.
     let start = c .before .before .before .before .before .before .before .before .before .before .before .before .before .before .before .before .before .before .before .before .before .before .before .before .before .before .before .before .before .before .before .before .before .before .before .before .before .before .before in let f = acts-fit _ _ _ _ _ _ _ (start .pre .1 .acts) (start .pre .0) in
-    (alone-read start, omega (arith, start .pre .1 .acts .met .below)))  -- tell-read-requires
+    (alone-read start, omega (arith, start .pre .1 .acts .met .below)))
+    -- same-length
     (λ c.
     let queued = c .before .before .before .before .before .before .before in
     let missed = queued .before .before .before .before .before .before .before .before .before .before in
     let marked = missed .before .before .before .before .before .before .before .before in
     let lined = marked .before .before .before .before .before .before .before .before in
-    queued .queue-read .kept .1 .0 ∙ missed .write-misses .kept .1 .0 ∙ lined .read-line .kept .1 .1 .0)  -- same-length
+    queued .queue-read .kept .1 .0 ∙ missed .write-misses .kept .1 .0 ∙ lined .read-line .kept .1 .1 .0)
+    -- same-length-2
     (λ c.
     let queued = c .before .before .before .before .before .before .before in
     let missed = queued .before .before .before .before .before .before .before .before .before .before in
     let marked = missed .before .before .before .before .before .before .before .before in
     let lined = marked .before .before .before .before .before .before .before .before in
-    queued .queue-read .kept .1 .1 .0 ∙ missed .write-misses .kept .1 .1 .0 ∙ marked .mark-set .kept .1 .1 .0 ∙ lined .read-line .kept .1 .1 .1 .0)  -- same-length-2
+    queued .queue-read .kept .1 .1 .0 ∙ missed .write-misses .kept .1 .1 .0 ∙ marked .mark-set .kept .1 .1 .0 ∙ lined .read-line .kept .1 .1 .1 .0)
+    -- same-length-3
     (λ c.
     let queued = c .before .before .before .before .before .before .before in
     let missed = queued .before .before .before .before .before .before .before .before .before .before in
     let marked = missed .before .before .before .before .before .before .before .before in
     let lined = marked .before .before .before .before .before .before .before .before in
-    queued .queue-read .kept .1 .1 .1 .0 ∙ missed .write-misses .kept .1 .1 .1 .0 ∙ lined .read-line .kept .1 .1 .1 .1 .0)  -- same-length-3
+    queued .queue-read .kept .1 .1 .1 .0 ∙ missed .write-misses .kept .1 .1 .1 .0 ∙ lined .read-line .kept .1 .1 .1 .1 .0)
+    -- returns
     (λ c. record {
       on = λ t p acts.
           let queued = c .before .before .before .before .before .before .before in
@@ -91,4 +99,4 @@ act-read-spec =
           (rw (addressed .address-of .ensures, missed .before .ticket-of .ensures) at (missed .write-misses .ensures))
           (c .tell-read .ensures)
           (queued .queue-read .ensures);
-    }))  -- returns
+    }))

@@ -20,6 +20,7 @@ act-write-spec =
     tie.close
     (tie.spec
     (λ c κs. let start = c .before .before .before .before .before .before in (start .pre .0, record { tables = start .pre .1 .tables; spot = start .pre .1 .spot; met = start .pre .1 .acts .met }, start .pre .2))  -- change-line-requires
+    -- mark-set-requires
     (λ c κs.
     let lined = c .before .before .before .before .before .before .before in
     let start = lined .before .before .before .before .before .before .before in
@@ -29,20 +30,23 @@ act-write-spec =
     let same = lined .change-line .kept .1 .1 .1 .0 in
     let taken = taken-room (start .pre .0) fit (a .d .line) (m .below) in
     let tree = tree-room (start .pre .0) fit (setIndex (a .s) (addressOf (a .x))) (set-below (a .s) (m .is .range) (addressOf (a .x))) in
-    (rw same (taken .inside), rw same (tree .inside), rw same (tree .small), fit .sets, fit .power, fit .tree))  -- mark-set-requires
+    (rw same (taken .inside), rw same (tree .inside), rw same (tree .small), fit .sets, fit .power, fit .tree))
+    -- queue-back-requires
     (λ c κs.
     let marked = c .before .before .before .before .before in
     let lined = marked .before .before .before .before .before .before .before .before in
     let start = lined .before .before .before .before .before .before .before in
     let l = lined .change-line .kept in
     let n = lined .change-line .last in
-    queue-room _ _ _ _ _ _ _ (start .pre .1 .acts) (start .pre .0) (n .1 .1 .0) (marked .mark-set .last .1 .1 .0) (n .1 .1 .1 .1 .0) (l .1 .1 .0) (marked .mark-set .kept .1 .1 .0 ∙ l .1 .1 .1 .0) (l .1 .1 .1 .1 .0) (write-needs (start .args .x) (start .args .d) (start .pre .2) refl))  -- queue-back-requires
+    queue-room _ _ _ _ _ _ _ (start .pre .1 .acts) (start .pre .0) (n .1 .1 .0) (marked .mark-set .last .1 .1 .0) (n .1 .1 .1 .1 .0) (l .1 .1 .0) (marked .mark-set .kept .1 .1 .0 ∙ l .1 .1 .1 .0) (l .1 .1 .1 .1 .0) (write-needs (start .args .x) (start .args .d) (start .pre .2) refl))
+    -- tell-write-requires
     (λ c κs.
     let start = c .before .before .before .before .before .before .before .before .before .before .before .before .before .before .before .before .before .before .before .before .before .before .before .before .before .before .before in let f = acts-fit _ _ _ _ _ _ _ (start .pre .1 .acts) (start .pre .0) in
-    (start .pre .2, omega (arith, start .pre .1 .acts .met .below)))  -- tell-write-requires
+    (start .pre .2, omega (arith, start .pre .1 .acts .met .below)))
     (λ c. search needs)  -- same-length
     (λ c. search needs)  -- same-length-2
     (λ c. search needs)  -- same-length-3
+    -- returns
     (λ c. record {
       on = λ t p acts.
           let queued = c .before .before .before .before .before .before .before in
@@ -58,4 +62,4 @@ act-write-spec =
           refl
           (c .tell-write .ensures)
           (queued .queue-back .ensures ∙ rw (start .pre .2));
-    }))  -- returns
+    }))

@@ -20,17 +20,19 @@ change-line-spec =
     (λ c κs. search needs)  -- empty-sector-requires
     (λ c κs. search needs)  -- sectors-written-requires
     (λ c κs. search needs)  -- leave-line-requires
+    -- lift-requires
     (λ c κs.
     let start = c .before .before .before .before .before .before .before in
     let m = start .pre .1 .met in
     let f = is-fit _ _ _ (m .is) in
     let p = start .pre .0 in
-    ((p, omega arith, omega arith), m .below))  -- lift-requires
+    ((p, omega arith, omega arith), m .below))
     (λ c κs. search needs)  -- sectors-written-requires-2
     (λ c κs. search needs)  -- leave-line-requires-2
     (λ c. search needs)  -- same-length
     (λ c. search needs)  -- same-length-2
     (λ c. search needs)  -- same-length-3
+    -- returns
     (λ c.
     let left = c .before .before .before .before .before .before in
     let changed = left .before .before .before .before in
@@ -41,10 +43,11 @@ change-line-spec =
     rw (changed .before .empty-sector .ensures) (sym (sectors-taken (a .s) (a .x) (a .d) _ _ (start .pre .1 .met) (sym (tested .takes-line .ensures) ∙ changed .before .before .if1 .taken))) in
     left .leave-line .ensures
     ∙ ap (λ (four : List Sector). lineLeft (a .at) (lent (a .longs .now) (a .words .now) (a .marks .now)) (a .d .line) (blockOf (addressOf (a .x))) four)
-    (changed .sectors-written .ensures ∙ ap (sectorsAfter (a .x) (a .d)) found))  -- returns
+    (changed .sectors-written .ensures ∙ ap (sectorsAfter (a .x) (a .d)) found))
     (λ c. search needs)  -- same-length-4
     (λ c. search needs)  -- same-length-5
     (λ c. search needs)  -- same-length-6
+    -- returns-2
     (λ c.
     let left = c .before .before .before .before .before .before in
     let changed = left .before .before .before .before in
@@ -55,4 +58,4 @@ change-line-spec =
     ∙ ap (λ (four : List Sector). lineLeft (a .at) (lent (a .longs .now) (a .words .now) (a .marks .now)) (a .d .line) (blockOf (addressOf (a .x))) four)
     (changed .sectors-written2 .ensures
     ∙ ap (sectorsAfter (a .x) (a .d))
-    (changed .before .lift .ensures ∙ sym (sectors-stay (a .s) (a .x) (a .d) _ _ (start .pre .1 .met) (sym (tested .takes-line .ensures) ∙ changed .before .before .before .before .if1 .left))))))  -- returns-2
+    (changed .before .lift .ensures ∙ sym (sectors-stay (a .s) (a .x) (a .d) _ _ (start .pre .1 .met) (sym (tested .takes-line .ensures) ∙ changed .before .before .before .before .if1 .left))))))

@@ -12,8 +12,9 @@ mark-set-spec =
     (λ c κs. search needs)  -- mark-taken-requires
     (λ c κs. search needs)  -- turn-tree-requires
     (λ c. search needs)  -- same-length
+    -- returns
     (λ c.
     let turned = c .before .before in
     let marked = turned .before .before .before .before in
     let a = marked .before .before .before .args in
-    turned .turn-tree .ensures ∙ ap (treesWritten (a .s) (a .at) (setIndex (a .s) (addressOf (a .x))) (a .d .way)) (marked .mark-taken .ensures)))  -- returns
+    turned .turn-tree .ensures ∙ ap (treesWritten (a .s) (a .at) (setIndex (a .s) (addressOf (a .x))) (a .d .way)) (marked .mark-taken .ensures)))

@@ -15,8 +15,9 @@ mark-taken-spec =
     (λ c. omega arith)  -- mul-words
     (λ c. omega arith)  -- slice-write-words
     (λ c. search needs)  -- same-length
+    -- returns
     (λ c.
     let asked = c .before .before .before in
     let start = asked .before .before in
-    rw (sym (asked .takes-line .ensures) ∙ c .before .before .if1 .taken) (one-put _ _ _ (start .pre .0)))  -- returns
+    rw (sym (asked .takes-line .ensures) ∙ c .before .before .if1 .taken) (one-put _ _ _ (start .pre .0)))
     (λ c. rw (sym (c .before .takes-line .ensures) ∙ c .if1 .left)))  -- returns-2

@@ -15,21 +15,23 @@ read-line-spec =
     (tie.spec
     (λ c κs. search needs)  -- is-miss-requires
     (λ c κs. search needs)  -- fetch-line-requires
+    -- touch-requires
     (λ c κs.
     let start = c .before .before .before .before .before .before in
     let m = start .pre .1 .met in
     let f = is-fit _ _ _ (m .is) in
     let p = start .pre .0 in
-    omega (arith, m .below))  -- touch-requires
+    omega (arith, m .below))
     (λ c. search needs)  -- same-length
     (λ c. search needs)  -- same-length-2
     (λ c. search needs)  -- same-length-3
     (λ c. search needs)  -- returns
     (λ c. search needs)  -- same-length-4
+    -- returns-2
     (λ c.
     let touch = c .before .before in
     let tested = touch .before .before in
     let start = tested .before .before .before .before .before in
     let a = start .args in
     ap (λ (words : List ℕ). lent (a .longs .now) words (a .marks .now)) (touch .touch .ensures)
-    ∙ touched (a .s) (a .x) (a .d) _ _ (start .pre .1 .met) (start .pre .0) (rw (start .pre .2, sym (tested .before .is-miss .ensures) ∙ tested .if1 .left))))  -- returns-2
+    ∙ touched (a .s) (a .x) (a .d) _ _ (start .pre .1 .met) (start .pre .0) (rw (start .pre .2, sym (tested .before .is-miss .ensures) ∙ tested .if1 .left))))

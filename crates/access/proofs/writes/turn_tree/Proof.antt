@@ -33,7 +33,8 @@ turn-tree-spec =
     (λ c. omega (arith, small (c .before .before .before)))  -- mul-words
     (λ c. inside (c .before .before .before))  -- slice-write-words
     (λ c. search needs)  -- same-length
+    -- returns
     (λ c.
     let set = c .before .before .before in
-    rw (eq-eqb _ 2 (set .before .before .if1 .taken), c .touched .ensures, here set) (one-put _ _ _ (set .before .before .before .before .before .pre .0)))  -- returns
+    rw (eq-eqb _ 2 (set .before .before .if1 .taken), c .touched .ensures, here set) (one-put _ _ _ (set .before .before .before .before .before .pre .0)))
     (λ c. rw (ne-eqb _ 2 (c .if1 .left))))  -- returns-2

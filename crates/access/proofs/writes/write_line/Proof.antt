@@ -8,12 +8,13 @@ pub write-line-spec : {M : Type 1} → statement M
 write-line-spec =
     tie.close
     (tie.spec
-    (λ c κs. search needs)
-    (λ c κs. search needs)
-    (λ c κs. search needs)
-    (λ c. search needs)
-    (λ c. search needs)
-    (λ c. search needs)
+    (λ c κs. search needs)  -- write-tag-requires
+    (λ c κs. search needs)  -- touch-requires
+    (λ c κs. search needs)  -- store-requires
+    (λ c. search needs)  -- same-length
+    (λ c. search needs)  -- same-length-2
+    (λ c. search needs)  -- same-length-3
+    -- returns
     (λ c.
     let stored = c .before .before .before .before in
     let touched = stored .before .before .before .before .before in

@@ -21,13 +21,11 @@ named c = has-row _ (c .before .before .has-name .ensures) (c .before .if1 .take
 pub rule-names-spec : {M : Type 1} → statement M
 rule-names-spec =
     tie.close
-    (tie.spec
-    Inv-loop
-    μ-loop
-    (λ c. search needs)
-    (λ c κs. search needs)
-    (λ c κs. search needs)
-    (λ c. omega (arith, named c))
-    (λ c. omega (arith, named c))
-    (λ c. omega (arith, named c))
-    (λ c. search needs))
+    (tie.spec Inv-loop μ-loop
+    (λ c. search needs)  -- loop-holds
+    (λ c κs. search needs)  -- has-name-requires
+    (λ c κs. search needs)  -- rule-name-requires
+    (λ c. omega (arith, named c))  -- add-n
+    (λ c. omega (arith, named c))  -- loop-less
+    (λ c. omega (arith, named c))  -- loop-again
+    (λ c. search needs))  -- returns

@@ -15,16 +15,14 @@ abbrev μ-loop : tie.MeasureT-loop
 pub put-queued-spec : {M : Type 1} → statement M
 put-queued-spec =
     tie.close
-    (tie.spec
-    Inv-loop
-    μ-loop
-    (λ c κs. search needs)
-    (λ c. refl)
-    (λ c. search needs)
-    (λ c. search needs)
-    (λ c κs. search needs)
-    (λ c. search needs)
-    (λ c. search needs)
-    (λ c. search needs)
-    (λ c. search needs)
-    (λ c. search needs))
+    (tie.spec Inv-loop μ-loop
+    (λ c κs. search needs)  -- least-requires
+    (λ c. refl)  -- loop-holds
+    (λ c. search needs)  -- mul-put-entry
+    (λ c. search needs)  -- array-copy-out-put-entry
+    (λ c κs. search needs)  -- put-entry-requires
+    (λ c. search needs)  -- add-i
+    (λ c. search needs)  -- loop-less
+    (λ c. search needs)  -- loop-again
+    (λ c. search needs)  -- same-length
+    (λ c. search needs))  -- returns

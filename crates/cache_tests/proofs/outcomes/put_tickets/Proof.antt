@@ -15,16 +15,14 @@ abbrev μ-loop : tie.MeasureT-loop
 pub put-tickets-spec : {M : Type 1} → statement M
 put-tickets-spec =
     tie.close
-    (tie.spec
-    Inv-loop
-    μ-loop
-    (λ c κs. search needs)
-    (λ c. refl)
-    (λ c. search needs)
-    (λ c. search needs)
-    (λ c κs. search needs)
-    (λ c. search needs)
-    (λ c. search needs)
-    (λ c. search needs)
-    (λ c. search needs)
-    (λ c. search needs))
+    (tie.spec Inv-loop μ-loop
+    (λ c κs. search needs)  -- least-requires
+    (λ c. refl)  -- loop-holds
+    (λ c. search needs)  -- mul-put-ticket
+    (λ c. search needs)  -- array-read-put-ticket
+    (λ c κs. search needs)  -- put-ticket-requires
+    (λ c. search needs)  -- add-i
+    (λ c. search needs)  -- loop-less
+    (λ c. search needs)  -- loop-again
+    (λ c. search needs)  -- same-length
+    (λ c. search needs))  -- returns

@@ -4,4 +4,8 @@ use Rattle.compare.proofs.checking.begin.Statement.{statement}
 use Rattle.compare.proofs.checking.begin.Tie as tie
 
 pub begin-spec : {M : Type 1} → statement M
-begin-spec = tie.close (tie.spec (λ c κs. search needs) (λ c. rw (c .begin .ensures)))
+begin-spec =
+    tie.close
+    (tie.spec
+    (λ c κs. search needs)  -- begin-requires
+    (λ c. rw (c .begin .ensures)))  -- returns

@@ -10,15 +10,14 @@ unfolding cameOf
 came-spec =
     tie.close
     (tie.spec
-    (λ c. search needs)
-    (λ c. search needs)
-    (λ c κs. search needs)
-    (λ c κs. search needs)
-    -- returns
-    (λ c. rw (lt-ltb _ _ (c .before .before .before .if1 .taken)) (c .over .ensures))
-    (λ c κs. search needs)
-    (λ c κs. search needs)
-    (λ c. search needs)
+    (λ c. search needs)  -- sub-if1
+    (λ c. search needs)  -- slice-aggregate-stop
+    (λ c κs. search needs)  -- stop-requires
+    (λ c κs. search needs)  -- over-requires
+    (λ c. rw (lt-ltb _ _ (c .before .before .before .if1 .taken)) (c .over .ensures))  -- returns
+    (λ c κs. search needs)  -- front-requires
+    (λ c κs. search needs)  -- pass-requires
+    (λ c. search needs)  -- add-t6
     -- returns-2
     (λ c.
     let p = c .before .before in

@@ -17,12 +17,10 @@ abbrev μ-loop : tie.MeasureT-loop
 pub check-log-spec : {M : Type 1} → statement M
 check-log-spec =
     tie.close
-    (tie.spec
-    Inv-loop
-    μ-loop
-    (λ c κs. search needs)
-    (λ c. (refl, started-checked (c .begin .ensures)))
-    (λ c κs. search needs)
+    (tie.spec Inv-loop μ-loop
+    (λ c κs. search needs)  -- begin-requires
+    (λ c. (refl, started-checked (c .begin .ensures)))  -- loop-holds
+    (λ c κs. search needs)  -- read-part-requires
     -- loop-less
     (λ c.
     let r = c .before .before in
@@ -33,5 +31,5 @@ check-log-spec =
     let r = c .before .before in
     let i = r .before .before in
     (search needs, reads-on (i .before .loop .inv .1) _ (r .read-part .ensures) .0))
-    (λ c. search needs)
-    (λ c. c .before .loop .inv .1))
+    (λ c. search needs)  -- same-length
+    (λ c. c .before .loop .inv .1))  -- returns

@@ -10,25 +10,25 @@ pub read-part-spec : {M : Type 1} → statement M
 read-part-spec =
     tie.close
     (tie.spec
-    (λ c κs. search needs)
-    (λ c. search needs)
-    (λ c κs. search needs)
-    (λ c. search needs)
-    (λ c κs. search needs)
-    (λ c. search needs)
-    (λ c κs. search needs)
-    (λ c. search needs)
-    (λ c κs. search needs)
-    (λ c κs. search needs)
-    (λ c. search needs)
+    (λ c κs. search needs)  -- fill-requires
+    (λ c. search needs)  -- enum-known-n
+    (λ c κs. search needs)  -- came-requires
+    (λ c. search needs)  -- enum-known-end
+    (λ c κs. search needs)  -- ended-requires
+    (λ c. search needs)  -- enum-told
+    (λ c κs. search needs)  -- over-requires
+    (λ c. search needs)  -- enum-told-2
+    (λ c κs. search needs)  -- say-failed-requires
+    (λ c κs. search needs)  -- over-requires-2
+    (λ c. search needs)  -- same-length
     -- returns
     (λ c.
     let n = c .before .before .before in
     let f = n .before .before .before .before in
     read-some _ _ (f .fill .ensures) (n .n .given .1) (search needs) (c .came .ensures))
-    (λ c. search needs)
-    (λ c. read-none _ _ (c .ended .ensures))
-    (λ c. search needs)
-    (λ c. inl (c .over .ensures))
-    (λ c. search needs)
-    (λ c. inl (c .over2 .ensures)))
+    (λ c. search needs)  -- same-length-2
+    (λ c. read-none _ _ (c .ended .ensures))  -- returns-2
+    (λ c. search needs)  -- same-length-3
+    (λ c. inl (c .over .ensures))  -- returns-3
+    (λ c. search needs)  -- same-length-4
+    (λ c. inl (c .over2 .ensures)))  -- returns-4

@@ -17,18 +17,15 @@ abbrev μ-loop : tie.MeasureT-loop
 pub list-all-spec : {M : Type 1} → statement M
 list-all-spec =
     tie.close
-    (tie.spec
-    Inv-loop
-    μ-loop
-    (λ c κs. search needs)
-    (λ c κs. search needs)
-    (λ c κs. search needs)
+    (tie.spec Inv-loop μ-loop
+    (λ c κs. search needs)  -- fresh-requires
+    (λ c κs. search needs)  -- fresh-requires-2
+    (λ c κs. search needs)  -- on-requires
     -- loop-holds
     (λ c.
     let s = c .before in
     (refl, refl, refl, refl, refl, begun-ready _ _ (c .on .ensures .0 ∙ s .before .fresh .ensures), begun-ready _ _ (ap (λ x. x .pass) (c .on .ensures .1) ∙ s .fresh2 .ensures)))
-    -- list-turn-requires
-    (λ c κs. let i = c .before .before .before .before .before .before .loop .inv in (rw (i .0, i .1) (i .5), rw (i .2, i .3) (i .6)))
+    (λ c κs. let i = c .before .before .before .before .before .before .loop .inv in (rw (i .0, i .1) (i .5), rw (i .2, i .3) (i .6)))  -- list-turn-requires
     -- loop-less
     (λ c.
     let t = c .before .before .before .before .before .before .before .before .before .before in
@@ -38,9 +35,9 @@ list-all-spec =
     let t = c .before .before .before .before .before .before .before .before .before .before in
     let i = t .before .before .before .before .before .before .before .loop .inv in
     (search needs, search needs, search needs, search needs, search needs, rw (i .0, i .1) at (t .list-turn .ensures .0 .ready), rw (i .2, i .3) at (t .list-turn .ensures .1 .0)))
-    (λ c. search needs)
-    (λ c. search needs)
-    (λ c. search needs)
-    (λ c. search needs)
-    (λ c. search needs)
-    (λ c. search needs))
+    (λ c. search needs)  -- same-length
+    (λ c. search needs)  -- same-length-2
+    (λ c. search needs)  -- same-length-3
+    (λ c. search needs)  -- same-length-4
+    (λ c. search needs)  -- same-length-5
+    (λ c. search needs))  -- returns

@@ -10,18 +10,18 @@ pub pair-met-spec : {M : Type 1} → statement M
 pair-met-spec =
     tie.close
     (tie.spec
-    (λ c κs. search needs)
-    (λ c κs. search needs)
-    (λ c κs. search needs)
+    (λ c κs. search needs)  -- as-checked-requires
+    (λ c κs. search needs)  -- changed-requires
+    (λ c κs. search needs)  -- halted-requires
     -- returns
     (λ c.
     let start = c .before .before .before .before .before .before .before .before in
     let h = c .halted .ensures in
     ((h .0, same-ready (ap (λ s. s .pass) (h .1)) (start .pre)), λ m. clash m (h .2)))
-    (λ c κs. search needs)
-    (λ c. search needs)
-    (λ c. search needs)
-    (λ c. search needs)
+    (λ c κs. search needs)  -- list-pair-requires
+    (λ c. search needs)  -- same-length
+    (λ c. search needs)  -- same-length-2
+    (λ c. search needs)  -- same-length-3
     -- returns-2
     (λ c.
     let p = c .before .before .before .before .before .before .before .before .before in

@@ -10,12 +10,10 @@ unfolding cameTo
 came-spec =
     tie.close
     (tie.spec
-    (λ c. search needs)
-    (λ c. search needs)
-    (λ c κs. search needs)
-    (λ c κs. search needs)
-    -- returns
-    (λ c. rw (lt-ltb _ _ (c .before .before .before .if1 .taken)) (c .filled .ensures))
-    (λ c κs. search needs)
-    -- returns-2
-    (λ c. rw (le-ltb _ _ (c .before .if1 .left)) (c .filled2 .ensures)))
+    (λ c. search needs)  -- sub-if1
+    (λ c. search needs)  -- slice-aggregate-stop
+    (λ c κs. search needs)  -- stop-requires
+    (λ c κs. search needs)  -- filled-requires
+    (λ c. rw (lt-ltb _ _ (c .before .before .before .if1 .taken)) (c .filled .ensures))  -- returns
+    (λ c κs. search needs)  -- filled-requires-2
+    (λ c. rw (le-ltb _ _ (c .before .if1 .left)) (c .filled2 .ensures)))  -- returns-2

@@ -4,4 +4,8 @@ use Rattle.compare.proofs.reading.moved.Statement.{statement}
 use Rattle.compare.proofs.reading.moved.Tie as tie
 
 pub moved-spec : {M : Type 1} → statement M
-moved-spec = tie.close (tie.spec (λ c κs. search needs) (λ c. rw (c .wrapping-add-usize .ensures)))
+moved-spec =
+    tie.close
+    (tie.spec
+    (λ c κs. search needs)  -- wrapping-add-usize-requires
+    (λ c. rw (c .wrapping-add-usize .ensures)))  -- returns

@@ -5,4 +5,9 @@ use Rattle.compare.proofs.reading.waiting.Statement.{statement}
 use Rattle.compare.proofs.reading.waiting.Tie as tie
 
 pub waiting-spec : {M : Type 1} → statement M
-waiting-spec = tie.close (tie.spec (λ c κs. search needs) (λ c κs. search needs) (λ c. c .part .ensures ∙ rw (c .before .front .ensures)))
+waiting-spec =
+    tie.close
+    (tie.spec
+    (λ c κs. search needs)  -- front-requires
+    (λ c κs. search needs)  -- part-requires
+    (λ c. c .part .ensures ∙ rw (c .before .front .ensures)))  -- returns

@@ -19,12 +19,9 @@ abbrev μ-loop : tie.MeasureT-loop
 pub show-spec : {M : Type 1} → statement M
 show-spec =
     tie.close
-    (tie.spec
-    Inv-loop
-    μ-loop
-    (λ c. (refl, refl, refl, c .before .before .before .pre, λ m. clash refl m))
-    -- show-turn-requires
-    (λ c κs. let i = c .before .before .before .before .loop .inv in rw (i .0, i .1) (i .3))
+    (tie.spec Inv-loop μ-loop
+    (λ c. (refl, refl, refl, c .before .before .before .pre, λ m. clash refl m))  -- loop-holds
+    (λ c κs. let i = c .before .before .before .before .loop .inv in rw (i .0, i .1) (i .3))  -- show-turn-requires
     -- loop-less
     (λ c.
     let t = c .before .before .before .before .before .before in
@@ -34,7 +31,7 @@ show-spec =
     let t = c .before .before .before .before .before .before in
     let i = t .before .before .before .before .before .loop .inv in
     (search needs, search needs, search needs, rw (i .0, i .1) at (t .show-turn .ensures .0 .ready), t .show-turn .ensures .1))
-    (λ c. search needs)
-    (λ c. search needs)
-    (λ c. search needs)
-    (λ c. let i = c .before .loop .inv in (i .3, i .4 (c .loop-test .left))))
+    (λ c. search needs)  -- same-length
+    (λ c. search needs)  -- same-length-2
+    (λ c. search needs)  -- same-length-3
+    (λ c. let i = c .before .loop .inv in (i .3, i .4 (c .loop-test .left))))  -- returns

@@ -9,25 +9,25 @@ pub turn-spec : {M : Type 1} → statement M
 turn-spec =
     tie.close
     (tie.spec
-    (λ c κs. search needs)
-    (λ c κs. search needs)
-    (λ c κs. search needs)
-    (λ c. search needs)
-    (λ c κs. c .before .before .before .before .before .before .before .before .before .before .before .before .before .pre .first)
-    (λ c κs. search needs)
-    (λ c. search needs)
-    (λ c κs. c .before .before .before .before .before .before .before .before .before .before .before .before .before .pre .second)
-    (λ c κs. search needs)
-    (λ c. search needs)
-    (λ c κs. search needs)
-    (λ c κs. search needs)
-    (λ c κs. search needs)
-    (λ c. search needs)
-    (λ c κs. search needs)
-    (λ c. search needs)
-    (λ c κs. search needs)
-    (λ c. search needs)
-    (λ c. search needs)
+    (λ c κs. search needs)  -- waiting-requires
+    (λ c κs. search needs)  -- waiting-requires-2
+    (λ c κs. search needs)  -- step-requires
+    (λ c. search needs)  -- enum-told
+    (λ c κs. c .before .before .before .before .before .before .before .before .before .before .before .before .before .pre .first)  -- top-up-requires
+    (λ c κs. search needs)  -- came-to-requires
+    (λ c. search needs)  -- enum-told-2
+    (λ c κs. c .before .before .before .before .before .before .before .before .before .before .before .before .before .pre .second)  -- top-up-requires-2
+    (λ c κs. search needs)  -- came-to-requires-2
+    (λ c. search needs)  -- enum-known-m
+    (λ c κs. search needs)  -- moved-requires
+    (λ c κs. search needs)  -- moved-requires-2
+    (λ c κs. search needs)  -- came-to-requires-3
+    (λ c. search needs)  -- enum-known-differs
+    (λ c κs. search needs)  -- came-to-requires-4
+    (λ c. search needs)  -- enum-told-3
+    (λ c κs. search needs)  -- came-to-requires-5
+    (λ c. search needs)  -- same-length
+    (λ c. search needs)  -- same-length-2
     -- returns
     (λ c.
     let u = c .before .before .before in
@@ -38,8 +38,8 @@ turn-spec =
     let x = z .before .before in
     let start = x .before .before .before .before .before .before .before in
     turn-first _ _ (start .pre) _ _ _ (x .waiting .ensures) (z .waiting2 .ensures) (s .step .ensures) (t .enum-told .given .1) (k .top-up .ensures) (c .came-to .ensures) refl)
-    (λ c. search needs)
-    (λ c. search needs)
+    (λ c. search needs)  -- same-length-3
+    (λ c. search needs)  -- same-length-4
     -- returns-2
     (λ c.
     let u = c .before .before .before in
@@ -50,8 +50,8 @@ turn-spec =
     let x = z .before .before in
     let start = x .before .before .before .before .before .before .before in
     turn-second _ _ (start .pre) _ _ _ (x .waiting .ensures) (z .waiting2 .ensures) (s .step .ensures) (t .enum-told2 .given .1) (k .top-up2 .ensures) (c .came-to2 .ensures) refl)
-    (λ c. search needs)
-    (λ c. search needs)
+    (λ c. search needs)  -- same-length-5
+    (λ c. search needs)  -- same-length-6
     -- returns-3
     (λ c.
     let b = c .before in
@@ -62,8 +62,8 @@ turn-spec =
     let x = z .before .before in
     let start = x .before .before .before .before .before .before .before in
     turn-row _ _ (start .pre) _ _ _ (x .waiting .ensures) (z .waiting2 .ensures) (s .step .ensures) (m .m .given .1) (a .moved .ensures) (b .moved2 .ensures) (c .came-to3 .ensures) refl refl)
-    (λ c. search needs)
-    (λ c. search needs)
+    (λ c. search needs)  -- same-length-7
+    (λ c. search needs)  -- same-length-8
     -- returns-4
     (λ c.
     let d = c .before .before in
@@ -72,8 +72,8 @@ turn-spec =
     let x = z .before .before in
     let start = x .before .before .before .before .before .before .before in
     turn-pair _ _ (start .pre) _ _ _ (x .waiting .ensures) (z .waiting2 .ensures) (s .step .ensures) (d .differs .given .1) (c .came-to4 .ensures) refl refl)
-    (λ c. search needs)
-    (λ c. search needs)
+    (λ c. search needs)  -- same-length-9
+    (λ c. search needs)  -- same-length-10
     -- returns-5
     (λ c.
     let t = c .before in

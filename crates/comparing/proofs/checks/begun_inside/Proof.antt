@@ -10,6 +10,6 @@ unfolding begunInside
 begun-inside-spec =
     tie.close
     (tie.spec
-    (λ c κs. search needs)
-    (λ c. rw (eq-eqb _ 0 (c .before .if1 .taken), c .starts .ensures))
-    (λ c. rw (ne-eqb _ 0 (c .if1 .left))))
+    (λ c κs. search needs)  -- starts-requires
+    (λ c. rw (eq-eqb _ 0 (c .before .if1 .taken), c .starts .ensures))  -- returns
+    (λ c. rw (ne-eqb _ 0 (c .if1 .left))))  -- returns-2

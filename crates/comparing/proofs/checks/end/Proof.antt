@@ -9,7 +9,7 @@ unfolding told
 end-spec =
     tie.close
     (tie.spec
-    (λ c. rw (c .if1 .taken))
-    (λ c. rw (c .before .before .if1 .left, ne-eqb _ 0 (c .if2 .taken)))
-    (λ c. let e = c .before in rw (e .before .before .if1 .left, eq-eqb _ 0 (e .if2 .left), c .if3 .taken))
-    (λ c. let e = c .before in rw (e .before .before .if1 .left, eq-eqb _ 0 (e .if2 .left), c .if3 .left)))
+    (λ c. rw (c .if1 .taken))  -- returns
+    (λ c. rw (c .before .before .if1 .left, ne-eqb _ 0 (c .if2 .taken)))  -- returns-2
+    (λ c. let e = c .before in rw (e .before .before .if1 .left, eq-eqb _ 0 (e .if2 .left), c .if3 .taken))  -- returns-3
+    (λ c. let e = c .before in rw (e .before .before .if1 .left, eq-eqb _ 0 (e .if2 .left), c .if3 .left)))  -- returns-4

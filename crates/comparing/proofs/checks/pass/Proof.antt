@@ -17,16 +17,14 @@ abbrev μ-loop : tie.MeasureT-loop
 pub pass-spec : {M : Type 1} → statement M
 pass-spec =
     tie.close
-    (tie.spec
-    Inv-loop
-    μ-loop
-    (λ c. (omega arith, refl))
-    (λ c. search needs)
-    (λ c κs. search needs)
-    (λ c. search needs)
-    (λ c. search needs)
+    (tie.spec Inv-loop μ-loop
+    (λ c. (omega arith, refl))  -- loop-holds
+    (λ c. search needs)  -- shared-slice-read-pass-byte
+    (λ c κs. search needs)  -- pass-byte-requires
+    (λ c. search needs)  -- add-i
+    (λ c. search needs)  -- loop-less
     -- loop-again
     (λ c.
     let l = c .before .before in
     passed-more _ _ _ (l .before .loop .i) (l .loop-test .taken) (c .pass-byte .ensures) (l .before .loop .inv))
-    (λ c. let v = c .before .loop in passed-all _ _ _ (v .i) (c .loop-test .left) (v .inv)))
+    (λ c. let v = c .before .loop in passed-all _ _ _ (v .i) (c .loop-test .left) (v .inv)))  -- returns

@@ -11,21 +11,21 @@ unfolding passedByte
 pass-byte-spec =
     tie.close
     (tie.spec
-    (λ c. rw (c .if1 .taken))
-    (λ c κs. search needs)
-    (λ c. search needs)
+    (λ c. rw (c .if1 .taken))  -- returns
+    (λ c κs. search needs)  -- wrapping-add-usize-requires
+    (λ c. search needs)  -- sub-t5
     -- returns-2
     (λ c.
     let t = c .before in
     let n = t .before .before in
     rw (n .before .if1 .left, ne-eqb _ 0 (t .if2 .taken), n .wrapping-add-usize .ensures))
-    (λ c κs. search needs)
+    (λ c κs. search needs)  -- is-event-requires
     -- returns-3
     (λ c.
     let e = c .before .before in
     rw (e .before .before .before .if1 .left, eq-eqb _ 0 (e .if2 .left), sym (c .before .is-event .ensures) ∙ not-true _ (c .if3 .taken)))
-    (λ c κs. search needs)
-    (λ c κs. search needs)
+    (λ c κs. search needs)  -- length-of-requires
+    (λ c κs. search needs)  -- begun-inside-requires
     -- returns-4
     (λ c.
     let l = c .before in

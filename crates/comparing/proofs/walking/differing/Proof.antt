@@ -9,6 +9,6 @@ unfolding counted
 differing-spec =
     tie.close
     (tie.spec
-    (λ c. rw (c .if1 .taken))
-    (λ c κs. search needs)
-    (λ c. rw (c .before .if1 .left) (c .wrapping-add-usize .ensures)))
+    (λ c. rw (c .if1 .taken))  -- returns
+    (λ c κs. search needs)  -- wrapping-add-usize-requires
+    (λ c. rw (c .before .if1 .left) (c .wrapping-add-usize .ensures)))  -- returns-2

@@ -9,6 +9,6 @@ unfolding lowestOf
 lowest-spec =
     tie.close
     (tie.spec
-    (λ c. rw (c .if1 .taken))
-    (λ c. rw (c .before .before .if1 .left, eq-eqb _ 0 (c .if2 .taken)))
-    (λ c. rw (c .before .before .if1 .left, ne-eqb _ 0 (c .if2 .left))))
+    (λ c. rw (c .if1 .taken))  -- returns
+    (λ c. rw (c .before .before .if1 .left, eq-eqb _ 0 (c .if2 .taken)))  -- returns-2
+    (λ c. rw (c .before .before .if1 .left, ne-eqb _ 0 (c .if2 .left))))  -- returns-3

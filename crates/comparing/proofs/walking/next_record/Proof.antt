@@ -11,16 +11,15 @@ unfolding ahead
 next-record-spec =
     tie.close
     (tie.spec
-    (λ c. rw (c .if2 .taken, eq-eqb _ 0 (c .before .if1 .taken)))
-    (λ c. rw (c .if2 .left, eq-eqb _ 0 (c .before .if1 .taken)))
-    (λ c. search needs)
-    (λ c κs. search needs)
-    -- returns-3
-    (λ c. let s = c .before in rw (ne-eqb _ 0 (s .before .before .if1 .left), rw (s .starts .ensures) at (c .if3 .taken)))
-    (λ c. search needs)
-    (λ c κs. search needs)
-    (λ c. search needs)
-    (λ c κs. search needs)
+    (λ c. rw (c .if2 .taken, eq-eqb _ 0 (c .before .if1 .taken)))  -- returns
+    (λ c. rw (c .if2 .left, eq-eqb _ 0 (c .before .if1 .taken)))  -- returns-2
+    (λ c. search needs)  -- shared-slice-read-starts
+    (λ c κs. search needs)  -- starts-requires
+    (λ c. let s = c .before in rw (ne-eqb _ 0 (s .before .before .if1 .left), rw (s .starts .ensures) at (c .if3 .taken)))  -- returns-3
+    (λ c. search needs)  -- shared-slice-read-length-of
+    (λ c κs. search needs)  -- length-of-requires
+    (λ c. search needs)  -- cast-n
+    (λ c κs. search needs)  -- past-requires
     -- returns-4
     (λ c.
     let t = c .before in

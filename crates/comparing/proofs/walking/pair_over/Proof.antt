@@ -9,6 +9,6 @@ unfolding pairOver
 pair-over-spec =
     tie.close
     (tie.spec
-    (λ c. rw (c .if1 .taken))
-    (λ c κs. search needs)
-    (λ c. rw (c .before .before .if1 .left, c .pair-passed .ensures)))
+    (λ c. rw (c .if1 .taken))  -- returns
+    (λ c κs. search needs)  -- pair-passed-requires
+    (λ c. rw (c .before .before .if1 .left, c .pair-passed .ensures)))  -- returns-2

@@ -7,11 +7,11 @@ pub pair-passed-spec : {M : Type 1} → statement M
 pair-passed-spec =
     tie.close
     (tie.spec
-    (λ c κs. search needs)
-    (λ c κs. search needs)
-    (λ c κs. search needs)
-    (λ c κs. search needs)
-    (λ c κs. search needs)
+    (λ c κs. search needs)  -- wrapping-add-usize-requires
+    (λ c κs. search needs)  -- behind-requires
+    (λ c κs. search needs)  -- behind-requires-2
+    (λ c κs. search needs)  -- differing-requires
+    (λ c κs. search needs)  -- lowest-requires
     -- returns
     (λ c.
     let d = c .before in

@@ -11,12 +11,12 @@ unfolding row
 row-spec =
     tie.close
     (tie.spec
-    (λ c κs. search needs)
-    (λ c. rw (c .before .if1 .taken) (c .pair-over .ensures))
-    (λ c κs. search needs)
-    (λ c κs. search needs)
-    (λ c κs. search needs)
-    (λ c κs. search needs)
+    (λ c κs. search needs)  -- pair-over-requires
+    (λ c. rw (c .before .if1 .taken) (c .pair-over .ensures))  -- returns
+    (λ c κs. search needs)  -- part-requires
+    (λ c κs. search needs)  -- part-requires-2
+    (λ c κs. search needs)  -- same-requires
+    (λ c κs. search needs)  -- row-passed-requires
     -- returns-2
     (λ c.
     let s = c .before in

@@ -10,14 +10,14 @@ unfolding stepped
 step-spec =
     tie.close
     (tie.spec
-    (λ c κs. search needs)
-    (λ c. search needs)
-    (λ c. search needs)
-    (λ c κs. search needs)
-    (λ c. search needs)
-    (λ c. search needs)
-    (λ c κs. search needs)
-    (λ c. rw (sym (c .before .before .next-record .ensures) ∙ c .enum-told .given .1))
+    (λ c κs. search needs)  -- next-record-requires
+    (λ c. search needs)  -- enum-told
+    (λ c. search needs)  -- enum-known-m
+    (λ c κs. search needs)  -- next-record-requires-2
+    (λ c. search needs)  -- enum-told-2
+    (λ c. search needs)  -- enum-known-n
+    (λ c κs. search needs)  -- row-requires
+    (λ c. rw (sym (c .before .before .next-record .ensures) ∙ c .enum-told .given .1))  -- returns
     -- returns-2
     (λ c.
     let n2 = c .before .before in

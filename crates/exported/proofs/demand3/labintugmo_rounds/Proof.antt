@@ -25,6 +25,7 @@ labintugmo-rounds-spec =
     (λ c. search needs)  -- same-length-4
     (λ c. search needs)  -- same-length-5
     (λ c. search needs)  -- same-length-6
+    -- returns-2
     (λ c.
     let r = c .before .before .before .before .before .before .before .before .before .before .before .before .before in
     let a = r .before .before .before .before .before .before in
@@ -32,4 +33,4 @@ labintugmo-rounds-spec =
     let two = s .before .if1 .left in (
       called _ two _ _ (rw (s .settings-from .ensures, a .access-for .ensures) at (r .run-rounds .ensures .0)) (c .before .before .rounds-run .ensures) (c .before .bytes-written .ensures) (c .went-number .ensures),
       flagged _ two _ (rw (s .settings-from .ensures, a .access-for .ensures) at (r .run-rounds .ensures .1)),
-    )))  -- returns-2
+    )))

@@ -24,9 +24,10 @@ labintugmo-struck-spec =
     (λ c. search needs)  -- same-length-3
     (λ c. search needs)  -- same-length-4
     (λ c. search needs)  -- same-length-5
+    -- returns-2
     (λ c.
     let r = c .before .before .before .before .before .before .before .before .before .before .before in
     let a = r .before .before .before .before .before in
     let s = a .before in
     let two = s .before .if1 .left in
-    called _ two _ _ (rw (s .settings-from .ensures, a .access-for .ensures) at (r .run-struck .ensures)) (c .before .before .rounds-run .ensures) (c .before .bytes-written .ensures) (c .went-number .ensures)))  -- returns-2
+    called _ two _ _ (rw (s .settings-from .ensures, a .access-for .ensures) at (r .run-struck .ensures)) (c .before .before .rounds-run .ensures) (c .before .bytes-written .ensures) (c .went-number .ensures)))

@@ -20,9 +20,10 @@ labintugmo-step-read-spec =
     (λ c. search needs)  -- same-length-2
     (λ c. search needs)  -- same-length-3
     (λ c. search needs)  -- same-length-4
+    -- returns-2
     (λ c.
     let told = c .before .before in
     let done = told .before .before .before .before .before .before .before .before in
     let s = done .before .before .before .before .before in
     let a = s .before .before .before .before .before .before .before in
-    step-made _ (offer (Read (a .args .address) 0 (a .args .ticket))) _ _ _ (omega arith) (a .pre) (s .before .if1 .left) (rw (s .settings-from .ensures) at (done .access-step .ensures)) (told .write-told .ensures .0)))  -- returns-2
+    step-made _ (offer (Read (a .args .address) 0 (a .args .ticket))) _ _ _ (omega arith) (a .pre) (s .before .if1 .left) (rw (s .settings-from .ensures) at (done .access-step .ensures)) (told .write-told .ensures .0)))

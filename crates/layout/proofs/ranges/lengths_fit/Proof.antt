@@ -6,7 +6,7 @@ pub lengths-fit-spec : {M : Type 1} → statement M
 lengths-fit-spec =
     tie.close
     (tie.spec
-    (λ c κs. search needs)
-    (λ c κs. search needs)
-    (λ c κs. search needs)
-    (λ c. rw (c .before .before .longs-length .ensures, c .before .words-length .ensures, c .marks-length .ensures)))
+    (λ c κs. search needs)  -- longs-length-requires
+    (λ c κs. search needs)  -- words-length-requires
+    (λ c κs. search needs)  -- marks-length-requires
+    (λ c. rw (c .before .before .longs-length .ensures, c .before .words-length .ensures, c .marks-length .ensures)))  -- returns

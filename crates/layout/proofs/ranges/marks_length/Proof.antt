@@ -8,9 +8,9 @@ pub marks-length-spec : {M : Type 1} → statement M
 marks-length-spec =
     tie.close
     (tie.spec
-    (λ c. let r = ranged _ (c .before .pre) in omega arith)
-    (λ c. let r = ranged _ (c .before .pre) in omega arith)
-    (λ c. let r = ranged _ (c .before .before .pre) in omega arith)
-    (λ c. let r = ranged _ (c .before .before .pre) in omega arith)
-    (λ c. let r = ranged _ (c .before .before .before .pre) in omega arith)
-    (λ c. search needs))
+    (λ c. let r = ranged _ (c .before .pre) in omega arith)  -- mul-result
+    (λ c. let r = ranged _ (c .before .pre) in omega arith)  -- mul-result-2
+    (λ c. let r = ranged _ (c .before .before .pre) in omega arith)  -- mul-result-3
+    (λ c. let r = ranged _ (c .before .before .pre) in omega arith)  -- add-result
+    (λ c. let r = ranged _ (c .before .before .before .pre) in omega arith)  -- add-result-2
+    (λ c. search needs))  -- returns

@@ -9,14 +9,14 @@ pub words-length-spec : {M : Type 1} → statement M
 words-length-spec =
     tie.close
     (tie.spec
-    (λ c. let r = ranged _ (c .before .pre) in omega arith)
-    (λ c. let r = ranged _ (c .before .pre) in omega arith)
-    (λ c. let r = ranged _ (c .before .pre) in omega arith)
-    (λ c. let r = ranged _ (c .before .before .pre) in omega (arith, tickets-most _ (c .before .before .pre)))
-    (λ c. let r = ranged _ (c .before .before .pre) in omega (arith, tickets-most _ (c .before .before .pre)))
-    (λ c. let r = ranged _ (c .before .before .before .pre) in omega arith)
-    (λ c. let r = ranged _ (c .before .before .before .pre) in omega (arith, tickets-most _ (c .before .before .before .pre)))
-    (λ c. let r = ranged _ (c .before .before .before .pre) in omega (arith, tickets-most _ (c .before .before .before .pre)))
-    (λ c. let r = ranged _ (c .before .before .before .pre) in omega (arith, tickets-most _ (c .before .before .before .pre)))
-    (λ c. let r = ranged _ (c .before .before .before .before .pre) in omega (arith, tickets-most _ (c .before .before .before .before .pre), sets-most _ (c .before .before .before .before .pre)))
-    (λ c. search needs))
+    (λ c. let r = ranged _ (c .before .pre) in omega arith)  -- mul-lines
+    (λ c. let r = ranged _ (c .before .pre) in omega arith)  -- mul-result
+    (λ c. let r = ranged _ (c .before .pre) in omega arith)  -- add-result
+    (λ c. let r = ranged _ (c .before .before .pre) in omega (arith, tickets-most _ (c .before .before .pre)))  -- mul-result-2
+    (λ c. let r = ranged _ (c .before .before .pre) in omega (arith, tickets-most _ (c .before .before .pre)))  -- add-result-2
+    (λ c. let r = ranged _ (c .before .before .before .pre) in omega arith)  -- mul-result-3
+    (λ c. let r = ranged _ (c .before .before .before .pre) in omega (arith, tickets-most _ (c .before .before .before .pre)))  -- add-result-3
+    (λ c. let r = ranged _ (c .before .before .before .pre) in omega (arith, tickets-most _ (c .before .before .before .pre)))  -- add-result-4
+    (λ c. let r = ranged _ (c .before .before .before .pre) in omega (arith, tickets-most _ (c .before .before .before .pre)))  -- add-result-5
+    (λ c. let r = ranged _ (c .before .before .before .before .pre) in omega (arith, tickets-most _ (c .before .before .before .before .pre), sets-most _ (c .before .before .before .before .pre)))  -- add-result-6
+    (λ c. search needs))  -- returns

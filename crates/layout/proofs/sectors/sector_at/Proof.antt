@@ -15,8 +15,9 @@ sector-at-spec =
     (λ c. search needs)  -- shared-slice-read-t12
     (λ c. search needs)  -- add-t13
     (λ c. search needs)  -- shared-slice-read-t15
+    -- returns
     (λ c.
     let asked = c .before .before .before .before in
     let start = asked .before .before .before .before in
     let a = start .args in
-    rw (asked .status-of .ensures, mask-read (a .s) (start .pre .0 .0) (a .words .now) (a .i), readable-read (a .s) (start .pre .0 .0) (a .marks .now) (a .i))))  -- returns
+    rw (asked .status-of .ensures, mask-read (a .s) (start .pre .0 .0) (a .words .now) (a .i), readable-read (a .s) (start .pre .0 .0) (a .marks .now) (a .i))))

@@ -19,21 +19,21 @@ pub four-spec : {M : Type 1} → statement M
 four-spec =
     tie.close
     (tie.spec
-    (λ c. search needs)
-    (λ c. omega (arith, c .shared-slice-known .given (c .before .args .at)))
-    (λ c. search needs)
-    (λ c. search needs)
-    (λ c. omega (arith, c .shared-slice-known2 .given (c .before .before .args .at + 1)))
-    (λ c. search needs)
-    (λ c. search needs)
-    (λ c. omega (arith, c .shared-slice-known3 .given (c .before .before .before .args .at + 2)))
-    (λ c. search needs)
-    (λ c. search needs)
-    (λ c. omega (arith, bytes c))
-    (λ c. omega (arith, bytes c))
-    (λ c. omega (arith, bytes c))
-    (λ c. omega (arith, bytes c))
-    (λ c. omega (arith, bytes c))
-    (λ c. omega (arith, bytes c))
-    (λ c. omega (arith, bytes c))
-    (λ c. let a = c .before .before .before .before .args in number-four (a .b .now) (a .at)))
+    (λ c. search needs)  -- shared-slice-read-b0
+    (λ c. omega (arith, c .shared-slice-known .given (c .before .args .at)))  -- cast-b0
+    (λ c. search needs)  -- add-b1
+    (λ c. search needs)  -- shared-slice-read-b1
+    (λ c. omega (arith, c .shared-slice-known2 .given (c .before .before .args .at + 1)))  -- cast-b1
+    (λ c. search needs)  -- add-b2
+    (λ c. search needs)  -- shared-slice-read-b2
+    (λ c. omega (arith, c .shared-slice-known3 .given (c .before .before .before .args .at + 2)))  -- cast-b2
+    (λ c. search needs)  -- add-b3
+    (λ c. search needs)  -- shared-slice-read-b3
+    (λ c. omega (arith, bytes c))  -- cast-b3
+    (λ c. omega (arith, bytes c))  -- mul-result
+    (λ c. omega (arith, bytes c))  -- add-result
+    (λ c. omega (arith, bytes c))  -- mul-result-2
+    (λ c. omega (arith, bytes c))  -- add-result-2
+    (λ c. omega (arith, bytes c))  -- mul-result-3
+    (λ c. omega (arith, bytes c))  -- add-result-3
+    (λ c. let a = c .before .before .before .before .args in number-four (a .b .now) (a .at)))  -- returns

@@ -8,6 +8,6 @@ pub number1-spec : {M : Type 1} → statement M
 number1-spec =
     tie.close
     (tie.spec
-    (λ c. search needs)
-    (λ c. number-one _ _)
-    (λ c. number-past _ 1 _ (c .if1 .left)))
+    (λ c. search needs)  -- shared-slice-read-result
+    (λ c. number-one _ _)  -- returns
+    (λ c. number-past _ 1 _ (c .if1 .left)))  -- returns-2

@@ -8,12 +8,12 @@ pub number2-spec : {M : Type 1} → statement M
 number2-spec =
     tie.close
     (tie.spec
-    (λ c. number-past _ 2 _ (c .if1 .taken))
-    (λ c κs. search needs)
-    (λ c. search needs)
-    (λ c. search needs)
-    (λ c κs. search needs)
-    (λ c. search needs)
-    (λ c. search needs)
-    (λ c. search needs)
-    (λ c. number-two _ _ (c .before .number1 .ensures) (c .number12 .ensures)))
+    (λ c. number-past _ 2 _ (c .if1 .taken))  -- returns
+    (λ c κs. search needs)  -- number1-requires
+    (λ c. search needs)  -- cast-low
+    (λ c. search needs)  -- add-number1
+    (λ c κs. search needs)  -- number1-requires-2
+    (λ c. search needs)  -- cast-high
+    (λ c. search needs)  -- mul-result
+    (λ c. search needs)  -- add-result
+    (λ c. number-two _ _ (c .before .number1 .ensures) (c .number12 .ensures)))  -- returns-2

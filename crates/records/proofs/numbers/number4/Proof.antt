@@ -8,15 +8,15 @@ pub number4-spec : {M : Type 1} → statement M
 number4-spec =
     tie.close
     (tie.spec
-    (λ c. number-past _ 4 _ (c .if1 .taken))
-    (λ c. search needs)
-    (λ c κs. search needs)
-    (λ c. search needs)
-    (λ c κs. search needs)
-    (λ c. search needs)
-    (λ c. search needs)
-    (λ c κs. search needs)
-    (λ c. search needs)
-    (λ c. search needs)
-    (λ c. search needs)
-    (λ c. number-twice-two _ _ (c .before .number2 .ensures) (c .number22 .ensures)))
+    (λ c. number-past _ 4 _ (c .if1 .taken))  -- returns
+    (λ c. search needs)  -- sub-if2
+    (λ c κs. search needs)  -- four-requires
+    (λ c. search needs)  -- returns-2
+    (λ c κs. search needs)  -- number2-requires
+    (λ c. search needs)  -- cast-low
+    (λ c. search needs)  -- add-number2
+    (λ c κs. search needs)  -- number2-requires-2
+    (λ c. search needs)  -- cast-high
+    (λ c. search needs)  -- mul-result
+    (λ c. search needs)  -- add-result
+    (λ c. number-twice-two _ _ (c .before .number2 .ensures) (c .number22 .ensures)))  -- returns-3

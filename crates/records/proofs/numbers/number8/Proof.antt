@@ -8,12 +8,12 @@ pub number8-spec : {M : Type 1} → statement M
 number8-spec =
     tie.close
     (tie.spec
-    (λ c. number-past _ 8 _ (c .if1 .taken))
-    (λ c κs. search needs)
-    (λ c. search needs)
-    (λ c. search needs)
-    (λ c κs. search needs)
-    (λ c. search needs)
-    (λ c. search needs)
-    (λ c. search needs)
-    (λ c. number-eight _ _ (c .before .number4 .ensures) (c .number42 .ensures)))
+    (λ c. number-past _ 8 _ (c .if1 .taken))  -- returns
+    (λ c κs. search needs)  -- number4-requires
+    (λ c. search needs)  -- cast-low
+    (λ c. search needs)  -- add-number4
+    (λ c κs. search needs)  -- number4-requires-2
+    (λ c. search needs)  -- cast-high
+    (λ c. search needs)  -- mul-result
+    (λ c. search needs)  -- add-result
+    (λ c. number-eight _ _ (c .before .number4 .ensures) (c .number42 .ensures)))  -- returns-2

@@ -10,11 +10,11 @@ pub put2-spec : {M : Type 1} → statement M
 put2-spec =
     tie.close
     (tie.spec
-    (λ c. search needs)
-    (λ c. search needs)
-    (λ c. search needs)
-    (λ c. search needs)
-    (λ c. simp length-set (omega arith))
-    (λ c. search needs)
-    (λ c. search needs)
-    (λ c. laid-two _ _ _ (omega arith)))
+    (λ c. search needs)  -- cast-out
+    (λ c. search needs)  -- slice-write-out
+    (λ c. search needs)  -- cast-out-2
+    (λ c. search needs)  -- add-out
+    (λ c. simp length-set (omega arith))  -- slice-write-out-2
+    (λ c. search needs)  -- add-result
+    (λ c. search needs)  -- same-length
+    (λ c. laid-two _ _ _ (omega arith)))  -- returns

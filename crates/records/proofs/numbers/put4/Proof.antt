@@ -9,9 +9,9 @@ pub put4-spec : {M : Type 1} → statement M
 put4-spec =
     tie.close
     (tie.spec
-    (λ c. search needs)
-    (λ c κs. search needs)
-    (λ c. search needs)
-    (λ c κs. search needs)
-    (λ c. search needs)
-    (λ c. let q = c .before .before in laid-as (laid-then (q .before .before .before .before .put2 .ensures) (length-bytes 2 _) (q .put22 .ensures)) (bytes-halves 2 2 _)))
+    (λ c. search needs)  -- cast-put2
+    (λ c κs. search needs)  -- put2-requires
+    (λ c. search needs)  -- cast-put2-2
+    (λ c κs. search needs)  -- put2-requires-2
+    (λ c. search needs)  -- same-length
+    (λ c. let q = c .before .before in laid-as (laid-then (q .before .before .before .before .put2 .ensures) (length-bytes 2 _) (q .put22 .ensures)) (bytes-halves 2 2 _)))  -- returns

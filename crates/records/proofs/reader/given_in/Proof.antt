@@ -16,11 +16,11 @@ pub given-in-spec : {M : Type 1} → statement M
 given-in-spec =
     tie.close
     (tie.spec
-    (λ c κs. search needs)
-    (λ c κs. search needs)
-    (λ c κs. search needs)
-    (λ c κs. search needs)
-    (λ c κs. search needs)
-    (λ c κs. search needs)
-    (λ c κs. search needs)
+    (λ c κs. search needs)  -- number2-requires
+    (λ c κs. search needs)  -- number1-requires
+    (λ c κs. search needs)  -- number1-requires-2
+    (λ c κs. search needs)  -- number1-requires-3
+    (λ c κs. search needs)  -- number1-requires-4
+    (λ c κs. search needs)  -- number1-requires-5
+    (λ c κs. search needs)  -- rule-in-requires
     returns)

@@ -9,6 +9,6 @@ pub length-of-spec : {M : Type 1} → statement M
 length-of-spec =
     tie.close
     (tie.spec
-    (λ c. search needs)
-    (λ c. length-is (c .before .args .kind) (c .if1 .taken))
-    (λ c. sym (length-past (c .before .args .kind) (c .if1 .left))))
+    (λ c. search needs)  -- array-read-result
+    (λ c. length-is (c .before .args .kind) (c .if1 .taken))  -- returns
+    (λ c. sym (length-past (c .before .args .kind) (c .if1 .left))))  -- returns-2

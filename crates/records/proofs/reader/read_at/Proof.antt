@@ -8,13 +8,13 @@ pub read-at-spec : {M : Type 1} → statement M
 read-at-spec =
     tie.close
     (tie.spec
-    (λ c. read-end _ _ 0 (c .if1 .taken))
-    (λ c. search needs)
-    (λ c κs. search needs)
-    (λ c. let l = c .before in read-unknown _ _ _ (l .before .before .if1 .left) (l .length-of .ensures) (c .if2 .taken))
-    (λ c. search needs)
-    (λ c. search needs)
-    (λ c. search needs)
-    (λ c. search needs)
-    (λ c. let l = c .before .before in read-whole _ _ _ (l .before .before .if1 .left) (l .length-of .ensures) (c .before .if2 .left) (c .if3 .taken))
-    (λ c. let l = c .before .before in read-cut _ _ _ (l .before .before .if1 .left) (l .length-of .ensures) (c .before .if2 .left) (c .if3 .left)))
+    (λ c. read-end _ _ 0 (c .if1 .taken))  -- returns
+    (λ c. search needs)  -- shared-slice-read-kind
+    (λ c κs. search needs)  -- length-of-requires
+    (λ c. let l = c .before in read-unknown _ _ _ (l .before .before .if1 .left) (l .length-of .ensures) (c .if2 .taken))  -- returns-2
+    (λ c. search needs)  -- cast-len
+    (λ c. search needs)  -- add-start
+    (λ c. search needs)  -- sub-if3
+    (λ c. search needs)  -- add-t15
+    (λ c. let l = c .before .before in read-whole _ _ _ (l .before .before .if1 .left) (l .length-of .ensures) (c .before .if2 .left) (c .if3 .taken))  -- returns-3
+    (λ c. let l = c .before .before in read-cut _ _ _ (l .before .before .if1 .left) (l .length-of .ensures) (c .before .if2 .left) (c .if3 .left)))  -- returns-4

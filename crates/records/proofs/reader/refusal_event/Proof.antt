@@ -8,7 +8,7 @@ pub refusal-event-spec : {M : Type 1} → statement M
 refusal-event-spec =
     tie.close
     (tie.spec
-    (λ c. refusal-low _ (c .if1 .taken))
-    (λ c. refusal-high _ (c .if2 .taken))
-    (λ c. search needs)
-    (λ c. refusal-named _ _ (c .before .before .if1 .left) (c .before .if2 .left)))
+    (λ c. refusal-low _ (c .if1 .taken))  -- returns
+    (λ c. refusal-high _ (c .if2 .taken))  -- returns-2
+    (λ c. search needs)  -- array-copy-out-t20
+    (λ c. refusal-named _ _ (c .before .before .if1 .left) (c .before .if2 .left)))  -- returns-3

@@ -9,6 +9,6 @@ pub rule-in-spec : {M : Type 1} → statement M
 rule-in-spec =
     tie.close
     (tie.spec
-    (λ c κs. search needs)
-    (λ c. rw (eq-eqb _ kinds.ruled (c .before .if1 .taken), c .number1 .ensures))
-    (λ c. rw (ne-eqb _ kinds.ruled (c .if1 .left))))
+    (λ c κs. search needs)  -- number1-requires
+    (λ c. rw (eq-eqb _ kinds.ruled (c .before .if1 .taken), c .number1 .ensures))  -- returns
+    (λ c. rw (ne-eqb _ kinds.ruled (c .if1 .left))))  -- returns-2

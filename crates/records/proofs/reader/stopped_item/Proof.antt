@@ -9,6 +9,6 @@ pub stopped-item-spec : {M : Type 1} → statement M
 stopped-item-spec =
     tie.close
     (tie.spec
-    (λ c κs. search needs)
-    (λ c. rw (← (c .before .length-of .ensures), eq-eqb _ 255 (c .if1 .taken)))
-    (λ c. rw (← (c .before .length-of .ensures), ne-eqb _ 255 (c .if1 .left))))
+    (λ c κs. search needs)  -- length-of-requires
+    (λ c. rw (← (c .before .length-of .ensures), eq-eqb _ 255 (c .if1 .taken)))  -- returns
+    (λ c. rw (← (c .before .length-of .ensures), ne-eqb _ 255 (c .if1 .left))))  -- returns-2

@@ -12,12 +12,12 @@ unfolding records.eventBytes bytesOf
 put-access-first-spec =
     tie.close
     (tie.spec
-    (λ c. search needs)
-    (λ c κs. event-room _ (c .before .before .before .before .before .pre .1) (c .before .before .e .given .1))
-    (λ c. search needs)
-    (λ c κs. event-room _ (c .before .before .before .before .before .pre .1) (c .before .before .e2 .given .1))
-    (λ c. search needs)
-    (λ c. event-laid _ (c .before .before .put-answer .ensures) (c .before .before .before .before .before .e .given .1))
-    (λ c. search needs)
-    (λ c. event-laid _ (c .before .before .put-refusal .ensures) (c .before .before .before .before .before .e2 .given .1))
-    (λ c. absurd (access-begun (c .before .before .args .e) (c .before .before .pre .0) .none (c .match .keys3))))
+    (λ c. search needs)  -- enum-known-e
+    (λ c κs. event-room _ (c .before .before .before .before .before .pre .1) (c .before .before .e .given .1))  -- put-answer-requires
+    (λ c. search needs)  -- enum-known-e-2
+    (λ c κs. event-room _ (c .before .before .before .before .before .pre .1) (c .before .before .e2 .given .1))  -- put-refusal-requires
+    (λ c. search needs)  -- same-length
+    (λ c. event-laid _ (c .before .before .put-answer .ensures) (c .before .before .before .before .before .e .given .1))  -- returns
+    (λ c. search needs)  -- same-length-2
+    (λ c. event-laid _ (c .before .before .put-refusal .ensures) (c .before .before .before .before .before .e2 .given .1))  -- returns-2
+    (λ c. absurd (access-begun (c .before .before .args .e) (c .before .before .pre .0) .none (c .match .keys3))))  -- returns-3

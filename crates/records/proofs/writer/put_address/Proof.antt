@@ -9,7 +9,7 @@ pub put-address-spec : {M : Type 1} → statement M
 put-address-spec =
     tie.close
     (tie.spec
-    (λ c κs. search needs)
-    (λ c κs. search needs)
-    (λ c. search needs)
-    (λ c. let q = c .before .before in laid-then (q .before .before .before .before .put1 .ensures) refl (q .put8 .ensures)))
+    (λ c κs. search needs)  -- put1-requires
+    (λ c κs. search needs)  -- put8-requires
+    (λ c. search needs)  -- same-length
+    (λ c. let q = c .before .before in laid-then (q .before .before .before .before .put1 .ensures) refl (q .put8 .ensures)))  -- returns

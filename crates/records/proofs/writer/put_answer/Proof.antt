@@ -10,11 +10,12 @@ pub put-answer-spec : {M : Type 1} → statement M
 put-answer-spec =
     tie.close
     (tie.spec
-    (λ c κs. search needs)
-    (λ c κs. search needs)
-    (λ c κs. search needs)
-    (λ c κs. search needs)
-    (λ c. search needs)
+    (λ c κs. search needs)  -- put1-requires
+    (λ c κs. search needs)  -- answer-number-requires
+    (λ c κs. search needs)  -- put1-requires-2
+    (λ c κs. search needs)  -- put2-requires
+    (λ c. search needs)  -- same-length
+    -- returns
     (λ c.
     let r = c .before .before in
     let q = r .before .before .before .before in

@@ -11,12 +11,13 @@ pub put-back-spec : {M : Type 1} → statement M
 put-back-spec =
     tie.close
     (tie.spec
-    (λ c κs. search needs)
-    (λ c κs. search needs)
-    (λ c κs. search needs)
-    (λ c κs. search needs)
-    (λ c κs. search needs)
-    (λ c. search needs)
+    (λ c κs. search needs)  -- put-address-requires
+    (λ c κs. search needs)  -- put4-requires
+    (λ c κs. search needs)  -- put4-requires-2
+    (λ c κs. search needs)  -- put4-requires-3
+    (λ c κs. search needs)  -- put4-requires-4
+    (λ c. search needs)  -- same-length
+    -- returns
     (λ c.
     let p5 = c .before .before in
     let p4 = p5 .before .before .before .before in

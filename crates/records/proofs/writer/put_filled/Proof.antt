@@ -34,4 +34,10 @@ returns c =
     told-laid t two long {k = 0} (omega arith) (omega arith) (p .put-fill-first .ensures) (queued-start (t .queued) _ _) (q .put-tickets .ensures)
 
 pub put-filled-spec : {M : Type 1} → statement M
-put-filled-spec = tie.close (tie.spec put-fill-first-requires put-tickets-requires (λ c. search needs) returns)
+put-filled-spec =
+    tie.close
+    (tie.spec
+    put-fill-first-requires
+    put-tickets-requires
+    (λ c. search needs)  -- same-length
+    returns)

@@ -25,11 +25,11 @@ pub put-numbers-spec : {M : Type 1} → statement M
 put-numbers-spec =
     tie.close
     (tie.spec
-    (λ c κs. search needs)
-    (λ c κs. search needs)
-    (λ c κs. search needs)
-    (λ c κs. search needs)
-    (λ c κs. search needs)
-    (λ c κs. search needs)
-    (λ c. search needs)
+    (λ c κs. search needs)  -- put2-requires
+    (λ c κs. search needs)  -- put1-requires
+    (λ c κs. search needs)  -- put1-requires-2
+    (λ c κs. search needs)  -- put1-requires-3
+    (λ c κs. search needs)  -- put1-requires-4
+    (λ c κs. search needs)  -- put1-requires-5
+    (λ c. search needs)  -- same-length
     returns)

@@ -47,9 +47,7 @@ returns c =
 pub put-queued-spec : {M : Type 1} → statement M
 put-queued-spec =
     tie.close
-    (tie.spec
-    Inv-loop
-    μ-loop
+    (tie.spec Inv-loop μ-loop
     (λ c. let a = c .before .args in (omega arith, refl, queued-start (a .t4) (a .out .now) (a .at)))  -- loop-holds
     (λ c. omega arith)  -- mul-x
     (λ c. omega arith)  -- array-copy-out-x

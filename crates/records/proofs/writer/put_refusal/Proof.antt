@@ -10,10 +10,11 @@ pub put-refusal-spec : {M : Type 1} → statement M
 put-refusal-spec =
     tie.close
     (tie.spec
-    (λ c κs. search needs)
-    (λ c κs. search needs)
-    (λ c κs. search needs)
-    (λ c. search needs)
+    (λ c κs. search needs)  -- put1-requires
+    (λ c κs. search needs)  -- refusal-number-requires
+    (λ c κs. search needs)  -- put1-requires-2
+    (λ c. search needs)  -- same-length
+    -- returns
     (λ c.
     let q = c .before .before in
     let p = q .before .before .before .before .before in

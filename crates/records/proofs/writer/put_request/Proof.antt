@@ -11,7 +11,7 @@ pub put-request-spec : {M : Type 1} → statement M
 put-request-spec =
     tie.close
     (tie.spec
-    (λ c κs. search needs)
-    (λ c κs. search needs)
-    (λ c. search needs)
-    (λ c. let q = c .before .before in laid-then (q .before .before .before .before .put-address .ensures) (ap suc (length-bytes 8 _)) (q .put4 .ensures)))
+    (λ c κs. search needs)  -- put-address-requires
+    (λ c κs. search needs)  -- put4-requires
+    (λ c. search needs)  -- same-length
+    (λ c. let q = c .before .before in laid-then (q .before .before .before .before .put-address .ensures) (ap suc (length-bytes 8 _)) (q .put4 .ensures)))  -- returns

@@ -19,9 +19,9 @@ unfolding bytesOf
 put-rule-spec =
     tie.close
     (tie.spec
-    (λ c. search needs)
-    (λ c. search needs)
-    (λ c κs. rule-room _ (c .before .before .before .before .before .pre) (c .before .before .rule .given .1))
-    (λ c. rule-laid _ (record { next = sym (add-zero _); slice = refl }) (c .enum-told .given .1))
-    (λ c. search needs)
+    (λ c. search needs)  -- enum-told
+    (λ c. search needs)  -- enum-known-rule
+    (λ c κs. rule-room _ (c .before .before .before .before .before .pre) (c .before .before .rule .given .1))  -- put1-requires
+    (λ c. rule-laid _ (record { next = sym (add-zero _); slice = refl }) (c .enum-told .given .1))  -- returns
+    (λ c. search needs)  -- same-length
     returns-2)

@@ -26,9 +26,9 @@ unfolding records.commandBytes bytesOf
 put-settings-spec =
     tie.close
     (tie.spec
-    (λ c κs. search needs)
-    (λ c κs. search needs)
-    (λ c κs. search needs)
-    (λ c κs. search needs)
-    (λ c. search needs)
+    (λ c κs. search needs)  -- settings-kind-requires
+    (λ c κs. search needs)  -- put1-requires
+    (λ c κs. search needs)  -- put-numbers-requires
+    (λ c κs. search needs)  -- put-rule-requires
+    (λ c. search needs)  -- same-length
     returns)

@@ -39,15 +39,13 @@ returns c =
 pub put-tickets-spec : {M : Type 1} → statement M
 put-tickets-spec =
     tie.close
-    (tie.spec
-    Inv-loop
-    μ-loop
-    (λ c. let a = c .before .args in (omega arith, refl, tickets-start (a .t4) (a .out .now) (a .at)))
-    (λ c. omega arith)
-    (λ c. omega arith)
-    (λ c κs. omega arith)
-    (λ c. omega arith)
-    (λ c. omega arith)
+    (tie.spec Inv-loop μ-loop
+    (λ c. let a = c .before .args in (omega arith, refl, tickets-start (a .t4) (a .out .now) (a .at)))  -- loop-holds
+    (λ c. omega arith)  -- mul-put-word
+    (λ c. omega arith)  -- array-read-put-word
+    (λ c κs. omega arith)  -- put-word-requires
+    (λ c. omega arith)  -- add-j
+    (λ c. omega arith)  -- loop-less
     loop-again
-    (λ c. c .before .loop .inv .1)
+    (λ c. c .before .loop .inv .1)  -- same-length
     returns)

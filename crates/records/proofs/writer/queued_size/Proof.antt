@@ -48,9 +48,7 @@ returns c =
 pub queued-size-spec : {M : Type 1} → statement M
 queued-size-spec =
     tie.close
-    (tie.spec
-    Inv-loop
-    μ-loop
+    (tie.spec Inv-loop μ-loop
     loop-holds
     (λ c. omega arith)  -- mul-x
     (λ c. omega arith)  -- array-copy-out-x

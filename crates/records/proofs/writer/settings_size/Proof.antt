@@ -10,7 +10,7 @@ unfolding records.commandBytes bytesOf
 settings-size-spec =
     tie.close
     (tie.spec
-    (λ c. search needs)
-    (λ c. search needs)
-    (λ c. rw (c .enum-told .given .1) (search needs))
-    (λ c. rw (c .before .rule .given .1) (search needs)))
+    (λ c. search needs)  -- enum-told
+    (λ c. search needs)  -- enum-known-rule
+    (λ c. rw (c .enum-told .given .1) (search needs))  -- returns
+    (λ c. rw (c .before .rule .given .1) (search needs)))  -- returns-2

@@ -10,8 +10,10 @@ pub nothing-queued-spec : {M : Type 1} → statement M
 nothing-queued-spec =
     tie.close
     (tie.spec
+    -- used-requires
     (λ c κs.
     let i = c .before .before .before .pre .1 .are in
-    omega (arith, stands-fit (i .range) (is-stands i), c .before .before .before .pre .0))  -- used-requires
+    omega (arith, stands-fit (i .range) (is-stands i), c .before .before .before .pre .0))
+    -- returns
     (λ c.
-    queueless _ (c .before .before .before .before .pre .1) (c .before .before .before .before .pre .0) (c .used .ensures)))  -- returns
+    queueless _ (c .before .before .before .before .pre .1) (c .before .before .before .before .pre .0) (c .used .ensures)))

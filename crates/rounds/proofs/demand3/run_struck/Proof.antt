@@ -9,32 +9,35 @@ pub run-struck-spec : {M : Type 1} → statement M
 run-struck-spec =
     tie.close
     (tie.spec
-    (λ c κs. search needs)
-    (λ c. search needs)
-    (λ c. search needs)
-    (λ c. search needs)
-    (λ c. search needs)
-    (λ c. search needs)
+    (λ c κs. search needs)  -- may-run-requires
+    (λ c. search needs)  -- enum-known-k
+    (λ c. search needs)  -- enum-known-at
+    (λ c. search needs)  -- same-length
+    (λ c. search needs)  -- same-length-2
+    (λ c. search needs)  -- same-length-3
     -- too few bytes
+    -- returns
     (λ c.
     let t = c .before .before in
-    few-struck (t .before .before .may-run .ensures) _ _ (t .at .given .1) (c .if1 .taken))  -- returns
+    few-struck (t .before .before .may-run .ensures) _ _ (t .at .given .1) (c .if1 .taken))
+    -- struck-on-requires
     (λ c κs.
     let i = c .before .before .before .before in
     let t = i .before .before in
     let m = t .before .before .may-run .ensures in
-    (m .ready _ (t .at .given .1), (omega (arith, i .if1 .left), m .small _ (t .at .given .1))))  -- struck-on-requires
-    (λ c. search needs)
-    (λ c. search needs)
-    (λ c. search needs)
+    (m .ready _ (t .at .given .1), (omega (arith, i .if1 .left), m .small _ (t .at .given .1))))
+    (λ c. search needs)  -- same-length-4
+    (λ c. search needs)  -- same-length-5
+    (λ c. search needs)  -- same-length-6
     -- refused
     (λ c. struck-refused (c .before .before .before .may-run .ensures) _ _ (c .before .k .given .1))  -- returns-2
-    (λ c. search needs)
-    (λ c. search needs)
-    (λ c. search needs)
-    (λ c. search needs)
+    (λ c. search needs)  -- same-length-7
+    (λ c. search needs)  -- same-length-8
+    (λ c. search needs)  -- same-length-9
+    (λ c. search needs)  -- same-length-10
+    -- returns-3
     (λ c.
     let r = c .before .before .before .before .before .before .before .before in
     let i = r .before .before .before .before .before in
     let t = i .before .before in
-    struck-ran (t .before .before .may-run .ensures) _ _ (t .at .given .1) (i .if1 .left) (r .struck-on .ensures)))  -- returns-3
+    struck-ran (t .before .before .may-run .ensures) _ _ (t .at .given .1) (i .if1 .left) (r .struck-on .ensures)))

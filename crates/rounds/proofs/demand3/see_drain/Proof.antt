@@ -9,16 +9,18 @@ pub see-drain-spec : {M : Type 1} → statement M
 see-drain-spec =
     tie.close
     (tie.spec
-    (λ c κs. search needs)
+    (λ c κs. search needs)  -- see-send-requires
+    -- see-fill-requires
     (λ c κs.
     let s = c .before .before .before .before .before .before .before .before .before .before .before .before in
     let p = s .before .before .before .before .before .before .before .before .before in
-    ((p .pre .0 .0, sent-held _ (s .see-send .ensures)), omega (arith, s .see-send .ensures .short, s .see-send .kept .1 .1 .1 .1 .1 .0, p .pre .1)))  -- see-fill-requires
-    (λ c. search needs)
-    (λ c. search needs)
-    (λ c. search needs)
-    (λ c. search needs)
+    ((p .pre .0 .0, sent-held _ (s .see-send .ensures)), omega (arith, s .see-send .ensures .short, s .see-send .kept .1 .1 .1 .1 .1 .0, p .pre .1)))
+    (λ c. search needs)  -- same-length
+    (λ c. search needs)  -- same-length-2
+    (λ c. search needs)  -- same-length-3
+    (λ c. search needs)  -- same-length-4
+    -- returns
     (λ c.
     let f = c .before .before .before .before .before .before .before .before in
     let s = f .before .before .before .before .before .before .before .before .before .before .before .before .before in
-    drains _ (s .see-send .ensures) (f .see-fill .ensures)))  -- returns
+    drains _ (s .see-send .ensures) (f .see-fill .ensures)))

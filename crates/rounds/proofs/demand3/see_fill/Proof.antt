@@ -9,30 +9,33 @@ pub see-fill-spec : {M : Type 1} → statement M
 see-fill-spec =
     tie.close
     (tie.spec
-    (λ c κs. search needs)
-    (λ c. search needs)
-    (λ c κs. search needs)
+    (λ c κs. search needs)  -- first-sent-requires
+    (λ c. search needs)  -- enum-known-address
+    (λ c κs. search needs)  -- fill-requires
+    -- tell-requires
     (λ c κs.
     let f = c .before .before .before .before .before .before .before in
     let m = f .before .before .before .before .before in
     let s = m .before .before in
     let p = s .before .before .before .before .before .before .before .before in
-    omega (arith, fill-room _ (p .pre .0 .1) (s .first-sent .ensures) (m .address .given .1) (f .fill .ensures), p .pre .1))  -- tell-requires
-    (λ c. search needs)
-    (λ c. search needs)
-    (λ c. search needs)
-    (λ c. search needs)
-    (λ c. search needs)
+    omega (arith, fill-room _ (p .pre .0 .1) (s .first-sent .ensures) (m .address .given .1) (f .fill .ensures), p .pre .1))
+    (λ c. search needs)  -- enum-told
+    (λ c. search needs)  -- same-length
+    (λ c. search needs)  -- same-length-2
+    (λ c. search needs)  -- same-length-3
+    (λ c. search needs)  -- same-length-4
+    -- returns
     (λ c.
     let n = c .before .before in
     let f = n .before .before .before .before .before .before .before .before in
     let m = f .before .before .before .before .before in
     let s = m .before .before in
     let p = s .before .before .before .before .before .before .before .before in
-    fills _ (p .pre .0 .1) (s .first-sent .ensures) (m .address .given .1) (f .fill .ensures) (n .tell .ensures))  -- returns
-    (λ c. search needs)
-    (λ c. search needs)
-    (λ c. search needs)
+    fills _ (p .pre .0 .1) (s .first-sent .ensures) (m .address .given .1) (f .fill .ensures) (n .tell .ensures))
+    (λ c. search needs)  -- same-length-5
+    (λ c. search needs)  -- same-length-6
+    (λ c. search needs)  -- same-length-7
+    -- returns-2
     (λ c.
     let s = c .before .before in
-    no-fill _ (s .before .before .before .before .before .before .before .before .pre .0 .1) (s .first-sent .ensures) (c .enum-told .given .1) _ _))  -- returns-2
+    no-fill _ (s .before .before .before .before .before .before .before .before .pre .0 .1) (s .first-sent .ensures) (c .enum-told .given .1) _ _))

@@ -9,25 +9,28 @@ pub see-send-spec : {M : Type 1} → statement M
 see-send-spec =
     tie.close
     (tie.spec
-    (λ c κs. search needs)
-    (λ c. search needs)
-    (λ c. search needs)
-    (λ c. search needs)
+    (λ c κs. search needs)  -- nothing-queued-requires
+    (λ c. search needs)  -- same-length
+    (λ c. search needs)  -- same-length-2
+    (λ c. search needs)  -- same-length-3
+    -- returns
     (λ c.
-    no-send _ (c .before .before .before .before .before .before .before .before .before .pre .0 .1) (c .before .nothing-queued .ensures) (c .if1 .taken) _ _)  -- returns
-    (λ c κs. search needs)
+    no-send _ (c .before .before .before .before .before .before .before .before .before .pre .0 .1) (c .before .nothing-queued .ensures) (c .if1 .taken) _ _)
+    (λ c κs. search needs)  -- send-requires
+    -- tell-requires
     (λ c κs.
     let s = c .before .before .before .before .before .before .before in
     let p = s .before .before .before .before .before .before .before .before .before .before .before .before .before in
-    omega (arith, send-room _ (p .pre .0 .1) (s .send .ensures), p .pre .1))  -- tell-requires
-    (λ c. search needs)
-    (λ c. search needs)
-    (λ c. search needs)
-    (λ c. search needs)
+    omega (arith, send-room _ (p .pre .0 .1) (s .send .ensures), p .pre .1))
+    (λ c. search needs)  -- same-length-4
+    (λ c. search needs)  -- same-length-5
+    (λ c. search needs)  -- same-length-6
+    (λ c. search needs)  -- same-length-7
+    -- returns-2
     (λ c.
     let n = c .before .before in
     let s = n .before .before .before .before .before .before .before .before in
     let i = s .before .before .before .before in
     let q = i .before in
     let p = q .before .before .before .before .before .before .before .before in
-    sends _ (p .pre .0 .1) (s .send .ensures) (q .nothing-queued .ensures) (i .if1 .left) (n .tell .ensures)))  -- returns-2
+    sends _ (p .pre .0 .1) (s .send .ensures) (q .nothing-queued .ensures) (i .if1 .left) (n .tell .ensures)))

@@ -17,26 +17,26 @@ abbrev μ-loop : tie.MeasureT-loop
 pub struck-on-spec : {M : Type 1} → statement M
 struck-on-spec =
     tie.close
-    (tie.spec
-    Inv-loop
-    μ-loop
-    (λ c. strikes-first _ _ _ _ (c .before .before .before .before .before .pre .0 .1) _)
-    (λ c. omega (arith, c .before .loop-test .taken))
+    (tie.spec Inv-loop μ-loop
+    (λ c. strikes-first _ _ _ _ (c .before .before .before .before .before .pre .0 .1) _)  -- loop-holds
+    (λ c. omega (arith, c .before .loop-test .taken))  -- shared-slice-read-flag
+    -- see-struck-requires
     (λ c κs.
     let l = c .before .before .before .before .before .before in
     let g = l .loop .inv in
     let p = l .before .before .before .before .before .before in
-    ((p .pre .0 .0, g .held), (omega (arith, g .short, g .size, c .before .before .before .before .before .loop-test .taken, p .pre .1 .0), p .pre .1 .1)))  -- see-struck-requires
-    (λ c. omega (arith, c .before .before .before .before .before .before .before .before .before .before .before .before .before .before .loop-test .taken, c .before .before .before .before .before .before .before .before .before .before .before .before .before .before .before .before .before .before .before .before .before .good .1 .1 .1 .1 .1 .1 .0 .0))
-    (λ c. omega (arith, c .before .before .before .before .before .before .before .before .before .before .before .before .before .before .loop-test .taken))
+    ((p .pre .0 .0, g .held), (omega (arith, g .short, g .size, c .before .before .before .before .before .loop-test .taken, p .pre .1 .0), p .pre .1 .1)))
+    (λ c. omega (arith, c .before .before .before .before .before .before .before .before .before .before .before .before .before .before .loop-test .taken, c .before .before .before .before .before .before .before .before .before .before .before .before .before .before .before .before .before .before .before .before .before .good .1 .1 .1 .1 .1 .1 .0 .0))  -- add-i
+    (λ c. omega (arith, c .before .before .before .before .before .before .before .before .before .before .before .before .before .before .loop-test .taken))  -- loop-less
+    -- loop-again
     (λ c.
     let r = c .before .before .before .before .before .before .before .before in
     let l = r .before .before .before .before .before .before .before in
     let k = r .see-struck .kept .1 .1 in
     strikes-again _ _ _ (l .loop .inv) (r .before .before .before .before .before .before .loop-test .taken) (r .see-struck .ensures)
-    (k .1 .1 .1 .1 .1 .0) (k .0) (k .1 .0) (k .1 .1 .0))  -- loop-again
-    (λ c. c .before .loop .inv .longs)
-    (λ c. c .before .loop .inv .words)
-    (λ c. c .before .loop .inv .marks)
-    (λ c. c .before .loop .inv .size)
-    (λ c. let l = c .before in strikes-end _ _ _ (l .loop .inv) (c .loop-test .left) (l .before .before .before .before .before .before .pre .1 .0)))
+    (k .1 .1 .1 .1 .1 .0) (k .0) (k .1 .0) (k .1 .1 .0))
+    (λ c. c .before .loop .inv .longs)  -- same-length
+    (λ c. c .before .loop .inv .words)  -- same-length-2
+    (λ c. c .before .loop .inv .marks)  -- same-length-3
+    (λ c. c .before .loop .inv .size)  -- same-length-4
+    (λ c. let l = c .before in strikes-end _ _ _ (l .loop .inv) (c .loop-test .left) (l .before .before .before .before .before .before .pre .1 .0)))  -- returns

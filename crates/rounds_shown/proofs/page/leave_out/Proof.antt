@@ -16,19 +16,17 @@ abbrev μ-loop : tie.MeasureT-loop
 pub leave-out-spec : {M : Type 1} → statement M
 leave-out-spec =
     tie.close
-    (tie.spec
-    Inv-loop
-    μ-loop
-    (λ c. refl)
-    (λ c κs. search needs)
-    (λ c. omega arith)
-    (λ c. search needs)
-    (λ c. omega arith)
-    (λ c κs. search needs)
-    (λ c κs. search needs)
-    (λ c. omega arith)
-    (λ c. omega arith)
-    (λ c. omega arith)
-    (λ c. omega arith)
-    (λ c. omega arith)
-    (λ c. search needs))
+    (tie.spec Inv-loop μ-loop
+    (λ c. refl)  -- loop-holds
+    (λ c κs. search needs)  -- next-of-requires
+    (λ c. omega arith)  -- same-length
+    (λ c. search needs)  -- returns
+    (λ c. omega arith)  -- shared-slice-read-if2
+    (λ c κs. search needs)  -- part-requires
+    (λ c κs. search needs)  -- put-text-requires
+    (λ c. omega arith)  -- loop-less
+    (λ c. omega arith)  -- loop-again
+    (λ c. omega arith)  -- loop-less-2
+    (λ c. omega arith)  -- loop-again-2
+    (λ c. omega arith)  -- same-length-2
+    (λ c. search needs))  -- returns-2

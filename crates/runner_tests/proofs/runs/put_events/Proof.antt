@@ -15,19 +15,17 @@ abbrev μ-loop : tie.MeasureT-loop
 pub put-events-spec : {M : Type 1} → statement M
 put-events-spec =
     tie.close
-    (tie.spec
-    Inv-loop
-    μ-loop
-    (λ c. search needs)
-    (λ c. search needs)
-    (λ c κs. search needs)
-    (λ c. search needs)
-    (λ c. search needs)
-    (λ c κs. search needs)
-    (λ c. search needs)
-    (λ c. search needs)
-    (λ c. search needs)
-    (λ c. search needs)
-    (λ c κs. search needs)
-    (λ c. search needs)
-    (λ c. search needs))
+    (tie.spec Inv-loop μ-loop
+    (λ c. search needs)  -- returns
+    (λ c. search needs)  -- slice-aggregate-put-text
+    (λ c κs. search needs)  -- put-text-requires
+    (λ c. search needs)  -- loop-holds
+    (λ c. search needs)  -- shared-slice-read-put-byte
+    (λ c κs. search needs)  -- put-byte-requires
+    (λ c. search needs)  -- add-i
+    (λ c. search needs)  -- loop-less
+    (λ c. search needs)  -- loop-again
+    (λ c. search needs)  -- slice-aggregate-put-text-2
+    (λ c κs. search needs)  -- put-text-requires-2
+    (λ c. search needs)  -- same-length
+    (λ c. search needs))  -- returns-2

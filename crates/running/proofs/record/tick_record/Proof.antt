@@ -27,10 +27,10 @@ tick-record-spec =
     let s = c .before .before .before .before .before .before .before .before .before .before .before .before .before .before in
     let a = s .args in
     (tick-shaped (a .s) (s .pre .0 .0) _ (c .before .before .before .tick-step .ensures), ready-room (a .stream .now) (a .at) (a .out) (a .events .now) (s .pre .1 .0)))
-    (λ c. let s = c .before .before .before .before .before .before .before .before .before .before .before .before .before .before .before .before .before in let a = s .args in let h = s .pre .1 .0 .inside in omega arith)  -- add
-    (λ c. let s = c .before .before .before .before .before .before .before .before .before .before .before .before .before .before .before .before .before in let a = s .args in let h = whole-at (a .stream .now) (a .at) (a .out) (a .events .now) (s .pre .1 .0) 5 (s .pre .1 .1) in let l = body-size (a .stream .now) (a .at) (a .out) (a .events .now) (s .pre .1 .0) 5 (s .pre .1 .1) (c .before .before .before .before .before .before .before .before .before .before .before .body-of .ensures .bytes) in omega arith)  -- add
+    (λ c. let s = c .before .before .before .before .before .before .before .before .before .before .before .before .before .before .before .before .before in let a = s .args in let h = s .pre .1 .0 .inside in omega arith)  -- add-t26
+    (λ c. let s = c .before .before .before .before .before .before .before .before .before .before .before .before .before .before .before .before .before in let a = s .args in let h = whole-at (a .stream .now) (a .at) (a .out) (a .events .now) (s .pre .1 .0) 5 (s .pre .1 .1) in let l = body-size (a .stream .now) (a .at) (a .out) (a .events .now) (s .pre .1 .0) 5 (s .pre .1 .1) (c .before .before .before .before .before .before .before .before .before .before .before .body-of .ensures .bytes) in omega arith)  -- add-t28
     (λ c. search needs)  -- same-length
-    (λ c. search needs)  -- same-length
-    (λ c. search needs)  -- same-length
-    (λ c. search needs)  -- same-length
-    (λ c. returns c))
+    (λ c. search needs)  -- same-length-2
+    (λ c. search needs)  -- same-length-3
+    (λ c. search needs)  -- same-length-4
+    (λ c. returns c))  -- returns

@@ -7,15 +7,15 @@ pub dirty-spec : {M : Type 1} → statement M
 dirty-spec =
     tie.close
     (tie.spec
-    (λ c. search needs)
-    (λ c. search needs)
-    (λ c. search needs)
-    (λ c. search needs)
-    (λ c. search needs)
-    (λ c. search needs)
-    (λ c. search needs)
-    (λ c. search needs)
-    (λ c. search needs)
-    (λ c. search needs)
-    (λ c. search needs)
-    (λ c. rw add-zero))
+    (λ c. search needs)  -- mul-result
+    (λ c. search needs)  -- shared-slice-read-result
+    (λ c. search needs)  -- mul-result-2
+    (λ c. search needs)  -- add-result
+    (λ c. search needs)  -- shared-slice-read-result-2
+    (λ c. search needs)  -- mul-result-3
+    (λ c. search needs)  -- add-result-2
+    (λ c. search needs)  -- shared-slice-read-result-3
+    (λ c. search needs)  -- mul-result-4
+    (λ c. search needs)  -- add-result-3
+    (λ c. search needs)  -- shared-slice-read-result-4
+    (λ c. rw add-zero))  -- returns

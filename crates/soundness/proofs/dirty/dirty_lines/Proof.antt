@@ -17,21 +17,21 @@ abbrev μ-loop : tie.MeasureT-loop
 pub dirty-lines-spec : {M : Type 1} → statement M
 dirty-lines-spec =
     tie.close
-    (tie.spec
-    Inv-loop
-    μ-loop
+    (tie.spec Inv-loop μ-loop
     (λ c. search needs)  -- mul-n
     (λ c. let a = c .before .before .before .before .args in counted-start (dirtyLine (a .s) (a .longs .now) (a .words .now) (a .marks .now)) _)  -- loop-holds
     (λ c κs. search needs)  -- dirty-requires
     (λ c. omega arith)  -- add-count
     (λ c. omega arith)  -- add-l
     (λ c. omega arith)  -- loop-less
+    -- loop-again
     (λ c. let loop = c .before .before .before .loop in
     let below = c .before .before .loop-test .taken in
     ⊎-elim
     (λ w. counted-yes _ _ _ _ _ below (c .before .dirty .ensures) (w .0 .taken) (w .1) (loop .inv))
     (λ w. counted-no _ _ _ _ _ below (c .before .dirty .ensures) (w .0 .left) (w .1) (loop .inv))
-    (c .if1 .came))  -- loop-again
+    (c .if1 .came))
+    -- returns
     (λ c. let inv = c .before .loop .inv in
     let fit = c .before .before .before .before .before .before .pre in
-    (counted-end _ _ _ _ (c .loop-test .left) inv, omega (arith, inv .0, inv .2, fit .lines))))  -- returns
+    (counted-end _ _ _ _ (c .loop-test .left) inv, omega (arith, inv .0, inv .2, fit .lines))))

@@ -30,14 +30,16 @@ no-twin-spec =
     (λ c. search needs)  -- mul-if1-2
     (λ c. search needs)  -- shared-slice-read-if1-2
     (λ c κs. search needs)  -- live-requires
+    -- returns
     (λ c.
     let asked = c .before .before in
     let body = asked .before .before .before in
     let loop = body .before in
     let a = loop .before .before .before .before .args in
-    fault-stop _ _ _ (body .loop-test .taken) (not-twin (a .s) (a .longs .now) (a .words .now) (a .marks .now) (a .l) (a .first + loop .loop .w) (c .before .live .ensures)) (and-i (c .if2 .taken) (eq-eqb _ _ (asked .if1 .taken))))  -- returns
+    fault-stop _ _ _ (body .loop-test .taken) (not-twin (a .s) (a .longs .now) (a .words .now) (a .marks .now) (a .l) (a .first + loop .loop .w) (c .before .live .ensures)) (and-i (c .if2 .taken) (eq-eqb _ _ (asked .if1 .taken))))
     (λ c. omega arith)  -- add-w
     (λ c. omega arith)  -- loop-less
+    -- loop-again
     (λ c.
     let body = c .before .before .before in
     let loop = body .before in
@@ -45,5 +47,5 @@ no-twin-spec =
     ⊎-elim
     (λ w. fault-none _ _ _ {f = false} (body .loop-test .taken) (not-twin (a .s) (a .longs .now) (a .words .now) (a .marks .now) (a .l) (a .first + loop .loop .w) (sym (w .2 .left) ∙ w .1 .ensures)) refl (loop .loop .inv))
     (λ w. fault-none _ _ _ (body .loop-test .taken) (not-twin (a .s) (a .longs .now) (a .words .now) (a .marks .now) (a .l) (a .first + loop .loop .w) refl) (and-no (is.live (a .s) (a .longs .now) (a .words .now) (a .marks .now) (a .first + loop .loop .w)) _ (ne-eqb _ _ (w .left))) (loop .loop .inv))
-    (c .if1 .came))  -- loop-again
+    (c .if1 .came))
     (λ c. passed-end _ _ _ (c .loop-test .left) (c .before .loop .inv)))  -- returns-2

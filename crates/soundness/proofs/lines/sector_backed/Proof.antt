@@ -10,11 +10,11 @@ pub sector-backed-spec : {M : Type 1} → statement M
 sector-backed-spec =
     tie.close
     (tie.spec
-    (λ c. search needs)
-    (λ c. imp-idle _ _ (ne-eqb _ _ (c .if1 .taken)))
-    (λ c. search needs)
-    (λ c. search needs)
-    (λ c. search needs)
-    (λ c. let start = c .before .before .before .before .before .before in let a = start .args in omega (arith, reserved-low (a .s) (a .longs .now) (a .words .now) (a .marks .now) (start .pre .2) (a .i) (start .pre .3) (c .before .if1 .left)))
-    (λ c κs. search needs)
-    (λ c. imp-met _ _ _ (eq-eqb _ _ (c .before .before .if1 .left)) (c .has-entry .ensures)))
+    (λ c. search needs)  -- shared-slice-read-if1
+    (λ c. imp-idle _ _ (ne-eqb _ _ (c .if1 .taken)))  -- returns
+    (λ c. search needs)  -- mul-t13
+    (λ c. search needs)  -- shared-slice-read-t15
+    (λ c. search needs)  -- mul-t16
+    (λ c. let start = c .before .before .before .before .before .before in let a = start .args in omega (arith, reserved-low (a .s) (a .longs .now) (a .words .now) (a .marks .now) (start .pre .2) (a .i) (start .pre .3) (c .before .if1 .left)))  -- add-t17
+    (λ c κs. search needs)  -- has-entry-requires
+    (λ c. imp-met _ _ _ (eq-eqb _ _ (c .before .before .if1 .left)) (c .has-entry .ensures)))  -- returns-2

@@ -25,16 +25,18 @@ sectors-backed-spec =
     (λ c. (omega arith, refl))  -- loop-holds
     (λ c. omega arith)  -- mul-sixteen-backed
     (λ c κs. let pre = c .before .before .before .before .before .before .pre in (pre .0, pre .1, pre .2, omega arith))  -- sixteen-backed-requires
+    -- returns
     (λ c.
     let body = c .before .before in
     let a = body .before .before .before .before .before .before .args in
-    sixteens-stop (is.sectorBacked (a .s) (a .longs .now) (a .words .now) (a .marks .now)) (4 * linesOf (a .s)) (passed-stop _ _ _ (body .loop-test .taken) (c .before .sixteen-backed .ensures) (c .if1 .taken)))  -- returns
+    sixteens-stop (is.sectorBacked (a .s) (a .longs .now) (a .words .now) (a .marks .now)) (4 * linesOf (a .s)) (passed-stop _ _ _ (body .loop-test .taken) (c .before .sixteen-backed .ensures) (c .if1 .taken)))
     (λ c. omega arith)  -- add-g
     (λ c. omega arith)  -- loop-less
     (λ c. let body = c .before .before in passed-more _ _ _ (body .loop-test .taken) (c .before .sixteen-backed .ensures) (c .if1 .left) (body .before .loop .inv))  -- loop-again
     (λ c. omega arith)  -- mul-backed-from
     (λ c κs. let pre = c .before .before .before .before .before .before .pre in (pre .0, pre .1, pre .2, omega arith))  -- backed-from-requires
+    -- returns-2
     (λ c.
     let loop = c .before .before in
     let a = loop .before .before .before .before .before .args in
-    sixteens-end (is.sectorBacked (a .s) (a .longs .now) (a .words .now) (a .marks .now)) (4 * linesOf (a .s)) (passed-end _ _ _ (c .before .loop-test .left) (loop .loop .inv)) (c .backed-from .ensures)))  -- returns-2
+    sixteens-end (is.sectorBacked (a .s) (a .longs .now) (a .words .now) (a .marks .now)) (4 * linesOf (a .s)) (passed-end _ _ _ (c .before .loop-test .left) (loop .loop .inv)) (c .backed-from .ensures)))

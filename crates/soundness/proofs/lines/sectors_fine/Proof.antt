@@ -10,8 +10,9 @@ pub sectors-fine-spec : {M : Type 1} → statement M
 sectors-fine-spec =
     tie.close
     (tie.spec
-    (λ c κs. search needs)
-    (λ c κs. search needs)
+    (λ c κs. search needs)  -- sectors-shaped-requires
+    (λ c κs. search needs)  -- sectors-backed-requires
+    -- returns
     (λ c.
     let a = c .before .before .before .before .before .args in
     rw (c .before .sectors-shaped .ensures, c .sectors-backed .ensures)

@@ -9,8 +9,9 @@ pub sectors-shaped-spec : {M : Type 1} → statement M
 sectors-shaped-spec =
     tie.close
     (tie.spec
-    (λ c κs. search needs)
-    (λ c κs. search needs)
+    (λ c κs. search needs)  -- marks-shaped-requires
+    (λ c κs. search needs)  -- masks-shaped-requires
+    -- returns
     (λ c.
     let a = c .before .before .before .before .before .args in
     rw (c .before .marks-shaped .ensures, c .masks-shaped .ensures)

@@ -9,8 +9,9 @@ sixteen-backed-spec =
     tie.close
     (tie.spec
     (λ c κs. search needs)  -- none-reserved-requires
+    -- returns
     (λ c.
     let a = c .before .before .before .before .before .args in
-    none-backed (a .s) (a .longs .now) (a .words .now) (a .marks .now) (a .first) 16 (sym (c .before .none-reserved .ensures) ∙ c .if1 .taken))  -- returns
+    none-backed (a .s) (a .longs .now) (a .words .now) (a .marks .now) (a .first) 16 (sym (c .before .none-reserved .ensures) ∙ c .if1 .taken))
     (λ c κs. search needs)  -- backed-from-requires
     (λ c. c .backed-from .ensures))  -- returns-2

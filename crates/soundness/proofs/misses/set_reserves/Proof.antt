@@ -27,21 +27,23 @@ pub set-reserves-spec : {M : Type 1} → statement M
 set-reserves-spec =
     tie.close
     (tie.spec Inv-loop μ-loop
-    (λ c κs. search needs)
-    (λ c κs. search needs)
-    (λ c κs. search needs)
-    (λ c. let start = c .before .before .before .before .before .before .before in let a = start .args in omega (arith, set-room (a .s) (a .a .0) (c .before .set-index .ensures) (start .pre .sets) (start .pre .ways)))
+    (λ c κs. search needs)  -- block-of-requires
+    (λ c κs. search needs)  -- sector-index-requires
+    (λ c κs. search needs)  -- set-index-requires
+    (λ c. let start = c .before .before .before .before .before .before .before in let a = start .args in omega (arith, set-room (a .s) (a .a .0) (c .before .set-index .ensures) (start .pre .sets) (start .pre .ways)))  -- mul-first
+    -- loop-holds
     (λ c.
     let start = c .before .before .before .before .before .before .before in
     let a = start .args in
     let room = set-room (a .s) (a .a .0) (c .before .set-index .ensures) (start .pre .sets) (start .pre .ways) in
     (c .before .before .sector-index .ensures .1, omega arith, omega arith, (omega arith, refl)))
-    (λ c. search needs)
-    (λ c. search needs)
-    (λ c. search needs)
-    (λ c. search needs)
-    (λ c. search needs)
-    (λ c. search needs)
+    (λ c. search needs)  -- add-l
+    (λ c. search needs)  -- mul-if1
+    (λ c. search needs)  -- shared-slice-read-if1
+    (λ c. search needs)  -- mul-if1-2
+    (λ c. search needs)  -- add-if1
+    (λ c. search needs)  -- shared-slice-read-if1-2
+    -- returns
     (λ c.
     let loop = c .before .before .before .before in
     let set = loop .before .before .before in
@@ -49,9 +51,10 @@ set-reserves-spec =
     sought-stop _ _ _ (loop .loop-test .taken) refl (c .if1 .taken)
     ∙ set-asked (a .s) (a .longs .now) (a .words .now) (a .marks .now) (a .a .0) (set .set-index .result * a .s .ways) (a .s .ways) _ _ (set .before .before .block-of .ensures) (set .before .sector-index .ensures .0)
     ∙ ap (λ (k : ℕ). some (a .s .ways) (λ w. reservedFor (a .s) (a .longs .now) (a .words .now) (a .marks .now) (a .a .0) (k * a .s .ways + w))) (set .set-index .ensures))
-    (λ c. omega arith)
-    (λ c. omega arith)
-    (λ c. let loop = c .before .before .before .before in let inv = loop .before .loop .inv in (inv .0, inv .1, inv .2, sought-more _ _ _ (loop .loop-test .taken) refl (c .if1 .left) (inv .3)))
+    (λ c. omega arith)  -- add-w
+    (λ c. omega arith)  -- loop-less
+    (λ c. let loop = c .before .before .before .before in let inv = loop .before .loop .inv in (inv .0, inv .1, inv .2, sought-more _ _ _ (loop .loop-test .taken) refl (c .if1 .left) (inv .3)))  -- loop-again
+    -- returns-2
     (λ c.
     let set = c .before .before .before in
     let a = set .before .before .before .before .before .before .args in

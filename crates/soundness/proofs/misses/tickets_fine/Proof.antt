@@ -29,16 +29,18 @@ tickets-fine-spec =
     (λ c. search needs)  -- add-if1
     (λ c. search needs)  -- mul-if1
     (λ c. search needs)  -- shared-slice-read-if1
+    -- returns
     (λ c.
     let body = c .before .before .before .before .before .before .before in
     let start = body .before .before .before in
     let a = start .args in
-    fault-stop _ _ _ (body .loop-test .taken) (ticket-kept (a .s) (a .longs .now) (a .words .now) (a .marks .now) (start .pre .0) (body .before .loop .i)) (c .if1 .taken))  -- returns
+    fault-stop _ _ _ (body .loop-test .taken) (ticket-kept (a .s) (a .longs .now) (a .words .now) (a .marks .now) (start .pre .0) (body .before .loop .i)) (c .if1 .taken))
     (λ c. omega arith)  -- add-i
     (λ c. omega arith)  -- loop-less
+    -- loop-again
     (λ c.
     let body = c .before .before .before .before .before .before .before in
     let start = body .before .before .before in
     let a = start .args in
-    fault-none _ _ _ (body .loop-test .taken) (ticket-kept (a .s) (a .longs .now) (a .words .now) (a .marks .now) (start .pre .0) (body .before .loop .i)) (c .if1 .left) (body .before .loop .inv))  -- loop-again
+    fault-none _ _ _ (body .loop-test .taken) (ticket-kept (a .s) (a .longs .now) (a .words .now) (a .marks .now) (start .pre .0) (body .before .loop .i)) (c .if1 .left) (body .before .loop .inv))
     (λ c. passed-end _ _ _ (c .loop-test .left) (c .before .loop .inv)))  -- returns-2

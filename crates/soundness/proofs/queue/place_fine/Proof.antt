@@ -35,19 +35,23 @@ place-fine-spec =
     (λ c. let start = c .before .before .before .before .before .before .before .before .before .before .before .before .before .before in let at = start .pre .0 in let fit = start .pre .1 in omega arith)  -- add-kind
     (λ c. let start = c .before .before .before .before .before .before .before .before .before .before .before .before .before .before .before in let at = start .pre .0 in let fit = start .pre .1 in omega arith)  -- shared-slice-read-kind
     (λ c κs. let pre = c .before .before .before .before .before .before .before .before .before .before .before .before .before .before .before .before .pre in (pre .0, pre .1))  -- has-unsent-requires
+    -- returns
     (λ c.
     let start = c .before .before .before .before .before .before .before .before .before .before .before .before .before .before .before .before in
     let a = start .args in
-    unused-place (a .s) (start .pre .0) (a .longs .now) (a .words .now) (a .marks .now) (a .p) _ _ (queued-read (a .s) (start .pre .0) (a .longs .now) (a .p)) (kind-read (a .s) (start .pre .0) (a .marks .now) (a .p)) (c .match .keys1))  -- returns
+    unused-place (a .s) (start .pre .0) (a .longs .now) (a .words .now) (a .marks .now) (a .p) _ _ (queued-read (a .s) (start .pre .0) (a .longs .now) (a .p)) (kind-read (a .s) (start .pre .0) (a .marks .now) (a .p)) (c .match .keys1))
+    -- returns-2
     (λ c.
     let start = c .before .before .before .before .before .before .before .before .before .before .before .before .before .before .before .before .before in
     let a = start .args in
-    read-place (a .s) (start .pre .0) (a .longs .now) (a .words .now) (a .marks .now) (a .p) _ _ (queued-read (a .s) (start .pre .0) (a .longs .now) (a .p)) (kind-read (a .s) (start .pre .0) (a .marks .now) (a .p)) (c .before .match .keys2) (c .has-unsent .ensures))  -- returns-2
+    read-place (a .s) (start .pre .0) (a .longs .now) (a .words .now) (a .marks .now) (a .p) _ _ (queued-read (a .s) (start .pre .0) (a .longs .now) (a .p)) (kind-read (a .s) (start .pre .0) (a .marks .now) (a .p)) (c .before .match .keys2) (c .has-unsent .ensures))
+    -- returns-3
     (λ c.
     let start = c .before .before .before .before .before .before .before .before .before .before .before .before .before .before .before .before in
     let a = start .args in
-    back-place (a .s) (start .pre .0) (a .longs .now) (a .words .now) (a .marks .now) (a .p) _ _ (queued-read (a .s) (start .pre .0) (a .longs .now) (a .p)) (kind-read (a .s) (start .pre .0) (a .marks .now) (a .p)) (c .match .keys3))  -- returns-3
+    back-place (a .s) (start .pre .0) (a .longs .now) (a .words .now) (a .marks .now) (a .p) _ _ (queued-read (a .s) (start .pre .0) (a .longs .now) (a .p)) (kind-read (a .s) (start .pre .0) (a .marks .now) (a .p)) (c .match .keys3))
+    -- returns-4
     (λ c.
     let start = c .before .before .before .before .before .before .before .before .before .before .before .before .before .before .before .before in
     let a = start .args in
-    no-kind (a .s) (start .pre .0) (a .longs .now) (a .words .now) (a .marks .now) (a .p) _ _ (queued-read (a .s) (start .pre .0) (a .longs .now) (a .p)) (kind-read (a .s) (start .pre .0) (a .marks .now) (a .p)) (c .match .rest .0 .0 .1) (c .match .rest .0 .1) (c .match .rest .1)))  -- returns-4
+    no-kind (a .s) (start .pre .0) (a .longs .now) (a .words .now) (a .marks .now) (a .p) _ _ (queued-read (a .s) (start .pre .0) (a .longs .now) (a .p)) (kind-read (a .s) (start .pre .0) (a .marks .now) (a .p)) (c .match .rest .0 .0 .1) (c .match .rest .0 .1) (c .match .rest .1)))

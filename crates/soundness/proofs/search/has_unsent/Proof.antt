@@ -29,6 +29,7 @@ has-unsent-spec =
     (λ c. search needs)  -- shared-slice-read-if2
     (λ c. search needs)  -- add-if2-2
     (λ c. search needs)  -- shared-slice-read-if2-2
+    -- returns
     (λ c.
     let asked = c .before .before .before .before .before in
     let body = asked .before .before .before .before in
@@ -36,16 +37,18 @@ has-unsent-spec =
     let a = start .args in
     let e = body .before .loop .e in
     let yes : unsentRead (a .at) (a .longs .now) (a .marks .now) (a .a .0) e ≡ true = rw (c .if2 .taken, eq-eqb _ _ (asked .if1 .taken)) in
-    sought-stop (unsentRead (a .at) (a .longs .now) (a .marks .now) (a .a .0)) _ _ (body .loop-test .taken) refl yes ∙ rw (start .pre .0 .counts, start .pre .0 .sent, start .pre .0 .misses))  -- returns
+    sought-stop (unsentRead (a .at) (a .longs .now) (a .marks .now) (a .a .0)) _ _ (body .loop-test .taken) refl yes ∙ rw (start .pre .0 .counts, start .pre .0 .sent, start .pre .0 .misses))
     (λ c. omega arith)  -- add-e
     (λ c. omega arith)  -- loop-less
+    -- loop-again
     (λ c.
     let body = c .before .before .before .before in
     let a = body .before .before .args in
     let e = body .before .loop .e in
     let no : unsentRead (a .at) (a .longs .now) (a .marks .now) (a .a .0) e ≡ false =
     ⊎-elim (λ w. rw (w .5 .left)) (λ w. rw (ne-eqb _ _ (w .left), and-false)) (c .if1 .came) in
-    sought-more _ _ _ (body .loop-test .taken) refl no (body .before .loop .inv))  -- loop-again
+    sought-more _ _ _ (body .loop-test .taken) refl no (body .before .loop .inv))
+    -- returns-2
     (λ c.
     let start = c .before .before in
-    sought-end _ _ _ (c .loop-test .left) (c .before .loop .inv) ∙ rw (start .pre .0 .counts, start .pre .0 .sent, start .pre .0 .misses)))  -- returns-2
+    sought-end _ _ _ (c .loop-test .left) (c .before .loop .inv) ∙ rw (start .pre .0 .counts, start .pre .0 .sent, start .pre .0 .misses)))

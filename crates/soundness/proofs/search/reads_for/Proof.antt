@@ -30,6 +30,7 @@ reads-for-spec =
     (λ c. omega arith)  -- add-count
     (λ c. omega arith)  -- add-p
     (λ c. omega arith)  -- loop-less
+    -- loop-again
     (λ c.
     let body = c .before .before .before .before in
     let a = body .before .before .args in
@@ -47,9 +48,10 @@ reads-for-spec =
     (λ w.
     let no : readRead (a .at) (a .longs .now) (a .marks .now) (a .a .0) q ≡ false = rw (ne-eqb _ _ (w .0 .left), and-false) in
     counted-no _ _ _ _ _ below refl no (w .1) inv))
-    (c .if1 .came))  -- loop-again
+    (c .if1 .came))
+    -- returns
     (λ c.
     let start = c .before .before in
     let a = start .args in
     counted-end _ _ _ _ (c .loop-test .left) (c .before .loop .inv) ∙ read-counted (a .s) (start .pre .0) (a .longs .now) (a .words .now) (a .marks .now) (a .a .0) (a .n)
-    ∙ read-queued (a .s) (start .pre .0) (a .longs .now) (a .words .now) (a .marks .now) (a .a .0) (a .n) (start .pre .2)))  -- returns
+    ∙ read-queued (a .s) (start .pre .0) (a .longs .now) (a .words .now) (a .marks .now) (a .a .0) (a .n) (start .pre .2)))

@@ -20,8 +20,8 @@ trees-fine-spec =
     (λ c κs. search needs)  -- limit-requires
     (λ c. (omega arith, refl))  -- loop-holds
     (λ c κs. search needs)  -- set-fine-requires
-    (λ c. passed-stop _ _ _ (c .before .before .loop-test .taken) (c .before .set-fine .ensures) (c .if1 .taken))
-    (λ c. omega arith)
-    (λ c. omega arith)
-    (λ c. passed-more _ _ _ (c .before .before .loop-test .taken) (c .before .set-fine .ensures) (c .if1 .left) (c .before .before .before .loop .inv))
-    (λ c. passed-end _ _ _ (c .loop-test .left) (c .before .loop .inv)))
+    (λ c. passed-stop _ _ _ (c .before .before .loop-test .taken) (c .before .set-fine .ensures) (c .if1 .taken))  -- returns
+    (λ c. omega arith)  -- add-i
+    (λ c. omega arith)  -- loop-less
+    (λ c. passed-more _ _ _ (c .before .before .loop-test .taken) (c .before .set-fine .ensures) (c .if1 .left) (c .before .before .before .loop .inv))  -- loop-again
+    (λ c. passed-end _ _ _ (c .loop-test .left) (c .before .loop .inv)))  -- returns-2

@@ -8,6 +8,6 @@ pub next-after-spec : {M : Type 1} → statement M
 next-after-spec =
     tie.close
     (tie.spec
-    (λ c κs. search needs)
-    (λ c. rw (sym (c .before .first-there .ensures) ∙ c .if1 .taken))
-    (λ c. rw (sym (c .before .first-there .ensures) ∙ c .if1 .left)))
+    (λ c κs. search needs)  -- first-there-requires
+    (λ c. rw (sym (c .before .first-there .ensures) ∙ c .if1 .taken))  -- returns
+    (λ c. rw (sym (c .before .first-there .ensures) ∙ c .if1 .left)))  -- returns-2

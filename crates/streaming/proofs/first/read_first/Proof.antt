@@ -19,20 +19,20 @@ abbrev μ-loop : tie.MeasureT-loop
 pub read-first-spec : {M : Type 1} → statement M
 read-first-spec =
     tie.close
-    (tie.spec
-    Inv-loop
-    μ-loop
-    (λ c κs. search needs)
-    (λ c. (refl, opened-first _ (c .at-start .ensures)))
-    (λ c κs. search needs)
-    (λ c κs. c .before .before .before .loop .inv .1)
+    (tie.spec Inv-loop μ-loop
+    (λ c κs. search needs)  -- at-start-requires
+    (λ c. (refl, opened-first _ (c .at-start .ensures)))  -- loop-holds
+    (λ c κs. search needs)  -- reads-requires
+    (λ c κs. c .before .before .before .loop .inv .1)  -- read-once-requires
+    -- loop-less
     (λ c.
     let r = c .before .before in
     let t = r .before .before in
     let w = t .before .before .loop .w in
     turns-less (readsNext (w .next)) (w .left) _ (sym (t .before .reads .ensures) ∙ t .if1 .taken) (r .read-once .ensures .1))
+    -- loop-again
     (λ c.
     let r = c .before .before in
     (r .read-once .kept .1 .0 ∙ r .before .before .before .before .loop .inv .0, r .read-once .ensures .0))
-    (λ c. search needs)
-    (λ c. (c .before .before .loop .inv .1, sym (c .before .reads .ensures) ∙ c .if1 .left)))
+    (λ c. search needs)  -- same-length
+    (λ c. (c .before .before .loop .inv .1, sym (c .before .reads .ensures) ∙ c .if1 .left)))  -- returns

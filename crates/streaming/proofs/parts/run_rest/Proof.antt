@@ -28,22 +28,23 @@ abbrev μ-loop : tie.MeasureT-loop
 pub run-rest-spec : {M : Type 1} → statement M
 run-rest-spec =
     tie.close
-    (tie.spec
-    Inv-loop
-    μ-loop
+    (tie.spec Inv-loop μ-loop
     (λ c κs. c .before .before .before .before .pre .0 .held .are .range)  -- laid-out-requires
-    (λ c κs. search needs)
-    (λ c. search needs)
+    (λ c κs. search needs)  -- large-buffer-requires
+    (λ c. search needs)  -- slice-aggregate-events
+    -- loop-holds
     (λ c.
     let a = c .before .before .before .before .before .before .before in
     (refl, refl, refl, refl, sym (c .before .large-buffer .ensures), a .pre .0, a .pre .1, start-came 65536 (a .pre .0)))
-    (λ c κs. search needs)
+    (λ c κs. search needs)  -- goes-on-requires
     -- that the loop goes on, or does not, is `cc`'s to find: the call that says so is not named, so that another call there is refused for what it says
+    -- turn-requires
     (λ c κs.
     let at = c .before .before .before .before .before .before .before in
     let i = at .loop .inv in
-    ((at .before .before .before .laid-out .ensures, i .5), (cc, omega (arith, i .4))))  -- turn-requires
-    (λ c. c .before .before .before .before .before .before .before .before .before .before .turn .ensures .fewer)
+    ((at .before .before .before .laid-out .ensures, i .5), (cc, omega (arith, i .4))))
+    (λ c. c .before .before .before .before .before .before .before .before .before .before .turn .ensures .fewer)  -- loop-less
+    -- loop-again
     (λ c.
     let t = c .before .before .before .before .before .before .before .before .before .before in
     let i = t .before .before .before .before .before .before .before .before .loop .inv in
@@ -57,8 +58,8 @@ run-rest-spec =
       t .turn .ensures .claims,
       next-came (i .7) (i .4) (t .turn .ensures),
     ))
-    (λ c. search needs)
-    (λ c. search needs)
-    (λ c. search needs)
-    (λ c. search needs)
+    (λ c. search needs)  -- same-length
+    (λ c. search needs)  -- same-length-2
+    (λ c. search needs)  -- same-length-3
+    (λ c. search needs)  -- same-length-4
     (λ c. let i = c .before .before .before .loop .inv in record { ready = i .5; over = cc; claims = i .6; came = i .7 }))  -- returns

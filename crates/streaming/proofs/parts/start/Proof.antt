@@ -10,15 +10,15 @@ pub start-spec : {M : Type 1} → statement M
 start-spec =
     tie.close
     (tie.spec
-    (λ c κs. search needs)
-    (λ c. search needs)
-    (λ c κs. search needs)
-    (λ c. search needs)
-    (λ c κs. search needs)
-    (λ c κs. search needs)
-    (λ c. search needs)
-    (λ c. search needs)
-    (λ c. search needs)
+    (λ c κs. search needs)  -- begin-requires
+    (λ c. search needs)  -- enum-known-stop
+    (λ c κs. search needs)  -- stopped-requires
+    (λ c. search needs)  -- enum-known-settings
+    (λ c κs. search needs)  -- carry-requires
+    (λ c κs. search needs)  -- begun-requires
+    (λ c. search needs)  -- same-length
+    (λ c. search needs)  -- same-length-2
+    (λ c. search needs)  -- same-length-3
     -- returns
     (λ c.
     let n = c .before .before in
@@ -26,10 +26,10 @@ start-spec =
     let a = b .before .before .before .before .before .before .before .before in
     let begins = accepts-begins _ (a .pre .1 .1 .1 .1) (b .begin .ensures) in
     start-stops begins (a .args .buf .now) (a .args .w) refl (n .stop .given .1) (a .pre .1 .1 .1 .0) (c .stopped .ensures))
-    (λ c. search needs)
-    (λ c. search needs)
-    (λ c. search needs)
-    (λ c. search needs)
+    (λ c. search needs)  -- same-length-4
+    (λ c. search needs)  -- same-length-5
+    (λ c. search needs)  -- same-length-6
+    (λ c. search needs)  -- same-length-7
     -- returns-2
     (λ c.
     let y = c .before .before .before in

@@ -11,23 +11,25 @@ pub turn-spec : {M : Type 1} → statement M
 turn-spec =
     tie.close
     (tie.spec
-    (λ c κs. search needs)
+    (λ c κs. search needs)  -- reads-requires
+    -- read-part-requires
     (λ c κs.
     let t = c .before .before .before .before .before in
     let a = t .before .before .before .before .before .before .before in
     (a .pre .0, (reads-next (a .args .w .next) (sym (t .before .reads .ensures) ∙ t .if1 .taken), a .pre .1 .1)))
-    (λ c κs. let a = c .before .before .before .before .before .before .before .before .before .before .before .before in ((a .pre .0 .0, a .pre .0 .1 .held), (a .pre .0 .1 .inside, omega (arith, a .pre .0 .1 .counted))))
-    (λ c. search needs)
-    (λ c. search needs)
-    (λ c. search needs)
-    (λ c. search needs)
-    (λ c. search needs)
-    (λ c. search needs)
-    (λ c. search needs)
-    (λ c. search needs)
-    (λ c. search needs)
-    (λ c. search needs)
-    (λ c. search needs)
+    (λ c κs. let a = c .before .before .before .before .before .before .before .before .before .before .before .before in ((a .pre .0 .0, a .pre .0 .1 .held), (a .pre .0 .1 .inside, omega (arith, a .pre .0 .1 .counted))))  -- run-part-requires
+    (λ c. search needs)  -- same-length
+    (λ c. search needs)  -- same-length-2
+    (λ c. search needs)  -- same-length-3
+    (λ c. search needs)  -- same-length-4
+    (λ c. search needs)  -- same-length-5
+    (λ c. search needs)  -- returns
+    (λ c. search needs)  -- same-length-6
+    (λ c. search needs)  -- same-length-7
+    (λ c. search needs)  -- same-length-8
+    (λ c. search needs)  -- same-length-9
+    (λ c. search needs)  -- same-length-10
+    -- returns-2
     (λ c.
     let p = c .before .before .before .before .before .before .before .before .before .before in
     let t = p .before .before .before .before .before .before in

@@ -19,34 +19,35 @@ abbrev μ-loop : tie.MeasureT-loop
 pub last-start-spec : {M : Type 1} → statement M
 last-start-spec =
     tie.close
-    (tie.spec
-    Inv-loop
-    μ-loop
-    (λ c. (omega arith, zero-add _))
-    (λ c. search needs)
-    (λ c κs. search needs)
+    (tie.spec Inv-loop μ-loop
+    (λ c. (omega arith, zero-add _))  -- loop-holds
+    (λ c. search needs)  -- shared-slice-read-kind
+    (λ c κs. search needs)  -- is-command-requires
+    -- returns
     (λ c.
     let k = c .before in
     let i = k .before .before in
     let l = i .before .loop in
     (walk-unknown _ (l .at) (i .loop-test .taken) (l .inv .1) (k .is-command .ensures) (c .if1 .taken), omega arith))
-    (λ c κs. search needs)
-    (λ c. search needs)
-    (λ c. search needs)
-    (λ c. search needs)
+    (λ c κs. search needs)  -- length-of-requires
+    (λ c. search needs)  -- cast-body
+    (λ c. search needs)  -- sub-if2
+    (λ c. search needs)  -- add-if2
+    -- returns-2
     (λ c.
     let n = c .before in
     let k = n .before .before in
     let i = k .before .before in
     let l = i .before .loop in
     (walk-last _ (l .at) (i .loop-test .taken) (l .inv .1) (k .is-command .ensures) (n .before .if1 .left) (n .length-of .ensures) (c .if2 .taken), l .inv .0))
-    (λ c. search needs)
-    (λ c. search needs)
-    (λ c. search needs)
+    (λ c. search needs)  -- add-at
+    (λ c. search needs)  -- add-at-2
+    (λ c. search needs)  -- loop-less
+    -- loop-again
     (λ c.
     let n = c .before in
     let k = n .before .before in
     let i = k .before .before in
     let l = i .before .loop in
     (omega arith, walk-goes _ (l .at) (i .loop-test .taken) (l .inv .1) (k .is-command .ensures) (n .before .if1 .left) (n .length-of .ensures) (c .if2 .left)))
-    (λ c. let l = c .before .loop in (walk-end _ (l .at) (l .inv .0) (c .loop-test .left) (l .inv .1), l .inv .0)))
+    (λ c. let l = c .before .loop in (walk-end _ (l .at) (l .inv .0) (c .loop-test .left) (l .inv .1), l .inv .0)))  -- returns-3

@@ -7,13 +7,13 @@ pub over-spec : {M : Type 1} → statement M
 over-spec =
     tie.close
     (tie.spec
-    (λ c. search needs)
-    (λ c. search needs)
-    (λ c. search needs)
-    (λ c. search needs)
-    (λ c. search needs)
-    (λ c. search needs)
-    (λ c. search needs)
-    (λ c. search needs)
-    (λ c. rw (c .before .next .given .1))
-    (λ c. search needs))
+    (λ c. search needs)  -- enum-told
+    (λ c. search needs)  -- enum-told-2
+    (λ c. search needs)  -- enum-told-3
+    (λ c. search needs)  -- enum-known-next
+    (λ c. search needs)  -- enum-told-4
+    (λ c. search needs)  -- returns
+    (λ c. search needs)  -- returns-2
+    (λ c. search needs)  -- returns-3
+    (λ c. rw (c .before .next .given .1))  -- returns-4
+    (λ c. search needs))  -- returns-5

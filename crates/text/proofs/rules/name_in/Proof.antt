@@ -6,4 +6,9 @@ use Rattle.text.proofs.rules.name_in.Statement.{statement}
 use Rattle.text.proofs.rules.name_in.Tie as tie
 
 pub name-in-spec : {M : Type 1} → statement M
-name-in-spec = tie.close (tie.spec (λ c κs. search needs) (λ c κs. search needs) (λ c. c .front .ensures ∙ rw (c .before .word-end .ensures, zero-add)))
+name-in-spec =
+    tie.close
+    (tie.spec
+    (λ c κs. search needs)  -- word-end-requires
+    (λ c κs. search needs)  -- front-requires
+    (λ c. c .front .ensures ∙ rw (c .before .word-end .ensures, zero-add)))  -- returns

@@ -11,19 +11,21 @@ unfolding ruleName
 put-rule-spec =
     tie.close
     (tie.spec
-    (λ c κs. search needs)
-    (λ c κs. has-row _ (c .before .has-name .ensures) (c .if1 .taken))
-    (λ c κs. search needs)
-    (λ c κs. search needs)
-    (λ c. search needs)
+    (λ c κs. search needs)  -- has-name-requires
+    (λ c κs. has-row _ (c .before .has-name .ensures) (c .if1 .taken))  -- row-of-requires
+    (λ c κs. search needs)  -- name-in-requires
+    (λ c κs. search needs)  -- put-text-requires
+    (λ c. search needs)  -- same-length
+    -- returns
     (λ c.
     let p = c .before .before in
     let n = p .before .before in
     let t = n .before .before .before in
-    rw (sym (t .before .has-name .ensures) ∙ t .if1 .taken, ← (n .name-in .ensures ∙ n .before .before .row-of .ensures)) (p .put-text .ensures))  -- returns
-    (λ c κs. search needs)
-    (λ c. search needs)
+    rw (sym (t .before .has-name .ensures) ∙ t .if1 .taken, ← (n .name-in .ensures ∙ n .before .before .row-of .ensures)) (p .put-text .ensures))
+    (λ c κs. search needs)  -- put-decimal-requires
+    (λ c. search needs)  -- same-length-2
+    -- returns-2
     (λ c.
     let p = c .before .before in
     let t = p .before .before in
-    rw (sym (t .before .has-name .ensures) ∙ t .if1 .left) (p .put-decimal .ensures)))  -- returns-2
+    rw (sym (t .before .has-name .ensures) ∙ t .if1 .left) (p .put-decimal .ensures)))

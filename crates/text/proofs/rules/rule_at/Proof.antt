@@ -18,14 +18,12 @@ abbrev μ-loop : tie.MeasureT-loop
 pub rule-at-spec : {M : Type 1} → statement M
 rule-at-spec =
     tie.close
-    (tie.spec
-    Inv-loop
-    μ-loop
-    (λ c. refl)
-    (λ c κs. search needs)
-    (λ c. search needs)
-    (λ c. let l = c .before .before in rule-here _ _ (l .loop-test .taken) (c .before .is-name .ensures) (c .if1 .taken) ∙ sym (l .before .loop .inv))
-    (λ c. search needs)
-    (λ c. search needs)
-    (λ c. let l = c .before .before in l .before .loop .inv ∙ rule-on _ _ (l .loop-test .taken) (c .before .is-name .ensures) (c .if1 .left))
-    (λ c. rule-none _ _ (c .loop-test .left) ∙ sym (c .before .loop .inv)))
+    (tie.spec Inv-loop μ-loop
+    (λ c. refl)  -- loop-holds
+    (λ c κs. search needs)  -- is-name-requires
+    (λ c. search needs)  -- cast-t6
+    (λ c. let l = c .before .before in rule-here _ _ (l .loop-test .taken) (c .before .is-name .ensures) (c .if1 .taken) ∙ sym (l .before .loop .inv))  -- returns
+    (λ c. search needs)  -- add-i
+    (λ c. search needs)  -- loop-less
+    (λ c. let l = c .before .before in l .before .loop .inv ∙ rule-on _ _ (l .loop-test .taken) (c .before .is-name .ensures) (c .if1 .left))  -- loop-again
+    (λ c. rule-none _ _ (c .loop-test .left) ∙ sym (c .before .loop .inv)))  -- returns-2

@@ -16,9 +16,7 @@ abbrev μ-loop : tie.MeasureT-loop
 pub put-events-spec : {M : Type 1} → statement M
 put-events-spec =
     tie.close
-    (tie.spec
-    Inv-loop
-    μ-loop
+    (tie.spec Inv-loop μ-loop
     (λ c. refl)  -- loop-holds
     (λ c κs. search needs)  -- put-next-requires
     (λ c. omega arith)  -- loop-less

@@ -15,7 +15,8 @@ behind-spec =
     (λ c κs. search needs)  -- wrapping-add-u64-requires-2
     (λ c κs. search needs)  -- ended-requires
     (λ c. let e = c .ended .ensures in failed-stands (ap (λ (x : Work). x .have) e) (ap (λ (x : Work). x .left) e) (ap (λ (x : Work). x .next) e))  -- returns
+    -- returns-2
     (λ c.
     let n = c .before .before .before in
     let a = n .before .args in
-    record { waits = refl; comes = refl; claims = rw (n .next-of .ensures) (records-claims (a .t .stop) (a .have)) }))  -- returns-2
+    record { waits = refl; comes = refl; claims = rw (n .next-of .ensures) (records-claims (a .t .stop) (a .have)) }))

@@ -29,25 +29,25 @@ abbrev μ-loop : tie.MeasureT-loop
 pub trace-rest-spec : {M : Type 1} → statement M
 trace-rest-spec =
     tie.close
-    (tie.spec
-    Inv-loop
-    μ-loop
+    (tie.spec Inv-loop μ-loop
     (λ c κs. c .before .before .before .before .before .pre .0 .are .range)  -- laid-out-requires
     (λ c κs. search needs)  -- buffer-requires
     (λ c. search needs)  -- slice-aggregate-events
     (λ c. let a = c .before .before .before .before .before .before .before .before in (refl, refl, refl, refl, refl, refl, a .pre .0, rw (a .pre .1) tt))  -- loop-holds
     (λ c κs. search needs)  -- goes-on-requires
     (λ c κs. let at = c .before .before .before .before .before .before .before .before in (at .before .before .before .laid-out .ensures, at .loop .inv .6))  -- turn-requires
+    -- loop-less
     (λ c.
     let r = c .before .before .before .before .before .before .before .before .before .before .before .before in
     let t = r .before .before .before .before .before .before .before in
     let w = t .before .before .loop .w in
-    turns-less (goesNext (w .next)) (w .left) _ (sym (t .before .goes-on .ensures) ∙ t .if1 .taken) (r .turn .ensures .read .fewer))  -- loop-less
+    turns-less (goesNext (w .next)) (w .left) _ (sym (t .before .goes-on .ensures) ∙ t .if1 .taken) (r .turn .ensures .read .fewer))
+    -- loop-again
     (λ c.
     let r = c .before .before .before .before .before .before .before .before .before .before .before .before in
     let i = r .before .before .before .before .before .before .before .before .before .loop .inv in
     let k = r .turn .kept .1 .1 .1 in
-    (k .0 ∙ i .0, k .1 .1 .0 ∙ i .1, k .1 .1 .1 .0 ∙ i .2, k .1 .1 .1 .1 .0 ∙ i .3, k .1 .1 .1 .1 .1 .0 ∙ i .4, k .1 .0 ∙ i .5, r .turn .ensures .held, r .turn .ensures .read .claims))  -- loop-again
+    (k .0 ∙ i .0, k .1 .1 .0 ∙ i .1, k .1 .1 .1 .0 ∙ i .2, k .1 .1 .1 .1 .0 ∙ i .3, k .1 .1 .1 .1 .1 .0 ∙ i .4, k .1 .0 ∙ i .5, r .turn .ensures .held, r .turn .ensures .read .claims))
     (λ c κs. let e = c .before .before in record { over = sym (e .before .goes-on .ensures) ∙ e .if1 .left; claims = e .before .before .loop .inv .7 })  -- finished-requires
     (λ c. search needs)  -- same-length
     (λ c. search needs)  -- same-length-2

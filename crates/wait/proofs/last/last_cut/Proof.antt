@@ -8,6 +8,6 @@ pub last-cut-spec : {M : Type 1} → statement M
 last-cut-spec =
     tie.close
     (tie.spec
-    (λ c κs. search needs)
-    (λ c. rw (sym (c .before .is-command .ensures) ∙ c .if1 .taken))
-    (λ c. rw (sym (c .before .is-command .ensures) ∙ c .if1 .left)))
+    (λ c κs. search needs)  -- is-command-requires
+    (λ c. rw (sym (c .before .is-command .ensures) ∙ c .if1 .taken))  -- returns
+    (λ c. rw (sym (c .before .is-command .ensures) ∙ c .if1 .left)))  -- returns-2

@@ -25,16 +25,16 @@ pub wait-for-spec : {M : Type 1} → statement M
 wait-for-spec =
     tie.close
     (tie.spec
-    (λ c κs. search needs)
-    (λ c κs. search needs)
+    (λ c κs. search needs)  -- well-formed-requires
+    (λ c κs. search needs)  -- malformed-requires
     returns
-    (λ c κs. search needs)
-    (λ c κs. search needs)
-    (λ c κs. search needs)
-    (λ c κs. search needs)
+    (λ c κs. search needs)  -- laid-out-requires
+    (λ c κs. search needs)  -- in-use-requires
+    (λ c κs. search needs)  -- most-rounds-requires
+    (λ c κs. search needs)  -- start-requires
     wait-rounds-requires
-    (λ c κs. search needs)
-    (λ c. search needs)
-    (λ c. search needs)
-    (λ c. search needs)
-    (λ c. search needs))
+    (λ c κs. search needs)  -- end-requires
+    (λ c. search needs)  -- same-length
+    (λ c. search needs)  -- same-length-2
+    (λ c. search needs)  -- same-length-3
+    (λ c. search needs))  -- returns-2

@@ -68,24 +68,22 @@ returns-2 c =
 pub wait-rounds-spec : {M : Type 1} → statement M
 wait-rounds-spec =
     tie.close
-    (tie.spec
-    Inv-loop
-    μ-loop
-    (λ c κs. search needs)
-    (λ c. search needs)
-    (λ c. goes-first _ _)
+    (tie.spec Inv-loop μ-loop
+    (λ c κs. search needs)  -- large-buffer-requires
+    (λ c. search needs)  -- slice-aggregate-events
+    (λ c. goes-first _ _)  -- loop-holds
     one-round-requires
-    (λ c. omega arith)
-    (λ c κs. search needs)
-    (λ c κs. search needs)
-    (λ c κs. search needs)
+    (λ c. omega arith)  -- add-round
+    (λ c κs. search needs)  -- part-requires
+    (λ c κs. search needs)  -- round-requires
+    (λ c κs. search needs)  -- accepted-requires
     same-length
     same-length-2
     same-length-3
     returns
     loop-less
     loop-again
-    (λ c. c .before .before .loop .inv .longs)
-    (λ c. c .before .before .loop .inv .words)
-    (λ c. c .before .before .loop .inv .marks)
+    (λ c. c .before .before .loop .inv .longs)  -- same-length-4
+    (λ c. c .before .before .loop .inv .words)  -- same-length-5
+    (λ c. c .before .before .loop .inv .marks)  -- same-length-6
     returns-2)

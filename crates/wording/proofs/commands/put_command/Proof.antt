@@ -15,26 +15,26 @@ put-command-spec =
     (λ c κs. search needs)  -- put-settings-requires
     (λ c. search needs)  -- enum-known-c-2
     (λ c. search needs)  -- slice-aggregate-put-line
-    (λ c. search needs)  -- cast-t23
+    (λ c. search needs)  -- cast-t22
     (λ c. search needs)  -- slice-aggregate-put-line-2
     (λ c κs. search needs)  -- put-line-requires
     (λ c. search needs)  -- enum-known-c-3
     (λ c. search needs)  -- slice-aggregate-put-line-3
-    (λ c. search needs)  -- cast-t31
+    (λ c. search needs)  -- cast-t30
     (λ c. search needs)  -- slice-aggregate-put-line-4
     (λ c κs. search needs)  -- put-line-requires-2
     (λ c. search needs)  -- enum-told
     (λ c. search needs)  -- slice-aggregate-put-text
     (λ c κs. search needs)  -- put-text-requires
     (λ c. search needs)  -- enum-known-c-4
+    (λ c. search needs)  -- slice-aggregate-put-line-5
+    (λ c. search needs)  -- slice-aggregate-put-line-6
+    (λ c κs. search needs)  -- put-line-requires-3
+    (λ c. search needs)  -- enum-known-c-5
     (λ c. search needs)  -- slice-aggregate-put-line-7
+    (λ c. search needs)  -- cast-t49
     (λ c. search needs)  -- slice-aggregate-put-line-8
     (λ c κs. search needs)  -- put-line-requires-4
-    (λ c. search needs)  -- enum-known-c-5
-    (λ c. search needs)  -- slice-aggregate-put-line-9
-    (λ c. search needs)  -- cast-t52
-    (λ c. search needs)  -- slice-aggregate-put-line-10
-    (λ c κs. search needs)  -- put-line-requires-5
     (λ c. search needs)  -- same-length
     (λ c. let p = c .before .before in rw (p .before .before .before .c .given .1) (p .put-settings .ensures))  -- returns
     (λ c. search needs)  -- same-length-2

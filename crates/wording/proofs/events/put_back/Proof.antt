@@ -16,7 +16,8 @@ put-back-spec =
     (λ c. search needs)  -- slice-aggregate-put-line-2
     (λ c κs. search needs)  -- put-line-requires
     (λ c. search needs)  -- same-length
+    -- returns
     (λ c.
     let p = c .before .before in
     let t = p .before .before .before .before .before .before in
-    rw (← (t .before .before .dirty-bytes .ensures)) (put-then (t .put-text .ensures) (p .put-line .ensures))))  -- returns
+    rw (← (t .before .before .dirty-bytes .ensures)) (put-then (t .put-text .ensures) (p .put-line .ensures))))

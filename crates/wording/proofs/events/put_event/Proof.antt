@@ -22,7 +22,7 @@ put-event-spec =
     (λ c κs. search needs)  -- refusal-number-requires
     (λ c. search needs)  -- cast-number
     (λ c. search needs)  -- slice-aggregate-put-line-3
-    (λ c. search needs)  -- add-t48
+    (λ c. search needs)  -- add-t46
     (λ c. search needs)  -- slice-aggregate-put-line-4
     (λ c κs. search needs)  -- put-line-requires-2
     (λ c. search needs)  -- enum-known-e-3
@@ -34,7 +34,7 @@ put-event-spec =
     (λ c κs. search needs)  -- put-back-requires
     (λ c. search needs)  -- enum-known-e-5
     (λ c. search needs)  -- slice-aggregate-put-line-7
-    (λ c. search needs)  -- cast-t68
+    (λ c. search needs)  -- cast-t65
     (λ c. search needs)  -- slice-aggregate-put-line-8
     (λ c κs. search needs)  -- put-line-requires-4
     (λ c. search needs)  -- enum-known-e-6

@@ -8,7 +8,7 @@ put-answer-spec =
     tie.close
     (tie.spec
     (λ c κs. search needs)  -- answer-number-requires
-    (λ c. search needs)  -- cast
+    (λ c. search needs)  -- cast-put-name
     (λ c κs. search needs)  -- put-name-requires
     (λ c. search needs)  -- same-length
     (λ c. let p = c .before .before in rw (← (p .before .before .answer-number .ensures)) (p .put-name .ensures)))  -- returns

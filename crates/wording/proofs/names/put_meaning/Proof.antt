@@ -8,8 +8,8 @@ put-meaning-spec =
     tie.close
     (tie.spec
     (λ c κs. search needs)  -- refusal-number-requires
-    (λ c. search needs)  -- cast
-    (λ c. search needs)  -- add
+    (λ c. search needs)  -- cast-put-name
+    (λ c. search needs)  -- add-put-name
     (λ c κs. search needs)  -- put-name-requires
     (λ c. search needs)  -- same-length
     (λ c. let p = c .before .before in rw (← (p .before .before .refusal-number .ensures)) (p .put-name .ensures)))  -- returns

@@ -16,8 +16,9 @@ put-name-spec =
     (λ c κs. search needs)  -- front-requires
     (λ c κs. search needs)  -- put-text-requires
     (λ c. search needs)  -- same-length
+    -- returns
     (λ c.
     let p = c .before .before in
     let f = p .before .before in
     let e = f .before .before in
-    rw (← (e .before .before .row-of .ensures)) (rw (f .front .ensures, e .line-end .ensures, zero-add) at (p .put-text .ensures))))  -- returns
+    rw (← (e .before .before .row-of .ensures)) (rw (f .front .ensures, e .line-end .ensures, zero-add) at (p .put-text .ensures))))

@@ -11,5 +11,5 @@ row-of-spec =
     (λ c. search needs)  -- mul-result
     (λ c. search needs)  -- array-copy-out-result
     (λ c. search needs)  -- array-copy-out-result-2
-    (λ c. row-named _)
-    (λ c. none-named (c .before .before .args .n) (c .before .if1 .left)))
+    (λ c. row-named _)  -- returns
+    (λ c. none-named (c .before .before .args .n) (c .before .if1 .left)))  -- returns-2

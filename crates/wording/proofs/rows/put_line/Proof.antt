@@ -23,16 +23,16 @@ abbrev μ-loop : tie.MeasureT-loop
 pub put-line-spec : {M : Type 1} → statement M
 put-line-spec =
     tie.close
-    (tie.spec
-    Inv-loop
-    μ-loop
+    (tie.spec Inv-loop μ-loop
+    -- loop-holds
     (λ c.
     let a = c .before .before .before .args in
-    (omega arith, omega arith, omega arith, search needs, ap (λ (ps : List (List ℕ)). withPieces ps (page (a .out .now) (a .at))) (rest-start _ _)))  -- loop-holds
+    (omega arith, omega arith, omega arith, search needs, ap (λ (ps : List (List ℕ)). withPieces ps (page (a .out .now) (a .at))) (rest-start _ _)))
     (λ c. search needs)  -- shared-slice-read-c
     (λ c κs. search needs)  -- is-mark-requires
     (λ c. search needs)  -- add-i
     (λ c. search needs)  -- loop-less
+    -- loop-again
     (λ c.
     let m = c .before in
     let l = m .before .before in
@@ -43,7 +43,7 @@ put-line-spec =
       v .3,
       ap (λ (ps : List (List ℕ)). withPieces ps (page (l .before .loop .out) (l .before .loop .a)))
           (sym (word-on _ _ _ _ _ (m .is-mark .ensures) (v .0) (l .loop-test .taken) (not-yes (c .if1 .taken)))) ∙ v .4,
-    ))  -- loop-again
+    ))
     (λ c κs. search needs)  -- part-requires
     (λ c κs. search needs)  -- put-text-requires
     (λ c κs. search needs)  -- value-at-requires
@@ -51,6 +51,7 @@ put-line-spec =
     (λ c. search needs)  -- add-k
     (λ c. search needs)  -- add-i-2
     (λ c. search needs)  -- loop-less-2
+    -- loop-again-2
     (λ c.
     let p = c .before .before in
     let n = p .before .before in
@@ -64,12 +65,13 @@ put-line-spec =
       omega arith,
       search needs,
       mark-on _ _ _ _ _ (m .is-mark .ensures) (v .0) (l .loop-test .taken) (no-not (q .before .if1 .left)) (q .part .ensures) (n .value-at .ensures) (t .put-text .ensures) (p .put-value .ensures) ∙ v .4,
-    ))  -- loop-again-2
+    ))
     (λ c κs. search needs)  -- part-requires-2
     (λ c κs. search needs)  -- put-text-requires-2
     (λ c. search needs)  -- same-length
+    -- returns
     (λ c.
     let t = c .before .before in
     let q = t .before .before in
     let l = q .before in
-    page-puts (rest-end _ _ _ _ _ (l .loop-test .left) (q .part2 .ensures) (t .put-text2 .ensures) ∙ l .before .loop .inv .4)))  -- returns
+    page-puts (rest-end _ _ _ _ _ (l .loop-test .left) (q .part2 .ensures) (t .put-text2 .ensures) ∙ l .before .loop .inv .4)))

@@ -13,6 +13,6 @@ put-plural-spec =
     (λ c. search needs)  -- slice-aggregate-put-text-2
     (λ c κs. search needs)  -- put-text-requires-2
     (λ c. search needs)  -- same-length
-    (λ c. let p = c .before .before in rw (eq-eqb _ _ (p .before .before .before .if1 .taken)) (p .put-text .ensures))
+    (λ c. let p = c .before .before in rw (eq-eqb _ _ (p .before .before .before .if1 .taken)) (p .put-text .ensures))  -- returns
     (λ c. search needs)  -- same-length-2
-    (λ c. let p = c .before .before in rw (ne-eqb _ _ (p .before .before .before .if1 .left)) (p .put-text2 .ensures)))
+    (λ c. let p = c .before .before in rw (ne-eqb _ _ (p .before .before .before .if1 .left)) (p .put-text2 .ensures)))  -- returns-2

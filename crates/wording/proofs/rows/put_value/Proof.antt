@@ -27,7 +27,8 @@ put-value-spec =
     (λ c. search needs)  -- same-length-5
     (λ c. let p = c .before .before in rw (p .before .before .match .keys5) (p .put-plural .ensures))  -- returns-5
     (λ c. search needs)  -- same-length-6
+    -- returns-6
     (λ c.
     let p = c .before .before in
     let r = p .before .before .match .rest in
-    rw (ne-eqb _ _ (r .0 .0 .0 .0 .1), ne-eqb _ _ (r .0 .0 .0 .1), ne-eqb _ _ (r .0 .0 .1), ne-eqb _ _ (r .0 .1), ne-eqb _ _ (r .1)) (p .put-name .ensures)))  -- returns-6
+    rw (ne-eqb _ _ (r .0 .0 .0 .0 .1), ne-eqb _ _ (r .0 .0 .0 .1), ne-eqb _ _ (r .0 .0 .1), ne-eqb _ _ (r .0 .1), ne-eqb _ _ (r .1)) (p .put-name .ensures)))

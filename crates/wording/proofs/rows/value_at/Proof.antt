@@ -12,4 +12,4 @@ value-at-spec =
     (λ c. search needs)  -- mul-result
     (λ c. search needs)  -- shared-slice-read-result
     (λ c. search needs)  -- returns
-    (λ c. sym (List·getD-eq-default (c .before .args .values .now) 0 (c .if1 .left))))
+    (λ c. sym (List·getD-eq-default (c .before .args .values .now) 0 (c .if1 .left))))  -- returns-2

@@ -19,9 +19,7 @@ abbrev μ-loop : tie.MeasureT-loop
 pub put-ranged-spec : {M : Type 1} → statement M
 put-ranged-spec =
     tie.close
-    (tie.spec
-    Inv-loop
-    μ-loop
+    (tie.spec Inv-loop μ-loop
     (λ c. (refl, refl, refl))  -- loop-holds
     (λ c. search needs)  -- add-number1
     (λ c κs. search needs)  -- number1-requires
@@ -31,7 +29,7 @@ put-ranged-spec =
     (λ c. search needs)  -- mul-most
     (λ c. search needs)  -- array-read-most
     (λ c κs. search needs)  -- outside-requires
-    (λ c. search needs)  -- add-t16
+    (λ c. search needs)  -- add-t22
     (λ c. search needs)  -- slice-aggregate-put-line
     (λ c. search needs)  -- slice-aggregate-put-line-2
     (λ c κs. search needs)  -- put-line-requires

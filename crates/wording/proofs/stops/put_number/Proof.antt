@@ -8,7 +8,7 @@ pub put-number-spec : {M : Type 1} → statement M
 put-number-spec =
     tie.close
     (tie.spec
-    (λ c κs. search needs)
-    (λ c κs. search needs)
-    (λ c. search needs)
+    (λ c κs. search needs)  -- put-text-requires
+    (λ c κs. search needs)  -- put-decimal-requires
+    (λ c. search needs)  -- same-length
     (λ c. let p = c .before .before in put-then (p .before .before .before .before .put-text .ensures) (put-one (p .put-decimal .ensures))))  -- returns

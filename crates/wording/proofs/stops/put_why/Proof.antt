@@ -28,9 +28,9 @@ put-why-spec =
     (λ c. search needs)  -- enum-told-6
     (λ c κs. search needs)  -- put-unknown-requires
     (λ c. search needs)  -- enum-told-7
-    (λ c. search needs)  -- cast-t42
+    (λ c. search needs)  -- cast-t32
     (λ c κs. search needs)  -- length-of-requires
-    (λ c. search needs)  -- cast-t44
+    (λ c. search needs)  -- cast-t34
     (λ c κs. search needs)  -- behind-kind-requires
     (λ c. search needs)  -- slice-aggregate-put-line
     (λ c. search needs)  -- slice-aggregate-put-line-2
