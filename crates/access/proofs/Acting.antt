@@ -1,22 +1,21 @@
 -- The act of an accepted access on encoded slices: its line, its entry, its queue places, as `accept` says.
 use mathlib.Core.Path.{_≡_, refl, sym, ap, subst, _∙_}
-use mathlib.Core.Logic.{_⊎_, inl, inr, ⊎-elim, _≢_}
-use mathlib.Core.Bool.{Bool, true, false, not, _&&_, true≢false, false≢true}
+use mathlib.Core.Logic.{_⊎_, inl, inr, ⊎-elim}
+use mathlib.Core.Bool.{true, false, _&&_, false≢true}
 use mathlib.Core.List.{List, [], _∷_, _++_, map, append-nil, append-assoc}
-use Prim.Native.Nat.{ℕ, zero, suc, _+_, _*_, _≤_, _<_, _-_}
+use Prim.Native.Nat.{ℕ, _+_, _≤_, _<_, _-_}
 use native.Mathlib.Omega.{arith}
 use lib.ListN.{length, getD, set, length-set, length-append}
 use lib.Seq.{getD-set-same, set-set}
-use lib.Dec.{eqb}
 use borrow.Author.Tests.{eqb-true, eq-eqb, ne-eqb, leb-true}
 use Rattle.words.specs.Words.{any, count, one}
 use Rattle.model.specs.Range.{linesOf, isTree}
 use Rattle.model.specs.Tree.{levels, touchedTree}
-use Rattle.model.specs.Address.{addressOf, isRead, blockOf, sectorIndex, setIndex, lineNumber}
+use Rattle.model.specs.Address.{addressOf, isRead, blockOf, sectorIndex, setIndex}
 use Rattle.model.specs.Tables.{Line, Entry, Tables, entryFor, noEntry, fresh, withLines, withMisses, withQueue, withDirtyCount, withTrees}
-use Rattle.model.specs.Lent.{Lent, lent, sectorsAt, lineAt}
+use Rattle.model.specs.Lent.{Lent, lent, sectorsAt}
 use Rattle.words.specs.Regions.{put}
-use Rattle.model.specs.Probe.{Spot, waysOf, ruleOf}
+use Rattle.model.specs.Probe.{Spot}
 use Rattle.model.specs.Steps.{isMerge, isMiss, onSector, update, takesLine, join, onMisses, fetches, queues, placesNeeded, recounted, lineAfter, turnedFor}
 use Rattle.model.specs.declared.Settings.{Settings}
 use Rattle.model.specs.declared.Queued.{Queued}
@@ -30,11 +29,8 @@ use Rattle.model.proofs.SoundFacts.{Sound, parts, lines-are, queued-parts}
 use Rattle.words.proofs.Lists.{In, all-in, in-append, count-index}
 use Rattle.model.proofs.AccessKeepsSound.{Spotted}
 use Rattle.model.proofs.ProbeFindsSpot.{probe-spotted}
-use Rattle.model.proofs.Victims.{line-stays}
 use Rattle.model.proofs.Turning.{set-below}
-use Rattle.encoding.proofs.Bridge.{is-tables}
 use Rattle.encoding.proofs.Standing.{encode-stands}
-use Rattle.words.proofs.Tabled.{getD-table}
 use Rattle.layout.specs.declared.Layout.{Layout}
 use Rattle.layout.specs.Layout.{Placed}
 use Rattle.layout.proofs.ByBlocks.{ByBlocks, is-stands}
@@ -44,8 +40,6 @@ use Rattle.tables.proofs.Misses.{withTicket, unsent, append-stands, new-entry-s
 use Rattle.tables.proofs.Queue.{push-stands}
 use Rattle.words.proofs.Counting.{map-one}
 use Rattle.probe.specs.declared.Decision.{Decision}
-use Rattle.model.proofs.Ways.{way-line}
-use Rattle.probe.proofs.OfTables.{lines-held}
 use Rattle.access.specs.Plan.{Met, entryIndex, courseOf, goes, ticketOf}
 use Rattle.access.specs.Written.{sectorsFor, sectorsAfter, missesWritten, entryWritten, queueWritten, lineLeft, lineTaken, setTurned}
 use Rattle.access.specs.declared.course.Course.{Course}

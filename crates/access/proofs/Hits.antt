@@ -1,7 +1,7 @@
 -- A read that hits queues nothing and leaves the miss table, so none of refusals 7, 8 and 9 applies and two writes are all that
 -- `proceed` says: its line's cycle and the tree of its set.
-use mathlib.Core.Path.{_≡_, refl, sym, ap, _∙_}
-use mathlib.Core.Bool.{Bool, true, false, _&&_, false≢true}
+use mathlib.Core.Path.{_≡_, refl, ap, _∙_}
+use mathlib.Core.Bool.{true, false, _&&_, false≢true}
 use mathlib.Core.List.{List, [], _∷_}
 use Prim.Native.Nat.{ℕ, _+_}
 use native.Mathlib.Omega.{arith}

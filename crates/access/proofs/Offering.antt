@@ -1,15 +1,13 @@
 -- An access by its parts: the place decides between a refusal and an offer, the course between a refusal and the act.
-use mathlib.Core.Path.{_≡_, refl, sym, ap, subst, _∙_}
-use mathlib.Core.Bool.{Bool, true, false, true≢false, false≢true}
+use mathlib.Core.Path.{_≡_, refl, sym, ap, _∙_}
+use mathlib.Core.Bool.{true, false, true≢false, false≢true}
 use mathlib.Core.List.{List}
 use Prim.Native.Nat.{ℕ}
-use native.Mathlib.Omega.{arith}
-use lib.ListN.{length}
 use Rattle.model.specs.Address.{addressOf, wellFormed}
 use Rattle.model.specs.Tables.{Line, Tables, refused}
 use Rattle.model.specs.Lent.{Lent, lent}
 use Rattle.model.specs.Inner.{Encodes}
-use Rattle.model.specs.Probe.{Spot, no, at, probe, waysOf, metIn}
+use Rattle.model.specs.Probe.{Spot, no, at, waysOf, metIn}
 use Rattle.model.specs.Steps.{access, proceed, accept}
 use Rattle.model.specs.Calls.{Leaves, encoded}
 use Rattle.model.specs.declared.Settings.{Settings}

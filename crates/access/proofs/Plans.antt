@@ -1,15 +1,13 @@
 -- The course of an access: the entry that a merged read joins, and that the course tells what `proceed` comes to.
 use mathlib.Core.Path.{_≡_, refl, sym, ap, _∙_}
-use mathlib.Core.Logic.{_⊎_, inl, inr, _≢_}
-use mathlib.Core.Bool.{Bool, true, false, not, _&&_, _||_, true≢false, false≢true, or-false}
-use mathlib.Core.List.{List, [], _∷_, _++_, map}
-use Prim.Native.Nat.{ℕ, zero, suc, _+_, _*_, _≤_, _<_}
-use native.Mathlib.Nat.{not-suc-le-zero, le-of-suc-le-suc}
+use mathlib.Core.Bool.{Bool, true, false, _&&_, _||_, true≢false, false≢true, or-false}
+use mathlib.Core.List.{List, [], _∷_}
+use Prim.Native.Nat.{ℕ, suc, _+_, _≤_, _<_}
 use native.Mathlib.Omega.{arith}
 use native.Mathlib.Decide.{decLe}
-use lib.ListN.{length, getD, set}
-use lib.Dec.{eqb, leb, ltb}
-use borrow.Author.Tests.{eqb-true, eq-eqb, le-leb, lt-leb, leb-true, leb-false, ltb-false, ne-eqb}
+use lib.ListN.{length, getD}
+use lib.Dec.{leb, ltb}
+use borrow.Author.Tests.{eqb-true, eq-eqb, le-leb, lt-leb, leb-true}
 use Rattle.words.specs.Words.{pick, any, count}
 use Rattle.model.specs.Range.{inRange}
 use Rattle.model.specs.Address.{addressOf, isRead, sectorIndex, wellFormed}
@@ -21,8 +19,7 @@ use Rattle.model.specs.declared.Access.{Access}
 use Rattle.model.specs.declared.Answer.{Answer}
 use Rattle.model.specs.declared.Answer.the-variants.{Hit, HitReserved, Miss, SectorMiss}
 use Rattle.model.specs.declared.Refusal.the-variants.{QueueFull, EntryFull, MissTableFull}
-use Rattle.words.proofs.Flags.{and-1}
-use Rattle.words.proofs.Lists.{any-in, in-getD, count-in, count-index}
+use Rattle.words.proofs.Lists.{any-in, count-in, count-index}
 use Rattle.model.proofs.SoundFacts.{Sound, parts, entry-at, some-tickets, address-is, sector-aligned, sector-below}
 use Rattle.model.proofs.AccessKeepsSound.{Spotted, formed-good}
 use Rattle.model.proofs.ProbeFindsSpot.{probe-spotted}
@@ -35,7 +32,6 @@ use Rattle.layout.proofs.ByBlocks.{is-stands}
 use Rattle.tables.proofs.Queue.{queue-used}
 use Rattle.tables.proofs.Misses.{misses-used, count-at, entry-found, entry-missing}
 use Rattle.access.specs.Plan.{entryIndex, ticketsAt, joining, starting, courseOf, following}
-use Rattle.access.specs.declared.course.Course.{Course}
 use Rattle.access.specs.declared.course.Course.the-variants.{Refused, Stays, Joins, Starts}
 
 -- ---- the first entry for an address

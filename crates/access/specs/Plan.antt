@@ -1,6 +1,6 @@
 -- The course of an access whose place is known: refused by the queue or the miss table, or what becomes of the miss table.
 use mathlib.Core.Path.{_≡_}
-use Prim.Native.Nat.{ℕ, zero, suc, _+_, _≤_, _<_}
+use Prim.Native.Nat.{ℕ, suc, _+_, _<_}
 use mathlib.Core.Bool.{Bool, true, false, _&&_}
 use mathlib.Core.List.{List, [], _∷_}
 use lib.ListN.{length, getD}
@@ -10,7 +10,7 @@ use Rattle.model.specs.Address.{addressOf, isRead, wellFormed, lineNumber}
 use Rattle.model.specs.Range.{linesOf}
 use Rattle.model.specs.Tables.{Entry, Tables, Outcome, refused, entryFor, noEntry}
 use Rattle.model.specs.Lent.{Lent}
-use Rattle.model.specs.Probe.{Spot, at, probe, waysOf, metIn}
+use Rattle.model.specs.Probe.{Spot, at, waysOf, metIn}
 use Rattle.model.specs.Steps.{isMerge, isMiss, placesNeeded, accept, proceed}
 use Rattle.model.specs.Calls.{Leaves, encoded}
 use Rattle.model.specs.Inner.{Encodes}

@@ -10,7 +10,7 @@ use Rattle.model.specs.Range.{isTree}
 use Rattle.model.specs.Tree.{levels, touchedTree}
 use Rattle.model.specs.Address.{addressOf, isRead, sectorIndex}
 use Rattle.model.specs.Tables.{empty, reading}
-use Rattle.model.specs.Lent.{Lent, lent, sectorsAt}
+use Rattle.model.specs.Lent.{Lent, lent}
 use Rattle.words.specs.Regions.{put}
 use Rattle.model.specs.Steps.{isMiss, takesLine, onSector}
 use Rattle.model.specs.Calls.{inTwo}

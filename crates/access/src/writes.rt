@@ -2,8 +2,8 @@
 // tree of its set, the miss table, the queue. Then what it tells. A read and a write each have their own, so that no write asks which
 // it is. Last a read that hits, which needs two of these writes.
 ghost use mathlib.Core.Path.{_≡_};
-ghost use Prim.Native.Nat.{ℕ, _+_, _*_, _≤_, _<_};
-ghost use mathlib.Core.List.{List, [], _∷_};
+ghost use Prim.Native.Nat.{_+_, _*_, _≤_, _<_};
+ghost use mathlib.Core.List.{[], _∷_};
 ghost use lib.ListN.{length, getD};
 ghost use Rattle.words.specs.Regions.{put};
 ghost use Rattle.model.specs.Address.{isRead, addressOf, blockOf, setIndex};

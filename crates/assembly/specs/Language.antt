@@ -1,7 +1,7 @@
 -- What a line means: words and numbers in order, each number within its field, a comment from `#` on.
 --     settings sets N ways N dirty N misses N readers N queue N        settings .. queue N rule RULE, a RULE being a name or a number
 --     read ADDRESS ticket N        write ADDRESS mask N        send        fill ADDRESS        tick CYCLE
-use Prim.Native.Nat.{ℕ, _^_}
+use Prim.Native.Nat.{ℕ}
 use mathlib.Core.Bool.{Bool, _&&_}
 use mathlib.Core.List.{List}
 use lib.Dec.{eqb, leb}

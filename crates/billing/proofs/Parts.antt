@@ -1,6 +1,6 @@
 -- The events of a log one after the other: a step goes on, and how many steps are allowed does not matter once they are enough.
 use mathlib.Core.Path.{_≡_, refl, sym, ap, _∙_}
-use mathlib.Core.List.{List, [], _∷_}
+use mathlib.Core.List.{List}
 use Prim.Native.Nat.{ℕ, zero, suc, _+_, _-_, _≤_, _<_}
 use native.Mathlib.Omega.{arith}
 use lib.ListN.{length}
@@ -10,11 +10,10 @@ use Rattle.records.specs.declared.Item.the-variants as item
 use Rattle.records.specs.Items.{itemAt}
 use Rattle.records.proofs.Items.{Past, item-end, item-past}
 use Rattle.billing.specs.declared.Bill.{Bill}
-use Rattle.billing.specs.declared.Billed.{Billed}
 use Rattle.billing.specs.declared.Step.{Step}
 use Rattle.billing.specs.declared.Step.the-variants.{Next, Stop}
 use Rattle.billing.specs.Bills.{addedTo, allAdded}
-use Rattle.billing.specs.Logs.{stepOf, stepAt, Part, behind, nothingAt, partBy, stepEnd, partFrom, partOf, billedLog}
+use Rattle.billing.specs.Logs.{stepOf, stepAt, behind, nothingAt, partBy, stepEnd, partFrom, partOf, billedLog}
 
 -- ---- one step
 

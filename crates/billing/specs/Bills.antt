@@ -1,6 +1,6 @@
 -- Bills: a sum at each place, and whether one would have passed 64 bits; what an event and a list of events make of one.
 use Prim.Native.Nat.{ℕ, _+_, _*_, _/_, _^_}
-use mathlib.Core.Bool.{Bool, true, false}
+use mathlib.Core.Bool.{true, false}
 use mathlib.Core.List.{List, [], _∷_}
 use lib.ListN.{getD, set, replicate}
 use lib.Dec.{eqb, ltb}

@@ -1,9 +1,9 @@
 -- A turn goes on: what is left falls.
 use mathlib.Core.Path.{_≡_, refl, sym, ap, _∙_}
-use mathlib.Core.Logic.{_⊎_, inl, inr, ⊎-elim}
+use mathlib.Core.Logic.{⊎-elim}
 use mathlib.Core.Bool.{Bool, true, false}
 use mathlib.Core.List.{List}
-use Prim.Native.Nat.{ℕ, _+_, _-_, _*_, _^_, _≤_, _<_}
+use Prim.Native.Nat.{ℕ, _+_, _-_, _^_, _≤_, _<_}
 use native.Mathlib.Omega.{arith}
 use lib.ListN.{length}
 use Rattle.words.specs.Words.{pick}
@@ -20,7 +20,7 @@ use Rattle.compare.specs.declared.turns.Pass.{Pass}
 use Rattle.compare.specs.declared.turns.Turned.{Turned}
 use Rattle.compare.specs.declared.listing.Work.{Work}
 use Rattle.compare.specs.declared.showing.Shown.{Shown}
-use Rattle.compare.specs.Lines.{PutTo, PutWhere, Quiet, Lists}
+use Rattle.compare.specs.Lines.{PutWhere, Quiet, Lists}
 use Rattle.compare.specs.Windows.{unread, waitingIn, movedBy, Sound, Grown, Fed, leftOf}
 use Rattle.compare.specs.Turns.{begun, turned, nextStep, Comes, Ready, going, left, Goes}
 use Rattle.compare.proofs.Feeding.{moved-sound, moved-left}

@@ -1,7 +1,7 @@
 -- Which turns put lines: the end of a pair that differs, and no other.
 use Prim.Native.Nat.{ℕ, _<_}
 use mathlib.Core.Path.{_≡_}
-use mathlib.Core.Bool.{Bool, true, false}
+use mathlib.Core.Bool.{true, false}
 use Rattle.comparing.specs.declared.Step.{Step}
 use Rattle.comparing.specs.declared.Step.the-variants as step
 use Rattle.compare.specs.declared.showing.Shown.{Shown}

@@ -5,7 +5,7 @@ use mathlib.Core.Logic.{_⊎_}
 use mathlib.Core.Bool.{Bool, true, false}
 use mathlib.Core.List.{List}
 use lib.ListN.{length, take, drop}
-use lib.Dec.{leb, ltb}
+use lib.Dec.{ltb}
 use Rattle.words.specs.Words.{pick}
 use Rattle.compare.specs.declared.reading.Window.{Window}
 use Rattle.compare.specs.declared.reading.Topped.{Topped}

@@ -1,7 +1,7 @@
 // A pair that differs, record by record: a second reading of both logs, which follows the first one up to that pair.
 ghost use mathlib.Core.Path.{_≡_};
 ghost use lib.ListN.{length};
-ghost use Rattle.compare.specs.Turns.{begun, no, yes, Ready, Goes};
+ghost use Rattle.compare.specs.Turns.{begun, no, Ready, Goes};
 ghost use Rattle.compare.specs.Lines.{PutTo, PutWhere};
 use crate::page;
 use crate::page::Page;

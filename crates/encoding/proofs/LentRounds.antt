@@ -1,14 +1,14 @@
 -- The rounds of demand 3 on lent slices: those on the tables, with every table encoded. So what holds of the tables' rounds holds of
 -- the slices'.
 use mathlib.Core.Path.{_≡_, refl, ap, _∙_}
-use mathlib.Core.Logic.{_⊎_, inl, inr, ⊎-elim}
-use mathlib.Core.Bool.{Bool, true, false}
+use mathlib.Core.Logic.{inl, inr, ⊎-elim}
+use mathlib.Core.Bool.{true}
 use mathlib.Core.List.{List, [], _∷_, map}
 use Prim.Native.Nat.{ℕ, zero, suc, _+_}
 use lib.ListN.{List·getD-map}
 use Rattle.model.specs.declared.Settings.{Settings}
 use Rattle.model.specs.declared.Access.{Access}
-use Rattle.words.specs.Words.{pick, any}
+use Rattle.words.specs.Words.{any}
 use Rattle.model.specs.Range.{inRange}
 use Rattle.model.specs.Tables.{Entry, Tables, Outcome, refused, done, after, accepted}
 use Rattle.model.specs.Lent.{Lent, encode, tablesOf}
@@ -16,7 +16,7 @@ use Rattle.model.specs.Sound.{sound}
 use Rattle.model.specs.Steps.{access, send, fill}
 use Rattle.model.specs.Calls.{encoded}
 use Rattle.model.specs.Inner.{Encodes}
-use Rattle.model.specs.Rounds.{steps, calls, Turn, still, took, andThen, Run, goOn, isEmpty, sendTurn, fillFirst, drain, rounds, heldIn, waits, Settles}
+use Rattle.model.specs.Rounds.{steps, calls, Turn, took, andThen, Run, goOn, isEmpty, sendTurn, fillFirst, drain, rounds, heldIn, waits, Settles}
 use Rattle.encoding.proofs.Bridge.{tables-of-encode, call-on}
 use Rattle.model.proofs.SeenRounds.{took-left}
 use Rattle.words.proofs.Flags.{flag}

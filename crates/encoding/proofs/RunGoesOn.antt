@@ -1,9 +1,8 @@
 -- A run that goes on: what its check passes; on the encoding of sound tables it is the run on those tables.
-use mathlib.Core.Path.{_≡_, refl, ap}
-use mathlib.Core.Bool.{Bool, true, false}
+use mathlib.Core.Path.{_≡_, refl}
+use mathlib.Core.Bool.{true, false}
 use mathlib.Core.List.{List}
 use Prim.Native.Nat.{ℕ}
-use Rattle.words.specs.Words.{pick}
 use Rattle.model.specs.Range.{inRange}
 use Rattle.model.specs.Tables.{Tables}
 use Rattle.model.specs.Lent.{Lent, lengthsFit, tablesOf}

@@ -2,13 +2,13 @@
 -- stream of bytes; the same of a run that goes on.
 use mathlib.Core.Path.{_≡_, refl, sym, ap, _∙_}
 use mathlib.Core.Logic.{⊎-elim}
-use mathlib.Core.Bool.{Bool, true, false}
+use mathlib.Core.Bool.{true, false}
 use mathlib.Core.List.{List, [], _∷_}
 use Prim.Native.Nat.{ℕ, zero, suc, _+_, _-_}
 use lib.ListN.{length, take}
 use lib.Dec.{ltb}
 use Rattle.model.specs.Range.{inRange}
-use Rattle.model.specs.Tables.{Tables, Outcome, start, after, eventsOf}
+use Rattle.model.specs.Tables.{Tables, start, after, eventsOf}
 use Rattle.model.specs.Lent.{Lent, lengthsFit, tablesOf, encode}
 use Rattle.model.specs.SoundLent.{Small}
 use Rattle.model.specs.Steps.{access, send, fill, tick}

@@ -6,7 +6,7 @@ use mathlib.Core.Bool.{Bool, true, false, not, _&&_, _||_, false≢true, and-fal
 use mathlib.Core.List.{List, [], _∷_, _++_}
 use native.Mathlib.Omega.{arith}
 use native.Mathlib.Nat.{add-zero}
-use lib.ListN.{length, getD, set, length-map, length-set, length-append}
+use lib.ListN.{length, getD, length-map, length-set, length-append}
 use lib.Seq.{getD-set-same, getD-set-other}
 use lib.Bits.{bitOr, or-lt, or-add-and, and-le-l}
 use lib.Dec.{leb, ltb, eqb}

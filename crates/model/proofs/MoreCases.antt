@@ -1,7 +1,7 @@
 -- More accesses, made as the fourteen are: one for each rule of document 01 that those leave open, and some under each replacement rule.
 -- A table and a statement each.
 use mathlib.Core.Path.{_≡_, refl}
-use mathlib.Core.List.{List, map}
+use mathlib.Core.List.{map}
 use Rattle.words.specs.Words.{table, fit, packed}
 use Rattle.model.specs.Range.{inRange}
 use Rattle.model.specs.Lent.{tablesOf, encode}
@@ -10,7 +10,7 @@ use Rattle.model.specs.Probe.{probe, ruleOf}
 use Rattle.model.specs.Steps.{access, proceed, accept, send, fill, fillLine, tick}
 use Rattle.model.specs.Calls.{call}
 use Rattle.model.specs.Tree.{bit, withBit, goes, descent, turned, levels}
-use Rattle.model.specs.Cases.{Case, moreCases, ruleCases, seenOf, Turned, turnedBy, treeCases, treesLeft}
+use Rattle.model.specs.Cases.{Case, moreCases, ruleCases, seenOf, turnedBy, treeCases, treesLeft}
 
 pub more-cases : map seenOf moreCases ≡ map (λ (c : Case). c .sees) moreCases
 unfolding table fit packed inRange tablesOf encode soundNumbers ruleOf probe access proceed accept send fill fillLine tick call

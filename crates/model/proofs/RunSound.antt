@@ -18,7 +18,6 @@ use Rattle.model.specs.RunnerOf as runner
 use Rattle.model.specs.Runner.{commandMask, settingsOf, firstStop, laterStop, goesOn, stepRead, stepAt, Result, runFrom, run}
 use Rattle.model.specs.Inner.{SoundSlices}
 use Rattle.model.specs.declared.Settings.{Settings}
-use Rattle.model.specs.declared.Command.the-variants as cmd
 use Rattle.model.specs.declared.CommandRead.{CommandRead}
 use Rattle.model.specs.declared.CommandRead.the-variants as command
 use Rattle.model.specs.declared.Stop.{Stop}

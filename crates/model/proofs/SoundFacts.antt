@@ -22,8 +22,6 @@ use Rattle.model.specs.declared.Status.the-variants.{Invalid, Reserved, 
 use Rattle.words.proofs.Flags.{and-1, and-2, and-i, not-yes, same-is}
 use Rattle.words.proofs.Lists.{In, all-in, count-one, count-index, in-index, in-getD}
 use Rattle.words.proofs.Below.{every-at}
-use mathlib.Core.Logic.{⊎-elim}
-use Rattle.words.proofs.Flags.{flag}
 
 -- ---- the records, and their tests both ways
 

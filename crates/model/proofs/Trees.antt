@@ -2,7 +2,7 @@
 -- others, and sets no bit beyond the nodes in use. Then the worked examples.
 use mathlib.Core.Path.{_≡_, refl, sym, ap, subst, _∙_}
 use mathlib.Core.Logic.{_⊎_, inl, inr, ⊎-elim}
-use mathlib.Core.Bool.{Bool, true, false, not, _&&_}
+use mathlib.Core.Bool.{Bool, true, false, _&&_}
 use mathlib.Core.List.{List, [], _∷_}
 use Prim.Native.Nat.{ℕ, zero, suc, _+_, _*_, _-_, _/_, _%_, _^_, _≤_, _<_}
 use native.Mathlib.Nat.{pow-suc, mul-assoc, add-mul, add-zero, mul-le-mul, eq-or-lt-of-le, le-of-suc-le-suc}
@@ -10,7 +10,7 @@ use native.Mathlib.Omega.{arith}
 use lib.Pow.{pow-pos, high}
 use lib.Dec.{eqb, leb, ltb}
 use borrow.Author.Tests.{eqb-true, ltb-true, lt-ltb, ltb-false, leb-true, leb-false}
-use Rattle.words.specs.Words.{pick, any}
+use Rattle.words.specs.Words.{pick}
 use Rattle.model.specs.Tree.{bit, withBit, isIn, named, pointed, someFrom, goes, descent, treeChoice, sideOf, turned, touchedTree, powerTo16, halvings, levels, treeFine}
 use Rattle.model.specs.declared.Found.{Found}
 use Rattle.model.specs.declared.Found.the-variants.{At, Nothing}

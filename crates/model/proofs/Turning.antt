@@ -1,13 +1,13 @@
 -- L9: the trees that an accepted access leaves: as many, and each with bits in use alone.
 use Prim.Native.Nat.{ℕ, _/_, _<_}
 use mathlib.Core.Path.{_≡_, refl}
-use mathlib.Core.Bool.{Bool, true, false}
+use mathlib.Core.Bool.{true}
 use mathlib.Core.List.{List}
 use native.Mathlib.Nat.{mod-lt}
-use lib.ListN.{length, getD, set, length-set}
+use lib.ListN.{length, getD, length-set}
 use Rattle.words.specs.Words.{all}
 use Rattle.model.specs.Range.{inRange, isTree}
-use Rattle.model.specs.Tree.{powerTo16, levels, touchedTree, treeFine}
+use Rattle.model.specs.Tree.{powerTo16, treeFine}
 use Rattle.model.specs.Address.{setIndex}
 use Rattle.model.specs.Steps.{turnedFor}
 use Rattle.model.specs.declared.Settings.{Settings}

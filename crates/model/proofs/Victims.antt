@@ -9,11 +9,11 @@ use lib.ListN.{length, getD, length-append}
 use lib.Dec.{eqb, leb}
 use borrow.Author.Tests.{eqb-true, leb-true, leb-false}
 use Rattle.words.specs.Words.{pick}
-use Rattle.model.specs.Address.{blockOf, addressOf, isRead}
-use Rattle.model.specs.Tables.{Line, writing, Tables, Outcome, refused, done, after, isReserved, isModified, whollyInvalid, hasReserved, dirty, holds, fresh}
+use Rattle.model.specs.Address.{blockOf, addressOf}
+use Rattle.model.specs.Tables.{Line, writing, Tables, done, isReserved, isModified, whollyInvalid, hasReserved, dirty, holds, fresh}
 use Rattle.model.specs.Sound.{maskOk, sectorOk, sound}
 use Rattle.model.specs.Tree.{treeChoice, levels}
-use Rattle.model.specs.Probe.{waysOf, enoughDirty, candidate, first, last, earliest, Rule, byKey, byTree, choiceBy, orElse, victim, Spot, at, writeBack, takeOver, meet, probe, ruleOf}
+use Rattle.model.specs.Probe.{waysOf, enoughDirty, candidate, first, last, earliest, Rule, byKey, byTree, choiceBy, orElse, victim, Spot, at, takeOver, meet, probe, ruleOf}
 use Rattle.model.specs.Steps.{takesLine, fetches, queues, placesNeeded, accept, access}
 use Rattle.model.specs.Meetings.{Matched, Replaced, Queues}
 use Rattle.model.specs.declared.Settings.{Settings}
@@ -22,12 +22,11 @@ use Rattle.model.specs.declared.Status.the-variants.{Invalid, Reserved, 
 use Rattle.model.specs.declared.Sector.{Sector}
 use Rattle.model.specs.declared.Queued.{Queued}
 use Rattle.model.specs.declared.Answer.the-variants.{Miss}
-use Rattle.model.specs.declared.Refusal.{Refusal}
 use Rattle.model.specs.declared.Access.{Access}
 use Rattle.model.specs.declared.Event.{Event}
 use Rattle.model.specs.declared.Found.{Found}
 use Rattle.model.specs.declared.Found.the-variants.{At, Nothing}
-use Rattle.words.proofs.Flags.{and-1, and-2, and-i, flag, not-yes, no-yes, clash, by-flag}
+use Rattle.words.proofs.Flags.{and-1, and-2, and-i, flag, not-yes, no-yes, clash}
 use Rattle.words.proofs.Lists.{In, all-in, in-any, in-getD}
 use Rattle.model.proofs.SoundFacts.{parts, sectors-at}
 use Rattle.model.proofs.Ways.{Finds, last-finds, victim-finds, Last, last-is-last, Least, earliest-is-least, way-in}

@@ -1,7 +1,6 @@
 -- The calls on lent tables: refusals 1, 2 and 3 in front of each step, and what a call's value tells.
 use mathlib.Core.Path.{_≡_}
 use Prim.Native.Nat.{ℕ}
-use mathlib.Core.Bool.{Bool, true, false, _||_}
 use mathlib.Core.List.{List, [], _∷_, _++_, map}
 use lib.ListN.{length, take, replicate}
 use Rattle.words.specs.Words.{pick, fit}
@@ -12,7 +11,6 @@ use Rattle.model.specs.SoundLent.{soundLent}
 use Rattle.model.specs.Steps.{queuedEvent, access, send, fill, tick}
 use Rattle.model.specs.declared.Settings.{Settings}
 use Rattle.model.specs.declared.Access.{Access}
-use Rattle.model.specs.declared.Refusal.{Refusal}
 use Rattle.model.specs.declared.Refusal.the-variants.{SettingOutOfRange, SliceLength, NotSound}
 use Rattle.model.specs.declared.Event.{Event}
 use Rattle.model.specs.declared.Event.the-variants.{Released}

@@ -1,6 +1,5 @@
 -- L3, "on sound tables no answer changes": what an access met and came to before the tables kept the count, by the dirty lines of the
 -- whole cache, counted. That it is the same on sound tables is in proofs.
-use mathlib.Core.Bool.{Bool}
 use Rattle.words.specs.Words.{pick}
 use Rattle.model.specs.Address.{addressOf, wellFormed}
 use Rattle.model.specs.Tables.{Tables, Outcome, refused, dirtyLines}

@@ -1,12 +1,11 @@
 -- How the tables stand in the three lent slices, whose regions are in Layout: the numbers by place, the tables read off them, and the
 -- slices that tables give.
-use mathlib.Core.Path.{_≡_}
-use Prim.Native.Nat.{ℕ, zero, suc, _+_, _*_}
+use Prim.Native.Nat.{ℕ, _+_, _*_}
 use mathlib.Core.Bool.{Bool, true, false, not, _&&_}
-use mathlib.Core.List.{List, [], _∷_, _++_, map}
+use mathlib.Core.List.{List, [], _∷_, map}
 use lib.ListN.{length, getD}
 use lib.Dec.{eqb}
-use Rattle.words.specs.Words.{pick, table, countBelow, packed, joined}
+use Rattle.words.specs.Words.{table, countBelow, packed, joined}
 use Rattle.model.specs.Numbers.{statusNumber, statusOf, queueKindNumber, queueKindOf}
 use Rattle.model.specs.Range.{linesOf}
 use Rattle.model.specs.Layout.{longsLength, wordsLength, marksLength, longsFrom, wordsFrom, marksFrom, missRegion, queueRegion, maskRegion, ticketRegion, queueMaskRegion, readableRegion, sentRegion, ticketCountRegion, kindRegion, dirtyCountRegion, takenRegion, treeRegion}

@@ -1,7 +1,7 @@
 -- "The modelled cache": the settings in range.
 use Prim.Native.Nat.{ℕ, _*_}
 use mathlib.Core.Bool.{Bool, _&&_, _||_}
-use mathlib.Core.List.{List, [], _∷_}
+use mathlib.Core.List.{[], _∷_}
 use lib.Dec.{eqb, leb}
 use Rattle.words.specs.Words.{any, within}
 use Rattle.model.specs.Tree.{powerTo16}

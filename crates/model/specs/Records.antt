@@ -5,7 +5,6 @@ use mathlib.Core.List.{List}
 use Rattle.model.specs.Format.{current}
 use Rattle.model.specs.Format as format
 use Rattle.model.specs.RecordsOf as records
-use Rattle.model.specs.declared.Settings.{Settings}
 use Rattle.model.specs.declared.Event.{Event}
 use Rattle.model.specs.declared.Command.{Command}
 use Rattle.model.specs.declared.EventRead.{EventRead}

@@ -1,14 +1,14 @@
 -- "Records", the runner, over a format: the checks at a record, what a record does, the run of a stream as a fold over its bytes.
 use Prim.Native.Nat.{ℕ, zero, suc, _+_, _-_}
 use mathlib.Core.Path.{_≡_}
-use mathlib.Core.Bool.{Bool, true, false, not}
+use mathlib.Core.Bool.{Bool}
 use mathlib.Core.List.{List, [], _∷_, _++_}
-use lib.ListN.{length, take, drop, getD}
+use lib.ListN.{length, take, drop}
 use lib.Dec.{ltb, eqb}
 use Rattle.words.specs.Words.{pick}
 use Rattle.model.specs.Numbers.{stopNumber}
 use Rattle.model.specs.Range.{inRange}
-use Rattle.model.specs.Tables.{Tables, start, Outcome, refused, done, after, eventsOf}
+use Rattle.model.specs.Tables.{Tables, start, Outcome, refused, after, eventsOf}
 use Rattle.model.specs.Lent.{Lent, lengthsFit, tablesOf, encode}
 use Rattle.model.specs.SoundLent.{soundLent}
 use Rattle.model.specs.Steps.{access, send, fill, tick}

@@ -1,10 +1,10 @@
 -- "Sound tables", of the numbers in the three lent slices, whatever they are: conditions 1 to 29, each beside document 01's words.
 -- The check of refusal 3 computes `soundLent`. proofs/ ties it to Sound: sound slices are the encoding of sound tables.
-use Prim.Native.Nat.{ℕ, _+_, _*_, _-_, _/_, _%_, _^_, _≤_}
-use mathlib.Core.Bool.{Bool, true, false, not, _&&_, _||_}
+use Prim.Native.Nat.{ℕ, _+_, _*_, _-_, _/_, _%_, _≤_}
+use mathlib.Core.Bool.{Bool, not, _&&_, _||_}
 use mathlib.Core.List.{List}
 use lib.ListN.{getD}
-use lib.Dec.{eqb, leb, ltb}
+use lib.Dec.{eqb, leb}
 use Rattle.words.specs.Words.{imp, every, some, countBelow}
 use Rattle.model.specs.Range.{linesOf, isTree}
 use Rattle.model.specs.Tree.{treeFine}

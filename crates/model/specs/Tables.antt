@@ -1,7 +1,7 @@
 -- "The modelled cache": the tables as a reader of document 01 sees them. Lines of four sectors, miss entries, the queue, the current
 -- cycle; what a call comes to. How they stand in the lent slices is in Lent.
-use Prim.Native.Nat.{ℕ, _*_}
-use mathlib.Core.Bool.{Bool, true, false, not, _&&_, _||_}
+use Prim.Native.Nat.{ℕ}
+use mathlib.Core.Bool.{Bool, true, false, not, _&&_}
 use mathlib.Core.List.{List, [], _∷_}
 use lib.ListN.{replicate}
 use lib.Dec.{eqb}

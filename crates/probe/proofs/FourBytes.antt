@@ -1,14 +1,14 @@
 -- Four bytes as one number: a bit operation works on each byte apart, so that one test of the number asks each status byte.
-use Prim.Native.Nat.{ℕ, zero, suc, _+_, _*_, _^_, _<_}
-use mathlib.Core.Path.{_≡_, refl, sym, ap, _∙_}
+use Prim.Native.Nat.{ℕ, _+_, _*_, _^_, _<_}
+use mathlib.Core.Path.{_≡_, refl, ap, _∙_}
 use mathlib.Core.Bool.{Bool, true, false, not, _&&_, _||_}
 use mathlib.Core.List.{List}
 use native.Mathlib.Omega.{arith}
 use lib.Bits.{bitAnd, bitOr, bitXor, and-le-r, or-lt, xor-lt, and-block, or-block, xor-block}
 use lib.ListN.{getD}
 use lib.Dec.{eqb, ltb}
-use borrow.Author.Tests.{eqb-true, ne-eqb}
-use Rattle.words.specs.Words.{pick, every, same}
+use borrow.Author.Tests.{eqb-true}
+use Rattle.words.specs.Words.{pick, same}
 use Rattle.words.proofs.Flags.{and-1, and-2, same-is}
 use Rattle.words.proofs.Below.{every-at}
 use Rattle.tables.specs.Raw.{fourBytes, statusesAt}

@@ -12,7 +12,7 @@ use Rattle.model.specs.Tree.{powerTo16}
 use Rattle.model.specs.Address.{addressOf, blockOf, sectorIndex, setIndex}
 use Rattle.model.specs.Tables.{Line, writing, empty, fresh, emptied}
 use Rattle.model.specs.Lent.{tagAt, dirtyCountAt}
-use Rattle.model.specs.Probe.{no, at, answerOf, waysOf, enoughDirty, victim, writeBack, takeOver, meet, probe}
+use Rattle.model.specs.Probe.{no, at, answerOf, waysOf, enoughDirty, writeBack, takeOver, meet, probe}
 use Rattle.model.specs.Inner.{Fit}
 use Rattle.model.specs.declared.Settings.{Settings}
 use Rattle.model.specs.declared.Queued.{Queued}

@@ -1,12 +1,11 @@
 -- For a caller whose slices hold the tables t: the lines and their dirty count are those that `decide` speaks of, and its value is
 -- what the access meets in t.
-use Prim.Native.Nat.{ℕ, _*_, _<_}
+use Prim.Native.Nat.{ℕ, _<_}
 use mathlib.Core.Path.{_≡_, sym, ap, subst, _∙_}
 use mathlib.Core.List.{List}
-use lib.ListN.{getD, drop}
-use lib.Seq.{getD-take, getD-drop}
-use Rattle.model.specs.Address.{addressOf, setIndex, lineNumber}
-use Rattle.model.specs.Tables.{Line, Tables, fresh}
+use lib.ListN.{getD}
+use Rattle.model.specs.Address.{addressOf, setIndex}
+use Rattle.model.specs.Tables.{Line, Tables}
 use Rattle.model.specs.Lent.{Lent, tablesOf, dirtyCountAt, treeAt}
 use Rattle.words.specs.Words.{pick}
 use Rattle.model.specs.Range.{isTree}

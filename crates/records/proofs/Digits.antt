@@ -1,7 +1,7 @@
 -- Little-endian numbers: the readers by halves, there and back at every width.
 use mathlib.Core.Path.{_≡_, refl, sym, ap, _∙_}
 use mathlib.Core.List.{List, [], _∷_, _++_}
-use Prim.Native.Nat.{ℕ, zero, suc, _+_, _-_, _*_, _/_, _%_, _^_, _≤_, _<_}
+use Prim.Native.Nat.{ℕ, zero, suc, _+_, _*_, _/_, _%_, _^_, _≤_, _<_}
 use native.Mathlib.Nat.{zero-add, suc-add, mul-comm, mod-lt, div-one, div-add-mod', div-lt-iff-lt-mul, div-div-eq-div-mul, pow-suc, pow-zero, one-le-pow}
 use native.Mathlib.Numerals.{towards-suc}
 use native.Mathlib.Omega.{arith}

@@ -9,7 +9,7 @@ use native.Mathlib.Omega.{arith}
 use borrow.Author.Tests.{le-leb, leb-true, ltb-true, eqb-true}
 use lib.Dec.{leb, ltb, eqb}
 use lib.ListN.{length, getD}
-use Rattle.words.specs.Words.{all, any, keep, fit}
+use Rattle.words.specs.Words.{all, any, keep}
 use Rattle.model.specs.Range.{inRange, linesOf}
 use Rattle.model.specs.Address.{addressOf, isRead, goodSector, goodBlock, wellFormed}
 use Rattle.model.specs.Tables.{Entry, reading, Tables, Outcome, after, eventsOf, entryFor, withMisses}

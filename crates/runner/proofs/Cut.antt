@@ -16,16 +16,14 @@ use Rattle.model.specs.Sound.{sound}
 use Rattle.model.specs.Records.{bytes, lengthOf}
 use Rattle.model.specs.RunnerOf as runner
 use Rattle.model.specs.Runner.{settingsOf, firstStop, keptStop, goesOn, Result, ahead, runFrom, lentResult, run, resume, Runs}
-use Rattle.model.specs.Inner.{Encodes}
 use Rattle.model.specs.declared.Settings.{Settings}
-use Rattle.model.specs.declared.Stop.{Stop}
 use Rattle.model.specs.declared.Stop.the-variants.{NoRoom}
 use Rattle.model.specs.declared.Ran.{Ran}
 use Rattle.model.proofs.Soundness.{start-sound}
 use Rattle.model.proofs.RunSound.{run-from-keeps-sound}
 use Rattle.encoding.proofs.DecodeIsSound.{Small}
 use Rattle.encoding.proofs.RunGoesOn.{kept-is, resume-goes, resume-is}
-use Rattle.running.proofs.First.{Settled, settled, run-accepts}
+use Rattle.running.proofs.First.{settled, run-accepts}
 use Rattle.running.proofs.Running.{run-skips}
 use Rattle.running.proofs.Parts.{goes-first, settings-more, first-more, run-cut}
 

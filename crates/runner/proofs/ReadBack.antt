@@ -18,7 +18,6 @@ use Rattle.model.specs.Runner.{settingsOf, firstStop, laterStop, keptStop, goes
 use Rattle.model.specs.declared.Settings.{Settings}
 use Rattle.model.specs.declared.CommandRead.{CommandRead}
 use Rattle.model.specs.declared.CommandRead.the-variants as command
-use Rattle.model.specs.declared.Event.{Event}
 use Rattle.model.specs.declared.Ran.{Ran}
 use Rattle.words.proofs.Flags.{and-2, flag, by-flag}
 use Rattle.words.proofs.Lists.{all-in, in-all, in-take}

@@ -1,5 +1,4 @@
 -- What a part that goes on stops with where refusal 1, 2 or 3 applies before it.
-use Prim.Native.Nat.{ℕ}
 use lib.Dec.{eqb}
 use Rattle.words.specs.Words.{pick}
 use Rattle.model.specs.Numbers.{refusalNumber}

@@ -8,11 +8,10 @@ use native.Mathlib.Omega.{arith}
 use borrow.Author.Tests.{eq-eqb}
 use lib.ListN.{length}
 use lib.Dec.{ltb}
-use Rattle.words.specs.Words.{pick}
 use Rattle.model.specs.Range.{inRange}
 use Rattle.model.specs.Layout.{longsLength, wordsLength, marksLength}
 use Rattle.model.specs.Tables.{Tables}
-use Rattle.model.specs.Lent.{Lent, lengthsFit}
+use Rattle.model.specs.Lent.{Lent}
 use Rattle.model.specs.Records.{isCommand, isSettings, lengthOf}
 use Rattle.model.specs.RunnerOf as runner
 use Rattle.model.specs.Runner.{eventRoom, settingsStop, laterStop, goesOn, Result, runFrom}
@@ -24,7 +23,7 @@ use Rattle.model.proofs.Fits.{ranged, sets-most}
 use Rattle.layout.proofs.OfRange.{tickets-most}
 use Rattle.running.specs.declared.Lengths.{Lengths}
 use Rattle.running.specs.declared.Begun.{Begun}
-use Rattle.running.specs.declared.Begun.the-variants.{Accepted, Stopped}
+use Rattle.running.specs.declared.Begun.the-variants.{Stopped}
 use Rattle.running.specs.declared.Opening.{Opening}
 use Rattle.running.specs.declared.Opening.the-variants as opening
 use Rattle.running.specs.Begin.{firstHead, firstRecord, begunOn, beginning}

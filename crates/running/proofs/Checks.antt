@@ -8,7 +8,7 @@ use native.Mathlib.Omega.{arith}
 use borrow.Author.Tests.{not-true, not-false, ne-eqb, lt-ltb, le-ltb, ltb-true, ltb-false, leb-true}
 use lib.Dec.{ltb, leb, eqb}
 use lib.ListN.{length, take, length-drop}
-use Rattle.words.specs.Words.{pick, every}
+use Rattle.words.specs.Words.{pick}
 use Rattle.model.specs.Numbers.{stopNumber}
 use Rattle.model.specs.RecordsOf as records
 use Rattle.model.specs.Records.{isCommand, isSettings, lengthOf, readAt, bodyAt}
@@ -19,7 +19,6 @@ use Rattle.model.specs.declared.Record.the-variants.{Whole, Stopped}
 use Rattle.model.specs.declared.Stop.{Stop}
 use Rattle.model.specs.declared.Stop.the-variants.{Nothing, OutOfPlace, UnknownKind, CutShort, NoRoom}
 use Rattle.words.proofs.Flags.{and-1, and-2, clash, flag}
-use Rattle.words.proofs.Below.{every-at}
 use Rattle.records.proofs.Lengths.{command-kinds, settings-kinds, body-short}
 use Rattle.records.proofs.Reading.{read-cut, read-whole}
 use Rattle.reader.specs.Taken.{behind}

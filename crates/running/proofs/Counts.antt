@@ -14,8 +14,8 @@ use lib.ListN.{length, getD, take, length-map, length-append}
 use borrow.Author.Tests.{lt-ltb, eqb-true, eqb-false}
 use Rattle.words.specs.Words.{pick, any, count, keep, one}
 use Rattle.model.specs.Address.{addressOf, isRead, maskOf}
-use Rattle.model.specs.Tables.{Line, Entry, Tables, entryFor, Outcome, after, eventsOf}
-use Rattle.model.specs.Lent.{Lent, lent}
+use Rattle.model.specs.Tables.{Entry, Tables, entryFor, Outcome, after, eventsOf}
+use Rattle.model.specs.Lent.{lent}
 use Rattle.model.specs.Sound.{allOnes}
 use Rattle.model.specs.Probe.{Spot, at, waysOf, ruleOf, metIn}
 use Rattle.model.specs.Meetings.{Matched, Replaced}
@@ -29,7 +29,6 @@ use Rattle.model.specs.declared.Answer.{Answer}
 use Rattle.model.specs.declared.Answer.the-variants.{Hit, HitReserved, Miss, SectorMiss}
 use Rattle.model.specs.declared.Event.{Event}
 use Rattle.model.specs.declared.Event.the-variants.{Answered, Refused, ReadQueued, WriteBackQueued, Released, ReadSent, WriteBackSent, Filled, Ticked}
-use Rattle.model.specs.declared.Refusal.{Refusal}
 use Rattle.model.specs.declared.Refusal.the-variants.{NotSent}
 use Rattle.model.specs.declared.Queued.{Queued}
 use Rattle.model.specs.declared.Told.{Told}

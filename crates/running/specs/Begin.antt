@@ -12,7 +12,6 @@ use Rattle.model.specs.Tables.{start}
 use Rattle.model.specs.Lent.{Lent, encode}
 use Rattle.model.specs.Records.{isCommand, lengthOf}
 use Rattle.model.specs.Runner.{settingsOf, settingsStop, recordStop, firstStop, goesOn}
-use Rattle.model.specs.declared.Settings.{Settings}
 use Rattle.model.specs.declared.Stop.{Stop}
 use Rattle.model.specs.declared.Stop.the-variants as stop
 use Rattle.model.specs.declared.Verdict.{Verdict}

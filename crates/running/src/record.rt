@@ -19,7 +19,6 @@ ghost use Rattle.model.specs.Address.{isRead, maskOf};
 ghost use Rattle.model.specs.Lent.{lent};
 ghost use Rattle.model.specs.Sound.{allOnes};
 ghost use Rattle.model.specs.Inner.{SoundSlices};
-ghost use Rattle.model.specs.Records.{lengthOf};
 ghost use Rattle.model.specs.Runner.{laterStop};
 ghost use Rattle.layout.specs.Layout.{Placed};
 ghost use Rattle.running.specs.Resume.{kindAt, restAt, accessIn, RunAt, Ready, recordFrom, Resumes, Counted, entriesLeft};

@@ -24,7 +24,7 @@ use Rattle.model.specs.declared.Refusal.the-variants.{NotSent}
 use Rattle.model.specs.declared.Event.the-variants as event
 use Rattle.model.specs.declared.Told.{Told}
 use Rattle.words.proofs.Flags.{and-1, not-yes, no-not, no-yes, flag}
-use Rattle.words.proofs.Lists.{any-in, in-index, in-getD, getD-inside}
+use Rattle.words.proofs.Lists.{any-in, in-index, in-getD}
 use Rattle.words.proofs.Region.{length-region}
 use Rattle.words.proofs.Places.{take-fit}
 use Rattle.model.proofs.SoundFacts.{Sound, parts, lines-are, four-at, holder-one, entry-at, LeavesSound, holder-set, dirty-count-is, few-misses, few-tickets}
@@ -34,7 +34,6 @@ use Rattle.layout.specs.Places.{First}
 use Rattle.layout.specs.Sectors.{statuses, masks, readables, someModified}
 use Rattle.tables.specs.Raw.{holdsAt}
 use Rattle.tables.specs.Telling.{telling}
-use Rattle.layout.proofs.Stores.{none}
 use Rattle.layout.proofs.ByBlocks.{ByBlocks, is-stands, stands-encode}
 use Rattle.model.proofs.SendFillKeepSound.{fill-tag, fill-cycle, fill-taken, fill-kept}
 use Rattle.layout.proofs.Lines.{tag-at, status-at, lifted, store-stands}

@@ -1,10 +1,9 @@
 -- Words for the parts of send and fill, over the raw numbers of the lent slices.
 use mathlib.Core.Path.{_≡_}
 use Prim.Native.Nat.{ℕ, _+_, _-_, _*_, _≤_, _<_}
-use mathlib.Core.Bool.{Bool, true, false, not, _&&_}
+use mathlib.Core.Bool.{true}
 use mathlib.Core.List.{List, [], _∷_}
 use lib.ListN.{length, getD, set, replicate}
-use lib.Dec.{eqb}
 use Rattle.words.specs.Words.{fit, one}
 use Rattle.model.specs.Range.{linesOf}
 use Rattle.model.specs.Lent.{sectorsAt}

@@ -1,7 +1,7 @@
 -- What waits behind a part that ran: where its run halts, or the last record alone; what waits for more bytes is short.
 use mathlib.Core.Path.{_≡_, refl, sym, ap, _∙_}
 use mathlib.Core.List.{List, [], _++_, append-nil, append-assoc}
-use Prim.Native.Nat.{ℕ, _+_, _≤_}
+use Prim.Native.Nat.{ℕ, _≤_}
 use native.Mathlib.Nat.{zero-add}
 use native.Mathlib.Omega.{arith}
 use lib.ListN.{length, take, drop, length-drop, take-append-drop}
@@ -13,7 +13,6 @@ use Rattle.model.specs.declared.Stop.{Stop}
 use Rattle.model.specs.declared.Stop.the-variants as stop
 use Rattle.words.proofs.Flags.{clash}
 use Rattle.running.proofs.Asked.{final}
-use Rattle.streaming.specs.declared.work.Next.the-variants as next
 use Rattle.streaming.specs.declared.scope.Scope.{Scope}
 use Rattle.streaming.specs.declared.scope.Scope.the-variants as scope
 use Rattle.streaming.specs.Works.{nextOf, Few}

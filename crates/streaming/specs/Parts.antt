@@ -8,7 +8,7 @@ use lib.ListN.{length, take, drop}
 use Rattle.model.specs.Tables.{Tables}
 use Rattle.model.specs.Lent.{Lent}
 use Rattle.model.specs.Inner.{Encodes, SoundSlices}
-use Rattle.model.specs.Runner.{eventRoom, Result, ahead, runFrom}
+use Rattle.model.specs.Runner.{Result, ahead, runFrom}
 use Rattle.model.specs.declared.Settings.{Settings}
 use Rattle.running.specs.declared.Begun.{Begun}
 use Rattle.running.specs.declared.Begun.the-variants.{Accepted, Stopped}

@@ -20,7 +20,7 @@ ghost use Rattle.layout.specs.Layout.{Placed};
 ghost use Rattle.running.specs.Begin.{firstRecord};
 ghost use Rattle.running.specs.Lengths.{lengthsFor, Long};
 ghost use Rattle.streaming.specs.declared.work.Next.the-variants as next;
-ghost use Rattle.streaming.specs.Works.{readsNext, goesNext};
+ghost use Rattle.streaming.specs.Works.{goesNext};
 ghost use Rattle.streaming.specs.Halts.{Claims};
 ghost use Rattle.streaming.specs.Parts.{Ready, Ran, Turned, Rested, Starts};
 

@@ -1,5 +1,5 @@
 -- Text as bytes. Words of a line: what spaces and words are, where they end, which word stands at a place.
-use Prim.Native.Nat.{ℕ, zero, suc, _+_, _-_}
+use Prim.Native.Nat.{ℕ, suc, _+_, _-_}
 use Prim.Native.Char.{code}
 use Prim.Native.String.{String, [] as end, _∷_ as _then_}
 use mathlib.Core.Bool.{Bool, true, false, not, _&&_, _||_}

@@ -6,7 +6,7 @@ use records::Item;
 use wording::commands;
 use wording::events;
 use wording::stops;
-ghost use Prim.Native.Nat.{_≤_, _<_};
+ghost use Prim.Native.Nat.{_<_};
 ghost use lib.ListN.{length};
 
 // Where the events of a command are shown to: the place of the next one, the bytes of text.

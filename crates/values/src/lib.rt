@@ -1,7 +1,7 @@
 // The values of document 01 in code: the number of each case and the case of a number, the event of a queued entry, what an address says,
 // the constant table of answers.
 ghost use mathlib.Core.Path.{_≡_};
-ghost use Prim.Native.Nat.{_/_, _%_, _≤_, _<_};
+ghost use Prim.Native.Nat.{_/_, _%_, _<_};
 ghost use mathlib.Core.Bool.{true};
 ghost use Rattle.model.specs.Range.{powerTo256};
 ghost use lib.ListN.{getD};

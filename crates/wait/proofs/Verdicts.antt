@@ -1,7 +1,7 @@
 -- What the rounds that are shown end in is what the call `wait` says.
 use mathlib.Core.Path.{_≡_, refl, sym, ap, _∙_}
 use mathlib.Core.Bool.{true, false, false≢true}
-use mathlib.Core.List.{List, [], _∷_, _++_, append-nil}
+use mathlib.Core.List.{List, [], _∷_, append-nil}
 use Prim.Native.Nat.{ℕ, _+_, _-_, _≤_, _<_}
 use native.Mathlib.Omega.{arith}
 use lib.ListN.{length}
@@ -16,7 +16,6 @@ use Rattle.model.specs.declared.Access.{Access}
 use Rattle.model.specs.declared.Refusal.{Refusal}
 use Rattle.model.specs.Records.{waitRoom}
 use Rattle.model.specs.declared.Refusal.the-variants.{BadAccess, SetHeld}
-use Rattle.rounds.specs.declared.Waiting.{Waiting}
 use Rattle.rounds.specs.declared.Waiting.the-variants as wait
 use Rattle.turns.specs.declared.Round.{Round}
 use Rattle.rounds.specs.Waiting.{Wait, lastOf, waitingOf, settled, waitCall}

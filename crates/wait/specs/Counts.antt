@@ -1,5 +1,4 @@
 -- The queue entries and the miss entries of the tables that slices hold.
-use Prim.Native.Nat.{ℕ}
 use mathlib.Core.Path.{_≡_}
 use lib.ListN.{length}
 use Rattle.model.specs.Tables.{Tables}

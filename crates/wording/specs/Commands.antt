@@ -1,6 +1,6 @@
 -- Commands in the assembler's own language.
 use Prim.Native.Nat.{ℕ}
-use mathlib.Core.List.{List, [], _∷_, _++_}
+use mathlib.Core.List.{List, [], _∷_}
 use Rattle.model.specs.declared.Given.{Given}
 use Rattle.model.specs.declared.GivenRule.{GivenRule}
 use Rattle.model.specs.declared.GivenRule.the-variants.{LeftOut, Byte}

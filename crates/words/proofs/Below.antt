@@ -8,7 +8,7 @@ use native.Mathlib.Numerals.{add-one}
 use native.Mathlib.Omega.{arith}
 use lib.Dec.{ltb, leb}
 use borrow.Author.Tests.{ltb-true, ltb-false, lt-leb, le-leb, lt-ltb, le-ltb}
-use Rattle.words.specs.Words.{every, some, countBelow, one}
+use Rattle.words.specs.Words.{every, some, countBelow}
 use Rattle.words.proofs.Flags.{and-1, and-2, and-i, and-no, or-cases, or-1, or-2, not-yes, no-not, clash, flag}
 
 pub lt-or-ge : (a b : ℕ) → (a < b) ⊎ (b ≤ a)

@@ -1,10 +1,9 @@
 -- Words for tests on lists and on the numbers below n: choice; all, any, count and keep of a list; every, some, count and the first
 -- values below n. Nothing here is document 01's.
-use Prim.Native.Nat.{ℕ, zero, suc, _+_, _-_}
+use Prim.Native.Nat.{ℕ, zero, suc, _+_}
 use mathlib.Core.Bool.{Bool, true, false, not, _&&_, _||_}
 use mathlib.Core.List.{List, [], _∷_, _++_}
-use lib.ListN.{length, replicate}
-use lib.Dec.{eqb, leb}
+use lib.Dec.{leb}
 
 module _ {ℓ} {A : Type ℓ} where
   -- x if the test holds, else y

@@ -1,4 +1,4 @@
-use mathlib.Core.Path.{_≡_, sym, ap, _∙_}
+use mathlib.Core.Path.{sym, ap, _∙_}
 use borrow.Author.Needs.{needs}
 use Rattle.model.specs.declared.Refusal.{Refusal}
 use Rattle.model.specs.declared.Event.the-variants as event
@@ -8,12 +8,6 @@ use Rattle.tables.specs.Telling.{telling}
 use Rattle.access.proofs.Offering.{formed-refused, spot-met, access-offered, access-stops}
 use Rattle.access.proofs.access_counted.Statement.{statement}
 use Rattle.access.proofs.access_counted.Tie as tie
-use Rattle.access.proofs.offer.Reads as offer-reads
-use Rattle.access.proofs.refusal_met.Reads as refusal-met-reads
-use Rattle.access.proofs.spotted.Reads as spotted-reads
-use Rattle.access.proofs.well_formed.Reads as well-formed-reads
-use Rattle.probe.proofs.decide.Reads as decide-reads
-use Rattle.tables.proofs.refused.Reads as refused-reads
 
 pub access-counted-spec : {M : Type 1} → statement M
 access-counted-spec =

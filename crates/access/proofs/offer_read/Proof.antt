@@ -1,4 +1,4 @@
-use mathlib.Core.Path.{_≡_, sym, ap, _∙_}
+use mathlib.Core.Path.{sym, ap, _∙_}
 use native.Mathlib.Omega.{arith}
 use borrow.Author.Needs.{needs}
 use Rattle.model.specs.declared.Refusal.{Refusal}
@@ -11,13 +11,6 @@ use Rattle.tables.specs.Telling.{telling}
 use Rattle.access.proofs.Plans.{queue-counted}
 use Rattle.access.proofs.Offering.{offered-acts, offered-stops}
 use Rattle.access.proofs.Hits.{hit-offered}
-use Rattle.access.proofs.asked.is_hit.Reads as is-hit-reads
-use Rattle.access.proofs.writes.act_read.Reads as act-read-reads
-use Rattle.access.proofs.writes.act_hit.Reads as act-hit-reads
-use Rattle.access.proofs.course.course_of.Reads as course-of-reads
-use Rattle.access.proofs.course.going.Reads as going-reads
-use Rattle.access.proofs.course.refusal_in.Reads as refusal-in-reads
-use Rattle.tables.proofs.refused.Reads as refused-reads
 use Rattle.access.proofs.offer_read.Statement.{statement}
 use Rattle.access.proofs.offer_read.Tie as tie
 

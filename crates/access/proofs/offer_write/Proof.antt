@@ -1,13 +1,10 @@
-use mathlib.Core.Path.{_≡_, refl}
+use mathlib.Core.Path.{refl}
 use native.Mathlib.Omega.{arith}
 use borrow.Author.Needs.{needs}
 use Rattle.encoding.proofs.Bridge.{is-fit}
 use Rattle.access.proofs.Plans.{queue-counted}
 use Rattle.access.proofs.Courses.{write-needs, course-full, course-write}
 use Rattle.access.proofs.Offering.{offered-acts, offered-stops}
-use Rattle.access.proofs.writes.act_write.Reads as act-write-reads
-use Rattle.access.proofs.course.back_needed.Reads as back-needed-reads
-use Rattle.tables.proofs.refused.Reads as refused-reads
 use Rattle.access.proofs.offer_write.Statement.{statement}
 use Rattle.access.proofs.offer_write.Tie as tie
 

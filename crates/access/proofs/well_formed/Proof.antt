@@ -1,5 +1,5 @@
 -- The address and the mask, by kind of access.
-use mathlib.Core.Path.{_≡_, refl, sym, ap}
+use mathlib.Core.Path.{sym, ap}
 use mathlib.Core.Bool.{not, and-true}
 use native.Mathlib.Omega.{arith}
 use lib.Dec.{eqb}

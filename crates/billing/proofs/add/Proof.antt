@@ -1,7 +1,6 @@
 -- `billing::add` meets its contract.
 use mathlib.Core.Path.{_∙_}
 use borrow.Author.Needs.{needs}
-use native.Mathlib.Omega.{arith}
 use Rattle.billing.proofs.Sums.{dues-within, added-full, added-whole}
 use Rattle.billing.proofs.add.Statement.{statement}
 use Rattle.billing.proofs.add.Tie as tie

@@ -1,5 +1,4 @@
 -- `billing::dues_of` meets its contract: by cases on the event.
-use mathlib.Core.Path.{_∙_}
 use borrow.Author.Needs.{needs}
 use Rattle.billing.specs.Dues.{duesOf}
 use Rattle.billing.proofs.dues_of.Statement.{statement}

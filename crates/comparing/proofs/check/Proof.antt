@@ -3,7 +3,6 @@ use mathlib.Core.Path.{sym, _∙_}
 use Rattle.comparing.proofs.Scans.{inside-empty, inside-starts, inside-not}
 use Rattle.comparing.specs.Checks.{checked}
 use borrow.Author.Needs.{needs}
-use native.Mathlib.Omega.{arith}
 use Rattle.comparing.proofs.check.Statement.{statement}
 use Rattle.comparing.proofs.check.Tie as tie
 

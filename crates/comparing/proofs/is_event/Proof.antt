@@ -1,8 +1,7 @@
 -- `comparing::is_event` meets its contract.
-use mathlib.Core.Path.{_≡_, sym, _∙_}
+use mathlib.Core.Path.{sym, _∙_}
 use Rattle.comparing.proofs.Table.{event-command, event-other}
 use borrow.Author.Needs.{needs}
-use native.Mathlib.Omega.{arith}
 use Rattle.comparing.proofs.is_event.Statement.{statement}
 use Rattle.comparing.proofs.is_event.Tie as tie
 

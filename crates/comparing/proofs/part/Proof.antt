@@ -1,5 +1,4 @@
 -- `comparing::part` meets its contract.
-use mathlib.Core.Path.{_∙_}
 use borrow.Author.Needs.{needs}
 use native.Mathlib.Omega.{arith}
 use Rattle.comparing.proofs.Parts.{part-none, part-some}

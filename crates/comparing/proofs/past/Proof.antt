@@ -1,7 +1,6 @@
 -- `comparing::past` meets its contract.
 use Rattle.comparing.specs.Groups.{recordEnd, past}
 use borrow.Author.Needs.{needs}
-use native.Mathlib.Omega.{arith}
 use Rattle.comparing.proofs.past.Statement.{statement}
 use Rattle.comparing.proofs.past.Tie as tie
 

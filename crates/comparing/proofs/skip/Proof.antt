@@ -1,8 +1,6 @@
 -- `comparing::skip` meets its contract.
-use mathlib.Core.Path.{sym, _∙_}
 use Rattle.comparing.proofs.Sides.{Skips, skips-start, skips-out, skips-more, skips-over}
 use borrow.Author.Needs.{needs}
-use native.Mathlib.Omega.{arith}
 use Rattle.comparing.proofs.skip.Statement.{statement}
 use Rattle.comparing.proofs.skip.Tie as tie
 

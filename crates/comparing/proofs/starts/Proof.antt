@@ -2,7 +2,6 @@
 use mathlib.Core.Path.{sym}
 use Rattle.comparing.proofs.Table.{starts-is, starts-past}
 use borrow.Author.Needs.{needs}
-use native.Mathlib.Omega.{arith}
 use Rattle.comparing.proofs.starts.Statement.{statement}
 use Rattle.comparing.proofs.starts.Tie as tie
 

@@ -3,7 +3,6 @@ use Rattle.comparing.proofs.Scans.{wrong-kind, wrong-none, wrong-cut}
 use mathlib.Core.Path.{sym, _∙_}
 use borrow.Author.Needs.{needs}
 use borrow.Author.Tests.{not-true, not-false}
-use native.Mathlib.Omega.{arith}
 use Rattle.comparing.proofs.wrong_at.Statement.{statement}
 use Rattle.comparing.proofs.wrong_at.Tie as tie
 

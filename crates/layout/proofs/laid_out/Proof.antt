@@ -2,7 +2,6 @@
 use native.Mathlib.Nat.{mul-le-mul}
 use native.Mathlib.Omega.{arith}
 use Rattle.model.proofs.Fits.{ranged}
-use borrow.Author.Needs.{needs}
 use Rattle.model.specs.Inner.{aside}
 use Rattle.layout.proofs.laid_out.Statement.{statement}
 use Rattle.layout.proofs.laid_out.Tie as tie

@@ -11,12 +11,6 @@ use Rattle.percentage.specs.Differences.{Lists}
 use borrow.Author.Needs.{needs}
 use Rattle.percent.proofs.main.Statement.{statement}
 use Rattle.percent.proofs.main.Tie as tie
-use Rattle.percent.proofs.main.Reads as reads
-use Rattle.percent.proofs.main.Lts as lts
-use Rattle.io.proofs.write_all.Reads as write-all-reads
-use Rattle.percent.proofs.number.Reads as number-reads
-use Rattle.percent.proofs.show.Reads as show-reads
-use Rattle.percentage.proofs.list.Reads as list-reads
 
 -- what was written has room in what was lent
 room : (before after : List ℕ) (n : ℕ) {r : Listed} → r ≡ All n → Lists before after r → n ≤ length before

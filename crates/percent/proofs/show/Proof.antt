@@ -6,10 +6,6 @@ use lib.ListN.{length}
 use borrow.Author.Needs.{needs}
 use Rattle.percent.proofs.show.Statement.{statement}
 use Rattle.percent.proofs.show.Tie as tie
-use Rattle.percent.proofs.show.Reads as reads
-use Rattle.percent.proofs.show.Lts as lts
-use Rattle.percent.proofs.line.Reads as line-reads
-use Rattle.percentage.proofs.legal_size.Reads as legal-size-reads
 
 abbrev Inv-loop : tie.InvT-loop
 Inv-loop s i₀ legal₀ i legal = (i ≤ length s) × (legal ≤ i)

@@ -5,10 +5,6 @@ use borrow.Author.Needs.{needs}
 use Rattle.percentage.specs.Differences.{differ}
 use Rattle.percentage.proofs.differs.Statement.{statement}
 use Rattle.percentage.proofs.differs.Tie as tie
-use Rattle.percentage.proofs.differs.Reads as reads
-use Rattle.percentage.proofs.differs.Lts as lts
-use Rattle.percentage.proofs.float_meets.Reads as float-meets-reads
-use Rattle.percentage.proofs.whole_meets.Reads as whole-meets-reads
 
 pub differs-spec : {M : Type 1} → statement M
 unfolding differ

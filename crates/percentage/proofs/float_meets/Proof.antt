@@ -8,8 +8,6 @@ use lib.Ieee.{Float, binary32, inFloat, ofInt, ofBits, mul, div, le}
 use Rattle.percentage.specs.Percent.{single, floatMeets}
 use Rattle.percentage.proofs.float_meets.Statement.{statement}
 use Rattle.percentage.proofs.float_meets.Tie as tie
-use Rattle.percentage.proofs.float_meets.Reads as reads
-use Rattle.percentage.proofs.float_meets.Lts as lts
 
 held : (n : ℕ) → n ≤ 1024 → T (inFloat binary32 (pos n))
 unfolding inFloat

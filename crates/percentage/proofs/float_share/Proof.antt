@@ -5,10 +5,6 @@ use Rattle.percentage.specs.declared.Share.the-variants.{Meets}
 use Rattle.percentage.proofs.Laws.{ranged}
 use Rattle.percentage.proofs.float_share.Statement.{statement}
 use Rattle.percentage.proofs.float_share.Tie as tie
-use Rattle.percentage.proofs.float_share.Reads as reads
-use Rattle.percentage.proofs.float_share.Lts as lts
-use Rattle.percentage.proofs.float_meets.Reads as float-meets-reads
-use Rattle.percentage.proofs.in_range.Reads as in-range-reads
 
 pub float-share-spec : {M : Type 1} → statement M
 float-share-spec =

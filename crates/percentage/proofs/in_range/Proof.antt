@@ -2,8 +2,6 @@
 use borrow.Author.Tests.{lt-leb, le-leb}
 use Rattle.percentage.proofs.in_range.Statement.{statement}
 use Rattle.percentage.proofs.in_range.Tie as tie
-use Rattle.percentage.proofs.in_range.Reads as reads
-use Rattle.percentage.proofs.in_range.Lts as lts
 
 pub in-range-spec : {M : Type 1} → statement M
 in-range-spec =

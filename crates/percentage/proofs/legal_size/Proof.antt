@@ -9,8 +9,6 @@ use Rattle.percentage.proofs.Legal.{Split, lines-some, sets-pos, legal,
 use Rattle.model.proofs.Fits.{ranged}
 use Rattle.percentage.proofs.legal_size.Statement.{statement}
 use Rattle.percentage.proofs.legal_size.Tie as tie
-use Rattle.percentage.proofs.legal_size.Reads as reads
-use Rattle.percentage.proofs.legal_size.Lts as lts
 
 abbrev Inv-loop : tie.InvT-loop
 Inv-loop lines ways₀ ways = (1 ≤ ways) × (ways ≤ 17) × (1 ≤ lines) × (lines ≤ 1024) × ((w : ℕ) → w < ways → 1 ≤ w → Split lines w → ⊥)

@@ -8,9 +8,6 @@ use Rattle.percentage.specs.Differences.{Startable, rest}
 use Rattle.percentage.proofs.Lists.{rest-down, rest-over, rest-end, rest-hit, rest-miss}
 use Rattle.percentage.proofs.next.Statement.{statement}
 use Rattle.percentage.proofs.next.Tie as tie
-use Rattle.percentage.proofs.next.Reads as reads
-use Rattle.percentage.proofs.next.Lts as lts
-use Rattle.percentage.proofs.differs.Reads as differs-reads
 
 abbrev Inv-loop : tie.InvT-loop
 Inv-loop dirty lines percent d₀ l₀ p₀ d l p = Startable d l p × (rest dirty lines percent ≡ rest d l p)

@@ -5,10 +5,6 @@ use Rattle.percentage.specs.declared.Share.the-variants.{Meets}
 use Rattle.percentage.proofs.Laws.{ranged}
 use Rattle.percentage.proofs.whole_share.Statement.{statement}
 use Rattle.percentage.proofs.whole_share.Tie as tie
-use Rattle.percentage.proofs.whole_share.Reads as reads
-use Rattle.percentage.proofs.whole_share.Lts as lts
-use Rattle.percentage.proofs.whole_meets.Reads as whole-meets-reads
-use Rattle.percentage.proofs.in_range.Reads as in-range-reads
 
 pub whole-share-spec : {M : Type 1} → statement M
 whole-share-spec =

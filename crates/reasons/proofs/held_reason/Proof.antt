@@ -1,7 +1,6 @@
 -- The stored count of dirty lines.
 use mathlib.Core.Path.{refl}
 use native.Mathlib.Omega.{arith}
-use borrow.Author.Needs.{needs}
 use Rattle.layout.proofs.ByBlocks.{is-stands, stands-fit}
 use Rattle.layout.proofs.DirtyCount.{dirty-few}
 use Rattle.probe.proofs.Meetings.{share-fits}

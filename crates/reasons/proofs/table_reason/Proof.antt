@@ -1,6 +1,5 @@
 -- The first of the entries in use.
 use native.Mathlib.Omega.{arith}
-use borrow.Author.Needs.{needs}
 use Rattle.layout.proofs.ByBlocks.{is-stands, stands-fit}
 use Rattle.reasons.proofs.Entries.{oldest-shown}
 use Rattle.reasons.proofs.table_reason.Statement.{statement}

@@ -1,7 +1,6 @@
 -- The checks at any record, with what is asked of a later one.
-use mathlib.Core.Path.{_≡_, ap, _∙_}
+use mathlib.Core.Path.{ap, _∙_}
 use borrow.Author.Needs.{needs}
-use Rattle.model.specs.declared.Stop.{Stop}
 use Rattle.model.specs.declared.Stop.the-variants.{OutOfPlace}
 use Rattle.running.specs.Resume.{foundStop}
 use Rattle.running.proofs.later_stop.Statement.{statement}

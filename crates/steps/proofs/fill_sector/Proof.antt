@@ -1,11 +1,4 @@
 -- The four are lifted, one is changed, the line is counted, and they are stored back.
-use mathlib.Core.Path.{_≡_, sym, subst}
-use mathlib.Core.List.{List}
-use Prim.Native.Nat.{_≤_}
-use lib.ListN.{getD}
-use Rattle.words.specs.Words.{one}
-use Rattle.model.specs.declared.Sector.{Sector}
-use Rattle.layout.specs.Sectors.{someModified}
 use Rattle.steps.proofs.Filling.{sector-filled, was-fits}
 use borrow.Author.Needs.{needs}
 use Rattle.steps.proofs.fill_sector.Statement.{statement}

@@ -1,5 +1,5 @@
 -- `text::count_digits` meets its contract: the digits counted and those of what is left are the digits of the number.
-use mathlib.Core.Path.{_≡_, refl, sym, _∙_}
+use mathlib.Core.Path.{_≡_}
 use Prim.Native.Nat.{_+_, _≤_}
 use native.Mathlib.Omega.{arith}
 use borrow.Author.Needs.{needs}

@@ -1,5 +1,4 @@
 -- `text::digit` meets its contract.
-use mathlib.Core.Path.{_≡_, refl}
 use native.Mathlib.Omega.{arith}
 use Rattle.text.proofs.Reading.{in-range, digit-decimal, digit-small, digit-capital, digit-none}
 use Rattle.text.proofs.digit.Statement.{statement}

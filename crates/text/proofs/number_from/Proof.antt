@@ -1,6 +1,6 @@
 -- `text::number_from` meets its contract: the digits from `at` on end where those from `i` on do, and come to the same behind the value so far.
 use mathlib.Core.Path.{_≡_, refl, sym, _∙_}
-use Prim.Native.Nat.{_-_, _≤_, _<_}
+use Prim.Native.Nat.{_-_, _≤_}
 use native.Mathlib.Omega.{arith}
 use borrow.Author.Needs.{needs}
 use lib.ListN.{length, drop, getD}

@@ -1,5 +1,4 @@
 -- `text::word_is` meets its contract.
-use native.Mathlib.Omega.{arith}
 use borrow.Author.Needs.{needs}
 use Rattle.text.specs.Words.{inWord}
 use Rattle.text.proofs.Runs.{past-le, same-text-by, word-beyond, word-part}

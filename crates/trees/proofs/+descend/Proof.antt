@@ -4,7 +4,7 @@ use native.Mathlib.Omega.{arith}
 use borrow.Fn.Kinds.{In}
 use borrow.Fn.PlainCycle.{Measures, is, falls, and}
 use Rattle.model.specs.Tree.{isIn}
-use Rattle.trees.proofs.Spans.{halved, Halves, halves-of, half-most}
+use Rattle.trees.proofs.Spans.{halved, halves-of, half-most}
 use Rattle.trees.proofs.Steps.{descent-ends, descent-goes}
 use Rattle.trees.proofs.descend.Reads as descend
 use Rattle.trees.proofs.descend.Kinds as descend-kinds

@@ -3,7 +3,7 @@ use Prim.Native.Nat.{ℕ, _/_, _<_}
 use native.Mathlib.Omega.{arith}
 use borrow.Fn.Kinds.{In}
 use borrow.Fn.PlainCycle.{Measures, is, falls, and}
-use Rattle.trees.proofs.Spans.{halved, Halves, halves-of, half-most}
+use Rattle.trees.proofs.Spans.{halved, halves-of, half-most}
 use Rattle.trees.proofs.Steps.{turned-ends, turned-goes}
 use Rattle.trees.proofs.turn.Reads as turn
 use Rattle.trees.proofs.turn.Kinds as turn-kinds

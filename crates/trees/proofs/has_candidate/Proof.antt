@@ -1,5 +1,5 @@
 -- The bits of the mask from the first way on, of as many ways.
-use Prim.Native.Nat.{ℕ, _/_, _%_, _^_, _-_}
+use Prim.Native.Nat.{ℕ, _/_, _^_, _-_}
 use mathlib.Core.Path.{sym, ap, _∙_}
 use mathlib.Core.Bool.{not}
 use native.Mathlib.Omega.{arith}

@@ -2,7 +2,7 @@
 use native.Mathlib.Omega.{arith}
 use Prim.Native.Nat.{_-_, _<_}
 use borrow.Author.Needs.{needs}
-use Rattle.model.specs.Tree.{isIn, named}
+use Rattle.model.specs.Tree.{isIn}
 use Rattle.model.proofs.TreeBits.{bit-two}
 use Rattle.trees.proofs.Spans.{half-most}
 use Rattle.trees.proofs.Steps.{goes-named, goes-other}

@@ -1,6 +1,5 @@
 -- The queue places and the miss entries in use.
 use native.Mathlib.Omega.{arith}
-use borrow.Author.Needs.{needs}
 use Rattle.layout.proofs.ByBlocks.{is-stands, stands-fit}
 use Rattle.turns.proofs.Turns.{counted}
 use Rattle.turns.proofs.most_rounds.Statement.{statement}

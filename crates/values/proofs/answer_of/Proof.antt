@@ -1,5 +1,5 @@
 -- By the access, which is matched, and by what may be read.
-use mathlib.Core.Path.{_≡_, refl, sym, _∙_}
+use mathlib.Core.Path.{_∙_}
 use borrow.Author.Needs.{needs}
 use Rattle.values.proofs.answer_of.Statement.{statement}
 use Rattle.values.proofs.answer_of.Tie as tie

@@ -1,5 +1,5 @@
 -- By the status, which is matched: a row of the table; the column lies in it.
-use mathlib.Core.Path.{_≡_, refl, sym, _∙_}
+use mathlib.Core.Path.{_∙_}
 use borrow.Author.Needs.{needs}
 use Rattle.model.specs.declared.Status.the-variants.{Invalid, Reserved, Valid, Modified}
 use Rattle.values.proofs.Columns.{in-table}

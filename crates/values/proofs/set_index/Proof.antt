@@ -1,5 +1,4 @@
 -- The sets are a power of two: their low digits are the remainder.
-use native.Mathlib.Omega.{arith}
 use Prim.Native.Nat.{_/_}
 use Rattle.model.proofs.Fits.{power-pos}
 use Rattle.model.proofs.Powers.{masked-is-remainder}

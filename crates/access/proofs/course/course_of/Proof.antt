@@ -1,4 +1,4 @@
-use mathlib.Core.Path.{_≡_, sym, ap, _∙_}
+use mathlib.Core.Path.{sym, ap, _∙_}
 use native.Mathlib.Omega.{arith}
 use borrow.Author.Needs.{needs}
 use Prim.Native.Nat.{ℕ}
@@ -6,12 +6,6 @@ use Rattle.encoding.proofs.Bridge.{is-fit}
 use Rattle.access.specs.Plan.{starting}
 use Rattle.access.proofs.Plans.{queue-counted, misses-counted}
 use Rattle.access.proofs.Courses.{read-needs, course-full, course-join, course-start, course-hit, merge-entered}
-use Rattle.access.proofs.asked.is_merge.Reads as is-merge-reads
-use Rattle.access.proofs.asked.is_miss.Reads as is-miss-reads
-use Rattle.access.proofs.course.join_course.Reads as join-course-reads
-use Rattle.access.proofs.course.places_needed.Reads as places-needed-reads
-use Rattle.access.proofs.course.start_course.Reads as start-course-reads
-use Rattle.values.proofs.address_of.Reads as address-of-reads
 use Rattle.access.proofs.course.course_of.Statement.{statement}
 use Rattle.access.proofs.course.course_of.Tie as tie
 

@@ -1,10 +1,9 @@
-use mathlib.Core.Path.{_≡_, refl}
-use Prim.Native.Nat.{_≤_, _<_, _+_}
+use mathlib.Core.Path.{refl}
+use Prim.Native.Nat.{_+_}
 use native.Mathlib.Omega.{arith}
 use borrow.Author.Needs.{needs}
 use Rattle.encoding.proofs.Bridge.{is-fit}
 use Rattle.access.proofs.Plans.{found, joining-full, joining-room}
-use Rattle.tables.proofs.find_entry.Reads as find-entry-reads
 use Rattle.access.proofs.course.join_course.Statement.{statement}
 use Rattle.access.proofs.course.join_course.Tie as tie
 

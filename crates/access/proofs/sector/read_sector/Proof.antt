@@ -2,7 +2,6 @@ use borrow.Author.Needs.{needs}
 use mathlib.Core.Path.{sym, _∙_}
 use Rattle.access.proofs.sector.read_sector.Statement.{statement}
 use Rattle.access.proofs.sector.read_sector.Tie as tie
-use Rattle.access.proofs.asked.is_miss.Reads as is-miss-reads
 
 pub read-sector-spec : {M : Type 1} → statement M
 read-sector-spec =

@@ -1,5 +1,4 @@
-use mathlib.Core.Path.{_≡_, _∙_}
-use native.Mathlib.Omega.{arith}
+use mathlib.Core.Path.{_∙_}
 use borrow.Author.Needs.{needs}
 use Rattle.access.proofs.Sectors.{sector-read, sectors-left}
 use Rattle.access.proofs.sector.sectors_read.Statement.{statement}

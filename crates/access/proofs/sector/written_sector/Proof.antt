@@ -3,9 +3,6 @@ use mathlib.Core.Path.{sym, _∙_}
 use Rattle.access.proofs.Sectors.{sector-written}
 use Rattle.access.proofs.sector.written_sector.Statement.{statement}
 use Rattle.access.proofs.sector.written_sector.Tie as tie
-use Rattle.access.proofs.sector.is_invalid.Reads as is-invalid-reads
-use Rattle.access.proofs.asked.is_merge.Reads as is-merge-reads
-use Rattle.access.proofs.asked.mask_of.Reads as mask-of-reads
 
 pub written-sector-spec : {M : Type 1} → statement M
 written-sector-spec =

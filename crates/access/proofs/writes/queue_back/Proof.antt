@@ -1,6 +1,5 @@
 use native.Mathlib.Omega.{arith}
 use borrow.Author.Needs.{needs}
-use Rattle.access.specs.Written.{QueueRoom}
 use Rattle.access.proofs.writes.queue_back.Statement.{statement}
 use Rattle.access.proofs.writes.queue_back.Tie as tie
 

@@ -1,8 +1,6 @@
 use borrow.Author.Needs.{needs}
 use Rattle.access.proofs.writes.write_line.Statement.{statement}
 use Rattle.access.proofs.writes.write_line.Tie as tie
-use Rattle.access.proofs.writes.touch.Reads as touch-reads
-use Rattle.access.proofs.writes.write_tag.Reads as write-tag-reads
 
 pub write-line-spec : {M : Type 1} → statement M
 write-line-spec =

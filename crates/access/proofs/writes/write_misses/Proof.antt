@@ -1,8 +1,6 @@
 use borrow.Author.Needs.{needs}
 use Rattle.access.proofs.writes.write_misses.Statement.{statement}
 use Rattle.access.proofs.writes.write_misses.Tie as tie
-use Rattle.tables.proofs.append_ticket.Reads as append-ticket-reads
-use Rattle.tables.proofs.new_entry.Reads as new-entry-reads
 
 pub write-misses-spec : {M : Type 1} → statement M
 write-misses-spec =

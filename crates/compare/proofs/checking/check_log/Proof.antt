@@ -1,7 +1,6 @@
 -- `compare::checking::check_log` meets its contract: the bytes that came are checked, and each turn but the last reads some.
 use mathlib.Core.Path.{_≡_, refl}
 use borrow.Author.Needs.{needs}
-use native.Mathlib.Omega.{arith}
 use lib.ListN.{length}
 use Rattle.compare.specs.Checking.{Checked}
 use Rattle.compare.proofs.Parts.{reads-on, started-checked, toRead, less-to-read}

@@ -1,7 +1,6 @@
 -- `compare::checking::read_part` meets its contract.
-use mathlib.Core.Logic.{inl, inr}
+use mathlib.Core.Logic.{inl}
 use borrow.Author.Needs.{needs}
-use native.Mathlib.Omega.{arith}
 use Rattle.compare.proofs.Parts.{read-none, read-some}
 use Rattle.compare.proofs.checking.read_part.Statement.{statement}
 use Rattle.compare.proofs.checking.read_part.Tie as tie

@@ -1,5 +1,4 @@
 -- `comparing::walking::row` meets its contract.
-use mathlib.Core.Path.{_∙_}
 use borrow.Author.Needs.{needs}
 use Rattle.comparing.specs.Steps.{row}
 use Rattle.comparing.proofs.Stepping.{row-next}

@@ -1,5 +1,5 @@
 -- The first of the four whose number it is.
-use mathlib.Core.Path.{_≡_, refl}
+use mathlib.Core.Path.{_≡_}
 use lib.ListN.{length}
 use borrow.Author.Needs.{needs}
 use Rattle.layout.proofs.OneOfFour.{one-of-four}

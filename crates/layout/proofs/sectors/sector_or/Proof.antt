@@ -1,5 +1,4 @@
 -- Number by number.
-use mathlib.Core.Path.{_≡_, refl}
 use borrow.Author.Needs.{needs}
 use Rattle.layout.proofs.OneOfFour.{sector-chosen}
 use Rattle.layout.proofs.sectors.sector_or.Statement.{statement}

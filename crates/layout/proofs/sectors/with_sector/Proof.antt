@@ -1,5 +1,5 @@
 -- Place by place, each the changed one or what it was.
-use mathlib.Core.Path.{_≡_, refl}
+use mathlib.Core.Path.{_≡_}
 use lib.ListN.{length}
 use borrow.Author.Needs.{needs}
 use Rattle.layout.proofs.OneOfFour.{four-changed}

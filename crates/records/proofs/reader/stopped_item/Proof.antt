@@ -1,5 +1,4 @@
 -- By whether the kind has a length.
-use mathlib.Core.Path.{sym, _∙_}
 use borrow.Author.Needs.{needs}
 use borrow.Author.Tests.{eq-eqb, ne-eqb}
 use Rattle.records.proofs.reader.stopped_item.Statement.{statement}

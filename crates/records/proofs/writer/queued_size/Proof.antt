@@ -1,5 +1,5 @@
 -- The invariant: the sizes of the events before j are added, of at most 25 bytes each, and their numbers fit.
-use mathlib.Core.Path.{_≡_, refl, _∙_}
+use mathlib.Core.Path.{_≡_, refl}
 use Prim.Native.Nat.{_*_, _-_, _≤_}
 use native.Mathlib.Omega.{arith}
 use lib.ListN.{length}

@@ -4,7 +4,6 @@ use Prim.Native.Nat.{_≤_}
 use native.Mathlib.Omega.{arith}
 use lib.ListN.{length, length-map}
 use Rattle.words.proofs.Arrays.{words-length, words-below}
-use Rattle.records.specs.Fitting.{AllFitting}
 use Rattle.records.proofs.Encoding.{event-short}
 use Rattle.records.proofs.Told.{queued-least, told-sized, told-fits}
 use borrow.Author.Needs.{needs}

@@ -1,6 +1,5 @@
 -- No queue place is in use.
 use native.Mathlib.Omega.{arith}
-use borrow.Author.Needs.{needs}
 use Rattle.layout.proofs.ByBlocks.{is-stands, stands-fit}
 use Rattle.rounds.proofs.Showing.{queueless}
 use Rattle.rounds.proofs.demand3.nothing_queued.Statement.{statement}

@@ -1,5 +1,4 @@
 -- By the kind of access.
-use mathlib.Core.Path.{_≡_, refl}
 use native.Mathlib.Omega.{arith}
 use borrow.Author.Needs.{needs}
 use Rattle.running.proofs.record.fetched.Statement.{statement}

@@ -1,5 +1,5 @@
 -- What the step leaves, its events written, and what is in use then.
-use mathlib.Core.Path.{refl, sym}
+use mathlib.Core.Path.{refl}
 use native.Mathlib.Omega.{arith}
 use borrow.Author.Needs.{needs}
 use Rattle.encoding.proofs.ToldShapes.{fill-shaped}

@@ -1,5 +1,4 @@
 -- What the step leaves, its events written, and what is in use then.
-use mathlib.Core.Path.{refl, sym}
 use native.Mathlib.Omega.{arith}
 use borrow.Author.Needs.{needs}
 use Rattle.encoding.proofs.ToldShapes.{send-shaped}

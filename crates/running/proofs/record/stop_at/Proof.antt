@@ -1,5 +1,4 @@
 -- A usual record, and any other.
-use native.Mathlib.Omega.{arith}
 use borrow.Author.Needs.{needs}
 use Rattle.running.proofs.Checks.{usual-later, found-later}
 use Rattle.running.proofs.record.stop_at.Statement.{statement}

@@ -2,7 +2,6 @@ use Prim.Native.Nat.{_-_}
 use mathlib.Core.Logic.{⊎-elim}
 use native.Mathlib.Omega.{arith}
 use borrow.Author.Needs.{needs}
-use Rattle.model.specs.Range.{linesOf}
 use Rattle.model.specs.SoundLent.{dirtyLine}
 use Rattle.words.proofs.Below.{Counted, counted-start, counted-yes, counted-no, counted-end}
 use Rattle.soundness.proofs.dirty.dirty_lines.Statement.{statement}

@@ -1,5 +1,4 @@
 use native.Mathlib.Omega.{arith}
-use borrow.Author.Needs.{needs}
 use Rattle.layout.proofs.Room.{tree-room, tree-is}
 use Rattle.soundness.proofs.OfTables.{below-limit}
 use Rattle.soundness.proofs.sets.set_fine.Statement.{statement}

@@ -1,5 +1,4 @@
 -- The name in the row.
-use mathlib.Core.Path.{_∙_, ap}
 use borrow.Author.Needs.{needs}
 use Rattle.text.proofs.rules.is_name.Statement.{statement}
 use Rattle.text.proofs.rules.is_name.Tie as tie

@@ -1,6 +1,5 @@
 -- Each turn reads, or is the last; what is claimed of the input holds after each.
 use mathlib.Core.Path.{_≡_, refl, sym, _∙_}
-use Prim.Native.Nat.{_≤_}
 use borrow.Author.Needs.{needs}
 use lib.ListN.{length}
 use Rattle.model.specs.Lent.{lent}

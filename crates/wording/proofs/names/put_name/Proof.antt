@@ -1,5 +1,4 @@
 -- Up to the line feed of its row.
-use mathlib.Core.Path.{_∙_}
 use native.Mathlib.Nat.{zero-add}
 use borrow.Author.Needs.{needs}
 use Rattle.wording.proofs.names.put_name.Statement.{statement}
