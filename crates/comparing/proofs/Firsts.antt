@@ -14,7 +14,7 @@ use Rattle.words.proofs.Flags.{flag, or-cases, or-no-1, or-no-2}
 use Rattle.comparing.specs.declared.Compared.the-variants as answer
 use Rattle.comparing.specs.Groups.{partTo, bytesIn, groupEnd, sideOf}
 use Rattle.comparing.specs.declared.Cursor.{Cursor}
-use Rattle.comparing.specs.Pairs.{sameBytes, samePair, differs, firstOf, pairs, firstDifference, atStart, behind, groupAt, foundFrom, found, Stands, GoesOn}
+use Rattle.comparing.specs.Pairs.{sameBytes, samePair, differs, firstOf, pairs, firstDifference, behind, groupAt, foundFrom, found, Stands, GoesOn}
 use Rattle.comparing.proofs.Walks.{group-end}
 use Rattle.comparing.proofs.Sides.{placeFrom, place-next, place-grows, group-le, side-is, counted, counted-out}
 
@@ -103,9 +103,6 @@ module _ (a b : List ℕ) where
       pub going-differs : {t u : List ℕ} → t ≡ take (e - x) (drop x a) → u ≡ take (f - y) (drop y b) → sameBytes t u ≡ false → left x y ≡ true
           → answer.Differs n x (e - x) y (f - y) ≡ firstDifference a b m
       going-differs i j d l = sym (g .same ∙ first-more n (going-left l .0) ∙ rw (sym (the-pair i j) ∙ d, side-a p, side-b q))
-
-      pub going-behind : Stands a b (record { number = n + 1; first = e; second = f })
-      going-behind = record { in-a = next-a p; in-b = next-b q }
 
       pub going-next : {t u : List ℕ} → t ≡ take (e - x) (drop x a) → u ≡ take (f - y) (drop y b) → sameBytes t u ≡ true → n < pairs a b
           → Going m (n + 1) e f
@@ -213,7 +210,3 @@ module _ (a b : List ℕ) where
     pub found-goes-on : (c : Cursor) → Stands a b c → GoesOn a b (c .number) (found a b c)
     unfolding found ahead
     found-goes-on c s = goes-from (length a + length b) (c .number) c (omega arith) (record { in-a = s .in-a; in-b = s .in-b; same = refl; from = omega arith; to = omega arith })
-
-pub begin-stands : (a b : List ℕ) → Stands a b atStart
-unfolding placeFrom
-begin-stands a b = record { in-a = ap (λ p. p .place) (sym (side-is a 0)); in-b = ap (λ p. p .place) (sym (side-is b 0)) }

@@ -35,11 +35,6 @@ module _ (s : List ℕ) where
   pub group-within : (at : ℕ) → at ≤ length s → (at ≤ groupEnd s at) × (groupEnd s at ≤ length s)
   group-within at h = ⊎-elim (λ l. let w = group-end s at l in omega arith) (λ l. let w = group-none s at l in omega arith) (lt-or-ge at (length s))
 
-  pub place-within : (n at : ℕ) → at ≤ length s → placeFrom n s at ≤ length s
-  unfolding placeFrom
-  place-within zero at h = h
-  place-within (suc n) at h = place-within n (groupEnd s at) (group-within at h .1)
-
   -- a group is a byte or more
   pub place-grows : (n at : ℕ) → placeFrom n s at < length s → at + n ≤ placeFrom n s at
   unfolding placeFrom

@@ -14,7 +14,7 @@ use Rattle.model.specs.Lent.{Lent, lengthsFit, tablesOf, encode}
 use Rattle.model.specs.Sound.{sound}
 use Rattle.model.specs.SoundLent.{soundLent, Small}
 use Rattle.model.specs.Calls.{call, encoded, eventsTold}
-use Rattle.model.specs.Inner.{Fit, Encodes, SoundSlices, Does}
+use Rattle.model.specs.Inner.{Fit, Encodes, Does}
 use Rattle.words.proofs.Flags.{and-1, and-2, and-i}
 use Rattle.model.proofs.Fits.{ranged, fit}
 use Rattle.encoding.proofs.LentSoundFacts.{sound-is}
@@ -46,9 +46,6 @@ sound-encoded S L range fits small e =
       soundly = soundly-is S (tablesOf S L) .test (stands-soundly S L (tablesOf S L) st (read-shape S L is) is small);
       encoded = stands-encode S L (tablesOf S L) st a b c;
     }
-
-pub sound-held : (S : Settings) (L : Lent) → inRange S ≡ true → lengthsFit S L ≡ true → Small L → soundLent S L ≡ true → SoundSlices S L
-sound-held S L range fits small e = record { tables = tablesOf S L; are = sound-encoded S L range fits small e }
 
 -- ---- from the tables
 

@@ -3,7 +3,7 @@ use mathlib.Core.Path.{_≡_}
 use mathlib.Core.List.{List}
 use Prim.Native.Nat.{ℕ, _+_}
 use lib.ListN.{getD}
-use Rattle.model.specs.Lent.{maskAt, readableAt, missAt, sentAt, ticketCountAt, ticketAt, queuedAt, kindAt, queueMaskAt}
+use Rattle.model.specs.Lent.{maskAt, readableAt, missAt, sentAt, ticketCountAt, ticketAt, queuedAt, kindAt}
 use Rattle.model.specs.declared.Settings.{Settings}
 use Rattle.layout.specs.declared.Layout.{Layout}
 use Rattle.layout.specs.Layout.{Placed}
@@ -32,6 +32,3 @@ module _ (S : Settings) {at : Layout} (p : Placed S at) where
 
   pub kind-read : (marks : List ℕ) (q : ℕ) → getD marks (at .kinds + q) 0 ≡ kindAt S marks q
   kind-read marks q = rw (p .kinds)
-
-  pub queue-mask-read : (words : List ℕ) (i : ℕ) → getD words (at .backs + i) 0 ≡ queueMaskAt S words i
-  queue-mask-read words i = rw (p .backs)

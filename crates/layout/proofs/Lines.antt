@@ -73,10 +73,6 @@ module _ (S : Settings) (t : Tables) {longs words marks : List ℕ} (h : ByBlock
   unfolding fit
   tag-at = field-get tagOf 1 (linesOf S) (t .lines) (longBlocks S t) 0 l {i = l} (h .as-longs) refl (omega arith) (omega arith) below few fresh 0 (omega arith) (omega arith)
 
-  pub cycle-at : getD words (1 + l) 0 ≡ getD (t .lines) l fresh .cycle
-  unfolding fit
-  cycle-at = field-get cycleOf 1 (linesOf S) (t .lines) (wordBlocks S t) 1 l {i = 1 + l} (h .as-words) refl (omega arith) (omega arith) below few fresh 0 (omega arith) (omega arith)
-
   pub status-at : (j q : ℕ) → j < 4 → q ≡ 4 * l + j → getD marks q 0 ≡ getD (fit 4 (statusesOf (getD (t .lines) l fresh))) j 0
   status-at j q b f =
       let start : 4 * l ≡ offsetIn (markBlocks S t) 0 + 4 * l = omega arith in

@@ -2,7 +2,6 @@
 use Prim.Native.Nat.{ℕ, _≤_}
 use mathlib.Core.Path.{_≡_}
 use mathlib.Core.Bool.{true}
-use mathlib.Core.List.{List}
 use Rattle.model.specs.Range.{inRange}
 use Rattle.model.specs.Address.{maskOf}
 use Rattle.model.specs.Tables.{Tables, start, Outcome, refused, done, after}
@@ -15,7 +14,6 @@ pub use Rattle.model.specs.Runner.{commandMask}
 use Rattle.model.specs.declared.Settings.{Settings}
 use Rattle.model.specs.declared.Access.{Access}
 use Rattle.model.specs.declared.Access.the-variants.{Read, Write}
-use Rattle.model.specs.declared.Event.{Event}
 use Rattle.model.specs.declared.Command.{Command}
 use Rattle.model.specs.declared.Command.the-variants as cmd
 use Rattle.model.proofs.SoundFacts.{LeavesSound, parts, whole}
@@ -26,11 +24,6 @@ use Rattle.model.proofs.AccessCases.{access-leaves}
 after-sound : (S : Settings) (t : Tables) → sound S t ≡ true → (o : Outcome Tables) → LeavesSound S o → sound S (after t o) ≡ true
 after-sound S t ok (refused n) l = ok
 after-sound S t ok (done es u) l = whole S u l
-
--- the same of the tables that an accepted step leaves
-pub done-sound : (S : Settings) (t : Tables) (o : Outcome Tables) → sound S (after t o) ≡ true → (es : List Event) (u : Tables)
-    → o ≡ done es u → sound S u ≡ true
-done-sound S t o ok es u e = rw e at ok
 
 pub start-sound : (S : Settings) → sound S (start S) ≡ true
 start-sound S = whole S (start S) (start-is-sound S)

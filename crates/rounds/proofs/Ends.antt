@@ -9,7 +9,7 @@ use lib.ListN.{length, length-map}
 use Rattle.model.specs.Address.{wellFormed}
 use Rattle.model.specs.Tables.{Tables, Outcome, refused, done}
 use Rattle.model.specs.Lent.{Lent}
-use Rattle.model.specs.Calls.{encoded, checkCall, verdictOf, eventsTold}
+use Rattle.model.specs.Calls.{encoded, checkCall, eventsTold}
 use Rattle.model.specs.Inner.{Encodes, SoundSlices}
 use Rattle.model.specs.RecordsOf as records
 use Rattle.model.specs.Records.{bytesOf, logBytes, waitRoom}
@@ -26,7 +26,7 @@ use Rattle.encoding.proofs.LentRounds.{runOf, rounds-encoded}
 use Rattle.encoding.proofs.Demand.{steps-keep}
 use Rattle.records.specs.Stores.{Stored}
 use Rattle.records.proofs.Stores.{was-stored}
-use Rattle.soundness.specs.Laid.{Checks, verdictIn}
+use Rattle.soundness.specs.Laid.{Checks}
 use Rattle.soundness.specs.declared.LaidVerdict.{LaidVerdict}
 use Rattle.soundness.specs.declared.LaidVerdict.the-variants as laid
 use Rattle.tables.specs.Telling.{telling}
@@ -119,9 +119,6 @@ module _ (S : Settings) (x : Access) (L : Lent) (e : List ℕ) where
   unfolding waitCall
   waits-refused {v} {n} {r} {f} h checks is t = rw (roomy h) (go (checkCall S L) refl)
     where
-      says : verdict.Refused n ≡ verdictOf (checkCall S L)
-      says = sym (ap verdictIn is) ∙ checks .says
-
       go : (o : Outcome Lent) → checkCall S L ≡ o → Waits (waitCall S x L) e r f L
       go (refused k) q = let z : k ≡ n = cc in rw (q, z) (t .on L)
       go (done es M) q = let z : verdict.Passed ≡ verdict.Refused n = cc in let o : _≡_ {A = ℕ} 0 1 = cc in absurd (omega arith)

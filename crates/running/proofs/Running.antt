@@ -41,16 +41,6 @@ going room k rest =
     Goes : Stop → Type 0
     Goes s = goesOn s ≡ true → Going room k rest
 
-pub nothing-goes : (s : Stop) → goesOn s ≡ true → s ≡ stop.Nothing
-nothing-goes stop.Nothing h = refl
-nothing-goes stop.SettingOutOfRange h = clash h refl
-nothing-goes stop.SliceLength h = clash h refl
-nothing-goes stop.NotSound h = clash h refl
-nothing-goes stop.OutOfPlace h = clash h refl
-nothing-goes stop.UnknownKind h = clash h refl
-nothing-goes stop.CutShort h = clash h refl
-nothing-goes stop.NoRoom h = clash h refl
-
 -- ---- what is passed over
 
 module _ (S : Settings) where

@@ -1,7 +1,7 @@
 -- What the verdict of `check` tells: which refusal, and what holds if there is none.
 use mathlib.Core.Path.{_≡_, refl, sym}
 use mathlib.Core.Bool.{Bool, true, false}
-use mathlib.Core.List.{List, []}
+use mathlib.Core.List.{[]}
 use Prim.Native.Nat.{ℕ}
 use native.Mathlib.Omega.{arith}
 use Rattle.model.specs.declared.Settings.{Settings}
@@ -11,11 +11,9 @@ use Rattle.model.specs.declared.Verdict.the-variants.{Passed, Refused}
 use Rattle.words.specs.Words.{pick}
 use Rattle.model.specs.Range.{inRange}
 use Rattle.model.specs.Tables.{Tables, Outcome, refused, done}
-use Rattle.model.specs.Lent.{Lent, lent, lengthsFit, tablesOf}
+use Rattle.model.specs.Lent.{Lent, lengthsFit, tablesOf}
 use Rattle.model.specs.SoundLent.{soundLent}
 use Rattle.model.specs.Calls.{encoded, call, checkCall, verdictOf}
-use Rattle.model.specs.Inner.{Fit}
-use Rattle.layout.proofs.OfRange.{lengths-fit}
 
 -- the three checks in front of an outcome
 abbrev pub checked : Bool → Bool → Bool → Outcome Lent → Outcome Lent
@@ -42,14 +40,6 @@ module _ (S : Settings) (L : Lent) where
   pub passed-is : verdictOf (checkCall S L) ≡ Passed → (inRange S ≡ true) × (lengthsFit S L ≡ true) × (soundLent S L ≡ true)
   passed-is e = all-pass (inRange S) (lengthsFit S L) (soundLent S L) L e
 
-  -- a call then does its step
-  pub passed-call : verdictOf (checkCall S L) ≡ Passed → (step : Tables → Outcome Tables) → call S step L ≡ encoded S (step (tablesOf S L))
-  unfolding call
-  passed-call e step = let (r, l, s) = passed-is e in rw (r, l, s)
-
   pub refused-is : (n : Refusal) → verdictOf (checkCall S L) ≡ Refused n → (step : Tables → Outcome Tables) → call S step L ≡ refused n
   unfolding call
   refused-is n e step = first-refuses (inRange S) (lengthsFit S L) (soundLent S L) L (encoded S (step (tablesOf S L))) n e
-
-pub passed-fit : (S : Settings) (longs words marks : List ℕ) → verdictOf (checkCall S (lent longs words marks)) ≡ Passed → Fit S longs words marks
-passed-fit S longs words marks e = let (r, l, s) = passed-is S (lent longs words marks) e in lengths-fit S longs words marks r l

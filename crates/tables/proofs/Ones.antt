@@ -2,12 +2,12 @@
 use mathlib.Core.Path.{_≡_, refl, ap}
 use mathlib.Core.Logic.{_≢_}
 use mathlib.Core.Bool.{Bool, true, false}
-use mathlib.Core.List.{List, [], _∷_, map}
+use mathlib.Core.List.{List, [], _∷_}
 use Prim.Native.Nat.{ℕ, zero, suc, _<_}
 use native.Mathlib.Nat.{not-suc-le-zero, le-of-suc-le-suc}
 use native.Mathlib.Omega.{arith}
 use lib.ListN.{length, getD, drop}
-use Rattle.words.specs.Words.{packed, keep}
+use Rattle.words.specs.Words.{keep}
 use Rattle.words.specs.Regions.{dropped}
 
 module _ {A : Type 0} where
@@ -26,10 +26,3 @@ module _ {A : Type 0} where
   pub dropped-first : (l : List A) → dropped 0 l ≡ drop 1 l
   dropped-first [] = refl
   dropped-first (x ∷ l) = refl
-
-  -- a field that a map leaves
-  pub places-map : (g : A → List ℕ) (f : A → A) → ((x : A) → g (f x) ≡ g x) → (w n : ℕ) (l : List A) → packed g w n (map f l) ≡ packed g w n l
-  unfolding packed
-  places-map g f h w zero l = refl
-  places-map g f h w (suc n) [] = refl
-  places-map g f h w (suc n) (x ∷ l) = rw (h x, places-map g f h w n l)

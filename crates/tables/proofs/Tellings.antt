@@ -23,9 +23,6 @@ telling-tidy e = refl
 pub refusal-leaves : (n : Refusal) (L : Lent) → Leaves (refused n) L (telling (event.Refused n)) L
 refusal-leaves n L = record { tells = telling-tells (event.Refused n); tidy = telling-tidy (event.Refused n); left = refl }
 
-pub event-leaves : (e : Event) (L M : Lent) → Leaves (done (e ∷ []) M) L (telling e) M
-event-leaves e L M = record { tells = telling-tells e; tidy = telling-tidy e; left = refl }
-
 -- the same of a step on tables that comes to done
 pub done-leaves : (S : Settings) {o : Outcome Tables} {es : List Event} {t : Tables} {L : Lent} {r : Told} {M : Lent}
     → o ≡ done es t → eventsTold r ≡ es → tidied r ≡ r → M ≡ encode S t → Leaves (encoded S o) L r M

@@ -43,9 +43,6 @@ module _ (p : ℕ → Bool) where
   abbrev pub Passed : ℕ → ℕ → Type 0
   Passed n i = (i ≤ n) × (every i p ≡ true)
 
-  pub passed-start : (n : ℕ) → Passed n 0
-  passed-start n = (omega arith, refl)
-
   pub passed-stop : (n i : ℕ) {b : Bool} → i < n → b ≡ p i → not b ≡ true → false ≡ every n p
   passed-stop n i h e t = sym (every-no n i h (sym e ∙ not-yes t))
 

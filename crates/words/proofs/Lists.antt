@@ -69,14 +69,6 @@ module _ {A : Type 0} where
     count-in (y ∷ l) (inl q) e = let h : p y ≡ true = rw q at e in rw h (omega arith)
     count-in (y ∷ l) (inr m) e = let h = count-in l m e in ⊎-elim (λ q. rw q (omega arith)) (λ q. rw q (count-in l m e)) (flag (p y))
 
-    pub count-any : (l : List A) → 0 < count p l → any p l ≡ true
-    count-any [] h = absurd (omega arith)
-    count-any (y ∷ l) h = go (λ k. count-any l k) (p y) h
-      where
-        go : (0 < count p l → any p l ≡ true) → (b : Bool) → 0 < pick b (suc (count p l)) (count p l) → (b || any p l) ≡ true
-        go ih true k = refl
-        go ih false k = ih k
-
     -- where one passes, those that pass are one
     pub count-one : (l : List A) → count p l ≡ 1 → {x y : A} → In x l → p x ≡ true → In y l → p y ≡ true → x ≡ y
     count-one [] c m e n f = absurd m

@@ -201,11 +201,6 @@ module _ {A : Type 0} (g : A → List ℕ) (w : ℕ) where
       (put-past (fit w (g x)) (packed g w n xs) (w * e) (closedUp w (region (packed g w n xs) (w * e) (w * (n - e))))
       ∙ ap (λ (l : List ℕ). fit w (g x) ++ l) (places-close n e xs (le-of-suc-le-suc h) (le-of-suc-le-suc k)))
 
-  -- number k of a record
-  pub places-get : (n e k : ℕ) (xs : List A) (d : A) → e < length xs → length xs ≤ n → k < w → getD (packed g w n xs) (w * e + k) 0 ≡ getD (fit w (g (getD xs e d))) k 0
-  places-get n e k xs d h l m =
-      sym (getD-region (packed g w n xs) (w * e) w k m) ∙ ap (λ (t : List ℕ). getD t k 0) (places-region n e xs d h l)
-
 -- ---- a field of a table in a slice of blocks: to store a record anew, to read a number of one
 
 module _ {A : Type 0} (g : A → List ℕ) (w n : ℕ) (xs : List A) (bs : List (List ℕ)) (j e : ℕ) {l : List ℕ} {i : ℕ}

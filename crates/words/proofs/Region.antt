@@ -1,12 +1,12 @@
 -- Laws of a region of a slice, what is put in its place, a region that closes up.
 use mathlib.Core.Path.{_≡_, refl, sym, ap, _∙_}
-use mathlib.Core.List.{List, [], _∷_, _++_, append-assoc}
+use mathlib.Core.List.{List, [], _∷_, _++_}
 use Prim.Native.Nat.{ℕ, zero, suc, _+_, _-_, _≤_, _<_}
-use native.Mathlib.Nat.{zero-add, suc-add, add-zero, add-suc}
+use native.Mathlib.Nat.{add-zero}
 use native.Mathlib.Numerals.{add-one}
 use native.Mathlib.Omega.{arith}
-use lib.ListN.{take-append-drop, length, take, drop, getD, set, replicate, length-append, length-drop, length-set, length-replicate, List·getD-append}
-use lib.Seq.{take-append-le, drop-append-le, drop-append-add, sets, length-sets, set-append-left, drop-drop, take-at, drop-at, paste, paste-zero, paste-suc, length-paste, length-paste-head, length-take-le, take-all, getD-append-add, getD-take, getD-drop}
+use lib.ListN.{length, take, drop, getD, set, replicate, length-append, length-drop, length-set, length-replicate, List·getD-append}
+use lib.Seq.{sets, paste, paste-zero, paste-suc, length-paste-head, length-take-le, take-all, getD-append-add, getD-take, getD-drop}
 use Rattle.words.specs.Regions.{region, put, closedUp}
 
 pub length-region : (l : List ℕ) (at n : ℕ) → at + n ≤ length l → length (region l at n) ≡ n
@@ -20,9 +20,6 @@ getD-region l at n i h = getD-take n (drop at l) i 0 h ∙ getD-drop at l i 0
 pub put-paste : (l : List ℕ) (at : ℕ) (r : List ℕ) (n : ℕ) → length r ≡ n → paste l at r n ≡ put l at r
 unfolding put
 put-paste l at r n e = rw (take-all n r (omega arith), e)
-
-pub length-put : (l : List ℕ) (at : ℕ) (r : List ℕ) → at + length r ≤ length l → length (put l at r) ≡ length l
-length-put l at r h = ap length (sym (put-paste l at r (length r) refl)) ∙ length-paste l at r (length r) h (omega arith)
 
 -- past what is pasted stands what stood there
 pub getD-paste-past : (d : List ℕ) (at : ℕ) (s : List ℕ) (j k : ℕ) → at ≤ length d → j ≤ length s → getD (paste d at s j) (at + j + k) 0 ≡ getD d (at + j + k) 0
@@ -120,99 +117,10 @@ sets-four l w a b c d =
 pub region-first : (l : List ℕ) (at n : ℕ) → 0 < n → getD (region l at n) 0 0 ≡ getD l at 0
 region-first l at n h = getD-region l at n 0 h ∙ ap (λ (k : ℕ). getD l k 0) (add-zero at)
 
--- ---- a run of stores, and where the parts of a slice lie
-
-pub set-past : (p l : List ℕ) (k v : ℕ) → set (p ++ l) (length p + k) v ≡ p ++ set l k v
-set-past [] l k v = rw zero-add
-set-past (x ∷ p) l k v = rw suc-add (ap (λ (t : List ℕ). x ∷ t) (set-past p l k v))
-
-pub sets-past : (p l : List ℕ) (k : ℕ) (vs : List ℕ) → sets (p ++ l) (length p + k) vs ≡ p ++ sets l k vs
-sets-past p l k [] = refl
-sets-past p l k (v ∷ vs) =
-    ap (λ (t : List ℕ). sets t (suc (length p + k)) vs) (set-past p l k v)
-    ∙ ap (λ (m : ℕ). sets (p ++ set l k v) m vs) (sym (add-suc (length p) k))
-    ∙ sets-past p (set l k v) (suc k) vs
-
-pub sets-within : (r z : List ℕ) (k : ℕ) (vs : List ℕ) → k + length vs ≤ length r → sets (r ++ z) k vs ≡ sets r k vs ++ z
-sets-within r z k [] h = refl
-sets-within r z k (v ∷ vs) h =
-    let e : k + suc (length vs) ≤ length r = h in
-    ap (λ (t : List ℕ). sets t (suc k) vs) (set-append-left r z k v (omega arith))
-    ∙ sets-within (set r k v) z (suc k) vs (rw length-set (omega arith))
+-- ---- a run of stores
 
 pub sets-append : (l : List ℕ) (at : ℕ) (a b : List ℕ) → sets (sets l at a) (at + length a) b ≡ sets l at (a ++ b)
 sets-append l at [] b = rw add-zero
 sets-append l at (x ∷ a) b =
     let e : at + suc (length a) ≡ suc at + length a = omega arith in
     rw e (sets-append (set l at x) (suc at) a b)
-
-pub region-split : (l : List ℕ) (at n : ℕ) → l ≡ take at l ++ (region l at n ++ drop (at + n) l)
-unfolding region
-region-split l at n =
-    sym (take-append-drop at l)
-    ∙ ap (λ (t : List ℕ). take at l ++ t) (sym (take-append-drop n (drop at l)) ∙ ap (λ (t : List ℕ). take n (drop at l) ++ t) (drop-drop n at l))
-
--- stores in a region are the region, stored in
-pub sets-region : (l : List ℕ) (at n k : ℕ) (vs : List ℕ) → at + n ≤ length l → k + length vs ≤ n → sets l (at + k) vs ≡ put l at (sets (region l at n) k vs)
-unfolding put
-sets-region l at n k vs h g =
-    let full : length (region l at n) ≡ n = length-region l at n h in
-    let whole : length (sets (region l at n) k vs) ≡ n = length-sets (region l at n) k vs ∙ full in
-    let front : length (take at l) ≡ at = length-take-le at l (omega arith) in
-    ap (λ (t : List ℕ). sets t (at + k) vs) (region-split l at n)
-    ∙ ap (λ (m : ℕ). sets (take at l ++ (region l at n ++ drop (at + n) l)) (m + k) vs) (sym front)
-    ∙ sets-past (take at l) (region l at n ++ drop (at + n) l) k vs
-    ∙ ap (λ (t : List ℕ). take at l ++ t) (sets-within (region l at n) (drop (at + n) l) k vs (omega arith))
-    ∙ sym (append-assoc (take at l) (sets (region l at n) k vs) (drop (at + n) l))
-    ∙ ap (λ (m : ℕ). take at l ++ sets (region l at n) k vs ++ drop (at + m) l) (sym whole)
-
--- the region of what is put there; to put again
-pub region-put : (l : List ℕ) (at : ℕ) (r : List ℕ) → at ≤ length l → region (put l at r) at (length r) ≡ r
-unfolding region put
-region-put l at r h =
-    let front : length (take at l) ≡ at = length-take-le at l h in
-    ap (λ (t : List ℕ). take (length r) (drop at t)) (append-assoc (take at l) r (drop (at + length r) l))
-    ∙ ap (λ (t : List ℕ). take (length r) t) (drop-at (take at l) (r ++ drop (at + length r) l) at front)
-    ∙ take-at r (drop (at + length r) l) (length r) refl
-
-pub put-region : (l : List ℕ) (at n : ℕ) → at + n ≤ length l → put l at (region l at n) ≡ l
-unfolding put
-put-region l at n h =
-    append-assoc (take at l) (region l at n) (drop (at + length (region l at n)) l)
-    ∙ ap (λ (m : ℕ). take at l ++ (region l at n ++ drop (at + m) l)) (length-region l at n h)
-    ∙ sym (region-split l at n)
-
--- ---- a region beside one that is put
-
-pub region-put-before : (l : List ℕ) (at : ℕ) (r : List ℕ) (other n : ℕ) → at ≤ length l → other + n ≤ at → region (put l at r) other n ≡ region l other n
-unfolding region put
-region-put-before l at r other n h k =
-    let front : length (take at l) ≡ at = length-take-le at l h in
-    let part : n ≤ length (drop other (take at l)) = rw (length-drop, front) (omega arith) in
-    ap (λ (t : List ℕ). take n (drop other t)) (append-assoc (take at l) r (drop (at + length r) l))
-    ∙ ap (take n) (drop-append-le other (take at l) (r ++ drop (at + length r) l) (omega arith))
-    ∙ take-append-le n (drop other (take at l)) (r ++ drop (at + length r) l) part
-    ∙ sym (take-append-le n (drop other (take at l)) (drop at l) part)
-    ∙ ap (take n) (sym (drop-append-le other (take at l) (drop at l) (omega arith)))
-    ∙ ap (λ (t : List ℕ). take n (drop other t)) (take-append-drop at l)
-
-pub region-put-after : (l : List ℕ) (at : ℕ) (r : List ℕ) (other n : ℕ) → at + length r ≤ other → at + length r ≤ length l → region (put l at r) other n ≡ region l other n
-unfolding region put
-region-put-after l at r other n h k =
-    let front : length (take at l) ≡ at = length-take-le at l (omega arith) in
-    let e : length (take at l ++ r) + (other - (at + length r)) ≡ other = rw (length-append, front) (omega arith) in
-    let back : at + length r + (other - (at + length r)) ≡ other = omega arith in
-    ap (take n) (
-    ap (λ (m : ℕ). drop m (take at l ++ r ++ drop (at + length r) l)) (sym e)
-    ∙ drop-append-add (take at l ++ r) (drop (at + length r) l) (other - (at + length r))
-    ∙ drop-drop (other - (at + length r)) (at + length r) l
-    ∙ ap (λ (m : ℕ). drop m l) back)
-
-pub put-put : (l : List ℕ) (at : ℕ) (r s : List ℕ) → at + length r ≤ length l → length r ≡ length s → put (put l at r) at s ≡ put l at s
-unfolding put
-put-put l at r s h e =
-    let front : length (take at l) ≡ at = length-take-le at l (omega arith) in
-    let whole : length (take at l ++ r) ≡ at + length s = rw (length-append, front) (omega arith) in
-    ap (λ (t : List ℕ). t ++ s ++ drop (at + length s) (take at l ++ r ++ drop (at + length r) l))
-    (ap (take at) (append-assoc (take at l) r (drop (at + length r) l)) ∙ take-at (take at l) (r ++ drop (at + length r) l) at front)
-    ∙ ap (λ (t : List ℕ). take at l ++ s ++ t) (drop-at (take at l ++ r) (drop (at + length r) l) (at + length s) whole ∙ ap (λ (m : ℕ). drop (at + m) l) e)
