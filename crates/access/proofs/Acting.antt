@@ -32,7 +32,7 @@ use Rattle.model.proofs.ProbeFindsSpot.{probe-spotted}
 use Rattle.model.proofs.Turning.{set-below}
 use Rattle.encoding.proofs.Standing.{encode-stands}
 use Rattle.layout.specs.declared.Layout.{Layout}
-use Rattle.layout.specs.Layout.{Placed}
+use Rattle.layout.specs.Layout.{LaysOut}
 use Rattle.layout.proofs.ByBlocks.{ByBlocks, is-stands}
 use Rattle.layout.proofs.Lines.{takenAs, line-stands, taken-stands}
 use Rattle.layout.proofs.TreeStands.{tree-stands, tree-at}
@@ -40,14 +40,14 @@ use Rattle.tables.proofs.Misses.{withTicket, unsent, append-stands, new-entry-s
 use Rattle.tables.proofs.Queue.{push-stands}
 use Rattle.words.proofs.Counting.{map-one}
 use Rattle.probe.specs.declared.Decision.{Decision}
-use Rattle.access.specs.Plan.{Met, entryIndex, courseOf, goes, ticketOf}
+use Rattle.access.specs.Plan.{Met, entryIndex, missPlan, isAccepted, ticketOf}
 use Rattle.access.specs.Written.{sectorsFor, sectorsAfter, missesWritten, entryWritten, queueWritten, lineLeft, lineTaken, setTurned}
-use Rattle.access.specs.declared.course.Course.{Course}
-use Rattle.access.specs.declared.course.Course.the-variants.{Refused, Stays, Joins, Starts}
+use Rattle.access.specs.declared.plan.MissPlan.{MissPlan}
+use Rattle.access.specs.declared.plan.MissPlan.the-variants.{Refused, Stays, Joins, Starts}
 use Rattle.access.proofs.Plans.{index-found, merged-entry, entry-once}
-use Rattle.access.proofs.Courses.{shows, answer-is}
+use Rattle.access.proofs.PlanTests.{shows, answer-is}
 use Rattle.access.proofs.Lines.{stands, found-is}
-use Rattle.access.proofs.Inverted.{Means, course-means}
+use Rattle.access.proofs.Inverted.{Means, plan-means}
 use Rattle.probe.specs.Scan.{dirtyAt}
 use Rattle.access.proofs.Recounts.{was-dirty}
 use Rattle.layout.proofs.DirtyCount.{dirty-count-stands, dirty-count-at}
@@ -71,7 +71,7 @@ fetched-four : (x : Access) (n : Answer) (y : Queued) → In y (fetches x n) →
 fetched-four (Read a m k) n y j = by-flag (λ (q : List Queued). In y q → length (y .masks) ≡ 4) (isMiss n) _ _ (λ e. ⊎-elim (λ q. rw q) (λ i. absurd i)) (λ e i. absurd i) j
 fetched-four (Write a m k) n y j = absurd j
 
-module _ (S : Settings) {longs words marks : List ℕ} (x : Access) (d : Decision) (t : Tables) (p : Spot) (m : Met S (lent longs words marks) x d t p) {place : Layout} (pl : Placed S place) where
+module _ (S : Settings) {longs words marks : List ℕ} (x : Access) (d : Decision) (t : Tables) (p : Spot) (m : Met S (lent longs words marks) x d t p) {place : Layout} (pl : LaysOut S place) where
   ok : Sound S t
   ok = parts S t (m .is .soundly)
 
@@ -206,20 +206,20 @@ module _ (S : Settings) {longs words marks : List ℕ} (x : Access) (d : Decisio
       )
 
   pub misses-written : (ls : List Line) (k : ℕ) (ts : List ℕ) (L₁ L₂ : Lent) → ByBlocks S (L₁ .longs) (L₁ .words) (L₁ .marks) (withTrees ts (withDirtyCount k (withLines ls t)))
-      → (c : Course) → c ≡ courseOf S x p t → goes c ≡ true → L₂ ≡ missesWritten place (S .readers) c (addressOf x) (ticketOf x) L₁
+      → (c : MissPlan) → c ≡ missPlan S x p t → isAccepted c ≡ true → L₂ ≡ missesWritten place (S .readers) c (addressOf x) (ticketOf x) L₁
       → ByBlocks S (L₂ .longs) (L₂ .words) (L₂ .marks) (withMisses (onMisses x (p .answer) (t .misses)) (withTrees ts (withDirtyCount k (withLines ls t))))
   misses-written ls k ts L₁ L₂ h (Refused n) e g q = absurd (false≢true g)
   misses-written ls k ts L₁ L₂ h Stays e g q =
-      let w = subst (Means S x p t) (sym e) (course-means S x p t) in
+      let w = subst (Means S x p t) (sym e) (plan-means S x p t) in
       rw (q, misses-stay x (p .answer) (t .misses) (w .merges) (w .misses refl)) h
   misses-written ls k ts L₁ L₂ h (Joins i n) e g q =
-      let w = subst (Means S x p t) (sym e) (course-means S x p t) in
+      let w = subst (Means S x p t) (sym e) (plan-means S x p t) in
       let j = join-one (w .0 .merges) i (w .1) (ticketOf x) in
       let few : length (t .misses) ≤ S .misses = leb-true (length (t .misses)) (S .misses) (ok .few) in
       rw (q, misses-join x (p .answer) (t .misses) (w .0 .merges), j .1)
       (append-stands S (withTrees ts (withDirtyCount k (withLines ls t))) h pl few i (j .0) (ticketOf x) n (w .2) (w .3) (refl, refl))
   misses-written ls k ts L₁ L₂ h (Starts i) e g q =
-      let w = subst (Means S x p t) (sym e) (course-means S x p t) in
+      let w = subst (Means S x p t) (sym e) (plan-means S x p t) in
       let few : length (t .misses) ≤ S .misses = leb-true (length (t .misses)) (S .misses) (ok .few) in
       rw (q, misses-start x (p .answer) (t .misses) (w .0 .merges) (w .0 .misses refl))
       (new-entry-stands S (withTrees ts (withDirtyCount k (withLines ls t))) h pl few (addressOf x) (ticketOf x) i (w .1) (w .2) (ranged S (m .is .range) .reader) (refl, refl, refl))

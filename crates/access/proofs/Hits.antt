@@ -19,16 +19,16 @@ use Rattle.model.specs.declared.Access.{Access}
 use Rattle.model.specs.declared.Answer.{Answer}
 use Rattle.model.specs.declared.Answer.the-variants.{Hit, HitReserved, Miss, SectorMiss}
 use Rattle.model.specs.declared.Event.the-variants.{Answered}
-use Rattle.model.specs.declared.Told.{Told}
+use Rattle.model.specs.declared.Reply.{Reply}
 use Rattle.words.proofs.Flags.{and-1, and-2}
 use Rattle.layout.specs.declared.Layout.{Layout}
-use Rattle.layout.specs.Layout.{Placed}
+use Rattle.layout.specs.Layout.{LaysOut}
 use Rattle.tables.specs.Telling.{telling}
 use Rattle.probe.specs.declared.Decision.{Decision}
 use Rattle.access.specs.Plan.{Met, Acts}
 use Rattle.access.specs.Written.{sectorsFor, sectorsAfter, queuesOf, tellingOf, lineLeft, lineTaken, treesWritten, setTurned}
-use Rattle.access.specs.declared.course.Course.the-variants.{Stays}
-use Rattle.access.proofs.Courses.{few-queued, course-hit}
+use Rattle.access.specs.declared.plan.MissPlan.the-variants.{Stays}
+use Rattle.access.proofs.PlanTests.{few-queued, plan-hit}
 use Rattle.access.proofs.Lines.{no-back}
 use Rattle.access.proofs.Kept.{touched}
 use Rattle.access.proofs.Telling.{acted}
@@ -40,7 +40,7 @@ only-hit HitReserved e = absurd (false≢true e)
 only-hit Miss e = absurd (false≢true e)
 only-hit SectorMiss e = absurd (false≢true e)
 
-module _ (S : Settings) {longs words marks : List ℕ} (x : Access) (d : Decision) (t : Tables) (p : Spot) (m : Met S (lent longs words marks) x d t p) {place : Layout} (pl : Placed S place)
+module _ (S : Settings) {longs words marks : List ℕ} (x : Access) (d : Decision) (t : Tables) (p : Spot) (m : Met S (lent longs words marks) x d t p) {place : Layout} (pl : LaysOut S place)
     (hits : (isRead x && isHit (d .answer)) ≡ true) where
   reads : isRead x ≡ true
   reads = and-1 (isRead x) (isHit (d .answer)) hits
@@ -64,8 +64,8 @@ module _ (S : Settings) {longs words marks : List ℕ} (x : Access) (d : Decisio
   acts = record {
     met = m;
     counted = refl;
-    planned = course-hit S x d t p m refl none-needed (omega (arith, few-queued S x d t p m)) reads (ap isMerge hit) (ap isMiss hit);
-    going = refl;
+    planned = plan-hit S x d t p m refl none-needed (omega (arith, few-queued S x d t p m)) reads (ap isMerge hit) (ap isMiss hit);
+    accepted = refl;
   }
 
   -- no line is taken over, and its sectors stay
@@ -75,7 +75,7 @@ module _ (S : Settings) {longs words marks : List ℕ} (x : Access) (d : Decisio
       let same : lent longs (put words (1 + d .line) (getD words 0 0 ∷ [])) marks ≡ lineTaken place (d .answer) (d .line) (lent longs (put words (1 + d .line) (getD words 0 0 ∷ [])) marks) = rw hit in
       same ∙ ap (lineTaken place (d .answer) (d .line)) (touched S x d t p m pl (rw (reads, hit)))
 
-  pub hit-offered : {r : Told} {words′ : List ℕ} → r ≡ telling (Answered Hit (d .line))
+  pub hit-offered : {r : Reply} {words′ : List ℕ} → r ≡ telling (Answered Hit (d .line))
       → words′ ≡ treesWritten S place (setIndex S (addressOf x)) (d .way) (put words (1 + d .line) (getD words 0 0 ∷ []))
       → Leaves (encoded S (proceed S x t (at p))) (lent longs words marks) r (lent longs words′ marks)
   hit-offered {r} {words′} e w =

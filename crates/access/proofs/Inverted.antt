@@ -1,4 +1,4 @@
--- What a course says that was planned: which tests led to it, and that its writes have room.
+-- What a plan says that was planned: which tests led to it, and that its writes have room.
 use mathlib.Core.Path.{_≡_, refl}
 use mathlib.Core.Bool.{Bool, true, false, _&&_}
 use Prim.Native.Nat.{ℕ, _+_, _≤_, _<_}
@@ -14,26 +14,26 @@ use Rattle.model.specs.Steps.{isMerge, isMiss, placesNeeded}
 use Rattle.model.specs.declared.Settings.{Settings}
 use Rattle.model.specs.declared.Access.{Access}
 use Rattle.model.specs.declared.Refusal.the-variants.{QueueFull, EntryFull, MissTableFull}
-use Rattle.access.specs.Plan.{entryIndex, ticketsAt, joining, starting, courseOf}
-use Rattle.access.specs.declared.course.Course.{Course}
-use Rattle.access.specs.declared.course.Course.the-variants.{Refused, Stays, Joins, Starts}
+use Rattle.access.specs.Plan.{entryIndex, ticketsAt, joining, starting, missPlan}
+use Rattle.access.specs.declared.plan.MissPlan.{MissPlan}
+use Rattle.access.specs.declared.plan.MissPlan.the-variants.{Refused, Stays, Joins, Starts}
 
--- the tests behind a course that is not refused
+-- the tests behind a plan that is not refused
 pub record Tested (S : Settings) (x : Access) (p : Spot) (t : Tables) (merge miss : Bool) : Type 0 where
   pub roomy : length (t .queue) + placesNeeded x p ≤ S .queue
   pub merges : (isRead x && isMerge (p .answer)) ≡ merge
   pub misses : merge ≡ false → (isRead x && isMiss (p .answer)) ≡ miss
 
 module _ (S : Settings) (x : Access) (p : Spot) (t : Tables) where
-  -- what each course means
-  abbrev pub Means : Course → Type 0
+  -- what each plan means
+  abbrev pub Means : MissPlan → Type 0
   Means (Refused n) = Unit {0}
   Means Stays = Tested S x p t false false
   Means (Joins e n) = Tested S x p t true false × (e ≡ entryIndex (addressOf x) (t .misses)) × (n ≡ ticketsAt e (t .misses)) × (n < S .readers)
   Means (Starts m) = Tested S x p t false true × (m ≡ length (t .misses)) × (m < S .misses)
 
-  pub course-means : Means (courseOf S x p t)
-  course-means = room (ltb (S .queue) (length (t .queue) + placesNeeded x p)) refl
+  pub plan-means : Means (missPlan S x p t)
+  plan-means = room (ltb (S .queue) (length (t .queue) + placesNeeded x p)) refl
     where
       joins : (b : Bool) → leb (S .readers) (ticketsAt (entryIndex (addressOf x) (t .misses)) (t .misses)) ≡ b → Tested S x p t true false
           → Means (pick b (Refused EntryFull) (Joins (entryIndex (addressOf x) (t .misses)) (ticketsAt (entryIndex (addressOf x) (t .misses)) (t .misses))))

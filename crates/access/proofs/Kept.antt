@@ -6,7 +6,7 @@ use Prim.Native.Nat.{ℕ, _+_}
 use native.Mathlib.Omega.{arith}
 use lib.ListN.{getD, set}
 use lib.Seq.{set-getD}
-use Rattle.words.specs.Words.{fit, any, one}
+use Rattle.words.specs.Words.{padTo, any, one}
 use Rattle.model.specs.Range.{linesOf}
 use Rattle.words.specs.Regions.{put}
 use Rattle.model.specs.Address.{addressOf, isRead, blockOf, sectorIndex}
@@ -23,12 +23,12 @@ use Rattle.model.specs.declared.Sector.{Sector}
 use Rattle.words.proofs.Flags.{not-yes, and-2}
 use Rattle.words.proofs.Places.{field-put, places-same}
 use Rattle.layout.specs.declared.Layout.{Layout}
-use Rattle.layout.specs.Layout.{Placed}
+use Rattle.layout.specs.Layout.{LaysOut}
 use Rattle.layout.proofs.ByBlocks.{ByBlocks, is-stands, stands-encode}
 use Rattle.probe.specs.declared.Decision.{Decision}
 use Rattle.access.specs.Plan.{Met}
 use Rattle.access.specs.Written.{sectorsFor, sectorsAfter, lineLeft}
-use Rattle.access.proofs.Courses.{answer-is}
+use Rattle.access.proofs.PlanTests.{answer-is}
 use Rattle.access.proofs.Lines.{kept-stays, stands}
 use Rattle.access.proofs.Acting.{sized, now-is, leftLine, line-left, newCount}
 
@@ -36,7 +36,7 @@ sector-kept : (x : Access) (n : Answer) (s : Sector) → (isRead x && not (isMis
 sector-kept (Read a m k) n s e = rw (not-yes {b = isMiss n} e)
 sector-kept (Write a m k) n s e = absurd (false≢true e)
 
-module _ (S : Settings) {longs words marks : List ℕ} (x : Access) (d : Decision) (t : Tables) (p : Spot) (m : Met S (lent longs words marks) x d t p) {place : Layout} (pl : Placed S place)
+module _ (S : Settings) {longs words marks : List ℕ} (x : Access) (d : Decision) (t : Tables) (p : Spot) (m : Met S (lent longs words marks) x d t p) {place : Layout} (pl : LaysOut S place)
     (kept : (isRead x && not (isMiss (d .answer))) ≡ true) where
   abbrev line : Line
   line = getD (t .lines) (d .line) fresh
@@ -59,7 +59,7 @@ module _ (S : Settings) {longs words marks : List ℕ} (x : Access) (d : Decisio
       (ap (λ (l : Line). l .sectors) found)
 
   touched-stands : ByBlocks S longs (put words (1 + d .line) (getD words 0 0 ∷ [])) marks (withLines (set (t .lines) (d .line) new) t)
-  unfolding fit
+  unfolding padTo
   touched-stands =
       let h = is-stands (m .is) in
       let s = sized S x d t p m pl in

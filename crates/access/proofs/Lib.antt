@@ -1,7 +1,7 @@
--- Laws of the sectors, of the course and of the act of an access.
+-- Laws of the sectors, of the plan and of the act of an access.
 pub mod Sectors
 pub mod Plans
-pub mod Courses
+pub mod PlanTests
 pub mod Lines
 pub mod Recounts
 pub mod Inverted

@@ -34,7 +34,7 @@ use Rattle.model.proofs.Ways.{way-line}
 use Rattle.probe.proofs.OfTables.{lines-held}
 use Rattle.access.specs.Plan.{Met}
 use Rattle.access.specs.Written.{sectorsFor}
-use Rattle.access.proofs.Courses.{shows, answer-is}
+use Rattle.access.proofs.PlanTests.{shows, answer-is}
 
 -- ---- answers
 

@@ -1,4 +1,4 @@
--- An access by its parts: the place decides between a refusal and an offer, the course between a refusal and the act.
+-- An access by its parts: the place decides between a refusal and an offer, the plan between a refusal and the act.
 use mathlib.Core.Path.{_≡_, refl, sym, ap, _∙_}
 use mathlib.Core.Bool.{true, false, true≢false, false≢true}
 use mathlib.Core.List.{List}
@@ -14,7 +14,7 @@ use Rattle.model.specs.declared.Settings.{Settings}
 use Rattle.model.specs.declared.Access.{Access}
 use Rattle.model.specs.declared.Refusal.the-variants.{BadAccess}
 use Rattle.model.specs.declared.Event.the-variants as event
-use Rattle.model.specs.declared.Told.{Told}
+use Rattle.model.specs.declared.Reply.{Reply}
 use Rattle.model.proofs.SoundFacts.{parts}
 use Rattle.encoding.proofs.Bridge.{is-tables}
 use Rattle.tables.specs.Telling.{telling}
@@ -25,39 +25,39 @@ use Rattle.probe.specs.declared.Decision.{Decision}
 use Rattle.probe.specs.Decided.{Decided, placeFor, placeIs}
 use Rattle.model.proofs.Turning.{set-below}
 use Rattle.probe.proofs.OfTables.{decided-probe}
-use Rattle.access.specs.Plan.{Met, Offered, courseOf, following, goes, refusalIn, isSpot, refusalMet}
-use Rattle.access.specs.declared.course.Course.{Course}
-use Rattle.access.specs.declared.course.Course.the-variants.{Refused, Stays, Joins, Starts}
-use Rattle.access.proofs.Plans.{course-is}
-use Rattle.access.proofs.Courses.{shown}
+use Rattle.access.specs.Plan.{Met, Offered, missPlan, following, isAccepted, refusalOf, isSpot, refusalMet}
+use Rattle.access.specs.declared.plan.MissPlan.{MissPlan}
+use Rattle.access.specs.declared.plan.MissPlan.the-variants.{Refused, Stays, Joins, Starts}
+use Rattle.access.proofs.Plans.{plan-is}
+use Rattle.access.proofs.PlanTests.{shown}
 
--- ---- the course
+-- ---- the plan
 
-following-goes : (S : Settings) (x : Access) (p : Spot) (t : Tables) (c : Course) → goes c ≡ true → following S x p t c ≡ accept S x p t
-following-goes S x p t (Refused n) g = absurd (false≢true g)
-following-goes S x p t Stays g = refl
-following-goes S x p t (Joins e n) g = refl
-following-goes S x p t (Starts e) g = refl
+following-accepted : (S : Settings) (x : Access) (p : Spot) (t : Tables) (c : MissPlan) → isAccepted c ≡ true → following S x p t c ≡ accept S x p t
+following-accepted S x p t (Refused n) g = absurd (false≢true g)
+following-accepted S x p t Stays g = refl
+following-accepted S x p t (Joins e n) g = refl
+following-accepted S x p t (Starts e) g = refl
 
-following-stops : (S : Settings) (x : Access) (p : Spot) (t : Tables) (c : Course) → goes c ≡ false → following S x p t c ≡ refused (refusalIn c)
+following-stops : (S : Settings) (x : Access) (p : Spot) (t : Tables) (c : MissPlan) → isAccepted c ≡ false → following S x p t c ≡ refused (refusalOf c)
 following-stops S x p t (Refused n) g = refl
 following-stops S x p t Stays g = absurd (true≢false g)
 following-stops S x p t (Joins e n) g = absurd (true≢false g)
 following-stops S x p t (Starts e) g = absurd (true≢false g)
 
-module _ (S : Settings) {L : Lent} (x : Access) (d : Decision) (t : Tables) (p : Spot) (m : Met S L x d t p) {c : Course} (planned : c ≡ courseOf S x p t) where
+module _ (S : Settings) {L : Lent} (x : Access) (d : Decision) (t : Tables) (p : Spot) (m : Met S L x d t p) {c : MissPlan} (planned : c ≡ missPlan S x p t) where
   proceeds : proceed S x t (at p) ≡ following S x p t c
-  proceeds = course-is S (m .is .range) t (parts S t (m .is .soundly)) x (m .formed) p (m .probed) ∙ ap (following S x p t) (sym planned)
+  proceeds = plan-is S (m .is .range) t (parts S t (m .is .soundly)) x (m .formed) p (m .probed) ∙ ap (following S x p t) (sym planned)
 
-  pub offered-acts : {r : Told} {M : Lent} → goes c ≡ true → Leaves (encoded S (accept S x p t)) L r M → Leaves (encoded S (proceed S x t (at p))) L r M
-  offered-acts g l = rw (proceeds, following-goes S x p t c g) l
+  pub offered-acts : {r : Reply} {M : Lent} → isAccepted c ≡ true → Leaves (encoded S (accept S x p t)) L r M → Leaves (encoded S (proceed S x t (at p))) L r M
+  offered-acts g l = rw (proceeds, following-accepted S x p t c g) l
 
-  pub offered-stops : {r : Told} → goes c ≡ false → r ≡ telling (event.Refused (refusalIn c)) → Leaves (encoded S (proceed S x t (at p))) L r L
-  offered-stops g e = rw (proceeds, following-stops S x p t c g, e) (refusal-leaves (refusalIn c) L)
+  pub offered-stops : {r : Reply} → isAccepted c ≡ false → r ≡ telling (event.Refused (refusalOf c)) → Leaves (encoded S (proceed S x t (at p))) L r L
+  offered-stops g e = rw (proceeds, following-stops S x p t c g, e) (refusal-leaves (refusalOf c) L)
 
 -- ---- the place
 
-pub formed-refused : (S : Settings) (L : Lent) (x : Access) {r : Told} → wellFormed x ≡ false → r ≡ telling (event.Refused BadAccess) → (t : Tables) → Leaves (encoded S (access S x t)) L r L
+pub formed-refused : (S : Settings) (L : Lent) (x : Access) {r : Reply} → wellFormed x ≡ false → r ≡ telling (event.Refused BadAccess) → (t : Tables) → Leaves (encoded S (access S x t)) L r L
 unfolding access
 formed-refused S L x f e t = rw (f, e) (refusal-leaves BadAccess L)
 
@@ -99,12 +99,12 @@ module _ (S : Settings) {longs words marks : List ℕ} (x : Access) (d : Decisio
         },
       )
 
-  pub access-offered : {r : Told} {M : Lent} → isSpot (d .meeting) ≡ true → Offered S (lent longs words marks) x d r M → Leaves (encoded S (access S x t)) (lent longs words marks) r M
+  pub access-offered : {r : Reply} {M : Lent} → isSpot (d .meeting) ≡ true → Offered S (lent longs words marks) x d r M → Leaves (encoded S (access S x t)) (lent longs words marks) r M
   access-offered e o =
       let (p, m) = spot-met e in
       rw (accessing S x t formed, m .probed) (o .on t p m)
 
-  pub access-stops : {r : Told} → isSpot (d .meeting) ≡ false → r ≡ telling (event.Refused (refusalMet (d .meeting)))
+  pub access-stops : {r : Reply} → isSpot (d .meeting) ≡ false → r ≡ telling (event.Refused (refusalMet (d .meeting)))
       → Leaves (encoded S (access S x t)) (lent longs words marks) r (lent longs words marks)
   unfolding proceed
   access-stops e q =

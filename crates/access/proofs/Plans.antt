@@ -1,4 +1,4 @@
--- The course of an access: the entry that a merged read joins, and that the course tells what `proceed` comes to.
+-- The plan of an access: the entry that a merged read joins, and that the plan tells what `proceed` comes to.
 use mathlib.Core.Path.{_≡_, refl, sym, ap, _∙_}
 use mathlib.Core.Bool.{Bool, true, false, _&&_, _||_, true≢false, false≢true, or-false}
 use mathlib.Core.List.{List, [], _∷_}
@@ -26,13 +26,13 @@ use Rattle.model.proofs.ProbeFindsSpot.{probe-spotted}
 use Rattle.model.specs.Lent.{lent}
 use Rattle.model.specs.Inner.{Encodes}
 use Rattle.layout.specs.declared.Layout.{Layout}
-use Rattle.layout.specs.Layout.{Placed}
+use Rattle.layout.specs.Layout.{LaysOut}
 use Rattle.layout.specs.Places.{First}
 use Rattle.layout.proofs.ByBlocks.{is-stands}
 use Rattle.tables.proofs.Queue.{queue-used}
 use Rattle.tables.proofs.Misses.{misses-used, count-at, entry-found, entry-missing}
-use Rattle.access.specs.Plan.{entryIndex, ticketsAt, joining, starting, courseOf, following}
-use Rattle.access.specs.declared.course.Course.the-variants.{Refused, Stays, Joins, Starts}
+use Rattle.access.specs.Plan.{entryIndex, ticketsAt, joining, starting, missPlan, following}
+use Rattle.access.specs.declared.plan.MissPlan.the-variants.{Refused, Stays, Joins, Starts}
 
 -- ---- the first entry for an address
 
@@ -97,9 +97,9 @@ module _ (S : Settings) (range : inRange S ≡ true) (t : Tables) (ok : Sound S 
       let a : e .address ≡ addressOf x = eqb-true (e .address) (addressOf x) q in
       rw a at (eqb-true (count (entryFor (e .address)) (t .misses)) 1 (entry-at S t ok e m .once))
 
-  pub course-is : proceed S x t (at p) ≡ following S x p t (courseOf S x p t)
+  pub plan-is : proceed S x t (at p) ≡ following S x p t (missPlan S x p t)
   unfolding proceed
-  course-is = room (ltb (S .queue) (length (t .queue) + placesNeeded x p))
+  plan-is = room (ltb (S .queue) (length (t .queue) + placesNeeded x p))
     where
       start : (b : Bool) → pick b (refused MissTableFull) (accept S x p t) ≡ following S x p t (pick b (Refused MissTableFull) (Starts (length (t .misses))))
       start true = refl
@@ -134,7 +134,7 @@ module _ (S : Settings) (range : inRange S ≡ true) (t : Tables) (ok : Sound S 
 
 -- ---- what the functions find
 
-module _ (S : Settings) {longs words marks : List ℕ} (t : Tables) (is : Encodes S (lent longs words marks) t) {place : Layout} (p : Placed S place) where
+module _ (S : Settings) {longs words marks : List ℕ} (t : Tables) (is : Encodes S (lent longs words marks) t) {place : Layout} (p : LaysOut S place) where
   ok : Sound S t
   ok = parts S t (is .soundly)
 

@@ -14,14 +14,14 @@ use Rattle.words.proofs.Tabled.{getD-table}
 use Rattle.encoding.proofs.Bridge.{is-tables}
 use Rattle.model.proofs.SoundFacts.{parts, lines-are}
 use Rattle.layout.specs.declared.Layout.{Layout}
-use Rattle.layout.specs.Layout.{Placed}
+use Rattle.layout.specs.Layout.{LaysOut}
 use Rattle.layout.proofs.DirtyCount.{dirty-counted}
 use Rattle.probe.specs.Scan.{dirtyAt}
 use Rattle.probe.proofs.Statuses.{dirty-bytes}
 use Rattle.probe.proofs.OfTables.{lines-held}
 use Rattle.words.proofs.Counting.{one-counted}
 
-module _ (S : Settings) {longs words marks : List ℕ} (t : Tables) (is : Encodes S (lent longs words marks) t) {at : Layout} (pl : Placed S at) where
+module _ (S : Settings) {longs words marks : List ℕ} (t : Tables) (is : Encodes S (lent longs words marks) t) {at : Layout} (pl : LaysOut S at) where
   module _ (l : ℕ) (below : l < linesOf S) where
     pub was-dirty : dirtyAt marks l ≡ dirty (getD (t .lines) l fresh)
     was-dirty =

@@ -7,11 +7,11 @@ use native.Mathlib.Nat.{mul-suc, mul-le-mul-left, le-trans}
 use native.Mathlib.Omega.{arith}
 use lib.ListN.{length, set, take}
 use borrow.Author.Tests.{leb-true}
-use Rattle.words.specs.Words.{fit, one}
+use Rattle.words.specs.Words.{padTo, one}
 use Rattle.model.specs.Address.{addressOf, isRead, blockOf, setIndex}
 use Rattle.model.specs.Tables.{Tables, withLines, withMisses, withDirtyCount, withTrees}
 use Rattle.model.specs.Lent.{Lent, lent, sectorsAt}
-use Rattle.model.specs.Inner.{Fit}
+use Rattle.model.specs.Inner.{Sized}
 use Rattle.model.specs.Probe.{Spot}
 use Rattle.model.specs.Steps.{isMiss, onMisses, queuedEvent, queues, accept, placesNeeded}
 use Rattle.model.specs.Calls.{Leaves, encoded, eventsTold, inTwo, tidied}
@@ -19,19 +19,19 @@ use Rattle.model.specs.declared.Settings.{Settings}
 use Rattle.model.specs.declared.Queued.{Queued}
 use Rattle.model.specs.declared.Access.{Access}
 use Rattle.model.specs.declared.Event.the-variants.{Answered}
-use Rattle.model.specs.declared.Told.{Told}
+use Rattle.model.specs.declared.Reply.{Reply}
 use Rattle.encoding.proofs.Bridge.{is-fit}
 use Rattle.model.proofs.SoundFacts.{parts}
 use Rattle.layout.specs.declared.Layout.{Layout}
-use Rattle.layout.specs.Layout.{Placed}
+use Rattle.layout.specs.Layout.{LaysOut}
 use Rattle.layout.proofs.ByBlocks.{stands-encode}
 use Rattle.probe.specs.declared.Decision.{Decision}
-use Rattle.access.specs.Plan.{Met, Acts, goes, ticketOf}
+use Rattle.access.specs.Plan.{Met, Acts, isAccepted, ticketOf}
 use Rattle.access.specs.Written.{sectorsFor, sectorsAfter, missesWritten, queueWritten, queuesOf, tellingOf, MissRoom, QueueRoom, lineLeft, lineTaken, setTurned}
-use Rattle.access.specs.declared.course.Course.{Course}
-use Rattle.access.specs.declared.course.Course.the-variants.{Refused, Stays, Joins, Starts}
-use Rattle.access.proofs.Courses.{queues-count, queues-are, answer-is}
-use Rattle.access.proofs.Inverted.{Means, course-means}
+use Rattle.access.specs.declared.plan.MissPlan.{MissPlan}
+use Rattle.access.specs.declared.plan.MissPlan.the-variants.{Refused, Stays, Joins, Starts}
+use Rattle.access.proofs.PlanTests.{queues-count, queues-are, answer-is}
+use Rattle.access.proofs.Inverted.{Means, plan-means}
 use Rattle.access.proofs.Acting.{newLine, treesNew, line-written, set-turned, misses-written, queue-written, join-inside, newCount}
 
 -- ---- its value
@@ -52,32 +52,32 @@ queues-few x d = rw (queues-count x d) (few (isRead x && isMiss (d .answer)) (d 
     few false true = omega arith
     few false false = omega arith
 
-told-events : (x : Access) (d : Decision) → eventsTold (tellingOf x d) ≡ Answered (d .answer) (d .line) ∷ map queuedEvent (queuesOf x d)
+reply-events : (x : Access) (d : Decision) → eventsTold (tellingOf x d) ≡ Answered (d .answer) (d .line) ∷ map queuedEvent (queuesOf x d)
 unfolding eventsTold
-told-events x d = rw (two-back (queuesOf x d) (queues-few x d), append-nil)
+reply-events x d = rw (two-back (queuesOf x d) (queues-few x d), append-nil)
 
-told-tidy : (x : Access) (d : Decision) → tidied (tellingOf x d) ≡ tellingOf x d
-unfolding tidied fit
-told-tidy x d = rw (two-back (queuesOf x d) (queues-few x d))
+reply-tidy : (x : Access) (d : Decision) → tidied (tellingOf x d) ≡ tellingOf x d
+unfolding tidied padTo
+reply-tidy x d = rw (two-back (queuesOf x d) (queues-few x d))
 
 -- ---- room for its writes
 
-tested : (S : Settings) (x : Access) (p : Spot) (t : Tables) (c : Course) → Means S x p t c → goes c ≡ true → length (t .queue) + placesNeeded x p ≤ S .queue
+tested : (S : Settings) (x : Access) (p : Spot) (t : Tables) (c : MissPlan) → Means S x p t c → isAccepted c ≡ true → length (t .queue) + placesNeeded x p ≤ S .queue
 tested S x p t (Refused n) w g = let z : _≡_ {A = ℕ} 0 1 = cc in absurd (omega arith)
 tested S x p t Stays w g = w .roomy
 tested S x p t (Joins e n) w g = w .0 .roomy
 tested S x p t (Starts e) w g = w .0 .roomy
 
-module _ (S : Settings) {longs words marks : List ℕ} (x : Access) (d : Decision) (n : ℕ) (c : Course) (t : Tables) (p : Spot)
-    (a : Acts S (lent longs words marks) x d n c t p) {place : Layout} (pl : Placed S place) where
+module _ (S : Settings) {longs words marks : List ℕ} (x : Access) (d : Decision) (n : ℕ) (c : MissPlan) (t : Tables) (p : Spot)
+    (a : Acts S (lent longs words marks) x d n c t p) {place : Layout} (pl : LaysOut S place) where
   m : Met S (lent longs words marks) x d t p
   m = a .met
 
   means : Means S x p t c
-  means = subst (Means S x p t) (sym (a .planned)) (course-means S x p t)
+  means = subst (Means S x p t) (sym (a .planned)) (plan-means S x p t)
 
   roomy : length (t .queue) + placesNeeded x p ≤ S .queue
-  roomy = tested S x p t c means (a .going)
+  roomy = tested S x p t c means (a .accepted)
 
   needs : placesNeeded x p ≡ length (queuesOf x d)
   needs = ap length (queues-are S x d t p m)
@@ -86,7 +86,7 @@ module _ (S : Settings) {longs words marks : List ℕ} (x : Access) (d : Decisio
   behind : n + length (queuesOf x d) ≤ S .queue
   behind = rw (a .counted, ← needs) roomy
 
-  pub acts-fit : Fit S longs words marks
+  pub acts-fit : Sized S longs words marks
   acts-fit = is-fit S (lent longs words marks) t (m .is)
 
   pub miss-room : (longs′ words′ marks′ : List ℕ) → length longs′ ≡ length longs → length words′ ≡ length words → length marks′ ≡ length marks
@@ -96,7 +96,7 @@ module _ (S : Settings) {longs words marks : List ℕ} (x : Access) (d : Decisio
       few : length (t .misses) ≤ S .misses
       few = leb-true (length (t .misses)) (S .misses) (parts S t (m .is .soundly) .few)
 
-      go : (c : Course) → Means S x p t c → MissRoom place (S .readers) c l w k
+      go : (c : MissPlan) → Means S x p t c → MissRoom place (S .readers) c l w k
       go (Refused r) z = tt
       go Stays z = tt
       go (Joins i j) z =
@@ -121,7 +121,7 @@ module _ (S : Settings) {longs words marks : List ℕ} (x : Access) (d : Decisio
 
   -- ---- what it leaves
 
-  pub acted : (L₁ L₂ L₃ : Lent) {r : Told}
+  pub acted : (L₁ L₂ L₃ : Lent) {r : Reply}
       → L₁ ≡ setTurned S place (setIndex S (addressOf x)) (d .way)
       (lineTaken place (d .answer) (d .line) (lineLeft place (lent longs words marks) (d .line) (blockOf (addressOf x)) (sectorsAfter x d (sectorsFor (d .meeting) (sectorsAt S words marks (d .line))))))
       → L₂ ≡ missesWritten place (S .readers) c (addressOf x) (ticketOf x) L₁
@@ -132,11 +132,11 @@ module _ (S : Settings) {longs words marks : List ℕ} (x : Access) (d : Decisio
   acted L₁ L₂ L₃ line misses tells queue =
       let s₀ = line-written S x d t p m pl _ refl refl in
       let s₁ = set-turned S x d t p m pl _ refl _ s₀ line in
-      let s₂ = misses-written S x d t p m pl (set (t .lines) (d .line) (newLine S x d t p m pl)) (newCount S x d t p m pl) (treesNew S x d t p m pl) L₁ L₂ s₁ c (a .planned) (a .going) misses in
+      let s₂ = misses-written S x d t p m pl (set (t .lines) (d .line) (newLine S x d t p m pl)) (newCount S x d t p m pl) (treesNew S x d t p m pl) L₁ L₂ s₁ c (a .planned) (a .accepted) misses in
       let q : L₃ ≡ queueWritten place n (queues x p) L₂ = rw (← queues-are S x d t p m) at queue in
       let s₃ = queue-written S x d t p m pl (withMisses (onMisses x (p .answer) (t .misses)) (withTrees (treesNew S x d t p m pl) (withDirtyCount (newCount S x d t p m pl) (withLines (set (t .lines) (d .line) (newLine S x d t p m pl)) t)))) refl L₂ s₂ (λ some. a .counted) roomy q in
       record {
-        tells = rw (tells, queues-are S x d t p m, answer-is S x d t p m, ← m .numbered) (told-events x d);
-        tidy = rw tells (told-tidy x d);
+        tells = rw (tells, queues-are S x d t p m, answer-is S x d t p m, ← m .numbered) (reply-events x d);
+        tidy = rw tells (reply-tidy x d);
         left = rw (← m .numbered) (stands-encode s₃);
       }

@@ -19,7 +19,7 @@ use Rattle.model.specs.declared.Access.{Access}
 use Rattle.model.specs.declared.Answer.{Answer}
 use Rattle.model.specs.declared.Sector.{Sector}
 use Rattle.model.specs.declared.Queued.{Queued}
-use Rattle.model.specs.declared.Told.{Told}
+use Rattle.model.specs.declared.Reply.{Reply}
 use Rattle.model.specs.declared.Event.the-variants.{Answered}
 use Rattle.layout.specs.declared.Layout.{Layout}
 use Rattle.layout.specs.Sectors.{statuses, masks, readables, someModified}
@@ -28,8 +28,8 @@ use Rattle.probe.specs.declared.Meeting.the-variants as meeting
 use Rattle.probe.specs.declared.Decision.{Decision}
 use Rattle.probe.specs.Decided.{backsOf}
 use Rattle.probe.specs.Scan.{dirtyAt}
-use Rattle.access.specs.declared.course.Course.{Course}
-use Rattle.access.specs.declared.course.Course.the-variants.{Refused, Stays, Joins, Starts}
+use Rattle.access.specs.declared.plan.MissPlan.{MissPlan}
+use Rattle.access.specs.declared.plan.MissPlan.the-variants.{Refused, Stays, Joins, Starts}
 
 -- the sectors that the access finds in its line: those that stand there, or of a line taken over four empty ones
 abbrev pub sectorsFor : Meeting → List Sector → List Sector
@@ -73,8 +73,8 @@ treesWritten S at i w words =
 abbrev pub setTurned : Settings → Layout → ℕ → ℕ → Lent → Lent
 setTurned S at i w L = lent (L .longs) (treesWritten S at i w (L .words)) (L .marks)
 
--- the miss table by the course: a ticket that joins, or a new entry
-abbrev pub missesWritten : Layout → ℕ → Course → ℕ → ℕ → Lent → Lent
+-- the miss table by the plan: a ticket that joins, or a new entry
+abbrev pub missesWritten : Layout → ℕ → MissPlan → ℕ → ℕ → Lent → Lent
 missesWritten at readers (Refused n) a k L = L
 missesWritten at readers Stays a k L = L
 missesWritten at readers (Joins e n) a k L =
@@ -97,7 +97,7 @@ queueWritten at n (x ∷ xs) L = queueWritten at (n + 1) xs (entryWritten at n x
 
 -- ---- room for these writes
 
-abbrev pub MissRoom : Layout → ℕ → Course → List ℕ → List ℕ → List ℕ → Type 0
+abbrev pub MissRoom : Layout → ℕ → MissPlan → List ℕ → List ℕ → List ℕ → Type 0
 MissRoom at readers (Refused n) longs words marks = Unit
 MissRoom at readers Stays longs words marks = Unit
 MissRoom at readers (Joins e n) longs words marks = (n < 8) × (at .tickets + readers * e + n < length words) × (at .counts + e < length marks)
@@ -117,8 +117,8 @@ pub record Alone (x : Access) (d : Decision) : Type 0 where
   pub alone : isMiss (d .answer) ≡ false → d .backs ≡ false
 
 -- what it tells, with these entries in two places
-abbrev pub tellingQueued : Decision → List Queued → ℕ → Told
+abbrev pub tellingQueued : Decision → List Queued → ℕ → Reply
 tellingQueued d entries n = record { first = Answered (d .answer) (d .line); queued = entries; queues = n; count = 0; tickets = replicate 8 0 }
 
-abbrev pub tellingOf : Access → Decision → Told
+abbrev pub tellingOf : Access → Decision → Reply
 tellingOf x d = tellingQueued d (inTwo (queuesOf x d)) (length (queuesOf x d))

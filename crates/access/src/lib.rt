@@ -1,8 +1,8 @@
 // An access on sound tables: decided by reading alone, then written. In order: `asked` (the access and its answer), `sector` (what
-// it leaves in its line's sectors), `course` (refusals 7, 8 and 9, or what becomes of the miss table), `writes` (the writes, and what
+// it leaves in its line's sectors), `plan` (refusals 7, 8 and 9, or what becomes of the miss table), `writes` (the writes, and what
 // it tells); here refusals 4, 5 and 6, the two ways that a read and a write go, and the whole step.
 mod asked;
-mod course;
+mod plan;
 mod sector;
 mod writes;
 
@@ -13,21 +13,21 @@ ghost use Rattle.model.specs.Address.{isRead, maskOf, wellFormed, goodSector};
 ghost use Rattle.model.specs.Lent.{lent};
 ghost use Rattle.model.specs.Inner.{SoundSlices, Does};
 ghost use Rattle.model.specs.Sound.{allOnes};
-ghost use Rattle.layout.specs.Layout.{Placed};
+ghost use Rattle.layout.specs.Layout.{LaysOut};
 ghost use Rattle.layout.specs.Places.{First};
 ghost use Rattle.access.specs.Plan.{Meets, Offered, isSpot, refusalMet};
 ghost use Rattle.model.specs.Steps.{access};
 use asked::is_hit;
 use asked::is_read;
-use course::back_needed;
-use course::course_of;
-use course::going;
-use course::refusal_in;
 use layout::Layout;
 use model::Access;
 use model::Refusal;
+use model::Reply;
 use model::Settings;
-use model::Told;
+use plan::accepted;
+use plan::back_needed;
+use plan::miss_plan;
+use plan::refusal_of;
 use probe::Decision;
 use probe::Meeting;
 use writes::act_hit;
@@ -108,8 +108,8 @@ fn offer_read(
     d: Decision,
     queued: usize,
     missed: usize,
-) -> Told
-    requires { ⌜ Placed s at × Meets s (lent (now longs) (now words) (now marks)) x d × First (now marks) (at .kinds) (s .queue) 0 queued
+) -> Reply
+    requires { ⌜ LaysOut s at × Meets s (lent (now longs) (now words) (now marks)) x d × First (now marks) (at .kinds) (s .queue) 0 queued
         × First (now marks) (at .counts) (s .misses) 0 missed × (isRead x ≡ true) ⌝ }
     ensures { λ r. ⌜ Offered s (lent (now (longs .entry)) (now (words .entry)) (now (marks .entry))) x d r
         (lent (now (longs .exit)) (now (words .exit)) (now (marks .exit))) ⌝ }
@@ -118,11 +118,11 @@ fn offer_read(
     if is_hit(a) {
         return act_hit(s, at, words, x, d);
     }
-    let course = course_of(s, at, longs, words, marks, x, d, queued, missed);
-    if going(course) {
-        return act_read(s, at, longs, words, marks, x, d, queued, course);
+    let plan = miss_plan(s, at, longs, words, marks, x, d, queued, missed);
+    if accepted(plan) {
+        return act_read(s, at, longs, words, marks, x, d, queued, plan);
     }
-    tables::refused(refusal_in(course))
+    tables::refused(refusal_of(plan))
 }
 
 // A write whose place is decided: refused by the queue, or acted.
@@ -135,8 +135,8 @@ fn offer_write(
     x: Access,
     d: Decision,
     queued: usize,
-) -> Told
-    requires { ⌜ Placed s at × Meets s (lent (now longs) (now words) (now marks)) x d × First (now marks) (at .kinds) (s .queue) 0 queued × (isRead x ≡ false) ⌝ }
+) -> Reply
+    requires { ⌜ LaysOut s at × Meets s (lent (now longs) (now words) (now marks)) x d × First (now marks) (at .kinds) (s .queue) 0 queued × (isRead x ≡ false) ⌝ }
     ensures { λ r. ⌜ Offered s (lent (now (longs .entry)) (now (words .entry)) (now (marks .entry))) x d r
         (lent (now (longs .exit)) (now (words .exit)) (now (marks .exit))) ⌝ }
 {
@@ -157,8 +157,8 @@ fn offer(
     d: Decision,
     queued: usize,
     missed: usize,
-) -> Told
-    requires { ⌜ Placed s at × Meets s (lent (now longs) (now words) (now marks)) x d × First (now marks) (at .kinds) (s .queue) 0 queued
+) -> Reply
+    requires { ⌜ LaysOut s at × Meets s (lent (now longs) (now words) (now marks)) x d × First (now marks) (at .kinds) (s .queue) 0 queued
         × First (now marks) (at .counts) (s .misses) 0 missed ⌝ }
     ensures { λ r. ⌜ Offered s (lent (now (longs .entry)) (now (words .entry)) (now (marks .entry))) x d r
         (lent (now (longs .exit)) (now (words .exit)) (now (marks .exit))) ⌝ }
@@ -179,8 +179,8 @@ pub fn access_counted(
     x: Access,
     queued: usize,
     missed: usize,
-) -> Told
-    requires { ⌜ Placed s at × SoundSlices s (lent (now longs) (now words) (now marks)) × First (now marks) (at .kinds) (s .queue) 0 queued
+) -> Reply
+    requires { ⌜ LaysOut s at × SoundSlices s (lent (now longs) (now words) (now marks)) × First (now marks) (at .kinds) (s .queue) 0 queued
         × First (now marks) (at .counts) (s .misses) 0 missed ⌝ }
     ensures { λ r. ⌜ Does s (access s x) (lent (now (longs .entry)) (now (words .entry)) (now (marks .entry))) r
         (lent (now (longs .exit)) (now (words .exit)) (now (marks .exit))) ⌝ }
@@ -204,8 +204,8 @@ pub fn access_step(
     words: &mut [u32],
     marks: &mut [u8],
     x: Access,
-) -> Told
-    requires { ⌜ Placed s at × SoundSlices s (lent (now longs) (now words) (now marks)) ⌝ }
+) -> Reply
+    requires { ⌜ LaysOut s at × SoundSlices s (lent (now longs) (now words) (now marks)) ⌝ }
     ensures { λ r. ⌜ Does s (access s x) (lent (now (longs .entry)) (now (words .entry)) (now (marks .entry))) r
         (lent (now (longs .exit)) (now (words .exit)) (now (marks .exit))) ⌝ }
 {

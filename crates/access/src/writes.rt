@@ -11,11 +11,11 @@ ghost use Rattle.words.specs.Words.{one};
 ghost use Rattle.model.specs.Lent.{lent, sectorsAt};
 ghost use Rattle.model.specs.Range.{isTree, powerTo256};
 ghost use Rattle.model.specs.Tree.{powerTo16};
-ghost use Rattle.layout.specs.Layout.{Placed, wordsMost};
+ghost use Rattle.layout.specs.Layout.{LaysOut, wordsMost};
 ghost use Rattle.access.specs.Plan.{Meets, MayAct, Acted};
 ghost use Rattle.model.specs.Tables.{reading, writing};
 ghost use Rattle.access.specs.Written.{sectorsFor, sectorsAfter, lineWritten, missesWritten, queueWritten, queuesOf, tellingQueued, tellingOf, Alone, MissRoom, QueueRoom, lineLeft, takenWritten, treesWritten};
-ghost use Rattle.access.specs.declared.course.Course.the-variants.{Stays};
+ghost use Rattle.access.specs.declared.plan.MissPlan.the-variants.{Stays};
 ghost use Rattle.probe.specs.Decided.{backsOf};
 ghost use mathlib.Core.Bool.{true, false};
 ghost use Rattle.model.specs.Steps.{isMiss};
@@ -25,7 +25,7 @@ ghost use Rattle.tables.specs.Telling.{telling};
 use crate::asked::is_miss;
 use crate::asked::takes_line;
 use crate::asked::ticket_of;
-use crate::course::Course;
+use crate::plan::MissPlan;
 use crate::sector::empty_sector;
 use crate::sector::sectors_read;
 use crate::sector::sectors_written;
@@ -36,10 +36,10 @@ use model::BlockAddress;
 use model::Event;
 use model::QueueKind;
 use model::Queued;
+use model::Reply;
 use model::Sector;
 use model::SectorAddress;
 use model::Settings;
-use model::Told;
 use probe::Decision;
 
 // The line's cycle becomes the current one.
@@ -89,7 +89,7 @@ fn leave_line(
     d: Decision,
     four: [Sector; 4],
 )
-    requires { ⌜ Placed s at × Meets s (lent (now longs) (now words) (now marks)) x d ⌝ }
+    requires { ⌜ LaysOut s at × Meets s (lent (now longs) (now words) (now marks)) x d ⌝ }
     ensures { λ _. ⌜ lent (now (longs .exit)) (now (words .exit)) (now (marks .exit))
         ≡ lineLeft at (lent (now (longs .entry)) (now (words .entry)) (now (marks .entry))) (d .line) (blockOf (addressOf x))
         four ⌝ }
@@ -110,7 +110,7 @@ fn fetch_line(
     x: Access,
     d: Decision,
 )
-    requires { ⌜ Placed s at × Meets s (lent (now longs) (now words) (now marks)) x d × (isRead x ≡ true) ⌝ }
+    requires { ⌜ LaysOut s at × Meets s (lent (now longs) (now words) (now marks)) x d × (isRead x ≡ true) ⌝ }
     ensures { λ _. ⌜ lent (now (longs .exit)) (now (words .exit)) (now (marks .exit))
         ≡ lineLeft at (lent (now (longs .entry)) (now (words .entry)) (now (marks .entry))) (d .line) (blockOf (addressOf x))
         (sectorsAfter x d (sectorsFor (d .meeting) (sectorsAt s (now (words .entry)) (now (marks .entry)) (d .line)))) ⌝ }
@@ -136,7 +136,7 @@ fn change_line(
     x: Access,
     d: Decision,
 )
-    requires { ⌜ Placed s at × Meets s (lent (now longs) (now words) (now marks)) x d × (isRead x ≡ false) ⌝ }
+    requires { ⌜ LaysOut s at × Meets s (lent (now longs) (now words) (now marks)) x d × (isRead x ≡ false) ⌝ }
     ensures { λ _. ⌜ lent (now (longs .exit)) (now (words .exit)) (now (marks .exit))
         ≡ lineLeft at (lent (now (longs .entry)) (now (words .entry)) (now (marks .entry))) (d .line) (blockOf (addressOf x))
         (sectorsAfter x d (sectorsFor (d .meeting) (sectorsAt s (now (words .entry)) (now (marks .entry)) (d .line)))) ⌝ }
@@ -162,7 +162,7 @@ fn read_line(
     x: Access,
     d: Decision,
 )
-    requires { ⌜ Placed s at × Meets s (lent (now longs) (now words) (now marks)) x d × (isRead x ≡ true) ⌝ }
+    requires { ⌜ LaysOut s at × Meets s (lent (now longs) (now words) (now marks)) x d × (isRead x ≡ true) ⌝ }
     ensures { λ _. ⌜ lent (now (longs .exit)) (now (words .exit)) (now (marks .exit))
         ≡ lineLeft at (lent (now (longs .entry)) (now (words .entry)) (now (marks .entry))) (d .line) (blockOf (addressOf x))
         (sectorsAfter x d (sectorsFor (d .meeting) (sectorsAt s (now (words .entry)) (now (marks .entry)) (d .line)))) ⌝ }
@@ -209,28 +209,28 @@ fn mark_set(s: Settings, at: Layout, words: &mut [u32], x: Access, d: Decision)
     turn_tree(s, at, words, x, d.way);
 }
 
-// The miss table by the course: a ticket joins, or a new entry stands behind the others.
+// The miss table by the plan: a ticket joins, or a new entry stands behind the others.
 fn write_misses(
     at: Layout,
     longs: &mut [u64],
     words: &mut [u32],
     marks: &mut [u8],
     readers: usize,
-    course: Course,
+    plan: MissPlan,
     address: SectorAddress,
     ticket: u32,
 )
-    requires { ⌜ MissRoom at readers course (now longs) (now words) (now marks) ⌝ }
+    requires { ⌜ MissRoom at readers plan (now longs) (now words) (now marks) ⌝ }
     ensures { λ _. ⌜ lent (now (longs .exit)) (now (words .exit)) (now (marks .exit))
-        ≡ missesWritten at readers course (address .0) ticket (lent (now (longs .entry)) (now (words .entry)) (now (marks .entry))) ⌝ }
+        ≡ missesWritten at readers plan (address .0) ticket (lent (now (longs .entry)) (now (words .entry)) (now (marks .entry))) ⌝ }
 {
-    match course {
-        Course::Refused(_) => {}
-        Course::Stays => {}
-        Course::Joins { entry, count } => {
+    match plan {
+        MissPlan::Refused(_) => {}
+        MissPlan::Stays => {}
+        MissPlan::Joins { entry, count } => {
             tables::append_ticket(at, words, marks, entry, count, readers, ticket);
         }
-        Course::Starts(entry) => {
+        MissPlan::Starts(entry) => {
             tables::new_entry(at, longs, words, marks, entry, readers, address, ticket);
         }
     }
@@ -299,12 +299,12 @@ fn queue_read(
 }
 
 // What an accepted access tells that queues so many entries.
-fn tell(d: Decision, queued: [Queued; 2], queues: usize) -> Told
+fn tell(d: Decision, queued: [Queued; 2], queues: usize) -> Reply
     requires { ⌜ d .line < 1024 ⌝ }
     ensures { λ r. ⌜ r ≡ tellingQueued d queued queues ⌝ }
 {
     let answer = d.answer;
-    Told {
+    Reply {
         first: Event::Answered {
             answer,
             line: d.line as u16,
@@ -317,7 +317,7 @@ fn tell(d: Decision, queued: [Queued; 2], queues: usize) -> Told
 }
 
 // What an accepted read tells.
-fn tell_read(x: Access, d: Decision) -> Told
+fn tell_read(x: Access, d: Decision) -> Reply
     requires { ⌜ Alone x d × (d .line < 1024) ⌝ }
     ensures { λ r. ⌜ r ≡ tellingOf x d ⌝ }
 {
@@ -332,7 +332,7 @@ fn tell_read(x: Access, d: Decision) -> Told
 }
 
 // What an accepted write tells.
-fn tell_write(x: Access, d: Decision) -> Told
+fn tell_write(x: Access, d: Decision) -> Reply
     requires { ⌜ (isRead x ≡ false) × (d .line < 1024) ⌝ }
     ensures { λ r. ⌜ r ≡ tellingOf x d ⌝ }
 {
@@ -352,10 +352,10 @@ pub(crate) fn act_read(
     x: Access,
     d: Decision,
     queued: usize,
-    course: Course,
-) -> Told
-    requires { ⌜ Placed s at × MayAct s (lent (now longs) (now words) (now marks)) x d queued course × (isRead x ≡ true) ⌝ }
-    ensures { λ r. ⌜ Acted s (lent (now (longs .entry)) (now (words .entry)) (now (marks .entry))) x d queued course r
+    plan: MissPlan,
+) -> Reply
+    requires { ⌜ LaysOut s at × MayAct s (lent (now longs) (now words) (now marks)) x d queued plan × (isRead x ≡ true) ⌝ }
+    ensures { λ r. ⌜ Acted s (lent (now (longs .entry)) (now (words .entry)) (now (marks .entry))) x d queued plan r
         (lent (now (longs .exit)) (now (words .exit)) (now (marks .exit))) ⌝ }
 {
     read_line(s, at, longs, words, marks, x, d);
@@ -367,7 +367,7 @@ pub(crate) fn act_read(
         words,
         marks,
         s.readers,
-        course,
+        plan,
         address,
         ticket_of(x),
     );
@@ -385,8 +385,8 @@ pub(crate) fn act_write(
     x: Access,
     d: Decision,
     queued: usize,
-) -> Told
-    requires { ⌜ Placed s at × MayAct s (lent (now longs) (now words) (now marks)) x d queued Stays × (isRead x ≡ false) ⌝ }
+) -> Reply
+    requires { ⌜ LaysOut s at × MayAct s (lent (now longs) (now words) (now marks)) x d queued Stays × (isRead x ≡ false) ⌝ }
     ensures { λ r. ⌜ Acted s (lent (now (longs .entry)) (now (words .entry)) (now (marks .entry))) x d queued Stays r
         (lent (now (longs .exit)) (now (words .exit)) (now (marks .exit))) ⌝ }
 {
@@ -397,7 +397,7 @@ pub(crate) fn act_write(
 }
 
 // A read that hits: its line's cycle and the tree of its set.
-pub(crate) fn act_hit(s: Settings, at: Layout, words: &mut [u32], x: Access, d: Decision) -> Told
+pub(crate) fn act_hit(s: Settings, at: Layout, words: &mut [u32], x: Access, d: Decision) -> Reply
     requires { ⌜ (d .line < 1024) × (1 + d .line < length (now words)) × (at .trees + setIndex s (addressOf x) < length (now words))
         × (length (now words) ≤ wordsMost) × (1 ≤ s .sets) × (powerTo256 (s .sets) ≡ true) × (isTree s ≡ true → powerTo16 (s .ways) ≡ true) ⌝ }
     ensures { λ r. ⌜ r ≡ telling (Answered Hit (d .line)) ⌝ }

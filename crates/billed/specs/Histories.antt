@@ -9,7 +9,7 @@ use Rattle.model.specs.Calls.{eventsTold, Leaves}
 use Rattle.model.specs.History.{Call, make, Made, eventsMade}
 use Rattle.model.specs.declared.Settings.{Settings}
 use Rattle.model.specs.declared.Queued.{Queued}
-use Rattle.model.specs.declared.Told.{Told}
+use Rattle.model.specs.declared.Reply.{Reply}
 use Rattle.billed.specs.Bytes.{dirtyByte}
 use Rattle.billed.specs.Queue.{queuedBy, sentBy}
 use Rattle.billed.specs.Touches.{touches, L7}
@@ -25,5 +25,5 @@ pub record Billed (b : ℕ → Bool) (q : List Queued) (ms : List Made) (u : Tab
 -- calls of the code: each told r and left the slices M, as its promise says
 pub data Trace (S : Settings) : List Call → Lent → List Made → Lent → Type 0 where
   over : {L : Lent} → Trace S [] L [] L
-  next : {k : Call} {ks : List Call} {L M N : Lent} {r : Told} {ms : List Made} → Leaves (make S k L) L r M → Trace S ks M ms N
+  next : {k : Call} {ks : List Call} {L M N : Lent} {r : Reply} {ms : List Made} → Leaves (make S k L) L r M → Trace S ks M ms N
       → Trace S (k ∷ ks) L (record { call = k; events = eventsTold r } ∷ ms) N

@@ -3,7 +3,7 @@ use mathlib.Core.Path.{_≡_}
 use Rattle.model.specs.declared.Settings.{Settings}
 use Rattle.model.specs.declared.Refusal.{Refusal}
 use Rattle.model.specs.declared.Event.the-variants as event
-use Rattle.model.specs.declared.Told.{Told}
+use Rattle.model.specs.declared.Reply.{Reply}
 use Rattle.model.specs.Tables.{Tables, Outcome}
 use Rattle.model.specs.Lent.{Lent, tablesOf}
 use Rattle.model.specs.SoundLent.{Small}
@@ -20,10 +20,10 @@ use Rattle.tables.specs.Telling.{telling}
 use Rattle.tables.proofs.Tellings.{refusal-leaves}
 
 module _ (S : Settings) (L : Lent) {v : LaidVerdict} (checks : Checks S L v) where
-  pub call-refused : (step : Tables → Outcome Tables) {n : Refusal} {r : Told} → v ≡ Refused n → r ≡ telling (event.Refused n) → Leaves (call S step L) L r L
+  pub call-refused : (step : Tables → Outcome Tables) {n : Refusal} {r : Reply} → v ≡ Refused n → r ≡ telling (event.Refused n) → Leaves (call S step L) L r L
   call-refused step {n} e f = rw (refused-is S L n (says-refused S L checks e) step, f) (refusal-leaves n L)
 
-  pub call-passed : Small L → {at : Layout} → v ≡ Passed at → (step : Tables → Outcome Tables) {r : Told} {M : Lent} → Does S step L r M
+  pub call-passed : Small L → {at : Layout} → v ≡ Passed at → (step : Tables → Outcome Tables) {r : Reply} {M : Lent} → Does S step L r M
       → Leaves (call S step L) L r M
   call-passed small passed step d =
       let are = passed-tables S L checks small passed in

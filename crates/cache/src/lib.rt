@@ -3,8 +3,8 @@
 use layout::Layout;
 use model::Access;
 use model::Refusal;
+use model::Reply;
 use model::Settings;
-use model::Told;
 use model::Verdict;
 use soundness::LaidVerdict;
 ghost use mathlib.Core.Path.{_≡_};
@@ -13,7 +13,7 @@ ghost use Rattle.model.specs.Calls.{freshCall, checkCall, verdictOf, call, acce
 ghost use Rattle.model.specs.History.{stepBy};
 ghost use Rattle.model.specs.Inner.{SoundSlices, Does};
 ghost use Rattle.model.specs.declared.Access.the-variants.{Read, Write};
-ghost use Rattle.layout.specs.Layout.{Placed};
+ghost use Rattle.layout.specs.Layout.{LaysOut};
 ghost use Rattle.cache.specs.Made.{Made, callOf};
 
 // One call but the making of tables.
@@ -52,8 +52,8 @@ fn step(
     words: &mut [u32],
     marks: &mut [u8],
     k: Call,
-) -> Told
-    requires { ⌜ Placed s at × SoundSlices s (lent (now longs) (now words) (now marks)) ⌝ }
+) -> Reply
+    requires { ⌜ LaysOut s at × SoundSlices s (lent (now longs) (now words) (now marks)) ⌝ }
     ensures { λ r. ⌜ Does s (stepBy s (callOf k)) (lent (now (longs .entry)) (now (words .entry)) (now (marks .entry))) r
         (lent (now (longs .exit)) (now (words .exit)) (now (marks .exit))) ⌝ }
 {
@@ -66,7 +66,7 @@ fn step(
 }
 
 // Makes a call: the check, then its step.
-pub fn perform(s: Settings, longs: &mut [u64], words: &mut [u32], marks: &mut [u8], k: Call) -> Told
+pub fn perform(s: Settings, longs: &mut [u64], words: &mut [u32], marks: &mut [u8], k: Call) -> Reply
     ensures { λ r. ⌜ Leaves (call s (stepBy s (callOf k)) (lent (now (longs .entry)) (now (words .entry)) (now (marks .entry))))
         (lent (now (longs .entry)) (now (words .entry)) (now (marks .entry))) r
         (lent (now (longs .exit)) (now (words .exit)) (now (marks .exit))) ⌝ }
@@ -84,7 +84,7 @@ pub fn access(
     words: &mut [u32],
     marks: &mut [u8],
     x: Access,
-) -> Told
+) -> Reply
     ensures { λ r. ⌜ Leaves (accessCall s x (lent (now (longs .entry)) (now (words .entry)) (now (marks .entry))))
         (lent (now (longs .entry)) (now (words .entry)) (now (marks .entry))) r
         (lent (now (longs .exit)) (now (words .exit)) (now (marks .exit))) ⌝ }
@@ -100,7 +100,7 @@ pub fn read(
     marks: &mut [u8],
     address: u64,
     ticket: u32,
-) -> Told
+) -> Reply
     ensures { λ r. ⌜ Leaves (accessCall s (Read address 0 ticket) (lent (now (longs .entry)) (now (words .entry)) (now (marks .entry))))
         (lent (now (longs .entry)) (now (words .entry)) (now (marks .entry))) r
         (lent (now (longs .exit)) (now (words .exit)) (now (marks .exit))) ⌝ }
@@ -121,7 +121,7 @@ pub fn write(
     marks: &mut [u8],
     address: u64,
     mask: u32,
-) -> Told
+) -> Reply
     ensures { λ r. ⌜ Leaves (accessCall s (Write address mask 0) (lent (now (longs .entry)) (now (words .entry)) (now (marks .entry))))
         (lent (now (longs .entry)) (now (words .entry)) (now (marks .entry))) r
         (lent (now (longs .exit)) (now (words .exit)) (now (marks .exit))) ⌝ }
@@ -135,7 +135,7 @@ pub fn write(
 }
 
 // Takes the queue head.
-pub fn send(s: Settings, longs: &mut [u64], words: &mut [u32], marks: &mut [u8]) -> Told
+pub fn send(s: Settings, longs: &mut [u64], words: &mut [u32], marks: &mut [u8]) -> Reply
     ensures { λ r. ⌜ Leaves (sendCall s (lent (now (longs .entry)) (now (words .entry)) (now (marks .entry))))
         (lent (now (longs .entry)) (now (words .entry)) (now (marks .entry))) r
         (lent (now (longs .exit)) (now (words .exit)) (now (marks .exit))) ⌝ }
@@ -150,7 +150,7 @@ pub fn fill(
     words: &mut [u32],
     marks: &mut [u8],
     address: u64,
-) -> Told
+) -> Reply
     ensures { λ r. ⌜ Leaves (fillCall s address (lent (now (longs .entry)) (now (words .entry)) (now (marks .entry))))
         (lent (now (longs .entry)) (now (words .entry)) (now (marks .entry))) r
         (lent (now (longs .exit)) (now (words .exit)) (now (marks .exit))) ⌝ }
@@ -159,7 +159,7 @@ pub fn fill(
 }
 
 // Sets the current cycle.
-pub fn tick(s: Settings, longs: &mut [u64], words: &mut [u32], marks: &mut [u8], cycle: u32) -> Told
+pub fn tick(s: Settings, longs: &mut [u64], words: &mut [u32], marks: &mut [u8], cycle: u32) -> Reply
     ensures { λ r. ⌜ Leaves (tickCall s cycle (lent (now (longs .entry)) (now (words .entry)) (now (marks .entry))))
         (lent (now (longs .entry)) (now (words .entry)) (now (marks .entry))) r
         (lent (now (longs .exit)) (now (words .exit)) (now (marks .exit))) ⌝ }

@@ -207,7 +207,7 @@ fn make(
     match d {
         Deed::Fresh => outcomes::put_verdict(cache::fresh(s, longs, words, marks), b"fresh", out),
         Deed::Check => outcomes::put_verdict(cache::check(s, longs, words, marks), b"sound", out),
-        Deed::Made(k) => outcomes::put_told(cache::perform(s, longs, words, marks, k), out),
+        Deed::Made(k) => outcomes::put_reply(cache::perform(s, longs, words, marks, k), out),
         Deed::Dirty(lines) => outcomes::put_dirty(dirty_lines(marks, lines), out),
     }
 }

@@ -4,7 +4,7 @@ use model::Event;
 use model::QueueKind;
 use model::Queued;
 use model::Refusal;
-use model::Told;
+use model::Reply;
 use model::Verdict;
 
 // Where an outcome's text ends, and whether it is a refusal.
@@ -183,14 +183,14 @@ fn put_tickets(count: usize, tickets: [u32; 8], out: &mut [u8], at: usize) -> us
 }
 
 // All that a call told, on one line.
-pub(crate) fn put_told(told: Told, out: &mut [u8]) -> Outcome {
-    let first = told.first;
-    let queued = told.queued;
-    let tickets = told.tickets;
+pub(crate) fn put_reply(reply: Reply, out: &mut [u8]) -> Outcome {
+    let first = reply.first;
+    let queued = reply.queued;
+    let tickets = reply.tickets;
     let a = put_first(first, out, 0);
-    let b = put_queued(told.queues, queued, out, a);
+    let b = put_queued(reply.queues, queued, out, a);
     Outcome {
-        end: put_tickets(told.count, tickets, out, b),
+        end: put_tickets(reply.count, tickets, out, b),
         refused: is_refusal(first),
     }
 }

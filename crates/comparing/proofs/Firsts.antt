@@ -140,18 +140,18 @@ module _ (a b : List ℕ) where
 
 module _ (a b : List ℕ) where
   -- what lies behind a cursor
-  unfoldable pub ahead : Cursor → ℕ
-  ahead c = (length a - c .first) + (length b - c .second)
+  unfoldable pub bytesLeft : Cursor → ℕ
+  bytesLeft c = (length a - c .first) + (length b - c .second)
 
-  behind-less : (c : Cursor) → left a b (c .first) (c .second) ≡ true → ahead (behind a b c) < ahead c
-  unfolding ahead
+  behind-less : (c : Cursor) → left a b (c .first) (c .second) ≡ true → bytesLeft (behind a b c) < bytesLeft c
+  unfolding bytesLeft
   behind-less c t = left-less a b (c .first) (c .second) t refl refl
 
-  none-ahead : (c : Cursor) → ahead c ≤ 0 → left a b (c .first) (c .second) ≡ false
-  unfolding left ahead
+  none-ahead : (c : Cursor) → bytesLeft c ≤ 0 → left a b (c .first) (c .second) ≡ false
+  unfolding left bytesLeft
   none-ahead c h = rw (le-ltb (c .first) (length a) (omega arith), le-ltb (c .second) (length b) (omega arith))
 
-  found-steps : (d e : ℕ) (c : Cursor) → ahead c ≤ d → ahead c ≤ e → foundFrom d a b c ≡ foundFrom e a b c
+  found-steps : (d e : ℕ) (c : Cursor) → bytesLeft c ≤ d → bytesLeft c ≤ e → foundFrom d a b c ≡ foundFrom e a b c
   unfolding foundFrom left
   found-steps zero zero c h k = refl
   found-steps zero (suc e) c h k = rw (none-ahead c h)
@@ -164,16 +164,16 @@ module _ (a b : List ℕ) where
 
   -- the loop over the pairs: what is found from where it stands
   abbrev pub Finds : Cursor → Cursor → Type 0
-  Finds o c = found a b o ≡ foundFrom (ahead c) a b c
+  Finds o c = found a b o ≡ foundFrom (bytesLeft c) a b c
 
   pub finds-start : (o : Cursor) → Finds o o
-  unfolding found ahead
-  finds-start o = found-steps (length a + length b) (ahead o) o (omega arith) (omega arith)
+  unfolding found bytesLeft
+  finds-start o = found-steps (length a + length b) (bytesLeft o) o (omega arith) (omega arith)
 
   module _ (o : Cursor) (c : Cursor) (g : Finds o c) where
     pub finds-none : left a b (c .first) (c .second) ≡ false → record { answer = answer.Same; next = c } ≡ found a b o
     unfolding foundFrom left
-    finds-none t = sym (g ∙ found-steps (ahead c) (suc (ahead c)) c (omega arith) (omega arith) ∙ rw t)
+    finds-none t = sym (g ∙ found-steps (bytesLeft c) (suc (bytesLeft c)) c (omega arith) (omega arith) ∙ rw t)
 
     module _ (t : left a b (c .first) (c .second) ≡ true) {e f k : ℕ} (p : e ≡ groupEnd a (c .first)) (q : f ≡ groupEnd b (c .second)) (w : k ≡ (c .number + 1) % 2 ^ 64)
         {x y : List ℕ} (i : x ≡ take (e - c .first) (drop (c .first) a)) (j : y ≡ take (f - c .second) (drop (c .second) b)) where
@@ -183,30 +183,30 @@ module _ (a b : List ℕ) where
       pub finds-here : sameBytes x y ≡ false
           → record { answer = answer.Differs (c .number) (c .first) (e - c .first) (c .second) (f - c .second); next = record { number = k; first = e; second = f } } ≡ found a b o
       unfolding foundFrom left
-      finds-here r = sym (g ∙ found-steps (ahead c) (suc (ahead c)) c (omega arith) (omega arith) ∙ rw (t, there r, p, q, w))
+      finds-here r = sym (g ∙ found-steps (bytesLeft c) (suc (bytesLeft c)) c (omega arith) (omega arith) ∙ rw (t, there r, p, q, w))
 
       pub finds-more : sameBytes x y ≡ true → Finds o (record { number = k; first = e; second = f })
       unfolding foundFrom left
       finds-more r =
           let l = behind-less c t in
           let z : record { number = k; first = e; second = f } ≡ behind a b c = rw (p, q, w) in
-          g ∙ found-steps (ahead c) (suc (ahead c)) c (omega arith) (omega arith) ∙ rw (t, there r, z) (found-steps (ahead c) (ahead (behind a b c)) (behind a b c) (omega arith) (omega arith))
+          g ∙ found-steps (bytesLeft c) (suc (bytesLeft c)) c (omega arith) (omega arith) ∙ rw (t, there r, z) (found-steps (bytesLeft c) (bytesLeft (behind a b c)) (behind a b c) (omega arith) (omega arith))
 
   -- ---- where it stands, that is the answer to its number
 
   module _ (fa : length a < 2 ^ 64) (fb : length b < 2 ^ 64) where
-    goes-from : (d m : ℕ) (c : Cursor) → ahead c ≤ d → Going a b m (c .number) (c .first) (c .second) → GoesOn a b m (foundFrom d a b c)
+    goes-from : (d m : ℕ) (c : Cursor) → bytesLeft c ≤ d → Going a b m (c .number) (c .first) (c .second) → GoesOn a b m (foundFrom d a b c)
     unfolding foundFrom left
     goes-from zero m c h g = going-none a b g (none-ahead c h)
     goes-from (suc d) m c h g = go (left a b (c .first) (c .second)) refl (sameBytes (bytesIn a (groupAt a (c .first))) (bytesIn b (groupAt b (c .second)))) refl (λ v i j. goes-from d m v i j)
       where
         go : (t : Bool) → left a b (c .first) (c .second) ≡ t → (u : Bool) → sameBytes (bytesIn a (groupAt a (c .first))) (bytesIn b (groupAt b (c .second))) ≡ u
-            → ((v : Cursor) → ahead v ≤ d → Going a b m (v .number) (v .first) (v .second) → GoesOn a b m (foundFrom d a b v))
+            → ((v : Cursor) → bytesLeft v ≤ d → Going a b m (v .number) (v .first) (v .second) → GoesOn a b m (foundFrom d a b v))
             → GoesOn a b m (pick t (pick u (foundFrom d a b (behind a b c)) (record { answer = differs (c .number) (groupAt a (c .first)) (groupAt b (c .second)); next = behind a b c })) (record { answer = answer.Same; next = c }))
         go true q true r ih = let l = behind-less c q in ih (behind a b c) (omega arith) (going-more a b g refl refl q fa fb refl refl refl r)
         go true q false r ih = going-found a b g refl refl q fa fb refl refl refl r
         go false q u r ih = going-none a b g q
 
     pub found-goes-on : (c : Cursor) → Stands a b c → GoesOn a b (c .number) (found a b c)
-    unfolding found ahead
+    unfolding found bytesLeft
     found-goes-on c s = goes-from (length a + length b) (c .number) c (omega arith) (record { in-a = s .in-a; in-b = s .in-b; same = refl; from = omega arith; to = omega arith })

@@ -6,7 +6,7 @@ use lib.Dec.{eqb}
 use lib.ListN.{length}
 use borrow.Author.Tests.{eqb-true, eq-eqb}
 use Rattle.model.specs.declared.Settings.{Settings}
-use Rattle.model.specs.declared.Told.{Told}
+use Rattle.model.specs.declared.Reply.{Reply}
 use Rattle.model.specs.Range.{inRange}
 use Rattle.model.specs.Layout.{longsLength, wordsLength, marksLength}
 use Rattle.model.specs.Tables.{Tables, Outcome, refused, done, after, eventsOf}
@@ -14,7 +14,7 @@ use Rattle.model.specs.Lent.{Lent, lengthsFit, tablesOf, encode}
 use Rattle.model.specs.Sound.{sound}
 use Rattle.model.specs.SoundLent.{soundLent, Small}
 use Rattle.model.specs.Calls.{call, encoded, eventsTold}
-use Rattle.model.specs.Inner.{Fit, Encodes, Does}
+use Rattle.model.specs.Inner.{Sized, Encodes, Does}
 use Rattle.words.proofs.Flags.{and-1, and-2, and-i}
 use Rattle.model.proofs.Fits.{ranged, fit}
 use Rattle.encoding.proofs.LentSoundFacts.{sound-is}
@@ -78,7 +78,7 @@ module _ (S : Settings) (L : Lent) (t : Tables) (is : Encodes S L t) where
   pub is-sound-lent : soundLent S L ≡ true
   is-sound-lent = ap (soundLent S) (is .encoded) ∙ encode-sound-lent S t (is .range) (is .soundly)
 
-  pub is-fit : Fit S (L .longs) (L .words) (L .marks)
+  pub is-fit : Sized S (L .longs) (L .words) (L .marks)
   is-fit = let (a, b, c) = lengths S L is-fits in fit S (L .longs) (L .words) (L .marks) (is .range, a, b, c)
 
   -- refusals 1, 2 and 3 do not apply
@@ -100,7 +100,7 @@ pub events-encoded : (S : Settings) (o : Outcome Tables) → eventsOf (encoded S
 events-encoded S (refused n) = refl
 events-encoded S (done es t) = refl
 
-module _ (S : Settings) {step : Tables → Outcome Tables} {L : Lent} {r : Told} {M : Lent} (d : Does S step L r M) (t : Tables) (i : Encodes S L t) where
+module _ (S : Settings) {step : Tables → Outcome Tables} {L : Lent} {r : Reply} {M : Lent} (d : Does S step L r M) (t : Tables) (i : Encodes S L t) where
   pub does-tells : eventsTold r ≡ eventsOf (step t)
   does-tells = d .on t i .tells ∙ events-encoded S (step t)
 

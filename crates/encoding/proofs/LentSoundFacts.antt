@@ -10,7 +10,7 @@ use Rattle.model.specs.Range.{linesOf, isTree}
 use Rattle.model.specs.Tree.{treeFine}
 use Rattle.model.specs.Address.{goodBlock, blockOf, sectorIndex, setIndex}
 use Rattle.model.specs.Sound.{lastCycle, allOnes}
-use Rattle.model.specs.Lent.{Lent, tagAt, cycleAt, statusAt, maskAt, readableAt, missAt, sentAt, ticketCountAt, ticketAt, queuedAt, kindAt, queueMaskAt, nowAt, dirtyCountAt, takenAt, treeAt}
+use Rattle.model.specs.Lent.{Lent, tagAt, cycleAt, statusAt, maskAt, readableAt, missAt, sentAt, ticketCountAt, ticketAt, queuedAt, queueKindAt, queueMaskAt, nowAt, dirtyCountAt, takenAt, treeAt}
 use Rattle.model.specs.SoundLent as lent
 use Rattle.words.proofs.Reflect.{Decides, is-flag, is-eq, is-le, is-lt, is-not, _⊓_, is-or, is-imp, is-unless, is-every, is-some, is-none, is-as}
 
@@ -51,7 +51,7 @@ module _ (S : Settings) (L : Lent) where
   queued = queuedAt S (L .longs)
 
   abbrev pub kind : ℕ → ℕ
-  kind = kindAt S (L .marks)
+  kind = queueKindAt S (L .marks)
 
   abbrev pub queueMask : ℕ → ℕ
   queueMask = queueMaskAt S (L .words)

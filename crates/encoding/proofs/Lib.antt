@@ -15,4 +15,4 @@ pub mod RunGoesOn
 pub mod Separate
 pub mod LentRounds
 pub mod Demand
-pub mod ToldShapes
+pub mod ReplyShapes

@@ -7,13 +7,13 @@ use native.Mathlib.Omega.{arith}
 use lib.ListN.{length, getD, length-append, List·getD-append}
 use lib.Seq.{getD-append-add}
 use Rattle.model.specs.declared.Settings.{Settings}
-use Rattle.words.specs.Words.{table, fit, packed, joined}
+use Rattle.words.specs.Words.{table, padTo, packed, joined}
 use Rattle.model.specs.Range.{linesOf}
 use Rattle.model.specs.Layout.{offsetOf, longSizes, wordSizes, markSizes, longsLength, wordsLength, marksLength, longsFrom, wordsFrom, marksFrom, tagRegion, missRegion, queueRegion, cycleRegion, maskRegion, ticketRegion, queueMaskRegion, dirtyCountRegion, takenRegion, treeRegion, statusRegion, readableRegion, sentRegion, ticketCountRegion, kindRegion}
 use Rattle.model.specs.Tables.{Tables}
 use Rattle.model.specs.Lent.{Lent, encode, tagOf, cycleOf, takenOf, treeOf, masksOf, statusesOf, readablesOf, missOf, sentOf, ticketCountOf, ticketsIn, queuedOf, kindOf, queueMasksOf, longBlocks, wordBlocks, markBlocks}
 use Rattle.words.specs.Regions.{region, offsetIn}
-use Rattle.words.proofs.Places.{length-fit, length-places, block-get, stride, fit-get}
+use Rattle.words.proofs.Places.{length-padTo, length-places, block-get, stride, padTo-get}
 use Rattle.words.proofs.Tabled.{table-append}
 use Rattle.encoding.proofs.Slices.{long-sizes, word-sizes, mark-sizes, begins, regions-joined, region-table}
 use Rattle.encoding.proofs.LentSoundFacts.{tag, cycle, taken, status, mask, readable, miss, sent, ticketCount, ticket, queued, kind, queueMask, now, dirtyCount, tree}
@@ -43,21 +43,21 @@ module _ {A : Type 0} (g : A → List ℕ) where
 
 -- ---- places
 
-table-fit : (w : ℕ) (f : ℕ → ℕ) (l : List ℕ) → ((k : ℕ) → k < w → f k ≡ getD l k 0) → table w f ≡ fit w l
-unfolding table fit
+table-fit : (w : ℕ) (f : ℕ → ℕ) (l : List ℕ) → ((k : ℕ) → k < w → f k ≡ getD l k 0) → table w f ≡ padTo w l
+unfolding table padTo
 table-fit zero f l h = refl
 table-fit (suc w) f [] h = rw (h 0 (omega arith), table-fit w (λ k. f (suc k)) [] (λ k j. h (suc k) (omega arith)))
 table-fit (suc w) f (x ∷ l) h = rw (h 0 (omega arith), table-fit w (λ k. f (suc k)) l (λ k j. h (suc k) (omega arith)))
 
-first-place : (w k : ℕ) (l r : List ℕ) → k < w → getD (fit w l ++ r) (w * 0 + k) 0 ≡ getD l k 0
+first-place : (w k : ℕ) (l r : List ℕ) → k < w → getD (padTo w l ++ r) (w * 0 + k) 0 ≡ getD l k 0
 first-place w k l r h =
-    rw (mul-zero, zero-add) (List·getD-append (fit w l) r 0 k (rw length-fit h) ∙ fit-get w l k h)
+    rw (mul-zero, zero-add) (List·getD-append (padTo w l) r 0 k (rw length-padTo h) ∙ padTo-get w l k h)
 
-later-place : (w e k : ℕ) (l r : List ℕ) → getD (fit w l ++ r) (w * suc e + k) 0 ≡ getD r (w * e + k) 0
+later-place : (w e k : ℕ) (l r : List ℕ) → getD (padTo w l ++ r) (w * suc e + k) 0 ≡ getD r (w * e + k) 0
 later-place w e k l r =
-    let s : length (fit w l) ≡ w = length-fit w l in
-    let q : w * suc e + k ≡ length (fit w l) + (w * e + k) = rw mul-suc (omega arith) in
-    ap (λ (i : ℕ). getD (fit w l ++ r) i 0) q ∙ getD-append-add (fit w l) r (w * e + k) 0
+    let s : length (padTo w l) ≡ w = length-padTo w l in
+    let q : w * suc e + k ≡ length (padTo w l) + (w * e + k) = rw mul-suc (omega arith) in
+    ap (λ (i : ℕ). getD (padTo w l ++ r) i 0) q ∙ getD-append-add (padTo w l) r (w * e + k) 0
 
 module _ {A : Type 0} (g : A → List ℕ) (w : ℕ) where
   places-field : (n e k : ℕ) (xs : List A) → e < n → k < w → getD (packed g w n xs) (w * e + k) 0 ≡ field g xs e k
@@ -75,7 +75,7 @@ module _ {A : Type 0} (g : A → List ℕ) (w : ℕ) where
   first-numbers f k = rw (mul-zero, zero-add)
 
   table-step : (n : ℕ) (l : List ℕ) (f : ℕ → ℕ) {r : List ℕ} → ((k : ℕ) → k < w → f (w * 0 + k) ≡ getD l k 0) → table (w * n) (λ i. f (w + i)) ≡ r
-      → table (w * suc n) f ≡ fit w l ++ r
+      → table (w * suc n) f ≡ padTo w l ++ r
   table-step n l f first rest =
       let q : w * suc n ≡ w + w * n = rw mul-suc (omega arith) in
       ap (λ (m : ℕ). table m f) q ∙ table-append w (w * n) f ∙ rw (table-fit w f l (λ k j. first-numbers f k ∙ first k j), rest)

@@ -23,7 +23,7 @@ use Rattle.model.specs.Inner.{SoundSlices, Does}
 use Rattle.model.specs.Numbers.{stopNumber}
 use Rattle.model.specs.Runner.{Result, Runs}
 use Rattle.model.specs.declared.Settings.{Settings}
-use Rattle.model.specs.declared.Told.{Told}
+use Rattle.model.specs.declared.Reply.{Reply}
 use Rattle.model.specs.declared.Access.{Access}
 use Rattle.model.specs.declared.Ran.{Ran}
 use Rattle.rounds.specs.declared.Waited.{Waited}
@@ -55,22 +55,22 @@ call-short S (filling a) t range ok = step-takes S (cmd.Fill a) t range ok
 call-short S (ticking c) t range ok = step-takes S (cmd.Tick c) t range ok
 
 -- so the room suffices for all of it
-module _ (o : Outcome Lent) (L : Lent) (e : List ℕ) (told : Told) (room : 64 ≤ length e) (short : length (logBytes (eventsOf o)) ≤ 49) where
-  call-written : {r : ℕ} {f : List ℕ} {M : Lent} → Leaves o L told M → Stored e 0 (logBytes (eventsTold told)) r f → Called o L e r f M
+module _ (o : Outcome Lent) (L : Lent) (e : List ℕ) (reply : Reply) (room : 64 ≤ length e) (short : length (logBytes (eventsOf o)) ≤ 49) where
+  call-written : {r : ℕ} {f : List ℕ} {M : Lent} → Leaves o L reply M → Stored e 0 (logBytes (eventsTold reply)) r f → Called o L e r f M
   call-written l s =
       let b = le-leb 64 (length e) room in
       let (count, slice) = stored-behind [] e (logBytes (eventsOf o)) (rw (l .tells) at s) (omega arith) in
       record { written = rw b count; events = rw b slice; left = rw b (l .left) }
 
-module _ (S : Settings) (k : Call) (L : Lent) (e : List ℕ) (told : Told) where
+module _ (S : Settings) (k : Call) (L : Lent) (e : List ℕ) (reply : Reply) where
   abbrev out : Outcome Lent
   out = call S (stepBy S k) L
 
-  pub call-made : {r : ℕ} {f : List ℕ} {M : Lent} → Small L → 64 ≤ length e → Leaves out L told M → Stored e 0 (logBytes (eventsTold told)) r f → Called out L e r f M
-  call-made small room l s = call-written out L e told room (call-room S (stepBy S k) L small (call-short S k)) l s
+  pub call-made : {r : ℕ} {f : List ℕ} {M : Lent} → Small L → 64 ≤ length e → Leaves out L reply M → Stored e 0 (logBytes (eventsTold reply)) r f → Called out L e r f M
+  call-made small room l s = call-written out L e reply room (call-room S (stepBy S k) L small (call-short S k)) l s
 
   -- a step without the check leaves what the call leaves, and sound tables again
-  pub step-made : {r : ℕ} {f : List ℕ} {M : Lent} → history.Small k → SoundSlices S L → 64 ≤ length e → Does S (stepBy S k) L told M → Stored e 0 (logBytes (eventsTold told)) r f → Stepped S out L e r f M
+  pub step-made : {r : ℕ} {f : List ℕ} {M : Lent} → history.Small k → SoundSlices S L → 64 ≤ length e → Does S (stepBy S k) L reply M → Stored e 0 (logBytes (eventsTold reply)) r f → Stepped S out L e r f M
   unfolding access
   step-made small held room d s =
       let t = held .tables in
@@ -78,7 +78,7 @@ module _ (S : Settings) (k : Call) (L : Lent) (e : List ℕ) (told : Told) where
       let q : out ≡ encoded S (stepBy S k t) = call-is S L t i (stepBy S k) in
       let n : length (logBytes (eventsOf out)) ≤ 49 = rw (q, events-encoded S (stepBy S k t)) (call-short S k t (i .range) (i .soundly) .most) in
       record {
-        called = call-written out L e told room n (rw q (d .on t i)) s;
+        called = call-written out L e reply room n (rw q (d .on t i)) s;
         held = record { tables = after t (stepBy S k t); are = does-is S d t i (call-keeps-sound (ruleOf S) S k t (i .range) small (i .soundly)) };
       }
 

@@ -177,8 +177,8 @@ fn made(
         return 0;
     }
     let s = settings_from(settings);
-    let told = cache::perform(s, longs, words, marks, k);
-    records::write_told(told, events, 0)
+    let reply = cache::perform(s, longs, words, marks, k);
+    records::write_reply(reply, events, 0)
 }
 
 // A read; its events are written, and how many bytes they are is returned.

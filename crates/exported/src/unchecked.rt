@@ -33,9 +33,9 @@ pub extern "C" fn labintugmo_step_read(
         mask: 0,
         ticket,
     };
-    let at = layout::laid_out(s);
-    let told = access::access_step(s, at, longs, words, marks, x);
-    records::write_told(told, events, 0)
+    let at = layout::layout_of(s);
+    let reply = access::access_step(s, at, longs, words, marks, x);
+    records::write_reply(reply, events, 0)
 }
 
 // A write on tables that the caller has kept sound.
@@ -62,9 +62,9 @@ pub extern "C" fn labintugmo_step_write(
         mask,
         ticket: 0,
     };
-    let at = layout::laid_out(s);
-    let told = access::access_step(s, at, longs, words, marks, x);
-    records::write_told(told, events, 0)
+    let at = layout::layout_of(s);
+    let reply = access::access_step(s, at, longs, words, marks, x);
+    records::write_reply(reply, events, 0)
 }
 
 // A send on tables that the caller has kept sound.
@@ -84,9 +84,9 @@ pub extern "C" fn labintugmo_step_send(
         return 0;
     }
     let s = settings_from(settings);
-    let at = layout::laid_out(s);
-    let told = steps::send_step(s, at, longs, words, marks);
-    records::write_told(told, events, 0)
+    let at = layout::layout_of(s);
+    let reply = steps::send_step(s, at, longs, words, marks);
+    records::write_reply(reply, events, 0)
 }
 
 // A fill on tables that the caller has kept sound.
@@ -107,9 +107,9 @@ pub extern "C" fn labintugmo_step_fill(
         return 0;
     }
     let s = settings_from(settings);
-    let at = layout::laid_out(s);
-    let told = steps::fill_step(s, at, longs, words, marks, address);
-    records::write_told(told, events, 0)
+    let at = layout::layout_of(s);
+    let reply = steps::fill_step(s, at, longs, words, marks, address);
+    records::write_reply(reply, events, 0)
 }
 
 // A tick on tables that the caller has kept sound.
@@ -130,6 +130,6 @@ pub extern "C" fn labintugmo_step_tick(
         return 0;
     }
     let s = settings_from(settings);
-    let told = steps::tick_step(s, longs, words, marks, cycle);
-    records::write_told(told, events, 0)
+    let reply = steps::tick_step(s, longs, words, marks, cycle);
+    records::write_reply(reply, events, 0)
 }

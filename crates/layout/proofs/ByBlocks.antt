@@ -9,7 +9,7 @@ use Rattle.words.specs.Words.{joined}
 use Rattle.model.specs.Range.{inRange}
 use Rattle.model.specs.Tables.{Tables}
 use Rattle.model.specs.Lent.{Lent, lent, longBlocks, wordBlocks, markBlocks, encode}
-use Rattle.model.specs.Inner.{Fit, Encodes}
+use Rattle.model.specs.Inner.{Sized, Encodes}
 use Rattle.model.specs.declared.Settings.{Settings}
 use Rattle.model.proofs.Fits.{fit}
 use Rattle.words.proofs.Places.{length-places}
@@ -31,7 +31,7 @@ pub stands-encode : {S : Settings} {longs words marks : List ℕ} {t : Tables} �
 unfolding encode
 stands-encode h = rw (h .as-longs, h .as-words, h .as-marks)
 
-pub stands-fit : {S : Settings} {longs words marks : List ℕ} {t : Tables} → inRange S ≡ true → ByBlocks S longs words marks t → Fit S longs words marks
+pub stands-fit : {S : Settings} {longs words marks : List ℕ} {t : Tables} → inRange S ≡ true → ByBlocks S longs words marks t → Sized S longs words marks
 stands-fit {S} {longs} {words} {marks} {t} r h =
     fit S longs words marks (
       r,

@@ -3,12 +3,12 @@ use mathlib.Core.Path.{_≡_}
 use mathlib.Core.List.{List}
 use Prim.Native.Nat.{ℕ, _+_}
 use lib.ListN.{getD}
-use Rattle.model.specs.Lent.{maskAt, readableAt, missAt, sentAt, ticketCountAt, ticketAt, queuedAt, kindAt}
+use Rattle.model.specs.Lent.{maskAt, readableAt, missAt, sentAt, ticketCountAt, ticketAt, queuedAt, queueKindAt}
 use Rattle.model.specs.declared.Settings.{Settings}
 use Rattle.layout.specs.declared.Layout.{Layout}
-use Rattle.layout.specs.Layout.{Placed}
+use Rattle.layout.specs.Layout.{LaysOut}
 
-module _ (S : Settings) {at : Layout} (p : Placed S at) where
+module _ (S : Settings) {at : Layout} (p : LaysOut S at) where
   pub mask-read : (words : List ℕ) (i : ℕ) → getD words (at .masks + i) 0 ≡ maskAt S words i
   mask-read words i = rw (p .masks)
 
@@ -30,5 +30,5 @@ module _ (S : Settings) {at : Layout} (p : Placed S at) where
   pub queued-read : (longs : List ℕ) (q : ℕ) → getD longs (at .queue + q) 0 ≡ queuedAt S longs q
   queued-read longs q = rw (p .queue)
 
-  pub kind-read : (marks : List ℕ) (q : ℕ) → getD marks (at .kinds + q) 0 ≡ kindAt S marks q
+  pub kind-read : (marks : List ℕ) (q : ℕ) → getD marks (at .kinds + q) 0 ≡ queueKindAt S marks q
   kind-read marks q = rw (p .kinds)

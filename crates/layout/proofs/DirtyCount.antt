@@ -20,12 +20,12 @@ use Rattle.words.proofs.Counting.{count-length}
 use Rattle.encoding.proofs.Slices.{word-sizes, begins}
 use Rattle.encoding.proofs.Bridge.{is-fit}
 use Rattle.layout.specs.declared.Layout.{Layout}
-use Rattle.layout.specs.Layout.{Placed}
+use Rattle.layout.specs.Layout.{LaysOut}
 use Rattle.layout.specs.Sectors.{someModified}
 use Rattle.layout.proofs.ByBlocks.{ByBlocks, is-stands}
 use Rattle.model.proofs.SoundFacts.{parts, lines-are, dirty-count-is}
 
-module _ (S : Settings) (t : Tables) {longs words marks : List ℕ} (h : ByBlocks S longs words marks t) {at : Layout} (p : Placed S at) where
+module _ (S : Settings) (t : Tables) {longs words marks : List ℕ} (h : ByBlocks S longs words marks t) {at : Layout} (p : LaysOut S at) where
   here : at .dirty ≡ offsetIn (wordBlocks S t) dirtyCountRegion + 0
   here = p .dirty ∙ sym (begins (wordBlocks S t) dirtyCountRegion (word-sizes S t)) ∙ sym (add-zero (offsetIn (wordBlocks S t) dirtyCountRegion))
 
@@ -41,7 +41,7 @@ module _ (S : Settings) (t : Tables) {longs words marks : List ℕ} (h : ByBlock
   }
 
 -- of sound tables: the lines counted, so no more than there are
-module _ (S : Settings) {longs words marks : List ℕ} (t : Tables) (is : Encodes S (lent longs words marks) t) {at : Layout} (p : Placed S at) where
+module _ (S : Settings) {longs words marks : List ℕ} (t : Tables) (is : Encodes S (lent longs words marks) t) {at : Layout} (p : LaysOut S at) where
   pub dirty-counted : getD words (at .dirty) 0 ≡ count dirty (t .lines)
   dirty-counted = dirty-count-at S t (is-stands is) p ∙ dirty-count-is S t (parts S t (is .soundly))
 

@@ -6,15 +6,15 @@ use native.Mathlib.Nat.{mul-zero, mul-suc, zero-add}
 use native.Mathlib.Omega.{arith}
 use lib.ListN.{length, set, replicate, length-replicate, getD-replicate, replicate-append-replicate}
 use Rattle.model.specs.declared.Settings.{Settings}
-use Rattle.words.specs.Words.{fit, packed, joined}
+use Rattle.words.specs.Words.{padTo, packed, joined}
 use Rattle.model.specs.Range.{linesOf}
 use Rattle.model.specs.Layout.{longsLength, wordsLength, marksLength}
 use Rattle.model.specs.Tables.{fresh, start}
 use Rattle.model.specs.Lent.{lent, tagOf, cycleOf, takenOf, treeOf, masksOf, statusesOf, readablesOf, missOf, sentOf, ticketCountOf, ticketsIn, queuedOf, kindOf, queueMasksOf, longBlocks, wordBlocks, markBlocks, encode}
 use Rattle.words.specs.Regions.{put}
-use Rattle.model.specs.Inner.{Fit, told}
+use Rattle.model.specs.Inner.{Sized, told}
 use Rattle.words.proofs.Region.{Pasting, pasting-start, pasting-turn, pasting-done}
-use Rattle.words.proofs.Places.{fit-zeros, put-whole, put-past, put-within}
+use Rattle.words.proofs.Places.{padTo-zeros, put-whole, put-past, put-within}
 
 -- ---- the loops: after i turns l has i times v from index `at`
 
@@ -52,7 +52,7 @@ as-many v {m} {n} e = ap (λ (k : ℕ). replicate k v) e
 
 module _ {A : Type 0} (g : A → List ℕ) (w : ℕ) where
   -- n times the same record, of one number in all its places
-  even-places : (x : A) (v n : ℕ) → fit w (g x) ≡ replicate w v → packed g w n (replicate n x) ≡ replicate (w * n) v
+  even-places : (x : A) (v n : ℕ) → padTo w (g x) ≡ replicate w v → packed g w n (replicate n x) ≡ replicate (w * n) v
   unfolding packed
   even-places x v zero e = rw (mul-zero w)
   even-places x v (suc n) e =
@@ -64,7 +64,7 @@ module _ {A : Type 0} (g : A → List ℕ) (w : ℕ) where
   no-places zero = rw (mul-zero w)
   no-places (suc n) =
       let k : w + w * n ≡ w * suc n = rw mul-suc (omega arith) in
-      rw (fit-zeros, no-places n, replicate-append-replicate) (as-many 0 k)
+      rw (padTo-zeros, no-places n, replicate-append-replicate) (as-many 0 k)
 
 -- zeros with v in the place of those from n to 2 n
 put-between : (n m v : ℕ) → put (zeros (n + (n + m))) n (replicate n v) ≡ zeros n ++ (replicate n v ++ zeros m)
@@ -86,14 +86,14 @@ module _ (S : Settings) where
   n = linesOf S
 
   fresh-longs : joined (longBlocks S (start S)) ≡ zeros (longsLength S)
-  unfolding fit
+  unfolding padTo
   fresh-longs =
       let k : 1 * n + (1 * S .misses + 1 * S .queue) ≡ longsLength S = omega arith in
       rw (even-places tagOf 1 fresh 0 n refl, no-places missOf 1 (S .misses), no-places queuedOf 1 (S .queue), append-nil, replicate-append-replicate, replicate-append-replicate)
       (as-many 0 k)
 
   fresh-words : joined (wordBlocks S (start S)) ≡ zeros (wordsLength S)
-  unfolding fit
+  unfolding padTo
   fresh-words =
       let k : suc (1 * n + (4 * n + (S .readers * S .misses + (4 * S .queue + suc (1 * n + 1 * S .sets))))) ≡ wordsLength S = omega arith in
       let tail : zeros (1 * n) ++ zeros (1 * S .sets) ≡ zeros (1 * n + 1 * S .sets) = replicate-append-replicate (1 * n) (1 * S .sets) 0 in
@@ -102,7 +102,7 @@ module _ (S : Settings) where
       (as-many 0 k)
 
   fresh-marks : joined (markBlocks S (start S)) ≡ put (zeros (marksLength S)) (4 * n) (replicate (4 * n) 1)
-  unfolding fit
+  unfolding padTo
   fresh-marks =
       let m = 1 * S .misses + (1 * S .misses + 1 * S .queue) in
       let k : marksLength S ≡ 4 * n + (4 * n + m) = omega arith in
@@ -110,7 +110,7 @@ module _ (S : Settings) where
       (sym (ap (λ (j : ℕ). put (zeros j) (4 * n) (replicate (4 * n) 1)) k ∙ put-between (4 * n) m 1))
 
 -- what `make_fresh` leaves
-pub fresh-filled : (S : Settings) (longs words marks : List ℕ) {l w z m : List ℕ} → Fit S longs words marks
+pub fresh-filled : (S : Settings) (longs words marks : List ℕ) {l w z m : List ℕ} → Sized S longs words marks
     → l ≡ zeros (length longs) → w ≡ zeros (length words) → z ≡ put marks 0 (zeros (length marks))
     → m ≡ put z (4 * linesOf S) (replicate (4 * linesOf S) 1) → lent l w m ≡ encode S (start S)
 unfolding encode

@@ -5,15 +5,15 @@ use Prim.Native.Nat.{ℕ, _+_, _*_, _≤_, _<_}
 use native.Mathlib.Decide.{decLe}
 use native.Mathlib.Omega.{arith}
 use lib.ListN.{length, getD}
-use Rattle.words.specs.Words.{fit, packed, joined}
+use Rattle.words.specs.Words.{padTo, packed, joined}
 use Rattle.words.specs.Regions.{offsetIn}
 use Rattle.words.proofs.Places.{block-get, field-get, places-past, block-size}
 use Rattle.layout.specs.Places.{First}
 
 module _ {A : Type 0} (g : A → List ℕ) (n : ℕ) (xs : List A) (bs : List (List ℕ)) (j : ℕ) {l : List ℕ} {i : ℕ}
     (is : l ≡ joined bs) (here : getD bs j [] ≡ packed g 1 n xs) (at : i ≡ offsetIn bs j) (h : j < length bs) (few : length xs ≤ n)
-    (d : A) (not-0 : (k : ℕ) → k < length xs → getD (fit 1 (g (getD xs k d))) 0 0 ≡ 0 → ⊥) where
-  value : (k : ℕ) → k < length xs → getD l (i + k) 0 ≡ getD (fit 1 (g (getD xs k d))) 0 0
+    (d : A) (not-0 : (k : ℕ) → k < length xs → getD (padTo 1 (g (getD xs k d))) 0 0 ≡ 0 → ⊥) where
+  value : (k : ℕ) → k < length xs → getD l (i + k) 0 ≡ getD (padTo 1 (g (getD xs k d))) 0 0
   value k below = field-get g 1 n xs bs j k {i = i + k} is here (omega arith) h below few d 0 (omega arith) (omega arith)
 
   rest : length xs < n → getD l (i + length xs) 0 ≡ 0

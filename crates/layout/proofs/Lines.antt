@@ -5,7 +5,7 @@ use Prim.Native.Nat.{ℕ, _+_, _*_, _≤_, _<_}
 use native.Mathlib.Omega.{arith}
 use lib.ListN.{length, getD, set, length-map}
 use lib.Dec.{eqb}
-use Rattle.words.specs.Words.{fit, packed, joined}
+use Rattle.words.specs.Words.{padTo, packed, joined}
 use Rattle.model.specs.Numbers.{statusNumber, statusOf}
 use Rattle.model.specs.Range.{linesOf}
 use Rattle.words.specs.Regions.{put, offsetIn}
@@ -18,14 +18,14 @@ use Rattle.model.proofs.Answers.{status-of-number}
 use Rattle.words.proofs.Places.{length-places, field-put, field-get, places-same}
 use Rattle.layout.specs.declared.Layout.{Layout}
 use Rattle.model.specs.Inner.{told}
-use Rattle.layout.specs.Layout.{Placed}
+use Rattle.layout.specs.Layout.{LaysOut}
 use Rattle.layout.specs.Sectors.{statuses, masks, readables}
 use Rattle.layout.proofs.ByBlocks.{ByBlocks}
 use Rattle.encoding.proofs.NumbersAreTables.{flag-of-bit}
 
 -- four numbers are their own places
-pub fit-four : (l : List ℕ) → length l ≡ 4 → l ≡ fit 4 l
-unfolding fit
+pub fit-four : (l : List ℕ) → length l ≡ 4 → l ≡ padTo 4 l
+unfolding padTo
 fit-four [] e = absurd (omega arith)
 fit-four (a ∷ []) e = absurd (omega arith)
 fit-four (a ∷ b ∷ []) e = absurd (omega arith)
@@ -38,11 +38,11 @@ sector-of x e f g = rw (e, f, g, status-of-number (x .status), flag-of-bit (x .r
 
 -- four sectors, read off the columns that they give
 sectors-of : (xs : List Sector) → length xs ≡ 4 → (S : Settings) (words marks : List ℕ) (l : ℕ)
-    → ((k q : ℕ) → k < 4 → q ≡ 4 * l + k → getD marks q 0 ≡ getD (fit 4 (statuses xs)) k 0)
-    → ((k q : ℕ) → k < 4 → q ≡ wordsFrom S maskRegion + (4 * l + k) → getD words q 0 ≡ getD (fit 4 (masks xs)) k 0)
-    → ((k q : ℕ) → k < 4 → q ≡ marksFrom S readableRegion + (4 * l + k) → getD marks q 0 ≡ getD (fit 4 (readables xs)) k 0)
+    → ((k q : ℕ) → k < 4 → q ≡ 4 * l + k → getD marks q 0 ≡ getD (padTo 4 (statuses xs)) k 0)
+    → ((k q : ℕ) → k < 4 → q ≡ wordsFrom S maskRegion + (4 * l + k) → getD words q 0 ≡ getD (padTo 4 (masks xs)) k 0)
+    → ((k q : ℕ) → k < 4 → q ≡ marksFrom S readableRegion + (4 * l + k) → getD marks q 0 ≡ getD (padTo 4 (readables xs)) k 0)
     → sectorsAt S words marks l ≡ xs
-unfolding fit
+unfolding padTo
 sectors-of [] e S words marks l f g h = absurd (omega arith)
 sectors-of (a ∷ []) e S words marks l f g h = absurd (omega arith)
 sectors-of (a ∷ b ∷ []) e S words marks l f g h = absurd (omega arith)
@@ -62,7 +62,7 @@ sectors-of (a ∷ b ∷ c ∷ d ∷ x ∷ xs) e S words marks l f g h = absurd (
 abbrev pub takenAs : ℕ → Line → Line
 takenAs k y = record { tag = y .tag; cycle = y .cycle; taken = k; sectors = y .sectors }
 
-module _ (S : Settings) (t : Tables) {longs words marks : List ℕ} (h : ByBlocks S longs words marks t) {at : Layout} (p : Placed S at) (sized : length (t .lines) ≡ linesOf S)
+module _ (S : Settings) (t : Tables) {longs words marks : List ℕ} (h : ByBlocks S longs words marks t) {at : Layout} (p : LaysOut S at) (sized : length (t .lines) ≡ linesOf S)
     (l : ℕ) (below : l < length (t .lines)) where
   few : length (t .lines) ≤ linesOf S
   few = omega arith
@@ -70,10 +70,10 @@ module _ (S : Settings) (t : Tables) {longs words marks : List ℕ} (h : ByBlock
   -- ---- what is read
 
   pub tag-at : getD longs l 0 ≡ getD (t .lines) l fresh .tag
-  unfolding fit
+  unfolding padTo
   tag-at = field-get tagOf 1 (linesOf S) (t .lines) (longBlocks S t) 0 l {i = l} (h .as-longs) refl (omega arith) (omega arith) below few fresh 0 (omega arith) (omega arith)
 
-  pub status-at : (j q : ℕ) → j < 4 → q ≡ 4 * l + j → getD marks q 0 ≡ getD (fit 4 (statusesOf (getD (t .lines) l fresh))) j 0
+  pub status-at : (j q : ℕ) → j < 4 → q ≡ 4 * l + j → getD marks q 0 ≡ getD (padTo 4 (statusesOf (getD (t .lines) l fresh))) j 0
   status-at j q b f =
       let start : 4 * l ≡ offsetIn (markBlocks S t) 0 + 4 * l = omega arith in
       field-get statusesOf 4 (linesOf S) (t .lines) (markBlocks S t) 0 l {i = 4 * l} (h .as-marks) refl start (omega arith) below few fresh j b f
@@ -89,7 +89,7 @@ module _ (S : Settings) (t : Tables) {longs words marks : List ℕ} (h : ByBlock
   -- ---- what is written: the line becomes y
 
   module _ (y : Line) (four : length (y .sectors) ≡ 4) where
-    column : (f : Sector → ℕ) → map f (y .sectors) ≡ fit 4 (map f (y .sectors))
+    column : (f : Sector → ℕ) → map f (y .sectors) ≡ padTo 4 (map f (y .sectors))
     column f = fit-four (map f (y .sectors)) (length-map (y .sectors) f ∙ four)
 
     marks-put : {marks′ : List ℕ} → marks′ ≡ put (put marks (4 * l) (statuses (y .sectors))) (at .readables + 4 * l) (readables (y .sectors))
@@ -118,7 +118,7 @@ module _ (S : Settings) (t : Tables) {longs words marks : List ℕ} (h : ByBlock
         × (words′ ≡ put (put words (1 + l) (y .cycle ∷ [])) (at .masks + 4 * l) (masks (y .sectors)))
         × (marks′ ≡ put (put marks (4 * l) (statuses (y .sectors))) (at .readables + 4 * l) (readables (y .sectors)))
         → ByBlocks S longs′ words′ marks′ (withLines (set (t .lines) l y) t)
-    unfolding fit
+    unfolding padTo
     line-stands k c =
         let first : put words (1 + l) (y .cycle ∷ []) ≡ joined (set (wordBlocks S t) 1 (packed cycleOf 1 (linesOf S) (set (t .lines) l y))) =
         field-put cycleOf 1 (linesOf S) (t .lines) (wordBlocks S t) 1 l {i = 1 + l} (h .as-words) refl (omega arith) (omega arith) below few y refl refl in
@@ -132,7 +132,7 @@ module _ (S : Settings) (t : Tables) {longs words marks : List ℕ} (h : ByBlock
   -- the cycle at which it was taken alone
   pub taken-stands : (k : ℕ) {words′ : List ℕ} → words′ ≡ put words (at .taken + l) (k ∷ [])
       → ByBlocks S longs words′ marks (withLines (set (t .lines) l (takenAs k (getD (t .lines) l fresh))) t)
-  unfolding fit
+  unfolding padTo
   taken-stands k c =
       let from = told (p .taken) in
       let y : Line = takenAs k (getD (t .lines) l fresh) in

@@ -13,7 +13,7 @@ use Rattle.model.specs.Range.{powerTo256, linesOf, ruleFine, inRange}
 use Rattle.model.specs.Tree.{powerTo16}
 use Rattle.model.specs.Layout.{longsLength, wordsLength, marksLength}
 use Rattle.model.specs.Lent.{lent, lengthsFit}
-use Rattle.model.specs.Inner.{Fit}
+use Rattle.model.specs.Inner.{Sized}
 use Rattle.words.proofs.Flags.{and-1, and-2, not-yes, no-not}
 use Rattle.model.proofs.Fits.{ranged, fit, power-most}
 
@@ -56,7 +56,7 @@ pub tickets-most : (S : Settings) → inRange S ≡ true → S .readers * S .mis
 tickets-most S e = let a = ranged S e in mul-le-mul (a .readers) (a .misses)
 
 -- no refusal 1 and no refusal 2
-pub lengths-fit : (S : Settings) (longs words marks : List ℕ) → inRange S ≡ true → lengthsFit S (lent longs words marks) ≡ true → Fit S longs words marks
+pub lengths-fit : (S : Settings) (longs words marks : List ℕ) → inRange S ≡ true → lengthsFit S (lent longs words marks) ≡ true → Sized S longs words marks
 lengths-fit S longs words marks r e =
     let l : eqb (length longs) (longsLength S) ≡ true = search (and-1, and-2) in
     let w : eqb (length words) (wordsLength S) ≡ true = search (and-1, and-2) in

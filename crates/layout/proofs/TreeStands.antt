@@ -4,7 +4,7 @@ use mathlib.Core.List.{List, [], _∷_}
 use Prim.Native.Nat.{ℕ, _+_, _<_}
 use native.Mathlib.Omega.{arith}
 use lib.ListN.{length, getD, set}
-use Rattle.words.specs.Words.{fit}
+use Rattle.words.specs.Words.{padTo}
 use Rattle.model.specs.Tables.{Tables, withTrees}
 use Rattle.model.specs.Lent.{wordBlocks, treeOf}
 use Rattle.words.specs.Regions.{put}
@@ -12,12 +12,12 @@ use Rattle.model.specs.Inner.{told}
 use Rattle.model.specs.declared.Settings.{Settings}
 use Rattle.words.proofs.Places.{length-places, field-put, field-get}
 use Rattle.layout.specs.declared.Layout.{Layout}
-use Rattle.layout.specs.Layout.{Placed}
+use Rattle.layout.specs.Layout.{LaysOut}
 use Rattle.layout.proofs.ByBlocks.{ByBlocks}
 
-pub tree-stands : (S : Settings) (t : Tables) {longs words marks : List ℕ} → ByBlocks S longs words marks t → {at : Layout} → Placed S at → length (t .trees) ≡ S .sets
+pub tree-stands : (S : Settings) (t : Tables) {longs words marks : List ℕ} → ByBlocks S longs words marks t → {at : Layout} → LaysOut S at → length (t .trees) ≡ S .sets
     → (i v : ℕ) → i < S .sets → {words′ : List ℕ} → words′ ≡ put words (at .trees + i) (v ∷ []) → ByBlocks S longs words′ marks (withTrees (set (t .trees) i v) t)
-unfolding fit
+unfolding padTo
 tree-stands S t h {at} p sized i v below c =
     let from = told (p .trees) in
     record {
@@ -26,9 +26,9 @@ tree-stands S t h {at} p sized i v below c =
       as-marks = h .as-marks;
     }
 
-pub tree-at : (S : Settings) (t : Tables) {longs words marks : List ℕ} → ByBlocks S longs words marks t → {at : Layout} → Placed S at → length (t .trees) ≡ S .sets
+pub tree-at : (S : Settings) (t : Tables) {longs words marks : List ℕ} → ByBlocks S longs words marks t → {at : Layout} → LaysOut S at → length (t .trees) ≡ S .sets
     → (i : ℕ) → i < S .sets → getD words (at .trees + i) 0 ≡ getD (t .trees) i 0
-unfolding fit
+unfolding padTo
 tree-at S t h {at} p sized i below =
     let from = told (p .trees) in
     field-get treeOf 1 (S .sets) (t .trees) (wordBlocks S t) 7 i {i = at .trees + i} (h .as-words) refl (simp length-places (omega arith)) (omega arith) (omega arith) (omega arith) 0 0 (omega arith) (omega arith)

@@ -6,7 +6,7 @@ use Rattle.model.specs.Inner.{Aside}
 use Rattle.model.specs.declared.Settings.{Settings}
 use Rattle.layout.specs.declared.Layout.{Layout}
 
-pub record Placed (S : Settings) (at : Layout) : Type 0 where
+pub record LaysOut (S : Settings) (at : Layout) : Type 0 where
   -- of longs, behind the tags
   pub misses : at .misses ≡ longsFrom S missRegion
   pub queue : at .queue ≡ longsFrom S queueRegion

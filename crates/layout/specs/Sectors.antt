@@ -11,11 +11,11 @@ use Rattle.model.specs.Lent.{bit}
 use Rattle.model.specs.declared.Settings.{Settings}
 use Rattle.model.specs.declared.Sector.{Sector}
 use Rattle.layout.specs.declared.Layout.{Layout}
-use Rattle.layout.specs.Layout.{Placed}
+use Rattle.layout.specs.Layout.{LaysOut}
 
 -- the slices have room for the sectors of all lines
 abbrev pub SectorRoom : Settings → Layout → List ℕ → List ℕ → Type 0
-SectorRoom S at words marks = Placed S at × (at .masks + 4 * linesOf S ≤ length words) × (at .readables + 4 * linesOf S ≤ length marks)
+SectorRoom S at words marks = LaysOut S at × (at .masks + 4 * linesOf S ≤ length words) × (at .readables + 4 * linesOf S ≤ length marks)
 
 -- the three columns of sectors
 abbrev pub statuses : List Sector → List ℕ

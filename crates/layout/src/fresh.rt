@@ -5,7 +5,7 @@ ghost use lib.ListN.{length, replicate};
 ghost use Rattle.words.specs.Regions.{put};
 ghost use Rattle.model.specs.Tables.{start};
 ghost use Rattle.model.specs.Lent.{lent, encode};
-ghost use Rattle.model.specs.Inner.{Fit};
+ghost use Rattle.model.specs.Inner.{Sized};
 use model::Settings;
 
 // Every 64-bit number becomes 0.
@@ -44,7 +44,7 @@ fn set_marks(s: &mut [u8], at: usize, n: usize, mark: u8)
 
 // Fresh tables: all invalid and readable, all empty, cycle 0.
 pub fn make_fresh(s: Settings, longs: &mut [u64], words: &mut [u32], marks: &mut [u8])
-    requires { ⌜ Fit s (now longs) (now words) (now marks) ⌝ }
+    requires { ⌜ Sized s (now longs) (now words) (now marks) ⌝ }
     ensures { λ _. ⌜ lent (now (longs .exit)) (now (words .exit)) (now (marks .exit)) ≡ encode s (start s) ⌝ }
 {
     let sectors = 4 * (s.sets * s.ways);

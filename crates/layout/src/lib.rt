@@ -27,7 +27,7 @@ pub use sectors::with_sector;
 ghost use mathlib.Core.Path.{_≡_};
 ghost use mathlib.Core.Bool.{true};
 ghost use Rattle.model.specs.Range.{inRange};
-ghost use Rattle.layout.specs.Layout.{Placed};
+ghost use Rattle.layout.specs.Layout.{LaysOut};
 use model::Settings;
 
 // Where each part of the tables begins, behind the part before it.
@@ -47,9 +47,9 @@ pub struct Layout {
 }
 
 // Where each part of the slices begins.
-pub fn laid_out(s: Settings) -> Layout
+pub fn layout_of(s: Settings) -> Layout
     requires { ⌜ inRange s ≡ true ⌝ }
-    ensures { λ r. ⌜ Placed s r ⌝ }
+    ensures { λ r. ⌜ LaysOut s r ⌝ }
 {
     let lines = s.sets * s.ways;
     let tickets = 1 + 5 * lines;

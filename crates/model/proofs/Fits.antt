@@ -12,7 +12,7 @@ use Rattle.model.specs.declared.Settings.{Settings}
 use Rattle.model.specs.Range.{linesOf, inRange, powerTo256, isTree, ruleFine}
 use Rattle.model.specs.Tree.{powerTo16}
 use Rattle.model.specs.Layout.{longsLength, wordsLength, marksLength}
-use Rattle.model.specs.Inner.{Fit, aside}
+use Rattle.model.specs.Inner.{Sized, aside}
 use Rattle.words.proofs.Flags.{and-1, and-2, clash}
 use Rattle.words.proofs.Lists.{any-in, all-in}
 
@@ -82,7 +82,7 @@ tree-power S range e =
     let two : S .rule ≡ 2 = eqb-true (S .rule) 2 e in
     rw two at fine
 
-pub fit : (S : Settings) (longs words marks : List ℕ) → (inRange S ≡ true) × (length longs ≡ longsLength S) × (length words ≡ wordsLength S) × (length marks ≡ marksLength S) → Fit S longs words marks
+pub fit : (S : Settings) (longs words marks : List ℕ) → (inRange S ≡ true) × (length longs ≡ longsLength S) × (length words ≡ wordsLength S) × (length marks ≡ marksLength S) → Sized S longs words marks
 fit S longs words marks (r, l, w, m) =
     let a = ranged S r in
     let t : S .readers * S .misses ≤ 8 * 64 = mul-le-mul (a .readers) (a .misses) in

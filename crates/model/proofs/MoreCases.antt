@@ -2,7 +2,7 @@
 -- A table and a statement each.
 use mathlib.Core.Path.{_≡_, refl}
 use mathlib.Core.List.{map}
-use Rattle.words.specs.Words.{table, fit, packed}
+use Rattle.words.specs.Words.{table, padTo, packed}
 use Rattle.model.specs.Range.{inRange}
 use Rattle.model.specs.Lent.{tablesOf, encode}
 use Rattle.model.specs.SoundLent.{soundNumbers}
@@ -13,13 +13,13 @@ use Rattle.model.specs.Tree.{bit, withBit, goes, descent, turned, levels
 use Rattle.model.specs.Cases.{Case, moreCases, ruleCases, seenOf, turnedBy, treeCases, treesLeft}
 
 pub more-cases : map seenOf moreCases ≡ map (λ (c : Case). c .sees) moreCases
-unfolding table fit packed inRange tablesOf encode soundNumbers ruleOf probe access proceed accept send fill fillLine tick call
+unfolding table padTo packed inRange tablesOf encode soundNumbers ruleOf probe access proceed accept send fill fillLine tick call
 more-cases = refl
 
 pub rule-cases : map seenOf ruleCases ≡ map (λ (c : Case). c .sees) ruleCases
-unfolding table fit packed inRange tablesOf encode soundNumbers ruleOf probe access proceed accept send fill fillLine tick call
+unfolding table padTo packed inRange tablesOf encode soundNumbers ruleOf probe access proceed accept send fill fillLine tick call
 rule-cases = refl
 
 pub tree-cases : map (λ c. turnedBy (c .0) (c .1)) treeCases ≡ treesLeft
-unfolding table fit packed inRange tablesOf encode soundNumbers ruleOf probe access proceed accept send fill fillLine tick call bit withBit goes descent turned levels
+unfolding table padTo packed inRange tablesOf encode soundNumbers ruleOf probe access proceed accept send fill fillLine tick call bit withBit goes descent turned levels
 tree-cases = refl

@@ -2,7 +2,7 @@
 use mathlib.Core.Path.{_≡_, refl}
 use mathlib.Core.Bool.{true}
 use lib.ListN.{length}
-use Rattle.words.specs.Words.{fit, packed}
+use Rattle.words.specs.Words.{padTo, packed}
 use Rattle.model.specs.Range.{inRange}
 use Rattle.model.specs.Lent.{Lent, lengthsFit, encode}
 use Rattle.model.specs.Probe.{probe, ruleOf}
@@ -22,5 +22,5 @@ written-45 = refl
 -- on lent tables of the settings' lengths, whatever they hold, with room for 256 bytes of events
 pub whole-run : (L : Lent) → lengthsFit base L ≡ true
     → run 256 stream L ≡ record { stop = Nothing; consumed = 44; events = written; tables = encode base left }
-unfolding fit packed inRange encode ruleOf probe access proceed accept send fill fillLine records.lengthOf bytesOf numberAt records.eventBytes records.logBytes records.commandOf runner.firstStop runner.laterStop runner.stepAt runner.runFrom runner.run
+unfolding padTo packed inRange encode ruleOf probe access proceed accept send fill fillLine records.lengthOf bytesOf numberAt records.eventBytes records.logBytes records.commandOf runner.firstStop runner.laterStop runner.stepAt runner.runFrom runner.run
 whole-run L h = rw h

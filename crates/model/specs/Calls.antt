@@ -3,7 +3,7 @@ use mathlib.Core.Path.{_≡_}
 use Prim.Native.Nat.{ℕ}
 use mathlib.Core.List.{List, [], _∷_, _++_, map}
 use lib.ListN.{length, take, replicate}
-use Rattle.words.specs.Words.{pick, fit}
+use Rattle.words.specs.Words.{pick, padTo}
 use Rattle.model.specs.Range.{inRange}
 use Rattle.model.specs.Tables.{Tables, idle, start, Outcome, refused, done, after, eventsOf}
 use Rattle.model.specs.Lent.{Lent, lengthsFit, tablesOf, encode}
@@ -17,7 +17,7 @@ use Rattle.model.specs.declared.Event.the-variants.{Released}
 use Rattle.model.specs.declared.Verdict.{Verdict}
 use Rattle.model.specs.declared.Verdict.the-variants.{Passed, Refused}
 use Rattle.model.specs.declared.Queued.{Queued}
-use Rattle.model.specs.declared.Told.{Told}
+use Rattle.model.specs.declared.Reply.{Reply}
 
 -- ---- "Checked in this order": 1 "a setting outside its range", 2 "a lent slice of another length", 3 "tables not sound"
 
@@ -61,7 +61,7 @@ verdictOf (done es L) = Passed
 -- ---- what a call's value tells
 
 -- its first event, the entries queued in order, the tickets released in order
-unfoldable pub eventsTold : Told → List Event
+unfoldable pub eventsTold : Reply → List Event
 eventsTold r = r .first ∷ (map queuedEvent (take (r .queues) (r .queued)) ++ map Released (take (r .count) (r .tickets)))
 
 -- at most two entries, with idle ones where there are no more
@@ -69,17 +69,17 @@ abbrev pub inTwo : List Queued → List Queued
 inTwo xs = take 2 (xs ++ replicate 2 idle)
 
 -- the same value with its unused places idle and zero
-unfoldable pub tidied : Told → Told
+unfoldable pub tidied : Reply → Reply
 tidied r = record {
   first = r .first;
   queued = inTwo (take (r .queues) (r .queued));
   queues = length (take (r .queues) (r .queued));
   count = length (take (r .count) (r .tickets));
-  tickets = fit 8 (take (r .count) (r .tickets));
+  tickets = padTo 8 (take (r .count) (r .tickets));
 }
 
 -- a call's value and the slices after it are those of the outcome o of a call on L
-pub record Leaves (o : Outcome Lent) (L : Lent) (r : Told) (M : Lent) : Type 0 where
+pub record Leaves (o : Outcome Lent) (L : Lent) (r : Reply) (M : Lent) : Type 0 where
   pub tells : eventsTold r ≡ eventsOf o
   pub tidy : tidied r ≡ r
   pub left : M ≡ after L o

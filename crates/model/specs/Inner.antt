@@ -12,7 +12,7 @@ use Rattle.model.specs.Lent.{Lent, encode}
 use Rattle.model.specs.Sound.{sound}
 use Rattle.model.specs.Calls.{encoded, Leaves}
 use Rattle.model.specs.declared.Settings.{Settings}
-use Rattle.model.specs.declared.Told.{Told}
+use Rattle.model.specs.declared.Reply.{Reply}
 
 -- a fact that only a proof that asks for it reads: all of them at once are more than `omega` holds
 pub data Aside (P : Type 0) : Type 0 where
@@ -22,7 +22,7 @@ abbrev pub told : {P : Type 0} → Aside P → P
 told (aside p) = p
 
 -- settings in range and slices of the right lengths, as numbers
-pub record Fit (S : Settings) (longs words marks : List ℕ) : Type 0 where
+pub record Sized (S : Settings) (longs words marks : List ℕ) : Type 0 where
   pub power : powerTo256 (S .sets) ≡ true
   pub sets : 1 ≤ S .sets
   pub ways : 1 ≤ S .ways
@@ -54,5 +54,5 @@ pub record SoundSlices (S : Settings) (L : Lent) : Type 0 where
   pub are : Encodes S L tables
 
 -- an inner step on L told r and left the slices M, as the step on the tables says
-pub record Does (S : Settings) (step : Tables → Outcome Tables) (L : Lent) (r : Told) (M : Lent) : Type 0 where
+pub record Does (S : Settings) (step : Tables → Outcome Tables) (L : Lent) (r : Reply) (M : Lent) : Type 0 where
   pub on : (t : Tables) → Encodes S L t → Leaves (encoded S (step t)) L r M

@@ -67,8 +67,8 @@ ticketAt S words i = getD words (wordsFrom S ticketRegion + i) 0
 abbrev pub queuedAt : Settings → List ℕ → ℕ → ℕ
 queuedAt S longs p = getD longs (longsFrom S queueRegion + p) 0
 
-abbrev pub kindAt : Settings → List ℕ → ℕ → ℕ
-kindAt S marks p = getD marks (marksFrom S kindRegion + p) 0
+abbrev pub queueKindAt : Settings → List ℕ → ℕ → ℕ
+queueKindAt S marks p = getD marks (marksFrom S kindRegion + p) 0
 
 abbrev pub queueMaskAt : Settings → List ℕ → ℕ → ℕ
 queueMaskAt S words i = getD words (wordsFrom S queueMaskRegion + i) 0
@@ -105,7 +105,7 @@ entryAt S L e = record {
 
 abbrev pub queueAt : Settings → Lent → ℕ → Queued
 queueAt S L p = record {
-  kind = queueKindOf (kindAt S (L .marks) p);
+  kind = queueKindOf (queueKindAt S (L .marks) p);
   address = queuedAt S (L .longs) p;
   masks = table 4 (λ k. queueMaskAt S (L .words) (4 * p + k));
 }
@@ -121,7 +121,7 @@ unfoldable pub tablesOf : Settings → Lent → Tables
 tablesOf S L = record {
   lines = linesIn S (L .longs) (L .words) (L .marks);
   misses = table (inUse (S .misses) (ticketCountAt S (L .marks))) (entryAt S L);
-  queue = table (inUse (S .queue) (kindAt S (L .marks))) (queueAt S L);
+  queue = table (inUse (S .queue) (queueKindAt S (L .marks))) (queueAt S L);
   now = nowAt (L .words);
   dirtyCount = dirtyCountAt S (L .words);
   trees = table (S .sets) (treeAt S (L .words));

@@ -26,4 +26,4 @@ pub mod Seen
 pub mod Cases
 pub mod WholeRun
 pub mod Inner
-pub mod ToldShape
+pub mod ReplyShape

@@ -30,8 +30,8 @@ isCommand = records.isCommand current
 abbrev pub isSettings : ℕ → Bool
 isSettings = records.isSettings current
 
-abbrev pub kindOf : Event → ℕ
-kindOf = records.kindOf current
+abbrev pub recordKindOf : Event → ℕ
+recordKindOf = records.recordKindOf current
 
 abbrev pub bodyBytes : Event → List ℕ
 bodyBytes = records.bodyBytes current

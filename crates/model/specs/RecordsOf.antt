@@ -76,16 +76,16 @@ abbrev pub writeBackBytes : ℕ → ℕ → ℕ → ℕ → ℕ → List ℕ
 writeBackBytes b m0 m1 m2 m3 = bytesOf 8 b ++ (bytesOf 4 m0 ++ (bytesOf 4 m1 ++ (bytesOf 4 m2 ++ bytesOf 4 m3)))
 
 module _ (F : Format) where
-  abbrev pub kindOf : Event → ℕ
-  kindOf (ev.Answered a line) = kinds.answer
-  kindOf (ev.Refused n) = kinds.refused
-  kindOf (ev.ReadQueued a) = kinds.readQueued
-  kindOf (ev.WriteBackQueued b m0 m1 m2 m3) = kinds.writeBackQueued
-  kindOf (ev.Released t) = releasedKind F
-  kindOf (ev.ReadSent a) = kinds.readSent
-  kindOf (ev.WriteBackSent b m0 m1 m2 m3) = kinds.writeBackSent
-  kindOf (ev.Filled a) = kinds.filled
-  kindOf ev.Ticked = kinds.ticked
+  abbrev pub recordKindOf : Event → ℕ
+  recordKindOf (ev.Answered a line) = kinds.answer
+  recordKindOf (ev.Refused n) = kinds.refused
+  recordKindOf (ev.ReadQueued a) = kinds.readQueued
+  recordKindOf (ev.WriteBackQueued b m0 m1 m2 m3) = kinds.writeBackQueued
+  recordKindOf (ev.Released t) = releasedKind F
+  recordKindOf (ev.ReadSent a) = kinds.readSent
+  recordKindOf (ev.WriteBackSent b m0 m1 m2 m3) = kinds.writeBackSent
+  recordKindOf (ev.Filled a) = kinds.filled
+  recordKindOf ev.Ticked = kinds.ticked
 
   abbrev pub bodyBytes : Event → List ℕ
   bodyBytes (ev.Answered a line) = bytesOf 1 (answerNumber a) ++ bytesOf 2 line
@@ -100,7 +100,7 @@ module _ (F : Format) where
 
   -- "One byte of kind, then a body."
   unfoldable pub eventBytes : Event → List ℕ
-  eventBytes e = kindOf e ∷ bodyBytes e
+  eventBytes e = recordKindOf e ∷ bodyBytes e
 
   unfoldable pub logBytes : List Event → List ℕ
   logBytes [] = []

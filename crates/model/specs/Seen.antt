@@ -12,7 +12,7 @@ use Rattle.model.specs.Tables.{Entry, Tables, Outcome, after, eventsOf}
 use Rattle.model.specs.Lent.{Lent, tablesOf}
 use Rattle.model.specs.Steps.{access, send, fill}
 use Rattle.model.specs.Calls.{accessCall, sendCall, fillCall}
-use Rattle.model.specs.Records.{kindOf}
+use Rattle.model.specs.Records.{recordKindOf}
 use Rattle.model.specs.Rounds.{Turn, still, andThen, isEmpty}
 use Rattle.model.specs.declared.Settings.{Settings}
 use Rattle.model.specs.declared.Access.{Access}
@@ -31,11 +31,11 @@ pub record Acts (T : Type 0) : Type 0 where
 
 -- kind 0x10
 abbrev pub answering : Event → Bool
-answering e = eqb (kindOf e) 0x10
+answering e = eqb (recordKindOf e) 0x10
 
 -- kind 0x11
 abbrev pub refusing : Event → Bool
-refusing e = eqb (kindOf e) 0x11
+refusing e = eqb (recordKindOf e) 0x11
 
 -- "Accepted means answered without a refusal number."
 abbrev pub accepts : List Event → Bool

@@ -10,7 +10,7 @@ use Rattle.model.specs.Range.{linesOf, isTree}
 use Rattle.model.specs.Tree.{treeFine}
 use Rattle.model.specs.Address.{blockOf, sectorIndex, setIndex, goodBlock}
 use Rattle.model.specs.Sound.{lastCycle, allOnes}
-use Rattle.model.specs.Lent.{Lent, tagAt, cycleAt, statusAt, maskAt, readableAt, missAt, sentAt, ticketCountAt, ticketAt, queuedAt, kindAt, queueMaskAt, nowAt, dirtyCountAt, takenAt, treeAt}
+use Rattle.model.specs.Lent.{Lent, tagAt, cycleAt, statusAt, maskAt, readableAt, missAt, sentAt, ticketCountAt, ticketAt, queuedAt, queueKindAt, queueMaskAt, nowAt, dirtyCountAt, takenAt, treeAt}
 use Rattle.model.specs.declared.Settings.{Settings}
 
 -- of n places those whose f isn't 0 are the first: behind a 0 stands a 0
@@ -52,7 +52,7 @@ module _ (S : Settings) (longs words marks : List ℕ) where
   queued = queuedAt S longs
 
   abbrev kind : ℕ → ℕ
-  kind = kindAt S marks
+  kind = queueKindAt S marks
 
   abbrev queueMask : ℕ → ℕ
   queueMask = queueMaskAt S words

@@ -191,7 +191,7 @@ pub struct Queued {
 
 // What a call tells: its first event, then the first `queues` entries, which it queued, then the first `count` tickets, which it
 // released.
-pub struct Told {
+pub struct Reply {
     pub first: Event,
     pub queued: [Queued; 2],
     pub queues: usize,

@@ -13,7 +13,7 @@ use Rattle.model.specs.Address.{addressOf, blockOf, sectorIndex, setIndex}
 use Rattle.model.specs.Tables.{Line, writing, empty, fresh, emptied}
 use Rattle.model.specs.Lent.{tagAt, dirtyCountAt}
 use Rattle.model.specs.Probe.{no, at, answerOf, waysOf, enoughDirty, writeBack, takeOver, meet, probe}
-use Rattle.model.specs.Inner.{Fit}
+use Rattle.model.specs.Inner.{Sized}
 use Rattle.model.specs.declared.Settings.{Settings}
 use Rattle.model.specs.declared.Queued.{Queued}
 use Rattle.model.specs.declared.Sector.{Sector}
@@ -29,7 +29,7 @@ use Rattle.probe.specs.declared.Meeting.the-variants.{Busy, Held}
 use Rattle.probe.specs.declared.Decision.{Decision}
 use Rattle.probe.specs.Decided.{Decided, backsOf, placeIs, linesHeld, ruleHeld}
 use Rattle.probe.specs.Scan.{waitingAt, dirtyAt, foundIn, victimIn}
-use Rattle.probe.specs.Values.{masksAt, metIs, takenIs, refusedIs, missIs}
+use Rattle.probe.specs.Values.{masksAt, onMatch, onMiss, noWay, takenOver}
 use Rattle.probe.proofs.Statuses.{dirty-bytes}
 use Rattle.probe.proofs.Ways.{Under, first-under, victim-under, at-under}
 use Rattle.probe.proofs.Lines.{sector-of-four, way-is, found-is, waiting-is, victim-is}
@@ -52,7 +52,7 @@ module _ (S : Settings) (longs words marks : List ℕ) (x : Access) (way : 1 ≤
   dirtyCount = dirtyCountAt S words
 
   met-place : (w : ℕ) → w < S .ways → foundIn longs marks base (S .ways) (blockOf (addressOf x)) ≡ At w
-      → placeIs ways (addressOf x) (metIs S words marks base w x) ≡ probe (ruleHeld S words (addressOf x)) S dirtyCount ways x
+      → placeIs ways (addressOf x) (onMatch S words marks base w x) ≡ probe (ruleHeld S words (addressOf x)) S dirtyCount ways x
   unfolding probe
   met-place w below e =
       ap (λ (s : Sector). at record { way = w; line = getD ways w fresh; answer = answerOf x s; backs = [] })
@@ -61,7 +61,7 @@ module _ (S : Settings) (longs words marks : List ℕ) (x : Access) (way : 1 ≤
       ∙ ap (meet (ruleHeld S words (addressOf x)) S dirtyCount ways x) (sym (found-is S longs words marks base (S .ways) room (blockOf (addressOf x)) ∙ e))
 
   pub own-met : (w : ℕ) → foundIn longs marks base (S .ways) (blockOf (addressOf x)) ≡ At w
-      → Decided S longs words marks x (metIs S words marks base w x)
+      → Decided S longs words marks x (onMatch S words marks base w x)
   own-met w e =
       let below : w < S .ways = at-under (S .ways) _ (first-under _ (S .ways)) refl e in
       record {
@@ -74,37 +74,37 @@ module _ (S : Settings) (longs words marks : List ℕ) (x : Access) (way : 1 ≤
       }
 
   -- the write-back of a victim
-  taken-backs : (w : ℕ) → w < S .ways → backsOf (takenIs S longs words base w (dirtyAt marks (base + w))) ≡ writeBack (getD ways w fresh)
+  taken-backs : (w : ℕ) → w < S .ways → backsOf (onMiss S longs words base w (dirtyAt marks (base + w))) ≡ writeBack (getD ways w fresh)
   taken-backs w below =
       go (dirtyAt marks (base + w))
       ∙ ap (λ (b : Bool). pick b (writing (tagAt longs (base + w)) (masksAt S words (base + w)) ∷ []) []) (sym (dirty-bytes S longs words marks (base + w)))
       ∙ ap writeBack (sym (way-is S longs words marks base (S .ways) room w below))
     where
-      go : (b : Bool) → backsOf (takenIs S longs words base w b) ≡ pick b (writing (tagAt longs (base + w)) (masksAt S words (base + w)) ∷ []) []
+      go : (b : Bool) → backsOf (onMiss S longs words base w b) ≡ pick b (writing (tagAt longs (base + w)) (masksAt S words (base + w)) ∷ []) []
       go true = refl
       go false = refl
 
   taken-place : (v : Found) → Under (S .ways) v
-      → placeIs ways (addressOf x) (missIs S longs words marks base (S .ways) v) ≡ takeOver (addressOf x) ways v
+      → placeIs ways (addressOf x) (takenOver S longs words marks base (S .ways) v) ≡ takeOver (addressOf x) ways v
   taken-place (At w) below =
       ap (λ (q : List Queued). at record { way = w; line = emptied (blockOf (addressOf x)); answer = Miss; backs = q })
       (taken-backs w below)
   taken-place Nothing h = go (some (S .ways) (λ w. waitingAt marks (base + w))) ∙ ap (λ (b : Bool). no (pick b SetBusy SetHeld)) (sym (waiting-is S longs words marks base (S .ways) room))
     where
-      go : (b : Bool) → placeIs ways (addressOf x) (refusedIs base (pick b Busy Held)) ≡ no (pick b SetBusy SetHeld)
+      go : (b : Bool) → placeIs ways (addressOf x) (noWay base (pick b Busy Held)) ≡ no (pick b SetBusy SetHeld)
       go true = refl
       go false = refl
 
   pub own-missed : (v : Found) → foundIn longs marks base (S .ways) (blockOf (addressOf x)) ≡ Nothing
       → v ≡ victimIn S words marks (setIndex S (addressOf x)) base (enoughDirty S dirtyCount)
-      → Decided S longs words marks x (missIs S longs words marks base (S .ways) v)
+      → Decided S longs words marks x (takenOver S longs words marks base (S .ways) v)
   unfolding probe
   own-missed v e q = go v under place
     where
       under : Under (S .ways) v
       under = rw q (victim-under S words marks (setIndex S (addressOf x)) base _ power)
 
-      place : placeIs ways (addressOf x) (missIs S longs words marks base (S .ways) v) ≡ probe (ruleHeld S words (addressOf x)) S dirtyCount ways x
+      place : placeIs ways (addressOf x) (takenOver S longs words marks base (S .ways) v) ≡ probe (ruleHeld S words (addressOf x)) S dirtyCount ways x
       place =
           taken-place v under
           ∙ ap (takeOver (addressOf x) ways) (q ∙ sym (victim-is S longs words marks (setIndex S (addressOf x)) base room power dirtyCount))
@@ -115,8 +115,8 @@ module _ (S : Settings) (longs words marks : List ℕ) (x : Access) (way : 1 ≤
       zero-unless false y z = refl
 
       go : (v : Found) → Under (S .ways) v
-          → placeIs ways (addressOf x) (missIs S longs words marks base (S .ways) v) ≡ probe (ruleHeld S words (addressOf x)) S dirtyCount ways x
-          → Decided S longs words marks x (missIs S longs words marks base (S .ways) v)
+          → placeIs ways (addressOf x) (takenOver S longs words marks base (S .ways) v) ≡ probe (ruleHeld S words (addressOf x)) S dirtyCount ways x
+          → Decided S longs words marks x (takenOver S longs words marks base (S .ways) v)
       go (At w) below p = record {
         place = p;
         way = below;
@@ -141,15 +141,15 @@ pub victim-below : (S : Settings) (words marks : List ℕ) (i base : ℕ) (enoug
 victim-below S words marks i base enough power e g = at-under (S .ways) (victimIn S words marks i base enough) (victim-under S words marks i base enough power) e g
 
 module _ (S : Settings) (longs words marks : List ℕ) (base ways : ℕ) {r : Decision} {v u : Found} (e : v ≡ u) where
-  pub missed-at : {w : ℕ} → v ≡ At w → r ≡ missIs S longs words marks base ways (At w) → r ≡ missIs S longs words marks base ways u
+  pub missed-at : {w : ℕ} → v ≡ At w → r ≡ takenOver S longs words marks base ways (At w) → r ≡ takenOver S longs words marks base ways u
   missed-at g q = rw (← e, g) q
 
-  pub missed-nothing : v ≡ Nothing → r ≡ missIs S longs words marks base ways Nothing → r ≡ missIs S longs words marks base ways u
+  pub missed-nothing : v ≡ Nothing → r ≡ takenOver S longs words marks base ways Nothing → r ≡ takenOver S longs words marks base ways u
   missed-nothing g q = rw (← e, g) q
 
 -- ---- the code's address, set and block are the access's
 
-module _ (S : Settings) (longs words marks : List ℕ) (fit : Fit S longs words marks) (x : Access) {address set : ℕ} (ea : address ≡ addressOf x) (es : set ≡ address / 128 % S .sets) where
+module _ (S : Settings) (longs words marks : List ℕ) (fit : Sized S longs words marks) (x : Access) {address set : ℕ} (ea : address ≡ addressOf x) (es : set ≡ address / 128 % S .sets) where
   here : set ≡ setIndex S (addressOf x)
   here = es ∙ ap (λ (a : ℕ). a / 128 % S .sets) ea
 
@@ -175,18 +175,18 @@ module _ (S : Settings) (longs words marks : List ℕ) (fit : Fit S longs words 
     found : f ≡ foundIn longs marks (setIndex S (addressOf x) * S .ways) (S .ways) (blockOf (addressOf x))
     found = ef ∙ ap (λ (b : ℕ). foundIn longs marks b (S .ways) block) first ∙ ap (foundIn longs marks (setIndex S (addressOf x) * S .ways) (S .ways)) (eb ∙ ap blockOf ea)
 
-    pub decided-met : {w : ℕ} {r : Decision} → f ≡ At w → r ≡ metIs S words marks base w x → Decided S longs words marks x r
+    pub decided-met : {w : ℕ} {r : Decision} → f ≡ At w → r ≡ onMatch S words marks base w x → Decided S longs words marks x r
     decided-met {w} g q =
-        rw (q ∙ ap (λ (b : ℕ). metIs S words marks b w x) first)
+        rw (q ∙ ap (λ (b : ℕ). onMatch S words marks b w x) first)
         (own-met S longs words marks x (fit .ways) room (fit .tree) w (sym found ∙ g))
 
     pub decided-missed : {d : ℕ} {r : Decision} → f ≡ Nothing → d ≡ dirtyCountAt S words
-        → r ≡ missIs S longs words marks base (S .ways) (victimIn S words marks set base (enoughDirty S d))
+        → r ≡ takenOver S longs words marks base (S .ways) (victimIn S words marks set base (enoughDirty S d))
         → Decided S longs words marks x r
     decided-missed {d} {r} g ed q =
         subst (Decided S longs words marks x)
         (sym (q
-        ∙ ap (λ (b : ℕ). missIs S longs words marks b (S .ways) (victimIn S words marks set b (enoughDirty S d))) first
-        ∙ ap (λ (k : ℕ). missIs S longs words marks (setIndex S (addressOf x) * S .ways) (S .ways) (victimIn S words marks k (setIndex S (addressOf x) * S .ways) (enoughDirty S d))) here
-        ∙ ap (λ (k : ℕ). missIs S longs words marks (setIndex S (addressOf x) * S .ways) (S .ways) (victimIn S words marks (setIndex S (addressOf x)) (setIndex S (addressOf x) * S .ways) (enoughDirty S k))) ed))
+        ∙ ap (λ (b : ℕ). takenOver S longs words marks b (S .ways) (victimIn S words marks set b (enoughDirty S d))) first
+        ∙ ap (λ (k : ℕ). takenOver S longs words marks (setIndex S (addressOf x) * S .ways) (S .ways) (victimIn S words marks k (setIndex S (addressOf x) * S .ways) (enoughDirty S d))) here
+        ∙ ap (λ (k : ℕ). takenOver S longs words marks (setIndex S (addressOf x) * S .ways) (S .ways) (victimIn S words marks (setIndex S (addressOf x)) (setIndex S (addressOf x) * S .ways) (enoughDirty S k))) ed))
         (own-missed S longs words marks x (fit .ways) room (fit .tree) _ (sym found ∙ g) refl)

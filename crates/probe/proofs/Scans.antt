@@ -15,11 +15,11 @@ use Rattle.model.specs.declared.Found.{Found}
 use Rattle.model.specs.declared.Found.the-variants.{At, Nothing}
 use Rattle.model.specs.Range.{linesOf, isFifo}
 use Rattle.model.specs.Layout.{wordsFrom, cycleRegion, takenRegion}
-use Rattle.model.specs.Inner.{Fit, told}
+use Rattle.model.specs.Inner.{Sized, told}
 use Rattle.words.proofs.Flags.{by-flag}
 use Rattle.model.specs.declared.Settings.{Settings}
 use Rattle.layout.specs.declared.Layout.{Layout}
-use Rattle.layout.specs.Layout.{Placed}
+use Rattle.layout.specs.Layout.{LaysOut}
 use Rattle.probe.specs.Scan.{firstBelow, lastBelow, sooner, leastFrom, agesFrom}
 
 module _ (p : ℕ → Bool) where
@@ -128,14 +128,14 @@ module _ (p : ℕ → Bool) where
 
 -- ---- where the cycles begin by which the rule compares candidates
 
-pub ages-taken : {S : Settings} {at : Layout} → Placed S at → S .rule ≡ 1 → at .taken ≡ agesFrom S
+pub ages-taken : {S : Settings} {at : Layout} → LaysOut S at → S .rule ≡ 1 → at .taken ≡ agesFrom S
 ages-taken {S} p e = rw (eq-eqb (S .rule) 1 e) (told (p .taken))
 
 pub ages-used : (S : Settings) → S .rule ≢ 1 → 1 ≡ agesFrom S
 ages-used S n = rw (ne-eqb (S .rule) 1 n)
 
 -- they lie inside
-pub ages-room : {S : Settings} {longs words marks : List ℕ} → Fit S longs words marks → (l : ℕ) → l ≤ linesOf S → agesFrom S + l ≤ length words
+pub ages-room : {S : Settings} {longs words marks : List ℕ} → Sized S longs words marks → (l : ℕ) → l ≤ linesOf S → agesFrom S + l ≤ length words
 ages-room {S} {longs} {words} f l h =
     let long = told (f .words-long) in
     by-flag (λ (n : ℕ). n + l ≤ length words) (isFifo S) (wordsFrom S takenRegion) (wordsFrom S cycleRegion) (λ e. omega arith) (λ e. omega arith)

@@ -22,8 +22,8 @@ abbrev pub masksAt : Settings → List ℕ → ℕ → List ℕ
 masksAt S words l = maskAt S words (4 * l) ∷ maskAt S words (4 * l + 1) ∷ maskAt S words (4 * l + 2) ∷ maskAt S words (4 * l + 3) ∷ []
 
 -- way w of the set whose lines begin at `base` has the block
-abbrev pub metIs : Settings → List ℕ → List ℕ → ℕ → ℕ → Access → Decision
-metIs S words marks base w x = record {
+abbrev pub onMatch : Settings → List ℕ → List ℕ → ℕ → ℕ → Access → Decision
+onMatch S words marks base w x = record {
   meeting = Met;
   way = w;
   line = base + w;
@@ -34,8 +34,8 @@ metIs S words marks base w x = record {
 }
 
 -- it is taken over; `backs`: it is dirty
-abbrev pub takenIs : Settings → List ℕ → List ℕ → ℕ → ℕ → Bool → Decision
-takenIs S longs words base w backs = record {
+abbrev pub onMiss : Settings → List ℕ → List ℕ → ℕ → ℕ → Bool → Decision
+onMiss S longs words base w backs = record {
   meeting = Taken;
   way = w;
   line = base + w;
@@ -45,13 +45,13 @@ takenIs S longs words base w backs = record {
   masks = pick backs (masksAt S words (base + w)) (replicate 4 0);
 }
 
-abbrev pub refusedIs : ℕ → Meeting → Decision
-refusedIs base m = record { meeting = m; way = 0; line = base; answer = Miss; backs = false; block = 0; masks = replicate 4 0 }
+abbrev pub noWay : ℕ → Meeting → Decision
+noWay base m = record { meeting = m; way = 0; line = base; answer = Miss; backs = false; block = 0; masks = replicate 4 0 }
 
-abbrev pub refusalIs : List ℕ → ℕ → ℕ → Decision
-refusalIs marks base ways = refusedIs base (pick (some ways (λ w. waitingAt marks (base + w))) Busy Held)
+abbrev pub busyOrHeld : List ℕ → ℕ → ℕ → Decision
+busyOrHeld marks base ways = noWay base (pick (some ways (λ w. waitingAt marks (base + w))) Busy Held)
 
 -- no way has the block; the victim, if there is one
-abbrev pub missIs : Settings → List ℕ → List ℕ → List ℕ → ℕ → ℕ → Found → Decision
-missIs S longs words marks base ways (At w) = takenIs S longs words base w (dirtyAt marks (base + w))
-missIs S longs words marks base ways Nothing = refusalIs marks base ways
+abbrev pub takenOver : Settings → List ℕ → List ℕ → List ℕ → ℕ → ℕ → Found → Decision
+takenOver S longs words marks base ways (At w) = onMiss S longs words base w (dirtyAt marks (base + w))
+takenOver S longs words marks base ways Nothing = busyOrHeld marks base ways

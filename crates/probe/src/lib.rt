@@ -13,12 +13,12 @@ ghost use Rattle.words.specs.Words.{some};
 ghost use mathlib.Core.Bool.{true};
 ghost use Rattle.model.specs.Range.{linesOf, isTree};
 ghost use Rattle.model.specs.Tree.{isIn, powerTo16};
-ghost use Rattle.model.specs.Inner.{Fit};
+ghost use Rattle.model.specs.Inner.{Sized};
 ghost use Rattle.model.specs.Probe.{orElse};
-ghost use Rattle.layout.specs.Layout.{Placed};
+ghost use Rattle.layout.specs.Layout.{LaysOut};
 ghost use Rattle.probe.specs.Scan.{waitingAt, dirtyAt, cleanAt, candidateAt, foundIn, lastUnusedIn, earliestIn, agesFrom, victimIn, enoughIn, treeIn};
 ghost use Rattle.probe.specs.Room.{VictimRoom};
-ghost use Rattle.probe.specs.Values.{masksAt, metIs, takenIs, refusedIs, refusalIs, missIs};
+ghost use Rattle.probe.specs.Values.{masksAt, onMatch, onMiss, noWay, busyOrHeld, takenOver};
 ghost use Rattle.probe.specs.Decided.{Decided};
 
 // The low seven bits of each of four bytes, to which a number can be added inside the byte; then their top bits.
@@ -162,7 +162,7 @@ fn chosen_by_tree(marks: &[u8], base: usize, ways: usize, enough: bool, tree: u3
 
 // "100 × dirty ≥ P × lines", by the count that the tables keep.
 fn enough_dirty(s: Settings, at: Layout, words: &[u32]) -> bool
-    requires { ⌜ Placed s at × (s .dirty ≤ 100) × (linesOf s ≤ 1024) × (at .dirty < length (now words)) ⌝ }
+    requires { ⌜ LaysOut s at × (s .dirty ≤ 100) × (linesOf s ≤ 1024) × (at .dirty < length (now words)) ⌝ }
     ensures { λ r. ⌜ r ≡ enoughIn s (now (words .entry)) ⌝ }
 {
     let place = at.dirty;
@@ -172,7 +172,7 @@ fn enough_dirty(s: Settings, at: Layout, words: &[u32]) -> bool
 
 // Where the cycles begin by which the rule compares candidates.
 fn ages_from(s: Settings, at: Layout) -> usize
-    requires { ⌜ Placed s at ⌝ }
+    requires { ⌜ LaysOut s at ⌝ }
     ensures { λ r. ⌜ r ≡ agesFrom s ⌝ }
 {
     if s.rule == FIFO {
@@ -239,7 +239,7 @@ fn victim(
     base: usize,
     enough: bool,
 ) -> Found
-    requires { ⌜ Placed s at × VictimRoom s at i base (now words) (now marks) ⌝ }
+    requires { ⌜ LaysOut s at × VictimRoom s at i base (now words) (now marks) ⌝ }
     ensures { λ r. ⌜ r ≡ victimIn s (now (words .entry)) (now (marks .entry)) i base enough ⌝ }
 {
     if s.rule == trees::TREE {
@@ -252,7 +252,7 @@ fn victim(
 
 // The four masks of line l.
 fn masks_at(s: Settings, at: Layout, words: &[u32], l: usize) -> [u32; 4]
-    requires { ⌜ Placed s at × (l < linesOf s) × (linesOf s ≤ 1024) × (1 + 5 * linesOf s ≤ length (now words)) ⌝ }
+    requires { ⌜ LaysOut s at × (l < linesOf s) × (linesOf s ≤ 1024) × (1 + 5 * linesOf s ≤ length (now words)) ⌝ }
     ensures { λ r. ⌜ r ≡ masksAt s (now (words .entry)) l ⌝ }
 {
     let first = at.masks;
@@ -266,7 +266,7 @@ fn masks_at(s: Settings, at: Layout, words: &[u32], l: usize) -> [u32; 4]
 }
 
 // Way w has the block: the answer by its sector.
-fn met(
+fn on_match(
     s: Settings,
     at: Layout,
     words: &[u32],
@@ -275,8 +275,8 @@ fn met(
     w: usize,
     x: Access,
 ) -> Decision
-    requires { ⌜ Placed s at × (base + w < linesOf s) × (linesOf s ≤ 1024) × (1 + 5 * linesOf s ≤ length (now words)) × (8 * linesOf s ≤ length (now marks)) ⌝ }
-    ensures { λ r. ⌜ r ≡ metIs s (now (words .entry)) (now (marks .entry)) base w x ⌝ }
+    requires { ⌜ LaysOut s at × (base + w < linesOf s) × (linesOf s ≤ 1024) × (1 + 5 * linesOf s ≤ length (now words)) × (8 * linesOf s ≤ length (now marks)) ⌝ }
+    ensures { λ r. ⌜ r ≡ onMatch s (now (words .entry)) (now (marks .entry)) base w x ⌝ }
 {
     let line = base + w;
     let k = values::sector_index(values::address_of(x));
@@ -294,7 +294,7 @@ fn met(
 }
 
 // Way w is taken over; a dirty line is written back.
-fn taken(
+fn on_miss(
     s: Settings,
     at: Layout,
     longs: &[u64],
@@ -303,8 +303,8 @@ fn taken(
     base: usize,
     w: usize,
 ) -> Decision
-    requires { ⌜ Placed s at × (base + w < linesOf s) × (linesOf s ≤ 1024) × (linesOf s ≤ length (now longs)) × (1 + 5 * linesOf s ≤ length (now words)) × (8 * linesOf s ≤ length (now marks)) ⌝ }
-    ensures { λ r. ⌜ r ≡ takenIs s (now (longs .entry)) (now (words .entry)) base w (dirtyAt (now (marks .entry)) (base + w)) ⌝ }
+    requires { ⌜ LaysOut s at × (base + w < linesOf s) × (linesOf s ≤ 1024) × (linesOf s ≤ length (now longs)) × (1 + 5 * linesOf s ≤ length (now words)) × (8 * linesOf s ≤ length (now marks)) ⌝ }
+    ensures { λ r. ⌜ r ≡ onMiss s (now (longs .entry)) (now (words .entry)) base w (dirtyAt (now (marks .entry)) (base + w)) ⌝ }
 {
     let line = base + w;
     if is_dirty(marks, line) {
@@ -333,8 +333,8 @@ fn taken(
 }
 
 // No way can be taken over.
-fn refused(base: usize, meeting: Meeting) -> Decision
-    ensures { λ r. ⌜ r ≡ refusedIs base meeting ⌝ }
+fn no_way(base: usize, meeting: Meeting) -> Decision
+    ensures { λ r. ⌜ r ≡ noWay base meeting ⌝ }
 {
     let masks = [0u32; 4];
     Decision {
@@ -349,14 +349,14 @@ fn refused(base: usize, meeting: Meeting) -> Decision
 }
 
 // Busy if a way of the set has a RESERVED sector, held if none has.
-fn refusal(marks: &[u8], base: usize, ways: usize) -> Decision
+fn busy_or_held(marks: &[u8], base: usize, ways: usize) -> Decision
     requires { ⌜ 4 * (base + ways) ≤ length (now marks) ⌝ }
-    ensures { λ r. ⌜ r ≡ refusalIs (now (marks .entry)) base ways ⌝ }
+    ensures { λ r. ⌜ r ≡ busyOrHeld (now (marks .entry)) base ways ⌝ }
 {
     if some_waiting(marks, base, ways) {
-        refused(base, Meeting::Busy)
+        no_way(base, Meeting::Busy)
     } else {
-        refused(base, Meeting::Held)
+        no_way(base, Meeting::Held)
     }
 }
 
@@ -370,16 +370,16 @@ fn take_over(
     i: usize,
     base: usize,
 ) -> Decision
-    requires { ⌜ (base + s .ways ≤ linesOf s) × (i < s .sets) × (isTree s ≡ true → powerTo16 (s .ways) ≡ true) × Placed s at × Fit s (now longs) (now words) (now marks) ⌝ }
-    ensures { λ r. ⌜ r ≡ missIs s (now (longs .entry)) (now (words .entry)) (now (marks .entry)) base (s .ways)
+    requires { ⌜ (base + s .ways ≤ linesOf s) × (i < s .sets) × (isTree s ≡ true → powerTo16 (s .ways) ≡ true) × LaysOut s at × Sized s (now longs) (now words) (now marks) ⌝ }
+    ensures { λ r. ⌜ r ≡ takenOver s (now (longs .entry)) (now (words .entry)) (now (marks .entry)) base (s .ways)
         (victimIn s (now (words .entry)) (now (marks .entry)) i base (enoughIn s (now (words .entry)))) ⌝ }
 {
     let ways = s.ways;
     let enough = enough_dirty(s, at, words);
     let v = victim(s, at, words, marks, i, base, enough);
     match v {
-        Found::At(w) => taken(s, at, longs, words, marks, base, w),
-        Found::Nothing => refusal(marks, base, ways),
+        Found::At(w) => on_miss(s, at, longs, words, marks, base, w),
+        Found::Nothing => busy_or_held(marks, base, ways),
     }
 }
 
@@ -400,7 +400,7 @@ pub fn decide(
     marks: &[u8],
     x: Access,
 ) -> Decision
-    requires { ⌜ Placed s at × Fit s (now longs) (now words) (now marks) ⌝ }
+    requires { ⌜ LaysOut s at × Sized s (now longs) (now words) (now marks) ⌝ }
     ensures { λ r. ⌜ Decided s (now (longs .entry)) (now (words .entry)) (now (marks .entry)) x r ⌝ }
 {
     let ways = s.ways;
@@ -409,7 +409,7 @@ pub fn decide(
     let base = first_line(set, ways);
     let found = find(longs, marks, base, ways, values::block_of(address));
     match found {
-        Found::At(w) => met(s, at, words, marks, base, w, x),
+        Found::At(w) => on_match(s, at, words, marks, base, w, x),
         Found::Nothing => take_over(s, at, longs, words, marks, set, base),
     }
 }

@@ -15,7 +15,7 @@ use Rattle.model.specs.Inner.{Encodes}
 use Rattle.model.specs.declared.Settings.{Settings}
 use Rattle.model.proofs.SoundFacts.{parts, few-misses}
 use Rattle.layout.specs.declared.Layout.{Layout}
-use Rattle.layout.specs.Layout.{Placed}
+use Rattle.layout.specs.Layout.{LaysOut}
 use Rattle.layout.specs.Places.{First}
 use Rattle.layout.proofs.ByBlocks.{is-stands}
 use Rattle.tables.proofs.Misses.{noEntry, address-at, sent-at, count-at, misses-counted}
@@ -39,7 +39,7 @@ none-told q [] f = refl
 none-told q (x ∷ es) f = rw (f 0 (omega arith)) (none-told q es (λ k j. f (suc k) (omega arith)))
 
 -- n entries are in use
-module _ (S : Settings) {longs words marks : List ℕ} (t : Tables) (i : Encodes S (lent longs words marks) t) {at : Layout} (p : Placed S at)
+module _ (S : Settings) {longs words marks : List ℕ} (t : Tables) (i : Encodes S (lent longs words marks) t) {at : Layout} (p : LaysOut S at)
     {n : ℕ} (u : First marks (at .counts) (S .misses) 0 n) where
   pub in-use : n ≡ length (t .misses)
   in-use = misses-counted S t i p u

@@ -24,7 +24,7 @@ use Rattle.soundness.specs.declared.LaidVerdict.{LaidVerdict}
 use Rattle.soundness.specs.declared.LaidVerdict.the-variants as laid
 use Rattle.soundness.proofs.Checked.{says-refused, says-passed, passed-tables}
 use Rattle.layout.specs.declared.Layout.{Layout}
-use Rattle.layout.specs.Layout.{Placed}
+use Rattle.layout.specs.Layout.{LaysOut}
 use Rattle.layout.specs.Places.{First}
 use Rattle.tables.specs.Raw.{frontAt}
 use Rattle.layout.proofs.ByBlocks.{is-stands}
@@ -46,7 +46,7 @@ none-told : (places : ℕ) (qs : List Queued) → length qs ≡ 0 → queueReaso
 none-told places [] h = refl
 none-told places (q ∷ qs) h = absurd (omega arith)
 
-module _ (S : Settings) {longs words marks : List ℕ} (t : Tables) (i : Encodes S (lent longs words marks) t) {at : Layout} (p : Placed S at)
+module _ (S : Settings) {longs words marks : List ℕ} (t : Tables) (i : Encodes S (lent longs words marks) t) {at : Layout} (p : LaysOut S at)
     {n : ℕ} (u : First marks (at .kinds) (S .queue) 0 n) where
   short : length (t .queue) ≤ S .queue
   short = few-queued S t (parts S t (i .soundly))
@@ -67,7 +67,7 @@ module _ (S : Settings) {longs words marks : List ℕ} (t : Tables) (i : Encodes
 
 -- ---- the dirty lines
 
-module _ (S : Settings) {longs words marks : List ℕ} (t : Tables) (i : Encodes S (lent longs words marks) t) {at : Layout} (p : Placed S at) where
+module _ (S : Settings) {longs words marks : List ℕ} (t : Tables) (i : Encodes S (lent longs words marks) t) {at : Layout} (p : LaysOut S at) where
   pub lines-shown : {d m : ℕ} → d ≡ getD words (at .dirty) 0 → m ≡ missingLines (S .dirty) (linesOf S) d
       → reason.Lines m d (linesOf S) (S .dirty) ≡ linesReason S (t .dirtyCount)
   lines-shown {d} f e = let same : d ≡ t .dirtyCount = f ∙ dirty-count-at S t (is-stands i) p in rw (e, same)

@@ -17,7 +17,7 @@ ghost use Rattle.model.specs.Address.{addressOf, setIndex};
 ghost use Rattle.model.specs.Tables.{entryFor};
 ghost use Rattle.model.specs.Lent.{lent};
 ghost use Rattle.model.specs.Inner.{SoundSlices};
-ghost use Rattle.layout.specs.Layout.{Placed};
+ghost use Rattle.layout.specs.Layout.{LaysOut};
 ghost use Rattle.reasons.specs.Reasons.{entryReason, ofSet, anyEntry, missingLines, linesReason, queueReason, reasonFor, reasonCall};
 ghost use Rattle.reasons.specs.Parts.{FirstInSet, entryShown, Gives};
 
@@ -86,7 +86,7 @@ fn busy_reason(
     marks: &[u8],
     x: Access,
 ) -> Reason
-    requires { ⌜ Placed s at × SoundSlices s (lent (now longs) (now words) (now marks)) ⌝ }
+    requires { ⌜ LaysOut s at × SoundSlices s (lent (now longs) (now words) (now marks)) ⌝ }
     ensures { λ r. ⌜ Gives s (λ t. entryReason (ofSet (s .sets) (setIndex s (addressOf x))) (t .misses)) (lent (now (longs .entry)) (now (words .entry)) (now (marks .entry))) r ⌝ }
 {
     let n = layout::used(marks, at.counts, s.misses);
@@ -104,7 +104,7 @@ fn readers_reason(
     marks: &[u8],
     x: Access,
 ) -> Reason
-    requires { ⌜ Placed s at × SoundSlices s (lent (now longs) (now words) (now marks)) ⌝ }
+    requires { ⌜ LaysOut s at × SoundSlices s (lent (now longs) (now words) (now marks)) ⌝ }
     ensures { λ r. ⌜ Gives s (λ t. entryReason (entryFor (addressOf x)) (t .misses)) (lent (now (longs .entry)) (now (words .entry)) (now (marks .entry))) r ⌝ }
 {
     let n = layout::used(marks, at.counts, s.misses);
@@ -115,7 +115,7 @@ fn readers_reason(
 
 // 9: the oldest entry of all.
 fn table_reason(s: Settings, at: Layout, longs: &[u64], words: &[u32], marks: &[u8]) -> Reason
-    requires { ⌜ Placed s at × SoundSlices s (lent (now longs) (now words) (now marks)) ⌝ }
+    requires { ⌜ LaysOut s at × SoundSlices s (lent (now longs) (now words) (now marks)) ⌝ }
     ensures { λ r. ⌜ Gives s (λ t. entryReason anyEntry (t .misses)) (lent (now (longs .entry)) (now (words .entry)) (now (marks .entry))) r ⌝ }
 {
     let n = layout::used(marks, at.counts, s.misses);
@@ -137,7 +137,7 @@ fn missing_lines(percent: usize, lines: usize, dirty: usize) -> usize
 
 // 6: the dirty lines that are missing.
 fn held_reason(s: Settings, at: Layout, longs: &[u64], words: &[u32], marks: &[u8]) -> Reason
-    requires { ⌜ Placed s at × SoundSlices s (lent (now longs) (now words) (now marks)) ⌝ }
+    requires { ⌜ LaysOut s at × SoundSlices s (lent (now longs) (now words) (now marks)) ⌝ }
     ensures { λ r. ⌜ Gives s (λ t. linesReason s (t .dirtyCount)) (lent (now (longs .entry)) (now (words .entry)) (now (marks .entry))) r ⌝ }
 {
     let lines = s.sets * s.ways;
@@ -155,7 +155,7 @@ fn held_reason(s: Settings, at: Layout, longs: &[u64], words: &[u32], marks: &[u
 
 // 7: the queue's head.
 fn queue_reason(s: Settings, at: Layout, longs: &[u64], words: &[u32], marks: &[u8]) -> Reason
-    requires { ⌜ Placed s at × SoundSlices s (lent (now longs) (now words) (now marks)) ⌝ }
+    requires { ⌜ LaysOut s at × SoundSlices s (lent (now longs) (now words) (now marks)) ⌝ }
     ensures { λ r. ⌜ Gives s (λ t. queueReason (s .queue) (t .queue)) (lent (now (longs .entry)) (now (words .entry)) (now (marks .entry))) r ⌝ }
 {
     let n = layout::used(marks, at.kinds, s.queue);
@@ -177,7 +177,7 @@ pub fn reason_held(
     x: Access,
     n: Refusal,
 ) -> Reason
-    requires { ⌜ Placed s at × SoundSlices s (lent (now longs) (now words) (now marks)) ⌝ }
+    requires { ⌜ LaysOut s at × SoundSlices s (lent (now longs) (now words) (now marks)) ⌝ }
     ensures { λ r. ⌜ Gives s (λ t. reasonFor s x t n) (lent (now (longs .entry)) (now (words .entry)) (now (marks .entry))) r ⌝ }
 {
     match n {

@@ -10,7 +10,7 @@ use lib.ListN.{length}
 use Rattle.model.proofs.Event.{the-type}
 use Rattle.model.specs.RecordsOf as records
 use Rattle.model.specs.Records.{bytesOf, eventBytes}
-use Rattle.model.specs.ToldShape.{ofAccess, ofSend, ofFill, ofTick}
+use Rattle.model.specs.ReplyShape.{ofAccess, ofSend, ofFill, ofTick}
 use Rattle.model.specs.declared.Event.{Event}
 use Rattle.model.specs.declared.Event.the-variants.{Answered, Refused, ReadQueued, WriteBackQueued, Released, ReadSent, WriteBackSent, Filled, Ticked}
 

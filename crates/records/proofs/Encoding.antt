@@ -10,7 +10,7 @@ use Rattle.records.specs.Stores.{Laid}
 use Rattle.records.specs.Parts.{given}
 use Rattle.model.specs.Numbers.{answerNumber, refusalNumber}
 use Rattle.model.specs.RecordsOf as records
-use Rattle.model.specs.Records.{lengthOf, bytesOf, kindOf, eventBytes, settingsKind, ruleBytes, givenBytes, commandKind, commandBytes}
+use Rattle.model.specs.Records.{lengthOf, bytesOf, recordKindOf, eventBytes, settingsKind, ruleBytes, givenBytes, commandKind, commandBytes}
 use Rattle.model.specs.declared.Answer.{Answer}
 use Rattle.model.specs.declared.Answer.the-variants.{Hit, HitReserved, Miss, SectorMiss}
 use Rattle.model.specs.declared.Refusal.{Refusal}
@@ -64,7 +64,7 @@ rule-bytes r h = rw (mod-eq-of-lt h)
 -- ---- lengths
 
 -- a record is a byte of kind and the body that the table says
-pub event-length : (e : Event) → length (eventBytes e) ≡ 1 + lengthOf (kindOf e)
+pub event-length : (e : Event) → length (eventBytes e) ≡ 1 + lengthOf (recordKindOf e)
 unfolding records.eventBytes bytesOf records.lengthOf
 event-length (ev.Answered a line) = refl
 event-length (ev.Refused n) = refl

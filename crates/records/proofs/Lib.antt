@@ -10,7 +10,7 @@ pub mod RoundTrip
 pub mod Items
 pub mod WholeRun
 pub mod Log
-pub mod Told
+pub mod Reply
 pub mod Begun
 pub mod Room
 pub mod Fits

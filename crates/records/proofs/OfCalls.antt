@@ -10,7 +10,7 @@ use lib.Pow.{pow-lt}
 use borrow.Author.Tests.{le-leb, leb-true, eqb-true, ltb-true}
 use lib.Dec.{leb, lit≤}
 use lib.ListN.{length, getD}
-use Rattle.words.specs.Words.{all, fit, packed, joined}
+use Rattle.words.specs.Words.{all, padTo, packed, joined}
 use Rattle.model.specs.Range.{inRange, linesOf, isTree}
 use Rattle.model.specs.Tree.{treeFine}
 use Rattle.model.specs.Tables.{Line, Entry, Tables, Outcome, after, eventsOf, fresh, dirty}
@@ -81,8 +81,8 @@ call-room S step L small f =
 
 -- ---- the words after a call are 32 bits again
 
-fit-words : (w : ℕ) (l : List ℕ) → words l ≡ true → words (fit w l) ≡ true
-unfolding fit
+fit-words : (w : ℕ) (l : List ℕ) → words l ≡ true → words (padTo w l) ≡ true
+unfolding padTo
 fit-words zero l h = refl
 fit-words (suc w) [] h = and-i (le-leb 0 allOnes (lit≤ tt)) (fit-words w [] h)
 fit-words (suc w) (x ∷ l) h = and-i (and-1 (leb x allOnes) (words l) h) (fit-words w l (and-2 (leb x allOnes) (words l) h))
@@ -90,9 +90,9 @@ fit-words (suc w) (x ∷ l) h = and-i (and-1 (leb x allOnes) (words l) h) (fit-w
 places-words : {A : Type 0} (g : A → List ℕ) (w n : ℕ) (xs : List A) → ((x : A) → In x xs → words (g x) ≡ true) → words (packed g w n xs) ≡ true
 unfolding packed
 places-words g w zero xs h = refl
-places-words g w (suc n) [] h = all-append (λ m. leb m allOnes) (fit w []) _ ∙ and-i (fit-words w [] refl) (places-words g w n [] h)
+places-words g w (suc n) [] h = all-append (λ m. leb m allOnes) (padTo w []) _ ∙ and-i (fit-words w [] refl) (places-words g w n [] h)
 places-words g w (suc n) (x ∷ xs) h =
-    all-append (λ m. leb m allOnes) (fit w (g x)) _ ∙ and-i (fit-words w (g x) (h x (inl refl))) (places-words g w n xs (λ y i. h y (inr i)))
+    all-append (λ m. leb m allOnes) (padTo w (g x)) _ ∙ and-i (fit-words w (g x) (h x (inl refl))) (places-words g w n xs (λ y i. h y (inr i)))
 
 joined-words : (bs : List (List ℕ)) → all words bs ≡ true → words (joined bs) ≡ true
 joined-words [] h = refl

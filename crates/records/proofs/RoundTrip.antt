@@ -11,7 +11,7 @@ use lib.Seq.{getD-append-seam, drop-append-add, take-append-seam, sets, sets-eq,
 use Rattle.words.specs.Words.{pick}
 use Rattle.model.specs.Kinds as kinds
 use Rattle.model.specs.RecordsOf as records
-use Rattle.model.specs.Records.{lengthOf, isSettings, bytesOf, numberAt, kindOf, bodyBytes, eventBytes, logBytes, eventOf, eventAt, commandKind, commandBody, commandBytes, settingsKind, ruleBytes, givenBytes, commandIn, commandOf, commandAt, readAt, parsed, eventsFrom, eventsIn}
+use Rattle.model.specs.Records.{lengthOf, isSettings, bytesOf, numberAt, recordKindOf, bodyBytes, eventBytes, logBytes, eventOf, eventAt, commandKind, commandBody, commandBytes, settingsKind, ruleBytes, givenBytes, commandIn, commandOf, commandAt, readAt, parsed, eventsFrom, eventsIn}
 use Rattle.model.specs.declared.Answer.the-variants.{Hit, HitReserved, Miss, SectorMiss}
 use Rattle.model.specs.declared.Refusal.the-variants as refusal
 use Rattle.model.specs.declared.Event.{Event}
@@ -36,7 +36,7 @@ use Rattle.records.proofs.Decoding as decoding
 abbrev Sized : ℕ → List ℕ → Type 0
 Sized k bs = (length bs ≡ lengthOf k) × (length bs ≤ 24)
 
-event-sized : (e : Event) → Sized (kindOf e) (bodyBytes e)
+event-sized : (e : Event) → Sized (recordKindOf e) (bodyBytes e)
 unfolding records.eventBytes
 event-sized e = let n = event-length e in let s = event-short e in (omega arith, omega arith)
 
@@ -46,7 +46,7 @@ command-sized c = let n = command-length c in let s = command-short c in (omega 
 
 -- ---- a body by itself
 
-body-back : (e : Event) → Fitting e → eventOf (kindOf e) (bodyBytes e) ≡ event.Got e
+body-back : (e : Event) → Fitting e → eventOf (recordKindOf e) (bodyBytes e) ≡ event.Got e
 unfolding records.eventOf bytesOf numberAt records.lengthOf
 body-back (ev.Answered Hit line) h = rw (number-bytes 2 line h)
 body-back (ev.Answered HitReserved line) h = rw (number-bytes 2 line h)
@@ -99,7 +99,7 @@ command-body-back (cmd.Fill a) h = rw (number-bytes 8 a h)
 command-body-back (cmd.Tick c) h = rw (number-bytes 4 c h)
 
 -- no event's kind is a command's
-other-kind : (e : Event) (b : List ℕ) → commandIn (kindOf e) b ≡ command.None
+other-kind : (e : Event) (b : List ℕ) → commandIn (recordKindOf e) b ≡ command.None
 other-kind (ev.Answered a line) b = refl
 other-kind (ev.Refused n) b = refl
 other-kind (ev.ReadQueued a) b = refl
@@ -130,13 +130,13 @@ module _ (p q : List ℕ) (k : ℕ) (bs : List ℕ) (sized : length bs ≡ lengt
 
 module _ (p q : List ℕ) where
   module _ (e : Event) where
-    pub event-next : readAt (p ++ (eventBytes e ++ q)) (length p) ≡ Whole (kindOf e) (length p + 1) (length (bodyBytes e)) (length (p ++ eventBytes e))
+    pub event-next : readAt (p ++ (eventBytes e ++ q)) (length p) ≡ Whole (recordKindOf e) (length p + 1) (length (bodyBytes e)) (length (p ++ eventBytes e))
     unfolding records.eventBytes
-    event-next = let z = event-sized e in record-read p q (kindOf e) (bodyBytes e) (z .0) (z .1)
+    event-next = let z = event-sized e in record-read p q (recordKindOf e) (bodyBytes e) (z .0) (z .1)
 
     event-part : take (length (bodyBytes e)) (drop (length p + 1) (p ++ (eventBytes e ++ q))) ≡ bodyBytes e
     unfolding records.eventBytes
-    event-part = let z = event-sized e in record-part p q (kindOf e) (bodyBytes e) (z .0) (z .1)
+    event-part = let z = event-sized e in record-part p q (recordKindOf e) (bodyBytes e) (z .0) (z .1)
 
     pub event-back : Fitting e → eventAt (p ++ (eventBytes e ++ q)) (length p) ≡ event.Got e
     unfolding records.eventAt
@@ -145,7 +145,7 @@ module _ (p q : List ℕ) where
     -- and it is no command
     pub event-no-command : commandAt (p ++ (eventBytes e ++ q)) (length p) ≡ command.None
     unfolding records.commandAt
-    event-no-command = rw (event-next, event-part) (decoding.command-sized (kindOf e) (bodyBytes e) _ refl (event-sized e .0) ∙ other-kind e (bodyBytes e))
+    event-no-command = rw (event-next, event-part) (decoding.command-sized (recordKindOf e) (bodyBytes e) _ refl (event-sized e .0) ∙ other-kind e (bodyBytes e))
 
   module _ (c : Command) where
     pub command-next : readAt (p ++ (commandBytes c ++ q)) (length p) ≡ Whole (commandKind c) (length p + 1) (length (commandBody c)) (length (p ++ commandBytes c))

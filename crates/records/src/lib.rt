@@ -37,13 +37,13 @@ ghost use Rattle.model.specs.Calls.{eventsTold};
 ghost use Rattle.model.specs.Records.{eventBytes, logBytes, commandBytes};
 use model::Command;
 use model::Event;
-use model::Told;
+use model::Reply;
 use writer::command_size;
 use writer::event_size;
 use writer::put_command;
 use writer::put_event;
-use writer::put_told;
-use writer::told_size;
+use writer::put_reply;
+use writer::reply_size;
 
 // What stands at a place of a log or a stream: a command or an event, with the place behind it, or why there is neither.
 pub enum Item {
@@ -99,13 +99,13 @@ pub fn encode_command(c: Command, out: &mut [u8], at: usize) -> usize
 
 // Writes the events of a call's value at a place, where there is room for all of them; says how many bytes. A count above
 // eight counts as eight.
-pub fn write_told(told: Told, out: &mut [u8], at: usize) -> usize
-    ensures { λ r. ⌜ Stored (now (out .entry)) at (logBytes (eventsTold told)) r (now (out .exit)) ⌝ }
-    ensures { λ _. ⌜ AllFitting (eventsTold told) ⌝ }
+pub fn write_reply(reply: Reply, out: &mut [u8], at: usize) -> usize
+    ensures { λ r. ⌜ Stored (now (out .entry)) at (logBytes (eventsTold reply)) r (now (out .exit)) ⌝ }
+    ensures { λ _. ⌜ AllFitting (eventsTold reply) ⌝ }
 {
-    let n = told_size(told);
+    let n = reply_size(reply);
     if has_room(out.len(), at, n) {
-        put_told(told, out, at);
+        put_reply(reply, out, at);
         n
     } else {
         0

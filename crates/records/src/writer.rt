@@ -11,7 +11,7 @@ ghost use Rattle.records.specs.Parts.{queuedTold, ticketsTold, given};
 ghost use Rattle.model.specs.Steps.{queuedEvent};
 ghost use Rattle.model.specs.Calls.{eventsTold};
 ghost use Rattle.model.specs.Runner.{eventRoom};
-ghost use Rattle.model.specs.ToldShape.{ofAccess, ofSend, ofFill, ofTick, Shaped};
+ghost use Rattle.model.specs.ReplyShape.{ofAccess, ofSend, ofFill, ofTick, Shaped};
 ghost use Rattle.model.specs.Records.{bytesOf, writeBackBytes, eventBytes, logBytes, settingsKind, ruleBytes, givenBytes, commandBytes};
 use crate::format::RULED_KIND;
 use crate::format::RULED_SIZE;
@@ -29,7 +29,7 @@ use model::GivenRule;
 use model::QueueKind;
 use model::Queued;
 use model::Refusal;
-use model::Told;
+use model::Reply;
 
 // A kind and four bytes.
 fn put_word(out: &mut [u8], at: usize, kind: u8, x: u32) -> usize
@@ -334,27 +334,27 @@ fn queued_size(count: usize, queued: [Queued; 2]) -> usize
 }
 
 // How many bytes the events of a call's value are.
-pub(crate) fn told_size(told: Told) -> usize
-    ensures { λ r. ⌜ (r ≡ length (logBytes (eventsTold told))) × AllFitting (eventsTold told) ⌝ }
+pub(crate) fn reply_size(reply: Reply) -> usize
+    ensures { λ r. ⌜ (r ≡ length (logBytes (eventsTold reply))) × AllFitting (eventsTold reply) ⌝ }
 {
-    let e = told.first;
-    let queued = told.queued;
+    let e = reply.first;
+    let queued = reply.queued;
     let first = event_size(e);
-    let entries = queued_size(at_most(told.queues, 2), queued);
-    let count = at_most(told.count, 8);
+    let entries = queued_size(at_most(reply.queues, 2), queued);
+    let count = at_most(reply.count, 8);
     first + entries + 5 * count
 }
 
 // The records of all that a call told.
-pub(crate) fn put_told(told: Told, out: &mut [u8], at: usize) -> usize
-    requires { ⌜ at + length (logBytes (eventsTold told)) ≤ length (now out) ⌝ }
-    ensures { λ r. ⌜ Laid (now (out .entry)) at (length (logBytes (eventsTold told))) (logBytes (eventsTold told)) r (now (out .exit)) ⌝ }
+pub(crate) fn put_reply(reply: Reply, out: &mut [u8], at: usize) -> usize
+    requires { ⌜ at + length (logBytes (eventsTold reply)) ≤ length (now out) ⌝ }
+    ensures { λ r. ⌜ Laid (now (out .entry)) at (length (logBytes (eventsTold reply))) (logBytes (eventsTold reply)) r (now (out .exit)) ⌝ }
 {
-    let first = told.first;
-    let queued = told.queued;
-    let tickets = told.tickets;
-    let queues = at_most(told.queues, 2);
-    let count = at_most(told.count, 8);
+    let first = reply.first;
+    let queued = reply.queued;
+    let tickets = reply.tickets;
+    let queues = at_most(reply.queues, 2);
+    let count = at_most(reply.count, 8);
     let i = put_event(first, out, at);
     let j = put_queued(out, i, queues, queued);
     put_tickets(out, j, count, tickets)
@@ -388,19 +388,19 @@ fn put_access_first(e: Event, out: &mut [u8], at: usize) -> usize
 
 // The events of an access: its answer or its refusal, then up to two entries. Each entry is read at a place that is known, in no loop: so an
 // inlined value stays out of memory.
-pub fn put_access(told: Told, out: &mut [u8], at: usize) -> usize
-    requires { ⌜ Shaped ofAccess 2 0 told × (at + eventRoom ≤ length (now out)) ⌝ }
-    ensures { λ r. ⌜ Laid (now (out .entry)) at (length (logBytes (eventsTold told))) (logBytes (eventsTold told)) r (now (out .exit)) ⌝ }
+pub fn put_access(reply: Reply, out: &mut [u8], at: usize) -> usize
+    requires { ⌜ Shaped ofAccess 2 0 reply × (at + eventRoom ≤ length (now out)) ⌝ }
+    ensures { λ r. ⌜ Laid (now (out .entry)) at (length (logBytes (eventsTold reply))) (logBytes (eventsTold reply)) r (now (out .exit)) ⌝ }
 {
-    let first = told.first;
-    let queued = told.queued;
+    let first = reply.first;
+    let queued = reply.queued;
     let i = put_access_first(first, out, at);
-    if told.queues == 0 {
+    if reply.queues == 0 {
         return i;
     }
     let x = queued[0];
     let j = put_entry(out, i, x);
-    if told.queues == 1 {
+    if reply.queues == 1 {
         return j;
     }
     let y = queued[1];
@@ -408,11 +408,11 @@ pub fn put_access(told: Told, out: &mut [u8], at: usize) -> usize
 }
 
 // The event of a send.
-pub fn put_sent(told: Told, out: &mut [u8], at: usize) -> usize
-    requires { ⌜ Shaped ofSend 0 0 told × (at + eventRoom ≤ length (now out)) ⌝ }
-    ensures { λ r. ⌜ Laid (now (out .entry)) at (length (logBytes (eventsTold told))) (logBytes (eventsTold told)) r (now (out .exit)) ⌝ }
+pub fn put_sent(reply: Reply, out: &mut [u8], at: usize) -> usize
+    requires { ⌜ Shaped ofSend 0 0 reply × (at + eventRoom ≤ length (now out)) ⌝ }
+    ensures { λ r. ⌜ Laid (now (out .entry)) at (length (logBytes (eventsTold reply))) (logBytes (eventsTold reply)) r (now (out .exit)) ⌝ }
 {
-    let first = told.first;
+    let first = reply.first;
     match first {
         Event::ReadSent(a) => put_address(out, at, 0x15, a),
         Event::WriteBackSent {
@@ -440,22 +440,22 @@ fn put_fill_first(e: Event, out: &mut [u8], at: usize) -> usize
 }
 
 // The events of a fill: its sector or its refusal, then the tickets.
-pub fn put_filled(told: Told, out: &mut [u8], at: usize) -> usize
-    requires { ⌜ Shaped ofFill 0 8 told × (at + eventRoom ≤ length (now out)) ⌝ }
-    ensures { λ r. ⌜ Laid (now (out .entry)) at (length (logBytes (eventsTold told))) (logBytes (eventsTold told)) r (now (out .exit)) ⌝ }
+pub fn put_filled(reply: Reply, out: &mut [u8], at: usize) -> usize
+    requires { ⌜ Shaped ofFill 0 8 reply × (at + eventRoom ≤ length (now out)) ⌝ }
+    ensures { λ r. ⌜ Laid (now (out .entry)) at (length (logBytes (eventsTold reply))) (logBytes (eventsTold reply)) r (now (out .exit)) ⌝ }
 {
-    let first = told.first;
-    let tickets = told.tickets;
+    let first = reply.first;
+    let tickets = reply.tickets;
     let i = put_fill_first(first, out, at);
-    put_tickets(out, i, told.count, tickets)
+    put_tickets(out, i, reply.count, tickets)
 }
 
 // The event of a tick.
-pub fn put_ticked(told: Told, out: &mut [u8], at: usize) -> usize
-    requires { ⌜ Shaped ofTick 0 0 told × (at + eventRoom ≤ length (now out)) ⌝ }
-    ensures { λ r. ⌜ Laid (now (out .entry)) at (length (logBytes (eventsTold told))) (logBytes (eventsTold told)) r (now (out .exit)) ⌝ }
+pub fn put_ticked(reply: Reply, out: &mut [u8], at: usize) -> usize
+    requires { ⌜ Shaped ofTick 0 0 reply × (at + eventRoom ≤ length (now out)) ⌝ }
+    ensures { λ r. ⌜ Laid (now (out .entry)) at (length (logBytes (eventsTold reply))) (logBytes (eventsTold reply)) r (now (out .exit)) ⌝ }
 {
-    let first = told.first;
+    let first = reply.first;
     match first {
         Event::Ticked => put1(out, at, 0x18),
         Event::Refused(n) => put_refusal(out, at, n),

@@ -20,7 +20,7 @@ use Rattle.model.specs.declared.Refusal.{Refusal}
 use Rattle.model.specs.declared.Refusal.the-variants.{BadAccess, SetHeld}
 use Rattle.model.specs.declared.Event.the-variants as event
 use Rattle.model.specs.declared.Verdict.the-variants as verdict
-use Rattle.model.specs.declared.Told.{Told}
+use Rattle.model.specs.declared.Reply.{Reply}
 use Rattle.encoding.proofs.Bridge.{is-tables, is-fits, is-sound-lent}
 use Rattle.encoding.proofs.LentRounds.{runOf, rounds-encoded}
 use Rattle.encoding.proofs.Demand.{steps-keep}
@@ -94,10 +94,10 @@ refused-length : (n : Refusal) → length (logBytes (event.Refused n ∷ [])) �
 unfolding records.logBytes records.eventBytes bytesOf
 refused-length n = refl
 
-pub turns-away : (n : Refusal) (e : List ℕ) {told : Told} → told ≡ telling (event.Refused n) → {w : ℕ} {f : List ℕ} → Stored e 0 (logBytes (eventsTold told)) w f
+pub turns-away : (n : Refusal) (e : List ℕ) {reply : Reply} → reply ≡ telling (event.Refused n) → {w : ℕ} {f : List ℕ} → Stored e 0 (logBytes (eventsTold reply)) w f
     → waitRoom ≤ length e → TurnsAway n e record { waiting = wait.Refused n; written = w } f
-turns-away n e {told} is {w} {f} s room =
-    let one : eventsTold told ≡ event.Refused n ∷ [] = ap eventsTold is ∙ telling-tells (event.Refused n) in
+turns-away n e {reply} is {w} {f} s room =
+    let one : eventsTold reply ≡ event.Refused n ∷ [] = ap eventsTold is ∙ telling-tells (event.Refused n) in
     let two = refused-length n in
     let (count, slice) = was-stored e 0 (logBytes (event.Refused n ∷ [])) (rw one at s) (omega arith) in
     let noted : Noted e 0 (event.Refused n ∷ []) w f = record { next = omega arith; slice = slice; fits = (tt, tt) } in

@@ -24,7 +24,7 @@ use Rattle.model.specs.declared.Refusal.{Refusal}
 use Rattle.model.specs.declared.Refusal.the-variants.{SetHeld}
 use Rattle.model.specs.declared.Event.{Event}
 use Rattle.model.specs.declared.Event.the-variants as event
-use Rattle.model.specs.declared.Told.{Told}
+use Rattle.model.specs.declared.Reply.{Reply}
 use Rattle.words.proofs.Flags.{clash}
 use Rattle.model.proofs.Bound.{rounds-settled}
 use Rattle.model.proofs.SeenRounds.{unrefused-too, access-clear}
@@ -37,7 +37,7 @@ use Rattle.turns.specs.declared.Round.{Round}
 use Rattle.rounds.specs.Waiting.{lastOf}
 use Rattle.turns.specs.Parts.{isRefusal, Noted, Offers, Enough}
 use Rattle.rounds.specs.Parts.{Settles}
-use Rattle.turns.proofs.Noting.{told-accepted, noted-then}
+use Rattle.turns.proofs.Noting.{reply-accepted, noted-then}
 use Rattle.rounds.proofs.Written.{written}
 
 -- ---- runs behind other rounds
@@ -152,12 +152,12 @@ module _ {S : Settings} {x : Access} {most : ℕ} where
       next : most - round ≡ suc (most - (round + 1))
       next = omega arith
 
-      offer-accepted : (t : Tables) → Encodes S L t → accepted (access S x (drain (steps S x) t .left)) ≡ not (isRefusal (r .told .first))
-      offer-accepted t i = told-accepted _ (r .told) (unrefused-too _ (access-clear S x (drain (steps S x) t .left))) (made .on t i .tells)
+      offer-accepted : (t : Tables) → Encodes S L t → accepted (access S x (drain (steps S x) t .left)) ≡ not (isRefusal (r .reply .first))
+      offer-accepted t i = reply-accepted _ (r .reply) (unrefused-too _ (access-clear S x (drain (steps S x) t .left))) (made .on t i .tells)
 
       -- ---- whose offer was refused
 
-      module _ (q : isRefusal (r .told .first) ≡ true) where
+      module _ (q : isRefusal (r .reply .first) ≡ true) where
         led : (t₀ : Tables) → Encodes S L₀ t₀ → Leads S x most t₀ e₀ (round + 1) (r .written) M f
         led t₀ i =
             let l = g .leads t₀ i in
@@ -194,8 +194,8 @@ module _ {S : Settings} {x : Access} {most : ℕ} where
 
       -- ---- whose offer was accepted
 
-      module _ (q : isRefusal (r .told .first) ≡ false) (few : most ≤ 128) (room : waitRoom ≤ length e₀) where
-        pub goes-accepted : Settles S x most L₀ e₀ record { waiting = wait.Accepted (round + 1) (r .told .first); written = r .written } f M
+      module _ (q : isRefusal (r .reply .first) ≡ false) (few : most ≤ 128) (room : waitRoom ≤ length e₀) where
+        pub goes-accepted : Settles S x most L₀ e₀ record { waiting = wait.Accepted (round + 1) (r .reply .first); written = r .written } f M
         unfolding eventsTold
         goes-accepted = record {
           on = λ t₀ i.
@@ -208,8 +208,8 @@ module _ {S : Settings} {x : Access} {most : ℕ} where
               l .rest
               ∙ ap (λ (n : ℕ). behind (l .events) (l .offers) (rounds (steps S x) n t)) next
               ∙ ap (behind (l .events) (l .offers)) (rounds-done S x (most - (round + 1)) t o) in
-              let told : eventsTold (r .told) ≡ es = w .tells ∙ ap eventsOf o in
-              let first : r .told .first ≡ getD es 0 event.Ticked = ap (λ (v : List Event). getD v 0 event.Ticked) told in
+              let reply : eventsTold (r .reply) ≡ es = w .tells ∙ ap eventsOf o in
+              let first : r .reply .first ≡ getD es 0 event.Ticked = ap (λ (v : List Event). getD v 0 event.Ticked) reply in
               let laid : Noted e₀ 0 (l .events ++ (a .events ++ es)) (r .written) f =
               noted-then (l .events) (a .events ++ es) (l .bytes) (subst (λ (p : Outcome Tables). Noted e out (a .events ++ took (a .left) p .events) (r .written) f) o (w .bytes)) in
               let (count, slice, back) = written (l .events ++ (a .events ++ es)) e₀ laid (let s = made .short in let h = g .short in omega arith) in
@@ -247,10 +247,10 @@ module _ {S : Settings} {x : Access} {most : ℕ} where
           (d .settles)
 
       -- its refusal fits behind what is written
-      pub held-stored : (room : waitRoom ≤ length e₀) {told : Told} → told ≡ telling (event.Refused SetHeld) → {n : ℕ} {f : List ℕ}
-          → Stored e out (logBytes (eventsTold told)) n f → (n ≡ length (logBytes (event.Refused SetHeld ∷ []))) × (f ≡ sets e out (logBytes (event.Refused SetHeld ∷ [])))
-      held-stored room {told} is {n} {f} s =
-          let one : eventsTold told ≡ event.Refused SetHeld ∷ [] = ap eventsTold is ∙ telling-tells (event.Refused SetHeld) in
+      pub held-stored : (room : waitRoom ≤ length e₀) {reply : Reply} → reply ≡ telling (event.Refused SetHeld) → {n : ℕ} {f : List ℕ}
+          → Stored e out (logBytes (eventsTold reply)) n f → (n ≡ length (logBytes (event.Refused SetHeld ∷ []))) × (f ≡ sets e out (logBytes (event.Refused SetHeld ∷ [])))
+      held-stored room {reply} is {n} {f} s =
+          let one : eventsTold reply ≡ event.Refused SetHeld ∷ [] = ap eventsTold is ∙ telling-tells (event.Refused SetHeld) in
           let two : length (logBytes (event.Refused SetHeld ∷ [])) ≡ 2 = held-length in
           let size = g .size in
           let h = g .short in
@@ -258,15 +258,15 @@ module _ {S : Settings} {x : Access} {most : ℕ} where
           let at = g .few in
           was-stored e out (logBytes (event.Refused SetHeld ∷ [])) (subst (λ (es : List Event). Stored e out (logBytes es) n f) one s) (omega arith)
 
-      pub held-fits : (room : waitRoom ≤ length e₀) {told : Told} → told ≡ telling (event.Refused SetHeld) → {n : ℕ} {f : List ℕ}
-          → Stored e out (logBytes (eventsTold told)) n f → out + n ≤ waitRoom
+      pub held-fits : (room : waitRoom ≤ length e₀) {reply : Reply} → reply ≡ telling (event.Refused SetHeld) → {n : ℕ} {f : List ℕ}
+          → Stored e out (logBytes (eventsTold reply)) n f → out + n ≤ waitRoom
       held-fits room is s =
           let two : length (logBytes (event.Refused SetHeld ∷ [])) ≡ 2 = held-length in
           omega (arith, held-stored room is s .0, g .short, g .few, enough .few)
 
-      pub goes-held-end : (room : waitRoom ≤ length e₀) {told : Told} → told ≡ telling (event.Refused SetHeld) → {n : ℕ} {f : List ℕ}
-          → Stored e out (logBytes (eventsTold told)) n f → Settles S x most L₀ e₀ record { waiting = wait.Held; written = out + n } f L
-      goes-held-end room {told} is {n} {f} s = record {
+      pub goes-held-end : (room : waitRoom ≤ length e₀) {reply : Reply} → reply ≡ telling (event.Refused SetHeld) → {n : ℕ} {f : List ℕ}
+          → Stored e out (logBytes (eventsTold reply)) n f → Settles S x most L₀ e₀ record { waiting = wait.Held; written = out + n } f L
+      goes-held-end room {reply} is {n} {f} s = record {
         on = λ t₀ i.
             let l = g .leads t₀ i in
             let zero : most - round ≡ 0 = omega arith in

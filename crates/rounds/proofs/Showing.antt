@@ -23,12 +23,12 @@ use Rattle.model.specs.declared.Settings.{Settings}
 use Rattle.model.specs.declared.Queued.{Queued}
 use Rattle.model.specs.declared.Access.{Access}
 use Rattle.model.specs.declared.Access.the-variants.{Read}
-use Rattle.model.specs.declared.Told.{Told}
+use Rattle.model.specs.declared.Reply.{Reply}
 use Rattle.encoding.proofs.Bridge.{is-tables, call-is, does-is}
 use Rattle.model.proofs.SeenRounds.{unrefused-too, calls-clear}
 use Rattle.model.proofs.Soundness.{send-keeps-sound, fill-keeps-sound, access-keeps-sound}
 use Rattle.layout.specs.declared.Layout.{Layout}
-use Rattle.layout.specs.Layout.{Placed}
+use Rattle.layout.specs.Layout.{LaysOut}
 use Rattle.layout.specs.Places.{First}
 use Rattle.tables.proofs.Queue.{queue-counted}
 use Rattle.turns.specs.declared.Sent.{Sent}
@@ -36,14 +36,14 @@ use Rattle.turns.specs.declared.Sent.the-variants.{At, Nothing}
 use Rattle.rounds.specs.declared.Offer.{Offer}
 use Rattle.turns.specs.Parts.{isRefusal, Noted, firstSent, FindsSent}
 use Rattle.rounds.specs.Parts.{Queueless, Sees, SeesSend, SeesFill, SeesDrain, SeesRound, SeesStruck}
-use Rattle.turns.proofs.Noting.{told-accepted, noted-then}
+use Rattle.turns.proofs.Noting.{reply-accepted, noted-then}
 use Rattle.turns.proofs.Turns.{send-bytes, fill-bytes, offer-bytes}
 use mathlib.Core.Logic.{⊎-elim}
 use Rattle.words.proofs.Flags.{flag}
 
 -- ---- one call
 
-module _ (S : Settings) (step : Tables → Outcome Tables) {L : Lent} {r : Told} {M : Lent} (l : Leaves (call S step L) L r M) where
+module _ (S : Settings) (step : Tables → Outcome Tables) {L : Lent} {r : Reply} {M : Lent} (l : Leaves (call S step L) L r M) where
   pub call-does : Does S step L r M
   call-does = record { on = λ t i. subst (λ (o : Outcome Lent). Leaves o L r M) (call-is S L t i step) l }
 
@@ -77,7 +77,7 @@ empty-is [] n e = eq-eqb n 0 e
 empty-is (q ∷ qs) n e = ne-eqb n 0 (λ z. omega arith)
 
 -- q places of the queue are in use
-pub queueless : (S : Settings) {longs words marks : List ℕ} → SoundSlices S (lent longs words marks) → {at : Layout} → Placed S at
+pub queueless : (S : Settings) {longs words marks : List ℕ} → SoundSlices S (lent longs words marks) → {at : Layout} → LaysOut S at
     → {q : ℕ} → First marks (at .kinds) (S .queue) 0 q → Queueless S (lent longs words marks) (eqb q 0)
 queueless S {longs} {words} {marks} h p {q} f =
     let i = is-read-off S h in
@@ -89,7 +89,7 @@ module _ (S : Settings) {L : Lent} (h : SoundSlices S L) where
   unfolding sendTurn
   no-send q is e out = let z : isEmpty (tablesOf S L .queue) ≡ true = sym (q .is) ∙ is in record { on = λ x. rw z (still-sees S h e out); short = omega arith }
 
-  module _ {r : Told} {M : Lent} (l : Leaves (sendCall S L) L r M) where
+  module _ {r : Reply} {M : Lent} (l : Leaves (sendCall S L) L r M) where
     pub send-room : length (logBytes (eventsTold r)) ≤ 25
     send-room = send-bytes S (call-does S send l) h
 
@@ -118,7 +118,7 @@ module _ (S : Settings) {L : Lent} (h : SoundSlices S L) {v : Sent} (found : Fin
   pub no-fill : v ≡ Nothing → (e : List ℕ) (out : ℕ) → SeesFill S L e out out e L
   no-fill q e out = record { on = λ x. rw (fill-at x q) (still-sees S h e out); short = omega arith }
 
-  module _ {a : ℕ} (q : v ≡ At a) {r : Told} {M : Lent} (l : Leaves (fillCall S a L) L r M) where
+  module _ {a : ℕ} (q : v ≡ At a) {r : Reply} {M : Lent} (l : Leaves (fillCall S a L) L r M) where
     pub fill-room : length (logBytes (eventsTold r)) ≤ fillBytes
     fill-room = fill-bytes S found q (call-does S (fill a) l) h
 
@@ -148,7 +148,7 @@ module _ (S : Settings) {L : Lent} {e : List ℕ} {out w : ℕ} {f : List ℕ} {
     pub drained : SoundSlices S M
     drained = d .on x .held
 
-    module _ {r : Told} {N : Lent} (l : Leaves (accessCall S x M) M r N) where
+    module _ {r : Reply} {N : Lent} (l : Leaves (accessCall S x M) M r N) where
       pub offer-room : length (logBytes (eventsTold r)) ≤ 38
       offer-room = offer-bytes S x (call-does S (access S x) l) drained
 
@@ -162,7 +162,7 @@ module _ (S : Settings) {L : Lent} {e : List ℕ} {out w : ℕ} {f : List ℕ} {
             on = sees-then S (λ u. seen u (accessCall S x u)) (d .on x)
                 (call-sees S (access S x) l drained (access-keeps-sound S x (drained .tables) (drained .are .range) small (drained .are .soundly)) n);
             taken = taken
-                ∙ sym (told-accepted o r (unrefused-too o clear) (l .tells))
+                ∙ sym (reply-accepted o r (unrefused-too o clear) (l .tells))
                 ∙ sym (clear .clear)
                 ∙ ap (λ (P : Lent). accepts (eventsOf (accessCall S x P))) (d .on x .left);
             short = omega (arith, n .next, d .short);

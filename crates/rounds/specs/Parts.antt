@@ -17,7 +17,7 @@ use Rattle.model.specs.Seen.{Acts, accepts, marks, sendTurn, fillFirst, drain, 
 use Rattle.model.specs.declared.Settings.{Settings}
 use Rattle.model.specs.declared.Access.{Access}
 use Rattle.model.specs.declared.Refusal.{Refusal}
-use Rattle.layout.specs.Layout.{Placed}
+use Rattle.layout.specs.Layout.{LaysOut}
 use Rattle.layout.specs.declared.Layout.{Layout}
 use Rattle.soundness.specs.Laid.{verdictIn}
 use Rattle.soundness.specs.declared.LaidVerdict.{LaidVerdict}
@@ -53,7 +53,7 @@ pub record WaitsHeld (S : Settings) (x : Access) (L : Lent) (e : List ℕ) (r : 
 -- the check before the first round
 pub record MayRun (S : Settings) (x : Access) (L : Lent) (r : LaidVerdict) : Type 0 where
   pub says : verdictIn r ≡ verdictOf (startCall S x L)
-  pub ready : (at : Layout) → r ≡ Passed at → Placed S at × SoundSlices S L
+  pub ready : (at : Layout) → r ≡ Passed at → LaysOut S at × SoundSlices S L
   pub small : (at : Layout) → r ≡ Passed at → maskOf x ≤ allOnes
 
 -- the others are on slices that are the encoding of sound tables

@@ -5,8 +5,8 @@ use crate::Went;
 use layout::Layout;
 use model::Access;
 use model::Refusal;
+use model::Reply;
 use model::Settings;
-use model::Told;
 use soundness::LaidVerdict;
 use turns::Sent;
 ghost use mathlib.Core.Path.{_≡_};
@@ -19,23 +19,23 @@ ghost use Rattle.model.specs.Lent.{lent, bit};
 ghost use Rattle.model.specs.Calls.{eventsTold};
 ghost use Rattle.model.specs.Inner.{SoundSlices};
 ghost use Rattle.model.specs.Records.{logBytes, fillBytes, roundBytes, settleBytes};
-ghost use Rattle.layout.specs.Layout.{Placed};
+ghost use Rattle.layout.specs.Layout.{LaysOut};
 ghost use Rattle.turns.specs.Parts.{Noted};
 ghost use Rattle.rounds.specs.Demand3.{shown, roundsCall, flagsCall, struckCall};
 ghost use Rattle.rounds.specs.Parts.{Queueless, SeesSend, SeesFill, SeesDrain, SeesRound, SeesStruck, RunsOn, StrikesOn, MayRun};
 
 // Writes every event of a call behind `out` bytes.
-fn tell(told: Told, events: &mut [u8], out: usize) -> usize
-    requires { ⌜ out + length (logBytes (eventsTold told)) ≤ length (now events) ⌝ }
-    ensures { λ r. ⌜ Noted (now (events .entry)) out (eventsTold told) r (now (events .exit)) ⌝ }
+fn tell(reply: Reply, events: &mut [u8], out: usize) -> usize
+    requires { ⌜ out + length (logBytes (eventsTold reply)) ≤ length (now events) ⌝ }
+    ensures { λ r. ⌜ Noted (now (events .entry)) out (eventsTold reply) r (now (events .exit)) ⌝ }
 {
-    let n = records::write_told(told, events, out);
+    let n = records::write_reply(reply, events, out);
     out + n
 }
 
 // Whether the queue is empty.
 fn nothing_queued(s: Settings, at: Layout, longs: &[u64], words: &[u32], marks: &[u8]) -> bool
-    requires { ⌜ Placed s at × SoundSlices s (lent (now longs) (now words) (now marks)) ⌝ }
+    requires { ⌜ LaysOut s at × SoundSlices s (lent (now longs) (now words) (now marks)) ⌝ }
     ensures { λ r. ⌜ Queueless s (lent (now (longs .entry)) (now (words .entry)) (now (marks .entry))) r ⌝ }
 {
     let n = layout::used(marks, at.kinds, s.queue);
@@ -52,7 +52,7 @@ fn see_send(
     events: &mut [u8],
     out: usize,
 ) -> usize
-    requires { ⌜ Placed s at × SoundSlices s (lent (now longs) (now words) (now marks)) ⌝ }
+    requires { ⌜ LaysOut s at × SoundSlices s (lent (now longs) (now words) (now marks)) ⌝ }
     requires { ⌜ out + 25 ≤ length (now events) ⌝ }
     ensures { λ r. ⌜ SeesSend s (lent (now (longs .entry)) (now (words .entry)) (now (marks .entry))) (now (events .entry)) out r
         (now (events .exit)) (lent (now (longs .exit)) (now (words .exit)) (now (marks .exit))) ⌝ }
@@ -60,8 +60,8 @@ fn see_send(
     if nothing_queued(s, at, longs, words, marks) {
         return out;
     }
-    let told = cache::send(s, longs, words, marks);
-    tell(told, events, out)
+    let reply = cache::send(s, longs, words, marks);
+    tell(reply, events, out)
 }
 
 // Fills the oldest sent miss, if there is one.
@@ -74,15 +74,15 @@ fn see_fill(
     events: &mut [u8],
     out: usize,
 ) -> usize
-    requires { ⌜ Placed s at × SoundSlices s (lent (now longs) (now words) (now marks)) ⌝ }
+    requires { ⌜ LaysOut s at × SoundSlices s (lent (now longs) (now words) (now marks)) ⌝ }
     requires { ⌜ out + fillBytes ≤ length (now events) ⌝ }
     ensures { λ r. ⌜ SeesFill s (lent (now (longs .entry)) (now (words .entry)) (now (marks .entry))) (now (events .entry)) out r
         (now (events .exit)) (lent (now (longs .exit)) (now (words .exit)) (now (marks .exit))) ⌝ }
 {
     match turns::first_sent(s, at, longs, words, marks) {
         Sent::At(address) => {
-            let told = cache::fill(s, longs, words, marks, address);
-            tell(told, events, out)
+            let reply = cache::fill(s, longs, words, marks, address);
+            tell(reply, events, out)
         }
         Sent::Nothing => out,
     }
@@ -98,7 +98,7 @@ fn see_drain(
     events: &mut [u8],
     out: usize,
 ) -> usize
-    requires { ⌜ Placed s at × SoundSlices s (lent (now longs) (now words) (now marks)) ⌝ }
+    requires { ⌜ LaysOut s at × SoundSlices s (lent (now longs) (now words) (now marks)) ⌝ }
     requires { ⌜ out + settleBytes ≤ length (now events) ⌝ }
     ensures { λ r. ⌜ SeesDrain s (lent (now (longs .entry)) (now (words .entry)) (now (marks .entry))) (now (events .entry)) out r
         (now (events .exit)) (lent (now (longs .exit)) (now (words .exit)) (now (marks .exit))) ⌝ }
@@ -118,15 +118,15 @@ fn see_round(
     events: &mut [u8],
     out: usize,
 ) -> Offer
-    requires { ⌜ Placed s at × SoundSlices s (lent (now longs) (now words) (now marks)) ⌝ }
+    requires { ⌜ LaysOut s at × SoundSlices s (lent (now longs) (now words) (now marks)) ⌝ }
     requires { ⌜ (out + roundBytes ≤ length (now events)) × (maskOf x ≤ allOnes) ⌝ }
     ensures { λ r. ⌜ SeesRound s x (lent (now (longs .entry)) (now (words .entry)) (now (marks .entry))) (now (events .entry)) out r
         (now (events .exit)) (lent (now (longs .exit)) (now (words .exit)) (now (marks .exit))) ⌝ }
 {
     let drained = see_drain(s, at, longs, words, marks, events, out);
-    let told = cache::access(s, longs, words, marks, x);
-    let written = tell(told, events, drained);
-    let taken = turns::accepted(told);
+    let reply = cache::access(s, longs, words, marks, x);
+    let written = tell(reply, events, drained);
+    let taken = turns::accepted(reply);
     Offer { taken, written }
 }
 
@@ -142,7 +142,7 @@ fn see_struck(
     events: &mut [u8],
     out: usize,
 ) -> usize
-    requires { ⌜ Placed s at × SoundSlices s (lent (now longs) (now words) (now marks)) ⌝ }
+    requires { ⌜ LaysOut s at × SoundSlices s (lent (now longs) (now words) (now marks)) ⌝ }
     requires { ⌜ (out + roundBytes ≤ length (now events)) × (maskOf x ≤ allOnes) ⌝ }
     ensures { λ r. ⌜ SeesStruck s x (eqb flag 1) (lent (now (longs .entry)) (now (words .entry)) (now (marks .entry))) (now (events .entry)) out r
         (now (events .exit)) (lent (now (longs .exit)) (now (words .exit)) (now (marks .exit))) ⌝ }
@@ -173,7 +173,7 @@ fn rounds_on(
     flags: &mut [u8],
     events: &mut [u8],
 ) -> Went
-    requires { ⌜ Placed s at × SoundSlices s (lent (now longs) (now words) (now marks)) ⌝ }
+    requires { ⌜ LaysOut s at × SoundSlices s (lent (now longs) (now words) (now marks)) ⌝ }
     requires { ⌜ (n ≤ length (now flags)) × (roundBytes * n ≤ length (now events)) × (maskOf x ≤ allOnes) ⌝ }
     ensures { λ r. ⌜ RunsOn s x n (lent (now (longs .entry)) (now (words .entry)) (now (marks .entry))) (now (flags .entry)) (now (events .entry)) r
         (lent (now (longs .exit)) (now (words .exit)) (now (marks .exit))) (now (flags .exit)) (now (events .exit)) ⌝ }
@@ -210,7 +210,7 @@ fn struck_on(
     flags: &[u8],
     events: &mut [u8],
 ) -> Went
-    requires { ⌜ Placed s at × SoundSlices s (lent (now longs) (now words) (now marks)) ⌝ }
+    requires { ⌜ LaysOut s at × SoundSlices s (lent (now longs) (now words) (now marks)) ⌝ }
     requires { ⌜ (roundBytes * length (now flags) ≤ length (now events)) × (maskOf x ≤ allOnes) ⌝ }
     ensures { λ r. ⌜ StrikesOn s x (lent (now (longs .entry)) (now (words .entry)) (now (marks .entry))) (now (flags .entry)) (now (events .entry)) r
         (lent (now (longs .exit)) (now (words .exit)) (now (marks .exit))) (now (events .exit)) ⌝ }

@@ -19,7 +19,7 @@ ghost use Rattle.model.specs.Sound.{allOnes};
 ghost use Rattle.model.specs.Lent.{lent};
 ghost use Rattle.model.specs.Records.{waitRoom};
 ghost use Rattle.model.specs.Inner.{SoundSlices};
-ghost use Rattle.layout.specs.Layout.{Placed};
+ghost use Rattle.layout.specs.Layout.{LaysOut};
 ghost use Rattle.turns.specs.Parts.{Enough};
 ghost use Rattle.rounds.specs.Waiting.{waitWithin, Waits};
 ghost use Rattle.rounds.specs.Parts.{TurnsAway, Settles, WaitsHeld};
@@ -58,7 +58,7 @@ fn turned_away(n: Refusal, events: &mut [u8]) -> Waited
     requires { ⌜ waitRoom ≤ length (now events) ⌝ }
     ensures { λ r. ⌜ TurnsAway n (now (events .entry)) r (now (events .exit)) ⌝ }
 {
-    let written = records::write_told(tables::refused(n), events, 0);
+    let written = records::write_reply(tables::refused(n), events, 0);
     Waited {
         waiting: Waiting::Refused(n),
         written,
@@ -76,7 +76,7 @@ fn wait_rounds(
     events: &mut [u8],
     most: usize,
 ) -> Waited
-    requires { ⌜ Placed s at × SoundSlices s (lent (now longs) (now words) (now marks)) ⌝ }
+    requires { ⌜ LaysOut s at × SoundSlices s (lent (now longs) (now words) (now marks)) ⌝ }
     requires { ⌜ (wellFormed x ≡ true) × (maskOf x ≤ allOnes) × (waitRoom ≤ length (now events)) ⌝ }
     requires { ⌜ Enough s (lent (now longs) (now words) (now marks)) most ⌝ }
     ensures { λ r. ⌜ Settles s x most (lent (now (longs .entry)) (now (words .entry)) (now (marks .entry))) (now (events .entry)) r
@@ -88,16 +88,16 @@ fn wait_rounds(
         let made = turns::one_round(s, at, longs, words, marks, x, events, out);
         round += 1;
         out = made.written;
-        let told = made.told;
-        if turns::accepted(told) {
-            let answer = told.first;
+        let reply = made.reply;
+        if turns::accepted(reply) {
+            let answer = reply.first;
             return Waited {
                 waiting: Waiting::Accepted { round, answer },
                 written: out,
             };
         }
     }
-    let n = records::write_told(tables::refused(Refusal::SetHeld), events, out);
+    let n = records::write_reply(tables::refused(Refusal::SetHeld), events, out);
     Waited {
         waiting: Waiting::Held,
         written: out + n,
@@ -114,7 +114,7 @@ fn wait_checked(
     x: Access,
     events: &mut [u8],
 ) -> Waited
-    requires { ⌜ Placed s at × SoundSlices s (lent (now longs) (now words) (now marks)) ⌝ }
+    requires { ⌜ LaysOut s at × SoundSlices s (lent (now longs) (now words) (now marks)) ⌝ }
     requires { ⌜ waitRoom ≤ length (now events) ⌝ }
     ensures { λ r. ⌜ WaitsHeld s x (lent (now (longs .entry)) (now (words .entry)) (now (marks .entry))) (now (events .entry)) r
         (now (events .exit)) (lent (now (longs .exit)) (now (words .exit)) (now (marks .exit))) ⌝ }

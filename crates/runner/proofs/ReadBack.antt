@@ -27,7 +27,7 @@ use Rattle.model.proofs.Logs.{log-append}
 use Rattle.encoding.proofs.DecodeIsSound.{Small}
 use Rattle.encoding.proofs.RunGoesOn.{kept-is}
 use Rattle.records.specs.Fitting.{AllFitting, CommandReadFits, stamped}
-use Rattle.records.proofs.Told.{fitting-append}
+use Rattle.records.proofs.Reply.{fitting-append}
 use Rattle.records.proofs.RoundTrip.{log-back}
 use Rattle.records.proofs.Fits.{step-fits, step-stamped, command-read-fits}
 use Rattle.records.proofs.OfCalls.{tables-stamped}

@@ -31,7 +31,7 @@ pub fn run(
             written: 0,
         },
         Begun::Accepted { settings, next } => {
-            let at = layout::laid_out(settings);
+            let at = layout::layout_of(settings);
             running::run_records(settings, at, stream, next, events, 0, longs, words, marks)
         }
     }

@@ -21,12 +21,12 @@ use Rattle.model.specs.declared.Access.the-variants.{Read, Write}
 use Rattle.model.specs.declared.Command.the-variants as cmd
 use Rattle.model.specs.declared.CommandRead.the-variants as command
 use Rattle.model.specs.declared.Stop.the-variants as stop
-use Rattle.model.specs.declared.Told.{Told}
+use Rattle.model.specs.declared.Reply.{Reply}
 use Rattle.words.proofs.Flags.{or-no-1, or-no-2, flag}
 use Rattle.records.specs.Stores.{Laid}
 use Rattle.records.proofs.Decoding.{command-sized}
 use Rattle.records.proofs.Lengths.{command-kinds, settings-kinds}
-use Rattle.running.specs.Resume.{kindAt, restAt, accessIn, recordFrom, Ready, Resumes}
+use Rattle.running.specs.Resume.{recordKindAt, restAt, accessIn, recordFrom, Ready, Resumes}
 use Rattle.running.proofs.Singles.{ready-going, ready-whole, body-long, record-runs}
 
 lengths : (lengthOf 1 ≡ 12) × (lengthOf 2 ≡ 12) × (lengthOf 3 ≡ 0) × (lengthOf 4 ≡ 8) × (lengthOf 5 ≡ 4)
@@ -35,7 +35,7 @@ lengths = (refl, refl, refl, refl, refl)
 
 module _ (s : List ℕ) (at out : ℕ) (e : List ℕ) (ready : Ready s at out e) where
   abbrev k : ℕ
-  k = kindAt s at
+  k = recordKindAt s at
 
   -- it is of a step
   pub kind-least : 1 ≤ k
@@ -72,29 +72,29 @@ module _ (s : List ℕ) (at out : ℕ) (e : List ℕ) (ready : Ready s at out e)
     command-is : commandOf k (take (lengthOf k) (restAt s at)) ≡ commandIn j b
     command-is = command-sized k _ j h (body-long s at out e ready) ∙ ap (commandIn j) body-is
 
-  module _ (S : Settings) (L : Lent) (held : SoundSlices S L) (told : Told) (M : Lent) (w : ℕ) (f : List ℕ)
-      (laid : Laid e out (length (logBytes (eventsTold told))) (logBytes (eventsTold told)) w f) (size : length f ≡ length e) where
+  module _ (S : Settings) (L : Lent) (held : SoundSlices S L) (reply : Reply) (M : Lent) (w : ℕ) (f : List ℕ)
+      (laid : Laid e out (length (logBytes (eventsTold reply))) (logBytes (eventsTold reply)) w f) (size : length f ≡ length e) where
     abbrev Left : ℕ → Type 0
     Left n = Resumes S (recordFrom S s at out e) s at out e L record { stop = stop.Nothing; consumed = n; written = w } f M
 
-    pub send-runs : k ≡ 3 → Does S send L told M → Left (at + 1)
+    pub send-runs : k ≡ 3 → Does S send L reply M → Left (at + 1)
     send-runs h d =
         let l : lengthOf k ≡ 0 = ap lengthOf h ∙ lengths .2 in
         record-runs s at out e ready S L held cmd.Send (command-is 3 h refl) (omega arith) d laid size (omega arith)
 
-    pub fill-runs : k ≡ 4 → {b : List ℕ} → b ≡ take (lengthOf 4) (restAt s at) → {a : ℕ} → a ≡ numberAt b 0 8 → Does S (fill a) L told M → Left (at + 1 + length b)
+    pub fill-runs : k ≡ 4 → {b : List ℕ} → b ≡ take (lengthOf 4) (restAt s at) → {a : ℕ} → a ≡ numberAt b 0 8 → Does S (fill a) L reply M → Left (at + 1 + length b)
     fill-runs h {b} p {a} q d =
         let l : lengthOf k ≡ lengthOf 4 = ap lengthOf h in
         let n = body-size 4 h p in
         record-runs s at out e ready S L held (cmd.Fill a) (command-is 4 h p ∙ ap (λ (x : ℕ). command.Got (cmd.Fill x)) (sym q)) (omega arith) d laid size (omega arith)
 
-    pub tick-runs : k ≡ 5 → {b : List ℕ} → b ≡ take (lengthOf 5) (restAt s at) → {c : ℕ} → c ≡ numberAt b 0 4 → Does S (tick c) L told M → Left (at + 1 + length b)
+    pub tick-runs : k ≡ 5 → {b : List ℕ} → b ≡ take (lengthOf 5) (restAt s at) → {c : ℕ} → c ≡ numberAt b 0 4 → Does S (tick c) L reply M → Left (at + 1 + length b)
     tick-runs h {b} p {c} q d =
         let l : lengthOf k ≡ lengthOf 5 = ap lengthOf h in
         let n = body-size 5 h p in
         record-runs s at out e ready S L held (cmd.Tick c) (command-is 5 h p ∙ ap (λ (x : ℕ). command.Got (cmd.Tick x)) (sym q)) (omega arith) d laid size (omega arith)
 
-    module _ {x : Access} (d : Does S (access S x) L told M) where
+    module _ {x : Access} (d : Does S (access S x) L reply M) where
       read-runs : k ≡ 1 → x ≡ Read (numberAt (take 12 (restAt s at)) 0 8) 0 (numberAt (take 12 (restAt s at)) 8 4) → Left (at + 13)
       read-runs h q =
           let l : lengthOf k ≡ 12 = ap lengthOf h ∙ lengths .0 in

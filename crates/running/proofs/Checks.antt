@@ -22,7 +22,7 @@ use Rattle.words.proofs.Flags.{and-1, and-2, clash, flag}
 use Rattle.records.proofs.Lengths.{command-kinds, settings-kinds, body-short}
 use Rattle.records.proofs.Reading.{read-cut, read-whole}
 use Rattle.reader.specs.Taken.{behind}
-use Rattle.running.specs.Resume.{kindAt, restAt, headStop, foundStop, laterFound}
+use Rattle.running.specs.Resume.{recordKindAt, restAt, headStop, foundStop, laterFound}
 
 -- ---- the tests that the code makes at a head
 
@@ -100,7 +100,7 @@ whole-head k kind start n next c = rw c
 
 module _ (s : List ℕ) (at : ℕ) (inside : at < length s) where
   abbrev k : ℕ
-  k = kindAt s at
+  k = recordKindAt s at
 
   -- whether its body is cut short
   abbrev cut : Bool

@@ -31,7 +31,7 @@ use Rattle.model.specs.declared.Event.{Event}
 use Rattle.model.specs.declared.Event.the-variants.{Answered, Refused, ReadQueued, WriteBackQueued, Released, ReadSent, WriteBackSent, Filled, Ticked}
 use Rattle.model.specs.declared.Refusal.the-variants.{NotSent}
 use Rattle.model.specs.declared.Queued.{Queued}
-use Rattle.model.specs.declared.Told.{Told}
+use Rattle.model.specs.declared.Reply.{Reply}
 use Rattle.model.proofs.SendFillKeepSound.{marked-length}
 use Rattle.model.proofs.Event.{the-type}
 use Rattle.words.proofs.Flags.{and-1, by-flag, clash}
@@ -41,11 +41,11 @@ use Rattle.model.proofs.Soundness.{access-keeps-sound, send-keeps-sound, fill-k
 use Rattle.model.proofs.Victims.{probe-meets}
 use Rattle.model.proofs.AccessCases.{access-judged}
 use Rattle.encoding.proofs.Bridge.{does-tells, does-is}
-use Rattle.encoding.proofs.ToldShapes.{access-shaped}
+use Rattle.encoding.proofs.ReplyShapes.{access-shaped}
 use Rattle.model.specs.declared.Ran.{Ran}
 use Rattle.layout.specs.declared.Layout.{Layout}
 use Rattle.running.specs.declared.record.Went.{Went}
-use Rattle.layout.specs.Layout.{Placed}
+use Rattle.layout.specs.Layout.{LaysOut}
 use Rattle.layout.specs.Places.{First}
 use Rattle.access.proofs.Plans.{queue-counted, misses-counted}
 use Rattle.running.specs.Resume.{Counted, entriesLeft}
@@ -77,7 +77,7 @@ first-there l from (suc n) x = go (first-there l from n x)
 
 -- ---- what is counted is what the tables have
 
-module _ (S : Settings) {longs words marks : List ℕ} (t : Tables) (is : Encodes S (lent longs words marks) t) {place : Layout} (p : Placed S place) where
+module _ (S : Settings) {longs words marks : List ℕ} (t : Tables) (is : Encodes S (lent longs words marks) t) {place : Layout} (p : LaysOut S place) where
   counts : {q m : ℕ} → Counted S place marks q m → (q ≡ length (t .queue)) × (m ≡ length (t .misses))
   counts c = (queue-counted S t is p (c .queue), misses-counted S t is p (c .misses))
 
@@ -127,11 +127,11 @@ access-counts S x t =
         go (inr w) = clash (ap takesLine (w .answer)) n
 
 -- its value has an event for each entry that it queues, behind its answer
-told-long : (r : Told) → tidied r ≡ r → r .count ≤ 0 → length (eventsTold r) ≡ 1 + r .queues
+reply-long : (r : Reply) → tidied r ≡ r → r .count ≤ 0 → length (eventsTold r) ≡ 1 + r .queues
 unfolding eventsTold tidied
-told-long r tidy none =
-    let a : length (take (r .queues) (r .queued)) ≡ r .queues = ap (λ (x : Told). x .queues) tidy in
-    let b : length (take (r .count) (r .tickets)) ≡ r .count = ap (λ (x : Told). x .count) tidy in
+reply-long r tidy none =
+    let a : length (take (r .queues) (r .queued)) ≡ r .queues = ap (λ (x : Reply). x .queues) tidy in
+    let b : length (take (r .count) (r .tickets)) ≡ r .count = ap (λ (x : Reply). x .count) tidy in
     simp (length-append, length-map) (omega arith)
 
 -- ---- a send and a fill
@@ -185,13 +185,13 @@ left-other (WriteBackSent b m0 m1 m2 m3) n h = refl
 left-other (Filled a) n h = absurd (miss noFilled 7 tt h)
 left-other Ticked n h = refl
 
-first-told : (r : Told) → eventsTold r ≡ r .first ∷ (map queuedEvent (take (r .queues) (r .queued)) ++ map Released (take (r .count) (r .tickets)))
+first-told : (r : Reply) → eventsTold r ≡ r .first ∷ (map queuedEvent (take (r .queues) (r .queued)) ++ map Released (take (r .count) (r .tickets)))
 unfolding eventsTold
 first-told r = refl
 
 -- ---- the counts that the runner goes on with
 
-module _ (S : Settings) {longs words marks : List ℕ} (held : SoundSlices S (lent longs words marks)) {place : Layout} (p : Placed S place) {q m : ℕ} (c : Counted S place marks q m) where
+module _ (S : Settings) {longs words marks : List ℕ} (held : SoundSlices S (lent longs words marks)) {place : Layout} (p : LaysOut S place) {q m : ℕ} (c : Counted S place marks q m) where
   abbrev t : Tables
   t = held .tables
 
@@ -201,23 +201,23 @@ module _ (S : Settings) {longs words marks : List ℕ} (held : SoundSlices S (le
   before : (q ≡ length (t .queue)) × (m ≡ length (t .misses))
   before = counts S t i p c
 
-  pub counted-access : {told : Told} {longs′ words′ marks′ : List ℕ} (x : Access) → maskOf x ≤ allOnes → Does S (access S x) (lent longs words marks) told (lent longs′ words′ marks′)
-      → Counted S place marks′ (q + told .queues) (m + one (isRead x && ltb 0 (told .queues)))
-  counted-access {told} x small d =
-      let w = access-counts S x t (told .queues) (sym (ap length (does-tells S d t i)) ∙ told-long told (d .on t i .tidy) (access-shaped S held x d .tickets)) in
+  pub counted-access : {reply : Reply} {longs′ words′ marks′ : List ℕ} (x : Access) → maskOf x ≤ allOnes → Does S (access S x) (lent longs words marks) reply (lent longs′ words′ marks′)
+      → Counted S place marks′ (q + reply .queues) (m + one (isRead x && ltb 0 (reply .queues)))
+  counted-access {reply} x small d =
+      let w = access-counts S x t (reply .queues) (sym (ap length (does-tells S d t i)) ∙ reply-long reply (d .on t i .tidy) (access-shaped S held x d .tickets)) in
       counted-as S (after t (access S x t)) (does-is S d t i (access-keeps-sound S x t (i .range) small (i .soundly))) p
       (omega (arith, before .0, w .0)) (omega (arith, before .1, w .1))
 
-  pub counted-send : {told : Told} {longs′ words′ marks′ : List ℕ} → Does S send (lent longs words marks) told (lent longs′ words′ marks′) → Counted S place marks′ (q - 1) m
+  pub counted-send : {reply : Reply} {longs′ words′ marks′ : List ℕ} → Does S send (lent longs words marks) reply (lent longs′ words′ marks′) → Counted S place marks′ (q - 1) m
   counted-send d =
       let w = send-counts t in
       counted-as S (after t (send t)) (does-is S d t i (send-keeps-sound S t (i .soundly))) p (omega (arith, before .0, w .0)) (before .1 ∙ sym (w .1))
 
-  pub counted-fill : {told : Told} {longs′ words′ marks′ : List ℕ} (a : ℕ) → Does S (fill a) (lent longs words marks) told (lent longs′ words′ marks′) → Counted S place marks′ q (entriesLeft (told .first) m)
-  counted-fill {told} a d =
-      let w = fill-counts S t (parts S t (i .soundly)) a (sym (does-tells S d t i) ∙ first-told told) in
+  pub counted-fill : {reply : Reply} {longs′ words′ marks′ : List ℕ} (a : ℕ) → Does S (fill a) (lent longs words marks) reply (lent longs′ words′ marks′) → Counted S place marks′ q (entriesLeft (reply .first) m)
+  counted-fill {reply} a d =
+      let w = fill-counts S t (parts S t (i .soundly)) a (sym (does-tells S d t i) ∙ first-told reply) in
       counted-as S (after t (fill a t)) (does-is S d t i (fill-keeps-sound S a t (i .soundly))) p
-      (before .0 ∙ ap length (sym (w .0))) (ap (entriesLeft (told .first)) (before .1) ∙ sym (w .1))
+      (before .0 ∙ ap length (sym (w .0))) (ap (entriesLeft (reply .first)) (before .1) ∙ sym (w .1))
 
 -- what an access leaves that queues nothing
 pub went-none : (r : Ran) (x : Access) (q m : ℕ) {n : ℕ} → n ≡ 0

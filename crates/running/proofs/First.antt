@@ -35,21 +35,21 @@ use Rattle.running.specs.declared.Opening.{Opening}
 use Rattle.running.specs.declared.Opening.the-variants as opening
 use Rattle.running.specs.declared.Begun.{Begun}
 use Rattle.running.specs.declared.Begun.the-variants.{Accepted, Stopped}
-use Rattle.running.specs.Resume.{kindAt, restAt, foundStop, restFrom, RunAt, Resumes}
+use Rattle.running.specs.Resume.{recordKindAt, restAt, foundStop, restFrom, RunAt, Resumes}
 use Rattle.running.specs.Begin.{firstHead, firstRecord, begunOn, beginning, begunTables, Begins, Accepts, freshStop}
 use Rattle.running.proofs.Running.{run-skips}
 use Rattle.running.proofs.Checks.{found-record, found-next, found-body}
 
 -- ---- what it holds, by the tests that the code makes
 
-record-stops : (s : List ℕ) → (length s ≡ 0 → ⊥) → goesOn (firstHead (kindAt s 0) (restAt s 0)) ≡ false
-    → opening.Stopped (firstHead (kindAt s 0) (restAt s 0)) ≡ firstRecord s
+record-stops : (s : List ℕ) → (length s ≡ 0 → ⊥) → goesOn (firstHead (recordKindAt s 0) (restAt s 0)) ≡ false
+    → opening.Stopped (firstHead (recordKindAt s 0) (restAt s 0)) ≡ firstRecord s
 unfolding firstRecord
 record-stops [] some z = absurd (some refl)
 record-stops (k ∷ bs) some z = rw z
 
-record-goes : (s : List ℕ) → (length s ≡ 0 → ⊥) → goesOn (firstHead (kindAt s 0) (restAt s 0)) ≡ true
-    → opening.Holds (settingsOf (kindAt s 0) (restAt s 0)) (1 + lengthOf (kindAt s 0)) ≡ firstRecord s
+record-goes : (s : List ℕ) → (length s ≡ 0 → ⊥) → goesOn (firstHead (recordKindAt s 0) (restAt s 0)) ≡ true
+    → opening.Holds (settingsOf (recordKindAt s 0) (restAt s 0)) (1 + lengthOf (recordKindAt s 0)) ≡ firstRecord s
 unfolding firstRecord
 record-goes [] some z = absurd (some refl)
 record-goes (k ∷ bs) some z = rw z
@@ -59,11 +59,11 @@ unfolding firstRecord
 first-none [] h = refl
 first-none (k ∷ bs) h = absurd (omega arith)
 
-module _ (s : List ℕ) (some : length s ≡ 0 → ⊥) {f : Record} (read : f ≡ readAt s 0) {n : Stop} (d : n ≡ foundStop (kindAt s 0) f Nothing OutOfPlace) where
+module _ (s : List ℕ) (some : length s ≡ 0 → ⊥) {f : Record} (read : f ≡ readAt s 0) {n : Stop} (d : n ≡ foundStop (recordKindAt s 0) f Nothing OutOfPlace) where
   inside : 0 < length s
   inside = omega arith
 
-  head-is : n ≡ firstHead (kindAt s 0) (restAt s 0)
+  head-is : n ≡ firstHead (recordKindAt s 0) (restAt s 0)
   head-is = found-record s 0 inside read Nothing OutOfPlace d
 
   pub first-stopped : goesOn n ≡ false → opening.Stopped n ≡ firstRecord s
@@ -71,8 +71,8 @@ module _ (s : List ℕ) (some : length s ≡ 0 → ⊥) {f : Record} (read : f �
 
   pub first-holds : goesOn n ≡ true → {S : Settings} → S ≡ settingsIn (bodyAt s 0) → {c : ℕ} → c ≡ behind s 0 → opening.Holds S c ≡ firstRecord s
   first-holds h {S} e {c} q =
-      let b : S ≡ settingsOf (kindAt s 0) (restAt s 0) = e ∙ ap settingsIn (found-body s 0 inside read Nothing OutOfPlace d h) in
-      let a : c ≡ 1 + lengthOf (kindAt s 0) = found-next s 0 inside read Nothing OutOfPlace d h q in
+      let b : S ≡ settingsOf (recordKindAt s 0) (restAt s 0) = e ∙ ap settingsIn (found-body s 0 inside read Nothing OutOfPlace d h) in
+      let a : c ≡ 1 + lengthOf (recordKindAt s 0) = found-next s 0 inside read Nothing OutOfPlace d h q in
       rw (b, a) (record-goes s some (rw (← head-is) h))
 
 -- ---- what it comes to
@@ -176,9 +176,9 @@ run-halts room L (k ∷ bs) n h =
 
 record Taken (L : Lent) (s : List ℕ) (S : Settings) (n : ℕ) : Type 0 where
   some : length s ≡ 0 → ⊥
-  goes : goesOn (firstStop L (kindAt s 0) (restAt s 0)) ≡ true
-  are : settingsOf (kindAt s 0) (restAt s 0) ≡ S
-  next : 1 + lengthOf (kindAt s 0) ≡ n
+  goes : goesOn (firstStop L (recordKindAt s 0) (restAt s 0)) ≡ true
+  are : settingsOf (recordKindAt s 0) (restAt s 0) ≡ S
+  next : 1 + lengthOf (recordKindAt s 0) ≡ n
 
 taken : (L : Lent) (s : List ℕ) (S : Settings) (n : ℕ) → beginning L s ≡ Accepted S n → Taken L s S n
 unfolding beginning
@@ -219,7 +219,7 @@ accepted-runs L s {S} {n} room q = run-goes room L s S n (taken L s S n q)
 pub accepted-long : (L : Lent) (s : List ℕ) {S : Settings} {n : ℕ} → beginning L s ≡ Accepted S n → n ≤ length s
 accepted-long L s {S} {n} q =
     let t = taken L s S n q in
-    let w = settled L (kindAt s 0) (restAt s 0) (t .goes) .whole in
+    let w = settled L (recordKindAt s 0) (restAt s 0) (t .goes) .whole in
     let c = t .next in
     let some = t .some in
     let l : length (restAt s 0) ≡ length s - 1 = length-drop 1 s in
@@ -240,8 +240,8 @@ module _ {L : Lent} {s : List ℕ} {r : Begun} {M : Lent} (b : Begins L s r M) w
     abbrev took : Taken L s S n
     took = taken L s S n settings
 
-    opened : Settled L (kindAt s 0) (restAt s 0)
-    opened = settled L (kindAt s 0) (restAt s 0) (took .goes)
+    opened : Settled L (recordKindAt s 0) (restAt s 0)
+    opened = settled L (recordKindAt s 0) (restAt s 0) (took .goes)
 
     begun-is : Encodes S M (start S)
     begun-is = record {

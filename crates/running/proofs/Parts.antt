@@ -24,7 +24,7 @@ use Rattle.model.specs.declared.Stop.the-variants.{Nothing, OutOfPlace, Unknown
 use Rattle.words.proofs.Flags.{clash, by-flag, flag, or-cases}
 use Rattle.words.proofs.Below.{leb-not}
 use Rattle.running.specs.declared.Begun.the-variants.{Accepted, Stopped}
-use Rattle.running.specs.Resume.{kindAt, headStop}
+use Rattle.running.specs.Resume.{recordKindAt, headStop}
 use Rattle.running.specs.Begin.{beginning, firstThere}
 use Rattle.running.proofs.Checks.{head-there}
 use Rattle.running.proofs.First.{settled, run-accepts}
@@ -233,7 +233,7 @@ unfolding firstThere
 there-none [] h = refl
 there-none (x ∷ s) h = absurd (omega arith)
 
-pub there-some : (s : List ℕ) → (length s ≡ 0 → ⊥) → {f : Record} {n : Stop} {m : ℕ} → f ≡ readAt s 0 → n ≡ headStop (kindAt s 0) f → m ≡ stopNumber n
+pub there-some : (s : List ℕ) → (length s ≡ 0 → ⊥) → {f : Record} {n : Stop} {m : ℕ} → f ≡ readAt s 0 → n ≡ headStop (recordKindAt s 0) f → m ≡ stopNumber n
     → not (eqb m 15) ≡ firstThere s
 unfolding firstThere
 there-some [] h read d e = absurd (h refl)

@@ -18,7 +18,7 @@ use Rattle.model.specs.declared.Settings.{Settings}
 use Rattle.model.specs.declared.Stop.{Stop}
 use Rattle.model.specs.declared.Stop.the-variants as stop
 use Rattle.words.proofs.Flags.{clash, by-flag}
-use Rattle.running.specs.Resume.{kindAt, restAt, single}
+use Rattle.running.specs.Resume.{recordKindAt, restAt, single}
 
 -- ---- the checks at a later record, where it goes on
 
@@ -75,30 +75,30 @@ module _ (S : Settings) (room : ℕ) (s : List ℕ) (at : ℕ) (t : Tables) wher
   pub run-ends : length s ≤ at → runFrom S 0 room (drop at s) t ≡ halt stop.Nothing t
   run-ends h = none-left S room (drop at s) t (rw length-drop (omega arith))
 
-  opened : at < length s → drop at s ≡ kindAt s at ∷ restAt s at
+  opened : at < length s → drop at s ≡ recordKindAt s at ∷ restAt s at
   opened h = rw (add-one, drop-cons s at 0)
 
   -- the step at a record, the bytes of its events, the tables that it leaves
   abbrev stepped : Outcome Tables
-  stepped = stepAt S (kindAt s at) (restAt s at) t
+  stepped = stepAt S (recordKindAt s at) (restAt s at) t
 
   abbrev told : List ℕ
   told = logBytes (eventsOf stepped)
 
   module _ (inside : at < length s) where
-    pub run-stops : goesOn (laterStop room (kindAt s at) (restAt s at)) ≡ false
-        → runFrom S 0 room (drop at s) t ≡ halt (laterStop room (kindAt s at) (restAt s at)) t
-    run-stops z = rw (opened inside) (from-stops S room (kindAt s at) (restAt s at) t z)
+    pub run-stops : goesOn (laterStop room (recordKindAt s at) (restAt s at)) ≡ false
+        → runFrom S 0 room (drop at s) t ≡ halt (laterStop room (recordKindAt s at) (restAt s at)) t
+    run-stops z = rw (opened inside) (from-stops S room (recordKindAt s at) (restAt s at) t z)
 
-    pub run-goes : goesOn (laterStop room (kindAt s at) (restAt s at)) ≡ true
+    pub run-goes : goesOn (laterStop room (recordKindAt s at) (restAt s at)) ≡ true
         → runFrom S 0 room (drop at s) t
-        ≡ ahead (1 + lengthOf (kindAt s at)) told
-        (runFrom S 0 (room - length told) (drop (at + (1 + lengthOf (kindAt s at))) s) (after t stepped))
+        ≡ ahead (1 + lengthOf (recordKindAt s at)) told
+        (runFrom S 0 (room - length told) (drop (at + (1 + lengthOf (recordKindAt s at))) s) (after t stepped))
     run-goes z =
         rw (
           opened inside,
-          from-goes S room (kindAt s at) (restAt s at) t z,
-          run-skips S (lengthOf (kindAt s at)) (room - length told) (restAt s at) (after t stepped) (going room _ _ z .whole),
+          from-goes S room (recordKindAt s at) (restAt s at) t z,
+          run-skips S (lengthOf (recordKindAt s at)) (room - length told) (restAt s at) (after t stepped) (going room _ _ z .whole),
           drop-drop,
           add-assoc,
         )
@@ -107,12 +107,12 @@ module _ (S : Settings) (room : ℕ) (s : List ℕ) (at : ℕ) (t : Tables) wher
 
 module _ (S : Settings) (room : ℕ) (s : List ℕ) (at : ℕ) (t : Tables) (inside : at < length s) where
   abbrev now : Result Tables
-  now = single S room (kindAt s at) (restAt s at) t
+  now = single S room (recordKindAt s at) (restAt s at) t
 
   pub single-stops : goesOn (now .stop) ≡ false → runFrom S 0 room (drop at s) t ≡ now
   unfolding single
   single-stops =
-      by-flag (λ (o : Result Tables). goesOn (o .stop) ≡ false → runFrom S 0 room (drop at s) t ≡ o) (goesOn (laterStop room (kindAt s at) (restAt s at))) _ _
+      by-flag (λ (o : Result Tables). goesOn (o .stop) ≡ false → runFrom S 0 room (drop at s) t ≡ o) (goesOn (laterStop room (recordKindAt s at) (restAt s at))) _ _
       (λ z h. clash refl h)
       (λ z h. run-stops S room s at t inside z)
 
@@ -124,7 +124,7 @@ module _ (S : Settings) (room : ℕ) (s : List ℕ) (at : ℕ) (t : Tables) (ins
       by-flag
       (λ (o : Result Tables). goesOn (o .stop) ≡ true
       → runFrom S 0 room (drop at s) t ≡ ahead (o .consumed) (o .events) (runFrom S 0 (room - length (o .events)) (drop (at + o .consumed) s) (o .tables)))
-      (goesOn (laterStop room (kindAt s at) (restAt s at))) _ _
+      (goesOn (laterStop room (recordKindAt s at) (restAt s at))) _ _
       (λ z h. run-goes S room s at t inside z)
       (λ z h. clash h z)
 
@@ -132,6 +132,6 @@ module _ (S : Settings) (room : ℕ) (s : List ℕ) (at : ℕ) (t : Tables) (ins
   pub single-further : goesOn (now .stop) ≡ true → 0 < now .consumed
   unfolding single
   single-further =
-      by-flag (λ (o : Result Tables). goesOn (o .stop) ≡ true → 0 < o .consumed) (goesOn (laterStop room (kindAt s at) (restAt s at))) _ _
+      by-flag (λ (o : Result Tables). goesOn (o .stop) ≡ true → 0 < o .consumed) (goesOn (laterStop room (recordKindAt s at) (restAt s at))) _ _
       (λ z h. omega arith)
       (λ z h. clash h z)

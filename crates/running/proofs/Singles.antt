@@ -24,12 +24,12 @@ use Rattle.model.specs.declared.CommandRead.the-variants as command
 use Rattle.model.specs.declared.Refusal.the-variants as refusal
 use Rattle.model.specs.declared.Stop.{Stop}
 use Rattle.model.specs.declared.Stop.the-variants as stop
-use Rattle.model.specs.declared.Told.{Told}
+use Rattle.model.specs.declared.Reply.{Reply}
 use Rattle.encoding.proofs.Bridge.{does-tells, does-is}
 use Rattle.model.proofs.Soundness.{step-keeps-sound}
 use Rattle.records.specs.Stores.{Laid}
 use Rattle.records.proofs.Room.{Takes, refused-takes, step-takes}
-use Rattle.running.specs.Resume.{kindAt, restAt, single, recordFrom, RunAt, Ready, Resumes}
+use Rattle.running.specs.Resume.{recordKindAt, restAt, single, recordFrom, RunAt, Ready, Resumes}
 use Rattle.running.proofs.Running.{Going, going}
 
 -- ---- the events of one step
@@ -47,7 +47,7 @@ step-room S k rest t range ok = read-takes S (commandOf k (take (lengthOf k) res
 -- ---- a record that stops, and one that is run
 
 module _ (S : Settings) (s : List ℕ) (at out : ℕ) (e : List ℕ) (L : Lent) (here : RunAt s at out e)
-    {n : Stop} (d : n ≡ laterStop (length e - out) (kindAt s at) (restAt s at)) (stops : goesOn n ≡ false) where
+    {n : Stop} (d : n ≡ laterStop (length e - out) (recordKindAt s at) (restAt s at)) (stops : goesOn n ≡ false) where
   halted : (t : Tables) → recordFrom S s at out e t ≡ halt n t
   unfolding single
   halted t = rw (← d, stops)
@@ -68,13 +68,13 @@ module _ (S : Settings) (s : List ℕ) (at out : ℕ) (e : List ℕ) (L : Lent) 
       }
 
 module _ (s : List ℕ) (at out : ℕ) (e : List ℕ) (ready : Ready s at out e) where
-  pub ready-going : Going (length e - out) (kindAt s at) (restAt s at)
+  pub ready-going : Going (length e - out) (recordKindAt s at) (restAt s at)
   ready-going = going _ _ _ (ready .goes)
 
   pub ready-room : out + eventRoom ≤ length e
   ready-room = let g = ready-going .roomy in let r = ready .stands .room in omega arith
 
-  pub ready-whole : at + 1 + lengthOf (kindAt s at) ≤ length s
+  pub ready-whole : at + 1 + lengthOf (recordKindAt s at) ≤ length s
   ready-whole =
       let w = ready-going .whole in
       let i = ready .inside in
@@ -82,56 +82,56 @@ module _ (s : List ℕ) (at out : ℕ) (e : List ℕ) (ready : Ready s at out e)
       omega arith
 
   abbrev body : List ℕ
-  body = take (lengthOf (kindAt s at)) (restAt s at)
+  body = take (lengthOf (recordKindAt s at)) (restAt s at)
 
-  pub body-long : length body ≡ lengthOf (kindAt s at)
-  body-long = length-take-le (lengthOf (kindAt s at)) (restAt s at) (ready-going .whole)
+  pub body-long : length body ≡ lengthOf (recordKindAt s at)
+  body-long = length-take-le (lengthOf (recordKindAt s at)) (restAt s at) (ready-going .whole)
 
   module _ (S : Settings) (L : Lent) (held : SoundSlices S L) where
     ran : (t : Tables)
         → recordFrom S s at out e t
         ≡ record {
           stop = stop.Nothing;
-          consumed = 1 + lengthOf (kindAt s at);
-          events = logBytes (eventsOf (stepAt S (kindAt s at) (restAt s at) t));
-          tables = after t (stepAt S (kindAt s at) (restAt s at) t);
+          consumed = 1 + lengthOf (recordKindAt s at);
+          events = logBytes (eventsOf (stepAt S (recordKindAt s at) (restAt s at) t));
+          tables = after t (stepAt S (recordKindAt s at) (restAt s at) t);
         }
     unfolding single
     ran t = rw (ready .goes)
 
     -- what the code does is the step of the command in the body; a mask of 32 bits is all that soundness asks of that
-    module _ (c : Command) (read : commandOf (kindAt s at) body ≡ command.Got c) (small : commandMask c ≤ allOnes)
-        {told : Told} {M : Lent} (does : Does S (stepOf S c) L told M) where
-      step-is : (t : Tables) → stepOf S c t ≡ stepAt S (kindAt s at) (restAt s at) t
+    module _ (c : Command) (read : commandOf (recordKindAt s at) body ≡ command.Got c) (small : commandMask c ≤ allOnes)
+        {reply : Reply} {M : Lent} (does : Does S (stepOf S c) L reply M) where
+      step-is : (t : Tables) → stepOf S c t ≡ stepAt S (recordKindAt s at) (restAt s at) t
       unfolding runner.stepAt
       step-is t = rw read
 
-      told-is : (t : Tables) → Encodes S L t → eventsTold told ≡ eventsOf (stepAt S (kindAt s at) (restAt s at) t)
-      told-is t i = does-tells S does t i ∙ ap eventsOf (step-is t)
+      reply-is : (t : Tables) → Encodes S L t → eventsTold reply ≡ eventsOf (stepAt S (recordKindAt s at) (restAt s at) t)
+      reply-is t i = does-tells S does t i ∙ ap eventsOf (step-is t)
 
-      told-room : out + length (logBytes (eventsTold told)) ≤ length e
-      told-room =
+      reply-room : out + length (logBytes (eventsTold reply)) ≤ length e
+      reply-room =
           let i = held .are in
           let g = ready-room in
-          let w = step-room S (kindAt s at) (restAt s at) (held .tables) (i .range) (i .soundly) in
-          rw (told-is (held .tables) i) (omega arith)
+          let w = step-room S (recordKindAt s at) (restAt s at) (held .tables) (i .range) (i .soundly) in
+          rw (reply-is (held .tables) i) (omega arith)
 
-      after-is : (t : Tables) → Encodes S L t → Encodes S M (after t (stepAt S (kindAt s at) (restAt s at) t))
+      after-is : (t : Tables) → Encodes S L t → Encodes S M (after t (stepAt S (recordKindAt s at) (restAt s at) t))
       after-is t i = rw (← step-is t) (does-is S does t i (step-keeps-sound S c t (i .range) small (i .soundly)))
 
-      pub record-runs : {w : ℕ} {f : List ℕ} → Laid e out (length (logBytes (eventsTold told))) (logBytes (eventsTold told)) w f → length f ≡ length e
-          → {n : ℕ} → n ≡ at + 1 + lengthOf (kindAt s at)
+      pub record-runs : {w : ℕ} {f : List ℕ} → Laid e out (length (logBytes (eventsTold reply))) (logBytes (eventsTold reply)) w f → length f ≡ length e
+          → {n : ℕ} → n ≡ at + 1 + lengthOf (recordKindAt s at)
           → Resumes S (recordFrom S s at out e) s at out e L record { stop = stop.Nothing; consumed = n; written = w } f M
       record-runs laid size next =
           let long = length-take-le out e (ready .stands .room) in
-          let r = told-room in
+          let r = reply-room in
           let p = laid .next in
           record {
             on = λ t i. rw (ran t) record {
               stop = refl;
               consumed = omega arith;
-              written = rw (← told-is t i, length-append, long) p;
-              events = rw (← told-is t i, length-append, long) (laid .slice ∙ sets-eq (logBytes (eventsTold told)) e out r);
+              written = rw (← reply-is t i, length-append, long) p;
+              events = rw (← reply-is t i, length-append, long) (laid .slice ∙ sets-eq (logBytes (eventsTold reply)) e out r);
               tables = after-is t i .encoded;
             };
             keeps = λ t i. rw (ran t) (after-is t i);

@@ -27,8 +27,8 @@ use Rattle.layout.specs.declared.Layout.{Layout}
 use Rattle.layout.specs.Places.{First}
 
 -- the kind of the record at a place of a stream, and the bytes behind that
-abbrev pub kindAt : List ℕ → ℕ → ℕ
-kindAt s at = getD s at 0
+abbrev pub recordKindAt : List ℕ → ℕ → ℕ
+recordKindAt s at = getD s at 0
 
 abbrev pub restAt : List ℕ → ℕ → List ℕ
 restAt s at = drop (at + 1) s
@@ -62,7 +62,7 @@ single S room k rest t =
     (halt (laterStop room k rest) t)
 
 abbrev pub recordFrom : Settings → List ℕ → ℕ → ℕ → List ℕ → Tables → Result Tables
-recordFrom S s at out e = single S (length e - out) (kindAt s at) (restAt s at)
+recordFrom S s at out e = single S (length e - out) (recordKindAt s at) (restAt s at)
 
 abbrev pub restFrom : Settings → List ℕ → ℕ → ℕ → List ℕ → Tables → Result Tables
 restFrom S s at out e = runFrom S 0 (length e - out) (drop at s)
@@ -76,7 +76,7 @@ pub record RunAt (s : List ℕ) (at out : ℕ) (e : List ℕ) : Type 0 where
 pub record Ready (s : List ℕ) (at out : ℕ) (e : List ℕ) : Type 0 where
   pub stands : RunAt s at out e
   pub inside : at < length s
-  pub goes : goesOn (laterStop (length e - out) (kindAt s at) (restAt s at)) ≡ true
+  pub goes : goesOn (laterStop (length e - out) (recordKindAt s at) (restAt s at)) ≡ true
 
 -- the records that o runs from there, on the sound tables that L holds, leave this; consumed and written count from the start
 pub record Resumes (S : Settings) (o : Tables → Result Tables) (s : List ℕ) (at out : ℕ) (e : List ℕ) (L : Lent) (r : Ran) (f : List ℕ) (M : Lent) : Type 0 where

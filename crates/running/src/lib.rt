@@ -17,7 +17,7 @@ ghost use Rattle.model.specs.Lent.{lent};
 ghost use Rattle.model.specs.Inner.{SoundSlices};
 ghost use Rattle.model.specs.Records.{settingsIn};
 ghost use Rattle.model.specs.Runner.{roomStop, goesOn};
-ghost use Rattle.layout.specs.Layout.{Placed};
+ghost use Rattle.layout.specs.Layout.{LaysOut};
 ghost use Rattle.running.specs.Begin.{firstRecord, freshStop, Accepts, firstThere};
 ghost use Rattle.running.specs.Lengths.{noLengths, lengthsOf, lengthsAsked};
 ghost use Rattle.running.specs.Resume.{headStop, foundStop, laterFound, RunAt, restFrom, Resumes};
@@ -139,7 +139,7 @@ pub fn run_records(
     words: &mut [u32],
     marks: &mut [u8],
 ) -> Ran
-    requires { ⌜ Placed s laid × SoundSlices s (lent (now longs) (now words) (now marks)) ⌝ }
+    requires { ⌜ LaysOut s laid × SoundSlices s (lent (now longs) (now words) (now marks)) ⌝ }
     requires { ⌜ RunAt (now stream) start first (now events) ⌝ }
     ensures { λ r. ⌜ Resumes s (restFrom s (now (stream .entry)) start first (now (events .entry)))
         (now (stream .entry)) start first (now (events .entry))

@@ -20,8 +20,8 @@ ghost use Rattle.model.specs.Lent.{lent};
 ghost use Rattle.model.specs.Sound.{allOnes};
 ghost use Rattle.model.specs.Inner.{SoundSlices};
 ghost use Rattle.model.specs.Runner.{laterStop};
-ghost use Rattle.layout.specs.Layout.{Placed};
-ghost use Rattle.running.specs.Resume.{kindAt, restAt, accessIn, RunAt, Ready, recordFrom, Resumes, Counted, entriesLeft};
+ghost use Rattle.layout.specs.Layout.{LaysOut};
+ghost use Rattle.running.specs.Resume.{recordKindAt, restAt, accessIn, RunAt, Ready, recordFrom, Resumes, Counted, entriesLeft};
 
 // What a record leaves: how far the run is, and how many queue places and miss entries are in use.
 pub struct Went {
@@ -45,7 +45,7 @@ const TICK: u8 = 5;
 // below `ample` there is room for its events.
 fn stop_at(stream: &[u8], at: usize, out: usize, room: usize, whole: usize, ample: usize) -> Stop
     requires { ⌜ (at < length (now stream)) × (whole ≡ length (now stream) + 1 - 13) × (ample ≡ out + room + 1 - 64) ⌝ }
-    ensures { λ r. ⌜ r ≡ laterStop room (kindAt (now (stream .entry)) at) (restAt (now (stream .entry)) at) ⌝ }
+    ensures { λ r. ⌜ r ≡ laterStop room (recordKindAt (now (stream .entry)) at) (restAt (now (stream .entry)) at) ⌝ }
 {
     let kind = stream[at];
     if (READ <= kind) & (kind <= TICK) & (at < whole) & (out < ample) {
@@ -58,7 +58,7 @@ fn stop_at(stream: &[u8], at: usize, out: usize, room: usize, whole: usize, ampl
 // The access of a record that is there whole, of kind 1 or 2.
 fn access_at(stream: &[u8], at: usize) -> Access
     requires { ⌜ at + 13 ≤ length (now stream) ⌝ }
-    ensures { λ r. ⌜ (r ≡ accessIn (kindAt (now (stream .entry)) at) (take 12 (restAt (now (stream .entry)) at))) × (maskOf r ≤ allOnes) ⌝ }
+    ensures { λ r. ⌜ (r ≡ accessIn (recordKindAt (now (stream .entry)) at) (take 12 (restAt (now (stream .entry)) at))) × (maskOf r ≤ allOnes) ⌝ }
 {
     if stream[at] == READ {
         let body = records::body_of(stream, at, READ);
@@ -144,8 +144,8 @@ fn access_record(
     words: &mut [u32],
     marks: &mut [u8],
 ) -> Went
-    requires { ⌜ Placed s laid × SoundSlices s (lent (now longs) (now words) (now marks)) × Counted s laid (now marks) queued missed ⌝ }
-    requires { ⌜ Ready (now stream) at out (now events) × (kindAt (now stream) at ≤ 2) ⌝ }
+    requires { ⌜ LaysOut s laid × SoundSlices s (lent (now longs) (now words) (now marks)) × Counted s laid (now marks) queued missed ⌝ }
+    requires { ⌜ Ready (now stream) at out (now events) × (recordKindAt (now stream) at ≤ 2) ⌝ }
     ensures { λ r. ⌜ Resumes s (recordFrom s (now (stream .entry)) at out (now (events .entry)))
         (now (stream .entry)) at out (now (events .entry))
         (lent (now (longs .entry)) (now (words .entry)) (now (marks .entry))) (r .ran)
@@ -153,14 +153,14 @@ fn access_record(
     ensures { λ r. ⌜ Counted s laid (now (marks .exit)) (r .queued) (r .missed) ⌝ }
 {
     let x = access_at(stream, at);
-    let told = access::access_counted(s, laid, longs, words, marks, x, queued, missed);
-    let written = records::put_access(told, events, out);
+    let reply = access::access_counted(s, laid, longs, words, marks, x, queued, missed);
+    let written = records::put_access(reply, events, out);
     let ran = Ran {
         stop: Stop::Nothing,
         consumed: at + records::LONGEST,
         written,
     };
-    went_on(ran, x, queued, missed, told.queues)
+    went_on(ran, x, queued, missed, reply.queues)
 }
 
 // A send.
@@ -177,16 +177,16 @@ fn send_record(
     words: &mut [u32],
     marks: &mut [u8],
 ) -> Went
-    requires { ⌜ Placed s laid × SoundSlices s (lent (now longs) (now words) (now marks)) × Counted s laid (now marks) queued missed ⌝ }
-    requires { ⌜ Ready (now stream) at out (now events) × (kindAt (now stream) at ≡ 3) ⌝ }
+    requires { ⌜ LaysOut s laid × SoundSlices s (lent (now longs) (now words) (now marks)) × Counted s laid (now marks) queued missed ⌝ }
+    requires { ⌜ Ready (now stream) at out (now events) × (recordKindAt (now stream) at ≡ 3) ⌝ }
     ensures { λ r. ⌜ Resumes s (recordFrom s (now (stream .entry)) at out (now (events .entry)))
         (now (stream .entry)) at out (now (events .entry))
         (lent (now (longs .entry)) (now (words .entry)) (now (marks .entry))) (r .ran)
         (now (events .exit)) (lent (now (longs .exit)) (now (words .exit)) (now (marks .exit))) ⌝ }
     ensures { λ r. ⌜ Counted s laid (now (marks .exit)) (r .queued) (r .missed) ⌝ }
 {
-    let told = steps::send_counted(s, laid, longs, words, marks, queued);
-    let written = records::put_sent(told, events, out);
+    let reply = steps::send_counted(s, laid, longs, words, marks, queued);
+    let written = records::put_sent(reply, events, out);
     let ran = Ran {
         stop: Stop::Nothing,
         consumed: at + 1,
@@ -213,8 +213,8 @@ fn fill_record(
     words: &mut [u32],
     marks: &mut [u8],
 ) -> Went
-    requires { ⌜ Placed s laid × SoundSlices s (lent (now longs) (now words) (now marks)) × Counted s laid (now marks) queued missed ⌝ }
-    requires { ⌜ Ready (now stream) at out (now events) × (kindAt (now stream) at ≡ 4) ⌝ }
+    requires { ⌜ LaysOut s laid × SoundSlices s (lent (now longs) (now words) (now marks)) × Counted s laid (now marks) queued missed ⌝ }
+    requires { ⌜ Ready (now stream) at out (now events) × (recordKindAt (now stream) at ≡ 4) ⌝ }
     ensures { λ r. ⌜ Resumes s (recordFrom s (now (stream .entry)) at out (now (events .entry)))
         (now (stream .entry)) at out (now (events .entry))
         (lent (now (longs .entry)) (now (words .entry)) (now (marks .entry))) (r .ran)
@@ -223,9 +223,9 @@ fn fill_record(
 {
     let body = records::body_of(stream, at, FILL);
     let address = records::number8(body, 0);
-    let told = steps::fill_counted(s, laid, longs, words, marks, missed, address);
-    let first = told.first;
-    let written = records::put_filled(told, events, out);
+    let reply = steps::fill_counted(s, laid, longs, words, marks, missed, address);
+    let first = reply.first;
+    let written = records::put_filled(reply, events, out);
     let ran = Ran {
         stop: Stop::Nothing,
         consumed: at + 1 + body.len(),
@@ -253,7 +253,7 @@ fn tick_record(
     marks: &mut [u8],
 ) -> Went
     requires { ⌜ SoundSlices s (lent (now longs) (now words) (now marks)) × Counted s laid (now marks) queued missed ⌝ }
-    requires { ⌜ Ready (now stream) at out (now events) × (kindAt (now stream) at ≡ 5) ⌝ }
+    requires { ⌜ Ready (now stream) at out (now events) × (recordKindAt (now stream) at ≡ 5) ⌝ }
     ensures { λ r. ⌜ Resumes s (recordFrom s (now (stream .entry)) at out (now (events .entry)))
         (now (stream .entry)) at out (now (events .entry))
         (lent (now (longs .entry)) (now (words .entry)) (now (marks .entry))) (r .ran)
@@ -261,8 +261,8 @@ fn tick_record(
     ensures { λ r. ⌜ Counted s laid (now (marks .exit)) (r .queued) (r .missed) ⌝ }
 {
     let body = records::body_of(stream, at, TICK);
-    let told = steps::tick_step(s, longs, words, marks, records::number4(body, 0));
-    let written = records::put_ticked(told, events, out);
+    let reply = steps::tick_step(s, longs, words, marks, records::number4(body, 0));
+    let written = records::put_ticked(reply, events, out);
     let ran = Ran {
         stop: Stop::Nothing,
         consumed: at + 1 + body.len(),
@@ -289,7 +289,7 @@ fn step_record(
     words: &mut [u32],
     marks: &mut [u8],
 ) -> Went
-    requires { ⌜ Placed s laid × SoundSlices s (lent (now longs) (now words) (now marks)) × Counted s laid (now marks) queued missed ⌝ }
+    requires { ⌜ LaysOut s laid × SoundSlices s (lent (now longs) (now words) (now marks)) × Counted s laid (now marks) queued missed ⌝ }
     requires { ⌜ Ready (now stream) at out (now events) ⌝ }
     ensures { λ r. ⌜ Resumes s (recordFrom s (now (stream .entry)) at out (now (events .entry)))
         (now (stream .entry)) at out (now (events .entry))
@@ -375,7 +375,7 @@ pub(crate) fn run_one(
     words: &mut [u32],
     marks: &mut [u8],
 ) -> Went
-    requires { ⌜ Placed s laid × SoundSlices s (lent (now longs) (now words) (now marks)) × Counted s laid (now marks) queued missed ⌝ }
+    requires { ⌜ LaysOut s laid × SoundSlices s (lent (now longs) (now words) (now marks)) × Counted s laid (now marks) queued missed ⌝ }
     requires { ⌜ RunAt (now stream) at out (now events) ⌝ }
     requires { ⌜ (at < length (now stream)) × (whole ≡ length (now stream) + 1 - 13) × (ample ≡ length (now events) + 1 - 64) ⌝ }
     ensures { λ r. ⌜ Resumes s (recordFrom s (now (stream .entry)) at out (now (events .entry)))

@@ -10,7 +10,7 @@ use Rattle.model.specs.SoundLent.{Small}
 use Rattle.model.specs.Calls.{checkCall, verdictOf}
 use Rattle.model.specs.Inner.{Encodes, SoundSlices}
 use Rattle.encoding.proofs.Bridge.{sound-encoded}
-use Rattle.layout.specs.Layout.{Placed}
+use Rattle.layout.specs.Layout.{LaysOut}
 use Rattle.layout.specs.declared.Layout.{Layout}
 use Rattle.soundness.specs.Laid.{Checks, verdictIn}
 use Rattle.soundness.specs.declared.LaidVerdict.{LaidVerdict}
@@ -23,7 +23,7 @@ module _ (S : Settings) (L : Lent) where
   pub laid-refused : {n : Refusal} → verdict.Refused n ≡ verdictOf (checkCall S L) → Checks S L (Refused n)
   laid-refused e = record { says = e; laid = λ at q. let z : _≡_ {A = ℕ} 0 1 = cc in absurd (omega arith) }
 
-  pub laid-passed : {at : Layout} → verdict.Passed ≡ verdictOf (checkCall S L) → Placed S at → Checks S L (Passed at)
+  pub laid-passed : {at : Layout} → verdict.Passed ≡ verdictOf (checkCall S L) → LaysOut S at → Checks S L (Passed at)
   laid-passed {at} e p = record { says = e; laid = λ b q. let z : at ≡ b = cc in rw (← z) p }
 
 -- ---- what it tells
@@ -43,5 +43,5 @@ module _ (S : Settings) (L : Lent) {v : LaidVerdict} (checks : Checks S L v) whe
     passed-held = record { tables = tablesOf S L; are = passed-tables }
 
     -- what the inner steps ask
-    pub passed-laid : Placed S at × SoundSlices S L
+    pub passed-laid : LaysOut S at × SoundSlices S L
     passed-laid = (checks .laid at passed, passed-held)

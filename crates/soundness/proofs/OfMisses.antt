@@ -16,7 +16,7 @@ use Rattle.model.specs.SoundLent.{linesFine, entryFor, readFor, reservedFor, ti
 use Rattle.words.proofs.Flags.{and-1, and-2, iff, not-but}
 use Rattle.words.proofs.Below.{some-same}
 use Rattle.layout.specs.declared.Layout.{Layout}
-use Rattle.layout.specs.Layout.{Placed}
+use Rattle.layout.specs.Layout.{LaysOut}
 use Rattle.layout.proofs.ByPlace.{count-read, ticket-read}
 use Rattle.soundness.proofs.FineLines.{reserved-short, own-set-reserves}
 
@@ -40,7 +40,7 @@ used-shape true true false held alone asked = refl
 used-shape true true true held alone asked = refl
 
 module _ (S : Settings) (longs words marks : List ℕ) where
-  pub ticket-kept : {at : Layout} → Placed S at → (i : ℕ)
+  pub ticket-kept : {at : Layout} → LaysOut S at → (i : ℕ)
       → not (leb (getD marks (at .counts + i / S .readers) 0) (i % S .readers) && not (eqb (getD words (at .tickets + i) 0) 0)) ≡ ticketFine S longs words marks i
   ticket-kept p i =
       rw (count-read S p marks (i / S .readers), ticket-read S p words i)

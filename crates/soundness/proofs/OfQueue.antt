@@ -11,10 +11,10 @@ use borrow.Author.Tests.{lt-leb}
 use Rattle.model.specs.declared.Settings.{Settings}
 use Rattle.words.specs.Words.{some}
 use Rattle.model.specs.Address.{goodBlock}
-use Rattle.model.specs.Lent.{queuedAt, kindAt, queueMaskAt}
+use Rattle.model.specs.Lent.{queuedAt, queueKindAt, queueMaskAt}
 use Rattle.model.specs.SoundLent.{unsentFor, placeFine}
 use Rattle.layout.specs.declared.Layout.{Layout}
-use Rattle.layout.specs.Layout.{Placed}
+use Rattle.layout.specs.Layout.{LaysOut}
 
 unused-shape : (c q : Bool) → (c && q) ≡ (q && c && true && true)
 unused-shape true true = refl
@@ -34,7 +34,7 @@ back-shape true true true false d = refl
 back-shape true true true true true = refl
 back-shape true true true true false = refl
 
-module _ (S : Settings) {at : Layout} (laid : Placed S at) (longs words marks : List ℕ) (p a k : ℕ) (address : a ≡ queuedAt S longs p) (kind : k ≡ kindAt S marks p) where
+module _ (S : Settings) {at : Layout} (laid : LaysOut S at) (longs words marks : List ℕ) (p a k : ℕ) (address : a ≡ queuedAt S longs p) (kind : k ≡ queueKindAt S marks p) where
   abbrev none : ℕ → Bool
   none i = eqb (queueMaskAt S words i) 0
 
@@ -52,13 +52,13 @@ module _ (S : Settings) {at : Layout} (laid : Placed S at) (longs words marks : 
   clean-is = rw (laid .backs)
 
   pub unused-place : k ≡ 0 → (clean && eqb a 0) ≡ placeFine S longs words marks p
-  unused-place e = let q : kindAt S marks p ≡ 0 = sym kind ∙ e in rw (clean-is, address, q, add-zero) (unused-shape noMask _)
+  unused-place e = let q : queueKindAt S marks p ≡ 0 = sym kind ∙ e in rw (clean-is, address, q, add-zero) (unused-shape noMask _)
 
   pub read-place : {r : Bool} → k ≡ 1 → r ≡ some (S .misses) (unsentFor S longs words marks a) → (clean && r) ≡ placeFine S longs words marks p
-  read-place e h = let q : kindAt S marks p ≡ 1 = sym kind ∙ e in rw (clean-is, h, address, q, add-zero) (read-shape noMask _)
+  read-place e h = let q : queueKindAt S marks p ≡ 1 = sym kind ∙ e in rw (clean-is, h, address, q, add-zero) (read-shape noMask _)
 
   pub back-place : k ≡ 2 → (goodBlock a && not clean) ≡ placeFine S longs words marks p
-  back-place e = let q : kindAt S marks p ≡ 2 = sym kind ∙ e in rw (clean-is, address, q, add-zero) (back-shape (goodBlock (queuedAt S longs p)) (none (4 * p)) (none (4 * p + 1)) (none (4 * p + 2)) (none (4 * p + 3)))
+  back-place e = let q : queueKindAt S marks p ≡ 2 = sym kind ∙ e in rw (clean-is, address, q, add-zero) (back-shape (goodBlock (queuedAt S longs p)) (none (4 * p)) (none (4 * p + 1)) (none (4 * p + 2)) (none (4 * p + 3)))
 
   pub no-kind : (k ≡ 0 → ⊥) → (k ≡ 1 → ⊥) → (k ≡ 2 → ⊥) → false ≡ placeFine S longs words marks p
-  no-kind f g h = let q : leb (kindAt S marks p) 2 ≡ false = lt-leb (kindAt S marks p) 2 (omega arith) in rw q
+  no-kind f g h = let q : leb (queueKindAt S marks p) 2 ≡ false = lt-leb (queueKindAt S marks p) 2 (omega arith) in rw q

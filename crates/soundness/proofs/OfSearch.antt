@@ -9,7 +9,7 @@ use Rattle.words.specs.Words.{countBelow}
 use Rattle.model.specs.SoundLent.{readFor}
 use Rattle.model.specs.declared.Settings.{Settings}
 use Rattle.layout.specs.declared.Layout.{Layout}
-use Rattle.layout.specs.Layout.{Placed}
+use Rattle.layout.specs.Layout.{LaysOut}
 use Rattle.soundness.specs.Queued.{Queued}
 use Rattle.words.proofs.Below.{count-short}
 
@@ -26,7 +26,7 @@ unsentRead at longs marks a e =
 abbrev pub readRead : Layout → List ℕ → List ℕ → ℕ → ℕ → Bool
 readRead at longs marks a q = eqb (getD marks (at .kinds + q) 0) 1 && eqb (getD longs (at .queue + q) 0) a
 
-module _ (S : Settings) {at : Layout} (p : Placed S at) (longs words marks : List ℕ) (a n : ℕ) where
+module _ (S : Settings) {at : Layout} (p : LaysOut S at) (longs words marks : List ℕ) (a n : ℕ) where
   pub read-counted : countBelow n (readRead at longs marks a) ≡ countBelow n (readFor S longs words marks a)
   read-counted = rw (p .kinds, p .queue)
 

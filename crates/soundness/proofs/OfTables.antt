@@ -13,37 +13,37 @@ use Rattle.words.specs.Words.{pick, every, imp}
 use Rattle.model.specs.Range.{linesOf, isTree}
 use Rattle.model.specs.Tree.{treeFine}
 use Rattle.model.specs.Sound.{lastCycle}
-use Rattle.model.specs.Lent.{nowAt, ticketCountAt, kindAt}
+use Rattle.model.specs.Lent.{nowAt, ticketCountAt, queueKindAt}
 use Rattle.model.specs.SoundLent.{gathered, nowFine, linesFine, sectorFine, ticketFine, entryFine, placeFine, soundNumbers, countFine, setFine}
 use Rattle.words.proofs.Flags.{and-1, and-2, not-yes, no-not, clash, imp-use}
 use Rattle.words.proofs.Below.{every-at}
 use Rattle.layout.specs.declared.Layout.{Layout}
-use Rattle.layout.specs.Layout.{Placed}
+use Rattle.layout.specs.Layout.{LaysOut}
 use Rattle.layout.specs.Places.{First}
 use Rattle.layout.proofs.ByPlace.{kind-read}
 use Rattle.soundness.specs.Limits.{treeLimit}
 use Rattle.soundness.specs.Queued.{Queued}
 
 -- 12 and 20, of the bytes that the code looks at
-module _ (S : Settings) {at : Layout} (p : Placed S at) (marks : List ℕ) where
+module _ (S : Settings) {at : Layout} (p : LaysOut S at) (marks : List ℕ) where
   pub counts-gathered : gathered (S .misses) (λ i. getD marks (at .counts + i) 0) ≡ gathered (S .misses) (ticketCountAt S marks)
   counts-gathered = rw (p .counts)
 
-  pub kinds-gathered : gathered (S .queue) (λ i. getD marks (at .kinds + i) 0) ≡ gathered (S .queue) (kindAt S marks)
+  pub kinds-gathered : gathered (S .queue) (λ i. getD marks (at .kinds + i) 0) ≡ gathered (S .queue) (queueKindAt S marks)
   kinds-gathered = rw (p .kinds)
 
 -- ---- where the queue ends
 
-module _ (S : Settings) {at : Layout} (p : Placed S at) (marks : List ℕ) where
-  pub queue-ends : {n : ℕ} → gathered (S .queue) (kindAt S marks) ≡ true → First marks (at .kinds) (S .queue) 0 n → Queued S marks n
+module _ (S : Settings) {at : Layout} (p : LaysOut S at) (marks : List ℕ) where
+  pub queue-ends : {n : ℕ} → gathered (S .queue) (queueKindAt S marks) ≡ true → First marks (at .kinds) (S .queue) 0 n → Queued S marks n
   queue-ends {n} g f = record { most = f .most; behind = λ k h l. let e : n + (k - n) ≡ k = omega arith in rw e at (run (k - n) (omega arith)) }
     where
-      run : (d : ℕ) → n + d < S .queue → kindAt S marks (n + d) ≡ 0
+      run : (d : ℕ) → n + d < S .queue → queueKindAt S marks (n + d) ≡ 0
       run zero h = rw add-zero (sym (kind-read S p marks n) ∙ f .there (omega arith))
       run (suc d) h =
-          let e = every-at (λ i. imp (eqb (kindAt S marks i) 0) (eqb (kindAt S marks (i + 1)) 0)) (S .queue - 1) (n + d) g (omega arith) in
+          let e = every-at (λ i. imp (eqb (queueKindAt S marks i) 0) (eqb (queueKindAt S marks (i + 1)) 0)) (S .queue - 1) (n + d) g (omega arith) in
           let s : n + d + 1 ≡ n + suc d = omega arith in
-          let z : kindAt S marks (n + d + 1) ≡ 0 = eqb-true _ _ (imp-use (eqb (kindAt S marks (n + d)) 0) _ e (eq-eqb _ _ (run d (omega arith)))) in
+          let z : queueKindAt S marks (n + d + 1) ≡ 0 = eqb-true _ _ (imp-use (eqb (queueKindAt S marks (n + d)) 0) _ e (eq-eqb _ _ (run d (omega arith)))) in
           rw s at z
 
 -- ---- the current cycle, the queue's end and the lines first
@@ -55,28 +55,28 @@ three-no true false a b c d e f g h z = refl
 three-no true true a b c d false f g h z = rw (and-false (a && b && c && d))
 three-no true true a b c d true f g h z = clash refl z
 
-module _ (S : Settings) (longs words marks : List ℕ) (q r : Bool) (kinds : q ≡ gathered (S .queue) (kindAt S marks)) (lines : r ≡ linesFine S longs words marks) where
+module _ (S : Settings) (longs words marks : List ℕ) (q r : Bool) (kinds : q ≡ gathered (S .queue) (queueKindAt S marks)) (lines : r ≡ linesFine S longs words marks) where
   abbrev first : Bool
   first = leb (nowAt words) lastCycle && q && r
 
-  firstly : first ≡ (nowFine S longs words marks && gathered (S .queue) (kindAt S marks) && linesFine S longs words marks)
+  firstly : first ≡ (nowFine S longs words marks && gathered (S .queue) (queueKindAt S marks) && linesFine S longs words marks)
   firstly = rw (kinds, lines)
 
   pub unsound : not first ≡ true → false ≡ soundNumbers S longs words marks
   unfolding soundNumbers
-  unsound t = three-no (nowFine S longs words marks) (linesFine S longs words marks) _ _ _ _ (gathered (S .queue) (kindAt S marks)) _ _ _ (sym firstly ∙ not-yes {b = first} t)
+  unsound t = three-no (nowFine S longs words marks) (linesFine S longs words marks) _ _ _ _ (gathered (S .queue) (queueKindAt S marks)) _ _ _ (sym firstly ∙ not-yes {b = first} t)
 
   module _ (t : not first ≡ false) where
-    yes : (nowFine S longs words marks && gathered (S .queue) (kindAt S marks) && linesFine S longs words marks) ≡ true
+    yes : (nowFine S longs words marks && gathered (S .queue) (queueKindAt S marks) && linesFine S longs words marks) ≡ true
     yes = sym firstly ∙ no-not {b = first} t
 
     pub lines-yes : linesFine S longs words marks ≡ true
-    lines-yes = and-2 (nowFine S longs words marks && gathered (S .queue) (kindAt S marks)) _ yes
+    lines-yes = and-2 (nowFine S longs words marks && gathered (S .queue) (queueKindAt S marks)) _ yes
 
-    both-yes : (nowFine S longs words marks && gathered (S .queue) (kindAt S marks)) ≡ true
+    both-yes : (nowFine S longs words marks && gathered (S .queue) (queueKindAt S marks)) ≡ true
     both-yes = and-1 _ (linesFine S longs words marks) yes
 
-    pub kinds-yes : gathered (S .queue) (kindAt S marks) ≡ true
+    pub kinds-yes : gathered (S .queue) (queueKindAt S marks) ≡ true
     kinds-yes = and-2 (nowFine S longs words marks) _ both-yes
 
     pub rest : {a b c d f g h : Bool}
@@ -90,7 +90,7 @@ module _ (S : Settings) (longs words marks : List ℕ) (q r : Bool) (kinds : q �
         → (a && b && c && d && f && g && h) ≡ soundNumbers S longs words marks
     unfolding soundNumbers
     rest {a} {b} {c} {d} qa qb qc qd qf qg qh =
-        let now = and-1 (nowFine S longs words marks) (gathered (S .queue) (kindAt S marks)) both-yes in
+        let now = and-1 (nowFine S longs words marks) (gathered (S .queue) (queueKindAt S marks)) both-yes in
         rw (now, lines-yes, kinds-yes, ← qa, ← qb, ← qc, ← qd, ← qf, ← qg, ← qh, and-true (a && b && c && d))
 
 -- a tree below the limit

@@ -3,15 +3,15 @@ ghost use mathlib.Core.Path.{_≡_};
 ghost use Prim.Native.Nat.{_≤_, _<_};
 ghost use Rattle.words.specs.Words.{countBelow};
 ghost use Rattle.model.specs.Range.{linesOf};
-ghost use Rattle.model.specs.Inner.{Fit};
+ghost use Rattle.model.specs.Inner.{Sized};
 ghost use Rattle.model.specs.SoundLent as is;
-ghost use Rattle.layout.specs.Layout.{Placed};
+ghost use Rattle.layout.specs.Layout.{LaysOut};
 use layout::Layout;
 use model::Settings;
 
 // Some sector of line `l` is MODIFIED.
 fn dirty(s: Settings, longs: &[u64], words: &[u32], marks: &[u8], l: usize) -> bool
-    requires { ⌜ Fit s (now longs) (now words) (now marks) × (l < linesOf s) ⌝ }
+    requires { ⌜ Sized s (now longs) (now words) (now marks) × (l < linesOf s) ⌝ }
     ensures { λ r. ⌜ r ≡ is.dirtyLine s (now (longs .entry)) (now (words .entry)) (now (marks .entry)) l ⌝ }
 {
     (marks[4 * l] == 3)
@@ -22,7 +22,7 @@ fn dirty(s: Settings, longs: &[u64], words: &[u32], marks: &[u8], l: usize) -> b
 
 // How many lines have a MODIFIED sector.
 fn dirty_lines(s: Settings, longs: &[u64], words: &[u32], marks: &[u8]) -> usize
-    requires { ⌜ Fit s (now longs) (now words) (now marks) ⌝ }
+    requires { ⌜ Sized s (now longs) (now words) (now marks) ⌝ }
     ensures { λ r. ⌜ (r ≡ countBelow (linesOf s) (is.dirtyLine s (now (longs .entry)) (now (words .entry)) (now (marks .entry)))) × (r ≤ 1024) ⌝ }
 {
     let n = s.sets * s.ways;
@@ -45,7 +45,7 @@ pub(crate) fn count_fine(
     words: &[u32],
     marks: &[u8],
 ) -> bool
-    requires { ⌜ Placed s at × Fit s (now longs) (now words) (now marks) ⌝ }
+    requires { ⌜ LaysOut s at × Sized s (now longs) (now words) (now marks) ⌝ }
     ensures { λ r. ⌜ r ≡ is.countFine s (now (longs .entry)) (now (words .entry)) (now (marks .entry)) ⌝ }
 {
     let place = at.dirty;

@@ -12,14 +12,14 @@ ghost use mathlib.Core.Path.{_≡_};
 ghost use Rattle.model.specs.Lent.{lent};
 ghost use Rattle.model.specs.SoundLent.{soundNumbers};
 ghost use Rattle.model.specs.Calls.{checkCall, verdictOf};
-ghost use Rattle.model.specs.Inner.{Fit};
-ghost use Rattle.layout.specs.Layout.{Placed};
+ghost use Rattle.model.specs.Inner.{Sized};
+ghost use Rattle.layout.specs.Layout.{LaysOut};
 ghost use Rattle.soundness.specs.Laid.{Checks};
 use dirty::count_fine;
 use layout::Layout;
 use layout::gathered;
 use layout::in_range;
-use layout::laid_out;
+use layout::layout_of;
 use layout::lengths_fit;
 use layout::used;
 use lines::lines_fine;
@@ -40,7 +40,7 @@ pub enum LaidVerdict {
 
 // Refusal 3 does not apply. Lines first, and where the queue ends: what follows relies on them.
 pub fn tables_sound(s: Settings, at: Layout, longs: &[u64], words: &[u32], marks: &[u8]) -> bool
-    requires { ⌜ Placed s at × Fit s (now longs) (now words) (now marks) ⌝ }
+    requires { ⌜ LaysOut s at × Sized s (now longs) (now words) (now marks) ⌝ }
     ensures { λ r. ⌜ r ≡ soundNumbers s (now (longs .entry)) (now (words .entry)) (now (marks .entry)) ⌝ }
 {
     if !((words[0] <= 0xFFFF_FFFE)
@@ -68,7 +68,7 @@ pub fn checked_layout(s: Settings, longs: &[u64], words: &[u32], marks: &[u8]) -
     if !lengths_fit(s, longs, words, marks) {
         return LaidVerdict::Refused(Refusal::SliceLength);
     }
-    let at = laid_out(s);
+    let at = layout_of(s);
     if !tables_sound(s, at, longs, words, marks) {
         return LaidVerdict::Refused(Refusal::NotSound);
     }

@@ -7,10 +7,10 @@ ghost use lib.Dec.{eqb};
 ghost use lib.ListN.{length};
 ghost use Rattle.words.specs.Words.{every};
 ghost use Rattle.model.specs.Range.{linesOf};
-ghost use Rattle.model.specs.Inner.{Fit};
+ghost use Rattle.model.specs.Inner.{Sized};
 ghost use Rattle.model.specs.Lent.{statusAt};
 ghost use Rattle.model.specs.SoundLent as is;
-ghost use Rattle.layout.specs.Layout.{Placed};
+ghost use Rattle.layout.specs.Layout.{LaysOut};
 ghost use Rattle.soundness.specs.Shapes.{marksShape, maskShape};
 use crate::search::has_entry;
 use layout::Layout;
@@ -19,7 +19,7 @@ use model::Settings;
 
 // Some sector of line `l` isn't INVALID.
 fn live(s: Settings, longs: &[u64], words: &[u32], marks: &[u8], l: usize) -> bool
-    requires { ⌜ Fit s (now longs) (now words) (now marks) × (l < linesOf s) ⌝ }
+    requires { ⌜ Sized s (now longs) (now words) (now marks) × (l < linesOf s) ⌝ }
     ensures { λ r. ⌜ r ≡ is.live s (now (longs .entry)) (now (words .entry)) (now (marks .entry)) l ⌝ }
 {
     (marks[4 * l] != 0)
@@ -30,7 +30,7 @@ fn live(s: Settings, longs: &[u64], words: &[u32], marks: &[u8], l: usize) -> bo
 
 // No live line from `first` up to line `l` has the tag of line `l`.
 fn no_twin(s: Settings, longs: &[u64], words: &[u32], marks: &[u8], first: usize, l: usize) -> bool
-    requires { ⌜ Fit s (now longs) (now words) (now marks) × (first ≤ l) × (l < linesOf s) ⌝ }
+    requires { ⌜ Sized s (now longs) (now words) (now marks) × (first ≤ l) × (l < linesOf s) ⌝ }
     ensures { λ r. ⌜ r ≡ every (l - first) (λ w. is.apart s (now (longs .entry)) (now (words .entry)) (now (marks .entry)) l (first + w)) ⌝ }
 {
     let n = l - first;
@@ -49,7 +49,7 @@ fn no_twin(s: Settings, longs: &[u64], words: &[u32], marks: &[u8], first: usize
 
 // The conditions on one line's tag and cycles.
 fn line_fine(s: Settings, at: Layout, longs: &[u64], words: &[u32], marks: &[u8], l: usize) -> bool
-    requires { ⌜ Placed s at × Fit s (now longs) (now words) (now marks) × (l < linesOf s) ⌝ }
+    requires { ⌜ LaysOut s at × Sized s (now longs) (now words) (now marks) × (l < linesOf s) ⌝ }
     ensures { λ r. ⌜ r ≡ is.lineFine s (now (longs .entry)) (now (words .entry)) (now (marks .entry)) l ⌝ }
 {
     let tag = longs[l];
@@ -77,7 +77,7 @@ pub(crate) fn lines_fine(
     words: &[u32],
     marks: &[u8],
 ) -> bool
-    requires { ⌜ Placed s at × Fit s (now longs) (now words) (now marks) ⌝ }
+    requires { ⌜ LaysOut s at × Sized s (now longs) (now words) (now marks) ⌝ }
     ensures { λ r. ⌜ r ≡ is.linesFine s (now (longs .entry)) (now (words .entry)) (now (marks .entry)) ⌝ }
 {
     let n = s.sets * s.ways;
@@ -94,7 +94,7 @@ pub(crate) fn lines_fine(
 // Conditions 2, 3 and what 6 asks of the status. With no branch, and on behind a fault, so that the loop compiles to several sectors at
 // a time; apart from the masks, since bytes alone go four times as many.
 fn marks_shaped(s: Settings, at: Layout, longs: &[u64], words: &[u32], marks: &[u8]) -> bool
-    requires { ⌜ Placed s at × Fit s (now longs) (now words) (now marks) ⌝ }
+    requires { ⌜ LaysOut s at × Sized s (now longs) (now words) (now marks) ⌝ }
     ensures { λ r. ⌜ r ≡ every (4 * linesOf s) (marksShape s (now (marks .entry))) ⌝ }
 {
     let n = 4 * (s.sets * s.ways);
@@ -111,7 +111,7 @@ fn marks_shaped(s: Settings, at: Layout, longs: &[u64], words: &[u32], marks: &[
 
 // Conditions 4, 5 and what 6 asks of the mask, in the same way.
 fn masks_shaped(s: Settings, at: Layout, longs: &[u64], words: &[u32], marks: &[u8]) -> bool
-    requires { ⌜ Placed s at × Fit s (now longs) (now words) (now marks) ⌝ }
+    requires { ⌜ LaysOut s at × Sized s (now longs) (now words) (now marks) ⌝ }
     ensures { λ r. ⌜ r ≡ every (4 * linesOf s) (maskShape s (now (words .entry)) (now (marks .entry))) ⌝ }
 {
     let n = 4 * (s.sets * s.ways);
@@ -130,7 +130,7 @@ fn masks_shaped(s: Settings, at: Layout, longs: &[u64], words: &[u32], marks: &[
 
 // Conditions 2 to 6.
 fn sectors_shaped(s: Settings, at: Layout, longs: &[u64], words: &[u32], marks: &[u8]) -> bool
-    requires { ⌜ Placed s at × Fit s (now longs) (now words) (now marks) ⌝ }
+    requires { ⌜ LaysOut s at × Sized s (now longs) (now words) (now marks) ⌝ }
     ensures { λ r. ⌜ r ≡ every (4 * linesOf s) (is.sectorShape s (now (longs .entry)) (now (words .entry)) (now (marks .entry))) ⌝ }
 {
     marks_shaped(s, at, longs, words, marks) & masks_shaped(s, at, longs, words, marks)
@@ -145,7 +145,7 @@ fn sector_backed(
     marks: &[u8],
     i: usize,
 ) -> bool
-    requires { ⌜ Placed s at × Fit s (now longs) (now words) (now marks) × (is.linesFine s (now longs) (now words) (now marks) ≡ true) × (i < 4 * linesOf s) ⌝ }
+    requires { ⌜ LaysOut s at × Sized s (now longs) (now words) (now marks) × (is.linesFine s (now longs) (now words) (now marks) ≡ true) × (i < 4 * linesOf s) ⌝ }
     ensures { λ r. ⌜ r ≡ is.sectorBacked s (now (longs .entry)) (now (words .entry)) (now (marks .entry)) i ⌝ }
 {
     if marks[i] != 1 {
@@ -180,7 +180,7 @@ fn backed_from(
     first: usize,
     n: usize,
 ) -> bool
-    requires { ⌜ Placed s at × Fit s (now longs) (now words) (now marks) × (is.linesFine s (now longs) (now words) (now marks) ≡ true) × (first + n ≤ 4 * linesOf s) ⌝ }
+    requires { ⌜ LaysOut s at × Sized s (now longs) (now words) (now marks) × (is.linesFine s (now longs) (now words) (now marks) ≡ true) × (first + n ≤ 4 * linesOf s) ⌝ }
     ensures { λ r. ⌜ r ≡ every n (λ k. is.sectorBacked s (now (longs .entry)) (now (words .entry)) (now (marks .entry)) (first + k)) ⌝ }
 {
     let mut i = 0;
@@ -202,7 +202,7 @@ fn sixteen_backed(
     marks: &[u8],
     first: usize,
 ) -> bool
-    requires { ⌜ Placed s at × Fit s (now longs) (now words) (now marks) × (is.linesFine s (now longs) (now words) (now marks) ≡ true) × (first + 16 ≤ 4 * linesOf s) ⌝ }
+    requires { ⌜ LaysOut s at × Sized s (now longs) (now words) (now marks) × (is.linesFine s (now longs) (now words) (now marks) ≡ true) × (first + 16 ≤ 4 * linesOf s) ⌝ }
     ensures { λ r. ⌜ r ≡ every 16 (λ k. is.sectorBacked s (now (longs .entry)) (now (words .entry)) (now (marks .entry)) (first + k)) ⌝ }
 {
     if none_reserved(marks, first) {
@@ -213,7 +213,7 @@ fn sixteen_backed(
 
 // Sixteen sectors at a time, then the rest.
 fn sectors_backed(s: Settings, at: Layout, longs: &[u64], words: &[u32], marks: &[u8]) -> bool
-    requires { ⌜ Placed s at × Fit s (now longs) (now words) (now marks) × (is.linesFine s (now longs) (now words) (now marks) ≡ true) ⌝ }
+    requires { ⌜ LaysOut s at × Sized s (now longs) (now words) (now marks) × (is.linesFine s (now longs) (now words) (now marks) ≡ true) ⌝ }
     ensures { λ r. ⌜ r ≡ every (4 * linesOf s) (is.sectorBacked s (now (longs .entry)) (now (words .entry)) (now (marks .entry))) ⌝ }
 {
     let n = 4 * (s.sets * s.ways);
@@ -236,7 +236,7 @@ pub(crate) fn sectors_fine(
     words: &[u32],
     marks: &[u8],
 ) -> bool
-    requires { ⌜ Placed s at × Fit s (now longs) (now words) (now marks) × (is.linesFine s (now longs) (now words) (now marks) ≡ true) ⌝ }
+    requires { ⌜ LaysOut s at × Sized s (now longs) (now words) (now marks) × (is.linesFine s (now longs) (now words) (now marks) ≡ true) ⌝ }
     ensures { λ r. ⌜ r ≡ every (4 * linesOf s) (is.sectorFine s (now (longs .entry)) (now (words .entry)) (now (marks .entry))) ⌝ }
 {
     sectors_shaped(s, at, longs, words, marks) & sectors_backed(s, at, longs, words, marks)

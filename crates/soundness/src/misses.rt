@@ -4,9 +4,9 @@ ghost use mathlib.Core.Bool.{true};
 ghost use Prim.Native.Nat.{_+_, _*_, _<_};
 ghost use Rattle.words.specs.Words.{every, some};
 ghost use Rattle.model.specs.Address.{setIndex};
-ghost use Rattle.model.specs.Inner.{Fit};
+ghost use Rattle.model.specs.Inner.{Sized};
 ghost use Rattle.model.specs.SoundLent as is;
-ghost use Rattle.layout.specs.Layout.{Placed};
+ghost use Rattle.layout.specs.Layout.{LaysOut};
 ghost use Rattle.soundness.specs.Queued.{Queued};
 use crate::search::has_entry;
 use crate::search::reads_for;
@@ -18,7 +18,7 @@ use values::sector_index;
 
 // A line of the set of the address has its sector RESERVED. Such a line is live.
 fn set_reserves(s: Settings, longs: &[u64], words: &[u32], marks: &[u8], a: SectorAddress) -> bool
-    requires { ⌜ Fit s (now longs) (now words) (now marks) ⌝ }
+    requires { ⌜ Sized s (now longs) (now words) (now marks) ⌝ }
     ensures { λ r. ⌜ r ≡ some (s .ways) (λ w. is.reservedFor s (now (longs .entry)) (now (words .entry)) (now (marks .entry)) (a .0) (setIndex s (a .0) * s .ways + w)) ⌝ }
 {
     let block = block_of(a.0);
@@ -44,7 +44,7 @@ pub(crate) fn tickets_fine(
     words: &[u32],
     marks: &[u8],
 ) -> bool
-    requires { ⌜ Placed s at × Fit s (now longs) (now words) (now marks) ⌝ }
+    requires { ⌜ LaysOut s at × Sized s (now longs) (now words) (now marks) ⌝ }
     ensures { λ r. ⌜ r ≡ every (s .readers * s .misses) (is.ticketFine s (now (longs .entry)) (now (words .entry)) (now (marks .entry))) ⌝ }
 {
     let n = s.readers * s.misses;
@@ -69,7 +69,7 @@ fn entry_fine(
     queued: usize,
     e: usize,
 ) -> bool
-    requires { ⌜ Placed s at × Fit s (now longs) (now words) (now marks) × (is.linesFine s (now longs) (now words) (now marks) ≡ true) × Queued s (now marks) queued × (e < s .misses) ⌝ }
+    requires { ⌜ LaysOut s at × Sized s (now longs) (now words) (now marks) × (is.linesFine s (now longs) (now words) (now marks) ≡ true) × Queued s (now marks) queued × (e < s .misses) ⌝ }
     ensures { λ r. ⌜ r ≡ is.entryFine s (now (longs .entry)) (now (words .entry)) (now (marks .entry)) e ⌝ }
 {
     let count = marks[at.counts + e] as usize;
@@ -98,7 +98,7 @@ pub(crate) fn entries_fine(
     marks: &[u8],
     queued: usize,
 ) -> bool
-    requires { ⌜ Placed s at × Fit s (now longs) (now words) (now marks) × (is.linesFine s (now longs) (now words) (now marks) ≡ true) × Queued s (now marks) queued ⌝ }
+    requires { ⌜ LaysOut s at × Sized s (now longs) (now words) (now marks) × (is.linesFine s (now longs) (now words) (now marks) ≡ true) × Queued s (now marks) queued ⌝ }
     ensures { λ r. ⌜ r ≡ every (s .misses) (is.entryFine s (now (longs .entry)) (now (words .entry)) (now (marks .entry))) ⌝ }
 {
     let n = s.misses;

@@ -2,9 +2,9 @@
 ghost use mathlib.Core.Path.{_≡_};
 ghost use Prim.Native.Nat.{_<_};
 ghost use Rattle.words.specs.Words.{every};
-ghost use Rattle.model.specs.Inner.{Fit};
+ghost use Rattle.model.specs.Inner.{Sized};
 ghost use Rattle.model.specs.SoundLent as is;
-ghost use Rattle.layout.specs.Layout.{Placed};
+ghost use Rattle.layout.specs.Layout.{LaysOut};
 use crate::search::has_unsent;
 use layout::Layout;
 use model::SectorAddress;
@@ -12,7 +12,7 @@ use model::Settings;
 
 // The conditions on one queue place, by its kind.
 fn place_fine(s: Settings, at: Layout, longs: &[u64], words: &[u32], marks: &[u8], p: usize) -> bool
-    requires { ⌜ Placed s at × Fit s (now longs) (now words) (now marks) × (p < s .queue) ⌝ }
+    requires { ⌜ LaysOut s at × Sized s (now longs) (now words) (now marks) × (p < s .queue) ⌝ }
     ensures { λ r. ⌜ r ≡ is.placeFine s (now (longs .entry)) (now (words .entry)) (now (marks .entry)) p ⌝ }
 {
     let a = longs[at.queue + p];
@@ -37,7 +37,7 @@ pub(crate) fn places_fine(
     words: &[u32],
     marks: &[u8],
 ) -> bool
-    requires { ⌜ Placed s at × Fit s (now longs) (now words) (now marks) ⌝ }
+    requires { ⌜ LaysOut s at × Sized s (now longs) (now words) (now marks) ⌝ }
     ensures { λ r. ⌜ r ≡ every (s .queue) (is.placeFine s (now (longs .entry)) (now (words .entry)) (now (marks .entry))) ⌝ }
 {
     let n = s.queue;

@@ -2,9 +2,9 @@
 ghost use mathlib.Core.Path.{_≡_};
 ghost use Prim.Native.Nat.{_≤_};
 ghost use Rattle.words.specs.Words.{some, countBelow};
-ghost use Rattle.model.specs.Inner.{Fit};
+ghost use Rattle.model.specs.Inner.{Sized};
 ghost use Rattle.model.specs.SoundLent as is;
-ghost use Rattle.layout.specs.Layout.{Placed};
+ghost use Rattle.layout.specs.Layout.{LaysOut};
 ghost use Rattle.soundness.specs.Queued.{Queued};
 use layout::Layout;
 use model::SectorAddress;
@@ -20,7 +20,7 @@ pub(crate) fn has_entry(
     n: usize,
     a: SectorAddress,
 ) -> bool
-    requires { ⌜ Placed s at × Fit s (now longs) (now words) (now marks) × (n ≤ s .misses) ⌝ }
+    requires { ⌜ LaysOut s at × Sized s (now longs) (now words) (now marks) × (n ≤ s .misses) ⌝ }
     ensures { λ r. ⌜ r ≡ some n (is.entryFor s (now (longs .entry)) (now (words .entry)) (now (marks .entry)) (a .0)) ⌝ }
 {
     let mut e = 0;
@@ -44,7 +44,7 @@ pub(crate) fn has_unsent(
     marks: &[u8],
     a: SectorAddress,
 ) -> bool
-    requires { ⌜ Placed s at × Fit s (now longs) (now words) (now marks) ⌝ }
+    requires { ⌜ LaysOut s at × Sized s (now longs) (now words) (now marks) ⌝ }
     ensures { λ r. ⌜ r ≡ some (s .misses) (is.unsentFor s (now (longs .entry)) (now (words .entry)) (now (marks .entry)) (a .0)) ⌝ }
 {
     let n = s.misses;
@@ -70,7 +70,7 @@ pub(crate) fn reads_for(
     n: usize,
     a: SectorAddress,
 ) -> usize
-    requires { ⌜ Placed s at × Fit s (now longs) (now words) (now marks) × Queued s (now marks) n ⌝ }
+    requires { ⌜ LaysOut s at × Sized s (now longs) (now words) (now marks) × Queued s (now marks) n ⌝ }
     ensures { λ r. ⌜ r ≡ countBelow (s .queue) (is.readFor s (now (longs .entry)) (now (words .entry)) (now (marks .entry)) (a .0)) ⌝ }
 {
     let mut count = 0;

@@ -2,9 +2,9 @@
 ghost use mathlib.Core.Path.{_≡_};
 ghost use Prim.Native.Nat.{_≤_, _<_};
 ghost use Rattle.words.specs.Words.{every};
-ghost use Rattle.model.specs.Inner.{Fit};
+ghost use Rattle.model.specs.Inner.{Sized};
 ghost use Rattle.model.specs.SoundLent as is;
-ghost use Rattle.layout.specs.Layout.{Placed};
+ghost use Rattle.layout.specs.Layout.{LaysOut};
 ghost use Rattle.soundness.specs.Limits.{treeLimit};
 use layout::Layout;
 use model::Settings;
@@ -30,7 +30,7 @@ fn set_fine(
     most: u32,
     i: usize,
 ) -> bool
-    requires { ⌜ Placed s at × Fit s (now longs) (now words) (now marks) × (most ≡ treeLimit s) × (i < s .sets) ⌝ }
+    requires { ⌜ LaysOut s at × Sized s (now longs) (now words) (now marks) × (most ≡ treeLimit s) × (i < s .sets) ⌝ }
     ensures { λ r. ⌜ r ≡ is.setFine s (now (longs .entry)) (now (words .entry)) (now (marks .entry)) i ⌝ }
 {
     words[at.trees + i] < most
@@ -44,7 +44,7 @@ pub(crate) fn trees_fine(
     words: &[u32],
     marks: &[u8],
 ) -> bool
-    requires { ⌜ Placed s at × Fit s (now longs) (now words) (now marks) ⌝ }
+    requires { ⌜ LaysOut s at × Sized s (now longs) (now words) (now marks) ⌝ }
     ensures { λ r. ⌜ r ≡ every (s .sets) (is.setFine s (now (longs .entry)) (now (words .entry)) (now (marks .entry))) ⌝ }
 {
     let n = s.sets;

@@ -9,7 +9,7 @@ use native.Mathlib.Omega.{arith}
 use lib.ListN.{length, getD, set, length-set}
 use lib.Dec.{eqb, ltb}
 use borrow.Author.Tests.{eqb-true, ltb-true, ltb-false}
-use Rattle.words.specs.Words.{fit, all, any, one, count}
+use Rattle.words.specs.Words.{padTo, all, any, one, count}
 use Rattle.model.specs.Range.{linesOf}
 use Rattle.words.specs.Regions.{region, put, closed}
 use Rattle.model.specs.Address.{blockOf, sectorIndex, setIndex}
@@ -22,14 +22,14 @@ use Rattle.model.specs.declared.Settings.{Settings}
 use Rattle.model.specs.declared.Sector.{Sector}
 use Rattle.model.specs.declared.Refusal.the-variants.{NotSent}
 use Rattle.model.specs.declared.Event.the-variants as event
-use Rattle.model.specs.declared.Told.{Told}
+use Rattle.model.specs.declared.Reply.{Reply}
 use Rattle.words.proofs.Flags.{and-1, not-yes, no-not, no-yes, flag}
 use Rattle.words.proofs.Lists.{any-in, in-index, in-getD}
 use Rattle.words.proofs.Region.{length-region}
-use Rattle.words.proofs.Places.{take-fit}
+use Rattle.words.proofs.Places.{take-padTo}
 use Rattle.model.proofs.SoundFacts.{Sound, parts, lines-are, four-at, holder-one, entry-at, LeavesSound, holder-set, dirty-count-is, few-misses, few-tickets}
 use Rattle.layout.specs.declared.Layout.{Layout}
-use Rattle.layout.specs.Layout.{Placed}
+use Rattle.layout.specs.Layout.{LaysOut}
 use Rattle.layout.specs.Places.{First}
 use Rattle.layout.specs.Sectors.{statuses, masks, readables, someModified}
 use Rattle.tables.specs.Raw.{holdsAt}
@@ -98,9 +98,9 @@ held-order false true false c d = refl
 held-order false false b c d = refl
 
 held-of : (xs : List Sector) (tag b : ℕ) → length xs ≡ 4 → {g n0 n1 n2 n3 : ℕ} → g ≡ tag
-    → n0 ≡ getD (fit 4 (statuses xs)) 0 0 → n1 ≡ getD (fit 4 (statuses xs)) 1 0 → n2 ≡ getD (fit 4 (statuses xs)) 2 0 → n3 ≡ getD (fit 4 (statuses xs)) 3 0
+    → n0 ≡ getD (padTo 4 (statuses xs)) 0 0 → n1 ≡ getD (padTo 4 (statuses xs)) 1 0 → n2 ≡ getD (padTo 4 (statuses xs)) 2 0 → n3 ≡ getD (padTo 4 (statuses xs)) 3 0
     → (eqb g b && not (eqb n0 0 && eqb n1 0 && eqb n2 0 && eqb n3 0)) ≡ (not (all (λ s. isInvalid (s .status)) xs) && eqb tag b)
-unfolding fit
+unfolding padTo
 held-of [] tag b l e f0 f1 f2 f3 = absurd (omega arith)
 held-of (p ∷ []) tag b l e f0 f1 f2 f3 = absurd (omega arith)
 held-of (p ∷ q ∷ []) tag b l e f0 f1 f2 f3 = absurd (omega arith)
@@ -114,7 +114,7 @@ fill-held : (a : ℕ) (l : Line) → holds (blockOf a) l ≡ true → fillLine a
 unfolding fillLine
 fill-held a l e = rw e
 
-module _ (S : Settings) (t : Tables) (ok : Sound S t) {longs words marks : List ℕ} (h : ByBlocks S longs words marks t) {at : Layout} (p : Placed S at) where
+module _ (S : Settings) (t : Tables) (ok : Sound S t) {longs words marks : List ℕ} (h : ByBlocks S longs words marks t) {at : Layout} (p : LaysOut S at) where
   four : (l : ℕ) → l < length (t .lines) → length (getD (t .lines) l fresh .sectors) ≡ 4
   four l k = four-at S t ok (getD (t .lines) l fresh) (in-getD (t .lines) l fresh k)
 
@@ -187,21 +187,21 @@ module _ (S : Settings) (t : Tables) (ok : Sound S t) {longs words marks : List 
 module _ (a : ℕ) (ts : List ℕ) (few : length ts ≤ 8) where
   releasing-tells : eventsTold (releasing a ts) ≡ event.Filled a ∷ map event.Released ts
   unfolding eventsTold
-  releasing-tells = rw (take-fit 8 ts few)
+  releasing-tells = rw (take-padTo 8 ts few)
 
   releasing-tidy : tidied (releasing a ts) ≡ releasing a ts
   unfolding tidied
-  releasing-tidy = rw (take-fit 8 ts few)
+  releasing-tidy = rw (take-padTo 8 ts few)
 
 -- the one event, and then the tickets that are copied out
-pub released : (a : ℕ) (words : List ℕ) (i n : ℕ) {ts : List ℕ} {told : Told} → i + n ≤ length words → ts ≡ fit 8 (region words i n) → told ≡ telling (event.Filled a)
-    → record { first = told .first; queued = told .queued; queues = told .queues; count = n; tickets = ts }
+pub released : (a : ℕ) (words : List ℕ) (i n : ℕ) {ts : List ℕ} {reply : Reply} → i + n ≤ length words → ts ≡ padTo 8 (region words i n) → reply ≡ telling (event.Filled a)
+    → record { first = reply .first; queued = reply .queued; queues = reply .queues; count = n; tickets = ts }
     ≡ releasing a (region words i n)
 released a words i n room e f = rw (e, f, length-region words i n room)
 
 -- ---- fill, from what its parts ensure
 
-module _ (S : Settings) (a : ℕ) (t : Tables) {longs words marks : List ℕ} (i : Encodes S (lent longs words marks) t) {at : Layout} (p : Placed S at)
+module _ (S : Settings) (a : ℕ) (t : Tables) {longs words marks : List ℕ} (i : Encodes S (lent longs words marks) t) {at : Layout} (p : LaysOut S at)
     {n e : ℕ} (u : First marks (at .counts) (S .misses) 0 n) (f : First longs (at .misses) n a e) where
   ok : Sound S t
   ok = parts S t (i .soundly)
@@ -233,7 +233,7 @@ module _ (S : Settings) (a : ℕ) (t : Tables) {longs words marks : List ℕ} (i
           entry-missing S t h p (few-misses S t ok) used f (omega (arith, ltb-false e n q, f .most)) k b
           (ap (λ (v : Entry). v .address) w ∙ eqb-true (x .address) a (and-1 (entryFor a x) (x .sent) g)))))
 
-  pub fill-refused : {b : Bool} → b ≡ (ltb e n && eqb (getD marks (at .sent + e) 0) 1) → not b ≡ true → {r : Told} → r ≡ telling (event.Refused NotSent)
+  pub fill-refused : {b : Bool} → b ≡ (ltb e n && eqb (getD marks (at .sent + e) 0) 1) → not b ≡ true → {r : Reply} → r ≡ telling (event.Refused NotSent)
       → Leaves (encoded S (fill a t)) (lent longs words marks) r (lent longs words marks)
   unfolding fill
   fill-refused q z g = let w : any (sentFor a) (t .misses) ≡ false = sym (q ∙ sent-test) ∙ not-yes z in rw (g, w) (refusal-leaves NotSent (lent longs words marks))
@@ -266,15 +266,15 @@ module _ (S : Settings) (a : ℕ) (t : Tables) {longs words marks : List ℕ} (i
     few : S .readers ≤ 8 → length (ticketsOf a (t .misses)) ≤ 8
     few k = rw (tickets-are S t ok a e below is) (omega (arith, few-tickets S t ok e below))
 
-    pub fill-leaves : S .readers ≤ 8 → {r : Told} {longs₁ words₁ words₂ marks₁ marks₂ : List ℕ}
+    pub fill-leaves : S .readers ≤ 8 → {r : Reply} {longs₁ words₁ words₂ marks₁ marks₂ : List ℕ}
         → r ≡ releasing a (region words (at .tickets + S .readers * e) (getD marks (at .counts + e) 0))
         → LineFilled S at (blockOf a) (sectorIndex a) longs words marks words₁ marks₁
         → (longs₁ ≡ closed longs (at .misses + e) (n - e) 1) × (words₂ ≡ closed words₁ (at .tickets + S .readers * e) (S .readers * (n - e)) (S .readers))
         × (marks₂ ≡ closed (closed marks₁ (at .sent + e) (n - e) 1) (at .counts + e) (n - e) 1)
         → Leaves (encoded S (fill a t)) (lent longs words marks) r (lent longs₁ words₂ marks₂)
     unfolding fill
-    fill-leaves k told line gone =
-        let told : _ ≡ releasing a (ticketsOf a (t .misses)) = told ∙ ap (releasing a) tickets in
+    fill-leaves k reply line gone =
+        let reply : _ ≡ releasing a (ticketsOf a (t .misses)) = reply ∙ ap (releasing a) tickets in
         let w : any (sentFor a) (t .misses) ≡ true = sym (q ∙ sent-test) ∙ no-not z in
         let outcome : fill a t ≡ done (event.Filled a ∷ map event.Released (ticketsOf a (t .misses))) (afterFill a t) = rw w in
         let kept : Sound S (afterFill a t) = subst (LeavesSound S) outcome (fill-sound S t ok a) in
@@ -282,5 +282,5 @@ module _ (S : Settings) (a : ℕ) (t : Tables) {longs words marks : List ℕ} (i
         let count : recounted (getD (t .lines) (line .line) fresh) (fillLine a (getD (t .lines) (line .line) fresh)) (t .dirtyCount) ≡ t .dirtyCount + one (any (soiled a) (t .lines)) =
         line-count S t ok h p a line ∙ sym (eqb-true (t .dirtyCount + one (any (soiled a) (t .lines))) (count dirty (map (fillLine a) (t .lines))) (kept .counted)) in
         let left = remove-stands S after (rw count at (line-stands S t ok h p a line)) p (few-misses S t ok) e below n (omega (arith, used)) (u .most) gone in
-        done-leaves S outcome (rw told (releasing-tells a (ticketsOf a (t .misses)) (few k))) (rw told (releasing-tidy a (ticketsOf a (t .misses)) (few k)))
+        done-leaves S outcome (rw reply (releasing-tells a (ticketsOf a (t .misses)) (few k))) (rw reply (releasing-tidy a (ticketsOf a (t .misses)) (few k)))
         (stands-encode (rw (kept-others S t ok a e below is) left))

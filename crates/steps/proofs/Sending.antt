@@ -22,12 +22,12 @@ use Rattle.model.specs.declared.Queued.{Queued}
 use Rattle.model.specs.declared.Refusal.the-variants.{QueueEmpty}
 use Rattle.model.specs.declared.Event.{Event}
 use Rattle.model.specs.declared.Event.the-variants as event
-use Rattle.model.specs.declared.Told.{Told}
+use Rattle.model.specs.declared.Reply.{Reply}
 use Rattle.model.proofs.SoundFacts.{Sound, parts, few-misses, few-queued}
 use Rattle.encoding.proofs.NumbersAreTables.{fetch-number}
 use Rattle.tables.specs.Raw.{frontAt}
 use Rattle.layout.specs.declared.Layout.{Layout}
-use Rattle.layout.specs.Layout.{Placed}
+use Rattle.layout.specs.Layout.{LaysOut}
 use Rattle.layout.specs.Places.{First}
 use Rattle.tables.specs.Telling.{telling}
 use Rattle.tables.proofs.Queue.{pop-stands, head-kind, head-address, front-is, queue-counted}
@@ -46,7 +46,7 @@ first-inside {l} {i} {n} {x} {r} f w = go (decLe n r)
     go (yes b) = absurd (f .before (w .0) (omega arith) (w .2))
     go (no b) = omega arith
 
-module _ (S : Settings) (t : Tables) {longs words marks : List ℕ} (i : Encodes S (lent longs words marks) t) {at : Layout} (p : Placed S at)
+module _ (S : Settings) (t : Tables) {longs words marks : List ℕ} (i : Encodes S (lent longs words marks) t) {at : Layout} (p : LaysOut S at)
     {n : ℕ} (u : First marks (at .kinds) (S .queue) 0 n) where
   ok : Sound S t
   ok = parts S t (i .soundly)
@@ -57,7 +57,7 @@ module _ (S : Settings) (t : Tables) {longs words marks : List ℕ} (i : Encodes
   queued : n ≡ length (t .queue)
   queued = queue-counted S t i p u
 
-  pub send-empty : n ≡ 0 → {r : Told} → r ≡ telling (event.Refused QueueEmpty) → Leaves (encoded S (send t)) (lent longs words marks) r (lent longs words marks)
+  pub send-empty : n ≡ 0 → {r : Reply} → r ≡ telling (event.Refused QueueEmpty) → Leaves (encoded S (send t)) (lent longs words marks) r (lent longs words marks)
   unfolding send
   send-empty z e =
       rw e
@@ -94,13 +94,13 @@ module _ (S : Settings) (t : Tables) {longs words marks : List ℕ} (i : Encodes
       marked-stands queue.WriteBack e =
           subst (λ (l : List ℕ). ByBlocks S longs words l t) (sym (m .other (λ one. let z : _≡_ {A = ℕ} 2 1 = sym (kind-is ∙ ap queueKindNumber e) ∙ one in omega arith))) h
 
-      pub send-leaves : {longs₁ words₁ marks₂ : List ℕ} {first : Event} {r : Told}
+      pub send-leaves : {longs₁ words₁ marks₂ : List ℕ} {first : Event} {r : Reply}
           → (longs₁ ≡ closed longs (at .queue) n 1) × (words₁ ≡ closed words (at .backs) (4 * n) 4) × (marks₂ ≡ closed marks₁ (at .kinds) n 1)
           → {x : Queued} → x ≡ frontAt longs (at .queue) words (at .backs) marks (at .kinds) → first ≡ sentEvent x → r ≡ telling first
           → Leaves (encoded S (send t)) (lent longs words marks) r (lent longs₁ words₁ marks₂)
       unfolding send
       send-leaves c front f e =
-          let told = e ∙ ap telling (f ∙ ap sentEvent (front ∙ front-is S t h p (few-queued S t ok) some (head-four S t ok some))) in
+          let reply = e ∙ ap telling (f ∙ ap sentEvent (front ∙ front-is S t h p (few-queued S t ok) some (head-four S t ok some))) in
           let popped = pop-stands S (withMisses (marked head (t .misses)) t) (marked-stands (head .kind) refl) p (few-queued S t ok) n some (omega (arith, queued)) (u .most) c in
           done-leaves S {t = afterSend head (drop 1 (t .queue)) t} (ap (λ (q : List Queued). sendFrom q t) (drop-cons (t .queue) 0 idle some))
-          (rw told (telling-tells (sentEvent head))) (rw told (telling-tidy (sentEvent head))) (stands-encode popped)
+          (rw reply (telling-tells (sentEvent head))) (rw reply (telling-tidy (sentEvent head))) (stands-encode popped)

@@ -14,7 +14,7 @@ use Rattle.model.specs.Inner.{Encodes}
 use Rattle.model.specs.declared.Settings.{Settings}
 use Rattle.model.specs.declared.Refusal.the-variants.{BadCycle}
 use Rattle.model.specs.declared.Event.the-variants as event
-use Rattle.model.specs.declared.Told.{Told}
+use Rattle.model.specs.declared.Reply.{Reply}
 use Rattle.tables.specs.Telling.{telling}
 use Rattle.layout.proofs.ByBlocks.{ByBlocks, is-stands, stands-encode}
 use Rattle.tables.proofs.Tellings.{telling-tells, telling-tidy, refusal-leaves, done-leaves}
@@ -30,12 +30,12 @@ module _ (S : Settings) (c : ℕ) (t : Tables) {longs words marks : List ℕ} (i
   bad : {b : Bool} → (ltb c (getD words 0 0) || ltb lastCycle c) ≡ b → (ltb c (t .now) || ltb lastCycle c) ≡ b
   bad q = ap (λ (n : ℕ). ltb c n || ltb lastCycle c) (sym now-at) ∙ q
 
-  pub tick-refused : (ltb c (getD words 0 0) || ltb lastCycle c) ≡ true → {r : Told} → r ≡ telling (event.Refused BadCycle)
+  pub tick-refused : (ltb c (getD words 0 0) || ltb lastCycle c) ≡ true → {r : Reply} → r ≡ telling (event.Refused BadCycle)
       → Leaves (encoded S (tick c t)) (lent longs words marks) r (lent longs words marks)
   unfolding tick
   tick-refused q e = let b = bad q in rw (e, b) (refusal-leaves BadCycle (lent longs words marks))
 
-  pub tick-leaves : (ltb c (getD words 0 0) || ltb lastCycle c) ≡ false → {r : Told} → r ≡ telling event.Ticked
+  pub tick-leaves : (ltb c (getD words 0 0) || ltb lastCycle c) ≡ false → {r : Reply} → r ≡ telling event.Ticked
       → Leaves (encoded S (tick c t)) (lent longs words marks) r (lent longs (set words 0 c) marks)
   unfolding tick
   tick-leaves q e =

@@ -4,7 +4,7 @@ use Prim.Native.Nat.{ℕ, _+_, _-_, _*_, _≤_, _<_}
 use mathlib.Core.Bool.{true}
 use mathlib.Core.List.{List, [], _∷_}
 use lib.ListN.{length, getD, set, replicate}
-use Rattle.words.specs.Words.{fit, one}
+use Rattle.words.specs.Words.{padTo, one}
 use Rattle.model.specs.Range.{linesOf}
 use Rattle.model.specs.Lent.{sectorsAt}
 use Rattle.words.specs.Regions.{put}
@@ -13,7 +13,7 @@ use Rattle.model.specs.Steps.{arrived}
 use Rattle.model.specs.declared.Settings.{Settings}
 use Rattle.model.specs.declared.Sector.{Sector}
 use Rattle.model.specs.declared.Event.the-variants.{Filled}
-use Rattle.model.specs.declared.Told.{Told}
+use Rattle.model.specs.declared.Reply.{Reply}
 use Rattle.layout.specs.declared.Layout.{Layout}
 use Rattle.layout.specs.Places.{First}
 use Rattle.layout.specs.Sectors.{statuses, masks, readables, someModified}
@@ -71,11 +71,11 @@ pub record LineFilled (S : Settings) (at : Layout) (block k : ℕ) (longs words 
   pub filled : SectorFilled S at line k words marks words′ marks′
 
 -- an address filled, with the tickets released
-abbrev pub releasing : ℕ → List ℕ → Told
+abbrev pub releasing : ℕ → List ℕ → Reply
 releasing a ts = record {
   first = Filled a;
   queued = replicate 2 idle;
   queues = 0;
   count = length ts;
-  tickets = fit 8 ts;
+  tickets = padTo 8 ts;
 }

@@ -4,11 +4,11 @@ use layout::Layout;
 use model::BlockAddress;
 use model::Event;
 use model::Refusal;
+use model::Reply;
 use model::Sector;
 use model::SectorAddress;
 use model::Settings;
 use model::Status;
-use model::Told;
 ghost use mathlib.Core.Path.{_≡_};
 ghost use mathlib.Core.Bool.{true, _&&_};
 ghost use Prim.Native.Nat.{ℕ, _+_, _*_, _≤_, _<_};
@@ -19,8 +19,8 @@ ghost use Rattle.words.specs.Regions.{region};
 ghost use Rattle.model.specs.Address.{blockOf, sectorIndex, setIndex};
 ghost use Rattle.model.specs.Lent.{lent};
 ghost use Rattle.model.specs.Steps.{send, arrived, fill, tick};
-ghost use Rattle.model.specs.Inner.{Fit, SoundSlices, Does};
-ghost use Rattle.layout.specs.Layout.{Placed};
+ghost use Rattle.model.specs.Inner.{Sized, SoundSlices, Does};
+ghost use Rattle.layout.specs.Layout.{LaysOut};
 ghost use Rattle.layout.specs.Places.{First};
 ghost use Rattle.layout.specs.Sectors.{SectorRoom};
 ghost use Rattle.tables.specs.Raw.{holdsAt};
@@ -51,8 +51,8 @@ pub fn send_counted(
     words: &mut [u32],
     marks: &mut [u8],
     n: usize,
-) -> Told
-    requires { ⌜ Placed s at × SoundSlices s (lent (now longs) (now words) (now marks)) × First (now marks) (at .kinds) (s .queue) 0 n ⌝ }
+) -> Reply
+    requires { ⌜ LaysOut s at × SoundSlices s (lent (now longs) (now words) (now marks)) × First (now marks) (at .kinds) (s .queue) 0 n ⌝ }
     ensures { λ r. ⌜ Does s send (lent (now (longs .entry)) (now (words .entry)) (now (marks .entry))) r
         (lent (now (longs .exit)) (now (words .exit)) (now (marks .exit))) ⌝ }
 {
@@ -72,8 +72,8 @@ pub fn send_step(
     longs: &mut [u64],
     words: &mut [u32],
     marks: &mut [u8],
-) -> Told
-    requires { ⌜ Placed s at × SoundSlices s (lent (now longs) (now words) (now marks)) ⌝ }
+) -> Reply
+    requires { ⌜ LaysOut s at × SoundSlices s (lent (now longs) (now words) (now marks)) ⌝ }
     ensures { λ r. ⌜ Does s send (lent (now (longs .entry)) (now (words .entry)) (now (marks .entry))) r
         (lent (now (longs .exit)) (now (words .exit)) (now (marks .exit))) ⌝ }
 {
@@ -135,8 +135,8 @@ fn fill_line(
     marks: &mut [u8],
     address: u64,
 )
-    requires { ⌜ Fit s (now longs) (now words) (now marks) ⌝ }
-    requires { ⌜ Placed s at ⌝ }
+    requires { ⌜ Sized s (now longs) (now words) (now marks) ⌝ }
+    requires { ⌜ LaysOut s at ⌝ }
     requires { ⌜ Holding (now longs) (now marks) (setIndex s address * s .ways) (s .ways) (blockOf address) ⌝ }
     requires { ⌜ ((l : ℕ) → l < linesOf s → CountFits s at l (now words) (now marks)) ⌝ }
     ensures { λ _. ⌜ LineFilled s at (blockOf address) (sectorIndex address) (now (longs .entry)) (now (words .entry)) (now (marks .entry))
@@ -163,17 +163,17 @@ fn is_sent(at: Layout, marks: &[u8], e: usize, n: usize) -> bool
 }
 
 // What a fill tells: the tickets of entry `e` in order, of `readers` places an entry.
-fn release(at: Layout, words: &[u32], marks: &[u8], e: usize, readers: usize, address: u64) -> Told
+fn release(at: Layout, words: &[u32], marks: &[u8], e: usize, readers: usize, address: u64) -> Reply
     requires { ⌜ (at .counts + e < length (now marks)) × (1 ≤ getD (now marks) (at .counts + e) 0) × (getD (now marks) (at .counts + e) 0 ≤ 8) × (at .tickets + readers * e + getD (now marks) (at .counts + e) 0 ≤ length (now words)) ⌝ }
     ensures { λ r. ⌜ r ≡ releasing address (region (now (words .entry)) (at .tickets + readers * e) (getD (now (marks .entry)) (at .counts + e) 0)) ⌝ }
 {
     let m = at.counts + e;
     let count = marks[m] as usize;
     let tickets = tables::copy_out(words, at.tickets + readers * e, count);
-    let mut told = tables::blank(Event::Filled(address));
-    told.count = count;
-    told.tickets = tickets;
-    told
+    let mut reply = tables::blank(Event::Filled(address));
+    reply.count = count;
+    reply.tickets = tickets;
+    reply
 }
 
 // Of a sent sector address: its sector arrives, its entry, one of n, goes, its tickets are released in order.
@@ -185,8 +185,8 @@ pub fn fill_counted(
     marks: &mut [u8],
     n: usize,
     address: u64,
-) -> Told
-    requires { ⌜ Placed s at × SoundSlices s (lent (now longs) (now words) (now marks)) × First (now marks) (at .counts) (s .misses) 0 n ⌝ }
+) -> Reply
+    requires { ⌜ LaysOut s at × SoundSlices s (lent (now longs) (now words) (now marks)) × First (now marks) (at .counts) (s .misses) 0 n ⌝ }
     ensures { λ r. ⌜ Does s (fill address) (lent (now (longs .entry)) (now (words .entry)) (now (marks .entry))) r
         (lent (now (longs .exit)) (now (words .exit)) (now (marks .exit))) ⌝ }
 {
@@ -194,10 +194,10 @@ pub fn fill_counted(
     if !is_sent(at, marks, e, n) {
         return tables::refused(Refusal::NotSent);
     }
-    let told = release(at, words, marks, e, s.readers, address);
+    let reply = release(at, words, marks, e, s.readers, address);
     fill_line(s, at, longs, words, marks, address);
     tables::remove(at, longs, words, marks, e, n, s.readers);
-    told
+    reply
 }
 
 // The same, for a caller that doesn't know how many entries there are.
@@ -208,8 +208,8 @@ pub fn fill_step(
     words: &mut [u32],
     marks: &mut [u8],
     address: u64,
-) -> Told
-    requires { ⌜ Placed s at × SoundSlices s (lent (now longs) (now words) (now marks)) ⌝ }
+) -> Reply
+    requires { ⌜ LaysOut s at × SoundSlices s (lent (now longs) (now words) (now marks)) ⌝ }
     ensures { λ r. ⌜ Does s (fill address) (lent (now (longs .entry)) (now (words .entry)) (now (marks .entry))) r
         (lent (now (longs .exit)) (now (words .exit)) (now (marks .exit))) ⌝ }
 {
@@ -220,7 +220,7 @@ pub fn fill_step(
 // ---- tick
 
 // Sets the current cycle, if it is neither earlier nor above the limit.
-pub fn tick_step(s: Settings, longs: &[u64], words: &mut [u32], marks: &[u8], cycle: u32) -> Told
+pub fn tick_step(s: Settings, longs: &[u64], words: &mut [u32], marks: &[u8], cycle: u32) -> Reply
     requires { ⌜ SoundSlices s (lent (now longs) (now words) (now marks)) ⌝ }
     ensures { λ r. ⌜ Does s (tick cycle) (lent (now (longs .entry)) (now (words .entry)) (now (marks .entry))) r
         (lent (now (longs .entry)) (now (words .exit)) (now (marks .entry))) ⌝ }

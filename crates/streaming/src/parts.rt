@@ -16,7 +16,7 @@ ghost use lib.ListN.{length, take};
 ghost use Rattle.model.specs.Lent.{lent};
 ghost use Rattle.model.specs.Inner.{SoundSlices};
 ghost use Rattle.model.specs.Runner.{eventRoom};
-ghost use Rattle.layout.specs.Layout.{Placed};
+ghost use Rattle.layout.specs.Layout.{LaysOut};
 ghost use Rattle.running.specs.Begin.{firstRecord};
 ghost use Rattle.running.specs.Lengths.{lengthsFor, Long};
 ghost use Rattle.streaming.specs.declared.work.Next.the-variants as next;
@@ -72,7 +72,7 @@ fn run_part(
     w: Work,
     scope: Scope,
 ) -> Work
-    requires { ⌜ Placed s laid × SoundSlices s (lent (now longs) (now words) (now marks)) ⌝ }
+    requires { ⌜ LaysOut s laid × SoundSlices s (lent (now longs) (now words) (now marks)) ⌝ }
     requires { ⌜ w .have ≤ length (now buf) ⌝ }
     requires { ⌜ w .consumed + w .have < 2 ^ 64 ⌝ }
     ensures { λ r. ⌜ Ran s scope (take (w .have) (now (buf .entry))) (now (events .entry)) (lent (now (longs .entry)) (now (words .entry)) (now (marks .entry)))
@@ -102,7 +102,7 @@ fn read_part(
     w: Work,
     scope: Scope,
 ) -> Work
-    requires { ⌜ Placed s laid × Ready s scope (lent (now longs) (now words) (now marks)) (now buf) w ⌝ }
+    requires { ⌜ LaysOut s laid × Ready s scope (lent (now longs) (now words) (now marks)) (now buf) w ⌝ }
     requires { ⌜ w .next ≡ next.Read ⌝ }
     requires { ⌜ eventRoom ≤ length (now events) ⌝ }
     ensures { λ r. ⌜ Turned s scope (length (now (events .entry))) (lent (now (longs .entry)) (now (words .entry)) (now (marks .entry))) (take (w .have) (now (buf .entry)))
@@ -132,7 +132,7 @@ fn turn(
     w: Work,
     scope: Scope,
 ) -> Work
-    requires { ⌜ Placed s laid × Ready s scope (lent (now longs) (now words) (now marks)) (now buf) w ⌝ }
+    requires { ⌜ LaysOut s laid × Ready s scope (lent (now longs) (now words) (now marks)) (now buf) w ⌝ }
     requires { ⌜ goesNext (w .next) ≡ true ⌝ }
     requires { ⌜ eventRoom ≤ length (now events) ⌝ }
     ensures { λ r. ⌜ Turned s scope (length (now (events .entry))) (lent (now (longs .entry)) (now (words .entry)) (now (marks .entry))) (take (w .have) (now (buf .entry)))
@@ -162,7 +162,7 @@ pub fn run_rest(
     ensures { λ r. ⌜ Rested s scope 65536 (lent (now (longs .entry)) (now (words .entry)) (now (marks .entry))) (take (start .have) (now (buf .entry)))
         start r (now (buf .exit)) (lent (now (longs .exit)) (now (words .exit)) (now (marks .exit))) ⌝ }
 {
-    let laid = layout::laid_out(s);
+    let laid = layout::layout_of(s);
     let mut space = io::large_buffer();
     let events: &mut [u8] = &mut space;
     let mut w = start;

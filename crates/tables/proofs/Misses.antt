@@ -8,16 +8,16 @@ use native.Mathlib.Decide.{decLe}
 use native.Mathlib.Omega.{arith}
 use lib.ListN.{length, getD, set, drop, take, length-append}
 use lib.Seq.{take-take}
-use Rattle.words.specs.Words.{fit, packed, joined}
+use Rattle.words.specs.Words.{padTo, packed, joined}
 use Rattle.words.specs.Regions.{region, put, closed, dropped}
 use Rattle.model.specs.Tables.{Entry, Tables, withMisses}
 pub use Rattle.model.specs.Tables.{noEntry}
 use Rattle.model.specs.Lent.{bit, longBlocks, wordBlocks, markBlocks, missOf, sentOf, ticketCountOf, ticketsIn, lent}
 use Rattle.model.specs.declared.Settings.{Settings}
 use Rattle.model.specs.Inner.{Encodes}
-use Rattle.words.proofs.Places.{length-places, field-put, field-get, field-region, take-fit, places-same, places-push-idle, field-push, field-extend, field-close-first}
+use Rattle.words.proofs.Places.{length-places, field-put, field-get, field-region, take-padTo, places-same, places-push-idle, field-push, field-extend, field-close-first}
 use Rattle.layout.specs.declared.Layout.{Layout}
-use Rattle.layout.specs.Layout.{Placed}
+use Rattle.layout.specs.Layout.{LaysOut}
 use Rattle.layout.specs.Places.{First}
 use Rattle.layout.proofs.ByBlocks.{ByBlocks, is-stands}
 use Rattle.layout.proofs.Grown.{field-used}
@@ -36,28 +36,28 @@ region-part : (l : List ℕ) (i n w : ℕ) → n ≤ w → region l i n ≡ take
 unfolding region
 region-part l i n w h = sym (take-take n w (drop i l) h)
 
-module _ (S : Settings) (t : Tables) {longs words marks : List ℕ} (h : ByBlocks S longs words marks t) {at : Layout} (p : Placed S at) (few : length (t .misses) ≤ S .misses) where
+module _ (S : Settings) (t : Tables) {longs words marks : List ℕ} (h : ByBlocks S longs words marks t) {at : Layout} (p : LaysOut S at) (few : length (t .misses) ≤ S .misses) where
   -- ---- what is read
 
   pub misses-used : ((k : ℕ) → k < length (t .misses) → 1 ≤ length (getD (t .misses) k noEntry .tickets)) → {r : ℕ} → First marks (at .counts) (S .misses) 0 r → r ≡ length (t .misses)
-  unfolding fit
+  unfolding padTo
   misses-used some f =
       field-used ticketCountOf (S .misses) (t .misses) (markBlocks S t) 3 {i = at .counts} (h .as-marks) refl (simp length-places (omega arith)) (omega arith) few noEntry
       (λ k below e. let z : length (getD (t .misses) k noEntry .tickets) ≡ 0 = e in omega (arith, some k below)) f
 
   module _ (e : ℕ) (below : e < length (t .misses)) where
     pub address-at : getD longs (at .misses + e) 0 ≡ getD (t .misses) e noEntry .address
-    unfolding fit
+    unfolding padTo
     address-at =
         field-get missOf 1 (S .misses) (t .misses) (longBlocks S t) 1 e {i = at .misses + e} (h .as-longs) refl (simp length-places (omega arith)) (omega arith) below few noEntry 0 (omega arith) (omega arith)
 
     pub sent-at : getD marks (at .sent + e) 0 ≡ bit (getD (t .misses) e noEntry .sent)
-    unfolding fit
+    unfolding padTo
     sent-at =
         field-get sentOf 1 (S .misses) (t .misses) (markBlocks S t) 2 e {i = at .sent + e} (h .as-marks) refl (simp length-places (omega arith)) (omega arith) below few noEntry 0 (omega arith) (omega arith)
 
     pub count-at : getD marks (at .counts + e) 0 ≡ length (getD (t .misses) e noEntry .tickets)
-    unfolding fit
+    unfolding padTo
     count-at =
         field-get ticketCountOf 1 (S .misses) (t .misses) (markBlocks S t) 3 e {i = at .counts + e} (h .as-marks) refl (simp length-places (omega arith)) (omega arith) below few noEntry 0 (omega arith) (omega arith)
 
@@ -66,13 +66,13 @@ module _ (S : Settings) (t : Tables) {longs words marks : List ℕ} (h : ByBlock
         region-part words (at .tickets + S .readers * e) (length (getD (t .misses) e noEntry .tickets)) (S .readers) fits
         ∙ ap (take (length (getD (t .misses) e noEntry .tickets)))
         (field-region ticketsIn (S .readers) (S .misses) (t .misses) (wordBlocks S t) 3 e {i = at .tickets + S .readers * e} (h .as-words) refl (simp length-places (omega arith)) (omega arith) below few noEntry)
-        ∙ take-fit (S .readers) (getD (t .misses) e noEntry .tickets) fits
+        ∙ take-padTo (S .readers) (getD (t .misses) e noEntry .tickets) fits
 
     -- ---- what is written
 
     -- its sent mark
     pub sent-stands : {marks′ : List ℕ} → marks′ ≡ put marks (at .sent + e) (1 ∷ []) → ByBlocks S longs words marks′ (withMisses (set (t .misses) e (withSent (getD (t .misses) e noEntry))) t)
-    unfolding fit
+    unfolding padTo
     sent-stands c =
         let y = withSent (getD (t .misses) e noEntry) in record {
           as-longs = rw (places-same missOf 1 (S .misses) e (t .misses) noEntry y refl) (h .as-longs);
@@ -99,10 +99,10 @@ module _ (S : Settings) (t : Tables) {longs words marks : List ℕ} (h : ByBlock
     pub append-stands : (k n : ℕ) → n ≡ length (getD (t .misses) e noEntry .tickets) → n < S .readers → {words′ marks′ : List ℕ}
         → (words′ ≡ put words (at .tickets + S .readers * e + n) (k ∷ [])) × (marks′ ≡ put marks (at .counts + e) ((n + 1) ∷ []))
         → ByBlocks S longs words′ marks′ (withMisses (set (t .misses) e (withTicket k (getD (t .misses) e noEntry))) t)
-    unfolding fit
+    unfolding padTo
     append-stands k n is room c =
         let y = withTicket k (getD (t .misses) e noEntry) in
-        let one : ((n + 1) ∷ []) ≡ fit 1 (ticketCountOf (withTicket k (getD (t .misses) e noEntry))) = rw (length-append, is) in
+        let one : ((n + 1) ∷ []) ≡ padTo 1 (ticketCountOf (withTicket k (getD (t .misses) e noEntry))) = rw (length-append, is) in
         record {
           as-longs = rw (places-same missOf 1 (S .misses) e (t .misses) noEntry y refl) (h .as-longs);
           as-words = field-extend ticketsIn (S .readers) (S .misses) (t .misses) (wordBlocks S t) 3 (h .as-words) refl (omega arith) few e noEntry y (k ∷ []) (simp length-places (omega arith)) below (omega arith) refl (c .0);
@@ -114,7 +114,7 @@ module _ (S : Settings) (t : Tables) {longs words marks : List ℕ} (h : ByBlock
   pub new-entry-stands : (a k n : ℕ) → n ≡ length (t .misses) → n < S .misses → 1 ≤ S .readers → {longs′ words′ marks′ : List ℕ}
       → (longs′ ≡ put longs (at .misses + n) (a ∷ [])) × (words′ ≡ put words (at .tickets + S .readers * n) (k ∷ [])) × (marks′ ≡ put marks (at .counts + n) (1 ∷ []))
       → ByBlocks S longs′ words′ marks′ (withMisses (t .misses ++ (unsent a k ∷ [])) t)
-  unfolding fit
+  unfolding padTo
   new-entry-stands a k n is room some c =
       let w : S .readers * n ≡ S .readers * length (t .misses) = ap (λ (x : ℕ). S .readers * x) is in
       record {
@@ -143,6 +143,6 @@ module _ (S : Settings) (t : Tables) {longs words marks : List ℕ} (h : ByBlock
       go (no b) = absurd (f .before k (omega arith) (address-at k below ∙ q))
 
 -- how many entries are in use, of slices that hold sound tables
-pub misses-counted : (S : Settings) {longs words marks : List ℕ} (t : Tables) → Encodes S (lent longs words marks) t → {at : Layout} → Placed S at
+pub misses-counted : (S : Settings) {longs words marks : List ℕ} (t : Tables) → Encodes S (lent longs words marks) t → {at : Layout} → LaysOut S at
     → {n : ℕ} → First marks (at .counts) (S .misses) 0 n → n ≡ length (t .misses)
 misses-counted S t i p u = let ok = parts S t (i .soundly) in misses-used S t (is-stands i) p (few-misses S t ok) (some-tickets S t ok) u

@@ -4,7 +4,7 @@ use mathlib.Core.List.{List, [], _∷_, _++_}
 use Prim.Native.Nat.{ℕ, _+_, _*_, _≤_, _<_}
 use native.Mathlib.Omega.{arith}
 use lib.ListN.{length, getD, drop}
-use Rattle.words.specs.Words.{fit}
+use Rattle.words.specs.Words.{padTo}
 use Rattle.words.specs.Regions.{put, closed, offsetIn}
 use Rattle.model.specs.Tables.{idle, Tables, withQueue}
 use Rattle.model.specs.Numbers.{queueKindNumber, queueKindOf}
@@ -12,20 +12,20 @@ use Rattle.model.specs.Lent.{longBlocks, wordBlocks, markBlocks, queuedOf, queu
 use Rattle.model.specs.declared.Settings.{Settings}
 use Rattle.model.specs.declared.Queued.{Queued}
 use Rattle.model.specs.Inner.{Encodes}
-use Rattle.words.proofs.Places.{length-places, field-get, fit-get, field-push, field-close-first}
+use Rattle.words.proofs.Places.{length-places, field-get, padTo-get, field-push, field-close-first}
 use Rattle.words.proofs.Lists.{four-whole}
 use Rattle.encoding.proofs.NumbersAreTables.{kind-some, kind-back, queued-back}
 use Rattle.tables.specs.Raw.{frontAt}
 use Rattle.layout.specs.declared.Layout.{Layout}
-use Rattle.layout.specs.Layout.{Placed}
+use Rattle.layout.specs.Layout.{LaysOut}
 use Rattle.layout.specs.Places.{First}
 use Rattle.tables.proofs.Ones.{dropped-first}
 use Rattle.layout.proofs.ByBlocks.{ByBlocks, is-stands}
 use Rattle.layout.proofs.Grown.{field-used}
 use Rattle.model.proofs.SoundFacts.{parts, few-queued}
 
-kind-used : (x : Queued) → getD (fit 1 (kindOf x)) 0 0 ≡ 0 → ⊥
-unfolding fit
+kind-used : (x : Queued) → getD (padTo 1 (kindOf x)) 0 0 ≡ 0 → ⊥
+unfolding padTo
 kind-used x = kind-some (x .kind)
 
 -- a queue's entry, read off its numbers
@@ -34,7 +34,7 @@ front-of : (x : Queued) → length (x .masks) ≡ 4 → {k a m0 m1 m2 m3 : ℕ} 
     → record { kind = queueKindOf k; address = a; masks = m0 ∷ m1 ∷ m2 ∷ m3 ∷ [] } ≡ x
 front-of x four e f g0 g1 g2 g3 = queued-back x (ap queueKindOf e ∙ kind-back (x .kind)) f (rw (g0, g1, g2, g3) (four-whole 0 (x .masks) four))
 
-module _ (S : Settings) (t : Tables) {longs words marks : List ℕ} (h : ByBlocks S longs words marks t) {at : Layout} (p : Placed S at) (few : length (t .queue) ≤ S .queue) where
+module _ (S : Settings) (t : Tables) {longs words marks : List ℕ} (h : ByBlocks S longs words marks t) {at : Layout} (p : LaysOut S at) (few : length (t .queue) ≤ S .queue) where
   pub queue-used : {r : ℕ} → First marks (at .kinds) (S .queue) 0 r → r ≡ length (t .queue)
   queue-used f =
       field-used kindOf (S .queue) (t .queue) (markBlocks S t) 4 {i = at .kinds} (h .as-marks) refl (simp length-places (omega arith)) (omega arith) few idle
@@ -66,12 +66,12 @@ module _ (S : Settings) (t : Tables) {longs words marks : List ℕ} (h : ByBlock
 
   module _ (some : 1 ≤ length (t .queue)) where
     pub head-kind : getD marks (at .kinds) 0 ≡ queueKindNumber (getD (t .queue) 0 idle .kind)
-    unfolding fit
+    unfolding padTo
     head-kind =
         field-get kindOf 1 (S .queue) (t .queue) (markBlocks S t) 4 0 {i = at .kinds} (h .as-marks) refl (simp length-places (omega arith)) (omega arith) some few idle 0 (omega arith) (omega arith)
 
     pub head-address : getD longs (at .queue) 0 ≡ getD (t .queue) 0 idle .address
-    unfolding fit
+    unfolding padTo
     head-address =
         field-get queuedOf 1 (S .queue) (t .queue) (longBlocks S t) 2 0 {i = at .queue} (h .as-longs) refl (simp length-places (omega arith)) (omega arith) some few idle 0 (omega arith) (omega arith)
 
@@ -79,7 +79,7 @@ module _ (S : Settings) (t : Tables) {longs words marks : List ℕ} (h : ByBlock
     head-mask j q b f =
         let start : at .backs ≡ offsetIn (wordBlocks S t) 4 + 4 * 0 = simp length-places (omega arith) in
         field-get queueMasksOf 4 (S .queue) (t .queue) (wordBlocks S t) 4 0 {i = at .backs} (h .as-words) refl start (omega arith) some few idle j b f
-        ∙ fit-get 4 (getD (t .queue) 0 idle .masks) j b
+        ∙ padTo-get 4 (getD (t .queue) 0 idle .masks) j b
 
     pub front-is : length (getD (t .queue) 0 idle .masks) ≡ 4 → frontAt longs (at .queue) words (at .backs) marks (at .kinds) ≡ getD (t .queue) 0 idle
     front-is four =
@@ -87,6 +87,6 @@ module _ (S : Settings) (t : Tables) {longs words marks : List ℕ} (h : ByBlock
         (head-mask 0 (at .backs) (omega arith) (omega arith)) (head-mask 1 (at .backs + 1) (omega arith) refl) (head-mask 2 (at .backs + 2) (omega arith) refl) (head-mask 3 (at .backs + 3) (omega arith) refl)
 
 -- how many places are in use, of slices that hold sound tables
-pub queue-counted : (S : Settings) {longs words marks : List ℕ} (t : Tables) → Encodes S (lent longs words marks) t → {at : Layout} → Placed S at
+pub queue-counted : (S : Settings) {longs words marks : List ℕ} (t : Tables) → Encodes S (lent longs words marks) t → {at : Layout} → LaysOut S at
     → {n : ℕ} → First marks (at .kinds) (S .queue) 0 n → n ≡ length (t .queue)
 queue-counted S t i p u = queue-used S t (is-stands i) p (few-queued S t (parts S t (i .soundly))) u

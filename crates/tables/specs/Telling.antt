@@ -2,9 +2,9 @@
 use lib.ListN.{replicate}
 use Rattle.model.specs.Tables.{idle}
 use Rattle.model.specs.declared.Event.{Event}
-use Rattle.model.specs.declared.Told.{Told}
+use Rattle.model.specs.declared.Reply.{Reply}
 
-abbrev pub telling : Event → Told
+abbrev pub telling : Event → Reply
 telling e = record {
   first = e;
   queued = replicate 2 idle;

@@ -5,8 +5,8 @@ use model::BlockAddress;
 use model::Event;
 use model::Queued;
 use model::Refusal;
+use model::Reply;
 use model::SectorAddress;
-use model::Told;
 use values::idle;
 use values::queue_kind_number;
 use values::queue_kind_of;
@@ -15,7 +15,7 @@ ghost use Prim.Native.Nat.{_+_, _-_, _*_, _≤_, _<_};
 ghost use mathlib.Core.List.{[], _∷_};
 ghost use lib.ListN.{length, replicate};
 ghost use lib.Dec.{eqb};
-ghost use Rattle.words.specs.Words.{fit};
+ghost use Rattle.words.specs.Words.{padTo};
 ghost use Rattle.model.specs.Numbers.{queueKindNumber};
 ghost use Rattle.words.specs.Regions.{region, put, closed};
 ghost use Rattle.model.specs.declared.Event.the-variants as event;
@@ -24,10 +24,10 @@ ghost use Rattle.tables.specs.Raw.{frontAt, statusesAt, unusedAt, holdsA
 ghost use Rattle.tables.specs.Telling.{telling};
 
 // One event and no more.
-pub fn blank(first: Event) -> Told
+pub fn blank(first: Event) -> Reply
     ensures { λ r. ⌜ r ≡ telling first ⌝ }
 {
-    Told {
+    Reply {
         first,
         queued: [idle(); 2],
         queues: 0,
@@ -37,7 +37,7 @@ pub fn blank(first: Event) -> Told
 }
 
 // What a refused call tells.
-pub fn refused(n: Refusal) -> Told
+pub fn refused(n: Refusal) -> Reply
     ensures { λ r. ⌜ r ≡ telling (event.Refused n) ⌝ }
 {
     blank(Event::Refused(n))
@@ -117,7 +117,7 @@ pub fn find_entry(longs: &[u64], at: usize, n: usize, address: SectorAddress) ->
 // `n` numbers from `at`, then zeros. Mostly there is one, which asks for no loop.
 pub fn copy_out(words: &[u32], at: usize, n: usize) -> [u32; 8]
     requires { ⌜ (1 ≤ n) × (n ≤ 8) × (at + n ≤ length (now words)) ⌝ }
-    ensures { λ r. ⌜ r ≡ fit 8 (region (now (words .entry)) at n) ⌝ }
+    ensures { λ r. ⌜ r ≡ padTo 8 (region (now (words .entry)) at n) ⌝ }
 {
     let mut out = [0u32; 8];
     out[0] = words[at];

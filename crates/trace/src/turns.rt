@@ -16,7 +16,7 @@ ghost use Prim.Native.Nat.{_≤_};
 ghost use lib.ListN.{length};
 ghost use Rattle.model.specs.Lent.{lent};
 ghost use Rattle.model.specs.Inner.{SoundSlices};
-ghost use Rattle.layout.specs.Layout.{Placed};
+ghost use Rattle.layout.specs.Layout.{LaysOut};
 ghost use Rattle.trace.specs.Offers.{offered, refusalOf};
 ghost use Rattle.trace.specs.Turns.{Traced};
 
@@ -116,7 +116,7 @@ fn put_wait(
     out: &mut [u8],
     at: usize,
 ) -> usize
-    requires { ⌜ Placed s laid × SoundSlices s (lent (now longs) (now words) (now marks)) ⌝ }
+    requires { ⌜ LaysOut s laid × SoundSlices s (lent (now longs) (now words) (now marks)) ⌝ }
 {
     match refusal {
         Verdict::Passed => at,
@@ -201,7 +201,7 @@ fn put_record(
     out: &mut [u8],
     t: Turn,
 ) -> usize
-    requires { ⌜ Placed s laid × SoundSlices s (lent (now longs) (now words) (now marks)) ⌝ }
+    requires { ⌜ LaysOut s laid × SoundSlices s (lent (now longs) (now words) (now marks)) ⌝ }
 {
     let at = t.at;
     let here = std::num::wrapping_add_u64(place, at as u64);
@@ -240,7 +240,7 @@ fn trace_one(
     out: &mut [u8],
     t: Turn,
 ) -> Turn
-    requires { ⌜ Placed s laid × SoundSlices s (lent (now longs) (now words) (now marks)) ⌝ }
+    requires { ⌜ LaysOut s laid × SoundSlices s (lent (now longs) (now words) (now marks)) ⌝ }
     requires { ⌜ t .at ≤ length (now bytes) ⌝ }
     ensures { λ r. ⌜ Traced s (length (now (bytes .entry))) t r (lent (now (longs .exit)) (now (words .exit)) (now (marks .exit))) ⌝ }
 {
@@ -270,7 +270,7 @@ pub(crate) fn trace_records(
     out: &mut [u8],
     put: usize,
 ) -> Turn
-    requires { ⌜ Placed s laid × SoundSlices s (lent (now longs) (now words) (now marks)) ⌝ }
+    requires { ⌜ LaysOut s laid × SoundSlices s (lent (now longs) (now words) (now marks)) ⌝ }
     ensures { λ r. ⌜ SoundSlices s (lent (now (longs .exit)) (now (words .exit)) (now (marks .exit))) ⌝ }
 {
     let mut t = Turn {

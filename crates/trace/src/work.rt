@@ -14,7 +14,7 @@ ghost use Prim.Native.Nat.{_≤_};
 ghost use lib.ListN.{length};
 ghost use Rattle.model.specs.Lent.{lent};
 ghost use Rattle.model.specs.Inner.{SoundSlices};
-ghost use Rattle.layout.specs.Layout.{Placed};
+ghost use Rattle.layout.specs.Layout.{LaysOut};
 ghost use Rattle.streaming.specs.declared.work.Next.the-variants as next;
 ghost use Rattle.streaming.specs.Works.{goesNext, stoppedNext};
 ghost use Rattle.trace.specs.Turns.{afterRecords, endedBy, First, Standing, Reads, Turned, Over};
@@ -189,7 +189,7 @@ fn turn(
     out: &mut [u8],
     w: Work,
 ) -> Work
-    requires { ⌜ Placed s laid × SoundSlices s (lent (now longs) (now words) (now marks)) ⌝ }
+    requires { ⌜ LaysOut s laid × SoundSlices s (lent (now longs) (now words) (now marks)) ⌝ }
     ensures { λ r. ⌜ Turned s (length (now (buf .exit))) w r (lent (now (longs .exit)) (now (words .exit)) (now (marks .exit))) ⌝ }
 {
     let bytes = text::front(buf, w.have);
@@ -243,7 +243,7 @@ pub(crate) fn trace_rest(
     requires { ⌜ start .next ≡ next.Run ⌝ }
     ensures { λ r. ⌜ Over r ⌝ }
 {
-    let laid = layout::laid_out(s);
+    let laid = layout::layout_of(s);
     let mut space = io::buffer();
     let events: &mut [u8] = &mut space;
     let mut w = start;

@@ -15,7 +15,7 @@ use Rattle.model.specs.Rounds.{took}
 use Rattle.model.specs.Seen.{refusing}
 use Rattle.model.specs.declared.Event.{Event}
 use Rattle.model.specs.declared.Event.the-variants as event
-use Rattle.model.specs.declared.Told.{Told}
+use Rattle.model.specs.declared.Reply.{Reply}
 use Rattle.words.proofs.Flags.{not-yes, no-not}
 use Rattle.words.proofs.Lists.{any-append}
 use Rattle.model.proofs.SeenRounds.{Clear, unrefused, queued-clear, released-clear}
@@ -23,7 +23,7 @@ use Rattle.model.proofs.Logs.{log-append}
 use Rattle.records.specs.Stores.{Stored, Laid}
 use Rattle.records.specs.Fitting.{AllFitting}
 use Rattle.records.proofs.Stores.{was-stored, laid-then}
-use Rattle.records.proofs.Told.{fitting-append}
+use Rattle.records.proofs.Reply.{fitting-append}
 use Rattle.turns.specs.Parts.{isRefusal, noted, Noted}
 
 -- ---- what a step told
@@ -39,9 +39,9 @@ refusing-is (event.WriteBackSent b m0 m1 m2 m3) = refl
 refusing-is (event.Filled a) = refl
 refusing-is event.Ticked = refl
 
-told-refusing : (r : Told) → any refusing (eventsTold r) ≡ isRefusal (r .first)
+reply-refusing : (r : Reply) → any refusing (eventsTold r) ≡ isRefusal (r .first)
 unfolding eventsTold
-told-refusing r =
+reply-refusing r =
     rw (
       any-append,
       queued-clear (take (r .queues) (r .queued)),
@@ -50,28 +50,28 @@ told-refusing r =
       refusing-is (r .first),
     )
 
-module _ {T : Type 0} (o : Outcome T) (r : Told) (clear : Clear unrefused o) (e : eventsTold r ≡ eventsOf o) where
-  pub told-accepted : accepted o ≡ not (isRefusal (r .first))
-  told-accepted = sym (clear .clear) ∙ ap unrefused (sym e) ∙ ap not (told-refusing r)
+module _ {T : Type 0} (o : Outcome T) (r : Reply) (clear : Clear unrefused o) (e : eventsTold r ≡ eventsOf o) where
+  pub reply-accepted : accepted o ≡ not (isRefusal (r .first))
+  reply-accepted = sym (clear .clear) ∙ ap unrefused (sym e) ∙ ap not (reply-refusing r)
 
-pub noted-took : {T : Type 0} (t : T) (o : Outcome T) (r : Told) → Clear unrefused o → eventsTold r ≡ eventsOf o → noted r ≡ took t o .events
-noted-took t (refused n) r c e = let h : isRefusal (r .first) ≡ true = no-not (sym (told-accepted (refused n) r c e)) in rw h
-noted-took t (done es u) r c e = let h : isRefusal (r .first) ≡ false = not-yes (sym (told-accepted (done es u) r c e)) in rw h e
+pub noted-took : {T : Type 0} (t : T) (o : Outcome T) (r : Reply) → Clear unrefused o → eventsTold r ≡ eventsOf o → noted r ≡ took t o .events
+noted-took t (refused n) r c e = let h : isRefusal (r .first) ≡ true = no-not (sym (reply-accepted (refused n) r c e)) in rw h
+noted-took t (done es u) r c e = let h : isRefusal (r .first) ≡ false = not-yes (sym (reply-accepted (done es u) r c e)) in rw h e
 
 -- ---- what is written of it
 
 -- a refusal: nothing
-pub noted-none : (e : List ℕ) (out : ℕ) (r : Told) → isRefusal (r .first) ≡ true → Noted e out (noted r) out e
+pub noted-none : (e : List ℕ) (out : ℕ) (r : Reply) → isRefusal (r .first) ≡ true → Noted e out (noted r) out e
 unfolding records.logBytes
 noted-none e out r h = rw h record { next = omega arith; slice = refl; fits = tt }
 
 -- all that a call told, its refusal too
-pub tells : (e : List ℕ) (out : ℕ) (r : Told) {n : ℕ} {f : List ℕ} → out + length (logBytes (eventsTold r)) ≤ length e
+pub tells : (e : List ℕ) (out : ℕ) (r : Reply) {n : ℕ} {f : List ℕ} → out + length (logBytes (eventsTold r)) ≤ length e
     → Stored e out (logBytes (eventsTold r)) n f → AllFitting (eventsTold r) → Noted e out (eventsTold r) (out + n) f
 tells e out r room s fits =
     let (count, slice) = was-stored e out (logBytes (eventsTold r)) s room in record { next = omega arith; slice = slice; fits = fits }
 
-pub noted-stored : (e : List ℕ) (out : ℕ) (r : Told) {n : ℕ} {f : List ℕ} → isRefusal (r .first) ≡ false → out + length (logBytes (eventsTold r)) ≤ length e
+pub noted-stored : (e : List ℕ) (out : ℕ) (r : Reply) {n : ℕ} {f : List ℕ} → isRefusal (r .first) ≡ false → out + length (logBytes (eventsTold r)) ≤ length e
     → Stored e out (logBytes (eventsTold r)) n f → AllFitting (eventsTold r) → Noted e out (noted r) (out + n) f
 noted-stored e out r h room s fits = rw h (tells e out r room s fits)
 
@@ -89,7 +89,7 @@ noted-then xs ys u v =
     }
 
 -- at most as much as it told
-pub noted-short : (r : Told) (k : ℕ) {e : List ℕ} {out w : ℕ} {f : List ℕ} → length (logBytes (eventsTold r)) ≤ k → Noted e out (noted r) w f → w ≤ out + k
+pub noted-short : (r : Reply) (k : ℕ) {e : List ℕ} {out w : ℕ} {f : List ℕ} → length (logBytes (eventsTold r)) ≤ k → Noted e out (noted r) w f → w ≤ out + k
 unfolding records.logBytes
 noted-short r k {e} {out} {w} h n = let b : length (logBytes (noted r)) ≤ k = few (isRefusal (r .first)) in omega (arith, n .next)
   where
@@ -98,6 +98,6 @@ noted-short r k {e} {out} {w} h n = let b : length (logBytes (noted r)) ≤ k = 
     few false = h
 
 -- of a refusal nothing
-pub noted-refused : (r : Told) {e : List ℕ} {out w : ℕ} {f : List ℕ} → isRefusal (r .first) ≡ true → Noted e out (noted r) w f → w ≤ out + 0
+pub noted-refused : (r : Reply) {e : List ℕ} {out w : ℕ} {f : List ℕ} → isRefusal (r .first) ≡ true → Noted e out (noted r) w f → w ≤ out + 0
 unfolding records.logBytes
 noted-refused r {e} {out} {w} h n = let q : length (logBytes (noted r)) ≡ 0 = rw h in omega (arith, n .next)

@@ -20,13 +20,13 @@ use Rattle.model.specs.declared.Settings.{Settings}
 use Rattle.model.specs.declared.Queued.{Queued}
 use Rattle.model.specs.declared.Access.{Access}
 use Rattle.model.specs.declared.Command.the-variants as cmd
-use Rattle.model.specs.declared.Told.{Told}
+use Rattle.model.specs.declared.Reply.{Reply}
 use Rattle.encoding.proofs.Bridge.{does-tells, does-is}
 use Rattle.model.proofs.SeenRounds.{Clear, unrefused, unrefused-too, send-clear, fill-clear, access-clear, took-left}
 use Rattle.model.proofs.SoundFacts.{parts, few-misses}
 use Rattle.model.proofs.Soundness.{send-keeps-sound, fill-keeps-sound, access-keeps-sound}
 use Rattle.layout.specs.declared.Layout.{Layout}
-use Rattle.layout.specs.Layout.{Placed}
+use Rattle.layout.specs.Layout.{LaysOut}
 use Rattle.layout.specs.Places.{First}
 use Rattle.layout.proofs.ByBlocks.{is-stands}
 use Rattle.tables.proofs.Misses.{noEntry, address-at, sent-at, misses-counted}
@@ -42,7 +42,7 @@ use Rattle.words.proofs.Flags.{flag}
 -- ---- one call of a round
 
 -- a step's turn, and what was written of it
-step-turned : (S : Settings) {step : Tables → Outcome Tables} {L : Lent} {r : Told} {M : Lent} (d : Does S step L r M) (t : Tables) → Encodes S L t
+step-turned : (S : Settings) {step : Tables → Outcome Tables} {L : Lent} {r : Reply} {M : Lent} (d : Does S step L r M) (t : Tables) → Encodes S L t
     → sound S (after t (step t)) ≡ true → Clear unrefused (step t) → {e : List ℕ} {out w : ℕ} {f : List ℕ} → Noted e out (noted r) w f
     → Turned S (took t (step t)) e out w f M
 step-turned S {step} {r = r} d t i ok p n = record {
@@ -70,7 +70,7 @@ send-took S x t = go (t .queue) refl
     go [] e = rw e
     go (y ∷ q) e = rw e
 
-module _ (S : Settings) {L : Lent} {r : Told} {M : Lent} (d : Does S send L r M) where
+module _ (S : Settings) {L : Lent} {r : Reply} {M : Lent} (d : Does S send L r M) where
   pub send-bytes : SoundSlices S L → length (logBytes (eventsTold r)) ≤ 25
   send-bytes h = rw (does-tells S d (h .tables) (h .are)) (send-takes (h .tables) .most)
 
@@ -101,7 +101,7 @@ bit-set true n e f = refl
 bit-set false n e f = absurd (omega arith)
 
 -- n entries are in use, and mark r is the first of theirs that is set
-module _ (S : Settings) {longs words marks : List ℕ} (t : Tables) (i : Encodes S (lent longs words marks) t) {at : Layout} (p : Placed S at)
+module _ (S : Settings) {longs words marks : List ℕ} (t : Tables) (i : Encodes S (lent longs words marks) t) {at : Layout} (p : LaysOut S at)
     {n : ℕ} (u : First marks (at .counts) (S .misses) 0 n) {r : ℕ} (f : First marks (at .sent) n 1 r) where
   in-use : n ≡ length (t .misses)
   in-use = misses-counted S t i p u
@@ -139,7 +139,7 @@ module _ (S : Settings) {L : Lent} {v : Sent} (found : FindsSent S L v) where
   pub fills-none : v ≡ Nothing → (e : List ℕ) (out : ℕ) → Fills S L e out out e L
   fills-none q e out = record { on = λ x t i. rw (fill-at x t i q) (still-turned S t i e out); short = omega arith }
 
-  module _ {a : ℕ} (q : v ≡ At a) {r : Told} {M : Lent} (d : Does S (fill a) L r M) (h : SoundSlices S L) where
+  module _ {a : ℕ} (q : v ≡ At a) {r : Reply} {M : Lent} (d : Does S (fill a) L r M) (h : SoundSlices S L) where
     pub fill-bytes : length (logBytes (eventsTold r)) ≤ fillBytes
     fill-bytes = let i = h .are in rw (does-tells S d (h .tables) i) (step-takes S (cmd.Fill a) (h .tables) (i .range) (i .soundly) .most)
 
@@ -151,7 +151,7 @@ module _ (S : Settings) {L : Lent} {v : Sent} (found : FindsSent S L v) where
 
 -- ---- the whole round
 
-pub offer-bytes : (S : Settings) (x : Access) {L : Lent} {r : Told} {M : Lent} → Does S (access S x) L r M → SoundSlices S L → length (logBytes (eventsTold r)) ≤ 38
+pub offer-bytes : (S : Settings) (x : Access) {L : Lent} {r : Reply} {M : Lent} → Does S (access S x) L r M → SoundSlices S L → length (logBytes (eventsTold r)) ≤ 38
 offer-bytes S x d h = rw (does-tells S d (h .tables) (h .are)) (access-takes S x (h .tables) .most)
 
 module _ (S : Settings) (x : Access) {L : Lent} {e : List ℕ} {out w : ℕ} {f : List ℕ} {M : Lent} (s : Sends S L e out w f M) where
@@ -166,8 +166,8 @@ module _ (S : Settings) (x : Access) {L : Lent} {e : List ℕ} {out w : ℕ} {f 
     pub drained-held : SoundSlices S L → SoundSlices S N
     drained-held h = let u = drained (h .tables) (h .are) in record { tables = _; are = u .are }
 
-    module _ {r : Told} {O : Lent} (d : Does S (access S x) N r O) where
-      pub offers : SoundSlices S L → maskOf x ≤ allOnes → {z : ℕ} {h : List ℕ} → Noted g v (noted r) z h → Offers S x L e out record { told = r; written = z } h O
+    module _ {r : Reply} {O : Lent} (d : Does S (access S x) N r O) where
+      pub offers : SoundSlices S L → maskOf x ≤ allOnes → {z : ℕ} {h : List ℕ} → Noted g v (noted r) z h → Offers S x L e out record { reply = r; written = z } h O
       offers held small {z} n =
           let k = drained-held held in
           let b = noted-short r 38 (offer-bytes S x d k) n in
@@ -188,7 +188,7 @@ module _ (S : Settings) (x : Access) {L : Lent} {e : List ℕ} {out w : ℕ} {f 
 
 -- ---- how many rounds
 
-module _ (S : Settings) {longs words marks : List ℕ} {at : Layout} (p : Placed S at)
+module _ (S : Settings) {longs words marks : List ℕ} {at : Layout} (p : LaysOut S at)
     {q : ℕ} (f : First marks (at .kinds) (S .queue) 0 q) {m : ℕ} (u : First marks (at .counts) (S .misses) 0 m) where
   pub counted : (t : Tables) → Encodes S (lent longs words marks) t → (q ≡ length (t .queue)) × (m ≡ length (t .misses))
   counted t i = (queue-counted S t i p f, misses-counted S t i p u)

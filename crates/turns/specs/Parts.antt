@@ -17,7 +17,7 @@ use Rattle.model.specs.declared.Settings.{Settings}
 use Rattle.model.specs.declared.Access.{Access}
 use Rattle.model.specs.declared.Event.{Event}
 use Rattle.model.specs.declared.Event.the-variants.{Answered, Refused, ReadQueued, WriteBackQueued, Released, ReadSent, WriteBackSent, Filled, Ticked}
-use Rattle.model.specs.declared.Told.{Told}
+use Rattle.model.specs.declared.Reply.{Reply}
 use Rattle.records.specs.Fitting.{AllFitting}
 use Rattle.turns.specs.declared.Sent.{Sent}
 use Rattle.turns.specs.declared.Sent.the-variants.{At, Nothing}
@@ -37,7 +37,7 @@ isRefusal (Filled a) = false
 isRefusal Ticked = false
 
 -- "0x11 is left out and nothing else"
-abbrev pub noted : Told → List Event
+abbrev pub noted : Reply → List Event
 noted r = pick (isRefusal (r .first)) [] (eventsTold r)
 
 -- the bytes of these events stand behind the first `out`, and every number of theirs fits its bytes
@@ -73,15 +73,15 @@ pub record Fills (S : Settings) (L : Lent) (e : List ℕ) (out w : ℕ) (f : Lis
 -- a round whose offer came to o on the tables u, which its send and fill left
 pub record Offered (S : Settings) (a : Turn Tables) (o : Outcome Tables) (e : List ℕ) (out : ℕ) (r : Round) (f : List ℕ) (M : Lent) : Type 0 where
   pub are : Encodes S M (after (a .left) o)
-  pub tells : eventsTold (r .told) ≡ eventsOf o
-  pub tidy : tidied (r .told) ≡ r .told
+  pub tells : eventsTold (r .reply) ≡ eventsOf o
+  pub tidy : tidied (r .reply) ≡ r .reply
   pub bytes : Noted e out (a .events ++ took (a .left) o .events) (r .written) f
 
 pub record Offers (S : Settings) (x : Access) (L : Lent) (e : List ℕ) (out : ℕ) (r : Round) (f : List ℕ) (M : Lent) : Type 0 where
   pub on : (t : Tables) → Encodes S L t → Offered S (drain (steps S x) t) (access S x (drain (steps S x) t .left)) e out r f M
   pub short : r .written ≤ out + roundBytes
   -- a send and a fill alone
-  pub refused : isRefusal (r .told .first) ≡ true → r .written ≤ out + settleBytes
+  pub refused : isRefusal (r .reply .first) ≡ true → r .written ≤ out + settleBytes
 
 -- ---- how many rounds settle it
 

@@ -3,8 +3,8 @@
 use layout::Layout;
 use model::Access;
 use model::Event;
+use model::Reply;
 use model::Settings;
-use model::Told;
 ghost use mathlib.Core.Path.{_≡_};
 ghost use mathlib.Core.Bool.{not};
 ghost use Prim.Native.Nat.{_+_, _≤_};
@@ -15,12 +15,12 @@ ghost use Rattle.model.specs.Lent.{lent};
 ghost use Rattle.model.specs.Calls.{eventsTold};
 ghost use Rattle.model.specs.Inner.{SoundSlices};
 ghost use Rattle.model.specs.Records.{logBytes, fillBytes, roundBytes};
-ghost use Rattle.layout.specs.Layout.{Placed};
+ghost use Rattle.layout.specs.Layout.{LaysOut};
 ghost use Rattle.turns.specs.Parts.{isRefusal, noted, Noted, FindsSent, Sends, Fills, Offers, Enough};
 
 // One round: what its offer told, and the bytes of events up to and with this round.
 pub struct Round {
-    pub told: Told,
+    pub reply: Reply,
     pub written: usize,
 }
 
@@ -60,20 +60,20 @@ fn is_refusal(e: Event) -> bool
 }
 
 // Whether a call was accepted.
-pub fn accepted(told: Told) -> bool
-    ensures { λ r. ⌜ r ≡ not (isRefusal (told .first)) ⌝ }
+pub fn accepted(reply: Reply) -> bool
+    ensures { λ r. ⌜ r ≡ not (isRefusal (reply .first)) ⌝ }
 {
-    let first = told.first;
+    let first = reply.first;
     !is_refusal(first)
 }
 
 // Writes what an accepted call told behind `out` bytes; of a refused one nothing.
-fn note(told: Told, events: &mut [u8], out: usize) -> usize
-    requires { ⌜ out + length (logBytes (eventsTold told)) ≤ length (now events) ⌝ }
-    ensures { λ r. ⌜ Noted (now (events .entry)) out (noted told) r (now (events .exit)) ⌝ }
+fn note(reply: Reply, events: &mut [u8], out: usize) -> usize
+    requires { ⌜ out + length (logBytes (eventsTold reply)) ≤ length (now events) ⌝ }
+    ensures { λ r. ⌜ Noted (now (events .entry)) out (noted reply) r (now (events .exit)) ⌝ }
 {
-    if accepted(told) {
-        let n = records::write_told(told, events, out);
+    if accepted(reply) {
+        let n = records::write_reply(reply, events, out);
         return out + n;
     }
     out
@@ -81,7 +81,7 @@ fn note(told: Told, events: &mut [u8], out: usize) -> usize
 
 // The first entry marked sent, the oldest.
 pub fn first_sent(s: Settings, at: Layout, longs: &[u64], words: &[u32], marks: &[u8]) -> Sent
-    requires { ⌜ Placed s at × SoundSlices s (lent (now longs) (now words) (now marks)) ⌝ }
+    requires { ⌜ LaysOut s at × SoundSlices s (lent (now longs) (now words) (now marks)) ⌝ }
     ensures { λ r. ⌜ FindsSent s (lent (now (longs .entry)) (now (words .entry)) (now (marks .entry))) r ⌝ }
 {
     let n = layout::used(marks, at.counts, s.misses);
@@ -103,13 +103,13 @@ fn send_turn(
     events: &mut [u8],
     out: usize,
 ) -> usize
-    requires { ⌜ Placed s at × SoundSlices s (lent (now longs) (now words) (now marks)) ⌝ }
+    requires { ⌜ LaysOut s at × SoundSlices s (lent (now longs) (now words) (now marks)) ⌝ }
     requires { ⌜ out + 25 ≤ length (now events) ⌝ }
     ensures { λ r. ⌜ Sends s (lent (now (longs .entry)) (now (words .entry)) (now (marks .entry))) (now (events .entry)) out r
         (now (events .exit)) (lent (now (longs .exit)) (now (words .exit)) (now (marks .exit))) ⌝ }
 {
-    let told = steps::send_step(s, at, longs, words, marks);
-    note(told, events, out)
+    let reply = steps::send_step(s, at, longs, words, marks);
+    note(reply, events, out)
 }
 
 // Fills the oldest sent miss, if there is one.
@@ -122,15 +122,15 @@ fn fill_turn(
     events: &mut [u8],
     out: usize,
 ) -> usize
-    requires { ⌜ Placed s at × SoundSlices s (lent (now longs) (now words) (now marks)) ⌝ }
+    requires { ⌜ LaysOut s at × SoundSlices s (lent (now longs) (now words) (now marks)) ⌝ }
     requires { ⌜ out + fillBytes ≤ length (now events) ⌝ }
     ensures { λ r. ⌜ Fills s (lent (now (longs .entry)) (now (words .entry)) (now (marks .entry))) (now (events .entry)) out r
         (now (events .exit)) (lent (now (longs .exit)) (now (words .exit)) (now (marks .exit))) ⌝ }
 {
     match first_sent(s, at, longs, words, marks) {
         Sent::At(address) => {
-            let told = steps::fill_step(s, at, longs, words, marks, address);
-            note(told, events, out)
+            let reply = steps::fill_step(s, at, longs, words, marks, address);
+            note(reply, events, out)
         }
         Sent::Nothing => out,
     }
@@ -147,21 +147,21 @@ pub fn one_round(
     events: &mut [u8],
     out: usize,
 ) -> Round
-    requires { ⌜ Placed s at × SoundSlices s (lent (now longs) (now words) (now marks)) ⌝ }
+    requires { ⌜ LaysOut s at × SoundSlices s (lent (now longs) (now words) (now marks)) ⌝ }
     requires { ⌜ (out + roundBytes ≤ length (now events)) × (maskOf x ≤ allOnes) ⌝ }
     ensures { λ r. ⌜ Offers s x (lent (now (longs .entry)) (now (words .entry)) (now (marks .entry))) (now (events .entry)) out r
         (now (events .exit)) (lent (now (longs .exit)) (now (words .exit)) (now (marks .exit))) ⌝ }
 {
     let sent = send_turn(s, at, longs, words, marks, events, out);
     let filled = fill_turn(s, at, longs, words, marks, events, sent);
-    let told = access::access_step(s, at, longs, words, marks, x);
-    let written = note(told, events, filled);
-    Round { told, written }
+    let reply = access::access_step(s, at, longs, words, marks, x);
+    let written = note(reply, events, filled);
+    Round { reply, written }
 }
 
 // Queue entries and miss entries together, and at least 1.
 pub fn most_rounds(s: Settings, at: Layout, longs: &[u64], words: &[u32], marks: &[u8]) -> usize
-    requires { ⌜ Placed s at × SoundSlices s (lent (now longs) (now words) (now marks)) ⌝ }
+    requires { ⌜ LaysOut s at × SoundSlices s (lent (now longs) (now words) (now marks)) ⌝ }
     ensures { λ r. ⌜ Enough s (lent (now (longs .entry)) (now (words .entry)) (now (marks .entry))) r ⌝ }
 {
     let queued = layout::used(marks, at.kinds, s.queue);

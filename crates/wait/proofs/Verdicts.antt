@@ -48,8 +48,8 @@ module _ {S : Settings} {x : Access} {most : ℕ} {L₀ : Lent} {e₀ : List ℕ
   call : waitCall S x L₀ .waiting ≡ settled run .waiting
   call = ap (λ (w : Wait Lent). w .waiting) (wait-formed S x L₀ (held .tables) (held .are) formed enough)
 
-  pub ends-accepted : round < most → {r : Round} {f : List ℕ} {M : Lent} → Offers S x L e out r f M → isRefusal (r .told .first) ≡ false → waitRoom ≤ length e₀
-      → wait.Accepted (round + 1) (r .told .first) ≡ waitCall S x L₀ .waiting
+  pub ends-accepted : round < most → {r : Round} {f : List ℕ} {M : Lent} → Offers S x L e out r f M → isRefusal (r .reply .first) ≡ false → waitRoom ≤ length e₀
+      → wait.Accepted (round + 1) (r .reply .first) ≡ waitCall S x L₀ .waiting
   ends-accepted more made q room = goes-accepted g more made q (enough .few) room .on (held .tables) (held .are) .waiting ∙ sym call
 
   pub ends-held : most ≤ round → wait.Held ≡ waitCall S x L₀ .waiting

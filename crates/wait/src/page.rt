@@ -4,8 +4,8 @@ use model::Access;
 use model::Command;
 use model::Event;
 use model::Refusal;
+use model::Reply;
 use model::Stop;
-use model::Told;
 use records::Item;
 use rounds::Waiting;
 use wording::commands;
@@ -93,14 +93,14 @@ fn put_events(s: &[u8], out: &mut [u8], at: usize) -> usize {
 }
 
 // A refused offer writes no event, and is told by its refusal.
-pub(crate) fn put_round(round: usize, events: &[u8], told: Told, out: &mut [u8]) -> usize {
+pub(crate) fn put_round(round: usize, events: &[u8], reply: Reply, out: &mut [u8]) -> usize {
     let a = stops::put_number(b"round ", round as u64, out, 0);
     let b = text::put_text(b"\n", out, a);
     let c = put_events(events, out, b);
-    if turns::accepted(told) {
+    if turns::accepted(reply) {
         return c;
     }
-    let refusal = told.first;
+    let refusal = reply.first;
     put_event(refusal, out, c)
 }
 

@@ -6,8 +6,8 @@ use libc::STDERR_FILENO;
 use libc::STDOUT_FILENO;
 use model::Access;
 use model::Command;
+use model::Reply;
 use model::Stop;
-use model::Told;
 use rounds::Waiting;
 
 // Prints the first n bytes of a page; says whether they went.
@@ -32,12 +32,12 @@ pub(crate) fn start(x: Access, place: u64, n: Counts, most: usize) -> bool {
 }
 
 // One round; nothing where what stands before it could not be printed.
-pub(crate) fn round(shown: bool, round: usize, events: &[u8], told: Told) -> bool {
+pub(crate) fn round(shown: bool, round: usize, events: &[u8], reply: Reply) -> bool {
     if !shown {
         return false;
     }
     let mut page = io::buffer();
-    let end = page::put_round(round, events, told, &mut page);
+    let end = page::put_round(round, events, reply, &mut page);
     print(&page, end)
 }
 

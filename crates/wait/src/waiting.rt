@@ -12,7 +12,7 @@ ghost use Rattle.model.specs.Address.{maskOf, wellFormed};
 ghost use Rattle.model.specs.Sound.{allOnes};
 ghost use Rattle.model.specs.Lent.{lent};
 ghost use Rattle.model.specs.Inner.{SoundSlices};
-ghost use Rattle.layout.specs.Layout.{Placed};
+ghost use Rattle.layout.specs.Layout.{LaysOut};
 ghost use Rattle.rounds.specs.Waiting.{waitCall};
 ghost use Rattle.turns.specs.Parts.{Enough};
 ghost use Rattle.wait.specs.Counts.{Counted};
@@ -31,7 +31,7 @@ struct Ended {
 
 // How many queue places and miss entries are in use.
 fn in_use(s: Settings, at: Layout, longs: &[u64], words: &[u32], marks: &[u8]) -> Counts
-    requires { ⌜ Placed s at × SoundSlices s (lent (now longs) (now words) (now marks)) ⌝ }
+    requires { ⌜ LaysOut s at × SoundSlices s (lent (now longs) (now words) (now marks)) ⌝ }
     ensures { λ r. ⌜ Counted s (lent (now (longs .entry)) (now (words .entry)) (now (marks .entry))) r ⌝ }
 {
     let queued = layout::used(marks, at.kinds, s.queue);
@@ -50,7 +50,7 @@ fn wait_rounds(
     most: usize,
     started: bool,
 ) -> Ended
-    requires { ⌜ Placed s at × SoundSlices s (lent (now longs) (now words) (now marks)) ⌝ }
+    requires { ⌜ LaysOut s at × SoundSlices s (lent (now longs) (now words) (now marks)) ⌝ }
     requires { ⌜ (wellFormed x ≡ true) × (maskOf x ≤ allOnes) ⌝ }
     requires { ⌜ Enough s (lent (now longs) (now words) (now marks)) most ⌝ }
     ensures { λ r. ⌜ r .waiting ≡ waitCall s x (lent (now (longs .entry)) (now (words .entry)) (now (marks .entry))) .waiting ⌝ }
@@ -63,11 +63,11 @@ fn wait_rounds(
     while round < most {
         let made = turns::one_round(s, at, longs, words, marks, x, events, out);
         round += 1;
-        let told = made.told;
-        shown = says::round(shown, round, text::part(events, out, made.written), told);
+        let reply = made.reply;
+        shown = says::round(shown, round, text::part(events, out, made.written), reply);
         out = made.written;
-        if turns::accepted(told) {
-            let answer = told.first;
+        if turns::accepted(reply) {
+            let answer = reply.first;
             let waiting = Waiting::Accepted { round, answer };
             return Ended { waiting, shown };
         }
@@ -92,7 +92,7 @@ pub(crate) fn wait_for(
         says::malformed(x, place);
         return Waiting::Refused(Refusal::BadAccess);
     }
-    let at = layout::laid_out(s);
+    let at = layout::layout_of(s);
     let n = in_use(s, at, longs, words, marks);
     let most = turns::most_rounds(s, at, longs, words, marks);
     let started = says::start(x, place, n, most);

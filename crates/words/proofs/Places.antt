@@ -7,7 +7,7 @@ use native.Mathlib.Omega.{arith}
 use lib.ListN.{length, take, drop, getD, set, replicate, length-append, length-drop, length-replicate, List·getD-append}
 use lib.Seq.{take-append-le, drop-append-le, drop-append-add, take-append-add, sets, sets-eq, drop-at, take-all, drop-length, getD-append-add, paste, paste-zero}
 use Rattle.words.specs.Regions.{region, put, closedUp, closed, offsetIn, dropped}
-use Rattle.words.specs.Words.{fit, packed, joined}
+use Rattle.words.specs.Words.{padTo, packed, joined}
 use Rattle.words.proofs.Region.{getD-region, length-closed, paste-next, length-region}
 
 -- ---- a slice of two parts
@@ -82,38 +82,38 @@ stride w n e h =
 
 -- ---- one record
 
-pub length-fit : (w : ℕ) (l : List ℕ) → length (fit w l) ≡ w
-unfolding fit
-length-fit zero l = refl
-length-fit (suc w) [] = ap suc (length-fit w [])
-length-fit (suc w) (x ∷ l) = ap suc (length-fit w l)
+pub length-padTo : (w : ℕ) (l : List ℕ) → length (padTo w l) ≡ w
+unfolding padTo
+length-padTo zero l = refl
+length-padTo (suc w) [] = ap suc (length-padTo w [])
+length-padTo (suc w) (x ∷ l) = ap suc (length-padTo w l)
 
-pub fit-zeros : (w : ℕ) → fit w [] ≡ replicate w 0
-unfolding fit
-fit-zeros zero = refl
-fit-zeros (suc w) = ap (λ (l : List ℕ). 0 ∷ l) (fit-zeros w)
+pub padTo-zeros : (w : ℕ) → padTo w [] ≡ replicate w 0
+unfolding padTo
+padTo-zeros zero = refl
+padTo-zeros (suc w) = ap (λ (l : List ℕ). 0 ∷ l) (padTo-zeros w)
 
-pub fit-get : (w : ℕ) (l : List ℕ) (k : ℕ) → k < w → getD (fit w l) k 0 ≡ getD l k 0
-unfolding fit
-fit-get zero l k h = absurd (not-suc-le-zero h)
-fit-get (suc w) [] zero h = refl
-fit-get (suc w) [] (suc k) h = fit-get w [] k (le-of-suc-le-suc h)
-fit-get (suc w) (x ∷ l) zero h = refl
-fit-get (suc w) (x ∷ l) (suc k) h = fit-get w l k (le-of-suc-le-suc h)
+pub padTo-get : (w : ℕ) (l : List ℕ) (k : ℕ) → k < w → getD (padTo w l) k 0 ≡ getD l k 0
+unfolding padTo
+padTo-get zero l k h = absurd (not-suc-le-zero h)
+padTo-get (suc w) [] zero h = refl
+padTo-get (suc w) [] (suc k) h = padTo-get w [] k (le-of-suc-le-suc h)
+padTo-get (suc w) (x ∷ l) zero h = refl
+padTo-get (suc w) (x ∷ l) (suc k) h = padTo-get w l k (le-of-suc-le-suc h)
 
 -- what fits stands first
-pub take-fit : (w : ℕ) (l : List ℕ) → length l ≤ w → take (length l) (fit w l) ≡ l
-unfolding fit
-take-fit zero [] h = refl
-take-fit zero (x ∷ l) h = absurd (not-suc-le-zero h)
-take-fit (suc w) [] h = refl
-take-fit (suc w) (x ∷ l) h = ap (λ (t : List ℕ). x ∷ t) (take-fit w l (le-of-suc-le-suc h))
+pub take-padTo : (w : ℕ) (l : List ℕ) → length l ≤ w → take (length l) (padTo w l) ≡ l
+unfolding padTo
+take-padTo zero [] h = refl
+take-padTo zero (x ∷ l) h = absurd (not-suc-le-zero h)
+take-padTo (suc w) [] h = refl
+take-padTo (suc w) (x ∷ l) h = ap (λ (t : List ℕ). x ∷ t) (take-padTo w l (le-of-suc-le-suc h))
 
-fit-append : (w : ℕ) (r : List ℕ) → length r ≤ w → r ++ drop (length r) (replicate w 0) ≡ fit w r
-unfolding fit
-fit-append w [] h = sym (fit-zeros w)
-fit-append zero (x ∷ r) h = absurd (not-suc-le-zero h)
-fit-append (suc w) (x ∷ r) h = ap (λ (t : List ℕ). x ∷ t) (fit-append w r (le-of-suc-le-suc h))
+padTo-append : (w : ℕ) (r : List ℕ) → length r ≤ w → r ++ drop (length r) (replicate w 0) ≡ padTo w r
+unfolding padTo
+padTo-append w [] h = sym (padTo-zeros w)
+padTo-append zero (x ∷ r) h = absurd (not-suc-le-zero h)
+padTo-append (suc w) (x ∷ r) h = ap (λ (t : List ℕ). x ∷ t) (padTo-append w r (le-of-suc-le-suc h))
 
 -- ---- numbers copied out into zeros, one a turn
 
@@ -131,57 +131,57 @@ copying-turn w r out i v h k e c =
     ∙ ap (λ (x : ℕ). set (paste (replicate w 0) 0 r i) x v) (sym z)
     ∙ paste-next (replicate w 0) 0 r i v (omega arith) k e
 
-pub copying-done : (w : ℕ) (r out : List ℕ) (i : ℕ) → length r ≡ i → i ≤ w → Copying w r out i → out ≡ fit w r
+pub copying-done : (w : ℕ) (r out : List ℕ) (i : ℕ) → length r ≡ i → i ≤ w → Copying w r out i → out ≡ padTo w r
 copying-done w r out i e h c =
     let z : 0 + i ≡ length r = omega arith in
-    c ∙ rw (take-all i r (omega arith), z) (fit-append w r (omega arith))
+    c ∙ rw (take-all i r (omega arith), z) (padTo-append w r (omega arith))
 
 module _ {A : Type 0} (g : A → List ℕ) (w : ℕ) where
   pub length-places : (n : ℕ) (xs : List A) → length (packed g w n xs) ≡ w * n
   unfolding packed
   length-places zero xs = sym (mul-zero w)
-  length-places (suc n) [] = simp (length-append, length-fit, mul-suc, length-places n []) (omega arith)
-  length-places (suc n) (x ∷ xs) = simp (length-append, length-fit, mul-suc, length-places n xs) (omega arith)
+  length-places (suc n) [] = simp (length-append, length-padTo, mul-suc, length-places n []) (omega arith)
+  length-places (suc n) (x ∷ xs) = simp (length-append, length-padTo, mul-suc, length-places n xs) (omega arith)
 
   -- a block that holds them
   pub block-size : (n : ℕ) (xs : List A) (bs : List (List ℕ)) (j : ℕ) → getD bs j [] ≡ packed g w n xs → length (getD bs j []) ≡ w * n
   block-size n xs bs j here = ap length here ∙ length-places n xs
 
   -- an index past the first place
-  pub past : (x : A) (e : ℕ) → w * suc e ≡ length (fit w (g x)) + w * e
-  past x e = rw (length-fit, mul-suc) (omega arith)
+  pub past : (x : A) (e : ℕ) → w * suc e ≡ length (padTo w (g x)) + w * e
+  past x e = rw (length-padTo, mul-suc) (omega arith)
 
-  pub places-region : (n e : ℕ) (xs : List A) (d : A) → e < length xs → length xs ≤ n → region (packed g w n xs) (w * e) w ≡ fit w (g (getD xs e d))
+  pub places-region : (n e : ℕ) (xs : List A) (d : A) → e < length xs → length xs ≤ n → region (packed g w n xs) (w * e) w ≡ padTo w (g (getD xs e d))
   unfolding packed
   places-region n e [] d h k = absurd (not-suc-le-zero h)
   places-region zero e (x ∷ xs) d h k = absurd (not-suc-le-zero k)
   places-region (suc n) zero (x ∷ xs) d h k =
-      let s : length (fit w (g x)) ≡ w = length-fit w (g x) in
-      rw mul-zero (region-within (fit w (g x)) (packed g w n xs) 0 w (omega arith) ∙ region-whole (fit w (g x)) w s)
+      let s : length (padTo w (g x)) ≡ w = length-padTo w (g x) in
+      rw mul-zero (region-within (padTo w (g x)) (packed g w n xs) 0 w (omega arith) ∙ region-whole (padTo w (g x)) w s)
   places-region (suc n) (suc e) (x ∷ xs) d h k =
-      rw (past x e) (region-past (fit w (g x)) (packed g w n xs) (w * e) w ∙ places-region n e xs d (le-of-suc-le-suc h) (le-of-suc-le-suc k))
+      rw (past x e) (region-past (padTo w (g x)) (packed g w n xs) (w * e) w ∙ places-region n e xs d (le-of-suc-le-suc h) (le-of-suc-le-suc k))
 
-  pub places-put : (n e : ℕ) (xs : List A) (y : A) → e < length xs → length xs ≤ n → put (packed g w n xs) (w * e) (fit w (g y)) ≡ packed g w n (set xs e y)
+  pub places-put : (n e : ℕ) (xs : List A) (y : A) → e < length xs → length xs ≤ n → put (packed g w n xs) (w * e) (padTo w (g y)) ≡ packed g w n (set xs e y)
   unfolding packed
   places-put n e [] y h k = absurd (not-suc-le-zero h)
   places-put zero e (x ∷ xs) y h k = absurd (not-suc-le-zero k)
   places-put (suc n) zero (x ∷ xs) y h k =
-      let s : length (fit w (g x)) ≡ w = length-fit w (g x) in
-      let r : length (fit w (g y)) ≡ w = length-fit w (g y) in
-      rw mul-zero (put-within (fit w (g x)) (packed g w n xs) 0 (fit w (g y)) (omega arith) ∙ ap (λ (l : List ℕ). l ++ packed g w n xs) (put-whole (fit w (g x)) (fit w (g y)) (r ∙ sym s)))
+      let s : length (padTo w (g x)) ≡ w = length-padTo w (g x) in
+      let r : length (padTo w (g y)) ≡ w = length-padTo w (g y) in
+      rw mul-zero (put-within (padTo w (g x)) (packed g w n xs) 0 (padTo w (g y)) (omega arith) ∙ ap (λ (l : List ℕ). l ++ packed g w n xs) (put-whole (padTo w (g x)) (padTo w (g y)) (r ∙ sym s)))
   places-put (suc n) (suc e) (x ∷ xs) y h k =
-      rw (past x e) (put-past (fit w (g x)) (packed g w n xs) (w * e) (fit w (g y)) ∙ ap (λ (l : List ℕ). fit w (g x) ++ l) (places-put n e xs y (le-of-suc-le-suc h) (le-of-suc-le-suc k)))
+      rw (past x e) (put-past (padTo w (g x)) (packed g w n xs) (w * e) (padTo w (g y)) ∙ ap (λ (l : List ℕ). padTo w (g x) ++ l) (places-put n e xs y (le-of-suc-le-suc h) (le-of-suc-le-suc k)))
 
   pad : (n : ℕ) (xs : List A) → length xs ≤ n → packed g w n xs ++ replicate w 0 ≡ packed g w (suc n) xs
   unfolding packed
-  pad zero [] h = rw fit-zeros (sym (append-nil (replicate w 0)))
+  pad zero [] h = rw padTo-zeros (sym (append-nil (replicate w 0)))
   pad zero (x ∷ xs) h = absurd (not-suc-le-zero h)
-  pad (suc n) [] h = append-assoc (fit w []) (packed g w n []) (replicate w 0) ∙ ap (λ (l : List ℕ). fit w [] ++ l) (pad n [] zero-le)
-  pad (suc n) (x ∷ xs) h = append-assoc (fit w (g x)) (packed g w n xs) (replicate w 0) ∙ ap (λ (l : List ℕ). fit w (g x) ++ l) (pad n xs (le-of-suc-le-suc h))
+  pad (suc n) [] h = append-assoc (padTo w []) (packed g w n []) (replicate w 0) ∙ ap (λ (l : List ℕ). padTo w [] ++ l) (pad n [] zero-le)
+  pad (suc n) (x ∷ xs) h = append-assoc (padTo w (g x)) (packed g w n xs) (replicate w 0) ∙ ap (λ (l : List ℕ). padTo w (g x) ++ l) (pad n xs (le-of-suc-le-suc h))
 
-  close-first : (n : ℕ) (x : A) (xs : List A) → length xs ≤ n → closedUp w (fit w (g x) ++ packed g w n xs) ≡ packed g w (suc n) xs
+  close-first : (n : ℕ) (x : A) (xs : List A) → length xs ≤ n → closedUp w (padTo w (g x) ++ packed g w n xs) ≡ packed g w (suc n) xs
   unfolding closedUp
-  close-first n x xs k = ap (λ (l : List ℕ). l ++ replicate w 0) (drop-at (fit w (g x)) (packed g w n xs) w (length-fit w (g x))) ∙ pad n xs k
+  close-first n x xs k = ap (λ (l : List ℕ). l ++ replicate w 0) (drop-at (padTo w (g x)) (packed g w n xs) w (length-padTo w (g x))) ∙ pad n xs k
 
   -- to take a record out is to close up from its place on
   pub places-close : (n e : ℕ) (xs : List A) → e < length xs → length xs ≤ n → closed (packed g w n xs) (w * e) (w * (n - e)) w ≡ packed g w n (dropped e xs)
@@ -189,17 +189,17 @@ module _ {A : Type 0} (g : A → List ℕ) (w : ℕ) where
   places-close n e [] h k = absurd (not-suc-le-zero h)
   places-close zero e (x ∷ xs) h k = absurd (not-suc-le-zero k)
   places-close (suc n) zero (x ∷ xs) h k =
-      let s : length (fit w (g x)) ≡ w = length-fit w (g x) in
-      let l : length (fit w (g x) ++ packed g w n xs) ≡ w * suc n = simp (length-append, length-fit, mul-suc, length-places n xs) (omega arith) in
-      let c : length (closedUp w (fit w (g x) ++ packed g w n xs)) ≡ length (fit w (g x) ++ packed g w n xs) = length-closed w (fit w (g x) ++ packed g w n xs) (rw length-append (omega arith)) in
+      let s : length (padTo w (g x)) ≡ w = length-padTo w (g x) in
+      let l : length (padTo w (g x) ++ packed g w n xs) ≡ w * suc n = simp (length-append, length-padTo, mul-suc, length-places n xs) (omega arith) in
+      let c : length (closedUp w (padTo w (g x) ++ packed g w n xs)) ≡ length (padTo w (g x) ++ packed g w n xs) = length-closed w (padTo w (g x) ++ packed g w n xs) (rw length-append (omega arith)) in
       rw (mul-zero, sub-zero)
-      (ap (λ (r : List ℕ). put (fit w (g x) ++ packed g w n xs) 0 (closedUp w r)) (region-whole (fit w (g x) ++ packed g w n xs) (w * suc n) l)
-      ∙ put-whole (fit w (g x) ++ packed g w n xs) (closedUp w (fit w (g x) ++ packed g w n xs)) c ∙ close-first n x xs (le-of-suc-le-suc k))
+      (ap (λ (r : List ℕ). put (padTo w (g x) ++ packed g w n xs) 0 (closedUp w r)) (region-whole (padTo w (g x) ++ packed g w n xs) (w * suc n) l)
+      ∙ put-whole (padTo w (g x) ++ packed g w n xs) (closedUp w (padTo w (g x) ++ packed g w n xs)) c ∙ close-first n x xs (le-of-suc-le-suc k))
   places-close (suc n) (suc e) (x ∷ xs) h k =
       let z : suc n - suc e ≡ n - e = omega arith in
-      rw (past x e, z, region-past (fit w (g x)) (packed g w n xs) (w * e) (w * (n - e)))
-      (put-past (fit w (g x)) (packed g w n xs) (w * e) (closedUp w (region (packed g w n xs) (w * e) (w * (n - e))))
-      ∙ ap (λ (l : List ℕ). fit w (g x) ++ l) (places-close n e xs (le-of-suc-le-suc h) (le-of-suc-le-suc k)))
+      rw (past x e, z, region-past (padTo w (g x)) (packed g w n xs) (w * e) (w * (n - e)))
+      (put-past (padTo w (g x)) (packed g w n xs) (w * e) (closedUp w (region (packed g w n xs) (w * e) (w * (n - e))))
+      ∙ ap (λ (l : List ℕ). padTo w (g x) ++ l) (places-close n e xs (le-of-suc-le-suc h) (le-of-suc-le-suc k)))
 
 -- ---- a field of a table in a slice of blocks: to store a record anew, to read a number of one
 
@@ -208,39 +208,39 @@ module _ {A : Type 0} (g : A → List ℕ) (w n : ℕ) (xs : List A) (bs : List 
   one : w * e + w ≤ w * n
   one = let a : w * suc e ≤ w * n = mul-le-mul-left w (le-trans k few) in let b = mul-suc w e in omega arith
 
-  pub field-put : (y : A) {r l′ : List ℕ} → r ≡ fit w (g y) → l′ ≡ put l i r → l′ ≡ joined (set bs j (packed g w n (set xs e y)))
+  pub field-put : (y : A) {r l′ : List ℕ} → r ≡ padTo w (g y) → l′ ≡ put l i r → l′ ≡ joined (set bs j (packed g w n (set xs e y)))
   field-put y {r} {l′} f c =
       let s = block-size g w n xs bs j here in let o = one in
-      let z : length (fit w (g y)) ≡ w = length-fit w (g y) in
-      rw (c, f, block-put bs j (w * e) is at h (fit w (g y)) (omega arith), here, places-put g w n e xs y k few)
+      let z : length (padTo w (g y)) ≡ w = length-padTo w (g y) in
+      rw (c, f, block-put bs j (w * e) is at h (padTo w (g y)) (omega arith), here, places-put g w n e xs y k few)
 
-  pub field-region : (d : A) → region l i w ≡ fit w (g (getD xs e d))
+  pub field-region : (d : A) → region l i w ≡ padTo w (g (getD xs e d))
   field-region d =
       let s = block-size g w n xs bs j here in let o = one in
       block-region bs j (w * e) is at h w (omega arith) ∙ ap (λ (x : List ℕ). region x (w * e) w) here ∙ places-region g w n e xs d k few
 
-  pub field-get : (d : A) (p : ℕ) {q : ℕ} → p < w → q ≡ i + p → getD l q 0 ≡ getD (fit w (g (getD xs e d))) p 0
+  pub field-get : (d : A) (p : ℕ) {q : ℕ} → p < w → q ≡ i + p → getD l q 0 ≡ getD (padTo w (g (getD xs e d))) p 0
   field-get d p below f = ap (λ (x : ℕ). getD l x 0) f ∙ sym (getD-region l i w p below) ∙ ap (λ (x : List ℕ). getD x p 0) (field-region d)
 
 -- ---- numbers behind those of a record
 
-put-zeros : (w : ℕ) (v : List ℕ) → length v ≤ w → put (fit w []) 0 v ≡ fit w v
-unfolding fit put
+put-zeros : (w : ℕ) (v : List ℕ) → length v ≤ w → put (padTo w []) 0 v ≡ padTo w v
+unfolding padTo put
 put-zeros zero [] h = refl
 put-zeros zero (x ∷ v) h = absurd (not-suc-le-zero h)
 put-zeros (suc w) [] h = refl
 put-zeros (suc w) (x ∷ v) h =
     let s : 0 + suc (length v) ≡ suc (length v) = zero-add (suc (length v)) in
-    rw s (ap (λ (t : List ℕ). x ∷ t) (ap (λ (n : ℕ). v ++ drop n (fit w [])) (sym (zero-add (length v))) ∙ put-zeros w v (le-of-suc-le-suc h)))
+    rw s (ap (λ (t : List ℕ). x ∷ t) (ap (λ (n : ℕ). v ++ drop n (padTo w [])) (sym (zero-add (length v))) ∙ put-zeros w v (le-of-suc-le-suc h)))
 
 -- numbers behind those that a record has
-pub put-fit : (w : ℕ) (r v : List ℕ) → length r + length v ≤ w → put (fit w r) (length r) v ≡ fit w (r ++ v)
-unfolding fit
-put-fit w [] v h = put-zeros w v (omega arith)
-put-fit zero (x ∷ r) v h = absurd (omega arith)
-put-fit (suc w) (x ∷ r) v h =
+pub put-padTo : (w : ℕ) (r v : List ℕ) → length r + length v ≤ w → put (padTo w r) (length r) v ≡ padTo w (r ++ v)
+unfolding padTo
+put-padTo w [] v h = put-zeros w v (omega arith)
+put-padTo zero (x ∷ r) v h = absurd (omega arith)
+put-padTo (suc w) (x ∷ r) v h =
     let e : suc (length r) ≡ length (x ∷ []) + length r = omega arith in
-    rw e (put-past (x ∷ []) (fit w r) (length r) v ∙ ap (λ (t : List ℕ). x ∷ t) (put-fit w r v (omega arith)))
+    rw e (put-past (x ∷ []) (padTo w r) (length r) v ∙ ap (λ (t : List ℕ). x ∷ t) (put-padTo w r v (omega arith)))
 
 -- ---- a record behind the others, one that stays as it is, one that grows, one that goes
 
@@ -255,17 +255,17 @@ module _ {A : Type 0} (g : A → List ℕ) (w : ℕ) where
   unfolding packed
   places-push zero xs y h k = absurd (not-suc-le-zero h)
   places-push (suc n) [] y h k =
-      let s : length (fit w []) ≡ w = length-fit w [] in
-      rw mul-zero (put-within (fit w []) (packed g w n []) 0 (g y) (omega arith) ∙ ap (λ (l : List ℕ). l ++ packed g w n []) (put-zeros w (g y) k))
+      let s : length (padTo w []) ≡ w = length-padTo w [] in
+      rw mul-zero (put-within (padTo w []) (packed g w n []) 0 (g y) (omega arith) ∙ ap (λ (l : List ℕ). l ++ packed g w n []) (put-zeros w (g y) k))
   places-push (suc n) (x ∷ xs) y h k =
-      rw (past g w x (length xs)) (put-past (fit w (g x)) (packed g w n xs) (w * length xs) (g y) ∙ ap (λ (l : List ℕ). fit w (g x) ++ l) (places-push n xs y (le-of-suc-le-suc h) k))
+      rw (past g w x (length xs)) (put-past (padTo w (g x)) (packed g w n xs) (w * length xs) (g y) ∙ ap (λ (l : List ℕ). padTo w (g x) ++ l) (places-push n xs y (le-of-suc-le-suc h) k))
 
   -- one whose numbers are zeros
-  pub places-push-idle : (n : ℕ) (xs : List A) (y : A) → fit w (g y) ≡ fit w [] → packed g w n (xs ++ (y ∷ [])) ≡ packed g w n xs
+  pub places-push-idle : (n : ℕ) (xs : List A) (y : A) → padTo w (g y) ≡ padTo w [] → packed g w n (xs ++ (y ∷ [])) ≡ packed g w n xs
   unfolding packed
   places-push-idle zero xs y e = refl
   places-push-idle (suc n) [] y e = ap (λ (l : List ℕ). l ++ packed g w n []) e
-  places-push-idle (suc n) (x ∷ xs) y e = ap (λ (l : List ℕ). fit w (g x) ++ l) (places-push-idle n xs y e)
+  places-push-idle (suc n) (x ∷ xs) y e = ap (λ (l : List ℕ). padTo w (g x) ++ l) (places-push-idle n xs y e)
 
   -- a record that becomes another with the same numbers
   pub places-same : (n e : ℕ) (xs : List A) (d y : A) → g y ≡ g (getD xs e d) → packed g w n (set xs e y) ≡ packed g w n xs
@@ -273,7 +273,7 @@ module _ {A : Type 0} (g : A → List ℕ) (w : ℕ) where
   places-same n e [] d y h = refl
   places-same zero e (x ∷ xs) d y h = refl
   places-same (suc n) zero (x ∷ xs) d y h = rw h
-  places-same (suc n) (suc e) (x ∷ xs) d y h = ap (λ (l : List ℕ). fit w (g x) ++ l) (places-same n e xs d y h)
+  places-same (suc n) (suc e) (x ∷ xs) d y h = ap (λ (l : List ℕ). padTo w (g x) ++ l) (places-same n e xs d y h)
 
   -- numbers v behind those of record e, which is y then
   pub places-extend : (n e : ℕ) (xs : List A) (d y : A) (v : List ℕ) → e < length xs → length xs ≤ n → length (g (getD xs e d)) + length v ≤ w → g y ≡ g (getD xs e d) ++ v
@@ -282,13 +282,13 @@ module _ {A : Type 0} (g : A → List ℕ) (w : ℕ) where
   places-extend n e [] d y v h k f is = absurd (not-suc-le-zero h)
   places-extend zero e (x ∷ xs) d y v h k f is = absurd (not-suc-le-zero k)
   places-extend (suc n) zero (x ∷ xs) d y v h k f is =
-      let s : length (fit w (g x)) ≡ w = length-fit w (g x) in
+      let s : length (padTo w (g x)) ≡ w = length-padTo w (g x) in
       rw (mul-zero, zero-add, is)
-      (put-within (fit w (g x)) (packed g w n xs) (length (g x)) v (omega arith) ∙ ap (λ (l : List ℕ). l ++ packed g w n xs) (put-fit w (g x) v f))
+      (put-within (padTo w (g x)) (packed g w n xs) (length (g x)) v (omega arith) ∙ ap (λ (l : List ℕ). l ++ packed g w n xs) (put-padTo w (g x) v f))
   places-extend (suc n) (suc e) (x ∷ xs) d y v h k f is =
       rw (past g w x e, add-assoc)
-      (put-past (fit w (g x)) (packed g w n xs) (w * e + length (g (getD xs e d))) v
-      ∙ ap (λ (l : List ℕ). fit w (g x) ++ l) (places-extend n e xs d y v (le-of-suc-le-suc h) (le-of-suc-le-suc k) f is))
+      (put-past (padTo w (g x)) (packed g w n xs) (w * e + length (g (getD xs e d))) v
+      ∙ ap (λ (l : List ℕ). padTo w (g x) ++ l) (places-extend n e xs d y v (le-of-suc-le-suc h) (le-of-suc-le-suc k) f is))
 
   -- past the records stand zeros
   places-split : (n m : ℕ) (xs : List A) → length xs ≤ m → packed g w (m + n) xs ≡ packed g w m xs ++ packed g w n []
@@ -296,9 +296,9 @@ module _ {A : Type 0} (g : A → List ℕ) (w : ℕ) where
   places-split n zero [] h = rw zero-add
   places-split n zero (x ∷ xs) h = absurd (not-suc-le-zero h)
   places-split n (suc m) [] h =
-      rw suc-add (ap (λ (l : List ℕ). fit w [] ++ l) (places-split n m [] (omega arith)) ∙ sym (append-assoc (fit w []) (packed g w m []) (packed g w n [])))
+      rw suc-add (ap (λ (l : List ℕ). padTo w [] ++ l) (places-split n m [] (omega arith)) ∙ sym (append-assoc (padTo w []) (packed g w m []) (packed g w n [])))
   places-split n (suc m) (x ∷ xs) h =
-      rw suc-add (ap (λ (l : List ℕ). fit w (g x) ++ l) (places-split n m xs (le-of-suc-le-suc h)) ∙ sym (append-assoc (fit w (g x)) (packed g w m xs) (packed g w n [])))
+      rw suc-add (ap (λ (l : List ℕ). padTo w (g x) ++ l) (places-split n m xs (le-of-suc-le-suc h)) ∙ sym (append-assoc (padTo w (g x)) (packed g w m xs) (packed g w n [])))
 
   -- to close up within the first m places is enough, where the others are not used
   pub places-close-first : (n m e : ℕ) (xs : List A) → e < length xs → length xs ≤ m → m ≤ n → closed (packed g w n xs) (w * e) (w * (m - e)) w ≡ packed g w n (dropped e xs)
@@ -319,14 +319,14 @@ module _ {A : Type 0} (g : A → List ℕ) (w : ℕ) where
 
 -- the number of a place that is not used
 pub places-past : {A : Type 0} (g : A → List ℕ) (n e : ℕ) (xs : List A) → length xs ≤ e → getD (packed g 1 n xs) e 0 ≡ 0
-unfolding packed fit
+unfolding packed padTo
 places-past g zero e xs h = refl
 places-past g (suc n) zero [] h = refl
 places-past g (suc n) (suc e) [] h = places-past g n e [] (omega arith)
 places-past g (suc n) zero (x ∷ xs) h = absurd (not-suc-le-zero h)
 places-past g (suc n) (suc e) (x ∷ xs) h = go (g x) (places-past g n e xs (le-of-suc-le-suc h))
   where
-    go : (r : List ℕ) → getD (packed g 1 n xs) e 0 ≡ 0 → getD (fit 1 r ++ packed g 1 n xs) (suc e) 0 ≡ 0
+    go : (r : List ℕ) → getD (packed g 1 n xs) e 0 ≡ 0 → getD (padTo 1 r ++ packed g 1 n xs) (suc e) 0 ≡ 0
     go [] ih = ih
     go (a ∷ r) ih = ih
 

@@ -70,16 +70,16 @@ countBelow (suc n) p = countBelow n p + one (p n)
 -- ---- numbers in places
 
 -- the first w numbers of l, with zeros where l has no more
-unfoldable pub fit : ℕ → List ℕ → List ℕ
-fit zero l = []
-fit (suc w) [] = 0 ∷ fit w []
-fit (suc w) (x ∷ l) = x ∷ fit w l
+unfoldable pub padTo : ℕ → List ℕ → List ℕ
+padTo zero l = []
+padTo (suc w) [] = 0 ∷ padTo w []
+padTo (suc w) (x ∷ l) = x ∷ padTo w l
 
 -- n places of w numbers each: those of the records, then zeros
 unfoldable pub packed : {A : Type 0} → (A → List ℕ) → ℕ → ℕ → List A → List ℕ
 packed g w zero xs = []
-packed g w (suc n) [] = fit w [] ++ packed g w n []
-packed g w (suc n) (x ∷ xs) = fit w (g x) ++ packed g w n xs
+packed g w (suc n) [] = padTo w [] ++ packed g w n []
+packed g w (suc n) (x ∷ xs) = padTo w (g x) ++ packed g w n xs
 
 -- blocks one after the other
 abbrev pub joined : List (List ℕ) → List ℕ

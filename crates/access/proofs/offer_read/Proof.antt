@@ -36,13 +36,13 @@ offer-read-spec =
           let start = then .before .before .before .before .before in
           hit-offered _ _ _ t p m (start .pre .0) (rw (start .pre .4) (sym (then .before .is-hit .ensures) ∙ then .if1 .taken)) (acted .act-hit .ensures .0) (acted .act-hit .ensures .1);
     })
-    (λ c κs. c .before .before .before .before .before .before .before .before .pre)  -- course-of-requires
-    (λ c κs. search needs)  -- going-requires
+    (λ c κs. c .before .before .before .before .before .before .before .before .pre)  -- miss-plan-requires
+    (λ c κs. search needs)  -- accepted-requires
     -- act-read-requires
     (λ c κs.
     let then = c .before .before .before in
-    let course = then .before .before in
-    let start = course .before .before .before .before .before .before .before .before .before in
+    let plan = then .before .before in
+    let start = plan .before .before .before .before .before .before .before .before .before in
     let pre = start .pre .1 in (
       start .pre .0,
       record {
@@ -51,8 +51,8 @@ offer-read-spec =
         acts = record {
           met = pre .met;
           counted = queue-counted _ _ (pre .met .is) (start .pre .0) (start .pre .2);
-          planned = course .course-of .ensures .on _ _ (pre .met);
-          going = sym (then .before .going .ensures) ∙ then .if2 .taken;
+          planned = plan .miss-plan .ensures .on _ _ (pre .met);
+          accepted = sym (then .before .accepted .ensures) ∙ then .if2 .taken;
         };
       },
       start .pre .4,
@@ -65,14 +65,14 @@ offer-read-spec =
       on = λ t p m.
           let acted = c .before .before .before .before .before .before in
           let then = acted .before .before .before .before in
-          let course = then .before .before in
-          let start = course .before .before .before .before .before .before .before .before .before in
-          let planned = course .course-of .ensures .on t p m in
-          let goes = sym (then .before .going .ensures) ∙ then .if2 .taken in
-          offered-acts _ _ _ t p m planned goes (acted .act-read .ensures .on t p
-          (record { met = m; counted = queue-counted _ t (m .is) (start .pre .0) (start .pre .2); planned = planned; going = goes }));
+          let plan = then .before .before in
+          let start = plan .before .before .before .before .before .before .before .before .before in
+          let planned = plan .miss-plan .ensures .on t p m in
+          let isAccepted = sym (then .before .accepted .ensures) ∙ then .if2 .taken in
+          offered-acts _ _ _ t p m planned isAccepted (acted .act-read .ensures .on t p
+          (record { met = m; counted = queue-counted _ t (m .is) (start .pre .0) (start .pre .2); planned = planned; accepted = isAccepted }));
     })
-    (λ c κs. search needs)  -- refusal-in-requires
+    (λ c κs. search needs)  -- refusal-of-requires
     (λ c κs. search needs)  -- refused-requires
     (λ c. search needs)  -- same-length-5
     (λ c. search needs)  -- same-length-6
@@ -81,6 +81,6 @@ offer-read-spec =
     (λ c. record {
       on = λ t p m.
           let else = c .before .before in
-          offered-stops _ _ _ t p m (else .before .before .course-of .ensures .on t p m) (sym (else .before .going .ensures) ∙ else .if2 .left)
-          (c .refused .ensures ∙ ap (λ (n : Refusal). telling (event.Refused n)) (c .before .refusal-in .ensures));
+          offered-stops _ _ _ t p m (else .before .before .miss-plan .ensures .on t p m) (sym (else .before .accepted .ensures) ∙ else .if2 .left)
+          (c .refused .ensures ∙ ap (λ (n : Refusal). telling (event.Refused n)) (c .before .refusal-of .ensures));
     }))

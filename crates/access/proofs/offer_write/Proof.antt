@@ -3,7 +3,7 @@ use native.Mathlib.Omega.{arith}
 use borrow.Author.Needs.{needs}
 use Rattle.encoding.proofs.Bridge.{is-fit}
 use Rattle.access.proofs.Plans.{queue-counted}
-use Rattle.access.proofs.Courses.{write-needs, course-full, course-write}
+use Rattle.access.proofs.PlanTests.{write-needs, plan-full, plan-write}
 use Rattle.access.proofs.Offering.{offered-acts, offered-stops}
 use Rattle.access.proofs.offer_write.Statement.{statement}
 use Rattle.access.proofs.offer_write.Tie as tie
@@ -22,7 +22,7 @@ offer-write-spec =
           let start = needed .before .before .before .before in
           let asked = write-needs (start .args .x) (start .args .d) (start .pre .3) (needed .back-needed .ensures .0) in
           let counted = queue-counted _ t (m .is) (start .pre .0) (start .pre .2) in
-          offered-stops _ _ _ t p m (course-full _ _ _ t p m counted asked (c .before .if1 .taken)) refl (c .refused .ensures);
+          offered-stops _ _ _ t p m (plan-full _ _ _ t p m counted asked (c .before .if1 .taken)) refl (c .refused .ensures);
     })
     -- act-write-requires
     (λ c κs.
@@ -35,7 +35,7 @@ offer-write-spec =
       record {
         tables = pre .tables;
         spot = pre .spot;
-        acts = record { met = pre .met; counted = counted; planned = course-write _ _ _ _ _ (pre .met) counted asked (c .before .before .before .if1 .left) (start .pre .3); going = refl };
+        acts = record { met = pre .met; counted = counted; planned = plan-write _ _ _ _ _ (pre .met) counted asked (c .before .before .before .if1 .left) (start .pre .3); accepted = refl };
       },
       start .pre .3,
     ))
@@ -49,6 +49,6 @@ offer-write-spec =
           let start = needed .before .before .before .before in
           let asked = write-needs (start .args .x) (start .args .d) (start .pre .3) (needed .back-needed .ensures .0) in
           let counted = queue-counted _ t (m .is) (start .pre .0) (start .pre .2) in
-          let planned = course-write _ _ _ t p m counted asked (c .before .before .before .before .before .before .before .before .before .before .if1 .left) (start .pre .3) in
-          offered-acts _ _ _ t p m planned refl (c .before .before .before .before .before .before .act-write .ensures .on t p (record { met = m; counted = counted; planned = planned; going = refl }));
+          let planned = plan-write _ _ _ t p m counted asked (c .before .before .before .before .before .before .before .before .before .before .if1 .left) (start .pre .3) in
+          offered-acts _ _ _ t p m planned refl (c .before .before .before .before .before .before .act-write .ensures .on t p (record { met = m; counted = counted; planned = planned; accepted = refl }));
     }))

@@ -13,14 +13,14 @@ made-spec =
     (λ c. call-unmade _ _ _ (c .if1 .taken))  -- returns
     (λ c κs. search needs)  -- settings-from-requires
     (λ c κs. search needs)  -- perform-requires
-    (λ c κs. search needs)  -- write-told-requires
+    (λ c κs. search needs)  -- write-reply-requires
     (λ c. search needs)  -- same-length
     (λ c. search needs)  -- same-length-2
     (λ c. search needs)  -- same-length-3
     (λ c. search needs)  -- same-length-4
     -- returns-2
     (λ c.
-    let told = c .before .before in
-    let called = told .before .before .before .before .before .before .before .before in
+    let reply = c .before .before in
+    let called = reply .before .before .before .before .before .before .before .before in
     let set = called .before .before .before .before in
-    call-made _ (callOf (set .before .before .before .before .before .before .before .args .k)) _ _ _ (λ i. omega (arith, set .before .before .before .before .slice-known2 .given i)) (set .before .if1 .left) (rw (set .settings-from .ensures) at (called .perform .ensures)) (told .write-told .ensures .0)))
+    call-made _ (callOf (set .before .before .before .before .before .before .before .args .k)) _ _ _ (λ i. omega (arith, set .before .before .before .before .slice-known2 .given i)) (set .before .if1 .left) (rw (set .settings-from .ensures) at (called .perform .ensures)) (reply .write-reply .ensures .0)))

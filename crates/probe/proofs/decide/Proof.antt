@@ -35,7 +35,7 @@ decide-spec =
     let h = room at in
     let e = c .before .before .before .before .before .first-line .ensures in
     let k = found-below (a .s) (a .longs .now) (a .words .now) (a .marks .now) (start .pre .1) (a .x) (at .before .address-of .ensures) (at .set-index .ensures) (c .before .before .before .before .block-of .ensures) e (c .before .before .before .find .ensures) (c .before .found .given .1) in
-    search needs)  -- met-requires
+    search needs)  -- on-match-requires
     (λ c. search needs)  -- enum-told
     (λ c κs.
     let at = c .before .before .before .before .before in
@@ -50,7 +50,7 @@ decide-spec =
     let at = first .before in
     let start = at .before .before .before .before .before in
     let a = start .args in
-    decided-met (a .s) (a .longs .now) (a .words .now) (a .marks .now) (start .pre .1) (a .x) (at .before .address-of .ensures) (at .set-index .ensures) (c .before .before .before .before .before .block-of .ensures) (first .first-line .ensures) (c .before .before .before .before .find .ensures) (c .before .before .found .given .1) (c .met .ensures))  -- returns
+    decided-met (a .s) (a .longs .now) (a .words .now) (a .marks .now) (start .pre .1) (a .x) (at .before .address-of .ensures) (at .set-index .ensures) (c .before .before .before .before .before .block-of .ensures) (first .first-line .ensures) (c .before .before .before .before .find .ensures) (c .before .before .found .given .1) (c .on-match .ensures))  -- returns
     (λ c. let first = c .before .before .before .before .before in
     let at = first .before in
     let start = at .before .before .before .before .before in

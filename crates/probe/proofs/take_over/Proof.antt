@@ -29,18 +29,18 @@ take-over-spec =
     let room = tree-room (pre .3) f _ (pre .1) in
     (pre .3, record { ages = ages-room f _ (pre .0); tree = room .inside; small = room .small; statuses = omega (arith, pre .0, f .marks-long); power = pre .2 }))
     (λ c. search needs)  -- enum-known-v
-    -- taken-requires
+    -- on-miss-requires
     (λ c κs. let a = c .before .before .before .before .before .before .before .before .args in
     let h = victim-below (a .s) (a .words .now) (a .marks .now) (a .i) (a .base) (enoughIn (a .s) (a .words .now)) (c .before .before .before .before .before .before .before .before .pre .2) (by-count (c .before .before .before)) (c .before .v .given .1) in search needs)
     (λ c. search needs)  -- enum-told
-    (λ c κs. search needs)  -- refusal-requires
+    (λ c κs. search needs)  -- busy-or-held-requires
     -- returns
     (λ c. let a = c .before .before .before .before .before .before .before .before .before .args in
     missed-at (a .s) (a .longs .now) (a .words .now) (a .marks .now) (a .base) (a .s .ways)
     {u = victimIn (a .s) (a .words .now) (a .marks .now) (a .i) (a .base) (enoughIn (a .s) (a .words .now))}
-    (by-count (c .before .before .before .before)) (c .before .before .v .given .1) (c .taken .ensures))
+    (by-count (c .before .before .before .before)) (c .before .before .v .given .1) (c .on-miss .ensures))
     -- returns-2
     (λ c. let a = c .before .before .before .before .before .before .before .before .args in
     missed-nothing (a .s) (a .longs .now) (a .words .now) (a .marks .now) (a .base) (a .s .ways)
     {u = victimIn (a .s) (a .words .now) (a .marks .now) (a .i) (a .base) (enoughIn (a .s) (a .words .now))}
-    (by-count (c .before .before .before)) (c .before .enum-told .given .1) (c .refusal .ensures)))
+    (by-count (c .before .before .before)) (c .before .enum-told .given .1) (c .busy-or-held .ensures)))

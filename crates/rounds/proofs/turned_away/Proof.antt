@@ -9,6 +9,6 @@ turned-away-spec =
     tie.close
     (tie.spec
     (λ c κs. search needs)  -- refused-requires
-    (λ c κs. search needs)  -- write-told-requires
+    (λ c κs. search needs)  -- write-reply-requires
     (λ c. search needs)  -- same-length
-    (λ c. let w = c .before .before in let t = w .before .before in let p = t .before .before in turns-away _ (p .args .events .now) (t .refused .ensures) (w .write-told .ensures .0) (p .pre)))  -- returns
+    (λ c. let w = c .before .before in let t = w .before .before in let p = t .before .before in turns-away _ (p .args .events .now) (t .refused .ensures) (w .write-reply .ensures .0) (p .pre)))  -- returns

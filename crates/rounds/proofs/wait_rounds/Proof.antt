@@ -54,7 +54,7 @@ wait-rounds-spec =
     goes-again (l .loop .inv) (i .loop-test .taken) (r .one-round .ensures) (no-not (sym (a .accepted .ensures) ∙ c .if1 .left))
     (k .1 .1 .1 .1 .0) (k .0) (k .1 .0) (k .1 .1 .0))
     (λ c κs. search needs)  -- refused-requires
-    (λ c κs. search needs)  -- write-told-requires
+    (λ c κs. search needs)  -- write-reply-requires
     -- add-t31
     (λ c.
     let w = c .before .before in
@@ -62,11 +62,11 @@ wait-rounds-spec =
     let e = t .before in
     let l = e .before in
     let p = l .before .before .before .before .before in
-    omega (arith, held-fits (l .loop .inv) (e .loop-test .left) (p .pre .1 .0 .0) (p .pre .1 .1) (p .pre .1 .0 .2) (t .refused .ensures) (w .write-told .ensures .0)))
+    omega (arith, held-fits (l .loop .inv) (e .loop-test .left) (p .pre .1 .0 .0) (p .pre .1 .1) (p .pre .1 .0 .2) (t .refused .ensures) (w .write-reply .ensures .0)))
     (λ c. c .before .before .before .before .before .before .loop .inv .longs)  -- same-length-5
     (λ c. c .before .before .before .before .before .before .loop .inv .words)  -- same-length-6
     (λ c. c .before .before .before .before .before .before .loop .inv .marks)  -- same-length-7
-    (λ c. c .before .before .write-told .kept .1 .0 ∙ c .before .before .before .before .before .before .loop .inv .size)  -- same-length-8
+    (λ c. c .before .before .write-reply .kept .1 .0 ∙ c .before .before .before .before .before .before .loop .inv .size)  -- same-length-8
     -- returns-2
     (λ c.
     let w = c .before .before in
@@ -74,4 +74,4 @@ wait-rounds-spec =
     let e = t .before in
     let l = e .before in
     let p = l .before .before .before .before .before in
-    goes-held-end (l .loop .inv) (e .loop-test .left) (p .pre .1 .0 .0) (p .pre .1 .1) (p .pre .1 .0 .2) (t .refused .ensures) (w .write-told .ensures .0)))
+    goes-held-end (l .loop .inv) (e .loop-test .left) (p .pre .1 .0 .0) (p .pre .1 .1) (p .pre .1 .0 .2) (t .refused .ensures) (w .write-reply .ensures .0)))

@@ -13,7 +13,7 @@ run-spec =
     (λ c κs. search needs)  -- begin-requires
     (λ c. search needs)  -- enum-known-stop
     (λ c. search needs)  -- enum-known-settings
-    -- laid-out-requires
+    -- layout-of-requires
     (λ c κs.
     let m = c .before in
     let g = m .before .before .before .before .before .before .before .before in
@@ -25,7 +25,7 @@ run-spec =
     let m = l .before .before in
     let g = m .before .before .before .before .before .before .before .before in
     let b = accepts-begins _ (g .before .before .before .before .first-record .ensures) (g .begin .ensures) in
-    ((l .laid-out .ensures, begun-held b (m .settings .given .1)), begun-stands b (m .settings .given .1) _))
+    ((l .layout-of .ensures, begun-held b (m .settings .given .1)), begun-stands b (m .settings .given .1) _))
     (λ c. search needs)  -- same-length
     (λ c. search needs)  -- same-length-2
     (λ c. search needs)  -- same-length-3

@@ -56,12 +56,12 @@ fill-counted-spec =
     (λ c.
     let removed = c .before .before .before .before .before .before in
     let filled = removed .before .before .before .before .before .before .before .before in
-    let told = filled .before .before .before .before in
-    let test = told .before .before .before in
+    let reply = filled .before .before .before .before in
+    let test = reply .before .before .before in
     let sent = test .before in
     let found = sent .before .before in
     let start = found .before .before .before .before .before in
     let z = stands-fit (start .pre .1 .are .range) (is-stands (start .pre .1 .are)) in record {
       on = λ t i. fill-leaves _ _ t i (start .pre .0) (start .pre .2) (found .find-entry .ensures) (sent .is-sent .ensures) (test .if1 .left) (z .readers)
-          (told .release .ensures) (filled .fill-line .ensures) (removed .remove .ensures);
+          (reply .release .ensures) (filled .fill-line .ensures) (removed .remove .ensures);
     }))

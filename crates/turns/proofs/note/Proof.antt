@@ -13,12 +13,12 @@ note-spec =
     tie.close
     (tie.spec
     (λ c κs. search needs)  -- accepted-requires
-    (λ c κs. search needs)  -- write-told-requires
+    (λ c κs. search needs)  -- write-reply-requires
     -- add-result
     (λ c.
     let w = c .before .before in
     let p = w .before .before .before .before .before in
-    let k = was-stored (p .args .events .now) (p .args .out) _ (w .write-told .ensures .0) (p .pre) in
+    let k = was-stored (p .args .events .now) (p .args .out) _ (w .write-reply .ensures .0) (p .pre) in
     omega (arith, k .0))
     (λ c. search needs)  -- same-length
     -- returns
@@ -26,9 +26,9 @@ note-spec =
     let w = c .before .before in
     let a = w .before .before .before in
     let p = a .before .before in
-    noted-stored (p .args .events .now) (p .args .out) (p .args .told) (not-yes (sym (a .accepted .ensures) ∙ w .before .before .if1 .taken)) (p .pre) (w .write-told .ensures .0) (w .write-told .ensures .1))
+    noted-stored (p .args .events .now) (p .args .out) (p .args .reply) (not-yes (sym (a .accepted .ensures) ∙ w .before .before .if1 .taken)) (p .pre) (w .write-reply .ensures .0) (w .write-reply .ensures .1))
     -- returns-2
     (λ c.
     let a = c .before in
     let p = a .before .before in
-    noted-none (p .args .events .now) (p .args .out) (p .args .told) (no-not (sym (a .accepted .ensures) ∙ c .if1 .left))))
+    noted-none (p .args .events .now) (p .args .out) (p .args .reply) (no-not (sym (a .accepted .ensures) ∙ c .if1 .left))))

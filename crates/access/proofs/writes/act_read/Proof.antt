@@ -9,7 +9,7 @@ use Rattle.model.specs.Lent.{Lent, lent}
 use Rattle.model.proofs.Turning.{set-below}
 use Rattle.layout.proofs.Room.{taken-room, tree-room}
 use Rattle.access.specs.Written.{Alone, lineTaken, setTurned}
-use Rattle.access.proofs.Courses.{read-needs}
+use Rattle.access.proofs.PlanTests.{read-needs}
 use Rattle.access.proofs.Lines.{kept-stays, no-back}
 use Rattle.access.proofs.Telling.{acts-fit, miss-room, queue-room, acted}
 use Rattle.access.proofs.writes.act_read.Statement.{statement}
@@ -92,7 +92,7 @@ act-read-spec =
           let a = start .args in
           let l = lined .read-line .last in
           let k = missed .write-misses .last in
-          acted (a .s) (a .x) (a .d) (a .queued) (a .course) t p acts (start .pre .0)
+          acted (a .s) (a .x) (a .d) (a .queued) (a .plan) t p acts (start .pre .0)
           (lent (l .1 .1 .0) (marked .mark-set .last .1 .1 .0) (l .1 .1 .1 .1 .0)) (lent (k .1 .0) (k .1 .1 .0) (k .1 .1 .1 .0)) _
           (ap (λ (words : List ℕ). lent (l .1 .1 .0) words (l .1 .1 .1 .1 .0)) (marked .mark-set .ensures)
           ∙ ap (λ (L : Lent). setTurned (a .s) (a .at) (setIndex (a .s) (addressOf (a .x))) (a .d .way) (lineTaken (a .at) (a .d .answer) (a .d .line) L)) (lined .read-line .ensures))

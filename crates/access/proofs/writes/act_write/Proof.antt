@@ -9,8 +9,8 @@ use Rattle.model.specs.Lent.{Lent, lent}
 use Rattle.model.proofs.Turning.{set-below}
 use Rattle.layout.proofs.Room.{taken-room, tree-room}
 use Rattle.access.specs.Written.{lineTaken, setTurned}
-use Rattle.access.specs.declared.course.Course.the-variants.{Stays}
-use Rattle.access.proofs.Courses.{write-needs}
+use Rattle.access.specs.declared.plan.MissPlan.the-variants.{Stays}
+use Rattle.access.proofs.PlanTests.{write-needs}
 use Rattle.access.proofs.Telling.{acts-fit, queue-room, acted}
 use Rattle.access.proofs.writes.act_write.Statement.{statement}
 use Rattle.access.proofs.writes.act_write.Tie as tie

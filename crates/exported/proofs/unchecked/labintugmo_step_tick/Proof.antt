@@ -12,15 +12,15 @@ labintugmo-step-tick-spec =
     (λ c. step-unmade _ _ _ _ (c .before .before .before .before .before .before .pre) (c .if1 .taken))  -- returns
     (λ c κs. search needs)  -- settings-from-requires
     (λ c κs. let s = c .before .before .before in rw (s .settings-from .ensures) (s .before .before .before .before .before .before .before .pre))  -- tick-step-requires
-    (λ c κs. search needs)  -- write-told-requires
+    (λ c κs. search needs)  -- write-reply-requires
     (λ c. search needs)  -- same-length
     (λ c. search needs)  -- same-length-2
     (λ c. search needs)  -- same-length-3
     (λ c. search needs)  -- same-length-4
     -- returns-2
     (λ c.
-    let told = c .before .before in
-    let done = told .before .before .before .before in
+    let reply = c .before .before in
+    let done = reply .before .before .before .before in
     let s = done .before .before .before .before in
     let a = s .before .before .before .before .before .before .before in
-    step-made _ (ticking (a .args .cycle)) _ _ _ tt (a .pre) (s .before .if1 .left) (rw (s .settings-from .ensures) at (done .tick-step .ensures)) (told .write-told .ensures .0)))
+    step-made _ (ticking (a .args .cycle)) _ _ _ tt (a .pre) (s .before .if1 .left) (rw (s .settings-from .ensures) at (done .tick-step .ensures)) (reply .write-reply .ensures .0)))

@@ -6,35 +6,35 @@ use Rattle.words.proofs.Arrays.{words-length}
 use Rattle.records.proofs.Encoding.{any-room, any-end}
 use Rattle.records.proofs.Log.{queued-start, queued-turn, tickets-start}
 use Rattle.records.proofs.Begun.{access-begun}
-use Rattle.records.proofs.Told.{told-alone, told-laid}
+use Rattle.records.proofs.Reply.{reply-alone, reply-laid}
 use borrow.Author.Needs.{needs}
 use Rattle.records.proofs.writer.put_access.Statement.{statement}
 use Rattle.records.proofs.writer.put_access.Tie as tie
 
 -- a value has two entries and eight tickets
-two : (c : tie.Start) → length (c .args .told .queued) ≡ 2
-two c = sym (length-map (c .args .told .queued) _) ∙ c .good .0 .1 .1 .1 .0 .1 .0 .1
+two : (c : tie.Start) → length (c .args .reply .queued) ≡ 2
+two c = sym (length-map (c .args .reply .queued) _) ∙ c .good .0 .1 .1 .1 .0 .1 .0 .1
 
-long : (c : tie.Start) → length (c .args .told .tickets) ≡ 8
-long c = words-length 8 (c .args .told .tickets) _ (c .good .0 .1 .1 .1 .1 .1 .0)
+long : (c : tie.Start) → length (c .args .reply .tickets) ≡ 8
+long c = words-length 8 (c .args .reply .tickets) _ (c .good .0 .1 .1 .1 .1 .1 .0)
 
 put-access-first-requires : tie.Need-put-access-first-requires
 put-access-first-requires c κs =
     let s = c .before .before .before in
-    let n = access-begun (s .args .told .first) (s .pre .0 .first) in
+    let n = access-begun (s .args .reply .first) (s .pre .0 .first) in
     (s .pre .0 .first, omega arith)
 
 returns : tie.Need-returns
 returns c =
     let p = c .before .before .before .before in
     let s = p .before .before .before .before in
-    told-alone (s .args .told) (omega arith) (s .pre .0 .tickets) (p .put-access-first .ensures)
+    reply-alone (s .args .reply) (omega arith) (s .pre .0 .tickets) (p .put-access-first .ensures)
 
 put-entry-requires : tie.Need-put-entry-requires
 put-entry-requires c κs =
     let p = c .before .before .before .before .before .before in
     let s = p .before .before .before .before in
-    let n = access-begun (s .args .told .first) (s .pre .0 .first) in
+    let n = access-begun (s .args .reply .first) (s .pre .0 .first) in
     any-room _ _ (omega arith)
 
 returns-2 : tie.Need-returns-2
@@ -42,9 +42,9 @@ returns-2 c =
     let q = c .before .before .before .before in
     let p = q .before .before .before .before .before .before .before in
     let s = p .before .before .before .before in
-    let t = s .args .told in
+    let t = s .args .reply in
     let h = two s in
-    told-laid t h (long s) {k = 1} {n = 0} (omega arith) (omega arith) (p .put-access-first .ensures)
+    reply-laid t h (long s) {k = 1} {n = 0} (omega arith) (omega arith) (p .put-access-first .ensures)
     (queued-turn (t .queued) _ 0 (omega arith) refl (queued-start (t .queued) _ _) (q .put-entry .ensures)) (tickets-start (t .tickets) _ _)
 
 put-entry-requires-2 : tie.Need-put-entry-requires-2
@@ -52,7 +52,7 @@ put-entry-requires-2 c κs =
     let q = c .before .before .before .before .before .before in
     let p = q .before .before .before .before .before .before .before in
     let s = p .before .before .before .before in
-    let n = access-begun (s .args .told .first) (s .pre .0 .first) in
+    let n = access-begun (s .args .reply .first) (s .pre .0 .first) in
     let j = any-end _ (q .put-entry .ensures) in
     any-room _ _ (omega arith)
 
@@ -63,9 +63,9 @@ returns-3 c =
     let q = e .before .before .before .before in
     let p = q .before .before .before .before .before .before .before in
     let s = p .before .before .before .before in
-    let t = s .args .told in
+    let t = s .args .reply in
     let h = two s in
-    told-laid t h (long s) {k = 2} {n = 0} (omega arith) (omega arith) (p .put-access-first .ensures)
+    reply-laid t h (long s) {k = 2} {n = 0} (omega arith) (omega arith) (p .put-access-first .ensures)
     (queued-turn (t .queued) _ 1 (omega arith) refl (queued-turn (t .queued) _ 0 (omega arith) refl (queued-start (t .queued) _ _) (q .put-entry .ensures)) (r .put-entry2 .ensures)) (tickets-start (t .tickets) _ _)
 
 pub put-access-spec : {M : Type 1} → statement M

@@ -3,7 +3,7 @@ use Rattle.model.specs.RecordsOf as records
 use Rattle.model.specs.Records.{bytesOf}
 use Rattle.records.proofs.Encoding.{event-laid}
 use Rattle.records.proofs.Begun.{tick-begun}
-use Rattle.records.proofs.Told.{told-alone}
+use Rattle.records.proofs.Reply.{reply-alone}
 use borrow.Author.Needs.{needs}
 use Rattle.records.proofs.writer.put_ticked.Statement.{statement}
 use Rattle.records.proofs.writer.put_ticked.Tie as tie
@@ -14,7 +14,7 @@ returns c =
     let p = c .before .before in
     let k = p .before .before in
     let s = k .before .before .before in
-    told-alone (s .args .told) (s .pre .0 .entries) (s .pre .0 .tickets) (event-laid _ (p .put1 .ensures) (k .enum-told .given .1))
+    reply-alone (s .args .reply) (s .pre .0 .entries) (s .pre .0 .tickets) (event-laid _ (p .put1 .ensures) (k .enum-told .given .1))
 
 returns-2 : tie.Need-returns-2
 unfolding records.eventBytes bytesOf
@@ -22,7 +22,7 @@ returns-2 c =
     let p = c .before .before in
     let k = p .before .before .before in
     let s = k .before .before .before in
-    told-alone (s .args .told) (s .pre .0 .entries) (s .pre .0 .tickets) (event-laid _ (p .put-refusal .ensures) (k .first .given .1))
+    reply-alone (s .args .reply) (s .pre .0 .entries) (s .pre .0 .tickets) (event-laid _ (p .put-refusal .ensures) (k .first .given .1))
 
 pub put-ticked-spec : {M : Type 1} → statement M
 put-ticked-spec =
@@ -36,4 +36,4 @@ put-ticked-spec =
     returns
     (λ c. search needs)  -- same-length-2
     returns-2
-    (λ c. absurd (tick-begun (c .before .before .args .told .first) (c .before .before .pre .0 .first) .none (c .match .keys3))))  -- returns-3
+    (λ c. absurd (tick-begun (c .before .before .args .reply .first) (c .before .before .pre .0 .first) .none (c .match .keys3))))  -- returns-3

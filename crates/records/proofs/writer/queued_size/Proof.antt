@@ -9,7 +9,7 @@ use Rattle.records.specs.Fitting.{AllFitting}
 use Rattle.records.specs.Parts.{queuedTold}
 use Rattle.records.proofs.Encoding.{event-short}
 use Rattle.records.proofs.Log.{queued-next, queued-longer}
-use Rattle.records.proofs.Told.{fitting-append}
+use Rattle.records.proofs.Reply.{fitting-append}
 use borrow.Author.Needs.{needs}
 use Rattle.records.proofs.writer.queued_size.Statement.{statement}
 use Rattle.records.proofs.writer.queued_size.Tie as tie

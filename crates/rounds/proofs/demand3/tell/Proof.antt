@@ -10,16 +10,16 @@ pub tell-spec : {M : Type 1} → statement M
 tell-spec =
     tie.close
     (tie.spec
-    (λ c κs. search needs)  -- write-told-requires
+    (λ c κs. search needs)  -- write-reply-requires
     -- add-result
     (λ c.
     let w = c .before .before in
     let p = w .before .before .before in
-    let k = was-stored (p .args .events .now) (p .args .out) _ (w .write-told .ensures .0) (p .pre) in
+    let k = was-stored (p .args .events .now) (p .args .out) _ (w .write-reply .ensures .0) (p .pre) in
     omega (arith, k .0))
     (λ c. search needs)  -- same-length
     -- returns
     (λ c.
     let w = c .before .before in
     let p = w .before .before .before in
-    tells (p .args .events .now) (p .args .out) (p .args .told) (p .pre) (w .write-told .ensures .0) (w .write-told .ensures .1)))
+    tells (p .args .events .now) (p .args .out) (p .args .reply) (p .pre) (w .write-reply .ensures .0) (w .write-reply .ensures .1)))

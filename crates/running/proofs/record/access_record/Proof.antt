@@ -2,7 +2,7 @@
 use native.Mathlib.Omega.{arith}
 use borrow.Author.Needs.{needs}
 use Rattle.encoding.proofs.Bridge.{is-fit}
-use Rattle.encoding.proofs.ToldShapes.{access-shaped}
+use Rattle.encoding.proofs.ReplyShapes.{access-shaped}
 use Rattle.running.proofs.Singles.{ready-room}
 use Rattle.running.proofs.Acting.{access-whole, access-runs}
 use Rattle.running.proofs.Counts.{counted-access}

@@ -2,7 +2,7 @@
 use mathlib.Core.Path.{refl}
 use native.Mathlib.Omega.{arith}
 use borrow.Author.Needs.{needs}
-use Rattle.encoding.proofs.ToldShapes.{fill-shaped}
+use Rattle.encoding.proofs.ReplyShapes.{fill-shaped}
 use Rattle.running.proofs.Singles.{ready-room}
 use Rattle.running.proofs.Acting.{whole-at, body-size, fill-runs}
 use Rattle.running.proofs.Counts.{counted-fill}

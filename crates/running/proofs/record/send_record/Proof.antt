@@ -1,7 +1,7 @@
 -- What the step leaves, its events written, and what is in use then.
 use native.Mathlib.Omega.{arith}
 use borrow.Author.Needs.{needs}
-use Rattle.encoding.proofs.ToldShapes.{send-shaped}
+use Rattle.encoding.proofs.ReplyShapes.{send-shaped}
 use Rattle.running.proofs.Singles.{ready-room}
 use Rattle.running.proofs.Acting.{send-runs}
 use Rattle.running.proofs.Counts.{counted-send}

@@ -2,7 +2,7 @@
 use mathlib.Core.Path.{refl}
 use native.Mathlib.Omega.{arith}
 use borrow.Author.Needs.{needs}
-use Rattle.encoding.proofs.ToldShapes.{tick-shaped}
+use Rattle.encoding.proofs.ReplyShapes.{tick-shaped}
 use Rattle.running.proofs.Singles.{ready-room}
 use Rattle.running.proofs.Acting.{whole-at, body-size, tick-runs}
 use Rattle.running.proofs.record.tick_record.Statement.{statement}

@@ -29,7 +29,7 @@ pub run-rest-spec : {M : Type 1} → statement M
 run-rest-spec =
     tie.close
     (tie.spec Inv-loop μ-loop
-    (λ c κs. c .before .before .before .before .pre .0 .held .are .range)  -- laid-out-requires
+    (λ c κs. c .before .before .before .before .pre .0 .held .are .range)  -- layout-of-requires
     (λ c κs. search needs)  -- large-buffer-requires
     (λ c. search needs)  -- slice-aggregate-events
     -- loop-holds
@@ -42,7 +42,7 @@ run-rest-spec =
     (λ c κs.
     let at = c .before .before .before .before .before .before .before in
     let i = at .loop .inv in
-    ((at .before .before .before .laid-out .ensures, i .5), (cc, omega (arith, i .4))))
+    ((at .before .before .before .layout-of .ensures, i .5), (cc, omega (arith, i .4))))
     (λ c. c .before .before .before .before .before .before .before .before .before .before .turn .ensures .fewer)  -- loop-less
     -- loop-again
     (λ c.

@@ -29,12 +29,12 @@ pub trace-rest-spec : {M : Type 1} → statement M
 trace-rest-spec =
     tie.close
     (tie.spec Inv-loop μ-loop
-    (λ c κs. c .before .before .before .before .before .pre .0 .are .range)  -- laid-out-requires
+    (λ c κs. c .before .before .before .before .before .pre .0 .are .range)  -- layout-of-requires
     (λ c κs. search needs)  -- buffer-requires
     (λ c. search needs)  -- slice-aggregate-events
     (λ c. let a = c .before .before .before .before .before .before .before .before in (refl, refl, refl, refl, refl, refl, a .pre .0, rw (a .pre .1) tt))  -- loop-holds
     (λ c κs. search needs)  -- goes-on-requires
-    (λ c κs. let at = c .before .before .before .before .before .before .before .before in (at .before .before .before .laid-out .ensures, at .loop .inv .6))  -- turn-requires
+    (λ c κs. let at = c .before .before .before .before .before .before .before .before in (at .before .before .before .layout-of .ensures, at .loop .inv .6))  -- turn-requires
     -- loop-less
     (λ c.
     let r = c .before .before .before .before .before .before .before .before .before .before .before .before in

@@ -19,7 +19,7 @@ wait-rounds-requires c κs =
     let e = l .before in
     let w = e .before in
     let a = w .before .before .before .before in
-    ((l .laid-out .ensures, a .pre), ((sym (w .well-formed .ensures .0) ∙ no-not (e .if1 .left), w .well-formed .ensures .1), m .most-rounds .ensures))
+    ((l .layout-of .ensures, a .pre), ((sym (w .well-formed .ensures .0) ∙ no-not (e .if1 .left), w .well-formed .ensures .1), m .most-rounds .ensures))
 
 pub wait-for-spec : {M : Type 1} → statement M
 wait-for-spec =
@@ -28,7 +28,7 @@ wait-for-spec =
     (λ c κs. search needs)  -- well-formed-requires
     (λ c κs. search needs)  -- malformed-requires
     returns
-    (λ c κs. search needs)  -- laid-out-requires
+    (λ c κs. search needs)  -- layout-of-requires
     (λ c κs. search needs)  -- in-use-requires
     (λ c κs. search needs)  -- most-rounds-requires
     (λ c κs. search needs)  -- start-requires

@@ -5,9 +5,9 @@ ghost use mathlib.Core.Bool.{true};
 ghost use Rattle.model.specs.Address.{isRead};
 ghost use Rattle.words.specs.Words.{one};
 ghost use Rattle.model.specs.Lent.{lent};
-ghost use Rattle.layout.specs.Layout.{Placed};
+ghost use Rattle.layout.specs.Layout.{LaysOut};
 ghost use Rattle.layout.specs.Places.{First};
-ghost use Rattle.access.specs.Plan.{Meets, Entered, Joining, starting, Planned, goes, refusalIn};
+ghost use Rattle.access.specs.Plan.{Meets, Entered, Joining, starting, Planned, isAccepted, refusalOf};
 ghost use Rattle.model.specs.Steps.{isMiss};
 use crate::asked::is_merge;
 use crate::asked::is_miss;
@@ -20,7 +20,7 @@ use model::Settings;
 use probe::Decision;
 
 // What becomes of the miss table: a refusal, nothing, a ticket that joins an entry with so many, or a new entry behind so many.
-pub enum Course {
+pub enum MissPlan {
     Refused(Refusal),
     Stays,
     Joins { entry: usize, count: usize },
@@ -47,8 +47,8 @@ pub(crate) fn places_needed(a: Answer, backs: bool) -> usize
     back_needed(backs)
 }
 
-// The course of a read that merges: the entry for its address, one of m, has room for one more ticket, or not.
-fn join_course(
+// The plan of a read that merges: the entry for its address, one of m, has room for one more ticket, or not.
+fn join_plan(
     s: Settings,
     at: Layout,
     longs: &[u64],
@@ -56,30 +56,30 @@ fn join_course(
     marks: &[u8],
     address: SectorAddress,
     m: usize,
-) -> Course
-    requires { ⌜ Placed s at × Entered s (lent (now longs) (now words) (now marks)) (address .0) × First (now marks) (at .counts) (s .misses) 0 m ⌝ }
+) -> MissPlan
+    requires { ⌜ LaysOut s at × Entered s (lent (now longs) (now words) (now marks)) (address .0) × First (now marks) (at .counts) (s .misses) 0 m ⌝ }
     ensures { λ r. ⌜ Joining s (lent (now (longs .entry)) (now (words .entry)) (now (marks .entry))) (address .0) r ⌝ }
 {
     let e = tables::find_entry(longs, at.misses, m, address);
     let n = marks[at.counts + e] as usize;
     if s.readers <= n {
-        return Course::Refused(Refusal::EntryFull);
+        return MissPlan::Refused(Refusal::EntryFull);
     }
-    Course::Joins { entry: e, count: n }
+    MissPlan::Joins { entry: e, count: n }
 }
 
-// The course of a read that needs a new entry, behind m others.
-fn start_course(s: Settings, m: usize) -> Course
+// The plan of a read that needs a new entry, behind m others.
+fn start_plan(s: Settings, m: usize) -> MissPlan
     ensures { λ r. ⌜ r ≡ starting s m ⌝ }
 {
     if s.misses <= m {
-        return Course::Refused(Refusal::MissTableFull);
+        return MissPlan::Refused(Refusal::MissTableFull);
     }
-    Course::Starts(m)
+    MissPlan::Starts(m)
 }
 
-// The course of a read whose place is decided; so many queue places and miss entries are in use.
-pub(crate) fn course_of(
+// The plan of a read whose place is decided; so many queue places and miss entries are in use.
+pub(crate) fn miss_plan(
     s: Settings,
     at: Layout,
     longs: &[u64],
@@ -89,45 +89,45 @@ pub(crate) fn course_of(
     d: Decision,
     queued: usize,
     missed: usize,
-) -> Course
-    requires { ⌜ Placed s at × Meets s (lent (now longs) (now words) (now marks)) x d × First (now marks) (at .kinds) (s .queue) 0 queued
+) -> MissPlan
+    requires { ⌜ LaysOut s at × Meets s (lent (now longs) (now words) (now marks)) x d × First (now marks) (at .kinds) (s .queue) 0 queued
         × First (now marks) (at .counts) (s .misses) 0 missed × (isRead x ≡ true) ⌝ }
     ensures { λ r. ⌜ Planned s (lent (now (longs .entry)) (now (words .entry)) (now (marks .entry))) x d r ⌝ }
 {
     let a = d.answer;
     if s.queue < queued + places_needed(a, d.backs) {
-        return Course::Refused(Refusal::QueueFull);
+        return MissPlan::Refused(Refusal::QueueFull);
     }
     if is_merge(a) {
         let address = SectorAddress(values::address_of(x));
-        return join_course(s, at, longs, words, marks, address, missed);
+        return join_plan(s, at, longs, words, marks, address, missed);
     }
     if is_miss(a) {
-        return start_course(s, missed);
+        return start_plan(s, missed);
     }
-    Course::Stays
+    MissPlan::Stays
 }
 
 // Whether the access is not refused.
-pub(crate) fn going(c: Course) -> bool
-    ensures { λ r. ⌜ r ≡ goes c ⌝ }
+pub(crate) fn accepted(c: MissPlan) -> bool
+    ensures { λ r. ⌜ r ≡ isAccepted c ⌝ }
 {
     match c {
-        Course::Refused(_) => false,
-        Course::Stays => true,
-        Course::Joins { entry: _, count: _ } => true,
-        Course::Starts(_) => true,
+        MissPlan::Refused(_) => false,
+        MissPlan::Stays => true,
+        MissPlan::Joins { entry: _, count: _ } => true,
+        MissPlan::Starts(_) => true,
     }
 }
 
 // The refusal of an access that is.
-pub(crate) fn refusal_in(c: Course) -> Refusal
-    ensures { λ r. ⌜ r ≡ refusalIn c ⌝ }
+pub(crate) fn refusal_of(c: MissPlan) -> Refusal
+    ensures { λ r. ⌜ r ≡ refusalOf c ⌝ }
 {
     match c {
-        Course::Refused(n) => n,
-        Course::Stays => Refusal::QueueFull,
-        Course::Joins { entry: _, count: _ } => Refusal::QueueFull,
-        Course::Starts(_) => Refusal::QueueFull,
+        MissPlan::Refused(n) => n,
+        MissPlan::Stays => Refusal::QueueFull,
+        MissPlan::Joins { entry: _, count: _ } => Refusal::QueueFull,
+        MissPlan::Starts(_) => Refusal::QueueFull,
     }
 }

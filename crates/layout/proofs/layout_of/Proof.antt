@@ -3,11 +3,11 @@ use native.Mathlib.Nat.{mul-le-mul}
 use native.Mathlib.Omega.{arith}
 use Rattle.model.proofs.Fits.{ranged}
 use Rattle.model.specs.Inner.{aside}
-use Rattle.layout.proofs.laid_out.Statement.{statement}
-use Rattle.layout.proofs.laid_out.Tie as tie
+use Rattle.layout.proofs.layout_of.Statement.{statement}
+use Rattle.layout.proofs.layout_of.Tie as tie
 
-pub laid-out-spec : {M : Type 1} → statement M
-laid-out-spec =
+pub layout-of-spec : {M : Type 1} → statement M
+layout-of-spec =
     tie.close
     (tie.spec
     (λ c. let g = ranged _ (c .before .pre) in omega arith)  -- mul-lines

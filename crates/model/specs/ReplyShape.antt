@@ -5,7 +5,7 @@ use mathlib.Core.Bool.{Bool, true, false}
 use Prim.Native.Nat.{ℕ, _≤_}
 use Rattle.model.specs.declared.Event.{Event}
 use Rattle.model.specs.declared.Event.the-variants.{Answered, Refused, ReadQueued, WriteBackQueued, Released, ReadSent, WriteBackSent, Filled, Ticked}
-use Rattle.model.specs.declared.Told.{Told}
+use Rattle.model.specs.declared.Reply.{Reply}
 
 -- an access is answered or refused
 abbrev pub ofAccess : Event → Bool
@@ -56,7 +56,7 @@ ofTick (Filled a) = false
 ofTick Ticked = true
 
 -- r begins with such an event, and has so many entries and tickets at the most
-pub record Shaped (begins : Event → Bool) (queues count : ℕ) (r : Told) : Type 0 where
+pub record Shaped (begins : Event → Bool) (queues count : ℕ) (r : Reply) : Type 0 where
   pub first : begins (r .first) ≡ true
   pub entries : r .queues ≤ queues
   pub tickets : r .count ≤ count

@@ -1,4 +1,4 @@
--- What a decision says of the spot that it stands for, and the course by the tests of the code.
+-- What a decision says of the spot that it stands for, and the plan by the tests of the code.
 use mathlib.Core.Path.{_≡_, refl, ap, _∙_}
 use mathlib.Core.Bool.{Bool, true, false, _&&_}
 use mathlib.Core.List.{List, [], _∷_, _++_}
@@ -24,10 +24,10 @@ use Rattle.probe.specs.declared.Meeting.{Meeting}
 use Rattle.probe.specs.declared.Meeting.the-variants.{Met as MetWay, Taken, Busy, Held}
 use Rattle.probe.specs.declared.Decision.{Decision}
 use Rattle.probe.specs.Decided.{placeFor, backsOf}
-use Rattle.access.specs.Plan.{Met, entryIndex, ticketsAt, joining, starting, courseOf}
+use Rattle.access.specs.Plan.{Met, entryIndex, ticketsAt, joining, starting, missPlan}
 use Rattle.access.specs.Written.{sectorsFor, queuesOf}
-use Rattle.access.specs.declared.course.Course.{Course}
-use Rattle.access.specs.declared.course.Course.the-variants.{Refused, Stays}
+use Rattle.access.specs.declared.plan.MissPlan.{MissPlan}
+use Rattle.access.specs.declared.plan.MissPlan.the-variants.{Refused, Stays}
 use Rattle.access.proofs.Plans.{merged-entry}
 
 -- ---- what is queued, by two flags
@@ -86,29 +86,29 @@ module _ (S : Settings) {L : Lent} (x : Access) (d : Decision) (t : Tables) (p :
   pub needed-is : placesNeeded x p ≡ one (isRead x && isMiss (d .answer)) + one (d .backs)
   needed-is = ap length queues-are ∙ queues-count x d
 
-  -- ---- the course
+  -- ---- the plan
 
   module _ {q n : ℕ} (counted : q ≡ length (t .queue)) (asked : n ≡ one (isRead x && isMiss (d .answer)) + one (d .backs)) where
     same-test : ltb (S .queue) (length (t .queue) + placesNeeded x p) ≡ ltb (S .queue) (q + n)
     same-test = rw (counted, asked, needed-is)
 
-    pub course-full : S .queue < q + n → Refused QueueFull ≡ courseOf S x p t
-    course-full h = rw (same-test, answer-is, lt-ltb (S .queue) (q + n) h)
+    pub plan-full : S .queue < q + n → Refused QueueFull ≡ missPlan S x p t
+    plan-full h = rw (same-test, answer-is, lt-ltb (S .queue) (q + n) h)
 
     module _ (room : q + n ≤ S .queue) where
-      pub course-write : isRead x ≡ false → Stays ≡ courseOf S x p t
-      course-write r = rw (same-test, answer-is, le-ltb (S .queue) (q + n) room, r)
+      pub plan-write : isRead x ≡ false → Stays ≡ missPlan S x p t
+      plan-write r = rw (same-test, answer-is, le-ltb (S .queue) (q + n) room, r)
 
       module _ (reads : isRead x ≡ true) where
-        pub course-join : isMerge (d .answer) ≡ true → {r : Course} → r ≡ joining S (entryIndex (addressOf x) (t .misses)) (ticketsAt (entryIndex (addressOf x) (t .misses)) (t .misses)) → r ≡ courseOf S x p t
-        course-join merges e = e ∙ rw (same-test, answer-is, le-ltb (S .queue) (q + n) room, reads, merges)
+        pub plan-join : isMerge (d .answer) ≡ true → {r : MissPlan} → r ≡ joining S (entryIndex (addressOf x) (t .misses)) (ticketsAt (entryIndex (addressOf x) (t .misses)) (t .misses)) → r ≡ missPlan S x p t
+        plan-join merges e = e ∙ rw (same-test, answer-is, le-ltb (S .queue) (q + n) room, reads, merges)
 
         module _ (other : isMerge (d .answer) ≡ false) where
-          pub course-start : isMiss (d .answer) ≡ true → {r : Course} → r ≡ starting S (length (t .misses)) → r ≡ courseOf S x p t
-          course-start misses e = e ∙ rw (same-test, answer-is, le-ltb (S .queue) (q + n) room, reads, misses, other)
+          pub plan-start : isMiss (d .answer) ≡ true → {r : MissPlan} → r ≡ starting S (length (t .misses)) → r ≡ missPlan S x p t
+          plan-start misses e = e ∙ rw (same-test, answer-is, le-ltb (S .queue) (q + n) room, reads, misses, other)
 
-          pub course-hit : isMiss (d .answer) ≡ false → Stays ≡ courseOf S x p t
-          course-hit hits = rw (same-test, answer-is, le-ltb (S .queue) (q + n) room, reads, hits, other)
+          pub plan-hit : isMiss (d .answer) ≡ false → Stays ≡ missPlan S x p t
+          plan-hit hits = rw (same-test, answer-is, le-ltb (S .queue) (q + n) room, reads, hits, other)
 
   pub merge-entered : isMerge (d .answer) ≡ true → any (entryFor (addressOf x)) (t .misses) ≡ true
   merge-entered h = merged-entry S (m .is .range) t (parts S t (m .is .soundly)) x (m .formed) p (m .probed) (ap isMerge answer-is ∙ h)

@@ -11,7 +11,7 @@ use Rattle.model.specs.Records.{eventBytes, logBytes}
 use Rattle.model.specs.declared.Event.{Event}
 use Rattle.model.specs.declared.Event.the-variants.{Released}
 use Rattle.model.specs.declared.Queued.{Queued}
-use Rattle.model.specs.declared.Told.{Told}
+use Rattle.model.specs.declared.Reply.{Reply}
 use Rattle.records.specs.Fitting.{Fitting, AllFitting}
 use Rattle.records.specs.Stores.{Laid}
 use Rattle.records.specs.Parts.{queuedTold, ticketsTold}
@@ -30,10 +30,10 @@ tickets-fit ts f zero = tt
 tickets-fit [] f (suc n) = tt
 tickets-fit (t ∷ ts) f (suc n) = (f 0, tickets-fit ts (λ i. f (suc i)) n)
 
-pub told-fits : (t : Told) → Fitting (t .first) → AllFitting (queuedTold (t .queues) (t .queued)) → ((i : ℕ) → getD (t .tickets) i 0 < 2 ^ 32)
+pub reply-fits : (t : Reply) → Fitting (t .first) → AllFitting (queuedTold (t .queues) (t .queued)) → ((i : ℕ) → getD (t .tickets) i 0 < 2 ^ 32)
     → AllFitting (eventsTold t)
 unfolding eventsTold
-told-fits t first queued tickets = (first, fitting-append (queuedTold (t .queues) (t .queued)) _ queued (tickets-fit (t .tickets) tickets (t .count)))
+reply-fits t first queued tickets = (first, fitting-append (queuedTold (t .queues) (t .queued)) _ queued (tickets-fit (t .tickets) tickets (t .count)))
 
 -- ---- the parts, and how long they are
 
@@ -46,7 +46,7 @@ take-least (suc n) (x ∷ xs) = let e : min (suc n) (suc (length xs)) ≡ suc (m
 pub queued-least : (n k : ℕ) (xs : List Queued) → length xs ≡ k → {m : ℕ} → m ≡ min n k → queuedTold m xs ≡ queuedTold n xs
 queued-least n k xs e q = ap (map queuedEvent) (ap (λ (i : ℕ). take i xs) (q ∙ ap (min n) (sym e)) ∙ take-least n xs)
 
-module _ (t : Told) where
+module _ (t : Reply) where
   abbrev first : List ℕ
   first = eventBytes (t .first)
 
@@ -56,38 +56,38 @@ module _ (t : Told) where
   abbrev tickets : List ℕ
   tickets = logBytes (ticketsTold (t .count) (t .tickets))
 
-  told-parts : first ++ (queued ++ tickets) ≡ logBytes (eventsTold t)
+  reply-parts : first ++ (queued ++ tickets) ≡ logBytes (eventsTold t)
   unfolding eventsTold records.logBytes
-  told-parts = rw log-append
+  reply-parts = rw log-append
 
-  pub told-length : length (logBytes (eventsTold t))
+  pub reply-length : length (logBytes (eventsTold t))
       ≡ length (eventBytes (t .first)) + length (logBytes (queuedTold (t .queues) (t .queued))) + 5 * min (t .count) (length (t .tickets))
-  told-length =
+  reply-length =
       let n : length tickets ≡ 5 * min (t .count) (length (t .tickets)) = released-length (take (t .count) (t .tickets)) ∙ ap (λ (k : ℕ). 5 * k) (length-take (t .count) (t .tickets)) in
-      ap length (sym told-parts) ∙ rw (length-append, length-append, n) (omega arith)
+      ap length (sym reply-parts) ∙ rw (length-append, length-append, n) (omega arith)
 
   -- where the first event is all
-  pub told-alone : t .queues ≤ 0 → t .count ≤ 0 → {l m : List ℕ} {at r : ℕ} → Laid l at (length (eventBytes (t .first))) (eventBytes (t .first)) r m
+  pub reply-alone : t .queues ≤ 0 → t .count ≤ 0 → {l m : List ℕ} {at r : ℕ} → Laid l at (length (eventBytes (t .first))) (eventBytes (t .first)) r m
       → Laid l at (length (logBytes (eventsTold t))) (logBytes (eventsTold t)) r m
   unfolding eventsTold
-  told-alone q n u =
+  reply-alone q n u =
       let no : t .queues ≡ 0 = omega arith in
       let none : t .count ≡ 0 = omega arith in
       rw (no, none, log-one (t .first)) u
 
   module _ (two : length (t .queued) ≡ 2) (long : length (t .tickets) ≡ 8) {k n : ℕ} (few : k ≡ min (t .queues) 2) (count : n ≡ min (t .count) 8) where
     -- by the sizes that the code adds up
-    pub told-sized : {f q : ℕ} → f ≡ length (eventBytes (t .first)) → q ≡ length (logBytes (queuedTold k (t .queued)))
+    pub reply-sized : {f q : ℕ} → f ≡ length (eventBytes (t .first)) → q ≡ length (logBytes (queuedTold k (t .queued)))
         → f + q + 5 * n ≡ length (logBytes (eventsTold t))
-    told-sized e g = rw (told-length, long, e, g, queued-least (t .queues) 2 (t .queued) two few, count)
+    reply-sized e g = rw (reply-length, long, e, g, queued-least (t .queues) 2 (t .queued) two few, count)
 
     -- by the parts that the code stores
-    pub told-laid : {l m₁ m₂ m : List ℕ} {at i j r : ℕ} → Laid l at (length (eventBytes (t .first))) (eventBytes (t .first)) i m₁
+    pub reply-laid : {l m₁ m₂ m : List ℕ} {at i j r : ℕ} → Laid l at (length (eventBytes (t .first))) (eventBytes (t .first)) i m₁
         → Laid m₁ i (length (logBytes (queuedTold k (t .queued)))) (logBytes (queuedTold k (t .queued))) j m₂
         → Laid m₂ j (5 * n) (logBytes (ticketsTold n (t .tickets))) r m
         → Laid l at (length (logBytes (eventsTold t))) (logBytes (eventsTold t)) r m
-    told-laid u v w =
+    reply-laid u v w =
         let p : logBytes (queuedTold k (t .queued)) ≡ queued = ap logBytes (queued-least (t .queues) 2 (t .queued) two few) in
         let q : ticketsTold n (t .tickets) ≡ ticketsTold (t .count) (t .tickets) = ap (map Released) (ap (λ (i : ℕ). take i (t .tickets)) (count ∙ ap (min (t .count)) (sym long)) ∙ take-least (t .count) (t .tickets)) in
-        laid-sized (laid-as (laid-then u refl (laid-then v refl (laid-as w (ap logBytes q)))) (ap (λ (b : List ℕ). first ++ (b ++ tickets)) p ∙ told-parts))
-        (let z = told-sized refl refl in omega arith)
+        laid-sized (laid-as (laid-then u refl (laid-then v refl (laid-as w (ap logBytes q)))) (ap (λ (b : List ℕ). first ++ (b ++ tickets)) p ∙ reply-parts))
+        (let z = reply-sized refl refl in omega arith)

@@ -5,12 +5,12 @@ use Prim.Native.Nat.{ℕ}
 use Rattle.encoding.proofs.Bridge.{is-fit}
 use Rattle.access.specs.Plan.{starting}
 use Rattle.access.proofs.Plans.{queue-counted, misses-counted}
-use Rattle.access.proofs.Courses.{read-needs, course-full, course-join, course-start, course-hit, merge-entered}
-use Rattle.access.proofs.course.course_of.Statement.{statement}
-use Rattle.access.proofs.course.course_of.Tie as tie
+use Rattle.access.proofs.PlanTests.{read-needs, plan-full, plan-join, plan-start, plan-hit, merge-entered}
+use Rattle.access.proofs.plan.miss_plan.Statement.{statement}
+use Rattle.access.proofs.plan.miss_plan.Tie as tie
 
-pub course-of-spec : {M : Type 1} → statement M
-course-of-spec =
+pub miss-plan-spec : {M : Type 1} → statement M
+miss-plan-spec =
     tie.close
     (tie.spec
     (λ c κs. search needs)  -- places-needed-requires
@@ -26,11 +26,11 @@ course-of-spec =
           let start = needed .before .before .before .before in
           let counted = queue-counted _ t (m .is) (start .pre .0) (start .pre .2) in
           let asked = read-needs (start .args .x) (start .args .d) (start .pre .4) (needed .places-needed .ensures .0) in
-          course-full _ _ _ t p m counted asked (c .if1 .taken);
+          plan-full _ _ _ t p m counted asked (c .if1 .taken);
     })
     (λ c κs. search needs)  -- is-merge-requires
     (λ c κs. search needs)  -- address-of-requires
-    -- join-course-requires
+    -- join-plan-requires
     (λ c κs.
     let pre = c .before .before .before .before .before .before .before .before .before .pre in
     let m = pre .1 .met in
@@ -45,11 +45,11 @@ course-of-spec =
           let counted = queue-counted _ t (m .is) (start .pre .0) (start .pre .2) in
           let asked = read-needs (start .args .x) (start .args .d) (start .pre .4) (needed .places-needed .ensures .0) in
           let merges = sym (merged .is-merge .ensures) ∙ addressed .before .if2 .taken in
-          course-join _ _ _ t p m counted asked (merged .before .if1 .left) (start .pre .4) merges
-          (rw (addressed .address-of .ensures) at (c .join-course .ensures .on t (m .is) (rw (addressed .address-of .ensures) (merge-entered _ _ _ t p m merges))));
+          plan-join _ _ _ t p m counted asked (merged .before .if1 .left) (start .pre .4) merges
+          (rw (addressed .address-of .ensures) at (c .join-plan .ensures .on t (m .is) (rw (addressed .address-of .ensures) (merge-entered _ _ _ t p m merges))));
     })
     (λ c κs. search needs)  -- is-miss-requires
-    (λ c κs. search needs)  -- start-course-requires
+    (λ c κs. search needs)  -- start-plan-requires
     -- returns-3
     (λ c. record {
       on = λ t p m.
@@ -59,9 +59,9 @@ course-of-spec =
           let start = needed .before .before .before .before in
           let counted = queue-counted _ t (m .is) (start .pre .0) (start .pre .2) in
           let asked = read-needs (start .args .x) (start .args .d) (start .pre .4) (needed .places-needed .ensures .0) in
-          course-start _ _ _ t p m counted asked (merged .before .if1 .left) (start .pre .4)
+          plan-start _ _ _ t p m counted asked (merged .before .if1 .left) (start .pre .4)
           (sym (merged .is-merge .ensures) ∙ missed .before .if2 .left) (sym (missed .is-miss .ensures) ∙ c .before .if3 .taken)
-          (c .start-course .ensures ∙ ap (λ (n : ℕ). starting (start .args .s) n) (misses-counted _ t (m .is) (start .pre .0) (start .pre .3)));
+          (c .start-plan .ensures ∙ ap (λ (n : ℕ). starting (start .args .s) n) (misses-counted _ t (m .is) (start .pre .0) (start .pre .3)));
     })
     -- returns-4
     (λ c. record {
@@ -72,6 +72,6 @@ course-of-spec =
           let start = needed .before .before .before .before in
           let counted = queue-counted _ t (m .is) (start .pre .0) (start .pre .2) in
           let asked = read-needs (start .args .x) (start .args .d) (start .pre .4) (needed .places-needed .ensures .0) in
-          course-hit _ _ _ t p m counted asked (merged .before .if1 .left) (start .pre .4)
+          plan-hit _ _ _ t p m counted asked (merged .before .if1 .left) (start .pre .4)
           (sym (merged .is-merge .ensures) ∙ missed .before .if2 .left) (sym (missed .is-miss .ensures) ∙ c .if3 .left);
     }))

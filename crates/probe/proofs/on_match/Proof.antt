@@ -1,9 +1,9 @@
 use borrow.Author.Needs.{needs}
-use Rattle.probe.proofs.met.Statement.{statement}
-use Rattle.probe.proofs.met.Tie as tie
+use Rattle.probe.proofs.on_match.Statement.{statement}
+use Rattle.probe.proofs.on_match.Tie as tie
 
-pub met-spec : {M : Type 1} → statement M
-met-spec =
+pub on-match-spec : {M : Type 1} → statement M
+on-match-spec =
     tie.close
     (tie.spec
     (λ c. search needs)  -- add-line

@@ -1,9 +1,9 @@
 use borrow.Author.Needs.{needs}
-use Rattle.probe.proofs.taken.Statement.{statement}
-use Rattle.probe.proofs.taken.Tie as tie
+use Rattle.probe.proofs.on_miss.Statement.{statement}
+use Rattle.probe.proofs.on_miss.Tie as tie
 
-pub taken-spec : {M : Type 1} → statement M
-taken-spec =
+pub on-miss-spec : {M : Type 1} → statement M
+on-miss-spec =
     tie.close
     (tie.spec
     (λ c. search needs)  -- add-line

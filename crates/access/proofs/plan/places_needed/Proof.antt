@@ -1,8 +1,8 @@
 use mathlib.Core.Path.{sym, _∙_}
 use native.Mathlib.Omega.{arith}
 use borrow.Author.Needs.{needs}
-use Rattle.access.proofs.course.places_needed.Statement.{statement}
-use Rattle.access.proofs.course.places_needed.Tie as tie
+use Rattle.access.proofs.plan.places_needed.Statement.{statement}
+use Rattle.access.proofs.plan.places_needed.Tie as tie
 
 pub places-needed-spec : {M : Type 1} → statement M
 places-needed-spec =

@@ -6,7 +6,7 @@ use Prim.Native.Nat.{ℕ, _+_, min, _≤_}
 use native.Mathlib.Omega.{arith}
 use lib.Dec.{ltb, leb}
 use lib.ListN.{length, take, replicate, length-take}
-use Rattle.words.specs.Words.{pick, all, any, fit}
+use Rattle.words.specs.Words.{pick, all, any, padTo}
 use Rattle.model.specs.Address.{addressOf, isRead, wellFormed}
 use Rattle.model.specs.Tables.{Tables, idle, Outcome, refused, eventsOf}
 use Rattle.model.specs.Lent.{Lent}
@@ -15,7 +15,7 @@ use Rattle.model.specs.Probe.{Spot, Place, no, at}
 use Rattle.model.specs.Steps.{isMerge, isMiss, queues, queuedAs, queuedEvent, sentAs, placesNeeded, accept, entryFull, proceed, access, sendFrom, send, ticketsOf, sentFor, fill, tick}
 use Rattle.model.specs.Calls.{eventsTold, inTwo, tidied}
 use Rattle.model.specs.Inner.{SoundSlices, Does}
-use Rattle.model.specs.ToldShape.{ofAccess, ofSend, ofFill, ofTick, Shaped}
+use Rattle.model.specs.ReplyShape.{ofAccess, ofSend, ofFill, ofTick, Shaped}
 use Rattle.model.specs.declared.Settings.{Settings}
 use Rattle.model.specs.declared.Access.{Access}
 use Rattle.model.specs.declared.Refusal.{Refusal}
@@ -25,9 +25,9 @@ use Rattle.model.specs.declared.QueueKind.{QueueKind}
 use Rattle.model.specs.declared.QueueKind.the-variants as queue
 use Rattle.model.specs.declared.Event.{Event}
 use Rattle.model.specs.declared.Event.the-variants.{Answered, Refused, ReadQueued, WriteBackQueued, Released, ReadSent, WriteBackSent, Filled, Ticked}
-use Rattle.model.specs.declared.Told.{Told}
+use Rattle.model.specs.declared.Reply.{Reply}
 use Rattle.words.proofs.Flags.{and-1, and-2, clash}
-use Rattle.words.proofs.Places.{length-fit}
+use Rattle.words.proofs.Places.{length-padTo}
 use Rattle.words.proofs.Lists.{all-append}
 use Rattle.encoding.proofs.Bridge.{does-tells}
 
@@ -132,19 +132,19 @@ none-left : {A : Type 0} (f : A → Event) (p : Event → Bool) → ((a : A) →
 none-left f p never [] h = refl
 none-left f p never (x ∷ xs) h = clash (and-1 (p (f x)) _ h) (never x)
 
-module _ (r : Told) (tidy : tidied r ≡ r) where
+module _ (r : Reply) (tidy : tidied r ≡ r) where
   queues-are : r .queues ≡ length (take (r .queues) (r .queued))
   unfolding tidied
-  queues-are = sym (ap (λ (x : Told). x .queues) tidy)
+  queues-are = sym (ap (λ (x : Reply). x .queues) tidy)
 
   count-is : r .count ≡ length (take (r .count) (r .tickets))
   unfolding tidied
-  count-is = sym (ap (λ (x : Told). x .count) tidy)
+  count-is = sym (ap (λ (x : Reply). x .count) tidy)
 
   queues-few : r .queues ≤ 2
   unfolding tidied
   queues-few =
-      let q : r .queued ≡ inTwo (take (r .queues) (r .queued)) = sym (ap (λ (x : Told). x .queued) tidy) in
+      let q : r .queued ≡ inTwo (take (r .queues) (r .queued)) = sym (ap (λ (x : Reply). x .queued) tidy) in
       let l = queues-are in
       let m = length-take (r .queues) (r .queued) in
       let n = ap length q in
@@ -154,8 +154,8 @@ module _ (r : Told) (tidy : tidied r ≡ r) where
   tickets-few : r .count ≤ 8
   unfolding tidied
   tickets-few =
-      let q : r .tickets ≡ fit 8 (take (r .count) (r .tickets)) = sym (ap (λ (x : Told). x .tickets) tidy) in
-      omega (arith, count-is, length-take (r .count) (r .tickets), ap length q, length-fit 8 (take (r .count) (r .tickets)))
+      let q : r .tickets ≡ padTo 8 (take (r .count) (r .tickets)) = sym (ap (λ (x : Reply). x .tickets) tidy) in
+      omega (arith, count-is, length-take (r .count) (r .tickets), ap length q, length-padTo 8 (take (r .count) (r .tickets)))
 
   module _ (begins rest : Event → Bool) (t : tells begins rest (eventsTold r) ≡ true) where
     begins-so : begins (r .first) ≡ true
@@ -180,7 +180,7 @@ module _ (r : Told) (tidy : tidied r ≡ r) where
 
 -- ---- the shape of what each step tells
 
-module _ (S : Settings) {L : Lent} (held : SoundSlices S L) {r : Told} {M : Lent} where
+module _ (S : Settings) {L : Lent} (held : SoundSlices S L) {r : Reply} {M : Lent} where
   module _ {step : Tables → Outcome Tables} (d : Does S step L r M) where
     tidy : tidied r ≡ r
     tidy = d .on (held .tables) (held .are) .tidy

@@ -4,11 +4,11 @@ use native.Mathlib.Omega.{arith}
 use borrow.Author.Needs.{needs}
 use Rattle.encoding.proofs.Bridge.{is-fit}
 use Rattle.access.proofs.Plans.{found, joining-full, joining-room}
-use Rattle.access.proofs.course.join_course.Statement.{statement}
-use Rattle.access.proofs.course.join_course.Tie as tie
+use Rattle.access.proofs.plan.join_plan.Statement.{statement}
+use Rattle.access.proofs.plan.join_plan.Tie as tie
 
-pub join-course-spec : {M : Type 1} → statement M
-join-course-spec =
+pub join-plan-spec : {M : Type 1} → statement M
+join-plan-spec =
     tie.close
     (tie.spec
     (λ c κs. let pre = c .before .before .before .pre in let f = is-fit _ _ _ (pre .1 .is) in let p = pre .0 in omega (arith, pre .2 .most))  -- find-entry-requires

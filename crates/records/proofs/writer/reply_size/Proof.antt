@@ -5,10 +5,10 @@ use native.Mathlib.Omega.{arith}
 use lib.ListN.{length, length-map}
 use Rattle.words.proofs.Arrays.{words-length, words-below}
 use Rattle.records.proofs.Encoding.{event-short}
-use Rattle.records.proofs.Told.{queued-least, told-sized, told-fits}
+use Rattle.records.proofs.Reply.{queued-least, reply-sized, reply-fits}
 use borrow.Author.Needs.{needs}
-use Rattle.records.proofs.writer.told_size.Statement.{statement}
-use Rattle.records.proofs.writer.told_size.Tie as tie
+use Rattle.records.proofs.writer.reply_size.Statement.{statement}
+use Rattle.records.proofs.writer.reply_size.Tie as tie
 
 -- the sizes of the parts
 small : (c : tie.After-at-most2) → let q = c .before in let e = q .before .before in
@@ -16,7 +16,7 @@ small : (c : tie.After-at-most2) → let q = c .before in let e = q .before .bef
 small c =
     let q = c .before in
     let e = q .before .before in
-    (rw (e .event-size .ensures .0) (event-short (e .before .before .args .told .first)), q .queued-size .ensures .1, omega arith)
+    (rw (e .event-size .ensures .0) (event-short (e .before .before .args .reply .first)), q .queued-size .ensures .1, omega arith)
 
 returns : tie.Need-returns
 returns c =
@@ -24,17 +24,17 @@ returns c =
     let k = q .before in
     let e = k .before in
     let s = e .before .before in
-    let t = s .args .told in
+    let t = s .args .reply in
     let g = s .good .0 .1 .1 in
     let two : length (t .queued) ≡ 2 = sym (length-map (t .queued) _) ∙ g .1 .0 .1 .0 .1 in
     let long = words-length 8 (t .tickets) _ (g .1 .1 .1 .0) in
     let tickets = words-below 8 (t .tickets) _ (g .1 .1 .1 .0) in (
-      told-sized t two long (k .at-most .ensures) (c .at-most2 .ensures) (e .event-size .ensures .0) (q .queued-size .ensures .0),
-      told-fits t (e .event-size .ensures .1) (rw (queued-least (t .queues) 2 (t .queued) two (k .at-most .ensures)) at (q .queued-size .ensures .2)) tickets,
+      reply-sized t two long (k .at-most .ensures) (c .at-most2 .ensures) (e .event-size .ensures .0) (q .queued-size .ensures .0),
+      reply-fits t (e .event-size .ensures .1) (rw (queued-least (t .queues) 2 (t .queued) two (k .at-most .ensures)) at (q .queued-size .ensures .2)) tickets,
     )
 
-pub told-size-spec : {M : Type 1} → statement M
-told-size-spec =
+pub reply-size-spec : {M : Type 1} → statement M
+reply-size-spec =
     tie.close
     (tie.spec
     (λ c κs. search needs)  -- event-size-requires
