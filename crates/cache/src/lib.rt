@@ -66,7 +66,13 @@ fn step(
 }
 
 // Makes a call: the check, then its step.
-pub fn perform(s: Settings, longs: &mut [u64], words: &mut [u32], marks: &mut [u8], k: Call) -> Reply
+pub fn perform(
+    s: Settings,
+    longs: &mut [u64],
+    words: &mut [u32],
+    marks: &mut [u8],
+    k: Call,
+) -> Reply
     ensures { λ r. ⌜ Leaves (call s (stepBy s (callOf k)) (lent (now (longs .entry)) (now (words .entry)) (now (marks .entry))))
         (lent (now (longs .entry)) (now (words .entry)) (now (marks .entry))) r
         (lent (now (longs .exit)) (now (words .exit)) (now (marks .exit))) ⌝ }
@@ -159,7 +165,13 @@ pub fn fill(
 }
 
 // Sets the current cycle.
-pub fn tick(s: Settings, longs: &mut [u64], words: &mut [u32], marks: &mut [u8], cycle: u32) -> Reply
+pub fn tick(
+    s: Settings,
+    longs: &mut [u64],
+    words: &mut [u32],
+    marks: &mut [u8],
+    cycle: u32,
+) -> Reply
     ensures { λ r. ⌜ Leaves (tickCall s cycle (lent (now (longs .entry)) (now (words .entry)) (now (marks .entry))))
         (lent (now (longs .entry)) (now (words .entry)) (now (marks .entry))) r
         (lent (now (longs .exit)) (now (words .exit)) (now (marks .exit))) ⌝ }

@@ -37,11 +37,14 @@ module _ {c : Check} (k : Checked c) {r : Check} where
       let v = length-take-le n l h in
       let w = k .read in
       let e′ : r ≡ passedOf (passedBytes (c .checking) (take n l)) (c .read + n) = rw (le-ltb (2 ^ 64 - 1 - c .read) n z) at e in
-      rw e′ (record {
-        bytes = k .bytes ++ take n l;
-        checking = rw (k .checking) (sym (passed-append beginning (k .bytes) (take n l)));
-        read = omega arith;
-      }, λ m. omega arith))
+      rw e′ (
+        record {
+          bytes = k .bytes ++ take n l;
+          checking = rw (k .checking) (sym (passed-append beginning (k .bytes) (take n l)));
+          read = omega arith;
+        },
+        λ m. omega arith,
+      ))
       (lt-or-ge (2 ^ 64 - 1 - c .read) n)
 
   pub reads-on : (l : List ℕ) → ReadOn l c r → Onward c r

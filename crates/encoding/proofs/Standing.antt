@@ -19,7 +19,6 @@ use Rattle.encoding.proofs.Slices.{long-sizes, word-sizes, mark-sizes, 
 use Rattle.encoding.proofs.LentSoundFacts.{tag, cycle, taken, status, mask, readable, miss, sent, ticketCount, ticket, queued, kind, queueMask, now, dirtyCount, tree}
 
 infixr 2 _⨾_
-
 -- one fact after another
 _⨾_ : {A B : Type 0} → A → B → A × B
 _⨾_ a b = (a, b)

@@ -1,21 +1,18 @@
 -- The constant table of answers: where a status and a column lie in it, and its rule, by one computed test over the whole table.
 use Prim.Native.Nat.{ℕ, _<_}
 use mathlib.Core.Path.{_≡_, refl}
-use mathlib.Core.Bool.{Bool, true, false}
+use mathlib.Core.Bool.{Bool, true}
 use mathlib.Core.List.{[]}
 use native.Mathlib.Omega.{arith}
 use lib.ListN.{getD}
 use lib.Dec.{eqb}
 use Rattle.words.specs.Words.{pick, every}
 use Rattle.model.specs.Numbers.{statusNumber, statusOf, answerNumber}
-use Rattle.model.specs.Probe.{answers, columnOf, answerAt, answerOf}
+use Rattle.model.specs.Probe.{answers}
 use Rattle.model.specs.declared.Status.{Status}
 use Rattle.model.specs.declared.Status.the-variants.{Invalid, Reserved, Valid, Modified}
-use Rattle.model.specs.declared.Sector.{Sector}
 use Rattle.model.specs.declared.Answer.{Answer}
 use Rattle.model.specs.declared.Answer.the-variants.{Hit, HitReserved, Miss, SectorMiss}
-use Rattle.model.specs.declared.Access.{Access}
-use Rattle.model.specs.declared.Access.the-variants.{Read, Write}
 
 pub status-of-number : (s : Status) → statusOf (statusNumber s) ≡ s
 status-of-number Invalid = refl
@@ -29,11 +26,6 @@ status-below Reserved = omega arith
 status-below Valid = omega arith
 status-below Modified = omega arith
 
-pub column-below : (x : Access) (r : Bool) → columnOf x r < 3
-column-below (Read a m k) true = omega arith
-column-below (Read a m k) false = omega arith
-column-below (Write a m k) r = omega arith
-
 -- the rule in words: INVALID misses its sector, RESERVED is merged with, VALID hits; MODIFIED hits but for a read where it is unreadable
 abbrev rule : Status → ℕ → Answer
 rule Invalid column = SectorMiss
@@ -46,22 +38,3 @@ ruled row column = eqb (answerNumber (getD (getD answers row []) column Miss)) (
 
 pub answers-ruled : every 4 (λ row. every 3 (ruled row)) ≡ true
 answers-ruled = refl
-
--- what stands in the table at the numbers of a status and a column; the code's default outside the table is HIT
-pub answer-is : (x : Access) (s : Sector) {row column : ℕ} → row ≡ statusNumber (s .status) → column ≡ columnOf x (s .readable)
-    → getD (getD answers row []) column Hit ≡ answerOf x s
-answer-is x s e f = rw (e, f) (go x (s .status) (s .readable))
-  where
-    go : (x : Access) (t : Status) (r : Bool) → getD (getD answers (statusNumber t) []) (columnOf x r) Hit ≡ answerAt t (columnOf x r)
-    go (Read a m k) Invalid true = refl
-    go (Read a m k) Reserved true = refl
-    go (Read a m k) Valid true = refl
-    go (Read a m k) Modified true = refl
-    go (Read a m k) Invalid false = refl
-    go (Read a m k) Reserved false = refl
-    go (Read a m k) Valid false = refl
-    go (Read a m k) Modified false = refl
-    go (Write a m k) Invalid r = refl
-    go (Write a m k) Reserved r = refl
-    go (Write a m k) Valid r = refl
-    go (Write a m k) Modified r = refl

@@ -333,8 +333,8 @@ module _ (S : Settings) (t : Tables) (ok : Sound S t) (d : Entry) (m : In d (t .
       (λ e.
       let q : l .tag + 32 * k ≢ a = eqb-false (l .tag + 32 * k) a e in
       rw (
-      fill-other a l (four-at S t ok l n) k (sector-aligned a (entry-at S t ok d m .good)) q,
-      any-keep (entryFor (l .tag + 32 * k)) (others a) (t .misses) (kept (l .tag + 32 * k) q),
+        fill-other a l (four-at S t ok l n) k (sector-aligned a (entry-at S t ok d m .good)) q,
+        any-keep (entryFor (l .tag + 32 * k)) (others a) (t .misses) (kept (l .tag + 32 * k) q),
       )
       (reserved-at S t ok l n u k h))
       (flag (eqb (l .tag + 32 * k) a))

@@ -14,7 +14,6 @@ use Rattle.words.proofs.Lists.{count-index, index-count}
 use Rattle.words.proofs.Tabled.{all-get, any-get}
 
 infixl 5 _⊓_
-
 pub record Decides (b : Bool) (P : Type 0) : Type 0 where
   pub fact : b ≡ true → P
   pub test : P → b ≡ true
