@@ -1,15 +1,16 @@
 -- Numbers, fields and the end of a line, by the tests that the code makes.
-use mathlib.Core.Path.{_≡_, refl, sym, _∙_}
+use mathlib.Core.Path.{_≡_, refl, sym, ap, _∙_}
 use mathlib.Core.Bool.{Bool, true, false, _&&_}
 use mathlib.Core.List.{List}
 use Prim.Native.Nat.{ℕ, _≤_, _<_}
 use native.Mathlib.Omega.{arith}
-use borrow.Author.Tests.{le-leb, lt-leb, leb-true, eq-eqb, ne-eqb}
+use borrow.Author.Tests.{leb-true, eq-eqb, ne-eqb}
 use lib.Dec.{eqb, leb}
+use lib.ListN.{length}
 use Rattle.words.specs.Words.{pick}
 use Rattle.model.specs.declared.Command.{Command}
 use Rattle.words.proofs.Flags.{and-1}
-use Rattle.text.specs.Words.{codes, skipSpaces, wordEnd, wordAt}
+use Rattle.text.specs.Words.{codes, skipSpaces, wordEnd, wordAt, sameText}
 use Rattle.text.specs.Digits.{parseNumber}
 use Rattle.text.specs.Rules.{ruleNames, ruleOf}
 use Rattle.text.specs.declared.rules.Named.{Named}
@@ -20,23 +21,17 @@ use Rattle.text.specs.declared.Parsed.the-variants as parsed
 use Rattle.assembly.specs.declared.Expected.the-variants as expected
 use Rattle.assembly.specs.declared.Field.{Field}
 use Rattle.assembly.specs.declared.Field.the-variants.{Got, Missing}
+use Rattle.assembly.specs.declared.Line.{Line}
 use Rattle.assembly.specs.declared.Line.the-variants as line
-use Rattle.assembly.specs.Language.{most8, wholeNumber, numberNext, wordIs, behindWord, fieldNext, ruleBy, ruleValue, ruleNext, endsAt, whole, byWord, parseLine}
-
-module _ (most : ℕ) (s : List ℕ) (v next : ℕ) where
-  pub number-over : most < v → Missing ≡ wholeNumber most s (parsed.Number v next)
-  number-over h = rw (lt-leb v most h)
-
-  pub number-whole : {e : ℕ} → v ≤ most → e ≡ wordEnd s next → e ≡ next → Got v next ≡ wholeNumber most s (parsed.Number v next)
-  number-whole h p q = rw (le-leb v most h, eq-eqb (wordEnd s next) next (sym p ∙ q))
-
-  pub number-stuck : {e : ℕ} → v ≤ most → e ≡ wordEnd s next → (e ≡ next → ⊥) → Missing ≡ wholeNumber most s (parsed.Number v next)
-  number-stuck h p q = rw (le-leb v most h, ne-eqb (wordEnd s next) next (λ z. q (p ∙ z)))
+use Rattle.assembly.specs.Language.{wholeNumber, numberNext, wordIs, behindWord, fieldNext, ruleBy, ruleValue, ruleNext, endsAt, whole}
 
 module _ (most : ℕ) (s : List ℕ) (at : ℕ) where
   pub number-read : {a : ℕ} {x y : Parsed} {r : Field} → a ≡ skipSpaces s at → x ≡ parseNumber s a → x ≡ y → r ≡ wholeNumber most s y → r ≡ numberNext most s at
   unfolding numberNext
   number-read p q e h = let z = sym e ∙ q in rw (← p, ← z) h
+
+  pub number-sized : {a : ℕ} {x : Parsed} {v next e : ℕ} {b : Bool} → a ≡ skipSpaces s at → x ≡ parseNumber s a → x ≡ parsed.Number v next → e ≡ wordEnd s next → (leb v most && eqb e next) ≡ b → pick b (Got v next) Missing ≡ numberNext most s at
+  number-sized p q e w t = number-read p q e (rw (← w, t))
 
   -- no number is above its field's largest
   pub number-most : {v next : ℕ} → numberNext most s at ≡ Got v next → v ≤ most
@@ -53,22 +48,27 @@ module _ (most : ℕ) (s : List ℕ) (at : ℕ) where
       by-number parsed.TooLarge q = let z : _≡_ {A = ℕ} 0 1 = cc in omega arith
 
 module _ (w : List ℕ) (f : List ℕ → ℕ → Field) (s : List ℕ) (at : ℕ) where
-  pub word-there : {a e : ℕ} {t : Bool} {r : Field} → a ≡ skipSpaces s at → t ≡ wordIs s a w → t ≡ true → e ≡ wordEnd s a → r ≡ f s e → r ≡ behindWord w f s at
+  pub word-none : length w ≡ 0 → {r : Field} → r ≡ f s at → r ≡ behindWord w f s at
   unfolding behindWord
-  word-there p q t e h = let z = sym q ∙ t in rw (← p, z, ← e) h
+  word-none n h = rw (eq-eqb (length w) 0 n) h
 
-  pub word-missing : {a : ℕ} {t : Bool} → a ≡ skipSpaces s at → t ≡ wordIs s a w → t ≡ false → Missing ≡ behindWord w f s at
+  pub word-there : (length w ≡ 0 → ⊥) → {a e : ℕ} {t : Bool} {r : Field} → a ≡ skipSpaces s at → t ≡ wordIs s a w → t ≡ true → e ≡ wordEnd s a → r ≡ f s e → r ≡ behindWord w f s at
   unfolding behindWord
-  word-missing p q t = let z = sym q ∙ t in rw (← p, z)
+  word-there n p q t e h = let z = sym q ∙ t in rw (ne-eqb (length w) 0 n, ← p, z, ← e) h
+
+  pub word-missing : (length w ≡ 0 → ⊥) → {a : ℕ} {t : Bool} → a ≡ skipSpaces s at → t ≡ wordIs s a w → t ≡ false → Missing ≡ behindWord w f s at
+  unfolding behindWord
+  word-missing n p q t = let z = sym q ∙ t in rw (ne-eqb (length w) 0 n, ← p, z)
 
   -- what is behind the word is no larger for it
   behind-most : (most : ℕ) → ((i v next : ℕ) → f s i ≡ Got v next → v ≤ most) → {v next : ℕ} → behindWord w f s at ≡ Got v next → v ≤ most
   unfolding behindWord
-  behind-most most small {v} {next} e = go (wordIs s (skipSpaces s at) w) e
+  behind-most most small {v} {next} e = go (eqb (length w) 0) (wordIs s (skipSpaces s at) w) e
     where
-      go : (t : Bool) → pick t (f s (wordEnd s (skipSpaces s at))) Missing ≡ Got v next → v ≤ most
-      go true q = small (wordEnd s (skipSpaces s at)) v next q
-      go false q = let z : _≡_ {A = ℕ} 0 1 = cc in omega arith
+      go : (n t : Bool) → pick n (f s at) (pick t (f s (wordEnd s (skipSpaces s at))) Missing) ≡ Got v next → v ≤ most
+      go true t q = small at v next q
+      go false true q = small (wordEnd s (skipSpaces s at)) v next q
+      go false false q = let z : _≡_ {A = ℕ} 0 1 = cc in omega arith
 
 pub field-most : (w : List ℕ) (most : ℕ) (s : List ℕ) (at : ℕ) {v next : ℕ} → fieldNext w most s at ≡ Got v next → v ≤ most
 field-most w most s at e = behind-most w (numberNext most) s at most (λ i v next q. number-most most s i q) e
@@ -80,20 +80,20 @@ module _ (s : List ℕ) (at : ℕ) where
   unfolding ruleValue
   value-named p q h e = let z = sym q ∙ h in rw (← p, z, e)
 
-  pub value-number : {a : ℕ} {x : Named} {r : Field} → a ≡ skipSpaces s at → x ≡ ruleOf (wordAt s a) → x ≡ Nothing → r ≡ numberNext most8 s at → r ≡ ruleValue s at
+  pub value-number : {a : ℕ} {x : Named} {r : Field} → a ≡ skipSpaces s at → x ≡ ruleOf (wordAt s a) → x ≡ Nothing → r ≡ numberNext 0xff s at → r ≡ ruleValue s at
   unfolding ruleValue
   value-number p q h e = let z = sym q ∙ h in rw (← p, z) e
 
-  value-most : (v next : ℕ) → ruleValue s at ≡ Got v next → v ≤ most8
+  value-most : (v next : ℕ) → ruleValue s at ≡ Got v next → v ≤ 0xff
   unfolding ruleValue
   value-most v next = go (ruleOf (wordAt s (skipSpaces s at))) refl
     where
-      go : (x : Named) → ruleOf (wordAt s (skipSpaces s at)) ≡ x → ruleBy s at (skipSpaces s at) x ≡ Got v next → v ≤ most8
+      go : (x : Named) → ruleOf (wordAt s (skipSpaces s at)) ≡ x → ruleBy s at (skipSpaces s at) x ≡ Got v next → v ≤ 0xff
       go (Rule n) e q = let z : n ≡ v = cc in omega (arith, rule-below 0 ruleNames (wordAt s (skipSpaces s at)) e)
-      go Nothing e q = number-most most8 s at q
+      go Nothing e q = number-most 0xff s at q
 
-pub rule-most : (s : List ℕ) (at : ℕ) {v next : ℕ} → ruleNext s at ≡ Got v next → v ≤ most8
-rule-most s at e = behind-most (codes "rule") ruleValue s at most8 (λ i v next q. value-most s i v next q) e
+pub rule-most : (s : List ℕ) (at : ℕ) {v next : ℕ} → ruleNext s at ≡ Got v next → v ≤ 0xff
+rule-most s at e = behind-most (codes "rule") ruleValue s at 0xff (λ i v next q. value-most s i v next q) e
 
 -- ---- the end of a line
 
@@ -108,8 +108,3 @@ module _ (s : List ℕ) (at : ℕ) (c : Command) {t : Bool} (e : t ≡ endsAt s 
   pub whole-more : t ≡ false → line.Bad expected.End ≡ whole s at c
   unfolding whole
   whole-more h = rw (sym e ∙ h)
-
--- a line goes by its first word
-pub line-opened : (s : List ℕ) {at end : ℕ} → at ≡ skipSpaces s 0 → end ≡ wordEnd s at → parseLine s ≡ byWord s at end
-unfolding parseLine
-line-opened s p q = rw (q, p)

@@ -1,12 +1,14 @@
 -- What a line means: words and numbers in order, each number within its field, a comment from `#` on.
 --     settings sets N ways N dirty N misses N readers N queue N        settings .. queue N rule RULE, a RULE being a name or a number
 --     read ADDRESS ticket N        write ADDRESS mask N        send        fill ADDRESS        tick CYCLE
-use Prim.Native.Nat.{ℕ}
+use Prim.Native.Nat.{ℕ, suc}
 use mathlib.Core.Bool.{Bool, _&&_}
-use mathlib.Core.List.{List}
+use mathlib.Core.List.{List, [], _∷_}
+use Prim.Native.String.{String}
+use lib.ListN.{length, getD, set, replicate}
 use lib.Dec.{eqb, leb}
 use Rattle.words.specs.Words.{pick}
-use Rattle.model.specs.declared.Given.{Given}
+use Rattle.model.specs.declared.GivenRule.{GivenRule}
 use Rattle.model.specs.declared.GivenRule.the-variants.{LeftOut, Byte}
 use Rattle.model.specs.declared.Command.{Command}
 use Rattle.model.specs.declared.Command.the-variants as cmd
@@ -25,19 +27,6 @@ use Rattle.assembly.specs.declared.Field.the-variants.{Got, Missing}
 use Rattle.assembly.specs.declared.Line.{Line}
 use Rattle.assembly.specs.declared.Line.the-variants as line
 
--- the largest numbers of 8, 16, 32 and 64 bits
-abbrev pub most8 : ℕ
-most8 = 0xff
-
-abbrev pub most16 : ℕ
-most16 = 0xffff
-
-abbrev pub most32 : ℕ
-most32 = 0xffffffff
-
-abbrev pub most64 : ℕ
-most64 = 0xffffffffffffffff
-
 -- a number that is a whole word and within its field
 abbrev pub wholeNumber : ℕ → List ℕ → Parsed → Field
 wholeNumber most s (parsed.Number v next) = pick (leb v most && eqb (wordEnd s next) next) (Got v next) Missing
@@ -51,18 +40,20 @@ numberNext most s at = wholeNumber most s (parseNumber s (skipSpaces s at))
 abbrev pub wordIs : List ℕ → ℕ → List ℕ → Bool
 wordIs s at w = sameText (wordAt s at) w
 
--- the next word is w, and f is behind it
+-- the next word is w, and f is behind it; where w is empty, f is next
 unfoldable pub behindWord : List ℕ → (List ℕ → ℕ → Field) → List ℕ → ℕ → Field
-behindWord w f s at = pick (wordIs s (skipSpaces s at) w) (f s (wordEnd s (skipSpaces s at))) Missing
+behindWord w f s at =
+    pick (eqb (length w) 0) (f s at) (
+    pick (wordIs s (skipSpaces s at) w) (f s (wordEnd s (skipSpaces s at))) Missing)
 
--- the next word is w, and the one behind it such a number
+-- such a number behind the word w, if that is not empty
 abbrev pub fieldNext : List ℕ → ℕ → List ℕ → ℕ → Field
 fieldNext w most = behindWord w (numberNext most)
 
 -- a rule: the word at start, behind `at`, names it, or is a number of a byte
 abbrev pub ruleBy : List ℕ → ℕ → ℕ → Named → Field
 ruleBy s at start (Rule n) = Got n (wordEnd s start)
-ruleBy s at start Nothing = numberNext most8 s at
+ruleBy s at start Nothing = numberNext 0xff s at
 
 unfoldable pub ruleValue : List ℕ → ℕ → Field
 ruleValue s at = ruleBy s at (skipSpaces s at) (ruleOf (wordAt s (skipSpaces s at)))
@@ -82,64 +73,68 @@ endsAt s at = eqb (wordEnd s (skipSpaces s at)) (skipSpaces s at)
 unfoldable pub whole : List ℕ → ℕ → Command → Line
 whole s at c = pick (endsAt s at) (line.Command c) (line.Bad expected.End)
 
--- ---- each command, behind its own word
+-- ---- settings
 
--- the same settings with a rule byte
-abbrev pub ruled : Given → ℕ → Given
-ruled g n = given (g .sets) (g .ways) (g .dirty) (g .misses) (g .readers) (g .queue) (Byte n)
+abbrev pub settingsBy : (ℕ → ℕ) → GivenRule → Command
+settingsBy n rule = cmd.Settings (given (n 0) (n 1) (n 2) (n 3) (n 4) (n 5) rule)
 
 -- the settings without a rule, and the rule behind them if there is one
-unfoldable pub ruleFrom : List ℕ → ℕ → Given → Line
-ruleFrom s at g =
-    pick (endsAt s at) (line.Command (cmd.Settings g))
-    (andThen expected.Rule (ruleNext s at) (λ rule a. whole s a (cmd.Settings (ruled g rule))))
+unfoldable pub ruleFrom : (ℕ → ℕ) → List ℕ → ℕ → Line
+ruleFrom n s at =
+    pick (endsAt s at) (line.Command (settingsBy n LeftOut))
+    (andThen expected.Rule (ruleNext s at) (λ rule a. whole s a (settingsBy n (Byte rule))))
 
--- the last three settings of them, behind the first three
-unfoldable pub buffersFrom : List ℕ → ℕ → ℕ → ℕ → ℕ → Line
-buffersFrom s at sets ways dirty =
-    andThen expected.Misses (fieldNext (codes "misses") most8 s at) (λ misses a.
-    andThen expected.Readers (fieldNext (codes "readers") most8 s a) (λ readers b.
-    andThen expected.Queue (fieldNext (codes "queue") most8 s b) (λ queue c.
-    ruleFrom s c (given sets ways dirty misses readers queue LeftOut))))
+-- ---- the table of lines
 
-unfoldable pub settingsFrom : List ℕ → ℕ → Line
-settingsFrom s at =
-    andThen expected.Sets (fieldNext (codes "sets") most16 s at) (λ sets a.
-    andThen expected.Ways (fieldNext (codes "ways") most8 s a) (λ ways b.
-    andThen expected.Dirty (fieldNext (codes "dirty") most8 s b) (λ dirty c.
-    buffersFrom s c sets ways dirty)))
+-- a part of a line: a word, which may be empty, and the number behind it; its largest number; what a line without it lacks
+pub record Part : Type 0 where
+  pub word : List ℕ
+  pub most : ℕ
+  pub lacks : Expected
 
-unfoldable pub readFrom : List ℕ → ℕ → Line
-readFrom s at =
-    andThen expected.Address (numberNext most64 s at) (λ address a.
-    andThen expected.Ticket (fieldNext (codes "ticket") most32 s a) (λ ticket b.
-    whole s b (cmd.Read address ticket)))
+abbrev pub part : String → ℕ → Expected → Part
+part w n x = record { word = codes w; most = n; lacks = x }
 
-unfoldable pub writeFrom : List ℕ → ℕ → Line
-writeFrom s at =
-    andThen expected.Address (numberNext most64 s at) (λ address a.
-    andThen expected.Mask (fieldNext (codes "mask") most32 s a) (λ mask b.
-    whole s b (cmd.Write address mask)))
+-- a command: its word, its parts, and what their numbers come to, by the rest of the line
+pub record Form : Type 0 where
+  pub word : List ℕ
+  pub parts : List Part
+  pub comes : (ℕ → ℕ) → List ℕ → ℕ → Line
 
-unfoldable pub fillFrom : List ℕ → ℕ → Line
-fillFrom s at = andThen expected.Address (numberNext most64 s at) (λ address a. whole s a (cmd.Fill address))
+abbrev pub form : String → List Part → ((ℕ → ℕ) → List ℕ → ℕ → Line) → Form
+form w ps f = record { word = codes w; parts = ps; comes = f }
 
-unfoldable pub tickFrom : List ℕ → ℕ → Line
-tickFrom s at = andThen expected.Cycle (numberNext most32 s at) (λ cycle a. whole s a (cmd.Tick cycle))
+unfoldable pub forms : List Form
+forms =
+    form "settings" (
+    part "sets" 0xffff expected.Sets ∷
+    part "ways" 0xff expected.Ways ∷
+    part "dirty" 0xff expected.Dirty ∷
+    part "misses" 0xff expected.Misses ∷
+    part "readers" 0xff expected.Readers ∷
+    part "queue" 0xff expected.Queue ∷ [])
+    ruleFrom ∷
+    form "read" (part "" 0xffffffffffffffff expected.Address ∷ part "ticket" 0xffffffff expected.Ticket ∷ []) (λ n s at. whole s at (cmd.Read (n 0) (n 1))) ∷
+    form "write" (part "" 0xffffffffffffffff expected.Address ∷ part "mask" 0xffffffff expected.Mask ∷ []) (λ n s at. whole s at (cmd.Write (n 0) (n 1))) ∷
+    form "send" [] (λ n s at. whole s at cmd.Send) ∷
+    form "fill" (part "" 0xffffffffffffffff expected.Address ∷ []) (λ n s at. whole s at (cmd.Fill (n 0))) ∷
+    form "tick" (part "" 0xffffffff expected.Cycle ∷ []) (λ n s at. whole s at (cmd.Tick (n 0))) ∷ []
 
 -- ---- a line
 
+-- the parts in order, the first of which has number i, behind those whose numbers are in ns; then what the numbers come to
+unfoldable pub partsFrom : Form → List Part → ℕ → List ℕ → List ℕ → ℕ → Line
+partsFrom f [] i ns s at = f .comes (λ j. getD ns j 0) s at
+partsFrom f (p ∷ ps) i ns s at = andThen (p .lacks) (fieldNext (p .word) (p .most) s at) (λ n next. partsFrom f ps (suc i) (set ns i n) s next)
+
+-- no form has more than six numbers
+abbrev pub formFrom : Form → List ℕ → ℕ → Line
+formFrom f s at = partsFrom f (f .parts) 0 (replicate 6 0) s at
+
 -- by the word at `at`, which ends at `end`
-abbrev pub byWord : List ℕ → ℕ → ℕ → Line
-byWord s at end =
-    pick (eqb end at) line.Empty (
-    pick (wordIs s at (codes "settings")) (settingsFrom s end) (
-    pick (wordIs s at (codes "read")) (readFrom s end) (
-    pick (wordIs s at (codes "write")) (writeFrom s end) (
-    pick (wordIs s at (codes "send")) (whole s end cmd.Send) (
-    pick (wordIs s at (codes "fill")) (fillFrom s end) (
-    pick (wordIs s at (codes "tick")) (tickFrom s end)
-    (line.Bad expected.Command)))))))
+unfoldable pub byWord : List Form → List ℕ → ℕ → ℕ → Line
+byWord [] s at end = line.Bad expected.Command
+byWord (f ∷ fs) s at end = pick (wordIs s at (f .word)) (formFrom f s end) (byWord fs s at end)
 
 unfoldable pub parseLine : List ℕ → Line
-parseLine s = byWord s (skipSpaces s 0) (wordEnd s (skipSpaces s 0))
+parseLine s = pick (endsAt s 0) line.Empty (byWord forms s (skipSpaces s 0) (wordEnd s (skipSpaces s 0)))

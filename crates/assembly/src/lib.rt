@@ -1,6 +1,10 @@
 // One line of the assembler's language to a command: words and numbers in order.
 ghost use mathlib.Core.Path.{_≡_};
-ghost use Rattle.assembly.specs.Language.{wholeNumber, numberNext, fieldNext, ruleValue, ruleNext, endsAt, whole, ruled, ruleFrom, buffersFrom, settingsFrom, readFrom, writeFrom, fillFrom, tickFrom, parseLine};
+ghost use Prim.Native.Nat.{_<_};
+ghost use lib.ListN.{length, getD};
+ghost use Rattle.text.specs.Words.{wordAt};
+ghost use Rattle.assembly.specs.Language.{numberNext, fieldNext, ruleNext, endsAt, whole, settingsBy, ruleFrom, forms, formFrom, parseLine};
+ghost use Rattle.assembly.specs.Tables.{rows, noRow, placeOf, formOf, Within};
 ghost use Rattle.assembly.specs.Output.{Assembles};
 use model::Command;
 use model::Given;
@@ -45,18 +49,57 @@ enum Field {
     Missing,
 }
 
-// A number that is a whole word and not above the most.
-fn whole_number(line: &[u8], value: u64, next: usize, most: u64) -> Field
-    ensures { λ r. ⌜ r ≡ wholeNumber most (now (line .entry)) (Parsed.Number value next) ⌝ }
+// A part of a line: its word, with spaces behind it, its largest number, and what a line without it lacks.
+struct Row([u8; 8], u64, Expected);
+
+const ROWS: [Row; 12] = [
+    Row(*b"sets    ", 0xffff, Expected::Sets),
+    Row(*b"ways    ", 0xff, Expected::Ways),
+    Row(*b"dirty   ", 0xff, Expected::Dirty),
+    Row(*b"misses  ", 0xff, Expected::Misses),
+    Row(*b"readers ", 0xff, Expected::Readers),
+    Row(*b"queue   ", 0xff, Expected::Queue),
+    Row(*b"        ", u64::MAX, Expected::Address),
+    Row(*b"ticket  ", 0xffff_ffff, Expected::Ticket),
+    Row(*b"        ", u64::MAX, Expected::Address),
+    Row(*b"mask    ", 0xffff_ffff, Expected::Mask),
+    Row(*b"        ", u64::MAX, Expected::Address),
+    Row(*b"        ", 0xffff_ffff, Expected::Cycle),
+];
+
+// A command: its word, and which rows are its parts: the first, and how many.
+struct Form([u8; 8], usize, usize);
+
+const FORMS: [Form; 6] = [
+    Form(*b"settings", 0, 6),
+    Form(*b"read    ", 6, 2),
+    Form(*b"write   ", 8, 2),
+    Form(*b"send    ", 10, 0),
+    Form(*b"fill    ", 10, 1),
+    Form(*b"tick    ", 11, 1),
+];
+
+// The form of a command.
+fn form_of(k: usize) -> Form
+    requires { ⌜ k < length forms ⌝ }
+    ensures { λ r. ⌜ r ≡ placeOf k ⌝ }
 {
-    if most < value {
-        return Field::Missing;
-    }
-    if text::word_end(line, next) == next {
-        Field::Got { value, next }
-    } else {
-        Field::Missing
-    }
+    FORMS[k]
+}
+
+// A row of the table.
+fn row_of(at: usize) -> Row
+    requires { ⌜ at < length rows ⌝ }
+    ensures { λ r. ⌜ r ≡ getD rows at noRow ⌝ }
+{
+    ROWS[at]
+}
+
+// The word in a row.
+fn word_in(row: &[u8; 8]) -> &[u8]
+    ensures { λ r. ⌜ now r ≡ wordAt (now (row .entry)) 0 ⌝ }
+{
+    text::front(row, text::word_end(row, 0))
 }
 
 // The next word as a number of at most `most`.
@@ -64,16 +107,26 @@ fn number_next(line: &[u8], at: usize, most: u64) -> Field
     ensures { λ r. ⌜ r ≡ numberNext most (now (line .entry)) at ⌝ }
 {
     match text::parse_number(line, text::skip_spaces(line, at)) {
-        Parsed::Number { value, next } => whole_number(line, value, next, most),
+        Parsed::Number { value, next } => {
+            let whole = text::word_end(line, next) == next;
+            if (value <= most) & whole {
+                Field::Got { value, next }
+            } else {
+                Field::Missing
+            }
+        }
         Parsed::Nothing => Field::Missing,
         Parsed::TooLarge => Field::Missing,
     }
 }
 
-// The word and the number behind it.
+// The word, if it is not empty, and the number behind it.
 fn field_next(line: &[u8], at: usize, word: &[u8], most: u64) -> Field
     ensures { λ r. ⌜ r ≡ fieldNext (now (word .entry)) most (now (line .entry)) at ⌝ }
 {
+    if word.len() == 0 {
+        return number_next(line, at, most);
+    }
     let start = text::skip_spaces(line, at);
     if text::word_is(line, start, word) {
         number_next(line, text::word_end(line, start), most)
@@ -82,27 +135,21 @@ fn field_next(line: &[u8], at: usize, word: &[u8], most: u64) -> Field
     }
 }
 
-// The next word as a rule: one with a name, or the number of its byte.
-fn rule_value(line: &[u8], at: usize) -> Field
-    ensures { λ r. ⌜ r ≡ ruleValue (now (line .entry)) at ⌝ }
-{
-    let start = text::skip_spaces(line, at);
-    match text::rules::rule_at(line, start) {
-        Named::Rule(n) => Field::Got {
-            value: n as u64,
-            next: text::word_end(line, start),
-        },
-        Named::Nothing => number_next(line, at, 0xff),
-    }
-}
-
-// The rule behind the word `rule`, if that comes next.
+// The rule behind the word `rule`, if that comes next: one with a name, or the number of its byte.
 fn rule_next(line: &[u8], at: usize) -> Field
     ensures { λ r. ⌜ r ≡ ruleNext (now (line .entry)) at ⌝ }
 {
     let start = text::skip_spaces(line, at);
     if text::word_is(line, start, b"rule") {
-        rule_value(line, text::word_end(line, start))
+        let end = text::word_end(line, start);
+        let name = text::skip_spaces(line, end);
+        match text::rules::rule_at(line, name) {
+            Named::Rule(n) => Field::Got {
+                value: n as u64,
+                next: text::word_end(line, name),
+            },
+            Named::Nothing => number_next(line, end, 0xff),
+        }
     } else {
         Field::Missing
     }
@@ -127,213 +174,101 @@ fn ended(line: &[u8], at: usize, c: Command) -> Line
     }
 }
 
-// Settings that say their rule.
-fn ruled(g: Given, n: u8) -> Given
-    ensures { λ r. ⌜ r ≡ ruled g n ⌝ }
+// The settings of a line's numbers, and their rule.
+fn settings_of(n: [u64; 6], rule: GivenRule) -> Command
+    requires { ⌜ Within 0 n ⌝ }
+    ensures { λ r. ⌜ r ≡ settingsBy (λ j. getD n j 0) rule ⌝ }
 {
-    Given {
-        sets: g.sets,
-        ways: g.ways,
-        dirty: g.dirty,
-        misses: g.misses,
-        readers: g.readers,
-        queue: g.queue,
-        rule: GivenRule::Byte(n),
-    }
+    Command::Settings(Given {
+        sets: n[0] as u16,
+        ways: n[1] as u8,
+        dirty: n[2] as u8,
+        misses: n[3] as u8,
+        readers: n[4] as u8,
+        queue: n[5] as u8,
+        rule,
+    })
 }
 
 // The settings without a rule, and the rule behind them if there is one.
-fn rule_line(line: &[u8], at: usize, g: Given) -> Line
-    ensures { λ r. ⌜ r ≡ ruleFrom (now (line .entry)) at g ⌝ }
+fn rule_line(line: &[u8], at: usize, n: [u64; 6]) -> Line
+    requires { ⌜ Within 0 n ⌝ }
+    ensures { λ r. ⌜ r ≡ ruleFrom (λ j. getD n j 0) (now (line .entry)) at ⌝ }
 {
     if ends_at(line, at) {
-        return Line::Command(Command::Settings(g));
+        return Line::Command(settings_of(n, GivenRule::LeftOut));
     }
-    let Field::Got {
-        value: rule,
-        next: a,
-    } = rule_next(line, at)
-    else {
+    let Field::Got { value, next } = rule_next(line, at) else {
         return Line::Bad(Expected::Rule);
     };
-    ended(line, a, Command::Settings(ruled(g, rule as u8)))
+    ended(line, next, settings_of(n, GivenRule::Byte(value as u8)))
 }
 
-// The last three settings, behind the first three.
-fn buffers_line(line: &[u8], at: usize, sets: u16, ways: u8, dirty: u8) -> Line
-    ensures { λ r. ⌜ r ≡ buffersFrom (now (line .entry)) at sets ways dirty ⌝ }
+// What a command's numbers come to, by the rest of the line.
+fn line_of(line: &[u8], at: usize, k: usize, n: [u64; 6]) -> Line
+    requires { ⌜ (k < length forms) × Within k n ⌝ }
+    ensures { λ r. ⌜ r ≡ formOf k .comes (λ j. getD n j 0) (now (line .entry)) at ⌝ }
 {
-    let Field::Got {
-        value: misses,
-        next: a,
-    } = field_next(line, at, b"misses", 0xff)
-    else {
-        return Line::Bad(Expected::Misses);
-    };
-    let Field::Got {
-        value: readers,
-        next: b,
-    } = field_next(line, a, b"readers", 0xff)
-    else {
-        return Line::Bad(Expected::Readers);
-    };
-    let Field::Got {
-        value: queue,
-        next: c,
-    } = field_next(line, b, b"queue", 0xff)
-    else {
-        return Line::Bad(Expected::Queue);
-    };
-    let settings = Given {
-        sets,
-        ways,
-        dirty,
-        misses: misses as u8,
-        readers: readers as u8,
-        queue: queue as u8,
-        rule: GivenRule::LeftOut,
-    };
-    rule_line(line, c, settings)
+    match k {
+        0 => rule_line(line, at, n),
+        1 => {
+            let address = n[0];
+            let ticket = n[1] as u32;
+            ended(line, at, Command::Read { address, ticket })
+        }
+        2 => {
+            let address = n[0];
+            let mask = n[1] as u32;
+            ended(line, at, Command::Write { address, mask })
+        }
+        3 => ended(line, at, Command::Send),
+        4 => ended(line, at, Command::Fill(n[0])),
+        _ => ended(line, at, Command::Tick(n[0] as u32)),
+    }
 }
 
-// A line of settings.
-fn settings_line(line: &[u8], at: usize) -> Line
-    ensures { λ r. ⌜ r ≡ settingsFrom (now (line .entry)) at ⌝ }
+// The parts of a command's line in order, and what they come to.
+fn form_line(line: &[u8], at: usize, k: usize) -> Line
+    requires { ⌜ k < length forms ⌝ }
+    ensures { λ r. ⌜ r ≡ formFrom (formOf k) (now (line .entry)) at ⌝ }
 {
-    let Field::Got {
-        value: sets,
-        next: a,
-    } = field_next(line, at, b"sets", 0xffff)
-    else {
-        return Line::Bad(Expected::Sets);
-    };
-    let Field::Got {
-        value: ways,
-        next: b,
-    } = field_next(line, a, b"ways", 0xff)
-    else {
-        return Line::Bad(Expected::Ways);
-    };
-    let Field::Got {
-        value: dirty,
-        next: c,
-    } = field_next(line, b, b"dirty", 0xff)
-    else {
-        return Line::Bad(Expected::Dirty);
-    };
-    buffers_line(line, c, sets as u16, ways as u8, dirty as u8)
-}
-
-// A line of a read.
-fn read_line(line: &[u8], at: usize) -> Line
-    ensures { λ r. ⌜ r ≡ readFrom (now (line .entry)) at ⌝ }
-{
-    let Field::Got {
-        value: address,
-        next: a,
-    } = number_next(line, at, u64::MAX)
-    else {
-        return Line::Bad(Expected::Address);
-    };
-    let Field::Got {
-        value: ticket,
-        next: b,
-    } = field_next(line, a, b"ticket", 0xffff_ffff)
-    else {
-        return Line::Bad(Expected::Ticket);
-    };
-    ended(
-        line,
-        b,
-        Command::Read {
-            address,
-            ticket: ticket as u32,
-        },
-    )
-}
-
-// A line of a write.
-fn write_line(line: &[u8], at: usize) -> Line
-    ensures { λ r. ⌜ r ≡ writeFrom (now (line .entry)) at ⌝ }
-{
-    let Field::Got {
-        value: address,
-        next: a,
-    } = number_next(line, at, u64::MAX)
-    else {
-        return Line::Bad(Expected::Address);
-    };
-    let Field::Got {
-        value: mask,
-        next: b,
-    } = field_next(line, a, b"mask", 0xffff_ffff)
-    else {
-        return Line::Bad(Expected::Mask);
-    };
-    ended(
-        line,
-        b,
-        Command::Write {
-            address,
-            mask: mask as u32,
-        },
-    )
-}
-
-// A line of a fill.
-fn fill_line(line: &[u8], at: usize) -> Line
-    ensures { λ r. ⌜ r ≡ fillFrom (now (line .entry)) at ⌝ }
-{
-    let Field::Got {
-        value: address,
-        next: a,
-    } = number_next(line, at, u64::MAX)
-    else {
-        return Line::Bad(Expected::Address);
-    };
-    ended(line, a, Command::Fill(address))
-}
-
-// A line of a tick.
-fn tick_line(line: &[u8], at: usize) -> Line
-    ensures { λ r. ⌜ r ≡ tickFrom (now (line .entry)) at ⌝ }
-{
-    let Field::Got {
-        value: cycle,
-        next: a,
-    } = number_next(line, at, 0xffff_ffff)
-    else {
-        return Line::Bad(Expected::Cycle);
-    };
-    ended(line, a, Command::Tick(cycle as u32))
+    let form = form_of(k);
+    let first = form.1;
+    let count = form.2;
+    let mut numbers = [0; 6];
+    let mut place = at;
+    let mut i = 0;
+    while i < count {
+        let row = row_of(first + i);
+        let word = row.0;
+        let lacks = row.2;
+        let Field::Got { value, next } = field_next(line, place, word_in(&word), row.1) else {
+            return Line::Bad(lacks);
+        };
+        numbers[i] = value;
+        place = next;
+        i += 1;
+    }
+    line_of(line, place, k, numbers)
 }
 
 // What a line says: a command, nothing, or what it lacks.
 pub fn parse_line(line: &[u8]) -> Line
     ensures { λ r. ⌜ r ≡ parseLine (now (line .entry)) ⌝ }
 {
-    let at = text::skip_spaces(line, 0);
-    let end = text::word_end(line, at);
-    if end == at {
+    if ends_at(line, 0) {
         return Line::Empty;
     }
-    if text::word_is(line, at, b"settings") {
-        return settings_line(line, end);
-    }
-    if text::word_is(line, at, b"read") {
-        return read_line(line, end);
-    }
-    if text::word_is(line, at, b"write") {
-        return write_line(line, end);
-    }
-    if text::word_is(line, at, b"send") {
-        return ended(line, end, Command::Send);
-    }
-    if text::word_is(line, at, b"fill") {
-        return fill_line(line, end);
-    }
-    if text::word_is(line, at, b"tick") {
-        return tick_line(line, end);
+    let at = text::skip_spaces(line, 0);
+    let end = text::word_end(line, at);
+    let mut k = 0;
+    while k < FORMS.len() {
+        let form = form_of(k);
+        let word = form.0;
+        if text::word_is(line, at, word_in(&word)) {
+            return form_line(line, end, k);
+        }
+        k += 1;
     }
     Line::Bad(Expected::Command)
 }
