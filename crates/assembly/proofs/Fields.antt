@@ -1,8 +1,8 @@
 -- Numbers, fields and the end of a line, by the tests that the code makes.
-use mathlib.Core.Path.{_≡_, refl, sym, ap, _∙_}
+use mathlib.Core.Path.{_≡_, refl, sym, _∙_}
 use mathlib.Core.Bool.{Bool, true, false, _&&_}
 use mathlib.Core.List.{List}
-use Prim.Native.Nat.{ℕ, _≤_, _<_}
+use Prim.Native.Nat.{ℕ, _≤_}
 use native.Mathlib.Omega.{arith}
 use borrow.Author.Tests.{leb-true, eq-eqb, ne-eqb}
 use lib.Dec.{eqb, leb}
@@ -10,7 +10,7 @@ use lib.ListN.{length}
 use Rattle.words.specs.Words.{pick}
 use Rattle.model.specs.declared.Command.{Command}
 use Rattle.words.proofs.Flags.{and-1}
-use Rattle.text.specs.Words.{codes, skipSpaces, wordEnd, wordAt, sameText}
+use Rattle.text.specs.Words.{codes, skipSpaces, wordEnd, wordAt}
 use Rattle.text.specs.Digits.{parseNumber}
 use Rattle.text.specs.Rules.{ruleNames, ruleOf}
 use Rattle.text.specs.declared.rules.Named.{Named}
@@ -21,7 +21,6 @@ use Rattle.text.specs.declared.Parsed.the-variants as parsed
 use Rattle.assembly.specs.declared.Expected.the-variants as expected
 use Rattle.assembly.specs.declared.Field.{Field}
 use Rattle.assembly.specs.declared.Field.the-variants.{Got, Missing}
-use Rattle.assembly.specs.declared.Line.{Line}
 use Rattle.assembly.specs.declared.Line.the-variants as line
 use Rattle.assembly.specs.Language.{wholeNumber, numberNext, wordIs, behindWord, fieldNext, ruleBy, ruleValue, ruleNext, endsAt, whole}
 

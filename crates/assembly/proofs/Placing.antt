@@ -1,17 +1,16 @@
 -- A command put into a stream, by the count that encoding it gives.
-use mathlib.Core.Path.{_≡_, refl, sym, ap, _∙_}
+use mathlib.Core.Path.{_≡_, refl, sym, _∙_}
 use mathlib.Core.Bool.{Bool, true, false}
-use mathlib.Core.List.{List, [], _∷_}
-use Prim.Native.Nat.{ℕ, suc, _+_, _≤_, _<_}
+use mathlib.Core.List.{List}
+use Prim.Native.Nat.{ℕ, _+_, _≤_, _<_}
 use native.Mathlib.Omega.{arith}
 use borrow.Author.Tests.{leb-true}
-use lib.Dec.{leb}
 use lib.ListN.{length}
 use Rattle.words.specs.Words.{pick}
 use Rattle.model.specs.RecordsOf as records
 use Rattle.model.specs.Records.{commandBytes}
 use Rattle.model.specs.declared.Command.{Command}
-use Rattle.records.specs.Stores.{room, stored, storedCount, Stored}
+use Rattle.records.specs.Stores.{room, storedCount, Stored}
 use Rattle.assembly.specs.declared.Expected.{Expected}
 use Rattle.assembly.specs.declared.Line.{Line}
 use Rattle.assembly.specs.declared.Line.the-variants as line

@@ -8,6 +8,6 @@ pub ended-spec : {M : Type 1} → statement M
 ended-spec =
     tie.close
     (tie.spec
-    (λ c κs. search needs)
-    (λ c. whole-ended _ _ _ (c .before .ends-at .ensures) (c .if1 .taken))
-    (λ c. whole-more _ _ _ (c .before .ends-at .ensures) (c .if1 .left)))
+    (λ c κs. search needs)  -- ends-at-requires
+    (λ c. whole-ended _ _ _ (c .before .ends-at .ensures) (c .if1 .taken))  -- returns
+    (λ c. whole-more _ _ _ (c .before .ends-at .ensures) (c .if1 .left)))  -- returns-2

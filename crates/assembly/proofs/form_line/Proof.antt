@@ -47,22 +47,20 @@ pub form-line-spec : {M : Type 1} → statement M
 unfolding forms
 form-line-spec =
     tie.close
-    (tie.spec
-    Inv-loop
-    μ-loop
-    (λ c κs. search needs)
-    (λ c. (refl, within-none _))
-    (λ c. let h = place-below (c .before .before .before .before .args .k) (c .before .before .form-of .ensures) _ (c .loop-test .taken) in omega arith)
-    (λ c κs. place-below (c .before .before .before .before .args .k) (c .before .before .form-of .ensures) _ (c .loop-test .taken))
-    (λ c κs. search needs)
-    (λ c κs. search needs)
-    (λ c. search needs)
-    (λ c. search needs)
+    (tie.spec Inv-loop μ-loop
+    (λ c κs. search needs)  -- form-of-requires
+    (λ c. (refl, within-none _))  -- loop-holds
+    (λ c. let h = place-below (c .before .before .before .before .args .k) (c .before .before .form-of .ensures) _ (c .loop-test .taken) in omega arith)  -- add-row-of
+    (λ c κs. place-below (c .before .before .before .before .args .k) (c .before .before .form-of .ensures) _ (c .loop-test .taken))  -- row-of-requires
+    (λ c κs. search needs)  -- word-in-requires
+    (λ c κs. search needs)  -- field-next-requires
+    (λ c. search needs)  -- enum-known-value
+    (λ c. search needs)  -- enum-told
     returns
-    (λ c. let h = place c in omega arith)
-    place
-    (λ c. search needs)
-    (λ c. search needs)
+    (λ c. let h = place c in omega arith)  -- mul-numbers
+    place  -- array-write-numbers
+    (λ c. search needs)  -- add-i
+    (λ c. search needs)  -- loop-less
     loop-again
-    (λ c κs. (c .before .before .before .before .pre, c .before .loop .inv .1))
-    (λ c. let o = c .before .before in c .line-of .ensures ∙ parts-done _ _ _ _ _ (o .loop .inv .0) (count-at _ (o .before .form-of .ensures)) (c .before .loop-test .left)))
+    (λ c κs. (c .before .before .before .before .pre, c .before .loop .inv .1))  -- line-of-requires
+    (λ c. let o = c .before .before in c .line-of .ensures ∙ parts-done _ _ _ _ _ (o .loop .inv .0) (count-at _ (o .before .form-of .ensures)) (c .before .loop-test .left)))  -- returns-2

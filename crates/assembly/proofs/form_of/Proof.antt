@@ -7,4 +7,9 @@ use Rattle.assembly.proofs.form_of.Tie as tie
 
 pub form-of-spec : {M : Type 1} → statement M
 unfolding forms
-form-of-spec = tie.close (tie.spec (λ c. let h = c .pre in omega arith) (λ c. c .pre) (λ c. refl))
+form-of-spec =
+    tie.close
+    (tie.spec
+    (λ c. let h = c .pre in omega arith)  -- mul-result
+    (λ c. c .pre)  -- array-copy-out-result
+    (λ c. refl))  -- returns

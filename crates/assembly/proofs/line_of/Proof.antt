@@ -18,23 +18,23 @@ line-of-spec =
     tie.close
     (tie.spec
     (λ c κs. within-as (c .before .before .args .t4) (c .match .keys1) (c .before .before .pre .1))  -- rule-line-requires
-    (λ c. search needs)
-    (λ c. search needs)
+    (λ c. search needs)  -- array-read-address
+    (λ c. search needs)  -- array-read-ticket
     (λ c. omega (arith, within-as (c .before .before .args .t4) (c .match .keys2) (c .before .before .pre .1) 1))  -- cast-ticket
-    (λ c κs. search needs)
-    (λ c. search needs)
-    (λ c. search needs)
+    (λ c κs. search needs)  -- ended-requires
+    (λ c. search needs)  -- array-read-address-2
+    (λ c. search needs)  -- array-read-mask
     (λ c. omega (arith, within-as (c .before .before .args .t4) (c .match .keys3) (c .before .before .pre .1) 1))  -- cast-mask
-    (λ c κs. search needs)
-    (λ c κs. search needs)
-    (λ c. search needs)
-    (λ c κs. search needs)
-    (λ c. search needs)
-    (λ c. let s = c .before .before in omega (arith, within-as (s .args .t4) (last (s .args .k) (s .pre .0) (c .match .rest)) (s .pre .1) 0))  -- cast-t33
-    (λ c κs. search needs)
+    (λ c κs. search needs)  -- ended-requires-2
+    (λ c κs. search needs)  -- ended-requires-3
+    (λ c. search needs)  -- array-read-t27
+    (λ c κs. search needs)  -- ended-requires-4
+    (λ c. search needs)  -- array-read-t31
+    (λ c. let s = c .before .before in omega (arith, within-as (s .args .t4) (last (s .args .k) (s .pre .0) (c .match .rest)) (s .pre .1) 0))  -- cast-t32
+    (λ c κs. search needs)  -- ended-requires-5
     (λ c. rw (c .before .match .keys1) (c .rule-line .ensures))  -- returns
-    (λ c. rw (c .before .match .keys2) (c .ended .ensures))
-    (λ c. rw (c .before .match .keys3) (c .ended2 .ensures))
-    (λ c. rw (c .before .match .keys4) (c .ended3 .ensures))
-    (λ c. rw (c .before .match .keys5) (c .ended4 .ensures))
+    (λ c. rw (c .before .match .keys2) (c .ended .ensures))  -- returns-2
+    (λ c. rw (c .before .match .keys3) (c .ended2 .ensures))  -- returns-3
+    (λ c. rw (c .before .match .keys4) (c .ended3 .ensures))  -- returns-4
+    (λ c. rw (c .before .match .keys5) (c .ended4 .ensures))  -- returns-5
     (λ c. let s = c .before .before .before in rw (last (s .args .k) (s .pre .0) (c .before .match .rest)) (c .ended5 .ensures)))  -- returns-6

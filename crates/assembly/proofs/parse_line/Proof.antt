@@ -19,29 +19,29 @@ pub parse-line-spec : {M : Type 1} → statement M
 unfolding forms
 parse-line-spec =
     tie.close
-    (tie.spec
-    Inv-loop
-    μ-loop
-    (λ c κs. search needs)
-    (λ c. line-empty _ (c .before .ends-at .ensures) (c .if1 .taken))
-    (λ c κs. search needs)
-    (λ c κs. search needs)
-    (λ c. let s = c .before in line-opened _ (s .before .before .ends-at .ensures) (s .before .if1 .left) (s .skip-spaces .ensures) (c .word-end .ensures))
-    (λ c κs. search needs)
-    (λ c κs. search needs)
-    (λ c κs. search needs)
-    (λ c κs. search needs)
+    (tie.spec Inv-loop μ-loop
+    (λ c κs. search needs)  -- ends-at-requires
+    (λ c. line-empty _ (c .before .ends-at .ensures) (c .if1 .taken))  -- returns
+    (λ c κs. search needs)  -- skip-spaces-requires
+    (λ c κs. search needs)  -- word-end-requires
+    (λ c. let s = c .before in line-opened _ (s .before .before .ends-at .ensures) (s .before .if1 .left) (s .skip-spaces .ensures) (c .word-end .ensures))  -- loop-holds
+    (λ c κs. search needs)  -- form-of-requires
+    (λ c κs. search needs)  -- word-in-requires
+    (λ c κs. search needs)  -- word-is-requires
+    (λ c κs. search needs)  -- form-line-requires
+    -- returns-2
     (λ c.
     let i = c .before in
     let w = i .before .before in
     let f = w .before .before .before in
     let l = f .before in
     c .form-line .ensures ∙ form-here _ _ _ _ (l .loop-test .taken) (i .before .word-is .ensures) (word-at _ (f .form-of .ensures) (w .word-in .ensures)) (i .if2 .taken) ∙ sym (l .before .loop .inv))
-    (λ c. search needs)
-    (λ c. omega arith)
+    (λ c. search needs)  -- add-k
+    (λ c. omega arith)  -- loop-less
+    -- loop-again
     (λ c.
     let w = c .before .before in
     let f = w .before .before .before in
     let l = f .before in
     l .before .loop .inv ∙ form-on _ _ _ _ (l .loop-test .taken) (c .before .word-is .ensures) (word-at _ (f .form-of .ensures) (w .word-in .ensures)) (c .if2 .left))
-    (λ c. form-none _ _ _ _ (c .loop-test .left) ∙ sym (c .before .loop .inv)))
+    (λ c. form-none _ _ _ _ (c .loop-test .left) ∙ sym (c .before .loop .inv)))  -- returns-3

@@ -9,9 +9,9 @@ pub put-command-spec : {M : Type 1} → statement M
 put-command-spec =
     tie.close
     (tie.spec
-    (λ c κs. search needs)
-    (λ c. search needs)
-    (λ c. let e = c .before .before .before in placed-not _ _ _ (e .encode-command .ensures .0) (c .if1 .taken))
-    (λ c. let e = c .before .before .before in let h = placed-within _ _ _ (e .encode-command .ensures .0) (c .if1 .left) in omega arith)
-    (λ c. search needs)
-    (λ c. let e = c .before .before .before in placed-there _ _ _ (e .encode-command .ensures .0) (c .if1 .left)))
+    (λ c κs. search needs)  -- encode-command-requires
+    (λ c. search needs)  -- same-length
+    (λ c. let e = c .before .before .before in placed-not _ _ _ (e .encode-command .ensures .0) (c .if1 .taken))  -- returns
+    (λ c. let e = c .before .before .before in let h = placed-within _ _ _ (e .encode-command .ensures .0) (c .if1 .left) in omega arith)  -- add-t8
+    (λ c. search needs)  -- same-length-2
+    (λ c. let e = c .before .before .before in placed-there _ _ _ (e .encode-command .ensures .0) (c .if1 .left)))  -- returns-2

@@ -7,4 +7,9 @@ use Rattle.assembly.proofs.row_of.Tie as tie
 
 pub row-of-spec : {M : Type 1} → statement M
 unfolding forms
-row-of-spec = tie.close (tie.spec (λ c. let h = c .pre in omega arith) (λ c. c .pre) (λ c. refl))
+row-of-spec =
+    tie.close
+    (tie.spec
+    (λ c. let h = c .pre in omega arith)  -- mul-result
+    (λ c. c .pre)  -- array-copy-out-result
+    (λ c. refl))  -- returns

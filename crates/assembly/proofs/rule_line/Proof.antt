@@ -12,18 +12,19 @@ unfolding ruleFrom
 rule-line-spec =
     tie.close
     (tie.spec
-    (λ c κs. search needs)
-    (λ c κs. search needs)
+    (λ c κs. search needs)  -- ends-at-requires
+    (λ c κs. search needs)  -- settings-of-requires
     (λ c. let e = c .before in rw (sym (e .before .ends-at .ensures) ∙ e .if1 .taken, ← (c .settings-of .ensures)))  -- returns
-    (λ c κs. search needs)
-    (λ c. search needs)
-    (λ c. search needs)
+    (λ c κs. search needs)  -- rule-next-requires
+    (λ c. search needs)  -- enum-known-value
+    (λ c. search needs)  -- enum-told
     (λ c. let n = c .before .before in rw (sym (n .before .before .ends-at .ensures) ∙ n .before .if1 .left, sym (n .rule-next .ensures) ∙ c .enum-told .given .1))  -- returns-2
-    (λ c. let v = c .before in let h = rule-most _ _ (sym (v .before .before .rule-next .ensures) ∙ v .value .given .1) in omega arith)
-    (λ c κs. search needs)
-    (λ c κs. search needs)
+    (λ c. let v = c .before in let h = rule-most _ _ (sym (v .before .before .rule-next .ensures) ∙ v .value .given .1) in omega arith)  -- cast-t12
+    (λ c κs. search needs)  -- settings-of-requires-2
+    (λ c κs. search needs)  -- ended-requires
+    -- returns-3
     (λ c.
     let r = c .before in
     let v = r .before .before in
     let n = v .before .before in
-    rw (sym (n .before .before .ends-at .ensures) ∙ n .before .if1 .left, sym (n .rule-next .ensures) ∙ v .value .given .1, ← (r .settings-of2 .ensures)) (c .ended .ensures)))  -- returns-3
+    rw (sym (n .before .before .ends-at .ensures) ∙ n .before .if1 .left, sym (n .rule-next .ensures) ∙ v .value .given .1, ← (r .settings-of2 .ensures)) (c .ended .ensures)))

@@ -11,10 +11,16 @@ unfolding forms formOf
 settings-of-spec =
     tie.close
     (tie.spec
-    (λ c. search needs) (λ c. omega (arith, c .pre 0))
-    (λ c. search needs) (λ c. omega (arith, c .pre 1))
-    (λ c. search needs) (λ c. omega (arith, c .pre 2))
-    (λ c. search needs) (λ c. omega (arith, c .pre 3))
-    (λ c. search needs) (λ c. omega (arith, c .pre 4))
-    (λ c. search needs) (λ c. omega (arith, c .pre 5))
-    (λ c. search needs))
+    (λ c. search needs)  -- array-read-t6
+    (λ c. omega (arith, c .pre 0))  -- cast-t7
+    (λ c. search needs)  -- array-read-t10
+    (λ c. omega (arith, c .pre 1))  -- cast-t11
+    (λ c. search needs)  -- array-read-t14
+    (λ c. omega (arith, c .pre 2))  -- cast-t15
+    (λ c. search needs)  -- array-read-t18
+    (λ c. omega (arith, c .pre 3))  -- cast-t19
+    (λ c. search needs)  -- array-read-t22
+    (λ c. omega (arith, c .pre 4))  -- cast-t23
+    (λ c. search needs)  -- array-read-t26
+    (λ c. omega (arith, c .pre 5))  -- cast-t27
+    (λ c. search needs))  -- returns

@@ -29,14 +29,16 @@ decide-spec =
     (λ c κs. search needs)  -- block-of-requires
     (λ c κs. let h = room (c .before .before) in let e = c .before .first-line .ensures in search needs)  -- find-requires
     (λ c. search needs)  -- enum-known-found
+    -- on-match-requires
     (λ c κs. let at = c .before .before .before .before .before .before in
     let start = at .before .before .before .before .before in
     let a = start .args in
     let h = room at in
     let e = c .before .before .before .before .before .first-line .ensures in
     let k = found-below (a .s) (a .longs .now) (a .words .now) (a .marks .now) (start .pre .1) (a .x) (at .before .address-of .ensures) (at .set-index .ensures) (c .before .before .before .before .block-of .ensures) e (c .before .before .before .find .ensures) (c .before .found .given .1) in
-    search needs)  -- on-match-requires
+    search needs)
     (λ c. search needs)  -- enum-told
+    -- take-over-requires
     (λ c κs.
     let at = c .before .before .before .before .before in
     let start = at .before .before .before .before .before in
@@ -45,14 +47,16 @@ decide-spec =
     let e = c .before .before .before .before .first-line .ensures in
     let fit = start .pre .1 in
     let inside = set-inside (a .s) (a .longs .now) (a .words .now) (a .marks .now) fit (a .x) (at .before .address-of .ensures) (at .set-index .ensures) in
-    (omega arith, inside, fit .tree, start .pre .0, fit))  -- take-over-requires
+    (omega arith, inside, fit .tree, start .pre .0, fit))
+    -- returns
     (λ c. let first = c .before .before .before .before .before .before in
     let at = first .before in
     let start = at .before .before .before .before .before in
     let a = start .args in
-    decided-met (a .s) (a .longs .now) (a .words .now) (a .marks .now) (start .pre .1) (a .x) (at .before .address-of .ensures) (at .set-index .ensures) (c .before .before .before .before .before .block-of .ensures) (first .first-line .ensures) (c .before .before .before .before .find .ensures) (c .before .before .found .given .1) (c .on-match .ensures))  -- returns
+    decided-met (a .s) (a .longs .now) (a .words .now) (a .marks .now) (start .pre .1) (a .x) (at .before .address-of .ensures) (at .set-index .ensures) (c .before .before .before .before .before .block-of .ensures) (first .first-line .ensures) (c .before .before .before .before .find .ensures) (c .before .before .found .given .1) (c .on-match .ensures))
+    -- returns-2
     (λ c. let first = c .before .before .before .before .before in
     let at = first .before in
     let start = at .before .before .before .before .before in
     let a = start .args in
-    decided-missed (a .s) (a .longs .now) (a .words .now) (a .marks .now) (start .pre .1) (a .x) (at .before .address-of .ensures) (at .set-index .ensures) (c .before .before .before .before .block-of .ensures) (first .first-line .ensures) (c .before .before .before .find .ensures) (c .before .enum-told .given .1) refl (c .take-over .ensures)))  -- returns-2
+    decided-missed (a .s) (a .longs .now) (a .words .now) (a .marks .now) (start .pre .1) (a .x) (at .before .address-of .ensures) (at .set-index .ensures) (c .before .before .before .before .block-of .ensures) (first .first-line .ensures) (c .before .before .before .find .ensures) (c .before .enum-told .given .1) refl (c .take-over .ensures)))

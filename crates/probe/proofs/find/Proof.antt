@@ -15,16 +15,16 @@ abbrev μ-loop : tie.MeasureT-loop
 pub find-spec : {M : Type 1} → statement M
 find-spec =
     tie.close
-    (tie.spec
-    Inv-loop
-    μ-loop
+    (tie.spec Inv-loop μ-loop
     (λ c. (unfound-start _ _, c .before .before .pre .0))  -- loop-holds
     (λ c. omega arith)  -- add-holds-block
     (λ c κs. search needs)  -- holds-block-requires
     (λ c. let i = c .before .before .loop .inv in unfound-stop _ _ _ (i .1) (c .before .holds-block .ensures) (c .if1 .taken) (i .0))  -- returns
     (λ c. omega arith)  -- add-w
+    -- returns-2
     (λ c. let e = c .before in let i = e .before .before .loop .inv in
-    unfound-end _ _ _ (c .if2 .taken) (unfound-more _ _ _ (i .1) (e .before .holds-block .ensures) (e .if1 .left) (i .0)))  -- returns-2
+    unfound-end _ _ _ (c .if2 .taken) (unfound-more _ _ _ (i .1) (e .before .holds-block .ensures) (e .if1 .left) (i .0)))
     (λ c. omega arith)  -- loop-less
+    -- loop-again
     (λ c. let e = c .before in let i = e .before .before .loop .inv in
-    (unfound-more _ _ _ (i .1) (e .before .holds-block .ensures) (e .if1 .left) (i .0), c .if2 .left)))  -- loop-again
+    (unfound-more _ _ _ (i .1) (e .before .holds-block .ensures) (e .if1 .left) (i .0), c .if2 .left)))

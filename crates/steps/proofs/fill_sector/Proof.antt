@@ -14,15 +14,17 @@ fill-sector-spec =
     (λ c κs. search needs)  -- arrive-requires
     (λ c κs. search needs)  -- with-sector-requires
     (λ c κs. search needs)  -- some-modified-requires-2
+    -- recount-requires
     (λ c κs.
     let asked = c .before .before .before .before .before in
     let lift = asked .before in
     let start = lift .before .before .before .before .before in
     let a = start .args in
-    (start .pre .1 .0, start .pre .1 .1 .0, was-fits (a .s) (a .at) (a .l) (a .words .now) (a .marks .now) (lift .lift .ensures) (asked .some-modified .ensures) (start .pre .1 .1 .1)))  -- recount-requires
+    (start .pre .1 .0, start .pre .1 .1 .0, was-fits (a .s) (a .at) (a .l) (a .words .now) (a .marks .now) (lift .lift .ensures) (asked .some-modified .ensures) (start .pre .1 .1 .1)))
     (λ c κs. search needs)  -- store-requires
     (λ c. search needs)  -- same-length
     (λ c. search needs)  -- same-length-2
+    -- returns
     (λ c.
     let stored = c .before .before .before .before in
     let counted = stored .before .before .before .before .before in
@@ -35,4 +37,4 @@ fill-sector-spec =
     let start = lift .before .before .before .before .before in
     let a = start .args in
     sector-filled (a .s) (a .at) (a .l) (a .k) (a .words .now) (a .marks .now) (lift .lift .ensures) (asked .some-modified .ensures) (own .sector-in .ensures) (come .arrive .ensures)
-    (changed .with-sector .ensures) (after .some-modified2 .ensures) (counted .recount .ensures) (stored .store .ensures)))  -- returns
+    (changed .with-sector .ensures) (after .some-modified2 .ensures) (counted .recount .ensures) (stored .store .ensures)))

@@ -13,6 +13,7 @@ sectors-read-spec =
     (λ c κs. search needs)  -- sector-in-requires
     (λ c κs. search needs)  -- read-sector-requires
     (λ c κs. search needs)  -- with-sector-requires
+    -- returns
     (λ c.
     let left = c .before in
     let own = left .before in
@@ -20,4 +21,4 @@ sectors-read-spec =
     let is = here .before in
     let start = is .before in
     let a = start .args in
-    c .with-sector .ensures ∙ sectors-left (a .x) (a .d) (a .found) (here .sector-index .ensures .0) (is .address-of .ensures) (own .sector-in .ensures) (left .read-sector .ensures ∙ sector-read (a .x) (a .d .answer) _ (start .pre))))  -- returns
+    c .with-sector .ensures ∙ sectors-left (a .x) (a .d) (a .found) (here .sector-index .ensures .0) (is .address-of .ensures) (own .sector-in .ensures) (left .read-sector .ensures ∙ sector-read (a .x) (a .d .answer) _ (start .pre))))

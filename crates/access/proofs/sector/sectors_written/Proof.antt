@@ -13,6 +13,7 @@ sectors-written-spec =
     (λ c κs. search needs)  -- sector-in-requires
     (λ c κs. search needs)  -- written-sector-requires
     (λ c κs. search needs)  -- with-sector-requires
+    -- returns
     (λ c.
     let left = c .before in
     let own = left .before in
@@ -20,4 +21,4 @@ sectors-written-spec =
     let is = here .before in
     let start = is .before in
     let a = start .args in
-    c .with-sector .ensures ∙ sectors-left (a .x) (a .d) (a .found) (here .sector-index .ensures .0) (is .address-of .ensures) (own .sector-in .ensures) (left .written-sector .ensures)))  -- returns
+    c .with-sector .ensures ∙ sectors-left (a .x) (a .d) (a .found) (here .sector-index .ensures .0) (is .address-of .ensures) (own .sector-in .ensures) (left .written-sector .ensures)))

@@ -17,10 +17,11 @@ sector-in-spec =
     (λ c κs. search needs)  -- sector-or-requires-2
     (λ c. search needs)  -- array-copy-out-sector-or-4
     (λ c κs. search needs)  -- sector-or-requires-3
+    -- returns
     (λ c.
     let second = c .before .before in
     let first = second .before .before in
     let start = first .before .before .before in
     let four : length (start .args .t1) ≡ 4 = search needs in
     rw (c .sector-or3 .ensures, second .sector-or2 .ensures, first .sector-or .ensures)
-    (one-of-four (start .args .t1) _ (start .args .k) four (start .pre))))  -- returns
+    (one-of-four (start .args .t1) _ (start .args .k) four (start .pre))))

@@ -11,5 +11,6 @@ sector-or-spec =
     (λ c κs. search needs)  -- status-or-requires
     (λ c κs. search needs)  -- mask-or-requires
     (λ c κs. search needs)  -- flag-or-requires
+    -- returns
     (λ c. let a = c .before .before .before .args in
-    rw (c .before .before .status-or .ensures, c .before .mask-or .ensures, c .flag-or .ensures) (sector-chosen (a .first) (a .x) (a .y))))  -- returns
+    rw (c .before .before .status-or .ensures, c .before .mask-or .ensures, c .flag-or .ensures) (sector-chosen (a .first) (a .x) (a .y))))

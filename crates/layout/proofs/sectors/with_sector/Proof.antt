@@ -18,6 +18,7 @@ with-sector-spec =
     (λ c κs. search needs)  -- sector-or-requires-3
     (λ c. search needs)  -- array-copy-out-sector-or-4
     (λ c κs. search needs)  -- sector-or-requires-4
+    -- returns
     (λ c.
     let third = c .before .before in
     let second = third .before .before in
@@ -25,4 +26,4 @@ with-sector-spec =
     let start = first .before .before in
     let four : length (start .args .t1) ≡ 4 = search needs in
     rw (first .sector-or .ensures, second .sector-or2 .ensures, third .sector-or3 .ensures, c .sector-or4 .ensures)
-    (four-changed (start .args .t1) _ (start .args .x) (start .args .k) four (start .pre))))  -- returns
+    (four-changed (start .args .t1) _ (start .args .x) (start .args .k) four (start .pre))))
