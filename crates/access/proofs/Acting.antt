@@ -48,7 +48,7 @@ use Rattle.access.proofs.Plans.{index-found, merged-entry, entry-once}
 use Rattle.access.proofs.PlanTests.{shows, answer-is}
 use Rattle.access.proofs.Lines.{stands, found-is}
 use Rattle.access.proofs.Inverted.{Means, plan-means}
-use Rattle.probe.specs.Scan.{dirtyAt}
+use Rattle.tables.specs.Raw.{dirtyAt}
 use Rattle.access.proofs.Recounts.{was-dirty}
 use Rattle.layout.proofs.DirtyCount.{dirty-count-stands, dirty-count-at}
 use Rattle.layout.specs.Sectors.{someModified}

@@ -1,5 +1,5 @@
--- A read that hits queues nothing and leaves the miss table, so none of refusals 7, 8 and 9 applies and two writes are all that
--- `proceed` says: its line's cycle and the tree of its set.
+-- A read that hits and a write to a line that is there queue nothing and leave the miss table, so none of refusals 7, 8 and 9 applies:
+-- the line and the tree of its set are all that `proceed` says.
 use mathlib.Core.Path.{_≡_, refl, ap, _∙_}
 use mathlib.Core.Bool.{true, false, _&&_, false≢true}
 use mathlib.Core.List.{List, [], _∷_}
@@ -20,15 +20,14 @@ use Rattle.model.specs.declared.Answer.{Answer}
 use Rattle.model.specs.declared.Answer.the-variants.{Hit, HitReserved, Miss, SectorMiss}
 use Rattle.model.specs.declared.Event.the-variants.{Answered}
 use Rattle.model.specs.declared.Reply.{Reply}
-use Rattle.words.proofs.Flags.{and-1, and-2}
 use Rattle.layout.specs.declared.Layout.{Layout}
 use Rattle.layout.specs.Layout.{LaysOut}
 use Rattle.tables.specs.Telling.{telling}
 use Rattle.probe.specs.declared.Decision.{Decision}
-use Rattle.access.specs.Plan.{Met, Acts}
+use Rattle.access.specs.Plan.{Met, Acts, missPlan}
 use Rattle.access.specs.Written.{sectorsFor, sectorsAfter, queuesOf, tellingOf, lineLeft, lineTaken, treesWritten, setTurned}
 use Rattle.access.specs.declared.plan.MissPlan.the-variants.{Stays}
-use Rattle.access.proofs.PlanTests.{few-queued, plan-hit}
+use Rattle.access.proofs.PlanTests.{few-queued, plan-write, plan-hit}
 use Rattle.access.proofs.Lines.{no-back}
 use Rattle.access.proofs.Kept.{touched}
 use Rattle.access.proofs.Telling.{acted}
@@ -40,46 +39,53 @@ only-hit HitReserved e = absurd (false≢true e)
 only-hit Miss e = absurd (false≢true e)
 only-hit SectorMiss e = absurd (false≢true e)
 
+abbrev lineThere : (S : Settings) (longs words marks : List ℕ) → Access → Decision → Layout → Lent
+lineThere S longs words marks x d place =
+    lineLeft place (lent longs words marks) (d .line) (blockOf (addressOf x)) (sectorsAfter x d (sectorsFor (d .meeting) (sectorsAt S words marks (d .line))))
+
 module _ (S : Settings) {longs words marks : List ℕ} (x : Access) (d : Decision) (t : Tables) (p : Spot) (m : Met S (lent longs words marks) x d t p) {place : Layout} (pl : LaysOut S place)
-    (hits : (isRead x && isHit (d .answer)) ≡ true) where
-  reads : isRead x ≡ true
-  reads = and-1 (isRead x) (isHit (d .answer)) hits
-
-  hit : d .answer ≡ Hit
-  hit = only-hit (d .answer) (and-2 (isRead x) (isHit (d .answer)) hits)
-
+    (stays : takesLine (d .answer) ≡ false) (alone : (isRead x && isMiss (d .answer)) ≡ false) where
   quiet : d .backs ≡ false
-  quiet = no-back S x d t p m (ap takesLine hit)
+  quiet = no-back S x d t p m stays
 
   none-needed : 0 ≡ one (isRead x && isMiss (d .answer)) + one (d .backs)
-  none-needed = rw (reads, hit, quiet)
+  none-needed = rw (alone, quiet)
 
   none : queuesOf x d ≡ []
-  none = rw (reads, hit, quiet)
+  none = rw (alone, quiet)
 
-  tells : telling (Answered Hit (d .line)) ≡ tellingOf x d
-  tells = rw (reads, hit, quiet)
+  tells : telling (Answered (d .answer) (d .line)) ≡ tellingOf x d
+  tells = rw (alone, quiet)
 
-  acts : Acts S (lent longs words marks) x d (length (t .queue)) Stays t p
-  acts = record {
-    met = m;
-    counted = refl;
-    planned = plan-hit S x d t p m refl none-needed (omega (arith, few-queued S x d t p m)) reads (ap isMerge hit) (ap isMiss hit);
-    accepted = refl;
-  }
+  -- no line is taken over
+  not-taken : {L : Lent} → L ≡ lineThere S longs words marks x d place → L ≡ lineTaken place (d .answer) (d .line) (lineThere S longs words marks x d place)
+  not-taken {L} e = let same : L ≡ lineTaken place (d .answer) (d .line) L = rw stays in same ∙ ap (lineTaken place (d .answer) (d .line)) e
 
-  -- no line is taken over, and its sectors stay
-  line-left : lent longs (put words (1 + d .line) (getD words 0 0 ∷ [])) marks
-      ≡ lineTaken place (d .answer) (d .line) (lineLeft place (lent longs words marks) (d .line) (blockOf (addressOf x)) (sectorsAfter x d (sectorsFor (d .meeting) (sectorsAt S words marks (d .line)))))
-  line-left =
-      let same : lent longs (put words (1 + d .line) (getD words 0 0 ∷ [])) marks ≡ lineTaken place (d .answer) (d .line) (lent longs (put words (1 + d .line) (getD words 0 0 ∷ [])) marks) = rw hit in
-      same ∙ ap (lineTaken place (d .answer) (d .line)) (touched S x d t p m pl (rw (reads, hit)))
-
-  pub hit-offered : {r : Reply} {words′ : List ℕ} → r ≡ telling (Answered Hit (d .line))
-      → words′ ≡ treesWritten S place (setIndex S (addressOf x)) (d .way) (put words (1 + d .line) (getD words 0 0 ∷ []))
-      → Leaves (encoded S (proceed S x t (at p))) (lent longs words marks) r (lent longs words′ marks)
-  hit-offered {r} {words′} e w =
-      let M : Lent = lent longs words′ marks in
-      offered-acts S x d t p m (acts .planned) refl
+  alone-offered : {r : Reply} {words′ words″ marks′ : List ℕ} → Stays ≡ missPlan S x p t → r ≡ telling (Answered (d .answer) (d .line))
+      → lent longs words′ marks′ ≡ lineThere S longs words marks x d place → words″ ≡ treesWritten S place (setIndex S (addressOf x)) (d .way) words′
+      → Leaves (encoded S (proceed S x t (at p))) (lent longs words marks) r (lent longs words″ marks′)
+  alone-offered {words″ = words″} {marks′ = marks′} planned e line w =
+      let M : Lent = lent longs words″ marks′ in
+      let acts : Acts S (lent longs words marks) x d (length (t .queue)) Stays t p = record { met = m; counted = refl; planned = planned; accepted = refl } in
+      offered-acts S x d t p m planned refl
       (acted S x d (length (t .queue)) Stays t p acts pl M M M
-      (ap (λ (ws : List ℕ). lent longs ws marks) w ∙ ap (setTurned S place (setIndex S (addressOf x)) (d .way)) line-left) refl (e ∙ tells) (rw none))
+      (ap (λ (ws : List ℕ). lent longs ws marks′) w ∙ ap (setTurned S place (setIndex S (addressOf x)) (d .way)) (not-taken line)) refl (e ∙ tells) (rw none))
+
+  -- a write
+  pub change-offered : {r : Reply} {words′ words″ marks′ : List ℕ} → isRead x ≡ false → r ≡ telling (Answered (d .answer) (d .line))
+      → lent longs words′ marks′ ≡ lineThere S longs words marks x d place → words″ ≡ treesWritten S place (setIndex S (addressOf x)) (d .way) words′
+      → Leaves (encoded S (proceed S x t (at p))) (lent longs words marks) r (lent longs words″ marks′)
+  change-offered writes = alone-offered (plan-write S x d t p m refl none-needed (omega (arith, few-queued S x d t p m)) writes)
+
+-- a read that hits leaves its line's tag and sectors
+pub hit-offered : (S : Settings) {longs words marks : List ℕ} (x : Access) (d : Decision) (t : Tables) (p : Spot) → Met S (lent longs words marks) x d t p → {place : Layout} → LaysOut S place
+    → {r : Reply} {words″ : List ℕ} → isRead x ≡ true → isHit (d .answer) ≡ true → r ≡ telling (Answered Hit (d .line))
+    → words″ ≡ treesWritten S place (setIndex S (addressOf x)) (d .way) (put words (1 + d .line) (getD words 0 0 ∷ []))
+    → Leaves (encoded S (proceed S x t (at p))) (lent longs words marks) r (lent longs words″ marks)
+hit-offered S x d t p m pl reads hits e w =
+    let hit : d .answer ≡ Hit = only-hit (d .answer) hits in
+    let stays = ap takesLine hit in
+    let alone : (isRead x && isMiss (d .answer)) ≡ false = rw (reads, hit) in
+    alone-offered S x d t p m pl stays alone
+    (plan-hit S x d t p m refl (none-needed S x d t p m pl stays alone) (omega (arith, few-queued S x d t p m)) reads (ap isMerge hit) (ap isMiss hit))
+    (e ∙ rw hit) (touched S x d t p m pl (rw (reads, hit))) w

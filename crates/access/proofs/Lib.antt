@@ -7,6 +7,7 @@ pub mod Recounts
 pub mod Inverted
 pub mod Acting
 pub mod Kept
+pub mod Changes
 pub mod Telling
 pub mod Offering
 pub mod Hits

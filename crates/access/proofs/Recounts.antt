@@ -16,7 +16,7 @@ use Rattle.model.proofs.SoundFacts.{parts, lines-are}
 use Rattle.layout.specs.declared.Layout.{Layout}
 use Rattle.layout.specs.Layout.{LaysOut}
 use Rattle.layout.proofs.DirtyCount.{dirty-counted}
-use Rattle.probe.specs.Scan.{dirtyAt}
+use Rattle.tables.specs.Raw.{dirtyAt}
 use Rattle.probe.proofs.Statuses.{dirty-bytes}
 use Rattle.probe.proofs.OfTables.{lines-held}
 use Rattle.words.proofs.Counting.{one-counted}

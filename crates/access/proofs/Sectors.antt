@@ -1,9 +1,9 @@
--- The four sectors of a line, one of them changed.
-use mathlib.Core.Path.{_≡_, refl}
+-- What an access makes of its own sector, and of the four of a line that it takes over.
+use mathlib.Core.Path.{_≡_, refl, _∙_}
 use mathlib.Core.Bool.{true, false, true≢false, false≢true}
 use mathlib.Core.List.{List}
-use Prim.Native.Nat.{ℕ}
-use lib.ListN.{getD, set}
+use Prim.Native.Nat.{ℕ, zero, suc}
+use lib.ListN.{getD, set, replicate}
 use Rattle.words.specs.Words.{pick}
 use Rattle.model.specs.Address.{addressOf, isRead, maskOf, sectorIndex}
 use Rattle.model.specs.Tables.{empty}
@@ -25,6 +25,14 @@ pub sector-written : (x : Access) (n : Answer) (s : Sector) → isRead x ≡ fal
 sector-written (Read a m k) n s e = absurd (true≢false e)
 sector-written (Write a m k) n s e = refl
 
-pub sectors-left : (x : Access) (d : Decision) (found : List Sector) {k a : ℕ} {s v : Sector} → k ≡ sectorIndex a → a ≡ addressOf x
-    → s ≡ getD found k empty → v ≡ onSector x (d .answer) s → set found k v ≡ sectorsAfter x d found
-sectors-left x d found here is own left = rw (left, own, here, is)
+-- the sectors of a line that was just taken over
+four-empty : (k : ℕ) → getD (replicate 4 empty) k empty ≡ empty
+four-empty zero = refl
+four-empty (suc zero) = refl
+four-empty (suc (suc zero)) = refl
+four-empty (suc (suc (suc zero))) = refl
+four-empty (suc (suc (suc (suc k)))) = refl
+
+pub taken-left : (x : Access) (d : Decision) {own : Sector} {four : List Sector} → own ≡ onSector x (d .answer) empty → four ≡ set (replicate 4 empty) (sectorIndex (addressOf x)) own
+    → four ≡ sectorsAfter x d (replicate 4 empty)
+taken-left x d e f = f ∙ rw (e, four-empty (sectorIndex (addressOf x)))

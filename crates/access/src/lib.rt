@@ -19,6 +19,7 @@ ghost use Rattle.access.specs.Plan.{Meets, Offered, isSpot, refusalMet};
 ghost use Rattle.model.specs.Steps.{access};
 use asked::is_hit;
 use asked::is_read;
+use asked::takes_line;
 use layout::Layout;
 use model::Access;
 use model::Refusal;
@@ -30,6 +31,7 @@ use plan::miss_plan;
 use plan::refusal_of;
 use probe::Decision;
 use probe::Meeting;
+use writes::act_change;
 use writes::act_hit;
 use writes::act_read;
 use writes::act_write;
@@ -125,7 +127,7 @@ fn offer_read(
     tables::refused(refusal_of(plan))
 }
 
-// A write whose place is decided: refused by the queue, or acted.
+// A write whose place is decided: to a line that is there, or refused by the queue, or acted.
 fn offer_write(
     s: Settings,
     at: Layout,
@@ -140,6 +142,10 @@ fn offer_write(
     ensures { λ r. ⌜ Offered s (lent (now (longs .entry)) (now (words .entry)) (now (marks .entry))) x d r
         (lent (now (longs .exit)) (now (words .exit)) (now (marks .exit))) ⌝ }
 {
+    let a = d.answer;
+    if !takes_line(a) {
+        return act_change(s, at, longs, words, marks, x, d);
+    }
     if s.queue < queued + back_needed(d.backs) {
         return tables::refused(Refusal::QueueFull);
     }

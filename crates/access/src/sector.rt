@@ -1,9 +1,9 @@
-// What an access leaves of its line's four sectors.
+// What an access leaves of its own sector, and the four sectors of a line that it takes over.
 ghost use mathlib.Core.Path.{_≡_};
 ghost use Rattle.words.specs.Words.{pick};
-ghost use Rattle.model.specs.Address.{isRead};
+ghost use lib.ListN.{set, replicate};
+ghost use Rattle.model.specs.Address.{addressOf, isRead, sectorIndex};
 ghost use Rattle.model.specs.Tables.{isInvalid, empty};
-ghost use Rattle.access.specs.Written.{sectorsAfter};
 ghost use Rattle.model.specs.declared.Status.the-variants.{Reserved};
 ghost use mathlib.Core.Bool.{true, false};
 ghost use Rattle.model.specs.Steps.{isMiss, onSector};
@@ -14,7 +14,6 @@ use model::Access;
 use model::Answer;
 use model::Sector;
 use model::Status;
-use probe::Decision;
 
 // Whether the status is INVALID.
 fn is_invalid(s: Status) -> bool
@@ -29,7 +28,7 @@ fn is_invalid(s: Status) -> bool
 }
 
 // The sector that a read leaves: fetched on a miss, else as it was.
-fn read_sector(a: Answer, s: Sector) -> Sector
+pub(crate) fn read_sector(a: Answer, s: Sector) -> Sector
     ensures { λ r. ⌜ r ≡ pick (isMiss a) record { status = Reserved; mask = s .mask; readable = true } s ⌝ }
 {
     if is_miss(a) {
@@ -44,7 +43,7 @@ fn read_sector(a: Answer, s: Sector) -> Sector
 }
 
 // The sector that a write leaves: its mask joined; MODIFIED, unless a fetch of it is on its way.
-fn written_sector(x: Access, a: Answer, s: Sector) -> Sector
+pub(crate) fn written_sector(x: Access, a: Answer, s: Sector) -> Sector
     requires { ⌜ isRead x ≡ false ⌝ }
     ensures { λ r. ⌜ r ≡ onSector x a s ⌝ }
 {
@@ -77,24 +76,10 @@ pub(crate) fn empty_sector() -> Sector
     }
 }
 
-// The sectors that a read leaves of those that it finds: its own of the four changed.
-pub(crate) fn sectors_read(x: Access, d: Decision, found: [Sector; 4]) -> [Sector; 4]
-    requires { ⌜ isRead x ≡ true ⌝ }
-    ensures { λ r. ⌜ r ≡ sectorsAfter x d found ⌝ }
+// The four sectors of a line that was just taken over, of which the access's own becomes `one`.
+pub(crate) fn taken_sectors(x: Access, one: Sector) -> [Sector; 4]
+    ensures { λ r. ⌜ r ≡ set (replicate 4 empty) (sectorIndex (addressOf x)) one ⌝ }
 {
-    let k = values::sector_index(values::address_of(x));
-    let a = d.answer;
-    let s = layout::sector_in(found, k);
-    layout::with_sector(found, k, read_sector(a, s))
-}
-
-// The same of a write.
-pub(crate) fn sectors_written(x: Access, d: Decision, found: [Sector; 4]) -> [Sector; 4]
-    requires { ⌜ isRead x ≡ false ⌝ }
-    ensures { λ r. ⌜ r ≡ sectorsAfter x d found ⌝ }
-{
-    let k = values::sector_index(values::address_of(x));
-    let a = d.answer;
-    let s = layout::sector_in(found, k);
-    layout::with_sector(found, k, written_sector(x, a, s))
+    let k = values::sector_number(values::address_of(x));
+    layout::with_sector([empty_sector(); 4], k, one)
 }

@@ -6,19 +6,20 @@ ghost use Prim.Native.Nat.{_+_, _*_, _≤_, _<_};
 ghost use mathlib.Core.List.{[], _∷_};
 ghost use lib.ListN.{length, getD};
 ghost use Rattle.words.specs.Regions.{put};
-ghost use Rattle.model.specs.Address.{isRead, addressOf, blockOf, setIndex};
+ghost use Rattle.model.specs.Address.{isRead, addressOf, blockOf, sectorIndex, setIndex};
 ghost use Rattle.words.specs.Words.{one};
-ghost use Rattle.model.specs.Lent.{lent, sectorsAt};
-ghost use Rattle.model.specs.Range.{isTree, powerTo256};
+ghost use Rattle.model.specs.Lent.{lent, sectorAt, sectorsAt};
+ghost use Rattle.model.specs.Range.{linesOf, isTree, powerTo256};
 ghost use Rattle.model.specs.Tree.{powerTo16};
 ghost use Rattle.layout.specs.Layout.{LaysOut, wordsMost};
-ghost use Rattle.access.specs.Plan.{Meets, MayAct, Acted};
-ghost use Rattle.model.specs.Tables.{reading, writing};
+ghost use Rattle.layout.specs.Sectors.{SectorRoom};
+ghost use Rattle.access.specs.Plan.{Meets, MayAct, Acted, Offered};
+ghost use Rattle.model.specs.Tables.{empty, reading, writing};
 ghost use Rattle.access.specs.Written.{sectorsFor, sectorsAfter, lineWritten, missesWritten, queueWritten, queuesOf, tellingQueued, tellingOf, Alone, MissRoom, QueueRoom, lineLeft, takenWritten, treesWritten};
 ghost use Rattle.access.specs.declared.plan.MissPlan.the-variants.{Stays};
 ghost use Rattle.probe.specs.Decided.{backsOf};
 ghost use mathlib.Core.Bool.{true, false};
-ghost use Rattle.model.specs.Steps.{isMiss};
+ghost use Rattle.model.specs.Steps.{isMiss, onSector, takesLine};
 ghost use Rattle.model.specs.declared.Answer.the-variants.{Hit};
 ghost use Rattle.model.specs.declared.Event.the-variants.{Answered};
 ghost use Rattle.tables.specs.Telling.{telling};
@@ -27,8 +28,9 @@ use crate::asked::takes_line;
 use crate::asked::ticket_of;
 use crate::plan::MissPlan;
 use crate::sector::empty_sector;
-use crate::sector::sectors_read;
-use crate::sector::sectors_written;
+use crate::sector::read_sector;
+use crate::sector::taken_sectors;
+use crate::sector::written_sector;
 use layout::Layout;
 use model::Access;
 use model::Answer;
@@ -94,13 +96,49 @@ fn leave_line(
         ≡ lineLeft at (lent (now (longs .entry)) (now (words .entry)) (now (marks .entry))) (d .line) (blockOf (addressOf x))
         four ⌝ }
 {
-    let was = probe::is_dirty(marks, d.line);
+    let was = tables::is_dirty(marks, d.line);
     layout::recount(words, at.dirty, was, layout::some_modified(four));
     let block = values::block_of(values::address_of(x));
     write_line(at, longs, words, marks, d.line, block, four);
 }
 
-// The line of a read: empty if it is taken over, else as it stands, with the read's sector changed and stored back whole.
+// The access's own sector of its line.
+fn own_sector(
+    s: Settings,
+    at: Layout,
+    words: &[u32],
+    marks: &[u8],
+    x: Access,
+    line: usize,
+) -> Sector
+    requires { ⌜ SectorRoom s at (now words) (now marks) × (line < linesOf s) ⌝ }
+    ensures { λ r. ⌜ r ≡ sectorAt s (now (words .entry)) (now (marks .entry)) (4 * line + sectorIndex (addressOf x)) ⌝ }
+{
+    let k = values::sector_index(values::address_of(x));
+    layout::sector_at(s, at, words, marks, 4 * line + k)
+}
+
+// A line that is taken over: empty, but for the access's own sector.
+fn take_line(
+    s: Settings,
+    at: Layout,
+    longs: &mut [u64],
+    words: &mut [u32],
+    marks: &mut [u8],
+    x: Access,
+    d: Decision,
+    one: Sector,
+)
+    requires { ⌜ LaysOut s at × Meets s (lent (now longs) (now words) (now marks)) x d × (takesLine (d .answer) ≡ true) × (one ≡ onSector x (d .answer) empty) ⌝ }
+    ensures { λ _. ⌜ lent (now (longs .exit)) (now (words .exit)) (now (marks .exit))
+        ≡ lineLeft at (lent (now (longs .entry)) (now (words .entry)) (now (marks .entry))) (d .line) (blockOf (addressOf x))
+        (sectorsAfter x d (sectorsFor (d .meeting) (sectorsAt s (now (words .entry)) (now (marks .entry)) (d .line)))) ⌝ }
+{
+    let four = taken_sectors(x, one);
+    leave_line(s, at, longs, words, marks, x, d, four);
+}
+
+// The line of a read that misses: taken over, or there, and then its own sector changes and the tag stays.
 fn fetch_line(
     s: Settings,
     at: Layout,
@@ -117,38 +155,13 @@ fn fetch_line(
 {
     let a = d.answer;
     if takes_line(a) {
-        let four = sectors_read(x, d, [empty_sector(); 4]);
-        leave_line(s, at, longs, words, marks, x, d, four);
+        let one = read_sector(a, empty_sector());
+        take_line(s, at, longs, words, marks, x, d, one);
     } else {
-        let found = layout::lift(s, at, words, marks, d.line);
-        let four = sectors_read(x, d, found);
-        leave_line(s, at, longs, words, marks, x, d, four);
-    }
-}
-
-// The same of a write.
-fn change_line(
-    s: Settings,
-    at: Layout,
-    longs: &mut [u64],
-    words: &mut [u32],
-    marks: &mut [u8],
-    x: Access,
-    d: Decision,
-)
-    requires { ⌜ LaysOut s at × Meets s (lent (now longs) (now words) (now marks)) x d × (isRead x ≡ false) ⌝ }
-    ensures { λ _. ⌜ lent (now (longs .exit)) (now (words .exit)) (now (marks .exit))
-        ≡ lineLeft at (lent (now (longs .entry)) (now (words .entry)) (now (marks .entry))) (d .line) (blockOf (addressOf x))
-        (sectorsAfter x d (sectorsFor (d .meeting) (sectorsAt s (now (words .entry)) (now (marks .entry)) (d .line)))) ⌝ }
-{
-    let a = d.answer;
-    if takes_line(a) {
-        let four = sectors_written(x, d, [empty_sector(); 4]);
-        leave_line(s, at, longs, words, marks, x, d, four);
-    } else {
-        let found = layout::lift(s, at, words, marks, d.line);
-        let four = sectors_written(x, d, found);
-        leave_line(s, at, longs, words, marks, x, d, four);
+        let one = read_sector(a, own_sector(s, at, words, marks, x, d.line));
+        touch(words, d.line);
+        let k = values::sector_number(values::address_of(x));
+        tables::change(s, at, words, marks, d.line, k, one);
     }
 }
 
@@ -375,7 +388,7 @@ pub(crate) fn act_read(
     tell_read(x, d)
 }
 
-// The act of a write that is not refused; it leaves the miss table.
+// The act of a write that takes a line over and is not refused; it leaves the miss table.
 pub(crate) fn act_write(
     s: Settings,
     at: Layout,
@@ -386,14 +399,42 @@ pub(crate) fn act_write(
     d: Decision,
     queued: usize,
 ) -> Reply
-    requires { ⌜ LaysOut s at × MayAct s (lent (now longs) (now words) (now marks)) x d queued Stays × (isRead x ≡ false) ⌝ }
+    requires { ⌜ LaysOut s at × MayAct s (lent (now longs) (now words) (now marks)) x d queued Stays × (isRead x ≡ false) × (takesLine (d .answer) ≡ true) ⌝ }
     ensures { λ r. ⌜ Acted s (lent (now (longs .entry)) (now (words .entry)) (now (marks .entry))) x d queued Stays r
         (lent (now (longs .exit)) (now (words .exit)) (now (marks .exit))) ⌝ }
 {
-    change_line(s, at, longs, words, marks, x, d);
+    let a = d.answer;
+    let one = written_sector(x, a, empty_sector());
+    take_line(s, at, longs, words, marks, x, d, one);
     mark_set(s, at, words, x, d);
     queue_back(at, longs, words, marks, queued, d);
     tell_write(x, d)
+}
+
+// A write to a line that is there: its own sector, the cycle, and the tree of its set. It queues nothing, so nothing refuses it.
+pub(crate) fn act_change(
+    s: Settings,
+    at: Layout,
+    longs: &[u64],
+    words: &mut [u32],
+    marks: &mut [u8],
+    x: Access,
+    d: Decision,
+) -> Reply
+    requires { ⌜ LaysOut s at × Meets s (lent (now longs) (now words) (now marks)) x d × (isRead x ≡ false) × (takesLine (d .answer) ≡ false) ⌝ }
+    ensures { λ r. ⌜ Offered s (lent (now (longs .entry)) (now (words .entry)) (now (marks .entry))) x d r
+        (lent (now (longs .entry)) (now (words .exit)) (now (marks .exit))) ⌝ }
+{
+    let a = d.answer;
+    let one = written_sector(x, a, own_sector(s, at, words, marks, x, d.line));
+    touch(words, d.line);
+    let k = values::sector_number(values::address_of(x));
+    tables::change(s, at, words, marks, d.line, k, one);
+    turn_tree(s, at, words, x, d.way);
+    tables::blank(Event::Answered {
+        answer: a,
+        line: d.line as u16,
+    })
 }
 
 // A read that hits: its line's cycle and the tree of its set.

@@ -187,7 +187,7 @@ fn dirty_lines(marks: &[u8], lines: u64) -> usize {
     let mut count: usize = 0;
     let mut l = 0;
     while l < n {
-        if probe::is_dirty(marks, l) {
+        if tables::is_dirty(marks, l) {
             count += 1;
         }
         l += 1;

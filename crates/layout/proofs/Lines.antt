@@ -58,7 +58,10 @@ sectors-of (a ∷ b ∷ c ∷ d ∷ []) e S words marks l f g h =
     )
 sectors-of (a ∷ b ∷ c ∷ d ∷ x ∷ xs) e S words marks l f g h = absurd (omega arith)
 
--- a line as taken at cycle k
+-- a line last used at cycle k, and one taken at cycle k
+abbrev pub usedAs : ℕ → Line → Line
+usedAs k y = record { tag = y .tag; cycle = k; taken = y .taken; sectors = y .sectors }
+
 abbrev pub takenAs : ℕ → Line → Line
 takenAs k y = record { tag = y .tag; cycle = y .cycle; taken = k; sectors = y .sectors }
 
@@ -140,5 +143,18 @@ module _ (S : Settings) (t : Tables) {longs words marks : List ℕ} (h : ByBlock
         as-longs = rw (places-same tagOf 1 (linesOf S) l (t .lines) fresh y refl) (h .as-longs);
         as-words = rw (places-same cycleOf 1 (linesOf S) l (t .lines) fresh y refl, places-same masksOf 4 (linesOf S) l (t .lines) fresh y refl)
             (field-put takenOf 1 (linesOf S) (t .lines) (wordBlocks S t) 6 l (h .as-words) refl (simp length-places (omega arith)) (omega arith) below few y refl c);
+        as-marks = rw (places-same statusesOf 4 (linesOf S) l (t .lines) fresh y refl, places-same readablesOf 4 (linesOf S) l (t .lines) fresh y refl) (h .as-marks);
+      }
+
+  -- the cycle at which it was last used alone
+  pub used-stands : (k : ℕ) {words′ : List ℕ} → words′ ≡ put words (1 + l) (k ∷ [])
+      → ByBlocks S longs words′ marks (withLines (set (t .lines) l (usedAs k (getD (t .lines) l fresh))) t)
+  unfolding padTo
+  used-stands k c =
+      let y : Line = usedAs k (getD (t .lines) l fresh) in
+      record {
+        as-longs = rw (places-same tagOf 1 (linesOf S) l (t .lines) fresh y refl) (h .as-longs);
+        as-words = rw (places-same masksOf 4 (linesOf S) l (t .lines) fresh y refl, places-same takenOf 1 (linesOf S) l (t .lines) fresh y refl)
+            (field-put cycleOf 1 (linesOf S) (t .lines) (wordBlocks S t) 1 l {i = 1 + l} (h .as-words) refl (omega arith) (omega arith) below few y refl c);
         as-marks = rw (places-same statusesOf 4 (linesOf S) l (t .lines) fresh y refl, places-same readablesOf 4 (linesOf S) l (t .lines) fresh y refl) (h .as-marks);
       }

@@ -1,5 +1,6 @@
--- One of two sectors chosen number by number, one of four, and four with one of them changed.
-use Prim.Native.Nat.{ℕ, zero, suc, _<_}
+-- One of two sectors chosen number by number, four with one of them changed, and one of a line's four.
+use Prim.Native.Nat.{ℕ, zero, suc, _+_, _*_, _<_}
+use native.Mathlib.Nat.{add-zero}
 use mathlib.Core.Path.{_≡_, refl}
 use mathlib.Core.Bool.{Bool, true, false}
 use mathlib.Core.List.{List, [], _∷_}
@@ -7,22 +8,14 @@ use native.Mathlib.Omega.{arith}
 use lib.ListN.{length, getD, set}
 use lib.Dec.{eqb}
 use Rattle.words.specs.Words.{pick}
-use Rattle.words.proofs.Lists.{getD-inside}
-use Rattle.model.specs.Tables.{empty}
+use Rattle.model.specs.Lent.{sectorAt, sectorsAt}
+use Rattle.model.specs.declared.Settings.{Settings}
 use Rattle.model.specs.declared.Sector.{Sector}
 
 pub sector-chosen : (b : Bool) (x y : Sector)
     → record { status = pick b (x .status) (y .status); mask = pick b (x .mask) (y .mask); readable = pick b (x .readable) (y .readable) } ≡ pick b x y
 sector-chosen true x y = refl
 sector-chosen false x y = refl
-
-pub one-of-four : (four : List Sector) (e : Sector) (k : ℕ) → length four ≡ 4 → k < 4
-    → pick (eqb k 0) (getD four 0 e) (pick (eqb k 1) (getD four 1 e) (pick (eqb k 2) (getD four 2 e) (getD four 3 e))) ≡ getD four k empty
-one-of-four four e zero n h = getD-inside four 0 e empty (omega arith)
-one-of-four four e (suc zero) n h = getD-inside four 1 e empty (omega arith)
-one-of-four four e (suc (suc zero)) n h = getD-inside four 2 e empty (omega arith)
-one-of-four four e (suc (suc (suc zero))) n h = getD-inside four 3 e empty (omega arith)
-one-of-four four e (suc (suc (suc (suc k)))) n h = absurd (omega arith)
 
 pub four-changed : (four : List Sector) (e x : Sector) (k : ℕ) → length four ≡ 4 → k < 4
     → pick (eqb k 0) x (getD four 0 e) ∷ pick (eqb k 1) x (getD four 1 e) ∷ pick (eqb k 2) x (getD four 2 e) ∷ pick (eqb k 3) x (getD four 3 e) ∷ [] ≡ set four k x
@@ -36,3 +29,12 @@ four-changed (a ∷ []) e x k n h = absurd (omega arith)
 four-changed (a ∷ b ∷ []) e x k n h = absurd (omega arith)
 four-changed (a ∷ b ∷ c ∷ []) e x k n h = absurd (omega arith)
 four-changed (a ∷ b ∷ c ∷ d ∷ f ∷ xs) e x k n h = absurd (omega arith)
+
+-- ---- one of the four sectors of line l
+
+pub sector-of-four : (S : Settings) (words marks : List ℕ) (l k : ℕ) (d : Sector) → k < 4 → getD (sectorsAt S words marks l) k d ≡ sectorAt S words marks (4 * l + k)
+sector-of-four S words marks l zero d h = rw add-zero
+sector-of-four S words marks l (suc zero) d h = refl
+sector-of-four S words marks l (suc (suc zero)) d h = refl
+sector-of-four S words marks l (suc (suc (suc zero))) d h = refl
+sector-of-four S words marks l (suc (suc (suc (suc k)))) d h = absurd (omega arith)

@@ -21,7 +21,6 @@ pub use ranges::power_to_256;
 pub use ranges::words_length;
 pub use sectors::lift;
 pub use sectors::sector_at;
-pub use sectors::sector_in;
 pub use sectors::store;
 pub use sectors::with_sector;
 ghost use mathlib.Core.Path.{_≡_};

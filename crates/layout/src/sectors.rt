@@ -1,12 +1,11 @@
-// Sectors in the slices: one of them, and a line's four lifted as one array and stored back, column by column; one of four, and four with
-// one of them changed.
+// Sectors in the slices: one of them, and a line's four lifted as one array and stored back, column by column; four with one of them
+// changed.
 ghost use mathlib.Core.Path.{_≡_};
 ghost use Prim.Native.Nat.{_+_, _*_, _≤_, _<_};
-ghost use lib.ListN.{length, getD, set};
+ghost use lib.ListN.{length, set};
 ghost use Rattle.model.specs.Numbers.{statusNumber};
 ghost use Rattle.model.specs.Range.{linesOf};
 ghost use Rattle.model.specs.Lent.{bit, sectorAt, sectorsAt};
-ghost use Rattle.model.specs.Tables.{empty};
 ghost use Rattle.words.specs.Words.{pick};
 ghost use Rattle.words.specs.Regions.{put};
 ghost use Rattle.layout.specs.Sectors.{SectorRoom, statuses, masks, readables};
@@ -141,18 +140,8 @@ fn sector_or(first: bool, x: Sector, y: Sector) -> Sector
     }
 }
 
-// Sector `k` of four.
-pub fn sector_in(four: [Sector; 4], k: usize) -> Sector
-    requires { ⌜ k < 4 ⌝ }
-    ensures { λ r. ⌜ r ≡ getD four k empty ⌝ }
-{
-    let last = sector_or(k == 2, four[2], four[3]);
-    let later = sector_or(k == 1, four[1], last);
-    sector_or(k == 0, four[0], later)
-}
-
-// The four with sector `k` changed.
-pub fn with_sector(four: [Sector; 4], k: usize, x: Sector) -> [Sector; 4]
+// The four with sector `k` changed. `k` is a byte, so that the compiler compares four at once, as it does the statuses.
+pub fn with_sector(four: [Sector; 4], k: u8, x: Sector) -> [Sector; 4]
     requires { ⌜ k < 4 ⌝ }
     ensures { λ r. ⌜ r ≡ set four k x ⌝ }
 {

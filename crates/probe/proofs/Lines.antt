@@ -1,17 +1,16 @@
 -- The lines read off the slices, and m of them from line b as the ways of a set: what Probe finds there, by the numbers.
-use Prim.Native.Nat.{ℕ, zero, suc, _+_, _*_, _≤_, _<_}
+use Prim.Native.Nat.{ℕ, _+_, _≤_, _<_}
 use mathlib.Core.Path.{_≡_, refl, ap, _∙_}
 use mathlib.Core.Logic.{⊎-elim}
 use mathlib.Core.Bool.{Bool, true, false, _&&_, false≢true}
 use mathlib.Core.List.{List, [], _∷_, map}
-use native.Mathlib.Nat.{add-zero}
 use native.Mathlib.Omega.{arith}
 use lib.ListN.{length, getD, take, drop}
 use Rattle.words.specs.Words.{pick, all, any, table, some}
 use Rattle.model.specs.Tables.{Line, isInvalid, isReserved, isModified, whollyInvalid, hasReserved, holds, fresh}
 use Rattle.model.specs.Range.{linesOf, isFifo, isTree}
 use Rattle.model.specs.Layout.{wordsFrom, cycleRegion, takenRegion}
-use Rattle.model.specs.Lent.{sectorAt, sectorsAt, lineAt, linesIn, takenAt, cycleAt, treeAt}
+use Rattle.model.specs.Lent.{lineAt, linesIn, takenAt, cycleAt, treeAt}
 use Rattle.model.specs.Probe.{first, orElse, candidate, enoughDirty, age, victim, Rule, byKey, byTree, choiceBy}
 use Rattle.model.specs.Tree.{treeChoice, powerTo16, levels}
 use Rattle.model.specs.declared.Settings.{Settings}
@@ -24,7 +23,8 @@ use Rattle.words.proofs.Below.{some-same}
 use Rattle.words.proofs.Tabled.{length-table, getD-table, part-table, any-table}
 use Rattle.model.proofs.Ways.{flag-is}
 use Rattle.model.proofs.Trees.{choice-same, levels-are}
-use Rattle.probe.specs.Scan.{waitingAt, candidateAt, foundIn, lastUnusedIn, earliestIn, agesFrom, victimIn, treeIn}
+use Rattle.tables.specs.Raw.{waitingAt}
+use Rattle.probe.specs.Scan.{candidateAt, foundIn, lastUnusedIn, earliestIn, agesFrom, victimIn, treeIn}
 use Rattle.probe.proofs.Statuses.{unused-bytes, waiting-bytes, holds-bytes, candidate-bytes}
 use Rattle.probe.proofs.Ways.{first-table, last-table, earliest-table, first-ext, last-ext, least-ext}
 
@@ -54,15 +54,6 @@ unused-candidate enough l =
     and-none : (a : Bool) → (a && false) ≡ false
     and-none true = refl
     and-none false = refl
-
--- ---- one of the four sectors of line l
-
-pub sector-of-four : (S : Settings) (words marks : List ℕ) (l k : ℕ) (d : Sector) → k < 4 → getD (sectorsAt S words marks l) k d ≡ sectorAt S words marks (4 * l + k)
-sector-of-four S words marks l zero d h = rw add-zero
-sector-of-four S words marks l (suc zero) d h = refl
-sector-of-four S words marks l (suc (suc zero)) d h = refl
-sector-of-four S words marks l (suc (suc (suc zero))) d h = refl
-sector-of-four S words marks l (suc (suc (suc (suc k)))) d h = absurd (omega arith)
 
 module _ (S : Settings) (longs words marks : List ℕ) where
   module _ (b m : ℕ) (h : b + m ≤ linesOf S) where

@@ -28,11 +28,13 @@ use Rattle.model.proofs.Fits.{power-most}
 use Rattle.probe.specs.declared.Meeting.the-variants.{Busy, Held}
 use Rattle.probe.specs.declared.Decision.{Decision}
 use Rattle.probe.specs.Decided.{Decided, backsOf, placeIs, linesHeld, ruleHeld}
-use Rattle.probe.specs.Scan.{waitingAt, dirtyAt, foundIn, victimIn}
+use Rattle.tables.specs.Raw.{waitingAt, dirtyAt}
+use Rattle.probe.specs.Scan.{foundIn, victimIn}
 use Rattle.probe.specs.Values.{masksAt, onMatch, onMiss, noWay, takenOver}
 use Rattle.probe.proofs.Statuses.{dirty-bytes}
 use Rattle.probe.proofs.Ways.{Under, first-under, victim-under, at-under}
-use Rattle.probe.proofs.Lines.{sector-of-four, way-is, found-is, waiting-is, victim-is}
+use Rattle.layout.proofs.OneOfFour.{sector-of-four}
+use Rattle.probe.proofs.Lines.{way-is, found-is, waiting-is, victim-is}
 
 -- the share of the lines, in a word
 pub share-fits : {p n : ℕ} → p ≤ 100 → n ≤ 1024 → p * n ≤ 102400

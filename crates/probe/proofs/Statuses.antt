@@ -13,8 +13,8 @@ use Rattle.model.specs.Tables.{isInvalid, isReserved, isModified, whollyInvalid
 use Rattle.model.specs.Lent.{statusAt, tagAt, lineAt}
 use Rattle.model.specs.Probe.{candidate}
 use Rattle.model.specs.declared.Status.the-variants.{Invalid, Reserved, Valid, Modified}
-use Rattle.tables.specs.Raw.{unusedAt, holdsAt}
-use Rattle.probe.specs.Scan.{waitingAt, dirtyAt, candidateAt}
+use Rattle.tables.specs.Raw.{unusedAt, holdsAt, waitingAt, dirtyAt}
+use Rattle.probe.specs.Scan.{candidateAt}
 use Rattle.model.specs.declared.Settings.{Settings}
 
 -- ---- one byte

@@ -14,7 +14,7 @@ use Rattle.model.specs.Tree.{treeChoice, levels}
 use Rattle.model.specs.declared.Settings.{Settings}
 use Rattle.model.specs.declared.Found.{Found}
 use Rattle.model.specs.declared.Found.the-variants.{At, Nothing}
-use Rattle.tables.specs.Raw.{unusedAt, holdsAt}
+use Rattle.tables.specs.Raw.{unusedAt, waitingAt, dirtyAt, holdsAt}
 
 -- ---- searches
 
@@ -39,19 +39,6 @@ leastFrom zero w p key = Nothing
 leastFrom (suc n) w p key = pick (p w) (sooner key w (leastFrom n (suc w) p key)) (leastFrom n (suc w) p key)
 
 -- ---- line l, by the bytes
-
-abbrev pub waitingAt : List ℕ → ℕ → Bool
-waitingAt marks l =
-    eqb (statusAt marks (4 * l)) 1 || eqb (statusAt marks (4 * l + 1)) 1 || eqb (statusAt marks (4 * l + 2)) 1 || eqb (statusAt marks (4 * l + 3)) 1
-
--- a number above 2 reads as MODIFIED
-abbrev pub dirtyAt : List ℕ → ℕ → Bool
-dirtyAt marks l =
-    ltb 2 (statusAt marks (4 * l)) || ltb 2 (statusAt marks (4 * l + 1)) || ltb 2 (statusAt marks (4 * l + 2)) || ltb 2 (statusAt marks (4 * l + 3))
-
--- neither RESERVED nor MODIFIED
-abbrev pub cleanAt : List ℕ → ℕ → Bool
-cleanAt marks l = not (waitingAt marks l) && not (dirtyAt marks l)
 
 abbrev pub candidateAt : List ℕ → Bool → ℕ → Bool
 candidateAt marks enough l = not (waitingAt marks l) && (not (dirtyAt marks l) || enough)

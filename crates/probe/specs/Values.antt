@@ -15,7 +15,7 @@ use Rattle.model.specs.declared.Found.the-variants.{At, Nothing}
 use Rattle.probe.specs.declared.Meeting.{Meeting}
 use Rattle.probe.specs.declared.Meeting.the-variants.{Met, Taken, Busy, Held}
 use Rattle.probe.specs.declared.Decision.{Decision}
-use Rattle.probe.specs.Scan.{waitingAt, dirtyAt}
+use Rattle.tables.specs.Raw.{waitingAt, dirtyAt}
 
 -- the four masks of line l
 abbrev pub masksAt : Settings → List ℕ → ℕ → List ℕ

@@ -1,5 +1,5 @@
 // "Probe and victim": what an access meets in its set, read off the lent slices. Nothing is written here; another crate acts.
-// First one line: tests on its four status bytes. Then the ways of a set: the match, the victim. Last the decision.
+// First whether a line is a candidate. Then the ways of a set: the match, the victim. Last the decision.
 use layout::Layout;
 use model::Access;
 use model::Answer;
@@ -16,15 +16,11 @@ ghost use Rattle.model.specs.Tree.{isIn, powerTo16};
 ghost use Rattle.model.specs.Inner.{Sized};
 ghost use Rattle.model.specs.Probe.{orElse};
 ghost use Rattle.layout.specs.Layout.{LaysOut};
-ghost use Rattle.probe.specs.Scan.{waitingAt, dirtyAt, cleanAt, candidateAt, foundIn, lastUnusedIn, earliestIn, agesFrom, victimIn, enoughIn, treeIn};
+ghost use Rattle.tables.specs.Raw.{waitingAt, dirtyAt};
+ghost use Rattle.probe.specs.Scan.{candidateAt, foundIn, lastUnusedIn, earliestIn, agesFrom, victimIn, enoughIn, treeIn};
 ghost use Rattle.probe.specs.Room.{VictimRoom};
 ghost use Rattle.probe.specs.Values.{masksAt, onMatch, onMiss, noWay, busyOrHeld, takenOver};
 ghost use Rattle.probe.specs.Decided.{Decided};
-
-// The low seven bits of each of four bytes, to which a number can be added inside the byte; then their top bits.
-const LOWS: u32 = 0x7f7f_7f7f;
-
-const TOPS: u32 = 0x8080_8080;
 
 // No cycle is above it.
 const LATEST: u32 = 0xffff_ffff;
@@ -51,41 +47,15 @@ pub struct Decision {
     pub masks: [u32; 4],
 }
 
-// Whether a sector of line l is RESERVED: a byte 1 is 0 in x, the one byte whose top bit 127 more does not set.
-fn is_waiting(marks: &[u8], l: usize) -> bool
-    requires { ⌜ 4 * l + 4 ≤ length (now marks) ⌝ }
-    ensures { λ r. ⌜ r ≡ waitingAt (now (marks .entry)) l ⌝ }
-{
-    let x = tables::statuses_at(marks, l) ^ 0x0101_0101;
-    ((((x & LOWS) + LOWS) | x) & TOPS) != TOPS
-}
-
-// Whether a sector of line l is MODIFIED: a byte above 2, as any such number reads, has its top bit or gets it from 125 more.
-pub fn is_dirty(marks: &[u8], l: usize) -> bool
-    requires { ⌜ 4 * l + 4 ≤ length (now marks) ⌝ }
-    ensures { λ r. ⌜ r ≡ dirtyAt (now (marks .entry)) l ⌝ }
-{
-    let x = tables::statuses_at(marks, l);
-    ((((x & LOWS) + 0x7d7d_7d7d) | x) & TOPS) != 0
-}
-
-// Whether every sector of line l is INVALID or VALID: 0 and 2 have no bit but the second.
-fn is_clean(marks: &[u8], l: usize) -> bool
-    requires { ⌜ 4 * l + 4 ≤ length (now marks) ⌝ }
-    ensures { λ r. ⌜ r ≡ cleanAt (now (marks .entry)) l ⌝ }
-{
-    (tables::statuses_at(marks, l) & 0xfdfd_fdfd) == 0
-}
-
 // `enough`: so many lines of the cache are dirty that a dirty line may go. Most lines are clean, and that test is the shortest.
 fn is_candidate(marks: &[u8], l: usize, enough: bool) -> bool
     requires { ⌜ 4 * l + 4 ≤ length (now marks) ⌝ }
     ensures { λ r. ⌜ r ≡ candidateAt (now (marks .entry)) enough l ⌝ }
 {
-    if is_clean(marks, l) {
+    if tables::is_clean(marks, l) {
         return true;
     }
-    enough & !is_waiting(marks, l)
+    enough & !tables::is_waiting(marks, l)
 }
 
 // The first way of the set that has the block; the set's lines begin at `base`. There is a way, so the first is looked at before any count.
@@ -112,7 +82,7 @@ fn some_waiting(marks: &[u8], base: usize, ways: usize) -> bool
 {
     let mut w = 0;
     while w < ways {
-        if is_waiting(marks, base + w) {
+        if tables::is_waiting(marks, base + w) {
             return true;
         }
         w += 1;
@@ -307,7 +277,7 @@ fn on_miss(
     ensures { λ r. ⌜ r ≡ onMiss s (now (longs .entry)) (now (words .entry)) base w (dirtyAt (now (marks .entry)) (base + w)) ⌝ }
 {
     let line = base + w;
-    if is_dirty(marks, line) {
+    if tables::is_dirty(marks, line) {
         let masks = masks_at(s, at, words, line);
         Decision {
             meeting: Meeting::Taken,

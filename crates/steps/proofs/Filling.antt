@@ -14,7 +14,7 @@ use Rattle.model.specs.Range.{linesOf}
 use Rattle.words.specs.Regions.{region, put, closed}
 use Rattle.model.specs.Address.{blockOf, sectorIndex, setIndex}
 use Rattle.model.specs.Tables.{Line, Entry, Tables, done, isInvalid, holds, entryFor, noEntry, empty, fresh, withLines, withDirtyCount, dirty}
-use Rattle.model.specs.Lent.{lent, sectorsAt}
+use Rattle.model.specs.Lent.{lent, sectorAt}
 use Rattle.model.specs.Steps.{arrived, fillLine, ticketsOf, afterFill, sentFor, fill, recounted, soiled}
 use Rattle.model.specs.Calls.{encoded, eventsTold, tidied, Leaves}
 use Rattle.model.specs.Inner.{Encodes}
@@ -27,61 +27,38 @@ use Rattle.words.proofs.Flags.{and-1, not-yes, no-not, no-yes, flag}
 use Rattle.words.proofs.Lists.{any-in, in-index, in-getD}
 use Rattle.words.proofs.Region.{length-region}
 use Rattle.words.proofs.Places.{take-padTo}
-use Rattle.model.proofs.SoundFacts.{Sound, parts, lines-are, four-at, holder-one, entry-at, LeavesSound, holder-set, dirty-count-is, few-misses, few-tickets}
+use Rattle.model.proofs.SoundFacts.{Sound, parts, lines-are, four-at, holder-one, entry-at, LeavesSound, holder-set, dirty-count-is, few-misses, few-tickets, sector-below}
 use Rattle.layout.specs.declared.Layout.{Layout}
 use Rattle.layout.specs.Layout.{LaysOut}
 use Rattle.layout.specs.Places.{First}
-use Rattle.layout.specs.Sectors.{statuses, masks, readables, someModified}
+use Rattle.layout.specs.Sectors.{statuses}
 use Rattle.tables.specs.Raw.{holdsAt}
 use Rattle.tables.specs.Telling.{telling}
 use Rattle.layout.proofs.ByBlocks.{ByBlocks, is-stands, stands-encode}
-use Rattle.model.proofs.SendFillKeepSound.{fill-tag, fill-cycle, fill-taken, fill-kept}
-use Rattle.layout.proofs.Lines.{tag-at, status-at, lifted, store-stands}
+use Rattle.model.proofs.SendFillKeepSound.{fill-kept}
+use Rattle.layout.proofs.Lines.{tag-at, status-at, lifted}
 use Rattle.tables.proofs.Misses.{sent-at, count-at, tickets-at, remove-stands, entry-found, entry-missing, misses-counted}
 use Rattle.tables.proofs.Tellings.{refusal-leaves, done-leaves}
-use Rattle.steps.specs.Parts.{Holding, arrivedAt, SectorFilled, LineFilled, releasing, CountFits, countAfter}
+use Rattle.tables.specs.Changed.{CountFits, Changed}
+use Rattle.tables.proofs.Changing.{withSectors, dirty-at, change-stands}
+use Rattle.layout.proofs.OneOfFour.{sector-of-four}
+use Rattle.steps.specs.Parts.{Holding, SectorFilled, LineFilled, releasing}
 use Rattle.steps.proofs.Entries.{kept-others, tickets-are, sent-is}
 use Rattle.model.proofs.SendFillKeepSound.{fill-leaves as fill-sound}
 use Rattle.words.proofs.Counting.{recount, count-length, one-counted, map-one}
-use Rattle.layout.proofs.DirtyCount.{dirty-count-at, dirty-count-stands}
+use Rattle.layout.proofs.DirtyCount.{dirty-count-at}
 use Rattle.encoding.proofs.NumbersAreTables.{invalid-number, flag-of-bit}
-
--- ---- one sector
-
--- four sectors that are lifted, of which one has come, counted and stored back
-pub sector-filled : (S : Settings) (at : Layout) (l k : ℕ) (words marks : List ℕ) {four four′ : List Sector} {x y : Sector} {was is : Bool} {words₁ words′ marks′ : List ℕ}
-    → four ≡ sectorsAt S words marks l → was ≡ someModified four → y ≡ getD four k empty → x ≡ arrived y → four′ ≡ set four k x → is ≡ someModified four′
-    → words₁ ≡ put words (at .dirty) ((getD words (at .dirty) 0 + one is - one was) ∷ [])
-    → (words′ ≡ put words₁ (at .masks + 4 * l) (masks four′)) × (marks′ ≡ put (put marks (4 * l) (statuses four′)) (at .readables + 4 * l) (readables four′))
-    → SectorFilled S at l k words marks words′ marks′
-sector-filled S at l k words marks {four} {four′} {x} {y} {was} {is} {words₁} e v g f q w d c =
-    let xs : List Sector = sectorsAt S words marks l in
-    let s : four′ ≡ arrivedAt k xs = q ∙ rw (f, g, e) in
-    let before : was ≡ someModified xs = v ∙ ap someModified e in
-    let after : is ≡ someModified (arrivedAt k xs) = w ∙ ap someModified s in
-    let counted : words₁ ≡ countAfter S at l words marks (arrivedAt k xs) =
-    d ∙ ap (λ (b : Bool). put words (at .dirty) ((getD words (at .dirty) 0 + one is - one b) ∷ [])) before
-    ∙ ap (λ (b : Bool). put words (at .dirty) ((getD words (at .dirty) 0 + one b - one (someModified xs)) ∷ [])) after in
-    record {
-      words-are = c .0 ∙ ap (λ (y : List Sector). put words₁ (at .masks + 4 * l) (masks y)) s ∙ ap (λ (z : List ℕ). put z (at .masks + 4 * l) (masks (arrivedAt k xs))) counted;
-      marks-are = c .1 ∙ ap (λ (y : List Sector). put (put marks (4 * l) (statuses y)) (at .readables + 4 * l) (readables y)) s;
-    }
-
--- what the code knows of the lifted four
-pub was-fits : (S : Settings) (at : Layout) (l : ℕ) (words marks : List ℕ) {four : List Sector} {was : Bool} → four ≡ sectorsAt S words marks l → was ≡ someModified four
-    → one (someModified (sectorsAt S words marks l)) ≤ getD words (at .dirty) 0 → one was ≤ getD words (at .dirty) 0
-was-fits S at l words marks e v h = subst (λ (b : Bool). one b ≤ getD words (at .dirty) 0) (sym (v ∙ ap someModified e)) h
 
 -- ---- the line that has the block
 
--- what is found by the code's block, and filled at the code's sector
-pub line-filled : (S : Settings) (a : ℕ) {at : Layout} {l block k : ℕ} {longs words marks words′ marks′ : List ℕ} → block ≡ blockOf a → k ≡ sectorIndex a → l < linesOf S
-    → holdsAt longs marks block l ≡ true → SectorFilled S at l k words marks words′ marks′ → LineFilled S at (blockOf a) (sectorIndex a) longs words marks words′ marks′
-line-filled S a {at} {l} {longs = longs} {words = words} {marks = marks} {words′ = words′} {marks′ = marks′} e f inside held c = record {
+-- what is found by the code's block
+pub line-filled : (S : Settings) (a : ℕ) {at : Layout} {l block : ℕ} {longs words marks words′ marks′ : List ℕ} → block ≡ blockOf a → l < linesOf S
+    → holdsAt longs marks block l ≡ true → SectorFilled S at l (sectorIndex a) words marks words′ marks′ → LineFilled S at (blockOf a) (sectorIndex a) longs words marks words′ marks′
+line-filled S a {at} {l} {longs = longs} {words = words} {marks = marks} e inside held c = record {
   line = l;
   inside = inside;
   held = subst (λ (b : ℕ). holdsAt longs marks b l ≡ true) e held;
-  filled = subst (λ (j : ℕ). SectorFilled S at l j words marks words′ marks′) f c;
+  filled = c;
 }
 
 -- the tag and the four tests in the order of the code, and in that of the definition
@@ -110,7 +87,7 @@ held-of (p ∷ q ∷ r ∷ s ∷ []) tag b l e f0 f1 f2 f3 =
     (held-order (eqb tag b) (isInvalid (p .status)) (isInvalid (q .status)) (isInvalid (r .status)) (isInvalid (s .status)))
 held-of (p ∷ q ∷ r ∷ s ∷ u ∷ xs) tag b l e f0 f1 f2 f3 = absurd (omega arith)
 
-fill-held : (a : ℕ) (l : Line) → holds (blockOf a) l ≡ true → fillLine a l .sectors ≡ arrivedAt (sectorIndex a) (l .sectors)
+fill-held : (a : ℕ) (l : Line) → holds (blockOf a) l ≡ true → fillLine a l ≡ withSectors (set (l .sectors) (sectorIndex a) (arrived (getD (l .sectors) (sectorIndex a) empty))) l
 unfolding fillLine
 fill-held a l e = rw e
 
@@ -142,25 +119,17 @@ module _ (S : Settings) (t : Tables) (ok : Sound S t) {longs words marks : List 
       → ByBlocks S longs words′ marks′ (withDirtyCount (recounted (getD (t .lines) (f .line) fresh) (fillLine a (getD (t .lines) (f .line) fresh)) (t .dirtyCount)) (withLines (map (fillLine a) (t .lines)) t))
   line-stands a {words′} {marks′} f =
       let l : ℕ = f .line in
-      let k : f .line < length (t .lines) = omega (arith, f .inside, lines-are S t ok) in
+      let n = lines-are S t ok in
+      let k : f .line < length (t .lines) = omega (arith, f .inside, n) in
       let x : Line = getD (t .lines) l fresh in
       let e : holds (blockOf a) (getD (t .lines) (f .line) fresh) ≡ true = sym (held-at l (blockOf a) k) ∙ f .held in
-      let len : length (fillLine a x .sectors) ≡ 4 = ap length (fill-held a x e) ∙ length-set (x .sectors) (sectorIndex a) (arrived (getD (x .sectors) (sectorIndex a) empty)) ∙ four l k in
-      let was : sectorsAt S words marks l ≡ x .sectors = lifted S t h p (lines-are S t ok) l k (four l k) in
-      let is : arrivedAt (sectorIndex a) (sectorsAt S words marks l) ≡ fillLine a x .sectors = ap (arrivedAt (sectorIndex a)) was ∙ sym (fill-held a x e) in
-      let d : ℕ = recounted x (fillLine a x) (t .dirtyCount) in
-      let before : someModified (sectorsAt S words marks l) ≡ dirty x = ap someModified was in
-      let same : getD words (at .dirty) 0 + one (someModified (fillLine a x .sectors)) - one (someModified (sectorsAt S words marks l)) ≡ d =
-      ap (λ (n : ℕ). n + one (dirty (fillLine a x)) - one (someModified (sectorsAt S words marks l))) (dirty-count-at S t h p)
-      ∙ ap (λ (b : Bool). t .dirtyCount + one (dirty (fillLine a x)) - one b) before in
-      let counted : ByBlocks S longs (put words (at .dirty) (d ∷ [])) marks (withDirtyCount d t) = dirty-count-stands S t h p d refl in
-      rw (fill-one a l k e)
-      (store-stands S (withDirtyCount d t) counted p (lines-are S t ok) l k (fillLine a x) len (fill-tag a x) (fill-cycle a x) (fill-taken a x) (
-        f .filled .words-are
-            ∙ ap (λ (y : List Sector). put (countAfter S at l words marks y) (at .masks + 4 * l) (masks y)) is
-            ∙ ap (λ (n : ℕ). put (put words (at .dirty) (n ∷ [])) (at .masks + 4 * l) (masks (fillLine a x .sectors))) same,
-        f .filled .marks-are ∙ ap (λ (y : List Sector). put (put marks (4 * l) (statuses y)) (at .readables + 4 * l) (readables y)) is,
-      ))
+      let own : sectorAt S words marks (4 * l + sectorIndex a) ≡ getD (x .sectors) (sectorIndex a) empty =
+      sym (sector-of-four S words marks l (sectorIndex a) empty (sector-below a)) ∙ ap (λ (y : List Sector). getD y (sectorIndex a) empty) (lifted S t h p n l k (four l k)) in
+      let c = change-stands S t h p n l k (four l k) (sectorIndex a) (arrived (getD (x .sectors) (sectorIndex a) empty))
+      (subst (λ (y : Sector). Changed S at l (sectorIndex a) (arrived y) words marks words′ marks′) own (f .filled)) in
+      let few : one (dirty x) ≤ t .dirtyCount = omega (arith, dirty-count-is S t ok, one-counted dirty (t .lines) l fresh k) in
+      let count : t .dirtyCount - one (dirty x) + one (dirty (fillLine a x)) ≡ recounted x (fillLine a x) (t .dirtyCount) = omega arith in
+      rw (fill-one a l k e, ← count, fill-held a x e) c
 
   -- the count of the lines that it leaves
   line-count : (a : ℕ) {words′ marks′ : List ℕ} (f : LineFilled S at (blockOf a) (sectorIndex a) longs words marks words′ marks′)
@@ -172,14 +141,13 @@ module _ (S : Settings) (t : Tables) (ok : Sound S t) {longs words marks : List 
       recount dirty (t .lines) l (fillLine a (getD (t .lines) l fresh)) fresh k (dirty-count-is S t ok) ∙ ap (count dirty) (sym (fill-one a l k e))
 
   -- the count has room for the line
-  pub count-fits : (l : ℕ) → l < linesOf S → linesOf S ≤ 1024 → CountFits S at l words marks
+  pub count-fits : (l : ℕ) → l < linesOf S → linesOf S ≤ 1024 → CountFits at l words marks
   count-fits l b few =
       let n = lines-are S t ok in
       let k : l < length (t .lines) = omega arith in
-      let was : sectorsAt S words marks l ≡ getD (t .lines) l fresh .sectors = lifted S t h p n l k (four l k) in
       let c : getD words (at .dirty) 0 ≡ count dirty (t .lines) = dirty-count-at S t h p ∙ dirty-count-is S t ok in (
         omega (arith, c, count-length dirty (t .lines)),
-        subst (λ (y : List Sector). one (someModified y) ≤ getD words (at .dirty) 0) (sym was) (omega (arith, c, one-counted dirty (t .lines) l fresh k)),
+        subst (λ (w : Bool). one w ≤ getD words (at .dirty) 0) (sym (dirty-at S t h p n l k (four l k))) (omega (arith, c, one-counted dirty (t .lines) l fresh k)),
       )
 
 -- ---- what is told

@@ -6,7 +6,7 @@ use mathlib.Core.List.{List, [], _∷_}
 use lib.ListN.{length, getD, set, replicate}
 use Rattle.words.specs.Words.{padTo, one}
 use Rattle.model.specs.Range.{linesOf}
-use Rattle.model.specs.Lent.{sectorsAt}
+use Rattle.model.specs.Lent.{sectorAt}
 use Rattle.words.specs.Regions.{put}
 use Rattle.model.specs.Tables.{empty, idle}
 use Rattle.model.specs.Steps.{arrived}
@@ -16,8 +16,8 @@ use Rattle.model.specs.declared.Event.the-variants.{Filled}
 use Rattle.model.specs.declared.Reply.{Reply}
 use Rattle.layout.specs.declared.Layout.{Layout}
 use Rattle.layout.specs.Places.{First}
-use Rattle.layout.specs.Sectors.{statuses, masks, readables, someModified}
 use Rattle.tables.specs.Raw.{holdsAt}
+use Rattle.tables.specs.Changed.{Changed}
 
 -- ---- send
 
@@ -44,24 +44,9 @@ pub record HeadMarked (at : Layout) (n : ℕ) (longs marks marks′ : List ℕ) 
 abbrev pub Holding : List ℕ → List ℕ → ℕ → ℕ → ℕ → Type 0
 Holding longs marks base n block = (k : ℕ) × (k < n) × (holdsAt longs marks block (base + k) ≡ true)
 
--- four sectors of which sector k has come
-abbrev pub arrivedAt : ℕ → List Sector → List Sector
-arrivedAt k xs = set xs k (arrived (getD xs k empty))
-
--- the dirty count is no more than there can be lines, and counts line l if it is dirty
-abbrev pub CountFits : Settings → Layout → ℕ → List ℕ → List ℕ → Type 0
-CountFits S at l words marks = (getD words (at .dirty) 0 ≤ 1024) × (one (someModified (sectorsAt S words marks l)) ≤ getD words (at .dirty) 0)
-
--- the dirty count, when the line's four sectors become these
-abbrev pub countAfter : Settings → Layout → ℕ → List ℕ → List ℕ → List Sector → List ℕ
-countAfter S at l words marks four =
-    put words (at .dirty) ((getD words (at .dirty) 0 + one (someModified four) - one (someModified (sectorsAt S words marks l))) ∷ [])
-
 -- sector k of line l has come
-pub record SectorFilled (S : Settings) (at : Layout) (l k : ℕ) (words marks words′ marks′ : List ℕ) : Type 0 where
-  pub words-are : words′ ≡ put (countAfter S at l words marks (arrivedAt k (sectorsAt S words marks l))) (at .masks + 4 * l) (masks (arrivedAt k (sectorsAt S words marks l)))
-  pub marks-are : marks′
-      ≡ put (put marks (4 * l) (statuses (arrivedAt k (sectorsAt S words marks l)))) (at .readables + 4 * l) (readables (arrivedAt k (sectorsAt S words marks l)))
+abbrev pub SectorFilled : Settings → Layout → ℕ → ℕ → List ℕ → List ℕ → List ℕ → List ℕ → Type 0
+SectorFilled S at l k words marks words′ marks′ = Changed S at l k (arrived (sectorAt S words marks (4 * l + k))) words marks words′ marks′
 
 -- sector k of a line that has the block has come
 pub record LineFilled (S : Settings) (at : Layout) (block k : ℕ) (longs words marks words′ marks′ : List ℕ) : Type 0 where

@@ -24,7 +24,8 @@ ghost use Rattle.layout.specs.Layout.{LaysOut};
 ghost use Rattle.layout.specs.Places.{First};
 ghost use Rattle.layout.specs.Sectors.{SectorRoom};
 ghost use Rattle.tables.specs.Raw.{holdsAt};
-ghost use Rattle.steps.specs.Parts.{HeadAsked, HeadMarked, Holding, SectorFilled, LineFilled, releasing, CountFits};
+ghost use Rattle.tables.specs.Changed.{CountFits};
+ghost use Rattle.steps.specs.Parts.{HeadAsked, HeadMarked, Holding, SectorFilled, LineFilled, releasing};
 
 // ---- send
 
@@ -112,18 +113,22 @@ fn arrive(x: Sector) -> Sector
     }
 }
 
-// The four sectors of line `l` with sector `k` arrived, and the line counted.
-fn fill_sector(s: Settings, at: Layout, words: &mut [u32], marks: &mut [u8], l: usize, k: usize)
-    requires { ⌜ (k < 4) × (l < linesOf s) × SectorRoom s at (now words) (now marks) ⌝ }
-    requires { ⌜ (at .dirty < length (now words)) × CountFits s at l (now words) (now marks) ⌝ }
-    ensures { λ _. ⌜ SectorFilled s at l k (now (words .entry)) (now (marks .entry)) (now (words .exit)) (now (marks .exit)) ⌝ }
+// The address's sector of line `l` arrives.
+fn fill_sector(
+    s: Settings,
+    at: Layout,
+    words: &mut [u32],
+    marks: &mut [u8],
+    l: usize,
+    address: u64,
+)
+    requires { ⌜ (l < linesOf s) × SectorRoom s at (now words) (now marks) ⌝ }
+    requires { ⌜ (at .dirty < length (now words)) × CountFits at l (now words) (now marks) ⌝ }
+    ensures { λ _. ⌜ SectorFilled s at l (sectorIndex address) (now (words .entry)) (now (marks .entry)) (now (words .exit)) (now (marks .exit)) ⌝ }
 {
-    let found = layout::lift(s, at, words, marks, l);
-    let was = layout::some_modified(found);
-    let x = layout::sector_in(found, k);
-    let four = layout::with_sector(found, k, arrive(x));
-    layout::recount(words, at.dirty, was, layout::some_modified(four));
-    layout::store(at, words, marks, l, four);
+    let k = values::sector_index(address);
+    let come = arrive(layout::sector_at(s, at, words, marks, 4 * l + k));
+    tables::change(s, at, words, marks, l, values::sector_number(address), come);
 }
 
 // Fills the address's sector in the line that has its block.
@@ -138,7 +143,7 @@ fn fill_line(
     requires { ⌜ Sized s (now longs) (now words) (now marks) ⌝ }
     requires { ⌜ LaysOut s at ⌝ }
     requires { ⌜ Holding (now longs) (now marks) (setIndex s address * s .ways) (s .ways) (blockOf address) ⌝ }
-    requires { ⌜ ((l : ℕ) → l < linesOf s → CountFits s at l (now words) (now marks)) ⌝ }
+    requires { ⌜ ((l : ℕ) → l < linesOf s → CountFits at l (now words) (now marks)) ⌝ }
     ensures { λ _. ⌜ LineFilled s at (blockOf address) (sectorIndex address) (now (longs .entry)) (now (words .entry)) (now (marks .entry))
         (now (words .exit)) (now (marks .exit)) ⌝ }
 {
@@ -146,7 +151,7 @@ fn fill_line(
     let set = values::set_index(address, s.sets);
     let block = values::block_of(address);
     let l = find_line(longs, marks, set * ways, ways, block);
-    fill_sector(s, at, words, marks, l, values::sector_index(address));
+    fill_sector(s, at, words, marks, l, address);
 }
 
 // Whether entry `e` is one of the `n` that there are, and sent.

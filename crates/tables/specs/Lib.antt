@@ -1,3 +1,4 @@
 -- What the leaves over the lent slices say.
 pub mod Raw
 pub mod Telling
+pub mod Changed

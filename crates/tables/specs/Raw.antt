@@ -1,9 +1,9 @@
 -- Words for the raw numbers of the lent slices, which the leaves' contracts speak of.
 use Prim.Native.Nat.{ℕ, _+_, _*_}
-use mathlib.Core.Bool.{Bool, not, _&&_}
+use mathlib.Core.Bool.{Bool, not, _&&_, _||_}
 use mathlib.Core.List.{List, [], _∷_}
 use lib.ListN.{getD}
-use lib.Dec.{eqb}
+use lib.Dec.{eqb, ltb}
 use Rattle.model.specs.Numbers.{queueKindOf}
 use Rattle.model.specs.Lent.{tagAt, statusAt}
 use Rattle.model.specs.declared.Queued.{Queued}
@@ -30,6 +30,19 @@ statusesAt marks l =
 abbrev pub unusedAt : List ℕ → ℕ → Bool
 unusedAt marks l =
     eqb (statusAt marks (4 * l)) 0 && eqb (statusAt marks (4 * l + 1)) 0 && eqb (statusAt marks (4 * l + 2)) 0 && eqb (statusAt marks (4 * l + 3)) 0
+
+abbrev pub waitingAt : List ℕ → ℕ → Bool
+waitingAt marks l =
+    eqb (statusAt marks (4 * l)) 1 || eqb (statusAt marks (4 * l + 1)) 1 || eqb (statusAt marks (4 * l + 2)) 1 || eqb (statusAt marks (4 * l + 3)) 1
+
+-- a number above 2 reads as MODIFIED
+abbrev pub dirtyAt : List ℕ → ℕ → Bool
+dirtyAt marks l =
+    ltb 2 (statusAt marks (4 * l)) || ltb 2 (statusAt marks (4 * l + 1)) || ltb 2 (statusAt marks (4 * l + 2)) || ltb 2 (statusAt marks (4 * l + 3))
+
+-- neither RESERVED nor MODIFIED
+abbrev pub cleanAt : List ℕ → ℕ → Bool
+cleanAt marks l = not (waitingAt marks l) && not (dirtyAt marks l)
 
 -- it has this tag and a status that isn't 0
 abbrev pub holdsAt : List ℕ → List ℕ → ℕ → ℕ → Bool

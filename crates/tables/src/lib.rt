@@ -1,12 +1,14 @@
 // Leaves over the lent slices at offsets inside them: a region that closes up, a search, the queue, the miss table, a line's tag and
-// statuses. The contracts speak of the raw numbers. Where the parts lie and a line's four sectors are in `layout`.
+// statuses, a line of which one sector changes. The contracts speak of the raw numbers. Where the parts lie and a line's four sectors are in `layout`.
 use layout::Layout;
 use model::BlockAddress;
 use model::Event;
 use model::Queued;
 use model::Refusal;
 use model::Reply;
+use model::Sector;
 use model::SectorAddress;
+use model::Settings;
 use values::idle;
 use values::queue_kind_number;
 use values::queue_kind_of;
@@ -15,13 +17,21 @@ ghost use Prim.Native.Nat.{_+_, _-_, _*_, _≤_, _<_};
 ghost use mathlib.Core.List.{[], _∷_};
 ghost use lib.ListN.{length, replicate};
 ghost use lib.Dec.{eqb};
-ghost use Rattle.words.specs.Words.{padTo};
+ghost use Rattle.words.specs.Words.{padTo, one};
+ghost use Rattle.model.specs.Range.{linesOf};
 ghost use Rattle.model.specs.Numbers.{queueKindNumber};
 ghost use Rattle.words.specs.Regions.{region, put, closed};
 ghost use Rattle.model.specs.declared.Event.the-variants as event;
 ghost use Rattle.layout.specs.Places.{First};
-ghost use Rattle.tables.specs.Raw.{frontAt, statusesAt, unusedAt, holdsAt};
+ghost use Rattle.layout.specs.Sectors.{SectorRoom};
+ghost use Rattle.tables.specs.Raw.{frontAt, statusesAt, unusedAt, waitingAt, dirtyAt, cleanAt, holdsAt};
 ghost use Rattle.tables.specs.Telling.{telling};
+ghost use Rattle.tables.specs.Changed.{CountFits, Changed};
+
+// The low seven bits of each of four bytes, to which a number can be added inside the byte; then their top bits.
+const LOWS: u32 = 0x7f7f_7f7f;
+
+const TOPS: u32 = 0x8080_8080;
 
 // One event and no more.
 pub fn blank(first: Event) -> Reply
@@ -301,6 +311,32 @@ pub fn is_unused(marks: &[u8], l: usize) -> bool
     statuses_at(marks, l) == 0
 }
 
+// Whether a sector of line l is RESERVED: a byte 1 is 0 in x, the one byte whose top bit 127 more does not set.
+pub fn is_waiting(marks: &[u8], l: usize) -> bool
+    requires { ⌜ 4 * l + 4 ≤ length (now marks) ⌝ }
+    ensures { λ r. ⌜ r ≡ waitingAt (now (marks .entry)) l ⌝ }
+{
+    let x = statuses_at(marks, l) ^ 0x0101_0101;
+    ((((x & LOWS) + LOWS) | x) & TOPS) != TOPS
+}
+
+// Whether a sector of line l is MODIFIED: a byte above 2, as any such number reads, has its top bit or gets it from 125 more.
+pub fn is_dirty(marks: &[u8], l: usize) -> bool
+    requires { ⌜ 4 * l + 4 ≤ length (now marks) ⌝ }
+    ensures { λ r. ⌜ r ≡ dirtyAt (now (marks .entry)) l ⌝ }
+{
+    let x = statuses_at(marks, l);
+    ((((x & LOWS) + 0x7d7d_7d7d) | x) & TOPS) != 0
+}
+
+// Whether every sector of line l is INVALID or VALID: 0 and 2 have no bit but the second.
+pub fn is_clean(marks: &[u8], l: usize) -> bool
+    requires { ⌜ 4 * l + 4 ≤ length (now marks) ⌝ }
+    ensures { λ r. ⌜ r ≡ cleanAt (now (marks .entry)) l ⌝ }
+{
+    (statuses_at(marks, l) & 0xfdfd_fdfd) == 0
+}
+
 // Tags are block addresses.
 pub fn same_block(a: BlockAddress, b: BlockAddress) -> bool
     ensures { λ r. ⌜ r ≡ eqb (a .0) (b .0) ⌝ }
@@ -318,4 +354,37 @@ pub fn holds_block(longs: &[u64], marks: &[u8], l: usize, block: BlockAddress) -
     } else {
         false
     }
+}
+
+// ---- a line of which one sector changes
+
+// What a line adds to the dirty count.
+fn counted(dirty: bool) -> u32
+    ensures { λ r. ⌜ (r ≡ one dirty) × (r ≤ 1) ⌝ }
+{
+    if dirty { 1 } else { 0 }
+}
+
+// Sector `k` of the line becomes `x`: its four sectors are lifted, one is changed, and they are stored back whole. The line leaves the
+// dirty count before and is counted after; that write stands before the lift, so that the compiler reads each column at once.
+pub fn change(
+    s: Settings,
+    at: Layout,
+    words: &mut [u32],
+    marks: &mut [u8],
+    line: usize,
+    k: u8,
+    x: Sector,
+)
+    requires { ⌜ SectorRoom s at (now words) (now marks) × (line < linesOf s) × (k < 4) ⌝ }
+    requires { ⌜ (at .dirty < length (now words)) × CountFits at line (now words) (now marks) ⌝ }
+    ensures { λ _. ⌜ Changed s at line k x (now (words .entry)) (now (marks .entry)) (now (words .exit)) (now (marks .exit)) ⌝ }
+{
+    let place = at.dirty;
+    let others = words[place] - counted(is_dirty(marks, line));
+    words[place] = others;
+    let found = layout::lift(s, at, words, marks, line);
+    let four = layout::with_sector(found, k, x);
+    layout::store(at, words, marks, line, four);
+    words[place] = others + counted(is_dirty(marks, line));
 }

@@ -209,6 +209,13 @@ pub fn sector_index(address: u64) -> usize
     (address % 128 / 32) as usize
 }
 
+// The same as a byte: four sectors compared with it are compared at once.
+pub fn sector_number(address: u64) -> u8
+    ensures { λ r. ⌜ (r ≡ sectorIndex address) × (r < 4) ⌝ }
+{
+    (address % 256) as u8 / 32 % 4
+}
+
 // "Probe and victim": the answer by status, a row each, and by column: a write, a read of a readable sector, of an unreadable one.
 const ANSWERS: [[Answer; 3]; 4] = [
     [Answer::SectorMiss, Answer::SectorMiss, Answer::SectorMiss],

@@ -34,7 +34,7 @@ offer-read-spec =
           let acted = c .before .before in
           let then = acted .before .before in
           let start = then .before .before .before .before .before in
-          hit-offered _ _ _ t p m (start .pre .0) (rw (start .pre .4) (sym (then .before .is-hit .ensures) ∙ then .if1 .taken)) (acted .act-hit .ensures .0) (acted .act-hit .ensures .1);
+          hit-offered _ _ _ t p m (start .pre .0) (start .pre .4) (sym (then .before .is-hit .ensures) ∙ then .if1 .taken) (acted .act-hit .ensures .0) (acted .act-hit .ensures .1);
     })
     (λ c κs. c .before .before .before .before .before .before .before .before .pre)  -- miss-plan-requires
     (λ c κs. search needs)  -- accepted-requires

@@ -1,7 +1,7 @@
 use mathlib.Core.Path.{_≡_, refl, sym, ap, _∙_}
 use mathlib.Core.Bool.{Bool, true, false, not, _&&_, _||_, true≢false, false≢true}
 use borrow.Author.Needs.{needs}
-use Rattle.probe.specs.Scan.{waitingAt, dirtyAt}
+use Rattle.tables.specs.Raw.{waitingAt, dirtyAt}
 use Rattle.probe.proofs.is_candidate.Statement.{statement}
 use Rattle.probe.proofs.is_candidate.Tie as tie
 

@@ -4,7 +4,7 @@ use mathlib.Core.List.{List}
 use native.Mathlib.Omega.{arith}
 use borrow.Author.Needs.{needs}
 use Rattle.words.proofs.Below.{Sought, sought-start, sought-stop, sought-more, sought-end}
-use Rattle.probe.specs.Scan.{waitingAt}
+use Rattle.tables.specs.Raw.{waitingAt}
 use Rattle.probe.proofs.some_waiting.Statement.{statement}
 use Rattle.probe.proofs.some_waiting.Tie as tie
 

@@ -21,24 +21,24 @@ find-line-requires c κs =
 
 fill-sector-requires : tie.Need-fill-sector-requires
 fill-sector-requires c κs =
-    let set = c .before .before .before .before .before .before in
+    let set = c .before .before .before .before .before in
     let start = set .before .before .before .before in
     let a = start .args in
     let room = set-room (a .s) (a .address) (set .set-index .ensures) (start .pre .0 .sets) (start .pre .0 .ways) in
     let p = start .pre .1 .0 in
-    let inside = c .before .before .before .find-line .ensures .1 in
-    ((c .sector-index .ensures .1, omega (arith, inside), (p, omega arith, omega arith)), (omega arith, start .pre .1 .1 .1 _ (omega (arith, inside))))
+    let inside = c .before .before .find-line .ensures .1 in
+    ((omega (arith, inside), (p, omega arith, omega arith)), (omega arith, start .pre .1 .1 .1 _ (omega (arith, inside))))
 
 returns : tie.Need-returns
 returns c =
     let filled = c .before .before .before .before in
-    let found = filled .before .before .before .before in
+    let found = filled .before .before .before in
     let set = found .before .before .before in
     let start = set .before .before .before .before in
     let a = start .args in
     let room = set-room (a .s) (a .address) (set .set-index .ensures) (start .pre .0 .sets) (start .pre .0 .ways) in
     let f = found .find-line .ensures in
-    line-filled (a .s) (a .address) (found .before .before .block-of .ensures) (filled .before .sector-index .ensures .0) (omega (arith, f .1)) (f .2) (filled .fill-sector .ensures)
+    line-filled (a .s) (a .address) (found .before .before .block-of .ensures) (omega (arith, f .1)) (f .2) (filled .fill-sector .ensures)
 
 pub fill-line-spec : {M : Type 1} → statement M
 fill-line-spec =
@@ -53,7 +53,6 @@ fill-line-spec =
     let a = start .args in
     omega (arith, set-room (a .s) (a .address) (set .set-index .ensures) (start .pre .0 .sets) (start .pre .0 .ways)))
     find-line-requires
-    (λ c κs. search needs)  -- sector-index-requires
     fill-sector-requires
     (λ c. search needs)  -- same-length
     (λ c. search needs)  -- same-length-2

@@ -1,6 +1,10 @@
--- The four are lifted, one is changed, the line is counted, and they are stored back.
-use Rattle.steps.proofs.Filling.{sector-filled, was-fits}
+-- The sector is read, and the line changed with what has come.
+use mathlib.Core.Path.{ap, _∙_}
+use Prim.Native.Nat.{ℕ, _+_, _*_}
 use borrow.Author.Needs.{needs}
+use Rattle.model.specs.Lent.{sectorAt}
+use Rattle.model.specs.Steps.{arrived}
+use Rattle.tables.proofs.Changing.{changed-as}
 use Rattle.steps.proofs.fill_sector.Statement.{statement}
 use Rattle.steps.proofs.fill_sector.Tie as tie
 
@@ -8,33 +12,23 @@ pub fill-sector-spec : {M : Type 1} → statement M
 fill-sector-spec =
     tie.close
     (tie.spec
-    (λ c κs. search needs)  -- lift-requires
-    (λ c κs. search needs)  -- some-modified-requires
-    (λ c κs. search needs)  -- sector-in-requires
+    (λ c κs. search needs)  -- sector-index-requires
+    (λ c. search needs)  -- mul-sector-at
+    (λ c. search needs)  -- add-sector-at
+    (λ c κs. search needs)  -- sector-at-requires
     (λ c κs. search needs)  -- arrive-requires
-    (λ c κs. search needs)  -- with-sector-requires
-    (λ c κs. search needs)  -- some-modified-requires-2
-    -- recount-requires
-    (λ c κs.
-    let asked = c .before .before .before .before .before in
-    let lift = asked .before in
-    let start = lift .before .before .before .before .before in
-    let a = start .args in
-    (start .pre .1 .0, start .pre .1 .1 .0, was-fits (a .s) (a .at) (a .l) (a .words .now) (a .marks .now) (lift .lift .ensures) (asked .some-modified .ensures) (start .pre .1 .1 .1)))
-    (λ c κs. search needs)  -- store-requires
+    (λ c κs. search needs)  -- sector-number-requires
+    (λ c κs. search needs)  -- change-requires
     (λ c. search needs)  -- same-length
     (λ c. search needs)  -- same-length-2
     -- returns
     (λ c.
-    let stored = c .before .before .before .before in
-    let counted = stored .before .before .before .before .before in
-    let after = counted .before in
-    let changed = after .before .before in
-    let come = changed .before in
-    let own = come .before in
-    let asked = own .before in
-    let lift = asked .before in
-    let start = lift .before .before .before .before .before in
+    let changed = c .before .before .before .before in
+    let number = changed .before in
+    let come = number .before .before .before in
+    let read = come .before in
+    let index = read .before .before .before in
+    let start = index .before .before .before in
     let a = start .args in
-    sector-filled (a .s) (a .at) (a .l) (a .k) (a .words .now) (a .marks .now) (lift .lift .ensures) (asked .some-modified .ensures) (own .sector-in .ensures) (come .arrive .ensures)
-    (changed .with-sector .ensures) (after .some-modified2 .ensures) (counted .recount .ensures) (stored .store .ensures)))
+    let own = come .arrive .ensures ∙ ap arrived (read .sector-at .ensures ∙ ap (λ (k : ℕ). sectorAt (a .s) (a .words .now) (a .marks .now) (4 * a .l + k)) (index .sector-index .ensures .0)) in
+    changed-as (a .s) (a .at) (a .l) (number .sector-number .ensures .0) own (changed .change .ensures)))

@@ -1,14 +1,12 @@
-use mathlib.Core.Path.{_≡_, sym, ap, _∙_}
-use mathlib.Core.List.{List}
+use mathlib.Core.Path.{refl, sym, ap, _∙_}
 use native.Mathlib.Omega.{arith}
 use borrow.Author.Needs.{needs}
-use lib.ListN.{replicate}
-use Rattle.model.specs.Address.{addressOf, blockOf}
-use Rattle.model.specs.Lent.{lent, sectorsAt}
-use Rattle.model.specs.declared.Sector.{Sector}
+use Rattle.model.specs.Address.{sectorIndex}
+use Rattle.model.specs.Steps.{onSector}
 use Rattle.encoding.proofs.Bridge.{is-fit}
-use Rattle.access.specs.Written.{sectorsFor, sectorsAfter, lineLeft}
-use Rattle.access.proofs.Lines.{sectors-stay, sectors-taken}
+use Rattle.tables.proofs.Changing.{changed-as}
+use Rattle.access.proofs.Sectors.{sector-read}
+use Rattle.access.proofs.Changes.{touch-fits, met-left}
 use Rattle.access.proofs.writes.fetch_line.Statement.{statement}
 use Rattle.access.proofs.writes.fetch_line.Tie as tie
 
@@ -18,44 +16,62 @@ fetch-line-spec =
     (tie.spec
     (λ c κs. search needs)  -- takes-line-requires
     (λ c κs. search needs)  -- empty-sector-requires
-    (λ c κs. search needs)  -- sectors-read-requires
-    (λ c κs. search needs)  -- leave-line-requires
-    -- lift-requires
+    (λ c κs. search needs)  -- read-sector-requires
+    -- take-line-requires
+    (λ c κs.
+    let read = c .before .before .before in
+    let tested = read .before .before .before in
+    let start = tested .before .before .before .before in
+    let a = start .args in (
+      start .pre .0,
+      start .pre .1,
+      sym (tested .takes-line .ensures) ∙ read .before .before .if1 .taken,
+      read .read-sector .ensures ∙ sector-read (a .x) (a .d .answer) _ (start .pre .2) ∙ ap (onSector (a .x) (a .d .answer)) (read .before .empty-sector .ensures),
+    ))
+    -- own-sector-requires
     (λ c κs.
     let start = c .before .before .before .before .before .before .before in
     let m = start .pre .1 .met in
     let f = is-fit _ _ _ (m .is) in
     let p = start .pre .0 in
     ((p, omega arith, omega arith), m .below))
-    (λ c κs. search needs)  -- sectors-read-requires-2
-    (λ c κs. search needs)  -- leave-line-requires-2
+    (λ c κs. search needs)  -- read-sector-requires-2
+    -- touch-requires
+    (λ c κs.
+    let start = c .before .before .before .before .before .before .before .before .before .before in
+    let m = start .pre .1 .met in
+    let f = is-fit _ _ _ (m .is) in
+    let p = start .pre .0 in
+    omega (arith, m .below))
+    (λ c κs. search needs)  -- address-of-requires
+    (λ c κs. search needs)  -- sector-number-requires
+    -- change-requires
+    (λ c κs.
+    let number = c .before .before in
+    let touched = c .before .before .before .before .before .before in
+    let start = c .before .before .before .before .before .before .before .before .before .before .before .before .before .before .before .before .before in
+    let a = start .args in
+    let m = start .pre .1 .met in
+    let f = is-fit _ _ _ (m .is) in
+    let p = start .pre .0 in
+    let k = touched .touch .kept .0 in
+    (((p, omega (arith, k), omega arith), m .below, number .sector-number .ensures .1), (omega (arith, k), touch-fits (a .s) (a .x) (a .d) _ _ m p (touched .touch .ensures))))
     (λ c. search needs)  -- same-length
     (λ c. search needs)  -- same-length-2
     (λ c. search needs)  -- same-length-3
-    -- returns
-    (λ c.
-    let left = c .before .before .before .before .before .before in
-    let changed = left .before .before .before .before in
-    let tested = changed .before .before .before in
-    let start = tested .before .before .before .before in
-    let a = start .args in
-    let found : replicate 4 (changed .before .empty-sector .result) ≡ sectorsFor (a .d .meeting) (sectorsAt (a .s) (a .words .now) (a .marks .now) (a .d .line)) =
-    rw (changed .before .empty-sector .ensures) (sym (sectors-taken (a .s) (a .x) (a .d) _ _ (start .pre .1 .met) (sym (tested .takes-line .ensures) ∙ changed .before .before .if1 .taken))) in
-    left .leave-line .ensures
-    ∙ ap (λ (four : List Sector). lineLeft (a .at) (lent (a .longs .now) (a .words .now) (a .marks .now)) (a .d .line) (blockOf (addressOf (a .x))) four)
-    (changed .sectors-read .ensures ∙ ap (sectorsAfter (a .x) (a .d)) found))
+    (λ c. search needs)  -- returns
     (λ c. search needs)  -- same-length-4
     (λ c. search needs)  -- same-length-5
-    (λ c. search needs)  -- same-length-6
     -- returns-2
     (λ c.
-    let left = c .before .before .before .before .before .before in
-    let changed = left .before .before .before .before in
-    let tested = changed .before .before .before .before .before in
+    let changed = c .before .before .before .before in
+    let number = c .before .before .before .before .before .before .before in
+    let touched = c .before .before .before .before .before .before .before .before .before .before .before in
+    let read = c .before .before .before .before .before .before .before .before .before .before .before .before .before in
+    let tested = c .before .before .before .before .before .before .before .before .before .before .before .before .before .before .before .before .before .before in
     let start = tested .before .before .before .before in
     let a = start .args in
-    left .leave-line2 .ensures
-    ∙ ap (λ (four : List Sector). lineLeft (a .at) (lent (a .longs .now) (a .words .now) (a .marks .now)) (a .d .line) (blockOf (addressOf (a .x))) four)
-    (changed .sectors-read2 .ensures
-    ∙ ap (sectorsAfter (a .x) (a .d))
-    (changed .before .lift .ensures ∙ sym (sectors-stay (a .s) (a .x) (a .d) _ _ (start .pre .1 .met) (sym (tested .takes-line .ensures) ∙ changed .before .before .before .before .if1 .left))))))
+    met-left (a .s) (a .x) (a .d) _ _ (start .pre .1 .met) (start .pre .0) (sym (tested .takes-line .ensures) ∙ c .before .before .before .before .before .before .before .before .before .before .before .before .before .before .before .before .before .if1 .left)
+    (read .read-sector2 .ensures ∙ sector-read (a .x) (a .d .answer) _ (start .pre .2) ∙ ap (onSector (a .x) (a .d .answer)) (read .before .own-sector .ensures))
+    (touched .touch .ensures)
+    (changed-as (a .s) (a .at) (a .d .line) (number .sector-number .ensures .0 ∙ ap sectorIndex (number .before .address-of .ensures)) refl (changed .change .ensures))))

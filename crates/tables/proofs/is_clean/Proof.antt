@@ -3,9 +3,9 @@ use mathlib.Core.Path.{ap, _∙_}
 use borrow.Author.Needs.{needs}
 use lib.Bits.{bitAnd}
 use lib.Dec.{eqb}
-use Rattle.probe.proofs.FourBytes.{clean-statuses}
-use Rattle.probe.proofs.is_clean.Statement.{statement}
-use Rattle.probe.proofs.is_clean.Tie as tie
+use Rattle.tables.proofs.FourBytes.{clean-statuses}
+use Rattle.tables.proofs.is_clean.Statement.{statement}
+use Rattle.tables.proofs.is_clean.Tie as tie
 
 pub is-clean-spec : {M : Type 1} → statement M
 is-clean-spec =

@@ -11,9 +11,8 @@ use borrow.Author.Tests.{eqb-true}
 use Rattle.words.specs.Words.{pick, same}
 use Rattle.words.proofs.Flags.{and-1, and-2, same-is}
 use Rattle.words.proofs.Below.{every-at}
-use Rattle.tables.specs.Raw.{fourBytes, statusesAt}
+use Rattle.tables.specs.Raw.{fourBytes, statusesAt, waitingAt, dirtyAt, cleanAt}
 use Rattle.tables.proofs.Bytes.{zero-four, and-left}
-use Rattle.probe.specs.Scan.{waitingAt, dirtyAt, cleanAt}
 
 -- ---- byte by byte
 

@@ -5,9 +5,9 @@ use native.Mathlib.Omega.{arith}
 use borrow.Author.Needs.{needs}
 use lib.Bits.{and-le-r}
 use lib.Dec.{eqb}
-use Rattle.probe.proofs.FourBytes.{tops, dirty-statuses}
-use Rattle.probe.proofs.is_dirty.Statement.{statement}
-use Rattle.probe.proofs.is_dirty.Tie as tie
+use Rattle.tables.proofs.FourBytes.{tops, dirty-statuses}
+use Rattle.tables.proofs.is_dirty.Statement.{statement}
+use Rattle.tables.proofs.is_dirty.Tie as tie
 
 pub is-dirty-spec : {M : Type 1} → statement M
 is-dirty-spec =

@@ -5,9 +5,9 @@ use native.Mathlib.Omega.{arith}
 use borrow.Author.Needs.{needs}
 use lib.Bits.{bitXor, and-le-r}
 use lib.Dec.{eqb}
-use Rattle.probe.proofs.FourBytes.{tops, waiting-statuses}
-use Rattle.probe.proofs.is_waiting.Statement.{statement}
-use Rattle.probe.proofs.is_waiting.Tie as tie
+use Rattle.tables.proofs.FourBytes.{tops, waiting-statuses}
+use Rattle.tables.proofs.is_waiting.Statement.{statement}
+use Rattle.tables.proofs.is_waiting.Tie as tie
 
 pub is-waiting-spec : {M : Type 1} → statement M
 is-waiting-spec =
