@@ -6,8 +6,8 @@ pub mod Lines
 pub mod Recounts
 pub mod Inverted
 pub mod Acting
-pub mod Kept
 pub mod Changes
+pub mod Kept
 pub mod Telling
 pub mod Offering
 pub mod Hits

@@ -1,14 +1,14 @@
 -- Searches over the numbers below n, and tests on line l by its four status bytes. The functions below `decide` speak of these; proofs/
 -- ties them to the lists of Probe. Nothing here is document 01's.
-use Prim.Native.Nat.{ℕ, zero, suc, _+_, _*_}
+use Prim.Native.Nat.{ℕ, zero, suc, _+_}
 use mathlib.Core.Bool.{Bool, not, _&&_, _||_}
 use mathlib.Core.List.{List}
 use lib.ListN.{getD}
-use lib.Dec.{eqb, ltb, leb}
+use lib.Dec.{leb}
 use Rattle.words.specs.Words.{pick}
 use Rattle.model.specs.Range.{isFifo, isTree}
 use Rattle.model.specs.Layout.{wordsFrom, cycleRegion, takenRegion}
-use Rattle.model.specs.Lent.{statusAt, dirtyCountAt, treeAt}
+use Rattle.model.specs.Lent.{dirtyCountAt, treeAt}
 use Rattle.model.specs.Probe.{orElse, enoughDirty}
 use Rattle.model.specs.Tree.{treeChoice, levels}
 use Rattle.model.specs.declared.Settings.{Settings}

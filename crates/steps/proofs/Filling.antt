@@ -6,12 +6,12 @@ use mathlib.Core.List.{List, [], _∷_, map}
 use Prim.Native.Nat.{ℕ, _+_, _-_, _*_, _%_, _≤_, _<_}
 use native.Mathlib.Nat.{mod-lt, div-add-mod'}
 use native.Mathlib.Omega.{arith}
-use lib.ListN.{length, getD, set, length-set}
+use lib.ListN.{length, getD, set}
 use lib.Dec.{eqb, ltb}
 use borrow.Author.Tests.{eqb-true, ltb-true, ltb-false}
 use Rattle.words.specs.Words.{padTo, all, any, one, count}
 use Rattle.model.specs.Range.{linesOf}
-use Rattle.words.specs.Regions.{region, put, closed}
+use Rattle.words.specs.Regions.{region, closed}
 use Rattle.model.specs.Address.{blockOf, sectorIndex, setIndex}
 use Rattle.model.specs.Tables.{Line, Entry, Tables, done, isInvalid, holds, entryFor, noEntry, empty, fresh, withLines, withDirtyCount, dirty}
 use Rattle.model.specs.Lent.{lent, sectorAt}

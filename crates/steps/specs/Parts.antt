@@ -1,17 +1,16 @@
 -- Words for the parts of send and fill, over the raw numbers of the lent slices.
 use mathlib.Core.Path.{_≡_}
-use Prim.Native.Nat.{ℕ, _+_, _-_, _*_, _≤_, _<_}
+use Prim.Native.Nat.{ℕ, _+_, _-_, _*_, _<_}
 use mathlib.Core.Bool.{true}
 use mathlib.Core.List.{List, [], _∷_}
-use lib.ListN.{length, getD, set, replicate}
-use Rattle.words.specs.Words.{padTo, one}
+use lib.ListN.{length, getD, replicate}
+use Rattle.words.specs.Words.{padTo}
 use Rattle.model.specs.Range.{linesOf}
 use Rattle.model.specs.Lent.{sectorAt}
 use Rattle.words.specs.Regions.{put}
-use Rattle.model.specs.Tables.{empty, idle}
+use Rattle.model.specs.Tables.{idle}
 use Rattle.model.specs.Steps.{arrived}
 use Rattle.model.specs.declared.Settings.{Settings}
-use Rattle.model.specs.declared.Sector.{Sector}
 use Rattle.model.specs.declared.Event.the-variants.{Filled}
 use Rattle.model.specs.declared.Reply.{Reply}
 use Rattle.layout.specs.declared.Layout.{Layout}
