@@ -9,9 +9,9 @@ use lib.ListN.{getD, replicate}
 use Rattle.words.specs.Words.{pick}
 use Rattle.model.specs.Range.{linesOf}
 use Rattle.model.specs.Address.{addressOf, blockOf, sectorIndex, lineNumber}
-use Rattle.model.specs.Tables.{Line, Tables, empty, fresh, emptied, holds, writing}
+use Rattle.model.specs.Tables.{Line, Tables, empty, fresh, emptied, holds, dirty, writing}
 use Rattle.model.specs.Lent.{lent, sectorsAt, lineAt}
-use Rattle.model.specs.Probe.{Rule, Spot, at, first, victim, takeOver, meet, probe, waysOf, ruleOf, columnOf, answerAt, answerOf}
+use Rattle.model.specs.Probe.{Rule, Spot, at, first, victim, takeOver, writeBack, meet, probe, waysOf, ruleOf, columnOf, answerAt, answerOf}
 use Rattle.model.specs.Meetings.{Matched, Replaced}
 use Rattle.model.specs.Steps.{isMiss, takesLine}
 use Rattle.model.specs.declared.Settings.{Settings}
@@ -59,25 +59,34 @@ kept-stays HitReserved e = refl
 kept-stays Miss e = absurd (true≢false e)
 kept-stays SectorMiss e = refl
 
--- ---- a line that a MISS takes is empty
+-- ---- a line that a MISS takes is empty, and was written back if it was dirty
 
 module _ (R : Rule) (S : Settings) (n : ℕ) (ways : List Line) (x : Access) (p : Spot) (takes : takesLine (p .answer) ≡ true) where
-  over-emptied : (v : Found) → takeOver (addressOf x) ways v ≡ at p → p .line ≡ emptied (blockOf (addressOf x))
-  over-emptied Nothing e = let z : _≡_ {A = ℕ} 0 1 = cc in absurd (omega arith)
-  over-emptied (At w) e = cc
+  abbrev Emptied : Type 0
+  Emptied = (p .line ≡ emptied (blockOf (addressOf x))) × (p .backs ≡ writeBack (getD ways (p .way) fresh))
 
-  meet-emptied : (f : Found) → meet R S n ways x f ≡ at p → p .line ≡ emptied (blockOf (addressOf x))
+  over-emptied : (v : Found) → takeOver (addressOf x) ways v ≡ at p → Emptied
+  over-emptied Nothing e = let z : _≡_ {A = ℕ} 0 1 = cc in absurd (omega arith)
+  over-emptied (At w) e = (cc, cc)
+
+  meet-emptied : (f : Found) → meet R S n ways x f ≡ at p → Emptied
   meet-emptied Nothing e = over-emptied (victim R S n ways) e
   meet-emptied (At w) e =
       let s : Sector = getD (getD ways w fresh .sectors) (sectorIndex (addressOf x)) empty in
       let a : p .answer ≡ answerOf x s = cc in
       clash takes (ap takesLine a ∙ never-taken x (s .status) (s .readable))
 
-  line-emptied : probe R S n ways x ≡ at p → p .line ≡ emptied (blockOf (addressOf x))
+  line-emptied : probe R S n ways x ≡ at p → Emptied
   unfolding probe
   line-emptied e = meet-emptied (first (holds (blockOf (addressOf x))) ways) e
 
 -- ---- what is found in the slices
+
+queued-same : (b c : Bool) (y z : Queued) → pick b (y ∷ []) [] ≡ pick c (z ∷ []) [] → b ≡ c
+queued-same true true y z e = refl
+queued-same true false y z e = let z : _≡_ {A = ℕ} 0 1 = cc in absurd (omega arith)
+queued-same false true y z e = let z : _≡_ {A = ℕ} 0 1 = cc in absurd (omega arith)
+queued-same false false y z e = refl
 
 none-queued : (b : Bool) (y : Queued) → pick b (y ∷ []) [] ≡ [] → b ≡ false
 none-queued true y e = let z : _≡_ {A = ℕ} 0 1 = cc in absurd (omega arith)
@@ -104,14 +113,18 @@ module _ (S : Settings) {longs words marks : List ℕ} (x : Access) (d : Decisio
       ∙ ap (λ (i : ℕ). getD (t .lines) i fresh) (ap (lineNumber S (addressOf x)) (sym (shows S x d t p m .way)) ∙ sym (m .numbered))
       ∙ line-is)
 
-  pub sectors-stay : takesLine (d .answer) ≡ false → sectorsFor (d .meeting) (sectorsAt S words marks (d .line)) ≡ sectorsAt S words marks (d .line)
-  sectors-stay n = sym found-is ∙ ap (λ (l : Line). l .sectors) (stands (ap takesLine (answer-is S x d t p m) ∙ n) ∙ line-is)
+  module _ (takes : takesLine (d .answer) ≡ true) where
+    emptied-is : (p .line ≡ emptied (blockOf (addressOf x))) × (p .backs ≡ writeBack (getD (waysOf S (t .lines) (addressOf x)) (p .way) fresh))
+    emptied-is = line-emptied (ruleOf S t (addressOf x)) S (t .dirtyCount) (waysOf S (t .lines) (addressOf x)) x p (ap takesLine (answer-is S x d t p m) ∙ takes) (m .probed)
 
-  pub sectors-taken : takesLine (d .answer) ≡ true → sectorsFor (d .meeting) (sectorsAt S words marks (d .line)) ≡ replicate 4 empty
-  sectors-taken y =
-      sym found-is
-      ∙ ap (λ (l : Line). l .sectors)
-      (line-emptied (ruleOf S t (addressOf x)) S (t .dirtyCount) (waysOf S (t .lines) (addressOf x)) x p (ap takesLine (answer-is S x d t p m) ∙ y) (m .probed))
+    pub sectors-taken : sectorsFor (d .meeting) (sectorsAt S words marks (d .line)) ≡ replicate 4 empty
+    sectors-taken = sym found-is ∙ ap (λ (l : Line). l .sectors) (emptied-is .0)
+
+    -- a victim is written back if it is dirty
+    pub back-dirty : d .backs ≡ dirty (getD (t .lines) (d .line) fresh)
+    back-dirty =
+        queued-same (d .backs) (dirty (getD (waysOf S (t .lines) (addressOf x)) (p .way) fresh)) _ _ (sym (shows S x d t p m .backs) ∙ emptied-is .1)
+        ∙ ap dirty (way-line S (t .lines) (addressOf x) (p .way) (rw (shows S x d t p m .way) (m .way)) ∙ ap (λ (i : ℕ). getD (t .lines) i fresh) (sym (m .numbered)))
 
   -- only a victim is written back
   pub no-back : takesLine (d .answer) ≡ false → d .backs ≡ false

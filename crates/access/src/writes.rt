@@ -80,28 +80,6 @@ fn write_line(
     layout::store(at, words, marks, line, four);
 }
 
-// The access's line with the four sectors that it leaves, and counted.
-fn leave_line(
-    s: Settings,
-    at: Layout,
-    longs: &mut [u64],
-    words: &mut [u32],
-    marks: &mut [u8],
-    x: Access,
-    d: Decision,
-    four: [Sector; 4],
-)
-    requires { ⌜ LaysOut s at × Meets s (lent (now longs) (now words) (now marks)) x d ⌝ }
-    ensures { λ _. ⌜ lent (now (longs .exit)) (now (words .exit)) (now (marks .exit))
-        ≡ lineLeft at (lent (now (longs .entry)) (now (words .entry)) (now (marks .entry))) (d .line) (blockOf (addressOf x))
-        four ⌝ }
-{
-    let was = tables::is_dirty(marks, d.line);
-    layout::recount(words, at.dirty, was, layout::some_modified(four));
-    let block = values::block_of(values::address_of(x));
-    write_line(at, longs, words, marks, d.line, block, four);
-}
-
 // The access's own sector of its line.
 fn own_sector(
     s: Settings,
@@ -118,7 +96,7 @@ fn own_sector(
     layout::sector_at(s, at, words, marks, 4 * line + k)
 }
 
-// A line that is taken over: empty, but for the access's own sector.
+// A line that is taken over: empty, but for the access's own sector, and counted. It was dirty if it is written back.
 fn take_line(
     s: Settings,
     at: Layout,
@@ -135,7 +113,9 @@ fn take_line(
         (sectorsAfter x d (sectorsFor (d .meeting) (sectorsAt s (now (words .entry)) (now (marks .entry)) (d .line)))) ⌝ }
 {
     let four = taken_sectors(x, one);
-    leave_line(s, at, longs, words, marks, x, d, four);
+    layout::recount(words, at.dirty, d.backs, layout::some_modified(four));
+    let block = values::block_of(values::address_of(x));
+    write_line(at, longs, words, marks, d.line, block, four);
 }
 
 // The line of a read that misses: taken over, or there, and then its own sector changes and the tag stays.

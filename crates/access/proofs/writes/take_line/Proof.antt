@@ -1,12 +1,12 @@
 use mathlib.Core.Path.{sym, ap, _∙_}
-use mathlib.Core.List.{List}
+use native.Mathlib.Omega.{arith}
 use borrow.Author.Needs.{needs}
-use Rattle.model.specs.Address.{addressOf, blockOf}
-use Rattle.model.specs.Lent.{lent}
-use Rattle.model.specs.declared.Sector.{Sector}
-use Rattle.access.specs.Written.{sectorsAfter, lineLeft}
+use Rattle.encoding.proofs.Bridge.{is-fit}
+use Rattle.layout.proofs.DirtyCount.{dirty-few}
+use Rattle.access.specs.Written.{sectorsAfter}
 use Rattle.access.proofs.Sectors.{taken-left}
-use Rattle.access.proofs.Lines.{sectors-taken}
+use Rattle.access.proofs.Lines.{sectors-taken, back-dirty}
+use Rattle.access.proofs.Recounts.{was-dirty, was-counted}
 use Rattle.access.proofs.writes.take_line.Statement.{statement}
 use Rattle.access.proofs.writes.take_line.Tie as tie
 
@@ -15,17 +15,37 @@ take-line-spec =
     tie.close
     (tie.spec
     (λ c κs. search needs)  -- taken-sectors-requires
-    (λ c κs. search needs)  -- leave-line-requires
+    (λ c κs. search needs)  -- some-modified-requires
+    -- recount-requires
+    (λ c κs.
+    let start = c .before .before .before .before .before .before in
+    let m = start .pre .1 .met in
+    let f = is-fit _ _ _ (m .is) in
+    let p = start .pre .0 in
+    let was = back-dirty _ _ _ _ _ m (start .pre .2) ∙ sym (was-dirty _ _ (m .is) p _ (m .below)) in
+    (omega arith, dirty-few _ _ (m .is) p, rw was (was-counted _ _ (m .is) p _ (m .below))))
+    (λ c κs. search needs)  -- address-of-requires
+    (λ c κs. search needs)  -- block-of-requires
+    -- write-line-requires
+    (λ c κs.
+    let start = c .before .before .before .before .before .before .before .before .before .before .before .before .before .before in
+    let m = start .pre .1 .met in
+    let f = is-fit _ _ _ (m .is) in
+    let p = start .pre .0 in
+    let k = c .before .before .before .before .before .before .before .recount .kept .0 in
+    (omega (arith, m .below), omega (arith, m .below), omega (arith, m .below), omega (arith, m .below), omega (arith, m .below)))
     (λ c. search needs)  -- same-length
     (λ c. search needs)  -- same-length-2
     (λ c. search needs)  -- same-length-3
     -- returns
     (λ c.
-    let left = c .before .before .before .before .before .before in
-    let taken = left .before .before .before .before in
+    let blocked = c .before .before .before .before .before .before .before .before .before .before in
+    let counted = blocked .before .before .before .before in
+    let taken = counted .before .before .before in
     let start = taken .before .before .before .before in
     let a = start .args in
-    let found = sectors-taken (a .s) (a .x) (a .d) _ _ (start .pre .1 .met) (start .pre .2) in
-    left .leave-line .ensures
-    ∙ ap (λ (four : List Sector). lineLeft (a .at) (lent (a .longs .now) (a .words .now) (a .marks .now)) (a .d .line) (blockOf (addressOf (a .x))) four)
-    (taken-left (a .x) (a .d) (start .pre .3) (taken .taken-sectors .ensures) ∙ ap (sectorsAfter (a .x) (a .d)) (sym found))))
+    let m = start .pre .1 .met in
+    let was = back-dirty _ _ _ _ _ m (start .pre .2) ∙ sym (was-dirty _ _ (m .is) (start .pre .0) _ (m .below)) in
+    let four = taken-left (a .x) (a .d) (start .pre .3) (taken .taken-sectors .ensures) ∙ ap (sectorsAfter (a .x) (a .d)) (sym (sectors-taken _ _ _ _ _ m (start .pre .2))) in
+    c .before .before .before .before .before .before .write-line .ensures
+    ∙ rw (blocked .block-of .ensures, blocked .before .address-of .ensures, counted .recount .ensures, counted .before .some-modified .ensures, was, four)))
