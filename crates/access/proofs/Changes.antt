@@ -12,6 +12,7 @@ use Rattle.model.specs.Address.{addressOf, blockOf, sectorIndex}
 use Rattle.model.specs.Range.{linesOf}
 use Rattle.model.specs.Tables.{Line, Tables, empty, fresh, dirty, withLines, withDirtyCount}
 use Rattle.model.specs.Lent.{lent, sectorAt, sectorsAt, encode}
+use Rattle.model.specs.Inner.{Sized}
 use Rattle.model.specs.Probe.{Spot}
 use Rattle.model.specs.Steps.{takesLine, onSector}
 use Rattle.model.specs.declared.Settings.{Settings}
@@ -19,8 +20,10 @@ use Rattle.model.specs.declared.Access.{Access}
 use Rattle.model.specs.declared.Sector.{Sector}
 use Rattle.words.proofs.Lists.{in-getD}
 use Rattle.model.proofs.SoundFacts.{parts, four-at, sector-below}
+use Rattle.encoding.proofs.Bridge.{is-fit}
 use Rattle.layout.specs.declared.Layout.{Layout}
 use Rattle.layout.specs.Layout.{LaysOut}
+use Rattle.layout.specs.Sectors.{SectorRoom}
 use Rattle.layout.proofs.ByBlocks.{ByBlocks, is-stands, stands-encode}
 use Rattle.layout.proofs.Lines.{usedAs, used-stands, lifted}
 use Rattle.layout.proofs.OneOfFour.{sector-of-four}
@@ -42,6 +45,17 @@ module _ (S : Settings) {longs words marks : List ℕ} (x : Access) (d : Decisio
   below : d .line < length (t .lines)
   below = omega (arith, sized S x d t p m pl, m .below)
 
+  -- ---- room in the slices for what is read and written of it
+
+  fit : Sized S longs words marks
+  fit = is-fit S (lent longs words marks) t (m .is)
+
+  pub own-room : SectorRoom S place words marks × (d .line < linesOf S)
+  own-room = let f = fit in ((pl, omega arith, omega arith), m .below)
+
+  pub touch-room : 1 + d .line < length words
+  touch-room = let f = fit in omega (arith, m .below)
+
   -- ---- its cycle
 
   abbrev touchedTables : Tables
@@ -52,11 +66,15 @@ module _ (S : Settings) {longs words marks : List ℕ} (x : Access) (d : Decisio
       used-stands S t (is-stands (m .is)) pl (sized S x d t p m pl) (d .line) below (t .now) (e ∙ ap (λ (n : ℕ). put words (1 + d .line) (n ∷ [])) (now-is S x d t p m pl))
 
   -- it leaves the dirty count
-  pub touch-fits : {words₁ : List ℕ} → words₁ ≡ put words (1 + d .line) (getD words 0 0 ∷ []) → CountFits place (d .line) words₁ marks
+  touch-fits : {words₁ : List ℕ} → words₁ ≡ put words (1 + d .line) (getD words 0 0 ∷ []) → CountFits place (d .line) words₁ marks
   touch-fits {words₁} e =
       let now : getD words₁ (place .dirty) 0 ≡ t .dirtyCount = dirty-count-at S touchedTables (touch-stands e) pl in
       let before : getD words (place .dirty) 0 ≡ t .dirtyCount = dirty-count-at S t (is-stands (m .is)) pl in
       (omega (arith, now, before, dirty-few S t (m .is) pl), omega (arith, now, before, was-counted S t (m .is) pl (d .line) (m .below)))
+
+  pub change-room : {words₁ : List ℕ} {k : ℕ} → words₁ ≡ put words (1 + d .line) (getD words 0 0 ∷ []) → length words₁ ≡ length words → k < 4
+      → (SectorRoom S place words₁ marks × (d .line < linesOf S) × (k < 4)) × ((place .dirty < length words₁) × CountFits place (d .line) words₁ marks)
+  change-room e long small = let f = fit in (((pl, omega arith, omega arith), m .below, small), (omega arith, touch-fits e))
 
   -- ---- its sector
 

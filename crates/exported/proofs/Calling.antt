@@ -34,8 +34,8 @@ use Rattle.encoding.proofs.DecodeIsSound.{Small}
 use Rattle.words.proofs.Flags.{not-either}
 use Rattle.words.proofs.Below.{leb-not}
 use Rattle.encoding.proofs.Bridge.{call-is, events-encoded, does-is}
-use Rattle.records.specs.Stores.{Stored}
-use Rattle.records.proofs.Stores.{stored-behind}
+use Rattle.records.specs.Stores.{Stored, Laid}
+use Rattle.records.proofs.Stores.{stored-there, stored-behind}
 use Rattle.records.proofs.Room.{Takes, access-takes, step-takes}
 use Rattle.records.proofs.OfCalls.{call-room}
 use Rattle.exported.specs.Exported.{mayLend, settingsFrom, Called, Stepped, lengthFor, mayWait, roundNumber, WaitCalled, RunCalled}
@@ -70,15 +70,18 @@ module _ (S : Settings) (k : Call) (L : Lent) (e : List ℕ) (reply : Reply) whe
   call-made small room l s = call-written out L e reply room (call-room S (stepBy S k) L small (call-short S k)) l s
 
   -- a step without the check leaves what the call leaves, and sound tables again
-  pub step-made : {r : ℕ} {f : List ℕ} {M : Lent} → history.Small k → SoundSlices S L → 64 ≤ length e → Does S (stepBy S k) L reply M → Stored e 0 (logBytes (eventsTold reply)) r f → Stepped S out L e r f M
+  pub step-made : {r : ℕ} {f : List ℕ} {M : Lent} → history.Small k → SoundSlices S L → 64 ≤ length e → Does S (stepBy S k) L reply M
+      → Laid e 0 (length (logBytes (eventsTold reply))) (logBytes (eventsTold reply)) r f → Stepped S out L e r f M
   unfolding access
-  step-made small held room d s =
+  step-made {r} small held room d u =
       let t = held .tables in
       let i = held .are in
       let q : out ≡ encoded S (stepBy S k t) = call-is S L t i (stepBy S k) in
       let n : length (logBytes (eventsOf out)) ≤ 49 = rw (q, events-encoded S (stepBy S k t)) (call-short S k t (i .range) (i .soundly) .most) in
+      let left = rw q (d .on t i) in
+      let few : r ≤ 49 = omega (arith, u .next, rw (← left .tells) at n) in
       record {
-        called = call-written out L e reply room n (rw q (d .on t i)) s;
+        called = call-written out L e reply room n left (stored-there e 0 (logBytes (eventsTold reply)) (u .next) (sym (le-leb (0 + r) (length e) (omega arith))) refl u);
         held = record { tables = after t (stepBy S k t); are = does-is S d t i (call-keeps-sound (ruleOf S) S k t (i .range) small (i .soundly)) };
       }
 

@@ -35,7 +35,7 @@ pub extern "C" fn labintugmo_step_read(
     };
     let at = layout::layout_of(s);
     let reply = access::access_step(s, at, longs, words, marks, x);
-    records::write_reply(reply, events, 0)
+    records::put_access(reply, events, 0)
 }
 
 // A write on tables that the caller has kept sound.
@@ -64,7 +64,7 @@ pub extern "C" fn labintugmo_step_write(
     };
     let at = layout::layout_of(s);
     let reply = access::access_step(s, at, longs, words, marks, x);
-    records::write_reply(reply, events, 0)
+    records::put_access(reply, events, 0)
 }
 
 // A send on tables that the caller has kept sound.
@@ -86,7 +86,7 @@ pub extern "C" fn labintugmo_step_send(
     let s = settings_from(settings);
     let at = layout::layout_of(s);
     let reply = steps::send_step(s, at, longs, words, marks);
-    records::write_reply(reply, events, 0)
+    records::put_sent(reply, events, 0)
 }
 
 // A fill on tables that the caller has kept sound.
@@ -109,7 +109,7 @@ pub extern "C" fn labintugmo_step_fill(
     let s = settings_from(settings);
     let at = layout::layout_of(s);
     let reply = steps::fill_step(s, at, longs, words, marks, address);
-    records::write_reply(reply, events, 0)
+    records::put_filled(reply, events, 0)
 }
 
 // A tick on tables that the caller has kept sound.
@@ -131,5 +131,5 @@ pub extern "C" fn labintugmo_step_tick(
     }
     let s = settings_from(settings);
     let reply = steps::tick_step(s, longs, words, marks, cycle);
-    records::write_reply(reply, events, 0)
+    records::put_ticked(reply, events, 0)
 }

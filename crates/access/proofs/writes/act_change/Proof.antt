@@ -7,7 +7,7 @@ use Rattle.encoding.proofs.Bridge.{is-fit}
 use Rattle.model.proofs.Turning.{set-below}
 use Rattle.layout.proofs.Room.{tree-room}
 use Rattle.tables.proofs.Changing.{changed-as}
-use Rattle.access.proofs.Changes.{touch-fits, met-left}
+use Rattle.access.proofs.Changes.{own-room, touch-room, change-room, met-left}
 use Rattle.access.proofs.Hits.{change-offered}
 use Rattle.access.proofs.writes.act_change.Statement.{statement}
 use Rattle.access.proofs.writes.act_change.Tie as tie
@@ -16,33 +16,16 @@ pub act-change-spec : {M : Type 1} → statement M
 act-change-spec =
     tie.close
     (tie.spec
-    -- own-sector-requires
-    (λ c κs.
-    let start = c .before .before .before .before .before in
-    let m = start .pre .1 .met in
-    let f = is-fit _ _ _ (m .is) in
-    let p = start .pre .0 in
-    ((p, omega arith, omega arith), m .below))
+    (λ c κs. let start = c .before .before .before .before .before in own-room _ _ _ _ _ (start .pre .1 .met) (start .pre .0))  -- own-sector-requires
     (λ c κs. search needs)  -- written-sector-requires
-    -- touch-requires
-    (λ c κs.
-    let start = c .before .before .before .before .before .before .before .before in
-    let m = start .pre .1 .met in
-    let f = is-fit _ _ _ (m .is) in
-    let p = start .pre .0 in
-    omega (arith, m .below))
+    (λ c κs. let start = c .before .before .before .before .before .before .before .before in touch-room _ _ _ _ _ (start .pre .1 .met) (start .pre .0))  -- touch-requires
     (λ c κs. search needs)  -- address-of-requires
     (λ c κs. search needs)  -- sector-number-requires
     -- change-requires
     (λ c κs.
     let touched = c .before .before .before .before .before .before in
     let start = c .before .before .before .before .before .before .before .before .before .before .before .before .before .before .before in
-    let a = start .args in
-    let m = start .pre .1 .met in
-    let f = is-fit _ _ _ (m .is) in
-    let p = start .pre .0 in
-    let k = touched .touch .kept .0 in
-    (((p, omega (arith, k), omega arith), m .below, c .before .before .sector-number .ensures .1), (omega (arith, k), touch-fits (a .s) (a .x) (a .d) _ _ m p (touched .touch .ensures))))
+    change-room _ _ _ _ _ (start .pre .1 .met) (start .pre .0) (touched .touch .ensures) (touched .touch .kept .0) (c .before .before .sector-number .ensures .1))
     -- turn-tree-requires
     (λ c κs.
     let start = c .before .before .before .before .before .before .before .before .before .before .before .before .before .before .before .before .before .before .before .before .before in

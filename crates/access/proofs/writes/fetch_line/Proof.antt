@@ -1,12 +1,10 @@
 use mathlib.Core.Path.{refl, sym, ap, _∙_}
-use native.Mathlib.Omega.{arith}
 use borrow.Author.Needs.{needs}
 use Rattle.model.specs.Address.{sectorIndex}
 use Rattle.model.specs.Steps.{onSector}
-use Rattle.encoding.proofs.Bridge.{is-fit}
 use Rattle.tables.proofs.Changing.{changed-as}
 use Rattle.access.proofs.Sectors.{sector-read}
-use Rattle.access.proofs.Changes.{touch-fits, met-left}
+use Rattle.access.proofs.Changes.{own-room, touch-room, change-room, met-left}
 use Rattle.access.proofs.writes.fetch_line.Statement.{statement}
 use Rattle.access.proofs.writes.fetch_line.Tie as tie
 
@@ -28,34 +26,16 @@ fetch-line-spec =
       sym (tested .takes-line .ensures) ∙ read .before .before .if1 .taken,
       read .read-sector .ensures ∙ sector-read (a .x) (a .d .answer) _ (start .pre .2) ∙ ap (onSector (a .x) (a .d .answer)) (read .before .empty-sector .ensures),
     ))
-    -- own-sector-requires
-    (λ c κs.
-    let start = c .before .before .before .before .before .before .before in
-    let m = start .pre .1 .met in
-    let f = is-fit _ _ _ (m .is) in
-    let p = start .pre .0 in
-    ((p, omega arith, omega arith), m .below))
+    (λ c κs. let start = c .before .before .before .before .before .before .before in own-room _ _ _ _ _ (start .pre .1 .met) (start .pre .0))  -- own-sector-requires
     (λ c κs. search needs)  -- read-sector-requires-2
-    -- touch-requires
-    (λ c κs.
-    let start = c .before .before .before .before .before .before .before .before .before .before in
-    let m = start .pre .1 .met in
-    let f = is-fit _ _ _ (m .is) in
-    let p = start .pre .0 in
-    omega (arith, m .below))
+    (λ c κs. let start = c .before .before .before .before .before .before .before .before .before .before in touch-room _ _ _ _ _ (start .pre .1 .met) (start .pre .0))  -- touch-requires
     (λ c κs. search needs)  -- address-of-requires
     (λ c κs. search needs)  -- sector-number-requires
     -- change-requires
     (λ c κs.
-    let number = c .before .before in
     let touched = c .before .before .before .before .before .before in
     let start = c .before .before .before .before .before .before .before .before .before .before .before .before .before .before .before .before .before in
-    let a = start .args in
-    let m = start .pre .1 .met in
-    let f = is-fit _ _ _ (m .is) in
-    let p = start .pre .0 in
-    let k = touched .touch .kept .0 in
-    (((p, omega (arith, k), omega arith), m .below, number .sector-number .ensures .1), (omega (arith, k), touch-fits (a .s) (a .x) (a .d) _ _ m p (touched .touch .ensures))))
+    change-room _ _ _ _ _ (start .pre .1 .met) (start .pre .0) (touched .touch .ensures) (touched .touch .kept .0) (c .before .before .sector-number .ensures .1))
     (λ c. search needs)  -- same-length
     (λ c. search needs)  -- same-length-2
     (λ c. search needs)  -- same-length-3

@@ -1,10 +1,9 @@
 use mathlib.Core.Path.{sym, ap, _∙_}
 use mathlib.Core.List.{List}
 use Prim.Native.Nat.{ℕ}
-use native.Mathlib.Omega.{arith}
 use borrow.Author.Needs.{needs}
 use Rattle.model.specs.Lent.{lent}
-use Rattle.encoding.proofs.Bridge.{is-fit}
+use Rattle.access.proofs.Changes.{touch-room}
 use Rattle.access.proofs.Kept.{touched}
 use Rattle.access.proofs.writes.read_line.Statement.{statement}
 use Rattle.access.proofs.writes.read_line.Tie as tie
@@ -15,13 +14,7 @@ read-line-spec =
     (tie.spec
     (λ c κs. search needs)  -- is-miss-requires
     (λ c κs. search needs)  -- fetch-line-requires
-    -- touch-requires
-    (λ c κs.
-    let start = c .before .before .before .before .before .before in
-    let m = start .pre .1 .met in
-    let f = is-fit _ _ _ (m .is) in
-    let p = start .pre .0 in
-    omega (arith, m .below))
+    (λ c κs. let start = c .before .before .before .before .before .before in touch-room _ _ _ _ _ (start .pre .1 .met) (start .pre .0))  -- touch-requires
     (λ c. search needs)  -- same-length
     (λ c. search needs)  -- same-length-2
     (λ c. search needs)  -- same-length-3

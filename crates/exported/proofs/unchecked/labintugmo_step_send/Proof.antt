@@ -13,7 +13,7 @@ labintugmo-step-send-spec =
     (λ c κs. search needs)  -- settings-from-requires
     (λ c κs. rw (c .settings-from .ensures) (c .before .before .before .before .before .before .before .pre .are .range))  -- layout-of-requires
     (λ c κs. let l = c .before .before .before in let s = l .before in (l .layout-of .ensures, rw (s .settings-from .ensures) (s .before .before .before .before .before .before .before .pre)))  -- send-step-requires
-    (λ c κs. search needs)  -- write-reply-requires
+    (λ c κs. ?)  -- put-sent-requires
     (λ c. search needs)  -- same-length
     (λ c. search needs)  -- same-length-2
     (λ c. search needs)  -- same-length-3
@@ -24,4 +24,4 @@ labintugmo-step-send-spec =
     let done = reply .before .before .before .before .before .before .before .before in
     let s = done .before .before .before .before .before in
     let a = s .before .before .before .before .before .before .before in
-    step-made _ sending _ _ _ tt (a .pre) (s .before .if1 .left) (rw (s .settings-from .ensures) at (done .send-step .ensures)) (reply .write-reply .ensures .0)))
+    step-made _ sending _ _ _ tt (a .pre) (s .before .if1 .left) (rw (s .settings-from .ensures) at (done .send-step .ensures)) (reply .put-sent .ensures)))

@@ -12,7 +12,7 @@ labintugmo-step-tick-spec =
     (λ c. step-unmade _ _ _ _ (c .before .before .before .before .before .before .pre) (c .if1 .taken))  -- returns
     (λ c κs. search needs)  -- settings-from-requires
     (λ c κs. let s = c .before .before .before in rw (s .settings-from .ensures) (s .before .before .before .before .before .before .before .pre))  -- tick-step-requires
-    (λ c κs. search needs)  -- write-reply-requires
+    (λ c κs. ?)  -- put-ticked-requires
     (λ c. search needs)  -- same-length
     (λ c. search needs)  -- same-length-2
     (λ c. search needs)  -- same-length-3
@@ -23,4 +23,4 @@ labintugmo-step-tick-spec =
     let done = reply .before .before .before .before in
     let s = done .before .before .before .before in
     let a = s .before .before .before .before .before .before .before in
-    step-made _ (ticking (a .args .cycle)) _ _ _ tt (a .pre) (s .before .if1 .left) (rw (s .settings-from .ensures) at (done .tick-step .ensures)) (reply .write-reply .ensures .0)))
+    step-made _ (ticking (a .args .cycle)) _ _ _ tt (a .pre) (s .before .if1 .left) (rw (s .settings-from .ensures) at (done .tick-step .ensures)) (reply .put-ticked .ensures)))

@@ -15,7 +15,7 @@ labintugmo-step-write-spec =
     (λ c κs. search needs)  -- settings-from-requires
     (λ c κs. rw (c .settings-from .ensures) (c .before .before .before .before .before .before .before .pre .are .range))  -- layout-of-requires
     (λ c κs. let l = c .before .before .before in let s = l .before in (l .layout-of .ensures, rw (s .settings-from .ensures) (s .before .before .before .before .before .before .before .pre)))  -- access-step-requires
-    (λ c κs. search needs)  -- write-reply-requires
+    (λ c κs. ?)  -- put-access-requires
     (λ c. search needs)  -- same-length
     (λ c. search needs)  -- same-length-2
     (λ c. search needs)  -- same-length-3
@@ -26,4 +26,4 @@ labintugmo-step-write-spec =
     let done = reply .before .before .before .before .before .before .before .before in
     let s = done .before .before .before .before .before in
     let a = s .before .before .before .before .before .before .before in
-    step-made _ (offer (Write (a .args .address) (a .args .mask) 0)) _ _ _ (omega (arith, a .fits .mask)) (a .pre) (s .before .if1 .left) (rw (s .settings-from .ensures) at (done .access-step .ensures)) (reply .write-reply .ensures .0)))
+    step-made _ (offer (Write (a .args .address) (a .args .mask) 0)) _ _ _ (omega (arith, a .fits .mask)) (a .pre) (s .before .if1 .left) (rw (s .settings-from .ensures) at (done .access-step .ensures)) (reply .put-access .ensures)))
