@@ -34,7 +34,7 @@ use Rattle.model.proofs.SoundFacts.{Sound, LineIs, parts, queued-parts, mask-sm
 use Rattle.encoding.proofs.DecodeIsSound.{Small}
 use Rattle.encoding.proofs.Bridge.{sound-encoded, after-encoded, events-encoded}
 use Rattle.records.specs.Fitting.{AllFitting, words, stamped}
-use Rattle.records.proofs.Room.{Takes, refused-takes}
+use Rattle.records.proofs.Room.{TakesRoom, refused-takes}
 use Rattle.records.proofs.Fits.{all-at, one-word}
 use Rattle.words.proofs.Counting.{count-length}
 use Rattle.words.proofs.Tabled.{all-table}
@@ -73,7 +73,7 @@ call-fits S step L small f =
 
 -- 64 bytes suffice
 pub call-room : (S : Settings) (step : Tables → Outcome Tables) (L : Lent) → Small L
-    → ((t : Tables) → inRange S ≡ true → sound S t ≡ true → Takes fillBytes (step t)) → length (logBytes (eventsOf (call S step L))) ≤ fillBytes
+    → ((t : Tables) → inRange S ≡ true → sound S t ≡ true → TakesRoom fillBytes (step t)) → length (logBytes (eventsOf (call S step L))) ≤ fillBytes
 call-room S step L small f =
     call-events (λ es. length (logBytes es) ≤ fillBytes) S step L small
     (λ n. le-trans (refused-takes n .most) (lit≤ tt))

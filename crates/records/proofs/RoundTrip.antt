@@ -33,14 +33,14 @@ use Rattle.records.proofs.Decoding as decoding
 -- ---- how long bodies are
 
 -- a body is as long as the table says, and no body is as long as the table's mark
-abbrev Sized : ℕ → List ℕ → Type 0
-Sized k bs = (length bs ≡ lengthOf k) × (length bs ≤ 24)
+abbrev SizedBody : ℕ → List ℕ → Type 0
+SizedBody k bs = (length bs ≡ lengthOf k) × (length bs ≤ 24)
 
-event-sized : (e : Event) → Sized (recordKindOf e) (bodyBytes e)
+event-sized : (e : Event) → SizedBody (recordKindOf e) (bodyBytes e)
 unfolding records.eventBytes
 event-sized e = let n = event-length e in let s = event-short e in (omega arith, omega arith)
 
-command-sized : (c : Command) → Sized (commandKind c) (commandBody c)
+command-sized : (c : Command) → SizedBody (commandKind c) (commandBody c)
 unfolding records.commandBytes
 command-sized c = let n = command-length c in let s = command-short c in (omega arith, omega arith)
 
@@ -113,19 +113,19 @@ other-kind ev.Ticked b = refl
 -- ---- a record anywhere in a stream: p before it, q after it
 
 module _ (p q : List ℕ) (k : ℕ) (bs : List ℕ) (sized : length bs ≡ lengthOf k) (short : length bs ≤ 24) where
-  abbrev stream : List ℕ
-  stream = p ++ (k ∷ (bs ++ q))
+  abbrev logStream : List ℕ
+  logStream = p ++ (k ∷ (bs ++ q))
 
-  pub record-read : readAt stream (length p) ≡ Whole k (length p + 1) (length bs) (length (p ++ (k ∷ bs)))
+  pub record-read : readAt logStream (length p) ≡ Whole k (length p + 1) (length bs) (length (p ++ (k ∷ bs)))
   record-read =
-      let here : length p < length stream = simp length-append (omega arith) in
-      let g : getD stream (length p) 0 ≡ k = getD-append-seam p k (bs ++ q) 0 in
-      let f : length stream ≡ length p + suc (length bs + length q) = simp length-append in
+      let here : length p < length logStream = simp length-append (omega arith) in
+      let g : getD logStream (length p) 0 ≡ k = getD-append-seam p k (bs ++ q) 0 in
+      let f : length logStream ≡ length p + suc (length bs + length q) = simp length-append in
       let n : length p + 1 + length bs ≡ length (p ++ (k ∷ bs)) = simp length-append (omega arith) in
-      sym (read-whole stream (length p) (length bs) here (sized ∙ ap lengthOf (sym g)) (λ z. omega arith) (omega arith))
+      sym (read-whole logStream (length p) (length bs) here (sized ∙ ap lengthOf (sym g)) (λ z. omega arith) (omega arith))
       ∙ rw (g, n)
 
-  pub record-part : take (length bs) (drop (length p + 1) stream) ≡ bs
+  pub record-part : take (length bs) (drop (length p + 1) logStream) ≡ bs
   record-part = ap (take (length bs)) (drop-append-add p (k ∷ (bs ++ q)) 1) ∙ take-append-seam bs q
 
 module _ (p q : List ℕ) where

@@ -8,7 +8,7 @@ use lib.ListN.{length, drop, getD, replicate}
 use lib.Seq.{sets}
 use lib.Dec.{eqb, leb, ltb}
 use Rattle.words.specs.Words.{pick, within}
-use Rattle.text.specs.Words.{codes, run}
+use Rattle.text.specs.Words.{codes, passingCount}
 use Rattle.text.specs.declared.Parsed.{Parsed}
 use Rattle.text.specs.declared.Parsed.the-variants.{Number, Nothing, TooLarge}
 use Rattle.text.specs.declared.Grown.{Grown}
@@ -83,7 +83,7 @@ numberOf at n v = pick (eqb n 0) Nothing (pick (ltb v (2 ^ 64)) (Number v (at + 
 
 -- the number at an index of s, as far as its digits go
 unfoldable pub numberIn : ℕ → List ℕ → ℕ → Parsed
-numberIn b s at = numberOf at (run (isDigit b) (drop at s)) (valueOf b 0 (drop at s))
+numberIn b s at = numberOf at (passingCount (isDigit b) (drop at s)) (valueOf b 0 (drop at s))
 
 abbrev pub hexAt : List ℕ → ℕ → Bool
 hexAt s at = eqb (getD s at 0) (code "0") && eqb (getD s (at + 1) 0) (code "x")
