@@ -6,8 +6,9 @@ use mathlib.Core.Bool.{Bool, _&&_}
 use mathlib.Core.List.{List, [], _∷_, _++_}
 use lib.ListN.{length, drop, getD, replicate}
 use lib.Seq.{sets}
-use lib.Dec.{eqb, leb, ltb}
+use lib.Dec.{eqb, ltb}
 use Rattle.words.specs.Words.{pick, within}
+use Rattle.words.specs.Regions.{room}
 use Rattle.text.specs.Words.{codes, passingCount}
 use Rattle.text.specs.declared.Parsed.{Parsed}
 use Rattle.text.specs.declared.Parsed.the-variants.{Number, Nothing, TooLarge}
@@ -50,9 +51,6 @@ abbrev pub padded : ℕ → ℕ → List ℕ → List ℕ
 padded w c s = replicate (w - length s) c ++ s
 
 -- ---- text put into a slice
-
-abbrev pub room : List ℕ → ℕ → ℕ → Bool
-room l at n = leb (at + n) (length l)
 
 -- s stands in l from index at, and r is the index behind it; where l has no room for all of it, l is as before and r is at
 pub record Put (l : List ℕ) (at : ℕ) (s : List ℕ) (r : ℕ) (l₁ : List ℕ) : Type 0 where

@@ -9,7 +9,8 @@ use native.Mathlib.Nat.{add-zero}
 use borrow.Author.Tests.{le-leb}
 use lib.ListN.{length, take, drop, getD, length-drop, drop-of-length-le}
 use lib.Seq.{drop-cons, take-suc, getD-drop}
-use Rattle.text.specs.Digits.{room, Put}
+use Rattle.words.specs.Regions.{room}
+use Rattle.text.specs.Digits.{Put}
 use Rattle.text.specs.Words.{partOf}
 use Rattle.wording.specs.Pieces.{Page, page, withPiece, withPieces}
 use Rattle.wording.specs.Rows.{isMark, pieceAt, wordsBefore, piecesFrom, lineShown}
