@@ -48,7 +48,7 @@ Fits o = AllFitting (eventsOf o)
 -- ---- addresses and masks
 
 -- an element of a list, and what stands for one past its end
-pub all-at : (p : ℕ → Bool) → p 0 ≡ true → (s : List ℕ) (i : ℕ) → all p s ≡ true → p (getD s i 0) ≡ true
+all-at : (p : ℕ → Bool) → p 0 ≡ true → (s : List ℕ) (i : ℕ) → all p s ≡ true → p (getD s i 0) ≡ true
 all-at p z [] i h = z
 all-at p z (b ∷ s) zero h = and-1 (p b) (all p s) h
 all-at p z (b ∷ s) (suc i) h = all-at p z s i (and-2 (p b) (all p s) h)
@@ -182,7 +182,7 @@ map-stamps : (f : Entry → Entry) → ((e : Entry) → words (e .tickets) ≡ t
 map-stamps f g [] h = refl
 map-stamps f g (e ∷ es) h = and-i (g e (and-1 (words (e .tickets)) (stamps es) h)) (map-stamps f g es (and-2 (words (e .tickets)) (stamps es) h))
 
-pub one-word : (k : ℕ) → k ≤ allOnes → words (k ∷ []) ≡ true
+one-word : (k : ℕ) → k ≤ allOnes → words (k ∷ []) ≡ true
 one-word k h = and-i (le-leb k allOnes h) refl
 
 join-words : (a k : ℕ) → k ≤ allOnes → (e : Entry) → words (e .tickets) ≡ true → words (join a k e .tickets) ≡ true

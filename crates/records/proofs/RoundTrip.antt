@@ -1,4 +1,4 @@
--- What is written reads back: an event and a command whose numbers fit, anywhere in a stream and where they were stored; a whole log.
+-- What is written reads back: an event and a command whose numbers fit, anywhere in a stream; a whole log.
 use mathlib.Core.Path.{_≡_, refl, sym, ap, _∙_}
 use mathlib.Core.List.{List, [], _∷_, _++_, append-assoc, append-nil}
 use Prim.Native.Nat.{ℕ, zero, suc, _+_, _≤_, _<_}
@@ -7,7 +7,7 @@ use borrow.Author.Tests.{le-ltb, lt-ltb}
 use mathlib.Core.Bool.{true}
 use lib.Dec.{eqb}
 use lib.ListN.{length, getD, take, drop, length-append}
-use lib.Seq.{getD-append-seam, drop-append-add, take-append-seam, sets, sets-eq, length-take-le}
+use lib.Seq.{getD-append-seam, drop-append-add, take-append-seam, sets}
 use Rattle.words.specs.Words.{pick}
 use Rattle.model.specs.Kinds as kinds
 use Rattle.model.specs.RecordsOf as records
@@ -159,23 +159,6 @@ module _ (p q : List ℕ) where
     pub command-back : CommandFits c → commandAt (p ++ (commandBytes c ++ q)) (length p) ≡ command.Got c
     unfolding records.commandAt
     command-back h = rw (command-next, command-part) (command-body-back c h)
-
--- ---- where it was stored
-
--- what is read of bytes anywhere in a stream is read of them there
-module _ {R : Type 0} (read : List ℕ → ℕ → R) (l : List ℕ) (at : ℕ) (bs : List ℕ) (fits : at + length bs ≤ length l) where
-  pub stored-back : {r : R} → ((p q : List ℕ) → read (p ++ (bs ++ q)) (length p) ≡ r) → read (sets l at bs) at ≡ r
-  stored-back back =
-      let split : sets l at bs ≡ take at l ++ (bs ++ drop (at + length bs) l) = sets-eq bs l at fits ∙ append-assoc (take at l) bs (drop (at + length bs) l) in
-      let here = length-take-le at l (omega arith) in
-      rw split (ap (read (take at l ++ (bs ++ drop (at + length bs) l))) (sym here) ∙ back (take at l) (drop (at + length bs) l))
-
-pub event-stored : (l : List ℕ) (at : ℕ) (e : Event) → Fitting e → at + length (eventBytes e) ≤ length l → eventAt (sets l at (eventBytes e)) at ≡ event.Got e
-event-stored l at e h g = stored-back eventAt l at (eventBytes e) g (λ p q. event-back p q e h)
-
-pub command-stored : (l : List ℕ) (at : ℕ) (c : Command) → CommandFits c → at + length (commandBytes c) ≤ length l
-    → commandAt (sets l at (commandBytes c)) at ≡ command.Got c
-command-stored l at c h g = stored-back commandAt l at (commandBytes c) g (λ p q. command-back p q c h)
 
 -- ---- a log
 

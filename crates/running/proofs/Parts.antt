@@ -11,12 +11,12 @@ use lib.Dec.{leb, ltb, eqb}
 use lib.ListN.{length, drop, length-append}
 use lib.Seq.{take-append-le}
 use Rattle.words.specs.Words.{pick}
-use Rattle.model.specs.Tables.{Tables, start, after, eventsOf}
+use Rattle.model.specs.Tables.{Tables, after, eventsOf}
 use Rattle.model.specs.Lent.{Lent}
 use Rattle.model.specs.Numbers.{stopNumber}
 use Rattle.model.specs.Records.{isCommand, isSettings, lengthOf, settingsIn, readAt, logBytes}
 use Rattle.model.specs.RunnerOf as runner
-use Rattle.model.specs.Runner.{eventRoom, settingsOf, settingsStop, firstStop, laterStop, goesOn, stepAt, Result, halt, bytesThen, runFrom, lentResult, run}
+use Rattle.model.specs.Runner.{eventRoom, settingsOf, settingsStop, firstStop, laterStop, goesOn, stepAt, Result, halt, bytesThen, runFrom}
 use Rattle.model.specs.declared.Settings.{Settings}
 use Rattle.model.specs.declared.Record.{Record}
 use Rattle.model.specs.declared.Stop.{Stop}
@@ -27,7 +27,7 @@ use Rattle.running.specs.declared.Begun.the-variants.{Accepted, Stopped}
 use Rattle.running.specs.Resume.{recordKindAt, headStop}
 use Rattle.running.specs.Begin.{beginning, firstThere}
 use Rattle.running.proofs.Checks.{head-there}
-use Rattle.running.proofs.First.{first-settled, run-accepts}
+use Rattle.running.proofs.First.{first-settled}
 use Rattle.running.proofs.Running.{going, from-stops, from-goes}
 
 -- ---- at a record: more bytes behind a whole one change nothing, and the room decides only stop 16
@@ -210,21 +210,6 @@ first-more L k a b h =
     let l : lengthOf k ≤ length (a ++ b) = rw length-append (omega arith) in
     rw (le-ltb (length (a ++ b)) (lengthOf k) l, le-ltb (length a) (lengthOf k) h)
     (ap (λ (S : Settings). pick (isCommand k) (pick (isSettings k) (settingsStop S L) OutOfPlace) UnknownKind) (settings-more k a b h))
-
--- the part before begins with its settings and stops with 0
-pub run-two-parts : (room k : ℕ) (a b : List ℕ) (L : Lent) → goesOn (run room (k ∷ a) L .stop) ≡ true
-    → run room (k ∷ (a ++ b)) L
-    ≡ bytesThen (1 + lengthOf k) []
-    (lentResult (settingsOf k a) (then (settingsOf k a) room b (runFrom (settingsOf k a) (lengthOf k) room a (start (settingsOf k a)))))
-unfolding runner.run
-run-two-parts room k a b L e =
-    let z = goes-first (firstStop L k a) _ L e in
-    let w = first-settled L k a z .whole in
-    let S = settingsOf k a in
-    let y : goesOn (runFrom S (lengthOf k) room a (start S) .stop) ≡ true = rw (ap (λ (r : Result Lent). r .stop) (run-accepts room L k a z)) at e in
-    run-accepts room L k (a ++ b) (rw (first-more L k a b w) z)
-    ∙ ap (λ (S : Settings). bytesThen (1 + lengthOf k) [] (lentResult S (runFrom S (lengthOf k) room (a ++ b) (start S)))) (settings-more k a b w)
-    ∙ ap (λ (o : Result Tables). bytesThen (1 + lengthOf k) [] (lentResult S o)) (run-in-parts S (lengthOf k) room a b (start S) w y)
 
 -- ---- the first record of a front part, once it is there
 
