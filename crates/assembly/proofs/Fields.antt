@@ -12,7 +12,7 @@ use Rattle.model.specs.declared.Command.{Command}
 use Rattle.words.proofs.Flags.{and-1}
 use Rattle.text.specs.Words.{codes, skipSpaces, wordEnd, wordAt}
 use Rattle.text.specs.Digits.{parseNumber}
-use Rattle.text.specs.Rules.{ruleNames, ruleOf}
+use Rattle.text.specs.Rules.{ruleNames, ruleNamed}
 use Rattle.text.specs.declared.rules.Named.{Named}
 use Rattle.text.specs.declared.rules.Named.the-variants.{Rule, Nothing}
 use Rattle.text.proofs.RuleNames.{rule-below}
@@ -22,7 +22,7 @@ use Rattle.assembly.specs.declared.Expected.the-variants as expected
 use Rattle.assembly.specs.declared.Field.{Field}
 use Rattle.assembly.specs.declared.Field.the-variants.{Got, Missing}
 use Rattle.assembly.specs.declared.Line.the-variants as line
-use Rattle.assembly.specs.Language.{wholeNumber, numberNext, wordIs, behindWord, fieldNext, ruleBy, ruleValue, ruleNext, endsAt, whole}
+use Rattle.assembly.specs.Language.{wholeNumber, numberNext, wordIs, behindWord, fieldNext, ruleBy, ruleValue, ruleNext, endsAt, wholeLine}
 
 module _ (most : ℕ) (s : List ℕ) (at : ℕ) where
   pub number-read : {a : ℕ} {x y : Parsed} {r : Field} → a ≡ skipSpaces s at → x ≡ parseNumber s a → x ≡ y → r ≡ wholeNumber most s y → r ≡ numberNext most s at
@@ -75,19 +75,19 @@ field-most w most s at e = behind-most w (numberNext most) s at most (λ i v nex
 -- ---- a rule
 
 module _ (s : List ℕ) (at : ℕ) where
-  pub value-named : {a e n : ℕ} {x : Named} → a ≡ skipSpaces s at → x ≡ ruleOf (wordAt s a) → x ≡ Rule n → e ≡ wordEnd s a → Got n e ≡ ruleValue s at
+  pub value-named : {a e n : ℕ} {x : Named} → a ≡ skipSpaces s at → x ≡ ruleNamed (wordAt s a) → x ≡ Rule n → e ≡ wordEnd s a → Got n e ≡ ruleValue s at
   unfolding ruleValue
   value-named p q h e = let z = sym q ∙ h in rw (← p, z, e)
 
-  pub value-number : {a : ℕ} {x : Named} {r : Field} → a ≡ skipSpaces s at → x ≡ ruleOf (wordAt s a) → x ≡ Nothing → r ≡ numberNext 0xff s at → r ≡ ruleValue s at
+  pub value-number : {a : ℕ} {x : Named} {r : Field} → a ≡ skipSpaces s at → x ≡ ruleNamed (wordAt s a) → x ≡ Nothing → r ≡ numberNext 0xff s at → r ≡ ruleValue s at
   unfolding ruleValue
   value-number p q h e = let z = sym q ∙ h in rw (← p, z) e
 
   value-most : (v next : ℕ) → ruleValue s at ≡ Got v next → v ≤ 0xff
   unfolding ruleValue
-  value-most v next = go (ruleOf (wordAt s (skipSpaces s at))) refl
+  value-most v next = go (ruleNamed (wordAt s (skipSpaces s at))) refl
     where
-      go : (x : Named) → ruleOf (wordAt s (skipSpaces s at)) ≡ x → ruleBy s at (skipSpaces s at) x ≡ Got v next → v ≤ 0xff
+      go : (x : Named) → ruleNamed (wordAt s (skipSpaces s at)) ≡ x → ruleBy s at (skipSpaces s at) x ≡ Got v next → v ≤ 0xff
       go (Rule n) e q = let z : n ≡ v = cc in omega (arith, rule-below 0 ruleNames (wordAt s (skipSpaces s at)) e)
       go Nothing e q = number-most 0xff s at q
 
@@ -100,10 +100,10 @@ pub ends-at : (s : List ℕ) (at : ℕ) {a e : ℕ} → a ≡ skipSpaces s at �
 ends-at s at p q = rw (q, p)
 
 module _ (s : List ℕ) (at : ℕ) (c : Command) {t : Bool} (e : t ≡ endsAt s at) where
-  pub whole-ended : t ≡ true → line.Command c ≡ whole s at c
-  unfolding whole
+  pub whole-ended : t ≡ true → line.Command c ≡ wholeLine s at c
+  unfolding wholeLine
   whole-ended h = rw (sym e ∙ h)
 
-  pub whole-more : t ≡ false → line.Bad expected.End ≡ whole s at c
-  unfolding whole
+  pub whole-more : t ≡ false → line.Bad expected.End ≡ wholeLine s at c
+  unfolding wholeLine
   whole-more h = rw (sym e ∙ h)

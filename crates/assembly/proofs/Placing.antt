@@ -10,7 +10,8 @@ use Rattle.words.specs.Words.{pick}
 use Rattle.model.specs.RecordsOf as records
 use Rattle.model.specs.Records.{commandBytes}
 use Rattle.model.specs.declared.Command.{Command}
-use Rattle.records.specs.Stores.{room, storedCount, Stored}
+use Rattle.words.specs.Regions.{room}
+use Rattle.records.specs.Stores.{storedCount, Stored}
 use Rattle.assembly.specs.declared.Expected.{Expected}
 use Rattle.assembly.specs.declared.Line.{Line}
 use Rattle.assembly.specs.declared.Line.the-variants as line

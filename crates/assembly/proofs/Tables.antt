@@ -10,7 +10,7 @@ use lib.Dec.{leb}
 use lib.ListN.{length, take, drop, set, getD, replicate, drop-of-length-le, List·getD-map}
 use lib.Seq.{drop-cons, getD-take, getD-drop}
 use Rattle.words.proofs.Lists.{getD-inside}
-use Rattle.text.specs.Words.{run, skipSpaces, wordEnd, wordAt}
+use Rattle.text.specs.Words.{passingCount, skipSpaces, wordEnd, wordAt}
 use Rattle.assembly.specs.declared.Expected.the-variants as expected
 use Rattle.assembly.specs.declared.Field.{Field}
 use Rattle.assembly.specs.declared.Field.the-variants.{Got, Missing}
@@ -18,8 +18,8 @@ use Rattle.assembly.specs.declared.Line.{Line}
 use Rattle.assembly.specs.declared.Line.the-variants as line
 use Rattle.assembly.specs.declared.Row.{Row}
 use Rattle.assembly.specs.declared.Form as code
-use Rattle.assembly.specs.Language.{Part, Form, forms, fieldNext, endsAt, partsFrom, formFrom, wordIs, byWord, parseLine}
-use Rattle.assembly.specs.Tables.{noPart, noForm, formOf, Within, rows, noRow, placesOf, noPlace, placeOf}
+use Rattle.assembly.specs.Language.{FormPart, Form, forms, fieldNext, endsAt, partsFrom, formFrom, wordIs, byWord, parseLine}
+use Rattle.assembly.specs.Tables.{noPart, noForm, formOf, Within, lineRows, noRow, placesOf, noPlace, placeOf}
 use Rattle.assembly.proofs.Fields.{field-most}
 
 -- ---- the code's tables, made of the forms
@@ -30,36 +30,36 @@ unfolding formOf
 by-forms f g e z k = sym (List·getD-map f (placesOf 0 forms) k noPlace) ∙ rw (z, e) (List·getD-map g forms k noForm)
 
 -- a row spells its word with spaces behind it
-abbrev pub meant : Row → Part
+abbrev pub meant : Row → FormPart
 meant r = record { word = wordAt (r .0) 0; most = r .1; lacks = r .2 }
 
-abbrev partsIn : code.Form → List Part
-partsIn f = map meant (take (f .2) (drop (f .1) rows))
+abbrev partsIn : code.Form → List FormPart
+partsIn f = map meant (take (f .2) (drop (f .1) lineRows))
 
 module _ (k : ℕ) {f : code.Form} (p : f ≡ placeOf k) where
   pub word-at : {w : List ℕ} → w ≡ wordAt (f .0) 0 → w ≡ formOf k .word
-  unfolding forms run
+  unfolding forms passingCount
   word-at q = q ∙ rw p (by-forms (λ f. wordAt (f .0) 0) (λ f. f .word) refl refl k)
 
-  pub count-at : f .2 ≡ length (formOf k .parts)
+  pub parts-counted : f .2 ≡ length (formOf k .parts)
   unfolding forms
-  count-at = rw p (by-forms (λ f. f .2) (λ f. length (f .parts)) refl refl k)
+  parts-counted = rw p (by-forms (λ f. f .2) (λ f. length (f .parts)) refl refl k)
 
   parts-at : partsIn f ≡ formOf k .parts
-  unfolding forms run
+  unfolding forms passingCount
   parts-at = rw p (by-forms partsIn (λ f. f .parts) refl refl k)
 
   module _ (i : ℕ) (h : i < f .2) where
     pub part-there : i < length (formOf k .parts)
-    part-there = rw count-at at h
+    part-there = rw parts-counted at h
 
-    pub place-below : f .1 + i < length rows
+    pub place-below : f .1 + i < length lineRows
     unfolding forms
-    place-below = omega (arith, leb-true (f .1 + f .2) (length rows) (rw p (by-forms (λ f. leb (f .1 + f .2) (length rows)) (λ f. true) refl refl k)))
+    place-below = omega (arith, leb-true (f .1 + f .2) (length lineRows) (rw p (by-forms (λ f. leb (f .1 + f .2) (length lineRows)) (λ f. true) refl refl k)))
 
-    pub row-at : {r : Row} → r ≡ getD rows (f .1 + i) noRow → meant r ≡ getD (formOf k .parts) i noPart
+    pub row-at : {r : Row} → r ≡ getD lineRows (f .1 + i) noRow → meant r ≡ getD (formOf k .parts) i noPart
     row-at q = rw q (sym (getD-inside (formOf k .parts) i noPart (meant noRow) part-there ∙ rw (← parts-at)
-        (List·getD-map meant (take (f .2) (drop (f .1) rows)) i noRow ∙ ap meant (getD-take (f .2) (drop (f .1) rows) i noRow h ∙ getD-drop (f .1) rows i noRow))))
+        (List·getD-map meant (take (f .2) (drop (f .1) lineRows)) i noRow ∙ ap meant (getD-take (f .2) (drop (f .1) lineRows) i noRow h ∙ getD-drop (f .1) lineRows i noRow))))
 
     -- the code has room for its number
     pub number-place : i < 6
@@ -73,11 +73,11 @@ read-as s next m e p q = rw (← e) (sym p ∙ q)
 
 module _ (k : ℕ) (s : List ℕ) (i : ℕ) (ns : List ℕ) (next : ℕ) where
   -- what is left to read of the line x
-  abbrev pub Left : Line → Type 0
-  Left x = x ≡ partsFrom (formOf k) (drop i (formOf k .parts)) i ns s next
+  abbrev pub LineLeft : Line → Type 0
+  LineLeft x = x ≡ partsFrom (formOf k) (drop i (formOf k .parts)) i ns s next
 
-  module _ {x : Line} (l : Left x) where
-    module _ (h : i < length (formOf k .parts)) {p : Part} (e : p ≡ getD (formOf k .parts) i noPart) where
+  module _ {x : Line} (l : LineLeft x) where
+    module _ (h : i < length (formOf k .parts)) {p : FormPart} (e : p ≡ getD (formOf k .parts) i noPart) where
       pub part-missing : fieldNext (p .word) (p .most) s next ≡ Missing → line.Bad (p .lacks) ≡ x
       unfolding partsFrom
       part-missing m = sym (l ∙ rw (drop-cons (formOf k .parts) i noPart h, ← e, m))
@@ -107,7 +107,7 @@ within-set m (n ∷ ns) (suc i) v h w (suc j) = within-set (λ (a : ℕ). m (suc
 pub within-none : (k : ℕ) → Within k (replicate 6 0)
 within-none k = within-zeros 6 (λ (j : ℕ). getD (formOf k .parts) j noPart .most)
 
-pub within-read : (k : ℕ) (s : List ℕ) (i : ℕ) (ns : List ℕ) (next : ℕ) {p : Part} → p ≡ getD (formOf k .parts) i noPart → {v a : ℕ} → fieldNext (p .word) (p .most) s next ≡ Got v a → Within k ns → Within k (set ns i v)
+pub within-read : (k : ℕ) (s : List ℕ) (i : ℕ) (ns : List ℕ) (next : ℕ) {p : FormPart} → p ≡ getD (formOf k .parts) i noPart → {v a : ℕ} → fieldNext (p .word) (p .most) s next ≡ Got v a → Within k ns → Within k (set ns i v)
 within-read k s i ns next {p} e m w = within-set (λ (j : ℕ). getD (formOf k .parts) j noPart .most) ns i _ (rw (← e) (field-most (p .word) (p .most) s next m)) w
 
 pub within-as : (ns : List ℕ) {k i : ℕ} → k ≡ i → Within k ns → Within i ns

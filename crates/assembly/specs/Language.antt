@@ -14,7 +14,7 @@ use Rattle.model.specs.declared.Command.{Command}
 use Rattle.model.specs.declared.Command.the-variants as cmd
 use Rattle.text.specs.Words.{codes, skipSpaces, wordEnd, wordAt, sameText}
 use Rattle.text.specs.Digits.{parseNumber}
-use Rattle.text.specs.Rules.{ruleOf}
+use Rattle.text.specs.Rules.{ruleNamed}
 use Rattle.text.specs.declared.rules.Named.{Named}
 use Rattle.text.specs.declared.rules.Named.the-variants.{Rule, Nothing}
 use Rattle.text.specs.declared.Parsed.{Parsed}
@@ -56,22 +56,22 @@ ruleBy s at start (Rule n) = Got n (wordEnd s start)
 ruleBy s at start Nothing = numberNext 0xff s at
 
 unfoldable pub ruleValue : List ℕ → ℕ → Field
-ruleValue s at = ruleBy s at (skipSpaces s at) (ruleOf (wordAt s (skipSpaces s at)))
+ruleValue s at = ruleBy s at (skipSpaces s at) (ruleNamed (wordAt s (skipSpaces s at)))
 
 abbrev pub ruleNext : List ℕ → ℕ → Field
 ruleNext = behindWord (codes "rule") ruleValue
 
 -- the field, and what follows it; without it the line is bad
-abbrev pub andThen : Expected → Field → (ℕ → ℕ → Line) → Line
-andThen x (Got v next) f = f v next
-andThen x Missing f = line.Bad x
+abbrev pub thenField : Expected → Field → (ℕ → ℕ → Line) → Line
+thenField x (Got v next) f = f v next
+thenField x Missing f = line.Bad x
 
 -- no word is left
 abbrev pub endsAt : List ℕ → ℕ → Bool
 endsAt s at = eqb (wordEnd s (skipSpaces s at)) (skipSpaces s at)
 
-unfoldable pub whole : List ℕ → ℕ → Command → Line
-whole s at c = pick (endsAt s at) (line.Command c) (line.Bad expected.End)
+unfoldable pub wholeLine : List ℕ → ℕ → Command → Line
+wholeLine s at c = pick (endsAt s at) (line.Command c) (line.Bad expected.End)
 
 -- ---- settings
 
@@ -79,53 +79,53 @@ abbrev pub settingsBy : (ℕ → ℕ) → GivenRule → Command
 settingsBy n rule = cmd.Settings (given (n 0) (n 1) (n 2) (n 3) (n 4) (n 5) rule)
 
 -- the settings without a rule, and the rule behind them if there is one
-unfoldable pub ruleFrom : (ℕ → ℕ) → List ℕ → ℕ → Line
-ruleFrom n s at =
+unfoldable pub ruleBehind : (ℕ → ℕ) → List ℕ → ℕ → Line
+ruleBehind n s at =
     pick (endsAt s at) (line.Command (settingsBy n LeftOut))
-    (andThen expected.Rule (ruleNext s at) (λ rule a. whole s a (settingsBy n (Byte rule))))
+    (thenField expected.Rule (ruleNext s at) (λ rule a. wholeLine s a (settingsBy n (Byte rule))))
 
 -- ---- the table of lines
 
 -- a part of a line: a word, which may be empty, and the number behind it; its largest number; what a line without it lacks
-pub record Part : Type 0 where
+pub record FormPart : Type 0 where
   pub word : List ℕ
   pub most : ℕ
   pub lacks : Expected
 
-abbrev pub part : String → ℕ → Expected → Part
-part w n x = record { word = codes w; most = n; lacks = x }
+abbrev pub formPart : String → ℕ → Expected → FormPart
+formPart w n x = record { word = codes w; most = n; lacks = x }
 
 -- a command: its word, its parts, and what their numbers come to, by the rest of the line
 pub record Form : Type 0 where
   pub word : List ℕ
-  pub parts : List Part
+  pub parts : List FormPart
   pub comes : (ℕ → ℕ) → List ℕ → ℕ → Line
 
-abbrev pub form : String → List Part → ((ℕ → ℕ) → List ℕ → ℕ → Line) → Form
+abbrev pub form : String → List FormPart → ((ℕ → ℕ) → List ℕ → ℕ → Line) → Form
 form w ps f = record { word = codes w; parts = ps; comes = f }
 
 unfoldable pub forms : List Form
 forms =
     form "settings" (
-    part "sets" 0xffff expected.Sets ∷
-    part "ways" 0xff expected.Ways ∷
-    part "dirty" 0xff expected.Dirty ∷
-    part "misses" 0xff expected.Misses ∷
-    part "readers" 0xff expected.Readers ∷
-    part "queue" 0xff expected.Queue ∷ [])
-    ruleFrom ∷
-    form "read" (part "" 0xffffffffffffffff expected.Address ∷ part "ticket" 0xffffffff expected.Ticket ∷ []) (λ n s at. whole s at (cmd.Read (n 0) (n 1))) ∷
-    form "write" (part "" 0xffffffffffffffff expected.Address ∷ part "mask" 0xffffffff expected.Mask ∷ []) (λ n s at. whole s at (cmd.Write (n 0) (n 1))) ∷
-    form "send" [] (λ n s at. whole s at cmd.Send) ∷
-    form "fill" (part "" 0xffffffffffffffff expected.Address ∷ []) (λ n s at. whole s at (cmd.Fill (n 0))) ∷
-    form "tick" (part "" 0xffffffff expected.Cycle ∷ []) (λ n s at. whole s at (cmd.Tick (n 0))) ∷ []
+    formPart "sets" 0xffff expected.Sets ∷
+    formPart "ways" 0xff expected.Ways ∷
+    formPart "dirty" 0xff expected.Dirty ∷
+    formPart "misses" 0xff expected.Misses ∷
+    formPart "readers" 0xff expected.Readers ∷
+    formPart "queue" 0xff expected.Queue ∷ [])
+    ruleBehind ∷
+    form "read" (formPart "" 0xffffffffffffffff expected.Address ∷ formPart "ticket" 0xffffffff expected.Ticket ∷ []) (λ n s at. wholeLine s at (cmd.Read (n 0) (n 1))) ∷
+    form "write" (formPart "" 0xffffffffffffffff expected.Address ∷ formPart "mask" 0xffffffff expected.Mask ∷ []) (λ n s at. wholeLine s at (cmd.Write (n 0) (n 1))) ∷
+    form "send" [] (λ n s at. wholeLine s at cmd.Send) ∷
+    form "fill" (formPart "" 0xffffffffffffffff expected.Address ∷ []) (λ n s at. wholeLine s at (cmd.Fill (n 0))) ∷
+    form "tick" (formPart "" 0xffffffff expected.Cycle ∷ []) (λ n s at. wholeLine s at (cmd.Tick (n 0))) ∷ []
 
 -- ---- a line
 
 -- the parts in order, the first of which has number i, behind those whose numbers are in ns; then what the numbers come to
-unfoldable pub partsFrom : Form → List Part → ℕ → List ℕ → List ℕ → ℕ → Line
+unfoldable pub partsFrom : Form → List FormPart → ℕ → List ℕ → List ℕ → ℕ → Line
 partsFrom f [] i ns s at = f .comes (λ j. getD ns j 0) s at
-partsFrom f (p ∷ ps) i ns s at = andThen (p .lacks) (fieldNext (p .word) (p .most) s at) (λ n next. partsFrom f ps (suc i) (set ns i n) s next)
+partsFrom f (p ∷ ps) i ns s at = thenField (p .lacks) (fieldNext (p .word) (p .most) s at) (λ n next. partsFrom f ps (suc i) (set ns i n) s next)
 
 -- no form has more than six numbers
 abbrev pub formFrom : Form → List ℕ → ℕ → Line

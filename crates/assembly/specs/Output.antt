@@ -6,7 +6,8 @@ use mathlib.Core.List.{List}
 use lib.ListN.{length}
 use Rattle.words.specs.Words.{pick}
 use Rattle.model.specs.Records.{commandBytes}
-use Rattle.records.specs.Stores.{room, stored}
+use Rattle.words.specs.Regions.{room}
+use Rattle.records.specs.Stores.{stored}
 use Rattle.assembly.specs.declared.Line.{Line}
 use Rattle.assembly.specs.declared.Line.the-variants as line
 use Rattle.assembly.specs.declared.Assembled.{Assembled}

@@ -3,8 +3,8 @@ ghost use mathlib.Core.Path.{_≡_};
 ghost use Prim.Native.Nat.{_<_};
 ghost use lib.ListN.{length, getD};
 ghost use Rattle.text.specs.Words.{wordAt};
-ghost use Rattle.assembly.specs.Language.{numberNext, fieldNext, ruleNext, endsAt, whole, settingsBy, ruleFrom, forms, formFrom, parseLine};
-ghost use Rattle.assembly.specs.Tables.{rows, noRow, placeOf, formOf, Within};
+ghost use Rattle.assembly.specs.Language.{numberNext, fieldNext, ruleNext, endsAt, wholeLine, settingsBy, ruleBehind, forms, formFrom, parseLine};
+ghost use Rattle.assembly.specs.Tables.{lineRows, noRow, placeOf, formOf, Within};
 ghost use Rattle.assembly.specs.Output.{Assembles};
 use model::Command;
 use model::Given;
@@ -89,8 +89,8 @@ fn form_of(k: usize) -> Form
 
 // A row of the table.
 fn row_of(at: usize) -> Row
-    requires { ⌜ at < length rows ⌝ }
-    ensures { λ r. ⌜ r ≡ getD rows at noRow ⌝ }
+    requires { ⌜ at < length lineRows ⌝ }
+    ensures { λ r. ⌜ r ≡ getD lineRows at noRow ⌝ }
 {
     ROWS[at]
 }
@@ -165,7 +165,7 @@ fn ends_at(line: &[u8], at: usize) -> bool
 
 // The command, where no word is left.
 fn ended(line: &[u8], at: usize, c: Command) -> Line
-    ensures { λ r. ⌜ r ≡ whole (now (line .entry)) at c ⌝ }
+    ensures { λ r. ⌜ r ≡ wholeLine (now (line .entry)) at c ⌝ }
 {
     if ends_at(line, at) {
         Line::Command(c)
@@ -193,7 +193,7 @@ fn settings_of(n: [u64; 6], rule: GivenRule) -> Command
 // The settings without a rule, and the rule behind them if there is one.
 fn rule_line(line: &[u8], at: usize, n: [u64; 6]) -> Line
     requires { ⌜ Within 0 n ⌝ }
-    ensures { λ r. ⌜ r ≡ ruleFrom (λ j. getD n j 0) (now (line .entry)) at ⌝ }
+    ensures { λ r. ⌜ r ≡ ruleBehind (λ j. getD n j 0) (now (line .entry)) at ⌝ }
 {
     if ends_at(line, at) {
         return Line::Command(settings_of(n, GivenRule::LeftOut));

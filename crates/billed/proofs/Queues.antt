@@ -29,7 +29,7 @@ use Rattle.words.proofs.Flags.{and-1, and-2, by-flag}
 use Rattle.words.proofs.Lists.{four-whole}
 use Rattle.model.proofs.SoundFacts.{Sound, queued-parts}
 use Rattle.model.proofs.AccessCases.{Accepted, access-cases}
-use Rattle.billed.specs.Queue.{queuedOf, sentOf, entriesBy, queuedBy, sentBy}
+use Rattle.billed.specs.Queue.{queuedFrom, sentFrom, entriesBy, queuedBy, sentBy}
 
 -- ---- entries and their events
 
@@ -46,11 +46,11 @@ module _ (es : List Entry) where
 
   -- an entry of a sound queue is the one that its event tells
   told-as : (k : QueueKind) (a : ℕ) (ms : List ℕ) → length ms ≡ 4 → kindOk es k a ms ≡ true
-      → (queuedOf (queuedAs k a ms) ≡ record { kind = k; address = a; masks = ms } ∷ []) × (sentOf (sentAs k a ms) ≡ record { kind = k; address = a; masks = ms } ∷ [])
+      → (queuedFrom (queuedAs k a ms) ≡ record { kind = k; address = a; masks = ms } ∷ []) × (sentFrom (sentAs k a ms) ≡ record { kind = k; address = a; masks = ms } ∷ [])
   told-as queue.Read a ms four h = let z = read-masks a ms four h in (rw z, rw z)
   told-as queue.WriteBack b ms four h = let z = four-whole 0 ms four in (rw z, rw z)
 
-  told : (q : Queued) → queuedOk es q ≡ true → (queuedOf (queuedEvent q) ≡ q ∷ []) × (sentOf (sentEvent q) ≡ q ∷ [])
+  told : (q : Queued) → queuedOk es q ≡ true → (queuedFrom (queuedEvent q) ≡ q ∷ []) × (sentFrom (sentEvent q) ≡ q ∷ [])
   told q h = let (four, small, asked) = queued-parts es q h in told-as (q .kind) (q .address) (q .masks) four asked
 
   all-told : (qs : List Queued) → all (queuedOk es) qs ≡ true → queuedBy (map queuedEvent qs) ≡ qs
@@ -60,7 +60,7 @@ module _ (es : List Entry) where
       rw (told q (and-1 (queuedOk es q) _ h) .0) (ap (λ (l : List Queued). q ∷ l) (all-told qs (and-2 (queuedOk es q) _ h)))
 
 -- what is queued tells of nothing sent, and what is sent of nothing queued
-apart : (k : QueueKind) (a : ℕ) (ms : List ℕ) → (sentOf (queuedAs k a ms) ≡ []) × (queuedOf (sentAs k a ms) ≡ [])
+apart : (k : QueueKind) (a : ℕ) (ms : List ℕ) → (sentFrom (queuedAs k a ms) ≡ []) × (queuedFrom (sentAs k a ms) ≡ [])
 apart queue.Read a ms = (refl, refl)
 apart queue.WriteBack b ms = (refl, refl)
 
@@ -85,43 +85,43 @@ fetch-told (Write a m k) n qs = refl
 -- ---- each step
 
 -- a call on the tables t that came to o
-abbrev pub Tells : Tables → Outcome Tables → Type 0
-Tells t o = t .queue ++ queuedBy (eventsOf o) ≡ sentBy (eventsOf o) ++ after t o .queue
+abbrev pub TellsQueue : Tables → Outcome Tables → Type 0
+TellsQueue t o = t .queue ++ queuedBy (eventsOf o) ≡ sentBy (eventsOf o) ++ after t o .queue
 
-refused-tells : (t : Tables) (n : Refusal) → Tells t (refused n)
+refused-tells : (t : Tables) (n : Refusal) → TellsQueue t (refused n)
 unfolding entriesBy
 refused-tells t n = append-nil (t .queue)
 
 module _ (R : Rules) (S : Settings) (range : inRange S ≡ true) (t : Tables) (ok : Sound S t) where
-  access-tells : (x : Access) → Tells t (accessUnder R S x t)
+  access-tells : (x : Access) → TellsQueue t (accessUnder R S x t)
   unfolding accept entriesBy
-  access-tells x = access-cases R S t x range ok (Tells t) (refused-tells t) made
+  access-tells x = access-cases R S t x range ok (TellsQueue t) (refused-tells t) made
     where
-      made : (p : Spot) → Accepted R S t x p → Tells t (accept S x p t)
+      made : (p : Spot) → Accepted R S t x p → TellsQueue t (accept S x p t)
       made p a = rw (none-sent (queues x p), fetch-told x (p .answer) (p .backs), all-told [] (p .backs) (a .spotted .backed []))
 
-  send-tells : Tells t (send t)
+  send-tells : TellsQueue t (send t)
   unfolding send entriesBy
   send-tells = go (t .queue) refl (ok .lining)
     where
-      go : (q : List Queued) → t .queue ≡ q → all (queuedOk (t .misses)) q ≡ true → Tells t (sendFrom q t)
+      go : (q : List Queued) → t .queue ≡ q → all (queuedOk (t .misses)) q ≡ true → TellsQueue t (sendFrom q t)
       go [] h f = refused-tells t QueueEmpty
       go (e ∷ q) h f = rw (apart (e .kind) (e .address) (e .masks) .1, told (t .misses) e (and-1 (queuedOk (t .misses) e) _ f) .1, h) (append-nil (e ∷ q))
 
-  fill-tells : (a : ℕ) → Tells t (fill a t)
+  fill-tells : (a : ℕ) → TellsQueue t (fill a t)
   unfolding fill entriesBy
   fill-tells a =
-      by-flag (Tells t) (any (sentFor a) (t .misses)) _ (refused NotSent)
-      (λ e. rw (tickets-none queuedOf (λ k. refl) (ticketsOf a (t .misses)), tickets-none sentOf (λ k. refl) (ticketsOf a (t .misses))) (append-nil (t .queue)))
+      by-flag (TellsQueue t) (any (sentFor a) (t .misses)) _ (refused NotSent)
+      (λ e. rw (tickets-none queuedFrom (λ k. refl) (ticketsOf a (t .misses)), tickets-none sentFrom (λ k. refl) (ticketsOf a (t .misses))) (append-nil (t .queue)))
       (λ e. refused-tells t NotSent)
 
-  tick-tells : (c : ℕ) → Tells t (tick c t)
+  tick-tells : (c : ℕ) → TellsQueue t (tick c t)
   unfolding tick entriesBy
   tick-tells c =
-      by-flag (Tells t) (ltb c (t .now) || ltb lastCycle c) (refused BadCycle) _ (λ e. refused-tells t BadCycle) (λ e. append-nil (t .queue))
+      by-flag (TellsQueue t) (ltb c (t .now) || ltb lastCycle c) (refused BadCycle) _ (λ e. refused-tells t BadCycle) (λ e. append-nil (t .queue))
 
   -- the queue after an accepted call is the queue before, less its head for a send, and exactly the entries that its events tell
-  pub step-tells : (k : Call) → Tells t (stepUnder R S k t)
+  pub step-tells : (k : Call) → TellsQueue t (stepUnder R S k t)
   step-tells (offer x) = access-tells x
   step-tells sending = send-tells
   step-tells (filling a) = fill-tells a
@@ -138,6 +138,6 @@ entries-append f (e ∷ es) fs = rw (entries-append f es fs) (sym (append-assoc 
 pub tells-append : (p q r : List Queued) (es fs : List Event) → p ++ queuedBy es ≡ sentBy es ++ q → q ++ queuedBy fs ≡ sentBy fs ++ r
     → p ++ queuedBy (es ++ fs) ≡ sentBy (es ++ fs) ++ r
 tells-append p q r es fs a b =
-    rw (entries-append queuedOf es fs, entries-append sentOf es fs)
+    rw (entries-append queuedFrom es fs, entries-append sentFrom es fs)
     (sym (append-assoc p (queuedBy es) (queuedBy fs)) ∙ ap (λ (l : List Queued). l ++ queuedBy fs) a ∙ append-assoc (sentBy es) q (queuedBy fs)
     ∙ ap (λ (l : List Queued). sentBy es ++ l) b ∙ sym (append-assoc (sentBy es) (sentBy fs) r))

@@ -5,27 +5,27 @@ use Rattle.model.specs.declared.Queued.{Queued}
 use Rattle.model.specs.declared.Event.{Event}
 use Rattle.model.specs.declared.Event.the-variants as ev
 
-abbrev pub queuedOf : Event → List Queued
-queuedOf (ev.ReadQueued a) = reading a ∷ []
-queuedOf (ev.WriteBackQueued b m0 m1 m2 m3) = writing b (m0 ∷ m1 ∷ m2 ∷ m3 ∷ []) ∷ []
-queuedOf (ev.Answered a n) = []
-queuedOf (ev.Refused n) = []
-queuedOf (ev.Released k) = []
-queuedOf (ev.ReadSent a) = []
-queuedOf (ev.WriteBackSent b m0 m1 m2 m3) = []
-queuedOf (ev.Filled a) = []
-queuedOf ev.Ticked = []
+abbrev pub queuedFrom : Event → List Queued
+queuedFrom (ev.ReadQueued a) = reading a ∷ []
+queuedFrom (ev.WriteBackQueued b m0 m1 m2 m3) = writing b (m0 ∷ m1 ∷ m2 ∷ m3 ∷ []) ∷ []
+queuedFrom (ev.Answered a n) = []
+queuedFrom (ev.Refused n) = []
+queuedFrom (ev.Released k) = []
+queuedFrom (ev.ReadSent a) = []
+queuedFrom (ev.WriteBackSent b m0 m1 m2 m3) = []
+queuedFrom (ev.Filled a) = []
+queuedFrom ev.Ticked = []
 
-abbrev pub sentOf : Event → List Queued
-sentOf (ev.ReadSent a) = reading a ∷ []
-sentOf (ev.WriteBackSent b m0 m1 m2 m3) = writing b (m0 ∷ m1 ∷ m2 ∷ m3 ∷ []) ∷ []
-sentOf (ev.Answered a n) = []
-sentOf (ev.Refused n) = []
-sentOf (ev.ReadQueued a) = []
-sentOf (ev.WriteBackQueued b m0 m1 m2 m3) = []
-sentOf (ev.Released k) = []
-sentOf (ev.Filled a) = []
-sentOf ev.Ticked = []
+abbrev pub sentFrom : Event → List Queued
+sentFrom (ev.ReadSent a) = reading a ∷ []
+sentFrom (ev.WriteBackSent b m0 m1 m2 m3) = writing b (m0 ∷ m1 ∷ m2 ∷ m3 ∷ []) ∷ []
+sentFrom (ev.Answered a n) = []
+sentFrom (ev.Refused n) = []
+sentFrom (ev.ReadQueued a) = []
+sentFrom (ev.WriteBackQueued b m0 m1 m2 m3) = []
+sentFrom (ev.Released k) = []
+sentFrom (ev.Filled a) = []
+sentFrom ev.Ticked = []
 
 -- of all the events, in order
 unfoldable pub entriesBy : (Event → List Queued) → List Event → List Queued
@@ -33,7 +33,7 @@ entriesBy f [] = []
 entriesBy f (e ∷ es) = f e ++ entriesBy f es
 
 abbrev pub queuedBy : List Event → List Queued
-queuedBy = entriesBy queuedOf
+queuedBy = entriesBy queuedFrom
 
 abbrev pub sentBy : List Event → List Queued
-sentBy = entriesBy sentOf
+sentBy = entriesBy sentFrom

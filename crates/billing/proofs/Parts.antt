@@ -13,24 +13,24 @@ use Rattle.billing.specs.declared.Bill.{Bill}
 use Rattle.billing.specs.declared.Step.{Step}
 use Rattle.billing.specs.declared.Step.the-variants.{Next, Stop}
 use Rattle.billing.specs.Bills.{addedTo, allAdded}
-use Rattle.billing.specs.Logs.{stepOf, stepAt, behind, nothingAt, partBy, stepEnd, partFrom, partOf, billedLog}
+use Rattle.billing.specs.Logs.{logStepOf, logStepAt, eventBefore, nothingAt, partBy, stepEnd, partFrom, logEvents, billedLog}
 
 -- ---- one step
 
 module _ (s : List ℕ) (at : ℕ) where
-  pub step-end : length s ≤ at → Stop ≡ stepAt s at
-  unfolding stepAt
+  pub step-end : length s ≤ at → Stop ≡ logStepAt s at
+  unfolding logStepAt
   step-end h = rw (← (item-end s at h))
 
   -- an event is a byte or more, and lies within the log
-  pub step-past : {e : Event} {next : ℕ} → stepAt s at ≡ Next e next → (at < next) × (next ≤ length s)
-  unfolding stepAt
+  pub step-past : {e : Event} {next : ℕ} → logStepAt s at ≡ Next e next → (at < next) × (next ≤ length s)
+  unfolding logStepAt
   step-past {e} {next} q = by-item (itemAt s at) (item-past s at) q
     where
       none : {X : Type 0} → Stop ≡ Next e next → X
       none p = let z : _≡_ {A = ℕ} 0 1 = cc in absurd (let n : ⊥ = omega arith in n)
 
-      by-item : (i : Item) → Past (length s) at i → stepOf i ≡ Next e next → (at < next) × (next ≤ length s)
+      by-item : (i : Item) → Past (length s) at i → logStepOf i ≡ Next e next → (at < next) × (next ≤ length s)
       by-item (item.Event d m) w p = let z : m ≡ next = cc in rw z at w
       by-item (item.Command c m) w p = none p
       by-item item.End w p = none p
@@ -46,20 +46,20 @@ module _ (s : List ℕ) where
   part-steps zero zero at h k = refl
   part-steps zero (suc e) at h k = rw (← (step-end s at (omega arith)))
   part-steps (suc d) zero at h k = rw (← (step-end s at (omega arith)))
-  part-steps (suc d) (suc e) at h k = go (stepAt s at) refl (λ m p q. part-steps d e m p q)
+  part-steps (suc d) (suc e) at h k = go (logStepAt s at) refl (λ m p q. part-steps d e m p q)
     where
-      go : (x : Step) → stepAt s at ≡ x → ((m : ℕ) → length s ≤ m + d → length s ≤ m + e → partFrom d s m ≡ partFrom e s m) → partBy x at (partFrom d s (stepEnd x at)) ≡ partBy x at (partFrom e s (stepEnd x at))
-      go (Next v m) q ih = let w = step-past s at q in ap (behind v) (ih m (omega arith) (omega arith))
+      go : (x : Step) → logStepAt s at ≡ x → ((m : ℕ) → length s ≤ m + d → length s ≤ m + e → partFrom d s m ≡ partFrom e s m) → partBy x at (partFrom d s (stepEnd x at)) ≡ partBy x at (partFrom e s (stepEnd x at))
+      go (Next v m) q ih = let w = step-past s at q in ap (eventBefore v) (ih m (omega arith) (omega arith))
       go Stop q ih = refl
 
-  pub part-more : (at : ℕ) {e : Event} {next : ℕ} → at < length s → stepAt s at ≡ Next e next → partFrom (length s - at) s at ≡ behind e (partFrom (length s - next) s next)
+  pub part-more : (at : ℕ) {e : Event} {next : ℕ} → at < length s → logStepAt s at ≡ Next e next → partFrom (length s - at) s at ≡ eventBefore e (partFrom (length s - next) s next)
   unfolding partFrom
   part-more at {e} {next} h q =
       let w = step-past s at q in
       let k : length s - at ≡ suc (length s - (at + 1)) = omega arith in
-      rw (k, q) (ap (behind e) (part-steps (length s - (at + 1)) (length s - next) next (omega arith) (omega arith)))
+      rw (k, q) (ap (eventBefore e) (part-steps (length s - (at + 1)) (length s - next) next (omega arith) (omega arith)))
 
-  pub part-stop : (n at : ℕ) → Stop ≡ stepAt s at → partFrom n s at ≡ nothingAt at
+  pub part-stop : (n at : ℕ) → Stop ≡ logStepAt s at → partFrom n s at ≡ nothingAt at
   unfolding partFrom
   part-stop zero at q = refl
   part-stop (suc n) at q = rw (← q)
@@ -67,17 +67,17 @@ module _ (s : List ℕ) where
 -- ---- the loop over a log: what is left, billed from here, gives the whole bill
 
 module _ (b : Bill) (s : List ℕ) where
-  abbrev pub Left : Bill → ℕ → Type 0
-  Left c at = billedLog b s ≡ record { bill = allAdded c (partFrom (length s - at) s at .events); next = partFrom (length s - at) s at .end }
+  abbrev pub BillLeft : Bill → ℕ → Type 0
+  BillLeft c at = billedLog b s ≡ record { bill = allAdded c (partFrom (length s - at) s at .events); next = partFrom (length s - at) s at .end }
 
-  pub left-start : Left b 0
-  unfolding billedLog partOf
+  pub left-start : BillLeft b 0
+  unfolding billedLog logEvents
   left-start = let e : length s - 0 ≡ length s = omega arith in rw e
 
-  pub left-more : (c : Bill) (at : ℕ) {d : Bill} {e : Event} {next : ℕ} → at < length s → stepAt s at ≡ Next e next → d ≡ addedTo c e → Left c at → Left d next
+  pub left-more : (c : Bill) (at : ℕ) {d : Bill} {e : Event} {next : ℕ} → at < length s → logStepAt s at ≡ Next e next → d ≡ addedTo c e → BillLeft c at → BillLeft d next
   unfolding allAdded
   left-more c at h q p w = w ∙ rw (part-more s at h q, p)
 
-  pub left-stop : (c : Bill) (at : ℕ) → Stop ≡ stepAt s at → Left c at → record { bill = c; next = at } ≡ billedLog b s
+  pub left-stop : (c : Bill) (at : ℕ) → Stop ≡ logStepAt s at → BillLeft c at → record { bill = c; next = at } ≡ billedLog b s
   unfolding allAdded
   left-stop c at q w = sym (w ∙ rw (part-stop s (length s - at) at q))

@@ -17,7 +17,7 @@ use Rattle.billing.specs.declared.Bill.{Bill}
 use Rattle.billing.specs.declared.Dues.{Dues}
 use Rattle.billing.specs.declared.Rate.the-variants as rate
 use Rattle.billing.specs.Dues.{duesOf}
-use Rattle.billing.specs.Bills.{filledUp, raised, kept, billed, addedTo, rateOf}
+use Rattle.billing.specs.Bills.{filledUp, raised, billKept, billed, addedTo, rateOf}
 
 -- ---- one sum
 
@@ -74,11 +74,11 @@ module _ (b : Bill) (e : Event) {d : Dues} {c f : Bill} (is : d ≡ duesOf e) (f
   both = then ∙ rw (first, is)
 
   pub added-full : f .full ≡ true → filledUp b ≡ addedTo b e
-  unfolding addedTo billed kept
+  unfolding addedTo billed billKept
   added-full q = rw (← both, q)
 
   pub added-whole : f .full ≡ false → f ≡ addedTo b e
-  unfolding addedTo billed kept
+  unfolding addedTo billed billKept
   added-whole q = rw (← both, q)
 
 -- ---- rates
@@ -87,13 +87,13 @@ module _ (n m : ℕ) where
   pub rate-of-nothing : m ≡ 0 → rate.OfNothing ≡ rateOf n m
   rate-of-nothing e = rw e
 
-  abbrev pub Fitting : Type 0
-  Fitting = n * 1000 + m / 2 < 2 ^ 64
+  abbrev pub ProductFits : Type 0
+  ProductFits = n * 1000 + m / 2 < 2 ^ 64
 
-  pub rate-fits : m / 2 < 2 ^ 64 → n ≤ (2 ^ 64 - 1 - m / 2) / 1000 → Fitting
+  pub rate-fits : m / 2 < 2 ^ 64 → n ≤ (2 ^ 64 - 1 - m / 2) / 1000 → ProductFits
   rate-fits f h = omega (arith, le-div-iff-mul-le {k = 1000} {x = n} {y = 2 ^ 64 - 1 - m / 2} (omega arith) .0 h)
 
-  pub rate-tenths : (m ≡ 0 → ⊥) → Fitting → rate.Tenths ((n * 1000 + m / 2) / m) ≡ rateOf n m
+  pub rate-tenths : (m ≡ 0 → ⊥) → ProductFits → rate.Tenths ((n * 1000 + m / 2) / m) ≡ rateOf n m
   rate-tenths e h = rw (ne-eqb m 0 e, lt-ltb (n * 1000 + m / 2) (2 ^ 64) h)
 
   pub rate-too-large : m / 2 < 2 ^ 64 → (m ≡ 0 → ⊥) → (2 ^ 64 - 1 - m / 2) / 1000 < n → rate.TooLarge ≡ rateOf n m

@@ -15,7 +15,7 @@ use Rattle.model.specs.declared.Event.{Event}
 use Rattle.billing.specs.declared.Bill.{Bill}
 use Rattle.billing.specs.declared.Dues.{Dues}
 use Rattle.billing.specs.Dues.{duesOf, owedAt}
-use Rattle.billing.specs.Bills.{emptyBill, filledUp, raised, kept, billed, addedTo, allAdded, owed}
+use Rattle.billing.specs.Bills.{emptyBill, filledUp, raised, billKept, billed, addedTo, allAdded, owedIn}
 use Rattle.billing.proofs.Sums.{dues-within}
 
 -- a log billed in two parts
@@ -62,7 +62,7 @@ pub record Added (b c : Bill) (e : Event) : Type 0 where
   pub sums : (q : ℕ) → getD (c .counts) q 0 ≡ getD (b .counts) q 0 + owedAt q (duesOf e)
 
 added-sum : (b : Bill) (e : Event) → length (b .counts) ≡ 27 → addedTo b e .full ≡ false → Added b (addedTo b e) e
-unfolding addedTo billed kept
+unfolding addedTo billed billKept
 added-sum b e len = go (last .full) refl
   where
     d : Dues
@@ -103,7 +103,7 @@ raised-length b p n = go (b .full) (ltb sum (2 ^ 64))
     go false false = refl
 
 added-length : (b : Bill) (e : Event) → length (addedTo b e .counts) ≡ length (b .counts)
-unfolding addedTo billed kept
+unfolding addedTo billed billKept
 added-length b e = go (last .full)
   where
     first : Bill
@@ -118,15 +118,15 @@ added-length b e = go (last .full)
 
 -- a bill that is not full holds at each place what the events owe there, none left out
 pub bill-owed : (b : Bill) (es : List Event) → length (b .counts) ≡ 27 → allAdded b es .full ≡ false
-    → (b .full ≡ false) × ((p : ℕ) → getD (allAdded b es .counts) p 0 ≡ getD (b .counts) p 0 + owed p es)
-unfolding allAdded owed
+    → (b .full ≡ false) × ((p : ℕ) → getD (allAdded b es .counts) p 0 ≡ getD (b .counts) p 0 + owedIn p es)
+unfolding allAdded owedIn
 bill-owed b [] len h = (h, λ p. omega arith)
 bill-owed b (e ∷ es) len h =
     let ih = bill-owed (addedTo b e) es (added-length b e ∙ len) h in
     let a = added-sum b e len (ih .0) in
     (a .open-before, λ p. omega (arith, ih .1 p, a .sums p))
 
-pub empty-bill-owed : (es : List Event) → allAdded emptyBill es .full ≡ false → (p : ℕ) → p < 27 → getD (allAdded emptyBill es .counts) p 0 ≡ owed p es
+pub empty-bill-owed : (es : List Event) → allAdded emptyBill es .full ≡ false → (p : ℕ) → p < 27 → getD (allAdded emptyBill es .counts) p 0 ≡ owedIn p es
 empty-bill-owed es h p l =
     let z : getD (emptyBill .counts) p 0 ≡ 0 = getD-replicate 27 p 0 0 l in
     omega (arith, bill-owed emptyBill es refl h .1 p)

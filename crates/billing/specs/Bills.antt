@@ -27,11 +27,11 @@ raised b p n =
     (filledUp b))
 
 -- an event whose sums do not all fit is not billed
-unfoldable pub kept : Bill → Bill → Bill
-kept b c = pick (c .full) (filledUp b) c
+unfoldable pub billKept : Bill → Bill → Bill
+billKept b c = pick (c .full) (filledUp b) c
 
 unfoldable pub billed : Bill → Dues → Bill
-billed b d = kept b (raised (raised b (d .place) 1) (d .other) (d .also))
+billed b d = billKept b (raised (raised b (d .place) 1) (d .other) (d .also))
 
 unfoldable pub addedTo : Bill → Event → Bill
 addedTo b e = billed b (duesOf e)
@@ -42,9 +42,9 @@ allAdded b [] = b
 allAdded b (e ∷ es) = allAdded (addedTo b e) es
 
 -- what the events of a list add at place p
-unfoldable pub owed : ℕ → List Event → ℕ
-owed p [] = 0
-owed p (e ∷ es) = owedAt p (duesOf e) + owed p es
+unfoldable pub owedIn : ℕ → List Event → ℕ
+owedIn p [] = 0
+owedIn p (e ∷ es) = owedAt p (duesOf e) + owedIn p es
 
 -- ---- a part of a whole in tenths of a percent, to the nearest, halves upwards
 

@@ -13,8 +13,8 @@ use Rattle.records.specs.Masks.{dirtyBytes}
 use Rattle.billing.specs.declared.Dues.{Dues}
 
 -- 1 at one place; n at another besides
-abbrev pub one : ℕ → Dues
-one p = record { place = p; other = p; also = 0 }
+abbrev pub dueOnce : ℕ → Dues
+dueOnce p = record { place = p; other = p; also = 0 }
 
 abbrev pub oneAnd : ℕ → ℕ → ℕ → Dues
 oneAnd p q n = record { place = p; other = q; also = n }
@@ -22,13 +22,13 @@ oneAnd p q n = record { place = p; other = q; also = n }
 unfoldable pub duesOf : Event → Dues
 duesOf (ev.Answered a line) = oneAnd 0 (answerNumber a) 1
 duesOf (ev.Refused n) = oneAnd 5 (5 + refusalNumber n) 1
-duesOf (ev.ReadQueued a) = one 18
-duesOf (ev.WriteBackQueued b m0 m1 m2 m3) = one 19
-duesOf (ev.Released t) = one 25
-duesOf (ev.ReadSent a) = one 20
+duesOf (ev.ReadQueued a) = dueOnce 18
+duesOf (ev.WriteBackQueued b m0 m1 m2 m3) = dueOnce 19
+duesOf (ev.Released t) = dueOnce 25
+duesOf (ev.ReadSent a) = dueOnce 20
 duesOf (ev.WriteBackSent b m0 m1 m2 m3) = oneAnd 21 22 (dirtyBytes m0 m1 m2 m3)
 duesOf (ev.Filled a) = oneAnd 23 24 32
-duesOf ev.Ticked = one 26
+duesOf ev.Ticked = dueOnce 26
 
 -- what an event adds at place p
 abbrev pub owedAt : ℕ → Dues → ℕ

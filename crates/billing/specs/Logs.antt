@@ -13,31 +13,31 @@ use Rattle.billing.specs.declared.Step.the-variants.{Next, Stop}
 use Rattle.billing.specs.Bills.{allAdded}
 
 -- an event and the place behind it, or what is none
-abbrev pub stepOf : Item → Step
-stepOf (item.Event e next) = Next e next
-stepOf (item.Command c next) = Stop
-stepOf item.End = Stop
-stepOf (item.Cut k wants left) = Stop
-stepOf (item.Unknown k) = Stop
-stepOf (item.Strange k) = Stop
+abbrev pub logStepOf : Item → Step
+logStepOf (item.Event e next) = Next e next
+logStepOf (item.Command c next) = Stop
+logStepOf item.End = Stop
+logStepOf (item.Cut k wants left) = Stop
+logStepOf (item.Unknown k) = Stop
+logStepOf (item.Strange k) = Stop
 
-unfoldable pub stepAt : List ℕ → ℕ → Step
-stepAt s at = stepOf (itemAt s at)
+unfoldable pub logStepAt : List ℕ → ℕ → Step
+logStepAt s at = logStepOf (itemAt s at)
 
 -- events, and the place behind the last
-pub record Part : Type 0 where
+pub record LogEvents : Type 0 where
   pub events : List Event
   pub end : ℕ
 
-abbrev pub behind : Event → Part → Part
-behind e p = record { events = e ∷ p .events; end = p .end }
+abbrev pub eventBefore : Event → LogEvents → LogEvents
+eventBefore e p = record { events = e ∷ p .events; end = p .end }
 
-abbrev pub nothingAt : ℕ → Part
+abbrev pub nothingAt : ℕ → LogEvents
 nothingAt at = record { events = []; end = at }
 
 -- by the step at a place, p being what follows it
-abbrev pub partBy : Step → ℕ → Part → Part
-partBy (Next e next) at p = behind e p
+abbrev pub partBy : Step → ℕ → LogEvents → LogEvents
+partBy (Next e next) at p = eventBefore e p
 partBy Stop at p = nothingAt at
 
 abbrev pub stepEnd : Step → ℕ → ℕ
@@ -45,13 +45,13 @@ stepEnd (Next e next) at = next
 stepEnd Stop at = at
 
 -- from a place on, n events at most
-unfoldable pub partFrom : ℕ → List ℕ → ℕ → Part
+unfoldable pub partFrom : ℕ → List ℕ → ℕ → LogEvents
 partFrom zero s at = nothingAt at
-partFrom (suc n) s at = partBy (stepAt s at) at (partFrom n s (stepEnd (stepAt s at) at))
+partFrom (suc n) s at = partBy (logStepAt s at) at (partFrom n s (stepEnd (logStepAt s at) at))
 
 -- an event is a byte or more
-unfoldable pub partOf : List ℕ → Part
-partOf s = partFrom (length s) s 0
+unfoldable pub logEvents : List ℕ → LogEvents
+logEvents s = partFrom (length s) s 0
 
 unfoldable pub billedLog : Bill → List ℕ → Billed
-billedLog b s = record { bill = allAdded b (partOf s .events); next = partOf s .end }
+billedLog b s = record { bill = allAdded b (logEvents s .events); next = logEvents s .end }

@@ -3,9 +3,9 @@ ghost use mathlib.Core.Path.{_≡_};
 ghost use Prim.Native.Nat.{_<_};
 ghost use lib.ListN.{getD};
 ghost use Rattle.billing.specs.Dues.{oneAnd, duesOf};
-ghost use Rattle.billing.specs.Dues.{one as Dues·one};
+ghost use Rattle.billing.specs.Dues.{dueOnce};
 ghost use Rattle.billing.specs.Bills.{emptyBill, filledUp, raised, addedTo, rateOf};
-ghost use Rattle.billing.specs.Logs.{stepAt, billedLog};
+ghost use Rattle.billing.specs.Logs.{logStepAt, billedLog};
 use model::Event;
 use records::Item;
 
@@ -83,7 +83,7 @@ pub fn count(bill: Bill, place: usize) -> u64
 
 // One more at a place of the bill.
 fn one(place: usize) -> Dues
-    ensures { λ r. ⌜ r ≡ Dues·one place ⌝ }
+    ensures { λ r. ⌜ r ≡ dueOnce place ⌝ }
 {
     Dues {
         place,
@@ -190,7 +190,7 @@ pub fn rate_of(part: u64, whole: u64) -> Rate
 
 // What the event at byte `at` adds to the bill, or that the bill ends there.
 fn step_at(log: &[u8], at: usize) -> Step
-    ensures { λ r. ⌜ r ≡ stepAt (now (log .entry)) at ⌝ }
+    ensures { λ r. ⌜ r ≡ logStepAt (now (log .entry)) at ⌝ }
 {
     let Item::Event { event, next } = records::item_at(log, at) else {
         return Step::Stop;

@@ -9,13 +9,13 @@ use Rattle.cache.specs.declared.Call.{Call}
 use Rattle.cache.specs.declared.Call.the-variants.{Offer, Send, Fill, Tick}
 
 -- a call as the model names it
-abbrev pub callOf : Call → history.Call
-callOf (Offer x) = history.offer x
-callOf Send = history.sending
-callOf (Fill a) = history.filling a
-callOf (Tick c) = history.ticking c
+abbrev pub modelCall : Call → history.Call
+modelCall (Offer x) = history.offer x
+modelCall Send = history.sending
+modelCall (Fill a) = history.filling a
+modelCall (Tick c) = history.ticking c
 
 -- the verdict r and the slices M after it are those of the outcome o of a call on L
-pub record Made (o : Outcome Lent) (L : Lent) (r : Verdict) (M : Lent) : Type 0 where
+pub record LeavesVerdict (o : Outcome Lent) (L : Lent) (r : Verdict) (M : Lent) : Type 0 where
   pub says : r ≡ verdictOf o
   pub left : M ≡ after L o

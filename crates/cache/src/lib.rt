@@ -14,7 +14,7 @@ ghost use Rattle.model.specs.History.{stepBy};
 ghost use Rattle.model.specs.Inner.{SoundSlices, Does};
 ghost use Rattle.model.specs.declared.Access.the-variants.{Read, Write};
 ghost use Rattle.layout.specs.Layout.{LaysOut};
-ghost use Rattle.cache.specs.Made.{Made, callOf};
+ghost use Rattle.cache.specs.Made.{LeavesVerdict, modelCall};
 
 // One call but the making of tables.
 pub enum Call {
@@ -28,7 +28,7 @@ pub enum Call {
 
 // Fresh tables; refusal 3 is not asked.
 pub fn fresh(s: Settings, longs: &mut [u64], words: &mut [u32], marks: &mut [u8]) -> Verdict
-    ensures { λ r. ⌜ Made (freshCall s (lent (now (longs .entry)) (now (words .entry)) (now (marks .entry))))
+    ensures { λ r. ⌜ LeavesVerdict (freshCall s (lent (now (longs .entry)) (now (words .entry)) (now (marks .entry))))
         (lent (now (longs .entry)) (now (words .entry)) (now (marks .entry))) r
         (lent (now (longs .exit)) (now (words .exit)) (now (marks .exit))) ⌝ }
 {
@@ -54,7 +54,7 @@ fn step(
     k: Call,
 ) -> Reply
     requires { ⌜ LaysOut s at × SoundSlices s (lent (now longs) (now words) (now marks)) ⌝ }
-    ensures { λ r. ⌜ Does s (stepBy s (callOf k)) (lent (now (longs .entry)) (now (words .entry)) (now (marks .entry))) r
+    ensures { λ r. ⌜ Does s (stepBy s (modelCall k)) (lent (now (longs .entry)) (now (words .entry)) (now (marks .entry))) r
         (lent (now (longs .exit)) (now (words .exit)) (now (marks .exit))) ⌝ }
 {
     match k {
@@ -73,7 +73,7 @@ pub fn perform(
     marks: &mut [u8],
     k: Call,
 ) -> Reply
-    ensures { λ r. ⌜ Leaves (call s (stepBy s (callOf k)) (lent (now (longs .entry)) (now (words .entry)) (now (marks .entry))))
+    ensures { λ r. ⌜ Leaves (call s (stepBy s (modelCall k)) (lent (now (longs .entry)) (now (words .entry)) (now (marks .entry))))
         (lent (now (longs .entry)) (now (words .entry)) (now (marks .entry))) r
         (lent (now (longs .exit)) (now (words .exit)) (now (marks .exit))) ⌝ }
 {

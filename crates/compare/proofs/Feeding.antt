@@ -17,13 +17,13 @@ use Rattle.compare.specs.declared.reading.Window.{Window}
 use Rattle.compare.specs.declared.reading.Topped.{Topped}
 use Rattle.compare.specs.declared.reading.Met.{Met}
 use Rattle.compare.specs.declared.reading.Met.the-variants as met
-use Rattle.compare.specs.Windows.{window, waitingIn, movedBy, Sound, Grown, topped, cameTo, Fed, leftOf}
+use Rattle.compare.specs.Windows.{window, waitingIn, movedBy, WindowSound, WindowGrown, topped, cameTo, Fed, leftOf}
 
 -- ---- the bytes that wait
 
-module _ (l : List ℕ) (w : Window) (s : Sound (length l) w) where
-  pub waits : take (w .have - w .at) (drop (w .at) l) ≡ waitingIn l w
-  waits =
+module _ (l : List ℕ) (w : Window) (s : WindowSound (length l) w) where
+  pub window-waits : take (w .have - w .at) (drop (w .at) l) ≡ waitingIn l w
+  window-waits =
       let i = length-take-le (w .have) l (s .buffered) in
       let j = length-drop (w .at) (take (w .have) l) in
       let h = s .within in
@@ -36,7 +36,7 @@ module _ (l : List ℕ) (w : Window) (s : Sound (length l) w) where
     pub moved-at : (w .at + m) % 2 ^ 64 ≡ w .at + m
     moved-at = let k = waiting-length in let i = s .within in let j = s .placed in omega arith
 
-    pub moved-sound : Sound (length l) (movedBy w m)
+    pub moved-sound : WindowSound (length l) (movedBy w m)
     moved-sound = let k = waiting-length in let i = s .within in record { within = rw moved-at (omega arith); buffered = s .buffered; placed = s .placed }
 
     pub moved-left : leftOf (movedBy w m) + 2 * m ≡ leftOf w
@@ -48,9 +48,9 @@ module _ (l : List ℕ) (w : Window) (s : Sound (length l) w) where
     fits : (leb (w .at) (w .have) && leb (w .have) (length l)) ≡ true
     fits = rw (le-leb (w .at) (w .have) (s .within), le-leb (w .have) (length l) (s .buffered))
 
-    pub count : have ≡ w .have - w .at
+    pub count-waits : have ≡ w .have - w .at
     unfolding carriedCount
-    count = p ∙ rw fits
+    count-waits = p ∙ rw fits
 
     down : l₀ ≡ movedDown l (w .at) (w .have - w .at)
     unfolding carried
@@ -72,28 +72,28 @@ module _ (l : List ℕ) (w : Window) (s : Sound (length l) w) where
       keeps : take (w .have - w .at) l₁ ≡ waitingIn l w
       keeps =
           let z = front-length in
-          let c = count in
-          let e : take (w .have - w .at) l₁ ≡ take (w .have - w .at) l₀ = rw count at (k .before) in
-          e ∙ ap (take (w .have - w .at)) down ∙ take-append-le (w .have - w .at) (take (w .have - w .at) (drop (w .at) l)) (drop (w .have - w .at) l) (omega arith) ∙ twice ∙ waits
+          let c = count-waits in
+          let e : take (w .have - w .at) l₁ ≡ take (w .have - w .at) l₀ = rw count-waits at (k .before) in
+          e ∙ ap (take (w .have - w .at)) down ∙ take-append-le (w .have - w .at) (take (w .have - w .at) (drop (w .at) l)) (drop (w .have - w .at) l) (omega arith) ∙ twice ∙ window-waits
         where
           twice : take (w .have - w .at) (take (w .have - w .at) (drop (w .at) l)) ≡ take (w .have - w .at) (drop (w .at) l)
           twice = take-all (w .have - w .at) (take (w .have - w .at) (drop (w .at) l)) (let z = front-length in omega arith)
 
-      feeds : (h : ℕ) (e : Bool) (m : Met) → h ≤ length l → w .base + w .at + h < 2 ^ 64 → Grown (w .have - w .at) (window (w .base + w .at) 0 h e) m
+      feeds : (h : ℕ) (e : Bool) (m : Met) → h ≤ length l → w .base + w .at + h < 2 ^ 64 → WindowGrown (w .have - w .at) (window (w .base + w .at) 0 h e) m
           → {r : Topped} → r ≡ topped (w .base + w .at) h e m → Fed l w (r .window) (r .met) l₁
       feeds h e m i j g x = rw x (record { kept = keeps; front = refl; place = refl; more = g; sound = record { within = omega arith; buffered = i; placed = j } })
 
       pub fed-end : {r : Topped} → r ≡ topped (w .base + w .at) have true met.Read → Fed l w (r .window) (r .met) l₁
-      fed-end e = let c = count in let i = s .within in let j = s .buffered in let n = s .placed in feeds have true met.Read (omega arith) (omega arith) (inr (c, refl)) e
+      fed-end e = let c = count-waits in let i = s .within in let j = s .buffered in let n = s .placed in feeds have true met.Read (omega arith) (omega arith) (inr (c, refl)) e
 
       pub fed-stuck : {r : Topped} → r ≡ topped (w .base + w .at) have false met.Stuck → Fed l w (r .window) (r .met) l₁
-      fed-stuck e = let c = count in let i = s .within in let j = s .buffered in let n = s .placed in feeds have false met.Stuck (omega arith) (omega arith) tt e
+      fed-stuck e = let c = count-waits in let i = s .within in let j = s .buffered in let n = s .placed in feeds have false met.Stuck (omega arith) (omega arith) tt e
 
       pub fed-came : {n : ℕ} → f ≡ filled.To n → {r : Topped} → r ≡ cameTo (w .base + w .at) have n → Fed l w (r .window) (r .met) l₁
       unfolding cameTo
       fed-came {n} g {r} e =
           let reach : Reaches have (length l₀) (filled.To n) = rw g at (k .reaches) in
-          let c = count in
+          let c = count-waits in
           let i = same-size in
           let j = s .placed in
           let o = s .within in

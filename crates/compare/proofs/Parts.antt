@@ -11,7 +11,7 @@ use lib.Seq.{length-take-le}
 use Rattle.words.specs.Words.{pick}
 use Rattle.words.proofs.Flags.{flag, clash}
 use Rattle.words.proofs.Below.{lt-or-ge}
-use Rattle.comparing.specs.Coming.{beginning, passedBytes}
+use Rattle.comparing.specs.Coming.{checkBeginning, passedBytes}
 use Rattle.comparing.proofs.InParts.{passed-append}
 use Rattle.input.specs.declared.Filled.{Filled}
 use Rattle.input.specs.declared.Filled.the-variants as filled
@@ -40,7 +40,7 @@ module _ {c : Check} (k : Checked c) {r : Check} where
       rw e′ (
         record {
           bytes = k .bytes ++ take n l;
-          checking = rw (k .checking) (sym (passed-append beginning (k .bytes) (take n l)));
+          checking = rw (k .checking) (sym (passed-append checkBeginning (k .bytes) (take n l)));
           read = omega arith;
         },
         λ m. omega arith,

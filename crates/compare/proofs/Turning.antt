@@ -20,9 +20,9 @@ use Rattle.compare.specs.declared.turns.Pass.{Pass}
 use Rattle.compare.specs.declared.turns.Turned.{Turned}
 use Rattle.compare.specs.declared.listing.Work.{Work}
 use Rattle.compare.specs.declared.showing.Shown.{Shown}
-use Rattle.compare.specs.Lines.{PutWhere, Quiet, Lists}
-use Rattle.compare.specs.Windows.{unread, waitingIn, movedBy, Sound, Grown, Fed, leftOf}
-use Rattle.compare.specs.Turns.{begun, turned, nextStep, Comes, Ready, going, left, Goes}
+use Rattle.compare.specs.Lines.{PutWhere, NothingPut, ListsPair}
+use Rattle.compare.specs.Windows.{unread, waitingIn, movedBy, WindowSound, WindowGrown, Fed, leftOf}
+use Rattle.compare.specs.Turns.{passBegun, passTurned, nextStep, Comes, BothSound, anotherTurn, leftInPass, LessLeft}
 use Rattle.compare.proofs.Feeding.{moved-sound, moved-left}
 
 mark-le : (b : Bool) → pick b 0 1 ≤ 1
@@ -30,7 +30,7 @@ mark-le true = omega arith
 mark-le false = omega arith
 
 -- reading on leaves less, where it goes on
-fed-less : (w v : Window) (m : Met) → Sound (w .have) w → v .at ≡ 0 → v .base ≡ w .base + w .at → v .base + v .have < 2 ^ 64 → Grown (w .have - w .at) v m → w .ended ≡ false → going m ≡ true → leftOf v < leftOf w
+fed-less : (w v : Window) (m : Met) → WindowSound (w .have) w → v .at ≡ 0 → v .base ≡ w .base + w .at → v .base + v .have < 2 ^ 64 → WindowGrown (w .have - w .at) v m → w .ended ≡ false → anotherTurn m ≡ true → leftOf v < leftOf w
 fed-less w v met.Read s a p l g e h =
     let i = s .within in
     ⊎-elim
@@ -42,9 +42,9 @@ fed-less w v (met.Row x y z) s a p l g e h = absurd g
 fed-less w v (met.Pair x) s a p l g e h = absurd g
 fed-less w v met.Over s a p l g e h = absurd g
 
-module _ (l r : List ℕ) {p : Pass} (y : Ready (length l) (length r) p) (t : Turned) (l₁ r₁ : List ℕ) where
-  goes-by : (st : Step) → Moves (p .walk) (waitingIn l (p .a)) (p .a .ended) (waitingIn r (p .b)) (p .b .ended) st → Comes l r p t l₁ r₁ st → Goes p (t .pass) (going (t .met)) (length l) (length r)
-  unfolding left Comes
+module _ (l r : List ℕ) {p : Pass} (y : BothSound (length l) (length r) p) (t : Turned) (l₁ r₁ : List ℕ) where
+  goes-by : (st : Step) → Moves (p .walk) (waitingIn l (p .a)) (p .a .ended) (waitingIn r (p .b)) (p .b .ended) st → Comes l r p t l₁ r₁ st → LessLeft p (t .pass) (anotherTurn (t .met)) (length l) (length r)
+  unfolding leftInPass Comes
   goes-by (step.Row m n same v) k c =
       let i = moved-left l (p .a) (y .first) (k .0) in
       let j = moved-left r (p .b) (y .second) (k .1) in
@@ -73,64 +73,64 @@ module _ (l r : List ℕ) {p : Pass} (y : Ready (length l) (length r) p) (t : Tu
             rw (c .1, c .2) (omega arith);
       }
 
-  pub comes-goes : Comes l r p t l₁ r₁ (nextStep l r p) → Goes p (t .pass) (going (t .met)) (length l) (length r)
+  pub comes-goes : Comes l r p t l₁ r₁ (nextStep l r p) → LessLeft p (t .pass) (anotherTurn (t .met)) (length l) (length r)
   comes-goes c = goes-by (nextStep l r p) (moves (p .walk) (waitingIn l (p .a)) (p .a .ended) (waitingIn r (p .b)) (p .b .ended)) c
 
   -- the step that the code took, on the bytes that it saw, is the next step
   module _ {x z : List ℕ} (i : x ≡ waitingIn l (p .a)) (j : z ≡ waitingIn r (p .b)) {st : Step} (k : st ≡ stepped (p .walk) x (p .a .ended) z (p .b .ended)) where
-    by-step : {s : Step} → st ≡ s → Comes l r p t l₁ r₁ s → Comes l r p t l₁ r₁ (nextStep l r p) × Goes p (t .pass) (going (t .met)) (length l) (length r)
+    by-step : {s : Step} → st ≡ s → Comes l r p t l₁ r₁ s → Comes l r p t l₁ r₁ (nextStep l r p) × LessLeft p (t .pass) (anotherTurn (t .met)) (length l) (length r)
     by-step {s} e c =
         let q : s ≡ nextStep l r p = sym e ∙ k ∙ rw (i, j) in
         let d : Comes l r p t l₁ r₁ (nextStep l r p) = rw q at c in
         (d, comes-goes d)
 
-    pub turn-row : {m n : ℕ} {same : Bool} {v : Walk} → st ≡ step.Row m n same v → {u w : Window} → u ≡ movedBy (p .a) m → w ≡ movedBy (p .b) n → t ≡ turned u w v (met.Row m n same) → l₁ ≡ l → r₁ ≡ r
-        → Comes l r p t l₁ r₁ (nextStep l r p) × Goes p (t .pass) (going (t .met)) (length l) (length r)
+    pub turn-row : {m n : ℕ} {same : Bool} {v : Walk} → st ≡ step.Row m n same v → {u w : Window} → u ≡ movedBy (p .a) m → w ≡ movedBy (p .b) n → t ≡ passTurned u w v (met.Row m n same) → l₁ ≡ l → r₁ ≡ r
+        → Comes l r p t l₁ r₁ (nextStep l r p) × LessLeft p (t .pass) (anotherTurn (t .met)) (length l) (length r)
     unfolding Comes
     turn-row e f g h a b = by-step e (h ∙ rw (f, g), a, b)
 
-    pub turn-pair : {d : Bool} {v : Walk} → st ≡ step.Pair d v → t ≡ turned (p .a) (p .b) v (met.Pair d) → l₁ ≡ l → r₁ ≡ r
-        → Comes l r p t l₁ r₁ (nextStep l r p) × Goes p (t .pass) (going (t .met)) (length l) (length r)
+    pub turn-pair : {d : Bool} {v : Walk} → st ≡ step.Pair d v → t ≡ passTurned (p .a) (p .b) v (met.Pair d) → l₁ ≡ l → r₁ ≡ r
+        → Comes l r p t l₁ r₁ (nextStep l r p) × LessLeft p (t .pass) (anotherTurn (t .met)) (length l) (length r)
     unfolding Comes
     turn-pair e h a b = by-step e (h, a, b)
 
-    pub turn-over : st ≡ step.Over → t ≡ turned (p .a) (p .b) (p .walk) met.Over → l₁ ≡ l → r₁ ≡ r
-        → Comes l r p t l₁ r₁ (nextStep l r p) × Goes p (t .pass) (going (t .met)) (length l) (length r)
+    pub turn-over : st ≡ step.Over → t ≡ passTurned (p .a) (p .b) (p .walk) met.Over → l₁ ≡ l → r₁ ≡ r
+        → Comes l r p t l₁ r₁ (nextStep l r p) × LessLeft p (t .pass) (anotherTurn (t .met)) (length l) (length r)
     unfolding Comes
     turn-over e h a b = by-step e (h, a, b)
 
-    pub turn-first : st ≡ step.WantsFirst → {v : Window} {m : Met} → Fed l (p .a) v m l₁ → t ≡ turned v (p .b) (p .walk) m → r₁ ≡ r
-        → Comes l r p t l₁ r₁ (nextStep l r p) × Goes p (t .pass) (going (t .met)) (length l) (length r)
+    pub turn-first : st ≡ step.WantsFirst → {v : Window} {m : Met} → Fed l (p .a) v m l₁ → t ≡ passTurned v (p .b) (p .walk) m → r₁ ≡ r
+        → Comes l r p t l₁ r₁ (nextStep l r p) × LessLeft p (t .pass) (anotherTurn (t .met)) (length l) (length r)
     unfolding Comes
     turn-first e f h b = by-step e (rw h (f, refl, refl, b))
 
-    pub turn-second : st ≡ step.WantsSecond → {v : Window} {m : Met} → Fed r (p .b) v m r₁ → t ≡ turned (p .a) v (p .walk) m → l₁ ≡ l
-        → Comes l r p t l₁ r₁ (nextStep l r p) × Goes p (t .pass) (going (t .met)) (length l) (length r)
+    pub turn-second : st ≡ step.WantsSecond → {v : Window} {m : Met} → Fed r (p .b) v m r₁ → t ≡ passTurned (p .a) v (p .walk) m → l₁ ≡ l
+        → Comes l r p t l₁ r₁ (nextStep l r p) × LessLeft p (t .pass) (anotherTurn (t .met)) (length l) (length r)
     unfolding Comes
     turn-second e f h a = by-step e (rw h (f, refl, refl, a))
 
-pub begun-ready : (x y : ℕ) {p : Pass} → p ≡ begun → Ready x y p
+pub begun-ready : (x y : ℕ) {p : Pass} → p ≡ passBegun → BothSound x y p
 begun-ready x y e = rw e (record { first = none x; second = none y })
   where
-    none : (x : ℕ) → Sound x unread
+    none : (x : ℕ) → WindowSound x unread
     none x = record { within = omega arith; buffered = omega arith; placed = omega arith }
 
 -- what is left, in turns
-abbrev pub turnsLeft : Bool → Pass → ℕ
-turnsLeft more p = pick more (1 + left p) 0
+abbrev pub passTurnsLeft : Bool → Pass → ℕ
+passTurnsLeft more p = pick more (1 + leftInPass p) 0
 
-pub goes-less : {p q : Pass} (more : Bool) {x y : ℕ} → Goes p q more x y → {now : Bool} → now ≡ true → turnsLeft more q < turnsLeft now p
+pub goes-less : {p q : Pass} (more : Bool) {x y : ℕ} → LessLeft p q more x y → {now : Bool} → now ≡ true → passTurnsLeft more q < passTurnsLeft now p
 goes-less true g e = let l = g .less refl in rw e (omega arith)
 goes-less false g e = rw e (omega arith)
 
 -- what a function that took a turn leaves: the turn's pass, where there is another turn or none
-pub pass-on : {p q : Pass} {m : Met} {x y : ℕ} → Goes p q (going m) x y → {k : Met} → m ≡ k → going k ≡ true → {u : Pass} → u ≡ q → (more : Bool) → Goes p u more x y
-pass-on g f h e more = rw e (record { ready = g .ready; less = λ a. g .less (ap going f ∙ h) })
+pub pass-on : {p q : Pass} {m : Met} {x y : ℕ} → LessLeft p q (anotherTurn m) x y → {k : Met} → m ≡ k → anotherTurn k ≡ true → {u : Pass} → u ≡ q → (more : Bool) → LessLeft p u more x y
+pass-on g f h e more = rw e (record { ready = g .ready; less = λ a. g .less (ap anotherTurn f ∙ h) })
 
-pub pass-halt : (p : Pass) {q : Pass} {x y : ℕ} → Ready x y q → {u : Pass} → u ≡ q → {more : Bool} → more ≡ false → Goes p u more x y
+pub pass-halt : (p : Pass) {q : Pass} {x y : ℕ} → BothSound x y q → {u : Pass} → u ≡ q → {more : Bool} → more ≡ false → LessLeft p u more x y
 pass-halt p r e h = rw e (record { ready = r; less = λ a. clash a h })
 
-pub same-ready : {p q : Pass} {x y : ℕ} → p ≡ q → Ready x y q → Ready x y p
+pub same-ready : {p q : Pass} {x y : ℕ} → p ≡ q → BothSound x y q → BothSound x y p
 same-ready e r = rw e r
 
 -- ---- which turns put lines
@@ -141,20 +141,20 @@ put-on number s e m g p = clash p (sym e ∙ m)
 pub put-stuck : (number : ℕ) (s : Shown) → s .good ≡ false → PutWhere number s
 put-stuck number s e m g p = clash g e
 
-pub put-past : {number : ℕ} {p : Pass} → number < p .walk .number → (s : Shown) → s .pass ≡ p → PutWhere number s
-put-past h s e m g p = rw e h
+pub put-beyond : {number : ℕ} {p : Pass} → number < p .walk .number → (s : Shown) → s .pass ≡ p → PutWhere number s
+put-beyond h s e m g p = rw e h
 
 module _ (k r : Work) where
   -- by what the turn met
   abbrev pub ListsMet : Met → Type 0
   ListsMet (met.Pair true) = r .more ≡ true → k .pass .walk .number < r .shown .pass .walk .number
-  ListsMet (met.Pair false) = Quiet k r × (r .more ≡ true)
-  ListsMet (met.Row m n same) = Quiet k r × (r .more ≡ true)
-  ListsMet met.Read = Quiet k r
-  ListsMet met.Stuck = Quiet k r
+  ListsMet (met.Pair false) = NothingPut k r × (r .more ≡ true)
+  ListsMet (met.Row m n same) = NothingPut k r × (r .more ≡ true)
+  ListsMet met.Read = NothingPut k r
+  ListsMet met.Stuck = NothingPut k r
   ListsMet met.Over = r .more ≡ false
 
-  fed-quiet : (n : ℕ) (v : Window) (m : Met) → Grown n v m → ListsMet m → Quiet k r
+  fed-quiet : (n : ℕ) (v : Window) (m : Met) → WindowGrown n v m → ListsMet m → NothingPut k r
   fed-quiet n v met.Read g f = f
   fed-quiet n v met.Stuck g f = f
   fed-quiet n v (met.Row x y z) g f = absurd g
@@ -162,8 +162,8 @@ module _ (k r : Work) where
   fed-quiet n v met.Over g f = absurd g
 
   module _ (x y : List ℕ) (p : Pass) (t : Turned) (x₁ y₁ : List ℕ) where
-    lists-by : (st : Step) → Comes x y p t x₁ y₁ st → ListsMet (t .met) → Lists k r st
-    unfolding Comes Lists
+    lists-by : (st : Step) → Comes x y p t x₁ y₁ st → ListsMet (t .met) → ListsPair k r st
+    unfolding Comes ListsPair
     lists-by (step.Row m n same v) c f = let g : ListsMet (met.Row m n same) = rw (ap (λ z. z .met) (c .0)) at f in g
     lists-by (step.Pair true v) c f = let g : ListsMet (met.Pair true) = rw (ap (λ z. z .met) (c .0)) at f in g
     lists-by (step.Pair false v) c f = let g : ListsMet (met.Pair false) = rw (ap (λ z. z .met) (c .0)) at f in g
@@ -171,11 +171,11 @@ module _ (k r : Work) where
     lists-by step.WantsFirst c f = fed-quiet (p .a .have - p .a .at) (t .pass .a) (t .met) (c .0 .more) f
     lists-by step.WantsSecond c f = fed-quiet (p .b .have - p .b .at) (t .pass .b) (t .met) (c .0 .more) f
 
-    pub lists-met : Comes x y p t x₁ y₁ (nextStep x y p) → {m : Met} → t .met ≡ m → ListsMet m → Lists k r (nextStep x y p)
+    pub lists-met : Comes x y p t x₁ y₁ (nextStep x y p) → {m : Met} → t .met ≡ m → ListsMet m → ListsPair k r (nextStep x y p)
     lists-met c e f = lists-by (nextStep x y p) c (rw e f)
 
-    pub lists-pair : Comes x y p t x₁ y₁ (nextStep x y p) → {d : Bool} → t .met ≡ met.Pair d → d ≡ true → (r .more ≡ true → k .pass .walk .number < r .shown .pass .walk .number) → Lists k r (nextStep x y p)
+    pub lists-pair : Comes x y p t x₁ y₁ (nextStep x y p) → {d : Bool} → t .met ≡ met.Pair d → d ≡ true → (r .more ≡ true → k .pass .walk .number < r .shown .pass .walk .number) → ListsPair k r (nextStep x y p)
     lists-pair c e d f = lists-met c (e ∙ ap met.Pair d) f
 
-    pub lists-same : Comes x y p t x₁ y₁ (nextStep x y p) → {d : Bool} → t .met ≡ met.Pair d → d ≡ false → Quiet k r → r .more ≡ true → Lists k r (nextStep x y p)
+    pub lists-same : Comes x y p t x₁ y₁ (nextStep x y p) → {d : Bool} → t .met ≡ met.Pair d → d ≡ false → NothingPut k r → r .more ≡ true → ListsPair k r (nextStep x y p)
     lists-same c e d f m = lists-met c (e ∙ ap met.Pair d) (f, m)

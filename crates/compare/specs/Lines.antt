@@ -16,14 +16,14 @@ abbrev pub PutWhere : ℕ → Shown → Type 0
 PutWhere number s = s .more ≡ false → PutTo number s
 
 -- nothing is put
-abbrev pub Quiet : Work → Work → Type 0
-Quiet k r = r .shown ≡ k .shown
+abbrev pub NothingPut : Work → Work → Type 0
+NothingPut k r = r .shown ≡ k .shown
 
 -- from k to r by a step: the pair that ends is put where it differs
-unfoldable pub Lists : Work → Work → Step → Type 0
-Lists k r (step.Pair true v) = r .more ≡ true → k .pass .walk .number < r .shown .pass .walk .number
-Lists k r (step.Pair false v) = Quiet k r × (r .more ≡ true)
-Lists k r (step.Row m n same v) = Quiet k r × (r .more ≡ true)
-Lists k r step.WantsFirst = Quiet k r
-Lists k r step.WantsSecond = Quiet k r
-Lists k r step.Over = r .more ≡ false
+unfoldable pub ListsPair : Work → Work → Step → Type 0
+ListsPair k r (step.Pair true v) = r .more ≡ true → k .pass .walk .number < r .shown .pass .walk .number
+ListsPair k r (step.Pair false v) = NothingPut k r × (r .more ≡ true)
+ListsPair k r (step.Row m n same v) = NothingPut k r × (r .more ≡ true)
+ListsPair k r step.WantsFirst = NothingPut k r
+ListsPair k r step.WantsSecond = NothingPut k r
+ListsPair k r step.Over = r .more ≡ false

@@ -28,18 +28,18 @@ abbrev pub movedBy : Window → ℕ → Window
 movedBy w n = window (w .base) ((w .at + n) % 2 ^ 64) (w .have) (w .ended)
 
 -- the bytes that wait stand in a buffer of a size, and their places in the log have numbers
-pub record Sound (size : ℕ) (w : Window) : Type 0 where
+pub record WindowSound (size : ℕ) (w : Window) : Type 0 where
   pub within : w .at ≤ w .have
   pub buffered : w .have ≤ size
   pub placed : w .base + w .have < 2 ^ 64
 
 -- what reading comes to: more bytes wait; or no more come; or it failed
-abbrev pub Grown : ℕ → Window → Met → Type 0
-Grown n w met.Read = ((n < w .have) × (w .ended ≡ false)) ⊎ ((w .have ≡ n) × (w .ended ≡ true))
-Grown n w met.Stuck = Unit {0}
-Grown n w (met.Row first second same) = ⊥
-Grown n w (met.Pair differs) = ⊥
-Grown n w met.Over = ⊥
+abbrev pub WindowGrown : ℕ → Window → Met → Type 0
+WindowGrown n w met.Read = ((n < w .have) × (w .ended ≡ false)) ⊎ ((w .have ≡ n) × (w .ended ≡ true))
+WindowGrown n w met.Stuck = Unit {0}
+WindowGrown n w (met.Row first second same) = ⊥
+WindowGrown n w (met.Pair differs) = ⊥
+WindowGrown n w met.Over = ⊥
 
 abbrev pub topped : ℕ → ℕ → Bool → Met → Topped
 topped base have ended m = record { window = window base 0 have ended; met = m }
@@ -53,8 +53,8 @@ pub record Fed (l : List ℕ) (w : Window) (v : Window) (m : Met) (l₁ : List �
   pub kept : take (w .have - w .at) l₁ ≡ waitingIn l w
   pub front : v .at ≡ 0
   pub place : v .base ≡ w .base + w .at
-  pub more : Grown (w .have - w .at) v m
-  pub sound : Sound (length l) v
+  pub more : WindowGrown (w .have - w .at) v m
+  pub sound : WindowSound (length l) v
 
 -- what is left: of the places, of the bytes that wait, the log's end
 abbrev pub leftOf : Window → ℕ

@@ -1,7 +1,7 @@
 // The check of a log of any length, part by part.
 ghost use mathlib.Core.Path.{_≡_};
 ghost use mathlib.Core.Bool.{false};
-ghost use Rattle.compare.specs.Checking.{started, overOf, cameOf, ReadOn, Checked, verdictOf};
+ghost use Rattle.compare.specs.Checking.{started, overOf, cameOf, ReadOn, Checked, checkVerdict};
 use comparing::Checking;
 use comparing::Fault;
 use input::Ended;
@@ -99,7 +99,7 @@ pub fn check_log(log: usize, fd: i32, buf: &mut [u8]) -> Check
 
 // What the check of a whole log came to.
 pub fn judge(c: Check) -> Verdict
-    ensures { λ r. ⌜ r ≡ verdictOf c ⌝ }
+    ensures { λ r. ⌜ r ≡ checkVerdict c ⌝ }
 {
     if c.failed {
         return Verdict::Failed;

@@ -1,8 +1,8 @@
 // All pairs that differ: turns over both logs, and for each pair that ends as one that differs its lines.
 ghost use mathlib.Core.Path.{_≡_};
 ghost use lib.ListN.{length};
-ghost use Rattle.compare.specs.Turns.{no, yes, nextStep, Ready, Goes};
-ghost use Rattle.compare.specs.Lines.{PutTo, Lists};
+ghost use Rattle.compare.specs.Turns.{no, yes, nextStep, BothSound, LessLeft};
+ghost use Rattle.compare.specs.Lines.{PutTo, ListsPair};
 ghost use Prim.Native.Nat.{_<_};
 use crate::page;
 use crate::page::Page;
@@ -67,8 +67,8 @@ fn headed(w: Walk, p: Page) -> Page {
 
 // The lines of the pair that a walk ended.
 fn list_pair(l: Logs, c: &mut [u8], d: &mut [u8], out: &mut [u8], w: Walk, s: Shown) -> Shown
-    requires { ⌜ Ready (length (now c)) (length (now d)) (s .pass) ⌝ }
-    ensures { λ r. ⌜ Ready (length (now (c .entry))) (length (now (d .entry))) (r .pass) ⌝ }
+    requires { ⌜ BothSound (length (now c)) (length (now d)) (s .pass) ⌝ }
+    ensures { λ r. ⌜ BothSound (length (now (c .entry))) (length (now (d .entry))) (r .pass) ⌝ }
     ensures { λ r. ⌜ PutTo (w .number) r ⌝ }
 {
     let p = says::put_pair(w, out, headed(w, s.page));
@@ -87,8 +87,8 @@ fn as_checked(l: Logs, w: Walk) -> bool {
 
 // The lines of a pair that differs.
 fn pair_met(l: Logs, c: &mut [u8], d: &mut [u8], out: &mut [u8], pass: Pass, k: Work) -> Work
-    requires { ⌜ Ready (length (now c)) (length (now d)) (k .shown .pass) ⌝ }
-    ensures { λ r. ⌜ (r .pass ≡ pass) × Ready (length (now (c .entry))) (length (now (d .entry))) (r .shown .pass) ⌝ }
+    requires { ⌜ BothSound (length (now c)) (length (now d)) (k .shown .pass) ⌝ }
+    ensures { λ r. ⌜ (r .pass ≡ pass) × BothSound (length (now (c .entry))) (length (now (d .entry))) (r .shown .pass) ⌝ }
     ensures { λ r. ⌜ (r .more ≡ yes → k .pass .walk .number < r .shown .pass .walk .number) ⌝ }
 {
     let before = k.pass;
@@ -126,10 +126,10 @@ fn list_turn(
     out: &mut [u8],
     k: Work,
 ) -> Work
-    requires { ⌜ Ready (length (now a)) (length (now b)) (k .pass) × Ready (length (now c)) (length (now d)) (k .shown .pass) ⌝ }
-    ensures { λ r. ⌜ Goes (k .pass) (r .pass) (r .more) (length (now (a .entry))) (length (now (b .entry))) ⌝ }
-    ensures { λ r. ⌜ Ready (length (now (c .entry))) (length (now (d .entry))) (r .shown .pass) ⌝ }
-    ensures { λ r. ⌜ Lists k r (nextStep (now (a .entry)) (now (b .entry)) (k .pass)) ⌝ }
+    requires { ⌜ BothSound (length (now a)) (length (now b)) (k .pass) × BothSound (length (now c)) (length (now d)) (k .shown .pass) ⌝ }
+    ensures { λ r. ⌜ LessLeft (k .pass) (r .pass) (r .more) (length (now (a .entry))) (length (now (b .entry))) ⌝ }
+    ensures { λ r. ⌜ BothSound (length (now (c .entry))) (length (now (d .entry))) (r .shown .pass) ⌝ }
+    ensures { λ r. ⌜ ListsPair k r (nextStep (now (a .entry)) (now (b .entry)) (k .pass)) ⌝ }
 {
     let p = k.pass;
     let t = turns::turn(l.a, l.b, a, b, p);

@@ -3,7 +3,7 @@ ghost use mathlib.Core.Path.{_≡_};
 ghost use mathlib.Core.Bool.{true, false};
 ghost use lib.ListN.{length};
 ghost use Rattle.compare.specs.declared.reading.Met.the-variants as met;
-ghost use Rattle.compare.specs.Windows.{unread, waitingIn, movedBy, topped, cameTo, Sound, Fed};
+ghost use Rattle.compare.specs.Windows.{unread, waitingIn, movedBy, topped, cameTo, WindowSound, Fed};
 use crate::says;
 use input::Ended;
 use input::Filled;
@@ -123,7 +123,7 @@ fn came(base: usize, have: usize, n: usize) -> Topped
 
 // The bytes that wait go to the front of the buffer, and more is read behind them.
 pub fn top_up(log: usize, fd: i32, buf: &mut [u8], w: Window) -> Topped
-    requires { ⌜ Sound (length (now buf)) w ⌝ }
+    requires { ⌜ WindowSound (length (now buf)) w ⌝ }
     ensures { λ r. ⌜ Fed (now (buf .entry)) w (r .window) (r .met) (now (buf .exit)) ⌝ }
 {
     let base = w.base + w.at;

@@ -1,7 +1,7 @@
 // A pair that differs, record by record: a second reading of both logs, which follows the first one up to that pair.
 ghost use mathlib.Core.Path.{_≡_};
 ghost use lib.ListN.{length};
-ghost use Rattle.compare.specs.Turns.{begun, no, Ready, Goes};
+ghost use Rattle.compare.specs.Turns.{passBegun, no, BothSound, LessLeft};
 ghost use Rattle.compare.specs.Lines.{PutTo, PutWhere};
 use crate::page;
 use crate::page::Page;
@@ -23,7 +23,7 @@ pub struct Shown {
 
 // Nothing is shown yet.
 pub fn fresh() -> Shown
-    ensures { λ r. ⌜ r .pass ≡ begun ⌝ }
+    ensures { λ r. ⌜ r .pass ≡ passBegun ⌝ }
 {
     Shown {
         pass: turns::fresh(),
@@ -208,8 +208,8 @@ fn show_turn(
     number: usize,
     s: Shown,
 ) -> Shown
-    requires { ⌜ Ready (length (now c)) (length (now d)) (s .pass) ⌝ }
-    ensures { λ r. ⌜ Goes (s .pass) (r .pass) (r .more) (length (now (c .entry))) (length (now (d .entry))) ⌝ }
+    requires { ⌜ BothSound (length (now c)) (length (now d)) (s .pass) ⌝ }
+    ensures { λ r. ⌜ LessLeft (s .pass) (r .pass) (r .more) (length (now (c .entry))) (length (now (d .entry))) ⌝ }
     ensures { λ r. ⌜ PutWhere number r ⌝ }
 {
     let p = s.pass;
@@ -243,8 +243,8 @@ pub fn show(
     pass: Pass,
     page: Page,
 ) -> Shown
-    requires { ⌜ Ready (length (now c)) (length (now d)) pass ⌝ }
-    ensures { λ r. ⌜ Ready (length (now (c .entry))) (length (now (d .entry))) (r .pass) ⌝ }
+    requires { ⌜ BothSound (length (now c)) (length (now d)) pass ⌝ }
+    ensures { λ r. ⌜ BothSound (length (now (c .entry))) (length (now (d .entry))) (r .pass) ⌝ }
     ensures { λ r. ⌜ PutTo number r ⌝ }
 {
     let mut s = Shown {

@@ -1,7 +1,7 @@
 // One turn over two logs: a step of `comparing` on the bytes that wait, or more bytes for the log that has to show more.
 ghost use mathlib.Core.Path.{_≡_};
 ghost use lib.ListN.{length};
-ghost use Rattle.compare.specs.Turns.{begun, turned, nextStep, Comes, going, Ready, Goes};
+ghost use Rattle.compare.specs.Turns.{passBegun, passTurned, nextStep, Comes, anotherTurn, BothSound, LessLeft};
 use crate::reading;
 use crate::reading::Met;
 use crate::reading::Window;
@@ -22,7 +22,7 @@ pub struct Turned {
 
 // A pass over two logs of which nothing has been read.
 pub fn fresh() -> Pass
-    ensures { λ r. ⌜ r ≡ begun ⌝ }
+    ensures { λ r. ⌜ r ≡ passBegun ⌝ }
 {
     Pass {
         a: reading::fresh(),
@@ -33,7 +33,7 @@ pub fn fresh() -> Pass
 
 // What a turn came to, with its windows and its walk.
 fn came_to(a: Window, b: Window, walk: Walk, m: Met) -> Turned
-    ensures { λ r. ⌜ r ≡ turned a b walk m ⌝ }
+    ensures { λ r. ⌜ r ≡ passTurned a b walk m ⌝ }
 {
     Turned {
         pass: Pass { a, b, walk },
@@ -43,9 +43,9 @@ fn came_to(a: Window, b: Window, walk: Walk, m: Met) -> Turned
 
 // One step of the walk over both logs, or a part more of the one that it wants.
 pub fn turn(first: i32, second: i32, a: &mut [u8], b: &mut [u8], p: Pass) -> Turned
-    requires { ⌜ Ready (length (now a)) (length (now b)) p ⌝ }
+    requires { ⌜ BothSound (length (now a)) (length (now b)) p ⌝ }
     ensures { λ r. ⌜ Comes (now (a .entry)) (now (b .entry)) p r (now (a .exit)) (now (b .exit)) (nextStep (now (a .entry)) (now (b .entry)) p) ⌝ }
-    ensures { λ r. ⌜ Goes p (r .pass) (going (r .met)) (length (now (a .entry))) (length (now (b .entry))) ⌝ }
+    ensures { λ r. ⌜ LessLeft p (r .pass) (anotherTurn (r .met)) (length (now (a .entry))) (length (now (b .entry))) ⌝ }
 {
     let v = p.a;
     let w = p.b;

@@ -28,9 +28,9 @@ module _ (c : Checking) (s : List ℕ) where
   abbrev pub PassedTo : Checking → ℕ → Type 0
   PassedTo d i = (i ≤ length s) × (passedBytes c s ≡ passedBytes d (drop i s))
 
-  pub passed-more : (d : Checking) (i : ℕ) → i < length s → {e : Checking} → e ≡ passedByte d (getD s i 0) → PassedTo d i → PassedTo e (i + 1)
+  pub check-passed-more : (d : Checking) (i : ℕ) → i < length s → {e : Checking} → e ≡ passedByte d (getD s i 0) → PassedTo d i → PassedTo e (i + 1)
   unfolding passedBytes
-  passed-more d i h p w = (omega arith, w .1 ∙ rw (drop-cons s i 0 h, p, add-one i))
+  check-passed-more d i h p w = (omega arith, w .1 ∙ rw (drop-cons s i 0 h, p, add-one i))
 
   pub passed-all : (d : Checking) (i : ℕ) → length s ≤ i → PassedTo d i → d ≡ passedBytes c s
   unfolding passedBytes

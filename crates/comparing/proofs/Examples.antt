@@ -5,7 +5,7 @@ use Prim.Native.Nat.{ℕ}
 use Rattle.model.specs.RecordsOf as records
 use Rattle.comparing.specs.declared.Compared.the-variants as answer
 use Rattle.comparing.specs.Kinds.{startsGroup, isEvent}
-use Rattle.comparing.specs.Groups.{recordEnd, past, endFrom, groupEnd, groupsFrom, groups, sideOf}
+use Rattle.comparing.specs.Groups.{recordEnd, recordPast, endFrom, groupEnd, groupsFrom, groups, groupSide}
 use Rattle.comparing.specs.Checks.{wrongAt, scannedFrom, scanned, checked}
 use Rattle.comparing.specs.Pairs.{sameBytes, samePair, firstOf, firstDifference, compared}
 
@@ -21,7 +21,7 @@ released n = 0x14 ∷ n ∷ 0 ∷ 0 ∷ 0 ∷ []
 
 -- released records belong to the group before them
 three-groups : groups (refused 5 ++ (tick ++ (released 7 ++ (released 8 ++ tick)))) ≡ record { place = 0; size = 2 } ∷ record { place = 2; size = 11 } ∷ record { place = 13; size = 1 } ∷ []
-unfolding groups groupsFrom groupEnd endFrom past recordEnd startsGroup records.lengthOf tick refused released
+unfolding groups groupsFrom groupEnd endFrom recordPast recordEnd startsGroup records.lengthOf tick refused released
 three-groups = refl
 
 no-groups : groups [] ≡ []
@@ -30,15 +30,15 @@ no-groups = refl
 
 -- the pair of number 1 differs; asked from 2, the one of number 2, whose second side has run out; asked from 3, none
 first-asked : compared (tick ++ (refused 5 ++ tick)) (tick ++ refused 6) 0 ≡ answer.Differs 1 1 2 1 2
-unfolding compared checked scanned scannedFrom wrongAt firstDifference firstOf samePair sameBytes sideOf groups groupsFrom groupEnd endFrom past recordEnd startsGroup isEvent records.lengthOf tick refused
+unfolding compared checked scanned scannedFrom wrongAt firstDifference firstOf samePair sameBytes groupSide groups groupsFrom groupEnd endFrom recordPast recordEnd startsGroup isEvent records.lengthOf tick refused
 first-asked = refl
 
 then-asked : compared (tick ++ (refused 5 ++ tick)) (tick ++ refused 6) 2 ≡ answer.Differs 2 3 1 3 0
-unfolding compared checked scanned scannedFrom wrongAt firstDifference firstOf samePair sameBytes sideOf groups groupsFrom groupEnd endFrom past recordEnd startsGroup isEvent records.lengthOf tick refused
+unfolding compared checked scanned scannedFrom wrongAt firstDifference firstOf samePair sameBytes groupSide groups groupsFrom groupEnd endFrom recordPast recordEnd startsGroup isEvent records.lengthOf tick refused
 then-asked = refl
 
 asked-past : compared (tick ++ (refused 5 ++ tick)) (tick ++ refused 6) 3 ≡ answer.Same
-unfolding compared checked scanned scannedFrom wrongAt firstDifference firstOf samePair sameBytes sideOf groups groupsFrom groupEnd endFrom past recordEnd startsGroup isEvent records.lengthOf tick refused
+unfolding compared checked scanned scannedFrom wrongAt firstDifference firstOf samePair sameBytes groupSide groups groupsFrom groupEnd endFrom recordPast recordEnd startsGroup isEvent records.lengthOf tick refused
 asked-past = refl
 
 both-empty : compared [] [] 0 ≡ answer.Same
@@ -47,22 +47,22 @@ both-empty = refl
 
 -- a command's kind, 3 or 1 cut short, is 14 at its place; an event cut short is 15; the first log before the second
 command-kind : compared (tick ++ (3 ∷ [])) (9 ∷ []) 0 ≡ answer.Refused 1 14 1
-unfolding compared checked scanned scannedFrom wrongAt past recordEnd startsGroup isEvent records.lengthOf tick
+unfolding compared checked scanned scannedFrom wrongAt recordPast recordEnd startsGroup isEvent records.lengthOf tick
 command-kind = refl
 
 command-cut : compared tick (tick ++ (1 ∷ 0 ∷ [])) 0 ≡ answer.Refused 2 14 1
-unfolding compared checked scanned scannedFrom wrongAt past recordEnd startsGroup isEvent records.lengthOf tick
+unfolding compared checked scanned scannedFrom wrongAt recordPast recordEnd startsGroup isEvent records.lengthOf tick
 command-cut = refl
 
 event-cut : compared tick (tick ++ (0x14 ∷ 7 ∷ [])) 0 ≡ answer.Refused 2 15 1
-unfolding compared checked scanned scannedFrom wrongAt past recordEnd startsGroup isEvent records.lengthOf tick
+unfolding compared checked scanned scannedFrom wrongAt recordPast recordEnd startsGroup isEvent records.lengthOf tick
 event-cut = refl
 
 -- 17 only after the last record, and still before the second log
 begins-inside : compared (released 7 ++ tick) (9 ∷ []) 0 ≡ answer.Refused 1 17 0
-unfolding compared checked scanned scannedFrom wrongAt past recordEnd startsGroup isEvent records.lengthOf tick released
+unfolding compared checked scanned scannedFrom wrongAt recordPast recordEnd startsGroup isEvent records.lengthOf tick released
 begins-inside = refl
 
 damage-first : compared (released 7 ++ (9 ∷ [])) [] 0 ≡ answer.Refused 1 14 5
-unfolding compared checked scanned scannedFrom wrongAt past recordEnd startsGroup isEvent records.lengthOf released
+unfolding compared checked scanned scannedFrom wrongAt recordPast recordEnd startsGroup isEvent records.lengthOf released
 damage-first = refl

@@ -17,9 +17,9 @@ use Rattle.comparing.specs.declared.Fault.{Fault}
 use Rattle.comparing.specs.declared.Fault.the-variants as fault
 use Rattle.comparing.specs.declared.Checking.{Checking}
 use Rattle.comparing.specs.Kinds.{startsGroup, isEvent}
-use Rattle.comparing.specs.Groups.{recordEnd, past}
+use Rattle.comparing.specs.Groups.{recordEnd, recordPast}
 use Rattle.comparing.specs.Checks.{wrongAt, scannedFrom, scanned, inside, orThen, checked}
-use Rattle.comparing.specs.Coming.{beginning, begunInside, stuck, passedByte, passedBytes, told}
+use Rattle.comparing.specs.Coming.{checkBeginning, begunInside, stuck, passedByte, passedBytes, faultTold}
 use Rattle.comparing.proofs.Coming.{byte-wrong, byte-stuck}
 use Rattle.comparing.proofs.Shifts.{past-shift, shift-test}
 
@@ -60,7 +60,7 @@ module _ (r s : List ℕ) where
   unfolding scannedFrom
   scan-shift zero x = refl
   scan-shift (suc n) x =
-      rw (shift-test r s x, wrong-shift x, past-shift r s x, scan-shift n (past s x))
+      rw (shift-test r s x, wrong-shift x, past-shift r s x, scan-shift n (recordPast s x))
       (⊎-elim (λ t. rw t (⊎-elim (λ u. rw u) (λ u. rw u) (flag (eqb (wrongAt s x) 0)))) (λ t. rw t) (flag (ltb x (length s))))
 
 -- ---- the body of a record, passed byte by byte
@@ -84,11 +84,11 @@ skip-body (suc m) (x ∷ s) p q i h k =
     let e : p + suc m ≡ p + 1 + m = omega arith in
     ap (λ c. passedBytes c s) (one-within p q m x i (omega arith)) ∙ rw e (skip-body m s (p + 1) q i (omega arith) (omega arith))
 
-cut-body : (m : ℕ) (s : List ℕ) (p q : ℕ) (i : Bool) → length s < m → p + length s < 2 ^ 64 → told (passedBytes (so-far p q m i) s) ≡ fault.At 15 q
-unfolding passedBytes told
+cut-body : (m : ℕ) (s : List ℕ) (p q : ℕ) (i : Bool) → length s < m → p + length s < 2 ^ 64 → faultTold (passedBytes (so-far p q m i) s) ≡ fault.At 15 q
+unfolding passedBytes faultTold
 cut-body zero s p q i h k = absurd (omega arith)
 cut-body (suc m) [] p q i h k = rw (ne-eqb (suc m) 0 (λ z. omega arith))
-cut-body (suc m) (x ∷ s) p q i h k = ap (λ c. told (passedBytes c s)) (one-within p q m x i (omega arith)) ∙ cut-body m s (p + 1) q i (omega arith) (omega arith)
+cut-body (suc m) (x ∷ s) p q i h k = ap (λ c. faultTold (passedBytes c s)) (one-within p q m x i (omega arith)) ∙ cut-body m s (p + 1) q i (omega arith) (omega arith)
 
 -- ---- record by record
 
@@ -115,12 +115,12 @@ module _ (n : ℕ) (k : ℕ) (s : List ℕ) (p q : ℕ) (i : Bool) (room : p + s
   j = begunInside p i k
 
   Told : Type 0
-  Told = told (passedBytes (so-far p q 0 i) (k ∷ s)) ≡ orThen (shifted p (scannedFrom (suc n) (k ∷ s) 0)) (ends p i (k ∷ s))
+  Told = faultTold (passedBytes (so-far p q 0 i) (k ∷ s)) ≡ orThen (shifted p (scannedFrom (suc n) (k ∷ s) 0)) (ends p i (k ∷ s))
 
-  told-bad : isEvent k ≡ false → told (passedBytes (so-far p q 0 i) (k ∷ s)) ≡ fault.At 14 p
-  unfolding passedBytes told
+  told-bad : isEvent k ≡ false → faultTold (passedBytes (so-far p q 0 i) (k ∷ s)) ≡ fault.At 14 p
+  unfolding passedBytes faultTold
   told-bad e =
-      ap (λ c. told (passedBytes c s)) (sym (byte-stuck (so-far p q 0 i) k refl refl e)) ∙ ap told (stays-wrong s (stuck (so-far p q 0 i)) refl)
+      ap (λ c. faultTold (passedBytes c s)) (sym (byte-stuck (so-far p q 0 i) k refl refl e)) ∙ ap faultTold (stays-wrong s (stuck (so-far p q 0 i)) refl)
 
   bad-kind : isEvent k ≡ false → Told
   unfolding Told scannedFrom wrongAt
@@ -136,8 +136,8 @@ module _ (n : ℕ) (k : ℕ) (s : List ℕ) (p q : ℕ) (i : Bool) (room : p + s
       let z : p + 0 ≡ p = omega arith in
       rw (begins e, e, lt-ltb 0 (suc (length s)) (omega arith), lt-leb (0 + 1 + lengthOf k) (suc (length s)) (omega arith), z) (cut-body (lengthOf k) s (p + 1) p j h (omega arith))
 
-  tail : m ≤ length s → scannedFrom n (k ∷ s) (past (k ∷ s) 0) ≡ shifted (1 + m) (scannedFrom n (drop m s) 0)
-  unfolding past recordEnd m
+  tail : m ≤ length s → scannedFrom n (k ∷ s) (recordPast (k ∷ s) 0) ≡ shifted (1 + m) (scannedFrom n (drop m s) 0)
+  unfolding recordPast recordEnd m
   tail h =
       let l = length-take m s in
       let e : (k ∷ take m s) ++ drop m s ≡ k ∷ s = ap (λ x. k ∷ x) (take-append-drop m s) in
@@ -154,23 +154,23 @@ module _ (n : ℕ) (k : ℕ) (s : List ℕ) (p q : ℕ) (i : Bool) (room : p + s
   last = ends-later (p + 1 + m) j (drop m s) (omega arith)
 
   goes-on : isEvent k ≡ true → m ≤ length s
-      → told (passedBytes (so-far (p + 1 + m) p 0 j) (drop m s)) ≡ orThen (shifted (p + 1 + m) (scannedFrom n (drop m s) 0)) (ends (p + 1 + m) j (drop m s)) → Told
+      → faultTold (passedBytes (so-far (p + 1 + m) p 0 j) (drop m s)) ≡ orThen (shifted (p + 1 + m) (scannedFrom n (drop m s) 0)) (ends (p + 1 + m) j (drop m s)) → Told
   unfolding Told passedBytes scannedFrom
   goes-on e h ih =
       let z : p + (1 + m) ≡ p + 1 + m = omega arith in
       rw (begins e, lt-ltb 0 (suc (length s)) (omega arith), skip-body m s (p + 1) p j h (omega arith), fine e h, tail h, shifted-twice p (1 + m) (scannedFrom n (drop m s) 0), z, ← last) ih
 
 scan-coming : (n : ℕ) (s : List ℕ) (p q : ℕ) (i : Bool) → length s ≤ n → p + length s < 2 ^ 64
-    → told (passedBytes (so-far p q 0 i) s) ≡ orThen (shifted p (scannedFrom n s 0)) (ends p i s)
-unfolding passedBytes told scannedFrom ends Told m j
+    → faultTold (passedBytes (so-far p q 0 i) s) ≡ orThen (shifted p (scannedFrom n s 0)) (ends p i s)
+unfolding passedBytes faultTold scannedFrom ends Told m j
 scan-coming zero [] p q i h room = refl
 scan-coming (suc n) [] p q i h room = refl
 scan-coming zero (k ∷ s) p q i h room = absurd (omega arith)
 scan-coming (suc n) (k ∷ s) p q i h room = go (isEvent k) refl (leb (lengthOf k) (length s)) refl (λ t a b c d. scan-coming n t a b c d)
   where
     go : (e : Bool) → isEvent k ≡ e → (l : Bool) → leb (lengthOf k) (length s) ≡ l
-        → ((t : List ℕ) (a b : ℕ) (c : Bool) → length t ≤ n → a + length t < 2 ^ 64 → told (passedBytes (so-far a b 0 c) t) ≡ orThen (shifted a (scannedFrom n t 0)) (ends a c t))
-        → told (passedBytes (so-far p q 0 i) (k ∷ s)) ≡ orThen (shifted p (scannedFrom (suc n) (k ∷ s) 0)) (ends p i (k ∷ s))
+        → ((t : List ℕ) (a b : ℕ) (c : Bool) → length t ≤ n → a + length t < 2 ^ 64 → faultTold (passedBytes (so-far a b 0 c) t) ≡ orThen (shifted a (scannedFrom n t 0)) (ends a c t))
+        → faultTold (passedBytes (so-far p q 0 i) (k ∷ s)) ≡ orThen (shifted p (scannedFrom (suc n) (k ∷ s) 0)) (ends p i (k ∷ s))
     go false e l f ih = bad-kind n k s p q i (omega arith) e
     go true e false f ih = cut-short n k s p q i (omega arith) e (leb-false (lengthOf k) (length s) f)
     go true e true f ih =
@@ -186,6 +186,6 @@ ends-first [] = refl
 ends-first (k ∷ s) = ⊎-elim (λ t. rw t) (λ t. rw t) (flag (startsGroup k))
 
 -- with passed-append: the parts of a log, passed in order, come to what is told of the log
-pub checked-coming : (s : List ℕ) → length s < 2 ^ 64 → told (passedBytes beginning s) ≡ checked s
+pub checked-coming : (s : List ℕ) → length s < 2 ^ 64 → faultTold (passedBytes checkBeginning s) ≡ checked s
 unfolding checked scanned
 checked-coming s h = scan-coming (length s) s 0 0 false (omega arith) (omega arith) ∙ rw (shifted-none (scannedFrom (length s) s 0), ends-first s)

@@ -9,8 +9,8 @@ use lib.Seq.{take-nil, take-all}
 use Rattle.words.proofs.Below.{lt-or-ge}
 
 module _ (s : List ℕ) (from to : ℕ) where
-  pub part-none : min to (length s) < from → [] ≡ take (to - from) (drop from s)
-  part-none h =
+  pub part-empty : min to (length s) < from → [] ≡ take (to - from) (drop from s)
+  part-empty h =
       ⊎-elim
       (λ l. let z : to - from ≡ 0 = omega arith in rw z)
       (λ l. let k : length s ≤ from = omega arith in rw (drop-of-length-le s {i = from} k, take-nil {A = ℕ} (to - from)))

@@ -15,9 +15,9 @@ use Rattle.comparing.specs.declared.Ahead.the-variants as ahead-of
 use Rattle.comparing.specs.declared.Step.{Step}
 use Rattle.comparing.specs.declared.Step.the-variants as step
 use Rattle.comparing.specs.Pairs.{sameBytes}
-use Rattle.comparing.specs.Steps.{ahead, onward, nextPair, untouched, pairOver, row, shown, begunSide, stepped, Front}
-use Rattle.comparing.proofs.Rests.{Shown}
-use Rattle.comparing.proofs.Rests.{shown as front-shows}
+use Rattle.comparing.specs.Steps.{ahead, onward, nextPair, untouched, pairOver, recordRow, stepShown, begunSide, stepped, Front}
+use Rattle.comparing.proofs.Rests.{AheadShown}
+use Rattle.comparing.proofs.Rests.{ahead-shown}
 
 alone : (a : List ℕ) (whole : Bool) → Front a a whole
 alone a whole = record { behind = []; joins = sym (append-nil a); all = λ e. refl }
@@ -46,10 +46,10 @@ module _ (w : Walk) (a : List ℕ) (whole : Bool) (b : List ℕ) (ends : Bool) w
   by-row m n k l false q = (k, l, some m n q)
 
   pub moves : Moves (stepped w a whole b ends)
-  unfolding stepped row
-  moves = go (ahead (begunSide (w .first)) a whole) (front-shows (begunSide (w .first)) (alone a whole)) (ahead (begunSide (w .second)) b ends) (front-shows (begunSide (w .second)) (alone b ends))
+  unfolding stepped recordRow
+  moves = go (ahead (begunSide (w .first)) a whole) (ahead-shown (begunSide (w .first)) (alone a whole)) (ahead (begunSide (w .second)) b ends) (ahead-shown (begunSide (w .second)) (alone b ends))
     where
-      go : (x : Ahead) → Shown (begunSide (w .first)) (alone a whole) x → (y : Ahead) → Shown (begunSide (w .second)) (alone b ends) y → Moves (shown w a b x y)
+      go : (x : Ahead) → AheadShown (begunSide (w .first)) (alone a whole) x → (y : Ahead) → AheadShown (begunSide (w .second)) (alone b ends) y → Moves (stepShown w a b x y)
       go ahead-of.Wants p y q = p .0
       go (ahead-of.Shows m) p ahead-of.Wants q = q .0
       go (ahead-of.Shows m) p (ahead-of.Shows n) q = by-row m n (p .1) (q .1) (eqb m 0 && eqb n 0) refl

@@ -16,7 +16,7 @@ use Rattle.words.proofs.Flags.{flag, no-yes, clash, and-1}
 use Rattle.comparing.specs.declared.Ahead.{Ahead}
 use Rattle.comparing.specs.declared.Ahead.the-variants as ahead-of
 use Rattle.comparing.specs.Kinds.{startsGroup}
-use Rattle.comparing.specs.Groups.{recordEnd, past, endFrom, groupEnd}
+use Rattle.comparing.specs.Groups.{recordEnd, recordPast, endFrom, groupEnd}
 use Rattle.comparing.specs.Pairs.{sameBytes}
 use Rattle.comparing.specs.Steps.{recordOf, ahead, Front}
 use Rattle.comparing.proofs.Walks.{past-more, end-steps, end-bounds, group-none}
@@ -41,56 +41,56 @@ module _ (s : List ℕ) (m : ℕ) (h : m ≤ length s) where
 
 -- ---- the rest of a group that has begun, or all of the next one
 
-unfoldable pub rest : Bool → List ℕ → ℕ
-rest true s = endFrom (length s) s 0
-rest false s = groupEnd s 0
+unfoldable pub groupRest : Bool → List ℕ → ℕ
+groupRest true s = endFrom (length s) s 0
+groupRest false s = groupEnd s 0
 
 -- whether the group has begun behind a record of m bytes
-abbrev pub after : Bool → ℕ → Bool
-after begun m = pick (eqb m 0) begun true
+abbrev pub begunAfter : Bool → ℕ → Bool
+begunAfter begun m = pick (eqb m 0) begun true
 
 -- the next record has m bytes; 0 where the group is over
 pub record Coming (begun : Bool) (s : List ℕ) (m : ℕ) : Type 0 where
   pub fits : m ≤ length s
-  pub size : rest begun s ≡ m + rest (after begun m) (drop m s)
-  pub none : m ≡ 0 → (rest begun s ≡ 0) × (begun ≡ false → length s ≡ 0)
-  pub some : 0 < m → m ≡ past s 0
+  pub size : groupRest begun s ≡ m + groupRest (begunAfter begun m) (drop m s)
+  pub none : m ≡ 0 → (groupRest begun s ≡ 0) × (begun ≡ false → length s ≡ 0)
+  pub some : 0 < m → m ≡ recordPast s 0
 
 start-ends : (n : ℕ) (s : List ℕ) → startsGroup (getD s 0 0) ≡ true → endFrom n s 0 ≡ 0
 unfolding endFrom
 start-ends zero s q = refl
 start-ends (suc n) s q = ⊎-elim (λ (t : ltb 0 (length s) ≡ true). rw (q, t)) (λ (t : ltb 0 (length s) ≡ false). rw (q, t)) (flag (ltb 0 (length s)))
 
-end-once : (n : ℕ) (s : List ℕ) → 0 < length s → startsGroup (getD s 0 0) ≡ false → endFrom (suc n) s 0 ≡ endFrom n s (past s 0)
+end-once : (n : ℕ) (s : List ℕ) → 0 < length s → startsGroup (getD s 0 0) ≡ false → endFrom (suc n) s 0 ≡ endFrom n s (recordPast s 0)
 unfolding endFrom
 end-once n s h q = rw (lt-ltb 0 (length s) h, q)
 
 module _ (s : List ℕ) where
-  pub rest-within : (begun : Bool) → rest begun s ≤ length s
-  unfolding rest
+  pub rest-within : (begun : Bool) → groupRest begun s ≤ length s
+  unfolding groupRest
   rest-within true = end-bounds s (length s) 0 (omega arith) .1
   rest-within false = group-within s 0 (omega arith) .1
 
-  none-left : (begun : Bool) → length s ≡ 0 → rest begun s ≡ 0
-  unfolding rest endFrom
+  none-left : (begun : Bool) → length s ≡ 0 → groupRest begun s ≡ 0
+  unfolding groupRest endFrom
   none-left true e = rw e
   none-left false e = group-none s 0 (omega arith)
 
-  over-next : (begun : Bool) → (begun && startsGroup (getD s 0 0)) ≡ true → rest begun s ≡ 0
-  unfolding rest
+  over-next : (begun : Bool) → (begun && startsGroup (getD s 0 0)) ≡ true → groupRest begun s ≡ 0
+  unfolding groupRest
   over-next true q = start-ends (length s) s q
   over-next false q = clash q refl
 
   module _ (h : 0 < length s) where
-    past-on : (d : ℕ) → length s ≤ past s 0 + d → endFrom d s (past s 0) ≡ past s 0 + rest true (drop (past s 0) s)
-    unfolding rest
+    past-on : (d : ℕ) → length s ≤ recordPast s 0 + d → endFrom d s (recordPast s 0) ≡ recordPast s 0 + groupRest true (drop (recordPast s 0) s)
+    unfolding groupRest
     past-on d k =
         let w = past-more s 0 h in
-        let l = length-drop (past s 0) s in
-        end-steps s d (length (drop (past s 0) s)) (past s 0) k (omega arith) ∙ end-drop s (past s 0) (w .1) (length (drop (past s 0) s))
+        let l = length-drop (recordPast s 0) s in
+        end-steps s d (length (drop (recordPast s 0) s)) (recordPast s 0) k (omega arith) ∙ end-drop s (recordPast s 0) (w .1) (length (drop (recordPast s 0) s))
 
-    rest-record : (begun : Bool) → (begun && startsGroup (getD s 0 0)) ≡ false → rest begun s ≡ past s 0 + rest true (drop (past s 0) s)
-    unfolding rest groupEnd
+    rest-record : (begun : Bool) → (begun && startsGroup (getD s 0 0)) ≡ false → groupRest begun s ≡ recordPast s 0 + groupRest true (drop (recordPast s 0) s)
+    unfolding groupRest groupEnd
     rest-record true q =
         let w = past-more s 0 h in
         let e : length s ≡ suc (length s - 1) = omega arith in
@@ -100,16 +100,16 @@ module _ (s : List ℕ) where
   pub coming : (begun : Bool) → Coming begun s (recordOf begun s)
   coming begun = go (eqb (length s) 0) refl (begun && startsGroup (getD s 0 0)) refl
     where
-      over : rest begun s ≡ 0 → (begun ≡ false → length s ≡ 0) → Coming begun s 0
+      over : groupRest begun s ≡ 0 → (begun ≡ false → length s ≡ 0) → Coming begun s 0
       over e f =
           record {
             fits = omega arith;
-            size = let z : rest begun s ≡ 0 + rest begun s = omega arith in z;
+            size = let z : groupRest begun s ≡ 0 + groupRest begun s = omega arith in z;
             none = λ z. (e, f);
             some = λ l. absurd (omega arith);
           }
 
-      go : (t : Bool) → eqb (length s) 0 ≡ t → (u : Bool) → (begun && startsGroup (getD s 0 0)) ≡ u → Coming begun s (pick (t || u) 0 (past s 0))
+      go : (t : Bool) → eqb (length s) 0 ≡ t → (u : Bool) → (begun && startsGroup (getD s 0 0)) ≡ u → Coming begun s (pick (t || u) 0 (recordPast s 0))
       go true q u r = let z = eqb-true (length s) 0 q in over (none-left begun z) (λ e. z)
       go false q true r = over (over-next begun r) (λ e. clash (and-1 begun (startsGroup (getD s 0 0)) r) e)
       go false q false r =
@@ -118,7 +118,7 @@ module _ (s : List ℕ) where
           let w = past-more s 0 h in
           record {
             fits = w .1;
-            size = rw (ne-eqb (past s 0) 0 (λ e. omega arith)) (rest-record h begun r);
+            size = rw (ne-eqb (recordPast s 0) 0 (λ e. omega arith)) (rest-record h begun r);
             none = λ e. absurd (omega arith);
             some = λ l. refl;
           }
@@ -136,11 +136,11 @@ module _ (begun : Bool) {s a : List ℕ} {whole : Bool} (f : Front s a whole) wh
   first-byte h = ap (λ l. getD l 0 0) (f .joins) ∙ List·getD-append a (f .behind) 0 0 (pos-of-ne-zero h)
 
   -- a record is shown only whole, or with the log's end; what is not shown does not stand whole in the front
-  abbrev pub Shown : Ahead → Type 0
-  Shown (ahead-of.Shows m) = (recordOf begun s ≡ m) × (m ≤ length a)
-  Shown ahead-of.Wants = (whole ≡ false) × (length a < recordEnd a 0)
+  abbrev pub AheadShown : Ahead → Type 0
+  AheadShown (ahead-of.Shows m) = (recordOf begun s ≡ m) × (m ≤ length a)
+  AheadShown ahead-of.Wants = (whole ≡ false) × (length a < recordEnd a 0)
 
-  empty : length a ≡ 0 → (w : Bool) → whole ≡ w → Shown (pick w (ahead-of.Shows 0) ahead-of.Wants)
+  empty : length a ≡ 0 → (w : Bool) → whole ≡ w → AheadShown (pick w (ahead-of.Shows 0) ahead-of.Wants)
   unfolding recordEnd
   empty z true e =
       let k = long in
@@ -152,8 +152,8 @@ module _ (begun : Bool) {s a : List ℕ} {whole : Bool} (f : Front s a whole) wh
     not-empty : eqb (length s) 0 ≡ false
     not-empty = ne-eqb (length s) 0 (λ e. let k = long in h (omega arith))
 
-    same-past : (w u : Bool) → whole ≡ w → leb (recordEnd a 0) (length a) ≡ u → (w || u) ≡ true → past s 0 ≡ past a 0
-    unfolding past recordEnd
+    same-past : (w u : Bool) → whole ≡ w → leb (recordEnd a 0) (length a) ≡ u → (w || u) ≡ true → recordPast s 0 ≡ recordPast a 0
+    unfolding recordPast recordEnd
     same-past true u e r q = let k = long in let y = none-behind e in rw (first-byte h) (omega arith)
     same-past false true e r q =
         let k = long in
@@ -164,19 +164,19 @@ module _ (begun : Bool) {s a : List ℕ} {whole : Bool} (f : Front s a whole) wh
     some-byte : 0 < length a
     some-byte = pos-of-ne-zero h
 
-    by-record : (begun && startsGroup (getD a 0 0)) ≡ false → (w u : Bool) → whole ≡ w → leb (recordEnd a 0) (length a) ≡ u → Shown (pick (w || u) (ahead-of.Shows (past a 0)) ahead-of.Wants)
+    by-record : (begun && startsGroup (getD a 0 0)) ≡ false → (w u : Bool) → whole ≡ w → leb (recordEnd a 0) (length a) ≡ u → AheadShown (pick (w || u) (ahead-of.Shows (recordPast a 0)) ahead-of.Wants)
     by-record r true u e l = (rw (not-empty, first-byte h, r) (same-past true u e l refl), past-more a 0 some-byte .1)
     by-record r false true e l = (rw (not-empty, first-byte h, r) (same-past false true e l refl), past-more a 0 some-byte .1)
     by-record r false false e l = (e, leb-false (recordEnd a 0) (length a) l)
 
     by-start : (t : Bool) → (begun && startsGroup (getD a 0 0)) ≡ t
-        → Shown (pick t (ahead-of.Shows 0) (pick (whole || leb (recordEnd a 0) (length a)) (ahead-of.Shows (past a 0)) ahead-of.Wants))
+        → AheadShown (pick t (ahead-of.Shows 0) (pick (whole || leb (recordEnd a 0) (length a)) (ahead-of.Shows (recordPast a 0)) ahead-of.Wants))
     by-start true r = (rw (not-empty, first-byte h, r), omega arith)
     by-start false r = by-record r whole (leb (recordEnd a 0) (length a)) refl refl
 
-  pub shown : Shown (ahead begun a whole)
+  pub ahead-shown : AheadShown (ahead begun a whole)
   unfolding ahead
-  shown =
+  ahead-shown =
       ⊎-elim
       (λ q. rw q (empty (eqb-true (length a) 0 q) whole refl))
       (λ q. rw q (by-start (eqb-false (length a) 0 q) (begun && startsGroup (getD a 0 0)) refl))
@@ -193,31 +193,31 @@ bytes-append (a ∷ x) (b ∷ y) u v e = rw (bytes-append x y u v (omega arith))
 
 module _ {b c : Bool} {s t : List ℕ} {m n : ℕ} (p : Coming b s m) (q : Coming c t n) where
   r : ℕ
-  r = rest (after b m) (drop m s)
+  r = groupRest (begunAfter b m) (drop m s)
 
   r′ : ℕ
-  r′ = rest (after c n) (drop n t)
+  r′ = groupRest (begunAfter c n) (drop n t)
 
-  split-same : m ≡ n → sameBytes (take (rest b s) s) (take (rest c t) t) ≡ (sameBytes (take m s) (take n t) && sameBytes (take r (drop m s)) (take r′ (drop n t)))
+  split-same : m ≡ n → sameBytes (take (groupRest b s) s) (take (groupRest c t) t) ≡ (sameBytes (take m s) (take n t) && sameBytes (take r (drop m s)) (take r′ (drop n t)))
   unfolding r r′
   split-same e =
       let i = length-take-le m s (p .fits) in
       let j = length-take-le n t (q .fits) in
-      rw (p .size, q .size, take-add m (rest (after b m) (drop m s)) s, take-add n (rest (after c n) (drop n t)) t)
-      (bytes-append (take m s) (take n t) (take (rest (after b m) (drop m s)) (drop m s)) (take (rest (after c n) (drop n t)) (drop n t)) (omega arith))
+      rw (p .size, q .size, take-add m (groupRest (begunAfter b m) (drop m s)) s, take-add n (groupRest (begunAfter c n) (drop n t)) t)
+      (bytes-append (take m s) (take n t) (take (groupRest (begunAfter b m) (drop m s)) (drop m s)) (take (groupRest (begunAfter c n) (drop n t)) (drop n t)) (omega arith))
 
   -- lists of the same bytes begin with the same kind, so their records are of the same length
-  no-split : (m ≡ n → ⊥) → take (rest b s) s ≡ take (rest c t) t → ⊥
-  unfolding past recordEnd
+  no-split : (m ≡ n → ⊥) → take (groupRest b s) s ≡ take (groupRest c t) t → ⊥
+  unfolding recordPast recordEnd
   no-split h e = by-zero m refl n refl
     where
-      lengths : rest b s ≡ rest c t
-      lengths = sym (length-take-le (rest b s) s (rest-within s b)) ∙ ap length e ∙ length-take-le (rest c t) t (rest-within t c)
+      lengths : groupRest b s ≡ groupRest c t
+      lengths = sym (length-take-le (groupRest b s) s (rest-within s b)) ∙ ap length e ∙ length-take-le (groupRest c t) t (rest-within t c)
 
-      kinds : 0 < rest b s → getD s 0 0 ≡ getD t 0 0
-      kinds l = let k = lengths in sym (getD-take (rest b s) s 0 0 l) ∙ ap (λ x. getD x 0 0) e ∙ getD-take (rest c t) t 0 0 (omega arith)
+      kinds : 0 < groupRest b s → getD s 0 0 ≡ getD t 0 0
+      kinds l = let k = lengths in sym (getD-take (groupRest b s) s 0 0 l) ∙ ap (λ x. getD x 0 0) e ∙ getD-take (groupRest c t) t 0 0 (omega arith)
 
-      both : past s 0 ≡ m → past t 0 ≡ n → lengthOf (getD s 0 0) ≡ lengthOf (getD t 0 0) → ⊥
+      both : recordPast s 0 ≡ m → recordPast t 0 ≡ n → lengthOf (getD s 0 0) ≡ lengthOf (getD t 0 0) → ⊥
       both i j k =
           let x = p .size in
           let y = q .size in
@@ -234,7 +234,7 @@ module _ {b c : Bool} {s t : List ℕ} {m n : ℕ} (p : Coming b s m) (q : Comin
           let x = p .size in
           both (sym (p .some (omega arith))) (sym (q .some (omega arith))) (ap lengthOf (kinds (omega arith)))
 
-  pub same-split : sameBytes (take (rest b s) s) (take (rest c t) t) ≡ (sameBytes (take m s) (take n t) && sameBytes (take (rest (after b m) (drop m s)) (drop m s)) (take (rest (after c n) (drop n t)) (drop n t)))
+  pub same-split : sameBytes (take (groupRest b s) s) (take (groupRest c t) t) ≡ (sameBytes (take m s) (take n t) && sameBytes (take (groupRest (begunAfter b m) (drop m s)) (drop m s)) (take (groupRest (begunAfter c n) (drop n t)) (drop n t)))
   unfolding r r′
   same-split =
       let i = length-take-le m s (p .fits) in
@@ -243,5 +243,5 @@ module _ {b c : Bool} {s t : List ℕ} {m n : ℕ} (p : Coming b s m) (q : Comin
       (λ e. split-same (eqb-true m n e))
       (λ e.
       let h = eqb-false m n e in
-      no-yes (λ z. no-split h (same-equal (take (rest b s) s) (take (rest c t) t) z)) ∙ rw (← (same-lengths (take m s) (take n t) (λ e. h (omega arith)))))
+      no-yes (λ z. no-split h (same-equal (take (groupRest b s) s) (take (groupRest c t) t) z)) ∙ rw (← (same-lengths (take m s) (take n t) (λ e. h (omega arith)))))
       (flag (eqb m n))

@@ -14,7 +14,7 @@ use Rattle.words.proofs.Below.{lt-or-ge}
 use Rattle.words.proofs.Flags.{no-yes}
 use Rattle.comparing.specs.declared.Fault.the-variants as fault
 use Rattle.comparing.specs.declared.Compared.the-variants as answer
-use Rattle.comparing.specs.Groups.{groupEnd, bytesIn, groupsFrom, groups, sideOf}
+use Rattle.comparing.specs.Groups.{groupEnd, bytesIn, groupsFrom, groups, groupSide}
 use Rattle.comparing.specs.Checks.{checked}
 use Rattle.comparing.specs.Pairs.{samePair, differs, firstOf, pairs, firstDifference, compared}
 use Rattle.comparing.proofs.Walks.{group-end}
@@ -42,12 +42,12 @@ module _ (s : List ℕ) where
   unfolding groups
   joined-groups = join-from (length s) 0 (omega arith)
 
-  side-bytes : (n : ℕ) → getD (map (bytesIn s) (groups s)) n [] ≡ bytesIn s (sideOf s n)
-  unfolding sideOf
+  side-bytes : (n : ℕ) → getD (map (bytesIn s) (groups s)) n [] ≡ bytesIn s (groupSide s n)
+  unfolding groupSide
   side-bytes n = List·getD-map (bytesIn s) (groups s) n (record { place = length s; size = 0 })
 
-  out-bytes : (n : ℕ) → length (groups s) ≤ n → bytesIn s (sideOf s n) ≡ []
-  unfolding sideOf
+  out-bytes : (n : ℕ) → length (groups s) ≤ n → bytesIn s (groupSide s n) ≡ []
+  unfolding groupSide
   out-bytes n h = rw (List·getD-eq-default (groups s) (record { place = length s; size = 0 }) {n = n} h)
 
 join-same : (xs ys : List (List ℕ)) → ((n : ℕ) → getD xs n [] ≡ getD ys n []) → joined xs ≡ joined ys
@@ -64,7 +64,7 @@ module _ (a b : List ℕ) where
   none-of zero n e k h l = absurd (omega arith)
   none-of (suc d) n e k h l = go (samePair a b n) refl e (λ r i j. none-of d (suc n) r k i j)
     where
-      go : (t : Bool) → samePair a b n ≡ t → pick t (firstOf d a b (suc n)) (differs n (sideOf a n) (sideOf b n)) ≡ answer.Same
+      go : (t : Bool) → samePair a b n ≡ t → pick t (firstOf d a b (suc n)) (differs n (groupSide a n) (groupSide b n)) ≡ answer.Same
           → (firstOf d a b (suc n) ≡ answer.Same → suc n ≤ k → k < suc n + d → samePair a b k ≡ true) → samePair a b k ≡ true
       go true q r ih = ⊎-elim (λ w. ih r (omega arith) (omega arith)) (λ w. let z : k ≡ n = omega arith in rw z q) (lt-or-ge n k)
       go false q r ih = let z : _≡_ {A = ℕ} 0 1 = cc in absurd (omega arith)
@@ -73,10 +73,10 @@ module _ (a b : List ℕ) where
   unfolding firstDifference samePair
   none-same e = sym (joined-groups a) ∙ join-same (map (bytesIn a) (groups a)) (map (bytesIn b) (groups b)) at ∙ joined-groups b
     where
-      side : (n : ℕ) → bytesIn a (sideOf a n) ≡ bytesIn b (sideOf b n)
+      side : (n : ℕ) → bytesIn a (groupSide a n) ≡ bytesIn b (groupSide b n)
       side n =
           ⊎-elim
-          (λ w. same-equal (bytesIn a (sideOf a n)) (bytesIn b (sideOf b n)) (none-of (pairs a b - 0) 0 e n (omega arith) (omega arith)))
+          (λ w. same-equal (bytesIn a (groupSide a n)) (bytesIn b (groupSide b n)) (none-of (pairs a b - 0) 0 e n (omega arith) (omega arith)))
           (λ w. out-bytes a n (omega arith) ∙ sym (out-bytes b n (omega arith)))
           (lt-or-ge n (pairs a b))
 
@@ -86,7 +86,7 @@ module _ (a b : List ℕ) where
 self-none : (a : List ℕ) (d n : ℕ) → firstOf d a a n ≡ answer.Same
 unfolding firstOf samePair
 self-none a zero n = refl
-self-none a (suc d) n = rw (same-self (bytesIn a (sideOf a n))) (self-none a d (suc n))
+self-none a (suc d) n = rw (same-self (bytesIn a (groupSide a n))) (self-none a d (suc n))
 
 same-none : (a b : List ℕ) → a ≡ b → firstDifference a b 0 ≡ answer.Same
 unfolding firstDifference
@@ -95,7 +95,7 @@ same-none a b e = rw (← e) (self-none a (pairs a a - 0) 0)
 -- ---- a pair of which one side has run out differs: a group is a byte or more
 
 module _ (a b : List ℕ) (n : ℕ) where
-  group-bytes : n < length (groups a) → bytesIn a (sideOf a n) ≡ [] → ⊥
+  group-bytes : n < length (groups a) → bytesIn a (groupSide a n) ≡ [] → ⊥
   group-bytes h e =
       let p = placeFrom n a 0 in
       let l : p < length a = ⊎-elim (λ q. q) (λ q. absurd (let k = counted-out a n q in omega arith)) (lt-or-ge p (length a)) in
@@ -106,11 +106,11 @@ module _ (a b : List ℕ) (n : ℕ) where
 
   pub second-run-out : n < length (groups a) → length (groups b) ≤ n → samePair a b n ≡ false
   unfolding samePair
-  second-run-out h k = no-yes (λ e. group-bytes h (same-equal (bytesIn a (sideOf a n)) (bytesIn b (sideOf b n)) e ∙ out-bytes b n k))
+  second-run-out h k = no-yes (λ e. group-bytes h (same-equal (bytesIn a (groupSide a n)) (bytesIn b (groupSide b n)) e ∙ out-bytes b n k))
 
   pub first-run-out : n < length (groups a) → length (groups b) ≤ n → samePair b a n ≡ false
   unfolding samePair
-  first-run-out h k = no-yes (λ e. group-bytes h (sym (same-equal (bytesIn b (sideOf b n)) (bytesIn a (sideOf a n)) e) ∙ out-bytes b n k))
+  first-run-out h k = no-yes (λ e. group-bytes h (sym (same-equal (bytesIn b (groupSide b n)) (bytesIn a (groupSide a n)) e) ∙ out-bytes b n k))
 
 -- ---- the theorem
 

@@ -11,7 +11,7 @@ use Rattle.words.proofs.Below.{lt-or-ge}
 use Rattle.model.specs.Records.{lengthOf}
 use Rattle.comparing.specs.declared.Fault.the-variants as fault
 use Rattle.comparing.specs.Kinds.{startsGroup, isEvent}
-use Rattle.comparing.specs.Groups.{recordEnd, past}
+use Rattle.comparing.specs.Groups.{recordEnd, recordPast}
 use Rattle.comparing.specs.Checks.{wrongAt, scannedFrom, scanned, inside}
 use Rattle.comparing.proofs.Walks.{past-more}
 
@@ -36,7 +36,7 @@ module _ (s : List ℕ) where
   scan-steps (suc d) zero at h k = rw (le-ltb at (length s) (omega arith))
   scan-steps (suc d) (suc e) at h k =
       ⊎-elim
-      (λ l. let w = past-more s at l in rw (lt-ltb at (length s) l, scan-steps d e (past s at) (omega arith) (omega arith)))
+      (λ l. let w = past-more s at l in rw (lt-ltb at (length s) l, scan-steps d e (recordPast s at) (omega arith) (omega arith)))
       (λ l. rw (le-ltb at (length s) l))
       (lt-or-ge at (length s))
 
@@ -54,12 +54,12 @@ module _ (s : List ℕ) where
       let k : length s - at ≡ suc (length s - (at + 1)) = omega arith in
       sym (w ∙ rw (k, lt-ltb at (length s) h, ← e, ne-eqb n 0 f))
 
-  pub scans-more : (at n : ℕ) → at < length s → n ≡ wrongAt s at → n ≡ 0 → {m : ℕ} → m ≡ past s at → Scans at → Scans m
+  pub scans-more : (at n : ℕ) → at < length s → n ≡ wrongAt s at → n ≡ 0 → {m : ℕ} → m ≡ recordPast s at → Scans at → Scans m
   unfolding scannedFrom
   scans-more at n h e f {m} p w =
       let v = past-more s at h in
       let k : length s - at ≡ suc (length s - (at + 1)) = omega arith in
-      w ∙ rw (k, lt-ltb at (length s) h, ← e, f, p) (scan-steps (length s - (at + 1)) (length s - past s at) (past s at) (omega arith) (omega arith))
+      w ∙ rw (k, lt-ltb at (length s) h, ← e, f, p) (scan-steps (length s - (at + 1)) (length s - recordPast s at) (recordPast s at) (omega arith) (omega arith))
 
   pub scans-over : (at : ℕ) → length s ≤ at → Scans at → fault.None ≡ scanned s
   unfolding scannedFrom

@@ -10,12 +10,12 @@ use lib.Seq.{getD-append-add}
 use lib.Dec.{ltb}
 use Rattle.words.proofs.Flags.{flag, iff}
 use Rattle.comparing.specs.Kinds.{startsGroup}
-use Rattle.comparing.specs.Groups.{recordEnd, past, endFrom, groupEnd}
+use Rattle.comparing.specs.Groups.{recordEnd, recordPast, endFrom, groupEnd}
 use Rattle.comparing.proofs.Walks.{end-steps}
 
 module _ (r s : List ℕ) where
-  pub past-shift : (x : ℕ) → past (r ++ s) (length r + x) ≡ length r + past s x
-  unfolding past recordEnd
+  pub past-shift : (x : ℕ) → recordPast (r ++ s) (length r + x) ≡ length r + recordPast s x
+  unfolding recordPast recordEnd
   past-shift x = let k = length-append r s in rw (getD-append-add r s x 0) (omega arith)
 
   pub shift-test : (x : ℕ) → ltb (length r + x) (length (r ++ s)) ≡ ltb x (length s)
@@ -29,12 +29,12 @@ module _ (r s : List ℕ) where
   unfolding endFrom
   end-shift zero x = refl
   end-shift (suc n) x =
-      rw (shift-test x, getD-append-add r s x 0, past-shift x, end-shift n (past s x))
+      rw (shift-test x, getD-append-add r s x 0, past-shift x, end-shift n (recordPast s x))
       (⊎-elim (λ t. rw t (⊎-elim (λ u. rw u) (λ u. rw u) (flag (startsGroup (getD s x 0))))) (λ t. rw t) (flag (ltb x (length s))))
 
   pub group-shift : (x : ℕ) → groupEnd (r ++ s) (length r + x) ≡ length r + groupEnd s x
   unfolding groupEnd
   group-shift x =
       let k = length-append r s in
-      rw (shift-test x, past-shift x, end-shift (length (r ++ s)) (past s x))
-      (⊎-elim (λ t. rw (t, end-steps s (length (r ++ s)) (length s) (past s x) (omega arith) (omega arith))) (λ t. rw t) (flag (ltb x (length s))))
+      rw (shift-test x, past-shift x, end-shift (length (r ++ s)) (recordPast s x))
+      (⊎-elim (λ t. rw (t, end-steps s (length (r ++ s)) (length s) (recordPast s x) (omega arith) (omega arith))) (λ t. rw t) (flag (ltb x (length s))))

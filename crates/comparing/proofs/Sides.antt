@@ -10,7 +10,7 @@ use lib.ListN.{length, getD}
 use lib.Dec.{ltb}
 use Rattle.words.specs.Words.{pick}
 use Rattle.words.proofs.Below.{lt-or-ge}
-use Rattle.comparing.specs.Groups.{groupEnd, Part, partTo, groupsFrom, groups, sideOf}
+use Rattle.comparing.specs.Groups.{groupEnd, Part, partTo, groupsFrom, groups, groupSide}
 use Rattle.comparing.proofs.Walks.{group-end, group-none}
 
 -- n groups further
@@ -69,8 +69,8 @@ module _ (s : List ℕ) where
       go zero true q ih = refl
       go (suc n) true q ih = let w = group-end s at (ltb-true at (length s) q) in ih n (w .1) (omega arith)
 
-  pub side-is : (n : ℕ) → sideOf s n ≡ partTo (placeFrom n s 0) (groupEnd s (placeFrom n s 0))
-  unfolding sideOf groups
+  pub side-is : (n : ℕ) → groupSide s n ≡ partTo (placeFrom n s 0) (groupEnd s (placeFrom n s 0))
+  unfolding groupSide groups
   side-is n = side-from (length s) n 0 (omega arith) (omega arith)
 
   in-count : (d n at : ℕ) → length s ≤ at + d → placeFrom n s at < length s → n < length (groupsFrom d s at)
@@ -97,9 +97,9 @@ module _ (s : List ℕ) where
       go zero p true q ih = absurd (let l = ltb-true at (length s) q in let w : ⊥ = omega arith in w)
       go (suc n) p true q ih = let i = ih n p in omega arith
 
-  pub counted : (n : ℕ) → placeFrom n s 0 < length s → n < length (groups s)
+  pub group-counted : (n : ℕ) → placeFrom n s 0 < length s → n < length (groups s)
   unfolding groups
-  counted n p = in-count (length s) n 0 (omega arith) p
+  group-counted n p = in-count (length s) n 0 (omega arith) p
 
   pub counted-out : (n : ℕ) → length s ≤ placeFrom n s 0 → length (groups s) ≤ n
   unfolding groups
@@ -108,12 +108,12 @@ module _ (s : List ℕ) where
   -- ---- the loop that skips groups: those still to skip lead to the side of the number
 
   abbrev pub Skips : ℕ → ℕ → ℕ → Type 0
-  Skips number at left = (at ≤ length s) × (placeFrom left s at ≡ sideOf s number .place)
+  Skips number at left = (at ≤ length s) × (placeFrom left s at ≡ groupSide s number .place)
 
   pub skips-start : (number : ℕ) → Skips number 0 number
   skips-start number = (omega arith, ap (λ p. p .place) (sym (side-is number)))
 
-  pub skips-out : (number at left : ℕ) → length s ≤ at → Skips number at left → at ≡ sideOf s number .place
+  pub skips-out : (number at left : ℕ) → length s ≤ at → Skips number at left → at ≡ groupSide s number .place
   skips-out number at left h w = sym (stay left at h) ∙ w .1
 
   pub skips-more : (number at left : ℕ) → 0 < left → {e : ℕ} → e ≡ groupEnd s at → Skips number at left → Skips number e (left - 1)
@@ -121,8 +121,8 @@ module _ (s : List ℕ) where
   skips-more number at left h {e} p w =
       let k : left ≡ suc (left - 1) = omega arith in
       let v = group-within at (w .0) in
-      (omega arith, rw p (let u : placeFrom (suc (left - 1)) s at ≡ sideOf s number .place = rw k at (w .1) in u))
+      (omega arith, rw p (let u : placeFrom (suc (left - 1)) s at ≡ groupSide s number .place = rw k at (w .1) in u))
 
-  pub skips-over : (number at left : ℕ) → left ≤ 0 → Skips number at left → at ≡ sideOf s number .place
+  pub skips-over : (number at left : ℕ) → left ≤ 0 → Skips number at left → at ≡ groupSide s number .place
   unfolding placeFrom
   skips-over number at left h w = let k : left ≡ 0 = omega arith in rw k at (w .1)

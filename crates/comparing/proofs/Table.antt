@@ -17,18 +17,18 @@ use Rattle.words.proofs.Lists.{none-past}
 use Rattle.records.proofs.Lengths.{length-past}
 use Rattle.comparing.specs.Kinds.{starters, startsGroup, isEvent}
 
-abbrev pub table : List ℕ
-table = 0 ∷ 0 ∷ 0 ∷ 0 ∷ 0 ∷ 0 ∷ 0 ∷ 0 ∷ 0 ∷ 0 ∷ 0 ∷ 0 ∷ 0 ∷ 0 ∷ 0 ∷ 0 ∷ 1 ∷ 1 ∷ 0 ∷ 0 ∷ 0 ∷ 1 ∷ 1 ∷ 1 ∷ 1 ∷ []
+abbrev pub startsTable : List ℕ
+startsTable = 0 ∷ 0 ∷ 0 ∷ 0 ∷ 0 ∷ 0 ∷ 0 ∷ 0 ∷ 0 ∷ 0 ∷ 0 ∷ 0 ∷ 0 ∷ 0 ∷ 0 ∷ 0 ∷ 1 ∷ 1 ∷ 0 ∷ 0 ∷ 0 ∷ 1 ∷ 1 ∷ 1 ∷ 1 ∷ []
 
-abbrev ruled : ℕ → Bool
-ruled k = same (eqb (getD table k 0) 1) (startsGroup k)
+abbrev startsRuled : ℕ → Bool
+startsRuled k = same (eqb (getD startsTable k 0) 1) (startsGroup k)
 
-table-ruled : every 25 ruled ≡ true
+table-ruled : every 25 startsRuled ≡ true
 unfolding startsGroup
 table-ruled = refl
 
-pub starts-is : (k : ℕ) → k < 25 → eqb (getD table k 0) 1 ≡ startsGroup k
-starts-is k h = same-is (eqb (getD table k 0) 1) (startsGroup k) (every-at ruled 25 k table-ruled h)
+pub starts-is : (k : ℕ) → k < 25 → eqb (getD startsTable k 0) 1 ≡ startsGroup k
+starts-is k h = same-is (eqb (getD startsTable k 0) 1) (startsGroup k) (every-at startsRuled 25 k table-ruled h)
 
 -- ---- past the table
 
@@ -38,22 +38,22 @@ starts-past k h = none-past (λ x. x) 25 k starters refl h
 
 -- ---- the kinds of events
 
-abbrev told : ℕ → Bool
-told k = not (isCommand k) && not (eqb (lengthOf k) 255)
+abbrev startTold : ℕ → Bool
+startTold k = not (isCommand k) && not (eqb (lengthOf k) 255)
 
-events-told : every 25 (λ k. same (told k) (isEvent k)) ≡ true
+events-told : every 25 (λ k. same (startTold k) (isEvent k)) ≡ true
 unfolding isEvent records.lengthOf
 events-told = refl
 
-pub event-kinds : (k : ℕ) → told k ≡ isEvent k
+pub event-kinds : (k : ℕ) → startTold k ≡ isEvent k
 unfolding isEvent
 event-kinds k =
     ⊎-elim
-    (λ e. same-is (told k) (isEvent k) (every-at (λ i. same (told i) (isEvent i)) 25 k events-told (ltb-true k 25 e)))
+    (λ e. same-is (startTold k) (isEvent k) (every-at (λ i. same (startTold i) (isEvent i)) 25 k events-told (ltb-true k 25 e)))
     (λ e. past (ltb-false k 25 e))
     (flag (ltb k 25))
   where
-    past : 25 ≤ k → told k ≡ isEvent k
+    past : 25 ≤ k → startTold k ≡ isEvent k
     past h = rw (length-past k h) (and-false (not (isCommand k)) ∙ sym (none-past (λ x. x .kind) 25 k eventKinds refl h))
 
 -- by the two tests

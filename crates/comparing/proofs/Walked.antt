@@ -20,27 +20,27 @@ use Rattle.comparing.specs.declared.Ahead.{Ahead}
 use Rattle.comparing.specs.declared.Ahead.the-variants as ahead-of
 use Rattle.comparing.specs.declared.Step.{Step}
 use Rattle.comparing.specs.declared.Step.the-variants as step
-use Rattle.comparing.specs.Groups.{partTo, bytesIn, recordEnd, groupEnd, groups, sideOf}
-use Rattle.comparing.specs.Pairs.{sameBytes, samePair, differs, pairs, listed, differences}
-use Rattle.comparing.specs.Steps.{side, beginning, ahead, moved, behind, onward, counted, lowestOf, nextPair, pairOver, row, shown, begunSide, stepped, Front, pairOf, Walked, at-start, by-row, by-same, by-differing, lowestIn, Listed}
+use Rattle.comparing.specs.Groups.{partTo, bytesIn, recordEnd, groupEnd, groups, groupSide}
+use Rattle.comparing.specs.Pairs.{sameBytes, samePair, differs, pairs, listed, differencesFromPair}
+use Rattle.comparing.specs.Steps.{side, walkBeginning, ahead, moved, sideBehind, onward, pairsDiffering, lowestOf, nextPair, pairOver, recordRow, stepShown, begunSide, stepped, Front, pairOf, Walked, at-start, by-row, by-same, by-differing, lowestIn, Listed}
 use Rattle.comparing.proofs.Sides.{placeFrom, place-next, place-grows, group-le, side-is, counted-out}
-use Rattle.comparing.proofs.Sides.{counted as group-counted}
-use Rattle.comparing.proofs.Rests.{rest, after, Coming, coming, Shown, same-split, group-drop}
-use Rattle.comparing.proofs.Rests.{shown as front-shows}
+use Rattle.comparing.proofs.Sides.{group-counted}
+use Rattle.comparing.proofs.Rests.{groupRest, begunAfter, Coming, coming, AheadShown, same-split, group-drop}
+use Rattle.comparing.proofs.Rests.{ahead-shown}
 
-fresh-rest : (s : List ℕ) → groupEnd s 0 ≡ rest false s
-unfolding rest
+fresh-rest : (s : List ℕ) → groupEnd s 0 ≡ groupRest false s
+unfolding groupRest
 fresh-rest s = refl
 
 -- ---- one side: s is to come of the log A, behind what is passed of its group of number n
 
 record SideAt (A s : List ℕ) (n : ℕ) (d : Side) : Type 0 where
-  begins : d .place ≡ sideOf A n .place
-  size : sideOf A n .size ≡ d .passed + rest (begunSide d) s
+  begins : d .place ≡ groupSide A n .place
+  size : groupSide A n .size ≡ d .passed + groupRest (begunSide d) s
   here : drop (d .place + d .passed) A ≡ s
   within : d .place + d .passed ≤ length A
 
-begun-after : (x m : ℕ) → not (eqb (x + m) 0) ≡ after (not (eqb x 0)) m
+begun-after : (x m : ℕ) → not (eqb (x + m) 0) ≡ begunAfter (not (eqb x 0)) m
 begun-after x m =
     ⊎-elim
     (λ q. let z = eqb-true m 0 q in let e : x + m ≡ x = omega arith in rw (q, e))
@@ -61,7 +61,7 @@ module _ {A s : List ℕ} {n : ℕ} {d : Side} (i : SideAt A s n d) (fits : leng
         let f = c .fits in
         let w = i .within in
         let e : d .place + (d .passed + m) ≡ d .place + d .passed + m = omega arith in
-        let z : d .passed + (m + rest (after (begunSide d) m) (drop m s)) ≡ d .passed + m + rest (after (begunSide d) m) (drop m s) = omega arith in
+        let z : d .passed + (m + groupRest (begunAfter (begunSide d) m) (drop m s)) ≡ d .passed + m + groupRest (begunAfter (begunSide d) m) (drop m s) = omega arith in
         record {
           begins = i .begins;
           size = rw (no-wrap, begun-after (d .passed) m) (i .size ∙ ap (λ x. d .passed + x) (c .size) ∙ z);
@@ -69,19 +69,19 @@ module _ {A s : List ℕ} {n : ℕ} {d : Side} (i : SideAt A s n d) (fits : leng
           within = rw no-wrap (omega arith);
         }
 
-  module _ (z : rest (begunSide d) s ≡ 0) where
-    side-whole : sideOf A n ≡ record { place = d .place; size = d .passed }
-    side-whole = let e : sideOf A n .size ≡ d .passed = let k = i .size in omega arith in rw (i .begins, ← e)
+  module _ (z : groupRest (begunSide d) s ≡ 0) where
+    side-whole : groupSide A n ≡ record { place = d .place; size = d .passed }
+    side-whole = let e : groupSide A n .size ≡ d .passed = let k = i .size in omega arith in rw (i .begins, ← e)
 
     group-here : groupEnd A (d .place) ≡ d .place + d .passed
     group-here =
         let p : d .place ≡ placeFrom n A 0 = i .begins ∙ ap (λ x. x .place) (side-is A n) in
-        let e : sideOf A n .size ≡ groupEnd A (placeFrom n A 0) - placeFrom n A 0 = ap (λ x. x .size) (side-is A n) in
+        let e : groupSide A n .size ≡ groupEnd A (placeFrom n A 0) - placeFrom n A 0 = ap (λ x. x .size) (side-is A n) in
         let g = group-le A (placeFrom n A 0) in
         let k = i .size in
         rw p (omega arith)
 
-    side-behind : SideAt A s (n + 1) (behind d)
+    side-behind : SideAt A s (n + 1) (sideBehind d)
     side-behind =
         let w = i .within in
         let e : (d .place + d .passed) % 2 ^ 64 ≡ d .place + d .passed = omega arith in
@@ -124,7 +124,7 @@ module _ {A s : List ℕ} {n : ℕ} {d : Side} (i : SideAt A s n d) (fits : leng
 begin-side : (A : List ℕ) → SideAt A A 0 (side 0 0)
 unfolding placeFrom
 begin-side A =
-    let p : sideOf A 0 ≡ partTo 0 (groupEnd A 0) = side-is A 0 in
+    let p : groupSide A 0 ≡ partTo 0 (groupEnd A 0) = side-is A 0 in
     let z : groupEnd A 0 - 0 ≡ 0 + groupEnd A 0 = omega arith in
     record {
       begins = ap (λ x. x .place) (sym p);
@@ -135,28 +135,28 @@ begin-side A =
 
 -- ---- a pair of which nothing is passed
 
-fresh-bytes : {A s : List ℕ} {n p : ℕ} → SideAt A s n (side p 0) → bytesIn A (sideOf A n) ≡ take (rest false s) s
+fresh-bytes : {A s : List ℕ} {n p : ℕ} → SideAt A s n (side p 0) → bytesIn A (groupSide A n) ≡ take (groupRest false s) s
 fresh-bytes {A} {s} {n} {p} i =
-    let k : sideOf A n .size ≡ 0 + rest false s = i .size in
-    let e : sideOf A n .size ≡ rest false s = omega arith in
+    let k : groupSide A n .size ≡ 0 + groupRest false s = i .size in
+    let e : groupSide A n .size ≡ groupRest false s = omega arith in
     let z : p + 0 ≡ p = omega arith in
     let h : drop p A ≡ s = rw z at (i .here) in
     rw (← (i .begins), e, h)
 
 fresh-same : {A B s t : List ℕ} {n p q : ℕ} → SideAt A s n (side p 0) → SideAt B t n (side q 0)
-    → samePair A B n ≡ (true && sameBytes (take (rest false s) s) (take (rest false t) t))
+    → samePair A B n ≡ (true && sameBytes (take (groupRest false s) s) (take (groupRest false t) t))
 unfolding samePair
 fresh-same i j = rw (fresh-bytes i, fresh-bytes j)
 
 -- ---- the list
 
 module _ (A B : List ℕ) where
-  lists-more : (n : ℕ) → n < pairs A B → differences A B n ≡ pick (samePair A B n) (differences A B (n + 1)) (differs n (sideOf A n) (sideOf B n) ∷ differences A B (n + 1))
-  unfolding differences listed
+  lists-more : (n : ℕ) → n < pairs A B → differencesFromPair A B n ≡ pick (samePair A B n) (differencesFromPair A B (n + 1)) (differs n (groupSide A n) (groupSide B n) ∷ differencesFromPair A B (n + 1))
+  unfolding differencesFromPair listed
   lists-more n h = let k : pairs A B - n ≡ suc (pairs A B - suc n) = omega arith in rw (k, add-one n)
 
-  lists-over : (n : ℕ) → pairs A B ≤ n → differences A B n ≡ []
-  unfolding differences listed
+  lists-over : (n : ℕ) → pairs A B ≤ n → differencesFromPair A B n ≡ []
+  unfolding differencesFromPair listed
   lists-over n h = let k : pairs A B - n ≡ 0 = omega arith in rw k
 
 lowest-snoc : (ds : List Compared) (n p l q m : ℕ) → lowestIn (ds ++ (answer.Differs n p l q m ∷ [])) ≡ pick (eqb (length ds) 0) n (lowestIn ds)
@@ -170,14 +170,14 @@ lowest-snoc (answer.Same ∷ ds) n p l q m = rw (ne-eqb (suc (length ds)) 0 (λ 
 record On (A B s t : List ℕ) (w : Walk) (ds : List Compared) : Type 0 where
   first : SideAt A s (w .number) (w .first)
   second : SideAt B t (w .number) (w .second)
-  same : samePair A B (w .number) ≡ (w .same && sameBytes (take (rest (begunSide (w .first)) s) s) (take (rest (begunSide (w .second)) t) t))
-  lists : differences A B 0 ≡ ds ++ differences A B (w .number)
+  same : samePair A B (w .number) ≡ (w .same && sameBytes (take (groupRest (begunSide (w .first)) s) s) (take (groupRest (begunSide (w .second)) t) t))
+  lists : differencesFromPair A B 0 ≡ ds ++ differencesFromPair A B (w .number)
   count : w .differing ≡ length ds
   lowest : w .lowest ≡ lowestIn ds
   few : length ds ≤ w .number
   bound : w .number ≤ pairs A B
 
-begin-on : (A B : List ℕ) → On A B A B beginning []
+begin-on : (A B : List ℕ) → On A B A B walkBeginning []
 begin-on A B =
     record {
       first = begin-side A;
@@ -205,12 +205,12 @@ module _ {A B s t : List ℕ} {w : Walk} {ds : List Compared} (o : On A B s t w 
           bound = o .bound;
         }
 
-  module _ (y : rest (begunSide (w .first)) s ≡ 0) (z : rest (begunSide (w .second)) t ≡ 0) where
+  module _ (y : groupRest (begunSide (w .first)) s ≡ 0) (z : groupRest (begunSide (w .second)) t ≡ 0) where
     pair-same : samePair A B (w .number) ≡ w .same
     unfolding sameBytes
     pair-same = o .same ∙ rw (y, z) (and-true (w .same))
 
-    the-pair : differs (w .number) (sideOf A (w .number)) (sideOf B (w .number)) ≡ pairOf w
+    the-pair : differs (w .number) (groupSide A (w .number)) (groupSide B (w .number)) ≡ pairOf w
     the-pair = rw (side-whole (o .first) fa y, side-whole (o .second) fb z)
 
     module _ (h : w .number < pairs A B) (l : w .number + 1 < 2 ^ 64) where
@@ -221,14 +221,14 @@ module _ {A B s t : List ℕ} {w : Walk} {ds : List Compared} (o : On A B s t w 
       abbrev with-pair : List Compared
       with-pair = pick (w .same) ds (ds ++ (pairOf w ∷ []))
 
-      lists-next : differences A B 0 ≡ with-pair ++ differences A B (w .number + 1)
+      lists-next : differencesFromPair A B 0 ≡ with-pair ++ differencesFromPair A B (w .number + 1)
       lists-next =
           o .lists
           ∙ rw (lists-more A B (w .number) h, pair-same, the-pair)
-          (⊎-elim (λ q. rw q) (λ q. rw q (sym (append-assoc ds (pairOf w ∷ []) (differences A B (w .number + 1))))) (flag (w .same)))
+          (⊎-elim (λ q. rw q) (λ q. rw q (sym (append-assoc ds (pairOf w ∷ []) (differencesFromPair A B (w .number + 1))))) (flag (w .same)))
 
-      counts-next : counted w ≡ length with-pair
-      unfolding counted
+      counts-next : pairsDiffering w ≡ length with-pair
+      unfolding pairsDiffering
       counts-next = ⊎-elim (λ q. rw q (o .count)) (λ q. rw q (omega (arith, length-append ds (pairOf w ∷ []), o .count, o .few))) (flag (w .same))
 
       lowest-next : lowestOf w ≡ lowestIn with-pair
@@ -244,8 +244,8 @@ module _ {A B s t : List ℕ} {w : Walk} {ds : List Compared} (o : On A B s t w 
 
       on-pair : On A B s t (nextPair w) with-pair
       on-pair =
-          let i : SideAt A s (w .number + 1) (behind (w .first)) = side-behind (o .first) fa y in
-          let j : SideAt B t (w .number + 1) (behind (w .second)) = side-behind (o .second) fb z in
+          let i : SideAt A s (w .number + 1) (sideBehind (w .first)) = side-behind (o .first) fa y in
+          let j : SideAt B t (w .number + 1) (sideBehind (w .second)) = side-behind (o .second) fb z in
           record {
             first = rw next-number i;
             second = rw next-number j;
@@ -271,21 +271,21 @@ module _ {A B s t : List ℕ} {w : Walk} {ds : List Compared} (o : On A B s t w 
       let g = over-here (o .first) fa p c in
       let h = over-here (o .second) fb r d in
       let b = o .bound in
-      let e : differences A B 0 ≡ ds = o .lists ∙ rw (lists-over A B (w .number) (omega arith)) (append-nil ds) in
+      let e : differencesFromPair A B 0 ≡ ds = o .lists ∙ rw (lists-over A B (w .number) (omega arith)) (append-nil ds) in
       record { all = sym e; number = omega arith; differing = rw e (o .count); lowest = rw e (o .lowest) }
 
   -- ---- what a step tells
 
   module _ {a b : List ℕ} {whole ends : Bool} (f : Front s a whole) (g : Front t b ends) where
-    abbrev Tells : Step → Type 0
-    Tells step.WantsFirst = (whole ≡ false) × (length a < recordEnd a 0)
-    Tells step.WantsSecond = (ends ≡ false) × (length b < recordEnd b 0)
-    Tells (step.Row m n u v) = On A B (drop m s) (drop n t) v ds
-    Tells (step.Pair d v) = On A B s t v (pick d (ds ++ (pairOf w ∷ [])) ds)
-    Tells step.Over = Listed A B w ds
+    abbrev StepTells : Step → Type 0
+    StepTells step.WantsFirst = (whole ≡ false) × (length a < recordEnd a 0)
+    StepTells step.WantsSecond = (ends ≡ false) × (length b < recordEnd b 0)
+    StepTells (step.Row m n u v) = On A B (drop m s) (drop n t) v ds
+    StepTells (step.Pair d v) = On A B s t v (pick d (ds ++ (pairOf w ∷ [])) ds)
+    StepTells step.Over = Listed A B w ds
 
     module _ {m n : ℕ} (c : Coming (begunSide (w .first)) s m) (d : Coming (begunSide (w .second)) t n) (k : m ≤ length a) (l : n ≤ length b) where
-      over-tells : (e : Bool) → (eqb (w .first .passed) 0 && eqb (w .second .passed) 0) ≡ e → m ≡ 0 → n ≡ 0 → Tells (pick e step.Over (step.Pair (not (w .same)) (nextPair w)))
+      over-tells : (e : Bool) → (eqb (w .first .passed) 0 && eqb (w .second .passed) 0) ≡ e → m ≡ 0 → n ≡ 0 → StepTells (pick e step.Over (step.Pair (not (w .same)) (nextPair w)))
       over-tells true q x y = on-over q (rw x at c) (rw y at d)
       over-tells false q x y =
           let z = c .none x .0 in
@@ -303,16 +303,16 @@ module _ {A B s t : List ℕ} {w : Walk} {ds : List Compared} (o : On A B s t w 
       bytes-second : take n b ≡ take n t
       bytes-second = rw (g .joins) (sym (take-append-le n b (g .behind) l))
 
-      row-tells : (e : Bool) → (eqb m 0 && eqb n 0) ≡ e → Tells (pick e (pairOver w) (step.Row m n (sameBytes (take m a) (take n b)) (onward w m n (sameBytes (take m a) (take n b)))))
+      row-tells : (e : Bool) → (eqb m 0 && eqb n 0) ≡ e → StepTells (pick e (pairOver w) (step.Row m n (sameBytes (take m a) (take n b)) (onward w m n (sameBytes (take m a) (take n b)))))
       unfolding pairOver
       row-tells true q = over-tells (eqb (w .first .passed) 0 && eqb (w .second .passed) 0) refl (eqb-true m 0 (and-1 (eqb m 0) (eqb n 0) q)) (eqb-true n 0 (and-2 (eqb m 0) (eqb n 0) q))
       row-tells false q = on-row c d (rw (bytes-first, bytes-second))
 
-    on-tells : Tells (stepped w a whole b ends)
-    unfolding stepped row
-    on-tells = go (ahead (begunSide (w .first)) a whole) (front-shows (begunSide (w .first)) f) (ahead (begunSide (w .second)) b ends) (front-shows (begunSide (w .second)) g)
+    on-tells : StepTells (stepped w a whole b ends)
+    unfolding stepped recordRow
+    on-tells = go (ahead (begunSide (w .first)) a whole) (ahead-shown (begunSide (w .first)) f) (ahead (begunSide (w .second)) b ends) (ahead-shown (begunSide (w .second)) g)
       where
-        go : (x : Ahead) → Shown (begunSide (w .first)) f x → (y : Ahead) → Shown (begunSide (w .second)) g y → Tells (shown w a b x y)
+        go : (x : Ahead) → AheadShown (begunSide (w .first)) f x → (y : Ahead) → AheadShown (begunSide (w .second)) g y → StepTells (stepShown w a b x y)
         go ahead-of.Wants p y q = p
         go (ahead-of.Shows m) p ahead-of.Wants q = q
         go (ahead-of.Shows m) p (ahead-of.Shows n) q =

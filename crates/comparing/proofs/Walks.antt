@@ -10,11 +10,11 @@ use lib.ListN.{length, getD}
 use Rattle.words.proofs.Flags.{by-flag}
 use Rattle.words.proofs.Below.{lt-or-ge}
 use Rattle.comparing.specs.Kinds.{startsGroup}
-use Rattle.comparing.specs.Groups.{recordEnd, past, endFrom, groupEnd}
+use Rattle.comparing.specs.Groups.{recordEnd, recordPast, endFrom, groupEnd}
 
 module _ (s : List ℕ) where
-  pub past-more : (at : ℕ) → at < length s → (at < past s at) × (past s at ≤ length s)
-  unfolding past recordEnd
+  pub past-more : (at : ℕ) → at < length s → (at < recordPast s at) × (recordPast s at ≤ length s)
+  unfolding recordPast recordEnd
   past-more at h = (omega arith, omega arith)
 
   -- ---- the end of a group
@@ -26,7 +26,7 @@ module _ (s : List ℕ) where
   end-steps (suc d) zero at h k = rw (le-ltb at (length s) (omega arith))
   end-steps (suc d) (suc e) at h k =
       ⊎-elim
-      (λ l. let w = past-more at l in rw (lt-ltb at (length s) l, end-steps d e (past s at) (omega arith) (omega arith)))
+      (λ l. let w = past-more at l in rw (lt-ltb at (length s) l, end-steps d e (recordPast s at) (omega arith) (omega arith)))
       (λ l. rw (le-ltb at (length s) l))
       (lt-or-ge at (length s))
 
@@ -37,8 +37,8 @@ module _ (s : List ℕ) where
       ⊎-elim
       (λ l.
       let w = past-more at l in
-      let v = end-bounds n (past s at) (w .1) in
-      rw (lt-ltb at (length s) l) (by-flag (λ x. (at ≤ x) × (x ≤ length s)) (startsGroup (getD s at 0)) at (endFrom n s (past s at)) (λ u. omega arith) (λ u. omega arith)))
+      let v = end-bounds n (recordPast s at) (w .1) in
+      rw (lt-ltb at (length s) l) (by-flag (λ x. (at ≤ x) × (x ≤ length s)) (startsGroup (getD s at 0)) at (endFrom n s (recordPast s at)) (λ u. omega arith) (λ u. omega arith)))
       (λ l. rw (le-ltb at (length s) l) (omega arith))
       (lt-or-ge at (length s))
 
@@ -46,7 +46,7 @@ module _ (s : List ℕ) where
   unfolding groupEnd
   group-end at h =
       let w = past-more at h in
-      let v = end-bounds (length s) (past s at) (w .1) in
+      let v = end-bounds (length s) (recordPast s at) (w .1) in
       rw (lt-ltb at (length s) h) (omega arith, omega arith)
 
   pub group-none : (at : ℕ) → length s ≤ at → groupEnd s at ≡ at
@@ -57,11 +57,11 @@ module _ (s : List ℕ) where
   abbrev pub Ends : ℕ → ℕ → Type 0
   Ends at end = (groupEnd s at ≡ endFrom (length s - end) s end) × (end ≤ length s)
 
-  pub ends-start : (at : ℕ) → at < length s → {e : ℕ} → e ≡ past s at → Ends at e
+  pub ends-start : (at : ℕ) → at < length s → {e : ℕ} → e ≡ recordPast s at → Ends at e
   unfolding groupEnd
   ends-start at h {e} p =
       let w = past-more at h in
-      (rw (lt-ltb at (length s) h, p) (end-steps (length s) (length s - past s at) (past s at) (omega arith) (omega arith)), omega arith)
+      (rw (lt-ltb at (length s) h, p) (end-steps (length s) (length s - recordPast s at) (recordPast s at) (omega arith) (omega arith)), omega arith)
 
   pub ends-here : (at end : ℕ) → end < length s → startsGroup (getD s end 0) ≡ true → Ends at end → end ≡ groupEnd s at
   unfolding endFrom
@@ -69,12 +69,12 @@ module _ (s : List ℕ) where
       let k : length s - end ≡ suc (length s - (end + 1)) = omega arith in
       sym (w .0 ∙ rw (k, lt-ltb end (length s) h, q))
 
-  pub ends-more : (at end : ℕ) → end < length s → startsGroup (getD s end 0) ≡ false → {e : ℕ} → e ≡ past s end → Ends at end → Ends at e
+  pub ends-more : (at end : ℕ) → end < length s → startsGroup (getD s end 0) ≡ false → {e : ℕ} → e ≡ recordPast s end → Ends at end → Ends at e
   unfolding endFrom
   ends-more at end h q {e} p w =
       let v = past-more end h in
       let k : length s - end ≡ suc (length s - (end + 1)) = omega arith in
-      (w .0 ∙ rw (k, lt-ltb end (length s) h, q, p) (end-steps (length s - (end + 1)) (length s - past s end) (past s end) (omega arith) (omega arith)), omega arith)
+      (w .0 ∙ rw (k, lt-ltb end (length s) h, q, p) (end-steps (length s - (end + 1)) (length s - recordPast s end) (recordPast s end) (omega arith) (omega arith)), omega arith)
 
   pub ends-over : (at end : ℕ) → length s ≤ end → Ends at end → end ≡ groupEnd s at
   unfolding endFrom

@@ -8,7 +8,7 @@ use Rattle.words.specs.Words.{pick}
 use Rattle.comparing.specs.declared.Fault.{Fault}
 use Rattle.comparing.specs.declared.Fault.the-variants as fault
 use Rattle.comparing.specs.Kinds.{startsGroup, isEvent}
-use Rattle.comparing.specs.Groups.{recordEnd, past}
+use Rattle.comparing.specs.Groups.{recordEnd, recordPast}
 
 -- the number for the record at a place: 14 before 15; 0 where nothing is wrong
 unfoldable pub wrongAt : List ℕ → ℕ → ℕ
@@ -18,7 +18,7 @@ wrongAt s at = pick (isEvent (getD s at 0)) (pick (leb (recordEnd s at) (length 
 unfoldable pub scannedFrom : ℕ → List ℕ → ℕ → Fault
 scannedFrom zero s at = fault.None
 scannedFrom (suc n) s at =
-    pick (ltb at (length s)) (pick (eqb (wrongAt s at) 0) (scannedFrom n s (past s at)) (fault.At (wrongAt s at) at)) fault.None
+    pick (ltb at (length s)) (pick (eqb (wrongAt s at) 0) (scannedFrom n s (recordPast s at)) (fault.At (wrongAt s at) at)) fault.None
 
 -- a record is a byte or more
 unfoldable pub scanned : List ℕ → Fault

@@ -13,17 +13,17 @@ unfoldable pub recordEnd : List ℕ → ℕ → ℕ
 recordEnd s at = at + 1 + lengthOf (getD s at 0)
 
 -- the place behind the record at a place, no further than the log goes
-unfoldable pub past : List ℕ → ℕ → ℕ
-past s at = min (recordEnd s at) (length s)
+unfoldable pub recordPast : List ℕ → ℕ → ℕ
+recordPast s at = min (recordEnd s at) (length s)
 
 -- from a place inside a group on, n records at most: the place of the next start, or the log's end
 unfoldable pub endFrom : ℕ → List ℕ → ℕ → ℕ
 endFrom zero s at = at
-endFrom (suc n) s at = pick (ltb at (length s)) (pick (startsGroup (getD s at 0)) at (endFrom n s (past s at))) at
+endFrom (suc n) s at = pick (ltb at (length s)) (pick (startsGroup (getD s at 0)) at (endFrom n s (recordPast s at))) at
 
 -- "and runs to the next start": the end of the group that begins at a place; the place itself where no byte is left
 unfoldable pub groupEnd : List ℕ → ℕ → ℕ
-groupEnd s at = pick (ltb at (length s)) (endFrom (length s) s (past s at)) at
+groupEnd s at = pick (ltb at (length s)) (endFrom (length s) s (recordPast s at)) at
 
 -- a part of a log
 pub record Part : Type 0 where
@@ -46,5 +46,5 @@ unfoldable pub groups : List ℕ → List Part
 groups s = groupsFrom (length s) s 0
 
 -- "where one log has run out, its side is the empty part at its end"
-unfoldable pub sideOf : List ℕ → ℕ → Part
-sideOf s n = getD (groups s) n (record { place = length s; size = 0 })
+unfoldable pub groupSide : List ℕ → ℕ → Part
+groupSide s n = getD (groups s) n (record { place = length s; size = 0 })

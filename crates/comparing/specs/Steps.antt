@@ -15,31 +15,31 @@ use Rattle.comparing.specs.declared.Ahead.the-variants as ahead-of
 use Rattle.comparing.specs.declared.Step.{Step}
 use Rattle.comparing.specs.declared.Step.the-variants as step
 use Rattle.comparing.specs.Kinds.{startsGroup}
-use Rattle.comparing.specs.Groups.{recordEnd, past}
-use Rattle.comparing.specs.Pairs.{sameBytes, pairs, differences}
+use Rattle.comparing.specs.Groups.{recordEnd, recordPast}
+use Rattle.comparing.specs.Pairs.{sameBytes, pairs, differencesFromPair}
 
 abbrev pub side : ℕ → ℕ → Side
 side place passed = record { place = place; passed = passed }
 
-abbrev pub beginning : Walk
-beginning = record { number = 0; first = side 0 0; second = side 0 0; same = true; differing = 0; lowest = 0 }
+abbrev pub walkBeginning : Walk
+walkBeginning = record { number = 0; first = side 0 0; second = side 0 0; same = true; differing = 0; lowest = 0 }
 
 -- the length of the next record of a group, 0 where the group is over: where a group has begun, a start begins the next one
 abbrev pub recordOf : Bool → List ℕ → ℕ
-recordOf begun s = pick (eqb (length s) 0 || (begun && startsGroup (getD s 0 0))) 0 (past s 0)
+recordOf begun s = pick (eqb (length s) 0 || (begun && startsGroup (getD s 0 0))) 0 (recordPast s 0)
 
 -- what the bytes to come show of it: a record that they do not hold whole ends with the log
 unfoldable pub ahead : Bool → List ℕ → Bool → Ahead
 ahead begun s ends =
     pick (eqb (length s) 0) (pick ends (ahead-of.Shows 0) ahead-of.Wants) (
     pick (begun && startsGroup (getD s 0 0)) (ahead-of.Shows 0) (
-    pick (ends || leb (recordEnd s 0) (length s)) (ahead-of.Shows (past s 0)) ahead-of.Wants))
+    pick (ends || leb (recordEnd s 0) (length s)) (ahead-of.Shows (recordPast s 0)) ahead-of.Wants))
 
 abbrev pub moved : Side → ℕ → Side
 moved d n = side (d .place) ((d .passed + n) % 2 ^ 64)
 
-abbrev pub behind : Side → Side
-behind d = side ((d .place + d .passed) % 2 ^ 64) 0
+abbrev pub sideBehind : Side → Side
+sideBehind d = side ((d .place + d .passed) % 2 ^ 64) 0
 
 -- behind the next records, of m and n bytes
 abbrev pub onward : Walk → ℕ → ℕ → Bool → Walk
@@ -54,8 +54,8 @@ onward w m n same =
     }
 
 -- how many pairs differ, with this one, and the lowest number of those
-unfoldable pub counted : Walk → ℕ
-counted w = pick (w .same) (w .differing) ((w .differing + 1) % 2 ^ 64)
+unfoldable pub pairsDiffering : Walk → ℕ
+pairsDiffering w = pick (w .same) (w .differing) ((w .differing + 1) % 2 ^ 64)
 
 unfoldable pub lowestOf : Walk → ℕ
 lowestOf w = pick (w .same) (w .lowest) (pick (eqb (w .differing) 0) (w .number) (w .lowest))
@@ -65,10 +65,10 @@ abbrev pub nextPair : Walk → Walk
 nextPair w =
     record {
       number = (w .number + 1) % 2 ^ 64;
-      first = behind (w .first);
-      second = behind (w .second);
+      first = sideBehind (w .first);
+      second = sideBehind (w .second);
       same = true;
-      differing = counted w;
+      differing = pairsDiffering w;
       lowest = lowestOf w;
     }
 
@@ -81,22 +81,22 @@ unfoldable pub pairOver : Walk → Step
 pairOver w = pick (untouched w) step.Over (step.Pair (not (w .same)) (nextPair w))
 
 -- where the next records have m and n bytes
-unfoldable pub row : Walk → List ℕ → List ℕ → ℕ → ℕ → Step
-row w a b m n =
+unfoldable pub recordRow : Walk → List ℕ → List ℕ → ℕ → ℕ → Step
+recordRow w a b m n =
     pick (eqb m 0 && eqb n 0) (pairOver w)
     (step.Row m n (sameBytes (take m a) (take n b)) (onward w m n (sameBytes (take m a) (take n b))))
 
-abbrev pub shown : Walk → List ℕ → List ℕ → Ahead → Ahead → Step
-shown w a b ahead-of.Wants q = step.WantsFirst
-shown w a b (ahead-of.Shows m) ahead-of.Wants = step.WantsSecond
-shown w a b (ahead-of.Shows m) (ahead-of.Shows n) = row w a b m n
+abbrev pub stepShown : Walk → List ℕ → List ℕ → Ahead → Ahead → Step
+stepShown w a b ahead-of.Wants q = step.WantsFirst
+stepShown w a b (ahead-of.Shows m) ahead-of.Wants = step.WantsSecond
+stepShown w a b (ahead-of.Shows m) (ahead-of.Shows n) = recordRow w a b m n
 
 abbrev pub begunSide : Side → Bool
 begunSide d = not (eqb (d .passed) 0)
 
 -- the next step on bytes to come of both logs; `whole` says that no more come of the first, `ends` of the second
 unfoldable pub stepped : Walk → List ℕ → Bool → List ℕ → Bool → Step
-stepped w a whole b ends = shown w a b (ahead (begunSide (w .first)) a whole) (ahead (begunSide (w .second)) b ends)
+stepped w a whole b ends = stepShown w a b (ahead (begunSide (w .first)) a whole) (ahead (begunSide (w .second)) b ends)
 
 -- ---- two logs passed step by step, however they come
 
@@ -112,7 +112,7 @@ pairOf w = answer.Differs (w .number) (w .first .place) (w .first .passed) (w .s
 
 -- steps over the logs A and B that led to the walk w: what is still to come of them is s and t, and the steps listed ds
 pub data Walked (A B : List ℕ) : List ℕ → List ℕ → Walk → List Compared → Type 0 where
-  at-start : Walked A B A B beginning []
+  at-start : Walked A B A B walkBeginning []
   by-row : {s t : List ℕ} {w : Walk} {ds : List Compared} → Walked A B s t w ds
       → {a b : List ℕ} {whole ends : Bool} → Front s a whole → Front t b ends
       → {m n : ℕ} {same : Bool} {v : Walk} → stepped w a whole b ends ≡ step.Row m n same v
@@ -135,7 +135,7 @@ lowestIn (answer.Same ∷ ds) = 0
 
 -- where the steps come to the end of both logs: all pairs that differ were listed, in order, and counted
 pub record Listed (A B : List ℕ) (w : Walk) (ds : List Compared) : Type 0 where
-  pub all : ds ≡ differences A B 0
+  pub all : ds ≡ differencesFromPair A B 0
   pub number : w .number ≡ pairs A B
-  pub differing : w .differing ≡ length (differences A B 0)
-  pub lowest : w .lowest ≡ lowestIn (differences A B 0)
+  pub differing : w .differing ≡ length (differencesFromPair A B 0)
+  pub lowest : w .lowest ≡ lowestIn (differencesFromPair A B 0)

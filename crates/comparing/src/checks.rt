@@ -1,13 +1,13 @@
 // The check of a log that comes in parts: `begin`, `pass` for each part in order, and `end`, which tells what `check` tells of the
 // whole log.
 ghost use mathlib.Core.Path.{_≡_};
-ghost use Rattle.comparing.specs.Coming.{beginning, begunInside, passedByte, passedBytes, told};
+ghost use Rattle.comparing.specs.Coming.{checkBeginning, begunInside, passedByte, passedBytes, faultTold};
 use crate::Checking;
 use crate::Fault;
 
 // A check that has seen no byte.
 pub fn begin() -> Checking
-    ensures { λ r. ⌜ r ≡ beginning ⌝ }
+    ensures { λ r. ⌜ r ≡ checkBeginning ⌝ }
 {
     Checking {
         passed: 0,
@@ -79,7 +79,7 @@ pub fn pass(c: Checking, part: &[u8]) -> Checking
 
 // Where no more bytes come.
 pub fn end(c: Checking) -> Fault
-    ensures { λ r. ⌜ r ≡ told c ⌝ }
+    ensures { λ r. ⌜ r ≡ faultTold c ⌝ }
 {
     let place = c.place;
     if c.wrong {

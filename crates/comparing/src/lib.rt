@@ -9,9 +9,9 @@ ghost use Prim.Native.Nat.{_-_, _<_, min};
 ghost use lib.ListN.{length, take, drop};
 ghost use Rattle.comparing.specs.Kinds.{startsGroup, isEvent};
 ghost use Rattle.comparing.specs.Checks.{wrongAt, scanned, checked};
-ghost use Rattle.comparing.specs.Groups.{groupEnd, sideOf};
-ghost use Rattle.comparing.specs.Groups.{past as Groups·past};
-ghost use Rattle.comparing.specs.Pairs.{sameBytes, atStart, found, compared};
+ghost use Rattle.comparing.specs.Groups.{groupEnd, groupSide};
+ghost use Rattle.comparing.specs.Groups.{recordPast};
+ghost use Rattle.comparing.specs.Pairs.{sameBytes, atStart, foundPair, compared};
 
 // Log 1 or 2 refused by number, with the place; or the first pair that differs, with the place and the length of each side; or none.
 pub enum Compared {
@@ -150,7 +150,7 @@ fn is_event(kind: u8) -> bool
 // The place behind the record at a place, no further than the log goes.
 fn past(log: &[u8], at: usize) -> usize
     requires { ⌜ at < length (now log) ⌝ }
-    ensures { λ r. ⌜ r ≡ Groups·past (now (log .entry)) at ⌝ }
+    ensures { λ r. ⌜ r ≡ recordPast (now (log .entry)) at ⌝ }
 {
     let n = records::length_of(log[at]) as usize;
     if n < log.len() - at {
@@ -228,7 +228,7 @@ pub fn group_end(log: &[u8], at: usize) -> usize
 
 // The place of the group of a number; the log's end where it has run out.
 fn skip(log: &[u8], number: usize) -> usize
-    ensures { λ r. ⌜ r ≡ sideOf (now (log .entry)) number .place ⌝ }
+    ensures { λ r. ⌜ r ≡ groupSide (now (log .entry)) number .place ⌝ }
 {
     let mut at = 0;
     let mut left = number;
@@ -291,7 +291,7 @@ pub fn begin() -> Cursor
 // The first pair from a cursor on that differs, and the cursor behind that pair: where it stands at the groups of its number, the same
 // answer as asking with that number. It reads what lies between the two cursors and no more, so that to list all pairs takes one pass.
 pub fn compare_from(a: &[u8], b: &[u8], cursor: Cursor) -> Found
-    ensures { λ r. ⌜ r ≡ found (now (a .entry)) (now (b .entry)) cursor ⌝ }
+    ensures { λ r. ⌜ r ≡ foundPair (now (a .entry)) (now (b .entry)) cursor ⌝ }
 {
     let mut number = cursor.number;
     let mut x = cursor.first;

@@ -1,8 +1,8 @@
 // Two logs that come in parts, side by side: `begin`, then `step` on what is to come of both, over and over. The steps end each pair in
 // order, and say which differ.
 ghost use mathlib.Core.Path.{_≡_};
-ghost use Rattle.comparing.specs.Steps.{beginning, ahead, onward, counted, lowestOf, nextPair, pairOver, stepped};
-ghost use Rattle.comparing.specs.Steps.{moved as Steps·moved, behind as Steps·behind, row as Steps·row};
+ghost use Rattle.comparing.specs.Steps.{walkBeginning, ahead, onward, pairsDiffering, lowestOf, nextPair, pairOver, stepped};
+ghost use Rattle.comparing.specs.Steps.{moved as Steps·moved, sideBehind, recordRow};
 use crate::Ahead;
 use crate::Side;
 use crate::Step;
@@ -10,7 +10,7 @@ use crate::Walk;
 
 // A walk that stands at the first pair.
 pub fn begin() -> Walk
-    ensures { λ r. ⌜ r ≡ beginning ⌝ }
+    ensures { λ r. ⌜ r ≡ walkBeginning ⌝ }
 {
     let side = Side {
         place: 0,
@@ -58,7 +58,7 @@ fn moved(d: Side, n: usize) -> Side
 
 // The side of the next pair.
 fn behind(d: Side) -> Side
-    ensures { λ r. ⌜ r ≡ Steps·behind d ⌝ }
+    ensures { λ r. ⌜ r ≡ sideBehind d ⌝ }
 {
     Side {
         place: std::num::wrapping_add_usize(d.place, d.passed),
@@ -82,7 +82,7 @@ fn row_passed(w: Walk, m: usize, n: usize, same: bool) -> Walk
 
 // The pairs that differ, with this one.
 fn differing(w: Walk) -> usize
-    ensures { λ r. ⌜ r ≡ counted w ⌝ }
+    ensures { λ r. ⌜ r ≡ pairsDiffering w ⌝ }
 {
     if w.same {
         return w.differing;
@@ -134,7 +134,7 @@ fn pair_over(w: Walk) -> Step
 
 // The next records, of m and n bytes.
 fn row(w: Walk, a: &[u8], b: &[u8], m: usize, n: usize) -> Step
-    ensures { λ r. ⌜ r ≡ Steps·row w (now (a .entry)) (now (b .entry)) m n ⌝ }
+    ensures { λ r. ⌜ r ≡ recordRow w (now (a .entry)) (now (b .entry)) m n ⌝ }
 {
     if (m == 0) & (n == 0) {
         return pair_over(w);

@@ -18,7 +18,7 @@ use Rattle.model.specs.Inner.{Sized, Encodes, Does}
 use Rattle.words.proofs.Flags.{and-1, and-2, and-i}
 use Rattle.model.proofs.Fits.{ranged, fit}
 use Rattle.encoding.proofs.LentSoundFacts.{sound-is}
-use Rattle.encoding.proofs.Standing.{encode-stands, stands-encode, encode-lengths}
+use Rattle.encoding.proofs.Standing.{encode-stands, standing-encodes, encode-lengths}
 use Rattle.encoding.proofs.NumbersAreTables.{stands-tables}
 use Rattle.encoding.proofs.SoundByPlace.{soundly-shape, soundly-is}
 use Rattle.encoding.proofs.EncodeIsSound.{stands-sound}
@@ -44,7 +44,7 @@ sound-encoded S L range fits small e =
     record {
       range = range;
       soundly = soundly-is S (tablesOf S L) .test (stands-soundly S L (tablesOf S L) st (read-shape S L is) is small);
-      encoded = stands-encode S L (tablesOf S L) st a b c;
+      encoded = standing-encodes S L (tablesOf S L) st a b c;
     }
 
 -- ---- from the tables

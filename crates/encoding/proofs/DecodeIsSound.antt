@@ -28,8 +28,8 @@ use Rattle.words.proofs.Tabled.{any-get, length-table, getD-table}
 use Rattle.encoding.proofs.InUse.{in-use-few, below-used, free-past}
 use Rattle.encoding.proofs.LentSoundFacts.{tag, status, mask, readable, miss, sent, ticketCount, ticket, kind, queueMask, Live, Used, SoundIs, tree}
 use Rattle.encoding.proofs.Standing.{field, field-in, field-out, ByNumber}
-use Rattle.encoding.proofs.NumbersAreTables.{line, sector, entry, place, Shape, reserved-number, tag-is, cycle-is, taken-is, tree-is, status-is, mask-is, readable-is, dirty-counts, miss-is, sent-is, entry-in, in-entry, kind-in, queued-in, queue-mask-is, reads-are, lives, live-i}
-use Rattle.encoding.proofs.SoundByPlace.{SectorOk, LineOk, Alone, Agrees, EntryOk, QueuedOk, Soundly, bit-clear}
+use Rattle.encoding.proofs.NumbersAreTables.{line, sector, entry, place, Shape, reserved-number, tag-is, cycle-is, lent-taken-is, lent-tree-is, status-is, mask-is, readable-is, dirty-counts, miss-is, lent-sent-is, entry-in, in-entry, kind-in, queued-in, queue-mask-is, reads-are, lives, live-i}
+use Rattle.encoding.proofs.SoundByPlace.{SectorOk, LineOk, OnlyTag, Agrees, EntryOk, QueuedOk, Soundly, bit-clear}
 
 module _ (S : Settings) (L : Lent) (is : SoundIs S L) where
   -- a tag is on one live line only
@@ -66,7 +66,7 @@ module _ (S : Settings) (L : Lent) (t : Tables) (st : ByNumber S L t) (sh : Shap
       let f = is .lines l h in
       let a = tag-is S L t st sh l h in
       let c = cycle-is S L t st sh l h in
-      let k = taken-is S L t st sh l h in
+      let k = lent-taken-is S L t st sh l h in
       record {
         four = sh .fours l h;
         sectors = λ k j. sector-ok l k h j;
@@ -77,7 +77,7 @@ module _ (S : Settings) (L : Lent) (t : Tables) (st : ByNumber S L t) (sh : Shap
         home = λ v. rw a at (f .home (live-i S L t st sh l h v));
       }
 
-  alone : (l : ℕ) → l < linesOf S → Alone S t l
+  alone : (l : ℕ) → l < linesOf S → OnlyTag S t l
   alone l h v m k u e =
       let b = in-lines m k in
       one-line S L is m l b h (live-i S L t st sh m b u) (live-i S L t st sh l h v) (tag-is S L t st sh m b ∙ e ∙ sym (tag-is S L t st sh l h))
@@ -131,7 +131,7 @@ module _ (S : Settings) (L : Lent) (t : Tables) (st : ByNumber S L t) (sh : Shap
             one-entry S L is d e c b (in-entry S L t st sh d k) u (miss-is S L t st sh d c ∙ q ∙ sym a);
         held = sh .held e i;
         short = sh .short e i;
-        asked = λ s. sym (reads-are S L t st sh (entry t e .address)) ∙ rw a at (f .asked u (sent-is S L t st sh e b ∙ ap bit s));
+        asked = λ s. sym (reads-are S L t st sh (entry t e .address)) ∙ rw a at (f .asked u (lent-sent-is S L t st sh e b ∙ ap bit s));
       }
     where
       below : (a b : ℕ) → b < 2 ^ 48 → b % 128 ≡ 0 → b ≡ blockOf a → a < 2 ^ 48
@@ -148,7 +148,7 @@ module _ (S : Settings) (L : Lent) (t : Tables) (st : ByNumber S L t) (sh : Shap
             let (e, b, w) = f .backed (n ∙ q) in (
               e,
               entry-in S L t st sh e b (w .used),
-              (sym (miss-is S L t st sh e b) ∙ w .has ∙ a, bit-clear (entry t e .sent) (sym (sent-is S L t st sh e b) ∙ w .waits)),
+              (sym (miss-is S L t st sh e b) ∙ w .has ∙ a, bit-clear (entry t e .sent) (sym (lent-sent-is S L t st sh e b) ∙ w .waits)),
             );
         bare = λ q k j. sym (queue-mask-is S L t st sh p k h j) ∙ f .bare (omega arith) k j;
         block = λ q. rw a at (f .block (n ∙ q));
@@ -170,7 +170,7 @@ module _ (S : Settings) (L : Lent) (t : Tables) (st : ByNumber S L t) (sh : Shap
     deep = sh .deep;
     counted = sym (st .count) ∙ is .counted ∙ dirty-counts S L t st sh;
     treed = sh .treed;
-    turned = λ i h. let j : i < S .sets = rw (sh .treed) at h in rw (tree-is S L t st sh i j) at (is .trees i j);
+    turned = λ i h. let j : i < S .sets = rw (sh .treed) at h in rw (lent-tree-is S L t st sh i j) at (is .trees i j);
   }
 
 -- ---- the tables that are read off
@@ -225,8 +225,8 @@ module _ (S : Settings) (L : Lent) (is : SoundIs S L) where
   used-place : (p : ℕ) → p < deep → (p < S .queue) × (kind S L p ≡ 0 → ⊥)
   used-place p h = below-used (kind S L) (S .queue) p (is .places-first) h
 
-  abbrev lineOf : ℕ → Line
-  lineOf = lineAt S (L .longs) (L .words) (L .marks)
+  abbrev decodedLine : ℕ → Line
+  decodedLine = lineAt S (L .longs) (L .words) (L .marks)
 
   -- place k of the tickets of entry e, past them 0
   ticket-past : 1 ≤ S .readers → (e k : ℕ) → e < S .misses → k < S .readers → ticketCount S L e ≤ k → ticket S L (S .readers * e + k) ≡ 0
@@ -265,18 +265,18 @@ module _ (S : Settings) (L : Lent) (is : SoundIs S L) where
   pub read-stands : 1 ≤ S .readers → ByNumber S L (tablesOf S L)
   unfolding tablesOf
   read-stands pos = record {
-    tags = λ l h. sym (field-table tagOf (linesOf S) lineOf l 0 h);
-    cycles = λ l h. sym (field-table cycleOf (linesOf S) lineOf l 0 h);
-    takens = λ l h. sym (field-table takenOf (linesOf S) lineOf l 0 h);
+    tags = λ l h. sym (field-table tagOf (linesOf S) decodedLine l 0 h);
+    cycles = λ l h. sym (field-table cycleOf (linesOf S) decodedLine l 0 h);
+    takens = λ l h. sym (field-table takenOf (linesOf S) decodedLine l 0 h);
     statuses = λ l k h j.
         number-back (status S L (4 * l + k)) (is .sectors (4 * l + k) (omega arith) .known)
         ∙ sectors-at (λ s. statusNumber (s .status)) S (L .words) (L .marks) l k j
-        ∙ sym (field-table statusesOf (linesOf S) lineOf l k h);
-    masks = λ l k h j. sectors-at (λ s. s .mask) S (L .words) (L .marks) l k j ∙ sym (field-table masksOf (linesOf S) lineOf l k h);
+        ∙ sym (field-table statusesOf (linesOf S) decodedLine l k h);
+    masks = λ l k h j. sectors-at (λ s. s .mask) S (L .words) (L .marks) l k j ∙ sym (field-table masksOf (linesOf S) decodedLine l k h);
     readables = λ l k h j.
         mark-back (readable S L (4 * l + k)) (is .sectors (4 * l + k) (omega arith) .mark)
         ∙ sectors-at (λ s. bit (s .readable)) S (L .words) (L .marks) l k j
-        ∙ sym (field-table readablesOf (linesOf S) lineOf l k h);
+        ∙ sym (field-table readablesOf (linesOf S) decodedLine l k h);
     misses = λ e h. of-entries missOf 0 e h refl (λ z. is .entries e h .blank z .0);
     sents = λ e h. of-entries sentOf 0 e h (mark-back (sent S L e) (is .entries e h .mark)) (λ z. is .entries e h .blank z .1);
     ticket-counts = λ e h. of-entries ticketCountOf 0 e h (sym (length-table (ticketCount S L e) (λ j. ticket S L (S .readers * e + j)))) (λ z. z);
@@ -307,8 +307,8 @@ module _ (S : Settings) (L : Lent) (is : SoundIs S L) where
   pub read-shape : Shape S (tablesOf S L)
   unfolding tablesOf
   read-shape = record {
-    size = length-table (linesOf S) lineOf;
-    fours = λ l h. ap (λ (x : Line). length (x .sectors)) (getD-table (linesOf S) lineOf l fresh h);
+    size = length-table (linesOf S) decodedLine;
+    fours = λ l h. ap (λ (x : Line). length (x .sectors)) (getD-table (linesOf S) decodedLine l fresh h);
     few = rw (length-table few (entryAt S L)) (in-use-few (ticketCount S L) (S .misses));
     held = λ e h.
         let i : e < few = rw (length-table few (entryAt S L)) at h in

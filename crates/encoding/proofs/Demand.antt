@@ -7,7 +7,7 @@ use Rattle.model.specs.Address.{wellFormed}
 use Rattle.model.specs.Lent.{Lent, lengthsFit, tablesOf}
 use Rattle.model.specs.SoundLent.{soundLent, Small}
 use Rattle.model.specs.Rounds.{calls, Settles}
-use Rattle.model.specs.Seen.{Demand3, callActs}
+use Rattle.model.specs.Seen.{Demand3, seenCalls}
 use Rattle.model.specs.declared.Settings.{Settings}
 use Rattle.model.specs.declared.Access.{Access}
 use Rattle.model.proofs.Soundness.{send-keeps-sound, fill-keeps-sound}
@@ -29,6 +29,6 @@ rounds-settled-lent S x L range fits small soundly formed =
 
 -- words are 32-bit numbers, as their type says (`Small`)
 pub demand-3-seen-lent : (S : Settings) (x : Access) (L : Lent) → inRange S ≡ true → lengthsFit S L ≡ true → Small L → soundLent S L ≡ true → wellFormed x ≡ true
-    → Demand3 (callActs S x) L
+    → Demand3 (seenCalls S x) L
 demand-3-seen-lent S x L range fits small soundly formed =
     demand-seen (calls S x) (calls-clear S x .offers) L (rounds-settled-lent S x L range fits small soundly formed)

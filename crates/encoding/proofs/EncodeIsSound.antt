@@ -22,9 +22,9 @@ use Rattle.words.proofs.Below.{every-at, some-at, some-i, lt-or-ge}
 use Rattle.model.proofs.Answers.{status-below}
 use Rattle.model.proofs.ProbeFindsSpot.{reserved-used}
 use Rattle.words.proofs.Tabled.{any-get}
-use Rattle.encoding.proofs.LentSoundFacts.{tag, status, readable, miss, sent, ticketCount, ticket, queued, kind, Live, Used, LineIs, SectorIs, Reserves, EntryIs, Unsent, PlaceIs, SoundIs}
+use Rattle.encoding.proofs.LentSoundFacts.{tag, status, readable, miss, sent, ticketCount, ticket, queued, kind, Live, Used, LentLineIs, SectorIs, Reserves, LentEntryIs, Unsent, PlaceIs, SoundIs}
 use Rattle.encoding.proofs.Standing.{ByNumber}
-use Rattle.encoding.proofs.NumbersAreTables.{line, sector, entry, place, maskIn, Shape, reserved-number, tag-is, cycle-is, taken-is, tree-is, status-is, mask-is, readable-is, unused-is, dirty-counts, miss-is, sent-is, count-is, ticket-is, count-out, entry-in, in-entry, kind-in, kind-out, queued-in, queued-out, queue-mask-is, place-in, in-place, reads-are, lives, live-i}
+use Rattle.encoding.proofs.NumbersAreTables.{line, sector, entry, place, maskIn, Shape, reserved-number, tag-is, cycle-is, lent-taken-is, lent-tree-is, status-is, mask-is, readable-is, unused-is, dirty-counts, miss-is, lent-sent-is, count-is, ticket-is, count-out, entry-in, in-entry, kind-in, kind-out, queued-in, queued-out, queue-mask-is, place-in, in-place, reads-are, lives, live-i}
 use Rattle.encoding.proofs.SoundByPlace.{Lives, Soundly, soundly-shape, bit-clear}
 
 bit-low : (r : Bool) → bit r ≤ 1
@@ -48,12 +48,12 @@ module _ (S : Settings) (L : Lent) (t : Tables) (st : ByNumber S L t) (so : Soun
   dies : (l : ℕ) → l < linesOf S → (Live S L l → ⊥) → whollyInvalid (line t l) ≡ true
   dies l h f = ⊎-elim (λ u. u) (λ u. absurd (f (live-i S L t st sh l h u))) (flag (whollyInvalid (line t l)))
 
-  line-is : (l : ℕ) → l < linesOf S → LineIs S L l
+  line-is : (l : ℕ) → l < linesOf S → LentLineIs S L l
   line-is l h =
       let f = so .lines l h in
       let a = tag-is S L t st sh l h in
       let c = cycle-is S L t st sh l h in
-      let k = taken-is S L t st sh l h in
+      let k = lent-taken-is S L t st sh l h in
       record {
         dead = λ d. let z = f .dead (dies l h d) in ((a ∙ z .0 .0, c ∙ z .0 .1), k ∙ z .1);
         block = λ v. rw a (f .block (lives S L t st sh l h v));
@@ -129,10 +129,10 @@ module _ (S : Settings) (L : Lent) (t : Tables) (st : ByNumber S L t) (so : Soun
       let m = miss-is S L t st sh e h in
       (l, n, record { lives = live-i S L t st sh l n v; has = rw m (tag-is S L t st sh l n ∙ at); waits = rw m x })
 
-  entry-is : (e : ℕ) → e < S .misses → EntryIs S L e
+  entry-is : (e : ℕ) → e < S .misses → LentEntryIs S L e
   entry-is e h =
       let m = miss-is S L t st sh e h in
-      let x = sent-is S L t st sh e h in
+      let x = lent-sent-is S L t st sh e h in
       let c = count-is S L t st sh e h in
       record {
         few = ⊎-elim (λ l. rw c (so .entries e l .short)) (λ k. omega (arith, count-out S L t st sh e h k)) (lt-or-ge e (length (t .misses)));
@@ -168,7 +168,7 @@ module _ (S : Settings) (L : Lent) (t : Tables) (st : ByNumber S L t) (so : Soun
         b,
         record {
           used = in-entry S L t st sh e i;
-          waits = sent-is S L t st sh e b ∙ ap bit s;
+          waits = lent-sent-is S L t st sh e b ∙ ap bit s;
           has = miss-is S L t st sh e b ∙ a ∙ sym (queued-in S L t st sh p l);
         },
       )
@@ -211,5 +211,5 @@ module _ (S : Settings) (L : Lent) (t : Tables) (st : ByNumber S L t) (so : Soun
     places-first = λ p h z. let k : length (t .queue) ≤ p = place-out p (omega arith) z in kind-out S L t st sh (p + 1) (omega arith) (omega arith);
     places = place-is;
     counted = st .count ∙ so .counted ∙ sym (dirty-counts S L t st sh);
-    trees = λ i h. rw (tree-is S L t st sh i h) (so .turned i (rw (so .treed) h));
+    trees = λ i h. rw (lent-tree-is S L t st sh i h) (so .turned i (rw (so .treed) h));
   }

@@ -10,13 +10,13 @@ use borrow.Author.Tests.{eqb-true, eqb-false, eq-eqb, ne-eqb}
 use Rattle.model.specs.Lent.{inUse}
 use Rattle.words.proofs.Flags.{flag}
 use Rattle.words.proofs.Below.{count-most, last-or-below, count-short}
-use Rattle.encoding.proofs.LentSoundFacts.{First}
+use Rattle.encoding.proofs.LentSoundFacts.{UsedFirst}
 
 -- ---- places in use
 
 module _ (f : ℕ → ℕ) where
   -- a used place has only used ones before it
-  used-down : (n i d : ℕ) → First n f → i + d < n → (f (i + d) ≡ 0 → ⊥) → f i ≡ 0 → ⊥
+  used-down : (n i d : ℕ) → UsedFirst n f → i + d < n → (f (i + d) ≡ 0 → ⊥) → f i ≡ 0 → ⊥
   used-down n i zero g h u z = u (ap f (omega arith) ∙ z)
   used-down n i (suc d) g h u z =
       used-down n i d g (omega arith)
@@ -27,7 +27,7 @@ module _ (f : ℕ → ℕ) where
   all-used (suc n) g = rw (all-used n (λ i h. g i (omega arith)), ne-eqb (f n) 0 (g n (omega arith))) (omega arith)
 
   -- those before a used one
-  used-before : (n : ℕ) → First (suc n) f → eqb (f n) 0 ≡ false → (i : ℕ) → i < suc n → f i ≡ 0 → ⊥
+  used-before : (n : ℕ) → UsedFirst (suc n) f → eqb (f n) 0 ≡ false → (i : ℕ) → i < suc n → f i ≡ 0 → ⊥
   used-before n g z i h = used-down (suc n) i (n - i) g (omega arith) (λ e. eqb-false _ _ z (ap f (omega arith) ∙ e))
 
   pub in-use-few : (n : ℕ) → inUse n f ≤ n
@@ -36,7 +36,7 @@ module _ (f : ℕ → ℕ) where
   pub in-use-is : (n m : ℕ) → m ≤ n → ((i : ℕ) → i < m → f i ≡ 0 → ⊥) → ((i : ℕ) → i < n → m ≤ i → f i ≡ 0) → inUse n f ≡ m
   in-use-is n m h u z = count-short (λ i. not (eqb (f i) 0)) n m h (λ i a b. ap not (eq-eqb _ _ (z i a b))) ∙ all-used m u
 
-  pub used-below : (n i : ℕ) → First n f → i < n → (f i ≡ 0 → ⊥) → i < inUse n f
+  pub used-below : (n i : ℕ) → UsedFirst n f → i < n → (f i ≡ 0 → ⊥) → i < inUse n f
   used-below zero i g h u = absurd (not-suc-le-zero h)
   used-below (suc n) i g h u = go (flag (eqb (f n) 0)) (λ l. used-below n i (λ j k. g j (omega arith)) l u)
     where
@@ -45,7 +45,7 @@ module _ (f : ℕ → ℕ) where
           rw z (⊎-elim (λ q. absurd (u (ap f q ∙ eqb-true _ _ z))) (λ l. omega (arith, ih l)) (last-or-below n i h))
       go (inr z) ih = let w : inUse n f ≡ n = all-used n (λ j k. used-before n g z j (omega arith)) in rw (z, w) (omega arith)
 
-  pub below-used : (n i : ℕ) → First n f → i < inUse n f → (i < n) × (f i ≡ 0 → ⊥)
+  pub below-used : (n i : ℕ) → UsedFirst n f → i < inUse n f → (i < n) × (f i ≡ 0 → ⊥)
   below-used zero i g h = absurd (not-suc-le-zero h)
   below-used (suc n) i g h = go (flag (eqb (f n) 0)) (λ l. below-used n i (λ j k. g j (omega arith)) l)
     where
@@ -57,6 +57,6 @@ module _ (f : ℕ → ℕ) where
           (omega arith, used-before n g z i (omega arith))
 
   -- from the number of those in use on, none is
-  pub free-past : (n i : ℕ) → First n f → i < n → inUse n f ≤ i → f i ≡ 0
+  pub free-past : (n i : ℕ) → UsedFirst n f → i < n → inUse n f ≤ i → f i ≡ 0
   free-past n i g h k =
       ⊎-elim (λ t. eqb-true _ _ t) (λ t. let l : i < inUse n f = used-below n i g h (eqb-false _ _ t) in absurd (omega arith)) (flag (eqb (f i) 0))

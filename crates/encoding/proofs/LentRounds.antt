@@ -16,7 +16,7 @@ use Rattle.model.specs.Sound.{sound}
 use Rattle.model.specs.Steps.{access, send, fill}
 use Rattle.model.specs.Calls.{encoded}
 use Rattle.model.specs.Inner.{Encodes}
-use Rattle.model.specs.Rounds.{steps, calls, Turn, took, andThen, Run, goOn, isEmpty, sendTurn, fillFirst, drain, rounds, heldIn, waits, Settles}
+use Rattle.model.specs.Rounds.{steps, calls, Turn, took, andThen, Run, outcomeGoOn, isEmpty, outcomeSend, outcomeFill, outcomeDrain, outcomeRounds, outcomeHeld, outcomeWaits, Settles}
 use Rattle.encoding.proofs.Bridge.{tables-of-encode, call-on}
 use Rattle.model.proofs.SeenRounds.{took-left}
 use Rattle.words.proofs.Flags.{flag}
@@ -45,32 +45,32 @@ module _ (S : Settings) where
   accepted-encoded (done es u ∷ os) = refl
 
   go-encoded : (a : Turn Tables) (rest : Tables → Run Tables) (more : Lent → Run Lent) (o : Outcome Tables)
-      → more (encode S (a .left)) ≡ runOf S (rest (a .left)) → goOn (turnOf S a) more (encoded S o) ≡ runOf S (goOn a rest o)
+      → more (encode S (a .left)) ≡ runOf S (rest (a .left)) → outcomeGoOn (turnOf S a) more (encoded S o) ≡ runOf S (outcomeGoOn a rest o)
   go-encoded a rest more (refused n) e = rw e
   go-encoded a rest more (done es u) e = refl
 
 -- ---- the rounds
 
 module _ (S : Settings) (x : Access) (range : inRange S ≡ true) (keeps : Keeps S) where
-  send-sound : (t : Tables) → sound S t ≡ true → sound S (sendTurn (steps S x) t .left) ≡ true
-  unfolding sendTurn
+  send-sound : (t : Tables) → sound S t ≡ true → sound S (outcomeSend (steps S x) t .left) ≡ true
+  unfolding outcomeSend
   send-sound t e = ⊎-elim (λ q. rw q e) (λ q. rw q (rw (took-left t (send t)) (keeps .sends t e))) (flag (isEmpty (t .queue)))
 
-  fill-sound : (es : List Entry) (t : Tables) → sound S t ≡ true → sound S (fillFirst (steps S x) es t .left) ≡ true
-  unfolding fillFirst
+  fill-sound : (es : List Entry) (t : Tables) → sound S t ≡ true → sound S (outcomeFill (steps S x) es t .left) ≡ true
+  unfolding outcomeFill
   fill-sound [] t e = e
   fill-sound (y ∷ es) t e = ⊎-elim (λ q. rw q (rw (took-left t (fill (y .address) t)) (keeps .fills (y .address) t e))) (λ q. rw q (fill-sound es t e)) (flag (y .sent))
 
-  drain-sound : (t : Tables) → sound S t ≡ true → sound S (drain (steps S x) t .left) ≡ true
-  unfolding drain
-  drain-sound t e = fill-sound (sendTurn (steps S x) t .left .misses) (sendTurn (steps S x) t .left) (send-sound t e)
+  drain-sound : (t : Tables) → sound S t ≡ true → sound S (outcomeDrain (steps S x) t .left) ≡ true
+  unfolding outcomeDrain
+  drain-sound t e = fill-sound (outcomeSend (steps S x) t .left .misses) (outcomeSend (steps S x) t .left) (send-sound t e)
 
-  send-encoded : (t : Tables) → sound S t ≡ true → sendTurn (calls S x) (encode S t) ≡ turnOf S (sendTurn (steps S x) t)
-  unfolding sendTurn
+  send-encoded : (t : Tables) → sound S t ≡ true → outcomeSend (calls S x) (encode S t) ≡ turnOf S (outcomeSend (steps S x) t)
+  unfolding outcomeSend
   send-encoded t e = rw (tables-of-encode S t e, call-on S send t range e) (⊎-elim (λ q. rw q) (λ q. rw q (took-encoded S t (send t))) (flag (isEmpty (t .queue))))
 
-  fill-encoded : (es : List Entry) (t : Tables) → sound S t ≡ true → fillFirst (calls S x) es (encode S t) ≡ turnOf S (fillFirst (steps S x) es t)
-  unfolding fillFirst
+  fill-encoded : (es : List Entry) (t : Tables) → sound S t ≡ true → outcomeFill (calls S x) es (encode S t) ≡ turnOf S (outcomeFill (steps S x) es t)
+  unfolding outcomeFill
   fill-encoded [] t e = refl
   fill-encoded (y ∷ es) t e =
       rw (call-on S (fill (y .address)) t range e)
@@ -79,40 +79,40 @@ module _ (S : Settings) (x : Access) (range : inRange S ≡ true) (keeps : Keeps
       (λ q. rw q (fill-encoded es t e))
       (flag (y .sent)))
 
-  drain-encoded : (t : Tables) → sound S t ≡ true → drain (calls S x) (encode S t) ≡ turnOf S (drain (steps S x) t)
-  unfolding drain
+  drain-encoded : (t : Tables) → sound S t ≡ true → outcomeDrain (calls S x) (encode S t) ≡ turnOf S (outcomeDrain (steps S x) t)
+  unfolding outcomeDrain
   drain-encoded t e =
-      ap (λ (a : Turn Lent). andThen a (λ u. fillFirst (calls S x) (tablesOf S u .misses) u)) (send-encoded t e)
-      ∙ rw (tables-of-encode S (sendTurn (steps S x) t .left) (send-sound t e))
-      (rw (fill-encoded (sendTurn (steps S x) t .left .misses) (sendTurn (steps S x) t .left) (send-sound t e)))
+      ap (λ (a : Turn Lent). andThen a (λ u. outcomeFill (calls S x) (tablesOf S u .misses) u)) (send-encoded t e)
+      ∙ rw (tables-of-encode S (outcomeSend (steps S x) t .left) (send-sound t e))
+      (rw (fill-encoded (outcomeSend (steps S x) t .left .misses) (outcomeSend (steps S x) t .left) (send-sound t e)))
 
-  pub rounds-encoded : (n : ℕ) (t : Tables) → sound S t ≡ true → rounds (calls S x) n (encode S t) ≡ runOf S (rounds (steps S x) n t)
-  unfolding rounds
+  pub rounds-encoded : (n : ℕ) (t : Tables) → sound S t ≡ true → outcomeRounds (calls S x) n (encode S t) ≡ runOf S (outcomeRounds (steps S x) n t)
+  unfolding outcomeRounds
   rounds-encoded zero t e = refl
   rounds-encoded (suc n) t e =
       let d = drain-sound t e in
-      rw (drain-encoded t e, call-on S (access S x) (drain (steps S x) t .left) range d)
-      (go-encoded S (drain (steps S x) t) (rounds (steps S x) n) (rounds (calls S x) n) (access S x (drain (steps S x) t .left))
-      (rounds-encoded n (drain (steps S x) t .left) d))
+      rw (drain-encoded t e, call-on S (access S x) (outcomeDrain (steps S x) t .left) range d)
+      (go-encoded S (outcomeDrain (steps S x) t) (outcomeRounds (steps S x) n) (outcomeRounds (calls S x) n) (access S x (outcomeDrain (steps S x) t .left))
+      (rounds-encoded n (outcomeDrain (steps S x) t .left) d))
 
   -- ---- where they settle
 
-  waits-encoded : (t : Tables) → sound S t ≡ true → waits (calls S x) (encode S t) ≡ waits (steps S x) t
+  waits-encoded : (t : Tables) → sound S t ≡ true → outcomeWaits (calls S x) (encode S t) ≡ outcomeWaits (steps S x) t
   waits-encoded t e = rw (tables-of-encode S t e)
 
-  settles-encoded : (n : ℕ) (t : Tables) → sound S t ≡ true → any accepted (rounds (steps S x) n t .offers) ≡ true
-      → any accepted (rounds (calls S x) n (encode S t) .offers) ≡ true
-  settles-encoded n t e h = rw (rounds-encoded n t e) (accepted-encoded S (rounds (steps S x) n t .offers) ∙ h)
+  settles-encoded : (n : ℕ) (t : Tables) → sound S t ≡ true → any accepted (outcomeRounds (steps S x) n t .offers) ≡ true
+      → any accepted (outcomeRounds (calls S x) n (encode S t) .offers) ≡ true
+  settles-encoded n t e h = rw (rounds-encoded n t e) (accepted-encoded S (outcomeRounds (steps S x) n t .offers) ∙ h)
 
-  held-encoded : (n : ℕ) (t : Tables) → sound S t ≡ true → heldIn (steps S x) n t → heldIn (calls S x) n (encode S t)
+  held-encoded : (n : ℕ) (t : Tables) → sound S t ≡ true → outcomeHeld (steps S x) n t → outcomeHeld (calls S x) n (encode S t)
   held-encoded n t e h =
-      rw (rounds-encoded (suc n) t e) (List·getD-map (encoded S) (rounds (steps S x) (suc n) t .offers) n (done [] t) ∙ ap (encoded S) h)
+      rw (rounds-encoded (suc n) t e) (List·getD-map (encoded S) (outcomeRounds (steps S x) (suc n) t .offers) n (done [] t) ∙ ap (encoded S) h)
 
   pub settled-encoded : (t : Tables) → sound S t ≡ true → Settles (steps S x) t → Settles (calls S x) (encode S t)
   settled-encoded t e d = record {
     settles = ⊎-elim
-        (λ h. inl (rw (waits-encoded t e) (settles-encoded (suc (waits (steps S x) t)) t e h)))
-        (λ h. inr (λ j. rw (waits-encoded t e) (held-encoded (waits (steps S x) t + j) t e (h j))))
+        (λ h. inl (rw (waits-encoded t e) (settles-encoded (suc (outcomeWaits (steps S x) t)) t e h)))
+        (λ h. inr (λ j. rw (waits-encoded t e) (held-encoded (outcomeWaits (steps S x) t + j) t e (h j))))
         (d .settles);
   }
 

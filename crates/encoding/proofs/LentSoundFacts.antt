@@ -81,8 +81,8 @@ pub record Block (a : ℕ) : Type 0 where
   pub low : a < 2 ^ 48
 
 -- of n places those whose f isn't 0 are the first
-abbrev pub First : ℕ → (ℕ → ℕ) → Type 0
-First n f = (i : ℕ) → i < n - 1 → f i ≡ 0 → f (i + 1) ≡ 0
+abbrev pub UsedFirst : ℕ → (ℕ → ℕ) → Type 0
+UsedFirst n f = (i : ℕ) → i < n - 1 → f i ≡ 0 → f (i + 1) ≡ 0
 
 module _ (S : Settings) (L : Lent) where
   abbrev pub Live : ℕ → Type 0
@@ -91,7 +91,7 @@ module _ (S : Settings) (L : Lent) where
   abbrev pub Used : ℕ → Type 0
   Used e = ticketCount S L e ≡ 0 → ⊥
 
-  pub record LineIs (l : ℕ) : Type 0 where
+  pub record LentLineIs (l : ℕ) : Type 0 where
     pub dead : (Live l → ⊥) → ((tag S L l ≡ 0) × (cycle S L l ≡ 0)) × (taken S L l ≡ 0)
     pub block : Live l → Block (tag S L l)
     pub home : Live l → setIndex S (tag S L l) ≡ l / S .ways
@@ -113,7 +113,7 @@ module _ (S : Settings) (L : Lent) where
     pub has : tag S L l ≡ blockOf a
     pub waits : status S L (4 * l + sectorIndex a) ≡ 1
 
-  pub record EntryIs (e : ℕ) : Type 0 where
+  pub record LentEntryIs (e : ℕ) : Type 0 where
     pub few : ticketCount S L e ≤ S .readers
     pub mark : sent S L e ≤ 1
     pub blank : ticketCount S L e ≡ 0 → (miss S L e ≡ 0) × (sent S L e ≡ 0)
@@ -137,30 +137,30 @@ module _ (S : Settings) (L : Lent) where
 
   pub record SoundIs : Type 0 where
     pub time : now S L ≤ lastCycle
-    pub lines : (l : ℕ) → l < linesOf S → LineIs l
+    pub lines : (l : ℕ) → l < linesOf S → LentLineIs l
     pub sectors : (i : ℕ) → i < 4 * linesOf S → SectorIs i
     pub tickets : (i : ℕ) → i < S .readers * S .misses → ticketCount S L (i / S .readers) ≤ i % S .readers → ticket S L i ≡ 0
-    pub entries-first : First (S .misses) (ticketCount S L)
-    pub entries : (e : ℕ) → e < S .misses → EntryIs e
-    pub places-first : First (S .queue) (kind S L)
+    pub entries-first : UsedFirst (S .misses) (ticketCount S L)
+    pub entries : (e : ℕ) → e < S .misses → LentEntryIs e
+    pub places-first : UsedFirst (S .queue) (kind S L)
     pub places : (p : ℕ) → p < S .queue → PlaceIs p
     pub counted : dirtyCount S L ≡ countBelow (linesOf S) (dirtyLine S L)
     pub trees : (i : ℕ) → i < S .sets → treeFine (isTree S) (S .ways) (tree S L i) ≡ true
 
 -- ---- each test with its facts
 
-pub block-is : (a : ℕ) → Decides (goodBlock a) (Block a)
-block-is a = is-as (is-eq (a % 128) 0 ⊓ is-lt a (2 ^ 48)) (λ w. record { even = w .0; low = w .1 }) (λ r. (r .even, r .low))
+pub good-block-is : (a : ℕ) → Decides (goodBlock a) (Block a)
+good-block-is a = is-as (is-eq (a % 128) 0 ⊓ is-lt a (2 ^ 48)) (λ w. record { even = w .0; low = w .1 }) (λ r. (r .even, r .low))
 
-first-is : (n : ℕ) (f : ℕ → ℕ) → Decides (lent.gathered n f) (First n f)
+first-is : (n : ℕ) (f : ℕ → ℕ) → Decides (lent.gathered n f) (UsedFirst n f)
 first-is n f = is-every (n - 1) (λ i. is-imp (is-eq (f i) 0) (is-eq (f (i + 1)) 0))
 
 module _ (S : Settings) (L : Lent) where
-  line-is : (l : ℕ) → Decides (lent.lineFine S (L .longs) (L .words) (L .marks) l) (LineIs S L l)
+  line-is : (l : ℕ) → Decides (lent.lineFine S (L .longs) (L .words) (L .marks) l) (LentLineIs S L l)
   line-is l =
       is-as
       (is-unless (is-flag (live S L l)) (is-eq (tag S L l) 0 ⊓ is-eq (cycle S L l) 0 ⊓ is-eq (taken S L l) 0)
-      ⊓ is-imp (is-flag (live S L l)) (block-is (tag S L l) ⊓ is-eq (setIndex S (tag S L l)) (l / S .ways))
+      ⊓ is-imp (is-flag (live S L l)) (good-block-is (tag S L l) ⊓ is-eq (setIndex S (tag S L l)) (l / S .ways))
       ⊓ is-le (cycle S L l) (now S L)
       ⊓ is-le (taken S L l) (cycle S L l)
       ⊓ is-imp (is-flag (live S L l)) (is-every l (λ m. is-imp (is-eq (m / S .ways) (l / S .ways)) (is-imp (is-flag (live S L m)) (is-not (is-eq (tag S L m) (tag S L l)))))))
@@ -195,7 +195,7 @@ module _ (S : Settings) (L : Lent) where
       (λ w. record { lives = w .0 .0; has = w .0 .1; waits = w .1 })
       (λ r. ((r .lives, r .has), r .waits))
 
-  entry-is : (e : ℕ) → Decides (lent.entryFine S (L .longs) (L .words) (L .marks) e) (EntryIs S L e)
+  entry-is : (e : ℕ) → Decides (lent.entryFine S (L .longs) (L .words) (L .marks) e) (LentEntryIs S L e)
   entry-is e =
       is-as
       (is-le (ticketCount S L e) (S .readers)
@@ -215,7 +215,7 @@ module _ (S : Settings) (L : Lent) where
       })
       (λ r. (((((r .few, r .mark), r .blank), λ u. (r .even u, r .backed u)), λ u d h v. r .alone u d h (v .0) (v .1)), λ v. r .asked (v .0) (v .1)))
 
-  unsent-is : (a e : ℕ) → Decides (lent.unsentFor S (L .longs) (L .words) (L .marks) a e) (Unsent S L a e)
+  unsent-is : (a e : ℕ) → Decides (lent.unsentAtFor S (L .longs) (L .words) (L .marks) a e) (Unsent S L a e)
   unsent-is a e =
       is-as (used-is e ⊓ is-eq (sent S L e) 0 ⊓ is-eq (miss S L e) a)
       (λ w. record { used = w .0 .0; waits = w .0 .1; has = w .1 })
@@ -227,7 +227,7 @@ module _ (S : Settings) (L : Lent) where
       (is-le (kind S L p) 2
       ⊓ is-imp (is-eq (kind S L p) 0) (is-eq (queued S L p) 0)
       ⊓ is-imp (is-le (kind S L p) 1) (is-every 4 (λ k. is-eq (queueMask S L (4 * p + k)) 0))
-      ⊓ is-imp (is-eq (kind S L p) 2) (block-is (queued S L p) ⊓ is-some 4 (λ k. is-not (is-eq (queueMask S L (4 * p + k)) 0)))
+      ⊓ is-imp (is-eq (kind S L p) 2) (good-block-is (queued S L p) ⊓ is-some 4 (λ k. is-not (is-eq (queueMask S L (4 * p + k)) 0)))
       ⊓ is-imp (is-eq (kind S L p) 1) (is-some (S .misses) (unsent-is (queued S L p))))
       (λ w. record { known = w .0 .0 .0 .0; blank = w .0 .0 .0 .1; bare = w .0 .0 .1; block = λ k. w .0 .1 k .0; dirty = λ k. w .0 .1 k .1; backed = w .1 })
       (λ r. ((((r .known, r .blank), r .bare), λ k. (r .block k, r .dirty k)), r .backed))

@@ -164,11 +164,11 @@ module _ (S : Settings) (L : Lent) (t : Tables) (st : ByNumber S L t) (sh : Shap
   pub cycle-is : (l : ℕ) → l < linesOf S → cycle S L l ≡ line t l .cycle
   cycle-is l h = st .cycles l h ∙ field-in cycleOf (t .lines) fresh l 0 (in-lines l h)
 
-  pub taken-is : (l : ℕ) → l < linesOf S → taken S L l ≡ line t l .taken
-  taken-is l h = st .takens l h ∙ field-in takenOf (t .lines) fresh l 0 (in-lines l h)
+  pub lent-taken-is : (l : ℕ) → l < linesOf S → taken S L l ≡ line t l .taken
+  lent-taken-is l h = st .takens l h ∙ field-in takenOf (t .lines) fresh l 0 (in-lines l h)
 
-  pub tree-is : (i : ℕ) → i < S .sets → tree S L i ≡ getD (t .trees) i 0
-  tree-is i h = st .trees i h ∙ field-in treeOf (t .trees) 0 i 0 (rw (sh .treed) h)
+  pub lent-tree-is : (i : ℕ) → i < S .sets → tree S L i ≡ getD (t .trees) i 0
+  lent-tree-is i h = st .trees i h ∙ field-in treeOf (t .trees) 0 i 0 (rw (sh .treed) h)
 
   in-sectors : (l k : ℕ) → l < linesOf S → k < 4 → k < length (line t l .sectors)
   in-sectors l k h j = let e = sh .fours l h in omega arith
@@ -220,8 +220,8 @@ module _ (S : Settings) (L : Lent) (t : Tables) (st : ByNumber S L t) (sh : Shap
   pub miss-is : (e : ℕ) → e < S .misses → miss S L e ≡ entry t e .address
   miss-is e h = st .misses e h ∙ field-get missOf (t .misses) noEntry e 0 refl
 
-  pub sent-is : (e : ℕ) → e < S .misses → sent S L e ≡ bit (entry t e .sent)
-  sent-is e h = st .sents e h ∙ field-get sentOf (t .misses) noEntry e 0 refl
+  pub lent-sent-is : (e : ℕ) → e < S .misses → sent S L e ≡ bit (entry t e .sent)
+  lent-sent-is e h = st .sents e h ∙ field-get sentOf (t .misses) noEntry e 0 refl
 
   pub count-is : (e : ℕ) → e < S .misses → ticketCount S L e ≡ length (entry t e .tickets)
   count-is e h = st .ticket-counts e h ∙ field-get ticketCountOf (t .misses) noEntry e 0 refl
@@ -284,7 +284,7 @@ module _ (S : Settings) (L : Lent) (t : Tables) (st : ByNumber S L t) (sh : Shap
 
   line-again : (l : ℕ) → l < linesOf S → lineAt S (L .longs) (L .words) (L .marks) l ≡ line t l
   line-again l h =
-      line-back (line t l) (tag-is l h) (cycle-is l h) (taken-is l h)
+      line-back (line t l) (tag-is l h) (cycle-is l h) (lent-taken-is l h)
       (sectors-table S (L .words) (L .marks) l
       ∙ table-list 4 (λ k. sectorAt S (L .words) (L .marks) (4 * l + k)) (line t l .sectors) empty (sh .fours l h) (λ k j. sector-again l k h j))
 
@@ -294,7 +294,7 @@ module _ (S : Settings) (L : Lent) (t : Tables) (st : ByNumber S L t) (sh : Shap
       let h : e < S .misses = omega arith in
       let c = count-is e h in
       let w = sh .short e l in
-      entry-back (entry t e) (miss-is e h) (ap (λ (n : ℕ). eqb n 1) (sent-is e h) ∙ flag-of-bit (entry t e .sent))
+      entry-back (entry t e) (miss-is e h) (ap (λ (n : ℕ). eqb n 1) (lent-sent-is e h) ∙ flag-of-bit (entry t e .sent))
       (table-list (ticketCount S L e) (λ j. ticket S L (S .readers * e + j)) (entry t e .tickets) 0 (sym c) (λ j k. ticket-is e j h (omega arith)))
 
   place-again : (p : ℕ) → p < length (t .queue) → queueAt S L p ≡ place t p
@@ -318,4 +318,4 @@ module _ (S : Settings) (L : Lent) (t : Tables) (st : ByNumber S L t) (sh : Shap
       (ap (λ (n : ℕ). table n (queueAt S L)) places-in-use ∙ table-list (length (t .queue)) (queueAt S L) (t .queue) idle refl place-again)
       (st .time)
       (st .count)
-      (table-list (S .sets) (tree S L) (t .trees) 0 (sh .treed) tree-is)
+      (table-list (S .sets) (tree S L) (t .trees) 0 (sh .treed) lent-tree-is)

@@ -83,21 +83,21 @@ abbrev tells : (Event → Bool) → (Event → Bool) → List Event → Bool
 tells begins rest [] = false
 tells begins rest (e ∷ es) = begins e && all rest es
 
-record Tells (begins rest : Event → Bool) (o : Outcome Tables) : Type 0 where
+record TellsShape (begins rest : Event → Bool) (o : Outcome Tables) : Type 0 where
   pub is : tells begins rest (eventsOf o) ≡ true
 
-tells-by : {begins rest : Event → Bool} (b : Bool) {o p : Outcome Tables} → Tells begins rest o → Tells begins rest p → Tells begins rest (pick b o p)
+tells-by : {begins rest : Event → Bool} (b : Bool) {o p : Outcome Tables} → TellsShape begins rest o → TellsShape begins rest p → TellsShape begins rest (pick b o p)
 tells-by true h g = h
 tells-by false h g = g
 
-refused-tells : (n : Refusal) → Tells ofAccess queuing (refused n)
+refused-tells : (n : Refusal) → TellsShape ofAccess queuing (refused n)
 refused-tells n = record { is = refl }
 
-accept-tells : (S : Settings) (x : Access) (p : Spot) (t : Tables) → Tells ofAccess queuing (accept S x p t)
+accept-tells : (S : Settings) (x : Access) (p : Spot) (t : Tables) → TellsShape ofAccess queuing (accept S x p t)
 unfolding accept
 accept-tells S x p t = record { is = all-queuing (queues x p) }
 
-proceed-tells : (S : Settings) (x : Access) (t : Tables) (p : Place) → Tells ofAccess queuing (proceed S x t p)
+proceed-tells : (S : Settings) (x : Access) (t : Tables) (p : Place) → TellsShape ofAccess queuing (proceed S x t p)
 unfolding proceed
 proceed-tells S x t (no n) = refused-tells n
 proceed-tells S x t (at p) =
@@ -106,23 +106,23 @@ proceed-tells S x t (at p) =
     (tells-by (isRead x && isMiss (p .answer) && leb (S .misses) (length (t .misses))) (refused-tells MissTableFull)
     (accept-tells S x p t)))
 
-access-tells : (S : Settings) (x : Access) (t : Tables) → Tells ofAccess queuing (access S x t)
+access-tells : (S : Settings) (x : Access) (t : Tables) → TellsShape ofAccess queuing (access S x t)
 unfolding access
 access-tells S x t = tells-by (wellFormed x) (proceed-tells S x t _) (refused-tells BadAccess)
 
-send-tells : (t : Tables) → Tells ofSend none (send t)
+send-tells : (t : Tables) → TellsShape ofSend none (send t)
 unfolding send
 send-tells t = from (t .queue)
   where
-    from : (qs : List Queued) → Tells ofSend none (sendFrom qs t)
+    from : (qs : List Queued) → TellsShape ofSend none (sendFrom qs t)
     from [] = record { is = refl }
     from (q ∷ qs) = record { is = rw (sent-as (q .kind) (q .address) (q .masks)) }
 
-fill-tells : (a : ℕ) (t : Tables) → Tells ofFill releasing (fill a t)
+fill-tells : (a : ℕ) (t : Tables) → TellsShape ofFill releasing (fill a t)
 unfolding fill
 fill-tells a t = tells-by (any (sentFor a) (t .misses)) record { is = all-releasing (ticketsOf a (t .misses)) } record { is = refl }
 
-tick-tells : (c : ℕ) (t : Tables) → Tells ofTick none (tick c t)
+tick-tells : (c : ℕ) (t : Tables) → TellsShape ofTick none (tick c t)
 unfolding tick
 tick-tells c t = tells-by (ltb c (t .now) || ltb lastCycle c) record { is = refl } record { is = refl }
 
@@ -185,7 +185,7 @@ module _ (S : Settings) {L : Lent} (held : SoundSlices S L) {r : Reply} {M : Len
     tidy : tidied r ≡ r
     tidy = d .on (held .tables) (held .are) .tidy
 
-    told : {begins rest : Event → Bool} → Tells begins rest (step (held .tables)) → tells begins rest (eventsTold r) ≡ true
+    told : {begins rest : Event → Bool} → TellsShape begins rest (step (held .tables)) → tells begins rest (eventsTold r) ≡ true
     told t = rw (does-tells S d (held .tables) (held .are)) (t .is)
 
   pub access-shaped : (x : Access) → Does S (access S x) L r M → Shaped ofAccess 2 0 r

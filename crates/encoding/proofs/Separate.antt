@@ -15,7 +15,7 @@ use Rattle.model.specs.Steps.{access, send, fill, tick}
 use Rattle.model.specs.Calls.{encoded, freshCall}
 use Rattle.model.specs.Records.{bytes, isCommand, isSettings, lengthOf, commandOf, logBytes}
 use Rattle.model.specs.RunnerOf as runner
-use Rattle.model.specs.Runner.{settingsOf, firstStop, laterStop, keptStop, goesOn, stepRead, stepAt, halt, ahead, runFrom, lentResult, run, resume}
+use Rattle.model.specs.Runner.{settingsOf, firstStop, laterStop, keptStop, goesOn, stepRead, stepAt, halt, bytesThen, runFrom, lentResult, run, resume}
 use Rattle.model.specs.Separate.{callRead, callAt, callsFrom, runByCalls, resumeByCalls}
 use Rattle.model.specs.Inner.{Encodes}
 use Rattle.model.specs.declared.Settings.{Settings}
@@ -53,7 +53,7 @@ module _ (S : Settings) (room k : ℕ) (bs : List ℕ) where
   module _ (L : Lent) where
     calls-goes : goesOn (laterStop room k bs) ≡ true
         → callsFrom S 0 room (k ∷ bs) L
-        ≡ ahead (1 + lengthOf k) (logBytes (eventsOf (callAt S k bs L)))
+        ≡ bytesThen (1 + lengthOf k) (logBytes (eventsOf (callAt S k bs L)))
         (callsFrom S (lengthOf k) (room - length (logBytes (eventsOf (callAt S k bs L)))) bs (after L (callAt S k bs L)))
     unfolding callsFrom
     calls-goes z = rw z
@@ -65,7 +65,7 @@ module _ (S : Settings) (room k : ℕ) (bs : List ℕ) where
   module _ (t : Tables) where
     from-goes : goesOn (laterStop room k bs) ≡ true
         → runFrom S 0 room (k ∷ bs) t
-        ≡ ahead (1 + lengthOf k) (logBytes (eventsOf (stepAt S k bs t)))
+        ≡ bytesThen (1 + lengthOf k) (logBytes (eventsOf (stepAt S k bs t)))
         (runFrom S (lengthOf k) (room - length (logBytes (eventsOf (stepAt S k bs t)))) bs (after t (stepAt S k bs t)))
     unfolding runner.runFrom
     from-goes z = rw z

@@ -25,7 +25,7 @@ use Rattle.model.specs.Lent.{bit}
 use Rattle.model.specs.Sound.{allOnes, lastCycle, maskOk, sectorOk, lineOk, alone, agrees, reservedOk, readingOf, unsentFor, entryOk, kindOk, queuedOk, sound}
 use Rattle.words.proofs.Flags.{and-1, and-2, and-i, not-no, not-yes, clash, same-is, is-same}
 use Rattle.words.proofs.Reflect.{Decides, is-flag, is-eq, is-le, is-lt, is-not, _⊓_, is-every, is-as, is-all, is-any, is-one, is-pick, is-else}
-use Rattle.encoding.proofs.LentSoundFacts.{Block, block-is}
+use Rattle.encoding.proofs.LentSoundFacts.{Block, good-block-is}
 use Rattle.encoding.proofs.NumbersAreTables.{line, sector, entry, place, addressIn, kindIn, maskIn, Shape}
 
 -- ---- a sector, by its numbers
@@ -101,8 +101,8 @@ module _ (S : Settings) (t : Tables) where
     pub home : Lives l → setIndex S (line t l .tag) ≡ l / S .ways
 
   -- no other line that lives has its tag
-  abbrev pub Alone : ℕ → Type 0
-  Alone l = Lives l → (m : ℕ) → m < length (t .lines) → Lives m → line t m .tag ≡ line t l .tag → m ≡ l
+  abbrev pub OnlyTag : ℕ → Type 0
+  OnlyTag l = Lives l → (m : ℕ) → m < length (t .lines) → Lives m → line t m .tag ≡ line t l .tag → m ≡ l
 
   -- its sectors are RESERVED as the miss table says
   abbrev pub Agrees : ℕ → Type 0
@@ -129,7 +129,7 @@ module _ (S : Settings) (t : Tables) where
     pub size : length (t .lines) ≡ linesOf S
     pub time : t .now ≤ lastCycle
     pub lines : (l : ℕ) → l < linesOf S → LineOk l
-    pub alone : (l : ℕ) → l < linesOf S → Alone l
+    pub alone : (l : ℕ) → l < linesOf S → OnlyTag l
     pub agrees : (l : ℕ) → l < linesOf S → Agrees l
     pub entries : (e : ℕ) → e < length (t .misses) → EntryOk e
     pub queue : (p : ℕ) → p < length (t .queue) → QueuedOk (place t p)
@@ -162,7 +162,7 @@ module _ (S : Settings) (t : Tables) where
       ⊓ is-all sectorOk (line t l .sectors) empty (λ k h. sector-ok-is (sector t l k .status) (sector t l k .mask) (sector t l k .readable))
       ⊓ is-le (line t l .cycle) (t .now)
       ⊓ is-le (line t l .taken) (line t l .cycle)
-      ⊓ is-pick {b = whollyInvalid (line t l)} (is-eq (line t l .tag) 0 ⊓ is-eq (line t l .cycle) 0 ⊓ is-eq (line t l .taken) 0) (block-is (line t l .tag) ⊓ is-eq (setIndex S (line t l .tag)) (l / S .ways)))
+      ⊓ is-pick {b = whollyInvalid (line t l)} (is-eq (line t l .tag) 0 ⊓ is-eq (line t l .cycle) 0 ⊓ is-eq (line t l .taken) 0) (good-block-is (line t l .tag) ⊓ is-eq (setIndex S (line t l .tag)) (l / S .ways)))
       (λ w. let four = w .0 .0 .0 .0 in record {
         four = four;
         sectors = λ k h. w .0 .0 .0 .1 k (omega arith);
@@ -183,7 +183,7 @@ module _ (S : Settings) (t : Tables) where
     test = λ w. holds-i m b (w .0) (w .1);
   }
 
-  alone-is : (l : ℕ) → l < length (t .lines) → Decides (alone (t .lines) (line t l)) (Alone S t l)
+  alone-is : (l : ℕ) → l < length (t .lines) → Decides (alone (t .lines) (line t l)) (OnlyTag S t l)
   unfolding alone
   alone-is l h =
       is-else (λ v. is-as (is-one (holds (line t l .tag)) (t .lines) fresh l h (holds-i l (line t l .tag) v refl))
@@ -237,7 +237,7 @@ module _ (S : Settings) (t : Tables) where
       })
       (λ r. (r .backed refl, r .bare refl))
   kind-ok-is queue.WriteBack b ms =
-      is-as (block-is b ⊓ is-any (λ m. not (eqb m 0)) ms 0 (λ i. is-not (is-eq (getD ms i 0) 0)))
+      is-as (good-block-is b ⊓ is-any (λ m. not (eqb m 0)) ms 0 (λ i. is-not (is-eq (getD ms i 0) 0)))
       (λ w. record {
         backed = λ z. absurd (omega arith);
         bare = λ z. absurd (omega arith);

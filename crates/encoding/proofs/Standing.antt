@@ -195,9 +195,9 @@ module _ (S : Settings) (L : Lent) (t : Tables) (st : ByNumber S L t) where
       ⨾ region-singles (L .marks) (marksFrom S kindRegion) kindOf (S .queue) (t .queue) (omega arith) (st .kinds)
       ⨾ e)
 
-  pub stands-encode : length (L .longs) ≡ longsLength S → length (L .words) ≡ wordsLength S → length (L .marks) ≡ marksLength S → L ≡ encode S t
+  pub standing-encodes : length (L .longs) ≡ longsLength S → length (L .words) ≡ wordsLength S → length (L .marks) ≡ marksLength S → L ≡ encode S t
   unfolding encode
-  stands-encode a b c = same (longs-stand a) (words-stand b) (marks-stand c)
+  standing-encodes a b c = same (longs-stand a) (words-stand b) (marks-stand c)
     where
       same : {longs words marks : List ℕ} → L .longs ≡ longs → L .words ≡ words → L .marks ≡ marks
           → L ≡ record { longs = longs; words = words; marks = marks }

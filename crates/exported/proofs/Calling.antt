@@ -36,7 +36,7 @@ use Rattle.words.proofs.Below.{leb-not}
 use Rattle.encoding.proofs.Bridge.{call-is, events-encoded, does-is}
 use Rattle.records.specs.Stores.{Stored, Laid}
 use Rattle.records.proofs.Stores.{stored-there, stored-behind}
-use Rattle.records.proofs.Room.{Takes, access-takes, step-takes}
+use Rattle.records.proofs.Room.{TakesRoom, access-takes, step-takes}
 use Rattle.records.proofs.OfCalls.{call-room}
 use Rattle.exported.specs.Exported.{mayLend, settingsFrom, Called, Stepped, lengthFor, mayWait, roundNumber, WaitCalled, RunCalled}
 
@@ -46,7 +46,7 @@ call-unmade o L e h = record { written = rw (lt-leb 64 (length e) h); events = r
 -- ---- a call takes 49 bytes at most
 
 abbrev Short : Settings → (Tables → Outcome Tables) → Type 0
-Short S step = (t : Tables) → inRange S ≡ true → sound S t ≡ true → Takes 49 (step t)
+Short S step = (t : Tables) → inRange S ≡ true → sound S t ≡ true → TakesRoom 49 (step t)
 
 pub call-short : (S : Settings) (k : Call) → Short S (stepBy S k)
 call-short S (offer x) t range ok = record { most = le-trans (access-takes S x t .most) (lit≤ tt) }
@@ -70,7 +70,7 @@ module _ (S : Settings) (k : Call) (L : Lent) (e : List ℕ) (reply : Reply) whe
   call-made small room l s = call-written out L e reply room (call-room S (stepBy S k) L small (call-short S k)) l s
 
   -- a step without the check leaves what the call leaves, and sound tables again
-  pub step-made : {r : ℕ} {f : List ℕ} {M : Lent} → history.Small k → SoundSlices S L → 64 ≤ length e → Does S (stepBy S k) L reply M
+  pub step-made : {r : ℕ} {f : List ℕ} {M : Lent} → history.SmallCall k → SoundSlices S L → 64 ≤ length e → Does S (stepBy S k) L reply M
       → Laid e 0 (length (logBytes (eventsTold reply))) (logBytes (eventsTold reply)) r f → Stepped S out L e r f M
   unfolding access
   step-made {r} small held room d u =

@@ -9,7 +9,7 @@ use Rattle.words.specs.Words.{pick}
 use Rattle.model.specs.Numbers.{refusalNumber}
 use Rattle.model.specs.Lent.{Lent}
 use Rattle.model.specs.Records.{parsed, eventsIn}
-use Rattle.rounds.specs.Demand3.{Shown, writtenIn}
+use Rattle.rounds.specs.Demand3.{RoundsShown, writtenIn}
 use Rattle.rounds.specs.declared.Went.{Went}
 use Rattle.rounds.specs.declared.Went.the-variants.{Ran, Refused, NoRoom}
 
@@ -30,7 +30,7 @@ bytesWritten (Refused n) = 0
 bytesWritten NoRoom = 0
 
 -- a call that shows o, on L with the event buffer e and the numbers k; the bytes written read back as what o told
-pub record ShownCalled (o : Shown) (L : Lent) (e k : List ℕ) (r : ℕ) (f j : List ℕ) (M : Lent) : Type 0 where
+pub record ShownCalled (o : RoundsShown) (L : Lent) (e k : List ℕ) (r : ℕ) (f j : List ℕ) (M : Lent) : Type 0 where
   pub says : r ≡ pick (eqb (length k) 2) (wentNumber (o .went)) 2
   pub counts : j ≡ pick (eqb (length k) 2) (roundsRun (o .went) ∷ bytesWritten (o .went) ∷ []) k
   pub events : f ≡ pick (eqb (length k) 2) (o .room) e

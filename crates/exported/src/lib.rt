@@ -23,7 +23,7 @@ ghost use Rattle.model.specs.History.{stepBy};
 ghost use Rattle.model.specs.declared.Access.the-variants.{Read, Write};
 ghost use Rattle.model.specs.Numbers.{stopNumber};
 ghost use Rattle.model.specs.Runner.{run, resume};
-ghost use Rattle.cache.specs.Made.{callOf};
+ghost use Rattle.cache.specs.Made.{modelCall};
 ghost use Rattle.rounds.specs.Waiting.{waitCall};
 ghost use Rattle.exported.specs.Exported.{settingsFrom, verdictNumber, lengthFor, accessFor, roundNumber, Called, WaitCalled, RunCalled};
 
@@ -170,7 +170,7 @@ fn made(
     k: Call,
     events: &mut [u8],
 ) -> usize
-    ensures { λ r. ⌜ Called (call (settingsFrom (now (settings .entry))) (stepBy (settingsFrom (now (settings .entry))) (callOf k)) (lent (now (longs .entry)) (now (words .entry)) (now (marks .entry)))) (lent (now (longs .entry)) (now (words .entry)) (now (marks .entry)))
+    ensures { λ r. ⌜ Called (call (settingsFrom (now (settings .entry))) (stepBy (settingsFrom (now (settings .entry))) (modelCall k)) (lent (now (longs .entry)) (now (words .entry)) (now (marks .entry)))) (lent (now (longs .entry)) (now (words .entry)) (now (marks .entry)))
         (now (events .entry)) r (now (events .exit)) (lent (now (longs .exit)) (now (words .exit)) (now (marks .exit))) ⌝ }
 {
     if events.len() < EVENT_ROOM {

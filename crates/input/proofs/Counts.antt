@@ -10,19 +10,19 @@ use Rattle.input.specs.declared.Filled.{Filled}
 use Rattle.input.specs.declared.Filled.the-variants as filled
 use Rattle.input.specs.declared.More.{More}
 use Rattle.input.specs.declared.More.the-variants as more
-use Rattle.input.specs.Buffers.{Read, Counted, Grows, Grown, turnsLeft}
+use Rattle.input.specs.Buffers.{Read, FewerToCome, Grows, Grown, turnsLeft}
 
 module _ {l l₁ : List ℕ} {have : ℕ} {f : Filled} (b : Read l have f l₁) where
   pub read-further : {n : ℕ} → f ≡ filled.To n → have < n
   read-further q = (rw q at (b .reaches)) .0
 
-  counted-grows : {n : ℕ} → f ≡ filled.To n → (left : ℕ) (r : More) → Counted have n left r → Grows have left (length l) r
+  counted-grows : {n : ℕ} → f ≡ filled.To n → (left : ℕ) (r : More) → FewerToCome have n left r → Grows have left (length l) r
   counted-grows q left (more.To m k) c = let h = rw q at (b .reaches) in (omega arith, omega arith, omega arith)
   counted-grows q left (more.End e) c = absurd c
   counted-grows q left more.Full c = absurd c
   counted-grows q left more.Failed c = tt
 
-  pub counted-grown : {n : ℕ} → f ≡ filled.To n → (left : ℕ) {r : More} → Counted have n left r → Grown l have left r l₁
+  pub counted-grown : {n : ℕ} → f ≡ filled.To n → (left : ℕ) {r : More} → FewerToCome have n left r → Grown l have left r l₁
   counted-grown q left {r} c = record { grows = counted-grows q left r c; before = b .before }
 
   pub ended-grown : {e : Ended} → f ≡ filled.End e → (left : ℕ) → Grown l have left (more.End e) l₁

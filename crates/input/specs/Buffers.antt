@@ -24,11 +24,11 @@ pub record Read (l : List ℕ) (have : ℕ) (r : Filled) (l₁ : List ℕ) : Typ
   pub before : take have l₁ ≡ take have l
 
 -- n bytes stand there where `have` did before: so many fewer may still come, or there were more than might
-abbrev pub Counted : ℕ → ℕ → ℕ → More → Type 0
-Counted have n left (more.To m k) = (m ≡ n) × (n + k ≡ have + left)
-Counted have n left (more.End e) = ⊥
-Counted have n left more.Full = ⊥
-Counted have n left more.Failed = Unit
+abbrev pub FewerToCome : ℕ → ℕ → ℕ → More → Type 0
+FewerToCome have n left (more.To m k) = (m ≡ n) × (n + k ≡ have + left)
+FewerToCome have n left (more.End e) = ⊥
+FewerToCome have n left more.Full = ⊥
+FewerToCome have n left more.Failed = Unit
 
 -- the bytes now go further, and those that may still come are fewer by as many; or they end there
 abbrev pub Grows : ℕ → ℕ → ℕ → More → Type 0

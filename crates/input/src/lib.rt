@@ -2,7 +2,7 @@
 ghost use mathlib.Core.Path.{_≡_};
 ghost use Prim.Native.Nat.{_+_, _<_, _≤_};
 ghost use lib.ListN.{length};
-ghost use Rattle.input.specs.Buffers.{Read, Counted, Grown, movedDown, carried, carriedCount};
+ghost use Rattle.input.specs.Buffers.{Read, FewerToCome, Grown, movedDown, carried, carriedCount};
 use libc::STDERR_FILENO;
 use libc::STDIN_FILENO;
 
@@ -67,7 +67,7 @@ pub fn fill(fd: i32, buf: &mut [u8], have: usize) -> Filled
 // What was read is taken off the bytes that may still come.
 fn counted(have: usize, n: usize, left: u64) -> More
     requires { ⌜ have < n ⌝ }
-    ensures { λ r. ⌜ Counted have n left r ⌝ }
+    ensures { λ r. ⌜ FewerToCome have n left r ⌝ }
 {
     let got = (n - have) as u64;
     if left < got {

@@ -173,7 +173,7 @@ record Old (W : ℕ) (es : List Entry) (e : Entry) : Type 0 where
   sent : e .sent ≡ old .sent
   readers : within 1 W (length (e .tickets)) ≡ true
 
-record New (x : Access) (n : Answer) (e : Entry) : Type 0 where
+record NewEntry (x : Access) (n : Answer) (e : Entry) : Type 0 where
   fetched : fetching x n ≡ true
   address : e .address ≡ addressOf x
   sent : e .sent ≡ false
@@ -184,10 +184,10 @@ module _ (S : Settings) (es : List Entry) (ok : (d : Entry) → In d es → with
   entry-same e i = record { old = e; there = i; address = refl; sent = refl; readers = ok e i }
 
   entry-appended : (a m k : ℕ) (n : Answer) (e : Entry) → isMiss n ≡ true → In e (es ++ (newEntry a k ∷ []))
-      → Old (S .readers) es e ⊎ New (Read a m k) n e
+      → Old (S .readers) es e ⊎ NewEntry (Read a m k) n e
   entry-appended a m k n e f i = go (in-append es _ e i)
     where
-      go : In e es ⊎ In e (newEntry a k ∷ []) → Old (S .readers) es e ⊎ New (Read a m k) n e
+      go : In e es ⊎ In e (newEntry a k ∷ []) → Old (S .readers) es e ⊎ NewEntry (Read a m k) n e
       go (inl q) = inl (entry-same e q)
       go (inr (inl q)) = inr (record {
         fetched = f;
@@ -207,7 +207,7 @@ module _ (S : Settings) (es : List Entry) (ok : (d : Entry) → In d es → with
 
   entry-from : (x : Access) (n : Answer) → (isRead x && isMerge n && any (entryFull S (addressOf x)) es) ≡ false → (e : Entry)
       → In e (onMisses x n es)
-      → Old (S .readers) es e ⊎ New x n e
+      → Old (S .readers) es e ⊎ NewEntry x n e
   entry-from (Read a m k) Hit f e i = inl (entry-same e i)
   entry-from (Read a m k) HitReserved f e i =
       let (d, o, q) = in-map (join a k) es i in
@@ -450,7 +450,7 @@ module _ (S : Settings) (t : Tables) (ok : Sound S t) (x : Access) (formed : wel
           queues = rw (o .address, o .sent, queue-after c, no-more-read c m, add-zero) (k .queues);
         }
 
-    new-entry : (e : Entry) → New x (p .answer) e → EntryIs S u e
+    new-entry : (e : Entry) → NewEntry x (p .answer) e → EntryIs S u e
     new-entry e w =
         let none : any (entryFor a) (t .misses) ≡ false = lacking (w .fetched) in
         record {

@@ -33,8 +33,8 @@ rule Reserved column = HitReserved
 rule Valid column = Hit
 rule Modified column = pick (eqb column 2) SectorMiss Hit
 
-abbrev ruled : ℕ → ℕ → Bool
-ruled row column = eqb (answerNumber (getD (getD answers row []) column Miss)) (answerNumber (rule (statusOf row) column))
+abbrev answerRuled : ℕ → ℕ → Bool
+answerRuled row column = eqb (answerNumber (getD (getD answers row []) column Miss)) (answerNumber (rule (statusOf row) column))
 
-pub answers-ruled : every 4 (λ row. every 3 (ruled row)) ≡ true
+pub answers-ruled : every 4 (λ row. every 3 (answerRuled row)) ≡ true
 answers-ruled = refl

@@ -17,7 +17,7 @@ use Rattle.model.specs.Tables.{Line, Entry, Tables, Outcome, refused, do
 use Rattle.model.specs.Sound.{readingOf, sound}
 use Rattle.model.specs.Probe.{Rule, Place, no, at, waysOf, first, victim, takeOver, meet, probe, ruleOf, metIn}
 use Rattle.model.specs.Steps.{isMerge, isMiss, placesNeeded, entryFull, accept, proceed, access, afterSend, send, others, afterFill, sentFor, fill}
-use Rattle.model.specs.Rounds.{Calls, steps, Turn, still, took, Run, goOn, sendTurn, fillFirst, drain, rounds, heldIn, waits, Settles}
+use Rattle.model.specs.Rounds.{Calls, steps, Turn, still, took, Run, outcomeGoOn, outcomeSend, outcomeFill, outcomeDrain, outcomeRounds, outcomeHeld, outcomeWaits, Settles}
 use Rattle.model.specs.declared.Settings.{Settings}
 use Rattle.model.specs.declared.Queued.{Queued}
 use Rattle.model.specs.declared.Sector.{Sector}
@@ -37,9 +37,9 @@ use Rattle.model.proofs.Fits.{ranged}
 -- ---- tables at rest: nothing queued, no entry
 
 -- a place, or 6
-abbrev Free : Place → Type 0
-Free (no n) = n ≡ SetHeld
-Free (at p) = length (p .backs) ≤ 1
+abbrev FreePlace : Place → Type 0
+FreePlace (no n) = n ≡ SetHeld
+FreePlace (at p) = length (p .backs) ≤ 1
 
 module _ (S : Settings) (t : Tables) (ok : Sound S t) (no-misses : t .misses ≡ []) where
   line-free : (l : Line) → In l (t .lines) → hasReserved l ≡ false
@@ -55,16 +55,16 @@ module _ (S : Settings) (t : Tables) (ok : Sound S t) (no-misses : t .misses ≡
   set-free : (a : ℕ) → any hasReserved (waysOf S (t .lines) a) ≡ false
   set-free a = no-yes (λ w. let (l, m, q) = any-in hasReserved (waysOf S (t .lines) a) w in clash q (line-free l (way-in S (t .lines) a l m)))
 
-  over-free : (a : ℕ) (v : Found) → Free (takeOver a (waysOf S (t .lines) a) v)
+  over-free : (a : ℕ) (v : Found) → FreePlace (takeOver a (waysOf S (t .lines) a) v)
   over-free a Nothing = rw (set-free a)
   over-free a (At w) = back-one (getD (waysOf S (t .lines) a) w fresh)
 
-  meet-free : (R : Rule) (d : ℕ) (x : Access) (v : Found) → Free (meet R S d (waysOf S (t .lines) (addressOf x)) x v)
+  meet-free : (R : Rule) (d : ℕ) (x : Access) (v : Found) → FreePlace (meet R S d (waysOf S (t .lines) (addressOf x)) x v)
   meet-free R d x Nothing = over-free (addressOf x) (victim R S d (waysOf S (t .lines) (addressOf x)))
   meet-free R d x (At w) = omega arith
 
   module _ (range : inRange S ≡ true) (x : Access) (no-queue : t .queue ≡ []) where
-    proceed-settles : (p : Place) → Free p → (accepted (proceed S x t p) ≡ true) ⊎ (proceed S x t p ≡ refused SetHeld)
+    proceed-settles : (p : Place) → FreePlace p → (accepted (proceed S x t p) ≡ true) ⊎ (proceed S x t p ≡ refused SetHeld)
     unfolding proceed accept
     proceed-settles (no n) h = inr (ap refused h)
     proceed-settles (at p) h =
@@ -91,7 +91,7 @@ abbrev size : Tables → ℕ
 size t = length (t .queue) + length (t .misses)
 
 -- what a call on sound tables leaves: sound tables, and no more in them than n
-record Left (S : Settings) (n : ℕ) (u : Tables) : Type 0 where
+record LeavesAtMost (S : Settings) (n : ℕ) (u : Tables) : Type 0 where
   ok : Sound S u
   less : size u ≤ n
 
@@ -99,11 +99,11 @@ module _ (S : Settings) (x : Access) where
   abbrev C : Calls Tables
   C = steps S x
 
-  send-takes : (t : Tables) (e : Queued) (q : List Queued) → t .queue ≡ e ∷ q → sendTurn C t .left ≡ afterSend e q t
-  unfolding sendTurn send
+  send-takes : (t : Tables) (e : Queued) (q : List Queued) → t .queue ≡ e ∷ q → outcomeSend C t .left ≡ afterSend e q t
+  unfolding outcomeSend send
   send-takes t e q h = rw h
 
-  sent-less : (t : Tables) → Sound S t → (e : Queued) (q : List Queued) → t .queue ≡ e ∷ q → Left S (size t - 1) (afterSend e q t)
+  sent-less : (t : Tables) → Sound S t → (e : Queued) (q : List Queued) → t .queue ≡ e ∷ q → LeavesAtMost S (size t - 1) (afterSend e q t)
   sent-less t ok e q h = record { ok = sent-sound S t e q h ok; less = omega (arith, ap length h, marked-length (e .kind) (e .address) (t .misses)) }
 
   fill-takes : (t : Tables) (d : Entry) → In d (t .misses) → d .sent ≡ true → took t (fill (d .address) t) .left ≡ afterFill (d .address) t
@@ -112,7 +112,7 @@ module _ (S : Settings) (x : Access) where
       let a : any (sentFor (d .address)) (t .misses) ≡ true = in-any (sentFor (d .address)) (t .misses) m (and-i (eq-eqb (d .address) (d .address) refl) h) in
       rw a
 
-  filled-less : (t : Tables) → Sound S t → (d : Entry) → In d (t .misses) → d .sent ≡ true → Left S (size t - 1) (afterFill (d .address) t)
+  filled-less : (t : Tables) → Sound S t → (d : Entry) → In d (t .misses) → d .sent ≡ true → LeavesAtMost S (size t - 1) (afterFill (d .address) t)
   filled-less t ok d m h = record {
     ok = filled-sound S t ok d m h;
     less = omega (arith, keep-lt (others (d .address)) (t .misses) m (rw (eq-eqb (d .address) (d .address) refl)));
@@ -120,17 +120,17 @@ module _ (S : Settings) (x : Access) where
 
   -- the first sent one of some of the table's entries is filled, or none of them is sent
   abbrev Tried : Tables → List Entry → Tables → Type 0
-  Tried t es u = Left S (size t - 1) u ⊎ ((u ≡ t) × (all (λ e. not (e .sent)) es ≡ true))
+  Tried t es u = LeavesAtMost S (size t - 1) u ⊎ ((u ≡ t) × (all (λ e. not (e .sent)) es ≡ true))
 
   fill-tries : (t : Tables) → Sound S t → (es : List Entry) → ((d : Entry) → In d es → In d (t .misses))
-      → Tried t es (fillFirst C es t .left)
-  unfolding fillFirst
+      → Tried t es (outcomeFill C es t .left)
+  unfolding outcomeFill
   fill-tries t ok [] f = inr (refl, refl)
   fill-tries t ok (d ∷ es) f = go (fill-tries t ok es (λ e m. f e (inr m))) (d .sent) refl
     where
-      go : Tried t es (fillFirst C es t .left) → (b : Bool) → d .sent ≡ b
-          → Left S (size t - 1) (pick b (took t (fill (d .address) t)) (fillFirst C es t) .left)
-          ⊎ ((pick b (took t (fill (d .address) t)) (fillFirst C es t) .left ≡ t) × ((not b && all (λ e. not (e .sent)) es) ≡ true))
+      go : Tried t es (outcomeFill C es t .left) → (b : Bool) → d .sent ≡ b
+          → LeavesAtMost S (size t - 1) (pick b (took t (fill (d .address) t)) (outcomeFill C es t) .left)
+          ⊎ ((pick b (took t (fill (d .address) t)) (outcomeFill C es t) .left ≡ t) × ((not b && all (λ e. not (e .sent)) es) ≡ true))
       go ih true h = inl (rw (fill-takes t d (f d (inl refl)) h) (filled-less t ok d (f d (inl refl)) h))
       go ih false h = ih
 
@@ -144,39 +144,39 @@ module _ (S : Settings) (x : Access) where
       absurd (omega arith)
 
   -- with nothing queued and no entry there is nothing to do
-  send-idle : (t : Tables) → t .queue ≡ [] → sendTurn C t ≡ still t
-  unfolding sendTurn
+  send-idle : (t : Tables) → t .queue ≡ [] → outcomeSend C t ≡ still t
+  unfolding outcomeSend
   send-idle t e = rw e
 
-  drain-idle : (t : Tables) → t .queue ≡ [] → t .misses ≡ [] → drain C t .left ≡ t
-  unfolding drain fillFirst
+  drain-idle : (t : Tables) → t .queue ≡ [] → t .misses ≡ [] → outcomeDrain C t .left ≡ t
+  unfolding outcomeDrain outcomeFill
   drain-idle t e m = rw (send-idle t e, m)
 
-  drain-less : (t : Tables) → Sound S t → Left S (size t - 1) (drain C t .left)
-  unfolding drain
+  drain-less : (t : Tables) → Sound S t → LeavesAtMost S (size t - 1) (outcomeDrain C t .left)
+  unfolding outcomeDrain
   drain-less t ok = go (t .queue) refl
     where
-      only-fill : t .queue ≡ [] → Tried t (t .misses) (fillFirst C (t .misses) t .left)
-          → Left S (size t - 1) (fillFirst C (t .misses) t .left)
+      only-fill : t .queue ≡ [] → Tried t (t .misses) (outcomeFill C (t .misses) t .left)
+          → LeavesAtMost S (size t - 1) (outcomeFill C (t .misses) t .left)
       only-fill e (inl l) = l
       only-fill e (inr (s, u)) = rw s (record { ok = ok; less = omega (arith, ap length e, ap length (unsent-none t ok e (t .misses) refl u)) })
 
-      then-fill : (v : Tables) → Left S (size t - 1) v → Tried v (v .misses) (fillFirst C (v .misses) v .left)
-          → Left S (size t - 1) (fillFirst C (v .misses) v .left)
+      then-fill : (v : Tables) → LeavesAtMost S (size t - 1) v → Tried v (v .misses) (outcomeFill C (v .misses) v .left)
+          → LeavesAtMost S (size t - 1) (outcomeFill C (v .misses) v .left)
       then-fill v k (inl l) = record { ok = l .ok; less = omega arith }
       then-fill v k (inr (s, u)) = rw s k
 
-      go : (q : List Queued) → t .queue ≡ q → Left S (size t - 1) (fillFirst C (sendTurn C t .left .misses) (sendTurn C t .left) .left)
+      go : (q : List Queued) → t .queue ≡ q → LeavesAtMost S (size t - 1) (outcomeFill C (outcomeSend C t .left .misses) (outcomeSend C t .left) .left)
       go [] e = rw (send-idle t e) (only-fill e (fill-tries t ok (t .misses) (λ d m. m)))
       go (y ∷ q) e =
-          let k : Left S (size t - 1) (afterSend y q t) = sent-less t ok y q e in
+          let k : LeavesAtMost S (size t - 1) (afterSend y q t) = sent-less t ok y q e in
           rw (send-takes t y q e) (then-fill (afterSend y q t) k (fill-tries (afterSend y q t) (k .ok) (afterSend y q t .misses) (λ d m. m)))
 
   -- ---- the rounds
 
   module _ (range : inRange S ≡ true) (formed : wellFormed x ≡ true) where
-    rounds-more : (n : ℕ) (t : Tables) → rounds C (suc n) t ≡ goOn (drain C t) (rounds C n) (access S x (drain C t .left))
-    unfolding rounds
+    rounds-more : (n : ℕ) (t : Tables) → outcomeRounds C (suc n) t ≡ outcomeGoOn (outcomeDrain C t) (outcomeRounds C n) (access S x (outcomeDrain C t .left))
+    unfolding outcomeRounds
     rounds-more n t = refl
 
     -- what stands for an offer that wasn't made doesn't matter: it is no refusal
@@ -187,49 +187,49 @@ module _ (S : Settings) (x : Access) where
     held-whatever t u (o ∷ os) (suc n) e = held-whatever t u os n e
 
     -- refused as 6 once at rest: refused as 6 in every round
-    held-at-rest : (t : Tables) → t .queue ≡ [] → t .misses ≡ [] → access S x t ≡ refused SetHeld → (j : ℕ) → heldIn C j t
+    held-at-rest : (t : Tables) → t .queue ≡ [] → t .misses ≡ [] → access S x t ≡ refused SetHeld → (j : ℕ) → outcomeHeld C j t
     held-at-rest t e m o zero = rw (rounds-more 0 t, drain-idle t e m, o)
     held-at-rest t e m o (suc j) = rw (rounds-more (suc j) t, drain-idle t e m, o) (held-at-rest t e m o j)
 
-    held-once : (t u : Tables) → drain C t .left ≡ u → u .queue ≡ [] → u .misses ≡ [] → access S x u ≡ refused SetHeld → (j : ℕ)
-        → heldIn C j t
+    held-once : (t u : Tables) → outcomeDrain C t .left ≡ u → u .queue ≡ [] → u .misses ≡ [] → access S x u ≡ refused SetHeld → (j : ℕ)
+        → outcomeHeld C j t
     held-once t u d e m o zero = rw (rounds-more 0 t, d, o)
-    held-once t u d e m o (suc j) = rw (rounds-more (suc j) t, d, o) (held-whatever t u (rounds C (suc j) u .offers) j (held-at-rest u e m o j))
+    held-once t u d e m o (suc j) = rw (rounds-more (suc j) t, d, o) (held-whatever t u (outcomeRounds C (suc j) u .offers) j (held-at-rest u e m o j))
 
     offer-taken : (a : Turn Tables) (rest : Tables → Run Tables) (o : Outcome Tables) → accepted o ≡ true
-        → any accepted (goOn a rest o .offers) ≡ true
+        → any accepted (outcomeGoOn a rest o .offers) ≡ true
     offer-taken a rest (refused n) h = absurd (false≢true h)
     offer-taken a rest (done es u) h = refl
 
     -- n + 1 rounds are enough: one of them accepts, or round n + 1 and every later one refuses as 6
-    abbrev Settled : ℕ → Tables → Type 0
-    Settled n t = (any accepted (rounds C (suc n) t .offers) ≡ true) ⊎ ((j : ℕ) → heldIn C (n + j) t)
+    abbrev SettledBy : ℕ → Tables → Type 0
+    SettledBy n t = (any accepted (outcomeRounds C (suc n) t .offers) ≡ true) ⊎ ((j : ℕ) → outcomeHeld C (n + j) t)
 
-    rounds-settle : (n : ℕ) (t : Tables) → Sound S t → size t ≤ suc n → Settled n t
+    rounds-settle : (n : ℕ) (t : Tables) → Sound S t → size t ≤ suc n → SettledBy n t
     rounds-settle zero t ok h =
-        let u : Tables = drain C t .left in
-        let l : Left S (size t - 1) u = drain-less t ok in
+        let u : Tables = outcomeDrain C t .left in
+        let l : LeavesAtMost S (size t - 1) u = drain-less t ok in
         let e : u .queue ≡ [] = none-of (u .queue) (omega arith) in
         let m : u .misses ≡ [] = none-of (u .misses) (omega arith) in
         go e m (access-settles S u (l .ok) m range x e formed)
       where
-        go : (drain C t .left) .queue ≡ [] → (drain C t .left) .misses ≡ []
-            → (accepted (access S x (drain C t .left)) ≡ true) ⊎ (access S x (drain C t .left) ≡ refused SetHeld) → Settled 0 t
-        go e m (inl a) = inl (rw (rounds-more 0 t) (offer-taken (drain C t) (rounds C 0) (access S x (drain C t .left)) a))
-        go e m (inr a) = inr (λ j. rw (zero-add j) (held-once t (drain C t .left) refl e m a j))
+        go : (outcomeDrain C t .left) .queue ≡ [] → (outcomeDrain C t .left) .misses ≡ []
+            → (accepted (access S x (outcomeDrain C t .left)) ≡ true) ⊎ (access S x (outcomeDrain C t .left) ≡ refused SetHeld) → SettledBy 0 t
+        go e m (inl a) = inl (rw (rounds-more 0 t) (offer-taken (outcomeDrain C t) (outcomeRounds C 0) (access S x (outcomeDrain C t .left)) a))
+        go e m (inr a) = inr (λ j. rw (zero-add j) (held-once t (outcomeDrain C t .left) refl e m a j))
     rounds-settle (suc n) t ok h =
-        let l : Left S (size t - 1) (drain C t .left) = drain-less t ok in
-        go (access S x (drain C t .left)) refl (rounds-settle n (drain C t .left) (l .ok) (omega arith))
+        let l : LeavesAtMost S (size t - 1) (outcomeDrain C t .left) = drain-less t ok in
+        go (access S x (outcomeDrain C t .left)) refl (rounds-settle n (outcomeDrain C t .left) (l .ok) (omega arith))
       where
-        go : (o : Outcome Tables) → access S x (drain C t .left) ≡ o → Settled n (drain C t .left) → Settled (suc n) t
+        go : (o : Outcome Tables) → access S x (outcomeDrain C t .left) ≡ o → SettledBy n (outcomeDrain C t .left) → SettledBy (suc n) t
         go (done es u) e k = inl (rw (rounds-more (suc n) t, e))
         go (refused c) e (inl a) = inl (rw (rounds-more (suc n) t, e) a)
         go (refused c) e (inr f) =
             inr (λ j. rw (suc-add n j, rounds-more (suc (n + j)) t, e)
-            (held-whatever t (drain C t .left) (rounds C (suc (n + j)) (drain C t .left) .offers) (n + j) (f j)))
+            (held-whatever t (outcomeDrain C t .left) (outcomeRounds C (suc (n + j)) (outcomeDrain C t .left) .offers) (n + j) (f j)))
 
 -- any settings in range, any sound tables, any well-formed access
 pub rounds-settled : (S : Settings) (x : Access) (t : Tables) → inRange S ≡ true → sound S t ≡ true → wellFormed x ≡ true → Settles (steps S x) t
 rounds-settled S x t range ok formed = record {
-  settles = rounds-settle S x range formed (waits (steps S x) t) t (parts S t ok) (omega arith);
+  settles = rounds-settle S x range formed (outcomeWaits (steps S x) t) t (parts S t ok) (omega arith);
 }

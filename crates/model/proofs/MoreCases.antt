@@ -9,7 +9,7 @@ use Rattle.model.specs.SoundLent.{soundNumbers}
 use Rattle.model.specs.Probe.{probe, ruleOf}
 use Rattle.model.specs.Steps.{access, proceed, accept, send, fill, fillLine, tick}
 use Rattle.model.specs.Calls.{call}
-use Rattle.model.specs.Tree.{bit, withBit, goes, descent, turned, levels}
+use Rattle.model.specs.Tree.{treeBit, withBit, goes, descent, turned, levels}
 use Rattle.model.specs.Cases.{Case, moreCases, ruleCases, seenOf, turnedBy, treeCases, treesLeft}
 
 pub more-cases : map seenOf moreCases ≡ map (λ (c : Case). c .sees) moreCases
@@ -21,5 +21,5 @@ unfolding table padTo packed inRange tablesOf encode soundNumbers ruleOf probe a
 rule-cases = refl
 
 pub tree-cases : map (λ c. turnedBy (c .0) (c .1)) treeCases ≡ treesLeft
-unfolding table padTo packed inRange tablesOf encode soundNumbers ruleOf probe access proceed accept send fill fillLine tick call bit withBit goes descent turned levels
+unfolding table padTo packed inRange tablesOf encode soundNumbers ruleOf probe access proceed accept send fill fillLine tick call treeBit withBit goes descent turned levels
 tree-cases = refl

@@ -32,7 +32,7 @@ use Rattle.model.specs.declared.Refusal.the-variants.{BadCycle}
 use Rattle.words.proofs.Flags.{and-1, and-2, or-no-1, or-no-2, flag, not-yes, no-yes, clash, by-flag}
 use Rattle.words.proofs.Lists.{In, all-in, in-all, in-any, any-in, in-getD, in-index, all-map, any-map, in-replicate, none-count}
 use Rattle.words.proofs.Below.{every-i}
-use Rattle.model.proofs.SoundFacts.{Sound, LeavesSound, LineIs, line-whole, EntryIs, entry-whole, mask-small, sector-below, sector-aligned, address-is, block-is, lines-are, line-at, four-at, since-at, sectors-at, tag-at, reserved-at, holder-one, entry-at, set-of-block, holder-set, holds-used, holds-tag}
+use Rattle.model.proofs.SoundFacts.{Sound, LeavesSound, LineIs, line-whole, EntryIs, entry-whole, mask-small, sector-below, sector-aligned, address-is, block-is, lines-are, line-at, four-at, since-at, sectors-at, live-tag-good, reserved-at, holder-one, entry-at, set-of-block, holder-set, holds-used, holds-tag}
 use Rattle.model.proofs.Ways.{Finds, first-finds, victim-finds, Sits, way-sits, way-in, line-among, set-of-line}
 use Rattle.model.proofs.AccessKeepsSound.{Spotted}
 use Rattle.model.proofs.Fits.{ranged}
@@ -139,7 +139,7 @@ module _ (S : Settings) (t : Tables) (ok : Sound S t) (l : Line) (m : In l (t .l
     where
       go : dirty l ≡ true → all (queuedOk es) (writing (l .tag) (map (λ (v : Sector). v .mask) (l .sectors)) ∷ []) ≡ true
       go e =
-          let g : goodBlock (l .tag) ≡ true = tag-at S t ok l m (dirty-used l e) in
+          let g : goodBlock (l .tag) ≡ true = live-tag-good S t ok l m (dirty-used l e) in
           let c : eqb (length (map (λ (v : Sector). v .mask) (l .sectors))) 4 ≡ true = rw length-map (eq-eqb (length (l .sectors)) 4 (four-at S t ok l m)) in
           rw (g, c, masks-small, dirty-some e)
 
@@ -163,20 +163,20 @@ module _ (S : Settings) (t : Tables) (ok : Sound S t) (some-ways : 1 ≤ S .ways
       let (j, h, g) = in-index (t .lines) fresh l n in
       (j, h, ap (holds (blockOf (e .address))) g ∙ q)
 
-  abbrev Keeps : ℕ → Entry → Type 0
-  Keeps n e = (blockOf (e .address) ≡ b) ⊎ ((j : ℕ) × (j < length (t .lines)) × (j ≢ n) × (holds (blockOf (e .address)) (getD (t .lines) j fresh) ≡ true))
+  abbrev KeptLine : ℕ → Entry → Type 0
+  KeptLine n e = (blockOf (e .address) ≡ b) ⊎ ((j : ℕ) × (j < length (t .lines)) × (j ≢ n) × (holds (blockOf (e .address)) (getD (t .lines) j fresh) ≡ true))
 
   holder-kept : (n : ℕ)
       → ((e : Entry) → In e (t .misses) → holds (blockOf (e .address)) (getD (t .lines) n fresh) ≡ true → blockOf (e .address) ≡ b)
-      → (e : Entry) → In e (t .misses) → Keeps n e
+      → (e : Entry) → In e (t .misses) → KeptLine n e
   holder-kept n f e m = go (holder e m)
     where
       other : (j : ℕ) → j < length (t .lines) → holds (blockOf (e .address)) (getD (t .lines) j fresh) ≡ true
-          → (eqb j n ≡ true) ⊎ (eqb j n ≡ false) → Keeps n e
+          → (eqb j n ≡ true) ⊎ (eqb j n ≡ false) → KeptLine n e
       other j h q (inl z) = inl (f e m (rw (eqb-true j n z) at q))
       other j h q (inr z) = inr (j, h, eqb-false j n z, q)
 
-      go : (j : ℕ) × (j < length (t .lines)) × (holds (blockOf (e .address)) (getD (t .lines) j fresh) ≡ true) → Keeps n e
+      go : (j : ℕ) × (j < length (t .lines)) × (holds (blockOf (e .address)) (getD (t .lines) j fresh) ≡ true) → KeptLine n e
       go (j, h, q) = other j h q (flag (eqb j n))
 
   -- a way that matches

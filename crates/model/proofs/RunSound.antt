@@ -31,28 +31,28 @@ byte-at (b ∷ s) zero h = ltb-true b 256 (and-1 (ltb b 256) (bytes s) h)
 byte-at (b ∷ s) (suc i) h = byte-at s i (and-2 (ltb b 256) (bytes s) h)
 
 -- a command's mask stands in four bytes
-pub mask-small : (s : List ℕ) → bytes s ≡ true → numberAt s 8 4 ≤ allOnes
+pub command-mask-small : (s : List ℕ) → bytes s ≡ true → numberAt s 8 4 ≤ allOnes
 unfolding numberAt
-mask-small s h = omega (arith, byte-at s 8 h, byte-at s 9 h, byte-at s 10 h, byte-at s 11 h)
+command-mask-small s h = omega (arith, byte-at s 8 h, byte-at s 9 h, byte-at s 10 h, byte-at s 11 h)
 
-abbrev Small : CommandRead → Type 0
-Small (command.Got c) = commandMask c ≤ allOnes
-Small command.None = Unit {0}
+abbrev SmallMask : CommandRead → Type 0
+SmallMask (command.Got c) = commandMask c ≤ allOnes
+SmallMask command.None = Unit {0}
 
-command-small : (k : ℕ) (b : List ℕ) → bytes b ≡ true → Small (commandOf k b)
+command-small : (k : ℕ) (b : List ℕ) → bytes b ≡ true → SmallMask (commandOf k b)
 unfolding records.commandOf
 command-small k b h =
-    by-flag Small (eqb (length b) (lengthOf k)) (commandIn k b) command.None
-    (λ e. by-flag Small (isSettings k) _ _ (λ e. omega arith)
-    (λ e. by-flag Small (eqb k 1) _ _ (λ e. omega arith)
-    (λ e. by-flag Small (eqb k 2) _ _ (λ e. mask-small b h)
-    (λ e. by-flag Small (eqb k 3) _ _ (λ e. omega arith)
-    (λ e. by-flag Small (eqb k 4) _ _ (λ e. omega arith)
-    (λ e. by-flag Small (eqb k 5) _ _ (λ e. omega arith) (λ e. tt)))))))
+    by-flag SmallMask (eqb (length b) (lengthOf k)) (commandIn k b) command.None
+    (λ e. by-flag SmallMask (isSettings k) _ _ (λ e. omega arith)
+    (λ e. by-flag SmallMask (eqb k 1) _ _ (λ e. omega arith)
+    (λ e. by-flag SmallMask (eqb k 2) _ _ (λ e. command-mask-small b h)
+    (λ e. by-flag SmallMask (eqb k 3) _ _ (λ e. omega arith)
+    (λ e. by-flag SmallMask (eqb k 4) _ _ (λ e. omega arith)
+    (λ e. by-flag SmallMask (eqb k 5) _ _ (λ e. omega arith) (λ e. tt)))))))
     (λ e. tt)
 
 module _ (S : Settings) (range : inRange S ≡ true) where
-  read-keeps-sound : (c : CommandRead) (t : Tables) → Small c → sound S t ≡ true → sound S (after t (stepRead S c t)) ≡ true
+  read-keeps-sound : (c : CommandRead) (t : Tables) → SmallMask c → sound S t ≡ true → sound S (after t (stepRead S c t)) ≡ true
   read-keeps-sound (command.Got c) t h ok = step-keeps-sound S c t range h ok
   read-keeps-sound command.None t h ok = ok
 

@@ -18,9 +18,8 @@ use Rattle.model.specs.SoundLent.{soundLent}
 use Rattle.model.specs.Probe.{Place, no, at, metIn}
 use Rattle.model.specs.Steps.{isMerge, isMiss, entryFull, placesNeeded, queues, queuedAs, queuedEvent, accept, proceed, access, sentAs, sendFrom, send, ticketsOf, sentFor, fill}
 use Rattle.model.specs.Calls.{encoded, call}
-use Rattle.model.specs.Rounds as old
-use Rattle.model.specs.Rounds.{Calls, Turn, still, took, isEmpty, steps, calls}
-use Rattle.model.specs.Seen.{Acts, answering, refusing, accepts, but11, compared, Course, goOn, marks, sendTurn, fillFirst, drain, rounds, struck, heldIn, waits, Demand3, seen, stepActs, callActs}
+use Rattle.model.specs.Rounds.{Calls, Turn, still, took, isEmpty, steps, calls, Settles, outcomeDrain, outcomeFill, outcomeGoOn, outcomeHeld, outcomeRounds, outcomeSend}
+use Rattle.model.specs.Seen.{SeenCalls, answering, refusing, accepts, but11, comparable, Course, goOn, marks, sendTurn, fillFirst, drain, rounds, struck, heldIn, waits, Demand3, seen, seenSteps, seenCalls}
 use Rattle.model.specs.declared.Settings.{Settings}
 use Rattle.model.specs.declared.QueueKind.{QueueKind}
 use Rattle.model.specs.declared.QueueKind.the-variants as queue
@@ -43,14 +42,14 @@ but11-append (e ∷ es) fs = ⊎-elim (λ q. rw q (rw (but11-append es fs))) (λ
 -- ---- the struck rounds
 
 -- an offer that is refused tells nothing but its refusal, and leaves the tables as they were
-pub record Quiet {T : Type 0} (C : Acts T) : Type 0 where
+pub record Quiet {T : Type 0} (C : SeenCalls T) : Type 0 where
   pub tells : (t : T) → accepts (C .offers t .events) ≡ false → but11 (C .offers t .events) ≡ []
   pub leaves : (t : T) → accepts (C .offers t .events) ≡ false → C .offers t .left ≡ t
 
-module _ {T : Type 0} (C : Acts T) (quiet : Quiet C) where
-  struck-round : (t : T) (rest : T → Course T) → ((u : T) → compared (struck C (marks (rest u)) u) ≡ compared (rest u .turn))
+module _ {T : Type 0} (C : SeenCalls T) (quiet : Quiet C) where
+  struck-round : (t : T) (rest : T → Course T) → ((u : T) → comparable (struck C (marks (rest u)) u) ≡ comparable (rest u .turn))
       → (a : Turn T) → drain C t ≡ a → (o : Turn T) → C .offers (a .left) ≡ o → (b : Bool) → accepts (o .events) ≡ b
-      → compared (struck C (marks (goOn a o rest)) t) ≡ compared (goOn a o rest .turn)
+      → comparable (struck C (marks (goOn a o rest)) t) ≡ comparable (goOn a o rest .turn)
   unfolding struck
   struck-round t rest ih a d o e true q = rw (q, d, e)
   struck-round t rest ih a d o e false q =
@@ -59,7 +58,7 @@ module _ {T : Type 0} (C : Acts T) (quiet : Quiet C) where
       rw (q, d, l, but11-append, but11-append, but11-append, p)
       (ap (λ (v : Turn T). record { events = but11 (a .events) ++ v .events; left = v .left }) (ih (a .left)))
 
-  pub struck-same : (n : ℕ) (t : T) → compared (struck C (marks (rounds C n t)) t) ≡ compared (rounds C n t .turn)
+  pub struck-same : (n : ℕ) (t : T) → comparable (struck C (marks (rounds C n t)) t) ≡ comparable (rounds C n t .turn)
   unfolding rounds struck
   struck-same zero t = refl
   struck-same (suc n) t =
@@ -143,7 +142,7 @@ call-clear p none S step L c =
 
 -- ---- calls that come to outcomes: "Every refusal returns its number and leaves all tables unchanged."
 
-abbrev actsOf : {T : Type 0} → Calls T → Acts T
+abbrev actsOf : {T : Type 0} → Calls T → SeenCalls T
 actsOf C = record { sends = λ t. seen t (C .sends t); fills = λ a t. seen t (C .fills a t); offers = λ t. seen t (C .offers t); tables = C .tables }
 
 pub took-left : {T : Type 0} (t : T) (o : Outcome T) → took t o .left ≡ after t o
@@ -151,7 +150,7 @@ took-left t (refused n) = refl
 took-left t (done es u) = refl
 
 module _ {T : Type 0} (C : Calls T) (clear : (t : T) → Clear accepts (C .offers t)) where
-  abbrev A : Acts T
+  abbrev A : SeenCalls T
   A = actsOf C
 
   quiet-acts : Quiet A
@@ -167,43 +166,43 @@ module _ {T : Type 0} (C : Calls T) (clear : (t : T) → Clear accepts (C .offer
 
   -- ---- the tables and the offers are those of the rounds that `Bound` speaks of
 
-  sent-left : (t : T) → sendTurn A t .left ≡ old.sendTurn C t .left
-  unfolding sendTurn old.sendTurn
+  sent-left : (t : T) → sendTurn A t .left ≡ outcomeSend C t .left
+  unfolding sendTurn outcomeSend
   sent-left t = ⊎-elim (λ q. rw q) (λ q. rw q (sym (took-left t (C .sends t)))) (flag (isEmpty (C .tables t .queue)))
 
-  filled-left : (es : List Entry) (t : T) → fillFirst A es t .left ≡ old.fillFirst C es t .left
-  unfolding fillFirst old.fillFirst
+  filled-left : (es : List Entry) (t : T) → fillFirst A es t .left ≡ outcomeFill C es t .left
+  unfolding fillFirst outcomeFill
   filled-left [] t = refl
   filled-left (e ∷ es) t = ⊎-elim (λ q. rw q (sym (took-left t (C .fills (e .address) t)))) (λ q. rw q (filled-left es t)) (flag (e .sent))
 
-  drained-left : (t : T) → drain A t .left ≡ old.drain C t .left
-  unfolding drain old.drain
-  drained-left t = rw (sent-left t) (filled-left (C .tables (old.sendTurn C t .left) .misses) (old.sendTurn C t .left))
+  drained-left : (t : T) → drain A t .left ≡ outcomeDrain C t .left
+  unfolding drain outcomeDrain
+  drained-left t = rw (sent-left t) (filled-left (C .tables (outcomeSend C t .left) .misses) (outcomeSend C t .left))
 
-  rounds-offers : (n : ℕ) (t : T) → rounds A n t .offers ≡ map eventsOf (old.rounds C n t .offers)
-  unfolding rounds old.rounds
+  rounds-offers : (n : ℕ) (t : T) → rounds A n t .offers ≡ map eventsOf (outcomeRounds C n t .offers)
+  unfolding rounds outcomeRounds
   rounds-offers zero t = refl
-  rounds-offers (suc n) t = rw (drained-left t) (go (C .offers (old.drain C t .left)) (clear (old.drain C t .left)) (rounds-offers n (old.drain C t .left)))
+  rounds-offers (suc n) t = rw (drained-left t) (go (C .offers (outcomeDrain C t .left)) (clear (outcomeDrain C t .left)) (rounds-offers n (outcomeDrain C t .left)))
     where
-      go : (o : Outcome T) → Clear accepts o → rounds A n (old.drain C t .left) .offers ≡ map eventsOf (old.rounds C n (old.drain C t .left) .offers)
-          → goOn (drain A t) (seen (old.drain C t .left) o) (rounds A n) .offers ≡ map eventsOf (old.goOn (old.drain C t) (old.rounds C n) o .offers)
+      go : (o : Outcome T) → Clear accepts o → rounds A n (outcomeDrain C t .left) .offers ≡ map eventsOf (outcomeRounds C n (outcomeDrain C t .left) .offers)
+          → goOn (drain A t) (seen (outcomeDrain C t .left) o) (rounds A n) .offers ≡ map eventsOf (outcomeGoOn (outcomeDrain C t) (outcomeRounds C n) o .offers)
       go (refused k) c ih = ap (λ (os : List (List Event)). (event.Refused k ∷ []) ∷ os) ih
       go (done es v) c ih = rw (c .clear)
 
-  accepted-same : (n : ℕ) (t : T) → any accepts (rounds A n t .offers) ≡ any accepted (old.rounds C n t .offers)
-  unfolding rounds old.rounds
+  accepted-same : (n : ℕ) (t : T) → any accepts (rounds A n t .offers) ≡ any accepted (outcomeRounds C n t .offers)
+  unfolding rounds outcomeRounds
   accepted-same zero t = refl
-  accepted-same (suc n) t = rw (drained-left t) (go (C .offers (old.drain C t .left)) (clear (old.drain C t .left)) (accepted-same n (old.drain C t .left)))
+  accepted-same (suc n) t = rw (drained-left t) (go (C .offers (outcomeDrain C t .left)) (clear (outcomeDrain C t .left)) (accepted-same n (outcomeDrain C t .left)))
     where
-      go : (o : Outcome T) → Clear accepts o → any accepts (rounds A n (old.drain C t .left) .offers) ≡ any accepted (old.rounds C n (old.drain C t .left) .offers)
-          → any accepts (goOn (drain A t) (seen (old.drain C t .left) o) (rounds A n) .offers) ≡ any accepted (old.goOn (old.drain C t) (old.rounds C n) o .offers)
+      go : (o : Outcome T) → Clear accepts o → any accepts (rounds A n (outcomeDrain C t .left) .offers) ≡ any accepted (outcomeRounds C n (outcomeDrain C t .left) .offers)
+          → any accepts (goOn (drain A t) (seen (outcomeDrain C t .left) o) (rounds A n) .offers) ≡ any accepted (outcomeGoOn (outcomeDrain C t) (outcomeRounds C n) o .offers)
       go (refused k) c ih = ih
       go (done es v) c ih = rw (c .clear)
 
-  held-seen : (n : ℕ) (t : T) → old.heldIn C n t → heldIn A n t
-  held-seen n t h = rw (rounds-offers (suc n) t) (List·getD-map eventsOf (old.rounds C (suc n) t .offers) n (done [] t) ∙ ap eventsOf h)
+  held-seen : (n : ℕ) (t : T) → outcomeHeld C n t → heldIn A n t
+  held-seen n t h = rw (rounds-offers (suc n) t) (List·getD-map eventsOf (outcomeRounds C (suc n) t .offers) n (done [] t) ∙ ap eventsOf h)
 
-  pub demand-seen : (t : T) → old.Settles C t → Demand3 A t
+  pub demand-seen : (t : T) → Settles C t → Demand3 A t
   demand-seen t d = record {
     settles = ⊎-elim
         (λ h. inl (accepted-same (suc (waits A t)) t ∙ h))
@@ -219,7 +218,7 @@ but11-clear [] h = refl
 but11-clear (e ∷ es) h =
     rw (or-no-1 (refusing e) (any refusing es) h) (ap (λ (l : List Event). e ∷ l) (but11-clear es (or-no-2 (refusing e) (any refusing es) h)))
 
-seen-took : {T : Type 0} (t : T) (o : Outcome T) → Clear unrefused o → compared (seen t o) ≡ took t o
+seen-took : {T : Type 0} (t : T) (o : Outcome T) → Clear unrefused o → comparable (seen t o) ≡ took t o
 seen-took t (refused n) c = refl
 seen-took t (done es u) c = rw (but11-clear es (not-yes {b = any refusing es} (c .clear)))
 
@@ -229,29 +228,29 @@ pub record ClearCalls {T : Type 0} (C : Calls T) : Type 0 where
   pub offers : (t : T) → Clear accepts (C .offers t)
 
 module _ {T : Type 0} (C : Calls T) (clear : ClearCalls C) where
-  sent-same : (t : T) → compared (sendTurn (actsOf C) t) ≡ old.sendTurn C t
-  unfolding sendTurn old.sendTurn
+  sent-same : (t : T) → comparable (sendTurn (actsOf C) t) ≡ outcomeSend C t
+  unfolding sendTurn outcomeSend
   sent-same t = ⊎-elim (λ q. rw q) (λ q. rw q (seen-took t (C .sends t) (clear .sends t))) (flag (isEmpty (C .tables t .queue)))
 
-  filled-same : (es : List Entry) (t : T) → compared (fillFirst (actsOf C) es t) ≡ old.fillFirst C es t
-  unfolding fillFirst old.fillFirst
+  filled-same : (es : List Entry) (t : T) → comparable (fillFirst (actsOf C) es t) ≡ outcomeFill C es t
+  unfolding fillFirst outcomeFill
   filled-same [] t = refl
   filled-same (e ∷ es) t = ⊎-elim (λ q. rw q (seen-took t (C .fills (e .address) t) (clear .fills (e .address) t))) (λ q. rw q (filled-same es t)) (flag (e .sent))
 
-  drained-same : (t : T) → compared (drain (actsOf C) t) ≡ old.drain C t
-  unfolding drain old.drain
+  drained-same : (t : T) → comparable (drain (actsOf C) t) ≡ outcomeDrain C t
+  unfolding drain outcomeDrain
   drained-same t =
       rw (← sent-same t, ← filled-same (C .tables (sendTurn (actsOf C) t .left) .misses) (sendTurn (actsOf C) t .left), but11-append)
 
-  rounds-turn : (n : ℕ) (t : T) → compared (rounds (actsOf C) n t .turn) ≡ old.rounds C n t .turn
-  unfolding rounds old.rounds
+  rounds-turn : (n : ℕ) (t : T) → comparable (rounds (actsOf C) n t .turn) ≡ outcomeRounds C n t .turn
+  unfolding rounds outcomeRounds
   rounds-turn zero t = refl
   rounds-turn (suc n) t =
       rw (← drained-same t)
       (go (drain (actsOf C) t) (C .offers (drain (actsOf C) t .left)) (clear .offers (drain (actsOf C) t .left)) (rounds-turn n (drain (actsOf C) t .left)))
     where
-      go : (a : Turn T) (o : Outcome T) → Clear accepts o → compared (rounds (actsOf C) n (a .left) .turn) ≡ old.rounds C n (a .left) .turn
-          → compared (goOn a (seen (a .left) o) (rounds (actsOf C) n) .turn) ≡ old.goOn (compared a) (old.rounds C n) o .turn
+      go : (a : Turn T) (o : Outcome T) → Clear accepts o → comparable (rounds (actsOf C) n (a .left) .turn) ≡ outcomeRounds C n (a .left) .turn
+          → comparable (goOn a (seen (a .left) o) (rounds (actsOf C) n) .turn) ≡ outcomeGoOn (comparable a) (outcomeRounds C n) o .turn
       go a (refused k) c ih = rw but11-append (ap (λ (v : Turn T). record { events = but11 (a .events) ++ v .events; left = v .left }) ih)
       go a (done es v) c ih =
           rw (c .clear, append-nil, but11-append, but11-clear es (not-yes {b = any refusing es} (unrefused-too (done es v) c .clear)))
@@ -264,24 +263,24 @@ calls-clear S x = record {
 }
 
 -- the rounds on slices, as they are seen, are those of the calls as outcomes
-pub lent-offers : (S : Settings) (x : Access) (n : ℕ) (L : Lent) → rounds (callActs S x) n L .offers ≡ map eventsOf (old.rounds (calls S x) n L .offers)
+pub lent-offers : (S : Settings) (x : Access) (n : ℕ) (L : Lent) → rounds (seenCalls S x) n L .offers ≡ map eventsOf (outcomeRounds (calls S x) n L .offers)
 lent-offers S x = rounds-offers (calls S x) (calls-clear S x .offers)
 
-pub lent-turn : (S : Settings) (x : Access) (n : ℕ) (L : Lent) → compared (rounds (callActs S x) n L .turn) ≡ old.rounds (calls S x) n L .turn
+pub lent-turn : (S : Settings) (x : Access) (n : ℕ) (L : Lent) → comparable (rounds (seenCalls S x) n L .turn) ≡ outcomeRounds (calls S x) n L .turn
 lent-turn S x = rounds-turn (calls S x) (calls-clear S x)
 
-pub lent-accepted : (S : Settings) (x : Access) (n : ℕ) (L : Lent) → any accepts (rounds (callActs S x) n L .offers) ≡ any accepted (old.rounds (calls S x) n L .offers)
+pub lent-accepted : (S : Settings) (x : Access) (n : ℕ) (L : Lent) → any accepts (rounds (seenCalls S x) n L .offers) ≡ any accepted (outcomeRounds (calls S x) n L .offers)
 lent-accepted S x = accepted-same (calls S x) (calls-clear S x .offers)
 
 -- ---- demand 3: any settings in range, any sound tables, any well-formed access
 
-pub demand-3-seen : (S : Settings) (x : Access) (t : Tables) → inRange S ≡ true → sound S t ≡ true → wellFormed x ≡ true → Demand3 (stepActs S x) t
+pub demand-3-seen : (S : Settings) (x : Access) (t : Tables) → inRange S ≡ true → sound S t ≡ true → wellFormed x ≡ true → Demand3 (seenSteps S x) t
 demand-3-seen S x t range soundly formed = demand-seen (steps S x) (access-clear S x) t (rounds-settled S x t range soundly formed)
 
 -- ---- what demand 3 turns away
 
 -- where the first offer is refused, demand 3 says that it left the tables as it got them
-pub demand-3-leaves : {T : Type 0} (C : Acts T) (t : T) → Demand3 C t → accepts (C .offers (drain C t .left) .events) ≡ false
+pub demand-3-leaves : {T : Type 0} (C : SeenCalls T) (t : T) → Demand3 C t → accepts (C .offers (drain C t .left) .events) ≡ false
     → C .offers (drain C t .left) .left ≡ drain C t .left
 unfolding rounds struck
 demand-3-leaves {T} C t d h = sym (ap (λ (a : Turn T). a .left) (rw h at (d .strikes 1)))
@@ -291,7 +290,7 @@ no-more es [] e = refl
 no-more es (f ∷ fs) e = absurd (omega (arith, simp length-append at (ap length e)))
 
 -- and told nothing but its refusal
-pub demand-3-tells : {T : Type 0} (C : Acts T) (t : T) → Demand3 C t → accepts (C .offers (drain C t .left) .events) ≡ false
+pub demand-3-tells : {T : Type 0} (C : SeenCalls T) (t : T) → Demand3 C t → accepts (C .offers (drain C t .left) .events) ≡ false
     → but11 (C .offers (drain C t .left) .events) ≡ []
 unfolding rounds struck
 demand-3-tells {T} C t d h =
@@ -300,11 +299,11 @@ demand-3-tells {T} C t d h =
     no-more (but11 (drain C t .events)) (but11 (o .events)) (sym (simp (append-nil, but11-append) at e))
 
 -- a library whose send and fill do nothing and whose offers are refused as 6, which moves the current cycle
-abbrev moved : Tables → Tables
-moved t = withNow (suc (t .now)) t
+abbrev cycleMoved : Tables → Tables
+cycleMoved t = withNow (suc (t .now)) t
 
-abbrev pub leaky : Acts Tables
-leaky = record { sends = λ t. still t; fills = λ a t. still t; offers = λ t. record { events = event.Refused SetHeld ∷ []; left = moved t }; tables = λ t. t }
+abbrev pub leaky : SeenCalls Tables
+leaky = record { sends = λ t. still t; fills = λ a t. still t; offers = λ t. record { events = event.Refused SetHeld ∷ []; left = cycleMoved t }; tables = λ t. t }
 
 pub not-demand-3-of-a-leaky-library : (t : Tables) → Demand3 leaky t → ⊥
 not-demand-3-of-a-leaky-library t d =
@@ -312,7 +311,7 @@ not-demand-3-of-a-leaky-library t d =
     omega arith
 
 -- a library whose calls tell nothing and leave everything as it was
-abbrev pub silent : Acts Tables
+abbrev pub silent : SeenCalls Tables
 silent = record { sends = λ t. still t; fills = λ a t. still t; offers = λ t. still t; tables = λ t. t }
 
 silent-offers : (n : ℕ) (t : Tables) → (any accepts (rounds silent n t .offers) ≡ false) × ((i : ℕ) → getD (rounds silent n t .offers) i [] ≡ [])

@@ -43,9 +43,9 @@ pub parts : (S : Settings) (t : Tables) → sound S t ≡ true → Sound S t
 unfolding sound
 parts S t e = search (and-1, and-2) depth 13
 
-pub whole : (S : Settings) (t : Tables) → Sound S t → sound S t ≡ true
+pub sound-whole : (S : Settings) (t : Tables) → Sound S t → sound S t ≡ true
 unfolding sound
-whole S t h = rw (h .sized, h .time, h .lined, h .single, h .reserve, h .entered, h .lining, h .few, h .short, h .counted, h .treed, h .turned)
+sound-whole S t h = rw (h .sized, h .time, h .lined, h .single, h .reserve, h .entered, h .lining, h .few, h .short, h .counted, h .treed, h .turned)
 
 pub record LineIs (S : Settings) (now i : ℕ) (l : Line) : Type 0 where
   pub four : eqb (length (l .sectors)) 4 ≡ true
@@ -160,15 +160,15 @@ module _ (S : Settings) (t : Tables) (ok : Sound S t) where
       ap (λ (v : Line). all sectorOk (v .sectors)) (sym e) ∙ line-at i h .sectorly
 
   -- the tag of a line that isn't wholly invalid
-  pub tag-at : (l : Line) → In l (t .lines) → whollyInvalid l ≡ false → goodBlock (l .tag) ≡ true
-  tag-at l m u =
+  pub live-tag-good : (l : Line) → In l (t .lines) → whollyInvalid l ≡ false → goodBlock (l .tag) ≡ true
+  live-tag-good l m u =
       let (i, h, e) = in-index (t .lines) fresh l m in
       let k : LineIs S (t .now) i l = rw e at (line-at i h) in
       let q : (goodBlock (l .tag) && eqb (setIndex S (l .tag)) (i / S .ways)) ≡ true = rw u at (k .tagged) in
       and-1 (goodBlock (l .tag)) _ q
 
   pub tag-aligned : (l : Line) → In l (t .lines) → whollyInvalid l ≡ false → l .tag % 128 ≡ 0
-  tag-aligned l m u = eqb-true (l .tag % 128) 0 (and-1 (eqb (l .tag % 128) 0) (ltb (l .tag) (2 ^ 48)) (tag-at l m u))
+  tag-aligned l m u = eqb-true (l .tag % 128) 0 (and-1 (eqb (l .tag % 128) 0) (ltb (l .tag) (2 ^ 48)) (live-tag-good l m u))
 
   -- its sectors are RESERVED where the entries say so
   pub reserved-at : (l : Line) → In l (t .lines) → whollyInvalid l ≡ false → (k : ℕ) → k < 4

@@ -8,7 +8,7 @@ use Rattle.model.specs.Tables.{Tables, start, Outcome, refused, done, af
 use Rattle.model.specs.Sound.{allOnes, sound}
 use Rattle.model.specs.Probe.{Rules, ruleOf}
 use Rattle.model.specs.Steps.{accessUnder, access, send, fill, tick}
-use Rattle.model.specs.History.{Call, offer, sending, filling, ticking, stepUnder, Small}
+use Rattle.model.specs.History.{Call, offer, sending, filling, ticking, stepUnder, SmallCall}
 use Rattle.model.specs.Runner.{stepOf}
 pub use Rattle.model.specs.Runner.{commandMask}
 use Rattle.model.specs.declared.Settings.{Settings}
@@ -16,17 +16,17 @@ use Rattle.model.specs.declared.Access.{Access}
 use Rattle.model.specs.declared.Access.the-variants.{Read, Write}
 use Rattle.model.specs.declared.Command.{Command}
 use Rattle.model.specs.declared.Command.the-variants as cmd
-use Rattle.model.proofs.SoundFacts.{LeavesSound, parts, whole}
+use Rattle.model.proofs.SoundFacts.{LeavesSound, parts, sound-whole}
 use Rattle.model.proofs.SendFillKeepSound.{send-leaves, fill-leaves}
 use Rattle.model.proofs.ProbeFindsSpot.{tick-leaves, start-is-sound}
 use Rattle.model.proofs.AccessCases.{access-leaves}
 
 after-sound : (S : Settings) (t : Tables) → sound S t ≡ true → (o : Outcome Tables) → LeavesSound S o → sound S (after t o) ≡ true
 after-sound S t ok (refused n) l = ok
-after-sound S t ok (done es u) l = whole S u l
+after-sound S t ok (done es u) l = sound-whole S u l
 
 pub start-sound : (S : Settings) → sound S (start S) ≡ true
-start-sound S = whole S (start S) (start-is-sound S)
+start-sound S = sound-whole S (start S) (start-is-sound S)
 
 -- under any rules; a mask is a 32-bit number: `wellFormed` leaves that to its type
 pub access-under-keeps-sound : (R : Rules) (S : Settings) (x : Access) (t : Tables) → inRange S ≡ true → maskOf x ≤ allOnes → sound S t ≡ true
@@ -47,7 +47,7 @@ fill-keeps-sound S a t ok = after-sound S t ok (fill a t) (fill-leaves S t (part
 pub tick-keeps-sound : (S : Settings) (c : ℕ) (t : Tables) → sound S t ≡ true → sound S (after t (tick c t)) ≡ true
 tick-keeps-sound S c t ok = after-sound S t ok (tick c t) (tick-leaves S t (parts S t ok) c)
 
-pub call-keeps-sound : (R : Rules) (S : Settings) (k : Call) (t : Tables) → inRange S ≡ true → Small k → sound S t ≡ true
+pub call-keeps-sound : (R : Rules) (S : Settings) (k : Call) (t : Tables) → inRange S ≡ true → SmallCall k → sound S t ≡ true
     → sound S (after t (stepUnder R S k t)) ≡ true
 call-keeps-sound R S (offer x) t range small ok = access-under-keeps-sound R S x t range small ok
 call-keeps-sound R S sending t range small ok = send-keeps-sound S t ok

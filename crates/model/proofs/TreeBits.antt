@@ -11,22 +11,22 @@ use lib.Arith.{lt-of-le-ne}
 use lib.Dec.{eqb, ltb}
 use borrow.Author.Tests.{ne-eqb, eqb-true, eqb-false, lt-ltb, le-ltb, ltb-true, ltb-false}
 use Rattle.words.specs.Words.{some}
-use Rattle.model.specs.Tree.{bit, withBit, isIn, someFrom}
+use Rattle.model.specs.Tree.{treeBit, withBit, isIn, someFrom}
 use Rattle.words.proofs.Flags.{or-2, flag}
 use Rattle.words.proofs.Below.{some-same}
 
-pub bit-zero : (t : ℕ) → bit t 0 ≡ t % 2
-unfolding bit
+pub bit-zero : (t : ℕ) → treeBit t 0 ≡ t % 2
+unfolding treeBit
 bit-zero t = ap (λ (x : ℕ). x % 2) (div-one t)
 
-pub bit-suc : (t i : ℕ) → bit t (suc i) ≡ bit (t / 2) i
-unfolding bit
+pub bit-suc : (t i : ℕ) → treeBit t (suc i) ≡ treeBit (t / 2) i
+unfolding treeBit
 bit-suc t i =
     let e : 1 + i ≡ suc i = omega arith in
     ap (λ (x : ℕ). t / 2 ^ x % 2) (sym e) ∙ ap (λ (x : ℕ). x % 2) (sym (shr-shr t 1 i))
 
-pub bit-two : (t i : ℕ) → bit t i < 2
-unfolding bit
+pub bit-two : (t i : ℕ) → treeBit t i < 2
+unfolding treeBit
 bit-two t i = omega arith
 
 pub halves : {h : ℕ} → h < 2 → (h ≡ 0) ⊎ (h ≡ 1)
@@ -36,23 +36,23 @@ halves {h = suc (suc h)} l = absurd (omega arith)
 
 -- ---- one bit put
 
-pub put-same : (t i h : ℕ) → h < 2 → bit (withBit t i h) i ≡ h
+pub put-same : (t i h : ℕ) → h < 2 → treeBit (withBit t i h) i ≡ h
 unfolding withBit
 put-same t zero h l = bit-zero (t / 2 * 2 + h) ∙ omega arith
 put-same t (suc i) h l =
     let e : (withBit (t / 2) i h * 2 + t % 2) / 2 ≡ withBit (t / 2) i h = omega arith in
-    bit-suc _ i ∙ ap (λ (x : ℕ). bit x i) e ∙ put-same (t / 2) i h l
+    bit-suc _ i ∙ ap (λ (x : ℕ). treeBit x i) e ∙ put-same (t / 2) i h l
 
-pub put-other : (t i j h : ℕ) → h < 2 → (i ≡ j → ⊥) → bit (withBit t i h) j ≡ bit t j
+pub put-other : (t i j h : ℕ) → h < 2 → (i ≡ j → ⊥) → treeBit (withBit t i h) j ≡ treeBit t j
 unfolding withBit
 put-other t zero zero h l f = absurd (f refl)
 put-other t zero (suc j) h l f =
     let e : (t / 2 * 2 + h) / 2 ≡ t / 2 = omega arith in
-    bit-suc _ j ∙ ap (λ (x : ℕ). bit x j) e ∙ sym (bit-suc t j)
+    bit-suc _ j ∙ ap (λ (x : ℕ). treeBit x j) e ∙ sym (bit-suc t j)
 put-other t (suc i) zero h l f = bit-zero _ ∙ omega arith ∙ sym (bit-zero t)
 put-other t (suc i) (suc j) h l f =
     let e : (withBit (t / 2) i h * 2 + t % 2) / 2 ≡ withBit (t / 2) i h = omega arith in
-    bit-suc _ j ∙ ap (λ (x : ℕ). bit x j) e ∙ put-other (t / 2) i j h l (λ q. f (ap suc q)) ∙ sym (bit-suc t j)
+    bit-suc _ j ∙ ap (λ (x : ℕ). treeBit x j) e ∙ put-other (t / 2) i j h l (λ q. f (ap suc q)) ∙ sym (bit-suc t j)
 
 pub put-below : (k t i h : ℕ) → h < 2 → t < 2 ^ k → i < k → withBit t i h < 2 ^ k
 unfolding withBit
@@ -85,7 +85,7 @@ put-less t (suc i) = let e = pow-suc 2 i in omega (arith, put-less (t / 2) i)
 
 -- ---- a test of the low bits
 
-some-step : (x w r : ℕ) → some w (isIn x) ≡ not (eqb r 0) → x % 2 ^ suc w ≡ bit x w * 2 ^ w + r → (bit x w ≡ 0) ⊎ (bit x w ≡ 1)
+some-step : (x w r : ℕ) → some w (isIn x) ≡ not (eqb r 0) → x % 2 ^ suc w ≡ treeBit x w * 2 ^ w + r → (treeBit x w ≡ 0) ⊎ (treeBit x w ≡ 1)
     → some (suc w) (isIn x) ≡ not (eqb (x % 2 ^ suc w) 0)
 some-step x w r ih e (inl z) =
     let s : x % 2 ^ suc w ≡ r = rw z at e ∙ omega arith in
@@ -98,7 +98,7 @@ some-step x w r ih e (inr z) =
     or-2 (some w (isIn x)) (isIn x w) u ∙ sym (rw s g)
 
 pub some-low : (x w : ℕ) → some w (isIn x) ≡ not (eqb (x % 2 ^ w) 0)
-unfolding bit
+unfolding treeBit
 some-low x zero = rw (mod-one x)
 some-low x (suc w) =
     let c : 1 + w ≡ suc w = omega arith in
@@ -106,7 +106,7 @@ some-low x (suc w) =
 
 -- the bits of a mask from `first` on
 pub some-shifted : (m first w : ℕ) → someFrom (isIn m) first w ≡ not (eqb (m / 2 ^ first % 2 ^ w) 0)
-unfolding bit
+unfolding treeBit
 some-shifted m first w =
     some-same (λ i. isIn m (first + i)) (isIn (m / 2 ^ first)) w
     (λ i l. ap (λ (x : ℕ). eqb (x % 2) 1) (sym (shr-shr m first i)))
@@ -122,7 +122,7 @@ module _ (p : ℕ → Bool) where
   Masked w m = (v : ℕ) → isIn m v ≡ (ltb v w && p v)
 
   pub masked-start : Masked 0 0
-  unfolding bit
+  unfolding treeBit
   masked-start v = let z : 0 / 2 ^ v ≡ 0 = zero-div (2 ^ v) in rw (z, le-ltb v 0 (omega arith))
 
   masked-step : (w m : ℕ) → Masked w m → (n : ℕ) → isIn n w ≡ p w → ((v : ℕ) → (w ≡ v → ⊥) → isIn n v ≡ isIn m v) → Masked (w + 1) n

@@ -11,7 +11,7 @@ use lib.Pow.{pow-pos, high}
 use lib.Dec.{eqb, leb, ltb}
 use borrow.Author.Tests.{eqb-true, ltb-true, lt-ltb, ltb-false, leb-true, leb-false}
 use Rattle.words.specs.Words.{pick}
-use Rattle.model.specs.Tree.{bit, withBit, isIn, named, pointed, someFrom, goes, descent, treeChoice, sideOf, turned, touchedTree, powerTo16, halvings, levels, treeFine}
+use Rattle.model.specs.Tree.{treeBit, withBit, isIn, named, pointed, someFrom, goes, descent, treeChoice, sideOf, turned, touchedTree, powerTo16, halvings, levels, treeFine}
 use Rattle.model.specs.declared.Found.{Found}
 use Rattle.model.specs.declared.Found.the-variants.{At, Nothing}
 use Rattle.words.proofs.Flags.{and-1, and-2, flag, clash, no-yes, by-flag}
@@ -317,5 +317,5 @@ four = refl
 
 -- then way 3 goes among all, and way 1 if 2 and 3 are no candidates; an access to way 3 leaves 2
 four-chosen : (treeChoice (isIn 15) 7 2 ≡ At 3) × (touchedTree 7 2 3 ≡ 2) × (treeChoice (isIn 3) 7 2 ≡ At 1) × (treeChoice (isIn 0) 7 2 ≡ Nothing)
-unfolding turned withBit bit descent goes
+unfolding turned withBit treeBit descent goes
 four-chosen = (refl, refl, refl, refl)

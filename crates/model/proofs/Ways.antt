@@ -123,36 +123,36 @@ last-is-last p [] = tt
 last-is-last p (l ∷ ls) = last-more p l ls (last p ls) (last-finds p ls) (last-is-last p ls) (p l)
 
 -- no way that passes has a lesser key than the one found, and no lower way the same
-abbrev Before : (Line → ℕ) → (Line → Bool) → List Line → ℕ → ℕ → Type 0
-Before key p ls w v =
+abbrev Earliest : (Line → ℕ) → (Line → Bool) → List Line → ℕ → ℕ → Type 0
+Earliest key p ls w v =
     v < length ls → p (getD ls v fresh) ≡ true → (key (getD ls w fresh) ≤ key (getD ls v fresh)) × (v < w → key (getD ls w fresh) < key (getD ls v fresh))
 
 abbrev pub Least : (Line → ℕ) → (Line → Bool) → List Line → Found → Type 0
 Least key p ls Nothing = Unit {0}
-Least key p ls (At w) = (v : ℕ) → Before key p ls w v
+Least key p ls (At w) = (v : ℕ) → Earliest key p ls w v
 
 module _ (key : Line → ℕ) (p : Line → Bool) (l : Line) (ls : List Line) where
   least-next : p l ≡ false → (r : Found) → Least key p ls r → Least key p (l ∷ ls) (next r)
   least-next e Nothing g = tt
   least-next e (At w) g = go
     where
-      go : (v : ℕ) → Before key p (l ∷ ls) (suc w) v
+      go : (v : ℕ) → Earliest key p (l ∷ ls) (suc w) v
       go zero h k = clash k e
       go (suc v) h k = let q = g v (omega arith) k in (q .0, λ z. q .1 (omega arith))
 
   least-older : (r : Found) → Finds p ls r → Least key p ls r → Least key p (l ∷ ls) (older key ls (key l) r)
   least-older Nothing f g = go
     where
-      go : (v : ℕ) → Before key p (l ∷ ls) 0 v
+      go : (v : ℕ) → Earliest key p (l ∷ ls) 0 v
       go zero h k = (omega arith, λ z. absurd (omega arith))
       go (suc v) h k = clash k (f (getD ls v fresh) (in-getD ls v fresh (omega arith)))
   least-older (At w) f g = by-flag (Least key p (l ∷ ls)) (leb (key l) (key (getD ls w fresh))) (At 0) (At (suc w)) this other
     where
-      this : leb (key l) (key (getD ls w fresh)) ≡ true → (v : ℕ) → Before key p (l ∷ ls) 0 v
+      this : leb (key l) (key (getD ls w fresh)) ≡ true → (v : ℕ) → Earliest key p (l ∷ ls) 0 v
       this e zero h k = (omega arith, λ z. absurd (omega arith))
       this e (suc v) h k = let q = g v (omega arith) k in (omega (arith, q .0, leb-true (key l) (key (getD ls w fresh)) e), λ z. absurd (omega arith))
 
-      other : leb (key l) (key (getD ls w fresh)) ≡ false → (v : ℕ) → Before key p (l ∷ ls) (suc w) v
+      other : leb (key l) (key (getD ls w fresh)) ≡ false → (v : ℕ) → Earliest key p (l ∷ ls) (suc w) v
       other e zero h k = let q : key (getD ls w fresh) < key l = leb-false (key l) (key (getD ls w fresh)) e in (omega arith, λ z. q)
       other e (suc v) h k = let q = g v (omega arith) k in (q .0, λ z. q .1 (omega arith))
 

@@ -26,12 +26,12 @@ abbrev pub encoded : Settings → Outcome Tables → Outcome Lent
 encoded S (refused n) = refused n
 encoded S (done es t) = done es (encode S t)
 
-abbrev pub sized : Settings → Lent → Outcome Lent → Outcome Lent
-sized S L o = pick (inRange S) (pick (lengthsFit S L) o (refused SliceLength)) (refused SettingOutOfRange)
+abbrev pub sizesChecked : Settings → Lent → Outcome Lent → Outcome Lent
+sizesChecked S L o = pick (inRange S) (pick (lengthsFit S L) o (refused SliceLength)) (refused SettingOutOfRange)
 
 -- a step on the tables that the slices hold
 unfoldable pub call : Settings → (Tables → Outcome Tables) → Lent → Outcome Lent
-call S step L = sized S L (pick (soundLent S L) (encoded S (step (tablesOf S L))) (refused NotSound))
+call S step L = sizesChecked S L (pick (soundLent S L) (encoded S (step (tablesOf S L))) (refused NotSound))
 
 abbrev pub accessCall : Settings → Access → Lent → Outcome Lent
 accessCall S x = call S (access S x)
@@ -47,11 +47,11 @@ tickCall S c = call S (tick c)
 
 -- the check of refusal 3 by itself: it leaves the slices, and tells nothing if they are sound
 abbrev pub checkCall : Settings → Lent → Outcome Lent
-checkCall S L = sized S L (pick (soundLent S L) (done [] L) (refused NotSound))
+checkCall S L = sizesChecked S L (pick (soundLent S L) (done [] L) (refused NotSound))
 
 -- fresh tables: 3 is "not asked where they are made fresh"
 abbrev pub freshCall : Settings → Lent → Outcome Lent
-freshCall S L = sized S L (done [] (encode S (start S)))
+freshCall S L = sizesChecked S L (done [] (encode S (start S)))
 
 -- what `check` and `fresh` return
 abbrev pub verdictOf : Outcome Lent → Verdict

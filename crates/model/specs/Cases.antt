@@ -24,9 +24,9 @@ pub data Seen : Type 0 where
   no : Refusal → Seen
   yes : List Event → ℕ → Seen
 
-abbrev pub seen : Settings → Outcome Lent → Seen
-seen S (refused n) = no n
-seen S (done es L) = yes es (dirtyLines (tablesOf S L))
+abbrev pub caseSeen : Settings → Outcome Lent → Seen
+caseSeen S (refused n) = no n
+caseSeen S (done es L) = yes es (dirtyLines (tablesOf S L))
 
 pub record Case : Type 0 where
   pub settings : Settings
@@ -79,7 +79,7 @@ cases =
 
 -- what each row's last call comes to
 abbrev pub seenOf : Case → Seen
-seenOf c = seen (c .settings) (makeAll (c .settings) (c .before) (c .last) (encode (c .settings) (start (c .settings))))
+seenOf c = caseSeen (c .settings) (makeAll (c .settings) (c .before) (c .last) (encode (c .settings) (start (c .settings))))
 
 -- 1: dirty lines of another set count. 2: a read is queued before the write-back. 3: a fill leaves the line's cycle, so the line stays
 -- the oldest. 4, 5: a write in flight leaves its sector RESERVED, and its bytes are dirty once it has arrived. 6: with a
@@ -112,8 +112,8 @@ moreCases =
 -- ---- the replacement rules
 
 -- 1 set of 2 ways, under a rule
-abbrev pub ruled : ℕ → Settings
-ruled n = record { sets = 1; ways = 2; dirty = 50; misses = 2; readers = 2; queue = 4; rule = n }
+abbrev pub underRule : ℕ → Settings
+underRule n = record { sets = 1; ways = 2; dirty = 50; misses = 2; readers = 2; queue = 4; rule = n }
 
 abbrev pub threeWays : ℕ → Settings
 threeWays n = record { sets = 1; ways = 3; dirty = 50; misses = 2; readers = 2; queue = 4; rule = n }
@@ -126,12 +126,12 @@ usedLate c = ticking 1 ∷ w 0 0xFF ∷ ticking 2 ∷ w 128 0xFF ∷ ticking 9 �
 -- of two taken at the same cycle. 5: another rule byte. 6: a tree over three ways
 abbrev pub ruleCases : List Case
 ruleCases =
-    case (ruled 0) (usedLate (w 0 0xFF)) (w 256 0xFF) (yes (Answered Miss 0 ∷ WriteBackQueued 128 0xFF 0 0 0 ∷ []) 2)
-    ∷ case (ruled 1) (usedLate (w 0 0xFF)) (w 256 0xFF) (yes (Answered Miss 1 ∷ WriteBackQueued 0 0xFF 0 0 0 ∷ []) 2)
-    ∷ case (ruled 1) (usedLate (w 32 0xFF)) (w 256 0xFF) (yes (Answered Miss 1 ∷ WriteBackQueued 0 0xFF 0xFF 0 0 ∷ []) 2)
-    ∷ case (ruled 1) (w 0 0xFF ∷ w 128 0xFF ∷ ticking 9 ∷ w 128 0xFF ∷ []) (w 256 0xFF)
+    case (underRule 0) (usedLate (w 0 0xFF)) (w 256 0xFF) (yes (Answered Miss 0 ∷ WriteBackQueued 128 0xFF 0 0 0 ∷ []) 2)
+    ∷ case (underRule 1) (usedLate (w 0 0xFF)) (w 256 0xFF) (yes (Answered Miss 1 ∷ WriteBackQueued 0 0xFF 0 0 0 ∷ []) 2)
+    ∷ case (underRule 1) (usedLate (w 32 0xFF)) (w 256 0xFF) (yes (Answered Miss 1 ∷ WriteBackQueued 0 0xFF 0xFF 0 0 ∷ []) 2)
+    ∷ case (underRule 1) (w 0 0xFF ∷ w 128 0xFF ∷ ticking 9 ∷ w 128 0xFF ∷ []) (w 256 0xFF)
     (yes (Answered Miss 0 ∷ WriteBackQueued 128 0xFF 0 0 0 ∷ []) 2)
-    ∷ case (ruled 3) [] (r 0) (no SettingOutOfRange)
+    ∷ case (underRule 3) [] (r 0) (no SettingOutOfRange)
     ∷ case (threeWays 2) [] (r 0) (no SettingOutOfRange)
     ∷ []
 
@@ -141,21 +141,21 @@ abbrev pub fourWays : Settings
 fourWays = record { sets = 1; ways = 4; dirty = 50; misses = 4; readers = 1; queue = 4; rule = 2 }
 
 -- the events of the last call, and the tree that it leaves
-pub record Turned : Type 0 where
+pub record TreeLeft : Type 0 where
   pub events : List Event
   pub tree : ℕ
 
-abbrev pub lastTurned : Call → Lent → Turned
+abbrev pub lastTurned : Call → Lent → TreeLeft
 lastTurned c L = record {
   events = eventsOf (make fourWays c L);
   tree = getD (tablesOf fourWays (after L (make fourWays c L)) .trees) 0 0;
 }
 
-abbrev pub turnedFrom : List Call → Call → Lent → Turned
+abbrev pub turnedFrom : List Call → Call → Lent → TreeLeft
 turnedFrom [] c L = lastTurned c L
 turnedFrom (d ∷ ds) c L = turnedFrom ds c (after L (make fourWays d L))
 
-abbrev pub turnedBy : List Call → Call → Turned
+abbrev pub turnedBy : List Call → Call → TreeLeft
 turnedBy ds c = turnedFrom ds c (encode fourWays (start fourWays))
 
 -- a read that comes back
@@ -179,7 +179,7 @@ treeCases =
     ∷ (allFour, r 1)
     ∷ []
 
-abbrev pub treesLeft : List Turned
+abbrev pub treesLeft : List TreeLeft
 treesLeft =
     record { events = Answered Miss 0 ∷ ReadQueued 384 ∷ []; tree = 7 }
     ∷ record { events = Answered Miss 3 ∷ ReadQueued 512 ∷ []; tree = 2 }

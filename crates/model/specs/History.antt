@@ -43,15 +43,15 @@ make S (filling a) = fillCall S a
 make S (ticking c) = tickCall S c
 
 -- a mask is a 32-bit number: the code knows that by its type
-abbrev pub Small : Call → Type 0
-Small (offer x) = maskOf x ≤ allOnes
-Small sending = Unit {0}
-Small (filling a) = Unit {0}
-Small (ticking c) = Unit {0}
+abbrev pub SmallCall : Call → Type 0
+SmallCall (offer x) = maskOf x ≤ allOnes
+SmallCall sending = Unit {0}
+SmallCall (filling a) = Unit {0}
+SmallCall (ticking c) = Unit {0}
 
 abbrev pub AllSmall : List Call → Type 0
 AllSmall [] = Unit {0}
-AllSmall (k ∷ ks) = Small k × AllSmall ks
+AllSmall (k ∷ ks) = SmallCall k × AllSmall ks
 
 -- ---- calls in a row
 
@@ -66,9 +66,9 @@ module _ {T : Type 0} (step : Call → T → Outcome T) where
   history [] t = []
   history (k ∷ ks) t = record { call = k; events = eventsOf (step k t) } ∷ history ks (after t (step k t))
 
-  unfoldable pub left : List Call → T → T
-  left [] t = t
-  left (k ∷ ks) t = left ks (after t (step k t))
+  unfoldable pub tablesLeft : List Call → T → T
+  tablesLeft [] t = t
+  tablesLeft (k ∷ ks) t = tablesLeft ks (after t (step k t))
 
 -- all its events, one call after another
 abbrev pub eventsMade : List Made → List Event

@@ -52,13 +52,13 @@ pub record Run (T : Type 0) : Type 0 where
   pub offers : List (Outcome T)
 
 module _ {T : Type 0} where
-  abbrev pub before : Turn T → Outcome T → Run T → Run T
-  before a o r = record { turn = andThen a (λ t. r .turn); offers = o ∷ r .offers }
+  abbrev pub roundBefore : Turn T → Outcome T → Run T → Run T
+  roundBefore a o r = record { turn = andThen a (λ t. r .turn); offers = o ∷ r .offers }
 
   -- "An accepted offer is the last call; after a refused one the next round begins."
-  abbrev pub goOn : Turn T → (T → Run T) → Outcome T → Run T
-  goOn a rest (refused n) = before a (refused n) (rest (a .left))
-  goOn a rest (done es u) = before a (done es u) (record { turn = record { events = es; left = u }; offers = [] })
+  abbrev pub outcomeGoOn : Turn T → (T → Run T) → Outcome T → Run T
+  outcomeGoOn a rest (refused n) = roundBefore a (refused n) (rest (a .left))
+  outcomeGoOn a rest (done es u) = roundBefore a (done es u) (record { turn = record { events = es; left = u }; offers = [] })
 
 abbrev pub isEmpty : List Queued → Bool
 isEmpty [] = true
@@ -66,30 +66,30 @@ isEmpty (x ∷ q) = false
 
 module _ {T : Type 0} (C : Calls T) where
   -- "send, if the queue isn't empty"
-  unfoldable pub sendTurn : T → Turn T
-  sendTurn t = pick (isEmpty (C .tables t .queue)) (still t) (took t (C .sends t))
+  unfoldable pub outcomeSend : T → Turn T
+  outcomeSend t = pick (isEmpty (C .tables t .queue)) (still t) (took t (C .sends t))
 
   -- "fill, at the address of the first entry then marked sent, if there is one"
-  unfoldable pub fillFirst : List Entry → T → Turn T
-  fillFirst [] t = still t
-  fillFirst (e ∷ es) t = pick (e .sent) (took t (C .fills (e .address) t)) (fillFirst es t)
+  unfoldable pub outcomeFill : List Entry → T → Turn T
+  outcomeFill [] t = still t
+  outcomeFill (e ∷ es) t = pick (e .sent) (took t (C .fills (e .address) t)) (outcomeFill es t)
 
-  unfoldable pub drain : T → Turn T
-  drain t = andThen (sendTurn t) (λ u. fillFirst (C .tables u .misses) u)
+  unfoldable pub outcomeDrain : T → Turn T
+  outcomeDrain t = andThen (outcomeSend t) (λ u. outcomeFill (C .tables u .misses) u)
 
   -- n rounds at most, until the access is accepted
-  unfoldable pub rounds : ℕ → T → Run T
-  rounds zero t = record { turn = still t; offers = [] }
-  rounds (suc n) t = goOn (drain t) (rounds n) (C .offers (drain t .left))
+  unfoldable pub outcomeRounds : ℕ → T → Run T
+  outcomeRounds zero t = record { turn = still t; offers = [] }
+  outcomeRounds (suc n) t = outcomeGoOn (outcomeDrain t) (outcomeRounds n) (C .offers (outcomeDrain t .left))
 
   -- the offer of round n + 1 was refused as 6
-  abbrev pub heldIn : ℕ → T → Type 0
-  heldIn n t = getD (rounds (suc n) t .offers) n (done [] t) ≡ refused SetHeld
+  abbrev pub outcomeHeld : ℕ → T → Type 0
+  outcomeHeld n t = getD (outcomeRounds (suc n) t .offers) n (done [] t) ≡ refused SetHeld
 
   -- "no later than round q + m (round 1 if both are 0)": q + m - 1 rounds come before it
-  abbrev pub waits : T → ℕ
-  waits t = length (C .tables t .queue) + length (C .tables t .misses) - 1
+  abbrev pub outcomeWaits : T → ℕ
+  outcomeWaits t = length (C .tables t .queue) + length (C .tables t .misses) - 1
 
   -- demand 3 without the struck rounds
   pub record Settles (t : T) : Type 0 where
-    pub settles : (any accepted (rounds (suc (waits t)) t .offers) ≡ true) ⊎ ((j : ℕ) → heldIn (waits t + j) t)
+    pub settles : (any accepted (outcomeRounds (suc (outcomeWaits t)) t .offers) ≡ true) ⊎ ((j : ℕ) → outcomeHeld (outcomeWaits t + j) t)

@@ -8,7 +8,7 @@ use Rattle.model.specs.Format as format
 use Rattle.model.specs.RunnerOf as runner
 use Rattle.model.specs.declared.Settings.{Settings}
 use Rattle.model.specs.declared.Stop.{Stop}
-unfoldable pub use Rattle.model.specs.RunnerOf.{lentStop, settingsStop, goesOn, stepOf, commandMask, stepRead, halt, ahead, lentResult, keptStop}
+unfoldable pub use Rattle.model.specs.RunnerOf.{lentStop, settingsStop, goesOn, stepOf, commandMask, stepRead, halt, bytesThen, lentResult, keptStop}
 pub use Rattle.model.specs.RunnerOf.{Result, Runs}
 
 abbrev pub eventRoom : ℕ

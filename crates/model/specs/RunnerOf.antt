@@ -102,8 +102,8 @@ module _ {T : Type 0} where
   halt n t = record { stop = n; consumed = 0; events = []; tables = t }
 
   -- n bytes and the event bytes es, then what o says
-  abbrev pub ahead : ℕ → List ℕ → Result T → Result T
-  ahead n es o = record { stop = o .stop; consumed = n + o .consumed; events = es ++ o .events; tables = o .tables }
+  abbrev pub bytesThen : ℕ → List ℕ → Result T → Result T
+  bytesThen n es o = record { stop = o .stop; consumed = n + o .consumed; events = es ++ o .events; tables = o .tables }
 
 -- the slices of tables
 abbrev pub lentResult : Settings → Result Tables → Result Lent
@@ -117,7 +117,7 @@ module _ (F : Format) where
   runFrom S (suc n) room (b ∷ bs) t = runFrom S n room bs t
   runFrom S zero room (k ∷ bs) t =
       pick (goesOn (laterStop F room k bs))
-      (ahead (1 + lengthOf F k) (logBytes F (eventsOf (stepAt F S k bs t)))
+      (bytesThen (1 + lengthOf F k) (logBytes F (eventsOf (stepAt F S k bs t)))
       (runFrom S (lengthOf F k) (room - length (logBytes F (eventsOf (stepAt F S k bs t)))) bs (after t (stepAt F S k bs t))))
       (halt (laterStop F room k bs) t)
 
@@ -126,7 +126,7 @@ module _ (F : Format) where
   run room [] L = halt stop.Nothing L
   run room (k ∷ bs) L =
       pick (goesOn (firstStop F L k bs))
-      (ahead (1 + lengthOf F k) []
+      (bytesThen (1 + lengthOf F k) []
       (lentResult (settingsOf F k bs) (runFrom (settingsOf F k bs) (lengthOf F k) room bs (start (settingsOf F k bs)))))
       (halt (firstStop F L k bs) L)
 

@@ -21,7 +21,7 @@ use Rattle.model.specs.declared.Event.the-variants as event
 use Rattle.model.specs.declared.Refusal.the-variants.{SetHeld}
 
 -- what the rounds call, as it is seen. "Settings and access, with its ticket or mask, are the same in every round"
-pub record Acts (T : Type 0) : Type 0 where
+pub record SeenCalls (T : Type 0) : Type 0 where
   pub sends : T → Turn T
   pub fills : ℕ → T → Turn T
   pub offers : T → Turn T
@@ -47,8 +47,8 @@ but11 es = keep (λ e. not (refusing e)) es
 
 module _ {T : Type 0} where
   -- what is compared: every number in the tables, and the events but 0x11
-  abbrev pub compared : Turn T → Turn T
-  compared a = record { events = but11 (a .events); left = a .left }
+  abbrev pub comparable : Turn T → Turn T
+  comparable a = record { events = but11 (a .events); left = a .left }
 
 -- ---- rounds that were run: all that they told and left, and what each offer told
 
@@ -61,18 +61,18 @@ module _ {T : Type 0} where
   nothing t = record { turn = still t; offers = [] }
 
   -- a round whose send and fill came to a and whose offer to o, and the rounds r after it
-  abbrev pub behind : Turn T → Turn T → Course T → Course T
-  behind a o r = record { turn = andThen a (λ t. andThen o (λ u. r .turn)); offers = o .events ∷ r .offers }
+  abbrev pub roundThen : Turn T → Turn T → Course T → Course T
+  roundThen a o r = record { turn = andThen a (λ t. andThen o (λ u. r .turn)); offers = o .events ∷ r .offers }
 
   -- "An accepted offer is the last call; after a refused one the next round begins", from what the refused one left
   abbrev pub goOn : Turn T → Turn T → (T → Course T) → Course T
-  goOn a o rest = behind a o (pick (accepts (o .events)) (nothing (o .left)) (rest (o .left)))
+  goOn a o rest = roundThen a o (pick (accepts (o .events)) (nothing (o .left)) (rest (o .left)))
 
   -- "for each round, whether the first run accepted its offer in that round"
   abbrev pub marks : Course T → List Bool
   marks r = map accepts (r .offers)
 
-module _ {T : Type 0} (C : Acts T) where
+module _ {T : Type 0} (C : SeenCalls T) where
   -- "send, if the queue isn't empty"
   unfoldable pub sendTurn : T → Turn T
   sendTurn t = pick (isEmpty (C .tables t .queue)) (still t) (C .sends t)
@@ -106,7 +106,7 @@ module _ {T : Type 0} (C : Acts T) where
   -- demand 3
   pub record Demand3 (t : T) : Type 0 where
     pub settles : (any accepts (rounds (suc (waits t)) t .offers) ≡ true) ⊎ ((j : ℕ) → heldIn (waits t + j) t)
-    pub strikes : (n : ℕ) → compared (struck (marks (rounds n t)) t) ≡ compared (rounds n t .turn)
+    pub strikes : (n : ℕ) → comparable (struck (marks (rounds n t)) t) ≡ comparable (rounds n t .turn)
 
 -- ---- the calls of document 01
 
@@ -116,9 +116,9 @@ module _ {T : Type 0} where
   seen t o = record { events = eventsOf o; left = after t o }
 
 -- on the tables
-abbrev pub stepActs : Settings → Access → Acts Tables
-stepActs S x = record { sends = λ t. seen t (send t); fills = λ a t. seen t (fill a t); offers = λ t. seen t (access S x t); tables = λ t. t }
+abbrev pub seenSteps : Settings → Access → SeenCalls Tables
+seenSteps S x = record { sends = λ t. seen t (send t); fills = λ a t. seen t (fill a t); offers = λ t. seen t (access S x t); tables = λ t. t }
 
 -- on lent slices
-abbrev pub callActs : Settings → Access → Acts Lent
-callActs S x = record { sends = λ L. seen L (sendCall S L); fills = λ a L. seen L (fillCall S a L); offers = λ L. seen L (accessCall S x L); tables = tablesOf S }
+abbrev pub seenCalls : Settings → Access → SeenCalls Lent
+seenCalls S x = record { sends = λ L. seen L (sendCall S L); fills = λ a L. seen L (fillCall S a L); offers = λ L. seen L (accessCall S x L); tables = tablesOf S }

@@ -7,7 +7,7 @@ use Rattle.model.specs.Tables.{Outcome, refused, after, eventsOf}
 use Rattle.model.specs.Lent.{Lent}
 use Rattle.model.specs.Calls.{accessCall, sendCall, fillCall, tickCall, freshCall}
 use Rattle.model.specs.Records.{lengthOf, commandOf, logBytes}
-use Rattle.model.specs.Runner.{settingsOf, firstStop, laterStop, keptStop, goesOn, Result, halt, ahead}
+use Rattle.model.specs.Runner.{settingsOf, firstStop, laterStop, keptStop, goesOn, Result, halt, bytesThen}
 use Rattle.model.specs.declared.Settings.{Settings}
 use Rattle.model.specs.declared.Access.the-variants.{Read, Write}
 use Rattle.model.specs.declared.Refusal.the-variants as refusal
@@ -39,7 +39,7 @@ callsFrom S n room [] L = halt stop.Nothing L
 callsFrom S (suc n) room (b ∷ bs) L = callsFrom S n room bs L
 callsFrom S zero room (k ∷ bs) L =
     pick (goesOn (laterStop room k bs))
-    (ahead (1 + lengthOf k) (logBytes (eventsOf (callAt S k bs L)))
+    (bytesThen (1 + lengthOf k) (logBytes (eventsOf (callAt S k bs L)))
     (callsFrom S (lengthOf k) (room - length (logBytes (eventsOf (callAt S k bs L)))) bs (after L (callAt S k bs L))))
     (halt (laterStop room k bs) L)
 
@@ -48,7 +48,7 @@ unfoldable pub runByCalls : ℕ → List ℕ → Lent → Result Lent
 runByCalls room [] L = halt stop.Nothing L
 runByCalls room (k ∷ bs) L =
     pick (goesOn (firstStop L k bs))
-    (ahead (1 + lengthOf k) [] (callsFrom (settingsOf k bs) (lengthOf k) room bs (after L (freshCall (settingsOf k bs) L))))
+    (bytesThen (1 + lengthOf k) [] (callsFrom (settingsOf k bs) (lengthOf k) room bs (after L (freshCall (settingsOf k bs) L))))
     (halt (firstStop L k bs) L)
 
 -- as resume

@@ -64,11 +64,11 @@ module _ (S : Settings) (longs words marks : List ℕ) where
   abbrev pub used : ℕ → Bool
   used e = not (eqb (ticketCount e) 0)
 
-  abbrev pub entryFor : ℕ → ℕ → Bool
-  entryFor a e = used e && eqb (miss e) a
+  abbrev pub entryAtFor : ℕ → ℕ → Bool
+  entryAtFor a e = used e && eqb (miss e) a
 
-  abbrev pub unsentFor : ℕ → ℕ → Bool
-  unsentFor a e = used e && eqb (sent e) 0 && eqb (miss e) a
+  abbrev pub unsentAtFor : ℕ → ℕ → Bool
+  unsentAtFor a e = used e && eqb (sent e) 0 && eqb (miss e) a
 
   abbrev pub readFor : ℕ → ℕ → Bool
   readFor a p = eqb (kind p) 1 && eqb (queued p) a
@@ -117,7 +117,7 @@ module _ (S : Settings) (longs words marks : List ℕ) where
 
   -- 17: a RESERVED sector has an entry
   abbrev pub sectorBacked : ℕ → Bool
-  sectorBacked i = imp (eqb (status i) 1) (some (S .misses) (entryFor (tag (i / 4) + 32 * (i % 4))))
+  sectorBacked i = imp (eqb (status i) 1) (some (S .misses) (entryAtFor (tag (i / 4) + 32 * (i % 4))))
 
   abbrev pub sectorFine : ℕ → Bool
   sectorFine i = sectorShape i && sectorBacked i
@@ -143,7 +143,7 @@ module _ (S : Settings) (longs words marks : List ℕ) where
 
   -- 18: "No two entries share an address."
   abbrev pub entryAlone : ℕ → Bool
-  entryAlone e = imp (used e) (not (some e (entryFor (miss e))))
+  entryAlone e = imp (used e) (not (some e (entryAtFor (miss e))))
 
   -- 24: "Each unsent entry has exactly one read in the queue"
   abbrev pub entryAsked : ℕ → Bool
@@ -165,7 +165,7 @@ module _ (S : Settings) (longs words marks : List ℕ) where
 
   -- 25: "no other read stands there": a read has an unsent entry
   abbrev pub readBacked : ℕ → Bool
-  readBacked p = imp (eqb (kind p) 1) (some (S .misses) (unsentFor (queued p)))
+  readBacked p = imp (eqb (kind p) 1) (some (S .misses) (unsentAtFor (queued p)))
 
   abbrev pub placeFine : ℕ → Bool
   placeFine p = placeShape p && readBacked p

@@ -12,8 +12,8 @@ use Rattle.model.specs.declared.Found.the-variants.{At, Nothing}
 -- ---- bits
 
 -- bit i of t
-unfoldable pub bit : ℕ → ℕ → ℕ
-bit t i = t / 2 ^ i % 2
+unfoldable pub treeBit : ℕ → ℕ → ℕ
+treeBit t i = t / 2 ^ i % 2
 
 -- t with h as its bit i
 unfoldable pub withBit : ℕ → ℕ → ℕ → ℕ
@@ -22,12 +22,12 @@ withBit t (suc i) h = withBit (t / 2) i h * 2 + t % 2
 
 -- a mask of ways: bit w for way w
 abbrev pub isIn : ℕ → ℕ → Bool
-isIn mask w = eqb (bit mask w) 1
+isIn mask w = eqb (treeBit mask w) 1
 
 -- ---- nodes: "node n is bit n − 1"
 
 abbrev pub named : ℕ → ℕ → ℕ
-named t n = bit t (n - 1)
+named t n = treeBit t (n - 1)
 
 abbrev pub pointed : ℕ → ℕ → ℕ → ℕ
 pointed t n h = withBit t (n - 1) h

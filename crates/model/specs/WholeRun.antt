@@ -30,8 +30,8 @@ written =
     ++ (0x14 ∷ 0x09 ∷ 0x00 ∷ 0x00 ∷ 0x00 ∷ [])
 
 -- sector 0 has arrived in line 1; nothing waits
-abbrev pub left : Tables
-left = record {
+abbrev pub leftByRun : Tables
+leftByRun = record {
   lines = fresh ∷ record { tag = 0; cycle = 0; taken = 0; sectors = record { status = Valid; mask = 0; readable = true } ∷ empty ∷ empty ∷ empty ∷ [] } ∷ [];
   misses = [];
   queue = [];

@@ -11,9 +11,9 @@ use lib.ListN.{length}
 use borrow.Author.Tests.{eqb-true}
 use Rattle.words.proofs.Flags.{or-cases}
 use Rattle.percentage.specs.declared.Difference.{Difference}
-use Rattle.percentage.specs.Percent.{Ranged}
-use Rattle.percentage.specs.Differences.{range, triple, row, rows, tables, differ, keep, differences, hundreds, flat}
-use Rattle.percentage.proofs.Ties.{short, differ-yes, differ-no}
+use Rattle.percentage.specs.Percent.{PercentRanged}
+use Rattle.percentage.specs.Differences.{range, triple, percentRow, percentRows, tables, differ, keepDiffering, differences, hundreds, flat}
+use Rattle.percentage.proofs.Ties.{fallsShort, differ-yes, differ-no}
 use Rattle.percentage.proofs.Legal.{tied}
 use Rattle.percentage.proofs.Lists.{range-cons, range-none, row-cons, row-none, rows-cons, rows-none, tables-cons, tables-none, keep-append, keep-yes, keep-no}
 
@@ -26,57 +26,57 @@ skip f a b u h = go (b - a) a (omega arith) h
     go (suc n) a e h = h a (omega arith) (omega arith) ∙ go n (a + 1) (omega arith) (λ x u v. h x (omega arith) v)
 
 -- ---- a row: one dirty count
-row-step : (l d p : ℕ) → p ≤ 100 → differ d l p ≡ false → keep (row l d p) ≡ keep (row l d (p + 1))
-row-step l d p P e = ap keep (row-cons l d p P) ∙ keep-no l d p (row l d (p + 1)) e
+row-step : (l d p : ℕ) → p ≤ 100 → differ d l p ≡ false → keepDiffering (percentRow l d p) ≡ keepDiffering (percentRow l d (p + 1))
+row-step l d p P e = ap keepDiffering (row-cons l d p P) ∙ keep-no l d p (percentRow l d (p + 1)) e
 
-row-end : (l d : ℕ) → keep (row l d 101) ≡ []
-unfolding keep
-row-end l d = ap keep (row-none l d 101 (omega arith))
+row-end : (l d : ℕ) → keepDiffering (percentRow l d 101) ≡ []
+unfolding keepDiffering
+row-end l d = ap keepDiffering (row-none l d 101 (omega arith))
 
 module _ (l d : ℕ) (L : 1 ≤ l) (M : l ≤ 1024) (D : d ≤ l) where
-  here : (p : ℕ) → p ≤ 100 → Ranged d l p
+  here : (p : ℕ) → p ≤ 100 → PercentRanged d l p
   here p P = record { some = L; most = M; part = D; cent = P }
 
-  row-quiet : ((p : ℕ) → short p ≡ true → 100 * d ≡ p * l → ⊥) → keep (row l d 0) ≡ []
-  row-quiet n = skip (λ p. keep (row l d p)) 0 101 (omega arith) (λ p u v. row-step l d p (omega arith) (differ-no d l p (here p (omega arith)) (n p))) ∙ row-end l d
+  row-quiet : ((p : ℕ) → fallsShort p ≡ true → 100 * d ≡ p * l → ⊥) → keepDiffering (percentRow l d 0) ≡ []
+  row-quiet n = skip (λ p. keepDiffering (percentRow l d p)) 0 101 (omega arith) (λ p u v. row-step l d p (omega arith) (differ-no d l p (here p (omega arith)) (n p))) ∙ row-end l d
 
-  row-one : (p : ℕ) → p ≤ 100 → short p ≡ true → 100 * d ≡ p * l → keep (row l d 0) ≡ triple l d p ∷ []
+  row-one : (p : ℕ) → p ≤ 100 → fallsShort p ≡ true → 100 * d ≡ p * l → keepDiffering (percentRow l d 0) ≡ triple l d p ∷ []
   row-one p P s e =
-      skip (λ q. keep (row l d q)) 0 p zero-le (λ q u v. row-step l d q (omega arith) (other q (omega arith) (omega arith)))
-      ∙ ap keep (row-cons l d p P)
-      ∙ keep-yes l d p (row l d (p + 1)) (differ-yes d l p (here p P) e s)
+      skip (λ q. keepDiffering (percentRow l d q)) 0 p zero-le (λ q u v. row-step l d q (omega arith) (other q (omega arith) (omega arith)))
+      ∙ ap keepDiffering (row-cons l d p P)
+      ∙ keep-yes l d p (percentRow l d (p + 1)) (differ-yes d l p (here p P) e s)
       ∙ ap (λ (ts : List Difference). triple l d p ∷ ts)
-      (skip (λ q. keep (row l d q)) (p + 1) 101 (omega arith) (λ q u v. row-step l d q (omega arith) (other q (omega arith) (omega arith)))
+      (skip (λ q. keepDiffering (percentRow l d q)) (p + 1) 101 (omega arith) (λ q u v. row-step l d q (omega arith) (other q (omega arith) (omega arith)))
       ∙ row-end l d)
     where
       other : (q : ℕ) → q ≤ 100 → (q ≡ p → ⊥) → differ d l q ≡ false
       other q Q n = differ-no d l q (here q Q) (λ t g. n (eq-of-mul-eq-mul-right l L q p (sym g ∙ e)))
 
 -- ---- a table: one number of lines
-rows-step : (l d : ℕ) → d ≤ l → keep (rows l d) ≡ keep (row l d 0) ++ keep (rows l (d + 1))
-rows-step l d h = ap keep (rows-cons l d h) ∙ keep-append (row l d 0) (rows l (d + 1))
+rows-step : (l d : ℕ) → d ≤ l → keepDiffering (percentRows l d) ≡ keepDiffering (percentRow l d 0) ++ keepDiffering (percentRows l (d + 1))
+rows-step l d h = ap keepDiffering (rows-cons l d h) ∙ keep-append (percentRow l d 0) (percentRows l (d + 1))
 
-rows-end : (l : ℕ) → keep (rows l (l + 1)) ≡ []
-unfolding keep
-rows-end l = ap keep (rows-none l (l + 1) (omega arith))
+rows-end : (l : ℕ) → keepDiffering (percentRows l (l + 1)) ≡ []
+unfolding keepDiffering
+rows-end l = ap keepDiffering (rows-none l (l + 1) (omega arith))
 
 module _ (l : ℕ) (L : 1 ≤ l) (M : l ≤ 1024) where
   -- from a dirty count to a later one with no tie between
-  rows-skip : (d b : ℕ) → d ≤ b → b ≤ l + 1 → ((e p : ℕ) → d ≤ e → e < b → short p ≡ true → 100 * e ≡ p * l → ⊥) → keep (rows l d) ≡ keep (rows l b)
+  rows-skip : (d b : ℕ) → d ≤ b → b ≤ l + 1 → ((e p : ℕ) → d ≤ e → e < b → fallsShort p ≡ true → 100 * e ≡ p * l → ⊥) → keepDiffering (percentRows l d) ≡ keepDiffering (percentRows l b)
   rows-skip d b u h n =
-      skip (λ e. keep (rows l e)) d b u
+      skip (λ e. keepDiffering (percentRows l e)) d b u
       (λ e v w.
       rows-step l e (omega arith)
-      ∙ ap (λ (ts : List Difference). ts ++ keep (rows l (e + 1))) (row-quiet l e L M (omega arith) (λ p. n e p v w)))
+      ∙ ap (λ (ts : List Difference). ts ++ keepDiffering (percentRows l (e + 1))) (row-quiet l e L M (omega arith) (λ p. n e p v w)))
 
-  rows-one : (d p : ℕ) → d ≤ l → p ≤ 100 → short p ≡ true → 100 * d ≡ p * l → keep (rows l d) ≡ triple l d p ∷ keep (rows l (d + 1))
-  rows-one d p D P s e = rows-step l d D ∙ ap (λ (ts : List Difference). ts ++ keep (rows l (d + 1))) (row-one l d L M D p P s e)
+  rows-one : (d p : ℕ) → d ≤ l → p ≤ 100 → fallsShort p ≡ true → 100 * d ≡ p * l → keepDiffering (percentRows l d) ≡ triple l d p ∷ keepDiffering (percentRows l (d + 1))
+  rows-one d p D P s e = rows-step l d D ∙ ap (λ (ts : List Difference). ts ++ keepDiffering (percentRows l (d + 1))) (row-one l d L M D p P s e)
 
-  rows-quiet : (l % 100 ≡ 0 → ⊥) → keep (rows l 0) ≡ []
+  rows-quiet : (l % 100 ≡ 0 → ⊥) → keepDiffering (percentRows l 0) ≡ []
   rows-quiet n = rows-skip 0 (l + 1) zero-le (omega arith) (λ e p u v s h. n (tied e l p s h)) ∙ rows-end l
 
 -- a tie at 100 × k lines is at 53 × k or at 59 × k
-tied-at : (e k p : ℕ) → short p ≡ true → 100 * e ≡ p * (100 * k) → (e ≡ 53 * k) ⊎ (e ≡ 59 * k)
+tied-at : (e k p : ℕ) → fallsShort p ≡ true → 100 * e ≡ p * (100 * k) → (e ≡ 53 * k) ⊎ (e ≡ 59 * k)
 tied-at e k p s h = ⊎-elim (λ g. inl (at 53 (eqb-true p 53 g))) (λ g. inr (at 59 (eqb-true p 59 g))) (or-cases (eqb p 53) (eqb p 59) s)
   where
     at : (q : ℕ) → p ≡ q → e ≡ q * k
@@ -85,7 +85,7 @@ tied-at e k p s h = ⊎-elim (λ g. inl (at 53 (eqb-true p 53 g))) (λ g. inr (a
 pair : ℕ → List Difference
 pair k = triple (100 * k) (53 * k) 53 ∷ triple (100 * k) (59 * k) 59 ∷ []
 
-rows-hundred : (k : ℕ) → 1 ≤ k → k ≤ 10 → keep (rows (100 * k) 0) ≡ pair k
+rows-hundred : (k : ℕ) → 1 ≤ k → k ≤ 10 → keepDiffering (percentRows (100 * k) 0) ≡ pair k
 unfolding pair
 rows-hundred k K X =
     rows-skip (100 * k) L M 0 (53 * k) zero-le (omega arith) (λ e p u v s h. between e p s h (omega arith) (omega arith))
@@ -103,26 +103,26 @@ rows-hundred k K X =
     M : 100 * k ≤ 1024
     M = omega arith
 
-    between : (e p : ℕ) → short p ≡ true → 100 * e ≡ p * (100 * k) → (e ≡ 53 * k → ⊥) → (e ≡ 59 * k → ⊥) → ⊥
+    between : (e p : ℕ) → fallsShort p ≡ true → 100 * e ≡ p * (100 * k) → (e ≡ 53 * k → ⊥) → (e ≡ 59 * k → ⊥) → ⊥
     between e p s h m n = ⊎-elim m n (tied-at e k p s h)
 
 -- ---- all the tables
-tables-step : (l : ℕ) → l ≤ 1024 → keep (tables l) ≡ keep (rows l 0) ++ keep (tables (l + 1))
-tables-step l h = ap keep (tables-cons l h) ∙ keep-append (rows l 0) (tables (l + 1))
+tables-step : (l : ℕ) → l ≤ 1024 → keepDiffering (tables l) ≡ keepDiffering (percentRows l 0) ++ keepDiffering (tables (l + 1))
+tables-step l h = ap keepDiffering (tables-cons l h) ∙ keep-append (percentRows l 0) (tables (l + 1))
 
-tables-skip : (a b : ℕ) → 1 ≤ a → a ≤ b → b ≤ 1025 → ((l : ℕ) → a ≤ l → l < b → l % 100 ≡ 0 → ⊥) → keep (tables a) ≡ keep (tables b)
+tables-skip : (a b : ℕ) → 1 ≤ a → a ≤ b → b ≤ 1025 → ((l : ℕ) → a ≤ l → l < b → l % 100 ≡ 0 → ⊥) → keepDiffering (tables a) ≡ keepDiffering (tables b)
 tables-skip a b A u B n =
-    skip (λ l. keep (tables l)) a b u
+    skip (λ l. keepDiffering (tables l)) a b u
     (λ l v w.
     tables-step l (omega arith)
-    ∙ ap (λ (ts : List Difference). ts ++ keep (tables (l + 1))) (rows-quiet l (omega arith) (omega arith) (n l v w)))
+    ∙ ap (λ (ts : List Difference). ts ++ keepDiffering (tables (l + 1))) (rows-quiet l (omega arith) (omega arith) (n l v w)))
 
 -- after k hundreds
-after : (n k : ℕ) → k + n ≡ 10 → keep (tables (100 * k + 1)) ≡ flatMap pair (range (k + 1) 11)
-unfolding flatMap keep
+after : (n k : ℕ) → k + n ≡ 10 → keepDiffering (tables (100 * k + 1)) ≡ flatMap pair (range (k + 1) 11)
+unfolding flatMap keepDiffering
 after zero k e =
     tables-skip (100 * k + 1) 1025 (omega arith) (omega arith) (omega arith) (λ l u v h. omega arith)
-    ∙ ap keep (tables-none 1025 (omega arith))
+    ∙ ap keepDiffering (tables-none 1025 (omega arith))
     ∙ sym (ap (flatMap pair) (range-none (k + 1) 11 (omega arith)))
 after (suc n) k e =
     tables-skip (100 * k + 1) (100 * (k + 1)) (omega arith) (omega arith) (omega arith) (λ l u v h. omega arith)

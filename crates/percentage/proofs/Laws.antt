@@ -23,7 +23,7 @@ use Rattle.model.specs.Numbers.{refusalNumber}
 use Rattle.model.specs.Range.{linesOf}
 use Rattle.model.specs.Probe.{enoughDirty}
 use Rattle.model.specs.declared.Settings.{Settings}
-use Rattle.percentage.specs.Percent.{single, percentOf, floatMeets, wholeMeets, inRange, Ranged, outOfRange, answer}
+use Rattle.percentage.specs.Percent.{asSingle, percentOf, floatMeets, wholeMeets, percentInRange, PercentRanged, outOfRange, shareOf}
 use Rattle.percentage.specs.declared.Share.the-variants.{Meets}
 
 -- ---- tests
@@ -42,9 +42,9 @@ agreed false false e = refl
 pub is-true : (p : Bool) → p ≡ true → T p
 is-true p e = subst T (sym e) tt
 
-pub ranged : (d l p : ℕ) → inRange d l p ≡ true → Ranged d l p
-ranged d l p e =
-    let t = is-true (inRange d l p) e in
+pub percent-ranged : (d l p : ℕ) → percentInRange d l p ≡ true → PercentRanged d l p
+percent-ranged d l p e =
+    let t = is-true (percentInRange d l p) e in
     let u = and-l (leb 1 l && leb l 1024 && leb d l) (leb p 100) t in
     let v = and-l (leb 1 l && leb l 1024) (leb d l) u in
     record {
@@ -126,7 +126,7 @@ exact a k h K =
     (lt-of-lt-of-le (shl-lt 24 (149 - k) h) (pow-mono room))
     (ap (λ (z : ℕ). a * 2 ^ z) (sym (back 149 k K)) ∙ ap (λ (z : ℕ). a * z) (pow-add 2 (149 - k) k) ∙ sym (mul-assoc a (2 ^ (149 - k)) (2 ^ k)))
 
-pub single-value : (n : ℕ) → n < 2 ^ 24 → HasValue (single n) false n 1
+pub single-value : (n : ℕ) → n < 2 ^ 24 → HasValue (asSingle n) false n 1
 unfolding ofInt
 single-value n h = exact n 0 h (lit≤ tt)
 
@@ -135,10 +135,10 @@ module _ (d k p : ℕ) (K : k ≤ 10) (D : d ≤ 2 ^ k) (P : p ≤ 100) where
   small : d ≤ 1024
   small = le-trans D (pow-mono K)
 
-  quotient : HasValue (div binary32 (single d) (single (2 ^ k))) false d (2 ^ k)
+  quotient : HasValue (div binary32 (asSingle d) (asSingle (2 ^ k))) false d (2 ^ k)
   quotient =
       subst (λ (x : Float). HasValue x false d (2 ^ k))
-      (sym (div-at binary32 (single d) (single (2 ^ k)) d 1 (2 ^ k) 1 (lit< tt) (lit< tt) (pow-pos k) (single-value d (omega (arith, small))) (single-value (2 ^ k) (lt-of-le-of-lt (pow-mono K) (lit< tt)))
+      (sym (div-at binary32 (asSingle d) (asSingle (2 ^ k)) d 1 (2 ^ k) 1 (lit< tt) (lit< tt) (pow-pos k) (single-value d (omega (arith, small))) (single-value (2 ^ k) (lt-of-le-of-lt (pow-mono K) (lit< tt)))
       ∙ ap₂ (round binary32 false) (mul-one d) (one-mul (2 ^ k))))
       (exact d k (omega (arith, small)) (omega arith))
 
@@ -146,14 +146,14 @@ module _ (d k p : ℕ) (K : k ≤ 10) (D : d ≤ 2 ^ k) (P : p ≤ 100) where
   unfolding percentOf
   percentage =
       subst (λ (x : Float). HasValue x false (100 * d) (2 ^ k))
-      (sym (mul-at binary32 (div binary32 (single d) (single (2 ^ k))) (single 100) d (2 ^ k) 100 1 (pow-pos k) (lit< tt) quotient (single-value 100 (lit< tt))
+      (sym (mul-at binary32 (div binary32 (asSingle d) (asSingle (2 ^ k))) (asSingle 100) d (2 ^ k) 100 1 (pow-pos k) (lit< tt) quotient (single-value 100 (lit< tt))
       ∙ ap₂ (round binary32 false) (mul-comm d 100) (mul-one (2 ^ k))))
       (exact (100 * d) k (omega (arith, small)) (omega arith))
 
   pub agree : floatMeets d (2 ^ k) p ≡ wholeMeets d (2 ^ k) p
   unfolding floatMeets
   agree =
-      le-at (single p) (percentOf d (2 ^ k)) p 1 (100 * d) (2 ^ k) (lit< tt) (pow-pos k) (single-value p (omega arith)) percentage
+      le-at (asSingle p) (percentOf d (2 ^ k)) p 1 (100 * d) (2 ^ k) (lit< tt) (pow-pos k) (single-value p (omega arith)) percentage
       ∙ ap (λ (z : ℕ). leb (p * 2 ^ k) z) (mul-one (100 * d))
       ∙ sym (whole-is d (2 ^ k) p)
 
@@ -161,13 +161,13 @@ module _ (d k p : ℕ) (K : k ≤ 10) (D : d ≤ 2 ^ k) (P : p ≤ 100) where
 exponent : (k : ℕ) → 2 ^ k ≤ 1024 → k ≤ 10
 exponent k h = elim (decLe k 10) [ yes g ↦ g | no g ↦ absurd (not-le-of-lt (pow-lt {i = 10} {j = k} (omega arith)) h) ]
 
-pub agree-at : (d l p k : ℕ) → l ≡ 2 ^ k → Ranged d l p → floatMeets d l p ≡ wholeMeets d l p
+pub agree-at : (d l p k : ℕ) → l ≡ 2 ^ k → PercentRanged d l p → floatMeets d l p ≡ wholeMeets d l p
 agree-at d l p k e r =
     rw e
     (agree d k p (exponent k (subst (λ (z : ℕ). z ≤ 1024) e (r .most))) (subst (λ (z : ℕ). d ≤ z) e (r .part)) (r .cent))
 
-pub powers-agree : (S : Settings) (d k : ℕ) → linesOf S ≡ 2 ^ k → Ranged d (linesOf S) (S .dirty) → floatMeets d (linesOf S) (S .dirty) ≡ enoughDirty S d
+pub powers-agree : (S : Settings) (d k : ℕ) → linesOf S ≡ 2 ^ k → PercentRanged d (linesOf S) (S .dirty) → floatMeets d (linesOf S) (S .dirty) ≡ enoughDirty S d
 powers-agree S d k e r = agree-at d (linesOf S) (S .dirty) k e r ∙ sym (ours S d)
 
-pub same-answer : (d l p k : ℕ) → l ≡ 2 ^ k → answer (inRange d l p) (floatMeets d l p) ≡ answer (inRange d l p) (wholeMeets d l p)
-same-answer d l p k e = ⊎-elim (λ t. rw t (ap Meets (agree-at d l p k e (ranged d l p t)))) (λ t. rw t) (flag (inRange d l p))
+pub same-answer : (d l p k : ℕ) → l ≡ 2 ^ k → shareOf (percentInRange d l p) (floatMeets d l p) ≡ shareOf (percentInRange d l p) (wholeMeets d l p)
+same-answer d l p k e = ⊎-elim (λ t. rw t (ap Meets (agree-at d l p k e (percent-ranged d l p t)))) (λ t. rw t) (flag (percentInRange d l p))

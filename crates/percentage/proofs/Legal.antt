@@ -18,7 +18,7 @@ use Rattle.model.proofs.Fits.{ranged, sets-most}
 use Rattle.percentage.specs.Percent.{floatMeets, wholeMeets, cacheOf, Legal}
 use Rattle.percentage.specs.Differences.{differ}
 use Rattle.percentage.proofs.Laws.{ours, agreed}
-use Rattle.percentage.proofs.Ties.{short, differ-no}
+use Rattle.percentage.proofs.Ties.{fallsShort, differ-no}
 
 -- ---- a number of sets is a divisor of 256
 abbrev divisor : ℕ → Bool
@@ -35,18 +35,18 @@ abbrev pub Split : ℕ → ℕ → Type 0
 Split l w = (l % w ≡ 0) × (256 % (l / w) ≡ 0)
 
 module _ (l w : ℕ) (e : l % w ≡ 0) where
-  pub whole : l / w * w ≡ l
-  whole = let h = div-add-mod' l w in omega arith
+  pub lines-whole : l / w * w ≡ l
+  lines-whole = let h = div-add-mod' l w in omega arith
 
   pub sets-pos : 1 ≤ l → 1 ≤ l / w
-  sets-pos h = first-pos (l / w) w (rw whole h)
+  sets-pos h = first-pos (l / w) w (rw lines-whole h)
 
 pub legal : (l w : ℕ) → 1 ≤ l → l ≤ 1024 → 1 ≤ w → w ≤ 16 → Split l w → Legal l true
 unfolding inRange
 legal l w L M W X (e, f) =
     let h : powerTo256 (l / w) ≡ true = power-is (l / w) (sets-pos l w e L) (le-trans (div-le-self l w) M) ∙ eq-eqb _ 0 f in
-    let k : leb (l / w * w) 1024 ≡ true = le-leb (l / w * w) 1024 (rw (whole l w e) M) in
-    (cacheOf (l / w) w 0, simp (h, k, le-leb 1 w W, le-leb w 16 X), whole l w e)
+    let k : leb (l / w * w) 1024 ≡ true = le-leb (l / w * w) 1024 (rw (lines-whole l w e) M) in
+    (cacheOf (l / w) w 0, simp (h, k, le-leb 1 w W, le-leb w 16 X), lines-whole l w e)
 
 module _ (S : Settings) (e : inRange S ≡ true) where
   pub lines-some : 1 ≤ linesOf S
@@ -79,7 +79,7 @@ not-hundred S e h =
     clash (eq-eqb (linesOf S % 100) 0 h) (not-true (eqb (linesOf S % 100) 0) (rw (le-leb 1 (S .ways) (r .ways)) at this))
 
 -- a tie at 53 or at 59 has a multiple of a hundred for lines
-pub tied : (d l p : ℕ) → short p ≡ true → 100 * d ≡ p * l → l % 100 ≡ 0
+pub tied : (d l p : ℕ) → fallsShort p ≡ true → 100 * d ≡ p * l → l % 100 ≡ 0
 tied d l p s e =
     ⊎-elim
     (λ h. let g : 100 * d ≡ 53 * l = e ∙ ap (λ (z : ℕ). z * l) (eqb-true p 53 h) in at (17 * d - 9 * l) (omega arith))

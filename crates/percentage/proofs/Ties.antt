@@ -21,7 +21,7 @@ use borrow.Author.Tests.{le-leb, lt-leb, eq-eqb, ne-eqb, eqb-true, eqb-false}
 use Rattle.words.specs.Words.{every}
 use Rattle.words.proofs.Below.{every-at}
 use Rattle.words.proofs.Flags.{flag, and-no}
-use Rattle.percentage.specs.Percent.{single, percentOf, floatMeets, wholeMeets, Ranged}
+use Rattle.percentage.specs.Percent.{asSingle, percentOf, floatMeets, wholeMeets, PercentRanged}
 use Rattle.percentage.specs.Differences.{differ}
 use Rattle.percentage.proofs.Laws.{agreed, whole-is, div-at, mul-at, exact, single-value, values-le}
 
@@ -62,9 +62,9 @@ below-number (fin false m e) y b d n k t = record { over = m * up e; under = dow
 
 -- ---- the quotient, rounded, is at most 1, and the percentage is a hundred times its value, rounded
 module _ (d l : ℕ) (L : 0 < l) (M : l ≤ 1024) (D : d ≤ l) where
-  quotient-is : div binary32 (single d) (single l) ≡ round binary32 false d l
+  quotient-is : div binary32 (asSingle d) (asSingle l) ≡ round binary32 false d l
   quotient-is =
-      div-at binary32 (single d) (single l) d 1 l 1 (lit< tt) (lit< tt) L (single-value d (omega arith)) (single-value l (omega arith))
+      div-at binary32 (asSingle d) (asSingle l) d 1 l 1 (lit< tt) (lit< tt) L (single-value d (omega arith)) (single-value l (omega arith))
       ∙ ap₂ (round binary32 false) (mul-one d) (one-mul l)
 
   quotient : Value (round binary32 false d l)
@@ -75,8 +75,8 @@ module _ (d l : ℕ) (L : 0 < l) (M : l ≤ 1024) (D : d ≤ l) where
   percent-is : percentOf d l ≡ round binary32 false (quotient .over * 100) (quotient .under)
   unfolding percentOf
   percent-is =
-      ap (λ (x : Float). mul binary32 x (single 100)) quotient-is
-      ∙ mul-at binary32 (round binary32 false d l) (single 100) (quotient .over) (quotient .under) 100 1 (quotient .some) (lit< tt) (quotient .value) (single-value 100 (lit< tt))
+      ap (λ (x : Float). mul binary32 x (asSingle 100)) quotient-is
+      ∙ mul-at binary32 (round binary32 false d l) (asSingle 100) (quotient .over) (quotient .under) 100 1 (quotient .some) (lit< tt) (quotient .value) (single-value 100 (lit< tt))
       ∙ ap (round binary32 false (quotient .over * 100)) (mul-one (quotient .under))
 
   -- P / 100 ≤ y / 2 ^ 17 ≤ dirty / lines
@@ -89,7 +89,7 @@ module _ (d l : ℕ) (L : 0 < l) (M : l ≤ 1024) (D : d ≤ l) where
       values-le (round binary32 false y (2 ^ 17)) (round binary32 false d l) y (2 ^ 17) a c (exact y 17 Y (omega arith)) (quotient .value)
       (round-mono binary32 y (2 ^ 17) d l (pow-pos 17) L k) in
       let all : p * c ≤ a * 100 = through p y a 100 (2 ^ 17) c (pow-pos 17) h up-to in
-      subst (λ (x : Float). T (le (single p) x)) (sym percent-is)
+      subst (λ (x : Float). T (le (asSingle p) x)) (sym percent-is)
       (round-mono binary32 p 1 (a * 100) c (lit< tt) (quotient .some) (le-trans all (le-of-eq (sym (mul-one (a * 100))))))
 
   -- dirty / lines ≤ y / 2 ^ 17 < P / 100
@@ -113,7 +113,7 @@ module _ (d l : ℕ) (L : 0 < l) (M : l ≤ 1024) (D : d ≤ l) where
       not-le-of-lt h
       (le-trans
       (through p (v .over) (y * 100) 1 (v .under) (2 ^ 17) (v .some)
-      (values-le (single p) (percentOf d l) p 1 (v .over) (v .under) (single-value p (omega arith)) (v .value) t)
+      (values-le (asSingle p) (percentOf d l) p 1 (v .over) (v .under) (single-value p (omega arith)) (v .value) t)
       (values-le (percentOf d l) (round binary32 false (y * 100) (2 ^ 17)) (v .over) (v .under) (y * 100) (2 ^ 17) (v .value) top under))
       (le-of-eq (mul-one (y * 100))))
 
@@ -133,8 +133,8 @@ module _ (d l p y : ℕ) (M : l ≤ 1024) where
       let v : (y * 100 + 100) * l ≡ 100 * (y * l) + 100 * l = add-mul (y * 100) 100 l ∙ ap (λ (z : ℕ). z + 100 * l) (mul-right-comm y 100 l ∙ mul-comm (y * l) 100) in
       omega arith
 
-pub apart : (d l p : ℕ) → Ranged d l p → (100 * d ≡ p * l → ⊥) → floatMeets d l p ≡ wholeMeets d l p
-apart d l p r n =
+pub no-tie-agrees : (d l p : ℕ) → PercentRanged d l p → (100 * d ≡ p * l → ⊥) → floatMeets d l p ≡ wholeMeets d l p
+no-tie-agrees d l p r n =
     elim (decLe (p * l) (100 * d)) [
       | yes g ↦
           let y = p * 131072 / 100 + 1 in
@@ -161,39 +161,39 @@ apart d l p r n =
     lie false n = refl
 
 -- ---- at a tie: the answer is that of P lines of 100, and ours is yes
-pub at-tie : (d l p : ℕ) → Ranged d l p → 100 * d ≡ p * l → floatMeets d l p ≡ floatMeets p 100 p
+pub at-tie : (d l p : ℕ) → PercentRanged d l p → 100 * d ≡ p * l → floatMeets d l p ≡ floatMeets p 100 p
 unfolding floatMeets percentOf
 at-tie d l p r e =
-    ap (λ (x : Float). le (single p) (mul binary32 x (single 100)))
+    ap (λ (x : Float). le (asSingle p) (mul binary32 x (asSingle 100)))
     (quotient-is d l (r .some) (r .most) (r .part)
     ∙ round-same binary32 false d l p 100 (r .some) (lit< tt) (mul-comm d 100 ∙ e)
     ∙ sym (quotient-is p 100 (lit< tt) (omega arith) (r .cent)))
 
 -- the two P at which the float percentage of P lines of 100 falls short
-abbrev pub short : ℕ → Bool
-short p = eqb p 53 || eqb p 59
+abbrev pub fallsShort : ℕ → Bool
+fallsShort p = eqb p 53 || eqb p 59
 
-of-100 : every 101 (λ p. Bool·beq (floatMeets p 100 p) (not (short p))) ≡ true
+of-100 : every 101 (λ p. Bool·beq (floatMeets p 100 p) (not (fallsShort p))) ≡ true
 unfolding floatMeets ofInt div mul le
 of-100 = refl
 
-at-100 : (p : ℕ) → p ≤ 100 → floatMeets p 100 p ≡ not (short p)
-at-100 p h = agreed (floatMeets p 100 p) (not (short p)) (every-at (λ p. Bool·beq (floatMeets p 100 p) (not (short p))) 101 p of-100 (omega arith))
+at-100 : (p : ℕ) → p ≤ 100 → floatMeets p 100 p ≡ not (fallsShort p)
+at-100 p h = agreed (floatMeets p 100 p) (not (fallsShort p)) (every-at (λ p. Bool·beq (floatMeets p 100 p) (not (fallsShort p))) 101 p of-100 (omega arith))
 
 -- ---- so the two differ nowhere else
-pub differ-is : (d l p : ℕ) → Ranged d l p → differ d l p ≡ (eqb (100 * d) (p * l) && short p)
+pub differ-is : (d l p : ℕ) → PercentRanged d l p → differ d l p ≡ (eqb (100 * d) (p * l) && fallsShort p)
 unfolding differ
 differ-is d l p r =
     ⊎-elim
     (λ h.
     let e : 100 * d ≡ p * l = eqb-true (100 * d) (p * l) h in
     ap₂ (λ (a b : Bool). not (Bool·beq a b)) (at-tie d l p r e ∙ at-100 p (r .cent)) (whole-is d l p ∙ le-leb (p * l) (100 * d) (le-of-eq (sym e)))
-    ∙ doubled (short p)
-    ∙ ap (λ (a : Bool). a && short p) (sym h))
+    ∙ doubled (fallsShort p)
+    ∙ ap (λ (a : Bool). a && fallsShort p) (sym h))
     (λ h.
-    ap (λ (a : Bool). not (Bool·beq a (wholeMeets d l p))) (apart d l p r (eqb-false (100 * d) (p * l) h))
+    ap (λ (a : Bool). not (Bool·beq a (wholeMeets d l p))) (no-tie-agrees d l p r (eqb-false (100 * d) (p * l) h))
     ∙ itself (wholeMeets d l p)
-    ∙ ap (λ (a : Bool). a && short p) (sym h))
+    ∙ ap (λ (a : Bool). a && fallsShort p) (sym h))
     (flag (eqb (100 * d) (p * l)))
   where
     doubled : (b : Bool) → not (Bool·beq (not b) true) ≡ b
@@ -205,13 +205,13 @@ differ-is d l p r =
     itself false = refl
 
 -- ---- where the two answers differ, and where they do not
-pub differ-yes : (d l p : ℕ) → Ranged d l p → 100 * d ≡ p * l → short p ≡ true → differ d l p ≡ true
+pub differ-yes : (d l p : ℕ) → PercentRanged d l p → 100 * d ≡ p * l → fallsShort p ≡ true → differ d l p ≡ true
 differ-yes d l p r e s = differ-is d l p r ∙ ap₂ (λ (a b : Bool). a && b) (eq-eqb (100 * d) (p * l) e) s
 
-pub differ-no : (d l p : ℕ) → Ranged d l p → (short p ≡ true → 100 * d ≡ p * l → ⊥) → differ d l p ≡ false
+pub differ-no : (d l p : ℕ) → PercentRanged d l p → (fallsShort p ≡ true → 100 * d ≡ p * l → ⊥) → differ d l p ≡ false
 differ-no d l p r n =
     differ-is d l p r
     ∙ ⊎-elim
-    (λ s. ap (λ (a : Bool). a && short p) (ne-eqb (100 * d) (p * l) (n s)))
-    (λ s. and-no (eqb (100 * d) (p * l)) (short p) s)
-    (flag (short p))
+    (λ s. ap (λ (a : Bool). a && fallsShort p) (ne-eqb (100 * d) (p * l) (n s)))
+    (λ s. and-no (eqb (100 * d) (p * l)) (fallsShort p) s)
+    (flag (fallsShort p))

@@ -8,7 +8,7 @@ use lib.ListN.{length, take, drop, set, length-append, length-set, take-append-d
 use lib.Seq.{sets-eq, take-at, drop-at, drop-drop, length-take-le}
 use Rattle.percentage.specs.declared.Difference.{Difference}
 use Rattle.percentage.specs.declared.Listed.the-variants.{All, Full}
-use Rattle.percentage.specs.Differences.{flat, differences, rest, Lists}
+use Rattle.percentage.specs.Differences.{flat, differences, differencesFrom, Lists}
 use Rattle.percentage.proofs.Lists.{rest-first}
 use Rattle.percentage.proofs.Hundreds.{sixty}
 
@@ -22,7 +22,7 @@ pub record Written (before after : List ℕ) (n : ℕ) (left : List Difference) 
   pub front : take n after ++ flat left ≡ flat differences
   pub back : drop n after ≡ drop n before
 
-pub written-first : (xs : List ℕ) → Written xs xs 0 (rest 0 1 0)
+pub written-first : (xs : List ℕ) → Written xs xs 0 (differencesFrom 0 1 0)
 written-first xs = record { long = refl; room = omega arith; front = ap flat (sym rest-first); back = refl }
 
 module _ (before after : List ℕ) (n : ℕ) (left : List Difference) (w : Written before after n left) where

@@ -4,7 +4,7 @@ use mathlib.Core.List.{List, [], _∷_, _++_, map, flatMap}
 use mathlib.Core.Bool.{Bool, true, false, cond, not, Bool·beq}
 use Prim.Native.Nat.{ℕ, zero, suc, _+_, _-_, _*_, _≤_, _<_}
 use lib.ListN.{length, drop}
-use Rattle.percentage.specs.Percent.{floatMeets, wholeMeets, Ranged, outOfRange}
+use Rattle.percentage.specs.Percent.{floatMeets, wholeMeets, PercentRanged, outOfRange}
 use Rattle.percentage.specs.declared.Difference.{Difference}
 use Rattle.percentage.specs.declared.Found.{Found}
 use Rattle.percentage.specs.declared.Found.the-variants.{At, Nothing, Refused}
@@ -12,44 +12,44 @@ use Rattle.percentage.specs.declared.Listed.{Listed}
 use Rattle.percentage.specs.declared.Listed.the-variants.{All, Full}
 
 -- the n numbers from a on, and the numbers from a up to, and without, b
-unfoldable pub count : ℕ → ℕ → List ℕ
-count a zero = []
-count a (suc n) = a ∷ count (a + 1) n
+unfoldable pub numbersFrom : ℕ → ℕ → List ℕ
+numbersFrom a zero = []
+numbersFrom a (suc n) = a ∷ numbersFrom (a + 1) n
 
 unfoldable pub range : ℕ → ℕ → List ℕ
-unfolding count
-range a b = count a (b - a)
+unfolding numbersFrom
+range a b = numbersFrom a (b - a)
 
 abbrev pub triple : ℕ → ℕ → ℕ → Difference
 triple l d p = record { lines = l; dirty = d; percent = p }
 
 -- the triples of these lines and this dirty, with P from p to 100; of these lines, with dirty from d on; and with lines from l to 1,024
-unfoldable pub row : ℕ → ℕ → ℕ → List Difference
+unfoldable pub percentRow : ℕ → ℕ → ℕ → List Difference
 unfolding range
-row l d p = map (triple l d) (range p 101)
+percentRow l d p = map (triple l d) (range p 101)
 
-unfoldable pub rows : ℕ → ℕ → List Difference
-unfolding row flatMap
-rows l d = flatMap (λ (e : ℕ). row l e 0) (range d (l + 1))
+unfoldable pub percentRows : ℕ → ℕ → List Difference
+unfolding percentRow flatMap
+percentRows l d = flatMap (λ (e : ℕ). percentRow l e 0) (range d (l + 1))
 
 unfoldable pub tables : ℕ → List Difference
-unfolding rows
-tables l = flatMap (λ (k : ℕ). rows k 0) (range l 1025)
+unfolding percentRows
+tables l = flatMap (λ (k : ℕ). percentRows k 0) (range l 1025)
 
 -- the two answers differ
 unfoldable pub differ : ℕ → ℕ → ℕ → Bool
 unfolding floatMeets wholeMeets
 differ d l p = not (Bool·beq (floatMeets d l p) (wholeMeets d l p))
 
-unfoldable pub keep : List Difference → List Difference
+unfoldable pub keepDiffering : List Difference → List Difference
 unfolding differ
-keep [] = []
-keep (t ∷ ts) = cond (differ (t .dirty) (t .lines) (t .percent)) (t ∷ keep ts) (keep ts)
+keepDiffering [] = []
+keepDiffering (t ∷ ts) = cond (differ (t .dirty) (t .lines) (t .percent)) (t ∷ keepDiffering ts) (keepDiffering ts)
 
 -- exactly the triples where the two answers differ, by lines, then dirty, then P, rising
 unfoldable pub differences : List Difference
-unfolding keep tables
-differences = keep (tables 1)
+unfolding keepDiffering tables
+differences = keepDiffering (tables 1)
 
 -- what they come to: 53 and 59 of each hundred, at P of 53 and of 59
 unfoldable pub hundreds : List Difference
@@ -57,9 +57,9 @@ unfolding range flatMap
 hundreds = flatMap (λ (k : ℕ). triple (100 * k) (53 * k) 53 ∷ triple (100 * k) (59 * k) 59 ∷ []) (range 1 11)
 
 -- those from a triple on
-unfoldable pub rest : ℕ → ℕ → ℕ → List Difference
-unfolding keep row rows tables
-rest d l p = keep (row l d p ++ (rows l (d + 1) ++ tables (l + 1)))
+unfoldable pub differencesFrom : ℕ → ℕ → ℕ → List Difference
+unfolding keepDiffering percentRow percentRows tables
+differencesFrom d l p = keepDiffering (percentRow l d p ++ (percentRows l (d + 1) ++ tables (l + 1)))
 
 -- a place to start from: a triple, or one past the last P
 pub record Startable (d l p : ℕ) : Type 0 where
@@ -70,13 +70,13 @@ pub record Startable (d l p : ℕ) : Type 0 where
 
 -- the first difference from a place on, with what is left after it; or there is none
 abbrev pub Next : ℕ → ℕ → ℕ → Found → Type 0
-Next d l p (At t) = Ranged (t .dirty) (t .lines) (t .percent) × (rest d l p ≡ t ∷ rest (t .dirty) (t .lines) (t .percent + 1))
-Next d l p Nothing = rest d l p ≡ []
+Next d l p (At t) = PercentRanged (t .dirty) (t .lines) (t .percent) × (differencesFrom d l p ≡ t ∷ differencesFrom (t .dirty) (t .lines) (t .percent + 1))
+Next d l p Nothing = differencesFrom d l p ≡ []
 Next d l p (Refused n) = ⊥
 
-abbrev pub Finds : Bool → ℕ → ℕ → ℕ → Found → Type 0
-Finds true d l p r = Next d l p r
-Finds false d l p r = r ≡ Refused outOfRange
+abbrev pub FindsNext : Bool → ℕ → ℕ → ℕ → Found → Type 0
+FindsNext true d l p r = Next d l p r
+FindsNext false d l p r = r ≡ Refused outOfRange
 
 -- a list of triples as numbers: lines, dirty and P of each
 unfoldable pub flat : List Difference → List ℕ

@@ -17,17 +17,17 @@ use Rattle.percentage.specs.declared.Share.the-variants.{Meets, Refused}
 -- ---- the two answers
 
 -- a whole number as an f32
-abbrev pub single : ℕ → Float
-single n = ofInt binary32 (pos n)
+abbrev pub asSingle : ℕ → Float
+asSingle n = ofInt binary32 (pos n)
 
 -- "dirty divided by lines, times 100", "each step rounded once"
 unfoldable pub percentOf : ℕ → ℕ → Float
-percentOf d l = mul binary32 (div binary32 (single d) (single l)) (single 100)
+percentOf d l = mul binary32 (div binary32 (asSingle d) (asSingle l)) (asSingle 100)
 
 -- "whether that is at least P"
 unfoldable pub floatMeets : ℕ → ℕ → ℕ → Bool
 unfolding percentOf
-floatMeets d l p = le (single p) (percentOf d l)
+floatMeets d l p = le (asSingle p) (percentOf d l)
 
 -- settings with these sets, ways and P, the others the least in range; as one set of any number of ways they put any size to the engine's rule
 abbrev pub cacheOf : ℕ → ℕ → ℕ → Settings
@@ -40,11 +40,11 @@ wholeMeets d l p = enoughDirty (cacheOf 1 l p) d
 -- ---- the refusal
 
 -- "dirty from 0 to lines and lines from 1 to 1,024", "P from 0 to 100"
-abbrev pub inRange : ℕ → ℕ → ℕ → Bool
-inRange d l p = leb 1 l && leb l 1024 && leb d l && leb p 100
+abbrev pub percentInRange : ℕ → ℕ → ℕ → Bool
+percentInRange d l p = leb 1 l && leb l 1024 && leb d l && leb p 100
 
 -- the same as facts
-pub record Ranged (d l p : ℕ) : Type 0 where
+pub record PercentRanged (d l p : ℕ) : Type 0 where
   pub some : 1 ≤ l
   pub most : l ≤ 1024
   pub part : d ≤ l
@@ -54,9 +54,9 @@ pub record Ranged (d l p : ℕ) : Type 0 where
 abbrev pub outOfRange : Refusal
 outOfRange = SettingOutOfRange
 
-abbrev pub answer : Bool → Bool → Share
-answer true b = Meets b
-answer false b = Refused outOfRange
+abbrev pub shareOf : Bool → Bool → Share
+shareOf true b = Meets b
+shareOf false b = Refused outOfRange
 
 -- ---- whether settings in range have this many lines
 abbrev pub Legal : ℕ → Bool → Type 0

@@ -2,8 +2,8 @@
 // the list of the places where they differ, and which sizes are a cache's.
 use model::Refusal;
 ghost use mathlib.Core.Path.{_≡_};
-ghost use Rattle.percentage.specs.Differences.{differ, Startable, Next, Finds, Lists};
-ghost use Rattle.percentage.specs.Percent.{floatMeets, wholeMeets, inRange, Ranged, answer, Legal};
+ghost use Rattle.percentage.specs.Differences.{differ, Startable, Next, FindsNext, Lists};
+ghost use Rattle.percentage.specs.Percent.{floatMeets, wholeMeets, percentInRange, PercentRanged, shareOf, Legal};
 
 // The answer, or a refusal: P above 100, lines not from 1 to 1,024, or dirty above lines.
 pub enum Share {
@@ -13,7 +13,7 @@ pub enum Share {
 
 // Lines from 1 to 1,024, dirty from 0 to lines, and P from 0 to 100.
 pub fn in_range(dirty: u32, lines: u32, percent: u32) -> bool
-    ensures { λ r. ⌜ r ≡ inRange dirty lines percent ⌝ }
+    ensures { λ r. ⌜ r ≡ percentInRange dirty lines percent ⌝ }
 {
     if lines < 1 {
         return false;
@@ -29,7 +29,7 @@ pub fn in_range(dirty: u32, lines: u32, percent: u32) -> bool
 
 // dirty / lines, times 100, each rounded once to an `f32`, and whether that is at least `percent`.
 fn float_meets(dirty: u32, lines: u32, percent: u32) -> bool
-    requires { ⌜ Ranged dirty lines percent ⌝ }
+    requires { ⌜ PercentRanged dirty lines percent ⌝ }
     ensures { λ r. ⌜ r ≡ floatMeets dirty lines percent ⌝ }
 {
     let part = dirty as f32 / lines as f32;
@@ -39,7 +39,7 @@ fn float_meets(dirty: u32, lines: u32, percent: u32) -> bool
 
 // 100 × dirty ≥ P × lines.
 fn whole_meets(dirty: u32, lines: u32, percent: u32) -> bool
-    requires { ⌜ Ranged dirty lines percent ⌝ }
+    requires { ⌜ PercentRanged dirty lines percent ⌝ }
     ensures { λ r. ⌜ r ≡ wholeMeets dirty lines percent ⌝ }
 {
     100 * dirty >= percent * lines
@@ -47,7 +47,7 @@ fn whole_meets(dirty: u32, lines: u32, percent: u32) -> bool
 
 // The float answer.
 pub fn float_share(dirty: u32, lines: u32, percent: u32) -> Share
-    ensures { λ r. ⌜ r ≡ answer (inRange dirty lines percent) (floatMeets dirty lines percent) ⌝ }
+    ensures { λ r. ⌜ r ≡ shareOf (percentInRange dirty lines percent) (floatMeets dirty lines percent) ⌝ }
 {
     if in_range(dirty, lines, percent) {
         Share::Meets(float_meets(dirty, lines, percent))
@@ -58,7 +58,7 @@ pub fn float_share(dirty: u32, lines: u32, percent: u32) -> Share
 
 // The engine's answer, with the same refusals.
 pub fn whole_share(dirty: u32, lines: u32, percent: u32) -> Share
-    ensures { λ r. ⌜ r ≡ answer (inRange dirty lines percent) (wholeMeets dirty lines percent) ⌝ }
+    ensures { λ r. ⌜ r ≡ shareOf (percentInRange dirty lines percent) (wholeMeets dirty lines percent) ⌝ }
 {
     if in_range(dirty, lines, percent) {
         Share::Meets(whole_meets(dirty, lines, percent))
@@ -82,7 +82,7 @@ pub enum Found {
 
 // Whether the two answers differ.
 fn differs(dirty: u32, lines: u32, percent: u32) -> bool
-    requires { ⌜ Ranged dirty lines percent ⌝ }
+    requires { ⌜ PercentRanged dirty lines percent ⌝ }
     ensures { λ r. ⌜ r ≡ differ dirty lines percent ⌝ }
 {
     float_meets(dirty, lines, percent) != whole_meets(dirty, lines, percent)
@@ -124,7 +124,7 @@ fn next(dirty: u32, lines: u32, percent: u32) -> Found
 
 // The first difference from lines, dirty and P on, these included.
 pub fn next_difference(dirty: u32, lines: u32, percent: u32) -> Found
-    ensures { λ r. ⌜ Finds (inRange dirty lines percent) dirty lines percent r ⌝ }
+    ensures { λ r. ⌜ FindsNext (percentInRange dirty lines percent) dirty lines percent r ⌝ }
 {
     if in_range(dirty, lines, percent) {
         next(dirty, lines, percent)

@@ -84,8 +84,8 @@ Asked 𝓤 H A κ q s n = ⋆ 𝓤 H A ((‵ (flft κ q) ⊛ ‵ ftrue) ∷ ‵ 
 
 module _ {M : Type 1} (𝓤 : URA M) (H : Heap 𝓤) (A : Atoms 𝓤) (W : Given 𝓤 H A) (a : NamedLft) (h : Reader) where
   -- what the struct owns gives that, and is kept
-  pub apart : (q : Share) (P : SProp 𝓤) → ent 𝓤 (Asked 𝓤 H A (a .lft) q (h .stream) (h .at)) P → h .at < 2 ^ 64 → ent 𝓤 (⋆ 𝓤 H A (‵ (Held a h) ∷ (‵ (flft (a .lft) q) ⊛ ‵ ftrue) ∷ [])) (sep 𝓤 P (sem 𝓤 H A (Held a h)))
-  apart q P asked fits =
+  pub held-asked : (q : Share) (P : SProp 𝓤) → ent 𝓤 (Asked 𝓤 H A (a .lft) q (h .stream) (h .at)) P → h .at < 2 ^ 64 → ent 𝓤 (⋆ 𝓤 H A (‵ (Held a h) ∷ (‵ (flft (a .lft) q) ⊛ ‵ ftrue) ∷ [])) (sep 𝓤 P (sem 𝓤 H A (Held a h)))
+  held-asked q P asked fits =
       qed W (‵ (Held a h) ∷ (‵ (flft (a .lft) q) ⊛ ‵ ftrue) ∷ []) ∵
       use1 W (‵ (Held a h) ⊛ ‵ (Held a h)) (LL.copy (D a) (T′.the-copy a) 𝓤 H A W .twice h (T′.lowered h ∷ [])) $ split ! $
       use1 W (given (T′.lowered h ∷ [] ≡ T′.lowered h ∷ []) (‵ (all-own (D a .parts) (L a) (vd a h)))) (own-open 𝓤 H A W (D a) (L a) (vd a h) (T′.lowered h)) $ learn ! (λ _. use1 W (‵ (ownAt (D a .parts) (L a) 0 (h .stream)) ⊛ ‵ (rest (D a .parts) (L a) 0 (vd a h))) (own-out 𝓤 H A W (D a .parts) (L a) 0 (vd a h)) $ split ! $

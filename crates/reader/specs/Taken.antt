@@ -14,14 +14,14 @@ unfoldable pub behind : List ℕ → ℕ → ℕ
 behind s at = nextOf (readAt s at) at
 
 -- where the body of the record at a place begins; 0 where reading stops
-abbrev pub startOf : Record → ℕ
-startOf (Whole k start n next) = start
-startOf (Stopped r) = 0
+abbrev pub bodyStart : Record → ℕ
+bodyStart (Whole k start n next) = start
+bodyStart (Stopped r) = 0
 
 -- b is the part of the caller's own stream s, at that place of it, that holds the body of the record at a place
 pub record PartOf (s : RefT (List ℕ)) (at : ℕ) (b : RefT (List ℕ)) : Type 0 where
   pub bytes : now b ≡ bodyAt (now s) at
-  pub place : b .ptr ≡ (s .ptr .0, startOf (readAt (now s) at) + s .ptr .1)
+  pub place : b .ptr ≡ (s .ptr .0, bodyStart (readAt (now s) at) + s .ptr .1)
 
 -- from p on, t is handed back, and q is left
 pub record Takes (p : Reader) (t : Taken) (q : Reader) : Type 0 where

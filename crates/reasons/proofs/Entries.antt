@@ -25,11 +25,11 @@ use Rattle.reasons.specs.Reasons.{entryReason, ofSet, anyEntry}
 use Rattle.reasons.specs.Parts.{FirstInSet, entryShown}
 use Rattle.encoding.proofs.NumbersAreTables.{flag-of-bit}
 
-abbrev told : Entry → Reason
-told e = reason.Entry (e .address) (e .sent) (length (e .tickets))
+abbrev reasonTold : Entry → Reason
+reasonTold e = reason.Entry (e .address) (e .sent) (length (e .tickets))
 
 first-told : (q : Entry → Bool) (es : List Entry) (r : ℕ) → r < length es → ((k : ℕ) → k < r → q (getD es k noEntry) ≡ false) → q (getD es r noEntry) ≡ true
-    → entryReason q es ≡ told (getD es r noEntry)
+    → entryReason q es ≡ reasonTold (getD es r noEntry)
 first-told q [] r h f e = absurd (not-suc-le-zero h)
 first-told q (x ∷ es) zero h f e = rw e
 first-told q (x ∷ es) (suc r) h f e = rw (f 0 (omega arith)) (first-told q es r (le-of-suc-le-suc h) (λ k j. f (suc k) (omega arith)) e)

@@ -1,7 +1,7 @@
 -- What a body says, by the tests that the code makes.
-use mathlib.Core.Path.{_≡_, refl, ap}
-use mathlib.Core.List.{List, [], _∷_}
-use Prim.Native.Nat.{ℕ, zero, suc, _-_, _≤_, _<_}
+use mathlib.Core.Path.{_≡_, ap}
+use mathlib.Core.List.{List}
+use Prim.Native.Nat.{ℕ, _-_, _≤_, _<_}
 use native.Mathlib.Omega.{arith}
 use borrow.Author.Tests.{lt-leb, le-leb, eq-eqb, ne-eqb}
 use lib.ListN.{length, getD}
@@ -11,6 +11,7 @@ use Rattle.model.specs.declared.Refusal.{Refusal}
 use Rattle.model.specs.declared.Event.the-variants.{Refused}
 use Rattle.model.specs.declared.EventRead.the-variants as event
 use Rattle.model.specs.declared.CommandRead.the-variants as command
+use Rattle.words.proofs.Lists.{getD-inside}
 
 -- ---- the refusal of a number
 
@@ -20,14 +21,8 @@ refusal-low n h = rw (lt-leb 1 n h)
 pub refusal-high : (n : ℕ) → 12 < n → event.None ≡ refusedBy n
 refusal-high n h = rw (le-leb 1 n (omega arith), lt-leb n 12 h)
 
--- a list's own element does not go by what stands for one past its end
-own : {A : Type 0} (l : List A) (i : ℕ) (d e : A) → i < length l → getD l i d ≡ getD l i e
-own [] i d e h = absurd (omega arith)
-own (x ∷ l) zero d e h = refl
-own (x ∷ l) (suc i) d e h = own l i d e (omega arith)
-
 pub refusal-named : (n : ℕ) (d : Refusal) → 1 ≤ n → n ≤ 12 → event.Got (Refused (getD refusals (n - 1) d)) ≡ refusedBy n
-refusal-named n d h k = rw (le-leb 1 n h, le-leb n 12 k) (ap (λ (r : Refusal). event.Got (Refused r)) (own refusals (n - 1) d _ (omega arith)))
+refusal-named n d h k = rw (le-leb 1 n h, le-leb n 12 k) (ap (λ (r : Refusal). event.Got (Refused r)) (getD-inside refusals (n - 1) d _ (omega arith)))
 
 -- ---- a body of its kind's length, and of another
 

@@ -47,11 +47,11 @@ length-bytes zero x = refl
 length-bytes (suc n) x = ap suc (length-bytes n (x / 256))
 
 -- a number out of all the bytes of a list; at a width that is a numeral it computes as `numberAt` does
-abbrev pub numberOf : List ℕ → ℕ
-numberOf [] = 0
-numberOf (b ∷ bs) = numberOf bs * 256 + b
+abbrev pub bytesNumber : List ℕ → ℕ
+bytesNumber [] = 0
+bytesNumber (b ∷ bs) = bytesNumber bs * 256 + b
 
-pub number-bytes : (n x : ℕ) → x < 256 ^ n → numberOf (bytesOf n x) ≡ x
+pub number-bytes : (n x : ℕ) → x < 256 ^ n → bytesNumber (bytesOf n x) ≡ x
 unfolding bytesOf
 number-bytes zero x h = let e : x < 1 = rw pow-zero at h in omega arith
 number-bytes (suc n) x h =

@@ -48,7 +48,7 @@ Fits o = AllFitting (eventsOf o)
 -- ---- addresses and masks
 
 -- an element of a list, and what stands for one past its end
-pub all-at : (p : ℕ → Bool) → p 0 ≡ true → (s : List ℕ) (i : ℕ) → all p s ≡ true → p (getD s i 0) ≡ true
+all-at : (p : ℕ → Bool) → p 0 ≡ true → (s : List ℕ) (i : ℕ) → all p s ≡ true → p (getD s i 0) ≡ true
 all-at p z [] i h = z
 all-at p z (b ∷ s) zero h = and-1 (p b) (all p s) h
 all-at p z (b ∷ s) (suc i) h = all-at p z s i (and-2 (p b) (all p s) h)
@@ -182,7 +182,7 @@ map-stamps : (f : Entry → Entry) → ((e : Entry) → words (e .tickets) ≡ t
 map-stamps f g [] h = refl
 map-stamps f g (e ∷ es) h = and-i (g e (and-1 (words (e .tickets)) (stamps es) h)) (map-stamps f g es (and-2 (words (e .tickets)) (stamps es) h))
 
-pub one-word : (k : ℕ) → k ≤ allOnes → words (k ∷ []) ≡ true
+one-word : (k : ℕ) → k ≤ allOnes → words (k ∷ []) ≡ true
 one-word k h = and-i (le-leb k allOnes h) refl
 
 join-words : (a k : ℕ) → k ≤ allOnes → (e : Entry) → words (e .tickets) ≡ true → words (join a k e .tickets) ≡ true
@@ -204,20 +204,20 @@ misses-stamped (Read a m k) n es h w =
 misses-stamped (Write a m k) n es h w = w
 
 module _ (t : Tables) (few : stamped t ≡ true) where
-  abbrev Kept : Outcome Tables → Type 0
-  Kept o = stamped (after t o) ≡ true
+  abbrev KeepsStamped : Outcome Tables → Type 0
+  KeepsStamped o = stamped (after t o) ≡ true
 
   pub access-stamped : (S : Settings) (x : Access) → TicketFits x → stamped (after t (access S x t)) ≡ true
   unfolding access proceed accept
   access-stamped S x h =
-      by-flag Kept (wellFormed x) _ _ (λ w. met (metIn S x t)) (λ w. few)
+      by-flag KeepsStamped (wellFormed x) _ _ (λ w. met (metIn S x t)) (λ w. few)
     where
-      met : (p : Place) → Kept (proceed S x t p)
+      met : (p : Place) → KeepsStamped (proceed S x t p)
       met (no n) = few
       met (at p) =
-          by-flag Kept (ltb (S .queue) (length (t .queue) + placesNeeded x p)) _ _ (λ q. few)
-          (λ q. by-flag Kept (isRead x && isMerge (p .answer) && any (entryFull S (addressOf x)) (t .misses)) _ _ (λ q. few)
-          (λ q. by-flag Kept (isRead x && isMiss (p .answer) && leb (S .misses) (length (t .misses))) _ _ (λ q. few)
+          by-flag KeepsStamped (ltb (S .queue) (length (t .queue) + placesNeeded x p)) _ _ (λ q. few)
+          (λ q. by-flag KeepsStamped (isRead x && isMerge (p .answer) && any (entryFull S (addressOf x)) (t .misses)) _ _ (λ q. few)
+          (λ q. by-flag KeepsStamped (isRead x && isMiss (p .answer) && leb (S .misses) (length (t .misses))) _ _ (λ q. few)
           (λ q. misses-stamped x (p .answer) (t .misses) h few)))
 
   pub send-stamped : stamped (after t (send t)) ≡ true
@@ -228,20 +228,20 @@ module _ (t : Tables) (few : stamped t ≡ true) where
       kept queue.Read a = map-stamps (mark a) (mark-words a) (t .misses) few
       kept queue.WriteBack a = few
 
-      from : (qs : List Queued) → Kept (sendFrom qs t)
+      from : (qs : List Queued) → KeepsStamped (sendFrom qs t)
       from [] = few
       from (q ∷ qs) = kept (q .kind) (q .address)
 
   pub fill-stamped : (a : ℕ) → stamped (after t (fill a t)) ≡ true
   unfolding fill
   fill-stamped a =
-      by-flag Kept (any (sentFor a) (t .misses)) _ _
+      by-flag KeepsStamped (any (sentFor a) (t .misses)) _ _
       (λ h. in-all (λ e. words (e .tickets)) (keep (others a) (t .misses)) (λ e i. all-in (λ e. words (e .tickets)) (t .misses) few (in-keep (others a) (t .misses) i .0)))
       (λ h. few)
 
   pub tick-stamped : (c : ℕ) → stamped (after t (tick c t)) ≡ true
   unfolding tick
-  tick-stamped c = by-flag Kept (ltb c (t .now) || ltb lastCycle c) _ _ (λ h. few) (λ h. few)
+  tick-stamped c = by-flag KeepsStamped (ltb c (t .now) || ltb lastCycle c) _ _ (λ h. few) (λ h. few)
 
   pub step-stamped : (S : Settings) (c : Command) → CommandFits c → stamped (after t (stepOf S c t)) ≡ true
   step-stamped S (cmd.Settings g) h = few

@@ -20,15 +20,15 @@ lengths =
     7 ∷ 12 ∷ 12 ∷ 0 ∷ 8 ∷ 4 ∷ 8 ∷ 255 ∷ 255 ∷ 255 ∷ 255 ∷ 255 ∷ 255 ∷ 255 ∷ 255 ∷ 255
     ∷ 3 ∷ 1 ∷ 8 ∷ 24 ∷ 4 ∷ 8 ∷ 24 ∷ 8 ∷ 0 ∷ []
 
-abbrev ruled : ℕ → Bool
-ruled k = eqb (getD lengths k 0) (lengthOf k)
+abbrev lengthRuled : ℕ → Bool
+lengthRuled k = eqb (getD lengths k 0) (lengthOf k)
 
-lengths-ruled : every 25 ruled ≡ true
+lengths-ruled : every 25 lengthRuled ≡ true
 unfolding records.lengthOf
 lengths-ruled = refl
 
 pub length-is : (k : ℕ) → k < 25 → getD lengths k 0 ≡ lengthOf k
-length-is k h = eqb-true (getD lengths k 0) (lengthOf k) (every-at ruled 25 k lengths-ruled h)
+length-is k h = eqb-true (getD lengths k 0) (lengthOf k) (every-at lengthRuled 25 k lengths-ruled h)
 
 -- ---- no kind is past the table
 

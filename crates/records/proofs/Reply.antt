@@ -33,7 +33,7 @@ tickets-fit (t ∷ ts) f (suc n) = (f 0, tickets-fit ts (λ i. f (suc i)) n)
 pub reply-fits : (t : Reply) → Fitting (t .first) → AllFitting (queuedTold (t .queues) (t .queued)) → ((i : ℕ) → getD (t .tickets) i 0 < 2 ^ 32)
     → AllFitting (eventsTold t)
 unfolding eventsTold
-reply-fits t first queued tickets = (first, fitting-append (queuedTold (t .queues) (t .queued)) _ queued (tickets-fit (t .tickets) tickets (t .count)))
+reply-fits t firstBytes queuedBytes tickets = (firstBytes, fitting-append (queuedTold (t .queues) (t .queued)) _ queuedBytes (tickets-fit (t .tickets) tickets (t .count)))
 
 -- ---- the parts, and how long they are
 
@@ -47,16 +47,16 @@ pub queued-least : (n k : ℕ) (xs : List Queued) → length xs ≡ k → {m : �
 queued-least n k xs e q = ap (map queuedEvent) (ap (λ (i : ℕ). take i xs) (q ∙ ap (min n) (sym e)) ∙ take-least n xs)
 
 module _ (t : Reply) where
-  abbrev first : List ℕ
-  first = eventBytes (t .first)
+  abbrev firstBytes : List ℕ
+  firstBytes = eventBytes (t .first)
 
-  abbrev queued : List ℕ
-  queued = logBytes (queuedTold (t .queues) (t .queued))
+  abbrev queuedBytes : List ℕ
+  queuedBytes = logBytes (queuedTold (t .queues) (t .queued))
 
   abbrev tickets : List ℕ
   tickets = logBytes (ticketsTold (t .count) (t .tickets))
 
-  reply-parts : first ++ (queued ++ tickets) ≡ logBytes (eventsTold t)
+  reply-parts : firstBytes ++ (queuedBytes ++ tickets) ≡ logBytes (eventsTold t)
   unfolding eventsTold records.logBytes
   reply-parts = rw log-append
 
@@ -87,7 +87,7 @@ module _ (t : Reply) where
         → Laid m₂ j (5 * n) (logBytes (ticketsTold n (t .tickets))) r m
         → Laid l at (length (logBytes (eventsTold t))) (logBytes (eventsTold t)) r m
     reply-laid u v w =
-        let p : logBytes (queuedTold k (t .queued)) ≡ queued = ap logBytes (queued-least (t .queues) 2 (t .queued) two few) in
+        let p : logBytes (queuedTold k (t .queued)) ≡ queuedBytes = ap logBytes (queued-least (t .queues) 2 (t .queued) two few) in
         let q : ticketsTold n (t .tickets) ≡ ticketsTold (t .count) (t .tickets) = ap (map Released) (ap (λ (i : ℕ). take i (t .tickets)) (count ∙ ap (min (t .count)) (sym long)) ∙ take-least (t .count) (t .tickets)) in
-        laid-sized (laid-as (laid-then u refl (laid-then v refl (laid-as w (ap logBytes q)))) (ap (λ (b : List ℕ). first ++ (b ++ tickets)) p ∙ reply-parts))
+        laid-sized (laid-as (laid-then u refl (laid-then v refl (laid-as w (ap logBytes q)))) (ap (λ (b : List ℕ). firstBytes ++ (b ++ tickets)) p ∙ reply-parts))
         (let z = reply-sized refl refl in omega arith)

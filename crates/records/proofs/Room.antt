@@ -49,25 +49,25 @@ log-more e es = length-append (eventBytes e) (logBytes es)
 -- ---- a refusal, and one event
 
 -- the events of an outcome take n bytes at most
-pub record Takes (n : ℕ) (o : Outcome Tables) : Type 0 where
+pub record TakesRoom (n : ℕ) (o : Outcome Tables) : Type 0 where
   pub most : length (logBytes (eventsOf o)) ≤ n
 
-pub refused-takes : (r : Refusal) → Takes 2 (refused r)
+pub refused-takes : (r : Refusal) → TakesRoom 2 (refused r)
 unfolding records.logBytes records.eventBytes bytesOf
 refused-takes r = record { most = lit≤ tt }
 
-one-takes : (e : Event) (t : Tables) → Takes 25 (done (e ∷ []) t)
+one-takes : (e : Event) (t : Tables) → TakesRoom 25 (done (e ∷ []) t)
 unfolding records.logBytes
 one-takes e t = let n = log-more e [] in let h = event-short e in record { most = omega arith }
 
-takes-more : {m n : ℕ} {o : Outcome Tables} → Takes m o → m ≤ n → Takes n o
+takes-more : {m n : ℕ} {o : Outcome Tables} → TakesRoom m o → m ≤ n → TakesRoom n o
 takes-more h g = record { most = le-trans (h .most) g }
 
-refused-within : (n : ℕ) (r : Refusal) → 2 ≤ n → Takes n (refused r)
+refused-within : (n : ℕ) (r : Refusal) → 2 ≤ n → TakesRoom n (refused r)
 refused-within n r h = takes-more (refused-takes r) h
 
 -- by a test
-takes-by : {n : ℕ} (b : Bool) {o p : Outcome Tables} → Takes n o → Takes n p → Takes n (pick b o p)
+takes-by : {n : ℕ} (b : Bool) {o p : Outcome Tables} → TakesRoom n o → TakesRoom n p → TakesRoom n (pick b o p)
 takes-by true h g = h
 takes-by false h g = g
 
@@ -101,7 +101,7 @@ unfolding records.logBytes records.eventBytes bytesOf
 fetch-short (Read a m k) n = by-flag (λ (q : List Queued). length (logBytes (map queuedEvent q)) ≤ 9) (isMiss n) (reading a ∷ []) [] (λ e. lit≤ tt) (λ e. lit≤ tt)
 fetch-short (Write a m k) n = lit≤ tt
 
-accept-takes : (S : Settings) (x : Access) (p : Spot) (t : Tables) → length (p .backs) ≤ 1 → Takes 38 (accept S x p t)
+accept-takes : (S : Settings) (x : Access) (p : Spot) (t : Tables) → length (p .backs) ≤ 1 → TakesRoom 38 (accept S x p t)
 unfolding accept records.eventBytes bytesOf
 accept-takes S x p t h =
     let f = fetch-short x (p .answer) in
@@ -111,7 +111,7 @@ accept-takes S x p t h =
     rw (map-append, log-append, length-append) in
     record { most = omega arith }
 
-proceed-takes : (S : Settings) (x : Access) (t : Tables) (p : Place) → Few p → Takes 38 (proceed S x t p)
+proceed-takes : (S : Settings) (x : Access) (t : Tables) (p : Place) → Few p → TakesRoom 38 (proceed S x t p)
 unfolding proceed Few
 proceed-takes S x t (no r) h = refused-within _ r (lit≤ tt)
 proceed-takes S x t (at p) h =
@@ -120,7 +120,7 @@ proceed-takes S x t (at p) h =
     (takes-by (isRead x && isMiss (p .answer) && leb (S .misses) (length (t .misses))) (refused-within _ MissTableFull (lit≤ tt))
     (accept-takes S x p t h)))
 
-pub access-takes : (S : Settings) (x : Access) (t : Tables) → Takes 38 (access S x t)
+pub access-takes : (S : Settings) (x : Access) (t : Tables) → TakesRoom 38 (access S x t)
 unfolding access
 access-takes S x t =
     takes-by (wellFormed x)
@@ -129,15 +129,15 @@ access-takes S x t =
 
 -- ---- send, tick, fill
 
-pub send-takes : (t : Tables) → Takes 25 (send t)
+pub send-takes : (t : Tables) → TakesRoom 25 (send t)
 unfolding send
 send-takes t = from (t .queue)
   where
-    from : (qs : List Queued) → Takes 25 (sendFrom qs t)
+    from : (qs : List Queued) → TakesRoom 25 (sendFrom qs t)
     from [] = refused-within _ QueueEmpty (lit≤ tt)
     from (q ∷ qs) = one-takes (sentEvent q) (afterSend q qs t)
 
-pub tick-takes : (c : ℕ) (t : Tables) → Takes 25 (tick c t)
+pub tick-takes : (c : ℕ) (t : Tables) → TakesRoom 25 (tick c t)
 unfolding tick
 tick-takes c t =
     takes-by (ltb c (t .now) || ltb lastCycle c) (refused-within _ BadCycle (lit≤ tt))
@@ -150,13 +150,13 @@ tickets-few n a (e ∷ es) h =
     (λ q. leb-true (length (e .tickets)) n (and-1 (leb (length (e .tickets)) n) _ h))
     (λ q. tickets-few n a es (and-2 (leb (length (e .tickets)) n) _ h))
 
-pub fill-takes : (a : ℕ) (t : Tables) → all (λ e. leb (length (e .tickets)) 8) (t .misses) ≡ true → Takes fillBytes (fill a t)
+pub fill-takes : (a : ℕ) (t : Tables) → all (λ e. leb (length (e .tickets)) 8) (t .misses) ≡ true → TakesRoom fillBytes (fill a t)
 unfolding fill records.eventBytes bytesOf
 fill-takes a t h =
     let k = tickets-few 8 a (t .misses) h in
     let r = released-length (ticketsOf a (t .misses)) in
     let n = log-more (Filled a) (map Released (ticketsOf a (t .misses))) in
-    let m : Takes fillBytes (done (Filled a ∷ map Released (ticketsOf a (t .misses))) (afterFill a t)) = record { most = omega arith } in
+    let m : TakesRoom fillBytes (done (Filled a ∷ map Released (ticketsOf a (t .misses))) (afterFill a t)) = record { most = omega arith } in
     takes-by (any (sentFor a) (t .misses)) m (refused-within _ NotSent (lit≤ tt))
 
 -- ---- every step of a command on sound tables
@@ -166,7 +166,7 @@ sound-few S t r h =
     in-all (λ e. leb (length (e .tickets)) 8) (t .misses)
     (λ e i. le-leb (length (e .tickets)) 8 (le-trans (tickets-of S t (parts S t h) e i .1) (ranged S r .readers)))
 
-pub step-takes : (S : Settings) (c : Command) (t : Tables) → inRange S ≡ true → sound S t ≡ true → Takes fillBytes (stepOf S c t)
+pub step-takes : (S : Settings) (c : Command) (t : Tables) → inRange S ≡ true → sound S t ≡ true → TakesRoom fillBytes (stepOf S c t)
 step-takes S (cmd.Settings g) t e h = refused-within _ SettingOutOfRange (lit≤ tt)
 step-takes S (cmd.Read a k) t e h = takes-more (access-takes S (Read a 0 k) t) (lit≤ tt)
 step-takes S (cmd.Write a m) t e h = takes-more (access-takes S (Write a m 0) t) (lit≤ tt)

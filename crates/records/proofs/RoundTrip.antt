@@ -1,4 +1,4 @@
--- What is written reads back: an event and a command whose numbers fit, anywhere in a stream and where they were stored; a whole log.
+-- What is written reads back: an event and a command whose numbers fit, anywhere in a stream; a whole log.
 use mathlib.Core.Path.{_≡_, refl, sym, ap, _∙_}
 use mathlib.Core.List.{List, [], _∷_, _++_, append-assoc, append-nil}
 use Prim.Native.Nat.{ℕ, zero, suc, _+_, _≤_, _<_}
@@ -7,7 +7,7 @@ use borrow.Author.Tests.{le-ltb, lt-ltb}
 use mathlib.Core.Bool.{true}
 use lib.Dec.{eqb}
 use lib.ListN.{length, getD, take, drop, length-append}
-use lib.Seq.{getD-append-seam, drop-append-add, take-append-seam, sets, sets-eq, length-take-le}
+use lib.Seq.{getD-append-seam, drop-append-add, take-append-seam, sets}
 use Rattle.words.specs.Words.{pick}
 use Rattle.model.specs.Kinds as kinds
 use Rattle.model.specs.RecordsOf as records
@@ -33,14 +33,14 @@ use Rattle.records.proofs.Decoding as decoding
 -- ---- how long bodies are
 
 -- a body is as long as the table says, and no body is as long as the table's mark
-abbrev Sized : ℕ → List ℕ → Type 0
-Sized k bs = (length bs ≡ lengthOf k) × (length bs ≤ 24)
+abbrev SizedBody : ℕ → List ℕ → Type 0
+SizedBody k bs = (length bs ≡ lengthOf k) × (length bs ≤ 24)
 
-event-sized : (e : Event) → Sized (recordKindOf e) (bodyBytes e)
+event-sized : (e : Event) → SizedBody (recordKindOf e) (bodyBytes e)
 unfolding records.eventBytes
 event-sized e = let n = event-length e in let s = event-short e in (omega arith, omega arith)
 
-command-sized : (c : Command) → Sized (commandKind c) (commandBody c)
+command-sized : (c : Command) → SizedBody (commandKind c) (commandBody c)
 unfolding records.commandBytes
 command-sized c = let n = command-length c in let s = command-short c in (omega arith, omega arith)
 
@@ -113,19 +113,19 @@ other-kind ev.Ticked b = refl
 -- ---- a record anywhere in a stream: p before it, q after it
 
 module _ (p q : List ℕ) (k : ℕ) (bs : List ℕ) (sized : length bs ≡ lengthOf k) (short : length bs ≤ 24) where
-  abbrev stream : List ℕ
-  stream = p ++ (k ∷ (bs ++ q))
+  abbrev logStream : List ℕ
+  logStream = p ++ (k ∷ (bs ++ q))
 
-  pub record-read : readAt stream (length p) ≡ Whole k (length p + 1) (length bs) (length (p ++ (k ∷ bs)))
+  pub record-read : readAt logStream (length p) ≡ Whole k (length p + 1) (length bs) (length (p ++ (k ∷ bs)))
   record-read =
-      let here : length p < length stream = simp length-append (omega arith) in
-      let g : getD stream (length p) 0 ≡ k = getD-append-seam p k (bs ++ q) 0 in
-      let f : length stream ≡ length p + suc (length bs + length q) = simp length-append in
+      let here : length p < length logStream = simp length-append (omega arith) in
+      let g : getD logStream (length p) 0 ≡ k = getD-append-seam p k (bs ++ q) 0 in
+      let f : length logStream ≡ length p + suc (length bs + length q) = simp length-append in
       let n : length p + 1 + length bs ≡ length (p ++ (k ∷ bs)) = simp length-append (omega arith) in
-      sym (read-whole stream (length p) (length bs) here (sized ∙ ap lengthOf (sym g)) (λ z. omega arith) (omega arith))
+      sym (read-whole logStream (length p) (length bs) here (sized ∙ ap lengthOf (sym g)) (λ z. omega arith) (omega arith))
       ∙ rw (g, n)
 
-  pub record-part : take (length bs) (drop (length p + 1) stream) ≡ bs
+  pub record-part : take (length bs) (drop (length p + 1) logStream) ≡ bs
   record-part = ap (take (length bs)) (drop-append-add p (k ∷ (bs ++ q)) 1) ∙ take-append-seam bs q
 
 module _ (p q : List ℕ) where
@@ -159,23 +159,6 @@ module _ (p q : List ℕ) where
     pub command-back : CommandFits c → commandAt (p ++ (commandBytes c ++ q)) (length p) ≡ command.Got c
     unfolding records.commandAt
     command-back h = rw (command-next, command-part) (command-body-back c h)
-
--- ---- where it was stored
-
--- what is read of bytes anywhere in a stream is read of them there
-module _ {R : Type 0} (read : List ℕ → ℕ → R) (l : List ℕ) (at : ℕ) (bs : List ℕ) (fits : at + length bs ≤ length l) where
-  pub stored-back : {r : R} → ((p q : List ℕ) → read (p ++ (bs ++ q)) (length p) ≡ r) → read (sets l at bs) at ≡ r
-  stored-back back =
-      let split : sets l at bs ≡ take at l ++ (bs ++ drop (at + length bs) l) = sets-eq bs l at fits ∙ append-assoc (take at l) bs (drop (at + length bs) l) in
-      let here = length-take-le at l (omega arith) in
-      rw split (ap (read (take at l ++ (bs ++ drop (at + length bs) l))) (sym here) ∙ back (take at l) (drop (at + length bs) l))
-
-pub event-stored : (l : List ℕ) (at : ℕ) (e : Event) → Fitting e → at + length (eventBytes e) ≤ length l → eventAt (sets l at (eventBytes e)) at ≡ event.Got e
-event-stored l at e h g = stored-back eventAt l at (eventBytes e) g (λ p q. event-back p q e h)
-
-pub command-stored : (l : List ℕ) (at : ℕ) (c : Command) → CommandFits c → at + length (commandBytes c) ≤ length l
-    → commandAt (sets l at (commandBytes c)) at ≡ command.Got c
-command-stored l at c h g = stored-back commandAt l at (commandBytes c) g (λ p q. command-back p q c h)
 
 -- ---- a log
 

@@ -16,22 +16,22 @@ use Rattle.model.specs.declared.CommandRead.the-variants as command
 use Rattle.model.specs.declared.Stop.the-variants.{UnknownKind, CutShort}
 use Rattle.model.specs.declared.Record.the-variants.{Whole, Stopped}
 
-abbrev told : List Event
-told = ev.Answered Miss 1 ∷ ev.ReadQueued 0 ∷ ev.Answered HitReserved 1 ∷ ev.ReadSent 0 ∷ ev.Filled 0 ∷ ev.Released 7 ∷ ev.Released 9 ∷ []
+abbrev runTold : List Event
+runTold = ev.Answered Miss 1 ∷ ev.ReadQueued 0 ∷ ev.Answered HitReserved 1 ∷ ev.ReadSent 0 ∷ ev.Filled 0 ∷ ev.Released 7 ∷ ev.Released 9 ∷ []
 
-abbrev written : List ℕ
-written =
+abbrev runWritten : List ℕ
+runWritten =
     0x10 ∷ 3 ∷ 1 ∷ 0 ∷ 0x12 ∷ 0 ∷ 0 ∷ 0 ∷ 0 ∷ 0 ∷ 0 ∷ 0 ∷ 0 ∷ 0x10 ∷ 2 ∷ 1 ∷ 0 ∷ 0x15 ∷ 0 ∷ 0 ∷ 0 ∷ 0 ∷ 0 ∷ 0 ∷ 0 ∷ 0
     ∷ 0x17 ∷ 0 ∷ 0 ∷ 0 ∷ 0 ∷ 0 ∷ 0 ∷ 0 ∷ 0 ∷ 0x14 ∷ 7 ∷ 0 ∷ 0 ∷ 0 ∷ 0x14 ∷ 9 ∷ 0 ∷ 0 ∷ 0 ∷ []
 
-run-written : logBytes told ≡ written
+run-written : logBytes runTold ≡ runWritten
 unfolding records.logBytes records.eventBytes bytesOf
 run-written = refl
 
-run-long : length written ≡ 45
+run-long : length runWritten ≡ 45
 run-long = refl
 
-run-read : eventsIn written ≡ parsed told
+run-read : eventsIn runWritten ≡ parsed runTold
 unfolding records.eventsIn records.eventsFrom records.eventAt records.readAt records.eventOf records.lengthOf numberAt
 run-read = refl
 

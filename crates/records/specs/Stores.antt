@@ -1,15 +1,11 @@
 -- Bytes stored in a slice where there is room for them.
 use mathlib.Core.Path.{_≡_}
 use Prim.Native.Nat.{ℕ, _+_}
-use mathlib.Core.Bool.{Bool}
 use mathlib.Core.List.{List}
 use lib.ListN.{length}
 use lib.Seq.{sets}
-use lib.Dec.{leb}
 use Rattle.words.specs.Words.{pick}
-
-abbrev pub room : List ℕ → ℕ → ℕ → Bool
-room l at n = leb (at + n) (length l)
+use Rattle.words.specs.Regions.{room}
 
 -- l with bs stored from index `at`, if there is room for them
 unfoldable pub stored : List ℕ → ℕ → List ℕ → List ℕ

@@ -12,8 +12,8 @@ use Rattle.model.specs.Address.{wellFormed}
 use Rattle.model.specs.Tables.{Outcome, refused, done, accepted}
 use Rattle.model.specs.Lent.{Lent, lengthsFit}
 use Rattle.model.specs.SoundLent.{soundLent}
-use Rattle.model.specs.Rounds.{Calls, calls, Run, goOn, drain, rounds}
-use Rattle.model.specs.Seen.{heldIn, waits, callActs}
+use Rattle.model.specs.Rounds.{Calls, calls, Run, outcomeGoOn, outcomeDrain, outcomeRounds}
+use Rattle.model.specs.Seen.{heldIn, waits, seenCalls}
 use Rattle.model.specs.declared.Settings.{Settings}
 use Rattle.model.specs.declared.Access.{Access}
 use Rattle.model.specs.declared.Event.{Event}
@@ -22,30 +22,30 @@ use Rattle.encoding.proofs.DecodeIsSound.{Small}
 use Rattle.model.proofs.SeenRounds.{lent-accepted}
 use Rattle.encoding.proofs.Demand.{demand-3-seen-lent}
 use Rattle.rounds.specs.declared.Waiting.the-variants.{Accepted, Held}
-use Rattle.rounds.specs.Waiting.{lastOf, waitingOf, settled, waitCall}
+use Rattle.rounds.specs.Waiting.{lastOffer, waitingOf, settled, waitCall}
 use Rattle.rounds.proofs.SameWait.{settled-same}
 
 module _ {T : Type 0} (C : Calls T) where
   -- no more offers than rounds
-  offers-few : (n : ℕ) (t : T) → length (rounds C n t .offers) ≤ n
-  unfolding rounds
+  offers-few : (n : ℕ) (t : T) → length (outcomeRounds C n t .offers) ≤ n
+  unfolding outcomeRounds
   offers-few zero t = omega arith
-  offers-few (suc n) t = go (C .offers (drain C t .left)) (offers-few n (drain C t .left))
+  offers-few (suc n) t = go (C .offers (outcomeDrain C t .left)) (offers-few n (outcomeDrain C t .left))
     where
-      go : (o : Outcome T) → length (rounds C n (drain C t .left) .offers) ≤ n → length (goOn (drain C t) (rounds C n) o .offers) ≤ suc n
+      go : (o : Outcome T) → length (outcomeRounds C n (outcomeDrain C t .left) .offers) ≤ n → length (outcomeGoOn (outcomeDrain C t) (outcomeRounds C n) o .offers) ≤ suc n
       go (refused k) h = omega arith
       go (done es u) h = omega arith
 
   -- an accepted offer is the last
-  accepted-last : (n : ℕ) (t : T) (d : Outcome T) → any accepted (rounds C n t .offers) ≡ true → accepted (lastOf d (rounds C n t .offers)) ≡ true
-  unfolding rounds
+  accepted-last : (n : ℕ) (t : T) (d : Outcome T) → any accepted (outcomeRounds C n t .offers) ≡ true → accepted (lastOffer d (outcomeRounds C n t .offers)) ≡ true
+  unfolding outcomeRounds
   accepted-last zero t d h = absurd (false≢true h)
-  accepted-last (suc n) t d h = go (C .offers (drain C t .left)) (accepted-last n (drain C t .left)) h
+  accepted-last (suc n) t d h = go (C .offers (outcomeDrain C t .left)) (accepted-last n (outcomeDrain C t .left)) h
     where
       go : (o : Outcome T)
-          → ((c : Outcome T) → any accepted (rounds C n (drain C t .left) .offers) ≡ true → accepted (lastOf c (rounds C n (drain C t .left) .offers)) ≡ true)
-          → any accepted (goOn (drain C t) (rounds C n) o .offers) ≡ true
-          → accepted (lastOf d (goOn (drain C t) (rounds C n) o .offers)) ≡ true
+          → ((c : Outcome T) → any accepted (outcomeRounds C n (outcomeDrain C t .left) .offers) ≡ true → accepted (lastOffer c (outcomeRounds C n (outcomeDrain C t .left) .offers)) ≡ true)
+          → any accepted (outcomeGoOn (outcomeDrain C t) (outcomeRounds C n) o .offers) ≡ true
+          → accepted (lastOffer d (outcomeGoOn (outcomeDrain C t) (outcomeRounds C n) o .offers)) ≡ true
       go (refused k) ih h = ih (refused k) h
       go (done es u) ih h = refl
 
@@ -61,21 +61,21 @@ module _ {T : Type 0} where
 module _ (S : Settings) (x : Access) (L : Lent) (range : inRange S ≡ true) (fits : lengthsFit S L ≡ true) (soundly : soundLent S L ≡ true)
     (formed : wellFormed x ≡ true) where
   -- no refusal comes before the first round
-  wait-is : waitCall S x L ≡ settled (rounds (calls S x) (suc (waits (callActs S x) L)) L)
+  wait-is : waitCall S x L ≡ settled (outcomeRounds (calls S x) (suc (waits (seenCalls S x) L)) L)
   unfolding waitCall
-  wait-is = rw (range, fits, soundly, formed) (settled-same S x (suc (waits (callActs S x) L)) L)
+  wait-is = rw (range, fits, soundly, formed) (settled-same S x (suc (waits (seenCalls S x) L)) L)
 
-  pub accepted-in-time : (n : ℕ) (e : Event) → waitCall S x L .waiting ≡ Accepted n e → n ≤ suc (waits (callActs S x) L)
+  pub accepted-in-time : (n : ℕ) (e : Event) → waitCall S x L .waiting ≡ Accepted n e → n ≤ suc (waits (seenCalls S x) L)
   accepted-in-time n e h =
-      let r : Run Lent = rounds (calls S x) (suc (waits (callActs S x) L)) L in
-      omega (arith, said-round (length (r .offers)) n (lastOf (refused SetHeld) (r .offers)) e (rw wait-is at h), offers-few (calls S x) (suc (waits (callActs S x) L)) L)
+      let r : Run Lent = outcomeRounds (calls S x) (suc (waits (seenCalls S x) L)) L in
+      omega (arith, said-round (length (r .offers)) n (lastOffer (refused SetHeld) (r .offers)) e (rw wait-is at h), offers-few (calls S x) (suc (waits (seenCalls S x) L)) L)
 
   -- words are 32-bit numbers, as their type says (`Small`)
-  pub held-for-ever : Small L → waitCall S x L .waiting ≡ Held → (j : ℕ) → heldIn (callActs S x) (waits (callActs S x) L + j) L
+  pub held-for-ever : Small L → waitCall S x L .waiting ≡ Held → (j : ℕ) → heldIn (seenCalls S x) (waits (seenCalls S x) L + j) L
   held-for-ever small h =
-      let r : Run Lent = rounds (calls S x) (suc (waits (callActs S x) L)) L in
-      let no = said-held (length (r .offers)) (lastOf (refused SetHeld) (r .offers)) (rw wait-is at h) in
+      let r : Run Lent = outcomeRounds (calls S x) (suc (waits (seenCalls S x) L)) L in
+      let no = said-held (length (r .offers)) (lastOffer (refused SetHeld) (r .offers)) (rw wait-is at h) in
       ⊎-elim
-      (λ a. absurd (false≢true (sym no ∙ accepted-last (calls S x) (suc (waits (callActs S x) L)) L (refused SetHeld) (sym (lent-accepted S x (suc (waits (callActs S x) L)) L) ∙ a))))
+      (λ a. absurd (false≢true (sym no ∙ accepted-last (calls S x) (suc (waits (seenCalls S x) L)) L (refused SetHeld) (sym (lent-accepted S x (suc (waits (seenCalls S x) L)) L) ∙ a))))
       (λ f. f)
       (demand-3-seen-lent S x L range fits small soundly formed .settles)

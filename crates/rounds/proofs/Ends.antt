@@ -13,7 +13,7 @@ use Rattle.model.specs.Calls.{encoded, checkCall, eventsTold}
 use Rattle.model.specs.Inner.{Encodes, SoundSlices}
 use Rattle.model.specs.RecordsOf as records
 use Rattle.model.specs.Records.{bytesOf, logBytes, waitRoom}
-use Rattle.model.specs.Rounds.{steps, calls, Run, rounds, waits}
+use Rattle.model.specs.Rounds.{steps, calls, Run, outcomeRounds, outcomeWaits}
 use Rattle.model.specs.declared.Settings.{Settings}
 use Rattle.model.specs.declared.Access.{Access}
 use Rattle.model.specs.declared.Refusal.{Refusal}
@@ -33,16 +33,16 @@ use Rattle.tables.specs.Telling.{telling}
 use Rattle.tables.proofs.Tellings.{telling-tells}
 use Rattle.rounds.specs.declared.Waiting.the-variants as wait
 use Rattle.rounds.specs.declared.Waited.{Waited}
-use Rattle.rounds.specs.Waiting.{lastOf, waitingOf, refusalOf, settled, turnedAway, enoughRounds, waitCall, waitWithin, Waits}
+use Rattle.rounds.specs.Waiting.{lastOffer, waitingOf, refusalTold, settled, turnedAway, enoughRounds, waitCall, waitWithin, Waits}
 use Rattle.turns.specs.Parts.{Noted, Enough}
-use Rattle.rounds.specs.Parts.{lentWait, Settles, TurnsAway, WaitsHeld}
-use Rattle.rounds.proofs.Written.{written}
+use Rattle.rounds.specs.Parts.{lentWait, RoundsSettle, TurnsAway, WaitsHeld}
+use Rattle.rounds.proofs.Written.{noted-written}
 use Rattle.rounds.proofs.SameWait.{settled-same}
 
 -- ---- the rounds on slices
 
 module _ (S : Settings) where
-  last-encoded : (o : Outcome Tables) (os : List (Outcome Tables)) → lastOf (encoded S o) (map (encoded S) os) ≡ encoded S (lastOf o os)
+  last-encoded : (o : Outcome Tables) (os : List (Outcome Tables)) → lastOffer (encoded S o) (map (encoded S) os) ≡ encoded S (lastOffer o os)
   last-encoded o [] = refl
   last-encoded o (p ∷ os) = last-encoded p os
 
@@ -50,28 +50,28 @@ module _ (S : Settings) where
   says-encoded n (refused k) = refl
   says-encoded n (done es u) = refl
 
-  refusal-encoded : (o : Outcome Tables) → refusalOf (encoded S o) ≡ refusalOf o
+  refusal-encoded : (o : Outcome Tables) → refusalTold (encoded S o) ≡ refusalTold o
   refusal-encoded (refused k) = refl
   refusal-encoded (done es u) = refl
 
   settled-encoded : (r : Run Tables) → settled (runOf S r) ≡ lentWait S (settled r)
   settled-encoded r =
-      rw (last-encoded (refused SetHeld) (r .offers), length-map, says-encoded (length (r .offers)) (lastOf (refused SetHeld) (r .offers)), refusal-encoded (lastOf (refused SetHeld) (r .offers)))
+      rw (last-encoded (refused SetHeld) (r .offers), length-map, says-encoded (length (r .offers)) (lastOffer (refused SetHeld) (r .offers)), refusal-encoded (lastOffer (refused SetHeld) (r .offers)))
 
 module _ (S : Settings) (x : Access) (L : Lent) (t : Tables) (i : Encodes S L t) where
   checked-done : checkCall S L ≡ done [] L
   checked-done = rw (i .range, is-fits S L t i, is-sound-lent S L t i)
 
-  enough-encoded : {n : ℕ} → Enough S L n → enoughRounds S x L ≡ lentWait S (settled (rounds (steps S x) n t))
+  enough-encoded : {n : ℕ} → Enough S L n → enoughRounds S x L ≡ lentWait S (settled (outcomeRounds (steps S x) n t))
   enough-encoded {n} e =
-      let w : suc (waits (calls S x) L) ≡ n = rw (is-tables S L t i) (sym (e .on t i)) in
-      settled-same S x (suc (waits (calls S x) L)) L
-      ∙ ap (λ (k : ℕ). settled (rounds (calls S x) k L)) w
-      ∙ ap (λ (M : Lent). settled (rounds (calls S x) n M)) (i .encoded)
+      let w : suc (outcomeWaits (calls S x) L) ≡ n = rw (is-tables S L t i) (sym (e .on t i)) in
+      settled-same S x (suc (outcomeWaits (calls S x) L)) L
+      ∙ ap (λ (k : ℕ). settled (outcomeRounds (calls S x) k L)) w
+      ∙ ap (λ (M : Lent). settled (outcomeRounds (calls S x) n M)) (i .encoded)
       ∙ ap settled (rounds-encoded S x (i .range) (steps-keep S) n t (i .soundly))
-      ∙ settled-encoded S (rounds (steps S x) n t)
+      ∙ settled-encoded S (outcomeRounds (steps S x) n t)
 
-  pub wait-formed : wellFormed x ≡ true → {n : ℕ} → Enough S L n → waitCall S x L ≡ lentWait S (settled (rounds (steps S x) n t))
+  pub wait-formed : wellFormed x ≡ true → {n : ℕ} → Enough S L n → waitCall S x L ≡ lentWait S (settled (outcomeRounds (steps S x) n t))
   unfolding waitCall
   wait-formed f e = rw (checked-done, f) (enough-encoded e)
 
@@ -82,7 +82,7 @@ module _ (S : Settings) (x : Access) (L : Lent) (t : Tables) (i : Encodes S L t)
 -- ---- behind the check of refusals 1, 2 and 3
 
 module _ {S : Settings} {x : Access} {L : Lent} {e : List ℕ} {r : Waited} {f : List ℕ} where
-  pub waits-rounds : wellFormed x ≡ true → {M : Lent} {n : ℕ} → Enough S L n → Settles S x n L e r f M → WaitsHeld S x L e r f M
+  pub waits-rounds : wellFormed x ≡ true → {M : Lent} {n : ℕ} → Enough S L n → RoundsSettle S x n L e r f M → WaitsHeld S x L e r f M
   waits-rounds formed enough s = record { on = λ t i. rw (wait-formed S x L t i formed enough) (s .on t i) }
 
   pub waits-malformed : wellFormed x ≡ false → TurnsAway BadAccess e r f → WaitsHeld S x L e r f L
@@ -101,7 +101,7 @@ turns-away n e {reply} is {w} {f} s room =
     let two = refused-length n in
     let (count, slice) = was-stored e 0 (logBytes (event.Refused n ∷ [])) (rw one at s) (omega arith) in
     let noted : Noted e 0 (event.Refused n ∷ []) w f = record { next = omega arith; slice = slice; fits = (tt, tt) } in
-    let (bytes, events, back) = written (event.Refused n ∷ []) e noted (omega arith) in
+    let (bytes, events, back) = noted-written (event.Refused n ∷ []) e noted (omega arith) in
     record { on = λ L. record { waiting = refl; written = bytes; events = events; reads = back; left = refl } }
 
 -- ---- the call

@@ -6,7 +6,7 @@ use Prim.Native.Nat.{ℕ, zero, suc, _≤_, _<_}
 use native.Mathlib.Omega.{arith}
 use lib.ListN.{length, getD, replicate}
 use Rattle.words.specs.Words.{any}
-use Rattle.model.specs.Seen.{Acts, accepts, behind, marks, drain, rounds}
+use Rattle.model.specs.Seen.{SeenCalls, accepts, roundThen, marks, drain, rounds}
 use Rattle.model.specs.Rounds.{Turn}
 use Rattle.model.specs.declared.Event.{Event}
 use Rattle.model.specs.declared.Event.the-variants as event
@@ -14,23 +14,23 @@ use Rattle.model.specs.declared.Refusal.the-variants.{SetHeld}
 use mathlib.Core.Logic.{⊎-elim}
 use Rattle.words.proofs.Flags.{flag}
 
-module _ {T : Type 0} (C : Acts T) where
-  abbrev offered : T → Turn T
-  offered t = C .offers (drain C t .left)
+module _ {T : Type 0} (C : SeenCalls T) where
+  abbrev offeredTurn : T → Turn T
+  offeredTurn t = C .offers (drain C t .left)
 
   -- a round whose offer was accepted, and one whose offer was not
-  round-last : (n : ℕ) (t : T) → accepts (offered t .events) ≡ true → rounds C (suc n) t .offers ≡ offered t .events ∷ []
+  round-last : (n : ℕ) (t : T) → accepts (offeredTurn t .events) ≡ true → rounds C (suc n) t .offers ≡ offeredTurn t .events ∷ []
   unfolding rounds
   round-last n t q = rw q
 
-  round-on : (n : ℕ) (t : T) → accepts (offered t .events) ≡ false → rounds C (suc n) t ≡ behind (drain C t) (offered t) (rounds C n (offered t .left))
+  round-on : (n : ℕ) (t : T) → accepts (offeredTurn t .events) ≡ false → rounds C (suc n) t ≡ roundThen (drain C t) (offeredTurn t) (rounds C n (offeredTurn t .left))
   unfolding rounds
   round-on n t q = rw q
 
   pub offers-few : (n : ℕ) (t : T) → length (rounds C n t .offers) ≤ n
   unfolding rounds
   offers-few zero t = omega arith
-  offers-few (suc n) t = let ih = offers-few n (offered t .left) in ⊎-elim (λ q. rw q (omega arith)) (λ q. rw q (omega arith)) (flag (accepts (offered t .events)))
+  offers-few (suc n) t = let ih = offers-few n (offeredTurn t .left) in ⊎-elim (λ q. rw q (omega arith)) (λ q. rw q (omega arith)) (flag (accepts (offeredTurn t .events)))
 
   pub longer : (m n : ℕ) (t : T) → m ≤ n → any accepts (rounds C m t .offers) ≡ true → rounds C n t ≡ rounds C m t
   unfolding rounds
@@ -39,8 +39,8 @@ module _ {T : Type 0} (C : Acts T) where
   longer (suc m) (suc n) t h a =
       ⊎-elim
       (λ q. rw q)
-      (λ q. round-on n t q ∙ ap (behind (drain C t) (offered t)) ((longer m n (offered t .left) (omega arith)) (rw q at a)) ∙ sym (round-on m t q))
-      (flag (accepts (offered t .events)))
+      (λ q. round-on n t q ∙ ap (roundThen (drain C t) (offeredTurn t)) ((longer m n (offeredTurn t .left) (omega arith)) (rw q at a)) ∙ sym (round-on m t q))
+      (flag (accepts (offeredTurn t .events)))
 
   pub marks-accepted : (n : ℕ) (t : T) → any accepts (rounds C n t .offers) ≡ true → (j : ℕ) × (marks (rounds C n t) ≡ replicate j false ++ (true ∷ []))
   unfolding rounds
@@ -49,34 +49,34 @@ module _ {T : Type 0} (C : Acts T) where
       ⊎-elim
       (λ q. (0, rw q))
       (λ q.
-      let (j, e) = (marks-accepted n (offered t .left)) (rw q at a) in
+      let (j, e) = (marks-accepted n (offeredTurn t .left)) (rw q at a) in
       (suc j, rw q (ap (λ (l : List Bool). false ∷ l) e)))
-      (flag (accepts (offered t .events)))
+      (flag (accepts (offeredTurn t .events)))
 
   -- round n + 1 was offered and refused, so all before it were
   pub marks-held : (n : ℕ) (t : T) → getD (rounds C (suc n) t .offers) n [] ≡ event.Refused SetHeld ∷ [] → marks (rounds C (suc n) t) ≡ replicate (suc n) false
   unfolding rounds
-  marks-held zero t h = ⊎-elim (λ q. absurd (false≢true (sym (ap accepts h) ∙ q))) (λ q. rw q) (flag (accepts (offered t .events)))
-  marks-held (suc n) t h = go (accepts (offered t .events)) refl (marks-held n (offered t .left))
+  marks-held zero t h = ⊎-elim (λ q. absurd (false≢true (sym (ap accepts h) ∙ q))) (λ q. rw q) (flag (accepts (offeredTurn t .events)))
+  marks-held (suc n) t h = go (accepts (offeredTurn t .events)) refl (marks-held n (offeredTurn t .left))
     where
       none : {X : Type 0} → _≡_ {A = List Event} [] (event.Refused SetHeld ∷ []) → X
       none e = absurd (omega (arith, ap length e))
 
-      go : (b : Bool) → accepts (offered t .events) ≡ b
-          → (getD (rounds C (suc n) (offered t .left) .offers) n [] ≡ event.Refused SetHeld ∷ [] → marks (rounds C (suc n) (offered t .left)) ≡ replicate (suc n) false)
+      go : (b : Bool) → accepts (offeredTurn t .events) ≡ b
+          → (getD (rounds C (suc n) (offeredTurn t .left) .offers) n [] ≡ event.Refused SetHeld ∷ [] → marks (rounds C (suc n) (offeredTurn t .left)) ≡ replicate (suc n) false)
           → marks (rounds C (suc (suc n)) t) ≡ replicate (suc (suc n)) false
       go true q ih = none (rw q at h)
       go false q ih = rw q (ap (λ (l : List Bool). false ∷ l) (ih (rw q at h)))
 
   pub offers-first : (i n : ℕ) (t : T) → i < n → getD (rounds C n t .offers) i [] ≡ getD (rounds C (suc i) t .offers) i []
   offers-first i zero t h = absurd (omega arith)
-  offers-first zero (suc n) t h = go (accepts (offered t .events)) refl
+  offers-first zero (suc n) t h = go (accepts (offeredTurn t .events)) refl
     where
-      go : (b : Bool) → accepts (offered t .events) ≡ b → getD (rounds C (suc n) t .offers) 0 [] ≡ getD (rounds C 1 t .offers) 0 []
+      go : (b : Bool) → accepts (offeredTurn t .events) ≡ b → getD (rounds C (suc n) t .offers) 0 [] ≡ getD (rounds C 1 t .offers) 0 []
       go true q = rw (round-last n t q, round-last zero t q)
       go false q = rw (round-on n t q, round-on zero t q)
   offers-first (suc i) (suc n) t h =
       ⊎-elim
       (λ q. rw (round-last n t q, round-last (suc i) t q))
-      (λ q. rw (round-on n t q, round-on (suc i) t q) (offers-first i n (offered t .left) (omega arith)))
-      (flag (accepts (offered t .events)))
+      (λ q. rw (round-on n t q, round-on (suc i) t q) (offers-first i n (offeredTurn t .left) (omega arith)))
+      (flag (accepts (offeredTurn t .events)))

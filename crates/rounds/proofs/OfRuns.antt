@@ -16,7 +16,7 @@ use Rattle.model.specs.Tables.{Outcome, refused, done}
 use Rattle.model.specs.Lent.{Lent, bit}
 use Rattle.model.specs.Calls.{checkCall, verdictOf}
 use Rattle.model.specs.Rounds.{Turn}
-use Rattle.model.specs.Seen.{Acts, accepts, Course, marks, rounds, struck, heldIn, waits, callActs, Demand3}
+use Rattle.model.specs.Seen.{SeenCalls, accepts, Course, marks, rounds, struck, heldIn, waits, seenCalls, Demand3}
 use Rattle.model.specs.declared.Settings.{Settings}
 use Rattle.model.specs.declared.Access.{Access}
 use Rattle.model.specs.declared.Event.{Event}
@@ -28,12 +28,12 @@ use Rattle.encoding.proofs.Demand.{demand-3-seen-lent}
 use Rattle.soundness.proofs.Verdicts.{passed-is}
 use Rattle.rounds.specs.declared.Went.{Went}
 use Rattle.rounds.specs.declared.Went.the-variants.{Ran, NoRoom}
-use Rattle.rounds.specs.Demand3.{Shown, shown, ranTo, roomFor, marked, formed, startCall, roundsChecked, roundsCall, flagsCall, struckCall, SameRuns, InTime, HeldOn, Settled}
+use Rattle.rounds.specs.Demand3.{RoundsShown, roundsShown, ranTo, roomFor, flagsMarked, formed, startCall, roundsChecked, roundsCall, flagsCall, struckCall, SameRuns, InTime, HeldOn, Settled}
 use Rattle.rounds.proofs.Longer.{offers-few, longer, marks-accepted, marks-held, offers-first}
 
 -- ---- the flags
 
-marked-bits : (ms : List Bool) → marked (map bit ms) ≡ ms
+marked-bits : (ms : List Bool) → flagsMarked (map bit ms) ≡ ms
 marked-bits [] = refl
 marked-bits (true ∷ ms) = ap (λ (l : List Bool). true ∷ l) (marked-bits ms)
 marked-bits (false ∷ ms) = ap (λ (l : List Bool). false ∷ l) (marked-bits ms)
@@ -57,7 +57,7 @@ module _ (S : Settings) (x : Access) (L : Lent) where
   unfolding roundsCall
   began n fl e {k} {w} h = by-start (startCall S x L) refl h
     where
-      by-room : (b : Bool) (k₁ : ℕ) (a : Turn Lent) → pick b (ranTo k₁ a e) (shown NoRoom L e) .went ≡ Ran k w → b ≡ true
+      by-room : (b : Bool) (k₁ : ℕ) (a : Turn Lent) → pick b (ranTo k₁ a e) (roundsShown NoRoom L e) .went ≡ Ran k w → b ≡ true
       by-room true k₁ a g = refl
       by-room false k₁ a g = none (cc)
 
@@ -65,7 +65,7 @@ module _ (S : Settings) (x : Access) (L : Lent) where
           → (es : List Event) × (M : Lent) × (startCall S x L ≡ done es M) × ((leb n (length fl) && roomFor n e) ≡ true)
       by-start (refused j) q g = none (cc)
       by-start (done es M) q g =
-          (es, M, q, by-room (leb n (length fl) && roomFor n e) (length (rounds (callActs S x) n L .offers)) (rounds (callActs S x) n L .turn) g)
+          (es, M, q, by-room (leb n (length fl) && roomFor n e) (length (rounds (seenCalls S x) n L .offers)) (rounds (seenCalls S x) n L .turn) g)
 
   started : {es : List Event} {M : Lent} → startCall S x L ≡ done es M → (wellFormed x ≡ true) × (verdictOf (checkCall S L) ≡ Passed)
   started {es} {M} h = go (checkCall S L) h
@@ -80,14 +80,14 @@ module _ (S : Settings) (x : Access) (L : Lent) where
 
 -- words are 32-bit numbers, as their type says (`Small`)
 module _ (S : Settings) (x : Access) (L : Lent) (small : Small L) where
-  abbrev C : Acts Lent
-  C = callActs S x
+  abbrev C : SeenCalls Lent
+  C = seenCalls S x
 
   -- what `run_rounds` ensures
-  module _ (n : ℕ) (fl e : List ℕ) {r₁ : Went} {M₁ : Lent} {f₁ gl : List ℕ} (runs : shown r₁ M₁ f₁ ≡ roundsCall S x n L fl e) (flags : gl ≡ flagsCall S x n L fl e)
+  module _ (n : ℕ) (fl e : List ℕ) {r₁ : Went} {M₁ : Lent} {f₁ gl : List ℕ} (runs : roundsShown r₁ M₁ f₁ ≡ roundsCall S x n L fl e) (flags : gl ≡ flagsCall S x n L fl e)
       {k w : ℕ} (went : r₁ ≡ Ran k w) where
     begun : (es : List Event) × (M : Lent) × (startCall S x L ≡ done es M) × ((leb n (length fl) && roomFor n e) ≡ true)
-    begun = began S x L n fl e (sym (ap (λ (s : Shown). s .went) runs) ∙ went)
+    begun = began S x L n fl e (sym (ap (λ (s : RoundsShown). s .went) runs) ∙ went)
 
     demand : Demand3 C L
     demand =
@@ -105,21 +105,21 @@ module _ (S : Settings) (x : Access) (L : Lent) (small : Small L) where
     flags-to = let (es, M, o, room) = begun in rw (o, room)
 
     many : k ≡ length (rounds C n L .offers)
-    many = let a = ap (λ (s : Shown). s .went) (runs ∙ runs-to) in cc
+    many = let a = ap (λ (s : RoundsShown). s .went) (runs ∙ runs-to) in cc
 
     bits : take k gl ≡ map bit (marks (rounds C n L))
     bits =
         let b : length (map bit (marks (rounds C n L))) ≡ k = rw (length-map, length-map) (sym many) in
         ap (take k) (flags ∙ flags-to) ∙ take-at (map bit (marks (rounds C n L))) (drop (length (rounds C n L .offers)) fl) k b
 
-    fed : marked (take k gl) ≡ marks (rounds C n L)
-    fed = ap marked bits ∙ marked-bits (marks (rounds C n L))
+    fed : flagsMarked (take k gl) ≡ marks (rounds C n L)
+    fed = ap flagsMarked bits ∙ marked-bits (marks (rounds C n L))
 
     fed-length : length (take k gl) ≡ k
     fed-length = ap length bits ∙ rw (length-map, length-map) (sym many)
 
     -- "For every number of such rounds": what `run_struck` ensures, fed a copy of the tables and the flags of the rounds that were run
-    module _ (d : List ℕ) (enough : k ≤ length d / roundBytes) {r₂ : Went} {M₂ : Lent} {f₂ : List ℕ} (strikes : shown r₂ M₂ f₂ ≡ struckCall S x L (take k gl) d) where
+    module _ (d : List ℕ) (enough : k ≤ length d / roundBytes) {r₂ : Went} {M₂ : Lent} {f₂ : List ℕ} (strikes : roundsShown r₂ M₂ f₂ ≡ struckCall S x L (take k gl) d) where
       strikes-to : struckCall S x L (take k gl) d ≡ ranTo k (struck C (marks (rounds C n L)) L) d
       unfolding struckCall
       strikes-to = let (es, M, o, room) = begun in rw (o, fed-length, le-leb k (length d / roundBytes) enough, fed)
@@ -129,8 +129,8 @@ module _ (S : Settings) (x : Access) (L : Lent) (small : Small L) where
           let same = demand .strikes n in
           let a = runs ∙ runs-to in
           let b = strikes ∙ strikes-to in
-          let l₁ : M₁ ≡ rounds C n L .turn .left = ap (λ (s : Shown). s .left) a in
-          let l₂ : M₂ ≡ struck C (marks (rounds C n L)) L .left = ap (λ (s : Shown). s .left) b in
+          let l₁ : M₁ ≡ rounds C n L .turn .left = ap (λ (s : RoundsShown). s .left) a in
+          let l₂ : M₂ ≡ struck C (marks (rounds C n L)) L .left = ap (λ (s : RoundsShown). s .left) b in
           record {
             told = rounds C n L .turn .events;
             struck = struck C (marks (rounds C n L)) L .events;

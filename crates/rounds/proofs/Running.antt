@@ -13,7 +13,7 @@ use Rattle.model.specs.Lent.{Lent, bit}
 use Rattle.model.specs.Inner.{SoundSlices}
 use Rattle.model.specs.RecordsOf as records
 use Rattle.model.specs.Rounds.{Turn}
-use Rattle.model.specs.Seen.{Acts, accepts, Course, marks, drain, rounds, struck, callActs}
+use Rattle.model.specs.Seen.{SeenCalls, accepts, Course, marks, drain, rounds, struck, seenCalls}
 use Rattle.model.specs.declared.Settings.{Settings}
 use Rattle.model.specs.declared.Access.{Access}
 use Rattle.model.specs.Records.{roundBytes}
@@ -23,10 +23,10 @@ use Rattle.records.proofs.Stores.{laid-then}
 use Rattle.rounds.specs.declared.Went.the-variants.{Ran}
 use Rattle.rounds.specs.declared.Offer.{Offer}
 use Rattle.turns.specs.Parts.{Noted}
-use Rattle.rounds.specs.Demand3.{marked}
+use Rattle.rounds.specs.Demand3.{flagsMarked}
 use Rattle.rounds.specs.Parts.{struckTurn, SeesRound, SeesStruck, RunsOn, StrikesOn}
 use Rattle.turns.proofs.Noting.{noted-then}
-use Rattle.rounds.proofs.Written.{written}
+use Rattle.rounds.proofs.Written.{noted-written}
 
 -- ---- the caller's buffers in the end
 
@@ -42,14 +42,14 @@ flags-append (o ∷ os) ps = rw (flags-append os ps)
 
 -- ---- the rounds
 
-abbrev onward : List Event → List (List Event) → Course Lent → Course Lent
-onward es os r = record { turn = record { events = es ++ r .turn .events; left = r .turn .left }; offers = os ++ r .offers }
+abbrev behindCourse : List Event → List (List Event) → Course Lent → Course Lent
+behindCourse es os r = record { turn = record { events = es ++ r .turn .events; left = r .turn .left }; offers = os ++ r .offers }
 
 module _ (S : Settings) (x : Access) (n : ℕ) where
-  abbrev C : Acts Lent
-  C = callActs S x
+  abbrev C : SeenCalls Lent
+  C = seenCalls S x
 
-  pub record Runs (L₀ : Lent) (fl₀ e₀ : List ℕ) (L : Lent) (fl e : List ℕ) (i out : ℕ) : Type 0 where
+  pub record RoundsRun (L₀ : Lent) (fl₀ e₀ : List ℕ) (L : Lent) (fl e : List ℕ) (i out : ℕ) : Type 0 where
     pub few : i ≤ n
     pub short : out ≤ roundBytes * i
     pub size : length e ≡ length e₀
@@ -61,11 +61,11 @@ module _ (S : Settings) (x : Access) (n : ℕ) where
     pub events : List Event
     pub offers : List (List Event)
     pub made : length offers ≡ i
-    pub rest : rounds C n L₀ ≡ onward events offers (rounds C (n - i) L)
+    pub rest : rounds C n L₀ ≡ behindCourse events offers (rounds C (n - i) L)
     pub bytes : Noted e₀ 0 events out e
     pub flagged : Laid fl₀ 0 i (flagsOf offers) i fl
 
-  pub runs-first : (L : Lent) → SoundSlices S L → (fl e : List ℕ) → Runs L fl e L fl e 0 0
+  pub runs-first : (L : Lent) → SoundSlices S L → (fl e : List ℕ) → RoundsRun L fl e L fl e 0 0
   unfolding records.logBytes
   runs-first L h fl e = record {
     few = omega arith;
@@ -90,14 +90,14 @@ module _ (S : Settings) (x : Access) (n : ℕ) where
         → rounds C n L₀ ≡ record { turn = record { events = es; left = L }; offers = os } → length os ≡ i → Noted e₀ 0 es out e
         → Laid fl₀ 0 i (flagsOf os) i fl → i ≤ n → out ≤ roundBytes * i → RunsOn S x n L₀ fl₀ e₀ (Ran i out) L fl e
     ended es os {L} {fl} {e} {i} {out} all made bytes flagged few short =
-        let (count, slice, back) = written es e₀ bytes (omega arith) in
+        let (count, slice, back) = noted-written es e₀ bytes (omega arith) in
         let size = flags-length os in
         record {
           shows = rw (all, back, count, slice, made);
           flags = rw all (flagged .slice ∙ sets-eq (flagsOf os) fl₀ 0 (omega arith) ∙ rw (zero-add, size));
         }
 
-    module _ {L : Lent} {fl e : List ℕ} {i out : ℕ} (g : Runs L₀ fl₀ e₀ L fl e i out) where
+    module _ {L : Lent} {fl e : List ℕ} {i out : ℕ} (g : RoundsRun L₀ fl₀ e₀ L fl e i out) where
       pub runs-end : n ≤ i → RunsOn S x n L₀ fl₀ e₀ (Ran i out) L fl e
       unfolding rounds
       runs-end h =
@@ -135,7 +135,7 @@ module _ (S : Settings) (x : Access) (n : ℕ) where
 
         pub runs-again : r .taken ≡ false → length f ≡ length e → length (M .longs) ≡ length (L .longs) → length (M .words) ≡ length (L .words)
             → length (M .marks) ≡ length (L .marks)
-            → Runs L₀ fl₀ e₀ M (set fl i v) f (i + 1) (r .written)
+            → RoundsRun L₀ fl₀ e₀ M (set fl i v) f (i + 1) (r .written)
         unfolding rounds
         runs-again refused size longs words marks =
             let q : accepts (o .events) ≡ false = sym (s .taken) ∙ refused in
@@ -159,8 +159,8 @@ module _ (S : Settings) (x : Access) (n : ℕ) where
 -- ---- the struck rounds
 
 module _ (S : Settings) (x : Access) (fl : List ℕ) where
-  abbrev D : Acts Lent
-  D = callActs S x
+  abbrev D : SeenCalls Lent
+  D = seenCalls S x
 
   pub record Strikes (L₀ : Lent) (e₀ : List ℕ) (L : Lent) (e : List ℕ) (i out : ℕ) : Type 0 where
     pub few : i ≤ length fl
@@ -171,8 +171,8 @@ module _ (S : Settings) (x : Access) (fl : List ℕ) where
     pub marks : length (L .marks) ≡ length (L₀ .marks)
     pub held : SoundSlices S L
     pub events : List Event
-    pub rest : struck D (marked fl) L₀
-        ≡ record { events = events ++ struck D (marked (drop i fl)) L .events; left = struck D (marked (drop i fl)) L .left }
+    pub rest : struck D (flagsMarked fl) L₀
+        ≡ record { events = events ++ struck D (flagsMarked (drop i fl)) L .events; left = struck D (flagsMarked (drop i fl)) L .left }
     pub bytes : Noted e₀ 0 events out e
 
   pub strikes-first : (L : Lent) → SoundSlices S L → (e : List ℕ) → Strikes L e L e 0 0
@@ -195,8 +195,8 @@ module _ (S : Settings) (x : Access) (fl : List ℕ) where
     unfolding struck
     strikes-end h room =
         let z : i ≡ length fl = let k = g .few in omega arith in
-        let (count, slice, back) = written (g .events) e₀ (g .bytes) (let k = g .short in omega arith) in
-        let all : struck D (marked fl) L₀ ≡ record { events = g .events; left = L } = g .rest ∙ rw (z, drop-length, append-nil) in
+        let (count, slice, back) = noted-written (g .events) e₀ (g .bytes) (let k = g .short in omega arith) in
+        let all : struck D (flagsMarked fl) L₀ ≡ record { events = g .events; left = L } = g .rest ∙ rw (z, drop-length, append-nil) in
         record { shows = rw (all, back, count, slice, z) }
 
     pub strikes-again : i < length fl → {w : ℕ} {f : List ℕ} {M : Lent} → SeesStruck S x (eqb (getD fl i 0) 1) L e out w f M

@@ -17,7 +17,7 @@ use Rattle.model.specs.Steps.{access}
 use Rattle.model.specs.Inner.{Encodes, SoundSlices}
 use Rattle.model.specs.RecordsOf as records
 use Rattle.model.specs.Records.{bytesOf, logBytes, settleBytes, waitRoom}
-use Rattle.model.specs.Rounds.{steps, Turn, took, Run, drain, rounds, waits}
+use Rattle.model.specs.Rounds.{steps, Turn, took, Run, outcomeDrain, outcomeRounds, outcomeWaits}
 use Rattle.model.specs.declared.Settings.{Settings}
 use Rattle.model.specs.declared.Access.{Access}
 use Rattle.model.specs.declared.Refusal.{Refusal}
@@ -34,44 +34,44 @@ use Rattle.tables.specs.Telling.{telling}
 use Rattle.tables.proofs.Tellings.{telling-tells}
 use Rattle.rounds.specs.declared.Waiting.the-variants as wait
 use Rattle.turns.specs.declared.Round.{Round}
-use Rattle.rounds.specs.Waiting.{lastOf}
+use Rattle.rounds.specs.Waiting.{lastOffer}
 use Rattle.turns.specs.Parts.{isRefusal, Noted, Offers, Enough}
-use Rattle.rounds.specs.Parts.{Settles}
+use Rattle.rounds.specs.Parts.{RoundsSettle}
 use Rattle.turns.proofs.Noting.{reply-accepted, noted-then}
-use Rattle.rounds.proofs.Written.{written}
+use Rattle.rounds.proofs.Written.{noted-written}
 
 -- ---- runs behind other rounds
 
-abbrev behind : List Event → List (Outcome Tables) → Run Tables → Run Tables
-behind es os r = record { turn = record { events = es ++ r .turn .events; left = r .turn .left }; offers = os ++ r .offers }
+abbrev behindRounds : List Event → List (Outcome Tables) → Run Tables → Run Tables
+behindRounds es os r = record { turn = record { events = es ++ r .turn .events; left = r .turn .left }; offers = os ++ r .offers }
 
-behind-behind : (a b : List Event) (o p : List (Outcome Tables)) (r : Run Tables) → behind a o (behind b p r) ≡ behind (a ++ b) (o ++ p) r
+behind-behind : (a b : List Event) (o p : List (Outcome Tables)) (r : Run Tables) → behindRounds a o (behindRounds b p r) ≡ behindRounds (a ++ b) (o ++ p) r
 behind-behind a b o p r = simp append-assoc
 
 module _ (S : Settings) (x : Access) (n : ℕ) (t : Tables) where
   abbrev a : Turn Tables
-  a = drain (steps S x) t
+  a = outcomeDrain (steps S x) t
 
-  rounds-refused : {k : Refusal} → access S x (a .left) ≡ refused k → rounds (steps S x) (suc n) t ≡ behind (a .events) (refused k ∷ []) (rounds (steps S x) n (a .left))
-  unfolding rounds
+  rounds-refused : {k : Refusal} → access S x (a .left) ≡ refused k → outcomeRounds (steps S x) (suc n) t ≡ behindRounds (a .events) (refused k ∷ []) (outcomeRounds (steps S x) n (a .left))
+  unfolding outcomeRounds
   rounds-refused e = rw e
 
   rounds-done : {es : List Event} {u : Tables} → access S x (a .left) ≡ done es u
-      → rounds (steps S x) (suc n) t ≡ record { turn = record { events = a .events ++ es; left = u }; offers = done es u ∷ [] }
-  unfolding rounds
+      → outcomeRounds (steps S x) (suc n) t ≡ record { turn = record { events = a .events ++ es; left = u }; offers = done es u ∷ [] }
+  unfolding outcomeRounds
   rounds-done e = rw e
 
-rounds-none : (S : Settings) (x : Access) (t : Tables) → rounds (steps S x) 0 t ≡ record { turn = record { events = []; left = t }; offers = [] }
-unfolding rounds
+rounds-none : (S : Settings) (x : Access) (t : Tables) → outcomeRounds (steps S x) 0 t ≡ record { turn = record { events = []; left = t }; offers = [] }
+unfolding outcomeRounds
 rounds-none S x t = refl
 
 -- ---- offers
 
-last-one : (d o : Outcome Tables) (os : List (Outcome Tables)) → lastOf d (os ++ (o ∷ [])) ≡ o
+last-one : (d o : Outcome Tables) (os : List (Outcome Tables)) → lastOffer d (os ++ (o ∷ [])) ≡ o
 last-one d o [] = refl
 last-one d o (p ∷ os) = last-one p o os
 
-last-at : (d c : Outcome Tables) (os : List (Outcome Tables)) (n : ℕ) → length os ≡ suc n → lastOf d os ≡ getD os n c
+last-at : (d c : Outcome Tables) (os : List (Outcome Tables)) (n : ℕ) → length os ≡ suc n → lastOffer d os ≡ getD os n c
 last-at d c [] n e = absurd (omega arith)
 last-at d c (o ∷ []) zero e = refl
 last-at d c (o ∷ []) (suc n) e = absurd (omega arith)
@@ -101,29 +101,29 @@ held-length = refl
 
 module _ (S : Settings) (x : Access) (most : ℕ) where
   -- on tables from which the rest of the rounds gives what all of them give
-  pub record Leads (t₀ : Tables) (e₀ : List ℕ) (round out : ℕ) (L : Lent) (e : List ℕ) : Type 0 where
+  pub record RoundsLead (t₀ : Tables) (e₀ : List ℕ) (round out : ℕ) (L : Lent) (e : List ℕ) : Type 0 where
     pub tables : Tables
     pub are : Encodes S L tables
     pub events : List Event
     pub offers : List (Outcome Tables)
     pub made : length offers ≡ round
     pub none : any accepted offers ≡ false
-    pub rest : rounds (steps S x) most t₀ ≡ behind events offers (rounds (steps S x) (most - round) tables)
+    pub rest : outcomeRounds (steps S x) most t₀ ≡ behindRounds events offers (outcomeRounds (steps S x) (most - round) tables)
     pub bytes : Noted e₀ 0 events out e
 
-  pub record Goes (L₀ : Lent) (e₀ : List ℕ) (round out : ℕ) (L : Lent) (e : List ℕ) : Type 0 where
+  pub record RoundsStand (L₀ : Lent) (e₀ : List ℕ) (round out : ℕ) (L : Lent) (e : List ℕ) : Type 0 where
     pub few : round ≤ most
     pub short : out ≤ settleBytes * round
     pub size : length e ≡ length e₀
     pub longs : length (L .longs) ≡ length (L₀ .longs)
     pub words : length (L .words) ≡ length (L₀ .words)
     pub marks : length (L .marks) ≡ length (L₀ .marks)
-    pub leads : (t₀ : Tables) → Encodes S L₀ t₀ → Leads t₀ e₀ round out L e
+    pub leads : (t₀ : Tables) → Encodes S L₀ t₀ → RoundsLead t₀ e₀ round out L e
 
 module _ {S : Settings} {x : Access} {most : ℕ} where
-  pub goes-first : (L : Lent) (e : List ℕ) → Goes S x most L e 0 0 L e
+  pub rounds-stand-first : (L : Lent) (e : List ℕ) → RoundsStand S x most L e 0 0 L e
   unfolding records.logBytes
-  goes-first L e = record {
+  rounds-stand-first L e = record {
     few = omega arith;
     short = omega arith;
     size = refl;
@@ -142,9 +142,9 @@ module _ {S : Settings} {x : Access} {most : ℕ} where
     };
   }
 
-  module _ {L₀ : Lent} {e₀ : List ℕ} {round out : ℕ} {L : Lent} {e : List ℕ} (g : Goes S x most L₀ e₀ round out L e) where
-    pub goes-held : SoundSlices S L₀ → SoundSlices S L
-    goes-held h = let l = g .leads (h .tables) (h .are) in record { tables = l .tables; are = l .are }
+  module _ {L₀ : Lent} {e₀ : List ℕ} {round out : ℕ} {L : Lent} {e : List ℕ} (g : RoundsStand S x most L₀ e₀ round out L e) where
+    pub rounds-stand-held : SoundSlices S L₀ → SoundSlices S L
+    rounds-stand-held h = let l = g .leads (h .tables) (h .are) in record { tables = l .tables; are = l .are }
 
     -- ---- one round more
 
@@ -152,17 +152,17 @@ module _ {S : Settings} {x : Access} {most : ℕ} where
       next : most - round ≡ suc (most - (round + 1))
       next = omega arith
 
-      offer-accepted : (t : Tables) → Encodes S L t → accepted (access S x (drain (steps S x) t .left)) ≡ not (isRefusal (r .reply .first))
-      offer-accepted t i = reply-accepted _ (r .reply) (unrefused-too _ (access-clear S x (drain (steps S x) t .left))) (made .on t i .tells)
+      offer-accepted : (t : Tables) → Encodes S L t → accepted (access S x (outcomeDrain (steps S x) t .left)) ≡ not (isRefusal (r .reply .first))
+      offer-accepted t i = reply-accepted _ (r .reply) (unrefused-too _ (access-clear S x (outcomeDrain (steps S x) t .left))) (made .on t i .tells)
 
       -- ---- whose offer was refused
 
       module _ (q : isRefusal (r .reply .first) ≡ true) where
-        led : (t₀ : Tables) → Encodes S L₀ t₀ → Leads S x most t₀ e₀ (round + 1) (r .written) M f
+        led : (t₀ : Tables) → Encodes S L₀ t₀ → RoundsLead S x most t₀ e₀ (round + 1) (r .written) M f
         led t₀ i =
             let l = g .leads t₀ i in
             let t = l .tables in
-            let a : Turn Tables = drain (steps S x) t in
+            let a : Turn Tables = outcomeDrain (steps S x) t in
             let w = made .on t (l .are) in
             let (k, o) = refused-one (access S x (a .left)) (offer-accepted t (l .are) ∙ ap not q) in
             let z : a .events ++ took (a .left) (access S x (a .left)) .events ≡ a .events = rw (o, append-nil) in
@@ -174,15 +174,15 @@ module _ {S : Settings} {x : Access} {most : ℕ} where
               made = rw length-append (let m = l .made in omega arith);
               none = none-more (l .offers) k (l .none);
               rest = l .rest
-                  ∙ ap (λ (n : ℕ). behind (l .events) (l .offers) (rounds (steps S x) n t)) next
-                  ∙ ap (behind (l .events) (l .offers)) (rounds-refused S x (most - (round + 1)) t o)
-                  ∙ behind-behind (l .events) (a .events) (l .offers) (refused k ∷ []) (rounds (steps S x) (most - (round + 1)) (a .left));
+                  ∙ ap (λ (n : ℕ). behindRounds (l .events) (l .offers) (outcomeRounds (steps S x) n t)) next
+                  ∙ ap (behindRounds (l .events) (l .offers)) (rounds-refused S x (most - (round + 1)) t o)
+                  ∙ behind-behind (l .events) (a .events) (l .offers) (refused k ∷ []) (outcomeRounds (steps S x) (most - (round + 1)) (a .left));
               bytes = noted-then (l .events) (a .events) (l .bytes) (subst (λ (es : List Event). Noted e out es (r .written) f) z (w .bytes));
             }
 
-        pub goes-again : length f ≡ length e → length (M .longs) ≡ length (L .longs) → length (M .words) ≡ length (L .words)
-            → length (M .marks) ≡ length (L .marks) → Goes S x most L₀ e₀ (round + 1) (r .written) M f
-        goes-again size longs words marks = record {
+        pub rounds-stand-again : length f ≡ length e → length (M .longs) ≡ length (L .longs) → length (M .words) ≡ length (L .words)
+            → length (M .marks) ≡ length (L .marks) → RoundsStand S x most L₀ e₀ (round + 1) (r .written) M f
+        rounds-stand-again size longs words marks = record {
           few = omega arith;
           short = let s = made .refused q in let h = g .short in omega arith;
           size = size ∙ g .size;
@@ -195,24 +195,24 @@ module _ {S : Settings} {x : Access} {most : ℕ} where
       -- ---- whose offer was accepted
 
       module _ (q : isRefusal (r .reply .first) ≡ false) (few : most ≤ 128) (room : waitRoom ≤ length e₀) where
-        pub goes-accepted : Settles S x most L₀ e₀ record { waiting = wait.Accepted (round + 1) (r .reply .first); written = r .written } f M
+        pub goes-accepted : RoundsSettle S x most L₀ e₀ record { waiting = wait.Accepted (round + 1) (r .reply .first); written = r .written } f M
         unfolding eventsTold
         goes-accepted = record {
           on = λ t₀ i.
               let l = g .leads t₀ i in
               let t = l .tables in
-              let a : Turn Tables = drain (steps S x) t in
+              let a : Turn Tables = outcomeDrain (steps S x) t in
               let w = made .on t (l .are) in
               let (es, u, o) = done-one (access S x (a .left)) (offer-accepted t (l .are) ∙ ap not q) in
-              let all : rounds (steps S x) most t₀ ≡ record { turn = record { events = l .events ++ (a .events ++ es); left = u }; offers = l .offers ++ (done es u ∷ []) } =
+              let all : outcomeRounds (steps S x) most t₀ ≡ record { turn = record { events = l .events ++ (a .events ++ es); left = u }; offers = l .offers ++ (done es u ∷ []) } =
               l .rest
-              ∙ ap (λ (n : ℕ). behind (l .events) (l .offers) (rounds (steps S x) n t)) next
-              ∙ ap (behind (l .events) (l .offers)) (rounds-done S x (most - (round + 1)) t o) in
+              ∙ ap (λ (n : ℕ). behindRounds (l .events) (l .offers) (outcomeRounds (steps S x) n t)) next
+              ∙ ap (behindRounds (l .events) (l .offers)) (rounds-done S x (most - (round + 1)) t o) in
               let reply : eventsTold (r .reply) ≡ es = w .tells ∙ ap eventsOf o in
               let first : r .reply .first ≡ getD es 0 event.Ticked = ap (λ (v : List Event). getD v 0 event.Ticked) reply in
               let laid : Noted e₀ 0 (l .events ++ (a .events ++ es)) (r .written) f =
               noted-then (l .events) (a .events ++ es) (l .bytes) (subst (λ (p : Outcome Tables). Noted e out (a .events ++ took (a .left) p .events) (r .written) f) o (w .bytes)) in
-              let (count, slice, back) = written (l .events ++ (a .events ++ es)) e₀ laid (let s = made .short in let h = g .short in omega arith) in
+              let (count, slice, back) = noted-written (l .events ++ (a .events ++ es)) e₀ laid (let s = made .short in let h = g .short in omega arith) in
               let many : length (l .offers ++ (done es u ∷ [])) ≡ round + 1 = rw length-append (let m = l .made in omega arith) in
               rw (all, last-one (refused SetHeld) (done es u) (l .offers), many, append-nil) record {
                 waiting = ap (wait.Accepted (round + 1)) first;
@@ -226,24 +226,24 @@ module _ {S : Settings} {x : Access} {most : ℕ} where
     -- ---- all refused: 6, by demand 3
 
     module _ (end : most ≤ round) (formed : wellFormed x ≡ true) (enough : Enough S L₀ most) where
-      last-held : (t₀ : Tables) (i : Encodes S L₀ t₀) → lastOf (refused SetHeld) (g .leads t₀ i .offers) ≡ refused SetHeld
+      last-held : (t₀ : Tables) (i : Encodes S L₀ t₀) → lastOffer (refused SetHeld) (g .leads t₀ i .offers) ≡ refused SetHeld
       last-held t₀ i =
           let l = g .leads t₀ i in
           let d = rounds-settled S x t₀ (i .range) (i .soundly) formed in
-          let many : most ≡ suc (waits (steps S x) t₀) = enough .on t₀ i in
+          let many : most ≡ suc (outcomeWaits (steps S x) t₀) = enough .on t₀ i in
           let zero : most - round ≡ 0 = omega arith in
-          let offers : rounds (steps S x) (suc (waits (steps S x) t₀)) t₀ .offers ≡ l .offers =
-          ap (λ (n : ℕ). rounds (steps S x) n t₀ .offers) (sym many)
+          let offers : outcomeRounds (steps S x) (suc (outcomeWaits (steps S x) t₀)) t₀ .offers ≡ l .offers =
+          ap (λ (n : ℕ). outcomeRounds (steps S x) n t₀ .offers) (sym many)
           ∙ ap (λ (r : Run Tables). r .offers) (l .rest)
           ∙ rw (zero, rounds-none S x (l .tables), append-nil) in
           ⊎-elim
           (λ h. clash h (ap (any accepted) offers ∙ l .none))
           (λ h.
-          let w : waits (steps S x) t₀ + 0 ≡ waits (steps S x) t₀ = add-zero (waits (steps S x) t₀) in
-          let k : getD (l .offers) (waits (steps S x) t₀) (done [] t₀) ≡ refused SetHeld =
-          subst (λ (os : List (Outcome Tables)). getD os (waits (steps S x) t₀) (done [] t₀) ≡ refused SetHeld) offers
-          (subst (λ (n : ℕ). getD (rounds (steps S x) (suc n) t₀ .offers) n (done [] t₀) ≡ refused SetHeld) w (h 0)) in
-          last-at (refused SetHeld) (done [] t₀) (l .offers) (waits (steps S x) t₀) (let m = l .made in let f = g .few in omega arith) ∙ k)
+          let w : outcomeWaits (steps S x) t₀ + 0 ≡ outcomeWaits (steps S x) t₀ = add-zero (outcomeWaits (steps S x) t₀) in
+          let k : getD (l .offers) (outcomeWaits (steps S x) t₀) (done [] t₀) ≡ refused SetHeld =
+          subst (λ (os : List (Outcome Tables)). getD os (outcomeWaits (steps S x) t₀) (done [] t₀) ≡ refused SetHeld) offers
+          (subst (λ (n : ℕ). getD (outcomeRounds (steps S x) (suc n) t₀ .offers) n (done [] t₀) ≡ refused SetHeld) w (h 0)) in
+          last-at (refused SetHeld) (done [] t₀) (l .offers) (outcomeWaits (steps S x) t₀) (let m = l .made in let f = g .few in omega arith) ∙ k)
           (d .settles)
 
       -- its refusal fits behind what is written
@@ -265,12 +265,12 @@ module _ {S : Settings} {x : Access} {most : ℕ} where
           omega (arith, held-stored room is s .0, g .short, g .few, enough .few)
 
       pub goes-held-end : (room : waitRoom ≤ length e₀) {reply : Reply} → reply ≡ telling (event.Refused SetHeld) → {n : ℕ} {f : List ℕ}
-          → Stored e out (logBytes (eventsTold reply)) n f → Settles S x most L₀ e₀ record { waiting = wait.Held; written = out + n } f L
+          → Stored e out (logBytes (eventsTold reply)) n f → RoundsSettle S x most L₀ e₀ record { waiting = wait.Held; written = out + n } f L
       goes-held-end room {reply} is {n} {f} s = record {
         on = λ t₀ i.
             let l = g .leads t₀ i in
             let zero : most - round ≡ 0 = omega arith in
-            let all : rounds (steps S x) most t₀ ≡ record { turn = record { events = l .events; left = l .tables }; offers = l .offers } =
+            let all : outcomeRounds (steps S x) most t₀ ≡ record { turn = record { events = l .events; left = l .tables }; offers = l .offers } =
             l .rest ∙ rw (zero, rounds-none S x (l .tables), append-nil, append-nil) in
             let two : length (logBytes (event.Refused SetHeld ∷ [])) ≡ 2 = held-length in
             let (more, slice) = held-stored room is s in
@@ -279,6 +279,6 @@ module _ {S : Settings} {x : Access} {most : ℕ} where
             let few = enough .few in
             let laid : Noted e₀ 0 (l .events ++ (event.Refused SetHeld ∷ [])) (out + n) f =
             noted-then (l .events) (event.Refused SetHeld ∷ []) (l .bytes) record { next = omega arith; slice = slice; fits = (tt, tt) } in
-            let (count, events, back) = written (l .events ++ (event.Refused SetHeld ∷ [])) e₀ laid (omega arith) in
+            let (count, events, back) = noted-written (l .events ++ (event.Refused SetHeld ∷ [])) e₀ laid (omega arith) in
             rw (all, last-held t₀ i) record { waiting = refl; written = count; events = events; reads = back; left = l .are .encoded };
       }

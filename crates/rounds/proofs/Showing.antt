@@ -18,7 +18,7 @@ use Rattle.model.specs.Inner.{Encodes, SoundSlices, Does}
 use Rattle.model.specs.RecordsOf as records
 use Rattle.model.specs.Records.{logBytes, fillBytes}
 use Rattle.model.specs.Rounds.{Turn, still, andThen, isEmpty}
-use Rattle.model.specs.Seen.{accepts, sendTurn, fillFirst, drain, seen, callActs}
+use Rattle.model.specs.Seen.{accepts, sendTurn, fillFirst, drain, seen, seenCalls}
 use Rattle.model.specs.declared.Settings.{Settings}
 use Rattle.model.specs.declared.Queued.{Queued}
 use Rattle.model.specs.declared.Access.{Access}
@@ -93,27 +93,27 @@ module _ (S : Settings) {L : Lent} (h : SoundSlices S L) where
     pub send-room : length (logBytes (eventsTold r)) ≤ 25
     send-room = send-bytes S (call-does S send l) h
 
-    pub sends : {b : Bool} → Queueless S L b → b ≡ false → {e : List ℕ} {out w : ℕ} {f : List ℕ} → Noted e out (eventsTold r) w f → SeesSend S L e out w f M
+    pub sees-send : {b : Bool} → Queueless S L b → b ≡ false → {e : List ℕ} {out w : ℕ} {f : List ℕ} → Noted e out (eventsTold r) w f → SeesSend S L e out w f M
     unfolding sendTurn
-    sends q is n =
+    sees-send q is n =
         let z : isEmpty (tablesOf S L .queue) ≡ false = sym (q .is) ∙ is in
         let k = send-room in
         record { on = λ x. rw z (call-sees S send l h (send-keeps-sound S (h .tables) (h .are .soundly)) n); short = omega (arith, n .next) }
 
 -- ---- the fill
 
-abbrev fillAt : Settings → Lent → Sent → Turn Lent
-fillAt S L (At a) = seen L (fillCall S a L)
-fillAt S L Nothing = still L
+abbrev seenFillAt : Settings → Lent → Sent → Turn Lent
+seenFillAt S L (At a) = seen L (fillCall S a L)
+seenFillAt S L Nothing = still L
 
-fill-first : (S : Settings) (x : Access) (es : List Entry) (L : Lent) → fillFirst (callActs S x) es L ≡ fillAt S L (firstSent es)
+fill-first : (S : Settings) (x : Access) (es : List Entry) (L : Lent) → fillFirst (seenCalls S x) es L ≡ seenFillAt S L (firstSent es)
 unfolding fillFirst
 fill-first S x [] L = refl
 fill-first S x (y ∷ es) L = ⊎-elim (λ q. rw q) (λ q. rw q (fill-first S x es L)) (flag (y .sent))
 
 module _ (S : Settings) {L : Lent} (h : SoundSlices S L) {v : Sent} (found : FindsSent S L v) where
-  fill-at : (x : Access) {w : Sent} → v ≡ w → fillFirst (callActs S x) (tablesOf S L .misses) L ≡ fillAt S L w
-  fill-at x e = fill-first S x (tablesOf S L .misses) L ∙ ap (fillAt S L) (sym (found .on (tablesOf S L) (is-read-off S h)) ∙ e)
+  fill-at : (x : Access) {w : Sent} → v ≡ w → fillFirst (seenCalls S x) (tablesOf S L .misses) L ≡ seenFillAt S L w
+  fill-at x e = fill-first S x (tablesOf S L .misses) L ∙ ap (seenFillAt S L) (sym (found .on (tablesOf S L) (is-read-off S h)) ∙ e)
 
   pub no-fill : v ≡ Nothing → (e : List ℕ) (out : ℕ) → SeesFill S L e out out e L
   no-fill q e out = record { on = λ x. rw (fill-at x q) (still-sees S h e out); short = omega arith }
@@ -140,7 +140,7 @@ module _ (S : Settings) {L : Lent} {e : List ℕ} {out w : ℕ} {f : List ℕ} {
   pub drains : SeesSend S L e out w f M → {v : ℕ} {g : List ℕ} {N : Lent} → SeesFill S M f w v g N → SeesDrain S L e out v g N
   unfolding drain
   drains s t = record {
-    on = λ x. sees-then S (λ u. fillFirst (callActs S x) (tablesOf S u .misses) u) (s .on x) (t .on x);
+    on = λ x. sees-then S (λ u. fillFirst (seenCalls S x) (tablesOf S u .misses) u) (s .on x) (t .on x);
     short = omega (arith, s .short, t .short);
   }
 
@@ -152,9 +152,9 @@ module _ (S : Settings) {L : Lent} {e : List ℕ} {out w : ℕ} {f : List ℕ} {
       pub offer-room : length (logBytes (eventsTold r)) ≤ 38
       offer-room = offer-bytes S x (call-does S (access S x) l) drained
 
-      pub offers : maskOf x ≤ allOnes → {z : ℕ} {h : List ℕ} → Noted f w (eventsTold r) z h → {b : Bool} → b ≡ not (isRefusal (r .first))
+      pub sees-offer : maskOf x ≤ allOnes → {z : ℕ} {h : List ℕ} → Noted f w (eventsTold r) z h → {b : Bool} → b ≡ not (isRefusal (r .first))
           → SeesRound S x L e out record { taken = b; written = z } h N
-      offers small n taken =
+      sees-offer small n taken =
           let k = offer-room in
           let o = accessCall S x M in
           let clear = calls-clear S x .offers M in

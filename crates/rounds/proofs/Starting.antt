@@ -27,7 +27,7 @@ use Rattle.soundness.specs.declared.LaidVerdict.the-variants as laid
 use Rattle.soundness.proofs.Checked.{says-passed, passed-laid}
 use Rattle.rounds.specs.declared.Went.{Went}
 use Rattle.rounds.specs.declared.Went.the-variants as went
-use Rattle.rounds.specs.Demand3.{shown, formed, startCall, roundsCall, flagsCall, struckCall}
+use Rattle.rounds.specs.Demand3.{roundsShown, formed, startCall, roundsCall, flagsCall, struckCall}
 use Rattle.rounds.specs.Parts.{MayRun, RunsOn, StrikesOn}
 
 never : {X : Type 0} {n : Refusal} → verdict.Refused n ≡ verdict.Passed → X
@@ -81,17 +81,17 @@ module _ {S : Settings} {x : Access} {L : Lent} {v : LaidVerdict} (m : MayRun S 
   -- ---- the rounds
 
   module _ (n : ℕ) (fl e : List ℕ) where
-    pub rounds-refused : {k : Refusal} → v ≡ laid.Refused k → (shown (went.Refused k) L e ≡ roundsCall S x n L fl e) × (fl ≡ flagsCall S x n L fl e)
+    pub rounds-refused : {k : Refusal} → v ≡ laid.Refused k → (roundsShown (went.Refused k) L e ≡ roundsCall S x n L fl e) × (fl ≡ flagsCall S x n L fl e)
     unfolding roundsCall flagsCall
     rounds-refused is = (rw (start-is is), rw (start-is is))
 
     module _ {at : Layout} (is : v ≡ laid.Passed at) where
-      pub few-flags : length fl < n → (shown went.NoRoom L e ≡ roundsCall S x n L fl e) × (fl ≡ flagsCall S x n L fl e)
+      pub few-flags : length fl < n → (roundsShown went.NoRoom L e ≡ roundsCall S x n L fl e) × (fl ≡ flagsCall S x n L fl e)
       unfolding roundsCall flagsCall
       few-flags h = let a = lt-leb n (length fl) h in let (es, M, o) = start-ok is in (rw (o, a), rw (o, a))
 
       module _ (flags : n ≤ length fl) where
-        pub few-bytes : length e / roundBytes < n → (shown went.NoRoom L e ≡ roundsCall S x n L fl e) × (fl ≡ flagsCall S x n L fl e)
+        pub few-bytes : length e / roundBytes < n → (roundsShown went.NoRoom L e ≡ roundsCall S x n L fl e) × (fl ≡ flagsCall S x n L fl e)
         unfolding roundsCall flagsCall
         few-bytes h =
             let a = le-leb n (length fl) flags in
@@ -100,7 +100,7 @@ module _ {S : Settings} {x : Access} {L : Lent} {v : LaidVerdict} (m : MayRun S 
             (rw (o, a, b), rw (o, a, b))
 
         pub rounds-ran : n ≤ length e / roundBytes → {r : Went} {M : Lent} {gl f : List ℕ} → RunsOn S x n L fl e r M gl f
-            → (shown r M f ≡ roundsCall S x n L fl e) × (gl ≡ flagsCall S x n L fl e)
+            → (roundsShown r M f ≡ roundsCall S x n L fl e) × (gl ≡ flagsCall S x n L fl e)
         unfolding roundsCall flagsCall
         rounds-ran room t =
             let a = le-leb n (length fl) flags in
@@ -111,15 +111,15 @@ module _ {S : Settings} {x : Access} {L : Lent} {v : LaidVerdict} (m : MayRun S 
   -- ---- the struck rounds
 
   module _ (fl e : List ℕ) where
-    pub struck-refused : {k : Refusal} → v ≡ laid.Refused k → shown (went.Refused k) L e ≡ struckCall S x L fl e
+    pub struck-refused : {k : Refusal} → v ≡ laid.Refused k → roundsShown (went.Refused k) L e ≡ struckCall S x L fl e
     unfolding struckCall
     struck-refused is = rw (start-is is)
 
     module _ {at : Layout} (is : v ≡ laid.Passed at) where
-      pub few-struck : length e / roundBytes < length fl → shown went.NoRoom L e ≡ struckCall S x L fl e
+      pub few-struck : length e / roundBytes < length fl → roundsShown went.NoRoom L e ≡ struckCall S x L fl e
       unfolding struckCall
       few-struck h = let (es, M, o) = start-ok is in rw (o, lt-leb (length fl) (length e / roundBytes) h)
 
-      pub struck-ran : length fl ≤ length e / roundBytes → {r : Went} {M : Lent} {f : List ℕ} → StrikesOn S x L fl e r M f → shown r M f ≡ struckCall S x L fl e
+      pub struck-ran : length fl ≤ length e / roundBytes → {r : Went} {M : Lent} {f : List ℕ} → StrikesOn S x L fl e r M f → roundsShown r M f ≡ struckCall S x L fl e
       unfolding struckCall
       struck-ran room t = let (es, M, o) = start-ok is in rw (o, le-leb (length fl) (length e / roundBytes) room) (t .shows)

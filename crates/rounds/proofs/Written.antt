@@ -17,9 +17,9 @@ pub reads-back : (es : List Event) (e : List ℕ) → AllFitting es → {w : ℕ
 reads-back es e fits count slice =
     rw (count, slice, take-at (logBytes es) (drop (length (logBytes es)) e) (length (logBytes es)) refl) (log-back es fits)
 
-pub written : (es : List Event) (e : List ℕ) {w : ℕ} {f : List ℕ} → Noted e 0 es w f → w ≤ length e
+pub noted-written : (es : List Event) (e : List ℕ) {w : ℕ} {f : List ℕ} → Noted e 0 es w f → w ≤ length e
     → (w ≡ length (logBytes es)) × (f ≡ logBytes es ++ drop (length (logBytes es)) e) × (eventsIn (take w f) ≡ parsed es)
-written es e {w} {f} n h =
+noted-written es e {w} {f} n h =
     let count : w ≡ length (logBytes es) = omega (arith, n .next) in
     let slice : f ≡ logBytes es ++ drop (length (logBytes es)) e = n .slice ∙ sets-eq (logBytes es) e 0 (omega (arith, n .next)) ∙ rw zero-add in
     (count, slice, reads-back es e (n .fits) count slice)

@@ -14,7 +14,7 @@ use Rattle.model.specs.Address.{wellFormed}
 use Rattle.model.specs.Calls.{checkCall}
 use Rattle.model.specs.Records.{logBytes, Parsed, parsed, eventsIn, roundBytes}
 use Rattle.model.specs.Rounds.{Turn}
-use Rattle.model.specs.Seen.{but11, marks, rounds, struck, waits, callActs}
+use Rattle.model.specs.Seen.{but11, marks, rounds, struck, waits, seenCalls}
 use Rattle.model.specs.declared.Settings.{Settings}
 use Rattle.model.specs.declared.Access.{Access}
 use Rattle.model.specs.declared.Refusal.the-variants.{BadAccess, SetHeld}
@@ -26,7 +26,7 @@ use Rattle.rounds.specs.declared.Went.the-variants.{Ran, Refused, NoRoom
 -- ---- the two calls
 
 -- what a call returns and leaves: its value, the slices, the event room, and what the bytes that it wrote read back as
-pub record Shown : Type 0 where
+pub record RoundsShown : Type 0 where
   pub went : Went
   pub left : Lent
   pub room : List ℕ
@@ -37,11 +37,11 @@ writtenIn (Ran k w) f = take w f
 writtenIn (Refused n) f = []
 writtenIn NoRoom f = []
 
-abbrev pub shown : Went → Lent → List ℕ → Shown
-shown r L f = record { went = r; left = L; room = f; told = eventsIn (writtenIn r f) }
+abbrev pub roundsShown : Went → Lent → List ℕ → RoundsShown
+roundsShown r L f = record { went = r; left = L; room = f; told = eventsIn (writtenIn r f) }
 
 -- k rounds that came to a: every event, 0x11 too, at the start of the room; "Event bytes beyond those written are unchanged."
-abbrev pub ranTo : ℕ → Turn Lent → List ℕ → Shown
+abbrev pub ranTo : ℕ → Turn Lent → List ℕ → RoundsShown
 ranTo k a e = record {
   went = Ran k (length (logBytes (a .events)));
   left = a .left;
@@ -54,8 +54,8 @@ abbrev pub roomFor : ℕ → List ℕ → Bool
 roomFor n e = leb n (length e / roundBytes)
 
 -- a flag that is 1 marks an accepted offer
-abbrev pub marked : List ℕ → List Bool
-marked fl = map (λ b. eqb b 1) fl
+abbrev pub flagsMarked : List ℕ → List Bool
+flagsMarked fl = map (λ b. eqb b 1) fl
 
 -- refusals 1, 2 and 3, then 4, before the first round
 abbrev pub formed : Access → Lent → Outcome Lent → Outcome Lent
@@ -67,30 +67,30 @@ startCall S x L = formed x L (checkCall S L)
 
 module _ (S : Settings) (x : Access) where
   -- refusals come first, then too few flags or bytes
-  abbrev pub roundsChecked : ℕ → Lent → List ℕ → List ℕ → Outcome Lent → Shown
-  roundsChecked n L fl e (refused k) = shown (Refused k) L e
+  abbrev pub roundsChecked : ℕ → Lent → List ℕ → List ℕ → Outcome Lent → RoundsShown
+  roundsChecked n L fl e (refused k) = roundsShown (Refused k) L e
   roundsChecked n L fl e (done es M) =
-      pick (leb n (length fl) && roomFor n e) (ranTo (length (rounds (callActs S x) n L .offers)) (rounds (callActs S x) n L .turn) e) (shown NoRoom L e)
+      pick (leb n (length fl) && roomFor n e) (ranTo (length (rounds (seenCalls S x) n L .offers)) (rounds (seenCalls S x) n L .turn) e) (roundsShown NoRoom L e)
 
   -- n rounds at most, until the access is accepted
-  unfoldable pub roundsCall : ℕ → Lent → List ℕ → List ℕ → Shown
+  unfoldable pub roundsCall : ℕ → Lent → List ℕ → List ℕ → RoundsShown
   roundsCall n L fl e = roundsChecked n L fl e (startCall S x L)
 
   -- the flags after them: 1 for each round whose offer was accepted, 0 for each other; those beyond are unchanged
   abbrev pub flagsChecked : ℕ → Lent → List ℕ → List ℕ → Outcome Lent → List ℕ
   flagsChecked n L fl e (refused k) = fl
   flagsChecked n L fl e (done es M) =
-      pick (leb n (length fl) && roomFor n e) (map bit (marks (rounds (callActs S x) n L)) ++ drop (length (rounds (callActs S x) n L .offers)) fl) fl
+      pick (leb n (length fl) && roomFor n e) (map bit (marks (rounds (seenCalls S x) n L)) ++ drop (length (rounds (seenCalls S x) n L .offers)) fl) fl
 
   unfoldable pub flagsCall : ℕ → Lent → List ℕ → List ℕ → List ℕ
   flagsCall n L fl e = flagsChecked n L fl e (startCall S x L)
 
-  abbrev pub struckChecked : Lent → List ℕ → List ℕ → Outcome Lent → Shown
-  struckChecked L fl e (refused k) = shown (Refused k) L e
-  struckChecked L fl e (done es M) = pick (roomFor (length fl) e) (ranTo (length fl) (struck (callActs S x) (marked fl) L) e) (shown NoRoom L e)
+  abbrev pub struckChecked : Lent → List ℕ → List ℕ → Outcome Lent → RoundsShown
+  struckChecked L fl e (refused k) = roundsShown (Refused k) L e
+  struckChecked L fl e (done es M) = pick (roomFor (length fl) e) (ranTo (length fl) (struck (seenCalls S x) (flagsMarked fl) L) e) (roundsShown NoRoom L e)
 
   -- a struck round for each flag
-  unfoldable pub struckCall : Lent → List ℕ → List ℕ → Shown
+  unfoldable pub struckCall : Lent → List ℕ → List ℕ → RoundsShown
   struckCall L fl e = struckChecked L fl e (startCall S x L)
 
 -- ---- demand 3 of the two calls
@@ -100,8 +100,8 @@ module _ (S : Settings) (x : Access) where
 pub record SameRuns (k : ℕ) (r₁ : Went) (M₁ : Lent) (e f₁ : List ℕ) (r₂ : Went) (M₂ : Lent) (d f₂ : List ℕ) : Type 0 where
   pub told : List Event
   pub struck : List Event
-  pub first : shown r₁ M₁ f₁ ≡ ranTo k record { events = told; left = M₁ } e
-  pub second : shown r₂ M₂ f₂ ≡ ranTo k record { events = struck; left = M₂ } d
+  pub first : roundsShown r₁ M₁ f₁ ≡ ranTo k record { events = told; left = M₁ } e
+  pub second : roundsShown r₂ M₂ f₂ ≡ ranTo k record { events = struck; left = M₂ } d
   pub left : M₂ ≡ M₁
   pub events : but11 struck ≡ but11 told
 
@@ -121,4 +121,4 @@ pub record HeldOn (most n k : ℕ) (gl : List ℕ) (offers : List (List Event)) 
 -- of a run of n rounds on L that ran k and left the flags gl
 abbrev pub Settled : Settings → Access → Lent → ℕ → ℕ → List ℕ → Type 0
 Settled S x L n k gl =
-    InTime (suc (waits (callActs S x) L)) k gl ⊎ HeldOn (suc (waits (callActs S x) L)) n k gl (rounds (callActs S x) n L .offers)
+    InTime (suc (waits (seenCalls S x) L)) k gl ⊎ HeldOn (suc (waits (seenCalls S x) L)) n k gl (rounds (seenCalls S x) n L .offers)

@@ -11,9 +11,8 @@ use Rattle.model.specs.Tables.{Tables}
 use Rattle.model.specs.Lent.{Lent, bit, encode, tablesOf}
 use Rattle.model.specs.Calls.{verdictOf}
 use Rattle.model.specs.Inner.{Encodes, SoundSlices}
-use Rattle.model.specs.Rounds as inner
-use Rattle.model.specs.Rounds.{steps, Turn, still, andThen, isEmpty}
-use Rattle.model.specs.Seen.{Acts, accepts, marks, sendTurn, fillFirst, drain, rounds, struck, callActs}
+use Rattle.model.specs.Rounds.{steps, Turn, still, andThen, isEmpty, outcomeRounds}
+use Rattle.model.specs.Seen.{SeenCalls, accepts, marks, sendTurn, fillFirst, drain, rounds, struck, seenCalls}
 use Rattle.model.specs.declared.Settings.{Settings}
 use Rattle.model.specs.declared.Access.{Access}
 use Rattle.model.specs.declared.Refusal.{Refusal}
@@ -28,7 +27,7 @@ use Rattle.rounds.specs.declared.Waited.{Waited}
 use Rattle.rounds.specs.declared.Went.{Went}
 use Rattle.rounds.specs.declared.Offer.{Offer}
 use Rattle.rounds.specs.Waiting.{Wait, settled, turnedAway, waitCall, Waits}
-use Rattle.rounds.specs.Demand3.{shown, ranTo, marked, startCall}
+use Rattle.rounds.specs.Demand3.{roundsShown, ranTo, flagsMarked, startCall}
 
 -- ---- the rounds of `wait`
 
@@ -36,8 +35,8 @@ abbrev pub lentWait : Settings → Wait Tables → Wait Lent
 lentWait S w = record { waiting = w .waiting; events = w .events; left = encode S (w .left) }
 
 -- n rounds at most, on sound tables
-pub record Settles (S : Settings) (x : Access) (n : ℕ) (L : Lent) (e : List ℕ) (r : Waited) (f : List ℕ) (M : Lent) : Type 0 where
-  pub on : (t : Tables) → Encodes S L t → Waits (lentWait S (settled (inner.rounds (steps S x) n t))) e r f M
+pub record RoundsSettle (S : Settings) (x : Access) (n : ℕ) (L : Lent) (e : List ℕ) (r : Waited) (f : List ℕ) (M : Lent) : Type 0 where
+  pub on : (t : Tables) → Encodes S L t → Waits (lentWait S (settled (outcomeRounds (steps S x) n t))) e r f M
 
 -- ---- the checks before them
 
@@ -69,38 +68,38 @@ pub record Sees (S : Settings) (a : Turn Lent) (e : List ℕ) (out w : ℕ) (f :
 
 -- a round's send, its fill, both, whatever is offered
 pub record SeesSend (S : Settings) (L : Lent) (e : List ℕ) (out w : ℕ) (f : List ℕ) (M : Lent) : Type 0 where
-  pub on : (x : Access) → Sees S (sendTurn (callActs S x) L) e out w f M
+  pub on : (x : Access) → Sees S (sendTurn (seenCalls S x) L) e out w f M
   pub short : w ≤ out + 25
 
 pub record SeesFill (S : Settings) (L : Lent) (e : List ℕ) (out w : ℕ) (f : List ℕ) (M : Lent) : Type 0 where
-  pub on : (x : Access) → Sees S (fillFirst (callActs S x) (tablesOf S L .misses) L) e out w f M
+  pub on : (x : Access) → Sees S (fillFirst (seenCalls S x) (tablesOf S L .misses) L) e out w f M
   pub short : w ≤ out + fillBytes
 
 pub record SeesDrain (S : Settings) (L : Lent) (e : List ℕ) (out w : ℕ) (f : List ℕ) (M : Lent) : Type 0 where
-  pub on : (x : Access) → Sees S (drain (callActs S x) L) e out w f M
+  pub on : (x : Access) → Sees S (drain (seenCalls S x) L) e out w f M
   pub short : w ≤ out + settleBytes
 
 -- a round: its send, its fill, its offer
-abbrev pub roundTurn : Acts Lent → Lent → Turn Lent
+abbrev pub roundTurn : SeenCalls Lent → Lent → Turn Lent
 roundTurn C L = andThen (drain C L) (λ u. C .offers u)
 
 pub record SeesRound (S : Settings) (x : Access) (L : Lent) (e : List ℕ) (out : ℕ) (r : Offer) (f : List ℕ) (M : Lent) : Type 0 where
-  pub on : Sees S (roundTurn (callActs S x) L) e out (r .written) f M
-  pub taken : r .taken ≡ accepts (callActs S x .offers (drain (callActs S x) L .left) .events)
+  pub on : Sees S (roundTurn (seenCalls S x) L) e out (r .written) f M
+  pub taken : r .taken ≡ accepts (seenCalls S x .offers (drain (seenCalls S x) L .left) .events)
   pub short : r .written ≤ out + roundBytes
 
 -- a round of the struck rounds
-abbrev pub struckTurn : Acts Lent → Bool → Lent → Turn Lent
+abbrev pub struckTurn : SeenCalls Lent → Bool → Lent → Turn Lent
 struckTurn C m L = andThen (drain C L) (λ u. pick m (C .offers u) (still u))
 
 pub record SeesStruck (S : Settings) (x : Access) (m : Bool) (L : Lent) (e : List ℕ) (out w : ℕ) (f : List ℕ) (M : Lent) : Type 0 where
-  pub on : Sees S (struckTurn (callActs S x) m L) e out w f M
+  pub on : Sees S (struckTurn (seenCalls S x) m L) e out w f M
   pub short : w ≤ out + roundBytes
 
 -- the rounds, and the struck rounds, behind the checks
 pub record RunsOn (S : Settings) (x : Access) (n : ℕ) (L : Lent) (fl e : List ℕ) (r : Went) (M : Lent) (gl f : List ℕ) : Type 0 where
-  pub shows : shown r M f ≡ ranTo (length (rounds (callActs S x) n L .offers)) (rounds (callActs S x) n L .turn) e
-  pub flags : gl ≡ map bit (marks (rounds (callActs S x) n L)) ++ drop (length (rounds (callActs S x) n L .offers)) fl
+  pub shows : roundsShown r M f ≡ ranTo (length (rounds (seenCalls S x) n L .offers)) (rounds (seenCalls S x) n L .turn) e
+  pub flags : gl ≡ map bit (marks (rounds (seenCalls S x) n L)) ++ drop (length (rounds (seenCalls S x) n L .offers)) fl
 
 pub record StrikesOn (S : Settings) (x : Access) (L : Lent) (fl e : List ℕ) (r : Went) (M : Lent) (f : List ℕ) : Type 0 where
-  pub shows : shown r M f ≡ ranTo (length fl) (struck (callActs S x) (marked fl) L) e
+  pub shows : roundsShown r M f ≡ ranTo (length fl) (struck (seenCalls S x) (flagsMarked fl) L) e

@@ -13,7 +13,7 @@ use Rattle.model.specs.Calls.{checkCall}
 use Rattle.model.specs.Records.{logBytes, parsed, eventsIn}
 pub use Rattle.model.specs.Records.{waitRoom}
 use Rattle.model.specs.Rounds.{Run}
-use Rattle.model.specs.Seen.{accepts, but11, Course, rounds, waits, callActs}
+use Rattle.model.specs.Seen.{accepts, but11, Course, rounds, waits, seenCalls}
 use Rattle.model.specs.declared.Settings.{Settings}
 use Rattle.model.specs.declared.Access.{Access}
 use Rattle.model.specs.declared.Refusal.{Refusal}
@@ -54,22 +54,22 @@ module _ {T : Type 0} where
 
 -- the same of rounds whose calls come to outcomes, which the inner functions speak of
 module _ {T : Type 0} where
-  abbrev pub lastOf : Outcome T → List (Outcome T) → Outcome T
-  lastOf o [] = o
-  lastOf o (p ∷ ps) = lastOf p ps
+  abbrev pub lastOffer : Outcome T → List (Outcome T) → Outcome T
+  lastOffer o [] = o
+  lastOffer o (p ∷ ps) = lastOffer p ps
 
   abbrev pub waitingOf : ℕ → Outcome T → Waiting
   waitingOf n (refused k) = Held
   waitingOf n (done es u) = Accepted n (getD es 0 event.Ticked)
 
-  abbrev pub refusalOf : Outcome T → List Event
-  refusalOf (refused k) = event.Refused k ∷ []
-  refusalOf (done es u) = []
+  abbrev pub refusalTold : Outcome T → List Event
+  refusalTold (refused k) = event.Refused k ∷ []
+  refusalTold (done es u) = []
 
   abbrev pub settled : Run T → Wait T
   settled r = record {
-    waiting = waitingOf (length (r .offers)) (lastOf (refused SetHeld) (r .offers));
-    events = r .turn .events ++ refusalOf (lastOf (refused SetHeld) (r .offers));
+    waiting = waitingOf (length (r .offers)) (lastOffer (refused SetHeld) (r .offers));
+    events = r .turn .events ++ refusalTold (lastOffer (refused SetHeld) (r .offers));
     left = r .turn .left;
   }
 
@@ -79,7 +79,7 @@ module _ {T : Type 0} where
 
 -- "no later than round q + m (round 1 if both are 0)"
 abbrev pub enoughRounds : Settings → Access → Lent → Wait Lent
-enoughRounds S x L = comesTo (rounds (callActs S x) (suc (waits (callActs S x) L)) L)
+enoughRounds S x L = comesTo (rounds (seenCalls S x) (suc (waits (seenCalls S x) L)) L)
 
 abbrev pub waitChecked : Settings → Access → Lent → Outcome Lent → Wait Lent
 waitChecked S x L (refused n) = turnedAway n L

@@ -21,7 +21,7 @@ ghost use Rattle.model.specs.Inner.{SoundSlices};
 ghost use Rattle.model.specs.Records.{logBytes, fillBytes, roundBytes, settleBytes};
 ghost use Rattle.layout.specs.Layout.{LaysOut};
 ghost use Rattle.turns.specs.Parts.{Noted};
-ghost use Rattle.rounds.specs.Demand3.{shown, roundsCall, flagsCall, struckCall};
+ghost use Rattle.rounds.specs.Demand3.{roundsShown, roundsCall, flagsCall, struckCall};
 ghost use Rattle.rounds.specs.Parts.{Queueless, SeesSend, SeesFill, SeesDrain, SeesRound, SeesStruck, RunsOn, StrikesOn, MayRun};
 
 // Writes every event of a call behind `out` bytes.
@@ -256,7 +256,7 @@ pub fn run_rounds(
     flags: &mut [u8],
     events: &mut [u8],
 ) -> Went
-    ensures { λ r. ⌜ shown r (lent (now (longs .exit)) (now (words .exit)) (now (marks .exit))) (now (events .exit))
+    ensures { λ r. ⌜ roundsShown r (lent (now (longs .exit)) (now (words .exit)) (now (marks .exit))) (now (events .exit))
         ≡ roundsCall s x n (lent (now (longs .entry)) (now (words .entry)) (now (marks .entry))) (now (flags .entry)) (now (events .entry)) ⌝ }
     ensures { λ _. ⌜ now (flags .exit)
         ≡ flagsCall s x n (lent (now (longs .entry)) (now (words .entry)) (now (marks .entry))) (now (flags .entry)) (now (events .entry)) ⌝ }
@@ -285,7 +285,7 @@ pub fn run_struck(
     flags: &[u8],
     events: &mut [u8],
 ) -> Went
-    ensures { λ r. ⌜ shown r (lent (now (longs .exit)) (now (words .exit)) (now (marks .exit))) (now (events .exit))
+    ensures { λ r. ⌜ roundsShown r (lent (now (longs .exit)) (now (words .exit)) (now (marks .exit))) (now (events .exit))
         ≡ struckCall s x (lent (now (longs .entry)) (now (words .entry)) (now (marks .entry))) (now (flags .entry)) (now (events .entry)) ⌝ }
 {
     match may_run(s, longs, words, marks, x) {

@@ -22,7 +22,7 @@ ghost use Rattle.model.specs.Inner.{SoundSlices};
 ghost use Rattle.layout.specs.Layout.{LaysOut};
 ghost use Rattle.turns.specs.Parts.{Enough};
 ghost use Rattle.rounds.specs.Waiting.{waitWithin, Waits};
-ghost use Rattle.rounds.specs.Parts.{TurnsAway, Settles, WaitsHeld};
+ghost use Rattle.rounds.specs.Parts.{TurnsAway, RoundsSettle, WaitsHeld};
 
 // What waiting comes to. Accepted: the round, counted from 1, and the answer. Held: refused as 6 in the last round, and in every round
 // that could follow. Refused: 1 to 4, before the first round. NoRoom: fewer bytes of event room than any wait can need.
@@ -79,7 +79,7 @@ fn wait_rounds(
     requires { ⌜ LaysOut s at × SoundSlices s (lent (now longs) (now words) (now marks)) ⌝ }
     requires { ⌜ (wellFormed x ≡ true) × (maskOf x ≤ allOnes) × (waitRoom ≤ length (now events)) ⌝ }
     requires { ⌜ Enough s (lent (now longs) (now words) (now marks)) most ⌝ }
-    ensures { λ r. ⌜ Settles s x most (lent (now (longs .entry)) (now (words .entry)) (now (marks .entry))) (now (events .entry)) r
+    ensures { λ r. ⌜ RoundsSettle s x most (lent (now (longs .entry)) (now (words .entry)) (now (marks .entry))) (now (events .entry)) r
         (now (events .exit)) (lent (now (longs .exit)) (now (words .exit)) (now (marks .exit))) ⌝ }
 {
     let mut round = 0;

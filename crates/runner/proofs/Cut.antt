@@ -15,7 +15,7 @@ use Rattle.model.specs.Lent.{Lent, tablesOf, encode}
 use Rattle.model.specs.Sound.{sound}
 use Rattle.model.specs.Records.{bytes, lengthOf}
 use Rattle.model.specs.RunnerOf as runner
-use Rattle.model.specs.Runner.{settingsOf, firstStop, keptStop, goesOn, Result, ahead, runFrom, lentResult, run, resume, Runs}
+use Rattle.model.specs.Runner.{settingsOf, firstStop, keptStop, goesOn, Result, bytesThen, runFrom, lentResult, run, resume, Runs}
 use Rattle.model.specs.declared.Settings.{Settings}
 use Rattle.model.specs.declared.Stop.the-variants.{NoRoom}
 use Rattle.model.specs.declared.Ran.{Ran}
@@ -23,30 +23,30 @@ use Rattle.model.proofs.Soundness.{start-sound}
 use Rattle.model.proofs.RunSound.{run-from-keeps-sound}
 use Rattle.encoding.proofs.DecodeIsSound.{Small}
 use Rattle.encoding.proofs.RunGoesOn.{kept-is, resume-goes, resume-is}
-use Rattle.running.proofs.First.{settled, run-accepts}
+use Rattle.running.proofs.First.{first-settled, run-accepts}
 use Rattle.running.proofs.Running.{run-skips}
 use Rattle.running.proofs.Parts.{goes-first, settings-more, first-more, run-cut}
 
 -- ---- on tables
 
-ahead-twice : (m n : ℕ) (es : List ℕ) (o : Result Lent) → ahead m [] (ahead n es o) ≡ ahead (m + n) es o
+ahead-twice : (m n : ℕ) (es : List ℕ) (o : Result Lent) → bytesThen m [] (bytesThen n es o) ≡ bytesThen (m + n) es o
 ahead-twice m n es o = rw add-assoc
 
 module _ (S : Settings) (range : inRange S ≡ true) (t : Tables) (room before behind : ℕ) (a b : List ℕ) where
   -- the part before
-  abbrev part : Result Tables
-  part = runFrom S 0 before a t
+  abbrev partRun : Result Tables
+  partRun = runFrom S 0 before a t
 
   -- the part behind it, on the slices that it left
   abbrev rest : Result Lent
-  rest = resume S behind b (encode S (part .tables))
+  rest = resume S behind b (encode S (partRun .tables))
 
-  cut : sound S (part .tables) ≡ true → goesOn (part .stop) ≡ true → (rest .stop ≡ NoRoom → ⊥) → (runFrom S 0 room (a ++ b) t .stop ≡ NoRoom → ⊥)
-      → lentResult S (runFrom S 0 room (a ++ b) t) ≡ ahead (part .consumed) (part .events) rest
+  cut : sound S (partRun .tables) ≡ true → goesOn (partRun .stop) ≡ true → (rest .stop ≡ NoRoom → ⊥) → (runFrom S 0 room (a ++ b) t .stop ≡ NoRoom → ⊥)
+      → lentResult S (runFrom S 0 room (a ++ b) t) ≡ bytesThen (partRun .consumed) (partRun .events) rest
   cut ok e g h =
-      let r = resume-is S behind b (encode S (part .tables)) (part .tables) record { range = range; soundly = ok; encoded = refl } in
+      let r = resume-is S behind b (encode S (partRun .tables)) (partRun .tables) record { range = range; soundly = ok; encoded = refl } in
       ap (lentResult S) (run-cut S room before behind a b t e (λ q. g (ap (λ (o : Result Lent). o .stop) r ∙ q)) h)
-      ∙ ap (ahead (part .consumed) (part .events)) (sym r)
+      ∙ ap (bytesThen (partRun .consumed) (partRun .events)) (sym r)
 
 -- ---- what stopped with 0 passed its checks
 
@@ -64,7 +64,7 @@ module _ (S : Settings) (room before behind : ℕ) (a b : List ℕ) (L : Lent) w
   pub resume-then : Small L → bytes a ≡ true → goesOn (resume S before a L .stop) ≡ true
       → (resume S behind b (resume S before a L .tables) .stop ≡ NoRoom → ⊥) → (resume S room (a ++ b) L .stop ≡ NoRoom → ⊥)
       → resume S room (a ++ b) L
-      ≡ ahead (resume S before a L .consumed) (resume S before a L .events) (resume S behind b (resume S before a L .tables))
+      ≡ bytesThen (resume S before a L .consumed) (resume S before a L .events) (resume S behind b (resume S before a L .tables))
   resume-then small bs e g h =
       let t = tablesOf S L in
       let z = resume-passed S before a L e in
@@ -72,9 +72,9 @@ module _ (S : Settings) (room before behind : ℕ) (a b : List ℕ) (L : Lent) w
       let p = resume-goes S before a L z in
       let q = resume-goes S room (a ++ b) L z in
       let o = runFrom S 0 before a t in
-      let same : ahead (resume S before a L .consumed) (resume S before a L .events) (resume S behind b (resume S before a L .tables))
-      ≡ ahead (o .consumed) (o .events) (resume S behind b (encode S (o .tables))) =
-      ap (λ (x : Result Lent). ahead (x .consumed) (x .events) (resume S behind b (x .tables))) p in
+      let same : bytesThen (resume S before a L .consumed) (resume S before a L .events) (resume S behind b (resume S before a L .tables))
+      ≡ bytesThen (o .consumed) (o .events) (resume S behind b (encode S (o .tables))) =
+      ap (λ (x : Result Lent). bytesThen (x .consumed) (x .events) (resume S behind b (x .tables))) p in
       q
       ∙ cut S (is .range) t room before behind a b (run-from-keeps-sound S (is .range) 0 before a t bs (is .soundly))
       (ap (λ (x : Result Lent). goesOn (x .stop)) (sym p) ∙ e)
@@ -91,21 +91,21 @@ module _ (room before behind k : ℕ) (a b : List ℕ) (L : Lent) where
   pub run-then : bytes a ≡ true → goesOn (run before (k ∷ a) L .stop) ≡ true
       → (resume S behind b (run before (k ∷ a) L .tables) .stop ≡ NoRoom → ⊥) → (run room (k ∷ (a ++ b)) L .stop ≡ NoRoom → ⊥)
       → run room (k ∷ (a ++ b)) L
-      ≡ ahead (run before (k ∷ a) L .consumed) (run before (k ∷ a) L .events) (resume S behind b (run before (k ∷ a) L .tables))
+      ≡ bytesThen (run before (k ∷ a) L .consumed) (run before (k ∷ a) L .events) (resume S behind b (run before (k ∷ a) L .tables))
   run-then bs e g h =
       let n = lengthOf k in
       let z = run-passed before k a L e in
-      let st = settled L k a z in
+      let st = first-settled L k a z in
       let w : n ≤ length a = st .whole in
       let more : n ≤ length (a ++ b) = rw length-append (omega arith) in
       let o = runFrom S 0 before (drop n a) (start S) in
       let skipped = run-skips S n before a (start S) w in
-      let p : run before (k ∷ a) L ≡ ahead (1 + n) [] (lentResult S o) =
-      run-accepts before L k a z ∙ ap (λ (x : Result Tables). ahead (1 + n) [] (lentResult S x)) skipped in
-      let q : run room (k ∷ (a ++ b)) L ≡ ahead (1 + n) [] (lentResult S (runFrom S 0 room (drop n a ++ b) (start S))) =
+      let p : run before (k ∷ a) L ≡ bytesThen (1 + n) [] (lentResult S o) =
+      run-accepts before L k a z ∙ ap (λ (x : Result Tables). bytesThen (1 + n) [] (lentResult S x)) skipped in
+      let q : run room (k ∷ (a ++ b)) L ≡ bytesThen (1 + n) [] (lentResult S (runFrom S 0 room (drop n a ++ b) (start S))) =
       run-accepts room L k (a ++ b) (rw (first-more L k a b w) z)
-      ∙ ap (λ (S : Settings). ahead (1 + n) [] (lentResult S (runFrom S n room (a ++ b) (start S)))) (settings-more k a b w)
-      ∙ ap (λ (x : Result Tables). ahead (1 + n) [] (lentResult S x)) (run-skips S n room (a ++ b) (start S) more ∙ ap (λ (s : List ℕ). runFrom S 0 room s (start S)) (drop-append-le n a b w)) in
+      ∙ ap (λ (S : Settings). bytesThen (1 + n) [] (lentResult S (runFrom S n room (a ++ b) (start S)))) (settings-more k a b w)
+      ∙ ap (λ (x : Result Tables). bytesThen (1 + n) [] (lentResult S x)) (run-skips S n room (a ++ b) (start S) more ∙ ap (λ (s : List ℕ). runFrom S 0 room s (start S)) (drop-append-le n a b w)) in
       let ok : sound S (o .tables) ≡ true =
       ap (λ (x : Result Tables). sound S (x .tables)) (sym skipped) ∙ run-from-keeps-sound S (st .range) n before a (start S) bs (start-sound S) in
       let c = cut S (st .range) (start S) room before behind (drop n a) b ok
@@ -113,10 +113,10 @@ module _ (room before behind k : ℕ) (a b : List ℕ) (L : Lent) where
       (λ f. g (ap (λ (x : Result Lent). resume S behind b (x .tables) .stop) p ∙ f))
       (λ f. h (ap (λ (x : Result Lent). x .stop) q ∙ f)) in
       let r = resume S behind b (encode S (o .tables)) in
-      let same : ahead (run before (k ∷ a) L .consumed) (run before (k ∷ a) L .events) (resume S behind b (run before (k ∷ a) L .tables))
-      ≡ ahead ((1 + n) + o .consumed) (o .events) r =
-      ap (λ (x : Result Lent). ahead (x .consumed) (x .events) (resume S behind b (x .tables))) p in
-      q ∙ ap (ahead (1 + n) []) c ∙ ahead-twice (1 + n) (o .consumed) (o .events) r ∙ sym same
+      let same : bytesThen (run before (k ∷ a) L .consumed) (run before (k ∷ a) L .events) (resume S behind b (run before (k ∷ a) L .tables))
+      ≡ bytesThen ((1 + n) + o .consumed) (o .events) r =
+      ap (λ (x : Result Lent). bytesThen (x .consumed) (x .events) (resume S behind b (x .tables))) p in
+      q ∙ ap (bytesThen (1 + n) []) c ∙ ahead-twice (1 + n) (o .consumed) (o .events) r ∙ sym same
 
 -- ---- the same of what the callers hold: of a run on the first part, `resume` on the second with the slices that the first left, and one
 -- run on both, each with event bytes of its own
@@ -145,7 +145,7 @@ module _ (k : ℕ) (a b : List ℕ) (L : Lent) {M₁ M₂ M : Lent} {e₁ e₂ e
       (λ x. whole (one .stop ∙ x)) in
       let o₁ = run (length e₁) (k ∷ a) L in
       let o₂ = resume (settingsOf k a) (length e₂) b M₁ in
-      let w : run (length e) (k ∷ (a ++ b)) L ≡ ahead (o₁ .consumed) (o₁ .events) o₂ = q ∙ sym (ap (ahead (o₁ .consumed) (o₁ .events)) left) in
+      let w : run (length e) (k ∷ (a ++ b)) L ≡ bytesThen (o₁ .consumed) (o₁ .events) o₂ = q ∙ sym (ap (bytesThen (o₁ .consumed) (o₁ .events)) left) in
       record {
         stop = one .stop ∙ ap (λ (o : Result Lent). o .stop) w ∙ sym (second .stop);
         consumed = one .consumed ∙ ap (λ (o : Result Lent). o .consumed) w ∙ (rw (first .consumed, second .consumed));

@@ -26,7 +26,7 @@ use Rattle.layout.specs.declared.Layout.{Layout}
 use Rattle.soundness.specs.Laid.{Checks}
 use Rattle.soundness.specs.declared.LaidVerdict.{LaidVerdict}
 use Rattle.soundness.specs.declared.LaidVerdict.the-variants.{Passed, Refused}
-use Rattle.soundness.proofs.Verdicts.{checked}
+use Rattle.soundness.proofs.Verdicts.{threeChecks}
 use Rattle.soundness.proofs.Checked.{says-refused, passed-tables}
 use Rattle.running.specs.Resume.{restFrom, RunAt, Resumes}
 use Rattle.runner.specs.Stops.{stopOf}
@@ -37,7 +37,7 @@ use Rattle.runner.specs.Stops.{stopOf}
 abbrev stopping : Bool → Bool → Bool → Stop
 stopping r l s = pick r (pick l (pick s stop.Nothing stop.NotSound) stop.SliceLength) stop.SettingOutOfRange
 
-refusal-stops : (r l s : Bool) (L : Lent) (n : Refusal) → verdictOf (checked r l s (done [] L)) ≡ verdict.Refused n
+refusal-stops : (r l s : Bool) (L : Lent) (n : Refusal) → verdictOf (threeChecks r l s (done [] L)) ≡ verdict.Refused n
     → (stopOf n ≡ stopping r l s) × (goesOn (stopping r l s) ≡ false)
 refusal-stops true true true L n e = let z : _≡_ {A = ℕ} 0 1 = cc in absurd (omega arith)
 refusal-stops true true false L n e = let z : refusal.NotSound ≡ n = cc in (rw (← z), refl)

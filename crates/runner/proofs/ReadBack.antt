@@ -31,7 +31,7 @@ use Rattle.records.proofs.Reply.{fitting-append}
 use Rattle.records.proofs.RoundTrip.{log-back}
 use Rattle.records.proofs.Fits.{step-fits, step-stamped, command-read-fits}
 use Rattle.records.proofs.OfCalls.{tables-stamped}
-use Rattle.running.proofs.First.{settled}
+use Rattle.running.proofs.First.{first-settled}
 use Rattle.runner.proofs.Cut.{written-are}
 use Rattle.runner.specs.Told.{toldFrom, runTold, resumeTold}
 
@@ -91,7 +91,7 @@ unfolding runTold
 run-fits room [] L b = tt
 run-fits room (k ∷ s) L b =
     by-flag AllFitting (goesOn (firstStop L k s)) _ _
-    (λ z. from-fits (settingsOf k s) (settled L k s z .range) (lengthOf k) room s (start (settingsOf k s)) (and-2 (ltb k 256) (bytes s) b) (start-sound (settingsOf k s)) refl)
+    (λ z. from-fits (settingsOf k s) (first-settled L k s z .range) (lengthOf k) room s (start (settingsOf k s)) (and-2 (ltb k 256) (bytes s) b) (start-sound (settingsOf k s)) refl)
     (λ z. tt)
 
 resume-fits : (S : Settings) (room : ℕ) (s : List ℕ) (L : Lent) → Small L → bytes s ≡ true → AllFitting (resumeTold S room s L)

@@ -26,14 +26,14 @@ use Rattle.words.proofs.Flags.{or-no-1, or-no-2, flag}
 use Rattle.records.specs.Stores.{Laid}
 use Rattle.records.proofs.Decoding.{command-sized}
 use Rattle.records.proofs.Lengths.{command-kinds, settings-kinds}
-use Rattle.running.specs.Resume.{recordKindAt, restAt, accessIn, recordFrom, Ready, Resumes}
+use Rattle.running.specs.Resume.{recordKindAt, restAt, accessIn, recordFrom, RecordReady, Resumes}
 use Rattle.running.proofs.Singles.{ready-going, ready-whole, body-long, record-runs}
 
 lengths : (lengthOf 1 ≡ 12) × (lengthOf 2 ≡ 12) × (lengthOf 3 ≡ 0) × (lengthOf 4 ≡ 8) × (lengthOf 5 ≡ 4)
 unfolding records.lengthOf
 lengths = (refl, refl, refl, refl, refl)
 
-module _ (s : List ℕ) (at out : ℕ) (e : List ℕ) (ready : Ready s at out e) where
+module _ (s : List ℕ) (at out : ℕ) (e : List ℕ) (ready : RecordReady s at out e) where
   abbrev k : ℕ
   k = recordKindAt s at
 
@@ -74,41 +74,41 @@ module _ (s : List ℕ) (at out : ℕ) (e : List ℕ) (ready : Ready s at out e)
 
   module _ (S : Settings) (L : Lent) (held : SoundSlices S L) (reply : Reply) (M : Lent) (w : ℕ) (f : List ℕ)
       (laid : Laid e out (length (logBytes (eventsTold reply))) (logBytes (eventsTold reply)) w f) (size : length f ≡ length e) where
-    abbrev Left : ℕ → Type 0
-    Left n = Resumes S (recordFrom S s at out e) s at out e L record { stop = stop.Nothing; consumed = n; written = w } f M
+    abbrev LeftBehind : ℕ → Type 0
+    LeftBehind n = Resumes S (recordFrom S s at out e) s at out e L record { stop = stop.Nothing; consumed = n; written = w } f M
 
-    pub send-runs : k ≡ 3 → Does S send L reply M → Left (at + 1)
+    pub send-runs : k ≡ 3 → Does S send L reply M → LeftBehind (at + 1)
     send-runs h d =
         let l : lengthOf k ≡ 0 = ap lengthOf h ∙ lengths .2 in
         record-runs s at out e ready S L held cmd.Send (command-is 3 h refl) (omega arith) d laid size (omega arith)
 
-    pub fill-runs : k ≡ 4 → {b : List ℕ} → b ≡ take (lengthOf 4) (restAt s at) → {a : ℕ} → a ≡ numberAt b 0 8 → Does S (fill a) L reply M → Left (at + 1 + length b)
+    pub fill-runs : k ≡ 4 → {b : List ℕ} → b ≡ take (lengthOf 4) (restAt s at) → {a : ℕ} → a ≡ numberAt b 0 8 → Does S (fill a) L reply M → LeftBehind (at + 1 + length b)
     fill-runs h {b} p {a} q d =
         let l : lengthOf k ≡ lengthOf 4 = ap lengthOf h in
         let n = body-size 4 h p in
         record-runs s at out e ready S L held (cmd.Fill a) (command-is 4 h p ∙ ap (λ (x : ℕ). command.Got (cmd.Fill x)) (sym q)) (omega arith) d laid size (omega arith)
 
-    pub tick-runs : k ≡ 5 → {b : List ℕ} → b ≡ take (lengthOf 5) (restAt s at) → {c : ℕ} → c ≡ numberAt b 0 4 → Does S (tick c) L reply M → Left (at + 1 + length b)
+    pub tick-runs : k ≡ 5 → {b : List ℕ} → b ≡ take (lengthOf 5) (restAt s at) → {c : ℕ} → c ≡ numberAt b 0 4 → Does S (tick c) L reply M → LeftBehind (at + 1 + length b)
     tick-runs h {b} p {c} q d =
         let l : lengthOf k ≡ lengthOf 5 = ap lengthOf h in
         let n = body-size 5 h p in
         record-runs s at out e ready S L held (cmd.Tick c) (command-is 5 h p ∙ ap (λ (x : ℕ). command.Got (cmd.Tick x)) (sym q)) (omega arith) d laid size (omega arith)
 
     module _ {x : Access} (d : Does S (access S x) L reply M) where
-      read-runs : k ≡ 1 → x ≡ Read (numberAt (take 12 (restAt s at)) 0 8) 0 (numberAt (take 12 (restAt s at)) 8 4) → Left (at + 13)
+      read-runs : k ≡ 1 → x ≡ Read (numberAt (take 12 (restAt s at)) 0 8) 0 (numberAt (take 12 (restAt s at)) 8 4) → LeftBehind (at + 13)
       read-runs h q =
           let l : lengthOf k ≡ 12 = ap lengthOf h ∙ lengths .0 in
           let p : take 12 (restAt s at) ≡ take (lengthOf 1) (restAt s at) = rw (lengths .0) in
           record-runs s at out e ready S L held (cmd.Read _ _) (command-is 1 h p) (omega arith) (rw q at d) laid size (omega arith)
 
-      write-runs : k ≡ 2 → x ≡ Write (numberAt (take 12 (restAt s at)) 0 8) (numberAt (take 12 (restAt s at)) 8 4) 0 → maskOf x ≤ allOnes → Left (at + 13)
+      write-runs : k ≡ 2 → x ≡ Write (numberAt (take 12 (restAt s at)) 0 8) (numberAt (take 12 (restAt s at)) 8 4) 0 → maskOf x ≤ allOnes → LeftBehind (at + 13)
       write-runs h q small =
           let l : lengthOf k ≡ 12 = ap lengthOf h ∙ lengths .1 in
           let p : take 12 (restAt s at) ≡ take (lengthOf 2) (restAt s at) = rw (lengths .1) in
           let m : numberAt (take 12 (restAt s at)) 8 4 ≤ allOnes = rw q at small in
           record-runs s at out e ready S L held (cmd.Write _ _) (command-is 2 h p) m (rw q at d) laid size (omega arith)
 
-      pub access-runs : k ≤ 2 → x ≡ accessIn k (take 12 (restAt s at)) → maskOf x ≤ allOnes → Left (at + 13)
+      pub access-runs : k ≤ 2 → x ≡ accessIn k (take 12 (restAt s at)) → maskOf x ≤ allOnes → LeftBehind (at + 13)
       access-runs most q small =
           ⊎-elim
           (λ y. read-runs (eqb-true k 1 y) (q ∙ rw y))

@@ -48,7 +48,7 @@ use Rattle.running.specs.declared.record.Went.{Went}
 use Rattle.layout.specs.Layout.{LaysOut}
 use Rattle.layout.specs.Places.{First}
 use Rattle.access.proofs.Plans.{queue-counted, misses-counted}
-use Rattle.running.specs.Resume.{Counted, entriesLeft}
+use Rattle.running.specs.Resume.{UsedInMarks, entriesLeft}
 
 -- ---- a search always finds a place
 
@@ -78,10 +78,10 @@ first-there l from (suc n) x = go (first-there l from n x)
 -- ---- what is counted is what the tables have
 
 module _ (S : Settings) {longs words marks : List ℕ} (t : Tables) (is : Encodes S (lent longs words marks) t) {place : Layout} (p : LaysOut S place) where
-  counts : {q m : ℕ} → Counted S place marks q m → (q ≡ length (t .queue)) × (m ≡ length (t .misses))
+  counts : {q m : ℕ} → UsedInMarks S place marks q m → (q ≡ length (t .queue)) × (m ≡ length (t .misses))
   counts c = (queue-counted S t is p (c .queue), misses-counted S t is p (c .misses))
 
-  counted-as : {q m : ℕ} → q ≡ length (t .queue) → m ≡ length (t .misses) → Counted S place marks q m
+  counted-as : {q m : ℕ} → q ≡ length (t .queue) → m ≡ length (t .misses) → UsedInMarks S place marks q m
   counted-as e f =
       let a = first-there marks (place .kinds) (S .queue) 0 in
       let b = first-there marks (place .counts) (S .misses) 0 in
@@ -191,7 +191,7 @@ first-told r = refl
 
 -- ---- the counts that the runner goes on with
 
-module _ (S : Settings) {longs words marks : List ℕ} (held : SoundSlices S (lent longs words marks)) {place : Layout} (p : LaysOut S place) {q m : ℕ} (c : Counted S place marks q m) where
+module _ (S : Settings) {longs words marks : List ℕ} (held : SoundSlices S (lent longs words marks)) {place : Layout} (p : LaysOut S place) {q m : ℕ} (c : UsedInMarks S place marks q m) where
   abbrev t : Tables
   t = held .tables
 
@@ -202,18 +202,18 @@ module _ (S : Settings) {longs words marks : List ℕ} (held : SoundSlices S (le
   before = counts S t i p c
 
   pub counted-access : {reply : Reply} {longs′ words′ marks′ : List ℕ} (x : Access) → maskOf x ≤ allOnes → Does S (access S x) (lent longs words marks) reply (lent longs′ words′ marks′)
-      → Counted S place marks′ (q + reply .queues) (m + one (isRead x && ltb 0 (reply .queues)))
+      → UsedInMarks S place marks′ (q + reply .queues) (m + one (isRead x && ltb 0 (reply .queues)))
   counted-access {reply} x small d =
       let w = access-counts S x t (reply .queues) (sym (ap length (does-tells S d t i)) ∙ reply-long reply (d .on t i .tidy) (access-shaped S held x d .tickets)) in
       counted-as S (after t (access S x t)) (does-is S d t i (access-keeps-sound S x t (i .range) small (i .soundly))) p
       (omega (arith, before .0, w .0)) (omega (arith, before .1, w .1))
 
-  pub counted-send : {reply : Reply} {longs′ words′ marks′ : List ℕ} → Does S send (lent longs words marks) reply (lent longs′ words′ marks′) → Counted S place marks′ (q - 1) m
+  pub counted-send : {reply : Reply} {longs′ words′ marks′ : List ℕ} → Does S send (lent longs words marks) reply (lent longs′ words′ marks′) → UsedInMarks S place marks′ (q - 1) m
   counted-send d =
       let w = send-counts t in
       counted-as S (after t (send t)) (does-is S d t i (send-keeps-sound S t (i .soundly))) p (omega (arith, before .0, w .0)) (before .1 ∙ sym (w .1))
 
-  pub counted-fill : {reply : Reply} {longs′ words′ marks′ : List ℕ} (a : ℕ) → Does S (fill a) (lent longs words marks) reply (lent longs′ words′ marks′) → Counted S place marks′ q (entriesLeft (reply .first) m)
+  pub counted-fill : {reply : Reply} {longs′ words′ marks′ : List ℕ} (a : ℕ) → Does S (fill a) (lent longs words marks) reply (lent longs′ words′ marks′) → UsedInMarks S place marks′ q (entriesLeft (reply .first) m)
   counted-fill {reply} a d =
       let w = fill-counts S t (parts S t (i .soundly)) a (sym (does-tells S d t i) ∙ first-told reply) in
       counted-as S (after t (fill a t)) (does-is S d t i (fill-keeps-sound S a t (i .soundly))) p

@@ -16,7 +16,7 @@ use Rattle.model.specs.Tables.{Tables, start, after}
 use Rattle.model.specs.Lent.{Lent, lengthsFit}
 use Rattle.model.specs.Records.{isCommand, isSettings, lengthOf, settingsIn, readAt, bodyAt}
 use Rattle.model.specs.RunnerOf as runner
-use Rattle.model.specs.Runner.{settingsOf, settingsStop, firstStop, goesOn, Result, halt, ahead, runFrom, lentResult, run, Runs}
+use Rattle.model.specs.Runner.{settingsOf, settingsStop, firstStop, goesOn, Result, halt, bytesThen, runFrom, lentResult, run, Runs}
 use Rattle.model.specs.Calls.{freshCall, verdictOf}
 use Rattle.model.specs.Inner.{Encodes, SoundSlices}
 use Rattle.model.specs.declared.Settings.{Settings}
@@ -30,7 +30,7 @@ use Rattle.model.specs.declared.Ran.{Ran}
 use Rattle.words.proofs.Flags.{clash, by-flag, flag}
 use Rattle.model.proofs.Soundness.{start-sound}
 use Rattle.reader.specs.Taken.{behind}
-use Rattle.cache.specs.Made.{Made}
+use Rattle.cache.specs.Made.{LeavesVerdict}
 use Rattle.running.specs.declared.Opening.{Opening}
 use Rattle.running.specs.declared.Opening.the-variants as opening
 use Rattle.running.specs.declared.Begun.{Begun}
@@ -99,7 +99,7 @@ module _ {v : Verdict} {n : Refusal} (q : v ≡ verdict.Refused n) {m : ℕ} (e 
   pub fresh-two : (m ≡ 1 → ⊥) → SliceLength ≡ freshStop v
   fresh-two h = rw (q, ne-eqb (refusalNumber n) 1 (λ z. h (e ∙ z)))
 
-module _ (S : Settings) (next : ℕ) (L : Lent) {v : Verdict} {M : Lent} (made : Made (freshCall S L) L v M) {n : Stop} (d : n ≡ freshStop v) where
+module _ (S : Settings) (next : ℕ) (L : Lent) {v : Verdict} {M : Lent} (made : LeavesVerdict (freshCall S L) L v M) {n : Stop} (d : n ≡ freshStop v) where
   judged : n ≡ settingsStop S L
   judged = d ∙ ap freshStop (made .says) ∙ fresh-stops S L
 
@@ -116,12 +116,12 @@ pub accepts-held : {L : Lent} {x : Opening} {S : Settings} {next : ℕ} {r : Beg
 accepts-held q a = rw q a
 
 -- of a stream: 1 and 2 behind the other checks
-abbrev headBy : Bool → Bool → Bool → Stop → Stop
-headBy known cut settings x = pick known (pick cut CutShort (pick settings x OutOfPlace)) UnknownKind
+abbrev firstHeadBy : Bool → Bool → Bool → Stop → Stop
+firstHeadBy known cut settings x = pick known (pick cut CutShort (pick settings x OutOfPlace)) UnknownKind
 
 begun-by : (L : Lent) (S : Settings) (next : ℕ) (known cut settings : Bool)
-    → begunOn L (pick (goesOn (headBy known cut settings Nothing)) (opening.Holds S next) (opening.Stopped (headBy known cut settings Nothing)))
-    ≡ pick (goesOn (headBy known cut settings (settingsStop S L))) (Accepted S next) (Stopped (headBy known cut settings (settingsStop S L)))
+    → begunOn L (pick (goesOn (firstHeadBy known cut settings Nothing)) (opening.Holds S next) (opening.Stopped (firstHeadBy known cut settings Nothing)))
+    ≡ pick (goesOn (firstHeadBy known cut settings (settingsStop S L))) (Accepted S next) (Stopped (firstHeadBy known cut settings (settingsStop S L)))
 begun-by L S next false cut settings = refl
 begun-by L S next true true settings = refl
 begun-by L S next true false false = refl
@@ -139,15 +139,15 @@ accepts-begins {L} s {x} e a =
 
 -- ---- settings that are accepted
 
-pub record Settled (L : Lent) (k : ℕ) (rest : List ℕ) : Type 0 where
+pub record FirstSettled (L : Lent) (k : ℕ) (rest : List ℕ) : Type 0 where
   pub settings : isSettings k ≡ true
   pub whole : lengthOf k ≤ length rest
   pub range : inRange (settingsOf k rest) ≡ true
   pub fits : lengthsFit (settingsOf k rest) L ≡ true
 
-pub settled : (L : Lent) (k : ℕ) (rest : List ℕ) → goesOn (firstStop L k rest) ≡ true → Settled L k rest
+pub first-settled : (L : Lent) (k : ℕ) (rest : List ℕ) → goesOn (firstStop L k rest) ≡ true → FirstSettled L k rest
 unfolding runner.firstStop
-settled L k rest =
+first-settled L k rest =
     by-flag Goes (isCommand k) _ _
     (λ a. by-flag Goes (ltb (length rest) (lengthOf k)) _ _ (λ b h. clash h refl)
     (λ b. by-flag Goes (isSettings k) _ _
@@ -160,7 +160,7 @@ settled L k rest =
     (λ a h. clash h refl)
   where
     Goes : Stop → Type 0
-    Goes n = goesOn n ≡ true → Settled L k rest
+    Goes n = goesOn n ≡ true → FirstSettled L k rest
 
 -- ---- the first record by itself, and the run behind it, as equations
 
@@ -191,13 +191,13 @@ taken L (k ∷ bs) S n h =
 
 pub run-accepts : (room : ℕ) (L : Lent) (k : ℕ) (bs : List ℕ) → goesOn (firstStop L k bs) ≡ true
     → run room (k ∷ bs) L
-    ≡ ahead (1 + lengthOf k) [] (lentResult (settingsOf k bs) (runFrom (settingsOf k bs) (lengthOf k) room bs (start (settingsOf k bs))))
+    ≡ bytesThen (1 + lengthOf k) [] (lentResult (settingsOf k bs) (runFrom (settingsOf k bs) (lengthOf k) room bs (start (settingsOf k bs))))
 unfolding runner.run
 run-accepts room L k bs z = rw z
 
 -- n bytes of settings, then the run of what follows
 abbrev pub onFrom : Settings → ℕ → ℕ → List ℕ → Result Lent
-onFrom S n room s = ahead n [] (lentResult S (runFrom S 0 room (drop n s) (start S)))
+onFrom S n room s = bytesThen n [] (lentResult S (runFrom S 0 room (drop n s) (start S)))
 
 drop-more : (m n : ℕ) (k : ℕ) (bs : List ℕ) → 1 + m ≡ n → drop m bs ≡ drop n (k ∷ bs)
 drop-more m n k bs q = let e : n ≡ suc m = omega arith in rw e
@@ -205,12 +205,12 @@ drop-more m n k bs q = let e : n ≡ suc m = omega arith in rw e
 run-goes : (room : ℕ) (L : Lent) (s : List ℕ) (S : Settings) (n : ℕ) → Taken L s S n → run room s L ≡ onFrom S n room s
 run-goes room L [] S n t = absurd (t .some refl)
 run-goes room L (k ∷ bs) S n t =
-    let g = settled L k bs (t .goes) in
+    let g = first-settled L k bs (t .goes) in
     let T = settingsOf k bs in
     run-accepts room L k bs (t .goes)
-    ∙ ap (λ (o : Result Tables). ahead (1 + lengthOf k) [] (lentResult T o)) (run-skips T (lengthOf k) room bs (start T) (g .whole))
-    ∙ ap (λ (l : List ℕ). ahead (1 + lengthOf k) [] (lentResult T (runFrom T 0 room l (start T)))) (drop-more (lengthOf k) n k bs (t .next))
-    ∙ ap (λ (m : ℕ). ahead m [] (lentResult T (runFrom T 0 room (drop n (k ∷ bs)) (start T)))) (t .next)
+    ∙ ap (λ (o : Result Tables). bytesThen (1 + lengthOf k) [] (lentResult T o)) (run-skips T (lengthOf k) room bs (start T) (g .whole))
+    ∙ ap (λ (l : List ℕ). bytesThen (1 + lengthOf k) [] (lentResult T (runFrom T 0 room l (start T)))) (drop-more (lengthOf k) n k bs (t .next))
+    ∙ ap (λ (m : ℕ). bytesThen m [] (lentResult T (runFrom T 0 room (drop n (k ∷ bs)) (start T)))) (t .next)
     ∙ ap (λ (S : Settings). onFrom S n room (k ∷ bs)) (t .are)
 
 pub accepted-runs : (L : Lent) (s : List ℕ) {S : Settings} {n : ℕ} (room : ℕ) → beginning L s ≡ Accepted S n → run room s L ≡ onFrom S n room s
@@ -219,7 +219,7 @@ accepted-runs L s {S} {n} room q = run-goes room L s S n (taken L s S n q)
 pub accepted-long : (L : Lent) (s : List ℕ) {S : Settings} {n : ℕ} → beginning L s ≡ Accepted S n → n ≤ length s
 accepted-long L s {S} {n} q =
     let t = taken L s S n q in
-    let w = settled L (recordKindAt s 0) (restAt s 0) (t .goes) .whole in
+    let w = first-settled L (recordKindAt s 0) (restAt s 0) (t .goes) .whole in
     let c = t .next in
     let some = t .some in
     let l : length (restAt s 0) ≡ length s - 1 = length-drop 1 s in
@@ -237,15 +237,15 @@ module _ {L : Lent} {s : List ℕ} {r : Begun} {M : Lent} (b : Begins L s r M) w
     settings : beginning L s ≡ Accepted S n
     settings = sym (b .says) ∙ q
 
-    abbrev took : Taken L s S n
-    took = taken L s S n settings
+    abbrev firstTaken : Taken L s S n
+    firstTaken = taken L s S n settings
 
-    opened : Settled L (recordKindAt s 0) (restAt s 0)
-    opened = settled L (recordKindAt s 0) (restAt s 0) (took .goes)
+    opened : FirstSettled L (recordKindAt s 0) (restAt s 0)
+    opened = first-settled L (recordKindAt s 0) (restAt s 0) (firstTaken .goes)
 
     begun-is : Encodes S M (start S)
     begun-is = record {
-      range = rw (took .are) at (opened .range);
+      range = rw (firstTaken .are) at (opened .range);
       soundly = start-sound S;
       encoded = b .tables ∙ rw settings;
     }
@@ -257,4 +257,4 @@ module _ {L : Lent} {s : List ℕ} {r : Begun} {M : Lent} (b : Begins L s r M) w
     begun-stands e = record { inside = accepted-long L s settings; room = omega arith }
 
     pub run-begun : (e : List ℕ) {p : Ran} {f : List ℕ} {N : Lent} → Resumes S (restFrom S s n 0 e) s n 0 e M p f N → Runs (run (length e) s L) e p f N
-    run-begun e u = rw (run-goes (length e) L s S n took) (rw sub-zero at (u .on (start S) begun-is))
+    run-begun e u = rw (run-goes (length e) L s S n firstTaken) (rw sub-zero at (u .on (start S) begun-is))

@@ -11,12 +11,12 @@ use lib.Dec.{leb, ltb, eqb}
 use lib.ListN.{length, drop, length-append}
 use lib.Seq.{take-append-le}
 use Rattle.words.specs.Words.{pick}
-use Rattle.model.specs.Tables.{Tables, start, after, eventsOf}
+use Rattle.model.specs.Tables.{Tables, after, eventsOf}
 use Rattle.model.specs.Lent.{Lent}
 use Rattle.model.specs.Numbers.{stopNumber}
 use Rattle.model.specs.Records.{isCommand, isSettings, lengthOf, settingsIn, readAt, logBytes}
 use Rattle.model.specs.RunnerOf as runner
-use Rattle.model.specs.Runner.{eventRoom, settingsOf, settingsStop, firstStop, laterStop, goesOn, stepAt, Result, halt, ahead, runFrom, lentResult, run}
+use Rattle.model.specs.Runner.{eventRoom, settingsOf, settingsStop, firstStop, laterStop, goesOn, stepAt, Result, halt, bytesThen, runFrom}
 use Rattle.model.specs.declared.Settings.{Settings}
 use Rattle.model.specs.declared.Record.{Record}
 use Rattle.model.specs.declared.Stop.{Stop}
@@ -27,7 +27,7 @@ use Rattle.running.specs.declared.Begun.the-variants.{Accepted, Stopped}
 use Rattle.running.specs.Resume.{recordKindAt, headStop}
 use Rattle.running.specs.Begin.{beginning, firstThere}
 use Rattle.running.proofs.Checks.{head-there}
-use Rattle.running.proofs.First.{settled, run-accepts}
+use Rattle.running.proofs.First.{first-settled}
 use Rattle.running.proofs.Running.{going, from-stops, from-goes}
 
 -- ---- at a record: more bytes behind a whole one change nothing, and the room decides only stop 16
@@ -88,9 +88,9 @@ full-first n o t =
 module _ (S : Settings) where
   -- the part before stopped with 0: what follows goes on from its tables, in the room that it left
   abbrev pub then : ℕ → List ℕ → Result Tables → Result Tables
-  then room b o = ahead (o .consumed) (o .events) (runFrom S 0 (room - length (o .events)) b (o .tables))
+  then room b o = bytesThen (o .consumed) (o .events) (runFrom S 0 (room - length (o .events)) b (o .tables))
 
-  then-ahead : (room : ℕ) (b : List ℕ) (n : ℕ) (x : List ℕ) (o : Result Tables) → ahead n x (then (room - length x) b o) ≡ then room b (ahead n x o)
+  then-ahead : (room : ℕ) (b : List ℕ) (n : ℕ) (x : List ℕ) (o : Result Tables) → bytesThen n x (then (room - length x) b o) ≡ then room b (bytesThen n x o)
   then-ahead room b n x o = rw (length-append, sub-add-eq, append-assoc, add-assoc)
 
   pub run-in-parts : (n room : ℕ) (a b : List ℕ) (t : Tables) → n ≤ length a → goesOn (runFrom S n room a t .stop) ≡ true
@@ -121,7 +121,7 @@ module _ (S : Settings) where
       let p = from-goes S room k a t z in
       let q = from-goes S other k a t (rw (← e) z) in
       let i = run-in-rooms (lengthOf k) (room - length x) (other - length x) a u (λ f. g (ap (λ (r : Result Tables). r .stop) p ∙ f)) (λ f. h (ap (λ (r : Result Tables). r .stop) q ∙ f)) in
-      p ∙ ap (ahead (1 + lengthOf k) x) i ∙ sym q)
+      p ∙ ap (bytesThen (1 + lengthOf k) x) i ∙ sym q)
       (λ z. from-stops S room k a t z ∙ ap (λ (n : Stop). halt n t) e ∙ sym (from-stops S other k a t (rw (← e) z)))
       (flag (goesOn (laterStop room k a)))
 
@@ -148,12 +148,12 @@ module _ (S : Settings) where
   pub run-cut : (room before behind : ℕ) (a b : List ℕ) (t : Tables) → goesOn (runFrom S 0 before a t .stop) ≡ true
       → (runFrom S 0 behind b (runFrom S 0 before a t .tables) .stop ≡ NoRoom → ⊥) → (runFrom S 0 room (a ++ b) t .stop ≡ NoRoom → ⊥)
       → runFrom S 0 room (a ++ b) t
-      ≡ ahead (runFrom S 0 before a t .consumed) (runFrom S 0 before a t .events) (runFrom S 0 behind b (runFrom S 0 before a t .tables))
+      ≡ bytesThen (runFrom S 0 before a t .consumed) (runFrom S 0 before a t .events) (runFrom S 0 behind b (runFrom S 0 before a t .tables))
   run-cut room before behind a b t e g h =
       let o = runFrom S 0 before a t in
       let p : runFrom S 0 room a t ≡ o = run-in-rooms 0 room before a t (λ q. h (full-in-parts 0 room a b t (omega arith) q)) (λ q. full-halts q e) in
       let w : runFrom S 0 room (a ++ b) t ≡ then room b o = run-in-parts 0 room a b t (omega arith) (rw p e) ∙ ap (then room b) p in
-      w ∙ ap (ahead (o .consumed) (o .events)) (run-in-rooms 0 (room - length (o .events)) behind b (o .tables) (λ q. h (ap (λ (r : Result Tables). r .stop) w ∙ q)) g)
+      w ∙ ap (bytesThen (o .consumed) (o .events)) (run-in-rooms 0 (room - length (o .events)) behind b (o .tables) (λ q. h (ap (λ (r : Result Tables). r .stop) w ∙ q)) g)
 
 -- ---- a front part, whatever stopped it, and the run from there on: also where a record was cut short, or its events had no room
 
@@ -166,20 +166,20 @@ later-wider room other k a h z =
 
 module _ (S : Settings) where
   -- from where o stopped, n bytes and what it consumed further on
-  abbrev pub onward : ℕ → ℕ → List ℕ → Result Tables → Result Tables
-  onward n room s o = ahead (o .consumed) (o .events) (runFrom S 0 (room - length (o .events)) (drop (n + o .consumed) s) (o .tables))
+  abbrev pub furtherOn : ℕ → ℕ → List ℕ → Result Tables → Result Tables
+  furtherOn n room s o = bytesThen (o .consumed) (o .events) (runFrom S 0 (room - length (o .events)) (drop (n + o .consumed) s) (o .tables))
 
   onward-ahead : (room m n k : ℕ) (s x : List ℕ) (o : Result Tables) → m ≡ suc n
-      → ahead m x (onward n (room - length x) s o) ≡ onward 0 room (k ∷ s) (ahead m x o)
+      → bytesThen m x (furtherOn n (room - length x) s o) ≡ furtherOn 0 room (k ∷ s) (bytesThen m x o)
   onward-ahead room m n k s x o q =
       let e : 0 + (m + o .consumed) ≡ suc (n + o .consumed) = omega arith in
       rw (e, length-append, sub-add-eq, append-assoc, add-assoc)
 
-  onward-halts : (room : ℕ) (s : List ℕ) (n : Stop) (t : Tables) → runFrom S 0 room s t ≡ onward 0 room s (halt n t)
+  onward-halts : (room : ℕ) (s : List ℕ) (n : Stop) (t : Tables) → runFrom S 0 room s t ≡ furtherOn 0 room s (halt n t)
   onward-halts room s n t = rw (sub-zero, zero-add)
 
   pub run-resumed : (n room other : ℕ) (a b : List ℕ) (t : Tables) → n ≤ length a → room ≤ other
-      → runFrom S n other (a ++ b) t ≡ onward n other (a ++ b) (runFrom S n room a t)
+      → runFrom S n other (a ++ b) t ≡ furtherOn n other (a ++ b) (runFrom S n room a t)
   unfolding runner.runFrom
   run-resumed n room other [] b t h w = let z : n ≡ 0 = omega arith in rw (z, sub-zero, zero-add)
   run-resumed (suc n) room other (x ∷ a) b t h w =
@@ -195,7 +195,7 @@ module _ (S : Settings) where
       let y : goesOn (laterStop other k (a ++ b)) ≡ true = rw (later-more other k a b g) (later-wider room other k a w z) in
       let i = run-resumed (lengthOf k) (room - length x) (other - length x) a b u g (omega arith) in
       rw (y, z, step-more S k a b t g, i) (onward-ahead other (1 + lengthOf k) (lengthOf k) k (a ++ b) x (runFrom S (lengthOf k) (room - length x) a u) (omega arith)))
-      (λ z. onward-halts other ((k ∷ a) ++ b) (laterStop room k a) t ∙ ap (onward 0 other ((k ∷ a) ++ b)) (sym (from-stops S room k a t z)))
+      (λ z. onward-halts other ((k ∷ a) ++ b) (laterStop room k a) t ∙ ap (furtherOn 0 other ((k ∷ a) ++ b)) (sym (from-stops S room k a t z)))
       (flag (goesOn (laterStop room k a)))
 
 -- ---- a whole stream, in two parts
@@ -210,21 +210,6 @@ first-more L k a b h =
     let l : lengthOf k ≤ length (a ++ b) = rw length-append (omega arith) in
     rw (le-ltb (length (a ++ b)) (lengthOf k) l, le-ltb (length a) (lengthOf k) h)
     (ap (λ (S : Settings). pick (isCommand k) (pick (isSettings k) (settingsStop S L) OutOfPlace) UnknownKind) (settings-more k a b h))
-
--- the part before begins with its settings and stops with 0
-pub run-two-parts : (room k : ℕ) (a b : List ℕ) (L : Lent) → goesOn (run room (k ∷ a) L .stop) ≡ true
-    → run room (k ∷ (a ++ b)) L
-    ≡ ahead (1 + lengthOf k) []
-    (lentResult (settingsOf k a) (then (settingsOf k a) room b (runFrom (settingsOf k a) (lengthOf k) room a (start (settingsOf k a)))))
-unfolding runner.run
-run-two-parts room k a b L e =
-    let z = goes-first (firstStop L k a) _ L e in
-    let w = settled L k a z .whole in
-    let S = settingsOf k a in
-    let y : goesOn (runFrom S (lengthOf k) room a (start S) .stop) ≡ true = rw (ap (λ (r : Result Lent). r .stop) (run-accepts room L k a z)) at e in
-    run-accepts room L k (a ++ b) (rw (first-more L k a b w) z)
-    ∙ ap (λ (S : Settings). ahead (1 + lengthOf k) [] (lentResult S (runFrom S (lengthOf k) room (a ++ b) (start S)))) (settings-more k a b w)
-    ∙ ap (λ (o : Result Tables). ahead (1 + lengthOf k) [] (lentResult S o)) (run-in-parts S (lengthOf k) room a b (start S) w y)
 
 -- ---- the first record of a front part, once it is there
 
@@ -258,7 +243,7 @@ begins-more L (k ∷ a) b h =
     let y : goesOn (firstStop L k (a ++ b)) ≡ true = rw f z in
     let p : beginning L (k ∷ a) ≡ Accepted (settingsOf k a) (1 + lengthOf k) = rw z in
     let q : beginning L (k ∷ (a ++ b)) ≡ Accepted (settingsOf k (a ++ b)) (1 + lengthOf k) = rw y in
-    q ∙ ap (λ (S : Settings). Accepted S (1 + lengthOf k)) (settings-more k a b (settled L k a z .whole)) ∙ sym p)
+    q ∙ ap (λ (S : Settings). Accepted S (1 + lengthOf k)) (settings-more k a b (first-settled L k a z .whole)) ∙ sym p)
     (λ z.
     let y : goesOn (firstStop L k (a ++ b)) ≡ false = rw f z in
     let p : beginning L (k ∷ a) ≡ Stopped (firstStop L k a) = rw z in

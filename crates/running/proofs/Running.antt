@@ -13,7 +13,7 @@ use lib.Dec.{ltb}
 use Rattle.model.specs.Tables.{Tables, Outcome, after, eventsOf}
 use Rattle.model.specs.Records.{isCommand, isSettings, lengthOf, logBytes}
 use Rattle.model.specs.RunnerOf as runner
-use Rattle.model.specs.Runner.{eventRoom, laterStop, goesOn, stepAt, Result, halt, ahead, runFrom}
+use Rattle.model.specs.Runner.{eventRoom, laterStop, goesOn, stepAt, Result, halt, bytesThen, runFrom}
 use Rattle.model.specs.declared.Settings.{Settings}
 use Rattle.model.specs.declared.Stop.{Stop}
 use Rattle.model.specs.declared.Stop.the-variants as stop
@@ -59,7 +59,7 @@ module _ (S : Settings) (room k : ℕ) (rest : List ℕ) (t : Tables) where
 
   pub from-goes : goesOn (laterStop room k rest) ≡ true
       → runFrom S 0 room (k ∷ rest) t
-      ≡ ahead (1 + lengthOf k) (logBytes (eventsOf (stepAt S k rest t)))
+      ≡ bytesThen (1 + lengthOf k) (logBytes (eventsOf (stepAt S k rest t)))
       (runFrom S (lengthOf k) (room - length (logBytes (eventsOf (stepAt S k rest t)))) rest (after t (stepAt S k rest t)))
   unfolding runner.runFrom
   from-goes z = rw z
@@ -79,11 +79,11 @@ module _ (S : Settings) (room : ℕ) (s : List ℕ) (at : ℕ) (t : Tables) wher
   opened h = rw (add-one, drop-cons s at 0)
 
   -- the step at a record, the bytes of its events, the tables that it leaves
-  abbrev stepped : Outcome Tables
-  stepped = stepAt S (recordKindAt s at) (restAt s at) t
+  abbrev recordStepped : Outcome Tables
+  recordStepped = stepAt S (recordKindAt s at) (restAt s at) t
 
-  abbrev told : List ℕ
-  told = logBytes (eventsOf stepped)
+  abbrev toldBytes : List ℕ
+  toldBytes = logBytes (eventsOf recordStepped)
 
   module _ (inside : at < length s) where
     pub run-stops : goesOn (laterStop room (recordKindAt s at) (restAt s at)) ≡ false
@@ -92,13 +92,13 @@ module _ (S : Settings) (room : ℕ) (s : List ℕ) (at : ℕ) (t : Tables) wher
 
     pub run-goes : goesOn (laterStop room (recordKindAt s at) (restAt s at)) ≡ true
         → runFrom S 0 room (drop at s) t
-        ≡ ahead (1 + lengthOf (recordKindAt s at)) told
-        (runFrom S 0 (room - length told) (drop (at + (1 + lengthOf (recordKindAt s at))) s) (after t stepped))
+        ≡ bytesThen (1 + lengthOf (recordKindAt s at)) toldBytes
+        (runFrom S 0 (room - length toldBytes) (drop (at + (1 + lengthOf (recordKindAt s at))) s) (after t recordStepped))
     run-goes z =
         rw (
           opened inside,
           from-goes S room (recordKindAt s at) (restAt s at) t z,
-          run-skips S (lengthOf (recordKindAt s at)) (room - length told) (restAt s at) (after t stepped) (going room _ _ z .whole),
+          run-skips S (lengthOf (recordKindAt s at)) (room - length toldBytes) (restAt s at) (after t recordStepped) (going room _ _ z .whole),
           drop-drop,
           add-assoc,
         )
@@ -106,30 +106,30 @@ module _ (S : Settings) (room : ℕ) (s : List ℕ) (at : ℕ) (t : Tables) wher
 -- ---- the same, in terms of that record by itself
 
 module _ (S : Settings) (room : ℕ) (s : List ℕ) (at : ℕ) (t : Tables) (inside : at < length s) where
-  abbrev now : Result Tables
-  now = single S room (recordKindAt s at) (restAt s at) t
+  abbrev resultNow : Result Tables
+  resultNow = single S room (recordKindAt s at) (restAt s at) t
 
-  pub single-stops : goesOn (now .stop) ≡ false → runFrom S 0 room (drop at s) t ≡ now
+  pub single-stops : goesOn (resultNow .stop) ≡ false → runFrom S 0 room (drop at s) t ≡ resultNow
   unfolding single
   single-stops =
       by-flag (λ (o : Result Tables). goesOn (o .stop) ≡ false → runFrom S 0 room (drop at s) t ≡ o) (goesOn (laterStop room (recordKindAt s at) (restAt s at))) _ _
       (λ z h. clash refl h)
       (λ z h. run-stops S room s at t inside z)
 
-  pub single-goes : goesOn (now .stop) ≡ true
+  pub single-goes : goesOn (resultNow .stop) ≡ true
       → runFrom S 0 room (drop at s) t
-      ≡ ahead (now .consumed) (now .events) (runFrom S 0 (room - length (now .events)) (drop (at + now .consumed) s) (now .tables))
+      ≡ bytesThen (resultNow .consumed) (resultNow .events) (runFrom S 0 (room - length (resultNow .events)) (drop (at + resultNow .consumed) s) (resultNow .tables))
   unfolding single
   single-goes =
       by-flag
       (λ (o : Result Tables). goesOn (o .stop) ≡ true
-      → runFrom S 0 room (drop at s) t ≡ ahead (o .consumed) (o .events) (runFrom S 0 (room - length (o .events)) (drop (at + o .consumed) s) (o .tables)))
+      → runFrom S 0 room (drop at s) t ≡ bytesThen (o .consumed) (o .events) (runFrom S 0 (room - length (o .events)) (drop (at + o .consumed) s) (o .tables)))
       (goesOn (laterStop room (recordKindAt s at) (restAt s at))) _ _
       (λ z h. run-goes S room s at t inside z)
       (λ z h. clash h z)
 
   -- a record that is run is a byte or more
-  pub single-further : goesOn (now .stop) ≡ true → 0 < now .consumed
+  pub single-further : goesOn (resultNow .stop) ≡ true → 0 < resultNow .consumed
   unfolding single
   single-further =
       by-flag (λ (o : Result Tables). goesOn (o .stop) ≡ true → 0 < o .consumed) (goesOn (laterStop room (recordKindAt s at) (restAt s at))) _ _

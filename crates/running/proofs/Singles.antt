@@ -28,14 +28,14 @@ use Rattle.model.specs.declared.Reply.{Reply}
 use Rattle.encoding.proofs.Bridge.{does-tells, does-is}
 use Rattle.model.proofs.Soundness.{step-keeps-sound}
 use Rattle.records.specs.Stores.{Laid}
-use Rattle.records.proofs.Room.{Takes, refused-takes, step-takes}
-use Rattle.running.specs.Resume.{recordKindAt, restAt, single, recordFrom, RunAt, Ready, Resumes}
+use Rattle.records.proofs.Room.{TakesRoom, refused-takes, step-takes}
+use Rattle.running.specs.Resume.{recordKindAt, restAt, single, recordFrom, RunAt, RecordReady, Resumes}
 use Rattle.running.proofs.Running.{Going, going}
 
 -- ---- the events of one step
 
 -- at most 49 bytes: a fill with eight tickets
-read-takes : (S : Settings) (x : CommandRead) (t : Tables) → inRange S ≡ true → sound S t ≡ true → Takes fillBytes (stepRead S x t)
+read-takes : (S : Settings) (x : CommandRead) (t : Tables) → inRange S ≡ true → sound S t ≡ true → TakesRoom fillBytes (stepRead S x t)
 read-takes S (command.Got c) t range ok = step-takes S c t range ok
 read-takes S command.None t range ok = record { most = le-trans (refused-takes refusal.SettingOutOfRange .most) (lit≤ tt) }
 
@@ -67,7 +67,7 @@ module _ (S : Settings) (s : List ℕ) (at out : ℕ) (e : List ℕ) (L : Lent) 
         stands = here;
       }
 
-module _ (s : List ℕ) (at out : ℕ) (e : List ℕ) (ready : Ready s at out e) where
+module _ (s : List ℕ) (at out : ℕ) (e : List ℕ) (ready : RecordReady s at out e) where
   pub ready-going : Going (length e - out) (recordKindAt s at) (restAt s at)
   ready-going = going _ _ _ (ready .goes)
 

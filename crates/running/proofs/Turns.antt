@@ -9,7 +9,7 @@ use lib.ListN.{length, take, drop, length-append, take-append-drop}
 use lib.Seq.{length-take-le, take-append-seam, drop-append-seam, drop-drop}
 use Rattle.model.specs.Tables.{Tables}
 use Rattle.model.specs.Lent.{Lent}
-use Rattle.model.specs.Runner.{goesOn, Result, ahead, runFrom, lentResult, Runs}
+use Rattle.model.specs.Runner.{goesOn, Result, bytesThen, runFrom, lentResult, Runs}
 use Rattle.model.specs.Inner.{Encodes, SoundSlices}
 use Rattle.model.specs.declared.Settings.{Settings}
 use Rattle.model.specs.declared.Stop.the-variants as stop
@@ -44,25 +44,25 @@ module _ {o : Result Lent} {e : List ℕ} {r : Ran} {f : List ℕ} {M : Lent} wh
 
 module _ (S : Settings) (s : List ℕ) where
   abbrev wholeFrom : ℕ → ℕ → List ℕ → Tables → Result Tables
-  wholeFrom at out e t = ahead at (take out e) (restFrom S s at out e t)
+  wholeFrom at out e t = bytesThen at (take out e) (restFrom S s at out e t)
 
-  pub record Leads (o : Result Tables) (at out : ℕ) (e : List ℕ) (L : Lent) : Type 0 where
+  pub record RunLeads (o : Result Tables) (at out : ℕ) (e : List ℕ) (L : Lent) : Type 0 where
     pub tables : Tables
     pub are : Encodes S L tables
     pub same : wholeFrom at out e tables ≡ o
 
-  pub record Goes (at₀ out₀ : ℕ) (e₀ : List ℕ) (L₀ : Lent) (at out : ℕ) (e : List ℕ) (L : Lent) : Type 0 where
+  pub record RunStands (at₀ out₀ : ℕ) (e₀ : List ℕ) (L₀ : Lent) (at out : ℕ) (e : List ℕ) (L : Lent) : Type 0 where
     pub here : RunAt s at out e
     pub size : length e ≡ length e₀
     pub longs : length (L .longs) ≡ length (L₀ .longs)
     pub words : length (L .words) ≡ length (L₀ .words)
     pub marks : length (L .marks) ≡ length (L₀ .marks)
     pub beyond : drop out e ≡ drop out e₀
-    pub leads : (t₀ : Tables) → Encodes S L₀ t₀ → Leads (wholeFrom at₀ out₀ e₀ t₀) at out e L
+    pub leads : (t₀ : Tables) → Encodes S L₀ t₀ → RunLeads (wholeFrom at₀ out₀ e₀ t₀) at out e L
 
   -- from a place further on, behind what o consumed and wrote
   whole-further : (at out : ℕ) (e : List ℕ) (t : Tables) (o : Result Tables) (c w : ℕ) (f : List ℕ) → length (take out e) ≡ out
-      → restFrom S s at out e t ≡ ahead (o .consumed) (o .events) (runFrom S 0 (length e - out - length (o .events)) (drop (at + o .consumed) s) (o .tables))
+      → restFrom S s at out e t ≡ bytesThen (o .consumed) (o .events) (runFrom S 0 (length e - out - length (o .events)) (drop (at + o .consumed) s) (o .tables))
       → c ≡ at + o .consumed → w ≡ length (take out e ++ o .events)
       → f ≡ (take out e ++ o .events) ++ drop (length (take out e ++ o .events)) e → length f ≡ length e
       → wholeFrom c w f (o .tables) ≡ wholeFrom at out e t
@@ -74,8 +74,8 @@ module _ (S : Settings) (s : List ℕ) where
       rw (a, b, p, turn, append-assoc, add-assoc)
 
 module _ {S : Settings} {s : List ℕ} where
-  pub goes-first : {at out : ℕ} {e : List ℕ} {L : Lent} → RunAt s at out e → Goes S s at out e L at out e L
-  goes-first h = record {
+  pub run-stands-first : {at out : ℕ} {e : List ℕ} {L : Lent} → RunAt s at out e → RunStands S s at out e L at out e L
+  run-stands-first h = record {
     here = h;
     size = refl;
     longs = refl;
@@ -85,9 +85,9 @@ module _ {S : Settings} {s : List ℕ} where
     leads = λ t i. record { tables = t; are = i; same = refl };
   }
 
-  module _ {at₀ out₀ : ℕ} {e₀ : List ℕ} {L₀ : Lent} {at out : ℕ} {e : List ℕ} {L : Lent} (g : Goes S s at₀ out₀ e₀ L₀ at out e L) where
-    pub goes-held : SoundSlices S L₀ → SoundSlices S L
-    goes-held h = let x = g .leads (h .tables) (h .are) in record { tables = x .tables; are = x .are }
+  module _ {at₀ out₀ : ℕ} {e₀ : List ℕ} {L₀ : Lent} {at out : ℕ} {e : List ℕ} {L : Lent} (g : RunStands S s at₀ out₀ e₀ L₀ at out e L) where
+    pub run-stands-held : SoundSlices S L₀ → SoundSlices S L
+    run-stands-held h = let x = g .leads (h .tables) (h .are) in record { tables = x .tables; are = x .are }
 
     written-here : length (take out e) ≡ out
     written-here = length-take-le out e (g .here .room)
@@ -128,7 +128,7 @@ module _ {S : Settings} {s : List ℕ} where
         on = λ t i.
             let o = u .on t i in
             let z : goesOn (recordFrom S s at out e t .stop) ≡ false = rw (← o .stop) h in
-            runs-as (ap (λ (p : Result Tables). ahead at (take out e) (lentResult S p)) (sym (single-stops S (length e - out) s at t inside z))) o;
+            runs-as (ap (λ (p : Result Tables). bytesThen at (take out e) (lentResult S p)) (sym (single-stops S (length e - out) s at t inside z))) o;
         keeps = λ t i.
             let z : goesOn (recordFrom S s at out e t .stop) ≡ false = rw (← u .on t i .stop) h in
             subst (λ (p : Result Tables). Encodes S M (p .tables)) (sym (single-stops S (length e - out) s at t inside z)) (u .keeps t i);
@@ -141,7 +141,7 @@ module _ {S : Settings} {s : List ℕ} where
 
         pub goes-nearer : length s - r .consumed < length s - at
         goes-nearer =
-            let t = goes-held held in
+            let t = run-stands-held held in
             let c : r .consumed ≡ at + recordFrom S s at out e (t .tables) .consumed = u .on (t .tables) (t .are) .consumed in
             let k = single-further S (length e - out) s at (t .tables) inside (went (t .tables) (t .are)) in
             omega arith
@@ -160,15 +160,15 @@ module _ {S : Settings} {s : List ℕ} where
             let o = u .on t i in
             whole-further S s at out e t (recordFrom S s at out e t) _ _ f written-here (single-goes S (length e - out) s at t inside (went t i)) (o .consumed) (o .written) (o .events) size
 
-        pub goes-again : length f ≡ length e → length (M .longs) ≡ length (L .longs) → length (M .words) ≡ length (L .words)
-            → length (M .marks) ≡ length (L .marks) → Goes S s at₀ out₀ e₀ L₀ (r .consumed) (r .written) f M
-        goes-again size longs words marks = record {
+        pub run-stands-again : length f ≡ length e → length (M .longs) ≡ length (L .longs) → length (M .words) ≡ length (L .words)
+            → length (M .marks) ≡ length (L .marks) → RunStands S s at₀ out₀ e₀ L₀ (r .consumed) (r .written) f M
+        run-stands-again size longs words marks = record {
           here = u .stands;
           size = size ∙ g .size;
           longs = longs ∙ g .longs;
           words = words ∙ g .words;
           marks = marks ∙ g .marks;
-          beyond = let t = goes-held held in behind-written (t .tables) (t .are);
+          beyond = let t = run-stands-held held in behind-written (t .tables) (t .are);
           leads = λ t₀ i.
               let x = g .leads t₀ i in
               record {

@@ -10,7 +10,7 @@ use Rattle.words.specs.Words.{pick}
 use Rattle.model.specs.Tables.{Tables, after, eventsOf}
 use Rattle.model.specs.Lent.{Lent}
 use Rattle.model.specs.Records.{isCommand, isSettings, lengthOf, numberAt, logBytes}
-use Rattle.model.specs.Runner.{roomStop, goesOn, laterStop, stepAt, Result, halt, ahead, runFrom, lentResult, Runs}
+use Rattle.model.specs.Runner.{roomStop, goesOn, laterStop, stepAt, Result, halt, bytesThen, runFrom, lentResult, Runs}
 use Rattle.model.specs.Inner.{Encodes}
 use Rattle.model.specs.declared.Settings.{Settings}
 use Rattle.model.specs.declared.Access.{Access}
@@ -73,21 +73,21 @@ pub record RunAt (s : List ℕ) (at out : ℕ) (e : List ℕ) : Type 0 where
   pub room : out ≤ length e
 
 -- nothing stops at the record there: it is of a step, whole, and its events have room
-pub record Ready (s : List ℕ) (at out : ℕ) (e : List ℕ) : Type 0 where
+pub record RecordReady (s : List ℕ) (at out : ℕ) (e : List ℕ) : Type 0 where
   pub stands : RunAt s at out e
   pub inside : at < length s
   pub goes : goesOn (laterStop (length e - out) (recordKindAt s at) (restAt s at)) ≡ true
 
 -- the records that o runs from there, on the sound tables that L holds, leave this; consumed and written count from the start
 pub record Resumes (S : Settings) (o : Tables → Result Tables) (s : List ℕ) (at out : ℕ) (e : List ℕ) (L : Lent) (r : Ran) (f : List ℕ) (M : Lent) : Type 0 where
-  pub on : (t : Tables) → Encodes S L t → Runs (ahead at (take out e) (lentResult S (o t))) e r f M
+  pub on : (t : Tables) → Encodes S L t → Runs (bytesThen at (take out e) (lentResult S (o t))) e r f M
   pub keeps : (t : Tables) → Encodes S L t → Encodes S M (o t .tables)
   pub stands : RunAt s (r .consumed) (r .written) f
 
 -- ---- what is in use
 
 -- so many queue places and miss entries, in the marks
-pub record Counted (S : Settings) (at : Layout) (marks : List ℕ) (q m : ℕ) : Type 0 where
+pub record UsedInMarks (S : Settings) (at : Layout) (marks : List ℕ) (q m : ℕ) : Type 0 where
   pub queue : First marks (at .kinds) (S .queue) 0 q
   pub misses : First marks (at .counts) (S .misses) 0 m
 

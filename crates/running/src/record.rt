@@ -21,7 +21,7 @@ ghost use Rattle.model.specs.Sound.{allOnes};
 ghost use Rattle.model.specs.Inner.{SoundSlices};
 ghost use Rattle.model.specs.Runner.{laterStop};
 ghost use Rattle.layout.specs.Layout.{LaysOut};
-ghost use Rattle.running.specs.Resume.{recordKindAt, restAt, accessIn, RunAt, Ready, recordFrom, Resumes, Counted, entriesLeft};
+ghost use Rattle.running.specs.Resume.{recordKindAt, restAt, accessIn, RunAt, RecordReady, recordFrom, Resumes, UsedInMarks, entriesLeft};
 
 // What a record leaves: how far the run is, and how many queue places and miss entries are in use.
 pub struct Went {
@@ -144,13 +144,13 @@ fn access_record(
     words: &mut [u32],
     marks: &mut [u8],
 ) -> Went
-    requires { ⌜ LaysOut s laid × SoundSlices s (lent (now longs) (now words) (now marks)) × Counted s laid (now marks) queued missed ⌝ }
-    requires { ⌜ Ready (now stream) at out (now events) × (recordKindAt (now stream) at ≤ 2) ⌝ }
+    requires { ⌜ LaysOut s laid × SoundSlices s (lent (now longs) (now words) (now marks)) × UsedInMarks s laid (now marks) queued missed ⌝ }
+    requires { ⌜ RecordReady (now stream) at out (now events) × (recordKindAt (now stream) at ≤ 2) ⌝ }
     ensures { λ r. ⌜ Resumes s (recordFrom s (now (stream .entry)) at out (now (events .entry)))
         (now (stream .entry)) at out (now (events .entry))
         (lent (now (longs .entry)) (now (words .entry)) (now (marks .entry))) (r .ran)
         (now (events .exit)) (lent (now (longs .exit)) (now (words .exit)) (now (marks .exit))) ⌝ }
-    ensures { λ r. ⌜ Counted s laid (now (marks .exit)) (r .queued) (r .missed) ⌝ }
+    ensures { λ r. ⌜ UsedInMarks s laid (now (marks .exit)) (r .queued) (r .missed) ⌝ }
 {
     let x = access_at(stream, at);
     let reply = access::access_counted(s, laid, longs, words, marks, x, queued, missed);
@@ -177,13 +177,13 @@ fn send_record(
     words: &mut [u32],
     marks: &mut [u8],
 ) -> Went
-    requires { ⌜ LaysOut s laid × SoundSlices s (lent (now longs) (now words) (now marks)) × Counted s laid (now marks) queued missed ⌝ }
-    requires { ⌜ Ready (now stream) at out (now events) × (recordKindAt (now stream) at ≡ 3) ⌝ }
+    requires { ⌜ LaysOut s laid × SoundSlices s (lent (now longs) (now words) (now marks)) × UsedInMarks s laid (now marks) queued missed ⌝ }
+    requires { ⌜ RecordReady (now stream) at out (now events) × (recordKindAt (now stream) at ≡ 3) ⌝ }
     ensures { λ r. ⌜ Resumes s (recordFrom s (now (stream .entry)) at out (now (events .entry)))
         (now (stream .entry)) at out (now (events .entry))
         (lent (now (longs .entry)) (now (words .entry)) (now (marks .entry))) (r .ran)
         (now (events .exit)) (lent (now (longs .exit)) (now (words .exit)) (now (marks .exit))) ⌝ }
-    ensures { λ r. ⌜ Counted s laid (now (marks .exit)) (r .queued) (r .missed) ⌝ }
+    ensures { λ r. ⌜ UsedInMarks s laid (now (marks .exit)) (r .queued) (r .missed) ⌝ }
 {
     let reply = steps::send_counted(s, laid, longs, words, marks, queued);
     let written = records::put_sent(reply, events, out);
@@ -213,13 +213,13 @@ fn fill_record(
     words: &mut [u32],
     marks: &mut [u8],
 ) -> Went
-    requires { ⌜ LaysOut s laid × SoundSlices s (lent (now longs) (now words) (now marks)) × Counted s laid (now marks) queued missed ⌝ }
-    requires { ⌜ Ready (now stream) at out (now events) × (recordKindAt (now stream) at ≡ 4) ⌝ }
+    requires { ⌜ LaysOut s laid × SoundSlices s (lent (now longs) (now words) (now marks)) × UsedInMarks s laid (now marks) queued missed ⌝ }
+    requires { ⌜ RecordReady (now stream) at out (now events) × (recordKindAt (now stream) at ≡ 4) ⌝ }
     ensures { λ r. ⌜ Resumes s (recordFrom s (now (stream .entry)) at out (now (events .entry)))
         (now (stream .entry)) at out (now (events .entry))
         (lent (now (longs .entry)) (now (words .entry)) (now (marks .entry))) (r .ran)
         (now (events .exit)) (lent (now (longs .exit)) (now (words .exit)) (now (marks .exit))) ⌝ }
-    ensures { λ r. ⌜ Counted s laid (now (marks .exit)) (r .queued) (r .missed) ⌝ }
+    ensures { λ r. ⌜ UsedInMarks s laid (now (marks .exit)) (r .queued) (r .missed) ⌝ }
 {
     let body = records::body_of(stream, at, FILL);
     let address = records::number8(body, 0);
@@ -252,13 +252,13 @@ fn tick_record(
     words: &mut [u32],
     marks: &mut [u8],
 ) -> Went
-    requires { ⌜ SoundSlices s (lent (now longs) (now words) (now marks)) × Counted s laid (now marks) queued missed ⌝ }
-    requires { ⌜ Ready (now stream) at out (now events) × (recordKindAt (now stream) at ≡ 5) ⌝ }
+    requires { ⌜ SoundSlices s (lent (now longs) (now words) (now marks)) × UsedInMarks s laid (now marks) queued missed ⌝ }
+    requires { ⌜ RecordReady (now stream) at out (now events) × (recordKindAt (now stream) at ≡ 5) ⌝ }
     ensures { λ r. ⌜ Resumes s (recordFrom s (now (stream .entry)) at out (now (events .entry)))
         (now (stream .entry)) at out (now (events .entry))
         (lent (now (longs .entry)) (now (words .entry)) (now (marks .entry))) (r .ran)
         (now (events .exit)) (lent (now (longs .exit)) (now (words .exit)) (now (marks .exit))) ⌝ }
-    ensures { λ r. ⌜ Counted s laid (now (marks .exit)) (r .queued) (r .missed) ⌝ }
+    ensures { λ r. ⌜ UsedInMarks s laid (now (marks .exit)) (r .queued) (r .missed) ⌝ }
 {
     let body = records::body_of(stream, at, TICK);
     let reply = steps::tick_step(s, longs, words, marks, records::number4(body, 0));
@@ -289,13 +289,13 @@ fn step_record(
     words: &mut [u32],
     marks: &mut [u8],
 ) -> Went
-    requires { ⌜ LaysOut s laid × SoundSlices s (lent (now longs) (now words) (now marks)) × Counted s laid (now marks) queued missed ⌝ }
-    requires { ⌜ Ready (now stream) at out (now events) ⌝ }
+    requires { ⌜ LaysOut s laid × SoundSlices s (lent (now longs) (now words) (now marks)) × UsedInMarks s laid (now marks) queued missed ⌝ }
+    requires { ⌜ RecordReady (now stream) at out (now events) ⌝ }
     ensures { λ r. ⌜ Resumes s (recordFrom s (now (stream .entry)) at out (now (events .entry)))
         (now (stream .entry)) at out (now (events .entry))
         (lent (now (longs .entry)) (now (words .entry)) (now (marks .entry))) (r .ran)
         (now (events .exit)) (lent (now (longs .exit)) (now (words .exit)) (now (marks .exit))) ⌝ }
-    ensures { λ r. ⌜ Counted s laid (now (marks .exit)) (r .queued) (r .missed) ⌝ }
+    ensures { λ r. ⌜ UsedInMarks s laid (now (marks .exit)) (r .queued) (r .missed) ⌝ }
 {
     let kind = stream[at];
     if kind <= WRITE {
@@ -375,14 +375,14 @@ pub(crate) fn run_one(
     words: &mut [u32],
     marks: &mut [u8],
 ) -> Went
-    requires { ⌜ LaysOut s laid × SoundSlices s (lent (now longs) (now words) (now marks)) × Counted s laid (now marks) queued missed ⌝ }
+    requires { ⌜ LaysOut s laid × SoundSlices s (lent (now longs) (now words) (now marks)) × UsedInMarks s laid (now marks) queued missed ⌝ }
     requires { ⌜ RunAt (now stream) at out (now events) ⌝ }
     requires { ⌜ (at < length (now stream)) × (whole ≡ length (now stream) + 1 - 13) × (ample ≡ length (now events) + 1 - 64) ⌝ }
     ensures { λ r. ⌜ Resumes s (recordFrom s (now (stream .entry)) at out (now (events .entry)))
         (now (stream .entry)) at out (now (events .entry))
         (lent (now (longs .entry)) (now (words .entry)) (now (marks .entry))) (r .ran)
         (now (events .exit)) (lent (now (longs .exit)) (now (words .exit)) (now (marks .exit))) ⌝ }
-    ensures { λ r. ⌜ Counted s laid (now (marks .exit)) (r .queued) (r .missed) ⌝ }
+    ensures { λ r. ⌜ UsedInMarks s laid (now (marks .exit)) (r .queued) (r .missed) ⌝ }
 {
     let stop = stop_at(stream, at, out, events.len() - out, whole, ample);
     if !goes_on(stop) {

@@ -5,8 +5,8 @@ use mathlib.Core.List.{List}
 use Rattle.text.specs.Words.{skipSpaces}
 use Rattle.text.specs.Digits.{parseNumber}
 use Rattle.text.specs.declared.Parsed.{Parsed}
-use Rattle.scripts.specs.Numbers.{orNone, numberNext}
+use Rattle.scripts.specs.Numbers.{orNone, numberWord}
 use Rattle.scripts.specs.declared.Number.{Number}
 
-pub found : (s : List ℕ) (at : ℕ) {a : ℕ} {x y : Parsed} {r : Number} → a ≡ skipSpaces s at → x ≡ parseNumber s a → x ≡ y → r ≡ orNone s y → r ≡ numberNext s at
-found s at p q e h = let z = sym e ∙ q in rw (← p, ← z) h
+pub number-found : (s : List ℕ) (at : ℕ) {a : ℕ} {x y : Parsed} {r : Number} → a ≡ skipSpaces s at → x ≡ parseNumber s a → x ≡ y → r ≡ orNone s y → r ≡ numberWord s at
+number-found s at p q e h = let z = sym e ∙ q in rw (← p, ← z) h

@@ -15,5 +15,5 @@ orNone s parsed.Nothing = record { value = 0; next = length s }
 orNone s parsed.TooLarge = record { value = 0; next = length s }
 
 -- the next word of s as a number
-abbrev pub numberNext : List ℕ → ℕ → Number
-numberNext s at = orNone s (parseNumber s (skipSpaces s at))
+abbrev pub numberWord : List ℕ → ℕ → Number
+numberWord s at = orNone s (parseNumber s (skipSpaces s at))

@@ -3,7 +3,7 @@
 ghost use mathlib.Core.Path.{_≡_};
 ghost use Prim.Native.Nat.{min, _≤_};
 ghost use Rattle.model.specs.Lent.{lent};
-ghost use Rattle.scripts.specs.Numbers.{numberNext};
+ghost use Rattle.scripts.specs.Numbers.{numberWord};
 ghost use Rattle.scripts.specs.Same.{Tells};
 use text::Parsed;
 
@@ -15,7 +15,7 @@ pub struct Number {
 
 // The next word of a line as a number; 0, at the end of the line, where it is none.
 pub fn number_next(line: &[u8], at: usize) -> Number
-    ensures { λ r. ⌜ r ≡ numberNext (now (line .entry)) at ⌝ }
+    ensures { λ r. ⌜ r ≡ numberWord (now (line .entry)) at ⌝ }
 {
     match text::parse_number(line, text::skip_spaces(line, at)) {
         Parsed::Number { value, next } => Number { value, next },

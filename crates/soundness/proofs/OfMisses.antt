@@ -12,7 +12,7 @@ use Rattle.model.specs.declared.Settings.{Settings}
 use Rattle.words.specs.Words.{some, countBelow}
 use Rattle.model.specs.Address.{blockOf, sectorIndex, setIndex}
 use Rattle.model.specs.Lent.{tagAt, statusAt, missAt, sentAt, ticketCountAt, ticketAt}
-use Rattle.model.specs.SoundLent.{linesFine, entryFor, readFor, reservedFor, ticketFine, entryFine}
+use Rattle.model.specs.SoundLent.{linesFine, entryAtFor, readFor, reservedFor, ticketFine, entryFine}
 use Rattle.words.proofs.Flags.{and-1, and-2, iff, not-but}
 use Rattle.words.proofs.Below.{some-same}
 use Rattle.layout.specs.declared.Layout.{Layout}
@@ -61,7 +61,7 @@ module _ (S : Settings) (longs words marks : List ℕ) where
 
     module _ (fine : linesFine S longs words marks ≡ true) (sets : 1 ≤ S .sets) (ways : 1 ≤ S .ways) (used : k ≡ 0 → ⊥) (held other : Bool)
         (holds : held ≡ some (S .ways) (λ w. reservedFor S longs words marks a (setIndex S a * S .ways + w)))
-        (others : other ≡ some e (entryFor S longs words marks a)) where
+        (others : other ≡ some e (entryAtFor S longs words marks a)) where
       abbrev named : Bool
       named = leb k (S .readers) && leb m 1 && eqb (a % 32) 0 && held && not other
 

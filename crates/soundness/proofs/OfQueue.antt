@@ -12,7 +12,7 @@ use Rattle.model.specs.declared.Settings.{Settings}
 use Rattle.words.specs.Words.{some}
 use Rattle.model.specs.Address.{goodBlock}
 use Rattle.model.specs.Lent.{queuedAt, queueKindAt, queueMaskAt}
-use Rattle.model.specs.SoundLent.{unsentFor, placeFine}
+use Rattle.model.specs.SoundLent.{unsentAtFor, placeFine}
 use Rattle.layout.specs.declared.Layout.{Layout}
 use Rattle.layout.specs.Layout.{LaysOut}
 
@@ -54,7 +54,7 @@ module _ (S : Settings) {at : Layout} (laid : LaysOut S at) (longs words marks :
   pub unused-place : k ≡ 0 → (clean && eqb a 0) ≡ placeFine S longs words marks p
   unused-place e = let q : queueKindAt S marks p ≡ 0 = sym kind ∙ e in rw (clean-is, address, q, add-zero) (unused-shape noMask _)
 
-  pub read-place : {r : Bool} → k ≡ 1 → r ≡ some (S .misses) (unsentFor S longs words marks a) → (clean && r) ≡ placeFine S longs words marks p
+  pub read-place : {r : Bool} → k ≡ 1 → r ≡ some (S .misses) (unsentAtFor S longs words marks a) → (clean && r) ≡ placeFine S longs words marks p
   read-place e h = let q : queueKindAt S marks p ≡ 1 = sym kind ∙ e in rw (clean-is, h, address, q, add-zero) (read-shape noMask _)
 
   pub back-place : k ≡ 2 → (goodBlock a && not clean) ≡ placeFine S longs words marks p

@@ -16,19 +16,19 @@ use Rattle.model.specs.SoundLent.{soundLent}
 use Rattle.model.specs.Calls.{encoded, call, checkCall, verdictOf}
 
 -- the three checks in front of an outcome
-abbrev pub checked : Bool → Bool → Bool → Outcome Lent → Outcome Lent
-checked r l s o = pick r (pick l (pick s o (refused NotSound)) (refused SliceLength)) (refused SettingOutOfRange)
+abbrev pub threeChecks : Bool → Bool → Bool → Outcome Lent → Outcome Lent
+threeChecks r l s o = pick r (pick l (pick s o (refused NotSound)) (refused SliceLength)) (refused SettingOutOfRange)
 
 never : {X : Type 0} {n : Refusal} → Refused n ≡ Passed → X
 never e = let z : _≡_ {A = ℕ} 0 1 = cc in absurd (omega arith)
 
-all-pass : (r l s : Bool) (L : Lent) → verdictOf (checked r l s (done [] L)) ≡ Passed → (r ≡ true) × (l ≡ true) × (s ≡ true)
+all-pass : (r l s : Bool) (L : Lent) → verdictOf (threeChecks r l s (done [] L)) ≡ Passed → (r ≡ true) × (l ≡ true) × (s ≡ true)
 all-pass true true true L e = (refl, refl, refl)
 all-pass true true false L e = never e
 all-pass true false s L e = never e
 all-pass false l s L e = never e
 
-first-refuses : (r l s : Bool) (L : Lent) (o : Outcome Lent) (n : Refusal) → verdictOf (checked r l s (done [] L)) ≡ Refused n → checked r l s o ≡ refused n
+first-refuses : (r l s : Bool) (L : Lent) (o : Outcome Lent) (n : Refusal) → verdictOf (threeChecks r l s (done [] L)) ≡ Refused n → threeChecks r l s o ≡ refused n
 first-refuses true true true L o n e = never (sym e)
 first-refuses true true false L o n e = cc
 first-refuses true false s L o n e = cc

@@ -21,7 +21,7 @@ pub(crate) fn has_entry(
     a: SectorAddress,
 ) -> bool
     requires { ⌜ LaysOut s at × Sized s (now longs) (now words) (now marks) × (n ≤ s .misses) ⌝ }
-    ensures { λ r. ⌜ r ≡ some n (is.entryFor s (now (longs .entry)) (now (words .entry)) (now (marks .entry)) (a .0)) ⌝ }
+    ensures { λ r. ⌜ r ≡ some n (is.entryAtFor s (now (longs .entry)) (now (words .entry)) (now (marks .entry)) (a .0)) ⌝ }
 {
     let mut e = 0;
     while e < n {
@@ -45,7 +45,7 @@ pub(crate) fn has_unsent(
     a: SectorAddress,
 ) -> bool
     requires { ⌜ LaysOut s at × Sized s (now longs) (now words) (now marks) ⌝ }
-    ensures { λ r. ⌜ r ≡ some (s .misses) (is.unsentFor s (now (longs .entry)) (now (words .entry)) (now (marks .entry)) (a .0)) ⌝ }
+    ensures { λ r. ⌜ r ≡ some (s .misses) (is.unsentAtFor s (now (longs .entry)) (now (words .entry)) (now (marks .entry)) (a .0)) ⌝ }
 {
     let n = s.misses;
     let mut e = 0;

@@ -12,7 +12,7 @@ use lib.Seq.{drop-cons, drop-drop, drop-length}
 use Rattle.words.proofs.Flags.{by-flag}
 use Rattle.model.specs.Records.{isCommand, lengthOf}
 use Rattle.streaming.specs.Scopes.{beforeLast}
-use Rattle.streaming.specs.Halts.{Alone}
+use Rattle.streaming.specs.Halts.{OneRecord}
 
 -- ---- the walk
 
@@ -97,7 +97,7 @@ last-most zero (k ∷ s) =
 pub last-least : (n : ℕ) (s : List ℕ) → n ≤ length s → n ≤ beforeLast n s
 last-least n s h = let e = last-skips n s h in omega arith
 
-pub last-alone : (n : ℕ) (s : List ℕ) → n ≤ length s → Alone (drop (beforeLast n s) s)
+pub last-alone : (n : ℕ) (s : List ℕ) → n ≤ length s → OneRecord (drop (beforeLast n s) s)
 unfolding beforeLast
 last-alone n [] h = tt
 last-alone (suc n) (b ∷ s) h = last-alone n s (le-of-suc-le-suc h)
@@ -110,4 +110,4 @@ last-alone zero (k ∷ s) h =
     (λ z. rw (drop-length s) tt)
   where
     At : ℕ → Type 0
-    At m = Alone (drop m (k ∷ s))
+    At m = OneRecord (drop m (k ∷ s))

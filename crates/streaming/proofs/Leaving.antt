@@ -25,8 +25,8 @@ use Rattle.streaming.specs.declared.work.Next.the-variants as next
 use Rattle.streaming.specs.declared.work.Work.{Work}
 use Rattle.streaming.specs.declared.scope.Scope.{Scope}
 use Rattle.streaming.specs.Scopes.{partEnd}
-use Rattle.streaming.specs.Works.{nextOf, failedOf, behindOf}
-use Rattle.streaming.specs.Parts.{Leaves, Ran}
+use Rattle.streaming.specs.Works.{nextAfterStop, failedOf, behindOf}
+use Rattle.streaming.specs.Parts.{PartLeaves, Ran}
 
 -- ---- the rest of a part, at the front of the buffer
 
@@ -62,16 +62,16 @@ module _ {S : Settings} (k : Scope) (buf : List ℕ) (n : ℕ) (inside : n ≤ l
   abbrev waiting : List ℕ
   waiting = take n buf
 
-  abbrev part : List ℕ
-  part = take (partEnd k waiting) waiting
+  abbrev runPart : List ℕ
+  runPart = take (partEnd k waiting) waiting
 
   ends : end ≤ length waiting
   ends = rw (← q-is) short
 
-  part-is : p ≡ part
+  part-is : p ≡ runPart
   part-is = p-is ∙ front-part end n buf ends ∙ ap (λ (m : ℕ). take m waiting) (end-is ∙ ap (partEnd k) q-is)
 
-  u : Resumes S (restFrom S part 0 0 e) part 0 0 e L ran f M
+  u : Resumes S (restFrom S runPart 0 0 e) runPart 0 0 e L ran f M
   u = subst (λ (x : List ℕ). Resumes S (restFrom S x 0 0 e) x 0 0 e L ran f M) part-is v
 
   pub part-within : ran .consumed ≤ n
@@ -88,13 +88,13 @@ module _ {S : Settings} (k : Scope) (buf : List ℕ) (n : ℕ) (inside : n ≤ l
     waits = count ∙ carried-is buf (ran .consumed) n part-within inside
 
     module _ (t : Tables) (i : Encodes S L t) where
-      stops : ran .stop ≡ runFrom S 0 (length e) part t .stop
+      stops : ran .stop ≡ runFrom S 0 (length e) runPart t .stop
       stops = rw sub-zero at (u .on t i .stop)
 
-      eats : ran .consumed ≡ runFrom S 0 (length e) part t .consumed
+      eats : ran .consumed ≡ runFrom S 0 (length e) runPart t .consumed
       eats = rw (sub-zero, zero-add) at (u .on t i .consumed)
 
-      writes : ran .written ≡ length (runFrom S 0 (length e) part t .events)
+      writes : ran .written ≡ length (runFrom S 0 (length e) runPart t .events)
       writes = rw sub-zero at (u .on t i .written)
 
     module _ {given : List ℕ} (given-is : given ≡ take (ran .written) f) {out : ℕ} (out-is : out ≡ length given) where
@@ -103,8 +103,8 @@ module _ {S : Settings} (k : Scope) (buf : List ℕ) (n : ℕ) (inside : n ≤ l
 
       module _ {w x : Work} (have-is : x .have ≡ have) (stop-is : x .stop ≡ ran .stop) (left-is : x .left ≡ w .left)
           (consumed-is : x .consumed ≡ w .consumed + ran .consumed) (written-is : x .written ≡ (w .written + out) % 2 ^ 64)
-          (next-is : (x .next ≡ nextOf (ran .stop)) ⊎ (x .next ≡ next.Failed)) where
-        leaves : (t : Tables) → Encodes S L t → Leaves S (runFrom S 0 (length e) part t) waiting e w x b f M
+          (next-is : (x .next ≡ nextAfterStop (ran .stop)) ⊎ (x .next ≡ next.Failed)) where
+        leaves : (t : Tables) → Encodes S L t → PartLeaves S (runFrom S 0 (length e) runPart t) waiting e w x b f M
         leaves t i = record {
           tables = rw sub-zero at (u .keeps t i);
           events = rw sub-zero at (u .on t i .events);

@@ -16,13 +16,13 @@ use Rattle.streaming.specs.declared.work.Next.{Next}
 use Rattle.streaming.specs.declared.work.Next.the-variants as next
 use Rattle.streaming.specs.declared.work.Work.{Work}
 use Rattle.streaming.specs.Works.{readsNext, startOf}
-use Rattle.streaming.specs.First.{Opened, Asked, afterReading}
+use Rattle.streaming.specs.First.{Opened, NoMoreRead, afterReading}
 
 -- what comes next goes by what is there
-asked-after : (n : ℕ) (buf : List ℕ) → Asked (afterReading (take n buf)) n buf
-asked-after n buf = by-flag (λ (m : Next). Asked m n buf) (firstThere (take n buf)) _ _ (λ z. z) (λ z. tt)
+asked-after : (n : ℕ) (buf : List ℕ) → NoMoreRead (afterReading (take n buf)) n buf
+asked-after n buf = by-flag (λ (m : Next). NoMoreRead m n buf) (firstThere (take n buf)) _ _ (λ z. z) (λ z. tt)
 
-opened : {have left : ℕ} {m : Next} {x : Work} (buf : List ℕ) → x ≡ startOf have left m → have ≤ length buf → have + left + 1 ≡ 2 ^ 64 → Asked m have buf → Opened buf x
+opened : {have left : ℕ} {m : Next} {x : Work} (buf : List ℕ) → x ≡ startOf have left m → have ≤ length buf → have + left + 1 ≡ 2 ^ 64 → NoMoreRead m have buf → Opened buf x
 opened buf e h q a = record { new = rw e; inside = rw e h; all = rw e q; asked = rw e a }
 
 pub opened-first : {x : Work} (buf : List ℕ) → x ≡ startOf 0 18446744073709551615 next.Read → Opened buf x
@@ -39,7 +39,7 @@ module _ {buf b : List ℕ} {w : Work} (o : Opened buf w) (size : length b ≡ l
       let z : m ≡ afterReading (take n b) = next-is ∙ ap afterReading s-is in
       (opened b e (omega arith) (omega arith) (rw z (asked-after n b)), rw e (turns-fall g q (readsNext m)))
 
-  opened-over : {m : Next} {x : Work} → x ≡ startOf (w .have) (w .left) m → readsNext m ≡ false → Asked m (w .have) b → OnceRead b w x
+  opened-over : {m : Next} {x : Work} → x ≡ startOf (w .have) (w .left) m → readsNext m ≡ false → NoMoreRead m (w .have) b → OnceRead b w x
   opened-over {m} e z a =
       let h = o .inside in
       (opened b e (omega arith) (o .all) a, rw e (turns-none (readsNext m) (w .left) (w .left) z))

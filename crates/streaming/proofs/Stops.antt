@@ -14,7 +14,7 @@ use lib.Seq.{length-take-le}
 use Rattle.model.specs.Tables.{Tables, after, eventsOf}
 use Rattle.model.specs.Records.{isCommand, isSettings, lengthOf, logBytes}
 use Rattle.model.specs.RunnerOf as runner
-use Rattle.model.specs.Runner.{eventRoom, laterStop, goesOn, stepAt, Result, halt, ahead, runFrom}
+use Rattle.model.specs.Runner.{eventRoom, laterStop, goesOn, stepAt, Result, halt, bytesThen, runFrom}
 use Rattle.model.specs.declared.Settings.{Settings}
 use Rattle.model.specs.declared.Stop.{Stop}
 use Rattle.model.specs.declared.Stop.the-variants as stop
@@ -23,7 +23,7 @@ use Rattle.records.proofs.Lengths.{body-short}
 use Rattle.running.proofs.Running.{going, from-stops, from-goes}
 use Rattle.running.proofs.Parts.{stopBy, later-more, later-roomy}
 use Rattle.streaming.specs.Scopes.{beforeLast}
-use Rattle.streaming.specs.Halts.{ofEnd, Behind, Alone}
+use Rattle.streaming.specs.Halts.{ofEnd, MayFollow, OneRecord}
 use Rattle.streaming.proofs.Lasts.{last-most, last-least}
 
 -- ---- the checks at a record, by what they come to
@@ -104,7 +104,7 @@ module _ (S : Settings) where
       let p = from-goes S room k a t z in
       let i = halts-there (lengthOf k) (room - length x) other a u (going room k a z .whole) w (λ f. g (ap (λ (r : Result Tables). r .stop) p ∙ f)) in
       let e : 0 + (1 + lengthOf k + o .consumed) ≡ suc (lengthOf k + o .consumed) = omega arith in
-      let y : There other 0 (k ∷ a) (ahead (1 + lengthOf k) x o) = rw e i in
+      let y : There other 0 (k ∷ a) (bytesThen (1 + lengthOf k) x o) = rw e i in
       subst (There other 0 (k ∷ a)) (sym p) y)
       (λ z.
       let p = from-stops S room k a t z in
@@ -144,7 +144,7 @@ module _ (S : Settings) where
   end-halts : (room : ℕ) (a b : List ℕ) (t : Tables) {n : Stop} → runFrom S 0 room a t ≡ halt n t → b ≡ [] → runFrom S 0 room (a ++ b) t ≡ halt n t
   end-halts room a b t h q = rw (q, append-nil) h
 
-  pub halts-behind : (room : ℕ) (a : List ℕ) (t : Tables) (n : Stop) → runFrom S 0 room a t ≡ halt n t → (b : List ℕ) → Behind n b → runFrom S 0 room (a ++ b) t ≡ halt n t
+  pub halts-behind : (room : ℕ) (a : List ℕ) (t : Tables) (n : Stop) → runFrom S 0 room a t ≡ halt n t → (b : List ℕ) → MayFollow n b → runFrom S 0 room (a ++ b) t ≡ halt n t
   halts-behind room a t n h b q =
       ⊎-elim
       (λ z. end-halts room a b t h (q z))
@@ -181,7 +181,7 @@ module _ (S : Settings) where
 
 -- ---- what waits is short
 
-pub alone-short : (s : List ℕ) → Alone s → length s < 64
+pub alone-short : (s : List ℕ) → OneRecord s → length s < 64
 alone-short [] h = omega arith
 alone-short (k ∷ s) h = let l = body-short k (h .0) in omega arith
 

@@ -13,7 +13,7 @@ use Rattle.encoding.proofs.Bridge.{is-tables}
 use Rattle.model.specs.Tables.{Tables}
 use Rattle.model.specs.Lent.{Lent}
 use Rattle.model.specs.Inner.{Encodes, SoundSlices}
-use Rattle.model.specs.Runner.{Result, ahead, runFrom}
+use Rattle.model.specs.Runner.{Result, bytesThen, runFrom}
 use Rattle.model.specs.declared.Settings.{Settings}
 use Rattle.model.specs.declared.Stop.{Stop}
 use Rattle.model.specs.declared.Stop.the-variants as stop
@@ -28,15 +28,15 @@ use Rattle.streaming.specs.declared.work.Next.the-variants as next
 use Rattle.streaming.specs.declared.work.Work.{Work}
 use Rattle.streaming.specs.declared.scope.Scope.{Scope}
 use Rattle.streaming.specs.Scopes.{partEnd}
-use Rattle.streaming.specs.Works.{nextOf, readsNext, goesNext, readOf, endedOf, failedOf, Sure, Few, turnsOf}
+use Rattle.streaming.specs.Works.{nextAfterStop, readsNext, goesNext, readOf, endedOf, failedOf, Sure, Few, turnsOf}
 use Rattle.streaming.specs.Halts.{Claims, Before}
-use Rattle.streaming.specs.Parts.{Ready, Leaves, Ran, Goes, Went, Came, Turned}
+use Rattle.streaming.specs.Parts.{Ready, PartLeaves, Ran, GoesOver, Went, Came, PartTurn}
 use Rattle.streaming.proofs.Stops.{full-eats}
-use Rattle.streaming.proofs.Waiting.{part, ran, part-behind, part-eats, before-part, few-before}
+use Rattle.streaming.proofs.Waiting.{runPart, ran, part-behind, part-eats, before-part, few-before}
 
 -- ---- what comes next
 
-next-sure : (s : Stop) → (s ≡ stop.SliceLength → ⊥) → Sure (nextOf s) s
+next-sure : (s : Stop) → (s ≡ stop.SliceLength → ⊥) → Sure (nextAfterStop s) s
 next-sure stop.Nothing h = final refl
 next-sure stop.CutShort h = final refl
 next-sure stop.NoRoom h = tt
@@ -47,7 +47,7 @@ next-sure stop.OutOfPlace h = final refl
 next-sure stop.UnknownKind h = final refl
 
 -- what stops a run comes whatever follows
-next-claims : (s : Stop) (have : ℕ) → Claims (nextOf s) s have
+next-claims : (s : Stop) (have : ℕ) → Claims (nextAfterStop s) s have
 next-claims stop.Nothing have = tt
 next-claims stop.CutShort have = tt
 next-claims stop.NoRoom have = tt
@@ -58,7 +58,7 @@ next-claims stop.OutOfPlace have = refl
 next-claims stop.UnknownKind have = refl
 
 -- a turn that ran what waited
-fewer-ran : (s : Stop) (have now left c : ℕ) → now + c ≡ have → (s ≡ stop.NoRoom → 0 < c) → turnsOf (nextOf s) now left < turnsOf next.Run have left
+fewer-ran : (s : Stop) (have now left c : ℕ) → now + c ≡ have → (s ≡ stop.NoRoom → 0 < c) → turnsOf (nextAfterStop s) now left < turnsOf next.Run have left
 fewer-ran stop.Nothing have now left c e g = omega arith
 fewer-ran stop.CutShort have now left c e g = omega arith
 fewer-ran stop.NoRoom have now left c e g = let h = g refl in omega arith
@@ -88,9 +88,9 @@ module _ (S : Settings) (room : ℕ) (p : List ℕ) (t : Tables) (k : Scope) whe
   abbrev o : Result Tables
   o = ran S room p t k
 
-  part-goes : Goes S room t p (o .consumed) (o .events) (o .tables) (drop (o .consumed) p)
+  part-goes : GoesOver S room t p (o .consumed) (o .events) (o .tables) (drop (o .consumed) p)
   part-goes b other h =
-      let a = part S room p t k in
+      let a = runPart S room p t k in
       let x = drop (partEnd k p) p in
       let e : a ++ (x ++ b) ≡ p ++ b = sym (append-assoc a x b) ∙ ap (λ (l : List ℕ). l ++ b) (part-behind S room p t k) in
       let i : o .consumed ≤ length p = let c = part-eats S room p t k in let l = ap length (sym (part-behind S room p t k)) ∙ length-append a x in omega arith in
@@ -104,7 +104,7 @@ none-written : (n : ℕ) → n < 2 ^ 64 → n ≡ (n + 0) % 2 ^ 64
 none-written n h = let e : n + 0 ≡ n = omega arith in rw e (sym (mod-eq-of-lt h))
 
 module _ (S : Settings) (size : ℕ) where
-  none-goes : (t : Tables) (p : List ℕ) → Goes S size t p 0 [] t p
+  none-goes : (t : Tables) (p : List ℕ) → GoesOver S size t p 0 [] t p
   none-goes t p b room h = rw (sub-zero, zero-add)
 
   module _ {L : Lent} (p : List ℕ) {w r : Work} (small : w .written < 2 ^ 64) (consumed : r .consumed ≡ w .consumed) (written : r .written ≡ w .written)
@@ -127,18 +127,18 @@ module _ (S : Settings) (size : ℕ) where
 -- ---- one after the other
 
 module _ (S : Settings) (size : ℕ) where
-  goes-then : (t u v : Tables) (s more q z : List ℕ) (m n : ℕ) (x y : List ℕ) → Goes S size t s m x u q → Goes S size u (q ++ more) n y v z
-      → Goes S size t (s ++ more) (m + n) (x ++ y) v z
+  goes-then : (t u v : Tables) (s more q z : List ℕ) (m n : ℕ) (x y : List ℕ) → GoesOver S size t s m x u q → GoesOver S size u (q ++ more) n y v z
+      → GoesOver S size t (s ++ more) (m + n) (x ++ y) v z
   goes-then t u v s more q z m n x y f g b room h =
       let l : length (x ++ y) ≡ length x + length y = length-append x y in
       let a = f (more ++ b) room (omega arith) in
       let c = g b (room - length x) (omega arith) in
-      let d : runFrom S 0 (room - length x) (q ++ (more ++ b)) u ≡ ahead n y (runFrom S 0 (room - length x - length y) (z ++ b) v) =
+      let d : runFrom S 0 (room - length x) (q ++ (more ++ b)) u ≡ bytesThen n y (runFrom S 0 (room - length x - length y) (z ++ b) v) =
       ap (λ (k : List ℕ). runFrom S 0 (room - length x) k u) (sym (append-assoc q more b)) ∙ c in
       let e : room - length x - length y ≡ room - length (x ++ y) = omega arith in
       ap (λ (k : List ℕ). runFrom S 0 room k t) (append-assoc s more b)
       ∙ a
-      ∙ ap (ahead m x) d
+      ∙ ap (bytesThen m x) d
       ∙ rw (add-assoc, append-assoc, e)
 
   went-then : {t : Tables} {s : List ℕ} {w v r : Work} {q z : List ℕ} {M N : Lent} (a : Went S size t s w v q M) (more : List ℕ) → Went S size (a .tables) (q ++ more) v r z N
@@ -174,13 +174,13 @@ module _ {S : Settings} {k : Scope} {p e : List ℕ} {L : Lent} {w r : Work} {bu
   abbrev ranOn : Result Tables
   ranOn = runFrom S 0 (length e) (take (partEnd k p) p) (held .tables)
 
-  l : Leaves S ranOn p e w r buf f M
+  l : PartLeaves S ranOn p e w r buf f M
   l = x .on (held .tables) (held .are)
 
   rest-long : length (drop (ranOn .consumed) p) ≡ r .have
   rest-long = let d = length-drop (ranOn .consumed) p in let h = l .have in omega arith
 
-  ran-before : Before S k (nextOf (ranOn .stop)) (ranOn .stop) (drop (ranOn .consumed) p) (ranOn .tables)
+  ran-before : Before S k (nextAfterStop (ranOn .stop)) (ranOn .stop) (drop (ranOn .consumed) p) (ranOn .tables)
   ran-before = before-part S (length e) p (held .tables) k (ranOn .stop) refl
 
   ran-same : (t : Tables) → Encodes S M t → ranOn .tables ≡ t
@@ -189,28 +189,28 @@ module _ {S : Settings} {k : Scope} {p e : List ℕ} {L : Lent} {w r : Work} {bu
   ran-told : (t : Tables) → Encodes S M t → Before S k (r .next) (r .stop) (take (r .have) buf) t
   ran-told t i =
       ⊎-elim
-      (λ (z : r .next ≡ nextOf (ranOn .stop)). rw (z, l .stop, l .rest, ← ran-same t i) ran-before)
+      (λ (z : r .next ≡ nextAfterStop (ranOn .stop)). rw (z, l .stop, l .rest, ← ran-same t i) ran-before)
       (λ (z : r .next ≡ next.Failed). rw z tt)
       (l .next)
 
   ran-few : Few (r .next) (r .have)
   ran-few =
       ⊎-elim
-      (λ (z : r .next ≡ nextOf (ranOn .stop)). rw (z, ← rest-long) (few-before S (drop (ranOn .consumed) p) (ranOn .tables) k (ranOn .stop) ran-before))
+      (λ (z : r .next ≡ nextAfterStop (ranOn .stop)). rw (z, ← rest-long) (few-before S (drop (ranOn .consumed) p) (ranOn .tables) k (ranOn .stop) ran-before))
       (λ (z : r .next ≡ next.Failed). rw z tt)
       (l .next)
 
   ran-sure : Sure (r .next) (r .stop)
   ran-sure =
       ⊎-elim
-      (λ (z : r .next ≡ nextOf (ranOn .stop)). rw (z, l .stop) (next-sure (ranOn .stop) (run-fits S 0 (length e) (take (partEnd k p) p) (held .tables))))
+      (λ (z : r .next ≡ nextAfterStop (ranOn .stop)). rw (z, l .stop) (next-sure (ranOn .stop) (run-fits S 0 (length e) (take (partEnd k p) p) (held .tables))))
       (λ (z : r .next ≡ next.Failed). rw z tt)
       (l .next)
 
   ran-claims : Claims (r .next) (r .stop) (r .have)
   ran-claims =
       ⊎-elim
-      (λ (z : r .next ≡ nextOf (ranOn .stop)). rw (z, l .stop) (next-claims (ranOn .stop) (r .have)))
+      (λ (z : r .next ≡ nextAfterStop (ranOn .stop)). rw (z, l .stop) (next-claims (ranOn .stop) (r .have)))
       (λ (z : r .next ≡ next.Failed). rw z tt)
       (l .next)
 
@@ -229,7 +229,7 @@ module _ {S : Settings} {k : Scope} {p e : List ℕ} {L : Lent} {w r : Work} {bu
   pub ran-fewer : turnsOf (r .next) (r .have) (r .left) < turnsOf next.Run (w .have) (w .left)
   ran-fewer =
       ⊎-elim
-      (λ (z : r .next ≡ nextOf (ranOn .stop)).
+      (λ (z : r .next ≡ nextAfterStop (ranOn .stop)).
       rw (z, l .left) (fewer-ran (ranOn .stop) (w .have) (r .have) (w .left) (ranOn .consumed) (l .have ∙ long) (full-eats S (length e) (take (partEnd k p) p) (held .tables) space)))
       (λ (z : r .next ≡ next.Failed). rw z (omega arith))
       (l .next)
@@ -252,7 +252,7 @@ module _ {S : Settings} {k : Scope} {p e : List ℕ} {L : Lent} {w r : Work} {bu
         };
   }
 
-  pub ran-turned : w .next ≡ next.Run → Turned S k (length e) L p w r buf M
+  pub ran-turned : w .next ≡ next.Run → PartTurn S k (length e) L p w r buf M
   ran-turned q = record { ready = ran-ready; claims = ran-claims; fewer = rw q ran-fewer; came = ran-came }
 
 -- ---- reading
@@ -266,7 +266,7 @@ module _ {S : Settings} {k : Scope} {L : Lent} {buf b : List ℕ} {w : Work} (y 
   same-front : take (w .have) b ≡ take (w .have) buf
   same-front = grown .before
 
-  pub ended-turned : (n : ℕ) {end : Ended} → g ≡ more.End end → {x : Work} → x ≡ endedOf w end → Turned S k n L (take (w .have) buf) w x b L
+  pub ended-turned : (n : ℕ) {end : Ended} → g ≡ more.End end → {x : Work} → x ≡ endedOf w end → PartTurn S k n L (take (w .have) buf) w x b L
   ended-turned n {end} q e = record {
     ready = rw e record {
       held = y .held;
@@ -283,7 +283,7 @@ module _ {S : Settings} {k : Scope} {L : Lent} {buf b : List ℕ} {w : Work} (y 
     came = rw (e, same-front) (none-came S n (take (w .have) buf) (y .small) refl refl refl);
   }
 
-  pub failed-turned : (n : ℕ) {x : Work} → x ≡ failedOf w → Turned S k n L (take (w .have) buf) w x b L
+  pub failed-turned : (n : ℕ) {x : Work} → x ≡ failedOf w → PartTurn S k n L (take (w .have) buf) w x b L
   failed-turned n e = record {
     ready = rw e record {
       held = y .held;
@@ -305,35 +305,35 @@ module _ {S : Settings} {k : Scope} {L : Lent} {buf b : List ℕ} {w : Work} (y 
     came-in : (w .have < m) × (m ≤ length buf) × (m + left ≡ w .have + w .left)
     came-in = rw q at (grown .grows)
 
-    abbrev fresh : List ℕ
-    fresh = drop (w .have) (take m b)
+    abbrev readBytes : List ℕ
+    readBytes = drop (w .have) (take m b)
 
-    fresh-behind : take (w .have) buf ++ fresh ≡ take m b
+    fresh-behind : take (w .have) buf ++ readBytes ≡ take m b
     fresh-behind =
         let h = came-in in
         let n : length (take m b) ≡ m = length-take-le m b (omega arith) in
         let a : take (w .have) b ≡ take (w .have) (take m b) =
         ap (take (w .have)) (sym (take-append-drop m b)) ∙ take-append-le (w .have) (take m b) (drop m b) (omega arith) in
-        ap (λ (s : List ℕ). s ++ fresh) (sym same-front ∙ a) ∙ take-append-drop (w .have) (take m b)
+        ap (λ (s : List ℕ). s ++ readBytes) (sym same-front ∙ a) ∙ take-append-drop (w .have) (take m b)
 
-    fresh-long : length fresh + w .have ≡ m
+    fresh-long : length readBytes + w .have ≡ m
     fresh-long = let h = came-in in let n = length-take-le m b (omega arith) in let d = length-drop (w .have) (take m b) in omega arith
 
     pub read-inside : v .have ≤ length b
     read-inside = let h = came-in in let e = ap (λ (z : Work). z .have) v-is in omega arith
 
-    pub read-counted : v .consumed + v .have + v .left < 2 ^ 64
-    read-counted = let h = came-in in let c = y .counted in rw v-is (omega arith)
+    pub bytes-counted : v .consumed + v .have + v .left < 2 ^ 64
+    bytes-counted = let h = came-in in let c = y .counted in rw v-is (omega arith)
 
     pub read-fits : v .consumed + v .have < 2 ^ 64
-    read-fits = let c = read-counted in omega arith
+    read-fits = let c = bytes-counted in omega arith
 
     read-came : (n : ℕ) → Came S n L (take (w .have) buf) w v (take m b) L
     read-came n =
         let h = came-in in
         let f = fresh-long in
         record {
-          bytes = fresh;
+          bytes = readBytes;
           counted = rw v-is (omega arith);
           on = λ t i. record {
             eaten = 0;
@@ -347,7 +347,7 @@ module _ {S : Settings} {k : Scope} {L : Lent} {buf b : List ℕ} {w : Work} (y 
         }
 
     pub read-turned : {e f bufx : List ℕ} {r : Work} {M : Lent} → Ran S k (take (v .have) b) e L v r bufx f M → 64 ≤ length e → length bufx ≡ length b
-        → Turned S k (length e) L (take (w .have) buf) w r bufx M
+        → PartTurn S k (length e) L (take (w .have) buf) w r bufx M
     read-turned {e} {f} {bufx} {r} {M} x space same =
         let h = came-in in
         let hv = ap (λ (z : Work). z .have) v-is in
@@ -355,11 +355,11 @@ module _ {S : Settings} {k : Scope} {L : Lent} {buf b : List ℕ} {w : Work} (y 
         let a = y .roomy in
         let i = read-inside in
         let long : length (take (v .have) b) ≡ v .have = length-take-le (v .have) b i in
-        let fewer = ran-fewer x (y .held) space (omega arith) long read-counted in
-        let last = ran-came x (y .held) space (omega arith) long read-counted in
+        let fewer = ran-fewer x (y .held) space (omega arith) long bytes-counted in
+        let last = ran-came x (y .held) space (omega arith) long bytes-counted in
         record {
-          ready = ran-ready x (y .held) space (omega arith) long read-counted;
-          claims = ran-claims x (y .held) space (omega arith) long read-counted;
+          ready = ran-ready x (y .held) space (omega arith) long bytes-counted;
+          claims = ran-claims x (y .held) space (omega arith) long bytes-counted;
           fewer = rw reads (omega arith);
           came = came-then S (length e) (read-came (length e)) (subst (λ (n : ℕ). Came S (length e) L (take n b) v r (take (r .have) bufx) M) hv last);
         }
@@ -369,6 +369,6 @@ module _ {S : Settings} {k : Scope} {L : Lent} {buf b : List ℕ} {w : Work} (y 
 pub start-came : {S : Settings} {k : Scope} {L : Lent} {buf : List ℕ} {w : Work} (size : ℕ) → Ready S k L buf w → Came S size L (take (w .have) buf) w w (take (w .have) buf) L
 start-came {S} {k} {L} {buf} {w} size y = none-came S size (take (w .have) buf) (y .small) refl refl refl
 
-pub next-came : {S : Settings} {k : Scope} {size n : ℕ} {L M N : Lent} {p q buf : List ℕ} {w v r : Work} → Came S size L p w v q M → n ≡ size → Turned S k n M q v r buf N
+pub next-came : {S : Settings} {k : Scope} {size n : ℕ} {L M N : Lent} {p q buf : List ℕ} {w v r : Work} → Came S size L p w v q M → n ≡ size → PartTurn S k n M q v r buf N
     → Came S size L p w r (take (r .have) buf) N
 next-came {S} {k} {size} {n} {L} {M} {N} {p} {q} {buf} {w} {v} {r} a e t = came-then S size a (subst (λ (m : ℕ). Came S m M q v r (take (r .have) buf) N) e (t .came))

@@ -15,9 +15,9 @@ use Rattle.words.proofs.Flags.{clash}
 use Rattle.running.proofs.Asked.{final}
 use Rattle.streaming.specs.declared.scope.Scope.{Scope}
 use Rattle.streaming.specs.declared.scope.Scope.the-variants as scope
-use Rattle.streaming.specs.Works.{nextOf, Few}
+use Rattle.streaming.specs.Works.{nextAfterStop, Few}
 use Rattle.streaming.specs.Scopes.{beforeLast, partEnd}
-use Rattle.streaming.specs.Halts.{Behind, Halts, Alone, Before}
+use Rattle.streaming.specs.Halts.{MayFollow, Halts, OneRecord, Before}
 use Rattle.streaming.proofs.Lasts.{last-most, last-alone}
 use Rattle.streaming.proofs.Stops.{halts-there, halts-behind, eats-inside, nothing-left, cut-short, alone-short, last-whole}
 
@@ -26,47 +26,47 @@ part-most scope.All p = omega arith
 part-most scope.BeforeLast p = last-most 0 p
 
 module _ (S : Settings) (room : ℕ) (p : List ℕ) (t : Tables) (k : Scope) where
-  abbrev pub part : List ℕ
-  part = take (partEnd k p) p
+  abbrev pub runPart : List ℕ
+  runPart = take (partEnd k p) p
 
-  abbrev behind : List ℕ
-  behind = drop (partEnd k p) p
+  abbrev behindPart : List ℕ
+  behindPart = drop (partEnd k p) p
 
   abbrev pub ran : Result Tables
-  ran = runFrom S 0 room part t
+  ran = runFrom S 0 room runPart t
 
-  pub part-behind : part ++ behind ≡ p
+  pub part-behind : runPart ++ behindPart ≡ p
   part-behind = take-append-drop (partEnd k p) p
 
-  pub part-long : length part ≡ partEnd k p
+  pub part-long : length runPart ≡ partEnd k p
   part-long = length-take-le (partEnd k p) p (part-most k p)
 
-  pub part-eats : ran .consumed ≤ length part
-  part-eats = let h = eats-inside S 0 room part t (omega arith) in omega arith
+  pub part-eats : ran .consumed ≤ length runPart
+  part-eats = let h = eats-inside S 0 room runPart t (omega arith) in omega arith
 
-  pub part-rest : drop (ran .consumed) p ≡ drop (ran .consumed) part ++ behind
-  part-rest = ap (drop (ran .consumed)) (sym part-behind) ∙ drop-append-le (ran .consumed) part behind part-eats
+  pub part-rest : drop (ran .consumed) p ≡ drop (ran .consumed) runPart ++ behindPart
+  part-rest = ap (drop (ran .consumed)) (sym part-behind) ∙ drop-append-le (ran .consumed) runPart behindPart part-eats
 
   part-halts : (other : ℕ) (n : Stop) → eventRoom ≤ other → ran .stop ≡ n → (n ≡ stop.NoRoom → ⊥)
-      → runFrom S 0 other (drop (ran .consumed) part) (ran .tables) ≡ halt n (ran .tables)
+      → runFrom S 0 other (drop (ran .consumed) runPart) (ran .tables) ≡ halt n (ran .tables)
   part-halts other n w q g =
-      (rw zero-add at (halts-there S 0 room other part t (omega arith) w (λ f. g (sym q ∙ f))))
+      (rw zero-add at (halts-there S 0 room other runPart t (omega arith) w (λ f. g (sym q ∙ f))))
       ∙ ap (λ (m : Stop). halt m (ran .tables)) q
 
-  rest-halts : (n : Stop) → ran .stop ≡ n → (n ≡ stop.NoRoom → ⊥) → ((b : List ℕ) → Behind n b → Behind n (behind ++ b))
+  rest-halts : (n : Stop) → ran .stop ≡ n → (n ≡ stop.NoRoom → ⊥) → ((b : List ℕ) → MayFollow n b → MayFollow n (behindPart ++ b))
       → Halts S n (drop (ran .consumed) p) (ran .tables)
   rest-halts n q g m b other h w =
       rw (part-rest, append-assoc)
-      (halts-behind S other (drop (ran .consumed) part) (ran .tables) n (part-halts other n w q g) (behind ++ b) (m b h))
+      (halts-behind S other (drop (ran .consumed) runPart) (ran .tables) n (part-halts other n w q g) (behindPart ++ b) (m b h))
 
 module _ (S : Settings) (room : ℕ) (p : List ℕ) (t : Tables) where
   all-halts : (n : Stop) → ran S room p t scope.All .stop ≡ n → (n ≡ stop.NoRoom → ⊥) → Halts S n (drop (ran S room p t scope.All .consumed) p) (ran S room p t scope.All .tables)
   all-halts n q g = rest-halts S room p t scope.All n q g (λ b h. rw (drop-length p) h)
 
   -- all of it has run
-  last-rest : ran S room p t scope.BeforeLast .stop ≡ stop.Nothing → Alone (drop (ran S room p t scope.BeforeLast .consumed) p)
+  last-rest : ran S room p t scope.BeforeLast .stop ≡ stop.Nothing → OneRecord (drop (ran S room p t scope.BeforeLast .consumed) p)
   last-rest q =
-      let a = part S room p t scope.BeforeLast in
+      let a = runPart S room p t scope.BeforeLast in
       let o = ran S room p t scope.BeforeLast in
       let h = part-halts S room p t scope.BeforeLast 64 stop.Nothing (omega arith) q (final {n = stop.Nothing} refl .roomy) in
       let z = nothing-left S 64 (drop (o .consumed) a) (o .tables) h in
@@ -76,7 +76,7 @@ module _ (S : Settings) (room : ℕ) (p : List ℕ) (t : Tables) where
       let e : o .consumed ≡ beforeLast 0 p = omega arith in
       rw e (last-alone 0 p (omega arith))
 
-  pub before-part : (k : Scope) (n : Stop) → ran S room p t k .stop ≡ n → Before S k (nextOf n) n (drop (ran S room p t k .consumed) p) (ran S room p t k .tables)
+  pub before-part : (k : Scope) (n : Stop) → ran S room p t k .stop ≡ n → Before S k (nextAfterStop n) n (drop (ran S room p t k .consumed) p) (ran S room p t k .tables)
   before-part scope.All stop.Nothing q = all-halts stop.Nothing q (final {n = stop.Nothing} refl .roomy)
   before-part scope.All stop.CutShort q = all-halts stop.CutShort q (final {n = stop.CutShort} refl .roomy)
   before-part scope.All stop.NoRoom q = tt
@@ -97,10 +97,10 @@ module _ (S : Settings) (room : ℕ) (p : List ℕ) (t : Tables) where
 -- ---- what waits is short
 
 module _ (S : Settings) (q : List ℕ) (u : Tables) where
-  at-end : {n : Stop} → Halts S n q u → Behind n [] → runFrom S 0 64 q u ≡ halt n u
+  at-end : {n : Stop} → Halts S n q u → MayFollow n [] → runFrom S 0 64 q u ≡ halt n u
   at-end h e = rw append-nil at (h [] 64 e (omega arith))
 
-  pub few-before : (k : Scope) (n : Stop) → Before S k (nextOf n) n q u → Few (nextOf n) (length q)
+  pub few-before : (k : Scope) (n : Stop) → Before S k (nextAfterStop n) n q u → Few (nextAfterStop n) (length q)
   few-before scope.All stop.Nothing h = let z = nothing-left S 64 q u (at-end h (λ z. refl)) in omega arith
   few-before scope.All stop.CutShort h = cut-short S 64 q u (at-end h (λ z. refl))
   few-before scope.BeforeLast stop.Nothing h = alone-short q h

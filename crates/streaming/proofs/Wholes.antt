@@ -18,7 +18,7 @@ use Rattle.model.specs.Lent.{Lent, encode, lengthsFit}
 use Rattle.model.specs.Inner.{Encodes}
 use Rattle.model.specs.Records.{isCommand, isSettings, lengthOf}
 use Rattle.model.specs.RunnerOf as runner
-use Rattle.model.specs.Runner.{settingsOf, firstStop, goesOn, Result, halt, ahead, runFrom, lentResult, run}
+use Rattle.model.specs.Runner.{settingsOf, firstStop, goesOn, Result, halt, bytesThen, runFrom, lentResult, run}
 use Rattle.model.specs.declared.Settings.{Settings}
 use Rattle.model.specs.declared.Stop.{Stop}
 use Rattle.model.specs.declared.Stop.the-variants as stop
@@ -34,8 +34,8 @@ use Rattle.streaming.specs.declared.work.Work.{Work}
 use Rattle.streaming.specs.declared.scope.Scope.the-variants as scope
 use Rattle.streaming.specs.declared.parts.Started.the-variants.{Runs, Stops}
 use Rattle.streaming.specs.Works.{Sure, overNext, goesNext, stoppedNext, begunOf}
-use Rattle.streaming.specs.Halts.{ofEnd, Claims, Behind, Halts, Before}
-use Rattle.streaming.specs.First.{Asked, Opened}
+use Rattle.streaming.specs.Halts.{ofEnd, Claims, MayFollow, Halts, Before}
+use Rattle.streaming.specs.First.{NoMoreRead, Opened}
 use Rattle.streaming.specs.Parts.{Came, Went, Rested, Starts}
 use Rattle.streaming.specs.Wholes.{Whole}
 
@@ -92,7 +92,7 @@ module _ (L : Lent) where
       q
 
   -- also with what may come behind
-  stopped-more : (s b : List ℕ) (n : Stop) → beginning L s ≡ Stopped n → Behind n b → beginning L (s ++ b) ≡ Stopped n
+  stopped-more : (s b : List ℕ) (n : Stop) → beginning L s ≡ Stopped n → MayFollow n b → beginning L (s ++ b) ≡ Stopped n
   stopped-more s b n q h =
       ⊎-elim
       (λ (z : ofEnd n ≡ true). rw (h z, append-nil) q)
@@ -111,10 +111,10 @@ module _ (L : Lent) where
 
   -- with anything behind
   pub opens-run : (s b : List ℕ) (S : Settings) (n room : ℕ) → beginning L s ≡ Accepted S n
-      → run room (s ++ b) L ≡ ahead n [] (lentResult S (runFrom S 0 room (drop n s ++ b) (start S)))
+      → run room (s ++ b) L ≡ bytesThen n [] (lentResult S (runFrom S 0 room (drop n s ++ b) (start S)))
   opens-run s b S n room q =
       let m = begins-more L s b (accepted-there s S n q) ∙ q in
-      accepted-runs L (s ++ b) room m ∙ ap (λ (x : List ℕ). ahead n [] (lentResult S (runFrom S 0 room x (start S)))) (drop-append-le n s b (accepted-long L s q))
+      accepted-runs L (s ++ b) room m ∙ ap (λ (x : List ℕ). bytesThen n [] (lentResult S (runFrom S 0 room x (start S)))) (drop-append-le n s b (accepted-long L s q))
 
 -- ---- stopped at the first record
 
@@ -140,7 +140,7 @@ over-rests next.Stopped = refl
 over-rests (next.Ended e) = refl
 over-rests next.Failed = refl
 
-over-claims : (m : Next) (n : Stop) (have : ℕ) (buf : List ℕ) → Asked m have buf → (firstThere (take have buf) ≡ true → ofEnd n ≡ false) → Claims (overNext m) n have
+over-claims : (m : Next) (n : Stop) (have : ℕ) (buf : List ℕ) → NoMoreRead m have buf → (firstThere (take have buf) ≡ true → ofEnd n ≡ false) → Claims (overNext m) n have
 over-claims next.Read n have buf a f = tt
 over-claims next.Run n have buf a f = f a
 over-claims next.Stopped n have buf a f = absurd a
@@ -177,7 +177,7 @@ module _ {L M : Lent} {b buf : List ℕ} {w x : Work} (o : Opened b w) (s : Star
 -- ---- the turns behind it
 
 put-together : (S : Settings) (n : Stop) (size eaten consumed : ℕ) (events : List ℕ) (u : Tables) (N : Lent) → size + (eaten + 0) ≡ consumed → N ≡ encode S u
-    → ahead size [] (lentResult S (ahead eaten events (halt n u))) ≡ record { stop = n; consumed = consumed; events = events; tables = N }
+    → bytesThen size [] (lentResult S (bytesThen eaten events (halt n u))) ≡ record { stop = n; consumed = consumed; events = events; tables = N }
 put-together S n size eaten consumed events u N k e = rw (k, append-nil, e)
 
 module _ {L M N : Lent} {p buf c : List ℕ} {w v r : Work} {S : Settings} (s : Starts L p w (Runs S v) M buf)
@@ -204,12 +204,12 @@ module _ {L M N : Lent} {p buf c : List ℕ} {w v r : Work} {S : Settings} (s : 
 
   runs : (b : List ℕ) (room : ℕ) → length (went .events) + 65536 ≤ room
       → run room ((p ++ came .bytes) ++ b) L
-      ≡ ahead size [] (lentResult S (ahead (went .eaten) (went .events) (runFrom S 0 (room - length (went .events)) (take (r .have) c ++ b) (went .tables))))
+      ≡ bytesThen size [] (lentResult S (bytesThen (went .eaten) (went .events) (runFrom S 0 (room - length (went .events)) (take (r .have) c ++ b) (went .tables))))
   runs b room h =
       ap (λ (x : List ℕ). run room x L) (append-assoc p (came .bytes) b)
       ∙ opens-run L p (came .bytes ++ b) S size room q
-      ∙ ap (λ (x : List ℕ). ahead size [] (lentResult S (runFrom S 0 room x (start S)))) (sym (append-assoc (drop size p) (came .bytes) b))
-      ∙ ap (λ (o : Result Tables). ahead size [] (lentResult S o)) (went .goes b room h)
+      ∙ ap (λ (x : List ℕ). bytesThen size [] (lentResult S (runFrom S 0 room x (start S)))) (sym (append-assoc (drop size p) (came .bytes) b))
+      ∙ ap (λ (o : Result Tables). bytesThen size [] (lentResult S o)) (went .goes b room h)
 
   begun : v ≡ begunOf size (v .have) (w .left)
   begun = s .after scope.All .0
@@ -229,7 +229,7 @@ module _ {L M N : Lent} {p buf c : List ℕ} {w v r : Work} {S : Settings} (s : 
         let e : runFrom S 0 (room - length (went .events)) (take (r .have) c ++ b) u ≡ halt (r .stop) u = halts b (room - length (went .events)) h (omega arith) in
         let k : size + (went .eaten + 0) ≡ r .consumed = let a = went .consumed in omega arith in
         runs b room g
-        ∙ ap (λ (o : Result Tables). ahead size [] (lentResult S (ahead (went .eaten) (went .events) o))) e
+        ∙ ap (λ (o : Result Tables). bytesThen size [] (lentResult S (bytesThen (went .eaten) (went .events) o))) e
         ∙ put-together S (r .stop) size (went .eaten) (r .consumed) (went .events) u N k (went .are .encoded);
     front = λ b room g. ap (λ (o : Result Lent). take (length (went .events)) (o .events)) (runs b room g) ∙ take-append-seam (went .events) _;
   }

@@ -17,16 +17,16 @@ afterReading s = pick (firstThere s) next.Run next.Read
 
 -- why no more is read, with the first n bytes of a buffer there: the first record is; the system said that the input ends behind them;
 -- reading failed
-abbrev pub Asked : Next → ℕ → List ℕ → Type 0
-Asked next.Read n buf = Unit
-Asked next.Run n buf = firstThere (take n buf) ≡ true
-Asked next.Stopped n buf = ⊥
-Asked (next.Ended e) n buf = e .behind ≡ n
-Asked next.Failed n buf = Unit
+abbrev pub NoMoreRead : Next → ℕ → List ℕ → Type 0
+NoMoreRead next.Read n buf = Unit
+NoMoreRead next.Run n buf = firstThere (take n buf) ≡ true
+NoMoreRead next.Stopped n buf = ⊥
+NoMoreRead (next.Ended e) n buf = e .behind ≡ n
+NoMoreRead next.Failed n buf = Unit
 
 -- nothing has run; the bytes that came all wait in the buffer, and with those that may still come they are 2^64 - 1
 pub record Opened (buf : List ℕ) (w : Work) : Type 0 where
   pub new : w ≡ startOf (w .have) (w .left) (w .next)
   pub inside : w .have ≤ length buf
   pub all : w .have + w .left + 1 ≡ 2 ^ 64
-  pub asked : Asked (w .next) (w .have) buf
+  pub asked : NoMoreRead (w .next) (w .have) buf

@@ -36,21 +36,21 @@ Claims (next.Ended e) n have = e .behind ≡ have
 Claims next.Failed n have = Unit
 
 -- what may come behind bytes at which a run stops so: nothing at the end; the other stops come whatever follows
-abbrev pub Behind : Stop → List ℕ → Type 0
-Behind n b = ofEnd n ≡ true → b ≡ []
+abbrev pub MayFollow : Stop → List ℕ → Type 0
+MayFollow n b = ofEnd n ≡ true → b ≡ []
 
 -- the run of the bytes p, from the tables t, stops before the first of them
 abbrev pub Halts : Settings → Stop → List ℕ → Tables → Type 0
-Halts S n p t = (b : List ℕ) (room : ℕ) → Behind n b → eventRoom ≤ room → runFrom S 0 room (p ++ b) t ≡ halt n t
+Halts S n p t = (b : List ℕ) (room : ℕ) → MayFollow n b → eventRoom ≤ room → runFrom S 0 room (p ++ b) t ≡ halt n t
 
 -- one record of a command, whole or cut short, or none
-abbrev pub Alone : List ℕ → Type 0
-Alone [] = Unit
-Alone (k ∷ bs) = (isCommand k ≡ true) × (length bs ≤ lengthOf k)
+abbrev pub OneRecord : List ℕ → Type 0
+OneRecord [] = Unit
+OneRecord (k ∷ bs) = (isCommand k ≡ true) × (length bs ≤ lengthOf k)
 
 -- all before the last record has run, or the run stops before that
 abbrev pub Lasts : Settings → Stop → List ℕ → Tables → Type 0
-Lasts S stop.Nothing p t = Alone p
+Lasts S stop.Nothing p t = OneRecord p
 Lasts S stop.CutShort p t = ⊥
 Lasts S stop.SettingOutOfRange p t = Halts S stop.SettingOutOfRange p t
 Lasts S stop.SliceLength p t = Halts S stop.SliceLength p t
@@ -59,14 +59,14 @@ Lasts S stop.OutOfPlace p t = Halts S stop.OutOfPlace p t
 Lasts S stop.UnknownKind p t = Halts S stop.UnknownKind p t
 Lasts S stop.NoRoom p t = Halts S stop.NoRoom p t
 
-abbrev pub Waits : Settings → Scope → Stop → List ℕ → Tables → Type 0
-Waits S scope.All n p t = Halts S n p t
-Waits S scope.BeforeLast n p t = Lasts S n p t
+abbrev pub StopsBefore : Settings → Scope → Stop → List ℕ → Tables → Type 0
+StopsBefore S scope.All n p t = Halts S n p t
+StopsBefore S scope.BeforeLast n p t = Lasts S n p t
 
 -- where the run has stopped, or would at the end of its input
 abbrev pub Before : Settings → Scope → Next → Stop → List ℕ → Tables → Type 0
-Before S k next.Read n p t = Waits S k n p t
+Before S k next.Read n p t = StopsBefore S k n p t
 Before S k next.Run n p t = Unit
-Before S k next.Stopped n p t = Waits S k n p t
-Before S k (next.Ended e) n p t = Waits S k n p t
+Before S k next.Stopped n p t = StopsBefore S k n p t
+Before S k (next.Ended e) n p t = StopsBefore S k n p t
 Before S k next.Failed n p t = Unit

@@ -8,7 +8,7 @@ use lib.ListN.{length, take, drop}
 use Rattle.model.specs.Tables.{Tables}
 use Rattle.model.specs.Lent.{Lent}
 use Rattle.model.specs.Inner.{Encodes, SoundSlices}
-use Rattle.model.specs.Runner.{Result, ahead, runFrom}
+use Rattle.model.specs.Runner.{Result, bytesThen, runFrom}
 use Rattle.model.specs.declared.Settings.{Settings}
 use Rattle.running.specs.declared.Begun.{Begun}
 use Rattle.running.specs.declared.Begun.the-variants.{Accepted, Stopped}
@@ -18,7 +18,7 @@ use Rattle.streaming.specs.declared.work.Work.{Work}
 use Rattle.streaming.specs.declared.scope.Scope.{Scope}
 use Rattle.streaming.specs.declared.parts.Started.{Started}
 use Rattle.streaming.specs.declared.parts.Started.the-variants.{Runs, Stops}
-use Rattle.streaming.specs.Works.{Sure, Few, nextOf, goesNext, stoppedOf, begunOf, turnsOf}
+use Rattle.streaming.specs.Works.{Sure, Few, nextAfterStop, goesNext, stoppedOf, begunOf, turnsOf}
 use Rattle.streaming.specs.Scopes.{partEnd}
 use Rattle.streaming.specs.Halts.{Claims, Before}
 
@@ -36,7 +36,7 @@ pub record Ready (S : Settings) (k : Scope) (L : Lent) (buf : List ℕ) (w : Wor
 
 -- o is what the part that is run of the bytes p comes to; the rest of them waits at the front of the buffer, and the totals grow by
 -- what it says: the bytes written are those that were handed out, whose place is the front of f
-pub record Leaves (S : Settings) (o : Result Tables) (p e : List ℕ) (w r : Work) (buf f : List ℕ) (M : Lent) : Type 0 where
+pub record PartLeaves (S : Settings) (o : Result Tables) (p e : List ℕ) (w r : Work) (buf f : List ℕ) (M : Lent) : Type 0 where
   pub tables : Encodes S M (o .tables)
   pub events : f ≡ o .events ++ drop (length (o .events)) e
   pub rest : take (r .have) buf ≡ drop (o .consumed) p
@@ -45,21 +45,21 @@ pub record Leaves (S : Settings) (o : Result Tables) (p e : List ℕ) (w r : Wor
   pub left : r .left ≡ w .left
   pub consumed : r .consumed ≡ w .consumed + o .consumed
   pub written : r .written ≡ (w .written + length (o .events)) % 2 ^ 64
-  pub next : (r .next ≡ nextOf (o .stop)) ⊎ (r .next ≡ next.Failed)
+  pub next : (r .next ≡ nextAfterStop (o .stop)) ⊎ (r .next ≡ next.Failed)
 
 -- from the tables that L holds
 pub record Ran (S : Settings) (k : Scope) (p e : List ℕ) (L : Lent) (w r : Work) (buf f : List ℕ) (M : Lent) : Type 0 where
-  pub on : (t : Tables) → Encodes S L t → Leaves S (runFrom S 0 (length e) (take (partEnd k p) p) t) p e w r buf f M
+  pub on : (t : Tables) → Encodes S L t → PartLeaves S (runFrom S 0 (length e) (take (partEnd k p) p) t) p e w r buf f M
   pub inside : r .have ≤ length buf
 
 -- ---- parts put together. Which bytes come, only the system can say: what is stated is of those that came, whatever they are
 
 -- the run of the bytes s from the tables t, with anything behind them: it goes over `eaten` of them, writes `events`, and stands at the
 -- tables u before the bytes q; in any room of `size` bytes more than it writes
-abbrev pub Goes : Settings → ℕ → Tables → List ℕ → ℕ → List ℕ → Tables → List ℕ → Type 0
-Goes S size t s eaten events u q =
+abbrev pub GoesOver : Settings → ℕ → Tables → List ℕ → ℕ → List ℕ → Tables → List ℕ → Type 0
+GoesOver S size t s eaten events u q =
     (b : List ℕ) (room : ℕ) → length events + size ≤ room
-    → runFrom S 0 room (s ++ b) t ≡ ahead eaten events (runFrom S 0 (room - length events) (q ++ b) u)
+    → runFrom S 0 room (s ++ b) t ≡ bytesThen eaten events (runFrom S 0 (room - length events) (q ++ b) u)
 
 -- from w to r, with the bytes s before them and q after: the totals grow by what that run says, and M holds its tables
 pub record Went (S : Settings) (size : ℕ) (t : Tables) (s : List ℕ) (w r : Work) (q : List ℕ) (M : Lent) : Type 0 where
@@ -69,7 +69,7 @@ pub record Went (S : Settings) (size : ℕ) (t : Tables) (s : List ℕ) (w r : W
   pub are : Encodes S M tables
   pub consumed : r .consumed ≡ w .consumed + eaten
   pub written : r .written ≡ (w .written + length events) % 2 ^ 64
-  pub goes : Goes S size t s eaten events tables q
+  pub goes : GoesOver S size t s eaten events tables q
 
 -- the bytes p waited, and others came
 pub record Came (S : Settings) (size : ℕ) (L : Lent) (p : List ℕ) (w r : Work) (q : List ℕ) (M : Lent) : Type 0 where
@@ -78,7 +78,7 @@ pub record Came (S : Settings) (size : ℕ) (L : Lent) (p : List ℕ) (w r : Wor
   pub on : (t : Tables) → Encodes S L t → Went S size t (p ++ bytes) w r q M
 
 -- one turn: the next can come, and fewer are left
-pub record Turned (S : Settings) (k : Scope) (size : ℕ) (L : Lent) (p : List ℕ) (w r : Work) (buf : List ℕ) (M : Lent) : Type 0 where
+pub record PartTurn (S : Settings) (k : Scope) (size : ℕ) (L : Lent) (p : List ℕ) (w r : Work) (buf : List ℕ) (M : Lent) : Type 0 where
   pub ready : Ready S k M buf r
   pub claims : Claims (r .next) (r .stop) (r .have)
   pub fewer : turnsOf (r .next) (r .have) (r .left) < turnsOf (w .next) (w .have) (w .left)

@@ -9,7 +9,7 @@ use Rattle.model.specs.Runner.{run}
 use Rattle.running.specs.Lengths.{Final, Long, lengthsFor}
 use Rattle.streaming.specs.declared.work.Work.{Work}
 use Rattle.streaming.specs.Works.{goesNext, stoppedNext}
-use Rattle.streaming.specs.Halts.{Claims, Behind}
+use Rattle.streaming.specs.Halts.{Claims, MayFollow}
 
 -- from the bytes p, which w has read, and the slices L, to r and the slices M: others came behind p, and `events` were handed out
 pub record Whole (L : Lent) (p : List ℕ) (w r : Work) (M : Lent) : Type 0 where
@@ -22,7 +22,7 @@ pub record Whole (L : Lent) (p : List ℕ) (w r : Work) (M : Lent) : Type 0 wher
   pub claims : Claims (r .next) (r .stop) (r .have)
   pub final : stoppedNext (r .next) ≡ true → Final (r .stop)
   -- stopped, the run of those bytes is this, also with anything behind them where the stop is not the end's
-  pub is : stoppedNext (r .next) ≡ true → (b : List ℕ) (room : ℕ) → Behind (r .stop) b → length events + 65536 ≤ room
+  pub is : stoppedNext (r .next) ≡ true → (b : List ℕ) (room : ℕ) → MayFollow (r .stop) b → length events + 65536 ≤ room
       → run room ((p ++ bytes) ++ b) L ≡ record { stop = r .stop; consumed = r .consumed; events = events; tables = M }
   -- failed, its events begin with these
   pub front : (b : List ℕ) (room : ℕ) → length events + 65536 ≤ room → take (length events) (run room ((p ++ bytes) ++ b) L .events) ≡ events

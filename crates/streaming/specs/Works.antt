@@ -10,15 +10,15 @@ use Rattle.streaming.specs.declared.work.Next.the-variants as next
 use Rattle.streaming.specs.declared.work.Work.{Work}
 
 -- what stops a part, and what comes next: 15 wants more bytes, 16 wants the events written out, the others stop the run
-abbrev pub nextOf : Stop → Next
-nextOf stop.Nothing = next.Read
-nextOf stop.CutShort = next.Read
-nextOf stop.NoRoom = next.Run
-nextOf stop.SettingOutOfRange = next.Stopped
-nextOf stop.SliceLength = next.Stopped
-nextOf stop.NotSound = next.Stopped
-nextOf stop.OutOfPlace = next.Stopped
-nextOf stop.UnknownKind = next.Stopped
+abbrev pub nextAfterStop : Stop → Next
+nextAfterStop stop.Nothing = next.Read
+nextAfterStop stop.CutShort = next.Read
+nextAfterStop stop.NoRoom = next.Run
+nextAfterStop stop.SettingOutOfRange = next.Stopped
+nextAfterStop stop.SliceLength = next.Stopped
+nextAfterStop stop.NotSound = next.Stopped
+nextAfterStop stop.OutOfPlace = next.Stopped
+nextAfterStop stop.UnknownKind = next.Stopped
 
 -- what ends a run whose first record stops it: that record, once it is there; the end that was told; else nothing is known
 abbrev pub overNext : Next → Next
@@ -82,7 +82,7 @@ behindOf w s consumed written have = record {
   consumed = w .consumed + consumed;
   written = (w .written + written) % 2 ^ 64;
   stop = s;
-  next = nextOf s;
+  next = nextAfterStop s;
 }
 
 -- stops 2 and 16 end no run: so where it has stopped, or would at the end of its input

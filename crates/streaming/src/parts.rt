@@ -22,7 +22,7 @@ ghost use Rattle.running.specs.Lengths.{lengthsFor, Long};
 ghost use Rattle.streaming.specs.declared.work.Next.the-variants as next;
 ghost use Rattle.streaming.specs.Works.{goesNext};
 ghost use Rattle.streaming.specs.Halts.{Claims};
-ghost use Rattle.streaming.specs.Parts.{Ready, Ran, Turned, Rested, Starts};
+ghost use Rattle.streaming.specs.Parts.{Ready, Ran, PartTurn, Rested, Starts};
 
 // What the first record comes to: settings at which the run goes on from there, or a run that has stopped.
 pub enum Started {
@@ -105,7 +105,7 @@ fn read_part(
     requires { ⌜ LaysOut s laid × Ready s scope (lent (now longs) (now words) (now marks)) (now buf) w ⌝ }
     requires { ⌜ w .next ≡ next.Read ⌝ }
     requires { ⌜ eventRoom ≤ length (now events) ⌝ }
-    ensures { λ r. ⌜ Turned s scope (length (now (events .entry))) (lent (now (longs .entry)) (now (words .entry)) (now (marks .entry))) (take (w .have) (now (buf .entry)))
+    ensures { λ r. ⌜ PartTurn s scope (length (now (events .entry))) (lent (now (longs .entry)) (now (words .entry)) (now (marks .entry))) (take (w .have) (now (buf .entry)))
         w r (now (buf .exit)) (lent (now (longs .exit)) (now (words .exit)) (now (marks .exit))) ⌝ }
 {
     match input::read_more(fd, buf, w.have, w.left) {
@@ -135,7 +135,7 @@ fn turn(
     requires { ⌜ LaysOut s laid × Ready s scope (lent (now longs) (now words) (now marks)) (now buf) w ⌝ }
     requires { ⌜ goesNext (w .next) ≡ true ⌝ }
     requires { ⌜ eventRoom ≤ length (now events) ⌝ }
-    ensures { λ r. ⌜ Turned s scope (length (now (events .entry))) (lent (now (longs .entry)) (now (words .entry)) (now (marks .entry))) (take (w .have) (now (buf .entry)))
+    ensures { λ r. ⌜ PartTurn s scope (length (now (events .entry))) (lent (now (longs .entry)) (now (words .entry)) (now (marks .entry))) (take (w .have) (now (buf .entry)))
         w r (now (buf .exit)) (lent (now (longs .exit)) (now (words .exit)) (now (marks .exit))) ⌝ }
 {
     if work::reads(w) {

@@ -3,7 +3,7 @@ use input::Ended;
 use model::Stop;
 ghost use mathlib.Core.Path.{_≡_};
 ghost use Prim.Native.Nat.{_+_, _^_, _<_};
-ghost use Rattle.streaming.specs.Works.{nextOf, overNext, readsNext, goesNext, stoppedNext, failedNext, startOf, begunOf, readOf, stoppedOf, endedOf, failedOf, behindOf};
+ghost use Rattle.streaming.specs.Works.{nextAfterStop, overNext, readsNext, goesNext, stoppedNext, failedNext, startOf, begunOf, readOf, stoppedOf, endedOf, failedOf, behindOf};
 
 // What to do next: read more bytes; run those that wait; nothing, since the stream has stopped, whatever may follow; nothing,
 // since the input has ended, which the system said; nothing, since reading or writing failed, which standard error says.
@@ -132,7 +132,7 @@ pub fn failed(w: Work) -> Work
 // A record that is cut short may become whole with more bytes, and one without event room has it once the events before it
 // are written out.
 fn next_of(stop: Stop) -> Next
-    ensures { λ r. ⌜ r ≡ nextOf stop ⌝ }
+    ensures { λ r. ⌜ r ≡ nextAfterStop stop ⌝ }
 {
     match stop {
         Stop::Nothing => Next::Read,

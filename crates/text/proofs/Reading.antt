@@ -15,7 +15,7 @@ use Rattle.words.proofs.Flags.{and-1, and-2}
 use Rattle.text.specs.declared.Parsed.{Parsed}
 use Rattle.text.specs.declared.Parsed.the-variants.{Number, Nothing, TooLarge}
 use Rattle.text.specs.declared.Grown.the-variants as grown
-use Rattle.text.specs.Words.{run, past}
+use Rattle.text.specs.Words.{passingCount, past}
 use Rattle.text.proofs.Runs.{past-on}
 use Rattle.text.specs.Digits.{digitOf, isDigit, valueOf, grownOf, numberOf, numberIn, hexAt}
 
@@ -113,7 +113,7 @@ number-some at i v h e g =
 module _ (b : ℕ) (s : List ℕ) (at i v : ℕ) where
   pub number-done : {r : Parsed} → i ≡ past (isDigit b) s at → valueOf b 0 (drop at s) ≡ v → r ≡ numberOf at (i - at) v → r ≡ numberIn b s at
   unfolding numberIn
-  number-done p q e = let k : i - at ≡ run (isDigit b) (drop at s) = omega arith in e ∙ rw (k, q)
+  number-done p q e = let k : i - at ≡ passingCount (isDigit b) (drop at s) = omega arith in e ∙ rw (k, q)
 
   pub number-large : (d : ℕ) → 0 < b → at ≤ i → i < length s → d ≡ digitOf (getD s i 0) → d < b
       → past (isDigit b) s at ≡ past (isDigit b) s i → valueOf b 0 (drop at s) ≡ valueOf b v (drop i s) → 2 ^ 64 ≤ v * b + d
@@ -121,7 +121,7 @@ module _ (b : ℕ) (s : List ℕ) (at i v : ℕ) where
   unfolding numberIn
   number-large d pos h l e g p q o =
       let t : past (isDigit b) s at ≡ past (isDigit b) s (i + 1) = p ∙ past-on (isDigit b) s i l (digit-yes b (getD s i 0) e g) in
-      let z : eqb (run (isDigit b) (drop at s)) 0 ≡ false = ne-eqb _ 0 (λ (w : run (isDigit b) (drop at s) ≡ 0). omega arith) in
+      let z : eqb (passingCount (isDigit b) (drop at s)) 0 ≡ false = ne-eqb _ 0 (λ (w : passingCount (isDigit b) (drop at s) ≡ 0). omega arith) in
       let m : 2 ^ 64 ≤ valueOf b 0 (drop at s) = rw (q, value-on b s i v d l e g) (le-trans o (value-grows b (v * b + d) (drop (i + 1) s) pos)) in
       rw (z, le-ltb (valueOf b 0 (drop at s)) (2 ^ 64) m)
 

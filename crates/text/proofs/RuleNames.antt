@@ -11,8 +11,8 @@ use lib.Dec.{ltb}
 use lib.ListN.{length, drop, getD, drop-of-length-le, List·getD-map}
 use lib.Seq.{drop-cons}
 use Rattle.words.proofs.Flags.{by-flag}
-use Rattle.text.specs.Words.{run, wordAt, sameText}
-use Rattle.text.specs.Rules.{ruleNames, ruleFrom, ruleOf}
+use Rattle.text.specs.Words.{passingCount, wordAt, sameText}
+use Rattle.text.specs.Rules.{ruleNames, ruleFrom, ruleNamed}
 use Rattle.text.specs.declared.rules.Named.{Named}
 use Rattle.text.specs.declared.rules.Named.the-variants.{Rule, Nothing}
 
@@ -22,11 +22,11 @@ abbrev rows : List (List ℕ)
 rows = (108 ∷ 114 ∷ 117 ∷ 32 ∷ []) ∷ (102 ∷ 105 ∷ 102 ∷ 111 ∷ []) ∷ (116 ∷ 114 ∷ 101 ∷ 101 ∷ []) ∷ []
 
 rows-named : map (λ r. wordAt r 0) rows ≡ ruleNames
-unfolding run
+unfolding passingCount
 rows-named = refl
 
 pub row-named : (i : ℕ) → wordAt (getD rows i []) 0 ≡ getD ruleNames i []
-unfolding run
+unfolding passingCount
 row-named i = sym (List·getD-map (λ r. wordAt r 0) rows i []) ∙ ap (λ (ns : List (List ℕ)). getD ns i []) rows-named
 
 -- ---- a word among the names, by what a test of name i answered
@@ -45,7 +45,7 @@ module _ (w : List ℕ) (i : ℕ) where
   rule-none h = rw (drop-of-length-le ruleNames h)
 
 -- each name reads back as its byte
-names-back : map ruleOf ruleNames ≡ Rule 0 ∷ Rule 1 ∷ Rule 2 ∷ []
+names-back : map ruleNamed ruleNames ≡ Rule 0 ∷ Rule 1 ∷ Rule 2 ∷ []
 unfolding ruleFrom
 names-back = refl
 

@@ -11,13 +11,13 @@ use lib.ListN.{length, take, drop, getD, drop-of-length-le, length-drop}
 use lib.Seq.{drop-cons, take-nil}
 use lib.Dec.{eqb}
 use Rattle.words.proofs.Flags.{not-yes, no-not, and-1, and-2, and-i, iff}
-use Rattle.text.specs.Words.{run, past, inWord, wordEnd, wordAt, sameText}
+use Rattle.text.specs.Words.{passingCount, past, inWord, wordEnd, wordAt, sameText}
 use mathlib.Core.Logic.{⊎-elim}
 use Rattle.words.proofs.Flags.{flag}
 
 module _ (p : ℕ → Bool) where
-  pub run-le : (s : List ℕ) → run p s ≤ length s
-  unfolding run
+  pub run-le : (s : List ℕ) → passingCount p s ≤ length s
+  unfolding passingCount
   run-le [] = omega arith
   run-le (c ∷ s) = let h = run-le s in ⊎-elim (λ q. rw q (omega arith)) (λ q. rw q (omega arith)) (flag (p c))
 
@@ -26,15 +26,15 @@ module _ (p : ℕ → Bool) where
     past-le h = omega (arith, run-le (drop i s), length-drop i s)
 
     pub past-on : i < length s → p (getD s i 0) ≡ true → past p s i ≡ past p s (i + 1)
-    unfolding run
+    unfolding passingCount
     past-on h q = rw (drop-cons s i 0 h, q, add-one i) (omega arith)
 
     pub past-off : i < length s → p (getD s i 0) ≡ false → i ≡ past p s i
-    unfolding run
+    unfolding passingCount
     past-off h q = rw (drop-cons s i 0 h, q) (sym (add-zero i))
 
     pub past-end : length s ≤ i → i ≡ past p s i
-    unfolding run
+    unfolding passingCount
     past-end h = rw (drop-of-length-le s h) (sym (add-zero i))
 
     -- by what a test of the character answered
@@ -67,4 +67,4 @@ word-beyond s t at h = let e : drop at s ≡ [] = drop-of-length-le s {i = at} (
     go (d ∷ u) = ne-eqb (suc (length u)) 0 (λ (z : suc (length u) ≡ 0). omega arith)
 
 pub word-part : (s : List ℕ) (at : ℕ) {e : ℕ} → e ≡ wordEnd s at → take (e - at) (drop at s) ≡ wordAt s at
-word-part s at {e} q = let k : e - at ≡ run inWord (drop at s) = omega arith in rw k
+word-part s at {e} q = let k : e - at ≡ passingCount inWord (drop at s) = omega arith in rw k

@@ -6,9 +6,10 @@ use mathlib.Core.Bool.{Bool, _&&_}
 use mathlib.Core.List.{List, [], _∷_, _++_}
 use lib.ListN.{length, drop, getD, replicate}
 use lib.Seq.{sets}
-use lib.Dec.{eqb, leb, ltb}
+use lib.Dec.{eqb, ltb}
 use Rattle.words.specs.Words.{pick, within}
-use Rattle.text.specs.Words.{codes, run}
+use Rattle.words.specs.Regions.{room}
+use Rattle.text.specs.Words.{codes, passingCount}
 use Rattle.text.specs.declared.Parsed.{Parsed}
 use Rattle.text.specs.declared.Parsed.the-variants.{Number, Nothing, TooLarge}
 use Rattle.text.specs.declared.Grown.{Grown}
@@ -51,9 +52,6 @@ padded w c s = replicate (w - length s) c ++ s
 
 -- ---- text put into a slice
 
-abbrev pub room : List ℕ → ℕ → ℕ → Bool
-room l at n = leb (at + n) (length l)
-
 -- s stands in l from index at, and r is the index behind it; where l has no room for all of it, l is as before and r is at
 pub record Put (l : List ℕ) (at : ℕ) (s : List ℕ) (r : ℕ) (l₁ : List ℕ) : Type 0 where
   pub next : r ≡ pick (room l at (length s)) (at + length s) at
@@ -83,7 +81,7 @@ numberOf at n v = pick (eqb n 0) Nothing (pick (ltb v (2 ^ 64)) (Number v (at + 
 
 -- the number at an index of s, as far as its digits go
 unfoldable pub numberIn : ℕ → List ℕ → ℕ → Parsed
-numberIn b s at = numberOf at (run (isDigit b) (drop at s)) (valueOf b 0 (drop at s))
+numberIn b s at = numberOf at (passingCount (isDigit b) (drop at s)) (valueOf b 0 (drop at s))
 
 abbrev pub hexAt : List ℕ → ℕ → Bool
 hexAt s at = eqb (getD s at 0) (code "0") && eqb (getD s (at + 1) 0) (code "x")

@@ -18,8 +18,8 @@ unfoldable pub ruleFrom : ℕ → List (List ℕ) → List ℕ → Named
 ruleFrom n [] w = Nothing
 ruleFrom n (x ∷ xs) w = pick (sameText w x) (Rule n) (ruleFrom (suc n) xs w)
 
-abbrev pub ruleOf : List ℕ → Named
-ruleOf w = ruleFrom 0 ruleNames w
+abbrev pub ruleNamed : List ℕ → Named
+ruleNamed w = ruleFrom 0 ruleNames w
 
 -- the name of a rule byte; the number where it has none
 unfoldable pub ruleName : ℕ → List ℕ

@@ -16,13 +16,13 @@ codes end = []
 codes (c then s) = code c ∷ codes s
 
 -- how many characters that pass s begins with
-unfoldable pub run : (ℕ → Bool) → List ℕ → ℕ
-run p [] = 0
-run p (c ∷ s) = pick (p c) (suc (run p s)) 0
+unfoldable pub passingCount : (ℕ → Bool) → List ℕ → ℕ
+passingCount p [] = 0
+passingCount p (c ∷ s) = pick (p c) (suc (passingCount p s)) 0
 
 -- the first index of s, from at on, whose character does not pass
 abbrev pub past : (ℕ → Bool) → List ℕ → ℕ → ℕ
-past p s at = at + run p (drop at s)
+past p s at = at + passingCount p (drop at s)
 
 -- a space, a tab, the carriage return of a line end
 abbrev pub isSpace : ℕ → Bool
@@ -48,7 +48,7 @@ wordEnd s at = past inWord s at
 
 -- the word at an index; none where a space, a comment or the end stands there
 abbrev pub wordAt : List ℕ → ℕ → List ℕ
-wordAt s at = take (run inWord (drop at s)) (drop at s)
+wordAt s at = take (passingCount inWord (drop at s)) (drop at s)
 
 -- the end of the line that begins at an index: that of its line feed, or of the whole text
 abbrev pub lineEnd : List ℕ → ℕ → ℕ

@@ -6,7 +6,7 @@ ghost use lib.ListN.{length, getD};
 ghost use lib.Dec.{ltb};
 ghost use Rattle.text.specs.Digits.{Put};
 ghost use Rattle.text.specs.Words.{wordAt, sameText};
-ghost use Rattle.text.specs.Rules.{ruleNames, ruleName, ruleOf};
+ghost use Rattle.text.specs.Rules.{ruleNames, ruleName, ruleNamed};
 
 // What a word names.
 pub enum Named {
@@ -43,7 +43,7 @@ fn is_name(line: &[u8], at: usize, i: usize) -> bool
 
 // The rule that the word at a place of a line names.
 pub fn rule_at(line: &[u8], at: usize) -> Named
-    ensures { λ r. ⌜ r ≡ ruleOf (wordAt (now (line .entry)) at) ⌝ }
+    ensures { λ r. ⌜ r ≡ ruleNamed (wordAt (now (line .entry)) at) ⌝ }
 {
     let mut i = 0;
     while i < NAMES.len() {

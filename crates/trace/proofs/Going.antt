@@ -32,7 +32,7 @@ use Rattle.streaming.specs.First.{Opened}
 use Rattle.streaming.proofs.Wholes.{over-rests, first-claims}
 use Rattle.trace.specs.declared.turns.Turn.{Turn}
 use Rattle.trace.specs.declared.work.Work.{Work}
-use Rattle.trace.specs.Turns.{Traced, afterRecords, endedBy, Standing, Reads, First, Over}
+use Rattle.trace.specs.Turns.{Traced, afterRecords, endedBy, Standing, Reads, StoppedByFirst, Over}
 
 -- ---- reading
 
@@ -63,8 +63,8 @@ records-claims stop.UnknownKind have = refl
 pub failed-stands : {have left : ℕ} {v : Work} → v .have ≡ have → v .left ≡ left → v .next ≡ next.Failed → Standing have left v
 failed-stands h l e = record { waits = h; comes = l; claims = rw e tt }
 
-pub turn-over : {size have left : ℕ} {v : Work} → Standing have left v → v .have ≤ size → goesNext (v .next) ≡ false → Reads size left v
-turn-over {v = v} s h e = record { inside = h; fewer = turns-none (goesNext (v .next)) _ _ e; claims = s .claims }
+pub trace-over : {size have left : ℕ} {v : Work} → Standing have left v → v .have ≤ size → goesNext (v .next) ≡ false → Reads size left v
+trace-over {v = v} s h e = record { inside = h; fewer = turns-none (goesNext (v .next)) _ _ e; claims = s .claims }
 
 pub reads-by : {size a b : ℕ} {v : Work} → a ≡ b → Reads size a v → Reads size b v
 reads-by e r = rw (← e) r
@@ -72,7 +72,7 @@ reads-by e r = rw (← e) r
 pub over-failed : {v : Work} → v .next ≡ next.Failed → Over v
 over-failed e = record { over = rw e; claims = rw e tt }
 
-pub first-over : (L : Lent) (b : List ℕ) {w : begun.Work} → Opened b w → {n : Stop} → beginning L (take (w .have) b) ≡ Stopped n → {v : Work} → First w n v → Over v
+pub first-over : (L : Lent) (b : List ℕ) {w : begun.Work} → Opened b w → {n : Stop} → beginning L (take (w .have) b) ≡ Stopped n → {v : Work} → StoppedByFirst w n v → Over v
 first-over L b {w} o {n} q {v} f = record {
   over = rw (f .next) (over-rests (w .next));
   claims = rw (f .next, f .stop, f .waits) (first-claims L b o n q);

@@ -17,13 +17,13 @@ offered command.Send = offer.Nothing
 offered (command.Fill a) = offer.Nothing
 offered (command.Tick c) = offer.Nothing
 
-abbrev pub refusalOf : Event → Verdict
-refusalOf (event.Answered a l) = verdict.Passed
-refusalOf (event.Refused n) = verdict.Refused n
-refusalOf (event.ReadQueued a) = verdict.Passed
-refusalOf (event.WriteBackQueued b m0 m1 m2 m3) = verdict.Passed
-refusalOf (event.Released k) = verdict.Passed
-refusalOf (event.ReadSent a) = verdict.Passed
-refusalOf (event.WriteBackSent b m0 m1 m2 m3) = verdict.Passed
-refusalOf (event.Filled a) = verdict.Passed
-refusalOf event.Ticked = verdict.Passed
+abbrev pub offerVerdict : Event → Verdict
+offerVerdict (event.Answered a l) = verdict.Passed
+offerVerdict (event.Refused n) = verdict.Refused n
+offerVerdict (event.ReadQueued a) = verdict.Passed
+offerVerdict (event.WriteBackQueued b m0 m1 m2 m3) = verdict.Passed
+offerVerdict (event.Released k) = verdict.Passed
+offerVerdict (event.ReadSent a) = verdict.Passed
+offerVerdict (event.WriteBackSent b m0 m1 m2 m3) = verdict.Passed
+offerVerdict (event.Filled a) = verdict.Passed
+offerVerdict event.Ticked = verdict.Passed

@@ -50,12 +50,12 @@ pub record Reads (size left : ℕ) (r : Work) : Type 0 where
   pub claims : Claims (r .next) (r .stop) (r .have)
 
 -- the records that wait, then a read
-pub record Turned (S : Settings) (size : ℕ) (w r : Work) (M : Lent) : Type 0 where
+pub record RecordsThenRead (S : Settings) (size : ℕ) (w r : Work) (M : Lent) : Type 0 where
   pub held : SoundSlices S M
   pub read : Reads size (w .left) r
 
 -- stopped by the first record
-pub record First (w : begun.Work) (n : Stop) (r : Work) : Type 0 where
+pub record StoppedByFirst (w : begun.Work) (n : Stop) (r : Work) : Type 0 where
   pub waits : r .have ≡ w .have
   pub stop : r .stop ≡ n
   pub next : r .next ≡ overNext (w .next)

@@ -17,7 +17,7 @@ ghost use lib.ListN.{length};
 ghost use Rattle.model.specs.Lent.{lent};
 ghost use Rattle.model.specs.Inner.{SoundSlices};
 ghost use Rattle.layout.specs.Layout.{LaysOut};
-ghost use Rattle.trace.specs.Offers.{offered, refusalOf};
+ghost use Rattle.trace.specs.Offers.{offered, offerVerdict};
 ghost use Rattle.trace.specs.Turns.{Traced};
 
 // Within one buffer: the place of the next record in it, the bytes of text that wait to be printed, the bytes of events, why
@@ -69,7 +69,7 @@ fn offered_at(s: &[u8], at: usize) -> Offer {
 
 // The refusal that an event tells, if any.
 fn refusal_of(e: Event) -> Verdict
-    ensures { λ r. ⌜ r ≡ refusalOf e ⌝ }
+    ensures { λ r. ⌜ r ≡ offerVerdict e ⌝ }
 {
     match e {
         Event::Answered { answer: _, line: _ } => Verdict::Passed,

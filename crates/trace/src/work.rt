@@ -17,7 +17,7 @@ ghost use Rattle.model.specs.Inner.{SoundSlices};
 ghost use Rattle.layout.specs.Layout.{LaysOut};
 ghost use Rattle.streaming.specs.declared.work.Next.the-variants as next;
 ghost use Rattle.streaming.specs.Works.{goesNext, stoppedNext};
-ghost use Rattle.trace.specs.Turns.{afterRecords, endedBy, First, Standing, Reads, Turned, Over};
+ghost use Rattle.trace.specs.Turns.{afterRecords, endedBy, StoppedByFirst, Standing, Reads, RecordsThenRead, Over};
 
 // The bytes that wait at the front of the buffer, those that may still come, the bytes consumed and written before them, the
 // bytes of text that wait, why the runner stopped last, what to do next, whether printing failed.
@@ -50,7 +50,7 @@ pub(crate) fn begun(size: usize, have: usize, put: usize) -> Work
 
 // The first record stops the run.
 pub(crate) fn at_once(first: streaming::work::Work, stop: Stop) -> Work
-    ensures { λ r. ⌜ First first stop r ⌝ }
+    ensures { λ r. ⌜ StoppedByFirst first stop r ⌝ }
 {
     let v = streaming::work::stopped(first, stop);
     let next = v.next;
@@ -190,7 +190,7 @@ fn turn(
     w: Work,
 ) -> Work
     requires { ⌜ LaysOut s laid × SoundSlices s (lent (now longs) (now words) (now marks)) ⌝ }
-    ensures { λ r. ⌜ Turned s (length (now (buf .exit))) w r (lent (now (longs .exit)) (now (words .exit)) (now (marks .exit))) ⌝ }
+    ensures { λ r. ⌜ RecordsThenRead s (length (now (buf .exit))) w r (lent (now (longs .exit)) (now (words .exit)) (now (marks .exit))) ⌝ }
 {
     let bytes = text::front(buf, w.have);
     let t = turns::trace_records(

@@ -15,7 +15,7 @@ use Rattle.model.specs.Steps.{access, send, fill}
 use Rattle.model.specs.Inner.{Encodes, SoundSlices, Does}
 use Rattle.model.specs.RecordsOf as records
 use Rattle.model.specs.Records.{logBytes, fillBytes}
-use Rattle.model.specs.Rounds.{steps, Turn, still, took, andThen, sendTurn, fillFirst, drain}
+use Rattle.model.specs.Rounds.{steps, Turn, still, took, andThen, outcomeSend, outcomeFill, outcomeDrain}
 use Rattle.model.specs.declared.Settings.{Settings}
 use Rattle.model.specs.declared.Queued.{Queued}
 use Rattle.model.specs.declared.Access.{Access}
@@ -34,7 +34,7 @@ use Rattle.tables.proofs.Queue.{queue-counted}
 use Rattle.records.proofs.Room.{send-takes, access-takes, step-takes}
 use Rattle.turns.specs.declared.Sent.{Sent}
 use Rattle.turns.specs.declared.Sent.the-variants.{At, Nothing}
-use Rattle.turns.specs.Parts.{noted, Noted, firstSent, FindsSent, Turned, Sends, Fills, Offers}
+use Rattle.turns.specs.Parts.{noted, Noted, firstSent, FindsSent, CallsWrote, Sends, Fills, Offers}
 use Rattle.turns.proofs.Noting.{noted-took, noted-then, noted-short, noted-refused}
 use mathlib.Core.Logic.{⊎-elim}
 use Rattle.words.proofs.Flags.{flag}
@@ -44,29 +44,29 @@ use Rattle.words.proofs.Flags.{flag}
 -- a step's turn, and what was written of it
 step-turned : (S : Settings) {step : Tables → Outcome Tables} {L : Lent} {r : Reply} {M : Lent} (d : Does S step L r M) (t : Tables) → Encodes S L t
     → sound S (after t (step t)) ≡ true → Clear unrefused (step t) → {e : List ℕ} {out w : ℕ} {f : List ℕ} → Noted e out (noted r) w f
-    → Turned S (took t (step t)) e out w f M
+    → CallsWrote S (took t (step t)) e out w f M
 step-turned S {step} {r = r} d t i ok p n = record {
   are = rw (took-left t (step t)) (does-is S d t i ok);
   bytes = rw (← noted-took t (step t) r p (does-tells S d t i)) n;
 }
 
 -- no call: nothing is written
-still-turned : (S : Settings) {L : Lent} (t : Tables) → Encodes S L t → (e : List ℕ) (out : ℕ) → Turned S (still t) e out out e L
+still-turned : (S : Settings) {L : Lent} (t : Tables) → Encodes S L t → (e : List ℕ) (out : ℕ) → CallsWrote S (still t) e out out e L
 unfolding records.logBytes
 still-turned S t i e out = record { are = i; bytes = record { next = omega arith; slice = refl; fits = tt } }
 
 turned-then : (S : Settings) {a : Turn Tables} (g : Tables → Turn Tables) {e : List ℕ} {out w : ℕ} {f : List ℕ} {M : Lent} {v : ℕ} {h : List ℕ} {N : Lent}
-    → Turned S a e out w f M → Turned S (g (a .left)) f w v h N → Turned S (andThen a g) e out v h N
+    → CallsWrote S a e out w f M → CallsWrote S (g (a .left)) f w v h N → CallsWrote S (andThen a g) e out v h N
 turned-then S {a} g u v = record { are = v .are; bytes = noted-then (a .events) (g (a .left) .events) (u .bytes) (v .bytes) }
 
 -- ---- the send
 
 -- with nothing queued send is refused
-send-took : (S : Settings) (x : Access) (t : Tables) → sendTurn (steps S x) t ≡ took t (send t)
-unfolding sendTurn send
+send-took : (S : Settings) (x : Access) (t : Tables) → outcomeSend (steps S x) t ≡ took t (send t)
+unfolding outcomeSend send
 send-took S x t = go (t .queue) refl
   where
-    go : (q : List Queued) → t .queue ≡ q → sendTurn (steps S x) t ≡ took t (send t)
+    go : (q : List Queued) → t .queue ≡ q → outcomeSend (steps S x) t ≡ took t (send t)
     go [] e = rw e
     go (y ∷ q) e = rw e
 
@@ -127,13 +127,13 @@ abbrev fillAt : Tables → Sent → Turn Tables
 fillAt t (At a) = took t (fill a t)
 fillAt t Nothing = still t
 
-fill-first : (S : Settings) (x : Access) (es : List Entry) (t : Tables) → fillFirst (steps S x) es t ≡ fillAt t (firstSent es)
-unfolding fillFirst
+fill-first : (S : Settings) (x : Access) (es : List Entry) (t : Tables) → outcomeFill (steps S x) es t ≡ fillAt t (firstSent es)
+unfolding outcomeFill
 fill-first S x [] t = refl
 fill-first S x (y ∷ es) t = ⊎-elim (λ q. rw q) (λ q. rw q (fill-first S x es t)) (flag (y .sent))
 
 module _ (S : Settings) {L : Lent} {v : Sent} (found : FindsSent S L v) where
-  fill-at : (x : Access) (t : Tables) → Encodes S L t → {w : Sent} → v ≡ w → fillFirst (steps S x) (t .misses) t ≡ fillAt t w
+  fill-at : (x : Access) (t : Tables) → Encodes S L t → {w : Sent} → v ≡ w → outcomeFill (steps S x) (t .misses) t ≡ fillAt t w
   fill-at x t i e = fill-first S x (t .misses) t ∙ ap (fillAt t) (sym (found .on t i) ∙ e)
 
   pub fills-none : v ≡ Nothing → (e : List ℕ) (out : ℕ) → Fills S L e out out e L
@@ -159,9 +159,9 @@ module _ (S : Settings) (x : Access) {L : Lent} {e : List ℕ} {out w : ℕ} {f 
   sends-held h = let u = s .on x (h .tables) (h .are) in record { tables = _; are = u .are }
 
   module _ {v : ℕ} {g : List ℕ} {N : Lent} (fs : Fills S M f w v g N) where
-    drained : (t : Tables) → Encodes S L t → Turned S (drain (steps S x) t) e out v g N
-    unfolding drain
-    drained t i = let u = s .on x t i in turned-then S (λ y. fillFirst (steps S x) (y .misses) y) u (fs .on x (sendTurn (steps S x) t .left) (u .are))
+    drained : (t : Tables) → Encodes S L t → CallsWrote S (outcomeDrain (steps S x) t) e out v g N
+    unfolding outcomeDrain
+    drained t i = let u = s .on x t i in turned-then S (λ y. outcomeFill (steps S x) (y .misses) y) u (fs .on x (outcomeSend (steps S x) t .left) (u .are))
 
     pub drained-held : SoundSlices S L → SoundSlices S N
     drained-held h = let u = drained (h .tables) (h .are) in record { tables = _; are = u .are }
@@ -174,12 +174,12 @@ module _ (S : Settings) (x : Access) {L : Lent} {e : List ℕ} {out w : ℕ} {f 
           record {
             on = λ t i.
                 let u = drained t i in
-                let a = drain (steps S x) t .left in
+                let a = outcomeDrain (steps S x) t .left in
                 record {
                   are = does-is S d a (u .are) (access-keeps-sound S x a (i .range) small (u .are .soundly));
                   tells = does-tells S d a (u .are);
                   tidy = d .on a (u .are) .tidy;
-                  bytes = noted-then (drain (steps S x) t .events) (took a (access S x a) .events) (u .bytes)
+                  bytes = noted-then (outcomeDrain (steps S x) t .events) (took a (access S x a) .events) (u .bytes)
                       (rw (← noted-took a (access S x a) r (unrefused-too (access S x a) (access-clear S x a)) (does-tells S d a (u .are))) n);
                 };
             short = omega (arith, s .short, fs .short);
@@ -190,5 +190,5 @@ module _ (S : Settings) (x : Access) {L : Lent} {e : List ℕ} {out w : ℕ} {f 
 
 module _ (S : Settings) {longs words marks : List ℕ} {at : Layout} (p : LaysOut S at)
     {q : ℕ} (f : First marks (at .kinds) (S .queue) 0 q) {m : ℕ} (u : First marks (at .counts) (S .misses) 0 m) where
-  pub counted : (t : Tables) → Encodes S (lent longs words marks) t → (q ≡ length (t .queue)) × (m ≡ length (t .misses))
-  counted t i = (queue-counted S t i p f, misses-counted S t i p u)
+  pub in-use-counted : (t : Tables) → Encodes S (lent longs words marks) t → (q ≡ length (t .queue)) × (m ≡ length (t .misses))
+  in-use-counted t i = (queue-counted S t i p f, misses-counted S t i p u)

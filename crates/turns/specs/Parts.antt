@@ -11,7 +11,7 @@ use Rattle.model.specs.Lent.{Lent}
 use Rattle.model.specs.Calls.{eventsTold, tidied}
 use Rattle.model.specs.Inner.{Encodes}
 use Rattle.model.specs.Records.{logBytes, fillBytes, roundBytes, settleBytes}
-use Rattle.model.specs.Rounds.{steps, Turn, took, sendTurn, fillFirst, drain}
+use Rattle.model.specs.Rounds.{steps, Turn, took, outcomeSend, outcomeFill, outcomeDrain}
 use Rattle.model.specs.Steps.{access}
 use Rattle.model.specs.declared.Settings.{Settings}
 use Rattle.model.specs.declared.Access.{Access}
@@ -57,28 +57,28 @@ pub record FindsSent (S : Settings) (L : Lent) (r : Sent) : Type 0 where
   pub on : (t : Tables) → Encodes S L t → r ≡ firstSent (t .misses)
 
 -- the calls of a on the tables t wrote behind `out` bytes and left M
-pub record Turned (S : Settings) (a : Turn Tables) (e : List ℕ) (out w : ℕ) (f : List ℕ) (M : Lent) : Type 0 where
+pub record CallsWrote (S : Settings) (a : Turn Tables) (e : List ℕ) (out w : ℕ) (f : List ℕ) (M : Lent) : Type 0 where
   pub are : Encodes S M (a .left)
   pub bytes : Noted e out (a .events) w f
 
 -- a round's send, and its fill, whatever is offered
 pub record Sends (S : Settings) (L : Lent) (e : List ℕ) (out w : ℕ) (f : List ℕ) (M : Lent) : Type 0 where
-  pub on : (x : Access) (t : Tables) → Encodes S L t → Turned S (sendTurn (steps S x) t) e out w f M
+  pub on : (x : Access) (t : Tables) → Encodes S L t → CallsWrote S (outcomeSend (steps S x) t) e out w f M
   pub short : w ≤ out + 25
 
 pub record Fills (S : Settings) (L : Lent) (e : List ℕ) (out w : ℕ) (f : List ℕ) (M : Lent) : Type 0 where
-  pub on : (x : Access) (t : Tables) → Encodes S L t → Turned S (fillFirst (steps S x) (t .misses) t) e out w f M
+  pub on : (x : Access) (t : Tables) → Encodes S L t → CallsWrote S (outcomeFill (steps S x) (t .misses) t) e out w f M
   pub short : w ≤ out + fillBytes
 
 -- a round whose offer came to o on the tables u, which its send and fill left
-pub record Offered (S : Settings) (a : Turn Tables) (o : Outcome Tables) (e : List ℕ) (out : ℕ) (r : Round) (f : List ℕ) (M : Lent) : Type 0 where
+pub record RoundOffered (S : Settings) (a : Turn Tables) (o : Outcome Tables) (e : List ℕ) (out : ℕ) (r : Round) (f : List ℕ) (M : Lent) : Type 0 where
   pub are : Encodes S M (after (a .left) o)
   pub tells : eventsTold (r .reply) ≡ eventsOf o
   pub tidy : tidied (r .reply) ≡ r .reply
   pub bytes : Noted e out (a .events ++ took (a .left) o .events) (r .written) f
 
 pub record Offers (S : Settings) (x : Access) (L : Lent) (e : List ℕ) (out : ℕ) (r : Round) (f : List ℕ) (M : Lent) : Type 0 where
-  pub on : (t : Tables) → Encodes S L t → Offered S (drain (steps S x) t) (access S x (drain (steps S x) t .left)) e out r f M
+  pub on : (t : Tables) → Encodes S L t → RoundOffered S (outcomeDrain (steps S x) t) (access S x (outcomeDrain (steps S x) t .left)) e out r f M
   pub short : r .written ≤ out + roundBytes
   -- a send and a fill alone
   pub refused : isRefusal (r .reply .first) ≡ true → r .written ≤ out + settleBytes

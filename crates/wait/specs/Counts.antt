@@ -7,6 +7,6 @@ use Rattle.model.specs.Inner.{Encodes}
 use Rattle.model.specs.declared.Settings.{Settings}
 use Rattle.wait.specs.declared.waiting.Counts.{Counts}
 
-pub record Counted (S : Settings) (L : Lent) (r : Counts) : Type 0 where
+pub record CountsOfTables (S : Settings) (L : Lent) (r : Counts) : Type 0 where
   pub queued : (t : Tables) → Encodes S L t → r .queued ≡ length (t .queue)
   pub missed : (t : Tables) → Encodes S L t → r .missed ≡ length (t .misses)

@@ -15,7 +15,7 @@ ghost use Rattle.model.specs.Inner.{SoundSlices};
 ghost use Rattle.layout.specs.Layout.{LaysOut};
 ghost use Rattle.rounds.specs.Waiting.{waitCall};
 ghost use Rattle.turns.specs.Parts.{Enough};
-ghost use Rattle.wait.specs.Counts.{Counted};
+ghost use Rattle.wait.specs.Counts.{CountsOfTables};
 
 // The queue places and the miss entries in use.
 pub(crate) struct Counts {
@@ -32,7 +32,7 @@ struct Ended {
 // How many queue places and miss entries are in use.
 fn in_use(s: Settings, at: Layout, longs: &[u64], words: &[u32], marks: &[u8]) -> Counts
     requires { ⌜ LaysOut s at × SoundSlices s (lent (now longs) (now words) (now marks)) ⌝ }
-    ensures { λ r. ⌜ Counted s (lent (now (longs .entry)) (now (words .entry)) (now (marks .entry))) r ⌝ }
+    ensures { λ r. ⌜ CountsOfTables s (lent (now (longs .entry)) (now (words .entry)) (now (marks .entry))) r ⌝ }
 {
     let queued = layout::used(marks, at.kinds, s.queue);
     let missed = layout::used(marks, at.counts, s.misses);

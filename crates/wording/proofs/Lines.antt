@@ -9,10 +9,11 @@ use native.Mathlib.Nat.{add-zero}
 use borrow.Author.Tests.{le-leb}
 use lib.ListN.{length, take, drop, getD, length-drop, drop-of-length-le}
 use lib.Seq.{drop-cons, take-suc, getD-drop}
-use Rattle.text.specs.Digits.{room, Put}
+use Rattle.words.specs.Regions.{room}
+use Rattle.text.specs.Digits.{Put}
 use Rattle.text.specs.Words.{partOf}
 use Rattle.wording.specs.Pieces.{Page, page, withPiece, withPieces}
-use Rattle.wording.specs.Rows.{isMark, pieceAt, before, piecesFrom, shown}
+use Rattle.wording.specs.Rows.{isMark, pieceAt, wordsBefore, piecesFrom, lineShown}
 use Rattle.wording.proofs.Pieces.{put-page}
 use mathlib.Core.Logic.{⊎-elim}
 use Rattle.words.proofs.Flags.{flag}
@@ -22,7 +23,7 @@ none-there : (p : Page) → withPiece [] p ≡ p
 unfolding withPiece
 none-there p = ⊎-elim (λ q. rw q (rw (add-zero (p .at)))) (λ q. rw q) (flag (room (p .slice) (p .at) 0))
 
-before-page : (w : List ℕ) (ps : List (List ℕ)) (p : Page) → withPieces (before w ps) p ≡ withPieces ps (withPiece w p)
+before-page : (w : List ℕ) (ps : List (List ℕ)) (p : Page) → withPieces (wordsBefore w ps) p ≡ withPieces ps (withPiece w p)
 unfolding withPieces
 before-page [] ps p = rw (none-there p)
 before-page (c ∷ w) ps p = refl
@@ -64,5 +65,5 @@ pub rest-end : (s vs : List ℕ) (start i k : ℕ) {l l₁ : List ℕ} {at r : �
 unfolding piecesFrom withPieces
 rest-end s vs start i k h f p = rw (put-page p, f, drop-of-length-le s {i = i} h, before-page)
 
-pub rest-start : (s vs : List ℕ) → Rest s vs 0 0 0 ≡ shown s vs
+pub rest-start : (s vs : List ℕ) → Rest s vs 0 0 0 ≡ lineShown s vs
 rest-start s vs = rw (part-none s 0 (omega arith))

@@ -3,7 +3,8 @@ use Prim.Native.Nat.{ℕ}
 use mathlib.Core.Path.{_≡_, refl, ap, _∙_}
 use mathlib.Core.List.{List, [], _∷_, _++_}
 use lib.ListN.{length}
-use Rattle.text.specs.Digits.{room, Put}
+use Rattle.words.specs.Regions.{room}
+use Rattle.text.specs.Digits.{Put}
 use Rattle.wording.specs.Pieces.{Page, page, withPiece, withPieces, Puts}
 use mathlib.Core.Logic.{⊎-elim}
 use Rattle.words.proofs.Flags.{flag}

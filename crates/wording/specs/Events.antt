@@ -8,14 +8,14 @@ use Rattle.text.specs.Digits.{decimal, hexadecimal}
 use Rattle.text.specs.Words.{codes}
 use Rattle.records.specs.Masks.{dirtyBytes}
 use Rattle.wording.specs.Names.{answerName, meaningOf}
-use Rattle.wording.specs.Rows.{mask, plural}
+use Rattle.wording.specs.Rows.{maskDigits, plural}
 
 -- what becomes of a write-back, its block, the dirty bytes that its masks mark, the masks
 abbrev pub backWords : List ℕ → ℕ → ℕ → ℕ → ℕ → ℕ → List (List ℕ)
 backWords what b m0 m1 m2 m3 =
     what ∷ codes " " ∷ hexadecimal b
     ∷ codes ", " ∷ decimal (dirtyBytes m0 m1 m2 m3) ∷ codes " dirty byte" ∷ plural (dirtyBytes m0 m1 m2 m3)
-    ∷ codes ", masks " ∷ mask m0 ∷ codes " " ∷ mask m1 ∷ codes " " ∷ mask m2 ∷ codes " " ∷ mask m3 ∷ []
+    ∷ codes ", masks " ∷ maskDigits m0 ∷ codes " " ∷ maskDigits m1 ∷ codes " " ∷ maskDigits m2 ∷ codes " " ∷ maskDigits m3 ∷ []
 
 unfoldable pub eventWords : Event → List (List ℕ)
 eventWords (ev.Answered a line) = codes "answer " ∷ answerName a ∷ codes " line " ∷ decimal line ∷ []

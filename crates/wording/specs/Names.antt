@@ -5,7 +5,7 @@ use lib.ListN.{take, getD}
 use Rattle.model.specs.declared.Answer.{Answer}
 use Rattle.model.specs.declared.Refusal.{Refusal}
 use Rattle.model.specs.Numbers.{answerNumber, refusalNumber}
-use Rattle.text.specs.Words.{codes, run, inLine}
+use Rattle.text.specs.Words.{codes, passingCount, inLine}
 
 -- by document 01's number, from 1 on
 abbrev pub answerNames : List (List ℕ)
@@ -47,4 +47,4 @@ meaningOf n = nameOf (4 + refusalNumber n)
 
 -- a text up to its line feed
 abbrev pub lineOf : List ℕ → List ℕ
-lineOf s = take (run inLine s) s
+lineOf s = take (passingCount inLine s) s

@@ -5,7 +5,7 @@ use mathlib.Core.List.{List, [], _∷_}
 use lib.ListN.{length}
 use lib.Seq.{sets}
 use Rattle.words.specs.Words.{pick}
-use Rattle.text.specs.Digits.{room}
+use Rattle.words.specs.Regions.{room}
 
 -- a slice, and the place in it where text goes on
 pub record Page : Type 0 where

@@ -15,8 +15,8 @@ abbrev pub isMark : ℕ → Bool
 isMark c = eqb c (code "#") || (eqb c (code "$") || (eqb c (code "=") || (eqb c (code "!") || (eqb c (code "%") || eqb c (code "@")))))
 
 -- eight digits
-abbrev pub mask : ℕ → List ℕ
-mask m = padded 8 (code "0") (spelled 16 m)
+abbrev pub maskDigits : ℕ → List ℕ
+maskDigits m = padded 8 (code "0") (spelled 16 m)
 
 -- an s behind what is counted, but for one
 abbrev pub plural : ℕ → List ℕ
@@ -27,20 +27,20 @@ unfoldable pub pieceAt : ℕ → ℕ → List ℕ
 pieceAt c n =
     pick (eqb c (code "#")) (decimal n)
     (pick (eqb c (code "$")) (hexadecimal n)
-    (pick (eqb c (code "=")) (mask n)
+    (pick (eqb c (code "=")) (maskDigits n)
     (pick (eqb c (code "!")) (ruleName n)
     (pick (eqb c (code "%")) (plural n)
     (nameOf n)))))
 
 -- words before other pieces, if there are any
-abbrev pub before : List ℕ → List (List ℕ) → List (List ℕ)
-before [] ps = ps
-before (c ∷ w) ps = (c ∷ w) ∷ ps
+abbrev pub wordsBefore : List ℕ → List (List ℕ) → List (List ℕ)
+wordsBefore [] ps = ps
+wordsBefore (c ∷ w) ps = (c ∷ w) ∷ ps
 
 -- the pieces of a line behind the words w, its values from the k-th on
 unfoldable pub piecesFrom : List ℕ → List ℕ → List ℕ → ℕ → List (List ℕ)
-piecesFrom w [] vs k = before w []
-piecesFrom w (c ∷ s) vs k = pick (isMark c) (before w (pieceAt c (getD vs k 0) ∷ piecesFrom [] s vs (suc k))) (piecesFrom (w ++ (c ∷ [])) s vs k)
+piecesFrom w [] vs k = wordsBefore w []
+piecesFrom w (c ∷ s) vs k = pick (isMark c) (wordsBefore w (pieceAt c (getD vs k 0) ∷ piecesFrom [] s vs (suc k))) (piecesFrom (w ++ (c ∷ [])) s vs k)
 
-abbrev pub shown : List ℕ → List ℕ → List (List ℕ)
-shown line vs = piecesFrom [] line vs 0
+abbrev pub lineShown : List ℕ → List ℕ → List (List ℕ)
+lineShown line vs = piecesFrom [] line vs 0

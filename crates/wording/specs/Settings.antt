@@ -12,30 +12,30 @@ use Rattle.text.specs.Digits.{decimal}
 use Rattle.text.specs.Words.{codes}
 
 -- a setting with its range
-pub record Ranged : Type 0 where
+pub record SettingRange : Type 0 where
   pub name : List ℕ
   pub number : ℕ
   pub least : ℕ
   pub most : ℕ
 
-abbrev pub ranged : List ℕ → ℕ → ℕ → ℕ → Ranged
-ranged name n least most = record { name = name; number = n; least = least; most = most }
+abbrev pub settingRange : List ℕ → ℕ → ℕ → ℕ → SettingRange
+settingRange name n least most = record { name = name; number = n; least = least; most = most }
 
 -- in a settings record's order
-abbrev pub rangedOf : Settings → List Ranged
+abbrev pub rangedOf : Settings → List SettingRange
 rangedOf S =
-    ranged (codes "ways") (S .ways) 1 16
-    ∷ ranged (codes "dirty") (S .dirty) 0 100
-    ∷ ranged (codes "misses") (S .misses) 1 64
-    ∷ ranged (codes "readers") (S .readers) 1 8
-    ∷ ranged (codes "queue") (S .queue) 2 64
+    settingRange (codes "ways") (S .ways) 1 16
+    ∷ settingRange (codes "dirty") (S .dirty) 0 100
+    ∷ settingRange (codes "misses") (S .misses) 1 64
+    ∷ settingRange (codes "readers") (S .readers) 1 8
+    ∷ settingRange (codes "queue") (S .queue) 2 64
     ∷ []
 
-abbrev pub rangeWords : Ranged → List (List ℕ)
+abbrev pub rangeWords : SettingRange → List (List ℕ)
 rangeWords x = x .name ∷ codes " is " ∷ decimal (x .number) ∷ codes ", and has to be " ∷ decimal (x .least) ∷ codes " to " ∷ decimal (x .most) ∷ []
 
 -- the first of them that is outside its range; other words where none is
-unfoldable pub outsideWords : List Ranged → List (List ℕ) → List (List ℕ)
+unfoldable pub outsideWords : List SettingRange → List (List ℕ) → List (List ℕ)
 outsideWords [] other = other
 outsideWords (x ∷ xs) other = pick (within (x .least) (x .most) (x .number)) (outsideWords xs other) (rangeWords x)
 

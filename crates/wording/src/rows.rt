@@ -5,7 +5,7 @@ ghost use mathlib.Core.Path.{_≡_};
 ghost use lib.ListN.{getD};
 ghost use Rattle.text.specs.Digits.{Put};
 ghost use Rattle.wording.specs.Pieces.{Puts};
-ghost use Rattle.wording.specs.Rows.{isMark, plural, pieceAt, shown};
+ghost use Rattle.wording.specs.Rows.{isMark, plural, pieceAt, lineShown};
 use crate::names;
 
 // Whether a value stands here.
@@ -49,7 +49,7 @@ fn value_at(values: &[u64], k: usize) -> u64
 
 // Words and values in turn, the words up to a mark in one piece.
 pub(crate) fn put_line(line: &[u8], values: &[u64], out: &mut [u8], at: usize) -> usize
-    ensures { λ r. ⌜ Puts (now (out .entry)) at (shown (now (line .entry)) (now (values .entry))) r (now (out .exit)) ⌝ }
+    ensures { λ r. ⌜ Puts (now (out .entry)) at (lineShown (now (line .entry)) (now (values .entry))) r (now (out .exit)) ⌝ }
 {
     let mut a = at;
     let mut start = 0;

@@ -148,8 +148,8 @@ module _ {A : Type 0} (g : A → List ℕ) (w : ℕ) where
   block-size n xs bs j here = ap length here ∙ length-places n xs
 
   -- an index past the first place
-  pub past : (x : A) (e : ℕ) → w * suc e ≡ length (padTo w (g x)) + w * e
-  past x e = rw (length-padTo, mul-suc) (omega arith)
+  pub place-past : (x : A) (e : ℕ) → w * suc e ≡ length (padTo w (g x)) + w * e
+  place-past x e = rw (length-padTo, mul-suc) (omega arith)
 
   pub places-region : (n e : ℕ) (xs : List A) (d : A) → e < length xs → length xs ≤ n → region (packed g w n xs) (w * e) w ≡ padTo w (g (getD xs e d))
   unfolding packed
@@ -159,7 +159,7 @@ module _ {A : Type 0} (g : A → List ℕ) (w : ℕ) where
       let s : length (padTo w (g x)) ≡ w = length-padTo w (g x) in
       rw mul-zero (region-within (padTo w (g x)) (packed g w n xs) 0 w (omega arith) ∙ region-whole (padTo w (g x)) w s)
   places-region (suc n) (suc e) (x ∷ xs) d h k =
-      rw (past x e) (region-past (padTo w (g x)) (packed g w n xs) (w * e) w ∙ places-region n e xs d (le-of-suc-le-suc h) (le-of-suc-le-suc k))
+      rw (place-past x e) (region-past (padTo w (g x)) (packed g w n xs) (w * e) w ∙ places-region n e xs d (le-of-suc-le-suc h) (le-of-suc-le-suc k))
 
   pub places-put : (n e : ℕ) (xs : List A) (y : A) → e < length xs → length xs ≤ n → put (packed g w n xs) (w * e) (padTo w (g y)) ≡ packed g w n (set xs e y)
   unfolding packed
@@ -170,7 +170,7 @@ module _ {A : Type 0} (g : A → List ℕ) (w : ℕ) where
       let r : length (padTo w (g y)) ≡ w = length-padTo w (g y) in
       rw mul-zero (put-within (padTo w (g x)) (packed g w n xs) 0 (padTo w (g y)) (omega arith) ∙ ap (λ (l : List ℕ). l ++ packed g w n xs) (put-whole (padTo w (g x)) (padTo w (g y)) (r ∙ sym s)))
   places-put (suc n) (suc e) (x ∷ xs) y h k =
-      rw (past x e) (put-past (padTo w (g x)) (packed g w n xs) (w * e) (padTo w (g y)) ∙ ap (λ (l : List ℕ). padTo w (g x) ++ l) (places-put n e xs y (le-of-suc-le-suc h) (le-of-suc-le-suc k)))
+      rw (place-past x e) (put-past (padTo w (g x)) (packed g w n xs) (w * e) (padTo w (g y)) ∙ ap (λ (l : List ℕ). padTo w (g x) ++ l) (places-put n e xs y (le-of-suc-le-suc h) (le-of-suc-le-suc k)))
 
   pad : (n : ℕ) (xs : List A) → length xs ≤ n → packed g w n xs ++ replicate w 0 ≡ packed g w (suc n) xs
   unfolding packed
@@ -197,7 +197,7 @@ module _ {A : Type 0} (g : A → List ℕ) (w : ℕ) where
       ∙ put-whole (padTo w (g x) ++ packed g w n xs) (closedUp w (padTo w (g x) ++ packed g w n xs)) c ∙ close-first n x xs (le-of-suc-le-suc k))
   places-close (suc n) (suc e) (x ∷ xs) h k =
       let z : suc n - suc e ≡ n - e = omega arith in
-      rw (past x e, z, region-past (padTo w (g x)) (packed g w n xs) (w * e) (w * (n - e)))
+      rw (place-past x e, z, region-past (padTo w (g x)) (packed g w n xs) (w * e) (w * (n - e)))
       (put-past (padTo w (g x)) (packed g w n xs) (w * e) (closedUp w (region (packed g w n xs) (w * e) (w * (n - e))))
       ∙ ap (λ (l : List ℕ). padTo w (g x) ++ l) (places-close n e xs (le-of-suc-le-suc h) (le-of-suc-le-suc k)))
 
@@ -258,7 +258,7 @@ module _ {A : Type 0} (g : A → List ℕ) (w : ℕ) where
       let s : length (padTo w []) ≡ w = length-padTo w [] in
       rw mul-zero (put-within (padTo w []) (packed g w n []) 0 (g y) (omega arith) ∙ ap (λ (l : List ℕ). l ++ packed g w n []) (put-zeros w (g y) k))
   places-push (suc n) (x ∷ xs) y h k =
-      rw (past g w x (length xs)) (put-past (padTo w (g x)) (packed g w n xs) (w * length xs) (g y) ∙ ap (λ (l : List ℕ). padTo w (g x) ++ l) (places-push n xs y (le-of-suc-le-suc h) k))
+      rw (place-past g w x (length xs)) (put-past (padTo w (g x)) (packed g w n xs) (w * length xs) (g y) ∙ ap (λ (l : List ℕ). padTo w (g x) ++ l) (places-push n xs y (le-of-suc-le-suc h) k))
 
   -- one whose numbers are zeros
   pub places-push-idle : (n : ℕ) (xs : List A) (y : A) → padTo w (g y) ≡ padTo w [] → packed g w n (xs ++ (y ∷ [])) ≡ packed g w n xs
@@ -286,7 +286,7 @@ module _ {A : Type 0} (g : A → List ℕ) (w : ℕ) where
       rw (mul-zero, zero-add, is)
       (put-within (padTo w (g x)) (packed g w n xs) (length (g x)) v (omega arith) ∙ ap (λ (l : List ℕ). l ++ packed g w n xs) (put-padTo w (g x) v f))
   places-extend (suc n) (suc e) (x ∷ xs) d y v h k f is =
-      rw (past g w x e, add-assoc)
+      rw (place-past g w x e, add-assoc)
       (put-past (padTo w (g x)) (packed g w n xs) (w * e + length (g (getD xs e d))) v
       ∙ ap (λ (l : List ℕ). padTo w (g x) ++ l) (places-extend n e xs d y v (le-of-suc-le-suc h) (le-of-suc-le-suc k) f is))
 

@@ -1,7 +1,13 @@
 -- Words for a region of a lent slice, which the inner contracts speak of. Nothing here is document 01's.
 use Prim.Native.Nat.{ℕ, zero, suc, _+_}
+use mathlib.Core.Bool.{Bool}
 use mathlib.Core.List.{List, [], _∷_, _++_}
 use lib.ListN.{length, take, drop, replicate}
+use lib.Dec.{leb}
+
+-- whether l has room for n numbers from index `at`
+abbrev pub room : List ℕ → ℕ → ℕ → Bool
+room l at n = leb (at + n) (length l)
 
 -- the n numbers of l from index `at`
 unfoldable pub region : List ℕ → ℕ → ℕ → List ℕ

@@ -5,12 +5,12 @@ use native.Mathlib.Omega.{arith}
 use borrow.Author.Needs.{needs}
 use Rattle.assembly.specs.Language.{forms, formFrom}
 use Rattle.assembly.specs.Tables.{formOf, Within}
-use Rattle.assembly.proofs.Tables.{count-at, part-there, place-below, row-at, number-place, Left, read-as, part-missing, part-read, parts-done, within-none, within-read}
+use Rattle.assembly.proofs.Tables.{parts-counted, part-there, place-below, row-at, number-place, LineLeft, read-as, part-missing, part-read, parts-done, within-none, within-read}
 use Rattle.assembly.proofs.form_line.Statement.{statement}
 use Rattle.assembly.proofs.form_line.Tie as tie
 
 abbrev Inv-loop : tie.InvT-loop
-Inv-loop line at k first count numbers₀ place₀ i₀ numbers place i = Left k line i numbers place (formFrom (formOf k) line at) × Within k numbers
+Inv-loop line at k first count numbers₀ place₀ i₀ numbers place i = LineLeft k line i numbers place (formFrom (formOf k) line at) × Within k numbers
 
 abbrev μ-loop : tie.MeasureT-loop
 μ-loop line at k first count numbers₀ place₀ i₀ numbers place i = count - i
@@ -63,4 +63,4 @@ form-line-spec =
     (λ c. search needs)  -- loop-less
     loop-again
     (λ c κs. (c .before .before .before .before .pre, c .before .loop .inv .1))  -- line-of-requires
-    (λ c. let o = c .before .before in c .line-of .ensures ∙ parts-done _ _ _ _ _ (o .loop .inv .0) (count-at _ (o .before .form-of .ensures)) (c .before .loop-test .left)))  -- returns-2
+    (λ c. let o = c .before .before in c .line-of .ensures ∙ parts-done _ _ _ _ _ (o .loop .inv .0) (parts-counted _ (o .before .form-of .ensures)) (c .before .loop-test .left)))  -- returns-2

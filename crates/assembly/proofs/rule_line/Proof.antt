@@ -2,13 +2,13 @@
 use mathlib.Core.Path.{sym, _∙_}
 use native.Mathlib.Omega.{arith}
 use borrow.Author.Needs.{needs}
-use Rattle.assembly.specs.Language.{ruleFrom}
+use Rattle.assembly.specs.Language.{ruleBehind}
 use Rattle.assembly.proofs.Fields.{rule-most}
 use Rattle.assembly.proofs.rule_line.Statement.{statement}
 use Rattle.assembly.proofs.rule_line.Tie as tie
 
 pub rule-line-spec : {M : Type 1} → statement M
-unfolding ruleFrom
+unfolding ruleBehind
 rule-line-spec =
     tie.close
     (tie.spec

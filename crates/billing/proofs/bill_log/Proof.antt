@@ -4,12 +4,12 @@ use Prim.Native.Nat.{_-_}
 use native.Mathlib.Omega.{arith}
 use borrow.Author.Needs.{needs}
 use lib.ListN.{length}
-use Rattle.billing.proofs.Parts.{step-past, step-end, Left, left-start, left-more, left-stop}
+use Rattle.billing.proofs.Parts.{step-past, step-end, BillLeft, left-start, left-more, left-stop}
 use Rattle.billing.proofs.bill_log.Statement.{statement}
 use Rattle.billing.proofs.bill_log.Tie as tie
 
 abbrev Inv-loop : tie.InvT-loop
-Inv-loop log b₀ at₀ b at = Left b₀ log b at
+Inv-loop log b₀ at₀ b at = BillLeft b₀ log b at
 
 abbrev μ-loop : tie.MeasureT-loop
 μ-loop log b₀ at₀ b at = length log - at

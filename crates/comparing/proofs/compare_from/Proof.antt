@@ -6,18 +6,18 @@ use borrow.Author.Tests.{not-true, not-false}
 use native.Mathlib.Omega.{arith}
 use lib.ListN.{length}
 use Rattle.comparing.proofs.Sides.{group-le}
-use Rattle.comparing.proofs.Firsts.{left, left-less, Finds, finds-start, finds-here, finds-more, finds-none}
+use Rattle.comparing.proofs.Firsts.{someLeft, left-less, FindsPair, finds-start, finds-here, finds-more, finds-none}
 use Rattle.comparing.proofs.compare_from.Statement.{statement}
 use Rattle.comparing.proofs.compare_from.Tie as tie
 
 abbrev Inv-loop : tie.InvT-loop
-Inv-loop a b number₀ x₀ y₀ number x y = Finds a b (record { number = number₀; first = x₀; second = y₀ }) (record { number = number; first = x; second = y })
+Inv-loop a b number₀ x₀ y₀ number x y = FindsPair a b (record { number = number₀; first = x₀; second = y₀ }) (record { number = number; first = x; second = y })
 
 abbrev μ-loop : tie.MeasureT-loop
 μ-loop a b number₀ x₀ y₀ number x y = (length a - x) + (length b - y)
 
 pub compare-from-spec : {M : Type 1} → statement M
-unfolding left
+unfolding someLeft
 compare-from-spec =
     tie.close
     (tie.spec Inv-loop μ-loop

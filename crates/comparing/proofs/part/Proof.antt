@@ -1,7 +1,7 @@
 -- `comparing::part` meets its contract.
 use borrow.Author.Needs.{needs}
 use native.Mathlib.Omega.{arith}
-use Rattle.comparing.proofs.Parts.{part-none, part-some}
+use Rattle.comparing.proofs.Parts.{part-empty, part-some}
 use Rattle.comparing.proofs.part.Statement.{statement}
 use Rattle.comparing.proofs.part.Tie as tie
 
@@ -14,7 +14,7 @@ part-spec =
     -- returns
     (λ c.
     let a = c .before .before .before .before .args in
-    part-none (a .log .now) (a .from) (a .to) (omega (arith, c .before .before .lower .ensures)))
+    part-empty (a .log .now) (a .from) (a .to) (omega (arith, c .before .before .lower .ensures)))
     (λ c. search needs)  -- part-result-start
     (λ c. let w = c .before .lower .ensures in omega arith)  -- part-result-end
     -- returns-2

@@ -1,11 +1,11 @@
 -- `comparing::past` meets its contract.
-use Rattle.comparing.specs.Groups.{recordEnd, past}
+use Rattle.comparing.specs.Groups.{recordEnd, recordPast}
 use borrow.Author.Needs.{needs}
 use Rattle.comparing.proofs.past.Statement.{statement}
 use Rattle.comparing.proofs.past.Tie as tie
 
 pub past-spec : {M : Type 1} → statement M
-unfolding past recordEnd
+unfolding recordPast recordEnd
 past-spec =
     tie.close
     (tie.spec

@@ -1,7 +1,7 @@
 -- Nothing without the room; else the call, and its events.
 use native.Mathlib.Omega.{arith}
 use borrow.Author.Needs.{needs}
-use Rattle.cache.specs.Made.{callOf}
+use Rattle.cache.specs.Made.{modelCall}
 use Rattle.exported.proofs.Calling.{call-unmade, call-made}
 use Rattle.exported.proofs.made.Statement.{statement}
 use Rattle.exported.proofs.made.Tie as tie
@@ -23,4 +23,4 @@ made-spec =
     let reply = c .before .before in
     let called = reply .before .before .before .before .before .before .before .before in
     let set = called .before .before .before .before in
-    call-made _ (callOf (set .before .before .before .before .before .before .before .args .k)) _ _ _ (λ i. omega (arith, set .before .before .before .before .slice-known2 .given i)) (set .before .if1 .left) (rw (set .settings-from .ensures) at (called .perform .ensures)) (reply .write-reply .ensures .0)))
+    call-made _ (modelCall (set .before .before .before .before .before .before .before .args .k)) _ _ _ (λ i. omega (arith, set .before .before .before .before .slice-known2 .given i)) (set .before .if1 .left) (rw (set .settings-from .ensures) at (called .perform .ensures)) (reply .write-reply .ensures .0)))

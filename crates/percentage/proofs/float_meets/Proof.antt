@@ -5,7 +5,7 @@ use native.Mathlib.Omega.{arith}
 use lib.Dec.{T, le→leb}
 use lib.IntN.{pos}
 use lib.Ieee.{Float, binary32, inFloat, ofInt, ofBits, mul, div, le}
-use Rattle.percentage.specs.Percent.{single, floatMeets}
+use Rattle.percentage.specs.Percent.{asSingle, floatMeets}
 use Rattle.percentage.proofs.float_meets.Statement.{statement}
 use Rattle.percentage.proofs.float_meets.Tie as tie
 
@@ -14,7 +14,7 @@ unfolding inFloat
 held n h = le→leb n (2 ^ 24) (omega arith)
 
 -- the literal 100.0
-hundred : ofBits binary32 0x42c80000 ≡ single 100
+hundred : ofBits binary32 0x42c80000 ≡ asSingle 100
 unfolding ofBits ofInt
 hundred = refl
 
@@ -29,4 +29,4 @@ float-meets-spec =
     -- returns
     (λ c.
     let a = c .before .before .before .args in
-    ap (λ (z : Float). le (single (a .percent)) (mul binary32 (div binary32 (single (a .dirty)) (single (a .lines))) z)) hundred))
+    ap (λ (z : Float). le (asSingle (a .percent)) (mul binary32 (div binary32 (asSingle (a .dirty)) (asSingle (a .lines))) z)) hundred))

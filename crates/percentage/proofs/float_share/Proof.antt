@@ -2,7 +2,7 @@
 use mathlib.Core.Path.{refl, sym, ap, _∙_}
 use borrow.Author.Needs.{needs}
 use Rattle.percentage.specs.declared.Share.the-variants.{Meets}
-use Rattle.percentage.proofs.Laws.{ranged}
+use Rattle.percentage.proofs.Laws.{percent-ranged}
 use Rattle.percentage.proofs.float_share.Statement.{statement}
 use Rattle.percentage.proofs.float_share.Tie as tie
 
@@ -11,6 +11,6 @@ float-share-spec =
     tie.close
     (tie.spec
     (λ c κs. search needs)  -- in-range-requires
-    (λ c κs. ranged _ _ _ (sym (c .before .in-range .ensures) ∙ c .if1 .taken))  -- float-meets-requires
+    (λ c κs. percent-ranged _ _ _ (sym (c .before .in-range .ensures) ∙ c .if1 .taken))  -- float-meets-requires
     (λ c. rw (sym (c .before .before .in-range .ensures) ∙ c .before .if1 .taken) (ap Meets (c .float-meets .ensures)))  -- returns
     (λ c. rw (sym (c .before .in-range .ensures) ∙ c .if1 .left) refl))  -- returns-2

@@ -4,7 +4,7 @@ use mathlib.Core.Path.{_≡_, subst}
 use native.Mathlib.Omega.{arith}
 use borrow.Author.Needs.{needs}
 use lib.ListN.{length, length-set}
-use Rattle.percentage.specs.Differences.{Startable, Next, rest}
+use Rattle.percentage.specs.Differences.{Startable, Next, differencesFrom}
 use Rattle.percentage.specs.declared.Found.{Found}
 use Rattle.percentage.specs.declared.Found.the-variants.{At, Nothing, Refused}
 use types.Run.{OneOf}
@@ -20,13 +20,13 @@ use Rattle.percentage.proofs.list.Lts as lts
 use Rattle.percentage.proofs.next.Reads as next-reads
 
 abbrev Inv-loop : tie.InvT-loop
-Inv-loop out₀ d₀ l₀ p₀ n₀ out d l p n = Startable d l p × Written out₀ out n (rest d l p) × (60 ≤ length out₀)
+Inv-loop out₀ d₀ l₀ p₀ n₀ out d l p n = Startable d l p × Written out₀ out n (differencesFrom d l p) × (60 ≤ length out₀)
 
 abbrev μ-loop : tie.MeasureT-loop
 μ-loop out₀ d₀ l₀ p₀ n₀ out d l p n = length out₀ - n
 
 -- where no difference was found none is left
-none-left : (d l p : ℕ) (r : Found) → OneOf (1 ∷ 2 ∷ []) (tagOf the-type r) → Next d l p r → rest d l p ≡ []
+none-left : (d l p : ℕ) (r : Found) → OneOf (1 ∷ 2 ∷ []) (tagOf the-type r) → Next d l p r → differencesFrom d l p ≡ []
 none-left d l p (At t) o h = ⊎-elim (λ e. absurd (omega arith)) (λ e. absurd (omega arith)) o
 none-left d l p Nothing o h = h
 none-left d l p (Refused n) o h = absurd h

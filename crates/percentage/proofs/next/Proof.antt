@@ -4,13 +4,13 @@ use mathlib.Core.Path.{_≡_, refl, sym, _∙_}
 use Prim.Native.Nat.{_+_, _-_, _*_}
 use native.Mathlib.Omega.{arith}
 use borrow.Author.Needs.{needs}
-use Rattle.percentage.specs.Differences.{Startable, rest}
-use Rattle.percentage.proofs.Lists.{rest-down, rest-over, rest-end, rest-hit, rest-miss}
+use Rattle.percentage.specs.Differences.{Startable, differencesFrom}
+use Rattle.percentage.proofs.Lists.{rest-down, rest-over, differences-end, rest-hit, rest-miss}
 use Rattle.percentage.proofs.next.Statement.{statement}
 use Rattle.percentage.proofs.next.Tie as tie
 
 abbrev Inv-loop : tie.InvT-loop
-Inv-loop dirty lines percent d₀ l₀ p₀ d l p = Startable d l p × (rest dirty lines percent ≡ rest d l p)
+Inv-loop dirty lines percent d₀ l₀ p₀ d l p = Startable d l p × (differencesFrom dirty lines percent ≡ differencesFrom d l p)
 
 abbrev μ-loop : tie.MeasureT-loop
 μ-loop dirty lines percent d₀ l₀ p₀ d l p = (1024 - l) * 200000 + (1024 - d) * 150 + (101 - p)
@@ -35,7 +35,7 @@ next-spec =
     -- returns
     (λ c.
     let v = c .before .before .before .loop in
-    v .inv .1 ∙ rest-end (v .d) (v .l) (v .p) (omega arith) (omega arith) (omega arith))
+    v .inv .1 ∙ differences-end (v .d) (v .l) (v .p) (omega arith) (omega arith) (omega arith))
     (λ c κs. omega arith)  -- differs-requires
     -- returns-2
     (λ c.

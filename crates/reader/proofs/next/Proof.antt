@@ -69,7 +69,7 @@ use Rattle.reader.proofs.next.Key.{name as #reader·next}
 use Rattle.reader.proofs.next as next
 use Rattle.reader.proofs.next.Statement as stated
 use Rattle.reader.proofs.next.Code as code
-use Rattle.reader.proofs.Held.{α, passed, D, L, Held, at-n, Asked, apart, again, typed, B₂, Behind, behind-said}
+use Rattle.reader.proofs.Held.{α, passed, D, L, Held, at-n, Asked, held-asked, again, typed, B₂, Behind, behind-said}
 
 -- `Reader<'a>`, as the referent's place in the signature
 abbrev referent : Slot 2
@@ -162,7 +162,7 @@ module _ {M : Type 1} (𝓤 : URA M) (H : Heap 𝓤) (A : Atoms 𝓤) (W : Given
         assigns ! (of-opd ! (load ! (from ! (hop ! (look ! 17 refl) (fld ! refl (stop !)))) (look-in ! 0 (sub ! 0 refl (whole !))))) (from ! (stop !)) (init ! 15 refl (tt, typed 𝓤 H A W (α 1 κ′) h was .1 .0)) $
         assigns ! (of-opd ! (load ! (from ! (hop ! (look ! 17 refl) (fld ! refl (stop !)))) (look-in ! 0 (sub ! 1 refl (whole !))))) (from ! (stop !)) (init ! 13 refl (tt, typed 𝓤 H A W (α 1 κ′) h was .1 .1 .0)) $
         -- the record
-        move ! (1 ∷ 5 ∷ []) $ use2 W (raw (ReadAt 𝓤 H A at-mem run .pre to-read-at) ⊛ ‵ (Held (α 1 κ′) h)) (apart 𝓤 H A W (α 1 κ′) h q′ _ asks-read-at (typed 𝓤 H A W (α 1 κ′) h was .1 .1 .0 .fits)) $ split ! $
+        move ! (1 ∷ 5 ∷ []) $ use2 W (raw (ReadAt 𝓤 H A at-mem run .pre to-read-at) ⊛ ‵ (Held (α 1 κ′) h)) (held-asked 𝓤 H A W (α 1 κ′) h q′ _ asks-read-at (typed 𝓤 H A W (α 1 κ′) h was .1 .1 .0 .fits)) $ split ! $
         calls-at ! fm (ReadAt 𝓤 H A at-mem run) known-read-at to-read-at (and-then ! (load ! (from ! (stop !)) (look ! 15 refl)) (and-then ! (load ! (from ! (stop !)) (look ! 13 refl)) (no-more !))) (λ u.
         use1 W (later (some (λ (f : Record). ((‵ (flft κ′ q′) ⊛ ‵ ftrue) ⊛ ‵ (S.the-row .own f (u ∷ []))) ⊛ raw (ensured 𝓤 H A read-at.ended (read-at.clauses 𝓤 H A at-mem run) (κ′, tt) (h .stream, (h .at, tt)) tt f)))) (id⊢ 𝓤 _) $ await ! tt $ pick ! (λ f.
         split ! $ move ! (1 ∷ []) $ use1 W (raw (fact 𝓤 (f ≡ found))) (read-said f) $ heard ! (f ≡ found) (λ e. split ! $ move ! (1 ∷ []) $
@@ -170,7 +170,7 @@ module _ {M : Type 1} (𝓤 : URA M) (H : Heap 𝓤) (A : Atoms 𝓤) (W : Given
         peeks ! S.the-row (Is S.the-row) (shows 𝓤 H A S.the-row) f (u ∷ []) (λ is.
         land ! (from ! (stop !)) (init ! 12 refl (EL.lawful S.the-type S′.the-laws 𝓤 H A W tt .typed f _ is .0)) $
         -- its body
-        move ! (2 ∷ 1 ∷ []) $ use2 W (raw (BodyOf 𝓤 H A at-mem run .pre to-body) ⊛ ‵ (Held (α 1 κ′) h)) (apart 𝓤 H A W (α 1 κ′) h q′ _ asks-body (typed 𝓤 H A W (α 1 κ′) h was .1 .1 .0 .fits)) $ split ! $
+        move ! (2 ∷ 1 ∷ []) $ use2 W (raw (BodyOf 𝓤 H A at-mem run .pre to-body) ⊛ ‵ (Held (α 1 κ′) h)) (held-asked 𝓤 H A W (α 1 κ′) h q′ _ asks-body (typed 𝓤 H A W (α 1 κ′) h was .1 .1 .0 .fits)) $ split ! $
         calls-at ! fm (BodyOf 𝓤 H A at-mem run) known-body to-body (and-then ! (load ! (from ! (stop !)) (look ! 16 refl)) (and-then ! (load ! (from ! (stop !)) (look ! 14 refl)) (no-more !))) (λ u₂.
         use1 W (later (some (λ (p : RefT (List ℕ)). ((‵ (flft κ′ q′) ⊛ ‵ ftrue) ⊛ ‵ (ShrSlice (named 1) κ′ u8 .own p (u₂ ∷ []))) ⊛ raw (ensured 𝓤 H A body.ended (body.clauses 𝓤 H A at-mem run) (κ′, tt) (h .stream, (h .at, tt)) tt p)))) (id⊢ 𝓤 _) $ await ! tt $ pick ! (λ p.
         split ! $ move ! (1 ∷ []) $ use1 W (raw (fact 𝓤 (PartOf (h .stream) (h .at) p))) (body-said p) $ heard ! (PartOf (h .stream) (h .at) p) (λ e₂. split ! $ move ! (1 ∷ []) $
@@ -178,7 +178,7 @@ module _ {M : Type 1} (𝓤 : URA M) (H : Heap 𝓤) (A : Atoms 𝓤) (W : Given
         peeks ! (ShrSlice (named 1) κ′ u8) (Is (ShrSlice (named 1) κ′ u8)) (shows 𝓤 H A (ShrSlice (named 1) κ′ u8)) p (u₂ ∷ []) (λ is₂.
         land ! (from ! (stop !)) (init ! 11 refl (shr-slice-lawful 𝓤 H A W erased κ′ u8 .typed p _ is₂ .0)) $
         -- the place behind it
-        move ! (2 ∷ 1 ∷ []) $ use2 W (raw (Behind 𝓤 H A at-mem run .pre to-behind) ⊛ ‵ (Held (α 1 κ′) h)) (apart 𝓤 H A W (α 1 κ′) h q′ _ asks-behind (typed 𝓤 H A W (α 1 κ′) h was .1 .1 .0 .fits)) $ split ! $
+        move ! (2 ∷ 1 ∷ []) $ use2 W (raw (Behind 𝓤 H A at-mem run .pre to-behind) ⊛ ‵ (Held (α 1 κ′) h)) (held-asked 𝓤 H A W (α 1 κ′) h q′ _ asks-behind (typed 𝓤 H A W (α 1 κ′) h was .1 .1 .0 .fits)) $ split ! $
         calls-at ! fm (Behind 𝓤 H A at-mem run) known-behind to-behind (and-then ! (load ! (from ! (stop !)) (look ! 17 refl)) (and-then ! (load ! (from ! (stop !)) (look ! 15 refl)) (no-more !))) (λ u₃.
         use1 W (later (some (λ (n : ℕ). ((‵ (flft κ′ q′) ⊛ ‵ ftrue) ⊛ ‵ (usize .own n (u₃ ∷ []))) ⊛ raw (ensured 𝓤 H A behind.ended (behind.clauses 𝓤 H A at-mem run) (κ′, tt) (h .stream, (h .at, tt)) tt n)))) (id⊢ 𝓤 _) $ await ! tt $ pick ! (λ n.
         split ! $ move ! (1 ∷ []) $ use1 W (raw (fact 𝓤 (n ≡ place))) (behind-said 𝓤 H A at-mem run κ′ (h .stream) (h .at) n) $ heard ! (n ≡ place) (λ e₃. split ! $ move ! (1 ∷ []) $

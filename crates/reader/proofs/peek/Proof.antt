@@ -54,7 +54,7 @@ use Rattle.reader.proofs.peek as peek
 use Rattle.reader.proofs.peek.Statement as stated
 use Rattle.reader.proofs.peek.Code as code
 use Rattle.reader.proofs.Held.{α, passed, Held, B₁}
-use Rattle.reader.proofs.Held.{apart as kept}
+use Rattle.reader.proofs.Held.{held-asked}
 
 -- the struct's type, over the signature's lifetimes
 abbrev B : Lfts 1 → RattleType
@@ -85,7 +85,7 @@ module _ {M : Type 1} (𝓤 : URA M) (H : Heap 𝓤) (A : Atoms 𝓤) (W : Given
   apart : d .at < 2 ^ 64 → ent 𝓤 (onEntry 𝓤 H A peek.signature (κ, tt) (q, tt) (d, tt) (T′.lowered d ∷ [], tt)) (sep 𝓤 (ReadAt 𝓤 H A mem run .pre to) (sem 𝓤 H A (Held (α 0 κ) d)))
   apart fits =
       qed W ((‵ (flft κ q) ⊛ ‵ ftrue) ∷ ‵ (owns (B₁ κ ∷ []) (d, tt) (T′.lowered d ∷ [], tt)) ∷ []) ∵
-      move ! (1 ∷ []) $ fsplit ! $ move ! (1 ∷ []) $ drop ! $ use2 W (raw (ReadAt 𝓤 H A mem run .pre to) ⊛ ‵ (Held (α 0 κ) d)) (kept 𝓤 H A W (α 0 κ) d q _ asked fits) $ split ! $ frame ! $ done !
+      move ! (1 ∷ []) $ fsplit ! $ move ! (1 ∷ []) $ drop ! $ use2 W (raw (ReadAt 𝓤 H A mem run .pre to) ⊛ ‵ (Held (α 0 κ) d)) (held-asked 𝓤 H A W (α 0 κ) d q _ asked fits) $ split ! $ frame ! $ done !
 
   -- of the callee's `ensured`, the clause alone: it has no `&mut`, so what is said of last values is dropped
   said : (r : Record) → ent 𝓤 (ensured 𝓤 H A step.ended (step.clauses 𝓤 H A mem run) (κ, tt) (d .stream, (d .at, tt)) tt r) (fact 𝓤 (r ≡ found))

@@ -52,7 +52,7 @@ use Rattle.reader.proofs.skip.Key.{name as #reader·skip}
 use Rattle.reader.proofs.skip as skip
 use Rattle.reader.proofs.skip.Statement as stated
 use Rattle.reader.proofs.skip.Code as code
-use Rattle.reader.proofs.Held.{α, passed, D, L, Held, at-n, apart, again, typed, B₂, Behind, behind-said}
+use Rattle.reader.proofs.Held.{α, passed, D, L, Held, at-n, held-asked, again, typed, B₂, Behind, behind-said}
 
 -- `Reader<'a>`, as the referent's place in the signature
 abbrev referent : Slot 2
@@ -98,7 +98,7 @@ module _ {M : Type 1} (𝓤 : URA M) (H : Heap 𝓤) (A : Atoms 𝓤) (W : Given
         -- [the struct's cell; what a Reader owns; the open borrow; obs; auth; 'a's token; …; _4; …; _3; …; _2; …; _1; …; room for _0; …]
         assigns ! (of-opd ! (load ! (from ! (hop ! (look ! 13 refl) (fld ! refl (stop !)))) (look-in ! 0 (sub ! 1 refl (whole !))))) (from ! (stop !)) (init ! 11 refl (tt, typed 𝓤 H A W (α 1 κ′) h was .1 .1 .0)) $
         assigns ! (of-opd ! (load ! (from ! (hop ! (look ! 13 refl) (fld ! refl (stop !)))) (look-in ! 0 (sub ! 0 refl (whole !))))) (from ! (stop !)) (init ! 7 refl (tt, typed 𝓤 H A W (α 1 κ′) h was .1 .0)) $
-        move ! (1 ∷ 5 ∷ []) $ use2 W (raw (Behind 𝓤 H A at-mem run .pre to) ⊛ ‵ (Held (α 1 κ′) h)) (apart 𝓤 H A W (α 1 κ′) h q′ _ (qed W ((‵ (flft κ′ q′) ⊛ ‵ ftrue) ∷ ‵ (owns (ShrSlice (named 0) κ′ u8 ∷ usize ∷ []) (h .stream, (h .at, tt)) (passed (h .stream) (h .at))) ∷ []) ∵ join ! $ frame ! $ done !) (typed 𝓤 H A W (α 1 κ′) h was .1 .1 .0 .fits)) $ split ! $
+        move ! (1 ∷ 5 ∷ []) $ use2 W (raw (Behind 𝓤 H A at-mem run .pre to) ⊛ ‵ (Held (α 1 κ′) h)) (held-asked 𝓤 H A W (α 1 κ′) h q′ _ (qed W ((‵ (flft κ′ q′) ⊛ ‵ ftrue) ∷ ‵ (owns (ShrSlice (named 0) κ′ u8 ∷ usize ∷ []) (h .stream, (h .at, tt)) (passed (h .stream) (h .at))) ∷ []) ∵ join ! $ frame ! $ done !) (typed 𝓤 H A W (α 1 κ′) h was .1 .1 .0 .fits)) $ split ! $
         -- [what `behind` asks; what a Reader owns; the struct's cell; the open borrow; obs; auth; …; _4; …; _3; …; _2; …; _1; …; room for _0; …]
         calls-at ! fm (Behind 𝓤 H A at-mem run) known to (and-then ! (load ! (from ! (stop !)) (look ! 7 refl)) (and-then ! (load ! (from ! (stop !)) (look ! 11 refl)) (no-more !))) (λ u.
         use1 W (later (some (λ (n : ℕ). ((‵ (flft κ′ q′) ⊛ ‵ ftrue) ⊛ ‵ (usize .own n (u ∷ []))) ⊛ raw (ensured 𝓤 H A behind.ended (behind.clauses 𝓤 H A at-mem run) (κ′, tt) (h .stream, (h .at, tt)) tt n)))) (id⊢ 𝓤 _) $ await ! tt $ pick ! (λ n.

@@ -5,13 +5,13 @@ use native.Mathlib.Omega.{arith}
 use borrow.Author.Needs.{needs}
 use Rattle.model.specs.Lent.{lent}
 use Rattle.words.proofs.Flags.{not-yes, no-not}
-use Rattle.rounds.proofs.Settling.{Goes, goes-first, goes-held, goes-again, goes-accepted, held-fits, goes-held-end}
+use Rattle.rounds.proofs.Settling.{RoundsStand, rounds-stand-first, rounds-stand-held, rounds-stand-again, goes-accepted, held-fits, goes-held-end}
 use Rattle.rounds.proofs.wait_rounds.Statement.{statement}
 use Rattle.rounds.proofs.wait_rounds.Tie as tie
 
 abbrev Inv-loop : tie.InvT-loop
 Inv-loop s at longs₀ words₀ marks₀ x events₀ most round₀ out₀ longs words marks events round out =
-    Goes s x most (lent longs₀ words₀ marks₀) events₀ round out (lent longs words marks) events
+    RoundsStand s x most (lent longs₀ words₀ marks₀) events₀ round out (lent longs words marks) events
 
 abbrev μ-loop : tie.MeasureT-loop
 μ-loop s at longs₀ words₀ marks₀ x events₀ most round₀ out₀ longs words marks events round out = most - round
@@ -20,7 +20,7 @@ pub wait-rounds-spec : {M : Type 1} → statement M
 wait-rounds-spec =
     tie.close
     (tie.spec Inv-loop μ-loop
-    (λ c. goes-first _ _)  -- loop-holds
+    (λ c. rounds-stand-first _ _)  -- loop-holds
     -- one-round-requires
     (λ c κs.
     let i = c .before .before .before .before in
@@ -28,7 +28,7 @@ wait-rounds-spec =
     let p = l .before .before .before .before .before in
     let g = l .loop .inv in
     let room = p .pre .1 .0 .2 in
-    ((p .pre .0 .0, goes-held g (p .pre .0 .1)), (omega (arith, g .short, g .few, g .size, p .pre .1 .1 .few, i .loop-test .taken, room), p .pre .1 .0 .1)))
+    ((p .pre .0 .0, rounds-stand-held g (p .pre .0 .1)), (omega (arith, g .short, g .few, g .size, p .pre .1 .1 .few, i .loop-test .taken, room), p .pre .1 .0 .1)))
     (λ c. omega arith)  -- add-round
     (λ c κs. search needs)  -- accepted-requires
     (λ c. let r = c .before .before .before .before .before .before .before .before .before .before .before in let l = r .before .before .before .before .before .before in r .one-round .kept .1 .1 .0 ∙ l .loop .inv .longs)  -- same-length
@@ -51,7 +51,7 @@ wait-rounds-spec =
     let i = r .before .before .before .before .before in
     let l = i .before in
     let k = r .one-round .kept .1 .1 in
-    goes-again (l .loop .inv) (i .loop-test .taken) (r .one-round .ensures) (no-not (sym (a .accepted .ensures) ∙ c .if1 .left))
+    rounds-stand-again (l .loop .inv) (i .loop-test .taken) (r .one-round .ensures) (no-not (sym (a .accepted .ensures) ∙ c .if1 .left))
     (k .1 .1 .1 .1 .0) (k .0) (k .1 .0) (k .1 .1 .0))
     (λ c κs. search needs)  -- refused-requires
     (λ c κs. search needs)  -- write-reply-requires

@@ -2,12 +2,12 @@ use Prim.Native.Nat.{_/_, _^_, _-_}
 use native.Mathlib.Omega.{arith}
 use borrow.Author.Needs.{needs}
 use lib.Bits.{and-mask, mask-lt}
-use Rattle.model.specs.Tree.{bit}
+use Rattle.model.specs.Tree.{treeBit}
 use Rattle.trees.proofs.named_half.Statement.{statement}
 use Rattle.trees.proofs.named_half.Tie as tie
 
 returns : tie.Need-returns
-unfolding bit
+unfolding treeBit
 returns c = and-mask (c .args .tree / 2 ^ (c .args .node - 1)) 1
 
 pub named-half-spec : {M : Type 1} → statement M

@@ -1,12 +1,12 @@
 -- `compare::checking::judge` meets its contract.
 use borrow.Author.Needs.{needs}
 use mathlib.Core.Path.{sym, _∙_}
-use Rattle.compare.specs.Checking.{verdictOf}
+use Rattle.compare.specs.Checking.{checkVerdict}
 use Rattle.compare.proofs.checking.judge.Statement.{statement}
 use Rattle.compare.proofs.checking.judge.Tie as tie
 
 pub judge-spec : {M : Type 1} → statement M
-unfolding verdictOf
+unfolding checkVerdict
 judge-spec =
     tie.close
     (tie.spec

@@ -2,17 +2,17 @@
 use mathlib.Core.Path.{_≡_, refl, ap, _∙_}
 use borrow.Author.Needs.{needs}
 use lib.ListN.{length}
-use Rattle.compare.specs.Turns.{Ready}
-use Rattle.compare.proofs.Turning.{turnsLeft, goes-less, begun-ready}
+use Rattle.compare.specs.Turns.{BothSound}
+use Rattle.compare.proofs.Turning.{passTurnsLeft, goes-less, begun-ready}
 use Rattle.compare.proofs.listing.list_all.Statement.{statement}
 use Rattle.compare.proofs.listing.list_all.Tie as tie
 
 abbrev Inv-loop : tie.InvT-loop
 Inv-loop l a₀ b₀ c₀ d₀ out₀ k₀ a b c d out k =
-    (length a ≡ length a₀) × (length b ≡ length b₀) × (length c ≡ length c₀) × (length d ≡ length d₀) × (length out ≡ length out₀) × Ready (length a₀) (length b₀) (k .pass) × Ready (length c₀) (length d₀) (k .shown .pass)
+    (length a ≡ length a₀) × (length b ≡ length b₀) × (length c ≡ length c₀) × (length d ≡ length d₀) × (length out ≡ length out₀) × BothSound (length a₀) (length b₀) (k .pass) × BothSound (length c₀) (length d₀) (k .shown .pass)
 
 abbrev μ-loop : tie.MeasureT-loop
-μ-loop l a₀ b₀ c₀ d₀ out₀ k₀ a b c d out k = turnsLeft (k .more) (k .pass)
+μ-loop l a₀ b₀ c₀ d₀ out₀ k₀ a b c d out k = passTurnsLeft (k .more) (k .pass)
 
 pub list-all-spec : {M : Type 1} → statement M
 list-all-spec =

@@ -4,17 +4,17 @@ use borrow.Author.Needs.{needs}
 use lib.ListN.{length}
 use Rattle.words.proofs.Flags.{clash}
 use Rattle.compare.specs.Lines.{PutWhere}
-use Rattle.compare.specs.Turns.{Ready}
-use Rattle.compare.proofs.Turning.{turnsLeft, goes-less}
+use Rattle.compare.specs.Turns.{BothSound}
+use Rattle.compare.proofs.Turning.{passTurnsLeft, goes-less}
 use Rattle.compare.proofs.showing.show.Statement.{statement}
 use Rattle.compare.proofs.showing.show.Tie as tie
 
 abbrev Inv-loop : tie.InvT-loop
 Inv-loop third fourth c₀ d₀ out₀ number s₀ c d out s =
-    (length c ≡ length c₀) × (length d ≡ length d₀) × (length out ≡ length out₀) × Ready (length c₀) (length d₀) (s .pass) × PutWhere number s
+    (length c ≡ length c₀) × (length d ≡ length d₀) × (length out ≡ length out₀) × BothSound (length c₀) (length d₀) (s .pass) × PutWhere number s
 
 abbrev μ-loop : tie.MeasureT-loop
-μ-loop third fourth c₀ d₀ out₀ number s₀ c d out s = turnsLeft (s .more) (s .pass)
+μ-loop third fourth c₀ d₀ out₀ number s₀ c d out s = passTurnsLeft (s .more) (s .pass)
 
 pub show-spec : {M : Type 1} → statement M
 show-spec =

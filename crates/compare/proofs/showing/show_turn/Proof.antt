@@ -1,7 +1,7 @@
 -- `compare::showing::show_turn` meets its contract.
 use mathlib.Core.Path.{refl}
 use borrow.Author.Needs.{needs}
-use Rattle.compare.proofs.Turning.{pass-on, pass-halt, put-on, put-stuck, put-past}
+use Rattle.compare.proofs.Turning.{pass-on, pass-halt, put-on, put-stuck, put-beyond}
 use Rattle.compare.proofs.showing.show_turn.Statement.{statement}
 use Rattle.compare.proofs.showing.show_turn.Tie as tie
 
@@ -13,7 +13,7 @@ show-turn-spec =
     -- returns
     (λ c.
     let start = c .before .before .before .before .before .before .before .before in
-    (pass-halt _ (start .pre) (c .halted .ensures .0) (c .halted .ensures .1), put-past (c .before .if1 .taken) (c .halted .result) (c .halted .ensures .0)))
+    (pass-halt _ (start .pre) (c .halted .ensures .0) (c .halted .ensures .1), put-beyond (c .before .if1 .taken) (c .halted .result) (c .halted .ensures .0)))
     (λ c κs. search needs)  -- turn-requires
     (λ c. search needs)  -- enum-known-m
     (λ c κs. search needs)  -- row-met-requires

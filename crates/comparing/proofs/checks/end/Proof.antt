@@ -1,11 +1,11 @@
 -- `comparing::checks::end` meets its contract.
 use borrow.Author.Tests.{eq-eqb, ne-eqb}
-use Rattle.comparing.specs.Coming.{told}
+use Rattle.comparing.specs.Coming.{faultTold}
 use Rattle.comparing.proofs.checks.end.Statement.{statement}
 use Rattle.comparing.proofs.checks.end.Tie as tie
 
 pub end-spec : {M : Type 1} → statement M
-unfolding told
+unfolding faultTold
 end-spec =
     tie.close
     (tie.spec

@@ -4,7 +4,7 @@ use Prim.Native.Nat.{_-_}
 use borrow.Author.Needs.{needs}
 use native.Mathlib.Omega.{arith}
 use lib.ListN.{length}
-use Rattle.comparing.proofs.Coming.{PassedTo, passed-more, passed-all}
+use Rattle.comparing.proofs.Coming.{PassedTo, check-passed-more, passed-all}
 use Rattle.comparing.proofs.checks.pass.Statement.{statement}
 use Rattle.comparing.proofs.checks.pass.Tie as tie
 
@@ -26,5 +26,5 @@ pass-spec =
     -- loop-again
     (λ c.
     let l = c .before .before in
-    passed-more _ _ _ (l .before .loop .i) (l .loop-test .taken) (c .pass-byte .ensures) (l .before .loop .inv))
+    check-passed-more _ _ _ (l .before .loop .i) (l .loop-test .taken) (c .pass-byte .ensures) (l .before .loop .inv))
     (λ c. let v = c .before .loop in passed-all _ _ _ (v .i) (c .loop-test .left) (v .inv)))  -- returns

@@ -1,11 +1,11 @@
 -- `comparing::walking::differing` meets its contract.
 use borrow.Author.Needs.{needs}
-use Rattle.comparing.specs.Steps.{counted}
+use Rattle.comparing.specs.Steps.{pairsDiffering}
 use Rattle.comparing.proofs.walking.differing.Statement.{statement}
 use Rattle.comparing.proofs.walking.differing.Tie as tie
 
 pub differing-spec : {M : Type 1} → statement M
-unfolding counted
+unfolding pairsDiffering
 differing-spec =
     tie.close
     (tie.spec

@@ -1,12 +1,12 @@
 -- `comparing::walking::row` meets its contract.
 use borrow.Author.Needs.{needs}
-use Rattle.comparing.specs.Steps.{row}
+use Rattle.comparing.specs.Steps.{recordRow}
 use Rattle.comparing.proofs.Stepping.{row-next}
 use Rattle.comparing.proofs.walking.row.Statement.{statement}
 use Rattle.comparing.proofs.walking.row.Tie as tie
 
 pub row-spec : {M : Type 1} → statement M
-unfolding row
+unfolding recordRow
 row-spec =
     tie.close
     (tie.spec

@@ -5,13 +5,13 @@ use native.Mathlib.Omega.{arith}
 use borrow.Author.Needs.{needs}
 use lib.ListN.{length-set}
 use Rattle.model.specs.Lent.{lent}
-use Rattle.rounds.proofs.Running.{Runs, runs-first, runs-end, runs-accepted, runs-again}
+use Rattle.rounds.proofs.Running.{RoundsRun, runs-first, runs-end, runs-accepted, runs-again}
 use Rattle.rounds.proofs.demand3.rounds_on.Statement.{statement}
 use Rattle.rounds.proofs.demand3.rounds_on.Tie as tie
 
 abbrev Inv-loop : tie.InvT-loop
 Inv-loop s at longs₀ words₀ marks₀ x n flags₀ events₀ i₀ out₀ longs words marks flags events i out =
-    Runs s x n (lent longs₀ words₀ marks₀) flags₀ events₀ (lent longs words marks) flags events i out
+    RoundsRun s x n (lent longs₀ words₀ marks₀) flags₀ events₀ (lent longs words marks) flags events i out
 
 abbrev μ-loop : tie.MeasureT-loop
 μ-loop s at longs₀ words₀ marks₀ x n flags₀ events₀ i₀ out₀ longs words marks flags events i out = n - i

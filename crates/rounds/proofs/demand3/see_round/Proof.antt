@@ -1,7 +1,7 @@
 -- The send, the fill, the offer.
 use native.Mathlib.Omega.{arith}
 use borrow.Author.Needs.{needs}
-use Rattle.rounds.proofs.Showing.{offer-room, offers}
+use Rattle.rounds.proofs.Showing.{offer-room, sees-offer}
 use Rattle.rounds.proofs.demand3.see_round.Statement.{statement}
 use Rattle.rounds.proofs.demand3.see_round.Tie as tie
 
@@ -28,4 +28,4 @@ see-round-spec =
     let a = n .before .before .before .before .before .before .before .before in
     let d = a .before .before .before .before .before .before .before .before .before .before .before .before in
     let p = d .before .before .before .before .before .before .before .before .before in
-    offers _ (p .args .x) (d .see-drain .ensures) (a .access .ensures) (p .pre .1 .1) (n .tell .ensures) (c .accepted .ensures)))
+    sees-offer _ (p .args .x) (d .see-drain .ensures) (a .access .ensures) (p .pre .1 .1) (n .tell .ensures) (c .accepted .ensures)))

@@ -1,7 +1,7 @@
 -- The send, if the queue isn't empty, and what is written of it.
 use native.Mathlib.Omega.{arith}
 use borrow.Author.Needs.{needs}
-use Rattle.rounds.proofs.Showing.{no-send, send-room, sends}
+use Rattle.rounds.proofs.Showing.{no-send, send-room, sees-send}
 use Rattle.rounds.proofs.demand3.see_send.Statement.{statement}
 use Rattle.rounds.proofs.demand3.see_send.Tie as tie
 
@@ -33,4 +33,4 @@ see-send-spec =
     let i = s .before .before .before .before in
     let q = i .before in
     let p = q .before .before .before .before .before .before .before .before in
-    sends _ (p .pre .0 .1) (s .send .ensures) (q .nothing-queued .ensures) (i .if1 .left) (n .tell .ensures)))
+    sees-send _ (p .pre .0 .1) (s .send .ensures) (q .nothing-queued .ensures) (i .if1 .left) (n .tell .ensures)))

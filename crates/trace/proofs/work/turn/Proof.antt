@@ -1,7 +1,7 @@
 -- The records that wait, then a read or the end.
 use mathlib.Core.Path.{sym, _∙_}
 use borrow.Author.Needs.{needs}
-use Rattle.trace.proofs.Going.{reads-by, turn-over, carried-inside}
+use Rattle.trace.proofs.Going.{reads-by, trace-over, carried-inside}
 use Rattle.trace.proofs.work.turn.Statement.{statement}
 use Rattle.trace.proofs.work.turn.Tie as tie
 
@@ -43,5 +43,5 @@ turn-spec =
     let y = b .before .before .before in
     record {
       held = y .before .before .before .before .before .before .before .before .before .before .before .before .trace-records .ensures;
-      read = turn-over (b .behind .ensures) (carried-inside _ _ _ (y .carry .ensures .0) (y .carry .kept .0) (b .behind .ensures .waits)) (sym (c .before .goes-on .ensures) ∙ c .if1 .left);
+      read = trace-over (b .behind .ensures) (carried-inside _ _ _ (y .carry .ensures .0) (y .carry .kept .0) (b .behind .ensures .waits)) (sym (c .before .goes-on .ensures) ∙ c .if1 .left);
     }))

@@ -1,7 +1,7 @@
 -- The queue places and the miss entries in use.
 use native.Mathlib.Omega.{arith}
 use Rattle.layout.proofs.ByBlocks.{is-stands, stands-fit}
-use Rattle.turns.proofs.Turns.{counted}
+use Rattle.turns.proofs.Turns.{in-use-counted}
 use Rattle.wait.proofs.waiting.in_use.Statement.{statement}
 use Rattle.wait.proofs.waiting.in_use.Tie as tie
 
@@ -24,7 +24,7 @@ returns c =
     let p = c .before .before .before .before .before .pre .0 in
     let q = c .before .used .ensures in
     let m = c .used2 .ensures in
-    record { queued = λ t i. counted _ p q m t i .0; missed = λ t i. counted _ p q m t i .1 }
+    record { queued = λ t i. in-use-counted _ p q m t i .0; missed = λ t i. in-use-counted _ p q m t i .1 }
 
 pub in-use-spec : {M : Type 1} → statement M
 in-use-spec =

@@ -5,14 +5,14 @@ use native.Mathlib.Omega.{arith}
 use borrow.Author.Needs.{needs}
 use Rattle.model.specs.Lent.{lent}
 use Rattle.words.proofs.Flags.{not-yes, no-not}
-use Rattle.rounds.proofs.Settling.{Goes, goes-first, goes-held, goes-again}
+use Rattle.rounds.proofs.Settling.{RoundsStand, rounds-stand-first, rounds-stand-held, rounds-stand-again}
 use Rattle.wait.proofs.Verdicts.{ends-accepted, ends-held}
 use Rattle.wait.proofs.waiting.wait_rounds.Statement.{statement}
 use Rattle.wait.proofs.waiting.wait_rounds.Tie as tie
 
 abbrev Inv-loop : tie.InvT-loop
 Inv-loop s at longs₀ words₀ marks₀ x most started events₀ round₀ out₀ shown₀ longs words marks events round out shown =
-    Goes s x most (lent longs₀ words₀ marks₀) events₀ round out (lent longs words marks) events
+    RoundsStand s x most (lent longs₀ words₀ marks₀) events₀ round out (lent longs words marks) events
 
 abbrev μ-loop : tie.MeasureT-loop
 μ-loop s at longs₀ words₀ marks₀ x most started events₀ round₀ out₀ shown₀ longs words marks events round out shown = most - round
@@ -24,7 +24,7 @@ one-round-requires c κs =
     let p = l .before .before .before .before .before .before in
     let g = l .loop .inv in
     let room = l .before .before .large-buffer .ensures in
-    ((p .pre .0 .0, goes-held g (p .pre .0 .1)), (omega (arith, g .short, g .few, g .size, p .pre .1 .1 .few, i .loop-test .taken, room), p .pre .1 .0 .1))
+    ((p .pre .0 .0, rounds-stand-held g (p .pre .0 .1)), (omega (arith, g .short, g .few, g .size, p .pre .1 .1 .few, i .loop-test .taken, room), p .pre .1 .0 .1))
 
 same-length : tie.Need-same-length Inv-loop μ-loop
 same-length c = let r = c .before .before .before .before .before .before .before .before .before .before .before .before .before .before .before in r .one-round .kept .1 .1 .0 ∙ r .before .before .before .before .before .before .loop .inv .longs
@@ -55,7 +55,7 @@ loop-again c =
     let i = r .before .before .before .before .before in
     let l = i .before in
     let k = r .one-round .kept .1 .1 in
-    goes-again (l .loop .inv) (i .loop-test .taken) (r .one-round .ensures) (no-not (sym (a .accepted .ensures) ∙ c .if1 .left))
+    rounds-stand-again (l .loop .inv) (i .loop-test .taken) (r .one-round .ensures) (no-not (sym (a .accepted .ensures) ∙ c .if1 .left))
     (k .1 .1 .1 .1 .0) (k .0) (k .1 .0) (k .1 .1 .0)
 
 returns-2 : tie.Need-returns-2 Inv-loop μ-loop
@@ -71,7 +71,7 @@ wait-rounds-spec =
     (tie.spec Inv-loop μ-loop
     (λ c κs. search needs)  -- large-buffer-requires
     (λ c. search needs)  -- slice-aggregate-events
-    (λ c. goes-first _ _)  -- loop-holds
+    (λ c. rounds-stand-first _ _)  -- loop-holds
     one-round-requires
     (λ c. omega arith)  -- add-round
     (λ c κs. search needs)  -- part-requires

@@ -1,6 +1,6 @@
 -- The row of the table at its index, or that of none.
 use borrow.Author.Needs.{needs}
-use Rattle.wording.proofs.Named.{row-named, none-named}
+use Rattle.wording.proofs.Named.{name-row, none-named}
 use Rattle.wording.proofs.names.row_of.Statement.{statement}
 use Rattle.wording.proofs.names.row_of.Tie as tie
 
@@ -11,5 +11,5 @@ row-of-spec =
     (λ c. search needs)  -- mul-result
     (λ c. search needs)  -- array-copy-out-result
     (λ c. search needs)  -- array-copy-out-result-2
-    (λ c. row-named _)  -- returns
+    (λ c. name-row _)  -- returns
     (λ c. none-named (c .before .before .args .n) (c .before .if1 .left)))  -- returns-2

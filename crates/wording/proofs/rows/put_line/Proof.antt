@@ -8,14 +8,14 @@ use borrow.Author.Needs.{needs}
 use lib.ListN.{length}
 use Rattle.words.proofs.Flags.{not-yes, no-not}
 use Rattle.wording.specs.Pieces.{page, withPieces}
-use Rattle.wording.specs.Rows.{shown}
+use Rattle.wording.specs.Rows.{lineShown}
 use Rattle.wording.proofs.Pieces.{page-puts}
 use Rattle.wording.proofs.Lines.{Rest, rest-start, word-on, mark-on, rest-end}
 use Rattle.wording.proofs.rows.put_line.Statement.{statement}
 use Rattle.wording.proofs.rows.put_line.Tie as tie
 
 abbrev Inv-loop : tie.InvT-loop
-Inv-loop line values out₀ at a₀ start₀ i₀ k₀ out a start i k = (start ≤ i) × (i ≤ length line) × (k ≤ i) × (length out ≡ length out₀) × (withPieces (Rest line values start i k) (page out a) ≡ withPieces (shown line values) (page out₀ at))
+Inv-loop line values out₀ at a₀ start₀ i₀ k₀ out a start i k = (start ≤ i) × (i ≤ length line) × (k ≤ i) × (length out ≡ length out₀) × (withPieces (Rest line values start i k) (page out a) ≡ withPieces (lineShown line values) (page out₀ at))
 
 abbrev μ-loop : tie.MeasureT-loop
 μ-loop line values out₀ at a₀ start₀ i₀ k₀ out a start i k = length line - i

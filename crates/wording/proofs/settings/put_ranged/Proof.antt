@@ -5,13 +5,13 @@ use lib.ListN.{length}
 use Rattle.model.specs.Records.{settingsIn}
 use Rattle.wording.specs.Settings.{lastWords, rangedWords}
 use Rattle.wording.proofs.Pieces.{puts-as, puts-from}
-use Rattle.wording.proofs.Ranges.{Rest, ranged-on, ranged-here, ranged-none}
+use Rattle.wording.proofs.Ranges.{RestOfRanges, ranged-on, ranged-here, ranged-none}
 use borrow.Author.Needs.{needs}
 use Rattle.wording.proofs.settings.put_ranged.Statement.{statement}
 use Rattle.wording.proofs.settings.put_ranged.Tie as tie
 
 abbrev Inv-loop : tie.InvT-loop
-Inv-loop b out₀ at i₀ t out i = (out ≡ out₀) × (length out ≡ length out₀) × (rangedWords b ≡ Rest b (lastWords (settingsIn b .ways) (settingsIn b .rule)) i)
+Inv-loop b out₀ at i₀ t out i = (out ≡ out₀) × (length out ≡ length out₀) × (rangedWords b ≡ RestOfRanges b (lastWords (settingsIn b .ways) (settingsIn b .rule)) i)
 
 abbrev μ-loop : tie.MeasureT-loop
 μ-loop b out₀ at i₀ t out i = 5 - i
