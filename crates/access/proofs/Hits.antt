@@ -20,6 +20,7 @@ use Rattle.model.specs.declared.Answer.{Answer}
 use Rattle.model.specs.declared.Answer.the-variants.{Hit, HitReserved, Miss, SectorMiss}
 use Rattle.model.specs.declared.Event.the-variants.{Answered}
 use Rattle.model.specs.declared.Reply.{Reply}
+use Rattle.model.proofs.SoundFacts.{parts, few-queued}
 use Rattle.layout.specs.declared.Layout.{Layout}
 use Rattle.layout.specs.Layout.{LaysOut}
 use Rattle.tables.specs.Telling.{telling}
@@ -27,7 +28,7 @@ use Rattle.probe.specs.declared.Decision.{Decision}
 use Rattle.access.specs.Plan.{Met, Acts, missPlan}
 use Rattle.access.specs.Written.{sectorsFor, sectorsAfter, queuesOf, tellingOf, lineLeft, lineTaken, treesWritten, setTurned}
 use Rattle.access.specs.declared.plan.MissPlan.the-variants.{Stays}
-use Rattle.access.proofs.PlanTests.{few-queued, plan-write, plan-hit}
+use Rattle.access.proofs.PlanTests.{plan-write, plan-hit}
 use Rattle.access.proofs.Lines.{no-back}
 use Rattle.access.proofs.Kept.{touched}
 use Rattle.access.proofs.Telling.{acted}
@@ -75,7 +76,7 @@ module _ (S : Settings) {longs words marks : List ℕ} (x : Access) (d : Decisio
   pub change-offered : {r : Reply} {words′ words″ marks′ : List ℕ} → isRead x ≡ false → r ≡ telling (Answered (d .answer) (d .line))
       → lent longs words′ marks′ ≡ lineThere S longs words marks x d place → words″ ≡ treesWritten S place (setIndex S (addressOf x)) (d .way) words′
       → Leaves (encoded S (proceed S x t (at p))) (lent longs words marks) r (lent longs words″ marks′)
-  change-offered writes = alone-offered (plan-write S x d t p m refl none-needed (omega (arith, few-queued S x d t p m)) writes)
+  change-offered writes = alone-offered (plan-write S x d t p m refl none-needed (omega (arith, few-queued S t (parts S t (m .is .soundly)))) writes)
 
 -- a read that hits leaves its line's tag and sectors
 pub hit-offered : (S : Settings) {longs words marks : List ℕ} (x : Access) (d : Decision) (t : Tables) (p : Spot) → Met S (lent longs words marks) x d t p → {place : Layout} → LaysOut S place
@@ -87,5 +88,5 @@ hit-offered S x d t p m pl reads hits e w =
     let stays = ap takesLine hit in
     let alone : (isRead x && isMiss (d .answer)) ≡ false = rw (reads, hit) in
     alone-offered S x d t p m pl stays alone
-    (plan-hit S x d t p m refl (none-needed S x d t p m pl stays alone) (omega (arith, few-queued S x d t p m)) reads (ap isMerge hit) (ap isMiss hit))
+    (plan-hit S x d t p m refl (none-needed S x d t p m pl stays alone) (omega (arith, few-queued S t (parts S t (m .is .soundly)))) reads (ap isMerge hit) (ap isMiss hit))
     (e ∙ rw hit) (touched S x d t p m pl (rw (reads, hit))) w

@@ -6,7 +6,7 @@ use Prim.Native.Nat.{ℕ, _+_, _≤_, _<_}
 use native.Mathlib.Omega.{arith}
 use lib.ListN.{length, getD, length-append}
 use lib.Dec.{ltb}
-use borrow.Author.Tests.{lt-ltb, le-ltb, leb-true}
+use borrow.Author.Tests.{lt-ltb, le-ltb}
 use Rattle.words.specs.Words.{pick, any, one}
 use Rattle.model.specs.Address.{addressOf, isRead, blockOf}
 use Rattle.model.specs.Tables.{Line, reading, writing, Tables, entryFor, fresh, emptied}
@@ -76,9 +76,6 @@ module _ (S : Settings) {L : Lent} (x : Access) (d : Decision) (t : Tables) (p :
 
   pub answer-is : p .answer ≡ d .answer
   answer-is = shows .answer
-
-  pub few-queued : length (t .queue) ≤ S .queue
-  few-queued = leb-true (length (t .queue)) (S .queue) (parts S t (m .is .soundly) .short)
 
   pub queues-are : queues x p ≡ queuesOf x d
   queues-are = rw (shows .backs, answer-is) (ap (λ (l : List Queued). l ++ backsOf d) (fetches-are x (d .answer)))

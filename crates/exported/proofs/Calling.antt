@@ -3,7 +3,7 @@
 use mathlib.Core.Path.{_≡_, refl, sym, ap, _∙_}
 use mathlib.Core.Bool.{Bool, true, false, not, _||_}
 use mathlib.Core.List.{List, [], _∷_}
-use Prim.Native.Nat.{ℕ, _≤_, _<_}
+use Prim.Native.Nat.{ℕ, _+_, _≤_, _<_}
 use native.Mathlib.Nat.{le-trans}
 use native.Mathlib.Omega.{arith}
 use lib.Dec.{lit≤, ltb}
@@ -73,15 +73,16 @@ module _ (S : Settings) (k : Call) (L : Lent) (e : List ℕ) (reply : Reply) whe
   pub step-made : {r : ℕ} {f : List ℕ} {M : Lent} → history.SmallCall k → SoundSlices S L → 64 ≤ length e → Does S (stepBy S k) L reply M
       → Laid e 0 (length (logBytes (eventsTold reply))) (logBytes (eventsTold reply)) r f → Stepped S out L e r f M
   unfolding access
-  step-made {r} small held room d u =
+  step-made {r} {M = M} small held room d u =
       let t = held .tables in
       let i = held .are in
       let q : out ≡ encoded S (stepBy S k t) = call-is S L t i (stepBy S k) in
       let n : length (logBytes (eventsOf out)) ≤ 49 = rw (q, events-encoded S (stepBy S k t)) (call-short S k t (i .range) (i .soundly) .most) in
-      let left = rw q (d .on t i) in
-      let few : r ≤ 49 = omega (arith, u .next, rw (← left .tells) at n) in
+      let left : Leaves out L reply M = rw q (d .on t i) in
+      let short : length (logBytes (eventsTold reply)) ≤ 49 = rw (left .tells) n in
+      let size : r ≡ length (logBytes (eventsTold reply)) = omega (arith, u .next) in
       record {
-        called = call-written out L e reply room n left (stored-there e 0 (logBytes (eventsTold reply)) (u .next) (sym (le-leb (0 + r) (length e) (omega arith))) refl u);
+        called = call-written out L e reply room n left (stored-there e 0 (logBytes (eventsTold reply)) size (sym (le-leb (0 + r) (length e) (omega arith))) refl u);
         held = record { tables = after t (stepBy S k t); are = does-is S d t i (call-keeps-sound (ruleOf S) S k t (i .range) small (i .soundly)) };
       }
 

@@ -3,6 +3,7 @@ use native.Mathlib.Omega.{arith}
 use borrow.Author.Needs.{needs}
 use Rattle.model.specs.declared.Access.the-variants.{Write}
 use Rattle.model.specs.History.{offer}
+use Rattle.encoding.proofs.ReplyShapes.{access-shaped}
 use Rattle.exported.proofs.Calling.{step-unmade, step-made}
 use Rattle.exported.proofs.unchecked.labintugmo_step_write.Statement.{statement}
 use Rattle.exported.proofs.unchecked.labintugmo_step_write.Tie as tie
@@ -15,7 +16,11 @@ labintugmo-step-write-spec =
     (λ c κs. search needs)  -- settings-from-requires
     (λ c κs. rw (c .settings-from .ensures) (c .before .before .before .before .before .before .before .pre .are .range))  -- layout-of-requires
     (λ c κs. let l = c .before .before .before in let s = l .before in (l .layout-of .ensures, rw (s .settings-from .ensures) (s .before .before .before .before .before .before .before .pre)))  -- access-step-requires
-    (λ c κs. ?)  -- put-access-requires
+    -- put-access-requires
+    (λ c κs.
+    let done = c .before .before .before .before .before .before .before in
+    let s = done .before .before .before .before .before in
+    (access-shaped _ (rw (s .settings-from .ensures) (s .before .before .before .before .before .before .before .pre)) _ (done .access-step .ensures), s .before .if1 .left))
     (λ c. search needs)  -- same-length
     (λ c. search needs)  -- same-length-2
     (λ c. search needs)  -- same-length-3
