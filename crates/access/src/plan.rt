@@ -109,10 +109,10 @@ pub(crate) fn miss_plan(
 }
 
 // Whether the access is not refused.
-pub(crate) fn accepted(c: MissPlan) -> bool
-    ensures { λ r. ⌜ r ≡ isAccepted c ⌝ }
+pub(crate) fn accepted(plan: MissPlan) -> bool
+    ensures { λ r. ⌜ r ≡ isAccepted plan ⌝ }
 {
-    match c {
+    match plan {
         MissPlan::Refused(_) => false,
         MissPlan::Stays => true,
         MissPlan::Joins { entry: _, count: _ } => true,
@@ -121,10 +121,10 @@ pub(crate) fn accepted(c: MissPlan) -> bool
 }
 
 // The refusal of an access that is.
-pub(crate) fn refusal_of(c: MissPlan) -> Refusal
-    ensures { λ r. ⌜ r ≡ refusalOf c ⌝ }
+pub(crate) fn refusal_of(plan: MissPlan) -> Refusal
+    ensures { λ r. ⌜ r ≡ refusalOf plan ⌝ }
 {
-    match c {
+    match plan {
         MissPlan::Refused(n) => n,
         MissPlan::Stays => Refusal::QueueFull,
         MissPlan::Joins { entry: _, count: _ } => Refusal::QueueFull,

@@ -114,14 +114,7 @@ fn arrive(x: Sector) -> Sector
 }
 
 // The address's sector of line `l` arrives.
-fn fill_sector(
-    s: Settings,
-    at: Layout,
-    words: &mut [u32],
-    marks: &mut [u8],
-    l: usize,
-    address: u64,
-)
+fn fill_sector(s: Settings, at: Layout, words: &mut [u32], marks: &mut [u8], l: usize, address: u64)
     requires { ⌜ (l < linesOf s) × SectorRoom s at (now words) (now marks) ⌝ }
     requires { ⌜ (at .dirty < length (now words)) × CountFits at l (now words) (now marks) ⌝ }
     ensures { λ _. ⌜ SectorFilled s at l (sectorIndex address) (now (words .entry)) (now (marks .entry)) (now (words .exit)) (now (marks .exit)) ⌝ }
