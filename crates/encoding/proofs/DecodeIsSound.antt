@@ -182,19 +182,19 @@ module _ {A : Type 0} (g : A → List ℕ) (n : ℕ) (f : ℕ → A) (e k : ℕ)
   field-past : n ≤ e → field g (table n f) e k ≡ 0
   field-past h = field-out g (table n f) e k (rw length-table h)
 
-number-back : (n : ℕ) → n ≤ 3 → n ≡ statusNumber (statusOf n)
+pub number-back : (n : ℕ) → n ≤ 3 → n ≡ statusNumber (statusOf n)
 number-back zero h = refl
 number-back (suc zero) h = refl
 number-back (suc (suc zero)) h = refl
 number-back (suc (suc (suc zero))) h = refl
 number-back (suc (suc (suc (suc n)))) h = absurd (omega arith)
 
-mark-back : (n : ℕ) → n ≤ 1 → n ≡ bit (eqb n 1)
+pub mark-back : (n : ℕ) → n ≤ 1 → n ≡ bit (eqb n 1)
 mark-back zero h = refl
 mark-back (suc zero) h = refl
 mark-back (suc (suc n)) h = absurd (omega arith)
 
-sectors-at : (f : Sector → ℕ) (S : Settings) (words marks : List ℕ) (l k : ℕ) → k < 4
+pub sectors-at : (f : Sector → ℕ) (S : Settings) (words marks : List ℕ) (l k : ℕ) → k < 4
     → f (sectorAt S words marks (4 * l + k)) ≡ getD (map f (sectorsAt S words marks l)) k 0
 sectors-at f S words marks l zero h = rw add-zero
 sectors-at f S words marks l (suc zero) h = refl

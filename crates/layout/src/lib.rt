@@ -20,6 +20,7 @@ pub use ranges::power_to_16;
 pub use ranges::power_to_256;
 pub use ranges::words_length;
 pub use sectors::lift;
+pub use sectors::replace;
 pub use sectors::sector_at;
 pub use sectors::store;
 pub use sectors::with_sector;

@@ -271,6 +271,11 @@ module _ {A B : Type 0} (f : A → B) where
   in-map (x ∷ l) (inl q) = (x, inl refl, q)
   in-map (x ∷ l) (inr m) = let (z, n, e) = in-map l m in (z, inr n, e)
 
+  pub map-set : (l : List A) (i : ℕ) (v : A) → map f (set l i v) ≡ set (map f l) i (f v)
+  map-set [] i v = refl
+  map-set (x ∷ l) zero v = refl
+  map-set (x ∷ l) (suc i) v = ap (λ (r : List B). f x ∷ r) (map-set l i v)
+
   pub any-map : (p : B → Bool) (l : List A) → any p (map f l) ≡ any (λ x. p (f x)) l
   any-map p [] = refl
   any-map p (x ∷ l) = rw (any-map p l)

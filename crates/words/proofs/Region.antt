@@ -2,11 +2,11 @@
 use mathlib.Core.Path.{_≡_, refl, sym, ap, _∙_}
 use mathlib.Core.List.{List, [], _∷_, _++_}
 use Prim.Native.Nat.{ℕ, zero, suc, _+_, _-_, _≤_, _<_}
-use native.Mathlib.Nat.{add-zero}
+use native.Mathlib.Nat.{add-zero, zero-add, suc-add}
 use native.Mathlib.Numerals.{add-one}
 use native.Mathlib.Omega.{arith}
 use lib.ListN.{length, take, drop, getD, set, replicate, length-append, length-drop, length-set, length-replicate, List·getD-append}
-use lib.Seq.{sets, paste, paste-zero, paste-suc, length-paste-head, length-take-le, take-all, getD-append-add, getD-take, getD-drop}
+use lib.Seq.{sets, paste, paste-zero, paste-suc, length-paste-head, length-take-le, take-all, getD-append-add, getD-take, getD-drop, set-append-left, take-set-lt, drop-set-lt}
 use Rattle.words.specs.Regions.{region, put, closedUp}
 
 pub length-region : (l : List ℕ) (at n : ℕ) → at + n ≤ length l → length (region l at n) ≡ n
@@ -124,3 +124,29 @@ sets-append l at [] b = rw add-zero
 sets-append l at (x ∷ a) b =
     let e : at + suc (length a) ≡ suc at + length a = omega arith in
     rw e (sets-append (set l at x) (suc at) a b)
+
+-- ---- one number behind a region that is put, inside it and before it
+
+set-past : (p q : List ℕ) (k v : ℕ) → set (p ++ q) (length p + k) v ≡ p ++ set q k v
+set-past [] q k v = ap (λ (i : ℕ). set q i v) (zero-add k)
+set-past (x ∷ p) q k v = ap (λ (i : ℕ). set (x ∷ (p ++ q)) i v) (suc-add (length p) k) ∙ ap (λ (r : List ℕ). x ∷ r) (set-past p q k v)
+
+pub set-inside : (l : List ℕ) (at : ℕ) (r : List ℕ) (k v : ℕ) → at + length r ≤ length l → k < length r → set (put l at r) (at + k) v ≡ put l at (set r k v)
+unfolding put
+set-inside l at r k v h g =
+    let n : length (take at l) ≡ at = length-take-le at l (omega arith) in
+    let m : length (take at l ++ r) ≡ length (take at l) + length r = length-append (take at l) r in
+    set-append-left (take at l ++ r) (drop (at + length r) l) (at + k) v (omega (arith, n, m))
+    ∙ ap (λ (i : ℕ). set (take at l ++ r) (i + k) v ++ drop (at + length r) l) (sym n)
+    ∙ ap (λ (q : List ℕ). q ++ drop (at + length r) l) (set-past (take at l) r k v)
+    ∙ ap (λ (i : ℕ). take at l ++ set r k v ++ drop (at + i) l) (sym (length-set r k v))
+
+pub set-before : (l : List ℕ) (at : ℕ) (r : List ℕ) (i v : ℕ) → at ≤ length l → i < at → set (put l at r) i v ≡ put (set l i v) at r
+unfolding put
+set-before l at r i v h g =
+    let n : length (take at l) ≡ at = length-take-le at l h in
+    let m : length (take at l ++ r) ≡ length (take at l) + length r = length-append (take at l) r in
+    set-append-left (take at l ++ r) (drop (at + length r) l) i v (omega (arith, n, m))
+    ∙ ap (λ (q : List ℕ). q ++ drop (at + length r) l) (set-append-left (take at l) r i v (omega (arith, n)))
+    ∙ ap (λ (q : List ℕ). q ++ r ++ drop (at + length r) l) (sym (take-set-lt at l i v g))
+    ∙ ap (λ (q : List ℕ). take at (set l i v) ++ r ++ q) (sym (drop-set-lt (at + length r) l i v (omega arith)))
