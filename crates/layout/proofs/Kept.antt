@@ -56,9 +56,9 @@ module _ (l : List ℕ) (w k : ℕ) (was is : List ℕ) (long : w + 4 ≤ length
   left : (i : ℕ) → i < 4 → getD (butOne k was is) i 0 ≡ number i
   left i h = go (eqb k i) refl
     where
-    go : (b : Bool) → eqb k i ≡ b → getD (set is k (getD was k 0)) i 0 ≡ pick (not b) (getD is i 0) (getD was i 0)
-    go true e = rw (eqb-true k i e) (getD-set-same is i (getD was i 0) 0 (omega arith))
-    go false e = getD-set-other is k i (getD was k 0) 0 (λ p. eqb-false k i e (sym p))
+      go : (b : Bool) → eqb k i ≡ b → getD (set is k (getD was k 0)) i 0 ≡ pick (not b) (getD is i 0) (getD was i 0)
+      go true e = rw (eqb-true k i e) (getD-set-same is i (getD was i 0) 0 (omega arith))
+      go false e = getD-set-other is k i (getD was k 0) 0 (λ p. eqb-false k i e (sym p))
 
   turn : {s s′ : List ℕ} {j : ℕ} (i : ℕ) → i < 4 → Keeping s i → j ≡ w + i → s′ ≡ set s j (number i) → Keeping s′ (i + 1)
   turn {s} i h v e f =

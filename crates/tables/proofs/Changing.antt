@@ -1,8 +1,8 @@
--- A line of which one sector changes: what the code leaves is what `Changed` says, and the tables that then stand in the slices.
+-- A line of which one sector changes: the tables that then stand in the slices.
 use mathlib.Core.Path.{_≡_, refl, sym, ap, subst, _∙_}
 use mathlib.Core.Bool.{Bool, _||_}
 use mathlib.Core.List.{List, [], _∷_}
-use Prim.Native.Nat.{ℕ, _+_, _-_, _*_, _<_}
+use Prim.Native.Nat.{ℕ, _+_, _-_, _*_, _≤_, _<_}
 use native.Mathlib.Omega.{arith}
 use lib.ListN.{length, getD, set, length-set}
 use lib.Dec.{ltb}
@@ -20,42 +20,27 @@ use Rattle.model.specs.declared.Status.the-variants.{Invalid, Reserved, Valid, 
 use Rattle.words.proofs.Flags.{or-four}
 use Rattle.layout.specs.declared.Layout.{Layout}
 use Rattle.layout.specs.Layout.{LaysOut}
-use Rattle.layout.specs.Sectors.{statuses, masks, readables}
+use Rattle.layout.specs.Sectors.{StoredBack, statuses}
 use Rattle.layout.proofs.Stores.{one-put}
 use Rattle.layout.proofs.ByBlocks.{ByBlocks}
 use Rattle.layout.proofs.Lines.{status-at, lifted, store-stands}
 use Rattle.layout.proofs.DirtyCount.{dirty-count-at, dirty-count-stands}
 use Rattle.tables.specs.Raw.{dirtyAt}
-use Rattle.tables.specs.Changed.{Changed, othersDirty, uncounted, fourLeft}
+use Rattle.tables.specs.Changed.{Changed, recounted}
 
--- ---- the code
-
--- the line leaves the count, its four sectors are lifted, one is changed, they are stored, and it is counted
-pub changed : (S : Settings) (at : Layout) (l k : ℕ) (x : Sector) (words marks : List ℕ) {was is : Bool} {w i : ℕ} {found four : List Sector} {words₂ marks′ : List ℕ}
-    → at .dirty < length words → at .dirty < length words₂ → was ≡ dirtyAt marks l → w ≡ one was → found ≡ sectorsAt S (set words (at .dirty) (getD words (at .dirty) 0 - w)) marks l → four ≡ set found k x
-    → (words₂ ≡ put (set words (at .dirty) (getD words (at .dirty) 0 - w)) (at .masks + 4 * l) (masks four))
-    × (marks′ ≡ put (put marks (4 * l) (statuses four)) (at .readables + 4 * l) (readables four))
-    → is ≡ dirtyAt marks′ l → i ≡ one is
-    → Changed S at l k x words marks (set words₂ (at .dirty) (getD words (at .dirty) 0 - w + i)) marks′
-changed S at l k x words marks {was} {is} {w} {i} {found} {four} {words₂} {marks′} room room₂ e f lift change store g h =
-    let n : w ≡ one (dirtyAt marks l) = f ∙ ap one e in
-    let left : set words (at .dirty) (getD words (at .dirty) 0 - w) ≡ uncounted at l words marks =
-    one-put words (at .dirty) (getD words (at .dirty) 0 - w) room ∙ ap (λ (m : ℕ). put words (at .dirty) ((getD words (at .dirty) 0 - m) ∷ [])) n in
-    let them : four ≡ fourLeft S at l k x words marks = change ∙ ap (λ (ys : List Sector). set ys k x) (lift ∙ ap (λ (ws : List ℕ). sectorsAt S ws marks l) left) in
-    record {
-      marks-are = store .1 ∙ ap (λ (ys : List Sector). put (put marks (4 * l) (statuses ys)) (at .readables + 4 * l) (readables ys)) them;
-      words-are = one-put words₂ (at .dirty) (getD words (at .dirty) 0 - w + i) room₂
-          ∙ ap (λ (ws : List ℕ). put ws (at .dirty) ((getD words (at .dirty) 0 - w + i) ∷ []))
-          (store .0 ∙ ap (λ (ws : List ℕ). put ws (at .masks + 4 * l) (masks four)) left ∙ ap (λ (ys : List Sector). put (uncounted at l words marks) (at .masks + 4 * l) (masks ys)) them)
-          ∙ ap (λ (m : ℕ). put (put (uncounted at l words marks) (at .masks + 4 * l) (masks (fourLeft S at l k x words marks))) (at .dirty) ((getD words (at .dirty) 0 - m + i) ∷ [])) n
-          ∙ ap (λ (m : ℕ). put (put (uncounted at l words marks) (at .masks + 4 * l) (masks (fourLeft S at l k x words marks))) (at .dirty) ((othersDirty at l words marks + m) ∷ [])) (h ∙ ap one g);
-    }
+-- the count, then the four sectors
+pub counted-then : (S : Settings) (at : Layout) (l k : ℕ) (x : Sector) {was : Bool} (is : Bool) (words marks : List ℕ) {words₁ words′ marks′ : List ℕ} → was ≡ dirtyAt marks l
+    → words₁ ≡ put words (at .dirty) ((getD words (at .dirty) 0 + one is - one was) ∷ [])
+    → StoredBack at l (set (sectorsAt S words₁ marks l) k x) words₁ marks words′ marks′ → Changed S at l k x is words marks words′ marks′
+counted-then S at l k x is words marks {words₁} {words′} {marks′} e f c =
+    subst (λ (ws : List ℕ). StoredBack at l (set (sectorsAt S ws marks l) k x) ws marks words′ marks′)
+    (f ∙ ap (λ (b : Bool). put words (at .dirty) ((getD words (at .dirty) 0 + one is - one b) ∷ [])) e) c
 
 -- the same sector, by another number and value that are these
-pub changed-as : (S : Settings) (at : Layout) (l : ℕ) {k j : ℕ} {x y : Sector} {words marks words′ marks′ : List ℕ} → k ≡ j → x ≡ y
-    → Changed S at l k x words marks words′ marks′ → Changed S at l j y words marks words′ marks′
-changed-as S at l {j = j} {x = x} {words = words} {marks = marks} {words′ = words′} {marks′ = marks′} e f c =
-    subst (λ (z : Sector). Changed S at l j z words marks words′ marks′) f (subst (λ (i : ℕ). Changed S at l i x words marks words′ marks′) e c)
+pub changed-as : (S : Settings) (at : Layout) (l : ℕ) {k j : ℕ} {x y : Sector} (is : Bool) (words marks : List ℕ) {words′ marks′ : List ℕ} → k ≡ j → x ≡ y
+    → Changed S at l k x is words marks words′ marks′ → Changed S at l j y is words marks words′ marks′
+changed-as S at l {j = j} {x = x} is words marks {words′} {marks′} e f c =
+    subst (λ (z : Sector). Changed S at l j z is words marks words′ marks′) f (subst (λ (i : ℕ). Changed S at l i x is words marks words′ marks′) e c)
 
 -- ---- the tables
 
@@ -97,32 +82,16 @@ module _ (S : Settings) (t : Tables) {longs words marks : List ℕ} (h : ByBlock
   abbrev pub changedLine : Line
   changedLine = withSectors (set (line .sectors) k x) line
 
-  abbrev others : ℕ
-  others = othersDirty at l words marks
-
-  abbrev left : Tables
-  left = withDirtyCount others t
-
-  abbrev stored : Tables
-  stored = withLines (set (t .lines) l changedLine) left
-
-  pub change-stands : {words′ marks′ : List ℕ} → Changed S at l k x words marks words′ marks′
+  -- counted as it is then
+  pub change-stands : (is : Bool) → is ≡ dirty changedLine → one (dirty line) ≤ t .dirtyCount → {words′ marks′ : List ℕ} → Changed S at l k x is words marks words′ marks′
       → ByBlocks S longs words′ marks′ (withDirtyCount (t .dirtyCount - one (dirty line) + one (dirty changedLine)) (withLines (set (t .lines) l changedLine) t))
-  change-stands {words′} {marks′} c =
-      let h₁ : ByBlocks S longs (uncounted at l words marks) marks left = dirty-count-stands S t h p others refl in
-      let them : fourLeft S at l k x words marks ≡ changedLine .sectors = ap (λ (ys : List Sector). set ys k x) (lifted S left h₁ p sized l below four) in
-      let four′ : length (changedLine .sectors) ≡ 4 = length-set (line .sectors) k x ∙ four in
-      let h₂ : ByBlocks S longs (put (uncounted at l words marks) (at .masks + 4 * l) (masks (changedLine .sectors))) marks′ stored =
-      store-stands S left h₁ p sized l below changedLine four′ refl refl refl (refl, c .marks-are ∙ ap (λ (ys : List Sector). put (put marks (4 * l) (statuses ys)) (at .readables + 4 * l) (readables ys)) them) in
-      let there : getD (set (t .lines) l changedLine) l fresh ≡ changedLine = getD-set-same (t .lines) l changedLine fresh below in
-      let long : length (set (t .lines) l changedLine) ≡ linesOf S = length-set (t .lines) l changedLine ∙ sized in
-      let is : dirtyAt marks′ l ≡ dirty changedLine =
-      dirty-at S stored h₂ p long l (omega (arith, long, sized)) (ap (λ (y : Line). length (y .sectors)) there ∙ four′) ∙ ap dirty there in
-      let was : others ≡ t .dirtyCount - one (dirty line) =
-      ap (λ (n : ℕ). n - one (dirtyAt marks l)) (dirty-count-at S t h p) ∙ ap (λ (b : Bool). t .dirtyCount - one b) (dirty-at S t h p sized l below four) in
-      let count : others + one (dirtyAt marks′ l) ≡ t .dirtyCount - one (dirty line) + one (dirty changedLine) =
-      ap (λ (n : ℕ). n + one (dirtyAt marks′ l)) was ∙ ap (λ (b : Bool). t .dirtyCount - one (dirty line) + one b) is in
-      dirty-count-stands S stored h₂ p (t .dirtyCount - one (dirty line) + one (dirty changedLine))
-      (c .words-are
-      ∙ ap (λ (ys : List Sector). put (put (uncounted at l words marks) (at .masks + 4 * l) (masks ys)) (at .dirty) ((others + one (dirtyAt marks′ l)) ∷ [])) them
-      ∙ ap (λ (n : ℕ). put (put (uncounted at l words marks) (at .masks + 4 * l) (masks (changedLine .sectors))) (at .dirty) (n ∷ [])) count)
+  change-stands is e fits {words′} {marks′} c =
+      let n : ℕ = t .dirtyCount - one (dirty line) + one (dirty changedLine) in
+      let count : getD words (at .dirty) 0 + one is - one (dirtyAt marks l) ≡ n =
+      rw (dirty-count-at S t h p, dirty-at S t h p sized l below four, e) (omega (arith, fits)) in
+      let h₁ : ByBlocks S longs (recounted at l is words marks) marks (withDirtyCount n t) =
+      dirty-count-stands S t h p n (ap (λ (m : ℕ). put words (at .dirty) (m ∷ [])) count) in
+      let them : set (sectorsAt S (recounted at l is words marks) marks l) k x ≡ changedLine .sectors =
+      ap (λ (ys : List Sector). set ys k x) (lifted S (withDirtyCount n t) h₁ p sized l below four) in
+      store-stands S (withDirtyCount n t) h₁ p sized l below changedLine (length-set (line .sectors) k x ∙ four) refl refl refl
+      (subst (λ (ys : List Sector). StoredBack at l ys (recounted at l is words marks) marks words′ marks′) them c)

@@ -1,15 +1,17 @@
 -- A region that closes up, where the code counts its indices another way: a turn, the zeros at its end as one, the only zero, what rows
--- take, four moves or zeros in a row.
-use mathlib.Core.Path.{_≡_, sym, ap, _∙_}
-use mathlib.Core.List.{List, _++_, append-assoc}
-use Prim.Native.Nat.{ℕ, _+_, _-_, _*_, _≤_, _<_}
-use native.Mathlib.Nat.{mul-add}
+-- take, four moves or zeros in a row; a row that is zero but for its first numbers.
+use mathlib.Core.Path.{_≡_, refl, sym, ap, subst, _∙_}
+use mathlib.Core.List.{List, _∷_, _++_, append-assoc}
+use Prim.Native.Nat.{ℕ, zero, suc, _+_, _-_, _*_, _≤_, _<_}
+use native.Mathlib.Nat.{add-zero, mul-add}
 use native.Mathlib.Omega.{arith}
 use lib.ListN.{length, take, drop, getD, set, replicate, length-drop, length-replicate}
-use lib.Seq.{paste, take-at, take-paste, drop-paste, drop-drop}
+use lib.Seq.{paste, take-at, take-all, take-paste, drop-paste, drop-drop, length-paste, getD-set-other, set-getD}
 use Rattle.words.specs.Regions.{region, put, closedUp}
-use Rattle.words.proofs.Region.{Closing, closing-start, closing-move, closing-zero, closing-done, length-closed, length-region}
+use Rattle.words.proofs.Region.{Closing, closing-start, closing-move, closing-zero, closing-done, length-closed, length-region, put-paste, getD-paste-past}
 use Rattle.words.proofs.Places.{stride}
+use Rattle.layout.proofs.Filled.{Filling, filling-start, filling-turn, filling-done}
+use Rattle.tables.specs.Raw.{ZerosFrom}
 
 -- the zeros behind what is left
 zeros-behind : (by : ℕ) (r : List ℕ) (m : ℕ) → m ≡ length r - by → take m (closedUp by r) ++ replicate by 0 ≡ closedUp by r
@@ -91,3 +93,35 @@ module _ (l : List ℕ) (at n : ℕ) (room : (4 ≤ n) × (at + n ≤ length l))
       (zero-at l at n 4 room _ (i + 2) (i + 3) (w + 2) (omega arith) (omega arith) (omega arith) (omega arith)
       (zero-at l at n 4 room _ (i + 1) (i + 2) (w + 1) (omega arith) (omega arith) (omega arith) (omega arith)
       (zero-at l at n 4 room s i (i + 1) w (omega arith) (omega arith) (omega arith) (omega arith) c))))
+
+-- ---- a row of which all behind n numbers is 0 already
+
+module _ (l : List ℕ) (at n row : ℕ) (few : n ≤ row) (room : at + row ≤ length l) (z : ZerosFrom l at n row) where
+  rest : (m i : ℕ) {s : List ℕ} → i + m ≡ row → Filling l at row 0 s i → ((j : ℕ) → i ≤ j → j < row → getD s (at + j) 0 ≡ 0) → s ≡ put l at (replicate row 0)
+  rest zero i {s} e v a = filling-done l at row 0 room s i (omega arith) v
+  rest (suc m) i {s} e v a =
+      let same : set s (at + i) 0 ≡ s = ap (set s (at + i)) (sym (a i (omega arith) (omega arith))) ∙ set-getD s (at + i) 0 in
+      rest m (i + 1) (omega arith) (subst (λ (x : List ℕ). Filling l at row 0 x (i + 1)) same (filling-turn l at row 0 room s i (omega arith) v)) (λ j b. a j (omega arith))
+
+  pub one-cleared : n ≡ 1 → set l at 0 ≡ put l at (replicate row 0)
+  one-cleared e =
+      let v : Filling l at row 0 (set l at 0) 1 =
+      subst (λ (i : ℕ). Filling l at row 0 (set l i 0) 1) (add-zero at) (filling-turn l at row 0 room l 0 (omega arith) (filling-start l at row 0)) in
+      rest (row - 1) 1 (omega arith) v (λ j a b. getD-set-other l at (at + j) 0 0 (λ q. omega arith) ∙ z j (omega arith) b)
+
+  pub few-cleared : {s : List ℕ} → s ≡ put l at (replicate n 0) → s ≡ put l at (replicate row 0)
+  few-cleared {s} e =
+      let long : length {A = ℕ} (replicate n 0) ≡ n = length-replicate n 0 in
+      let p : s ≡ paste l at (replicate row 0) n = e ∙ sym (put-paste l at (replicate n 0) n long) ∙ ap (λ (x : List ℕ). take at l ++ x ++ drop (at + n) l) (take-all n (replicate n 0) (omega arith) ∙ sym (take-replicate n row few)) in
+      rest (row - n) n (omega arith) (p, ap length p ∙ length-paste l at (replicate row 0) n (omega arith) (omega (arith, length-replicate {A = ℕ} row 0)))
+      (λ j a b. let q : at + j ≡ at + n + (j - n) = omega arith in
+      ap (λ (x : List ℕ). getD x (at + j) 0) p
+      ∙ ap (λ (i : ℕ). getD (paste l at (replicate row 0) n) i 0) q
+      ∙ getD-paste-past l at (replicate row 0) n (j - n) (omega arith) (omega (arith, length-replicate {A = ℕ} row 0))
+      ∙ ap (λ (i : ℕ). getD l i 0) (sym q)
+      ∙ z j a b)
+    where
+      take-replicate : (i m : ℕ) → i ≤ m → take {A = ℕ} i (replicate m 0) ≡ replicate i 0
+      take-replicate zero m h = refl
+      take-replicate (suc i) zero h = absurd (omega arith)
+      take-replicate (suc i) (suc m) h = ap (λ (r : List ℕ). 0 ∷ r) (take-replicate i m (omega arith))

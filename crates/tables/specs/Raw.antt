@@ -1,5 +1,6 @@
 -- Words for the raw numbers of the lent slices, which the leaves' contracts speak of.
-use Prim.Native.Nat.{ℕ, _+_, _*_}
+use Prim.Native.Nat.{ℕ, _+_, _*_, _≤_, _<_}
+use mathlib.Core.Path.{_≡_}
 use mathlib.Core.Bool.{Bool, not, _&&_, _||_}
 use mathlib.Core.List.{List, [], _∷_}
 use lib.ListN.{getD}
@@ -15,6 +16,10 @@ frontAt longs lq words wq marks mq = record {
   address = getD longs lq 0;
   masks = getD words wq 0 ∷ getD words (wq + 1) 0 ∷ getD words (wq + 2) 0 ∷ getD words (wq + 3) 0 ∷ [];
 }
+
+-- of a row of numbers from index `at`, those from number n on are 0
+abbrev pub ZerosFrom : List ℕ → ℕ → ℕ → ℕ → Type 0
+ZerosFrom l at n row = (j : ℕ) → n ≤ j → j < row → getD l (at + j) 0 ≡ 0
 
 -- ---- line l
 

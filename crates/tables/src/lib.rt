@@ -17,14 +17,14 @@ ghost use Prim.Native.Nat.{_+_, _-_, _*_, _≤_, _<_};
 ghost use mathlib.Core.List.{[], _∷_};
 ghost use lib.ListN.{length, replicate};
 ghost use lib.Dec.{eqb};
-ghost use Rattle.words.specs.Words.{padTo, one};
+ghost use Rattle.words.specs.Words.{padTo};
 ghost use Rattle.model.specs.Range.{linesOf};
 ghost use Rattle.model.specs.Numbers.{queueKindNumber};
 ghost use Rattle.words.specs.Regions.{region, put, closed};
 ghost use Rattle.model.specs.declared.Event.the-variants as event;
 ghost use Rattle.layout.specs.Places.{First};
-ghost use Rattle.layout.specs.Sectors.{SectorRoom};
-ghost use Rattle.tables.specs.Raw.{frontAt, statusesAt, unusedAt, waitingAt, dirtyAt, cleanAt, holdsAt};
+ghost use Rattle.layout.specs.Sectors.{SectorRoom, Plain};
+ghost use Rattle.tables.specs.Raw.{frontAt, ZerosFrom, statusesAt, unusedAt, waitingAt, dirtyAt, cleanAt, holdsAt};
 ghost use Rattle.tables.specs.Telling.{telling};
 ghost use Rattle.tables.specs.Changed.{CountFits, Changed};
 
@@ -216,7 +216,20 @@ pub fn push(
 
 // ---- the miss table, of `readers` ticket places an entry
 
-// Takes entry `e` out of the first `n`; later ones close up, and the last of them is zero. Behind the last nothing moves.
+// A row of numbers, of which the first `n` may not be 0, becomes 0. Mostly there is one, which asks for no loop.
+fn clear_row(words: &mut [u32], at: usize, n: usize, row: usize)
+    requires { ⌜ (1 ≤ n) × (n ≤ row) × (at + row ≤ length (now words)) × ZerosFrom (now words) at n row ⌝ }
+    ensures { λ _. ⌜ now (words .exit) ≡ put (now (words .entry)) at (replicate row 0) ⌝ }
+{
+    if 1 < n {
+        zero_words(words, at, n);
+    } else {
+        words[at] = 0;
+    }
+}
+
+// Takes entry `e`, which has `count` tickets, out of the first `n`; later ones close up, and the last of them is zero. Behind the last
+// nothing moves.
 pub fn remove(
     at: Layout,
     longs: &mut [u64],
@@ -225,7 +238,9 @@ pub fn remove(
     e: usize,
     n: usize,
     readers: usize,
+    count: usize,
 )
+    requires { ⌜ (1 ≤ count) × (count ≤ readers) × ZerosFrom (now words) (at .tickets + readers * e) count readers ⌝ }
     requires { ⌜ (e < n) × (at .misses + n ≤ length (now longs)) × (at .tickets + readers * n ≤ length (now words)) × (at .sent + n ≤ length (now marks)) × (at .counts + n ≤ length (now marks)) ⌝ }
     ensures { λ _. ⌜ (now (longs .exit) ≡ closed (now (longs .entry)) (at .misses + e) (n - e) 1)
         × (now (words .exit) ≡ closed (now (words .entry)) (at .tickets + readers * e) (readers * (n - e)) readers)
@@ -233,7 +248,7 @@ pub fn remove(
 {
     if e + 1 == n {
         longs[at.misses + e] = 0;
-        zero_words(words, at.tickets + readers * e, readers);
+        clear_row(words, at.tickets + readers * e, count, readers);
         marks[at.sent + e] = 0;
         marks[at.counts + e] = 0;
         return;
@@ -358,33 +373,23 @@ pub fn holds_block(longs: &[u64], marks: &[u8], l: usize, block: BlockAddress) -
 
 // ---- a line of which one sector changes
 
-// What a line adds to the dirty count.
-fn counted(dirty: bool) -> u32
-    ensures { λ r. ⌜ (r ≡ one dirty) × (r ≤ 1) ⌝ }
-{
-    if dirty { 1 } else { 0 }
-}
-
-// Sector `k` of the line becomes `x`: its four sectors are lifted, one is changed, and they are stored back whole. The line leaves the
-// dirty count before and is counted after; that write stands before the lift, so that the compiler reads each column at once.
+// Sector `k` of the line becomes `x`, and the dirty count follows: the line `was` dirty, and `is` dirty then. Mostly the caller knows that
+// without a look at the line.
 pub fn change(
     s: Settings,
     at: Layout,
     words: &mut [u32],
     marks: &mut [u8],
     line: usize,
-    k: u8,
+    k: usize,
     x: Sector,
+    was: bool,
+    is: bool,
 )
-    requires { ⌜ SectorRoom s at (now words) (now marks) × (line < linesOf s) × (k < 4) ⌝ }
-    requires { ⌜ (at .dirty < length (now words)) × CountFits at line (now words) (now marks) ⌝ }
-    ensures { λ _. ⌜ Changed s at line k x (now (words .entry)) (now (marks .entry)) (now (words .exit)) (now (marks .exit)) ⌝ }
+    requires { ⌜ SectorRoom s at (now words) (now marks) × (line < linesOf s) × (k < 4) × Plain at line (now marks) ⌝ }
+    requires { ⌜ (at .dirty < length (now words)) × CountFits at line (now words) (now marks) × (was ≡ dirtyAt (now marks) line) ⌝ }
+    ensures { λ _. ⌜ Changed s at line k x is (now (words .entry)) (now (marks .entry)) (now (words .exit)) (now (marks .exit)) ⌝ }
 {
-    let place = at.dirty;
-    let others = words[place] - counted(is_dirty(marks, line));
-    words[place] = others;
-    let found = layout::lift(s, at, words, marks, line);
-    let four = layout::with_sector(found, k, x);
-    layout::store(at, words, marks, line, four);
-    words[place] = others + counted(is_dirty(marks, line));
+    layout::recount(words, at.dirty, was, is);
+    layout::replace(s, at, words, marks, line, k, x);
 }

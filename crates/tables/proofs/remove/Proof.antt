@@ -18,15 +18,15 @@ remove-spec =
     (λ c. search needs)  -- add-longs
     (λ c. search needs)  -- mul-longs
     (λ c. search needs)  -- slice-write-longs
-    (λ c. let start = c .before .before .before .before .before .before in let a = start .args in let r = rows (a .readers) (a .n) (a .e) (start .pre .0) in omega arith)  -- mul-zero-words
-    (λ c. let start = c .before .before .before .before .before .before .before in let a = start .args in let r = rows (a .readers) (a .n) (a .e) (start .pre .0) in omega arith)  -- add-zero-words
-    -- zero-words-requires
+    (λ c. let start = c .before .before .before .before .before .before in let a = start .args in let r = rows (a .readers) (a .n) (a .e) (start .pre .1 .0) in omega arith)  -- mul-clear-row
+    (λ c. let start = c .before .before .before .before .before .before .before in let a = start .args in let r = rows (a .readers) (a .n) (a .e) (start .pre .1 .0) in omega arith)  -- add-clear-row
+    -- clear-row-requires
     (λ c κs.
-    let start = c .before .before .before .before .before .before .before in let a = start .args in let r = rows (a .readers) (a .n) (a .e) (start .pre .0) in
-    let one : a .n - a .e ≡ 1 = omega arith in let m = ap (λ (x : ℕ). a .readers * x) one in omega arith)
+    let start = c .before .before .before .before .before .before .before in let a = start .args in let r = rows (a .readers) (a .n) (a .e) (start .pre .1 .0) in
+    let one : a .n - a .e ≡ 1 = omega arith in let m = ap (λ (x : ℕ). a .readers * x) one in (start .pre .0 .0, start .pre .0 .1, omega arith, start .pre .0 .2))
     (λ c. search needs)  -- add-marks
     (λ c. search needs)  -- slice-write-marks
-    (λ c. let start = c .before .before .before .before .before .before .before .before .before .before .before .before in let a = start .args in omega (arith, start .pre, length-set (a .marks .now) (a .at .sent + a .e) 0))  -- add-marks-2
+    (λ c. let start = c .before .before .before .before .before .before .before .before .before .before .before .before in let a = start .args in omega (arith, start .pre .1, length-set (a .marks .now) (a .at .sent + a .e) 0))  -- add-marks-2
     (λ c. simp length-set (omega arith))  -- slice-write-marks-2
     (λ c. search needs)  -- same-length
     (λ c. search needs)  -- same-length-2
@@ -39,10 +39,10 @@ remove-spec =
     let at = a .at in
     let left = a .n - a .e in
     let one : a .n - a .e ≡ 1 = omega arith in
-    let r = rows (a .readers) (a .n) (a .e) (start .pre .0) in
+    let r = rows (a .readers) (a .n) (a .e) (start .pre .1 .0) in
     let m = ap (λ (x : ℕ). a .readers * x) one in (
       only-one (a .longs .now) (at .misses + a .e) left one (omega arith),
-      zeroed .zero-words .ensures ∙ only-row (a .words .now) (at .tickets + a .readers * a .e) (a .readers * left) (a .readers) (omega arith) (omega arith),
+      zeroed .clear-row .ensures ∙ only-row (a .words .now) (at .tickets + a .readers * a .e) (a .readers * left) (a .readers) (omega arith) (omega arith),
       only-one _ (at .counts + a .e) left one (simp length-set (omega arith))
           ∙ ap (λ (l : List ℕ). closed l (at .counts + a .e) left 1) (only-one (a .marks .now) (at .sent + a .e) left one (omega arith)),
     ))

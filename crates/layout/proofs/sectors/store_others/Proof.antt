@@ -32,8 +32,7 @@ store-others-spec =
     let a = start .args in
     let kept = c .before .before .before .before .before .before in
     let room = start .pre .0 in
-    let n : length (kept .before .statuses-of2 .result) ≡ 4 = search (needs, kept .before .statuses-of2) in
-    (
+    let n : length (kept .before .statuses-of2 .result) ≡ 4 = search (needs, kept .before .statuses-of2) in (
       omega (arith, kept .keep-marks .kept .0, room .2),
       rw (c .before .readables-of .ensures, kept .keep-marks .ensures)
           (column-past (a .marks .now) (4 * a .line) (butOne (a .k) (kept .before .before .statuses-of .result) (kept .before .statuses-of2 .result)) (a .at .readables + 4 * a .line) (readables (a .found)) (length-set (kept .before .statuses-of2 .result) (a .k) _ ∙ n) (room .1) (omega arith) (start .pre .1 .2)),
