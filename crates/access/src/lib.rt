@@ -43,34 +43,25 @@ fn good_sector(address: u64) -> bool
     (address % 32 == 0) & (address < 0x1_0000_0000_0000)
 }
 
-// Refusal 4 does not apply. That a mask is a 32-bit number is for callers whose proofs ask it.
+// Refusal 4 does not apply: the address first, which a read and a write ask alike. That a mask is a 32-bit number is for callers whose proofs ask it.
 pub fn well_formed(x: Access) -> bool
     ensures { λ r. ⌜ r ≡ wellFormed x ⌝ }
     ensures { λ _. ⌜ maskOf x ≤ allOnes ⌝ }
 {
+    if !good_sector(values::address_of(x)) {
+        return false;
+    }
     match x {
         Access::Read {
-            address,
+            address: _,
             mask,
             ticket: _,
-        } => {
-            if mask == 0 {
-                good_sector(address)
-            } else {
-                false
-            }
-        }
+        } => mask == 0,
         Access::Write {
-            address,
+            address: _,
             mask,
             ticket: _,
-        } => {
-            if mask == 0 {
-                false
-            } else {
-                good_sector(address)
-            }
-        }
+        } => mask != 0,
     }
 }
 

@@ -58,21 +58,23 @@ fn is_candidate(marks: &[u8], l: usize, enough: bool) -> bool
     enough & !tables::is_waiting(marks, l)
 }
 
-// The first way of the set that has the block; the set's lines begin at `base`. There is a way, so the first is looked at before any count.
+// The first way of the set that has the block; the set's lines begin at `base`.
+// Way 0 is looked at by itself: the way then comes from two places, and the compiler carries no second running address through the loop.
 fn find(longs: &[u64], marks: &[u8], base: usize, ways: usize, block: BlockAddress) -> Found
     requires { ⌜ (1 ≤ ways) × (base + ways ≤ length (now longs)) × (4 * (base + ways) ≤ length (now marks)) ⌝ }
     ensures { λ r. ⌜ r ≡ foundIn (now (longs .entry)) (now (marks .entry)) base ways (block .0) ⌝ }
 {
-    let mut w = 0;
-    loop {
+    if tables::holds_block(longs, marks, base, block) {
+        return Found::At(0);
+    }
+    let mut w = 1;
+    while w < ways {
         if tables::holds_block(longs, marks, base + w, block) {
             return Found::At(w);
         }
         w += 1;
-        if ways <= w {
-            return Found::Nothing;
-        }
     }
+    Found::Nothing
 }
 
 // Whether a way of the set has a RESERVED sector.

@@ -85,12 +85,16 @@ pub fn send_step(
 // ---- fill
 
 // The line that has the block, among the ways of its set from `base`.
+// The first is looked at by itself: the line then comes from two places, and the compiler carries no second running address through the loop.
 fn find_line(longs: &[u64], marks: &[u8], base: usize, ways: usize, block: BlockAddress) -> usize
     requires { ⌜ (base + ways ≤ length (now longs)) × (4 * (base + ways) ≤ length (now marks)) ⌝ }
     requires { ⌜ Holding (now longs) (now marks) base ways (block .0) ⌝ }
     ensures { λ r. ⌜ (base ≤ r) × (r < base + ways) × (holdsAt (now (longs .entry)) (now (marks .entry)) (block .0) r ≡ true) ⌝ }
 {
-    let mut l = base;
+    if tables::holds_block(longs, marks, base, block) {
+        return base;
+    }
+    let mut l = base + 1;
     while !tables::holds_block(longs, marks, l, block) {
         l += 1;
     }
