@@ -1,7 +1,8 @@
 -- A line's leaves on the slices of tables: what is read of a line, its four sectors, and what stands after they are stored.
 use mathlib.Core.Path.{_≡_, refl, ap, _∙_}
+use mathlib.Core.Bool.{Bool, true, false}
 use mathlib.Core.List.{List, [], _∷_, map}
-use Prim.Native.Nat.{ℕ, _+_, _*_, _≤_, _<_}
+use Prim.Native.Nat.{ℕ, zero, suc, _+_, _*_, _≤_, _<_}
 use native.Mathlib.Omega.{arith}
 use lib.ListN.{length, getD, set, length-map}
 use lib.Dec.{eqb}
@@ -14,12 +15,14 @@ use Rattle.model.specs.Layout.{wordsFrom, marksFrom, maskRegion, readableRegion
 use Rattle.model.specs.Lent.{bit, sectorsAt, longBlocks, wordBlocks, markBlocks, tagOf, cycleOf, takenOf, masksOf, statusesOf, readablesOf}
 use Rattle.model.specs.declared.Settings.{Settings}
 use Rattle.model.specs.declared.Sector.{Sector}
+use Rattle.model.specs.declared.Status.{Status}
+use Rattle.model.specs.declared.Status.the-variants.{Invalid, Reserved, Valid, Modified}
 use Rattle.model.proofs.Answers.{status-of-number}
-use Rattle.words.proofs.Places.{length-places, field-put, field-get, places-same}
+use Rattle.words.proofs.Places.{length-places, padTo-get, field-put, field-get, places-same}
 use Rattle.layout.specs.declared.Layout.{Layout}
 use Rattle.model.specs.Inner.{told}
 use Rattle.layout.specs.Layout.{LaysOut}
-use Rattle.layout.specs.Sectors.{statuses, masks, readables}
+use Rattle.layout.specs.Sectors.{Plain, statuses, masks, readables}
 use Rattle.layout.proofs.ByBlocks.{ByBlocks}
 use Rattle.encoding.proofs.NumbersAreTables.{flag-of-bit}
 
@@ -58,6 +61,25 @@ sectors-of (a ∷ b ∷ c ∷ d ∷ []) e S words marks l f g h =
     )
 sectors-of (a ∷ b ∷ c ∷ d ∷ x ∷ xs) e S words marks l f g h = absurd (omega arith)
 
+-- a number of a sector that is at most m, and at most m where there is none
+most-at : (f : Sector → ℕ) (m : ℕ) → ((x : Sector) → f x ≤ m) → (xs : List Sector) (j : ℕ) → j < 4 → getD (padTo 4 (map f xs)) j 0 ≤ m
+most-at f m h xs j b = rw (padTo-get 4 (map f xs) j b) (go xs j)
+  where
+    go : (ys : List Sector) (i : ℕ) → getD (map f ys) i 0 ≤ m
+    go [] i = omega arith
+    go (y ∷ ys) zero = h y
+    go (y ∷ ys) (suc i) = go ys i
+
+status-most : (s : Status) → statusNumber s ≤ 3
+status-most Invalid = omega arith
+status-most Reserved = omega arith
+status-most Valid = omega arith
+status-most Modified = omega arith
+
+bit-most : (b : Bool) → bit b ≤ 1
+bit-most true = omega arith
+bit-most false = omega arith
+
 -- a line last used at cycle k, and one taken at cycle k
 abbrev pub usedAs : ℕ → Line → Line
 usedAs k y = record { tag = y .tag; cycle = k; taken = y .taken; sectors = y .sectors }
@@ -88,6 +110,16 @@ module _ (S : Settings) (t : Tables) {longs words marks : List ℕ} (h : ByBlock
       sectors-of (getD (t .lines) l fresh .sectors) four S words marks l status-at
       (λ j q b f. field-get masksOf 4 (linesOf S) (t .lines) (wordBlocks S t) 2 l {i = at .masks + 4 * l} (h .as-words) refl ws (omega arith) below few fresh j b (omega arith))
       (λ j q b f. field-get readablesOf 4 (linesOf S) (t .lines) (markBlocks S t) 1 l {i = at .readables + 4 * l} (h .as-marks) refl rs (omega arith) below few fresh j b (omega arith))
+
+  -- its bytes are those of sectors
+  pub plain-at : Plain at l marks
+  plain-at j b =
+      let rs : at .readables + 4 * l ≡ offsetIn (markBlocks S t) 1 + 4 * l = simp length-places (omega arith) in
+      let r : getD marks (at .readables + 4 * l + j) 0 ≡ getD (padTo 4 (readablesOf (getD (t .lines) l fresh))) j 0 =
+      field-get readablesOf 4 (linesOf S) (t .lines) (markBlocks S t) 1 l {i = at .readables + 4 * l} (h .as-marks) refl rs (omega arith) below few fresh j b refl in (
+        rw (status-at j (4 * l + j) b refl) (most-at (λ s. statusNumber (s .status)) 3 (λ s. status-most (s .status)) (getD (t .lines) l fresh .sectors) j b),
+        rw r (most-at (λ s. bit (s .readable)) 1 (λ s. bit-most (s .readable)) (getD (t .lines) l fresh .sectors) j b),
+      )
 
   -- ---- what is written: the line becomes y
 
