@@ -1,46 +1,49 @@
 -- Fill: what its parts leave is what the step on the tables says.
 use mathlib.Core.Path.{_≡_, refl, sym, ap, subst, _∙_}
 use mathlib.Core.Logic.{⊎-elim}
-use mathlib.Core.Bool.{Bool, true, false, not, _&&_}
+use mathlib.Core.Bool.{Bool, true, false, not, _&&_, _||_}
 use mathlib.Core.List.{List, [], _∷_, map}
 use Prim.Native.Nat.{ℕ, _+_, _-_, _*_, _%_, _≤_, _<_}
 use native.Mathlib.Nat.{mod-lt, div-add-mod'}
 use native.Mathlib.Omega.{arith}
 use lib.ListN.{length, getD, set}
-use lib.Dec.{eqb, ltb}
+use lib.Dec.{eqb, leb, ltb}
 use borrow.Author.Tests.{eqb-true, ltb-true, ltb-false}
-use Rattle.words.specs.Words.{padTo, all, any, one, count}
+use Rattle.words.specs.Words.{padTo, pick, all, any, one, count}
 use Rattle.model.specs.Range.{linesOf}
 use Rattle.words.specs.Regions.{region, closed}
 use Rattle.model.specs.Address.{blockOf, sectorIndex, setIndex}
-use Rattle.model.specs.Tables.{Line, Entry, Tables, done, isInvalid, holds, entryFor, noEntry, empty, fresh, withLines, withDirtyCount, dirty}
+use Rattle.model.specs.Tables.{Line, Entry, Tables, done, isInvalid, holds, entryFor, noEntry, empty, fresh, withLines, withDirtyCount, isModified, dirty}
 use Rattle.model.specs.Lent.{lent, sectorAt}
 use Rattle.model.specs.Steps.{arrived, fillLine, ticketsOf, afterFill, sentFor, fill, recounted, soiled}
+use Rattle.model.specs.Sound.{allOnes, maskOk, sectorOk}
 use Rattle.model.specs.Calls.{encoded, eventsTold, tidied, Leaves}
 use Rattle.model.specs.Inner.{Encodes}
 use Rattle.model.specs.declared.Settings.{Settings}
 use Rattle.model.specs.declared.Sector.{Sector}
+use Rattle.model.specs.declared.Status.{Status}
+use Rattle.model.specs.declared.Status.the-variants.{Invalid, Reserved, Valid, Modified}
 use Rattle.model.specs.declared.Refusal.the-variants.{NotSent}
 use Rattle.model.specs.declared.Event.the-variants as event
 use Rattle.model.specs.declared.Reply.{Reply}
-use Rattle.words.proofs.Flags.{and-1, not-yes, no-not, no-yes, flag}
-use Rattle.words.proofs.Lists.{any-in, in-index, in-getD}
+use Rattle.words.proofs.Flags.{and-1, and-2, not-yes, no-not, no-yes, flag, clash}
+use Rattle.words.proofs.Lists.{any-in, in-any, all-in, any-set-same, in-set-same, in-index, in-getD}
 use Rattle.words.proofs.Region.{length-region}
 use Rattle.words.proofs.Places.{take-padTo}
-use Rattle.model.proofs.SoundFacts.{Sound, parts, lines-are, four-at, holder-one, entry-at, LeavesSound, holder-set, dirty-count-is, few-misses, few-tickets, sector-below}
+use Rattle.model.proofs.SoundFacts.{Sound, parts, lines-are, four-at, holder-one, entry-at, LeavesSound, holder-set, dirty-count-is, few-misses, some-tickets, few-tickets, sector-below, sectors-at}
 use Rattle.layout.specs.declared.Layout.{Layout}
 use Rattle.layout.specs.Layout.{LaysOut}
 use Rattle.layout.specs.Places.{First}
-use Rattle.layout.specs.Sectors.{statuses}
-use Rattle.tables.specs.Raw.{holdsAt}
+use Rattle.layout.specs.Sectors.{Plain, statuses}
+use Rattle.tables.specs.Raw.{holdsAt, dirtyAt, ZerosFrom}
 use Rattle.tables.specs.Telling.{telling}
 use Rattle.layout.proofs.ByBlocks.{ByBlocks, is-stands, stands-encode}
 use Rattle.model.proofs.SendFillKeepSound.{fill-kept}
-use Rattle.layout.proofs.Lines.{tag-at, status-at, lifted}
-use Rattle.tables.proofs.Misses.{sent-at, count-at, tickets-at, remove-stands, entry-found, entry-missing, misses-counted}
+use Rattle.layout.proofs.Lines.{tag-at, status-at, lifted, plain-at}
+use Rattle.tables.proofs.Misses.{sent-at, count-at, tickets-at, tickets-past, remove-stands, entry-found, entry-missing, misses-counted}
 use Rattle.tables.proofs.Tellings.{refusal-leaves, done-leaves}
 use Rattle.tables.specs.Changed.{CountFits, Changed}
-use Rattle.tables.proofs.Changing.{withSectors, dirty-at, change-stands}
+use Rattle.tables.proofs.Changing.{withSectors, dirty-at, changed-as, change-stands}
 use Rattle.layout.proofs.OneOfFour.{sector-of-four}
 use Rattle.steps.specs.Parts.{Holding, SectorFilled, LineFilled, releasing}
 use Rattle.steps.proofs.Entries.{kept-others, tickets-are, sent-is}
@@ -48,6 +51,18 @@ use Rattle.model.proofs.SendFillKeepSound.{fill-leaves as fill-sound}
 use Rattle.words.proofs.Counting.{recount, count-length, one-counted, map-one}
 use Rattle.layout.proofs.DirtyCount.{dirty-count-at}
 use Rattle.encoding.proofs.NumbersAreTables.{invalid-number, flag-of-bit}
+
+-- ---- the sector that has come
+
+pub sector-filled : (S : Settings) (at : Layout) (l a : ℕ) (words marks : List ℕ) {k : ℕ} {own come : Sector} (is : Bool) {words′ marks′ : List ℕ} → k ≡ sectorIndex a
+    → own ≡ sectorAt S words marks (4 * l + k) → come ≡ arrived own → is ≡ pick (eqb (come .mask) 0) (dirtyAt marks l) true
+    → Changed S at l k come is words marks words′ marks′ → SectorFilled S at l (sectorIndex a) words marks words′ marks′
+sector-filled S at l a words marks is {words′} {marks′} e f g q c =
+    let y : Sector = sectorAt S words marks (4 * l + sectorIndex a) in
+    let come : _ ≡ arrived y = g ∙ ap arrived (f ∙ ap (λ (i : ℕ). sectorAt S words marks (4 * l + i)) e) in
+    subst (λ (b : Bool). Changed S at l (sectorIndex a) (arrived y) b words marks words′ marks′)
+    (q ∙ ap (λ (s : Sector). pick (eqb (s .mask) 0) (dirtyAt marks l) true) come)
+    (changed-as S at l is words marks e come c)
 
 -- ---- the line that has the block
 
@@ -87,6 +102,24 @@ held-of (p ∷ q ∷ r ∷ s ∷ []) tag b l e f0 f1 f2 f3 =
     (held-order (eqb tag b) (isInvalid (p .status)) (isInvalid (q .status)) (isInvalid (r .status)) (isInvalid (s .status)))
 held-of (p ∷ q ∷ r ∷ s ∷ u ∷ xs) tag b l e f0 f1 f2 f3 = absurd (omega arith)
 
+-- a sound sector that has come: dirty then if it has a dirty byte, else it was not, and the line is as dirty as before
+filled-dirty : (xs : List Sector) (k : ℕ) → k < length xs → all sectorOk xs ≡ true
+    → pick (eqb (getD xs k empty .mask) 0) (any (λ s. isModified (s .status)) xs) true ≡ any (λ s. isModified (s .status)) (set xs k (arrived (getD xs k empty)))
+filled-dirty xs k h ok = go (eqb (getD xs k empty .mask) 0) refl
+  where
+    one-ok : sectorOk (getD xs k empty) ≡ true
+    one-ok = all-in sectorOk xs ok (in-getD xs k empty h)
+
+    clean : (st : Status) (m : ℕ) (r : Bool) → maskOk st m r ≡ true → eqb m 0 ≡ true → isModified st ≡ false
+    clean Invalid m r o e = refl
+    clean Reserved m r o e = refl
+    clean Valid m r o e = refl
+    clean Modified m r o e = clash e (not-yes (and-2 (leb m allOnes) (not (eqb m 0)) (and-1 (leb m allOnes && not (eqb m 0)) (r || not (eqb m allOnes)) o)))
+
+    go : (b : Bool) → eqb (getD xs k empty .mask) 0 ≡ b → pick b (any (λ s. isModified (s .status)) xs) true ≡ any (λ s. isModified (s .status)) (set xs k (arrived (getD xs k empty)))
+    go true e = sym (any-set-same (λ s. isModified (s .status)) empty xs k (arrived (getD xs k empty)) (rw e) (clean (getD xs k empty .status) (getD xs k empty .mask) (getD xs k empty .readable) one-ok e))
+    go false e = sym (in-any (λ s. isModified (s .status)) (set xs k (arrived (getD xs k empty))) (in-set-same xs k (arrived (getD xs k empty)) h) (rw e))
+
 fill-held : (a : ℕ) (l : Line) → holds (blockOf a) l ≡ true → fillLine a l ≡ withSectors (set (l .sectors) (sectorIndex a) (arrived (getD (l .sectors) (sectorIndex a) empty))) l
 unfolding fillLine
 fill-held a l e = rw e
@@ -125,9 +158,13 @@ module _ (S : Settings) (t : Tables) (ok : Sound S t) {longs words marks : List 
       let e : holds (blockOf a) (getD (t .lines) (f .line) fresh) ≡ true = sym (held-at l (blockOf a) k) ∙ f .held in
       let own : sectorAt S words marks (4 * l + sectorIndex a) ≡ getD (x .sectors) (sectorIndex a) empty =
       sym (sector-of-four S words marks l (sectorIndex a) empty (sector-below a)) ∙ ap (λ (y : List Sector). getD y (sectorIndex a) empty) (lifted S t h p n l k (four l k)) in
-      let c = change-stands S t h p n l k (four l k) (sectorIndex a) (arrived (getD (x .sectors) (sectorIndex a) empty))
-      (subst (λ (y : Sector). Changed S at l (sectorIndex a) (arrived y) words marks words′ marks′) own (f .filled)) in
       let few : one (dirty x) ≤ t .dirtyCount = omega (arith, dirty-count-is S t ok, one-counted dirty (t .lines) l fresh k) in
+      let is : Bool = pick (eqb (getD (x .sectors) (sectorIndex a) empty .mask) 0) (dirtyAt marks l) true in
+      let then : is ≡ dirty (withSectors (set (x .sectors) (sectorIndex a) (arrived (getD (x .sectors) (sectorIndex a) empty))) x) =
+      ap (λ (b : Bool). pick (eqb (getD (x .sectors) (sectorIndex a) empty .mask) 0) b true) (dirty-at S t h p n l k (four l k))
+      ∙ filled-dirty (x .sectors) (sectorIndex a) (omega (arith, four l k, sector-below a)) (sectors-at S t ok x (in-getD (t .lines) l fresh k)) in
+      let c = change-stands S t h p n l k (four l k) (sectorIndex a) (arrived (getD (x .sectors) (sectorIndex a) empty)) is then few
+      (subst (λ (y : Sector). Changed S at l (sectorIndex a) (arrived y) (pick (eqb (y .mask) 0) (dirtyAt marks l) true) words marks words′ marks′) own (f .filled)) in
       let count : t .dirtyCount - one (dirty x) + one (dirty (fillLine a x)) ≡ recounted x (fillLine a x) (t .dirtyCount) = omega arith in
       rw (fill-one a l k e, ← count, fill-held a x e) c
 
@@ -140,14 +177,17 @@ module _ (S : Settings) (t : Tables) (ok : Sound S t) {longs words marks : List 
       let e : holds (blockOf a) (getD (t .lines) (f .line) fresh) ≡ true = sym (held-at l (blockOf a) k) ∙ f .held in
       recount dirty (t .lines) l (fillLine a (getD (t .lines) l fresh)) fresh k (dirty-count-is S t ok) ∙ ap (count dirty) (sym (fill-one a l k e))
 
-  -- the count has room for the line
-  pub count-fits : (l : ℕ) → l < linesOf S → linesOf S ≤ 1024 → CountFits at l words marks
-  count-fits l b few =
+  -- the count has room for the line, whose bytes are those of sectors
+  pub line-fits : (l : ℕ) → l < linesOf S → linesOf S ≤ 1024 → CountFits at l words marks × Plain at l marks
+  line-fits l b few =
       let n = lines-are S t ok in
       let k : l < length (t .lines) = omega arith in
       let c : getD words (at .dirty) 0 ≡ count dirty (t .lines) = dirty-count-at S t h p ∙ dirty-count-is S t ok in (
-        omega (arith, c, count-length dirty (t .lines)),
-        subst (λ (w : Bool). one w ≤ getD words (at .dirty) 0) (sym (dirty-at S t h p n l k (four l k))) (omega (arith, c, one-counted dirty (t .lines) l fresh k)),
+        (
+          omega (arith, c, count-length dirty (t .lines)),
+          subst (λ (w : Bool). one w ≤ getD words (at .dirty) 0) (sym (dirty-at S t h p n l k (four l k))) (omega (arith, c, one-counted dirty (t .lines) l fresh k)),
+        ),
+        plain-at S t h p n l k,
       )
 
 -- ---- what is told
@@ -223,6 +263,17 @@ module _ (S : Settings) (a : ℕ) (t : Tables) {longs words marks : List ℕ} (i
     fill-holding some =
         holding S t ok h p some a
         (subst (λ (x : ℕ). any (holds (blockOf x)) (t .lines) ≡ true) is (entry-at S t ok (getD (t .misses) e noEntry) (in-getD (t .misses) e noEntry below) .held))
+
+    -- its tickets are some, and behind them its row is 0 when the line is filled
+    pub fill-row : {r : Reply} {words₁ marks₁ : List ℕ} → S .readers * e + S .readers ≤ S .readers * S .misses
+        → r ≡ releasing a (region words (at .tickets + S .readers * e) (getD marks (at .counts + e) 0))
+        → LineFilled S at (blockOf a) (sectorIndex a) longs words marks words₁ marks₁ → at .tickets + S .readers * S .misses ≤ length words
+        → (1 ≤ r .count) × (r .count ≤ S .readers) × ZerosFrom words₁ (at .tickets + S .readers * e) (r .count) (S .readers)
+    fill-row s q line room =
+        let n : length (getD (t .misses) e noEntry .tickets) ≡ getD marks (at .counts + e) 0 = sym (count-at S t h p (few-misses S t ok) e below) in
+        let c : _ ≡ length (getD (t .misses) e noEntry .tickets) =
+        ap (λ (y : Reply). y .count) q ∙ length-region words (at .tickets + S .readers * e) (getD marks (at .counts + e) 0) (omega (arith, fill-count)) ∙ sym n in
+        rw c (some-tickets S t ok e below, few-tickets S t ok e below, tickets-past S _ (line-stands S t ok h p a line) p (few-misses S t ok) e below)
 
     -- the tickets, as they are told
     tickets : region words (at .tickets + S .readers * e) (getD marks (at .counts + e) 0) ≡ ticketsOf a (t .misses)

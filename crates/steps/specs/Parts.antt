@@ -4,7 +4,8 @@ use Prim.Native.Nat.{ℕ, _+_, _-_, _*_, _<_}
 use mathlib.Core.Bool.{true}
 use mathlib.Core.List.{List, [], _∷_}
 use lib.ListN.{length, getD, replicate}
-use Rattle.words.specs.Words.{padTo}
+use lib.Dec.{eqb}
+use Rattle.words.specs.Words.{padTo, pick}
 use Rattle.model.specs.Range.{linesOf}
 use Rattle.model.specs.Lent.{sectorAt}
 use Rattle.words.specs.Regions.{put}
@@ -15,7 +16,7 @@ use Rattle.model.specs.declared.Event.the-variants.{Filled}
 use Rattle.model.specs.declared.Reply.{Reply}
 use Rattle.layout.specs.declared.Layout.{Layout}
 use Rattle.layout.specs.Places.{First}
-use Rattle.tables.specs.Raw.{holdsAt}
+use Rattle.tables.specs.Raw.{holdsAt, dirtyAt}
 use Rattle.tables.specs.Changed.{Changed}
 
 -- ---- send
@@ -43,9 +44,10 @@ pub record HeadMarked (at : Layout) (n : ℕ) (longs marks marks′ : List ℕ) 
 abbrev pub Holding : List ℕ → List ℕ → ℕ → ℕ → ℕ → Type 0
 Holding longs marks base n block = (k : ℕ) × (k < n) × (holdsAt longs marks block (base + k) ≡ true)
 
--- sector k of line l has come
+-- sector k of line l has come: without a dirty byte the line stays as dirty as it was, with one it is dirty then
 abbrev pub SectorFilled : Settings → Layout → ℕ → ℕ → List ℕ → List ℕ → List ℕ → List ℕ → Type 0
-SectorFilled S at l k words marks words′ marks′ = Changed S at l k (arrived (sectorAt S words marks (4 * l + k))) words marks words′ marks′
+SectorFilled S at l k words marks words′ marks′ =
+    Changed S at l k (arrived (sectorAt S words marks (4 * l + k))) (pick (eqb (sectorAt S words marks (4 * l + k) .mask) 0) (dirtyAt marks l) true) words marks words′ marks′
 
 -- sector k of a line that has the block has come
 pub record LineFilled (S : Settings) (at : Layout) (block k : ℕ) (longs words marks words′ marks′ : List ℕ) : Type 0 where

@@ -22,7 +22,7 @@ ghost use Rattle.model.specs.Steps.{send, arrived, fill, tick};
 ghost use Rattle.model.specs.Inner.{Sized, SoundSlices, Does};
 ghost use Rattle.layout.specs.Layout.{LaysOut};
 ghost use Rattle.layout.specs.Places.{First};
-ghost use Rattle.layout.specs.Sectors.{SectorRoom};
+ghost use Rattle.layout.specs.Sectors.{SectorRoom, Plain};
 ghost use Rattle.tables.specs.Raw.{holdsAt};
 ghost use Rattle.tables.specs.Changed.{CountFits};
 ghost use Rattle.steps.specs.Parts.{HeadAsked, HeadMarked, Holding, SectorFilled, LineFilled, releasing};
@@ -117,15 +117,20 @@ fn arrive(x: Sector) -> Sector
     }
 }
 
-// The address's sector of line `l` arrives.
+// The address's sector of line `l` arrives. Without a dirty byte the line stays as dirty as it was, with one it is dirty then.
 fn fill_sector(s: Settings, at: Layout, words: &mut [u32], marks: &mut [u8], l: usize, address: u64)
-    requires { ⌜ (l < linesOf s) × SectorRoom s at (now words) (now marks) ⌝ }
+    requires { ⌜ (l < linesOf s) × SectorRoom s at (now words) (now marks) × Plain at l (now marks) ⌝ }
     requires { ⌜ (at .dirty < length (now words)) × CountFits at l (now words) (now marks) ⌝ }
     ensures { λ _. ⌜ SectorFilled s at l (sectorIndex address) (now (words .entry)) (now (marks .entry)) (now (words .exit)) (now (marks .exit)) ⌝ }
 {
     let k = values::sector_index(address);
     let come = arrive(layout::sector_at(s, at, words, marks, 4 * l + k));
-    tables::change(s, at, words, marks, l, values::sector_number(address), come);
+    let was = tables::is_dirty(marks, l);
+    if come.mask == 0 {
+        tables::change(s, at, words, marks, l, k, come, was, was);
+    } else {
+        tables::change(s, at, words, marks, l, k, come, was, true);
+    }
 }
 
 // Fills the address's sector in the line that has its block.
@@ -140,7 +145,7 @@ fn fill_line(
     requires { ⌜ Sized s (now longs) (now words) (now marks) ⌝ }
     requires { ⌜ LaysOut s at ⌝ }
     requires { ⌜ Holding (now longs) (now marks) (setIndex s address * s .ways) (s .ways) (blockOf address) ⌝ }
-    requires { ⌜ ((l : ℕ) → l < linesOf s → CountFits at l (now words) (now marks)) ⌝ }
+    requires { ⌜ ((l : ℕ) → l < linesOf s → CountFits at l (now words) (now marks) × Plain at l (now marks)) ⌝ }
     ensures { λ _. ⌜ LineFilled s at (blockOf address) (sectorIndex address) (now (longs .entry)) (now (words .entry)) (now (marks .entry))
         (now (words .exit)) (now (marks .exit)) ⌝ }
 {
@@ -198,7 +203,7 @@ pub fn fill_counted(
     }
     let reply = release(at, words, marks, e, s.readers, address);
     fill_line(s, at, longs, words, marks, address);
-    tables::remove(at, longs, words, marks, e, n, s.readers);
+    tables::remove(at, longs, words, marks, e, n, s.readers, reply.count);
     reply
 }
 

@@ -6,7 +6,7 @@ use mathlib.Core.List.{List, [], _∷_, _++_}
 use Prim.Native.Nat.{ℕ, _+_, _-_, _*_, _≤_, _<_}
 use native.Mathlib.Decide.{decLe}
 use native.Mathlib.Omega.{arith}
-use lib.ListN.{length, getD, set, drop, take, length-append}
+use lib.ListN.{length, getD, set, drop, take, length-append, List·getD-eq-default}
 use lib.Seq.{take-take}
 use Rattle.words.specs.Words.{padTo, packed, joined}
 use Rattle.words.specs.Regions.{region, put, closed, dropped}
@@ -15,10 +15,11 @@ pub use Rattle.model.specs.Tables.{noEntry}
 use Rattle.model.specs.Lent.{bit, longBlocks, wordBlocks, markBlocks, missOf, sentOf, ticketCountOf, ticketsIn, lent}
 use Rattle.model.specs.declared.Settings.{Settings}
 use Rattle.model.specs.Inner.{Encodes}
-use Rattle.words.proofs.Places.{length-places, field-put, field-get, field-region, take-padTo, places-same, places-push-idle, field-push, field-extend, field-close-first}
+use Rattle.words.proofs.Places.{length-places, field-put, field-get, field-region, padTo-get, take-padTo, places-same, places-push-idle, field-push, field-extend, field-close-first}
 use Rattle.layout.specs.declared.Layout.{Layout}
 use Rattle.layout.specs.Layout.{LaysOut}
 use Rattle.layout.specs.Places.{First}
+use Rattle.tables.specs.Raw.{ZerosFrom}
 use Rattle.layout.proofs.ByBlocks.{ByBlocks, is-stands}
 use Rattle.layout.proofs.Grown.{field-used}
 use Rattle.model.proofs.SoundFacts.{parts, few-misses, some-tickets}
@@ -67,6 +68,13 @@ module _ (S : Settings) (t : Tables) {longs words marks : List ℕ} (h : ByBlock
         ∙ ap (take (length (getD (t .misses) e noEntry .tickets)))
         (field-region ticketsIn (S .readers) (S .misses) (t .misses) (wordBlocks S t) 3 e {i = at .tickets + S .readers * e} (h .as-words) refl (simp length-places (omega arith)) (omega arith) below few noEntry)
         ∙ take-padTo (S .readers) (getD (t .misses) e noEntry .tickets) fits
+
+    -- behind its tickets the row is 0
+    pub tickets-past : ZerosFrom words (at .tickets + S .readers * e) (length (getD (t .misses) e noEntry .tickets)) (S .readers)
+    tickets-past j a b =
+        field-get ticketsIn (S .readers) (S .misses) (t .misses) (wordBlocks S t) 3 e {i = at .tickets + S .readers * e} (h .as-words) refl (simp length-places (omega arith)) (omega arith) below few noEntry j b refl
+        ∙ padTo-get (S .readers) (getD (t .misses) e noEntry .tickets) j b
+        ∙ List·getD-eq-default (getD (t .misses) e noEntry .tickets) 0 a
 
     -- ---- what is written
 

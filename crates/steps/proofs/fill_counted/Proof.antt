@@ -1,6 +1,6 @@
 -- Fill, from what its parts ensure.
 use native.Mathlib.Nat.{mul-le-mul-left, pos-of-ne-zero}
-use Rattle.steps.proofs.Filling.{count-fits, fill-refused, fill-inside, fill-count, fill-holding, fill-leaves}
+use Rattle.steps.proofs.Filling.{line-fits, fill-refused, fill-inside, fill-count, fill-holding, fill-row, fill-leaves}
 use Rattle.layout.proofs.ByBlocks.{is-stands, stands-fit}
 use Rattle.words.proofs.Places.{stride}
 use Rattle.model.proofs.SoundFacts.{parts}
@@ -41,14 +41,17 @@ fill-counted-spec =
     (λ c κs.
     let start = c .before .before .before .before .before .before .before .before .before .before .before .before .before .before in
     let i = start .pre .1 .are in let z = stands-fit (i .range) (is-stands i) in let p = start .pre .0 in let u = start .pre .2 in
-    (z, (p, (fill-holding _ _ _ i p u (c .before .before .before .before .before .before .before .before .before .find-entry .ensures) (c .before .before .before .before .before .before .before .is-sent .ensures) (c .before .before .before .before .before .before .if1 .left) (z .ways), λ l b. count-fits _ _ (parts _ _ (i .soundly)) (is-stands i) p l b (z .lines)))))
+    (z, (p, (fill-holding _ _ _ i p u (c .before .before .before .before .before .before .before .before .before .find-entry .ensures) (c .before .before .before .before .before .before .before .is-sent .ensures) (c .before .before .before .before .before .before .if1 .left) (z .ways), λ l b. line-fits _ _ (parts _ _ (i .soundly)) (is-stands i) p l b (z .lines)))))
     -- remove-requires
     (λ c κs.
     let start = c .before .before .before .before .before .before .before .before .before .before .before .before .before .before .before .before .before .before .before .before .before .before in
     let i = start .pre .1 .are in let z = stands-fit (i .range) (is-stands i) in let p = start .pre .0 in let u = start .pre .2 in
     let k = fill-inside _ _ _ i p u (c .before .before .before .before .before .before .before .before .before .before .before .before .before .before .before .before .before .find-entry .ensures) (c .before .before .before .before .before .before .before .before .before .before .before .before .before .before .before .is-sent .ensures) (c .before .before .before .before .before .before .before .before .before .before .before .before .before .before .if1 .left) in
     let n = u .most in
-    let m = mul-le-mul-left (start .args .s .readers) (u .most) in (k, omega arith, omega arith, omega arith, omega arith))
+    let m = mul-le-mul-left (start .args .s .readers) (u .most) in
+    let row = stride (start .args .s .readers) (start .args .s .misses) (c .before .before .before .before .before .before .before .before .before .before .before .before .before .before .before .before .before .find-entry .result) (omega arith) in
+    let f = fill-row _ _ _ i p u (c .before .before .before .before .before .before .before .before .before .before .before .before .before .before .before .before .before .find-entry .ensures) (c .before .before .before .before .before .before .before .before .before .before .before .before .before .before .before .is-sent .ensures) (c .before .before .before .before .before .before .before .before .before .before .before .before .before .before .if1 .left) (row .2) (c .before .before .before .before .before .before .before .before .before .before .before .release .ensures) (c .before .before .before .before .before .before .before .fill-line .ensures) (omega arith) in
+    (f, (k, omega arith, omega arith, omega arith, omega arith)))
     (λ c. search needs)  -- same-length-3
     (λ c. search needs)  -- same-length-4
     (λ c. search needs)  -- same-length-5

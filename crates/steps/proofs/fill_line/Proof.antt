@@ -27,7 +27,8 @@ fill-sector-requires c κs =
     let room = set-room (a .s) (a .address) (set .set-index .ensures) (start .pre .0 .sets) (start .pre .0 .ways) in
     let p = start .pre .1 .0 in
     let inside = c .before .before .find-line .ensures .1 in
-    ((omega (arith, inside), (p, omega arith, omega arith)), (omega arith, start .pre .1 .1 .1 _ (omega (arith, inside))))
+    let fits = start .pre .1 .1 .1 (c .before .before .find-line .result) (omega (arith, inside)) in
+    ((omega (arith, inside), (p, omega arith, omega arith), fits .1), (omega arith, fits .0))
 
 returns : tie.Need-returns
 returns c =

@@ -1,10 +1,9 @@
 -- The sector is read, and the line changed with what has come.
-use mathlib.Core.Path.{ap, _∙_}
-use Prim.Native.Nat.{ℕ, _+_, _*_}
+use mathlib.Core.Path.{refl}
+use mathlib.Core.Bool.{true}
 use borrow.Author.Needs.{needs}
-use Rattle.model.specs.Lent.{sectorAt}
-use Rattle.model.specs.Steps.{arrived}
-use Rattle.tables.proofs.Changing.{changed-as}
+use borrow.Author.Tests.{ne-eqb}
+use Rattle.steps.proofs.Filling.{sector-filled}
 use Rattle.steps.proofs.fill_sector.Statement.{statement}
 use Rattle.steps.proofs.fill_sector.Tie as tie
 
@@ -17,18 +16,26 @@ fill-sector-spec =
     (λ c. search needs)  -- add-sector-at
     (λ c κs. search needs)  -- sector-at-requires
     (λ c κs. search needs)  -- arrive-requires
-    (λ c κs. search needs)  -- sector-number-requires
+    (λ c κs. search needs)  -- is-dirty-requires
     (λ c κs. search needs)  -- change-requires
+    (λ c κs. search needs)  -- change-requires-2
     (λ c. search needs)  -- same-length
     (λ c. search needs)  -- same-length-2
     -- returns
     (λ c.
-    let changed = c .before .before .before .before in
-    let number = changed .before in
-    let come = number .before .before .before in
-    let read = come .before in
-    let index = read .before .before .before in
-    let start = index .before .before .before in
+    let start = c .before .before .before .before .before .before .before .before .before .before .before .before .before .before .before .before .before .before in
     let a = start .args in
-    let own = come .arrive .ensures ∙ ap arrived (read .sector-at .ensures ∙ ap (λ (k : ℕ). sectorAt (a .s) (a .words .now) (a .marks .now) (4 * a .l + k)) (index .sector-index .ensures .0)) in
-    changed-as (a .s) (a .at) (a .l) (number .sector-number .ensures .0) own (changed .change .ensures)))
+    let dirty = c .before .before .before .before .before .before .before .before .before in
+    let come = c .before .before .before .before .before .before .before .before .before .before .before in
+    sector-filled (a .s) (a .at) (a .l) (a .address) (a .words .now) (a .marks .now) (dirty .is-dirty .result) (c .before .before .before .before .before .before .before .before .before .before .before .before .before .before .before .sector-index .ensures .0) (c .before .before .before .before .before .before .before .before .before .before .before .before .sector-at .ensures) (come .arrive .ensures)
+    (rw (c .before .before .before .before .before .before .before .if1 .taken) (dirty .is-dirty .ensures)) (c .before .before .before .before .change .ensures))
+    (λ c. search needs)  -- same-length-3
+    (λ c. search needs)  -- same-length-4
+    -- returns-2
+    (λ c.
+    let start = c .before .before .before .before .before .before .before .before .before .before .before .before .before .before .before .before .before .before in
+    let a = start .args in
+    let dirty = c .before .before .before .before .before .before .before .before .before in
+    let come = c .before .before .before .before .before .before .before .before .before .before .before in
+    sector-filled (a .s) (a .at) (a .l) (a .address) (a .words .now) (a .marks .now) true (c .before .before .before .before .before .before .before .before .before .before .before .before .before .before .before .sector-index .ensures .0) (c .before .before .before .before .before .before .before .before .before .before .before .before .sector-at .ensures) (come .arrive .ensures)
+    (rw (ne-eqb (come .arrive .result .mask) 0 (c .before .before .before .before .before .before .before .if1 .left)) refl) (c .before .before .before .before .change2 .ensures)))
