@@ -5,6 +5,7 @@ use mathlib.Core.Bool.{Bool, true, false}
 use mathlib.Core.List.{List, [], _∷_}
 use Prim.Native.Nat.{ℕ, zero, suc, _+_, _-_, _≤_, _<_}
 use native.Mathlib.Omega.{arith}
+use native.Mathlib.Numerals.{add-one}
 use borrow.Author.Tests.{ltb-true, ltb-false}
 use lib.ListN.{length, getD}
 use lib.Dec.{ltb}
@@ -48,6 +49,9 @@ module _ (s : List ℕ) where
 
   pub group-le : (at : ℕ) → at ≤ groupEnd s at
   group-le at = ⊎-elim (λ l. let w = group-end s at l in omega arith) (λ l. let w = group-none s at l in omega arith) (lt-or-ge at (length s))
+
+  pub group-on : (at : ℕ) {e : ℕ} → e ≡ groupEnd s at → at ≤ e
+  group-on at p = omega (arith, group-le at)
 
   -- ---- by number
 
@@ -104,6 +108,25 @@ module _ (s : List ℕ) where
   pub counted-out : (n : ℕ) → length s ≤ placeFrom n s 0 → length (groups s) ≤ n
   unfolding groups
   counted-out n p = out-count (length s) n 0 p
+
+  -- ---- by the place where the group of number n begins
+
+  module _ (n : ℕ) {x : ℕ} (g : x ≡ groupSide s n .place) where
+    pub begins-at : x ≡ placeFrom n s 0
+    begins-at = g ∙ ap (λ p. p .place) (side-is n)
+
+    pub side-to : groupSide s n ≡ partTo x (groupEnd s x)
+    side-to = side-is n ∙ rw begins-at
+
+    pub next-begins : groupEnd s x ≡ groupSide s (n + 1) .place
+    next-begins = rw (side-is (n + 1), add-one n, place-next n 0, begins-at)
+
+    -- the number is below that of the groups, and below the log's length
+    pub counted-in : x < length s → (n < length (groups s)) × (n < length s)
+    counted-in h = let k : placeFrom n s 0 < length s = rw begins-at at h in (group-counted n k, omega (arith, place-grows n 0 k))
+
+    pub counted-over : length s ≤ x → length (groups s) ≤ n
+    counted-over h = counted-out n (rw begins-at at h)
 
   -- ---- the loop that skips groups: those still to skip lead to the side of the number
 
