@@ -36,7 +36,6 @@ use denote.Struct.Steps.{spelt}
 use denote.Struct.Values.{Values}
 use denote.Struct.At.{spelled}
 use borrow.Within.Token.{Rest, within-token, within-end}
-use contract.BorrowLft.{meet-⊑-right}
 use denote.Signature.{plain}
 use denote.Slice.{sliceVal, ShrSlice, slice-vals, shr-slice-tells, shr-slice-lawful}
 use denote.Steps.{only, owned, peeks, heard, nothing}
@@ -46,7 +45,7 @@ use denote.Triple.Call.{calls-at}
 use denote.Triple.Entry.{onEntry}
 use denote.Triple.Spec.{Meets, tripleOf}
 use denote.Triple.Table.{entered, cited}
-use denote.Triple.Walked.{says, Stays, stay-none, stay-none-slice, walkOf, goes-none, goes-none-slice, ends-at, walked, walk-meets}
+use denote.Triple.Walked.{says, walkOf, goes-none, goes-none-slice, ends-at, walked, walk-meets}
 use denote.Exit.{yes}
 use denote.Triple.Clauses.{ensured, lasts}
 use Rattle.reader.specs.Taken.{PartOf, Takes}
@@ -68,10 +67,7 @@ use Rattle.reader.proofs.body_at.Key.{name as #reader·body-at}
 use Rattle.reader.proofs.body_at as body-at
 use Rattle.reader.proofs.body_at.Statement as stated
 use Rattle.reader.proofs.body_at.Code as code
-use Rattle.reader.proofs.Held.{α, αᵉ, v, passed, Own, B₁, New, to-new, goes-new, new-said, B₂, lent-to, tokens, lies-in, lies-out}
-
-abbrev stayed : Stays (body-at.ended .signature .params) (body-at.ended .kept)
-stayed = (stay-none-slice (0 ∷ []) tt (plain (λ _. u8)) yes, (stay-none (λ _. usize) yes, tt))
+use Rattle.reader.proofs.Held.{α, αᵉ, v, passed, Own, B₁, New, to-plain, goes-plain, new-said, B₂, lent-to, tokens, lies-in, lies-out, to-lent, goes-lent, stayed-plain as stayed}
 
 module _ {M : Type 1} (𝓤 : URA M) (H : Heap 𝓤) (A : Atoms 𝓤) (mem : Memory → SProp 𝓤) (run : Routine → Fun 𝓤) where
   -- the contracts that the proof cites
@@ -95,14 +91,6 @@ module _ {M : Type 1} (𝓤 : URA M) (H : Heap 𝓤) (A : Atoms 𝓤) (W : Given
   abbrev vd : Taken → Values (D .parts)
   vd t = (t .found, (t .body, tt))
 
-  abbrev to-next : Reader → ℕ → ℕ → GName → Next 𝓤 H A mem run .Ghost
-  to-next r l ν γ = (((ν ∷ κ, (κ, tt)), (PosShare·left q, (PosShare·right q, tt)), (meet-⊑-right (ν ∷ []) κ, tt), (lent-to r l γ, tt), (vptr l 0 ∷ [], tt)), tt)
-
-  goes-next : (r : Reader) (l ν : ℕ) (γ : GName)
-      → ent 𝓤 (⋆ 𝓤 H A (‵ (MutRef (named 0) (ν ∷ κ) (B₂ κ) .own (lent-to r l γ) (vptr l 0 ∷ [])) ∷ tokens 𝓤 κ q ν ∷ [])) (Next 𝓤 H A mem run .pre (to-next r l ν γ))
-  goes-next r l ν γ =
-      qed W (‵ (MutRef (named 0) (ν ∷ κ) (B₂ κ) .own (lent-to r l γ) (vptr l 0 ∷ [])) ∷ tokens 𝓤 κ q ν ∷ []) ∵ nothing ! $ move ! (1 ∷ 0 ∷ []) $ fjoin ! $ move ! (1 ∷ 0 ∷ []) $ join ! $ frame ! $ done !
-
   abbrev part : RefT (List ℕ) → Val
   part p = sliceVal (p .ptr) (length (p .now))
 
@@ -120,8 +108,8 @@ module _ {M : Type 1} (𝓤 : URA M) (H : Heap 𝓤) (A : Atoms 𝓤) (W : Given
     walk p₀ =
         qed W (raw (onEntry 𝓤 H A body-at.signature (κ, tt) (q, tt) (s, (n, tt)) (passed s n)) ∷ []) ∵ enter ! C Λ code.function (v s ∷ vint w64 n ∷ []) _ $
         alloc1 ! (λ l₀. alloc1 ! (λ l₁. alloc1 ! (λ l₂. alloc1 ! (λ l₃. alloc1 ! (λ l₄. alloc1 ! (λ l₅. alloc1 ! (λ l₆. alloc0 ! $ params1 ! $ pass1 ! (init ! 10 refl (shr-slice-lawful 𝓤 H A W (named 0) κ u8 .typed s (v s ∷ []) p₀ .0)) $ pass1 ! (init ! 8 refl (tt, record { fits = ok })) $ pass0 ! $
-        move ! (14 ∷ []) $ use1 W (raw (New 𝓤 H A mem run .pre (to-new 𝓤 H A mem run κ s n q)) ⊛ ‵ (Own κ s)) (goes-new 𝓤 H A mem run κ s n q W) $ split ! $
-        calls-at ! fm (New 𝓤 H A mem run) known-new (to-new 𝓤 H A mem run κ s n q) (and-then ! (load ! (from ! (stop !)) (look ! 12 refl)) (and-then ! (load ! (from ! (stop !)) (look ! 10 refl)) (no-more !))) (λ u.
+        move ! (14 ∷ []) $ use1 W (raw (New 𝓤 H A mem run .pre (to-plain 𝓤 H A mem run κ s n q)) ⊛ ‵ (Own κ s)) (goes-plain 𝓤 H A mem run κ s n q W) $ split ! $
+        calls-at ! fm (New 𝓤 H A mem run) known-new (to-plain 𝓤 H A mem run κ s n q) (and-then ! (load ! (from ! (stop !)) (look ! 12 refl)) (and-then ! (load ! (from ! (stop !)) (look ! 10 refl)) (no-more !))) (λ u.
         use1 W (later (some (λ (r : Reader). ((‵ (flft κ q) ⊛ ‵ ftrue) ⊛ ‵ (B₁ κ .own r (u ∷ []))) ⊛ raw (ensured 𝓤 H A reader-at.ended (reader-at.clauses 𝓤 H A mem run) (κ, tt) (s, (n, tt)) tt r)))) (id⊢ 𝓤 _) $ await ! tt $ pick ! (λ r.
         split ! $ move ! (1 ∷ []) $ use1 W (raw (fact 𝓤 ((r .stream ≡ s) × (r .at ≡ n)))) (new-said 𝓤 H A mem run κ s n r) $ heard ! ((r .stream ≡ s) × (r .at ≡ n)) (λ e. split ! $ move ! (1 ∷ []) $
         -- [what the struct owns; the token; what s owns; _6; …; _5; …; _4; …; _3; …; _2; …; _1; …; room for _0; …]
@@ -139,9 +127,9 @@ module _ {M : Type 1} (𝓤 : URA M) (H : Heap 𝓤) (A : Atoms 𝓤) (W : Given
         -- [left; right; ftrue; the borrow; the lender's part; ν's token; what s owns; …]
         move ! (5 ∷ 0 ∷ []) $ use2 W (‵ (flft (ν ∷ κ) (PosShare·left q)) ⊛ raw (Rest 𝓤 H A W ν (PosShare·left q))) (within-token 𝓤 H A W ν κ (PosShare·left q)) $ split ! $
         -- [that lifetime's token; the way back; right; ftrue; the borrow; the lender's part; what s owns; …]
-        move ! (2 ∷ 3 ∷ []) $ join ! $ move ! (1 ∷ 0 ∷ []) $ join ! $ move ! (2 ∷ 0 ∷ []) $ use2 W (raw (Next 𝓤 H A mem run .pre (to-next r l₃ ν γ))) (goes-next r l₃ ν γ) $
+        move ! (2 ∷ 3 ∷ []) $ join ! $ move ! (1 ∷ 0 ∷ []) $ join ! $ move ! (2 ∷ 0 ∷ []) $ use2 W (raw (Next 𝓤 H A mem run .pre (to-lent 𝓤 H A mem run κ q r l₃ ν γ))) (goes-lent 𝓤 H A mem run κ q r l₃ ν γ W) $
         -- [what `next` asks; the way back; the lender's part; what s owns; _6; …; _5; …; _4; …; …of _3; _2; …; _1; …; room for _0; …]
-        calls-at ! fm (Next 𝓤 H A mem run) known-next (to-next r l₃ ν γ) (and-then ! (load ! (from ! (stop !)) (look ! 4 refl)) (no-more !)) (λ u₂.
+        calls-at ! fm (Next 𝓤 H A mem run) known-next (to-lent 𝓤 H A mem run κ q r l₃ ν γ) (and-then ! (load ! (from ! (stop !)) (look ! 4 refl)) (no-more !)) (λ u₂.
         use1 W (later (some (λ (t : Taken). (tokens 𝓤 κ q ν ⊛ ‵ (K .own t (u₂ ∷ []))) ⊛ raw (ensured 𝓤 H A next.ended (next.clauses 𝓤 H A mem run) (ν ∷ κ, (κ, tt)) (lent-to r l₃ γ, tt) tt t)))) (id⊢ 𝓤 _) $ await ! tt $ pick ! (λ t.
         split ! $ move ! (1 ∷ []) $ use1 W (some (λ (z : Reader × Unit {0}). ‵ (lasts next.ended (ν ∷ κ, (κ, tt)) (lent-to r l₃ γ, tt) z) ⊛ raw (fact 𝓤 (Takes r t (z .0))))) (id⊢ 𝓤 _) $ pick ! (λ z.
         split ! $ move ! (1 ∷ []) $ heard ! (Takes r t (z .0)) (λ e₂. fsplit ! $

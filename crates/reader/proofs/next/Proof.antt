@@ -28,7 +28,6 @@ use denote.Memory.{mem, cellAt}
 use denote.Plain.{uint-lawful}
 use denote.Builtin.{u8, usize}
 use denote.Ref.{RefT, MutRef, now, ptr-vals, mut-tells}
-use denote.Signature.{Slot, plain, namedLft}
 use denote.Signature.Struct.{makes}
 use denote.Slice.{ShrSlice, shr-slice-lawful}
 use denote.Enum.Laws as EL
@@ -41,7 +40,7 @@ use denote.Triple.Clauses.{ensured, lasts}
 use denote.Triple.Entry.{onEntry}
 use denote.Triple.Spec.{Meets, tripleOf}
 use denote.Triple.Table.{entered, cited}
-use denote.Triple.Walked.{says, Stays, stay-ref, walkOf, goes-ref, ends-at, walked, walk-meets}
+use denote.Triple.Walked.{says, walkOf, goes-ref, ends-at, walked, walk-meets}
 use Rattle.reader.specs.Taken.{behind as behindOf, PartOf}
 use Rattle.model.specs.Records.{readAt}
 use Rattle.model.specs.declared.Record.{Record}
@@ -59,7 +58,6 @@ use Rattle.reader.specs.declared.Reader.{Reader}
 use Rattle.reader.specs.declared.Taken.{Taken}
 use Rattle.reader.proofs.Taken as TT
 use Rattle.reader.proofs.Taken.Laws as TT′
-use Rattle.reader.proofs.Reader as T
 use Rattle.reader.proofs.Reader.Laws as T′
 use Rattle.reader.proofs.behind as behind
 use Rattle.reader.proofs.behind.Symbol as behind-def
@@ -69,17 +67,7 @@ use Rattle.reader.proofs.next.Key.{name as #reader·next}
 use Rattle.reader.proofs.next as next
 use Rattle.reader.proofs.next.Statement as stated
 use Rattle.reader.proofs.next.Code as code
-use Rattle.reader.proofs.Held.{α, passed, D, L, Held, at-n, Asked, held-asked, again, typed, B₂, Behind, behind-said}
-
--- `Reader<'a>`, as the referent's place in the signature
-abbrev referent : Slot 2
-referent = plain (λ κs. T.the-row (namedLft 2 1 tt κs))
-
-abbrev stayed : Stays (next.ended .signature .params) (next.ended .kept)
-stayed = (stay-ref (0 ∷ []) tt referent, tt)
-
-abbrev ReadAt : {M : Type 1} (𝓤 : URA M) (H : Heap 𝓤) (A : Atoms 𝓤) (mem : Memory → SProp 𝓤) (run : Routine → Fun 𝓤) → Contract 𝓤
-ReadAt 𝓤 H A mem run = tripleOf 𝓤 H A read-at.signature (read-at.spec 𝓤 H A mem run)
+use Rattle.reader.proofs.Held.{α, D, L, Held, at-n, again, typed, ReadAt, read-said, Behind, behind-said, to-plain, held-asked, B₂, referent, stayed-lent as stayed}
 
 abbrev BodyOf : {M : Type 1} (𝓤 : URA M) (H : Heap 𝓤) (A : Atoms 𝓤) (mem : Memory → SProp 𝓤) (run : Routine → Fun 𝓤) → Contract 𝓤
 BodyOf 𝓤 H A mem run = tripleOf 𝓤 H A body.signature (body.spec 𝓤 H A mem run)
@@ -114,29 +102,11 @@ module _ {M : Type 1} (𝓤 : URA M) (H : Heap 𝓤) (A : Atoms 𝓤) (W : Given
   abbrev Post : Val → SProp 𝓤
   Post = walkOf 𝓤 H A next.ended stayed (next.clauses 𝓤 H A at-mem run) .post (((κ, (κ′, tt)), (q, (q′, tt)), bounds, x, at), tt)
 
-  -- what each callee's triple binds outside
-  abbrev to-read-at : ReadAt 𝓤 H A at-mem run .Ghost
-  to-read-at = (((κ′, tt), (q′, tt), tt, (h .stream, (h .at, tt)), passed (h .stream) (h .at)), tt)
+  -- what each callee is passed
+  abbrev to : Behind 𝓤 H A at-mem run .Ghost
+  to = to-plain 𝓤 H A at-mem run κ′ (h .stream) (h .at) q′
 
-  abbrev to-body : BodyOf 𝓤 H A at-mem run .Ghost
-  to-body = (((κ′, tt), (q′, tt), tt, (h .stream, (h .at, tt)), passed (h .stream) (h .at)), tt)
-
-  abbrev to-behind : Behind 𝓤 H A at-mem run .Ghost
-  to-behind = (((κ′, tt), (q′, tt), tt, (h .stream, (h .at, tt)), passed (h .stream) (h .at)), tt)
-
-  asks-read-at : ent 𝓤 (Asked 𝓤 H A κ′ q′ (h .stream) (h .at)) (ReadAt 𝓤 H A at-mem run .pre to-read-at)
-  asks-read-at = qed W ((‵ (flft κ′ q′) ⊛ ‵ ftrue) ∷ ‵ (owns (ShrSlice (named 0) κ′ u8 ∷ usize ∷ []) (h .stream, (h .at, tt)) (passed (h .stream) (h .at))) ∷ []) ∵ join ! $ frame ! $ done !
-
-  asks-body : ent 𝓤 (Asked 𝓤 H A κ′ q′ (h .stream) (h .at)) (BodyOf 𝓤 H A at-mem run .pre to-body)
-  asks-body = qed W ((‵ (flft κ′ q′) ⊛ ‵ ftrue) ∷ ‵ (owns (ShrSlice (named 0) κ′ u8 ∷ usize ∷ []) (h .stream, (h .at, tt)) (passed (h .stream) (h .at))) ∷ []) ∵ join ! $ frame ! $ done !
-
-  asks-behind : ent 𝓤 (Asked 𝓤 H A κ′ q′ (h .stream) (h .at)) (Behind 𝓤 H A at-mem run .pre to-behind)
-  asks-behind = qed W ((‵ (flft κ′ q′) ⊛ ‵ ftrue) ∷ ‵ (owns (ShrSlice (named 0) κ′ u8 ∷ usize ∷ []) (h .stream, (h .at, tt)) (passed (h .stream) (h .at))) ∷ []) ∵ join ! $ frame ! $ done !
-
-  -- of each callee's `ensured`, the clause alone
-  read-said : (f : Record) → ent 𝓤 (ensured 𝓤 H A read-at.ended (read-at.clauses 𝓤 H A at-mem run) (κ′, tt) (h .stream, (h .at, tt)) tt f) (fact 𝓤 (f ≡ found))
-  read-said f = exE 𝓤 _ (λ ws. snd∗ 𝓤 (sem 𝓤 H A (lasts read-at.ended (κ′, tt) (h .stream, (h .at, tt)) ws)) (fact 𝓤 (f ≡ found)))
-
+  -- of what `body_part` ensures, the clause alone
   body-said : (p : RefT (List ℕ)) → ent 𝓤 (ensured 𝓤 H A body.ended (body.clauses 𝓤 H A at-mem run) (κ′, tt) (h .stream, (h .at, tt)) tt p) (fact 𝓤 (PartOf (h .stream) (h .at) p))
   body-said p = exE 𝓤 _ (λ ws. snd∗ 𝓤 (sem 𝓤 H A (lasts body.ended (κ′, tt) (h .stream, (h .at, tt)) ws)) (fact 𝓤 (PartOf (h .stream) (h .at) p)))
 
@@ -162,24 +132,24 @@ module _ {M : Type 1} (𝓤 : URA M) (H : Heap 𝓤) (A : Atoms 𝓤) (W : Given
         assigns ! (of-opd ! (load ! (from ! (hop ! (look ! 17 refl) (fld ! refl (stop !)))) (look-in ! 0 (sub ! 0 refl (whole !))))) (from ! (stop !)) (init ! 15 refl (tt, typed 𝓤 H A W (α 1 κ′) h was .1 .0)) $
         assigns ! (of-opd ! (load ! (from ! (hop ! (look ! 17 refl) (fld ! refl (stop !)))) (look-in ! 0 (sub ! 1 refl (whole !))))) (from ! (stop !)) (init ! 13 refl (tt, typed 𝓤 H A W (α 1 κ′) h was .1 .1 .0)) $
         -- the record
-        move ! (1 ∷ 5 ∷ []) $ use2 W (raw (ReadAt 𝓤 H A at-mem run .pre to-read-at) ⊛ ‵ (Held (α 1 κ′) h)) (held-asked 𝓤 H A W (α 1 κ′) h q′ _ asks-read-at (typed 𝓤 H A W (α 1 κ′) h was .1 .1 .0 .fits)) $ split ! $
-        calls-at ! fm (ReadAt 𝓤 H A at-mem run) known-read-at to-read-at (and-then ! (load ! (from ! (stop !)) (look ! 15 refl)) (and-then ! (load ! (from ! (stop !)) (look ! 13 refl)) (no-more !))) (λ u.
+        move ! (1 ∷ 5 ∷ []) $ use2 W (raw (ReadAt 𝓤 H A at-mem run .pre to) ⊛ ‵ (Held (α 1 κ′) h)) (held-asked 𝓤 H A at-mem run W (α 1 κ′) h q′ (typed 𝓤 H A W (α 1 κ′) h was .1 .1 .0 .fits)) $ split ! $
+        calls-at ! fm (ReadAt 𝓤 H A at-mem run) known-read-at to (and-then ! (load ! (from ! (stop !)) (look ! 15 refl)) (and-then ! (load ! (from ! (stop !)) (look ! 13 refl)) (no-more !))) (λ u.
         use1 W (later (some (λ (f : Record). ((‵ (flft κ′ q′) ⊛ ‵ ftrue) ⊛ ‵ (S.the-row .own f (u ∷ []))) ⊛ raw (ensured 𝓤 H A read-at.ended (read-at.clauses 𝓤 H A at-mem run) (κ′, tt) (h .stream, (h .at, tt)) tt f)))) (id⊢ 𝓤 _) $ await ! tt $ pick ! (λ f.
-        split ! $ move ! (1 ∷ []) $ use1 W (raw (fact 𝓤 (f ≡ found))) (read-said f) $ heard ! (f ≡ found) (λ e. split ! $ move ! (1 ∷ []) $
+        split ! $ move ! (1 ∷ []) $ use1 W (raw (fact 𝓤 (f ≡ found))) (read-said 𝓤 H A at-mem run κ′ (h .stream) (h .at) f) $ heard ! (f ≡ found) (λ e. split ! $ move ! (1 ∷ []) $
         -- [what the record owns; 'a's token; what a Reader owns; the struct's cell; the open borrow; obs; auth; …; _6; …]
         peeks ! S.the-row (Is S.the-row) (shows 𝓤 H A S.the-row) f (u ∷ []) (λ is.
         land ! (from ! (stop !)) (init ! 12 refl (EL.lawful S.the-type S′.the-laws 𝓤 H A W tt .typed f _ is .0)) $
         -- its body
-        move ! (2 ∷ 1 ∷ []) $ use2 W (raw (BodyOf 𝓤 H A at-mem run .pre to-body) ⊛ ‵ (Held (α 1 κ′) h)) (held-asked 𝓤 H A W (α 1 κ′) h q′ _ asks-body (typed 𝓤 H A W (α 1 κ′) h was .1 .1 .0 .fits)) $ split ! $
-        calls-at ! fm (BodyOf 𝓤 H A at-mem run) known-body to-body (and-then ! (load ! (from ! (stop !)) (look ! 16 refl)) (and-then ! (load ! (from ! (stop !)) (look ! 14 refl)) (no-more !))) (λ u₂.
+        move ! (2 ∷ 1 ∷ []) $ use2 W (raw (BodyOf 𝓤 H A at-mem run .pre to) ⊛ ‵ (Held (α 1 κ′) h)) (held-asked 𝓤 H A at-mem run W (α 1 κ′) h q′ (typed 𝓤 H A W (α 1 κ′) h was .1 .1 .0 .fits)) $ split ! $
+        calls-at ! fm (BodyOf 𝓤 H A at-mem run) known-body to (and-then ! (load ! (from ! (stop !)) (look ! 16 refl)) (and-then ! (load ! (from ! (stop !)) (look ! 14 refl)) (no-more !))) (λ u₂.
         use1 W (later (some (λ (p : RefT (List ℕ)). ((‵ (flft κ′ q′) ⊛ ‵ ftrue) ⊛ ‵ (ShrSlice (named 1) κ′ u8 .own p (u₂ ∷ []))) ⊛ raw (ensured 𝓤 H A body.ended (body.clauses 𝓤 H A at-mem run) (κ′, tt) (h .stream, (h .at, tt)) tt p)))) (id⊢ 𝓤 _) $ await ! tt $ pick ! (λ p.
         split ! $ move ! (1 ∷ []) $ use1 W (raw (fact 𝓤 (PartOf (h .stream) (h .at) p))) (body-said p) $ heard ! (PartOf (h .stream) (h .at) p) (λ e₂. split ! $ move ! (1 ∷ []) $
         -- [what the part owns; 'a's token; what a Reader owns; what the record owns; the struct's cell; the open borrow; obs; auth; …; _6; …]
         peeks ! (ShrSlice (named 1) κ′ u8) (Is (ShrSlice (named 1) κ′ u8)) (shows 𝓤 H A (ShrSlice (named 1) κ′ u8)) p (u₂ ∷ []) (λ is₂.
         land ! (from ! (stop !)) (init ! 11 refl (shr-slice-lawful 𝓤 H A W erased κ′ u8 .typed p _ is₂ .0)) $
         -- the place behind it
-        move ! (2 ∷ 1 ∷ []) $ use2 W (raw (Behind 𝓤 H A at-mem run .pre to-behind) ⊛ ‵ (Held (α 1 κ′) h)) (held-asked 𝓤 H A W (α 1 κ′) h q′ _ asks-behind (typed 𝓤 H A W (α 1 κ′) h was .1 .1 .0 .fits)) $ split ! $
-        calls-at ! fm (Behind 𝓤 H A at-mem run) known-behind to-behind (and-then ! (load ! (from ! (stop !)) (look ! 17 refl)) (and-then ! (load ! (from ! (stop !)) (look ! 15 refl)) (no-more !))) (λ u₃.
+        move ! (2 ∷ 1 ∷ []) $ use2 W (raw (Behind 𝓤 H A at-mem run .pre to) ⊛ ‵ (Held (α 1 κ′) h)) (held-asked 𝓤 H A at-mem run W (α 1 κ′) h q′ (typed 𝓤 H A W (α 1 κ′) h was .1 .1 .0 .fits)) $ split ! $
+        calls-at ! fm (Behind 𝓤 H A at-mem run) known-behind to (and-then ! (load ! (from ! (stop !)) (look ! 17 refl)) (and-then ! (load ! (from ! (stop !)) (look ! 15 refl)) (no-more !))) (λ u₃.
         use1 W (later (some (λ (n : ℕ). ((‵ (flft κ′ q′) ⊛ ‵ ftrue) ⊛ ‵ (usize .own n (u₃ ∷ []))) ⊛ raw (ensured 𝓤 H A behind.ended (behind.clauses 𝓤 H A at-mem run) (κ′, tt) (h .stream, (h .at, tt)) tt n)))) (id⊢ 𝓤 _) $ await ! tt $ pick ! (λ n.
         split ! $ move ! (1 ∷ []) $ use1 W (raw (fact 𝓤 (n ≡ place))) (behind-said 𝓤 H A at-mem run κ′ (h .stream) (h .at) n) $ heard ! (n ≡ place) (λ e₃. split ! $ move ! (1 ∷ []) $
         peeks ! usize (Is usize) (shows 𝓤 H A usize) n (u₃ ∷ []) (λ is₃. drop ! $

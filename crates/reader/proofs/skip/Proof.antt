@@ -26,10 +26,8 @@ use denote.RattleType.{owns}
 use denote.Laws.{Is, shows}
 use denote.Memory.{mem, cellAt}
 use denote.Plain.{uint-lawful}
-use denote.Builtin.{u8, usize}
+use denote.Builtin.{usize}
 use denote.Ref.{RefT, MutRef, now, ptr-vals, mut-tells}
-use denote.Signature.{Slot, plain, namedLft}
-use denote.Slice.{ShrSlice}
 use denote.Steps.{only, opens, closes, peeks, heard, nothing}
 use denote.Struct.Laws as LL
 use denote.Struct.Steps.{spelt}
@@ -39,10 +37,9 @@ use denote.Triple.Clauses.{ensured}
 use denote.Triple.Entry.{onEntry}
 use denote.Triple.Spec.{Meets, tripleOf}
 use denote.Triple.Table.{entered, cited}
-use denote.Triple.Walked.{says, Stays, stay-ref, walkOf, goes-ref, ends-at, walked, walk-meets}
+use denote.Triple.Walked.{says, walkOf, goes-ref, ends-at, walked, walk-meets}
 use Rattle.reader.specs.Taken.{behind as behindOf}
 use Rattle.reader.specs.declared.Reader.{Reader}
-use Rattle.reader.proofs.Reader as T
 use Rattle.reader.proofs.Reader.Laws as T′
 use Rattle.reader.proofs.behind as behind
 use Rattle.reader.proofs.behind.Symbol as behind-def
@@ -52,14 +49,7 @@ use Rattle.reader.proofs.skip.Key.{name as #reader·skip}
 use Rattle.reader.proofs.skip as skip
 use Rattle.reader.proofs.skip.Statement as stated
 use Rattle.reader.proofs.skip.Code as code
-use Rattle.reader.proofs.Held.{α, passed, D, L, Held, at-n, held-asked, again, typed, B₂, Behind, behind-said}
-
--- `Reader<'a>`, as the referent's place in the signature
-abbrev referent : Slot 2
-referent = plain (λ κs. T.the-row (namedLft 2 1 tt κs))
-
-abbrev stayed : Stays (skip.ended .signature .params) (skip.ended .kept)
-stayed = (stay-ref (0 ∷ []) tt referent, tt)
+use Rattle.reader.proofs.Held.{α, D, L, Held, at-n, to-plain, held-asked, again, typed, B₂, Behind, behind-said, referent, stayed-lent as stayed}
 
 module _ {M : Type 1} (𝓤 : URA M) (H : Heap 𝓤) (A : Atoms 𝓤) (W : Given 𝓤 H A) (at-mem : Memory → SProp 𝓤) (run : Routine → Fun 𝓤) (κ κ′ : Lft) (q q′ : Share) (bounds : AllOutlive 2 (skip.signature .outlives) (κ, (κ′, tt))) (b o : ℕ) (γ : GName) (h : Reader) where
   abbrev x : RefT Reader × Unit {0}
@@ -75,7 +65,7 @@ module _ {M : Type 1} (𝓤 : URA M) (H : Heap 𝓤) (A : Atoms 𝓤) (W : Given
   Post = walkOf 𝓤 H A skip.ended stayed (skip.clauses 𝓤 H A at-mem run) .post (((κ, (κ′, tt)), (q, (q′, tt)), bounds, x, at), tt)
 
   abbrev to : Behind 𝓤 H A at-mem run .Ghost
-  to = (((κ′, tt), (q′, tt), tt, (h .stream, (h .at, tt)), passed (h .stream) (h .at)), tt)
+  to = to-plain 𝓤 H A at-mem run κ′ (h .stream) (h .at) q′
 
   exits : (n : ℕ) → n ≡ place → ent 𝓤 (⋆ 𝓤 H A (‵ (fobs γ (B₂ κ′ .coded .code (at-n h n))) ∷ ‵ (fbor κ (Body (mem (B₂ κ′)) b o γ)) ∷ ‵ (flft κ q) ∷ (‵ (flft κ′ q′) ⊛ ‵ ftrue) ∷ [])) (Post vunit)
   exits n e =
@@ -98,7 +88,7 @@ module _ {M : Type 1} (𝓤 : URA M) (H : Heap 𝓤) (A : Atoms 𝓤) (W : Given
         -- [the struct's cell; what a Reader owns; the open borrow; obs; auth; 'a's token; …; _4; …; _3; …; _2; …; _1; …; room for _0; …]
         assigns ! (of-opd ! (load ! (from ! (hop ! (look ! 13 refl) (fld ! refl (stop !)))) (look-in ! 0 (sub ! 1 refl (whole !))))) (from ! (stop !)) (init ! 11 refl (tt, typed 𝓤 H A W (α 1 κ′) h was .1 .1 .0)) $
         assigns ! (of-opd ! (load ! (from ! (hop ! (look ! 13 refl) (fld ! refl (stop !)))) (look-in ! 0 (sub ! 0 refl (whole !))))) (from ! (stop !)) (init ! 7 refl (tt, typed 𝓤 H A W (α 1 κ′) h was .1 .0)) $
-        move ! (1 ∷ 5 ∷ []) $ use2 W (raw (Behind 𝓤 H A at-mem run .pre to) ⊛ ‵ (Held (α 1 κ′) h)) (held-asked 𝓤 H A W (α 1 κ′) h q′ _ (qed W ((‵ (flft κ′ q′) ⊛ ‵ ftrue) ∷ ‵ (owns (ShrSlice (named 0) κ′ u8 ∷ usize ∷ []) (h .stream, (h .at, tt)) (passed (h .stream) (h .at))) ∷ []) ∵ join ! $ frame ! $ done !) (typed 𝓤 H A W (α 1 κ′) h was .1 .1 .0 .fits)) $ split ! $
+        move ! (1 ∷ 5 ∷ []) $ use2 W (raw (Behind 𝓤 H A at-mem run .pre to) ⊛ ‵ (Held (α 1 κ′) h)) (held-asked 𝓤 H A at-mem run W (α 1 κ′) h q′ (typed 𝓤 H A W (α 1 κ′) h was .1 .1 .0 .fits)) $ split ! $
         -- [what `behind` asks; what a Reader owns; the struct's cell; the open borrow; obs; auth; …; _4; …; _3; …; _2; …; _1; …; room for _0; …]
         calls-at ! fm (Behind 𝓤 H A at-mem run) known to (and-then ! (load ! (from ! (stop !)) (look ! 7 refl)) (and-then ! (load ! (from ! (stop !)) (look ! 11 refl)) (no-more !))) (λ u.
         use1 W (later (some (λ (n : ℕ). ((‵ (flft κ′ q′) ⊛ ‵ ftrue) ⊛ ‵ (usize .own n (u ∷ []))) ⊛ raw (ensured 𝓤 H A behind.ended (behind.clauses 𝓤 H A at-mem run) (κ′, tt) (h .stream, (h .at, tt)) tt n)))) (id⊢ 𝓤 _) $ await ! tt $ pick ! (λ n.
