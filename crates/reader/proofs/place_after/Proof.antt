@@ -48,17 +48,15 @@ use Rattle.reader.proofs.Reader as T
 use Rattle.reader.proofs.Reader.Laws as T′
 use Rattle.reader.proofs.reader_at as reader-at
 use Rattle.reader.proofs.reader_at.Symbol as new-def
-use Rattle.reader.proofs.reader_at.Symbol.{name as #reader·reader-at}
 use Rattle.reader.proofs.reader_at.Met as new-thm
 use Rattle.reader.proofs.skip as skip
 use Rattle.reader.proofs.skip.Symbol as skip-def
-use Rattle.reader.proofs.skip.Symbol.{name as #reader·skip}
 use Rattle.reader.proofs.skip.Met as skip-thm
 use Rattle.reader.proofs.place_after.Key.{name as #reader·place-after}
 use Rattle.reader.proofs.place_after as place-after
 use Rattle.reader.proofs.place_after.Statement as stated
 use Rattle.reader.proofs.place_after.Code as code
-use Rattle.reader.proofs.Held.{α, αᵉ, v, passed, Own, B₁, New, to-plain, goes-plain, new-said, B₂, lent-to, tokens, lies-in, lies-out, Skip, to-lent, goes-lent, stayed-plain as stayed}
+use Rattle.reader.proofs.Held.{α, αᵉ, v, passed, Own, B₁, New, said, to-plain, goes-plain, B₂, lent-to, tokens, lies-in, lies-out, Skip, to-lent, goes-lent, stayed-plain as stayed}
 
 module _ {M : Type 1} (𝓤 : URA M) (H : Heap 𝓤) (A : Atoms 𝓤) (W : Given 𝓤 H A) (mem : Memory → SProp 𝓤) (run : Routine → Fun 𝓤) (κ : Lft) (q : Share) (s : RefT (List ℕ)) (n : ℕ) (ok : n < 2 ^ 64) where
   abbrev place : ℕ
@@ -73,7 +71,7 @@ module _ {M : Type 1} (𝓤 : URA M) (H : Heap 𝓤) (A : Atoms 𝓤) (W : Given
       suffices ! _ (ends-at 𝓤 H A place-after.ended stayed (place-after.clauses 𝓤 H A mem run) W (((κ, tt), (q, tt), tt, (s, (n, tt)), passed s n), tt) (vint w64 m) m (tt, (tt, tt)) (tt, (tt, tt))) $ says ! e $
       move ! (1 ∷ []) $ frame ! $ nothing ! $ owned ! usize (Is usize) (uint-makes 𝓤 H A W w64) n _ (refl, ok) $ fjoin ! $ move ! (2 ∷ 0 ∷ []) $ fjoin ! $ frame ! $ done !
 
-  module _ (C : Calls 𝓤 H) (Λ : Loops 𝓤 H) (fm : FmC 𝓤 H (W .laws) C) (known-new : Triple 𝓤 (C #reader·reader-at) (New 𝓤 H A mem run)) (known-skip : Triple 𝓤 (C #reader·skip) (Skip 𝓤 H A mem run)) where
+  module _ (C : Calls 𝓤 H) (Λ : Loops 𝓤 H) (fm : FmC 𝓤 H (W .laws) C) (known-new : Triple 𝓤 (C new-def.name) (New 𝓤 H A mem run)) (known-skip : Triple 𝓤 (C skip-def.name) (Skip 𝓤 H A mem run)) where
     walk : Is (ShrSlice (named 0) κ u8) s (v s ∷ []) → ent 𝓤 (onEntry 𝓤 H A place-after.signature (κ, tt) (q, tt) (s, (n, tt)) (passed s n)) (WpFn 𝓤 H C Λ code.function (v s ∷ vint w64 n ∷ []) Post)
     walk p₀ =
         qed W (raw (onEntry 𝓤 H A place-after.signature (κ, tt) (q, tt) (s, (n, tt)) (passed s n)) ∷ []) ∵ enter ! C Λ code.function (v s ∷ vint w64 n ∷ []) _ $
@@ -81,7 +79,7 @@ module _ {M : Type 1} (𝓤 : URA M) (H : Heap 𝓤) (A : Atoms 𝓤) (W : Given
         move ! (14 ∷ []) $ use1 W (raw (New 𝓤 H A mem run .pre (to-plain 𝓤 H A mem run κ s n q)) ⊛ ‵ (Own κ s)) (goes-plain 𝓤 H A mem run κ s n q W) $ split ! $
         calls-at ! fm (New 𝓤 H A mem run) known-new (to-plain 𝓤 H A mem run κ s n q) (and-then ! (load ! (from ! (stop !)) (look ! 12 refl)) (and-then ! (load ! (from ! (stop !)) (look ! 10 refl)) (no-more !))) (λ u.
         use1 W (later (some (λ (r : Reader). ((‵ (flft κ q) ⊛ ‵ ftrue) ⊛ ‵ (B₁ κ .own r (u ∷ []))) ⊛ raw (ensured 𝓤 H A reader-at.ended (reader-at.clauses 𝓤 H A mem run) (κ, tt) (s, (n, tt)) tt r)))) (id⊢ 𝓤 _) $ await ! tt $ pick ! (λ r.
-        split ! $ move ! (1 ∷ []) $ use1 W (raw (fact 𝓤 ((r .stream ≡ s) × (r .at ≡ n)))) (new-said 𝓤 H A mem run κ s n r) $ heard ! ((r .stream ≡ s) × (r .at ≡ n)) (λ e. split ! $ move ! (1 ∷ []) $
+        split ! $ move ! (1 ∷ []) $ use1 W (raw (fact 𝓤 ((r .stream ≡ s) × (r .at ≡ n)))) (said 𝓤 H A (lasts reader-at.ended (κ, tt) (s, (n, tt))) _) $ heard ! ((r .stream ≡ s) × (r .at ≡ n)) (λ e. split ! $ move ! (1 ∷ []) $
         -- [what the struct owns; the token; what s owns; _6; …; _5; …; _4; …; _3; …; _2; …; _1; …; room for _0; …]
         peeks ! (B₁ κ) (Is (B₁ κ)) (shows 𝓤 H A (B₁ κ)) r (u ∷ []) (λ is.
         land ! (from ! (stop !)) (init ! 7 refl (LL.lawful (T.the-type (αᵉ κ)) (T′.the-laws (αᵉ κ)) 𝓤 H A W .typed r _ is .0)) $
@@ -124,7 +122,7 @@ module _ {M : Type 1} (𝓤 : URA M) (H : Heap 𝓤) (A : Atoms 𝓤) (W : Given
         keep ! (1 ∷ 3 ∷ []) $ by ! (exits (z .0 .at) (LL.lawful (T.the-type (αᵉ κ)) (T′.the-laws (αᵉ κ)) 𝓤 H A W .typed (z .0) _ is₂ .0 .1 .1 .0 .fits) (e₂ .1 ∙ ap (λ (x : RefT (List ℕ)). behindOf (now x) (r .at)) (e .0) ∙ ap (behindOf (now s)) (e .1)))))))))))))))))))))))
 
 place-after-meets : {M : Type 1} (𝓤 : URA M) (H : Heap 𝓤) (A : Atoms 𝓤) (W : Given 𝓤 H A) (mem : Memory → SProp 𝓤) (run : Routine → Fun 𝓤) (𝓣 : Tables 𝓤 H)
-    → Triple 𝓤 (𝓣 .C #reader·reader-at) (New 𝓤 H A mem run) → Triple 𝓤 (𝓣 .C #reader·skip) (Skip 𝓤 H A mem run)
+    → Triple 𝓤 (𝓣 .C new-def.name) (New 𝓤 H A mem run) → Triple 𝓤 (𝓣 .C skip-def.name) (Skip 𝓤 H A mem run)
     → Meets 𝓤 H A place-after.signature (WpFn 𝓤 H (𝓣 .C) (𝓣 .Λ) code.function) (place-after.spec 𝓤 H A mem run)
 place-after-meets 𝓤 H A W mem run 𝓣 known-new known-skip = walk-meets 𝓤 H A place-after.ended stayed W (goes-none-slice 𝓤 H A W 1 (0 ∷ []) tt (plain (λ _. u8)) yes, (goes-none 𝓤 H A W 1 (λ _. usize) yes (λ κs x f. refl), tt)) (place-after.clauses 𝓤 H A mem run) (WpFn 𝓤 H (𝓣 .C) (𝓣 .Λ) code.function) (WpFn-mono 𝓤 H (W .laws) 𝓣 code.function)
     (walked 𝓤 H A place-after.ended stayed (place-after.clauses 𝓤 H A mem run) (WpFn 𝓤 H (𝓣 .C) (𝓣 .Λ) code.function) (λ κs. (slice-vals, (uint-vals w64, tt))) (λ κs. (shr-slice-tells (named 0) (κs .0) u8, (uint-tells w64, tt)))
@@ -136,5 +134,5 @@ place-after-spec 𝓤 H 𝓜 𝓖 𝓡 =
     entered 𝓤 H (tripleOf 𝓤 H (𝓖 .A) place-after.signature (place-after.spec 𝓤 H (𝓖 .A) (𝓜 .mem) (𝓡 .run)))
     (tables 𝓤 H 𝓜 𝓡 code.env .C) (tables 𝓤 H 𝓜 𝓡 code.env .Λ) #reader·place-after code.function (code.unfolded 𝓤 H 𝓜 𝓡)
     (place-after-meets 𝓤 H (𝓖 .A) (givenOf 𝓤 H 𝓜 𝓖) (𝓜 .mem) (𝓡 .run) (tablesOf 𝓤 H 𝓜 (tables 𝓤 H 𝓜 𝓡 code.env))
-    (cited 𝓤 H (New 𝓤 H (𝓖 .A) (𝓜 .mem) (𝓡 .run)) 𝓜 𝓡 code.env #reader·reader-at new-def.routine code.calls-reader·reader-at (new-thm.met 𝓤 H 𝓜 𝓖 𝓡))
-    (cited 𝓤 H (Skip 𝓤 H (𝓖 .A) (𝓜 .mem) (𝓡 .run)) 𝓜 𝓡 code.env #reader·skip skip-def.routine code.calls-reader·skip (skip-thm.met 𝓤 H 𝓜 𝓖 𝓡)))
+    (cited 𝓤 H (New 𝓤 H (𝓖 .A) (𝓜 .mem) (𝓡 .run)) 𝓜 𝓡 code.env new-def.name new-def.routine code.calls-reader·reader-at (new-thm.met 𝓤 H 𝓜 𝓖 𝓡))
+    (cited 𝓤 H (Skip 𝓤 H (𝓖 .A) (𝓜 .mem) (𝓡 .run)) 𝓜 𝓡 code.env skip-def.name skip-def.routine code.calls-reader·skip (skip-thm.met 𝓤 H 𝓜 𝓖 𝓡)))
