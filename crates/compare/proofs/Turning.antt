@@ -3,7 +3,7 @@ use mathlib.Core.Path.{_≡_, refl, sym, ap, _∙_}
 use mathlib.Core.Logic.{⊎-elim}
 use mathlib.Core.Bool.{Bool, true, false}
 use mathlib.Core.List.{List}
-use Prim.Native.Nat.{ℕ, _+_, _-_, _^_, _≤_, _<_}
+use Prim.Native.Nat.{ℕ, _+_, _-_, _≤_, _<_}
 use native.Mathlib.Omega.{arith}
 use lib.ListN.{length}
 use Rattle.words.specs.Words.{pick}
@@ -30,17 +30,12 @@ mark-le true = omega arith
 mark-le false = omega arith
 
 -- reading on leaves less, where it goes on
-fed-less : (w v : Window) (m : Met) → WindowSound (w .have) w → v .at ≡ 0 → v .base ≡ w .base + w .at → v .base + v .have < 2 ^ 64 → WindowGrown (w .have - w .at) v m → w .ended ≡ false → anotherTurn m ≡ true → leftOf v < leftOf w
-fed-less w v met.Read s a p l g e h =
-    let i = s .within in
-    ⊎-elim
-    (λ x. let j = x .0 in rw (e, x .1) (omega arith))
-    (λ x. let j = x .0 in rw (e, x .1) (omega arith))
-    g
-fed-less w v met.Stuck s a p l g e h = clash h refl
-fed-less w v (met.Row x y z) s a p l g e h = absurd g
-fed-less w v (met.Pair x) s a p l g e h = absurd g
-fed-less w v met.Over s a p l g e h = absurd g
+fed-less : {l l₁ : List ℕ} {w v : Window} (m : Met) → WindowSound (length l) w → Fed l w v m l₁ → w .ended ≡ false → anotherTurn m ≡ true → leftOf v < leftOf w
+fed-less met.Read s f e h = ⊎-elim (λ x. let j = x .0 in rw (e, x .1) (omega arith)) (λ x. let j = x .0 in rw (e, x .1) (omega arith)) (f .more)
+fed-less met.Stuck s f e h = clash h refl
+fed-less (met.Row x y z) s f e h = absurd (f .more)
+fed-less (met.Pair x) s f e h = absurd (f .more)
+fed-less met.Over s f e h = absurd (f .more)
 
 module _ (l r : List ℕ) {p : Pass} (y : BothSound (length l) (length r) p) (t : Turned) (l₁ r₁ : List ℕ) where
   goes-by : (st : Step) → Moves (p .walk) (waitingIn l (p .a)) (p .a .ended) (waitingIn r (p .b)) (p .b .ended) st → Comes l r p t l₁ r₁ st → LessLeft p (t .pass) (anotherTurn (t .met)) (length l) (length r)
@@ -57,20 +52,14 @@ module _ (l r : List ℕ) {p : Pass} (y : BothSound (length l) (length r) p) (t 
   goes-by (step.Pair differs v) k c = rw (c .0) (record { ready = record { first = y .first; second = y .second }; less = λ e. rw (k .0, k .1) (omega arith) })
   goes-by step.Over k c = rw (c .0) (record { ready = record { first = y .first; second = y .second }; less = λ e. clash e refl })
   goes-by step.WantsFirst k c =
-      let f = c .0 in
       record {
-        ready = record { first = f .sound; second = rw (c .1) (y .second) };
-        less = λ e.
-            let d = fed-less (p .a) (t .pass .a) (t .met) (record { within = y .first .within; buffered = omega arith; placed = y .first .placed }) (f .front) (f .place) (f .sound .placed) (f .more) k e in
-            rw (c .1, c .2) (omega arith);
+        ready = record { first = c .0 .sound; second = rw (c .1) (y .second) };
+        less = λ e. let d = fed-less (t .met) (y .first) (c .0) k e in rw (c .1, c .2) (omega arith);
       }
   goes-by step.WantsSecond k c =
-      let f = c .0 in
       record {
-        ready = record { first = rw (c .1) (y .first); second = f .sound };
-        less = λ e.
-            let d = fed-less (p .b) (t .pass .b) (t .met) (record { within = y .second .within; buffered = omega arith; placed = y .second .placed }) (f .front) (f .place) (f .sound .placed) (f .more) k e in
-            rw (c .1, c .2) (omega arith);
+        ready = record { first = rw (c .1) (y .first); second = c .0 .sound };
+        less = λ e. let d = fed-less (t .met) (y .second) (c .0) k e in rw (c .1, c .2) (omega arith);
       }
 
   pub comes-goes : Comes l r p t l₁ r₁ (nextStep l r p) → LessLeft p (t .pass) (anotherTurn (t .met)) (length l) (length r)

@@ -13,11 +13,7 @@ list-turn-spec =
     (λ c. search needs)  -- enum-told
     (λ c κs. search needs)  -- on-requires
     (λ c. search needs)  -- enum-known-m
-    -- pair-met-requires
-    (λ c κs.
-    let m = c .before .before .before .before .before in
-    let t = m .before .before .before .before .before .before in
-    t .before .before .before .before .before .before .before .before .before .before .before .pre .1)
+    (λ c κs. c .before .before .before .before .before .before .before .before .before .before .before .before .before .before .before .before .before .before .before .before .before .before .pre .1)  -- pair-met-requires
     (λ c. search needs)  -- same-length
     (λ c. search needs)  -- same-length-2
     (λ c. search needs)  -- same-length-3
@@ -41,9 +37,8 @@ list-turn-spec =
     (λ c. search needs)  -- same-length-7
     -- returns-2
     (λ c.
-    let m = c .before in
-    let t = m .before .before .before .before .before .before in
-    (pass-on (t .turn .ensures .1) (m .enum-told .given .1) refl (c .on .ensures .0) _, (same-ready (ap (λ s. s .pass) (c .on .ensures .1)) (t .before .before .before .before .before .before .before .before .before .before .before .pre .1), lists-met _ _ _ _ _ _ _ _ (t .turn .ensures .0) (m .enum-told .given .1) (c .on .ensures .1, c .on .ensures .2))))
+    let t = c .before .before .before .before .before .before .before in
+    (pass-on (t .turn .ensures .1) (c .before .enum-told .given .1) refl (c .on .ensures .0) _, (same-ready (ap (λ s. s .pass) (c .on .ensures .1)) (t .before .before .before .before .before .before .before .before .before .before .before .pre .1), lists-met _ _ _ _ _ _ _ _ (t .turn .ensures .0) (c .before .enum-told .given .1) (c .on .ensures .1, c .on .ensures .2))))
     (λ c. search needs)  -- same-length-8
     (λ c. search needs)  -- same-length-9
     -- returns-3
@@ -55,9 +50,8 @@ list-turn-spec =
     (λ c. search needs)  -- same-length-11
     -- returns-4
     (λ c.
-    let m = c .before in
-    let t = m .before .before .before .before .before .before in
-    (pass-on (t .turn .ensures .1) (m .enum-told2 .given .1) refl (c .on3 .ensures .0) _, (same-ready (ap (λ s. s .pass) (c .on3 .ensures .1)) (t .before .before .before .before .before .before .before .before .before .before .before .pre .1), lists-met _ _ _ _ _ _ _ _ (t .turn .ensures .0) (m .enum-told2 .given .1) (c .on3 .ensures .1))))
+    let t = c .before .before .before .before .before .before .before in
+    (pass-on (t .turn .ensures .1) (c .before .enum-told2 .given .1) refl (c .on3 .ensures .0) _, (same-ready (ap (λ s. s .pass) (c .on3 .ensures .1)) (t .before .before .before .before .before .before .before .before .before .before .before .pre .1), lists-met _ _ _ _ _ _ _ _ (t .turn .ensures .0) (c .before .enum-told2 .given .1) (c .on3 .ensures .1))))
     (λ c. search needs)  -- same-length-12
     (λ c. search needs)  -- same-length-13
     (λ c. search needs)  -- same-length-14
@@ -71,6 +65,5 @@ list-turn-spec =
     (λ c. search needs)  -- same-length-16
     -- returns-6
     (λ c.
-    let m = c .before in
-    let t = m .before .before .before .before .before .before in
-    (pass-halt _ (t .turn .ensures .1 .ready) (c .halted2 .ensures .0) (c .halted2 .ensures .2), (same-ready (ap (λ s. s .pass) (c .halted2 .ensures .1)) (t .before .before .before .before .before .before .before .before .before .before .before .pre .1), lists-met _ _ _ _ _ _ _ _ (t .turn .ensures .0) (m .enum-told4 .given .1) (c .halted2 .ensures .1)))))
+    let t = c .before .before .before .before .before .before .before in
+    (pass-halt _ (t .turn .ensures .1 .ready) (c .halted2 .ensures .0) (c .halted2 .ensures .2), (same-ready (ap (λ s. s .pass) (c .halted2 .ensures .1)) (t .before .before .before .before .before .before .before .before .before .before .before .pre .1), lists-met _ _ _ _ _ _ _ _ (t .turn .ensures .0) (c .before .enum-told4 .given .1) (c .halted2 .ensures .1)))))

@@ -38,27 +38,23 @@ show-turn-spec =
     (λ c. search needs)  -- same-length-5
     -- returns-3
     (λ c.
-    let m = c .before in
-    let t = m .before .before .before .before .before .before in
-    (pass-on (t .turn .ensures .1) (m .enum-told .given .1) refl (c .on .ensures .0) _, put-on _ (c .on .result) (c .on .ensures .1)))
+    let t = c .before .before .before .before .before .before .before in
+    (pass-on (t .turn .ensures .1) (c .before .enum-told .given .1) refl (c .on .ensures .0) _, put-on _ (c .on .result) (c .on .ensures .1)))
     (λ c. search needs)  -- same-length-6
     (λ c. search needs)  -- same-length-7
     -- returns-4
     (λ c.
-    let m = c .before in
-    let t = m .before .before .before .before .before .before in
-    (pass-on (t .turn .ensures .1) (m .enum-told2 .given .1) refl (c .on2 .ensures .0) _, put-on _ (c .on2 .result) (c .on2 .ensures .1)))
+    let t = c .before .before .before .before .before .before .before in
+    (pass-on (t .turn .ensures .1) (c .before .enum-told2 .given .1) refl (c .on2 .ensures .0) _, put-on _ (c .on2 .result) (c .on2 .ensures .1)))
     (λ c. search needs)  -- same-length-8
     (λ c. search needs)  -- same-length-9
     -- returns-5
     (λ c.
-    let m = c .before in
-    let t = m .before .before .before .before .before .before in
+    let t = c .before .before .before .before .before .before .before in
     (pass-halt _ (t .turn .ensures .1 .ready) (c .halted2 .ensures .0) (c .halted2 .ensures .1), put-stuck _ (c .halted2 .result) (c .halted2 .ensures .2)))
     (λ c. search needs)  -- same-length-10
     (λ c. search needs)  -- same-length-11
     -- returns-6
     (λ c.
-    let m = c .before in
-    let t = m .before .before .before .before .before .before in
+    let t = c .before .before .before .before .before .before .before in
     (pass-halt _ (t .turn .ensures .1 .ready) (c .halted3 .ensures .0) (c .halted3 .ensures .1), put-stuck _ (c .halted3 .result) (c .halted3 .ensures .2))))
