@@ -47,8 +47,11 @@ module _ {c : Check} (k : Checked c) {r : Check} where
       ))
       (lt-or-ge (2 ^ 64 - 1 - c .read) n)
 
-  pub reads-on : (l : List ℕ) → ReadOn l c r → Onward c r
+  reads-on : (l : List ℕ) → ReadOn l c r → Onward c r
   reads-on l x = ⊎-elim (λ e. stops true e) (λ y. ⊎-elim (λ e. stops false e) (λ v. part-came l (v .n) (v .some) (v .within) (v .is)) y) x
+
+  pub reads-checked : (l : List ℕ) → ReadOn l c r → Checked r
+  reads-checked l x = reads-on l x .0
 
 pub started-checked : {c : Check} → c ≡ started → Checked c
 unfolding passedBytes
@@ -66,5 +69,5 @@ read-some l c {l₀} k {n} g s e = let i : Reaches 0 (length l₀) (filled.To n)
 abbrev pub toRead : Check → ℕ
 toRead c = pick (c .more) (1 + (2 ^ 64 - c .read)) 0
 
-pub less-to-read : (c r : Check) → c .more ≡ true → (r .more ≡ true → (c .read < r .read) × (r .read < 2 ^ 64)) → toRead r < toRead c
-less-to-read c r m f = rw m (⊎-elim (λ q. let x = f q in rw q (omega arith)) (λ q. rw q (omega arith)) (flag (r .more)))
+pub less-to-read : {c : Check} → Checked c → {r : Check} (l : List ℕ) → ReadOn l c r → c .more ≡ true → toRead r < toRead c
+less-to-read k {r} l x m = rw m (⊎-elim (λ q. let y = reads-on k l x .1 q in rw q (omega arith)) (λ q. rw q (omega arith)) (flag (r .more)))
