@@ -20,7 +20,8 @@ use lib.Pow.{pow-pos}
 use borrow.Author.Tests.{le-leb, lt-leb, eq-eqb, ne-eqb, eqb-true, eqb-false}
 use Rattle.words.specs.Words.{every}
 use Rattle.words.proofs.Below.{every-at}
-use Rattle.words.proofs.Flags.{flag, and-no}
+use Rattle.words.proofs.Flags.{flag, and-no, no-yes}
+use denote.Floats.{passes, is-true}
 use Rattle.percentage.specs.Percent.{asSingle, percentOf, floatMeets, wholeMeets, PercentRanged}
 use Rattle.percentage.specs.Differences.{differ}
 use Rattle.percentage.proofs.Laws.{agreed, whole-is, div-at, mul-at, exact, single-value, values-le}
@@ -138,7 +139,7 @@ no-tie-agrees d l p r n =
     elim (decLe (p * l) (100 * d)) [
       | yes g ↦
           let y = p * 131072 / 100 + 1 in
-          truth (floatMeets d l p)
+          is-true (floatMeets d l p)
           (float-yes d l (r .some) (r .most) (r .part) p y (r .cent) (omega (arith, r .cent)) (omega arith)
           (at-most d l p y (r .most) (omega arith) (lt-of-le-ne g (λ e. n (sym e)))))
           ∙ sym (whole-is d l p ∙ le-leb (p * l) (100 * d) g)
@@ -146,19 +147,9 @@ no-tie-agrees d l p r n =
           let y = (p * 131072 - 1) / 100 in
           let h : 100 * d < p * l = lt-of-not-le g in
           let some : 0 < p = first-pos p l (lt-of-le-of-lt zero-le h) in
-          lie (floatMeets d l p)
-          (float-no d l (r .some) (r .most) (r .part) p y (r .cent) (omega arith)
-          (at-least d l p y (r .most) (omega arith) h))
+          no-yes (λ e. float-no d l (r .some) (r .most) (r .part) p y (r .cent) (omega arith) (at-least d l p y (r .most) (omega arith) h) (passes _ e))
           ∙ sym (whole-is d l p ∙ lt-leb (p * l) (100 * d) h)
     ]
-  where
-    truth : (b : Bool) → T b → b ≡ true
-    truth true t = refl
-    truth false t = absurd t
-
-    lie : (b : Bool) → (T b → ⊥) → b ≡ false
-    lie true n = absurd (n tt)
-    lie false n = refl
 
 -- ---- at a tie: the answer is that of P lines of 100, and ours is yes
 pub at-tie : (d l p : ℕ) → PercentRanged d l p → 100 * d ≡ p * l → floatMeets d l p ≡ floatMeets p 100 p
@@ -187,22 +178,9 @@ differ-is d l p r =
     ⊎-elim
     (λ h.
     let e : 100 * d ≡ p * l = eqb-true (100 * d) (p * l) h in
-    ap₂ (λ (a b : Bool). not (Bool·beq a b)) (at-tie d l p r e ∙ at-100 p (r .cent)) (whole-is d l p ∙ le-leb (p * l) (100 * d) (le-of-eq (sym e)))
-    ∙ doubled (fallsShort p)
-    ∙ ap (λ (a : Bool). a && fallsShort p) (sym h))
-    (λ h.
-    ap (λ (a : Bool). not (Bool·beq a (wholeMeets d l p))) (no-tie-agrees d l p r (eqb-false (100 * d) (p * l) h))
-    ∙ itself (wholeMeets d l p)
-    ∙ ap (λ (a : Bool). a && fallsShort p) (sym h))
+    rw (h, at-tie d l p r e ∙ at-100 p (r .cent), whole-is d l p ∙ le-leb (p * l) (100 * d) (le-of-eq (sym e))) (⊎-elim (λ s. rw s) (λ s. rw s) (flag (fallsShort p))))
+    (λ h. rw h (rw (no-tie-agrees d l p r (eqb-false (100 * d) (p * l) h)) (⊎-elim (λ s. rw s) (λ s. rw s) (flag (wholeMeets d l p)))))
     (flag (eqb (100 * d) (p * l)))
-  where
-    doubled : (b : Bool) → not (Bool·beq (not b) true) ≡ b
-    doubled true = refl
-    doubled false = refl
-
-    itself : (b : Bool) → not (Bool·beq b b) ≡ false
-    itself true = refl
-    itself false = refl
 
 -- ---- where the two answers differ, and where they do not
 pub differ-yes : (d l p : ℕ) → PercentRanged d l p → 100 * d ≡ p * l → fallsShort p ≡ true → differ d l p ≡ true
