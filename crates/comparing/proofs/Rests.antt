@@ -192,20 +192,6 @@ bytes-append (a ∷ x) [] u v e = absurd (omega arith)
 bytes-append (a ∷ x) (b ∷ y) u v e = rw (bytes-append x y u v (omega arith)) (sym (and-assoc (eqb a b) (sameBytes x y) (sameBytes u v)))
 
 module _ {b c : Bool} {s t : List ℕ} {m n : ℕ} (p : Coming b s m) (q : Coming c t n) where
-  r : ℕ
-  r = groupRest (begunAfter b m) (drop m s)
-
-  r′ : ℕ
-  r′ = groupRest (begunAfter c n) (drop n t)
-
-  split-same : m ≡ n → sameBytes (take (groupRest b s) s) (take (groupRest c t) t) ≡ (sameBytes (take m s) (take n t) && sameBytes (take r (drop m s)) (take r′ (drop n t)))
-  unfolding r r′
-  split-same e =
-      let i = length-take-le m s (p .fits) in
-      let j = length-take-le n t (q .fits) in
-      rw (p .size, q .size, take-add m (groupRest (begunAfter b m) (drop m s)) s, take-add n (groupRest (begunAfter c n) (drop n t)) t)
-      (bytes-append (take m s) (take n t) (take (groupRest (begunAfter b m) (drop m s)) (drop m s)) (take (groupRest (begunAfter c n) (drop n t)) (drop n t)) (omega arith))
-
   -- lists of the same bytes begin with the same kind, so their records are of the same length
   no-split : (m ≡ n → ⊥) → take (groupRest b s) s ≡ take (groupRest c t) t → ⊥
   unfolding recordPast recordEnd
@@ -235,12 +221,14 @@ module _ {b c : Bool} {s t : List ℕ} {m n : ℕ} (p : Coming b s m) (q : Comin
           both (sym (p .some (omega arith))) (sym (q .some (omega arith))) (ap lengthOf (kinds (omega arith)))
 
   pub same-split : sameBytes (take (groupRest b s) s) (take (groupRest c t) t) ≡ (sameBytes (take m s) (take n t) && sameBytes (take (groupRest (begunAfter b m) (drop m s)) (drop m s)) (take (groupRest (begunAfter c n) (drop n t)) (drop n t)))
-  unfolding r r′
   same-split =
       let i = length-take-le m s (p .fits) in
       let j = length-take-le n t (q .fits) in
       ⊎-elim
-      (λ e. split-same (eqb-true m n e))
+      (λ e.
+      let h = eqb-true m n e in
+      rw (p .size, q .size, take-add m (groupRest (begunAfter b m) (drop m s)) s, take-add n (groupRest (begunAfter c n) (drop n t)) t)
+      (bytes-append (take m s) (take n t) (take (groupRest (begunAfter b m) (drop m s)) (drop m s)) (take (groupRest (begunAfter c n) (drop n t)) (drop n t)) (omega arith)))
       (λ e.
       let h = eqb-false m n e in
       no-yes (λ z. no-split h (same-equal (take (groupRest b s) s) (take (groupRest c t) t) z)) ∙ rw (← (same-lengths (take m s) (take n t) (λ e. h (omega arith)))))

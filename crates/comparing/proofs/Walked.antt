@@ -5,6 +5,7 @@ use mathlib.Core.Bool.{Bool, true, false, not, _&&_, and-true, and-assoc}
 use mathlib.Core.List.{List, [], _∷_, _++_, append-nil, append-assoc}
 use Prim.Native.Nat.{ℕ, zero, suc, _+_, _-_, _%_, _^_, _≤_, _<_}
 use native.Mathlib.Omega.{arith}
+use native.Mathlib.Nat.{pos-of-ne-zero}
 use native.Mathlib.Numerals.{add-one}
 use borrow.Author.Tests.{eqb-true, eqb-false, eq-eqb, ne-eqb}
 use lib.ListN.{length, take, drop, length-append, length-drop}
@@ -23,10 +24,8 @@ use Rattle.comparing.specs.declared.Step.the-variants as step
 use Rattle.comparing.specs.Groups.{partTo, bytesIn, recordEnd, groupEnd, groups, groupSide}
 use Rattle.comparing.specs.Pairs.{sameBytes, samePair, differs, pairs, listed, differencesFromPair}
 use Rattle.comparing.specs.Steps.{side, walkBeginning, ahead, moved, sideBehind, onward, pairsDiffering, lowestOf, nextPair, pairOver, recordRow, stepShown, begunSide, stepped, Front, pairOf, Walked, at-start, by-row, by-same, by-differing, lowestIn, Listed}
-use Rattle.comparing.proofs.Sides.{placeFrom, place-next, place-grows, group-le, side-is, counted-out}
-use Rattle.comparing.proofs.Sides.{group-counted}
-use Rattle.comparing.proofs.Rests.{groupRest, begunAfter, Coming, coming, AheadShown, same-split, group-drop}
-use Rattle.comparing.proofs.Rests.{ahead-shown}
+use Rattle.comparing.proofs.Sides.{placeFrom, group-le, side-is, side-to, next-begins, counted-in, counted-over}
+use Rattle.comparing.proofs.Rests.{groupRest, begunAfter, Coming, coming, AheadShown, ahead-shown, same-split, group-drop}
 
 fresh-rest : (s : List ℕ) → groupEnd s 0 ≡ groupRest false s
 unfolding groupRest
@@ -53,13 +52,11 @@ module _ {A s : List ℕ} {n : ℕ} {d : Side} (i : SideAt A s n d) (fits : leng
 
   module _ {m : ℕ} (c : Coming (begunSide d) s m) where
     no-wrap : (d .passed + m) % 2 ^ 64 ≡ d .passed + m
-    no-wrap = let k = to-come in let f = c .fits in let w = i .within in omega arith
+    no-wrap = let k = to-come in omega arith
 
     side-moved : SideAt A (drop m s) n (moved d m)
     side-moved =
         let k = to-come in
-        let f = c .fits in
-        let w = i .within in
         let e : d .place + (d .passed + m) ≡ d .place + d .passed + m = omega arith in
         let z : d .passed + (m + groupRest (begunAfter (begunSide d) m) (drop m s)) ≡ d .passed + m + groupRest (begunAfter (begunSide d) m) (drop m s) = omega arith in
         record {
@@ -71,55 +68,35 @@ module _ {A s : List ℕ} {n : ℕ} {d : Side} (i : SideAt A s n d) (fits : leng
 
   module _ (z : groupRest (begunSide d) s ≡ 0) where
     side-whole : groupSide A n ≡ record { place = d .place; size = d .passed }
-    side-whole = let e : groupSide A n .size ≡ d .passed = let k = i .size in omega arith in rw (i .begins, ← e)
+    side-whole = let e : groupSide A n .size ≡ d .passed = omega arith in rw (i .begins, ← e)
 
     group-here : groupEnd A (d .place) ≡ d .place + d .passed
-    group-here =
-        let p : d .place ≡ placeFrom n A 0 = i .begins ∙ ap (λ x. x .place) (side-is A n) in
-        let e : groupSide A n .size ≡ groupEnd A (placeFrom n A 0) - placeFrom n A 0 = ap (λ x. x .size) (side-is A n) in
-        let g = group-le A (placeFrom n A 0) in
-        let k = i .size in
-        rw p (omega arith)
+    group-here = let e : groupSide A n .size ≡ groupEnd A (d .place) - d .place = ap (λ x. x .size) (side-to A n (i .begins)) in omega (arith, group-le A (d .place), i .size)
 
     side-behind : SideAt A s (n + 1) (sideBehind d)
     side-behind =
-        let w = i .within in
         let e : (d .place + d .passed) % 2 ^ 64 ≡ d .place + d .passed = omega arith in
-        let p : placeFrom n A 0 ≡ d .place = sym (i .begins ∙ ap (λ x. x .place) (side-is A n)) in
-        let q : placeFrom (n + 1) A 0 ≡ d .place + d .passed = rw (add-one n, place-next A n 0, p) group-here in
+        let p : d .place + d .passed ≡ groupSide A (n + 1) .place = sym group-here ∙ next-begins A n (i .begins) in
         let y : d .place + d .passed + 0 ≡ d .place + d .passed = omega arith in
-        let g = group-drop A (d .place + d .passed) w in
+        let g = group-drop A (d .place + d .passed) (i .within) in
         let u : groupEnd A (d .place + d .passed) - (d .place + d .passed) ≡ 0 + groupEnd (drop (d .place + d .passed) A) 0 = omega arith in
         record {
-          begins = rw (e, side-is A (n + 1), q);
-          size = rw (side-is A (n + 1), q) (u ∙ ap (λ x. 0 + x) (ap (λ x. groupEnd x 0) (i .here) ∙ fresh-rest s));
+          begins = e ∙ p;
+          size = rw (side-to A (n + 1) p) (u ∙ ap (λ x. 0 + x) (ap (λ x. groupEnd x 0) (i .here) ∙ fresh-rest s));
           here = rw (e, y) (i .here);
-          within = rw (e, y) w;
+          within = rw (e, y) (i .within);
         }
 
     -- where some of it is passed, the log has a group of this number
-    module _ (h : d .passed ≡ 0 → ⊥) where
-      place-inside : placeFrom n A 0 < length A
-      place-inside =
-          let p : placeFrom n A 0 ≡ d .place = sym (i .begins ∙ ap (λ x. x .place) (side-is A n)) in
-          let w = i .within in
-          rw p (some (d .passed) h w)
-        where
-          some : (x : ℕ) → (x ≡ 0 → ⊥) → d .place + x ≤ length A → d .place < length A
-          some zero f w = absurd (f refl)
-          some (suc x) f w = omega arith
-
-      group-there : (n < length (groups A)) × (n < length A)
-      group-there = (group-counted A n place-inside, omega (arith, place-grows A n 0 place-inside, place-inside))
+    group-there : (d .passed ≡ 0 → ⊥) → (n < length (groups A)) × (n < length A)
+    group-there h = let k = pos-of-ne-zero h in counted-in A n (i .begins) (omega arith)
 
   -- where nothing of it is passed and nothing comes, the log is over
   over-here : d .passed ≡ 0 → Coming (begunSide d) s 0 → length (groups A) ≤ n
   over-here e c =
-      let z : begunSide d ≡ false = rw (eq-eqb (d .passed) 0 e) in
-      let l = c .none refl .1 z in
+      let l = c .none refl .1 (rw (eq-eqb (d .passed) 0 e)) in
       let k = to-come in
-      let p : placeFrom n A 0 ≡ d .place = sym (i .begins ∙ ap (λ x. x .place) (side-is A n)) in
-      counted-out A n (omega arith)
+      counted-over A n (i .begins) (omega arith)
 
 begin-side : (A : List ℕ) → SideAt A A 0 (side 0 0)
 unfolding placeFrom
@@ -137,7 +114,6 @@ begin-side A =
 
 fresh-bytes : {A s : List ℕ} {n p : ℕ} → SideAt A s n (side p 0) → bytesIn A (groupSide A n) ≡ take (groupRest false s) s
 fresh-bytes {A} {s} {n} {p} i =
-    let k : groupSide A n .size ≡ 0 + groupRest false s = i .size in
     let e : groupSide A n .size ≡ groupRest false s = omega arith in
     let z : p + 0 ≡ p = omega arith in
     let h : drop p A ≡ s = rw z at (i .here) in
@@ -270,7 +246,6 @@ module _ {A B s t : List ℕ} {w : Walk} {ds : List Compared} (o : On A B s t w 
       let r = eqb-true (w .second .passed) 0 (and-2 (eqb (w .first .passed) 0) (eqb (w .second .passed) 0) q) in
       let g = over-here (o .first) fa p c in
       let h = over-here (o .second) fb r d in
-      let b = o .bound in
       let e : differencesFromPair A B 0 ≡ ds = o .lists ∙ rw (lists-over A B (w .number) (omega arith)) (append-nil ds) in
       record { all = sym e; number = omega arith; differing = rw e (o .count); lowest = rw e (o .lowest) }
 
