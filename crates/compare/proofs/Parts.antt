@@ -35,7 +35,6 @@ module _ {c : Check} (k : Checked c) {r : Check} where
       (λ z.
       let x = length-append (k .bytes) (take n l) in
       let v = length-take-le n l h in
-      let w = k .read in
       let e′ : r ≡ passedOf (passedBytes (c .checking) (take n l)) (c .read + n) = rw (le-ltb (2 ^ 64 - 1 - c .read) n z) at e in
       rw e′ (
         record {
@@ -63,7 +62,7 @@ pub read-none : (l : List ℕ) (c : Check) {r : Check} → r ≡ overOf c false 
 read-none l c e = inr (inl e)
 
 pub read-some : (l : List ℕ) (c : Check) {l₀ : List ℕ} {f : Filled} → Read l₀ 0 f l → {n : ℕ} → f ≡ filled.To n → length l₀ ≡ length l → {r : Check} → r ≡ cameOf l n c → ReadOn l c r
-read-some l c {l₀} k {n} g s e = let i : Reaches 0 (length l₀) (filled.To n) = rw g at (k .reaches) in let j = i .1 in inr (inr (record { n = n; some = i .0; within = omega arith; is = e }))
+read-some l c {l₀} k {n} g s e = let i : Reaches 0 (length l₀) (filled.To n) = rw g at (k .reaches) in inr (inr (record { n = n; some = i .0; within = omega arith; is = e }))
 
 -- what is left to read, in turns
 abbrev pub toRead : Check → ℕ

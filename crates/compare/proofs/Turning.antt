@@ -31,7 +31,7 @@ mark-le false = omega arith
 
 -- reading on leaves less, where it goes on
 fed-less : {l l₁ : List ℕ} {w v : Window} (m : Met) → WindowSound (length l) w → Fed l w v m l₁ → w .ended ≡ false → anotherTurn m ≡ true → leftOf v < leftOf w
-fed-less met.Read s f e h = ⊎-elim (λ x. let j = x .0 in rw (e, x .1) (omega arith)) (λ x. let j = x .0 in rw (e, x .1) (omega arith)) (f .more)
+fed-less met.Read s f e h = ⊎-elim (λ x. rw (e, x .1) (omega arith)) (λ x. rw (e, x .1) (omega arith)) (f .more)
 fed-less met.Stuck s f e h = clash h refl
 fed-less (met.Row x y z) s f e h = absurd (f .more)
 fed-less (met.Pair x) s f e h = absurd (f .more)
@@ -43,7 +43,6 @@ module _ (l r : List ℕ) {p : Pass} (y : BothSound (length l) (length r) p) (t 
   goes-by (step.Row m n same v) k c =
       let i = moved-left l (p .a) (y .first) (k .0) in
       let j = moved-left r (p .b) (y .second) (k .1) in
-      let h = k .2 in
       let u = mark-le (untouched v) in
       rw (c .0) (record {
         ready = record { first = moved-sound l (p .a) (y .first) (k .0); second = moved-sound r (p .b) (y .second) (k .1) };

@@ -205,8 +205,6 @@ module _ {b c : Bool} {s t : List ℕ} {m n : ℕ} (p : Coming b s m) (q : Comin
 
       both : recordPast s 0 ≡ m → recordPast t 0 ≡ n → lengthOf (getD s 0 0) ≡ lengthOf (getD t 0 0) → ⊥
       both i j k =
-          let x = p .size in
-          let y = q .size in
           let u = rest-within s b in
           let v = rest-within t c in
           let l = lengths in
@@ -217,7 +215,6 @@ module _ {b c : Bool} {s t : List ℕ} {m n : ℕ} (p : Coming b s m) (q : Comin
       by-zero zero f j g = let x = p .none f in let l = lengths in let y = q .size in h (omega arith)
       by-zero (suc i) f zero g = let x = q .none g in let l = lengths in let y = p .size in h (omega arith)
       by-zero (suc i) f (suc j) g =
-          let x = p .size in
           both (sym (p .some (omega arith))) (sym (q .some (omega arith))) (ap lengthOf (kinds (omega arith)))
 
   pub same-split : sameBytes (take (groupRest b s) s) (take (groupRest c t) t) ≡ (sameBytes (take m s) (take n t) && sameBytes (take (groupRest (begunAfter b m) (drop m s)) (drop m s)) (take (groupRest (begunAfter c n) (drop n t)) (drop n t)))
