@@ -64,36 +64,34 @@ module _ (l r : List ℕ) {p : Pass} (y : BothSound (length l) (length r) p) (t 
   pub comes-goes : Comes l r p t l₁ r₁ (nextStep l r p) → LessLeft p (t .pass) (anotherTurn (t .met)) (length l) (length r)
   comes-goes c = goes-by (nextStep l r p) (moves (p .walk) (waitingIn l (p .a)) (p .a .ended) (waitingIn r (p .b)) (p .b .ended)) c
 
+  abbrev pub TurnTaken : Type 0
+  TurnTaken = Comes l r p t l₁ r₁ (nextStep l r p) × LessLeft p (t .pass) (anotherTurn (t .met)) (length l) (length r)
+
   -- the step that the code took, on the bytes that it saw, is the next step
   module _ {x z : List ℕ} (i : x ≡ waitingIn l (p .a)) (j : z ≡ waitingIn r (p .b)) {st : Step} (k : st ≡ stepped (p .walk) x (p .a .ended) z (p .b .ended)) where
-    by-step : {s : Step} → st ≡ s → Comes l r p t l₁ r₁ s → Comes l r p t l₁ r₁ (nextStep l r p) × LessLeft p (t .pass) (anotherTurn (t .met)) (length l) (length r)
+    by-step : {s : Step} → st ≡ s → Comes l r p t l₁ r₁ s → TurnTaken
     by-step {s} e c =
         let q : s ≡ nextStep l r p = sym e ∙ k ∙ rw (i, j) in
         let d : Comes l r p t l₁ r₁ (nextStep l r p) = rw q at c in
         (d, comes-goes d)
 
-    pub turn-row : {m n : ℕ} {same : Bool} {v : Walk} → st ≡ step.Row m n same v → {u w : Window} → u ≡ movedBy (p .a) m → w ≡ movedBy (p .b) n → t ≡ passTurned u w v (met.Row m n same) → l₁ ≡ l → r₁ ≡ r
-        → Comes l r p t l₁ r₁ (nextStep l r p) × LessLeft p (t .pass) (anotherTurn (t .met)) (length l) (length r)
+    pub turn-row : {m n : ℕ} {same : Bool} {v : Walk} → st ≡ step.Row m n same v → {u w : Window} → u ≡ movedBy (p .a) m → w ≡ movedBy (p .b) n → t ≡ passTurned u w v (met.Row m n same) → l₁ ≡ l → r₁ ≡ r → TurnTaken
     unfolding Comes
     turn-row e f g h a b = by-step e (h ∙ rw (f, g), a, b)
 
-    pub turn-pair : {d : Bool} {v : Walk} → st ≡ step.Pair d v → t ≡ passTurned (p .a) (p .b) v (met.Pair d) → l₁ ≡ l → r₁ ≡ r
-        → Comes l r p t l₁ r₁ (nextStep l r p) × LessLeft p (t .pass) (anotherTurn (t .met)) (length l) (length r)
+    pub turn-pair : {d : Bool} {v : Walk} → st ≡ step.Pair d v → t ≡ passTurned (p .a) (p .b) v (met.Pair d) → l₁ ≡ l → r₁ ≡ r → TurnTaken
     unfolding Comes
     turn-pair e h a b = by-step e (h, a, b)
 
-    pub turn-over : st ≡ step.Over → t ≡ passTurned (p .a) (p .b) (p .walk) met.Over → l₁ ≡ l → r₁ ≡ r
-        → Comes l r p t l₁ r₁ (nextStep l r p) × LessLeft p (t .pass) (anotherTurn (t .met)) (length l) (length r)
+    pub turn-over : st ≡ step.Over → t ≡ passTurned (p .a) (p .b) (p .walk) met.Over → l₁ ≡ l → r₁ ≡ r → TurnTaken
     unfolding Comes
     turn-over e h a b = by-step e (h, a, b)
 
-    pub turn-first : st ≡ step.WantsFirst → {v : Window} {m : Met} → Fed l (p .a) v m l₁ → t ≡ passTurned v (p .b) (p .walk) m → r₁ ≡ r
-        → Comes l r p t l₁ r₁ (nextStep l r p) × LessLeft p (t .pass) (anotherTurn (t .met)) (length l) (length r)
+    pub turn-first : st ≡ step.WantsFirst → {v : Window} {m : Met} → Fed l (p .a) v m l₁ → t ≡ passTurned v (p .b) (p .walk) m → r₁ ≡ r → TurnTaken
     unfolding Comes
     turn-first e f h b = by-step e (rw h (f, refl, refl, b))
 
-    pub turn-second : st ≡ step.WantsSecond → {v : Window} {m : Met} → Fed r (p .b) v m r₁ → t ≡ passTurned (p .a) v (p .walk) m → l₁ ≡ l
-        → Comes l r p t l₁ r₁ (nextStep l r p) × LessLeft p (t .pass) (anotherTurn (t .met)) (length l) (length r)
+    pub turn-second : st ≡ step.WantsSecond → {v : Window} {m : Met} → Fed r (p .b) v m r₁ → t ≡ passTurned (p .a) v (p .walk) m → l₁ ≡ l → TurnTaken
     unfolding Comes
     turn-second e f h a = by-step e (rw h (f, refl, refl, a))
 
@@ -118,7 +116,7 @@ pass-on g f h e more = rw e (record { ready = g .ready; less = λ a. g .less (ap
 pub pass-halt : (p : Pass) {q : Pass} {x y : ℕ} → BothSound x y q → {u : Pass} → u ≡ q → {more : Bool} → more ≡ false → LessLeft p u more x y
 pass-halt p r e h = rw e (record { ready = r; less = λ a. clash a h })
 
-pub same-ready : {p q : Pass} {x y : ℕ} → p ≡ q → BothSound x y q → BothSound x y p
+pub same-ready : {s u : Shown} {x y : ℕ} → s ≡ u → BothSound x y (u .pass) → BothSound x y (s .pass)
 same-ready e r = rw e r
 
 -- ---- which turns put lines

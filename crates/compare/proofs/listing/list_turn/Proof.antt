@@ -1,5 +1,5 @@
 -- `compare::listing::list_turn` meets its contract.
-use mathlib.Core.Path.{refl, ap, _∙_}
+use mathlib.Core.Path.{refl}
 use borrow.Author.Needs.{needs}
 use Rattle.compare.proofs.Turning.{pass-on, pass-halt, same-ready, lists-met, lists-pair, lists-same}
 use Rattle.compare.proofs.listing.list_turn.Statement.{statement}
@@ -38,20 +38,20 @@ list-turn-spec =
     -- returns-2
     (λ c.
     let t = c .before .before .before .before .before .before .before in
-    (pass-on (t .turn .ensures .1) (c .before .enum-told .given .1) refl (c .on .ensures .0) _, (same-ready (ap (λ s. s .pass) (c .on .ensures .1)) (t .before .before .before .before .before .before .before .before .before .before .before .pre .1), lists-met _ _ _ _ _ _ _ _ (t .turn .ensures .0) (c .before .enum-told .given .1) (c .on .ensures .1, c .on .ensures .2))))
+    (pass-on (t .turn .ensures .1) (c .before .enum-told .given .1) refl (c .on .ensures .0) _, (same-ready (c .on .ensures .1) (t .before .before .before .before .before .before .before .before .before .before .before .pre .1), lists-met _ _ _ _ _ _ _ _ (t .turn .ensures .0) (c .before .enum-told .given .1) (c .on .ensures .1, c .on .ensures .2))))
     (λ c. search needs)  -- same-length-8
     (λ c. search needs)  -- same-length-9
     -- returns-3
     (λ c.
     let m = c .before .before .before in
     let t = m .before .before .before .before .before .before in
-    (pass-on (t .turn .ensures .1) (m .m .given .1) refl (c .on2 .ensures .0) _, (same-ready (ap (λ s. s .pass) (c .on2 .ensures .1)) (t .before .before .before .before .before .before .before .before .before .before .before .pre .1), lists-same _ _ _ _ _ _ _ _ (t .turn .ensures .0) (m .m .given .1) (c .before .if1 .left) (c .on2 .ensures .1) (c .on2 .ensures .2))))
+    (pass-on (t .turn .ensures .1) (m .m .given .1) refl (c .on2 .ensures .0) _, (same-ready (c .on2 .ensures .1) (t .before .before .before .before .before .before .before .before .before .before .before .pre .1), lists-same _ _ _ _ _ _ _ _ (t .turn .ensures .0) (m .m .given .1) (c .before .if1 .left) (c .on2 .ensures .1) (c .on2 .ensures .2))))
     (λ c. search needs)  -- same-length-10
     (λ c. search needs)  -- same-length-11
     -- returns-4
     (λ c.
     let t = c .before .before .before .before .before .before .before in
-    (pass-on (t .turn .ensures .1) (c .before .enum-told2 .given .1) refl (c .on3 .ensures .0) _, (same-ready (ap (λ s. s .pass) (c .on3 .ensures .1)) (t .before .before .before .before .before .before .before .before .before .before .before .pre .1), lists-met _ _ _ _ _ _ _ _ (t .turn .ensures .0) (c .before .enum-told2 .given .1) (c .on3 .ensures .1))))
+    (pass-on (t .turn .ensures .1) (c .before .enum-told2 .given .1) refl (c .on3 .ensures .0) _, (same-ready (c .on3 .ensures .1) (t .before .before .before .before .before .before .before .before .before .before .before .pre .1), lists-met _ _ _ _ _ _ _ _ (t .turn .ensures .0) (c .before .enum-told2 .given .1) (c .on3 .ensures .1))))
     (λ c. search needs)  -- same-length-12
     (λ c. search needs)  -- same-length-13
     (λ c. search needs)  -- same-length-14
@@ -60,10 +60,10 @@ list-turn-spec =
     let f = c .before .before .before in
     let m = f .before .before in
     let t = m .before .before .before .before .before .before in
-    (pass-halt _ (t .turn .ensures .1 .ready) (c .halted .ensures .0) (c .halted .ensures .2), (same-ready (ap (λ s. s .pass) (c .halted .ensures .1) ∙ f .finish .ensures) (t .before .before .before .before .before .before .before .before .before .before .before .pre .1), lists-met _ _ _ _ _ _ _ _ (t .turn .ensures .0) (m .enum-told3 .given .1) (c .halted .ensures .2))))
+    (pass-halt _ (t .turn .ensures .1 .ready) (c .halted .ensures .0) (c .halted .ensures .2), (same-ready (c .halted .ensures .1) (rw (f .finish .ensures) (t .before .before .before .before .before .before .before .before .before .before .before .pre .1)), lists-met _ _ _ _ _ _ _ _ (t .turn .ensures .0) (m .enum-told3 .given .1) (c .halted .ensures .2))))
     (λ c. search needs)  -- same-length-15
     (λ c. search needs)  -- same-length-16
     -- returns-6
     (λ c.
     let t = c .before .before .before .before .before .before .before in
-    (pass-halt _ (t .turn .ensures .1 .ready) (c .halted2 .ensures .0) (c .halted2 .ensures .2), (same-ready (ap (λ s. s .pass) (c .halted2 .ensures .1)) (t .before .before .before .before .before .before .before .before .before .before .before .pre .1), lists-met _ _ _ _ _ _ _ _ (t .turn .ensures .0) (c .before .enum-told4 .given .1) (c .halted2 .ensures .1)))))
+    (pass-halt _ (t .turn .ensures .1 .ready) (c .halted2 .ensures .0) (c .halted2 .ensures .2), (same-ready (c .halted2 .ensures .1) (t .before .before .before .before .before .before .before .before .before .before .before .pre .1), lists-met _ _ _ _ _ _ _ _ (t .turn .ensures .0) (c .before .enum-told4 .given .1) (c .halted2 .ensures .1)))))
