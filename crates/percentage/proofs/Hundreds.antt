@@ -11,7 +11,6 @@ use lib.ListN.{length}
 use borrow.Author.Tests.{eqb-true}
 use Rattle.words.proofs.Flags.{or-cases}
 use Rattle.percentage.specs.declared.Difference.{Difference}
-use Rattle.percentage.specs.Percent.{PercentRanged}
 use Rattle.percentage.specs.Differences.{range, triple, percentRow, percentRows, tables, differ, keepDiffering, differences, hundreds, flat}
 use Rattle.percentage.proofs.Ties.{fallsShort, differ-yes, differ-no}
 use Rattle.percentage.proofs.Legal.{tied}
@@ -34,23 +33,20 @@ unfolding keepDiffering
 row-end l d = ap keepDiffering (row-none l d 101 (omega arith))
 
 module _ (l d : ℕ) (L : 1 ≤ l) (M : l ≤ 1024) (D : d ≤ l) where
-  here : (p : ℕ) → p ≤ 100 → PercentRanged d l p
-  here p P = record { some = L; most = M; part = D; cent = P }
-
   row-quiet : ((p : ℕ) → fallsShort p ≡ true → 100 * d ≡ p * l → ⊥) → keepDiffering (percentRow l d 0) ≡ []
-  row-quiet n = skip (λ p. keepDiffering (percentRow l d p)) 0 101 (omega arith) (λ p u v. row-step l d p (omega arith) (differ-no d l p (here p (omega arith)) (n p))) ∙ row-end l d
+  row-quiet n = skip (λ p. keepDiffering (percentRow l d p)) 0 101 (omega arith) (λ p u v. row-step l d p (omega arith) (differ-no d l p (omega arith) (n p))) ∙ row-end l d
 
   row-one : (p : ℕ) → p ≤ 100 → fallsShort p ≡ true → 100 * d ≡ p * l → keepDiffering (percentRow l d 0) ≡ triple l d p ∷ []
   row-one p P s e =
       skip (λ q. keepDiffering (percentRow l d q)) 0 p zero-le (λ q u v. row-step l d q (omega arith) (other q (omega arith) (omega arith)))
       ∙ ap keepDiffering (row-cons l d p P)
-      ∙ keep-yes l d p (percentRow l d (p + 1)) (differ-yes d l p (here p P) e s)
+      ∙ keep-yes l d p (percentRow l d (p + 1)) (differ-yes d l p (omega arith) e s)
       ∙ ap (λ (ts : List Difference). triple l d p ∷ ts)
       (skip (λ q. keepDiffering (percentRow l d q)) (p + 1) 101 (omega arith) (λ q u v. row-step l d q (omega arith) (other q (omega arith) (omega arith)))
       ∙ row-end l d)
     where
       other : (q : ℕ) → q ≤ 100 → (q ≡ p → ⊥) → differ d l q ≡ false
-      other q Q n = differ-no d l q (here q Q) (λ t g. n (eq-of-mul-eq-mul-right l L q p (sym g ∙ e)))
+      other q Q n = differ-no d l q (omega arith) (λ t g. n (eq-of-mul-eq-mul-right l L q p (sym g ∙ e)))
 
 -- ---- a table: one number of lines
 rows-step : (l d : ℕ) → d ≤ l → keepDiffering (percentRows l d) ≡ keepDiffering (percentRow l d 0) ++ keepDiffering (percentRows l (d + 1))

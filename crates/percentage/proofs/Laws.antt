@@ -5,10 +5,11 @@ use mathlib.Core.Bool.{Bool, true, false, _&&_, _||_, cond, Bool·beq}
 use mathlib.Core.Logic.{⊎-elim}
 use lib.IntN.{ℤ}
 use Rattle.words.proofs.Flags.{flag, and-1, and-2, iff}
+use Rattle.words.proofs.Below.{lt-or-ge}
 use Prim.Native.Nat.{ℕ, _+_, _-_, _*_, _^_, _≤_, _<_}
-use native.Mathlib.Nat.{le-trans, le-of-eq, lt-of-lt-of-le, lt-of-le-of-lt, not-le-of-lt, mul-one, one-mul, mul-comm, mul-assoc, mul-left-comm, mul-pos, mul-mul-mul-comm}
+use native.Mathlib.Nat.{le-trans, lt-of-lt-of-le, lt-of-le-of-lt, not-le-of-lt, mul-one, one-mul, mul-comm, mul-assoc, mul-left-comm, mul-pos, mul-mul-mul-comm}
 use native.Mathlib.Omega.{arith}
-use lib.Dec.{T, leb, ltb, eqb, leb→le, ltb→lt, eqb→eq, lit<, lit≤}
+use lib.Dec.{T, leb, ltb, eqb, leb→le, lit<, lit≤}
 use native.Mathlib.Decide.{decLe}
 use lib.Pow.{pow-add, pow-pos, pow-mono, pow-lt, shl-lt}
 use lib.Ieee.{Float, nan, inf, fin, Format, binary32, up, down, round, div, mul, le, ofInt}
@@ -18,7 +19,7 @@ use lib.Ieee.Exact.{HasValue, round-exact}
 use lib.Ieee.Order.{transfer, le-of-values}
 use lib.Ieee.Scale.{round-same}
 use lib.Ieee.Positive.{first-pos}
-use borrow.Author.Tests.{ne-eqb, le-leb, leb-true}
+use borrow.Author.Tests.{ne-eqb, le-ltb, le-leb, leb-true}
 use denote.Floats.{passes, is-true}
 use Rattle.model.specs.Numbers.{refusalNumber}
 use Rattle.model.specs.Range.{linesOf}
@@ -83,12 +84,7 @@ mul-at f x y a c b d C D hx hy =
     (mul-mul-mul-comm (m * up e) (n * up g) c d ∙ ap (λ (z : ℕ). z * (n * up g * d)) h ∙ ap (λ (z : ℕ). a * down e * z) k ∙ mul-mul-mul-comm a (down e) b (down g)))
 
 le-level : (a b : ℕ) → T (ltb a b || (eqb a b && true)) → a ≤ b
-le-level a b t = go (ltb a b) (eqb a b) (ltb→lt a b) (eqb→eq a b) t
-  where
-    go : (p q : Bool) → (T p → a < b) → (T q → a ≡ b) → T (p || (q && true)) → a ≤ b
-    go true q f g t = let h = f tt in omega arith
-    go false true f g t = le-of-eq (g tt)
-    go false false f g t = absurd t
+le-level a b t = ⊎-elim (λ h. absurd (rw (le-ltb a b (omega arith), ne-eqb a b (λ e. omega arith)) at t)) (λ h. h) (lt-or-ge b a)
 
 pub values-le : (x y : Float) (a c b d : ℕ) → HasValue x false a c → HasValue y false b d → T (le x y) → a * d ≤ b * c
 unfolding le

@@ -5,7 +5,7 @@ use mathlib.Core.Path.{_≡_, refl, sym, ap, ap₂, _∙_, subst}
 use mathlib.Core.Bool.{Bool, true, false, not, _&&_, _||_, Bool·beq}
 use mathlib.Core.Logic.{⊎-elim}
 use Prim.Native.Nat.{ℕ, zero, suc, _+_, _-_, _*_, _/_, _^_, _≤_, _<_, zero-le}
-use native.Mathlib.Nat.{le-trans, le-of-eq, not-le-of-lt, lt-of-not-le, lt-of-le-of-lt, add-mul, mul-one, one-mul, mul-comm, mul-right-comm, mul-le-mul-right}
+use native.Mathlib.Nat.{le-trans, le-of-eq, not-le-of-lt, lt-of-not-le, lt-of-le-of-lt, mul-one, one-mul, mul-comm, mul-le-mul-right}
 use native.Mathlib.Omega.{arith}
 use lib.Dec.{T, ltb, eqb, lit<}
 use lib.Ieee.{Float, nan, inf, fin, Format, binary32, low, emax, prec, up, down, odd, units, round, div, mul, le, ofInt}
@@ -103,7 +103,7 @@ module _ (d l : ℕ) (L : 0 < l) (M : l ≤ 1024) (D : d ≤ l) where
       let up-to : a * 2 ^ 17 ≤ y * c =
       values-le (round binary32 false d l) (round binary32 false y (2 ^ 17)) a c y (2 ^ 17) (quotient .value) (exact y 17 (omega arith) (omega arith))
       (round-mono binary32 d l y (2 ^ 17) L (pow-pos 17) k) in
-      let all : a * 100 * 2 ^ 17 ≤ y * 100 * c = le-trans (le-of-eq (mul-right-comm a 100 (2 ^ 17))) (le-trans (mul-le-mul-right 100 up-to) (le-of-eq (mul-right-comm y c 100))) in
+      let all : a * 100 * 2 ^ 17 ≤ y * 100 * c = omega arith in
       let under : T (le (percentOf d l) (round binary32 false (y * 100) (2 ^ 17))) =
       subst (λ (x : Float). T (le x (round binary32 false (y * 100) (2 ^ 17)))) (sym percent-is)
       (round-mono binary32 (a * 100) c (y * 100) (2 ^ 17) (quotient .some) (pow-pos 17) all) in
@@ -121,18 +121,10 @@ module _ (d l : ℕ) (L : 0 < l) (M : l ≤ 1024) (D : d ≤ l) where
 -- ---- away from a tie: the numbers next above and next below P × 2 ^ 17 / 100 serve, since 2 ^ 17 is more than 100 × lines
 module _ (d l p y : ℕ) (M : l ≤ 1024) where
   at-most : y * 100 ≤ p * 131072 + 100 → p * l < 100 * d → y * l ≤ d * 131072
-  at-most h k =
-      let g : y * 100 * l ≤ (p * 131072 + 100) * l = mul-le-mul-right l h in
-      let u : y * 100 * l ≡ 100 * (y * l) = mul-right-comm y 100 l ∙ mul-comm (y * l) 100 in
-      let v : (p * 131072 + 100) * l ≡ 131072 * (p * l) + 100 * l = add-mul (p * 131072) 100 l ∙ ap (λ (z : ℕ). z + 100 * l) (mul-right-comm p 131072 l ∙ mul-comm (p * l) 131072) in
-      omega arith
+  at-most h k = omega (arith, mul-le-mul-right l h)
 
   at-least : p * 131072 ≤ y * 100 + 100 → 100 * d < p * l → d * 131072 ≤ y * l
-  at-least h k =
-      let g : p * 131072 * l ≤ (y * 100 + 100) * l = mul-le-mul-right l h in
-      let u : p * 131072 * l ≡ 131072 * (p * l) = mul-right-comm p 131072 l ∙ mul-comm (p * l) 131072 in
-      let v : (y * 100 + 100) * l ≡ 100 * (y * l) + 100 * l = add-mul (y * 100) 100 l ∙ ap (λ (z : ℕ). z + 100 * l) (mul-right-comm y 100 l ∙ mul-comm (y * l) 100) in
-      omega arith
+  at-least h k = omega (arith, mul-le-mul-right l h)
 
 pub no-tie-agrees : (d l p : ℕ) → PercentRanged d l p → (100 * d ≡ p * l → ⊥) → floatMeets d l p ≡ wholeMeets d l p
 no-tie-agrees d l p r n =
