@@ -142,10 +142,7 @@ module _ (begun : Bool) {s a : List ℕ} {whole : Bool} (f : Front s a whole) wh
 
   empty : length a ≡ 0 → (w : Bool) → whole ≡ w → AheadShown (pick w (ahead-of.Shows 0) ahead-of.Wants)
   unfolding recordEnd
-  empty z true e =
-      let k = long in
-      let y = none-behind e in
-      (rw (eq-eqb (length s) 0 (omega arith)), omega arith)
+  empty z true e = (rw (eq-eqb (length s) 0 (omega (arith, long, none-behind e))), omega arith)
   empty z false e = (e, omega arith)
 
   module _ (h : length a ≡ 0 → ⊥) where
@@ -154,11 +151,8 @@ module _ (begun : Bool) {s a : List ℕ} {whole : Bool} (f : Front s a whole) wh
 
     same-past : (w u : Bool) → whole ≡ w → leb (recordEnd a 0) (length a) ≡ u → (w || u) ≡ true → recordPast s 0 ≡ recordPast a 0
     unfolding recordPast recordEnd
-    same-past true u e r q = let k = long in let y = none-behind e in rw (first-byte h) (omega arith)
-    same-past false true e r q =
-        let k = long in
-        let l = leb-true (0 + 1 + lengthOf (getD a 0 0)) (length a) r in
-        rw (first-byte h) (omega arith)
+    same-past true u e r q = rw (first-byte h) (omega (arith, long, none-behind e))
+    same-past false true e r q = rw (first-byte h) (omega (arith, long, leb-true (0 + 1 + lengthOf (getD a 0 0)) (length a) r))
     same-past false false e r q = clash q refl
 
     some-byte : 0 < length a
@@ -203,19 +197,10 @@ module _ {b c : Bool} {s t : List ℕ} {m n : ℕ} (p : Coming b s m) (q : Comin
       kinds : 0 < groupRest b s → getD s 0 0 ≡ getD t 0 0
       kinds l = let k = lengths in sym (getD-take (groupRest b s) s 0 0 l) ∙ ap (λ x. getD x 0 0) e ∙ getD-take (groupRest c t) t 0 0 (omega arith)
 
-      both : recordPast s 0 ≡ m → recordPast t 0 ≡ n → lengthOf (getD s 0 0) ≡ lengthOf (getD t 0 0) → ⊥
-      both i j k =
-          let u = rest-within s b in
-          let v = rest-within t c in
-          let l = lengths in
-          let w : m ≡ n = omega arith in
-          h w
-
       by-zero : (i : ℕ) → m ≡ i → (j : ℕ) → n ≡ j → ⊥
       by-zero zero f j g = let x = p .none f in let l = lengths in let y = q .size in h (omega arith)
       by-zero (suc i) f zero g = let x = q .none g in let l = lengths in let y = p .size in h (omega arith)
-      by-zero (suc i) f (suc j) g =
-          both (sym (p .some (omega arith))) (sym (q .some (omega arith))) (ap lengthOf (kinds (omega arith)))
+      by-zero (suc i) f (suc j) g = h (omega (arith, rest-within s b, rest-within t c, lengths, p .some (omega arith), q .some (omega arith), ap lengthOf (kinds (omega arith))))
 
   pub same-split : sameBytes (take (groupRest b s) s) (take (groupRest c t) t) ≡ (sameBytes (take m s) (take n t) && sameBytes (take (groupRest (begunAfter b m) (drop m s)) (drop m s)) (take (groupRest (begunAfter c n) (drop n t)) (drop n t)))
   same-split =

@@ -58,10 +58,9 @@ module _ {A s : List ℕ} {n : ℕ} {d : Side} (i : SideAt A s n d) (fits : leng
     side-moved =
         let k = to-come in
         let e : d .place + (d .passed + m) ≡ d .place + d .passed + m = omega arith in
-        let z : d .passed + (m + groupRest (begunAfter (begunSide d) m) (drop m s)) ≡ d .passed + m + groupRest (begunAfter (begunSide d) m) (drop m s) = omega arith in
         record {
           begins = i .begins;
-          size = rw (no-wrap, begun-after (d .passed) m) (i .size ∙ ap (λ x. d .passed + x) (c .size) ∙ z);
+          size = rw (no-wrap, begun-after (d .passed) m) (omega arith);
           here = rw (no-wrap, e) (sym (drop-drop m (d .place + d .passed) A) ∙ ap (drop m) (i .here));
           within = rw no-wrap (omega arith);
         }
@@ -78,11 +77,9 @@ module _ {A s : List ℕ} {n : ℕ} {d : Side} (i : SideAt A s n d) (fits : leng
         let e : (d .place + d .passed) % 2 ^ 64 ≡ d .place + d .passed = omega arith in
         let p : d .place + d .passed ≡ groupSide A (n + 1) .place = sym group-here ∙ next-begins A n (i .begins) in
         let y : d .place + d .passed + 0 ≡ d .place + d .passed = omega arith in
-        let g = group-drop A (d .place + d .passed) (i .within) in
-        let u : groupEnd A (d .place + d .passed) - (d .place + d .passed) ≡ 0 + groupEnd (drop (d .place + d .passed) A) 0 = omega arith in
         record {
           begins = e ∙ p;
-          size = rw (side-to A (n + 1) p) (u ∙ ap (λ x. 0 + x) (ap (λ x. groupEnd x 0) (i .here) ∙ fresh-rest s));
+          size = rw (side-to A (n + 1) p) (omega (arith, group-drop A (d .place + d .passed) (i .within), ap (λ x. groupEnd x 0) (i .here) ∙ fresh-rest s));
           here = rw (e, y) (i .here);
           within = rw (e, y) (i .within);
         }
@@ -93,19 +90,15 @@ module _ {A s : List ℕ} {n : ℕ} {d : Side} (i : SideAt A s n d) (fits : leng
 
   -- where nothing of it is passed and nothing comes, the log is over
   over-here : d .passed ≡ 0 → Coming (begunSide d) s 0 → length (groups A) ≤ n
-  over-here e c =
-      let l = c .none refl .1 (rw (eq-eqb (d .passed) 0 e)) in
-      let k = to-come in
-      counted-over A n (i .begins) (omega arith)
+  over-here e c = counted-over A n (i .begins) (omega (arith, to-come, c .none refl .1 (rw (eq-eqb (d .passed) 0 e))))
 
 begin-side : (A : List ℕ) → SideAt A A 0 (side 0 0)
 unfolding placeFrom
 begin-side A =
     let p : groupSide A 0 ≡ partTo 0 (groupEnd A 0) = side-is A 0 in
-    let z : groupEnd A 0 - 0 ≡ 0 + groupEnd A 0 = omega arith in
     record {
       begins = ap (λ x. x .place) (sym p);
-      size = rw p (z ∙ ap (λ x. 0 + x) (fresh-rest A));
+      size = rw p (omega (arith, fresh-rest A));
       here = refl;
       within = omega arith;
     }

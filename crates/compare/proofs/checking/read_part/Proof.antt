@@ -23,8 +23,7 @@ read-part-spec =
     -- returns
     (λ c.
     let n = c .before .before .before in
-    let f = n .before .before .before .before in
-    read-some _ _ (f .fill .ensures) (n .n .given .1) (search needs) (c .came .ensures))
+    read-some _ _ (n .before .before .before .before .fill .ensures) (n .n .given .1) (search needs) (c .came .ensures))
     (λ c. search needs)  -- same-length-2
     (λ c. read-none _ _ (c .ended .ensures))  -- returns-2
     (λ c. search needs)  -- same-length-3
