@@ -14,7 +14,7 @@ use Rattle.percentage.specs.declared.Difference.{Difference}
 use Rattle.percentage.specs.Differences.{range, triple, percentRow, percentRows, tables, differ, keepDiffering, differences, hundreds, flat}
 use Rattle.percentage.proofs.Ties.{fallsShort, differ-yes, differ-no}
 use Rattle.percentage.proofs.Legal.{tied}
-use Rattle.percentage.proofs.Lists.{range-cons, range-none, row-cons, row-none, rows-cons, rows-none, tables-cons, tables-none, keep-append, keep-yes, keep-no}
+use Rattle.percentage.proofs.Lists.{range-cons, range-none, row-cons, rows-cons, tables-cons, keep-append, keep-yes, keep-no}
 
 -- ---- over places that keep nothing
 skip : (f : ℕ → List Difference) (a b : ℕ) → a ≤ b → ((x : ℕ) → a ≤ x → x < b → f x ≡ f (x + 1)) → f a ≡ f b
@@ -29,8 +29,8 @@ row-step : (l d p : ℕ) → p ≤ 100 → differ d l p ≡ false → keepDiffer
 row-step l d p P e = ap keepDiffering (row-cons l d p P) ∙ keep-no l d p (percentRow l d (p + 1)) e
 
 row-end : (l d : ℕ) → keepDiffering (percentRow l d 101) ≡ []
-unfolding keepDiffering
-row-end l d = ap keepDiffering (row-none l d 101 (omega arith))
+unfolding keepDiffering percentRow
+row-end l d = refl
 
 module _ (l d : ℕ) (L : 1 ≤ l) (M : l ≤ 1024) (D : d ≤ l) where
   row-quiet : ((p : ℕ) → fallsShort p ≡ true → 100 * d ≡ p * l → ⊥) → keepDiffering (percentRow l d 0) ≡ []
@@ -53,8 +53,8 @@ rows-step : (l d : ℕ) → d ≤ l → keepDiffering (percentRows l d) ≡ keep
 rows-step l d h = ap keepDiffering (rows-cons l d h) ∙ keep-append (percentRow l d 0) (percentRows l (d + 1))
 
 rows-end : (l : ℕ) → keepDiffering (percentRows l (l + 1)) ≡ []
-unfolding keepDiffering
-rows-end l = ap keepDiffering (rows-none l (l + 1) (omega arith))
+unfolding keepDiffering percentRows
+rows-end l = ap (λ (xs : List ℕ). keepDiffering (flatMap (λ (e : ℕ). percentRow l e 0) xs)) (range-none (l + 1) (l + 1) (omega arith))
 
 module _ (l : ℕ) (L : 1 ≤ l) (M : l ≤ 1024) where
   -- from a dirty count to a later one with no tie between
@@ -115,10 +115,9 @@ tables-skip a b A u B n =
 
 -- after k hundreds
 after : (n k : ℕ) → k + n ≡ 10 → keepDiffering (tables (100 * k + 1)) ≡ flatMap pair (range (k + 1) 11)
-unfolding flatMap keepDiffering
+unfolding flatMap keepDiffering tables
 after zero k e =
     tables-skip (100 * k + 1) 1025 (omega arith) (omega arith) (omega arith) (λ l u v h. omega arith)
-    ∙ ap keepDiffering (tables-none 1025 (omega arith))
     ∙ sym (ap (flatMap pair) (range-none (k + 1) 11 (omega arith)))
 after (suc n) k e =
     tables-skip (100 * k + 1) (100 * (k + 1)) (omega arith) (omega arith) (omega arith) (λ l u v h. omega arith)

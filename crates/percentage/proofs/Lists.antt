@@ -24,25 +24,13 @@ pub row-cons : (l d p : ℕ) → p ≤ 100 → percentRow l d p ≡ triple l d p
 unfolding percentRow
 row-cons l d p h = ap (map (triple l d)) (range-cons p 101 (omega arith))
 
-pub row-none : (l d p : ℕ) → 100 < p → percentRow l d p ≡ []
-unfolding percentRow
-row-none l d p h = ap (map (triple l d)) (range-none p 101 (omega arith))
-
 pub rows-cons : (l d : ℕ) → d ≤ l → percentRows l d ≡ percentRow l d 0 ++ percentRows l (d + 1)
 unfolding percentRows
 rows-cons l d h = ap (flatMap (λ (e : ℕ). percentRow l e 0)) (range-cons d (l + 1) (omega arith))
 
-pub rows-none : (l d : ℕ) → l < d → percentRows l d ≡ []
-unfolding percentRows
-rows-none l d h = ap (flatMap (λ (e : ℕ). percentRow l e 0)) (range-none d (l + 1) (omega arith))
-
 pub tables-cons : (l : ℕ) → l ≤ 1024 → tables l ≡ percentRows l 0 ++ tables (l + 1)
 unfolding tables
 tables-cons l h = ap (flatMap (λ (k : ℕ). percentRows k 0)) (range-cons l 1025 (omega arith))
-
-pub tables-none : (l : ℕ) → 1024 < l → tables l ≡ []
-unfolding tables
-tables-none l h = ap (flatMap (λ (k : ℕ). percentRows k 0)) (range-none l 1025 (omega arith))
 
 -- a table's first row, and the others
 table : (l : ℕ) → l ≤ 1024 → tables l ≡ percentRow l 0 0 ++ (percentRows l 1 ++ tables (l + 1))
@@ -80,22 +68,22 @@ module _ (x : List Difference) (d l p : ℕ) (w : Left x d l p) where
   rest-down P h = (
     omega arith,
     w .1 ∙ ap keepDiffering
-        (ap₂ (λ (a b : List Difference). a ++ (b ++ tables (l + 1))) (row-none l d p P) (rows-cons l (d + 1) (omega arith))
+        (ap₂ (λ (a b : List Difference). a ++ (b ++ tables (l + 1))) (ap (map (triple l d)) (range-none p 101 P)) (rows-cons l (d + 1) (omega arith))
         ∙ append-assoc (percentRow l (d + 1) 0) (percentRows l (d + 1 + 1)) (tables (l + 1))),
   )
 
   -- past the last dirty of these lines
   last-row : 100 < p → l ≤ d → x ≡ keepDiffering (tables (l + 1))
   unfolding differencesFrom
-  last-row P h = w .1 ∙ ap₂ (λ (a b : List Difference). keepDiffering (a ++ (b ++ tables (l + 1)))) (row-none l d p P) (rows-none l (d + 1) (omega arith))
+  last-row P h = w .1 ∙ ap₂ (λ (a b : List Difference). keepDiffering (a ++ (b ++ tables (l + 1)))) (ap (map (triple l d)) (range-none p 101 P)) (ap (flatMap (λ (e : ℕ). percentRow l e 0)) (range-none (d + 1) (l + 1) (omega arith)))
 
   pub rest-over : 100 < p → l ≤ d → l < 1024 → Left x 0 (l + 1) 0
   unfolding differencesFrom
   rest-over P h m = (omega arith, last-row P h ∙ ap keepDiffering (table (l + 1) (omega arith)))
 
   pub differences-end : 100 < p → l ≤ d → 1024 ≤ l → x ≡ []
-  unfolding keepDiffering
-  differences-end P h m = last-row P h ∙ ap keepDiffering (tables-none (l + 1) (omega arith))
+  unfolding keepDiffering tables
+  differences-end P h m = last-row P h ∙ ap (λ (xs : List ℕ). keepDiffering (flatMap (λ (k : ℕ). percentRows k 0) xs)) (range-none (l + 1) 1025 (omega arith))
 
   module _ (P : p ≤ 100) {t : Bool} (e : t ≡ differ d l p) where
     -- the triples behind this one
