@@ -75,7 +75,9 @@ module _ (x : List Difference) (d l p : ℕ) (w : Left x d l p) where
   -- past the last dirty of these lines
   last-row : 100 < p → l ≤ d → x ≡ keepDiffering (tables (l + 1))
   unfolding differencesFrom
-  last-row P h = w .1 ∙ ap₂ (λ (a b : List Difference). keepDiffering (a ++ (b ++ tables (l + 1)))) (ap (map (triple l d)) (range-none p 101 P)) (ap (flatMap (λ (e : ℕ). percentRow l e 0)) (range-none (d + 1) (l + 1) (omega arith)))
+  last-row P h =
+      w .1 ∙ ap₂ (λ (a b : List Difference). keepDiffering (a ++ (b ++ tables (l + 1)))) (ap (map (triple l d)) (range-none p 101 P))
+      (ap (flatMap (λ (e : ℕ). percentRow l e 0)) (range-none (d + 1) (l + 1) (omega arith)))
 
   pub rest-over : 100 < p → l ≤ d → l < 1024 → Left x 0 (l + 1) 0
   unfolding differencesFrom
