@@ -1,6 +1,6 @@
 -- The check part by part: what each part comes to, and that the parts are the log.
 use mathlib.Core.Path.{_≡_, refl, sym, ap}
-use mathlib.Core.Logic.{inl, inr, ⊎-elim}
+use mathlib.Core.Logic.{inr, ⊎-elim}
 use mathlib.Core.Bool.{Bool, true, false}
 use mathlib.Core.List.{List, [], _++_}
 use Prim.Native.Nat.{ℕ, _+_, _-_, _^_, _≤_, _<_}
@@ -57,9 +57,6 @@ unfolding passedBytes
 started-checked e = rw e (record { bytes = []; checking = refl; read = refl })
 
 -- ---- a part that is read
-
-pub read-none : (l : List ℕ) (c : Check) {r : Check} → r ≡ overOf c false → ReadOn l c r
-read-none l c e = inr (inl e)
 
 pub read-some : (l : List ℕ) (c : Check) {l₀ : List ℕ} {f : Filled} → Read l₀ 0 f l → {n : ℕ} → f ≡ filled.To n → length l₀ ≡ length l → {r : Check} → r ≡ cameOf l n c → ReadOn l c r
 read-some l c {l₀} k {n} g s e = let i : Reaches 0 (length l₀) (filled.To n) = rw g at (k .reaches) in inr (inr (record { n = n; some = i .0; within = omega arith; is = e }))

@@ -61,9 +61,6 @@ module _ (l r : List ℕ) {p : Pass} (y : BothSound (length l) (length r) p) (t 
         less = λ e. let d = fed-less (t .met) (y .second) (c .0) k e in rw (c .1, c .2) (omega arith);
       }
 
-  pub comes-goes : Comes l r p t l₁ r₁ (nextStep l r p) → LessLeft p (t .pass) (anotherTurn (t .met)) (length l) (length r)
-  comes-goes c = goes-by (nextStep l r p) (moves (p .walk) (waitingIn l (p .a)) (p .a .ended) (waitingIn r (p .b)) (p .b .ended)) c
-
   abbrev pub TurnTaken : Type 0
   TurnTaken = Comes l r p t l₁ r₁ (nextStep l r p) × LessLeft p (t .pass) (anotherTurn (t .met)) (length l) (length r)
 
@@ -73,7 +70,7 @@ module _ (l r : List ℕ) {p : Pass} (y : BothSound (length l) (length r) p) (t 
     by-step {s} e c =
         let q : s ≡ nextStep l r p = sym e ∙ k ∙ rw (i, j) in
         let d : Comes l r p t l₁ r₁ (nextStep l r p) = rw q at c in
-        (d, comes-goes d)
+        (d, goes-by (nextStep l r p) (moves (p .walk) (waitingIn l (p .a)) (p .a .ended) (waitingIn r (p .b)) (p .b .ended)) d)
 
     pub turn-row : {m n : ℕ} {same : Bool} {v : Walk} → st ≡ step.Row m n same v → {u w : Window} → u ≡ movedBy (p .a) m → w ≡ movedBy (p .b) n → t ≡ passTurned u w v (met.Row m n same) → l₁ ≡ l → r₁ ≡ r → TurnTaken
     unfolding Comes

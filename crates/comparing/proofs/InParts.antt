@@ -117,14 +117,11 @@ module _ (n : ℕ) (k : ℕ) (s : List ℕ) (p q : ℕ) (i : Bool) (room : p + s
   Told : Type 0
   Told = faultTold (passedBytes (so-far p q 0 i) (k ∷ s)) ≡ orThen (shifted p (scannedFrom (suc n) (k ∷ s) 0)) (ends p i (k ∷ s))
 
-  told-bad : isEvent k ≡ false → faultTold (passedBytes (so-far p q 0 i) (k ∷ s)) ≡ fault.At 14 p
-  unfolding passedBytes faultTold
-  told-bad e =
-      ap (λ c. faultTold (passedBytes c s)) (sym (byte-stuck (so-far p q 0 i) k refl refl e)) ∙ ap faultTold (stays-wrong s (stuck (so-far p q 0 i)) refl)
-
   bad-kind : isEvent k ≡ false → Told
-  unfolding Told scannedFrom wrongAt
-  bad-kind e = let z : p + 0 ≡ p = omega arith in told-bad e ∙ rw (lt-ltb 0 (suc (length s)) (omega arith), e, z)
+  unfolding Told passedBytes faultTold scannedFrom wrongAt
+  bad-kind e =
+      let z : p + 0 ≡ p = omega arith in
+      ap (λ c. faultTold (passedBytes c s)) (sym (byte-stuck (so-far p q 0 i) k refl refl e)) ∙ ap faultTold (stays-wrong s (stuck (so-far p q 0 i)) refl) ∙ rw (lt-ltb 0 (suc (length s)) (omega arith), e, z)
 
   begins : isEvent k ≡ true → passedByte (so-far p q 0 i) k ≡ so-far (p + 1) p m j
   unfolding passedByte m j
