@@ -27,10 +27,6 @@ module _ (a b : List ℕ) where
   unfolding firstDifference firstOf
   difference-more n h = let k : pairs a b - n ≡ suc (pairs a b - suc n) = omega arith in rw (k, add-one n)
 
-  difference-over : (n : ℕ) → pairs a b ≤ n → firstDifference a b n ≡ answer.Same
-  unfolding firstDifference firstOf
-  difference-over n h = let k : pairs a b - n ≡ 0 = omega arith in rw k
-
   -- whether a byte is left in one of the logs
   unfoldable pub someLeft : ℕ → ℕ → Bool
   someLeft x y = ltb x (length a) || ltb y (length b)
@@ -53,11 +49,12 @@ module _ (a b : List ℕ) where
 
   module _ {m n x y : ℕ} (g : PairsSame m n x y) where
     going-none : someLeft x y ≡ false → GoesOn a b m (record { answer = answer.Same; next = record { number = n; first = x; second = y } })
-    unfolding someLeft
+    unfolding someLeft firstDifference firstOf
     going-none t =
         let h = counted-over a n (g .in-a) (ltb-false x (length a) (or-no-1 (ltb x (length a)) (ltb y (length b)) t)) in
         let k = counted-over b n (g .in-b) (ltb-false y (length b) (or-no-2 (ltb x (length a)) (ltb y (length b)) t)) in
-        record { says = sym (g .same ∙ difference-over n (omega arith)); stands = record { in-a = g .in-a; in-b = g .in-b }; behind = omega arith }
+        let z : pairs a b - n ≡ 0 = omega arith in
+        record { says = sym (g .same ∙ rw z); stands = record { in-a = g .in-a; in-b = g .in-b }; behind = omega arith }
 
     the-pair : sameBytes (bytesIn a (groupAt a x)) (bytesIn b (groupAt b y)) ≡ samePair a b n
     unfolding samePair

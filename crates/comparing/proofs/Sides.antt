@@ -92,10 +92,6 @@ module _ (s : List ℕ) where
       (λ l. rw (le-ltb at (length s) l) (omega arith))
       (lt-or-ge at (length s))
 
-  pub group-counted : (n : ℕ) → placeFrom n s 0 < length s → n < length (groups s)
-  unfolding groups
-  group-counted n p = in-count (length s) n 0 (omega arith) p
-
   pub counted-out : (n : ℕ) → length s ≤ placeFrom n s 0 → length (groups s) ≤ n
   unfolding groups
   counted-out n p = out-count (length s) n 0 p
@@ -114,7 +110,8 @@ module _ (s : List ℕ) where
 
     -- the number is below that of the groups, and below the log's length
     pub counted-in : x < length s → (n < length (groups s)) × (n < length s)
-    counted-in h = let k : placeFrom n s 0 < length s = rw begins-at at h in (group-counted n k, omega (arith, place-grows n 0 k))
+    unfolding groups
+    counted-in h = let k : placeFrom n s 0 < length s = rw begins-at at h in (in-count (length s) n 0 (omega arith) k, omega (arith, place-grows n 0 k))
 
     pub counted-over : length s ≤ x → length (groups s) ≤ n
     counted-over h = counted-out n (rw begins-at at h)

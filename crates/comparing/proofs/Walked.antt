@@ -31,6 +31,9 @@ fresh-rest : (s : List ℕ) → groupEnd s 0 ≡ groupRest false s
 unfolding groupRest
 fresh-rest s = refl
 
+front-bytes : {s a : List ℕ} {whole : Bool} (f : Front s a whole) (m : ℕ) → m ≤ length a → take m a ≡ take m s
+front-bytes {s} {a} f m h = rw (f .joins) (sym (take-append-le m a (f .behind) h))
+
 -- ---- one side: s is to come of the log A, behind what is passed of its group of number n
 
 record SideAt (A s : List ℕ) (n : ℕ) (d : Side) : Type 0 where
@@ -124,10 +127,6 @@ module _ (A B : List ℕ) where
   unfolding differencesFromPair listed
   lists-more n h = let k : pairs A B - n ≡ suc (pairs A B - suc n) = omega arith in rw (k, add-one n)
 
-  lists-over : (n : ℕ) → pairs A B ≤ n → differencesFromPair A B n ≡ []
-  unfolding differencesFromPair listed
-  lists-over n h = let k : pairs A B - n ≡ 0 = omega arith in rw k
-
 lowest-snoc : (ds : List Compared) (n p l q m : ℕ) → lowestIn (ds ++ (answer.Differs n p l q m ∷ [])) ≡ pick (eqb (length ds) 0) n (lowestIn ds)
 lowest-snoc [] n p l q m = refl
 lowest-snoc (answer.Differs k x y z v ∷ ds) n p l q m = rw (ne-eqb (suc (length ds)) 0 (λ e. omega arith))
@@ -196,10 +195,6 @@ module _ {A B s t : List ℕ} {w : Walk} {ds : List Compared} (o : On A B s t w 
           ∙ rw (lists-more A B (w .number) h, pair-same, the-pair)
           (⊎-elim (λ q. rw q) (λ q. rw q (sym (append-assoc ds (pairOf w ∷ []) (differencesFromPair A B (w .number + 1))))) (flag (w .same)))
 
-      counts-next : pairsDiffering w ≡ length with-pair
-      unfolding pairsDiffering
-      counts-next = ⊎-elim (λ q. rw q (o .count)) (λ q. rw q (omega (arith, length-append ds (pairOf w ∷ []), o .count, o .few))) (flag (w .same))
-
       lowest-next : lowestOf w ≡ lowestIn with-pair
       unfolding lowestOf
       lowest-next =
@@ -208,10 +203,8 @@ module _ {A B s t : List ℕ} {w : Walk} {ds : List Compared} (o : On A B s t w 
           (λ (q : w .same ≡ false). rw (q, lowest-snoc ds (w .number) (w .first .place) (w .first .passed) (w .second .place) (w .second .passed), o .count, o .lowest))
           (flag (w .same))
 
-      few-next : length with-pair ≤ w .number + 1
-      few-next = ⊎-elim (λ q. rw q (omega (arith, o .few))) (λ q. rw q (omega (arith, length-append ds (pairOf w ∷ []), o .few))) (flag (w .same))
-
       on-pair : On A B s t (nextPair w) with-pair
+      unfolding pairsDiffering
       on-pair =
           let i : SideAt A s (w .number + 1) (sideBehind (w .first)) = side-behind (o .first) fa y in
           let j : SideAt B t (w .number + 1) (sideBehind (w .second)) = side-behind (o .second) fb z in
@@ -220,9 +213,9 @@ module _ {A B s t : List ℕ} {w : Walk} {ds : List Compared} (o : On A B s t w 
             second = rw next-number j;
             same = rw next-number (fresh-same i j);
             lists = rw next-number lists-next;
-            count = counts-next;
+            count = ⊎-elim (λ q. rw q (o .count)) (λ q. rw q (omega (arith, length-append ds (pairOf w ∷ []), o .count, o .few))) (flag (w .same));
             lowest = lowest-next;
-            few = rw next-number few-next;
+            few = rw next-number (⊎-elim (λ q. rw q (omega (arith, o .few))) (λ q. rw q (omega (arith, length-append ds (pairOf w ∷ []), o .few))) (flag (w .same)));
             bound = omega arith;
           }
 
@@ -234,12 +227,14 @@ module _ {A B s t : List ℕ} {w : Walk} {ds : List Compared} (o : On A B s t w 
         (flag (eqb (w .first .passed) 0))
 
   on-over : (eqb (w .first .passed) 0 && eqb (w .second .passed) 0) ≡ true → Coming (begunSide (w .first)) s 0 → Coming (begunSide (w .second)) t 0 → Listed A B w ds
+  unfolding differencesFromPair listed
   on-over q c d =
       let p = eqb-true (w .first .passed) 0 (and-1 (eqb (w .first .passed) 0) (eqb (w .second .passed) 0) q) in
       let r = eqb-true (w .second .passed) 0 (and-2 (eqb (w .first .passed) 0) (eqb (w .second .passed) 0) q) in
       let g = over-here (o .first) fa p c in
       let h = over-here (o .second) fb r d in
-      let e : differencesFromPair A B 0 ≡ ds = o .lists ∙ rw (lists-over A B (w .number) (omega arith)) (append-nil ds) in
+      let k : pairs A B - w .number ≡ 0 = omega arith in
+      let e : differencesFromPair A B 0 ≡ ds = o .lists ∙ rw k (append-nil ds) in
       record { all = sym e; number = omega arith; differing = rw e (o .count); lowest = rw e (o .lowest) }
 
   -- ---- what a step tells
@@ -265,16 +260,10 @@ module _ {A B s t : List ℕ} {w : Walk} {ds : List Compared} (o : On A B s t w 
           turned true = refl
           turned false = refl
 
-      bytes-first : take m a ≡ take m s
-      bytes-first = rw (f .joins) (sym (take-append-le m a (f .behind) k))
-
-      bytes-second : take n b ≡ take n t
-      bytes-second = rw (g .joins) (sym (take-append-le n b (g .behind) l))
-
       row-tells : (e : Bool) → (eqb m 0 && eqb n 0) ≡ e → StepTells (pick e (pairOver w) (step.Row m n (sameBytes (take m a) (take n b)) (onward w m n (sameBytes (take m a) (take n b)))))
       unfolding pairOver
       row-tells true q = over-tells (eqb (w .first .passed) 0 && eqb (w .second .passed) 0) refl (eqb-true m 0 (and-1 (eqb m 0) (eqb n 0) q)) (eqb-true n 0 (and-2 (eqb m 0) (eqb n 0) q))
-      row-tells false q = on-row c d (rw (bytes-first, bytes-second))
+      row-tells false q = on-row c d (rw (front-bytes f m k, front-bytes g n l))
 
     on-tells : StepTells (stepped w a whole b ends)
     unfolding stepped recordRow
