@@ -59,22 +59,16 @@ module _ (l : List ℕ) (w : Window) (s : WindowSound (length l) w) where
     front-length = let k = length-drop (w .at) l in length-take-le (w .have - w .at) (drop (w .at) l) (omega arith)
 
     pub same-size : length l₀ ≡ length l
-    same-size =
-        let f = front-length in
-        let a = length-append (take (w .have - w .at) (drop (w .at) l)) (drop (w .have - w .at) l) in
-        let d = length-drop (w .have - w .at) l in
-        ap length down ∙ (let z : length (movedDown l (w .at) (w .have - w .at)) ≡ length l = omega arith in z)
+    same-size = omega (arith, ap length down, front-length, length-append (take (w .have - w .at) (drop (w .at) l)) (drop (w .have - w .at) l), length-drop (w .have - w .at) l)
 
     module _ {f : Filled} {l₁ : List ℕ} (k : Read l₀ have f l₁) where
       keeps : take (w .have - w .at) l₁ ≡ waitingIn l w
       keeps =
-          let z = front-length in
-          let c = count-waits in
           let e : take (w .have - w .at) l₁ ≡ take (w .have - w .at) l₀ = rw count-waits at (k .before) in
-          e ∙ ap (take (w .have - w .at)) down ∙ take-append-le (w .have - w .at) (take (w .have - w .at) (drop (w .at) l)) (drop (w .have - w .at) l) (omega arith) ∙ twice ∙ window-waits
+          e ∙ ap (take (w .have - w .at)) down ∙ take-append-le (w .have - w .at) (take (w .have - w .at) (drop (w .at) l)) (drop (w .have - w .at) l) (omega (arith, front-length)) ∙ twice ∙ window-waits
         where
           twice : take (w .have - w .at) (take (w .have - w .at) (drop (w .at) l)) ≡ take (w .have - w .at) (drop (w .at) l)
-          twice = take-all (w .have - w .at) (take (w .have - w .at) (drop (w .at) l)) (let z = front-length in omega arith)
+          twice = take-all (w .have - w .at) (take (w .have - w .at) (drop (w .at) l)) (omega (arith, front-length))
 
       feeds : (h : ℕ) (e : Bool) (m : Met) → h ≤ length l → w .base + w .at + h < 2 ^ 64 → WindowGrown (w .have - w .at) (window (w .base + w .at) 0 h e) m
           → {r : Topped} → r ≡ topped (w .base + w .at) h e m → Fed l w (r .window) (r .met) l₁

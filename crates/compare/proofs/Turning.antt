@@ -21,7 +21,7 @@ use Rattle.compare.specs.declared.turns.Turned.{Turned}
 use Rattle.compare.specs.declared.listing.Work.{Work}
 use Rattle.compare.specs.declared.showing.Shown.{Shown}
 use Rattle.compare.specs.Lines.{PutWhere, NothingPut, ListsPair}
-use Rattle.compare.specs.Windows.{unread, waitingIn, movedBy, WindowSound, WindowGrown, Fed, leftOf}
+use Rattle.compare.specs.Windows.{waitingIn, movedBy, WindowSound, WindowGrown, Fed, leftOf}
 use Rattle.compare.specs.Turns.{passBegun, passTurned, nextStep, Comes, BothSound, anotherTurn, leftInPass, LessLeft}
 use Rattle.compare.proofs.Feeding.{moved-sound, moved-left}
 
@@ -93,10 +93,7 @@ module _ (l r : List ℕ) {p : Pass} (y : BothSound (length l) (length r) p) (t 
     turn-second e f h a = by-step e (rw h (f, refl, refl, a))
 
 pub begun-ready : (x y : ℕ) {p : Pass} → p ≡ passBegun → BothSound x y p
-begun-ready x y e = rw e (record { first = none x; second = none y })
-  where
-    none : (x : ℕ) → WindowSound x unread
-    none x = record { within = omega arith; buffered = omega arith; placed = omega arith }
+begun-ready x y e = rw e (omega arith)
 
 -- what is left, in turns
 abbrev pub passTurnsLeft : Bool → Pass → ℕ
