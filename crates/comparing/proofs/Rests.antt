@@ -27,17 +27,14 @@ use Rattle.comparing.proofs.Shifts.{end-shift, group-shift}
 -- ---- a log from a place on
 
 module _ (s : List ℕ) (m : ℕ) (h : m ≤ length s) where
+  front-long : length (take m s) + 0 ≡ m
+  front-long = omega (arith, length-take-le m s h)
+
   end-drop : (d : ℕ) → endFrom d s m ≡ m + endFrom d (drop m s) 0
-  end-drop d =
-      let l = length-take-le m s h in
-      let z : length (take m s) + 0 ≡ m = omega arith in
-      ap (λ x. endFrom d x m) (sym (take-append-drop m s)) ∙ ap (λ n. endFrom d (take m s ++ drop m s) n) (sym z) ∙ end-shift (take m s) (drop m s) d 0 ∙ ap (λ n. n + endFrom d (drop m s) 0) l
+  end-drop d = rw (take-append-drop m s, front-long, length-take-le m s h) at (end-shift (take m s) (drop m s) d 0)
 
   pub group-drop : groupEnd s m ≡ m + groupEnd (drop m s) 0
-  group-drop =
-      let l = length-take-le m s h in
-      let z : length (take m s) + 0 ≡ m = omega arith in
-      ap (λ x. groupEnd x m) (sym (take-append-drop m s)) ∙ ap (λ n. groupEnd (take m s ++ drop m s) n) (sym z) ∙ group-shift (take m s) (drop m s) 0 ∙ ap (λ n. n + groupEnd (drop m s) 0) l
+  group-drop = rw (take-append-drop m s, front-long, length-take-le m s h) at (group-shift (take m s) (drop m s) 0)
 
 -- ---- the rest of a group that has begun, or all of the next one
 

@@ -131,8 +131,7 @@ module _ (s : List ℕ) where
   unfolding placeFrom
   skips-more number at left h {e} p w =
       let k : left ≡ suc (left - 1) = omega arith in
-      let v = group-within at (w .0) in
-      (omega arith, rw p (let u : placeFrom (suc (left - 1)) s at ≡ groupSide s number .place = rw k at (w .1) in u))
+      (omega (arith, group-within at (w .0)), rw p (let u : placeFrom (suc (left - 1)) s at ≡ groupSide s number .place = rw k at (w .1) in u))
 
   pub skips-over : (number at left : ℕ) → left ≤ 0 → Skips number at left → at ≡ groupSide s number .place
   unfolding placeFrom
