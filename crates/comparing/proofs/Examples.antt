@@ -29,9 +29,9 @@ unfolding groups groupsFrom
 no-groups = refl
 
 -- the pair of number 1 differs; asked from 2, the one of number 2, whose second side has run out; asked from 3, none
-asked : map (compared (tick ++ (refused 5 ++ tick)) (tick ++ refused 6)) (0 ∷ 2 ∷ 3 ∷ []) ≡ answer.Differs 1 1 2 1 2 ∷ answer.Differs 2 3 1 3 0 ∷ answer.Same ∷ []
+asked-with : map (compared (tick ++ (refused 5 ++ tick)) (tick ++ refused 6)) (0 ∷ 2 ∷ 3 ∷ []) ≡ answer.Differs 1 1 2 1 2 ∷ answer.Differs 2 3 1 3 0 ∷ answer.Same ∷ []
 unfolding compared checked scanned scannedFrom wrongAt firstDifference firstOf samePair sameBytes groupSide groups groupsFrom groupEnd endFrom recordPast recordEnd startsGroup isEvent records.lengthOf tick refused
-asked = refl
+asked-with = refl
 
 both-empty : compared [] [] 0 ≡ answer.Same
 unfolding compared checked scanned scannedFrom firstDifference firstOf groups groupsFrom

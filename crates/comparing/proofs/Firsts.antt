@@ -173,7 +173,7 @@ module _ (a b : List ℕ) where
     unfolding foundPair bytesLeft
     found-goes-on c s = goes-from (length a + length b) (c .number) c (omega arith) (record { in-a = s .in-a; in-b = s .in-b; same = refl; from = omega arith; to = omega arith })
 
--- ---- what is answered where neither log is refused
+-- ---- what is answered, by what the checks of the two logs told
 
 module _ (a b : List ℕ) (from : ℕ) {f g : Fault} (p : f ≡ checked a) (q : f ≡ fault.None) (r : g ≡ checked b) where
   pub second-refused : {n at : ℕ} → g ≡ fault.At n at → answer.Refused 2 n at ≡ compared a b from

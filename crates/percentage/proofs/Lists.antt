@@ -89,17 +89,17 @@ module _ (x : List Difference) (d l p : ℕ) (w : Left x d l p) where
 
   module _ (P : p ≤ 100) {t : Bool} (e : t ≡ differ d l p) where
     -- the triples behind this one
-    abbrev others : List Difference
-    others = percentRow l d (p + 1) ++ (percentRows l (d + 1) ++ tables (l + 1))
+    abbrev triples-behind : List Difference
+    triples-behind = percentRow l d (p + 1) ++ (percentRows l (d + 1) ++ tables (l + 1))
 
-    this-one : x ≡ keepDiffering (triple l d p ∷ others)
+    this-one : x ≡ keepDiffering (triple l d p ∷ triples-behind)
     unfolding differencesFrom
     this-one = w .1 ∙ ap (λ (a : List Difference). keepDiffering (a ++ (percentRows l (d + 1) ++ tables (l + 1)))) (row-cons l d p P)
 
     pub rest-hit : t ≡ true → PercentRanged d l p × (x ≡ triple l d p ∷ differencesFrom d l (p + 1))
     unfolding differencesFrom
-    rest-hit g = (omega arith, this-one ∙ keep-yes l d p others (sym e ∙ g))
+    rest-hit g = (omega arith, this-one ∙ keep-yes l d p triples-behind (sym e ∙ g))
 
     pub rest-miss : t ≡ false → Left x d l (p + 1)
     unfolding differencesFrom
-    rest-miss g = (omega arith, this-one ∙ keep-no l d p others (sym e ∙ g))
+    rest-miss g = (omega arith, this-one ∙ keep-no l d p triples-behind (sym e ∙ g))

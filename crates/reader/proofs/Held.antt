@@ -1,5 +1,5 @@
 -- What the walks over a `Reader` share: its type and what it owns; the stream and the place that a callee is passed; the call of
--- `reader_at`; and a `Reader` in a local that is lent by `&mut`. Assumes nothing.
+-- one that takes those; and a `Reader` in a local that is lent by `&mut`, and the call of one that takes it so. Assumes nothing.
 use mathlib.Core.Path.{_≡_, refl}
 use Prim.Native.Nat.{ℕ, _<_, _^_}
 use mathlib.Core.List.{List, [], _∷_}
@@ -102,8 +102,8 @@ module _ {M : Type 1} (𝓤 : URA M) (H : Heap 𝓤) (A : Atoms 𝓤) (W : Given
 -- ---- the contracts of `records::read_at`, `behind`, `reader_at` and `skip`
 
 -- of what one ensures, the clause alone: what is said of last values is dropped
-pub said : {M : Type 1} (𝓤 : URA M) (H : Heap 𝓤) (A : Atoms 𝓤) {X : Type 0} (P : X → Fml) (Q : SProp 𝓤) → ent 𝓤 (ex 𝓤 (λ (w : X). sep 𝓤 (sem 𝓤 H A (P w)) Q)) Q
-said 𝓤 H A P Q = exE 𝓤 _ (λ w. snd∗ 𝓤 (sem 𝓤 H A (P w)) Q)
+pub clause-said : {M : Type 1} (𝓤 : URA M) (H : Heap 𝓤) (A : Atoms 𝓤) {X : Type 0} (P : X → Fml) (Q : SProp 𝓤) → ent 𝓤 (ex 𝓤 (λ (w : X). sep 𝓤 (sem 𝓤 H A (P w)) Q)) Q
+clause-said 𝓤 H A P Q = exE 𝓤 _ (λ w. snd∗ 𝓤 (sem 𝓤 H A (P w)) Q)
 
 module _ {M : Type 1} (𝓤 : URA M) (H : Heap 𝓤) (A : Atoms 𝓤) (mem : Memory → SProp 𝓤) (run : Routine → Fun 𝓤) where
   abbrev pub ReadAt : Contract 𝓤

@@ -64,7 +64,7 @@ use Rattle.reader.proofs.next.Key.{name as #reader·next}
 use Rattle.reader.proofs.next as next
 use Rattle.reader.proofs.next.Statement as stated
 use Rattle.reader.proofs.next.Code as code
-use Rattle.reader.proofs.Held.{α, D, L, Held, said, at-n, again, typed, ReadAt, Behind, to-plain, held-asked, B₂, referent, stayed-lent as stayed}
+use Rattle.reader.proofs.Held.{α, D, L, Held, clause-said, at-n, again, typed, ReadAt, Behind, to-plain, held-asked, B₂, referent, stayed-lent as stayed}
 
 abbrev BodyOf : {M : Type 1} (𝓤 : URA M) (H : Heap 𝓤) (A : Atoms 𝓤) (mem : Memory → SProp 𝓤) (run : Routine → Fun 𝓤) → Contract 𝓤
 BodyOf 𝓤 H A mem run = tripleOf 𝓤 H A body.signature (body.spec 𝓤 H A mem run)
@@ -128,7 +128,7 @@ module _ {M : Type 1} (𝓤 : URA M) (H : Heap 𝓤) (A : Atoms 𝓤) (W : Given
         move ! (1 ∷ 5 ∷ []) $ use2 W (raw (ReadAt 𝓤 H A at-mem run .pre to) ⊛ ‵ (Held (α 1 κ′) h)) (held-asked 𝓤 H A at-mem run W (α 1 κ′) h q′ (typed 𝓤 H A W (α 1 κ′) h was .1 .1 .0 .fits)) $ split ! $
         calls-at ! fm (ReadAt 𝓤 H A at-mem run) known-read-at to (and-then ! (load ! (from ! (stop !)) (look ! 15 refl)) (and-then ! (load ! (from ! (stop !)) (look ! 13 refl)) (no-more !))) (λ u.
         use1 W (later (some (λ (f : Record). ((‵ (flft κ′ q′) ⊛ ‵ ftrue) ⊛ ‵ (S.the-row .own f (u ∷ []))) ⊛ raw (ensured 𝓤 H A read-at.ended (read-at.clauses 𝓤 H A at-mem run) (κ′, tt) (h .stream, (h .at, tt)) tt f)))) (id⊢ 𝓤 _) $ await ! tt $ pick ! (λ f.
-        split ! $ move ! (1 ∷ []) $ use1 W (raw (fact 𝓤 (f ≡ found))) (said 𝓤 H A (lasts read-at.ended (κ′, tt) (h .stream, (h .at, tt))) _) $ heard ! (f ≡ found) (λ e. split ! $ move ! (1 ∷ []) $
+        split ! $ move ! (1 ∷ []) $ use1 W (raw (fact 𝓤 (f ≡ found))) (clause-said 𝓤 H A (lasts read-at.ended (κ′, tt) (h .stream, (h .at, tt))) _) $ heard ! (f ≡ found) (λ e. split ! $ move ! (1 ∷ []) $
         -- [what the record owns; 'a's token; what a Reader owns; the struct's cell; the open borrow; obs; auth; …; _6; …]
         peeks ! S.the-row (Is S.the-row) (shows 𝓤 H A S.the-row) f (u ∷ []) (λ is.
         land ! (from ! (stop !)) (init ! 12 refl (EL.lawful S.the-type S′.the-laws 𝓤 H A W tt .typed f _ is .0)) $
@@ -136,7 +136,7 @@ module _ {M : Type 1} (𝓤 : URA M) (H : Heap 𝓤) (A : Atoms 𝓤) (W : Given
         move ! (2 ∷ 1 ∷ []) $ use2 W (raw (BodyOf 𝓤 H A at-mem run .pre to) ⊛ ‵ (Held (α 1 κ′) h)) (held-asked 𝓤 H A at-mem run W (α 1 κ′) h q′ (typed 𝓤 H A W (α 1 κ′) h was .1 .1 .0 .fits)) $ split ! $
         calls-at ! fm (BodyOf 𝓤 H A at-mem run) known-body to (and-then ! (load ! (from ! (stop !)) (look ! 16 refl)) (and-then ! (load ! (from ! (stop !)) (look ! 14 refl)) (no-more !))) (λ u₂.
         use1 W (later (some (λ (p : RefT (List ℕ)). ((‵ (flft κ′ q′) ⊛ ‵ ftrue) ⊛ ‵ (ShrSlice (named 1) κ′ u8 .own p (u₂ ∷ []))) ⊛ raw (ensured 𝓤 H A body.ended (body.clauses 𝓤 H A at-mem run) (κ′, tt) (h .stream, (h .at, tt)) tt p)))) (id⊢ 𝓤 _) $ await ! tt $ pick ! (λ p.
-        split ! $ move ! (1 ∷ []) $ use1 W (raw (fact 𝓤 (PartOf (h .stream) (h .at) p))) (said 𝓤 H A (lasts body.ended (κ′, tt) (h .stream, (h .at, tt))) _) $ heard ! (PartOf (h .stream) (h .at) p) (λ e₂. split ! $ move ! (1 ∷ []) $
+        split ! $ move ! (1 ∷ []) $ use1 W (raw (fact 𝓤 (PartOf (h .stream) (h .at) p))) (clause-said 𝓤 H A (lasts body.ended (κ′, tt) (h .stream, (h .at, tt))) _) $ heard ! (PartOf (h .stream) (h .at) p) (λ e₂. split ! $ move ! (1 ∷ []) $
         -- [what the part owns; 'a's token; what a Reader owns; what the record owns; the struct's cell; the open borrow; obs; auth; …; _6; …]
         peeks ! (ShrSlice (named 1) κ′ u8) (Is (ShrSlice (named 1) κ′ u8)) (shows 𝓤 H A (ShrSlice (named 1) κ′ u8)) p (u₂ ∷ []) (λ is₂.
         land ! (from ! (stop !)) (init ! 11 refl (shr-slice-lawful 𝓤 H A W erased κ′ u8 .typed p _ is₂ .0)) $
@@ -144,7 +144,7 @@ module _ {M : Type 1} (𝓤 : URA M) (H : Heap 𝓤) (A : Atoms 𝓤) (W : Given
         move ! (2 ∷ 1 ∷ []) $ use2 W (raw (Behind 𝓤 H A at-mem run .pre to) ⊛ ‵ (Held (α 1 κ′) h)) (held-asked 𝓤 H A at-mem run W (α 1 κ′) h q′ (typed 𝓤 H A W (α 1 κ′) h was .1 .1 .0 .fits)) $ split ! $
         calls-at ! fm (Behind 𝓤 H A at-mem run) known-behind to (and-then ! (load ! (from ! (stop !)) (look ! 17 refl)) (and-then ! (load ! (from ! (stop !)) (look ! 15 refl)) (no-more !))) (λ u₃.
         use1 W (later (some (λ (n : ℕ). ((‵ (flft κ′ q′) ⊛ ‵ ftrue) ⊛ ‵ (usize .own n (u₃ ∷ []))) ⊛ raw (ensured 𝓤 H A behind.ended (behind.clauses 𝓤 H A at-mem run) (κ′, tt) (h .stream, (h .at, tt)) tt n)))) (id⊢ 𝓤 _) $ await ! tt $ pick ! (λ n.
-        split ! $ move ! (1 ∷ []) $ use1 W (raw (fact 𝓤 (n ≡ place))) (said 𝓤 H A (lasts behind.ended (κ′, tt) (h .stream, (h .at, tt))) _) $ heard ! (n ≡ place) (λ e₃. split ! $ move ! (1 ∷ []) $
+        split ! $ move ! (1 ∷ []) $ use1 W (raw (fact 𝓤 (n ≡ place))) (clause-said 𝓤 H A (lasts behind.ended (κ′, tt) (h .stream, (h .at, tt))) _) $ heard ! (n ≡ place) (λ e₃. split ! $ move ! (1 ∷ []) $
         peeks ! usize (Is usize) (shows 𝓤 H A usize) n (u₃ ∷ []) (λ is₃. drop ! $
         -- ['a's token; what a Reader owns; what the part owns; what the record owns; the struct's cell; the open borrow; obs; auth; …; _6; …; _5; …; _4; …; _3; …; _2; …; _1; …; room for _0; …]
         land ! (from ! (stop !)) (init ! 9 refl (uint-lawful 𝓤 H A W w64 .typed n _ is₃ .0)) $ rewrite ! 9 (λ (w : Val). ‵ (fat fullShare (tyInt w64) l₆ 0 w)) (ap only (is₃ .0)) refl $

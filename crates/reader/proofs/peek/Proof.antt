@@ -50,7 +50,7 @@ use Rattle.reader.proofs.peek.Key.{name as #reader·peek}
 use Rattle.reader.proofs.peek as peek
 use Rattle.reader.proofs.peek.Statement as stated
 use Rattle.reader.proofs.peek.Code as code
-use Rattle.reader.proofs.Held.{α, Held, said, B₁, ReadAt, to-plain, held-asked}
+use Rattle.reader.proofs.Held.{α, Held, clause-said, B₁, ReadAt, to-plain, held-asked}
 
 -- the struct's type, over the signature's lifetimes
 abbrev B : Lfts 1 → RattleType
@@ -91,7 +91,7 @@ module _ {M : Type 1} (𝓤 : URA M) (H : Heap 𝓤) (A : Atoms 𝓤) (W : Given
         move ! (8 ∷ []) $ use1 W (raw (ReadAt 𝓤 H A mem run .pre to) ⊛ ‵ (Held (α 0 κ) d)) (apart (wt .1 .1 .0 .fits)) $ split ! $
         calls-at ! fm (ReadAt 𝓤 H A mem run) known to (and-then ! (load ! (from ! (stop !)) (look ! 4 refl)) (and-then ! (load ! (from ! (stop !)) (look ! 2 refl)) (no-more !))) (λ u.
         use1 W (later (some (λ (r : Record). ((‵ (flft κ q) ⊛ ‵ ftrue) ⊛ ‵ (S.the-row .own r (u ∷ []))) ⊛ raw (ensured 𝓤 H A read-at.ended (read-at.clauses 𝓤 H A mem run) (κ, tt) (d .stream, (d .at, tt)) tt r)))) (id⊢ 𝓤 _) $ await ! tt $ pick ! (λ r.
-        split ! $ move ! (1 ∷ []) $ use1 W (raw (fact 𝓤 (r ≡ found))) (said 𝓤 H A (lasts read-at.ended (κ, tt) (d .stream, (d .at, tt))) _) $ heard ! (r ≡ found) (λ e. split ! $ move ! (1 ∷ []) $
+        split ! $ move ! (1 ∷ []) $ use1 W (raw (fact 𝓤 (r ≡ found))) (clause-said 𝓤 H A (lasts read-at.ended (κ, tt) (d .stream, (d .at, tt))) _) $ heard ! (r ≡ found) (λ e. split ! $ move ! (1 ∷ []) $
         -- [the result; the token; what the struct owns; _3; …; _2; …; _1; …; room for _0; …]
         peeks ! S.the-row (Is S.the-row) (shows 𝓤 H A S.the-row) r (u ∷ []) (λ is.
         land ! (from ! (stop !)) (init ! 9 refl (EL.lawful S.the-type S′.the-laws 𝓤 H A W tt .typed r _ is .0)) $

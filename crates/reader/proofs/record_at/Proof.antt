@@ -52,7 +52,7 @@ use Rattle.reader.proofs.record_at.Key.{name as #reader·record-at}
 use Rattle.reader.proofs.record_at as record-at
 use Rattle.reader.proofs.record_at.Statement as stated
 use Rattle.reader.proofs.record_at.Code as code
-use Rattle.reader.proofs.Held.{αᵉ, v, passed, Own, B₁, New, said, to-plain, goes-plain, stayed-plain as stayed}
+use Rattle.reader.proofs.Held.{αᵉ, v, passed, Own, B₁, New, clause-said, to-plain, goes-plain, stayed-plain as stayed}
 
 module _ {M : Type 1} (𝓤 : URA M) (H : Heap 𝓤) (A : Atoms 𝓤) (mem : Memory → SProp 𝓤) (run : Routine → Fun 𝓤) where
   -- the contracts that the proof cites
@@ -87,14 +87,14 @@ module _ {M : Type 1} (𝓤 : URA M) (H : Heap 𝓤) (A : Atoms 𝓤) (W : Given
         move ! (8 ∷ []) $ use1 W (raw (New 𝓤 H A mem run .pre (to-plain 𝓤 H A mem run κ s n q)) ⊛ ‵ (Own κ s)) (goes-plain 𝓤 H A mem run κ s n q W) $ split ! $
         calls-at ! fm (New 𝓤 H A mem run) known-new (to-plain 𝓤 H A mem run κ s n q) (and-then ! (load ! (from ! (stop !)) (look ! 6 refl)) (and-then ! (load ! (from ! (stop !)) (look ! 4 refl)) (no-more !))) (λ u.
         use1 W (later (some (λ (r : Reader). ((‵ (flft κ q) ⊛ ‵ ftrue) ⊛ ‵ (B₁ κ .own r (u ∷ []))) ⊛ raw (ensured 𝓤 H A reader-at.ended (reader-at.clauses 𝓤 H A mem run) (κ, tt) (s, (n, tt)) tt r)))) (id⊢ 𝓤 _) $ await ! tt $ pick ! (λ r.
-        split ! $ move ! (1 ∷ []) $ use1 W (raw (fact 𝓤 ((r .stream ≡ s) × (r .at ≡ n)))) (said 𝓤 H A (lasts reader-at.ended (κ, tt) (s, (n, tt))) _) $ heard ! ((r .stream ≡ s) × (r .at ≡ n)) (λ e. split ! $ move ! (1 ∷ []) $
+        split ! $ move ! (1 ∷ []) $ use1 W (raw (fact 𝓤 ((r .stream ≡ s) × (r .at ≡ n)))) (clause-said 𝓤 H A (lasts reader-at.ended (κ, tt) (s, (n, tt))) _) $ heard ! ((r .stream ≡ s) × (r .at ≡ n)) (λ e. split ! $ move ! (1 ∷ []) $
         -- [what the struct owns; the token; what s owns; room for _3; …; _2; …; _1; …; room for _0; …]
         peeks ! (B₁ κ) (Is (B₁ κ)) (shows 𝓤 H A (B₁ κ)) r (u ∷ []) (λ is.
         land ! (from ! (stop !)) (init ! 3 refl (LL.lawful (T.the-type (αᵉ κ)) (T′.the-laws (αᵉ κ)) 𝓤 H A W .typed r _ is .0)) $
         use2 W (raw (Next 𝓤 H A mem run .pre (to-next r u))) (goes-next r u) $
         calls-at ! fm (Next 𝓤 H A mem run) known-next (to-next r u) (and-then ! (load ! (from ! (stop !)) (look ! 2 refl)) (no-more !)) (λ u′.
         use1 W (later (some (λ (t : Record). ((‵ (flft κ q) ⊛ ‵ ftrue) ⊛ ‵ (S.the-row .own t (u′ ∷ []))) ⊛ raw (ensured 𝓤 H A peek.ended (peek.clauses 𝓤 H A mem run) (κ, tt) (r, tt) tt t)))) (id⊢ 𝓤 _) $ await ! tt $ pick ! (λ t.
-        split ! $ move ! (1 ∷ []) $ use1 W (raw (fact 𝓤 (t ≡ readAt (now (r .stream)) (r .at)))) (said 𝓤 H A (lasts peek.ended (κ, tt) (r, tt)) _) $ heard ! (t ≡ readAt (now (r .stream)) (r .at)) (λ e′. split ! $ move ! (1 ∷ []) $
+        split ! $ move ! (1 ∷ []) $ use1 W (raw (fact 𝓤 (t ≡ readAt (now (r .stream)) (r .at)))) (clause-said 𝓤 H A (lasts peek.ended (κ, tt) (r, tt)) _) $ heard ! (t ≡ readAt (now (r .stream)) (r .at)) (λ e′. split ! $ move ! (1 ∷ []) $
         -- [the result; the token; what s owns; _3; …; _2; …; _1; …; room for _0; …]
         peeks ! S.the-row (Is S.the-row) (shows 𝓤 H A S.the-row) t (u′ ∷ []) (λ is′.
         land ! (from ! (stop !)) (init ! 9 refl (EL.lawful S.the-type S′.the-laws 𝓤 H A W tt .typed t _ is′ .0)) $

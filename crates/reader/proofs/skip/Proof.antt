@@ -48,7 +48,7 @@ use Rattle.reader.proofs.skip.Key.{name as #reader·skip}
 use Rattle.reader.proofs.skip as skip
 use Rattle.reader.proofs.skip.Statement as stated
 use Rattle.reader.proofs.skip.Code as code
-use Rattle.reader.proofs.Held.{α, D, L, Held, said, at-n, to-plain, held-asked, again, typed, B₂, Behind, referent, stayed-lent as stayed}
+use Rattle.reader.proofs.Held.{α, D, L, Held, clause-said, at-n, to-plain, held-asked, again, typed, B₂, Behind, referent, stayed-lent as stayed}
 
 module _ {M : Type 1} (𝓤 : URA M) (H : Heap 𝓤) (A : Atoms 𝓤) (W : Given 𝓤 H A) (at-mem : Memory → SProp 𝓤) (run : Routine → Fun 𝓤) (κ κ′ : Lft) (q q′ : Share) (bounds : AllOutlive 2 (skip.signature .outlives) (κ, (κ′, tt))) (b o : ℕ) (γ : GName) (h : Reader) where
   abbrev x : RefT Reader × Unit {0}
@@ -91,7 +91,7 @@ module _ {M : Type 1} (𝓤 : URA M) (H : Heap 𝓤) (A : Atoms 𝓤) (W : Given
         -- [what `behind` asks; what a Reader owns; the struct's cell; the open borrow; obs; auth; …; _4; …; _3; …; _2; …; _1; …; room for _0; …]
         calls-at ! fm (Behind 𝓤 H A at-mem run) known to (and-then ! (load ! (from ! (stop !)) (look ! 7 refl)) (and-then ! (load ! (from ! (stop !)) (look ! 11 refl)) (no-more !))) (λ u.
         use1 W (later (some (λ (n : ℕ). ((‵ (flft κ′ q′) ⊛ ‵ ftrue) ⊛ ‵ (usize .own n (u ∷ []))) ⊛ raw (ensured 𝓤 H A behind.ended (behind.clauses 𝓤 H A at-mem run) (κ′, tt) (h .stream, (h .at, tt)) tt n)))) (id⊢ 𝓤 _) $ await ! tt $ pick ! (λ n.
-        split ! $ move ! (1 ∷ []) $ use1 W (raw (fact 𝓤 (n ≡ place))) (said 𝓤 H A (lasts behind.ended (κ′, tt) (h .stream, (h .at, tt))) _) $ heard ! (n ≡ place) (λ e. split ! $ move ! (1 ∷ []) $
+        split ! $ move ! (1 ∷ []) $ use1 W (raw (fact 𝓤 (n ≡ place))) (clause-said 𝓤 H A (lasts behind.ended (κ′, tt) (h .stream, (h .at, tt))) _) $ heard ! (n ≡ place) (λ e. split ! $ move ! (1 ∷ []) $
         -- [what the result owns; 'a's token; what a Reader owns; the struct's cell; the open borrow; obs; auth; …; _4; …; _3; …; _2; …; _1; …; room for _0; …]
         peeks ! usize (Is usize) (shows 𝓤 H A usize) n (u ∷ []) (λ is. drop ! $
         -- ['a's token; what a Reader owns; the struct's cell; the open borrow; obs; auth; …; _4; …; _3; …; _2; …; _1; …; room for _0; …]
