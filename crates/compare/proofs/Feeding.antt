@@ -26,7 +26,6 @@ module _ (l : List ℕ) (w : Window) (s : WindowSound (length l) w) where
   window-waits =
       let i = length-take-le (w .have) l (s .buffered) in
       let j = length-drop (w .at) (take (w .have) l) in
-      let h = s .within in
       ap (λ x. take (w .have - w .at) (drop (w .at) x)) (sym (take-append-drop (w .have) l)) ∙ ap (take (w .have - w .at)) (drop-append-le (w .at) (take (w .have) l) (drop (w .have) l) (omega arith)) ∙ take-append-le (w .have - w .at) (drop (w .at) (take (w .have) l)) (drop (w .have) l) (omega arith)
 
   pub waiting-length : length (waitingIn l w) ≤ w .have - w .at
@@ -34,13 +33,13 @@ module _ (l : List ℕ) (w : Window) (s : WindowSound (length l) w) where
 
   module _ {m : ℕ} (h : m ≤ length (waitingIn l w)) where
     pub moved-at : (w .at + m) % 2 ^ 64 ≡ w .at + m
-    moved-at = let k = waiting-length in let i = s .within in let j = s .placed in omega arith
+    moved-at = let k = waiting-length in omega arith
 
     pub moved-sound : WindowSound (length l) (movedBy w m)
-    moved-sound = let k = waiting-length in let i = s .within in record { within = rw moved-at (omega arith); buffered = s .buffered; placed = s .placed }
+    moved-sound = let k = waiting-length in record { within = rw moved-at (omega arith); buffered = s .buffered; placed = s .placed }
 
     pub moved-left : leftOf (movedBy w m) + 2 * m ≡ leftOf w
-    moved-left = let k = waiting-length in let i = s .within in rw moved-at (omega arith)
+    moved-left = let k = waiting-length in rw moved-at (omega arith)
 
   -- ---- read on
 
@@ -57,37 +56,29 @@ module _ (l : List ℕ) (w : Window) (s : WindowSound (length l) w) where
     down = q ∙ rw fits
 
     front-length : length (take (w .have - w .at) (drop (w .at) l)) ≡ w .have - w .at
-    front-length = let k = length-drop (w .at) l in let i = s .within in let j = s .buffered in length-take-le (w .have - w .at) (drop (w .at) l) (omega arith)
+    front-length = let k = length-drop (w .at) l in length-take-le (w .have - w .at) (drop (w .at) l) (omega arith)
 
     pub same-size : length l₀ ≡ length l
-    same-size =
-        let f = front-length in
-        let i = s .within in
-        let j = s .buffered in
-        let a = length-append (take (w .have - w .at) (drop (w .at) l)) (drop (w .have - w .at) l) in
-        let d = length-drop (w .have - w .at) l in
-        ap length down ∙ (let z : length (movedDown l (w .at) (w .have - w .at)) ≡ length l = omega arith in z)
+    same-size = omega (arith, ap length down, front-length, length-append (take (w .have - w .at) (drop (w .at) l)) (drop (w .have - w .at) l), length-drop (w .have - w .at) l)
 
     module _ {f : Filled} {l₁ : List ℕ} (k : Read l₀ have f l₁) where
       keeps : take (w .have - w .at) l₁ ≡ waitingIn l w
       keeps =
-          let z = front-length in
-          let c = count-waits in
           let e : take (w .have - w .at) l₁ ≡ take (w .have - w .at) l₀ = rw count-waits at (k .before) in
-          e ∙ ap (take (w .have - w .at)) down ∙ take-append-le (w .have - w .at) (take (w .have - w .at) (drop (w .at) l)) (drop (w .have - w .at) l) (omega arith) ∙ twice ∙ window-waits
+          e ∙ ap (take (w .have - w .at)) down ∙ take-append-le (w .have - w .at) (take (w .have - w .at) (drop (w .at) l)) (drop (w .have - w .at) l) (omega (arith, front-length)) ∙ twice ∙ window-waits
         where
           twice : take (w .have - w .at) (take (w .have - w .at) (drop (w .at) l)) ≡ take (w .have - w .at) (drop (w .at) l)
-          twice = take-all (w .have - w .at) (take (w .have - w .at) (drop (w .at) l)) (let z = front-length in omega arith)
+          twice = take-all (w .have - w .at) (take (w .have - w .at) (drop (w .at) l)) (omega (arith, front-length))
 
       feeds : (h : ℕ) (e : Bool) (m : Met) → h ≤ length l → w .base + w .at + h < 2 ^ 64 → WindowGrown (w .have - w .at) (window (w .base + w .at) 0 h e) m
           → {r : Topped} → r ≡ topped (w .base + w .at) h e m → Fed l w (r .window) (r .met) l₁
       feeds h e m i j g x = rw x (record { kept = keeps; front = refl; place = refl; more = g; sound = record { within = omega arith; buffered = i; placed = j } })
 
       pub fed-end : {r : Topped} → r ≡ topped (w .base + w .at) have true met.Read → Fed l w (r .window) (r .met) l₁
-      fed-end e = let c = count-waits in let i = s .within in let j = s .buffered in let n = s .placed in feeds have true met.Read (omega arith) (omega arith) (inr (c, refl)) e
+      fed-end e = let c = count-waits in feeds have true met.Read (omega arith) (omega arith) (inr (c, refl)) e
 
       pub fed-stuck : {r : Topped} → r ≡ topped (w .base + w .at) have false met.Stuck → Fed l w (r .window) (r .met) l₁
-      fed-stuck e = let c = count-waits in let i = s .within in let j = s .buffered in let n = s .placed in feeds have false met.Stuck (omega arith) (omega arith) tt e
+      fed-stuck e = let c = count-waits in feeds have false met.Stuck (omega arith) (omega arith) tt e
 
       pub fed-came : {n : ℕ} → f ≡ filled.To n → {r : Topped} → r ≡ cameTo (w .base + w .at) have n → Fed l w (r .window) (r .met) l₁
       unfolding cameTo
@@ -95,8 +86,6 @@ module _ (l : List ℕ) (w : Window) (s : WindowSound (length l) w) where
           let reach : Reaches have (length l₀) (filled.To n) = rw g at (k .reaches) in
           let c = count-waits in
           let i = same-size in
-          let j = s .placed in
-          let o = s .within in
           ⊎-elim
           (λ y. fed-stuck (rw (lt-ltb (2 ^ 64 - 1 - (w .base + w .at)) n y) at e))
           (λ y. feeds n false met.Read (omega arith) (omega arith) (inl (omega arith, refl)) (rw (le-ltb (2 ^ 64 - 1 - (w .base + w .at)) n y) at e))

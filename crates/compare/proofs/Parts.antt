@@ -1,6 +1,6 @@
 -- The check part by part: what each part comes to, and that the parts are the log.
 use mathlib.Core.Path.{_≡_, refl, sym, ap}
-use mathlib.Core.Logic.{inl, inr, ⊎-elim}
+use mathlib.Core.Logic.{inr, ⊎-elim}
 use mathlib.Core.Bool.{Bool, true, false}
 use mathlib.Core.List.{List, [], _++_}
 use Prim.Native.Nat.{ℕ, _+_, _-_, _^_, _≤_, _<_}
@@ -35,7 +35,6 @@ module _ {c : Check} (k : Checked c) {r : Check} where
       (λ z.
       let x = length-append (k .bytes) (take n l) in
       let v = length-take-le n l h in
-      let w = k .read in
       let e′ : r ≡ passedOf (passedBytes (c .checking) (take n l)) (c .read + n) = rw (le-ltb (2 ^ 64 - 1 - c .read) n z) at e in
       rw e′ (
         record {
@@ -47,8 +46,11 @@ module _ {c : Check} (k : Checked c) {r : Check} where
       ))
       (lt-or-ge (2 ^ 64 - 1 - c .read) n)
 
-  pub reads-on : (l : List ℕ) → ReadOn l c r → Onward c r
+  reads-on : (l : List ℕ) → ReadOn l c r → Onward c r
   reads-on l x = ⊎-elim (λ e. stops true e) (λ y. ⊎-elim (λ e. stops false e) (λ v. part-came l (v .n) (v .some) (v .within) (v .is)) y) x
+
+  pub reads-checked : (l : List ℕ) → ReadOn l c r → Checked r
+  reads-checked l x = reads-on l x .0
 
 pub started-checked : {c : Check} → c ≡ started → Checked c
 unfolding passedBytes
@@ -56,15 +58,12 @@ started-checked e = rw e (record { bytes = []; checking = refl; read = refl })
 
 -- ---- a part that is read
 
-pub read-none : (l : List ℕ) (c : Check) {r : Check} → r ≡ overOf c false → ReadOn l c r
-read-none l c e = inr (inl e)
-
 pub read-some : (l : List ℕ) (c : Check) {l₀ : List ℕ} {f : Filled} → Read l₀ 0 f l → {n : ℕ} → f ≡ filled.To n → length l₀ ≡ length l → {r : Check} → r ≡ cameOf l n c → ReadOn l c r
-read-some l c {l₀} k {n} g s e = let i : Reaches 0 (length l₀) (filled.To n) = rw g at (k .reaches) in let j = i .1 in inr (inr (record { n = n; some = i .0; within = omega arith; is = e }))
+read-some l c {l₀} k {n} g s e = let i : Reaches 0 (length l₀) (filled.To n) = rw g at (k .reaches) in inr (inr (record { n = n; some = i .0; within = omega arith; is = e }))
 
 -- what is left to read, in turns
 abbrev pub toRead : Check → ℕ
 toRead c = pick (c .more) (1 + (2 ^ 64 - c .read)) 0
 
-pub less-to-read : (c r : Check) → c .more ≡ true → (r .more ≡ true → (c .read < r .read) × (r .read < 2 ^ 64)) → toRead r < toRead c
-less-to-read c r m f = rw m (⊎-elim (λ q. let x = f q in rw q (omega arith)) (λ q. rw q (omega arith)) (flag (r .more)))
+pub less-to-read : {c : Check} → Checked c → {r : Check} (l : List ℕ) → ReadOn l c r → c .more ≡ true → toRead r < toRead c
+less-to-read k {r} l x m = rw m (⊎-elim (λ q. let y = reads-on k l x .1 q in rw q (omega arith)) (λ q. rw q (omega arith)) (flag (r .more)))

@@ -3,7 +3,7 @@ use mathlib.Core.Path.{_≡_, refl, sym, ap, _∙_}
 use mathlib.Core.Logic.{⊎-elim}
 use mathlib.Core.Bool.{Bool, true, false}
 use mathlib.Core.List.{List}
-use Prim.Native.Nat.{ℕ, _+_, _-_, _^_, _≤_, _<_}
+use Prim.Native.Nat.{ℕ, _+_, _-_, _≤_, _<_}
 use native.Mathlib.Omega.{arith}
 use lib.ListN.{length}
 use Rattle.words.specs.Words.{pick}
@@ -21,7 +21,7 @@ use Rattle.compare.specs.declared.turns.Turned.{Turned}
 use Rattle.compare.specs.declared.listing.Work.{Work}
 use Rattle.compare.specs.declared.showing.Shown.{Shown}
 use Rattle.compare.specs.Lines.{PutWhere, NothingPut, ListsPair}
-use Rattle.compare.specs.Windows.{unread, waitingIn, movedBy, WindowSound, WindowGrown, Fed, leftOf}
+use Rattle.compare.specs.Windows.{waitingIn, movedBy, WindowSound, WindowGrown, Fed, leftOf}
 use Rattle.compare.specs.Turns.{passBegun, passTurned, nextStep, Comes, BothSound, anotherTurn, leftInPass, LessLeft}
 use Rattle.compare.proofs.Feeding.{moved-sound, moved-left}
 
@@ -30,17 +30,12 @@ mark-le true = omega arith
 mark-le false = omega arith
 
 -- reading on leaves less, where it goes on
-fed-less : (w v : Window) (m : Met) → WindowSound (w .have) w → v .at ≡ 0 → v .base ≡ w .base + w .at → v .base + v .have < 2 ^ 64 → WindowGrown (w .have - w .at) v m → w .ended ≡ false → anotherTurn m ≡ true → leftOf v < leftOf w
-fed-less w v met.Read s a p l g e h =
-    let i = s .within in
-    ⊎-elim
-    (λ x. let j = x .0 in rw (e, x .1) (omega arith))
-    (λ x. let j = x .0 in rw (e, x .1) (omega arith))
-    g
-fed-less w v met.Stuck s a p l g e h = clash h refl
-fed-less w v (met.Row x y z) s a p l g e h = absurd g
-fed-less w v (met.Pair x) s a p l g e h = absurd g
-fed-less w v met.Over s a p l g e h = absurd g
+fed-less : {l l₁ : List ℕ} {w v : Window} (m : Met) → WindowSound (length l) w → Fed l w v m l₁ → w .ended ≡ false → anotherTurn m ≡ true → leftOf v < leftOf w
+fed-less met.Read s f e h = ⊎-elim (λ x. rw (e, x .1) (omega arith)) (λ x. rw (e, x .1) (omega arith)) (f .more)
+fed-less met.Stuck s f e h = clash h refl
+fed-less (met.Row x y z) s f e h = absurd (f .more)
+fed-less (met.Pair x) s f e h = absurd (f .more)
+fed-less met.Over s f e h = absurd (f .more)
 
 module _ (l r : List ℕ) {p : Pass} (y : BothSound (length l) (length r) p) (t : Turned) (l₁ r₁ : List ℕ) where
   goes-by : (st : Step) → Moves (p .walk) (waitingIn l (p .a)) (p .a .ended) (waitingIn r (p .b)) (p .b .ended) st → Comes l r p t l₁ r₁ st → LessLeft p (t .pass) (anotherTurn (t .met)) (length l) (length r)
@@ -48,7 +43,6 @@ module _ (l r : List ℕ) {p : Pass} (y : BothSound (length l) (length r) p) (t 
   goes-by (step.Row m n same v) k c =
       let i = moved-left l (p .a) (y .first) (k .0) in
       let j = moved-left r (p .b) (y .second) (k .1) in
-      let h = k .2 in
       let u = mark-le (untouched v) in
       rw (c .0) (record {
         ready = record { first = moved-sound l (p .a) (y .first) (k .0); second = moved-sound r (p .b) (y .second) (k .1) };
@@ -57,63 +51,49 @@ module _ (l r : List ℕ) {p : Pass} (y : BothSound (length l) (length r) p) (t 
   goes-by (step.Pair differs v) k c = rw (c .0) (record { ready = record { first = y .first; second = y .second }; less = λ e. rw (k .0, k .1) (omega arith) })
   goes-by step.Over k c = rw (c .0) (record { ready = record { first = y .first; second = y .second }; less = λ e. clash e refl })
   goes-by step.WantsFirst k c =
-      let f = c .0 in
       record {
-        ready = record { first = f .sound; second = rw (c .1) (y .second) };
-        less = λ e.
-            let d = fed-less (p .a) (t .pass .a) (t .met) (record { within = y .first .within; buffered = omega arith; placed = y .first .placed }) (f .front) (f .place) (f .sound .placed) (f .more) k e in
-            rw (c .1, c .2) (omega arith);
+        ready = record { first = c .0 .sound; second = rw (c .1) (y .second) };
+        less = λ e. let d = fed-less (t .met) (y .first) (c .0) k e in rw (c .1, c .2) (omega arith);
       }
   goes-by step.WantsSecond k c =
-      let f = c .0 in
       record {
-        ready = record { first = rw (c .1) (y .first); second = f .sound };
-        less = λ e.
-            let d = fed-less (p .b) (t .pass .b) (t .met) (record { within = y .second .within; buffered = omega arith; placed = y .second .placed }) (f .front) (f .place) (f .sound .placed) (f .more) k e in
-            rw (c .1, c .2) (omega arith);
+        ready = record { first = rw (c .1) (y .first); second = c .0 .sound };
+        less = λ e. let d = fed-less (t .met) (y .second) (c .0) k e in rw (c .1, c .2) (omega arith);
       }
 
-  pub comes-goes : Comes l r p t l₁ r₁ (nextStep l r p) → LessLeft p (t .pass) (anotherTurn (t .met)) (length l) (length r)
-  comes-goes c = goes-by (nextStep l r p) (moves (p .walk) (waitingIn l (p .a)) (p .a .ended) (waitingIn r (p .b)) (p .b .ended)) c
+  abbrev pub TurnTaken : Type 0
+  TurnTaken = Comes l r p t l₁ r₁ (nextStep l r p) × LessLeft p (t .pass) (anotherTurn (t .met)) (length l) (length r)
 
   -- the step that the code took, on the bytes that it saw, is the next step
   module _ {x z : List ℕ} (i : x ≡ waitingIn l (p .a)) (j : z ≡ waitingIn r (p .b)) {st : Step} (k : st ≡ stepped (p .walk) x (p .a .ended) z (p .b .ended)) where
-    by-step : {s : Step} → st ≡ s → Comes l r p t l₁ r₁ s → Comes l r p t l₁ r₁ (nextStep l r p) × LessLeft p (t .pass) (anotherTurn (t .met)) (length l) (length r)
+    by-step : {s : Step} → st ≡ s → Comes l r p t l₁ r₁ s → TurnTaken
     by-step {s} e c =
         let q : s ≡ nextStep l r p = sym e ∙ k ∙ rw (i, j) in
         let d : Comes l r p t l₁ r₁ (nextStep l r p) = rw q at c in
-        (d, comes-goes d)
+        (d, goes-by (nextStep l r p) (moves (p .walk) (waitingIn l (p .a)) (p .a .ended) (waitingIn r (p .b)) (p .b .ended)) d)
 
-    pub turn-row : {m n : ℕ} {same : Bool} {v : Walk} → st ≡ step.Row m n same v → {u w : Window} → u ≡ movedBy (p .a) m → w ≡ movedBy (p .b) n → t ≡ passTurned u w v (met.Row m n same) → l₁ ≡ l → r₁ ≡ r
-        → Comes l r p t l₁ r₁ (nextStep l r p) × LessLeft p (t .pass) (anotherTurn (t .met)) (length l) (length r)
+    pub turn-row : {m n : ℕ} {same : Bool} {v : Walk} → st ≡ step.Row m n same v → {u w : Window} → u ≡ movedBy (p .a) m → w ≡ movedBy (p .b) n → t ≡ passTurned u w v (met.Row m n same) → l₁ ≡ l → r₁ ≡ r → TurnTaken
     unfolding Comes
     turn-row e f g h a b = by-step e (h ∙ rw (f, g), a, b)
 
-    pub turn-pair : {d : Bool} {v : Walk} → st ≡ step.Pair d v → t ≡ passTurned (p .a) (p .b) v (met.Pair d) → l₁ ≡ l → r₁ ≡ r
-        → Comes l r p t l₁ r₁ (nextStep l r p) × LessLeft p (t .pass) (anotherTurn (t .met)) (length l) (length r)
+    pub turn-pair : {d : Bool} {v : Walk} → st ≡ step.Pair d v → t ≡ passTurned (p .a) (p .b) v (met.Pair d) → l₁ ≡ l → r₁ ≡ r → TurnTaken
     unfolding Comes
     turn-pair e h a b = by-step e (h, a, b)
 
-    pub turn-over : st ≡ step.Over → t ≡ passTurned (p .a) (p .b) (p .walk) met.Over → l₁ ≡ l → r₁ ≡ r
-        → Comes l r p t l₁ r₁ (nextStep l r p) × LessLeft p (t .pass) (anotherTurn (t .met)) (length l) (length r)
+    pub turn-over : st ≡ step.Over → t ≡ passTurned (p .a) (p .b) (p .walk) met.Over → l₁ ≡ l → r₁ ≡ r → TurnTaken
     unfolding Comes
     turn-over e h a b = by-step e (h, a, b)
 
-    pub turn-first : st ≡ step.WantsFirst → {v : Window} {m : Met} → Fed l (p .a) v m l₁ → t ≡ passTurned v (p .b) (p .walk) m → r₁ ≡ r
-        → Comes l r p t l₁ r₁ (nextStep l r p) × LessLeft p (t .pass) (anotherTurn (t .met)) (length l) (length r)
+    pub turn-first : st ≡ step.WantsFirst → {v : Window} {m : Met} → Fed l (p .a) v m l₁ → t ≡ passTurned v (p .b) (p .walk) m → r₁ ≡ r → TurnTaken
     unfolding Comes
     turn-first e f h b = by-step e (rw h (f, refl, refl, b))
 
-    pub turn-second : st ≡ step.WantsSecond → {v : Window} {m : Met} → Fed r (p .b) v m r₁ → t ≡ passTurned (p .a) v (p .walk) m → l₁ ≡ l
-        → Comes l r p t l₁ r₁ (nextStep l r p) × LessLeft p (t .pass) (anotherTurn (t .met)) (length l) (length r)
+    pub turn-second : st ≡ step.WantsSecond → {v : Window} {m : Met} → Fed r (p .b) v m r₁ → t ≡ passTurned (p .a) v (p .walk) m → l₁ ≡ l → TurnTaken
     unfolding Comes
     turn-second e f h a = by-step e (rw h (f, refl, refl, a))
 
 pub begun-ready : (x y : ℕ) {p : Pass} → p ≡ passBegun → BothSound x y p
-begun-ready x y e = rw e (record { first = none x; second = none y })
-  where
-    none : (x : ℕ) → WindowSound x unread
-    none x = record { within = omega arith; buffered = omega arith; placed = omega arith }
+begun-ready x y e = rw e (omega arith)
 
 -- what is left, in turns
 abbrev pub passTurnsLeft : Bool → Pass → ℕ
@@ -130,7 +110,7 @@ pass-on g f h e more = rw e (record { ready = g .ready; less = λ a. g .less (ap
 pub pass-halt : (p : Pass) {q : Pass} {x y : ℕ} → BothSound x y q → {u : Pass} → u ≡ q → {more : Bool} → more ≡ false → LessLeft p u more x y
 pass-halt p r e h = rw e (record { ready = r; less = λ a. clash a h })
 
-pub same-ready : {p q : Pass} {x y : ℕ} → p ≡ q → BothSound x y q → BothSound x y p
+pub same-ready : {s u : Shown} {x y : ℕ} → s ≡ u → BothSound x y (u .pass) → BothSound x y (s .pass)
 same-ready e r = rw e r
 
 -- ---- which turns put lines

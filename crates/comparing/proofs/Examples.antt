@@ -1,6 +1,6 @@
 -- The definitions at work on small logs, by computation.
 use mathlib.Core.Path.{_≡_, refl}
-use mathlib.Core.List.{List, [], _∷_, _++_}
+use mathlib.Core.List.{List, [], _∷_, _++_, map}
 use Prim.Native.Nat.{ℕ}
 use Rattle.model.specs.RecordsOf as records
 use Rattle.comparing.specs.declared.Compared.the-variants as answer
@@ -29,17 +29,9 @@ unfolding groups groupsFrom
 no-groups = refl
 
 -- the pair of number 1 differs; asked from 2, the one of number 2, whose second side has run out; asked from 3, none
-first-asked : compared (tick ++ (refused 5 ++ tick)) (tick ++ refused 6) 0 ≡ answer.Differs 1 1 2 1 2
+asked-with : map (compared (tick ++ (refused 5 ++ tick)) (tick ++ refused 6)) (0 ∷ 2 ∷ 3 ∷ []) ≡ answer.Differs 1 1 2 1 2 ∷ answer.Differs 2 3 1 3 0 ∷ answer.Same ∷ []
 unfolding compared checked scanned scannedFrom wrongAt firstDifference firstOf samePair sameBytes groupSide groups groupsFrom groupEnd endFrom recordPast recordEnd startsGroup isEvent records.lengthOf tick refused
-first-asked = refl
-
-then-asked : compared (tick ++ (refused 5 ++ tick)) (tick ++ refused 6) 2 ≡ answer.Differs 2 3 1 3 0
-unfolding compared checked scanned scannedFrom wrongAt firstDifference firstOf samePair sameBytes groupSide groups groupsFrom groupEnd endFrom recordPast recordEnd startsGroup isEvent records.lengthOf tick refused
-then-asked = refl
-
-asked-past : compared (tick ++ (refused 5 ++ tick)) (tick ++ refused 6) 3 ≡ answer.Same
-unfolding compared checked scanned scannedFrom wrongAt firstDifference firstOf samePair sameBytes groupSide groups groupsFrom groupEnd endFrom recordPast recordEnd startsGroup isEvent records.lengthOf tick refused
-asked-past = refl
+asked-with = refl
 
 both-empty : compared [] [] 0 ≡ answer.Same
 unfolding compared checked scanned scannedFrom firstDifference firstOf groups groupsFrom

@@ -5,10 +5,10 @@ use mathlib.Core.Bool.{Bool, true, false, not}
 use mathlib.Core.List.{List, [], _∷_, _++_}
 use Prim.Native.Nat.{ℕ, zero, suc, _+_, _-_, _%_, _^_, min, _≤_, _<_}
 use native.Mathlib.Omega.{arith}
-use borrow.Author.Tests.{ne-eqb, lt-ltb, le-leb, lt-leb, leb-true, leb-false}
+use borrow.Author.Tests.{ne-eqb, lt-ltb, le-leb, lt-leb}
 use lib.ListN.{length, getD, take, drop, length-append, length-take, length-drop, take-append-drop}
 use lib.Seq.{getD-append-add}
-use lib.Dec.{eqb, leb, ltb}
+use lib.Dec.{eqb, ltb}
 use Rattle.words.specs.Words.{pick}
 use Rattle.words.proofs.Flags.{flag}
 use Rattle.words.proofs.Below.{lt-or-ge}
@@ -117,14 +117,11 @@ module _ (n : ℕ) (k : ℕ) (s : List ℕ) (p q : ℕ) (i : Bool) (room : p + s
   Told : Type 0
   Told = faultTold (passedBytes (so-far p q 0 i) (k ∷ s)) ≡ orThen (shifted p (scannedFrom (suc n) (k ∷ s) 0)) (ends p i (k ∷ s))
 
-  told-bad : isEvent k ≡ false → faultTold (passedBytes (so-far p q 0 i) (k ∷ s)) ≡ fault.At 14 p
-  unfolding passedBytes faultTold
-  told-bad e =
-      ap (λ c. faultTold (passedBytes c s)) (sym (byte-stuck (so-far p q 0 i) k refl refl e)) ∙ ap faultTold (stays-wrong s (stuck (so-far p q 0 i)) refl)
-
   bad-kind : isEvent k ≡ false → Told
-  unfolding Told scannedFrom wrongAt
-  bad-kind e = let z : p + 0 ≡ p = omega arith in told-bad e ∙ rw (lt-ltb 0 (suc (length s)) (omega arith), e, z)
+  unfolding Told passedBytes faultTold scannedFrom wrongAt
+  bad-kind e =
+      let z : p + 0 ≡ p = omega arith in
+      ap (λ c. faultTold (passedBytes c s)) (sym (byte-stuck (so-far p q 0 i) k refl refl e)) ∙ ap faultTold (stays-wrong s (stuck (so-far p q 0 i)) refl) ∙ rw (lt-ltb 0 (suc (length s)) (omega arith), e, z)
 
   begins : isEvent k ≡ true → passedByte (so-far p q 0 i) k ≡ so-far (p + 1) p m j
   unfolding passedByte m j
@@ -166,17 +163,15 @@ unfolding passedBytes faultTold scannedFrom ends Told m j
 scan-coming zero [] p q i h room = refl
 scan-coming (suc n) [] p q i h room = refl
 scan-coming zero (k ∷ s) p q i h room = absurd (omega arith)
-scan-coming (suc n) (k ∷ s) p q i h room = go (isEvent k) refl (leb (lengthOf k) (length s)) refl (λ t a b c d. scan-coming n t a b c d)
-  where
-    go : (e : Bool) → isEvent k ≡ e → (l : Bool) → leb (lengthOf k) (length s) ≡ l
-        → ((t : List ℕ) (a b : ℕ) (c : Bool) → length t ≤ n → a + length t < 2 ^ 64 → faultTold (passedBytes (so-far a b 0 c) t) ≡ orThen (shifted a (scannedFrom n t 0)) (ends a c t))
-        → faultTold (passedBytes (so-far p q 0 i) (k ∷ s)) ≡ orThen (shifted p (scannedFrom (suc n) (k ∷ s) 0)) (ends p i (k ∷ s))
-    go false e l f ih = bad-kind n k s p q i (omega arith) e
-    go true e false f ih = cut-short n k s p q i (omega arith) e (leb-false (lengthOf k) (length s) f)
-    go true e true f ih =
-        let g = leb-true (lengthOf k) (length s) f in
-        let d = length-drop (lengthOf k) s in
-        goes-on n k s p q i (omega arith) e g (ih (drop (lengthOf k) s) (p + 1 + lengthOf k) p (begunInside p i k) (omega arith) (omega arith))
+scan-coming (suc n) (k ∷ s) p q i h room =
+    ⊎-elim
+    (λ e.
+    ⊎-elim
+    (λ f. cut-short n k s p q i (omega arith) e f)
+    (λ f. let d = length-drop (lengthOf k) s in goes-on n k s p q i (omega arith) e f (scan-coming n (drop (lengthOf k) s) (p + 1 + lengthOf k) p (begunInside p i k) (omega arith) (omega arith)))
+    (lt-or-ge (length s) (lengthOf k)))
+    (λ e. bad-kind n k s p q i (omega arith) e)
+    (flag (isEvent k))
 
 -- ---- the theorem
 

@@ -54,7 +54,5 @@ module _ (a b : List ℕ) where
   unfolding firstDifference differencesFromPair
   asked-on n {k} e =
       let h = one-listed (pairs a b - n) n e in
-      let i = h .from in
-      let j = h .to in
       let z : n + (pairs a b - n) - (k + 1) ≡ pairs a b - (k + 1) = omega arith in
       h .rest ∙ rw z

@@ -8,18 +8,18 @@ use lib.ListN.{length, take, drop, length-drop, drop-of-length-le}
 use lib.Seq.{take-nil, take-all}
 use Rattle.words.proofs.Below.{lt-or-ge}
 
-module _ (s : List ℕ) (from to : ℕ) where
-  pub part-empty : min to (length s) < from → [] ≡ take (to - from) (drop from s)
+module _ (s : List ℕ) (from to : ℕ) {end : ℕ} (e : end ≡ min to (length s)) where
+  pub part-empty : end < from → [] ≡ take (to - from) (drop from s)
   part-empty h =
       ⊎-elim
       (λ l. let z : to - from ≡ 0 = omega arith in rw z)
       (λ l. let k : length s ≤ from = omega arith in rw (drop-of-length-le s {i = from} k, take-nil {A = ℕ} (to - from)))
       (lt-or-ge to from)
 
-  pub part-some : from ≤ min to (length s) → take (min to (length s) - from) (drop from s) ≡ take (to - from) (drop from s)
+  pub part-some : from ≤ end → take (end - from) (drop from s) ≡ take (to - from) (drop from s)
   part-some h =
       let d = length-drop from s in
       ⊎-elim
-      (λ l. take-all (min to (length s) - from) (drop from s) (omega arith) ∙ sym (take-all (to - from) (drop from s) (omega arith)))
-      (λ l. let z : min to (length s) ≡ to = omega arith in rw z)
+      (λ l. take-all (end - from) (drop from s) (omega arith) ∙ sym (take-all (to - from) (drop from s) (omega arith)))
+      (λ l. let z : end ≡ to = omega arith in rw z)
       (lt-or-ge (length s) to)

@@ -27,17 +27,14 @@ use Rattle.comparing.proofs.Shifts.{end-shift, group-shift}
 -- ---- a log from a place on
 
 module _ (s : List ℕ) (m : ℕ) (h : m ≤ length s) where
+  front-long : length (take m s) + 0 ≡ m
+  front-long = omega (arith, length-take-le m s h)
+
   end-drop : (d : ℕ) → endFrom d s m ≡ m + endFrom d (drop m s) 0
-  end-drop d =
-      let l = length-take-le m s h in
-      let z : length (take m s) + 0 ≡ m = omega arith in
-      ap (λ x. endFrom d x m) (sym (take-append-drop m s)) ∙ ap (λ n. endFrom d (take m s ++ drop m s) n) (sym z) ∙ end-shift (take m s) (drop m s) d 0 ∙ ap (λ n. n + endFrom d (drop m s) 0) l
+  end-drop d = rw (take-append-drop m s, front-long, length-take-le m s h) at (end-shift (take m s) (drop m s) d 0)
 
   pub group-drop : groupEnd s m ≡ m + groupEnd (drop m s) 0
-  group-drop =
-      let l = length-take-le m s h in
-      let z : length (take m s) + 0 ≡ m = omega arith in
-      ap (λ x. groupEnd x m) (sym (take-append-drop m s)) ∙ ap (λ n. groupEnd (take m s ++ drop m s) n) (sym z) ∙ group-shift (take m s) (drop m s) 0 ∙ ap (λ n. n + groupEnd (drop m s) 0) l
+  group-drop = rw (take-append-drop m s, front-long, length-take-le m s h) at (group-shift (take m s) (drop m s) 0)
 
 -- ---- the rest of a group that has begun, or all of the next one
 
@@ -142,10 +139,7 @@ module _ (begun : Bool) {s a : List ℕ} {whole : Bool} (f : Front s a whole) wh
 
   empty : length a ≡ 0 → (w : Bool) → whole ≡ w → AheadShown (pick w (ahead-of.Shows 0) ahead-of.Wants)
   unfolding recordEnd
-  empty z true e =
-      let k = long in
-      let y = none-behind e in
-      (rw (eq-eqb (length s) 0 (omega arith)), omega arith)
+  empty z true e = (rw (eq-eqb (length s) 0 (omega (arith, long, none-behind e))), omega arith)
   empty z false e = (e, omega arith)
 
   module _ (h : length a ≡ 0 → ⊥) where
@@ -154,11 +148,8 @@ module _ (begun : Bool) {s a : List ℕ} {whole : Bool} (f : Front s a whole) wh
 
     same-past : (w u : Bool) → whole ≡ w → leb (recordEnd a 0) (length a) ≡ u → (w || u) ≡ true → recordPast s 0 ≡ recordPast a 0
     unfolding recordPast recordEnd
-    same-past true u e r q = let k = long in let y = none-behind e in rw (first-byte h) (omega arith)
-    same-past false true e r q =
-        let k = long in
-        let l = leb-true (0 + 1 + lengthOf (getD a 0 0)) (length a) r in
-        rw (first-byte h) (omega arith)
+    same-past true u e r q = rw (first-byte h) (omega (arith, long, none-behind e))
+    same-past false true e r q = rw (first-byte h) (omega (arith, long, leb-true (0 + 1 + lengthOf (getD a 0 0)) (length a) r))
     same-past false false e r q = clash q refl
 
     some-byte : 0 < length a
@@ -192,20 +183,6 @@ bytes-append (a ∷ x) [] u v e = absurd (omega arith)
 bytes-append (a ∷ x) (b ∷ y) u v e = rw (bytes-append x y u v (omega arith)) (sym (and-assoc (eqb a b) (sameBytes x y) (sameBytes u v)))
 
 module _ {b c : Bool} {s t : List ℕ} {m n : ℕ} (p : Coming b s m) (q : Coming c t n) where
-  r : ℕ
-  r = groupRest (begunAfter b m) (drop m s)
-
-  r′ : ℕ
-  r′ = groupRest (begunAfter c n) (drop n t)
-
-  split-same : m ≡ n → sameBytes (take (groupRest b s) s) (take (groupRest c t) t) ≡ (sameBytes (take m s) (take n t) && sameBytes (take r (drop m s)) (take r′ (drop n t)))
-  unfolding r r′
-  split-same e =
-      let i = length-take-le m s (p .fits) in
-      let j = length-take-le n t (q .fits) in
-      rw (p .size, q .size, take-add m (groupRest (begunAfter b m) (drop m s)) s, take-add n (groupRest (begunAfter c n) (drop n t)) t)
-      (bytes-append (take m s) (take n t) (take (groupRest (begunAfter b m) (drop m s)) (drop m s)) (take (groupRest (begunAfter c n) (drop n t)) (drop n t)) (omega arith))
-
   -- lists of the same bytes begin with the same kind, so their records are of the same length
   no-split : (m ≡ n → ⊥) → take (groupRest b s) s ≡ take (groupRest c t) t → ⊥
   unfolding recordPast recordEnd
@@ -217,30 +194,20 @@ module _ {b c : Bool} {s t : List ℕ} {m n : ℕ} (p : Coming b s m) (q : Comin
       kinds : 0 < groupRest b s → getD s 0 0 ≡ getD t 0 0
       kinds l = let k = lengths in sym (getD-take (groupRest b s) s 0 0 l) ∙ ap (λ x. getD x 0 0) e ∙ getD-take (groupRest c t) t 0 0 (omega arith)
 
-      both : recordPast s 0 ≡ m → recordPast t 0 ≡ n → lengthOf (getD s 0 0) ≡ lengthOf (getD t 0 0) → ⊥
-      both i j k =
-          let x = p .size in
-          let y = q .size in
-          let u = rest-within s b in
-          let v = rest-within t c in
-          let l = lengths in
-          let w : m ≡ n = omega arith in
-          h w
-
       by-zero : (i : ℕ) → m ≡ i → (j : ℕ) → n ≡ j → ⊥
       by-zero zero f j g = let x = p .none f in let l = lengths in let y = q .size in h (omega arith)
       by-zero (suc i) f zero g = let x = q .none g in let l = lengths in let y = p .size in h (omega arith)
-      by-zero (suc i) f (suc j) g =
-          let x = p .size in
-          both (sym (p .some (omega arith))) (sym (q .some (omega arith))) (ap lengthOf (kinds (omega arith)))
+      by-zero (suc i) f (suc j) g = h (omega (arith, rest-within s b, rest-within t c, lengths, p .some (omega arith), q .some (omega arith), ap lengthOf (kinds (omega arith))))
 
   pub same-split : sameBytes (take (groupRest b s) s) (take (groupRest c t) t) ≡ (sameBytes (take m s) (take n t) && sameBytes (take (groupRest (begunAfter b m) (drop m s)) (drop m s)) (take (groupRest (begunAfter c n) (drop n t)) (drop n t)))
-  unfolding r r′
   same-split =
       let i = length-take-le m s (p .fits) in
       let j = length-take-le n t (q .fits) in
       ⊎-elim
-      (λ e. split-same (eqb-true m n e))
+      (λ e.
+      let h = eqb-true m n e in
+      rw (p .size, q .size, take-add m (groupRest (begunAfter b m) (drop m s)) s, take-add n (groupRest (begunAfter c n) (drop n t)) t)
+      (bytes-append (take m s) (take n t) (take (groupRest (begunAfter b m) (drop m s)) (drop m s)) (take (groupRest (begunAfter c n) (drop n t)) (drop n t)) (omega arith)))
       (λ e.
       let h = eqb-false m n e in
       no-yes (λ z. no-split h (same-equal (take (groupRest b s) s) (take (groupRest c t) t) z)) ∙ rw (← (same-lengths (take m s) (take n t) (λ e. h (omega arith)))))

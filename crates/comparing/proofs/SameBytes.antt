@@ -1,17 +1,16 @@
 -- "Asked from 0 and refusing neither log, it says none exactly if both have the same bytes".
 use mathlib.Core.Path.{_≡_, refl, sym, ap, _∙_}
-use mathlib.Core.Logic.{_↔_}
-use mathlib.Core.Logic.{⊎-elim}
-use mathlib.Core.Bool.{Bool, true, false}
+use mathlib.Core.Logic.{_↔_, ⊎-elim}
+use mathlib.Core.Bool.{true, false}
 use mathlib.Core.List.{List, [], _∷_, map}
 use Prim.Native.Nat.{ℕ, zero, suc, _+_, _-_, _≤_, _<_}
 use native.Mathlib.Omega.{arith}
 use borrow.Author.Tests.{le-ltb, lt-ltb}
 use lib.ListN.{length, getD, take, drop, length-take, length-drop, take-append-drop, drop-of-length-le, List·getD-eq-default, List·getD-map}
 use lib.Seq.{drop-drop}
-use Rattle.words.specs.Words.{pick, joined}
+use Rattle.words.specs.Words.{joined}
 use Rattle.words.proofs.Below.{lt-or-ge}
-use Rattle.words.proofs.Flags.{no-yes}
+use Rattle.words.proofs.Flags.{flag, no-yes}
 use Rattle.comparing.specs.declared.Fault.the-variants as fault
 use Rattle.comparing.specs.declared.Compared.the-variants as answer
 use Rattle.comparing.specs.Groups.{groupEnd, bytesIn, groupsFrom, groups, groupSide}
@@ -62,12 +61,11 @@ module _ (a b : List ℕ) where
   none-of : (d n : ℕ) → firstOf d a b n ≡ answer.Same → (k : ℕ) → n ≤ k → k < n + d → samePair a b k ≡ true
   unfolding firstOf
   none-of zero n e k h l = absurd (omega arith)
-  none-of (suc d) n e k h l = go (samePair a b n) refl e (λ r i j. none-of d (suc n) r k i j)
-    where
-      go : (t : Bool) → samePair a b n ≡ t → pick t (firstOf d a b (suc n)) (differs n (groupSide a n) (groupSide b n)) ≡ answer.Same
-          → (firstOf d a b (suc n) ≡ answer.Same → suc n ≤ k → k < suc n + d → samePair a b k ≡ true) → samePair a b k ≡ true
-      go true q r ih = ⊎-elim (λ w. ih r (omega arith) (omega arith)) (λ w. let z : k ≡ n = omega arith in rw z q) (lt-or-ge n k)
-      go false q r ih = let z : _≡_ {A = ℕ} 0 1 = cc in absurd (omega arith)
+  none-of (suc d) n e k h l =
+      ⊎-elim
+      (λ q. ⊎-elim (λ w. none-of d (suc n) (rw q at e) k (omega arith) (omega arith)) (λ w. let z : k ≡ n = omega arith in rw z q) (lt-or-ge n k))
+      (λ q. let r : differs n (groupSide a n) (groupSide b n) ≡ answer.Same = rw q at e in let z : _≡_ {A = ℕ} 0 1 = cc in absurd (omega arith))
+      (flag (samePair a b n))
 
   none-same : firstDifference a b 0 ≡ answer.Same → a ≡ b
   unfolding firstDifference samePair

@@ -1,32 +1,33 @@
 -- The check of a log: the numbers of a record by the tests that the code makes, the loop over the records, and what follows the last.
 use mathlib.Core.Path.{_≡_, refl, sym, _∙_}
 use mathlib.Core.Logic.{⊎-elim}
-use mathlib.Core.Bool.{true, false}
+use mathlib.Core.Bool.{Bool, true, false, not}
 use mathlib.Core.List.{List, [], _∷_}
 use Prim.Native.Nat.{ℕ, zero, suc, _+_, _-_, _≤_, _<_}
 use native.Mathlib.Omega.{arith}
-use borrow.Author.Tests.{le-ltb, lt-ltb, le-leb, lt-leb, ne-eqb}
+use borrow.Author.Tests.{le-ltb, lt-ltb, le-leb, lt-leb, ne-eqb, not-true, not-false}
 use lib.ListN.{length, getD}
 use Rattle.words.proofs.Below.{lt-or-ge}
 use Rattle.model.specs.Records.{lengthOf}
+use Rattle.comparing.specs.declared.Fault.{Fault}
 use Rattle.comparing.specs.declared.Fault.the-variants as fault
 use Rattle.comparing.specs.Kinds.{startsGroup, isEvent}
 use Rattle.comparing.specs.Groups.{recordEnd, recordPast}
-use Rattle.comparing.specs.Checks.{wrongAt, scannedFrom, scanned, inside}
+use Rattle.comparing.specs.Checks.{wrongAt, scannedFrom, scanned, checked}
 use Rattle.comparing.proofs.Walks.{past-more}
 
-module _ (s : List ℕ) (at n : ℕ) where
-  pub wrong-kind : isEvent (getD s at 0) ≡ false → 14 ≡ wrongAt s at
+module _ (s : List ℕ) (at : ℕ) {t : Bool} (p : t ≡ isEvent (getD s at 0)) where
+  pub wrong-kind : not t ≡ true → 14 ≡ wrongAt s at
   unfolding wrongAt
-  wrong-kind q = rw q
+  wrong-kind q = rw (sym p ∙ not-true t q)
 
-  pub wrong-none : at < length s → isEvent (getD s at 0) ≡ true → n ≡ lengthOf (getD s at 0) → n < length s - at → 0 ≡ wrongAt s at
+  pub wrong-none : {n : ℕ} → at < length s → not t ≡ false → n ≡ lengthOf (getD s at 0) → n < length s - at → 0 ≡ wrongAt s at
   unfolding wrongAt recordEnd
-  wrong-none h q e l = rw (q, ← e, le-leb (at + 1 + n) (length s) (omega arith))
+  wrong-none {n} h q e l = rw (sym p ∙ not-false t q, ← e, le-leb (at + 1 + n) (length s) (omega arith))
 
-  pub wrong-cut : at < length s → isEvent (getD s at 0) ≡ true → n ≡ lengthOf (getD s at 0) → length s - at ≤ n → 15 ≡ wrongAt s at
+  pub wrong-cut : {n : ℕ} → at < length s → not t ≡ false → n ≡ lengthOf (getD s at 0) → length s - at ≤ n → 15 ≡ wrongAt s at
   unfolding wrongAt recordEnd
-  wrong-cut h q e l = rw (q, ← e, lt-leb (at + 1 + n) (length s) (omega arith))
+  wrong-cut {n} h q e l = rw (sym p ∙ not-false t q, ← e, lt-leb (at + 1 + n) (length s) (omega arith))
 
 module _ (s : List ℕ) where
   scan-steps : (d e at : ℕ) → length s ≤ at + d → length s ≤ at + e → scannedFrom d s at ≡ scannedFrom e s at
@@ -67,14 +68,18 @@ module _ (s : List ℕ) where
 
 -- ---- after the last record
 
-pub inside-empty : (s : List ℕ) → length s ≡ 0 → fault.None ≡ inside s
-inside-empty [] e = refl
-inside-empty (k ∷ s) e = absurd (let w : ⊥ = omega arith in w)
+module _ {f : Fault} where
+  pub checked-empty : (s : List ℕ) → f ≡ scanned s → f ≡ fault.None → length s ≡ 0 → fault.None ≡ checked s
+  unfolding checked
+  checked-empty [] p q e = rw (sym p ∙ q)
+  checked-empty (k ∷ s) p q e = absurd (omega arith)
 
-pub inside-starts : (s : List ℕ) → startsGroup (getD s 0 0) ≡ true → (length s ≡ 0 → ⊥) → fault.None ≡ inside s
-inside-starts [] e h = absurd (h refl)
-inside-starts (k ∷ s) e h = rw e
+  pub checked-starts : (s : List ℕ) → f ≡ scanned s → f ≡ fault.None → (length s ≡ 0 → ⊥) → {t : Bool} → t ≡ startsGroup (getD s 0 0) → t ≡ true → fault.None ≡ checked s
+  unfolding checked
+  checked-starts [] p q h e g = absurd (h refl)
+  checked-starts (k ∷ s) p q h e g = rw (sym p ∙ q, sym e ∙ g)
 
-pub inside-not : (s : List ℕ) → startsGroup (getD s 0 0) ≡ false → (length s ≡ 0 → ⊥) → fault.At 17 0 ≡ inside s
-inside-not [] e h = absurd (h refl)
-inside-not (k ∷ s) e h = rw e
+  pub checked-inside : (s : List ℕ) → f ≡ scanned s → f ≡ fault.None → (length s ≡ 0 → ⊥) → {t : Bool} → t ≡ startsGroup (getD s 0 0) → t ≡ false → fault.At 17 0 ≡ checked s
+  unfolding checked
+  checked-inside [] p q h e g = absurd (h refl)
+  checked-inside (k ∷ s) p q h e g = rw (sym p ∙ q, sym e ∙ g)

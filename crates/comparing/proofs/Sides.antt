@@ -1,14 +1,12 @@
 -- The groups of a log one behind the other: the side of a number begins where the groups before it end.
 use mathlib.Core.Path.{_≡_, refl, sym, ap, _∙_}
 use mathlib.Core.Logic.{⊎-elim}
-use mathlib.Core.Bool.{Bool, true, false}
-use mathlib.Core.List.{List, [], _∷_}
+use mathlib.Core.List.{List}
 use Prim.Native.Nat.{ℕ, zero, suc, _+_, _-_, _≤_, _<_}
 use native.Mathlib.Omega.{arith}
-use borrow.Author.Tests.{ltb-true, ltb-false}
+use native.Mathlib.Numerals.{add-one}
+use borrow.Author.Tests.{lt-ltb, le-ltb}
 use lib.ListN.{length, getD}
-use lib.Dec.{ltb}
-use Rattle.words.specs.Words.{pick}
 use Rattle.words.proofs.Below.{lt-or-ge}
 use Rattle.comparing.specs.Groups.{groupEnd, Part, partTo, groupsFrom, groups, groupSide}
 use Rattle.comparing.proofs.Walks.{group-end, group-none}
@@ -49,6 +47,9 @@ module _ (s : List ℕ) where
   pub group-le : (at : ℕ) → at ≤ groupEnd s at
   group-le at = ⊎-elim (λ l. let w = group-end s at l in omega arith) (λ l. let w = group-none s at l in omega arith) (lt-or-ge at (length s))
 
+  pub group-on : (at : ℕ) {e : ℕ} → e ≡ groupEnd s at → at ≤ e
+  group-on at p = omega (arith, group-le at)
+
   -- ---- by number
 
   over : (m at : ℕ) → at ≤ length s → length s ≤ at → atEnd ≡ partTo (placeFrom m s at) (groupEnd s (placeFrom m s at))
@@ -60,14 +61,12 @@ module _ (s : List ℕ) where
   side-from : (d n at : ℕ) → at ≤ length s → length s ≤ at + d → getD (groupsFrom d s at) n atEnd ≡ partTo (placeFrom n s at) (groupEnd s (placeFrom n s at))
   unfolding groupsFrom placeFrom
   side-from zero n at h k = over n at h (omega arith)
-  side-from (suc d) n at h k = go n (ltb at (length s)) refl (λ m p q. side-from d m (groupEnd s at) p q)
-    where
-      go : (n : ℕ) (t : Bool) → ltb at (length s) ≡ t
-          → ((m : ℕ) → groupEnd s at ≤ length s → length s ≤ groupEnd s at + d → getD (groupsFrom d s (groupEnd s at)) m atEnd ≡ partTo (placeFrom m s (groupEnd s at)) (groupEnd s (placeFrom m s (groupEnd s at))))
-          → getD (pick t (partTo at (groupEnd s at) ∷ groupsFrom d s (groupEnd s at)) []) n atEnd ≡ partTo (placeFrom n s at) (groupEnd s (placeFrom n s at))
-      go n false q ih = over n at h (ltb-false at (length s) q)
-      go zero true q ih = refl
-      go (suc n) true q ih = let w = group-end s at (ltb-true at (length s) q) in ih n (w .1) (omega arith)
+  side-from (suc d) zero at h k = ⊎-elim (λ l. rw (lt-ltb at (length s) l)) (λ l. rw (le-ltb at (length s) l) (over zero at h l)) (lt-or-ge at (length s))
+  side-from (suc d) (suc n) at h k =
+      ⊎-elim
+      (λ l. let w = group-end s at l in rw (lt-ltb at (length s) l) (side-from d n (groupEnd s at) (w .1) (omega arith)))
+      (λ l. rw (le-ltb at (length s) l) (over (suc n) at h l))
+      (lt-or-ge at (length s))
 
   pub side-is : (n : ℕ) → groupSide s n ≡ partTo (placeFrom n s 0) (groupEnd s (placeFrom n s 0))
   unfolding groupSide groups
@@ -76,34 +75,46 @@ module _ (s : List ℕ) where
   in-count : (d n at : ℕ) → length s ≤ at + d → placeFrom n s at < length s → n < length (groupsFrom d s at)
   unfolding groupsFrom placeFrom
   in-count zero n at k p = absurd (let l : length s ≤ at = omega arith in let e = stay n at l in let w : ⊥ = omega arith in w)
-  in-count (suc d) n at k p = go n p (ltb at (length s)) refl (λ m i j. in-count d m (groupEnd s at) i j)
-    where
-      go : (n : ℕ) → placeFrom n s at < length s → (t : Bool) → ltb at (length s) ≡ t
-          → ((m : ℕ) → length s ≤ groupEnd s at + d → placeFrom m s (groupEnd s at) < length s → m < length (groupsFrom d s (groupEnd s at)))
-          → n < length (pick t (partTo at (groupEnd s at) ∷ groupsFrom d s (groupEnd s at)) [])
-      go n p false q ih = absurd (let l : length s ≤ at = ltb-false at (length s) q in let e = stay n at l in let w : ⊥ = omega arith in w)
-      go zero p true q ih = omega arith
-      go (suc n) p true q ih = let w = group-end s at (ltb-true at (length s) q) in let i = ih n (omega arith) p in omega arith
+  in-count (suc d) zero at k p = rw (lt-ltb at (length s) p) (omega arith)
+  in-count (suc d) (suc n) at k p =
+      ⊎-elim
+      (λ l. let w = group-end s at l in let i = in-count d n (groupEnd s at) (omega arith) p in rw (lt-ltb at (length s) l) (omega arith))
+      (λ l. absurd (let e = stay (suc n) at l in omega arith))
+      (lt-or-ge at (length s))
 
   out-count : (d n at : ℕ) → length s ≤ placeFrom n s at → length (groupsFrom d s at) ≤ n
   unfolding groupsFrom placeFrom
   out-count zero n at p = omega arith
-  out-count (suc d) n at p = go n p (ltb at (length s)) refl (λ m i. out-count d m (groupEnd s at) i)
-    where
-      go : (n : ℕ) → length s ≤ placeFrom n s at → (t : Bool) → ltb at (length s) ≡ t
-          → ((m : ℕ) → length s ≤ placeFrom m s (groupEnd s at) → length (groupsFrom d s (groupEnd s at)) ≤ m)
-          → length (pick t (partTo at (groupEnd s at) ∷ groupsFrom d s (groupEnd s at)) []) ≤ n
-      go n p false q ih = omega arith
-      go zero p true q ih = absurd (let l = ltb-true at (length s) q in let w : ⊥ = omega arith in w)
-      go (suc n) p true q ih = let i = ih n p in omega arith
-
-  pub group-counted : (n : ℕ) → placeFrom n s 0 < length s → n < length (groups s)
-  unfolding groups
-  group-counted n p = in-count (length s) n 0 (omega arith) p
+  out-count (suc d) zero at p = rw (le-ltb at (length s) p) (omega arith)
+  out-count (suc d) (suc n) at p =
+      ⊎-elim
+      (λ l. let i = out-count d n (groupEnd s at) p in rw (lt-ltb at (length s) l) (omega arith))
+      (λ l. rw (le-ltb at (length s) l) (omega arith))
+      (lt-or-ge at (length s))
 
   pub counted-out : (n : ℕ) → length s ≤ placeFrom n s 0 → length (groups s) ≤ n
   unfolding groups
   counted-out n p = out-count (length s) n 0 p
+
+  -- ---- by the place where the group of number n begins
+
+  module _ (n : ℕ) {x : ℕ} (g : x ≡ groupSide s n .place) where
+    pub begins-at : x ≡ placeFrom n s 0
+    begins-at = g ∙ ap (λ p. p .place) (side-is n)
+
+    pub side-to : groupSide s n ≡ partTo x (groupEnd s x)
+    side-to = side-is n ∙ rw begins-at
+
+    pub next-begins : groupEnd s x ≡ groupSide s (n + 1) .place
+    next-begins = rw (side-is (n + 1), add-one n, place-next n 0, begins-at)
+
+    -- the number is below that of the groups, and below the log's length
+    pub counted-in : x < length s → (n < length (groups s)) × (n < length s)
+    unfolding groups
+    counted-in h = let k : placeFrom n s 0 < length s = rw begins-at at h in (in-count (length s) n 0 (omega arith) k, omega (arith, place-grows n 0 k))
+
+    pub counted-over : length s ≤ x → length (groups s) ≤ n
+    counted-over h = counted-out n (rw begins-at at h)
 
   -- ---- the loop that skips groups: those still to skip lead to the side of the number
 
@@ -120,8 +131,7 @@ module _ (s : List ℕ) where
   unfolding placeFrom
   skips-more number at left h {e} p w =
       let k : left ≡ suc (left - 1) = omega arith in
-      let v = group-within at (w .0) in
-      (omega arith, rw p (let u : placeFrom (suc (left - 1)) s at ≡ groupSide s number .place = rw k at (w .1) in u))
+      (omega (arith, group-within at (w .0)), rw p (let u : placeFrom (suc (left - 1)) s at ≡ groupSide s number .place = rw k at (w .1) in u))
 
   pub skips-over : (number at left : ℕ) → left ≤ 0 → Skips number at left → at ≡ groupSide s number .place
   unfolding placeFrom

@@ -1,6 +1,6 @@
 -- The constant table of starts: its rule, by one computed test over the whole table, and that no start is past it; the kinds of events
 -- by the tests that the code makes.
-use mathlib.Core.Path.{_≡_, refl, sym, ap, _∙_}
+use mathlib.Core.Path.{_≡_, refl, sym, _∙_}
 use mathlib.Core.Logic.{⊎-elim}
 use mathlib.Core.Bool.{Bool, true, false, not, _&&_, and-false}
 use mathlib.Core.List.{List, [], _∷_}
@@ -57,11 +57,8 @@ event-kinds k =
     past h = rw (length-past k h) (and-false (not (isCommand k)) ∙ sym (none-past (λ x. x .kind) 25 k eventKinds refl h))
 
 -- by the two tests
-by-tests : (k : ℕ) (t u : Bool) → t ≡ isCommand k → u ≡ eqb (lengthOf k) 255 → (not t && not u) ≡ isEvent k
-by-tests k t u p q = rw (p, q) (event-kinds k)
-
 pub event-command : (k : ℕ) → true ≡ isCommand k → false ≡ isEvent k
-event-command k p = by-tests k true (eqb (lengthOf k) 255) p refl
+event-command k p = rw (← p) at (event-kinds k)
 
 pub event-other : (k n : ℕ) → false ≡ isCommand k → n ≡ lengthOf k → not (eqb n 255) ≡ isEvent k
-event-other k n p q = by-tests k false (eqb n 255) p (ap (λ m. eqb m 255) q)
+event-other k n p q = rw (← p, ← q) at (event-kinds k)

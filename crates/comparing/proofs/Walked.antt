@@ -3,8 +3,9 @@ use mathlib.Core.Path.{_≡_, refl, sym, ap, _∙_}
 use mathlib.Core.Logic.{⊎-elim}
 use mathlib.Core.Bool.{Bool, true, false, not, _&&_, and-true, and-assoc}
 use mathlib.Core.List.{List, [], _∷_, _++_, append-nil, append-assoc}
-use Prim.Native.Nat.{ℕ, zero, suc, _+_, _-_, _%_, _^_, _≤_, _<_}
+use Prim.Native.Nat.{ℕ, suc, _+_, _-_, _%_, _^_, _≤_, _<_}
 use native.Mathlib.Omega.{arith}
+use native.Mathlib.Nat.{pos-of-ne-zero}
 use native.Mathlib.Numerals.{add-one}
 use borrow.Author.Tests.{eqb-true, eqb-false, eq-eqb, ne-eqb}
 use lib.ListN.{length, take, drop, length-append, length-drop}
@@ -23,14 +24,15 @@ use Rattle.comparing.specs.declared.Step.the-variants as step
 use Rattle.comparing.specs.Groups.{partTo, bytesIn, recordEnd, groupEnd, groups, groupSide}
 use Rattle.comparing.specs.Pairs.{sameBytes, samePair, differs, pairs, listed, differencesFromPair}
 use Rattle.comparing.specs.Steps.{side, walkBeginning, ahead, moved, sideBehind, onward, pairsDiffering, lowestOf, nextPair, pairOver, recordRow, stepShown, begunSide, stepped, Front, pairOf, Walked, at-start, by-row, by-same, by-differing, lowestIn, Listed}
-use Rattle.comparing.proofs.Sides.{placeFrom, place-next, place-grows, group-le, side-is, counted-out}
-use Rattle.comparing.proofs.Sides.{group-counted}
-use Rattle.comparing.proofs.Rests.{groupRest, begunAfter, Coming, coming, AheadShown, same-split, group-drop}
-use Rattle.comparing.proofs.Rests.{ahead-shown}
+use Rattle.comparing.proofs.Sides.{placeFrom, group-le, side-is, side-to, next-begins, counted-in, counted-over}
+use Rattle.comparing.proofs.Rests.{groupRest, begunAfter, Coming, coming, AheadShown, ahead-shown, same-split, group-drop}
 
 fresh-rest : (s : List ℕ) → groupEnd s 0 ≡ groupRest false s
 unfolding groupRest
 fresh-rest s = refl
+
+front-bytes : {s a : List ℕ} {whole : Bool} (f : Front s a whole) (m : ℕ) → m ≤ length a → take m a ≡ take m s
+front-bytes {s} {a} f m h = rw (f .joins) (sym (take-append-le m a (f .behind) h))
 
 -- ---- one side: s is to come of the log A, behind what is passed of its group of number n
 
@@ -53,82 +55,53 @@ module _ {A s : List ℕ} {n : ℕ} {d : Side} (i : SideAt A s n d) (fits : leng
 
   module _ {m : ℕ} (c : Coming (begunSide d) s m) where
     no-wrap : (d .passed + m) % 2 ^ 64 ≡ d .passed + m
-    no-wrap = let k = to-come in let f = c .fits in let w = i .within in omega arith
+    no-wrap = let k = to-come in omega arith
 
     side-moved : SideAt A (drop m s) n (moved d m)
     side-moved =
         let k = to-come in
-        let f = c .fits in
-        let w = i .within in
         let e : d .place + (d .passed + m) ≡ d .place + d .passed + m = omega arith in
-        let z : d .passed + (m + groupRest (begunAfter (begunSide d) m) (drop m s)) ≡ d .passed + m + groupRest (begunAfter (begunSide d) m) (drop m s) = omega arith in
         record {
           begins = i .begins;
-          size = rw (no-wrap, begun-after (d .passed) m) (i .size ∙ ap (λ x. d .passed + x) (c .size) ∙ z);
+          size = rw (no-wrap, begun-after (d .passed) m) (omega arith);
           here = rw (no-wrap, e) (sym (drop-drop m (d .place + d .passed) A) ∙ ap (drop m) (i .here));
           within = rw no-wrap (omega arith);
         }
 
   module _ (z : groupRest (begunSide d) s ≡ 0) where
     side-whole : groupSide A n ≡ record { place = d .place; size = d .passed }
-    side-whole = let e : groupSide A n .size ≡ d .passed = let k = i .size in omega arith in rw (i .begins, ← e)
+    side-whole = let e : groupSide A n .size ≡ d .passed = omega arith in rw (i .begins, ← e)
 
     group-here : groupEnd A (d .place) ≡ d .place + d .passed
-    group-here =
-        let p : d .place ≡ placeFrom n A 0 = i .begins ∙ ap (λ x. x .place) (side-is A n) in
-        let e : groupSide A n .size ≡ groupEnd A (placeFrom n A 0) - placeFrom n A 0 = ap (λ x. x .size) (side-is A n) in
-        let g = group-le A (placeFrom n A 0) in
-        let k = i .size in
-        rw p (omega arith)
+    group-here = let e : groupSide A n .size ≡ groupEnd A (d .place) - d .place = ap (λ x. x .size) (side-to A n (i .begins)) in omega (arith, group-le A (d .place), i .size)
 
     side-behind : SideAt A s (n + 1) (sideBehind d)
     side-behind =
-        let w = i .within in
         let e : (d .place + d .passed) % 2 ^ 64 ≡ d .place + d .passed = omega arith in
-        let p : placeFrom n A 0 ≡ d .place = sym (i .begins ∙ ap (λ x. x .place) (side-is A n)) in
-        let q : placeFrom (n + 1) A 0 ≡ d .place + d .passed = rw (add-one n, place-next A n 0, p) group-here in
+        let p : d .place + d .passed ≡ groupSide A (n + 1) .place = sym group-here ∙ next-begins A n (i .begins) in
         let y : d .place + d .passed + 0 ≡ d .place + d .passed = omega arith in
-        let g = group-drop A (d .place + d .passed) w in
-        let u : groupEnd A (d .place + d .passed) - (d .place + d .passed) ≡ 0 + groupEnd (drop (d .place + d .passed) A) 0 = omega arith in
         record {
-          begins = rw (e, side-is A (n + 1), q);
-          size = rw (side-is A (n + 1), q) (u ∙ ap (λ x. 0 + x) (ap (λ x. groupEnd x 0) (i .here) ∙ fresh-rest s));
+          begins = e ∙ p;
+          size = rw (side-to A (n + 1) p) (omega (arith, group-drop A (d .place + d .passed) (i .within), ap (λ x. groupEnd x 0) (i .here) ∙ fresh-rest s));
           here = rw (e, y) (i .here);
-          within = rw (e, y) w;
+          within = rw (e, y) (i .within);
         }
 
     -- where some of it is passed, the log has a group of this number
-    module _ (h : d .passed ≡ 0 → ⊥) where
-      place-inside : placeFrom n A 0 < length A
-      place-inside =
-          let p : placeFrom n A 0 ≡ d .place = sym (i .begins ∙ ap (λ x. x .place) (side-is A n)) in
-          let w = i .within in
-          rw p (some (d .passed) h w)
-        where
-          some : (x : ℕ) → (x ≡ 0 → ⊥) → d .place + x ≤ length A → d .place < length A
-          some zero f w = absurd (f refl)
-          some (suc x) f w = omega arith
-
-      group-there : (n < length (groups A)) × (n < length A)
-      group-there = (group-counted A n place-inside, omega (arith, place-grows A n 0 place-inside, place-inside))
+    group-there : (d .passed ≡ 0 → ⊥) → (n < length (groups A)) × (n < length A)
+    group-there h = let k = pos-of-ne-zero h in counted-in A n (i .begins) (omega arith)
 
   -- where nothing of it is passed and nothing comes, the log is over
   over-here : d .passed ≡ 0 → Coming (begunSide d) s 0 → length (groups A) ≤ n
-  over-here e c =
-      let z : begunSide d ≡ false = rw (eq-eqb (d .passed) 0 e) in
-      let l = c .none refl .1 z in
-      let k = to-come in
-      let p : placeFrom n A 0 ≡ d .place = sym (i .begins ∙ ap (λ x. x .place) (side-is A n)) in
-      counted-out A n (omega arith)
+  over-here e c = counted-over A n (i .begins) (omega (arith, to-come, c .none refl .1 (rw (eq-eqb (d .passed) 0 e))))
 
 begin-side : (A : List ℕ) → SideAt A A 0 (side 0 0)
 unfolding placeFrom
 begin-side A =
     let p : groupSide A 0 ≡ partTo 0 (groupEnd A 0) = side-is A 0 in
-    let z : groupEnd A 0 - 0 ≡ 0 + groupEnd A 0 = omega arith in
     record {
       begins = ap (λ x. x .place) (sym p);
-      size = rw p (z ∙ ap (λ x. 0 + x) (fresh-rest A));
+      size = rw p (omega (arith, fresh-rest A));
       here = refl;
       within = omega arith;
     }
@@ -137,7 +110,6 @@ begin-side A =
 
 fresh-bytes : {A s : List ℕ} {n p : ℕ} → SideAt A s n (side p 0) → bytesIn A (groupSide A n) ≡ take (groupRest false s) s
 fresh-bytes {A} {s} {n} {p} i =
-    let k : groupSide A n .size ≡ 0 + groupRest false s = i .size in
     let e : groupSide A n .size ≡ groupRest false s = omega arith in
     let z : p + 0 ≡ p = omega arith in
     let h : drop p A ≡ s = rw z at (i .here) in
@@ -154,10 +126,6 @@ module _ (A B : List ℕ) where
   lists-more : (n : ℕ) → n < pairs A B → differencesFromPair A B n ≡ pick (samePair A B n) (differencesFromPair A B (n + 1)) (differs n (groupSide A n) (groupSide B n) ∷ differencesFromPair A B (n + 1))
   unfolding differencesFromPair listed
   lists-more n h = let k : pairs A B - n ≡ suc (pairs A B - suc n) = omega arith in rw (k, add-one n)
-
-  lists-over : (n : ℕ) → pairs A B ≤ n → differencesFromPair A B n ≡ []
-  unfolding differencesFromPair listed
-  lists-over n h = let k : pairs A B - n ≡ 0 = omega arith in rw k
 
 lowest-snoc : (ds : List Compared) (n p l q m : ℕ) → lowestIn (ds ++ (answer.Differs n p l q m ∷ [])) ≡ pick (eqb (length ds) 0) n (lowestIn ds)
 lowest-snoc [] n p l q m = refl
@@ -227,10 +195,6 @@ module _ {A B s t : List ℕ} {w : Walk} {ds : List Compared} (o : On A B s t w 
           ∙ rw (lists-more A B (w .number) h, pair-same, the-pair)
           (⊎-elim (λ q. rw q) (λ q. rw q (sym (append-assoc ds (pairOf w ∷ []) (differencesFromPair A B (w .number + 1))))) (flag (w .same)))
 
-      counts-next : pairsDiffering w ≡ length with-pair
-      unfolding pairsDiffering
-      counts-next = ⊎-elim (λ q. rw q (o .count)) (λ q. rw q (omega (arith, length-append ds (pairOf w ∷ []), o .count, o .few))) (flag (w .same))
-
       lowest-next : lowestOf w ≡ lowestIn with-pair
       unfolding lowestOf
       lowest-next =
@@ -239,10 +203,8 @@ module _ {A B s t : List ℕ} {w : Walk} {ds : List Compared} (o : On A B s t w 
           (λ (q : w .same ≡ false). rw (q, lowest-snoc ds (w .number) (w .first .place) (w .first .passed) (w .second .place) (w .second .passed), o .count, o .lowest))
           (flag (w .same))
 
-      few-next : length with-pair ≤ w .number + 1
-      few-next = ⊎-elim (λ q. rw q (omega (arith, o .few))) (λ q. rw q (omega (arith, length-append ds (pairOf w ∷ []), o .few))) (flag (w .same))
-
       on-pair : On A B s t (nextPair w) with-pair
+      unfolding pairsDiffering
       on-pair =
           let i : SideAt A s (w .number + 1) (sideBehind (w .first)) = side-behind (o .first) fa y in
           let j : SideAt B t (w .number + 1) (sideBehind (w .second)) = side-behind (o .second) fb z in
@@ -251,9 +213,9 @@ module _ {A B s t : List ℕ} {w : Walk} {ds : List Compared} (o : On A B s t w 
             second = rw next-number j;
             same = rw next-number (fresh-same i j);
             lists = rw next-number lists-next;
-            count = counts-next;
+            count = ⊎-elim (λ q. rw q (o .count)) (λ q. rw q (omega (arith, length-append ds (pairOf w ∷ []), o .count, o .few))) (flag (w .same));
             lowest = lowest-next;
-            few = rw next-number few-next;
+            few = rw next-number (⊎-elim (λ q. rw q (omega (arith, o .few))) (λ q. rw q (omega (arith, length-append ds (pairOf w ∷ []), o .few))) (flag (w .same)));
             bound = omega arith;
           }
 
@@ -265,13 +227,14 @@ module _ {A B s t : List ℕ} {w : Walk} {ds : List Compared} (o : On A B s t w 
         (flag (eqb (w .first .passed) 0))
 
   on-over : (eqb (w .first .passed) 0 && eqb (w .second .passed) 0) ≡ true → Coming (begunSide (w .first)) s 0 → Coming (begunSide (w .second)) t 0 → Listed A B w ds
+  unfolding differencesFromPair listed
   on-over q c d =
       let p = eqb-true (w .first .passed) 0 (and-1 (eqb (w .first .passed) 0) (eqb (w .second .passed) 0) q) in
       let r = eqb-true (w .second .passed) 0 (and-2 (eqb (w .first .passed) 0) (eqb (w .second .passed) 0) q) in
       let g = over-here (o .first) fa p c in
       let h = over-here (o .second) fb r d in
-      let b = o .bound in
-      let e : differencesFromPair A B 0 ≡ ds = o .lists ∙ rw (lists-over A B (w .number) (omega arith)) (append-nil ds) in
+      let k : pairs A B - w .number ≡ 0 = omega arith in
+      let e : differencesFromPair A B 0 ≡ ds = o .lists ∙ rw k (append-nil ds) in
       record { all = sym e; number = omega arith; differing = rw e (o .count); lowest = rw e (o .lowest) }
 
   -- ---- what a step tells
@@ -297,16 +260,10 @@ module _ {A B s t : List ℕ} {w : Walk} {ds : List Compared} (o : On A B s t w 
           turned true = refl
           turned false = refl
 
-      bytes-first : take m a ≡ take m s
-      bytes-first = rw (f .joins) (sym (take-append-le m a (f .behind) k))
-
-      bytes-second : take n b ≡ take n t
-      bytes-second = rw (g .joins) (sym (take-append-le n b (g .behind) l))
-
       row-tells : (e : Bool) → (eqb m 0 && eqb n 0) ≡ e → StepTells (pick e (pairOver w) (step.Row m n (sameBytes (take m a) (take n b)) (onward w m n (sameBytes (take m a) (take n b)))))
       unfolding pairOver
       row-tells true q = over-tells (eqb (w .first .passed) 0 && eqb (w .second .passed) 0) refl (eqb-true m 0 (and-1 (eqb m 0) (eqb n 0) q)) (eqb-true n 0 (and-2 (eqb m 0) (eqb n 0) q))
-      row-tells false q = on-row c d (rw (bytes-first, bytes-second))
+      row-tells false q = on-row c d (rw (front-bytes f m k, front-bytes g n l))
 
     on-tells : StepTells (stepped w a whole b ends)
     unfolding stepped recordRow

@@ -1,7 +1,7 @@
 -- The steps over a log: a record is a byte or more, and how many steps are allowed does not matter once they are enough.
 use mathlib.Core.Path.{_≡_, refl, sym, _∙_}
 use mathlib.Core.Logic.{⊎-elim}
-use mathlib.Core.Bool.{true, false}
+use mathlib.Core.Bool.{Bool, true, false}
 use mathlib.Core.List.{List}
 use Prim.Native.Nat.{ℕ, zero, suc, _+_, _-_, _≤_, _<_}
 use native.Mathlib.Omega.{arith}
@@ -16,6 +16,9 @@ module _ (s : List ℕ) where
   pub past-more : (at : ℕ) → at < length s → (at < recordPast s at) × (recordPast s at ≤ length s)
   unfolding recordPast recordEnd
   past-more at h = (omega arith, omega arith)
+
+  pub past-less : (at : ℕ) → at < length s → {e : ℕ} → e ≡ recordPast s at → length s - e < length s - at
+  past-less at h p = omega (arith, past-more at h)
 
   -- ---- the end of a group
 
@@ -63,18 +66,18 @@ module _ (s : List ℕ) where
       let w = past-more at h in
       (rw (lt-ltb at (length s) h, p) (end-steps (length s) (length s - recordPast s at) (recordPast s at) (omega arith) (omega arith)), omega arith)
 
-  pub ends-here : (at end : ℕ) → end < length s → startsGroup (getD s end 0) ≡ true → Ends at end → end ≡ groupEnd s at
+  pub ends-here : (at end : ℕ) → end < length s → {t : Bool} → t ≡ startsGroup (getD s end 0) → t ≡ true → Ends at end → end ≡ groupEnd s at
   unfolding endFrom
-  ends-here at end h q w =
+  ends-here at end h p q w =
       let k : length s - end ≡ suc (length s - (end + 1)) = omega arith in
-      sym (w .0 ∙ rw (k, lt-ltb end (length s) h, q))
+      sym (w .0 ∙ rw (k, lt-ltb end (length s) h, sym p ∙ q))
 
-  pub ends-more : (at end : ℕ) → end < length s → startsGroup (getD s end 0) ≡ false → {e : ℕ} → e ≡ recordPast s end → Ends at end → Ends at e
+  pub ends-more : (at end : ℕ) → end < length s → {t : Bool} → t ≡ startsGroup (getD s end 0) → t ≡ false → {e : ℕ} → e ≡ recordPast s end → Ends at end → Ends at e
   unfolding endFrom
-  ends-more at end h q {e} p w =
+  ends-more at end h r q {e} p w =
       let v = past-more end h in
       let k : length s - end ≡ suc (length s - (end + 1)) = omega arith in
-      (w .0 ∙ rw (k, lt-ltb end (length s) h, q, p) (end-steps (length s - (end + 1)) (length s - recordPast s end) (recordPast s end) (omega arith) (omega arith)), omega arith)
+      (w .0 ∙ rw (k, lt-ltb end (length s) h, sym r ∙ q, p) (end-steps (length s - (end + 1)) (length s - recordPast s end) (recordPast s end) (omega arith) (omega arith)), omega arith)
 
   pub ends-over : (at end : ℕ) → length s ≤ end → Ends at end → end ≡ groupEnd s at
   unfolding endFrom

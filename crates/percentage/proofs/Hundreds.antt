@@ -11,11 +11,10 @@ use lib.ListN.{length}
 use borrow.Author.Tests.{eqb-true}
 use Rattle.words.proofs.Flags.{or-cases}
 use Rattle.percentage.specs.declared.Difference.{Difference}
-use Rattle.percentage.specs.Percent.{PercentRanged}
 use Rattle.percentage.specs.Differences.{range, triple, percentRow, percentRows, tables, differ, keepDiffering, differences, hundreds, flat}
 use Rattle.percentage.proofs.Ties.{fallsShort, differ-yes, differ-no}
 use Rattle.percentage.proofs.Legal.{tied}
-use Rattle.percentage.proofs.Lists.{range-cons, range-none, row-cons, row-none, rows-cons, rows-none, tables-cons, tables-none, keep-append, keep-yes, keep-no}
+use Rattle.percentage.proofs.Lists.{range-cons, range-none, row-cons, rows-cons, tables-cons, keep-append, keep-yes, keep-no}
 
 -- ---- over places that keep nothing
 skip : (f : ℕ → List Difference) (a b : ℕ) → a ≤ b → ((x : ℕ) → a ≤ x → x < b → f x ≡ f (x + 1)) → f a ≡ f b
@@ -30,35 +29,32 @@ row-step : (l d p : ℕ) → p ≤ 100 → differ d l p ≡ false → keepDiffer
 row-step l d p P e = ap keepDiffering (row-cons l d p P) ∙ keep-no l d p (percentRow l d (p + 1)) e
 
 row-end : (l d : ℕ) → keepDiffering (percentRow l d 101) ≡ []
-unfolding keepDiffering
-row-end l d = ap keepDiffering (row-none l d 101 (omega arith))
+unfolding keepDiffering percentRow
+row-end l d = refl
 
 module _ (l d : ℕ) (L : 1 ≤ l) (M : l ≤ 1024) (D : d ≤ l) where
-  here : (p : ℕ) → p ≤ 100 → PercentRanged d l p
-  here p P = record { some = L; most = M; part = D; cent = P }
-
   row-quiet : ((p : ℕ) → fallsShort p ≡ true → 100 * d ≡ p * l → ⊥) → keepDiffering (percentRow l d 0) ≡ []
-  row-quiet n = skip (λ p. keepDiffering (percentRow l d p)) 0 101 (omega arith) (λ p u v. row-step l d p (omega arith) (differ-no d l p (here p (omega arith)) (n p))) ∙ row-end l d
+  row-quiet n = skip (λ p. keepDiffering (percentRow l d p)) 0 101 (omega arith) (λ p u v. row-step l d p (omega arith) (differ-no d l p (omega arith) (n p))) ∙ row-end l d
 
   row-one : (p : ℕ) → p ≤ 100 → fallsShort p ≡ true → 100 * d ≡ p * l → keepDiffering (percentRow l d 0) ≡ triple l d p ∷ []
   row-one p P s e =
       skip (λ q. keepDiffering (percentRow l d q)) 0 p zero-le (λ q u v. row-step l d q (omega arith) (other q (omega arith) (omega arith)))
       ∙ ap keepDiffering (row-cons l d p P)
-      ∙ keep-yes l d p (percentRow l d (p + 1)) (differ-yes d l p (here p P) e s)
+      ∙ keep-yes l d p (percentRow l d (p + 1)) (differ-yes d l p (omega arith) e s)
       ∙ ap (λ (ts : List Difference). triple l d p ∷ ts)
       (skip (λ q. keepDiffering (percentRow l d q)) (p + 1) 101 (omega arith) (λ q u v. row-step l d q (omega arith) (other q (omega arith) (omega arith)))
       ∙ row-end l d)
     where
       other : (q : ℕ) → q ≤ 100 → (q ≡ p → ⊥) → differ d l q ≡ false
-      other q Q n = differ-no d l q (here q Q) (λ t g. n (eq-of-mul-eq-mul-right l L q p (sym g ∙ e)))
+      other q Q n = differ-no d l q (omega arith) (λ t g. n (eq-of-mul-eq-mul-right l L q p (sym g ∙ e)))
 
 -- ---- a table: one number of lines
 rows-step : (l d : ℕ) → d ≤ l → keepDiffering (percentRows l d) ≡ keepDiffering (percentRow l d 0) ++ keepDiffering (percentRows l (d + 1))
 rows-step l d h = ap keepDiffering (rows-cons l d h) ∙ keep-append (percentRow l d 0) (percentRows l (d + 1))
 
 rows-end : (l : ℕ) → keepDiffering (percentRows l (l + 1)) ≡ []
-unfolding keepDiffering
-rows-end l = ap keepDiffering (rows-none l (l + 1) (omega arith))
+unfolding keepDiffering percentRows
+rows-end l = ap (λ (xs : List ℕ). keepDiffering (flatMap (λ (e : ℕ). percentRow l e 0) xs)) (range-none (l + 1) (l + 1) (omega arith))
 
 module _ (l : ℕ) (L : 1 ≤ l) (M : l ≤ 1024) where
   -- from a dirty count to a later one with no tie between
@@ -119,10 +115,9 @@ tables-skip a b A u B n =
 
 -- after k hundreds
 after : (n k : ℕ) → k + n ≡ 10 → keepDiffering (tables (100 * k + 1)) ≡ flatMap pair (range (k + 1) 11)
-unfolding flatMap keepDiffering
+unfolding flatMap keepDiffering tables
 after zero k e =
     tables-skip (100 * k + 1) 1025 (omega arith) (omega arith) (omega arith) (λ l u v h. omega arith)
-    ∙ ap keepDiffering (tables-none 1025 (omega arith))
     ∙ sym (ap (flatMap pair) (range-none (k + 1) 11 (omega arith)))
 after (suc n) k e =
     tables-skip (100 * k + 1) (100 * (k + 1)) (omega arith) (omega arith) (omega arith) (λ l u v h. omega arith)

@@ -4,21 +4,23 @@ use mathlib.Core.Path.{_≡_, refl, sym, ap, ap₂, _∙_, subst}
 use mathlib.Core.Bool.{Bool, true, false, _&&_, _||_, cond, Bool·beq}
 use mathlib.Core.Logic.{⊎-elim}
 use lib.IntN.{ℤ}
-use Rattle.words.proofs.Flags.{flag}
+use Rattle.words.proofs.Flags.{flag, and-1, and-2, iff}
+use Rattle.words.proofs.Below.{lt-or-ge}
 use Prim.Native.Nat.{ℕ, _+_, _-_, _*_, _^_, _≤_, _<_}
-use native.Mathlib.Nat.{le-trans, le-of-eq, lt-of-lt-of-le, lt-of-le-of-lt, not-le-of-lt, mul-one, one-mul, mul-comm, mul-assoc, mul-left-comm, mul-pos, mul-mul-mul-comm}
+use native.Mathlib.Nat.{le-trans, lt-of-lt-of-le, lt-of-le-of-lt, not-le-of-lt, mul-one, one-mul, mul-comm, mul-assoc, mul-left-comm, mul-pos, mul-mul-mul-comm}
 use native.Mathlib.Omega.{arith}
-use lib.Dec.{T, leb, ltb, eqb, leb→le, le→leb, ltb→lt, eqb→eq, lit<, lit≤}
+use lib.Dec.{T, leb, ltb, eqb, leb→le, lit<, lit≤}
 use native.Mathlib.Decide.{decLe}
 use lib.Pow.{pow-add, pow-pos, pow-mono, pow-lt, shl-lt}
 use lib.Ieee.{Float, nan, inf, fin, Format, binary32, up, down, round, div, mul, le, ofInt}
 use lib.Ieee.Digits.{back}
-use lib.Ieee.Fits.{down-pos, and-l, and-r}
+use lib.Ieee.Fits.{down-pos}
 use lib.Ieee.Exact.{HasValue, round-exact}
 use lib.Ieee.Order.{transfer, le-of-values}
 use lib.Ieee.Scale.{round-same}
 use lib.Ieee.Positive.{first-pos}
-use borrow.Author.Tests.{ne-eqb}
+use borrow.Author.Tests.{ne-eqb, le-ltb, le-leb, leb-true}
+use denote.Floats.{passes, is-true}
 use Rattle.model.specs.Numbers.{refusalNumber}
 use Rattle.model.specs.Range.{linesOf}
 use Rattle.model.specs.Probe.{enoughDirty}
@@ -27,32 +29,14 @@ use Rattle.percentage.specs.Percent.{asSingle, percentOf, floatMeets, wh
 use Rattle.percentage.specs.declared.Share.the-variants.{Meets}
 
 -- ---- tests
-same-test : (p q : Bool) → (T p → T q) → (T q → T p) → p ≡ q
-same-test true true f g = refl
-same-test true false f g = absurd (f tt)
-same-test false true f g = absurd (g tt)
-same-test false false f g = refl
-
 pub agreed : (p q : Bool) → Bool·beq p q ≡ true → p ≡ q
 agreed true true e = refl
 agreed true false e = sym e
 agreed false true e = e
 agreed false false e = refl
 
-pub is-true : (p : Bool) → p ≡ true → T p
-is-true p e = subst T (sym e) tt
-
 pub percent-ranged : (d l p : ℕ) → percentInRange d l p ≡ true → PercentRanged d l p
-percent-ranged d l p e =
-    let t = is-true (percentInRange d l p) e in
-    let u = and-l (leb 1 l && leb l 1024 && leb d l) (leb p 100) t in
-    let v = and-l (leb 1 l && leb l 1024) (leb d l) u in
-    record {
-      some = leb→le 1 l (and-l (leb 1 l) (leb l 1024) v);
-      most = leb→le l 1024 (and-r (leb 1 l) (leb l 1024) v);
-      part = leb→le d l (and-r (leb 1 l && leb l 1024) (leb d l) u);
-      cent = leb→le p 100 (and-r (leb 1 l && leb l 1024 && leb d l) (leb p 100) t);
-    }
+percent-ranged d l p e = search (and-1, and-2, leb-true)
 
 -- ---- ours is the engine's rule for every cache of these lines and this P, whatever its sets, ways and other settings
 pub ours : (S : Settings) (d : ℕ) → enoughDirty S d ≡ wholeMeets d (linesOf S) (S .dirty)
@@ -100,12 +84,7 @@ mul-at f x y a c b d C D hx hy =
     (mul-mul-mul-comm (m * up e) (n * up g) c d ∙ ap (λ (z : ℕ). z * (n * up g * d)) h ∙ ap (λ (z : ℕ). a * down e * z) k ∙ mul-mul-mul-comm a (down e) b (down g)))
 
 le-level : (a b : ℕ) → T (ltb a b || (eqb a b && true)) → a ≤ b
-le-level a b t = go (ltb a b) (eqb a b) (ltb→lt a b) (eqb→eq a b) t
-  where
-    go : (p q : Bool) → (T p → a < b) → (T q → a ≡ b) → T (p || (q && true)) → a ≤ b
-    go true q f g t = let h = f tt in omega arith
-    go false true f g t = le-of-eq (g tt)
-    go false false f g t = absurd t
+le-level a b t = ⊎-elim (λ h. absurd (rw (le-ltb a b (omega arith), ne-eqb a b (λ e. omega arith)) at t)) (λ h. h) (lt-or-ge b a)
 
 pub values-le : (x y : Float) (a c b d : ℕ) → HasValue x false a c → HasValue y false b d → T (le x y) → a * d ≤ b * c
 unfolding le
@@ -116,7 +95,7 @@ values-le x y a c b d hx hy t =
 
 pub le-at : (x y : Float) (a c b d : ℕ) → 0 < c → 0 < d → HasValue x false a c → HasValue y false b d → le x y ≡ leb (a * d) (b * c)
 le-at x y a c b d C D h k =
-    same-test (le x y) (leb (a * d) (b * c)) (λ t. le→leb (a * d) (b * c) (values-le x y a c b d h k t)) (λ t. le-of-values x y a c b d C D h k (leb→le (a * d) (b * c) t))
+    iff (λ t. le-leb (a * d) (b * c) (values-le x y a c b d h k (passes _ t))) (λ t. is-true _ (le-of-values x y a c b d C D h k (leb→le (a * d) (b * c) (passes _ t))))
 
 -- ---- a / 2 ^ k, for an a below 2 ^ 24, is an f32
 pub exact : (a k : ℕ) → a < 2 ^ 24 → k ≤ 149 → HasValue (round binary32 false a (2 ^ k)) false a (2 ^ k)

@@ -5,7 +5,7 @@ use mathlib.Core.Path.{_≡_, refl, sym, ap, ap₂, _∙_, subst}
 use mathlib.Core.Bool.{Bool, true, false, not, _&&_, _||_, Bool·beq}
 use mathlib.Core.Logic.{⊎-elim}
 use Prim.Native.Nat.{ℕ, zero, suc, _+_, _-_, _*_, _/_, _^_, _≤_, _<_, zero-le}
-use native.Mathlib.Nat.{le-trans, le-of-eq, not-le-of-lt, lt-of-not-le, lt-of-le-of-lt, add-mul, mul-one, one-mul, mul-comm, mul-right-comm, mul-le-mul-right}
+use native.Mathlib.Nat.{le-trans, le-of-eq, not-le-of-lt, lt-of-not-le, lt-of-le-of-lt, mul-one, one-mul, mul-comm, mul-le-mul-right}
 use native.Mathlib.Omega.{arith}
 use lib.Dec.{T, ltb, eqb, lit<}
 use lib.Ieee.{Float, nan, inf, fin, Format, binary32, low, emax, prec, up, down, odd, units, round, div, mul, le, ofInt}
@@ -20,7 +20,8 @@ use lib.Pow.{pow-pos}
 use borrow.Author.Tests.{le-leb, lt-leb, eq-eqb, ne-eqb, eqb-true, eqb-false}
 use Rattle.words.specs.Words.{every}
 use Rattle.words.proofs.Below.{every-at}
-use Rattle.words.proofs.Flags.{flag, and-no}
+use Rattle.words.proofs.Flags.{flag, and-no, no-yes}
+use denote.Floats.{passes, is-true}
 use Rattle.percentage.specs.Percent.{asSingle, percentOf, floatMeets, wholeMeets, PercentRanged}
 use Rattle.percentage.specs.Differences.{differ}
 use Rattle.percentage.proofs.Laws.{agreed, whole-is, div-at, mul-at, exact, single-value, values-le}
@@ -102,7 +103,7 @@ module _ (d l : ℕ) (L : 0 < l) (M : l ≤ 1024) (D : d ≤ l) where
       let up-to : a * 2 ^ 17 ≤ y * c =
       values-le (round binary32 false d l) (round binary32 false y (2 ^ 17)) a c y (2 ^ 17) (quotient .value) (exact y 17 (omega arith) (omega arith))
       (round-mono binary32 d l y (2 ^ 17) L (pow-pos 17) k) in
-      let all : a * 100 * 2 ^ 17 ≤ y * 100 * c = le-trans (le-of-eq (mul-right-comm a 100 (2 ^ 17))) (le-trans (mul-le-mul-right 100 up-to) (le-of-eq (mul-right-comm y c 100))) in
+      let all : a * 100 * 2 ^ 17 ≤ y * 100 * c = omega arith in
       let under : T (le (percentOf d l) (round binary32 false (y * 100) (2 ^ 17))) =
       subst (λ (x : Float). T (le x (round binary32 false (y * 100) (2 ^ 17)))) (sym percent-is)
       (round-mono binary32 (a * 100) c (y * 100) (2 ^ 17) (quotient .some) (pow-pos 17) all) in
@@ -120,25 +121,17 @@ module _ (d l : ℕ) (L : 0 < l) (M : l ≤ 1024) (D : d ≤ l) where
 -- ---- away from a tie: the numbers next above and next below P × 2 ^ 17 / 100 serve, since 2 ^ 17 is more than 100 × lines
 module _ (d l p y : ℕ) (M : l ≤ 1024) where
   at-most : y * 100 ≤ p * 131072 + 100 → p * l < 100 * d → y * l ≤ d * 131072
-  at-most h k =
-      let g : y * 100 * l ≤ (p * 131072 + 100) * l = mul-le-mul-right l h in
-      let u : y * 100 * l ≡ 100 * (y * l) = mul-right-comm y 100 l ∙ mul-comm (y * l) 100 in
-      let v : (p * 131072 + 100) * l ≡ 131072 * (p * l) + 100 * l = add-mul (p * 131072) 100 l ∙ ap (λ (z : ℕ). z + 100 * l) (mul-right-comm p 131072 l ∙ mul-comm (p * l) 131072) in
-      omega arith
+  at-most h k = omega (arith, mul-le-mul-right l h)
 
   at-least : p * 131072 ≤ y * 100 + 100 → 100 * d < p * l → d * 131072 ≤ y * l
-  at-least h k =
-      let g : p * 131072 * l ≤ (y * 100 + 100) * l = mul-le-mul-right l h in
-      let u : p * 131072 * l ≡ 131072 * (p * l) = mul-right-comm p 131072 l ∙ mul-comm (p * l) 131072 in
-      let v : (y * 100 + 100) * l ≡ 100 * (y * l) + 100 * l = add-mul (y * 100) 100 l ∙ ap (λ (z : ℕ). z + 100 * l) (mul-right-comm y 100 l ∙ mul-comm (y * l) 100) in
-      omega arith
+  at-least h k = omega (arith, mul-le-mul-right l h)
 
 pub no-tie-agrees : (d l p : ℕ) → PercentRanged d l p → (100 * d ≡ p * l → ⊥) → floatMeets d l p ≡ wholeMeets d l p
 no-tie-agrees d l p r n =
     elim (decLe (p * l) (100 * d)) [
       | yes g ↦
           let y = p * 131072 / 100 + 1 in
-          truth (floatMeets d l p)
+          is-true (floatMeets d l p)
           (float-yes d l (r .some) (r .most) (r .part) p y (r .cent) (omega (arith, r .cent)) (omega arith)
           (at-most d l p y (r .most) (omega arith) (lt-of-le-ne g (λ e. n (sym e)))))
           ∙ sym (whole-is d l p ∙ le-leb (p * l) (100 * d) g)
@@ -146,19 +139,9 @@ no-tie-agrees d l p r n =
           let y = (p * 131072 - 1) / 100 in
           let h : 100 * d < p * l = lt-of-not-le g in
           let some : 0 < p = first-pos p l (lt-of-le-of-lt zero-le h) in
-          lie (floatMeets d l p)
-          (float-no d l (r .some) (r .most) (r .part) p y (r .cent) (omega arith)
-          (at-least d l p y (r .most) (omega arith) h))
+          no-yes (λ e. float-no d l (r .some) (r .most) (r .part) p y (r .cent) (omega arith) (at-least d l p y (r .most) (omega arith) h) (passes _ e))
           ∙ sym (whole-is d l p ∙ lt-leb (p * l) (100 * d) h)
     ]
-  where
-    truth : (b : Bool) → T b → b ≡ true
-    truth true t = refl
-    truth false t = absurd t
-
-    lie : (b : Bool) → (T b → ⊥) → b ≡ false
-    lie true n = absurd (n tt)
-    lie false n = refl
 
 -- ---- at a tie: the answer is that of P lines of 100, and ours is yes
 pub at-tie : (d l p : ℕ) → PercentRanged d l p → 100 * d ≡ p * l → floatMeets d l p ≡ floatMeets p 100 p
@@ -187,22 +170,9 @@ differ-is d l p r =
     ⊎-elim
     (λ h.
     let e : 100 * d ≡ p * l = eqb-true (100 * d) (p * l) h in
-    ap₂ (λ (a b : Bool). not (Bool·beq a b)) (at-tie d l p r e ∙ at-100 p (r .cent)) (whole-is d l p ∙ le-leb (p * l) (100 * d) (le-of-eq (sym e)))
-    ∙ doubled (fallsShort p)
-    ∙ ap (λ (a : Bool). a && fallsShort p) (sym h))
-    (λ h.
-    ap (λ (a : Bool). not (Bool·beq a (wholeMeets d l p))) (no-tie-agrees d l p r (eqb-false (100 * d) (p * l) h))
-    ∙ itself (wholeMeets d l p)
-    ∙ ap (λ (a : Bool). a && fallsShort p) (sym h))
+    rw (h, at-tie d l p r e ∙ at-100 p (r .cent), whole-is d l p ∙ le-leb (p * l) (100 * d) (le-of-eq (sym e))) (⊎-elim (λ s. rw s) (λ s. rw s) (flag (fallsShort p))))
+    (λ h. rw h (rw (no-tie-agrees d l p r (eqb-false (100 * d) (p * l) h)) (⊎-elim (λ s. rw s) (λ s. rw s) (flag (wholeMeets d l p)))))
     (flag (eqb (100 * d) (p * l)))
-  where
-    doubled : (b : Bool) → not (Bool·beq (not b) true) ≡ b
-    doubled true = refl
-    doubled false = refl
-
-    itself : (b : Bool) → not (Bool·beq b b) ≡ false
-    itself true = refl
-    itself false = refl
 
 -- ---- where the two answers differ, and where they do not
 pub differ-yes : (d l p : ℕ) → PercentRanged d l p → 100 * d ≡ p * l → fallsShort p ≡ true → differ d l p ≡ true

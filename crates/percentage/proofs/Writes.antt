@@ -12,9 +12,6 @@ use Rattle.percentage.specs.Differences.{flat, differences, differencesF
 use Rattle.percentage.proofs.Lists.{rest-first}
 use Rattle.percentage.proofs.Hundreds.{sixty}
 
-three-at : (xs : List ℕ) (n a b c : ℕ) → n + 3 ≤ length xs → set (set (set xs n a) (n + 1) b) (n + 2) c ≡ (take n xs ++ (a ∷ b ∷ c ∷ [])) ++ drop (n + 3) xs
-three-at xs n a b c h = rw (add-one, add-two) (sets-eq (a ∷ b ∷ c ∷ []) xs n h)
-
 -- the n numbers at the front of `after`, with those of the differences that are left, are those of all the differences; the rest is as it was before
 pub record Written (before after : List ℕ) (n : ℕ) (left : List Difference) : Type 0 where
   pub long : length after ≡ length before
@@ -33,7 +30,7 @@ module _ (before after : List ℕ) (n : ℕ) (left : List Difference) (w : Writt
       let a = t .lines in
       let b = t .dirty in
       let c = t .percent in
-      let now-is = three-at after n a b c h in
+      let now-is : set (set (set after n a) (n + 1) b) (n + 2) c ≡ (take n after ++ (a ∷ b ∷ c ∷ [])) ++ drop (n + 3) after = rw (add-one, add-two) (sets-eq (a ∷ b ∷ c ∷ []) after n h) in
       let head : List ℕ = take n after ++ (a ∷ b ∷ c ∷ []) in
       let head-long : length head ≡ n + 3 = length-append (take n after) (a ∷ b ∷ c ∷ []) ∙ ap (λ (k : ℕ). k + 3) (length-take-le n after (w .room)) in
       let same : length (set (set (set after n a) (n + 1) b) (n + 2) c) ≡ length after = simp length-set in

@@ -1,11 +1,8 @@
 -- `comparing::compare_from` meets its contract: what is found from where the loop stands.
 use Prim.Native.Nat.{_+_, _-_}
-use mathlib.Core.Path.{sym, _∙_}
 use borrow.Author.Needs.{needs}
-use borrow.Author.Tests.{not-true, not-false}
-use native.Mathlib.Omega.{arith}
 use lib.ListN.{length}
-use Rattle.comparing.proofs.Sides.{group-le}
+use Rattle.comparing.proofs.Sides.{group-on}
 use Rattle.comparing.proofs.Firsts.{someLeft, left-less, FindsPair, finds-start, finds-here, finds-more, finds-none}
 use Rattle.comparing.proofs.compare_from.Statement.{statement}
 use Rattle.comparing.proofs.compare_from.Tie as tie
@@ -28,38 +25,15 @@ compare-from-spec =
     (λ c κs. search needs)  -- part-requires
     (λ c κs. search needs)  -- part-requires-2
     (λ c κs. search needs)  -- same-requires
-    -- sub-t17
-    (λ c.
-    let i = c .before .before .before .before .before .before .before in
-    omega (arith, group-le (i .before .before .before .before .args .a .now) (i .before .loop .x)))
-    -- sub-t18
-    (λ c.
-    let i = c .before .before .before .before .before .before .before in
-    omega (arith, group-le (i .before .before .before .before .args .b .now) (i .before .loop .y)))
+    (λ c. search group-on)  -- sub-t17
+    (λ c. search group-on)  -- sub-t18
     -- returns
     (λ c.
-    let s = c .before in
-    let p2 = s .before in
-    let p1 = p2 .before in
-    let n = p1 .before in
-    let e2 = n .before in
-    let e1 = e2 .before in
-    let i = e1 .before in
-    finds-here _ _ _ _ (i .before .loop .inv) (i .loop-test .taken) (e1 .group-end .ensures) (e2 .group-end2 .ensures) (n .wrapping-add-usize .ensures) (p1 .part .ensures) (p2 .part2 .ensures) (sym (s .same .ensures) ∙ not-true _ (c .if1 .taken)))
-    -- loop-less
-    (λ c.
-    let e2 = c .before .before .before .before .before in
-    let e1 = e2 .before in
-    let i = e1 .before in
-    left-less _ _ (i .before .loop .x) (i .before .loop .y) (i .loop-test .taken) (e1 .group-end .ensures) (e2 .group-end2 .ensures))
+    let e = c .before .before .before .before .before in
+    search (finds-here _ _ _ _ _ _ (e .before .before .before .loop .inv) (e .before .before .loop-test .taken) (e .before .group-end .ensures) (e .group-end2 .ensures)))
+    (λ c. search left-less)  -- loop-less
     -- loop-again
     (λ c.
-    let s = c .before in
-    let p2 = s .before in
-    let p1 = p2 .before in
-    let n = p1 .before in
-    let e2 = n .before in
-    let e1 = e2 .before in
-    let i = e1 .before in
-    finds-more _ _ _ _ (i .before .loop .inv) (i .loop-test .taken) (e1 .group-end .ensures) (e2 .group-end2 .ensures) (n .wrapping-add-usize .ensures) (p1 .part .ensures) (p2 .part2 .ensures) (sym (s .same .ensures) ∙ not-false _ (c .if1 .left)))
+    let e = c .before .before .before .before .before in
+    search (finds-more _ _ _ _ _ _ (e .before .before .before .loop .inv) (e .before .before .loop-test .taken) (e .before .group-end .ensures) (e .group-end2 .ensures)))
     (λ c. finds-none _ _ _ _ (c .before .loop .inv) (c .loop-test .left)))  -- returns-2

@@ -1,10 +1,8 @@
 -- `comparing::same` meets its contract.
-use mathlib.Core.Path.{refl}
 use Prim.Native.Nat.{_-_}
 use lib.ListN.{length}
 use Rattle.comparing.proofs.Bytes.{SameTo, same-lengths, same-not, same-more, same-over}
 use borrow.Author.Needs.{needs}
-use native.Mathlib.Omega.{arith}
 use Rattle.comparing.proofs.same.Statement.{statement}
 use Rattle.comparing.proofs.same.Tie as tie
 
@@ -19,17 +17,11 @@ same-spec =
     tie.close
     (tie.spec Inv-loop μ-loop
     (λ c. same-lengths _ _ (c .if1 .taken))  -- returns
-    (λ c. (omega arith, c .if1 .left, refl))  -- loop-holds
+    (λ c. search needs)  -- loop-holds
     (λ c. search needs)  -- shared-slice-read-if2
     (λ c. search needs)  -- shared-slice-read-if2-2
-    -- returns-2
-    (λ c.
-    let l = c .before .before .before in
-    same-not _ _ (l .before .loop .i) (l .loop-test .taken) (c .if2 .taken) (l .before .loop .inv))
+    (λ c. search same-not)  -- returns-2
     (λ c. search needs)  -- add-i
     (λ c. search needs)  -- loop-less
-    -- loop-again
-    (λ c.
-    let l = c .before .before .before in
-    same-more _ _ (l .before .loop .i) (l .loop-test .taken) (c .if2 .left) (l .before .loop .inv))
+    (λ c. search same-more)  -- loop-again
     (λ c. let v = c .before .loop in same-over _ _ (v .i) (c .loop-test .left) (v .inv)))  -- returns-3

@@ -19,9 +19,5 @@ skip-spec =
     (λ c κs. search needs)  -- group-end-requires
     (λ c. search needs)  -- sub-left
     (λ c. search needs)  -- loop-less
-    -- loop-again
-    (λ c.
-    let i = c .before .before in
-    let l = i .before .loop in
-    skips-more _ _ (l .at) (l .left) (i .loop-test .taken) (c .group-end .ensures) (l .inv))
+    (λ c. search skips-more)  -- loop-again
     (λ c. let l = c .before .loop in skips-over _ _ (l .at) (l .left) (c .loop-test .left) (l .inv)))  -- returns-2

@@ -22,7 +22,7 @@ legal-size-spec =
     (tie.spec Inv-loop μ-loop
     (λ c S e h. let g = lines-some S e in omega (arith, g, h, c .if1 .taken))  -- returns
     (λ c S e h. let g = ranged S e .lines in omega (arith, g, h, c .if2 .taken))  -- returns-2
-    (λ c. (omega arith, omega arith, omega arith, omega arith, λ w u v s. omega arith))  -- loop-holds
+    (λ c. search needs)  -- loop-holds
     (λ c. search needs)  -- rem-if3
     (λ c. search needs)  -- div-if4
     (λ c. sets-pos _ _ (c .if3 .taken) (omega arith))  -- rem-if4

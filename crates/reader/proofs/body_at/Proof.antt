@@ -13,7 +13,7 @@ use base.Logic.{SProp, ent, emp, via, fst∗, id⊢}
 use base.Fml.{GName, Lft, Share, ftrue, fat, fdead, flft, flent}
 use prog.Memory.{Memory}
 use prog.Routine.{Routine}
-use prog.Wp.{Heap, Calls, Loops, WpFn, Tables}
+use prog.Wp.{Heap, Calls, Loops, WpFn}
 use ghost.Atoms.{Atoms}
 use contract.Monad.{Fun, fact}
 use contract.Running.{givenOf, tables, tablesOf}
@@ -36,7 +36,6 @@ use denote.Struct.Steps.{spelt}
 use denote.Struct.Values.{Values}
 use denote.Struct.At.{spelled}
 use borrow.Within.Token.{Rest, within-token, within-end}
-use contract.BorrowLft.{meet-⊑-right}
 use denote.Signature.{plain}
 use denote.Slice.{sliceVal, ShrSlice, slice-vals, shr-slice-tells, shr-slice-lawful}
 use denote.Steps.{only, owned, peeks, heard, nothing}
@@ -44,9 +43,9 @@ use denote.Struct.Laws as LL
 use denote.Triple.Statement.{Contract, Triple}
 use denote.Triple.Call.{calls-at}
 use denote.Triple.Entry.{onEntry}
-use denote.Triple.Spec.{Meets, tripleOf}
+use denote.Triple.Spec.{tripleOf}
 use denote.Triple.Table.{entered, cited}
-use denote.Triple.Walked.{says, Stays, stay-none, stay-none-slice, walkOf, goes-none, goes-none-slice, ends-at, walked, walk-meets}
+use denote.Triple.Walked.{says, walkOf, goes-none, goes-none-slice, ends-at, walked, walk-meets}
 use denote.Exit.{yes}
 use denote.Triple.Clauses.{ensured, lasts}
 use Rattle.reader.specs.Taken.{PartOf, Takes}
@@ -58,20 +57,15 @@ use Rattle.reader.proofs.Reader as T
 use Rattle.reader.proofs.Reader.Laws as T′
 use Rattle.reader.proofs.reader_at as reader-at
 use Rattle.reader.proofs.reader_at.Symbol as new-def
-use Rattle.reader.proofs.reader_at.Symbol.{name as #reader·reader-at}
 use Rattle.reader.proofs.reader_at.Met as new-thm
 use Rattle.reader.proofs.next as next
 use Rattle.reader.proofs.next.Symbol as next-def
-use Rattle.reader.proofs.next.Symbol.{name as #reader·next}
 use Rattle.reader.proofs.next.Met as next-thm
 use Rattle.reader.proofs.body_at.Key.{name as #reader·body-at}
 use Rattle.reader.proofs.body_at as body-at
 use Rattle.reader.proofs.body_at.Statement as stated
 use Rattle.reader.proofs.body_at.Code as code
-use Rattle.reader.proofs.Held.{α, αᵉ, v, passed, Own, B₁, New, to-new, goes-new, new-said, B₂, lent-to, tokens, lies-in, lies-out}
-
-abbrev stayed : Stays (body-at.ended .signature .params) (body-at.ended .kept)
-stayed = (stay-none-slice (0 ∷ []) tt (plain (λ _. u8)) yes, (stay-none (λ _. usize) yes, tt))
+use Rattle.reader.proofs.Held.{α, αᵉ, v, passed, Own, B₁, New, clause-said, to-plain, goes-plain, B₂, lent-to, tokens, lies-in, lies-out, to-lent, goes-lent, stayed-plain as stayed}
 
 module _ {M : Type 1} (𝓤 : URA M) (H : Heap 𝓤) (A : Atoms 𝓤) (mem : Memory → SProp 𝓤) (run : Routine → Fun 𝓤) where
   -- the contracts that the proof cites
@@ -95,14 +89,6 @@ module _ {M : Type 1} (𝓤 : URA M) (H : Heap 𝓤) (A : Atoms 𝓤) (W : Given
   abbrev vd : Taken → Values (D .parts)
   vd t = (t .found, (t .body, tt))
 
-  abbrev to-next : Reader → ℕ → ℕ → GName → Next 𝓤 H A mem run .Ghost
-  to-next r l ν γ = (((ν ∷ κ, (κ, tt)), (PosShare·left q, (PosShare·right q, tt)), (meet-⊑-right (ν ∷ []) κ, tt), (lent-to r l γ, tt), (vptr l 0 ∷ [], tt)), tt)
-
-  goes-next : (r : Reader) (l ν : ℕ) (γ : GName)
-      → ent 𝓤 (⋆ 𝓤 H A (‵ (MutRef (named 0) (ν ∷ κ) (B₂ κ) .own (lent-to r l γ) (vptr l 0 ∷ [])) ∷ tokens 𝓤 κ q ν ∷ [])) (Next 𝓤 H A mem run .pre (to-next r l ν γ))
-  goes-next r l ν γ =
-      qed W (‵ (MutRef (named 0) (ν ∷ κ) (B₂ κ) .own (lent-to r l γ) (vptr l 0 ∷ [])) ∷ tokens 𝓤 κ q ν ∷ []) ∵ nothing ! $ move ! (1 ∷ 0 ∷ []) $ fjoin ! $ move ! (1 ∷ 0 ∷ []) $ join ! $ frame ! $ done !
-
   abbrev part : RefT (List ℕ) → Val
   part p = sliceVal (p .ptr) (length (p .now))
 
@@ -115,15 +101,15 @@ module _ {M : Type 1} (𝓤 : URA M) (H : Heap 𝓤) (A : Atoms 𝓤) (W : Given
       suffices ! _ (ends-at 𝓤 H A body-at.ended stayed (body-at.clauses 𝓤 H A mem run) W (((κ, tt), (q, tt), tt, (s, (n, tt)), passed s n), tt) (part p) p (tt, (tt, tt)) (tt, (tt, tt))) $ says ! e $
       move ! (1 ∷ []) $ frame ! $ nothing ! $ owned ! usize (Is usize) (uint-makes 𝓤 H A W w64) n _ (refl, ok) $ fjoin ! $ move ! (2 ∷ 0 ∷ []) $ fjoin ! $ frame ! $ done !
 
-  module _ (C : Calls 𝓤 H) (Λ : Loops 𝓤 H) (fm : FmC 𝓤 H (W .laws) C) (known-new : Triple 𝓤 (C #reader·reader-at) (New 𝓤 H A mem run)) (known-next : Triple 𝓤 (C #reader·next) (Next 𝓤 H A mem run)) where
+  module _ (C : Calls 𝓤 H) (Λ : Loops 𝓤 H) (fm : FmC 𝓤 H (W .laws) C) (known-new : Triple 𝓤 (C new-def.name) (New 𝓤 H A mem run)) (known-next : Triple 𝓤 (C next-def.name) (Next 𝓤 H A mem run)) where
     walk : Is (ShrSlice (named 0) κ u8) s (v s ∷ []) → ent 𝓤 (onEntry 𝓤 H A body-at.signature (κ, tt) (q, tt) (s, (n, tt)) (passed s n)) (WpFn 𝓤 H C Λ code.function (v s ∷ vint w64 n ∷ []) Post)
     walk p₀ =
         qed W (raw (onEntry 𝓤 H A body-at.signature (κ, tt) (q, tt) (s, (n, tt)) (passed s n)) ∷ []) ∵ enter ! C Λ code.function (v s ∷ vint w64 n ∷ []) _ $
         alloc1 ! (λ l₀. alloc1 ! (λ l₁. alloc1 ! (λ l₂. alloc1 ! (λ l₃. alloc1 ! (λ l₄. alloc1 ! (λ l₅. alloc1 ! (λ l₆. alloc0 ! $ params1 ! $ pass1 ! (init ! 10 refl (shr-slice-lawful 𝓤 H A W (named 0) κ u8 .typed s (v s ∷ []) p₀ .0)) $ pass1 ! (init ! 8 refl (tt, record { fits = ok })) $ pass0 ! $
-        move ! (14 ∷ []) $ use1 W (raw (New 𝓤 H A mem run .pre (to-new 𝓤 H A mem run κ s n q)) ⊛ ‵ (Own κ s)) (goes-new 𝓤 H A mem run κ s n q W) $ split ! $
-        calls-at ! fm (New 𝓤 H A mem run) known-new (to-new 𝓤 H A mem run κ s n q) (and-then ! (load ! (from ! (stop !)) (look ! 12 refl)) (and-then ! (load ! (from ! (stop !)) (look ! 10 refl)) (no-more !))) (λ u.
+        move ! (14 ∷ []) $ use1 W (raw (New 𝓤 H A mem run .pre (to-plain 𝓤 H A mem run κ s n q)) ⊛ ‵ (Own κ s)) (goes-plain 𝓤 H A mem run κ s n q W) $ split ! $
+        calls-at ! fm (New 𝓤 H A mem run) known-new (to-plain 𝓤 H A mem run κ s n q) (and-then ! (load ! (from ! (stop !)) (look ! 12 refl)) (and-then ! (load ! (from ! (stop !)) (look ! 10 refl)) (no-more !))) (λ u.
         use1 W (later (some (λ (r : Reader). ((‵ (flft κ q) ⊛ ‵ ftrue) ⊛ ‵ (B₁ κ .own r (u ∷ []))) ⊛ raw (ensured 𝓤 H A reader-at.ended (reader-at.clauses 𝓤 H A mem run) (κ, tt) (s, (n, tt)) tt r)))) (id⊢ 𝓤 _) $ await ! tt $ pick ! (λ r.
-        split ! $ move ! (1 ∷ []) $ use1 W (raw (fact 𝓤 ((r .stream ≡ s) × (r .at ≡ n)))) (new-said 𝓤 H A mem run κ s n r) $ heard ! ((r .stream ≡ s) × (r .at ≡ n)) (λ e. split ! $ move ! (1 ∷ []) $
+        split ! $ move ! (1 ∷ []) $ use1 W (raw (fact 𝓤 ((r .stream ≡ s) × (r .at ≡ n)))) (clause-said 𝓤 H A (lasts reader-at.ended (κ, tt) (s, (n, tt))) _) $ heard ! ((r .stream ≡ s) × (r .at ≡ n)) (λ e. split ! $ move ! (1 ∷ []) $
         -- [what the struct owns; the token; what s owns; _6; …; _5; …; _4; …; _3; …; _2; …; _1; …; room for _0; …]
         peeks ! (B₁ κ) (Is (B₁ κ)) (shows 𝓤 H A (B₁ κ)) r (u ∷ []) (λ is.
         land ! (from ! (stop !)) (init ! 5 refl (LL.lawful (T.the-type (αᵉ κ)) (T′.the-laws (αᵉ κ)) 𝓤 H A W .typed r _ is .0)) $
@@ -139,9 +125,9 @@ module _ {M : Type 1} (𝓤 : URA M) (H : Heap 𝓤) (A : Atoms 𝓤) (W : Given
         -- [left; right; ftrue; the borrow; the lender's part; ν's token; what s owns; …]
         move ! (5 ∷ 0 ∷ []) $ use2 W (‵ (flft (ν ∷ κ) (PosShare·left q)) ⊛ raw (Rest 𝓤 H A W ν (PosShare·left q))) (within-token 𝓤 H A W ν κ (PosShare·left q)) $ split ! $
         -- [that lifetime's token; the way back; right; ftrue; the borrow; the lender's part; what s owns; …]
-        move ! (2 ∷ 3 ∷ []) $ join ! $ move ! (1 ∷ 0 ∷ []) $ join ! $ move ! (2 ∷ 0 ∷ []) $ use2 W (raw (Next 𝓤 H A mem run .pre (to-next r l₃ ν γ))) (goes-next r l₃ ν γ) $
+        move ! (2 ∷ 3 ∷ []) $ join ! $ move ! (1 ∷ 0 ∷ []) $ join ! $ move ! (2 ∷ 0 ∷ []) $ use2 W (raw (Next 𝓤 H A mem run .pre (to-lent 𝓤 H A mem run κ q r l₃ ν γ))) (goes-lent 𝓤 H A mem run κ q r l₃ ν γ W) $
         -- [what `next` asks; the way back; the lender's part; what s owns; _6; …; _5; …; _4; …; …of _3; _2; …; _1; …; room for _0; …]
-        calls-at ! fm (Next 𝓤 H A mem run) known-next (to-next r l₃ ν γ) (and-then ! (load ! (from ! (stop !)) (look ! 4 refl)) (no-more !)) (λ u₂.
+        calls-at ! fm (Next 𝓤 H A mem run) known-next (to-lent 𝓤 H A mem run κ q r l₃ ν γ) (and-then ! (load ! (from ! (stop !)) (look ! 4 refl)) (no-more !)) (λ u₂.
         use1 W (later (some (λ (t : Taken). (tokens 𝓤 κ q ν ⊛ ‵ (K .own t (u₂ ∷ []))) ⊛ raw (ensured 𝓤 H A next.ended (next.clauses 𝓤 H A mem run) (ν ∷ κ, (κ, tt)) (lent-to r l₃ γ, tt) tt t)))) (id⊢ 𝓤 _) $ await ! tt $ pick ! (λ t.
         split ! $ move ! (1 ∷ []) $ use1 W (some (λ (z : Reader × Unit {0}). ‵ (lasts next.ended (ν ∷ κ, (κ, tt)) (lent-to r l₃ γ, tt) z) ⊛ raw (fact 𝓤 (Takes r t (z .0))))) (id⊢ 𝓤 _) $ pick ! (λ z.
         split ! $ move ! (1 ∷ []) $ heard ! (Takes r t (z .0)) (λ e₂. fsplit ! $
@@ -170,18 +156,15 @@ module _ {M : Type 1} (𝓤 : URA M) (H : Heap 𝓤) (A : Atoms 𝓤) (W : Given
         move ! (16 ∷ 17 ∷ []) $ free1 ! $ move ! (14 ∷ 15 ∷ []) $ free1 ! $ move ! (12 ∷ 13 ∷ []) $ free1 ! $ move ! (2 ∷ 11 ∷ []) $ free1 ! $ move ! (8 ∷ 9 ∷ []) $ free1 ! $ move ! (6 ∷ 7 ∷ []) $ free1 ! $ move ! (4 ∷ 5 ∷ []) $ free1 ! $ free0 ! $
         keep ! (1 ∷ 3 ∷ []) $ by ! (exits (t .body) (part-is (r .stream) (r .at) (t .body) (e .0) (e .1) (e₂ .body))))))))))))))))))))))))
 
-body-at-meets : {M : Type 1} (𝓤 : URA M) (H : Heap 𝓤) (A : Atoms 𝓤) (W : Given 𝓤 H A) (mem : Memory → SProp 𝓤) (run : Routine → Fun 𝓤) (𝓣 : Tables 𝓤 H)
-    → Triple 𝓤 (𝓣 .C #reader·reader-at) (New 𝓤 H A mem run) → Triple 𝓤 (𝓣 .C #reader·next) (Next 𝓤 H A mem run)
-    → Meets 𝓤 H A body-at.signature (WpFn 𝓤 H (𝓣 .C) (𝓣 .Λ) code.function) (body-at.spec 𝓤 H A mem run)
-body-at-meets 𝓤 H A W mem run 𝓣 known-new known-next = walk-meets 𝓤 H A body-at.ended stayed W (goes-none-slice 𝓤 H A W 1 (0 ∷ []) tt (plain (λ _. u8)) yes, (goes-none 𝓤 H A W 1 (λ _. usize) yes (λ κs x f. refl), tt)) (body-at.clauses 𝓤 H A mem run) (WpFn 𝓤 H (𝓣 .C) (𝓣 .Λ) code.function) (WpFn-mono 𝓤 H (W .laws) 𝓣 code.function)
-    (walked 𝓤 H A body-at.ended stayed (body-at.clauses 𝓤 H A mem run) (WpFn 𝓤 H (𝓣 .C) (𝓣 .Λ) code.function) (λ κs. (slice-vals, (uint-vals w64, tt))) (λ κs. (shr-slice-tells (named 0) (κs .0) u8, (uint-tells w64, tt)))
-    (λ κs qs bounds a g are. via 𝓤 _ (fst∗ 𝓤 _ (emp 𝓤)) (walk 𝓤 H A W mem run (κs .0) (qs .0) (a .0) (a .1 .0) (are .1 .0 .1) (𝓣 .C) (𝓣 .Λ) (fmOf 𝓤 H (W .laws) 𝓣) known-new known-next (are .0))))
-
 pub body-at-spec : {M : Type 1} → stated.statement M
 unfolding code.routine tablesOf
 body-at-spec 𝓤 H 𝓜 𝓖 𝓡 =
+    let W = givenOf 𝓤 H 𝓜 𝓖 in
+    let 𝓣 = tablesOf 𝓤 H 𝓜 (tables 𝓤 H 𝓜 𝓡 code.env) in
+    let known-new = cited 𝓤 H (New 𝓤 H (𝓖 .A) (𝓜 .mem) (𝓡 .run)) 𝓜 𝓡 code.env new-def.name new-def.routine code.calls-reader·reader-at (new-thm.met 𝓤 H 𝓜 𝓖 𝓡) in
+    let known-next = cited 𝓤 H (Next 𝓤 H (𝓖 .A) (𝓜 .mem) (𝓡 .run)) 𝓜 𝓡 code.env next-def.name next-def.routine code.calls-reader·next (next-thm.met 𝓤 H 𝓜 𝓖 𝓡) in
     entered 𝓤 H (tripleOf 𝓤 H (𝓖 .A) body-at.signature (body-at.spec 𝓤 H (𝓖 .A) (𝓜 .mem) (𝓡 .run)))
     (tables 𝓤 H 𝓜 𝓡 code.env .C) (tables 𝓤 H 𝓜 𝓡 code.env .Λ) #reader·body-at code.function (code.unfolded 𝓤 H 𝓜 𝓡)
-    (body-at-meets 𝓤 H (𝓖 .A) (givenOf 𝓤 H 𝓜 𝓖) (𝓜 .mem) (𝓡 .run) (tablesOf 𝓤 H 𝓜 (tables 𝓤 H 𝓜 𝓡 code.env))
-    (cited 𝓤 H (New 𝓤 H (𝓖 .A) (𝓜 .mem) (𝓡 .run)) 𝓜 𝓡 code.env #reader·reader-at new-def.routine code.calls-reader·reader-at (new-thm.met 𝓤 H 𝓜 𝓖 𝓡))
-    (cited 𝓤 H (Next 𝓤 H (𝓖 .A) (𝓜 .mem) (𝓡 .run)) 𝓜 𝓡 code.env #reader·next next-def.routine code.calls-reader·next (next-thm.met 𝓤 H 𝓜 𝓖 𝓡)))
+    (walk-meets 𝓤 H (𝓖 .A) body-at.ended stayed W (goes-none-slice 𝓤 H (𝓖 .A) W 1 (0 ∷ []) tt (plain (λ _. u8)) yes, (goes-none 𝓤 H (𝓖 .A) W 1 (λ _. usize) yes (λ κs x f. refl), tt)) (body-at.clauses 𝓤 H (𝓖 .A) (𝓜 .mem) (𝓡 .run)) (WpFn 𝓤 H (𝓣 .C) (𝓣 .Λ) code.function) (WpFn-mono 𝓤 H (W .laws) 𝓣 code.function)
+    (walked 𝓤 H (𝓖 .A) body-at.ended stayed (body-at.clauses 𝓤 H (𝓖 .A) (𝓜 .mem) (𝓡 .run)) (WpFn 𝓤 H (𝓣 .C) (𝓣 .Λ) code.function) (λ κs. (slice-vals, (uint-vals w64, tt))) (λ κs. (shr-slice-tells (named 0) (κs .0) u8, (uint-tells w64, tt)))
+    (λ κs qs bounds a g are. via 𝓤 _ (fst∗ 𝓤 _ (emp 𝓤)) (walk 𝓤 H (𝓖 .A) W (𝓜 .mem) (𝓡 .run) (κs .0) (qs .0) (a .0) (a .1 .0) (are .1 .0 .1) (𝓣 .C) (𝓣 .Λ) (fmOf 𝓤 H (W .laws) 𝓣) known-new known-next (are .0)))))

@@ -21,5 +21,4 @@ came-spec =
     -- returns-2
     (λ c.
     let p = c .before .before in
-    let f = p .before in
-    rw (le-ltb _ _ (f .before .if1 .left), p .pass .ensures, f .front .ensures)))
+    rw (le-ltb _ _ (p .before .before .if1 .left), p .pass .ensures, p .before .front .ensures)))

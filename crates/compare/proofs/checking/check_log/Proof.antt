@@ -3,7 +3,7 @@ use mathlib.Core.Path.{_≡_, refl}
 use borrow.Author.Needs.{needs}
 use lib.ListN.{length}
 use Rattle.compare.specs.Checking.{Checked}
-use Rattle.compare.proofs.Parts.{reads-on, started-checked, toRead, less-to-read}
+use Rattle.compare.proofs.Parts.{reads-checked, started-checked, toRead, less-to-read}
 use Rattle.compare.proofs.checking.check_log.Statement.{statement}
 use Rattle.compare.proofs.checking.check_log.Tie as tie
 
@@ -20,15 +20,7 @@ check-log-spec =
     (λ c κs. search needs)  -- begin-requires
     (λ c. (refl, started-checked (c .begin .ensures)))  -- loop-holds
     (λ c κs. search needs)  -- read-part-requires
-    -- loop-less
-    (λ c.
-    let r = c .before .before in
-    let i = r .before .before in
-    less-to-read (i .before .loop .c) (r .read-part .result) (i .loop-test .taken) (reads-on (i .before .loop .inv .1) _ (r .read-part .ensures) .1))
-    -- loop-again
-    (λ c.
-    let r = c .before .before in
-    let i = r .before .before in
-    (search needs, reads-on (i .before .loop .inv .1) _ (r .read-part .ensures) .0))
+    (λ c. search less-to-read)  -- loop-less
+    (λ c. search (needs, reads-checked))  -- loop-again
     (λ c. search needs)  -- same-length
     (λ c. c .before .loop .inv .1))  -- returns

@@ -1,7 +1,7 @@
 -- `compare::checking::read_part` meets its contract.
-use mathlib.Core.Logic.{inl}
+use mathlib.Core.Logic.{inl, inr}
 use borrow.Author.Needs.{needs}
-use Rattle.compare.proofs.Parts.{read-none, read-some}
+use Rattle.compare.proofs.Parts.{read-some}
 use Rattle.compare.proofs.checking.read_part.Statement.{statement}
 use Rattle.compare.proofs.checking.read_part.Tie as tie
 
@@ -23,10 +23,9 @@ read-part-spec =
     -- returns
     (λ c.
     let n = c .before .before .before in
-    let f = n .before .before .before .before in
-    read-some _ _ (f .fill .ensures) (n .n .given .1) (search needs) (c .came .ensures))
+    read-some _ _ (n .before .before .before .before .fill .ensures) (n .n .given .1) (search needs) (c .came .ensures))
     (λ c. search needs)  -- same-length-2
-    (λ c. read-none _ _ (c .ended .ensures))  -- returns-2
+    (λ c. inr (inl (c .ended .ensures)))  -- returns-2
     (λ c. search needs)  -- same-length-3
     (λ c. inl (c .over .ensures))  -- returns-3
     (λ c. search needs)  -- same-length-4

@@ -21,15 +21,9 @@ list-all-spec =
     (λ c κs. search needs)  -- fresh-requires
     (λ c κs. search needs)  -- fresh-requires-2
     (λ c κs. search needs)  -- on-requires
-    -- loop-holds
-    (λ c.
-    let s = c .before in
-    (refl, refl, refl, refl, refl, begun-ready _ _ (c .on .ensures .0 ∙ s .before .fresh .ensures), begun-ready _ _ (ap (λ x. x .pass) (c .on .ensures .1) ∙ s .fresh2 .ensures)))
+    (λ c. (refl, refl, refl, refl, refl, begun-ready _ _ (c .on .ensures .0 ∙ c .before .before .fresh .ensures), begun-ready _ _ (ap (λ x. x .pass) (c .on .ensures .1) ∙ c .before .fresh2 .ensures)))  -- loop-holds
     (λ c κs. let i = c .before .before .before .before .before .before .loop .inv in (rw (i .0, i .1) (i .5), rw (i .2, i .3) (i .6)))  -- list-turn-requires
-    -- loop-less
-    (λ c.
-    let t = c .before .before .before .before .before .before .before .before .before .before in
-    goes-less _ (t .list-turn .ensures .0) (t .before .before .before .before .before .before .loop-test .taken))
+    (λ c. search goes-less)  -- loop-less
     -- loop-again
     (λ c.
     let t = c .before .before .before .before .before .before .before .before .before .before in

@@ -1,5 +1,5 @@
 -- `compare::listing::list_turn` meets its contract.
-use mathlib.Core.Path.{refl, ap, _∙_}
+use mathlib.Core.Path.{refl}
 use borrow.Author.Needs.{needs}
 use Rattle.compare.proofs.Turning.{pass-on, pass-halt, same-ready, lists-met, lists-pair, lists-same}
 use Rattle.compare.proofs.listing.list_turn.Statement.{statement}
@@ -13,11 +13,7 @@ list-turn-spec =
     (λ c. search needs)  -- enum-told
     (λ c κs. search needs)  -- on-requires
     (λ c. search needs)  -- enum-known-m
-    -- pair-met-requires
-    (λ c κs.
-    let m = c .before .before .before .before .before in
-    let t = m .before .before .before .before .before .before in
-    t .before .before .before .before .before .before .before .before .before .before .before .pre .1)
+    (λ c κs. c .before .before .before .before .before .before .before .before .before .before .before .before .before .before .before .before .before .before .before .before .before .before .pre .1)  -- pair-met-requires
     (λ c. search needs)  -- same-length
     (λ c. search needs)  -- same-length-2
     (λ c. search needs)  -- same-length-3
@@ -41,23 +37,21 @@ list-turn-spec =
     (λ c. search needs)  -- same-length-7
     -- returns-2
     (λ c.
-    let m = c .before in
-    let t = m .before .before .before .before .before .before in
-    (pass-on (t .turn .ensures .1) (m .enum-told .given .1) refl (c .on .ensures .0) _, (same-ready (ap (λ s. s .pass) (c .on .ensures .1)) (t .before .before .before .before .before .before .before .before .before .before .before .pre .1), lists-met _ _ _ _ _ _ _ _ (t .turn .ensures .0) (m .enum-told .given .1) (c .on .ensures .1, c .on .ensures .2))))
+    let t = c .before .before .before .before .before .before .before in
+    (pass-on (t .turn .ensures .1) (c .before .enum-told .given .1) refl (c .on .ensures .0) _, (same-ready (c .on .ensures .1) (t .before .before .before .before .before .before .before .before .before .before .before .pre .1), lists-met _ _ _ _ _ _ _ _ (t .turn .ensures .0) (c .before .enum-told .given .1) (c .on .ensures .1, c .on .ensures .2))))
     (λ c. search needs)  -- same-length-8
     (λ c. search needs)  -- same-length-9
     -- returns-3
     (λ c.
     let m = c .before .before .before in
     let t = m .before .before .before .before .before .before in
-    (pass-on (t .turn .ensures .1) (m .m .given .1) refl (c .on2 .ensures .0) _, (same-ready (ap (λ s. s .pass) (c .on2 .ensures .1)) (t .before .before .before .before .before .before .before .before .before .before .before .pre .1), lists-same _ _ _ _ _ _ _ _ (t .turn .ensures .0) (m .m .given .1) (c .before .if1 .left) (c .on2 .ensures .1) (c .on2 .ensures .2))))
+    (pass-on (t .turn .ensures .1) (m .m .given .1) refl (c .on2 .ensures .0) _, (same-ready (c .on2 .ensures .1) (t .before .before .before .before .before .before .before .before .before .before .before .pre .1), lists-same _ _ _ _ _ _ _ _ (t .turn .ensures .0) (m .m .given .1) (c .before .if1 .left) (c .on2 .ensures .1) (c .on2 .ensures .2))))
     (λ c. search needs)  -- same-length-10
     (λ c. search needs)  -- same-length-11
     -- returns-4
     (λ c.
-    let m = c .before in
-    let t = m .before .before .before .before .before .before in
-    (pass-on (t .turn .ensures .1) (m .enum-told2 .given .1) refl (c .on3 .ensures .0) _, (same-ready (ap (λ s. s .pass) (c .on3 .ensures .1)) (t .before .before .before .before .before .before .before .before .before .before .before .pre .1), lists-met _ _ _ _ _ _ _ _ (t .turn .ensures .0) (m .enum-told2 .given .1) (c .on3 .ensures .1))))
+    let t = c .before .before .before .before .before .before .before in
+    (pass-on (t .turn .ensures .1) (c .before .enum-told2 .given .1) refl (c .on3 .ensures .0) _, (same-ready (c .on3 .ensures .1) (t .before .before .before .before .before .before .before .before .before .before .before .pre .1), lists-met _ _ _ _ _ _ _ _ (t .turn .ensures .0) (c .before .enum-told2 .given .1) (c .on3 .ensures .1))))
     (λ c. search needs)  -- same-length-12
     (λ c. search needs)  -- same-length-13
     (λ c. search needs)  -- same-length-14
@@ -66,11 +60,10 @@ list-turn-spec =
     let f = c .before .before .before in
     let m = f .before .before in
     let t = m .before .before .before .before .before .before in
-    (pass-halt _ (t .turn .ensures .1 .ready) (c .halted .ensures .0) (c .halted .ensures .2), (same-ready (ap (λ s. s .pass) (c .halted .ensures .1) ∙ f .finish .ensures) (t .before .before .before .before .before .before .before .before .before .before .before .pre .1), lists-met _ _ _ _ _ _ _ _ (t .turn .ensures .0) (m .enum-told3 .given .1) (c .halted .ensures .2))))
+    (pass-halt _ (t .turn .ensures .1 .ready) (c .halted .ensures .0) (c .halted .ensures .2), (same-ready (c .halted .ensures .1) (rw (f .finish .ensures) (t .before .before .before .before .before .before .before .before .before .before .before .pre .1)), lists-met _ _ _ _ _ _ _ _ (t .turn .ensures .0) (m .enum-told3 .given .1) (c .halted .ensures .2))))
     (λ c. search needs)  -- same-length-15
     (λ c. search needs)  -- same-length-16
     -- returns-6
     (λ c.
-    let m = c .before in
-    let t = m .before .before .before .before .before .before in
-    (pass-halt _ (t .turn .ensures .1 .ready) (c .halted2 .ensures .0) (c .halted2 .ensures .2), (same-ready (ap (λ s. s .pass) (c .halted2 .ensures .1)) (t .before .before .before .before .before .before .before .before .before .before .before .pre .1), lists-met _ _ _ _ _ _ _ _ (t .turn .ensures .0) (m .enum-told4 .given .1) (c .halted2 .ensures .1)))))
+    let t = c .before .before .before .before .before .before .before in
+    (pass-halt _ (t .turn .ensures .1 .ready) (c .halted2 .ensures .0) (c .halted2 .ensures .2), (same-ready (c .halted2 .ensures .1) (t .before .before .before .before .before .before .before .before .before .before .before .pre .1), lists-met _ _ _ _ _ _ _ _ (t .turn .ensures .0) (c .before .enum-told4 .given .1) (c .halted2 .ensures .1)))))

@@ -1,5 +1,5 @@
 -- `compare::listing::pair_met` meets its contract.
-use mathlib.Core.Path.{refl, ap}
+use mathlib.Core.Path.{refl}
 use borrow.Author.Needs.{needs}
 use Rattle.words.proofs.Flags.{and-1, and-2, clash}
 use Rattle.compare.proofs.Turning.{same-ready}
@@ -15,9 +15,8 @@ pair-met-spec =
     (λ c κs. search needs)  -- halted-requires
     -- returns
     (λ c.
-    let start = c .before .before .before .before .before .before .before .before in
     let h = c .halted .ensures in
-    ((h .0, same-ready (ap (λ s. s .pass) (h .1)) (start .pre)), λ m. clash m (h .2)))
+    ((h .0, same-ready (h .1) (c .before .before .before .before .before .before .before .before .pre)), λ m. clash m (h .2)))
     (λ c κs. search needs)  -- list-pair-requires
     (λ c. search needs)  -- same-length
     (λ c. search needs)  -- same-length-2

@@ -21,11 +21,8 @@ show-spec =
     tie.close
     (tie.spec Inv-loop μ-loop
     (λ c. (refl, refl, refl, c .before .before .before .pre, λ m. clash refl m))  -- loop-holds
-    (λ c κs. let i = c .before .before .before .before .loop .inv in rw (i .0, i .1) (i .3))  -- show-turn-requires
-    -- loop-less
-    (λ c.
-    let t = c .before .before .before .before .before .before in
-    goes-less _ (t .show-turn .ensures .0) (t .before .before .before .before .loop-test .taken))
+    (λ c κs. search needs)  -- show-turn-requires
+    (λ c. search goes-less)  -- loop-less
     -- loop-again
     (λ c.
     let t = c .before .before .before .before .before .before in

@@ -30,55 +30,37 @@ turn-spec =
     (λ c. search needs)  -- same-length-2
     -- returns
     (λ c.
-    let u = c .before .before .before in
-    let k = u .before in
-    let t = k .before .before in
-    let s = t .before .before in
-    let z = s .before in
-    let x = z .before .before in
-    let start = x .before .before .before .before .before .before .before in
-    turn-first _ _ (start .pre) _ _ _ (x .waiting .ensures) (z .waiting2 .ensures) (s .step .ensures) (t .enum-told .given .1) (k .top-up .ensures) (c .came-to .ensures) refl)
+    let k = c .before .before .before .before in
+    let s = k .before .before .before .before in
+    let x = s .before .before .before in
+    turn-first _ _ (x .before .before .before .before .before .before .before .pre) _ _ _ (x .waiting .ensures) (s .before .waiting2 .ensures) (s .step .ensures) (k .before .before .enum-told .given .1) (k .top-up .ensures) (c .came-to .ensures) refl)
     (λ c. search needs)  -- same-length-3
     (λ c. search needs)  -- same-length-4
     -- returns-2
     (λ c.
-    let u = c .before .before .before in
-    let k = u .before in
-    let t = k .before .before in
-    let s = t .before .before in
-    let z = s .before in
-    let x = z .before .before in
-    let start = x .before .before .before .before .before .before .before in
-    turn-second _ _ (start .pre) _ _ _ (x .waiting .ensures) (z .waiting2 .ensures) (s .step .ensures) (t .enum-told2 .given .1) (k .top-up2 .ensures) (c .came-to2 .ensures) refl)
+    let k = c .before .before .before .before in
+    let s = k .before .before .before .before in
+    let x = s .before .before .before in
+    turn-second _ _ (x .before .before .before .before .before .before .before .pre) _ _ _ (x .waiting .ensures) (s .before .waiting2 .ensures) (s .step .ensures) (k .before .before .enum-told2 .given .1) (k .top-up2 .ensures) (c .came-to2 .ensures) refl)
     (λ c. search needs)  -- same-length-5
     (λ c. search needs)  -- same-length-6
     -- returns-3
     (λ c.
-    let b = c .before in
-    let a = b .before in
-    let m = a .before .before in
+    let m = c .before .before .before .before in
     let s = m .before .before in
-    let z = s .before in
-    let x = z .before .before in
-    let start = x .before .before .before .before .before .before .before in
-    turn-row _ _ (start .pre) _ _ _ (x .waiting .ensures) (z .waiting2 .ensures) (s .step .ensures) (m .m .given .1) (a .moved .ensures) (b .moved2 .ensures) (c .came-to3 .ensures) refl refl)
+    let x = s .before .before .before in
+    turn-row _ _ (x .before .before .before .before .before .before .before .pre) _ _ _ (x .waiting .ensures) (s .before .waiting2 .ensures) (s .step .ensures) (m .m .given .1) (c .before .before .moved .ensures) (c .before .moved2 .ensures) (c .came-to3 .ensures) refl refl)
     (λ c. search needs)  -- same-length-7
     (λ c. search needs)  -- same-length-8
     -- returns-4
     (λ c.
-    let d = c .before .before in
-    let s = d .before .before in
-    let z = s .before in
-    let x = z .before .before in
-    let start = x .before .before .before .before .before .before .before in
-    turn-pair _ _ (start .pre) _ _ _ (x .waiting .ensures) (z .waiting2 .ensures) (s .step .ensures) (d .differs .given .1) (c .came-to4 .ensures) refl refl)
+    let s = c .before .before .before .before in
+    let x = s .before .before .before in
+    turn-pair _ _ (x .before .before .before .before .before .before .before .pre) _ _ _ (x .waiting .ensures) (s .before .waiting2 .ensures) (s .step .ensures) (c .before .before .differs .given .1) (c .came-to4 .ensures) refl refl)
     (λ c. search needs)  -- same-length-9
     (λ c. search needs)  -- same-length-10
     -- returns-5
     (λ c.
-    let t = c .before in
-    let s = t .before .before in
-    let z = s .before in
-    let x = z .before .before in
-    let start = x .before .before .before .before .before .before .before in
-    turn-over _ _ (start .pre) _ _ _ (x .waiting .ensures) (z .waiting2 .ensures) (s .step .ensures) (t .enum-told3 .given .1) (c .came-to5 .ensures) refl refl))
+    let s = c .before .before .before in
+    let x = s .before .before .before in
+    turn-over _ _ (x .before .before .before .before .before .before .before .pre) _ _ _ (x .waiting .ensures) (s .before .waiting2 .ensures) (s .step .ensures) (c .before .enum-told3 .given .1) (c .came-to5 .ensures) refl refl))

@@ -1,8 +1,6 @@
 -- `comparing::checks::pass` meets its contract: what is left of the part is still to be passed.
-use mathlib.Core.Path.{refl}
 use Prim.Native.Nat.{_-_}
 use borrow.Author.Needs.{needs}
-use native.Mathlib.Omega.{arith}
 use lib.ListN.{length}
 use Rattle.comparing.proofs.Coming.{PassedTo, check-passed-more, passed-all}
 use Rattle.comparing.proofs.checks.pass.Statement.{statement}
@@ -18,13 +16,10 @@ pub pass-spec : {M : Type 1} → statement M
 pass-spec =
     tie.close
     (tie.spec Inv-loop μ-loop
-    (λ c. (omega arith, refl))  -- loop-holds
+    (λ c. search needs)  -- loop-holds
     (λ c. search needs)  -- shared-slice-read-pass-byte
     (λ c κs. search needs)  -- pass-byte-requires
     (λ c. search needs)  -- add-i
     (λ c. search needs)  -- loop-less
-    -- loop-again
-    (λ c.
-    let l = c .before .before in
-    check-passed-more _ _ _ (l .before .loop .i) (l .loop-test .taken) (c .pass-byte .ensures) (l .before .loop .inv))
+    (λ c. search check-passed-more)  -- loop-again
     (λ c. let v = c .before .loop in passed-all _ _ _ (v .i) (c .loop-test .left) (v .inv)))  -- returns

@@ -16,9 +16,8 @@ pass-byte-spec =
     (λ c. search needs)  -- sub-t5
     -- returns-2
     (λ c.
-    let t = c .before in
-    let n = t .before .before in
-    rw (n .before .if1 .left, ne-eqb _ 0 (t .if2 .taken), n .wrapping-add-usize .ensures))
+    let n = c .before .before .before in
+    rw (n .before .if1 .left, ne-eqb _ 0 (c .before .if2 .taken), n .wrapping-add-usize .ensures))
     (λ c κs. search needs)  -- is-event-requires
     -- returns-3
     (λ c.
@@ -28,8 +27,6 @@ pass-byte-spec =
     (λ c κs. search needs)  -- begun-inside-requires
     -- returns-4
     (λ c.
-    let l = c .before in
-    let t = l .before in
-    let e = t .before .before in
-    let n = e .before .before in
-    rw (n .before .if1 .left, eq-eqb _ 0 (e .if2 .left), n .wrapping-add-usize .ensures, sym (t .before .is-event .ensures) ∙ not-false _ (t .if3 .left), l .length-of .ensures, c .begun-inside .ensures)))
+    let t = c .before .before in
+    let n = t .before .before .before .before in
+    rw (n .before .if1 .left, eq-eqb _ 0 (t .before .before .if2 .left), n .wrapping-add-usize .ensures, sym (t .before .is-event .ensures) ∙ not-false _ (t .if3 .left), c .before .length-of .ensures, c .begun-inside .ensures)))

@@ -22,14 +22,11 @@ next-record-spec =
     (λ c κs. search needs)  -- past-requires
     -- returns-4
     (λ c.
-    let t = c .before in
-    let l = t .before in
-    let e = l .before .before in
-    let s = e .before in
-    rw (ne-eqb _ 0 (s .before .before .if1 .left), rw (s .starts .ensures) at (e .if3 .left), whole-test _ (l .length-of .ensures), t .if4 .taken, c .past .ensures))
+    let l = c .before .before in
+    let s = l .before .before .before in
+    rw (ne-eqb _ 0 (s .before .before .if1 .left), rw (s .starts .ensures) at (l .before .before .if3 .left), whole-test _ (l .length-of .ensures), c .before .if4 .taken, c .past .ensures))
     -- returns-5
     (λ c.
     let l = c .before in
-    let e = l .before .before in
-    let s = e .before in
-    rw (ne-eqb _ 0 (s .before .before .if1 .left), rw (s .starts .ensures) at (e .if3 .left), whole-test _ (l .length-of .ensures), c .if4 .left)))
+    let s = l .before .before .before in
+    rw (ne-eqb _ 0 (s .before .before .if1 .left), rw (s .starts .ensures) at (l .before .before .if3 .left), whole-test _ (l .length-of .ensures), c .if4 .left)))

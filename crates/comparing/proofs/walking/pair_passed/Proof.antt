@@ -12,9 +12,4 @@ pair-passed-spec =
     (λ c κs. search needs)  -- behind-requires-2
     (λ c κs. search needs)  -- differing-requires
     (λ c κs. search needs)  -- lowest-requires
-    -- returns
-    (λ c.
-    let d = c .before in
-    let s = d .before in
-    let f = s .before in
-    rw (f .before .wrapping-add-usize .ensures, f .behind .ensures, s .behind2 .ensures, d .differing .ensures, c .lowest .ensures)))
+    (λ c. cc))  -- returns

@@ -16,9 +16,4 @@ row-spec =
     (λ c κs. search needs)  -- part-requires-2
     (λ c κs. search needs)  -- same-requires
     (λ c κs. search needs)  -- row-passed-requires
-    -- returns-2
-    (λ c.
-    let s = c .before in
-    let q = s .before in
-    let p = q .before in
-    row-next _ _ _ _ _ (p .before .if1 .left) (p .part .ensures) (q .part2 .ensures) (s .same .ensures) (c .row-passed .ensures)))
+    (λ c. search row-next))  -- returns-2

@@ -25,7 +25,6 @@ step-spec =
     rw (sym (m .before .before .next-record .ensures) ∙ m .m .given .1, sym (n2 .next-record2 .ensures) ∙ c .enum-told2 .given .1))
     -- returns-3
     (λ c.
-    let n = c .before .before in
-    let n2 = n .before .before in
+    let n2 = c .before .before .before .before in
     let m = n2 .before .before .before in
-    rw (sym (m .before .before .next-record .ensures) ∙ m .m .given .1, sym (n2 .next-record2 .ensures) ∙ n .n .given .1) (c .row .ensures)))
+    rw (sym (m .before .before .next-record .ensures) ∙ m .m .given .1, sym (n2 .next-record2 .ensures) ∙ c .before .before .n .given .1) (c .row .ensures)))
