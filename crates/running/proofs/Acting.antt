@@ -27,6 +27,7 @@ use Rattle.records.specs.Stores.{Laid}
 use Rattle.records.proofs.Decoding.{command-sized}
 use Rattle.records.proofs.Lengths.{command-kinds, settings-kinds}
 use Rattle.running.specs.Resume.{recordKindAt, restAt, accessIn, recordFrom, RecordReady, Resumes}
+use Rattle.running.proofs.Tickets.{write-as}
 use Rattle.running.proofs.Singles.{ready-going, ready-whole, body-long, record-runs}
 
 lengths : (lengthOf 1 ≡ 12) × (lengthOf 2 ≡ 12) × (lengthOf 3 ≡ 0) × (lengthOf 4 ≡ 8) × (lengthOf 5 ≡ 4)
@@ -101,12 +102,12 @@ module _ (s : List ℕ) (at out : ℕ) (e : List ℕ) (ready : RecordReady s at 
           let p : take 12 (restAt s at) ≡ take (lengthOf 1) (restAt s at) = rw (lengths .0) in
           record-runs s at out e ready S L held (cmd.Read _ _) (command-is 1 h p) (omega arith) (rw q at d) laid size (omega arith)
 
-      write-runs : k ≡ 2 → x ≡ Write (numberAt (take 12 (restAt s at)) 0 8) (numberAt (take 12 (restAt s at)) 8 4) 0 → maskOf x ≤ allOnes → LeftBehind (at + 13)
+      write-runs : k ≡ 2 → x ≡ Write (numberAt (take 12 (restAt s at)) 0 8) (numberAt (take 12 (restAt s at)) 8 4) (numberAt (take 12 (restAt s at)) 8 4) → maskOf x ≤ allOnes → LeftBehind (at + 13)
       write-runs h q small =
           let l : lengthOf k ≡ 12 = ap lengthOf h ∙ lengths .1 in
           let p : take 12 (restAt s at) ≡ take (lengthOf 2) (restAt s at) = rw (lengths .1) in
           let m : numberAt (take 12 (restAt s at)) 8 4 ≤ allOnes = rw q at small in
-          record-runs s at out e ready S L held (cmd.Write _ _) (command-is 2 h p) m (rw q at d) laid size (omega arith)
+          record-runs s at out e ready S L held (cmd.Write _ _) (command-is 2 h p) m (write-as S _ _ _ _ (rw q at d)) laid size (omega arith)
 
       pub access-runs : k ≤ 2 → x ≡ accessIn k (take 12 (restAt s at)) → maskOf x ≤ allOnes → LeftBehind (at + 13)
       access-runs most q small =
