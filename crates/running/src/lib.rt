@@ -125,6 +125,17 @@ fn starts(n: usize, size: usize) -> usize
     if n < size { 0 } else { n - size + 1 }
 }
 
+// A run that stops with this, having consumed and written so many bytes.
+fn ran_to(stop: Stop, consumed: usize, written: usize) -> Ran
+    ensures { λ r. ⌜ r ≡ record { stop = stop; consumed = consumed; written = written } ⌝ }
+{
+    Ran {
+        stop,
+        consumed,
+        written,
+    }
+}
+
 // The records from byte `start` on, at fixed settings and on sound tables; events go behind the first `first` bytes. The layout is the
 // caller's, computed once for all of them; how many queue places and miss entries are in use is found once, and then follows from what
 // each record tells. Where the usual records end, the next one is judged in full, and then run by itself.
@@ -175,20 +186,12 @@ pub fn run_records(
         at = ran.consumed;
         out = ran.written;
         if stream.len() <= at {
-            return Ran {
-                stop: Stop::Nothing,
-                consumed: at,
-                written: out,
-            };
+            return ran_to(Stop::Nothing, at, out);
         }
         let found = reader::record_at(stream, at);
         let stop = later_stop(stream[at], found, events.len() - out);
         if !goes_on(stop) {
-            return Ran {
-                stop,
-                consumed: at,
-                written: out,
-            };
+            return ran_to(stop, at, out);
         }
         limit = at + 1;
     }

@@ -265,7 +265,17 @@ fn tick_record(
     }
 }
 
-// Where a record is no step's: nothing is done.
+// Behind a record that was a step's.
+fn stepped(went: Went) -> Tried
+    ensures { λ r. ⌜ r ≡ record { went = went; stepped = true } ⌝ }
+{
+    Tried {
+        went,
+        stepped: true,
+    }
+}
+
+// At a record that is no step's: nothing is done.
 fn no_step(at: usize, out: usize, queued: usize, missed: usize) -> Tried
     ensures { λ r. ⌜ r ≡ record { went = unmoved at out queued missed; stepped = false } ⌝ }
 {
@@ -285,7 +295,7 @@ fn no_step(at: usize, out: usize, queued: usize, missed: usize) -> Tried
     }
 }
 
-// The step of a record, and whether it is of one; at any other nothing is done.
+// Runs a record that is a step's, with q queue places and m miss entries in use, and tells whether it is; at any other nothing is done.
 fn step_record(
     s: Settings,
     laid: Layout,
@@ -293,97 +303,37 @@ fn step_record(
     at: usize,
     events: &mut [u8],
     out: usize,
-    queued: usize,
-    missed: usize,
+    q: usize,
+    m: usize,
     longs: &mut [u64],
     words: &mut [u32],
     marks: &mut [u8],
 ) -> Tried
-    requires { ⌜ LaysOut s laid × SoundSlices s (lent (now longs) (now words) (now marks)) × UsedInMarks s laid (now marks) queued missed ⌝ }
+    requires { ⌜ LaysOut s laid × SoundSlices s (lent (now longs) (now words) (now marks)) × UsedInMarks s laid (now marks) q m ⌝ }
     requires { ⌜ UsualAt (now stream) at out (now events) ⌝ }
     ensures { λ r. ⌜ Tries s (now (stream .entry)) at out (now (events .entry))
-        (lent (now (longs .entry)) (now (words .entry)) (now (marks .entry))) queued missed r
+        (lent (now (longs .entry)) (now (words .entry)) (now (marks .entry))) q m r
         (now (events .exit)) (lent (now (longs .exit)) (now (words .exit)) (now (marks .exit))) ⌝ }
     ensures { λ r. ⌜ UsedInMarks s laid (now (marks .exit)) (r .went .queued) (r .went .missed) ⌝ }
 {
     let kind = stream[at];
     if (READ <= kind) & (kind <= WRITE) {
-        let went = access_record(
-            s,
-            laid,
-            stream,
-            at,
-            events,
-            out,
-            queued,
-            missed,
-            longs,
-            words,
-            marks,
-        );
-        return Tried {
-            went,
-            stepped: true,
-        };
+        let went = access_record(s, laid, stream, at, events, out, q, m, longs, words, marks);
+        return stepped(went);
     }
     if kind == SEND {
-        let went = send_record(
-            s,
-            laid,
-            stream,
-            at,
-            events,
-            out,
-            queued,
-            missed,
-            longs,
-            words,
-            marks,
-        );
-        return Tried {
-            went,
-            stepped: true,
-        };
+        let went = send_record(s, laid, stream, at, events, out, q, m, longs, words, marks);
+        return stepped(went);
     }
     if kind == FILL {
-        let went = fill_record(
-            s,
-            laid,
-            stream,
-            at,
-            events,
-            out,
-            queued,
-            missed,
-            longs,
-            words,
-            marks,
-        );
-        return Tried {
-            went,
-            stepped: true,
-        };
+        let went = fill_record(s, laid, stream, at, events, out, q, m, longs, words, marks);
+        return stepped(went);
     }
     if kind == TICK {
-        let went = tick_record(
-            s,
-            laid,
-            stream,
-            at,
-            events,
-            out,
-            queued,
-            missed,
-            longs,
-            words,
-            marks,
-        );
-        return Tried {
-            went,
-            stepped: true,
-        };
+        let went = tick_record(s, laid, stream, at, events, out, q, m, longs, words, marks);
+        return stepped(went);
     }
-    no_step(at, out, queued, missed)
+    no_step(at, out, q, m)
 }
 
 // The usual records from byte `start` on, one after the other, up to one that is no step's, or does not begin below `limit`, or has no
@@ -397,13 +347,13 @@ pub(crate) fn run_usual(
     events: &mut [u8],
     first: usize,
     ample: usize,
-    q: usize,
-    m: usize,
+    queued: usize,
+    missed: usize,
     longs: &mut [u64],
     words: &mut [u32],
     marks: &mut [u8],
 ) -> Went
-    requires { ⌜ LaysOut s laid × SoundSlices s (lent (now longs) (now words) (now marks)) × UsedInMarks s laid (now marks) q m ⌝ }
+    requires { ⌜ LaysOut s laid × SoundSlices s (lent (now longs) (now words) (now marks)) × UsedInMarks s laid (now marks) queued missed ⌝ }
     requires { ⌜ RunAt (now stream) start first (now events) ⌝ }
     requires { ⌜ WholeBelow (now stream) start limit × (ample ≡ length (now events) + 1 - 64) ⌝ }
     ensures { λ r. ⌜ RunStands s (now (stream .entry)) start first (now (events .entry))
@@ -414,31 +364,19 @@ pub(crate) fn run_usual(
 {
     let mut at = start;
     let mut out = first;
-    let mut queued = q;
-    let mut missed = m;
+    let mut q = queued;
+    let mut m = missed;
     while (at < limit) & (out < ample) {
-        let tried = step_record(
-            s,
-            laid,
-            stream,
-            at,
-            events,
-            out,
-            queued,
-            missed,
-            longs,
-            words,
-            marks,
-        );
+        let tried = step_record(s, laid, stream, at, events, out, q, m, longs, words, marks);
         let went = tried.went;
         if !tried.stepped {
             return went;
         }
-        queued = went.queued;
-        missed = went.missed;
         let ran = went.ran;
         at = ran.consumed;
         out = ran.written;
+        q = went.queued;
+        m = went.missed;
     }
     let ran = Ran {
         stop: Stop::Nothing,
@@ -447,7 +385,7 @@ pub(crate) fn run_usual(
     };
     Went {
         ran,
-        queued,
-        missed,
+        queued: q,
+        missed: m,
     }
 }

@@ -49,23 +49,26 @@ run-records-spec =
     let inv = l .loop .inv in
     let size = inv .0 .size in
     ((s .pre .0 .0, run-stands-held (inv .0) (s .pre .0 .1), inv .1), (inv .0 .here, (inv .2, omega (arith, l .before .starts2 .ensures)))))
-    (λ c. search needs)  -- same-length
-    (λ c. search needs)  -- same-length-2
-    (λ c. search needs)  -- same-length-3
-    (λ c. search needs)  -- same-length-4
-    (λ c. let u = c .before .before .before .before .before .before .before .before .before .before in goes-ends (run-stands-then (u .before .before .before .before .before .loop .inv .0) (u .run-usual .ensures .0)) (c .if1 .taken))  -- returns
+    (λ c κs. search needs)  -- ran-to-requires
+    (λ c. let u = c .before .before .before .before .before .before .before .before .before .before .before in u .run-usual .ensures .0 .size ∙ u .before .before .before .before .before .loop .inv .0 .size)  -- same-length
+    (λ c. let u = c .before .before .before .before .before .before .before .before .before .before .before in u .run-usual .ensures .0 .longs ∙ u .before .before .before .before .before .loop .inv .0 .longs)  -- same-length-2
+    (λ c. let u = c .before .before .before .before .before .before .before .before .before .before .before in u .run-usual .ensures .0 .words ∙ u .before .before .before .before .before .loop .inv .0 .words)  -- same-length-3
+    (λ c. let u = c .before .before .before .before .before .before .before .before .before .before .before in u .run-usual .ensures .0 .marks ∙ u .before .before .before .before .before .loop .inv .0 .marks)  -- same-length-4
+    (λ c. let i = c .before in let u = i .before .before .before .before .before .before .before .before .before .before in rw (c .ran-to .ensures) (goes-ends (run-stands-then (u .before .before .before .before .before .loop .inv .0) (u .run-usual .ensures .0)) (i .if1 .taken)))  -- returns
     (λ c κs. search needs)  -- record-at-requires
     (λ c. search needs)  -- shared-slice-read-later-stop
     (λ c. let u = c .before .before .before .before .before .before .before .before .before .before .before .before in omega (arith, u .run-usual .ensures .0 .here .room))  -- sub-later-stop
     (λ c κs. search needs)  -- later-stop-requires
     (λ c κs. search needs)  -- goes-on-requires
-    (λ c. search needs)  -- same-length-5
-    (λ c. search needs)  -- same-length-6
-    (λ c. search needs)  -- same-length-7
-    (λ c. search needs)  -- same-length-8
+    (λ c κs. search needs)  -- ran-to-requires-2
+    (λ c. let u = c .before .before .before .before .before .before .before .before .before .before .before .before .before .before .before .before in u .run-usual .ensures .0 .size ∙ u .before .before .before .before .before .loop .inv .0 .size)  -- same-length-5
+    (λ c. let u = c .before .before .before .before .before .before .before .before .before .before .before .before .before .before .before .before in u .run-usual .ensures .0 .longs ∙ u .before .before .before .before .before .loop .inv .0 .longs)  -- same-length-6
+    (λ c. let u = c .before .before .before .before .before .before .before .before .before .before .before .before .before .before .before .before in u .run-usual .ensures .0 .words ∙ u .before .before .before .before .before .loop .inv .0 .words)  -- same-length-7
+    (λ c. let u = c .before .before .before .before .before .before .before .before .before .before .before .before .before .before .before .before in u .run-usual .ensures .0 .marks ∙ u .before .before .before .before .before .loop .inv .0 .marks)  -- same-length-8
     -- returns-2
     (λ c.
-    let o = c .before in
+    let j = c .before in
+    let o = j .before in
     let t = o .before in
     let i = t .before .before .before in
     let u = i .before .before .before .before .before .before .before .before .before .before in
@@ -73,9 +76,9 @@ run-records-spec =
     let s = l .before .before .before .before .before .before .before .before .before .before .before .before in
     let inside = i .if1 .left in
     let d = found-later (s .args .stream .now) _ inside (t .before .before .record-at .ensures) _ (t .later-stop .ensures) in
-    let stops = sym (o .goes-on .ensures) ∙ not-true _ (c .if2 .taken) in
+    let stops = sym (o .goes-on .ensures) ∙ not-true _ (j .if2 .taken) in
     let g = run-stands-then (l .loop .inv .0) (u .run-usual .ensures .0) in
-    goes-stops g inside (single-halts _ _ _ _ _ _ (g .here) d stops) stops)
+    rw (c .ran-to2 .ensures) (goes-stops g inside (single-halts _ _ _ _ _ _ (g .here) d stops) stops))
     (λ c. let i = c .before .before .before .before .before in let s = i .before .before .before .before .before .before .before .before .before .before .before .before .before .before .before .before .before .before .before .before .before .before .before .before .before .before .before in omega (arith, i .if1 .left))  -- add-limit
     -- loop-less
     (λ c.

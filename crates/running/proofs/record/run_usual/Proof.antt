@@ -13,11 +13,11 @@ use Rattle.running.proofs.record.run_usual.Statement.{statement}
 use Rattle.running.proofs.record.run_usual.Tie as tie
 
 abbrev Inv-loop : tie.InvT-loop
-Inv-loop s laid stream start limit events₀ first ample q m longs₀ words₀ marks₀ at₀ out₀ queued₀ missed₀ events longs words marks at out queued missed =
-    RunStands s stream at₀ out₀ events₀ (lent longs₀ words₀ marks₀) at out events (lent longs words marks) × UsedInMarks s laid marks queued missed × Moved at₀ out₀ at out
+Inv-loop s laid stream start limit events₀ first ample queued missed longs₀ words₀ marks₀ at₀ out₀ q₀ m₀ events longs words marks at out q m =
+    RunStands s stream at₀ out₀ events₀ (lent longs₀ words₀ marks₀) at out events (lent longs words marks) × UsedInMarks s laid marks q m × Moved at₀ out₀ at out
 
 abbrev μ-loop : tie.MeasureT-loop
-μ-loop s laid stream start limit events₀ first ample q m longs₀ words₀ marks₀ at₀ out₀ queued₀ missed₀ events longs words marks at out queued missed = length stream - at
+μ-loop s laid stream start limit events₀ first ample queued missed longs₀ words₀ marks₀ at₀ out₀ q₀ m₀ events longs words marks at out q m = length stream - at
 
 pub run-usual-spec : {M : Type 1} → statement M
 run-usual-spec =

@@ -13,29 +13,46 @@ step-record-spec =
     (tie.spec
     (λ c. let s = c .before .before .before .before .before .before in let h = s .pre .1 .inside in omega arith)  -- shared-slice-read-kind
     (λ c κs. let s = c .before .before .before .before .before .before .before .before .before .before .before in let k = access-kind _ (c .before .before .before .before .if1 .taken) in (s .pre .0, (usual-ready (s .pre .1) (k .0), k .1)))  -- access-record-requires
+    (λ c κs. search needs)  -- stepped-requires
     (λ c. search needs)  -- same-length
     (λ c. search needs)  -- same-length-2
     (λ c. search needs)  -- same-length-3
     (λ c. search needs)  -- same-length-4
-    (λ c. let r = c .before .before .before .before .before .before .before .before in let a = r .before .before .before .before .before .before .before .before .before .before .before .before .args in (tries-steps (access-kind (recordKindAt (a .stream .now) (a .at)) (r .before .before .before .before .before .if1 .taken) .0) (r .access-record .ensures .0), r .access-record .ensures .1))  -- returns
+    -- returns
+    (λ c.
+    let r = c .before .before .before .before .before .before .before .before .before in
+    let a = r .before .before .before .before .before .before .before .before .before .before .before .before .args in
+    rw (c .stepped .ensures) (tries-steps (access-kind (recordKindAt (a .stream .now) (a .at)) (r .before .before .before .before .before .if1 .taken) .0) (r .access-record .ensures .0), r .access-record .ensures .1))
     (λ c κs. let s = c .before .before .before .before .before .before .before .before .before .before .before .before in let h = c .before .before .before .before .if2 .taken in (s .pre .0, (usual-ready (s .pre .1) (step-of 3 h (omega arith) (omega arith)), h)))  -- send-record-requires
+    (λ c κs. search needs)  -- stepped-requires-2
     (λ c. search needs)  -- same-length-5
     (λ c. search needs)  -- same-length-6
     (λ c. search needs)  -- same-length-7
     (λ c. search needs)  -- same-length-8
-    (λ c. let r = c .before .before .before .before .before .before .before .before in let h = r .before .before .before .before .before .if2 .taken in (tries-steps (step-of 3 h (omega arith) (omega arith)) (r .send-record .ensures .0), r .send-record .ensures .1))  -- returns-2
+    -- returns-2
+    (λ c.
+    let r = c .before .before .before .before .before .before .before .before .before in
+    rw (c .stepped2 .ensures) (tries-steps (step-of 3 (r .before .before .before .before .before .if2 .taken) (omega arith) (omega arith)) (r .send-record .ensures .0), r .send-record .ensures .1))
     (λ c κs. let s = c .before .before .before .before .before .before .before .before .before .before .before .before .before in let h = c .before .before .before .before .if3 .taken in (s .pre .0, (usual-ready (s .pre .1) (step-of 4 h (omega arith) (omega arith)), h)))  -- fill-record-requires
+    (λ c κs. search needs)  -- stepped-requires-3
     (λ c. search needs)  -- same-length-9
     (λ c. search needs)  -- same-length-10
     (λ c. search needs)  -- same-length-11
     (λ c. search needs)  -- same-length-12
-    (λ c. let r = c .before .before .before .before .before .before .before .before in let h = r .before .before .before .before .before .if3 .taken in (tries-steps (step-of 4 h (omega arith) (omega arith)) (r .fill-record .ensures .0), r .fill-record .ensures .1))  -- returns-3
+    -- returns-3
+    (λ c.
+    let r = c .before .before .before .before .before .before .before .before .before in
+    rw (c .stepped3 .ensures) (tries-steps (step-of 4 (r .before .before .before .before .before .if3 .taken) (omega arith) (omega arith)) (r .fill-record .ensures .0), r .fill-record .ensures .1))
     (λ c κs. let s = c .before .before .before .before .before .before .before .before .before .before .before .before .before .before in let h = c .before .before .before .before .if4 .taken in ((s .pre .0 .1, s .pre .0 .2), (usual-ready (s .pre .1) (step-of 5 h (omega arith) (omega arith)), h)))  -- tick-record-requires
+    (λ c κs. search needs)  -- stepped-requires-4
     (λ c. search needs)  -- same-length-13
     (λ c. search needs)  -- same-length-14
     (λ c. search needs)  -- same-length-15
     (λ c. search needs)  -- same-length-16
-    (λ c. let r = c .before .before .before .before .before .before .before .before in let h = r .before .before .before .before .before .if4 .taken in (tries-steps (step-of 5 h (omega arith) (omega arith)) (r .tick-record .ensures .0), r .tick-record .ensures .1))  -- returns-4
+    -- returns-4
+    (λ c.
+    let r = c .before .before .before .before .before .before .before .before .before in
+    rw (c .stepped4 .ensures) (tries-steps (step-of 5 (r .before .before .before .before .before .if4 .taken) (omega arith) (omega arith)) (r .tick-record .ensures .0), r .tick-record .ensures .1))
     (λ c κs. search needs)  -- no-step-requires
     -- returns-5
     (λ c.
