@@ -4,7 +4,7 @@ use mathlib.Core.Logic.{⊎-elim}
 use mathlib.Core.List.{List}
 use Prim.Native.Nat.{ℕ, _+_, _≤_}
 use native.Mathlib.Omega.{arith}
-use borrow.Author.Tests.{ltb-true, eqb-false, eqb-true}
+use borrow.Author.Tests.{eqb-false, eqb-true}
 use lib.Dec.{eqb}
 use lib.ListN.{length, take}
 use Rattle.model.specs.Address.{maskOf}
@@ -22,11 +22,12 @@ use Rattle.model.specs.declared.Command.the-variants as cmd
 use Rattle.model.specs.declared.CommandRead.the-variants as command
 use Rattle.model.specs.declared.Stop.the-variants as stop
 use Rattle.model.specs.declared.Reply.{Reply}
-use Rattle.words.proofs.Flags.{or-no-1, or-no-2, flag}
+use Rattle.words.proofs.Flags.{or-no-1, flag}
 use Rattle.records.specs.Stores.{Laid}
 use Rattle.records.proofs.Decoding.{command-sized}
-use Rattle.records.proofs.Lengths.{command-kinds, settings-kinds}
+use Rattle.records.proofs.Lengths.{settings-kinds}
 use Rattle.running.specs.Resume.{recordKindAt, restAt, accessIn, recordFrom, RecordReady, Resumes}
+use Rattle.running.proofs.Tickets.{write-as}
 use Rattle.running.proofs.Singles.{ready-going, ready-whole, body-long, record-runs}
 
 lengths : (lengthOf 1 ≡ 12) × (lengthOf 2 ≡ 12) × (lengthOf 3 ≡ 0) × (lengthOf 4 ≡ 8) × (lengthOf 5 ≡ 4)
@@ -38,15 +39,9 @@ module _ (s : List ℕ) (at out : ℕ) (e : List ℕ) (ready : RecordReady s at 
   k = recordKindAt s at
 
   -- it is of a step
-  pub kind-least : 1 ≤ k
+  kind-least : 1 ≤ k
   kind-least =
       let z = eqb-false k 0 (or-no-1 (eqb k 0) (eqb k 6) (settings-kinds k ∙ ready-going s at out e ready .later)) in
-      omega arith
-
-  pub kind-most : k ≤ 5
-  kind-most =
-      let z = eqb-false k 6 (or-no-2 (eqb k 0) (eqb k 6) (settings-kinds k ∙ ready-going s at out e ready .later)) in
-      let m = ltb-true k 7 (command-kinds k ∙ ready-going s at out e ready .command) in
       omega arith
 
   access-long : k ≤ 2 → lengthOf k ≡ 12
@@ -101,12 +96,12 @@ module _ (s : List ℕ) (at out : ℕ) (e : List ℕ) (ready : RecordReady s at 
           let p : take 12 (restAt s at) ≡ take (lengthOf 1) (restAt s at) = rw (lengths .0) in
           record-runs s at out e ready S L held (cmd.Read _ _) (command-is 1 h p) (omega arith) (rw q at d) laid size (omega arith)
 
-      write-runs : k ≡ 2 → x ≡ Write (numberAt (take 12 (restAt s at)) 0 8) (numberAt (take 12 (restAt s at)) 8 4) 0 → maskOf x ≤ allOnes → LeftBehind (at + 13)
+      write-runs : k ≡ 2 → x ≡ Write (numberAt (take 12 (restAt s at)) 0 8) (numberAt (take 12 (restAt s at)) 8 4) (numberAt (take 12 (restAt s at)) 8 4) → maskOf x ≤ allOnes → LeftBehind (at + 13)
       write-runs h q small =
           let l : lengthOf k ≡ 12 = ap lengthOf h ∙ lengths .1 in
           let p : take 12 (restAt s at) ≡ take (lengthOf 2) (restAt s at) = rw (lengths .1) in
           let m : numberAt (take 12 (restAt s at)) 8 4 ≤ allOnes = rw q at small in
-          record-runs s at out e ready S L held (cmd.Write _ _) (command-is 2 h p) m (rw q at d) laid size (omega arith)
+          record-runs s at out e ready S L held (cmd.Write _ _) (command-is 2 h p) m (write-as S _ _ _ _ (rw q at d)) laid size (omega arith)
 
       pub access-runs : k ≤ 2 → x ≡ accessIn k (take 12 (restAt s at)) → maskOf x ≤ allOnes → LeftBehind (at + 13)
       access-runs most q small =

@@ -5,7 +5,7 @@ use mathlib.Core.Bool.{Bool, true, false, not, _&&_, _||_}
 use mathlib.Core.List.{List}
 use Prim.Native.Nat.{ℕ, _+_, _-_, _≤_, _<_}
 use native.Mathlib.Omega.{arith}
-use borrow.Author.Tests.{not-true, not-false, ne-eqb, lt-ltb, le-ltb, ltb-true, ltb-false, leb-true}
+use borrow.Author.Tests.{not-true, not-false, eqb-false, ne-eqb, lt-ltb, le-ltb, le-leb, ltb-true, ltb-false, leb-true}
 use lib.Dec.{ltb, leb, eqb}
 use lib.ListN.{length, take, length-drop}
 use Rattle.words.specs.Words.{pick}
@@ -18,11 +18,11 @@ use Rattle.model.specs.declared.Record.{Record}
 use Rattle.model.specs.declared.Record.the-variants.{Whole, Stopped}
 use Rattle.model.specs.declared.Stop.{Stop}
 use Rattle.model.specs.declared.Stop.the-variants.{Nothing, OutOfPlace, UnknownKind, CutShort, NoRoom}
-use Rattle.words.proofs.Flags.{and-1, and-2, clash, flag}
+use Rattle.words.proofs.Flags.{and-1, and-2, and-i, or-no-1, or-no-2, clash, flag}
 use Rattle.records.proofs.Lengths.{command-kinds, settings-kinds, body-short}
 use Rattle.records.proofs.Reading.{read-cut, read-whole}
 use Rattle.reader.specs.Taken.{behind}
-use Rattle.running.specs.Resume.{recordKindAt, restAt, headStop, foundStop, laterFound}
+use Rattle.running.specs.Resume.{recordKindAt, restAt, isStep, headStop, foundStop, laterFound, RecordReady, UsualAt}
 
 -- ---- the tests that the code makes at a head
 
@@ -65,6 +65,46 @@ room-full room h = rw (lt-ltb room eventRoom h)
 
 pub room-enough : (room : ℕ) → eventRoom ≤ room → Nothing ≡ roomStop room
 room-enough room h = rw (le-ltb room eventRoom h)
+
+-- ---- the kinds of the steps, as the code tells them
+
+step-by : (k : ℕ) → isStep k ≡ (ltb k 7 && not (eqb k 0 || eqb k 6))
+step-by k = rw (command-kinds k, settings-kinds k)
+
+step-kind : (k : ℕ) → 1 ≤ k → k ≤ 5 → isStep k ≡ true
+step-kind k least most = step-by k ∙ (rw (lt-ltb k 7 (omega arith), ne-eqb k 0 (λ q. omega arith), ne-eqb k 6 (λ q. omega arith)))
+
+no-step-kind : (k : ℕ) → (1 ≤ k → k ≤ 5 → ⊥) → isStep k ≡ false
+no-step-kind k none =
+    ⊎-elim
+    (λ y.
+    let a = ltb-true k 7 (and-1 (ltb k 7) _ (sym (step-by k) ∙ y)) in
+    let b = not-true (eqb k 0 || eqb k 6) (and-2 (ltb k 7) _ (sym (step-by k) ∙ y)) in
+    let c = eqb-false k 0 (or-no-1 (eqb k 0) (eqb k 6) b) in
+    let d = eqb-false k 6 (or-no-2 (eqb k 0) (eqb k 6) b) in
+    absurd (none (omega arith) (omega arith)))
+    (λ n. n)
+    (flag (isStep k))
+
+pub step-of : {k : ℕ} (j : ℕ) → k ≡ j → 1 ≤ j → j ≤ 5 → isStep k ≡ true
+step-of j e least most = rw e (step-kind j least most)
+
+pub access-kind : (k : ℕ) → (leb 1 k && leb k 2) ≡ true → (isStep k ≡ true) × (k ≤ 2)
+access-kind k test =
+    let least = leb-true 1 k (and-1 (leb 1 k) (leb k 2) test) in
+    let most = leb-true k 2 (and-2 (leb 1 k) (leb k 2) test) in
+    (step-kind k least (omega arith), most)
+
+-- none of the tests that the code makes held
+pub no-step-left : (k : ℕ) → (leb 1 k && leb k 2) ≡ false → (k ≡ 3 → ⊥) → (k ≡ 4 → ⊥) → (k ≡ 5 → ⊥) → isStep k ≡ false
+no-step-left k access send fill tick =
+    no-step-kind k (λ least most.
+    let none : k ≤ 2 → ⊥ = λ m. clash (and-i (le-leb 1 k least) (le-leb k 2 m)) access in
+    omega arith)
+
+-- and its record has at most thirteen bytes
+pub step-short : (k : ℕ) → isStep k ≡ true → lengthOf k ≤ 12
+step-short k step = body-short k (and-1 (isCommand k) (not (isSettings k)) step)
 
 -- ---- the head as the definitions have it: 14, then 15, then whatever is asked next
 
@@ -131,20 +171,13 @@ module _ (s : List ℕ) (at : ℕ) (inside : at < length s) where
       (λ c. no-command k (readAt s at) c ∙ (rw c))
       (flag (isCommand k))
 
-  -- of a step, with room for the longest of them and for its events
-  pub usual-later : (room whole ample out : ℕ) → whole ≡ length s + 1 - 13 → ample ≡ out + room + 1 - eventRoom
-      → (leb 1 k && leb k 5 && ltb at whole && ltb out ample) ≡ true → Nothing ≡ laterStop room k (restAt s at)
+  -- a step's record that is whole and has room goes on
+  pub usual-goes : (room : ℕ) → isStep k ≡ true → at + 1 + lengthOf k ≤ length s → eventRoom ≤ room → goesOn (laterStop room k (restAt s at)) ≡ true
   unfolding runner.laterStop
-  usual-later room whole ample out ends fits test =
-      let least = leb-true 1 k (search (and-1, and-2) depth 5) in
-      let most = leb-true k 5 (search (and-1, and-2) depth 5) in
-      let long = ltb-true at whole (search (and-1, and-2) depth 5) in
-      let out-below = ltb-true out ample (search (and-1, and-2) depth 5) in
-      let roomy : eventRoom ≤ room = omega arith in
-      let c : isCommand k ≡ true = sym (command-kinds k) ∙ lt-ltb k 7 (omega arith) in
-      let m = body-short k c in
+  usual-goes room step whole roomy =
+      let c : isCommand k ≡ true = and-1 (isCommand k) (not (isSettings k)) step in
+      let z : isSettings k ≡ false = not-true (isSettings k) (and-2 (isCommand k) (not (isSettings k)) step) in
       let l = left in
-      let z : isSettings k ≡ false = sym (settings-kinds k) ∙ (rw (ne-eqb k 0 (λ q. omega arith), ne-eqb k 6 (λ q. omega arith))) in
       rw (c, le-ltb (length (restAt s at)) (lengthOf k) (omega arith), z, le-ltb room eventRoom roomy)
 
   module _ {f : Record} (read : f ≡ readAt s at) where
@@ -180,3 +213,12 @@ module _ (s : List ℕ) (at : ℕ) (inside : at < length s) where
       pub found-body : bodyAt s at ≡ take (lengthOf k) (restAt s at)
       unfolding records.bodyAt
       found-body = rw found-whole
+
+-- ---- a usual record, of a step
+
+pub usual-ready : {s : List ℕ} {at out : ℕ} {e : List ℕ} → UsualAt s at out e → isStep (recordKindAt s at) ≡ true → RecordReady s at out e
+usual-ready {s} {at} {out} {e} u step = record {
+  stands = u .stands;
+  inside = u .inside;
+  goes = usual-goes s at (u .inside) (length e - out) step (u .whole step) (let r = u .roomy in omega arith);
+}

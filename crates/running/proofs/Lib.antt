@@ -1,6 +1,7 @@
--- Laws of a run: record by record, the checks and the step at a record, the loop, the first record; a run in parts; the lengths asked for.
+-- Laws of a run: record by record, the checks and the step at a record, the loops, the first record; a run in parts; the lengths asked for.
 pub mod Running
 pub mod Checks
+pub mod Tickets
 pub mod Acting
 pub mod Singles
 pub mod Counts

@@ -1,4 +1,5 @@
--- A record by itself: one that stops; one that is run, from what the functions promise that do its step and write its events.
+-- A record by itself: one that stops; one that is run, from what the functions promise that do its step and write its events; one that is
+-- tried.
 use mathlib.Core.Path.{_≡_, refl, sym, ap, _∙_}
 use mathlib.Core.Bool.{true, false}
 use mathlib.Core.List.{List, append-nil}
@@ -27,9 +28,11 @@ use Rattle.model.specs.declared.Stop.the-variants as stop
 use Rattle.model.specs.declared.Reply.{Reply}
 use Rattle.encoding.proofs.Bridge.{does-tells, does-is}
 use Rattle.model.proofs.Soundness.{step-keeps-sound}
+use Rattle.words.proofs.Flags.{clash}
 use Rattle.records.specs.Stores.{Laid}
 use Rattle.records.proofs.Room.{TakesRoom, refused-takes, step-takes}
-use Rattle.running.specs.Resume.{recordKindAt, restAt, single, recordFrom, RunAt, RecordReady, Resumes}
+use Rattle.running.specs.declared.record.Went.{Went}
+use Rattle.running.specs.Resume.{recordKindAt, restAt, isStep, single, recordFrom, RunAt, RecordReady, Resumes, unmoved, Tries}
 use Rattle.running.proofs.Running.{Going, going}
 
 -- ---- the events of one step
@@ -137,3 +140,13 @@ module _ (s : List ℕ) (at out : ℕ) (e : List ℕ) (ready : RecordReady s at 
             keeps = λ t i. rw (ran t) (after-is t i);
             stands = record { inside = let h = ready-whole in omega arith; room = omega arith };
           }
+
+-- ---- a record that is tried
+
+module _ {S : Settings} {s : List ℕ} {at out : ℕ} {e : List ℕ} {L : Lent} {q m : ℕ} where
+  pub tries-steps : {w : Went} {f : List ℕ} {M : Lent} → isStep (recordKindAt s at) ≡ true → Resumes S (recordFrom S s at out e) s at out e L (w .ran) f M
+      → Tries S s at out e L q m record { went = w; stepped = true } f M
+  tries-steps step u = record { tells = sym step; steps = λ h. u; stays = λ h. clash refl h }
+
+  pub tries-stays : isStep (recordKindAt s at) ≡ false → Tries S s at out e L q m record { went = unmoved at out q m; stepped = false } e L
+  tries-stays none = record { tells = sym none; steps = λ h. clash h refl; stays = λ h. (refl, refl, refl) }

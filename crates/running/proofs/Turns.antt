@@ -1,21 +1,30 @@
--- The loop over the records: where it stands, a turn, its ends.
+-- The two loops over the records: where they stand, a turn, their ends.
 use mathlib.Core.Path.{_≡_, refl, sym, ap, _∙_, subst}
-use mathlib.Core.Bool.{true, false}
+use mathlib.Core.Logic.{_⊎_, ⊎-elim}
+use mathlib.Core.Bool.{true, false, _&&_}
 use mathlib.Core.List.{List, _++_, append-assoc, append-nil}
-use Prim.Native.Nat.{ℕ, _+_, _-_, _≤_, _<_}
+use Prim.Native.Nat.{ℕ, suc, _+_, _-_, _≤_, _<_}
 use native.Mathlib.Nat.{add-assoc, add-zero}
+use native.Mathlib.Decide.{decLe}
 use native.Mathlib.Omega.{arith}
-use lib.ListN.{length, take, drop, length-append, take-append-drop}
+use borrow.Author.Tests.{lt-ltb, ltb-true}
+use lib.Dec.{ltb}
+use lib.ListN.{length, take, drop, length-append, length-drop, take-append-drop}
 use lib.Seq.{length-take-le, take-append-seam, drop-append-seam, drop-drop}
 use Rattle.model.specs.Tables.{Tables}
 use Rattle.model.specs.Lent.{Lent}
-use Rattle.model.specs.Runner.{goesOn, Result, bytesThen, runFrom, lentResult, Runs}
+use Rattle.model.specs.Runner.{eventRoom, laterStop, goesOn, Result, bytesThen, runFrom, lentResult, Runs}
 use Rattle.model.specs.Inner.{Encodes, SoundSlices}
 use Rattle.model.specs.declared.Settings.{Settings}
+use Rattle.model.specs.declared.Stop.{Stop}
 use Rattle.model.specs.declared.Stop.the-variants as stop
 use Rattle.model.specs.declared.Ran.{Ran}
-use Rattle.running.specs.Resume.{recordFrom, restFrom, RunAt, Resumes}
-use Rattle.running.proofs.Running.{run-ends, single-stops, single-goes, single-further}
+use Rattle.words.proofs.Flags.{and-1, and-2, and-i, clash, not-no}
+use Rattle.running.specs.declared.record.Went.{Went}
+use Rattle.running.specs.declared.record.Tried.{Tried}
+use Rattle.running.specs.Resume.{recordKindAt, restAt, isStep, single, recordFrom, restFrom, RunAt, RecordReady, Resumes, UsualAt, Tries, WholeBelow, wholeFrom, RunStands}
+use Rattle.running.proofs.Checks.{step-short, usual-ready}
+use Rattle.running.proofs.Running.{Going, going, run-ends, single-stops, single-goes, single-further}
 
 -- ---- lists
 
@@ -40,32 +49,15 @@ module _ {o : Result Lent} {e : List ℕ} {r : Ran} {f : List ℕ} {M : Lent} wh
     tables = h .tables;
   }
 
--- ---- where the loop stands: at another place, on other tables, from which the rest gives what the whole gives
+-- ---- a run that stands at another place
 
 module _ (S : Settings) (s : List ℕ) where
-  abbrev wholeFrom : ℕ → ℕ → List ℕ → Tables → Result Tables
-  wholeFrom at out e t = bytesThen at (take out e) (restFrom S s at out e t)
-
-  pub record RunLeads (o : Result Tables) (at out : ℕ) (e : List ℕ) (L : Lent) : Type 0 where
-    pub tables : Tables
-    pub are : Encodes S L tables
-    pub same : wholeFrom at out e tables ≡ o
-
-  pub record RunStands (at₀ out₀ : ℕ) (e₀ : List ℕ) (L₀ : Lent) (at out : ℕ) (e : List ℕ) (L : Lent) : Type 0 where
-    pub here : RunAt s at out e
-    pub size : length e ≡ length e₀
-    pub longs : length (L .longs) ≡ length (L₀ .longs)
-    pub words : length (L .words) ≡ length (L₀ .words)
-    pub marks : length (L .marks) ≡ length (L₀ .marks)
-    pub beyond : drop out e ≡ drop out e₀
-    pub leads : (t₀ : Tables) → Encodes S L₀ t₀ → RunLeads (wholeFrom at₀ out₀ e₀ t₀) at out e L
-
   -- from a place further on, behind what o consumed and wrote
   whole-further : (at out : ℕ) (e : List ℕ) (t : Tables) (o : Result Tables) (c w : ℕ) (f : List ℕ) → length (take out e) ≡ out
       → restFrom S s at out e t ≡ bytesThen (o .consumed) (o .events) (runFrom S 0 (length e - out - length (o .events)) (drop (at + o .consumed) s) (o .tables))
       → c ≡ at + o .consumed → w ≡ length (take out e ++ o .events)
       → f ≡ (take out e ++ o .events) ++ drop (length (take out e ++ o .events)) e → length f ≡ length e
-      → wholeFrom c w f (o .tables) ≡ wholeFrom at out e t
+      → wholeFrom S s c w f (o .tables) ≡ wholeFrom S s at out e t
   whole-further at out e t o c w f long turn p q v size =
       let x : List ℕ = take out e ++ o .events in
       let a : take w f ≡ x = rw (q, v) (take-append-seam x (drop (length x) e)) in
@@ -77,6 +69,8 @@ module _ {S : Settings} {s : List ℕ} where
   pub run-stands-first : {at out : ℕ} {e : List ℕ} {L : Lent} → RunAt s at out e → RunStands S s at out e L at out e L
   run-stands-first h = record {
     here = h;
+    further = omega arith;
+    more = omega arith;
     size = refl;
     longs = refl;
     words = refl;
@@ -88,6 +82,23 @@ module _ {S : Settings} {s : List ℕ} where
   module _ {at₀ out₀ : ℕ} {e₀ : List ℕ} {L₀ : Lent} {at out : ℕ} {e : List ℕ} {L : Lent} (g : RunStands S s at₀ out₀ e₀ L₀ at out e L) where
     pub run-stands-held : SoundSlices S L₀ → SoundSlices S L
     run-stands-held h = let x = g .leads (h .tables) (h .are) in record { tables = x .tables; are = x .are }
+
+    -- and from there to another
+    pub run-stands-then : {at₁ out₁ : ℕ} {e₁ : List ℕ} {L₁ : Lent} → RunStands S s at out e L at₁ out₁ e₁ L₁ → RunStands S s at₀ out₀ e₀ L₀ at₁ out₁ e₁ L₁
+    run-stands-then {at₁} {out₁} {e₁} {L₁} h = record {
+      here = h .here;
+      further = omega (arith, g .further, h .further);
+      more = omega (arith, g .more, h .more);
+      size = h .size ∙ g .size;
+      longs = h .longs ∙ g .longs;
+      words = h .words ∙ g .words;
+      marks = h .marks ∙ g .marks;
+      beyond = h .beyond ∙ drop-further out out₁ e e₀ (g .beyond) (h .more);
+      leads = λ t₀ i.
+          let x = g .leads t₀ i in
+          let y = h .leads (x .tables) (x .are) in
+          record { tables = y .tables; are = y .are; same = y .same ∙ x .same };
+    }
 
     written-here : length (take out e) ≡ out
     written-here = length-take-le out e (g .here .room)
@@ -139,11 +150,20 @@ module _ {S : Settings} {s : List ℕ} where
         went : (t : Tables) → Encodes S L t → goesOn (recordFrom S s at out e t .stop) ≡ true
         went t i = rw (← u .on t i .stop) h
 
-        pub goes-nearer : length s - r .consumed < length s - at
-        goes-nearer =
+        pub goes-further : at < r .consumed
+        goes-further =
             let t = run-stands-held held in
             let c : r .consumed ≡ at + recordFrom S s at out e (t .tables) .consumed = u .on (t .tables) (t .are) .consumed in
             let k = single-further S (length e - out) s at (t .tables) inside (went (t .tables) (t .are)) in
+            omega arith
+
+        goes-more : out ≤ r .written
+        goes-more =
+            let t = run-stands-held held in
+            let x = recordFrom S s at out e (t .tables) .events in
+            let w : r .written ≡ length (take out e ++ x) = u .on (t .tables) (t .are) .written in
+            let l = length-append (take out e) x in
+            let k = written-here in
             omega arith
 
         -- behind what is written now the events are the caller's own
@@ -164,6 +184,8 @@ module _ {S : Settings} {s : List ℕ} where
             → length (M .marks) ≡ length (L .marks) → RunStands S s at₀ out₀ e₀ L₀ (r .consumed) (r .written) f M
         run-stands-again size longs words marks = record {
           here = u .stands;
+          further = let a = goes-further in omega (arith, g .further);
+          more = let a = goes-more in omega (arith, g .more);
           size = size ∙ g .size;
           longs = longs ∙ g .longs;
           words = words ∙ g .words;
@@ -177,3 +199,105 @@ module _ {S : Settings} {s : List ℕ} where
                 same = led (x .tables) (x .are) size ∙ x .same;
               };
         }
+
+-- ---- the usual records, one after the other
+
+-- it has come further, or nothing has been done
+abbrev pub Moved : ℕ → ℕ → ℕ → ℕ → Type 0
+Moved at₀ out₀ at out = (at₀ < at) ⊎ ((at ≡ at₀) × (out ≡ out₀))
+
+module _ {S : Settings} {s : List ℕ} {at₀ out₀ : ℕ} {e₀ : List ℕ} {L₀ : Lent} {at out : ℕ} {e : List ℕ} {L : Lent}
+    (g : RunStands S s at₀ out₀ e₀ L₀ at out e L) {limit ample : ℕ} where
+  pub usual-at : WholeBelow s at₀ limit → ample ≡ length e₀ + 1 - eventRoom → (ltb at limit && ltb out ample) ≡ true → UsualAt s at out e
+  usual-at below fits test =
+      let a = ltb-true at limit (and-1 (ltb at limit) (ltb out ample) test) in
+      let b = ltb-true out ample (and-2 (ltb at limit) (ltb out ample) test) in
+      let z = g .size in
+      record {
+        stands = g .here;
+        inside = omega (arith, below .inside);
+        whole = below .whole at (g .further) a;
+        roomy = omega arith;
+      }
+
+-- the last test failed
+pub moved-ends : {at₀ out₀ at out limit ample : ℕ} → Moved at₀ out₀ at out → (ltb at limit && ltb out ample) ≡ false → at₀ < limit → out₀ < ample → at₀ < at
+moved-ends {at₀} {out₀} {at} {out} {limit} {ample} moved test a b =
+    ⊎-elim
+    (λ (h : at₀ < at). h)
+    (λ (h : (at ≡ at₀) × (out ≡ out₀)). clash (and-i (lt-ltb at limit (omega (arith, h .0))) (lt-ltb out ample (omega (arith, h .1)))) test)
+    moved
+
+module _ {S : Settings} {s : List ℕ} {at out : ℕ} {e : List ℕ} {L : Lent} {q m : ℕ} {r : Tried} {f : List ℕ} {M : Lent} (x : Tries S s at out e L q m r f M) where
+  -- at a record that is no step's
+  module _ (none : r .stepped ≡ false) where
+    pub usual-rests : {at₀ out₀ : ℕ} {e₀ : List ℕ} {L₀ : Lent} → RunStands S s at₀ out₀ e₀ L₀ at out e L
+        → RunStands S s at₀ out₀ e₀ L₀ (r .went .ran .consumed) (r .went .ran .written) f M
+    usual-rests g = let y = x .stays none in rw (y .0, y .1, y .2) g
+
+    pub moved-rests : {at₀ out₀ : ℕ} → Moved at₀ out₀ at out → isStep (recordKindAt s at₀) ≡ true → at₀ < r .went .ran .consumed
+    moved-rests {at₀} {out₀} moved step =
+        let c : r .went .ran .consumed ≡ at = ap (λ (w : Went). w .ran .consumed) (x .stays none .0) in
+        ⊎-elim
+        (λ (h : at₀ < at). omega arith)
+        (λ (h : (at ≡ at₀) × (out ≡ out₀)). clash (ap (λ (i : ℕ). isStep (recordKindAt s i)) (h .0) ∙ step) (sym (x .tells) ∙ none))
+        moved
+
+  -- at a step's
+  module _ (taken : r .stepped ≡ true) (u : UsualAt s at out e) {at₀ out₀ : ℕ} {e₀ : List ℕ} {L₀ : Lent} (g : RunStands S s at₀ out₀ e₀ L₀ at out e L) (held : SoundSlices S L₀) where
+    ready : RecordReady s at out e
+    ready = usual-ready u (sym (x .tells) ∙ taken)
+
+    gone : goesOn (r .went .ran .stop) ≡ true
+    unfolding single
+    gone = let h = run-stands-held g held in rw (x .steps taken .on (h .tables) (h .are) .stop, ready .goes)
+
+    pub usual-further : at < r .went .ran .consumed
+    usual-further = goes-further g (u .inside) (x .steps taken) held gone
+
+    pub usual-inside : r .went .ran .consumed ≤ length s
+    usual-inside = x .steps taken .stands .inside
+
+    pub usual-again : length f ≡ length e → length (M .longs) ≡ length (L .longs) → length (M .words) ≡ length (L .words) → length (M .marks) ≡ length (L .marks)
+        → RunStands S s at₀ out₀ e₀ L₀ (r .went .ran .consumed) (r .went .ran .written) f M
+    usual-again size longs words marks = run-stands-again g (u .inside) (x .steps taken) held gone size longs words marks
+
+-- ---- the run: the usual records, then one that is judged in full
+
+-- below the place at which the longest begins that is whole
+pub whole-first : {s : List ℕ} {from limit : ℕ} → limit ≡ length s + 1 - 13 → WholeBelow s from limit
+whole-first {s} ends = record {
+  inside = omega arith;
+  whole = λ at h below step. let l = step-short (recordKindAt s at) step in omega arith;
+}
+
+-- the record there goes on
+module _ {S : Settings} {s : List ℕ} {at₀ out₀ : ℕ} {e₀ : List ℕ} {L₀ : Lent} {at out : ℕ} {e : List ℕ} {L : Lent} (g : RunStands S s at₀ out₀ e₀ L₀ at out e L)
+    (inside : at < length s) {n : Stop} (d : n ≡ laterStop (length e - out) (recordKindAt s at) (restAt s at)) (goes : goesOn n ≡ true) where
+  judged : Going (length e - out) (recordKindAt s at) (restAt s at)
+  judged = going _ _ _ (rw d at goes)
+
+  pub whole-one : WholeBelow s at (at + 1)
+  whole-one = record {
+    inside = omega arith;
+    whole = λ i h below step.
+        let p : i ≡ at = omega arith in
+        let w = judged .whole in
+        let l : length (restAt s at) ≡ length s - (at + 1) = length-drop (at + 1) s in
+        rw p (omega arith);
+  }
+
+  -- so the run came further, or comes further from there
+  module _ {limit ample : ℕ} (fits : ample ≡ length e₀ + 1 - eventRoom) (moves : at₀ < limit → out₀ < ample → isStep (recordKindAt s at₀) ≡ true → at₀ < at) where
+    pub run-nearer : length s - at + (1 - (at + 1 - at)) < length s - at₀ + (1 - (limit - at₀))
+    run-nearer = by (decLe (suc at₀) at) (decLe (suc at₀) limit)
+      where
+        by : Dec (suc at₀ ≤ at) → Dec (suc at₀ ≤ limit) → length s - at + (1 - (at + 1 - at)) < length s - at₀ + (1 - (limit - at₀))
+        by (yes far) b = omega arith
+        by (no near) (no past) = omega (arith, g .further)
+        by (no near) (yes below) =
+            let p : at ≡ at₀ = omega (arith, g .further) in
+            let step : isStep (recordKindAt s at) ≡ true = and-i (judged .command) (not-no (judged .later)) in
+            let roomy = judged .roomy in
+            let z = g .size in
+            absurd (near (moves below (omega (arith, g .more, g .here .room)) (rw p at step)))

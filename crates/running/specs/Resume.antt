@@ -1,7 +1,8 @@
--- A run in parts: one record by itself, and a run that goes on from a place of the stream behind event bytes that are written.
+-- A run in parts: one record by itself, the usual records one after the other, and a run that goes on from a place of the stream behind event
+-- bytes that are written.
 -- Nothing here is document 01's.
 use mathlib.Core.Path.{_≡_}
-use mathlib.Core.Bool.{true}
+use mathlib.Core.Bool.{Bool, true, false, not, _&&_}
 use Prim.Native.Nat.{ℕ, _+_, _-_, _≤_, _<_}
 use mathlib.Core.List.{List}
 use lib.Dec.{eqb}
@@ -10,7 +11,7 @@ use Rattle.words.specs.Words.{pick}
 use Rattle.model.specs.Tables.{Tables, after, eventsOf}
 use Rattle.model.specs.Lent.{Lent}
 use Rattle.model.specs.Records.{isCommand, isSettings, lengthOf, numberAt, logBytes}
-use Rattle.model.specs.Runner.{roomStop, goesOn, laterStop, stepAt, Result, halt, bytesThen, runFrom, lentResult, Runs}
+use Rattle.model.specs.Runner.{eventRoom, roomStop, goesOn, laterStop, stepAt, Result, halt, bytesThen, runFrom, lentResult, Runs}
 use Rattle.model.specs.Inner.{Encodes}
 use Rattle.model.specs.declared.Settings.{Settings}
 use Rattle.model.specs.declared.Access.{Access}
@@ -25,6 +26,8 @@ use Rattle.model.specs.declared.Stop.the-variants as stop
 use Rattle.model.specs.declared.Ran.{Ran}
 use Rattle.layout.specs.declared.Layout.{Layout}
 use Rattle.layout.specs.Places.{First}
+use Rattle.running.specs.declared.record.Went.{Went}
+use Rattle.running.specs.declared.record.Tried.{Tried}
 
 -- the kind of the record at a place of a stream, and the bytes behind that
 abbrev pub recordKindAt : List ℕ → ℕ → ℕ
@@ -33,9 +36,13 @@ recordKindAt s at = getD s at 0
 abbrev pub restAt : List ℕ → ℕ → List ℕ
 restAt s at = drop (at + 1) s
 
--- the access of a body of kind 1, or else of kind 2
+-- a record of this kind is a step's: a command's, and no settings
+abbrev pub isStep : ℕ → Bool
+isStep k = isCommand k && not (isSettings k)
+
+-- the access of a body of kind 1, or else of kind 2: a write's ticket, which says nothing, is its mask
 abbrev pub accessIn : ℕ → List ℕ → Access
-accessIn k b = pick (eqb k 1) (Read (numberAt b 0 8) 0 (numberAt b 8 4)) (Write (numberAt b 0 8) (numberAt b 8 4) 0)
+accessIn k b = pick (eqb k 1) (Read (numberAt b 0 8) 0 (numberAt b 8 4)) (Write (numberAt b 0 8) (numberAt b 8 4) (numberAt b 8 4))
 
 -- what stops at the head of a record, of its kind and what reading it came to: "To the runner event kinds are unknown kinds", cut short or not
 unfoldable pub headStop : ℕ → Record → Stop
@@ -83,6 +90,53 @@ pub record Resumes (S : Settings) (o : Tables → Result Tables) (s : List ℕ) 
   pub on : (t : Tables) → Encodes S L t → Runs (bytesThen at (take out e) (lentResult S (o t))) e r f M
   pub keeps : (t : Tables) → Encodes S L t → Encodes S M (o t .tables)
   pub stands : RunAt s (r .consumed) (r .written) f
+
+-- ---- the usual records
+
+-- the record there is whole, if it is a step's, and its events have room
+pub record UsualAt (s : List ℕ) (at out : ℕ) (e : List ℕ) : Type 0 where
+  pub stands : RunAt s at out e
+  pub inside : at < length s
+  pub whole : isStep (recordKindAt s at) ≡ true → at + 1 + lengthOf (recordKindAt s at) ≤ length s
+  pub roomy : out + eventRoom ≤ length e
+
+-- where nothing was done
+abbrev pub unmoved : ℕ → ℕ → ℕ → ℕ → Went
+unmoved at out q m = record { ran = record { stop = stop.Nothing; consumed = at; written = out }; queued = q; missed = m }
+
+-- a step's record is run by itself; at another nothing is done, which is told
+pub record Tries (S : Settings) (s : List ℕ) (at out : ℕ) (e : List ℕ) (L : Lent) (q m : ℕ) (r : Tried) (f : List ℕ) (M : Lent) : Type 0 where
+  pub tells : r .stepped ≡ isStep (recordKindAt s at)
+  pub steps : r .stepped ≡ true → Resumes S (recordFrom S s at out e) s at out e L (r .went .ran) f M
+  pub stays : r .stepped ≡ false → (r .went ≡ unmoved at out q m) × (f ≡ e) × (M ≡ L)
+
+-- from `from` on a step's record is whole that begins below `limit`
+pub record WholeBelow (s : List ℕ) (from limit : ℕ) : Type 0 where
+  pub inside : limit ≤ length s
+  pub whole : (at : ℕ) → from ≤ at → at < limit → isStep (recordKindAt s at) ≡ true → at + 1 + lengthOf (recordKindAt s at) ≤ length s
+
+module _ (S : Settings) (s : List ℕ) where
+  -- a run from there, behind the events that are written
+  abbrev pub wholeFrom : ℕ → ℕ → List ℕ → Tables → Result Tables
+  wholeFrom at out e t = bytesThen at (take out e) (restFrom S s at out e t)
+
+  -- from the tables that L holds the run from there comes to o
+  pub record RunLeads (o : Result Tables) (at out : ℕ) (e : List ℕ) (L : Lent) : Type 0 where
+    pub tables : Tables
+    pub are : Encodes S L tables
+    pub same : wholeFrom at out e tables ≡ o
+
+  -- a run that has come to another place, on other tables, from which the rest gives what the whole gives
+  pub record RunStands (at₀ out₀ : ℕ) (e₀ : List ℕ) (L₀ : Lent) (at out : ℕ) (e : List ℕ) (L : Lent) : Type 0 where
+    pub here : RunAt s at out e
+    pub further : at₀ ≤ at
+    pub more : out₀ ≤ out
+    pub size : length e ≡ length e₀
+    pub longs : length (L .longs) ≡ length (L₀ .longs)
+    pub words : length (L .words) ≡ length (L₀ .words)
+    pub marks : length (L .marks) ≡ length (L₀ .marks)
+    pub beyond : drop out e ≡ drop out e₀
+    pub leads : (t₀ : Tables) → Encodes S L₀ t₀ → RunLeads (wholeFrom at₀ out₀ e₀ t₀) at out e L
 
 -- ---- what is in use
 

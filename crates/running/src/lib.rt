@@ -1,7 +1,7 @@
 // The inner layer of the stream runner (document 01, "Records"): the checks at a record, the records behind the first on tables that are
-// known to be sound, each by `record`, and the first record. `begin` and `run_records` are the two halves of a run, for a caller that
-// holds the tables and their layout between them; `first_there`, `first_record` and `lengths_for` tell such a caller when to begin, with
-// what, and what to lend.
+// known to be sound, the usual ones by `record`, and the first record. `begin` and `run_records` are the two halves of a run, for a caller
+// that holds the tables and their layout between them; `first_there`, `first_record` and `lengths_for` tell such a caller when to begin,
+// with what, and what to lend.
 mod record;
 
 use layout::Layout;
@@ -10,7 +10,7 @@ use model::Record;
 use model::Settings;
 use model::Stop;
 use model::Verdict;
-use record::run_one;
+use record::run_usual;
 ghost use mathlib.Core.Path.{_≡_};
 ghost use Prim.Native.Nat.{_+_, _-_, _≤_};
 ghost use Rattle.model.specs.Lent.{lent};
@@ -111,7 +111,7 @@ fn room_stop(room: usize) -> Stop
 }
 
 // The checks at a record that is not the first, with this much event room.
-pub(crate) fn later_stop(kind: u8, found: Record, room: usize) -> Stop
+fn later_stop(kind: u8, found: Record, room: usize) -> Stop
     ensures { λ r. ⌜ r ≡ laterFound room kind found ⌝ }
 {
     record_stop(kind, found, Stop::OutOfPlace, room_stop(room))
@@ -125,9 +125,20 @@ fn starts(n: usize, size: usize) -> usize
     if n < size { 0 } else { n - size + 1 }
 }
 
+// A run that stops with this, having consumed and written so many bytes.
+fn ran_to(stop: Stop, consumed: usize, written: usize) -> Ran
+    ensures { λ r. ⌜ r ≡ record { stop = stop; consumed = consumed; written = written } ⌝ }
+{
+    Ran {
+        stop,
+        consumed,
+        written,
+    }
+}
+
 // The records from byte `start` on, at fixed settings and on sound tables; events go behind the first `first` bytes. The layout is the
 // caller's, computed once for all of them; how many queue places and miss entries are in use is found once, and then follows from what
-// each record tells.
+// each record tells. Where the usual records end, the next one is judged in full, and then run by itself.
 pub fn run_records(
     s: Settings,
     laid: Layout,
@@ -152,36 +163,37 @@ pub fn run_records(
     let ample = starts(events.len(), records::EVENT_ROOM);
     let mut at = start;
     let mut out = first;
-    while at < stream.len() {
-        let went = run_one(
+    let mut limit = whole;
+    loop {
+        let went = run_usual(
             s,
             laid,
             stream,
             at,
+            limit,
             events,
             out,
+            ample,
             queued,
             missed,
-            whole,
-            ample,
             longs,
             words,
             marks,
         );
-        let ran = went.ran;
-        let stop = ran.stop;
-        if !goes_on(stop) {
-            return ran;
-        }
         queued = went.queued;
         missed = went.missed;
+        let ran = went.ran;
         at = ran.consumed;
         out = ran.written;
-    }
-    Ran {
-        stop: Stop::Nothing,
-        consumed: at,
-        written: out,
+        if stream.len() <= at {
+            return ran_to(Stop::Nothing, at, out);
+        }
+        let found = reader::record_at(stream, at);
+        let stop = later_stop(stream[at], found, events.len() - out);
+        if !goes_on(stop) {
+            return ran_to(stop, at, out);
+        }
+        limit = at + 1;
     }
 }
 

@@ -1,8 +1,6 @@
-// One record that is not the first, on sound tables: its checks, in one test where it is a usual one, then its step, and its events behind
+// The usual records, on sound tables: those of a step that are known to be whole and to have room. Each one's step, and its events behind
 // those that are written. Each step's function and the writer of its events are called at one place alone, so that the compiler takes
 // them in and a step's value, which is large, stays out of memory.
-use crate::goes_on;
-use crate::later_stop;
 use layout::Layout;
 use model::Access;
 use model::Event;
@@ -11,7 +9,7 @@ use model::Settings;
 use model::Stop;
 ghost use mathlib.Core.Path.{_≡_};
 ghost use Prim.Native.Nat.{_+_, _-_, _≤_, _<_};
-ghost use mathlib.Core.Bool.{_&&_};
+ghost use mathlib.Core.Bool.{true, false, _&&_};
 ghost use lib.Dec.{ltb};
 ghost use Rattle.words.specs.Words.{one};
 ghost use lib.ListN.{length, take};
@@ -19,15 +17,20 @@ ghost use Rattle.model.specs.Address.{isRead, maskOf};
 ghost use Rattle.model.specs.Lent.{lent};
 ghost use Rattle.model.specs.Sound.{allOnes};
 ghost use Rattle.model.specs.Inner.{SoundSlices};
-ghost use Rattle.model.specs.Runner.{laterStop};
 ghost use Rattle.layout.specs.Layout.{LaysOut};
-ghost use Rattle.running.specs.Resume.{recordKindAt, restAt, accessIn, RunAt, RecordReady, recordFrom, Resumes, UsedInMarks, entriesLeft};
+ghost use Rattle.running.specs.Resume.{recordKindAt, restAt, isStep, accessIn, RunAt, RecordReady, recordFrom, Resumes, UsualAt, unmoved, Tries, WholeBelow, RunStands, UsedInMarks, entriesLeft};
 
 // What a record leaves: how far the run is, and how many queue places and miss entries are in use.
 pub struct Went {
     pub ran: Ran,
     pub queued: usize,
     pub missed: usize,
+}
+
+// What a record leaves, and whether it is a step's, and so was run.
+pub struct Tried {
+    pub went: Went,
+    pub stepped: bool,
 }
 
 // The kinds of the commands that are steps: the first two are accesses.
@@ -40,20 +43,6 @@ const SEND: u8 = 3;
 const FILL: u8 = 4;
 
 const TICK: u8 = 5;
-
-// What stops at a record, with this much event room behind `out` bytes. Below `whole` a step's record is there, whichever step it is of;
-// below `ample` there is room for its events.
-fn stop_at(stream: &[u8], at: usize, out: usize, room: usize, whole: usize, ample: usize) -> Stop
-    requires { ⌜ (at < length (now stream)) × (whole ≡ length (now stream) + 1 - 13) × (ample ≡ out + room + 1 - 64) ⌝ }
-    ensures { λ r. ⌜ r ≡ laterStop room (recordKindAt (now (stream .entry)) at) (restAt (now (stream .entry)) at) ⌝ }
-{
-    let kind = stream[at];
-    if (READ <= kind) & (kind <= TICK) & (at < whole) & (out < ample) {
-        return Stop::Nothing;
-    }
-    let found = reader::record_at(stream, at);
-    later_stop(kind, found, room)
-}
 
 // The access of a record that is there whole, of kind 1 or 2.
 fn access_at(stream: &[u8], at: usize) -> Access
@@ -69,10 +58,11 @@ fn access_at(stream: &[u8], at: usize) -> Access
         };
     }
     let body = records::body_of(stream, at, WRITE);
+    let mask = records::number4(body, 8);
     Access::Write {
         address: records::number8(body, 0),
-        mask: records::number4(body, 8),
-        ticket: 0,
+        mask,
+        ticket: mask,
     }
 }
 
@@ -275,7 +265,37 @@ fn tick_record(
     }
 }
 
-// The step of a record at which nothing stops: it is of a step.
+// Behind a record that was a step's.
+fn stepped(went: Went) -> Tried
+    ensures { λ r. ⌜ r ≡ record { went = went; stepped = true } ⌝ }
+{
+    Tried {
+        went,
+        stepped: true,
+    }
+}
+
+// At a record that is no step's: nothing is done.
+fn no_step(at: usize, out: usize, queued: usize, missed: usize) -> Tried
+    ensures { λ r. ⌜ r ≡ record { went = unmoved at out queued missed; stepped = false } ⌝ }
+{
+    let ran = Ran {
+        stop: Stop::Nothing,
+        consumed: at,
+        written: out,
+    };
+    let went = Went {
+        ran,
+        queued,
+        missed,
+    };
+    Tried {
+        went,
+        stepped: false,
+    }
+}
+
+// Runs a record that is a step's, with q queue places and m miss entries in use, and tells whether it is; at any other nothing is done.
 fn step_record(
     s: Settings,
     laid: Layout,
@@ -283,131 +303,89 @@ fn step_record(
     at: usize,
     events: &mut [u8],
     out: usize,
-    queued: usize,
-    missed: usize,
+    q: usize,
+    m: usize,
     longs: &mut [u64],
     words: &mut [u32],
     marks: &mut [u8],
-) -> Went
-    requires { ⌜ LaysOut s laid × SoundSlices s (lent (now longs) (now words) (now marks)) × UsedInMarks s laid (now marks) queued missed ⌝ }
-    requires { ⌜ RecordReady (now stream) at out (now events) ⌝ }
-    ensures { λ r. ⌜ Resumes s (recordFrom s (now (stream .entry)) at out (now (events .entry)))
-        (now (stream .entry)) at out (now (events .entry))
-        (lent (now (longs .entry)) (now (words .entry)) (now (marks .entry))) (r .ran)
+) -> Tried
+    requires { ⌜ LaysOut s laid × SoundSlices s (lent (now longs) (now words) (now marks)) × UsedInMarks s laid (now marks) q m ⌝ }
+    requires { ⌜ UsualAt (now stream) at out (now events) ⌝ }
+    ensures { λ r. ⌜ Tries s (now (stream .entry)) at out (now (events .entry))
+        (lent (now (longs .entry)) (now (words .entry)) (now (marks .entry))) q m r
         (now (events .exit)) (lent (now (longs .exit)) (now (words .exit)) (now (marks .exit))) ⌝ }
-    ensures { λ r. ⌜ UsedInMarks s laid (now (marks .exit)) (r .queued) (r .missed) ⌝ }
+    ensures { λ r. ⌜ UsedInMarks s laid (now (marks .exit)) (r .went .queued) (r .went .missed) ⌝ }
 {
     let kind = stream[at];
-    if kind <= WRITE {
-        return access_record(
-            s,
-            laid,
-            stream,
-            at,
-            events,
-            out,
-            queued,
-            missed,
-            longs,
-            words,
-            marks,
-        );
+    if (READ <= kind) & (kind <= WRITE) {
+        let went = access_record(s, laid, stream, at, events, out, q, m, longs, words, marks);
+        return stepped(went);
     }
     if kind == SEND {
-        return send_record(
-            s,
-            laid,
-            stream,
-            at,
-            events,
-            out,
-            queued,
-            missed,
-            longs,
-            words,
-            marks,
-        );
+        let went = send_record(s, laid, stream, at, events, out, q, m, longs, words, marks);
+        return stepped(went);
     }
     if kind == FILL {
-        return fill_record(
-            s,
-            laid,
-            stream,
-            at,
-            events,
-            out,
-            queued,
-            missed,
-            longs,
-            words,
-            marks,
-        );
+        let went = fill_record(s, laid, stream, at, events, out, q, m, longs, words, marks);
+        return stepped(went);
     }
-    tick_record(
-        s,
-        laid,
-        stream,
-        at,
-        events,
-        out,
-        queued,
-        missed,
-        longs,
-        words,
-        marks,
-    )
+    if kind == TICK {
+        let went = tick_record(s, laid, stream, at, events, out, q, m, longs, words, marks);
+        return stepped(went);
+    }
+    no_step(at, out, q, m)
 }
 
-// One record, at byte `at`: every check, then its step, then its events behind the `out` bytes that are written. `whole` and `ample` are
-// the places below which the usual record is sure to be there and to have room, worked out once for all.
-pub(crate) fn run_one(
+// The usual records from byte `start` on, one after the other, up to one that is no step's, or does not begin below `limit`, or has no
+// room below `ample`. Below `limit` a step's record is whole, below `ample` there is room for its events.
+pub(crate) fn run_usual(
     s: Settings,
     laid: Layout,
     stream: &[u8],
-    at: usize,
+    start: usize,
+    limit: usize,
     events: &mut [u8],
-    out: usize,
+    first: usize,
+    ample: usize,
     queued: usize,
     missed: usize,
-    whole: usize,
-    ample: usize,
     longs: &mut [u64],
     words: &mut [u32],
     marks: &mut [u8],
 ) -> Went
     requires { ⌜ LaysOut s laid × SoundSlices s (lent (now longs) (now words) (now marks)) × UsedInMarks s laid (now marks) queued missed ⌝ }
-    requires { ⌜ RunAt (now stream) at out (now events) ⌝ }
-    requires { ⌜ (at < length (now stream)) × (whole ≡ length (now stream) + 1 - 13) × (ample ≡ length (now events) + 1 - 64) ⌝ }
-    ensures { λ r. ⌜ Resumes s (recordFrom s (now (stream .entry)) at out (now (events .entry)))
-        (now (stream .entry)) at out (now (events .entry))
-        (lent (now (longs .entry)) (now (words .entry)) (now (marks .entry))) (r .ran)
+    requires { ⌜ RunAt (now stream) start first (now events) ⌝ }
+    requires { ⌜ WholeBelow (now stream) start limit × (ample ≡ length (now events) + 1 - 64) ⌝ }
+    ensures { λ r. ⌜ RunStands s (now (stream .entry)) start first (now (events .entry))
+        (lent (now (longs .entry)) (now (words .entry)) (now (marks .entry))) (r .ran .consumed) (r .ran .written)
         (now (events .exit)) (lent (now (longs .exit)) (now (words .exit)) (now (marks .exit))) ⌝ }
     ensures { λ r. ⌜ UsedInMarks s laid (now (marks .exit)) (r .queued) (r .missed) ⌝ }
+    ensures { λ r. ⌜ (start < limit → first < ample → isStep (recordKindAt (now (stream .entry)) start) ≡ true → start < r .ran .consumed) ⌝ }
 {
-    let stop = stop_at(stream, at, out, events.len() - out, whole, ample);
-    if !goes_on(stop) {
-        let ran = Ran {
-            stop,
-            consumed: at,
-            written: out,
-        };
-        return Went {
-            ran,
-            queued,
-            missed,
-        };
+    let mut at = start;
+    let mut out = first;
+    let mut q = queued;
+    let mut m = missed;
+    while (at < limit) & (out < ample) {
+        let tried = step_record(s, laid, stream, at, events, out, q, m, longs, words, marks);
+        let went = tried.went;
+        if !tried.stepped {
+            return went;
+        }
+        let ran = went.ran;
+        at = ran.consumed;
+        out = ran.written;
+        q = went.queued;
+        m = went.missed;
     }
-    step_record(
-        s,
-        laid,
-        stream,
-        at,
-        events,
-        out,
-        queued,
-        missed,
-        longs,
-        words,
-        marks,
-    )
+    let ran = Ran {
+        stop: Stop::Nothing,
+        consumed: at,
+        written: out,
+    };
+    Went {
+        ran,
+        queued: q,
+        missed: m,
+    }
 }

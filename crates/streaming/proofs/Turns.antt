@@ -28,9 +28,9 @@ use Rattle.streaming.specs.declared.work.Next.the-variants as next
 use Rattle.streaming.specs.declared.work.Work.{Work}
 use Rattle.streaming.specs.declared.scope.Scope.{Scope}
 use Rattle.streaming.specs.Scopes.{partEnd}
-use Rattle.streaming.specs.Works.{nextAfterStop, readsNext, goesNext, readOf, endedOf, failedOf, Sure, Few, turnsOf}
+use Rattle.streaming.specs.Works.{nextAfterStop, readsNext, goesNext, readOf, endedOf, failedOf, readBy, Sure, Few, turnsOf}
 use Rattle.streaming.specs.Halts.{Claims, Before}
-use Rattle.streaming.specs.Parts.{Ready, PartLeaves, Ran, GoesOver, Went, Came, PartTurn}
+use Rattle.streaming.specs.Parts.{Ready, PartLeaves, Ran, ReadsOnce, GoesOver, Went, Came, PartTurn}
 use Rattle.streaming.proofs.Stops.{full-eats}
 use Rattle.streaming.proofs.Waiting.{runPart, ran, part-behind, part-eats, before-part, few-before}
 
@@ -214,7 +214,7 @@ module _ {S : Settings} {k : Scope} {p e : List ℕ} {L : Lent} {w r : Work} {bu
       (λ (z : r .next ≡ next.Failed). rw z tt)
       (l .next)
 
-  pub ran-ready : Ready S k M buf r
+  ran-ready : Ready S k M buf r
   ran-ready = record {
     held = record { tables = ranOn .tables; are = l .tables };
     inside = x .inside;
@@ -226,7 +226,7 @@ module _ {S : Settings} {k : Scope} {p e : List ℕ} {L : Lent} {w r : Work} {bu
     before = ran-told;
   }
 
-  pub ran-fewer : turnsOf (r .next) (r .have) (r .left) < turnsOf next.Run (w .have) (w .left)
+  ran-fewer : turnsOf (r .next) (r .have) (r .left) < turnsOf next.Run (w .have) (w .left)
   ran-fewer =
       ⊎-elim
       (λ (z : r .next ≡ nextAfterStop (ranOn .stop)).
@@ -234,7 +234,7 @@ module _ {S : Settings} {k : Scope} {p e : List ℕ} {L : Lent} {w r : Work} {bu
       (λ (z : r .next ≡ next.Failed). rw z (omega arith))
       (l .next)
 
-  pub ran-came : Came S (length e) L p w r (take (r .have) buf) M
+  ran-came : Came S (length e) L p w r (take (r .have) buf) M
   ran-came = record {
     bytes = [];
     counted = let d = l .left in omega arith;
@@ -260,13 +260,13 @@ module _ {S : Settings} {k : Scope} {p e : List ℕ} {L : Lent} {w r : Work} {bu
 module _ {S : Settings} {k : Scope} {L : Lent} {buf b : List ℕ} {w : Work} (y : Ready S k L buf w) (reads : w .next ≡ next.Read) (size : length b ≡ length buf)
     {g : More} (grown : Grown buf (w .have) (w .left) g b) where
   -- the buffer is never full there
-  pub never-full : g ≡ more.Full → ⊥
+  never-full : g ≡ more.Full → ⊥
   never-full q = let h = rw q at (grown .grows) in let f = rw reads at (y .few) in let a = y .roomy in omega arith
 
   same-front : take (w .have) b ≡ take (w .have) buf
   same-front = grown .before
 
-  pub ended-turned : (n : ℕ) {end : Ended} → g ≡ more.End end → {x : Work} → x ≡ endedOf w end → PartTurn S k n L (take (w .have) buf) w x b L
+  ended-turned : (n : ℕ) {end : Ended} → g ≡ more.End end → {x : Work} → x ≡ endedOf w end → PartTurn S k n L (take (w .have) buf) w x b L
   ended-turned n {end} q e = record {
     ready = rw e record {
       held = y .held;
@@ -283,7 +283,7 @@ module _ {S : Settings} {k : Scope} {L : Lent} {buf b : List ℕ} {w : Work} (y 
     came = rw (e, same-front) (none-came S n (take (w .have) buf) (y .small) refl refl refl);
   }
 
-  pub failed-turned : (n : ℕ) {x : Work} → x ≡ failedOf w → PartTurn S k n L (take (w .have) buf) w x b L
+  failed-turned : (n : ℕ) {x : Work} → x ≡ failedOf w → PartTurn S k n L (take (w .have) buf) w x b L
   failed-turned n e = record {
     ready = rw e record {
       held = y .held;
@@ -319,15 +319,6 @@ module _ {S : Settings} {k : Scope} {L : Lent} {buf b : List ℕ} {w : Work} (y 
     fresh-long : length readBytes + w .have ≡ m
     fresh-long = let h = came-in in let n = length-take-le m b (omega arith) in let d = length-drop (w .have) (take m b) in omega arith
 
-    pub read-inside : v .have ≤ length b
-    read-inside = let h = came-in in let e = ap (λ (z : Work). z .have) v-is in omega arith
-
-    pub bytes-counted : v .consumed + v .have + v .left < 2 ^ 64
-    bytes-counted = let h = came-in in let c = y .counted in rw v-is (omega arith)
-
-    pub read-fits : v .consumed + v .have < 2 ^ 64
-    read-fits = let c = bytes-counted in omega arith
-
     read-came : (n : ℕ) → Came S n L (take (w .have) buf) w v (take m b) L
     read-came n =
         let h = came-in in
@@ -346,23 +337,32 @@ module _ {S : Settings} {k : Scope} {L : Lent} {buf b : List ℕ} {w : Work} (y 
           };
         }
 
-    pub read-turned : {e f bufx : List ℕ} {r : Work} {M : Lent} → Ran S k (take (v .have) b) e L v r bufx f M → 64 ≤ length e → length bufx ≡ length b
-        → PartTurn S k (length e) L (take (w .have) buf) w r bufx M
-    read-turned {e} {f} {bufx} {r} {M} x space same =
-        let h = came-in in
-        let hv = ap (λ (z : Work). z .have) v-is in
-        let lv = ap (λ (z : Work). z .left) v-is in
-        let a = y .roomy in
-        let i = read-inside in
-        let long : length (take (v .have) b) ≡ v .have = length-take-le (v .have) b i in
-        let fewer = ran-fewer x (y .held) space (omega arith) long bytes-counted in
-        let last = ran-came x (y .held) space (omega arith) long bytes-counted in
-        record {
-          ready = ran-ready x (y .held) space (omega arith) long bytes-counted;
-          claims = ran-claims x (y .held) space (omega arith) long bytes-counted;
-          fewer = rw reads (omega arith);
-          came = came-then S (length e) (read-came (length e)) (subst (λ (n : ℕ). Came S (length e) L (take n b) v r (take (r .have) bufx) M) hv last);
-        }
+    came-turned : (n : ℕ) → PartTurn S k n L (take (w .have) buf) w v b L
+    came-turned n = record {
+      ready = let h = came-in in rw v-is record {
+        held = y .held;
+        inside = omega arith;
+        roomy = let a = y .roomy in omega arith;
+        counted = let c = y .counted in omega arith;
+        small = y .small;
+        sure = tt;
+        few = tt;
+        before = λ t i. tt;
+      };
+      claims = rw v-is tt;
+      fewer = let h = came-in in rw (v-is, reads) (omega arith);
+      came = subst (λ (i : ℕ). Came S n L (take (w .have) buf) w v (take i b) L) (sym (ap (λ (z : Work). z .have) v-is)) (read-came n);
+    }
+
+pub read-turned : {S : Settings} {k : Scope} {L : Lent} {buf b : List ℕ} {w r : Work} → Ready S k L buf w → w .next ≡ next.Read → length b ≡ length buf → (n : ℕ)
+    → ReadsOnce buf w r b → PartTurn S k n L (take (w .have) buf) w r b L
+read-turned {S} {k} {L} {buf} {b} {w} {r} y reads size n x = by (x .said) (x .grown) (x .is)
+  where
+    by : (g : More) → Grown buf (w .have) (w .left) g b → r ≡ readBy w g → PartTurn S k n L (take (w .have) buf) w r b L
+    by (more.To m left) grown e = came-turned y reads size grown refl e n
+    by (more.End end) grown e = ended-turned y reads size grown n refl e
+    by more.Full grown e = absurd (never-full y reads size grown refl)
+    by more.Failed grown e = failed-turned y reads size grown n e
 
 -- ---- turn after turn
 

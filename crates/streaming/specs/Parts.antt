@@ -13,12 +13,14 @@ use Rattle.model.specs.declared.Settings.{Settings}
 use Rattle.running.specs.declared.Begun.{Begun}
 use Rattle.running.specs.declared.Begun.the-variants.{Accepted, Stopped}
 use Rattle.running.specs.Begin.{beginning, begunTables}
+use Rattle.input.specs.Buffers.{Grown}
+use Rattle.input.specs.declared.More.{More}
 use Rattle.streaming.specs.declared.work.Next.the-variants as next
 use Rattle.streaming.specs.declared.work.Work.{Work}
 use Rattle.streaming.specs.declared.scope.Scope.{Scope}
 use Rattle.streaming.specs.declared.parts.Started.{Started}
 use Rattle.streaming.specs.declared.parts.Started.the-variants.{Runs, Stops}
-use Rattle.streaming.specs.Works.{Sure, Few, nextAfterStop, goesNext, stoppedOf, begunOf, turnsOf}
+use Rattle.streaming.specs.Works.{Sure, Few, nextAfterStop, goesNext, stoppedOf, begunOf, turnsOf, readBy}
 use Rattle.streaming.specs.Scopes.{partEnd}
 use Rattle.streaming.specs.Halts.{Claims, Before}
 
@@ -51,6 +53,12 @@ pub record PartLeaves (S : Settings) (o : Result Tables) (p e : List ℕ) (w r :
 pub record Ran (S : Settings) (k : Scope) (p e : List ℕ) (L : Lent) (w r : Work) (buf f : List ℕ) (M : Lent) : Type 0 where
   pub on : (t : Tables) → Encodes S L t → PartLeaves S (runFrom S 0 (length e) (take (partEnd k p) p) t) p e w r buf f M
   pub inside : r .have ≤ length buf
+
+-- reading once came to r, by what the system said
+pub record ReadsOnce (l : List ℕ) (w r : Work) (buf : List ℕ) : Type 0 where
+  pub said : More
+  pub grown : Grown l (w .have) (w .left) said buf
+  pub is : r ≡ readBy w said
 
 -- ---- parts put together. Which bytes come, only the system can say: what is stated is of those that came, whatever they are
 

@@ -5,6 +5,8 @@ use Rattle.model.specs.declared.Stop.{Stop}
 use Rattle.model.specs.declared.Stop.the-variants as stop
 use Rattle.running.specs.Lengths.{Final}
 use Rattle.input.specs.declared.Ended.{Ended}
+use Rattle.input.specs.declared.More.{More}
+use Rattle.input.specs.declared.More.the-variants as more
 use Rattle.streaming.specs.declared.work.Next.{Next}
 use Rattle.streaming.specs.declared.work.Next.the-variants as next
 use Rattle.streaming.specs.declared.work.Work.{Work}
@@ -75,6 +77,13 @@ endedOf w e = record { have = w .have; left = w .left; consumed = w .consumed; w
 abbrev pub failedOf : Work → Work
 failedOf w = record { have = w .have; left = w .left; consumed = w .consumed; written = w .written; stop = w .stop; next = next.Failed }
 
+-- what reading came to
+abbrev pub readBy : Work → More → Work
+readBy w (more.To have left) = readOf w have left
+readBy w (more.End e) = endedOf w e
+readBy w more.Full = failedOf w
+readBy w more.Failed = failedOf w
+
 abbrev pub behindOf : Work → Stop → ℕ → ℕ → ℕ → Work
 behindOf w s consumed written have = record {
   have = have;
@@ -101,10 +110,11 @@ Few next.Stopped have = Unit
 Few (next.Ended e) have = Unit
 Few next.Failed have = Unit
 
--- a bound on the turns that are left: each reads, or consumes what waits, or is the last; one that only runs comes before one that reads
+-- a bound on the turns that are left: each reads a byte that may still come, or consumes one that waits, or runs what waits before one that
+-- reads, or is the last
 abbrev pub turnsOf : Next → ℕ → ℕ → ℕ
-turnsOf next.Read have left = 3 * left + 2 * have + 1
-turnsOf next.Run have left = 3 * left + 2 * have + 2
+turnsOf next.Read have left = 3 * left + have + 1
+turnsOf next.Run have left = 3 * left + have + 2
 turnsOf next.Stopped have left = 0
 turnsOf (next.Ended e) have left = 0
 turnsOf next.Failed have left = 0

@@ -19,10 +19,9 @@ ghost use Rattle.model.specs.Runner.{eventRoom};
 ghost use Rattle.layout.specs.Layout.{LaysOut};
 ghost use Rattle.running.specs.Begin.{firstRecord};
 ghost use Rattle.running.specs.Lengths.{lengthsFor, Long};
-ghost use Rattle.streaming.specs.declared.work.Next.the-variants as next;
 ghost use Rattle.streaming.specs.Works.{goesNext};
 ghost use Rattle.streaming.specs.Halts.{Claims};
-ghost use Rattle.streaming.specs.Parts.{Ready, Ran, PartTurn, Rested, Starts};
+ghost use Rattle.streaming.specs.Parts.{Ready, Ran, ReadsOnce, PartTurn, Rested, Starts};
 
 // What the first record comes to: settings at which the run goes on from there, or a run that has stopped.
 pub enum Started {
@@ -89,37 +88,20 @@ fn run_part(
     if handed.done { v } else { work::failed(v) }
 }
 
-// Reads once and runs what is there, or tells the end of the input. The buffer is never full here.
-fn read_part(
-    fd: i32,
-    s: Settings,
-    laid: Layout,
-    buf: &mut [u8],
-    events: &mut [u8],
-    longs: &mut [u64],
-    words: &mut [u32],
-    marks: &mut [u8],
-    w: Work,
-    scope: Scope,
-) -> Work
-    requires { ⌜ LaysOut s laid × Ready s scope (lent (now longs) (now words) (now marks)) (now buf) w ⌝ }
-    requires { ⌜ w .next ≡ next.Read ⌝ }
-    requires { ⌜ eventRoom ≤ length (now events) ⌝ }
-    ensures { λ r. ⌜ PartTurn s scope (length (now (events .entry))) (lent (now (longs .entry)) (now (words .entry)) (now (marks .entry))) (take (w .have) (now (buf .entry)))
-        w r (now (buf .exit)) (lent (now (longs .exit)) (now (words .exit)) (now (marks .exit))) ⌝ }
+// Reads once: what came waits to be run, or the input has ended. No room in the buffer is a failure.
+fn read_part(fd: i32, buf: &mut [u8], w: Work) -> Work
+    ensures { λ r. ⌜ ReadsOnce (now (buf .entry)) w r (now (buf .exit)) ⌝ }
 {
     match input::read_more(fd, buf, w.have, w.left) {
-        More::To { have, left } => {
-            let v = work::read(w, have, left);
-            run_part(s, laid, buf, events, longs, words, marks, v, scope)
-        }
+        More::To { have, left } => work::read(w, have, left),
         More::End(end) => work::ended(w, end),
         More::Full => work::failed(w),
         More::Failed => work::failed(w),
     }
 }
 
-// One turn: reads, or runs what waits.
+// One turn: reads, or runs what waits. `run_part` is called here alone, so that the compiler takes it in. The buffer is never full where it
+// reads.
 fn turn(
     fd: i32,
     s: Settings,
@@ -139,7 +121,7 @@ fn turn(
         w r (now (buf .exit)) (lent (now (longs .exit)) (now (words .exit)) (now (marks .exit))) ⌝ }
 {
     if work::reads(w) {
-        read_part(fd, s, laid, buf, events, longs, words, marks, w, scope)
+        read_part(fd, buf, w)
     } else {
         run_part(s, laid, buf, events, longs, words, marks, w, scope)
     }

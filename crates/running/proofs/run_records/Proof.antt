@@ -1,5 +1,6 @@
--- The loop: what is left, run from here, gives what the whole gives, and what is in use is counted.
-use Prim.Native.Nat.{_-_}
+-- The loop: the usual records, then one that is judged in full. What is left, run from here, gives what the whole gives, what is in use is
+-- counted, and a turn that comes no further is followed by one that does.
+use Prim.Native.Nat.{_+_, _-_}
 use mathlib.Core.Path.{sym, _∙_}
 use native.Mathlib.Omega.{arith}
 use lib.ListN.{length}
@@ -7,17 +8,23 @@ use borrow.Author.Needs.{needs}
 use borrow.Author.Tests.{not-true, not-false}
 use Rattle.model.specs.Lent.{lent}
 use Rattle.encoding.proofs.Bridge.{is-fit}
-use Rattle.running.specs.Resume.{UsedInMarks}
-use Rattle.running.proofs.Turns.{RunStands, run-stands-first, run-stands-held, goes-ends, goes-stops, goes-nearer, run-stands-again}
+use Rattle.running.specs.Resume.{WholeBelow, RunStands, UsedInMarks}
+use Rattle.running.proofs.Checks.{found-later}
+use Rattle.running.proofs.Singles.{single-halts}
+use Rattle.running.proofs.Turns.{run-stands-first, run-stands-held, run-stands-then, goes-ends, goes-stops, whole-first, whole-one, run-nearer}
 use Rattle.running.proofs.run_records.Statement.{statement}
 use Rattle.running.proofs.run_records.Tie as tie
 
 abbrev Inv-loop : tie.InvT-loop
-Inv-loop s laid stream start events₀ first longs₀ words₀ marks₀ queued₀ missed₀ whole ample at₀ out₀ events longs words marks queued missed at out =
-    RunStands s stream at₀ out₀ events₀ (lent longs₀ words₀ marks₀) at out events (lent longs words marks) × UsedInMarks s laid marks queued missed
+Inv-loop s laid stream start events₀ first longs₀ words₀ marks₀ queued₀ missed₀ whole ample at₀ out₀ limit₀ events longs words marks queued missed at out limit =
+    RunStands s stream at₀ out₀ events₀ (lent longs₀ words₀ marks₀) at out events (lent longs words marks)
+    × UsedInMarks s laid marks queued missed
+    × WholeBelow stream at limit
 
+-- the bytes that are left, and one more where the turn judges a record before it runs any
 abbrev μ-loop : tie.MeasureT-loop
-μ-loop s laid stream start events₀ first longs₀ words₀ marks₀ queued₀ missed₀ whole ample at₀ out₀ events longs words marks queued missed at out = length stream - at
+μ-loop s laid stream start events₀ first longs₀ words₀ marks₀ queued₀ missed₀ whole ample at₀ out₀ limit₀ events longs words marks queued missed at out limit =
+    length stream - at + (1 - (limit - at))
 
 pub run-records-spec : {M : Type 1} → statement M
 run-records-spec =
@@ -29,42 +36,72 @@ run-records-spec =
     (λ c κs. let start = c .before .before .before .before .before .before .before .before in let f = is-fit _ _ _ (start .pre .0 .1 .are) in let p = start .pre .0 .0 in omega arith)  -- used-requires-2
     (λ c κs. search needs)  -- starts-requires
     (λ c κs. search needs)  -- starts-requires-2
-    (λ c. (run-stands-first (c .before .before .before .before .before .before .before .before .before .before .before .pre .1), record { queue = c .before .before .before .before .used .ensures; misses = c .before .before .used2 .ensures }))  -- loop-holds
+    -- loop-holds
+    (λ c. (
+      run-stands-first (c .before .before .before .before .before .before .before .before .before .before .before .pre .1),
+      record { queue = c .before .before .before .before .used .ensures; misses = c .before .before .used2 .ensures },
+      whole-first (c .before .starts .ensures),
+    ))
+    -- run-usual-requires
     (λ c κs.
-    let i = c .before .before .before .before in
-    let l = i .before in
-    let ample = l .before in
-    let pre = c .before .before .before .before .before .before .before .before .before .before .before .before .before .before .before .before .before .pre .0 in
-    let size = l .loop .inv .0 .size in
-    ((pre .0, run-stands-held (l .loop .inv .0) (pre .1), l .loop .inv .1), (l .loop .inv .0 .here, (i .loop-test .taken, ample .before .starts .ensures, omega (arith, ample .starts2 .ensures)))))  -- run-one-requires
+    let l = c .before .before .before .before in
+    let s = l .before .before .before .before .before .before .before .before .before .before .before .before in
+    let inv = l .loop .inv in
+    let size = inv .0 .size in
+    ((s .pre .0 .0, run-stands-held (inv .0) (s .pre .0 .1), inv .1), (inv .0 .here, (inv .2, omega (arith, l .before .starts2 .ensures)))))
+    (λ c κs. search needs)  -- ran-to-requires
+    (λ c. let u = c .before .before .before .before .before .before .before .before .before .before .before in u .run-usual .ensures .0 .size ∙ u .before .before .before .before .before .loop .inv .0 .size)  -- same-length
+    (λ c. let u = c .before .before .before .before .before .before .before .before .before .before .before in u .run-usual .ensures .0 .longs ∙ u .before .before .before .before .before .loop .inv .0 .longs)  -- same-length-2
+    (λ c. let u = c .before .before .before .before .before .before .before .before .before .before .before in u .run-usual .ensures .0 .words ∙ u .before .before .before .before .before .loop .inv .0 .words)  -- same-length-3
+    (λ c. let u = c .before .before .before .before .before .before .before .before .before .before .before in u .run-usual .ensures .0 .marks ∙ u .before .before .before .before .before .loop .inv .0 .marks)  -- same-length-4
+    (λ c. let i = c .before in let u = i .before .before .before .before .before .before .before .before .before .before in rw (c .ran-to .ensures) (goes-ends (run-stands-then (u .before .before .before .before .before .loop .inv .0) (u .run-usual .ensures .0)) (i .if1 .taken)))  -- returns
+    (λ c κs. search needs)  -- record-at-requires
+    (λ c. search needs)  -- shared-slice-read-later-stop
+    (λ c. let u = c .before .before .before .before .before .before .before .before .before .before .before .before in omega (arith, u .run-usual .ensures .0 .here .room))  -- sub-later-stop
+    (λ c κs. search needs)  -- later-stop-requires
     (λ c κs. search needs)  -- goes-on-requires
-    (λ c. search needs)  -- same-length
-    (λ c. search needs)  -- same-length-2
-    (λ c. search needs)  -- same-length-3
-    (λ c. search needs)  -- same-length-4
+    (λ c κs. search needs)  -- ran-to-requires-2
+    (λ c. let u = c .before .before .before .before .before .before .before .before .before .before .before .before .before .before .before .before in u .run-usual .ensures .0 .size ∙ u .before .before .before .before .before .loop .inv .0 .size)  -- same-length-5
+    (λ c. let u = c .before .before .before .before .before .before .before .before .before .before .before .before .before .before .before .before in u .run-usual .ensures .0 .longs ∙ u .before .before .before .before .before .loop .inv .0 .longs)  -- same-length-6
+    (λ c. let u = c .before .before .before .before .before .before .before .before .before .before .before .before .before .before .before .before in u .run-usual .ensures .0 .words ∙ u .before .before .before .before .before .loop .inv .0 .words)  -- same-length-7
+    (λ c. let u = c .before .before .before .before .before .before .before .before .before .before .before .before .before .before .before .before in u .run-usual .ensures .0 .marks ∙ u .before .before .before .before .before .loop .inv .0 .marks)  -- same-length-8
+    -- returns-2
     (λ c.
-    let r = c .before .before .before .before .before .before .before .before .before .before .before in
-    let i = r .before .before .before .before .before in
-    let inv = i .before .loop .inv .0 in
-    goes-stops inv (i .loop-test .taken) (r .run-one .ensures .0) (sym (c .before .goes-on .ensures) ∙ not-true _ (c .if1 .taken)))  -- returns
+    let j = c .before in
+    let o = j .before in
+    let t = o .before in
+    let i = t .before .before .before in
+    let u = i .before .before .before .before .before .before .before .before .before .before in
+    let l = u .before .before .before .before .before in
+    let s = l .before .before .before .before .before .before .before .before .before .before .before .before in
+    let inside = i .if1 .left in
+    let d = found-later (s .args .stream .now) _ inside (t .before .before .record-at .ensures) _ (t .later-stop .ensures) in
+    let stops = sym (o .goes-on .ensures) ∙ not-true _ (j .if2 .taken) in
+    let g = run-stands-then (l .loop .inv .0) (u .run-usual .ensures .0) in
+    rw (c .ran-to2 .ensures) (goes-stops g inside (single-halts _ _ _ _ _ _ (g .here) d stops) stops))
+    (λ c. let i = c .before .before .before .before .before in let s = i .before .before .before .before .before .before .before .before .before .before .before .before .before .before .before .before .before .before .before .before .before .before .before .before .before .before .before in omega (arith, i .if1 .left))  -- add-limit
+    -- loop-less
     (λ c.
-    let r = c .before .before .before .before .before .before .before .before .before .before .before in
-    let i = r .before .before .before .before .before in
-    let inv = i .before .loop .inv .0 in
-    let p = i .before .before .before .before .before .before .before .before .before .before .before .before .before .pre .0 .1 in
-    goes-nearer inv (i .loop-test .taken) (r .run-one .ensures .0) p (sym (c .before .goes-on .ensures) ∙ not-false _ (c .if1 .left)))  -- loop-less
+    let o = c .before in
+    let t = o .before in
+    let i = t .before .before .before in
+    let u = i .before .before .before .before .before .before .before .before .before .before in
+    let l = u .before .before .before .before .before in
+    let s = l .before .before .before .before .before .before .before .before .before .before .before .before in
+    let inside = i .if1 .left in
+    let d = found-later (s .args .stream .now) _ inside (t .before .before .record-at .ensures) _ (t .later-stop .ensures) in
+    let goes = sym (o .goes-on .ensures) ∙ not-false _ (c .if2 .left) in
+    let size = l .loop .inv .0 .size in
+    run-nearer (u .run-usual .ensures .0) inside d goes (omega (arith, l .before .starts2 .ensures)) (u .run-usual .ensures .1 .1))
+    -- loop-again
     (λ c.
-    let r = c .before .before .before .before .before .before .before .before .before .before .before in
-    let i = r .before .before .before .before .before in
-    let inv = i .before .loop .inv .0 in
-    let p = i .before .before .before .before .before .before .before .before .before .before .before .before .before .pre .0 .1 in
-    let k = r .run-one .kept .1 .1 .1 .1 in (
-      run-stands-again inv (i .loop-test .taken) (r .run-one .ensures .0) p (sym (c .before .goes-on .ensures) ∙ not-false _ (c .if1 .left))
-          (k .0) (k .1 .1 .1 .1 .1 .1 .0) (k .1 .1 .1 .1 .1 .1 .1 .0) (k .1 .1 .1 .1 .1 .1 .1 .1 .0),
-      r .run-one .ensures .1,
-    ))  -- loop-again
-    (λ c. search needs)  -- same-length-5
-    (λ c. search needs)  -- same-length-6
-    (λ c. search needs)  -- same-length-7
-    (λ c. search needs)  -- same-length-8
-    (λ c. goes-ends (c .before .loop .inv .0) (c .loop-test .left)))  -- returns-2
+    let o = c .before in
+    let t = o .before in
+    let i = t .before .before .before in
+    let u = i .before .before .before .before .before .before .before .before .before .before in
+    let l = u .before .before .before .before .before in
+    let s = l .before .before .before .before .before .before .before .before .before .before .before .before in
+    let inside = i .if1 .left in
+    let d = found-later (s .args .stream .now) _ inside (t .before .before .record-at .ensures) _ (t .later-stop .ensures) in
+    let goes = sym (o .goes-on .ensures) ∙ not-false _ (c .if2 .left) in
+    (run-stands-then (l .loop .inv .0) (u .run-usual .ensures .0), u .run-usual .ensures .1 .0, whole-one (u .run-usual .ensures .0) inside d goes)))

@@ -21,9 +21,9 @@ access-at-spec =
     let b = c .before .before in
     (rw (c .before .number8 .ensures, c .number4 .ensures, b .body-of .ensures .bytes, eq-eqb _ 1 (b .before .if1 .taken)), omega arith))
     (λ c κs. (refl, omega arith))  -- body-of-requires-2
-    (λ c κs. search needs)  -- number8-requires-2
     (λ c κs. search needs)  -- number4-requires-2
+    (λ c κs. search needs)  -- number8-requires-2
     -- returns-2
     (λ c.
     let b = c .before .before in
-    (rw (c .before .number82 .ensures, c .number42 .ensures, b .body-of2 .ensures .bytes, ne-eqb _ 1 (b .before .if1 .left)), omega arith)))
+    (rw (c .number82 .ensures, c .before .number42 .ensures, b .body-of2 .ensures .bytes, ne-eqb _ 1 (b .before .if1 .left)), omega arith)))

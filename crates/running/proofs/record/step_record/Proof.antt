@@ -1,7 +1,9 @@
--- By its kind, one of the five.
-use native.Mathlib.Omega.{arith}
+-- By its kind, one of the five, or none.
 use borrow.Author.Needs.{needs}
-use Rattle.running.proofs.Acting.{kind-most}
+use native.Mathlib.Omega.{arith}
+use Rattle.running.specs.Resume.{recordKindAt}
+use Rattle.running.proofs.Checks.{step-of, access-kind, no-step-left, usual-ready}
+use Rattle.running.proofs.Singles.{tries-steps, tries-stays}
 use Rattle.running.proofs.record.step_record.Statement.{statement}
 use Rattle.running.proofs.record.step_record.Tie as tie
 
@@ -10,32 +12,50 @@ step-record-spec =
     tie.close
     (tie.spec
     (λ c. let s = c .before .before .before .before .before .before in let h = s .pre .1 .inside in omega arith)  -- shared-slice-read-kind
-    (λ c κs. let s = c .before .before .before .before .before .before .before .before .before .before .before in (s .pre .0, (s .pre .1, omega arith)))  -- access-record-requires
+    (λ c κs. let s = c .before .before .before .before .before .before .before .before .before .before .before in let k = access-kind _ (c .before .before .before .before .if1 .taken) in (s .pre .0, (usual-ready (s .pre .1) (k .0), k .1)))  -- access-record-requires
+    (λ c κs. search needs)  -- stepped-requires
     (λ c. search needs)  -- same-length
     (λ c. search needs)  -- same-length-2
     (λ c. search needs)  -- same-length-3
     (λ c. search needs)  -- same-length-4
-    (λ c. search needs)  -- returns
-    (λ c κs. let s = c .before .before .before .before .before .before .before .before .before .before .before .before in (s .pre .0, (s .pre .1, omega arith)))  -- send-record-requires
+    -- returns
+    (λ c.
+    let r = c .before .before .before .before .before .before .before .before .before in
+    let a = r .before .before .before .before .before .before .before .before .before .before .before .before .args in
+    rw (c .stepped .ensures) (tries-steps (access-kind (recordKindAt (a .stream .now) (a .at)) (r .before .before .before .before .before .if1 .taken) .0) (r .access-record .ensures .0), r .access-record .ensures .1))
+    (λ c κs. let s = c .before .before .before .before .before .before .before .before .before .before .before .before in let h = c .before .before .before .before .if2 .taken in (s .pre .0, (usual-ready (s .pre .1) (step-of 3 h (omega arith) (omega arith)), h)))  -- send-record-requires
+    (λ c κs. search needs)  -- stepped-requires-2
     (λ c. search needs)  -- same-length-5
     (λ c. search needs)  -- same-length-6
     (λ c. search needs)  -- same-length-7
     (λ c. search needs)  -- same-length-8
-    (λ c. search needs)  -- returns-2
-    (λ c κs. let s = c .before .before .before .before .before .before .before .before .before .before .before .before .before in (s .pre .0, (s .pre .1, omega arith)))  -- fill-record-requires
+    -- returns-2
+    (λ c.
+    let r = c .before .before .before .before .before .before .before .before .before in
+    rw (c .stepped2 .ensures) (tries-steps (step-of 3 (r .before .before .before .before .before .if2 .taken) (omega arith) (omega arith)) (r .send-record .ensures .0), r .send-record .ensures .1))
+    (λ c κs. let s = c .before .before .before .before .before .before .before .before .before .before .before .before .before in let h = c .before .before .before .before .if3 .taken in (s .pre .0, (usual-ready (s .pre .1) (step-of 4 h (omega arith) (omega arith)), h)))  -- fill-record-requires
+    (λ c κs. search needs)  -- stepped-requires-3
     (λ c. search needs)  -- same-length-9
     (λ c. search needs)  -- same-length-10
     (λ c. search needs)  -- same-length-11
     (λ c. search needs)  -- same-length-12
-    (λ c. search needs)  -- returns-3
-    -- tick-record-requires
-    (λ c κs.
-    let s = c .before .before .before .before .before .before .before .before .before .before .before .before .before in
-    let a = s .args in
-    let g = kind-most (a .stream .now) (a .at) (a .out) (a .events .now) (s .pre .1) in
-    ((s .pre .0 .1, s .pre .0 .2), (s .pre .1, omega arith)))
+    -- returns-3
+    (λ c.
+    let r = c .before .before .before .before .before .before .before .before .before in
+    rw (c .stepped3 .ensures) (tries-steps (step-of 4 (r .before .before .before .before .before .if3 .taken) (omega arith) (omega arith)) (r .fill-record .ensures .0), r .fill-record .ensures .1))
+    (λ c κs. let s = c .before .before .before .before .before .before .before .before .before .before .before .before .before .before in let h = c .before .before .before .before .if4 .taken in ((s .pre .0 .1, s .pre .0 .2), (usual-ready (s .pre .1) (step-of 5 h (omega arith) (omega arith)), h)))  -- tick-record-requires
+    (λ c κs. search needs)  -- stepped-requires-4
     (λ c. search needs)  -- same-length-13
     (λ c. search needs)  -- same-length-14
     (λ c. search needs)  -- same-length-15
     (λ c. search needs)  -- same-length-16
-    (λ c. search needs))  -- returns-4
+    -- returns-4
+    (λ c.
+    let r = c .before .before .before .before .before .before .before .before .before in
+    rw (c .stepped4 .ensures) (tries-steps (step-of 5 (r .before .before .before .before .before .if4 .taken) (omega arith) (omega arith)) (r .tick-record .ensures .0), r .tick-record .ensures .1))
+    (λ c κs. search needs)  -- no-step-requires
+    -- returns-5
+    (λ c.
+    let i = c .before in
+    let s = c .before .before .before .before .before .before .before .before .before .before .before in
+    rw (c .no-step .ensures) (tries-stays (no-step-left _ (i .before .before .before .if1 .left) (i .before .before .if2 .left) (i .before .if3 .left) (i .if4 .left)), s .pre .0 .2)))

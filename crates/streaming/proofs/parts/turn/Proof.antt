@@ -3,7 +3,7 @@ use borrow.Author.Needs.{needs}
 use mathlib.Core.Path.{sym, _∙_}
 use native.Mathlib.Omega.{arith}
 use lib.Seq.{length-take-le}
-use Rattle.streaming.proofs.Turns.{reads-next, runs-next, ran-turned}
+use Rattle.streaming.proofs.Turns.{reads-next, runs-next, ran-turned, read-turned}
 use Rattle.streaming.proofs.parts.turn.Statement.{statement}
 use Rattle.streaming.proofs.parts.turn.Tie as tie
 
@@ -12,23 +12,20 @@ turn-spec =
     tie.close
     (tie.spec
     (λ c κs. search needs)  -- reads-requires
-    -- read-part-requires
-    (λ c κs.
-    let t = c .before .before .before .before .before in
-    let a = t .before .before .before .before .before .before .before in
-    (a .pre .0, (reads-next (a .args .w .next) (sym (t .before .reads .ensures) ∙ t .if1 .taken), a .pre .1 .1)))
+    (λ c κs. search needs)  -- read-part-requires
     (λ c κs. let a = c .before .before .before .before .before .before .before .before .before .before .before .before in ((a .pre .0 .0, a .pre .0 .1 .held), (a .pre .0 .1 .inside, omega (arith, a .pre .0 .1 .counted))))  -- run-part-requires
     (λ c. search needs)  -- same-length
+    -- returns
+    (λ c.
+    let p = c .before .before in
+    let t = p .before .before in
+    let a = t .before .before .before .before .before .before .before in
+    read-turned (a .pre .0 .1) (reads-next (a .args .w .next) (sym (t .before .reads .ensures) ∙ t .if1 .taken)) (p .read-part .kept .1 .0) _ (p .read-part .ensures))
     (λ c. search needs)  -- same-length-2
     (λ c. search needs)  -- same-length-3
     (λ c. search needs)  -- same-length-4
     (λ c. search needs)  -- same-length-5
-    (λ c. search needs)  -- returns
     (λ c. search needs)  -- same-length-6
-    (λ c. search needs)  -- same-length-7
-    (λ c. search needs)  -- same-length-8
-    (λ c. search needs)  -- same-length-9
-    (λ c. search needs)  -- same-length-10
     -- returns-2
     (λ c.
     let p = c .before .before .before .before .before .before .before .before .before .before in
