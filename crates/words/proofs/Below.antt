@@ -9,7 +9,7 @@ use native.Mathlib.Omega.{arith}
 use lib.Dec.{ltb, leb}
 use borrow.Author.Tests.{ltb-true, ltb-false, lt-leb, le-leb, lt-ltb, le-ltb}
 use Rattle.words.specs.Words.{every, some, countBelow}
-use Rattle.words.proofs.Flags.{and-1, and-2, and-i, and-no, or-cases, or-1, or-2, not-yes, no-not, clash, flag}
+use Rattle.words.proofs.Flags.{and-1, and-2, and-i, or-cases, or-1, or-2, not-yes, no-not, no-yes, clash, flag}
 
 pub lt-or-ge : (a b : ℕ) → (a < b) ⊎ (b ≤ a)
 lt-or-ge a b = ⊎-elim (λ t. inl (ltb-true a b t)) (λ t. inr (ltb-false a b t)) (flag (ltb a b))
@@ -36,8 +36,7 @@ module _ (p : ℕ → Bool) where
   every-i (suc n) f = and-i (every-i n (λ i h. f i (omega arith))) (f n (omega arith))
 
   pub every-no : (n i : ℕ) → i < n → p i ≡ false → every n p ≡ false
-  every-no zero i h e = absurd (not-suc-le-zero h)
-  every-no (suc n) i h e = ⊎-elim (λ q. and-no (every n p) (p n) (rw q at e)) (λ l. rw (every-no n i l e)) (last-or-below n i h)
+  every-no n i h e = no-yes (λ t. clash (every-at n i t h) e)
 
   -- the loop's invariant: all before i passed
   abbrev pub Passed : ℕ → ℕ → Type 0

@@ -14,10 +14,6 @@ use Rattle.words.proofs.Flags.{flag, clash, iff}
 use Rattle.words.proofs.Lists.{any-in, in-any, in-getD, in-index}
 use Rattle.words.proofs.Tabled.{pick-one}
 
-pub one-most : (b : Bool) → one b ≤ 1
-one-most true = omega arith
-one-most false = omega arith
-
 module _ {A : Type 0} where
   module _ (p : A → Bool) where
     -- element n becomes v
@@ -32,7 +28,7 @@ module _ {A : Type 0} where
 
     pub count-length : (l : List A) → count p l ≤ length l
     count-length [] = omega arith
-    count-length (x ∷ l) = omega (arith, pick-one (p x) (count p l), one-most (p x), count-length l)
+    count-length (x ∷ l) = let h = count-length l in ⊎-elim (λ q. rw q (omega arith)) (λ q. rw q (omega arith)) (flag (p x))
 
     -- an element that passes is counted
     pub one-counted : (l : List A) (n : ℕ) (d : A) → n < length l → one (p (getD l n d)) ≤ count p l
