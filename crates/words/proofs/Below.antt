@@ -6,16 +6,26 @@ use Prim.Native.Nat.{ℕ, zero, suc, _+_, _≤_, _<_}
 use native.Mathlib.Nat.{not-suc-le-zero, le-of-suc-le-suc, eq-or-lt-of-le}
 use native.Mathlib.Numerals.{add-one}
 use native.Mathlib.Omega.{arith}
-use lib.Dec.{ltb, leb}
-use borrow.Author.Tests.{ltb-true, ltb-false, lt-leb, le-leb, lt-ltb, le-ltb}
+use lib.Dec.{eqb, ltb, leb}
+use borrow.Author.Tests.{eqb-true, eq-eqb, ltb-true, ltb-false, lt-leb, le-leb, lt-ltb, le-ltb}
 use Rattle.words.specs.Words.{every, some, countBelow}
-use Rattle.words.proofs.Flags.{and-1, and-2, and-i, or-cases, or-1, or-2, not-yes, no-not, no-yes, clash, flag}
+use Rattle.words.proofs.Flags.{and-1, and-2, and-i, or-cases, or-1, or-2, not-yes, no-not, no-yes, clash, iff, flag}
 
 pub lt-or-ge : (a b : ℕ) → (a < b) ⊎ (b ≤ a)
 lt-or-ge a b = ⊎-elim (λ t. inl (ltb-true a b t)) (λ t. inr (ltb-false a b t)) (flag (ltb a b))
 
 pub leb-not : (m n : ℕ) → leb m n ≡ not (ltb n m)
 leb-not m n = ⊎-elim (λ h. rw (lt-leb m n h, lt-ltb n m h)) (λ h. rw (le-leb m n h, le-ltb n m h)) (lt-or-ge n m)
+
+pub eqb-swap : (a b : ℕ) → eqb a b ≡ eqb b a
+eqb-swap a b = iff (λ t. eq-eqb b a (sym (eqb-true a b t))) (λ t. eq-eqb a b (sym (eqb-true b a t)))
+
+pub below-four : (P : ℕ → Type 0) → P 0 → P 1 → P 2 → P 3 → (k : ℕ) → k < 4 → P k
+below-four P a b c d zero h = a
+below-four P a b c d (suc zero) h = b
+below-four P a b c d (suc (suc zero)) h = c
+below-four P a b c d (suc (suc (suc zero))) h = d
+below-four P a b c d (suc (suc (suc (suc k)))) h = absurd (omega arith)
 
 -- equal, if neither may be below the other
 pub squeeze : (a b : ℕ) → (a < b → ⊥) → (b < a → ⊥) → a ≡ b

@@ -28,6 +28,10 @@ or-1 a b p = rw p
 pub or-2 : (a b : Bool) → b ≡ true → (a || b) ≡ true
 or-2 a b p = rw (p, or-true)
 
+pub or-unless : (a b : Bool) → (a ≡ false → b ≡ true) → (a || b) ≡ true
+or-unless true b f = refl
+or-unless false b f = f refl
+
 pub or-no-1 : (a b : Bool) → (a || b) ≡ false → a ≡ false
 or-no-1 true b e = e
 or-no-1 false b e = refl
