@@ -352,13 +352,9 @@ module _ (S : Settings) (t : Tables) (ok : Sound S t) (x : Access) (formed : wel
 
   queue-after : (c : ℕ) → count (readingOf c) (u .queue) ≡ count (readingOf c) (t .queue) + pick (fetching x (p .answer) && eqb a c) 1 0
   queue-after c =
-      omega (
-        arith,
-        count-append (readingOf c) (t .queue) (queues x p),
-        count-append (readingOf c) (fetches x (p .answer)) (p .backs),
-        none-count (readingOf c) (p .backs) (sp .quiet c),
-        fetches-count x (p .answer) (t .misses) c,
-      )
+      let more = count-append (readingOf c) (t .queue) (queues x p) in
+      let both = count-append (readingOf c) (fetches x (p .answer)) (p .backs) in
+      omega (arith, none-count (readingOf c) (p .backs) (sp .quiet c), fetches-count x (p .answer) (t .misses) c)
 
   -- no read of an address without an entry is queued
   unread : any (entryFor a) (t .misses) ≡ false → count (readingOf a) (t .queue) ≡ 0

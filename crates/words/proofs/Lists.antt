@@ -182,6 +182,12 @@ module _ {A : Type 0} where
   any-set-same p d (x ∷ l) zero v e f = rw (e, f)
   any-set-same p d (x ∷ l) (suc n) v e f = rw (any-set-same p d l n v e f)
 
+  -- the new one passes if the old one did
+  pub any-set : (p : A → Bool) (l : List A) (n : ℕ) (v d : A) → (p (getD l n d) ≡ true → p v ≡ true) → any p l ≡ true → any p (set l n v) ≡ true
+  any-set p [] n v d f e = e
+  any-set p (x ∷ l) zero v d f e = ⊎-elim (λ h. or-1 (p v) (any p l) (f h)) (λ h. or-2 (p v) (any p l) h) (or-cases (p x) (any p l) e)
+  any-set p (x ∷ l) (suc n) v d f e = ⊎-elim (λ h. or-1 (p x) _ h) (λ h. or-2 (p x) _ (any-set p l n v d f h)) (or-cases (p x) (any p l) e)
+
   pub in-set-same : (l : List A) (n : ℕ) (v : A) → n < length l → In v (set l n v)
   in-set-same [] n v h = absurd (omega arith)
   in-set-same (x ∷ l) zero v h = inl refl
