@@ -2,7 +2,7 @@
 -- rounds come to the same.
 use Prim.Native.Nat.{ℕ, zero, suc, _+_, _-_, _≤_}
 use mathlib.Core.Path.{_≡_, refl, sym, ap, _∙_}
-use mathlib.Core.Logic.{_⊎_, inl, inr}
+use mathlib.Core.Logic.{_⊎_, inl, inr, ⊎-elim}
 use mathlib.Core.Bool.{Bool, true, false, not, _&&_, false≢true}
 use mathlib.Core.List.{List, [], _∷_}
 use native.Mathlib.Omega.{arith}
@@ -12,23 +12,21 @@ use lib.Dec.{leb, ltb}
 use borrow.Author.Tests.{eq-eqb, lt-leb, le-ltb}
 use Rattle.words.specs.Words.{pick, all, any, count}
 use Rattle.model.specs.Range.{inRange}
-use Rattle.model.specs.Address.{addressOf, isRead, blockOf, wellFormed}
-use Rattle.model.specs.Tables.{Line, Entry, Tables, Outcome, refused, done, accepted, isInvalid, isReserved, whollyInvalid, hasReserved, holds, empty, fresh}
+use Rattle.model.specs.Address.{addressOf, isRead, wellFormed}
+use Rattle.model.specs.Tables.{Line, Entry, Tables, Outcome, refused, done, accepted, isInvalid, isReserved, whollyInvalid, hasReserved, empty, fresh}
 use Rattle.model.specs.Sound.{readingOf, sound}
-use Rattle.model.specs.Probe.{Rule, Place, no, at, waysOf, first, victim, takeOver, meet, probe, ruleOf, metIn}
+use Rattle.model.specs.Probe.{Place, no, at, waysOf, ruleOf, metIn}
 use Rattle.model.specs.Steps.{isMerge, isMiss, placesNeeded, entryFull, accept, proceed, access, afterSend, send, others, afterFill, sentFor, fill}
 use Rattle.model.specs.Rounds.{Calls, steps, Turn, still, took, Run, outcomeGoOn, outcomeSend, outcomeFill, outcomeDrain, outcomeRounds, outcomeHeld, outcomeWaits, Settles}
 use Rattle.model.specs.declared.Settings.{Settings}
 use Rattle.model.specs.declared.Queued.{Queued}
 use Rattle.model.specs.declared.Sector.{Sector}
 use Rattle.model.specs.declared.Access.{Access}
-use Rattle.model.specs.declared.Found.{Found}
-use Rattle.model.specs.declared.Found.the-variants.{At, Nothing}
 use Rattle.model.specs.declared.Refusal.the-variants.{SetHeld}
 use Rattle.words.proofs.Flags.{and-1, and-i, and-no, flag, not-yes, no-yes, clash}
 use Rattle.words.proofs.Lists.{In, all-in, in-any, any-in, in-index, keep-lt, none-of}
 use Rattle.model.proofs.SoundFacts.{Sound, parts, four-at, reserved-at, unsent-once}
-use Rattle.model.proofs.Ways.{way-in}
+use Rattle.model.proofs.Ways.{probe-place, way-in}
 use Rattle.model.proofs.ProbeFindsSpot.{back-one, reserved-used}
 use Rattle.model.proofs.Victims.{places-at-most-two}
 use Rattle.model.proofs.SendFillKeepSound.{marked-length, sent-sound, filled-sound}
@@ -43,25 +41,15 @@ FreePlace (at p) = length (p .backs) ≤ 1
 
 module _ (S : Settings) (t : Tables) (ok : Sound S t) (no-misses : t .misses ≡ []) where
   line-free : (l : Line) → In l (t .lines) → hasReserved l ≡ false
-  line-free l m = no-yes (λ w. go (flag (whollyInvalid l)) (any-in (λ (v : Sector). isReserved (v .status)) (l .sectors) w))
-    where
-      go : (whollyInvalid l ≡ true) ⊎ (whollyInvalid l ≡ false) → (s : Sector) × In s (l .sectors) × (isReserved (s .status) ≡ true) → ⊥
-      go (inl u) (s, n, q) = clash (all-in (λ (v : Sector). isInvalid (v .status)) (l .sectors) u n) (reserved-used (s .status) q)
-      go (inr u) (s, n, q) =
-          let (k, h, e) = in-index (l .sectors) empty s n in
-          clash q (ap (λ (v : Sector). isReserved (v .status)) (sym e)
-          ∙ reserved-at S t ok l m u k (omega (arith, four-at S t ok l m)) ∙ rw no-misses)
+  line-free l m = no-yes (λ w.
+      let (s, n, q) = any-in (λ (v : Sector). isReserved (v .status)) (l .sectors) w in
+      ⊎-elim (λ u. clash (all-in (λ (v : Sector). isInvalid (v .status)) (l .sectors) u n) (reserved-used (s .status) q))
+      (λ u. let (k, h, e) = in-index (l .sectors) empty s n in
+      clash q (ap (λ (v : Sector). isReserved (v .status)) (sym e) ∙ reserved-at S t ok l m u k (omega (arith, four-at S t ok l m)) ∙ rw no-misses))
+      (flag (whollyInvalid l)))
 
   set-free : (a : ℕ) → any hasReserved (waysOf S (t .lines) a) ≡ false
   set-free a = no-yes (λ w. let (l, m, q) = any-in hasReserved (waysOf S (t .lines) a) w in clash q (line-free l (way-in S (t .lines) a l m)))
-
-  over-free : (a : ℕ) (v : Found) → FreePlace (takeOver a (waysOf S (t .lines) a) v)
-  over-free a Nothing = rw (set-free a)
-  over-free a (At w) = back-one (getD (waysOf S (t .lines) a) w fresh)
-
-  meet-free : (R : Rule) (d : ℕ) (x : Access) (v : Found) → FreePlace (meet R S d (waysOf S (t .lines) (addressOf x)) x v)
-  meet-free R d x Nothing = over-free (addressOf x) (victim R S d (waysOf S (t .lines) (addressOf x)))
-  meet-free R d x (At w) = omega arith
 
   module _ (range : inRange S ≡ true) (x : Access) (no-queue : t .queue ≡ []) where
     proceed-settles : (p : Place) → FreePlace p → (accepted (proceed S x t p) ≡ true) ⊎ (proceed S x t p ≡ refused SetHeld)
@@ -80,10 +68,10 @@ module _ (S : Settings) (t : Tables) (ok : Sound S t) (no-misses : t .misses ≡
         ))
 
     access-settles : wellFormed x ≡ true → (accepted (access S x t) ≡ true) ⊎ (access S x t ≡ refused SetHeld)
-    unfolding access probe
+    unfolding access
     access-settles f =
-        rw f (proceed-settles (metIn S x t)
-        (meet-free (ruleOf S t (addressOf x)) (t .dirtyCount) x (first (holds (blockOf (addressOf x))) (waysOf S (t .lines) (addressOf x)))))
+        rw f (proceed-settles (metIn S x t) (probe-place (ruleOf S t (addressOf x)) S (t .dirtyCount) (waysOf S (t .lines) (addressOf x)) x FreePlace
+        (λ w e. omega arith) (λ e w v. back-one (getD (waysOf S (t .lines) (addressOf x)) w fresh)) (λ v. rw (set-free (addressOf x)))))
 
 -- ---- a round's send and fill
 

@@ -1,6 +1,6 @@
 -- What document 01 says of the victim, its write-back and the queue, as laws of the definitions.
 use Prim.Native.Nat.{ℕ, _≤_, _<_}
-use mathlib.Core.Path.{_≡_, refl, sym, ap, _∙_}
+use mathlib.Core.Path.{_≡_, refl, ap}
 use mathlib.Core.Logic.{_⊎_, inl, inr, ⊎-elim}
 use mathlib.Core.Bool.{Bool, true, false, not, _&&_, true≢false}
 use mathlib.Core.List.{List, [], _∷_, map}
@@ -9,11 +9,10 @@ use lib.ListN.{length, getD, length-append}
 use lib.Dec.{eqb, leb}
 use borrow.Author.Tests.{eqb-true, leb-true, leb-false}
 use Rattle.words.specs.Words.{pick}
-use Rattle.model.specs.Address.{blockOf, addressOf}
-use Rattle.model.specs.Tables.{Line, writing, Tables, done, isReserved, isModified, whollyInvalid, hasReserved, dirty, holds, fresh}
+use Rattle.model.specs.Tables.{Line, writing, Tables, done, isReserved, isModified, whollyInvalid, hasReserved, dirty, fresh}
 use Rattle.model.specs.Sound.{maskOk, sectorOk, sound}
 use Rattle.model.specs.Tree.{treeChoice, levels}
-use Rattle.model.specs.Probe.{waysOf, enoughDirty, candidate, first, last, earliest, Rule, byKey, byTree, choiceBy, orElse, victim, Spot, at, takeOver, meet, probe, ruleOf}
+use Rattle.model.specs.Probe.{waysOf, enoughDirty, candidate, last, earliest, Rule, byKey, byTree, choiceBy, orElse, victim, Spot, at, probe, ruleOf}
 use Rattle.model.specs.Steps.{takesLine, fetches, queues, placesNeeded, accept, access}
 use Rattle.model.specs.Meetings.{Matched, Replaced, Queues}
 use Rattle.model.specs.declared.Settings.{Settings}
@@ -21,7 +20,6 @@ use Rattle.model.specs.declared.Status.{Status}
 use Rattle.model.specs.declared.Status.the-variants.{Invalid, Reserved, Valid, Modified}
 use Rattle.model.specs.declared.Sector.{Sector}
 use Rattle.model.specs.declared.Queued.{Queued}
-use Rattle.model.specs.declared.Answer.the-variants.{Miss}
 use Rattle.model.specs.declared.Access.{Access}
 use Rattle.model.specs.declared.Event.{Event}
 use Rattle.model.specs.declared.Found.{Found}
@@ -29,7 +27,7 @@ use Rattle.model.specs.declared.Found.the-variants.{At, Nothing}
 use Rattle.words.proofs.Flags.{and-1, and-2, and-i, flag, not-yes, no-yes, clash}
 use Rattle.words.proofs.Lists.{In, all-in, in-any, in-getD}
 use Rattle.model.proofs.SoundFacts.{parts, sectors-at}
-use Rattle.model.proofs.Ways.{Finds, last-finds, victim-finds, Last, last-is-last, Least, earliest-is-least, way-in}
+use Rattle.model.proofs.Ways.{Finds, last-finds, victim-finds, Last, last-is-last, Least, earliest-is-least, probe-by, way-in}
 use Rattle.model.proofs.AccessCases.{access-judged}
 use Rattle.model.proofs.ProbeFindsSpot.{fetches-one, back-one}
 
@@ -105,21 +103,10 @@ victim-none R S d ways e = let f : Finds (candidate (enoughDirty S d)) ways Noth
 -- ---- what the probe meets: a way that matches, or a victim
 
 module _ (R : Rule) (S : Settings) (d : ℕ) (ways : List Line) (x : Access) (p : Spot) where
-  over-meets : first (holds (blockOf (addressOf x))) ways ≡ Nothing → (v : Found) → victim R S d ways ≡ v
-      → takeOver (addressOf x) ways v ≡ at p → Replaced R S d ways x p
-  over-meets f Nothing e h = let z : _≡_ {A = ℕ} 0 1 = cc in absurd (omega arith)
-  over-meets f (At w) e h =
-      let i : w ≡ p .way = cc in
-      record { none = f; way = e ∙ ap At i; answer = cc; backs = cc }
-
-  meet-meets : (v : Found) → first (holds (blockOf (addressOf x))) ways ≡ v → meet R S d ways x v ≡ at p
-      → Matched ways x p ⊎ Replaced R S d ways x p
-  meet-meets Nothing f h = inr (over-meets f (victim R S d ways) refl h)
-  meet-meets (At w) f h = inl (record { way = cc; line = cc; backs = cc })
-
   pub probe-meets : probe R S d ways x ≡ at p → Matched ways x p ⊎ Replaced R S d ways x p
-  unfolding probe
-  probe-meets h = meet-meets (first (holds (blockOf (addressOf x))) ways) refl h
+  probe-meets =
+      probe-by R S d ways x (λ (q : Spot). Matched ways x q ⊎ Replaced R S d ways x q) (λ w f. inl (record { way = f; line = refl; backs = refl }))
+      (λ f w v. inr (record { none = f; way = v; answer = refl; backs = refl })) p
 
   -- ---- the write-back
 
@@ -185,17 +172,6 @@ nothing-else-queued S x t es u =
 -- ---- a line that no MISS takes is the one that stands there
 
 module _ (R : Rule) (S : Settings) (d : ℕ) (ways : List Line) (x : Access) (p : Spot) (stays : takesLine (p .answer) ≡ false) where
-  over-takes : (v : Found) → takeOver (addressOf x) ways v ≡ at p → p .line ≡ getD ways (p .way) fresh
-  over-takes Nothing e = let z : _≡_ {A = ℕ} 0 1 = cc in absurd (omega arith)
-  over-takes (At w) e = let a : p .answer ≡ Miss = cc in clash (ap takesLine a) stays
-
-  meet-stands : (f : Found) → meet R S d ways x f ≡ at p → p .line ≡ getD ways (p .way) fresh
-  meet-stands Nothing e = over-takes (victim R S d ways) e
-  meet-stands (At w) e =
-      let l : p .line ≡ getD ways w fresh = cc in
-      let v : p .way ≡ w = cc in
-      l ∙ ap (λ (i : ℕ). getD ways i fresh) (sym v)
-
   pub line-stays : probe R S d ways x ≡ at p → p .line ≡ getD ways (p .way) fresh
-  unfolding probe
-  line-stays e = meet-stands (first (holds (blockOf (addressOf x))) ways) e
+  line-stays e =
+      probe-by R S d ways x (λ (q : Spot). takesLine (q .answer) ≡ false → q .line ≡ getD ways (q .way) fresh) (λ w f s. refl) (λ f w v s. clash refl s) p e stays

@@ -1,4 +1,4 @@
--- The ways of a set: what a search among them finds, and which lines of the cache they are.
+-- The ways of a set: what a search among them finds, what the probe makes of it, and which lines of the cache they are.
 use Prim.Native.Nat.{ℕ, zero, suc, _+_, _*_, _-_, _/_, _%_, _≤_, _<_, _^_, min}
 use mathlib.Core.Path.{_≡_, refl, sym, ap, subst, _∙_}
 use mathlib.Core.Logic.{inl, inr}
@@ -10,12 +10,15 @@ use lib.ListN.{length, getD, drop, length-take, length-drop}
 use lib.Seq.{getD-take, getD-drop}
 use lib.Dec.{leb}
 use borrow.Author.Tests.{leb-true, leb-false}
-use Rattle.words.specs.Words.{pick}
-use Rattle.model.specs.Address.{setIndex, lineNumber}
-use Rattle.model.specs.Tables.{Line, whollyInvalid, fresh}
+use Rattle.words.specs.Words.{pick, any}
+use Rattle.model.specs.Address.{addressOf, blockOf, sectorIndex, setIndex, lineNumber}
+use Rattle.model.specs.Tables.{Line, whollyInvalid, hasReserved, holds, empty, emptied, fresh}
 use Rattle.model.specs.Tree.{levels}
-use Rattle.model.specs.Probe.{waysOf, enoughDirty, candidate, next, orElse, first, last, older, earliest, Rule, byKey, byTree, choiceBy, victim}
+use Rattle.model.specs.Probe.{answerOf, waysOf, enoughDirty, candidate, next, orElse, first, last, older, earliest, Rule, byKey, byTree, choiceBy, victim, Spot, Place, no, at, writeBack, takeOver, meet, probe}
 use Rattle.model.specs.declared.Settings.{Settings}
+use Rattle.model.specs.declared.Access.{Access}
+use Rattle.model.specs.declared.Answer.the-variants.{Miss}
+use Rattle.model.specs.declared.Refusal.the-variants.{SetBusy, SetHeld}
 use Rattle.model.specs.declared.Found.{Found}
 use Rattle.model.specs.declared.Found.the-variants.{At, Nothing}
 use Rattle.words.proofs.Flags.{and-1, clash, by-flag}
@@ -98,6 +101,50 @@ victim-finds R S d ways = go (last (λ l. candidate (enoughDirty S d) l && wholl
         → Finds (candidate (enoughDirty S d)) ways (orElse v (choiceBy R (candidate (enoughDirty S d)) ways))
     go Nothing g = choice-finds R (candidate (enoughDirty S d)) ways
     go (At w) g = (g .0, and-1 (candidate (enoughDirty S d) (getD ways w fresh)) (whollyInvalid (getD ways w fresh)) (g .1))
+
+-- ---- what the probe makes of the ways
+
+-- the spot at a way that holds the block, and at one that is taken
+module _ (x : Access) (ways : List Line) (w : ℕ) where
+  abbrev pub metSpot : Spot
+  metSpot = record {
+    way = w;
+    line = getD ways w fresh;
+    answer = answerOf x (getD (getD ways w fresh .sectors) (sectorIndex (addressOf x)) empty);
+    backs = [];
+  }
+
+  abbrev pub overSpot : Spot
+  overSpot = record {
+    way = w;
+    line = emptied (blockOf (addressOf x));
+    answer = Miss;
+    backs = writeBack (getD ways w fresh);
+  }
+
+module _ (R : Rule) (S : Settings) (d : ℕ) (ways : List Line) (x : Access) where
+  abbrev wayFound : Found
+  wayFound = first (holds (blockOf (addressOf x))) ways
+
+  pub probe-place : (P : Place → Type 0) → ((w : ℕ) → wayFound ≡ At w → P (at (metSpot x ways w)))
+      → (wayFound ≡ Nothing → (w : ℕ) → victim R S d ways ≡ At w → P (at (overSpot x ways w)))
+      → (victim R S d ways ≡ Nothing → P (no (pick (any hasReserved ways) SetBusy SetHeld))) → P (probe R S d ways x)
+  unfolding probe
+  probe-place P met over none = go wayFound refl
+    where
+      take : wayFound ≡ Nothing → (v : Found) → victim R S d ways ≡ v → P (takeOver (addressOf x) ways v)
+      take f Nothing e = none e
+      take f (At w) e = over f w e
+
+      go : (v : Found) → wayFound ≡ v → P (meet R S d ways x v)
+      go Nothing e = take e (victim R S d ways) refl
+      go (At w) e = met w e
+
+  pub probe-by : (P : Spot → Type 0) → ((w : ℕ) → wayFound ≡ At w → P (metSpot x ways w))
+      → (wayFound ≡ Nothing → (w : ℕ) → victim R S d ways ≡ At w → P (overSpot x ways w)) → (p : Spot) → probe R S d ways x ≡ at p → P p
+  probe-by P met over =
+      probe-place (λ (q : Place). (p : Spot) → q ≡ at p → P p) (λ w f p e. subst P (cc) (met w f)) (λ f w v p e. subst P (cc) (over f w v))
+      (λ v p e. let z : _≡_ {A = ℕ} 0 1 = cc in absurd (omega arith))
 
 -- no later way passes than the last found
 abbrev pub Last : (Line → Bool) → List Line → Found → Type 0
