@@ -16,7 +16,7 @@ use Rattle.model.specs.Address.{blockOf, sectorIndex, lineNumber, addres
 use Rattle.model.specs.Tables.{Line, Entry, Tables, start, refused, isInvalid, isReserved, isModified, whollyInvalid, hasReserved, dirty, holds, entryFor, empty, fresh, withNow}
 use Rattle.model.specs.Sound.{allOnes, lastCycle, maskOk, sectorOk, lineOk, alone, reservedOk, readingOf, entryOk, queuedOk}
 use Rattle.model.specs.Probe.{Rule, columnOf, answerAt, answerOf, waysOf, enoughDirty, candidate, Spot, at, writeBack, probe, ruleOf, metIn}
-use Rattle.model.specs.Steps.{isMerge, isMiss, onSector, fetches, queues, tick}
+use Rattle.model.specs.Steps.{isMerge, isMiss, onSector, fetches, tick}
 use Rattle.model.specs.declared.Settings.{Settings}
 use Rattle.model.specs.declared.Status.{Status}
 use Rattle.model.specs.declared.Status.the-variants.{Modified}
@@ -31,7 +31,7 @@ use Rattle.model.specs.declared.Refusal.the-variants.{BadCycle}
 use Rattle.words.proofs.Flags.{and-1, and-2, imp-use, same-is, or-no-1, or-no-2, flag, not-yes, no-yes, clash, by-flag}
 use Rattle.words.proofs.Lists.{In, all-in, in-all, in-any, any-in, in-getD, in-index, all-map, any-map, in-replicate, none-count}
 use Rattle.words.proofs.Below.{every-at, every-i}
-use Rattle.model.proofs.SoundFacts.{Sound, LeavesSound, LineIs, line-whole, EntryIs, entry-whole, mask-small, sector-below, sector-aligned, address-is, block-is, lines-are, line-at, four-at, since-at, sectors-at, live-tag-good, reserved-at, holder-one, entry-at, set-of-block, holder-set, holds-used, holds-tag}
+use Rattle.model.proofs.SoundFacts.{Sound, LeavesSound, LineIs, line-whole, mask-small, sector-below, sector-aligned, address-is, block-is, lines-are, line-at, four-at, since-at, sectors-at, live-tag-good, reserved-at, holder-one, entry-at, set-of-block, holder-set, holds-used, holds-tag}
 use Rattle.model.proofs.Ways.{Finds, first-finds, victim-finds, metSpot, overSpot, probe-by, Sits, way-sits, way-in, line-among, set-of-line}
 use Rattle.model.proofs.AccessKeepsSound.{Spotted}
 use Rattle.model.proofs.Answers.{by-status, status-reserved, status-modified}
@@ -219,41 +219,18 @@ module _ (S : Settings) (t : Tables) (ok : Sound S t) (some-ways : 1 ≤ S .ways
 -- ---- a tick, fresh tables
 
 pub tick-leaves : (S : Settings) (t : Tables) → Sound S t → (c : ℕ) → LeavesSound S (tick c t)
-unfolding tick
+unfolding tick entryOk
 tick-leaves S t ok c = by-flag (LeavesSound S) (ltb c (t .now) || ltb lastCycle c) (refused BadCycle) _ (λ e. tt) go
   where
-    u : Tables
-    u = withNow c t
-
     later : {i : ℕ} {l : Line} → t .now ≤ c → LineIs S (t .now) i l → LineIs S c i l
-    later {i} {l} h k = record {
-      four = k .four;
-      sectorly = k .sectorly;
-      past = le-leb (l .cycle) c (omega (arith, leb-true (l .cycle) (t .now) (k .past)));
-      since = k .since;
-      tagged = k .tagged;
-    }
+    later {i} {l} h k = let past = le-leb (l .cycle) c (omega (arith, leb-true (l .cycle) (t .now) (k .past))) in search
 
-    same-entry : {d : Entry} → EntryIs S t d → EntryIs S u d
-    same-entry k = record { good = k .good; held = k .held; once = k .once; readers = k .readers; queues = k .queues }
-
-    go : (ltb c (t .now) || ltb lastCycle c) ≡ false → Sound S u
-    go e = record {
-      sized = ok .sized;
-      time = le-leb c lastCycle (ltb-false lastCycle c (or-no-2 (ltb c (t .now)) (ltb lastCycle c) e));
-      lined = every-i (λ i. lineOk S c i (getD (t .lines) i fresh)) (linesOf S)
-          (λ i h. line-whole S c i _ (later (ltb-false c (t .now) (or-no-1 (ltb c (t .now)) (ltb lastCycle c) e))
-          (line-at S t ok i (rw (lines-are S t ok) h))));
-      single = ok .single;
-      reserve = ok .reserve;
-      entered = in-all (entryOk S u) (t .misses) (λ d m. entry-whole S u d (same-entry (entry-at S t ok d m)));
-      lining = ok .lining;
-      few = ok .few;
-      short = ok .short;
-      counted = ok .counted;
-      treed = ok .treed;
-      turned = ok .turned;
-    }
+    go : (ltb c (t .now) || ltb lastCycle c) ≡ false → Sound S (withNow c t)
+    go e =
+        let time = le-leb c lastCycle (ltb-false lastCycle c (or-no-2 (ltb c (t .now)) (ltb lastCycle c) e)) in
+        let lined = every-i (λ i. lineOk S c i (getD (t .lines) i fresh)) (linesOf S)
+        (λ i h. line-whole S c i _ (later (ltb-false c (t .now) (or-no-1 (ltb c (t .now)) (ltb lastCycle c) e)) (line-at S t ok i (rw (lines-are S t ok) h)))) in
+        search
 
 -- a tree of 0 under every rule
 blank-fine : (b : Bool) (ways : ℕ) → treeFine b ways 0 ≡ true

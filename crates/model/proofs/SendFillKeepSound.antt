@@ -7,7 +7,7 @@ use mathlib.Core.List.{List, [], _∷_, map}
 use native.Mathlib.Omega.{arith}
 use lib.ListN.{length, getD, length-map, length-set, List·getD-map, set}
 use lib.Seq.{getD-set-same, getD-set-other}
-use lib.Dec.{eqb}
+use lib.Dec.{eqb, leb}
 use borrow.Author.Tests.{eqb-true, eqb-false, eq-eqb, ne-eqb, le-leb}
 use Rattle.words.specs.Words.{all, any, count, keep, every, one}
 use Rattle.model.specs.Range.{linesOf}
@@ -100,21 +100,14 @@ module _ (S : Settings) (t : Tables) (x : Queued) (q : List Queued) (at : t .que
 
   pub sent-sound : Sound S (afterSend x q t)
   unfolding reservedOk
-  sent-sound = record {
-    sized = ok .sized;
-    time = ok .time;
-    lined = ok .lined;
-    single = ok .single;
-    reserve = in-all (reservedOk (marked x (t .misses))) (t .lines)
-        (λ l m. simp (marked-any (x .kind) (x .address) (t .misses)) (all-in (reservedOk (t .misses)) (t .lines) (ok .reserve) m));
-    entered = in-all (entryOk S (afterSend x q t)) (marked x (t .misses)) (λ e m. entry-whole S (afterSend x q t) e (sent-entry e m));
-    lining = in-all (queuedOk (marked x (t .misses))) q sent-queued;
-    few = rw (marked-length (x .kind) (x .address) (t .misses)) (ok .few);
-    short = le-leb (length q) (S .queue) (omega (arith, ap length at, few-queued S t ok));
-    counted = ok .counted;
-    treed = ok .treed;
-    turned = ok .turned;
-  }
+  sent-sound =
+      let reserve = in-all (reservedOk (marked x (t .misses))) (t .lines)
+      (λ l m. simp (marked-any (x .kind) (x .address) (t .misses)) (all-in (reservedOk (t .misses)) (t .lines) (ok .reserve) m)) in
+      let entered = in-all (entryOk S (afterSend x q t)) (marked x (t .misses)) (λ e m. entry-whole S (afterSend x q t) e (sent-entry e m)) in
+      let lining = in-all (queuedOk (marked x (t .misses))) q sent-queued in
+      let few : leb (length (marked x (t .misses))) (S .misses) ≡ true = rw (marked-length (x .kind) (x .address) (t .misses)) (ok .few) in
+      let short = le-leb (length q) (S .queue) (omega (arith, ap length at, few-queued S t ok)) in
+      search
 
 pub send-leaves : (S : Settings) (t : Tables) → Sound S t → LeavesSound S (send t)
 unfolding send
