@@ -3,14 +3,14 @@
 use Prim.Native.Nat.{ℕ, zero, suc, _+_, _-_, _≤_}
 use mathlib.Core.Path.{_≡_, refl, sym, ap, _∙_}
 use mathlib.Core.Logic.{_⊎_, inl, inr, ⊎-elim}
-use mathlib.Core.Bool.{Bool, true, false, not, _&&_, false≢true}
+use mathlib.Core.Bool.{true, false, not, _&&_, false≢true}
 use mathlib.Core.List.{List, [], _∷_}
 use native.Mathlib.Omega.{arith}
 use native.Mathlib.Nat.{zero-add, suc-add}
 use lib.ListN.{length, getD}
 use lib.Dec.{leb, ltb}
 use borrow.Author.Tests.{eq-eqb, lt-leb, le-ltb}
-use Rattle.words.specs.Words.{pick, all, any, count}
+use Rattle.words.specs.Words.{all, any, count}
 use Rattle.model.specs.Range.{inRange}
 use Rattle.model.specs.Address.{addressOf, isRead, wellFormed}
 use Rattle.model.specs.Tables.{Line, Entry, Tables, Outcome, refused, done, accepted, isInvalid, isReserved, whollyInvalid, hasReserved, empty, fresh}
@@ -91,9 +91,6 @@ module _ (S : Settings) (x : Access) where
   unfolding outcomeSend send
   send-takes t e q h = rw h
 
-  sent-less : (t : Tables) → Sound S t → (e : Queued) (q : List Queued) → t .queue ≡ e ∷ q → LeavesAtMost S (size t - 1) (afterSend e q t)
-  sent-less t ok e q h = record { ok = sent-sound S t e q h ok; less = omega (arith, ap length h, marked-length (e .kind) (e .address) (t .misses)) }
-
   fill-takes : (t : Tables) (d : Entry) → In d (t .misses) → d .sent ≡ true → took t (fill (d .address) t) .left ≡ afterFill (d .address) t
   unfolding fill
   fill-takes t d m h =
@@ -114,13 +111,9 @@ module _ (S : Settings) (x : Access) where
       → Tried t es (outcomeFill C es t .left)
   unfolding outcomeFill
   fill-tries t ok [] f = inr (refl, refl)
-  fill-tries t ok (d ∷ es) f = go (fill-tries t ok es (λ e m. f e (inr m))) (d .sent) refl
-    where
-      go : Tried t es (outcomeFill C es t .left) → (b : Bool) → d .sent ≡ b
-          → LeavesAtMost S (size t - 1) (pick b (took t (fill (d .address) t)) (outcomeFill C es t) .left)
-          ⊎ ((pick b (took t (fill (d .address) t)) (outcomeFill C es t) .left ≡ t) × ((not b && all (λ e. not (e .sent)) es) ≡ true))
-      go ih true h = inl (rw (fill-takes t d (f d (inl refl)) h) (filled-less t ok d (f d (inl refl)) h))
-      go ih false h = ih
+  fill-tries t ok (d ∷ es) f =
+      ⊎-elim (λ h. rw h (inl (rw (fill-takes t d (f d (inl refl)) h) (filled-less t ok d (f d (inl refl)) h))))
+      (λ h. rw h (fill-tries t ok es (λ e m. f e (inr m)))) (flag (d .sent))
 
   -- with nothing queued no entry is unsent
   unsent-none : (t : Tables) → Sound S t → t .queue ≡ [] → (es : List Entry) → t .misses ≡ es → all (λ e. not (e .sent)) es ≡ true → es ≡ []
@@ -144,21 +137,15 @@ module _ (S : Settings) (x : Access) where
   unfolding outcomeDrain
   drain-less t ok = go (t .queue) refl
     where
-      only-fill : t .queue ≡ [] → Tried t (t .misses) (outcomeFill C (t .misses) t .left)
-          → LeavesAtMost S (size t - 1) (outcomeFill C (t .misses) t .left)
-      only-fill e (inl l) = l
-      only-fill e (inr (s, u)) = rw s (record { ok = ok; less = omega (arith, ap length e, ap length (unsent-none t ok e (t .misses) refl u)) })
-
-      then-fill : (v : Tables) → LeavesAtMost S (size t - 1) v → Tried v (v .misses) (outcomeFill C (v .misses) v .left)
-          → LeavesAtMost S (size t - 1) (outcomeFill C (v .misses) v .left)
-      then-fill v k (inl l) = record { ok = l .ok; less = omega arith }
-      then-fill v k (inr (s, u)) = rw s k
-
       go : (q : List Queued) → t .queue ≡ q → LeavesAtMost S (size t - 1) (outcomeFill C (outcomeSend C t .left .misses) (outcomeSend C t .left) .left)
-      go [] e = rw (send-idle t e) (only-fill e (fill-tries t ok (t .misses) (λ d m. m)))
+      go [] e =
+          rw (send-idle t e) (⊎-elim (λ l. l)
+          (λ (s, u). rw s (record { ok = ok; less = omega (arith, ap length e, ap length (unsent-none t ok e (t .misses) refl u)) }))
+          (fill-tries t ok (t .misses) (λ d m. m)))
       go (y ∷ q) e =
-          let k : LeavesAtMost S (size t - 1) (afterSend y q t) = sent-less t ok y q e in
-          rw (send-takes t y q e) (then-fill (afterSend y q t) k (fill-tries (afterSend y q t) (k .ok) (afterSend y q t .misses) (λ d m. m)))
+          let v : Tables = afterSend y q t in
+          let k : LeavesAtMost S (size t - 1) v = record { ok = sent-sound S t y q e ok; less = omega (arith, ap length e, marked-length (y .kind) (y .address) (t .misses)) } in
+          rw (send-takes t y q e) (⊎-elim (λ l. record { ok = l .ok; less = omega arith }) (λ (s, u). rw s k) (fill-tries v (k .ok) (v .misses) (λ d m. m)))
 
   -- ---- the rounds
 
@@ -175,14 +162,11 @@ module _ (S : Settings) (x : Access) where
     held-whatever t u (o ∷ os) (suc n) e = held-whatever t u os n e
 
     -- refused as 6 once at rest: refused as 6 in every round
-    held-at-rest : (t : Tables) → t .queue ≡ [] → t .misses ≡ [] → access S x t ≡ refused SetHeld → (j : ℕ) → outcomeHeld C j t
-    held-at-rest t e m o zero = rw (rounds-more 0 t, drain-idle t e m, o)
-    held-at-rest t e m o (suc j) = rw (rounds-more (suc j) t, drain-idle t e m, o) (held-at-rest t e m o j)
-
-    held-once : (t u : Tables) → outcomeDrain C t .left ≡ u → u .queue ≡ [] → u .misses ≡ [] → access S x u ≡ refused SetHeld → (j : ℕ)
+    held-at-rest : (t u : Tables) → outcomeDrain C t .left ≡ u → u .queue ≡ [] → u .misses ≡ [] → access S x u ≡ refused SetHeld → (j : ℕ)
         → outcomeHeld C j t
-    held-once t u d e m o zero = rw (rounds-more 0 t, d, o)
-    held-once t u d e m o (suc j) = rw (rounds-more (suc j) t, d, o) (held-whatever t u (outcomeRounds C (suc j) u .offers) j (held-at-rest u e m o j))
+    held-at-rest t u d e m o zero = rw (rounds-more 0 t, d, o)
+    held-at-rest t u d e m o (suc j) =
+        rw (rounds-more (suc j) t, d, o) (held-whatever t u (outcomeRounds C (suc j) u .offers) j (held-at-rest u u (drain-idle u e m) e m o j))
 
     offer-taken : (a : Turn Tables) (rest : Tables → Run Tables) (o : Outcome Tables) → accepted o ≡ true
         → any accepted (outcomeGoOn a rest o .offers) ≡ true
@@ -204,7 +188,7 @@ module _ (S : Settings) (x : Access) where
         go : (outcomeDrain C t .left) .queue ≡ [] → (outcomeDrain C t .left) .misses ≡ []
             → (accepted (access S x (outcomeDrain C t .left)) ≡ true) ⊎ (access S x (outcomeDrain C t .left) ≡ refused SetHeld) → SettledBy 0 t
         go e m (inl a) = inl (rw (rounds-more 0 t) (offer-taken (outcomeDrain C t) (outcomeRounds C 0) (access S x (outcomeDrain C t .left)) a))
-        go e m (inr a) = inr (λ j. rw (zero-add j) (held-once t (outcomeDrain C t .left) refl e m a j))
+        go e m (inr a) = inr (λ j. rw (zero-add j) (held-at-rest t (outcomeDrain C t .left) refl e m a j))
     rounds-settle (suc n) t ok h =
         let l : LeavesAtMost S (size t - 1) (outcomeDrain C t .left) = drain-less t ok in
         go (access S x (outcomeDrain C t .left)) refl (rounds-settle n (outcomeDrain C t .left) (l .ok) (omega arith))

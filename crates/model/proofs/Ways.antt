@@ -1,7 +1,7 @@
 -- The ways of a set: what a search among them finds, what the probe makes of it, and which lines of the cache they are.
 use Prim.Native.Nat.{ℕ, zero, suc, _+_, _*_, _-_, _/_, _%_, _≤_, _<_, _^_, min}
 use mathlib.Core.Path.{_≡_, refl, sym, ap, subst, _∙_}
-use mathlib.Core.Logic.{inl, inr}
+use mathlib.Core.Logic.{⊎-elim}
 use mathlib.Core.Bool.{Bool, true, false, _&&_}
 use mathlib.Core.List.{List, [], _∷_, map}
 use native.Mathlib.Omega.{arith}
@@ -34,11 +34,7 @@ Finds p ls (At w) = (w < length ls) × (p (getD ls w fresh) ≡ true)
 
 module _ (p : Line → Bool) (l : Line) (ls : List Line) where
   next-finds : p l ≡ false → (v : Found) → Finds p ls v → Finds p (l ∷ ls) (next v)
-  next-finds e Nothing g = go
-    where
-      go : (m : Line) → In m (l ∷ ls) → p m ≡ false
-      go m (inl q) = rw q e
-      go m (inr n) = g m n
+  next-finds e Nothing g = λ m. ⊎-elim (λ q. rw q e) (g m)
   next-finds e (At w) g = (omega (arith, g .0), g .1)
 
   last-step : (v : Found) → Finds p ls v → (b : Bool) → p l ≡ b → Finds p (l ∷ ls) (orElse (next v) (pick b (At 0) Nothing))
