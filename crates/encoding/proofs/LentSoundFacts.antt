@@ -246,16 +246,5 @@ module _ (S : Settings) (L : Lent) where
       ⊓ is-every (S .queue) place-is
       ⊓ is-eq (dirtyCount S L) (countBelow (linesOf S) (dirtyLine S L))
       ⊓ is-every (S .sets) (λ i. is-flag (treeFine (isTree S) (S .ways) (tree S L i))))
-      (λ w. record {
-        time = w .0 .0 .0 .0 .0 .0 .0 .0 .0;
-        lines = w .0 .0 .0 .0 .0 .0 .0 .0 .1;
-        sectors = w .0 .0 .0 .0 .0 .0 .0 .1;
-        tickets = w .0 .0 .0 .0 .0 .0 .1;
-        entries-first = w .0 .0 .0 .0 .0 .1;
-        entries = w .0 .0 .0 .0 .1;
-        places-first = w .0 .0 .0 .1;
-        places = w .0 .0 .1;
-        counted = w .0 .1;
-        trees = w .1;
-      })
-      (λ r. (((((((((r .time, r .lines), r .sectors), r .tickets), r .entries-first), r .entries), r .places-first), r .places), r .counted), r .trees))
+      (λ w. search depth 12)
+      (λ r. search depth 12)

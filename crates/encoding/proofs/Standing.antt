@@ -4,7 +4,7 @@ use mathlib.Core.List.{List, [], _∷_, _++_, map}
 use Prim.Native.Nat.{ℕ, zero, suc, _+_, _*_, _≤_, _<_}
 use native.Mathlib.Nat.{not-suc-le-zero, le-of-suc-le-suc, mul-zero, mul-suc, zero-add, add-zero}
 use native.Mathlib.Omega.{arith}
-use lib.ListN.{length, getD, length-append, List·getD-append}
+use lib.ListN.{length, getD, length-append, length-map, List·getD-append, List·getD-eq-default}
 use lib.Seq.{getD-append-add}
 use Rattle.model.specs.declared.Settings.{Settings}
 use Rattle.words.specs.Words.{table, padTo, packed, joined}
@@ -14,6 +14,7 @@ use Rattle.model.specs.Tables.{Tables}
 use Rattle.model.specs.Lent.{Lent, encode, tagOf, cycleOf, takenOf, treeOf, masksOf, statusesOf, readablesOf, missOf, sentOf, ticketCountOf, ticketsIn, queuedOf, kindOf, queueMasksOf, longBlocks, wordBlocks, markBlocks}
 use Rattle.words.specs.Regions.{region, offsetIn}
 use Rattle.words.proofs.Places.{length-padTo, length-places, block-get, stride, padTo-get}
+use Rattle.words.proofs.Lists.{getD-map-in}
 use Rattle.words.proofs.Tabled.{table-append}
 use Rattle.encoding.proofs.Slices.{long-sizes, word-sizes, mark-sizes, begins, regions-joined, region-table}
 use Rattle.encoding.proofs.LentSoundFacts.{tag, cycle, taken, status, mask, readable, miss, sent, ticketCount, ticket, queued, kind, queueMask, now, dirtyCount, tree}
@@ -30,15 +31,11 @@ field g xs e k = getD (getD (map g xs) e []) k 0
 module _ {A : Type 0} (g : A → List ℕ) where
   pub field-in : (xs : List A) (d : A) (e k : ℕ) → e < length xs → field g xs e k ≡ getD (g (getD xs e d)) k 0
   unfolding field
-  field-in [] d e k h = absurd (not-suc-le-zero h)
-  field-in (x ∷ xs) d zero k h = refl
-  field-in (x ∷ xs) d (suc e) k h = field-in xs d e k (le-of-suc-le-suc h)
+  field-in xs d e k h = rw (getD-map-in g xs d [] e h)
 
   pub field-out : (xs : List A) (e k : ℕ) → length xs ≤ e → field g xs e k ≡ 0
   unfolding field
-  field-out [] e k h = refl
-  field-out (x ∷ xs) zero k h = absurd (not-suc-le-zero h)
-  field-out (x ∷ xs) (suc e) k h = field-out xs e k (le-of-suc-le-suc h)
+  field-out xs e k h = rw (List·getD-eq-default (map g xs) [] {n = e} (rw length-map h))
 
 -- ---- places
 

@@ -22,7 +22,7 @@ use Rattle.model.specs.declared.Refusal.the-variants.{SetBusy, SetHeld}
 use Rattle.model.specs.declared.Found.{Found}
 use Rattle.model.specs.declared.Found.the-variants.{At, Nothing}
 use Rattle.words.proofs.Flags.{and-1, clash, by-flag}
-use Rattle.words.proofs.Lists.{In, in-getD, in-index, in-take, in-drop}
+use Rattle.words.proofs.Lists.{In, in-getD, in-index, getD-map-in, in-take, in-drop}
 use Rattle.model.proofs.Trees.{Chooses, choice-chooses, levels-reach}
 
 -- ---- searches
@@ -66,9 +66,7 @@ earliest-finds key p (l ∷ ls) =
 
 -- the flags of the ways
 pub flag-is : (p : Line → Bool) (ls : List Line) (w : ℕ) → w < length ls → getD (map p ls) w false ≡ p (getD ls w fresh)
-flag-is p [] w h = absurd (omega arith)
-flag-is p (l ∷ ls) zero h = refl
-flag-is p (l ∷ ls) (suc w) h = flag-is p ls w (omega arith)
+flag-is p ls w h = getD-map-in p ls fresh false w h
 
 flag-at : (p : Line → Bool) (ls : List Line) (w : ℕ) → getD (map p ls) w false ≡ true → (w < length ls) × (p (getD ls w fresh) ≡ true)
 flag-at p [] w e = clash e refl

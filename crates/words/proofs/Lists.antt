@@ -5,7 +5,7 @@ use mathlib.Core.Logic.{_⊎_, inl, inr, _≢_, ⊎-elim}
 use mathlib.Core.Bool.{Bool, true, false, _&&_, _||_, false≢true, and-false, and-assoc}
 use mathlib.Core.List.{List, [], _∷_, _++_, map}
 use native.Mathlib.Omega.{arith}
-use lib.ListN.{length, getD, set, take, drop, length-set, replicate}
+use lib.ListN.{length, getD, set, take, drop, length-set, length-map, replicate, List·getD-map}
 use lib.Seq.{getD-set-same, getD-set-other}
 use lib.Dec.{eqb, ltb}
 use borrow.Author.Tests.{eqb-true, eqb-false, ltb-true, ne-eqb}
@@ -220,6 +220,9 @@ none-past f n k (x ∷ xs) e h =
     rw (ne-eqb k (f x) (λ q. omega arith)) (none-past f n k xs (and-2 (ltb (f x) n) (all (λ y. ltb (f y) n) xs) e) h)
 
 module _ {A B : Type 0} (f : A → B) where
+  pub getD-map-in : (l : List A) (d : A) (e : B) (i : ℕ) → i < length l → getD (map f l) i e ≡ f (getD l i d)
+  getD-map-in l d e i h = getD-inside (map f l) i e (f d) (rw length-map h) ∙ List·getD-map f l i d
+
   pub map-in : (l : List A) (x : A) → In x l → In (f x) (map f l)
   map-in [] x m = absurd m
   map-in (y ∷ l) x (inl q) = inl (ap f q)
