@@ -11,7 +11,6 @@ use lib.ListN.{length, getD, List·getD-eq-default}
 use lib.Arith.{digits-div}
 use borrow.Author.Tests.{eqb-true, eq-eqb}
 use Rattle.model.specs.declared.Settings.{Settings}
-use Rattle.model.specs.declared.Queued.{Queued}
 use Rattle.model.specs.declared.Sector.{Sector}
 use Rattle.words.specs.Words.{table, some}
 use Rattle.model.specs.Numbers.{statusNumber, statusOf, queueKindNumber, queueKindOf}
@@ -22,11 +21,11 @@ use Rattle.model.specs.Layout.{wordsFrom, queueMaskRegion}
 use Rattle.model.specs.Lent.{Lent, bit, tagOf, cycleOf, masksOf, statusesOf, readablesOf, missOf, sentOf, ticketCountOf, ticketsIn, queuedOf, kindOf, queueMasksOf, inUse, sectorAt, sectorsAt, lineAt, entryAt, queueAt, tablesOf, takenOf, treeOf}
 pub use Rattle.model.specs.SoundLent.{Small}
 use Rattle.words.proofs.Flags.{clash, iff}
-use Rattle.words.proofs.Below.{some-at, some-i, lt-or-ge, squeeze}
+use Rattle.words.proofs.Below.{some-at, some-i, lt-or-ge, below-four, squeeze}
 use Rattle.words.proofs.Places.{stride}
 use Rattle.words.proofs.Tabled.{any-get, length-table, getD-table}
 use Rattle.encoding.proofs.InUse.{in-use-few, below-used, free-past}
-use Rattle.encoding.proofs.LentSoundFacts.{tag, status, mask, readable, miss, sent, ticketCount, ticket, kind, queueMask, Live, Used, SoundIs, tree}
+use Rattle.encoding.proofs.LentSoundFacts.{tag, status, mask, readable, miss, sent, ticketCount, ticket, kind, queueMask, Live, Used, UsedFirst, SoundIs, tree}
 use Rattle.encoding.proofs.Standing.{field, field-in, field-out, ByNumber}
 use Rattle.encoding.proofs.NumbersAreTables.{line, sector, entry, place, Shape, reserved-number, tag-is, cycle-is, lent-taken-is, lent-tree-is, status-is, mask-is, readable-is, dirty-counts, miss-is, lent-sent-is, entry-in, in-entry, kind-in, queued-in, queue-mask-is, reads-are, lives, live-i}
 use Rattle.encoding.proofs.SoundByPlace.{SectorOk, LineOk, OnlyTag, Agrees, EntryOk, QueuedOk, Soundly, bit-clear}
@@ -182,12 +181,15 @@ module _ {A : Type 0} (g : A → List ℕ) (n : ℕ) (f : ℕ → A) (e k : ℕ)
   field-past : n ≤ e → field g (table n f) e k ≡ 0
   field-past h = field-out g (table n f) e k (rw length-table h)
 
+-- a number of those in use of n places, which are the first, and past them 0
+field-used : (u : ℕ → ℕ) (n : ℕ) → UsedFirst n u → {A : Type 0} (f : ℕ → A) (g : A → List ℕ) (e k : ℕ) {m : ℕ} → e < n
+    → ((u e ≡ 0 → ⊥) → m ≡ getD (g (f e)) k 0) → (u e ≡ 0 → m ≡ 0) → m ≡ field g (table (inUse n u) f) e k
+field-used u n first f g e k h p z =
+    ⊎-elim (λ l. p (below-used u n e first l .1) ∙ sym (field-table g (inUse n u) f e k l))
+    (λ o. z (free-past u n e first h o) ∙ sym (field-past g (inUse n u) f e k o)) (lt-or-ge e (inUse n u))
+
 number-back : (n : ℕ) → n ≤ 3 → n ≡ statusNumber (statusOf n)
-number-back zero h = refl
-number-back (suc zero) h = refl
-number-back (suc (suc zero)) h = refl
-number-back (suc (suc (suc zero))) h = refl
-number-back (suc (suc (suc (suc n)))) h = absurd (omega arith)
+number-back n h = below-four (λ n. n ≡ statusNumber (statusOf n)) refl refl refl refl n (omega arith)
 
 mark-back : (n : ℕ) → n ≤ 1 → n ≡ bit (eqb n 1)
 mark-back zero h = refl
@@ -196,11 +198,8 @@ mark-back (suc (suc n)) h = absurd (omega arith)
 
 sectors-at : (f : Sector → ℕ) (S : Settings) (words marks : List ℕ) (l k : ℕ) → k < 4
     → f (sectorAt S words marks (4 * l + k)) ≡ getD (map f (sectorsAt S words marks l)) k 0
-sectors-at f S words marks l zero h = rw add-zero
-sectors-at f S words marks l (suc zero) h = refl
-sectors-at f S words marks l (suc (suc zero)) h = refl
-sectors-at f S words marks l (suc (suc (suc zero))) h = refl
-sectors-at f S words marks l (suc (suc (suc (suc k)))) h = absurd (omega arith)
+sectors-at f S words marks l =
+    below-four (λ k. f (sectorAt S words marks (4 * l + k)) ≡ getD (map f (sectorsAt S words marks l)) k 0) (rw add-zero) refl refl refl
 
 -- a kind by its number
 kind-made : (k : ℕ) → k ≤ 2 → (k ≡ 0 → ⊥) → k ≡ queueKindNumber (queueKindOf k)
@@ -215,15 +214,6 @@ module _ (S : Settings) (L : Lent) (is : SoundIs S L) where
 
   abbrev deep : ℕ
   deep = inUse (S .queue) (kind S L)
-
-  free-entry : (e : ℕ) → e < S .misses → few ≤ e → ticketCount S L e ≡ 0
-  free-entry e h k = free-past (ticketCount S L) (S .misses) e (is .entries-first) h k
-
-  free-place : (p : ℕ) → p < S .queue → deep ≤ p → kind S L p ≡ 0
-  free-place p h k = free-past (kind S L) (S .queue) p (is .places-first) h k
-
-  used-place : (p : ℕ) → p < deep → (p < S .queue) × (kind S L p ≡ 0 → ⊥)
-  used-place p h = below-used (kind S L) (S .queue) p (is .places-first) h
 
   abbrev decodedLine : ℕ → Line
   decodedLine = lineAt S (L .longs) (L .words) (L .marks)
@@ -244,24 +234,6 @@ module _ (S : Settings) (L : Lent) (is : SoundIs S L) where
       (λ c. ticket-past pos e k h j c ∙ sym (List·getD-eq-default (table (ticketCount S L e) (λ j. ticket S L (S .readers * e + j))) 0 (rw length-table c)))
       (lt-or-ge k (ticketCount S L e))
 
-  -- numbers of the entries and of the queue: those in use and, past them, zeros
-  of-entries : (g : Entry → List ℕ) (k e : ℕ) {n : ℕ} → e < S .misses → n ≡ getD (g (entryAt S L e)) k 0 → (ticketCount S L e ≡ 0 → n ≡ 0)
-      → n ≡ field g (table few (entryAt S L)) e k
-  of-entries g k e h p z =
-      ⊎-elim
-      (λ l. p ∙ sym (field-table g few (entryAt S L) e k l))
-      (λ o. z (free-entry e h o) ∙ sym (field-past g few (entryAt S L) e k o))
-      (lt-or-ge e few)
-
-  of-queue : (g : Queued → List ℕ) (k p : ℕ) {n : ℕ} → p < S .queue
-      → ((kind S L p ≡ 0 → ⊥) → n ≡ getD (g (queueAt S L p)) k 0) → (kind S L p ≡ 0 → n ≡ 0)
-      → n ≡ field g (table deep (queueAt S L)) p k
-  of-queue g k p h f z =
-      ⊎-elim
-      (λ l. f (used-place p l .1) ∙ sym (field-table g deep (queueAt S L) p k l))
-      (λ o. z (free-place p h o) ∙ sym (field-past g deep (queueAt S L) p k o))
-      (lt-or-ge p deep)
-
   pub read-stands : 1 ≤ S .readers → ByNumber S L (tablesOf S L)
   unfolding tablesOf
   read-stands pos = record {
@@ -277,14 +249,14 @@ module _ (S : Settings) (L : Lent) (is : SoundIs S L) where
         mark-back (readable S L (4 * l + k)) (is .sectors (4 * l + k) (omega arith) .mark)
         ∙ sectors-at (λ s. bit (s .readable)) S (L .words) (L .marks) l k j
         ∙ sym (field-table readablesOf (linesOf S) decodedLine l k h);
-    misses = λ e h. of-entries missOf 0 e h refl (λ z. is .entries e h .blank z .0);
-    sents = λ e h. of-entries sentOf 0 e h (mark-back (sent S L e) (is .entries e h .mark)) (λ z. is .entries e h .blank z .1);
-    ticket-counts = λ e h. of-entries ticketCountOf 0 e h (sym (length-table (ticketCount S L e) (λ j. ticket S L (S .readers * e + j)))) (λ z. z);
-    tickets = λ e k h j. of-entries ticketsIn k e h (ticket-at pos e k h j) (λ z. ticket-past pos e k h j (omega arith));
-    queue = λ p h. of-queue queuedOf 0 p h (λ u. refl) (λ z. is .places p h .blank z);
-    kinds = λ p h. of-queue kindOf 0 p h (λ u. kind-made (kind S L p) (is .places p h .known) u) (λ z. z);
+    misses = λ e h. field-used (ticketCount S L) (S .misses) (is .entries-first) (entryAt S L) missOf e 0 h (λ u. refl) (λ z. is .entries e h .blank z .0);
+    sents = λ e h. field-used (ticketCount S L) (S .misses) (is .entries-first) (entryAt S L) sentOf e 0 h (λ u. mark-back (sent S L e) (is .entries e h .mark)) (λ z. is .entries e h .blank z .1);
+    ticket-counts = λ e h. field-used (ticketCount S L) (S .misses) (is .entries-first) (entryAt S L) ticketCountOf e 0 h (λ u. sym (length-table (ticketCount S L e) (λ j. ticket S L (S .readers * e + j)))) (λ z. z);
+    tickets = λ e k h j. field-used (ticketCount S L) (S .misses) (is .entries-first) (entryAt S L) ticketsIn e k h (λ u. ticket-at pos e k h j) (λ z. ticket-past pos e k h j (omega arith));
+    queue = λ p h. field-used (kind S L) (S .queue) (is .places-first) (queueAt S L) queuedOf p 0 h (λ u. refl) (λ z. is .places p h .blank z);
+    kinds = λ p h. field-used (kind S L) (S .queue) (is .places-first) (queueAt S L) kindOf p 0 h (λ u. kind-made (kind S L p) (is .places p h .known) u) (λ z. z);
     queue-masks = λ p k h j.
-        of-queue queueMasksOf k p h
+        field-used (kind S L) (S .queue) (is .places-first) (queueAt S L) queueMasksOf p k h
         (λ u. sym (getD-table 4 (λ k. queueMask S L (4 * p + k)) k 0 j))
         (λ z. is .places p h .bare (omega arith) k j);
     time = refl;
@@ -292,17 +264,10 @@ module _ (S : Settings) (L : Lent) (is : SoundIs S L) where
     trees = λ i h. sym (field-table treeOf (S .sets) (tree S L) i 0 h);
   }
 
-  -- an entry and a queue place that are read off
-  entry-read : (e : ℕ) → e < few → entry (tablesOf S L) e ≡ entryAt S L e
-  unfolding tablesOf
-  entry-read e h = getD-table few (entryAt S L) e noEntry h
-
-  place-read : (p : ℕ) → p < deep → place (tablesOf S L) p ≡ queueAt S L p
-  unfolding tablesOf
-  place-read p h = getD-table deep (queueAt S L) p idle h
-
   tickets-read : (e : ℕ) → e < few → length (entry (tablesOf S L) e .tickets) ≡ ticketCount S L e
-  tickets-read e h = ap (λ (x : Entry). length (x .tickets)) (entry-read e h) ∙ length-table (ticketCount S L e) (λ j. ticket S L (S .readers * e + j))
+  unfolding tablesOf
+  tickets-read e h =
+      ap (λ (x : Entry). length (x .tickets)) (getD-table few (entryAt S L) e noEntry h) ∙ length-table (ticketCount S L e) (λ j. ticket S L (S .readers * e + j))
 
   pub read-shape : Shape S (tablesOf S L)
   unfolding tablesOf
@@ -321,6 +286,6 @@ module _ (S : Settings) (L : Lent) (is : SoundIs S L) where
     deep = rw (length-table deep (queueAt S L)) (in-use-few (kind S L) (S .queue));
     masked = λ p h.
         let i : p < deep = rw (length-table deep (queueAt S L)) at h in
-        rw (place-read p i) (length-table 4 (λ k. queueMask S L (4 * p + k)));
+        rw (getD-table deep (queueAt S L) p idle i) (length-table 4 (λ k. queueMask S L (4 * p + k)));
     treed = length-table (S .sets) (tree S L);
   }

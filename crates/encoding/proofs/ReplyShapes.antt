@@ -2,60 +2,44 @@
 use mathlib.Core.Path.{_≡_, refl, sym, ap, _∙_}
 use mathlib.Core.Bool.{Bool, true, false, _&&_, _||_}
 use mathlib.Core.List.{List, [], _∷_, _++_, map}
-use Prim.Native.Nat.{ℕ, _+_, min, _≤_}
+use Prim.Native.Nat.{ℕ, _≤_}
 use native.Mathlib.Omega.{arith}
-use lib.Dec.{ltb, leb}
+use lib.Dec.{eqb, ltb}
 use lib.ListN.{length, take, replicate, length-take}
 use Rattle.words.specs.Words.{pick, all, any, padTo}
-use Rattle.model.specs.Address.{addressOf, isRead, wellFormed}
-use Rattle.model.specs.Tables.{Tables, idle, Outcome, refused, eventsOf}
+use Rattle.model.specs.Tables.{Tables, idle, Outcome, eventsOf}
 use Rattle.model.specs.Lent.{Lent}
+use Rattle.model.specs.Kinds as kinds
+use Rattle.model.specs.Records.{recordKindOf}
 use Rattle.model.specs.Sound.{lastCycle}
-use Rattle.model.specs.Probe.{Spot, Place, no, at}
-use Rattle.model.specs.Steps.{isMerge, isMiss, queues, queuedAs, queuedEvent, sentAs, placesNeeded, accept, entryFull, proceed, access, sendFrom, send, ticketsOf, sentFor, fill, tick}
+use Rattle.model.specs.Probe.{ruleOf}
+use Rattle.model.specs.Steps.{queues, queuedAs, queuedEvent, sentAs, accept, access, sendFrom, send, ticketsOf, sentFor, fill, tick}
 use Rattle.model.specs.Calls.{eventsTold, inTwo, tidied}
 use Rattle.model.specs.Inner.{SoundSlices, Does}
 use Rattle.model.specs.ReplyShape.{ofAccess, ofSend, ofFill, ofTick, Shaped}
 use Rattle.model.specs.declared.Settings.{Settings}
 use Rattle.model.specs.declared.Access.{Access}
-use Rattle.model.specs.declared.Refusal.{Refusal}
-use Rattle.model.specs.declared.Refusal.the-variants.{BadAccess, QueueFull, EntryFull, MissTableFull}
 use Rattle.model.specs.declared.Queued.{Queued}
 use Rattle.model.specs.declared.QueueKind.{QueueKind}
 use Rattle.model.specs.declared.QueueKind.the-variants as queue
 use Rattle.model.specs.declared.Event.{Event}
-use Rattle.model.specs.declared.Event.the-variants.{Answered, Refused, ReadQueued, WriteBackQueued, Released, ReadSent, WriteBackSent, Filled, Ticked}
+use Rattle.model.specs.declared.Event.the-variants.{Released}
 use Rattle.model.specs.declared.Reply.{Reply}
 use Rattle.words.proofs.Flags.{and-1, and-2, clash}
 use Rattle.words.proofs.Places.{length-padTo}
 use Rattle.words.proofs.Lists.{all-append}
+use Rattle.model.proofs.AccessCases.{access-judged}
 use Rattle.encoding.proofs.Bridge.{does-tells}
 
 -- ---- the events behind the first
 
 -- an entry queued
 abbrev queuing : Event → Bool
-queuing (Answered a line) = false
-queuing (Refused n) = false
-queuing (ReadQueued a) = true
-queuing (WriteBackQueued b m0 m1 m2 m3) = true
-queuing (Released t) = false
-queuing (ReadSent a) = false
-queuing (WriteBackSent b m0 m1 m2 m3) = false
-queuing (Filled a) = false
-queuing Ticked = false
+queuing e = any (eqb (recordKindOf e)) (kinds.readQueued ∷ kinds.writeBackQueued ∷ [])
 
 -- a ticket released
 abbrev releasing : Event → Bool
-releasing (Answered a line) = false
-releasing (Refused n) = false
-releasing (ReadQueued a) = false
-releasing (WriteBackQueued b m0 m1 m2 m3) = false
-releasing (Released t) = true
-releasing (ReadSent a) = false
-releasing (WriteBackSent b m0 m1 m2 m3) = false
-releasing (Filled a) = false
-releasing Ticked = false
+releasing e = eqb (recordKindOf e) kinds.released
 
 abbrev none : Event → Bool
 none e = false
@@ -90,25 +74,10 @@ tells-by : {begins rest : Event → Bool} (b : Bool) {o p : Outcome Tables} → 
 tells-by true h g = h
 tells-by false h g = g
 
-refused-tells : (n : Refusal) → TellsShape ofAccess queuing (refused n)
-refused-tells n = record { is = refl }
-
-accept-tells : (S : Settings) (x : Access) (p : Spot) (t : Tables) → TellsShape ofAccess queuing (accept S x p t)
-unfolding accept
-accept-tells S x p t = record { is = all-queuing (queues x p) }
-
-proceed-tells : (S : Settings) (x : Access) (t : Tables) (p : Place) → TellsShape ofAccess queuing (proceed S x t p)
-unfolding proceed
-proceed-tells S x t (no n) = refused-tells n
-proceed-tells S x t (at p) =
-    tells-by (ltb (S .queue) (length (t .queue) + placesNeeded x p)) (refused-tells QueueFull)
-    (tells-by (isRead x && isMerge (p .answer) && any (entryFull S (addressOf x)) (t .misses)) (refused-tells EntryFull)
-    (tells-by (isRead x && isMiss (p .answer) && leb (S .misses) (length (t .misses))) (refused-tells MissTableFull)
-    (accept-tells S x p t)))
-
 access-tells : (S : Settings) (x : Access) (t : Tables) → TellsShape ofAccess queuing (access S x t)
-unfolding access
-access-tells S x t = tells-by (wellFormed x) (proceed-tells S x t _) (refused-tells BadAccess)
+unfolding access accept
+access-tells S x t =
+    access-judged (ruleOf S) S t x (TellsShape ofAccess queuing) (λ n. record { is = refl }) (λ p j. record { is = all-queuing (queues x p) })
 
 send-tells : (t : Tables) → TellsShape ofSend none (send t)
 unfolding send
@@ -144,12 +113,9 @@ module _ (r : Reply) (tidy : tidied r ≡ r) where
   queues-few : r .queues ≤ 2
   unfolding tidied
   queues-few =
-      let q : r .queued ≡ inTwo (take (r .queues) (r .queued)) = sym (ap (λ (x : Reply). x .queued) tidy) in
-      let l = queues-are in
-      let m = length-take (r .queues) (r .queued) in
-      let n = ap length q in
-      let k : length (inTwo (take (r .queues) (r .queued))) ≡ min 2 (length (take (r .queues) (r .queued) ++ replicate 2 idle)) = length-take 2 (take (r .queues) (r .queued) ++ replicate 2 idle) in
-      omega arith
+      let two : List Queued = take (r .queues) (r .queued) in
+      let q : r .queued ≡ inTwo two = sym (ap (λ (x : Reply). x .queued) tidy) in
+      omega (arith, queues-are, length-take (r .queues) (r .queued), ap length q, length-take 2 (two ++ replicate 2 idle))
 
   tickets-few : r .count ≤ 8
   unfolding tidied

@@ -1,10 +1,10 @@
 -- The events, the tables, the stop and the bytes consumed of a run are those of the separate public calls, record by record, for any
 -- stream of bytes; the same of a run that goes on.
-use mathlib.Core.Path.{_≡_, refl, sym, ap, _∙_}
+use mathlib.Core.Path.{_≡_, refl, ap, _∙_}
 use mathlib.Core.Logic.{⊎-elim}
-use mathlib.Core.Bool.{true, false}
+use mathlib.Core.Bool.{true}
 use mathlib.Core.List.{List, [], _∷_}
-use Prim.Native.Nat.{ℕ, zero, suc, _+_, _-_}
+use Prim.Native.Nat.{ℕ, zero, suc, _-_}
 use lib.ListN.{length, take}
 use lib.Dec.{ltb}
 use Rattle.model.specs.Range.{inRange}
@@ -15,7 +15,7 @@ use Rattle.model.specs.Steps.{access, send, fill, tick}
 use Rattle.model.specs.Calls.{encoded, freshCall}
 use Rattle.model.specs.Records.{bytes, isCommand, isSettings, lengthOf, commandOf, logBytes}
 use Rattle.model.specs.RunnerOf as runner
-use Rattle.model.specs.Runner.{settingsOf, firstStop, laterStop, keptStop, goesOn, stepRead, stepAt, halt, bytesThen, runFrom, lentResult, run, resume}
+use Rattle.model.specs.Runner.{settingsOf, firstStop, laterStop, keptStop, goesOn, stepRead, stepAt, halt, runFrom, lentResult, run, resume}
 use Rattle.model.specs.Separate.{callRead, callAt, callsFrom, runByCalls, resumeByCalls}
 use Rattle.model.specs.Inner.{Encodes}
 use Rattle.model.specs.declared.Settings.{Settings}
@@ -49,31 +49,6 @@ module _ (S : Settings) (L : Lent) (t : Tables) (is : Encodes S L t) where
 
 -- ---- the records of a stream
 
-module _ (S : Settings) (room k : ℕ) (bs : List ℕ) where
-  module _ (L : Lent) where
-    calls-goes : goesOn (laterStop room k bs) ≡ true
-        → callsFrom S 0 room (k ∷ bs) L
-        ≡ bytesThen (1 + lengthOf k) (logBytes (eventsOf (callAt S k bs L)))
-        (callsFrom S (lengthOf k) (room - length (logBytes (eventsOf (callAt S k bs L)))) bs (after L (callAt S k bs L)))
-    unfolding callsFrom
-    calls-goes z = rw z
-
-    calls-stops : goesOn (laterStop room k bs) ≡ false → callsFrom S 0 room (k ∷ bs) L ≡ halt (laterStop room k bs) L
-    unfolding callsFrom
-    calls-stops z = rw z
-
-  module _ (t : Tables) where
-    from-goes : goesOn (laterStop room k bs) ≡ true
-        → runFrom S 0 room (k ∷ bs) t
-        ≡ bytesThen (1 + lengthOf k) (logBytes (eventsOf (stepAt S k bs t)))
-        (runFrom S (lengthOf k) (room - length (logBytes (eventsOf (stepAt S k bs t)))) bs (after t (stepAt S k bs t)))
-    unfolding runner.runFrom
-    from-goes z = rw z
-
-    from-stops : goesOn (laterStop room k bs) ≡ false → runFrom S 0 room (k ∷ bs) t ≡ halt (laterStop room k bs) t
-    unfolding runner.runFrom
-    from-stops z = rw z
-
 module _ (S : Settings) where
   pub calls-from : (n room : ℕ) (s : List ℕ) (L : Lent) (t : Tables) → bytes s ≡ true → Encodes S L t
       → callsFrom S n room s L ≡ lentResult S (runFrom S n room s t)
@@ -90,8 +65,8 @@ module _ (S : Settings) where
       record { range = is .range; soundly = record-keeps-sound S (is .range) k bs t g (is .soundly); encoded = m } in
       let i = calls-from (lengthOf k) (room - length (logBytes (eventsOf o))) bs (after L (callAt S k bs L)) (after t o) g then in
       ⊎-elim
-      (λ z. calls-goes S room k bs L z ∙ (rw (es, i)) ∙ ap (lentResult S) (sym (from-goes S room k bs t z)))
-      (λ z. calls-stops S room k bs L z ∙ ap (halt (laterStop room k bs)) (is .encoded) ∙ ap (lentResult S) (sym (from-stops S room k bs t z)))
+      (λ z. rw z (rw (es, i)))
+      (λ z. rw z (ap (halt (laterStop room k bs)) (is .encoded)))
       (flag (goesOn (laterStop room k bs)))
 
 -- ---- the first record

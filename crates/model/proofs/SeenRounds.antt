@@ -2,21 +2,20 @@
 -- they were and tells only refusals, and for no others; the calls of document 01 are such, and their rounds settle as `Bound` says.
 use mathlib.Core.Path.{_≡_, refl, sym, ap, subst, _∙_}
 use mathlib.Core.Logic.{inl, inr, ⊎-elim}
-use mathlib.Core.Bool.{Bool, true, false, not, _&&_, false≢true}
+use mathlib.Core.Bool.{Bool, true, false, not, false≢true}
 use mathlib.Core.List.{List, [], _∷_, _++_, map, append-nil}
 use Prim.Native.Nat.{ℕ, zero, suc, _+_}
 use native.Mathlib.Omega.{arith}
-use lib.Dec.{ltb, leb}
 use lib.ListN.{length, getD, List·getD-map, length-append}
 use Rattle.words.specs.Words.{pick, any}
 use Rattle.model.specs.Range.{inRange}
-use Rattle.model.specs.Address.{addressOf, isRead, wellFormed}
+use Rattle.model.specs.Address.{wellFormed}
 use Rattle.model.specs.Tables.{Entry, Tables, Outcome, refused, done, after, accepted, eventsOf, withNow}
 use Rattle.model.specs.Lent.{Lent, lengthsFit, tablesOf}
 use Rattle.model.specs.Sound.{sound}
 use Rattle.model.specs.SoundLent.{soundLent}
-use Rattle.model.specs.Probe.{Place, no, at, metIn}
-use Rattle.model.specs.Steps.{isMerge, isMiss, entryFull, placesNeeded, queues, queuedAs, queuedEvent, accept, proceed, access, sentAs, sendFrom, send, ticketsOf, sentFor, fill}
+use Rattle.model.specs.Probe.{ruleOf}
+use Rattle.model.specs.Steps.{queues, queuedAs, queuedEvent, accept, access, sentAs, sendFrom, send, ticketsOf, sentFor, fill}
 use Rattle.model.specs.Calls.{encoded, call}
 use Rattle.model.specs.Rounds.{Calls, Turn, still, took, isEmpty, steps, calls, Settles, outcomeDrain, outcomeFill, outcomeGoOn, outcomeHeld, outcomeRounds, outcomeSend}
 use Rattle.model.specs.Seen.{SeenCalls, answering, refusing, accepts, but11, comparable, Course, goOn, marks, sendTurn, fillFirst, drain, rounds, struck, heldIn, waits, Demand3, seen, seenSteps, seenCalls}
@@ -29,9 +28,9 @@ use Rattle.model.specs.declared.Event.{Event}
 use Rattle.model.specs.declared.Event.the-variants as event
 use Rattle.model.specs.declared.Refusal.{Refusal}
 use Rattle.model.specs.declared.Refusal.the-variants.{SetHeld}
-use Rattle.words.proofs.Flags.{and-2, not-yes, clash, or-no-1, or-no-2}
+use Rattle.words.proofs.Flags.{and-2, flag, not-yes, clash, or-no-1, or-no-2}
+use Rattle.model.proofs.AccessCases.{access-judged}
 use Rattle.model.proofs.Bound.{rounds-settled}
-use Rattle.words.proofs.Flags.{flag}
 
 -- ---- events but 0x11
 
@@ -112,19 +111,10 @@ pub queued-clear : (qs : List Queued) → any refusing (map queuedEvent qs) ≡ 
 queued-clear [] = refl
 queued-clear (q ∷ qs) = rw (queued-unrefused (q .kind) (q .address) (q .masks)) (queued-clear qs)
 
-proceed-clear : (S : Settings) (x : Access) (t : Tables) (p : Place) → Clear accepts (proceed S x t p)
-unfolding proceed accept
-proceed-clear S x t (no n) = record { clear = refl }
-proceed-clear S x t (at p) =
-    clear-by accepts (ltb (S .queue) (length (t .queue) + placesNeeded x p)) record { clear = refl }
-    (clear-by accepts (isRead x && isMerge (p .answer) && any (entryFull S (addressOf x)) (t .misses)) record { clear = refl }
-    (clear-by accepts (isRead x && isMiss (p .answer) && leb (S .misses) (length (t .misses))) record { clear = refl }
-    record { clear = ap not (queued-clear (queues x p)) }))
-
 pub access-clear : (S : Settings) (x : Access) (t : Tables) → Clear accepts (access S x t)
-unfolding access
+unfolding access accept
 access-clear S x t =
-    clear-by accepts (wellFormed x) (proceed-clear S x t (metIn S x t)) record { clear = refl }
+    access-judged (ruleOf S) S t x (Clear accepts) (λ n. record { clear = refl }) (λ p j. record { clear = ap not (queued-clear (queues x p)) })
 
 encoded-clear : (p : List Event → Bool) (S : Settings) (o : Outcome Tables) → Clear p o → Clear p (encoded S o)
 encoded-clear p S (refused n) c = record { clear = c .clear }
