@@ -13,7 +13,7 @@ use Rattle.model.specs.Kinds as kinds
 use Rattle.model.specs.Records.{recordKindOf}
 use Rattle.model.specs.Sound.{lastCycle}
 use Rattle.model.specs.Probe.{ruleOf}
-use Rattle.model.specs.Steps.{queues, queuedAs, queuedEvent, sentAs, accept, access, sendFrom, send, ticketsOf, sentFor, fill, tick}
+use Rattle.model.specs.Steps.{queues, queuedAs, queuedEvent, sentAs, accept, access, send, ticketsOf, sentFor, fill, tick}
 use Rattle.model.specs.Calls.{eventsTold, inTwo, tidied}
 use Rattle.model.specs.Inner.{SoundSlices, Does}
 use Rattle.model.specs.ReplyShape.{ofAccess, ofSend, ofFill, ofTick, Shaped}
@@ -29,6 +29,7 @@ use Rattle.words.proofs.Flags.{and-1, and-2, clash}
 use Rattle.words.proofs.Places.{length-padTo}
 use Rattle.words.proofs.Lists.{all-append}
 use Rattle.model.proofs.AccessCases.{access-judged}
+use Rattle.model.proofs.SendFillKeepSound.{send-cases}
 use Rattle.encoding.proofs.Bridge.{does-tells}
 
 -- ---- the events behind the first
@@ -80,12 +81,8 @@ access-tells S x t =
     access-judged (ruleOf S) S t x (TellsShape ofAccess queuing) (λ n. record { is = refl }) (λ p j. record { is = all-queuing (queues x p) })
 
 send-tells : (t : Tables) → TellsShape ofSend none (send t)
-unfolding send
-send-tells t = from (t .queue)
-  where
-    from : (qs : List Queued) → TellsShape ofSend none (sendFrom qs t)
-    from [] = record { is = refl }
-    from (q ∷ qs) = record { is = rw (sent-as (q .kind) (q .address) (q .masks)) }
+send-tells t =
+    send-cases t (TellsShape ofSend none) (λ n. record { is = refl }) (λ x q e. record { is = rw (sent-as (x .kind) (x .address) (x .masks)) })
 
 fill-tells : (a : ℕ) (t : Tables) → TellsShape ofFill releasing (fill a t)
 unfolding fill

@@ -79,7 +79,7 @@ reserved-after (Write a m k) n s g =
 
 -- ---- the entries and the queue
 
-abbrev newEntry : ℕ → ℕ → Entry
+abbrev pub newEntry : ℕ → ℕ → Entry
 newEntry a k = record { address = a; sent = false; tickets = k ∷ [] }
 
 join-address : (a k : ℕ) (e : Entry) → join a k e .address ≡ e .address
@@ -89,7 +89,7 @@ join-sent : (a k : ℕ) (e : Entry) → join a k e .sent ≡ e .sent
 join-sent a k e = by-flag (λ (v : Entry). v .sent ≡ e .sent) (entryFor a e) _ _ (λ q. refl) (λ q. refl)
 
 -- what an access queues, and the entries after it: a read that misses has its own, one that merges joins one, another access leaves them
-misses-by : (P : Bool → List Queued → List Entry → Type 0) (x : Access) (n : Answer) (es : List Entry)
+pub misses-by : (P : Bool → List Queued → List Entry → Type 0) (x : Access) (n : Answer) (es : List Entry)
     → (fetching x n ≡ true → (k : ℕ) → P true (reading (addressOf x) ∷ []) (es ++ (newEntry (addressOf x) k ∷ [])))
     → ((isRead x && isMerge n) ≡ true → (k : ℕ) → P false [] (map (join (addressOf x) k) es)) → P false [] es → P (fetching x n) (fetches x n) (onMisses x n es)
 misses-by P (Read a m k) Hit es new joined same = same

@@ -15,7 +15,7 @@ use Rattle.model.specs.Lent.{Lent, lengthsFit, tablesOf}
 use Rattle.model.specs.Sound.{sound}
 use Rattle.model.specs.SoundLent.{soundLent}
 use Rattle.model.specs.Probe.{ruleOf}
-use Rattle.model.specs.Steps.{queues, queuedAs, queuedEvent, accept, access, sentAs, sendFrom, send, ticketsOf, sentFor, fill}
+use Rattle.model.specs.Steps.{queues, queuedAs, queuedEvent, accept, access, sentAs, send, ticketsOf, sentFor, fill}
 use Rattle.model.specs.Calls.{encoded, call}
 use Rattle.model.specs.Rounds.{Calls, Turn, still, took, isEmpty, steps, calls, Settles, outcomeDrain, outcomeFill, outcomeGoOn, outcomeHeld, outcomeRounds, outcomeSend}
 use Rattle.model.specs.Seen.{SeenCalls, answering, refusing, accepts, but11, comparable, Course, goOn, marks, sendTurn, fillFirst, drain, rounds, struck, heldIn, waits, Demand3, seen, seenSteps, seenCalls}
@@ -30,6 +30,7 @@ use Rattle.model.specs.declared.Refusal.{Refusal}
 use Rattle.model.specs.declared.Refusal.the-variants.{SetHeld}
 use Rattle.words.proofs.Flags.{and-2, flag, not-yes, clash, or-no-1, or-no-2}
 use Rattle.model.proofs.AccessCases.{access-judged}
+use Rattle.model.proofs.SendFillKeepSound.{send-cases}
 use Rattle.model.proofs.Bound.{rounds-settled}
 
 -- ---- events but 0x11
@@ -87,12 +88,8 @@ sent-clear queue.Read a ms = refl
 sent-clear queue.WriteBack a ms = refl
 
 pub send-clear : (t : Tables) → Clear unrefused (send t)
-unfolding send
-send-clear t = from (t .queue)
-  where
-    from : (qs : List Queued) → Clear unrefused (sendFrom qs t)
-    from [] = record { clear = refl }
-    from (q ∷ qs) = record { clear = rw (sent-clear (q .kind) (q .address) (q .masks)) }
+send-clear t =
+    send-cases t (Clear unrefused) (λ n. record { clear = refl }) (λ x q e. record { clear = rw (sent-clear (x .kind) (x .address) (x .masks)) })
 
 pub released-clear : (ks : List ℕ) → any refusing (map event.Released ks) ≡ false
 released-clear [] = refl

@@ -12,9 +12,9 @@ use borrow.Author.Tests.{eqb-true, eqb-false, eq-eqb, ne-eqb, le-leb}
 use Rattle.words.specs.Words.{all, any, count, keep, every, one}
 use Rattle.model.specs.Range.{linesOf}
 use Rattle.model.specs.Address.{blockOf, sectorIndex}
-use Rattle.model.specs.Tables.{Line, Entry, Tables, refused, isInvalid, isReserved, whollyInvalid, holds, entryFor, isFetch, empty, fresh, isModified, dirty}
+use Rattle.model.specs.Tables.{Line, Entry, Tables, Outcome, refused, done, isInvalid, isReserved, whollyInvalid, holds, entryFor, isFetch, empty, fresh, isModified, dirty}
 use Rattle.model.specs.Sound.{maskOk, sectorOk, lineOk, alone, reservedOk, readingOf, unsentFor, entryOk, queuedOk}
-use Rattle.model.specs.Steps.{mark, markedFor, marked, afterSend, sendFrom, send, arrived, fillLine, others, afterFill, sentFor, fill, soiled}
+use Rattle.model.specs.Steps.{mark, markedFor, marked, sentEvent, afterSend, sendFrom, send, arrived, fillLine, others, afterFill, sentFor, fill, soiled}
 use Rattle.model.specs.declared.Settings.{Settings}
 use Rattle.model.specs.declared.Status.{Status}
 use Rattle.model.specs.declared.Status.the-variants.{Valid, Modified}
@@ -22,7 +22,8 @@ use Rattle.model.specs.declared.Sector.{Sector}
 use Rattle.model.specs.declared.QueueKind.{QueueKind}
 use Rattle.model.specs.declared.QueueKind.the-variants as queue
 use Rattle.model.specs.declared.Queued.{Queued}
-use Rattle.model.specs.declared.Refusal.the-variants.{NotSent}
+use Rattle.model.specs.declared.Refusal.{Refusal}
+use Rattle.model.specs.declared.Refusal.the-variants.{NotSent, QueueEmpty}
 use Rattle.words.proofs.Flags.{and-1, and-2, and-i, or-unless, flag, not-yes, not-no, no-yes, clash, by-flag, is-same}
 use Rattle.words.proofs.Lists.{In, all-in, in-all, in-any, any-in, in-keep, keep-in, keep-le, not-twice, count-ext, any-ext, count-keep, any-keep, in-getD, all-set, any-set, set-some, map-in, in-map, any-map, all-map, count-map, in-index}
 use Rattle.words.proofs.Below.{every-i}
@@ -109,13 +110,18 @@ module _ (S : Settings) (t : Tables) (x : Queued) (q : List Queued) (at : t .que
       let short = le-leb (length q) (S .queue) (omega (arith, ap length at, few-queued S t ok)) in
       search
 
-pub send-leaves : (S : Settings) (t : Tables) → Sound S t → LeavesSound S (send t)
+-- a send is refused, or takes the head
+pub send-cases : (t : Tables) (P : Outcome Tables → Type 0) → ((n : Refusal) → P (refused n))
+    → ((x : Queued) (q : List Queued) → t .queue ≡ x ∷ q → P (done (sentEvent x ∷ []) (afterSend x q t))) → P (send t)
 unfolding send
-send-leaves S t ok = go (t .queue) refl
+send-cases t P no-call made = go (t .queue) refl
   where
-    go : (q : List Queued) → t .queue ≡ q → LeavesSound S (sendFrom q t)
-    go [] e = tt
-    go (x ∷ q) e = sent-sound S t x q e ok
+    go : (q : List Queued) → t .queue ≡ q → P (sendFrom q t)
+    go [] e = no-call QueueEmpty
+    go (x ∷ q) e = made x q e
+
+pub send-leaves : (S : Settings) (t : Tables) → Sound S t → LeavesSound S (send t)
+send-leaves S t ok = send-cases t (LeavesSound S) (λ n. tt) (λ x q e. sent-sound S t x q e ok)
 
 -- ---- fill
 
