@@ -13,7 +13,7 @@ use Rattle.model.specs.Lent.{Lent, lengthsFit, tablesOf, encode}
 use Rattle.model.specs.SoundLent.{Small}
 use Rattle.model.specs.Steps.{access, send, fill, tick}
 use Rattle.model.specs.Calls.{encoded, freshCall}
-use Rattle.model.specs.Records.{bytes, isCommand, isSettings, lengthOf, commandOf, logBytes}
+use Rattle.model.specs.Records.{bytes, lengthOf, commandOf, logBytes}
 use Rattle.model.specs.RunnerOf as runner
 use Rattle.model.specs.Runner.{settingsOf, firstStop, laterStop, keptStop, goesOn, stepRead, stepAt, halt, runFrom, lentResult, run, resume}
 use Rattle.model.specs.Separate.{callRead, callAt, callsFrom, runByCalls, resumeByCalls}
@@ -23,11 +23,10 @@ use Rattle.model.specs.declared.Access.the-variants.{Read, Write}
 use Rattle.model.specs.declared.Command.the-variants as cmd
 use Rattle.model.specs.declared.CommandRead.{CommandRead}
 use Rattle.model.specs.declared.CommandRead.the-variants as command
-use Rattle.model.specs.declared.Stop.{Stop}
 use Rattle.model.specs.declared.Stop.the-variants.{Nothing}
-use Rattle.words.proofs.Flags.{and-2, clash, by-flag, flag}
+use Rattle.words.proofs.Flags.{and-2, flag}
 use Rattle.model.proofs.Soundness.{start-sound}
-use Rattle.model.proofs.RunSound.{record-keeps-sound}
+use Rattle.model.proofs.RunSound.{record-keeps-sound, first-passes}
 use Rattle.encoding.proofs.Bridge.{call-is, after-encoded, events-encoded}
 use Rattle.encoding.proofs.RunGoesOn.{kept-is}
 
@@ -70,27 +69,6 @@ module _ (S : Settings) where
       (flag (goesOn (laterStop room k bs)))
 
 -- ---- the first record
-
--- its kind, its settings and the lent lengths pass
-pub record Passes (k : ℕ) (S : Settings) (L : Lent) : Type 0 where
-  pub kind : isSettings k ≡ true
-  pub range : inRange S ≡ true
-  pub fits : lengthsFit S L ≡ true
-
-pub first-passes : (L : Lent) (k : ℕ) (s : List ℕ) → goesOn (firstStop L k s) ≡ true → Passes k (settingsOf k s) L
-unfolding runner.firstStop
-first-passes L k s =
-    by-flag Goes (isCommand k) _ _
-    (λ a. by-flag Goes (ltb (length s) (lengthOf k)) _ _ (λ b h. clash h refl)
-    (λ b. by-flag Goes (isSettings k) _ _
-    (λ c. by-flag Goes (inRange (settingsOf k s)) _ _
-    (λ d. by-flag Goes (lengthsFit (settingsOf k s) L) _ _ (λ e h. record { kind = c; range = d; fits = e }) (λ e h. clash h refl))
-    (λ d h. clash h refl))
-    (λ c h. clash h refl)))
-    (λ a h. clash h refl)
-  where
-    Goes : Stop → Type 0
-    Goes n = goesOn n ≡ true → Passes k (settingsOf k s) L
 
 pub fresh-is : (S : Settings) (L : Lent) → inRange S ≡ true → lengthsFit S L ≡ true → Encodes S (after L (freshCall S L)) (start S)
 fresh-is S L range fits = record { range = range; soundly = start-sound S; encoded = rw (range, fits) }

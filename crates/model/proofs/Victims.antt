@@ -121,7 +121,7 @@ pub places-at-most-two : (x : Access) (p : Spot) → length (p .backs) ≤ 1 →
 places-at-most-two x p h = omega (arith, length-append (fetches x (p .answer)) (p .backs), fetches-one x (p .answer))
 
 -- on sound tables a victim's masks are its dirty bytes: a sector's isn't 0 exactly if it is MODIFIED
-mask-says-modified : (c : Status) (m : ℕ) (r : Bool) → isReserved c ≡ false → maskOk c m r ≡ true → not (eqb m 0) ≡ isModified c
+pub mask-says-modified : (c : Status) (m : ℕ) (r : Bool) → isReserved c ≡ false → maskOk c m r ≡ true → not (eqb m 0) ≡ isModified c
 mask-says-modified Invalid m r f h = rw (eqb-true m 0 (and-1 (eqb m 0) r h))
 mask-says-modified Reserved m r f h = absurd (true≢false f)
 mask-says-modified Valid m r f h = rw (eqb-true m 0 (and-1 (eqb m 0) r h))
