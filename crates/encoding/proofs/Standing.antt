@@ -1,8 +1,9 @@
 -- The slices hold the tables number by number: `ByNumber`. Slices of the right lengths do exactly if they are the tables' encoding.
 use mathlib.Core.Path.{_≡_, refl, sym, ap, _∙_}
+use mathlib.Core.Logic.{⊎-elim}
 use mathlib.Core.List.{List, [], _∷_, _++_, map}
-use Prim.Native.Nat.{ℕ, zero, suc, _+_, _*_, _≤_, _<_}
-use native.Mathlib.Nat.{not-suc-le-zero, le-of-suc-le-suc, mul-zero, mul-suc, zero-add, add-zero}
+use Prim.Native.Nat.{ℕ, zero, suc, _+_, _*_, _/_, _%_, _≤_, _<_}
+use native.Mathlib.Nat.{not-suc-le-zero, le-of-suc-le-suc, mul-zero, mul-suc, mul-comm, zero-add, add-zero, div-add-mod, div-lt-iff-lt-mul, mod-lt}
 use native.Mathlib.Omega.{arith}
 use lib.ListN.{length, getD, length-append, length-map, List·getD-append, List·getD-eq-default}
 use lib.Seq.{getD-append-add}
@@ -14,8 +15,9 @@ use Rattle.model.specs.Tables.{Tables}
 use Rattle.model.specs.Lent.{Lent, encode, tagOf, cycleOf, takenOf, treeOf, masksOf, statusesOf, readablesOf, missOf, sentOf, ticketCountOf, ticketsIn, queuedOf, kindOf, queueMasksOf, longBlocks, wordBlocks, markBlocks}
 use Rattle.words.specs.Regions.{region, offsetIn}
 use Rattle.words.proofs.Places.{length-padTo, length-places, block-get, stride, padTo-get}
+use Rattle.words.proofs.Below.{lt-or-ge}
 use Rattle.words.proofs.Lists.{getD-map-in}
-use Rattle.words.proofs.Tabled.{table-append}
+use Rattle.words.proofs.Tabled.{table-list}
 use Rattle.encoding.proofs.Slices.{long-sizes, word-sizes, mark-sizes, begins, regions-joined, region-table}
 use Rattle.encoding.proofs.LentSoundFacts.{tag, cycle, taken, status, mask, readable, miss, sent, ticketCount, ticket, queued, kind, queueMask, now, dirtyCount, tree}
 
@@ -39,12 +41,6 @@ module _ {A : Type 0} (g : A → List ℕ) where
 
 -- ---- places
 
-table-fit : (w : ℕ) (f : ℕ → ℕ) (l : List ℕ) → ((k : ℕ) → k < w → f k ≡ getD l k 0) → table w f ≡ padTo w l
-unfolding table padTo
-table-fit zero f l h = refl
-table-fit (suc w) f [] h = rw (h 0 (omega arith), table-fit w (λ k. f (suc k)) [] (λ k j. h (suc k) (omega arith)))
-table-fit (suc w) f (x ∷ l) h = rw (h 0 (omega arith), table-fit w (λ k. f (suc k)) l (λ k j. h (suc k) (omega arith)))
-
 first-place : (w k : ℕ) (l r : List ℕ) → k < w → getD (padTo w l ++ r) (w * 0 + k) 0 ≡ getD l k 0
 first-place w k l r h =
     rw (mul-zero, zero-add) (List·getD-append (padTo w l) r 0 k (rw length-padTo h) ∙ padTo-get w l k h)
@@ -64,24 +60,15 @@ module _ {A : Type 0} (g : A → List ℕ) (w : ℕ) where
   places-field (suc n) zero k (x ∷ xs) h j = first-place w k (g x) (packed g w n xs) j
   places-field (suc n) (suc e) k (x ∷ xs) h j = later-place w e k (g x) (packed g w n xs) ∙ places-field n e k xs (le-of-suc-le-suc h) j
 
-  later-numbers : (f : ℕ → ℕ) (e k : ℕ) → f (w + (w * e + k)) ≡ f (w * suc e + k)
-  later-numbers f e k = let q : w + (w * e + k) ≡ w * suc e + k = rw mul-suc (omega arith) in ap f q
-
-  first-numbers : (f : ℕ → ℕ) (k : ℕ) → f k ≡ f (w * 0 + k)
-  first-numbers f k = rw (mul-zero, zero-add)
-
-  table-step : (n : ℕ) (l : List ℕ) (f : ℕ → ℕ) {r : List ℕ} → ((k : ℕ) → k < w → f (w * 0 + k) ≡ getD l k 0) → table (w * n) (λ i. f (w + i)) ≡ r
-      → table (w * suc n) f ≡ padTo w l ++ r
-  table-step n l f first rest =
-      let q : w * suc n ≡ w + w * n = rw mul-suc (omega arith) in
-      ap (λ (m : ℕ). table m f) q ∙ table-append w (w * n) f ∙ rw (table-fit w f l (λ k j. first-numbers f k ∙ first k j), rest)
-
   table-places : (n : ℕ) (xs : List A) (f : ℕ → ℕ)
       → ((e k : ℕ) → e < n → k < w → f (w * e + k) ≡ field g xs e k) → table (w * n) f ≡ packed g w n xs
-  unfolding packed table field
-  table-places zero xs f h = rw mul-zero
-  table-places (suc n) [] f h = table-step n [] f (λ k j. h 0 k (omega arith) j) (table-places n [] (λ i. f (w + i)) (λ e k i j. later-numbers f e k ∙ h (suc e) k (omega arith) j))
-  table-places (suc n) (x ∷ xs) f h = table-step n (g x) f (λ k j. h 0 k (omega arith) j) (table-places n xs (λ i. f (w + i)) (λ e k i j. later-numbers f e k ∙ h (suc e) k (omega arith) j))
+  table-places n xs f h =
+      table-list (w * n) f (packed g w n xs) 0 (length-places g w n xs) (λ i b.
+      let pos : 1 ≤ w = ⊎-elim (λ l. l) (λ z. let q : w ≡ 0 = omega arith in let c : i < 0 * n = rw q at b in absurd (omega arith)) (lt-or-ge 0 w) in
+      let e : i / w < n = div-lt-iff-lt-mul pos .1 (rw mul-comm at b) in
+      let q : w * (i / w) + i % w ≡ i = div-add-mod i w in
+      ap f (sym q) ∙ h (i / w) (i % w) e (mod-lt i pos) ∙ sym (places-field n (i / w) (i % w) xs e (mod-lt i pos))
+      ∙ ap (λ (j : ℕ). getD (packed g w n xs) j 0) q)
 
 -- a place of one number
 table-singles : {A : Type 0} (g : A → List ℕ) (n : ℕ) (xs : List A) (f : ℕ → ℕ)
