@@ -181,11 +181,7 @@ module _ (S : Settings) (L : Lent) (t : Tables) (st : ByNumber S L t) where
 
   pub standing-encodes : length (L .longs) ≡ longsLength S → length (L .words) ≡ wordsLength S → length (L .marks) ≡ marksLength S → L ≡ encode S t
   unfolding encode
-  standing-encodes a b c = same (longs-stand a) (words-stand b) (marks-stand c)
-    where
-      same : {longs words marks : List ℕ} → L .longs ≡ longs → L .words ≡ words → L .marks ≡ marks
-          → L ≡ record { longs = longs; words = words; marks = marks }
-      same p q r = rw (← p, ← q, ← r)
+  standing-encodes a b c = rw (← longs-stand a, ← words-stand b, ← marks-stand c)
 
 -- the encoding has the right lengths
 pub encode-lengths : (S : Settings) (t : Tables)
