@@ -108,9 +108,6 @@ module _ (R : Rules) (S : Settings) (t : Tables) (x : Access) where
 
     pub access-leaves : maskOf x ≤ allOnes → LeavesSound S (accessUnder R S x t)
     unfolding accept
-    access-leaves small = access-cases (LeavesSound S) (λ n. tt) made
-      where
-        made : (p : Spot) → Accepted R S t x p → LeavesSound S (accept S x p t)
-        made p a =
-            let j = a .judged in
-            taken-sound S t ok x (j .formed) small p (a .spotted) (ranged S range .reader) (j .joins) (j .enters) (j .roomy) range
+    access-leaves small =
+        access-cases (LeavesSound S) (λ n. tt) (λ p a. let j = a .judged in
+        taken-sound S t ok x (j .formed) small p (a .spotted) (ranged S range .reader) (j .joins) (j .enters) (j .roomy) range)

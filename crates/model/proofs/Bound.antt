@@ -183,12 +183,8 @@ module _ (S : Settings) (x : Access) where
         let l : LeavesAtMost S (size t - 1) u = drain-less t ok in
         let e : u .queue ≡ [] = none-of (u .queue) (omega arith) in
         let m : u .misses ≡ [] = none-of (u .misses) (omega arith) in
-        go e m (access-settles S u (l .ok) m range x e formed)
-      where
-        go : (outcomeDrain C t .left) .queue ≡ [] → (outcomeDrain C t .left) .misses ≡ []
-            → (accepted (access S x (outcomeDrain C t .left)) ≡ true) ⊎ (access S x (outcomeDrain C t .left) ≡ refused SetHeld) → SettledBy 0 t
-        go e m (inl a) = inl (rw (rounds-more 0 t) (offer-taken (outcomeDrain C t) (outcomeRounds C 0) (access S x (outcomeDrain C t .left)) a))
-        go e m (inr a) = inr (λ j. rw (zero-add j) (held-at-rest t (outcomeDrain C t .left) refl e m a j))
+        ⊎-elim (λ a. inl (rw (rounds-more 0 t) (offer-taken (outcomeDrain C t) (outcomeRounds C 0) (access S x u) a)))
+        (λ a. inr (λ j. rw (zero-add j) (held-at-rest t u refl e m a j))) (access-settles S u (l .ok) m range x e formed)
     rounds-settle (suc n) t ok h =
         let l : LeavesAtMost S (size t - 1) (outcomeDrain C t .left) = drain-less t ok in
         go (access S x (outcomeDrain C t .left)) refl (rounds-settle n (outcomeDrain C t .left) (l .ok) (omega arith))

@@ -13,7 +13,7 @@ use Rattle.words.specs.Words.{all, any, count, every, same, imp}
 use Rattle.model.specs.Range.{inRange, linesOf, isTree}
 use Rattle.model.specs.Tree.{treeFine}
 use Rattle.model.specs.Address.{blockOf, sectorIndex, lineNumber, addressOf, goodBlock}
-use Rattle.model.specs.Tables.{Line, Entry, Tables, start, refused, isInvalid, isReserved, isModified, whollyInvalid, hasReserved, dirty, holds, entryFor, empty, fresh, withNow}
+use Rattle.model.specs.Tables.{Line, Entry, Tables, start, refused, isInvalid, isReserved, isModified, whollyInvalid, hasReserved, dirty, holds, entryFor, empty, fresh}
 use Rattle.model.specs.Sound.{allOnes, lastCycle, maskOk, sectorOk, lineOk, alone, reservedOk, readingOf, entryOk, queuedOk}
 use Rattle.model.specs.Probe.{Rule, columnOf, answerAt, answerOf, waysOf, enoughDirty, candidate, Spot, at, writeBack, probe, ruleOf, metIn}
 use Rattle.model.specs.Steps.{isMerge, isMiss, onSector, fetches, tick}
@@ -220,17 +220,14 @@ module _ (S : Settings) (t : Tables) (ok : Sound S t) (some-ways : 1 ≤ S .ways
 
 pub tick-leaves : (S : Settings) (t : Tables) → Sound S t → (c : ℕ) → LeavesSound S (tick c t)
 unfolding tick entryOk
-tick-leaves S t ok c = by-flag (LeavesSound S) (ltb c (t .now) || ltb lastCycle c) (refused BadCycle) _ (λ e. tt) go
-  where
-    later : {i : ℕ} {l : Line} → t .now ≤ c → LineIs S (t .now) i l → LineIs S c i l
-    later {i} {l} h k = let past = le-leb (l .cycle) c (omega (arith, leb-true (l .cycle) (t .now) (k .past))) in search
-
-    go : (ltb c (t .now) || ltb lastCycle c) ≡ false → Sound S (withNow c t)
-    go e =
-        let time = le-leb c lastCycle (ltb-false lastCycle c (or-no-2 (ltb c (t .now)) (ltb lastCycle c) e)) in
-        let lined = every-i (λ i. lineOk S c i (getD (t .lines) i fresh)) (linesOf S)
-        (λ i h. line-whole S c i _ (later (ltb-false c (t .now) (or-no-1 (ltb c (t .now)) (ltb lastCycle c) e)) (line-at S t ok i (rw (lines-are S t ok) h)))) in
-        search
+tick-leaves S t ok c =
+    by-flag (LeavesSound S) (ltb c (t .now) || ltb lastCycle c) (refused BadCycle) _ (λ e. tt) (λ e.
+    let time = le-leb c lastCycle (ltb-false lastCycle c (or-no-2 (ltb c (t .now)) (ltb lastCycle c) e)) in
+    let lined = every-i (λ i. lineOk S c i (getD (t .lines) i fresh)) (linesOf S) (λ i h.
+    let k : LineIs S (t .now) i (getD (t .lines) i fresh) = line-at S t ok i (rw (lines-are S t ok) h) in
+    let past = le-leb (getD (t .lines) i fresh .cycle) c (omega (arith, leb-true _ (t .now) (k .past), ltb-false c (t .now) (or-no-1 (ltb c (t .now)) (ltb lastCycle c) e))) in
+    line-whole S c i _ (search)) in
+    search)
 
 -- a tree of 0 under every rule
 blank-fine : (b : Bool) (ways : ℕ) → treeFine b ways 0 ≡ true

@@ -141,15 +141,11 @@ module _ {T : Type 0} (C : Calls T) (clear : (t : T) → Clear accepts (C .offer
   A = actsOf C
 
   quiet-acts : Quiet A
-  quiet-acts = record { tells = λ t. tells t (C .offers t) (clear t); leaves = λ t. leaves t (C .offers t) (clear t) }
+  quiet-acts = record { tells = λ t h. idle t (C .offers t) (clear t) h .0; leaves = λ t h. idle t (C .offers t) (clear t) h .1 }
     where
-      tells : (t : T) (o : Outcome T) → Clear accepts o → accepts (eventsOf o) ≡ false → but11 (eventsOf o) ≡ []
-      tells t (refused n) c h = refl
-      tells t (done es u) c h = clash (c .clear) h
-
-      leaves : (t : T) (o : Outcome T) → Clear accepts o → accepts (eventsOf o) ≡ false → after t o ≡ t
-      leaves t (refused n) c h = refl
-      leaves t (done es u) c h = clash (c .clear) h
+      idle : (t : T) (o : Outcome T) → Clear accepts o → accepts (eventsOf o) ≡ false → (but11 (eventsOf o) ≡ []) × (after t o ≡ t)
+      idle t (refused n) c h = (refl, refl)
+      idle t (done es u) c h = clash (c .clear) h
 
   -- ---- the tables and the offers are those of the rounds that `Bound` speaks of
 
@@ -166,33 +162,27 @@ module _ {T : Type 0} (C : Calls T) (clear : (t : T) → Clear accepts (C .offer
   unfolding drain outcomeDrain
   drained-left t = rw (sent-left t) (filled-left (C .tables (outcomeSend C t .left) .misses) (outcomeSend C t .left))
 
-  rounds-offers : (n : ℕ) (t : T) → rounds A n t .offers ≡ map eventsOf (outcomeRounds C n t .offers)
+  -- the offers of n rounds, and whether one of them is accepted
+  abbrev SameOffers : List (List Event) → List (Outcome T) → Type 0
+  SameOffers es os = (es ≡ map eventsOf os) × (any accepts es ≡ any accepted os)
+
+  rounds-offers : (n : ℕ) (t : T) → SameOffers (rounds A n t .offers) (outcomeRounds C n t .offers)
   unfolding rounds outcomeRounds
-  rounds-offers zero t = refl
+  rounds-offers zero t = (refl, refl)
   rounds-offers (suc n) t = rw (drained-left t) (go (C .offers (outcomeDrain C t .left)) (clear (outcomeDrain C t .left)) (rounds-offers n (outcomeDrain C t .left)))
     where
-      go : (o : Outcome T) → Clear accepts o → rounds A n (outcomeDrain C t .left) .offers ≡ map eventsOf (outcomeRounds C n (outcomeDrain C t .left) .offers)
-          → goOn (drain A t) (seen (outcomeDrain C t .left) o) (rounds A n) .offers ≡ map eventsOf (outcomeGoOn (outcomeDrain C t) (outcomeRounds C n) o .offers)
-      go (refused k) c ih = ap (λ (os : List (List Event)). (event.Refused k ∷ []) ∷ os) ih
-      go (done es v) c ih = rw (c .clear)
-
-  accepted-same : (n : ℕ) (t : T) → any accepts (rounds A n t .offers) ≡ any accepted (outcomeRounds C n t .offers)
-  unfolding rounds outcomeRounds
-  accepted-same zero t = refl
-  accepted-same (suc n) t = rw (drained-left t) (go (C .offers (outcomeDrain C t .left)) (clear (outcomeDrain C t .left)) (accepted-same n (outcomeDrain C t .left)))
-    where
-      go : (o : Outcome T) → Clear accepts o → any accepts (rounds A n (outcomeDrain C t .left) .offers) ≡ any accepted (outcomeRounds C n (outcomeDrain C t .left) .offers)
-          → any accepts (goOn (drain A t) (seen (outcomeDrain C t .left) o) (rounds A n) .offers) ≡ any accepted (outcomeGoOn (outcomeDrain C t) (outcomeRounds C n) o .offers)
-      go (refused k) c ih = ih
-      go (done es v) c ih = rw (c .clear)
+      go : (o : Outcome T) → Clear accepts o → SameOffers (rounds A n (outcomeDrain C t .left) .offers) (outcomeRounds C n (outcomeDrain C t .left) .offers)
+          → SameOffers (goOn (drain A t) (seen (outcomeDrain C t .left) o) (rounds A n) .offers) (outcomeGoOn (outcomeDrain C t) (outcomeRounds C n) o .offers)
+      go (refused k) c ih = (ap (λ (os : List (List Event)). (event.Refused k ∷ []) ∷ os) (ih .0), ih .1)
+      go (done es v) c ih = rw (c .clear) (refl, refl)
 
   held-seen : (n : ℕ) (t : T) → outcomeHeld C n t → heldIn A n t
-  held-seen n t h = rw (rounds-offers (suc n) t) (List·getD-map eventsOf (outcomeRounds C (suc n) t .offers) n (done [] t) ∙ ap eventsOf h)
+  held-seen n t h = rw (rounds-offers (suc n) t .0) (List·getD-map eventsOf (outcomeRounds C (suc n) t .offers) n (done [] t) ∙ ap eventsOf h)
 
   pub demand-seen : (t : T) → Settles C t → Demand3 A t
   demand-seen t d = record {
     settles = ⊎-elim
-        (λ h. inl (accepted-same (suc (waits A t)) t ∙ h))
+        (λ h. inl (rounds-offers (suc (waits A t)) t .1 ∙ h))
         (λ h. inr (λ j. held-seen (waits A t + j) t (h j)))
         (d .settles);
     strikes = λ n. struck-same A quiet-acts n t;
@@ -251,13 +241,13 @@ calls-clear S x = record {
 
 -- the rounds on slices, as they are seen, are those of the calls as outcomes
 pub lent-offers : (S : Settings) (x : Access) (n : ℕ) (L : Lent) → rounds (seenCalls S x) n L .offers ≡ map eventsOf (outcomeRounds (calls S x) n L .offers)
-lent-offers S x = rounds-offers (calls S x) (calls-clear S x .offers)
+lent-offers S x n L = rounds-offers (calls S x) (calls-clear S x .offers) n L .0
 
 pub lent-turn : (S : Settings) (x : Access) (n : ℕ) (L : Lent) → comparable (rounds (seenCalls S x) n L .turn) ≡ outcomeRounds (calls S x) n L .turn
 lent-turn S x = rounds-turn (calls S x) (calls-clear S x)
 
 pub lent-accepted : (S : Settings) (x : Access) (n : ℕ) (L : Lent) → any accepts (rounds (seenCalls S x) n L .offers) ≡ any accepted (outcomeRounds (calls S x) n L .offers)
-lent-accepted S x = accepted-same (calls S x) (calls-clear S x .offers)
+lent-accepted S x n L = rounds-offers (calls S x) (calls-clear S x .offers) n L .1
 
 -- ---- demand 3: any settings in range, any sound tables, any well-formed access
 

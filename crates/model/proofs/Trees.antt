@@ -5,7 +5,7 @@ use mathlib.Core.Logic.{_⊎_, inl, inr, ⊎-elim}
 use mathlib.Core.Bool.{Bool, true, false, _&&_}
 use mathlib.Core.List.{List, [], _∷_}
 use Prim.Native.Nat.{ℕ, zero, suc, _+_, _*_, _-_, _/_, _%_, _^_, _≤_, _<_}
-use native.Mathlib.Nat.{pow-suc, mul-assoc, add-mul, add-zero, mul-le-mul, eq-or-lt-of-le, le-of-suc-le-suc}
+use native.Mathlib.Nat.{pow-suc, mul-assoc, add-zero, mul-le-mul, eq-or-lt-of-le, le-of-suc-le-suc}
 use native.Mathlib.Omega.{arith}
 use lib.Pow.{pow-pos, high}
 use lib.Dec.{eqb, leb, ltb}
@@ -66,16 +66,12 @@ module _ (p : ℕ → Bool) (t : ℕ) where
   unfolding goes
   goes-well k n first e =
       by-flag (λ (h : ℕ). someFrom p (first + h * 2 ^ k) (2 ^ k) ≡ true) (someFrom p (first + named t n * 2 ^ k) (2 ^ k)) (named t n) (1 - named t n)
-      (λ y. y) (λ none. other (halves (bit-two t (n - 1))) none)
-    where
-      other : (named t n ≡ 0) ⊎ (named t n ≡ 1) → someFrom p (first + named t n * 2 ^ k) (2 ^ k) ≡ false
-          → someFrom p (first + (1 - named t n) * 2 ^ k) (2 ^ k) ≡ true
-      other (inl z) none =
-          let none' : someFrom p (first + 0 * 2 ^ k) (2 ^ k) ≡ false = rw z at none in
-          rw z (⊎-elim (λ y. clash y none') (λ y. y) (in-half p k first e))
-      other (inr z) none =
-          let none' : someFrom p (first + 1 * 2 ^ k) (2 ^ k) ≡ false = rw z at none in
-          rw z (⊎-elim (λ y. y) (λ y. clash y none') (in-half p k first e))
+      (λ y. y) (λ none. ⊎-elim
+      (λ z. let zero-none : someFrom p (first + 0 * 2 ^ k) (2 ^ k) ≡ false = rw z at none in
+      rw z (⊎-elim (λ y. clash y zero-none) (λ y. y) (in-half p k first e)))
+      (λ z. let one-none : someFrom p (first + 1 * 2 ^ k) (2 ^ k) ≡ false = rw z at none in
+      rw z (⊎-elim (λ y. y) (λ y. clash y one-none) (in-half p k first e)))
+      (halves (bit-two t (n - 1))))
 
   -- one of the ways of the span
   pub descent-is-way : (k n first : ℕ) → (first ≤ descent p t k n first) × (descent p t k n first < first + 2 ^ k)
@@ -185,8 +181,6 @@ module _ (k n first w : ℕ) (from : first ≤ w) (to : w < first + 2 ^ suc k) w
   leaf-same =
       let h : ℕ = sideOf k first w in
       let e : n * 2 ^ suc k ≡ n * 2 ^ k * 2 = ap (λ (x : ℕ). n * x) (pow-suc 2 k) ∙ sym (mul-assoc n (2 ^ k) 2) in
-      let c : (2 * n + h) * 2 ^ k ≡ 2 * n * 2 ^ k + h * 2 ^ k = add-mul (2 * n) h (2 ^ k) in
-      let a : 2 * n * 2 ^ k ≡ 2 * (n * 2 ^ k) = mul-assoc 2 n (2 ^ k) in
       omega (arith, path-leads k first w from to)
 
   leaf-node : n ≡ leaf (suc k) n first w / 2 ^ suc k
@@ -250,16 +244,7 @@ nodes-down n k N l =
     let d = pow-suc 2 k in
     let e : n * 2 ^ suc k ≡ n * 2 ^ k * 2 = ap (λ (x : ℕ). n * x) d ∙ sym (mul-assoc n (2 ^ k) 2) in
     let m : n * 1 ≤ n * 2 ^ k = mul-le-mul (omega arith) (pow-pos k) in
-    (omega (arith, pow-pos k), λ h b. ⊎-elim (λ z. rw z (below 0 (omega arith))) (λ z. rw z (below 1 (omega arith))) (halves b))
-  where
-    below : (h : ℕ) → h < 2 → (2 * n + h) * 2 ^ k + 2 ^ k ≤ N * 2
-    below h b =
-        let d = pow-suc 2 k in
-        let e : n * 2 ^ suc k ≡ n * 2 ^ k * 2 = ap (λ (x : ℕ). n * x) d ∙ sym (mul-assoc n (2 ^ k) 2) in
-        let c : (2 * n + h) * 2 ^ k ≡ 2 * n * 2 ^ k + h * 2 ^ k = add-mul (2 * n) h (2 ^ k) in
-        let a : 2 * n * 2 ^ k ≡ 2 * (n * 2 ^ k) = mul-assoc 2 n (2 ^ k) in
-        let g : h * 2 ^ k ≤ 1 * 2 ^ k = mul-le-mul (omega arith) (omega arith) in
-        omega arith
+    (omega (arith, pow-pos k), λ h b. let g : h * 2 ^ k ≤ 1 * 2 ^ k = mul-le-mul (omega arith) (omega arith) in omega arith)
 
 pub turned-below : (N t k n first w : ℕ) → 1 ≤ n → n * 2 ^ k + 2 ^ k ≤ N * 2 → t < 2 ^ (N - 1) → turned t k n first w < 2 ^ (N - 1)
 unfolding turned
