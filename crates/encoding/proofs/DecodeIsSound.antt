@@ -1,7 +1,6 @@
 -- Sound slices: tables that stand in them are sound, and those that are read off them do stand in them.
 use mathlib.Core.Path.{_≡_, refl, sym, ap, _∙_}
 use mathlib.Core.Logic.{⊎-elim}
-use mathlib.Core.Bool.{true}
 use mathlib.Core.List.{List, map}
 use Prim.Native.Nat.{ℕ, zero, suc, _+_, _*_, _/_, _%_, _^_, _≤_, _<_}
 use native.Mathlib.Nat.{add-zero, mul-comm, mul-add-mod-self-left, mod-eq-of-lt}
@@ -12,11 +11,11 @@ use lib.Arith.{digits-div}
 use borrow.Author.Tests.{eqb-true, eq-eqb}
 use Rattle.model.specs.declared.Settings.{Settings}
 use Rattle.model.specs.declared.Sector.{Sector}
-use Rattle.words.specs.Words.{table, some}
+use Rattle.words.specs.Words.{table}
 use Rattle.model.specs.Numbers.{statusNumber, statusOf, queueKindNumber, queueKindOf}
 use Rattle.model.specs.Range.{linesOf}
 use Rattle.model.specs.Address.{blockOf, sectorIndex, setIndex}
-use Rattle.model.specs.Tables.{Line, Entry, Tables, isReserved, entryFor, idle, fresh, noEntry}
+use Rattle.model.specs.Tables.{Line, Entry, Tables, entryFor, idle, fresh, noEntry}
 use Rattle.model.specs.Layout.{wordsFrom, queueMaskRegion}
 use Rattle.model.specs.Lent.{Lent, bit, tagOf, cycleOf, masksOf, statusesOf, readablesOf, missOf, sentOf, ticketCountOf, ticketsIn, queuedOf, kindOf, queueMasksOf, inUse, sectorAt, sectorsAt, lineAt, entryAt, queueAt, tablesOf, takenOf, treeOf}
 pub use Rattle.model.specs.SoundLent.{Small}
@@ -83,31 +82,30 @@ module _ (S : Settings) (L : Lent) (t : Tables) (st : ByNumber S L t) (sh : Shap
 
   -- a sector of a line that lives is RESERVED exactly if an entry has its address
   agrees : (l : ℕ) → l < linesOf S → Agrees S t l
-  agrees l h v k j = iff to fro ∙ sym (any-get (entryFor (line t l .tag + 32 * k)) (t .misses) noEntry)
-    where
-      to : isReserved (sector t l k .status) ≡ true → some (length (t .misses)) (λ e. entryFor (line t l .tag + 32 * k) (entry t e)) ≡ true
-      to r =
-          let q : status S L (4 * l + k) ≡ 1 = status-is S L t st sh l k h j ∙ eqb-true _ _ (reserved-number (sector t l k .status) ∙ r) in
-          let (e, b, (u, a)) = is .sectors (4 * l + k) (omega arith) .backed q in
-          let x : (4 * l + k) / 4 ≡ l = omega arith in
-          let y : (4 * l + k) % 4 ≡ k = omega arith in
-          let z : miss S L e ≡ tag S L l + 32 * k = rw (x, y) at a in
-          some-i (λ e. entryFor (line t l .tag + 32 * k) (entry t e)) (length (t .misses)) e (entry-in S L t st sh e b u)
-          (eq-eqb _ _ (sym (miss-is S L t st sh e b) ∙ z ∙ ap (λ (n : ℕ). n + 32 * k) (tag-is S L t st sh l h)))
-
-      fro : some (length (t .misses)) (λ e. entryFor (line t l .tag + 32 * k) (entry t e)) ≡ true → isReserved (sector t l k .status) ≡ true
-      fro s =
-          let (e, i, q) = some-at (λ e. entryFor (line t l .tag + 32 * k) (entry t e)) (length (t .misses)) s in
-          let b : e < S .misses = omega (arith, sh .few) in
-          let a : miss S L e ≡ tag S L l + 32 * k =
-          miss-is S L t st sh e b ∙ eqb-true _ _ q ∙ ap (λ (n : ℕ). n + 32 * k) (sym (tag-is S L t st sh l h)) in
-          let (n, c, w) = is .entries e b .backed (in-entry S L t st sh e i) in
-          let even : tag S L l % 128 ≡ 0 = is .lines l h .block (live-i S L t st sh l h v) .even in
-          let same : tag S L n ≡ tag S L l = w .has ∙ omega arith in
-          let k-is : sectorIndex (miss S L e) ≡ k = omega arith in
-          let n-is : n ≡ l = one-line S L is n l c h (w .lives) (live-i S L t st sh l h v) same in
-          let waits : status S L (4 * l + k) ≡ 1 = rw (n-is, k-is) at (w .waits) in
-          sym (reserved-number (sector t l k .status)) ∙ eq-eqb _ _ (sym (status-is S L t st sh l k h j) ∙ waits)
+  agrees l h v k j =
+      let x = status-is S L t st sh l k h j in
+      let t-is = tag-is S L t st sh l h in
+      iff
+      (λ r.
+      let q : status S L (4 * l + k) ≡ 1 = x ∙ eqb-true _ _ (reserved-number (sector t l k .status) ∙ r) in
+      let (e, b, (u, a)) = is .sectors (4 * l + k) (omega arith) .backed q in
+      let y : (4 * l + k) / 4 ≡ l = omega arith in
+      let z : (4 * l + k) % 4 ≡ k = omega arith in
+      let m : miss S L e ≡ tag S L l + 32 * k = rw (y, z) at a in
+      some-i (λ e. entryFor (line t l .tag + 32 * k) (entry t e)) (length (t .misses)) e (entry-in S L t st sh e b u)
+      (eq-eqb _ _ (sym (miss-is S L t st sh e b) ∙ m ∙ ap (λ (n : ℕ). n + 32 * k) t-is)))
+      (λ s.
+      let (e, i, q) = some-at (λ e. entryFor (line t l .tag + 32 * k) (entry t e)) (length (t .misses)) s in
+      let b : e < S .misses = omega (arith, sh .few) in
+      let a : miss S L e ≡ tag S L l + 32 * k = miss-is S L t st sh e b ∙ eqb-true _ _ q ∙ ap (λ (n : ℕ). n + 32 * k) (sym t-is) in
+      let (n, c, w) = is .entries e b .backed (in-entry S L t st sh e i) in
+      let even : tag S L l % 128 ≡ 0 = is .lines l h .block (live-i S L t st sh l h v) .even in
+      let same : tag S L n ≡ tag S L l = w .has ∙ omega arith in
+      let k-is : sectorIndex (miss S L e) ≡ k = omega arith in
+      let n-is : n ≡ l = one-line S L is n l c h (w .lives) (live-i S L t st sh l h v) same in
+      let waits : status S L (4 * l + k) ≡ 1 = rw (n-is, k-is) at (w .waits) in
+      sym (reserved-number (sector t l k .status)) ∙ eq-eqb _ _ (sym x ∙ waits))
+      ∙ sym (any-get (entryFor (line t l .tag + 32 * k)) (t .misses) noEntry)
 
   -- ---- entries and the queue
 

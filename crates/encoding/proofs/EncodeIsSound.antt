@@ -17,7 +17,7 @@ use Rattle.model.specs.Range.{linesOf}
 use Rattle.model.specs.Address.{sectorIndex}
 use Rattle.model.specs.Tables.{Entry, Tables, isInvalid, isReserved, whollyInvalid, entryFor, idle, noEntry}
 use Rattle.model.specs.Lent.{Lent, bit}
-use Rattle.words.proofs.Flags.{flag, clash}
+use Rattle.words.proofs.Flags.{flag, no-yes, clash}
 use Rattle.words.proofs.Below.{every-at, some-at, some-i, lt-or-ge}
 use Rattle.model.proofs.Answers.{status-below}
 use Rattle.model.proofs.ProbeFindsSpot.{reserved-used}
@@ -70,11 +70,8 @@ module _ (S : Settings) (L : Lent) (t : Tables) (st : ByNumber S L t) (so : Soun
   -- ---- sectors
 
   reserved-lives : (l k : ℕ) → l < linesOf S → k < 4 → isReserved (sector t l k .status) ≡ true → Lives S t l
-  reserved-lives l k h j r =
-      ⊎-elim
-      (λ u. clash (every-at (λ k. isInvalid (sector t l k .status)) 4 k (sym (unused-is S L t st sh l h) ∙ u) j) (reserved-used (sector t l k .status) r))
-      (λ u. u)
-      (flag (whollyInvalid (line t l)))
+  reserved-lives l k h j r = no-yes (λ u.
+      clash (every-at (λ k. isInvalid (sector t l k .status)) 4 k (sym (unused-is S L t st sh l h) ∙ u) j) (reserved-used (sector t l k .status) r))
 
   sector-is : (l k : ℕ) → l < linesOf S → k < 4 → SectorIs S L (4 * l + k)
   sector-is l k h j =
@@ -88,21 +85,16 @@ module _ (S : Settings) (L : Lent) (t : Tables) (st : ByNumber S L t) (so : Soun
         clean = λ c. m ∙ f .clean (rw x at c);
         dirty = λ c z. f .dirty (sym x ∙ c) (sym m ∙ z);
         unreadable = λ z. let w = f .unreadable (sym r ∙ z) in (x ∙ w .0, λ q. w .1 (sym m ∙ q));
-        backed = λ q. backed q;
+        backed = λ q.
+            let held : isReserved (sector t l k .status) ≡ true = sym (reserved-number (sector t l k .status)) ∙ eq-eqb _ _ (sym x ∙ q) in
+            let a : any (entryFor (line t l .tag + 32 * k)) (t .misses) ≡ true = sym (so .agrees l h (reserved-lives l k h j held) k j) ∙ held in
+            let (e, i, w) = some-at (λ e. entryFor (line t l .tag + 32 * k) (entry t e)) (length (t .misses))
+            (sym (any-get (entryFor (line t l .tag + 32 * k)) (t .misses) noEntry) ∙ a) in
+            let b : e < S .misses = omega (arith, so .few) in
+            let y : (4 * l + k) / 4 ≡ l = omega arith in
+            let z : (4 * l + k) % 4 ≡ k = omega arith in
+            (e, b, (in-entry S L t st sh e i, rw (y, z) (miss-is S L t st sh e b ∙ eqb-true _ _ w ∙ ap (λ (n : ℕ). n + 32 * k) (sym (tag-is S L t st sh l h)))));
       }
-    where
-      backed : status S L (4 * l + k) ≡ 1 → (e : ℕ) × (e < S .misses) × (Used S L e × (miss S L e ≡ tag S L ((4 * l + k) / 4) + 32 * ((4 * l + k) % 4)))
-      backed q =
-          let r : isReserved (sector t l k .status) ≡ true =
-          sym (reserved-number (sector t l k .status)) ∙ eq-eqb _ _ (sym (status-is S L t st sh l k h j) ∙ q) in
-          let a : any (entryFor (line t l .tag + 32 * k)) (t .misses) ≡ true = sym (so .agrees l h (reserved-lives l k h j r) k j) ∙ r in
-          let (e, i, w) = some-at (λ e. entryFor (line t l .tag + 32 * k) (entry t e)) (length (t .misses))
-          (sym (any-get (entryFor (line t l .tag + 32 * k)) (t .misses) noEntry) ∙ a) in
-          let few = so .few in
-          let b : e < S .misses = omega arith in
-          let y : (4 * l + k) / 4 ≡ l = omega arith in
-          let z : (4 * l + k) % 4 ≡ k = omega arith in
-          (e, b, (in-entry S L t st sh e i, rw (y, z) (miss-is S L t st sh e b ∙ eqb-true _ _ w ∙ ap (λ (x : ℕ). x + 32 * k) (sym (tag-is S L t st sh l h)))))
 
   -- ---- entries
 
