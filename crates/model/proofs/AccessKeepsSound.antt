@@ -45,15 +45,6 @@ formed-good (Write a m k) h = and-1 (goodSector a) (not (eqb m 0)) h
 
 -- ---- the sector
 
-mask-joined-small : (m n : ℕ) → leb m allOnes ≡ true → n ≤ allOnes → leb (bitOr m n) allOnes ≡ true
-mask-joined-small m n h k =
-    let z : bitOr m n < 4294967296 = or-lt 32 m n (omega (arith, leb-true m allOnes h)) (omega arith) in
-    le-leb (bitOr m n) allOnes (omega arith)
-
-mask-joined-some : (m n : ℕ) → eqb n 0 ≡ false → eqb (bitOr m n) 0 ≡ false
-mask-joined-some m n h =
-    ne-eqb (bitOr m n) 0 (λ z. eqb-false n 0 h (omega (arith, or-add-and m n, and-le-l m n)))
-
 -- a sound sector is sound after the access
 sector-after : (x : Access) (n : Answer) (s : Sector) → wellFormed x ≡ true → maskOf x ≤ allOnes → isMerge n ≡ isReserved (s .status)
     → sectorOk s ≡ true
@@ -61,8 +52,11 @@ sector-after : (x : Access) (n : Answer) (s : Sector) → wellFormed x ≡ true 
 sector-after (Read a m k) n s f b g h =
     by-flag (λ (v : Sector). sectorOk v ≡ true) (isMiss n) _ _ (λ e. rw (mask-small (s .status) (s .mask) (s .readable) h)) (λ e. h)
 sector-after (Write a m k) n s f b g h =
-    let small : leb (bitOr (s .mask) m) allOnes ≡ true = mask-joined-small (s .mask) m (mask-small (s .status) (s .mask) (s .readable) h) b in
-    let some : eqb (bitOr (s .mask) m) 0 ≡ false = mask-joined-some (s .mask) m (not-yes (and-2 (goodSector a) (not (eqb m 0)) f)) in
+    let was : s .mask ≤ allOnes = leb-true (s .mask) allOnes (mask-small (s .status) (s .mask) (s .readable) h) in
+    let low : bitOr (s .mask) m < 4294967296 = or-lt 32 (s .mask) m (omega arith) (omega arith) in
+    let small : leb (bitOr (s .mask) m) allOnes ≡ true = le-leb (bitOr (s .mask) m) allOnes (omega arith) in
+    let given = eqb-false m 0 (not-yes (and-2 (goodSector a) (not (eqb m 0)) f)) in
+    let some : eqb (bitOr (s .mask) m) 0 ≡ false = ne-eqb (bitOr (s .mask) m) 0 (λ z. given (omega (arith, or-add-and (s .mask) m, and-le-l (s .mask) m))) in
     by-flag (λ (v : Sector). sectorOk v ≡ true) (isMerge n) _ _
     (λ e. let c : s .status ≡ Reserved = status-reserved (s .status) (sym g ∙ e) in
     let r : maskOk Reserved (s .mask) (s .readable) ≡ true = rw c at h in
@@ -191,9 +185,6 @@ module _ (S : Settings) (es : List Entry) (ok : (d : Entry) → In d es → with
 
 -- ---- the line that an access meets, and the tables that it leaves
 
-taken-past : {now k : ℕ} (n : Answer) → k ≤ now → takenBy n now k ≤ now
-taken-past {now} {k} n h = by-flag (λ (c : ℕ). c ≤ now) (takesLine n) now k (λ e. omega arith) (λ e. h)
-
 abbrev pub spotNumber : Settings → Access → Spot → ℕ
 spotNumber S x p = lineNumber S (addressOf x) (p .way)
 
@@ -233,7 +224,7 @@ module _ (S : Settings) (t : Tables) (ok : Sound S t) (x : Access) (formed : wel
   abbrev old : Sector
   old = getD (p .line .sectors) i empty
 
-  new : Line
+  abbrev new : Line
   new = update i (onSector x (p .answer)) (t .now) (takenBy (p .answer) (t .now) (p .line .taken)) (p .line)
 
   abbrev u : Tables
@@ -248,18 +239,16 @@ module _ (S : Settings) (t : Tables) (ok : Sound S t) (x : Access) (formed : wel
   -- ---- the lines
 
   new-used : whollyInvalid new ≡ false
-  unfolding new
   new-used = set-some (λ (s : Sector). isInvalid (s .status)) (p .line .sectors) i _ below (sp .used)
 
   new-line : LineIs S (t .now) n new
-  unfolding new
   new-line = record {
     four = eq-eqb _ 4 (length-set (p .line .sectors) i _ ∙ sp .four);
     sectorly = all-set sectorOk (p .line .sectors) i _ (sp .sectorly)
         (sector-after x (p .answer) old formed small (sp .merges)
         (all-in sectorOk (p .line .sectors) (sp .sectorly) (in-getD (p .line .sectors) i empty below)));
     past = le-leb (t .now) (t .now) (omega arith);
-    since = le-leb _ (t .now) (taken-past (p .answer) (sp .since));
+    since = le-leb _ (t .now) (by-flag (λ (c : ℕ). c ≤ t .now) (takesLine (p .answer)) _ _ (λ e. omega arith) (λ e. sp .since));
     tagged = rw (new-used, sp .tagged) (and-i (and-i (eq-eqb (b % 128) 0 (omega arith))
         (lt-ltb b (2 ^ 48) (omega (arith, ltb-true a (2 ^ 48) (and-2 (eqb (a % 32) 0) _ (formed-good x formed))))))
         (eq-eqb _ _ (sp .own)));
@@ -269,21 +258,18 @@ module _ (S : Settings) (t : Tables) (ok : Sound S t) (x : Access) (formed : wel
   lines-same = length-set (t .lines) n _ ∙ lines-are S t ok
 
   taken-lined : every (linesOf S) (λ j. lineOk S (t .now) j (getD (u .lines) j fresh)) ≡ true
-  unfolding new
   taken-lined = every-i (λ j. lineOk S (t .now) j (getD (u .lines) j fresh)) (linesOf S)
       (λ j h. each (λ j l. lineOk S (t .now) j l ≡ true) (t .lines) fresh n new (line-whole S (t .now) n new new-line)
       (λ j h z. line-whole S (t .now) j _ (line-at S t ok j h)) j (rw lines-same h))
 
   -- no other line holds what the new one does
   apart : (c j : ℕ) → j < length (t .lines) → j ≢ n → holds c new ≡ true → holds c (getD (t .lines) j fresh) ≡ false
-  unfolding new
   apart c j h z e =
       let q : p .line .tag ≡ c = eqb-true (p .line .tag) c (and-2 (not (whollyInvalid new)) (eqb (p .line .tag) c) e) in
       ap (λ (c : ℕ). holds c (getD (t .lines) j fresh)) (sym q ∙ sp .tagged) ∙ sp .lone j h z
 
   taken-single : (c j : ℕ) → j < length (u .lines) → holds c (getD (u .lines) j fresh) ≡ true
       → (k : ℕ) → k < length (u .lines) → holds c (getD (u .lines) k fresh) ≡ true → k ≡ j
-  unfolding new
   taken-single c =
       each (λ j l. holds c l ≡ true → (k : ℕ) → k < length (u .lines) → holds c (getD (u .lines) k fresh) ≡ true → k ≡ j) (t .lines) fresh n new
       (λ e. each (λ k l. holds c l ≡ true → k ≡ n) (t .lines) fresh n new (λ f. refl) (λ k h z f. clash f (apart c k h z e)))
@@ -314,7 +300,6 @@ module _ (S : Settings) (t : Tables) (ok : Sound S t) (x : Access) (formed : wel
       ∙ sym (misses-any x (p .answer) (t .misses) a ∙ rw (eq-eqb a a refl, and-true (fetching x (p .answer))))
 
   taken-new : (k : ℕ) → k < 4 → isReserved (getD (new .sectors) k empty .status) ≡ any (entryFor (b + 32 * k)) (u .misses)
-  unfolding new
   taken-new k h =
       ⊎-elim
       (λ e. rw (eqb-true k i e, getD-set-same (p .line .sectors) i (onSector x (p .answer) old) empty below, address-is a aligned) taken-this)
@@ -330,7 +315,7 @@ module _ (S : Settings) (t : Tables) (ok : Sound S t) (x : Access) (formed : wel
       ∙ sym (other-any (l .tag + 32 * k) (λ q. clash (and-i (not-no e) (eq-eqb (l .tag) b (block-is a (l .tag) k (tag-aligned S t ok l m e) h q))) z))
 
   taken-reserved : (j : ℕ) → j < length (u .lines) → reservedOk (u .misses) (getD (u .lines) j fresh) ≡ true
-  unfolding reservedOk new
+  unfolding reservedOk
   taken-reserved =
       each (λ j l. reservedOk (u .misses) l ≡ true) (t .lines) fresh n new
       (or-2 (whollyInvalid new) (every 4 (agrees (u .misses) new)) (every-i (agrees (u .misses) new) 4 (λ k h. is-same (isReserved (getD (new .sectors) k empty .status)) _ (taken-new k h ∙ rw (sp .tagged)))))
@@ -367,7 +352,6 @@ module _ (S : Settings) (t : Tables) (ok : Sound S t) (x : Access) (formed : wel
       (ap (λ (v : ℕ). any (entryFor v) (t .misses)) (sym (eqb-true a c (and-2 (isFetch (y .kind)) (eqb a c) q))) ∙ f)))
 
   new-holds : any (holds b) (u .lines) ≡ true
-  unfolding new
   new-holds = in-any (holds b) (u .lines) (in-set-same (t .lines) n new (sp .inside)) (and-i (not-no new-used) (eq-eqb (p .line .tag) b (sp .tagged)))
 
   held-still : (e : Entry) → In e (t .misses) → any (holds (blockOf (e .address))) (u .lines) ≡ true
@@ -402,9 +386,6 @@ module _ (S : Settings) (t : Tables) (ok : Sound S t) (x : Access) (formed : wel
           queues = rw (w .address, w .sent, queue-after a, w .fetched, eq-eqb a a refl, unread none);
         }
 
-    taken-entry : (e : Entry) → In e (u .misses) → EntryIs S u e
-    taken-entry e m = ⊎-elim (λ o. old-entry e o) (λ w. new-entry e w) (entry-from S (t .misses) (λ d o. entry-at S t ok d o .readers) x (p .answer) merge e m)
-
     taken-queued : (y : Queued) → In y (u .queue) → queuedOk (u .misses) y ≡ true
     taken-queued y m =
         ⊎-elim (λ o. queued-when (t .misses) (u .misses) y (λ f. unsent-after x (p .answer) (t .misses) (y .address)) (queued-at S t ok y o))
@@ -423,7 +404,7 @@ module _ (S : Settings) (t : Tables) (ok : Sound S t) (x : Access) (formed : wel
             (λ l m. let (j, h, e) = in-index (u .lines) fresh l m in ap (alone (u .lines)) (sym e) ∙ taken-alone j h);
         reserve = in-all (reservedOk (u .misses)) (u .lines)
             (λ l m. let (j, h, e) = in-index (u .lines) fresh l m in ap (reservedOk (u .misses)) (sym e) ∙ taken-reserved j h);
-        entered = in-all (entryOk S u) (u .misses) (λ e m. entry-whole S u e (taken-entry e m));
+        entered = in-all (entryOk S u) (u .misses) (λ e m. entry-whole S u e (⊎-elim (old-entry e) (new-entry e) (entry-from S (t .misses) (λ d o. entry-at S t ok d o .readers) x (p .answer) merge e m)));
         lining = in-all (queuedOk (u .misses)) (u .queue) taken-queued;
         few = le-leb (length (u .misses)) (S .misses)
             (misses-few S x (p .answer) (t .misses) (few-misses S t ok) entry);

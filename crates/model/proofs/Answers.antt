@@ -12,16 +12,22 @@ use Rattle.model.specs.Numbers.{statusNumber, statusOf, answerNumber}
 use Rattle.model.specs.Probe.{answers}
 use Rattle.model.specs.declared.Status.{Status}
 use Rattle.model.specs.declared.Status.the-variants.{Invalid, Reserved, Valid, Modified}
+use Rattle.model.specs.declared.QueueKind.{QueueKind}
+use Rattle.model.specs.declared.QueueKind.the-variants as queue
 use Rattle.model.specs.declared.Answer.{Answer}
 use Rattle.model.specs.declared.Answer.the-variants.{Hit, HitReserved, Miss, SectorMiss}
 use Rattle.words.proofs.Flags.{clash}
 
--- a law of each status
+-- a law of each status, and of each kind of a queued entry
 pub by-status : (P : Status → Type 0) → P Invalid → P Reserved → P Valid → P Modified → (s : Status) → P s
 by-status P i r v m Invalid = i
 by-status P i r v m Reserved = r
 by-status P i r v m Valid = v
 by-status P i r v m Modified = m
+
+pub by-kind : (P : QueueKind → Type 0) → P queue.Read → P queue.WriteBack → (k : QueueKind) → P k
+by-kind P r w queue.Read = r
+by-kind P r w queue.WriteBack = w
 
 pub status-of-number : (s : Status) → statusOf (statusNumber s) ≡ s
 status-of-number = by-status (λ s. statusOf (statusNumber s) ≡ s) refl refl refl refl

@@ -97,12 +97,6 @@ module _ (S : Settings) (x : Access) where
       let a : any (sentFor (d .address)) (t .misses) ≡ true = in-any (sentFor (d .address)) (t .misses) m (and-i (eq-eqb (d .address) (d .address) refl) h) in
       rw a
 
-  filled-less : (t : Tables) → Sound S t → (d : Entry) → In d (t .misses) → d .sent ≡ true → LeavesAtMost S (size t - 1) (afterFill (d .address) t)
-  filled-less t ok d m h = record {
-    ok = filled-sound S t ok d m h;
-    less = omega (arith, keep-lt (others (d .address)) (t .misses) m (rw (eq-eqb (d .address) (d .address) refl)));
-  }
-
   -- the first sent one of some of the table's entries is filled, or none of them is sent
   abbrev Tried : Tables → List Entry → Tables → Type 0
   Tried t es u = LeavesAtMost S (size t - 1) u ⊎ ((u ≡ t) × (all (λ e. not (e .sent)) es ≡ true))
@@ -112,7 +106,10 @@ module _ (S : Settings) (x : Access) where
   unfolding outcomeFill
   fill-tries t ok [] f = inr (refl, refl)
   fill-tries t ok (d ∷ es) f =
-      ⊎-elim (λ h. rw h (inl (rw (fill-takes t d (f d (inl refl)) h) (filled-less t ok d (f d (inl refl)) h))))
+      ⊎-elim (λ h. rw h (inl (rw (fill-takes t d (f d (inl refl)) h) (record {
+        ok = filled-sound S t ok d (f d (inl refl)) h;
+        less = omega (arith, keep-lt (others (d .address)) (t .misses) (f d (inl refl)) (rw (eq-eqb (d .address) (d .address) refl)));
+      }))))
       (λ h. rw h (fill-tries t ok es (λ e m. f e (inr m)))) (flag (d .sent))
 
   -- with nothing queued no entry is unsent

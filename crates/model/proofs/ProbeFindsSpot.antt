@@ -77,9 +77,6 @@ fetches-one (Write a m k) n = omega arith
 
 -- ---- the write-back of a line
 
-back-quiet : (l : Line) (c : ℕ) → any (readingOf c) (writeBack l) ≡ false
-back-quiet l c = by-flag (λ (q : List Queued). any (readingOf c) q ≡ false) (dirty l) _ [] (λ e. refl) (λ e. refl)
-
 pub back-one : (l : Line) → length (writeBack l) ≤ 1
 back-one l = by-flag (λ (q : List Queued). length q ≤ 1) (dirty l) _ [] (λ e. omega arith) (λ e. omega arith)
 
@@ -130,12 +127,10 @@ module _ (S : Settings) (t : Tables) (ok : Sound S t) (some-ways : 1 ≤ S .ways
       let (j, h, g) = in-index (t .lines) fresh l n in
       (j, h, ap (holds (blockOf (e .address))) g ∙ q)
 
-  abbrev KeptLine : ℕ → Entry → Type 0
-  KeptLine n e = (blockOf (e .address) ≡ b) ⊎ ((j : ℕ) × (j < length (t .lines)) × (j ≢ n) × (holds (blockOf (e .address)) (getD (t .lines) j fresh) ≡ true))
-
   holder-kept : (n : ℕ)
       → ((e : Entry) → In e (t .misses) → holds (blockOf (e .address)) (getD (t .lines) n fresh) ≡ true → blockOf (e .address) ≡ b)
-      → (e : Entry) → In e (t .misses) → KeptLine n e
+      → (e : Entry) → In e (t .misses)
+      → (blockOf (e .address) ≡ b) ⊎ ((j : ℕ) × (j < length (t .lines)) × (j ≢ n) × (holds (blockOf (e .address)) (getD (t .lines) j fresh) ≡ true))
   holder-kept n f e m =
       let (j, h, q) = holder e m in
       ⊎-elim (λ z. inl (f e m (rw (eqb-true j n z) at q))) (λ z. inr (j, h, eqb-false j n z, q)) (flag (eqb j n))
@@ -213,7 +208,7 @@ module _ (S : Settings) (t : Tables) (ok : Sound S t) (some-ways : 1 ≤ S .ways
           merges = rw (getD-replicate 4 (sectorIndex a) empty empty (sector-below a));
           used = used-miss x (getD (replicate 4 empty) (sectorIndex a) empty);
           backed = back-ok S t ok l m;
-          quiet = back-quiet l;
+          quiet = λ c. by-flag (λ (q : List Queued). any (readingOf c) q ≡ false) (dirty l) _ [] (λ e. refl) (λ e. refl);
         }
 
 -- ---- a tick, fresh tables

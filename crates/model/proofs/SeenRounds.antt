@@ -20,8 +20,6 @@ use Rattle.model.specs.Calls.{encoded, call}
 use Rattle.model.specs.Rounds.{Calls, Turn, still, took, isEmpty, steps, calls, Settles, outcomeDrain, outcomeFill, outcomeGoOn, outcomeHeld, outcomeRounds, outcomeSend}
 use Rattle.model.specs.Seen.{SeenCalls, answering, refusing, accepts, but11, comparable, Course, goOn, marks, sendTurn, fillFirst, drain, rounds, struck, heldIn, waits, Demand3, seen, seenSteps, seenCalls}
 use Rattle.model.specs.declared.Settings.{Settings}
-use Rattle.model.specs.declared.QueueKind.{QueueKind}
-use Rattle.model.specs.declared.QueueKind.the-variants as queue
 use Rattle.model.specs.declared.Queued.{Queued}
 use Rattle.model.specs.declared.Access.{Access}
 use Rattle.model.specs.declared.Event.{Event}
@@ -29,6 +27,7 @@ use Rattle.model.specs.declared.Event.the-variants as event
 use Rattle.model.specs.declared.Refusal.{Refusal}
 use Rattle.model.specs.declared.Refusal.the-variants.{SetHeld}
 use Rattle.words.proofs.Flags.{and-2, flag, not-yes, clash, or-no-1, or-no-2}
+use Rattle.model.proofs.Answers.{by-kind}
 use Rattle.model.proofs.AccessCases.{access-judged}
 use Rattle.model.proofs.SendFillKeepSound.{send-cases}
 use Rattle.model.proofs.Bound.{rounds-settled}
@@ -83,13 +82,9 @@ pub unrefused-too : {T : Type 0} (o : Outcome T) → Clear accepts o → Clear u
 unrefused-too (refused n) c = record { clear = refl }
 unrefused-too (done es u) c = record { clear = and-2 (any answering es) (not (any refusing es)) (c .clear) }
 
-sent-clear : (k : QueueKind) (a : ℕ) (ms : List ℕ) → refusing (sentAs k a ms) ≡ false
-sent-clear queue.Read a ms = refl
-sent-clear queue.WriteBack a ms = refl
-
 pub send-clear : (t : Tables) → Clear unrefused (send t)
 send-clear t =
-    send-cases t (Clear unrefused) (λ n. record { clear = refl }) (λ x q e. record { clear = rw (sent-clear (x .kind) (x .address) (x .masks)) })
+    send-cases t (Clear unrefused) (λ n. record { clear = refl }) (λ x q e. record { clear = rw (by-kind (λ k. refusing (sentAs k (x .address) (x .masks)) ≡ false) refl refl (x .kind)) })
 
 pub released-clear : (ks : List ℕ) → any refusing (map event.Released ks) ≡ false
 released-clear [] = refl
@@ -100,13 +95,9 @@ unfolding fill
 fill-clear a t =
     clear-by unrefused (any (sentFor a) (t .misses)) record { clear = ap not (released-clear (ticketsOf a (t .misses))) } record { clear = refl }
 
-queued-unrefused : (k : QueueKind) (a : ℕ) (ms : List ℕ) → refusing (queuedAs k a ms) ≡ false
-queued-unrefused queue.Read a ms = refl
-queued-unrefused queue.WriteBack a ms = refl
-
 pub queued-clear : (qs : List Queued) → any refusing (map queuedEvent qs) ≡ false
 queued-clear [] = refl
-queued-clear (q ∷ qs) = rw (queued-unrefused (q .kind) (q .address) (q .masks)) (queued-clear qs)
+queued-clear (q ∷ qs) = rw (by-kind (λ k. refusing (queuedAs k (q .address) (q .masks)) ≡ false) refl refl (q .kind)) (queued-clear qs)
 
 pub access-clear : (S : Settings) (x : Access) (t : Tables) → Clear accepts (access S x t)
 unfolding access accept
@@ -276,11 +267,8 @@ demand-3-tells {T} C t d h =
     no-more (but11 (drain C t .events)) (but11 (o .events)) (sym (simp (append-nil, but11-append) at e))
 
 -- a library whose send and fill do nothing and whose offers are refused as 6, which moves the current cycle
-abbrev cycleMoved : Tables → Tables
-cycleMoved t = withNow (suc (t .now)) t
-
 abbrev pub leaky : SeenCalls Tables
-leaky = record { sends = λ t. still t; fills = λ a t. still t; offers = λ t. record { events = event.Refused SetHeld ∷ []; left = cycleMoved t }; tables = λ t. t }
+leaky = record { sends = λ t. still t; fills = λ a t. still t; offers = λ t. record { events = event.Refused SetHeld ∷ []; left = withNow (suc (t .now)) t }; tables = λ t. t }
 
 pub not-demand-3-of-a-leaky-library : (t : Tables) → Demand3 leaky t → ⊥
 not-demand-3-of-a-leaky-library t d =

@@ -151,24 +151,23 @@ module _ (a : ℕ) (l : Line) where
   fill-tag = by-flag (λ (m : Line). m .tag ≡ l .tag) (holds (blockOf a) l) _ _ (λ e. refl) (λ e. refl)
 
 module _ (a : ℕ) (l : Line) (four : length (l .sectors) ≡ 4) where
-  old : Sector
+  abbrev old : Sector
   old = getD (l .sectors) (sectorIndex a) empty
 
   old-ok : all sectorOk (l .sectors) ≡ true → sectorOk old ≡ true
-  unfolding old
   old-ok ok = all-in sectorOk (l .sectors) ok (in-getD (l .sectors) (sectorIndex a) empty (omega arith))
 
   used-still : all (λ (s : Sector). isInvalid (s .status)) (set (l .sectors) (sectorIndex a) (arrived old)) ≡ false
   used-still = set-some (λ (s : Sector). isInvalid (s .status)) (l .sectors) (sectorIndex a) (arrived old) (omega arith) (arrived-by (λ c. isInvalid c ≡ false) old refl refl)
 
   fill-unused : whollyInvalid (fillLine a l) ≡ whollyInvalid l
-  unfolding fillLine old
+  unfolding fillLine
   fill-unused =
       by-flag (λ (m : Line). whollyInvalid m ≡ whollyInvalid l) (holds (blockOf a) l) _ _ (λ e. used-still ∙ sym (holds-used (blockOf a) l e)) (λ e. refl)
 
   -- it is dirty still
   fill-dirty : all sectorOk (l .sectors) ≡ true → dirty l ≡ true → dirty (fillLine a l) ≡ true
-  unfolding fillLine old
+  unfolding fillLine
   fill-dirty ok h =
       by-flag (λ (m : Line). dirty m ≡ true) (holds (blockOf a) l) _ _
       (λ e. any-set (λ (s : Sector). isModified (s .status)) (l .sectors) (sectorIndex a) (arrived old) empty (arrived-dirty old (old-ok ok)) h) (λ e. h)
@@ -183,7 +182,7 @@ module _ (a : ℕ) (l : Line) (four : length (l .sectors) ≡ 4) where
   fill-holds b = rw (fill-unused, fill-tag a l)
 
   fill-line : (S : Settings) (now i : ℕ) → LineIs S now i l → LineIs S now i (fillLine a l)
-  unfolding fillLine old
+  unfolding fillLine
   fill-line S now i h =
       by-flag (LineIs S now i) (holds (blockOf a) l) _ l (λ e. record {
         four = rw length-set (h .four);
@@ -205,7 +204,7 @@ module _ (a : ℕ) (l : Line) (four : length (l .sectors) ≡ 4) where
   -- the address's is RESERVED no more
   fill-this : (k : ℕ) → whollyInvalid l ≡ false → l .tag % 128 ≡ 0 → k < 4 → l .tag + 32 * k ≡ a
       → isReserved (getD (fillLine a l .sectors) k empty .status) ≡ false
-  unfolding fillLine old
+  unfolding fillLine
   fill-this k u g h e =
       let s : holds (blockOf a) l ≡ true = and-i (not-no u) (eq-eqb (l .tag) (blockOf a) (block-is a (l .tag) k g h e)) in
       by-flag (λ (m : Line). isReserved (getD (m .sectors) k empty .status) ≡ false) (holds (blockOf a) l) _ _

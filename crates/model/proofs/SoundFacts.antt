@@ -54,10 +54,6 @@ pub record LineIs (S : Settings) (now i : ℕ) (l : Line) : Type 0 where
   pub since : leb (l .taken) (l .cycle) ≡ true
   pub tagged : pick (whollyInvalid l) (eqb (l .tag) 0 && eqb (l .cycle) 0 && eqb (l .taken) 0) (goodBlock (l .tag) && eqb (setIndex S (l .tag)) (i / S .ways)) ≡ true
 
-pub line-parts : (S : Settings) (now i : ℕ) (l : Line) → lineOk S now i l ≡ true → LineIs S now i l
-unfolding lineOk
-line-parts S now i l h = search (and-1, and-2) depth 9
-
 pub line-whole : (S : Settings) (now i : ℕ) (l : Line) → LineIs S now i l → lineOk S now i l ≡ true
 unfolding lineOk
 line-whole S now i l h = rw (h .four, h .sectorly, h .past, h .since, h .tagged)
@@ -138,9 +134,8 @@ module _ (S : Settings) (t : Tables) (ok : Sound S t) where
   trees-are = eqb-true (length (t .trees)) (S .sets) (ok .treed)
 
   pub line-at : (i : ℕ) → i < length (t .lines) → LineIs S (t .now) i (getD (t .lines) i fresh)
-  line-at i h =
-      line-parts S (t .now) i (getD (t .lines) i fresh)
-      (every-at (λ j. lineOk S (t .now) j (getD (t .lines) j fresh)) (linesOf S) i (ok .lined) (rw lines-are at h))
+  unfolding lineOk
+  line-at i h = let e = every-at (λ j. lineOk S (t .now) j (getD (t .lines) j fresh)) (linesOf S) i (ok .lined) (rw lines-are at h) in search (and-1, and-2) depth 9
 
   line-in : (l : Line) → In l (t .lines) → (i : ℕ) × LineIs S (t .now) i l
   line-in l m = let (i, h, e) = in-index (t .lines) fresh l m in (i, rw e at (line-at i h))

@@ -31,18 +31,15 @@ module _ (p : ℕ → Bool) where
       let s : first + (w - first) ≡ w = omega arith in
       some-i (λ i. p (first + i)) width (w - first) (omega arith) (ap p s ∙ e)
 
-  in-some : (first width : ℕ) → someFrom p first width ≡ true → (w : ℕ) × (first ≤ w) × (w < first + width) × (p w ≡ true)
-  in-some first width e = let (i, h, t) = some-at (λ i. p (first + i)) width e in (first + i, omega arith, omega arith, t)
-
   -- a candidate of a span stands in one of its halves
   in-half : (k first : ℕ) → someFrom p first (2 ^ suc k) ≡ true
       → (someFrom p (first + 0 * 2 ^ k) (2 ^ k) ≡ true) ⊎ (someFrom p (first + 1 * 2 ^ k) (2 ^ k) ≡ true)
   in-half k first e =
-      let (w, a, b, t) = in-some first (2 ^ suc k) e in
+      let (i, a, t) = some-at (λ i. p (first + i)) (2 ^ suc k) e in
       let d = double k in
-      ⊎-elim (λ l. let h = ltb-true w (first + 2 ^ k) l in inl (some-in (first + 0 * 2 ^ k) (2 ^ k) w (omega arith) (omega arith) t))
-      (λ l. let h = ltb-false w (first + 2 ^ k) l in inr (some-in (first + 1 * 2 ^ k) (2 ^ k) w (omega arith) (omega arith) t))
-      (flag (ltb w (first + 2 ^ k)))
+      ⊎-elim (λ l. let h = ltb-true i (2 ^ k) l in inl (some-in (first + 0 * 2 ^ k) (2 ^ k) (first + i) (omega arith) (omega arith) t))
+      (λ l. let h = ltb-false i (2 ^ k) l in inr (some-in (first + 1 * 2 ^ k) (2 ^ k) (first + i) (omega arith) (omega arith) t))
+      (flag (ltb i (2 ^ k)))
 
 -- a half of a span lies in it
 half-inside : (k first w : ℕ) {h : ℕ} → h < 2 → first + h * 2 ^ k ≤ w → w < first + h * 2 ^ k + 2 ^ k → (first ≤ w) × (w < first + 2 ^ suc k)

@@ -45,15 +45,12 @@ module _ (p : ℕ → Bool) where
   every-i zero f = refl
   every-i (suc n) f = and-i (every-i n (λ i h. f i (omega arith))) (f n (omega arith))
 
-  pub every-no : (n i : ℕ) → i < n → p i ≡ false → every n p ≡ false
-  every-no n i h e = no-yes (λ t. clash (every-at n i t h) e)
-
   -- the loop's invariant: all before i passed
   abbrev pub Passed : ℕ → ℕ → Type 0
   Passed n i = (i ≤ n) × (every i p ≡ true)
 
   pub passed-stop : (n i : ℕ) {b : Bool} → i < n → b ≡ p i → not b ≡ true → false ≡ every n p
-  passed-stop n i h e t = sym (every-no n i h (sym e ∙ not-yes t))
+  passed-stop n i h e t = sym (no-yes (λ z. clash (every-at n i z h) (sym e ∙ not-yes t)))
 
   pub passed-more : (n i : ℕ) {b : Bool} → i < n → b ≡ p i → not b ≡ false → Passed n i → Passed n (i + 1)
   passed-more n i h e t w = (omega arith, rw add-one (and-i (w .1) (sym e ∙ no-not t)))
