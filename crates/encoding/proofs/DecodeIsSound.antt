@@ -24,7 +24,7 @@ use Rattle.words.proofs.Below.{some-at, some-i, lt-or-ge, below-four, squeeze}
 use Rattle.words.proofs.Places.{stride}
 use Rattle.words.proofs.Tabled.{any-get, length-table, getD-table}
 use Rattle.encoding.proofs.InUse.{in-use-few, below-used, free-past}
-use Rattle.encoding.proofs.LentSoundFacts.{tag, status, mask, readable, miss, sent, ticketCount, ticket, kind, queueMask, Live, Used, UsedFirst, SoundIs, tree}
+use Rattle.encoding.proofs.LentSoundFacts.{tag, status, mask, readable, miss, sent, ticketCount, ticket, kind, queueMask, Live, UsedFirst, SoundIs, tree}
 use Rattle.encoding.proofs.Standing.{field, field-in, field-out, ByNumber}
 use Rattle.encoding.proofs.NumbersAreTables.{line, sector, entry, place, Shape, reserved-number, tag-is, cycle-is, lent-taken-is, lent-tree-is, status-is, mask-is, readable-is, dirty-counts, miss-is, lent-sent-is, entry-in, in-entry, kind-in, queued-in, queue-mask-is, reads-are, lives, live-i}
 use Rattle.encoding.proofs.SoundByPlace.{SectorOk, LineOk, OnlyTag, Agrees, EntryOk, QueuedOk, Soundly, bit-clear}
@@ -35,10 +35,6 @@ module _ (S : Settings) (L : Lent) (is : SoundIs S L) where
   one-line l k hl hk vl vk e =
       let p : l / S .ways ≡ k / S .ways = sym (is .lines l hl .home vl) ∙ ap (setIndex S) e ∙ is .lines k hk .home vk in
       squeeze l k (λ h. is .lines k hk .alone vk l h p vl e) (λ h. is .lines l hl .alone vl k h (sym p) vk (sym e))
-
-  -- an address is in one used entry only
-  one-entry : (d e : ℕ) → d < S .misses → e < S .misses → Used S L d → Used S L e → miss S L d ≡ miss S L e → d ≡ e
-  one-entry d e hd he ud ue q = squeeze d e (λ h. is .entries e he .alone ue d h ud q) (λ h. is .entries d hd .alone ud e h ue (sym q))
 
 -- ---- tables that stand in them
 
@@ -125,7 +121,9 @@ module _ (S : Settings) (L : Lent) (t : Tables) (st : ByNumber S L t) (sh : Shap
         home = (l, omega (arith, sh .size), (lives S L t st sh l h (w .lives), sym (tag-is S L t st sh l h) ∙ rw a at has));
         alone = λ d k q.
             let c : d < S .misses = omega (arith, sh .few) in
-            one-entry S L is d e c b (in-entry S L t st sh d k) u (miss-is S L t st sh d c ∙ q ∙ sym a);
+            let v = in-entry S L t st sh d k in
+            let o : miss S L d ≡ miss S L e = miss-is S L t st sh d c ∙ q ∙ sym a in
+            squeeze d e (λ z. f .alone u d z v o) (λ z. is .entries d c .alone v e z u (sym o));
         held = sh .held e i;
         short = sh .short e i;
         asked = λ s. sym (reads-are S L t st sh (entry t e .address)) ∙ rw a at (f .asked u (lent-sent-is S L t st sh e b ∙ ap bit s));
@@ -176,15 +174,12 @@ module _ {A : Type 0} (g : A → List ℕ) (n : ℕ) (f : ℕ → A) (e k : ℕ)
   field-table : e < n → field g (table n f) e k ≡ getD (g (f e)) k 0
   field-table h = field-in g (table n f) (f e) e k (rw length-table h) ∙ ap (λ (x : A). getD (g x) k 0) (getD-table n f e (f e) h)
 
-  field-past : n ≤ e → field g (table n f) e k ≡ 0
-  field-past h = field-out g (table n f) e k (rw length-table h)
-
 -- a number of those in use of n places, which are the first, and past them 0
 field-used : (u : ℕ → ℕ) (n : ℕ) → UsedFirst n u → {A : Type 0} (f : ℕ → A) (g : A → List ℕ) (e k : ℕ) {m : ℕ} → e < n
     → ((u e ≡ 0 → ⊥) → m ≡ getD (g (f e)) k 0) → (u e ≡ 0 → m ≡ 0) → m ≡ field g (table (inUse n u) f) e k
 field-used u n first f g e k h p z =
     ⊎-elim (λ l. p (below-used u n e first l .1) ∙ sym (field-table g (inUse n u) f e k l))
-    (λ o. z (free-past u n e first h o) ∙ sym (field-past g (inUse n u) f e k o)) (lt-or-ge e (inUse n u))
+    (λ o. z (free-past u n e first h o) ∙ sym (field-out g (table (inUse n u) f) e k (rw length-table o))) (lt-or-ge e (inUse n u))
 
 number-back : (n : ℕ) → n ≤ 3 → n ≡ statusNumber (statusOf n)
 number-back n h = below-four (λ n. n ≡ statusNumber (statusOf n)) refl refl refl refl n (omega arith)

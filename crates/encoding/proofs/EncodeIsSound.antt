@@ -9,8 +9,6 @@ use lib.ListN.{length, getD-replicate, List·getD-eq-default}
 use borrow.Author.Tests.{eqb-true, eq-eqb}
 use Rattle.model.specs.Numbers.{queueKindNumber}
 use Rattle.model.specs.declared.Settings.{Settings}
-use Rattle.model.specs.declared.QueueKind.{QueueKind}
-use Rattle.model.specs.declared.QueueKind.the-variants as queue
 use Rattle.model.specs.declared.Queued.{Queued}
 use Rattle.words.specs.Words.{any}
 use Rattle.model.specs.Range.{linesOf}
@@ -19,7 +17,7 @@ use Rattle.model.specs.Tables.{Entry, Tables, isInvalid, isReserved, whollyInva
 use Rattle.model.specs.Lent.{Lent, bit}
 use Rattle.words.proofs.Flags.{flag, no-yes, clash}
 use Rattle.words.proofs.Below.{every-at, some-at, some-i, lt-or-ge}
-use Rattle.model.proofs.Answers.{status-below}
+use Rattle.model.proofs.Answers.{by-kind, status-below}
 use Rattle.model.proofs.ProbeFindsSpot.{reserved-used}
 use Rattle.words.proofs.Tabled.{any-get}
 use Rattle.encoding.proofs.LentSoundFacts.{tag, status, readable, miss, sent, ticketCount, ticket, queued, kind, Live, Used, LentLineIs, SectorIs, Reserves, LentEntryIs, Unsent, PlaceIs, SoundIs}
@@ -30,14 +28,6 @@ use Rattle.encoding.proofs.SoundByPlace.{Lives, Soundly, soundly-shape,
 bit-low : (r : Bool) → bit r ≤ 1
 bit-low true = omega arith
 bit-low false = omega arith
-
-kind-low : (k : QueueKind) → queueKindNumber k ≤ 2
-kind-low queue.Read = omega arith
-kind-low queue.WriteBack = omega arith
-
-kind-one : (k : QueueKind) → queueKindNumber k ≤ 1 → queueKindNumber k ≡ 1
-kind-one queue.Read h = refl
-kind-one queue.WriteBack h = absurd (omega arith)
 
 module _ (S : Settings) (L : Lent) (t : Tables) (st : ByNumber S L t) (so : Soundly S t) where
   sh : Shape S t
@@ -167,11 +157,11 @@ module _ (S : Settings) (L : Lent) (t : Tables) (st : ByNumber S L t) (so : Soun
 
   place-is : (p : ℕ) → p < S .queue → PlaceIs S L p
   place-is p h = record {
-    known = ⊎-elim (λ l. rw (kind-in S L t st sh p l) (kind-low (place t p .kind))) (λ k. omega (arith, kind-out S L t st sh p h k)) (lt-or-ge p (length (t .queue)));
+    known = ⊎-elim (λ l. rw (kind-in S L t st sh p l) (by-kind (λ k. queueKindNumber k ≤ 2) (omega arith) (omega arith) (place t p .kind))) (λ k. omega (arith, kind-out S L t st sh p h k)) (lt-or-ge p (length (t .queue)));
     blank = λ z. queued-out S L t st sh p h (place-out p h z);
     bare = λ q k j.
         queue-mask-is S L t st sh p k h j
-        ∙ ⊎-elim (λ l. so .queue p l .bare (kind-one (place t p .kind) (rw (kind-in S L t st sh p l) at q)) k j)
+        ∙ ⊎-elim (λ l. so .queue p l .bare (by-kind (λ k. queueKindNumber k ≤ 1 → queueKindNumber k ≡ 1) (λ z. refl) (λ z. absurd (omega arith)) (place t p .kind) (rw (kind-in S L t st sh p l) at q)) k j)
         (λ o. ap (λ (x : Queued). maskIn x k) (List·getD-eq-default (t .queue) idle o) ∙ getD-replicate 4 k 0 0 j) (lt-or-ge p (length (t .queue)));
     block = λ q. let l : p < length (t .queue) = place-i p h q in
         rw (queued-in S L t st sh p l) (so .queue p l .block (sym (kind-in S L t st sh p l) ∙ q));

@@ -2,7 +2,7 @@
 -- as the test on the tables; and the tables are what is read off the slices.
 use mathlib.Core.Path.{_≡_, refl, sym, ap, _∙_}
 use mathlib.Core.Logic.{⊎-elim}
-use mathlib.Core.Bool.{Bool, true, false, not, _&&_, _||_}
+use mathlib.Core.Bool.{Bool, true, false, not, _||_}
 use mathlib.Core.List.{List, map}
 use Prim.Native.Nat.{ℕ, zero, suc, _+_, _*_, _≤_, _<_}
 use native.Mathlib.Nat.{add-zero}
@@ -13,16 +13,15 @@ use Rattle.model.specs.declared.Settings.{Settings}
 use Rattle.model.specs.declared.Status.{Status}
 use Rattle.model.specs.declared.Sector.{Sector}
 use Rattle.model.specs.declared.QueueKind.{QueueKind}
-use Rattle.model.specs.declared.QueueKind.the-variants as queue
 use Rattle.model.specs.declared.Queued.{Queued}
 use Rattle.words.specs.Words.{count, table, every, some, countBelow}
 use Rattle.model.specs.Numbers.{statusNumber, queueKindNumber, queueKindOf}
 use Rattle.model.specs.Range.{linesOf}
 use Rattle.model.specs.Tables.{Line, Entry, Tables, isInvalid, isReserved, whollyInvalid, isFetch, idle, empty, fresh, noEntry, isModified, dirty, dirtyLines}
-use Rattle.model.specs.Lent.{Lent, bit, tagOf, cycleOf, takenOf, treeOf, missOf, sentOf, ticketCountOf, ticketsIn, queuedOf, kindOf, queueMasksOf, inUse, sectorAt, sectorsAt, lineAt, entryAt, queueAt, tablesOf}
+use Rattle.model.specs.Lent.{Lent, bit, tagOf, cycleOf, takenOf, treeOf, missOf, sentOf, ticketCountOf, ticketsIn, queuedOf, kindOf, queueMasksOf, sectorAt, sectorsAt, lineAt, entryAt, queueAt, tablesOf}
 use Rattle.model.specs.Sound.{readingOf}
 use Rattle.words.proofs.Flags.{not-yes, not-no, not-both}
-use Rattle.model.proofs.Answers.{by-status, status-of-number}
+use Rattle.model.proofs.Answers.{by-status, by-kind, status-of-number}
 use Rattle.words.proofs.Lists.{getD-map-in}
 use Rattle.words.proofs.Tabled.{all-get, any-get, count-get, table-list}
 use Rattle.words.proofs.Below.{lt-or-ge, eqb-swap, count-short, count-same, some-same}
@@ -80,19 +79,13 @@ flag-of-bit true = refl
 flag-of-bit false = refl
 
 pub kind-some : (k : QueueKind) → queueKindNumber k ≡ 0 → ⊥
-kind-some queue.Read z = omega arith
-kind-some queue.WriteBack z = omega arith
+kind-some = by-kind (λ k. queueKindNumber k ≡ 0 → ⊥) (λ z. omega arith) (λ z. omega arith)
 
 pub kind-back : (k : QueueKind) → queueKindOf (queueKindNumber k) ≡ k
-kind-back queue.Read = refl
-kind-back queue.WriteBack = refl
+kind-back = by-kind (λ k. queueKindOf (queueKindNumber k) ≡ k) refl refl
 
 pub fetch-number : (k : QueueKind) → eqb (queueKindNumber k) 1 ≡ isFetch k
-fetch-number queue.Read = refl
-fetch-number queue.WriteBack = refl
-
-reading-numbers : (a : ℕ) (x : Queued) → (eqb (kindIn x) 1 && eqb (addressIn x) a) ≡ readingOf a x
-reading-numbers a x = rw (fetch-number (x .kind), eqb-swap (x .address) a)
+fetch-number = by-kind (λ k. eqb (queueKindNumber k) 1 ≡ isFetch k) refl refl
 
 some-not : (n : ℕ) (p : ℕ → Bool) → some n (λ i. not (p i)) ≡ not (every n p)
 some-not zero p = refl
@@ -233,7 +226,7 @@ module _ (S : Settings) (L : Lent) (t : Tables) (st : ByNumber S L t) (sh : Shap
   reads-are a =
       count-short (readFor S L a) (S .queue) (length (t .queue)) (sh .deep) (λ p h k. rw (kind-out p h k))
       ∙ count-same (readFor S L a) (λ p. readingOf a (place t p)) (length (t .queue))
-      (λ p h. rw (kind-in p h, queued-in p h) (reading-numbers a (place t p)))
+      (λ p h. rw (kind-in p h, queued-in p h, fetch-number (place t p .kind), eqb-swap (place t p .address) a))
       ∙ sym (count-get (readingOf a) (t .queue) idle)
 
   -- ---- the tables read off
@@ -261,20 +254,14 @@ module _ (S : Settings) (L : Lent) (t : Tables) (st : ByNumber S L t) (sh : Shap
       queued-back (place t p) (ap queueKindOf (kind-in p l) ∙ kind-back (place t p .kind)) (queued-in p l)
       (table-list 4 (λ k. queueMask S L (4 * p + k)) (place t p .masks) 0 (sh .masked p l) (λ k j. queue-mask-is p k (omega arith) j))
 
-  pub entries-in-use : inUse (S .misses) (ticketCount S L) ≡ length (t .misses)
-  entries-in-use = in-use-is (ticketCount S L) (S .misses) (length (t .misses)) (sh .few) in-entry count-out
-
-  pub places-in-use : inUse (S .queue) (kind S L) ≡ length (t .queue)
-  places-in-use = in-use-is (kind S L) (S .queue) (length (t .queue)) (sh .deep) in-place kind-out
-
   pub stands-tables : tablesOf S L ≡ t
   unfolding tablesOf
   stands-tables =
       rw (
         table-list (linesOf S) (lineAt S (L .longs) (L .words) (L .marks)) (t .lines) fresh (sh .size) line-again,
-        entries-in-use,
+        in-use-is (ticketCount S L) (S .misses) (length (t .misses)) (sh .few) in-entry count-out,
         table-list (length (t .misses)) (entryAt S L) (t .misses) noEntry refl entry-again,
-        places-in-use,
+        in-use-is (kind S L) (S .queue) (length (t .queue)) (sh .deep) in-place kind-out,
         table-list (length (t .queue)) (queueAt S L) (t .queue) idle refl place-again,
         st .time,
         st .count,

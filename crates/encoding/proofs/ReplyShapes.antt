@@ -28,6 +28,7 @@ use Rattle.model.specs.declared.Reply.{Reply}
 use Rattle.words.proofs.Flags.{and-1, and-2, clash}
 use Rattle.words.proofs.Places.{length-padTo}
 use Rattle.words.proofs.Lists.{all-append}
+use Rattle.model.proofs.Answers.{by-kind}
 use Rattle.model.proofs.AccessCases.{access-judged}
 use Rattle.model.proofs.SendFillKeepSound.{send-cases}
 use Rattle.encoding.proofs.Bridge.{does-tells}
@@ -48,10 +49,6 @@ none e = false
 queued-as : (k : QueueKind) (a : ℕ) (ms : List ℕ) → (queuing (queuedAs k a ms) ≡ true) × (releasing (queuedAs k a ms) ≡ false)
 queued-as queue.Read a ms = (refl, refl)
 queued-as queue.WriteBack a ms = (refl, refl)
-
-sent-as : (k : QueueKind) (a : ℕ) (ms : List ℕ) → ofSend (sentAs k a ms) ≡ true
-sent-as queue.Read a ms = refl
-sent-as queue.WriteBack a ms = refl
 
 all-queuing : (qs : List Queued) → all queuing (map queuedEvent qs) ≡ true
 all-queuing [] = refl
@@ -82,7 +79,7 @@ access-tells S x t =
 
 send-tells : (t : Tables) → TellsShape ofSend none (send t)
 send-tells t =
-    send-cases t (TellsShape ofSend none) (λ n. record { is = refl }) (λ x q e. record { is = rw (sent-as (x .kind) (x .address) (x .masks)) })
+    send-cases t (TellsShape ofSend none) (λ n. record { is = refl }) (λ x q e. record { is = rw (by-kind (λ k. ofSend (sentAs k (x .address) (x .masks)) ≡ true) refl refl (x .kind)) })
 
 fill-tells : (a : ℕ) (t : Tables) → TellsShape ofFill releasing (fill a t)
 unfolding fill

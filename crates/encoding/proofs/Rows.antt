@@ -15,9 +15,6 @@ use Rattle.words.proofs.Flags.{iff, imp-i, imp-use}
 use Rattle.words.proofs.Below.{every-at, every-i, some-at, some-i}
 
 module _ (w : ℕ) (pos : 0 < w) where
-  pub row-fits : (k n : ℕ) → k < n → k * w + w ≤ n * w
-  row-fits k n h = rw suc-mul at (mul-le-mul-right w h)
-
   -- those of the row of l before l
   pub every-row : (q : ℕ → Bool) (l : ℕ) → every l (λ m. imp (eqb (m / w) (l / w)) (q m)) ≡ every (l % w) (λ k. q (l / w * w + k))
   every-row q l =
@@ -42,4 +39,4 @@ module _ (w : ℕ) (pos : 0 < w) where
 
 -- the ways of an address's set are among the lines
 pub set-room : (S : Settings) (a : ℕ) {k : ℕ} → k ≡ setIndex S a → 1 ≤ S .sets → 1 ≤ S .ways → k * S .ways + S .ways ≤ linesOf S
-set-room S a {k} e h w = row-fits (S .ways) w k (S .sets) (rw e (mod-lt (a / 128) h))
+set-room S a {k} e h w = let below : k < S .sets = rw e (mod-lt (a / 128) h) in rw suc-mul at (mul-le-mul-right (S .ways) below)

@@ -42,21 +42,17 @@ module _ (S : Settings) (L : Lent) (t : Tables) (is : Encodes S L t) where
   call-read (command.Got (cmd.Settings g)) = refl
   call-read command.None = refl
 
-  pub call-at : (k : ℕ) (rest : List ℕ) → callAt S k rest L ≡ encoded S (stepAt S k rest t)
-  unfolding callAt runner.stepAt
-  call-at k rest = call-read (commandOf k (take (lengthOf k) rest))
-
 -- ---- the records of a stream
 
 module _ (S : Settings) where
   pub calls-from : (n room : ℕ) (s : List ℕ) (L : Lent) (t : Tables) → bytes s ≡ true → Encodes S L t
       → callsFrom S n room s L ≡ lentResult S (runFrom S n room s t)
-  unfolding callsFrom runner.runFrom
+  unfolding callsFrom runner.runFrom callAt runner.stepAt
   calls-from n room [] L t h is = ap (halt Nothing) (is .encoded)
   calls-from (suc n) room (b ∷ bs) L t h is = calls-from n room bs L t (and-2 (ltb b 256) (bytes bs) h) is
   calls-from zero room (k ∷ bs) L t h is =
       let o = stepAt S k bs t in
-      let c : callAt S k bs L ≡ encoded S o = call-at S L t is k bs in
+      let c : callAt S k bs L ≡ encoded S o = call-read S L t is (commandOf k (take (lengthOf k) bs)) in
       let es : eventsOf (callAt S k bs L) ≡ eventsOf o = ap eventsOf c ∙ events-encoded S o in
       let m : after L (callAt S k bs L) ≡ encode S (after t o) = ap (after L) c ∙ after-encoded S L t o (is .encoded) in
       let g = and-2 (ltb k 256) (bytes bs) h in
