@@ -42,13 +42,11 @@ zero-masks (m ∷ ms) h =
     rw (z, zero-masks ms (and-2 (eqb m 0) (all (λ m. eqb m 0) ms) h))
 
 module _ (es : List Entry) where
-  read-masks : (a : ℕ) (ms : List ℕ) → length ms ≡ 4 → kindOk es queue.Read a ms ≡ true → replicate 4 0 ≡ ms
-  read-masks a ms four h = ap (λ (n : ℕ). replicate n 0) (sym four) ∙ zero-masks ms (and-2 (any (unsentFor a) es) (all (λ m. eqb m 0) ms) h)
-
   -- an entry of a sound queue is the one that its event tells
   told-as : (k : QueueKind) (a : ℕ) (ms : List ℕ) → length ms ≡ 4 → kindOk es k a ms ≡ true
       → (queuedFrom (queuedAs k a ms) ≡ record { kind = k; address = a; masks = ms } ∷ []) × (sentFrom (sentAs k a ms) ≡ record { kind = k; address = a; masks = ms } ∷ [])
-  told-as queue.Read a ms four h = let z = read-masks a ms four h in (rw z, rw z)
+  told-as queue.Read a ms four h =
+      let z : replicate 4 0 ≡ ms = rw four at (zero-masks ms (and-2 (any (unsentFor a) es) (all (λ m. eqb m 0) ms) h)) in (rw z, rw z)
   told-as queue.WriteBack b ms four h = let z = four-whole 0 ms four in (rw z, rw z)
 
   told : (q : Queued) → queuedOk es q ≡ true → (queuedFrom (queuedEvent q) ≡ q ∷ []) × (sentFrom (sentEvent q) ≡ q ∷ [])
