@@ -52,7 +52,6 @@ module _ (S : Settings) (L : Lent) (t : Tables) (st : ByNumber S L t) (so : Soun
         since = rw (k, c) (f .since);
         alone = λ v m j r w e.
             let b : m < linesOf S = omega arith in
-            let s = so .size in
             let q : m ≡ l = so .alone l h (lives S L t st sh l h v) m (omega arith) (lives S L t st sh m b w) (sym (tag-is S L t st sh m b) ∙ e ∙ a) in
             omega arith;
       }
@@ -98,7 +97,6 @@ module _ (S : Settings) (L : Lent) (t : Tables) (st : ByNumber S L t) (so : Soun
       let f = so .entries e i in
       let (l, b, (v, at)) = f .home in
       let n : l < linesOf S = omega (arith, so .size) in
-      let even : entry t e .address % 32 ≡ 0 = f .even in
       let j : sectorIndex (entry t e .address) < 4 = omega arith in
       let a : entry t e .address ≡ line t l .tag + 32 * sectorIndex (entry t e .address) = omega arith in
       let some : any (entryFor (line t l .tag + 32 * sectorIndex (entry t e .address))) (t .misses) ≡ true =

@@ -194,7 +194,6 @@ module _ (S : Settings) (L : Lent) (t : Tables) (st : ByNumber S L t) (sh : Shap
 
   pub in-entry : (e : ℕ) → e < length (t .misses) → Used S L e
   in-entry e h z =
-      let few = sh .few in
       let q : ticketCount S L e ≡ length (entry t e .tickets) = count-is e (omega arith) in
       let o : 1 ≤ length (entry t e .tickets) = sh .held e h in
       omega arith
@@ -241,7 +240,6 @@ module _ (S : Settings) (L : Lent) (t : Tables) (st : ByNumber S L t) (sh : Shap
 
   entry-again : (e : ℕ) → e < length (t .misses) → entryAt S L e ≡ entry t e
   entry-again e l =
-      let few = sh .few in
       let h : e < S .misses = omega arith in
       let c = count-is e h in
       let w = sh .short e l in
@@ -250,7 +248,6 @@ module _ (S : Settings) (L : Lent) (t : Tables) (st : ByNumber S L t) (sh : Shap
 
   place-again : (p : ℕ) → p < length (t .queue) → queueAt S L p ≡ place t p
   place-again p l =
-      let deep = sh .deep in
       queued-back (place t p) (ap queueKindOf (kind-in p l) ∙ kind-back (place t p .kind)) (queued-in p l)
       (table-list 4 (λ k. queueMask S L (4 * p + k)) (place t p .masks) 0 (sh .masked p l) (λ k j. queue-mask-is p k (omega arith) j))
 

@@ -290,7 +290,6 @@ module _ (S : Settings) (t : Tables) where
       let agrees : (l : ℕ) → l < linesOf S → Agrees S t l = λ l h. w .0 .0 .0 .0 .0 .0 .0 .1 l (omega arith) in
       search depth 14)
       (λ r.
-      let size = r .size in
       let alone : (l : ℕ) → l < length (t .lines) → OnlyTag S t l = λ l h. r .alone l (omega arith) in
       let agrees : (l : ℕ) → l < length (t .lines) → Agrees S t l = λ l h. r .agrees l (omega arith) in
       search depth 14)

@@ -59,7 +59,6 @@ unfolding withBit
 put-below zero t i h l b c = absurd (omega arith)
 put-below (suc k) t zero h l b c = let e = pow-suc 2 k in omega arith
 put-below (suc k) t (suc i) h l b c =
-    let e = pow-suc 2 k in
     let r : withBit (t / 2) i h < 2 ^ k = put-below k (t / 2) i h l (omega arith) (omega arith) in
     omega arith
 
@@ -72,7 +71,6 @@ or-puts t zero =
     let z = or-zero-r (t / 2) in
     or-step t 1 ∙ rw (z, m)
 or-puts t (suc i) =
-    let e = pow-suc 2 i in
     let q : 2 ^ suc i / 2 ≡ 2 ^ i = omega arith in
     let r : 2 ^ suc i % 2 ≡ 0 = omega arith in
     let m : max (t % 2) 0 ≡ t % 2 = omega arith in

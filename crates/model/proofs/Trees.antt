@@ -36,7 +36,6 @@ module _ (p : ℕ → Bool) where
       → (someFrom p (first + 0 * 2 ^ k) (2 ^ k) ≡ true) ⊎ (someFrom p (first + 1 * 2 ^ k) (2 ^ k) ≡ true)
   in-half k first e =
       let (i, a, t) = some-at (λ i. p (first + i)) (2 ^ suc k) e in
-      let d = double k in
       ⊎-elim (λ l. let h = ltb-true i (2 ^ k) l in inl (some-in (first + 0 * 2 ^ k) (2 ^ k) (first + i) (omega arith) (omega arith) t))
       (λ l. let h = ltb-false i (2 ^ k) l in inr (some-in (first + 1 * 2 ^ k) (2 ^ k) (first + i) (omega arith) (omega arith) t))
       (flag (ltb i (2 ^ k)))
@@ -44,7 +43,6 @@ module _ (p : ℕ → Bool) where
 -- a half of a span lies in it
 half-inside : (k first w : ℕ) {h : ℕ} → h < 2 → first + h * 2 ^ k ≤ w → w < first + h * 2 ^ k + 2 ^ k → (first ≤ w) × (w < first + 2 ^ suc k)
 half-inside k first w {h} l a b =
-    let d = double k in
     ⊎-elim (λ z. let a' : first + 0 * 2 ^ k ≤ w = rw z at a in let b' : w < first + 0 * 2 ^ k + 2 ^ k = rw z at b in (omega arith, omega arith))
     (λ z. let a' : first + 1 * 2 ^ k ≤ w = rw z at a in let b' : w < first + 1 * 2 ^ k + 2 ^ k = rw z at b in (omega arith, omega arith))
     (halves l)
@@ -136,7 +134,6 @@ side-two k first w = by-flag (λ (h : ℕ). h < 2) (ltb w (first + 2 ^ k)) 0 1 (
 pub path-leads : (k first w : ℕ) → first ≤ w → w < first + 2 ^ suc k
     → (first + sideOf k first w * 2 ^ k ≤ w) × (w < first + sideOf k first w * 2 ^ k + 2 ^ k)
 path-leads k first w a b =
-    let d = double k in
     by-flag (λ (h : ℕ). (first + h * 2 ^ k ≤ w) × (w < first + h * 2 ^ k + 2 ^ k)) (ltb w (first + 2 ^ k)) 0 1
     (λ e. let l = ltb-true w (first + 2 ^ k) e in (omega arith, omega arith)) (λ e. let l = ltb-false w (first + 2 ^ k) e in (omega arith, omega arith))
 
@@ -151,7 +148,6 @@ pub turned-others : (t k n first w m : ℕ) → 1 ≤ n → 1 ≤ m → ((s : St
 unfolding turned
 turned-others t zero n first w m l j f = refl
 turned-others t (suc k) n first w m l j f =
-    let u = side-two k first w in
     let d : n - 1 ≡ m - 1 → ⊥ = λ e. f (record { node = n; half = sideOf k first w }) (inl refl) (omega arith) in
     turned-others (pointed t n (1 - sideOf k first w)) k _ _ w m (omega arith) j (λ s i. f s (inr i))
     ∙ put-other t (n - 1) (m - 1) (1 - sideOf k first w) (omega arith) d
@@ -161,7 +157,6 @@ pub turned-path : (t k n first w : ℕ) (s : Step) → 1 ≤ n → In s (path k 
 unfolding turned
 turned-path t zero n first w s l i = absurd i
 turned-path t (suc k) n first w s l (inl e) =
-    let u = side-two k first w in
     let f : (x : Step) → In x (path k (2 * n + sideOf k first w) (first + sideOf k first w * 2 ^ k) w) → x .node ≡ n → ⊥ =
     λ x i q. let r = path-below k (2 * n + sideOf k first w) _ w x (omega arith) i in omega arith in
     rw e (turned-others (pointed t n (1 - sideOf k first w)) k _ _ w n (omega arith) l f ∙ put-same t (n - 1) (1 - sideOf k first w) (omega arith))
@@ -176,7 +171,6 @@ leaf k n first w = n * 2 ^ k + (w - first)
 module _ (k n first w : ℕ) (from : first ≤ w) (to : w < first + 2 ^ suc k) where
   leaf-same : leaf k (2 * n + sideOf k first w) (first + sideOf k first w * 2 ^ k) w ≡ leaf (suc k) n first w
   leaf-same =
-      let h : ℕ = sideOf k first w in
       let e : n * 2 ^ suc k ≡ n * 2 ^ k * 2 = ap (λ (x : ℕ). n * x) (pow-suc 2 k) ∙ sym (mul-assoc n (2 ^ k) 2) in
       omega (arith, path-leads k first w from to)
 
