@@ -27,6 +27,7 @@ use Rattle.model.specs.declared.Event.the-variants as event
 use Rattle.model.specs.declared.Refusal.{Refusal}
 use Rattle.model.specs.declared.Refusal.the-variants.{SetHeld}
 use Rattle.words.proofs.Flags.{and-2, flag, not-yes, clash, or-no-1, or-no-2}
+use Rattle.words.proofs.Below.{by-suc}
 use Rattle.model.proofs.Answers.{by-kind}
 use Rattle.model.proofs.AccessCases.{access-judged}
 use Rattle.model.proofs.SendFillKeepSound.{send-cases}
@@ -282,12 +283,9 @@ silent = record { sends = λ t. still t; fills = λ a t. still t; offers = λ t.
 silent-offers : (n : ℕ) (t : Tables) → (any accepts (rounds silent n t .offers) ≡ false) × ((i : ℕ) → getD (rounds silent n t .offers) i [] ≡ [])
 unfolding rounds
 silent-offers zero t = (refl, λ i. refl)
-silent-offers (suc n) t = let (none, told) = silent-offers n (drain silent t .left) in (none, λ i. at-place i told)
-  where
-    at-place : (i : ℕ) → ((j : ℕ) → getD (rounds silent n (drain silent t .left) .offers) j [] ≡ [])
-        → getD ([] ∷ rounds silent n (drain silent t .left) .offers) i [] ≡ []
-    at-place zero h = refl
-    at-place (suc i) h = h i
+silent-offers (suc n) t =
+    let (none, told) = silent-offers n (drain silent t .left) in
+    (none, by-suc (λ i. getD ([] ∷ rounds silent n (drain silent t .left) .offers) i [] ≡ []) refl told)
 
 pub not-demand-3-of-a-silent-library : (t : Tables) → Demand3 silent t → ⊥
 not-demand-3-of-a-silent-library t d =

@@ -2,7 +2,7 @@
 use Prim.Native.Nat.{ℕ, _+_, _*_, _%_, _<_, _-_}
 use mathlib.Core.Path.{_≡_, refl, sym, ap, _∙_}
 use mathlib.Core.Logic.{inr, _≢_, ⊎-elim}
-use mathlib.Core.Bool.{Bool, true, false, not, _&&_}
+use mathlib.Core.Bool.{Bool, true, false, not, _&&_, not-and-self}
 use mathlib.Core.List.{List, [], _∷_, map}
 use native.Mathlib.Omega.{arith}
 use lib.ListN.{length, getD, length-map, length-set, List·getD-map, set}
@@ -172,12 +172,6 @@ module _ (a : ℕ) (l : Line) (four : length (l .sectors) ≡ 4) where
       by-flag (λ (m : Line). dirty m ≡ true) (holds (blockOf a) l) _ _
       (λ e. any-set (λ (s : Sector). isModified (s .status)) (l .sectors) (sectorIndex a) (arrived old) empty (arrived-dirty old (old-ok ok)) h) (λ e. h)
 
-  soiled-holds : soiled a l ≡ true → holds (blockOf a) l ≡ true
-  soiled-holds h =
-      ⊎-elim (λ e. e)
-      (λ e. clash (and-2 (not (dirty l)) (dirty (fillLine a l)) h) (ap dirty (fill-kept a l e) ∙ not-yes (and-1 (not (dirty l)) (dirty (fillLine a l)) h)))
-      (flag (holds (blockOf a) l))
-
   fill-holds : (b : ℕ) → holds b (fillLine a l) ≡ holds b l
   fill-holds b = rw (fill-unused, fill-tag a l)
 
@@ -320,8 +314,7 @@ module _ (S : Settings) (t : Tables) (ok : Sound S t) (d : Entry) (m : In d (t .
     line-in = in-getD (t .lines) i fresh inside
 
     one-soiled : any (soiled a) (t .lines) ≡ soiled a line
-    one-soiled = any-one (soiled a) (t .lines) i fresh inside
-        (λ j h z. no-yes (λ e. clash (soiled-holds a (getD (t .lines) j fresh) (four-at S t ok (getD (t .lines) j fresh) (in-getD (t .lines) j fresh h)) e) (other j h z)))
+    one-soiled = any-one (soiled a) (t .lines) i fresh inside (λ j h z. rw (fill-kept a (getD (t .lines) j fresh) (other j h z)) (not-and-self (dirty (getD (t .lines) j fresh))))
 
     counted-filled : t .dirtyCount + one (any (soiled a) (t .lines)) ≡ count dirty filled
     counted-filled =

@@ -19,11 +19,7 @@ use Rattle.words.proofs.Below.{some-at, some-i, some-same}
 use Rattle.words.proofs.Lists.{In, all-in, any-in}
 use Rattle.model.proofs.TreeBits.{bit-two, halves, put-same, put-other, put-below}
 
--- ---- halves of a span
-
--- as the descent takes them
-double : (k : ℕ) → 2 ^ suc k ≡ 2 ^ k + 2 ^ k
-double k = let e = pow-suc 2 k in omega arith
+-- ---- halves of a span, as the descent takes them
 
 module _ (p : ℕ → Bool) where
   some-in : (first width w : ℕ) → first ≤ w → w < first + width → p w ≡ true → someFrom p first width ≡ true
@@ -42,10 +38,7 @@ module _ (p : ℕ → Bool) where
 
 -- a half of a span lies in it
 half-inside : (k first w : ℕ) {h : ℕ} → h < 2 → first + h * 2 ^ k ≤ w → w < first + h * 2 ^ k + 2 ^ k → (first ≤ w) × (w < first + 2 ^ suc k)
-half-inside k first w {h} l a b =
-    ⊎-elim (λ z. let a' : first + 0 * 2 ^ k ≤ w = rw z at a in let b' : w < first + 0 * 2 ^ k + 2 ^ k = rw z at b in (omega arith, omega arith))
-    (λ z. let a' : first + 1 * 2 ^ k ≤ w = rw z at a in let b' : w < first + 1 * 2 ^ k + 2 ^ k = rw z at b in (omega arith, omega arith))
-    (halves l)
+half-inside k first w {h} l a b = let g : h * 2 ^ k ≤ 1 * 2 ^ k = mul-le-mul (omega arith) (omega arith) in (omega arith, omega arith)
 
 -- ---- the choice
 
@@ -201,17 +194,12 @@ above x j = record { node = x / 2 ^ suc j; half = x / 2 ^ j % 2 }
 path-to : (k n first w : ℕ) → first ≤ w → w < first + 2 ^ k → (j : ℕ) → j < k → In (above (leaf k n first w) j) (path k n first w)
 path-to zero n first w a b j l = absurd (omega arith)
 path-to (suc k) n first w a b j l =
-    ⊎-elim here
+    ⊎-elim
+    (λ e. inl (rw e (λ i. record { node = sym (leaf-node k n first w a b) i; half = sym (leaf-half k n first w a b) i })))
     (λ m. let c = path-leads k first w a b in
-    there (path-to k (2 * n + sideOf k first w) (first + sideOf k first w * 2 ^ k) w (c .0) (c .1) j m))
+    let r = path-to k (2 * n + sideOf k first w) (first + sideOf k first w * 2 ^ k) w (c .0) (c .1) j m in
+    inr (subst (λ (x : ℕ). In (above x j) (path k (2 * n + sideOf k first w) (first + sideOf k first w * 2 ^ k) w)) (leaf-same k n first w a b) r))
     (eq-or-lt-of-le (le-of-suc-le-suc l))
-  where
-    here : j ≡ k → In (above (leaf (suc k) n first w) j) (path (suc k) n first w)
-    here e = inl (rw e (λ i. record { node = sym (leaf-node k n first w a b) i; half = sym (leaf-half k n first w a b) i }))
-
-    there : In (above (leaf k (2 * n + sideOf k first w) (first + sideOf k first w * 2 ^ k) w) j) (path k (2 * n + sideOf k first w) (first + sideOf k first w * 2 ^ k) w)
-        → In (above (leaf (suc k) n first w) j) (path (suc k) n first w)
-    there r = inr (subst (λ (x : ℕ). In (above x j) (path k (2 * n + sideOf k first w) (first + sideOf k first w * 2 ^ k) w)) (leaf-same k n first w a b) r)
 
 root : (k w : ℕ) → leaf k 1 0 w ≡ 2 ^ k + w
 root k w = omega arith
@@ -261,8 +249,7 @@ halvings-reach zero n l = omega arith
 halvings-reach (suc f) n l =
     by-flag (λ (k : ℕ). n ≤ 2 ^ k) (leb n 1) 0 (suc (halvings f ((n + 1) / 2)))
     (λ e. leb-true n 1 e)
-    (λ e. let d = double (halvings f ((n + 1) / 2)) in
-    let g = leb-false n 1 e in
+    (λ e. let g = leb-false n 1 e in
     let r = halvings-reach f ((n + 1) / 2) (omega arith) in omega arith)
 
 -- no way is left out, whatever their number

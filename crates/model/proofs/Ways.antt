@@ -22,6 +22,7 @@ use Rattle.model.specs.declared.Refusal.the-variants.{SetBusy, SetHeld}
 use Rattle.model.specs.declared.Found.{Found}
 use Rattle.model.specs.declared.Found.the-variants.{At, Nothing}
 use Rattle.words.proofs.Flags.{and-1, clash, by-flag}
+use Rattle.words.proofs.Below.{by-suc}
 use Rattle.words.proofs.Lists.{In, in-getD, in-index, getD-map-in, in-take, in-drop}
 use Rattle.model.proofs.Trees.{Chooses, choice-chooses, levels-reach}
 
@@ -148,16 +149,11 @@ Last p ls (At w) = (v : ℕ) → w < v → v < length ls → p (getD ls v fresh)
 last-more : (p : Line → Bool) (l : Line) (ls : List Line) (r : Found) → Finds p ls r → Last p ls r → (b : Bool)
     → Last p (l ∷ ls) (orElse (next r) (pick b (At 0) Nothing))
 last-more p l ls Nothing f g false = tt
-last-more p l ls Nothing f g true = go
-  where
-    go : (v : ℕ) → 0 < v → v < length (l ∷ ls) → p (getD (l ∷ ls) v fresh) ≡ false
-    go zero h k = absurd (omega arith)
-    go (suc v) h k = f (getD ls v fresh) (in-getD ls v fresh (omega arith))
-last-more p l ls (At w) f g b = go
-  where
-    go : (v : ℕ) → suc w < v → v < length (l ∷ ls) → p (getD (l ∷ ls) v fresh) ≡ false
-    go zero h k = absurd (omega arith)
-    go (suc v) h k = g v (omega arith) (omega arith)
+last-more p l ls Nothing f g true =
+    by-suc (λ v. 0 < v → v < length (l ∷ ls) → p (getD (l ∷ ls) v fresh) ≡ false) (λ h k. absurd (omega arith))
+    (λ v h k. f (getD ls v fresh) (in-getD ls v fresh (omega arith)))
+last-more p l ls (At w) f g b =
+    by-suc (λ v. suc w < v → v < length (l ∷ ls) → p (getD (l ∷ ls) v fresh) ≡ false) (λ h k. absurd (omega arith)) (λ v h k. g v (omega arith) (omega arith))
 
 pub last-is-last : (p : Line → Bool) (ls : List Line) → Last p ls (last p ls)
 last-is-last p [] = tt
@@ -175,27 +171,20 @@ Least key p ls (At w) = (v : ℕ) → Earliest key p ls w v
 module _ (key : Line → ℕ) (p : Line → Bool) (l : Line) (ls : List Line) where
   least-next : p l ≡ false → (r : Found) → Least key p ls r → Least key p (l ∷ ls) (next r)
   least-next e Nothing g = tt
-  least-next e (At w) g = go
-    where
-      go : (v : ℕ) → Earliest key p (l ∷ ls) (suc w) v
-      go zero h k = clash k e
-      go (suc v) h k = let q = g v (omega arith) k in (q .0, λ z. q .1 (omega arith))
+  least-next e (At w) g =
+      by-suc (Earliest key p (l ∷ ls) (suc w)) (λ h k. clash k e) (λ v h k. let q = g v (omega arith) k in (q .0, λ z. q .1 (omega arith)))
 
   least-older : (r : Found) → Finds p ls r → Least key p ls r → Least key p (l ∷ ls) (older key ls (key l) r)
-  least-older Nothing f g = go
-    where
-      go : (v : ℕ) → Earliest key p (l ∷ ls) 0 v
-      go zero h k = (omega arith, λ z. absurd (omega arith))
-      go (suc v) h k = clash k (f (getD ls v fresh) (in-getD ls v fresh (omega arith)))
-  least-older (At w) f g = by-flag (Least key p (l ∷ ls)) (leb (key l) (key (getD ls w fresh))) (At 0) (At (suc w)) this other
-    where
-      this : leb (key l) (key (getD ls w fresh)) ≡ true → (v : ℕ) → Earliest key p (l ∷ ls) 0 v
-      this e zero h k = (omega arith, λ z. absurd (omega arith))
-      this e (suc v) h k = let q = g v (omega arith) k in (omega (arith, q .0, leb-true (key l) (key (getD ls w fresh)) e), λ z. absurd (omega arith))
-
-      other : leb (key l) (key (getD ls w fresh)) ≡ false → (v : ℕ) → Earliest key p (l ∷ ls) (suc w) v
-      other e zero h k = let q : key (getD ls w fresh) < key l = leb-false (key l) (key (getD ls w fresh)) e in (omega arith, λ z. q)
-      other e (suc v) h k = let q = g v (omega arith) k in (q .0, λ z. q .1 (omega arith))
+  least-older Nothing f g =
+      by-suc (Earliest key p (l ∷ ls) 0) (λ h k. (omega arith, λ z. absurd (omega arith)))
+      (λ v h k. clash k (f (getD ls v fresh) (in-getD ls v fresh (omega arith))))
+  least-older (At w) f g =
+      by-flag (Least key p (l ∷ ls)) (leb (key l) (key (getD ls w fresh))) (At 0) (At (suc w))
+      (λ e. by-suc (Earliest key p (l ∷ ls) 0) (λ h k. (omega arith, λ z. absurd (omega arith)))
+      (λ v h k. let q = g v (omega arith) k in (omega (arith, q .0, leb-true (key l) (key (getD ls w fresh)) e), λ z. absurd (omega arith))))
+      (λ e. by-suc (Earliest key p (l ∷ ls) (suc w))
+      (λ h k. let q : key (getD ls w fresh) < key l = leb-false (key l) (key (getD ls w fresh)) e in (omega arith, λ z. q))
+      (λ v h k. let q = g v (omega arith) k in (q .0, λ z. q .1 (omega arith))))
 
 pub earliest-is-least : (key : Line → ℕ) (p : Line → Bool) (ls : List Line) → Least key p ls (earliest key p ls)
 earliest-is-least key p [] = tt

@@ -20,6 +20,10 @@ leb-not m n = ⊎-elim (λ h. rw (lt-leb m n h, lt-ltb n m h)) (λ h. rw (le-leb
 pub eqb-swap : (a b : ℕ) → eqb a b ≡ eqb b a
 eqb-swap a b = iff (λ t. eq-eqb b a (sym (eqb-true a b t))) (λ t. eq-eqb a b (sym (eqb-true b a t)))
 
+pub by-suc : (P : ℕ → Type 0) → P 0 → ((n : ℕ) → P (suc n)) → (n : ℕ) → P n
+by-suc P z s zero = z
+by-suc P z s (suc n) = s n
+
 pub below-four : (P : ℕ → Type 0) → P 0 → P 1 → P 2 → P 3 → (k : ℕ) → k < 4 → P k
 below-four P a b c d zero h = a
 below-four P a b c d (suc zero) h = b
