@@ -49,17 +49,8 @@ bit-clear r z = no-yes (λ e. bit-set r e z)
 -- INVALID or VALID: mask 0, readable
 clean-is : (x m : ℕ) (r : Bool) → (x ≡ 0) ⊎ (x ≡ 2) → Decides (eqb m 0 && r) (SectorOk x m (bit r))
 clean-is x m r c =
-    is-as (is-eq m 0 ⊓ is-flag r)
-    (λ w. let z = w .0 in record {
-      small = omega arith;
-      clean = λ d. z;
-      dirty = λ e. absurd (three e);
-      unreadable = λ e. absurd (bit-set r (w .1) e);
-    })
-    (λ f. (f .clean c, set-bit r (λ e. three (f .unreadable e .0))))
-  where
-    three : x ≡ 3 → ⊥
-    three e = ⊎-elim (λ z. omega arith) (λ z. omega arith) c
+    is-as (is-eq m 0 ⊓ is-flag r) (λ w. let z = w .0 in let b : bit r ≡ 1 = ap bit (w .1) in ⊎-elim (λ k. omega arith) (λ k. omega arith) c)
+    (λ f. (f .clean c, set-bit r (λ e. let q = f .unreadable e .0 in ⊎-elim (λ k. omega arith) (λ k. omega arith) c)))
 
 sector-ok-is : (s : Status) (m : ℕ) (r : Bool) → Decides (maskOk s m r) (SectorOk (statusNumber s) m (bit r))
 sector-ok-is Invalid m r = clean-is 0 m r (inl refl)
