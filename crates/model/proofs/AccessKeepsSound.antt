@@ -1,7 +1,7 @@
 -- An accepted access keeps sound tables sound, given what is known of the line that it meets (`Spotted`).
 use Prim.Native.Nat.{ℕ, _+_, _*_, _/_, _%_, _^_, _≤_, _<_}
 use mathlib.Core.Path.{_≡_, refl, sym, ap, _∙_}
-use mathlib.Core.Logic.{_⊎_, inl, inr, _≢_, ⊎-elim}
+use mathlib.Core.Logic.{_⊎_, _≢_, ⊎-elim}
 use mathlib.Core.Bool.{Bool, true, false, not, _&&_, _||_, and-false, and-true, or-true, or-false}
 use mathlib.Core.List.{List, [], _∷_, _++_, map}
 use native.Mathlib.Omega.{arith}
@@ -27,7 +27,8 @@ use Rattle.model.specs.declared.Answer.the-variants.{Hit, HitReserved, M
 use Rattle.model.specs.declared.Access.{Access}
 use Rattle.model.specs.declared.Access.the-variants.{Read, Write}
 use Rattle.words.proofs.Flags.{and-1, and-2, and-i, or-1, or-2, or-unless, flag, not-yes, not-no, no-yes, clash, by-flag, is-same}
-use Rattle.words.proofs.Lists.{In, all-in, in-all, in-any, any-in, index-count, count-append, any-append, in-append, none-count, each, in-set-same, in-set-other, count-ext, any-ext, in-getD, in-index, all-set, set-some, in-map, any-map, count-map}
+use Rattle.words.proofs.Lists.{In, all-in, in-all, in-any, any-in, index-count, count-append, any-append, in-append, none-count, each, in-set-same, in-set-other, count-ext, any-ext, in-getD, all-set, set-some, in-map, any-map, count-map}
+use Rattle.words.proofs.Tabled.{all-get}
 use Rattle.words.proofs.Below.{every-i, eqb-swap}
 use Rattle.model.proofs.Fits.{tree-power}
 use Rattle.model.proofs.Answers.{status-reserved}
@@ -135,53 +136,15 @@ fetch-queued x n es y =
     (λ e k. ⊎-elim (λ q. rw (q, any-append (unsentFor a) es (newEntry a k ∷ []) ∙ or-2 (any (unsentFor a) es) _ (rw (eq-eqb a a refl)))) (λ i. absurd i))
     (λ e k i. absurd i) (λ i. absurd i)
 
--- where an entry comes from
-record Old (W : ℕ) (es : List Entry) (e : Entry) : Type 0 where
-  old : Entry
-  there : In old es
-  address : e .address ≡ old .address
-  sent : e .sent ≡ old .sent
-  readers : within 1 W (length (e .tickets)) ≡ true
-
-record NewEntry (x : Access) (n : Answer) (e : Entry) : Type 0 where
-  fetched : fetching x n ≡ true
-  address : e .address ≡ addressOf x
-  sent : e .sent ≡ false
-  one : length (e .tickets) ≡ 1
-
-module _ (S : Settings) (es : List Entry) (ok : (d : Entry) → In d es → within 1 (S .readers) (length (d .tickets)) ≡ true) where
-  entry-same : (e : Entry) → In e es → Old (S .readers) es e
-  entry-same e i = record { old = e; there = i; address = refl; sent = refl; readers = ok e i }
-
-  join-readers : (a k : ℕ) (d : Entry) → In d es → entryFull S a d ≡ false → within 1 (S .readers) (length (join a k d .tickets)) ≡ true
-  join-readers a k d i f =
-      by-flag (λ (v : Entry). within 1 (S .readers) (length (v .tickets)) ≡ true) (entryFor a d) _ _
-      (λ q. let z : leb (S .readers) (length (d .tickets)) ≡ false = rw q at f in
-      rw length-append (and-i (le-leb 1 (length (d .tickets) + 1) (omega arith))
-      (le-leb (length (d .tickets) + 1) (S .readers) (omega (arith, leb-false (S .readers) (length (d .tickets)) z)))))
-      (λ q. ok d i)
-
-  entry-from : (x : Access) (n : Answer) → (isRead x && isMerge n && any (entryFull S (addressOf x)) es) ≡ false → (e : Entry)
-      → In e (onMisses x n es)
-      → Old (S .readers) es e ⊎ NewEntry x n e
-  entry-from x n f e =
-      misses-by (λ g q fs. In e fs → Old (S .readers) es e ⊎ NewEntry x n e) x n es
-      (λ fetched k i. ⊎-elim (λ q. inl (entry-same e q)) (⊎-elim (λ q. inr (record {
-        fetched = fetched;
-        address = ap (λ (v : Entry). v .address) q;
-        sent = ap (λ (v : Entry). v .sent) q;
-        one = ap (λ (v : Entry). length (v .tickets)) q;
-      })) (λ q. absurd q)) (in-append es _ e i))
-      (λ merged k i. let (d, o, q) = in-map (join (addressOf x) k) es i in
-      let full : entryFull S (addressOf x) d ≡ false = no-yes (λ z. clash (in-any (entryFull S (addressOf x)) es o z) (rw merged at f)) in
-      inl (record {
-        old = d;
-        there = o;
-        address = ap (λ (v : Entry). v .address) q ∙ join-address (addressOf x) k d;
-        sent = ap (λ (v : Entry). v .sent) q ∙ join-sent (addressOf x) k d;
-        readers = ap (λ (v : Entry). within 1 (S .readers) (length (v .tickets))) q ∙ join-readers (addressOf x) k d o full;
-      }))
-      (λ i. inl (entry-same e i))
+-- a ticket more, where the entry isn't full
+join-readers : (S : Settings) (a k : ℕ) (d : Entry) → within 1 (S .readers) (length (d .tickets)) ≡ true → entryFull S a d ≡ false
+    → within 1 (S .readers) (length (join a k d .tickets)) ≡ true
+join-readers S a k d w f =
+    by-flag (λ (v : Entry). within 1 (S .readers) (length (v .tickets)) ≡ true) (entryFor a d) _ _
+    (λ q. let z : leb (S .readers) (length (d .tickets)) ≡ false = rw q at f in
+    rw length-append (and-i (le-leb 1 (length (d .tickets) + 1) (omega arith))
+    (le-leb (length (d .tickets) + 1) (S .readers) (omega (arith, leb-false (S .readers) (length (d .tickets)) z)))))
+    (λ q. w)
 
 -- ---- the line that an access meets, and the tables that it leaves
 
@@ -362,29 +325,40 @@ module _ (S : Settings) (t : Tables) (ok : Sound S t) (x : Access) (formed : wel
       (sp .kept e m)
 
   module _ (some-readers : 1 ≤ S .readers) (merge : (isRead x && isMerge (p .answer) && any (entryFull S a) (t .misses)) ≡ false) where
-    old-entry : (e : Entry) → Old (S .readers) (t .misses) e → EntryIs S u e
-    old-entry e o =
-        let c : ℕ = o .old .address in
-        let k : EntryIs S t (o .old) = entry-at S t ok (o .old) (o .there) in
-        let m : any (entryFor c) (t .misses) ≡ true = in-any (entryFor c) (t .misses) (o .there) (eq-eqb c c refl) in
+    -- an entry with the address and the mark of one that was there
+    old-entry : (d e : Entry) → In d (t .misses) → e .address ≡ d .address → e .sent ≡ d .sent → within 1 (S .readers) (length (e .tickets)) ≡ true → EntryIs S u e
+    old-entry d e there at sent readers =
+        let c : ℕ = d .address in
+        let k : EntryIs S t d = entry-at S t ok d there in
+        let m : any (entryFor c) (t .misses) ≡ true = in-any (entryFor c) (t .misses) there (eq-eqb c c refl) in
         record {
-          good = rw (o .address) (k .good);
-          held = rw (o .address) (held-still (o .old) (o .there));
-          once = rw (o .address, misses-count x (p .answer) (t .misses) c, no-more c m, add-zero) (k .once);
-          readers = o .readers;
-          queues = rw (o .address, o .sent, queue-after c, no-more c m, add-zero) (k .queues);
+          good = rw at (k .good);
+          held = rw at (held-still d there);
+          once = rw (at, misses-count x (p .answer) (t .misses) c, no-more c m, add-zero) (k .once);
+          readers = readers;
+          queues = rw (at, sent, queue-after c, no-more c m, add-zero) (k .queues);
         }
 
-    new-entry : (e : Entry) → NewEntry x (p .answer) e → EntryIs S u e
-    new-entry e w =
-        let none : any (entryFor a) (t .misses) ≡ false = lacking (w .fetched) in
+    new-entry : fetching x (p .answer) ≡ true → (k : ℕ) → EntryIs S u (newEntry a k)
+    new-entry f k =
+        let none : any (entryFor a) (t .misses) ≡ false = lacking f in
         record {
-          good = rw (w .address) (formed-good x formed);
-          held = rw (w .address) new-holds;
-          once = rw (w .address, misses-count x (p .answer) (t .misses) a, w .fetched, eq-eqb a a refl, none-count (entryFor a) (t .misses) none);
-          readers = rw (w .one) (le-leb 1 (S .readers) some-readers);
-          queues = rw (w .address, w .sent, queue-after a, w .fetched, eq-eqb a a refl, unread none);
+          good = formed-good x formed;
+          held = new-holds;
+          once = rw (misses-count x (p .answer) (t .misses) a, f, eq-eqb a a refl, none-count (entryFor a) (t .misses) none);
+          readers = le-leb 1 (S .readers) some-readers;
+          queues = rw (queue-after a, f, eq-eqb a a refl, unread none);
         }
+
+    taken-entry : (e : Entry) → In e (u .misses) → EntryIs S u e
+    taken-entry e =
+        let same : In e (t .misses) → EntryIs S u e = λ i. old-entry e e i refl refl (entry-at S t ok e i .readers) in
+        misses-by (λ g q fs. In e fs → EntryIs S u e) x (p .answer) (t .misses)
+        (λ f k i. ⊎-elim same (⊎-elim (λ q. rw q (new-entry f k)) (λ q. absurd q)) (in-append (t .misses) _ e i))
+        (λ merged k i. let (d, o, q) = in-map (join a k) (t .misses) i in
+        let full : entryFull S a d ≡ false = no-yes (λ z. clash (in-any (entryFull S a) (t .misses) o z) (rw merged at merge)) in
+        rw q (old-entry d (join a k d) o (join-address a k d) (join-sent a k d) (join-readers S a k d (entry-at S t ok d o .readers) full)))
+        same
 
     taken-queued : (y : Queued) → In y (u .queue) → queuedOk (u .misses) y ≡ true
     taken-queued y m =
@@ -400,11 +374,9 @@ module _ (S : Settings) (t : Tables) (ok : Sound S t) (x : Access) (formed : wel
         sized = eq-eqb (length (u .lines)) (linesOf S) lines-same;
         time = ok .time;
         lined = taken-lined;
-        single = in-all (alone (u .lines)) (u .lines)
-            (λ l m. let (j, h, e) = in-index (u .lines) fresh l m in ap (alone (u .lines)) (sym e) ∙ taken-alone j h);
-        reserve = in-all (reservedOk (u .misses)) (u .lines)
-            (λ l m. let (j, h, e) = in-index (u .lines) fresh l m in ap (reservedOk (u .misses)) (sym e) ∙ taken-reserved j h);
-        entered = in-all (entryOk S u) (u .misses) (λ e m. entry-whole S u e (⊎-elim (old-entry e) (new-entry e) (entry-from S (t .misses) (λ d o. entry-at S t ok d o .readers) x (p .answer) merge e m)));
+        single = all-get (alone (u .lines)) (u .lines) fresh ∙ every-i _ (length (u .lines)) taken-alone;
+        reserve = all-get (reservedOk (u .misses)) (u .lines) fresh ∙ every-i _ (length (u .lines)) taken-reserved;
+        entered = in-all (entryOk S u) (u .misses) (λ e m. entry-whole S u e (taken-entry e m));
         lining = in-all (queuedOk (u .misses)) (u .queue) taken-queued;
         few = le-leb (length (u .misses)) (S .misses)
             (misses-few S x (p .answer) (t .misses) (few-misses S t ok) entry);
