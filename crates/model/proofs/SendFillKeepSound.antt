@@ -49,21 +49,14 @@ pub marked-length : (k : QueueKind) (b : ℕ) (es : List Entry) → length (mark
 marked-length queue.Read b es = length-map es (mark b)
 marked-length queue.WriteBack b es = refl
 
--- the entry that one was before a send of an entry of kind k for b
-record Was (k : QueueKind) (b : ℕ) (es : List Entry) (e : Entry) : Type 0 where
-  old : Entry
-  there : In old es
-  address : e .address ≡ old .address
-  tickets : e .tickets ≡ old .tickets
-  unsent : e .sent ≡ false → (old .sent ≡ false) × ((isFetch k && eqb (old .address) b) ≡ false)
-
-was : (k : QueueKind) (b : ℕ) (es : List Entry) (e : Entry) → In e (markedFor k b es) → Was k b es e
-was queue.Read b es e m =
+-- each entry after a send of one of kind k for b, by the one that it was before
+marked-by : (P : Entry → Type 0) (k : QueueKind) (b : ℕ) (es : List Entry)
+    → ((d e : Entry) → In d es → e .address ≡ d .address → e .tickets ≡ d .tickets → (e .sent ≡ false → (d .sent ≡ false) × ((isFetch k && eqb (d .address) b) ≡ false)) → P e)
+    → (e : Entry) → In e (markedFor k b es) → P e
+marked-by P queue.Read b es f e m =
     let (d, n, q) = in-map (mark b) es m in
-    rw q (by-flag (Was queue.Read b es) (entryFor b d) _ d
-    (λ p. record { old = d; there = n; address = refl; tickets = refl; unsent = λ h. clash refl h })
-    (λ p. record { old = d; there = n; address = refl; tickets = refl; unsent = λ h. (h, p) }))
-was queue.WriteBack b es e m = record { old = e; there = m; address = refl; tickets = refl; unsent = λ h. (h, refl) }
+    rw q (by-flag P (entryFor b d) _ d (λ p. f d _ n refl refl (λ h. clash refl h)) (λ p. f d d n refl refl (λ h. (h, p))))
+marked-by P queue.WriteBack b es f e m = f e e m refl refl (λ h. (h, refl))
 
 -- an unsent entry that the head doesn't name is still there
 unsent-still : (k : QueueKind) (b : ℕ) (es : List Entry) (a : ℕ) (d : Entry) → In d es → unsentFor a d ≡ true → (isFetch k && eqb a b) ≡ false
@@ -76,18 +69,18 @@ unsent-still queue.WriteBack b es a d n u h = in-any (unsentFor a) es n u
 
 module _ (S : Settings) (t : Tables) (x : Queued) (q : List Queued) (at : t .queue ≡ x ∷ q) (ok : Sound S t) where
   sent-entry : (e : Entry) → In e (marked x (t .misses)) → EntryIs S (afterSend x q t) e
-  sent-entry e m =
-      let w : Was (x .kind) (x .address) (t .misses) e = was (x .kind) (x .address) (t .misses) e m in
-      let k : EntryIs S t (w .old) = entry-at S t ok (w .old) (w .there) in
+  sent-entry =
+      marked-by (EntryIs S (afterSend x q t)) (x .kind) (x .address) (t .misses) (λ d e there address tickets unsent.
+      let k : EntryIs S t d = entry-at S t ok d there in
       record {
-        good = rw (w .address) (k .good);
-        held = rw (w .address) (k .held);
-        once = rw (w .address, marked-count (x .kind) (x .address) (t .misses) (w .old .address)) (k .once);
-        readers = rw (w .tickets) (k .readers);
+        good = rw address (k .good);
+        held = rw address (k .held);
+        once = rw (address, marked-count (x .kind) (x .address) (t .misses) (d .address)) (k .once);
+        readers = rw tickets (k .readers);
         queues = or-unless (e .sent) _ (λ h.
-            let c : count (readingOf (w .old .address)) (x ∷ q) ≡ 1 = rw at at (unsent-once S t ok (w .old) (w .there) (w .unsent h .0)) in
-            rw (w .address) (eq-eqb (count (readingOf (w .old .address)) q) 1 (rw (w .unsent h .1) at c)));
-      }
+            let c : count (readingOf (d .address)) (x ∷ q) ≡ 1 = rw at at (unsent-once S t ok d there (unsent h .0)) in
+            rw address (eq-eqb (count (readingOf (d .address)) q) 1 (rw (unsent h .1) at c)));
+      })
 
   sent-queued : (y : Queued) → In y q → queuedOk (marked x (t .misses)) y ≡ true
   sent-queued y m =
