@@ -6,7 +6,7 @@ use Prim.Native.Nat.{ℕ, _≤_}
 use native.Mathlib.Omega.{arith}
 use lib.Dec.{eqb, ltb}
 use lib.ListN.{length, take, replicate, length-take}
-use Rattle.words.specs.Words.{pick, all, any, padTo}
+use Rattle.words.specs.Words.{all, any, padTo}
 use Rattle.model.specs.Tables.{Tables, idle, Outcome, eventsOf}
 use Rattle.model.specs.Lent.{Lent}
 use Rattle.model.specs.Kinds as kinds
@@ -25,7 +25,7 @@ use Rattle.model.specs.declared.QueueKind.the-variants as queue
 use Rattle.model.specs.declared.Event.{Event}
 use Rattle.model.specs.declared.Event.the-variants.{Released}
 use Rattle.model.specs.declared.Reply.{Reply}
-use Rattle.words.proofs.Flags.{and-1, and-2, clash}
+use Rattle.words.proofs.Flags.{and-1, and-2, pick-both, clash}
 use Rattle.words.proofs.Places.{length-padTo}
 use Rattle.words.proofs.Lists.{all-append}
 use Rattle.model.proofs.Answers.{by-kind}
@@ -68,10 +68,6 @@ tells begins rest (e ∷ es) = begins e && all rest es
 record TellsShape (begins rest : Event → Bool) (o : Outcome Tables) : Type 0 where
   pub is : tells begins rest (eventsOf o) ≡ true
 
-tells-by : {begins rest : Event → Bool} (b : Bool) {o p : Outcome Tables} → TellsShape begins rest o → TellsShape begins rest p → TellsShape begins rest (pick b o p)
-tells-by true h g = h
-tells-by false h g = g
-
 access-tells : (S : Settings) (x : Access) (t : Tables) → TellsShape ofAccess queuing (access S x t)
 unfolding access accept
 access-tells S x t =
@@ -83,11 +79,11 @@ send-tells t =
 
 fill-tells : (a : ℕ) (t : Tables) → TellsShape ofFill releasing (fill a t)
 unfolding fill
-fill-tells a t = tells-by (any (sentFor a) (t .misses)) record { is = all-releasing (ticketsOf a (t .misses)) } record { is = refl }
+fill-tells a t = pick-both (TellsShape ofFill releasing) (any (sentFor a) (t .misses)) record { is = all-releasing (ticketsOf a (t .misses)) } record { is = refl }
 
 tick-tells : (c : ℕ) (t : Tables) → TellsShape ofTick none (tick c t)
 unfolding tick
-tick-tells c t = tells-by (ltb c (t .now) || ltb lastCycle c) record { is = refl } record { is = refl }
+tick-tells c t = pick-both (TellsShape ofTick none) (ltb c (t .now) || ltb lastCycle c) record { is = refl } record { is = refl }
 
 -- ---- the shape of a value
 

@@ -7,7 +7,7 @@ use mathlib.Core.List.{List, [], _∷_, _++_, map, append-nil}
 use Prim.Native.Nat.{ℕ, zero, suc, _+_}
 use native.Mathlib.Omega.{arith}
 use lib.ListN.{length, getD, List·getD-map, length-append}
-use Rattle.words.specs.Words.{pick, any}
+use Rattle.words.specs.Words.{any}
 use Rattle.model.specs.Range.{inRange}
 use Rattle.model.specs.Address.{wellFormed}
 use Rattle.model.specs.Tables.{Entry, Tables, Outcome, refused, done, after, accepted, eventsOf, withNow}
@@ -26,7 +26,7 @@ use Rattle.model.specs.declared.Event.{Event}
 use Rattle.model.specs.declared.Event.the-variants as event
 use Rattle.model.specs.declared.Refusal.{Refusal}
 use Rattle.model.specs.declared.Refusal.the-variants.{SetHeld}
-use Rattle.words.proofs.Flags.{and-2, flag, not-yes, clash, or-no-1, or-no-2}
+use Rattle.words.proofs.Flags.{and-2, flag, pick-both, not-yes, clash, or-no-1, or-no-2}
 use Rattle.words.proofs.Below.{by-suc}
 use Rattle.model.proofs.Answers.{by-kind}
 use Rattle.model.proofs.AccessCases.{access-judged}
@@ -70,10 +70,6 @@ module _ {T : Type 0} (p : List Event → Bool) where
   pub record Clear (o : Outcome T) : Type 0 where
     pub clear : p (eventsOf o) ≡ accepted o
 
-  clear-by : (b : Bool) {o q : Outcome T} → Clear o → Clear q → Clear (pick b o q)
-  clear-by true h g = h
-  clear-by false h g = g
-
 -- of a send and a fill: no event of kind 0x11
 abbrev pub unrefused : List Event → Bool
 unrefused es = not (any refusing es)
@@ -94,7 +90,7 @@ released-clear (k ∷ ks) = released-clear ks
 pub fill-clear : (a : ℕ) (t : Tables) → Clear unrefused (fill a t)
 unfolding fill
 fill-clear a t =
-    clear-by unrefused (any (sentFor a) (t .misses)) record { clear = ap not (released-clear (ticketsOf a (t .misses))) } record { clear = refl }
+    pick-both (Clear unrefused) (any (sentFor a) (t .misses)) record { clear = ap not (released-clear (ticketsOf a (t .misses))) } record { clear = refl }
 
 pub queued-clear : (qs : List Queued) → any refusing (map queuedEvent qs) ≡ false
 queued-clear [] = refl
@@ -113,9 +109,9 @@ pub call-clear : (p : List Event → Bool) → ((n : Refusal) → p (event.Refus
     → ((t : Tables) → Clear p (step t)) → Clear p (call S step L)
 unfolding call
 call-clear p none S step L c =
-    clear-by p (inRange S)
-    (clear-by p (lengthsFit S L)
-    (clear-by p (soundLent S L) (encoded-clear p S (step (tablesOf S L)) (c (tablesOf S L))) record { clear = none _ })
+    pick-both (Clear p) (inRange S)
+    (pick-both (Clear p) (lengthsFit S L)
+    (pick-both (Clear p) (soundLent S L) (encoded-clear p S (step (tablesOf S L)) (c (tablesOf S L))) record { clear = none _ })
     record { clear = none _ })
     record { clear = none _ }
 

@@ -24,7 +24,7 @@ use Rattle.model.specs.declared.QueueKind.the-variants as queue
 use Rattle.model.specs.declared.Queued.{Queued}
 use Rattle.model.specs.declared.Refusal.{Refusal}
 use Rattle.model.specs.declared.Refusal.the-variants.{NotSent, QueueEmpty}
-use Rattle.words.proofs.Flags.{and-1, and-2, and-i, or-unless, flag, not-yes, not-no, no-yes, clash, by-flag, is-same}
+use Rattle.words.proofs.Flags.{and-1, and-2, and-i, or-unless, flag, not-yes, not-no, no-yes, clash, by-flag, pick-both, is-same}
 use Rattle.words.proofs.Lists.{In, all-in, in-all, in-any, any-in, in-keep, keep-in, keep-le, not-twice, count-ext, any-ext, count-keep, any-keep, in-getD, all-set, any-set, set-some, map-in, in-map, any-map, all-map, count-map, in-index}
 use Rattle.words.proofs.Below.{every-i}
 use Rattle.model.proofs.SoundFacts.{Sound, LeavesSound, LineIs, line-whole, EntryIs, entry-whole, mask-small, sector-aligned, address-is, block-is, sector-is, lines-are, line-at, four-at, tag-aligned, reserved-at, entry-at, entry-one, queued-at, unsent-once, queued-when, sectors-at, holder-one, few-queued, few-misses, dirty-count-is, holds-used, holds-tag}
@@ -123,9 +123,6 @@ arrived-ok s h =
     by-flag (λ (c : Status). maskOk c (s .mask) true ≡ true) (eqb (s .mask) 0) Valid Modified
     (λ e. rw e) (λ e. rw (e, mask-small (s .status) (s .mask) (s .readable) h))
 
-arrived-by : (P : Status → Type 0) (s : Sector) → P Valid → P Modified → P (arrived s .status)
-arrived-by P s v m = by-flag P (eqb (s .mask) 0) Valid Modified (λ e. v) (λ e. m)
-
 -- a MODIFIED sector has a mask that isn't 0, so a fill leaves it MODIFIED
 arrived-dirty : (s : Sector) → sectorOk s ≡ true → isModified (s .status) ≡ true → isModified (arrived s .status) ≡ true
 arrived-dirty s k q =
@@ -151,7 +148,7 @@ module _ (a : ℕ) (l : Line) (four : length (l .sectors) ≡ 4) where
   old-ok ok = all-in sectorOk (l .sectors) ok (in-getD (l .sectors) (sectorIndex a) empty (omega arith))
 
   used-still : all (λ (s : Sector). isInvalid (s .status)) (set (l .sectors) (sectorIndex a) (arrived old)) ≡ false
-  used-still = set-some (λ (s : Sector). isInvalid (s .status)) (l .sectors) (sectorIndex a) (arrived old) (omega arith) (arrived-by (λ c. isInvalid c ≡ false) old refl refl)
+  used-still = set-some (λ (s : Sector). isInvalid (s .status)) (l .sectors) (sectorIndex a) (arrived old) (omega arith) (pick-both (λ (c : Status). isInvalid c ≡ false) (eqb (old .mask) 0) refl refl)
 
   fill-unused : whollyInvalid (fillLine a l) ≡ whollyInvalid l
   unfolding fillLine
@@ -195,7 +192,7 @@ module _ (a : ℕ) (l : Line) (four : length (l .sectors) ≡ 4) where
   fill-this k u g h e =
       let s : holds (blockOf a) l ≡ true = and-i (not-no u) (eq-eqb (l .tag) (blockOf a) (block-is a (l .tag) k g h e)) in
       by-flag (λ (m : Line). isReserved (getD (m .sectors) k empty .status) ≡ false) (holds (blockOf a) l) _ _
-      (λ z. rw (sector-is a (l .tag) k g h e, getD-set-same (l .sectors) (sectorIndex a) (arrived old) empty (omega arith)) (arrived-by (λ c. isReserved c ≡ false) old refl refl))
+      (λ z. rw (sector-is a (l .tag) k g h e, getD-set-same (l .sectors) (sectorIndex a) (arrived old) empty (omega arith)) (pick-both (λ (c : Status). isReserved c ≡ false) (eqb (old .mask) 0) refl refl))
       (λ z. clash s z)
 
 getD-fill : (a : ℕ) (ls : List Line) (i : ℕ) → getD (map (fillLine a) ls) i fresh ≡ fillLine a (getD ls i fresh)

@@ -71,6 +71,9 @@ pub by-flag : {X : Type 0} (P : X → Type 0) (b : Bool) (x y : X) → (b ≡ tr
 by-flag P true x y f g = f refl
 by-flag P false x y f g = g refl
 
+pub pick-both : {X : Type 0} (P : X → Type 0) (b : Bool) {x y : X} → P x → P y → P (pick b x y)
+pick-both P b f g = by-flag P b _ _ (λ e. f) (λ e. g)
+
 pub same-is : (a b : Bool) → same a b ≡ true → a ≡ b
 same-is true b e = sym e
 same-is false b e = sym (not-yes e)
