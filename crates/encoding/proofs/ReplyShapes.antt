@@ -118,15 +118,12 @@ module _ (r : Reply) (tidy : tidied r ≡ r) where
     unfolding eventsTold
     begins-so = and-1 (begins (r .first)) _ t
 
-    behind : all rest (map queuedEvent (take (r .queues) (r .queued)) ++ map Released (take (r .count) (r .tickets))) ≡ true
-    unfolding eventsTold
-    behind = and-2 (begins (r .first)) _ t
-
     abbrev entries : List Event
     entries = map queuedEvent (take (r .queues) (r .queued))
 
     apart : (all rest entries && all rest (map Released (take (r .count) (r .tickets)))) ≡ true
-    apart = sym (all-append rest entries (map Released (take (r .count) (r .tickets)))) ∙ behind
+    unfolding eventsTold
+    apart = sym (all-append rest entries (map Released (take (r .count) (r .tickets)))) ∙ and-2 (begins (r .first)) _ t
 
     no-entries : ((q : Queued) → rest (queuedEvent q) ≡ false) → r .queues ≤ 0
     no-entries never = omega (arith, none-left queuedEvent rest never (take (r .queues) (r .queued)) (and-1 (all rest entries) _ apart), queues-are)
