@@ -175,9 +175,9 @@ module _ {A : Type 0} (g : A → List ℕ) (n : ℕ) (f : ℕ → A) (e k : ℕ)
   field-table h = field-in g (table n f) (f e) e k (rw length-table h) ∙ ap (λ (x : A). getD (g x) k 0) (getD-table n f e (f e) h)
 
 -- a number of those in use of n places, which are the first, and past them 0
-field-used : (u : ℕ → ℕ) (n : ℕ) → UsedFirst n u → {A : Type 0} (f : ℕ → A) (g : A → List ℕ) (e k : ℕ) {m : ℕ} → e < n
+used-field : (u : ℕ → ℕ) (n : ℕ) → UsedFirst n u → {A : Type 0} (f : ℕ → A) (g : A → List ℕ) (e k : ℕ) {m : ℕ} → e < n
     → ((u e ≡ 0 → ⊥) → m ≡ getD (g (f e)) k 0) → (u e ≡ 0 → m ≡ 0) → m ≡ field g (table (inUse n u) f) e k
-field-used u n first f g e k h p z =
+used-field u n first f g e k h p z =
     ⊎-elim (λ l. p (below-used u n e first l .1) ∙ sym (field-table g (inUse n u) f e k l))
     (λ o. z (free-past u n e first h o) ∙ sym (field-out g (table (inUse n u) f) e k (rw length-table o))) (lt-or-ge e (inUse n u))
 
@@ -242,14 +242,14 @@ module _ (S : Settings) (L : Lent) (is : SoundIs S L) where
         mark-back (readable S L (4 * l + k)) (is .sectors (4 * l + k) (omega arith) .mark)
         ∙ sectors-at (λ s. bit (s .readable)) S (L .words) (L .marks) l k j
         ∙ sym (field-table readablesOf (linesOf S) decodedLine l k h);
-    misses = λ e h. field-used (ticketCount S L) (S .misses) (is .entries-first) (entryAt S L) missOf e 0 h (λ u. refl) (λ z. is .entries e h .blank z .0);
-    sents = λ e h. field-used (ticketCount S L) (S .misses) (is .entries-first) (entryAt S L) sentOf e 0 h (λ u. mark-back (sent S L e) (is .entries e h .mark)) (λ z. is .entries e h .blank z .1);
-    ticket-counts = λ e h. field-used (ticketCount S L) (S .misses) (is .entries-first) (entryAt S L) ticketCountOf e 0 h (λ u. sym (length-table (ticketCount S L e) (λ j. ticket S L (S .readers * e + j)))) (λ z. z);
-    tickets = λ e k h j. field-used (ticketCount S L) (S .misses) (is .entries-first) (entryAt S L) ticketsIn e k h (λ u. ticket-at pos e k h j) (λ z. ticket-past pos e k h j (omega arith));
-    queue = λ p h. field-used (kind S L) (S .queue) (is .places-first) (queueAt S L) queuedOf p 0 h (λ u. refl) (λ z. is .places p h .blank z);
-    kinds = λ p h. field-used (kind S L) (S .queue) (is .places-first) (queueAt S L) kindOf p 0 h (λ u. kind-made (kind S L p) (is .places p h .known) u) (λ z. z);
+    misses = λ e h. used-field (ticketCount S L) (S .misses) (is .entries-first) (entryAt S L) missOf e 0 h (λ u. refl) (λ z. is .entries e h .blank z .0);
+    sents = λ e h. used-field (ticketCount S L) (S .misses) (is .entries-first) (entryAt S L) sentOf e 0 h (λ u. mark-back (sent S L e) (is .entries e h .mark)) (λ z. is .entries e h .blank z .1);
+    ticket-counts = λ e h. used-field (ticketCount S L) (S .misses) (is .entries-first) (entryAt S L) ticketCountOf e 0 h (λ u. sym (length-table (ticketCount S L e) (λ j. ticket S L (S .readers * e + j)))) (λ z. z);
+    tickets = λ e k h j. used-field (ticketCount S L) (S .misses) (is .entries-first) (entryAt S L) ticketsIn e k h (λ u. ticket-at pos e k h j) (λ z. ticket-past pos e k h j (omega arith));
+    queue = λ p h. used-field (kind S L) (S .queue) (is .places-first) (queueAt S L) queuedOf p 0 h (λ u. refl) (λ z. is .places p h .blank z);
+    kinds = λ p h. used-field (kind S L) (S .queue) (is .places-first) (queueAt S L) kindOf p 0 h (λ u. kind-made (kind S L p) (is .places p h .known) u) (λ z. z);
     queue-masks = λ p k h j.
-        field-used (kind S L) (S .queue) (is .places-first) (queueAt S L) queueMasksOf p k h
+        used-field (kind S L) (S .queue) (is .places-first) (queueAt S L) queueMasksOf p k h
         (λ u. sym (getD-table 4 (λ k. queueMask S L (4 * p + k)) k 0 j))
         (λ z. is .places p h .bare (omega arith) k j);
     time = refl;

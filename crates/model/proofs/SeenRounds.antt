@@ -129,11 +129,11 @@ module _ {T : Type 0} (C : Calls T) (clear : (t : T) → Clear accepts (C .offer
   A = actsOf C
 
   quiet-acts : Quiet A
-  quiet-acts = record { tells = λ t h. idle t (C .offers t) (clear t) h .0; leaves = λ t h. idle t (C .offers t) (clear t) h .1 }
+  quiet-acts = record { tells = λ t h. refused-quiet t (C .offers t) (clear t) h .0; leaves = λ t h. refused-quiet t (C .offers t) (clear t) h .1 }
     where
-      idle : (t : T) (o : Outcome T) → Clear accepts o → accepts (eventsOf o) ≡ false → (but11 (eventsOf o) ≡ []) × (after t o ≡ t)
-      idle t (refused n) c h = (refl, refl)
-      idle t (done es u) c h = clash (c .clear) h
+      refused-quiet : (t : T) (o : Outcome T) → Clear accepts o → accepts (eventsOf o) ≡ false → (but11 (eventsOf o) ≡ []) × (after t o ≡ t)
+      refused-quiet t (refused n) c h = (refl, refl)
+      refused-quiet t (done es u) c h = clash (c .clear) h
 
   -- ---- the tables and the offers are those of the rounds that `Bound` speaks of
 

@@ -137,23 +137,23 @@ module _ (S : Settings) (t : Tables) (ok : Sound S t) where
   unfolding lineOk
   line-at i h = let e = every-at (λ j. lineOk S (t .now) j (getD (t .lines) j fresh)) (linesOf S) i (ok .lined) (rw lines-are at h) in search (and-1, and-2) depth 9
 
-  line-in : (l : Line) → In l (t .lines) → (i : ℕ) × LineIs S (t .now) i l
-  line-in l m = let (i, h, e) = in-index (t .lines) fresh l m in (i, rw e at (line-at i h))
+  line-facts : (l : Line) → In l (t .lines) → (i : ℕ) × LineIs S (t .now) i l
+  line-facts l m = let (i, h, e) = in-index (t .lines) fresh l m in (i, rw e at (line-at i h))
 
   pub four-at : (l : Line) → In l (t .lines) → length (l .sectors) ≡ 4
-  four-at l m = eqb-true (length (l .sectors)) 4 (line-in l m .1 .four)
+  four-at l m = eqb-true (length (l .sectors)) 4 (line-facts l m .1 .four)
 
   -- taken no later than the current cycle
   pub since-at : (l : Line) → In l (t .lines) → l .taken ≤ t .now
-  since-at l m = let (i, k) = line-in l m in omega (arith, leb-true (l .taken) (l .cycle) (k .since), leb-true (l .cycle) (t .now) (k .past))
+  since-at l m = let (i, k) = line-facts l m in omega (arith, leb-true (l .taken) (l .cycle) (k .since), leb-true (l .cycle) (t .now) (k .past))
 
   pub sectors-at : (l : Line) → In l (t .lines) → all sectorOk (l .sectors) ≡ true
-  sectors-at l m = line-in l m .1 .sectorly
+  sectors-at l m = line-facts l m .1 .sectorly
 
   -- the tag of a line that isn't wholly invalid
   pub live-tag-good : (l : Line) → In l (t .lines) → whollyInvalid l ≡ false → goodBlock (l .tag) ≡ true
   live-tag-good l m u =
-      let (i, k) = line-in l m in
+      let (i, k) = line-facts l m in
       let q : (goodBlock (l .tag) && eqb (setIndex S (l .tag)) (i / S .ways)) ≡ true = rw u at (k .tagged) in
       and-1 (goodBlock (l .tag)) _ q
 
