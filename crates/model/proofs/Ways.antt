@@ -127,12 +127,12 @@ module _ (R : Rule) (S : Settings) (d : ℕ) (ways : List Line) (x : Access) whe
   unfolding probe
   probe-place P met over none = go wayFound refl
     where
-      taken-place : wayFound ≡ Nothing → (v : Found) → victim R S d ways ≡ v → P (takeOver (addressOf x) ways v)
-      taken-place f Nothing e = none e
-      taken-place f (At w) e = over f w e
+      over-place : wayFound ≡ Nothing → (v : Found) → victim R S d ways ≡ v → P (takeOver (addressOf x) ways v)
+      over-place f Nothing e = none e
+      over-place f (At w) e = over f w e
 
       go : (v : Found) → wayFound ≡ v → P (meet R S d ways x v)
-      go Nothing e = taken-place e (victim R S d ways) refl
+      go Nothing e = over-place e (victim R S d ways) refl
       go (At w) e = met w e
 
   pub probe-by : (P : Spot → Type 0) → ((w : ℕ) → wayFound ≡ At w → P (metSpot x ways w))
