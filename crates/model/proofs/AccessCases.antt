@@ -1,7 +1,7 @@
 -- An access is refused, or accepted at a spot (`access-judged`): of sound tables the line itself, with nothing written back, or a victim
 -- with its write-back (`access-cases`). These are the laws by which the proofs above look at an access, under any rules; which victim is
 -- chosen is left open. So an access leaves sound tables sound.
-use Prim.Native.Nat.{ℕ, zero, suc, _+_, _≤_}
+use Prim.Native.Nat.{ℕ, _+_, _≤_}
 use mathlib.Core.Path.{_≡_, refl, sym, ap, _∙_}
 use mathlib.Core.Bool.{true, false, not, _&&_}
 use mathlib.Core.List.{List, []}
@@ -20,7 +20,7 @@ use Rattle.model.specs.declared.Found.the-variants.{At, Nothing}
 use Rattle.model.specs.declared.Refusal.{Refusal}
 use Rattle.model.specs.declared.Refusal.the-variants.{BadAccess, QueueFull, EntryFull, MissTableFull}
 use Rattle.words.proofs.Flags.{and-1, not-yes, by-flag}
-use Rattle.words.proofs.Lists.{in-getD}
+use Rattle.words.proofs.Lists.{in-getD, getD-same}
 use Rattle.model.proofs.SoundFacts.{Sound, LeavesSound}
 use Rattle.model.proofs.Ways.{Finds, first-finds, victim-finds, probe-by, Sits, way-sits}
 use Rattle.model.proofs.AccessKeepsSound.{Spotted, spotNumber, taken-sound}
@@ -56,9 +56,7 @@ pub record Accepted (R : Rules) (S : Settings) (t : Tables) (x : Access) (p : Sp
   pub stands : Stands S t x p
 
 pub empty-masks : (n k : ℕ) → getD (replicate n empty) k empty .mask ≡ 0
-empty-masks zero k = refl
-empty-masks (suc n) zero = refl
-empty-masks (suc n) (suc k) = empty-masks n k
+empty-masks n k = rw (getD-same n k empty)
 
 -- ---- an access
 

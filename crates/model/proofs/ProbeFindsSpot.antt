@@ -5,7 +5,7 @@ use mathlib.Core.Logic.{_⊎_, inl, inr, _≢_, ⊎-elim}
 use mathlib.Core.Bool.{Bool, true, false, not, _&&_, _||_}
 use mathlib.Core.List.{List, [], map}
 use native.Mathlib.Omega.{arith}
-use lib.ListN.{length, getD, replicate, length-map, getD-replicate, length-replicate}
+use lib.ListN.{length, getD, replicate, length-map, length-replicate}
 use lib.Dec.{leb, ltb, eqb}
 use lib.Pow.{pow-pos}
 use borrow.Author.Tests.{leb-true, ltb-false, lt-ltb, eqb-true, eqb-false, eq-eqb, le-leb}
@@ -29,7 +29,7 @@ use Rattle.model.specs.declared.Access.the-variants.{Read, Write}
 use Rattle.model.specs.declared.Found.the-variants.{At, Nothing}
 use Rattle.model.specs.declared.Refusal.the-variants.{BadCycle}
 use Rattle.words.proofs.Flags.{and-1, and-2, imp-use, same-is, or-no-1, or-no-2, flag, not-yes, no-yes, clash, by-flag}
-use Rattle.words.proofs.Lists.{In, all-in, in-all, in-any, any-in, in-getD, in-index, all-map, any-map, in-replicate, none-count}
+use Rattle.words.proofs.Lists.{In, all-in, in-all, in-any, any-in, in-getD, in-index, getD-same, all-map, any-map, in-replicate, none-count}
 use Rattle.words.proofs.Below.{every-at, every-i}
 use Rattle.model.proofs.SoundFacts.{Sound, LeavesSound, LineIs, line-whole, mask-small, sector-below, sector-aligned, address-is, block-is, lines-are, line-at, four-at, since-at, sectors-at, live-tag-good, reserved-at, holder-one, entry-at, set-of-block, holder-set, holds-used, holds-tag}
 use Rattle.model.proofs.Ways.{Finds, first-finds, victim-finds, metSpot, overSpot, probe-by, Sits, way-sits, way-in, line-among, set-of-line}
@@ -203,9 +203,9 @@ module _ (S : Settings) (t : Tables) (ok : Sound S t) (some-ways : 1 ≤ S .ways
           sectorly = refl;
           own = set-of-block S a ∙ sym (set-of-line S a w (s .low));
           lone = λ j k z. lacks j k;
-          agree = λ k z. rw (getD-replicate 4 k empty empty z) (sym (no-entry k z));
+          agree = λ k z. rw (getD-same 4 k empty) (sym (no-entry k z));
           kept = holder-kept n (λ e i z. absurd (vacant l m (not-yes (and-1 (not (hasReserved l)) _ q)) e i (ap (holds (blockOf (e .address))) (s .line) ∙ z)));
-          merges = rw (getD-replicate 4 (sectorIndex a) empty empty (sector-below a));
+          merges = rw (getD-same 4 (sectorIndex a) empty);
           used = used-miss x (getD (replicate 4 empty) (sectorIndex a) empty);
           backed = back-ok S t ok l m;
           quiet = λ c. by-flag (λ (q : List Queued). any (readingOf c) q ≡ false) (dirty l) _ [] (λ e. refl) (λ e. refl);
@@ -234,7 +234,7 @@ unfolding lineOk alone reservedOk
 start-is-sound S = record {
   sized = eq-eqb _ (linesOf S) (length-replicate (linesOf S) fresh);
   time = refl;
-  lined = every-i (λ i. lineOk S 0 i (getD (replicate (linesOf S) fresh) i fresh)) (linesOf S) (λ i h. rw (getD-replicate (linesOf S) i fresh fresh h));
+  lined = every-i (λ i. lineOk S 0 i (getD (replicate (linesOf S) fresh) i fresh)) (linesOf S) (λ i h. rw (getD-same (linesOf S) i fresh));
   single = in-all (alone (replicate (linesOf S) fresh)) (replicate (linesOf S) fresh) (λ l m. rw (in-replicate (linesOf S) fresh l m));
   reserve = in-all (reservedOk []) (replicate (linesOf S) fresh) (λ l m. rw (in-replicate (linesOf S) fresh l m));
   entered = refl;

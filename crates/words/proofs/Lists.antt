@@ -201,6 +201,11 @@ module _ {A : Type 0} where
   in-replicate (suc n) a x (inl q) = q
   in-replicate (suc n) a x (inr m) = in-replicate n a x m
 
+  pub getD-same : (n i : ℕ) (a : A) → getD (replicate n a) i a ≡ a
+  getD-same zero i a = refl
+  getD-same (suc n) zero a = refl
+  getD-same (suc n) (suc i) a = getD-same n i a
+
   -- all after a change of one place
   pub all-set : (p : A → Bool) (l : List A) (i : ℕ) (v : A) → all p l ≡ true → p v ≡ true → all p (set l i v) ≡ true
   all-set p [] i v e h = refl

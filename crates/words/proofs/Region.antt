@@ -1,13 +1,14 @@
 -- Laws of a region of a slice, what is put in its place, a region that closes up.
 use mathlib.Core.Path.{_≡_, refl, sym, ap, _∙_}
 use mathlib.Core.List.{List, [], _∷_, _++_}
-use Prim.Native.Nat.{ℕ, zero, suc, _+_, _-_, _≤_, _<_}
+use Prim.Native.Nat.{ℕ, suc, _+_, _-_, _≤_, _<_}
 use native.Mathlib.Nat.{add-zero}
 use native.Mathlib.Numerals.{add-one, add-two, add-three}
 use native.Mathlib.Omega.{arith}
 use lib.ListN.{length, take, drop, getD, set, replicate, length-append, length-drop, length-set, length-replicate, List·getD-append}
 use lib.Seq.{sets, paste, paste-zero, paste-suc, length-paste-head, length-take-le, take-all, getD-append-add, getD-take, getD-drop}
 use Rattle.words.specs.Regions.{region, put, closedUp}
+use Rattle.words.proofs.Lists.{getD-same}
 
 pub length-region : (l : List ℕ) (at n : ℕ) → at + n ≤ length l → length (region l at n) ≡ n
 unfolding region
@@ -33,18 +34,13 @@ unfolding closedUp
 closed-at by r i h =
     List·getD-append (drop by r) (replicate by 0) 0 i (rw length-drop h) ∙ getD-drop by r i 0
 
-zeros-at : (n i : ℕ) → _≡_ {A = ℕ} (getD (replicate n 0) i 0) 0
-zeros-at zero i = refl
-zeros-at (suc n) zero = refl
-zeros-at (suc n) (suc i) = zeros-at n i
-
 pub closed-zero : (by : ℕ) (r : List ℕ) (i : ℕ) → length r - by ≤ i → getD (closedUp by r) i 0 ≡ 0
 unfolding closedUp
 closed-zero by r i h =
     let e : i ≡ length (drop by r) + (i - (length r - by)) = rw length-drop (omega arith) in
     ap (λ (k : ℕ). getD (drop by r ++ replicate by 0) k 0) e
     ∙ getD-append-add (drop by r) (replicate by 0) (i - (length r - by)) 0
-    ∙ zeros-at by (i - (length r - by))
+    ∙ getD-same by (i - (length r - by)) 0
 
 -- ---- a loop that stores the numbers of r from index `at` on, one a turn: after i turns s has the first i of them
 
