@@ -1,6 +1,7 @@
 -- Sound slices: tables that stand in them are sound, and those that are read off them do stand in them.
 use mathlib.Core.Path.{_≡_, refl, sym, ap, _∙_}
 use mathlib.Core.Logic.{⊎-elim}
+use mathlib.Core.Bool.{true}
 use mathlib.Core.List.{List, map}
 use Prim.Native.Nat.{ℕ, zero, suc, _+_, _*_, _/_, _%_, _^_, _≤_, _<_}
 use native.Mathlib.Nat.{add-zero, mul-comm, mul-add-mod-self-left, mod-eq-of-lt}
@@ -13,7 +14,8 @@ use Rattle.model.specs.declared.Settings.{Settings}
 use Rattle.model.specs.declared.Sector.{Sector}
 use Rattle.words.specs.Words.{table}
 use Rattle.model.specs.Numbers.{statusNumber, statusOf, queueKindNumber, queueKindOf}
-use Rattle.model.specs.Range.{linesOf}
+use Rattle.model.specs.Range.{linesOf, isTree}
+use Rattle.model.specs.Tree.{treeFine}
 use Rattle.model.specs.Address.{blockOf, sectorIndex, setIndex}
 use Rattle.model.specs.Tables.{Line, Entry, Tables, entryFor, idle, fresh, noEntry}
 use Rattle.model.specs.Layout.{wordsFrom, queueMaskRegion}
@@ -153,20 +155,12 @@ module _ (S : Settings) (L : Lent) (t : Tables) (st : ByNumber S L t) (sh : Shap
       }
 
   pub stands-soundly : Soundly S t
-  stands-soundly = record {
-    size = sh .size;
-    time = rw (st .time) at (is .time);
-    lines = line-ok;
-    alone = alone;
-    agrees = agrees;
-    entries = entry-ok;
-    queue = queued-ok;
-    few = sh .few;
-    deep = sh .deep;
-    counted = sym (st .count) ∙ is .counted ∙ dirty-counts S L t st sh;
-    treed = sh .treed;
-    turned = λ i h. let j : i < S .sets = rw (sh .treed) at h in rw (lent-tree-is S L t st sh i j) at (is .trees i j);
-  }
+  stands-soundly =
+      let time = rw (st .time) at (is .time) in
+      let counted = sym (st .count) ∙ is .counted ∙ dirty-counts S L t st sh in
+      let turned : (i : ℕ) → i < length (t .trees) → treeFine (isTree S) (S .ways) (getD (t .trees) i 0) ≡ true =
+      λ i h. let j : i < S .sets = rw (sh .treed) at h in rw (lent-tree-is S L t st sh i j) at (is .trees i j) in
+      search (line-ok, alone, agrees, entry-ok, queued-ok)
 
 -- ---- the tables that are read off
 

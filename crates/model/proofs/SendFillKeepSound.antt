@@ -321,20 +321,15 @@ module _ (S : Settings) (t : Tables) (ok : Sound S t) (d : Entry) (m : In d (t .
       counted-filled i k (rw e h)
 
   pub filled-sound : Sound S (afterFill (d .address) t)
-  filled-sound = record {
-    sized = rw (length-map (t .lines) (fillLine a)) (ok .sized);
-    time = ok .time;
-    lined = filled-lined;
-    single = all-map (fillLine a) (alone filled) (t .lines) ∙ in-all (λ l. alone filled (fillLine a l)) (t .lines) filled-alone;
-    reserve = all-map (fillLine a) (reservedOk left) (t .lines) ∙ in-all (λ l. reservedOk left (fillLine a l)) (t .lines) filled-reserved;
-    entered = in-all (entryOk S (afterFill a t)) left (λ e n. entry-whole S (afterFill a t) e (filled-entry e n));
-    lining = in-all (queuedOk left) (t .queue) filled-queued;
-    few = le-leb (length left) (S .misses) (omega (arith, keep-le (others a) (t .misses), few-misses S t ok));
-    short = ok .short;
-    counted = eq-eqb (t .dirtyCount + one (any (soiled a) (t .lines))) (count dirty filled) filled-dirty;
-    treed = ok .treed;
-    turned = ok .turned;
-  }
+  filled-sound =
+      let sized : eqb (length filled) (linesOf S) ≡ true = rw (length-map (t .lines) (fillLine a)) (ok .sized) in
+      let single = all-map (fillLine a) (alone filled) (t .lines) ∙ in-all (λ l. alone filled (fillLine a l)) (t .lines) filled-alone in
+      let reserve = all-map (fillLine a) (reservedOk left) (t .lines) ∙ in-all (λ l. reservedOk left (fillLine a l)) (t .lines) filled-reserved in
+      let entered = in-all (entryOk S (afterFill a t)) left (λ e n. entry-whole S (afterFill a t) e (filled-entry e n)) in
+      let lining = in-all (queuedOk left) (t .queue) filled-queued in
+      let few = le-leb (length left) (S .misses) (omega (arith, keep-le (others a) (t .misses), few-misses S t ok)) in
+      let counted = eq-eqb (t .dirtyCount + one (any (soiled a) (t .lines))) (count dirty filled) filled-dirty in
+      search filled-lined
 
 pub fill-leaves : (S : Settings) (t : Tables) → Sound S t → (a : ℕ) → LeavesSound S (fill a t)
 unfolding fill
