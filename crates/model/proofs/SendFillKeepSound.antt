@@ -266,13 +266,10 @@ module _ (S : Settings) (t : Tables) (ok : Sound S t) (d : Entry) (m : In d (t .
   filled-entry e n =
       let (o, r) = in-keep (others a) (t .misses) n in
       let k : EntryIs S t e = entry-at S t ok e o in
-      record {
-        good = k .good;
-        held = filled-held (blockOf (e .address)) ∙ k .held;
-        once = rw (count-keep (entryFor (e .address)) (others a) (t .misses) (kept (e .address) (eqb-false (e .address) a (not-yes r)))) (k .once);
-        readers = k .readers;
-        queues = k .queues;
-      }
+      let held = filled-held (blockOf (e .address)) ∙ k .held in
+      let others-kept = kept (e .address) (eqb-false (e .address) a (not-yes r)) in
+      let once : eqb (count (entryFor (e .address)) left) 1 ≡ true = rw (count-keep (entryFor (e .address)) (others a) (t .misses) others-kept) (k .once) in
+      search
 
   filled-queued : (y : Queued) → In y (t .queue) → queuedOk left y ≡ true
   filled-queued y n =
