@@ -1,6 +1,7 @@
 -- The law of the queue: what stood in it and what a call's events tell queued is what they tell sent and what stands in it after.
 use Prim.Native.Nat.{ℕ}
 use mathlib.Core.Path.{_≡_, refl, sym, ap, _∙_}
+use mathlib.Core.Logic.{inl}
 use mathlib.Core.Bool.{true, _||_}
 use mathlib.Core.List.{List, [], _∷_, _++_, map, append-nil, append-assoc}
 use lib.ListN.{length, replicate}
@@ -10,25 +11,25 @@ use Rattle.words.specs.Words.{all, any}
 use Rattle.model.specs.Range.{inRange}
 use Rattle.model.specs.Tables.{Entry, Tables, Outcome, refused, after, eventsOf}
 use Rattle.model.specs.Sound.{lastCycle, unsentFor, kindOk, queuedOk}
-use Rattle.model.specs.Probe.{Rules, Spot}
-use Rattle.model.specs.Steps.{fetches, queues, queuedAs, queuedEvent, sentAs, sentEvent, accept, accessUnder, send, sendFrom, fill, ticketsOf, sentFor, tick}
+use Rattle.model.specs.Probe.{Rules}
+use Rattle.model.specs.Steps.{fetches, queues, queuedAs, queuedEvent, sentAs, sentEvent, accept, accessUnder, send, fill, ticketsOf, sentFor, tick}
 use Rattle.model.specs.History.{Call, offer, sending, filling, ticking, stepUnder}
 use Rattle.model.specs.declared.Settings.{Settings}
 use Rattle.model.specs.declared.QueueKind.{QueueKind}
 use Rattle.model.specs.declared.QueueKind.the-variants as queue
 use Rattle.model.specs.declared.Queued.{Queued}
 use Rattle.model.specs.declared.Access.{Access}
-use Rattle.model.specs.declared.Access.the-variants.{Read, Write}
 use Rattle.model.specs.declared.Answer.{Answer}
-use Rattle.model.specs.declared.Answer.the-variants.{Hit, HitReserved, Miss, SectorMiss}
 use Rattle.model.specs.declared.Event.{Event}
 use Rattle.model.specs.declared.Event.the-variants as ev
 use Rattle.model.specs.declared.Refusal.{Refusal}
-use Rattle.model.specs.declared.Refusal.the-variants.{NotSent, BadCycle, QueueEmpty}
+use Rattle.model.specs.declared.Refusal.the-variants.{NotSent, BadCycle}
 use Rattle.words.proofs.Flags.{and-1, and-2, by-flag}
 use Rattle.words.proofs.Lists.{four-whole}
-use Rattle.model.proofs.SoundFacts.{Sound, queued-parts}
-use Rattle.model.proofs.AccessCases.{Accepted, access-cases}
+use Rattle.model.proofs.SoundFacts.{Sound, queued-at, queued-parts}
+use Rattle.model.proofs.AccessKeepsSound.{misses-by}
+use Rattle.model.proofs.SendFillKeepSound.{send-cases}
+use Rattle.model.proofs.AccessCases.{access-cases}
 use Rattle.billed.specs.Queue.{queuedFrom, sentFrom, entriesBy, queuedBy, sentBy}
 
 -- ---- entries and their events
@@ -41,13 +42,11 @@ zero-masks (m ∷ ms) h =
     rw (z, zero-masks ms (and-2 (eqb m 0) (all (λ m. eqb m 0) ms) h))
 
 module _ (es : List Entry) where
-  read-masks : (a : ℕ) (ms : List ℕ) → length ms ≡ 4 → kindOk es queue.Read a ms ≡ true → replicate 4 0 ≡ ms
-  read-masks a ms four h = ap (λ (n : ℕ). replicate n 0) (sym four) ∙ zero-masks ms (and-2 (any (unsentFor a) es) (all (λ m. eqb m 0) ms) h)
-
   -- an entry of a sound queue is the one that its event tells
   told-as : (k : QueueKind) (a : ℕ) (ms : List ℕ) → length ms ≡ 4 → kindOk es k a ms ≡ true
       → (queuedFrom (queuedAs k a ms) ≡ record { kind = k; address = a; masks = ms } ∷ []) × (sentFrom (sentAs k a ms) ≡ record { kind = k; address = a; masks = ms } ∷ [])
-  told-as queue.Read a ms four h = let z = read-masks a ms four h in (rw z, rw z)
+  told-as queue.Read a ms four h =
+      let z : replicate 4 0 ≡ ms = rw four at (zero-masks ms (and-2 (any (unsentFor a) es) (all (λ m. eqb m 0) ms) h)) in (rw z, rw z)
   told-as queue.WriteBack b ms four h = let z = four-whole 0 ms four in (rw z, rw z)
 
   told : (q : Queued) → queuedOk es q ≡ true → (queuedFrom (queuedEvent q) ≡ q ∷ []) × (sentFrom (sentEvent q) ≡ q ∷ [])
@@ -76,11 +75,8 @@ tickets-none f h (k ∷ ts) = rw (h k) (tickets-none f h ts)
 
 fetch-told : (x : Access) (n : Answer) (qs : List Queued) → queuedBy (map queuedEvent (fetches x n ++ qs)) ≡ fetches x n ++ queuedBy (map queuedEvent qs)
 unfolding entriesBy
-fetch-told (Read a m k) Hit qs = refl
-fetch-told (Read a m k) HitReserved qs = refl
-fetch-told (Read a m k) Miss qs = refl
-fetch-told (Read a m k) SectorMiss qs = refl
-fetch-told (Write a m k) n qs = refl
+fetch-told x n qs =
+    misses-by (λ f r es. queuedBy (map queuedEvent (r ++ qs)) ≡ r ++ queuedBy (map queuedEvent qs)) x n [] (λ e k. refl) (λ e k. refl) refl
 
 -- ---- each step
 
@@ -95,18 +91,16 @@ refused-tells t n = append-nil (t .queue)
 module _ (R : Rules) (S : Settings) (range : inRange S ≡ true) (t : Tables) (ok : Sound S t) where
   access-tells : (x : Access) → TellsQueue t (accessUnder R S x t)
   unfolding accept entriesBy
-  access-tells x = access-cases R S t x range ok (TellsQueue t) (refused-tells t) made
-    where
-      made : (p : Spot) → Accepted R S t x p → TellsQueue t (accept S x p t)
-      made p a = rw (none-sent (queues x p), fetch-told x (p .answer) (p .backs), all-told [] (p .backs) (a .spotted .backed []))
+  access-tells x =
+      access-cases R S t x range ok (TellsQueue t) (refused-tells t)
+      (λ p a. rw (none-sent (queues x p), fetch-told x (p .answer) (p .backs), all-told [] (p .backs) (a .spotted .backed [])))
 
   send-tells : TellsQueue t (send t)
-  unfolding send entriesBy
-  send-tells = go (t .queue) refl (ok .lining)
-    where
-      go : (q : List Queued) → t .queue ≡ q → all (queuedOk (t .misses)) q ≡ true → TellsQueue t (sendFrom q t)
-      go [] h f = refused-tells t QueueEmpty
-      go (e ∷ q) h f = rw (apart (e .kind) (e .address) (e .masks) .1, told (t .misses) e (and-1 (queuedOk (t .misses) e) _ f) .1, h) (append-nil (e ∷ q))
+  unfolding entriesBy
+  send-tells =
+      send-cases t (TellsQueue t) (refused-tells t) (λ x q h.
+      let good : queuedOk (t .misses) x ≡ true = queued-at S t ok x (rw h (inl refl)) in
+      rw (apart (x .kind) (x .address) (x .masks) .1, told (t .misses) x good .1, h) (append-nil (x ∷ q)))
 
   fill-tells : (a : ℕ) → TellsQueue t (fill a t)
   unfolding fill entriesBy

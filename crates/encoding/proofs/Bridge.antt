@@ -2,7 +2,6 @@
 -- sound tables is sound and reads back; so a call on it is the step on the tables.
 use mathlib.Core.Path.{_≡_, refl, sym, ap, _∙_}
 use mathlib.Core.Bool.{true}
-use lib.Dec.{eqb}
 use lib.ListN.{length}
 use borrow.Author.Tests.{eqb-true, eq-eqb}
 use Rattle.model.specs.declared.Settings.{Settings}
@@ -28,10 +27,7 @@ use Rattle.encoding.proofs.DecodeIsSound.{stands-soundly, read-stands, 
 lengths : (S : Settings) (L : Lent) → lengthsFit S L ≡ true
     → (length (L .longs) ≡ longsLength S) × (length (L .words) ≡ wordsLength S) × (length (L .marks) ≡ marksLength S)
 lengths S L e =
-    let a : eqb (length (L .longs)) (longsLength S) ≡ true = search (and-1, and-2) depth 4 in
-    let b : eqb (length (L .words)) (wordsLength S) ≡ true = search (and-1, and-2) depth 4 in
-    let c : eqb (length (L .marks)) (marksLength S) ≡ true = search (and-1, and-2) depth 4 in
-    (eqb-true _ _ a, eqb-true _ _ b, eqb-true _ _ c)
+    (eqb-true _ _ (search (and-1, and-2) depth 4), eqb-true _ _ (search (and-1, and-2) depth 4), eqb-true _ _ (search (and-1, and-2) depth 4))
 
 -- ---- from the slices
 
@@ -58,10 +54,6 @@ encode-sound-lent S t range e =
 
 pub tables-of-encode : (S : Settings) (t : Tables) → sound S t ≡ true → tablesOf S (encode S t) ≡ t
 tables-of-encode S t e = stands-tables S (encode S t) t (encode-stands S t) (soundly-shape S t (soundly-is S t .fact e))
-
-pub encoded-sound : (S : Settings) (t : Tables) → inRange S ≡ true → sound S t ≡ true
-    → (lengthsFit S (encode S t) ≡ true) × (soundLent S (encode S t) ≡ true) × (tablesOf S (encode S t) ≡ t)
-encoded-sound S t range e = (encode-fits S t, encode-sound-lent S t range e, tables-of-encode S t e)
 
 pub encode-injective : (S : Settings) (t u : Tables) → sound S t ≡ true → sound S u ≡ true → encode S t ≡ encode S u → t ≡ u
 encode-injective S t u a b e = sym (tables-of-encode S t a) ∙ ap (tablesOf S) e ∙ tables-of-encode S u b

@@ -11,22 +11,22 @@ use lib.ListN.{length, getD, List·getD-eq-default}
 use lib.Arith.{digits-div}
 use borrow.Author.Tests.{eqb-true, eq-eqb}
 use Rattle.model.specs.declared.Settings.{Settings}
-use Rattle.model.specs.declared.Queued.{Queued}
 use Rattle.model.specs.declared.Sector.{Sector}
-use Rattle.words.specs.Words.{table, some}
+use Rattle.words.specs.Words.{table}
 use Rattle.model.specs.Numbers.{statusNumber, statusOf, queueKindNumber, queueKindOf}
-use Rattle.model.specs.Range.{linesOf}
+use Rattle.model.specs.Range.{linesOf, isTree}
+use Rattle.model.specs.Tree.{treeFine}
 use Rattle.model.specs.Address.{blockOf, sectorIndex, setIndex}
-use Rattle.model.specs.Tables.{Line, Entry, Tables, isReserved, entryFor, idle, fresh, noEntry}
+use Rattle.model.specs.Tables.{Line, Entry, Tables, entryFor, idle, fresh, noEntry}
 use Rattle.model.specs.Layout.{wordsFrom, queueMaskRegion}
 use Rattle.model.specs.Lent.{Lent, bit, tagOf, cycleOf, masksOf, statusesOf, readablesOf, missOf, sentOf, ticketCountOf, ticketsIn, queuedOf, kindOf, queueMasksOf, inUse, sectorAt, sectorsAt, lineAt, entryAt, queueAt, tablesOf, takenOf, treeOf}
 pub use Rattle.model.specs.SoundLent.{Small}
 use Rattle.words.proofs.Flags.{clash, iff}
-use Rattle.words.proofs.Below.{some-at, some-i, lt-or-ge, squeeze}
+use Rattle.words.proofs.Below.{some-at, some-i, lt-or-ge, below-four, squeeze}
 use Rattle.words.proofs.Places.{stride}
 use Rattle.words.proofs.Tabled.{any-get, length-table, getD-table}
 use Rattle.encoding.proofs.InUse.{in-use-few, below-used, free-past}
-use Rattle.encoding.proofs.LentSoundFacts.{tag, status, mask, readable, miss, sent, ticketCount, ticket, kind, queueMask, Live, Used, SoundIs, tree}
+use Rattle.encoding.proofs.LentSoundFacts.{tag, status, mask, readable, miss, sent, ticketCount, ticket, kind, queueMask, Live, UsedFirst, SoundIs, tree}
 use Rattle.encoding.proofs.Standing.{field, field-in, field-out, ByNumber}
 use Rattle.encoding.proofs.NumbersAreTables.{line, sector, entry, place, Shape, reserved-number, tag-is, cycle-is, lent-taken-is, lent-tree-is, status-is, mask-is, readable-is, dirty-counts, miss-is, lent-sent-is, entry-in, in-entry, kind-in, queued-in, queue-mask-is, reads-are, lives, live-i}
 use Rattle.encoding.proofs.SoundByPlace.{SectorOk, LineOk, OnlyTag, Agrees, EntryOk, QueuedOk, Soundly, bit-clear}
@@ -37,10 +37,6 @@ module _ (S : Settings) (L : Lent) (is : SoundIs S L) where
   one-line l k hl hk vl vk e =
       let p : l / S .ways ≡ k / S .ways = sym (is .lines l hl .home vl) ∙ ap (setIndex S) e ∙ is .lines k hk .home vk in
       squeeze l k (λ h. is .lines k hk .alone vk l h p vl e) (λ h. is .lines l hl .alone vl k h (sym p) vk (sym e))
-
-  -- an address is in one used entry only
-  one-entry : (d e : ℕ) → d < S .misses → e < S .misses → Used S L d → Used S L e → miss S L d ≡ miss S L e → d ≡ e
-  one-entry d e hd he ud ue q = squeeze d e (λ h. is .entries e he .alone ue d h ud q) (λ h. is .entries d hd .alone ud e h ue (sym q))
 
 -- ---- tables that stand in them
 
@@ -84,31 +80,30 @@ module _ (S : Settings) (L : Lent) (t : Tables) (st : ByNumber S L t) (sh : Shap
 
   -- a sector of a line that lives is RESERVED exactly if an entry has its address
   agrees : (l : ℕ) → l < linesOf S → Agrees S t l
-  agrees l h v k j = iff to fro ∙ sym (any-get (entryFor (line t l .tag + 32 * k)) (t .misses) noEntry)
-    where
-      to : isReserved (sector t l k .status) ≡ true → some (length (t .misses)) (λ e. entryFor (line t l .tag + 32 * k) (entry t e)) ≡ true
-      to r =
-          let q : status S L (4 * l + k) ≡ 1 = status-is S L t st sh l k h j ∙ eqb-true _ _ (reserved-number (sector t l k .status) ∙ r) in
-          let (e, b, (u, a)) = is .sectors (4 * l + k) (omega arith) .backed q in
-          let x : (4 * l + k) / 4 ≡ l = omega arith in
-          let y : (4 * l + k) % 4 ≡ k = omega arith in
-          let z : miss S L e ≡ tag S L l + 32 * k = rw (x, y) at a in
-          some-i (λ e. entryFor (line t l .tag + 32 * k) (entry t e)) (length (t .misses)) e (entry-in S L t st sh e b u)
-          (eq-eqb _ _ (sym (miss-is S L t st sh e b) ∙ z ∙ ap (λ (n : ℕ). n + 32 * k) (tag-is S L t st sh l h)))
-
-      fro : some (length (t .misses)) (λ e. entryFor (line t l .tag + 32 * k) (entry t e)) ≡ true → isReserved (sector t l k .status) ≡ true
-      fro s =
-          let (e, i, q) = some-at (λ e. entryFor (line t l .tag + 32 * k) (entry t e)) (length (t .misses)) s in
-          let b : e < S .misses = omega (arith, sh .few) in
-          let a : miss S L e ≡ tag S L l + 32 * k =
-          miss-is S L t st sh e b ∙ eqb-true _ _ q ∙ ap (λ (n : ℕ). n + 32 * k) (sym (tag-is S L t st sh l h)) in
-          let (n, c, w) = is .entries e b .backed (in-entry S L t st sh e i) in
-          let even : tag S L l % 128 ≡ 0 = is .lines l h .block (live-i S L t st sh l h v) .even in
-          let same : tag S L n ≡ tag S L l = w .has ∙ omega arith in
-          let k-is : sectorIndex (miss S L e) ≡ k = omega arith in
-          let n-is : n ≡ l = one-line S L is n l c h (w .lives) (live-i S L t st sh l h v) same in
-          let waits : status S L (4 * l + k) ≡ 1 = rw (n-is, k-is) at (w .waits) in
-          sym (reserved-number (sector t l k .status)) ∙ eq-eqb _ _ (sym (status-is S L t st sh l k h j) ∙ waits)
+  agrees l h v k j =
+      let x = status-is S L t st sh l k h j in
+      let t-is = tag-is S L t st sh l h in
+      iff
+      (λ r.
+      let q : status S L (4 * l + k) ≡ 1 = x ∙ eqb-true _ _ (reserved-number (sector t l k .status) ∙ r) in
+      let (e, b, (u, a)) = is .sectors (4 * l + k) (omega arith) .backed q in
+      let y : (4 * l + k) / 4 ≡ l = omega arith in
+      let z : (4 * l + k) % 4 ≡ k = omega arith in
+      let m : miss S L e ≡ tag S L l + 32 * k = rw (y, z) at a in
+      some-i (λ e. entryFor (line t l .tag + 32 * k) (entry t e)) (length (t .misses)) e (entry-in S L t st sh e b u)
+      (eq-eqb _ _ (sym (miss-is S L t st sh e b) ∙ m ∙ ap (λ (n : ℕ). n + 32 * k) t-is)))
+      (λ s.
+      let (e, i, q) = some-at (λ e. entryFor (line t l .tag + 32 * k) (entry t e)) (length (t .misses)) s in
+      let b : e < S .misses = omega (arith, sh .few) in
+      let a : miss S L e ≡ tag S L l + 32 * k = miss-is S L t st sh e b ∙ eqb-true _ _ q ∙ ap (λ (n : ℕ). n + 32 * k) (sym t-is) in
+      let (n, c, w) = is .entries e b .backed (in-entry S L t st sh e i) in
+      let even : tag S L l % 128 ≡ 0 = is .lines l h .block (live-i S L t st sh l h v) .even in
+      let same : tag S L n ≡ tag S L l = w .has ∙ omega arith in
+      let k-is : sectorIndex (miss S L e) ≡ k = omega arith in
+      let n-is : n ≡ l = one-line S L is n l c h (w .lives) (live-i S L t st sh l h v) same in
+      let waits : status S L (4 * l + k) ≡ 1 = rw (n-is, k-is) at (w .waits) in
+      sym (reserved-number (sector t l k .status)) ∙ eq-eqb _ _ (sym x ∙ waits))
+      ∙ sym (any-get (entryFor (line t l .tag + 32 * k)) (t .misses) noEntry)
 
   -- ---- entries and the queue
 
@@ -128,7 +123,9 @@ module _ (S : Settings) (L : Lent) (t : Tables) (st : ByNumber S L t) (sh : Shap
         home = (l, omega (arith, sh .size), (lives S L t st sh l h (w .lives), sym (tag-is S L t st sh l h) ∙ rw a at has));
         alone = λ d k q.
             let c : d < S .misses = omega (arith, sh .few) in
-            one-entry S L is d e c b (in-entry S L t st sh d k) u (miss-is S L t st sh d c ∙ q ∙ sym a);
+            let v = in-entry S L t st sh d k in
+            let o : miss S L d ≡ miss S L e = miss-is S L t st sh d c ∙ q ∙ sym a in
+            squeeze d e (λ z. f .alone u d z v o) (λ z. is .entries d c .alone v e z u (sym o));
         held = sh .held e i;
         short = sh .short e i;
         asked = λ s. sym (reads-are S L t st sh (entry t e .address)) ∙ rw a at (f .asked u (lent-sent-is S L t st sh e b ∙ ap bit s));
@@ -158,20 +155,12 @@ module _ (S : Settings) (L : Lent) (t : Tables) (st : ByNumber S L t) (sh : Shap
       }
 
   pub stands-soundly : Soundly S t
-  stands-soundly = record {
-    size = sh .size;
-    time = rw (st .time) at (is .time);
-    lines = line-ok;
-    alone = alone;
-    agrees = agrees;
-    entries = entry-ok;
-    queue = queued-ok;
-    few = sh .few;
-    deep = sh .deep;
-    counted = sym (st .count) ∙ is .counted ∙ dirty-counts S L t st sh;
-    treed = sh .treed;
-    turned = λ i h. let j : i < S .sets = rw (sh .treed) at h in rw (lent-tree-is S L t st sh i j) at (is .trees i j);
-  }
+  stands-soundly =
+      let time = rw (st .time) at (is .time) in
+      let counted = sym (st .count) ∙ is .counted ∙ dirty-counts S L t st sh in
+      let turned : (i : ℕ) → i < length (t .trees) → treeFine (isTree S) (S .ways) (getD (t .trees) i 0) ≡ true =
+      λ i h. let j : i < S .sets = rw (sh .treed) at h in rw (lent-tree-is S L t st sh i j) at (is .trees i j) in
+      search (line-ok, alone, agrees, entry-ok, queued-ok)
 
 -- ---- the tables that are read off
 
@@ -179,15 +168,15 @@ module _ {A : Type 0} (g : A → List ℕ) (n : ℕ) (f : ℕ → A) (e k : ℕ)
   field-table : e < n → field g (table n f) e k ≡ getD (g (f e)) k 0
   field-table h = field-in g (table n f) (f e) e k (rw length-table h) ∙ ap (λ (x : A). getD (g x) k 0) (getD-table n f e (f e) h)
 
-  field-past : n ≤ e → field g (table n f) e k ≡ 0
-  field-past h = field-out g (table n f) e k (rw length-table h)
+-- a number of those in use of n places, which are the first, and past them 0
+used-field : (u : ℕ → ℕ) (n : ℕ) → UsedFirst n u → {A : Type 0} (f : ℕ → A) (g : A → List ℕ) (e k : ℕ) {m : ℕ} → e < n
+    → ((u e ≡ 0 → ⊥) → m ≡ getD (g (f e)) k 0) → (u e ≡ 0 → m ≡ 0) → m ≡ field g (table (inUse n u) f) e k
+used-field u n first f g e k h p z =
+    ⊎-elim (λ l. p (below-used u n e first l .1) ∙ sym (field-table g (inUse n u) f e k l))
+    (λ o. z (free-past u n e first h o) ∙ sym (field-out g (table (inUse n u) f) e k (rw length-table o))) (lt-or-ge e (inUse n u))
 
 pub number-back : (n : ℕ) → n ≤ 3 → n ≡ statusNumber (statusOf n)
-number-back zero h = refl
-number-back (suc zero) h = refl
-number-back (suc (suc zero)) h = refl
-number-back (suc (suc (suc zero))) h = refl
-number-back (suc (suc (suc (suc n)))) h = absurd (omega arith)
+number-back n h = below-four (λ n. n ≡ statusNumber (statusOf n)) refl refl refl refl n (omega arith)
 
 pub mark-back : (n : ℕ) → n ≤ 1 → n ≡ bit (eqb n 1)
 mark-back zero h = refl
@@ -196,11 +185,8 @@ mark-back (suc (suc n)) h = absurd (omega arith)
 
 pub sectors-at : (f : Sector → ℕ) (S : Settings) (words marks : List ℕ) (l k : ℕ) → k < 4
     → f (sectorAt S words marks (4 * l + k)) ≡ getD (map f (sectorsAt S words marks l)) k 0
-sectors-at f S words marks l zero h = rw add-zero
-sectors-at f S words marks l (suc zero) h = refl
-sectors-at f S words marks l (suc (suc zero)) h = refl
-sectors-at f S words marks l (suc (suc (suc zero))) h = refl
-sectors-at f S words marks l (suc (suc (suc (suc k)))) h = absurd (omega arith)
+sectors-at f S words marks l =
+    below-four (λ k. f (sectorAt S words marks (4 * l + k)) ≡ getD (map f (sectorsAt S words marks l)) k 0) (rw add-zero) refl refl refl
 
 -- a kind by its number
 kind-made : (k : ℕ) → k ≤ 2 → (k ≡ 0 → ⊥) → k ≡ queueKindNumber (queueKindOf k)
@@ -215,15 +201,6 @@ module _ (S : Settings) (L : Lent) (is : SoundIs S L) where
 
   abbrev deep : ℕ
   deep = inUse (S .queue) (kind S L)
-
-  free-entry : (e : ℕ) → e < S .misses → few ≤ e → ticketCount S L e ≡ 0
-  free-entry e h k = free-past (ticketCount S L) (S .misses) e (is .entries-first) h k
-
-  free-place : (p : ℕ) → p < S .queue → deep ≤ p → kind S L p ≡ 0
-  free-place p h k = free-past (kind S L) (S .queue) p (is .places-first) h k
-
-  used-place : (p : ℕ) → p < deep → (p < S .queue) × (kind S L p ≡ 0 → ⊥)
-  used-place p h = below-used (kind S L) (S .queue) p (is .places-first) h
 
   abbrev decodedLine : ℕ → Line
   decodedLine = lineAt S (L .longs) (L .words) (L .marks)
@@ -244,24 +221,6 @@ module _ (S : Settings) (L : Lent) (is : SoundIs S L) where
       (λ c. ticket-past pos e k h j c ∙ sym (List·getD-eq-default (table (ticketCount S L e) (λ j. ticket S L (S .readers * e + j))) 0 (rw length-table c)))
       (lt-or-ge k (ticketCount S L e))
 
-  -- numbers of the entries and of the queue: those in use and, past them, zeros
-  of-entries : (g : Entry → List ℕ) (k e : ℕ) {n : ℕ} → e < S .misses → n ≡ getD (g (entryAt S L e)) k 0 → (ticketCount S L e ≡ 0 → n ≡ 0)
-      → n ≡ field g (table few (entryAt S L)) e k
-  of-entries g k e h p z =
-      ⊎-elim
-      (λ l. p ∙ sym (field-table g few (entryAt S L) e k l))
-      (λ o. z (free-entry e h o) ∙ sym (field-past g few (entryAt S L) e k o))
-      (lt-or-ge e few)
-
-  of-queue : (g : Queued → List ℕ) (k p : ℕ) {n : ℕ} → p < S .queue
-      → ((kind S L p ≡ 0 → ⊥) → n ≡ getD (g (queueAt S L p)) k 0) → (kind S L p ≡ 0 → n ≡ 0)
-      → n ≡ field g (table deep (queueAt S L)) p k
-  of-queue g k p h f z =
-      ⊎-elim
-      (λ l. f (used-place p l .1) ∙ sym (field-table g deep (queueAt S L) p k l))
-      (λ o. z (free-place p h o) ∙ sym (field-past g deep (queueAt S L) p k o))
-      (lt-or-ge p deep)
-
   pub read-stands : 1 ≤ S .readers → ByNumber S L (tablesOf S L)
   unfolding tablesOf
   read-stands pos = record {
@@ -277,14 +236,14 @@ module _ (S : Settings) (L : Lent) (is : SoundIs S L) where
         mark-back (readable S L (4 * l + k)) (is .sectors (4 * l + k) (omega arith) .mark)
         ∙ sectors-at (λ s. bit (s .readable)) S (L .words) (L .marks) l k j
         ∙ sym (field-table readablesOf (linesOf S) decodedLine l k h);
-    misses = λ e h. of-entries missOf 0 e h refl (λ z. is .entries e h .blank z .0);
-    sents = λ e h. of-entries sentOf 0 e h (mark-back (sent S L e) (is .entries e h .mark)) (λ z. is .entries e h .blank z .1);
-    ticket-counts = λ e h. of-entries ticketCountOf 0 e h (sym (length-table (ticketCount S L e) (λ j. ticket S L (S .readers * e + j)))) (λ z. z);
-    tickets = λ e k h j. of-entries ticketsIn k e h (ticket-at pos e k h j) (λ z. ticket-past pos e k h j (omega arith));
-    queue = λ p h. of-queue queuedOf 0 p h (λ u. refl) (λ z. is .places p h .blank z);
-    kinds = λ p h. of-queue kindOf 0 p h (λ u. kind-made (kind S L p) (is .places p h .known) u) (λ z. z);
+    misses = λ e h. used-field (ticketCount S L) (S .misses) (is .entries-first) (entryAt S L) missOf e 0 h (λ u. refl) (λ z. is .entries e h .blank z .0);
+    sents = λ e h. used-field (ticketCount S L) (S .misses) (is .entries-first) (entryAt S L) sentOf e 0 h (λ u. mark-back (sent S L e) (is .entries e h .mark)) (λ z. is .entries e h .blank z .1);
+    ticket-counts = λ e h. used-field (ticketCount S L) (S .misses) (is .entries-first) (entryAt S L) ticketCountOf e 0 h (λ u. sym (length-table (ticketCount S L e) (λ j. ticket S L (S .readers * e + j)))) (λ z. z);
+    tickets = λ e k h j. used-field (ticketCount S L) (S .misses) (is .entries-first) (entryAt S L) ticketsIn e k h (λ u. ticket-at pos e k h j) (λ z. ticket-past pos e k h j (omega arith));
+    queue = λ p h. used-field (kind S L) (S .queue) (is .places-first) (queueAt S L) queuedOf p 0 h (λ u. refl) (λ z. is .places p h .blank z);
+    kinds = λ p h. used-field (kind S L) (S .queue) (is .places-first) (queueAt S L) kindOf p 0 h (λ u. kind-made (kind S L p) (is .places p h .known) u) (λ z. z);
     queue-masks = λ p k h j.
-        of-queue queueMasksOf k p h
+        used-field (kind S L) (S .queue) (is .places-first) (queueAt S L) queueMasksOf p k h
         (λ u. sym (getD-table 4 (λ k. queueMask S L (4 * p + k)) k 0 j))
         (λ z. is .places p h .bare (omega arith) k j);
     time = refl;
@@ -292,17 +251,10 @@ module _ (S : Settings) (L : Lent) (is : SoundIs S L) where
     trees = λ i h. sym (field-table treeOf (S .sets) (tree S L) i 0 h);
   }
 
-  -- an entry and a queue place that are read off
-  entry-read : (e : ℕ) → e < few → entry (tablesOf S L) e ≡ entryAt S L e
-  unfolding tablesOf
-  entry-read e h = getD-table few (entryAt S L) e noEntry h
-
-  place-read : (p : ℕ) → p < deep → place (tablesOf S L) p ≡ queueAt S L p
-  unfolding tablesOf
-  place-read p h = getD-table deep (queueAt S L) p idle h
-
   tickets-read : (e : ℕ) → e < few → length (entry (tablesOf S L) e .tickets) ≡ ticketCount S L e
-  tickets-read e h = ap (λ (x : Entry). length (x .tickets)) (entry-read e h) ∙ length-table (ticketCount S L e) (λ j. ticket S L (S .readers * e + j))
+  unfolding tablesOf
+  tickets-read e h =
+      ap (λ (x : Entry). length (x .tickets)) (getD-table few (entryAt S L) e noEntry h) ∙ length-table (ticketCount S L e) (λ j. ticket S L (S .readers * e + j))
 
   pub read-shape : Shape S (tablesOf S L)
   unfolding tablesOf
@@ -321,6 +273,6 @@ module _ (S : Settings) (L : Lent) (is : SoundIs S L) where
     deep = rw (length-table deep (queueAt S L)) (in-use-few (kind S L) (S .queue));
     masked = λ p h.
         let i : p < deep = rw (length-table deep (queueAt S L)) at h in
-        rw (place-read p i) (length-table 4 (λ k. queueMask S L (4 * p + k)));
+        rw (getD-table deep (queueAt S L) p idle i) (length-table 4 (λ k. queueMask S L (4 * p + k)));
     treed = length-table (S .sets) (tree S L);
   }

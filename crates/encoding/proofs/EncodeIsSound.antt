@@ -9,17 +9,15 @@ use lib.ListN.{length, getD-replicate, List·getD-eq-default}
 use borrow.Author.Tests.{eqb-true, eq-eqb}
 use Rattle.model.specs.Numbers.{queueKindNumber}
 use Rattle.model.specs.declared.Settings.{Settings}
-use Rattle.model.specs.declared.QueueKind.{QueueKind}
-use Rattle.model.specs.declared.QueueKind.the-variants as queue
 use Rattle.model.specs.declared.Queued.{Queued}
 use Rattle.words.specs.Words.{any}
 use Rattle.model.specs.Range.{linesOf}
 use Rattle.model.specs.Address.{sectorIndex}
 use Rattle.model.specs.Tables.{Entry, Tables, isInvalid, isReserved, whollyInvalid, entryFor, idle, noEntry}
 use Rattle.model.specs.Lent.{Lent, bit}
-use Rattle.words.proofs.Flags.{flag, clash}
+use Rattle.words.proofs.Flags.{flag, no-yes, clash}
 use Rattle.words.proofs.Below.{every-at, some-at, some-i, lt-or-ge}
-use Rattle.model.proofs.Answers.{status-below}
+use Rattle.model.proofs.Answers.{by-kind, status-below}
 use Rattle.model.proofs.ProbeFindsSpot.{reserved-used}
 use Rattle.words.proofs.Tabled.{any-get}
 use Rattle.encoding.proofs.LentSoundFacts.{tag, status, readable, miss, sent, ticketCount, ticket, queued, kind, Live, Used, LentLineIs, SectorIs, Reserves, LentEntryIs, Unsent, PlaceIs, SoundIs}
@@ -30,14 +28,6 @@ use Rattle.encoding.proofs.SoundByPlace.{Lives, Soundly, soundly-shape,
 bit-low : (r : Bool) → bit r ≤ 1
 bit-low true = omega arith
 bit-low false = omega arith
-
-kind-low : (k : QueueKind) → queueKindNumber k ≤ 2
-kind-low queue.Read = omega arith
-kind-low queue.WriteBack = omega arith
-
-kind-one : (k : QueueKind) → queueKindNumber k ≤ 1 → queueKindNumber k ≡ 1
-kind-one queue.Read h = refl
-kind-one queue.WriteBack h = absurd (omega arith)
 
 module _ (S : Settings) (L : Lent) (t : Tables) (st : ByNumber S L t) (so : Soundly S t) where
   sh : Shape S t
@@ -62,7 +52,6 @@ module _ (S : Settings) (L : Lent) (t : Tables) (st : ByNumber S L t) (so : Soun
         since = rw (k, c) (f .since);
         alone = λ v m j r w e.
             let b : m < linesOf S = omega arith in
-            let s = so .size in
             let q : m ≡ l = so .alone l h (lives S L t st sh l h v) m (omega arith) (lives S L t st sh m b w) (sym (tag-is S L t st sh m b) ∙ e ∙ a) in
             omega arith;
       }
@@ -70,11 +59,8 @@ module _ (S : Settings) (L : Lent) (t : Tables) (st : ByNumber S L t) (so : Soun
   -- ---- sectors
 
   reserved-lives : (l k : ℕ) → l < linesOf S → k < 4 → isReserved (sector t l k .status) ≡ true → Lives S t l
-  reserved-lives l k h j r =
-      ⊎-elim
-      (λ u. clash (every-at (λ k. isInvalid (sector t l k .status)) 4 k (sym (unused-is S L t st sh l h) ∙ u) j) (reserved-used (sector t l k .status) r))
-      (λ u. u)
-      (flag (whollyInvalid (line t l)))
+  reserved-lives l k h j r = no-yes (λ u.
+      clash (every-at (λ k. isInvalid (sector t l k .status)) 4 k (sym (unused-is S L t st sh l h) ∙ u) j) (reserved-used (sector t l k .status) r))
 
   sector-is : (l k : ℕ) → l < linesOf S → k < 4 → SectorIs S L (4 * l + k)
   sector-is l k h j =
@@ -88,21 +74,16 @@ module _ (S : Settings) (L : Lent) (t : Tables) (st : ByNumber S L t) (so : Soun
         clean = λ c. m ∙ f .clean (rw x at c);
         dirty = λ c z. f .dirty (sym x ∙ c) (sym m ∙ z);
         unreadable = λ z. let w = f .unreadable (sym r ∙ z) in (x ∙ w .0, λ q. w .1 (sym m ∙ q));
-        backed = λ q. backed q;
+        backed = λ q.
+            let held : isReserved (sector t l k .status) ≡ true = sym (reserved-number (sector t l k .status)) ∙ eq-eqb _ _ (sym x ∙ q) in
+            let a : any (entryFor (line t l .tag + 32 * k)) (t .misses) ≡ true = sym (so .agrees l h (reserved-lives l k h j held) k j) ∙ held in
+            let (e, i, w) = some-at (λ e. entryFor (line t l .tag + 32 * k) (entry t e)) (length (t .misses))
+            (sym (any-get (entryFor (line t l .tag + 32 * k)) (t .misses) noEntry) ∙ a) in
+            let b : e < S .misses = omega (arith, so .few) in
+            let y : (4 * l + k) / 4 ≡ l = omega arith in
+            let z : (4 * l + k) % 4 ≡ k = omega arith in
+            (e, b, (in-entry S L t st sh e i, rw (y, z) (miss-is S L t st sh e b ∙ eqb-true _ _ w ∙ ap (λ (n : ℕ). n + 32 * k) (sym (tag-is S L t st sh l h)))));
       }
-    where
-      backed : status S L (4 * l + k) ≡ 1 → (e : ℕ) × (e < S .misses) × (Used S L e × (miss S L e ≡ tag S L ((4 * l + k) / 4) + 32 * ((4 * l + k) % 4)))
-      backed q =
-          let r : isReserved (sector t l k .status) ≡ true =
-          sym (reserved-number (sector t l k .status)) ∙ eq-eqb _ _ (sym (status-is S L t st sh l k h j) ∙ q) in
-          let a : any (entryFor (line t l .tag + 32 * k)) (t .misses) ≡ true = sym (so .agrees l h (reserved-lives l k h j r) k j) ∙ r in
-          let (e, i, w) = some-at (λ e. entryFor (line t l .tag + 32 * k) (entry t e)) (length (t .misses))
-          (sym (any-get (entryFor (line t l .tag + 32 * k)) (t .misses) noEntry) ∙ a) in
-          let few = so .few in
-          let b : e < S .misses = omega arith in
-          let y : (4 * l + k) / 4 ≡ l = omega arith in
-          let z : (4 * l + k) % 4 ≡ k = omega arith in
-          (e, b, (in-entry S L t st sh e i, rw (y, z) (miss-is S L t st sh e b ∙ eqb-true _ _ w ∙ ap (λ (x : ℕ). x + 32 * k) (sym (tag-is S L t st sh l h)))))
 
   -- ---- entries
 
@@ -116,7 +97,6 @@ module _ (S : Settings) (L : Lent) (t : Tables) (st : ByNumber S L t) (so : Soun
       let f = so .entries e i in
       let (l, b, (v, at)) = f .home in
       let n : l < linesOf S = omega (arith, so .size) in
-      let even : entry t e .address % 32 ≡ 0 = f .even in
       let j : sectorIndex (entry t e .address) < 4 = omega arith in
       let a : entry t e .address ≡ line t l .tag + 32 * sectorIndex (entry t e .address) = omega arith in
       let some : any (entryFor (line t l .tag + 32 * sectorIndex (entry t e .address))) (t .misses) ≡ true =
@@ -175,11 +155,11 @@ module _ (S : Settings) (L : Lent) (t : Tables) (st : ByNumber S L t) (so : Soun
 
   place-is : (p : ℕ) → p < S .queue → PlaceIs S L p
   place-is p h = record {
-    known = ⊎-elim (λ l. rw (kind-in S L t st sh p l) (kind-low (place t p .kind))) (λ k. omega (arith, kind-out S L t st sh p h k)) (lt-or-ge p (length (t .queue)));
+    known = ⊎-elim (λ l. rw (kind-in S L t st sh p l) (by-kind (λ k. queueKindNumber k ≤ 2) (omega arith) (omega arith) (place t p .kind))) (λ k. omega (arith, kind-out S L t st sh p h k)) (lt-or-ge p (length (t .queue)));
     blank = λ z. queued-out S L t st sh p h (place-out p h z);
     bare = λ q k j.
         queue-mask-is S L t st sh p k h j
-        ∙ ⊎-elim (λ l. so .queue p l .bare (kind-one (place t p .kind) (rw (kind-in S L t st sh p l) at q)) k j)
+        ∙ ⊎-elim (λ l. so .queue p l .bare (by-kind (λ k. queueKindNumber k ≤ 1 → queueKindNumber k ≡ 1) (λ z. refl) (λ z. absurd (omega arith)) (place t p .kind) (rw (kind-in S L t st sh p l) at q)) k j)
         (λ o. ap (λ (x : Queued). maskIn x k) (List·getD-eq-default (t .queue) idle o) ∙ getD-replicate 4 k 0 0 j) (lt-or-ge p (length (t .queue)));
     block = λ q. let l : p < length (t .queue) = place-i p h q in
         rw (queued-in S L t st sh p l) (so .queue p l .block (sym (kind-in S L t st sh p l) ∙ q));

@@ -1,7 +1,7 @@
 -- Places in use that are the first ones: how many they are tells which.
 use mathlib.Core.Path.{_≡_, refl, ap, _∙_}
-use mathlib.Core.Logic.{_⊎_, inl, inr, ⊎-elim}
-use mathlib.Core.Bool.{true, false, not}
+use mathlib.Core.Logic.{⊎-elim}
+use mathlib.Core.Bool.{false, not}
 use Prim.Native.Nat.{ℕ, zero, suc, _+_, _-_, _≤_, _<_}
 use native.Mathlib.Nat.{not-suc-le-zero}
 use native.Mathlib.Omega.{arith}
@@ -38,23 +38,22 @@ module _ (f : ℕ → ℕ) where
 
   pub used-below : (n i : ℕ) → UsedFirst n f → i < n → (f i ≡ 0 → ⊥) → i < inUse n f
   used-below zero i g h u = absurd (not-suc-le-zero h)
-  used-below (suc n) i g h u = go (flag (eqb (f n) 0)) (λ l. used-below n i (λ j k. g j (omega arith)) l u)
-    where
-      go : (eqb (f n) 0 ≡ true) ⊎ (eqb (f n) 0 ≡ false) → (i < n → i < inUse n f) → i < inUse (suc n) f
-      go (inl z) ih =
-          rw z (⊎-elim (λ q. absurd (u (ap f q ∙ eqb-true _ _ z))) (λ l. omega (arith, ih l)) (last-or-below n i h))
-      go (inr z) ih = let w : inUse n f ≡ n = all-used n (λ j k. used-before n g z j (omega arith)) in rw (z, w) (omega arith)
+  used-below (suc n) i g h u =
+      ⊎-elim
+      (λ z. rw z (⊎-elim (λ q. absurd (u (ap f q ∙ eqb-true _ _ z))) (λ l. omega (arith, used-below n i (λ j k. g j (omega arith)) l u)) (last-or-below n i h)))
+      (λ z. let w : inUse n f ≡ n = all-used n (λ j k. used-before n g z j (omega arith)) in rw (z, w) (omega arith))
+      (flag (eqb (f n) 0))
 
   pub below-used : (n i : ℕ) → UsedFirst n f → i < inUse n f → (i < n) × (f i ≡ 0 → ⊥)
   below-used zero i g h = absurd (not-suc-le-zero h)
-  below-used (suc n) i g h = go (flag (eqb (f n) 0)) (λ l. below-used n i (λ j k. g j (omega arith)) l)
-    where
-      go : (eqb (f n) 0 ≡ true) ⊎ (eqb (f n) 0 ≡ false) → (i < inUse n f → (i < n) × (f i ≡ 0 → ⊥)) → (i < suc n) × (f i ≡ 0 → ⊥)
-      go (inl z) ih = let k : i < inUse n f + 0 = rw z at h in let w = ih (omega arith) in (omega arith, w .1)
-      go (inr z) ih =
-          let w : inUse n f ≡ n = all-used n (λ j k. used-before n g z j (omega arith)) in
-          let k : i < inUse n f + 1 = rw z at h in
-          (omega arith, used-before n g z i (omega arith))
+  below-used (suc n) i g h =
+      ⊎-elim
+      (λ z. let k : i < inUse n f + 0 = rw z at h in let w = below-used n i (λ j k. g j (omega arith)) (omega arith) in (omega arith, w .1))
+      (λ z.
+      let w : inUse n f ≡ n = all-used n (λ j k. used-before n g z j (omega arith)) in
+      let k : i < inUse n f + 1 = rw z at h in
+      (omega arith, used-before n g z i (omega arith)))
+      (flag (eqb (f n) 0))
 
   -- from the number of those in use on, none is
   pub free-past : (n i : ℕ) → UsedFirst n f → i < n → inUse n f ≤ i → f i ≡ 0

@@ -12,7 +12,7 @@ use Rattle.model.specs.Address.{goodBlock, blockOf, sectorIndex, setIndex}
 use Rattle.model.specs.Sound.{lastCycle, allOnes}
 use Rattle.model.specs.Lent.{Lent, tagAt, cycleAt, statusAt, maskAt, readableAt, missAt, sentAt, ticketCountAt, ticketAt, queuedAt, queueKindAt, queueMaskAt, nowAt, dirtyCountAt, takenAt, treeAt}
 use Rattle.model.specs.SoundLent as lent
-use Rattle.words.proofs.Reflect.{Decides, is-flag, is-eq, is-le, is-lt, is-not, _⊓_, is-or, is-imp, is-unless, is-every, is-some, is-none, is-as}
+use Rattle.words.proofs.Reflect.{Decides, is-flag, is-eq, is-le, is-lt, is-not, _⊓_, is-or, is-imp, is-both, is-unless, is-every, is-some, is-none, is-as}
 
 -- ---- the numbers of the slices, and the tests on them that stay tests
 
@@ -160,19 +160,12 @@ module _ (S : Settings) (L : Lent) where
   line-is l =
       is-as
       (is-unless (is-flag (live S L l)) (is-eq (tag S L l) 0 ⊓ is-eq (cycle S L l) 0 ⊓ is-eq (taken S L l) 0)
-      ⊓ is-imp (is-flag (live S L l)) (good-block-is (tag S L l) ⊓ is-eq (setIndex S (tag S L l)) (l / S .ways))
+      ⊓ is-both (is-flag (live S L l)) (good-block-is (tag S L l)) (is-eq (setIndex S (tag S L l)) (l / S .ways))
       ⊓ is-le (cycle S L l) (now S L)
       ⊓ is-le (taken S L l) (cycle S L l)
       ⊓ is-imp (is-flag (live S L l)) (is-every l (λ m. is-imp (is-eq (m / S .ways) (l / S .ways)) (is-imp (is-flag (live S L m)) (is-not (is-eq (tag S L m) (tag S L l)))))))
-      (λ w. record {
-        dead = w .0 .0 .0 .0;
-        block = λ v. w .0 .0 .0 .1 v .0;
-        home = λ v. w .0 .0 .0 .1 v .1;
-        past = w .0 .0 .1;
-        since = w .0 .1;
-        alone = w .1;
-      })
-      (λ r. ((((r .dead, λ v. (r .block v, r .home v)), r .past), r .since), r .alone))
+      (λ w. search depth 8)
+      (λ r. search depth 8)
 
   used-is : (e : ℕ) → Decides (lent.used S (L .longs) (L .words) (L .marks) e) (Used S L e)
   used-is e = is-not (is-eq (ticketCount S L e) 0)
@@ -246,16 +239,5 @@ module _ (S : Settings) (L : Lent) where
       ⊓ is-every (S .queue) place-is
       ⊓ is-eq (dirtyCount S L) (countBelow (linesOf S) (dirtyLine S L))
       ⊓ is-every (S .sets) (λ i. is-flag (treeFine (isTree S) (S .ways) (tree S L i))))
-      (λ w. record {
-        time = w .0 .0 .0 .0 .0 .0 .0 .0 .0;
-        lines = w .0 .0 .0 .0 .0 .0 .0 .0 .1;
-        sectors = w .0 .0 .0 .0 .0 .0 .0 .1;
-        tickets = w .0 .0 .0 .0 .0 .0 .1;
-        entries-first = w .0 .0 .0 .0 .0 .1;
-        entries = w .0 .0 .0 .0 .1;
-        places-first = w .0 .0 .0 .1;
-        places = w .0 .0 .1;
-        counted = w .0 .1;
-        trees = w .1;
-      })
-      (λ r. (((((((((r .time, r .lines), r .sectors), r .tickets), r .entries-first), r .entries), r .places-first), r .places), r .counted), r .trees))
+      (λ w. search depth 12)
+      (λ r. search depth 12)

@@ -2,33 +2,31 @@
 -- as the test on the tables; and the tables are what is read off the slices.
 use mathlib.Core.Path.{_≡_, refl, sym, ap, _∙_}
 use mathlib.Core.Logic.{⊎-elim}
-use mathlib.Core.Bool.{Bool, true, false, not, _&&_, _||_}
-use mathlib.Core.List.{List, [], _∷_, map}
+use mathlib.Core.Bool.{Bool, true, false, not, _||_}
+use mathlib.Core.List.{List, map}
 use Prim.Native.Nat.{ℕ, zero, suc, _+_, _*_, _≤_, _<_}
-use native.Mathlib.Nat.{not-suc-le-zero, le-of-suc-le-suc, add-zero}
+use native.Mathlib.Nat.{add-zero}
 use native.Mathlib.Omega.{arith}
 use lib.Dec.{eqb}
 use lib.ListN.{length, getD, getD-replicate, List·getD-eq-default}
-use borrow.Author.Tests.{eqb-true, eq-eqb}
 use Rattle.model.specs.declared.Settings.{Settings}
 use Rattle.model.specs.declared.Status.{Status}
-use Rattle.model.specs.declared.Status.the-variants.{Invalid, Reserved, Valid, Modified}
 use Rattle.model.specs.declared.Sector.{Sector}
 use Rattle.model.specs.declared.QueueKind.{QueueKind}
-use Rattle.model.specs.declared.QueueKind.the-variants as queue
 use Rattle.model.specs.declared.Queued.{Queued}
 use Rattle.words.specs.Words.{count, table, every, some, countBelow}
-use Rattle.model.specs.Numbers.{statusNumber, statusOf, queueKindNumber, queueKindOf}
+use Rattle.model.specs.Numbers.{statusNumber, queueKindNumber, queueKindOf}
 use Rattle.model.specs.Range.{linesOf}
 use Rattle.model.specs.Tables.{Line, Entry, Tables, isInvalid, isReserved, whollyInvalid, isFetch, idle, empty, fresh, noEntry, isModified, dirty, dirtyLines}
-use Rattle.model.specs.Lent.{Lent, bit, tagOf, cycleOf, takenOf, treeOf, missOf, sentOf, ticketCountOf, ticketsIn, queuedOf, kindOf, queueMasksOf, inUse, sectorAt, sectorsAt, lineAt, entryAt, queueAt, tablesOf}
+use Rattle.model.specs.Lent.{Lent, bit, tagOf, cycleOf, takenOf, treeOf, missOf, sentOf, ticketCountOf, ticketsIn, queuedOf, kindOf, queueMasksOf, sectorAt, sectorsAt, lineAt, entryAt, queueAt, tablesOf}
 use Rattle.model.specs.Sound.{readingOf}
-use Rattle.words.proofs.Flags.{iff, not-yes, not-no, not-both}
-use Rattle.model.proofs.Answers.{status-of-number}
+use Rattle.words.proofs.Flags.{not-yes, not-no, not-both}
+use Rattle.model.proofs.Answers.{by-status, by-kind, status-of-number}
+use Rattle.words.proofs.Lists.{getD-map-in}
 use Rattle.words.proofs.Tabled.{all-get, any-get, count-get, table-list}
-use Rattle.words.proofs.Below.{lt-or-ge, count-short, count-same, some-same}
+use Rattle.words.proofs.Below.{lt-or-ge, eqb-swap, count-short, count-same, some-same}
 use Rattle.encoding.proofs.InUse.{in-use-is}
-use Rattle.encoding.proofs.LentSoundFacts.{tag, cycle, taken, status, mask, readable, miss, sent, ticketCount, ticket, queued, kind, queueMask, now, tree, live, dirtyLine, readFor, Used, Live}
+use Rattle.encoding.proofs.LentSoundFacts.{tag, cycle, taken, status, mask, readable, miss, sent, ticketCount, ticket, queued, kind, queueMask, tree, live, dirtyLine, readFor, Used, Live}
 use Rattle.encoding.proofs.Standing.{field, field-in, field-out, ByNumber}
 
 -- ---- records of the tables by their place
@@ -68,55 +66,32 @@ pub record Shape (S : Settings) (t : Tables) : Type 0 where
 -- ---- numbers and what they stand for
 
 pub modified-number : (x : Status) → eqb (statusNumber x) 3 ≡ isModified x
-modified-number Invalid = refl
-modified-number Reserved = refl
-modified-number Valid = refl
-modified-number Modified = refl
+modified-number = by-status (λ x. eqb (statusNumber x) 3 ≡ isModified x) refl refl refl refl
 
 pub invalid-number : (x : Status) → eqb (statusNumber x) 0 ≡ isInvalid x
-invalid-number Invalid = refl
-invalid-number Reserved = refl
-invalid-number Valid = refl
-invalid-number Modified = refl
+invalid-number = by-status (λ x. eqb (statusNumber x) 0 ≡ isInvalid x) refl refl refl refl
 
 pub reserved-number : (x : Status) → eqb (statusNumber x) 1 ≡ isReserved x
-reserved-number Invalid = refl
-reserved-number Reserved = refl
-reserved-number Valid = refl
-reserved-number Modified = refl
+reserved-number = by-status (λ x. eqb (statusNumber x) 1 ≡ isReserved x) refl refl refl refl
 
 pub flag-of-bit : (r : Bool) → eqb (bit r) 1 ≡ r
 flag-of-bit true = refl
 flag-of-bit false = refl
 
 pub kind-some : (k : QueueKind) → queueKindNumber k ≡ 0 → ⊥
-kind-some queue.Read z = omega arith
-kind-some queue.WriteBack z = omega arith
+kind-some = by-kind (λ k. queueKindNumber k ≡ 0 → ⊥) (λ z. omega arith) (λ z. omega arith)
 
 pub kind-back : (k : QueueKind) → queueKindOf (queueKindNumber k) ≡ k
-kind-back queue.Read = refl
-kind-back queue.WriteBack = refl
+kind-back = by-kind (λ k. queueKindOf (queueKindNumber k) ≡ k) refl refl
 
 pub fetch-number : (k : QueueKind) → eqb (queueKindNumber k) 1 ≡ isFetch k
-fetch-number queue.Read = refl
-fetch-number queue.WriteBack = refl
-
-eqb-swap : (a b : ℕ) → eqb a b ≡ eqb b a
-eqb-swap a b = iff (λ t. eq-eqb b a (sym (eqb-true a b t))) (λ t. eq-eqb a b (sym (eqb-true b a t)))
-
-reading-numbers : (a : ℕ) (x : Queued) → (eqb (kindIn x) 1 && eqb (addressIn x) a) ≡ readingOf a x
-reading-numbers a x = rw (fetch-number (x .kind), eqb-swap (x .address) a)
+fetch-number = by-kind (λ k. eqb (queueKindNumber k) 1 ≡ isFetch k) refl refl
 
 some-not : (n : ℕ) (p : ℕ → Bool) → some n (λ i. not (p i)) ≡ not (every n p)
 some-not zero p = refl
 some-not (suc n) p = ap (λ (b : Bool). b || not (p n)) (some-not n p) ∙ sym (not-both (every n p) (p n))
 
 module _ {A : Type 0} where
-  map-at : (f : A → ℕ) (xs : List A) (d : A) (k : ℕ) → k < length xs → getD (map f xs) k 0 ≡ f (getD xs k d)
-  map-at f [] d k h = absurd (not-suc-le-zero h)
-  map-at f (x ∷ xs) d zero h = refl
-  map-at f (x ∷ xs) d (suc k) h = map-at f xs d k (le-of-suc-le-suc h)
-
   -- at a default that gives 0
   field-get : (g : A → List ℕ) (xs : List A) (d : A) (e k : ℕ) → getD (g d) k 0 ≡ 0
       → field g xs e k ≡ getD (g (getD xs e d)) k 0
@@ -127,25 +102,9 @@ module _ {A : Type 0} where
 
 -- ---- records put together again
 
-sector-back : (x : Sector) {s : Status} {m : ℕ} {r : Bool} → s ≡ x .status → m ≡ x .mask → r ≡ x .readable
-    → record { status = s; mask = m; readable = r } ≡ x
-sector-back x p q r = rw (p, q, r)
-
-line-back : (x : Line) {a c k : ℕ} {ss : List Sector} → a ≡ x .tag → c ≡ x .cycle → k ≡ x .taken → ss ≡ x .sectors
-    → record { tag = a; cycle = c; taken = k; sectors = ss } ≡ x
-line-back x p q k r = rw (p, q, k, r)
-
-entry-back : (x : Entry) {a : ℕ} {s : Bool} {ts : List ℕ} → a ≡ x .address → s ≡ x .sent → ts ≡ x .tickets
-    → record { address = a; sent = s; tickets = ts } ≡ x
-entry-back x p q r = rw (p, q, r)
-
 pub queued-back : (x : Queued) {k : QueueKind} {a : ℕ} {ms : List ℕ} → k ≡ x .kind → a ≡ x .address → ms ≡ x .masks
     → record { kind = k; address = a; masks = ms } ≡ x
 queued-back x p q r = rw (p, q, r)
-
-tables-back : (t : Tables) {ls : List Line} {es : List Entry} {q : List Queued} {c d : ℕ} {ts : List ℕ} → ls ≡ t .lines → es ≡ t .misses → q ≡ t .queue → c ≡ t .now
-    → d ≡ t .dirtyCount → ts ≡ t .trees → record { lines = ls; misses = es; queue = q; now = c; dirtyCount = d; trees = ts } ≡ t
-tables-back t p q r w v u = rw (p, q, r, w, v, u)
 
 -- the four sectors of a line, as a table
 pub sectors-table : (S : Settings) (words marks : List ℕ) (l : ℕ) → sectorsAt S words marks l ≡ table 4 (λ k. sectorAt S words marks (4 * l + k))
@@ -170,11 +129,8 @@ module _ (S : Settings) (L : Lent) (t : Tables) (st : ByNumber S L t) (sh : Shap
   pub lent-tree-is : (i : ℕ) → i < S .sets → tree S L i ≡ getD (t .trees) i 0
   lent-tree-is i h = st .trees i h ∙ field-in treeOf (t .trees) 0 i 0 (rw (sh .treed) h)
 
-  in-sectors : (l k : ℕ) → l < linesOf S → k < 4 → k < length (line t l .sectors)
-  in-sectors l k h j = let e = sh .fours l h in omega arith
-
   of-sectors : (f : Sector → ℕ) (l k : ℕ) → l < linesOf S → k < 4 → field (λ (x : Line). map f (x .sectors)) (t .lines) l k ≡ f (sector t l k)
-  of-sectors f l k h j = field-in (λ (x : Line). map f (x .sectors)) (t .lines) fresh l k (in-lines l h) ∙ map-at f (line t l .sectors) empty k (in-sectors l k h j)
+  of-sectors f l k h j = field-in (λ (x : Line). map f (x .sectors)) (t .lines) fresh l k (in-lines l h) ∙ getD-map-in f (line t l .sectors) empty 0 k (omega (arith, sh .fours l h))
 
   pub status-is : (l k : ℕ) → l < linesOf S → k < 4 → status S L (4 * l + k) ≡ statusNumber (sector t l k .status)
   status-is l k h j = st .statuses l k h j ∙ of-sectors (λ (s : Sector). statusNumber (s .status)) l k h j
@@ -238,7 +194,6 @@ module _ (S : Settings) (L : Lent) (t : Tables) (st : ByNumber S L t) (sh : Shap
 
   pub in-entry : (e : ℕ) → e < length (t .misses) → Used S L e
   in-entry e h z =
-      let few = sh .few in
       let q : ticketCount S L e ≡ length (entry t e .tickets) = count-is e (omega arith) in
       let o : 1 ≤ length (entry t e .tickets) = sh .held e h in
       omega arith
@@ -270,52 +225,42 @@ module _ (S : Settings) (L : Lent) (t : Tables) (st : ByNumber S L t) (sh : Shap
   reads-are a =
       count-short (readFor S L a) (S .queue) (length (t .queue)) (sh .deep) (λ p h k. rw (kind-out p h k))
       ∙ count-same (readFor S L a) (λ p. readingOf a (place t p)) (length (t .queue))
-      (λ p h. rw (kind-in p h, queued-in p h) (reading-numbers a (place t p)))
+      (λ p h. rw (kind-in p h, queued-in p h, fetch-number (place t p .kind), eqb-swap (place t p .address) a))
       ∙ sym (count-get (readingOf a) (t .queue) idle)
 
   -- ---- the tables read off
 
   sector-again : (l k : ℕ) → l < linesOf S → k < 4 → sectorAt S (L .words) (L .marks) (4 * l + k) ≡ sector t l k
-  sector-again l k h j =
-      sector-back (sector t l k)
-      (ap statusOf (status-is l k h j) ∙ status-of-number (sector t l k .status))
-      (mask-is l k h j)
-      (ap (λ (n : ℕ). eqb n 1) (readable-is l k h j) ∙ flag-of-bit (sector t l k .readable))
+  sector-again l k h j = rw (status-is l k h j, status-of-number (sector t l k .status), mask-is l k h j, readable-is l k h j, flag-of-bit (sector t l k .readable))
 
   line-again : (l : ℕ) → l < linesOf S → lineAt S (L .longs) (L .words) (L .marks) l ≡ line t l
   line-again l h =
-      line-back (line t l) (tag-is l h) (cycle-is l h) (lent-taken-is l h)
-      (sectors-table S (L .words) (L .marks) l
-      ∙ table-list 4 (λ k. sectorAt S (L .words) (L .marks) (4 * l + k)) (line t l .sectors) empty (sh .fours l h) (λ k j. sector-again l k h j))
+      let four = sectors-table S (L .words) (L .marks) l ∙ table-list 4 _ (line t l .sectors) empty (sh .fours l h) (λ k j. sector-again l k h j) in
+      rw (tag-is l h, cycle-is l h, lent-taken-is l h, four)
 
   entry-again : (e : ℕ) → e < length (t .misses) → entryAt S L e ≡ entry t e
   entry-again e l =
-      let few = sh .few in
       let h : e < S .misses = omega arith in
       let c = count-is e h in
       let w = sh .short e l in
-      entry-back (entry t e) (miss-is e h) (ap (λ (n : ℕ). eqb n 1) (lent-sent-is e h) ∙ flag-of-bit (entry t e .sent))
-      (table-list (ticketCount S L e) (λ j. ticket S L (S .readers * e + j)) (entry t e .tickets) 0 (sym c) (λ j k. ticket-is e j h (omega arith)))
+      let all = table-list _ (λ j. ticket S L (S .readers * e + j)) (entry t e .tickets) 0 (sym c) (λ j k. ticket-is e j h (omega arith)) in
+      rw (miss-is e h, lent-sent-is e h, flag-of-bit (entry t e .sent), all)
 
   place-again : (p : ℕ) → p < length (t .queue) → queueAt S L p ≡ place t p
   place-again p l =
-      let deep = sh .deep in
       queued-back (place t p) (ap queueKindOf (kind-in p l) ∙ kind-back (place t p .kind)) (queued-in p l)
       (table-list 4 (λ k. queueMask S L (4 * p + k)) (place t p .masks) 0 (sh .masked p l) (λ k j. queue-mask-is p k (omega arith) j))
-
-  pub entries-in-use : inUse (S .misses) (ticketCount S L) ≡ length (t .misses)
-  entries-in-use = in-use-is (ticketCount S L) (S .misses) (length (t .misses)) (sh .few) in-entry count-out
-
-  pub places-in-use : inUse (S .queue) (kind S L) ≡ length (t .queue)
-  places-in-use = in-use-is (kind S L) (S .queue) (length (t .queue)) (sh .deep) in-place kind-out
 
   pub stands-tables : tablesOf S L ≡ t
   unfolding tablesOf
   stands-tables =
-      tables-back t
-      (table-list (linesOf S) (lineAt S (L .longs) (L .words) (L .marks)) (t .lines) fresh (sh .size) line-again)
-      (ap (λ (n : ℕ). table n (entryAt S L)) entries-in-use ∙ table-list (length (t .misses)) (entryAt S L) (t .misses) noEntry refl entry-again)
-      (ap (λ (n : ℕ). table n (queueAt S L)) places-in-use ∙ table-list (length (t .queue)) (queueAt S L) (t .queue) idle refl place-again)
-      (st .time)
-      (st .count)
-      (table-list (S .sets) (tree S L) (t .trees) 0 (sh .treed) lent-tree-is)
+      rw (
+        table-list (linesOf S) (lineAt S (L .longs) (L .words) (L .marks)) (t .lines) fresh (sh .size) line-again,
+        in-use-is (ticketCount S L) (S .misses) (length (t .misses)) (sh .few) in-entry count-out,
+        table-list (length (t .misses)) (entryAt S L) (t .misses) noEntry refl entry-again,
+        in-use-is (kind S L) (S .queue) (length (t .queue)) (sh .deep) in-place kind-out,
+        table-list (length (t .queue)) (queueAt S L) (t .queue) idle refl place-again,
+        st .time,
+        st .count,
+        table-list (S .sets) (tree S L) (t .trees) 0 (sh .treed) lent-tree-is,
+      )

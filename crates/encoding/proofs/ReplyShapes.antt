@@ -2,60 +2,46 @@
 use mathlib.Core.Path.{_≡_, refl, sym, ap, _∙_}
 use mathlib.Core.Bool.{Bool, true, false, _&&_, _||_}
 use mathlib.Core.List.{List, [], _∷_, _++_, map}
-use Prim.Native.Nat.{ℕ, _+_, min, _≤_}
+use Prim.Native.Nat.{ℕ, _≤_}
 use native.Mathlib.Omega.{arith}
-use lib.Dec.{ltb, leb}
+use lib.Dec.{eqb, ltb}
 use lib.ListN.{length, take, replicate, length-take}
-use Rattle.words.specs.Words.{pick, all, any, padTo}
-use Rattle.model.specs.Address.{addressOf, isRead, wellFormed}
-use Rattle.model.specs.Tables.{Tables, idle, Outcome, refused, eventsOf}
+use Rattle.words.specs.Words.{all, any, padTo}
+use Rattle.model.specs.Tables.{Tables, idle, Outcome, eventsOf}
 use Rattle.model.specs.Lent.{Lent}
+use Rattle.model.specs.Kinds as kinds
+use Rattle.model.specs.Records.{recordKindOf}
 use Rattle.model.specs.Sound.{lastCycle}
-use Rattle.model.specs.Probe.{Spot, Place, no, at}
-use Rattle.model.specs.Steps.{isMerge, isMiss, queues, queuedAs, queuedEvent, sentAs, placesNeeded, accept, entryFull, proceed, access, sendFrom, send, ticketsOf, sentFor, fill, tick}
+use Rattle.model.specs.Probe.{ruleOf}
+use Rattle.model.specs.Steps.{queues, queuedAs, queuedEvent, sentAs, accept, access, send, ticketsOf, sentFor, fill, tick}
 use Rattle.model.specs.Calls.{eventsTold, inTwo, tidied}
 use Rattle.model.specs.Inner.{SoundSlices, Does}
 use Rattle.model.specs.ReplyShape.{ofAccess, ofSend, ofFill, ofTick, Shaped}
 use Rattle.model.specs.declared.Settings.{Settings}
 use Rattle.model.specs.declared.Access.{Access}
-use Rattle.model.specs.declared.Refusal.{Refusal}
-use Rattle.model.specs.declared.Refusal.the-variants.{BadAccess, QueueFull, EntryFull, MissTableFull}
 use Rattle.model.specs.declared.Queued.{Queued}
 use Rattle.model.specs.declared.QueueKind.{QueueKind}
 use Rattle.model.specs.declared.QueueKind.the-variants as queue
 use Rattle.model.specs.declared.Event.{Event}
-use Rattle.model.specs.declared.Event.the-variants.{Answered, Refused, ReadQueued, WriteBackQueued, Released, ReadSent, WriteBackSent, Filled, Ticked}
+use Rattle.model.specs.declared.Event.the-variants.{Released}
 use Rattle.model.specs.declared.Reply.{Reply}
-use Rattle.words.proofs.Flags.{and-1, and-2, clash}
+use Rattle.words.proofs.Flags.{and-1, and-2, pick-both, clash}
 use Rattle.words.proofs.Places.{length-padTo}
 use Rattle.words.proofs.Lists.{all-append}
+use Rattle.model.proofs.Answers.{by-kind}
+use Rattle.model.proofs.AccessCases.{access-judged}
+use Rattle.model.proofs.SendFillKeepSound.{send-cases}
 use Rattle.encoding.proofs.Bridge.{does-tells}
 
 -- ---- the events behind the first
 
 -- an entry queued
 abbrev queuing : Event → Bool
-queuing (Answered a line) = false
-queuing (Refused n) = false
-queuing (ReadQueued a) = true
-queuing (WriteBackQueued b m0 m1 m2 m3) = true
-queuing (Released t) = false
-queuing (ReadSent a) = false
-queuing (WriteBackSent b m0 m1 m2 m3) = false
-queuing (Filled a) = false
-queuing Ticked = false
+queuing e = any (eqb (recordKindOf e)) (kinds.readQueued ∷ kinds.writeBackQueued ∷ [])
 
 -- a ticket released
 abbrev releasing : Event → Bool
-releasing (Answered a line) = false
-releasing (Refused n) = false
-releasing (ReadQueued a) = false
-releasing (WriteBackQueued b m0 m1 m2 m3) = false
-releasing (Released t) = true
-releasing (ReadSent a) = false
-releasing (WriteBackSent b m0 m1 m2 m3) = false
-releasing (Filled a) = false
-releasing Ticked = false
+releasing e = eqb (recordKindOf e) kinds.released
 
 abbrev none : Event → Bool
 none e = false
@@ -63,10 +49,6 @@ none e = false
 queued-as : (k : QueueKind) (a : ℕ) (ms : List ℕ) → (queuing (queuedAs k a ms) ≡ true) × (releasing (queuedAs k a ms) ≡ false)
 queued-as queue.Read a ms = (refl, refl)
 queued-as queue.WriteBack a ms = (refl, refl)
-
-sent-as : (k : QueueKind) (a : ℕ) (ms : List ℕ) → ofSend (sentAs k a ms) ≡ true
-sent-as queue.Read a ms = refl
-sent-as queue.WriteBack a ms = refl
 
 all-queuing : (qs : List Queued) → all queuing (map queuedEvent qs) ≡ true
 all-queuing [] = refl
@@ -86,45 +68,22 @@ tells begins rest (e ∷ es) = begins e && all rest es
 record TellsShape (begins rest : Event → Bool) (o : Outcome Tables) : Type 0 where
   pub is : tells begins rest (eventsOf o) ≡ true
 
-tells-by : {begins rest : Event → Bool} (b : Bool) {o p : Outcome Tables} → TellsShape begins rest o → TellsShape begins rest p → TellsShape begins rest (pick b o p)
-tells-by true h g = h
-tells-by false h g = g
-
-refused-tells : (n : Refusal) → TellsShape ofAccess queuing (refused n)
-refused-tells n = record { is = refl }
-
-accept-tells : (S : Settings) (x : Access) (p : Spot) (t : Tables) → TellsShape ofAccess queuing (accept S x p t)
-unfolding accept
-accept-tells S x p t = record { is = all-queuing (queues x p) }
-
-proceed-tells : (S : Settings) (x : Access) (t : Tables) (p : Place) → TellsShape ofAccess queuing (proceed S x t p)
-unfolding proceed
-proceed-tells S x t (no n) = refused-tells n
-proceed-tells S x t (at p) =
-    tells-by (ltb (S .queue) (length (t .queue) + placesNeeded x p)) (refused-tells QueueFull)
-    (tells-by (isRead x && isMerge (p .answer) && any (entryFull S (addressOf x)) (t .misses)) (refused-tells EntryFull)
-    (tells-by (isRead x && isMiss (p .answer) && leb (S .misses) (length (t .misses))) (refused-tells MissTableFull)
-    (accept-tells S x p t)))
-
 access-tells : (S : Settings) (x : Access) (t : Tables) → TellsShape ofAccess queuing (access S x t)
-unfolding access
-access-tells S x t = tells-by (wellFormed x) (proceed-tells S x t _) (refused-tells BadAccess)
+unfolding access accept
+access-tells S x t =
+    access-judged (ruleOf S) S t x (TellsShape ofAccess queuing) (λ n. record { is = refl }) (λ p j. record { is = all-queuing (queues x p) })
 
 send-tells : (t : Tables) → TellsShape ofSend none (send t)
-unfolding send
-send-tells t = from (t .queue)
-  where
-    from : (qs : List Queued) → TellsShape ofSend none (sendFrom qs t)
-    from [] = record { is = refl }
-    from (q ∷ qs) = record { is = rw (sent-as (q .kind) (q .address) (q .masks)) }
+send-tells t =
+    send-cases t (TellsShape ofSend none) (λ n. record { is = refl }) (λ x q e. record { is = rw (by-kind (λ k. ofSend (sentAs k (x .address) (x .masks)) ≡ true) refl refl (x .kind)) })
 
 fill-tells : (a : ℕ) (t : Tables) → TellsShape ofFill releasing (fill a t)
 unfolding fill
-fill-tells a t = tells-by (any (sentFor a) (t .misses)) record { is = all-releasing (ticketsOf a (t .misses)) } record { is = refl }
+fill-tells a t = pick-both (TellsShape ofFill releasing) (any (sentFor a) (t .misses)) record { is = all-releasing (ticketsOf a (t .misses)) } record { is = refl }
 
 tick-tells : (c : ℕ) (t : Tables) → TellsShape ofTick none (tick c t)
 unfolding tick
-tick-tells c t = tells-by (ltb c (t .now) || ltb lastCycle c) record { is = refl } record { is = refl }
+tick-tells c t = pick-both (TellsShape ofTick none) (ltb c (t .now) || ltb lastCycle c) record { is = refl } record { is = refl }
 
 -- ---- the shape of a value
 
@@ -144,12 +103,9 @@ module _ (r : Reply) (tidy : tidied r ≡ r) where
   queues-few : r .queues ≤ 2
   unfolding tidied
   queues-few =
-      let q : r .queued ≡ inTwo (take (r .queues) (r .queued)) = sym (ap (λ (x : Reply). x .queued) tidy) in
-      let l = queues-are in
-      let m = length-take (r .queues) (r .queued) in
-      let n = ap length q in
-      let k : length (inTwo (take (r .queues) (r .queued))) ≡ min 2 (length (take (r .queues) (r .queued) ++ replicate 2 idle)) = length-take 2 (take (r .queues) (r .queued) ++ replicate 2 idle) in
-      omega arith
+      let two : List Queued = take (r .queues) (r .queued) in
+      let q : r .queued ≡ inTwo two = sym (ap (λ (x : Reply). x .queued) tidy) in
+      omega (arith, queues-are, length-take (r .queues) (r .queued), ap length q, length-take 2 (two ++ replicate 2 idle))
 
   tickets-few : r .count ≤ 8
   unfolding tidied
@@ -162,15 +118,12 @@ module _ (r : Reply) (tidy : tidied r ≡ r) where
     unfolding eventsTold
     begins-so = and-1 (begins (r .first)) _ t
 
-    behind : all rest (map queuedEvent (take (r .queues) (r .queued)) ++ map Released (take (r .count) (r .tickets))) ≡ true
-    unfolding eventsTold
-    behind = and-2 (begins (r .first)) _ t
-
     abbrev entries : List Event
     entries = map queuedEvent (take (r .queues) (r .queued))
 
     apart : (all rest entries && all rest (map Released (take (r .count) (r .tickets)))) ≡ true
-    apart = sym (all-append rest entries (map Released (take (r .count) (r .tickets)))) ∙ behind
+    unfolding eventsTold
+    apart = sym (all-append rest entries (map Released (take (r .count) (r .tickets)))) ∙ and-2 (begins (r .first)) _ t
 
     no-entries : ((q : Queued) → rest (queuedEvent q) ≡ false) → r .queues ≤ 0
     no-entries never = omega (arith, none-left queuedEvent rest never (take (r .queues) (r .queued)) (and-1 (all rest entries) _ apart), queues-are)

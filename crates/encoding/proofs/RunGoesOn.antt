@@ -12,7 +12,6 @@ use Rattle.model.specs.Runner.{keptStop, goesOn, halt, runFrom, lentResult, res
 use Rattle.model.specs.Inner.{Encodes}
 use Rattle.model.specs.declared.Settings.{Settings}
 use Rattle.model.specs.declared.Stop.{Stop}
-use Rattle.model.specs.declared.Stop.the-variants.{Nothing}
 use Rattle.words.proofs.Flags.{clash, by-flag}
 use Rattle.encoding.proofs.Bridge.{sound-encoded, is-fits, is-sound-lent, is-tables}
 
@@ -47,9 +46,6 @@ module _ (S : Settings) (room : ℕ) (s : List ℕ) (L : Lent) where
 
   -- nothing stops a run that goes on from what sound tables are encoded as
   module _ (t : Tables) (is : Encodes S L t) where
-    pub is-kept : keptStop S L ≡ Nothing
-    is-kept = rw (is .range, is-fits S L t is, is-sound-lent S L t is)
-
     pub resume-is : resume S room s L ≡ lentResult S (runFrom S 0 room s t)
     unfolding runner.resume
-    resume-is = rw (is-kept, is-tables S L t is)
+    resume-is = rw (is .range, is-fits S L t is, is-sound-lent S L t is, is-tables S L t is)

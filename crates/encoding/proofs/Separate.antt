@@ -1,10 +1,10 @@
 -- The events, the tables, the stop and the bytes consumed of a run are those of the separate public calls, record by record, for any
 -- stream of bytes; the same of a run that goes on.
-use mathlib.Core.Path.{_≡_, refl, sym, ap, _∙_}
+use mathlib.Core.Path.{_≡_, refl, ap, _∙_}
 use mathlib.Core.Logic.{⊎-elim}
-use mathlib.Core.Bool.{true, false}
+use mathlib.Core.Bool.{true}
 use mathlib.Core.List.{List, [], _∷_}
-use Prim.Native.Nat.{ℕ, zero, suc, _+_, _-_}
+use Prim.Native.Nat.{ℕ, zero, suc, _-_}
 use lib.ListN.{length, take}
 use lib.Dec.{ltb}
 use Rattle.model.specs.Range.{inRange}
@@ -13,9 +13,9 @@ use Rattle.model.specs.Lent.{Lent, lengthsFit, tablesOf, encode}
 use Rattle.model.specs.SoundLent.{Small}
 use Rattle.model.specs.Steps.{access, send, fill, tick}
 use Rattle.model.specs.Calls.{encoded, freshCall}
-use Rattle.model.specs.Records.{bytes, isCommand, isSettings, lengthOf, commandOf, logBytes}
+use Rattle.model.specs.Records.{bytes, lengthOf, commandOf, logBytes}
 use Rattle.model.specs.RunnerOf as runner
-use Rattle.model.specs.Runner.{settingsOf, firstStop, laterStop, keptStop, goesOn, stepRead, stepAt, halt, bytesThen, runFrom, lentResult, run, resume}
+use Rattle.model.specs.Runner.{settingsOf, firstStop, laterStop, keptStop, goesOn, stepRead, stepAt, halt, runFrom, lentResult, run, resume}
 use Rattle.model.specs.Separate.{callRead, callAt, callsFrom, runByCalls, resumeByCalls}
 use Rattle.model.specs.Inner.{Encodes}
 use Rattle.model.specs.declared.Settings.{Settings}
@@ -23,11 +23,10 @@ use Rattle.model.specs.declared.Access.the-variants.{Read, Write}
 use Rattle.model.specs.declared.Command.the-variants as cmd
 use Rattle.model.specs.declared.CommandRead.{CommandRead}
 use Rattle.model.specs.declared.CommandRead.the-variants as command
-use Rattle.model.specs.declared.Stop.{Stop}
 use Rattle.model.specs.declared.Stop.the-variants.{Nothing}
-use Rattle.words.proofs.Flags.{and-2, clash, by-flag, flag}
+use Rattle.words.proofs.Flags.{and-2, flag}
 use Rattle.model.proofs.Soundness.{start-sound}
-use Rattle.model.proofs.RunSound.{record-keeps-sound}
+use Rattle.model.proofs.RunSound.{record-keeps-sound, first-passes}
 use Rattle.encoding.proofs.Bridge.{call-is, after-encoded, events-encoded}
 use Rattle.encoding.proofs.RunGoesOn.{kept-is}
 
@@ -43,46 +42,17 @@ module _ (S : Settings) (L : Lent) (t : Tables) (is : Encodes S L t) where
   call-read (command.Got (cmd.Settings g)) = refl
   call-read command.None = refl
 
-  pub call-at : (k : ℕ) (rest : List ℕ) → callAt S k rest L ≡ encoded S (stepAt S k rest t)
-  unfolding callAt runner.stepAt
-  call-at k rest = call-read (commandOf k (take (lengthOf k) rest))
-
 -- ---- the records of a stream
-
-module _ (S : Settings) (room k : ℕ) (bs : List ℕ) where
-  module _ (L : Lent) where
-    calls-goes : goesOn (laterStop room k bs) ≡ true
-        → callsFrom S 0 room (k ∷ bs) L
-        ≡ bytesThen (1 + lengthOf k) (logBytes (eventsOf (callAt S k bs L)))
-        (callsFrom S (lengthOf k) (room - length (logBytes (eventsOf (callAt S k bs L)))) bs (after L (callAt S k bs L)))
-    unfolding callsFrom
-    calls-goes z = rw z
-
-    calls-stops : goesOn (laterStop room k bs) ≡ false → callsFrom S 0 room (k ∷ bs) L ≡ halt (laterStop room k bs) L
-    unfolding callsFrom
-    calls-stops z = rw z
-
-  module _ (t : Tables) where
-    from-goes : goesOn (laterStop room k bs) ≡ true
-        → runFrom S 0 room (k ∷ bs) t
-        ≡ bytesThen (1 + lengthOf k) (logBytes (eventsOf (stepAt S k bs t)))
-        (runFrom S (lengthOf k) (room - length (logBytes (eventsOf (stepAt S k bs t)))) bs (after t (stepAt S k bs t)))
-    unfolding runner.runFrom
-    from-goes z = rw z
-
-    from-stops : goesOn (laterStop room k bs) ≡ false → runFrom S 0 room (k ∷ bs) t ≡ halt (laterStop room k bs) t
-    unfolding runner.runFrom
-    from-stops z = rw z
 
 module _ (S : Settings) where
   pub calls-from : (n room : ℕ) (s : List ℕ) (L : Lent) (t : Tables) → bytes s ≡ true → Encodes S L t
       → callsFrom S n room s L ≡ lentResult S (runFrom S n room s t)
-  unfolding callsFrom runner.runFrom
+  unfolding callsFrom runner.runFrom callAt runner.stepAt
   calls-from n room [] L t h is = ap (halt Nothing) (is .encoded)
   calls-from (suc n) room (b ∷ bs) L t h is = calls-from n room bs L t (and-2 (ltb b 256) (bytes bs) h) is
   calls-from zero room (k ∷ bs) L t h is =
       let o = stepAt S k bs t in
-      let c : callAt S k bs L ≡ encoded S o = call-at S L t is k bs in
+      let c : callAt S k bs L ≡ encoded S o = call-read S L t is (commandOf k (take (lengthOf k) bs)) in
       let es : eventsOf (callAt S k bs L) ≡ eventsOf o = ap eventsOf c ∙ events-encoded S o in
       let m : after L (callAt S k bs L) ≡ encode S (after t o) = ap (after L) c ∙ after-encoded S L t o (is .encoded) in
       let g = and-2 (ltb k 256) (bytes bs) h in
@@ -90,32 +60,11 @@ module _ (S : Settings) where
       record { range = is .range; soundly = record-keeps-sound S (is .range) k bs t g (is .soundly); encoded = m } in
       let i = calls-from (lengthOf k) (room - length (logBytes (eventsOf o))) bs (after L (callAt S k bs L)) (after t o) g then in
       ⊎-elim
-      (λ z. calls-goes S room k bs L z ∙ (rw (es, i)) ∙ ap (lentResult S) (sym (from-goes S room k bs t z)))
-      (λ z. calls-stops S room k bs L z ∙ ap (halt (laterStop room k bs)) (is .encoded) ∙ ap (lentResult S) (sym (from-stops S room k bs t z)))
+      (λ z. rw z (rw (es, i)))
+      (λ z. rw z (ap (halt (laterStop room k bs)) (is .encoded)))
       (flag (goesOn (laterStop room k bs)))
 
 -- ---- the first record
-
--- its kind, its settings and the lent lengths pass
-pub record Passes (k : ℕ) (S : Settings) (L : Lent) : Type 0 where
-  pub kind : isSettings k ≡ true
-  pub range : inRange S ≡ true
-  pub fits : lengthsFit S L ≡ true
-
-pub first-passes : (L : Lent) (k : ℕ) (s : List ℕ) → goesOn (firstStop L k s) ≡ true → Passes k (settingsOf k s) L
-unfolding runner.firstStop
-first-passes L k s =
-    by-flag Goes (isCommand k) _ _
-    (λ a. by-flag Goes (ltb (length s) (lengthOf k)) _ _ (λ b h. clash h refl)
-    (λ b. by-flag Goes (isSettings k) _ _
-    (λ c. by-flag Goes (inRange (settingsOf k s)) _ _
-    (λ d. by-flag Goes (lengthsFit (settingsOf k s) L) _ _ (λ e h. record { kind = c; range = d; fits = e }) (λ e h. clash h refl))
-    (λ d h. clash h refl))
-    (λ c h. clash h refl)))
-    (λ a h. clash h refl)
-  where
-    Goes : Stop → Type 0
-    Goes n = goesOn n ≡ true → Passes k (settingsOf k s) L
 
 pub fresh-is : (S : Settings) (L : Lent) → inRange S ≡ true → lengthsFit S L ≡ true → Encodes S (after L (freshCall S L)) (start S)
 fresh-is S L range fits = record { range = range; soundly = start-sound S; encoded = rw (range, fits) }

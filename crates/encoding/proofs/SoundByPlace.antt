@@ -23,7 +23,7 @@ use Rattle.model.specs.Tables.{Tables, isReserved, whollyInvalid, holds, entryF
 use Rattle.model.specs.Numbers.{statusNumber, queueKindNumber}
 use Rattle.model.specs.Lent.{bit}
 use Rattle.model.specs.Sound.{allOnes, lastCycle, maskOk, sectorOk, lineOk, alone, agrees, reservedOk, readingOf, unsentFor, entryOk, kindOk, queuedOk, sound}
-use Rattle.words.proofs.Flags.{and-1, and-2, and-i, not-no, not-yes, clash, same-is, is-same}
+use Rattle.words.proofs.Flags.{and-1, and-2, and-i, not-no, not-yes, no-yes, same-is, is-same}
 use Rattle.words.proofs.Reflect.{Decides, is-flag, is-eq, is-le, is-lt, is-not, _⊓_, is-every, is-as, is-all, is-any, is-one, is-pick, is-else}
 use Rattle.encoding.proofs.LentSoundFacts.{Block, good-block-is}
 use Rattle.encoding.proofs.NumbersAreTables.{line, sector, entry, place, addressIn, kindIn, maskIn, Shape}
@@ -37,31 +37,20 @@ pub record SectorOk (x m r : ℕ) : Type 0 where
   pub unreadable : r ≡ 0 → (x ≡ 3) × (m ≡ allOnes → ⊥)
 
 bit-set : (r : Bool) → r ≡ true → bit r ≡ 0 → ⊥
-bit-set true e z = omega arith
-bit-set false e z = clash e refl
+bit-set r e z = let q : bit true ≡ 0 = rw e at z in omega arith
 
 set-bit : (r : Bool) → (bit r ≡ 0 → ⊥) → r ≡ true
 set-bit true f = refl
 set-bit false f = absurd (f refl)
 
 pub bit-clear : (r : Bool) → bit r ≡ 0 → r ≡ false
-bit-clear true z = absurd (omega arith)
-bit-clear false z = refl
+bit-clear r z = no-yes (λ e. bit-set r e z)
 
 -- INVALID or VALID: mask 0, readable
 clean-is : (x m : ℕ) (r : Bool) → (x ≡ 0) ⊎ (x ≡ 2) → Decides (eqb m 0 && r) (SectorOk x m (bit r))
 clean-is x m r c =
-    is-as (is-eq m 0 ⊓ is-flag r)
-    (λ w. let z = w .0 in record {
-      small = omega arith;
-      clean = λ d. z;
-      dirty = λ e. absurd (three e);
-      unreadable = λ e. absurd (bit-set r (w .1) e);
-    })
-    (λ f. (f .clean c, set-bit r (λ e. three (f .unreadable e .0))))
-  where
-    three : x ≡ 3 → ⊥
-    three e = ⊎-elim (λ z. omega arith) (λ z. omega arith) c
+    is-as (is-eq m 0 ⊓ is-flag r) (λ w. let z = w .0 in let b : bit r ≡ 1 = ap bit (w .1) in ⊎-elim (λ k. omega arith) (λ k. omega arith) c)
+    (λ f. (f .clean c, set-bit r (λ e. let q = f .unreadable e .0 in ⊎-elim (λ k. omega arith) (λ k. omega arith) c)))
 
 sector-ok-is : (s : Status) (m : ℕ) (r : Bool) → Decides (maskOk s m r) (SectorOk (statusNumber s) m (bit r))
 sector-ok-is Invalid m r = clean-is 0 m r (inl refl)
@@ -286,21 +275,12 @@ module _ (S : Settings) (t : Tables) where
       ⊓ is-eq (t .dirtyCount) (dirtyLines t)
       ⊓ is-eq (length (t .trees)) (S .sets)
       ⊓ is-all (treeFine (isTree S) (S .ways)) (t .trees) 0 (λ i h. is-flag (treeFine (isTree S) (S .ways) (getD (t .trees) i 0))))
-      (λ w. let size = w .0 .0 .0 .0 .0 .0 .0 .0 .0 .0 .0 in record {
-        size = size;
-        time = w .0 .0 .0 .0 .0 .0 .0 .0 .0 .0 .1;
-        lines = w .0 .0 .0 .0 .0 .0 .0 .0 .0 .1;
-        alone = λ l h. w .0 .0 .0 .0 .0 .0 .0 .0 .1 l (omega arith);
-        agrees = λ l h. w .0 .0 .0 .0 .0 .0 .0 .1 l (omega arith);
-        entries = w .0 .0 .0 .0 .0 .0 .1;
-        queue = w .0 .0 .0 .0 .0 .1;
-        few = w .0 .0 .0 .0 .1;
-        deep = w .0 .0 .0 .1;
-        counted = w .0 .0 .1;
-        treed = w .0 .1;
-        turned = w .1;
-      })
-      (λ r. let size = r .size in (
-        ((((((((((size, r .time), r .lines), λ l h. r .alone l (omega arith)), λ l h. r .agrees l (omega arith)), r .entries), r .queue), r .few), r .deep), r .counted), r .treed),
-        r .turned,
-      ))
+      (λ w.
+      let size = w .0 .0 .0 .0 .0 .0 .0 .0 .0 .0 .0 in
+      let alone : (l : ℕ) → l < linesOf S → OnlyTag S t l = λ l h. w .0 .0 .0 .0 .0 .0 .0 .0 .1 l (omega arith) in
+      let agrees : (l : ℕ) → l < linesOf S → Agrees S t l = λ l h. w .0 .0 .0 .0 .0 .0 .0 .1 l (omega arith) in
+      search depth 14)
+      (λ r.
+      let alone : (l : ℕ) → l < length (t .lines) → OnlyTag S t l = λ l h. r .alone l (omega arith) in
+      let agrees : (l : ℕ) → l < length (t .lines) → Agrees S t l = λ l h. r .agrees l (omega arith) in
+      search depth 14)

@@ -1,10 +1,11 @@
 -- The slices hold the tables number by number: `ByNumber`. Slices of the right lengths do exactly if they are the tables' encoding.
 use mathlib.Core.Path.{_≡_, refl, sym, ap, _∙_}
+use mathlib.Core.Logic.{⊎-elim}
 use mathlib.Core.List.{List, [], _∷_, _++_, map}
-use Prim.Native.Nat.{ℕ, zero, suc, _+_, _*_, _≤_, _<_}
-use native.Mathlib.Nat.{not-suc-le-zero, le-of-suc-le-suc, mul-zero, mul-suc, zero-add, add-zero}
+use Prim.Native.Nat.{ℕ, zero, suc, _+_, _*_, _/_, _%_, _≤_, _<_}
+use native.Mathlib.Nat.{not-suc-le-zero, le-of-suc-le-suc, mul-zero, mul-suc, mul-comm, zero-add, add-zero, div-add-mod, div-lt-iff-lt-mul, mod-lt}
 use native.Mathlib.Omega.{arith}
-use lib.ListN.{length, getD, length-append, List·getD-append}
+use lib.ListN.{length, getD, length-append, length-map, List·getD-append, List·getD-eq-default}
 use lib.Seq.{getD-append-add}
 use Rattle.model.specs.declared.Settings.{Settings}
 use Rattle.words.specs.Words.{table, padTo, packed, joined}
@@ -14,7 +15,9 @@ use Rattle.model.specs.Tables.{Tables}
 use Rattle.model.specs.Lent.{Lent, encode, tagOf, cycleOf, takenOf, treeOf, masksOf, statusesOf, readablesOf, missOf, sentOf, ticketCountOf, ticketsIn, queuedOf, kindOf, queueMasksOf, longBlocks, wordBlocks, markBlocks}
 use Rattle.words.specs.Regions.{region, offsetIn}
 use Rattle.words.proofs.Places.{length-padTo, length-places, block-get, stride, padTo-get}
-use Rattle.words.proofs.Tabled.{table-append}
+use Rattle.words.proofs.Below.{lt-or-ge}
+use Rattle.words.proofs.Lists.{getD-map-in}
+use Rattle.words.proofs.Tabled.{table-list}
 use Rattle.encoding.proofs.Slices.{long-sizes, word-sizes, mark-sizes, begins, regions-joined, region-table}
 use Rattle.encoding.proofs.LentSoundFacts.{tag, cycle, taken, status, mask, readable, miss, sent, ticketCount, ticket, queued, kind, queueMask, now, dirtyCount, tree}
 
@@ -30,23 +33,13 @@ field g xs e k = getD (getD (map g xs) e []) k 0
 module _ {A : Type 0} (g : A → List ℕ) where
   pub field-in : (xs : List A) (d : A) (e k : ℕ) → e < length xs → field g xs e k ≡ getD (g (getD xs e d)) k 0
   unfolding field
-  field-in [] d e k h = absurd (not-suc-le-zero h)
-  field-in (x ∷ xs) d zero k h = refl
-  field-in (x ∷ xs) d (suc e) k h = field-in xs d e k (le-of-suc-le-suc h)
+  field-in xs d e k h = rw (getD-map-in g xs d [] e h)
 
   pub field-out : (xs : List A) (e k : ℕ) → length xs ≤ e → field g xs e k ≡ 0
   unfolding field
-  field-out [] e k h = refl
-  field-out (x ∷ xs) zero k h = absurd (not-suc-le-zero h)
-  field-out (x ∷ xs) (suc e) k h = field-out xs e k (le-of-suc-le-suc h)
+  field-out xs e k h = rw (List·getD-eq-default (map g xs) [] {n = e} (rw length-map h))
 
 -- ---- places
-
-table-fit : (w : ℕ) (f : ℕ → ℕ) (l : List ℕ) → ((k : ℕ) → k < w → f k ≡ getD l k 0) → table w f ≡ padTo w l
-unfolding table padTo
-table-fit zero f l h = refl
-table-fit (suc w) f [] h = rw (h 0 (omega arith), table-fit w (λ k. f (suc k)) [] (λ k j. h (suc k) (omega arith)))
-table-fit (suc w) f (x ∷ l) h = rw (h 0 (omega arith), table-fit w (λ k. f (suc k)) l (λ k j. h (suc k) (omega arith)))
 
 first-place : (w k : ℕ) (l r : List ℕ) → k < w → getD (padTo w l ++ r) (w * 0 + k) 0 ≡ getD l k 0
 first-place w k l r h =
@@ -67,24 +60,15 @@ module _ {A : Type 0} (g : A → List ℕ) (w : ℕ) where
   places-field (suc n) zero k (x ∷ xs) h j = first-place w k (g x) (packed g w n xs) j
   places-field (suc n) (suc e) k (x ∷ xs) h j = later-place w e k (g x) (packed g w n xs) ∙ places-field n e k xs (le-of-suc-le-suc h) j
 
-  later-numbers : (f : ℕ → ℕ) (e k : ℕ) → f (w + (w * e + k)) ≡ f (w * suc e + k)
-  later-numbers f e k = let q : w + (w * e + k) ≡ w * suc e + k = rw mul-suc (omega arith) in ap f q
-
-  first-numbers : (f : ℕ → ℕ) (k : ℕ) → f k ≡ f (w * 0 + k)
-  first-numbers f k = rw (mul-zero, zero-add)
-
-  table-step : (n : ℕ) (l : List ℕ) (f : ℕ → ℕ) {r : List ℕ} → ((k : ℕ) → k < w → f (w * 0 + k) ≡ getD l k 0) → table (w * n) (λ i. f (w + i)) ≡ r
-      → table (w * suc n) f ≡ padTo w l ++ r
-  table-step n l f first rest =
-      let q : w * suc n ≡ w + w * n = rw mul-suc (omega arith) in
-      ap (λ (m : ℕ). table m f) q ∙ table-append w (w * n) f ∙ rw (table-fit w f l (λ k j. first-numbers f k ∙ first k j), rest)
-
   table-places : (n : ℕ) (xs : List A) (f : ℕ → ℕ)
       → ((e k : ℕ) → e < n → k < w → f (w * e + k) ≡ field g xs e k) → table (w * n) f ≡ packed g w n xs
-  unfolding packed table field
-  table-places zero xs f h = rw mul-zero
-  table-places (suc n) [] f h = table-step n [] f (λ k j. h 0 k (omega arith) j) (table-places n [] (λ i. f (w + i)) (λ e k i j. later-numbers f e k ∙ h (suc e) k (omega arith) j))
-  table-places (suc n) (x ∷ xs) f h = table-step n (g x) f (λ k j. h 0 k (omega arith) j) (table-places n xs (λ i. f (w + i)) (λ e k i j. later-numbers f e k ∙ h (suc e) k (omega arith) j))
+  table-places n xs f h =
+      table-list (w * n) f (packed g w n xs) 0 (length-places g w n xs) (λ i b.
+      let pos : 1 ≤ w = ⊎-elim (λ l. l) (λ z. let q : w ≡ 0 = omega arith in let c : i < 0 * n = rw q at b in absurd (omega arith)) (lt-or-ge 0 w) in
+      let e : i / w < n = div-lt-iff-lt-mul pos .1 (rw mul-comm at b) in
+      let q : w * (i / w) + i % w ≡ i = div-add-mod i w in
+      ap f (sym q) ∙ h (i / w) (i % w) e (mod-lt i pos) ∙ sym (places-field n (i / w) (i % w) xs e (mod-lt i pos))
+      ∙ ap (λ (j : ℕ). getD (packed g w n xs) j 0) q)
 
 -- a place of one number
 table-singles : {A : Type 0} (g : A → List ℕ) (n : ℕ) (xs : List A) (f : ℕ → ℕ)
@@ -197,11 +181,7 @@ module _ (S : Settings) (L : Lent) (t : Tables) (st : ByNumber S L t) where
 
   pub standing-encodes : length (L .longs) ≡ longsLength S → length (L .words) ≡ wordsLength S → length (L .marks) ≡ marksLength S → L ≡ encode S t
   unfolding encode
-  standing-encodes a b c = same (longs-stand a) (words-stand b) (marks-stand c)
-    where
-      same : {longs words marks : List ℕ} → L .longs ≡ longs → L .words ≡ words → L .marks ≡ marks
-          → L ≡ record { longs = longs; words = words; marks = marks }
-      same p q r = rw (← p, ← q, ← r)
+  standing-encodes a b c = rw (← longs-stand a, ← words-stand b, ← marks-stand c)
 
 -- the encoding has the right lengths
 pub encode-lengths : (S : Settings) (t : Tables)

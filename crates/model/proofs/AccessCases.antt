@@ -1,31 +1,28 @@
 -- An access is refused, or accepted at a spot (`access-judged`): of sound tables the line itself, with nothing written back, or a victim
 -- with its write-back (`access-cases`). These are the laws by which the proofs above look at an access, under any rules; which victim is
 -- chosen is left open. So an access leaves sound tables sound.
-use Prim.Native.Nat.{ℕ, zero, suc, _+_, _≤_, _<_}
-use mathlib.Core.Path.{_≡_, refl, sym, ap, _∙_, subst}
+use Prim.Native.Nat.{ℕ, _+_, _≤_}
+use mathlib.Core.Path.{_≡_, refl, sym, ap, _∙_}
 use mathlib.Core.Bool.{true, false, not, _&&_}
 use mathlib.Core.List.{List, []}
-use native.Mathlib.Omega.{arith}
 use lib.ListN.{length, getD, replicate}
 use lib.Dec.{ltb, leb}
 use Rattle.words.specs.Words.{any}
 use Rattle.model.specs.Range.{inRange}
-use Rattle.model.specs.Address.{addressOf, maskOf, isRead, blockOf, sectorIndex, wellFormed}
-use Rattle.model.specs.Tables.{Line, Tables, Outcome, refused, hasReserved, holds, empty, fresh, emptied}
+use Rattle.model.specs.Address.{addressOf, maskOf, isRead, blockOf, wellFormed}
+use Rattle.model.specs.Tables.{Line, Tables, Outcome, refused, hasReserved, holds, empty, fresh}
 use Rattle.model.specs.Sound.{allOnes}
-use Rattle.model.specs.Probe.{answerOf, waysOf, enoughDirty, candidate, first, Rule, Rules, victim, Spot, Place, no, at, writeBack, takeOver, meet, probe, metUnder}
+use Rattle.model.specs.Probe.{waysOf, enoughDirty, candidate, Rule, Rules, Spot, Place, no, at, writeBack, probe, metUnder}
 use Rattle.model.specs.Steps.{isMerge, isMiss, placesNeeded, entryFull, accept, proceed, accessUnder}
 use Rattle.model.specs.declared.Settings.{Settings}
 use Rattle.model.specs.declared.Access.{Access}
-use Rattle.model.specs.declared.Answer.the-variants.{Miss}
-use Rattle.model.specs.declared.Found.{Found}
 use Rattle.model.specs.declared.Found.the-variants.{At, Nothing}
 use Rattle.model.specs.declared.Refusal.{Refusal}
 use Rattle.model.specs.declared.Refusal.the-variants.{BadAccess, QueueFull, EntryFull, MissTableFull}
 use Rattle.words.proofs.Flags.{and-1, not-yes, by-flag}
-use Rattle.words.proofs.Lists.{In, in-getD}
+use Rattle.words.proofs.Lists.{in-getD, getD-same}
 use Rattle.model.proofs.SoundFacts.{Sound, LeavesSound}
-use Rattle.model.proofs.Ways.{Finds, first-finds, victim-finds, Sits, way-sits}
+use Rattle.model.proofs.Ways.{Finds, first-finds, victim-finds, probe-by, Sits, way-sits}
 use Rattle.model.proofs.AccessKeepsSound.{Spotted, spotNumber, taken-sound}
 use Rattle.model.proofs.ProbeFindsSpot.{rule-spotted}
 use Rattle.model.proofs.Fits.{ranged}
@@ -59,39 +56,7 @@ pub record Accepted (R : Rules) (S : Settings) (t : Tables) (x : Access) (p : Sp
   pub stands : Stands S t x p
 
 pub empty-masks : (n k : ℕ) → getD (replicate n empty) k empty .mask ≡ 0
-empty-masks zero k = refl
-empty-masks (suc n) zero = refl
-empty-masks (suc n) (suc k) = empty-masks n k
-
--- the spots that the probe makes of a way: of one that holds the block, of one that is taken
-module _ (x : Access) (ways : List Line) (w : ℕ) where
-  abbrev met : Spot
-  met = record {
-    way = w;
-    line = getD ways w fresh;
-    answer = answerOf x (getD (getD ways w fresh .sectors) (sectorIndex (addressOf x)) empty);
-    backs = [];
-  }
-
-  abbrev over : Spot
-  over = record {
-    way = w;
-    line = emptied (blockOf (addressOf x));
-    answer = Miss;
-    backs = writeBack (getD ways w fresh);
-  }
-
--- all that is asked of a rule: the victim is a way of the set, and no sector of it is RESERVED
-abbrev pub Free : List Line → Found → Type 0
-Free ways Nothing = Unit {0}
-Free ways (At w) = (w < length ways) × (hasReserved (getD ways w fresh) ≡ false)
-
-pub victim-free : (R : Rule) (S : Settings) (d : ℕ) (ways : List Line) → Free ways (victim R S d ways)
-victim-free R S d ways = go (victim R S d ways) (victim-finds R S d ways)
-  where
-    go : (v : Found) → Finds (candidate (enoughDirty S d)) ways v → Free ways v
-    go Nothing f = tt
-    go (At w) f = (f .0, not-yes (and-1 (not (hasReserved (getD ways w fresh))) _ (f .1)))
+empty-masks n k = rw (getD-same n k empty)
 
 -- ---- an access
 
@@ -99,27 +64,18 @@ module _ (S : Settings) (t : Tables) (x : Access) where
   abbrev ways : List Line
   ways = waysOf S (t .lines) (addressOf x)
 
-  -- any way without a RESERVED sector may be taken
-  over-stands : ((l : Line) → In l ways → holds (blockOf (addressOf x)) l ≡ false) → (v : Found) → Free ways v
-      → (p : Spot) → takeOver (addressOf x) ways v ≡ at p → Stands S t x p
-  over-stands f Nothing h p e = let z : _≡_ {A = ℕ} 0 1 = cc in absurd (omega arith)
-  over-stands f (At w) h p e =
-      let s : Sits S (t .lines) (addressOf x) w = way-sits S (t .lines) (addressOf x) w (h .0) in
-      let q : Stands S t x (over x ways w) =
-      taken (ap (holds (blockOf (addressOf x))) (sym (s .line)) ∙ f (getD ways w fresh) (in-getD ways w fresh (h .0)))
-      (ap hasReserved (sym (s .line)) ∙ h .1) (ap writeBack (s .line)) (empty-masks 4) in
-      subst (Stands S t x) (cc) q
-
-  meet-stands : (R : Rule) (d : ℕ) (v : Found) → Finds (holds (blockOf (addressOf x))) ways v → (p : Spot) → meet R S d ways x v ≡ at p → Stands S t x p
-  meet-stands R d Nothing h p e = over-stands h (victim R S d ways) (victim-free R S d ways) p e
-  meet-stands R d (At w) h p e =
-      let s : Sits S (t .lines) (addressOf x) w = way-sits S (t .lines) (addressOf x) w (h .0) in
-      let q : Stands S t x (met x ways w) = found (s .line) refl in
-      subst (Stands S t x) (cc) q
-
+  -- all that is asked of a rule: the victim is a way of the set, and no sector of it is RESERVED
   rule-stands : (R : Rule) (p : Spot) → probe R S (t .dirtyCount) ways x ≡ at p → Stands S t x p
-  unfolding probe
-  rule-stands R p e = meet-stands R (t .dirtyCount) (first (holds (blockOf (addressOf x))) ways) (first-finds (holds (blockOf (addressOf x))) ways) p e
+  rule-stands R =
+      let b : ℕ = blockOf (addressOf x) in
+      probe-by R S (t .dirtyCount) ways x (Stands S t x)
+      (λ w f. let h : Finds (holds b) ways (At w) = rw f at (first-finds (holds b) ways) in found (way-sits S (t .lines) (addressOf x) w (h .0) .line) refl)
+      (λ f w v.
+      let none : Finds (holds b) ways Nothing = rw f at (first-finds (holds b) ways) in
+      let h : Finds (candidate (enoughDirty S (t .dirtyCount))) ways (At w) = rw v at (victim-finds R S (t .dirtyCount) ways) in
+      let s : Sits S (t .lines) (addressOf x) w = way-sits S (t .lines) (addressOf x) w (h .0) in
+      taken (ap (holds b) (sym (s .line)) ∙ none (getD ways w fresh) (in-getD ways w fresh (h .0)))
+      (ap hasReserved (sym (s .line)) ∙ not-yes (and-1 (not (hasReserved (getD ways w fresh))) _ (h .1))) (ap writeBack (s .line)) (empty-masks 4))
 
 module _ (R : Rules) (S : Settings) (t : Tables) (x : Access) where
   -- of any tables
@@ -150,9 +106,6 @@ module _ (R : Rules) (S : Settings) (t : Tables) (x : Access) where
 
     pub access-leaves : maskOf x ≤ allOnes → LeavesSound S (accessUnder R S x t)
     unfolding accept
-    access-leaves small = access-cases (LeavesSound S) (λ n. tt) made
-      where
-        made : (p : Spot) → Accepted R S t x p → LeavesSound S (accept S x p t)
-        made p a =
-            let j = a .judged in
-            taken-sound S t ok x (j .formed) small p (a .spotted) (ranged S range .reader) (j .joins) (j .enters) (j .roomy) range
+    access-leaves small =
+        access-cases (LeavesSound S) (λ n. tt) (λ p a. let j = a .judged in
+        taken-sound S t ok x (j .formed) small p (a .spotted) (ranged S range .reader) (j .joins) (j .enters) (j .roomy) range)

@@ -1,9 +1,9 @@
 -- An accepted access keeps sound tables sound, given what is known of the line that it meets (`Spotted`).
 use Prim.Native.Nat.{ℕ, _+_, _*_, _/_, _%_, _^_, _≤_, _<_}
 use mathlib.Core.Path.{_≡_, refl, sym, ap, _∙_}
-use mathlib.Core.Logic.{_⊎_, inl, inr, _≢_}
-use mathlib.Core.Bool.{Bool, true, false, not, _&&_, _||_, false≢true, and-false, and-true, or-false}
-use mathlib.Core.List.{List, [], _∷_, _++_}
+use mathlib.Core.Logic.{_⊎_, _≢_, ⊎-elim}
+use mathlib.Core.Bool.{Bool, true, false, not, _&&_, _||_, and-false, and-true, or-true, or-false}
+use mathlib.Core.List.{List, [], _∷_, _++_, map}
 use native.Mathlib.Omega.{arith}
 use native.Mathlib.Nat.{add-zero}
 use lib.ListN.{length, getD, length-map, length-set, length-append}
@@ -14,27 +14,27 @@ use borrow.Author.Tests.{leb-true, leb-false, ltb-true, ltb-false, lt-ltb, eqb-t
 use Rattle.words.specs.Words.{pick, all, any, count, every, within}
 use Rattle.model.specs.Range.{linesOf, inRange}
 use Rattle.model.specs.Address.{blockOf, sectorIndex, setIndex, lineNumber, addressOf, maskOf, isRead, goodSector, wellFormed}
-use Rattle.model.specs.Tables.{Line, Entry, Tables, isInvalid, isReserved, whollyInvalid, holds, entryFor, isFetch, empty, fresh, dirty, dirtyLines}
+use Rattle.model.specs.Tables.{Line, Entry, reading, Tables, isInvalid, isReserved, whollyInvalid, holds, entryFor, isFetch, empty, fresh, dirty, dirtyLines}
 use Rattle.model.specs.Sound.{allOnes, maskOk, sectorOk, lineOk, alone, agrees, reservedOk, readingOf, unsentFor, entryOk, queuedOk}
 use Rattle.model.specs.Probe.{Spot}
-use Rattle.model.specs.Steps.{isHit, isMerge, isMiss, onSector, update, join, onMisses, fetches, queues, placesNeeded, entryFull, afterAccess, lineAfter, takenBy}
+use Rattle.model.specs.Steps.{isHit, isMerge, isMiss, onSector, update, join, onMisses, fetches, queues, placesNeeded, entryFull, afterAccess, lineAfter, takesLine, takenBy}
 use Rattle.model.specs.declared.Settings.{Settings}
-use Rattle.model.specs.declared.Status.{Status}
-use Rattle.model.specs.declared.Status.the-variants.{Invalid, Reserved, Valid, Modified}
+use Rattle.model.specs.declared.Status.the-variants.{Reserved}
 use Rattle.model.specs.declared.Sector.{Sector}
 use Rattle.model.specs.declared.Queued.{Queued}
 use Rattle.model.specs.declared.Answer.{Answer}
 use Rattle.model.specs.declared.Answer.the-variants.{Hit, HitReserved, Miss, SectorMiss}
 use Rattle.model.specs.declared.Access.{Access}
 use Rattle.model.specs.declared.Access.the-variants.{Read, Write}
-use Rattle.words.proofs.Flags.{and-1, and-2, and-i, or-1, or-2, flag, not-yes, not-no, no-yes, clash, by-flag, is-same}
-use Rattle.words.proofs.Lists.{In, all-in, in-all, in-any, any-in, index-count, count-append, any-append, in-append, none-count, each, in-set-same, in-set-other, count-ext, any-ext, in-getD, in-index, all-set, set-some, in-map, any-map, count-map}
-use Rattle.words.proofs.Below.{every-i}
+use Rattle.words.proofs.Flags.{and-1, and-2, and-i, or-1, or-2, or-unless, flag, not-yes, not-no, no-yes, clash, by-flag, is-same}
+use Rattle.words.proofs.Lists.{In, all-in, in-all, in-any, any-in, index-count, count-append, any-append, in-append, none-count, each, in-set-same, in-set-other, count-ext, any-ext, in-getD, all-set, set-some, in-map, any-map, count-map}
+use Rattle.words.proofs.Tabled.{all-get}
+use Rattle.words.proofs.Below.{every-i, eqb-swap}
 use Rattle.model.proofs.Fits.{tree-power}
+use Rattle.model.proofs.Answers.{status-reserved}
 use Rattle.model.proofs.Turning.{set-below, turned-length, turned-fine}
 use Rattle.model.proofs.SoundFacts.{Sound, LineIs, line-whole, EntryIs, entry-whole, mask-small, sector-below, sector-aligned, address-is, block-is, sector-is, lines-are, line-at, tag-aligned, reserved-at, holder-one, entry-at, queued-at, queued-when, queued-unsent, trees-are, few-misses, dirty-count-is}
 use Rattle.words.proofs.Counting.{recount}
-use mathlib.Core.Logic.{⊎-elim}
 
 -- a read that misses: it takes a new entry and queues a read
 abbrev pub fetching : Access → Answer → Bool
@@ -46,21 +46,6 @@ formed-good (Write a m k) h = and-1 (goodSector a) (not (eqb m 0)) h
 
 -- ---- the sector
 
-mask-joined-small : (m n : ℕ) → leb m allOnes ≡ true → n ≤ allOnes → leb (bitOr m n) allOnes ≡ true
-mask-joined-small m n h k =
-    let z : bitOr m n < 4294967296 = or-lt 32 m n (omega (arith, leb-true m allOnes h)) (omega arith) in
-    le-leb (bitOr m n) allOnes (omega arith)
-
-mask-joined-some : (m n : ℕ) → eqb n 0 ≡ false → eqb (bitOr m n) 0 ≡ false
-mask-joined-some m n h =
-    ne-eqb (bitOr m n) 0 (λ z. eqb-false n 0 h (omega (arith, or-add-and m n, and-le-l m n)))
-
-is-reserved : (c : Status) → isReserved c ≡ true → c ≡ Reserved
-is-reserved Invalid h = absurd (false≢true h)
-is-reserved Reserved h = refl
-is-reserved Valid h = absurd (false≢true h)
-is-reserved Modified h = absurd (false≢true h)
-
 -- a sound sector is sound after the access
 sector-after : (x : Access) (n : Answer) (s : Sector) → wellFormed x ≡ true → maskOf x ≤ allOnes → isMerge n ≡ isReserved (s .status)
     → sectorOk s ≡ true
@@ -68,33 +53,28 @@ sector-after : (x : Access) (n : Answer) (s : Sector) → wellFormed x ≡ true 
 sector-after (Read a m k) n s f b g h =
     by-flag (λ (v : Sector). sectorOk v ≡ true) (isMiss n) _ _ (λ e. rw (mask-small (s .status) (s .mask) (s .readable) h)) (λ e. h)
 sector-after (Write a m k) n s f b g h =
-    let small : leb (bitOr (s .mask) m) allOnes ≡ true = mask-joined-small (s .mask) m (mask-small (s .status) (s .mask) (s .readable) h) b in
-    let some : eqb (bitOr (s .mask) m) 0 ≡ false = mask-joined-some (s .mask) m (not-yes (and-2 (goodSector a) (not (eqb m 0)) f)) in
+    let was : s .mask ≤ allOnes = leb-true (s .mask) allOnes (mask-small (s .status) (s .mask) (s .readable) h) in
+    let low : bitOr (s .mask) m < 4294967296 = or-lt 32 (s .mask) m (omega arith) (omega arith) in
+    let small : leb (bitOr (s .mask) m) allOnes ≡ true = le-leb (bitOr (s .mask) m) allOnes (omega arith) in
+    let given = eqb-false m 0 (not-yes (and-2 (goodSector a) (not (eqb m 0)) f)) in
+    let some : eqb (bitOr (s .mask) m) 0 ≡ false = ne-eqb (bitOr (s .mask) m) 0 (λ z. given (omega (arith, or-add-and (s .mask) m, and-le-l (s .mask) m))) in
     by-flag (λ (v : Sector). sectorOk v ≡ true) (isMerge n) _ _
-    (λ e. let c : s .status ≡ Reserved = is-reserved (s .status) (sym g ∙ e) in
+    (λ e. let c : s .status ≡ Reserved = status-reserved (s .status) (sym g ∙ e) in
     let r : maskOk Reserved (s .mask) (s .readable) ≡ true = rw c at h in
     rw (c, small) (and-2 (leb (s .mask) allOnes) (s .readable) r))
-    (λ e. rw (small, some) (go (eqb (bitOr (s .mask) m) allOnes)))
-  where
-    go : (q : Bool) → ((q || (s .readable && not (isInvalid (s .status)))) || not q) ≡ true
-    go true = refl
-    go false = or-2 (s .readable && not (isInvalid (s .status))) true refl
+    (λ e. rw (small, some) (⊎-elim (λ q. rw q) (λ q. rw q (or-true (s .readable && not (isInvalid (s .status))))) (flag (eqb (bitOr (s .mask) m) allOnes))))
 
 -- and RESERVED if it was, or is fetched now
 reserved-after : (x : Access) (n : Answer) (s : Sector) → isMerge n ≡ isReserved (s .status)
     → isReserved (onSector x n s .status) ≡ (isReserved (s .status) || fetching x n)
-reserved-after (Read a m k) Hit s g = sym (or-false (isReserved (s .status)))
-reserved-after (Read a m k) HitReserved s g = sym (or-false (isReserved (s .status)))
-reserved-after (Read a m k) Miss s g = rw (← g)
-reserved-after (Read a m k) SectorMiss s g = rw (← g)
-reserved-after (Write a m k) Hit s g = rw (← g)
-reserved-after (Write a m k) HitReserved s g = sym (or-false (isReserved (s .status)))
-reserved-after (Write a m k) Miss s g = rw (← g)
-reserved-after (Write a m k) SectorMiss s g = rw (← g)
+reserved-after (Read a m k) n s g =
+    by-flag (λ (v : Sector). isReserved (v .status) ≡ (isReserved (s .status) || isMiss n)) (isMiss n) _ _ (λ e. rw (e, or-true)) (λ e. rw (e, or-false))
+reserved-after (Write a m k) n s g =
+    by-flag (λ (v : Sector). isReserved (v .status) ≡ (isReserved (s .status) || false)) (isMerge n) _ _ (λ e. rw or-false) (λ e. rw (or-false, ← g, e))
 
 -- ---- the entries and the queue
 
-abbrev newEntry : ℕ → ℕ → Entry
+abbrev pub newEntry : ℕ → ℕ → Entry
 newEntry a k = record { address = a; sent = false; tickets = k ∷ [] }
 
 join-address : (a k : ℕ) (e : Entry) → join a k e .address ≡ e .address
@@ -103,133 +83,70 @@ join-address a k e = by-flag (λ (v : Entry). v .address ≡ e .address) (entryF
 join-sent : (a k : ℕ) (e : Entry) → join a k e .sent ≡ e .sent
 join-sent a k e = by-flag (λ (v : Entry). v .sent ≡ e .sent) (entryFor a e) _ _ (λ q. refl) (λ q. refl)
 
--- addresses after the access: those before, and the access's where it fetches
-misses-any : (x : Access) (n : Answer) (es : List Entry) (c : ℕ)
-    → any (entryFor c) (onMisses x n es) ≡ (any (entryFor c) es || (fetching x n && eqb (addressOf x) c))
-misses-any (Read a m k) Hit es c = sym (or-false (any (entryFor c) es))
-misses-any (Read a m k) HitReserved es c =
-    any-map (join a k) (entryFor c) es ∙ any-ext (λ e. entryFor c (join a k e)) (entryFor c) es (λ e i. rw (join-address a k e))
-    ∙ sym (or-false (any (entryFor c) es))
-misses-any (Read a m k) Miss es c = any-append (entryFor c) es _ ∙ rw (or-false (eqb a c))
-misses-any (Read a m k) SectorMiss es c = any-append (entryFor c) es _ ∙ rw (or-false (eqb a c))
-misses-any (Write a m k) n es c = sym (or-false (any (entryFor c) es))
+-- what an access queues, and the entries after it: a read that misses has its own, one that merges joins one, another access leaves them
+pub misses-by : (P : Bool → List Queued → List Entry → Type 0) (x : Access) (n : Answer) (es : List Entry)
+    → (fetching x n ≡ true → (k : ℕ) → P true (reading (addressOf x) ∷ []) (es ++ (newEntry (addressOf x) k ∷ [])))
+    → ((isRead x && isMerge n) ≡ true → (k : ℕ) → P false [] (map (join (addressOf x) k) es)) → P false [] es → P (fetching x n) (fetches x n) (onMisses x n es)
+misses-by P (Read a m k) Hit es new joined same = same
+misses-by P (Read a m k) HitReserved es new joined same = joined refl k
+misses-by P (Read a m k) Miss es new joined same = new refl k
+misses-by P (Read a m k) SectorMiss es new joined same = new refl k
+misses-by P (Write a m k) n es new joined same = same
 
-misses-count : (x : Access) (n : Answer) (es : List Entry) (c : ℕ)
-    → count (entryFor c) (onMisses x n es) ≡ count (entryFor c) es + pick (fetching x n && eqb (addressOf x) c) 1 0
-misses-count (Read a m k) Hit es c = omega arith
-misses-count (Read a m k) HitReserved es c =
-    count-map (join a k) (entryFor c) es ∙ count-ext (λ e. entryFor c (join a k e)) (entryFor c) es (λ e i. rw (join-address a k e)) ∙ omega arith
-misses-count (Read a m k) Miss es c = count-append (entryFor c) es _
-misses-count (Read a m k) SectorMiss es c = count-append (entryFor c) es _
-misses-count (Write a m k) n es c = omega arith
+module _ (x : Access) (n : Answer) (es : List Entry) (c : ℕ) where
+  -- addresses after the access: those before, and the access's where it fetches
+  misses-any : any (entryFor c) (onMisses x n es) ≡ (any (entryFor c) es || (fetching x n && eqb (addressOf x) c))
+  misses-any =
+      misses-by (λ f q fs. any (entryFor c) fs ≡ (any (entryFor c) es || (f && eqb (addressOf x) c))) x n es
+      (λ e k. any-append (entryFor c) es _ ∙ rw (or-false (eqb (addressOf x) c)))
+      (λ e k. any-map (join (addressOf x) k) (entryFor c) es ∙ any-ext _ (entryFor c) es (λ d i. rw (join-address (addressOf x) k d)) ∙ sym (or-false _))
+      (sym (or-false _))
+
+  misses-count : count (entryFor c) (onMisses x n es) ≡ count (entryFor c) es + pick (fetching x n && eqb (addressOf x) c) 1 0
+  misses-count =
+      misses-by (λ f q fs. count (entryFor c) fs ≡ count (entryFor c) es + pick (f && eqb (addressOf x) c) 1 0) x n es
+      (λ e k. count-append (entryFor c) es _)
+      (λ e k. count-map (join (addressOf x) k) (entryFor c) es ∙ count-ext _ (entryFor c) es (λ d i. rw (join-address (addressOf x) k d)) ∙ omega arith)
+      (omega arith)
+
+  -- reads queued by the access
+  fetches-count : count (readingOf c) (fetches x n) ≡ pick (fetching x n && eqb (addressOf x) c) 1 0
+  fetches-count =
+      misses-by (λ f q fs. count (readingOf c) q ≡ pick (f && eqb (addressOf x) c) 1 0) x n es (λ e k. rw (eqb-swap c (addressOf x))) (λ e k. refl) refl
+
+  -- what was queued has its entry still
+  unsent-after : any (unsentFor c) es ≡ true → any (unsentFor c) (onMisses x n es) ≡ true
+  unsent-after h =
+      misses-by (λ f q fs. any (unsentFor c) fs ≡ true) x n es (λ e k. any-append (unsentFor c) es _ ∙ or-1 (any (unsentFor c) es) _ h)
+      (λ e k. any-map (join (addressOf x) k) (unsentFor c) es
+      ∙ any-ext _ (unsentFor c) es (λ d i. rw (join-address (addressOf x) k d, join-sent (addressOf x) k d)) ∙ h) h
 
 misses-few : (S : Settings) (x : Access) (n : Answer) (es : List Entry) → length es ≤ S .misses
     → (isRead x && isMiss n && leb (S .misses) (length es)) ≡ false → length (onMisses x n es) ≤ S .misses
-misses-few S (Read a m k) Hit es h f = h
-misses-few S (Read a m k) HitReserved es h f = rw length-map h
-misses-few S (Read a m k) Miss es h f = rw length-append (omega (arith, leb-false (S .misses) (length es) f))
-misses-few S (Read a m k) SectorMiss es h f = rw length-append (omega (arith, leb-false (S .misses) (length es) f))
-misses-few S (Write a m k) n es h f = h
+misses-few S x n es h f =
+    misses-by (λ g q fs. length fs ≤ S .misses) x n es
+    (λ e k. rw length-append (omega (arith, leb-false (S .misses) (length es) (rw e at f)))) (λ e k. rw length-map h) h
 
--- reads queued by the access
-fetches-count : (x : Access) (n : Answer) (c : ℕ) → count (readingOf c) (fetches x n) ≡ pick (fetching x n && eqb c (addressOf x)) 1 0
-fetches-count (Read a m k) Hit c = refl
-fetches-count (Read a m k) HitReserved c = refl
-fetches-count (Read a m k) Miss c = refl
-fetches-count (Read a m k) SectorMiss c = refl
-fetches-count (Write a m k) n c = refl
-
--- what was queued has its entry still, and a fetch has its own
-unsent-after : (x : Access) (n : Answer) (es : List Entry) (c : ℕ) → any (unsentFor c) es ≡ true
-    → any (unsentFor c) (onMisses x n es) ≡ true
-unsent-after (Read a m k) Hit es c h = h
-unsent-after (Read a m k) HitReserved es c h =
-    any-map (join a k) (unsentFor c) es ∙ any-ext (λ e. unsentFor c (join a k e)) (unsentFor c) es (λ e i. rw (join-address a k e, join-sent a k e)) ∙ h
-unsent-after (Read a m k) Miss es c h = any-append (unsentFor c) es _ ∙ or-1 (any (unsentFor c) es) _ h
-unsent-after (Read a m k) SectorMiss es c h = any-append (unsentFor c) es _ ∙ or-1 (any (unsentFor c) es) _ h
-unsent-after (Write a m k) n es c h = h
-
-queued-still : (x : Access) (n : Answer) (es : List Entry) (y : Queued) → queuedOk es y ≡ true → queuedOk (onMisses x n es) y ≡ true
-queued-still x n es y h = queued-when es (onMisses x n es) y (λ f. unsent-after x n es (y .address)) h
-
-unsent-new : (a k : ℕ) (es : List Entry) → any (unsentFor a) (es ++ (newEntry a k ∷ [])) ≡ true
-unsent-new a k es = any-append (unsentFor a) es _ ∙ or-2 (any (unsentFor a) es) _ (rw (eq-eqb a a refl))
-
+-- and a fetch has its own
 fetch-queued : (x : Access) (n : Answer) (es : List Entry) (y : Queued) → In y (fetches x n) → queuedOk (onMisses x n es) y ≡ true
 unfolding queuedOk
-fetch-queued (Read a m k) Hit es y i = absurd i
-fetch-queued (Read a m k) HitReserved es y i = absurd i
-fetch-queued (Read a m k) Miss es y (inl q) = rw (q, unsent-new a k es)
-fetch-queued (Read a m k) Miss es y (inr i) = absurd i
-fetch-queued (Read a m k) SectorMiss es y (inl q) = rw (q, unsent-new a k es)
-fetch-queued (Read a m k) SectorMiss es y (inr i) = absurd i
-fetch-queued (Write a m k) n es y i = absurd i
+fetch-queued x n es y =
+    let a : ℕ = addressOf x in
+    misses-by (λ f q fs. In y q → queuedOk fs y ≡ true) x n es
+    (λ e k. ⊎-elim (λ q. rw (q, any-append (unsentFor a) es (newEntry a k ∷ []) ∙ or-2 (any (unsentFor a) es) _ (rw (eq-eqb a a refl)))) (λ i. absurd i))
+    (λ e k i. absurd i) (λ i. absurd i)
 
--- where an entry comes from
-record Old (W : ℕ) (es : List Entry) (e : Entry) : Type 0 where
-  old : Entry
-  there : In old es
-  address : e .address ≡ old .address
-  sent : e .sent ≡ old .sent
-  readers : within 1 W (length (e .tickets)) ≡ true
-
-record NewEntry (x : Access) (n : Answer) (e : Entry) : Type 0 where
-  fetched : fetching x n ≡ true
-  address : e .address ≡ addressOf x
-  sent : e .sent ≡ false
-  one : length (e .tickets) ≡ 1
-
-module _ (S : Settings) (es : List Entry) (ok : (d : Entry) → In d es → within 1 (S .readers) (length (d .tickets)) ≡ true) where
-  entry-same : (e : Entry) → In e es → Old (S .readers) es e
-  entry-same e i = record { old = e; there = i; address = refl; sent = refl; readers = ok e i }
-
-  entry-appended : (a m k : ℕ) (n : Answer) (e : Entry) → isMiss n ≡ true → In e (es ++ (newEntry a k ∷ []))
-      → Old (S .readers) es e ⊎ NewEntry (Read a m k) n e
-  entry-appended a m k n e f i = go (in-append es _ e i)
-    where
-      go : In e es ⊎ In e (newEntry a k ∷ []) → Old (S .readers) es e ⊎ NewEntry (Read a m k) n e
-      go (inl q) = inl (entry-same e q)
-      go (inr (inl q)) = inr (record {
-        fetched = f;
-        address = ap (λ (v : Entry). v .address) q;
-        sent = ap (λ (v : Entry). v .sent) q;
-        one = ap (λ (v : Entry). length (v .tickets)) q;
-      })
-      go (inr (inr q)) = absurd q
-
-  join-readers : (a k : ℕ) (d : Entry) → In d es → entryFull S a d ≡ false → within 1 (S .readers) (length (join a k d .tickets)) ≡ true
-  join-readers a k d i f =
-      by-flag (λ (v : Entry). within 1 (S .readers) (length (v .tickets)) ≡ true) (entryFor a d) _ _
-      (λ q. let z : leb (S .readers) (length (d .tickets)) ≡ false = rw q at f in
-      rw length-append (and-i (le-leb 1 (length (d .tickets) + 1) (omega arith))
-      (le-leb (length (d .tickets) + 1) (S .readers) (omega (arith, leb-false (S .readers) (length (d .tickets)) z)))))
-      (λ q. ok d i)
-
-  entry-from : (x : Access) (n : Answer) → (isRead x && isMerge n && any (entryFull S (addressOf x)) es) ≡ false → (e : Entry)
-      → In e (onMisses x n es)
-      → Old (S .readers) es e ⊎ NewEntry x n e
-  entry-from (Read a m k) Hit f e i = inl (entry-same e i)
-  entry-from (Read a m k) HitReserved f e i =
-      let (d, o, q) = in-map (join a k) es i in
-      inl (record {
-        old = d;
-        there = o;
-        address = ap (λ (v : Entry). v .address) q ∙ join-address a k d;
-        sent = ap (λ (v : Entry). v .sent) q ∙ join-sent a k d;
-        readers = ap (λ (v : Entry). within 1 (S .readers) (length (v .tickets))) q
-            ∙ join-readers a k d o (no-yes (λ z. clash (in-any (entryFull S a) es o z) f));
-      })
-  entry-from (Read a m k) Miss f e i = entry-appended a m k Miss e refl i
-  entry-from (Read a m k) SectorMiss f e i = entry-appended a m k SectorMiss e refl i
-  entry-from (Write a m k) n f e i = inl (entry-same e i)
+-- a ticket more, where the entry isn't full
+join-readers : (S : Settings) (a k : ℕ) (d : Entry) → within 1 (S .readers) (length (d .tickets)) ≡ true → entryFull S a d ≡ false
+    → within 1 (S .readers) (length (join a k d .tickets)) ≡ true
+join-readers S a k d w f =
+    by-flag (λ (v : Entry). within 1 (S .readers) (length (v .tickets)) ≡ true) (entryFor a d) _ _
+    (λ q. let z : leb (S .readers) (length (d .tickets)) ≡ false = rw q at f in
+    rw length-append (and-i (le-leb 1 (length (d .tickets) + 1) (omega arith))
+    (le-leb (length (d .tickets) + 1) (S .readers) (omega (arith, leb-false (S .readers) (length (d .tickets)) z)))))
+    (λ q. w)
 
 -- ---- the line that an access meets, and the tables that it leaves
-
-taken-past : {now k : ℕ} (n : Answer) → k ≤ now → takenBy n now k ≤ now
-taken-past Hit h = h
-taken-past HitReserved h = h
-taken-past Miss h = omega arith
-taken-past SectorMiss h = h
 
 abbrev pub spotNumber : Settings → Access → Spot → ℕ
 spotNumber S x p = lineNumber S (addressOf x) (p .way)
@@ -270,7 +187,7 @@ module _ (S : Settings) (t : Tables) (ok : Sound S t) (x : Access) (formed : wel
   abbrev old : Sector
   old = getD (p .line .sectors) i empty
 
-  new : Line
+  abbrev new : Line
   new = update i (onSector x (p .answer)) (t .now) (takenBy (p .answer) (t .now) (p .line .taken)) (p .line)
 
   abbrev u : Tables
@@ -285,18 +202,16 @@ module _ (S : Settings) (t : Tables) (ok : Sound S t) (x : Access) (formed : wel
   -- ---- the lines
 
   new-used : whollyInvalid new ≡ false
-  unfolding new
   new-used = set-some (λ (s : Sector). isInvalid (s .status)) (p .line .sectors) i _ below (sp .used)
 
   new-line : LineIs S (t .now) n new
-  unfolding new
   new-line = record {
     four = eq-eqb _ 4 (length-set (p .line .sectors) i _ ∙ sp .four);
     sectorly = all-set sectorOk (p .line .sectors) i _ (sp .sectorly)
         (sector-after x (p .answer) old formed small (sp .merges)
         (all-in sectorOk (p .line .sectors) (sp .sectorly) (in-getD (p .line .sectors) i empty below)));
     past = le-leb (t .now) (t .now) (omega arith);
-    since = le-leb _ (t .now) (taken-past (p .answer) (sp .since));
+    since = le-leb _ (t .now) (by-flag (λ (c : ℕ). c ≤ t .now) (takesLine (p .answer)) _ _ (λ e. omega arith) (λ e. sp .since));
     tagged = rw (new-used, sp .tagged) (and-i (and-i (eq-eqb (b % 128) 0 (omega arith))
         (lt-ltb b (2 ^ 48) (omega (arith, ltb-true a (2 ^ 48) (and-2 (eqb (a % 32) 0) _ (formed-good x formed))))))
         (eq-eqb _ _ (sp .own)));
@@ -306,21 +221,18 @@ module _ (S : Settings) (t : Tables) (ok : Sound S t) (x : Access) (formed : wel
   lines-same = length-set (t .lines) n _ ∙ lines-are S t ok
 
   taken-lined : every (linesOf S) (λ j. lineOk S (t .now) j (getD (u .lines) j fresh)) ≡ true
-  unfolding new
   taken-lined = every-i (λ j. lineOk S (t .now) j (getD (u .lines) j fresh)) (linesOf S)
       (λ j h. each (λ j l. lineOk S (t .now) j l ≡ true) (t .lines) fresh n new (line-whole S (t .now) n new new-line)
       (λ j h z. line-whole S (t .now) j _ (line-at S t ok j h)) j (rw lines-same h))
 
   -- no other line holds what the new one does
   apart : (c j : ℕ) → j < length (t .lines) → j ≢ n → holds c new ≡ true → holds c (getD (t .lines) j fresh) ≡ false
-  unfolding new
   apart c j h z e =
       let q : p .line .tag ≡ c = eqb-true (p .line .tag) c (and-2 (not (whollyInvalid new)) (eqb (p .line .tag) c) e) in
       ap (λ (c : ℕ). holds c (getD (t .lines) j fresh)) (sym q ∙ sp .tagged) ∙ sp .lone j h z
 
   taken-single : (c j : ℕ) → j < length (u .lines) → holds c (getD (u .lines) j fresh) ≡ true
       → (k : ℕ) → k < length (u .lines) → holds c (getD (u .lines) k fresh) ≡ true → k ≡ j
-  unfolding new
   taken-single c =
       each (λ j l. holds c l ≡ true → (k : ℕ) → k < length (u .lines) → holds c (getD (u .lines) k fresh) ≡ true → k ≡ j) (t .lines) fresh n new
       (λ e. each (λ k l. holds c l ≡ true → k ≡ n) (t .lines) fresh n new (λ f. refl) (λ k h z f. clash f (apart c k h z e)))
@@ -328,16 +240,11 @@ module _ (S : Settings) (t : Tables) (ok : Sound S t) (x : Access) (formed : wel
 
   taken-alone : (j : ℕ) → j < length (u .lines) → alone (u .lines) (getD (u .lines) j fresh) ≡ true
   unfolding alone
-  taken-alone j h = go (flag (whollyInvalid l))
-    where
-      l : Line
-      l = getD (u .lines) j fresh
-
-      go : (whollyInvalid l ≡ true) ⊎ (whollyInvalid l ≡ false) → (whollyInvalid l || eqb (count (holds (l .tag)) (u .lines)) 1) ≡ true
-      go (inl e) = rw e
-      go (inr e) =
-          let m : holds (l .tag) l ≡ true = and-i (not-no e) (eq-eqb (l .tag) (l .tag) refl) in
-          or-2 (whollyInvalid l) _ (eq-eqb _ 1 (index-count (holds (l .tag)) fresh (u .lines) j h m (taken-single (l .tag) j h m)))
+  taken-alone j h =
+      let l : Line = getD (u .lines) j fresh in
+      or-unless (whollyInvalid l) _ (λ e.
+      let m : holds (l .tag) l ≡ true = and-i (not-no e) (eq-eqb (l .tag) (l .tag) refl) in
+      eq-eqb _ 1 (index-count (holds (l .tag)) fresh (u .lines) j h m (taken-single (l .tag) j h m)))
 
   -- an address outside the line's new sector has the entries that it had
   other-any : (c : ℕ) → c ≢ a → any (entryFor c) (u .misses) ≡ any (entryFor c) (t .misses)
@@ -356,7 +263,6 @@ module _ (S : Settings) (t : Tables) (ok : Sound S t) (x : Access) (formed : wel
       ∙ sym (misses-any x (p .answer) (t .misses) a ∙ rw (eq-eqb a a refl, and-true (fetching x (p .answer))))
 
   taken-new : (k : ℕ) → k < 4 → isReserved (getD (new .sectors) k empty .status) ≡ any (entryFor (b + 32 * k)) (u .misses)
-  unfolding new
   taken-new k h =
       ⊎-elim
       (λ e. rw (eqb-true k i e, getD-set-same (p .line .sectors) i (onSector x (p .answer) old) empty below, address-is a aligned) taken-this)
@@ -372,19 +278,12 @@ module _ (S : Settings) (t : Tables) (ok : Sound S t) (x : Access) (formed : wel
       ∙ sym (other-any (l .tag + 32 * k) (λ q. clash (and-i (not-no e) (eq-eqb (l .tag) b (block-is a (l .tag) k (tag-aligned S t ok l m e) h q))) z))
 
   taken-reserved : (j : ℕ) → j < length (u .lines) → reservedOk (u .misses) (getD (u .lines) j fresh) ≡ true
-  unfolding reservedOk new
+  unfolding reservedOk
   taken-reserved =
       each (λ j l. reservedOk (u .misses) l ≡ true) (t .lines) fresh n new
-      (or-2 (whollyInvalid new) (every 4 (agrees (u .misses) new)) (every-i (agrees (u .misses) new) 4 this))
-      (λ j h z. go (getD (t .lines) j fresh) (in-getD (t .lines) j fresh h) (sp .lone j h z) (flag (whollyInvalid (getD (t .lines) j fresh))))
-    where
-      this : (k : ℕ) → k < 4 → agrees (u .misses) new k ≡ true
-      this k h = is-same (isReserved (getD (new .sectors) k empty .status)) (any (entryFor (new .tag + 32 * k)) (u .misses)) (rw (sp .tagged) (taken-new k h))
-
-      go : (l : Line) → In l (t .lines) → holds b l ≡ false → (whollyInvalid l ≡ true) ⊎ (whollyInvalid l ≡ false) → reservedOk (u .misses) l ≡ true
-      go l m z (inl e) = rw e
-      go l m z (inr e) = or-2 (whollyInvalid l) (every 4 (agrees (u .misses) l)) (every-i (agrees (u .misses) l) 4
-          (λ k h. is-same (isReserved (getD (l .sectors) k empty .status)) (any (entryFor (l .tag + 32 * k)) (u .misses)) (taken-other l m z e k h)))
+      (or-2 (whollyInvalid new) (every 4 (agrees (u .misses) new)) (every-i (agrees (u .misses) new) 4 (λ k h. is-same (isReserved (getD (new .sectors) k empty .status)) _ (taken-new k h ∙ rw (sp .tagged)))))
+      (λ j h z. or-unless (whollyInvalid (getD (t .lines) j fresh)) _ (λ e. every-i (agrees (u .misses) (getD (t .lines) j fresh)) 4
+      (λ k i. is-same _ _ (taken-other (getD (t .lines) j fresh) (in-getD (t .lines) j fresh h) (sp .lone j h z) e k i))))
 
   -- ---- the entries and the queue
 
@@ -399,34 +298,23 @@ module _ (S : Settings) (t : Tables) (ok : Sound S t) (x : Access) (formed : wel
       (ap (λ (v : ℕ). any (entryFor v) (t .misses)) (sym (eqb-true a c (and-2 (fetching x (p .answer)) (eqb a c) z)))
       ∙ lacking (and-1 (fetching x (p .answer)) (eqb a c) z)))
 
-  no-more-read : (c : ℕ) → any (entryFor c) (t .misses) ≡ true → (fetching x (p .answer) && eqb c a) ≡ false
-  no-more-read c e = no-yes (λ z. clash e
-      (ap (λ (v : ℕ). any (entryFor v) (t .misses)) (eqb-true c a (and-2 (fetching x (p .answer)) (eqb c a) z))
-      ∙ lacking (and-1 (fetching x (p .answer)) (eqb c a) z)))
-
-  queue-after : (c : ℕ) → count (readingOf c) (u .queue) ≡ count (readingOf c) (t .queue) + pick (fetching x (p .answer) && eqb c a) 1 0
+  queue-after : (c : ℕ) → count (readingOf c) (u .queue) ≡ count (readingOf c) (t .queue) + pick (fetching x (p .answer) && eqb a c) 1 0
   queue-after c =
-      let more : count (readingOf c) (t .queue ++ queues x p) ≡ count (readingOf c) (t .queue) + count (readingOf c) (queues x p) =
-      count-append (readingOf c) (t .queue) (queues x p) in
-      let both : count (readingOf c) (queues x p) ≡ count (readingOf c) (fetches x (p .answer)) + count (readingOf c) (p .backs) =
-      count-append (readingOf c) (fetches x (p .answer)) (p .backs) in
-      let none : count (readingOf c) (p .backs) ≡ 0 = none-count (readingOf c) (p .backs) (sp .quiet c) in
-      let reads : count (readingOf c) (fetches x (p .answer)) ≡ pick (fetching x (p .answer) && eqb c a) 1 0 = fetches-count x (p .answer) c in
-      omega arith
+      let more = count-append (readingOf c) (t .queue) (queues x p) in
+      let both = count-append (readingOf c) (fetches x (p .answer)) (p .backs) in
+      omega (arith, none-count (readingOf c) (p .backs) (sp .quiet c), fetches-count x (p .answer) (t .misses) c)
 
   -- no read of an address without an entry is queued
   unread : any (entryFor a) (t .misses) ≡ false → count (readingOf a) (t .queue) ≡ 0
-  unread f = none-count (readingOf a) (t .queue) (no-yes (λ z. go (any-in (readingOf a) (t .queue) z)))
-    where
-      go : (y : Queued) × In y (t .queue) × (readingOf a y ≡ true) → ⊥
-      go (y, m, q) =
-          let c : ℕ = y .address in
-          let (e, o, z) = any-in (unsentFor c) (t .misses) (queued-unsent (t .misses) y (and-1 (isFetch (y .kind)) (eqb a c) q) (queued-at S t ok y m)) in
-          clash (in-any (entryFor c) (t .misses) o (and-1 (entryFor c e) (not (e .sent)) z))
-          (ap (λ (v : ℕ). any (entryFor v) (t .misses)) (sym (eqb-true a c (and-2 (isFetch (y .kind)) (eqb a c) q))) ∙ f)
+  unread f =
+      none-count (readingOf a) (t .queue) (no-yes (λ w.
+      let (y, m, q) = any-in (readingOf a) (t .queue) w in
+      let c : ℕ = y .address in
+      let (e, o, z) = any-in (unsentFor c) (t .misses) (queued-unsent (t .misses) y (and-1 (isFetch (y .kind)) (eqb a c) q) (queued-at S t ok y m)) in
+      clash (in-any (entryFor c) (t .misses) o (and-1 (entryFor c e) (not (e .sent)) z))
+      (ap (λ (v : ℕ). any (entryFor v) (t .misses)) (sym (eqb-true a c (and-2 (isFetch (y .kind)) (eqb a c) q))) ∙ f)))
 
   new-holds : any (holds b) (u .lines) ≡ true
-  unfolding new
   new-holds = in-any (holds b) (u .lines) (in-set-same (t .lines) n new (sp .inside)) (and-i (not-no new-used) (eq-eqb (p .line .tag) b (sp .tagged)))
 
   held-still : (e : Entry) → In e (t .misses) → any (holds (blockOf (e .address))) (u .lines) ≡ true
@@ -437,43 +325,47 @@ module _ (S : Settings) (t : Tables) (ok : Sound S t) (x : Access) (formed : wel
       (sp .kept e m)
 
   module _ (some-readers : 1 ≤ S .readers) (merge : (isRead x && isMerge (p .answer) && any (entryFull S a) (t .misses)) ≡ false) where
-    old-entry : (e : Entry) → Old (S .readers) (t .misses) e → EntryIs S u e
-    old-entry e o =
-        let c : ℕ = o .old .address in
-        let k : EntryIs S t (o .old) = entry-at S t ok (o .old) (o .there) in
-        let m : any (entryFor c) (t .misses) ≡ true = in-any (entryFor c) (t .misses) (o .there) (eq-eqb c c refl) in
+    -- an entry with the address and the mark of one that was there
+    old-entry : (d e : Entry) → In d (t .misses) → e .address ≡ d .address → e .sent ≡ d .sent → within 1 (S .readers) (length (e .tickets)) ≡ true → EntryIs S u e
+    old-entry d e there at sent readers =
+        let c : ℕ = d .address in
+        let k : EntryIs S t d = entry-at S t ok d there in
+        let m : any (entryFor c) (t .misses) ≡ true = in-any (entryFor c) (t .misses) there (eq-eqb c c refl) in
         record {
-          good = rw (o .address) (k .good);
-          held = rw (o .address) (held-still (o .old) (o .there));
-          once = rw (o .address, misses-count x (p .answer) (t .misses) c, no-more c m, add-zero) (k .once);
-          readers = o .readers;
-          queues = rw (o .address, o .sent, queue-after c, no-more-read c m, add-zero) (k .queues);
+          good = rw at (k .good);
+          held = rw at (held-still d there);
+          once = rw (at, misses-count x (p .answer) (t .misses) c, no-more c m, add-zero) (k .once);
+          readers = readers;
+          queues = rw (at, sent, queue-after c, no-more c m, add-zero) (k .queues);
         }
 
-    new-entry : (e : Entry) → NewEntry x (p .answer) e → EntryIs S u e
-    new-entry e w =
-        let none : any (entryFor a) (t .misses) ≡ false = lacking (w .fetched) in
+    new-entry : fetching x (p .answer) ≡ true → (k : ℕ) → EntryIs S u (newEntry a k)
+    new-entry f k =
+        let none : any (entryFor a) (t .misses) ≡ false = lacking f in
         record {
-          good = rw (w .address) (formed-good x formed);
-          held = rw (w .address) new-holds;
-          once = rw (w .address, misses-count x (p .answer) (t .misses) a, w .fetched, eq-eqb a a refl, none-count (entryFor a) (t .misses) none);
-          readers = rw (w .one) (le-leb 1 (S .readers) some-readers);
-          queues = rw (w .address, w .sent, queue-after a, w .fetched, eq-eqb a a refl, unread none);
+          good = formed-good x formed;
+          held = new-holds;
+          once = rw (misses-count x (p .answer) (t .misses) a, f, eq-eqb a a refl, none-count (entryFor a) (t .misses) none);
+          readers = le-leb 1 (S .readers) some-readers;
+          queues = rw (queue-after a, f, eq-eqb a a refl, unread none);
         }
 
     taken-entry : (e : Entry) → In e (u .misses) → EntryIs S u e
-    taken-entry e m = ⊎-elim (λ o. old-entry e o) (λ w. new-entry e w) (entry-from S (t .misses) (λ d o. entry-at S t ok d o .readers) x (p .answer) merge e m)
+    taken-entry e =
+        let same : In e (t .misses) → EntryIs S u e = λ i. old-entry e e i refl refl (entry-at S t ok e i .readers) in
+        misses-by (λ g q fs. In e fs → EntryIs S u e) x (p .answer) (t .misses)
+        (λ f k i. ⊎-elim same (⊎-elim (λ q. rw q (new-entry f k)) (λ q. absurd q)) (in-append (t .misses) _ e i))
+        (λ merged k i. let (d, o, q) = in-map (join a k) (t .misses) i in
+        let full : entryFull S a d ≡ false = no-yes (λ z. clash (in-any (entryFull S a) (t .misses) o z) (rw merged at merge)) in
+        rw q (old-entry d (join a k d) o (join-address a k d) (join-sent a k d) (join-readers S a k d (entry-at S t ok d o .readers) full)))
+        same
 
     taken-queued : (y : Queued) → In y (u .queue) → queuedOk (u .misses) y ≡ true
-    taken-queued y m = go (in-append (t .queue) (queues x p) y m)
-      where
-        more : In y (fetches x (p .answer)) ⊎ In y (p .backs) → queuedOk (u .misses) y ≡ true
-        more (inl o) = fetch-queued x (p .answer) (t .misses) y o
-        more (inr o) = all-in (queuedOk (u .misses)) (p .backs) (sp .backed (u .misses)) o
-
-        go : In y (t .queue) ⊎ In y (queues x p) → queuedOk (u .misses) y ≡ true
-        go (inl o) = queued-still x (p .answer) (t .misses) y (queued-at S t ok y o)
-        go (inr o) = more (in-append (fetches x (p .answer)) (p .backs) y o)
+    taken-queued y m =
+        ⊎-elim (λ o. queued-when (t .misses) (u .misses) y (λ f. unsent-after x (p .answer) (t .misses) (y .address)) (queued-at S t ok y o))
+        (λ o. ⊎-elim (fetch-queued x (p .answer) (t .misses) y) (all-in (queuedOk (u .misses)) (p .backs) (sp .backed (u .misses)))
+        (in-append (fetches x (p .answer)) (p .backs) y o))
+        (in-append (t .queue) (queues x p) y m)
 
     module _ (entry : (isRead x && isMiss (p .answer) && leb (S .misses) (length (t .misses))) ≡ false)
         (roomy : ltb (S .queue) (length (t .queue) + placesNeeded x p) ≡ false) (range : inRange S ≡ true) where
@@ -482,10 +374,8 @@ module _ (S : Settings) (t : Tables) (ok : Sound S t) (x : Access) (formed : wel
         sized = eq-eqb (length (u .lines)) (linesOf S) lines-same;
         time = ok .time;
         lined = taken-lined;
-        single = in-all (alone (u .lines)) (u .lines)
-            (λ l m. let (j, h, e) = in-index (u .lines) fresh l m in ap (alone (u .lines)) (sym e) ∙ taken-alone j h);
-        reserve = in-all (reservedOk (u .misses)) (u .lines)
-            (λ l m. let (j, h, e) = in-index (u .lines) fresh l m in ap (reservedOk (u .misses)) (sym e) ∙ taken-reserved j h);
+        single = all-get (alone (u .lines)) (u .lines) fresh ∙ every-i _ (length (u .lines)) taken-alone;
+        reserve = all-get (reservedOk (u .misses)) (u .lines) fresh ∙ every-i _ (length (u .lines)) taken-reserved;
         entered = in-all (entryOk S u) (u .misses) (λ e m. entry-whole S u e (taken-entry e m));
         lining = in-all (queuedOk (u .misses)) (u .queue) taken-queued;
         few = le-leb (length (u .misses)) (S .misses)

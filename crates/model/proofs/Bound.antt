@@ -2,33 +2,31 @@
 -- rounds come to the same.
 use Prim.Native.Nat.{ℕ, zero, suc, _+_, _-_, _≤_}
 use mathlib.Core.Path.{_≡_, refl, sym, ap, _∙_}
-use mathlib.Core.Logic.{_⊎_, inl, inr}
-use mathlib.Core.Bool.{Bool, true, false, not, _&&_, false≢true}
+use mathlib.Core.Logic.{_⊎_, inl, inr, ⊎-elim}
+use mathlib.Core.Bool.{true, false, not, _&&_, false≢true}
 use mathlib.Core.List.{List, [], _∷_}
 use native.Mathlib.Omega.{arith}
 use native.Mathlib.Nat.{zero-add, suc-add}
 use lib.ListN.{length, getD}
 use lib.Dec.{leb, ltb}
 use borrow.Author.Tests.{eq-eqb, lt-leb, le-ltb}
-use Rattle.words.specs.Words.{pick, all, any, count}
+use Rattle.words.specs.Words.{all, any, count}
 use Rattle.model.specs.Range.{inRange}
-use Rattle.model.specs.Address.{addressOf, isRead, blockOf, wellFormed}
-use Rattle.model.specs.Tables.{Line, Entry, Tables, Outcome, refused, done, accepted, isInvalid, isReserved, whollyInvalid, hasReserved, holds, empty, fresh}
+use Rattle.model.specs.Address.{addressOf, isRead, wellFormed}
+use Rattle.model.specs.Tables.{Line, Entry, Tables, Outcome, refused, done, accepted, isInvalid, isReserved, whollyInvalid, hasReserved, empty, fresh}
 use Rattle.model.specs.Sound.{readingOf, sound}
-use Rattle.model.specs.Probe.{Rule, Place, no, at, waysOf, first, victim, takeOver, meet, probe, ruleOf, metIn}
+use Rattle.model.specs.Probe.{Place, no, at, waysOf, ruleOf, metIn}
 use Rattle.model.specs.Steps.{isMerge, isMiss, placesNeeded, entryFull, accept, proceed, access, afterSend, send, others, afterFill, sentFor, fill}
 use Rattle.model.specs.Rounds.{Calls, steps, Turn, still, took, Run, outcomeGoOn, outcomeSend, outcomeFill, outcomeDrain, outcomeRounds, outcomeHeld, outcomeWaits, Settles}
 use Rattle.model.specs.declared.Settings.{Settings}
 use Rattle.model.specs.declared.Queued.{Queued}
 use Rattle.model.specs.declared.Sector.{Sector}
 use Rattle.model.specs.declared.Access.{Access}
-use Rattle.model.specs.declared.Found.{Found}
-use Rattle.model.specs.declared.Found.the-variants.{At, Nothing}
 use Rattle.model.specs.declared.Refusal.the-variants.{SetHeld}
 use Rattle.words.proofs.Flags.{and-1, and-i, and-no, flag, not-yes, no-yes, clash}
 use Rattle.words.proofs.Lists.{In, all-in, in-any, any-in, in-index, keep-lt, none-of}
 use Rattle.model.proofs.SoundFacts.{Sound, parts, four-at, reserved-at, unsent-once}
-use Rattle.model.proofs.Ways.{way-in}
+use Rattle.model.proofs.Ways.{probe-place, way-in}
 use Rattle.model.proofs.ProbeFindsSpot.{back-one, reserved-used}
 use Rattle.model.proofs.Victims.{places-at-most-two}
 use Rattle.model.proofs.SendFillKeepSound.{marked-length, sent-sound, filled-sound}
@@ -43,25 +41,15 @@ FreePlace (at p) = length (p .backs) ≤ 1
 
 module _ (S : Settings) (t : Tables) (ok : Sound S t) (no-misses : t .misses ≡ []) where
   line-free : (l : Line) → In l (t .lines) → hasReserved l ≡ false
-  line-free l m = no-yes (λ w. go (flag (whollyInvalid l)) (any-in (λ (v : Sector). isReserved (v .status)) (l .sectors) w))
-    where
-      go : (whollyInvalid l ≡ true) ⊎ (whollyInvalid l ≡ false) → (s : Sector) × In s (l .sectors) × (isReserved (s .status) ≡ true) → ⊥
-      go (inl u) (s, n, q) = clash (all-in (λ (v : Sector). isInvalid (v .status)) (l .sectors) u n) (reserved-used (s .status) q)
-      go (inr u) (s, n, q) =
-          let (k, h, e) = in-index (l .sectors) empty s n in
-          clash q (ap (λ (v : Sector). isReserved (v .status)) (sym e)
-          ∙ reserved-at S t ok l m u k (omega (arith, four-at S t ok l m)) ∙ rw no-misses)
+  line-free l m = no-yes (λ w.
+      let (s, n, q) = any-in (λ (v : Sector). isReserved (v .status)) (l .sectors) w in
+      ⊎-elim (λ u. clash (all-in (λ (v : Sector). isInvalid (v .status)) (l .sectors) u n) (reserved-used (s .status) q))
+      (λ u. let (k, h, e) = in-index (l .sectors) empty s n in
+      clash q (ap (λ (v : Sector). isReserved (v .status)) (sym e) ∙ reserved-at S t ok l m u k (omega (arith, four-at S t ok l m)) ∙ rw no-misses))
+      (flag (whollyInvalid l)))
 
   set-free : (a : ℕ) → any hasReserved (waysOf S (t .lines) a) ≡ false
   set-free a = no-yes (λ w. let (l, m, q) = any-in hasReserved (waysOf S (t .lines) a) w in clash q (line-free l (way-in S (t .lines) a l m)))
-
-  over-free : (a : ℕ) (v : Found) → FreePlace (takeOver a (waysOf S (t .lines) a) v)
-  over-free a Nothing = rw (set-free a)
-  over-free a (At w) = back-one (getD (waysOf S (t .lines) a) w fresh)
-
-  meet-free : (R : Rule) (d : ℕ) (x : Access) (v : Found) → FreePlace (meet R S d (waysOf S (t .lines) (addressOf x)) x v)
-  meet-free R d x Nothing = over-free (addressOf x) (victim R S d (waysOf S (t .lines) (addressOf x)))
-  meet-free R d x (At w) = omega arith
 
   module _ (range : inRange S ≡ true) (x : Access) (no-queue : t .queue ≡ []) where
     proceed-settles : (p : Place) → FreePlace p → (accepted (proceed S x t p) ≡ true) ⊎ (proceed S x t p ≡ refused SetHeld)
@@ -80,10 +68,10 @@ module _ (S : Settings) (t : Tables) (ok : Sound S t) (no-misses : t .misses ≡
         ))
 
     access-settles : wellFormed x ≡ true → (accepted (access S x t) ≡ true) ⊎ (access S x t ≡ refused SetHeld)
-    unfolding access probe
+    unfolding access
     access-settles f =
-        rw f (proceed-settles (metIn S x t)
-        (meet-free (ruleOf S t (addressOf x)) (t .dirtyCount) x (first (holds (blockOf (addressOf x))) (waysOf S (t .lines) (addressOf x)))))
+        rw f (proceed-settles (metIn S x t) (probe-place (ruleOf S t (addressOf x)) S (t .dirtyCount) (waysOf S (t .lines) (addressOf x)) x FreePlace
+        (λ w e. omega arith) (λ e w v. back-one (getD (waysOf S (t .lines) (addressOf x)) w fresh)) (λ v. rw (set-free (addressOf x)))))
 
 -- ---- a round's send and fill
 
@@ -103,20 +91,11 @@ module _ (S : Settings) (x : Access) where
   unfolding outcomeSend send
   send-takes t e q h = rw h
 
-  sent-less : (t : Tables) → Sound S t → (e : Queued) (q : List Queued) → t .queue ≡ e ∷ q → LeavesAtMost S (size t - 1) (afterSend e q t)
-  sent-less t ok e q h = record { ok = sent-sound S t e q h ok; less = omega (arith, ap length h, marked-length (e .kind) (e .address) (t .misses)) }
-
   fill-takes : (t : Tables) (d : Entry) → In d (t .misses) → d .sent ≡ true → took t (fill (d .address) t) .left ≡ afterFill (d .address) t
   unfolding fill
   fill-takes t d m h =
       let a : any (sentFor (d .address)) (t .misses) ≡ true = in-any (sentFor (d .address)) (t .misses) m (and-i (eq-eqb (d .address) (d .address) refl) h) in
       rw a
-
-  filled-less : (t : Tables) → Sound S t → (d : Entry) → In d (t .misses) → d .sent ≡ true → LeavesAtMost S (size t - 1) (afterFill (d .address) t)
-  filled-less t ok d m h = record {
-    ok = filled-sound S t ok d m h;
-    less = omega (arith, keep-lt (others (d .address)) (t .misses) m (rw (eq-eqb (d .address) (d .address) refl)));
-  }
 
   -- the first sent one of some of the table's entries is filled, or none of them is sent
   abbrev Tried : Tables → List Entry → Tables → Type 0
@@ -126,13 +105,12 @@ module _ (S : Settings) (x : Access) where
       → Tried t es (outcomeFill C es t .left)
   unfolding outcomeFill
   fill-tries t ok [] f = inr (refl, refl)
-  fill-tries t ok (d ∷ es) f = go (fill-tries t ok es (λ e m. f e (inr m))) (d .sent) refl
-    where
-      go : Tried t es (outcomeFill C es t .left) → (b : Bool) → d .sent ≡ b
-          → LeavesAtMost S (size t - 1) (pick b (took t (fill (d .address) t)) (outcomeFill C es t) .left)
-          ⊎ ((pick b (took t (fill (d .address) t)) (outcomeFill C es t) .left ≡ t) × ((not b && all (λ e. not (e .sent)) es) ≡ true))
-      go ih true h = inl (rw (fill-takes t d (f d (inl refl)) h) (filled-less t ok d (f d (inl refl)) h))
-      go ih false h = ih
+  fill-tries t ok (d ∷ es) f =
+      ⊎-elim (λ h. rw h (inl (rw (fill-takes t d (f d (inl refl)) h) (record {
+        ok = filled-sound S t ok d (f d (inl refl)) h;
+        less = omega (arith, keep-lt (others (d .address)) (t .misses) (f d (inl refl)) (rw (eq-eqb (d .address) (d .address) refl)));
+      }))))
+      (λ h. rw h (fill-tries t ok es (λ e m. f e (inr m)))) (flag (d .sent))
 
   -- with nothing queued no entry is unsent
   unsent-none : (t : Tables) → Sound S t → t .queue ≡ [] → (es : List Entry) → t .misses ≡ es → all (λ e. not (e .sent)) es ≡ true → es ≡ []
@@ -156,21 +134,15 @@ module _ (S : Settings) (x : Access) where
   unfolding outcomeDrain
   drain-less t ok = go (t .queue) refl
     where
-      only-fill : t .queue ≡ [] → Tried t (t .misses) (outcomeFill C (t .misses) t .left)
-          → LeavesAtMost S (size t - 1) (outcomeFill C (t .misses) t .left)
-      only-fill e (inl l) = l
-      only-fill e (inr (s, u)) = rw s (record { ok = ok; less = omega (arith, ap length e, ap length (unsent-none t ok e (t .misses) refl u)) })
-
-      then-fill : (v : Tables) → LeavesAtMost S (size t - 1) v → Tried v (v .misses) (outcomeFill C (v .misses) v .left)
-          → LeavesAtMost S (size t - 1) (outcomeFill C (v .misses) v .left)
-      then-fill v k (inl l) = record { ok = l .ok; less = omega arith }
-      then-fill v k (inr (s, u)) = rw s k
-
       go : (q : List Queued) → t .queue ≡ q → LeavesAtMost S (size t - 1) (outcomeFill C (outcomeSend C t .left .misses) (outcomeSend C t .left) .left)
-      go [] e = rw (send-idle t e) (only-fill e (fill-tries t ok (t .misses) (λ d m. m)))
+      go [] e =
+          rw (send-idle t e) (⊎-elim (λ l. l)
+          (λ (s, u). rw s (record { ok = ok; less = omega (arith, ap length e, ap length (unsent-none t ok e (t .misses) refl u)) }))
+          (fill-tries t ok (t .misses) (λ d m. m)))
       go (y ∷ q) e =
-          let k : LeavesAtMost S (size t - 1) (afterSend y q t) = sent-less t ok y q e in
-          rw (send-takes t y q e) (then-fill (afterSend y q t) k (fill-tries (afterSend y q t) (k .ok) (afterSend y q t .misses) (λ d m. m)))
+          let v : Tables = afterSend y q t in
+          let k : LeavesAtMost S (size t - 1) v = record { ok = sent-sound S t y q e ok; less = omega (arith, ap length e, marked-length (y .kind) (y .address) (t .misses)) } in
+          rw (send-takes t y q e) (⊎-elim (λ l. record { ok = l .ok; less = omega arith }) (λ (s, u). rw s k) (fill-tries v (k .ok) (v .misses) (λ d m. m)))
 
   -- ---- the rounds
 
@@ -187,14 +159,11 @@ module _ (S : Settings) (x : Access) where
     held-whatever t u (o ∷ os) (suc n) e = held-whatever t u os n e
 
     -- refused as 6 once at rest: refused as 6 in every round
-    held-at-rest : (t : Tables) → t .queue ≡ [] → t .misses ≡ [] → access S x t ≡ refused SetHeld → (j : ℕ) → outcomeHeld C j t
-    held-at-rest t e m o zero = rw (rounds-more 0 t, drain-idle t e m, o)
-    held-at-rest t e m o (suc j) = rw (rounds-more (suc j) t, drain-idle t e m, o) (held-at-rest t e m o j)
-
-    held-once : (t u : Tables) → outcomeDrain C t .left ≡ u → u .queue ≡ [] → u .misses ≡ [] → access S x u ≡ refused SetHeld → (j : ℕ)
+    held-at-rest : (t u : Tables) → outcomeDrain C t .left ≡ u → u .queue ≡ [] → u .misses ≡ [] → access S x u ≡ refused SetHeld → (j : ℕ)
         → outcomeHeld C j t
-    held-once t u d e m o zero = rw (rounds-more 0 t, d, o)
-    held-once t u d e m o (suc j) = rw (rounds-more (suc j) t, d, o) (held-whatever t u (outcomeRounds C (suc j) u .offers) j (held-at-rest u e m o j))
+    held-at-rest t u d e m o zero = rw (rounds-more 0 t, d, o)
+    held-at-rest t u d e m o (suc j) =
+        rw (rounds-more (suc j) t, d, o) (held-whatever t u (outcomeRounds C (suc j) u .offers) j (held-at-rest u u (drain-idle u e m) e m o j))
 
     offer-taken : (a : Turn Tables) (rest : Tables → Run Tables) (o : Outcome Tables) → accepted o ≡ true
         → any accepted (outcomeGoOn a rest o .offers) ≡ true
@@ -211,12 +180,8 @@ module _ (S : Settings) (x : Access) where
         let l : LeavesAtMost S (size t - 1) u = drain-less t ok in
         let e : u .queue ≡ [] = none-of (u .queue) (omega arith) in
         let m : u .misses ≡ [] = none-of (u .misses) (omega arith) in
-        go e m (access-settles S u (l .ok) m range x e formed)
-      where
-        go : (outcomeDrain C t .left) .queue ≡ [] → (outcomeDrain C t .left) .misses ≡ []
-            → (accepted (access S x (outcomeDrain C t .left)) ≡ true) ⊎ (access S x (outcomeDrain C t .left) ≡ refused SetHeld) → SettledBy 0 t
-        go e m (inl a) = inl (rw (rounds-more 0 t) (offer-taken (outcomeDrain C t) (outcomeRounds C 0) (access S x (outcomeDrain C t .left)) a))
-        go e m (inr a) = inr (λ j. rw (zero-add j) (held-once t (outcomeDrain C t .left) refl e m a j))
+        ⊎-elim (λ a. inl (rw (rounds-more 0 t) (offer-taken (outcomeDrain C t) (outcomeRounds C 0) (access S x u) a)))
+        (λ a. inr (λ j. rw (zero-add j) (held-at-rest t u refl e m a j))) (access-settles S u (l .ok) m range x e formed)
     rounds-settle (suc n) t ok h =
         let l : LeavesAtMost S (size t - 1) (outcomeDrain C t .left) = drain-less t ok in
         go (access S x (outcomeDrain C t .left)) refl (rounds-settle n (outcomeDrain C t .left) (l .ok) (omega arith))

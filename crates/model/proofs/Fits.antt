@@ -11,7 +11,7 @@ use borrow.Author.Tests.{leb-true, eqb-true}
 use Rattle.model.specs.declared.Settings.{Settings}
 use Rattle.model.specs.Range.{linesOf, inRange, powerTo256, isTree, ruleFine}
 use Rattle.model.specs.Tree.{powerTo16}
-use Rattle.model.specs.Layout.{longsLength, wordsLength, marksLength}
+use Rattle.model.specs.Layout.{longsLength, wordsLength, marksLength, wordsFrom, takenRegion}
 use Rattle.model.specs.Inner.{Sized, aside}
 use Rattle.words.proofs.Flags.{and-1, and-2, clash}
 use Rattle.words.proofs.Lists.{any-in, all-in}
@@ -44,32 +44,20 @@ pub record Ranged (S : Settings) : Type 0 where
 
 pub ranged : (S : Settings) → inRange S ≡ true → Ranged S
 unfolding inRange
-ranged S e =
-    let sets : powerTo256 (S .sets) ≡ true = search (and-1, and-2) depth 9 in
-    let ways : leb 1 (S .ways) ≡ true = search (and-1, and-2) depth 9 in
-    let few-ways : leb (S .ways) 16 ≡ true = search (and-1, and-2) depth 9 in
-    let dirty : leb (S .dirty) 100 ≡ true = search (and-1, and-2) depth 9 in
-    let lines : leb (linesOf S) 1024 ≡ true = search (and-1, and-2) depth 9 in
-    let entry : leb 1 (S .misses) ≡ true = search (and-1, and-2) depth 9 in
-    let misses : leb (S .misses) 64 ≡ true = search (and-1, and-2) depth 9 in
-    let reader : leb 1 (S .readers) ≡ true = search (and-1, and-2) depth 9 in
-    let readers : leb (S .readers) 8 ≡ true = search (and-1, and-2) depth 9 in
-    let place : leb 2 (S .queue) ≡ true = search (and-1, and-2) depth 9 in
-    let queue : leb (S .queue) 64 ≡ true = search (and-1, and-2) depth 9 in
-    record {
-      power = sets;
-      sets = power-pos _ sets;
-      ways = leb-true _ _ ways;
-      few-ways = leb-true _ _ few-ways;
-      lines = leb-true _ _ lines;
-      dirty = leb-true _ _ dirty;
-      entry = leb-true _ _ entry;
-      misses = leb-true _ _ misses;
-      reader = leb-true _ _ reader;
-      readers = leb-true _ _ readers;
-      place = leb-true _ _ place;
-      queue = leb-true _ _ queue;
-    }
+ranged S e = record {
+  power = search (and-1, and-2) depth 9;
+  sets = power-pos (S .sets) (search (and-1, and-2) depth 9);
+  ways = leb-true 1 (S .ways) (search (and-1, and-2) depth 9);
+  few-ways = leb-true (S .ways) 16 (search (and-1, and-2) depth 9);
+  lines = leb-true (linesOf S) 1024 (search (and-1, and-2) depth 9);
+  dirty = leb-true (S .dirty) 100 (search (and-1, and-2) depth 9);
+  entry = leb-true 1 (S .misses) (search (and-1, and-2) depth 9);
+  misses = leb-true (S .misses) 64 (search (and-1, and-2) depth 9);
+  reader = leb-true 1 (S .readers) (search (and-1, and-2) depth 9);
+  readers = leb-true (S .readers) 8 (search (and-1, and-2) depth 9);
+  place = leb-true 2 (S .queue) (search (and-1, and-2) depth 9);
+  queue = leb-true (S .queue) 64 (search (and-1, and-2) depth 9);
+}
 
 pub sets-most : (S : Settings) → inRange S ≡ true → S .sets ≤ 256
 sets-most S e = power-most (S .sets) (ranged S e .power)
@@ -86,23 +74,7 @@ pub fit : (S : Settings) (longs words marks : List ℕ) → (inRange S ≡ true)
 fit S longs words marks (r, l, w, m) =
     let a = ranged S r in
     let t : S .readers * S .misses ≤ 8 * 64 = mul-le-mul (a .readers) (a .misses) in
-    record {
-      power = a .power;
-      sets = a .sets;
-      ways = a .ways;
-      few-ways = a .few-ways;
-      lines = a .lines;
-      dirty = a .dirty;
-      entry = a .entry;
-      misses = a .misses;
-      reader = a .reader;
-      readers = a .readers;
-      tickets = t;
-      place = a .place;
-      queue = a .queue;
-      tree = tree-power S r;
-      longs-long = l;
-      words-room = omega arith;
-      words-long = aside w;
-      marks-long = m;
-    }
+    let room : wordsFrom S takenRegion ≤ length words = omega arith in
+    let long = aside w in
+    let tree = tree-power S r in
+    search

@@ -1,96 +1,67 @@
 -- What the probe finds is as `Spotted` says; a tick leaves sound tables sound, and fresh tables are sound.
 use Prim.Native.Nat.{ℕ, _+_, _*_, _-_, _^_, _≤_, _<_}
-use mathlib.Core.Path.{_≡_, refl, sym, ap, _∙_, subst}
-use mathlib.Core.Logic.{_⊎_, inl, inr, _≢_}
-use mathlib.Core.Bool.{Bool, true, false, not, _||_, false≢true}
-use mathlib.Core.List.{List, [], _∷_, map}
+use mathlib.Core.Path.{_≡_, refl, sym, ap, _∙_}
+use mathlib.Core.Logic.{_⊎_, inl, inr, _≢_, ⊎-elim}
+use mathlib.Core.Bool.{Bool, true, false, not, _&&_, _||_}
+use mathlib.Core.List.{List, [], map}
 use native.Mathlib.Omega.{arith}
-use lib.ListN.{length, getD, replicate, length-map, getD-replicate, length-replicate}
+use lib.ListN.{length, getD, replicate, length-map, length-replicate}
 use lib.Dec.{leb, ltb, eqb}
 use lib.Pow.{pow-pos}
 use borrow.Author.Tests.{leb-true, ltb-false, lt-ltb, eqb-true, eqb-false, eq-eqb, le-leb}
-use Rattle.words.specs.Words.{pick, all, any, count}
+use Rattle.words.specs.Words.{all, any, count, every, same, imp}
 use Rattle.model.specs.Range.{inRange, linesOf, isTree}
 use Rattle.model.specs.Tree.{treeFine}
 use Rattle.model.specs.Address.{blockOf, sectorIndex, lineNumber, addressOf, goodBlock}
-use Rattle.model.specs.Tables.{Line, Entry, writing, Tables, start, refused, isInvalid, isReserved, isModified, whollyInvalid, hasReserved, dirty, holds, entryFor, empty, fresh, emptied, withNow}
+use Rattle.model.specs.Tables.{Line, Entry, Tables, start, refused, isInvalid, isReserved, isModified, whollyInvalid, hasReserved, dirty, holds, entryFor, empty, fresh}
 use Rattle.model.specs.Sound.{allOnes, lastCycle, maskOk, sectorOk, lineOk, alone, reservedOk, readingOf, entryOk, queuedOk}
-use Rattle.model.specs.Probe.{Rule, columnOf, answerAt, answerOf, waysOf, enoughDirty, candidate, first, victim, Spot, at, writeBack, takeOver, meet, probe, ruleOf, metIn}
-use Rattle.model.specs.Steps.{isMerge, isMiss, onSector, fetches, queues, tick}
+use Rattle.model.specs.Probe.{Rule, columnOf, answerAt, answerOf, waysOf, enoughDirty, candidate, Spot, at, writeBack, probe, ruleOf, metIn}
+use Rattle.model.specs.Steps.{isMerge, isMiss, onSector, fetches, tick}
 use Rattle.model.specs.declared.Settings.{Settings}
 use Rattle.model.specs.declared.Status.{Status}
-use Rattle.model.specs.declared.Status.the-variants.{Invalid, Reserved, Valid, Modified}
+use Rattle.model.specs.declared.Status.the-variants.{Modified}
 use Rattle.model.specs.declared.Sector.{Sector}
 use Rattle.model.specs.declared.Queued.{Queued}
 use Rattle.model.specs.declared.Answer.{Answer}
 use Rattle.model.specs.declared.Answer.the-variants.{Miss}
 use Rattle.model.specs.declared.Access.{Access}
 use Rattle.model.specs.declared.Access.the-variants.{Read, Write}
-use Rattle.model.specs.declared.Found.{Found}
 use Rattle.model.specs.declared.Found.the-variants.{At, Nothing}
 use Rattle.model.specs.declared.Refusal.the-variants.{BadCycle}
-use Rattle.words.proofs.Flags.{and-1, and-2, or-no-1, or-no-2, flag, not-yes, no-yes, clash, by-flag}
-use Rattle.words.proofs.Lists.{In, all-in, in-all, in-any, any-in, in-getD, in-index, all-map, any-map, in-replicate, none-count}
-use Rattle.words.proofs.Below.{every-i}
-use Rattle.model.proofs.SoundFacts.{Sound, LeavesSound, LineIs, line-whole, EntryIs, entry-whole, mask-small, sector-below, sector-aligned, address-is, block-is, lines-are, line-at, four-at, since-at, sectors-at, live-tag-good, reserved-at, holder-one, entry-at, set-of-block, holder-set, holds-used, holds-tag}
-use Rattle.model.proofs.Ways.{Finds, first-finds, victim-finds, Sits, way-sits, way-in, line-among, set-of-line}
+use Rattle.words.proofs.Flags.{and-1, and-2, imp-use, same-is, or-no-1, or-no-2, flag, not-yes, no-yes, clash, by-flag}
+use Rattle.words.proofs.Lists.{In, all-in, in-all, in-any, any-in, in-getD, in-index, getD-same, all-map, any-map, in-replicate, none-count}
+use Rattle.words.proofs.Below.{every-at, every-i}
+use Rattle.model.proofs.SoundFacts.{Sound, LeavesSound, LineIs, line-whole, mask-small, sector-below, sector-aligned, address-is, block-is, lines-are, line-at, four-at, since-at, sectors-at, live-tag-good, reserved-at, holder-one, entry-at, set-of-block, holder-set, holds-used, holds-tag}
+use Rattle.model.proofs.Ways.{Finds, first-finds, victim-finds, metSpot, overSpot, probe-by, Sits, way-sits, way-in, line-among, set-of-line}
 use Rattle.model.proofs.AccessKeepsSound.{Spotted}
+use Rattle.model.proofs.Answers.{by-status, status-reserved, status-modified}
 use Rattle.model.proofs.Fits.{ranged}
 
 -- ---- the table of answers
 
+column-below : (x : Access) (r : Bool) → columnOf x r < 3
+column-below (Read a m k) r = by-flag (λ (n : ℕ). n < 3) r 1 2 (λ e. omega arith) (λ e. omega arith)
+column-below (Write a m k) r = omega arith
+
+-- an answer merges at RESERVED alone, and misses at INVALID
+abbrev answerTells : Status → ℕ → Bool
+answerTells c n = same (isMerge (answerAt c n)) (isReserved c) && imp (isInvalid c) (isMiss (answerAt c n))
+
+answer-tells : (x : Access) (s : Sector) → answerTells (s .status) (columnOf x (s .readable)) ≡ true
+answer-tells x s =
+    every-at (answerTells (s .status)) 3 _ (by-status (λ c. every 3 (answerTells c) ≡ true) refl refl refl refl (s .status)) (column-below x (s .readable))
+
 merge-table : (x : Access) (s : Sector) → isMerge (answerOf x s) ≡ isReserved (s .status)
-merge-table (Read a m k) s = go (s .status) (s .readable)
-  where
-    go : (c : Status) (r : Bool) → isMerge (answerAt c (columnOf (Read a m k) r)) ≡ isReserved c
-    go Invalid true = refl
-    go Invalid false = refl
-    go Reserved true = refl
-    go Reserved false = refl
-    go Valid true = refl
-    go Valid false = refl
-    go Modified true = refl
-    go Modified false = refl
-merge-table (Write a m k) s = go (s .status)
-  where
-    go : (c : Status) → isMerge (answerAt c 0) ≡ isReserved c
-    go Invalid = refl
-    go Reserved = refl
-    go Valid = refl
-    go Modified = refl
+merge-table x s = same-is _ _ (and-1 (same (isMerge (answerOf x s)) (isReserved (s .status))) _ (answer-tells x s))
 
 pub reserved-used : (c : Status) → isReserved c ≡ true → isInvalid c ≡ false
-reserved-used Invalid e = absurd (false≢true e)
-reserved-used Reserved e = refl
-reserved-used Valid e = refl
-reserved-used Modified e = refl
-
-pub modified-used : (c : Status) → isModified c ≡ true → isInvalid c ≡ false
-modified-used Invalid e = absurd (false≢true e)
-modified-used Reserved e = refl
-modified-used Valid e = refl
-modified-used Modified e = refl
-
-modified-some : (c : Status) (m : ℕ) (r : Bool) → isModified c ≡ true → maskOk c m r ≡ true → not (eqb m 0) ≡ true
-modified-some Invalid m r e h = absurd (false≢true e)
-modified-some Reserved m r e h = absurd (false≢true e)
-modified-some Valid m r e h = absurd (false≢true e)
-modified-some Modified m r e h = search (and-1, and-2)
+reserved-used c e = rw (status-reserved c e)
 
 -- the sector of a line that matched isn't INVALID after the access
 used-table : (x : Access) (s : Sector) → isInvalid (onSector x (answerOf x s) s .status) ≡ false
-used-table (Read a m k) s = go (s .status) (s .readable) refl
-  where
-    go : (c : Status) (r : Bool) → s .status ≡ c
-        → isInvalid (pick (isMiss (answerAt c (columnOf (Read a m k) r))) (record { status = Reserved; mask = s .mask; readable = true }) s .status) ≡ false
-    go Invalid true e = refl
-    go Invalid false e = refl
-    go Reserved true e = rw e
-    go Reserved false e = rw e
-    go Valid true e = rw e
-    go Valid false e = rw e
-    go Modified true e = rw e
-    go Modified false e = refl
+used-table (Read a m k) s =
+    by-flag (λ (v : Sector). isInvalid (v .status) ≡ false) (isMiss (answerOf (Read a m k) s)) _ _ (λ e. refl)
+    (λ e. no-yes (λ z. clash (imp-use (isInvalid (s .status)) _ (and-2 (same (isMerge (answerOf (Read a m k) s)) (isReserved (s .status))) _ (answer-tells (Read a m k) s)) z) e))
 used-table (Write a m k) s =
     by-flag (λ (v : Sector). isInvalid (v .status) ≡ false) (isMerge (answerAt (s .status) 0)) _ _
     (λ e. reserved-used (s .status) (sym (merge-table (Write a m k) s) ∙ e)) (λ e. refl)
@@ -106,16 +77,13 @@ fetches-one (Write a m k) n = omega arith
 
 -- ---- the write-back of a line
 
-back-quiet : (l : Line) (c : ℕ) → any (readingOf c) (writeBack l) ≡ false
-back-quiet l c = by-flag (λ (q : List Queued). any (readingOf c) q ≡ false) (dirty l) _ [] (λ e. refl) (λ e. refl)
-
 pub back-one : (l : Line) → length (writeBack l) ≤ 1
 back-one l = by-flag (λ (q : List Queued). length q ≤ 1) (dirty l) _ [] (λ e. omega arith) (λ e. omega arith)
 
 dirty-used : (l : Line) → dirty l ≡ true → whollyInvalid l ≡ false
 dirty-used l e = no-yes (λ z.
     let (v, m, q) = any-in (λ (v : Sector). isModified (v .status)) (l .sectors) e in
-    clash (all-in (λ (v : Sector). isInvalid (v .status)) (l .sectors) z m) (modified-used (v .status) q))
+    clash (all-in (λ (v : Sector). isInvalid (v .status)) (l .sectors) z m) (ap isInvalid (status-modified (v .status) q)))
 
 module _ (S : Settings) (t : Tables) (ok : Sound S t) (l : Line) (m : In l (t .lines)) where
   masks-small : all (λ n. leb n allOnes) (map (λ (v : Sector). v .mask) (l .sectors)) ≡ true
@@ -125,23 +93,19 @@ module _ (S : Settings) (t : Tables) (ok : Sound S t) (l : Line) (m : In l (t .l
       (λ v n. mask-small (v .status) (v .mask) (v .readable) (all-in sectorOk (l .sectors) (sectors-at S t ok l m) n))
 
   dirty-some : dirty l ≡ true → any (λ n. not (eqb n 0)) (map (λ (v : Sector). v .mask) (l .sectors)) ≡ true
-  dirty-some e = any-map (λ (v : Sector). v .mask) (λ n. not (eqb n 0)) (l .sectors) ∙ go (any-in (λ (v : Sector). isModified (v .status)) (l .sectors) e)
-    where
-      go : (v : Sector) × In v (l .sectors) × (isModified (v .status) ≡ true)
-          → any (λ (v : Sector). not (eqb (v .mask) 0)) (l .sectors) ≡ true
-      go (v, n, q) =
-          in-any (λ (v : Sector). not (eqb (v .mask) 0)) (l .sectors) n
-          (modified-some (v .status) (v .mask) (v .readable) q (all-in sectorOk (l .sectors) (sectors-at S t ok l m) n))
+  dirty-some e =
+      let (v, n, q) = any-in (λ (v : Sector). isModified (v .status)) (l .sectors) e in
+      let h : maskOk Modified (v .mask) (v .readable) ≡ true = rw (status-modified (v .status) q) at (all-in sectorOk (l .sectors) (sectors-at S t ok l m) n) in
+      let some : not (eqb (v .mask) 0) ≡ true = search (and-1, and-2) in
+      any-map (λ (v : Sector). v .mask) (λ n. not (eqb n 0)) (l .sectors) ∙ in-any (λ (v : Sector). not (eqb (v .mask) 0)) (l .sectors) n some
 
   back-ok : (es : List Entry) → all (queuedOk es) (writeBack l) ≡ true
   unfolding queuedOk
-  back-ok es = by-flag (λ (q : List Queued). all (queuedOk es) q ≡ true) (dirty l) _ [] go (λ e. refl)
-    where
-      go : dirty l ≡ true → all (queuedOk es) (writing (l .tag) (map (λ (v : Sector). v .mask) (l .sectors)) ∷ []) ≡ true
-      go e =
-          let g : goodBlock (l .tag) ≡ true = live-tag-good S t ok l m (dirty-used l e) in
-          let c : eqb (length (map (λ (v : Sector). v .mask) (l .sectors))) 4 ≡ true = rw length-map (eq-eqb (length (l .sectors)) 4 (four-at S t ok l m)) in
-          rw (g, c, masks-small, dirty-some e)
+  back-ok es =
+      by-flag (λ (q : List Queued). all (queuedOk es) q ≡ true) (dirty l) _ [] (λ e.
+      let g : goodBlock (l .tag) ≡ true = live-tag-good S t ok l m (dirty-used l e) in
+      let c : eqb (length (map (λ (v : Sector). v .mask) (l .sectors))) 4 ≡ true = rw length-map (eq-eqb (length (l .sectors)) 4 (four-at S t ok l m)) in
+      rw (g, c, masks-small, dirty-some e)) (λ e. refl)
 
 -- ---- what is found
 
@@ -163,25 +127,16 @@ module _ (S : Settings) (t : Tables) (ok : Sound S t) (some-ways : 1 ≤ S .ways
       let (j, h, g) = in-index (t .lines) fresh l n in
       (j, h, ap (holds (blockOf (e .address))) g ∙ q)
 
-  abbrev KeptLine : ℕ → Entry → Type 0
-  KeptLine n e = (blockOf (e .address) ≡ b) ⊎ ((j : ℕ) × (j < length (t .lines)) × (j ≢ n) × (holds (blockOf (e .address)) (getD (t .lines) j fresh) ≡ true))
-
   holder-kept : (n : ℕ)
       → ((e : Entry) → In e (t .misses) → holds (blockOf (e .address)) (getD (t .lines) n fresh) ≡ true → blockOf (e .address) ≡ b)
-      → (e : Entry) → In e (t .misses) → KeptLine n e
-  holder-kept n f e m = go (holder e m)
-    where
-      other : (j : ℕ) → j < length (t .lines) → holds (blockOf (e .address)) (getD (t .lines) j fresh) ≡ true
-          → (eqb j n ≡ true) ⊎ (eqb j n ≡ false) → KeptLine n e
-      other j h q (inl z) = inl (f e m (rw (eqb-true j n z) at q))
-      other j h q (inr z) = inr (j, h, eqb-false j n z, q)
-
-      go : (j : ℕ) × (j < length (t .lines)) × (holds (blockOf (e .address)) (getD (t .lines) j fresh) ≡ true) → KeptLine n e
-      go (j, h, q) = other j h q (flag (eqb j n))
+      → (e : Entry) → In e (t .misses)
+      → (blockOf (e .address) ≡ b) ⊎ ((j : ℕ) × (j < length (t .lines)) × (j ≢ n) × (holds (blockOf (e .address)) (getD (t .lines) j fresh) ≡ true))
+  holder-kept n f e m =
+      let (j, h, q) = holder e m in
+      ⊎-elim (λ z. inl (f e m (rw (eqb-true j n z) at q))) (λ z. inr (j, h, eqb-false j n z, q)) (flag (eqb j n))
 
   -- a way that matches
-  met : (w : ℕ) → w < length ways → holds b (getD ways w fresh) ≡ true
-      → Spotted S t x (record { way = w; line = getD ways w fresh; answer = answerOf x (getD (getD ways w fresh .sectors) (sectorIndex a) empty); backs = [] })
+  met : (w : ℕ) → w < length ways → holds b (getD ways w fresh) ≡ true → Spotted S t x (metSpot x ways w)
   met w h q =
       let s : Sits S (t .lines) a w = way-sits S (t .lines) a w h in
       let n : ℕ = lineNumber S a w in
@@ -226,23 +181,15 @@ module _ (S : Settings) (t : Tables) (ok : Sound S t) (some-ways : 1 ≤ S .ways
 
   module _ (lacks : (j : ℕ) → j < length (t .lines) → holds b (getD (t .lines) j fresh) ≡ false) where
     no-entry : (k : ℕ) → k < 4 → any (entryFor (b + 32 * k)) (t .misses) ≡ false
-    no-entry k h = no-yes (λ z. go (any-in (entryFor (b + 32 * k)) (t .misses) z))
-      where
-        go : (e : Entry) × In e (t .misses) × (entryFor (b + 32 * k) e ≡ true) → ⊥
-        go (e, m, q) =
-            let (j, i, g) = holder e m in
-            let c : e .address ≡ b + 32 * k = eqb-true (e .address) (b + 32 * k) q in
-            let d : blockOf (e .address) ≡ b = sym (block-is (e .address) b k (omega arith) h (sym c)) in
-            clash g (ap (λ (v : ℕ). holds v (getD (t .lines) j fresh)) d ∙ lacks j i)
+    no-entry k h = no-yes (λ z.
+        let (e, m, q) = any-in (entryFor (b + 32 * k)) (t .misses) z in
+        let (j, i, g) = holder e m in
+        let c : e .address ≡ b + 32 * k = eqb-true (e .address) (b + 32 * k) q in
+        let d : blockOf (e .address) ≡ b = sym (block-is (e .address) b k (omega arith) h (sym c)) in
+        clash g (ap (λ (v : ℕ). holds v (getD (t .lines) j fresh)) d ∙ lacks j i))
 
     -- a victim
-    taken-over : (d w : ℕ) → w < length ways → candidate (enoughDirty S d) (getD ways w fresh) ≡ true
-        → Spotted S t x (record {
-          way = w;
-          line = emptied b;
-          answer = Miss;
-          backs = writeBack (getD ways w fresh);
-        })
+    taken-over : (d w : ℕ) → w < length ways → candidate (enoughDirty S d) (getD ways w fresh) ≡ true → Spotted S t x (overSpot x ways w)
     taken-over d w h q =
         let s : Sits S (t .lines) a w = way-sits S (t .lines) a w h in
         let n : ℕ = lineNumber S a w in
@@ -256,52 +203,26 @@ module _ (S : Settings) (t : Tables) (ok : Sound S t) (some-ways : 1 ≤ S .ways
           sectorly = refl;
           own = set-of-block S a ∙ sym (set-of-line S a w (s .low));
           lone = λ j k z. lacks j k;
-          agree = λ k z. rw (getD-replicate 4 k empty empty z) (sym (no-entry k z));
+          agree = λ k z. rw (getD-same 4 k empty) (sym (no-entry k z));
           kept = holder-kept n (λ e i z. absurd (vacant l m (not-yes (and-1 (not (hasReserved l)) _ q)) e i (ap (holds (blockOf (e .address))) (s .line) ∙ z)));
-          merges = rw (getD-replicate 4 (sectorIndex a) empty empty (sector-below a));
+          merges = rw (getD-same 4 (sectorIndex a) empty);
           used = used-miss x (getD (replicate 4 empty) (sectorIndex a) empty);
           backed = back-ok S t ok l m;
-          quiet = back-quiet l;
+          quiet = λ c. by-flag (λ (q : List Queued). any (readingOf c) q ≡ false) (dirty l) _ [] (λ e. refl) (λ e. refl);
         }
 
 -- ---- a tick, fresh tables
 
 pub tick-leaves : (S : Settings) (t : Tables) → Sound S t → (c : ℕ) → LeavesSound S (tick c t)
-unfolding tick
-tick-leaves S t ok c = by-flag (LeavesSound S) (ltb c (t .now) || ltb lastCycle c) (refused BadCycle) _ (λ e. tt) go
-  where
-    u : Tables
-    u = withNow c t
-
-    later : {i : ℕ} {l : Line} → t .now ≤ c → LineIs S (t .now) i l → LineIs S c i l
-    later {i} {l} h k = record {
-      four = k .four;
-      sectorly = k .sectorly;
-      past = le-leb (l .cycle) c (omega (arith, leb-true (l .cycle) (t .now) (k .past)));
-      since = k .since;
-      tagged = k .tagged;
-    }
-
-    same-entry : {d : Entry} → EntryIs S t d → EntryIs S u d
-    same-entry k = record { good = k .good; held = k .held; once = k .once; readers = k .readers; queues = k .queues }
-
-    go : (ltb c (t .now) || ltb lastCycle c) ≡ false → Sound S u
-    go e = record {
-      sized = ok .sized;
-      time = le-leb c lastCycle (ltb-false lastCycle c (or-no-2 (ltb c (t .now)) (ltb lastCycle c) e));
-      lined = every-i (λ i. lineOk S c i (getD (t .lines) i fresh)) (linesOf S)
-          (λ i h. line-whole S c i _ (later (ltb-false c (t .now) (or-no-1 (ltb c (t .now)) (ltb lastCycle c) e))
-          (line-at S t ok i (rw (lines-are S t ok) h))));
-      single = ok .single;
-      reserve = ok .reserve;
-      entered = in-all (entryOk S u) (t .misses) (λ d m. entry-whole S u d (same-entry (entry-at S t ok d m)));
-      lining = ok .lining;
-      few = ok .few;
-      short = ok .short;
-      counted = ok .counted;
-      treed = ok .treed;
-      turned = ok .turned;
-    }
+unfolding tick entryOk
+tick-leaves S t ok c =
+    by-flag (LeavesSound S) (ltb c (t .now) || ltb lastCycle c) (refused BadCycle) _ (λ e. tt) (λ e.
+    let time = le-leb c lastCycle (ltb-false lastCycle c (or-no-2 (ltb c (t .now)) (ltb lastCycle c) e)) in
+    let lined = every-i (λ i. lineOk S c i (getD (t .lines) i fresh)) (linesOf S) (λ i h.
+    let k : LineIs S (t .now) i (getD (t .lines) i fresh) = line-at S t ok i (rw (lines-are S t ok) h) in
+    let past = le-leb (getD (t .lines) i fresh .cycle) c (omega (arith, leb-true _ (t .now) (k .past), ltb-false c (t .now) (or-no-1 (ltb c (t .now)) (ltb lastCycle c) e))) in
+    line-whole S c i _ (search)) in
+    search)
 
 -- a tree of 0 under every rule
 blank-fine : (b : Bool) (ways : ℕ) → treeFine b ways 0 ≡ true
@@ -313,7 +234,7 @@ unfolding lineOk alone reservedOk
 start-is-sound S = record {
   sized = eq-eqb _ (linesOf S) (length-replicate (linesOf S) fresh);
   time = refl;
-  lined = every-i (λ i. lineOk S 0 i (getD (replicate (linesOf S) fresh) i fresh)) (linesOf S) (λ i h. rw (getD-replicate (linesOf S) i fresh fresh h));
+  lined = every-i (λ i. lineOk S 0 i (getD (replicate (linesOf S) fresh) i fresh)) (linesOf S) (λ i h. rw (getD-same (linesOf S) i fresh));
   single = in-all (alone (replicate (linesOf S) fresh)) (replicate (linesOf S) fresh) (λ l m. rw (in-replicate (linesOf S) fresh l m));
   reserve = in-all (reservedOk []) (replicate (linesOf S) fresh) (λ l m. rw (in-replicate (linesOf S) fresh l m));
   entered = refl;
@@ -327,24 +248,18 @@ start-is-sound S = record {
 
 -- what an access meets is as `Spotted` says
 module _ (S : Settings) (range : inRange S ≡ true) (t : Tables) (ok : Sound S t) (x : Access) where
-  over-spotted : ((j : ℕ) → j < length (t .lines) → holds (blockOf (addressOf x)) (getD (t .lines) j fresh) ≡ false)
-      → (d : ℕ) (v : Found) → Finds (candidate (enoughDirty S d)) (waysOf S (t .lines) (addressOf x)) v
-      → (p : Spot) → takeOver (addressOf x) (waysOf S (t .lines) (addressOf x)) v ≡ at p → Spotted S t x p
-  over-spotted g d Nothing h p e = let z : _≡_ {A = ℕ} 0 1 = cc in absurd (omega arith)
-  over-spotted g d (At w) h p e = subst (Spotted S t x) (cc) (taken-over S t ok (ranged S range .ways) x g d w (h .0) (h .1))
-
-  meet-spotted : (R : Rule) (d : ℕ) (v : Found) → Finds (holds (blockOf (addressOf x))) (waysOf S (t .lines) (addressOf x)) v
-      → (p : Spot) → meet R S d (waysOf S (t .lines) (addressOf x)) x v ≡ at p → Spotted S t x p
-  meet-spotted R d Nothing h p e =
-      over-spotted (none-holds S t ok (ranged S range .ways) x h) d (victim R S d (waysOf S (t .lines) (addressOf x))) (victim-finds R S d (waysOf S (t .lines) (addressOf x))) p e
-  meet-spotted R d (At w) h p e = subst (Spotted S t x) (cc) (met S t ok (ranged S range .ways) x w (h .0) (h .1))
-
   -- under every rule
   pub rule-spotted : (R : Rule) (p : Spot) → probe R S (t .dirtyCount) (waysOf S (t .lines) (addressOf x)) x ≡ at p → Spotted S t x p
-  unfolding probe
-  rule-spotted R p e =
-      meet-spotted R (t .dirtyCount) (first (holds (blockOf (addressOf x))) (waysOf S (t .lines) (addressOf x)))
-      (first-finds (holds (blockOf (addressOf x))) (waysOf S (t .lines) (addressOf x))) p e
+  rule-spotted R =
+      let some : 1 ≤ S .ways = ranged S range .ways in
+      let b : ℕ = blockOf (addressOf x) in
+      let ways : List Line = waysOf S (t .lines) (addressOf x) in
+      probe-by R S (t .dirtyCount) ways x (Spotted S t x)
+      (λ w f. let h : Finds (holds b) ways (At w) = rw f at (first-finds (holds b) ways) in met S t ok some x w (h .0) (h .1))
+      (λ f w v.
+      let none : Finds (holds b) ways Nothing = rw f at (first-finds (holds b) ways) in
+      let h : Finds (candidate (enoughDirty S (t .dirtyCount))) ways (At w) = rw v at (victim-finds R S (t .dirtyCount) ways) in
+      taken-over S t ok some x (none-holds S t ok some x none) (t .dirtyCount) w (h .0) (h .1))
 
   pub probe-spotted : (p : Spot) → metIn S x t ≡ at p → Spotted S t x p
   probe-spotted p e = rule-spotted (ruleOf S t (addressOf x)) p e

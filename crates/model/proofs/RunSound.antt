@@ -9,7 +9,7 @@ use lib.Dec.{ltb, eqb}
 use borrow.Author.Tests.{ltb-true}
 use Rattle.model.specs.Range.{inRange}
 use Rattle.model.specs.Tables.{Tables, start, after}
-use Rattle.model.specs.Lent.{Lent}
+use Rattle.model.specs.Lent.{Lent, lengthsFit}
 use Rattle.model.specs.Sound.{allOnes, sound}
 use Rattle.model.specs.RecordsOf as records
 use Rattle.model.specs.Records.{isCommand, isSettings, lengthOf, numberAt, commandIn, commandOf}
@@ -30,16 +30,19 @@ byte-at [] i h = omega arith
 byte-at (b ∷ s) zero h = ltb-true b 256 (and-1 (ltb b 256) (bytes s) h)
 byte-at (b ∷ s) (suc i) h = byte-at s i (and-2 (ltb b 256) (bytes s) h)
 
+pub bytes-take : (n : ℕ) (s : List ℕ) → bytes s ≡ true → bytes (take n s) ≡ true
+bytes-take n s h = in-all (λ b. ltb b 256) (take n s) (λ b m. all-in (λ b. ltb b 256) s h (in-take n s b m))
+
 -- a command's mask stands in four bytes
 pub command-mask-small : (s : List ℕ) → bytes s ≡ true → numberAt s 8 4 ≤ allOnes
 unfolding numberAt
 command-mask-small s h = omega (arith, byte-at s 8 h, byte-at s 9 h, byte-at s 10 h, byte-at s 11 h)
 
-abbrev SmallMask : CommandRead → Type 0
+abbrev pub SmallMask : CommandRead → Type 0
 SmallMask (command.Got c) = commandMask c ≤ allOnes
 SmallMask command.None = Unit {0}
 
-command-small : (k : ℕ) (b : List ℕ) → bytes b ≡ true → SmallMask (commandOf k b)
+pub command-small : (k : ℕ) (b : List ℕ) → bytes b ≡ true → SmallMask (commandOf k b)
 unfolding records.commandOf
 command-small k b h =
     by-flag SmallMask (eqb (length b) (lengthOf k)) (commandIn k b) command.None
@@ -60,9 +63,7 @@ module _ (S : Settings) (range : inRange S ≡ true) where
       → sound S (after t (stepAt S k rest t)) ≡ true
   unfolding runner.stepAt
   record-keeps-sound k rest t h ok =
-      let b : bytes (take (lengthOf k) rest) ≡ true =
-      in-all (λ b. ltb b 256) (take (lengthOf k) rest) (λ b m. all-in (λ b. ltb b 256) rest h (in-take (lengthOf k) rest b m)) in
-      read-keeps-sound (commandOf k (take (lengthOf k) rest)) t (command-small k (take (lengthOf k) rest) b) ok
+      read-keeps-sound (commandOf k (take (lengthOf k) rest)) t (command-small k (take (lengthOf k) rest) (bytes-take (lengthOf k) rest h)) ok
 
   pub run-from-keeps-sound : (n room : ℕ) (s : List ℕ) (t : Tables) → bytes s ≡ true → sound S t ≡ true
       → sound S (runFrom S n room s t .tables) ≡ true
@@ -75,19 +76,26 @@ module _ (S : Settings) (range : inRange S ≡ true) where
       (record-keeps-sound k s t (and-2 (ltb k 256) (bytes s) h) ok))
       (λ e. ok)
 
--- settings that are accepted are in range
-first-in-range : (L : Lent) (k : ℕ) (s : List ℕ) → goesOn (firstStop L k s) ≡ true → inRange (settingsOf k s) ≡ true
+-- a first record whose kind, settings and lent lengths pass
+pub record Passes (k : ℕ) (S : Settings) (L : Lent) : Type 0 where
+  pub kind : isSettings k ≡ true
+  pub range : inRange S ≡ true
+  pub fits : lengthsFit S L ≡ true
+
+pub first-passes : (L : Lent) (k : ℕ) (s : List ℕ) → goesOn (firstStop L k s) ≡ true → Passes k (settingsOf k s) L
 unfolding runner.firstStop
-first-in-range L k s =
-    by-flag InRange (isCommand k) _ _
-    (λ e. by-flag InRange (ltb (length s) (lengthOf k)) _ _ (λ f g. clash g refl)
-    (λ f. by-flag InRange (isSettings k) _ _
-    (λ g. by-flag InRange (inRange (settingsOf k s)) _ _ (λ r h. r) (λ r h. clash h refl))
-    (λ g h. clash h refl)))
-    (λ e h. clash h refl)
+first-passes L k s =
+    by-flag Goes (isCommand k) _ _
+    (λ a. by-flag Goes (ltb (length s) (lengthOf k)) _ _ (λ b h. clash h refl)
+    (λ b. by-flag Goes (isSettings k) _ _
+    (λ c. by-flag Goes (inRange (settingsOf k s)) _ _
+    (λ d. by-flag Goes (lengthsFit (settingsOf k s) L) _ _ (λ e h. record { kind = c; range = d; fits = e }) (λ e h. clash h refl))
+    (λ d h. clash h refl))
+    (λ c h. clash h refl)))
+    (λ a h. clash h refl)
   where
-    InRange : Stop → Type 0
-    InRange s₁ = goesOn s₁ ≡ true → inRange (settingsOf k s) ≡ true
+    Goes : Stop → Type 0
+    Goes n = goesOn n ≡ true → Passes k (settingsOf k s) L
 
 -- once its first record is accepted, a run leaves slices of sound tables
 pub run-leaves-sound : (room k : ℕ) (s : List ℕ) (L : Lent) → bytes s ≡ true → goesOn (firstStop L k s) ≡ true
@@ -95,7 +103,7 @@ pub run-leaves-sound : (room k : ℕ) (s : List ℕ) (L : Lent) → bytes s ≡ 
 unfolding runner.run
 run-leaves-sound room k s L h go =
     let S : Settings = settingsOf k s in
-    let range : inRange S ≡ true = first-in-range L k s go in
+    let range : inRange S ≡ true = first-passes L k s go .range in
     record {
       tables = runFrom S (lengthOf k) room s (start S) .tables;
       are = record {

@@ -2,36 +2,36 @@
 -- they were and tells only refusals, and for no others; the calls of document 01 are such, and their rounds settle as `Bound` says.
 use mathlib.Core.Path.{_≡_, refl, sym, ap, subst, _∙_}
 use mathlib.Core.Logic.{inl, inr, ⊎-elim}
-use mathlib.Core.Bool.{Bool, true, false, not, _&&_, false≢true}
+use mathlib.Core.Bool.{Bool, true, false, not, false≢true}
 use mathlib.Core.List.{List, [], _∷_, _++_, map, append-nil}
 use Prim.Native.Nat.{ℕ, zero, suc, _+_}
 use native.Mathlib.Omega.{arith}
-use lib.Dec.{ltb, leb}
 use lib.ListN.{length, getD, List·getD-map, length-append}
-use Rattle.words.specs.Words.{pick, any}
+use Rattle.words.specs.Words.{any}
 use Rattle.model.specs.Range.{inRange}
-use Rattle.model.specs.Address.{addressOf, isRead, wellFormed}
+use Rattle.model.specs.Address.{wellFormed}
 use Rattle.model.specs.Tables.{Entry, Tables, Outcome, refused, done, after, accepted, eventsOf, withNow}
 use Rattle.model.specs.Lent.{Lent, lengthsFit, tablesOf}
 use Rattle.model.specs.Sound.{sound}
 use Rattle.model.specs.SoundLent.{soundLent}
-use Rattle.model.specs.Probe.{Place, no, at, metIn}
-use Rattle.model.specs.Steps.{isMerge, isMiss, entryFull, placesNeeded, queues, queuedAs, queuedEvent, accept, proceed, access, sentAs, sendFrom, send, ticketsOf, sentFor, fill}
+use Rattle.model.specs.Probe.{ruleOf}
+use Rattle.model.specs.Steps.{queues, queuedAs, queuedEvent, accept, access, sentAs, send, ticketsOf, sentFor, fill}
 use Rattle.model.specs.Calls.{encoded, call}
 use Rattle.model.specs.Rounds.{Calls, Turn, still, took, isEmpty, steps, calls, Settles, outcomeDrain, outcomeFill, outcomeGoOn, outcomeHeld, outcomeRounds, outcomeSend}
 use Rattle.model.specs.Seen.{SeenCalls, answering, refusing, accepts, but11, comparable, Course, goOn, marks, sendTurn, fillFirst, drain, rounds, struck, heldIn, waits, Demand3, seen, seenSteps, seenCalls}
 use Rattle.model.specs.declared.Settings.{Settings}
-use Rattle.model.specs.declared.QueueKind.{QueueKind}
-use Rattle.model.specs.declared.QueueKind.the-variants as queue
 use Rattle.model.specs.declared.Queued.{Queued}
 use Rattle.model.specs.declared.Access.{Access}
 use Rattle.model.specs.declared.Event.{Event}
 use Rattle.model.specs.declared.Event.the-variants as event
 use Rattle.model.specs.declared.Refusal.{Refusal}
 use Rattle.model.specs.declared.Refusal.the-variants.{SetHeld}
-use Rattle.words.proofs.Flags.{and-2, not-yes, clash, or-no-1, or-no-2}
+use Rattle.words.proofs.Flags.{and-2, flag, pick-both, not-yes, clash, or-no-1, or-no-2}
+use Rattle.words.proofs.Below.{by-suc}
+use Rattle.model.proofs.Answers.{by-kind}
+use Rattle.model.proofs.AccessCases.{access-judged}
+use Rattle.model.proofs.SendFillKeepSound.{send-cases}
 use Rattle.model.proofs.Bound.{rounds-settled}
-use Rattle.words.proofs.Flags.{flag}
 
 -- ---- events but 0x11
 
@@ -70,10 +70,6 @@ module _ {T : Type 0} (p : List Event → Bool) where
   pub record Clear (o : Outcome T) : Type 0 where
     pub clear : p (eventsOf o) ≡ accepted o
 
-  clear-by : (b : Bool) {o q : Outcome T} → Clear o → Clear q → Clear (pick b o q)
-  clear-by true h g = h
-  clear-by false h g = g
-
 -- of a send and a fill: no event of kind 0x11
 abbrev pub unrefused : List Event → Bool
 unrefused es = not (any refusing es)
@@ -83,17 +79,9 @@ pub unrefused-too : {T : Type 0} (o : Outcome T) → Clear accepts o → Clear u
 unrefused-too (refused n) c = record { clear = refl }
 unrefused-too (done es u) c = record { clear = and-2 (any answering es) (not (any refusing es)) (c .clear) }
 
-sent-clear : (k : QueueKind) (a : ℕ) (ms : List ℕ) → refusing (sentAs k a ms) ≡ false
-sent-clear queue.Read a ms = refl
-sent-clear queue.WriteBack a ms = refl
-
 pub send-clear : (t : Tables) → Clear unrefused (send t)
-unfolding send
-send-clear t = from (t .queue)
-  where
-    from : (qs : List Queued) → Clear unrefused (sendFrom qs t)
-    from [] = record { clear = refl }
-    from (q ∷ qs) = record { clear = rw (sent-clear (q .kind) (q .address) (q .masks)) }
+send-clear t =
+    send-cases t (Clear unrefused) (λ n. record { clear = refl }) (λ x q e. record { clear = rw (by-kind (λ k. refusing (sentAs k (x .address) (x .masks)) ≡ false) refl refl (x .kind)) })
 
 pub released-clear : (ks : List ℕ) → any refusing (map event.Released ks) ≡ false
 released-clear [] = refl
@@ -102,29 +90,16 @@ released-clear (k ∷ ks) = released-clear ks
 pub fill-clear : (a : ℕ) (t : Tables) → Clear unrefused (fill a t)
 unfolding fill
 fill-clear a t =
-    clear-by unrefused (any (sentFor a) (t .misses)) record { clear = ap not (released-clear (ticketsOf a (t .misses))) } record { clear = refl }
-
-queued-unrefused : (k : QueueKind) (a : ℕ) (ms : List ℕ) → refusing (queuedAs k a ms) ≡ false
-queued-unrefused queue.Read a ms = refl
-queued-unrefused queue.WriteBack a ms = refl
+    pick-both (Clear unrefused) (any (sentFor a) (t .misses)) record { clear = ap not (released-clear (ticketsOf a (t .misses))) } record { clear = refl }
 
 pub queued-clear : (qs : List Queued) → any refusing (map queuedEvent qs) ≡ false
 queued-clear [] = refl
-queued-clear (q ∷ qs) = rw (queued-unrefused (q .kind) (q .address) (q .masks)) (queued-clear qs)
-
-proceed-clear : (S : Settings) (x : Access) (t : Tables) (p : Place) → Clear accepts (proceed S x t p)
-unfolding proceed accept
-proceed-clear S x t (no n) = record { clear = refl }
-proceed-clear S x t (at p) =
-    clear-by accepts (ltb (S .queue) (length (t .queue) + placesNeeded x p)) record { clear = refl }
-    (clear-by accepts (isRead x && isMerge (p .answer) && any (entryFull S (addressOf x)) (t .misses)) record { clear = refl }
-    (clear-by accepts (isRead x && isMiss (p .answer) && leb (S .misses) (length (t .misses))) record { clear = refl }
-    record { clear = ap not (queued-clear (queues x p)) }))
+queued-clear (q ∷ qs) = rw (by-kind (λ k. refusing (queuedAs k (q .address) (q .masks)) ≡ false) refl refl (q .kind)) (queued-clear qs)
 
 pub access-clear : (S : Settings) (x : Access) (t : Tables) → Clear accepts (access S x t)
-unfolding access
+unfolding access accept
 access-clear S x t =
-    clear-by accepts (wellFormed x) (proceed-clear S x t (metIn S x t)) record { clear = refl }
+    access-judged (ruleOf S) S t x (Clear accepts) (λ n. record { clear = refl }) (λ p j. record { clear = ap not (queued-clear (queues x p)) })
 
 encoded-clear : (p : List Event → Bool) (S : Settings) (o : Outcome Tables) → Clear p o → Clear p (encoded S o)
 encoded-clear p S (refused n) c = record { clear = c .clear }
@@ -134,9 +109,9 @@ pub call-clear : (p : List Event → Bool) → ((n : Refusal) → p (event.Refus
     → ((t : Tables) → Clear p (step t)) → Clear p (call S step L)
 unfolding call
 call-clear p none S step L c =
-    clear-by p (inRange S)
-    (clear-by p (lengthsFit S L)
-    (clear-by p (soundLent S L) (encoded-clear p S (step (tablesOf S L)) (c (tablesOf S L))) record { clear = none _ })
+    pick-both (Clear p) (inRange S)
+    (pick-both (Clear p) (lengthsFit S L)
+    (pick-both (Clear p) (soundLent S L) (encoded-clear p S (step (tablesOf S L)) (c (tablesOf S L))) record { clear = none _ })
     record { clear = none _ })
     record { clear = none _ }
 
@@ -154,15 +129,11 @@ module _ {T : Type 0} (C : Calls T) (clear : (t : T) → Clear accepts (C .offer
   A = actsOf C
 
   quiet-acts : Quiet A
-  quiet-acts = record { tells = λ t. tells t (C .offers t) (clear t); leaves = λ t. leaves t (C .offers t) (clear t) }
+  quiet-acts = record { tells = λ t h. refused-quiet t (C .offers t) (clear t) h .0; leaves = λ t h. refused-quiet t (C .offers t) (clear t) h .1 }
     where
-      tells : (t : T) (o : Outcome T) → Clear accepts o → accepts (eventsOf o) ≡ false → but11 (eventsOf o) ≡ []
-      tells t (refused n) c h = refl
-      tells t (done es u) c h = clash (c .clear) h
-
-      leaves : (t : T) (o : Outcome T) → Clear accepts o → accepts (eventsOf o) ≡ false → after t o ≡ t
-      leaves t (refused n) c h = refl
-      leaves t (done es u) c h = clash (c .clear) h
+      refused-quiet : (t : T) (o : Outcome T) → Clear accepts o → accepts (eventsOf o) ≡ false → (but11 (eventsOf o) ≡ []) × (after t o ≡ t)
+      refused-quiet t (refused n) c h = (refl, refl)
+      refused-quiet t (done es u) c h = clash (c .clear) h
 
   -- ---- the tables and the offers are those of the rounds that `Bound` speaks of
 
@@ -179,33 +150,27 @@ module _ {T : Type 0} (C : Calls T) (clear : (t : T) → Clear accepts (C .offer
   unfolding drain outcomeDrain
   drained-left t = rw (sent-left t) (filled-left (C .tables (outcomeSend C t .left) .misses) (outcomeSend C t .left))
 
-  rounds-offers : (n : ℕ) (t : T) → rounds A n t .offers ≡ map eventsOf (outcomeRounds C n t .offers)
+  -- the offers of n rounds, and whether one of them is accepted
+  abbrev SameOffers : List (List Event) → List (Outcome T) → Type 0
+  SameOffers es os = (es ≡ map eventsOf os) × (any accepts es ≡ any accepted os)
+
+  rounds-offers : (n : ℕ) (t : T) → SameOffers (rounds A n t .offers) (outcomeRounds C n t .offers)
   unfolding rounds outcomeRounds
-  rounds-offers zero t = refl
+  rounds-offers zero t = (refl, refl)
   rounds-offers (suc n) t = rw (drained-left t) (go (C .offers (outcomeDrain C t .left)) (clear (outcomeDrain C t .left)) (rounds-offers n (outcomeDrain C t .left)))
     where
-      go : (o : Outcome T) → Clear accepts o → rounds A n (outcomeDrain C t .left) .offers ≡ map eventsOf (outcomeRounds C n (outcomeDrain C t .left) .offers)
-          → goOn (drain A t) (seen (outcomeDrain C t .left) o) (rounds A n) .offers ≡ map eventsOf (outcomeGoOn (outcomeDrain C t) (outcomeRounds C n) o .offers)
-      go (refused k) c ih = ap (λ (os : List (List Event)). (event.Refused k ∷ []) ∷ os) ih
-      go (done es v) c ih = rw (c .clear)
-
-  accepted-same : (n : ℕ) (t : T) → any accepts (rounds A n t .offers) ≡ any accepted (outcomeRounds C n t .offers)
-  unfolding rounds outcomeRounds
-  accepted-same zero t = refl
-  accepted-same (suc n) t = rw (drained-left t) (go (C .offers (outcomeDrain C t .left)) (clear (outcomeDrain C t .left)) (accepted-same n (outcomeDrain C t .left)))
-    where
-      go : (o : Outcome T) → Clear accepts o → any accepts (rounds A n (outcomeDrain C t .left) .offers) ≡ any accepted (outcomeRounds C n (outcomeDrain C t .left) .offers)
-          → any accepts (goOn (drain A t) (seen (outcomeDrain C t .left) o) (rounds A n) .offers) ≡ any accepted (outcomeGoOn (outcomeDrain C t) (outcomeRounds C n) o .offers)
-      go (refused k) c ih = ih
-      go (done es v) c ih = rw (c .clear)
+      go : (o : Outcome T) → Clear accepts o → SameOffers (rounds A n (outcomeDrain C t .left) .offers) (outcomeRounds C n (outcomeDrain C t .left) .offers)
+          → SameOffers (goOn (drain A t) (seen (outcomeDrain C t .left) o) (rounds A n) .offers) (outcomeGoOn (outcomeDrain C t) (outcomeRounds C n) o .offers)
+      go (refused k) c ih = (ap (λ (os : List (List Event)). (event.Refused k ∷ []) ∷ os) (ih .0), ih .1)
+      go (done es v) c ih = rw (c .clear) (refl, refl)
 
   held-seen : (n : ℕ) (t : T) → outcomeHeld C n t → heldIn A n t
-  held-seen n t h = rw (rounds-offers (suc n) t) (List·getD-map eventsOf (outcomeRounds C (suc n) t .offers) n (done [] t) ∙ ap eventsOf h)
+  held-seen n t h = rw (rounds-offers (suc n) t .0) (List·getD-map eventsOf (outcomeRounds C (suc n) t .offers) n (done [] t) ∙ ap eventsOf h)
 
   pub demand-seen : (t : T) → Settles C t → Demand3 A t
   demand-seen t d = record {
     settles = ⊎-elim
-        (λ h. inl (accepted-same (suc (waits A t)) t ∙ h))
+        (λ h. inl (rounds-offers (suc (waits A t)) t .1 ∙ h))
         (λ h. inr (λ j. held-seen (waits A t + j) t (h j)))
         (d .settles);
     strikes = λ n. struck-same A quiet-acts n t;
@@ -264,13 +229,13 @@ calls-clear S x = record {
 
 -- the rounds on slices, as they are seen, are those of the calls as outcomes
 pub lent-offers : (S : Settings) (x : Access) (n : ℕ) (L : Lent) → rounds (seenCalls S x) n L .offers ≡ map eventsOf (outcomeRounds (calls S x) n L .offers)
-lent-offers S x = rounds-offers (calls S x) (calls-clear S x .offers)
+lent-offers S x n L = rounds-offers (calls S x) (calls-clear S x .offers) n L .0
 
 pub lent-turn : (S : Settings) (x : Access) (n : ℕ) (L : Lent) → comparable (rounds (seenCalls S x) n L .turn) ≡ outcomeRounds (calls S x) n L .turn
 lent-turn S x = rounds-turn (calls S x) (calls-clear S x)
 
 pub lent-accepted : (S : Settings) (x : Access) (n : ℕ) (L : Lent) → any accepts (rounds (seenCalls S x) n L .offers) ≡ any accepted (outcomeRounds (calls S x) n L .offers)
-lent-accepted S x = accepted-same (calls S x) (calls-clear S x .offers)
+lent-accepted S x n L = rounds-offers (calls S x) (calls-clear S x .offers) n L .1
 
 -- ---- demand 3: any settings in range, any sound tables, any well-formed access
 
@@ -299,11 +264,8 @@ demand-3-tells {T} C t d h =
     no-more (but11 (drain C t .events)) (but11 (o .events)) (sym (simp (append-nil, but11-append) at e))
 
 -- a library whose send and fill do nothing and whose offers are refused as 6, which moves the current cycle
-abbrev cycleMoved : Tables → Tables
-cycleMoved t = withNow (suc (t .now)) t
-
 abbrev pub leaky : SeenCalls Tables
-leaky = record { sends = λ t. still t; fills = λ a t. still t; offers = λ t. record { events = event.Refused SetHeld ∷ []; left = cycleMoved t }; tables = λ t. t }
+leaky = record { sends = λ t. still t; fills = λ a t. still t; offers = λ t. record { events = event.Refused SetHeld ∷ []; left = withNow (suc (t .now)) t }; tables = λ t. t }
 
 pub not-demand-3-of-a-leaky-library : (t : Tables) → Demand3 leaky t → ⊥
 not-demand-3-of-a-leaky-library t d =
@@ -317,12 +279,9 @@ silent = record { sends = λ t. still t; fills = λ a t. still t; offers = λ t.
 silent-offers : (n : ℕ) (t : Tables) → (any accepts (rounds silent n t .offers) ≡ false) × ((i : ℕ) → getD (rounds silent n t .offers) i [] ≡ [])
 unfolding rounds
 silent-offers zero t = (refl, λ i. refl)
-silent-offers (suc n) t = let (none, told) = silent-offers n (drain silent t .left) in (none, λ i. at-place i told)
-  where
-    at-place : (i : ℕ) → ((j : ℕ) → getD (rounds silent n (drain silent t .left) .offers) j [] ≡ [])
-        → getD ([] ∷ rounds silent n (drain silent t .left) .offers) i [] ≡ []
-    at-place zero h = refl
-    at-place (suc i) h = h i
+silent-offers (suc n) t =
+    let (none, told) = silent-offers n (drain silent t .left) in
+    (none, by-suc (λ i. getD ([] ∷ rounds silent n (drain silent t .left) .offers) i [] ≡ []) refl told)
 
 pub not-demand-3-of-a-silent-library : (t : Tables) → Demand3 silent t → ⊥
 not-demand-3-of-a-silent-library t d =

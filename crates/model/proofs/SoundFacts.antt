@@ -54,10 +54,6 @@ pub record LineIs (S : Settings) (now i : ℕ) (l : Line) : Type 0 where
   pub since : leb (l .taken) (l .cycle) ≡ true
   pub tagged : pick (whollyInvalid l) (eqb (l .tag) 0 && eqb (l .cycle) 0 && eqb (l .taken) 0) (goodBlock (l .tag) && eqb (setIndex S (l .tag)) (i / S .ways)) ≡ true
 
-pub line-parts : (S : Settings) (now i : ℕ) (l : Line) → lineOk S now i l ≡ true → LineIs S now i l
-unfolding lineOk
-line-parts S now i l h = search (and-1, and-2) depth 9
-
 pub line-whole : (S : Settings) (now i : ℕ) (l : Line) → LineIs S now i l → lineOk S now i l ≡ true
 unfolding lineOk
 line-whole S now i l h = rw (h .four, h .sectorly, h .past, h .since, h .tagged)
@@ -138,32 +134,26 @@ module _ (S : Settings) (t : Tables) (ok : Sound S t) where
   trees-are = eqb-true (length (t .trees)) (S .sets) (ok .treed)
 
   pub line-at : (i : ℕ) → i < length (t .lines) → LineIs S (t .now) i (getD (t .lines) i fresh)
-  line-at i h =
-      line-parts S (t .now) i (getD (t .lines) i fresh)
-      (every-at (λ j. lineOk S (t .now) j (getD (t .lines) j fresh)) (linesOf S) i (ok .lined) (rw lines-are at h))
+  unfolding lineOk
+  line-at i h = let e = every-at (λ j. lineOk S (t .now) j (getD (t .lines) j fresh)) (linesOf S) i (ok .lined) (rw lines-are at h) in search (and-1, and-2) depth 9
+
+  line-facts : (l : Line) → In l (t .lines) → (i : ℕ) × LineIs S (t .now) i l
+  line-facts l m = let (i, h, e) = in-index (t .lines) fresh l m in (i, rw e at (line-at i h))
 
   pub four-at : (l : Line) → In l (t .lines) → length (l .sectors) ≡ 4
-  four-at l m =
-      let (i, h, e) = in-index (t .lines) fresh l m in
-      eqb-true (length (l .sectors)) 4 (ap (λ (v : Line). eqb (length (v .sectors)) 4) (sym e) ∙ line-at i h .four)
+  four-at l m = eqb-true (length (l .sectors)) 4 (line-facts l m .1 .four)
 
   -- taken no later than the current cycle
   pub since-at : (l : Line) → In l (t .lines) → l .taken ≤ t .now
-  since-at l m =
-      let (i, h, e) = in-index (t .lines) fresh l m in
-      let k : LineIs S (t .now) i l = rw e at (line-at i h) in
-      omega (arith, leb-true (l .taken) (l .cycle) (k .since), leb-true (l .cycle) (t .now) (k .past))
+  since-at l m = let (i, k) = line-facts l m in omega (arith, leb-true (l .taken) (l .cycle) (k .since), leb-true (l .cycle) (t .now) (k .past))
 
   pub sectors-at : (l : Line) → In l (t .lines) → all sectorOk (l .sectors) ≡ true
-  sectors-at l m =
-      let (i, h, e) = in-index (t .lines) fresh l m in
-      ap (λ (v : Line). all sectorOk (v .sectors)) (sym e) ∙ line-at i h .sectorly
+  sectors-at l m = line-facts l m .1 .sectorly
 
   -- the tag of a line that isn't wholly invalid
   pub live-tag-good : (l : Line) → In l (t .lines) → whollyInvalid l ≡ false → goodBlock (l .tag) ≡ true
   live-tag-good l m u =
-      let (i, h, e) = in-index (t .lines) fresh l m in
-      let k : LineIs S (t .now) i l = rw e at (line-at i h) in
+      let (i, k) = line-facts l m in
       let q : (goodBlock (l .tag) && eqb (setIndex S (l .tag)) (i / S .ways)) ≡ true = rw u at (k .tagged) in
       and-1 (goodBlock (l .tag)) _ q
 
@@ -229,12 +219,7 @@ module _ (S : Settings) (t : Tables) (ok : Sound S t) where
 pub queued-parts : (es : List Entry) (x : Queued) → queuedOk es x ≡ true
     → (length (x .masks) ≡ 4) × (all (λ m. leb m allOnes) (x .masks) ≡ true) × (kindOk es (x .kind) (x .address) (x .masks) ≡ true)
 unfolding queuedOk
-queued-parts es x h =
-    let four : Bool = eqb (length (x .masks)) 4 in
-    let small : Bool = all (λ m. leb m allOnes) (x .masks) in
-    let asked : Bool = kindOk es (x .kind) (x .address) (x .masks) in
-    let shape : (four && small) ≡ true = and-1 (four && small) asked h in
-    (eqb-true (length (x .masks)) 4 (and-1 four small shape), and-2 four small shape, and-2 (four && small) asked h)
+queued-parts es x h = (eqb-true (length (x .masks)) 4 (search (and-1, and-2)), search (and-1, and-2), search (and-1, and-2))
 
 kind-when : (es fs : List Entry) (k : QueueKind) (a : ℕ) (ms : List ℕ) → (isFetch k ≡ true → any (unsentFor a) es ≡ true → any (unsentFor a) fs ≡ true)
     → kindOk es k a ms ≡ true → kindOk fs k a ms ≡ true
@@ -247,9 +232,8 @@ pub queued-when : (es fs : List Entry) (x : Queued)
     → queuedOk es x ≡ true → queuedOk fs x ≡ true
 unfolding queuedOk
 queued-when es fs x f h =
-    let shape : Bool = eqb (length (x .masks)) 4 && all (λ m. leb m allOnes) (x .masks) in
-    let asked : Bool = kindOk es (x .kind) (x .address) (x .masks) in
-    and-i (and-1 shape asked h) (kind-when es fs (x .kind) (x .address) (x .masks) f (and-2 shape asked h))
+    let (four, small, asked) = queued-parts es x h in
+    and-i (and-i (eq-eqb (length (x .masks)) 4 four) small) (kind-when es fs (x .kind) (x .address) (x .masks) f asked)
 
 kind-unsent : (es : List Entry) (k : QueueKind) (a : ℕ) (ms : List ℕ) → isFetch k ≡ true → kindOk es k a ms ≡ true → any (unsentFor a) es ≡ true
 kind-unsent es queue.Read a ms f h = and-1 (any (unsentFor a) es) (all (λ m. eqb m 0) ms) h

@@ -1,6 +1,6 @@
 -- Laws of the bits of a number: one bit read, one bit put, and a test of the low bits.
 use mathlib.Core.Path.{_≡_, refl, sym, ap, _∙_}
-use mathlib.Core.Logic.{_⊎_, inl, inr}
+use mathlib.Core.Logic.{_⊎_, inl, inr, ⊎-elim}
 use mathlib.Core.Bool.{Bool, true, false, not, _&&_, or-false}
 use Prim.Native.Nat.{ℕ, zero, suc, _+_, _*_, _/_, _%_, _^_, _≤_, _<_, max}
 use native.Mathlib.Nat.{pow-suc, mod-one, div-one, zero-div}
@@ -59,7 +59,6 @@ unfolding withBit
 put-below zero t i h l b c = absurd (omega arith)
 put-below (suc k) t zero h l b c = let e = pow-suc 2 k in omega arith
 put-below (suc k) t (suc i) h l b c =
-    let e = pow-suc 2 k in
     let r : withBit (t / 2) i h < 2 ^ k = put-below k (t / 2) i h l (omega arith) (omega arith) in
     omega arith
 
@@ -72,7 +71,6 @@ or-puts t zero =
     let z = or-zero-r (t / 2) in
     or-step t 1 ∙ rw (z, m)
 or-puts t (suc i) =
-    let e = pow-suc 2 i in
     let q : 2 ^ suc i / 2 ≡ 2 ^ i = omega arith in
     let r : 2 ^ suc i % 2 ≡ 0 = omega arith in
     let m : max (t % 2) 0 ≡ t % 2 = omega arith in
@@ -126,12 +124,10 @@ module _ (p : ℕ → Bool) where
   masked-start v = let z : 0 / 2 ^ v ≡ 0 = zero-div (2 ^ v) in rw (z, le-ltb v 0 (omega arith))
 
   masked-step : (w m : ℕ) → Masked w m → (n : ℕ) → isIn n w ≡ p w → ((v : ℕ) → (w ≡ v → ⊥) → isIn n v ≡ isIn m v) → Masked (w + 1) n
-  masked-step w m f n here else v = go (flag (eqb w v)) (flag (ltb v w))
-    where
-      go : (eqb w v ≡ true) ⊎ (eqb w v ≡ false) → (ltb v w ≡ true) ⊎ (ltb v w ≡ false) → isIn n v ≡ (ltb v (w + 1) && p v)
-      go (inl e) d = let q = eqb-true w v e in let l = lt-ltb v (w + 1) (omega arith) in ap (isIn n) (sym q) ∙ here ∙ rw l (ap p q)
-      go (inr e) (inl d) = let l = lt-ltb v (w + 1) (omega (arith, ltb-true v w d)) in else v (eqb-false w v e) ∙ f v ∙ rw (d, l)
-      go (inr e) (inr d) = let l = le-ltb v (w + 1) (past (ltb-false v w d) (eqb-false w v e)) in else v (eqb-false w v e) ∙ f v ∙ rw (d, l)
+  masked-step w m f n here else v =
+      ⊎-elim (λ e. let q = eqb-true w v e in let l = lt-ltb v (w + 1) (omega arith) in ap (isIn n) (sym q) ∙ here ∙ rw l (ap p q))
+      (λ e. ⊎-elim (λ (d : ltb v w ≡ true). let l = lt-ltb v (w + 1) (omega (arith, ltb-true v w d)) in else v (eqb-false w v e) ∙ f v ∙ rw (d, l))
+      (λ (d : ltb v w ≡ false). let l = le-ltb v (w + 1) (past (ltb-false v w d) (eqb-false w v e)) in else v (eqb-false w v e) ∙ f v ∙ rw (d, l)) (flag (ltb v w))) (flag (eqb w v))
 
   pub masked-yes : (w m : ℕ) {b : Bool} {n : ℕ} → b ≡ p w → b ≡ true → n ≡ withBit m w 1 → Masked w m → Masked (w + 1) n
   masked-yes w m {n = n} is yes' e f =

@@ -5,7 +5,7 @@ use mathlib.Core.Logic.{_⊎_, inl, inr, ⊎-elim}
 use mathlib.Core.Bool.{Bool, true, false, _&&_}
 use mathlib.Core.List.{List, [], _∷_}
 use Prim.Native.Nat.{ℕ, zero, suc, _+_, _*_, _-_, _/_, _%_, _^_, _≤_, _<_}
-use native.Mathlib.Nat.{pow-suc, mul-assoc, add-mul, add-zero, mul-le-mul, eq-or-lt-of-le, le-of-suc-le-suc}
+use native.Mathlib.Nat.{pow-suc, mul-assoc, add-zero, mul-le-mul, eq-or-lt-of-le, le-of-suc-le-suc}
 use native.Mathlib.Omega.{arith}
 use lib.Pow.{pow-pos, high}
 use lib.Dec.{eqb, leb, ltb}
@@ -19,11 +19,7 @@ use Rattle.words.proofs.Below.{some-at, some-i, some-same}
 use Rattle.words.proofs.Lists.{In, all-in, any-in}
 use Rattle.model.proofs.TreeBits.{bit-two, halves, put-same, put-other, put-below}
 
--- ---- halves of a span
-
--- as the descent takes them
-double : (k : ℕ) → 2 ^ suc k ≡ 2 ^ k + 2 ^ k
-double k = let e = pow-suc 2 k in omega arith
+-- ---- halves of a span, as the descent takes them
 
 module _ (p : ℕ → Bool) where
   some-in : (first width w : ℕ) → first ≤ w → w < first + width → p w ≡ true → someFrom p first width ≡ true
@@ -31,26 +27,18 @@ module _ (p : ℕ → Bool) where
       let s : first + (w - first) ≡ w = omega arith in
       some-i (λ i. p (first + i)) width (w - first) (omega arith) (ap p s ∙ e)
 
-  in-some : (first width : ℕ) → someFrom p first width ≡ true → (w : ℕ) × (first ≤ w) × (w < first + width) × (p w ≡ true)
-  in-some first width e = let (i, h, t) = some-at (λ i. p (first + i)) width e in (first + i, omega arith, omega arith, t)
-
   -- a candidate of a span stands in one of its halves
   in-half : (k first : ℕ) → someFrom p first (2 ^ suc k) ≡ true
       → (someFrom p (first + 0 * 2 ^ k) (2 ^ k) ≡ true) ⊎ (someFrom p (first + 1 * 2 ^ k) (2 ^ k) ≡ true)
   in-half k first e =
-      let (w, a, b, t) = in-some first (2 ^ suc k) e in
-      let d = double k in
-      ⊎-elim (λ l. let h = ltb-true w (first + 2 ^ k) l in inl (some-in (first + 0 * 2 ^ k) (2 ^ k) w (omega arith) (omega arith) t))
-      (λ l. let h = ltb-false w (first + 2 ^ k) l in inr (some-in (first + 1 * 2 ^ k) (2 ^ k) w (omega arith) (omega arith) t))
-      (flag (ltb w (first + 2 ^ k)))
+      let (i, a, t) = some-at (λ i. p (first + i)) (2 ^ suc k) e in
+      ⊎-elim (λ l. let h = ltb-true i (2 ^ k) l in inl (some-in (first + 0 * 2 ^ k) (2 ^ k) (first + i) (omega arith) (omega arith) t))
+      (λ l. let h = ltb-false i (2 ^ k) l in inr (some-in (first + 1 * 2 ^ k) (2 ^ k) (first + i) (omega arith) (omega arith) t))
+      (flag (ltb i (2 ^ k)))
 
 -- a half of a span lies in it
 half-inside : (k first w : ℕ) {h : ℕ} → h < 2 → first + h * 2 ^ k ≤ w → w < first + h * 2 ^ k + 2 ^ k → (first ≤ w) × (w < first + 2 ^ suc k)
-half-inside k first w {h} l a b =
-    let d = double k in
-    ⊎-elim (λ z. let a' : first + 0 * 2 ^ k ≤ w = rw z at a in let b' : w < first + 0 * 2 ^ k + 2 ^ k = rw z at b in (omega arith, omega arith))
-    (λ z. let a' : first + 1 * 2 ^ k ≤ w = rw z at a in let b' : w < first + 1 * 2 ^ k + 2 ^ k = rw z at b in (omega arith, omega arith))
-    (halves l)
+half-inside k first w {h} l a b = let g : h * 2 ^ k ≤ 1 * 2 ^ k = mul-le-mul (omega arith) (omega arith) in (omega arith, omega arith)
 
 -- ---- the choice
 
@@ -66,16 +54,12 @@ module _ (p : ℕ → Bool) (t : ℕ) where
   unfolding goes
   goes-well k n first e =
       by-flag (λ (h : ℕ). someFrom p (first + h * 2 ^ k) (2 ^ k) ≡ true) (someFrom p (first + named t n * 2 ^ k) (2 ^ k)) (named t n) (1 - named t n)
-      (λ y. y) (λ none. other (halves (bit-two t (n - 1))) none)
-    where
-      other : (named t n ≡ 0) ⊎ (named t n ≡ 1) → someFrom p (first + named t n * 2 ^ k) (2 ^ k) ≡ false
-          → someFrom p (first + (1 - named t n) * 2 ^ k) (2 ^ k) ≡ true
-      other (inl z) none =
-          let none' : someFrom p (first + 0 * 2 ^ k) (2 ^ k) ≡ false = rw z at none in
-          rw z (⊎-elim (λ y. clash y none') (λ y. y) (in-half p k first e))
-      other (inr z) none =
-          let none' : someFrom p (first + 1 * 2 ^ k) (2 ^ k) ≡ false = rw z at none in
-          rw z (⊎-elim (λ y. y) (λ y. clash y none') (in-half p k first e))
+      (λ y. y) (λ none. ⊎-elim
+      (λ z. let zero-none : someFrom p (first + 0 * 2 ^ k) (2 ^ k) ≡ false = rw z at none in
+      rw z (⊎-elim (λ y. clash y zero-none) (λ y. y) (in-half p k first e)))
+      (λ z. let one-none : someFrom p (first + 1 * 2 ^ k) (2 ^ k) ≡ false = rw z at none in
+      rw z (⊎-elim (λ y. y) (λ y. clash y one-none) (in-half p k first e)))
+      (halves (bit-two t (n - 1))))
 
   -- one of the ways of the span
   pub descent-is-way : (k n first : ℕ) → (first ≤ descent p t k n first) × (descent p t k n first < first + 2 ^ k)
@@ -143,7 +127,6 @@ side-two k first w = by-flag (λ (h : ℕ). h < 2) (ltb w (first + 2 ^ k)) 0 1 (
 pub path-leads : (k first w : ℕ) → first ≤ w → w < first + 2 ^ suc k
     → (first + sideOf k first w * 2 ^ k ≤ w) × (w < first + sideOf k first w * 2 ^ k + 2 ^ k)
 path-leads k first w a b =
-    let d = double k in
     by-flag (λ (h : ℕ). (first + h * 2 ^ k ≤ w) × (w < first + h * 2 ^ k + 2 ^ k)) (ltb w (first + 2 ^ k)) 0 1
     (λ e. let l = ltb-true w (first + 2 ^ k) e in (omega arith, omega arith)) (λ e. let l = ltb-false w (first + 2 ^ k) e in (omega arith, omega arith))
 
@@ -158,7 +141,6 @@ pub turned-others : (t k n first w m : ℕ) → 1 ≤ n → 1 ≤ m → ((s : St
 unfolding turned
 turned-others t zero n first w m l j f = refl
 turned-others t (suc k) n first w m l j f =
-    let u = side-two k first w in
     let d : n - 1 ≡ m - 1 → ⊥ = λ e. f (record { node = n; half = sideOf k first w }) (inl refl) (omega arith) in
     turned-others (pointed t n (1 - sideOf k first w)) k _ _ w m (omega arith) j (λ s i. f s (inr i))
     ∙ put-other t (n - 1) (m - 1) (1 - sideOf k first w) (omega arith) d
@@ -168,7 +150,6 @@ pub turned-path : (t k n first w : ℕ) (s : Step) → 1 ≤ n → In s (path k 
 unfolding turned
 turned-path t zero n first w s l i = absurd i
 turned-path t (suc k) n first w s l (inl e) =
-    let u = side-two k first w in
     let f : (x : Step) → In x (path k (2 * n + sideOf k first w) (first + sideOf k first w * 2 ^ k) w) → x .node ≡ n → ⊥ =
     λ x i q. let r = path-below k (2 * n + sideOf k first w) _ w x (omega arith) i in omega arith in
     rw e (turned-others (pointed t n (1 - sideOf k first w)) k _ _ w n (omega arith) l f ∙ put-same t (n - 1) (1 - sideOf k first w) (omega arith))
@@ -183,10 +164,7 @@ leaf k n first w = n * 2 ^ k + (w - first)
 module _ (k n first w : ℕ) (from : first ≤ w) (to : w < first + 2 ^ suc k) where
   leaf-same : leaf k (2 * n + sideOf k first w) (first + sideOf k first w * 2 ^ k) w ≡ leaf (suc k) n first w
   leaf-same =
-      let h : ℕ = sideOf k first w in
       let e : n * 2 ^ suc k ≡ n * 2 ^ k * 2 = ap (λ (x : ℕ). n * x) (pow-suc 2 k) ∙ sym (mul-assoc n (2 ^ k) 2) in
-      let c : (2 * n + h) * 2 ^ k ≡ 2 * n * 2 ^ k + h * 2 ^ k = add-mul (2 * n) h (2 ^ k) in
-      let a : 2 * n * 2 ^ k ≡ 2 * (n * 2 ^ k) = mul-assoc 2 n (2 ^ k) in
       omega (arith, path-leads k first w from to)
 
   leaf-node : n ≡ leaf (suc k) n first w / 2 ^ suc k
@@ -216,17 +194,12 @@ above x j = record { node = x / 2 ^ suc j; half = x / 2 ^ j % 2 }
 path-to : (k n first w : ℕ) → first ≤ w → w < first + 2 ^ k → (j : ℕ) → j < k → In (above (leaf k n first w) j) (path k n first w)
 path-to zero n first w a b j l = absurd (omega arith)
 path-to (suc k) n first w a b j l =
-    ⊎-elim here
+    ⊎-elim
+    (λ e. inl (rw e (λ i. record { node = sym (leaf-node k n first w a b) i; half = sym (leaf-half k n first w a b) i })))
     (λ m. let c = path-leads k first w a b in
-    there (path-to k (2 * n + sideOf k first w) (first + sideOf k first w * 2 ^ k) w (c .0) (c .1) j m))
+    let r = path-to k (2 * n + sideOf k first w) (first + sideOf k first w * 2 ^ k) w (c .0) (c .1) j m in
+    inr (subst (λ (x : ℕ). In (above x j) (path k (2 * n + sideOf k first w) (first + sideOf k first w * 2 ^ k) w)) (leaf-same k n first w a b) r))
     (eq-or-lt-of-le (le-of-suc-le-suc l))
-  where
-    here : j ≡ k → In (above (leaf (suc k) n first w) j) (path (suc k) n first w)
-    here e = inl (rw e (λ i. record { node = sym (leaf-node k n first w a b) i; half = sym (leaf-half k n first w a b) i }))
-
-    there : In (above (leaf k (2 * n + sideOf k first w) (first + sideOf k first w * 2 ^ k) w) j) (path k (2 * n + sideOf k first w) (first + sideOf k first w * 2 ^ k) w)
-        → In (above (leaf (suc k) n first w) j) (path (suc k) n first w)
-    there r = inr (subst (λ (x : ℕ). In (above x j) (path k (2 * n + sideOf k first w) (first + sideOf k first w * 2 ^ k) w)) (leaf-same k n first w a b) r)
 
 root : (k w : ℕ) → leaf k 1 0 w ≡ 2 ^ k + w
 root k w = omega arith
@@ -250,16 +223,7 @@ nodes-down n k N l =
     let d = pow-suc 2 k in
     let e : n * 2 ^ suc k ≡ n * 2 ^ k * 2 = ap (λ (x : ℕ). n * x) d ∙ sym (mul-assoc n (2 ^ k) 2) in
     let m : n * 1 ≤ n * 2 ^ k = mul-le-mul (omega arith) (pow-pos k) in
-    (omega (arith, pow-pos k), λ h b. ⊎-elim (λ z. rw z (below 0 (omega arith))) (λ z. rw z (below 1 (omega arith))) (halves b))
-  where
-    below : (h : ℕ) → h < 2 → (2 * n + h) * 2 ^ k + 2 ^ k ≤ N * 2
-    below h b =
-        let d = pow-suc 2 k in
-        let e : n * 2 ^ suc k ≡ n * 2 ^ k * 2 = ap (λ (x : ℕ). n * x) d ∙ sym (mul-assoc n (2 ^ k) 2) in
-        let c : (2 * n + h) * 2 ^ k ≡ 2 * n * 2 ^ k + h * 2 ^ k = add-mul (2 * n) h (2 ^ k) in
-        let a : 2 * n * 2 ^ k ≡ 2 * (n * 2 ^ k) = mul-assoc 2 n (2 ^ k) in
-        let g : h * 2 ^ k ≤ 1 * 2 ^ k = mul-le-mul (omega arith) (omega arith) in
-        omega arith
+    (omega (arith, pow-pos k), λ h b. let g : h * 2 ^ k ≤ 1 * 2 ^ k = mul-le-mul (omega arith) (omega arith) in omega arith)
 
 pub turned-below : (N t k n first w : ℕ) → 1 ≤ n → n * 2 ^ k + 2 ^ k ≤ N * 2 → t < 2 ^ (N - 1) → turned t k n first w < 2 ^ (N - 1)
 unfolding turned
@@ -285,8 +249,7 @@ halvings-reach zero n l = omega arith
 halvings-reach (suc f) n l =
     by-flag (λ (k : ℕ). n ≤ 2 ^ k) (leb n 1) 0 (suc (halvings f ((n + 1) / 2)))
     (λ e. leb-true n 1 e)
-    (λ e. let d = double (halvings f ((n + 1) / 2)) in
-    let g = leb-false n 1 e in
+    (λ e. let g = leb-false n 1 e in
     let r = halvings-reach f ((n + 1) / 2) (omega arith) in omega arith)
 
 -- no way is left out, whatever their number

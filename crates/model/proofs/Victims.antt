@@ -1,19 +1,17 @@
 -- What document 01 says of the victim, its write-back and the queue, as laws of the definitions.
 use Prim.Native.Nat.{ℕ, _≤_, _<_}
-use mathlib.Core.Path.{_≡_, refl, sym, ap, _∙_}
+use mathlib.Core.Path.{_≡_, refl, ap}
 use mathlib.Core.Logic.{_⊎_, inl, inr, ⊎-elim}
 use mathlib.Core.Bool.{Bool, true, false, not, _&&_, true≢false}
-use mathlib.Core.List.{List, [], _∷_, map}
+use mathlib.Core.List.{List, [], map}
 use native.Mathlib.Omega.{arith}
 use lib.ListN.{length, getD, length-append}
 use lib.Dec.{eqb, leb}
 use borrow.Author.Tests.{eqb-true, leb-true, leb-false}
-use Rattle.words.specs.Words.{pick}
-use Rattle.model.specs.Address.{blockOf, addressOf}
-use Rattle.model.specs.Tables.{Line, writing, Tables, done, isReserved, isModified, whollyInvalid, hasReserved, dirty, holds, fresh}
+use Rattle.model.specs.Tables.{Line, writing, Tables, done, isReserved, isModified, whollyInvalid, hasReserved, dirty, fresh}
 use Rattle.model.specs.Sound.{maskOk, sectorOk, sound}
 use Rattle.model.specs.Tree.{treeChoice, levels}
-use Rattle.model.specs.Probe.{waysOf, enoughDirty, candidate, first, last, earliest, Rule, byKey, byTree, choiceBy, orElse, victim, Spot, at, takeOver, meet, probe, ruleOf}
+use Rattle.model.specs.Probe.{waysOf, enoughDirty, candidate, last, Rule, byKey, byTree, choiceBy, orElse, victim, Spot, at, probe, ruleOf}
 use Rattle.model.specs.Steps.{takesLine, fetches, queues, placesNeeded, accept, access}
 use Rattle.model.specs.Meetings.{Matched, Replaced, Queues}
 use Rattle.model.specs.declared.Settings.{Settings}
@@ -21,17 +19,16 @@ use Rattle.model.specs.declared.Status.{Status}
 use Rattle.model.specs.declared.Status.the-variants.{Invalid, Reserved, Valid, Modified}
 use Rattle.model.specs.declared.Sector.{Sector}
 use Rattle.model.specs.declared.Queued.{Queued}
-use Rattle.model.specs.declared.Answer.the-variants.{Miss}
 use Rattle.model.specs.declared.Access.{Access}
 use Rattle.model.specs.declared.Event.{Event}
 use Rattle.model.specs.declared.Found.{Found}
 use Rattle.model.specs.declared.Found.the-variants.{At, Nothing}
-use Rattle.words.proofs.Flags.{and-1, and-2, and-i, flag, not-yes, no-yes, clash}
+use Rattle.words.proofs.Flags.{and-1, and-2, and-i, flag, not-yes, no-yes, clash, by-flag}
 use Rattle.words.proofs.Lists.{In, all-in, in-any, in-getD}
 use Rattle.model.proofs.SoundFacts.{parts, sectors-at}
-use Rattle.model.proofs.Ways.{Finds, last-finds, victim-finds, Last, last-is-last, Least, earliest-is-least, way-in}
+use Rattle.model.proofs.Ways.{Finds, last-finds, victim-finds, Last, last-is-last, earliest-is-least, probe-by, way-in}
 use Rattle.model.proofs.AccessCases.{access-judged}
-use Rattle.model.proofs.ProbeFindsSpot.{fetches-one, back-one}
+use Rattle.model.proofs.ProbeFindsSpot.{fetches-one}
 
 -- ---- the victim
 
@@ -66,36 +63,25 @@ module _ (R : Rule) (S : Settings) (d : ℕ) (ways : List Line) (w : ℕ) (chose
             ⊎-elim (λ l. leb-true v w l) (λ l. clash (and-i c u) (g v (omega (arith, leb-false v w l)) h)) (flag (leb v w)),
           )
 
+  -- where it isn't wholly invalid, the rule chose it
+  victim-chosen : whollyInvalid (getD ways w fresh) ≡ false → choiceBy R able ways ≡ At w
+  victim-chosen u = go (last vacant ways) chosen (last-finds vacant ways)
+    where
+      go : (r : Found) → orElse r (choiceBy R able ways) ≡ At w → Finds vacant ways r → choiceBy R able ways ≡ At w
+      go Nothing e f = e
+      go (At q) e f = let i : q ≡ w = cc in clash (and-2 (able (getD ways w fresh)) (whollyInvalid (getD ways w fresh)) (rw i at (f .1))) u
+
 -- "with none, the candidate with the earliest cycle, the lowest way among equals": under a rule by a key
 module _ (key : Line → ℕ) (S : Settings) (d : ℕ) (ways : List Line) (w : ℕ) (chosen : victim (byKey key) S d ways ≡ At w) where
   pub victim-earliest : whollyInvalid (getD ways w fresh) ≡ false → (v : ℕ) → v < length ways
       → candidate (enoughDirty S d) (getD ways v fresh) ≡ true
       → (key (getD ways w fresh) ≤ key (getD ways v fresh)) × (v < w → key (getD ways w fresh) < key (getD ways v fresh))
-  victim-earliest u v h c = go (last empties ways) chosen (last-finds empties ways)
-    where
-      fit : Line → Bool
-      fit = candidate (enoughDirty S d)
-
-      empties : Line → Bool
-      empties l = fit l && whollyInvalid l
-
-      go : (r : Found) → orElse r (earliest key fit ways) ≡ At w → Finds empties ways r
-          → (key (getD ways w fresh) ≤ key (getD ways v fresh)) × (v < w → key (getD ways w fresh) < key (getD ways v fresh))
-      go Nothing e f = let g : Least key fit ways (At w) = rw e at (earliest-is-least key fit ways) in g v h c
-      go (At q) e f = let i : q ≡ w = cc in clash (and-2 (fit (getD ways w fresh)) (whollyInvalid (getD ways w fresh)) (rw i at (f .1))) u
+  victim-earliest u = rw (victim-chosen (byKey key) S d ways w chosen u) at (earliest-is-least key (candidate (enoughDirty S d)) ways)
 
 -- under a rule by a tree: the choice of its descent
 pub victim-by-tree : (t : ℕ) (S : Settings) (d : ℕ) (ways : List Line) (w : ℕ) → victim (byTree t) S d ways ≡ At w → whollyInvalid (getD ways w fresh) ≡ false
     → treeChoice (λ v. getD (map (candidate (enoughDirty S d)) ways) v false) t (levels (length ways)) ≡ At w
-victim-by-tree t S d ways w chosen u = go (last empties ways) chosen (last-finds empties ways)
-  where
-    empties : Line → Bool
-    empties l = candidate (enoughDirty S d) l && whollyInvalid l
-
-    go : (r : Found) → orElse r (choiceBy (byTree t) (candidate (enoughDirty S d)) ways) ≡ At w → Finds empties ways r
-        → choiceBy (byTree t) (candidate (enoughDirty S d)) ways ≡ At w
-    go Nothing e f = e
-    go (At q) e f = let i : q ≡ w = cc in clash (and-2 (candidate (enoughDirty S d) (getD ways w fresh)) (whollyInvalid (getD ways w fresh)) (rw i at (f .1))) u
+victim-by-tree t = victim-chosen (byTree t)
 
 -- without a victim no way is a candidate
 pub victim-none : (R : Rule) (S : Settings) (d : ℕ) (ways : List Line) → victim R S d ways ≡ Nothing → (l : Line) → In l ways
@@ -105,21 +91,10 @@ victim-none R S d ways e = let f : Finds (candidate (enoughDirty S d)) ways Noth
 -- ---- what the probe meets: a way that matches, or a victim
 
 module _ (R : Rule) (S : Settings) (d : ℕ) (ways : List Line) (x : Access) (p : Spot) where
-  over-meets : first (holds (blockOf (addressOf x))) ways ≡ Nothing → (v : Found) → victim R S d ways ≡ v
-      → takeOver (addressOf x) ways v ≡ at p → Replaced R S d ways x p
-  over-meets f Nothing e h = let z : _≡_ {A = ℕ} 0 1 = cc in absurd (omega arith)
-  over-meets f (At w) e h =
-      let i : w ≡ p .way = cc in
-      record { none = f; way = e ∙ ap At i; answer = cc; backs = cc }
-
-  meet-meets : (v : Found) → first (holds (blockOf (addressOf x))) ways ≡ v → meet R S d ways x v ≡ at p
-      → Matched ways x p ⊎ Replaced R S d ways x p
-  meet-meets Nothing f h = inr (over-meets f (victim R S d ways) refl h)
-  meet-meets (At w) f h = inl (record { way = cc; line = cc; backs = cc })
-
   pub probe-meets : probe R S d ways x ≡ at p → Matched ways x p ⊎ Replaced R S d ways x p
-  unfolding probe
-  probe-meets h = meet-meets (first (holds (blockOf (addressOf x))) ways) refl h
+  probe-meets =
+      probe-by R S d ways x (λ (q : Spot). Matched ways x q ⊎ Replaced R S d ways x q) (λ w f. inl (record { way = f; line = refl; backs = refl }))
+      (λ f w v. inr (record { none = f; way = v; answer = refl; backs = refl })) p
 
   -- ---- the write-back
 
@@ -127,28 +102,16 @@ module _ (R : Rule) (S : Settings) (d : ℕ) (ways : List Line) (x : Access) (p 
   pub write-back-is-victims : probe R S d ways x ≡ at p → (b : ℕ) (ms : List ℕ) → In (writing b ms) (p .backs)
       → (victim R S d ways ≡ At (p .way)) × (dirty (getD ways (p .way) fresh) ≡ true)
       × (b ≡ getD ways (p .way) fresh .tag) × (ms ≡ map (λ (s : Sector). s .mask) (getD ways (p .way) fresh .sectors))
-  write-back-is-victims h b ms i = go (probe-meets h)
+  write-back-is-victims h b ms i =
+      probe-by R S d ways x (λ (q : Spot). In (writing b ms) (q .backs) → Back (q .way)) (λ w f j. absurd j)
+      (λ f w v. by-flag (λ (q : List Queued). In (writing b ms) q → Back w) (dirty (getD ways w fresh)) _ []
+      (λ e. ⊎-elim (λ q. (v, e, ap (λ (y : Queued). y .address) q, ap (λ (y : Queued). y .masks) q)) (λ q. absurd q)) (λ e j. absurd j)) p h i
     where
-      l : Line
-      l = getD ways (p .way) fresh
+      Back : ℕ → Type 0
+      Back w = (victim R S d ways ≡ At w) × (dirty (getD ways w fresh) ≡ true)
+          × (b ≡ getD ways w fresh .tag) × (ms ≡ map (λ (s : Sector). s .mask) (getD ways w fresh .sectors))
 
-      of-line : (c : Bool) → dirty l ≡ c
-          → In (writing b ms) (pick c (writing (l .tag) (map (λ (s : Sector). s .mask) (l .sectors)) ∷ []) [])
-          → (dirty l ≡ true) × (b ≡ l .tag) × (ms ≡ map (λ (s : Sector). s .mask) (l .sectors))
-      of-line true e (inl q) = (e, ap (λ (y : Queued). y .address) q, ap (λ (y : Queued). y .masks) q)
-      of-line true e (inr q) = absurd q
-      of-line false e q = absurd q
-
-      go : Matched ways x p ⊎ Replaced R S d ways x p
-          → (victim R S d ways ≡ At (p .way)) × (dirty l ≡ true) × (b ≡ l .tag) × (ms ≡ map (λ (s : Sector). s .mask) (l .sectors))
-      go (inl m) = absurd (rw (m .backs) at i)
-      go (inr r) = let (e, t, k) = of-line (dirty l) refl (rw (r .backs) at i) in (r .way, e, t, k)
-
-  -- ---- the queue
-
-  -- nothing is written back but a victim
-  pub backs-at-most-one : probe R S d ways x ≡ at p → length (p .backs) ≤ 1
-  backs-at-most-one h = ⊎-elim (λ m. rw (m .backs) (omega arith)) (λ r. rw (r .backs) (back-one (getD ways (p .way) fresh))) (probe-meets h)
+-- ---- the queue
 
 -- "an access needs exactly as many free places as it will queue"
 pub needed-is-queued : (x : Access) (p : Spot) → placesNeeded x p ≡ length (queues x p)
@@ -158,7 +121,7 @@ pub places-at-most-two : (x : Access) (p : Spot) → length (p .backs) ≤ 1 →
 places-at-most-two x p h = omega (arith, length-append (fetches x (p .answer)) (p .backs), fetches-one x (p .answer))
 
 -- on sound tables a victim's masks are its dirty bytes: a sector's isn't 0 exactly if it is MODIFIED
-mask-says-modified : (c : Status) (m : ℕ) (r : Bool) → isReserved c ≡ false → maskOk c m r ≡ true → not (eqb m 0) ≡ isModified c
+pub mask-says-modified : (c : Status) (m : ℕ) (r : Bool) → isReserved c ≡ false → maskOk c m r ≡ true → not (eqb m 0) ≡ isModified c
 mask-says-modified Invalid m r f h = rw (eqb-true m 0 (and-1 (eqb m 0) r h))
 mask-says-modified Reserved m r f h = absurd (true≢false f)
 mask-says-modified Valid m r f h = rw (eqb-true m 0 (and-1 (eqb m 0) r h))
@@ -185,17 +148,6 @@ nothing-else-queued S x t es u =
 -- ---- a line that no MISS takes is the one that stands there
 
 module _ (R : Rule) (S : Settings) (d : ℕ) (ways : List Line) (x : Access) (p : Spot) (stays : takesLine (p .answer) ≡ false) where
-  over-takes : (v : Found) → takeOver (addressOf x) ways v ≡ at p → p .line ≡ getD ways (p .way) fresh
-  over-takes Nothing e = let z : _≡_ {A = ℕ} 0 1 = cc in absurd (omega arith)
-  over-takes (At w) e = let a : p .answer ≡ Miss = cc in clash (ap takesLine a) stays
-
-  meet-stands : (f : Found) → meet R S d ways x f ≡ at p → p .line ≡ getD ways (p .way) fresh
-  meet-stands Nothing e = over-takes (victim R S d ways) e
-  meet-stands (At w) e =
-      let l : p .line ≡ getD ways w fresh = cc in
-      let v : p .way ≡ w = cc in
-      l ∙ ap (λ (i : ℕ). getD ways i fresh) (sym v)
-
   pub line-stays : probe R S d ways x ≡ at p → p .line ≡ getD ways (p .way) fresh
-  unfolding probe
-  line-stays e = meet-stands (first (holds (blockOf (addressOf x))) ways) e
+  line-stays e =
+      probe-by R S d ways x (λ (q : Spot). takesLine (q .answer) ≡ false → q .line ≡ getD ways (q .way) fresh) (λ w f s. refl) (λ f w v s. clash refl s) p e stays

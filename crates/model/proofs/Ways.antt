@@ -1,7 +1,7 @@
--- The ways of a set: what a search among them finds, and which lines of the cache they are.
+-- The ways of a set: what a search among them finds, what the probe makes of it, and which lines of the cache they are.
 use Prim.Native.Nat.{ℕ, zero, suc, _+_, _*_, _-_, _/_, _%_, _≤_, _<_, _^_, min}
 use mathlib.Core.Path.{_≡_, refl, sym, ap, subst, _∙_}
-use mathlib.Core.Logic.{inl, inr}
+use mathlib.Core.Logic.{⊎-elim}
 use mathlib.Core.Bool.{Bool, true, false, _&&_}
 use mathlib.Core.List.{List, [], _∷_, map}
 use native.Mathlib.Omega.{arith}
@@ -10,16 +10,20 @@ use lib.ListN.{length, getD, drop, length-take, length-drop}
 use lib.Seq.{getD-take, getD-drop}
 use lib.Dec.{leb}
 use borrow.Author.Tests.{leb-true, leb-false}
-use Rattle.words.specs.Words.{pick}
-use Rattle.model.specs.Address.{setIndex, lineNumber}
-use Rattle.model.specs.Tables.{Line, whollyInvalid, fresh}
+use Rattle.words.specs.Words.{pick, any}
+use Rattle.model.specs.Address.{addressOf, blockOf, sectorIndex, setIndex, lineNumber}
+use Rattle.model.specs.Tables.{Line, whollyInvalid, hasReserved, holds, empty, emptied, fresh}
 use Rattle.model.specs.Tree.{levels}
-use Rattle.model.specs.Probe.{waysOf, enoughDirty, candidate, next, orElse, first, last, older, earliest, Rule, byKey, byTree, choiceBy, victim}
+use Rattle.model.specs.Probe.{answerOf, waysOf, enoughDirty, candidate, next, orElse, first, last, older, earliest, Rule, byKey, byTree, choiceBy, victim, Spot, Place, no, at, writeBack, takeOver, meet, probe}
 use Rattle.model.specs.declared.Settings.{Settings}
+use Rattle.model.specs.declared.Access.{Access}
+use Rattle.model.specs.declared.Answer.the-variants.{Miss}
+use Rattle.model.specs.declared.Refusal.the-variants.{SetBusy, SetHeld}
 use Rattle.model.specs.declared.Found.{Found}
 use Rattle.model.specs.declared.Found.the-variants.{At, Nothing}
 use Rattle.words.proofs.Flags.{and-1, clash, by-flag}
-use Rattle.words.proofs.Lists.{In, in-getD, in-index, in-take, in-drop}
+use Rattle.words.proofs.Below.{by-suc}
+use Rattle.words.proofs.Lists.{In, in-getD, in-index, getD-map-in, in-take, in-drop}
 use Rattle.model.proofs.Trees.{Chooses, choice-chooses, levels-reach}
 
 -- ---- searches
@@ -31,11 +35,7 @@ Finds p ls (At w) = (w < length ls) × (p (getD ls w fresh) ≡ true)
 
 module _ (p : Line → Bool) (l : Line) (ls : List Line) where
   next-finds : p l ≡ false → (v : Found) → Finds p ls v → Finds p (l ∷ ls) (next v)
-  next-finds e Nothing g = go
-    where
-      go : (m : Line) → In m (l ∷ ls) → p m ≡ false
-      go m (inl q) = rw q e
-      go m (inr n) = g m n
+  next-finds e Nothing g = λ m. ⊎-elim (λ q. rw q e) (g m)
   next-finds e (At w) g = (omega (arith, g .0), g .1)
 
   last-step : (v : Found) → Finds p ls v → (b : Bool) → p l ≡ b → Finds p (l ∷ ls) (orElse (next v) (pick b (At 0) Nothing))
@@ -67,9 +67,7 @@ earliest-finds key p (l ∷ ls) =
 
 -- the flags of the ways
 pub flag-is : (p : Line → Bool) (ls : List Line) (w : ℕ) → w < length ls → getD (map p ls) w false ≡ p (getD ls w fresh)
-flag-is p [] w h = absurd (omega arith)
-flag-is p (l ∷ ls) zero h = refl
-flag-is p (l ∷ ls) (suc w) h = flag-is p ls w (omega arith)
+flag-is p ls w h = getD-map-in p ls fresh false w h
 
 flag-at : (p : Line → Bool) (ls : List Line) (w : ℕ) → getD (map p ls) w false ≡ true → (w < length ls) × (p (getD ls w fresh) ≡ true)
 flag-at p [] w e = clash e refl
@@ -99,6 +97,50 @@ victim-finds R S d ways = go (last (λ l. candidate (enoughDirty S d) l && wholl
     go Nothing g = choice-finds R (candidate (enoughDirty S d)) ways
     go (At w) g = (g .0, and-1 (candidate (enoughDirty S d) (getD ways w fresh)) (whollyInvalid (getD ways w fresh)) (g .1))
 
+-- ---- what the probe makes of the ways
+
+-- the spot at a way that holds the block, and at one that is taken
+module _ (x : Access) (ways : List Line) (w : ℕ) where
+  abbrev pub metSpot : Spot
+  metSpot = record {
+    way = w;
+    line = getD ways w fresh;
+    answer = answerOf x (getD (getD ways w fresh .sectors) (sectorIndex (addressOf x)) empty);
+    backs = [];
+  }
+
+  abbrev pub overSpot : Spot
+  overSpot = record {
+    way = w;
+    line = emptied (blockOf (addressOf x));
+    answer = Miss;
+    backs = writeBack (getD ways w fresh);
+  }
+
+module _ (R : Rule) (S : Settings) (d : ℕ) (ways : List Line) (x : Access) where
+  abbrev wayFound : Found
+  wayFound = first (holds (blockOf (addressOf x))) ways
+
+  pub probe-place : (P : Place → Type 0) → ((w : ℕ) → wayFound ≡ At w → P (at (metSpot x ways w)))
+      → (wayFound ≡ Nothing → (w : ℕ) → victim R S d ways ≡ At w → P (at (overSpot x ways w)))
+      → (victim R S d ways ≡ Nothing → P (no (pick (any hasReserved ways) SetBusy SetHeld))) → P (probe R S d ways x)
+  unfolding probe
+  probe-place P met over none = go wayFound refl
+    where
+      over-place : wayFound ≡ Nothing → (v : Found) → victim R S d ways ≡ v → P (takeOver (addressOf x) ways v)
+      over-place f Nothing e = none e
+      over-place f (At w) e = over f w e
+
+      go : (v : Found) → wayFound ≡ v → P (meet R S d ways x v)
+      go Nothing e = over-place e (victim R S d ways) refl
+      go (At w) e = met w e
+
+  pub probe-by : (P : Spot → Type 0) → ((w : ℕ) → wayFound ≡ At w → P (metSpot x ways w))
+      → (wayFound ≡ Nothing → (w : ℕ) → victim R S d ways ≡ At w → P (overSpot x ways w)) → (p : Spot) → probe R S d ways x ≡ at p → P p
+  probe-by P met over =
+      probe-place (λ (q : Place). (p : Spot) → q ≡ at p → P p) (λ w f p e. subst P (cc) (met w f)) (λ f w v p e. subst P (cc) (over f w v))
+      (λ v p e. let z : _≡_ {A = ℕ} 0 1 = cc in absurd (omega arith))
+
 -- no later way passes than the last found
 abbrev pub Last : (Line → Bool) → List Line → Found → Type 0
 Last p ls Nothing = Unit {0}
@@ -107,16 +149,11 @@ Last p ls (At w) = (v : ℕ) → w < v → v < length ls → p (getD ls v fresh)
 last-more : (p : Line → Bool) (l : Line) (ls : List Line) (r : Found) → Finds p ls r → Last p ls r → (b : Bool)
     → Last p (l ∷ ls) (orElse (next r) (pick b (At 0) Nothing))
 last-more p l ls Nothing f g false = tt
-last-more p l ls Nothing f g true = go
-  where
-    go : (v : ℕ) → 0 < v → v < length (l ∷ ls) → p (getD (l ∷ ls) v fresh) ≡ false
-    go zero h k = absurd (omega arith)
-    go (suc v) h k = f (getD ls v fresh) (in-getD ls v fresh (omega arith))
-last-more p l ls (At w) f g b = go
-  where
-    go : (v : ℕ) → suc w < v → v < length (l ∷ ls) → p (getD (l ∷ ls) v fresh) ≡ false
-    go zero h k = absurd (omega arith)
-    go (suc v) h k = g v (omega arith) (omega arith)
+last-more p l ls Nothing f g true =
+    by-suc (λ v. 0 < v → v < length (l ∷ ls) → p (getD (l ∷ ls) v fresh) ≡ false) (λ h k. absurd (omega arith))
+    (λ v h k. f (getD ls v fresh) (in-getD ls v fresh (omega arith)))
+last-more p l ls (At w) f g b =
+    by-suc (λ v. suc w < v → v < length (l ∷ ls) → p (getD (l ∷ ls) v fresh) ≡ false) (λ h k. absurd (omega arith)) (λ v h k. g v (omega arith) (omega arith))
 
 pub last-is-last : (p : Line → Bool) (ls : List Line) → Last p ls (last p ls)
 last-is-last p [] = tt
@@ -134,27 +171,20 @@ Least key p ls (At w) = (v : ℕ) → Earliest key p ls w v
 module _ (key : Line → ℕ) (p : Line → Bool) (l : Line) (ls : List Line) where
   least-next : p l ≡ false → (r : Found) → Least key p ls r → Least key p (l ∷ ls) (next r)
   least-next e Nothing g = tt
-  least-next e (At w) g = go
-    where
-      go : (v : ℕ) → Earliest key p (l ∷ ls) (suc w) v
-      go zero h k = clash k e
-      go (suc v) h k = let q = g v (omega arith) k in (q .0, λ z. q .1 (omega arith))
+  least-next e (At w) g =
+      by-suc (Earliest key p (l ∷ ls) (suc w)) (λ h k. clash k e) (λ v h k. let q = g v (omega arith) k in (q .0, λ z. q .1 (omega arith)))
 
   least-older : (r : Found) → Finds p ls r → Least key p ls r → Least key p (l ∷ ls) (older key ls (key l) r)
-  least-older Nothing f g = go
-    where
-      go : (v : ℕ) → Earliest key p (l ∷ ls) 0 v
-      go zero h k = (omega arith, λ z. absurd (omega arith))
-      go (suc v) h k = clash k (f (getD ls v fresh) (in-getD ls v fresh (omega arith)))
-  least-older (At w) f g = by-flag (Least key p (l ∷ ls)) (leb (key l) (key (getD ls w fresh))) (At 0) (At (suc w)) this other
-    where
-      this : leb (key l) (key (getD ls w fresh)) ≡ true → (v : ℕ) → Earliest key p (l ∷ ls) 0 v
-      this e zero h k = (omega arith, λ z. absurd (omega arith))
-      this e (suc v) h k = let q = g v (omega arith) k in (omega (arith, q .0, leb-true (key l) (key (getD ls w fresh)) e), λ z. absurd (omega arith))
-
-      other : leb (key l) (key (getD ls w fresh)) ≡ false → (v : ℕ) → Earliest key p (l ∷ ls) (suc w) v
-      other e zero h k = let q : key (getD ls w fresh) < key l = leb-false (key l) (key (getD ls w fresh)) e in (omega arith, λ z. q)
-      other e (suc v) h k = let q = g v (omega arith) k in (q .0, λ z. q .1 (omega arith))
+  least-older Nothing f g =
+      by-suc (Earliest key p (l ∷ ls) 0) (λ h k. (omega arith, λ z. absurd (omega arith)))
+      (λ v h k. clash k (f (getD ls v fresh) (in-getD ls v fresh (omega arith))))
+  least-older (At w) f g =
+      by-flag (Least key p (l ∷ ls)) (leb (key l) (key (getD ls w fresh))) (At 0) (At (suc w))
+      (λ e. by-suc (Earliest key p (l ∷ ls) 0) (λ h k. (omega arith, λ z. absurd (omega arith)))
+      (λ v h k. let q = g v (omega arith) k in (omega (arith, q .0, leb-true (key l) (key (getD ls w fresh)) e), λ z. absurd (omega arith))))
+      (λ e. by-suc (Earliest key p (l ∷ ls) (suc w))
+      (λ h k. let q : key (getD ls w fresh) < key l = leb-false (key l) (key (getD ls w fresh)) e in (omega arith, λ z. q))
+      (λ v h k. let q = g v (omega arith) k in (q .0, λ z. q .1 (omega arith))))
 
 pub earliest-is-least : (key : Line → ℕ) (p : Line → Bool) (ls : List Line) → Least key p ls (earliest key p ls)
 earliest-is-least key p [] = tt

@@ -2,7 +2,7 @@
 use Prim.Native.Nat.{ℕ, zero, suc, _+_, _-_, _≤_, _<_}
 use mathlib.Core.Path.{_≡_, refl, ap}
 use mathlib.Core.Logic.{⊎-elim, _≢_}
-use mathlib.Core.Bool.{Bool, true, false}
+use mathlib.Core.Bool.{Bool, false}
 use mathlib.Core.List.{List, [], _∷_, map}
 use native.Mathlib.Nat.{not-suc-le-zero, le-of-suc-le-suc}
 use native.Mathlib.Omega.{arith}
@@ -13,10 +13,6 @@ use Rattle.words.specs.Words.{any, count, one}
 use Rattle.words.proofs.Flags.{flag, clash, iff}
 use Rattle.words.proofs.Lists.{any-in, in-any, in-getD, in-index}
 use Rattle.words.proofs.Tabled.{pick-one}
-
-pub one-most : (b : Bool) → one b ≤ 1
-one-most true = omega arith
-one-most false = omega arith
 
 module _ {A : Type 0} where
   module _ (p : A → Bool) where
@@ -32,7 +28,7 @@ module _ {A : Type 0} where
 
     pub count-length : (l : List A) → count p l ≤ length l
     count-length [] = omega arith
-    count-length (x ∷ l) = omega (arith, pick-one (p x) (count p l), one-most (p x), count-length l)
+    count-length (x ∷ l) = let h = count-length l in ⊎-elim (λ q. rw q (omega arith)) (λ q. rw q (omega arith)) (flag (p x))
 
     -- an element that passes is counted
     pub one-counted : (l : List A) (n : ℕ) (d : A) → n < length l → one (p (getD l n d)) ≤ count p l
@@ -42,13 +38,12 @@ module _ {A : Type 0} where
 
     -- element n alone can pass
     pub any-one : (l : List A) (n : ℕ) (d : A) → n < length l → ((j : ℕ) → j < length l → j ≢ n → p (getD l j d) ≡ false) → any p l ≡ p (getD l n d)
-    any-one l n d h other = iff to (λ e. in-any p l (in-getD l n d h) e)
-      where
-        to : any p l ≡ true → p (getD l n d) ≡ true
-        to e =
-            let (x, m, q) = any-in p l e in
-            let (j, k, g) = in-index l d x m in
-            ⊎-elim (λ z. rw (← (eqb-true j n z), g) q) (λ z. clash (rw g q) (other j k (eqb-false j n z))) (flag (eqb j n))
+    any-one l n d h other =
+        iff (λ e.
+        let (x, m, q) = any-in p l e in
+        let (j, k, g) = in-index l d x m in
+        ⊎-elim (λ z. rw (← (eqb-true j n z), g) q) (λ z. clash (rw g q) (other j k (eqb-false j n z))) (flag (eqb j n)))
+        (λ e. in-any p l (in-getD l n d h) e)
 
   -- ---- a map that changes one element only
 

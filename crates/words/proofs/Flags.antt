@@ -1,7 +1,7 @@
 -- Laws of flags: conjunction, disjunction, negation, implication, and choice by a flag.
 use mathlib.Core.Path.{_≡_, refl, sym, _∙_}
 use mathlib.Core.Logic.{_⊎_, inl, inr}
-use mathlib.Core.Bool.{Bool, true, false, not, _&&_, _||_, true≢false, false≢true, and-assoc, and-true, or-assoc, or-false}
+use mathlib.Core.Bool.{Bool, true, false, not, _&&_, _||_, true≢false, false≢true, and-assoc, and-true, and-false, or-assoc, or-true, or-false, Bool·not-not}
 use Rattle.words.specs.Words.{pick, same, imp}
 
 pub and-1 : (a b : Bool) → (a && b) ≡ true → a ≡ true
@@ -16,8 +16,7 @@ pub and-i : {a b : Bool} → a ≡ true → b ≡ true → (a && b) ≡ true
 and-i p q = rw (p, q)
 
 pub and-no : (a b : Bool) → b ≡ false → (a && b) ≡ false
-and-no true b e = e
-and-no false b e = refl
+and-no a b e = rw (e, and-false)
 
 pub or-cases : (a b : Bool) → (a || b) ≡ true → (a ≡ true) ⊎ (b ≡ true)
 or-cases true b e = inl refl
@@ -27,8 +26,11 @@ pub or-1 : (a b : Bool) → a ≡ true → (a || b) ≡ true
 or-1 a b p = rw p
 
 pub or-2 : (a b : Bool) → b ≡ true → (a || b) ≡ true
-or-2 true b p = refl
-or-2 false b p = p
+or-2 a b p = rw (p, or-true)
+
+pub or-unless : (a b : Bool) → (a ≡ false → b ≡ true) → (a || b) ≡ true
+or-unless true b f = refl
+or-unless false b f = f refl
 
 pub or-no-1 : (a b : Bool) → (a || b) ≡ false → a ≡ false
 or-no-1 true b e = e
@@ -69,6 +71,9 @@ pub by-flag : {X : Type 0} (P : X → Type 0) (b : Bool) (x y : X) → (b ≡ tr
 by-flag P true x y f g = f refl
 by-flag P false x y f g = g refl
 
+pub pick-both : {X : Type 0} (P : X → Type 0) (b : Bool) {x y : X} → P x → P y → P (pick b x y)
+pick-both P b f g = by-flag P b _ _ (λ e. f) (λ e. g)
+
 pub same-is : (a b : Bool) → same a b ≡ true → a ≡ b
 same-is true b e = sym e
 same-is false b e = sym (not-yes e)
@@ -102,9 +107,7 @@ not-either true b = refl
 not-either false b = refl
 
 pub not-but : (a b : Bool) → not (a && not b) ≡ imp a b
-not-but true true = refl
-not-but true false = refl
-not-but false b = refl
+not-but a b = simp (not-both, Bool·not-not)
 
 -- `if !r` after a call whose answer is r
 pub said-no : {r b : Bool} → r ≡ b → not r ≡ true → b ≡ false

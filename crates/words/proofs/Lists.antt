@@ -1,17 +1,17 @@
 -- Laws of the tests on lists: membership, all, any, count, keep, and lists after `set`, `map`, `++`.
 use Prim.Native.Nat.{ℕ, zero, suc, _+_, _≤_, _<_}
 use mathlib.Core.Path.{_≡_, refl, sym, ap, _∙_}
-use mathlib.Core.Logic.{_⊎_, inl, inr, _≢_}
-use mathlib.Core.Bool.{Bool, true, false, _&&_, _||_, true≢false, false≢true, and-false, and-assoc}
+use mathlib.Core.Logic.{_⊎_, inl, inr, _≢_, ⊎-elim}
+use mathlib.Core.Bool.{Bool, true, false, _&&_, _||_, false≢true, and-false, and-assoc}
 use mathlib.Core.List.{List, [], _∷_, _++_, map}
 use native.Mathlib.Omega.{arith}
-use lib.ListN.{length, getD, set, take, drop, length-set, replicate}
+use lib.ListN.{length, getD, set, take, drop, length-set, length-map, replicate, List·getD-map}
 use lib.Seq.{getD-set-same, getD-set-other}
 use lib.Dec.{eqb, ltb}
 use borrow.Author.Tests.{eqb-true, eqb-false, ltb-true, ne-eqb}
-use Rattle.words.specs.Words.{pick, all, any, count, keep}
-use Rattle.words.proofs.Flags.{and-1, and-2, and-i, or-cases, or-1, or-2, flag, clash, iff, no-yes}
-use mathlib.Core.Logic.{⊎-elim}
+use Rattle.words.specs.Words.{all, any, count, keep, table}
+use Rattle.words.proofs.Flags.{and-1, and-2, and-i, or-cases, or-1, or-2, or-no-1, or-no-2, flag, clash, no-yes, by-flag}
+use Rattle.words.proofs.Tabled.{list-table}
 
 module _ {A : Type 0} where
   abbrev pub In : A → List A → Type 0
@@ -39,21 +39,14 @@ module _ {A : Type 0} where
 
     pub in-keep : (l : List A) {x : A} → In x (keep p l) → In x l × (p x ≡ true)
     in-keep [] m = absurd m
-    in-keep (y ∷ l) {x} m = go (λ n. in-keep l n) (p y) refl m
-      where
-        go : (In x (keep p l) → In x l × (p x ≡ true)) → (b : Bool) → p y ≡ b → In x (pick b (y ∷ keep p l) (keep p l)) → In x (y ∷ l) × (p x ≡ true)
-        go ih true e (inl q) = (inl q, rw q e)
-        go ih true e (inr n) = (inr (ih n .0), ih n .1)
-        go ih false e n = (inr (ih n .0), ih n .1)
+    in-keep (y ∷ l) {x} m =
+        let more : In x (keep p l) → In x (y ∷ l) × (p x ≡ true) = λ n. (inr (in-keep l n .0), in-keep l n .1) in
+        by-flag (λ (r : List A). In x r → In x (y ∷ l) × (p x ≡ true)) (p y) (y ∷ keep p l) (keep p l) (λ e. ⊎-elim (λ q. (inl q, rw q e)) more) (λ e. more) m
 
     pub keep-in : (l : List A) {x : A} → In x l → p x ≡ true → In x (keep p l)
     keep-in [] m e = absurd m
     keep-in (y ∷ l) {x} (inl q) e = let h : p y ≡ true = rw q at e in rw h (inl q)
-    keep-in (y ∷ l) {x} (inr m) e = go (keep-in l m e) (p y)
-      where
-        go : In x (keep p l) → (b : Bool) → In x (pick b (y ∷ keep p l) (keep p l))
-        go ih true = inr ih
-        go ih false = ih
+    keep-in (y ∷ l) {x} (inr m) e = by-flag (In x) (p y) (y ∷ keep p l) (keep p l) (λ q. inr (keep-in l m e)) (λ q. keep-in l m e)
 
     pub keep-le : (l : List A) → length (keep p l) ≤ length l
     keep-le [] = omega arith
@@ -69,25 +62,8 @@ module _ {A : Type 0} where
     count-in (y ∷ l) (inl q) e = let h : p y ≡ true = rw q at e in rw h (omega arith)
     count-in (y ∷ l) (inr m) e = let h = count-in l m e in ⊎-elim (λ q. rw q (omega arith)) (λ q. rw q (count-in l m e)) (flag (p y))
 
-    -- where one passes, those that pass are one
-    pub count-one : (l : List A) → count p l ≡ 1 → {x y : A} → In x l → p x ≡ true → In y l → p y ≡ true → x ≡ y
-    count-one [] c m e n f = absurd m
-    count-one (z ∷ l) c {x} {y} m e n f = go (λ k q r. count-one l k q e r f) (p z) refl c m n
-      where
-        go : (count p l ≡ 1 → In x l → In y l → x ≡ y) → (b : Bool) → p z ≡ b → pick b (suc (count p l)) (count p l) ≡ 1 → In x (z ∷ l) → In y (z ∷ l) → x ≡ y
-        go ih true h k (inl q) (inl r) = q ∙ sym r
-        go ih true h k (inl q) (inr r) = absurd (omega (arith, count-in l r f))
-        go ih true h k (inr q) r = absurd (omega (arith, count-in l q e))
-        go ih false h k (inl q) r = clash e (rw q h)
-        go ih false h k (inr q) (inl r) = clash f (rw r h)
-        go ih false h k (inr q) (inr r) = ih k q r
-
   pub not-twice : (p : A → Bool) (y : A) (l : List A) → count p (y ∷ l) ≡ 1 → {x : A} → In x l → p x ≡ true → p y ≡ false
-  not-twice p y l c m e = go (p y) c
-    where
-      go : (b : Bool) → pick b (suc (count p l)) (count p l) ≡ 1 → b ≡ false
-      go true h = absurd (omega (arith, count-in p l m e))
-      go false h = refl
+  not-twice p y l c m e = no-yes (λ q. let z : suc (count p l) ≡ 1 = rw q at c in omega (arith, count-in p l m e))
 
   pub count-ext : (p q : A → Bool) (l : List A) → ((x : A) → In x l → p x ≡ q x) → count p l ≡ count q l
   count-ext p q [] f = refl
@@ -99,22 +75,13 @@ module _ {A : Type 0} where
 
   pub count-keep : (p r : A → Bool) (l : List A) → ((x : A) → p x ≡ true → r x ≡ true) → count p (keep r l) ≡ count p l
   count-keep p r [] f = refl
-  count-keep p r (y ∷ l) f = go (count-keep p r l f) (r y) refl (p y) refl
-    where
-      go : count p (keep r l) ≡ count p l → (b : Bool) → r y ≡ b → (c : Bool) → p y ≡ c → count p (pick b (y ∷ keep r l) (keep r l)) ≡ pick c (suc (count p l)) (count p l)
-      go ih true e true h = rw (h, ih)
-      go ih true e false h = rw (h, ih)
-      go ih false e true h = clash (f y h) e
-      go ih false e false h = ih
+  count-keep p r (y ∷ l) f =
+      ⊎-elim (λ q. rw q (rw (count-keep p r l f))) (λ q. rw (no-yes (λ h. clash (f y h) q)) (rw q (count-keep p r l f))) (flag (r y))
 
   pub any-keep : (p r : A → Bool) (l : List A) → ((x : A) → p x ≡ true → r x ≡ true) → any p (keep r l) ≡ any p l
-  any-keep p r l f = iff up down
-    where
-      up : any p (keep r l) ≡ true → any p l ≡ true
-      up e = let (x, m, q) = any-in p (keep r l) e in in-any p l (in-keep r l m .0) q
-
-      down : any p l ≡ true → any p (keep r l) ≡ true
-      down e = let (x, m, q) = any-in p l e in in-any p (keep r l) (keep-in r l m (f x q)) q
+  any-keep p r [] f = refl
+  any-keep p r (y ∷ l) f =
+      ⊎-elim (λ q. rw q (rw (any-keep p r l f))) (λ q. rw (no-yes (λ h. clash (f y h) q)) (rw q (any-keep p r l f))) (flag (r y))
 
   -- what stands inside a list does not depend on what stands past it
   pub getD-inside : (l : List A) (i : ℕ) (d e : A) → i < length l → getD l i d ≡ getD l i e
@@ -128,12 +95,8 @@ module _ {A : Type 0} where
 
   -- a list of four is its elements
   pub four-whole : (d : A) (xs : List A) → length xs ≡ 4 → getD xs 0 d ∷ getD xs 1 d ∷ getD xs 2 d ∷ getD xs 3 d ∷ [] ≡ xs
-  four-whole d [] e = absurd (omega arith)
-  four-whole d (a ∷ []) e = absurd (omega arith)
-  four-whole d (a ∷ b ∷ []) e = absurd (omega arith)
-  four-whole d (a ∷ b ∷ c ∷ []) e = absurd (omega arith)
-  four-whole d (a ∷ b ∷ c ∷ f ∷ []) e = refl
-  four-whole d (a ∷ b ∷ c ∷ f ∷ g ∷ xs) e = absurd (omega arith)
+  unfolding table
+  four-whole d xs e = sym (rw e at (list-table xs d))
 
   pub in-getD : (l : List A) (i : ℕ) (d : A) → i < length l → In (getD l i d) l
   in-getD [] i d h = absurd (omega arith)
@@ -165,17 +128,10 @@ module _ {A : Type 0} where
     pub count-index : (l : List A) → count p l ≡ 1 → (i j : ℕ) → i < length l → j < length l → p (getD l i d) ≡ true → p (getD l j d) ≡ true → i ≡ j
     count-index [] c i j h k e f = absurd (omega arith)
     count-index (x ∷ l) c zero zero h k e f = refl
-    count-index (x ∷ l) c zero (suc j) h k e f =
-        let z : suc (count p l) ≡ 1 = rw e at c in
-        absurd (omega (arith, count-in p l (in-getD l j d (omega arith)) f))
-    count-index (x ∷ l) c (suc i) zero h k e f =
-        let z : suc (count p l) ≡ 1 = rw f at c in
-        absurd (omega (arith, count-in p l (in-getD l i d (omega arith)) e))
-    count-index (x ∷ l) c (suc i) (suc j) h k e f = ap suc (count-index l (go (p x) c) i j (omega arith) (omega arith) e f)
-      where
-        go : (b : Bool) → pick b (suc (count p l)) (count p l) ≡ 1 → count p l ≡ 1
-        go true z = absurd (omega (arith, count-in p l (in-getD l i d (omega arith)) e))
-        go false z = z
+    count-index (x ∷ l) c zero (suc j) h k e f = clash e (not-twice p x l c (in-getD l j d (omega arith)) f)
+    count-index (x ∷ l) c (suc i) zero h k e f = clash f (not-twice p x l c (in-getD l i d (omega arith)) e)
+    count-index (x ∷ l) c (suc i) (suc j) h k e f =
+        ap suc (count-index l (rw (not-twice p x l c (in-getD l i d (omega arith)) e) at c) i j (omega arith) (omega arith) e f)
 
     pub index-count : (l : List A) (i : ℕ) → i < length l → p (getD l i d) ≡ true → ((j : ℕ) → j < length l → p (getD l j d) ≡ true → j ≡ i) → count p l ≡ 1
     index-count [] i h e f = absurd (omega arith)
@@ -183,6 +139,13 @@ module _ {A : Type 0} where
     index-count (x ∷ l) (suc i) h e f =
         let x-no : p x ≡ false = no-yes (λ q. let z : 0 ≡ suc i = f 0 (omega arith) q in omega arith) in
         rw x-no (index-count l i (omega arith) e (λ j k q. let z : suc j ≡ suc i = f (suc j) (omega arith) q in omega arith))
+
+  -- where one passes, those that pass are one
+  pub count-one : (p : A → Bool) (l : List A) → count p l ≡ 1 → {x y : A} → In x l → p x ≡ true → In y l → p y ≡ true → x ≡ y
+  count-one p l c {x} {y} m e n f =
+      let (i, h, q) = in-index l x x m in
+      let (j, k, r) = in-index l x y n in
+      sym q ∙ ap (λ (i : ℕ). getD l i x) (count-index p x l c i j h k (rw q e) (rw r f)) ∙ r
 
   pub count-append : (p : A → Bool) (l m : List A) → count p (l ++ m) ≡ count p l + count p m
   count-append p [] m = omega arith
@@ -203,23 +166,15 @@ module _ {A : Type 0} where
 
   pub none-count : (p : A → Bool) (l : List A) → any p l ≡ false → count p l ≡ 0
   none-count p [] e = refl
-  none-count p (x ∷ l) e = go (p x) e (none-count p l)
-    where
-      go : (b : Bool) → (b || any p l) ≡ false → (any p l ≡ false → count p l ≡ 0) → pick b (suc (count p l)) (count p l) ≡ 0
-      go true h f = absurd (true≢false h)
-      go false h f = f h
+  none-count p (x ∷ l) e = rw (or-no-1 (p x) (any p l) e) (none-count p l (or-no-2 (p x) (any p l) e))
 
   -- a list with one place changed, place by place
   pub each : (P : ℕ → A → Type 0) (l : List A) (d : A) (n : ℕ) (v : A) → P n v → ((j : ℕ) → j < length l → j ≢ n → P j (getD l j d))
       → (j : ℕ) → j < length (set l n v) → P j (getD (set l n v) j d)
-  each P l d n v a f j h = go (flag (eqb j n))
-    where
-      k : j < length l
-      k = rw length-set at h
-
-      go : (eqb j n ≡ true) ⊎ (eqb j n ≡ false) → P j (getD (set l n v) j d)
-      go (inl e) = let q : j ≡ n = eqb-true j n e in rw (q, getD-set-same l n v d (rw q at k)) a
-      go (inr e) = rw (getD-set-other l n j v d (eqb-false j n e)) (f j k (eqb-false j n e))
+  each P l d n v a f j h =
+      let k : j < length l = rw length-set at h in
+      ⊎-elim (λ e. let q : j ≡ n = eqb-true j n e in rw (q, getD-set-same l n v d (rw q at k)) a)
+      (λ e. rw (getD-set-other l n j v d (eqb-false j n e)) (f j k (eqb-false j n e))) (flag (eqb j n))
 
   -- neither the old one nor the new one passes
   pub any-set-same : (p : A → Bool) (d : A) (l : List A) (n : ℕ) (v : A) → p v ≡ false → p (getD l n d) ≡ false → any p (set l n v) ≡ any p l
@@ -227,20 +182,29 @@ module _ {A : Type 0} where
   any-set-same p d (x ∷ l) zero v e f = rw (e, f)
   any-set-same p d (x ∷ l) (suc n) v e f = rw (any-set-same p d l n v e f)
 
+  -- the new one passes if the old one did
+  pub any-set : (p : A → Bool) (l : List A) (n : ℕ) (v d : A) → (p (getD l n d) ≡ true → p v ≡ true) → any p l ≡ true → any p (set l n v) ≡ true
+  any-set p [] n v d f e = e
+  any-set p (x ∷ l) zero v d f e = ⊎-elim (λ h. or-1 (p v) (any p l) (f h)) (λ h. or-2 (p v) (any p l) h) (or-cases (p x) (any p l) e)
+  any-set p (x ∷ l) (suc n) v d f e = ⊎-elim (λ h. or-1 (p x) _ h) (λ h. or-2 (p x) _ (any-set p l n v d f h)) (or-cases (p x) (any p l) e)
+
   pub in-set-same : (l : List A) (n : ℕ) (v : A) → n < length l → In v (set l n v)
   in-set-same [] n v h = absurd (omega arith)
   in-set-same (x ∷ l) zero v h = inl refl
   in-set-same (x ∷ l) (suc n) v h = inr (in-set-same l n v (omega arith))
 
   pub in-set-other : (l : List A) (n : ℕ) (v d : A) (j : ℕ) → j < length l → j ≢ n → In (getD l j d) (set l n v)
-  in-set-other l n v d j h k =
-      let m : In (getD (set l n v) j d) (set l n v) = in-getD (set l n v) j d (rw length-set h) in
-      rw (getD-set-other l n j v d k) at m
+  in-set-other l n v d j h k = rw (getD-set-other l n j v d k) at (in-getD (set l n v) j d (rw length-set h))
 
   pub in-replicate : (n : ℕ) (a x : A) → In x (replicate n a) → x ≡ a
   in-replicate zero a x m = absurd m
   in-replicate (suc n) a x (inl q) = q
   in-replicate (suc n) a x (inr m) = in-replicate n a x m
+
+  pub getD-same : (n i : ℕ) (a : A) → getD (replicate n a) i a ≡ a
+  getD-same zero i a = refl
+  getD-same (suc n) zero a = refl
+  getD-same (suc n) (suc i) a = getD-same n i a
 
   -- all after a change of one place
   pub all-set : (p : A → Bool) (l : List A) (i : ℕ) (v : A) → all p l ≡ true → p v ≡ true → all p (set l i v) ≡ true
@@ -261,6 +225,9 @@ none-past f n k (x ∷ xs) e h =
     rw (ne-eqb k (f x) (λ q. omega arith)) (none-past f n k xs (and-2 (ltb (f x) n) (all (λ y. ltb (f y) n) xs) e) h)
 
 module _ {A B : Type 0} (f : A → B) where
+  pub getD-map-in : (l : List A) (d : A) (e : B) (i : ℕ) → i < length l → getD (map f l) i e ≡ f (getD l i d)
+  getD-map-in l d e i h = getD-inside (map f l) i e (f d) (rw length-map h) ∙ List·getD-map f l i d
+
   pub map-in : (l : List A) (x : A) → In x l → In (f x) (map f l)
   map-in [] x m = absurd m
   map-in (y ∷ l) x (inl q) = inl (ap f q)

@@ -1,14 +1,15 @@
 -- Laws of places and blocks: how a region of a slice, and what is put there, is that of a block, and of one record of a table.
 use mathlib.Core.Path.{_≡_, refl, sym, ap, _∙_}
 use mathlib.Core.List.{List, [], _∷_, _++_, append-assoc, append-nil}
-use Prim.Native.Nat.{ℕ, zero, suc, _+_, _-_, _*_, _≤_, _<_, zero-le}
+use Prim.Native.Nat.{ℕ, zero, suc, _+_, _-_, _*_, _≤_, _<_}
 use native.Mathlib.Nat.{zero-add, add-assoc, mul-zero, mul-suc, mul-add, mul-le-mul-left, le-trans, sub-zero, le-of-suc-le-suc, not-suc-le-zero, suc-add}
+use native.Mathlib.Numerals.{add-one}
 use native.Mathlib.Omega.{arith}
-use lib.ListN.{length, take, drop, getD, set, replicate, length-append, length-drop, length-replicate, List·getD-append}
+use lib.ListN.{length, take, drop, getD, set, replicate, length-append, length-drop, length-replicate}
 use lib.Seq.{take-append-le, drop-append-le, drop-append-add, take-append-add, sets, sets-eq, drop-at, take-all, drop-length, getD-append-add, paste, paste-zero}
 use Rattle.words.specs.Regions.{region, put, closedUp, closed, offsetIn, dropped}
 use Rattle.words.specs.Words.{padTo, packed, joined}
-use Rattle.words.proofs.Region.{getD-region, length-closed, paste-next, length-region}
+use Rattle.words.proofs.Region.{getD-region, length-closed, closed-length, paste-next, region-first}
 
 -- ---- a slice of two parts
 
@@ -55,11 +56,6 @@ put-block [] j k r h g = absurd (not-suc-le-zero h)
 put-block (b ∷ bs) zero k r h g = rw zero-add (put-within b (joined bs) k r g)
 put-block (b ∷ bs) (suc j) k r h g = rw add-assoc (put-past b (joined bs) (offsetIn bs j + k) r ∙ ap (λ (l : List ℕ). b ++ l) (put-block bs j k r (le-of-suc-le-suc h) g))
 
-get-block : (bs : List (List ℕ)) (j k : ℕ) → j < length bs → k < length (getD bs j []) → getD (joined bs) (offsetIn bs j + k) 0 ≡ getD (getD bs j []) k 0
-get-block [] j k h g = absurd (not-suc-le-zero h)
-get-block (b ∷ bs) zero k h g = rw zero-add (List·getD-append b (joined bs) 0 k g)
-get-block (b ∷ bs) (suc j) k h g = rw add-assoc (getD-append-add b (joined bs) (offsetIn bs j + k) 0 ∙ get-block bs j k (le-of-suc-le-suc h) g)
-
 -- the same of a slice that is those blocks, at an index that is k past the block's start
 module _ (bs : List (List ℕ)) (j k : ℕ) {l : List ℕ} {i : ℕ} (e : l ≡ joined bs) (at : i ≡ offsetIn bs j + k) (h : j < length bs) where
   pub block-region : (m : ℕ) → k + m ≤ length (getD bs j []) → region l i m ≡ region (getD bs j []) k m
@@ -69,7 +65,8 @@ module _ (bs : List (List ℕ)) (j k : ℕ) {l : List ℕ} {i : ℕ} (e : l ≡ 
   block-put r g = rw (e, at) (put-block bs j k r h g)
 
   pub block-get : k < length (getD bs j []) → getD l i 0 ≡ getD (getD bs j []) k 0
-  block-get g = rw (e, at) (get-block bs j k h g)
+  block-get g =
+      sym (region-first l i 1 (omega arith)) ∙ ap (λ (r : List ℕ). getD r 0 0) (block-region 1 (omega arith)) ∙ region-first (getD bs j []) k 1 (omega arith)
 
 -- ---- strides
 
@@ -161,27 +158,34 @@ module _ {A : Type 0} (g : A → List ℕ) (w : ℕ) where
   places-region (suc n) (suc e) (x ∷ xs) d h k =
       rw (place-past x e) (region-past (padTo w (g x)) (packed g w n xs) (w * e) w ∙ places-region n e xs d (le-of-suc-le-suc h) (le-of-suc-le-suc k))
 
-  pub places-put : (n e : ℕ) (xs : List A) (y : A) → e < length xs → length xs ≤ n → put (packed g w n xs) (w * e) (padTo w (g y)) ≡ packed g w n (set xs e y)
+  -- a record that becomes y, as its place becomes y's numbers by what is put there
+  places-change : (n e : ℕ) (xs : List A) (d y : A) (k : ℕ) (r : List ℕ) → e < length xs → length xs ≤ n → k + length r ≤ w
+      → put (padTo w (g (getD xs e d))) k r ≡ padTo w (g y) → put (packed g w n xs) (w * e + k) r ≡ packed g w n (set xs e y)
   unfolding packed
-  places-put n e [] y h k = absurd (not-suc-le-zero h)
-  places-put zero e (x ∷ xs) y h k = absurd (not-suc-le-zero k)
-  places-put (suc n) zero (x ∷ xs) y h k =
-      let s : length (padTo w (g x)) ≡ w = length-padTo w (g x) in
-      let r : length (padTo w (g y)) ≡ w = length-padTo w (g y) in
-      rw mul-zero (put-within (padTo w (g x)) (packed g w n xs) 0 (padTo w (g y)) (omega arith) ∙ ap (λ (l : List ℕ). l ++ packed g w n xs) (put-whole (padTo w (g x)) (padTo w (g y)) (r ∙ sym s)))
-  places-put (suc n) (suc e) (x ∷ xs) y h k =
-      rw (place-past x e) (put-past (padTo w (g x)) (packed g w n xs) (w * e) (padTo w (g y)) ∙ ap (λ (l : List ℕ). padTo w (g x) ++ l) (places-put n e xs y (le-of-suc-le-suc h) (le-of-suc-le-suc k)))
+  places-change n e [] d y k r h m room is = absurd (not-suc-le-zero h)
+  places-change zero e (x ∷ xs) d y k r h m room is = absurd (not-suc-le-zero m)
+  places-change (suc n) zero (x ∷ xs) d y k r h m room is =
+      rw (mul-zero, zero-add) (put-within (padTo w (g x)) (packed g w n xs) k r (rw length-padTo room) ∙ ap (λ (l : List ℕ). l ++ packed g w n xs) is)
+  places-change (suc n) (suc e) (x ∷ xs) d y k r h m room is =
+      rw (place-past x e, add-assoc)
+      (put-past (padTo w (g x)) (packed g w n xs) (w * e + k) r
+      ∙ ap (λ (l : List ℕ). padTo w (g x) ++ l) (places-change n e xs d y k r (le-of-suc-le-suc h) (le-of-suc-le-suc m) room is))
 
-  pad : (n : ℕ) (xs : List A) → length xs ≤ n → packed g w n xs ++ replicate w 0 ≡ packed g w (suc n) xs
+  -- past the records stand zeros
+  places-split : (n m : ℕ) (xs : List A) → length xs ≤ m → packed g w (m + n) xs ≡ packed g w m xs ++ packed g w n []
   unfolding packed
-  pad zero [] h = rw padTo-zeros (sym (append-nil (replicate w 0)))
-  pad zero (x ∷ xs) h = absurd (not-suc-le-zero h)
-  pad (suc n) [] h = append-assoc (padTo w []) (packed g w n []) (replicate w 0) ∙ ap (λ (l : List ℕ). padTo w [] ++ l) (pad n [] zero-le)
-  pad (suc n) (x ∷ xs) h = append-assoc (padTo w (g x)) (packed g w n xs) (replicate w 0) ∙ ap (λ (l : List ℕ). padTo w (g x) ++ l) (pad n xs (le-of-suc-le-suc h))
+  places-split n zero [] h = rw zero-add
+  places-split n zero (x ∷ xs) h = absurd (not-suc-le-zero h)
+  places-split n (suc m) [] h =
+      rw suc-add (ap (λ (l : List ℕ). padTo w [] ++ l) (places-split n m [] (omega arith)) ∙ sym (append-assoc (padTo w []) (packed g w m []) (packed g w n [])))
+  places-split n (suc m) (x ∷ xs) h =
+      rw suc-add (ap (λ (l : List ℕ). padTo w (g x) ++ l) (places-split n m xs (le-of-suc-le-suc h)) ∙ sym (append-assoc (padTo w (g x)) (packed g w m xs) (packed g w n [])))
 
   close-first : (n : ℕ) (x : A) (xs : List A) → length xs ≤ n → closedUp w (padTo w (g x) ++ packed g w n xs) ≡ packed g w (suc n) xs
-  unfolding closedUp
-  close-first n x xs k = ap (λ (l : List ℕ). l ++ replicate w 0) (drop-at (padTo w (g x)) (packed g w n xs) w (length-padTo w (g x))) ∙ pad n xs k
+  unfolding closedUp packed
+  close-first n x xs k =
+      ap (λ (l : List ℕ). l ++ replicate w 0) (drop-at (padTo w (g x)) (packed g w n xs) w (length-padTo w (g x)))
+      ∙ ap (λ (l : List ℕ). packed g w n xs ++ l) (sym (append-nil (padTo w []) ∙ padTo-zeros w)) ∙ sym (places-split 1 n xs k) ∙ rw add-one
 
   -- to take a record out is to close up from its place on
   pub places-close : (n e : ℕ) (xs : List A) → e < length xs → length xs ≤ n → closed (packed g w n xs) (w * e) (w * (n - e)) w ≡ packed g w n (dropped e xs)
@@ -212,7 +216,9 @@ module _ {A : Type 0} (g : A → List ℕ) (w n : ℕ) (xs : List A) (bs : List 
   field-put y {r} {l′} f c =
       let s = block-size g w n xs bs j here in let o = one in
       let z : length (padTo w (g y)) ≡ w = length-padTo w (g y) in
-      rw (c, f, block-put bs j (w * e) is at h (padTo w (g y)) (omega arith), here, places-put g w n e xs y k few)
+      let v : length (padTo w (g (getD xs e y))) ≡ w = length-padTo w (g (getD xs e y)) in
+      rw (c, f, block-put bs j (w * e + 0) {i = i} is (omega arith) h (padTo w (g y)) (omega arith), here)
+      (rw (places-change g w n e xs y y 0 (padTo w (g y)) k few (omega arith) (put-whole _ _ (z ∙ sym v))))
 
   pub field-region : (d : A) → region l i w ≡ padTo w (g (getD xs e d))
   field-region d =
@@ -225,13 +231,8 @@ module _ {A : Type 0} (g : A → List ℕ) (w n : ℕ) (xs : List A) (bs : List 
 -- ---- numbers behind those of a record
 
 put-zeros : (w : ℕ) (v : List ℕ) → length v ≤ w → put (padTo w []) 0 v ≡ padTo w v
-unfolding padTo put
-put-zeros zero [] h = refl
-put-zeros zero (x ∷ v) h = absurd (not-suc-le-zero h)
-put-zeros (suc w) [] h = refl
-put-zeros (suc w) (x ∷ v) h =
-    let s : 0 + suc (length v) ≡ suc (length v) = zero-add (suc (length v)) in
-    rw s (ap (λ (t : List ℕ). x ∷ t) (ap (λ (n : ℕ). v ++ drop n (padTo w [])) (sym (zero-add (length v))) ∙ put-zeros w v (le-of-suc-le-suc h)))
+unfolding put
+put-zeros w v h = rw (zero-add, padTo-zeros) (padTo-append w v h)
 
 -- numbers behind those that a record has
 pub put-padTo : (w : ℕ) (r v : List ℕ) → length r + length v ≤ w → put (padTo w r) (length r) v ≡ padTo w (r ++ v)
@@ -275,46 +276,19 @@ module _ {A : Type 0} (g : A → List ℕ) (w : ℕ) where
   places-same (suc n) zero (x ∷ xs) d y h = rw h
   places-same (suc n) (suc e) (x ∷ xs) d y h = ap (λ (l : List ℕ). padTo w (g x) ++ l) (places-same n e xs d y h)
 
-  -- numbers v behind those of record e, which is y then
-  pub places-extend : (n e : ℕ) (xs : List A) (d y : A) (v : List ℕ) → e < length xs → length xs ≤ n → length (g (getD xs e d)) + length v ≤ w → g y ≡ g (getD xs e d) ++ v
-      → put (packed g w n xs) (w * e + length (g (getD xs e d))) v ≡ packed g w n (set xs e y)
-  unfolding packed
-  places-extend n e [] d y v h k f is = absurd (not-suc-le-zero h)
-  places-extend zero e (x ∷ xs) d y v h k f is = absurd (not-suc-le-zero k)
-  places-extend (suc n) zero (x ∷ xs) d y v h k f is =
-      let s : length (padTo w (g x)) ≡ w = length-padTo w (g x) in
-      rw (mul-zero, zero-add, is)
-      (put-within (padTo w (g x)) (packed g w n xs) (length (g x)) v (omega arith) ∙ ap (λ (l : List ℕ). l ++ packed g w n xs) (put-padTo w (g x) v f))
-  places-extend (suc n) (suc e) (x ∷ xs) d y v h k f is =
-      rw (place-past g w x e, add-assoc)
-      (put-past (padTo w (g x)) (packed g w n xs) (w * e + length (g (getD xs e d))) v
-      ∙ ap (λ (l : List ℕ). padTo w (g x) ++ l) (places-extend n e xs d y v (le-of-suc-le-suc h) (le-of-suc-le-suc k) f is))
-
-  -- past the records stand zeros
-  places-split : (n m : ℕ) (xs : List A) → length xs ≤ m → packed g w (m + n) xs ≡ packed g w m xs ++ packed g w n []
-  unfolding packed
-  places-split n zero [] h = rw zero-add
-  places-split n zero (x ∷ xs) h = absurd (not-suc-le-zero h)
-  places-split n (suc m) [] h =
-      rw suc-add (ap (λ (l : List ℕ). padTo w [] ++ l) (places-split n m [] (omega arith)) ∙ sym (append-assoc (padTo w []) (packed g w m []) (packed g w n [])))
-  places-split n (suc m) (x ∷ xs) h =
-      rw suc-add (ap (λ (l : List ℕ). padTo w (g x) ++ l) (places-split n m xs (le-of-suc-le-suc h)) ∙ sym (append-assoc (padTo w (g x)) (packed g w m xs) (packed g w n [])))
-
   -- to close up within the first m places is enough, where the others are not used
   pub places-close-first : (n m e : ℕ) (xs : List A) → e < length xs → length xs ≤ m → m ≤ n → closed (packed g w n xs) (w * e) (w * (m - e)) w ≡ packed g w n (dropped e xs)
   places-close-first n m e xs h k f =
       let z : m + (n - m) ≡ n = omega arith in
       let t = stride w m e (omega arith) in
       let p : length (packed g w m xs) ≡ w * m = length-places g w m xs in
-      let c : length (closedUp w (region (packed g w m xs) (w * e) (w * (m - e)))) ≡ w * (m - e) =
-      length-closed w (region (packed g w m xs) (w * e) (w * (m - e))) (rw (length-region (packed g w m xs) (w * e) (w * (m - e)) (omega arith)) (t .1))
-      ∙ length-region (packed g w m xs) (w * e) (w * (m - e)) (omega arith) in
+      let c = closed-length (packed g w m xs) (w * e) (w * (m - e)) w (t .1, omega arith) in
       ap (λ (x : ℕ). closed (packed g w x xs) (w * e) (w * (m - e)) w) (sym z)
-      ∙ ap (λ (l : List ℕ). closed l (w * e) (w * (m - e)) w) (places-split (n - m) m xs k)
+      ∙ ap (λ (l : List ℕ). closed l (w * e) (w * (m - e)) w) (places-split g w (n - m) m xs k)
       ∙ ap (λ (r : List ℕ). put (packed g w m xs ++ packed g w (n - m) []) (w * e) (closedUp w r)) (region-within (packed g w m xs) (packed g w (n - m) []) (w * e) (w * (m - e)) (omega arith))
       ∙ put-within (packed g w m xs) (packed g w (n - m) []) (w * e) (closedUp w (region (packed g w m xs) (w * e) (w * (m - e)))) (omega arith)
       ∙ ap (λ (l : List ℕ). l ++ packed g w (n - m) []) (places-close g w m e xs h k)
-      ∙ sym (places-split (n - m) m (dropped e xs) (omega (arith, dropped-few e xs)))
+      ∙ sym (places-split g w (n - m) m (dropped e xs) (omega (arith, dropped-few e xs)))
       ∙ ap (λ (x : ℕ). packed g w x (dropped e xs)) z
 
 -- the number of a place that is not used
@@ -324,11 +298,9 @@ places-past g zero e xs h = refl
 places-past g (suc n) zero [] h = refl
 places-past g (suc n) (suc e) [] h = places-past g n e [] (omega arith)
 places-past g (suc n) zero (x ∷ xs) h = absurd (not-suc-le-zero h)
-places-past g (suc n) (suc e) (x ∷ xs) h = go (g x) (places-past g n e xs (le-of-suc-le-suc h))
-  where
-    go : (r : List ℕ) → getD (packed g 1 n xs) e 0 ≡ 0 → getD (padTo 1 r ++ packed g 1 n xs) (suc e) 0 ≡ 0
-    go [] ih = ih
-    go (a ∷ r) ih = ih
+places-past g (suc n) (suc e) (x ∷ xs) h =
+    let s : suc e ≡ length (padTo 1 (g x)) + e = omega (arith, length-padTo 1 (g x)) in
+    rw (s, getD-append-add) (places-past g n e xs (le-of-suc-le-suc h))
 
 -- ---- the same of a field of a table in a slice of blocks
 
@@ -347,7 +319,8 @@ module _ {A : Type 0} (g : A → List ℕ) (w n : ℕ) (xs : List A) (bs : List 
   field-extend e {i} d y v at k m f {l′} c =
       let s = block-size g w n xs bs j here in
       let o = stride w n e (le-trans k few) in
-      rw (c, block-put bs j (w * e + length (g (getD xs e d))) is at h v (omega arith), here, places-extend g w n e xs d y v k few m f)
+      rw (c, block-put bs j (w * e + length (g (getD xs e d))) is at h v (omega arith), here)
+      (rw (places-change g w n e xs d y (length (g (getD xs e d))) v k few m (put-padTo w (g (getD xs e d)) v m ∙ ap (padTo w) (sym f))))
 
   -- a record that goes, where the first m places are used at most
   pub field-close-first : (m e : ℕ) {i : ℕ} → i ≡ offsetIn bs j + w * e → e < length xs → length xs ≤ m → m ≤ n → {span : ℕ} {l′ : List ℕ} → span ≡ w * (m - e) → l′ ≡ closed l i span w → l′ ≡ joined (set bs j (packed g w n (dropped e xs)))
@@ -355,8 +328,6 @@ module _ {A : Type 0} (g : A → List ℕ) (w n : ℕ) (xs : List A) (bs : List 
       let s = block-size g w n xs bs j here in
       let o = stride w m e (le-trans k f) in
       let t : w * m ≤ w * n = mul-le-mul-left w u in
-      let z : length (closedUp w (region (getD bs j []) (w * e) (w * (m - e)))) ≡ w * (m - e) =
-      length-closed w (region (getD bs j []) (w * e) (w * (m - e))) (rw (length-region (getD bs j []) (w * e) (w * (m - e)) (omega arith)) (o .1))
-      ∙ length-region (getD bs j []) (w * e) (w * (m - e)) (omega arith) in
+      let z = closed-length (getD bs j []) (w * e) (w * (m - e)) w (o .1, omega arith) in
       c
       ∙ rw (q, block-region bs j (w * e) is at h (w * (m - e)) (omega arith), block-put bs j (w * e) is at h (closedUp w (region (getD bs j []) (w * e) (w * (m - e)))) (omega arith), here, places-close-first g w n m e xs k f u)

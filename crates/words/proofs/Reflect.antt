@@ -70,6 +70,9 @@ is-none n {p} f = record {
 pub is-as : {b : Bool} {P Q : Type 0} → Decides b P → (P → Q) → (Q → P) → Decides b Q
 is-as i f g = record { fact = λ e. f (i .fact e); test = λ q. i .test (g q) }
 
+pub is-both : {a b c : Bool} {P Q R : Type 0} → Decides a P → Decides b Q → Decides c R → Decides (imp a (b && c)) ((P → Q) × (P → R))
+is-both i j k = is-as (is-imp i (j ⊓ k)) (λ f. (λ p. f p .0, λ p. f p .1)) (λ w p. (w .0 p, w .1 p))
+
 -- ---- tests on a list, and choices
 
 pub is-test : {a b : Bool} {P : Type 0} → a ≡ b → Decides b P → Decides a P

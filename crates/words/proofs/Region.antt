@@ -1,13 +1,14 @@
 -- Laws of a region of a slice, what is put in its place, a region that closes up.
 use mathlib.Core.Path.{_≡_, refl, sym, ap, _∙_}
 use mathlib.Core.List.{List, [], _∷_, _++_}
-use Prim.Native.Nat.{ℕ, zero, suc, _+_, _-_, _≤_, _<_}
+use Prim.Native.Nat.{ℕ, suc, _+_, _-_, _≤_, _<_}
 use native.Mathlib.Nat.{add-zero, zero-add, suc-add}
-use native.Mathlib.Numerals.{add-one}
+use native.Mathlib.Numerals.{add-one, add-two, add-three}
 use native.Mathlib.Omega.{arith}
 use lib.ListN.{length, take, drop, getD, set, replicate, length-append, length-drop, length-set, length-replicate, List·getD-append}
 use lib.Seq.{sets, paste, paste-zero, paste-suc, length-paste-head, length-take-le, take-all, getD-append-add, getD-take, getD-drop, set-append-left, take-set-lt, drop-set-lt}
 use Rattle.words.specs.Regions.{region, put, closedUp}
+use Rattle.words.proofs.Lists.{getD-same}
 
 pub length-region : (l : List ℕ) (at n : ℕ) → at + n ≤ length l → length (region l at n) ≡ n
 unfolding region
@@ -16,10 +17,6 @@ length-region l at n h = length-take-le n (drop at l) (rw length-drop (omega ari
 pub getD-region : (l : List ℕ) (at n i : ℕ) → i < n → getD (region l at n) i 0 ≡ getD l (at + i) 0
 unfolding region
 getD-region l at n i h = getD-take n (drop at l) i 0 h ∙ getD-drop at l i 0
-
-pub put-paste : (l : List ℕ) (at : ℕ) (r : List ℕ) (n : ℕ) → length r ≡ n → paste l at r n ≡ put l at r
-unfolding put
-put-paste l at r n e = rw (take-all n r (omega arith), e)
 
 -- past what is pasted stands what stood there
 pub getD-paste-past : (d : List ℕ) (at : ℕ) (s : List ℕ) (j k : ℕ) → at ≤ length d → j ≤ length s → getD (paste d at s j) (at + j + k) 0 ≡ getD d (at + j + k) 0
@@ -37,18 +34,13 @@ unfolding closedUp
 closed-at by r i h =
     List·getD-append (drop by r) (replicate by 0) 0 i (rw length-drop h) ∙ getD-drop by r i 0
 
-zeros-at : (n i : ℕ) → _≡_ {A = ℕ} (getD (replicate n 0) i 0) 0
-zeros-at zero i = refl
-zeros-at (suc n) zero = refl
-zeros-at (suc n) (suc i) = zeros-at n i
-
 pub closed-zero : (by : ℕ) (r : List ℕ) (i : ℕ) → length r - by ≤ i → getD (closedUp by r) i 0 ≡ 0
 unfolding closedUp
 closed-zero by r i h =
     let e : i ≡ length (drop by r) + (i - (length r - by)) = rw length-drop (omega arith) in
     ap (λ (k : ℕ). getD (drop by r ++ replicate by 0) k 0) e
     ∙ getD-append-add (drop by r) (replicate by 0) (i - (length r - by)) 0
-    ∙ zeros-at by (i - (length r - by))
+    ∙ getD-same by (i - (length r - by)) 0
 
 -- ---- a loop that stores the numbers of r from index `at` on, one a turn: after i turns s has the first i of them
 
@@ -67,7 +59,8 @@ module _ (l : List ℕ) (at : ℕ) (r : List ℕ) where
   pasting-turn s i v room h e w = (ap (λ (x : List ℕ). set x (at + i) v) (w .0) ∙ paste-next l at r i v (omega arith) h e, length-set s (at + i) v ∙ w .1)
 
   pub pasting-done : (s : List ℕ) (i : ℕ) → length r ≡ i → Pasting l at r s i → s ≡ put l at r
-  pasting-done s i e w = w .0 ∙ put-paste l at r i e
+  unfolding put
+  pasting-done s i e w = w .0 ∙ rw (take-all i r (omega arith), e)
 
 -- ---- the two loops that close a region up
 
@@ -75,7 +68,7 @@ abbrev pub Closing : List ℕ → ℕ → ℕ → ℕ → List ℕ → ℕ → T
 Closing l at n by s i = Pasting l at (closedUp by (region l at n)) s i
 
 module _ (l : List ℕ) (at n by : ℕ) (room : (by ≤ n) × (at + n ≤ length l)) where
-  closed-length : length (closedUp by (region l at n)) ≡ n
+  pub closed-length : length (closedUp by (region l at n)) ≡ n
   closed-length =
       let e : length (region l at n) ≡ n = length-region l at n (room .1) in
       length-closed by (region l at n) (omega arith) ∙ e
@@ -108,11 +101,7 @@ module _ (l : List ℕ) (at n by : ℕ) (room : (by ≤ n) × (at + n ≤ length
 
 -- four stores in a row
 pub sets-four : (l : List ℕ) (w a b c d : ℕ) → set (set (set (set l w a) (w + 1) b) (w + 2) c) (w + 3) d ≡ sets l w (a ∷ b ∷ c ∷ d ∷ [])
-sets-four l w a b c d =
-    let e : w + 1 ≡ suc w = omega arith in
-    let f : w + 2 ≡ suc (suc w) = omega arith in
-    let g : w + 3 ≡ suc (suc (suc w)) = omega arith in
-    rw (e, f, g)
+sets-four l w a b c d = rw (add-one, add-two, add-three)
 
 pub region-first : (l : List ℕ) (at n : ℕ) → 0 < n → getD (region l at n) 0 0 ≡ getD l at 0
 region-first l at n h = getD-region l at n 0 h ∙ ap (λ (k : ℕ). getD l k 0) (add-zero at)
