@@ -94,7 +94,7 @@ module _ (S : Settings) {longs words marks : List ℕ} (x : Access) (d : Decisio
   left-is = rw (← found-is S x d t p m, ← answer-is S x d t p m)
 
   -- the current cycle, of slices in which tables stand
-  now-of : {longs words marks : List ℕ} {u : Tables} → ByBlocks S longs words marks u → getD words 0 0 ≡ u .now
+  pub now-of : {longs words marks : List ℕ} {u : Tables} → ByBlocks S longs words marks u → getD words 0 0 ≡ u .now
   now-of h = ap (λ (l : List ℕ). getD l 0 0) (h .as-words)
 
   pub now-is : getD words 0 0 ≡ t .now

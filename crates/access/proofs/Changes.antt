@@ -1,4 +1,4 @@
--- A line that has the block of an access: to write its cycle and change the access's own sector is to write the whole line.
+-- A line that has the block of an access: to change the access's own sector and write its cycle is to write the whole line.
 use mathlib.Core.Path.{_≡_, refl, sym, ap, _∙_}
 use mathlib.Core.Bool.{false}
 use mathlib.Core.List.{List, [], _∷_}
@@ -23,19 +23,18 @@ use Rattle.model.proofs.SoundFacts.{parts, four-at, sector-below}
 use Rattle.encoding.proofs.Bridge.{is-fit}
 use Rattle.layout.specs.declared.Layout.{Layout}
 use Rattle.layout.specs.Layout.{LaysOut}
-use Rattle.layout.specs.Sectors.{SectorRoom}
+use Rattle.layout.specs.Sectors.{someModified}
 use Rattle.layout.proofs.ByBlocks.{ByBlocks, is-stands, stands-encode}
-use Rattle.layout.proofs.Lines.{usedAs, used-stands, lifted}
+use Rattle.layout.proofs.Lines.{usedAs, used-stands, lifted, plain-at}
 use Rattle.layout.proofs.OneOfFour.{sector-of-four}
 use Rattle.layout.proofs.DirtyCount.{dirty-count-at, dirty-few}
-use Rattle.tables.specs.Changed.{CountFits, Changed}
-use Rattle.tables.proofs.Changing.{changedLine, change-stands}
+use Rattle.tables.proofs.Changing.{withSectors, change-stands}
 use Rattle.probe.specs.declared.Decision.{Decision}
 use Rattle.access.specs.Plan.{Met}
-use Rattle.access.specs.Written.{sectorsFor, sectorsAfter, lineLeft}
+use Rattle.access.specs.Written.{sectorsFor, sectorsAfter, lineLeft, LineMayChange, SectorLeft}
 use Rattle.access.proofs.PlanTests.{answer-is}
 use Rattle.access.proofs.Lines.{stands}
-use Rattle.access.proofs.Acting.{sized, now-is, leftLine, line-left, newCount}
+use Rattle.access.proofs.Acting.{sized, now-of, leftLine, line-left, newCount}
 use Rattle.access.proofs.Recounts.{was-dirty, was-counted}
 
 module _ (S : Settings) {longs words marks : List ℕ} (x : Access) (d : Decision) (t : Tables) (p : Spot) (m : Met S (lent longs words marks) x d t p) {place : Layout} (pl : LaysOut S place) where
@@ -45,38 +44,40 @@ module _ (S : Settings) {longs words marks : List ℕ} (x : Access) (d : Decisio
   below : d .line < length (t .lines)
   below = omega (arith, sized S x d t p m pl, m .below)
 
+  sound-fit : Sized S longs words marks
+  sound-fit = is-fit S (lent longs words marks) t (m .is)
+
   -- ---- room in the slices for what is read and written of it
 
-  fit : Sized S longs words marks
-  fit = is-fit S (lent longs words marks) t (m .is)
-
-  pub own-room : SectorRoom S place words marks × (d .line < linesOf S)
-  own-room = let f = fit in ((pl, omega arith, omega arith), m .below)
-
   pub touch-room : 1 + d .line < length words
-  touch-room = let f = fit in omega (arith, m .below)
+  touch-room = let f = sound-fit in omega (arith, m .below)
+
+  pub change-room : LineMayChange S place (d .line) words marks
+  change-room =
+      let f = sound-fit in (
+        (pl, omega arith, omega arith),
+        m .below,
+        plain-at S t (is-stands (m .is)) pl (sized S x d t p m pl) (d .line) below,
+        omega arith,
+        (dirty-few S t (m .is) pl, was-counted S t (m .is) pl (d .line) (m .below)),
+      )
 
   -- ---- its cycle
 
-  abbrev touchedTables : Tables
-  touchedTables = withLines (set (t .lines) (d .line) (usedAs (t .now) line)) t
+  -- of tables with as many lines, at the same time
+  touched-then : (u : Tables) → u .now ≡ t .now → length (u .lines) ≡ linesOf S → {words₁ marks₁ words₂ : List ℕ} → ByBlocks S longs words₁ marks₁ u
+      → words₂ ≡ put words₁ (1 + d .line) (getD words₁ 0 0 ∷ [])
+      → ByBlocks S longs words₂ marks₁ (withLines (set (u .lines) (d .line) (usedAs (t .now) (getD (u .lines) (d .line) fresh))) u)
+  touched-then u same long {words₁} h e =
+      let inside : d .line < length (u .lines) = omega (arith, long, m .below) in
+      used-stands S u h pl long (d .line) inside (t .now)
+      (e ∙ ap (λ (n : ℕ). put words₁ (1 + d .line) (n ∷ [])) (now-of S x d t p m pl h ∙ same))
 
-  pub touch-stands : {words₁ : List ℕ} → words₁ ≡ put words (1 + d .line) (getD words 0 0 ∷ []) → ByBlocks S longs words₁ marks touchedTables
-  touch-stands e =
-      used-stands S t (is-stands (m .is)) pl (sized S x d t p m pl) (d .line) below (t .now) (e ∙ ap (λ (n : ℕ). put words (1 + d .line) (n ∷ [])) (now-is S x d t p m pl))
+  pub touch-stands : {words₁ : List ℕ} → words₁ ≡ put words (1 + d .line) (getD words 0 0 ∷ [])
+      → ByBlocks S longs words₁ marks (withLines (set (t .lines) (d .line) (usedAs (t .now) line)) t)
+  touch-stands e = touched-then t refl (sized S x d t p m pl) (is-stands (m .is)) e
 
-  -- it leaves the dirty count
-  touch-fits : {words₁ : List ℕ} → words₁ ≡ put words (1 + d .line) (getD words 0 0 ∷ []) → CountFits place (d .line) words₁ marks
-  touch-fits {words₁} e =
-      let now : getD words₁ (place .dirty) 0 ≡ t .dirtyCount = dirty-count-at S touchedTables (touch-stands e) pl in
-      let before : getD words (place .dirty) 0 ≡ t .dirtyCount = dirty-count-at S t (is-stands (m .is)) pl in
-      (omega (arith, now, before, dirty-few S t (m .is) pl), omega (arith, now, before, was-counted S t (m .is) pl (d .line) (m .below)))
-
-  pub change-room : {words₁ : List ℕ} {k : ℕ} → words₁ ≡ put words (1 + d .line) (getD words 0 0 ∷ []) → length words₁ ≡ length words → k < 4
-      → (SectorRoom S place words₁ marks × (d .line < linesOf S) × (k < 4)) × ((place .dirty < length words₁) × CountFits place (d .line) words₁ marks)
-  change-room e long small = let f = fit in (((pl, omega arith, omega arith), m .below, small), (omega arith, touch-fits e))
-
-  -- ---- its sector
+  -- ---- its sector, then its cycle
 
   module _ (stays : takesLine (d .answer) ≡ false) where
     found : p .line ≡ line
@@ -88,32 +89,31 @@ module _ (S : Settings) {longs words marks : List ℕ} (x : Access) (d : Decisio
     abbrev k : ℕ
     k = sectorIndex (addressOf x)
 
+    read-off : sectorsAt S words marks (d .line) ≡ line .sectors
+    read-off = lifted S t (is-stands (m .is)) pl (sized S x d t p m pl) (d .line) below four
+
     -- the access's own sector, as it is found
     own : sectorAt S words marks (4 * d .line + k) ≡ getD (line .sectors) k empty
-    own =
-        sym (sector-of-four S words marks (d .line) k empty (sector-below (addressOf x)))
-        ∙ ap (λ (ys : List Sector). getD ys k empty) (lifted S t (is-stands (m .is)) pl (sized S x d t p m pl) (d .line) below four)
+    own = sym (sector-of-four S words marks (d .line) k empty (sector-below (addressOf x))) ∙ ap (λ (ys : List Sector). getD ys k empty) read-off
 
-    there : getD (touchedTables .lines) (d .line) fresh ≡ usedAs (t .now) line
-    there = getD-set-same (t .lines) (d .line) (usedAs (t .now) line) fresh below
-
-    pub met-left : {one : Sector} {words₁ words′ marks′ : List ℕ} → one ≡ onSector x (d .answer) (sectorAt S words marks (4 * d .line + k))
-        → words₁ ≡ put words (1 + d .line) (getD words 0 0 ∷ []) → Changed S place (d .line) k one words₁ marks words′ marks′
-        → lent longs words′ marks′ ≡ lineLeft place (lent longs words marks) (d .line) (blockOf (addressOf x)) (sectorsAfter x d (sectorsFor (d .meeting) (sectorsAt S words marks (d .line))))
-    met-left {one = o} {words′ = words′} {marks′ = marks′} is e c =
-        let long : length (touchedTables .lines) ≡ linesOf S = length-set (t .lines) (d .line) (usedAs (t .now) line) ∙ sized S x d t p m pl in
-        let there-four : length (getD (touchedTables .lines) (d .line) fresh .sectors) ≡ 4 = ap (λ (y : Line). length (y .sectors)) there ∙ four in
-        let inside : d .line < length (touchedTables .lines) = omega (arith, long, m .below) in
+    pub met-left : {words₁ marks₁ words₂ : List ℕ} → SectorLeft S place x (d .answer) (d .line) words marks words₁ marks₁ → words₂ ≡ put words₁ (1 + d .line) (getD words₁ 0 0 ∷ [])
+        → lent longs words₂ marks₁ ≡ lineLeft place (lent longs words marks) (d .line) (blockOf (addressOf x)) (sectorsAfter x d (sectorsFor (d .meeting) (sectorsAt S words marks (d .line))))
+    met-left c e =
+        let o : Sector = onSector x (d .answer) (sectorAt S words marks (4 * d .line + k)) in
+        let y : Line = withSectors (set (line .sectors) k o) line in
         let new : Line = leftLine S x d t p m pl in
-        let left : changedLine S touchedTables (touch-stands e) pl long (d .line) inside there-four k o ≡ new =
-        rw (there, is, own, ← found, ← answer-is S x d t p m) in
-        let lines : set (touchedTables .lines) (d .line) new ≡ set (t .lines) (d .line) new = set-set (t .lines) (d .line) (usedAs (t .now) line) new in
-        let h = change-stands S touchedTables (touch-stands e) pl long (d .line) inside there-four k o c in
         let few = rw (was-dirty S t (m .is) pl (d .line) (m .below), dirty-count-at S t (is-stands (m .is)) pl) at (was-counted S t (m .is) pl (d .line) (m .below)) in
-        let count : t .dirtyCount - one (dirty line) + one (dirty new) ≡ newCount S x d t p m pl = omega arith in
-        let tables =
-        ap (λ (y : Line). withDirtyCount (t .dirtyCount - one (dirty (getD (touchedTables .lines) (d .line) fresh)) + one (dirty y)) (withLines (set (touchedTables .lines) (d .line) y) t)) left
-        ∙ ap (λ (y : Line). withDirtyCount (t .dirtyCount - one (dirty y) + one (dirty new)) (withLines (set (touchedTables .lines) (d .line) new) t)) there
-        ∙ ap (λ (ls : List Line). withDirtyCount (t .dirtyCount - one (dirty line) + one (dirty new)) (withLines ls t)) lines
-        ∙ ap (λ (n : ℕ). withDirtyCount n (withLines (set (t .lines) (d .line) new) t)) count in
-        stands-encode h ∙ ap (encode S) tables ∙ sym (stands-encode (line-left S x d t p m pl refl))
+        let h = change-stands S t (is-stands (m .is)) pl (sized S x d t p m pl) (d .line) below four k o _ (ap (λ (ys : List Sector). someModified (set ys k o)) read-off) few c in
+        let n : ℕ = t .dirtyCount - one (dirty line) + one (dirty y) in
+        let long : length (set (t .lines) (d .line) y) ≡ linesOf S = length-set (t .lines) (d .line) y ∙ sized S x d t p m pl in
+        let used = touched-then (withDirtyCount n (withLines (set (t .lines) (d .line) y) t)) refl long h e in
+        let there : getD (set (t .lines) (d .line) y) (d .line) fresh ≡ y = getD-set-same (t .lines) (d .line) y fresh below in
+        let left : usedAs (t .now) y ≡ new = rw (own, ← found, ← answer-is S x d t p m) in
+        let lines : set (set (t .lines) (d .line) y) (d .line) (usedAs (t .now) (getD (set (t .lines) (d .line) y) (d .line) fresh)) ≡ set (t .lines) (d .line) new =
+        set-set (t .lines) (d .line) y _ ∙ ap (λ (z : Line). set (t .lines) (d .line) (usedAs (t .now) z)) there ∙ ap (set (t .lines) (d .line)) left in
+        let same : dirty y ≡ dirty new = ap dirty left in
+        let count : n ≡ newCount S x d t p m pl = omega (arith, ap one same) in
+        stands-encode used
+        ∙ ap (λ (ls : List Line). encode S (withDirtyCount n (withLines ls t))) lines
+        ∙ ap (λ (i : ℕ). encode S (withDirtyCount i (withLines (set (t .lines) (d .line) new) t))) count
+        ∙ sym (stands-encode (line-left S x d t p m pl refl))

@@ -6,11 +6,11 @@ use mathlib.Core.List.{List, [], _∷_, _++_}
 use lib.ListN.{length, getD, set, replicate}
 use Rattle.words.specs.Words.{pick, one}
 use Rattle.model.specs.Numbers.{queueKindNumber}
-use Rattle.model.specs.Range.{isTree}
+use Rattle.model.specs.Range.{isTree, linesOf}
 use Rattle.model.specs.Tree.{levels, touchedTree}
 use Rattle.model.specs.Address.{addressOf, isRead, sectorIndex}
 use Rattle.model.specs.Tables.{empty, reading}
-use Rattle.model.specs.Lent.{Lent, lent}
+use Rattle.model.specs.Lent.{Lent, lent, sectorAt, sectorsAt}
 use Rattle.words.specs.Regions.{put}
 use Rattle.model.specs.Steps.{isMiss, takesLine, onSector}
 use Rattle.model.specs.Calls.{inTwo}
@@ -22,12 +22,13 @@ use Rattle.model.specs.declared.Queued.{Queued}
 use Rattle.model.specs.declared.Reply.{Reply}
 use Rattle.model.specs.declared.Event.the-variants.{Answered}
 use Rattle.layout.specs.declared.Layout.{Layout}
-use Rattle.layout.specs.Sectors.{statuses, masks, readables, someModified}
+use Rattle.layout.specs.Sectors.{SectorRoom, Plain, statuses, masks, readables, someModified}
 use Rattle.probe.specs.declared.Meeting.{Meeting}
 use Rattle.probe.specs.declared.Meeting.the-variants as meeting
 use Rattle.probe.specs.declared.Decision.{Decision}
 use Rattle.probe.specs.Decided.{backsOf}
 use Rattle.tables.specs.Raw.{dirtyAt}
+use Rattle.tables.specs.Changed.{CountFits, Changed}
 use Rattle.access.specs.declared.plan.MissPlan.{MissPlan}
 use Rattle.access.specs.declared.plan.MissPlan.the-variants.{Refused, Stays, Joins, Starts}
 
@@ -57,6 +58,21 @@ lineWritten at L l block four =
 -- the dirty count and the line
 abbrev pub lineLeft : Layout → Lent → ℕ → ℕ → List Sector → Lent
 lineLeft at L l block four = lineWritten at (countWritten at (dirtyAt (L .marks) l) (someModified four) L) l block four
+
+-- ---- a line that is there, of which the access's own sector changes
+
+-- there is room for its sectors, its bytes are those of sectors, and the dirty count fits
+abbrev pub LineMayChange : Settings → Layout → ℕ → List ℕ → List ℕ → Type 0
+LineMayChange S at l words marks = SectorRoom S at words marks × (l < linesOf S) × Plain at l marks × (at .dirty < length words) × CountFits at l words marks
+
+-- its own sector is as the access leaves it, and the line counts as dirty if one of the sectors that it then has is MODIFIED
+abbrev pub SectorLeft : Settings → Layout → Access → Answer → ℕ → List ℕ → List ℕ → List ℕ → List ℕ → Type 0
+SectorLeft S at x a l words marks words′ marks′ =
+    let k : ℕ = sectorIndex (addressOf x) in
+    let own : Sector = onSector x a (sectorAt S words marks (4 * l + k)) in
+    Changed S at l k own (someModified (set (sectorsAt S words marks l) k own)) words marks words′ marks′
+
+-- ---- beside the line
 
 -- the cycle at which it was taken: where the answer is MISS, the current one
 abbrev pub takenWritten : Layout → Answer → ℕ → List ℕ → List ℕ

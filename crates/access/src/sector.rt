@@ -16,7 +16,7 @@ use model::Sector;
 use model::Status;
 
 // Whether the status is INVALID.
-fn is_invalid(s: Status) -> bool
+pub(crate) fn is_invalid(s: Status) -> bool
     ensures { λ r. ⌜ r ≡ isInvalid s ⌝ }
 {
     match s {

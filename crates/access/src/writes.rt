@@ -15,7 +15,7 @@ ghost use Rattle.layout.specs.Layout.{LaysOut, wordsMost};
 ghost use Rattle.layout.specs.Sectors.{SectorRoom};
 ghost use Rattle.access.specs.Plan.{Meets, MayAct, Acted, Offered};
 ghost use Rattle.model.specs.Tables.{empty, reading, writing};
-ghost use Rattle.access.specs.Written.{sectorsFor, sectorsAfter, lineWritten, missesWritten, queueWritten, queuesOf, tellingQueued, tellingOf, Alone, MissRoom, QueueRoom, lineLeft, takenWritten, treesWritten};
+ghost use Rattle.access.specs.Written.{sectorsFor, sectorsAfter, lineWritten, missesWritten, queueWritten, queuesOf, tellingQueued, tellingOf, Alone, MissRoom, QueueRoom, lineLeft, takenWritten, treesWritten, LineMayChange, SectorLeft};
 ghost use Rattle.access.specs.declared.plan.MissPlan.the-variants.{Stays};
 ghost use Rattle.probe.specs.Decided.{backsOf};
 ghost use mathlib.Core.Bool.{true, false};
@@ -23,11 +23,13 @@ ghost use Rattle.model.specs.Steps.{isMiss, onSector, takesLine};
 ghost use Rattle.model.specs.declared.Answer.the-variants.{Hit};
 ghost use Rattle.model.specs.declared.Event.the-variants.{Answered};
 ghost use Rattle.tables.specs.Telling.{telling};
+use crate::asked::is_merge;
 use crate::asked::is_miss;
 use crate::asked::takes_line;
 use crate::asked::ticket_of;
 use crate::plan::MissPlan;
 use crate::sector::empty_sector;
+use crate::sector::is_invalid;
 use crate::sector::read_sector;
 use crate::sector::taken_sectors;
 use crate::sector::written_sector;
@@ -118,6 +120,34 @@ fn take_line(
     write_line(at, longs, words, marks, d.line, block, four);
 }
 
+// A read's own sector of a line that is there becomes as the read leaves it, and the line is counted: as dirty as it was if the sector was INVALID.
+fn fetch_sector(
+    s: Settings,
+    at: Layout,
+    words: &mut [u32],
+    marks: &mut [u8],
+    x: Access,
+    a: Answer,
+    line: usize,
+)
+    requires { ⌜ LineMayChange s at line (now words) (now marks) × (isRead x ≡ true) ⌝ }
+    ensures { λ _. ⌜ SectorLeft s at x a line (now (words .entry)) (now (marks .entry)) (now (words .exit)) (now (marks .exit)) ⌝ }
+{
+    let own = own_sector(s, at, words, marks, x, line);
+    let one = read_sector(a, own);
+    let k = values::sector_index(values::address_of(x));
+    let was = tables::is_dirty(marks, line);
+    let status = own.status;
+    if is_invalid(status) {
+        tables::change(s, at, words, marks, line, k, one, was, was);
+    } else {
+        let four = layout::lift(s, at, words, marks, line);
+        let left = layout::with_sector(four, values::sector_number(values::address_of(x)), one);
+        let is = layout::some_modified(left);
+        tables::change(s, at, words, marks, line, k, one, was, is);
+    }
+}
+
 // The line of a read that misses: taken over, or there, and then its own sector changes and the tag stays.
 fn fetch_line(
     s: Settings,
@@ -138,10 +168,8 @@ fn fetch_line(
         let one = read_sector(a, empty_sector());
         take_line(s, at, longs, words, marks, x, d, one);
     } else {
-        let one = read_sector(a, own_sector(s, at, words, marks, x, d.line));
+        fetch_sector(s, at, words, marks, x, a, d.line);
         touch(words, d.line);
-        let k = values::sector_number(values::address_of(x));
-        tables::change(s, at, words, marks, d.line, k, one);
     }
 }
 
@@ -391,6 +419,29 @@ pub(crate) fn act_write(
     tell_write(x, d)
 }
 
+// A write's own sector of a line that is there becomes as the write leaves it, and the line is counted: dirty, or as it was if the status stays.
+fn write_sector(
+    s: Settings,
+    at: Layout,
+    words: &mut [u32],
+    marks: &mut [u8],
+    x: Access,
+    a: Answer,
+    line: usize,
+)
+    requires { ⌜ LineMayChange s at line (now words) (now marks) × (isRead x ≡ false) ⌝ }
+    ensures { λ _. ⌜ SectorLeft s at x a line (now (words .entry)) (now (marks .entry)) (now (words .exit)) (now (marks .exit)) ⌝ }
+{
+    let one = written_sector(x, a, own_sector(s, at, words, marks, x, line));
+    let k = values::sector_index(values::address_of(x));
+    let was = tables::is_dirty(marks, line);
+    if is_merge(a) {
+        tables::change(s, at, words, marks, line, k, one, was, was);
+    } else {
+        tables::change(s, at, words, marks, line, k, one, was, true);
+    }
+}
+
 // A write to a line that is there: its own sector, the cycle, and the tree of its set. It queues nothing, so nothing refuses it.
 pub(crate) fn act_change(
     s: Settings,
@@ -406,10 +457,8 @@ pub(crate) fn act_change(
         (lent (now (longs .entry)) (now (words .exit)) (now (marks .exit))) ⌝ }
 {
     let a = d.answer;
-    let one = written_sector(x, a, own_sector(s, at, words, marks, x, d.line));
+    write_sector(s, at, words, marks, x, a, d.line);
     touch(words, d.line);
-    let k = values::sector_number(values::address_of(x));
-    tables::change(s, at, words, marks, d.line, k, one);
     turn_tree(s, at, words, x, d.way);
     tables::blank(Event::Answered {
         answer: a,

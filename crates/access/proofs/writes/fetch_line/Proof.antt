@@ -1,10 +1,8 @@
-use mathlib.Core.Path.{refl, sym, ap, _∙_}
+use mathlib.Core.Path.{sym, ap, _∙_}
 use borrow.Author.Needs.{needs}
-use Rattle.model.specs.Address.{sectorIndex}
 use Rattle.model.specs.Steps.{onSector}
-use Rattle.tables.proofs.Changing.{changed-as}
 use Rattle.access.proofs.Sectors.{sector-read}
-use Rattle.access.proofs.Changes.{own-room, touch-room, change-room, met-left}
+use Rattle.access.proofs.Changes.{touch-room, change-room, met-left}
 use Rattle.access.proofs.writes.fetch_line.Statement.{statement}
 use Rattle.access.proofs.writes.fetch_line.Tie as tie
 
@@ -26,16 +24,12 @@ fetch-line-spec =
       sym (tested .takes-line .ensures) ∙ read .before .before .if1 .taken,
       read .read-sector .ensures ∙ sector-read (a .x) (a .d .answer) _ (start .pre .2) ∙ ap (onSector (a .x) (a .d .answer)) (read .before .empty-sector .ensures),
     ))
-    (λ c κs. let start = c .before .before .before .before .before .before .before in own-room _ _ _ _ _ (start .pre .1 .met) (start .pre .0))  -- own-sector-requires
-    (λ c κs. search needs)  -- read-sector-requires-2
-    (λ c κs. let start = c .before .before .before .before .before .before .before .before .before .before in touch-room _ _ _ _ _ (start .pre .1 .met) (start .pre .0))  -- touch-requires
-    (λ c κs. search needs)  -- address-of-requires
-    (λ c κs. search needs)  -- sector-number-requires
-    -- change-requires
+    (λ c κs. let start = c .before .before .before .before .before .before .before in (change-room _ _ _ _ _ (start .pre .1 .met) (start .pre .0), start .pre .2))  -- fetch-sector-requires
+    -- touch-requires
     (λ c κs.
-    let touched = c .before .before .before .before .before .before in
-    let start = c .before .before .before .before .before .before .before .before .before .before .before .before .before .before .before .before .before in
-    change-room _ _ _ _ _ (start .pre .1 .met) (start .pre .0) (touched .touch .ensures) (touched .touch .kept .0) (c .before .before .sector-number .ensures .1))
+    let fetched = c .before .before .before .before .before in
+    let start = fetched .before .before .before .before .before .before .before .before in
+    rw (fetched .fetch-sector .kept .1 .1 .0) (touch-room _ _ _ _ _ (start .pre .1 .met) (start .pre .0)))
     (λ c. search needs)  -- same-length
     (λ c. search needs)  -- same-length-2
     (λ c. search needs)  -- same-length-3
@@ -44,14 +38,9 @@ fetch-line-spec =
     (λ c. search needs)  -- same-length-5
     -- returns-2
     (λ c.
-    let changed = c .before .before .before .before in
-    let number = c .before .before .before .before .before .before .before in
-    let touched = c .before .before .before .before .before .before .before .before .before .before .before in
-    let read = c .before .before .before .before .before .before .before .before .before .before .before .before .before in
-    let tested = c .before .before .before .before .before .before .before .before .before .before .before .before .before .before .before .before .before .before in
-    let start = tested .before .before .before .before in
+    let touched = c .before .before in
+    let fetched = touched .before .before .before .before .before .before in
+    let other = fetched .before .before .before in
+    let start = other .before .before .before .before .before in
     let a = start .args in
-    met-left (a .s) (a .x) (a .d) _ _ (start .pre .1 .met) (start .pre .0) (sym (tested .takes-line .ensures) ∙ c .before .before .before .before .before .before .before .before .before .before .before .before .before .before .before .before .before .if1 .left)
-    (read .read-sector2 .ensures ∙ sector-read (a .x) (a .d .answer) _ (start .pre .2) ∙ ap (onSector (a .x) (a .d .answer)) (read .before .own-sector .ensures))
-    (touched .touch .ensures)
-    (changed-as (a .s) (a .at) (a .d .line) (number .sector-number .ensures .0 ∙ ap sectorIndex (number .before .address-of .ensures)) refl (changed .change .ensures))))
+    met-left (a .s) (a .x) (a .d) _ _ (start .pre .1 .met) (start .pre .0) (sym (other .before .takes-line .ensures) ∙ other .if1 .left) (fetched .fetch-sector .ensures) (touched .touch .ensures)))
