@@ -18,6 +18,10 @@ pub getD-region : (l : List ℕ) (at n i : ℕ) → i < n → getD (region l at 
 unfolding region
 getD-region l at n i h = getD-take n (drop at l) i 0 h ∙ getD-drop at l i 0
 
+pub put-paste : (l : List ℕ) (at : ℕ) (r : List ℕ) (n : ℕ) → length r ≡ n → paste l at r n ≡ put l at r
+unfolding put
+put-paste l at r n e = rw (take-all n r (omega arith), e)
+
 -- past what is pasted stands what stood there
 pub getD-paste-past : (d : List ℕ) (at : ℕ) (s : List ℕ) (j k : ℕ) → at ≤ length d → j ≤ length s → getD (paste d at s j) (at + j + k) 0 ≡ getD d (at + j + k) 0
 getD-paste-past d at s j k h g =
@@ -59,8 +63,7 @@ module _ (l : List ℕ) (at : ℕ) (r : List ℕ) where
   pasting-turn s i v room h e w = (ap (λ (x : List ℕ). set x (at + i) v) (w .0) ∙ paste-next l at r i v (omega arith) h e, length-set s (at + i) v ∙ w .1)
 
   pub pasting-done : (s : List ℕ) (i : ℕ) → length r ≡ i → Pasting l at r s i → s ≡ put l at r
-  unfolding put
-  pasting-done s i e w = w .0 ∙ rw (take-all i r (omega arith), e)
+  pasting-done s i e w = w .0 ∙ put-paste l at r i e
 
 -- ---- the two loops that close a region up
 
