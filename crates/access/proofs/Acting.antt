@@ -30,7 +30,6 @@ use Rattle.words.proofs.Lists.{In, all-in, in-append, count-index}
 use Rattle.model.proofs.AccessKeepsSound.{Spotted}
 use Rattle.model.proofs.ProbeFindsSpot.{probe-spotted}
 use Rattle.model.proofs.Turning.{set-below}
-use Rattle.encoding.proofs.Standing.{encode-stands}
 use Rattle.layout.specs.declared.Layout.{Layout}
 use Rattle.layout.specs.Layout.{LaysOut}
 use Rattle.layout.proofs.ByBlocks.{ByBlocks, is-stands}
@@ -96,9 +95,6 @@ module _ (S : Settings) {longs words marks : List ℕ} (x : Access) (d : Decisio
   -- the current cycle, of slices in which tables stand
   pub now-of : {longs words marks : List ℕ} {u : Tables} → ByBlocks S longs words marks u → getD words 0 0 ≡ u .now
   now-of h = ap (λ (l : List ℕ). getD l 0 0) (h .as-words)
-
-  pub now-is : getD words 0 0 ≡ t .now
-  now-is = ap (λ (L : Lent). getD (L .words) 0 0) (m .is .encoded) ∙ encode-stands S t .time
 
   -- the dirty count that it leaves
   abbrev pub newCount : ℕ

@@ -16,7 +16,7 @@ ghost use Rattle.model.specs.Sound.{allOnes};
 ghost use Rattle.layout.specs.Layout.{LaysOut};
 ghost use Rattle.layout.specs.Places.{First};
 ghost use Rattle.access.specs.Plan.{Meets, Offered, isSpot, refusalMet};
-ghost use Rattle.model.specs.Steps.{access};
+ghost use Rattle.model.specs.Steps.{access, takesLine};
 use asked::is_hit;
 use asked::is_read;
 use asked::takes_line;
@@ -32,6 +32,7 @@ use plan::refusal_of;
 use probe::Decision;
 use probe::Meeting;
 use writes::act_change;
+use writes::act_found;
 use writes::act_hit;
 use writes::act_read;
 use writes::act_write;
@@ -89,8 +90,55 @@ fn refusal_met(m: Meeting) -> Refusal
     }
 }
 
-// A read whose place is decided: refused by the queue or the miss table, or acted. One that hits queues nothing and leaves the miss
-// table, so neither refuses it.
+// A read that takes a line over: refused by the queue or the miss table, or acted.
+fn offer_taken(
+    s: Settings,
+    at: Layout,
+    longs: &mut [u64],
+    words: &mut [u32],
+    marks: &mut [u8],
+    x: Access,
+    d: Decision,
+    queued: usize,
+    missed: usize,
+) -> Reply
+    requires { ⌜ LaysOut s at × Meets s (lent (now longs) (now words) (now marks)) x d × First (now marks) (at .kinds) (s .queue) 0 queued
+        × First (now marks) (at .counts) (s .misses) 0 missed × (isRead x ≡ true) × (takesLine (d .answer) ≡ true) ⌝ }
+    ensures { λ r. ⌜ Offered s (lent (now (longs .entry)) (now (words .entry)) (now (marks .entry))) x d r
+        (lent (now (longs .exit)) (now (words .exit)) (now (marks .exit))) ⌝ }
+{
+    let plan = miss_plan(s, at, longs, words, marks, x, d, queued, missed);
+    if accepted(plan) {
+        return act_read(s, at, longs, words, marks, x, d, queued, plan);
+    }
+    tables::refused(refusal_of(plan))
+}
+
+// A read whose line is there and that doesn't hit: refused by the queue or the miss table, or acted.
+fn offer_found(
+    s: Settings,
+    at: Layout,
+    longs: &mut [u64],
+    words: &mut [u32],
+    marks: &mut [u8],
+    x: Access,
+    d: Decision,
+    queued: usize,
+    missed: usize,
+) -> Reply
+    requires { ⌜ LaysOut s at × Meets s (lent (now longs) (now words) (now marks)) x d × First (now marks) (at .kinds) (s .queue) 0 queued
+        × First (now marks) (at .counts) (s .misses) 0 missed × (isRead x ≡ true) × (takesLine (d .answer) ≡ false) ⌝ }
+    ensures { λ r. ⌜ Offered s (lent (now (longs .entry)) (now (words .entry)) (now (marks .entry))) x d r
+        (lent (now (longs .exit)) (now (words .exit)) (now (marks .exit))) ⌝ }
+{
+    let plan = miss_plan(s, at, longs, words, marks, x, d, queued, missed);
+    if accepted(plan) {
+        return act_found(s, at, longs, words, marks, x, d, queued, plan);
+    }
+    tables::refused(refusal_of(plan))
+}
+
+// A read whose place is decided. One that hits queues nothing and leaves the miss table, so neither refuses it.
 fn offer_read(
     s: Settings,
     at: Layout,
@@ -111,11 +159,10 @@ fn offer_read(
     if is_hit(a) {
         return act_hit(s, at, words, x, d);
     }
-    let plan = miss_plan(s, at, longs, words, marks, x, d, queued, missed);
-    if accepted(plan) {
-        return act_read(s, at, longs, words, marks, x, d, queued, plan);
+    if takes_line(a) {
+        return offer_taken(s, at, longs, words, marks, x, d, queued, missed);
     }
-    tables::refused(refusal_of(plan))
+    offer_found(s, at, longs, words, marks, x, d, queued, missed)
 }
 
 // A write whose place is decided: to a line that is there, or refused by the queue, or acted.

@@ -148,49 +148,25 @@ fn fetch_sector(
     }
 }
 
-// The line of a read that misses: taken over, or there, and then its own sector changes and the tag stays.
-fn fetch_line(
+// The line of a read that is there: where it misses its own sector changes, else only its cycle is written. The tag stays.
+fn found_line(
     s: Settings,
     at: Layout,
-    longs: &mut [u64],
+    longs: &[u64],
     words: &mut [u32],
     marks: &mut [u8],
     x: Access,
     d: Decision,
 )
-    requires { ⌜ LaysOut s at × Meets s (lent (now longs) (now words) (now marks)) x d × (isRead x ≡ true) ⌝ }
-    ensures { λ _. ⌜ lent (now (longs .exit)) (now (words .exit)) (now (marks .exit))
-        ≡ lineLeft at (lent (now (longs .entry)) (now (words .entry)) (now (marks .entry))) (d .line) (blockOf (addressOf x))
-        (sectorsAfter x d (sectorsFor (d .meeting) (sectorsAt s (now (words .entry)) (now (marks .entry)) (d .line)))) ⌝ }
-{
-    let a = d.answer;
-    if takes_line(a) {
-        let one = read_sector(a, empty_sector());
-        take_line(s, at, longs, words, marks, x, d, one);
-    } else {
-        fetch_sector(s, at, words, marks, x, a, d.line);
-        touch(words, d.line);
-    }
-}
-
-// The line of a read. Where it doesn't miss the tag and the sectors stay as they are, and only the cycle is written.
-fn read_line(
-    s: Settings,
-    at: Layout,
-    longs: &mut [u64],
-    words: &mut [u32],
-    marks: &mut [u8],
-    x: Access,
-    d: Decision,
-)
-    requires { ⌜ LaysOut s at × Meets s (lent (now longs) (now words) (now marks)) x d × (isRead x ≡ true) ⌝ }
-    ensures { λ _. ⌜ lent (now (longs .exit)) (now (words .exit)) (now (marks .exit))
+    requires { ⌜ LaysOut s at × Meets s (lent (now longs) (now words) (now marks)) x d × (isRead x ≡ true) × (takesLine (d .answer) ≡ false) ⌝ }
+    ensures { λ _. ⌜ lent (now (longs .entry)) (now (words .exit)) (now (marks .exit))
         ≡ lineLeft at (lent (now (longs .entry)) (now (words .entry)) (now (marks .entry))) (d .line) (blockOf (addressOf x))
         (sectorsAfter x d (sectorsFor (d .meeting) (sectorsAt s (now (words .entry)) (now (marks .entry)) (d .line)))) ⌝ }
 {
     let a = d.answer;
     if is_miss(a) {
-        fetch_line(s, at, longs, words, marks, x, d);
+        fetch_sector(s, at, words, marks, x, a, d.line);
+        touch(words, d.line);
     } else {
         touch(words, d.line);
     }
@@ -363,7 +339,7 @@ fn tell_write(x: Access, d: Decision) -> Reply
     tell(d, [values::idle(); 2], 0)
 }
 
-// The act of a read that is not refused; nothing is written before it.
+// The act of a read that takes a line over and is not refused; nothing is written before it.
 pub(crate) fn act_read(
     s: Settings,
     at: Layout,
@@ -375,23 +351,42 @@ pub(crate) fn act_read(
     queued: usize,
     plan: MissPlan,
 ) -> Reply
-    requires { ⌜ LaysOut s at × MayAct s (lent (now longs) (now words) (now marks)) x d queued plan × (isRead x ≡ true) ⌝ }
+    requires { ⌜ LaysOut s at × MayAct s (lent (now longs) (now words) (now marks)) x d queued plan × (isRead x ≡ true) × (takesLine (d .answer) ≡ true) ⌝ }
     ensures { λ r. ⌜ Acted s (lent (now (longs .entry)) (now (words .entry)) (now (marks .entry))) x d queued plan r
         (lent (now (longs .exit)) (now (words .exit)) (now (marks .exit))) ⌝ }
 {
-    read_line(s, at, longs, words, marks, x, d);
+    let a = d.answer;
+    let one = read_sector(a, empty_sector());
+    take_line(s, at, longs, words, marks, x, d, one);
     mark_set(s, at, words, x, d);
     let address = SectorAddress(values::address_of(x));
-    write_misses(
-        at,
-        longs,
-        words,
-        marks,
-        s.readers,
-        plan,
-        address,
-        ticket_of(x),
-    );
+    let ticket = ticket_of(x);
+    write_misses(at, longs, words, marks, s.readers, plan, address, ticket);
+    queue_read(at, longs, words, marks, queued, x, d);
+    tell_read(x, d)
+}
+
+// The act of a read whose line is there and that is not refused. It stands by itself, so that no number of a write-back is carried for it.
+pub(crate) fn act_found(
+    s: Settings,
+    at: Layout,
+    longs: &mut [u64],
+    words: &mut [u32],
+    marks: &mut [u8],
+    x: Access,
+    d: Decision,
+    queued: usize,
+    plan: MissPlan,
+) -> Reply
+    requires { ⌜ LaysOut s at × MayAct s (lent (now longs) (now words) (now marks)) x d queued plan × (isRead x ≡ true) × (takesLine (d .answer) ≡ false) ⌝ }
+    ensures { λ r. ⌜ Acted s (lent (now (longs .entry)) (now (words .entry)) (now (marks .entry))) x d queued plan r
+        (lent (now (longs .exit)) (now (words .exit)) (now (marks .exit))) ⌝ }
+{
+    found_line(s, at, longs, words, marks, x, d);
+    mark_set(s, at, words, x, d);
+    let address = SectorAddress(values::address_of(x));
+    let ticket = ticket_of(x);
+    write_misses(at, longs, words, marks, s.readers, plan, address, ticket);
     queue_read(at, longs, words, marks, queued, x, d);
     tell_read(x, d)
 }

@@ -11,6 +11,8 @@ use Rattle.layout.proofs.Room.{taken-room, tree-room}
 use Rattle.access.specs.Written.{Alone, lineTaken, setTurned}
 use Rattle.access.proofs.PlanTests.{read-needs}
 use Rattle.access.proofs.Lines.{kept-stays, no-back}
+use Rattle.model.specs.Steps.{onSector}
+use Rattle.access.proofs.Sectors.{sector-read}
 use Rattle.access.proofs.Telling.{acts-fit, miss-room, queue-room, acted}
 use Rattle.access.proofs.writes.act_read.Statement.{statement}
 use Rattle.access.proofs.writes.act_read.Tie as tie
@@ -22,15 +24,25 @@ pub act-read-spec : {M : Type 1} → statement M
 act-read-spec =
     tie.close
     (tie.spec
-    (λ c κs. let start = c .before .before .before .before .before .before in (start .pre .0, record { tables = start .pre .1 .tables; spot = start .pre .1 .spot; met = start .pre .1 .acts .met }, start .pre .2))  -- read-line-requires
+    (λ c κs. search needs)  -- empty-sector-requires
+    (λ c κs. search needs)  -- read-sector-requires
+    -- take-line-requires
+    (λ c κs.
+    let start = c .before .before .before .before .before .before .before .before in
+    let a = start .args in
+    let read = c .before .before .before in (
+      start .pre .0,
+      record { tables = start .pre .1 .tables; spot = start .pre .1 .spot; met = start .pre .1 .acts .met },
+      start .pre .3,
+      read .read-sector .ensures ∙ sector-read (a .x) (a .d .answer) _ (start .pre .2) ∙ ap (onSector (a .x) (a .d .answer)) (read .before .empty-sector .ensures),
+    ))
     -- mark-set-requires
     (λ c κs.
-    let lined = c .before .before .before .before .before .before .before in
-    let start = lined .before .before .before .before .before .before .before in
+    let start = c .before .before .before .before .before .before .before .before .before .before .before .before .before .before .before .before in
     let a = start .args in
     let m = start .pre .1 .acts .met in
     let fit = acts-fit _ _ _ _ _ _ _ (start .pre .1 .acts) (start .pre .0) in
-    let same = lined .read-line .kept .1 .1 .1 .0 in
+    let same = c .before .before .before .before .before .before .before .take-line .kept .1 .1 .1 .0 in
     let taken = taken-room (start .pre .0) fit (a .d .line) (m .below) in
     let tree = tree-room (start .pre .0) fit (setIndex (a .s) (addressOf (a .x))) (set-below (a .s) (m .is .range) (addressOf (a .x))) in
     (rw same (taken .inside), rw same (tree .inside), rw same (tree .small), fit .sets, fit .power, fit .tree))
@@ -38,65 +50,41 @@ act-read-spec =
     (λ c κs. search needs)  -- ticket-of-requires
     -- write-misses-requires
     (λ c κs.
-    let marked = c .before .before .before .before .before .before .before in
-    let lined = marked .before .before .before .before .before .before .before .before in
-    let start = lined .before .before .before .before .before .before .before in
-    let k = lined .read-line .kept in
-    miss-room _ _ _ _ _ _ _ (start .pre .1 .acts) (start .pre .0) _ _ _ (k .1 .1 .0) (marked .mark-set .kept .1 .1 .0 ∙ k .1 .1 .1 .0) (k .1 .1 .1 .1 .0))
+    let start = c .before .before .before .before .before .before .before .before .before .before .before .before .before .before .before .before .before .before .before .before .before .before .before .before in
+    let k = c .before .before .before .before .before .before .before .before .before .before .before .before .before .before .before .take-line .kept in
+    miss-room _ _ _ _ _ _ _ (start .pre .1 .acts) (start .pre .0) _ _ _ (k .1 .1 .0) (c .before .before .before .before .before .before .before .mark-set .kept .1 .1 .0 ∙ k .1 .1 .1 .0) (k .1 .1 .1 .1 .0))
     -- queue-read-requires
     (λ c κs.
     let missed = c .before .before .before .before .before .before .before .before .before in
-    let marked = missed .before .before .before .before .before .before .before .before in
-    let lined = marked .before .before .before .before .before .before .before .before in
-    let start = lined .before .before .before .before .before .before .before in
+    let start = c .before .before .before .before .before .before .before .before .before .before .before .before .before .before .before .before .before .before .before .before .before .before .before .before .before .before .before .before .before .before .before .before .before .before in
     let k = missed .write-misses .kept in
-    let l = lined .read-line .kept in
+    let l = c .before .before .before .before .before .before .before .before .before .before .before .before .before .before .before .before .before .before .before .before .before .before .before .before .before .take-line .kept in
     let n = missed .write-misses .last in (
       alone-read start,
-      queue-room _ _ _ _ _ _ _ (start .pre .1 .acts) (start .pre .0) (n .1 .0) (n .1 .1 .0) (n .1 .1 .1 .0) (k .1 .0 ∙ l .1 .1 .0) (k .1 .1 .0 ∙ marked .mark-set .kept .1 .1 .0 ∙ l .1 .1 .1 .0) (k .1 .1 .1 .0 ∙ l .1 .1 .1 .1 .0) (read-needs (start .args .x) (start .args .d) (start .pre .2) refl),
+      queue-room _ _ _ _ _ _ _ (start .pre .1 .acts) (start .pre .0) (n .1 .0) (n .1 .1 .0) (n .1 .1 .1 .0) (k .1 .0 ∙ l .1 .1 .0) (k .1 .1 .0 ∙ c .before .before .before .before .before .before .before .before .before .before .before .before .before .before .before .before .before .mark-set .kept .1 .1 .0 ∙ l .1 .1 .1 .0) (k .1 .1 .1 .0 ∙ l .1 .1 .1 .1 .0) (read-needs (start .args .x) (start .args .d) (start .pre .2) refl),
     ))
     -- tell-read-requires
     (λ c κs.
-    let start = c .before .before .before .before .before .before .before .before .before .before .before .before .before .before .before .before .before .before .before .before .before .before .before .before .before .before .before .before .before .before .before .before .before .before .before .before .before .before .before in let f = acts-fit _ _ _ _ _ _ _ (start .pre .1 .acts) (start .pre .0) in
+    let start = c .before .before .before .before .before .before .before .before .before .before .before .before .before .before .before .before .before .before .before .before .before .before .before .before .before .before .before .before .before .before .before .before .before .before .before .before .before .before .before .before .before in
+    let f = acts-fit _ _ _ _ _ _ _ (start .pre .1 .acts) (start .pre .0) in
     (alone-read start, omega (arith, start .pre .1 .acts .met .below)))
-    -- same-length
-    (λ c.
-    let queued = c .before .before .before .before .before .before .before in
-    let missed = queued .before .before .before .before .before .before .before .before .before .before in
-    let marked = missed .before .before .before .before .before .before .before .before in
-    let lined = marked .before .before .before .before .before .before .before .before in
-    queued .queue-read .kept .1 .0 ∙ missed .write-misses .kept .1 .0 ∙ lined .read-line .kept .1 .1 .0)
-    -- same-length-2
-    (λ c.
-    let queued = c .before .before .before .before .before .before .before in
-    let missed = queued .before .before .before .before .before .before .before .before .before .before in
-    let marked = missed .before .before .before .before .before .before .before .before in
-    let lined = marked .before .before .before .before .before .before .before .before in
-    queued .queue-read .kept .1 .1 .0 ∙ missed .write-misses .kept .1 .1 .0 ∙ marked .mark-set .kept .1 .1 .0 ∙ lined .read-line .kept .1 .1 .1 .0)
-    -- same-length-3
-    (λ c.
-    let queued = c .before .before .before .before .before .before .before in
-    let missed = queued .before .before .before .before .before .before .before .before .before .before in
-    let marked = missed .before .before .before .before .before .before .before .before in
-    let lined = marked .before .before .before .before .before .before .before .before in
-    queued .queue-read .kept .1 .1 .1 .0 ∙ missed .write-misses .kept .1 .1 .1 .0 ∙ lined .read-line .kept .1 .1 .1 .1 .0)
+    (λ c. c .before .before .before .before .before .before .before .queue-read .kept .1 .0 ∙ c .before .before .before .before .before .before .before .before .before .before .before .before .before .before .before .before .before .write-misses .kept .1 .0 ∙ c .before .before .before .before .before .before .before .before .before .before .before .before .before .before .before .before .before .before .before .before .before .before .before .before .before .before .before .before .before .before .before .before .before .take-line .kept .1 .1 .0)  -- same-length
+    (λ c. c .before .before .before .before .before .before .before .queue-read .kept .1 .1 .0 ∙ c .before .before .before .before .before .before .before .before .before .before .before .before .before .before .before .before .before .write-misses .kept .1 .1 .0 ∙ c .before .before .before .before .before .before .before .before .before .before .before .before .before .before .before .before .before .before .before .before .before .before .before .before .before .mark-set .kept .1 .1 .0 ∙ c .before .before .before .before .before .before .before .before .before .before .before .before .before .before .before .before .before .before .before .before .before .before .before .before .before .before .before .before .before .before .before .before .before .take-line .kept .1 .1 .1 .0)  -- same-length-2
+    (λ c. c .before .before .before .before .before .before .before .queue-read .kept .1 .1 .1 .0 ∙ c .before .before .before .before .before .before .before .before .before .before .before .before .before .before .before .before .before .write-misses .kept .1 .1 .1 .0 ∙ c .before .before .before .before .before .before .before .before .before .before .before .before .before .before .before .before .before .before .before .before .before .before .before .before .before .before .before .before .before .before .before .before .before .take-line .kept .1 .1 .1 .1 .0)  -- same-length-3
     -- returns
     (λ c. record {
       on = λ t p acts.
-          let queued = c .before .before .before .before .before .before .before in
-          let missed = queued .before .before .before .before .before .before .before .before .before .before in
-          let addressed = missed .before .before .before .before .before in
-          let marked = addressed .before .before .before in
-          let lined = marked .before .before .before .before .before .before .before .before in
-          let start = lined .before .before .before .before .before .before .before in
-          let a = start .args in
-          let l = lined .read-line .last in
+          let missed = c .before .before .before .before .before .before .before .before .before .before .before .before .before .before .before .before .before in
+          let marked = c .before .before .before .before .before .before .before .before .before .before .before .before .before .before .before .before .before .before .before .before .before .before .before .before .before in
+          let lined = c .before .before .before .before .before .before .before .before .before .before .before .before .before .before .before .before .before .before .before .before .before .before .before .before .before .before .before .before .before .before .before .before .before in
+          let a = c .before .before .before .before .before .before .before .before .before .before .before .before .before .before .before .before .before .before .before .before .before .before .before .before .before .before .before .before .before .before .before .before .before .before .before .before .before .before .before .before .before .before .args in
+          let l = lined .take-line .last in
           let k = missed .write-misses .last in
-          acted (a .s) (a .x) (a .d) (a .queued) (a .plan) t p acts (start .pre .0)
+          acted (a .s) (a .x) (a .d) (a .queued) (a .plan) t p acts (c .before .before .before .before .before .before .before .before .before .before .before .before .before .before .before .before .before .before .before .before .before .before .before .before .before .before .before .before .before .before .before .before .before .before .before .before .before .before .before .before .before .before .pre .0)
           (lent (l .1 .1 .0) (marked .mark-set .last .1 .1 .0) (l .1 .1 .1 .1 .0)) (lent (k .1 .0) (k .1 .1 .0) (k .1 .1 .1 .0)) _
           (ap (λ (words : List ℕ). lent (l .1 .1 .0) words (l .1 .1 .1 .1 .0)) (marked .mark-set .ensures)
-          ∙ ap (λ (L : Lent). setTurned (a .s) (a .at) (setIndex (a .s) (addressOf (a .x))) (a .d .way) (lineTaken (a .at) (a .d .answer) (a .d .line) L)) (lined .read-line .ensures))
-          (rw (addressed .address-of .ensures, missed .before .ticket-of .ensures) at (missed .write-misses .ensures))
+          ∙ ap (λ (L : Lent). setTurned (a .s) (a .at) (setIndex (a .s) (addressOf (a .x))) (a .d .way) (lineTaken (a .at) (a .d .answer) (a .d .line) L)) (lined .take-line .ensures))
+          (rw (c .before .before .before .before .before .before .before .before .before .before .before .before .before .before .before .before .before .before .before .before .before .before .address-of .ensures, c .before .before .before .before .before .before .before .before .before .before .before .before .before .before .before .before .before .before .before .before .before .ticket-of .ensures) at (missed .write-misses .ensures))
           (c .tell-read .ensures)
-          (queued .queue-read .ensures);
+          (c .before .before .before .before .before .before .before .queue-read .ensures);
     }))
