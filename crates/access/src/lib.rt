@@ -1,6 +1,6 @@
 // An access on sound tables: decided by reading alone, then written. In order: `asked` (the access and its answer), `sector` (what
 // it leaves in its line's sectors), `plan` (refusals 7, 8 and 9, or what becomes of the miss table), `writes` (the writes, and what
-// it tells); here refusals 4, 5 and 6, the two ways that a read and a write go, and the whole step.
+// it tells); here refusals 4, 5 and 6, the ways that a read and a write go, and the whole step.
 mod asked;
 mod plan;
 mod sector;
@@ -131,11 +131,11 @@ fn offer_found(
     ensures { λ r. ⌜ Offered s (lent (now (longs .entry)) (now (words .entry)) (now (marks .entry))) x d r
         (lent (now (longs .exit)) (now (words .exit)) (now (marks .exit))) ⌝ }
 {
-    let plan = miss_plan(s, at, longs, words, marks, x, d, queued, missed);
-    if accepted(plan) {
-        return act_found(s, at, longs, words, marks, x, d, queued, plan);
+    let misses = miss_plan(s, at, longs, words, marks, x, d, queued, missed);
+    if accepted(misses) {
+        return act_found(s, at, longs, words, marks, x, d, queued, misses);
     }
-    tables::refused(refusal_of(plan))
+    tables::refused(refusal_of(misses))
 }
 
 // A read whose place is decided. One that hits queues nothing and leaves the miss table, so neither refuses it.

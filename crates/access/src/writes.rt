@@ -1,6 +1,6 @@
 // The writes of an access that is not refused, in order: its line with the dirty count, the cycle at which that was taken and the
-// tree of its set, the miss table, the queue. Then what it tells. A read and a write each have their own, so that no write asks which
-// it is. Last a write to a line that is there and a read that hits, which need two or three of these writes.
+// tree of its set, the miss table, the queue. Then what it tells. A read and a write, and a line taken over and one that is there, each
+// have their own, so that no write asks which it is. Last a write to a line that is there and a read that hits, which need two or three.
 ghost use mathlib.Core.Path.{_≡_};
 ghost use Prim.Native.Nat.{_+_, _*_, _≤_, _<_};
 ghost use mathlib.Core.List.{[], _∷_};

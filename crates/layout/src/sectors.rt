@@ -1,5 +1,5 @@
-// Sectors in the slices: one of them, and a line's four lifted as one array and stored back, column by column; four with one of them
-// changed.
+// Sectors in the slices: one of them; a line's four lifted as one array and stored whole, column by column; one of a line's four
+// replaced, by way of the array; four with one of them changed, for a line taken over.
 ghost use mathlib.Core.Path.{_≡_};
 ghost use Prim.Native.Nat.{_+_, _*_, _≤_, _<_};
 ghost use lib.ListN.{length, getD, set};
