@@ -17,6 +17,9 @@ use Rattle.model.specs.declared.Event.the-variants as event
 use Rattle.model.specs.declared.Reply.{Reply}
 use Rattle.model.proofs.SoundFacts.{parts}
 use Rattle.encoding.proofs.Bridge.{is-tables}
+use Rattle.layout.specs.declared.Layout.{Layout}
+use Rattle.layout.specs.Layout.{LaysOut}
+use Rattle.layout.specs.Places.{First}
 use Rattle.tables.specs.Telling.{telling}
 use Rattle.tables.proofs.Tellings.{refusal-leaves}
 use Rattle.probe.specs.declared.Meeting.{Meeting}
@@ -25,10 +28,10 @@ use Rattle.probe.specs.declared.Decision.{Decision}
 use Rattle.probe.specs.Decided.{Decided, placeFor, placeIs}
 use Rattle.model.proofs.Turning.{set-below}
 use Rattle.probe.proofs.OfTables.{decided-probe}
-use Rattle.access.specs.Plan.{Met, Offered, missPlan, following, isAccepted, refusalOf, isSpot, refusalMet}
+use Rattle.access.specs.Plan.{Met, Meets, Planned, Acts, MayAct, Acted, Offered, missPlan, following, isAccepted, refusalOf, isSpot, refusalMet}
 use Rattle.access.specs.declared.plan.MissPlan.{MissPlan}
 use Rattle.access.specs.declared.plan.MissPlan.the-variants.{Refused, Stays, Joins, Starts}
-use Rattle.access.proofs.Plans.{plan-is}
+use Rattle.access.proofs.Plans.{plan-is, queue-counted}
 use Rattle.access.proofs.PlanTests.{shown}
 
 -- ---- the plan
@@ -54,6 +57,21 @@ module _ (S : Settings) {L : Lent} (x : Access) (d : Decision) (t : Tables) (p :
 
   pub offered-stops : {r : Reply} → isAccepted c ≡ false → r ≡ telling (event.Refused (refusalOf c)) → Leaves (encoded S (proceed S x t (at p))) L r L
   offered-stops g e = rw (proceeds, following-stops S x p t c g, e) (refusal-leaves (refusalOf c) L)
+
+-- what an accepted plan asks of the act, and what the act then leaves; what a refusal leaves
+module _ (S : Settings) {longs words marks : List ℕ} {x : Access} {d : Decision} {n : ℕ} {c : MissPlan} {place : Layout} (pl : LaysOut S place)
+    (used : First marks (place .kinds) (S .queue) 0 n) (plan : Planned S (lent longs words marks) x d c) where
+  acts : isAccepted c ≡ true → (t : Tables) (p : Spot) → Met S (lent longs words marks) x d t p → Acts S (lent longs words marks) x d n c t p
+  acts g t p m = record { met = m; counted = queue-counted S t (m .is) pl used; planned = plan .on t p m; accepted = g }
+
+  pub may-act : isAccepted c ≡ true → Meets S (lent longs words marks) x d → MayAct S (lent longs words marks) x d n c
+  may-act g m = record { tables = m .tables; spot = m .spot; acts = acts g (m .tables) (m .spot) (m .met) }
+
+  pub offered-acted : isAccepted c ≡ true → {r : Reply} {M : Lent} → Acted S (lent longs words marks) x d n c r M → Offered S (lent longs words marks) x d r M
+  offered-acted g a = record { on = λ t p m. offered-acts S x d t p m (plan .on t p m) g (a .on t p (acts g t p m)) }
+
+  pub offered-refused : isAccepted c ≡ false → {r : Reply} → r ≡ telling (event.Refused (refusalOf c)) → Offered S (lent longs words marks) x d r (lent longs words marks)
+  offered-refused g e = record { on = λ t p m. offered-stops S x d t p m (plan .on t p m) g e }
 
 -- ---- the place
 

@@ -8,7 +8,7 @@ pub mod Grown
 pub mod ByBlocks
 pub mod Lines
 pub mod OneOfFour
-pub mod Kept
+pub mod Replaced
 pub mod TreeStands
 pub mod DirtyCount
 pub mod Filled

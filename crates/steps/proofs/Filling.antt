@@ -103,9 +103,9 @@ held-of (p ∷ q ∷ r ∷ s ∷ []) tag b l e f0 f1 f2 f3 =
 held-of (p ∷ q ∷ r ∷ s ∷ u ∷ xs) tag b l e f0 f1 f2 f3 = absurd (omega arith)
 
 -- a sound sector that has come: dirty then if it has a dirty byte, else it was not, and the line is as dirty as before
-filled-dirty : (xs : List Sector) (k : ℕ) → k < length xs → all sectorOk xs ≡ true
+come-dirty : (xs : List Sector) (k : ℕ) → k < length xs → all sectorOk xs ≡ true
     → pick (eqb (getD xs k empty .mask) 0) (any (λ s. isModified (s .status)) xs) true ≡ any (λ s. isModified (s .status)) (set xs k (arrived (getD xs k empty)))
-filled-dirty xs k h ok = go (eqb (getD xs k empty .mask) 0) refl
+come-dirty xs k h ok = go (eqb (getD xs k empty .mask) 0) refl
   where
     one-ok : sectorOk (getD xs k empty) ≡ true
     one-ok = all-in sectorOk xs ok (in-getD xs k empty h)
@@ -162,7 +162,7 @@ module _ (S : Settings) (t : Tables) (ok : Sound S t) {longs words marks : List 
       let is : Bool = pick (eqb (getD (x .sectors) (sectorIndex a) empty .mask) 0) (dirtyAt marks l) true in
       let then : is ≡ dirty (withSectors (set (x .sectors) (sectorIndex a) (arrived (getD (x .sectors) (sectorIndex a) empty))) x) =
       ap (λ (b : Bool). pick (eqb (getD (x .sectors) (sectorIndex a) empty .mask) 0) b true) (dirty-at S t h p n l k (four l k))
-      ∙ filled-dirty (x .sectors) (sectorIndex a) (omega (arith, four l k, sector-below a)) (sectors-at S t ok x (in-getD (t .lines) l fresh k)) in
+      ∙ come-dirty (x .sectors) (sectorIndex a) (omega (arith, four l k, sector-below a)) (sectors-at S t ok x (in-getD (t .lines) l fresh k)) in
       let c = change-stands S t h p n l k (four l k) (sectorIndex a) (arrived (getD (x .sectors) (sectorIndex a) empty)) is then few
       (subst (λ (y : Sector). Changed S at l (sectorIndex a) (arrived y) (pick (eqb (y .mask) 0) (dirtyAt marks l) true) words marks words′ marks′) own (f .filled)) in
       let count : t .dirtyCount - one (dirty x) + one (dirty (fillLine a x)) ≡ recounted x (fillLine a x) (t .dirtyCount) = omega arith in

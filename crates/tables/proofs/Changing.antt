@@ -26,7 +26,7 @@ use Rattle.layout.proofs.ByBlocks.{ByBlocks}
 use Rattle.layout.proofs.Lines.{status-at, lifted, store-stands}
 use Rattle.layout.proofs.DirtyCount.{dirty-count-at, dirty-count-stands}
 use Rattle.tables.specs.Raw.{dirtyAt}
-use Rattle.tables.specs.Changed.{Changed, recounted}
+use Rattle.tables.specs.Changed.{Changed, wordsCounted}
 
 -- the count, then the four sectors
 pub counted-then : (S : Settings) (at : Layout) (l k : ℕ) (x : Sector) {was : Bool} (is : Bool) (words marks : List ℕ) {words₁ words′ marks′ : List ℕ} → was ≡ dirtyAt marks l
@@ -89,9 +89,9 @@ module _ (S : Settings) (t : Tables) {longs words marks : List ℕ} (h : ByBlock
       let n : ℕ = t .dirtyCount - one (dirty line) + one (dirty changedLine) in
       let count : getD words (at .dirty) 0 + one is - one (dirtyAt marks l) ≡ n =
       rw (dirty-count-at S t h p, dirty-at S t h p sized l below four, e) (omega (arith, fits)) in
-      let h₁ : ByBlocks S longs (recounted at l is words marks) marks (withDirtyCount n t) =
+      let h₁ : ByBlocks S longs (wordsCounted at l is words marks) marks (withDirtyCount n t) =
       dirty-count-stands S t h p n (ap (λ (m : ℕ). put words (at .dirty) (m ∷ [])) count) in
-      let them : set (sectorsAt S (recounted at l is words marks) marks l) k x ≡ changedLine .sectors =
+      let them : set (sectorsAt S (wordsCounted at l is words marks) marks l) k x ≡ changedLine .sectors =
       ap (λ (ys : List Sector). set ys k x) (lifted S (withDirtyCount n t) h₁ p sized l below four) in
       store-stands S (withDirtyCount n t) h₁ p sized l below changedLine (length-set (line .sectors) k x ∙ four) refl refl refl
-      (subst (λ (ys : List Sector). StoredBack at l ys (recounted at l is words marks) marks words′ marks′) them c)
+      (subst (λ (ys : List Sector). StoredBack at l ys (wordsCounted at l is words marks) marks words′ marks′) them c)

@@ -17,10 +17,10 @@ abbrev pub CountFits : Layout → ℕ → List ℕ → List ℕ → Type 0
 CountFits at l words marks = (getD words (at .dirty) 0 ≤ 1024) × (one (dirtyAt marks l) ≤ getD words (at .dirty) 0)
 
 -- `words` when line l becomes dirty or not
-abbrev pub recounted : Layout → ℕ → Bool → List ℕ → List ℕ → List ℕ
-recounted at l is words marks = put words (at .dirty) ((getD words (at .dirty) 0 + one is - one (dirtyAt marks l)) ∷ [])
+abbrev pub wordsCounted : Layout → ℕ → Bool → List ℕ → List ℕ → List ℕ
+wordsCounted at l is words marks = put words (at .dirty) ((getD words (at .dirty) 0 + one is - one (dirtyAt marks l)) ∷ [])
 
 -- the line is counted, then its four sectors are stored back with sector k changed
 abbrev pub Changed : Settings → Layout → ℕ → ℕ → Sector → Bool → List ℕ → List ℕ → List ℕ → List ℕ → Type 0
 Changed S at l k x is words marks words′ marks′ =
-    StoredBack at l (set (sectorsAt S (recounted at l is words marks) marks l) k x) (recounted at l is words marks) marks words′ marks′
+    StoredBack at l (set (sectorsAt S (wordsCounted at l is words marks) marks l) k x) (wordsCounted at l is words marks) marks words′ marks′

@@ -123,9 +123,9 @@ set-past : (p q : List ℕ) (k v : ℕ) → set (p ++ q) (length p + k) v ≡ p 
 set-past [] q k v = ap (λ (i : ℕ). set q i v) (zero-add k)
 set-past (x ∷ p) q k v = ap (λ (i : ℕ). set (x ∷ (p ++ q)) i v) (suc-add (length p) k) ∙ ap (λ (r : List ℕ). x ∷ r) (set-past p q k v)
 
-pub set-inside : (l : List ℕ) (at : ℕ) (r : List ℕ) (k v : ℕ) → at + length r ≤ length l → k < length r → set (put l at r) (at + k) v ≡ put l at (set r k v)
+pub put-set-inside : (l : List ℕ) (at : ℕ) (r : List ℕ) (k v : ℕ) → at + length r ≤ length l → k < length r → set (put l at r) (at + k) v ≡ put l at (set r k v)
 unfolding put
-set-inside l at r k v h g =
+put-set-inside l at r k v h g =
     let n : length (take at l) ≡ at = length-take-le at l (omega arith) in
     let m : length (take at l ++ r) ≡ length (take at l) + length r = length-append (take at l) r in
     set-append-left (take at l ++ r) (drop (at + length r) l) (at + k) v (omega (arith, n, m))
@@ -133,9 +133,9 @@ set-inside l at r k v h g =
     ∙ ap (λ (q : List ℕ). q ++ drop (at + length r) l) (set-past (take at l) r k v)
     ∙ ap (λ (i : ℕ). take at l ++ set r k v ++ drop (at + i) l) (sym (length-set r k v))
 
-pub set-before : (l : List ℕ) (at : ℕ) (r : List ℕ) (i v : ℕ) → at ≤ length l → i < at → set (put l at r) i v ≡ put (set l i v) at r
+pub put-set-before : (l : List ℕ) (at : ℕ) (r : List ℕ) (i v : ℕ) → at ≤ length l → i < at → set (put l at r) i v ≡ put (set l i v) at r
 unfolding put
-set-before l at r i v h g =
+put-set-before l at r i v h g =
     let n : length (take at l) ≡ at = length-take-le at l h in
     let m : length (take at l ++ r) ≡ length (take at l) + length r = length-append (take at l) r in
     set-append-left (take at l ++ r) (drop (at + length r) l) i v (omega (arith, n, m))

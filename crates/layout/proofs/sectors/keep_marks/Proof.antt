@@ -2,7 +2,7 @@
 use mathlib.Core.Path.{_≡_}
 use lib.ListN.{length}
 use borrow.Author.Needs.{needs}
-use Rattle.layout.proofs.Kept.{first-asks, second-asks, third-asks, fourth-asks, four-kept}
+use Rattle.layout.proofs.Replaced.{first-asks, second-asks, third-asks, fourth-asks, four-kept}
 use Rattle.layout.proofs.sectors.keep_marks.Statement.{statement}
 use Rattle.layout.proofs.sectors.keep_marks.Tie as tie
 

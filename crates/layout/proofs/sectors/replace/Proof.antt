@@ -2,7 +2,7 @@
 use Prim.Native.Nat.{_+_, _*_}
 use native.Mathlib.Omega.{arith}
 use borrow.Author.Needs.{needs}
-use Rattle.layout.proofs.Kept.{lifted-stand, replaced}
+use Rattle.layout.proofs.Replaced.{lifted-stand, replaced}
 use Rattle.layout.proofs.sectors.replace.Statement.{statement}
 use Rattle.layout.proofs.sectors.replace.Tie as tie
 

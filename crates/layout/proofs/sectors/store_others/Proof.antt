@@ -7,7 +7,7 @@ use lib.ListN.{length, getD, length-set, length-map}
 use borrow.Author.Needs.{needs}
 use Rattle.words.specs.Regions.{put}
 use Rattle.layout.specs.Sectors.{readables, butOne}
-use Rattle.layout.proofs.Kept.{column-past}
+use Rattle.layout.proofs.Replaced.{column-past}
 use Rattle.layout.proofs.sectors.store_others.Statement.{statement}
 use Rattle.layout.proofs.sectors.store_others.Tie as tie
 

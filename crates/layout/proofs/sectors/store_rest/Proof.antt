@@ -6,7 +6,7 @@ use lib.ListN.{length}
 use borrow.Author.Needs.{needs}
 use Rattle.layout.proofs.OneOfFour.{four-changed}
 use Rattle.layout.proofs.Stores.{none}
-use Rattle.layout.proofs.Kept.{others-as}
+use Rattle.layout.proofs.Replaced.{others-as}
 use Rattle.layout.proofs.sectors.store_rest.Statement.{statement}
 use Rattle.layout.proofs.sectors.store_rest.Tie as tie
 

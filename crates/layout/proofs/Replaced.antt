@@ -13,7 +13,7 @@ use Rattle.words.specs.Words.{pick}
 use Rattle.words.specs.Regions.{put}
 use Rattle.words.proofs.Flags.{no-not, clash}
 use Rattle.words.proofs.Lists.{map-set}
-use Rattle.words.proofs.Region.{Pasting, pasting-start, pasting-turn, pasting-done, put-paste, getD-paste-past, set-inside, set-before}
+use Rattle.words.proofs.Region.{Pasting, pasting-start, pasting-turn, pasting-done, put-paste, getD-paste-past, put-set-inside, put-set-before}
 use Rattle.model.specs.Numbers.{statusNumber}
 use Rattle.model.specs.Lent.{bit, sectorsAt}
 use Rattle.model.specs.declared.Settings.{Settings}
@@ -28,13 +28,13 @@ use Rattle.layout.proofs.Stores.{none}
 
 -- ---- a number that is written only where it differs, and not at the place of the sector that changes
 
-pub kept-written : (l : List ℕ) (i : ℕ) (other : Bool) (was is : ℕ) → (other && not (eqb was is)) ≡ true → set l i is ≡ set l i (pick other is was)
-kept-written l i true was is h = refl
-kept-written l i false was is h = clash h refl
+pub number-written : (l : List ℕ) (i : ℕ) (other : Bool) (was is : ℕ) → (other && not (eqb was is)) ≡ true → set l i is ≡ set l i (pick other is was)
+number-written l i true was is h = refl
+number-written l i false was is h = clash h refl
 
-pub kept-stays : (l : List ℕ) (i : ℕ) (other : Bool) (was is : ℕ) → getD l i 0 ≡ was → (other && not (eqb was is)) ≡ false → l ≡ set l i (pick other is was)
-kept-stays l i false was is e h = sym (set-getD l i 0) ∙ ap (set l i) e
-kept-stays l i true was is e h = sym (set-getD l i 0) ∙ ap (set l i) (e ∙ eqb-true was is (no-not h))
+pub number-stays : (l : List ℕ) (i : ℕ) (other : Bool) (was is : ℕ) → getD l i 0 ≡ was → (other && not (eqb was is)) ≡ false → l ≡ set l i (pick other is was)
+number-stays l i false was is e h = sym (set-getD l i 0) ∙ ap (set l i) e
+number-stays l i true was is e h = sym (set-getD l i 0) ∙ ap (set l i) (e ∙ eqb-true was is (no-not h))
 
 -- ---- four numbers, one after the other
 
@@ -139,7 +139,7 @@ module _ (found : List Sector) (k : ℕ) (x : Sector) (four : length found ≡ 4
   pub changed-last : (l : List ℕ) (w : ℕ) → w + 4 ≤ length l
       → set (put l w (butOne k (map f found) (map f (set found k x)))) (w + k) (f x) ≡ put l w (map f (set found k x))
   changed-last l w g =
-      set-inside l w (butOne k (map f found) (map f (set found k x))) k (f x) (omega (arith, size)) (omega (arith, size)) ∙ ap (put l w) as-changed
+      put-set-inside l w (butOne k (map f found) (map f (set found k x))) k (f x) (omega (arith, size)) (omega (arith, size)) ∙ ap (put l w) as-changed
 
 -- the same of two columns of one slice, the first before the other
 module _ (found : List Sector) (k : ℕ) (x : Sector) (four : length found ≡ 4) (h : k < 4) (f g : Sector → ℕ) where
@@ -151,7 +151,7 @@ module _ (found : List Sector) (k : ℕ) (x : Sector) (four : length found ≡ 4
       let n : length (put l q (butOne k (map f found) (map f (set found k x)))) ≡ length l =
       ap length (sym (put-paste l q (butOne k (map f found) (map f (set found k x))) 4 m)) ∙ length-paste l q (butOne k (map f found) (map f (set found k x))) 4 (omega arith) (omega (arith, m)) in
       ap (λ (m : List ℕ). set m (r + k) (g x))
-      (set-before (put l q (butOne k (map f found) (map f (set found k x)))) r (butOne k (map g found) (map g (set found k x))) (q + k) (f x) (omega (arith, n)) (omega arith))
+      (put-set-before (put l q (butOne k (map f found) (map f (set found k x)))) r (butOne k (map g found) (map g (set found k x))) (q + k) (f x) (omega (arith, n)) (omega arith))
       ∙ ap (λ (m : List ℕ). set (put m r (butOne k (map g found) (map g (set found k x)))) (r + k) (g x)) (changed-last found k x four h f l q (omega arith))
       ∙ changed-last found k x four h g (put l q (map f (set found k x))) r
       (omega (arith, sym (ap length (changed-last found k x four h f l q (omega arith))) ∙ length-set (put l q (butOne k (map f found) (map f (set found k x)))) (q + k) (f x) ∙ n))
