@@ -28,7 +28,7 @@ use Rattle.words.proofs.Lists.{In, all-in, in-any, in-getD}
 use Rattle.model.proofs.SoundFacts.{parts, sectors-at}
 use Rattle.model.proofs.Ways.{Finds, last-finds, victim-finds, Last, last-is-last, earliest-is-least, probe-by, way-in}
 use Rattle.model.proofs.AccessCases.{access-judged}
-use Rattle.model.proofs.ProbeFindsSpot.{fetches-one}
+use Rattle.model.proofs.ProbeFindsSpot.{fetches-one, back-one}
 
 -- ---- the victim
 
@@ -110,6 +110,10 @@ module _ (R : Rule) (S : Settings) (d : ℕ) (ways : List Line) (x : Access) (p 
       Back : ℕ → Type 0
       Back w = (victim R S d ways ≡ At w) × (dirty (getD ways w fresh) ≡ true)
           × (b ≡ getD ways w fresh .tag) × (ms ≡ map (λ (s : Sector). s .mask) (getD ways w fresh .sectors))
+
+  -- nothing is written back but a victim
+  pub backs-at-most-one : probe R S d ways x ≡ at p → length (p .backs) ≤ 1
+  backs-at-most-one h = ⊎-elim (λ m. rw (m .backs) (omega arith)) (λ r. rw (r .backs) (back-one (getD ways (p .way) fresh))) (probe-meets h)
 
 -- ---- the queue
 
