@@ -47,15 +47,16 @@ pub struct Decision {
     pub masks: [u32; 4],
 }
 
-// `enough`: so many lines of the cache are dirty that a dirty line may go. Most lines are clean, and that test is the shortest.
+// `enough`: so many lines of the cache are dirty that a dirty line may go. It is the same for a whole set, so that its jump is foreseen; a
+// jump on what each line holds would not be.
 fn is_candidate(marks: &[u8], l: usize, enough: bool) -> bool
     requires { ⌜ 4 * l + 4 ≤ length (now marks) ⌝ }
     ensures { λ r. ⌜ r ≡ candidateAt (now (marks .entry)) enough l ⌝ }
 {
-    if tables::is_clean(marks, l) {
-        return true;
+    if enough {
+        return !tables::is_waiting(marks, l);
     }
-    enough & !tables::is_waiting(marks, l)
+    tables::is_clean(marks, l)
 }
 
 // The first way of the set that has the block; the set's lines begin at `base`.

@@ -1,32 +1,31 @@
-use mathlib.Core.Path.{_≡_, refl, sym, ap, _∙_}
+use mathlib.Core.Path.{_≡_, refl, ap, _∙_}
 use mathlib.Core.Bool.{Bool, true, false, not, _&&_, _||_, true≢false, false≢true}
 use borrow.Author.Needs.{needs}
 use Rattle.tables.specs.Raw.{waitingAt, dirtyAt}
 use Rattle.probe.proofs.is_candidate.Statement.{statement}
 use Rattle.probe.proofs.is_candidate.Tie as tie
 
-clean-may : (w d e : Bool) → (not w && not d) ≡ true → true ≡ (not w && (not d || e))
-clean-may true d e h = absurd (false≢true h)
-clean-may false true e h = absurd (false≢true h)
-clean-may false false e h = refl
+unless-waiting : (w d e : Bool) → e ≡ true → not w ≡ (not w && (not d || e))
+unless-waiting w d false h = absurd (false≢true h)
+unless-waiting true d true h = refl
+unless-waiting false true true h = refl
+unless-waiting false false true h = refl
 
-unclean-may : (w d e : Bool) → (not w && not d) ≡ false → (e && not w) ≡ (not w && (not d || e))
-unclean-may true d true h = refl
-unclean-may true d false h = refl
-unclean-may false true true h = refl
-unclean-may false true false h = refl
-unclean-may false false e h = absurd (true≢false h)
+where-clean : (w d e : Bool) → e ≡ false → (not w && not d) ≡ (not w && (not d || e))
+where-clean w d true h = absurd (true≢false h)
+where-clean true d false h = refl
+where-clean false true false h = refl
+where-clean false false false h = refl
 
 pub is-candidate-spec : {M : Type 1} → statement M
 is-candidate-spec =
     tie.close
     (tie.spec
-    (λ c κs. search needs)  -- is-clean-requires
+    (λ c κs. search needs)  -- is-waiting-requires
     -- returns
     (λ c. let a = c .before .before .before .args in
-    clean-may (waitingAt (a .marks .now) (a .l)) (dirtyAt (a .marks .now) (a .l)) (a .enough) (sym (c .before .is-clean .ensures) ∙ c .if1 .taken))
-    (λ c κs. search needs)  -- is-waiting-requires
+    ap not (c .is-waiting .ensures) ∙ unless-waiting (waitingAt (a .marks .now) (a .l)) (dirtyAt (a .marks .now) (a .l)) (a .enough) (c .before .if1 .taken))
+    (λ c κs. search needs)  -- is-clean-requires
     -- returns-2
-    (λ c. let a = c .before .before .before .before .args in
-    ap (λ (w : Bool). a .enough && not w) (c .is-waiting .ensures)
-    ∙ unclean-may (waitingAt (a .marks .now) (a .l)) (dirtyAt (a .marks .now) (a .l)) (a .enough) (sym (c .before .before .is-clean .ensures) ∙ c .before .if1 .left)))
+    (λ c. let a = c .before .before .before .args in
+    c .is-clean .ensures ∙ where-clean (waitingAt (a .marks .now) (a .l)) (dirtyAt (a .marks .now) (a .l)) (a .enough) (c .before .if1 .left)))
