@@ -17,7 +17,7 @@
  *  - A refused call leaves all three slices as they were.
  *  - A call takes less than LABINTUGMO_STACK bytes of stack, whatever the settings.
  *
- * Linking: libexported.a, for x86-64 Linux; it needs nothing but the C library.
+ * Linking: liblabintugmo.a, for x86-64 Linux; it needs nothing but the C library.
  */
 #ifndef LABINTUGMO_H
 #define LABINTUGMO_H

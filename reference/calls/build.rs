@@ -1,5 +1,5 @@
 //! Links the static archive under test or measured: directory from LABINTUGMO_LIB_DIR, name from
-//! LABINTUGMO_LIB (`exported`, if it is not given, for `libexported.a`), more words for
+//! LABINTUGMO_LIB (`labintugmo`, if it is not given, for `liblabintugmo.a`), more words for
 //! the linker from LABINTUGMO_LINK_ARGS.
 
 use std::path::Path;
@@ -11,7 +11,7 @@ fn main() {
     let directory = std::env::var("LABINTUGMO_LIB_DIR")
         .expect("LABINTUGMO_LIB_DIR must name the directory of the static archive");
     assert!(Path::new(&directory).is_absolute(), "LABINTUGMO_LIB_DIR must be absolute");
-    let name = std::env::var("LABINTUGMO_LIB").unwrap_or_else(|_| "exported".to_string());
+    let name = std::env::var("LABINTUGMO_LIB").unwrap_or_else(|_| "labintugmo".to_string());
     let archive = Path::new(&directory).join(format!("lib{name}.a"));
     assert!(archive.exists(), "there is no {}", archive.display());
     println!("cargo:rerun-if-changed={}", archive.display());

@@ -1,14 +1,13 @@
--- What an exported call leaves: nothing where the event room is too small, else what the call left and the records of its value. Also what
--- another number of settings is.
+-- What an exported call leaves: nothing where the event room is too small, else what the call left and the records of its value.
 use mathlib.Core.Path.{_≡_, refl, sym, ap, _∙_}
-use mathlib.Core.Bool.{Bool, true, false, not, _||_}
+use mathlib.Core.Bool.{Bool, true, false}
 use mathlib.Core.List.{List, [], _∷_}
 use Prim.Native.Nat.{ℕ, _+_, _≤_, _<_}
 use native.Mathlib.Nat.{le-trans}
 use native.Mathlib.Omega.{arith}
-use lib.Dec.{lit≤, ltb}
+use lib.Dec.{lit≤}
 use lib.ListN.{length, set}
-use borrow.Author.Tests.{le-leb, lt-leb, eq-eqb, ne-eqb}
+use borrow.Author.Tests.{le-leb, lt-leb, ne-eqb}
 use Rattle.model.specs.Range.{inRange}
 use Rattle.model.specs.Tables.{Tables, Outcome, after, eventsOf}
 use Rattle.model.specs.Lent.{Lent}
@@ -20,25 +19,21 @@ use Rattle.model.specs.History.{Call, offer, sending, filling, ticking, stepBy}
 use Rattle.model.specs.History as history
 use Rattle.model.specs.Calls.{call, encoded, Leaves, eventsTold}
 use Rattle.model.specs.Inner.{SoundSlices, Does}
-use Rattle.model.specs.Numbers.{stopNumber}
-use Rattle.model.specs.Runner.{Result, Runs}
 use Rattle.model.specs.declared.Settings.{Settings}
 use Rattle.model.specs.declared.Reply.{Reply}
 use Rattle.model.specs.declared.Access.{Access}
-use Rattle.model.specs.declared.Ran.{Ran}
 use Rattle.rounds.specs.declared.Waited.{Waited}
 use Rattle.rounds.specs.Waiting.{waitCall, waitWithin, Waits}
 use Rattle.model.specs.declared.Command.the-variants as cmd
 use Rattle.model.proofs.Soundness.{call-keeps-sound}
 use Rattle.encoding.proofs.DecodeIsSound.{Small}
-use Rattle.words.proofs.Flags.{not-either}
-use Rattle.words.proofs.Below.{leb-not}
 use Rattle.encoding.proofs.Bridge.{call-is, events-encoded, does-is}
 use Rattle.records.specs.Stores.{Stored, Laid}
 use Rattle.records.proofs.Stores.{stored-there, stored-behind}
 use Rattle.records.proofs.Room.{TakesRoom, access-takes, step-takes}
 use Rattle.records.proofs.OfCalls.{call-room}
-use Rattle.exported.specs.Exported.{mayLend, settingsFrom, Called, Stepped, lengthFor, mayWait, roundNumber, WaitCalled, RunCalled}
+use Rattle.lending.proofs.Lending.{one-set}
+use Rattle.exported.specs.Exported.{Called, Stepped, lengthFor, mayWait, roundNumber, WaitCalled}
 
 pub call-unmade : (o : Outcome Lent) (L : Lent) (e : List ℕ) → length e < 64 → Called o L e 0 e L
 call-unmade o L e h = record { written = rw (lt-leb 64 (length e) h); events = rw (lt-leb 64 (length e) h); left = rw (lt-leb 64 (length e) h) }
@@ -89,16 +84,6 @@ module _ (S : Settings) (k : Call) (L : Lent) (e : List ℕ) (reply : Reply) whe
 pub step-unmade : (S : Settings) (o : Outcome Lent) (L : Lent) (e : List ℕ) → SoundSlices S L → length e < 64 → Stepped S o L e 0 e L
 step-unmade S o L e held h = record { called = call-unmade o L e h; held = held }
 
--- ---- another number of settings is out of range, so every call refuses it
-
-pub other-number-out-of-range : (l : List ℕ) → mayLend (length l) ≡ false → inRange (settingsFrom l) ≡ false
-unfolding settingsFrom inRange
-other-number-out-of-range l h = rw h
-
--- fewer than six numbers, or more than seven
-pub may-lend : (n : ℕ) {b : Bool} → (ltb n 6 || ltb 7 n) ≡ b → mayLend n ≡ not b
-may-lend n e = rw (leb-not 6 n, leb-not n 7) (sym (not-either (ltb n 6) (ltb 7 n))) ∙ ap not e
-
 -- ---- a length by the settings s, which are those lent as S
 
 pub length-given : (S s : Settings) (f : Settings → ℕ) {b : Bool} {r : ℕ} → s ≡ S → b ≡ inRange s → b ≡ true → r ≡ f s → r ≡ lengthFor S (f S)
@@ -106,19 +91,6 @@ length-given S s f e g h q = rw (← e, sym g ∙ h) q
 
 pub length-none : (S s : Settings) (f : Settings → ℕ) {b : Bool} → s ≡ S → b ≡ inRange s → b ≡ false → 0 ≡ lengthFor S (f S)
 length-none S s f e g h = rw (← e, sym g ∙ h)
-
--- ---- slices of one number and of two
-
-one-set : (k : List ℕ) (n : ℕ) → length k ≡ 1 → set k 0 n ≡ n ∷ []
-one-set [] n h = absurd (omega arith)
-one-set (x ∷ []) n h = refl
-one-set (x ∷ y ∷ k) n h = absurd (omega arith)
-
-pub two-set : (k : List ℕ) (m n : ℕ) → length k ≡ 2 → set (set k 0 m) 1 n ≡ m ∷ n ∷ []
-two-set [] m n h = absurd (omega arith)
-two-set (x ∷ []) m n h = absurd (omega arith)
-two-set (x ∷ y ∷ []) m n h = refl
-two-set (x ∷ y ∷ z ∷ k) m n h = absurd (omega arith)
 
 -- ---- wait, with the accepting round in a slice of one number
 
@@ -138,20 +110,3 @@ module _ (S : Settings) (x : Access) (L : Lent) (e k : List ℕ) where
         let q : mayWait e k ≡ true = rw (one, b) in
         let s : set k 0 n ≡ roundNumber (waitCall S x L .waiting) ∷ [] = one-set k n one ∙ ap (λ (m : ℕ). m ∷ []) (g ∙ ap roundNumber (v .waiting)) in
         record { written = rw q (v .written); events = rw q (v .events); round = rw q s; left = rw q (v .left) }
-
--- ---- run, with the two counts in a slice
-
-module _ (o : Result Lent) (L : Lent) (e k : List ℕ) where
-  pub run-no-counts : (length k ≡ 2 → ⊥) → RunCalled o L e k 2 e k L
-  run-no-counts h = let q = ne-eqb (length k) 2 h in record { stop = rw q; events = rw q; counts = rw q; left = rw q }
-
-  pub run-made : length k ≡ 2 → {r : Ran} {f j : List ℕ} {M : Lent} → Runs o e r f M → {n : ℕ} → (n ≡ stopNumber (r .stop)) × (j ≡ r .consumed ∷ r .written ∷ [])
-      → RunCalled o L e k n f j M
-  run-made two {r} w g =
-      let q = eq-eqb (length k) 2 two in
-      record {
-        stop = rw q (g .0 ∙ ap stopNumber (w .stop));
-        events = rw q (w .events);
-        counts = rw q (g .1 ∙ (rw (w .consumed, w .written)));
-        left = rw q (w .tables);
-      }

@@ -1,32 +1,27 @@
--- What an exported function writes reads back: the records in the bytes written are the events of the definition, in order. Of calls on slices
--- of 32-bit words; of runs of any bytes.
+-- What an exported call writes reads back: the records in the bytes written are the events of the definition, in order. Of calls on slices
+-- of 32-bit words.
 use Prim.Native.Nat.{ℕ, _≤_}
-use mathlib.Core.Path.{_≡_, refl, ap, _∙_}
+use mathlib.Core.Path.{_≡_, _∙_}
 use mathlib.Core.Bool.{true}
-use mathlib.Core.List.{List, [], _∷_, _++_}
-use borrow.Author.Tests.{le-leb, eq-eqb}
-use lib.ListN.{length, take, drop, getD}
+use mathlib.Core.List.{List, _++_}
+use borrow.Author.Tests.{le-leb}
+use lib.ListN.{length, take, drop}
 use Rattle.model.specs.Range.{inRange}
 use Rattle.model.specs.Tables.{Tables, Outcome, eventsOf}
 use Rattle.model.specs.Lent.{Lent}
 use Rattle.model.specs.Sound.{sound}
 use Rattle.model.specs.Calls.{call, accessCall, sendCall, fillCall, tickCall}
 use Rattle.model.specs.Records.{logBytes, eventsIn, parsed}
-use Rattle.model.specs.Runner.{Result, run, resume, Runs}
 use Rattle.model.specs.declared.Settings.{Settings}
 use Rattle.model.specs.declared.Access.{Access}
-use Rattle.model.specs.declared.Ran.{Ran}
-use Rattle.model.proofs.RunSound.{bytes}
 use Rattle.encoding.proofs.DecodeIsSound.{Small}
 use Rattle.records.specs.Fitting.{AllFitting, stamped}
 use Rattle.records.proofs.RoundTrip.{log-written}
 use Rattle.records.proofs.Fits.{access-fits, send-fits, fill-fits, tick-fits}
 use Rattle.records.proofs.OfCalls.{call-fits}
-use Rattle.runner.specs.Told.{runTold, resumeTold}
-use Rattle.runner.proofs.ReadBack.{run-reads-back, resume-reads-back}
-use Rattle.exported.specs.Exported.{Called, RunCalled}
+use Rattle.exported.specs.Exported.{Called}
 
--- ---- a call, with the room
+-- with the room
 
 module _ (S : Settings) (L : Lent) (small : Small L) {e : List ℕ} {r : ℕ} {f : List ℕ} {M : Lent} (room : 64 ≤ length e) where
   reads-back : (step : Tables → Outcome Tables) → ((t : Tables) → inRange S ≡ true → sound S t ≡ true → stamped t ≡ true → AllFitting (eventsOf (step t)))
@@ -49,28 +44,3 @@ module _ (S : Settings) (L : Lent) (small : Small L) {e : List ℕ} {r : ℕ} {f
 
   pub tick-reads-back : (c : ℕ) → Called (tickCall S c L) L e r f M → eventsIn (take r f) ≡ parsed (eventsOf (tickCall S c L))
   tick-reads-back c = reads-back _ (λ t range ok few. tick-fits c t)
-
--- ---- a run, with its two counts: the second is the bytes written
-
-module _ (o : Result Lent) {L : Lent} {e k : List ℕ} {r : ℕ} {f j : List ℕ} {M : Lent} (two : length k ≡ 2) (c : RunCalled o L e k r f j M) where
-  abbrev ran : Ran
-  ran = record { stop = o .stop; consumed = o .consumed; written = length (o .events) }
-
-  runs : Runs o e ran f M
-  runs =
-      let q = eq-eqb (length k) 2 two in
-      record { stop = refl; consumed = refl; written = refl; events = c .events ∙ (rw q); tables = c .left ∙ (rw q) }
-
-  counted : getD j 1 0 ≡ length (o .events)
-  counted =
-      let q = eq-eqb (length k) 2 two in
-      let e : j ≡ o .consumed ∷ length (o .events) ∷ [] = c .counts ∙ (rw q) in
-      ap (λ (l : List ℕ). getD l 1 0) e
-
-module _ (s : List ℕ) (L : Lent) (given : bytes s ≡ true) {e k : List ℕ} {r : ℕ} {f j : List ℕ} {M : Lent} (two : length k ≡ 2) where
-  pub run-called-back : RunCalled (run (length e) s L) L e k r f j M → eventsIn (take (getD j 1 0) f) ≡ parsed (runTold (length e) s L)
-  run-called-back c = let o = run (length e) s L in rw (counted o two c) (run-reads-back s L given (runs o two c))
-
-  pub resume-called-back : (S : Settings) → Small L → RunCalled (resume S (length e) s L) L e k r f j M
-      → eventsIn (take (getD j 1 0) f) ≡ parsed (resumeTold S (length e) s L)
-  resume-called-back S small c = let o = resume S (length e) s L in rw (counted o two c) (resume-reads-back S s L small given (runs o two c))

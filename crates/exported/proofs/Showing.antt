@@ -8,7 +8,7 @@ use Rattle.model.specs.Lent.{Lent}
 use Rattle.model.specs.RecordsOf as records
 use Rattle.rounds.specs.Demand3.{RoundsShown, roundsShown}
 use Rattle.rounds.specs.declared.Went.{Went}
-use Rattle.exported.proofs.Calling.{two-set}
+use Rattle.lending.proofs.Lending.{two-set}
 use Rattle.exported.specs.Demand3.{wentNumber, roundsRun, bytesWritten, ShownCalled, FlagsCalled}
 
 module _ (k : List ℕ) where

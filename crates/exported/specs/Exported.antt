@@ -1,12 +1,12 @@
--- What a call from C is lent as settings, and what it leaves: its return value, the event buffer and the slices.
+-- What a call from C leaves: its return value, the event buffer and the slices.
 use mathlib.Core.Path.{_≡_}
 use Prim.Native.Nat.{ℕ}
 use mathlib.Core.Bool.{Bool, _&&_}
 use mathlib.Core.List.{List, [], _∷_, _++_}
-use lib.ListN.{length, drop, getD}
+use lib.ListN.{length, drop}
 use lib.Dec.{leb, eqb}
-use Rattle.words.specs.Words.{pick, within}
-use Rattle.model.specs.Numbers.{refusalNumber, stopNumber}
+use Rattle.words.specs.Words.{pick}
+use Rattle.model.specs.Numbers.{refusalNumber}
 use Rattle.model.specs.Range.{inRange}
 use Rattle.model.specs.Tables.{Outcome, after, eventsOf}
 use Rattle.model.specs.Lent.{Lent}
@@ -17,26 +17,11 @@ use Rattle.model.specs.declared.Access.{Access}
 use Rattle.model.specs.declared.Access.the-variants.{Read, Write}
 use Rattle.model.specs.declared.Verdict.{Verdict}
 use Rattle.model.specs.declared.Verdict.the-variants.{Passed, Refused}
-use Rattle.model.specs.Runner.{Result, eventRoom}
+use Rattle.model.specs.Runner.{eventRoom}
 use Rattle.rounds.specs.Waiting.{Wait, waitRoom}
 use Rattle.rounds.specs.declared.Waiting.{Waiting}
 use Rattle.rounds.specs.declared.Waiting.the-variants.{Accepted, NoRoom}
 use Rattle.rounds.specs.declared.Waiting.the-variants as waiting
-
--- ---- settings, as one slice of numbers
-
--- by its places, in the order of the table of settings: sets, ways, dirty, misses, readers, queue; then the rule (L1)
-abbrev pub numbered : List ℕ → Settings
-numbered l = record { sets = getD l 0 0; ways = getD l 1 0; dirty = getD l 2 0; misses = getD l 3 0; readers = getD l 4 0; queue = getD l 5 0; rule = getD l 6 0 }
-
--- how many numbers may be lent. A setting that is added later comes last: its number joins this one, and `getD` gives a slice without it its
--- older default
-abbrev pub mayLend : ℕ → Bool
-mayLend n = within 6 7 n
-
--- with another number of them all are 0, and 0 sets are out of range: so it is refused as 1, "a setting outside its range"
-unfoldable pub settingsFrom : List ℕ → Settings
-settingsFrom l = pick (mayLend (length l)) (numbered l) (numbered [])
 
 -- ---- results and arguments
 
@@ -81,11 +66,3 @@ pub record WaitCalled (w : Wait Lent) (L : Lent) (e k : List ℕ) (r : ℕ) (f j
   pub events : f ≡ pick (mayWait e k) (logBytes (w .events) ++ drop (length (logBytes (w .events))) e) e
   pub round : j ≡ pick (mayWait e k) (roundNumber (w .waiting) ∷ []) k
   pub left : M ≡ pick (mayWait e k) (w .left) L
-
--- ---- run: the bytes consumed and written go to a slice of two numbers; with another length nothing is run, and 2 is returned
-
-pub record RunCalled (o : Result Lent) (L : Lent) (e k : List ℕ) (r : ℕ) (f j : List ℕ) (M : Lent) : Type 0 where
-  pub stop : r ≡ pick (eqb (length k) 2) (stopNumber (o .stop)) 2
-  pub events : f ≡ pick (eqb (length k) 2) (o .events ++ drop (length (o .events)) e) e
-  pub counts : j ≡ pick (eqb (length k) 2) (o .consumed ∷ length (o .events) ∷ []) k
-  pub left : M ≡ pick (eqb (length k) 2) (o .tables) L

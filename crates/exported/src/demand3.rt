@@ -1,12 +1,13 @@
 // The rounds of demand 3 and the struck rounds as C sees them (include/labintugmo.h). How many were run and the bytes of their events go to a
 // slice of two numbers.
 use crate::access_for;
-use crate::settings_from;
+use lending::settings_from;
 use rounds::Went;
 ghost use mathlib.Core.Path.{_≡_};
 ghost use Rattle.model.specs.Lent.{lent};
 ghost use Rattle.rounds.specs.Demand3.{roundsCall, flagsCall, struckCall};
-ghost use Rattle.exported.specs.Exported.{settingsFrom, accessFor};
+ghost use Rattle.lending.specs.Lending.{settingsFrom};
+ghost use Rattle.exported.specs.Exported.{accessFor};
 ghost use Rattle.exported.specs.Demand3.{wentNumber, roundsRun, bytesWritten, ShownCalled, FlagsCalled};
 
 // 0, or the refusal's number, or 16 where flags or bytes are too few.

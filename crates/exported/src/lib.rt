@@ -1,13 +1,12 @@
-// The library as C sees it (include/labintugmo.h): numbers and slices alone, a slice as a pointer and a length. Settings come as one
-// slice, so that a later setting moves no signature. A call writes its event records at the start of the caller's buffer and returns how
-// many bytes they are. `demand3` has the rounds of demand 3, `unchecked` the steps behind the calls' checks.
+// The calls as C sees them (include/labintugmo.h): numbers and slices alone, a slice as a pointer and a length. A call writes its event
+// records at the start of the caller's buffer and returns how many bytes they are. `demand3` has the rounds of demand 3, `unchecked` the
+// steps behind the calls' checks. The stream runner is in `exported_runner`.
 mod demand3;
 mod unchecked;
 
 use cache::Call;
+use lending::settings_from;
 use model::Access;
-use model::Ran;
-use model::Settings;
 use model::Verdict;
 use records::EVENT_ROOM;
 use records::WAIT_ROOM;
@@ -21,52 +20,10 @@ ghost use Rattle.model.specs.Lent.{lent};
 ghost use Rattle.model.specs.Calls.{freshCall, checkCall, verdictOf, call, accessCall, sendCall, fillCall, tickCall};
 ghost use Rattle.model.specs.History.{stepBy};
 ghost use Rattle.model.specs.declared.Access.the-variants.{Read, Write};
-ghost use Rattle.model.specs.Numbers.{stopNumber};
-ghost use Rattle.model.specs.Runner.{run, resume};
 ghost use Rattle.cache.specs.Made.{modelCall};
 ghost use Rattle.rounds.specs.Waiting.{waitCall};
-ghost use Rattle.exported.specs.Exported.{settingsFrom, verdictNumber, lengthFor, accessFor, roundNumber, Called, WaitCalled, RunCalled};
-
-// How many settings there are at the least and at the most: the rule may be left out.
-const FEWEST: usize = 6;
-
-const MOST: usize = 7;
-
-// The number at a place of the settings; 0 behind their end.
-fn number(settings: &[u32], place: usize) -> usize
-    ensures { λ r. ⌜ r ≡ getD (now (settings .entry)) place 0 ⌝ }
-{
-    if place < settings.len() {
-        return settings[place] as usize;
-    }
-    0
-}
-
-// By their places; all 0, which is out of range, for another number of them.
-pub(crate) fn settings_from(settings: &[u32]) -> Settings
-    ensures { λ r. ⌜ r ≡ settingsFrom (now (settings .entry)) ⌝ }
-{
-    if (settings.len() < FEWEST) | (MOST < settings.len()) {
-        return Settings {
-            sets: 0,
-            ways: 0,
-            dirty: 0,
-            misses: 0,
-            readers: 0,
-            queue: 0,
-            rule: 0,
-        };
-    }
-    Settings {
-        sets: number(settings, 0),
-        ways: number(settings, 1),
-        dirty: number(settings, 2),
-        misses: number(settings, 3),
-        readers: number(settings, 4),
-        queue: number(settings, 5),
-        rule: number(settings, 6),
-    }
-}
+ghost use Rattle.lending.specs.Lending.{settingsFrom};
+ghost use Rattle.exported.specs.Exported.{verdictNumber, lengthFor, accessFor, roundNumber, Called, WaitCalled};
 
 // A verdict as its number: 0 where nothing is refused.
 fn verdict_number(v: Verdict) -> u32
@@ -333,58 +290,4 @@ pub extern "C" fn labintugmo_wait(
     let waiting = waited.waiting;
     round[0] = round_number(waiting);
     waited.written
-}
-
-// The bytes consumed and written go to the counts; the stop's number.
-fn note_run(ran: Ran, counts: &mut [u64]) -> u32
-    requires { ⌜ length (now counts) ≡ 2 ⌝ }
-    ensures { λ r. ⌜ (r ≡ stopNumber (ran .stop)) × (now (counts .exit) ≡ ran .consumed ∷ ran .written ∷ []) ⌝ }
-{
-    counts[0] = ran.consumed as u64;
-    counts[1] = ran.written as u64;
-    let stop = ran.stop;
-    values::stop_number(stop) as u32
-}
-
-// `runner::run` for C: the stop number; `counts` takes bytes consumed and written.
-#[no_mangle]
-pub extern "C" fn labintugmo_run(
-    stream: &[u8],
-    events: &mut [u8],
-    longs: &mut [u64],
-    words: &mut [u32],
-    marks: &mut [u8],
-    counts: &mut [u64],
-) -> u32
-    ensures { λ r. ⌜ RunCalled (run (length (now (events .entry))) (now (stream .entry)) (lent (now (longs .entry)) (now (words .entry)) (now (marks .entry)))) (lent (now (longs .entry)) (now (words .entry)) (now (marks .entry)))
-        (now (events .entry)) (now (counts .entry)) r (now (events .exit)) (now (counts .exit)) (lent (now (longs .exit)) (now (words .exit)) (now (marks .exit))) ⌝ }
-{
-    if counts.len() != 2 {
-        return 2;
-    }
-    note_run(runner::run(stream, events, longs, words, marks), counts)
-}
-
-// Goes on from kept tables and settings with the next part of a stream.
-#[no_mangle]
-pub extern "C" fn labintugmo_resume(
-    settings: &[u32],
-    stream: &[u8],
-    events: &mut [u8],
-    longs: &mut [u64],
-    words: &mut [u32],
-    marks: &mut [u8],
-    counts: &mut [u64],
-) -> u32
-    ensures { λ r. ⌜ RunCalled (resume (settingsFrom (now (settings .entry))) (length (now (events .entry))) (now (stream .entry)) (lent (now (longs .entry)) (now (words .entry)) (now (marks .entry)))) (lent (now (longs .entry)) (now (words .entry)) (now (marks .entry)))
-        (now (events .entry)) (now (counts .entry)) r (now (events .exit)) (now (counts .exit)) (lent (now (longs .exit)) (now (words .exit)) (now (marks .exit))) ⌝ }
-{
-    if counts.len() != 2 {
-        return 2;
-    }
-    let s = settings_from(settings);
-    note_run(
-        runner::resume(s, stream, events, longs, words, marks),
-        counts,
-    )
 }

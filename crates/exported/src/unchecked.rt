@@ -1,13 +1,14 @@
 // The steps of the calls without their check, for a caller whose tables nobody else can write: each asks for slices that are the encoding of
 // sound tables, leaves such slices, and leaves and writes what the checked call does (include/labintugmo_steps.h).
-use crate::settings_from;
+use lending::settings_from;
 use model::Access;
 use records::EVENT_ROOM;
 ghost use Rattle.model.specs.Lent.{lent};
 ghost use Rattle.model.specs.Inner.{SoundSlices};
 ghost use Rattle.model.specs.Calls.{accessCall, sendCall, fillCall, tickCall};
 ghost use Rattle.model.specs.declared.Access.the-variants.{Read, Write};
-ghost use Rattle.exported.specs.Exported.{settingsFrom, Stepped};
+ghost use Rattle.lending.specs.Lending.{settingsFrom};
+ghost use Rattle.exported.specs.Exported.{Stepped};
 
 // A read on tables that the caller has kept sound.
 #[no_mangle]

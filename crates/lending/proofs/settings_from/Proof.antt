@@ -1,10 +1,10 @@
 -- Six or seven numbers by their places, or zeros for another length.
 use lib.ListN.{length}
 use borrow.Author.Needs.{needs}
-use Rattle.exported.specs.Exported.{settingsFrom}
-use Rattle.exported.proofs.Calling.{may-lend}
-use Rattle.exported.proofs.settings_from.Statement.{statement}
-use Rattle.exported.proofs.settings_from.Tie as tie
+use Rattle.lending.specs.Lending.{settingsFrom}
+use Rattle.lending.proofs.Lending.{may-lend}
+use Rattle.lending.proofs.settings_from.Statement.{statement}
+use Rattle.lending.proofs.settings_from.Tie as tie
 
 pub settings-from-spec : {M : Type 1} → statement M
 unfolding settingsFrom

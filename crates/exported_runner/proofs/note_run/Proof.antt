@@ -1,8 +1,8 @@
 -- Both numbers are set, in their order.
 use borrow.Author.Needs.{needs}
-use Rattle.exported.proofs.Calling.{two-set}
-use Rattle.exported.proofs.note_run.Statement.{statement}
-use Rattle.exported.proofs.note_run.Tie as tie
+use Rattle.lending.proofs.Lending.{two-set}
+use Rattle.exported_runner.proofs.note_run.Statement.{statement}
+use Rattle.exported_runner.proofs.note_run.Tie as tie
 
 pub note-run-spec : {M : Type 1} → statement M
 note-run-spec =

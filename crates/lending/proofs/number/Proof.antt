@@ -3,8 +3,8 @@ use mathlib.Core.Path.{sym}
 use native.Mathlib.Omega.{arith}
 use borrow.Author.Needs.{needs}
 use lib.ListN.{List·getD-eq-default}
-use Rattle.exported.proofs.number.Statement.{statement}
-use Rattle.exported.proofs.number.Tie as tie
+use Rattle.lending.proofs.number.Statement.{statement}
+use Rattle.lending.proofs.number.Tie as tie
 
 pub number-spec : {M : Type 1} → statement M
 number-spec =

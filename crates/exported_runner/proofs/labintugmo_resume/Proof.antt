@@ -1,8 +1,8 @@
 -- Nothing without a slice of two numbers; else the part that goes on, and its counts.
 use borrow.Author.Needs.{needs}
-use Rattle.exported.proofs.Calling.{run-no-counts, run-made}
-use Rattle.exported.proofs.labintugmo_resume.Statement.{statement}
-use Rattle.exported.proofs.labintugmo_resume.Tie as tie
+use Rattle.exported_runner.proofs.Calling.{run-no-counts, run-made}
+use Rattle.exported_runner.proofs.labintugmo_resume.Statement.{statement}
+use Rattle.exported_runner.proofs.labintugmo_resume.Tie as tie
 
 pub labintugmo-resume-spec : {M : Type 1} → statement M
 labintugmo-resume-spec =

@@ -1,8 +1,8 @@
 -- Nothing without a slice of two numbers; else the run, and its counts.
 use borrow.Author.Needs.{needs}
-use Rattle.exported.proofs.Calling.{run-no-counts, run-made}
-use Rattle.exported.proofs.labintugmo_run.Statement.{statement}
-use Rattle.exported.proofs.labintugmo_run.Tie as tie
+use Rattle.exported_runner.proofs.Calling.{run-no-counts, run-made}
+use Rattle.exported_runner.proofs.labintugmo_run.Statement.{statement}
+use Rattle.exported_runner.proofs.labintugmo_run.Tie as tie
 
 pub labintugmo-run-spec : {M : Type 1} → statement M
 labintugmo-run-spec =

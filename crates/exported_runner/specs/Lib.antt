@@ -1,0 +1,2 @@
+-- What the exported runner promises.
+pub mod Called

@@ -1,0 +1,2 @@
+-- Laws of what C lends as plain numbers.
+pub mod Lending

@@ -1,0 +1,2 @@
+-- Settings as C lends them.
+pub mod Lending
