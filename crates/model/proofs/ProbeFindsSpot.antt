@@ -213,9 +213,9 @@ module _ (S : Settings) (t : Tables) (ok : Sound S t) (some-ways : 1 ≤ S .ways
 
 -- ---- a tick, fresh tables
 
-pub tick-leaves : (S : Settings) (t : Tables) → Sound S t → (c : ℕ) → LeavesSound S (tick c t)
+pub tick-leaves-sound : (S : Settings) (t : Tables) → Sound S t → (c : ℕ) → LeavesSound S (tick c t)
 unfolding tick entryOk
-tick-leaves S t ok c =
+tick-leaves-sound S t ok c =
     by-flag (LeavesSound S) (ltb c (t .now) || ltb lastCycle c) (refused BadCycle) _ (λ e. tt) (λ e.
     let time = le-leb c lastCycle (ltb-false lastCycle c (or-no-2 (ltb c (t .now)) (ltb lastCycle c) e)) in
     let lined = every-i (λ i. lineOk S c i (getD (t .lines) i fresh)) (linesOf S) (λ i h.

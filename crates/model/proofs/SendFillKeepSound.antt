@@ -113,8 +113,8 @@ send-cases t P no-call made = go (t .queue) refl
     go [] e = no-call QueueEmpty
     go (x ∷ q) e = made x q e
 
-pub send-leaves : (S : Settings) (t : Tables) → Sound S t → LeavesSound S (send t)
-send-leaves S t ok = send-cases t (LeavesSound S) (λ n. tt) (λ x q e. sent-sound S t x q e ok)
+pub send-leaves-sound : (S : Settings) (t : Tables) → Sound S t → LeavesSound S (send t)
+send-leaves-sound S t ok = send-cases t (LeavesSound S) (λ n. tt) (λ x q e. sent-sound S t x q e ok)
 
 -- ---- fill
 
@@ -328,9 +328,9 @@ module _ (S : Settings) (t : Tables) (ok : Sound S t) (d : Entry) (m : In d (t .
       let counted = eq-eqb (t .dirtyCount + one (any (soiled a) (t .lines))) (count dirty filled) filled-dirty in
       search filled-lined
 
-pub fill-leaves : (S : Settings) (t : Tables) → Sound S t → (a : ℕ) → LeavesSound S (fill a t)
+pub fill-leaves-sound : (S : Settings) (t : Tables) → Sound S t → (a : ℕ) → LeavesSound S (fill a t)
 unfolding fill
-fill-leaves S t ok a =
+fill-leaves-sound S t ok a =
     by-flag (LeavesSound S) (any (sentFor a) (t .misses)) _ (refused NotSent)
     (λ e. let (d, m, q) = any-in (sentFor a) (t .misses) e in
     rw (eqb-true (d .address) a (and-1 (entryFor a d) (d .sent) q)) at (filled-sound S t ok d m (and-2 (entryFor a d) (d .sent) q)))

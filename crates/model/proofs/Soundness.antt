@@ -17,8 +17,8 @@ use Rattle.model.specs.declared.Access.the-variants.{Read, Write}
 use Rattle.model.specs.declared.Command.{Command}
 use Rattle.model.specs.declared.Command.the-variants as cmd
 use Rattle.model.proofs.SoundFacts.{LeavesSound, parts, sound-whole}
-use Rattle.model.proofs.SendFillKeepSound.{send-leaves, fill-leaves}
-use Rattle.model.proofs.ProbeFindsSpot.{tick-leaves, start-is-sound}
+use Rattle.model.proofs.SendFillKeepSound.{send-leaves-sound, fill-leaves-sound}
+use Rattle.model.proofs.ProbeFindsSpot.{tick-leaves-sound, start-is-sound}
 use Rattle.model.proofs.AccessCases.{access-leaves}
 
 after-sound : (S : Settings) (t : Tables) → sound S t ≡ true → (o : Outcome Tables) → LeavesSound S o → sound S (after t o) ≡ true
@@ -39,13 +39,13 @@ unfolding access
 access-keeps-sound S x t range small ok = access-under-keeps-sound (ruleOf S) S x t range small ok
 
 pub send-keeps-sound : (S : Settings) (t : Tables) → sound S t ≡ true → sound S (after t (send t)) ≡ true
-send-keeps-sound S t ok = after-sound S t ok (send t) (send-leaves S t (parts S t ok))
+send-keeps-sound S t ok = after-sound S t ok (send t) (send-leaves-sound S t (parts S t ok))
 
 pub fill-keeps-sound : (S : Settings) (a : ℕ) (t : Tables) → sound S t ≡ true → sound S (after t (fill a t)) ≡ true
-fill-keeps-sound S a t ok = after-sound S t ok (fill a t) (fill-leaves S t (parts S t ok) a)
+fill-keeps-sound S a t ok = after-sound S t ok (fill a t) (fill-leaves-sound S t (parts S t ok) a)
 
 pub tick-keeps-sound : (S : Settings) (c : ℕ) (t : Tables) → sound S t ≡ true → sound S (after t (tick c t)) ≡ true
-tick-keeps-sound S c t ok = after-sound S t ok (tick c t) (tick-leaves S t (parts S t ok) c)
+tick-keeps-sound S c t ok = after-sound S t ok (tick c t) (tick-leaves-sound S t (parts S t ok) c)
 
 pub call-keeps-sound : (R : Rules) (S : Settings) (k : Call) (t : Tables) → inRange S ≡ true → SmallCall k → sound S t ≡ true
     → sound S (after t (stepUnder R S k t)) ≡ true

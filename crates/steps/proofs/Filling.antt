@@ -47,7 +47,7 @@ use Rattle.tables.proofs.Changing.{withSectors, dirty-at, changed-as, change-st
 use Rattle.layout.proofs.OneOfFour.{sector-of-four}
 use Rattle.steps.specs.Parts.{Holding, SectorFilled, LineFilled, releasing}
 use Rattle.steps.proofs.Entries.{kept-others, tickets-are, sent-is}
-use Rattle.model.proofs.SendFillKeepSound.{fill-leaves as fill-sound}
+use Rattle.model.proofs.SendFillKeepSound.{fill-leaves-sound}
 use Rattle.words.proofs.Counting.{recount, count-length, one-counted, map-one}
 use Rattle.layout.proofs.DirtyCount.{dirty-count-at}
 use Rattle.encoding.proofs.NumbersAreTables.{invalid-number, flag-of-bit}
@@ -202,10 +202,10 @@ module _ (a : ℕ) (ts : List ℕ) (few : length ts ≤ 8) where
   releasing-tidy = rw (take-padTo 8 ts few)
 
 -- the one event, and then the tickets that are copied out
-pub released : (a : ℕ) (words : List ℕ) (i n : ℕ) {ts : List ℕ} {reply : Reply} → i + n ≤ length words → ts ≡ padTo 8 (region words i n) → reply ≡ telling (event.Filled a)
+pub reply-releases : (a : ℕ) (words : List ℕ) (i n : ℕ) {ts : List ℕ} {reply : Reply} → i + n ≤ length words → ts ≡ padTo 8 (region words i n) → reply ≡ telling (event.Filled a)
     → record { first = reply .first; queued = reply .queued; queues = reply .queues; count = n; tickets = ts }
     ≡ releasing a (region words i n)
-released a words i n room e f = rw (e, f, length-region words i n room)
+reply-releases a words i n room e f = rw (e, f, length-region words i n room)
 
 -- ---- fill, from what its parts ensure
 
@@ -296,7 +296,7 @@ module _ (S : Settings) (a : ℕ) (t : Tables) {longs words marks : List ℕ} (i
         let reply : _ ≡ releasing a (ticketsOf a (t .misses)) = reply ∙ ap (releasing a) tickets in
         let w : any (sentFor a) (t .misses) ≡ true = sym (q ∙ sent-test) ∙ no-not z in
         let outcome : fill a t ≡ done (event.Filled a ∷ map event.Released (ticketsOf a (t .misses))) (afterFill a t) = rw w in
-        let kept : Sound S (afterFill a t) = subst (LeavesSound S) outcome (fill-sound S t ok a) in
+        let kept : Sound S (afterFill a t) = subst (LeavesSound S) outcome (fill-leaves-sound S t ok a) in
         let after : Tables = withDirtyCount (t .dirtyCount + one (any (soiled a) (t .lines))) (withLines (map (fillLine a) (t .lines)) t) in
         let count : recounted (getD (t .lines) (line .line) fresh) (fillLine a (getD (t .lines) (line .line) fresh)) (t .dirtyCount) ≡ t .dirtyCount + one (any (soiled a) (t .lines)) =
         line-count S t ok h p a line ∙ sym (eqb-true (t .dirtyCount + one (any (soiled a) (t .lines))) (count dirty (map (fillLine a) (t .lines))) (kept .counted)) in
