@@ -17,7 +17,7 @@ use Rattle.layout.specs.declared.Layout.{Layout}
 use Rattle.layout.specs.Layout.{LaysOut}
 use Rattle.layout.proofs.DirtyCount.{dirty-counted}
 use Rattle.tables.specs.Raw.{dirtyAt}
-use Rattle.probe.proofs.Statuses.{dirty-bytes}
+use Rattle.tables.proofs.Statuses.{dirty-bytes}
 use Rattle.probe.proofs.OfTables.{lines-held}
 use Rattle.words.proofs.Counting.{one-counted}
 

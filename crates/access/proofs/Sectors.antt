@@ -26,7 +26,7 @@ use Rattle.layout.proofs.OneOfFour.{sector-of-four}
 use Rattle.tables.specs.Raw.{dirtyAt}
 use Rattle.tables.specs.Changed.{Changed}
 use Rattle.tables.proofs.Changing.{changed-as}
-use Rattle.probe.proofs.Statuses.{dirty-bytes}
+use Rattle.tables.proofs.Statuses.{dirty-bytes}
 use Rattle.probe.specs.declared.Decision.{Decision}
 use Rattle.access.specs.Written.{sectorsAfter, SectorLeft}
 

@@ -1,7 +1,7 @@
 -- Four sectors stored back over those that stand there: all but one place, each where it differs; then that one.
 use mathlib.Core.Path.{_≡_, refl, sym, ap, subst, _∙_}
 use mathlib.Core.Bool.{Bool, true, false, not, _&&_}
-use mathlib.Core.List.{List, [], _∷_, map}
+use mathlib.Core.List.{List, map}
 use Prim.Native.Nat.{ℕ, _+_, _-_, _*_, _≤_, _<_}
 use native.Mathlib.Omega.{arith}
 use native.Mathlib.Nat.{add-zero}
@@ -23,8 +23,6 @@ use Rattle.layout.specs.declared.Layout.{Layout}
 use Rattle.layout.specs.Layout.{LaysOut}
 use Rattle.layout.specs.Sectors.{LineRoom, Plain, Column, Stand, StoredBack, OthersStored, butOne}
 use Rattle.layout.proofs.ByPlace.{mask-read, readable-read}
-use Rattle.layout.proofs.OneOfFour.{four-changed}
-use Rattle.layout.proofs.Stores.{none}
 
 -- ---- a number that is written only where it differs, and not at the place of the sector that changes
 

@@ -1,5 +1,4 @@
 -- From the bytes and the loops to what an access meets; last, what a caller takes away.
-pub mod Statuses
 pub mod Scans
 pub mod Ways
 pub mod ByTree

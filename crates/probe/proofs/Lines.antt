@@ -25,7 +25,7 @@ use Rattle.model.proofs.Ways.{flag-is}
 use Rattle.model.proofs.Trees.{choice-same, levels-are}
 use Rattle.tables.specs.Raw.{waitingAt}
 use Rattle.probe.specs.Scan.{candidateAt, foundIn, lastUnusedIn, earliestIn, agesFrom, victimIn, treeIn}
-use Rattle.probe.proofs.Statuses.{unused-bytes, waiting-bytes, holds-bytes, candidate-bytes}
+use Rattle.tables.proofs.Statuses.{unused-bytes, waiting-bytes, dirty-bytes, holds-bytes}
 use Rattle.probe.proofs.Ways.{first-table, last-table, earliest-table, first-ext, last-ext, least-ext}
 
 -- ---- a wholly invalid line is a candidate
@@ -56,6 +56,9 @@ unused-candidate enough l =
     and-none false = refl
 
 module _ (S : Settings) (longs words marks : List ℕ) where
+  candidate-bytes : (l : ℕ) (enough : Bool) → candidate enough (lineAt S longs words marks l) ≡ candidateAt marks enough l
+  candidate-bytes l enough = rw (waiting-bytes S longs words marks l, dirty-bytes S longs words marks l)
+
   module _ (b m : ℕ) (h : b + m ≤ linesOf S) where
     abbrev line : ℕ → Line
     line w = lineAt S longs words marks (b + w)
@@ -101,7 +104,7 @@ module _ (S : Settings) (longs words marks : List ℕ) where
     victim-by-age d =
         victim-by (byKey (age S)) d
         (earliest-table (age S) (candidate (enoughDirty S d)) line m
-        ∙ least-ext _ _ _ _ (λ w. candidate-bytes S longs words marks (b + w) (enoughDirty S d)) (λ w. age-at (b + w)) m 0)
+        ∙ least-ext _ _ _ _ (λ w. candidate-bytes (b + w) (enoughDirty S d)) (λ w. age-at (b + w)) m 0)
 
     victim-by-tree : (t : ℕ) (d : ℕ) → powerTo16 m ≡ true
         → victim (byTree t) S d (take m (drop b (linesIn S longs words marks))) ≡ orElse (lastUnusedIn marks b m) (treeIn marks b m (enoughDirty S d) t)
@@ -112,7 +115,7 @@ module _ (S : Settings) (longs words marks : List ℕ) where
         (ap (λ (k : ℕ). treeChoice (λ w. getD (map able (table m line)) w false) t (levels k)) long
         ∙ choice-same (λ w. getD (map able (table m line)) w false) (λ w. candidateAt marks (enoughDirty S d) (b + w)) t (levels m)
         (λ w l. let l′ : w < m = omega (arith, levels-are m power .0) in
-        flag-is able (table m line) w (omega arith) ∙ ap able (getD-table m line w fresh l′) ∙ candidate-bytes S longs words marks (b + w) (enoughDirty S d)))
+        flag-is able (table m line) w (omega arith) ∙ ap able (getD-table m line w fresh l′) ∙ candidate-bytes (b + w) (enoughDirty S d)))
 
   -- under the rule of set i, whose lines begin at b
   pub victim-is : (i b : ℕ) → b + S .ways ≤ linesOf S → (isTree S ≡ true → powerTo16 (S .ways) ≡ true) → (d : ℕ)

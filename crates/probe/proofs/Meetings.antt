@@ -31,7 +31,7 @@ use Rattle.probe.specs.Decided.{Decided, backsOf, placeIs, linesHeld, ru
 use Rattle.tables.specs.Raw.{waitingAt, dirtyAt}
 use Rattle.probe.specs.Scan.{foundIn, victimIn}
 use Rattle.probe.specs.Values.{masksAt, onMatch, onMiss, noWay, takenOver}
-use Rattle.probe.proofs.Statuses.{dirty-bytes}
+use Rattle.tables.proofs.Statuses.{dirty-bytes}
 use Rattle.probe.proofs.Ways.{Under, first-under, victim-under, at-under}
 use Rattle.layout.proofs.OneOfFour.{sector-of-four}
 use Rattle.probe.proofs.Lines.{way-is, found-is, waiting-is, victim-is}

@@ -11,10 +11,8 @@ use Rattle.words.specs.Words.{pick}
 use Rattle.model.specs.Numbers.{statusOf}
 use Rattle.model.specs.Tables.{isInvalid, isReserved, isModified, whollyInvalid, hasReserved, dirty, holds}
 use Rattle.model.specs.Lent.{statusAt, tagAt, lineAt}
-use Rattle.model.specs.Probe.{candidate}
 use Rattle.model.specs.declared.Status.the-variants.{Invalid, Reserved, Valid, Modified}
 use Rattle.tables.specs.Raw.{unusedAt, holdsAt, waitingAt, dirtyAt}
-use Rattle.probe.specs.Scan.{candidateAt}
 use Rattle.model.specs.declared.Settings.{Settings}
 
 -- ---- one byte
@@ -72,6 +70,3 @@ module _ (S : Settings) (longs words marks : List ℕ) (l : ℕ) where
 
   pub holds-bytes : (b : ℕ) → holds b (lineAt S longs words marks l) ≡ holdsAt longs marks b l
   holds-bytes b = and-swap (not (whollyInvalid (lineAt S longs words marks l))) (eqb (tagAt longs l) b) ∙ ap (λ (u : Bool). eqb (tagAt longs l) b && not u) unused-bytes
-
-  pub candidate-bytes : (enough : Bool) → candidate enough (lineAt S longs words marks l) ≡ candidateAt marks enough l
-  candidate-bytes enough = ap (λ (u : Bool). not u && (not (dirty (lineAt S longs words marks l)) || enough)) waiting-bytes ∙ ap (λ (u : Bool). not (waitingAt marks l) && (not u || enough)) dirty-bytes
