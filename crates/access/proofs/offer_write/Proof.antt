@@ -32,7 +32,7 @@ offer-write-spec =
           let start = needed .before .before .before .before .before .before in
           let asked = write-needs (start .args .x) (start .args .d) (start .pre .3) (needed .back-needed .ensures .0) in
           let counted = queue-counted _ t (m .is) (start .pre .0) (start .pre .2) in
-          offered-stops _ _ _ t p m (plan-full _ _ _ t p m counted asked (c .before .if2 .taken)) refl (c .refused .ensures);
+          offered-stops _ _ _ t p m (plan-full _ _ _ t p m counted asked (c .before .if2 .taken)) refl refl (c .refused .ensures);
     })
     -- act-write-requires
     (λ c κs.
