@@ -111,43 +111,27 @@ module _ (S : Settings) {longs words marks : List ℕ} (x : Access) (d : Decisio
 
   -- ---- when it was taken
 
-  -- a line that no MISS takes stays as taken as it was
-  taken-stays : takesLine (p .answer) ≡ false → p .line .taken ≡ getD (t .lines) (d .line) fresh .taken
-  taken-stays n = ap (λ (l : Line). l .taken) (stands S x d t p m n)
-
-  abbrev lefts : Tables
-  lefts = withDirtyCount newCount (withLines (set (t .lines) (d .line) leftLine) t)
-
-  left-there : getD (set (t .lines) (d .line) leftLine) (d .line) fresh ≡ leftLine
-  left-there = getD-set-same (t .lines) (d .line) leftLine fresh (omega (arith, sized, m .below))
-
   pub line-written : (L₀ : Lent) {L₁ : Lent} → L₀ ≡ lineLeft place (lent longs words marks) (d .line) (blockOf (addressOf x)) (sectorsAfter x d (sectorsFor (d .meeting) (sectorsAt S words marks (d .line))))
       → L₁ ≡ lineTaken place (d .answer) (d .line) L₀
       → ByBlocks S (L₁ .longs) (L₁ .words) (L₁ .marks) (withDirtyCount newCount (withLines (set (t .lines) (d .line) newLine) t))
-  line-written L₀ {L₁} e f = ⊎-elim took kept (flag (takesLine (p .answer)))
-    where
-      left : ByBlocks S (L₀ .longs) (L₀ .words) (L₀ .marks) lefts
-      left = line-left e
-
-      same-answer : d .answer ≡ p .answer
-      same-answer = sym (answer-is S x d t p m)
-
-      long : length (lefts .lines) ≡ linesOf S
-      long = length-set (t .lines) (d .line) leftLine ∙ sized
-
-      took : takesLine (p .answer) ≡ true → ByBlocks S (L₁ .longs) (L₁ .words) (L₁ .marks) (withDirtyCount newCount (withLines (set (t .lines) (d .line) newLine) t))
-      took y =
-          let g = rw (same-answer, y) at f in
-          let h = taken-stands S lefts left pl long (d .line) (rw long (m .below)) (t .now) (ap (λ (n : ℕ). put (L₀ .words) (place .taken + d .line) (n ∷ [])) (now-of left)) in
-          let k : set (set (t .lines) (d .line) leftLine) (d .line) (takenAs (t .now) leftLine) ≡ set (t .lines) (d .line) newLine =
-          set-set (t .lines) (d .line) leftLine _ ∙ rw y in
-          rw g (rw (left-there, k) at h)
-
-      kept : takesLine (p .answer) ≡ false → ByBlocks S (L₁ .longs) (L₁ .words) (L₁ .marks) (withDirtyCount newCount (withLines (set (t .lines) (d .line) newLine) t))
-      kept n =
-          let g = rw (same-answer, n) at f in
-          let k : leftLine ≡ newLine = rw (n, taken-stays n) in
-          rw (g, ← k) left
+  line-written L₀ e f =
+      let lefts : Tables = withDirtyCount newCount (withLines (set (t .lines) (d .line) leftLine) t) in
+      let left : ByBlocks S (L₀ .longs) (L₀ .words) (L₀ .marks) lefts = line-left e in
+      let long : length (lefts .lines) ≡ linesOf S = length-set (t .lines) (d .line) leftLine ∙ sized in
+      ⊎-elim
+      (λ (y : takesLine (p .answer) ≡ true).
+      let g = rw (← answer-is S x d t p m, y) at f in
+      let h = taken-stands S lefts left pl long (d .line) (rw long (m .below)) (t .now) (ap (λ (n : ℕ). put (L₀ .words) (place .taken + d .line) (n ∷ [])) (now-of left)) in
+      let there : getD (set (t .lines) (d .line) leftLine) (d .line) fresh ≡ leftLine = getD-set-same (t .lines) (d .line) leftLine fresh (omega (arith, sized, m .below)) in
+      let k : set (set (t .lines) (d .line) leftLine) (d .line) (takenAs (t .now) leftLine) ≡ set (t .lines) (d .line) newLine =
+      set-set (t .lines) (d .line) leftLine _ ∙ rw y in
+      rw g (rw (there, k) at h))
+      -- a line that no MISS takes stays as taken as it was
+      (λ (n : takesLine (p .answer) ≡ false).
+      let g = rw (← answer-is S x d t p m, n) at f in
+      let k : leftLine ≡ newLine = rw (n, stands S x d t p m n) in
+      rw (g, ← k) left)
+      (flag (takesLine (p .answer)))
 
   -- ---- the tree of its set
 
