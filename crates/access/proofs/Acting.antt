@@ -149,7 +149,7 @@ module _ (S : Settings) {longs words marks : List ℕ} (x : Access) (d : Decisio
       (λ (y : isTree S ≡ true).
       let w : touchedTree (getD (L₁ .words) (place .trees + i) 0) (levels (S .ways)) (d .way) ≡ touchedTree (getD (t .trees) i 0) (levels (S .ways)) (p .way) =
       rw (tree-at S u h pl treed i inside, same, shows S x d t p m .way) in
-      let k = tree-stands S u h pl treed i _ inside (ap (λ (n : ℕ). put (L₁ .words) (place .trees + i) (n ∷ [])) w) in
+      let k = tree-stands S u h pl treed i inside _ (ap (λ (n : ℕ). put (L₁ .words) (place .trees + i) (n ∷ [])) w) in
       rw (rw y at e, y) (rw same at k))
       (λ (n : isTree S ≡ false). rw (rw n at e, n, ← same) h)
       (flag (isTree S))
