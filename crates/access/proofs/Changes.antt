@@ -1,15 +1,16 @@
 -- A line that has the block of an access: to change the access's own sector and write its cycle is to write the whole line.
 use mathlib.Core.Path.{_≡_, refl, sym, ap, _∙_}
-use mathlib.Core.Bool.{false}
+use mathlib.Core.Bool.{true, false}
 use mathlib.Core.List.{List, [], _∷_}
-use Prim.Native.Nat.{ℕ, _+_, _-_, _*_, _<_}
+use Prim.Native.Nat.{ℕ, _+_, _-_, _*_, _≤_, _<_}
 use native.Mathlib.Omega.{arith}
 use lib.ListN.{length, getD, set, length-set}
 use lib.Seq.{getD-set-same, set-set}
 use Rattle.words.specs.Words.{one}
 use Rattle.words.specs.Regions.{put}
-use Rattle.model.specs.Address.{addressOf, blockOf, sectorIndex}
-use Rattle.model.specs.Range.{linesOf}
+use Rattle.model.specs.Address.{addressOf, blockOf, sectorIndex, setIndex}
+use Rattle.model.specs.Range.{linesOf, isTree, powerTo256}
+use Rattle.model.specs.Tree.{powerTo16}
 use Rattle.model.specs.Tables.{Line, Tables, empty, fresh, dirty, withLines, withDirtyCount}
 use Rattle.model.specs.Lent.{lent, sectorAt, sectorsAt, encode}
 use Rattle.model.specs.Inner.{Sized}
@@ -20,12 +21,14 @@ use Rattle.model.specs.declared.Access.{Access}
 use Rattle.model.specs.declared.Sector.{Sector}
 use Rattle.words.proofs.Lists.{in-getD}
 use Rattle.model.proofs.SoundFacts.{parts, four-at, sector-below}
+use Rattle.model.proofs.Turning.{set-below}
 use Rattle.encoding.proofs.Bridge.{is-fit}
 use Rattle.layout.specs.declared.Layout.{Layout}
-use Rattle.layout.specs.Layout.{LaysOut}
+use Rattle.layout.specs.Layout.{LaysOut, wordsMost}
 use Rattle.layout.specs.Sectors.{someModified}
 use Rattle.layout.proofs.ByBlocks.{ByBlocks, is-stands, stands-encode}
 use Rattle.layout.proofs.Lines.{usedAs, used-stands, lifted, plain-at}
+use Rattle.layout.proofs.Room.{taken-room, tree-room}
 use Rattle.layout.proofs.OneOfFour.{sector-of-four}
 use Rattle.layout.proofs.DirtyCount.{dirty-count-at, dirty-few}
 use Rattle.tables.proofs.Changing.{withSectors, change-stands}
@@ -59,8 +62,17 @@ module _ (S : Settings) {longs words marks : List ℕ} (x : Access) (d : Decisio
         m .below,
         plain-at S t (is-stands (m .is)) pl (sized S x d t p m pl) (d .line) below,
         omega arith,
-        (dirty-few S t (m .is) pl, was-counted S t (m .is) pl (d .line) (m .below)),
+        (dirty-few S t (m .is) pl, was-counted S t (m .is) (d .line) (m .below) pl),
       )
+
+  -- for the cycle at which it was taken and the tree of its set, in words as long
+  pub set-room : {n : ℕ} → n ≡ length words → (place .taken + d .line < n) × (place .trees + setIndex S (addressOf x) < n) × (n ≤ wordsMost)
+      × (1 ≤ S .sets) × (powerTo256 (S .sets) ≡ true) × (isTree S ≡ true → powerTo16 (S .ways) ≡ true)
+  set-room same =
+      let f = sound-fit in
+      let taken = taken-room pl f (d .line) (m .below) in
+      let tree = tree-room pl f (setIndex S (addressOf x)) (set-below S (m .is .range) (addressOf x)) in
+      (rw same (taken .inside), rw same (tree .inside), rw same (tree .small), f .sets, f .power, f .tree)
 
   -- ---- its cycle
 
@@ -102,7 +114,7 @@ module _ (S : Settings) {longs words marks : List ℕ} (x : Access) (d : Decisio
         let o : Sector = onSector x (d .answer) (sectorAt S words marks (4 * d .line + k)) in
         let y : Line = withSectors (set (line .sectors) k o) line in
         let new : Line = leftLine S x d t p m pl in
-        let few = rw (was-dirty S t (m .is) pl (d .line) (m .below), dirty-count-at S t (is-stands (m .is)) pl) at (was-counted S t (m .is) pl (d .line) (m .below)) in
+        let few = rw (was-dirty S t (m .is) (d .line) (m .below), dirty-count-at S t (is-stands (m .is)) pl) at (was-counted S t (m .is) (d .line) (m .below) pl) in
         let h = change-stands S t (is-stands (m .is)) pl (sized S x d t p m pl) (d .line) below four k o _ (ap (λ (ys : List Sector). someModified (set ys k o)) read-off) few c in
         let n : ℕ = t .dirtyCount - one (dirty line) + one (dirty y) in
         let long : length (set (t .lines) (d .line) y) ≡ linesOf S = length-set (t .lines) (d .line) y ∙ sized S x d t p m pl in

@@ -2,8 +2,8 @@
 pub mod Sectors
 pub mod Plans
 pub mod PlanTests
-pub mod Lines
 pub mod Recounts
+pub mod Lines
 pub mod Inverted
 pub mod Acting
 pub mod Changes

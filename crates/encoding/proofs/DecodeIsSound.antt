@@ -183,9 +183,9 @@ mark-back zero h = refl
 mark-back (suc zero) h = refl
 mark-back (suc (suc n)) h = absurd (omega arith)
 
-pub sectors-at : (f : Sector → ℕ) (S : Settings) (words marks : List ℕ) (l k : ℕ) → k < 4
+pub sector-numbers-at : (f : Sector → ℕ) (S : Settings) (words marks : List ℕ) (l k : ℕ) → k < 4
     → f (sectorAt S words marks (4 * l + k)) ≡ getD (map f (sectorsAt S words marks l)) k 0
-sectors-at f S words marks l =
+sector-numbers-at f S words marks l =
     below-four (λ k. f (sectorAt S words marks (4 * l + k)) ≡ getD (map f (sectorsAt S words marks l)) k 0) (rw add-zero) refl refl refl
 
 -- a kind by its number
@@ -229,12 +229,12 @@ module _ (S : Settings) (L : Lent) (is : SoundIs S L) where
     takens = λ l h. sym (field-table takenOf (linesOf S) decodedLine l 0 h);
     statuses = λ l k h j.
         number-back (status S L (4 * l + k)) (is .sectors (4 * l + k) (omega arith) .known)
-        ∙ sectors-at (λ s. statusNumber (s .status)) S (L .words) (L .marks) l k j
+        ∙ sector-numbers-at (λ s. statusNumber (s .status)) S (L .words) (L .marks) l k j
         ∙ sym (field-table statusesOf (linesOf S) decodedLine l k h);
-    masks = λ l k h j. sectors-at (λ s. s .mask) S (L .words) (L .marks) l k j ∙ sym (field-table masksOf (linesOf S) decodedLine l k h);
+    masks = λ l k h j. sector-numbers-at (λ s. s .mask) S (L .words) (L .marks) l k j ∙ sym (field-table masksOf (linesOf S) decodedLine l k h);
     readables = λ l k h j.
         mark-back (readable S L (4 * l + k)) (is .sectors (4 * l + k) (omega arith) .mark)
-        ∙ sectors-at (λ s. bit (s .readable)) S (L .words) (L .marks) l k j
+        ∙ sector-numbers-at (λ s. bit (s .readable)) S (L .words) (L .marks) l k j
         ∙ sym (field-table readablesOf (linesOf S) decodedLine l k h);
     misses = λ e h. used-field (ticketCount S L) (S .misses) (is .entries-first) (entryAt S L) missOf e 0 h (λ u. refl) (λ z. is .entries e h .blank z .0);
     sents = λ e h. used-field (ticketCount S L) (S .misses) (is .entries-first) (entryAt S L) sentOf e 0 h (λ u. mark-back (sent S L e) (is .entries e h .mark)) (λ z. is .entries e h .blank z .1);

@@ -1,5 +1,5 @@
 -- The dirty count in the slices: where it is read, and the tables that stand when it is written; four sectors of which one is MODIFIED.
-use mathlib.Core.Path.{_≡_, sym, _∙_}
+use mathlib.Core.Path.{_≡_, sym, ap, _∙_}
 use mathlib.Core.Bool.{Bool, _||_}
 use mathlib.Core.List.{List, [], _∷_}
 use Prim.Native.Nat.{ℕ, _+_, _≤_}
@@ -16,6 +16,7 @@ use Rattle.model.specs.declared.Sector.{Sector}
 use Rattle.model.specs.Inner.{Encodes}
 use Rattle.words.proofs.Places.{block-get, block-put}
 use Rattle.words.proofs.Flags.{or-four}
+use Rattle.words.proofs.Lists.{four-whole}
 use Rattle.words.proofs.Counting.{count-length}
 use Rattle.encoding.proofs.Slices.{word-sizes, begins}
 use Rattle.encoding.proofs.Bridge.{is-fit}
@@ -53,9 +54,4 @@ pub some-modified : (four : List Sector) (e : Sector) → length four ≡ 4 → 
     → a ≡ isModified (getD four 0 e .status) → b ≡ isModified (getD four 1 e .status)
     → c ≡ isModified (getD four 2 e .status) → d ≡ isModified (getD four 3 e .status)
     → (a || b || c || d) ≡ someModified four
-some-modified [] o n e f g h = absurd (omega arith)
-some-modified (w ∷ []) o n e f g h = absurd (omega arith)
-some-modified (w ∷ x ∷ []) o n e f g h = absurd (omega arith)
-some-modified (w ∷ x ∷ y ∷ []) o n e f g h = absurd (omega arith)
-some-modified (w ∷ x ∷ y ∷ z ∷ []) o n e f g h = rw (e, f, g, h) (sym (or-four (isModified (w .status)) (isModified (x .status)) (isModified (y .status)) (isModified (z .status))))
-some-modified (w ∷ x ∷ y ∷ z ∷ v ∷ l) o n e f g h = absurd (omega arith)
+some-modified four o n {a} {b} {c} {d} e f g h = sym (or-four a b c d) ∙ rw (e, f, g, h) (ap someModified (four-whole o four n))

@@ -1,5 +1,5 @@
 -- Four sectors stored back over those that stand there: all but one place, each where it differs; then that one.
-use mathlib.Core.Path.{_≡_, refl, sym, ap, subst, _∙_}
+use mathlib.Core.Path.{_≡_, refl, sym, ap, _∙_}
 use mathlib.Core.Bool.{Bool, true, false, not, _&&_}
 use mathlib.Core.List.{List, map}
 use Prim.Native.Nat.{ℕ, _+_, _-_, _*_, _≤_, _<_}
@@ -7,7 +7,7 @@ use native.Mathlib.Omega.{arith}
 use native.Mathlib.Nat.{add-zero}
 use lib.ListN.{length, getD, set, length-set, length-map}
 use lib.Dec.{eqb}
-use lib.Seq.{paste, length-paste, getD-set-same, getD-set-other, set-getD, set-set}
+use lib.Seq.{length-paste, getD-set-same, getD-set-other, set-getD, set-set}
 use borrow.Author.Tests.{eqb-true, eqb-false}
 use Rattle.words.specs.Words.{pick}
 use Rattle.words.specs.Regions.{put}
@@ -18,7 +18,7 @@ use Rattle.model.specs.Numbers.{statusNumber}
 use Rattle.model.specs.Lent.{bit, sectorsAt}
 use Rattle.model.specs.declared.Settings.{Settings}
 use Rattle.model.specs.declared.Sector.{Sector}
-use Rattle.encoding.proofs.DecodeIsSound.{number-back, mark-back, sectors-at}
+use Rattle.encoding.proofs.DecodeIsSound.{number-back, mark-back, sector-numbers-at}
 use Rattle.layout.specs.declared.Layout.{Layout}
 use Rattle.layout.specs.Layout.{LaysOut}
 use Rattle.layout.specs.Sectors.{LineRoom, Plain, Column, Stand, StoredBack, OthersStored, butOne}
@@ -98,28 +98,23 @@ module _ (l : List ℕ) (w k : ℕ) (was is : List ℕ) (long : w + 4 ≤ length
 pub column-past : (l : List ℕ) (q : ℕ) (ys : List ℕ) (r : ℕ) (ns : List ℕ) → length ys ≡ 4 → q + 4 ≤ r → q + 4 ≤ length l → Column l r ns → Column (put l q ys) r ns
 column-past l q ys r ns n a b c j h =
     let e : r + j ≡ q + 4 + (r + j - (q + 4)) = omega arith in
-    ap (λ (s : List ℕ). getD s (r + j) 0) (sym (put-paste l q ys 4 n))
-    ∙ ap (λ (i : ℕ). getD (paste l q ys 4) i 0) e
-    ∙ getD-paste-past l q ys 4 (r + j - (q + 4)) (omega arith) (omega (arith, n))
-    ∙ ap (λ (i : ℕ). getD l i 0) (sym e)
-    ∙ c j h
+    rw (← put-paste l q ys 4 n, e) (getD-paste-past l q ys 4 (r + j - (q + 4)) (omega arith) (omega (arith, n)) ∙ rw (← e) (c j h))
 
 -- ---- the four that stand there, and with one of them changed
 
 pub lifted-stand : (S : Settings) {at : Layout} → LaysOut S at → (l : ℕ) (words marks : List ℕ) → Plain at l marks → Stand at l (sectorsAt S words marks l) words marks
 lifted-stand S {at} p l words marks plain = (
-  λ j h. ap (λ (i : ℕ). getD words i 0) (omega arith) ∙ mask-read S p words (4 * l + j) ∙ sectors-at (λ s. s .mask) S words marks l j h,
-  λ j h. number-back (getD marks (4 * l + j) 0) (plain j h .0) ∙ sectors-at (λ s. statusNumber (s .status)) S words marks l j h,
+  λ j h. ap (λ (i : ℕ). getD words i 0) (omega arith) ∙ mask-read S p words (4 * l + j) ∙ sector-numbers-at (λ s. s .mask) S words marks l j h,
+  λ j h. number-back (getD marks (4 * l + j) 0) (plain j h .0) ∙ sector-numbers-at (λ s. statusNumber (s .status)) S words marks l j h,
   λ j h. mark-back (getD marks (at .readables + 4 * l + j) 0) (plain j h .1)
       ∙ ap (λ (n : ℕ). bit (eqb n 1)) (ap (λ (i : ℕ). getD marks i 0) (omega arith) ∙ readable-read S p marks (4 * l + j))
-      ∙ sectors-at (λ s. bit (s .readable)) S words marks l j h,
+      ∙ sector-numbers-at (λ s. bit (s .readable)) S words marks l j h,
 )
 
 -- stored but for sector i, which is sector k
 pub others-as : (at : Layout) (l : ℕ) {i k : ℕ} (found : List Sector) {four : List Sector} (x : Sector) (words marks : List ℕ) {words′ marks′ : List ℕ} → k ≡ i → four ≡ set found i x
     → OthersStored at l i found four words marks words′ marks′ → OthersStored at l k found (set found k x) words marks words′ marks′
-others-as at l {i} {k} found {four} x words marks {words′} {marks′} e f o =
-    rw e (subst (λ (ys : List Sector). OthersStored at l i found ys words marks words′ marks′) f o)
+others-as at l found x words marks e f o = rw (e, ← f) o
 
 -- ---- then the one
 
@@ -128,11 +123,7 @@ module _ (found : List Sector) (k : ℕ) (x : Sector) (four : length found ≡ 4
   size = length-set (map f (set found k x)) k (getD (map f found) k 0) ∙ length-map (set found k x) f ∙ length-set found k x ∙ four
 
   as-changed : set (butOne k (map f found) (map f (set found k x))) k (f x) ≡ map f (set found k x)
-  as-changed =
-      set-set (map f (set found k x)) k (getD (map f found) k 0) (f x)
-      ∙ ap (λ (ns : List ℕ). set ns k (f x)) (map-set f found k x)
-      ∙ set-set (map f found) k (f x) (f x)
-      ∙ sym (map-set f found k x)
+  as-changed = simp (map-set, set-set)
 
   pub changed-last : (l : List ℕ) (w : ℕ) → w + 4 ≤ length l
       → set (put l w (butOne k (map f found) (map f (set found k x)))) (w + k) (f x) ≡ put l w (map f (set found k x))
@@ -148,11 +139,10 @@ module _ (found : List Sector) (k : ℕ) (x : Sector) (four : length found ≡ 4
       let m = size found k x four h f in
       let n : length (put l q (butOne k (map f found) (map f (set found k x)))) ≡ length l =
       ap length (sym (put-paste l q (butOne k (map f found) (map f (set found k x))) 4 m)) ∙ length-paste l q (butOne k (map f found) (map f (set found k x))) 4 (omega arith) (omega (arith, m)) in
-      ap (λ (m : List ℕ). set m (r + k) (g x))
-      (put-set-before (put l q (butOne k (map f found) (map f (set found k x)))) r (butOne k (map g found) (map g (set found k x))) (q + k) (f x) (omega (arith, n)) (omega arith))
-      ∙ ap (λ (m : List ℕ). set (put m r (butOne k (map g found) (map g (set found k x)))) (r + k) (g x)) (changed-last found k x four h f l q (omega arith))
-      ∙ changed-last found k x four h g (put l q (map f (set found k x))) r
-      (omega (arith, sym (ap length (changed-last found k x four h f l q (omega arith))) ∙ length-set (put l q (butOne k (map f found) (map f (set found k x)))) (q + k) (f x) ∙ n))
+      let first = changed-last found k x four h f l q (omega arith) in
+      rw (put-set-before (put l q (butOne k (map f found) (map f (set found k x)))) r (butOne k (map g found) (map g (set found k x))) (q + k) (f x) (omega (arith, n)) (omega arith), first)
+      (changed-last found k x four h g (put l q (map f (set found k x))) r
+      (omega (arith, sym (ap length first) ∙ length-set (put l q (butOne k (map f found) (map f (set found k x)))) (q + k) (f x) ∙ n)))
 
 -- all three columns, of the four that were lifted
 pub replaced : (S : Settings) (at : Layout) (l k : ℕ) (x : Sector) (words marks : List ℕ) → LineRoom at l words marks → k < 4
@@ -161,8 +151,6 @@ pub replaced : (S : Settings) (at : Layout) (l k : ℕ) (x : Sector) (words mark
     × (marks₂ ≡ set (set marks₁ (4 * l + k) (statusNumber (x .status))) (at .readables + 4 * l + k) (bit (x .readable)))
     → StoredBack at l (set (sectorsAt S words marks l) k x) words marks words₂ marks₂
 replaced S at l k x words marks room h others own = (
-  own .0 ∙ ap (λ (s : List ℕ). set s (at .masks + 4 * l + k) (x .mask)) (others .0) ∙ changed-last (sectorsAt S words marks l) k x refl h (λ s. s .mask) words (at .masks + 4 * l) (room .0),
-  own .1
-      ∙ ap (λ (s : List ℕ). set (set s (4 * l + k) (statusNumber (x .status))) (at .readables + 4 * l + k) (bit (x .readable))) (others .1)
-      ∙ changed-both (sectorsAt S words marks l) k x refl h (λ s. statusNumber (s .status)) (λ s. bit (s .readable)) marks (4 * l) (at .readables + 4 * l) (room .1) (room .2),
+  rw (own .0, others .0) (changed-last (sectorsAt S words marks l) k x refl h (λ s. s .mask) words (at .masks + 4 * l) (room .0)),
+  rw (own .1, others .1) (changed-both (sectorsAt S words marks l) k x refl h (λ s. statusNumber (s .status)) (λ s. bit (s .readable)) marks (4 * l) (at .readables + 4 * l) (room .1) (room .2)),
 )

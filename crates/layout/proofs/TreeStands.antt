@@ -15,20 +15,20 @@ use Rattle.layout.specs.declared.Layout.{Layout}
 use Rattle.layout.specs.Layout.{LaysOut}
 use Rattle.layout.proofs.ByBlocks.{ByBlocks}
 
-pub tree-stands : (S : Settings) (t : Tables) {longs words marks : List ℕ} → ByBlocks S longs words marks t → {at : Layout} → LaysOut S at → length (t .trees) ≡ S .sets
-    → (i v : ℕ) → i < S .sets → {words′ : List ℕ} → words′ ≡ put words (at .trees + i) (v ∷ []) → ByBlocks S longs words′ marks (withTrees (set (t .trees) i v) t)
-unfolding padTo
-tree-stands S t h {at} p sized i v below c =
-    let from = told (p .trees) in
-    record {
-      as-longs = h .as-longs;
-      as-words = field-put treeOf 1 (S .sets) (t .trees) (wordBlocks S t) 7 i (h .as-words) refl (simp length-places (omega arith)) (omega arith) (omega arith) (omega arith) v refl c;
-      as-marks = h .as-marks;
-    }
+module _ (S : Settings) (t : Tables) {longs words marks : List ℕ} (h : ByBlocks S longs words marks t) {at : Layout} (p : LaysOut S at) (sized : length (t .trees) ≡ S .sets)
+    (i : ℕ) (below : i < S .sets) where
+  pub tree-stands : (v : ℕ) {words′ : List ℕ} → words′ ≡ put words (at .trees + i) (v ∷ []) → ByBlocks S longs words′ marks (withTrees (set (t .trees) i v) t)
+  unfolding padTo
+  tree-stands v c =
+      let from = told (p .trees) in
+      record {
+        as-longs = h .as-longs;
+        as-words = field-put treeOf 1 (S .sets) (t .trees) (wordBlocks S t) 7 i (h .as-words) refl (simp length-places (omega arith)) (omega arith) (omega arith) (omega arith) v refl c;
+        as-marks = h .as-marks;
+      }
 
-pub tree-at : (S : Settings) (t : Tables) {longs words marks : List ℕ} → ByBlocks S longs words marks t → {at : Layout} → LaysOut S at → length (t .trees) ≡ S .sets
-    → (i : ℕ) → i < S .sets → getD words (at .trees + i) 0 ≡ getD (t .trees) i 0
-unfolding padTo
-tree-at S t h {at} p sized i below =
-    let from = told (p .trees) in
-    field-get treeOf 1 (S .sets) (t .trees) (wordBlocks S t) 7 i {i = at .trees + i} (h .as-words) refl (simp length-places (omega arith)) (omega arith) (omega arith) (omega arith) 0 0 (omega arith) (omega arith)
+  pub tree-at : getD words (at .trees + i) 0 ≡ getD (t .trees) i 0
+  unfolding padTo
+  tree-at =
+      let from = told (p .trees) in
+      field-get treeOf 1 (S .sets) (t .trees) (wordBlocks S t) 7 i {i = at .trees + i} (h .as-words) refl (simp length-places (omega arith)) (omega arith) (omega arith) (omega arith) 0 0 (omega arith) (omega arith)

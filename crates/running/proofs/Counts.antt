@@ -47,7 +47,8 @@ use Rattle.layout.specs.declared.Layout.{Layout}
 use Rattle.running.specs.declared.record.Went.{Went}
 use Rattle.layout.specs.Layout.{LaysOut}
 use Rattle.layout.specs.Places.{First}
-use Rattle.access.proofs.Plans.{queue-counted, misses-counted}
+use Rattle.tables.proofs.Queue.{queue-counted}
+use Rattle.tables.proofs.Misses.{misses-counted}
 use Rattle.running.specs.Resume.{UsedInMarks, entriesLeft}
 
 -- ---- a search always finds a place

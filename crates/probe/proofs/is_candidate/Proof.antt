@@ -1,21 +1,15 @@
-use mathlib.Core.Path.{_≡_, refl, ap, _∙_}
-use mathlib.Core.Bool.{Bool, true, false, not, _&&_, _||_, true≢false, false≢true}
+use mathlib.Core.Path.{_≡_, ap, _∙_}
+use mathlib.Core.Bool.{Bool, true, false, not, _&&_, _||_, and-true, or-true, or-false}
 use borrow.Author.Needs.{needs}
 use Rattle.tables.specs.Raw.{waitingAt, dirtyAt}
 use Rattle.probe.proofs.is_candidate.Statement.{statement}
 use Rattle.probe.proofs.is_candidate.Tie as tie
 
 unless-waiting : (w d e : Bool) → e ≡ true → not w ≡ (not w && (not d || e))
-unless-waiting w d false h = absurd (false≢true h)
-unless-waiting true d true h = refl
-unless-waiting false true true h = refl
-unless-waiting false false true h = refl
+unless-waiting w d e h = rw (h, or-true, and-true)
 
 where-clean : (w d e : Bool) → e ≡ false → (not w && not d) ≡ (not w && (not d || e))
-where-clean w d true h = absurd (true≢false h)
-where-clean true d false h = refl
-where-clean false true false h = refl
-where-clean false false false h = refl
+where-clean w d e h = rw (h, or-false)
 
 pub is-candidate-spec : {M : Type 1} → statement M
 is-candidate-spec =

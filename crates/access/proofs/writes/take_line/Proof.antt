@@ -22,8 +22,8 @@ take-line-spec =
     let m = start .pre .1 .met in
     let f = is-fit _ _ _ (m .is) in
     let p = start .pre .0 in
-    let was = back-dirty _ _ _ _ _ m (start .pre .2) ∙ sym (was-dirty _ _ (m .is) p _ (m .below)) in
-    (omega arith, dirty-few _ _ (m .is) p, rw was (was-counted _ _ (m .is) p _ (m .below))))
+    let was = back-dirty _ _ _ _ _ m (start .pre .2) ∙ sym (was-dirty _ _ (m .is) _ (m .below)) in
+    (omega arith, dirty-few _ _ (m .is) p, rw was (was-counted _ _ (m .is) _ (m .below) p)))
     (λ c κs. search needs)  -- address-of-requires
     (λ c κs. search needs)  -- block-of-requires
     -- write-line-requires
@@ -45,7 +45,7 @@ take-line-spec =
     let start = taken .before .before .before .before in
     let a = start .args in
     let m = start .pre .1 .met in
-    let was = back-dirty _ _ _ _ _ m (start .pre .2) ∙ sym (was-dirty _ _ (m .is) (start .pre .0) _ (m .below)) in
+    let was = back-dirty _ _ _ _ _ m (start .pre .2) ∙ sym (was-dirty _ _ (m .is) _ (m .below)) in
     let four = taken-left (a .x) (a .d) (start .pre .3) (taken .taken-sectors .ensures) ∙ ap (sectorsAfter (a .x) (a .d)) (sym (sectors-taken _ _ _ _ _ m (start .pre .2))) in
     c .before .before .before .before .before .before .write-line .ensures
     ∙ rw (blocked .block-of .ensures, blocked .before .address-of .ensures, counted .recount .ensures, counted .before .some-modified .ensures, was, four)))
