@@ -5,7 +5,7 @@ use lib.ListN.{length, length-map}
 use Rattle.words.proofs.Arrays.{words-length}
 use Rattle.records.proofs.Encoding.{any-room, any-end}
 use Rattle.records.proofs.Log.{queued-start, queued-turn, tickets-start}
-use Rattle.records.proofs.Begun.{access-begun}
+use Rattle.records.proofs.Begun.{begun-as}
 use Rattle.records.proofs.Reply.{reply-alone, reply-laid}
 use borrow.Author.Needs.{needs}
 use Rattle.records.proofs.writer.put_access.Statement.{statement}
@@ -21,7 +21,7 @@ long c = words-length 8 (c .args .reply .tickets) _ (c .good .0 .1 .1 .1 .1 .1 .
 put-access-first-requires : tie.Need-put-access-first-requires
 put-access-first-requires c κs =
     let s = c .before .before .before in
-    let n = access-begun (s .args .reply .first) (s .pre .0 .first) in
+    let n = begun-as (s .args .reply .first) .access (s .pre .0 .first) in
     (s .pre .0 .first, omega arith)
 
 returns : tie.Need-returns
@@ -34,7 +34,7 @@ put-entry-requires : tie.Need-put-entry-requires
 put-entry-requires c κs =
     let p = c .before .before .before .before .before .before in
     let s = p .before .before .before .before in
-    let n = access-begun (s .args .reply .first) (s .pre .0 .first) in
+    let n = begun-as (s .args .reply .first) .access (s .pre .0 .first) in
     any-room _ _ (omega arith)
 
 returns-2 : tie.Need-returns-2
@@ -52,7 +52,7 @@ put-entry-requires-2 c κs =
     let q = c .before .before .before .before .before .before in
     let p = q .before .before .before .before .before .before .before in
     let s = p .before .before .before .before in
-    let n = access-begun (s .args .reply .first) (s .pre .0 .first) in
+    let n = begun-as (s .args .reply .first) .access (s .pre .0 .first) in
     let j = any-end _ (q .put-entry .ensures) in
     any-room _ _ (omega arith)
 

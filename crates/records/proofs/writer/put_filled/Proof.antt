@@ -4,7 +4,7 @@ use native.Mathlib.Omega.{arith}
 use lib.ListN.{length, length-map}
 use Rattle.words.proofs.Arrays.{words-length}
 use Rattle.records.proofs.Log.{queued-start}
-use Rattle.records.proofs.Begun.{fill-begun}
+use Rattle.records.proofs.Begun.{begun-as}
 use Rattle.records.proofs.Reply.{reply-laid}
 use borrow.Author.Needs.{needs}
 use Rattle.records.proofs.writer.put_filled.Statement.{statement}
@@ -13,14 +13,14 @@ use Rattle.records.proofs.writer.put_filled.Tie as tie
 put-fill-first-requires : tie.Need-put-fill-first-requires
 put-fill-first-requires c κs =
     let s = c .before .before .before in
-    let n = fill-begun (s .args .reply .first) (s .pre .0 .first) in
+    let n = begun-as (s .args .reply .first) .fill (s .pre .0 .first) in
     (s .pre .0 .first, omega arith)
 
 put-tickets-requires : tie.Need-put-tickets-requires
 put-tickets-requires c κs =
     let p = c .before .before .before in
     let s = p .before .before .before .before in
-    let n = fill-begun (s .args .reply .first) (s .pre .0 .first) in
+    let n = begun-as (s .args .reply .first) .fill (s .pre .0 .first) in
     (s .pre .0 .tickets, omega arith)
 
 returns : tie.Need-returns

@@ -1,8 +1,8 @@
 -- By the case: the event is all that is told. An event of any other case is excluded.
 use Rattle.model.specs.RecordsOf as records
-use Rattle.model.specs.Records.{bytesOf}
-use Rattle.records.proofs.Encoding.{event-laid}
-use Rattle.records.proofs.Begun.{send-begun}
+use Rattle.model.specs.Records.{bytesOf, eventBytes}
+use Rattle.records.proofs.Encoding.{case-laid}
+use Rattle.records.proofs.Begun.{begun-as}
 use Rattle.records.proofs.Reply.{reply-alone}
 use borrow.Author.Needs.{needs}
 use Rattle.records.proofs.writer.put_sent.Statement.{statement}
@@ -14,7 +14,7 @@ returns c =
     let p = c .before .before in
     let k = p .before .before .before in
     let s = k .before .before .before in
-    reply-alone (s .args .reply) (s .pre .0 .entries) (s .pre .0 .tickets) (event-laid _ (p .put-address .ensures) (k .first .given .1))
+    reply-alone (s .args .reply) (s .pre .0 .entries) (s .pre .0 .tickets) (case-laid eventBytes _ (p .put-address .ensures) (k .first .given .1))
 
 returns-2 : tie.Need-returns-2
 unfolding records.eventBytes bytesOf
@@ -22,7 +22,7 @@ returns-2 c =
     let p = c .before .before in
     let k = p .before .before .before in
     let s = k .before .before .before in
-    reply-alone (s .args .reply) (s .pre .0 .entries) (s .pre .0 .tickets) (event-laid _ (p .put-back .ensures) (k .first2 .given .1))
+    reply-alone (s .args .reply) (s .pre .0 .entries) (s .pre .0 .tickets) (case-laid eventBytes _ (p .put-back .ensures) (k .first2 .given .1))
 
 returns-3 : tie.Need-returns-3
 unfolding records.eventBytes bytesOf
@@ -30,7 +30,7 @@ returns-3 c =
     let p = c .before .before in
     let k = p .before .before .before in
     let s = k .before .before .before in
-    reply-alone (s .args .reply) (s .pre .0 .entries) (s .pre .0 .tickets) (event-laid _ (p .put-refusal .ensures) (k .first3 .given .1))
+    reply-alone (s .args .reply) (s .pre .0 .entries) (s .pre .0 .tickets) (case-laid eventBytes _ (p .put-refusal .ensures) (k .first3 .given .1))
 
 pub put-sent-spec : {M : Type 1} → statement M
 put-sent-spec =
@@ -48,4 +48,4 @@ put-sent-spec =
     returns-2
     (λ c. search needs)  -- same-length-3
     returns-3
-    (λ c. absurd (send-begun (c .before .before .args .reply .first) (c .before .before .pre .0 .first) .none (c .match .keys4))))  -- returns-4
+    (λ c. absurd (begun-as (c .before .before .args .reply .first) .send (c .before .before .pre .0 .first) .none (c .match .keys4))))  -- returns-4
