@@ -7,7 +7,7 @@ use borrow.Author.Tests.{le-ltb, lt-ltb}
 use mathlib.Core.Bool.{true}
 use lib.Dec.{eqb}
 use lib.ListN.{length, getD, take, drop, length-append}
-use lib.Seq.{getD-append-seam, drop-append-add, take-append-seam, sets}
+use lib.Seq.{getD-append-seam, drop-append-add, take-append-seam}
 use Rattle.words.specs.Words.{pick}
 use Rattle.model.specs.Kinds as kinds
 use Rattle.model.specs.RecordsOf as records

@@ -13,47 +13,20 @@ use Rattle.records.proofs.writer.put_entry.Tie as tie
 is : (s : tie.Start) {k : QueueKind} → s .args .x .kind ≡ k → queuedEvent (s .args .x) ≡ queuedAs k (s .args .x .address) (s .args .x .masks)
 is s e = ap (λ (k : QueueKind). queuedAs k (s .args .x .address) (s .args .x .masks)) e
 
-put-address-requires : tie.Need-put-address-requires
-unfolding records.eventBytes bytesOf
-put-address-requires c κs =
-    let k = c .before in
-    let s = k .before .before .before .before in
-    case-room eventBytes _ (s .pre) (is s (k .enum-told .given .1))
-
-put-back-requires : tie.Need-put-back-requires
-unfolding records.eventBytes bytesOf
-put-back-requires c κs =
-    let k = c .before in
-    let s = k .before .before .before .before in
-    case-room eventBytes _ (s .pre) (is s (k .enum-told2 .given .1))
-
-returns : tie.Need-returns
-unfolding records.eventBytes bytesOf
-returns c =
-    let p = c .before .before in
-    let k = p .before .before in
-    case-laid eventBytes _ (p .put-address .ensures) (is (k .before .before .before .before) (k .enum-told .given .1))
-
-returns-2 : tie.Need-returns-2
-unfolding records.eventBytes bytesOf
-returns-2 c =
-    let p = c .before .before in
-    let k = p .before .before in
-    case-laid eventBytes _ (p .put-back .ensures) (is (k .before .before .before .before) (k .enum-told2 .given .1))
-
 pub put-entry-spec : {M : Type 1} → statement M
+unfolding records.eventBytes bytesOf
 put-entry-spec =
     tie.close
     (tie.spec
     (λ c. search needs)  -- enum-told
-    put-address-requires
+    (λ c κs. let k = c .before in let s = k .before .before .before .before in case-room eventBytes _ (s .pre) (is s (k .enum-told .given .1)))  -- put-address-requires
     (λ c. search needs)  -- enum-told-2
     (λ c. search needs)  -- array-read-put-back
     (λ c. search needs)  -- array-read-put-back-2
     (λ c. search needs)  -- array-read-put-back-3
     (λ c. search needs)  -- array-read-put-back-4
-    put-back-requires
+    (λ c κs. let k = c .before in let s = k .before .before .before .before in case-room eventBytes _ (s .pre) (is s (k .enum-told2 .given .1)))  -- put-back-requires
     (λ c. search needs)  -- same-length
-    returns
+    (λ c. let p = c .before .before in let k = p .before .before in case-laid eventBytes _ (p .put-address .ensures) (is (k .before .before .before .before) (k .enum-told .given .1)))  -- returns
     (λ c. search needs)  -- same-length-2
-    returns-2)
+    (λ c. let p = c .before .before in let k = p .before .before in case-laid eventBytes _ (p .put-back .ensures) (is (k .before .before .before .before) (k .enum-told2 .given .1))))  -- returns-2

@@ -1,8 +1,5 @@
 -- The first event, then the tickets; there is room for nine bytes and eight tickets.
-use mathlib.Core.Path.{_≡_, sym, _∙_}
 use native.Mathlib.Omega.{arith}
-use lib.ListN.{length, length-map}
-use Rattle.words.proofs.Arrays.{words-length}
 use Rattle.records.proofs.Log.{queued-start}
 use Rattle.records.proofs.Begun.{begun-as}
 use Rattle.records.proofs.Reply.{reply-laid}
@@ -29,9 +26,7 @@ returns c =
     let p = q .before .before .before .before in
     let s = p .before .before .before .before in
     let t = s .args .reply in
-    let two : length (t .queued) ≡ 2 = sym (length-map (t .queued) _) ∙ s .good .0 .1 .1 .1 .0 .1 .0 .1 in
-    let long : length (t .tickets) ≡ 8 = words-length 8 (t .tickets) _ (s .good .0 .1 .1 .1 .1 .1 .0) in
-    reply-laid t two long {k = 0} (omega arith) (omega arith) (p .put-fill-first .ensures) (queued-start (t .queued) _ _) (q .put-tickets .ensures)
+    reply-laid t _ (s .good .0) {k = 0} (omega arith) (omega arith) (p .put-fill-first .ensures) (queued-start (t .queued) _ _) (q .put-tickets .ensures)
 
 pub put-filled-spec : {M : Type 1} → statement M
 put-filled-spec =
