@@ -27,13 +27,14 @@ use Rattle.model.specs.declared.Queued.{Queued}
 use Rattle.model.specs.declared.Answer.{Answer}
 use Rattle.model.specs.declared.Access.{Access}
 use Rattle.model.specs.declared.Access.the-variants.{Read, Write}
+use Rattle.model.specs.declared.Event.{Event}
 use Rattle.model.specs.declared.Event.the-variants.{Released}
 use Rattle.model.specs.declared.GivenRule.the-variants.{LeftOut, Byte}
 use Rattle.model.specs.declared.Command.{Command}
 use Rattle.model.specs.declared.Command.the-variants as cmd
 use Rattle.model.specs.declared.CommandRead.the-variants as command
 use Rattle.words.proofs.Flags.{and-1, and-2, and-i, clash, by-flag, pick-both}
-use Rattle.words.proofs.Lists.{In, all-in, in-all, any-in, in-keep, all-append}
+use Rattle.words.proofs.Lists.{In, all-in, in-all, any-in, in-keep, all-append, all-map}
 use Rattle.model.proofs.SoundFacts.{Sound, parts, entry-parts, queued-parts}
 use Rattle.model.proofs.Fits.{ranged}
 use Rattle.model.proofs.AccessKeepsSound.{formed-good}
@@ -42,6 +43,7 @@ use Rattle.model.proofs.AccessCases.{access-judged, access-cases}
 use Rattle.model.proofs.SendFillKeepSound.{send-cases}
 use Rattle.model.proofs.RunSound.{bytes}
 use Rattle.records.specs.Fitting.{WriteBackFits, Fitting, AllFitting, RuleFits, CommandFits, CommandReadFits, words, stamped, TicketFits}
+use Rattle.records.proofs.Log.{released-by}
 
 -- the events of an outcome fit
 abbrev Fits : Outcome Tables → Type 0
@@ -55,8 +57,8 @@ all-at p z [] i h = z
 all-at p z (b ∷ s) zero h = and-1 (p b) (all p s) h
 all-at p z (b ∷ s) (suc i) h = all-at p z s i (and-2 (p b) (all p s) h)
 
-word-at : (ms : List ℕ) (i : ℕ) → words ms ≡ true → getD ms i 0 < 2 ^ 32
-word-at ms i h = let q = leb-true (getD ms i 0) allOnes (all-at (λ m. leb m allOnes) refl ms i h) in omega arith
+word-low : (m : ℕ) → leb m allOnes ≡ true → m < 2 ^ 32
+word-low m h = let q = leb-true m allOnes h in omega arith
 
 sector-low : (a : ℕ) → goodSector a ≡ true → a < 2 ^ 64
 sector-low a h = let l = ltb-true a (2 ^ 48) (and-2 (eqb (a % 32) 0) (ltb a (2 ^ 48)) h) in omega arith
@@ -64,9 +66,10 @@ sector-low a h = let l = ltb-true a (2 ^ 48) (and-2 (eqb (a % 32) 0) (ltb a (2 ^
 back-fits : (es : List Entry) (b : ℕ) (ms : List ℕ) → kindOk es queue.WriteBack b ms ≡ true → words ms ≡ true
     → WriteBackFits b (getD ms 0 0) (getD ms 1 0) (getD ms 2 0) (getD ms 3 0)
 back-fits es b ms h w =
-    let g : goodBlock b ≡ true = search (and-1, and-2) depth 9 in
+    let g : goodBlock b ≡ true = search and-1 depth 9 in
     let l = ltb-true b (2 ^ 48) (and-2 (eqb (b % 128) 0) (ltb b (2 ^ 48)) g) in
-    record { block = omega arith; mask0 = word-at ms 0 w; mask1 = word-at ms 1 w; mask2 = word-at ms 2 w; mask3 = word-at ms 3 w }
+    let m : (i : ℕ) → getD ms i 0 < 2 ^ 32 = λ i. word-low (getD ms i 0) (all-at (λ m. leb m allOnes) refl ms i w) in
+    record { block = omega arith; mask0 = m 0; mask1 = m 1; mask2 = m 2; mask3 = m 3 }
 
 module _ (S : Settings) (t : Tables) (ok : Sound S t) where
   entry-low : (e : Entry) → In e (t .misses) → e .address < 2 ^ 64
@@ -91,9 +94,9 @@ module _ (es : List Entry) (low : (a : ℕ) → any (unsentFor a) es ≡ true �
   entry-fits : (q : Queued) → queuedOk es q ≡ true → Fitting (queuedEvent q) × Fitting (sentEvent q)
   entry-fits q h = let (four, w, k) = queued-parts es q h in kind-fits (q .kind) (q .address) (q .masks) k w
 
-backs-fit : (qs : List Queued) → all (queuedOk []) qs ≡ true → AllFitting (map queuedEvent qs)
-backs-fit [] h = tt
-backs-fit (q ∷ qs) h = (entry-fits [] (λ a n. clash n refl) q (and-1 (queuedOk [] q) (all (queuedOk []) qs) h) .0, backs-fit qs (and-2 (queuedOk [] q) (all (queuedOk []) qs) h))
+all-fit : {A : Type 0} (f : A → Event) (p : A → Bool) → ((x : A) → p x ≡ true → Fitting (f x)) → (xs : List A) → all p xs ≡ true → AllFitting (map f xs)
+all-fit f p g [] h = tt
+all-fit f p g (x ∷ xs) h = (g x (and-1 (p x) (all p xs) h), all-fit f p g xs (and-2 (p x) (all p xs) h))
 
 fetched-fit : (x : Access) (n : Answer) (qs : List Queued) → addressOf x < 2 ^ 64 → AllFitting (map queuedEvent qs)
     → AllFitting (map queuedEvent (fetches x n ++ qs))
@@ -109,7 +112,8 @@ access-fits S x t range ok =
     access-cases (ruleOf S) S t x range h Fits (λ n. (tt, tt)) (λ p a.
     let low = a .spotted .inside in (
       omega arith,
-      fetched-fit x (p .answer) (p .backs) (sector-low (addressOf x) (formed-good x (a .judged .formed))) (backs-fit (p .backs) (a .spotted .backed [])),
+      fetched-fit x (p .answer) (p .backs) (sector-low (addressOf x) (formed-good x (a .judged .formed)))
+          (all-fit queuedEvent (queuedOk []) (λ q k. entry-fits [] (λ a n. clash n refl) q k .0) (p .backs) (a .spotted .backed [])),
     ))
 
 -- ---- send, fill, tick
@@ -121,22 +125,11 @@ send-fits S t ok =
     let f : all (queuedOk (t .misses)) (q ∷ qs) ≡ true = rw e at (h .lining) in
     (entry-fits (t .misses) (entered-low S t h (λ e. not (e .sent))) q (and-1 (queuedOk (t .misses) q) _ f) .1, tt))
 
-released-fit : (ts : List ℕ) → words ts ≡ true → AllFitting (map Released ts)
-released-fit [] h = tt
-released-fit (k ∷ ts) h = (word-at (k ∷ ts) 0 h, released-fit ts (and-2 (leb k allOnes) (words ts) h))
-
-released-words : (a : ℕ) (es : List Entry) → all (λ e. words (e .tickets)) es ≡ true → words (ticketsOf a es) ≡ true
-released-words a [] h = refl
-released-words a (e ∷ es) h =
-    by-flag (λ (ts : List ℕ). words ts ≡ true) (entryFor a e) (e .tickets) (ticketsOf a es)
-    (λ q. and-1 (words (e .tickets)) (all (λ e. words (e .tickets)) es) h)
-    (λ q. released-words a es (and-2 (words (e .tickets)) (all (λ e. words (e .tickets)) es) h))
-
 pub fill-fits : (S : Settings) (a : ℕ) (t : Tables) → sound S t ≡ true → stamped t ≡ true → AllFitting (eventsOf (fill a t))
 unfolding fill
 fill-fits S a t ok few =
     by-flag Fits (any (sentFor a) (t .misses)) _ _
-    (λ h. (entered-low S t (parts S t ok) (λ e. e .sent) a h, released-fit (ticketsOf a (t .misses)) (released-words a (t .misses) few)))
+    (λ h. (entered-low S t (parts S t ok) (λ e. e .sent) a h, all-fit Released (λ m. leb m allOnes) word-low (ticketsOf a (t .misses)) (released-by words refl a (t .misses) few)))
     (λ h. (tt, tt))
 
 pub tick-fits : (c : ℕ) (t : Tables) → AllFitting (eventsOf (tick c t))
@@ -158,8 +151,7 @@ stamps es = all (λ e. words (e .tickets)) es
 
 map-stamps : (f : Entry → Entry) → ((e : Entry) → words (e .tickets) ≡ true → words (f e .tickets) ≡ true) → (es : List Entry) → stamps es ≡ true
     → stamps (map f es) ≡ true
-map-stamps f g [] h = refl
-map-stamps f g (e ∷ es) h = and-i (g e (and-1 (words (e .tickets)) (stamps es) h)) (map-stamps f g es (and-2 (words (e .tickets)) (stamps es) h))
+map-stamps f g es h = all-map f (λ e. words (e .tickets)) es ∙ in-all (λ e. words (f e .tickets)) es (λ e i. g e (all-in (λ e. words (e .tickets)) es h i))
 
 one-word : (k : ℕ) → k ≤ allOnes → words (k ∷ []) ≡ true
 one-word k h = and-i (le-leb k allOnes h) refl

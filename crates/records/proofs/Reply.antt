@@ -1,10 +1,10 @@
 -- The events of a call's value as bytes: how long they are, that their numbers fit, and their parts one after the other.
-use mathlib.Core.Path.{_≡_, refl, sym, ap, _∙_}
+use mathlib.Core.Path.{_≡_, refl, sym, _∙_}
 use mathlib.Core.Bool.{Bool}
 use mathlib.Core.List.{List, [], _∷_, _++_, map}
 use Prim.Native.Nat.{ℕ, zero, suc, _+_, _*_, _^_, min, _≤_, _<_}
 use native.Mathlib.Omega.{arith}
-use lib.ListN.{length, take, getD, length-append, length-take, length-map}
+use lib.ListN.{length, take, getD, length-append, length-map}
 use mir.Val.{Val}
 use denote.Laws.{Is}
 use denote.Struct.Declared.{row}
@@ -23,7 +23,7 @@ use Rattle.records.specs.Stores.{Laid}
 use Rattle.records.specs.Parts.{queuedTold, ticketsTold}
 use Rattle.records.proofs.Stores.{laid-then, laid-as, laid-sized}
 use Rattle.records.proofs.Encoding.{case-laid}
-use Rattle.records.proofs.Log.{log-one, released-length}
+use Rattle.records.proofs.Log.{log-one, tickets-length}
 use Rattle.model.proofs.Logs.{log-append}
 
 -- ---- the numbers fit
@@ -49,25 +49,6 @@ told-least : {A : Type 0} (f : A → Event) (n k : ℕ) (xs : List A) → length
 told-least f n k xs e q = rw (q, ← e, take-least)
 
 module _ (t : Reply) where
-  abbrev firstBytes : List ℕ
-  firstBytes = eventBytes (t .first)
-
-  abbrev queuedBytes : List ℕ
-  queuedBytes = logBytes (queuedTold (t .queues) (t .queued))
-
-  abbrev tickets : List ℕ
-  tickets = logBytes (ticketsTold (t .count) (t .tickets))
-
-  reply-parts : firstBytes ++ (queuedBytes ++ tickets) ≡ logBytes (eventsTold t)
-  unfolding eventsTold records.logBytes
-  reply-parts = rw log-append
-
-  pub reply-length : length (logBytes (eventsTold t))
-      ≡ length (eventBytes (t .first)) + length (logBytes (queuedTold (t .queues) (t .queued))) + 5 * min (t .count) (length (t .tickets))
-  reply-length =
-      let n : length tickets ≡ 5 * min (t .count) (length (t .tickets)) = released-length (take (t .count) (t .tickets)) ∙ ap (λ (k : ℕ). 5 * k) (length-take (t .count) (t .tickets)) in
-      ap length (sym reply-parts) ∙ rw (length-append, length-append, n) (omega arith)
-
   -- where the first event is all
   pub reply-alone : t .queues ≤ 0 → t .count ≤ 0 → {l m : List ℕ} {at r : ℕ} → Laid l at (length (eventBytes (t .first))) (eventBytes (t .first)) r m
       → Laid l at (length (logBytes (eventsTold t))) (logBytes (eventsTold t)) r m
@@ -93,22 +74,26 @@ module _ (t : Reply) where
       entries-all : queuedTold k (t .queued) ≡ queuedTold (t .queues) (t .queued)
       entries-all = told-least queuedEvent (t .queues) 2 (t .queued) two-entries few
 
+      reply-parts : eventBytes (t .first) ++ (logBytes (queuedTold k (t .queued)) ++ logBytes (ticketsTold n (t .tickets))) ≡ logBytes (eventsTold t)
+      unfolding eventsTold records.logBytes
+      reply-parts = rw (entries-all, told-least Released (t .count) 8 (t .tickets) eight-tickets count, log-append)
+
       pub reply-fits : Fitting (t .first) → AllFitting (queuedTold k (t .queued)) → AllFitting (eventsTold t)
       unfolding eventsTold
       reply-fits f q =
-          (f, fitting-append (queuedTold (t .queues) (t .queued)) _ (rw entries-all at q) (tickets-fit (t .tickets) (words-below 8 (t .tickets) _ (good .1 .1 .1 .1 .1 .0)) (t .count)))
+          let small = words-below 8 (t .tickets) _ (good .1 .1 .1 .1 .1 .0) in
+          (f, fitting-append (queuedTold (t .queues) (t .queued)) _ (rw entries-all at q) (tickets-fit (t .tickets) small (t .count)))
 
       -- by the sizes that the code adds up
       pub reply-sized : {f q : ℕ} → f ≡ length (eventBytes (t .first)) → q ≡ length (logBytes (queuedTold k (t .queued)))
           → f + q + 5 * n ≡ length (logBytes (eventsTold t))
-      reply-sized e g = rw (reply-length, eight-tickets, e, g, entries-all, count)
+      reply-sized e g =
+          let m = tickets-length (t .tickets) n (omega (arith, eight-tickets)) in
+          rw (← reply-parts, length-append, length-append, m, e, g) (omega arith)
 
       -- by the parts that the code stores
       pub reply-laid : {l m₁ m₂ m : List ℕ} {at i j r : ℕ} → Laid l at (length (eventBytes (t .first))) (eventBytes (t .first)) i m₁
           → Laid m₁ i (length (logBytes (queuedTold k (t .queued)))) (logBytes (queuedTold k (t .queued))) j m₂
           → Laid m₂ j (5 * n) (logBytes (ticketsTold n (t .tickets))) r m
           → Laid l at (length (logBytes (eventsTold t))) (logBytes (eventsTold t)) r m
-      reply-laid u v w =
-          let q : ticketsTold n (t .tickets) ≡ ticketsTold (t .count) (t .tickets) = told-least Released (t .count) 8 (t .tickets) eight-tickets count in
-          laid-sized (laid-as (laid-then u refl (laid-then v refl (laid-as w (ap logBytes q)))) (rw entries-all reply-parts))
-          (let z = reply-sized refl refl in omega arith)
+      reply-laid u v w = laid-sized (laid-as (laid-then u refl (laid-then v refl w)) reply-parts) (let z = reply-sized refl refl in omega arith)

@@ -1,5 +1,5 @@
 -- How many bytes a call's events are, of each step on tables.
-use mathlib.Core.Path.{_≡_}
+use mathlib.Core.Path.{_≡_, refl}
 use mathlib.Core.Bool.{true, _||_}
 use mathlib.Core.List.{List, [], _∷_, map, map-append}
 use Prim.Native.Nat.{ℕ, _+_, _≤_}
@@ -11,7 +11,7 @@ use lib.ListN.{length, length-append}
 use Rattle.words.specs.Words.{all, any}
 use Rattle.model.specs.Range.{inRange}
 use Rattle.model.specs.Address.{addressOf, lineNumber}
-use Rattle.model.specs.Tables.{Entry, reading, Tables, Outcome, refused, done, eventsOf, entryFor, withNow}
+use Rattle.model.specs.Tables.{reading, Tables, Outcome, refused, done, eventsOf, withNow}
 use Rattle.model.specs.Sound.{lastCycle, sound}
 use Rattle.model.specs.Probe.{waysOf, ruleOf}
 use Rattle.model.specs.Steps.{isMiss, fetches, queues, queuedEvent, sentEvent, accept, access, afterSend, send, ticketsOf, afterFill, sentFor, fill, tick}
@@ -29,10 +29,10 @@ use Rattle.model.specs.declared.Event.{Event}
 use Rattle.model.specs.declared.Event.the-variants.{Answered, Released, Filled, Ticked}
 use Rattle.model.specs.declared.Command.{Command}
 use Rattle.model.specs.declared.Command.the-variants as cmd
-use Rattle.words.proofs.Flags.{and-1, and-2, by-flag, pick-both}
+use Rattle.words.proofs.Flags.{by-flag, pick-both}
 use Rattle.words.proofs.Lists.{in-all}
 use Rattle.records.proofs.Encoding.{event-short}
-use Rattle.records.proofs.Log.{released-length}
+use Rattle.records.proofs.Log.{released-by, released-length}
 use Rattle.model.proofs.Logs.{log-append}
 use Rattle.model.proofs.SoundFacts.{parts, tickets-of}
 use Rattle.model.proofs.Fits.{ranged}
@@ -99,17 +99,10 @@ pub tick-takes : (c : ℕ) (t : Tables) → TakesRoom 25 (tick c t)
 unfolding tick
 tick-takes c t = pick-both (TakesRoom 25) (ltb c (t .now) || ltb lastCycle c) (refused-within _ BadCycle (lit≤ tt)) (one-takes Ticked (withNow c t))
 
-tickets-few : (n a : ℕ) (es : List Entry) → all (λ e. leb (length (e .tickets)) n) es ≡ true → length (ticketsOf a es) ≤ n
-tickets-few n a [] h = omega arith
-tickets-few n a (e ∷ es) h =
-    by-flag (λ (ts : List ℕ). length ts ≤ n) (entryFor a e) (e .tickets) (ticketsOf a es)
-    (λ q. leb-true (length (e .tickets)) n (and-1 (leb (length (e .tickets)) n) _ h))
-    (λ q. tickets-few n a es (and-2 (leb (length (e .tickets)) n) _ h))
-
 pub fill-takes : (a : ℕ) (t : Tables) → all (λ e. leb (length (e .tickets)) 8) (t .misses) ≡ true → TakesRoom fillBytes (fill a t)
 unfolding fill records.eventBytes bytesOf
 fill-takes a t h =
-    let k = tickets-few 8 a (t .misses) h in
+    let k = leb-true (length (ticketsOf a (t .misses))) 8 (released-by (λ ts. leb (length ts) 8) refl a (t .misses) h) in
     let r = released-length (ticketsOf a (t .misses)) in
     let n = log-more (Filled a) (map Released (ticketsOf a (t .misses))) in
     let m : TakesRoom fillBytes (done (Filled a ∷ map Released (ticketsOf a (t .misses))) (afterFill a t)) = record { most = omega arith } in

@@ -51,12 +51,21 @@ put-access-spec =
     (tie.spec
     put-access-first-requires
     (λ c. search needs)  -- same-length
-    (λ c. let p = c .before .before .before .before in let s = p .before .before .before .before in reply-alone (s .args .reply) (omega arith) (s .pre .0 .tickets) (p .put-access-first .ensures))  -- returns
+    -- returns
+    (λ c.
+    let p = c .before .before .before .before in
+    let s = p .before .before .before .before in
+    reply-alone (s .args .reply) (omega arith) (s .pre .0 .tickets) (p .put-access-first .ensures))
     (λ c. search needs)  -- array-copy-out-x
     (λ c κs. let h = roomy (c .before .before .before .before .before .before) in any-room _ _ (omega arith))  -- put-entry-requires
     (λ c. search needs)  -- same-length-2
     returns-2
     (λ c. search needs)  -- array-copy-out-y
-    (λ c κs. let q = c .before .before .before .before .before .before in let h = roomy (q .before .before .before .before .before .before .before) in let j = any-end _ (q .put-entry .ensures) in any-room _ _ (omega arith))  -- put-entry-requires-2
+    -- put-entry-requires-2
+    (λ c κs.
+    let q = c .before .before .before .before .before .before in
+    let h = roomy (q .before .before .before .before .before .before .before) in
+    let j = any-end _ (q .put-entry .ensures) in
+    any-room _ _ (omega arith))
     (λ c. search needs)  -- same-length-3
     returns-3)

@@ -27,6 +27,10 @@ put-entry-spec =
     (λ c. search needs)  -- array-read-put-back-4
     (λ c κs. let k = c .before in let s = k .before .before .before .before in case-room eventBytes _ (s .pre) (is s (k .enum-told2 .given .1)))  -- put-back-requires
     (λ c. search needs)  -- same-length
-    (λ c. let p = c .before .before in let k = p .before .before in case-laid eventBytes _ (p .put-address .ensures) (is (k .before .before .before .before) (k .enum-told .given .1)))  -- returns
+    -- returns
+    (λ c. let k = c .before .before .before .before in
+    case-laid eventBytes _ (c .before .before .put-address .ensures) (is (k .before .before .before .before) (k .enum-told .given .1)))
     (λ c. search needs)  -- same-length-2
-    (λ c. let p = c .before .before in let k = p .before .before in case-laid eventBytes _ (p .put-back .ensures) (is (k .before .before .before .before) (k .enum-told2 .given .1))))  -- returns-2
+    -- returns-2
+    (λ c. let k = c .before .before .before .before in
+    case-laid eventBytes _ (c .before .before .put-back .ensures) (is (k .before .before .before .before) (k .enum-told2 .given .1))))

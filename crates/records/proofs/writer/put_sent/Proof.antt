@@ -19,9 +19,9 @@ put-sent-spec =
     (λ c. search needs)  -- enum-known-first-3
     (λ c κs. search needs)  -- put-refusal-requires
     (λ c. search needs)  -- same-length
-    (λ c. let p = c .before .before in let k = p .before .before .before in first-laid _ (k .before .before .before .pre .0) (p .put-address .ensures) (k .first .given .1))  -- returns
+    (λ c. let k = c .before .before .before .before .before in first-laid _ (k .before .before .before .pre .0) (c .before .before .put-address .ensures) (k .first .given .1))  -- returns
     (λ c. search needs)  -- same-length-2
-    (λ c. let p = c .before .before in let k = p .before .before .before in first-laid _ (k .before .before .before .pre .0) (p .put-back .ensures) (k .first2 .given .1))  -- returns-2
+    (λ c. let k = c .before .before .before .before .before in first-laid _ (k .before .before .before .pre .0) (c .before .before .put-back .ensures) (k .first2 .given .1))  -- returns-2
     (λ c. search needs)  -- same-length-3
-    (λ c. let p = c .before .before in let k = p .before .before .before in first-laid _ (k .before .before .before .pre .0) (p .put-refusal .ensures) (k .first3 .given .1))  -- returns-3
+    (λ c. let k = c .before .before .before .before .before in first-laid _ (k .before .before .before .pre .0) (c .before .before .put-refusal .ensures) (k .first3 .given .1))  -- returns-3
     (λ c. absurd (begun-as (c .before .before .args .reply .first) .send (c .before .before .pre .0 .first) .none (c .match .keys4))))  -- returns-4

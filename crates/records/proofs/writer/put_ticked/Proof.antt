@@ -17,7 +17,7 @@ put-ticked-spec =
     (λ c. search needs)  -- enum-known-first
     (λ c κs. search needs)  -- put-refusal-requires
     (λ c. search needs)  -- same-length
-    (λ c. let p = c .before .before in let k = p .before .before in first-laid _ (k .before .before .before .pre .0) (p .put1 .ensures) (k .enum-told .given .1))  -- returns
+    (λ c. let k = c .before .before .before .before in first-laid _ (k .before .before .before .pre .0) (c .before .before .put1 .ensures) (k .enum-told .given .1))  -- returns
     (λ c. search needs)  -- same-length-2
-    (λ c. let p = c .before .before in let k = p .before .before .before in first-laid _ (k .before .before .before .pre .0) (p .put-refusal .ensures) (k .first .given .1))  -- returns-2
+    (λ c. let k = c .before .before .before .before .before in first-laid _ (k .before .before .before .pre .0) (c .before .before .put-refusal .ensures) (k .first .given .1))  -- returns-2
     (λ c. absurd (begun-as (c .before .before .args .reply .first) .tick (c .before .before .pre .0 .first) .none (c .match .keys3))))  -- returns-3
