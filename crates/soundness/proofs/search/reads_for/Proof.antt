@@ -1,6 +1,6 @@
 -- So many places passed have a read of the address.
-use mathlib.Core.Path.{_≡_, refl, _∙_}
-use mathlib.Core.Bool.{true, false, and-false}
+use mathlib.Core.Path.{refl, _∙_}
+use mathlib.Core.Bool.{and-false}
 use mathlib.Core.Logic.{⊎-elim}
 use native.Mathlib.Omega.{arith}
 use borrow.Author.Needs.{needs}
@@ -34,20 +34,14 @@ reads-for-spec =
     (λ c.
     let body = c .before .before .before .before in
     let a = body .before .before .args in
-    let q = body .before .loop .p in
+    let p = readRead (a .at) (a .longs .now) (a .marks .now) (a .a .0) in
     let below = body .loop-test .taken in
     let inv = body .before .loop .inv in
     ⊎-elim
-    (λ w.
-    let yes : readRead (a .at) (a .longs .now) (a .marks .now) (a .a .0) q ≡ true = rw (eq-eqb _ _ (w .3 .taken), eq-eqb _ _ (w .0 .taken)) in
-    counted-yes _ _ _ _ _ below refl yes (w .4) inv)
+    (λ w. counted-yes p _ _ _ _ below refl (rw (eq-eqb _ _ (w .3 .taken), eq-eqb _ _ (w .0 .taken))) (w .4) inv)
     (⊎-elim
-    (λ w.
-    let no : readRead (a .at) (a .longs .now) (a .marks .now) (a .a .0) q ≡ false = rw (ne-eqb _ _ (w .3 .left)) in
-    counted-no _ _ _ _ _ below refl no (w .4) inv)
-    (λ w.
-    let no : readRead (a .at) (a .longs .now) (a .marks .now) (a .a .0) q ≡ false = rw (ne-eqb _ _ (w .0 .left), and-false) in
-    counted-no _ _ _ _ _ below refl no (w .1) inv))
+    (λ w. counted-no p _ _ _ _ below refl (rw (ne-eqb _ _ (w .3 .left))) (w .4) inv)
+    (λ w. counted-no p _ _ _ _ below refl (rw (ne-eqb _ _ (w .0 .left), and-false)) (w .1) inv))
     (c .if1 .came))
     -- returns
     (λ c.
