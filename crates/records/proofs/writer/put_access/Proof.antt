@@ -18,12 +18,6 @@ roomy c =
     let n = begun-as (s .args .reply .first) .access (s .pre .0 .first) in
     omega arith
 
-put-access-first-requires : tie.Need-put-access-first-requires
-put-access-first-requires c κs =
-    let s = c .before .before .before in
-    let n = begun-as (s .args .reply .first) .access (s .pre .0 .first) in
-    (s .pre .0 .first, omega arith)
-
 returns-2 : tie.Need-returns-2
 returns-2 c =
     let q = c .before .before .before .before in
@@ -49,7 +43,11 @@ pub put-access-spec : {M : Type 1} → statement M
 put-access-spec =
     tie.close
     (tie.spec
-    put-access-first-requires
+    -- put-access-first-requires
+    (λ c κs.
+    let s = c .before .before .before in
+    let n = begun-as (s .args .reply .first) .access (s .pre .0 .first) in
+    (s .pre .0 .first, omega arith))
     (λ c. search needs)  -- same-length
     -- returns
     (λ c.

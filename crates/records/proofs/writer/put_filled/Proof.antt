@@ -7,19 +7,6 @@ use borrow.Author.Needs.{needs}
 use Rattle.records.proofs.writer.put_filled.Statement.{statement}
 use Rattle.records.proofs.writer.put_filled.Tie as tie
 
-put-fill-first-requires : tie.Need-put-fill-first-requires
-put-fill-first-requires c κs =
-    let s = c .before .before .before in
-    let n = begun-as (s .args .reply .first) .fill (s .pre .0 .first) in
-    (s .pre .0 .first, omega arith)
-
-put-tickets-requires : tie.Need-put-tickets-requires
-put-tickets-requires c κs =
-    let p = c .before .before .before in
-    let s = p .before .before .before .before in
-    let n = begun-as (s .args .reply .first) .fill (s .pre .0 .first) in
-    (s .pre .0 .tickets, omega arith)
-
 returns : tie.Need-returns
 returns c =
     let q = c .before .before in
@@ -32,7 +19,11 @@ pub put-filled-spec : {M : Type 1} → statement M
 put-filled-spec =
     tie.close
     (tie.spec
-    put-fill-first-requires
-    put-tickets-requires
+    (λ c κs. let s = c .before .before .before in let n = begun-as (s .args .reply .first) .fill (s .pre .0 .first) in (s .pre .0 .first, omega arith))  -- put-fill-first-requires
+    -- put-tickets-requires
+    (λ c κs.
+    let s = c .before .before .before .before .before .before .before in
+    let n = begun-as (s .args .reply .first) .fill (s .pre .0 .first) in
+    (s .pre .0 .tickets, omega arith))
     (λ c. search needs)  -- same-length
     returns)

@@ -48,8 +48,8 @@ set-reserves-spec =
     let a = set .before .before .before .before .before .before .args in
     sought-stop _ _ _ (loop .loop-test .taken) refl (c .if1 .taken)
     ∙ set-asked (a .s) (a .longs .now) (a .words .now) (a .marks .now) (a .a .0) _ _ _ (set .before .before .block-of .ensures) (set .before .sector-index .ensures .0) (set .set-index .ensures))
-    (λ c. omega arith)  -- add-w
-    (λ c. omega arith)  -- loop-less
+    (λ c. search needs)  -- add-w
+    (λ c. search needs)  -- loop-less
     (λ c. let loop = c .before .before .before .before in let inv = loop .before .loop .inv in (inv .0, inv .1, inv .2, sought-more _ _ _ (loop .loop-test .taken) refl (c .if1 .left) (inv .3)))  -- loop-again
     -- returns-2
     (λ c.

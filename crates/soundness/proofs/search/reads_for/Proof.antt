@@ -2,7 +2,6 @@
 use mathlib.Core.Path.{refl, _∙_}
 use mathlib.Core.Bool.{and-false}
 use mathlib.Core.Logic.{⊎-elim}
-use native.Mathlib.Omega.{arith}
 use borrow.Author.Needs.{needs}
 use borrow.Author.Tests.{eq-eqb, ne-eqb}
 use Prim.Native.Nat.{_-_}
@@ -21,15 +20,15 @@ pub reads-for-spec : {M : Type 1} → statement M
 reads-for-spec =
     tie.close
     (tie.spec Inv-loop μ-loop
-    (λ c. (omega arith, refl, omega arith))  -- loop-holds
+    (λ c. search needs)  -- loop-holds
     (λ c. search needs)  -- add-if1
     (λ c. search needs)  -- mul-if1
     (λ c. search needs)  -- shared-slice-read-if1
     (λ c. search needs)  -- add-if2
     (λ c. search needs)  -- shared-slice-read-if2
-    (λ c. omega arith)  -- add-count
-    (λ c. omega arith)  -- add-p
-    (λ c. omega arith)  -- loop-less
+    (λ c. search needs)  -- add-count
+    (λ c. search needs)  -- add-p
+    (λ c. search needs)  -- loop-less
     -- loop-again
     (λ c.
     let body = c .before .before .before .before in
