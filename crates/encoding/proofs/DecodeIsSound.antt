@@ -26,7 +26,7 @@ use Rattle.words.proofs.Below.{some-at, some-i, lt-or-ge, below-four, squeeze}
 use Rattle.words.proofs.Places.{stride}
 use Rattle.words.proofs.Tabled.{any-get, length-table, getD-table}
 use Rattle.encoding.proofs.InUse.{in-use-few, below-used, free-past}
-use Rattle.encoding.proofs.LentSoundFacts.{tag, status, mask, readable, miss, sent, ticketCount, ticket, kind, queueMask, Live, UsedFirst, SoundIs, tree}
+use Rattle.encoding.proofs.LentSoundFacts.{tag, status, readable, miss, sent, ticketCount, ticket, kind, queueMask, Live, UsedFirst, SoundIs, tree}
 use Rattle.encoding.proofs.Standing.{field, field-in, field-out, ByNumber}
 use Rattle.encoding.proofs.NumbersAreTables.{line, sector, entry, place, Shape, reserved-number, tag-is, cycle-is, lent-taken-is, lent-tree-is, status-is, mask-is, readable-is, dirty-counts, miss-is, lent-sent-is, entry-in, in-entry, kind-in, queued-in, queue-mask-is, reads-are, lives, live-i}
 use Rattle.encoding.proofs.SoundByPlace.{SectorOk, LineOk, OnlyTag, Agrees, EntryOk, QueuedOk, Soundly, bit-clear}

@@ -20,7 +20,7 @@ use Rattle.words.proofs.Below.{every-at, some-at, some-i, lt-or-ge}
 use Rattle.model.proofs.Answers.{by-kind, status-below}
 use Rattle.model.proofs.ProbeFindsSpot.{reserved-used}
 use Rattle.words.proofs.Tabled.{any-get}
-use Rattle.encoding.proofs.LentSoundFacts.{tag, status, readable, miss, sent, ticketCount, ticket, queued, kind, Live, Used, LentLineIs, SectorIs, Reserves, LentEntryIs, Unsent, PlaceIs, SoundIs}
+use Rattle.encoding.proofs.LentSoundFacts.{status, miss, ticketCount, ticket, queued, kind, Live, Used, LentLineIs, SectorIs, Reserves, LentEntryIs, Unsent, PlaceIs, SoundIs}
 use Rattle.encoding.proofs.Standing.{ByNumber}
 use Rattle.encoding.proofs.NumbersAreTables.{line, sector, entry, place, maskIn, Shape, reserved-number, tag-is, cycle-is, lent-taken-is, lent-tree-is, status-is, mask-is, readable-is, unused-is, dirty-counts, miss-is, lent-sent-is, count-is, ticket-is, count-out, entry-in, in-entry, kind-in, kind-out, queued-in, queued-out, queue-mask-is, place-in, in-place, reads-are, lives, live-i}
 use Rattle.encoding.proofs.SoundByPlace.{Lives, Soundly, soundly-shape, bit-clear}
