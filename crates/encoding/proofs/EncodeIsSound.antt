@@ -16,13 +16,12 @@ use Rattle.model.specs.Address.{sectorIndex}
 use Rattle.model.specs.Tables.{Entry, Tables, isInvalid, isReserved, whollyInvalid, entryFor, idle, noEntry}
 use Rattle.model.specs.Lent.{Lent, bit}
 use Rattle.words.proofs.Flags.{flag, no-yes, clash}
-use Rattle.words.proofs.Below.{every-at, some-at, some-i, lt-or-ge}
+use Rattle.words.proofs.Below.{every-at, lt-or-ge}
 use Rattle.model.proofs.Answers.{by-kind, status-below}
 use Rattle.model.proofs.ProbeFindsSpot.{reserved-used}
-use Rattle.words.proofs.Tabled.{any-get}
-use Rattle.encoding.proofs.LentSoundFacts.{tag, status, readable, miss, sent, ticketCount, ticket, queued, kind, Live, Used, LentLineIs, SectorIs, Reserves, LentEntryIs, Unsent, PlaceIs, SoundIs}
+use Rattle.encoding.proofs.LentSoundFacts.{status, miss, ticketCount, ticket, queued, kind, Live, Used, LentLineIs, SectorIs, Reserves, LentEntryIs, Unsent, PlaceIs, SoundIs}
 use Rattle.encoding.proofs.Standing.{ByNumber}
-use Rattle.encoding.proofs.NumbersAreTables.{line, sector, entry, place, maskIn, Shape, reserved-number, tag-is, cycle-is, lent-taken-is, lent-tree-is, status-is, mask-is, readable-is, unused-is, dirty-counts, miss-is, lent-sent-is, count-is, ticket-is, count-out, entry-in, in-entry, kind-in, kind-out, queued-in, queued-out, queue-mask-is, place-in, in-place, reads-are, lives, live-i}
+use Rattle.encoding.proofs.NumbersAreTables.{line, sector, entry, place, maskIn, Shape, entered-is, reserved-number, tag-is, cycle-is, lent-taken-is, lent-tree-is, status-is, mask-is, readable-is, unused-is, dirty-counts, miss-is, lent-sent-is, count-is, ticket-is, count-out, entry-in, in-entry, kind-in, kind-out, queued-in, queued-out, queue-mask-is, place-in, in-place, reads-are, lives, live-i}
 use Rattle.encoding.proofs.SoundByPlace.{Lives, Soundly, soundly-shape, bit-clear}
 
 bit-low : (r : Bool) → bit r ≤ 1
@@ -77,12 +76,11 @@ module _ (S : Settings) (L : Lent) (t : Tables) (st : ByNumber S L t) (so : Soun
         backed = λ q.
             let held : isReserved (sector t l k .status) ≡ true = sym (reserved-number (sector t l k .status)) ∙ eq-eqb _ _ (sym x ∙ q) in
             let a : any (entryFor (line t l .tag + 32 * k)) (t .misses) ≡ true = sym (so .agrees l h (reserved-lives l k h j held) k j) ∙ held in
-            let (e, i, w) = some-at (λ e. entryFor (line t l .tag + 32 * k) (entry t e)) (length (t .misses))
-            (sym (any-get (entryFor (line t l .tag + 32 * k)) (t .misses) noEntry) ∙ a) in
+            let (e, i, w) = entered-is t (line t l .tag + 32 * k) .fact a in
             let b : e < S .misses = omega (arith, so .few) in
             let y : (4 * l + k) / 4 ≡ l = omega arith in
             let z : (4 * l + k) % 4 ≡ k = omega arith in
-            (e, b, (in-entry S L t st sh e i, rw (y, z) (miss-is S L t st sh e b ∙ eqb-true _ _ w ∙ ap (λ (n : ℕ). n + 32 * k) (sym (tag-is S L t st sh l h)))));
+            (e, b, (in-entry S L t st sh e i, rw (y, z) (miss-is S L t st sh e b ∙ w ∙ ap (λ (n : ℕ). n + 32 * k) (sym (tag-is S L t st sh l h)))));
       }
 
   -- ---- entries
@@ -99,10 +97,7 @@ module _ (S : Settings) (L : Lent) (t : Tables) (st : ByNumber S L t) (so : Soun
       let n : l < linesOf S = omega (arith, so .size) in
       let j : sectorIndex (entry t e .address) < 4 = omega arith in
       let a : entry t e .address ≡ line t l .tag + 32 * sectorIndex (entry t e .address) = omega arith in
-      let some : any (entryFor (line t l .tag + 32 * sectorIndex (entry t e .address))) (t .misses) ≡ true =
-      any-get (entryFor (line t l .tag + 32 * sectorIndex (entry t e .address))) (t .misses) noEntry
-      ∙ some-i (λ d. entryFor (line t l .tag + 32 * sectorIndex (entry t e .address)) (entry t d)) (length (t .misses)) e i (eq-eqb _ _ a) in
-      let r : isReserved (sector t l (sectorIndex (entry t e .address)) .status) ≡ true = so .agrees l n v (sectorIndex (entry t e .address)) j ∙ some in
+      let r = so .agrees l n v (sectorIndex (entry t e .address)) j ∙ entered-is t (line t l .tag + 32 * sectorIndex (entry t e .address)) .test (e, i, a) in
       let x : status S L (4 * l + sectorIndex (entry t e .address)) ≡ 1 =
       status-is S L t st sh l (sectorIndex (entry t e .address)) n j
       ∙ eqb-true _ _ (reserved-number (sector t l (sectorIndex (entry t e .address)) .status) ∙ r) in

@@ -194,19 +194,11 @@ module _ (S : Settings) (L : Lent) where
       (is-le (ticketCount S L e) (S .readers)
       ⊓ is-le (sent S L e) 1
       ⊓ is-imp (is-eq (ticketCount S L e) 0) (is-eq (miss S L e) 0 ⊓ is-eq (sent S L e) 0)
-      ⊓ is-imp (used-is e) (is-eq (miss S L e % 32) 0 ⊓ is-some (linesOf S) (reserves-is (miss S L e)))
+      ⊓ is-both (used-is e) (is-eq (miss S L e % 32) 0) (is-some (linesOf S) (reserves-is (miss S L e)))
       ⊓ is-imp (used-is e) (is-none e (λ d. used-is d ⊓ is-eq (miss S L d) (miss S L e)))
       ⊓ is-imp (used-is e ⊓ is-eq (sent S L e) 0) (is-eq (countBelow (S .queue) (readFor S L (miss S L e))) 1))
-      (λ w. record {
-        few = w .0 .0 .0 .0 .0;
-        mark = w .0 .0 .0 .0 .1;
-        blank = w .0 .0 .0 .1;
-        even = λ u. w .0 .0 .1 u .0;
-        backed = λ u. w .0 .0 .1 u .1;
-        alone = λ u d h v q. w .0 .1 u d h (v, q);
-        asked = λ u s. w .1 (u, s);
-      })
-      (λ r. (((((r .few, r .mark), r .blank), λ u. (r .even u, r .backed u)), λ u d h v. r .alone u d h (v .0) (v .1)), λ v. r .asked (v .0) (v .1)))
+      (λ w. search (w .0 .1, w .1) depth 8)
+      (λ r. (((((r .few, r .mark), r .blank), (r .even, r .backed)), λ u d h v. r .alone u d h (v .0) (v .1)), λ v. r .asked (v .0) (v .1)))
 
   unsent-is : (a e : ℕ) → Decides (lent.unsentAtFor S (L .longs) (L .words) (L .marks) a e) (Unsent S L a e)
   unsent-is a e =

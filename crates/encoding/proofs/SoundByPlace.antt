@@ -193,17 +193,9 @@ module _ (S : Settings) (t : Tables) where
       ⊓ is-any (holds (blockOf (entry t e .address))) (t .lines) fresh (holds-is (blockOf (entry t e .address)))
       ⊓ is-one (entryFor (entry t e .address)) (t .misses) noEntry e h (eq-eqb (entry t e .address) (entry t e .address) refl)
       ⊓ (is-le 1 (length (entry t e .tickets)) ⊓ is-le (length (entry t e .tickets)) (S .readers))
-      ⊓ is-else (λ v. is-eq (count (readingOf (entry t e .address)) (t .queue)) 1))
-      (λ w. record {
-        even = w .0 .0 .0 .0 .0;
-        low = w .0 .0 .0 .0 .1;
-        home = w .0 .0 .0 .1;
-        alone = λ d k q. w .0 .0 .1 d k (eq-eqb _ _ q);
-        held = w .0 .1 .0;
-        short = w .0 .1 .1;
-        asked = w .1;
-      })
-      (λ r. (((((r .even, r .low), r .home), λ d k q. r .alone d k (eqb-true _ _ q)), (r .held, r .short)), r .asked))
+      ⊓ is-else {a = entry t e .sent} (λ v. is-eq (count (readingOf (entry t e .address)) (t .queue)) 1))
+      (λ w. search (eq-eqb, w .0 .0 .1, w .1) depth 8)
+      (λ r. search (eqb-true, r .alone, r .asked) depth 8)
 
   unsent-is : (a e : ℕ) → Decides (unsentFor a (entry t e)) ((entry t e .address ≡ a) × (entry t e .sent ≡ false))
   unsent-is a e = is-eq (entry t e .address) a ⊓ (record { fact = λ z. not-yes {b = entry t e .sent} z; test = λ z. not-no z })
