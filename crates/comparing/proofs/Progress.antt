@@ -1,21 +1,19 @@
 -- A step moves on: a row passes a byte or more, of those that the logs show; a pair ends only where some of it is passed; a log has to
 -- show more only where more comes.
 use mathlib.Core.Path.{_≡_, refl, sym}
-use mathlib.Core.Bool.{Bool, true, false, not, _&&_}
+use mathlib.Core.Bool.{Bool, true, false, _&&_}
 use mathlib.Core.List.{List, [], append-nil}
 use Prim.Native.Nat.{ℕ, zero, suc, _+_, _≤_, _<_}
 use native.Mathlib.Omega.{arith}
-use lib.ListN.{length, take}
+use lib.ListN.{length}
 use lib.Dec.{eqb}
-use Rattle.words.specs.Words.{pick}
 use Rattle.words.proofs.Flags.{clash, by-flag}
 use Rattle.comparing.specs.declared.Walk.{Walk}
 use Rattle.comparing.specs.declared.Ahead.{Ahead}
 use Rattle.comparing.specs.declared.Ahead.the-variants as ahead-of
 use Rattle.comparing.specs.declared.Step.{Step}
 use Rattle.comparing.specs.declared.Step.the-variants as step
-use Rattle.comparing.specs.Pairs.{sameBytes}
-use Rattle.comparing.specs.Steps.{ahead, onward, nextPair, untouched, pairOver, recordRow, stepShown, begunSide, stepped, Front}
+use Rattle.comparing.specs.Steps.{ahead, untouched, pairOver, recordRow, stepShown, begunSide, stepped, Front}
 use Rattle.comparing.proofs.Rests.{AheadShown, ahead-shown}
 
 alone : (a : List ℕ) (whole : Bool) → Front a a whole
