@@ -25,7 +25,7 @@ use Rattle.words.proofs.Flags.{clash, iff}
 use Rattle.words.proofs.Below.{some-at, some-i, lt-or-ge, below-four, squeeze}
 use Rattle.words.proofs.Places.{stride}
 use Rattle.words.proofs.Tabled.{any-get, length-table, getD-table}
-use Rattle.encoding.proofs.InUse.{in-use-few, below-used, free-past}
+use Rattle.encoding.proofs.InUse.{FirstUsed, first-used}
 use Rattle.encoding.proofs.LentSoundFacts.{tag, status, mask, readable, miss, sent, ticketCount, ticket, kind, queueMask, Live, UsedFirst, SoundIs, tree}
 use Rattle.encoding.proofs.Standing.{field, field-in, field-out, ByNumber}
 use Rattle.encoding.proofs.NumbersAreTables.{line, sector, entry, place, Shape, reserved-number, tag-is, cycle-is, lent-taken-is, lent-tree-is, status-is, mask-is, readable-is, dirty-counts, miss-is, lent-sent-is, entry-in, in-entry, kind-in, queued-in, queue-mask-is, reads-are, lives, live-i}
@@ -172,8 +172,8 @@ module _ {A : Type 0} (g : A → List ℕ) (n : ℕ) (f : ℕ → A) (e k : ℕ)
 used-field : (u : ℕ → ℕ) (n : ℕ) → UsedFirst n u → {A : Type 0} (f : ℕ → A) (g : A → List ℕ) (e k : ℕ) {m : ℕ} → e < n
     → ((u e ≡ 0 → ⊥) → m ≡ getD (g (f e)) k 0) → (u e ≡ 0 → m ≡ 0) → m ≡ field g (table (inUse n u) f) e k
 used-field u n first f g e k h p z =
-    ⊎-elim (λ l. p (below-used u n e first l .1) ∙ sym (field-table g (inUse n u) f e k l))
-    (λ o. z (free-past u n e first h o) ∙ sym (field-out g (table (inUse n u) f) e k (rw length-table o))) (lt-or-ge e (inUse n u))
+    ⊎-elim (λ l. p (first-used u n first .used e l) ∙ sym (field-table g (inUse n u) f e k l))
+    (λ o. z (first-used u n first .free e h o) ∙ sym (field-out g (table (inUse n u) f) e k (rw length-table o))) (lt-or-ge e (inUse n u))
 
 pub number-back : (n : ℕ) → n ≤ 3 → n ≡ statusNumber (statusOf n)
 number-back n h = below-four (λ n. n ≡ statusNumber (statusOf n)) refl refl refl refl n (omega arith)
@@ -256,21 +256,22 @@ module _ (S : Settings) (L : Lent) (is : SoundIs S L) where
   tickets-read e h =
       ap (λ (x : Entry). length (x .tickets)) (getD-table few (entryAt S L) e noEntry h) ∙ length-table (ticketCount S L e) (λ j. ticket S L (S .readers * e + j))
 
+  entries-used : FirstUsed (ticketCount S L) (S .misses) few
+  entries-used = first-used (ticketCount S L) (S .misses) (is .entries-first)
+
   pub read-shape : Shape S (tablesOf S L)
   unfolding tablesOf
   read-shape = record {
     size = length-table (linesOf S) decodedLine;
     fours = λ l h. ap (λ (x : Line). length (x .sectors)) (getD-table (linesOf S) decodedLine l fresh h);
-    few = rw (length-table few (entryAt S L)) (in-use-few (ticketCount S L) (S .misses));
+    few = rw (length-table few (entryAt S L)) (entries-used .few);
     held = λ e h.
         let i : e < few = rw (length-table few (entryAt S L)) at h in
-        let u = below-used (ticketCount S L) (S .misses) e (is .entries-first) i .1 in
-        rw (tickets-read e i) (⊎-elim (λ k. k) (λ k. absurd (u (omega arith))) (lt-or-ge 0 (ticketCount S L e)));
+        rw (tickets-read e i) (⊎-elim (λ k. k) (λ k. absurd (entries-used .used e i (omega arith))) (lt-or-ge 0 (ticketCount S L e)));
     short = λ e h.
         let i : e < few = rw (length-table few (entryAt S L)) at h in
-        let b = below-used (ticketCount S L) (S .misses) e (is .entries-first) i .0 in
-        rw (tickets-read e i) (is .entries e b .few);
-    deep = rw (length-table deep (queueAt S L)) (in-use-few (kind S L) (S .queue));
+        rw (tickets-read e i) (is .entries e (omega (arith, entries-used .few)) .few);
+    deep = rw (length-table deep (queueAt S L)) (first-used (kind S L) (S .queue) (is .places-first) .few);
     masked = λ p h.
         let i : p < deep = rw (length-table deep (queueAt S L)) at h in
         rw (getD-table deep (queueAt S L) p idle i) (length-table 4 (λ k. queueMask S L (4 * p + k)));
