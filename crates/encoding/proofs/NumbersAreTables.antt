@@ -14,14 +14,13 @@ use Rattle.model.specs.declared.Status.{Status}
 use Rattle.model.specs.declared.Sector.{Sector}
 use Rattle.model.specs.declared.QueueKind.{QueueKind}
 use Rattle.model.specs.declared.Queued.{Queued}
-use Rattle.words.specs.Words.{any, count, table, every, some, countBelow}
+use Rattle.words.specs.Words.{count, table, every, some, countBelow}
 use Rattle.model.specs.Numbers.{statusNumber, queueKindNumber, queueKindOf}
 use Rattle.model.specs.Range.{linesOf}
-use Rattle.model.specs.Tables.{Line, Entry, Tables, isInvalid, isReserved, whollyInvalid, entryFor, isFetch, idle, empty, fresh, noEntry, isModified, dirty, dirtyLines}
+use Rattle.model.specs.Tables.{Line, Entry, Tables, isInvalid, isReserved, whollyInvalid, isFetch, idle, empty, fresh, noEntry, isModified, dirty, dirtyLines}
 use Rattle.model.specs.Lent.{Lent, bit, tagOf, cycleOf, takenOf, treeOf, missOf, sentOf, ticketCountOf, ticketsIn, queuedOf, kindOf, queueMasksOf, sectorAt, sectorsAt, lineAt, entryAt, queueAt, tablesOf}
 use Rattle.model.specs.Sound.{readingOf}
-use Rattle.words.proofs.Flags.{not-yes, not-no, not-both}
-use Rattle.words.proofs.Reflect.{Decides, is-eq, is-any}
+use Rattle.words.proofs.Flags.{not-both}
 use Rattle.model.proofs.Answers.{by-status, by-kind, status-of-number}
 use Rattle.words.proofs.Lists.{getD-map-in}
 use Rattle.words.proofs.Tabled.{all-get, any-get, count-get, table-list}
@@ -43,10 +42,6 @@ entry t e = getD (t .misses) e noEntry
 
 abbrev pub place : Tables → ℕ → Queued
 place t p = getD (t .queue) p idle
-
--- some entry has the address a
-pub entered-is : (t : Tables) (a : ℕ) → Decides (any (entryFor a) (t .misses)) ((e : ℕ) × (e < length (t .misses)) × (entry t e .address ≡ a))
-entered-is t a = is-any (entryFor a) (t .misses) noEntry (λ e. is-eq (entry t e .address) a)
 
 -- a queue place's numbers
 abbrev pub addressIn : Queued → ℕ
@@ -158,11 +153,11 @@ module _ (S : Settings) (L : Lent) (t : Tables) (st : ByNumber S L t) (sh : Shap
       ∙ some-not 4 (λ k. isInvalid (sector t l k .status))
       ∙ ap not (sym (unused-is l h))
 
-  pub lives : (l : ℕ) → l < linesOf S → Live S L l → whollyInvalid (line t l) ≡ false
-  lives l h v = not-yes {b = whollyInvalid (line t l)} (sym (live-is l h) ∙ v)
+  pub lives : (l : ℕ) → l < linesOf S → Live S L l → not (whollyInvalid (line t l)) ≡ true
+  lives l h v = sym (live-is l h) ∙ v
 
-  pub live-i : (l : ℕ) → l < linesOf S → whollyInvalid (line t l) ≡ false → Live S L l
-  live-i l h v = live-is l h ∙ not-no v
+  pub live-i : (l : ℕ) → l < linesOf S → not (whollyInvalid (line t l)) ≡ true → Live S L l
+  live-i l h v = live-is l h ∙ v
 
   pub dirty-is : (l : ℕ) → l < linesOf S → dirtyLine S L l ≡ dirty (line t l)
   dirty-is l h =
