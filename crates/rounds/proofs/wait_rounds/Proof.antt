@@ -67,11 +67,4 @@ wait-rounds-spec =
     (λ c. c .before .before .before .before .before .before .loop .inv .words)  -- same-length-6
     (λ c. c .before .before .before .before .before .before .loop .inv .marks)  -- same-length-7
     (λ c. c .before .before .write-reply .kept .1 .0 ∙ c .before .before .before .before .before .before .loop .inv .size)  -- same-length-8
-    -- returns-2
-    (λ c.
-    let w = c .before .before in
-    let t = w .before .before in
-    let e = t .before in
-    let l = e .before in
-    let p = l .before .before .before .before .before in
-    goes-held-end (l .loop .inv) (e .loop-test .left) (p .pre .1 .0 .0) (p .pre .1 .1) (p .pre .1 .0 .2) (t .refused .ensures) (w .write-reply .ensures .0)))
+    (λ c. search goes-held-end))  -- returns-2

@@ -39,4 +39,4 @@ struck-on-spec =
     (λ c. c .before .loop .inv .stands .words)  -- same-length-2
     (λ c. c .before .loop .inv .stands .marks)  -- same-length-3
     (λ c. c .before .loop .inv .stands .size)  -- same-length-4
-    (λ c. let l = c .before in strikes-end _ _ _ (l .loop .inv) (c .loop-test .left) (l .before .before .before .before .before .before .pre .1 .0)))  -- returns
+    (λ c. search strikes-end))  -- returns
