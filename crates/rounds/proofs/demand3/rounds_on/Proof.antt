@@ -57,4 +57,4 @@ rounds-on-spec =
     (λ c. c .before .loop .inv .stands .marks)  -- same-length-8
     (λ c. c .before .loop .inv .flags)  -- same-length-9
     (λ c. c .before .loop .inv .stands .size)  -- same-length-10
-    (λ c. let l = c .before in let p = l .before .before .before .before .before .before in runs-end _ _ _ (p .pre .1 .0) (p .pre .1 .1) (l .loop .inv) (c .loop-test .left)))  -- returns-2
+    (λ c. search runs-end))  -- returns-2
