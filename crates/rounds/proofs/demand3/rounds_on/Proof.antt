@@ -35,23 +35,9 @@ rounds-on-spec =
     (λ c. c .before .before .before .before .before .before .before .before .before .before .see-round .kept .1 .1 .1 .1 .0 ∙ c .before .before .before .before .before .before .before .before .before .before .before .before .before .before .before .before .loop .inv .stands .marks)  -- same-length-3
     (λ c. let l = c .before .before .before .before .before .before .before .before .before .before .before .before .before .before .before .before in length-set (l .loop .flags) (l .loop .i) (c .before .flag-of .result) ∙ l .loop .inv .flags)  -- same-length-4
     (λ c. c .before .before .before .before .before .before .before .before .before .before .see-round .kept .1 .1 .1 .1 .1 .1 .0 ∙ c .before .before .before .before .before .before .before .before .before .before .before .before .before .before .before .before .loop .inv .stands .size)  -- same-length-5
-    -- returns
-    (λ c.
-    let r = c .before .before .before .before .before .before .before .before .before .before in
-    let l = r .before .before .before .before .before .before in
-    let p = l .before .before .before .before .before .before in
-    let k = r .see-round .kept .1 .1 in
-    runs-accepted _ _ _ (p .pre .1 .0) (p .pre .1 .1) (l .loop .inv) (r .before .before .before .before .before .loop-test .taken) (r .see-round .ensures) (c .before .flag-of .ensures)
-    (k .1 .1 .1 .1 .0) (k .0) (k .1 .0) (k .1 .1 .0) (c .if1 .taken))
+    (λ c. search runs-accepted)  -- returns
     (λ c. omega (arith, c .before .before .before .before .before .before .before .before .before .before .before .before .before .before .before .loop-test .taken))  -- loop-less
-    -- loop-again
-    (λ c.
-    let r = c .before .before .before .before .before .before .before .before .before .before in
-    let l = r .before .before .before .before .before .before in
-    let p = l .before .before .before .before .before .before in
-    let k = r .see-round .kept .1 .1 in
-    runs-again _ _ _ (p .pre .1 .0) (p .pre .1 .1) (l .loop .inv) (r .before .before .before .before .before .loop-test .taken) (r .see-round .ensures) (c .before .flag-of .ensures)
-    (k .1 .1 .1 .1 .0) (k .0) (k .1 .0) (k .1 .1 .0) (c .if1 .left))
+    (λ c. search runs-again)  -- loop-again
     (λ c. c .before .loop .inv .stands .longs)  -- same-length-6
     (λ c. c .before .loop .inv .stands .words)  -- same-length-7
     (λ c. c .before .loop .inv .stands .marks)  -- same-length-8
