@@ -26,15 +26,13 @@ use Rattle.tables.specs.Changed.{Changed, wordsCounted}
 pub counted-then : (S : Settings) (at : Layout) (l k : ℕ) (x : Sector) {was : Bool} (is : Bool) (words marks : List ℕ) {words₁ words′ marks′ : List ℕ} → was ≡ dirtyAt marks l
     → words₁ ≡ put words (at .dirty) ((getD words (at .dirty) 0 + one is - one was) ∷ [])
     → StoredBack at l (set (sectorsAt S words₁ marks l) k x) words₁ marks words′ marks′ → Changed S at l k x is words marks words′ marks′
-counted-then S at l k x is words marks {words₁} {words′} {marks′} e f c =
-    subst (λ (ws : List ℕ). StoredBack at l (set (sectorsAt S ws marks l) k x) ws marks words′ marks′)
-    (f ∙ ap (λ (b : Bool). put words (at .dirty) ((getD words (at .dirty) 0 + one is - one b) ∷ [])) e) c
+counted-then S at l k x is words marks {words′ = words′} {marks′ = marks′} e f c =
+    subst (λ (ws : List ℕ). StoredBack at l (set (sectorsAt S ws marks l) k x) ws marks words′ marks′) (f ∙ rw e) c
 
 -- the same sector, by another number and value that are these
 pub changed-as : (S : Settings) (at : Layout) (l : ℕ) {k j : ℕ} {x y : Sector} (is : Bool) (words marks : List ℕ) {words′ marks′ : List ℕ} → k ≡ j → x ≡ y
     → Changed S at l k x is words marks words′ marks′ → Changed S at l j y is words marks words′ marks′
-changed-as S at l {j = j} {x = x} is words marks {words′} {marks′} e f c =
-    subst (λ (z : Sector). Changed S at l j z is words marks words′ marks′) f (subst (λ (i : ℕ). Changed S at l i x is words marks words′ marks′) e c)
+changed-as S at l is words marks e f c = rw (← e, ← f) c
 
 -- ---- the tables
 
