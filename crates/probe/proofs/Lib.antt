@@ -2,7 +2,6 @@
 pub mod Statuses
 pub mod Scans
 pub mod Ways
-pub mod ByTree
 pub mod Lines
 pub mod Meetings
 pub mod OfTables

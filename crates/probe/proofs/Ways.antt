@@ -1,4 +1,4 @@
--- The searches of Probe over lines that stand in a table are searches over the numbers of the lines.
+-- The searches of Probe over lines that stand in a table are searches over the numbers of the lines; the choice by a set's tree over a mask of the candidates.
 use Prim.Native.Nat.{ℕ, zero, suc, _+_, _^_, _≤_, _<_}
 use mathlib.Core.Path.{_≡_, refl, sym, ap, subst, _∙_}
 use mathlib.Core.Bool.{Bool, true, false}
@@ -12,12 +12,12 @@ use Rattle.model.specs.Tables.{Line, fresh}
 use Rattle.model.specs.Probe.{next, orElse, first, last, older, earliest}
 use Rattle.model.specs.Range.{isTree}
 use Rattle.model.specs.Lent.{treeAt}
-use Rattle.model.specs.Tree.{powerTo16, levels}
+use Rattle.model.specs.Tree.{powerTo16, levels, isIn, treeChoice}
 use Rattle.model.specs.declared.Settings.{Settings}
 use Rattle.model.specs.declared.Found.{Found}
 use Rattle.model.specs.declared.Found.the-variants.{At, Nothing}
 use Rattle.words.proofs.Flags.{by-flag}
-use Rattle.model.proofs.Trees.{Chooses, choice-chooses, levels-are}
+use Rattle.model.proofs.Trees.{Chooses, choice-chooses, levels-are, choice-same}
 use Rattle.words.proofs.Tabled.{length-table, getD-table, table-snoc}
 use Rattle.model.proofs.Ways.{Finds, earliest-finds}
 use Rattle.probe.specs.Scan.{firstBelow, lastBelow, sooner, leastFrom, candidateAt, lastUnusedIn, treeIn, victimIn}
@@ -176,3 +176,13 @@ victim-under S words marks i base enough power =
 
 pub at-under : {r : Found} {w : ℕ} (n : ℕ) (v : Found) → Under n v → r ≡ v → r ≡ At w → w < n
 at-under n v h e g = rw (← e, g) at h
+
+-- ---- the choice by a set's tree, over a mask of the candidates
+
+module _ (marks : List ℕ) (base ways tree : ℕ) (power : powerTo16 ways ≡ true) where
+  abbrev able : Bool → ℕ → Bool
+  able enough w = candidateAt marks enough (base + w)
+
+  pub by-mask : (enough : Bool) (m : ℕ) {r : Found} → ((w : ℕ) → w < ways → isIn m w ≡ able enough w)
+      → r ≡ treeChoice (isIn m) tree (levels ways) → r ≡ treeIn marks base ways enough tree
+  by-mask enough m f e = e ∙ choice-same (isIn m) (able enough) tree (levels ways) (λ w l. f w (omega (arith, levels-are ways power .0)))
