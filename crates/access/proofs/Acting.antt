@@ -34,7 +34,6 @@ use Rattle.layout.specs.declared.Layout.{Layout}
 use Rattle.layout.specs.Layout.{LaysOut}
 use Rattle.layout.proofs.ByBlocks.{ByBlocks, is-stands}
 use Rattle.layout.proofs.Lines.{takenAs, line-stands, taken-stands}
-use Rattle.layout.proofs.TreeStands.{tree-stands, tree-at}
 use Rattle.tables.proofs.Misses.{withTicket, unsent, append-stands, new-entry-stands}
 use Rattle.tables.proofs.Queue.{push-stands}
 use Rattle.words.proofs.Counting.{map-one}
@@ -44,12 +43,10 @@ use Rattle.access.specs.Written.{sectorsFor, sectorsAfter, missesWritten
 use Rattle.access.specs.declared.plan.MissPlan.{MissPlan}
 use Rattle.access.specs.declared.plan.MissPlan.the-variants.{Refused, Stays, Joins, Starts}
 use Rattle.access.proofs.Plans.{index-found, no-other-entry, merged-entry, entry-once}
-use Rattle.access.proofs.PlanTests.{shows, answer-is}
-use Rattle.access.proofs.Lines.{stands, sectors-met}
-use Rattle.access.proofs.Inverted.{Means}
+use Rattle.access.proofs.PlanTests.{shows, answer-is, Means}
+use Rattle.access.proofs.Lines.{stands, sectors-met, was-dirty}
 use Rattle.tables.specs.Raw.{dirtyAt}
-use Rattle.access.proofs.Recounts.{was-dirty}
-use Rattle.layout.proofs.DirtyCount.{dirty-count-stands, dirty-count-at}
+use Rattle.layout.proofs.DirtyCount.{dirty-count-stands, dirty-count-at, tree-stands, tree-at}
 use Rattle.layout.specs.Sectors.{someModified}
 
 -- ---- what becomes of the miss table and the queue, by the flags

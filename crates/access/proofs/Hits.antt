@@ -30,7 +30,7 @@ use Rattle.access.specs.Written.{sectorsFor, sectorsAfter, queuesOf, tel
 use Rattle.access.specs.declared.plan.MissPlan.the-variants.{Stays}
 use Rattle.access.proofs.PlanTests.{plan-write, plan-hit}
 use Rattle.access.proofs.Lines.{no-back}
-use Rattle.access.proofs.Kept.{touched}
+use Rattle.access.proofs.Changes.{touched}
 use Rattle.access.proofs.Telling.{acted}
 use Rattle.access.proofs.Offering.{offered-acts}
 

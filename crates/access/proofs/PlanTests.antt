@@ -1,12 +1,12 @@
--- What a decision says of the spot that it stands for, and the plan by the tests of the code.
+-- What a decision says of the spot that it stands for, the plan by the tests of the code, and the tests that led to a plan.
 use mathlib.Core.Path.{_≡_, refl, ap, _∙_}
 use mathlib.Core.Bool.{Bool, true, false, _&&_}
 use mathlib.Core.List.{List, [], _∷_, _++_}
 use Prim.Native.Nat.{ℕ, _+_, _≤_, _<_}
 use native.Mathlib.Omega.{arith}
 use lib.ListN.{length, getD, length-append}
-use lib.Dec.{ltb}
-use borrow.Author.Tests.{lt-ltb, le-ltb}
+use lib.Dec.{ltb, leb}
+use borrow.Author.Tests.{lt-ltb, le-ltb, leb-false, ltb-false}
 use Rattle.words.specs.Words.{pick, any, one}
 use Rattle.model.specs.Address.{addressOf, isRead, blockOf}
 use Rattle.model.specs.Tables.{Line, reading, writing, Tables, entryFor, fresh, emptied}
@@ -27,13 +27,14 @@ use Rattle.probe.specs.declared.Meeting.{Meeting}
 use Rattle.probe.specs.declared.Meeting.the-variants.{Met as MetWay, Taken, Busy, Held}
 use Rattle.probe.specs.declared.Decision.{Decision}
 use Rattle.probe.specs.Decided.{placeFor, backsOf}
-use Rattle.access.specs.Plan.{Met, Joining, Planned, starting, missPlan}
+use Rattle.access.specs.Plan.{Met, Joining, Planned, starting, missPlan, entryIndex, ticketsAt}
 use Rattle.access.specs.Written.{sectorsFor, queuesOf}
 use Rattle.access.specs.declared.plan.MissPlan.{MissPlan}
-use Rattle.access.specs.declared.plan.MissPlan.the-variants.{Refused, Stays}
+use Rattle.access.specs.declared.plan.MissPlan.the-variants.{Refused, Stays, Joins, Starts}
 use Rattle.tables.proofs.Queue.{queue-counted}
 use Rattle.tables.proofs.Misses.{misses-counted}
 use Rattle.access.proofs.Plans.{merged-entry}
+use Rattle.words.proofs.Flags.{by-flag, clash}
 
 -- ---- what is queued, by two flags
 
@@ -133,3 +134,31 @@ module _ (S : Settings) {longs words marks : List ℕ} {x : Access} {d : Decisio
 
         pub hit-planned : isMiss (d .answer) ≡ false → Planned S (lent longs words marks) x d Stays
         hit-planned hits = record { on = λ t p m. plan-hit S x d t p m (counted t p m) asked room reads other hits }
+
+-- ---- what a plan says that was planned: which tests led to it, and that its writes have room
+
+-- the tests behind a plan that is not refused
+pub record Tested (S : Settings) (x : Access) (p : Spot) (t : Tables) (merge miss : Bool) : Type 0 where
+  pub roomy : length (t .queue) + placesNeeded x p ≤ S .queue
+  pub merges : (isRead x && isMerge (p .answer)) ≡ merge
+  pub misses : merge ≡ false → (isRead x && isMiss (p .answer)) ≡ miss
+
+module _ (S : Settings) (x : Access) (p : Spot) (t : Tables) where
+  -- what each plan means
+  abbrev pub Means : MissPlan → Type 0
+  Means (Refused n) = Unit {0}
+  Means Stays = Tested S x p t false false
+  Means (Joins e n) = Tested S x p t true false × (e ≡ entryIndex (addressOf x) (t .misses)) × (n ≡ ticketsAt e (t .misses)) × (n < S .readers)
+  Means (Starts m) = Tested S x p t false true × (m ≡ length (t .misses)) × (m < S .misses)
+
+  pub plan-means : Means (missPlan S x p t)
+  plan-means =
+      by-flag Means (ltb (S .queue) (length (t .queue) + placesNeeded x p)) _ _ (λ e. tt)
+      (λ e. let roomy = ltb-false (S .queue) (length (t .queue) + placesNeeded x p) e in
+      by-flag Means (isRead x && isMerge (p .answer)) _ _
+      (λ f. by-flag Means (leb (S .readers) (ticketsAt (entryIndex (addressOf x) (t .misses)) (t .misses))) _ _ (λ g. tt)
+      (λ g. (record { roomy = roomy; merges = f; misses = λ z. clash refl z }, refl, refl, leb-false (S .readers) (ticketsAt (entryIndex (addressOf x) (t .misses)) (t .misses)) g)))
+      (λ f. by-flag Means (isRead x && isMiss (p .answer)) _ _
+      (λ g. by-flag Means (leb (S .misses) (length (t .misses))) _ _ (λ k. tt)
+      (λ k. (record { roomy = roomy; merges = f; misses = λ z. g }, refl, leb-false (S .misses) (length (t .misses)) k)))
+      (λ g. record { roomy = roomy; merges = f; misses = λ z. g })))

@@ -30,9 +30,8 @@ use Rattle.access.specs.Plan.{Met, Acts, isAccepted, ticketOf}
 use Rattle.access.specs.Written.{sectorsFor, sectorsAfter, missesWritten, queueWritten, queuesOf, tellingOf, MissRoom, QueueRoom, lineLeft, takenWritten, treesWritten, Alone}
 use Rattle.access.specs.declared.plan.MissPlan.{MissPlan}
 use Rattle.access.specs.declared.plan.MissPlan.the-variants.{Refused, Stays, Joins, Starts}
-use Rattle.access.proofs.PlanTests.{queues-count, queues-are, answer-is}
+use Rattle.access.proofs.PlanTests.{queues-count, queues-are, answer-is, Means, plan-means}
 use Rattle.access.proofs.Lines.{kept-stays, no-back}
-use Rattle.access.proofs.Inverted.{Means, plan-means}
 use Rattle.access.proofs.Acting.{newLine, treesNew, line-written, set-turned, misses-written, queue-written, join-inside, newCount}
 
 -- ---- its value

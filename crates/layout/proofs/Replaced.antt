@@ -1,5 +1,6 @@
 -- Four sectors stored back over those that stand there: all but one place, each where it differs; then that one.
 use mathlib.Core.Path.{_≡_, refl, sym, ap, _∙_}
+use mathlib.Core.Logic.{⊎-elim}
 use mathlib.Core.Bool.{Bool, true, false, not, _&&_}
 use mathlib.Core.List.{List, map}
 use Prim.Native.Nat.{ℕ, _+_, _-_, _*_, _≤_, _<_}
@@ -11,9 +12,9 @@ use lib.Seq.{length-paste, getD-set-same, getD-set-other, set-getD, set-set}
 use borrow.Author.Tests.{eqb-true, eqb-false}
 use Rattle.words.specs.Words.{pick}
 use Rattle.words.specs.Regions.{put}
-use Rattle.words.proofs.Flags.{no-not, clash}
+use Rattle.words.proofs.Flags.{no-not, clash, flag}
 use Rattle.words.proofs.Lists.{map-set}
-use Rattle.words.proofs.Region.{Pasting, pasting-start, pasting-turn, pasting-done, put-paste, getD-paste-past, put-set-inside, put-set-before}
+use Rattle.words.proofs.Region.{put-paste, getD-paste-past, put-set-inside, put-set-before}
 use Rattle.model.specs.Numbers.{statusNumber}
 use Rattle.model.specs.Lent.{bit, sectorsAt}
 use Rattle.model.specs.declared.Settings.{Settings}
@@ -22,6 +23,7 @@ use Rattle.encoding.proofs.DecodeIsSound.{number-back, mark-back, sector-number
 use Rattle.layout.specs.declared.Layout.{Layout}
 use Rattle.layout.specs.Layout.{LaysOut}
 use Rattle.layout.specs.Sectors.{LineRoom, Plain, Column, Stand, StoredBack, OthersStored, butOne}
+use Rattle.layout.proofs.Stores.{four-put}
 use Rattle.layout.proofs.ByPlace.{mask-read, readable-read}
 
 -- ---- a number that is written only where it differs, and not at the place of the sector that changes
@@ -41,58 +43,40 @@ module _ (l : List ℕ) (w k : ℕ) (was is : List ℕ) (long : w + 4 ≤ length
   abbrev number : ℕ → ℕ
   number i = pick (not (eqb k i)) (getD is i 0) (getD was i 0)
 
-  -- before number i: those before it are there, the others as they were
-  abbrev Keeping : List ℕ → ℕ → Type 0
-  Keeping s i = Pasting l w (butOne k was is) s i × ((j : ℕ) → i ≤ j → j < 4 → getD s (w + j) 0 ≡ getD was j 0)
-
-  start : Column l w was → Keeping l 0
-  start c = (pasting-start l w (butOne k was is), λ j _ h. c j h)
-
-  asks : {s : List ℕ} (i : ℕ) → i < 4 → Keeping s i → {j : ℕ} → j ≡ w + i → (j < length s) × (getD s j 0 ≡ getD was i 0)
-  asks i h v e = (omega (arith, v .0 .1), rw e (v .1 i (omega arith) h))
-
   left : (i : ℕ) → i < 4 → getD (butOne k was is) i 0 ≡ number i
-  left i h = go (eqb k i) refl
-    where
-      go : (b : Bool) → eqb k i ≡ b → getD (set is k (getD was k 0)) i 0 ≡ pick (not b) (getD is i 0) (getD was i 0)
-      go true e = rw (eqb-true k i e) (getD-set-same is i (getD was i 0) 0 (omega arith))
-      go false e = getD-set-other is k i (getD was k 0) 0 (λ p. eqb-false k i e (sym p))
+  left i h =
+      ⊎-elim (λ (e : eqb k i ≡ true). rw (e, eqb-true k i e) (getD-set-same is i (getD was i 0) 0 (omega arith)))
+      (λ (e : eqb k i ≡ false). rw e (getD-set-other is k i (getD was k 0) 0 (λ p. eqb-false k i e (sym p)))) (flag (eqb k i))
 
-  turn : {s s′ : List ℕ} {j : ℕ} (i : ℕ) → i < 4 → Keeping s i → j ≡ w + i → s′ ≡ set s j (number i) → Keeping s′ (i + 1)
-  turn {s} i h v e f =
-      let m : length (butOne k was is) ≡ 4 = length-set is k (getD was k 0) ∙ n in
-      rw (f, e) (
-        pasting-turn l w (butOne k was is) s i (number i) (omega (arith, m)) (omega (arith, m)) (left i h) (v .0),
-        λ j a b. getD-set-other s (w + i) (w + j) (number i) 0 (λ q. omega arith) ∙ v .1 j (omega arith) b,
-      )
+  -- a number behind the one that is stored stays
+  past : (s : List ℕ) (i v j : ℕ) {s′ : List ℕ} {n : ℕ} → s′ ≡ set s i v → i < j → (j < length s) × (getD s j 0 ≡ n) → (j < length s′) × (getD s′ j 0 ≡ n)
+  past s i v j e h a = rw e (rw length-set (a .0), getD-set-other s i j v 0 (λ q. omega arith) ∙ a .1)
 
   module _ (c : Column l w was) where
+    stood : (j : ℕ) → j < 4 → (w + j < length l) × (getD l (w + j) 0 ≡ getD was j 0)
+    stood j h = (omega arith, c j h)
+
     pub first-asks : (w < length l) × (getD l w 0 ≡ getD was 0 0)
-    first-asks = asks 0 (omega arith) (start c) (sym (add-zero w))
+    first-asks = rw add-zero at (stood 0 (omega arith))
 
     module _ {l₁ : List ℕ} (e₁ : l₁ ≡ set l w (number 0)) where
-      one : Keeping l₁ 1
-      one = turn 0 (omega arith) (start c) (sym (add-zero w)) e₁
-
       pub second-asks : (w + 1 < length l₁) × (getD l₁ (w + 1) 0 ≡ getD was 1 0)
-      second-asks = asks 1 (omega arith) one refl
+      second-asks = past l w (number 0) (w + 1) e₁ (omega arith) (stood 1 (omega arith))
 
       module _ {l₂ : List ℕ} (e₂ : l₂ ≡ set l₁ (w + 1) (number 1)) where
-        two : Keeping l₂ 2
-        two = turn 1 (omega arith) one refl e₂
-
         pub third-asks : (w + 2 < length l₂) × (getD l₂ (w + 2) 0 ≡ getD was 2 0)
-        third-asks = asks 2 (omega arith) two refl
+        third-asks = past l₁ (w + 1) (number 1) (w + 2) e₂ (omega arith) (past l w (number 0) (w + 2) e₁ (omega arith) (stood 2 (omega arith)))
 
         module _ {l₃ : List ℕ} (e₃ : l₃ ≡ set l₂ (w + 2) (number 2)) where
-          three : Keeping l₃ 3
-          three = turn 2 (omega arith) two refl e₃
-
           pub fourth-asks : (w + 3 < length l₃) × (getD l₃ (w + 3) 0 ≡ getD was 3 0)
-          fourth-asks = asks 3 (omega arith) three refl
+          fourth-asks =
+              past l₂ (w + 2) (number 2) (w + 3) e₃ (omega arith)
+              (past l₁ (w + 1) (number 1) (w + 3) e₂ (omega arith) (past l w (number 0) (w + 3) e₁ (omega arith) (stood 3 (omega arith))))
 
           pub four-kept : {l₄ : List ℕ} → l₄ ≡ set l₃ (w + 3) (number 3) → l₄ ≡ put l w (butOne k was is)
-          four-kept {l₄} e₄ = pasting-done l w (butOne k was is) l₄ 4 (length-set is k (getD was k 0) ∙ n) (turn 3 (omega arith) three refl e₄ .0)
+          four-kept e₄ =
+              rw (e₄, e₃, e₂, e₁, ← left 0 (omega arith), ← left 1 (omega arith), ← left 2 (omega arith), ← left 3 (omega arith))
+              (four-put l w (butOne k was is) long (length-set is k (getD was k 0) ∙ n))
 
 -- behind four numbers that are put stands what stood there
 pub column-past : (l : List ℕ) (q : ℕ) (ys : List ℕ) (r : ℕ) (ns : List ℕ) → length ys ≡ 4 → q + 4 ≤ r → q + 4 ≤ length l → Column l r ns → Column (put l q ys) r ns

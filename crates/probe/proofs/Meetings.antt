@@ -66,7 +66,7 @@ module _ (S : Settings) (longs words marks : List ℕ) (x : Access) (way : 1 ≤
   pub own-met : (w : ℕ) → foundIn longs marks base (S .ways) (blockOf (addressOf x)) ≡ At w
       → Decided S longs words marks x (onMatch S words marks base w x)
   own-met w e =
-      let below : w < S .ways = at-under (S .ways) _ (first-under _ (S .ways)) refl e in
+      let below : w < S .ways = at-under (S .ways) _ (first-under _ (S .ways) (S .ways) (omega arith)) refl e in
       record {
         place = met-place w below e;
         way = below;
@@ -152,7 +152,7 @@ module _ {S : Settings} {longs words marks : List ℕ} (fit : Sized S longs word
 
   module _ {block base : ℕ} {f : Found} (eb : block ≡ blockOf address) (el : base ≡ set * S .ways) (ef : f ≡ foundIn longs marks base (S .ways) block) where
     pub found-below : {w : ℕ} → f ≡ At w → w < S .ways
-    found-below g = at-under (S .ways) _ (first-under _ (S .ways)) ef g
+    found-below g = at-under (S .ways) _ (first-under _ (S .ways) (S .ways) (omega arith)) ef g
 
     first : base ≡ setIndex S (addressOf x) * S .ways
     first = el ∙ ap (λ (k : ℕ). k * S .ways) here

@@ -5,8 +5,7 @@ use Rattle.encoding.proofs.Bridge.{is-fit}
 use Rattle.layout.proofs.DirtyCount.{dirty-few}
 use Rattle.access.specs.Written.{sectorsAfter}
 use Rattle.access.proofs.Sectors.{taken-left}
-use Rattle.access.proofs.Lines.{sectors-taken, back-dirty}
-use Rattle.access.proofs.Recounts.{was-dirty, was-counted}
+use Rattle.access.proofs.Lines.{sectors-taken, back-dirty, was-dirty, was-counted}
 use Rattle.access.proofs.writes.take_line.Statement.{statement}
 use Rattle.access.proofs.writes.take_line.Tie as tie
 
