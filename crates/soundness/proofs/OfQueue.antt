@@ -64,6 +64,6 @@ module _ (S : Settings) {at : Layout} (laid : LaysOut S at) (longs words marks :
     unused = λ e. rw (clean-is, queued-read S laid longs p, kind-is e, add-zero) (unused-shape noMask _);
     reads = λ e h. rw (clean-is, h, queued-read S laid longs p, kind-is e, add-zero) (read-shape noMask _);
     writes = λ e. rw (clean-is, queued-read S laid longs p, kind-is e, add-zero)
-      (back-shape (goodBlock (queuedAt S longs p)) (none (4 * p)) (none (4 * p + 1)) (none (4 * p + 2)) (none (4 * p + 3)));
+        (back-shape (goodBlock (queuedAt S longs p)) (none (4 * p)) (none (4 * p + 1)) (none (4 * p + 2)) (none (4 * p + 3)));
     unknown = λ f g h. let e = kind-is refl in rw (lt-leb (queueKindAt S marks p) 2 (omega arith));
   }
