@@ -50,7 +50,7 @@ module _ (S : Settings) {at : Layout} (laid : LaysOut S at) (longs words marks :
   clean-is : clean ≡ noMask
   clean-is = rw (laid .backs)
 
-  pub record PlaceIs : Type 0 where
+  pub record PlaceAnswers : Type 0 where
     pub unused : kind ≡ 0 → (clean && eqb address 0) ≡ placeFine S longs words marks p
     pub reads : {r : Bool} → kind ≡ 1 → r ≡ some (S .misses) (unsentAtFor S longs words marks address) → (clean && r) ≡ placeFine S longs words marks p
     pub writes : kind ≡ 2 → (goodBlock address && not clean) ≡ placeFine S longs words marks p
@@ -59,8 +59,8 @@ module _ (S : Settings) {at : Layout} (laid : LaysOut S at) (longs words marks :
   kind-is : {n : ℕ} → kind ≡ n → queueKindAt S marks p ≡ n
   kind-is e = sym (kind-read S laid marks p) ∙ e
 
-  pub place-is : PlaceIs
-  place-is = record {
+  pub place-answers : PlaceAnswers
+  place-answers = record {
     unused = λ e. rw (clean-is, queued-read S laid longs p, kind-is e, add-zero) (unused-shape noMask _);
     reads = λ e h. rw (clean-is, h, queued-read S laid longs p, kind-is e, add-zero) (read-shape noMask _);
     writes = λ e. rw (clean-is, queued-read S laid longs p, kind-is e, add-zero)

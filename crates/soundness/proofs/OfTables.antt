@@ -5,7 +5,6 @@ use mathlib.Core.List.{List}
 use Prim.Native.Nat.{ℕ, zero, suc, _+_, _*_, _-_, _^_, _<_}
 use native.Mathlib.Nat.{add-zero}
 use lib.Dec.{leb, ltb, eqb}
-use lib.ListN.{getD}
 use native.Mathlib.Omega.{arith}
 use borrow.Author.Tests.{le-ltb, eqb-true, eq-eqb, ne-eqb}
 use Rattle.model.specs.declared.Settings.{Settings}
@@ -23,14 +22,6 @@ use Rattle.layout.specs.Places.{First}
 use Rattle.layout.proofs.ByPlace.{kind-read}
 use Rattle.soundness.specs.Limits.{treeLimit}
 use Rattle.soundness.specs.Queued.{Queued}
-
--- 12 and 20, of the bytes that the code looks at
-module _ (S : Settings) {at : Layout} (p : LaysOut S at) (marks : List ℕ) where
-  pub counts-gathered : gathered (S .misses) (λ i. getD marks (at .counts + i) 0) ≡ gathered (S .misses) (ticketCountAt S marks)
-  counts-gathered = rw (p .counts)
-
-  pub kinds-gathered : gathered (S .queue) (λ i. getD marks (at .kinds + i) 0) ≡ gathered (S .queue) (queueKindAt S marks)
-  kinds-gathered = rw (p .kinds)
 
 -- ---- where the queue ends
 

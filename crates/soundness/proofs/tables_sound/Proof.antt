@@ -2,7 +2,7 @@
 use mathlib.Core.Path.{_∙_}
 use native.Mathlib.Omega.{arith}
 use borrow.Author.Needs.{needs}
-use Rattle.soundness.proofs.OfTables.{Firstly, unsound, first-yes, rest, counts-gathered, kinds-gathered, queue-ends}
+use Rattle.soundness.proofs.OfTables.{Firstly, unsound, first-yes, rest, queue-ends}
 use Rattle.soundness.proofs.tables_sound.Statement.{statement}
 use Rattle.soundness.proofs.tables_sound.Tie as tie
 
@@ -10,7 +10,7 @@ use Rattle.soundness.proofs.tables_sound.Tie as tie
 tested : (c : tie.Else1) → let a = c .before .before .before .before .before .before .before .args in Firstly (a .s) (a .longs .now) (a .words .now) (a .marks .now)
 tested c =
     let s = c .before .before .before .before .before .before .before in
-    first-yes _ _ _ _ _ _ (c .before .before .gathered .ensures ∙ kinds-gathered _ (s .pre .0) (s .args .marks .now)) (c .before .lines-fine .ensures) (c .if1 .left)
+    first-yes _ _ _ _ _ _ (c .before .before .gathered .ensures ∙ rw (s .pre .0 .kinds)) (c .before .lines-fine .ensures) (c .if1 .left)
 
 pub tables-sound-spec : {M : Type 1} → statement M
 tables-sound-spec =
@@ -19,7 +19,7 @@ tables-sound-spec =
     (λ c. search needs)  -- shared-slice-read-if1
     (λ c κs. let pre = c .before .before .before .before .pre in let at = pre .0 in let fit = pre .1 in omega arith)  -- gathered-requires
     (λ c κs. search needs)  -- lines-fine-requires
-    (λ c. let looked = c .before in let start = looked .before .before .before .before .before .before in let a = start .args in unsound (a .s) (a .longs .now) (a .words .now) (a .marks .now) _ _ (looked .before .gathered .ensures ∙ kinds-gathered (a .s) (start .pre .0) (a .marks .now)) (looked .lines-fine .ensures) (c .if1 .taken))  -- returns
+    (λ c. let looked = c .before in let start = looked .before .before .before .before .before .before in let a = start .args in unsound (a .s) (a .longs .now) (a .words .now) (a .marks .now) _ _ (looked .before .gathered .ensures ∙ rw (start .pre .0 .kinds)) (looked .lines-fine .ensures) (c .if1 .taken))  -- returns
     (λ c κs. let pre = c .before .before .before .before .before .before .before .pre in let at = pre .0 in let fit = pre .1 in omega arith)  -- used-requires
     (λ c κs. let pre = c .before .before .before .before .before .before .before .before .pre in (pre .0, pre .1, tested (c .before) .lines))  -- sectors-fine-requires
     (λ c κs. let pre = c .before .before .before .before .before .before .before .before .before .pre in (pre .0, pre .1))  -- tickets-fine-requires
@@ -42,5 +42,5 @@ tables-sound-spec =
     let first = sectors .before .before in
     let start = first .before .before .before .before .before .before .before in
     rest _ _ _ _ (tested first) (sectors .sectors-fine .ensures) (gathered .before .tickets-fine .ensures)
-    (gathered .gathered2 .ensures ∙ counts-gathered _ (start .pre .0) (start .args .marks .now)) (placed .before .entries-fine .ensures)
+    (gathered .gathered2 .ensures ∙ rw (start .pre .0 .counts)) (placed .before .entries-fine .ensures)
     (placed .places-fine .ensures) (counted .count-fine .ensures) (c .trees-fine .ensures)))

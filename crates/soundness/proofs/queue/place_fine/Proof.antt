@@ -1,14 +1,14 @@
 -- By its kind.
 use native.Mathlib.Omega.{arith}
 use borrow.Author.Needs.{needs}
-use Rattle.soundness.proofs.OfQueue.{PlaceIs, place-is}
+use Rattle.soundness.proofs.OfQueue.{PlaceAnswers, place-answers}
 use Rattle.soundness.proofs.queue.place_fine.Statement.{statement}
 use Rattle.soundness.proofs.queue.place_fine.Tie as tie
 
 -- where its kind is read
 place : (c : tie.After-shared-slice-known9) → let s = c .before .before .before .before .before .before .before .before .before .before .before .before .before .before .before in
-    let a = s .args in PlaceIs (a .s) (s .pre .0) (a .longs .now) (a .words .now) (a .marks .now) (a .p)
-place c = place-is _ _ _ _ _ _
+    let a = s .args in PlaceAnswers (a .s) (s .pre .0) (a .longs .now) (a .words .now) (a .marks .now) (a .p)
+place c = place-answers _ _ _ _ _ _
 
 pub place-fine-spec : {M : Type 1} → statement M
 place-fine-spec =

@@ -6,7 +6,7 @@ use borrow.Author.Needs.{needs}
 use borrow.Author.Tests.{eq-eqb, ne-eqb}
 use Prim.Native.Nat.{_-_}
 use Rattle.words.proofs.Below.{Counted, counted-yes, counted-no, counted-end}
-use Rattle.soundness.proofs.OfSearch.{readRead, read-counted, read-queued}
+use Rattle.soundness.proofs.OfSearch.{readRead, read-queued}
 use Rattle.soundness.proofs.search.reads_for.Statement.{statement}
 use Rattle.soundness.proofs.search.reads_for.Tie as tie
 
@@ -46,5 +46,5 @@ reads-for-spec =
     (λ c.
     let start = c .before .before in
     let a = start .args in
-    counted-end _ _ _ _ (c .loop-test .left) (c .before .loop .inv) ∙ read-counted (a .s) (start .pre .0) (a .longs .now) (a .words .now) (a .marks .now) (a .a .0) (a .n)
-    ∙ read-queued (a .s) (start .pre .0) (a .longs .now) (a .words .now) (a .marks .now) (a .a .0) (a .n) (start .pre .2)))
+    counted-end _ _ _ _ (c .loop-test .left) (c .before .loop .inv) ∙ rw (start .pre .0 .kinds, start .pre .0 .queue)
+    (read-queued (a .s) (a .longs .now) (a .words .now) (a .marks .now) (a .a .0) (a .n) (start .pre .2))))
