@@ -6,15 +6,14 @@ use mathlib.Core.List.{List, [], _∷_}
 use Prim.Native.Nat.{ℕ, suc, _+_, _-_, _≤_, _<_}
 use native.Mathlib.Nat.{sub-zero}
 use native.Mathlib.Omega.{arith}
-use borrow.Author.Tests.{eq-eqb, ne-eqb}
-use lib.Dec.{ltb}
+use borrow.Author.Tests.{eq-eqb, ne-eqb, lt-ltb, le-ltb}
 use lib.ListN.{length, drop, length-drop}
 use Rattle.words.specs.Words.{pick}
 use Rattle.model.specs.Numbers.{refusalNumber}
 use Rattle.model.specs.Range.{inRange}
 use Rattle.model.specs.Tables.{start, after}
 use Rattle.model.specs.Lent.{Lent, lengthsFit}
-use Rattle.model.specs.Records.{isCommand, isSettings, lengthOf, settingsIn, readAt, bodyAt}
+use Rattle.model.specs.Records.{isSettings, lengthOf, settingsIn, readAt, bodyAt}
 use Rattle.model.specs.RunnerOf as runner
 use Rattle.model.specs.Runner.{settingsOf, settingsStop, firstStop, goesOn, Result, halt, bytesThen, runFrom, lentResult, run, Runs}
 use Rattle.model.specs.Calls.{freshCall, verdictOf}
@@ -25,7 +24,7 @@ use Rattle.model.specs.declared.Refusal.{Refusal}
 use Rattle.model.specs.declared.Verdict.{Verdict}
 use Rattle.model.specs.declared.Verdict.the-variants as verdict
 use Rattle.model.specs.declared.Stop.{Stop}
-use Rattle.model.specs.declared.Stop.the-variants.{Nothing, SettingOutOfRange, SliceLength, OutOfPlace, UnknownKind, CutShort}
+use Rattle.model.specs.declared.Stop.the-variants.{Nothing, SettingOutOfRange, SliceLength, OutOfPlace}
 use Rattle.model.specs.declared.Ran.{Ran}
 use Rattle.words.proofs.Flags.{clash, by-flag, flag}
 use Rattle.model.proofs.Soundness.{start-sound}
@@ -103,21 +102,12 @@ pub accepts-held : {L : Lent} {x : Opening} {S : Settings} {next : ℕ} {r : Beg
 accepts-held q a = rw q a
 
 -- of a stream: 1 and 2 behind the other checks
-abbrev firstHeadBy : Bool → Bool → Bool → Stop → Stop
-firstHeadBy known cut settings x = pick known (pick cut CutShort (pick settings x OutOfPlace)) UnknownKind
-
-begun-by : (L : Lent) (S : Settings) (next : ℕ) (known cut settings : Bool)
-    → begunOn L (pick (goesOn (firstHeadBy known cut settings Nothing)) (opening.Holds S next) (opening.Stopped (firstHeadBy known cut settings Nothing)))
-    ≡ pick (goesOn (firstHeadBy known cut settings (settingsStop S L))) (Accepted S next) (Stopped (firstHeadBy known cut settings (settingsStop S L)))
-begun-by L S next false cut settings = refl
-begun-by L S next true true settings = refl
-begun-by L S next true false false = refl
-begun-by L S next true false true = refl
-
 pub first-begins : (L : Lent) (s : List ℕ) → begunOn L (firstRecord s) ≡ beginning L s
 unfolding firstRecord beginning runner.firstStop
 first-begins L [] = refl
-first-begins L (k ∷ bs) = begun-by L (settingsOf k bs) (1 + lengthOf k) (isCommand k) (ltb (length bs) (lengthOf k)) (isSettings k)
+first-begins L (k ∷ bs) =
+    by-record (λ n. begunOn L (firstRecord (k ∷ bs)) ≡ beginning L (k ∷ bs)) k bs {a = Nothing} {b = Nothing} (λ c. rw c) (λ c w. rw (c, lt-ltb _ _ w))
+    (λ c w z. rw (c, le-ltb _ _ w, z)) (λ c w z. rw (c, le-ltb _ _ w, z))
 
 pub accepts-begins : {L : Lent} (s : List ℕ) {x : Opening} → x ≡ firstRecord s → {r : Begun} {M : Lent} → Accepts L x r M → Begins L s r M
 accepts-begins {L} s {x} e a =

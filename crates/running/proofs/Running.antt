@@ -1,4 +1,4 @@
--- A run record by record: what is passed over, the end of input, a record that stops, a record that is run.
+-- A run record by record: the checks at a record, what is passed over, the end of input, a record that stops, a record that is run.
 use mathlib.Core.Path.{_≡_, refl}
 use mathlib.Core.Bool.{true, false}
 use mathlib.Core.List.{List, [], _∷_}

@@ -70,12 +70,9 @@ halts-here {S} {o} {s} {at} {out} {e} here halts =
 
 module _ (S : Settings) (s : List ℕ) (at out : ℕ) (e : List ℕ) (L : Lent) (here : RunAt s at out e)
     {n : Stop} (d : n ≡ laterStop (length e - out) (recordKindAt s at) (restAt s at)) (stops : goesOn n ≡ false) where
-  halted : (t : Tables) → recordFrom S s at out e t ≡ halt n t
-  unfolding single
-  halted t = rw (← d, stops)
-
   pub single-halts : Resumes S (recordFrom S s at out e) s at out e L record { stop = n; consumed = at; written = out } e L
-  single-halts = halts-here here halted
+  unfolding single
+  single-halts = halts-here here (λ t. rw (← d, stops))
 
 module _ {s : List ℕ} {at out : ℕ} {e : List ℕ} (ready : RecordReady s at out e) where
   pub ready-going : Going (length e - out) (recordKindAt s at) (restAt s at)

@@ -7,7 +7,7 @@ use mathlib.Core.List.{List, [], _∷_, _++_, append-nil}
 use Prim.Native.Nat.{ℕ, zero, suc, _+_, _-_, _≤_, _<_}
 use native.Mathlib.Nat.{le-of-suc-le-suc}
 use native.Mathlib.Omega.{arith}
-use borrow.Author.Tests.{lt-ltb, le-ltb, ltb-true}
+use borrow.Author.Tests.{lt-ltb, le-ltb}
 use lib.Dec.{ltb}
 use lib.ListN.{length, take, drop}
 use lib.Seq.{length-take-le}
@@ -25,7 +25,7 @@ use Rattle.running.proofs.Asked.{final}
 use Rattle.running.proofs.Parts.{later-more, later-roomy}
 use Rattle.streaming.specs.Scopes.{beforeLast}
 use Rattle.streaming.specs.Halts.{ofEnd, MayFollow, OneRecord}
-use Rattle.streaming.proofs.Lasts.{last-most, last-least}
+use Rattle.streaming.proofs.Lasts.{by-last, last-most, last-least}
 
 -- ---- the checks at a record, by what they come to
 
@@ -152,19 +152,16 @@ module _ (S : Settings) where
   last-whole n room [] t h = λ e. let z : _≡_ {A = ℕ} 0 1 = cc in omega arith
   last-whole (suc n) room (b ∷ s) t h = last-whole n room s t (le-of-suc-le-suc h)
   last-whole zero room (k ∷ s) t h =
-      by-flag Not (isCommand k) _ _
-      (λ z.
-      by-flag Not (ltb (lengthOf k) (length s)) _ _
-      (λ y.
-      let l = ltb-true (lengthOf k) (length s) y in
+      by-last Not k s
+      (λ c l.
       let a = take (beforeLast (lengthOf k) s) s in
       let i = last-least (lengthOf k) s (omega arith) in
       let w : lengthOf k ≤ length a = let q = length-take-le (beforeLast (lengthOf k) s) s (last-most (lengthOf k) s) in omega arith in
       by-flag Short (goesOn (laterStop room k a)) _ _ (λ x. last-whole (lengthOf k) _ s _ (omega arith)) (λ x. whole-stop room k a w))
-      (λ y e. let x : _≡_ {A = ℕ} 0 1 = cc in omega arith))
-      (λ z.
+      (λ c l e. let x : _≡_ {A = ℕ} 0 1 = cc in omega arith)
+      (λ c.
       let a = take (length s) s in
-      by-flag Short (goesOn (laterStop room k a)) _ _ (λ x e. clash (going room k a x .command) z) (λ x e. clash (cut-stop room k a e .0) z))
+      by-flag Short (goesOn (laterStop room k a)) _ _ (λ x e. clash (going room k a x .command) c) (λ x e. clash (cut-stop room k a e .0) c))
     where
       Not : ℕ → Type 0
       Not m = runFrom S 0 room (take m (k ∷ s)) t .stop ≡ stop.CutShort → ⊥

@@ -1,4 +1,4 @@
--- What waits behind a part that ran: where its run halts, or the last record alone; what waits for more bytes is short.
+-- What waits behind a part that ran, by its stop: where its run halts, or the last record alone; what waits for more bytes is short.
 use mathlib.Core.Path.{_≡_, refl, sym, ap, _∙_}
 use mathlib.Core.Bool.{false}
 use mathlib.Core.List.{List, [], _++_, append-nil, append-assoc}

@@ -14,18 +14,15 @@ record-stop-spec =
     -- returns
     (λ c.
     let h = c .before .before in
-    let a = h .before .args in
-    found-stopped (a .kind) (a .found) (a .settings) (a .other) (h .head-stop .ensures) (said-no (c .before .goes-on .ensures) (c .if1 .taken)))
+    found-stopped _ _ _ _ (h .head-stop .ensures) (said-no (c .before .goes-on .ensures) (c .if1 .taken)))
     (λ c κs. search needs)  -- is-settings-requires
     -- returns-2
     (λ c.
     let i = c .before .before in
     let h = i .before .before in
-    let a = h .before .args in
-    found-asked (a .kind) (a .found) (a .settings) (a .other) (h .head-stop .ensures) (said-yes (i .before .goes-on .ensures) (i .if1 .left)) (c .before .is-settings .ensures) (c .if2 .taken))
+    found-asked _ _ _ _ (h .head-stop .ensures) (said-yes (i .before .goes-on .ensures) (i .if1 .left)) (c .before .is-settings .ensures) (c .if2 .taken))
     -- returns-3
     (λ c.
     let i = c .before .before in
     let h = i .before .before in
-    let a = h .before .args in
-    found-asked (a .kind) (a .found) (a .settings) (a .other) (h .head-stop .ensures) (said-yes (i .before .goes-on .ensures) (i .if1 .left)) (c .before .is-settings .ensures) (c .if2 .left)))
+    found-asked _ _ _ _ (h .head-stop .ensures) (said-yes (i .before .goes-on .ensures) (i .if1 .left)) (c .before .is-settings .ensures) (c .if2 .left)))
