@@ -31,8 +31,8 @@ use Rattle.encoding.proofs.NumbersAreTables.{flag-of-bit}
 pub slices-fit : {S : Settings} {longs words marks : List ℕ} → SoundSlices S (lent longs words marks) → Sized S longs words marks
 slices-fit s = stands-fit (s .are .range) (is-stands (s .are))
 
-pub entries-fit : {S : Settings} {longs words marks : List ℕ} {at : Layout} → LaysOut S at → SoundSlices S (lent longs words marks) → {n : ℕ} → First marks (at .counts) (S .misses) 0 n
-    → (at .misses + n ≤ length longs) × (at .sent + n ≤ length marks) × (at .counts + n ≤ length marks)
+pub entries-fit : {S : Settings} {longs words marks : List ℕ} {at : Layout} → LaysOut S at → SoundSlices S (lent longs words marks)
+    → {n : ℕ} → First marks (at .counts) (S .misses) 0 n → (at .misses + n ≤ length longs) × (at .sent + n ≤ length marks) × (at .counts + n ≤ length marks)
 entries-fit p s u = let z = slices-fit s in let m = u .most in (omega arith, omega arith, omega arith)
 
 -- ---- the first that passes

@@ -17,7 +17,11 @@ busy-reason-spec =
     let used = c .before .before in
     let a = used .before .before .before .before in
     (entries-fit (a .pre .0) (a .pre .1) (used .used .ensures) .0, slices-fit (a .pre .1) .power))
-    (λ c κs. let used = c .before .before .before in let a = used .before .before .before .before in entries-fit (a .pre .0) (a .pre .1) (used .used .ensures))  -- entry-reason-requires
+    -- entry-reason-requires
+    (λ c κs.
+    let used = c .before .before .before in
+    let a = used .before .before .before .before in
+    entries-fit (a .pre .0) (a .pre .1) (used .used .ensures))
     -- returns
     (λ c.
     let found = c .before in
