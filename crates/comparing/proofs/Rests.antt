@@ -157,7 +157,10 @@ module _ (begun : Bool) {s a : List ℕ} {whole : Bool} (f : Front s a whole) wh
   unfolding ahead
   ahead-shown =
       by-flag AheadShown (eqb (length a) 0) _ _
-      (λ z. by-flag AheadShown whole _ _ (λ e. (rw (eq-eqb (length s) 0 (omega (arith, long, none-behind e, eqb-true (length a) 0 z))), omega arith)) (λ e. (e, nothing-whole (eqb-true (length a) 0 z))))
+      (λ z.
+      by-flag AheadShown whole _ _
+      (λ e. (rw (eq-eqb (length s) 0 (omega (arith, long, none-behind e, eqb-true (length a) 0 z))), omega arith))
+      (λ e. (e, nothing-whole (eqb-true (length a) 0 z))))
       (λ z.
       let h = eqb-false (length a) 0 z in
       by-flag AheadShown (begun && startsGroup (getD a 0 0)) _ _

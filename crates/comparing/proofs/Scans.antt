@@ -75,7 +75,8 @@ checked-empty [] p q e = rw (sym p ∙ q)
 checked-empty (k ∷ s) p q e = absurd (omega arith)
 
 -- where the first record starts a group, and where it does not
-pub checked-first : (b : Bool) (s : List ℕ) {f : Fault} → f ≡ scanned s → f ≡ fault.None → (length s ≡ 0 → ⊥) → {t : Bool} → t ≡ startsGroup (getD s 0 0) → t ≡ b → pick b fault.None (fault.At 17 0) ≡ checked s
+pub checked-first : (b : Bool) (s : List ℕ) {f : Fault} → f ≡ scanned s → f ≡ fault.None → (length s ≡ 0 → ⊥) → {t : Bool} → t ≡ startsGroup (getD s 0 0) → t ≡ b
+    → pick b fault.None (fault.At 17 0) ≡ checked s
 unfolding checked
 checked-first b [] p q h e g = absurd (h refl)
 checked-first b (k ∷ s) p q h e g = rw (sym p ∙ q, sym e ∙ g)
