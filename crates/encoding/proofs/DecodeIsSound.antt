@@ -26,7 +26,7 @@ use Rattle.words.proofs.Tabled.{length-table, getD-table}
 use Rattle.encoding.proofs.InUse.{FirstUsed, first-used}
 use Rattle.encoding.proofs.LentSoundFacts.{tag, status, mask, readable, miss, sent, ticketCount, ticket, kind, queueMask, Live, UsedFirst, SoundIs, tree}
 use Rattle.encoding.proofs.Standing.{field, field-in, field-out, ByNumber}
-use Rattle.encoding.proofs.NumbersAreTables.{entry, place, Shape, tag-is, cycle-is, lent-taken-is, lent-tree-is, status-is, mask-is, readable-is, dirty-counts, miss-is, lent-sent-is, entry-in, in-entry, kind-in, queued-in, queue-mask-is, reads-are, live-is, lives, live-i}
+use Rattle.encoding.proofs.NumbersAreTables.{entry, place, Shape, tag-is, cycle-is, lent-taken-is, lent-tree-is, status-is, mask-is, readable-is, dirty-counts, miss-is, lent-sent-is, entry-in, in-entry, kind-in, queued-in, queue-mask-is, reads-are, live-is}
 use Rattle.encoding.proofs.SoundByPlace.{LineOk, OnlyTag, Agrees, EntryOk, QueuedOk, Soundly, bit-clear}
 
 module _ (S : Settings) (L : Lent) (is : SoundIs S L) where
@@ -56,7 +56,7 @@ module _ (S : Settings) (L : Lent) (t : Tables) (st : ByNumber S L t) (sh : Shap
   alone : (l : ℕ) → l < linesOf S → OnlyTag S t l
   alone l h v m k u e =
       let b = in-lines m k in
-      one-line S L is m l b h (live-i S L t st sh m b u) (live-i S L t st sh l h v) (tag-is S L t st sh m b ∙ e ∙ sym (tag-is S L t st sh l h))
+      one-line S L is m l b h (live-is S L t st sh m b ∙ u) (live-is S L t st sh l h ∙ v) (tag-is S L t st sh m b ∙ e ∙ sym (tag-is S L t st sh l h))
 
   -- a sector of a line that lives is RESERVED exactly if an entry has its address
   agrees : (l : ℕ) → l < linesOf S → Agrees S t l
@@ -73,10 +73,10 @@ module _ (S : Settings) (L : Lent) (t : Tables) (st : ByNumber S L t) (sh : Shap
             let b : e < S .misses = omega (arith, sh .few) in
             let a : miss S L e ≡ tag S L l + 32 * k = miss-is S L t st sh e b ∙ q ∙ ap (λ (n : ℕ). n + 32 * k) (sym t-is) in
             let (n, c, w) = is .entries e b .backed (in-entry S L t st sh e i) in
-            let even : tag S L l % 128 ≡ 0 = is .lines l h .facts .block (live-i S L t st sh l h v) .even in
+            let even : tag S L l % 128 ≡ 0 = is .lines l h .facts .block (live-is S L t st sh l h ∙ v) .even in
             let same : tag S L n ≡ tag S L l = w .has ∙ omega arith in
             let k-is : sectorIndex (miss S L e) ≡ k = omega arith in
-            let n-is : n ≡ l = one-line S L is n l c h (w .lives) (live-i S L t st sh l h v) same in
+            let n-is : n ≡ l = one-line S L is n l c h (w .lives) (live-is S L t st sh l h ∙ v) same in
             let waits : status S L (4 * l + k) ≡ 1 = rw (n-is, k-is) at (w .waits) in
             sym x ∙ waits,
       )
@@ -96,7 +96,7 @@ module _ (S : Settings) (L : Lent) (t : Tables) (st : ByNumber S L t) (sh : Shap
       record {
         even = rw a at (f .even u);
         low = rw a at (below (miss S L e) (tag S L l) low even has);
-        home = (l, omega (arith, sh .size), (lives S L t st sh l h (w .lives), sym (tag-is S L t st sh l h) ∙ rw a at has));
+        home = (l, omega (arith, sh .size), (sym (live-is S L t st sh l h) ∙ (w .lives), sym (tag-is S L t st sh l h) ∙ rw a at has));
         alone = λ d k q.
             let c : d < S .misses = omega (arith, sh .few) in
             let v = in-entry S L t st sh d k in

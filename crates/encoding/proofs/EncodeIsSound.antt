@@ -18,7 +18,7 @@ use Rattle.words.proofs.Below.{some-i, lt-or-ge}
 use Rattle.model.proofs.Answers.{by-kind, status-below}
 use Rattle.encoding.proofs.LentSoundFacts.{tag, status, readable, miss, sent, ticketCount, ticket, queued, kind, Used, LentLineIs, SectorIs, Reserves, LentEntryIs, Unsent, PlaceIs, SoundIs}
 use Rattle.encoding.proofs.Standing.{ByNumber}
-use Rattle.encoding.proofs.NumbersAreTables.{line, sector, entry, place, maskIn, Shape, tag-is, cycle-is, lent-taken-is, lent-tree-is, status-is, mask-is, readable-is, live-is, dirty-counts, miss-is, lent-sent-is, count-is, ticket-is, count-out, entry-in, in-entry, kind-in, kind-out, queued-in, queued-out, queue-mask-is, place-in, in-place, reads-are, lives, live-i}
+use Rattle.encoding.proofs.NumbersAreTables.{line, sector, entry, place, maskIn, Shape, tag-is, cycle-is, lent-taken-is, lent-tree-is, status-is, mask-is, readable-is, live-is, dirty-counts, miss-is, lent-sent-is, count-is, ticket-is, count-out, entry-in, in-entry, kind-in, kind-out, queued-in, queued-out, queue-mask-is, place-in, in-place, reads-are}
 use Rattle.encoding.proofs.SoundByPlace.{Soundly, soundly-shape, bit-clear}
 
 bit-low : (r : Bool) → bit r ≤ 1
@@ -38,7 +38,7 @@ module _ (S : Settings) (L : Lent) (t : Tables) (st : ByNumber S L t) (so : Soun
         facts = rw (live-is S L t st sh l h, a, cycle-is S L t st sh l h, lent-taken-is S L t st sh l h, st .time) (so .lines l h .facts);
         alone = λ v m j r w e.
             let b : m < linesOf S = omega arith in
-            let q : m ≡ l = so .alone l h (lives S L t st sh l h v) m (omega arith) (lives S L t st sh m b w) (sym (tag-is S L t st sh m b) ∙ e ∙ a) in
+            let q : m ≡ l = so .alone l h (sym (live-is S L t st sh l h) ∙ v) m (omega arith) (sym (live-is S L t st sh m b) ∙ w) (sym (tag-is S L t st sh m b) ∙ e ∙ a) in
             omega arith;
       }
 
@@ -54,7 +54,7 @@ module _ (S : Settings) (L : Lent) (t : Tables) (st : ByNumber S L t) (so : Soun
         facts = rw (x, mask-is S L t st sh l k h j, r) (so .lines l h .sectors k j .0);
         backed = λ q.
             let v = some-i (λ k. not (eqb (status S L (4 * l + k)) 0)) 4 k j (rw q) in
-            let (e, i, w) = so .agrees l h (lives S L t st sh l h v) k j .0 (sym x ∙ q) in
+            let (e, i, w) = so .agrees l h (sym (live-is S L t st sh l h) ∙ v) k j .0 (sym x ∙ q) in
             let b : e < S .misses = omega (arith, so .few) in
             let y : (4 * l + k) / 4 ≡ l = omega arith in
             let z : (4 * l + k) % 4 ≡ k = omega arith in
@@ -78,7 +78,7 @@ module _ (S : Settings) (L : Lent) (t : Tables) (st : ByNumber S L t) (so : Soun
       let x : status S L (4 * l + sectorIndex (entry t e .address)) ≡ 1 =
       status-is S L t st sh l (sectorIndex (entry t e .address)) n j ∙ so .agrees l n v (sectorIndex (entry t e .address)) j .1 (e, i, a) in
       let m = miss-is S L t st sh e h in
-      (l, n, record { lives = live-i S L t st sh l n v; has = rw m (tag-is S L t st sh l n ∙ at); waits = rw m x })
+      (l, n, record { lives = live-is S L t st sh l n ∙ v; has = rw m (tag-is S L t st sh l n ∙ at); waits = rw m x })
 
   entry-is : (e : ℕ) → e < S .misses → LentEntryIs S L e
   entry-is e h =
