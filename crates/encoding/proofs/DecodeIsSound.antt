@@ -9,7 +9,6 @@ use native.Mathlib.Omega.{arith}
 use lib.Dec.{eqb}
 use lib.ListN.{length, getD, List·getD-eq-default}
 use lib.Arith.{digits-div}
-use borrow.Author.Tests.{eqb-true, eq-eqb}
 use Rattle.model.specs.declared.Settings.{Settings}
 use Rattle.model.specs.declared.Sector.{Sector}
 use Rattle.words.specs.Words.{table}
@@ -17,18 +16,17 @@ use Rattle.model.specs.Numbers.{statusNumber, statusOf, queueKindNumber, queueK
 use Rattle.model.specs.Range.{linesOf, isTree}
 use Rattle.model.specs.Tree.{treeFine}
 use Rattle.model.specs.Address.{blockOf, sectorIndex, setIndex}
-use Rattle.model.specs.Tables.{Line, Entry, Tables, entryFor, idle, fresh, noEntry}
+use Rattle.model.specs.Tables.{Line, Entry, Tables, idle, fresh, noEntry}
 use Rattle.model.specs.Layout.{wordsFrom, queueMaskRegion}
 use Rattle.model.specs.Lent.{Lent, bit, tagOf, cycleOf, masksOf, statusesOf, readablesOf, missOf, sentOf, ticketCountOf, ticketsIn, queuedOf, kindOf, queueMasksOf, inUse, sectorAt, sectorsAt, lineAt, entryAt, queueAt, tablesOf, takenOf, treeOf}
 pub use Rattle.model.specs.SoundLent.{Small}
-use Rattle.words.proofs.Flags.{iff}
-use Rattle.words.proofs.Below.{some-at, some-i, lt-or-ge, below-four, squeeze}
+use Rattle.words.proofs.Below.{lt-or-ge, below-four, squeeze}
 use Rattle.words.proofs.Places.{stride}
-use Rattle.words.proofs.Tabled.{any-get, length-table, getD-table}
+use Rattle.words.proofs.Tabled.{length-table, getD-table}
 use Rattle.encoding.proofs.InUse.{FirstUsed, first-used}
 use Rattle.encoding.proofs.LentSoundFacts.{tag, status, mask, readable, miss, sent, ticketCount, ticket, kind, queueMask, Live, UsedFirst, SoundIs, tree}
 use Rattle.encoding.proofs.Standing.{field, field-in, field-out, ByNumber}
-use Rattle.encoding.proofs.NumbersAreTables.{line, sector, entry, place, Shape, reserved-number, tag-is, cycle-is, lent-taken-is, lent-tree-is, status-is, mask-is, readable-is, dirty-counts, miss-is, lent-sent-is, entry-in, in-entry, kind-in, queued-in, queue-mask-is, reads-are, live-is, lives, live-i}
+use Rattle.encoding.proofs.NumbersAreTables.{entry, place, Shape, tag-is, cycle-is, lent-taken-is, lent-tree-is, status-is, mask-is, readable-is, dirty-counts, miss-is, lent-sent-is, entry-in, in-entry, kind-in, queued-in, queue-mask-is, reads-are, live-is}
 use Rattle.encoding.proofs.SoundByPlace.{LineOk, OnlyTag, Agrees, EntryOk, QueuedOk, Soundly, bit-clear}
 
 module _ (S : Settings) (L : Lent) (is : SoundIs S L) where
@@ -58,34 +56,30 @@ module _ (S : Settings) (L : Lent) (t : Tables) (st : ByNumber S L t) (sh : Shap
   alone : (l : ℕ) → l < linesOf S → OnlyTag S t l
   alone l h v m k u e =
       let b = in-lines m k in
-      one-line S L is m l b h (live-i S L t st sh m b u) (live-i S L t st sh l h v) (tag-is S L t st sh m b ∙ e ∙ sym (tag-is S L t st sh l h))
+      one-line S L is m l b h (live-is S L t st sh m b ∙ u) (live-is S L t st sh l h ∙ v) (tag-is S L t st sh m b ∙ e ∙ sym (tag-is S L t st sh l h))
 
   -- a sector of a line that lives is RESERVED exactly if an entry has its address
   agrees : (l : ℕ) → l < linesOf S → Agrees S t l
   agrees l h v k j =
       let x = status-is S L t st sh l k h j in
-      let t-is = tag-is S L t st sh l h in
-      iff
-      (λ r.
-      let q : status S L (4 * l + k) ≡ 1 = x ∙ eqb-true _ _ (reserved-number (sector t l k .status) ∙ r) in
-      let (e, b, (u, a)) = is .sectors (4 * l + k) (omega arith) .backed q in
-      let y : (4 * l + k) / 4 ≡ l = omega arith in
-      let z : (4 * l + k) % 4 ≡ k = omega arith in
-      let m : miss S L e ≡ tag S L l + 32 * k = rw (y, z) at a in
-      some-i (λ e. entryFor (line t l .tag + 32 * k) (entry t e)) (length (t .misses)) e (entry-in S L t st sh e b u)
-      (eq-eqb _ _ (sym (miss-is S L t st sh e b) ∙ m ∙ ap (λ (n : ℕ). n + 32 * k) t-is)))
-      (λ s.
-      let (e, i, q) = some-at (λ e. entryFor (line t l .tag + 32 * k) (entry t e)) (length (t .misses)) s in
-      let b : e < S .misses = omega (arith, sh .few) in
-      let a : miss S L e ≡ tag S L l + 32 * k = miss-is S L t st sh e b ∙ eqb-true _ _ q ∙ ap (λ (n : ℕ). n + 32 * k) (sym t-is) in
-      let (n, c, w) = is .entries e b .backed (in-entry S L t st sh e i) in
-      let even : tag S L l % 128 ≡ 0 = is .lines l h .facts .block (live-i S L t st sh l h v) .even in
-      let same : tag S L n ≡ tag S L l = w .has ∙ omega arith in
-      let k-is : sectorIndex (miss S L e) ≡ k = omega arith in
-      let n-is : n ≡ l = one-line S L is n l c h (w .lives) (live-i S L t st sh l h v) same in
-      let waits : status S L (4 * l + k) ≡ 1 = rw (n-is, k-is) at (w .waits) in
-      sym (reserved-number (sector t l k .status)) ∙ eq-eqb _ _ (sym x ∙ waits))
-      ∙ sym (any-get (entryFor (line t l .tag + 32 * k)) (t .misses) noEntry)
+      let t-is = tag-is S L t st sh l h in (
+        λ r.
+            let (e, b, (u, a)) = is .sectors (4 * l + k) (omega arith) .backed (x ∙ r) in
+            let y : (4 * l + k) / 4 ≡ l = omega arith in
+            let z : (4 * l + k) % 4 ≡ k = omega arith in
+            let m : miss S L e ≡ tag S L l + 32 * k = rw (y, z) at a in
+            (e, entry-in S L t st sh e b u, sym (miss-is S L t st sh e b) ∙ m ∙ ap (λ (n : ℕ). n + 32 * k) t-is),
+        λ (e, i, q).
+            let b : e < S .misses = omega (arith, sh .few) in
+            let a : miss S L e ≡ tag S L l + 32 * k = miss-is S L t st sh e b ∙ q ∙ ap (λ (n : ℕ). n + 32 * k) (sym t-is) in
+            let (n, c, w) = is .entries e b .backed (in-entry S L t st sh e i) in
+            let even : tag S L l % 128 ≡ 0 = is .lines l h .facts .block (live-is S L t st sh l h ∙ v) .even in
+            let same : tag S L n ≡ tag S L l = w .has ∙ omega arith in
+            let k-is : sectorIndex (miss S L e) ≡ k = omega arith in
+            let n-is : n ≡ l = one-line S L is n l c h (w .lives) (live-is S L t st sh l h ∙ v) same in
+            let waits : status S L (4 * l + k) ≡ 1 = rw (n-is, k-is) at (w .waits) in
+            sym x ∙ waits,
+      )
 
   -- ---- entries and the queue
 
@@ -102,7 +96,7 @@ module _ (S : Settings) (L : Lent) (t : Tables) (st : ByNumber S L t) (sh : Shap
       record {
         even = rw a at (f .even u);
         low = rw a at (below (miss S L e) (tag S L l) low even has);
-        home = (l, omega (arith, sh .size), (lives S L t st sh l h (w .lives), sym (tag-is S L t st sh l h) ∙ rw a at has));
+        home = (l, omega (arith, sh .size), (sym (live-is S L t st sh l h) ∙ (w .lives), sym (tag-is S L t st sh l h) ∙ rw a at has));
         alone = λ d k q.
             let c : d < S .misses = omega (arith, sh .few) in
             let v = in-entry S L t st sh d k in

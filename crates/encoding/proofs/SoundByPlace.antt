@@ -1,7 +1,7 @@
 -- What `sound` says of the tables, as facts on the records by their place: a record for a line, an entry and a queue place.
 -- `soundly-is`: `sound` is true exactly if they hold.
-use mathlib.Core.Path.{_≡_, refl, ap}
-use mathlib.Core.Logic.{_⊎_, inl, inr, ⊎-elim}
+use mathlib.Core.Path.{_≡_, refl, sym, ap, _∙_}
+use mathlib.Core.Logic.{_⊎_, _↔_, inl, inr, ⊎-elim}
 use mathlib.Core.Bool.{Bool, true, false, not, _&&_, _||_}
 use mathlib.Core.List.{List}
 use Prim.Native.Nat.{ℕ, _+_, _*_, _/_, _%_, _^_, _≤_, _<_}
@@ -15,18 +15,18 @@ use Rattle.model.specs.declared.QueueKind.the-variants as queue
 use Rattle.model.specs.declared.Queued.{Queued}
 use Rattle.model.specs.declared.Status.{Status}
 use Rattle.model.specs.declared.Status.the-variants.{Invalid, Reserved, Valid, Modified}
-use Rattle.words.specs.Words.{any, count}
+use Rattle.words.specs.Words.{same, count}
 use Rattle.model.specs.Range.{linesOf, isTree}
 use Rattle.model.specs.Tree.{treeFine}
 use Rattle.model.specs.Address.{blockOf, setIndex}
-use Rattle.model.specs.Tables.{Tables, isReserved, whollyInvalid, holds, entryFor, idle, empty, fresh, noEntry, dirtyLines}
+use Rattle.model.specs.Tables.{Tables, whollyInvalid, holds, entryFor, idle, empty, fresh, noEntry, dirtyLines}
 use Rattle.model.specs.Numbers.{statusNumber, queueKindNumber}
 use Rattle.model.specs.Lent.{bit}
 use Rattle.model.specs.Sound.{allOnes, lastCycle, maskOk, sectorOk, lineOk, alone, agrees, reservedOk, readingOf, unsentFor, entryOk, kindOk, queuedOk, sound}
-use Rattle.words.proofs.Flags.{not-no, not-yes, no-not, no-yes, clash, same-is, is-same}
-use Rattle.words.proofs.Reflect.{Decides, is-flag, is-eq, is-le, is-lt, is-not, _⊓_, is-every, is-as, is-all, is-any, is-one, is-pick, is-else}
+use Rattle.words.proofs.Flags.{not-no, not-yes, no-not, no-yes, iff, clash, same-is, is-same}
+use Rattle.words.proofs.Reflect.{Decides, is-flag, is-eq, is-le, is-lt, is-not, _⊓_, is-every, is-as, is-all, is-any, is-one, is-pick, is-else, is-test}
 use Rattle.encoding.proofs.LentSoundFacts.{Block, LineFacts, SectorFacts, good-block-is}
-use Rattle.encoding.proofs.NumbersAreTables.{line, sector, entry, place, maskIn, Shape}
+use Rattle.encoding.proofs.NumbersAreTables.{line, sector, entry, place, maskIn, Shape, reserved-number}
 
 -- ---- a sector, by its numbers
 
@@ -83,7 +83,8 @@ module _ (S : Settings) (t : Tables) where
 
   -- its sectors are RESERVED as the miss table says
   abbrev pub Agrees : ℕ → Type 0
-  Agrees l = Lives l → (k : ℕ) → k < 4 → isReserved (sector t l k .status) ≡ any (entryFor (line t l .tag + 32 * k)) (t .misses)
+  Agrees l = Lives l → (k : ℕ) → k < 4
+      → (statusNumber (sector t l k .status) ≡ 1) ↔ ((e : ℕ) × (e < length (t .misses)) × (entry t e .address ≡ line t l .tag + 32 * k))
 
   pub record EntryOk (e : ℕ) : Type 0 where
     pub even : entry t e .address % 32 ≡ 0
@@ -139,6 +140,12 @@ is-then : {a b : Bool} {P Q : Type 0} → Decides a P → (P → Decides b Q) �
 is-then {a = true} i j = is-as (j (i .fact refl)) (λ q. (i .fact refl, q)) (λ w. w .1)
 is-then {a = false} i j = record { fact = λ e. clash e refl; test = λ w. i .test (w .0) }
 
+is-iff : {a b : Bool} {P Q : Type 0} → Decides a P → Decides b Q → Decides (same a b) (P ↔ Q)
+is-iff {a} {b} i j = record {
+  fact = λ e. let q : a ≡ b = same-is a b e in (λ p. j .fact (sym q ∙ i .test p), λ p. i .fact (q ∙ j .test p));
+  test = λ f. is-same a b (iff (λ h. j .test (f .0 (i .fact h))) (λ h. i .test (f .1 (j .fact h))));
+}
+
 -- a test of a line that lives
 is-living : (a : Bool) {b : Bool} {Q : Type 0} → (not a ≡ true → Decides b Q) → Decides (a || b) (not a ≡ true → Q)
 is-living a i = is-as (is-else {a = a} (λ v. i (not-no v))) (λ f v. f (not-yes v)) (λ f v. f (not-no v))
@@ -174,7 +181,9 @@ module _ (S : Settings) (t : Tables) where
   agrees-is : (l : ℕ) → Decides (reservedOk (t .misses) (line t l)) (Agrees S t l)
   unfolding reservedOk
   agrees-is l =
-      is-living (whollyInvalid (line t l)) (λ v. is-every 4 (λ k. record { fact = λ e. same-is _ _ e; test = λ e. is-same _ _ e }))
+      is-living (whollyInvalid (line t l)) (λ v. is-every 4 (λ k.
+      is-iff (is-test (sym (reserved-number (sector t l k .status))) (is-eq (statusNumber (sector t l k .status)) 1))
+      (is-any (entryFor (line t l .tag + 32 * k)) (t .misses) noEntry (λ e. is-eq (entry t e .address) (line t l .tag + 32 * k)))))
 
   entry-ok-is : (e : ℕ) → e < length (t .misses) → Decides (entryOk S t (entry t e)) (EntryOk S t e)
   unfolding entryOk
