@@ -1,8 +1,9 @@
--- A slice and its regions: where each block stands in its region, and nothing behind the last, the slice is the blocks joined.
+-- A slice and its regions: a slice is its blocks joined exactly if each block stands in its region and nothing behind the last.
 use mathlib.Core.Path.{_≡_, refl, sym, ap, _∙_}
 use mathlib.Core.List.{List, [], _∷_, _++_, map}
-use Prim.Native.Nat.{ℕ, zero, suc, _+_, _≤_}
+use Prim.Native.Nat.{ℕ, zero, suc, _+_, _≤_, _<_}
 use native.Mathlib.Nat.{add-zero, zero-add, add-assoc, one-mul}
+use native.Mathlib.Omega.{arith}
 use lib.ListN.{length, take, drop, getD, take-append-drop}
 use lib.Seq.{drop-drop, drop-length}
 use Rattle.model.specs.declared.Settings.{Settings}
@@ -12,7 +13,7 @@ use Rattle.model.specs.Tables.{Tables}
 use Rattle.model.specs.Layout.{longSizes, wordSizes, markSizes, offsetFrom, offsetOf}
 use Rattle.model.specs.Lent.{longBlocks, wordBlocks, markBlocks}
 use Rattle.words.proofs.Region.{length-region, getD-region}
-use Rattle.words.proofs.Places.{length-places}
+use Rattle.words.proofs.Places.{length-places, region-whole, block-region}
 use Rattle.words.proofs.Tabled.{list-table, table-same}
 
 -- ---- the blocks have the layout's sizes, and begin where it says
@@ -78,3 +79,8 @@ pub regions-joined : (l ns : List ℕ) (bs : List (List ℕ)) → AllStand l ns 
 regions-joined l [] bs e = from-joined l 0 [] bs e
 regions-joined l (n ∷ ns) [] e = absurd e
 regions-joined l (n ∷ ns) (b ∷ bs) e = from-joined l 0 (n ∷ ns) (b ∷ bs) (e .0, rw zero-add (e .1))
+
+pub joined-region : (l : List ℕ) (bs : List (List ℕ)) (j : ℕ) → l ≡ joined bs → j < length bs
+    → region l (offsetOf (map length bs) j) (length (getD bs j [])) ≡ getD bs j []
+joined-region l bs j e h =
+    block-region bs j 0 {i = offsetOf (map length bs) j} e (sym (ahead-offset bs j) ∙ sym (add-zero (offsetIn bs j))) h (length (getD bs j [])) (omega arith) ∙ region-whole (getD bs j []) (length (getD bs j [])) refl
