@@ -26,11 +26,11 @@ use Rattle.layout.specs.Layout.{LaysOut}
 use Rattle.tables.specs.Telling.{telling}
 use Rattle.probe.specs.declared.Decision.{Decision}
 use Rattle.access.specs.Plan.{Met, Acts, missPlan}
-use Rattle.access.specs.Written.{sectorsFor, sectorsAfter, queuesOf, tellingOf, lineLeft, lineTaken, treesWritten, setTurned}
+use Rattle.access.specs.Written.{sectorsFor, sectorsAfter, queuesOf, tellingOf, lineLeft, treesWritten}
 use Rattle.access.specs.declared.plan.MissPlan.the-variants.{Stays}
 use Rattle.access.proofs.PlanTests.{plan-write, plan-hit}
 use Rattle.access.proofs.Lines.{no-back}
-use Rattle.access.proofs.Kept.{touched}
+use Rattle.access.proofs.Changes.{touched}
 use Rattle.access.proofs.Telling.{acted}
 use Rattle.access.proofs.Offering.{offered-acts}
 
@@ -58,19 +58,14 @@ module _ (S : Settings) {longs words marks : List ℕ} (x : Access) (d : Decisio
   tells : telling (Answered (d .answer) (d .line)) ≡ tellingOf x d
   tells = rw (alone, quiet)
 
-  -- no line is taken over
-  not-taken : {L : Lent} → L ≡ lineThere S longs words marks x d place → L ≡ lineTaken place (d .answer) (d .line) (lineThere S longs words marks x d place)
-  not-taken {L} e = let same : L ≡ lineTaken place (d .answer) (d .line) L = rw stays in same ∙ ap (lineTaken place (d .answer) (d .line)) e
-
   alone-offered : {r : Reply} {words′ words″ marks′ : List ℕ} → Stays ≡ missPlan S x p t → r ≡ telling (Answered (d .answer) (d .line))
       → lent longs words′ marks′ ≡ lineThere S longs words marks x d place → words″ ≡ treesWritten S place (setIndex S (addressOf x)) (d .way) words′
       → Leaves (encoded S (proceed S x t (at p))) (lent longs words marks) r (lent longs words″ marks′)
-  alone-offered {words″ = words″} {marks′ = marks′} planned e line w =
+  alone-offered {words′ = words′} {words″ = words″} {marks′ = marks′} planned e line w =
       let M : Lent = lent longs words″ marks′ in
       let acts : Acts S (lent longs words marks) x d (length (t .queue)) Stays t p = record { met = m; counted = refl; planned = planned; accepted = refl } in
       offered-acts S x d t p m planned refl
-      (acted S x d (length (t .queue)) Stays t p acts pl M M M
-      (ap (λ (ws : List ℕ). lent longs ws marks′) w ∙ ap (setTurned S place (setIndex S (addressOf x)) (d .way)) (not-taken line)) refl (e ∙ tells) (rw none))
+      (acted S x d (length (t .queue)) Stays t p acts pl (lent longs words′ marks′) M M line (rw stays w) refl (e ∙ tells) (rw none))
 
   -- a write
   pub change-offered : {r : Reply} {words′ words″ marks′ : List ℕ} → isRead x ≡ false → r ≡ telling (Answered (d .answer) (d .line))

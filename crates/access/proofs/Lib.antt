@@ -3,11 +3,8 @@ pub mod Sectors
 pub mod Plans
 pub mod PlanTests
 pub mod Lines
-pub mod Recounts
-pub mod Inverted
 pub mod Acting
 pub mod Changes
-pub mod Kept
 pub mod Telling
 pub mod Offering
 pub mod Hits

@@ -1,8 +1,10 @@
 -- An access by its parts: the place decides between a refusal and an offer, the plan between a refusal and the act.
 use mathlib.Core.Path.{_≡_, refl, sym, ap, _∙_}
-use mathlib.Core.Bool.{true, false, true≢false, false≢true}
+use mathlib.Core.Bool.{true, false}
 use mathlib.Core.List.{List}
 use Prim.Native.Nat.{ℕ}
+use Rattle.words.specs.Words.{pick}
+use Rattle.words.proofs.Flags.{clash}
 use Rattle.model.specs.Address.{addressOf, wellFormed}
 use Rattle.model.specs.Tables.{Line, Tables, refused}
 use Rattle.model.specs.Lent.{Lent, lent}
@@ -12,6 +14,7 @@ use Rattle.model.specs.Steps.{access, proceed, accept}
 use Rattle.model.specs.Calls.{Leaves, encoded}
 use Rattle.model.specs.declared.Settings.{Settings}
 use Rattle.model.specs.declared.Access.{Access}
+use Rattle.model.specs.declared.Refusal.{Refusal}
 use Rattle.model.specs.declared.Refusal.the-variants.{BadAccess}
 use Rattle.model.specs.declared.Event.the-variants as event
 use Rattle.model.specs.declared.Reply.{Reply}
@@ -31,32 +34,27 @@ use Rattle.probe.proofs.OfTables.{decided-probe}
 use Rattle.access.specs.Plan.{Met, Meets, Planned, Acts, MayAct, Acted, Offered, missPlan, following, isAccepted, refusalOf, isSpot, refusalMet}
 use Rattle.access.specs.declared.plan.MissPlan.{MissPlan}
 use Rattle.access.specs.declared.plan.MissPlan.the-variants.{Refused, Stays, Joins, Starts}
-use Rattle.access.proofs.Plans.{plan-is, queue-counted}
+use Rattle.tables.proofs.Queue.{queue-counted}
+use Rattle.access.proofs.Plans.{plan-is}
 use Rattle.access.proofs.PlanTests.{shown}
 
 -- ---- the plan
 
-following-accepted : (S : Settings) (x : Access) (p : Spot) (t : Tables) (c : MissPlan) → isAccepted c ≡ true → following S x p t c ≡ accept S x p t
-following-accepted S x p t (Refused n) g = absurd (false≢true g)
-following-accepted S x p t Stays g = refl
-following-accepted S x p t (Joins e n) g = refl
-following-accepted S x p t (Starts e) g = refl
-
-following-stops : (S : Settings) (x : Access) (p : Spot) (t : Tables) (c : MissPlan) → isAccepted c ≡ false → following S x p t c ≡ refused (refusalOf c)
-following-stops S x p t (Refused n) g = refl
-following-stops S x p t Stays g = absurd (true≢false g)
-following-stops S x p t (Joins e n) g = absurd (true≢false g)
-following-stops S x p t (Starts e) g = absurd (true≢false g)
+following-is : (S : Settings) (x : Access) (p : Spot) (t : Tables) (c : MissPlan) → following S x p t c ≡ pick (isAccepted c) (accept S x p t) (refused (refusalOf c))
+following-is S x p t (Refused n) = refl
+following-is S x p t Stays = refl
+following-is S x p t (Joins e n) = refl
+following-is S x p t (Starts e) = refl
 
 module _ (S : Settings) {L : Lent} (x : Access) (d : Decision) (t : Tables) (p : Spot) (m : Met S L x d t p) {c : MissPlan} (planned : c ≡ missPlan S x p t) where
   proceeds : proceed S x t (at p) ≡ following S x p t c
   proceeds = plan-is S (m .is .range) t (parts S t (m .is .soundly)) x (m .formed) p (m .probed) ∙ ap (following S x p t) (sym planned)
 
   pub offered-acts : {r : Reply} {M : Lent} → isAccepted c ≡ true → Leaves (encoded S (accept S x p t)) L r M → Leaves (encoded S (proceed S x t (at p))) L r M
-  offered-acts g l = rw (proceeds, following-accepted S x p t c g) l
+  offered-acts g l = rw (proceeds, following-is S x p t c, g) l
 
-  pub offered-stops : {r : Reply} → isAccepted c ≡ false → r ≡ telling (event.Refused (refusalOf c)) → Leaves (encoded S (proceed S x t (at p))) L r L
-  offered-stops g e = rw (proceeds, following-stops S x p t c g, e) (refusal-leaves (refusalOf c) L)
+  pub offered-stops : {n : Refusal} {r : Reply} → isAccepted c ≡ false → n ≡ refusalOf c → r ≡ telling (event.Refused n) → Leaves (encoded S (proceed S x t (at p))) L r L
+  offered-stops {n} g f e = rw (proceeds, following-is S x p t c, g, ← f, e) (refusal-leaves n L)
 
 -- what an accepted plan asks of the act, and what the act then leaves; what a refusal leaves
 module _ (S : Settings) {longs words marks : List ℕ} {x : Access} {d : Decision} {n : ℕ} {c : MissPlan} {place : Layout} (pl : LaysOut S place)
@@ -70,8 +68,8 @@ module _ (S : Settings) {longs words marks : List ℕ} {x : Access} {d : Decisio
   pub offered-acted : isAccepted c ≡ true → {r : Reply} {M : Lent} → Acted S (lent longs words marks) x d n c r M → Offered S (lent longs words marks) x d r M
   offered-acted g a = record { on = λ t p m. offered-acts S x d t p m (plan .on t p m) g (a .on t p (acts g t p m)) }
 
-  pub offered-refused : isAccepted c ≡ false → {r : Reply} → r ≡ telling (event.Refused (refusalOf c)) → Offered S (lent longs words marks) x d r (lent longs words marks)
-  offered-refused g e = record { on = λ t p m. offered-stops S x d t p m (plan .on t p m) g e }
+  pub offered-refused : isAccepted c ≡ false → {n : Refusal} {r : Reply} → n ≡ refusalOf c → r ≡ telling (event.Refused n) → Offered S (lent longs words marks) x d r (lent longs words marks)
+  offered-refused g f e = record { on = λ t p m. offered-stops S x d t p m (plan .on t p m) g f e }
 
 -- ---- the place
 
@@ -83,17 +81,13 @@ accessing : (S : Settings) (x : Access) (t : Tables) → wellFormed x ≡ true �
 unfolding access
 accessing S x t f = rw f
 
-place-stops : (k : Meeting) (ways : List Line) (a : ℕ) (d : Decision) → isSpot k ≡ false → placeFor k ways a d ≡ no (refusalMet k)
-place-stops meeting.Met ways a d e = absurd (true≢false e)
-place-stops meeting.Taken ways a d e = absurd (true≢false e)
-place-stops meeting.Busy ways a d e = refl
-place-stops meeting.Held ways a d e = refl
-
-place-spot : (k : Meeting) (ways : List Line) (a : ℕ) (d : Decision) → isSpot k ≡ true → (p : Spot) × (placeFor k ways a d ≡ at p)
-place-spot meeting.Met ways a d e = (_, refl)
-place-spot meeting.Taken ways a d e = (_, refl)
-place-spot meeting.Busy ways a d e = absurd (false≢true e)
-place-spot meeting.Held ways a d e = absurd (false≢true e)
+-- the place of a decision by its meeting: a spot, or a refusal
+placed : (k : Meeting) (ways : List Line) (a : ℕ) (d : Decision)
+    → (isSpot k ≡ true → (p : Spot) × (placeFor k ways a d ≡ at p)) × (isSpot k ≡ false → placeFor k ways a d ≡ no (refusalMet k))
+placed meeting.Met ways a d = (λ e. (_, refl), λ e. clash refl e)
+placed meeting.Taken ways a d = (λ e. (_, refl), λ e. clash refl e)
+placed meeting.Busy ways a d = (λ e. clash e refl, λ e. refl)
+placed meeting.Held ways a d = (λ e. clash e refl, λ e. refl)
 
 module _ (S : Settings) {longs words marks : List ℕ} (x : Access) (d : Decision) (decided : Decided S longs words marks x d) (formed : wellFormed x ≡ true)
     (t : Tables) (is : Encodes S (lent longs words marks) t) where
@@ -103,7 +97,7 @@ module _ (S : Settings) {longs words marks : List ℕ} (x : Access) (d : Decisio
   -- the spot, where there is one
   pub spot-met : isSpot (d .meeting) ≡ true → (p : Spot) × Met S (lent longs words marks) x d t p
   spot-met e =
-      let (p, q) = place-spot (d .meeting) (waysOf S (t .lines) (addressOf x)) (addressOf x) d e in
+      let (p, q) = placed (d .meeting) (waysOf S (t .lines) (addressOf x)) (addressOf x) d .0 e in
       let way = shown (d .meeting) (waysOf S (t .lines) (addressOf x)) (addressOf x) d p refl q .way in (
         p,
         record {
@@ -122,8 +116,8 @@ module _ (S : Settings) {longs words marks : List ℕ} (x : Access) (d : Decisio
       let (p, m) = spot-met e in
       rw (accessing S x t formed, m .probed) (o .on t p m)
 
-  pub access-stops : {r : Reply} → isSpot (d .meeting) ≡ false → r ≡ telling (event.Refused (refusalMet (d .meeting)))
+  pub access-stops : {n : Refusal} {r : Reply} → isSpot (d .meeting) ≡ false → n ≡ refusalMet (d .meeting) → r ≡ telling (event.Refused n)
       → Leaves (encoded S (access S x t)) (lent longs words marks) r (lent longs words marks)
   unfolding proceed
-  access-stops e q =
-      rw (accessing S x t formed, ← place-is, place-stops (d .meeting) (waysOf S (t .lines) (addressOf x)) (addressOf x) d e, q) (refusal-leaves (refusalMet (d .meeting)) (lent longs words marks))
+  access-stops {n} e f q =
+      rw (accessing S x t formed, ← place-is, placed (d .meeting) (waysOf S (t .lines) (addressOf x)) (addressOf x) d .1 e, ← f, q) (refusal-leaves n (lent longs words marks))

@@ -4,7 +4,7 @@ use mathlib.Core.Logic.{⊎-elim}
 use mathlib.Core.Bool.{Bool, true, false, true≢false, false≢true}
 use mathlib.Core.List.{List, [], _∷_}
 use Prim.Native.Nat.{ℕ, zero, suc, _+_, _*_}
-use lib.ListN.{getD, set, replicate}
+use lib.ListN.{getD, set, replicate, getD-replicate}
 use Rattle.words.specs.Words.{pick}
 use Rattle.model.specs.Address.{addressOf, isRead, maskOf, sectorIndex}
 use Rattle.model.specs.Tables.{isInvalid, isModified, empty}
@@ -16,9 +16,10 @@ use Rattle.model.specs.declared.Access.the-variants.{Read, Write}
 use Rattle.model.specs.declared.Answer.{Answer}
 use Rattle.model.specs.declared.Sector.{Sector}
 use Rattle.model.specs.declared.Status.{Status}
-use Rattle.model.specs.declared.Status.the-variants.{Invalid, Reserved, Valid, Modified}
-use Rattle.words.proofs.Flags.{flag}
+use Rattle.model.specs.declared.Status.the-variants.{Invalid, Reserved}
+use Rattle.words.proofs.Flags.{flag, clash}
 use Rattle.words.proofs.Lists.{in-any, in-set-same}
+use Rattle.model.proofs.Answers.{by-status}
 use Rattle.model.proofs.SoundFacts.{sector-below}
 use Rattle.layout.specs.declared.Layout.{Layout}
 use Rattle.layout.specs.Sectors.{someModified}
@@ -26,7 +27,7 @@ use Rattle.layout.proofs.OneOfFour.{sector-of-four}
 use Rattle.tables.specs.Raw.{dirtyAt}
 use Rattle.tables.specs.Changed.{Changed}
 use Rattle.tables.proofs.Changing.{changed-as}
-use Rattle.probe.proofs.Statuses.{dirty-bytes}
+use Rattle.tables.proofs.Statuses.{dirty-bytes}
 use Rattle.probe.specs.declared.Decision.{Decision}
 use Rattle.access.specs.Written.{sectorsAfter, SectorLeft}
 
@@ -40,16 +41,9 @@ sector-written (Read a m k) n s e = absurd (true≢false e)
 sector-written (Write a m k) n s e = refl
 
 -- the sectors of a line that was just taken over
-four-empty : (k : ℕ) → getD (replicate 4 empty) k empty ≡ empty
-four-empty zero = refl
-four-empty (suc zero) = refl
-four-empty (suc (suc zero)) = refl
-four-empty (suc (suc (suc zero))) = refl
-four-empty (suc (suc (suc (suc k)))) = refl
-
 pub taken-left : (x : Access) (d : Decision) {own : Sector} {four : List Sector} → own ≡ onSector x (d .answer) empty → four ≡ set (replicate 4 empty) (sectorIndex (addressOf x)) own
     → four ≡ sectorsAfter x d (replicate 4 empty)
-taken-left x d e f = f ∙ rw (e, four-empty (sectorIndex (addressOf x)))
+taken-left x d e f = f ∙ rw (e, getD-replicate 4 (sectorIndex (addressOf x)) empty empty (sector-below (addressOf x)))
 
 -- ---- whether a line of which one sector changes is dirty
 
@@ -60,10 +54,7 @@ dirt-stays (s ∷ four) zero y e = rw e
 dirt-stays (s ∷ four) (suc k) y e = rw (dirt-stays four k y e)
 
 only-invalid : (s : Status) → isInvalid s ≡ true → s ≡ Invalid
-only-invalid Invalid e = refl
-only-invalid Reserved e = absurd (false≢true e)
-only-invalid Valid e = absurd (false≢true e)
-only-invalid Modified e = absurd (false≢true e)
+only-invalid = by-status (λ s. isInvalid s ≡ true → s ≡ Invalid) (λ e. refl) (λ e. clash e refl) (λ e. clash e refl) (λ e. clash e refl)
 
 -- an INVALID sector by a read, and one by a write: with its status kept, and else MODIFIED
 fetched-clean : (x : Access) (n : Answer) (s : Sector) → isRead x ≡ true → isInvalid (s .status) ≡ true → isModified (onSector x n s .status) ≡ isModified (s .status)
@@ -76,37 +67,35 @@ merged-status x n s writes e = rw (← sector-written x n s writes, e)
 written-modified : (x : Access) (n : Answer) (s : Sector) → isRead x ≡ false → isMerge n ≡ false → isModified (onSector x n s .status) ≡ true
 written-modified x n s writes e = rw (← sector-written x n s writes, e)
 
-module _ (S : Settings) (words marks : List ℕ) (x : Access) (n : Answer) (l : ℕ) where
+-- y is what the access makes of its own sector o of line l
+module _ (S : Settings) (words marks : List ℕ) (x : Access) (n : Answer) (l : ℕ) {o y : Sector} (own : o ≡ sectorAt S words marks (4 * l + sectorIndex (addressOf x))) (made : y ≡ onSector x n o) where
   abbrev k : ℕ
   k = sectorIndex (addressOf x)
 
-  abbrev own : Sector
-  own = sectorAt S words marks (4 * l + k)
-
-  abbrev isLeft : Bool
-  isLeft = someModified (set (sectorsAt S words marks l) k (onSector x n own))
+  abbrev four : List Sector
+  four = sectorsAt S words marks l
 
   -- read off the bytes of the line: it is as dirty as it was
-  stays-so : isModified (onSector x n own .status) ≡ isModified (own .status) → dirtyAt marks l ≡ isLeft
+  stays-so : isModified (onSector x n o .status) ≡ isModified (o .status) → dirtyAt marks l ≡ someModified (set four k y)
   stays-so e =
       sym (dirty-bytes S [] words marks l)
-      ∙ sym (dirt-stays (sectorsAt S words marks l) k (onSector x n own) (e ∙ ap (λ (s : Sector). isModified (s .status)) (sym (sector-of-four S words marks l k empty (sector-below (addressOf x))))))
+      ∙ sym (dirt-stays four k y (ap (λ (s : Sector). isModified (s .status)) made ∙ e ∙ ap (λ (s : Sector). isModified (s .status)) (own ∙ sym (sector-of-four S words marks l k empty (sector-below (addressOf x))))))
 
-  pub fetched-stays : isRead x ≡ true → isInvalid (own .status) ≡ true → dirtyAt marks l ≡ isLeft
-  fetched-stays reads e = stays-so (fetched-clean x n own reads e)
+  pub fetched-stays : isRead x ≡ true → isInvalid (o .status) ≡ true → dirtyAt marks l ≡ someModified (set four k y)
+  fetched-stays reads e = stays-so (fetched-clean x n o reads e)
 
-  pub merged-stays : isRead x ≡ false → isMerge n ≡ true → dirtyAt marks l ≡ isLeft
-  merged-stays writes e = stays-so (ap isModified (merged-status x n own writes e))
+  pub merged-stays : isRead x ≡ false → isMerge n ≡ true → dirtyAt marks l ≡ someModified (set four k y)
+  merged-stays writes e = stays-so (ap isModified (merged-status x n o writes e))
 
-  pub written-dirty : isRead x ≡ false → isMerge n ≡ false → true ≡ isLeft
+  pub written-dirty : isRead x ≡ false → isMerge n ≡ false → true ≡ someModified (set four k y)
   written-dirty writes e =
-      let four : List Sector = sectorsAt S words marks l in
-      sym (in-any (λ (s : Sector). isModified (s .status)) (set four k (onSector x n own)) (in-set-same four k (onSector x n own) (sector-below (addressOf x))) (written-modified x n own writes e))
+      sym (in-any (λ (s : Sector). isModified (s .status)) (set four k y) (in-set-same four k y (sector-below (addressOf x)))
+      (ap (λ (s : Sector). isModified (s .status)) made ∙ written-modified x n o writes e))
 
--- what `change` promises of the sector and the count that the code knows
-pub sector-left : (S : Settings) (at : Layout) (x : Access) (n : Answer) (l : ℕ) {j : ℕ} {y : Sector} (is : Bool) (words marks : List ℕ) {words′ marks′ : List ℕ}
-    → j ≡ sectorIndex (addressOf x) → y ≡ onSector x n (sectorAt S words marks (4 * l + sectorIndex (addressOf x))) → is ≡ isLeft S words marks x n l
-    → Changed S at l j y is words marks words′ marks′ → SectorLeft S at x n l words marks words′ marks′
-sector-left S at x n l is words marks {words′} {marks′} e f g c =
-    subst (λ (b : Bool). Changed S at l (sectorIndex (addressOf x)) (onSector x n (sectorAt S words marks (4 * l + sectorIndex (addressOf x)))) b words marks words′ marks′) g
-    (changed-as S at l is words marks e f c)
+  -- what `change` promises of the sector and the count that the code knows
+  pub sector-left : (at : Layout) {j a : ℕ} {is : Bool} {words′ marks′ : List ℕ} → a ≡ addressOf x → j ≡ sectorIndex a → is ≡ someModified (set four k y)
+      → Changed S at l j y is words marks words′ marks′ → SectorLeft S at x n l words marks words′ marks′
+  sector-left at {j} {a} {is} {words′} {marks′} e f g c =
+      let z : y ≡ onSector x n (sectorAt S words marks (4 * l + k)) = made ∙ ap (onSector x n) own in
+      subst (λ (b : Bool). Changed S at l k (onSector x n (sectorAt S words marks (4 * l + k))) b words marks words′ marks′) (g ∙ ap (λ (v : Sector). someModified (set four k v)) z)
+      (changed-as S at l is words marks (f ∙ ap sectorIndex e) z c)

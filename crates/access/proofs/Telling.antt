@@ -27,11 +27,11 @@ use Rattle.layout.specs.Layout.{LaysOut}
 use Rattle.layout.proofs.ByBlocks.{stands-encode}
 use Rattle.probe.specs.declared.Decision.{Decision}
 use Rattle.access.specs.Plan.{Met, Acts, isAccepted, ticketOf}
-use Rattle.access.specs.Written.{sectorsFor, sectorsAfter, missesWritten, queueWritten, queuesOf, tellingOf, MissRoom, QueueRoom, lineLeft, lineTaken, setTurned}
+use Rattle.access.specs.Written.{sectorsFor, sectorsAfter, missesWritten, queueWritten, queuesOf, tellingOf, MissRoom, QueueRoom, lineLeft, takenWritten, treesWritten, Alone}
 use Rattle.access.specs.declared.plan.MissPlan.{MissPlan}
 use Rattle.access.specs.declared.plan.MissPlan.the-variants.{Refused, Stays, Joins, Starts}
-use Rattle.access.proofs.PlanTests.{queues-count, queues-are, answer-is}
-use Rattle.access.proofs.Inverted.{Means, plan-means}
+use Rattle.access.proofs.PlanTests.{queues-count, queues-are, answer-is, Means, plan-means}
+use Rattle.access.proofs.Lines.{kept-stays, no-back}
 use Rattle.access.proofs.Acting.{newLine, treesNew, line-written, set-turned, misses-written, queue-written, join-inside, newCount}
 
 -- ---- its value
@@ -43,14 +43,12 @@ two-back (a ∷ []) h = refl
 two-back (a ∷ b ∷ []) h = refl
 two-back (a ∷ b ∷ c ∷ xs) h = absurd (omega arith)
 
+one-most : (b : Bool) → one b ≤ 1
+one-most true = omega arith
+one-most false = omega arith
+
 queues-few : (x : Access) (d : Decision) → length (queuesOf x d) ≤ 2
-queues-few x d = rw (queues-count x d) (few (isRead x && isMiss (d .answer)) (d .backs))
-  where
-    few : (b c : Bool) → one b + one c ≤ 2
-    few true true = omega arith
-    few true false = omega arith
-    few false true = omega arith
-    few false false = omega arith
+queues-few x d = rw (queues-count x d) (omega (arith, one-most (isRead x && isMiss (d .answer)), one-most (d .backs)))
 
 reply-events : (x : Access) (d : Decision) → eventsTold (tellingOf x d) ≡ Answered (d .answer) (d .line) ∷ map queuedEvent (queuesOf x d)
 unfolding eventsTold
@@ -119,20 +117,25 @@ module _ (S : Settings) {longs words marks : List ℕ} (x : Access) (d : Decisio
       let c = asked ∙ sym (queues-count x d) in
       (omega arith, omega arith, omega arith)
 
+  -- a read queues no write-back where it doesn't miss
+  pub alone-read : isRead x ≡ true → Alone x d
+  alone-read reads = record { reads = reads; alone = λ e. no-back S x d t p m (kept-stays (d .answer) e) }
+
   -- ---- what it leaves
 
-  pub acted : (L₁ L₂ L₃ : Lent) {r : Reply}
-      → L₁ ≡ setTurned S place (setIndex S (addressOf x)) (d .way)
-      (lineTaken place (d .answer) (d .line) (lineLeft place (lent longs words marks) (d .line) (blockOf (addressOf x)) (sectorsAfter x d (sectorsFor (d .meeting) (sectorsAt S words marks (d .line))))))
-      → L₂ ≡ missesWritten place (S .readers) c (addressOf x) (ticketOf x) L₁
+  pub acted : (L₀ : Lent) {words₁ : List ℕ} (L₂ L₃ : Lent) {r : Reply}
+      → L₀ ≡ lineLeft place (lent longs words marks) (d .line) (blockOf (addressOf x)) (sectorsAfter x d (sectorsFor (d .meeting) (sectorsAt S words marks (d .line))))
+      → words₁ ≡ treesWritten S place (setIndex S (addressOf x)) (d .way) (takenWritten place (d .answer) (d .line) (L₀ .words))
+      → L₂ ≡ missesWritten place (S .readers) c (addressOf x) (ticketOf x) (lent (L₀ .longs) words₁ (L₀ .marks))
       → r ≡ tellingOf x d
       → L₃ ≡ queueWritten place n (queuesOf x d) L₂
       → Leaves (encoded S (accept S x p t)) (lent longs words marks) r L₃
   unfolding accept
-  acted L₁ L₂ L₃ line misses tells queue =
-      let s₀ = line-written S x d t p m pl _ refl refl in
-      let s₁ = set-turned S x d t p m pl _ refl _ s₀ line in
-      let s₂ = misses-written S x d t p m pl (set (t .lines) (d .line) (newLine S x d t p m pl)) (newCount S x d t p m pl) (treesNew S x d t p m pl) L₁ L₂ s₁ c (a .planned) (a .accepted) misses in
+  acted L₀ {words₁} L₂ L₃ line set-words misses tells queue =
+      let L₁ : Lent = lent (L₀ .longs) words₁ (L₀ .marks) in
+      let s₀ = line-written S x d t p m pl L₀ line refl in
+      let s₁ = set-turned S x d t p m pl _ refl _ s₀ (ap (λ (ws : List ℕ). lent (L₀ .longs) ws (L₀ .marks)) set-words) in
+      let s₂ = misses-written S x d t p m pl (set (t .lines) (d .line) (newLine S x d t p m pl)) (newCount S x d t p m pl) (treesNew S x d t p m pl) L₁ L₂ s₁ c means (a .accepted) misses in
       let q : L₃ ≡ queueWritten place n (queues x p) L₂ = rw (← queues-are S x d t p m) at queue in
       let s₃ = queue-written S x d t p m pl (withMisses (onMisses x (p .answer) (t .misses)) (withTrees (treesNew S x d t p m pl) (withDirtyCount (newCount S x d t p m pl) (withLines (set (t .lines) (d .line) (newLine S x d t p m pl)) t)))) refl L₂ s₂ (λ some. a .counted) roomy q in
       record {

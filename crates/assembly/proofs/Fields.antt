@@ -1,6 +1,6 @@
 -- Numbers, fields and the end of a line, by the tests that the code makes.
 use mathlib.Core.Path.{_≡_, refl, sym, _∙_}
-use mathlib.Core.Bool.{Bool, true, false, _&&_}
+use mathlib.Core.Bool.{Bool, true, false, _&&_, false≢true}
 use mathlib.Core.List.{List}
 use Prim.Native.Nat.{ℕ, _≤_}
 use native.Mathlib.Omega.{arith}
@@ -9,7 +9,7 @@ use lib.Dec.{eqb, leb}
 use lib.ListN.{length}
 use Rattle.words.specs.Words.{pick}
 use Rattle.model.specs.declared.Command.{Command}
-use Rattle.words.proofs.Flags.{and-1}
+use Rattle.words.proofs.Flags.{and-1, by-flag, pick-both}
 use Rattle.text.specs.Words.{codes, skipSpaces, wordEnd, wordAt}
 use Rattle.text.specs.Digits.{parseNumber}
 use Rattle.text.specs.Rules.{ruleNames, ruleNamed}
@@ -37,14 +37,14 @@ module _ (most : ℕ) (s : List ℕ) (at : ℕ) where
   unfolding numberNext
   number-most {v} {next} e = by-number (parseNumber s (skipSpaces s at)) e
     where
-      by-flag : (m n : ℕ) (t : Bool) → (t ≡ true → m ≤ most) → pick t (Got m n) Missing ≡ Got v next → v ≤ most
-      by-flag m n true f q = let w : m ≡ v = cc in rw w at (f refl)
-      by-flag m n false f q = let z : _≡_ {A = ℕ} 0 1 = cc in omega arith
-
       by-number : (x : Parsed) → wholeNumber most s x ≡ Got v next → v ≤ most
-      by-number (parsed.Number m n) q = by-flag m n (leb m most && eqb (wordEnd s n) n) (λ t. leb-true m most (and-1 (leb m most) (eqb (wordEnd s n) n) t)) q
-      by-number parsed.Nothing q = let z : _≡_ {A = ℕ} 0 1 = cc in omega arith
-      by-number parsed.TooLarge q = let z : _≡_ {A = ℕ} 0 1 = cc in omega arith
+      by-number (parsed.Number m n) q =
+          by-flag (λ (r : Field). r ≡ Got v next → v ≤ most) (leb m most && eqb (wordEnd s n) n) _ _
+          (λ t g. let w : m ≡ v = cc in rw w at (leb-true m most (and-1 (leb m most) (eqb (wordEnd s n) n) t)))
+          (λ t g. absurd (false≢true (cc)))
+          q
+      by-number parsed.Nothing q = absurd (false≢true (cc))
+      by-number parsed.TooLarge q = absurd (false≢true (cc))
 
 module _ (w : List ℕ) (f : List ℕ → ℕ → Field) (s : List ℕ) (at : ℕ) where
   pub word-none : length w ≡ 0 → {r : Field} → r ≡ f s at → r ≡ behindWord w f s at
@@ -62,12 +62,9 @@ module _ (w : List ℕ) (f : List ℕ → ℕ → Field) (s : List ℕ) (at : �
   -- what is behind the word is no larger for it
   behind-most : (most : ℕ) → ((i v next : ℕ) → f s i ≡ Got v next → v ≤ most) → {v next : ℕ} → behindWord w f s at ≡ Got v next → v ≤ most
   unfolding behindWord
-  behind-most most small {v} {next} e = go (eqb (length w) 0) (wordIs s (skipSpaces s at) w) e
-    where
-      go : (n t : Bool) → pick n (f s at) (pick t (f s (wordEnd s (skipSpaces s at))) Missing) ≡ Got v next → v ≤ most
-      go true t q = small at v next q
-      go false true q = small (wordEnd s (skipSpaces s at)) v next q
-      go false false q = let z : _≡_ {A = ℕ} 0 1 = cc in omega arith
+  behind-most most small {v} {next} =
+      let P : Field → Type 0 = λ r. r ≡ Got v next → v ≤ most in
+      pick-both P (eqb (length w) 0) (small at v next) (pick-both P (wordIs s (skipSpaces s at) w) (small (wordEnd s (skipSpaces s at)) v next) (λ q. absurd (false≢true (cc))))
 
 pub field-most : (w : List ℕ) (most : ℕ) (s : List ℕ) (at : ℕ) {v next : ℕ} → fieldNext w most s at ≡ Got v next → v ≤ most
 field-most w most s at e = behind-most w (numberNext most) s at most (λ i v next q. number-most most s i q) e

@@ -1,16 +1,16 @@
 -- A command put into a stream, by the count that encoding it gives.
-use mathlib.Core.Path.{_≡_, refl, sym, _∙_}
-use mathlib.Core.Bool.{Bool, true, false}
+use mathlib.Core.Path.{_≡_, refl}
+use mathlib.Core.Logic.{⊎-elim}
 use mathlib.Core.List.{List}
 use Prim.Native.Nat.{ℕ, _+_, _≤_, _<_}
 use native.Mathlib.Omega.{arith}
 use borrow.Author.Tests.{leb-true}
 use lib.ListN.{length}
-use Rattle.words.specs.Words.{pick}
 use Rattle.model.specs.RecordsOf as records
 use Rattle.model.specs.Records.{commandBytes}
 use Rattle.model.specs.declared.Command.{Command}
 use Rattle.words.specs.Regions.{room}
+use Rattle.words.proofs.Flags.{flag}
 use Rattle.records.specs.Stores.{storedCount, Stored}
 use Rattle.assembly.specs.declared.Expected.{Expected}
 use Rattle.assembly.specs.declared.Line.{Line}
@@ -27,20 +27,18 @@ command-bytes c = omega arith
 module _ (c : Command) (l : List ℕ) (at : ℕ) {n : ℕ} {m : List ℕ} (w : Stored l at (commandBytes c) n m) where
   pub placed-not : n ≡ 0 → Assembles (line.Command c) l at assembled.NoRoom m
   unfolding answerTo leftBy storedCount
-  placed-not e = record { answer = go (room l at (length (commandBytes c))) (sym e ∙ w .count); left = w .slice }
-    where
-      go : (t : Bool) → 0 ≡ pick t (length (commandBytes c)) 0 → assembled.NoRoom ≡ placed t (at + length (commandBytes c))
-      go true q = absurd (let z : ⊥ = omega (arith, command-bytes c) in z)
-      go false q = refl
+  placed-not e = record {
+    answer = ⊎-elim (λ q. let z = rw q at (w .count) in absurd (omega (arith, command-bytes c))) (λ q. rw q) (flag (room l at (length (commandBytes c))));
+    left = w .slice;
+  }
 
   there : (n ≡ 0 → ⊥) → (n ≡ length (commandBytes c)) × (at + length (commandBytes c) ≤ length l) × (assembled.Next (at + n) ≡ placed (room l at (length (commandBytes c))) (at + length (commandBytes c)))
   unfolding storedCount
-  there e = go (room l at (length (commandBytes c))) refl (w .count)
-    where
-      go : (t : Bool) → room l at (length (commandBytes c)) ≡ t → n ≡ pick t (length (commandBytes c)) 0
-          → (n ≡ length (commandBytes c)) × (at + length (commandBytes c) ≤ length l) × (assembled.Next (at + n) ≡ placed t (at + length (commandBytes c)))
-      go true p q = (q, leb-true (at + length (commandBytes c)) (length l) p, rw q)
-      go false p q = absurd (e q)
+  there e =
+      ⊎-elim
+      (λ q. let z = rw q at (w .count) in (z, leb-true (at + length (commandBytes c)) (length l) q, rw (q, z)))
+      (λ q. absurd (e (rw q at (w .count))))
+      (flag (room l at (length (commandBytes c))))
 
   pub placed-there : (n ≡ 0 → ⊥) → Assembles (line.Command c) l at (assembled.Next (at + n)) m
   unfolding answerTo leftBy
@@ -51,9 +49,8 @@ module _ (c : Command) (l : List ℕ) (at : ℕ) {n : ℕ} {m : List ℕ} (w : S
 
 -- ---- a line by what it was read as
 
-module _ {x y : Line} {l : List ℕ} {at : ℕ} where
-  pub assembles-as : {r : Assembled} {m : List ℕ} → x ≡ y → Assembles y l at r m → Assembles x l at r m
-  assembles-as e w = rw e w
+pub assembles-as : {x y z : Line} {l : List ℕ} {at : ℕ} {r : Assembled} {m : List ℕ} → z ≡ x → z ≡ y → Assembles y l at r m → Assembles x l at r m
+assembles-as e f w = rw (← e, f) w
 
 pub assembles-empty : (l : List ℕ) (at : ℕ) → Assembles line.Empty l at (assembled.Next at) l
 unfolding answerTo leftBy

@@ -9,7 +9,7 @@ use borrow.Author.Tests.{leb-true}
 use lib.Dec.{leb}
 use lib.ListN.{length, take, drop, set, getD, replicate, drop-of-length-le, List·getD-map}
 use lib.Seq.{drop-cons, getD-take, getD-drop}
-use Rattle.words.proofs.Lists.{getD-inside}
+use Rattle.words.proofs.Lists.{getD-inside, getD-same}
 use Rattle.text.specs.Words.{passingCount, skipSpaces, wordEnd, wordAt}
 use Rattle.assembly.specs.declared.Expected.the-variants as expected
 use Rattle.assembly.specs.declared.Field.{Field}
@@ -92,11 +92,6 @@ module _ (k : ℕ) (s : List ℕ) (i : ℕ) (ns : List ℕ) (next : ℕ) where
 
 -- ---- the numbers within their parts
 
-within-zeros : (n : ℕ) (m : ℕ → ℕ) (j : ℕ) → getD (replicate n 0) j 0 ≤ m j
-within-zeros zero m j = omega arith
-within-zeros (suc n) m zero = omega arith
-within-zeros (suc n) m (suc j) = within-zeros n (λ (i : ℕ). m (suc i)) j
-
 within-set : (m : ℕ → ℕ) (ns : List ℕ) (i v : ℕ) → v ≤ m i → ((j : ℕ) → getD ns j 0 ≤ m j) → (j : ℕ) → getD (set ns i v) j 0 ≤ m j
 within-set m [] i v h w j = w j
 within-set m (n ∷ ns) zero v h w zero = h
@@ -105,7 +100,7 @@ within-set m (n ∷ ns) (suc i) v h w zero = w zero
 within-set m (n ∷ ns) (suc i) v h w (suc j) = within-set (λ (a : ℕ). m (suc a)) ns i v h (λ (a : ℕ). w (suc a)) j
 
 pub within-none : (k : ℕ) → Within k (replicate 6 0)
-within-none k = within-zeros 6 (λ (j : ℕ). getD (formOf k .parts) j noPart .most)
+within-none k j = rw (getD-same {A = ℕ} 6 j 0) (omega arith)
 
 pub within-read : (k : ℕ) (s : List ℕ) (i : ℕ) (ns : List ℕ) (next : ℕ) {p : FormPart} → p ≡ getD (formOf k .parts) i noPart → {v a : ℕ} → fieldNext (p .word) (p .most) s next ≡ Got v a → Within k ns → Within k (set ns i v)
 within-read k s i ns next {p} e m w = within-set (λ (j : ℕ). getD (formOf k .parts) j noPart .most) ns i _ (rw (← e) (field-most (p .word) (p .most) s next m)) w
@@ -115,18 +110,20 @@ within-as ns e w = rw e at w
 
 -- ---- the forms in order
 
-module _ (s : List ℕ) (at end k : ℕ) {b : Bool} {w : List ℕ} (h : k < length forms) (e : b ≡ wordIs s at w) (q : w ≡ formOf k .word) where
-  pub form-here : b ≡ true → formFrom (formOf k) s end ≡ byWord (drop k forms) s at end
-  unfolding byWord formOf
-  form-here t = rw (drop-cons forms k noForm h, ← q, sym e ∙ t)
+-- the line x is one of those from form k on
+module _ (s : List ℕ) (at end k : ℕ) {x : Line} (l : x ≡ byWord (drop k forms) s at end) where
+  module _ (h : k < length forms) {f : code.Form} (p : f ≡ placeOf k) {w : List ℕ} (q : w ≡ wordAt (f .0) 0) {b : Bool} (e : b ≡ wordIs s at w) where
+    pub form-here : b ≡ true → {r : Line} → r ≡ formFrom (formOf k) s end → r ≡ x
+    unfolding byWord formOf
+    form-here t is = is ∙ sym (l ∙ rw (drop-cons forms k noForm h, ← word-at k p q, sym e ∙ t))
 
-  pub form-on : b ≡ false → byWord (drop k forms) s at end ≡ byWord (drop (k + 1) forms) s at end
-  unfolding byWord formOf
-  form-on t = rw (drop-cons forms k noForm h, ← q, sym e ∙ t, add-one k)
+    pub form-on : b ≡ false → x ≡ byWord (drop (k + 1) forms) s at end
+    unfolding byWord formOf
+    form-on t = l ∙ rw (drop-cons forms k noForm h, ← word-at k p q, sym e ∙ t, add-one k)
 
-pub form-none : (s : List ℕ) (at end k : ℕ) → length forms ≤ k → line.Bad expected.Command ≡ byWord (drop k forms) s at end
-unfolding byWord
-form-none s at end k h = rw (drop-of-length-le forms h)
+  pub form-none : length forms ≤ k → line.Bad expected.Command ≡ x
+  unfolding byWord
+  form-none h = sym (l ∙ rw (drop-of-length-le forms h))
 
 module _ (s : List ℕ) {b : Bool} (e : b ≡ endsAt s 0) where
   pub line-empty : b ≡ true → line.Empty ≡ parseLine s

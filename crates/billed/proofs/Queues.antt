@@ -2,18 +2,18 @@
 use Prim.Native.Nat.{ℕ}
 use mathlib.Core.Path.{_≡_, refl, sym, ap, _∙_}
 use mathlib.Core.Logic.{inl}
-use mathlib.Core.Bool.{true, _||_}
+use mathlib.Core.Bool.{true}
 use mathlib.Core.List.{List, [], _∷_, _++_, map, append-nil, append-assoc}
 use lib.ListN.{length, replicate}
-use lib.Dec.{eqb, ltb}
+use lib.Dec.{eqb}
 use borrow.Author.Tests.{eqb-true}
 use Rattle.words.specs.Words.{all, any}
 use Rattle.model.specs.Range.{inRange}
 use Rattle.model.specs.Tables.{Entry, Tables, Outcome, refused, after, eventsOf}
-use Rattle.model.specs.Sound.{lastCycle, unsentFor, kindOk, queuedOk}
+use Rattle.model.specs.Sound.{unsentFor, kindOk, queuedOk}
 use Rattle.model.specs.Probe.{Rules}
-use Rattle.model.specs.Steps.{fetches, queues, queuedAs, queuedEvent, sentAs, sentEvent, accept, accessUnder, send, fill, ticketsOf, sentFor, tick}
-use Rattle.model.specs.History.{Call, offer, sending, filling, ticking, stepUnder}
+use Rattle.model.specs.Steps.{fetches, queues, queuedAs, queuedEvent, sentAs, sentEvent, accept, ticketsOf}
+use Rattle.model.specs.History.{Call, stepUnder}
 use Rattle.model.specs.declared.Settings.{Settings}
 use Rattle.model.specs.declared.QueueKind.{QueueKind}
 use Rattle.model.specs.declared.QueueKind.the-variants as queue
@@ -23,13 +23,11 @@ use Rattle.model.specs.declared.Answer.{Answer}
 use Rattle.model.specs.declared.Event.{Event}
 use Rattle.model.specs.declared.Event.the-variants as ev
 use Rattle.model.specs.declared.Refusal.{Refusal}
-use Rattle.model.specs.declared.Refusal.the-variants.{NotSent, BadCycle}
-use Rattle.words.proofs.Flags.{and-1, and-2, by-flag}
+use Rattle.words.proofs.Flags.{and-1, and-2}
 use Rattle.words.proofs.Lists.{four-whole}
 use Rattle.model.proofs.SoundFacts.{Sound, queued-at, queued-parts}
 use Rattle.model.proofs.AccessKeepsSound.{misses-by}
-use Rattle.model.proofs.SendFillKeepSound.{send-cases}
-use Rattle.model.proofs.AccessCases.{access-cases}
+use Rattle.billed.proofs.Laws.{step-cases}
 use Rattle.billed.specs.Queue.{queuedFrom, sentFrom, entriesBy, queuedBy, sentBy}
 
 -- ---- entries and their events
@@ -88,38 +86,17 @@ refused-tells : (t : Tables) (n : Refusal) → TellsQueue t (refused n)
 unfolding entriesBy
 refused-tells t n = append-nil (t .queue)
 
-module _ (R : Rules) (S : Settings) (range : inRange S ≡ true) (t : Tables) (ok : Sound S t) where
-  access-tells : (x : Access) → TellsQueue t (accessUnder R S x t)
-  unfolding accept entriesBy
-  access-tells x =
-      access-cases R S t x range ok (TellsQueue t) (refused-tells t)
-      (λ p a. rw (none-sent (queues x p), fetch-told x (p .answer) (p .backs), all-told [] (p .backs) (a .spotted .backed [])))
-
-  send-tells : TellsQueue t (send t)
-  unfolding entriesBy
-  send-tells =
-      send-cases t (TellsQueue t) (refused-tells t) (λ x q h.
-      let good : queuedOk (t .misses) x ≡ true = queued-at S t ok x (rw h (inl refl)) in
-      rw (apart (x .kind) (x .address) (x .masks) .1, told (t .misses) x good .1, h) (append-nil (x ∷ q)))
-
-  fill-tells : (a : ℕ) → TellsQueue t (fill a t)
-  unfolding fill entriesBy
-  fill-tells a =
-      by-flag (TellsQueue t) (any (sentFor a) (t .misses)) _ (refused NotSent)
-      (λ e. rw (tickets-none queuedFrom (λ k. refl) (ticketsOf a (t .misses)), tickets-none sentFrom (λ k. refl) (ticketsOf a (t .misses))) (append-nil (t .queue)))
-      (λ e. refused-tells t NotSent)
-
-  tick-tells : (c : ℕ) → TellsQueue t (tick c t)
-  unfolding tick entriesBy
-  tick-tells c =
-      by-flag (TellsQueue t) (ltb c (t .now) || ltb lastCycle c) (refused BadCycle) _ (λ e. refused-tells t BadCycle) (λ e. append-nil (t .queue))
-
-  -- the queue after an accepted call is the queue before, less its head for a send, and exactly the entries that its events tell
-  pub step-tells : (k : Call) → TellsQueue t (stepUnder R S k t)
-  step-tells (offer x) = access-tells x
-  step-tells sending = send-tells
-  step-tells (filling a) = fill-tells a
-  step-tells (ticking c) = tick-tells c
+-- the queue after an accepted call is the queue before, less its head for a send, and exactly the entries that its events tell
+pub step-tells : (R : Rules) (S : Settings) → inRange S ≡ true → (t : Tables) → Sound S t → (k : Call) → TellsQueue t (stepUnder R S k t)
+unfolding accept entriesBy
+step-tells R S range t ok =
+    step-cases R S range t ok (λ k o. TellsQueue t o) (λ k n. refused-tells t n)
+    (λ x p a. rw (none-sent (queues x p), fetch-told x (p .answer) (p .backs), all-told [] (p .backs) (a .spotted .backed [])))
+    (λ x q h.
+    let good : queuedOk (t .misses) x ≡ true = queued-at S t ok x (rw h (inl refl)) in
+    rw (apart (x .kind) (x .address) (x .masks) .1, told (t .misses) x good .1, h) (append-nil (x ∷ q)))
+    (λ a. rw (tickets-none queuedFrom (λ k. refl) (ticketsOf a (t .misses)), tickets-none sentFrom (λ k. refl) (ticketsOf a (t .misses))) (append-nil (t .queue)))
+    (λ c. append-nil (t .queue))
 
 -- ---- one part of a history after another
 

@@ -4,7 +4,7 @@ use mathlib.Core.Bool.{true, false}
 use Prim.Native.Nat.{ℕ, _+_, _-_, _*_, _/_, _^_, _≤_, _<_}
 use native.Mathlib.Nat.{le-div-iff-mul-le, lt-of-not-le}
 use native.Mathlib.Omega.{arith}
-use borrow.Author.Tests.{lt-ltb, le-ltb, ne-eqb}
+use borrow.Author.Tests.{lt-ltb, le-ltb}
 use lib.ListN.{getD, set}
 use Rattle.model.specs.Numbers.{answerNumber, refusalNumber}
 use Rattle.model.specs.declared.Answer.{Answer}
@@ -15,17 +15,12 @@ use Rattle.model.specs.declared.Event.{Event}
 use Rattle.model.specs.declared.Event.the-variants as ev
 use Rattle.billing.specs.declared.Bill.{Bill}
 use Rattle.billing.specs.declared.Dues.{Dues}
-use Rattle.billing.specs.declared.Rate.the-variants as rate
 use Rattle.billing.specs.Dues.{duesOf}
-use Rattle.billing.specs.Bills.{filledUp, raised, billKept, billed, addedTo, rateOf}
+use Rattle.billing.specs.Bills.{filledUp, raised, billKept, billed, addedTo}
 
 -- ---- one sum
 
 module _ (b : Bill) (p n : ℕ) where
-  pub raised-full : b .full ≡ true → b ≡ raised b p n
-  unfolding raised
-  raised-full e = rw e
-
   pub raised-over : b .full ≡ false → 2 ^ 64 ≤ getD (b .counts) p 0 + n → filledUp b ≡ raised b p n
   unfolding raised
   raised-over e h = rw (e, le-ltb (getD (b .counts) p 0 + n) (2 ^ 64) h)
@@ -84,20 +79,11 @@ module _ (b : Bill) (e : Event) {d : Dues} {c f : Bill} (is : d ≡ duesOf e) (f
 -- ---- rates
 
 module _ (n m : ℕ) where
-  pub rate-of-nothing : m ≡ 0 → rate.OfNothing ≡ rateOf n m
-  rate-of-nothing e = rw e
-
-  abbrev pub ProductFits : Type 0
-  ProductFits = n * 1000 + m / 2 < 2 ^ 64
-
-  pub rate-fits : m / 2 < 2 ^ 64 → n ≤ (2 ^ 64 - 1 - m / 2) / 1000 → ProductFits
+  pub rate-fits : m / 2 < 2 ^ 64 → n ≤ (2 ^ 64 - 1 - m / 2) / 1000 → n * 1000 + m / 2 < 2 ^ 64
   rate-fits f h = omega (arith, le-div-iff-mul-le {k = 1000} {x = n} {y = 2 ^ 64 - 1 - m / 2} (omega arith) .0 h)
 
-  pub rate-tenths : (m ≡ 0 → ⊥) → ProductFits → rate.Tenths ((n * 1000 + m / 2) / m) ≡ rateOf n m
-  rate-tenths e h = rw (ne-eqb m 0 e, lt-ltb (n * 1000 + m / 2) (2 ^ 64) h)
-
-  pub rate-too-large : m / 2 < 2 ^ 64 → (m ≡ 0 → ⊥) → (2 ^ 64 - 1 - m / 2) / 1000 < n → rate.TooLarge ≡ rateOf n m
-  rate-too-large f e h = rw (ne-eqb m 0 e, le-ltb (n * 1000 + m / 2) (2 ^ 64) (omega (arith, over)))
+  pub rate-passes : m / 2 < 2 ^ 64 → (2 ^ 64 - 1 - m / 2) / 1000 < n → 2 ^ 64 ≤ n * 1000 + m / 2
+  rate-passes f h = omega (arith, over)
     where
       over : 2 ^ 64 - 1 - m / 2 < n * 1000
       over = lt-of-not-le (λ (k : n * 1000 ≤ 2 ^ 64 - 1 - m / 2). let g = le-div-iff-mul-le {k = 1000} {x = n} {y = 2 ^ 64 - 1 - m / 2} (omega arith) .1 k in omega arith)

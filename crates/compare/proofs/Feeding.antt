@@ -65,10 +65,8 @@ module _ (l : List ℕ) (w : Window) (s : WindowSound (length l) w) where
       keeps : take (w .have - w .at) l₁ ≡ waitingIn l w
       keeps =
           let e : take (w .have - w .at) l₁ ≡ take (w .have - w .at) l₀ = rw count-waits at (k .before) in
-          e ∙ ap (take (w .have - w .at)) down ∙ take-append-le (w .have - w .at) (take (w .have - w .at) (drop (w .at) l)) (drop (w .have - w .at) l) (omega (arith, front-length)) ∙ twice ∙ window-waits
-        where
-          twice : take (w .have - w .at) (take (w .have - w .at) (drop (w .at) l)) ≡ take (w .have - w .at) (drop (w .at) l)
-          twice = take-all (w .have - w .at) (take (w .have - w .at) (drop (w .at) l)) (omega (arith, front-length))
+          e ∙ ap (take (w .have - w .at)) down ∙ take-append-le (w .have - w .at) (take (w .have - w .at) (drop (w .at) l)) (drop (w .have - w .at) l) (omega (arith, front-length))
+          ∙ take-all (w .have - w .at) (take (w .have - w .at) (drop (w .at) l)) (omega (arith, front-length)) ∙ window-waits
 
       feeds : (h : ℕ) (e : Bool) (m : Met) → h ≤ length l → w .base + w .at + h < 2 ^ 64 → WindowGrown (w .have - w .at) (window (w .base + w .at) 0 h e) m
           → {r : Topped} → r ≡ topped (w .base + w .at) h e m → Fed l w (r .window) (r .met) l₁

@@ -7,8 +7,7 @@ use Prim.Native.Nat.{ℕ, _+_, _-_, _≤_, _<_}
 use native.Mathlib.Omega.{arith}
 use lib.ListN.{length}
 use Rattle.words.specs.Words.{pick}
-use Rattle.words.proofs.Flags.{clash}
-use Rattle.comparing.specs.declared.Walk.{Walk}
+use Rattle.words.proofs.Flags.{clash, pick-both}
 use Rattle.comparing.specs.declared.Step.{Step}
 use Rattle.comparing.specs.declared.Step.the-variants as step
 use Rattle.comparing.specs.Steps.{untouched, stepped}
@@ -21,13 +20,9 @@ use Rattle.compare.specs.declared.turns.Turned.{Turned}
 use Rattle.compare.specs.declared.listing.Work.{Work}
 use Rattle.compare.specs.declared.showing.Shown.{Shown}
 use Rattle.compare.specs.Lines.{PutWhere, NothingPut, ListsPair}
-use Rattle.compare.specs.Windows.{waitingIn, movedBy, WindowSound, WindowGrown, Fed, leftOf}
-use Rattle.compare.specs.Turns.{passBegun, passTurned, nextStep, Comes, BothSound, anotherTurn, leftInPass, LessLeft}
+use Rattle.compare.specs.Windows.{waitingIn, WindowSound, WindowGrown, Fed, leftOf}
+use Rattle.compare.specs.Turns.{passBegun, nextStep, Comes, BothSound, anotherTurn, leftInPass, LessLeft}
 use Rattle.compare.proofs.Feeding.{moved-sound, moved-left}
-
-mark-le : (b : Bool) → pick b 0 1 ≤ 1
-mark-le true = omega arith
-mark-le false = omega arith
 
 -- reading on leaves less, where it goes on
 fed-less : {l l₁ : List ℕ} {w v : Window} (m : Met) → WindowSound (length l) w → Fed l w v m l₁ → w .ended ≡ false → anotherTurn m ≡ true → leftOf v < leftOf w
@@ -43,7 +38,7 @@ module _ (l r : List ℕ) {p : Pass} (y : BothSound (length l) (length r) p) (t 
   goes-by (step.Row m n same v) k c =
       let i = moved-left l (p .a) (y .first) (k .0) in
       let j = moved-left r (p .b) (y .second) (k .1) in
-      let u = mark-le (untouched v) in
+      let u : pick (untouched v) 0 1 ≤ 1 = pick-both (λ x. x ≤ 1) (untouched v) (omega arith) (omega arith) in
       rw (c .0) (record {
         ready = record { first = moved-sound l (p .a) (y .first) (k .0); second = moved-sound r (p .b) (y .second) (k .1) };
         less = λ e. omega arith;
@@ -66,31 +61,11 @@ module _ (l r : List ℕ) {p : Pass} (y : BothSound (length l) (length r) p) (t 
 
   -- the step that the code took, on the bytes that it saw, is the next step
   module _ {x z : List ℕ} (i : x ≡ waitingIn l (p .a)) (j : z ≡ waitingIn r (p .b)) {st : Step} (k : st ≡ stepped (p .walk) x (p .a .ended) z (p .b .ended)) where
-    by-step : {s : Step} → st ≡ s → Comes l r p t l₁ r₁ s → TurnTaken
-    by-step {s} e c =
+    pub turn-taken : {s : Step} → st ≡ s → Comes l r p t l₁ r₁ s → TurnTaken
+    turn-taken {s} e c =
         let q : s ≡ nextStep l r p = sym e ∙ k ∙ rw (i, j) in
         let d : Comes l r p t l₁ r₁ (nextStep l r p) = rw q at c in
         (d, goes-by (nextStep l r p) (moves (p .walk) (waitingIn l (p .a)) (p .a .ended) (waitingIn r (p .b)) (p .b .ended)) d)
-
-    pub turn-row : {m n : ℕ} {same : Bool} {v : Walk} → st ≡ step.Row m n same v → {u w : Window} → u ≡ movedBy (p .a) m → w ≡ movedBy (p .b) n → t ≡ passTurned u w v (met.Row m n same) → l₁ ≡ l → r₁ ≡ r → TurnTaken
-    unfolding Comes
-    turn-row e f g h a b = by-step e (h ∙ rw (f, g), a, b)
-
-    pub turn-pair : {d : Bool} {v : Walk} → st ≡ step.Pair d v → t ≡ passTurned (p .a) (p .b) v (met.Pair d) → l₁ ≡ l → r₁ ≡ r → TurnTaken
-    unfolding Comes
-    turn-pair e h a b = by-step e (h, a, b)
-
-    pub turn-over : st ≡ step.Over → t ≡ passTurned (p .a) (p .b) (p .walk) met.Over → l₁ ≡ l → r₁ ≡ r → TurnTaken
-    unfolding Comes
-    turn-over e h a b = by-step e (h, a, b)
-
-    pub turn-first : st ≡ step.WantsFirst → {v : Window} {m : Met} → Fed l (p .a) v m l₁ → t ≡ passTurned v (p .b) (p .walk) m → r₁ ≡ r → TurnTaken
-    unfolding Comes
-    turn-first e f h b = by-step e (rw h (f, refl, refl, b))
-
-    pub turn-second : st ≡ step.WantsSecond → {v : Window} {m : Met} → Fed r (p .b) v m r₁ → t ≡ passTurned (p .a) v (p .walk) m → l₁ ≡ l → TurnTaken
-    unfolding Comes
-    turn-second e f h a = by-step e (rw h (f, refl, refl, a))
 
 pub begun-ready : (x y : ℕ) {p : Pass} → p ≡ passBegun → BothSound x y p
 begun-ready x y e = rw e (omega arith)
@@ -153,9 +128,3 @@ module _ (k r : Work) where
 
     pub lists-met : Comes x y p t x₁ y₁ (nextStep x y p) → {m : Met} → t .met ≡ m → ListsMet m → ListsPair k r (nextStep x y p)
     lists-met c e f = lists-by (nextStep x y p) c (rw e f)
-
-    pub lists-pair : Comes x y p t x₁ y₁ (nextStep x y p) → {d : Bool} → t .met ≡ met.Pair d → d ≡ true → (r .more ≡ true → k .pass .walk .number < r .shown .pass .walk .number) → ListsPair k r (nextStep x y p)
-    lists-pair c e d f = lists-met c (e ∙ ap met.Pair d) f
-
-    pub lists-same : Comes x y p t x₁ y₁ (nextStep x y p) → {d : Bool} → t .met ≡ met.Pair d → d ≡ false → NothingPut k r → r .more ≡ true → ListsPair k r (nextStep x y p)
-    lists-same c e d f m = lists-met c (e ∙ ap met.Pair d) (f, m)

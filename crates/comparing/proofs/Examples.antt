@@ -3,6 +3,7 @@ use mathlib.Core.Path.{_≡_, refl}
 use mathlib.Core.List.{List, [], _∷_, _++_, map}
 use Prim.Native.Nat.{ℕ}
 use Rattle.model.specs.RecordsOf as records
+use Rattle.comparing.specs.declared.Compared.{Compared}
 use Rattle.comparing.specs.declared.Compared.the-variants as answer
 use Rattle.comparing.specs.Kinds.{startsGroup, isEvent}
 use Rattle.comparing.specs.Groups.{recordEnd, recordPast, endFrom, groupEnd, groupsFrom, groups, groupSide}
@@ -37,24 +38,17 @@ both-empty : compared [] [] 0 ≡ answer.Same
 unfolding compared checked scanned scannedFrom firstDifference firstOf groups groupsFrom
 both-empty = refl
 
--- a command's kind, 3 or 1 cut short, is 14 at its place; an event cut short is 15; the first log before the second
-command-kind : compared (tick ++ (3 ∷ [])) (9 ∷ []) 0 ≡ answer.Refused 1 14 1
-unfolding compared checked scanned scannedFrom wrongAt recordPast recordEnd startsGroup isEvent records.lengthOf tick
-command-kind = refl
+-- a command's kind, 3 or 1 cut short, is 14 at its place; an event cut short is 15; the first log before the second; 17 only after the
+-- last record, and still before the second log
+told-of-both : List Compared
+told-of-both =
+    compared (tick ++ (3 ∷ [])) (9 ∷ []) 0
+    ∷ compared tick (tick ++ (1 ∷ 0 ∷ [])) 0
+    ∷ compared tick (tick ++ (0x14 ∷ 7 ∷ [])) 0
+    ∷ compared (released 7 ++ tick) (9 ∷ []) 0
+    ∷ compared (released 7 ++ (9 ∷ [])) [] 0
+    ∷ []
 
-command-cut : compared tick (tick ++ (1 ∷ 0 ∷ [])) 0 ≡ answer.Refused 2 14 1
-unfolding compared checked scanned scannedFrom wrongAt recordPast recordEnd startsGroup isEvent records.lengthOf tick
-command-cut = refl
-
-event-cut : compared tick (tick ++ (0x14 ∷ 7 ∷ [])) 0 ≡ answer.Refused 2 15 1
-unfolding compared checked scanned scannedFrom wrongAt recordPast recordEnd startsGroup isEvent records.lengthOf tick
-event-cut = refl
-
--- 17 only after the last record, and still before the second log
-begins-inside : compared (released 7 ++ tick) (9 ∷ []) 0 ≡ answer.Refused 1 17 0
-unfolding compared checked scanned scannedFrom wrongAt recordPast recordEnd startsGroup isEvent records.lengthOf tick released
-begins-inside = refl
-
-damage-first : compared (released 7 ++ (9 ∷ [])) [] 0 ≡ answer.Refused 1 14 5
-unfolding compared checked scanned scannedFrom wrongAt recordPast recordEnd startsGroup isEvent records.lengthOf released
-damage-first = refl
+refusals : told-of-both ≡ answer.Refused 1 14 1 ∷ answer.Refused 2 14 1 ∷ answer.Refused 2 15 1 ∷ answer.Refused 1 17 0 ∷ answer.Refused 1 14 5 ∷ []
+unfolding told-of-both compared checked scanned scannedFrom wrongAt recordPast recordEnd startsGroup isEvent records.lengthOf tick released
+refusals = refl

@@ -10,7 +10,7 @@ use borrow.Author.Tests.{le-ltb, ltb-true, ltb-false, not-true, not-false}
 use lib.Dec.{ltb}
 use lib.ListN.{length, take, drop}
 use Rattle.words.specs.Words.{pick}
-use Rattle.words.proofs.Flags.{flag, or-cases, or-no-1, or-no-2}
+use Rattle.words.proofs.Flags.{flag, by-flag, or-cases, or-no-1, or-no-2}
 use Rattle.comparing.specs.declared.Compared.the-variants as answer
 use Rattle.comparing.specs.declared.Fault.{Fault}
 use Rattle.comparing.specs.declared.Fault.the-variants as fault
@@ -20,7 +20,7 @@ use Rattle.comparing.specs.Groups.{bytesIn, groupEnd, groupSide}
 use Rattle.comparing.specs.declared.Cursor.{Cursor}
 use Rattle.comparing.specs.Pairs.{sameBytes, samePair, differs, firstOf, pairs, firstDifference, cursorBehind, groupAt, foundFrom, foundPair, compared, CursorStands, GoesOn}
 use Rattle.comparing.proofs.Walks.{group-end}
-use Rattle.comparing.proofs.Sides.{group-le, side-to, next-begins, counted-in, counted-over}
+use Rattle.comparing.proofs.Sides.{group-on, side-to, next-begins, counted-in, counted-over}
 
 module _ (a b : List ℕ) where
   difference-more : (n : ℕ) → n < pairs a b → firstDifference a b n ≡ pick (samePair a b n) (firstDifference a b (n + 1)) (differs n (groupSide a n) (groupSide b n))
@@ -35,8 +35,8 @@ module _ (a b : List ℕ) where
   unfolding someLeft
   left-less x y {e} {f} t p q =
       ⊎-elim
-      (λ h. let l = ltb-true x (length a) h in let w = group-end a x l in let v = group-le b y in omega arith)
-      (λ h. let l = ltb-true y (length b) h in let w = group-end b y l in let v = group-le a x in omega arith)
+      (λ h. let l = ltb-true x (length a) h in let w = group-end a x l in let v = group-on b y refl in omega arith)
+      (λ h. let l = ltb-true y (length b) h in let w = group-end b y l in let v = group-on a x refl in omega arith)
       (or-cases (ltb x (length a)) (ltb y (length b)) t)
 
   -- the loop over the pairs: x and y are where the groups of number n begin, and the answer is the same from there
@@ -160,14 +160,13 @@ module _ (a b : List ℕ) where
     goes-from : (d m : ℕ) (c : Cursor) → bytesLeft c ≤ d → PairsSame a b m (c .number) (c .first) (c .second) → GoesOn a b m (foundFrom d a b c)
     unfolding foundFrom someLeft
     goes-from zero m c h g = going-none a b g (none-ahead c h)
-    goes-from (suc d) m c h g = go (someLeft a b (c .first) (c .second)) refl (sameBytes (bytesIn a (groupAt a (c .first))) (bytesIn b (groupAt b (c .second)))) refl (λ v i j. goes-from d m v i j)
-      where
-        go : (t : Bool) → someLeft a b (c .first) (c .second) ≡ t → (u : Bool) → sameBytes (bytesIn a (groupAt a (c .first))) (bytesIn b (groupAt b (c .second))) ≡ u
-            → ((v : Cursor) → bytesLeft v ≤ d → PairsSame a b m (v .number) (v .first) (v .second) → GoesOn a b m (foundFrom d a b v))
-            → GoesOn a b m (pick t (pick u (foundFrom d a b (cursorBehind a b c)) (record { answer = differs (c .number) (groupAt a (c .first)) (groupAt b (c .second)); next = cursorBehind a b c })) (record { answer = answer.Same; next = c }))
-        go true q true r ih = let l = behind-less c q in ih (cursorBehind a b c) (omega arith) (going-more a b g q fa fb r)
-        go true q false r ih = going-found a b g q fa fb r
-        go false q u r ih = going-none a b g q
+    goes-from (suc d) m c h g =
+        by-flag (GoesOn a b m) (someLeft a b (c .first) (c .second)) _ _
+        (λ q.
+        by-flag (GoesOn a b m) (sameBytes (bytesIn a (groupAt a (c .first))) (bytesIn b (groupAt b (c .second)))) _ _
+        (λ r. let l = behind-less c q in goes-from d m (cursorBehind a b c) (omega arith) (going-more a b g q fa fb r))
+        (λ r. going-found a b g q fa fb r))
+        (λ q. going-none a b g q)
 
     pub found-goes-on : (c : Cursor) → CursorStands a b c → GoesOn a b (c .number) (foundPair a b c)
     unfolding foundPair bytesLeft

@@ -1,13 +1,14 @@
--- A log checked as it comes is the log checked whole, however it is cut into parts.
+-- The check of a log that comes in parts: the loop over a part; however the log is cut, the check tells what is told of the whole log.
 use mathlib.Core.Path.{_≡_, refl, sym, ap, _∙_}
 use mathlib.Core.Logic.{⊎-elim}
 use mathlib.Core.Bool.{Bool, true, false, not}
 use mathlib.Core.List.{List, [], _∷_, _++_}
 use Prim.Native.Nat.{ℕ, zero, suc, _+_, _-_, _%_, _^_, min, _≤_, _<_}
 use native.Mathlib.Omega.{arith}
+use native.Mathlib.Numerals.{add-one}
 use borrow.Author.Tests.{ne-eqb, lt-ltb, le-leb, lt-leb}
-use lib.ListN.{length, getD, take, drop, length-append, length-take, length-drop, take-append-drop}
-use lib.Seq.{getD-append-add}
+use lib.ListN.{length, getD, take, drop, length-append, length-take, length-drop, take-append-drop, drop-of-length-le}
+use lib.Seq.{getD-append-add, drop-cons}
 use lib.Dec.{eqb, ltb}
 use Rattle.words.specs.Words.{pick}
 use Rattle.words.proofs.Flags.{flag}
@@ -20,8 +21,21 @@ use Rattle.comparing.specs.Kinds.{startsGroup, isEvent}
 use Rattle.comparing.specs.Groups.{recordEnd, recordPast}
 use Rattle.comparing.specs.Checks.{wrongAt, scannedFrom, scanned, inside, orThen, checked}
 use Rattle.comparing.specs.Coming.{checkBeginning, begunInside, stuck, passedByte, passedBytes, faultTold}
-use Rattle.comparing.proofs.Coming.{byte-wrong, byte-stuck}
-use Rattle.comparing.proofs.Shifts.{past-shift, shift-test}
+use Rattle.comparing.proofs.Walks.{past-shift, shift-test}
+
+-- ---- the loop over a part: what is left of it is still to be passed
+
+module _ (c : Checking) (s : List ℕ) where
+  abbrev pub PassedTo : Checking → ℕ → Type 0
+  PassedTo d i = (i ≤ length s) × (passedBytes c s ≡ passedBytes d (drop i s))
+
+  pub check-passed-more : (d : Checking) (i : ℕ) → i < length s → {e : Checking} → e ≡ passedByte d (getD s i 0) → PassedTo d i → PassedTo e (i + 1)
+  unfolding passedBytes
+  check-passed-more d i h p w = (omega arith, w .1 ∙ rw (drop-cons s i 0 h, p, add-one i))
+
+  pub passed-all : (d : Checking) (i : ℕ) → length s ≤ i → PassedTo d i → d ≡ passedBytes c s
+  unfolding passedBytes
+  passed-all d i h w = sym (w .1 ∙ rw (drop-of-length-le s {i = i} h))
 
 -- ---- one part behind the other
 
@@ -92,10 +106,10 @@ cut-body (suc m) (x ∷ s) p q i h k = ap (λ c. faultTold (passedBytes c s)) (o
 
 -- ---- record by record
 
-stays-wrong : (s : List ℕ) (c : Checking) → c .wrong ≡ true → passedBytes c s ≡ c
-unfolding passedBytes
-stays-wrong [] c q = refl
-stays-wrong (k ∷ s) c q = ap (λ d. passedBytes d s) (sym (byte-wrong c k q)) ∙ stays-wrong s c q
+stays-stuck : (s : List ℕ) (c : Checking) → passedBytes (stuck c) s ≡ stuck c
+unfolding passedBytes passedByte
+stays-stuck [] c = refl
+stays-stuck (k ∷ s) c = stays-stuck s c
 
 -- what follows the last record
 ends : ℕ → Bool → List ℕ → Fault
@@ -117,11 +131,15 @@ module _ (n : ℕ) (k : ℕ) (s : List ℕ) (p q : ℕ) (i : Bool) (room : p + s
   Told : Type 0
   Told = faultTold (passedBytes (so-far p q 0 i) (k ∷ s)) ≡ orThen (shifted p (scannedFrom (suc n) (k ∷ s) 0)) (ends p i (k ∷ s))
 
+  gets-stuck : isEvent k ≡ false → passedByte (so-far p q 0 i) k ≡ stuck (so-far p q 0 i)
+  unfolding passedByte
+  gets-stuck e = rw e
+
   bad-kind : isEvent k ≡ false → Told
   unfolding Told passedBytes faultTold scannedFrom wrongAt
   bad-kind e =
       let z : p + 0 ≡ p = omega arith in
-      ap (λ c. faultTold (passedBytes c s)) (sym (byte-stuck (so-far p q 0 i) k refl refl e)) ∙ ap faultTold (stays-wrong s (stuck (so-far p q 0 i)) refl) ∙ rw (lt-ltb 0 (suc (length s)) (omega arith), e, z)
+      ap (λ c. faultTold (passedBytes c s)) (gets-stuck e) ∙ ap faultTold (stays-stuck s (so-far p q 0 i)) ∙ rw (lt-ltb 0 (suc (length s)) (omega arith), e, z)
 
   begins : isEvent k ≡ true → passedByte (so-far p q 0 i) k ≡ so-far (p + 1) p m j
   unfolding passedByte m j

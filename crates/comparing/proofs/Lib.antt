@@ -7,12 +7,9 @@ pub mod Sides
 pub mod Firsts
 pub mod SameBytes
 pub mod Parts
-pub mod Shifts
 pub mod Examples
 pub mod Listed
-pub mod Coming
 pub mod InParts
-pub mod Stepping
 pub mod Rests
 pub mod Walked
 pub mod Progress

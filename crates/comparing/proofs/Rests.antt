@@ -12,17 +12,16 @@ use lib.Seq.{length-take-le, take-add, getD-take}
 use lib.Dec.{eqb, leb, ltb}
 use Rattle.words.specs.Words.{pick}
 use Rattle.model.specs.Records.{lengthOf}
-use Rattle.words.proofs.Flags.{flag, no-yes, clash, and-1}
+use Rattle.words.proofs.Flags.{flag, by-flag, no-yes, clash, and-1, or-cases, or-no-1, or-no-2}
 use Rattle.comparing.specs.declared.Ahead.{Ahead}
 use Rattle.comparing.specs.declared.Ahead.the-variants as ahead-of
 use Rattle.comparing.specs.Kinds.{startsGroup}
 use Rattle.comparing.specs.Groups.{recordEnd, recordPast, endFrom, groupEnd}
 use Rattle.comparing.specs.Pairs.{sameBytes}
 use Rattle.comparing.specs.Steps.{recordOf, ahead, Front}
-use Rattle.comparing.proofs.Walks.{past-more, end-steps, end-bounds, group-none}
+use Rattle.comparing.proofs.Walks.{past-more, end-steps, end-bounds, group-none, end-shift, group-shift}
 use Rattle.comparing.proofs.Sides.{group-within}
 use Rattle.comparing.proofs.Bytes.{same-equal, same-lengths}
-use Rattle.comparing.proofs.Shifts.{end-shift, group-shift}
 
 -- ---- a log from a place on
 
@@ -137,41 +136,39 @@ module _ (begun : Bool) {s a : List ℕ} {whole : Bool} (f : Front s a whole) wh
   AheadShown (ahead-of.Shows m) = (recordOf begun s ≡ m) × (m ≤ length a)
   AheadShown ahead-of.Wants = (whole ≡ false) × (length a < recordEnd a 0)
 
-  empty : length a ≡ 0 → (w : Bool) → whole ≡ w → AheadShown (pick w (ahead-of.Shows 0) ahead-of.Wants)
+  nothing-whole : length a ≡ 0 → length a < recordEnd a 0
   unfolding recordEnd
-  empty z true e = (rw (eq-eqb (length s) 0 (omega (arith, long, none-behind e))), omega arith)
-  empty z false e = (e, omega arith)
+  nothing-whole z = omega arith
 
   module _ (h : length a ≡ 0 → ⊥) where
     not-empty : eqb (length s) 0 ≡ false
     not-empty = ne-eqb (length s) 0 (λ e. let k = long in h (omega arith))
 
-    same-past : (w u : Bool) → whole ≡ w → leb (recordEnd a 0) (length a) ≡ u → (w || u) ≡ true → recordPast s 0 ≡ recordPast a 0
+    same-past : (whole || leb (recordEnd a 0) (length a)) ≡ true → recordPast s 0 ≡ recordPast a 0
     unfolding recordPast recordEnd
-    same-past true u e r q = rw (first-byte h) (omega (arith, long, none-behind e))
-    same-past false true e r q = rw (first-byte h) (omega (arith, long, leb-true (0 + 1 + lengthOf (getD a 0 0)) (length a) r))
-    same-past false false e r q = clash q refl
-
-    some-byte : 0 < length a
-    some-byte = pos-of-ne-zero h
-
-    by-record : (begun && startsGroup (getD a 0 0)) ≡ false → (w u : Bool) → whole ≡ w → leb (recordEnd a 0) (length a) ≡ u → AheadShown (pick (w || u) (ahead-of.Shows (recordPast a 0)) ahead-of.Wants)
-    by-record r true u e l = (rw (not-empty, first-byte h, r) (same-past true u e l refl), past-more a 0 some-byte .1)
-    by-record r false true e l = (rw (not-empty, first-byte h, r) (same-past false true e l refl), past-more a 0 some-byte .1)
-    by-record r false false e l = (e, leb-false (recordEnd a 0) (length a) l)
-
-    by-start : (t : Bool) → (begun && startsGroup (getD a 0 0)) ≡ t
-        → AheadShown (pick t (ahead-of.Shows 0) (pick (whole || leb (recordEnd a 0) (length a)) (ahead-of.Shows (recordPast a 0)) ahead-of.Wants))
-    by-start true r = (rw (not-empty, first-byte h, r), omega arith)
-    by-start false r = by-record r whole (leb (recordEnd a 0) (length a)) refl refl
+    same-past q =
+        rw (first-byte h)
+        (⊎-elim
+        (λ e. omega (arith, long, none-behind e))
+        (λ l. omega (arith, long, leb-true (0 + 1 + lengthOf (getD a 0 0)) (length a) l))
+        (or-cases whole (leb (0 + 1 + lengthOf (getD a 0 0)) (length a)) q))
 
   pub ahead-shown : AheadShown (ahead begun a whole)
   unfolding ahead
   ahead-shown =
-      ⊎-elim
-      (λ q. rw q (empty (eqb-true (length a) 0 q) whole refl))
-      (λ q. rw q (by-start (eqb-false (length a) 0 q) (begun && startsGroup (getD a 0 0)) refl))
-      (flag (eqb (length a) 0))
+      by-flag AheadShown (eqb (length a) 0) _ _
+      (λ z.
+      by-flag AheadShown whole _ _
+      (λ e. (rw (eq-eqb (length s) 0 (omega (arith, long, none-behind e, eqb-true (length a) 0 z))), omega arith))
+      (λ e. (e, nothing-whole (eqb-true (length a) 0 z))))
+      (λ z.
+      let h = eqb-false (length a) 0 z in
+      by-flag AheadShown (begun && startsGroup (getD a 0 0)) _ _
+      (λ r. (rw (not-empty h, first-byte h, r), omega arith))
+      (λ r.
+      by-flag AheadShown (whole || leb (recordEnd a 0) (length a)) _ _
+      (λ q. (rw (not-empty h, first-byte h, r) (same-past h q), past-more a 0 (pos-of-ne-zero h) .1))
+      (λ q. (or-no-1 whole (leb (recordEnd a 0) (length a)) q, leb-false (recordEnd a 0) (length a) (or-no-2 whole (leb (recordEnd a 0) (length a)) q)))))
 
 -- ---- two groups are the same where their next records are, and the rest
 

@@ -7,6 +7,7 @@ use Prim.Native.Nat.{ℕ, zero, suc, _+_, _-_, _≤_, _<_}
 use native.Mathlib.Omega.{arith}
 use borrow.Author.Tests.{le-ltb, lt-ltb, le-leb, lt-leb, ne-eqb, not-true, not-false}
 use lib.ListN.{length, getD}
+use Rattle.words.specs.Words.{pick}
 use Rattle.words.proofs.Below.{lt-or-ge}
 use Rattle.model.specs.Records.{lengthOf}
 use Rattle.comparing.specs.declared.Fault.{Fault}
@@ -68,18 +69,14 @@ module _ (s : List ℕ) where
 
 -- ---- after the last record
 
-module _ {f : Fault} where
-  pub checked-empty : (s : List ℕ) → f ≡ scanned s → f ≡ fault.None → length s ≡ 0 → fault.None ≡ checked s
-  unfolding checked
-  checked-empty [] p q e = rw (sym p ∙ q)
-  checked-empty (k ∷ s) p q e = absurd (omega arith)
+pub checked-empty : (s : List ℕ) {f : Fault} → f ≡ scanned s → f ≡ fault.None → length s ≡ 0 → fault.None ≡ checked s
+unfolding checked
+checked-empty [] p q e = rw (sym p ∙ q)
+checked-empty (k ∷ s) p q e = absurd (omega arith)
 
-  pub checked-starts : (s : List ℕ) → f ≡ scanned s → f ≡ fault.None → (length s ≡ 0 → ⊥) → {t : Bool} → t ≡ startsGroup (getD s 0 0) → t ≡ true → fault.None ≡ checked s
-  unfolding checked
-  checked-starts [] p q h e g = absurd (h refl)
-  checked-starts (k ∷ s) p q h e g = rw (sym p ∙ q, sym e ∙ g)
-
-  pub checked-inside : (s : List ℕ) → f ≡ scanned s → f ≡ fault.None → (length s ≡ 0 → ⊥) → {t : Bool} → t ≡ startsGroup (getD s 0 0) → t ≡ false → fault.At 17 0 ≡ checked s
-  unfolding checked
-  checked-inside [] p q h e g = absurd (h refl)
-  checked-inside (k ∷ s) p q h e g = rw (sym p ∙ q, sym e ∙ g)
+-- where the first record starts a group, and where it does not
+pub checked-first : (b : Bool) (s : List ℕ) {f : Fault} → f ≡ scanned s → f ≡ fault.None → (length s ≡ 0 → ⊥) → {t : Bool} → t ≡ startsGroup (getD s 0 0) → t ≡ b
+    → pick b fault.None (fault.At 17 0) ≡ checked s
+unfolding checked
+checked-first b [] p q h e g = absurd (h refl)
+checked-first b (k ∷ s) p q h e g = rw (sym p ∙ q, sym e ∙ g)

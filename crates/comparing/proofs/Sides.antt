@@ -44,11 +44,8 @@ module _ (s : List ℕ) where
       (λ l. let e : placeFrom n s (groupEnd s at) ≡ at = rw (group-none s at l) (stay n at l) in omega arith)
       (lt-or-ge at (length s))
 
-  pub group-le : (at : ℕ) → at ≤ groupEnd s at
-  group-le at = ⊎-elim (λ l. let w = group-end s at l in omega arith) (λ l. let w = group-none s at l in omega arith) (lt-or-ge at (length s))
-
   pub group-on : (at : ℕ) {e : ℕ} → e ≡ groupEnd s at → at ≤ e
-  group-on at p = omega (arith, group-le at)
+  group-on at p = ⊎-elim (λ l. let w = group-end s at l in omega arith) (λ l. let w = group-none s at l in omega arith) (lt-or-ge at (length s))
 
   -- ---- by number
 
@@ -72,29 +69,23 @@ module _ (s : List ℕ) where
   unfolding groupSide groups
   side-is n = side-from (length s) n 0 (omega arith) (omega arith)
 
-  in-count : (d n at : ℕ) → length s ≤ at + d → placeFrom n s at < length s → n < length (groupsFrom d s at)
+  -- a number is below that of the groups exactly if its place lies within the log
+  counted : (d n at : ℕ) → length s ≤ at + d → (placeFrom n s at < length s → n < length (groupsFrom d s at)) × (length s ≤ placeFrom n s at → length (groupsFrom d s at) ≤ n)
   unfolding groupsFrom placeFrom
-  in-count zero n at k p = absurd (let l : length s ≤ at = omega arith in let e = stay n at l in let w : ⊥ = omega arith in w)
-  in-count (suc d) zero at k p = rw (lt-ltb at (length s) p) (omega arith)
-  in-count (suc d) (suc n) at k p =
+  counted zero n at k = let e = stay n at (omega arith) in (λ p. absurd (omega arith), λ p. omega arith)
+  counted (suc d) zero at k = (λ p. rw (lt-ltb at (length s) p) (omega arith), λ p. rw (le-ltb at (length s) p) (omega arith))
+  counted (suc d) (suc n) at k =
       ⊎-elim
-      (λ l. let w = group-end s at l in let i = in-count d n (groupEnd s at) (omega arith) p in rw (lt-ltb at (length s) l) (omega arith))
-      (λ l. absurd (let e = stay (suc n) at l in omega arith))
-      (lt-or-ge at (length s))
-
-  out-count : (d n at : ℕ) → length s ≤ placeFrom n s at → length (groupsFrom d s at) ≤ n
-  unfolding groupsFrom placeFrom
-  out-count zero n at p = omega arith
-  out-count (suc d) zero at p = rw (le-ltb at (length s) p) (omega arith)
-  out-count (suc d) (suc n) at p =
-      ⊎-elim
-      (λ l. let i = out-count d n (groupEnd s at) p in rw (lt-ltb at (length s) l) (omega arith))
-      (λ l. rw (le-ltb at (length s) l) (omega arith))
+      (λ l.
+      let w = group-end s at l in
+      let i = counted d n (groupEnd s at) (omega arith) in
+      rw (lt-ltb at (length s) l) (λ p. omega (arith, i .0 p), λ p. omega (arith, i .1 p)))
+      (λ l. let e = stay (suc n) at l in rw (le-ltb at (length s) l) (λ p. absurd (omega arith), λ p. omega arith))
       (lt-or-ge at (length s))
 
   pub counted-out : (n : ℕ) → length s ≤ placeFrom n s 0 → length (groups s) ≤ n
   unfolding groups
-  counted-out n p = out-count (length s) n 0 p
+  counted-out n p = counted (length s) n 0 (omega arith) .1 p
 
   -- ---- by the place where the group of number n begins
 
@@ -111,7 +102,7 @@ module _ (s : List ℕ) where
     -- the number is below that of the groups, and below the log's length
     pub counted-in : x < length s → (n < length (groups s)) × (n < length s)
     unfolding groups
-    counted-in h = let k : placeFrom n s 0 < length s = rw begins-at at h in (in-count (length s) n 0 (omega arith) k, omega (arith, place-grows n 0 k))
+    counted-in h = let k : placeFrom n s 0 < length s = rw begins-at at h in (counted (length s) n 0 (omega arith) .0 k, omega (arith, place-grows n 0 k))
 
     pub counted-over : length s ≤ x → length (groups s) ≤ n
     counted-over h = counted-out n (rw begins-at at h)

@@ -55,10 +55,3 @@ event-kinds k =
   where
     past : 25 ≤ k → startTold k ≡ isEvent k
     past h = rw (length-past k h) (and-false (not (isCommand k)) ∙ sym (none-past (λ x. x .kind) 25 k eventKinds refl h))
-
--- by the two tests
-pub event-command : (k : ℕ) → true ≡ isCommand k → false ≡ isEvent k
-event-command k p = rw (← p) at (event-kinds k)
-
-pub event-other : (k n : ℕ) → false ≡ isCommand k → n ≡ lengthOf k → not (eqb n 255) ≡ isEvent k
-event-other k n p q = rw (← p, ← q) at (event-kinds k)

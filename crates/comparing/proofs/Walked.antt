@@ -12,7 +12,7 @@ use lib.ListN.{length, take, drop, length-append, length-drop}
 use lib.Seq.{drop-drop, take-append-le}
 use lib.Dec.{eqb}
 use Rattle.words.specs.Words.{pick}
-use Rattle.words.proofs.Flags.{flag, and-1, and-2}
+use Rattle.words.proofs.Flags.{flag, by-flag, and-1, and-2}
 use Rattle.comparing.specs.declared.Compared.{Compared}
 use Rattle.comparing.specs.declared.Compared.the-variants as answer
 use Rattle.comparing.specs.declared.Side.{Side}
@@ -23,13 +23,9 @@ use Rattle.comparing.specs.declared.Step.{Step}
 use Rattle.comparing.specs.declared.Step.the-variants as step
 use Rattle.comparing.specs.Groups.{partTo, bytesIn, recordEnd, groupEnd, groups, groupSide}
 use Rattle.comparing.specs.Pairs.{sameBytes, samePair, differs, pairs, listed, differencesFromPair}
-use Rattle.comparing.specs.Steps.{side, walkBeginning, ahead, moved, sideBehind, onward, pairsDiffering, lowestOf, nextPair, pairOver, recordRow, stepShown, begunSide, stepped, Front, pairOf, Walked, at-start, by-row, by-same, by-differing, lowestIn, Listed}
-use Rattle.comparing.proofs.Sides.{placeFrom, group-le, side-is, side-to, next-begins, counted-in, counted-over}
+use Rattle.comparing.specs.Steps.{side, walkBeginning, ahead, moved, sideBehind, onward, pairsDiffering, lowestOf, nextPair, untouched, pairOver, recordRow, stepShown, begunSide, stepped, Front, pairOf, Walked, at-start, by-row, by-same, by-differing, lowestIn, Listed}
+use Rattle.comparing.proofs.Sides.{placeFrom, group-on, side-is, side-to, next-begins, counted-in, counted-over}
 use Rattle.comparing.proofs.Rests.{groupRest, begunAfter, Coming, coming, AheadShown, ahead-shown, same-split, group-drop}
-
-fresh-rest : (s : List ℕ) → groupEnd s 0 ≡ groupRest false s
-unfolding groupRest
-fresh-rest s = refl
 
 front-bytes : {s a : List ℕ} {whole : Bool} (f : Front s a whole) (m : ℕ) → m ≤ length a → take m a ≡ take m s
 front-bytes {s} {a} f m h = rw (f .joins) (sym (take-append-le m a (f .behind) h))
@@ -73,16 +69,17 @@ module _ {A s : List ℕ} {n : ℕ} {d : Side} (i : SideAt A s n d) (fits : leng
     side-whole = let e : groupSide A n .size ≡ d .passed = omega arith in rw (i .begins, ← e)
 
     group-here : groupEnd A (d .place) ≡ d .place + d .passed
-    group-here = let e : groupSide A n .size ≡ groupEnd A (d .place) - d .place = ap (λ x. x .size) (side-to A n (i .begins)) in omega (arith, group-le A (d .place), i .size)
+    group-here = let e : groupSide A n .size ≡ groupEnd A (d .place) - d .place = ap (λ x. x .size) (side-to A n (i .begins)) in omega (arith, group-on A (d .place) refl, i .size)
 
     side-behind : SideAt A s (n + 1) (sideBehind d)
+    unfolding groupRest
     side-behind =
         let e : (d .place + d .passed) % 2 ^ 64 ≡ d .place + d .passed = omega arith in
         let p : d .place + d .passed ≡ groupSide A (n + 1) .place = sym group-here ∙ next-begins A n (i .begins) in
         let y : d .place + d .passed + 0 ≡ d .place + d .passed = omega arith in
         record {
           begins = e ∙ p;
-          size = rw (side-to A (n + 1) p) (omega (arith, group-drop A (d .place + d .passed) (i .within), ap (λ x. groupEnd x 0) (i .here) ∙ fresh-rest s));
+          size = rw (side-to A (n + 1) p) (omega (arith, group-drop A (d .place + d .passed) (i .within), ap (λ x. groupEnd x 0) (i .here)));
           here = rw (e, y) (i .here);
           within = rw (e, y) (i .within);
         }
@@ -96,12 +93,12 @@ module _ {A s : List ℕ} {n : ℕ} {d : Side} (i : SideAt A s n d) (fits : leng
   over-here e c = counted-over A n (i .begins) (omega (arith, to-come, c .none refl .1 (rw (eq-eqb (d .passed) 0 e))))
 
 begin-side : (A : List ℕ) → SideAt A A 0 (side 0 0)
-unfolding placeFrom
+unfolding placeFrom groupRest
 begin-side A =
     let p : groupSide A 0 ≡ partTo 0 (groupEnd A 0) = side-is A 0 in
     record {
       begins = ap (λ x. x .place) (sym p);
-      size = rw p (omega (arith, fresh-rest A));
+      size = rw p (omega arith);
       here = refl;
       within = omega arith;
     }
@@ -247,33 +244,30 @@ module _ {A B s t : List ℕ} {w : Walk} {ds : List Compared} (o : On A B s t w 
     StepTells (step.Pair d v) = On A B s t v (pick d (ds ++ (pairOf w ∷ [])) ds)
     StepTells step.Over = Listed A B w ds
 
-    module _ {m n : ℕ} (c : Coming (begunSide (w .first)) s m) (d : Coming (begunSide (w .second)) t n) (k : m ≤ length a) (l : n ≤ length b) where
-      over-tells : (e : Bool) → (eqb (w .first .passed) 0 && eqb (w .second .passed) 0) ≡ e → m ≡ 0 → n ≡ 0 → StepTells (pick e step.Over (step.Pair (not (w .same)) (nextPair w)))
-      over-tells true q x y = on-over q (rw x at c) (rw y at d)
-      over-tells false q x y =
-          let z = c .none x .0 in
-          let v = d .none y .0 in
-          let h = pair-there z v q in
-          rw (turned (w .same)) (on-pair z v (h .0) (h .1))
-        where
-          turned : (e : Bool) → pick (not e) (ds ++ (pairOf w ∷ [])) ds ≡ pick e ds (ds ++ (pairOf w ∷ []))
-          turned true = refl
-          turned false = refl
+    turned : pick (not (w .same)) (ds ++ (pairOf w ∷ [])) ds ≡ pick (w .same) ds (ds ++ (pairOf w ∷ []))
+    turned = ⊎-elim (λ q. rw q) (λ q. rw q) (flag (w .same))
 
-      row-tells : (e : Bool) → (eqb m 0 && eqb n 0) ≡ e → StepTells (pick e (pairOver w) (step.Row m n (sameBytes (take m a) (take n b)) (onward w m n (sameBytes (take m a) (take n b)))))
-      unfolding pairOver
-      row-tells true q = over-tells (eqb (w .first .passed) 0 && eqb (w .second .passed) 0) refl (eqb-true m 0 (and-1 (eqb m 0) (eqb n 0) q)) (eqb-true n 0 (and-2 (eqb m 0) (eqb n 0) q))
-      row-tells false q = on-row c d (rw (front-bytes f m k, front-bytes g n l))
+    module _ {m n : ℕ} (c : Coming (begunSide (w .first)) s m) (d : Coming (begunSide (w .second)) t n) (k : m ≤ length a) (l : n ≤ length b) where
+      row-tells : StepTells (recordRow w a b m n)
+      unfolding recordRow pairOver
+      row-tells =
+          by-flag StepTells (eqb m 0 && eqb n 0) _ _
+          (λ e.
+          let x = eqb-true m 0 (and-1 (eqb m 0) (eqb n 0) e) in
+          let y = eqb-true n 0 (and-2 (eqb m 0) (eqb n 0) e) in
+          by-flag StepTells (untouched w) _ _
+          (λ q. on-over q (rw x at c) (rw y at d))
+          (λ q. let z = c .none x .0 in let v = d .none y .0 in let h = pair-there z v q in rw turned (on-pair z v (h .0) (h .1))))
+          (λ e. on-row c d (rw (front-bytes f m k, front-bytes g n l)))
 
     on-tells : StepTells (stepped w a whole b ends)
-    unfolding stepped recordRow
+    unfolding stepped
     on-tells = go (ahead (begunSide (w .first)) a whole) (ahead-shown (begunSide (w .first)) f) (ahead (begunSide (w .second)) b ends) (ahead-shown (begunSide (w .second)) g)
       where
         go : (x : Ahead) → AheadShown (begunSide (w .first)) f x → (y : Ahead) → AheadShown (begunSide (w .second)) g y → StepTells (stepShown w a b x y)
         go ahead-of.Wants p y q = p
         go (ahead-of.Shows m) p ahead-of.Wants q = q
-        go (ahead-of.Shows m) p (ahead-of.Shows n) q =
-            row-tells (rw (p .0) at (coming s (begunSide (w .first)))) (rw (q .0) at (coming t (begunSide (w .second)))) (p .1) (q .1) (eqb m 0 && eqb n 0) refl
+        go (ahead-of.Shows m) p (ahead-of.Shows n) q = row-tells (rw (p .0) at (coming s (begunSide (w .first)))) (rw (q .0) at (coming t (begunSide (w .second)))) (p .1) (q .1)
 
 -- ---- the theorem
 

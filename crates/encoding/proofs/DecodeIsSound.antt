@@ -9,7 +9,6 @@ use native.Mathlib.Omega.{arith}
 use lib.Dec.{eqb}
 use lib.ListN.{length, getD, List·getD-eq-default}
 use lib.Arith.{digits-div}
-use borrow.Author.Tests.{eqb-true, eq-eqb}
 use Rattle.model.specs.declared.Settings.{Settings}
 use Rattle.model.specs.declared.Sector.{Sector}
 use Rattle.words.specs.Words.{table}
@@ -17,25 +16,24 @@ use Rattle.model.specs.Numbers.{statusNumber, statusOf, queueKindNumber, queueK
 use Rattle.model.specs.Range.{linesOf, isTree}
 use Rattle.model.specs.Tree.{treeFine}
 use Rattle.model.specs.Address.{blockOf, sectorIndex, setIndex}
-use Rattle.model.specs.Tables.{Line, Entry, Tables, entryFor, idle, fresh, noEntry}
+use Rattle.model.specs.Tables.{Line, Entry, Tables, idle, fresh, noEntry}
 use Rattle.model.specs.Layout.{wordsFrom, queueMaskRegion}
 use Rattle.model.specs.Lent.{Lent, bit, tagOf, cycleOf, masksOf, statusesOf, readablesOf, missOf, sentOf, ticketCountOf, ticketsIn, queuedOf, kindOf, queueMasksOf, inUse, sectorAt, sectorsAt, lineAt, entryAt, queueAt, tablesOf, takenOf, treeOf}
 pub use Rattle.model.specs.SoundLent.{Small}
-use Rattle.words.proofs.Flags.{clash, iff}
-use Rattle.words.proofs.Below.{some-at, some-i, lt-or-ge, below-four, squeeze}
+use Rattle.words.proofs.Below.{lt-or-ge, below-four, squeeze}
 use Rattle.words.proofs.Places.{stride}
-use Rattle.words.proofs.Tabled.{any-get, length-table, getD-table}
-use Rattle.encoding.proofs.InUse.{in-use-few, below-used, free-past}
+use Rattle.words.proofs.Tabled.{length-table, getD-table}
+use Rattle.encoding.proofs.InUse.{FirstUsed, first-used}
 use Rattle.encoding.proofs.LentSoundFacts.{tag, status, mask, readable, miss, sent, ticketCount, ticket, kind, queueMask, Live, UsedFirst, SoundIs, tree}
 use Rattle.encoding.proofs.Standing.{field, field-in, field-out, ByNumber}
-use Rattle.encoding.proofs.NumbersAreTables.{line, sector, entry, place, Shape, reserved-number, tag-is, cycle-is, lent-taken-is, lent-tree-is, status-is, mask-is, readable-is, dirty-counts, miss-is, lent-sent-is, entry-in, in-entry, kind-in, queued-in, queue-mask-is, reads-are, lives, live-i}
-use Rattle.encoding.proofs.SoundByPlace.{SectorOk, LineOk, OnlyTag, Agrees, EntryOk, QueuedOk, Soundly, bit-clear}
+use Rattle.encoding.proofs.NumbersAreTables.{entry, place, Shape, tag-is, cycle-is, lent-taken-is, lent-tree-is, status-is, mask-is, readable-is, dirty-counts, miss-is, lent-sent-is, entry-in, in-entry, kind-in, queued-in, queue-mask-is, reads-are, live-is}
+use Rattle.encoding.proofs.SoundByPlace.{LineOk, OnlyTag, Agrees, EntryOk, QueuedOk, Soundly, bit-clear}
 
 module _ (S : Settings) (L : Lent) (is : SoundIs S L) where
   -- a tag is on one live line only
   one-line : (l k : ℕ) → l < linesOf S → k < linesOf S → Live S L l → Live S L k → tag S L l ≡ tag S L k → l ≡ k
   one-line l k hl hk vl vk e =
-      let p : l / S .ways ≡ k / S .ways = sym (is .lines l hl .home vl) ∙ ap (setIndex S) e ∙ is .lines k hk .home vk in
+      let p : l / S .ways ≡ k / S .ways = sym (is .lines l hl .facts .home vl) ∙ ap (setIndex S) e ∙ is .lines k hk .facts .home vk in
       squeeze l k (λ h. is .lines k hk .alone vk l h p vl e) (λ h. is .lines l hl .alone vl k h (sym p) vk (sym e))
 
 -- ---- tables that stand in them
@@ -44,66 +42,44 @@ module _ (S : Settings) (L : Lent) (t : Tables) (st : ByNumber S L t) (sh : Shap
   in-lines : (l : ℕ) → l < length (t .lines) → l < linesOf S
   in-lines l h = let e = sh .size in omega arith
 
-  sector-ok : (l k : ℕ) → l < linesOf S → k < 4 → SectorOk (statusNumber (sector t l k .status)) (sector t l k .mask) (bit (sector t l k .readable))
-  sector-ok l k h j =
-      let f = is .sectors (4 * l + k) (omega arith) in
-      let x = status-is S L t st sh l k h j in
-      let m = mask-is S L t st sh l k h j in
-      let r = readable-is S L t st sh l k h j in
-      record {
-        small = rw m at (small (1 + linesOf S + (4 * l + k)));
-        clean = λ c. sym m ∙ f .clean (rw x c);
-        dirty = λ c z. f .dirty (x ∙ c) (m ∙ z);
-        unreadable = λ z. let w = f .unreadable (r ∙ z) in (sym x ∙ w .0, λ q. w .1 (m ∙ q));
-      }
-
   line-ok : (l : ℕ) → l < linesOf S → LineOk S t l
-  line-ok l h =
-      let f = is .lines l h in
-      let a = tag-is S L t st sh l h in
-      let c = cycle-is S L t st sh l h in
-      let k = lent-taken-is S L t st sh l h in
-      record {
-        four = sh .fours l h;
-        sectors = λ k j. sector-ok l k h j;
-        past = rw (c, st .time) at (f .past);
-        since = rw (k, c) at (f .since);
-        dead = λ u. let z = f .dead (λ v. clash u (lives S L t st sh l h v)) in ((sym a ∙ z .0 .0, sym c ∙ z .0 .1), sym k ∙ z .1);
-        block = λ v. rw a at (f .block (live-i S L t st sh l h v));
-        home = λ v. rw a at (f .home (live-i S L t st sh l h v));
-      }
+  line-ok l h = record {
+    four = sh .fours l h;
+    sectors = λ k j.
+        let m = mask-is S L t st sh l k h j in (
+          rw (status-is S L t st sh l k h j, m, readable-is S L t st sh l k h j) at (is .sectors (4 * l + k) (omega arith) .facts),
+          rw m at (small (1 + linesOf S + (4 * l + k))),
+        );
+    facts = rw (live-is S L t st sh l h, tag-is S L t st sh l h, cycle-is S L t st sh l h, lent-taken-is S L t st sh l h, st .time) at (is .lines l h .facts);
+  }
 
   alone : (l : ℕ) → l < linesOf S → OnlyTag S t l
   alone l h v m k u e =
       let b = in-lines m k in
-      one-line S L is m l b h (live-i S L t st sh m b u) (live-i S L t st sh l h v) (tag-is S L t st sh m b ∙ e ∙ sym (tag-is S L t st sh l h))
+      one-line S L is m l b h (live-is S L t st sh m b ∙ u) (live-is S L t st sh l h ∙ v) (tag-is S L t st sh m b ∙ e ∙ sym (tag-is S L t st sh l h))
 
   -- a sector of a line that lives is RESERVED exactly if an entry has its address
   agrees : (l : ℕ) → l < linesOf S → Agrees S t l
   agrees l h v k j =
       let x = status-is S L t st sh l k h j in
-      let t-is = tag-is S L t st sh l h in
-      iff
-      (λ r.
-      let q : status S L (4 * l + k) ≡ 1 = x ∙ eqb-true _ _ (reserved-number (sector t l k .status) ∙ r) in
-      let (e, b, (u, a)) = is .sectors (4 * l + k) (omega arith) .backed q in
-      let y : (4 * l + k) / 4 ≡ l = omega arith in
-      let z : (4 * l + k) % 4 ≡ k = omega arith in
-      let m : miss S L e ≡ tag S L l + 32 * k = rw (y, z) at a in
-      some-i (λ e. entryFor (line t l .tag + 32 * k) (entry t e)) (length (t .misses)) e (entry-in S L t st sh e b u)
-      (eq-eqb _ _ (sym (miss-is S L t st sh e b) ∙ m ∙ ap (λ (n : ℕ). n + 32 * k) t-is)))
-      (λ s.
-      let (e, i, q) = some-at (λ e. entryFor (line t l .tag + 32 * k) (entry t e)) (length (t .misses)) s in
-      let b : e < S .misses = omega (arith, sh .few) in
-      let a : miss S L e ≡ tag S L l + 32 * k = miss-is S L t st sh e b ∙ eqb-true _ _ q ∙ ap (λ (n : ℕ). n + 32 * k) (sym t-is) in
-      let (n, c, w) = is .entries e b .backed (in-entry S L t st sh e i) in
-      let even : tag S L l % 128 ≡ 0 = is .lines l h .block (live-i S L t st sh l h v) .even in
-      let same : tag S L n ≡ tag S L l = w .has ∙ omega arith in
-      let k-is : sectorIndex (miss S L e) ≡ k = omega arith in
-      let n-is : n ≡ l = one-line S L is n l c h (w .lives) (live-i S L t st sh l h v) same in
-      let waits : status S L (4 * l + k) ≡ 1 = rw (n-is, k-is) at (w .waits) in
-      sym (reserved-number (sector t l k .status)) ∙ eq-eqb _ _ (sym x ∙ waits))
-      ∙ sym (any-get (entryFor (line t l .tag + 32 * k)) (t .misses) noEntry)
+      let t-is = tag-is S L t st sh l h in (
+        λ r.
+            let (e, b, (u, a)) = is .sectors (4 * l + k) (omega arith) .backed (x ∙ r) in
+            let y : (4 * l + k) / 4 ≡ l = omega arith in
+            let z : (4 * l + k) % 4 ≡ k = omega arith in
+            let m : miss S L e ≡ tag S L l + 32 * k = rw (y, z) at a in
+            (e, entry-in S L t st sh e b u, sym (miss-is S L t st sh e b) ∙ m ∙ ap (λ (n : ℕ). n + 32 * k) t-is),
+        λ (e, i, q).
+            let b : e < S .misses = omega (arith, sh .few) in
+            let a : miss S L e ≡ tag S L l + 32 * k = miss-is S L t st sh e b ∙ q ∙ ap (λ (n : ℕ). n + 32 * k) (sym t-is) in
+            let (n, c, w) = is .entries e b .backed (in-entry S L t st sh e i) in
+            let even : tag S L l % 128 ≡ 0 = is .lines l h .facts .block (live-is S L t st sh l h ∙ v) .even in
+            let same : tag S L n ≡ tag S L l = w .has ∙ omega arith in
+            let k-is : sectorIndex (miss S L e) ≡ k = omega arith in
+            let n-is : n ≡ l = one-line S L is n l c h (w .lives) (live-is S L t st sh l h ∙ v) same in
+            let waits : status S L (4 * l + k) ≡ 1 = rw (n-is, k-is) at (w .waits) in
+            sym x ∙ waits,
+      )
 
   -- ---- entries and the queue
 
@@ -114,21 +90,21 @@ module _ (S : Settings) (L : Lent) (t : Tables) (st : ByNumber S L t) (sh : Shap
       let f = is .entries e b in
       let a = miss-is S L t st sh e b in
       let (l, h, w) = f .backed u in
-      let low : tag S L l < 2 ^ 48 = is .lines l h .block (w .lives) .low in
-      let even : tag S L l % 128 ≡ 0 = is .lines l h .block (w .lives) .even in
+      let low : tag S L l < 2 ^ 48 = is .lines l h .facts .block (w .lives) .low in
+      let even : tag S L l % 128 ≡ 0 = is .lines l h .facts .block (w .lives) .even in
       let has : tag S L l ≡ blockOf (miss S L e) = w .has in
       record {
         even = rw a at (f .even u);
         low = rw a at (below (miss S L e) (tag S L l) low even has);
-        home = (l, omega (arith, sh .size), (lives S L t st sh l h (w .lives), sym (tag-is S L t st sh l h) ∙ rw a at has));
+        home = (l, omega (arith, sh .size), (sym (live-is S L t st sh l h) ∙ (w .lives), sym (tag-is S L t st sh l h) ∙ rw a at has));
         alone = λ d k q.
             let c : d < S .misses = omega (arith, sh .few) in
             let v = in-entry S L t st sh d k in
             let o : miss S L d ≡ miss S L e = miss-is S L t st sh d c ∙ q ∙ sym a in
-            squeeze d e (λ z. f .alone u d z v o) (λ z. is .entries d c .alone v e z u (sym o));
+            squeeze d e (λ z. f .alone u d z (v, o)) (λ z. is .entries d c .alone v e z (u, sym o));
         held = sh .held e i;
         short = sh .short e i;
-        asked = λ s. sym (reads-are S L t st sh (entry t e .address)) ∙ rw a at (f .asked u (lent-sent-is S L t st sh e b ∙ ap bit s));
+        asked = λ s. sym (reads-are S L t st sh (entry t e .address)) ∙ rw a at (f .asked (u, lent-sent-is S L t st sh e b ∙ ap bit s));
       }
     where
       below : (a b : ℕ) → b < 2 ^ 48 → b % 128 ≡ 0 → b ≡ blockOf a → a < 2 ^ 48
@@ -141,17 +117,19 @@ module _ (S : Settings) (L : Lent) (t : Tables) (st : ByNumber S L t) (sh : Shap
       let a = queued-in S L t st sh p l in
       let n = kind-in S L t st sh p l in
       record {
-        backed = λ q.
-            let (e, b, w) = f .backed (n ∙ q) in (
-              e,
-              entry-in S L t st sh e b (w .used),
-              (sym (miss-is S L t st sh e b) ∙ w .has ∙ a, bit-clear (entry t e .sent) (sym (lent-sent-is S L t st sh e b) ∙ w .waits)),
-            );
-        bare = λ q k j. sym (queue-mask-is S L t st sh p k h j) ∙ f .bare (omega arith) k j;
-        block = λ q. rw a at (f .block (n ∙ q));
         masked = sh .masked p l;
         small = λ k j. rw (queue-mask-is S L t st sh p k h j) at (small (wordsFrom S queueMaskRegion + (4 * p + k)));
-        dirty = λ q. let (k, j, d) = f .dirty (n ∙ q) in (k, j, λ z. d (queue-mask-is S L t st sh p k h j ∙ z));
+        fitting = record {
+          backed = λ q.
+              let (e, b, w) = f .backed (n ∙ q) in (
+                e,
+                entry-in S L t st sh e b (w .used),
+                (sym (miss-is S L t st sh e b) ∙ w .has ∙ a, bit-clear (entry t e .sent) (sym (lent-sent-is S L t st sh e b) ∙ w .waits)),
+              );
+          bare = λ q k j. sym (queue-mask-is S L t st sh p k h j) ∙ f .bare (omega arith) k j;
+          block = λ q. rw a at (f .block (n ∙ q));
+          dirty = λ q. let (k, j, d) = f .dirty (n ∙ q) in (k, j, λ z. d (queue-mask-is S L t st sh p k h j ∙ z));
+        };
       }
 
   pub stands-soundly : Soundly S t
@@ -172,8 +150,8 @@ module _ {A : Type 0} (g : A → List ℕ) (n : ℕ) (f : ℕ → A) (e k : ℕ)
 used-field : (u : ℕ → ℕ) (n : ℕ) → UsedFirst n u → {A : Type 0} (f : ℕ → A) (g : A → List ℕ) (e k : ℕ) {m : ℕ} → e < n
     → ((u e ≡ 0 → ⊥) → m ≡ getD (g (f e)) k 0) → (u e ≡ 0 → m ≡ 0) → m ≡ field g (table (inUse n u) f) e k
 used-field u n first f g e k h p z =
-    ⊎-elim (λ l. p (below-used u n e first l .1) ∙ sym (field-table g (inUse n u) f e k l))
-    (λ o. z (free-past u n e first h o) ∙ sym (field-out g (table (inUse n u) f) e k (rw length-table o))) (lt-or-ge e (inUse n u))
+    ⊎-elim (λ l. p (first-used u n first .used e l) ∙ sym (field-table g (inUse n u) f e k l))
+    (λ o. z (first-used u n first .free e h o) ∙ sym (field-out g (table (inUse n u) f) e k (rw length-table o))) (lt-or-ge e (inUse n u))
 
 pub number-back : (n : ℕ) → n ≤ 3 → n ≡ statusNumber (statusOf n)
 number-back n h = below-four (λ n. n ≡ statusNumber (statusOf n)) refl refl refl refl n (omega arith)
@@ -183,9 +161,9 @@ mark-back zero h = refl
 mark-back (suc zero) h = refl
 mark-back (suc (suc n)) h = absurd (omega arith)
 
-pub sectors-at : (f : Sector → ℕ) (S : Settings) (words marks : List ℕ) (l k : ℕ) → k < 4
+pub sector-numbers-at : (f : Sector → ℕ) (S : Settings) (words marks : List ℕ) (l k : ℕ) → k < 4
     → f (sectorAt S words marks (4 * l + k)) ≡ getD (map f (sectorsAt S words marks l)) k 0
-sectors-at f S words marks l =
+sector-numbers-at f S words marks l =
     below-four (λ k. f (sectorAt S words marks (4 * l + k)) ≡ getD (map f (sectorsAt S words marks l)) k 0) (rw add-zero) refl refl refl
 
 -- a kind by its number
@@ -229,12 +207,12 @@ module _ (S : Settings) (L : Lent) (is : SoundIs S L) where
     takens = λ l h. sym (field-table takenOf (linesOf S) decodedLine l 0 h);
     statuses = λ l k h j.
         number-back (status S L (4 * l + k)) (is .sectors (4 * l + k) (omega arith) .known)
-        ∙ sectors-at (λ s. statusNumber (s .status)) S (L .words) (L .marks) l k j
+        ∙ sector-numbers-at (λ s. statusNumber (s .status)) S (L .words) (L .marks) l k j
         ∙ sym (field-table statusesOf (linesOf S) decodedLine l k h);
-    masks = λ l k h j. sectors-at (λ s. s .mask) S (L .words) (L .marks) l k j ∙ sym (field-table masksOf (linesOf S) decodedLine l k h);
+    masks = λ l k h j. sector-numbers-at (λ s. s .mask) S (L .words) (L .marks) l k j ∙ sym (field-table masksOf (linesOf S) decodedLine l k h);
     readables = λ l k h j.
         mark-back (readable S L (4 * l + k)) (is .sectors (4 * l + k) (omega arith) .mark)
-        ∙ sectors-at (λ s. bit (s .readable)) S (L .words) (L .marks) l k j
+        ∙ sector-numbers-at (λ s. bit (s .readable)) S (L .words) (L .marks) l k j
         ∙ sym (field-table readablesOf (linesOf S) decodedLine l k h);
     misses = λ e h. used-field (ticketCount S L) (S .misses) (is .entries-first) (entryAt S L) missOf e 0 h (λ u. refl) (λ z. is .entries e h .blank z .0);
     sents = λ e h. used-field (ticketCount S L) (S .misses) (is .entries-first) (entryAt S L) sentOf e 0 h (λ u. mark-back (sent S L e) (is .entries e h .mark)) (λ z. is .entries e h .blank z .1);
@@ -256,21 +234,22 @@ module _ (S : Settings) (L : Lent) (is : SoundIs S L) where
   tickets-read e h =
       ap (λ (x : Entry). length (x .tickets)) (getD-table few (entryAt S L) e noEntry h) ∙ length-table (ticketCount S L e) (λ j. ticket S L (S .readers * e + j))
 
+  entries-used : FirstUsed (ticketCount S L) (S .misses) few
+  entries-used = first-used (ticketCount S L) (S .misses) (is .entries-first)
+
   pub read-shape : Shape S (tablesOf S L)
   unfolding tablesOf
   read-shape = record {
     size = length-table (linesOf S) decodedLine;
     fours = λ l h. ap (λ (x : Line). length (x .sectors)) (getD-table (linesOf S) decodedLine l fresh h);
-    few = rw (length-table few (entryAt S L)) (in-use-few (ticketCount S L) (S .misses));
+    few = rw (length-table few (entryAt S L)) (entries-used .few);
     held = λ e h.
         let i : e < few = rw (length-table few (entryAt S L)) at h in
-        let u = below-used (ticketCount S L) (S .misses) e (is .entries-first) i .1 in
-        rw (tickets-read e i) (⊎-elim (λ k. k) (λ k. absurd (u (omega arith))) (lt-or-ge 0 (ticketCount S L e)));
+        rw (tickets-read e i) (⊎-elim (λ k. k) (λ k. absurd (entries-used .used e i (omega arith))) (lt-or-ge 0 (ticketCount S L e)));
     short = λ e h.
         let i : e < few = rw (length-table few (entryAt S L)) at h in
-        let b = below-used (ticketCount S L) (S .misses) e (is .entries-first) i .0 in
-        rw (tickets-read e i) (is .entries e b .few);
-    deep = rw (length-table deep (queueAt S L)) (in-use-few (kind S L) (S .queue));
+        rw (tickets-read e i) (is .entries e (omega (arith, entries-used .few)) .few);
+    deep = rw (length-table deep (queueAt S L)) (first-used (kind S L) (S .queue) (is .places-first) .few);
     masked = λ p h.
         let i : p < deep = rw (length-table deep (queueAt S L)) at h in
         rw (getD-table deep (queueAt S L) p idle i) (length-table 4 (λ k. queueMask S L (4 * p + k)));

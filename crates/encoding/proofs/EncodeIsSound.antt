@@ -1,29 +1,25 @@
 -- Slices in which sound tables stand are sound: each fact on the tables gives those on the numbers.
 use mathlib.Core.Path.{_≡_, refl, sym, ap, _∙_}
 use mathlib.Core.Logic.{⊎-elim}
-use mathlib.Core.Bool.{Bool, true, false}
+use mathlib.Core.Bool.{Bool, true, false, not}
 use Prim.Native.Nat.{ℕ, suc, _+_, _*_, _/_, _%_, _≤_, _<_}
 use native.Mathlib.Nat.{div-add-mod, div-lt-iff-lt-mul, mod-lt, mul-comm}
 use native.Mathlib.Omega.{arith}
+use lib.Dec.{eqb}
 use lib.ListN.{length, getD-replicate, List·getD-eq-default}
-use borrow.Author.Tests.{eqb-true, eq-eqb}
 use Rattle.model.specs.Numbers.{queueKindNumber}
 use Rattle.model.specs.declared.Settings.{Settings}
 use Rattle.model.specs.declared.Queued.{Queued}
-use Rattle.words.specs.Words.{any}
 use Rattle.model.specs.Range.{linesOf}
 use Rattle.model.specs.Address.{sectorIndex}
-use Rattle.model.specs.Tables.{Entry, Tables, isInvalid, isReserved, whollyInvalid, entryFor, idle, noEntry}
+use Rattle.model.specs.Tables.{Entry, Tables, idle, noEntry}
 use Rattle.model.specs.Lent.{Lent, bit}
-use Rattle.words.proofs.Flags.{flag, no-yes, clash}
-use Rattle.words.proofs.Below.{every-at, some-at, some-i, lt-or-ge}
+use Rattle.words.proofs.Below.{some-i, lt-or-ge}
 use Rattle.model.proofs.Answers.{by-kind, status-below}
-use Rattle.model.proofs.ProbeFindsSpot.{reserved-used}
-use Rattle.words.proofs.Tabled.{any-get}
-use Rattle.encoding.proofs.LentSoundFacts.{tag, status, readable, miss, sent, ticketCount, ticket, queued, kind, Live, Used, LentLineIs, SectorIs, Reserves, LentEntryIs, Unsent, PlaceIs, SoundIs}
+use Rattle.encoding.proofs.LentSoundFacts.{tag, status, readable, miss, sent, ticketCount, ticket, queued, kind, Used, LentLineIs, SectorIs, Reserves, LentEntryIs, Unsent, PlaceIs, SoundIs}
 use Rattle.encoding.proofs.Standing.{ByNumber}
-use Rattle.encoding.proofs.NumbersAreTables.{line, sector, entry, place, maskIn, Shape, reserved-number, tag-is, cycle-is, lent-taken-is, lent-tree-is, status-is, mask-is, readable-is, unused-is, dirty-counts, miss-is, lent-sent-is, count-is, ticket-is, count-out, entry-in, in-entry, kind-in, kind-out, queued-in, queued-out, queue-mask-is, place-in, in-place, reads-are, lives, live-i}
-use Rattle.encoding.proofs.SoundByPlace.{Lives, Soundly, soundly-shape, bit-clear}
+use Rattle.encoding.proofs.NumbersAreTables.{line, sector, entry, place, maskIn, Shape, tag-is, cycle-is, lent-taken-is, lent-tree-is, status-is, mask-is, readable-is, live-is, dirty-counts, miss-is, lent-sent-is, count-is, ticket-is, count-out, entry-in, in-entry, kind-in, kind-out, queued-in, queued-out, queue-mask-is, place-in, in-place, reads-are}
+use Rattle.encoding.proofs.SoundByPlace.{Soundly, soundly-shape, bit-clear}
 
 bit-low : (r : Bool) → bit r ≤ 1
 bit-low true = omega arith
@@ -35,54 +31,34 @@ module _ (S : Settings) (L : Lent) (t : Tables) (st : ByNumber S L t) (so : Soun
 
   -- ---- lines
 
-  dies : (l : ℕ) → l < linesOf S → (Live S L l → ⊥) → whollyInvalid (line t l) ≡ true
-  dies l h f = ⊎-elim (λ u. u) (λ u. absurd (f (live-i S L t st sh l h u))) (flag (whollyInvalid (line t l)))
-
   line-is : (l : ℕ) → l < linesOf S → LentLineIs S L l
   line-is l h =
-      let f = so .lines l h in
       let a = tag-is S L t st sh l h in
-      let c = cycle-is S L t st sh l h in
-      let k = lent-taken-is S L t st sh l h in
       record {
-        dead = λ d. let z = f .dead (dies l h d) in ((a ∙ z .0 .0, c ∙ z .0 .1), k ∙ z .1);
-        block = λ v. rw a (f .block (lives S L t st sh l h v));
-        home = λ v. rw a (f .home (lives S L t st sh l h v));
-        past = rw (c, st .time) (f .past);
-        since = rw (k, c) (f .since);
+        facts = rw (live-is S L t st sh l h, a, cycle-is S L t st sh l h, lent-taken-is S L t st sh l h, st .time) (so .lines l h .facts);
         alone = λ v m j r w e.
             let b : m < linesOf S = omega arith in
-            let q : m ≡ l = so .alone l h (lives S L t st sh l h v) m (omega arith) (lives S L t st sh m b w) (sym (tag-is S L t st sh m b) ∙ e ∙ a) in
+            let q : m ≡ l = so .alone l h (sym (live-is S L t st sh l h) ∙ v) m (omega arith) (sym (live-is S L t st sh m b) ∙ w) (sym (tag-is S L t st sh m b) ∙ e ∙ a) in
             omega arith;
       }
 
   -- ---- sectors
 
-  reserved-lives : (l k : ℕ) → l < linesOf S → k < 4 → isReserved (sector t l k .status) ≡ true → Lives S t l
-  reserved-lives l k h j r = no-yes (λ u.
-      clash (every-at (λ k. isInvalid (sector t l k .status)) 4 k (sym (unused-is S L t st sh l h) ∙ u) j) (reserved-used (sector t l k .status) r))
-
   sector-is : (l k : ℕ) → l < linesOf S → k < 4 → SectorIs S L (4 * l + k)
   sector-is l k h j =
-      let f = so .lines l h .sectors k j in
       let x = status-is S L t st sh l k h j in
-      let m = mask-is S L t st sh l k h j in
       let r = readable-is S L t st sh l k h j in
       record {
         known = rw x (omega (arith, status-below (sector t l k .status)));
         mark = rw r (bit-low (sector t l k .readable));
-        clean = λ c. m ∙ f .clean (rw x at c);
-        dirty = λ c z. f .dirty (sym x ∙ c) (sym m ∙ z);
-        unreadable = λ z. let w = f .unreadable (sym r ∙ z) in (x ∙ w .0, λ q. w .1 (sym m ∙ q));
+        facts = rw (x, mask-is S L t st sh l k h j, r) (so .lines l h .sectors k j .0);
         backed = λ q.
-            let held : isReserved (sector t l k .status) ≡ true = sym (reserved-number (sector t l k .status)) ∙ eq-eqb _ _ (sym x ∙ q) in
-            let a : any (entryFor (line t l .tag + 32 * k)) (t .misses) ≡ true = sym (so .agrees l h (reserved-lives l k h j held) k j) ∙ held in
-            let (e, i, w) = some-at (λ e. entryFor (line t l .tag + 32 * k) (entry t e)) (length (t .misses))
-            (sym (any-get (entryFor (line t l .tag + 32 * k)) (t .misses) noEntry) ∙ a) in
+            let v = some-i (λ k. not (eqb (status S L (4 * l + k)) 0)) 4 k j (rw q) in
+            let (e, i, w) = so .agrees l h (sym (live-is S L t st sh l h) ∙ v) k j .0 (sym x ∙ q) in
             let b : e < S .misses = omega (arith, so .few) in
             let y : (4 * l + k) / 4 ≡ l = omega arith in
             let z : (4 * l + k) % 4 ≡ k = omega arith in
-            (e, b, (in-entry S L t st sh e i, rw (y, z) (miss-is S L t st sh e b ∙ eqb-true _ _ w ∙ ap (λ (n : ℕ). n + 32 * k) (sym (tag-is S L t st sh l h)))));
+            (e, b, (in-entry S L t st sh e i, rw (y, z) (miss-is S L t st sh e b ∙ w ∙ ap (λ (n : ℕ). n + 32 * k) (sym (tag-is S L t st sh l h)))));
       }
 
   -- ---- entries
@@ -99,15 +75,10 @@ module _ (S : Settings) (L : Lent) (t : Tables) (st : ByNumber S L t) (so : Soun
       let n : l < linesOf S = omega (arith, so .size) in
       let j : sectorIndex (entry t e .address) < 4 = omega arith in
       let a : entry t e .address ≡ line t l .tag + 32 * sectorIndex (entry t e .address) = omega arith in
-      let some : any (entryFor (line t l .tag + 32 * sectorIndex (entry t e .address))) (t .misses) ≡ true =
-      any-get (entryFor (line t l .tag + 32 * sectorIndex (entry t e .address))) (t .misses) noEntry
-      ∙ some-i (λ d. entryFor (line t l .tag + 32 * sectorIndex (entry t e .address)) (entry t d)) (length (t .misses)) e i (eq-eqb _ _ a) in
-      let r : isReserved (sector t l (sectorIndex (entry t e .address)) .status) ≡ true = so .agrees l n v (sectorIndex (entry t e .address)) j ∙ some in
       let x : status S L (4 * l + sectorIndex (entry t e .address)) ≡ 1 =
-      status-is S L t st sh l (sectorIndex (entry t e .address)) n j
-      ∙ eqb-true _ _ (reserved-number (sector t l (sectorIndex (entry t e .address)) .status) ∙ r) in
+      status-is S L t st sh l (sectorIndex (entry t e .address)) n j ∙ so .agrees l n v (sectorIndex (entry t e .address)) j .1 (e, i, a) in
       let m = miss-is S L t st sh e h in
-      (l, n, record { lives = live-i S L t st sh l n v; has = rw m (tag-is S L t st sh l n ∙ at); waits = rw m x })
+      (l, n, record { lives = live-is S L t st sh l n ∙ v; has = rw m (tag-is S L t st sh l n ∙ at); waits = rw m x })
 
   entry-is : (e : ℕ) → e < S .misses → LentEntryIs S L e
   entry-is e h =
@@ -121,12 +92,12 @@ module _ (S : Settings) (L : Lent) (t : Tables) (st : ByNumber S L t) (so : Soun
             (m ∙ ap (λ (y : Entry). y .address) o, x ∙ ap (λ (y : Entry). bit (y .sent)) o);
         even = λ u. rw m (so .entries e (entry-in S L t st sh e h u) .even);
         backed = entry-home e h;
-        alone = λ u d k v q.
+        alone = λ u d k (v, q).
             let b : d < S .misses = omega arith in
             let i : e < length (t .misses) = entry-in S L t st sh e h u in
             let z : d ≡ e = so .entries e i .alone d (omega arith) (sym (miss-is S L t st sh d b) ∙ q ∙ m) in
             omega arith;
-        asked = λ u z. rw m (reads-are S L t st sh (entry t e .address)
+        asked = λ (u, z). rw m (reads-are S L t st sh (entry t e .address)
             ∙ so .entries e (entry-in S L t st sh e h u) .asked (bit-clear (entry t e .sent) (sym x ∙ z)));
       }
 
@@ -142,7 +113,7 @@ module _ (S : Settings) (L : Lent) (t : Tables) (st : ByNumber S L t) (so : Soun
   read-entry : (p : ℕ) → p < S .queue → kind S L p ≡ 1 → (e : ℕ) × (e < S .misses) × Unsent S L (queued S L p) e
   read-entry p h q =
       let l : p < length (t .queue) = place-i p h q in
-      let (e, i, (a, s)) = so .queue p l .backed (sym (kind-in S L t st sh p l) ∙ q) in
+      let (e, i, (a, s)) = so .queue p l .fitting .backed (sym (kind-in S L t st sh p l) ∙ q) in
       let b : e < S .misses = omega (arith, so .few) in (
         e,
         b,
@@ -159,13 +130,13 @@ module _ (S : Settings) (L : Lent) (t : Tables) (st : ByNumber S L t) (so : Soun
     blank = λ z. queued-out S L t st sh p h (place-out p h z);
     bare = λ q k j.
         queue-mask-is S L t st sh p k h j
-        ∙ ⊎-elim (λ l. so .queue p l .bare (by-kind (λ k. queueKindNumber k ≤ 1 → queueKindNumber k ≡ 1) (λ z. refl) (λ z. absurd (omega arith)) (place t p .kind) (rw (kind-in S L t st sh p l) at q)) k j)
+        ∙ ⊎-elim (λ l. so .queue p l .fitting .bare (by-kind (λ k. queueKindNumber k ≤ 1 → queueKindNumber k ≡ 1) (λ z. refl) (λ z. absurd (omega arith)) (place t p .kind) (rw (kind-in S L t st sh p l) at q)) k j)
         (λ o. ap (λ (x : Queued). maskIn x k) (List·getD-eq-default (t .queue) idle o) ∙ getD-replicate 4 k 0 0 j) (lt-or-ge p (length (t .queue)));
     block = λ q. let l : p < length (t .queue) = place-i p h q in
-        rw (queued-in S L t st sh p l) (so .queue p l .block (sym (kind-in S L t st sh p l) ∙ q));
+        rw (queued-in S L t st sh p l) (so .queue p l .fitting .block (sym (kind-in S L t st sh p l) ∙ q));
     dirty = λ q.
         let l : p < length (t .queue) = place-i p h q in
-        let (k, j, d) = so .queue p l .dirty (sym (kind-in S L t st sh p l) ∙ q) in
+        let (k, j, d) = so .queue p l .fitting .dirty (sym (kind-in S L t st sh p l) ∙ q) in
         (k, j, λ z. d (sym (queue-mask-is S L t st sh p k h j) ∙ z));
     backed = read-entry p h;
   }

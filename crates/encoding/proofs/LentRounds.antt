@@ -11,12 +11,12 @@ use Rattle.model.specs.declared.Access.{Access}
 use Rattle.words.specs.Words.{any}
 use Rattle.model.specs.Range.{inRange}
 use Rattle.model.specs.Tables.{Entry, Tables, Outcome, refused, done, after, accepted}
-use Rattle.model.specs.Lent.{Lent, encode, tablesOf}
+use Rattle.model.specs.Lent.{Lent, encode}
 use Rattle.model.specs.Sound.{sound}
 use Rattle.model.specs.Steps.{access, send, fill}
-use Rattle.model.specs.Calls.{encoded}
+use Rattle.model.specs.Calls.{call, encoded}
 use Rattle.model.specs.Inner.{Encodes}
-use Rattle.model.specs.Rounds.{steps, calls, Turn, took, andThen, Run, outcomeGoOn, isEmpty, outcomeSend, outcomeFill, outcomeDrain, outcomeRounds, outcomeHeld, outcomeWaits, Settles}
+use Rattle.model.specs.Rounds.{steps, calls, Turn, took, Run, outcomeGoOn, isEmpty, outcomeSend, outcomeFill, outcomeDrain, outcomeRounds, outcomeHeld, outcomeWaits, Settles}
 use Rattle.encoding.proofs.Bridge.{tables-of-encode, call-on}
 use Rattle.model.proofs.SeenRounds.{took-left}
 use Rattle.words.proofs.Flags.{flag}
@@ -52,53 +52,44 @@ module _ (S : Settings) where
 -- ---- the rounds
 
 module _ (S : Settings) (x : Access) (range : inRange S ≡ true) (keeps : Keeps S) where
-  send-sound : (t : Tables) → sound S t ≡ true → sound S (outcomeSend (steps S x) t .left) ≡ true
+  -- a turn of the steps that left sound tables, and the same turn of the calls
+  record Alike (b : Turn Lent) (a : Turn Tables) : Type 0 where
+    soundly : sound S (a .left) ≡ true
+    same : b ≡ turnOf S a
+
+  took-alike : (step : Tables → Outcome Tables) (t : Tables) → sound S t ≡ true → sound S (after t (step t)) ≡ true
+      → Alike (took (encode S t) (call S step (encode S t))) (took t (step t))
+  took-alike step t e k = record { soundly = rw (took-left t (step t)) k; same = rw (call-on S step t range e) (took-encoded S t (step t)) }
+
+  send-alike : (t : Tables) → sound S t ≡ true → Alike (outcomeSend (calls S x) (encode S t)) (outcomeSend (steps S x) t)
   unfolding outcomeSend
-  send-sound t e = ⊎-elim (λ q. rw q e) (λ q. rw q (rw (took-left t (send t)) (keeps .sends t e))) (flag (isEmpty (t .queue)))
+  send-alike t e =
+      rw (tables-of-encode S t e)
+      (⊎-elim (λ q. rw q (record { soundly = e; same = refl })) (λ q. rw q (took-alike send t e (keeps .sends t e))) (flag (isEmpty (t .queue))))
 
-  fill-sound : (es : List Entry) (t : Tables) → sound S t ≡ true → sound S (outcomeFill (steps S x) es t .left) ≡ true
+  fill-alike : (es : List Entry) (t : Tables) → sound S t ≡ true → Alike (outcomeFill (calls S x) es (encode S t)) (outcomeFill (steps S x) es t)
   unfolding outcomeFill
-  fill-sound [] t e = e
-  fill-sound (y ∷ es) t e = ⊎-elim (λ q. rw q (rw (took-left t (fill (y .address) t)) (keeps .fills (y .address) t e))) (λ q. rw q (fill-sound es t e)) (flag (y .sent))
+  fill-alike [] t e = record { soundly = e; same = refl }
+  fill-alike (y ∷ es) t e =
+      ⊎-elim (λ q. rw q (took-alike (fill (y .address)) t e (keeps .fills (y .address) t e))) (λ q. rw q (fill-alike es t e)) (flag (y .sent))
 
-  drain-sound : (t : Tables) → sound S t ≡ true → sound S (outcomeDrain (steps S x) t .left) ≡ true
+  drain-alike : (t : Tables) → sound S t ≡ true → Alike (outcomeDrain (calls S x) (encode S t)) (outcomeDrain (steps S x) t)
   unfolding outcomeDrain
-  drain-sound t e = fill-sound (outcomeSend (steps S x) t .left .misses) (outcomeSend (steps S x) t .left) (send-sound t e)
-
-  send-encoded : (t : Tables) → sound S t ≡ true → outcomeSend (calls S x) (encode S t) ≡ turnOf S (outcomeSend (steps S x) t)
-  unfolding outcomeSend
-  send-encoded t e = rw (tables-of-encode S t e, call-on S send t range e) (⊎-elim (λ q. rw q) (λ q. rw q (took-encoded S t (send t))) (flag (isEmpty (t .queue))))
-
-  fill-encoded : (es : List Entry) (t : Tables) → sound S t ≡ true → outcomeFill (calls S x) es (encode S t) ≡ turnOf S (outcomeFill (steps S x) es t)
-  unfolding outcomeFill
-  fill-encoded [] t e = refl
-  fill-encoded (y ∷ es) t e =
-      rw (call-on S (fill (y .address)) t range e)
-      (⊎-elim
-      (λ q. rw q (took-encoded S t (fill (y .address) t)))
-      (λ q. rw q (fill-encoded es t e))
-      (flag (y .sent)))
-
-  drain-encoded : (t : Tables) → sound S t ≡ true → outcomeDrain (calls S x) (encode S t) ≡ turnOf S (outcomeDrain (steps S x) t)
-  unfolding outcomeDrain
-  drain-encoded t e =
-      ap (λ (a : Turn Lent). andThen a (λ u. outcomeFill (calls S x) (tablesOf S u .misses) u)) (send-encoded t e)
-      ∙ rw (tables-of-encode S (outcomeSend (steps S x) t .left) (send-sound t e))
-      (rw (fill-encoded (outcomeSend (steps S x) t .left .misses) (outcomeSend (steps S x) t .left) (send-sound t e)))
+  drain-alike t e =
+      let s = send-alike t e in
+      let f = fill-alike (outcomeSend (steps S x) t .left .misses) (outcomeSend (steps S x) t .left) (s .soundly) in
+      record { soundly = f .soundly; same = rw (s .same, tables-of-encode S (outcomeSend (steps S x) t .left) (s .soundly), f .same) }
 
   pub rounds-encoded : (n : ℕ) (t : Tables) → sound S t ≡ true → outcomeRounds (calls S x) n (encode S t) ≡ runOf S (outcomeRounds (steps S x) n t)
   unfolding outcomeRounds
   rounds-encoded zero t e = refl
   rounds-encoded (suc n) t e =
-      let d = drain-sound t e in
-      rw (drain-encoded t e, call-on S (access S x) (outcomeDrain (steps S x) t .left) range d)
+      let d = drain-alike t e in
+      rw (d .same, call-on S (access S x) (outcomeDrain (steps S x) t .left) range (d .soundly))
       (go-encoded S (outcomeDrain (steps S x) t) (outcomeRounds (steps S x) n) (outcomeRounds (calls S x) n) (access S x (outcomeDrain (steps S x) t .left))
-      (rounds-encoded n (outcomeDrain (steps S x) t .left) d))
+      (rounds-encoded n (outcomeDrain (steps S x) t .left) (d .soundly)))
 
   -- ---- where they settle
-
-  waits-encoded : (t : Tables) → sound S t ≡ true → outcomeWaits (calls S x) (encode S t) ≡ outcomeWaits (steps S x) t
-  waits-encoded t e = rw (tables-of-encode S t e)
 
   settles-encoded : (n : ℕ) (t : Tables) → sound S t ≡ true → any accepted (outcomeRounds (steps S x) n t .offers) ≡ true
       → any accepted (outcomeRounds (calls S x) n (encode S t) .offers) ≡ true
@@ -108,14 +99,12 @@ module _ (S : Settings) (x : Access) (range : inRange S ≡ true) (keeps : Keeps
   held-encoded n t e h =
       rw (rounds-encoded (suc n) t e) (List·getD-map (encoded S) (outcomeRounds (steps S x) (suc n) t .offers) n (done [] t) ∙ ap (encoded S) h)
 
-  pub settled-encoded : (t : Tables) → sound S t ≡ true → Settles (steps S x) t → Settles (calls S x) (encode S t)
-  settled-encoded t e d = record {
-    settles = ⊎-elim
-        (λ h. inl (rw (waits-encoded t e) (settles-encoded (suc (outcomeWaits (steps S x) t)) t e h)))
-        (λ h. inr (λ j. rw (waits-encoded t e) (held-encoded (outcomeWaits (steps S x) t + j) t e (h j))))
-        (d .settles);
-  }
-
   -- of any sound slices
   pub settled-lent : (L : Lent) (t : Tables) → Encodes S L t → Settles (steps S x) t → Settles (calls S x) L
-  settled-lent L t is d = rw (is .encoded) (settled-encoded t (is .soundly) d)
+  settled-lent L t is d = rw (is .encoded) (record {
+    settles = rw (tables-of-encode S t (is .soundly))
+        (⊎-elim
+        (λ h. inl (settles-encoded (suc (outcomeWaits (steps S x) t)) t (is .soundly) h))
+        (λ h. inr (λ j. held-encoded (outcomeWaits (steps S x) t + j) t (is .soundly) (h j)))
+        (d .settles));
+  })

@@ -2,7 +2,7 @@
 -- `sound-is`: `soundLent` is true exactly if they hold.
 use mathlib.Core.Path.{_≡_}
 use mathlib.Core.Logic.{_⊎_}
-use mathlib.Core.Bool.{Bool, true}
+use mathlib.Core.Bool.{Bool, true, false}
 use Prim.Native.Nat.{ℕ, _+_, _*_, _-_, _/_, _%_, _^_, _≤_, _<_}
 use Rattle.model.specs.declared.Settings.{Settings}
 use Rattle.words.specs.Words.{countBelow}
@@ -12,7 +12,7 @@ use Rattle.model.specs.Address.{goodBlock, blockOf, sectorIndex, setIndex}
 use Rattle.model.specs.Sound.{lastCycle, allOnes}
 use Rattle.model.specs.Lent.{Lent, tagAt, cycleAt, statusAt, maskAt, readableAt, missAt, sentAt, ticketCountAt, ticketAt, queuedAt, queueKindAt, queueMaskAt, nowAt, dirtyCountAt, takenAt, treeAt}
 use Rattle.model.specs.SoundLent as lent
-use Rattle.words.proofs.Reflect.{Decides, is-flag, is-eq, is-le, is-lt, is-not, _⊓_, is-or, is-imp, is-both, is-unless, is-every, is-some, is-none, is-as}
+use Rattle.words.proofs.Reflect.{Decides, is-flag, is-eq, is-le, is-lt, is-not, _⊓_, is-or, is-imp, is-both, is-else, is-every, is-some, is-none, is-as}
 
 -- ---- the numbers of the slices, and the tests on them that stay tests
 
@@ -80,6 +80,20 @@ pub record Block (a : ℕ) : Type 0 where
   pub even : a % 128 ≡ 0
   pub low : a < 2 ^ 48
 
+-- a line, that lives or not, at place l; its tag, cycle, cycle taken, and the current cycle
+pub record LineFacts (S : Settings) (l : ℕ) (living : Bool) (a c k n : ℕ) : Type 0 where
+  pub dead : living ≡ false → ((a ≡ 0) × (c ≡ 0)) × (k ≡ 0)
+  pub block : living ≡ true → Block a
+  pub home : living ≡ true → setIndex S a ≡ l / S .ways
+  pub past : c ≤ n
+  pub since : k ≤ c
+
+-- a sector: the numbers of its status and its readability, and its mask
+pub record SectorFacts (x m r : ℕ) : Type 0 where
+  pub clean : (x ≡ 0) ⊎ (x ≡ 2) → m ≡ 0
+  pub dirty : x ≡ 3 → m ≡ 0 → ⊥
+  pub unreadable : r ≡ 0 → (x ≡ 3) × (m ≡ allOnes → ⊥)
+
 -- of n places those whose f isn't 0 are the first
 abbrev pub UsedFirst : ℕ → (ℕ → ℕ) → Type 0
 UsedFirst n f = (i : ℕ) → i < n - 1 → f i ≡ 0 → f (i + 1) ≡ 0
@@ -92,19 +106,13 @@ module _ (S : Settings) (L : Lent) where
   Used e = ticketCount S L e ≡ 0 → ⊥
 
   pub record LentLineIs (l : ℕ) : Type 0 where
-    pub dead : (Live l → ⊥) → ((tag S L l ≡ 0) × (cycle S L l ≡ 0)) × (taken S L l ≡ 0)
-    pub block : Live l → Block (tag S L l)
-    pub home : Live l → setIndex S (tag S L l) ≡ l / S .ways
-    pub past : cycle S L l ≤ now S L
-    pub since : taken S L l ≤ cycle S L l
+    pub facts : LineFacts S l (live S L l) (tag S L l) (cycle S L l) (taken S L l) (now S L)
     pub alone : Live l → (m : ℕ) → m < l → m / S .ways ≡ l / S .ways → Live m → tag S L m ≡ tag S L l → ⊥
 
   pub record SectorIs (i : ℕ) : Type 0 where
     pub known : status S L i ≤ 3
     pub mark : readable S L i ≤ 1
-    pub clean : (status S L i ≡ 0) ⊎ (status S L i ≡ 2) → mask S L i ≡ 0
-    pub dirty : status S L i ≡ 3 → mask S L i ≡ 0 → ⊥
-    pub unreadable : readable S L i ≡ 0 → (status S L i ≡ 3) × (mask S L i ≡ allOnes → ⊥)
+    pub facts : SectorFacts (status S L i) (mask S L i) (readable S L i)
     pub backed : status S L i ≡ 1 → (e : ℕ) × (e < S .misses) × (Used e × (miss S L e ≡ tag S L (i / 4) + 32 * (i % 4)))
 
   -- line l has the sector of address a, RESERVED
@@ -119,8 +127,8 @@ module _ (S : Settings) (L : Lent) where
     pub blank : ticketCount S L e ≡ 0 → (miss S L e ≡ 0) × (sent S L e ≡ 0)
     pub even : Used e → miss S L e % 32 ≡ 0
     pub backed : Used e → (l : ℕ) × (l < linesOf S) × Reserves (miss S L e) l
-    pub alone : Used e → (d : ℕ) → d < e → Used d → miss S L d ≡ miss S L e → ⊥
-    pub asked : Used e → sent S L e ≡ 0 → countBelow (S .queue) (readFor S L (miss S L e)) ≡ 1
+    pub alone : Used e → (d : ℕ) → d < e → Used d × (miss S L d ≡ miss S L e) → ⊥
+    pub asked : Used e × (sent S L e ≡ 0) → countBelow (S .queue) (readFor S L (miss S L e)) ≡ 1
 
   pub record Unsent (a e : ℕ) : Type 0 where
     pub used : Used e
@@ -159,7 +167,7 @@ module _ (S : Settings) (L : Lent) where
   line-is : (l : ℕ) → Decides (lent.lineFine S (L .longs) (L .words) (L .marks) l) (LentLineIs S L l)
   line-is l =
       is-as
-      (is-unless (is-flag (live S L l)) (is-eq (tag S L l) 0 ⊓ is-eq (cycle S L l) 0 ⊓ is-eq (taken S L l) 0)
+      (is-else {a = live S L l} (λ v. is-eq (tag S L l) 0 ⊓ is-eq (cycle S L l) 0 ⊓ is-eq (taken S L l) 0)
       ⊓ is-both (is-flag (live S L l)) (good-block-is (tag S L l)) (is-eq (setIndex S (tag S L l)) (l / S .ways))
       ⊓ is-le (cycle S L l) (now S L)
       ⊓ is-le (taken S L l) (cycle S L l)
@@ -179,8 +187,8 @@ module _ (S : Settings) (L : Lent) where
       ⊓ is-imp (is-eq (status S L i) 3) (is-not (is-eq (mask S L i) 0))
       ⊓ is-imp (is-eq (readable S L i) 0) (is-eq (status S L i) 3 ⊓ is-not (is-eq (mask S L i) allOnes))
       ⊓ is-imp (is-eq (status S L i) 1) (is-some (S .misses) (λ e. used-is e ⊓ is-eq (miss S L e) (tag S L (i / 4) + 32 * (i % 4)))))
-      (λ w. record { known = w .0 .0 .0 .0 .0; mark = w .0 .0 .0 .0 .1; clean = w .0 .0 .0 .1; dirty = w .0 .0 .1; unreadable = w .0 .1; backed = w .1 })
-      (λ r. (((((r .known, r .mark), r .clean), r .dirty), r .unreadable), r .backed))
+      (λ w. search depth 8)
+      (λ r. search depth 8)
 
   reserves-is : (a l : ℕ) → Decides (lent.reservedFor S (L .longs) (L .words) (L .marks) a l) (Reserves S L a l)
   reserves-is a l =
@@ -194,19 +202,11 @@ module _ (S : Settings) (L : Lent) where
       (is-le (ticketCount S L e) (S .readers)
       ⊓ is-le (sent S L e) 1
       ⊓ is-imp (is-eq (ticketCount S L e) 0) (is-eq (miss S L e) 0 ⊓ is-eq (sent S L e) 0)
-      ⊓ is-imp (used-is e) (is-eq (miss S L e % 32) 0 ⊓ is-some (linesOf S) (reserves-is (miss S L e)))
+      ⊓ is-both (used-is e) (is-eq (miss S L e % 32) 0) (is-some (linesOf S) (reserves-is (miss S L e)))
       ⊓ is-imp (used-is e) (is-none e (λ d. used-is d ⊓ is-eq (miss S L d) (miss S L e)))
       ⊓ is-imp (used-is e ⊓ is-eq (sent S L e) 0) (is-eq (countBelow (S .queue) (readFor S L (miss S L e))) 1))
-      (λ w. record {
-        few = w .0 .0 .0 .0 .0;
-        mark = w .0 .0 .0 .0 .1;
-        blank = w .0 .0 .0 .1;
-        even = λ u. w .0 .0 .1 u .0;
-        backed = λ u. w .0 .0 .1 u .1;
-        alone = λ u d h v q. w .0 .1 u d h (v, q);
-        asked = λ u s. w .1 (u, s);
-      })
-      (λ r. (((((r .few, r .mark), r .blank), λ u. (r .even u, r .backed u)), λ u d h v. r .alone u d h (v .0) (v .1)), λ v. r .asked (v .0) (v .1)))
+      (λ w. search depth 8)
+      (λ r. search depth 8)
 
   unsent-is : (a e : ℕ) → Decides (lent.unsentAtFor S (L .longs) (L .words) (L .marks) a e) (Unsent S L a e)
   unsent-is a e =

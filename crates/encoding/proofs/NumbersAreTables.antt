@@ -3,8 +3,8 @@
 use mathlib.Core.Path.{_≡_, refl, sym, ap, _∙_}
 use mathlib.Core.Logic.{⊎-elim}
 use mathlib.Core.Bool.{Bool, true, false, not, _||_}
-use mathlib.Core.List.{List, map}
-use Prim.Native.Nat.{ℕ, zero, suc, _+_, _*_, _≤_, _<_}
+use mathlib.Core.List.{List, [], _∷_, map}
+use Prim.Native.Nat.{ℕ, _+_, _*_, _≤_, _<_}
 use native.Mathlib.Nat.{add-zero}
 use native.Mathlib.Omega.{arith}
 use lib.Dec.{eqb}
@@ -14,19 +14,19 @@ use Rattle.model.specs.declared.Status.{Status}
 use Rattle.model.specs.declared.Sector.{Sector}
 use Rattle.model.specs.declared.QueueKind.{QueueKind}
 use Rattle.model.specs.declared.Queued.{Queued}
-use Rattle.words.specs.Words.{count, table, every, some, countBelow}
+use Rattle.words.specs.Words.{count, table, all, any, some, countBelow}
 use Rattle.model.specs.Numbers.{statusNumber, queueKindNumber, queueKindOf}
 use Rattle.model.specs.Range.{linesOf}
 use Rattle.model.specs.Tables.{Line, Entry, Tables, isInvalid, isReserved, whollyInvalid, isFetch, idle, empty, fresh, noEntry, isModified, dirty, dirtyLines}
 use Rattle.model.specs.Lent.{Lent, bit, tagOf, cycleOf, takenOf, treeOf, missOf, sentOf, ticketCountOf, ticketsIn, queuedOf, kindOf, queueMasksOf, sectorAt, sectorsAt, lineAt, entryAt, queueAt, tablesOf}
 use Rattle.model.specs.Sound.{readingOf}
-use Rattle.words.proofs.Flags.{not-yes, not-no, not-both}
+use Rattle.words.proofs.Flags.{not-both}
 use Rattle.model.proofs.Answers.{by-status, by-kind, status-of-number}
 use Rattle.words.proofs.Lists.{getD-map-in}
-use Rattle.words.proofs.Tabled.{all-get, any-get, count-get, table-list}
+use Rattle.words.proofs.Tabled.{any-get, count-get, table-list}
 use Rattle.words.proofs.Below.{lt-or-ge, eqb-swap, count-short, count-same, some-same}
 use Rattle.encoding.proofs.InUse.{in-use-is}
-use Rattle.encoding.proofs.LentSoundFacts.{tag, cycle, taken, status, mask, readable, miss, sent, ticketCount, ticket, queued, kind, queueMask, tree, live, dirtyLine, readFor, Used, Live}
+use Rattle.encoding.proofs.LentSoundFacts.{tag, cycle, taken, status, mask, readable, miss, sent, ticketCount, ticket, queued, kind, queueMask, tree, live, dirtyLine, readFor, Used}
 use Rattle.encoding.proofs.Standing.{field, field-in, field-out, ByNumber}
 
 -- ---- records of the tables by their place
@@ -87,9 +87,9 @@ kind-back = by-kind (λ k. queueKindOf (queueKindNumber k) ≡ k) refl refl
 pub fetch-number : (k : QueueKind) → eqb (queueKindNumber k) 1 ≡ isFetch k
 fetch-number = by-kind (λ k. eqb (queueKindNumber k) 1 ≡ isFetch k) refl refl
 
-some-not : (n : ℕ) (p : ℕ → Bool) → some n (λ i. not (p i)) ≡ not (every n p)
-some-not zero p = refl
-some-not (suc n) p = ap (λ (b : Bool). b || not (p n)) (some-not n p) ∙ sym (not-both (every n p) (p n))
+any-not : {A : Type 0} (p : A → Bool) (xs : List A) → any (λ x. not (p x)) xs ≡ not (all p xs)
+any-not p [] = refl
+any-not p (x ∷ xs) = ap (λ (b : Bool). not (p x) || b) (any-not p xs) ∙ sym (not-both (p x) (all p xs))
 
 module _ {A : Type 0} where
   -- at a default that gives 0
@@ -141,30 +141,20 @@ module _ (S : Settings) (L : Lent) (t : Tables) (st : ByNumber S L t) (sh : Shap
   pub readable-is : (l k : ℕ) → l < linesOf S → k < 4 → readable S L (4 * l + k) ≡ bit (sector t l k .readable)
   readable-is l k h j = st .readables l k h j ∙ of-sectors (λ (s : Sector). bit (s .readable)) l k h j
 
-  pub unused-is : (l : ℕ) → l < linesOf S → whollyInvalid (line t l) ≡ every 4 (λ k. isInvalid (sector t l k .status))
-  unused-is l h =
-      all-get (λ (s : Sector). isInvalid (s .status)) (line t l .sectors) empty
-      ∙ ap (λ (n : ℕ). every n (λ k. isInvalid (sector t l k .status))) (sh .fours l h)
+  -- a test on the status of each sector of a line, in the numbers and in the tables
+  of-statuses : (p : ℕ → Bool) (q : Status → Bool) → ((x : Status) → p (statusNumber x) ≡ q x) → (l : ℕ) → l < linesOf S
+      → some 4 (λ k. p (status S L (4 * l + k))) ≡ any (λ (s : Sector). q (s .status)) (line t l .sectors)
+  of-statuses p q e l h =
+      some-same (λ k. p (status S L (4 * l + k))) (λ k. q (sector t l k .status)) 4 (λ k j. ap p (status-is l k h j) ∙ e (sector t l k .status))
+      ∙ sym (rw (any-get (λ (s : Sector). q (s .status)) (line t l .sectors) empty, sh .fours l h))
 
   pub live-is : (l : ℕ) → l < linesOf S → live S L l ≡ not (whollyInvalid (line t l))
   live-is l h =
-      some-same (λ k. not (eqb (status S L (4 * l + k)) 0)) (λ k. not (isInvalid (sector t l k .status))) 4
-      (λ k j. ap not (ap (λ (n : ℕ). eqb n 0) (status-is l k h j) ∙ invalid-number (sector t l k .status)))
-      ∙ some-not 4 (λ k. isInvalid (sector t l k .status))
-      ∙ ap not (sym (unused-is l h))
+      of-statuses (λ n. not (eqb n 0)) (λ x. not (isInvalid x)) (λ x. ap not (invalid-number x)) l h
+      ∙ any-not (λ (s : Sector). isInvalid (s .status)) (line t l .sectors)
 
-  pub lives : (l : ℕ) → l < linesOf S → Live S L l → whollyInvalid (line t l) ≡ false
-  lives l h v = not-yes {b = whollyInvalid (line t l)} (sym (live-is l h) ∙ v)
-
-  pub live-i : (l : ℕ) → l < linesOf S → whollyInvalid (line t l) ≡ false → Live S L l
-  live-i l h v = live-is l h ∙ not-no v
-
-  pub dirty-is : (l : ℕ) → l < linesOf S → dirtyLine S L l ≡ dirty (line t l)
-  dirty-is l h =
-      some-same (λ k. eqb (status S L (4 * l + k)) 3) (λ k. isModified (sector t l k .status)) 4
-      (λ k j. ap (λ (n : ℕ). eqb n 3) (status-is l k h j) ∙ modified-number (sector t l k .status))
-      ∙ sym (any-get (λ (s : Sector). isModified (s .status)) (line t l .sectors) empty
-      ∙ ap (λ (n : ℕ). some n (λ k. isModified (sector t l k .status))) (sh .fours l h))
+  dirty-is : (l : ℕ) → l < linesOf S → dirtyLine S L l ≡ dirty (line t l)
+  dirty-is = of-statuses (λ n. eqb n 3) isModified modified-number
 
   -- the dirty lines, counted in the numbers and in the tables
   pub dirty-counts : countBelow (linesOf S) (dirtyLine S L) ≡ dirtyLines t

@@ -27,7 +27,7 @@ use Rattle.model.specs.declared.Event.the-variants.{Released}
 use Rattle.model.specs.declared.Reply.{Reply}
 use Rattle.words.proofs.Flags.{and-1, and-2, pick-both, clash}
 use Rattle.words.proofs.Places.{length-padTo}
-use Rattle.words.proofs.Lists.{all-append}
+use Rattle.words.proofs.Lists.{in-all, all-append, all-map}
 use Rattle.model.proofs.Answers.{by-kind}
 use Rattle.model.proofs.AccessCases.{access-judged}
 use Rattle.model.proofs.SendFillKeepSound.{send-cases}
@@ -50,13 +50,8 @@ queued-as : (k : QueueKind) (a : ℕ) (ms : List ℕ) → (queuing (queuedAs k a
 queued-as queue.Read a ms = (refl, refl)
 queued-as queue.WriteBack a ms = (refl, refl)
 
-all-queuing : (qs : List Queued) → all queuing (map queuedEvent qs) ≡ true
-all-queuing [] = refl
-all-queuing (q ∷ qs) = rw (queued-as (q .kind) (q .address) (q .masks) .0, all-queuing qs)
-
-all-releasing : (ts : List ℕ) → all releasing (map Released ts) ≡ true
-all-releasing [] = refl
-all-releasing (t ∷ ts) = all-releasing ts
+all-made : {A : Type 0} (f : A → Event) (p : Event → Bool) → ((a : A) → p (f a) ≡ true) → (xs : List A) → all p (map f xs) ≡ true
+all-made f p each xs = rw all-map (in-all _ xs (λ a m. each a))
 
 -- ---- what an outcome tells
 
@@ -65,25 +60,25 @@ abbrev tells : (Event → Bool) → (Event → Bool) → List Event → Bool
 tells begins rest [] = false
 tells begins rest (e ∷ es) = begins e && all rest es
 
-record TellsShape (begins rest : Event → Bool) (o : Outcome Tables) : Type 0 where
-  pub is : tells begins rest (eventsOf o) ≡ true
+record TellsShape (begins rest : Event → Bool) (es : List Event) : Type 0 where
+  pub is : tells begins rest es ≡ true
 
-access-tells : (S : Settings) (x : Access) (t : Tables) → TellsShape ofAccess queuing (access S x t)
+access-tells : (S : Settings) (x : Access) (t : Tables) → TellsShape ofAccess queuing (eventsOf (access S x t))
 unfolding access accept
 access-tells S x t =
-    access-judged (ruleOf S) S t x (TellsShape ofAccess queuing) (λ n. record { is = refl }) (λ p j. record { is = all-queuing (queues x p) })
+    access-judged (ruleOf S) S t x (λ (o : Outcome Tables). TellsShape ofAccess queuing (eventsOf o)) (λ n. record { is = refl }) (λ p j. record { is = all-made queuedEvent queuing (λ q. queued-as (q .kind) (q .address) (q .masks) .0) (queues x p) })
 
-send-tells : (t : Tables) → TellsShape ofSend none (send t)
+send-tells : (t : Tables) → TellsShape ofSend none (eventsOf (send t))
 send-tells t =
-    send-cases t (TellsShape ofSend none) (λ n. record { is = refl }) (λ x q e. record { is = rw (by-kind (λ k. ofSend (sentAs k (x .address) (x .masks)) ≡ true) refl refl (x .kind)) })
+    send-cases t (λ (o : Outcome Tables). TellsShape ofSend none (eventsOf o)) (λ n. record { is = refl }) (λ x q e. record { is = rw (by-kind (λ k. ofSend (sentAs k (x .address) (x .masks)) ≡ true) refl refl (x .kind)) })
 
-fill-tells : (a : ℕ) (t : Tables) → TellsShape ofFill releasing (fill a t)
+fill-tells : (a : ℕ) (t : Tables) → TellsShape ofFill releasing (eventsOf (fill a t))
 unfolding fill
-fill-tells a t = pick-both (TellsShape ofFill releasing) (any (sentFor a) (t .misses)) record { is = all-releasing (ticketsOf a (t .misses)) } record { is = refl }
+fill-tells a t = pick-both (λ (o : Outcome Tables). TellsShape ofFill releasing (eventsOf o)) (any (sentFor a) (t .misses)) record { is = all-made Released releasing (λ k. refl) (ticketsOf a (t .misses)) } record { is = refl }
 
-tick-tells : (c : ℕ) (t : Tables) → TellsShape ofTick none (tick c t)
+tick-tells : (c : ℕ) (t : Tables) → TellsShape ofTick none (eventsOf (tick c t))
 unfolding tick
-tick-tells c t = pick-both (TellsShape ofTick none) (ltb c (t .now) || ltb lastCycle c) record { is = refl } record { is = refl }
+tick-tells c t = pick-both (λ (o : Outcome Tables). TellsShape ofTick none (eventsOf o)) (ltb c (t .now) || ltb lastCycle c) record { is = refl } record { is = refl }
 
 -- ---- the shape of a value
 
@@ -91,7 +86,12 @@ none-left : {A : Type 0} (f : A → Event) (p : Event → Bool) → ((a : A) →
 none-left f p never [] h = refl
 none-left f p never (x ∷ xs) h = clash (and-1 (p (f x)) _ h) (never x)
 
-module _ (r : Reply) (tidy : tidied r ≡ r) where
+-- of a value that tells such events
+module _ (r : Reply) (tidy : tidied r ≡ r) {begins rest : Event → Bool} (t : TellsShape begins rest (eventsTold r)) where
+  begins-so : begins (r .first) ≡ true
+  unfolding eventsTold
+  begins-so = and-1 (begins (r .first)) _ (t .is)
+
   queues-are : r .queues ≡ length (take (r .queues) (r .queued))
   unfolding tidied
   queues-are = sym (ap (λ (x : Reply). x .queues) tidy)
@@ -113,23 +113,18 @@ module _ (r : Reply) (tidy : tidied r ≡ r) where
       let q : r .tickets ≡ padTo 8 (take (r .count) (r .tickets)) = sym (ap (λ (x : Reply). x .tickets) tidy) in
       omega (arith, count-is, length-take (r .count) (r .tickets), ap length q, length-padTo 8 (take (r .count) (r .tickets)))
 
-  module _ (begins rest : Event → Bool) (t : tells begins rest (eventsTold r) ≡ true) where
-    begins-so : begins (r .first) ≡ true
-    unfolding eventsTold
-    begins-so = and-1 (begins (r .first)) _ t
+  abbrev entries : List Event
+  entries = map queuedEvent (take (r .queues) (r .queued))
 
-    abbrev entries : List Event
-    entries = map queuedEvent (take (r .queues) (r .queued))
+  apart : (all rest entries && all rest (map Released (take (r .count) (r .tickets)))) ≡ true
+  unfolding eventsTold
+  apart = sym (all-append rest entries (map Released (take (r .count) (r .tickets)))) ∙ and-2 (begins (r .first)) _ (t .is)
 
-    apart : (all rest entries && all rest (map Released (take (r .count) (r .tickets)))) ≡ true
-    unfolding eventsTold
-    apart = sym (all-append rest entries (map Released (take (r .count) (r .tickets)))) ∙ and-2 (begins (r .first)) _ t
+  no-entries : ((q : Queued) → rest (queuedEvent q) ≡ false) → r .queues ≤ 0
+  no-entries never = omega (arith, none-left queuedEvent rest never (take (r .queues) (r .queued)) (and-1 (all rest entries) _ apart), queues-are)
 
-    no-entries : ((q : Queued) → rest (queuedEvent q) ≡ false) → r .queues ≤ 0
-    no-entries never = omega (arith, none-left queuedEvent rest never (take (r .queues) (r .queued)) (and-1 (all rest entries) _ apart), queues-are)
-
-    no-tickets : ((k : ℕ) → rest (Released k) ≡ false) → r .count ≤ 0
-    no-tickets never = omega (arith, none-left Released rest never (take (r .count) (r .tickets)) (and-2 (all rest entries) _ apart), count-is)
+  no-tickets : ((k : ℕ) → rest (Released k) ≡ false) → r .count ≤ 0
+  no-tickets never = omega (arith, none-left Released rest never (take (r .count) (r .tickets)) (and-2 (all rest entries) _ apart), count-is)
 
 -- ---- the shape of what each step tells
 
@@ -138,29 +133,33 @@ module _ (S : Settings) {L : Lent} (held : SoundSlices S L) {r : Reply} {M : Len
     tidy : tidied r ≡ r
     tidy = d .on (held .tables) (held .are) .tidy
 
-    told : {begins rest : Event → Bool} → TellsShape begins rest (step (held .tables)) → tells begins rest (eventsTold r) ≡ true
-    told t = rw (does-tells S d (held .tables) (held .are)) (t .is)
+    told : {begins rest : Event → Bool} → TellsShape begins rest (eventsOf (step (held .tables))) → TellsShape begins rest (eventsTold r)
+    told t = rw (does-tells S d (held .tables) (held .are)) t
+
+    -- one event, and nothing else
+    alone-shaped : {begins : Event → Bool} → TellsShape begins none (eventsOf (step (held .tables))) → Shaped begins 0 0 r
+    alone-shaped t = record {
+      first = begins-so r tidy (told t);
+      entries = no-entries r tidy (told t) (λ q. refl);
+      tickets = no-tickets r tidy (told t) (λ k. refl);
+    }
 
   pub access-shaped : (x : Access) → Does S (access S x) L r M → Shaped ofAccess 2 0 r
   access-shaped x d =
       let t = told d (access-tells S x (held .tables)) in
-      record { first = begins-so r (tidy d) ofAccess queuing t; entries = queues-few r (tidy d); tickets = no-tickets r (tidy d) ofAccess queuing t (λ k. refl) }
+      record { first = begins-so r (tidy d) t; entries = queues-few r (tidy d) t; tickets = no-tickets r (tidy d) t (λ k. refl) }
 
   pub send-shaped : Does S send L r M → Shaped ofSend 0 0 r
-  send-shaped d =
-      let t = told d (send-tells (held .tables)) in
-      record { first = begins-so r (tidy d) ofSend none t; entries = no-entries r (tidy d) ofSend none t (λ q. refl); tickets = no-tickets r (tidy d) ofSend none t (λ k. refl) }
+  send-shaped d = alone-shaped d (send-tells (held .tables))
 
   pub fill-shaped : (a : ℕ) → Does S (fill a) L r M → Shaped ofFill 0 8 r
   fill-shaped a d =
       let t = told d (fill-tells a (held .tables)) in
       record {
-        first = begins-so r (tidy d) ofFill releasing t;
-        entries = no-entries r (tidy d) ofFill releasing t (λ q. queued-as (q .kind) (q .address) (q .masks) .1);
-        tickets = tickets-few r (tidy d);
+        first = begins-so r (tidy d) t;
+        entries = no-entries r (tidy d) t (λ q. queued-as (q .kind) (q .address) (q .masks) .1);
+        tickets = tickets-few r (tidy d) t;
       }
 
   pub tick-shaped : (c : ℕ) → Does S (tick c) L r M → Shaped ofTick 0 0 r
-  tick-shaped c d =
-      let t = told d (tick-tells c (held .tables)) in
-      record { first = begins-so r (tidy d) ofTick none t; entries = no-entries r (tidy d) ofTick none t (λ q. refl); tickets = no-tickets r (tidy d) ofTick none t (λ k. refl) }
+  tick-shaped c d = alone-shaped d (tick-tells c (held .tables))

@@ -2,7 +2,7 @@
 use mathlib.Core.Path.{_≡_, refl, sym, ap, _∙_}
 use mathlib.Core.List.{List, [], _∷_, _++_, map}
 use Prim.Native.Nat.{ℕ, zero, suc, _+_, _≤_, _<_}
-use native.Mathlib.Nat.{add-zero, add-assoc, one-mul}
+use native.Mathlib.Nat.{add-zero, zero-add, add-assoc, one-mul}
 use native.Mathlib.Omega.{arith}
 use lib.ListN.{length, take, drop, getD, take-append-drop}
 use lib.Seq.{drop-drop, drop-length}
@@ -33,7 +33,7 @@ offset-from n [] (suc j) = sym (add-zero n)
 offset-from n (b ∷ bs) zero = sym (add-zero n)
 offset-from n (b ∷ bs) (suc j) = offset-from (n + length b) bs j ∙ add-assoc n (length b) (offsetIn bs j)
 
-pub ahead-offset : (bs : List (List ℕ)) (j : ℕ) → offsetIn bs j ≡ offsetOf (map length bs) j
+ahead-offset : (bs : List (List ℕ)) (j : ℕ) → offsetIn bs j ≡ offsetOf (map length bs) j
 ahead-offset [] zero = refl
 ahead-offset [] (suc j) = refl
 ahead-offset (b ∷ bs) zero = refl
@@ -76,13 +76,9 @@ from-joined l at (n ∷ ns) (b ∷ bs) e =
     ∙ ap (λ (r : List ℕ). r ++ joined bs) (e .0)
 
 pub regions-joined : (l ns : List ℕ) (bs : List (List ℕ)) → AllStand l ns bs → l ≡ joined bs
-unfolding region
 regions-joined l [] bs e = from-joined l 0 [] bs e
 regions-joined l (n ∷ ns) [] e = absurd e
-regions-joined l (n ∷ ns) (b ∷ bs) e =
-    sym (take-append-drop n l)
-    ∙ ap (λ (r : List ℕ). take n l ++ r) (from-joined l n ns bs (e .1))
-    ∙ ap (λ (r : List ℕ). r ++ joined bs) (e .0)
+regions-joined l (n ∷ ns) (b ∷ bs) e = from-joined l 0 (n ∷ ns) (b ∷ bs) (e .0, rw zero-add (e .1))
 
 pub joined-region : (l : List ℕ) (bs : List (List ℕ)) (j : ℕ) → l ≡ joined bs → j < length bs
     → region l (offsetOf (map length bs) j) (length (getD bs j [])) ≡ getD bs j []

@@ -1,8 +1,8 @@
 -- What `sound` says of the tables, as facts on the records by their place: a record for a line, an entry and a queue place.
 -- `soundly-is`: `sound` is true exactly if they hold.
-use mathlib.Core.Path.{_≡_, refl, ap}
-use mathlib.Core.Logic.{_⊎_, inl, inr, ⊎-elim}
-use mathlib.Core.Bool.{Bool, true, false, not, _&&_}
+use mathlib.Core.Path.{_≡_, refl, sym, ap, _∙_}
+use mathlib.Core.Logic.{_⊎_, _↔_, inl, inr, ⊎-elim}
+use mathlib.Core.Bool.{Bool, true, false, not, _&&_, _||_}
 use mathlib.Core.List.{List}
 use Prim.Native.Nat.{ℕ, _+_, _*_, _/_, _%_, _^_, _≤_, _<_}
 use native.Mathlib.Omega.{arith}
@@ -15,26 +15,24 @@ use Rattle.model.specs.declared.QueueKind.the-variants as queue
 use Rattle.model.specs.declared.Queued.{Queued}
 use Rattle.model.specs.declared.Status.{Status}
 use Rattle.model.specs.declared.Status.the-variants.{Invalid, Reserved, Valid, Modified}
-use Rattle.words.specs.Words.{any, count}
+use Rattle.words.specs.Words.{same, count}
 use Rattle.model.specs.Range.{linesOf, isTree}
 use Rattle.model.specs.Tree.{treeFine}
 use Rattle.model.specs.Address.{blockOf, setIndex}
-use Rattle.model.specs.Tables.{Tables, isReserved, whollyInvalid, holds, entryFor, idle, empty, fresh, noEntry, dirtyLines}
+use Rattle.model.specs.Tables.{Tables, whollyInvalid, holds, entryFor, idle, empty, fresh, noEntry, dirtyLines}
 use Rattle.model.specs.Numbers.{statusNumber, queueKindNumber}
 use Rattle.model.specs.Lent.{bit}
 use Rattle.model.specs.Sound.{allOnes, lastCycle, maskOk, sectorOk, lineOk, alone, agrees, reservedOk, readingOf, unsentFor, entryOk, kindOk, queuedOk, sound}
-use Rattle.words.proofs.Flags.{and-1, and-2, and-i, not-no, not-yes, no-yes, same-is, is-same}
-use Rattle.words.proofs.Reflect.{Decides, is-flag, is-eq, is-le, is-lt, is-not, _⊓_, is-every, is-as, is-all, is-any, is-one, is-pick, is-else}
-use Rattle.encoding.proofs.LentSoundFacts.{Block, good-block-is}
-use Rattle.encoding.proofs.NumbersAreTables.{line, sector, entry, place, addressIn, kindIn, maskIn, Shape}
+use Rattle.words.proofs.Flags.{not-no, not-yes, no-not, no-yes, iff, clash, same-is, is-same}
+use Rattle.words.proofs.Reflect.{Decides, is-flag, is-eq, is-le, is-lt, is-not, _⊓_, is-every, is-as, is-all, is-any, is-one, is-pick, is-else, is-test}
+use Rattle.encoding.proofs.LentSoundFacts.{Block, LineFacts, SectorFacts, good-block-is}
+use Rattle.encoding.proofs.NumbersAreTables.{line, sector, entry, place, maskIn, Shape, reserved-number}
 
 -- ---- a sector, by its numbers
 
-pub record SectorOk (x m r : ℕ) : Type 0 where
-  pub small : m ≤ allOnes
-  pub clean : (x ≡ 0) ⊎ (x ≡ 2) → m ≡ 0
-  pub dirty : x ≡ 3 → m ≡ 0 → ⊥
-  pub unreadable : r ≡ 0 → (x ≡ 3) × (m ≡ allOnes → ⊥)
+-- its mask is a 32-bit number besides
+abbrev pub SectorOk : ℕ → ℕ → ℕ → Type 0
+SectorOk x m r = SectorFacts x m r × (m ≤ allOnes)
 
 bit-set : (r : Bool) → r ≡ true → bit r ≡ 0 → ⊥
 bit-set r e z = let q : bit true ≡ 0 = rw e at z in omega arith
@@ -50,44 +48,34 @@ bit-clear r z = no-yes (λ e. bit-set r e z)
 clean-is : (x m : ℕ) (r : Bool) → (x ≡ 0) ⊎ (x ≡ 2) → Decides (eqb m 0 && r) (SectorOk x m (bit r))
 clean-is x m r c =
     is-as (is-eq m 0 ⊓ is-flag r) (λ w. let z = w .0 in let b : bit r ≡ 1 = ap bit (w .1) in ⊎-elim (λ k. omega arith) (λ k. omega arith) c)
-    (λ f. (f .clean c, set-bit r (λ e. let q = f .unreadable e .0 in ⊎-elim (λ k. omega arith) (λ k. omega arith) c)))
+    (λ f. (f .0 .clean c, set-bit r (λ e. let q = f .0 .unreadable e .0 in ⊎-elim (λ k. omega arith) (λ k. omega arith) c)))
+
+-- RESERVED or MODIFIED
+other : {x : ℕ} {X : Type 0} → (x ≡ 0) ⊎ (x ≡ 2) → (x ≡ 1) ⊎ (x ≡ 3) → X
+other c o = absurd (⊎-elim (λ k. ⊎-elim (λ z. omega arith) (λ z. omega arith) o) (λ k. ⊎-elim (λ z. omega arith) (λ z. omega arith) o) c)
 
 sector-ok-is : (s : Status) (m : ℕ) (r : Bool) → Decides (maskOk s m r) (SectorOk (statusNumber s) m (bit r))
 sector-ok-is Invalid m r = clean-is 0 m r (inl refl)
 sector-ok-is Reserved m r =
     is-as (is-le m allOnes ⊓ is-flag r)
-    (λ w. record {
-      small = w .0;
-      clean = λ c. absurd (⊎-elim (λ z. omega arith) (λ z. omega arith) c);
-      dirty = λ e. absurd (omega arith);
-      unreadable = λ e. absurd (bit-set r (w .1) e);
-    })
-    (λ f. (f .small, set-bit r (λ e. let z : _≡_ {A = ℕ} 1 3 = f .unreadable e .0 in omega arith)))
+    (λ w. (record { clean = λ c. other c (inl refl); dirty = λ e. absurd (omega arith); unreadable = λ e. absurd (bit-set r (w .1) e) }, w .0))
+    (λ f. (f .1, set-bit r (λ e. let z : _≡_ {A = ℕ} 1 3 = f .0 .unreadable e .0 in omega arith)))
 sector-ok-is Valid m r = clean-is 2 m r (inr refl)
 sector-ok-is Modified m r =
     is-as (is-le m allOnes ⊓ is-not (is-eq m 0) ⊓ is-else {a = r} (λ v. is-not (is-eq m allOnes)))
-    (λ w. record {
-      small = w .0 .0;
-      clean = λ c. absurd (⊎-elim (λ z. omega arith) (λ z. omega arith) c);
-      dirty = λ e. w .0 .1;
-      unreadable = λ e. (refl, w .1 (bit-clear r e));
-    })
-    (λ f. ((f .small, f .dirty refl), λ v. f .unreadable (ap bit v) .1))
+    (λ w. (record { clean = λ c. other c (inr refl); dirty = λ e. w .0 .1; unreadable = λ e. (refl, w .1 (bit-clear r e)) }, w .0 .0))
+    (λ f. ((f .1, f .0 .dirty refl), λ v. f .0 .unreadable (ap bit v) .1))
 
 -- ---- the facts
 
 module _ (S : Settings) (t : Tables) where
   abbrev pub Lives : ℕ → Type 0
-  Lives l = whollyInvalid (line t l) ≡ false
+  Lives l = not (whollyInvalid (line t l)) ≡ true
 
   pub record LineOk (l : ℕ) : Type 0 where
     pub four : length (line t l .sectors) ≡ 4
     pub sectors : (k : ℕ) → k < 4 → SectorOk (statusNumber (sector t l k .status)) (sector t l k .mask) (bit (sector t l k .readable))
-    pub past : line t l .cycle ≤ t .now
-    pub since : line t l .taken ≤ line t l .cycle
-    pub dead : whollyInvalid (line t l) ≡ true → ((line t l .tag ≡ 0) × (line t l .cycle ≡ 0)) × (line t l .taken ≡ 0)
-    pub block : Lives l → Block (line t l .tag)
-    pub home : Lives l → setIndex S (line t l .tag) ≡ l / S .ways
+    pub facts : LineFacts S l (not (whollyInvalid (line t l))) (line t l .tag) (line t l .cycle) (line t l .taken) (t .now)
 
   -- no other line that lives has its tag
   abbrev pub OnlyTag : ℕ → Type 0
@@ -95,7 +83,8 @@ module _ (S : Settings) (t : Tables) where
 
   -- its sectors are RESERVED as the miss table says
   abbrev pub Agrees : ℕ → Type 0
-  Agrees l = Lives l → (k : ℕ) → k < 4 → isReserved (sector t l k .status) ≡ any (entryFor (line t l .tag + 32 * k)) (t .misses)
+  Agrees l = Lives l → (k : ℕ) → k < 4
+      → (statusNumber (sector t l k .status) ≡ 1) ↔ ((e : ℕ) × (e < length (t .misses)) × (entry t e .address ≡ line t l .tag + 32 * k))
 
   pub record EntryOk (e : ℕ) : Type 0 where
     pub even : entry t e .address % 32 ≡ 0
@@ -106,13 +95,17 @@ module _ (S : Settings) (t : Tables) where
     pub short : length (entry t e .tickets) ≤ S .readers
     pub asked : entry t e .sent ≡ false → count (readingOf (entry t e .address)) (t .queue) ≡ 1
 
+  -- what its kind asks of a queued entry
+  pub record KindOk (k : QueueKind) (a : ℕ) (ms : List ℕ) : Type 0 where
+    pub backed : queueKindNumber k ≡ 1 → (e : ℕ) × (e < length (t .misses)) × ((entry t e .address ≡ a) × (entry t e .sent ≡ false))
+    pub bare : queueKindNumber k ≡ 1 → (i : ℕ) → i < 4 → getD ms i 0 ≡ 0
+    pub block : queueKindNumber k ≡ 2 → Block a
+    pub dirty : queueKindNumber k ≡ 2 → (i : ℕ) × (i < 4) × (getD ms i 0 ≡ 0 → ⊥)
+
   pub record QueuedOk (x : Queued) : Type 0 where
     pub masked : length (x .masks) ≡ 4
     pub small : (k : ℕ) → k < 4 → maskIn x k ≤ allOnes
-    pub backed : kindIn x ≡ 1 → (e : ℕ) × (e < length (t .misses)) × ((entry t e .address ≡ addressIn x) × (entry t e .sent ≡ false))
-    pub bare : kindIn x ≡ 1 → (k : ℕ) → k < 4 → maskIn x k ≡ 0
-    pub block : kindIn x ≡ 2 → Block (addressIn x)
-    pub dirty : kindIn x ≡ 2 → (k : ℕ) × (k < 4) × (maskIn x k ≡ 0 → ⊥)
+    pub fitting : KindOk (x .kind) (x .address) (x .masks)
 
   pub record Soundly : Type 0 where
     pub size : length (t .lines) ≡ linesOf S
@@ -142,6 +135,21 @@ module _ (S : Settings) (t : Tables) where
 
 -- ---- each test with its facts
 
+-- the second test where the first holds
+is-then : {a b : Bool} {P Q : Type 0} → Decides a P → (P → Decides b Q) → Decides (a && b) (P × Q)
+is-then {a = true} i j = is-as (j (i .fact refl)) (λ q. (i .fact refl, q)) (λ w. w .1)
+is-then {a = false} i j = record { fact = λ e. clash e refl; test = λ w. i .test (w .0) }
+
+is-iff : {a b : Bool} {P Q : Type 0} → Decides a P → Decides b Q → Decides (same a b) (P ↔ Q)
+is-iff {a} {b} i j = record {
+  fact = λ e. let q : a ≡ b = same-is a b e in (λ p. j .fact (sym q ∙ i .test p), λ p. i .fact (q ∙ j .test p));
+  test = λ f. is-same a b (iff (λ h. j .test (f .0 (i .fact h))) (λ h. i .test (f .1 (j .fact h))));
+}
+
+-- a test of a line that lives
+is-living : (a : Bool) {b : Bool} {Q : Type 0} → (not a ≡ true → Decides b Q) → Decides (a || b) (not a ≡ true → Q)
+is-living a i = is-as (is-else {a = a} (λ v. i (not-no v))) (λ f v. f (not-yes v)) (λ f v. f (not-no v))
+
 module _ (S : Settings) (t : Tables) where
   line-ok-is : (l : ℕ) → Decides (lineOk S (t .now) l (line t l)) (LineOk S t l)
   unfolding lineOk
@@ -155,34 +163,27 @@ module _ (S : Settings) (t : Tables) where
       (λ w. let four = w .0 .0 .0 .0 in record {
         four = four;
         sectors = λ k h. w .0 .0 .0 .1 k (omega arith);
-        past = w .0 .0 .1;
-        since = w .0 .1;
-        dead = w .1 .0;
-        block = λ v. w .1 .1 v .0;
-        home = λ v. w .1 .1 v .1;
+        facts = record { dead = λ v. w .1 .0 (no-not v); block = λ v. w .1 .1 (not-yes v) .0; home = λ v. w .1 .1 (not-yes v) .1; past = w .0 .0 .1; since = w .0 .1 };
       })
-      (λ r. let four = r .four in ((((four, λ k h. r .sectors k (omega arith)), r .past), r .since), (r .dead, λ v. (r .block v, r .home v))))
-
-  holds-i : (m : ℕ) (b : ℕ) → Lives S t m → line t m .tag ≡ b → holds b (line t m) ≡ true
-  holds-i m b v e = and-i (not-no v) (eq-eqb _ _ e)
+      (λ r. let four = r .four in let f = r .facts in
+      ((((four, λ k h. r .sectors k (omega arith)), f .past), f .since), (λ v. f .dead (ap not v), λ v. (f .block (not-no v), f .home (not-no v)))))
 
   holds-is : (b m : ℕ) → Decides (holds b (line t m)) (Lives S t m × (line t m .tag ≡ b))
-  holds-is b m = record {
-    fact = λ e. (not-yes {b = whollyInvalid (line t m)} (and-1 (not (whollyInvalid (line t m))) _ e), eqb-true _ _ (and-2 (not (whollyInvalid (line t m))) _ e));
-    test = λ w. holds-i m b (w .0) (w .1);
-  }
+  holds-is b m = is-flag (not (whollyInvalid (line t m))) ⊓ is-eq (line t m .tag) b
 
   alone-is : (l : ℕ) → l < length (t .lines) → Decides (alone (t .lines) (line t l)) (OnlyTag S t l)
   unfolding alone
   alone-is l h =
-      is-else (λ v. is-as (is-one (holds (line t l .tag)) (t .lines) fresh l h (holds-i l (line t l .tag) v refl))
-      (λ f m k u e. f m k (holds-i m (line t l .tag) u e))
+      is-living (whollyInvalid (line t l)) (λ v. is-as (is-one (holds (line t l .tag)) (t .lines) fresh l h (holds-is (line t l .tag) l .test (v, refl)))
+      (λ f m k u e. f m k (holds-is (line t l .tag) m .test (u, e)))
       (λ f m k e. let w = holds-is (line t l .tag) m .fact e in f m k (w .0) (w .1)))
 
   agrees-is : (l : ℕ) → Decides (reservedOk (t .misses) (line t l)) (Agrees S t l)
   unfolding reservedOk
   agrees-is l =
-      is-else (λ v. is-every 4 (λ k. record { fact = λ e. same-is _ _ e; test = λ e. is-same _ _ e }))
+      is-living (whollyInvalid (line t l)) (λ v. is-every 4 (λ k.
+      is-iff (is-test (sym (reserved-number (sector t l k .status))) (is-eq (statusNumber (sector t l k .status)) 1))
+      (is-any (entryFor (line t l .tag + 32 * k)) (t .misses) noEntry (λ e. is-eq (entry t e .address) (line t l .tag + 32 * k)))))
 
   entry-ok-is : (e : ℕ) → e < length (t .misses) → Decides (entryOk S t (entry t e)) (EntryOk S t e)
   unfolding entryOk
@@ -193,46 +194,21 @@ module _ (S : Settings) (t : Tables) where
       ⊓ is-any (holds (blockOf (entry t e .address))) (t .lines) fresh (holds-is (blockOf (entry t e .address)))
       ⊓ is-one (entryFor (entry t e .address)) (t .misses) noEntry e h (eq-eqb (entry t e .address) (entry t e .address) refl)
       ⊓ (is-le 1 (length (entry t e .tickets)) ⊓ is-le (length (entry t e .tickets)) (S .readers))
-      ⊓ is-else (λ v. is-eq (count (readingOf (entry t e .address)) (t .queue)) 1))
-      (λ w. record {
-        even = w .0 .0 .0 .0 .0;
-        low = w .0 .0 .0 .0 .1;
-        home = w .0 .0 .0 .1;
-        alone = λ d k q. w .0 .0 .1 d k (eq-eqb _ _ q);
-        held = w .0 .1 .0;
-        short = w .0 .1 .1;
-        asked = w .1;
-      })
-      (λ r. (((((r .even, r .low), r .home), λ d k q. r .alone d k (eqb-true _ _ q)), (r .held, r .short)), r .asked))
+      ⊓ is-else {a = entry t e .sent} (λ v. is-eq (count (readingOf (entry t e .address)) (t .queue)) 1))
+      (λ w. let alone : (d : ℕ) → d < length (t .misses) → entry t d .address ≡ entry t e .address → d ≡ e = λ d k q. w .0 .0 .1 d k (eq-eqb _ _ q) in search depth 8)
+      (λ r. let alone : (d : ℕ) → d < length (t .misses) → entryFor (entry t e .address) (entry t d) ≡ true → d ≡ e = λ d k q. r .alone d k (eqb-true _ _ q) in search depth 8)
 
   unsent-is : (a e : ℕ) → Decides (unsentFor a (entry t e)) ((entry t e .address ≡ a) × (entry t e .sent ≡ false))
   unsent-is a e = is-eq (entry t e .address) a ⊓ (record { fact = λ z. not-yes {b = entry t e .sent} z; test = λ z. not-no z })
 
-  -- what its kind asks of a queued entry
-  record KindOk (k : QueueKind) (a : ℕ) (ms : List ℕ) : Type 0 where
-    backed : queueKindNumber k ≡ 1 → (e : ℕ) × (e < length (t .misses)) × ((entry t e .address ≡ a) × (entry t e .sent ≡ false))
-    bare : queueKindNumber k ≡ 1 → (i : ℕ) → i < length ms → getD ms i 0 ≡ 0
-    block : queueKindNumber k ≡ 2 → Block a
-    dirty : queueKindNumber k ≡ 2 → (i : ℕ) × (i < length ms) × (getD ms i 0 ≡ 0 → ⊥)
-
-  kind-ok-is : (k : QueueKind) (a : ℕ) (ms : List ℕ) → Decides (kindOk (t .misses) k a ms) (KindOk k a ms)
-  kind-ok-is queue.Read a ms =
-      is-as (is-any (unsentFor a) (t .misses) noEntry (unsent-is a) ⊓ is-all (λ m. eqb m 0) ms 0 (λ i h. is-eq (getD ms i 0) 0))
-      (λ w. record {
-        backed = λ z. w .0;
-        bare = λ z. w .1;
-        block = λ z. absurd (omega arith);
-        dirty = λ z. absurd (omega arith);
-      })
+  kind-ok-is : (k : QueueKind) (a : ℕ) (ms : List ℕ) → length ms ≡ 4 → Decides (kindOk (t .misses) k a ms) (KindOk S t k a ms)
+  kind-ok-is queue.Read a ms four =
+      is-as (is-any (unsentFor a) (t .misses) noEntry (unsent-is a) ⊓ rw four at (is-all (λ m. eqb m 0) ms 0 (λ i h. is-eq (getD ms i 0) 0)))
+      (λ w. record { backed = λ z. w .0; bare = λ z. w .1; block = λ z. absurd (omega arith); dirty = λ z. absurd (omega arith) })
       (λ r. (r .backed refl, r .bare refl))
-  kind-ok-is queue.WriteBack b ms =
-      is-as (good-block-is b ⊓ is-any (λ m. not (eqb m 0)) ms 0 (λ i. is-not (is-eq (getD ms i 0) 0)))
-      (λ w. record {
-        backed = λ z. absurd (omega arith);
-        bare = λ z. absurd (omega arith);
-        block = λ z. w .0;
-        dirty = λ z. w .1;
-      })
+  kind-ok-is queue.WriteBack b ms four =
+      is-as (good-block-is b ⊓ rw four at (is-any (λ m. not (eqb m 0)) ms 0 (λ i. is-not (is-eq (getD ms i 0) 0))))
+      (λ w. record { backed = λ z. absurd (omega arith); bare = λ z. absurd (omega arith); block = λ z. w .0; dirty = λ z. w .1 })
       (λ r. (r .block refl, r .dirty refl))
 
   queued-ok-is : (x : Queued) → Decides (queuedOk (t .misses) x) (QueuedOk S t x)
@@ -240,24 +216,10 @@ module _ (S : Settings) (t : Tables) where
   queued-ok-is x =
       let ms : List ℕ = x .masks in
       is-as
-      (is-eq (length ms) 4 ⊓ is-all (λ m. leb m allOnes) ms 0 (λ k h. is-le (getD ms k 0) allOnes) ⊓ kind-ok-is (x .kind) (x .address) ms)
-      (λ w. let four = w .0 .0 in record {
-        masked = four;
-        small = λ k h. w .0 .1 k (omega arith);
-        backed = w .1 .backed;
-        bare = λ z k h. w .1 .bare z k (omega arith);
-        block = w .1 .block;
-        dirty = λ z. let d = w .1 .dirty z in let j : d .0 < length ms = d .1 in (d .0, omega arith, d .2);
-      })
-      (λ r. let four : length ms ≡ 4 = r .masked in (
-        (four, λ k h. r .small k (omega arith)),
-        record {
-          backed = r .backed;
-          bare = λ z k h. r .bare z k (omega arith);
-          block = r .block;
-          dirty = λ z. let d = r .dirty z in let j : d .0 < 4 = d .1 in (d .0, omega arith, d .2);
-        },
-      ))
+      (is-then (is-then (is-eq (length ms) 4) (λ four. rw four at (is-all (λ m. leb m allOnes) ms 0 (λ k h. is-le (getD ms k 0) allOnes))))
+      (λ w. kind-ok-is (x .kind) (x .address) ms (w .0)))
+      (λ w. record { masked = w .0 .0; small = w .0 .1; fitting = w .1 })
+      (λ r. ((r .masked, r .small), r .fitting))
 
   pub soundly-is : Decides (sound S t) (Soundly S t)
   unfolding sound

@@ -1,21 +1,22 @@
--- The dirty count in the slices: where it is read, and the tables that stand when it is written; four sectors of which one is MODIFIED.
-use mathlib.Core.Path.{_≡_, sym, _∙_}
+-- The dirty count and a set's tree in the slices: where each is read, and the tables that stand when it is written; four sectors of which one is MODIFIED.
+use mathlib.Core.Path.{_≡_, sym, ap, _∙_, refl}
 use mathlib.Core.Bool.{Bool, _||_}
 use mathlib.Core.List.{List, [], _∷_}
-use Prim.Native.Nat.{ℕ, _+_, _≤_}
+use Prim.Native.Nat.{ℕ, _+_, _≤_, _<_}
 use native.Mathlib.Nat.{add-zero}
 use native.Mathlib.Omega.{arith}
-use lib.ListN.{length, getD}
+use lib.ListN.{length, getD, set}
 use Rattle.words.specs.Regions.{put, offsetIn}
-use Rattle.words.specs.Words.{count}
+use Rattle.words.specs.Words.{count, padTo}
 use Rattle.model.specs.Layout.{dirtyCountRegion}
-use Rattle.model.specs.Tables.{Tables, withDirtyCount, isModified, dirty}
-use Rattle.model.specs.Lent.{wordBlocks, lent}
+use Rattle.model.specs.Tables.{Tables, withDirtyCount, isModified, dirty, withTrees}
+use Rattle.model.specs.Lent.{wordBlocks, lent, treeOf}
 use Rattle.model.specs.declared.Settings.{Settings}
 use Rattle.model.specs.declared.Sector.{Sector}
-use Rattle.model.specs.Inner.{Encodes}
-use Rattle.words.proofs.Places.{block-get, block-put}
+use Rattle.model.specs.Inner.{Encodes, told}
+use Rattle.words.proofs.Places.{block-get, block-put, length-places, field-put, field-get}
 use Rattle.words.proofs.Flags.{or-four}
+use Rattle.words.proofs.Lists.{four-whole}
 use Rattle.words.proofs.Counting.{count-length}
 use Rattle.encoding.proofs.Slices.{word-sizes, begins}
 use Rattle.encoding.proofs.Bridge.{is-fit}
@@ -53,9 +54,24 @@ pub some-modified : (four : List Sector) (e : Sector) → length four ≡ 4 → 
     → a ≡ isModified (getD four 0 e .status) → b ≡ isModified (getD four 1 e .status)
     → c ≡ isModified (getD four 2 e .status) → d ≡ isModified (getD four 3 e .status)
     → (a || b || c || d) ≡ someModified four
-some-modified [] o n e f g h = absurd (omega arith)
-some-modified (w ∷ []) o n e f g h = absurd (omega arith)
-some-modified (w ∷ x ∷ []) o n e f g h = absurd (omega arith)
-some-modified (w ∷ x ∷ y ∷ []) o n e f g h = absurd (omega arith)
-some-modified (w ∷ x ∷ y ∷ z ∷ []) o n e f g h = rw (e, f, g, h) (sym (or-four (isModified (w .status)) (isModified (x .status)) (isModified (y .status)) (isModified (z .status))))
-some-modified (w ∷ x ∷ y ∷ z ∷ v ∷ l) o n e f g h = absurd (omega arith)
+some-modified four o n {a} {b} {c} {d} e f g h = sym (or-four a b c d) ∙ rw (e, f, g, h) (ap someModified (four-whole o four n))
+
+-- ---- a set's tree
+
+module _ (S : Settings) (t : Tables) {longs words marks : List ℕ} (h : ByBlocks S longs words marks t) {at : Layout} (p : LaysOut S at) (sized : length (t .trees) ≡ S .sets)
+    (i : ℕ) (below : i < S .sets) where
+  pub tree-stands : (v : ℕ) {words′ : List ℕ} → words′ ≡ put words (at .trees + i) (v ∷ []) → ByBlocks S longs words′ marks (withTrees (set (t .trees) i v) t)
+  unfolding padTo
+  tree-stands v c =
+      let from = told (p .trees) in
+      record {
+        as-longs = h .as-longs;
+        as-words = field-put treeOf 1 (S .sets) (t .trees) (wordBlocks S t) 7 i (h .as-words) refl (simp length-places (omega arith)) (omega arith) (omega arith) (omega arith) v refl c;
+        as-marks = h .as-marks;
+      }
+
+  pub tree-at : getD words (at .trees + i) 0 ≡ getD (t .trees) i 0
+  unfolding padTo
+  tree-at =
+      let from = told (p .trees) in
+      field-get treeOf 1 (S .sets) (t .trees) (wordBlocks S t) 7 i {i = at .trees + i} (h .as-words) refl (simp length-places (omega arith)) (omega arith) (omega arith) (omega arith) 0 0 (omega arith) (omega arith)

@@ -71,15 +71,11 @@ put-between : (n m v : ℕ) → put (zeros (n + (n + m))) n (replicate n v) ≡ 
 put-between n m v =
     let a : length (zeros n) ≡ n = length-replicate n 0 in
     let b : length (replicate n v) ≡ n = length-replicate n v in
-    let c : length (zeros n) + 0 ≡ n = omega arith in
     let d : 0 + length (replicate n v) ≤ length (zeros n) = omega arith in
     let e : length (replicate n v) ≡ length (zeros n) = omega arith in
-    ap (λ (l : List ℕ). put l n (replicate n v)) (sym (replicate-append-replicate n (n + m) 0))
-    ∙ ap (λ (k : ℕ). put (zeros n ++ zeros (n + m)) k (replicate n v)) (sym c)
-    ∙ put-past (zeros n) (zeros (n + m)) 0 (replicate n v)
-    ∙ ap (λ (l : List ℕ). zeros n ++ put l 0 (replicate n v)) (sym (replicate-append-replicate n m 0))
-    ∙ ap (λ (l : List ℕ). zeros n ++ l) (put-within (zeros n) (zeros m) 0 (replicate n v) d)
-    ∙ ap (λ (l : List ℕ). zeros n ++ (l ++ zeros m)) (put-whole (zeros n) (replicate n v) e)
+    let c : length (zeros n) + 0 ≡ n = omega arith in
+    let past = rw c at (put-past (zeros n) (zeros (n + m)) 0 (replicate n v)) in
+    rw (← replicate-append-replicate {A = ℕ} n (n + m) 0, past, ← replicate-append-replicate {A = ℕ} n m 0, put-within (zeros n) (zeros m) 0 (replicate n v) d, put-whole (zeros n) (replicate n v) e)
 
 module _ (S : Settings) where
   abbrev n : ℕ

@@ -2,11 +2,11 @@
 use mathlib.Core.Path.{_≡_, sym, ap, _∙_}
 use mathlib.Core.List.{List, []}
 use Prim.Native.Nat.{ℕ, _+_, _*_, _≤_, _<_}
-use native.Mathlib.Decide.{decLe}
 use native.Mathlib.Omega.{arith}
 use lib.ListN.{length, getD}
 use Rattle.words.specs.Words.{padTo, packed, joined}
 use Rattle.words.specs.Regions.{offsetIn}
+use Rattle.words.proofs.Below.{squeeze}
 use Rattle.words.proofs.Places.{block-get, field-get, places-past, block-size}
 use Rattle.layout.specs.Places.{First}
 
@@ -22,9 +22,5 @@ module _ {A : Type 0} (g : A → List ℕ) (n : ℕ) (xs : List A) (bs : List (L
       block-get bs j (length xs) is (omega arith) h (omega arith) ∙ ap (λ (b : List ℕ). getD b (length xs) 0) here ∙ places-past g n (length xs) xs (omega arith)
 
   pub field-used : {r : ℕ} → First l i n 0 r → r ≡ length xs
-  field-used {r} f = go (decLe r (length xs)) (decLe (length xs) r)
-    where
-      go : Dec (r ≤ length xs) → Dec (length xs ≤ r) → r ≡ length xs
-      go (yes a) (yes b) = omega arith
-      go (yes a) (no b) = let c : r < length xs = omega arith in absurd (not-0 r c (sym (value r c) ∙ f .there (omega arith)))
-      go (no a) b = let m = f .most in absurd (f .before (length xs) (omega arith) (rest (omega arith)))
+  field-used {r} f =
+      squeeze r (length xs) (λ c. not-0 r c (sym (value r c) ∙ f .there (omega arith))) (λ c. let most = f .most in f .before (length xs) (omega arith) (rest (omega arith)))

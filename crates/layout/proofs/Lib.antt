@@ -9,6 +9,5 @@ pub mod ByBlocks
 pub mod Lines
 pub mod OneOfFour
 pub mod Replaced
-pub mod TreeStands
 pub mod DirtyCount
 pub mod Filled

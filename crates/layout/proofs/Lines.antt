@@ -10,14 +10,13 @@ use Rattle.words.specs.Words.{padTo, packed, joined}
 use Rattle.model.specs.Numbers.{statusNumber, statusOf}
 use Rattle.model.specs.Range.{linesOf}
 use Rattle.words.specs.Regions.{put, offsetIn}
-use Rattle.model.specs.Tables.{Line, Tables, fresh, withLines}
+use Rattle.model.specs.Tables.{Line, Tables, empty, fresh, withLines}
 use Rattle.model.specs.Layout.{wordsFrom, marksFrom, maskRegion, readableRegion}
-use Rattle.model.specs.Lent.{bit, sectorsAt, longBlocks, wordBlocks, markBlocks, tagOf, cycleOf, takenOf, masksOf, statusesOf, readablesOf}
+use Rattle.model.specs.Lent.{bit, sectorAt, sectorsAt, longBlocks, wordBlocks, markBlocks, tagOf, cycleOf, takenOf, masksOf, statusesOf, readablesOf}
 use Rattle.model.specs.declared.Settings.{Settings}
 use Rattle.model.specs.declared.Sector.{Sector}
-use Rattle.model.specs.declared.Status.{Status}
-use Rattle.model.specs.declared.Status.the-variants.{Invalid, Reserved, Valid, Modified}
-use Rattle.model.proofs.Answers.{status-of-number}
+use Rattle.model.proofs.Answers.{status-of-number, status-below}
+use Rattle.words.proofs.Lists.{four-whole, getD-map-in}
 use Rattle.words.proofs.Places.{length-places, padTo-get, field-put, field-get, places-same}
 use Rattle.layout.specs.declared.Layout.{Layout}
 use Rattle.model.specs.Inner.{told}
@@ -29,12 +28,7 @@ use Rattle.encoding.proofs.NumbersAreTables.{flag-of-bit}
 -- four numbers are their own places
 pub fit-four : (l : List ℕ) → length l ≡ 4 → l ≡ padTo 4 l
 unfolding padTo
-fit-four [] e = absurd (omega arith)
-fit-four (a ∷ []) e = absurd (omega arith)
-fit-four (a ∷ b ∷ []) e = absurd (omega arith)
-fit-four (a ∷ b ∷ c ∷ []) e = absurd (omega arith)
-fit-four (a ∷ b ∷ c ∷ d ∷ []) e = refl
-fit-four (a ∷ b ∷ c ∷ d ∷ f ∷ l) e = absurd (omega arith)
+fit-four l e = rw (← four-whole 0 l e)
 
 sector-of : (x : Sector) {s m r : ℕ} → s ≡ statusNumber (x .status) → m ≡ x .mask → r ≡ bit (x .readable) → record { status = statusOf s; mask = m; readable = eqb r 1 } ≡ x
 sector-of x e f g = rw (e, f, g, status-of-number (x .status), flag-of-bit (x .readable))
@@ -45,21 +39,12 @@ sectors-of : (xs : List Sector) → length xs ≡ 4 → (S : Settings) (words ma
     → ((k q : ℕ) → k < 4 → q ≡ wordsFrom S maskRegion + (4 * l + k) → getD words q 0 ≡ getD (padTo 4 (masks xs)) k 0)
     → ((k q : ℕ) → k < 4 → q ≡ marksFrom S readableRegion + (4 * l + k) → getD marks q 0 ≡ getD (padTo 4 (readables xs)) k 0)
     → sectorsAt S words marks l ≡ xs
-unfolding padTo
-sectors-of [] e S words marks l f g h = absurd (omega arith)
-sectors-of (a ∷ []) e S words marks l f g h = absurd (omega arith)
-sectors-of (a ∷ b ∷ []) e S words marks l f g h = absurd (omega arith)
-sectors-of (a ∷ b ∷ c ∷ []) e S words marks l f g h = absurd (omega arith)
-sectors-of (a ∷ b ∷ c ∷ d ∷ []) e S words marks l f g h =
-    let m : ℕ = wordsFrom S maskRegion in
-    let r : ℕ = marksFrom S readableRegion in
-    rw (
-      sector-of a (f 0 (4 * l) (omega arith) (omega arith)) (g 0 (m + 4 * l) (omega arith) (omega arith)) (h 0 (r + 4 * l) (omega arith) (omega arith)),
-      sector-of b (f 1 (4 * l + 1) (omega arith) refl) (g 1 (m + (4 * l + 1)) (omega arith) refl) (h 1 (r + (4 * l + 1)) (omega arith) refl),
-      sector-of c (f 2 (4 * l + 2) (omega arith) refl) (g 2 (m + (4 * l + 2)) (omega arith) refl) (h 2 (r + (4 * l + 2)) (omega arith) refl),
-      sector-of d (f 3 (4 * l + 3) (omega arith) refl) (g 3 (m + (4 * l + 3)) (omega arith) refl) (h 3 (r + (4 * l + 3)) (omega arith) refl),
-    )
-sectors-of (a ∷ b ∷ c ∷ d ∷ x ∷ xs) e S words marks l f g h = absurd (omega arith)
+sectors-of xs e S words marks l f g h =
+    let of : (n : Sector → ℕ) (k : ℕ) → k < 4 → getD (padTo 4 (map n xs)) k 0 ≡ n (getD xs k empty) = λ n k b. padTo-get 4 (map n xs) k b ∙ getD-map-in n xs empty 0 k (omega arith) in
+    let read : (k q : ℕ) → k < 4 → q ≡ 4 * l + k → sectorAt S words marks q ≡ getD xs k empty =
+    λ k q b p. sector-of (getD xs k empty) (f k q b p ∙ of (λ s. statusNumber (s .status)) k b)
+    (g k _ b (ap (λ (i : ℕ). wordsFrom S maskRegion + i) p) ∙ of (λ s. s .mask) k b) (h k _ b (ap (λ (i : ℕ). marksFrom S readableRegion + i) p) ∙ of (λ s. bit (s .readable)) k b) in
+    rw (read 0 (4 * l) (omega arith) (omega arith), read 1 (4 * l + 1) (omega arith) refl, read 2 (4 * l + 2) (omega arith) refl, read 3 (4 * l + 3) (omega arith) refl) (four-whole empty xs e)
 
 -- a number of a sector that is at most m, and at most m where there is none
 most-at : (f : Sector → ℕ) (m : ℕ) → ((x : Sector) → f x ≤ m) → (xs : List Sector) (j : ℕ) → j < 4 → getD (padTo 4 (map f xs)) j 0 ≤ m
@@ -69,12 +54,6 @@ most-at f m h xs j b = rw (padTo-get 4 (map f xs) j b) (go xs j)
     go [] i = omega arith
     go (y ∷ ys) zero = h y
     go (y ∷ ys) (suc i) = go ys i
-
-status-most : (s : Status) → statusNumber s ≤ 3
-status-most Invalid = omega arith
-status-most Reserved = omega arith
-status-most Valid = omega arith
-status-most Modified = omega arith
 
 bit-most : (b : Bool) → bit b ≤ 1
 bit-most true = omega arith
@@ -103,23 +82,24 @@ module _ (S : Settings) (t : Tables) {longs words marks : List ℕ} (h : ByBlock
       let start : 4 * l ≡ offsetIn (markBlocks S t) 0 + 4 * l = omega arith in
       field-get statusesOf 4 (linesOf S) (t .lines) (markBlocks S t) 0 l {i = 4 * l} (h .as-marks) refl start (omega arith) below few fresh j b f
 
+  readable-at : (j q : ℕ) → j < 4 → q ≡ at .readables + 4 * l + j → getD marks q 0 ≡ getD (padTo 4 (readablesOf (getD (t .lines) l fresh))) j 0
+  readable-at j q b f =
+      let start : at .readables + 4 * l ≡ offsetIn (markBlocks S t) 1 + 4 * l = simp length-places (omega arith) in
+      field-get readablesOf 4 (linesOf S) (t .lines) (markBlocks S t) 1 l {i = at .readables + 4 * l} (h .as-marks) refl start (omega arith) below few fresh j b f
+
   pub lifted : length (getD (t .lines) l fresh .sectors) ≡ 4 → sectorsAt S words marks l ≡ getD (t .lines) l fresh .sectors
   lifted four =
       let ws : at .masks + 4 * l ≡ offsetIn (wordBlocks S t) 2 + 4 * l = simp length-places (omega arith) in
-      let rs : at .readables + 4 * l ≡ offsetIn (markBlocks S t) 1 + 4 * l = simp length-places (omega arith) in
       sectors-of (getD (t .lines) l fresh .sectors) four S words marks l status-at
       (λ j q b f. field-get masksOf 4 (linesOf S) (t .lines) (wordBlocks S t) 2 l {i = at .masks + 4 * l} (h .as-words) refl ws (omega arith) below few fresh j b (omega arith))
-      (λ j q b f. field-get readablesOf 4 (linesOf S) (t .lines) (markBlocks S t) 1 l {i = at .readables + 4 * l} (h .as-marks) refl rs (omega arith) below few fresh j b (omega arith))
+      (λ j q b f. readable-at j q b (omega arith))
 
   -- its bytes are those of sectors
   pub plain-at : Plain at l marks
-  plain-at j b =
-      let rs : at .readables + 4 * l ≡ offsetIn (markBlocks S t) 1 + 4 * l = simp length-places (omega arith) in
-      let r : getD marks (at .readables + 4 * l + j) 0 ≡ getD (padTo 4 (readablesOf (getD (t .lines) l fresh))) j 0 =
-      field-get readablesOf 4 (linesOf S) (t .lines) (markBlocks S t) 1 l {i = at .readables + 4 * l} (h .as-marks) refl rs (omega arith) below few fresh j b refl in (
-        rw (status-at j (4 * l + j) b refl) (most-at (λ s. statusNumber (s .status)) 3 (λ s. status-most (s .status)) (getD (t .lines) l fresh .sectors) j b),
-        rw r (most-at (λ s. bit (s .readable)) 1 (λ s. bit-most (s .readable)) (getD (t .lines) l fresh .sectors) j b),
-      )
+  plain-at j b = (
+    rw (status-at j (4 * l + j) b refl) (most-at (λ s. statusNumber (s .status)) 3 (λ s. omega (arith, status-below (s .status))) (getD (t .lines) l fresh .sectors) j b),
+    rw (readable-at j _ b refl) (most-at (λ s. bit (s .readable)) 1 (λ s. bit-most (s .readable)) (getD (t .lines) l fresh .sectors) j b),
+  )
 
   -- ---- what is written: the line becomes y
 

@@ -17,17 +17,11 @@ use Rattle.model.specs.Inner.{Sized}
 use Rattle.words.proofs.Flags.{and-1, and-2, not-yes, no-not}
 use Rattle.model.proofs.Fits.{ranged, fit, power-most}
 
-one-of : (a b c d e f g h i : Bool) → (a || b || c || d || e || f || g || h || i) ≡ (a || (b || (c || (d || (e || (f || (g || (h || (i || false)))))))))
-one-of a b c d e f g h i = simp (or-assoc, or-false)
-
 pub power-is : (n : ℕ) → (eqb n 1 || eqb n 2 || eqb n 4 || eqb n 8 || eqb n 16 || eqb n 32 || eqb n 64 || eqb n 128 || eqb n 256) ≡ powerTo256 n
-power-is n = one-of (eqb n 1) (eqb n 2) (eqb n 4) (eqb n 8) (eqb n 16) (eqb n 32) (eqb n 64) (eqb n 128) (eqb n 256)
-
-one-of-five : (a b c d e : Bool) → (a || b || c || d || e) ≡ (a || (b || (c || (d || (e || false)))))
-one-of-five a b c d e = simp (or-assoc, or-false)
+power-is n = simp (or-assoc, or-false)
 
 pub power-16-is : (n : ℕ) → (eqb n 1 || eqb n 2 || eqb n 4 || eqb n 8 || eqb n 16) ≡ powerTo16 n
-power-16-is n = one-of-five (eqb n 1) (eqb n 2) (eqb n 4) (eqb n 8) (eqb n 16)
+power-16-is n = simp (or-assoc, or-false)
 
 module _ (S : Settings) (r : Bool) (power : r ≡ powerTo256 (S .sets)) where
   sized : (r && within 1 16 (S .ways)) ≡ (powerTo256 (S .sets) && within 1 16 (S .ways))

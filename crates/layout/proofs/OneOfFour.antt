@@ -1,13 +1,14 @@
 -- One of two sectors chosen number by number, four with one of them changed, and one of a line's four.
-use Prim.Native.Nat.{ℕ, zero, suc, _+_, _*_, _<_}
+use Prim.Native.Nat.{ℕ, _+_, _*_, _<_}
 use native.Mathlib.Nat.{add-zero}
-use mathlib.Core.Path.{_≡_, refl}
+use mathlib.Core.Path.{_≡_, refl, ap, _∙_}
 use mathlib.Core.Bool.{Bool, true, false}
 use mathlib.Core.List.{List, [], _∷_}
-use native.Mathlib.Omega.{arith}
 use lib.ListN.{length, getD, set}
 use lib.Dec.{eqb}
 use Rattle.words.specs.Words.{pick}
+use Rattle.words.proofs.Below.{below-four}
+use Rattle.words.proofs.Lists.{four-whole}
 use Rattle.model.specs.Lent.{sectorAt, sectorsAt}
 use Rattle.model.specs.declared.Settings.{Settings}
 use Rattle.model.specs.declared.Sector.{Sector}
@@ -19,22 +20,14 @@ sector-chosen false x y = refl
 
 pub four-changed : (four : List Sector) (e x : Sector) (k : ℕ) → length four ≡ 4 → k < 4
     → pick (eqb k 0) x (getD four 0 e) ∷ pick (eqb k 1) x (getD four 1 e) ∷ pick (eqb k 2) x (getD four 2 e) ∷ pick (eqb k 3) x (getD four 3 e) ∷ [] ≡ set four k x
-four-changed (a ∷ b ∷ c ∷ d ∷ []) e x zero n h = refl
-four-changed (a ∷ b ∷ c ∷ d ∷ []) e x (suc zero) n h = refl
-four-changed (a ∷ b ∷ c ∷ d ∷ []) e x (suc (suc zero)) n h = refl
-four-changed (a ∷ b ∷ c ∷ d ∷ []) e x (suc (suc (suc zero))) n h = refl
-four-changed (a ∷ b ∷ c ∷ d ∷ []) e x (suc (suc (suc (suc k)))) n h = absurd (omega arith)
-four-changed [] e x k n h = absurd (omega arith)
-four-changed (a ∷ []) e x k n h = absurd (omega arith)
-four-changed (a ∷ b ∷ []) e x k n h = absurd (omega arith)
-four-changed (a ∷ b ∷ c ∷ []) e x k n h = absurd (omega arith)
-four-changed (a ∷ b ∷ c ∷ d ∷ f ∷ xs) e x k n h = absurd (omega arith)
+four-changed four e x k n h =
+    below-four
+    (λ i. pick (eqb i 0) x (getD four 0 e) ∷ pick (eqb i 1) x (getD four 1 e) ∷ pick (eqb i 2) x (getD four 2 e) ∷ pick (eqb i 3) x (getD four 3 e) ∷ []
+    ≡ set (getD four 0 e ∷ getD four 1 e ∷ getD four 2 e ∷ getD four 3 e ∷ []) i x)
+    refl refl refl refl k h
+    ∙ ap (λ (l : List Sector). set l k x) (four-whole e four n)
 
 -- ---- one of the four sectors of line l
 
 pub sector-of-four : (S : Settings) (words marks : List ℕ) (l k : ℕ) (d : Sector) → k < 4 → getD (sectorsAt S words marks l) k d ≡ sectorAt S words marks (4 * l + k)
-sector-of-four S words marks l zero d h = rw add-zero
-sector-of-four S words marks l (suc zero) d h = refl
-sector-of-four S words marks l (suc (suc zero)) d h = refl
-sector-of-four S words marks l (suc (suc (suc zero))) d h = refl
-sector-of-four S words marks l (suc (suc (suc (suc k)))) d h = absurd (omega arith)
+sector-of-four S words marks l k d h = below-four (λ i. getD (sectorsAt S words marks l) i d ≡ sectorAt S words marks (4 * l + i)) (rw add-zero) refl refl refl k h

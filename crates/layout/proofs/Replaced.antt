@@ -1,30 +1,30 @@
 -- Four sectors stored back over those that stand there: all but one place, each where it differs; then that one.
-use mathlib.Core.Path.{_≡_, refl, sym, ap, subst, _∙_}
+use mathlib.Core.Path.{_≡_, refl, sym, ap, _∙_}
+use mathlib.Core.Logic.{⊎-elim}
 use mathlib.Core.Bool.{Bool, true, false, not, _&&_}
-use mathlib.Core.List.{List, [], _∷_, map}
+use mathlib.Core.List.{List, map}
 use Prim.Native.Nat.{ℕ, _+_, _-_, _*_, _≤_, _<_}
 use native.Mathlib.Omega.{arith}
 use native.Mathlib.Nat.{add-zero}
 use lib.ListN.{length, getD, set, length-set, length-map}
 use lib.Dec.{eqb}
-use lib.Seq.{paste, length-paste, getD-set-same, getD-set-other, set-getD, set-set}
+use lib.Seq.{length-paste, getD-set-same, getD-set-other, set-getD, set-set}
 use borrow.Author.Tests.{eqb-true, eqb-false}
 use Rattle.words.specs.Words.{pick}
 use Rattle.words.specs.Regions.{put}
-use Rattle.words.proofs.Flags.{no-not, clash}
+use Rattle.words.proofs.Flags.{no-not, clash, flag}
 use Rattle.words.proofs.Lists.{map-set}
-use Rattle.words.proofs.Region.{Pasting, pasting-start, pasting-turn, pasting-done, put-paste, getD-paste-past, put-set-inside, put-set-before}
+use Rattle.words.proofs.Region.{put-paste, getD-paste-past, put-set-inside, put-set-before}
 use Rattle.model.specs.Numbers.{statusNumber}
 use Rattle.model.specs.Lent.{bit, sectorsAt}
 use Rattle.model.specs.declared.Settings.{Settings}
 use Rattle.model.specs.declared.Sector.{Sector}
-use Rattle.encoding.proofs.DecodeIsSound.{number-back, mark-back, sectors-at}
+use Rattle.encoding.proofs.DecodeIsSound.{number-back, mark-back, sector-numbers-at}
 use Rattle.layout.specs.declared.Layout.{Layout}
 use Rattle.layout.specs.Layout.{LaysOut}
 use Rattle.layout.specs.Sectors.{LineRoom, Plain, Column, Stand, StoredBack, OthersStored, butOne}
+use Rattle.layout.proofs.Stores.{four-put}
 use Rattle.layout.proofs.ByPlace.{mask-read, readable-read}
-use Rattle.layout.proofs.OneOfFour.{four-changed}
-use Rattle.layout.proofs.Stores.{none}
 
 -- ---- a number that is written only where it differs, and not at the place of the sector that changes
 
@@ -43,85 +43,62 @@ module _ (l : List ℕ) (w k : ℕ) (was is : List ℕ) (long : w + 4 ≤ length
   abbrev number : ℕ → ℕ
   number i = pick (not (eqb k i)) (getD is i 0) (getD was i 0)
 
-  -- before number i: those before it are there, the others as they were
-  abbrev Keeping : List ℕ → ℕ → Type 0
-  Keeping s i = Pasting l w (butOne k was is) s i × ((j : ℕ) → i ≤ j → j < 4 → getD s (w + j) 0 ≡ getD was j 0)
-
-  start : Column l w was → Keeping l 0
-  start c = (pasting-start l w (butOne k was is), λ j _ h. c j h)
-
-  asks : {s : List ℕ} (i : ℕ) → i < 4 → Keeping s i → {j : ℕ} → j ≡ w + i → (j < length s) × (getD s j 0 ≡ getD was i 0)
-  asks i h v e = (omega (arith, v .0 .1), rw e (v .1 i (omega arith) h))
-
   left : (i : ℕ) → i < 4 → getD (butOne k was is) i 0 ≡ number i
-  left i h = go (eqb k i) refl
-    where
-      go : (b : Bool) → eqb k i ≡ b → getD (set is k (getD was k 0)) i 0 ≡ pick (not b) (getD is i 0) (getD was i 0)
-      go true e = rw (eqb-true k i e) (getD-set-same is i (getD was i 0) 0 (omega arith))
-      go false e = getD-set-other is k i (getD was k 0) 0 (λ p. eqb-false k i e (sym p))
+  left i h =
+      ⊎-elim (λ (e : eqb k i ≡ true). rw (e, eqb-true k i e) (getD-set-same is i (getD was i 0) 0 (omega arith)))
+      (λ (e : eqb k i ≡ false). rw e (getD-set-other is k i (getD was k 0) 0 (λ p. eqb-false k i e (sym p)))) (flag (eqb k i))
 
-  turn : {s s′ : List ℕ} {j : ℕ} (i : ℕ) → i < 4 → Keeping s i → j ≡ w + i → s′ ≡ set s j (number i) → Keeping s′ (i + 1)
-  turn {s} i h v e f =
-      let m : length (butOne k was is) ≡ 4 = length-set is k (getD was k 0) ∙ n in
-      rw (f, e) (
-        pasting-turn l w (butOne k was is) s i (number i) (omega (arith, m)) (omega (arith, m)) (left i h) (v .0),
-        λ j a b. getD-set-other s (w + i) (w + j) (number i) 0 (λ q. omega arith) ∙ v .1 j (omega arith) b,
-      )
+  -- a number behind the one that is stored stays
+  past : (s : List ℕ) (i v j : ℕ) {s′ : List ℕ} {n : ℕ} → s′ ≡ set s i v → i < j → (j < length s) × (getD s j 0 ≡ n) → (j < length s′) × (getD s′ j 0 ≡ n)
+  past s i v j e h a = rw e (rw length-set (a .0), getD-set-other s i j v 0 (λ q. omega arith) ∙ a .1)
 
   module _ (c : Column l w was) where
+    stood : (j : ℕ) → j < 4 → (w + j < length l) × (getD l (w + j) 0 ≡ getD was j 0)
+    stood j h = (omega arith, c j h)
+
     pub first-asks : (w < length l) × (getD l w 0 ≡ getD was 0 0)
-    first-asks = asks 0 (omega arith) (start c) (sym (add-zero w))
+    first-asks = rw add-zero at (stood 0 (omega arith))
 
     module _ {l₁ : List ℕ} (e₁ : l₁ ≡ set l w (number 0)) where
-      one : Keeping l₁ 1
-      one = turn 0 (omega arith) (start c) (sym (add-zero w)) e₁
-
       pub second-asks : (w + 1 < length l₁) × (getD l₁ (w + 1) 0 ≡ getD was 1 0)
-      second-asks = asks 1 (omega arith) one refl
+      second-asks = past l w (number 0) (w + 1) e₁ (omega arith) (stood 1 (omega arith))
 
       module _ {l₂ : List ℕ} (e₂ : l₂ ≡ set l₁ (w + 1) (number 1)) where
-        two : Keeping l₂ 2
-        two = turn 1 (omega arith) one refl e₂
-
         pub third-asks : (w + 2 < length l₂) × (getD l₂ (w + 2) 0 ≡ getD was 2 0)
-        third-asks = asks 2 (omega arith) two refl
+        third-asks = past l₁ (w + 1) (number 1) (w + 2) e₂ (omega arith) (past l w (number 0) (w + 2) e₁ (omega arith) (stood 2 (omega arith)))
 
         module _ {l₃ : List ℕ} (e₃ : l₃ ≡ set l₂ (w + 2) (number 2)) where
-          three : Keeping l₃ 3
-          three = turn 2 (omega arith) two refl e₃
-
           pub fourth-asks : (w + 3 < length l₃) × (getD l₃ (w + 3) 0 ≡ getD was 3 0)
-          fourth-asks = asks 3 (omega arith) three refl
+          fourth-asks =
+              past l₂ (w + 2) (number 2) (w + 3) e₃ (omega arith)
+              (past l₁ (w + 1) (number 1) (w + 3) e₂ (omega arith) (past l w (number 0) (w + 3) e₁ (omega arith) (stood 3 (omega arith))))
 
           pub four-kept : {l₄ : List ℕ} → l₄ ≡ set l₃ (w + 3) (number 3) → l₄ ≡ put l w (butOne k was is)
-          four-kept {l₄} e₄ = pasting-done l w (butOne k was is) l₄ 4 (length-set is k (getD was k 0) ∙ n) (turn 3 (omega arith) three refl e₄ .0)
+          four-kept e₄ =
+              rw (e₄, e₃, e₂, e₁, ← left 0 (omega arith), ← left 1 (omega arith), ← left 2 (omega arith), ← left 3 (omega arith))
+              (four-put l w (butOne k was is) long (length-set is k (getD was k 0) ∙ n))
 
 -- behind four numbers that are put stands what stood there
 pub column-past : (l : List ℕ) (q : ℕ) (ys : List ℕ) (r : ℕ) (ns : List ℕ) → length ys ≡ 4 → q + 4 ≤ r → q + 4 ≤ length l → Column l r ns → Column (put l q ys) r ns
 column-past l q ys r ns n a b c j h =
     let e : r + j ≡ q + 4 + (r + j - (q + 4)) = omega arith in
-    ap (λ (s : List ℕ). getD s (r + j) 0) (sym (put-paste l q ys 4 n))
-    ∙ ap (λ (i : ℕ). getD (paste l q ys 4) i 0) e
-    ∙ getD-paste-past l q ys 4 (r + j - (q + 4)) (omega arith) (omega (arith, n))
-    ∙ ap (λ (i : ℕ). getD l i 0) (sym e)
-    ∙ c j h
+    rw (← put-paste l q ys 4 n, e) (getD-paste-past l q ys 4 (r + j - (q + 4)) (omega arith) (omega (arith, n)) ∙ rw (← e) (c j h))
 
 -- ---- the four that stand there, and with one of them changed
 
 pub lifted-stand : (S : Settings) {at : Layout} → LaysOut S at → (l : ℕ) (words marks : List ℕ) → Plain at l marks → Stand at l (sectorsAt S words marks l) words marks
 lifted-stand S {at} p l words marks plain = (
-  λ j h. ap (λ (i : ℕ). getD words i 0) (omega arith) ∙ mask-read S p words (4 * l + j) ∙ sectors-at (λ s. s .mask) S words marks l j h,
-  λ j h. number-back (getD marks (4 * l + j) 0) (plain j h .0) ∙ sectors-at (λ s. statusNumber (s .status)) S words marks l j h,
+  λ j h. ap (λ (i : ℕ). getD words i 0) (omega arith) ∙ mask-read S p words (4 * l + j) ∙ sector-numbers-at (λ s. s .mask) S words marks l j h,
+  λ j h. number-back (getD marks (4 * l + j) 0) (plain j h .0) ∙ sector-numbers-at (λ s. statusNumber (s .status)) S words marks l j h,
   λ j h. mark-back (getD marks (at .readables + 4 * l + j) 0) (plain j h .1)
       ∙ ap (λ (n : ℕ). bit (eqb n 1)) (ap (λ (i : ℕ). getD marks i 0) (omega arith) ∙ readable-read S p marks (4 * l + j))
-      ∙ sectors-at (λ s. bit (s .readable)) S words marks l j h,
+      ∙ sector-numbers-at (λ s. bit (s .readable)) S words marks l j h,
 )
 
 -- stored but for sector i, which is sector k
 pub others-as : (at : Layout) (l : ℕ) {i k : ℕ} (found : List Sector) {four : List Sector} (x : Sector) (words marks : List ℕ) {words′ marks′ : List ℕ} → k ≡ i → four ≡ set found i x
     → OthersStored at l i found four words marks words′ marks′ → OthersStored at l k found (set found k x) words marks words′ marks′
-others-as at l {i} {k} found {four} x words marks {words′} {marks′} e f o =
-    rw e (subst (λ (ys : List Sector). OthersStored at l i found ys words marks words′ marks′) f o)
+others-as at l found x words marks e f o = rw (e, ← f) o
 
 -- ---- then the one
 
@@ -130,11 +107,7 @@ module _ (found : List Sector) (k : ℕ) (x : Sector) (four : length found ≡ 4
   size = length-set (map f (set found k x)) k (getD (map f found) k 0) ∙ length-map (set found k x) f ∙ length-set found k x ∙ four
 
   as-changed : set (butOne k (map f found) (map f (set found k x))) k (f x) ≡ map f (set found k x)
-  as-changed =
-      set-set (map f (set found k x)) k (getD (map f found) k 0) (f x)
-      ∙ ap (λ (ns : List ℕ). set ns k (f x)) (map-set f found k x)
-      ∙ set-set (map f found) k (f x) (f x)
-      ∙ sym (map-set f found k x)
+  as-changed = simp (map-set, set-set)
 
   pub changed-last : (l : List ℕ) (w : ℕ) → w + 4 ≤ length l
       → set (put l w (butOne k (map f found) (map f (set found k x)))) (w + k) (f x) ≡ put l w (map f (set found k x))
@@ -150,11 +123,10 @@ module _ (found : List Sector) (k : ℕ) (x : Sector) (four : length found ≡ 4
       let m = size found k x four h f in
       let n : length (put l q (butOne k (map f found) (map f (set found k x)))) ≡ length l =
       ap length (sym (put-paste l q (butOne k (map f found) (map f (set found k x))) 4 m)) ∙ length-paste l q (butOne k (map f found) (map f (set found k x))) 4 (omega arith) (omega (arith, m)) in
-      ap (λ (m : List ℕ). set m (r + k) (g x))
-      (put-set-before (put l q (butOne k (map f found) (map f (set found k x)))) r (butOne k (map g found) (map g (set found k x))) (q + k) (f x) (omega (arith, n)) (omega arith))
-      ∙ ap (λ (m : List ℕ). set (put m r (butOne k (map g found) (map g (set found k x)))) (r + k) (g x)) (changed-last found k x four h f l q (omega arith))
-      ∙ changed-last found k x four h g (put l q (map f (set found k x))) r
-      (omega (arith, sym (ap length (changed-last found k x four h f l q (omega arith))) ∙ length-set (put l q (butOne k (map f found) (map f (set found k x)))) (q + k) (f x) ∙ n))
+      let first = changed-last found k x four h f l q (omega arith) in
+      rw (put-set-before (put l q (butOne k (map f found) (map f (set found k x)))) r (butOne k (map g found) (map g (set found k x))) (q + k) (f x) (omega (arith, n)) (omega arith), first)
+      (changed-last found k x four h g (put l q (map f (set found k x))) r
+      (omega (arith, sym (ap length first) ∙ length-set (put l q (butOne k (map f found) (map f (set found k x)))) (q + k) (f x) ∙ n)))
 
 -- all three columns, of the four that were lifted
 pub replaced : (S : Settings) (at : Layout) (l k : ℕ) (x : Sector) (words marks : List ℕ) → LineRoom at l words marks → k < 4
@@ -163,8 +135,6 @@ pub replaced : (S : Settings) (at : Layout) (l k : ℕ) (x : Sector) (words mark
     × (marks₂ ≡ set (set marks₁ (4 * l + k) (statusNumber (x .status))) (at .readables + 4 * l + k) (bit (x .readable)))
     → StoredBack at l (set (sectorsAt S words marks l) k x) words marks words₂ marks₂
 replaced S at l k x words marks room h others own = (
-  own .0 ∙ ap (λ (s : List ℕ). set s (at .masks + 4 * l + k) (x .mask)) (others .0) ∙ changed-last (sectorsAt S words marks l) k x refl h (λ s. s .mask) words (at .masks + 4 * l) (room .0),
-  own .1
-      ∙ ap (λ (s : List ℕ). set (set s (4 * l + k) (statusNumber (x .status))) (at .readables + 4 * l + k) (bit (x .readable))) (others .1)
-      ∙ changed-both (sectorsAt S words marks l) k x refl h (λ s. statusNumber (s .status)) (λ s. bit (s .readable)) marks (4 * l) (at .readables + 4 * l) (room .1) (room .2),
+  rw (own .0, others .0) (changed-last (sectorsAt S words marks l) k x refl h (λ s. s .mask) words (at .masks + 4 * l) (room .0)),
+  rw (own .1, others .1) (changed-both (sectorsAt S words marks l) k x refl h (λ s. statusNumber (s .status)) (λ s. bit (s .readable)) marks (4 * l) (at .readables + 4 * l) (room .1) (room .2)),
 )

@@ -15,27 +15,17 @@ use Rattle.model.proofs.Fits.{power-most}
 words-small : {S : Settings} {longs words marks : List ℕ} → Sized S longs words marks → length words ≤ wordsMost
 words-small {S} f = let long = told (f .words-long) in omega (arith, f .lines, f .tickets, f .queue, power-most (S .sets) (f .power))
 
--- the place of line l is inside, and its number does not wrap
-pub record TakenRoom (at : Layout) (words : List ℕ) (l : ℕ) : Type 0 where
-  pub inside : at .taken + l < length words
+-- place i of the words from `from` on is inside, and its number does not wrap
+pub record WordRoom (from : ℕ) (words : List ℕ) (i : ℕ) : Type 0 where
+  pub inside : from + i < length words
   pub small : length words ≤ wordsMost
 
-pub taken-room : {S : Settings} {at : Layout} {longs words marks : List ℕ} → LaysOut S at → Sized S longs words marks → (l : ℕ) → l < linesOf S → TakenRoom at words l
-taken-room {S} {at} {longs} {words} {marks} p f l h =
-    let from = told (p .taken) in
-    let long = told (f .words-long) in
-    record { inside = omega arith; small = words-small f }
+module _ {S : Settings} {at : Layout} {longs words marks : List ℕ} (p : LaysOut S at) (f : Sized S longs words marks) where
+  pub taken-room : (l : ℕ) → l < linesOf S → WordRoom (at .taken) words l
+  taken-room l h = let from = told (p .taken) in let long = told (f .words-long) in record { inside = omega arith; small = words-small f }
 
--- the same of set i
-pub record TreeRoom (at : Layout) (words : List ℕ) (i : ℕ) : Type 0 where
-  pub inside : at .trees + i < length words
-  pub small : length words ≤ wordsMost
-
-pub tree-room : {S : Settings} {at : Layout} {longs words marks : List ℕ} → LaysOut S at → Sized S longs words marks → (i : ℕ) → i < S .sets → TreeRoom at words i
-tree-room {S} {at} {longs} {words} {marks} p f i h =
-    let from = told (p .trees) in
-    let long = told (f .words-long) in
-    record { inside = omega arith; small = words-small f }
+  pub tree-room : (i : ℕ) → i < S .sets → WordRoom (at .trees) words i
+  tree-room i h = let from = told (p .trees) in let long = told (f .words-long) in record { inside = omega arith; small = words-small f }
 
 pub tree-is : {S : Settings} {at : Layout} → LaysOut S at → (words : List ℕ) (i : ℕ) → getD words (at .trees + i) 0 ≡ treeAt S words i
 tree-is p words i = ap (λ (n : ℕ). getD words (n + i) 0) (told (p .trees))

@@ -1,8 +1,6 @@
 -- From the bytes and the loops to what an access meets; last, what a caller takes away.
-pub mod Statuses
 pub mod Scans
 pub mod Ways
-pub mod ByTree
 pub mod Lines
 pub mod Meetings
 pub mod OfTables

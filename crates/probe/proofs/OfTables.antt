@@ -1,7 +1,7 @@
 -- For a caller whose slices hold the tables t: the lines and their dirty count are those that `decide` speaks of, and its value is
 -- what the access meets in t.
 use Prim.Native.Nat.{ℕ, _<_}
-use mathlib.Core.Path.{_≡_, sym, ap, subst, _∙_}
+use mathlib.Core.Path.{_≡_, sym, ap, _∙_}
 use mathlib.Core.List.{List}
 use lib.ListN.{getD}
 use Rattle.model.specs.Address.{addressOf, setIndex}
@@ -36,7 +36,6 @@ module _ (S : Settings) (L : Lent) {t : Tables} (e : tablesOf S L ≡ t) where
       → placeIs (waysOf S (t .lines) (addressOf x)) (addressOf x) r ≡ metIn S x t
   unfolding ruleOf
   decided-probe {x} {r} inside d =
-      subst (λ (ls : List Line). placeIs (waysOf S ls (addressOf x)) (addressOf x) r ≡ probe (ruleHeld S (L .words) (addressOf x)) S (dirtyCountAt S (L .words)) (waysOf S ls (addressOf x)) x)
-      (sym lines-held) (d .place)
-      ∙ ap (λ (k : ℕ). probe (ruleHeld S (L .words) (addressOf x)) S k (waysOf S (t .lines) (addressOf x)) x) (sym dirty-held)
-      ∙ ap (λ (R : Rule). probe R S (t .dirtyCount) (waysOf S (t .lines) (addressOf x)) x) (rule-held (addressOf x) inside)
+      let ls : List Line = waysOf S (t .lines) (addressOf x) in
+      let place : placeIs ls (addressOf x) r ≡ probe (ruleHeld S (L .words) (addressOf x)) S (t .dirtyCount) ls x = rw (lines-held, dirty-held) (d .place) in
+      place ∙ ap (λ (R : Rule). probe R S (t .dirtyCount) ls x) (rule-held (addressOf x) inside)

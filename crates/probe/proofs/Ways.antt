@@ -1,6 +1,7 @@
--- The searches of Probe over lines that stand in a table are searches over the numbers of the lines.
+-- The searches of Probe over lines that stand in a table are searches over the numbers of the lines; the choice by a set's tree over a mask of the candidates.
 use Prim.Native.Nat.{ℕ, zero, suc, _+_, _^_, _≤_, _<_}
 use mathlib.Core.Path.{_≡_, refl, sym, ap, subst, _∙_}
+use mathlib.Core.Logic.{⊎-elim}
 use mathlib.Core.Bool.{Bool, true, false}
 use mathlib.Core.List.{List, [], _∷_, _++_}
 use native.Mathlib.Nat.{add-zero, zero-add}
@@ -12,12 +13,12 @@ use Rattle.model.specs.Tables.{Line, fresh}
 use Rattle.model.specs.Probe.{next, orElse, first, last, older, earliest}
 use Rattle.model.specs.Range.{isTree}
 use Rattle.model.specs.Lent.{treeAt}
-use Rattle.model.specs.Tree.{powerTo16, levels}
+use Rattle.model.specs.Tree.{powerTo16, levels, isIn, treeChoice}
 use Rattle.model.specs.declared.Settings.{Settings}
 use Rattle.model.specs.declared.Found.{Found}
 use Rattle.model.specs.declared.Found.the-variants.{At, Nothing}
-use Rattle.words.proofs.Flags.{by-flag}
-use Rattle.model.proofs.Trees.{Chooses, choice-chooses, levels-are}
+use Rattle.words.proofs.Flags.{by-flag, flag}
+use Rattle.model.proofs.Trees.{Chooses, choice-chooses, levels-are, choice-same}
 use Rattle.words.proofs.Tabled.{length-table, getD-table, table-snoc}
 use Rattle.model.proofs.Ways.{Finds, earliest-finds}
 use Rattle.probe.specs.Scan.{firstBelow, lastBelow, sooner, leastFrom, candidateAt, lastUnusedIn, treeIn, victimIn}
@@ -89,11 +90,7 @@ module _ (key : Line → ℕ) (p : Line → Bool) (f : ℕ → Line) where
   least-step : (n w : ℕ) (g : ℕ → Line) → ((i : ℕ) → g i ≡ f (suc w + i)) → (v : Found) → Finds p (table n g) v
       → on w (pick (p (f w)) (older key (table n g) (key (f w)) v) (next v))
       ≡ pick (p (f w)) (sooner (λ i. key (f i)) w (on (suc w) v)) (on (suc w) v)
-  least-step n w g h Nothing e = go (p (f w))
-    where
-      go : (b : Bool) → on w (pick b (At 0) Nothing) ≡ pick b (At w) Nothing
-      go true = ap At (add-zero w)
-      go false = refl
+  least-step n w g h Nothing e = ⊎-elim (λ (y : p (f w) ≡ true). rw y (ap At (add-zero w))) (λ y. rw y) (flag (p (f w)))
   least-step n w g h (At v) e =
       let d : getD (table n g) v fresh ≡ f (suc w + v) = getD-table n g v fresh (omega (arith, e .0, length-table n g)) ∙ h v in
       rw d (go (p (f w)) (leb (key (f w)) (key (f (suc w + v)))))
@@ -125,27 +122,19 @@ abbrev pub Under : ℕ → Found → Type 0
 Under n Nothing = Unit
 Under n (At w) = w < n
 
-under-more : (n : ℕ) (v : Found) → Under n v → Under (suc n) v
-under-more n Nothing h = tt
-under-more n (At w) h = omega arith
-
 under-or : (n : ℕ) (v u : Found) → Under n v → Under n u → Under n (orElse v u)
 under-or n Nothing u h k = k
 under-or n (At w) u h k = h
 
-under-pick : (n : ℕ) (b : Bool) (v : Found) → Under n v → Under (suc n) (pick b (At n) v)
-under-pick n true v h = omega arith
-under-pick n false v h = under-more n v h
-
-pub first-under : (p : ℕ → Bool) (n : ℕ) → Under n (firstBelow n p)
+pub first-under : (p : ℕ → Bool) (n m : ℕ) → n ≤ m → Under m (firstBelow n p)
 unfolding firstBelow
-first-under p zero = tt
-first-under p (suc n) = under-or (suc n) (firstBelow n p) _ (under-more n (firstBelow n p) (first-under p n)) (under-pick n (p n) Nothing tt)
+first-under p zero m h = tt
+first-under p (suc n) m h = under-or m (firstBelow n p) _ (first-under p n m (omega arith)) (by-flag (Under m) (p n) (At n) Nothing (λ e. omega arith) (λ e. tt))
 
-last-under : (p : ℕ → Bool) (n : ℕ) → Under n (lastBelow n p)
+last-under : (p : ℕ → Bool) (n m : ℕ) → n ≤ m → Under m (lastBelow n p)
 unfolding lastBelow
-last-under p zero = tt
-last-under p (suc n) = under-pick n (p n) (lastBelow n p) (last-under p n)
+last-under p zero m h = tt
+last-under p (suc n) m h = by-flag (Under m) (p n) (At n) (lastBelow n p) (λ e. omega arith) (λ e. last-under p n m (omega arith))
 
 pub least-under : (p : ℕ → Bool) (key : ℕ → ℕ) (n w m : ℕ) → w + n ≤ m → Under m (leastFrom n w p key)
 unfolding leastFrom
@@ -171,8 +160,18 @@ tree-under marks base ways enough t power =
 pub victim-under : (S : Settings) (words marks : List ℕ) (i base : ℕ) (enough : Bool) → (isTree S ≡ true → powerTo16 (S .ways) ≡ true)
     → Under (S .ways) (victimIn S words marks i base enough)
 victim-under S words marks i base enough power =
-    under-or (S .ways) (lastUnusedIn marks base (S .ways)) _ (last-under _ (S .ways))
+    under-or (S .ways) (lastUnusedIn marks base (S .ways)) _ (last-under _ (S .ways) (S .ways) (omega arith))
     (by-flag (Under (S .ways)) (isTree S) _ _ (λ e. tree-under marks base (S .ways) enough (treeAt S words i) (power e)) (λ e. least-under _ _ (S .ways) 0 (S .ways) (omega arith)))
 
 pub at-under : {r : Found} {w : ℕ} (n : ℕ) (v : Found) → Under n v → r ≡ v → r ≡ At w → w < n
 at-under n v h e g = rw (← e, g) at h
+
+-- ---- the choice by a set's tree, over a mask of the candidates
+
+module _ (marks : List ℕ) (base ways tree : ℕ) (power : powerTo16 ways ≡ true) where
+  abbrev able : Bool → ℕ → Bool
+  able enough w = candidateAt marks enough (base + w)
+
+  pub by-mask : (enough : Bool) (m : ℕ) {r : Found} → ((w : ℕ) → w < ways → isIn m w ≡ able enough w)
+      → r ≡ treeChoice (isIn m) tree (levels ways) → r ≡ treeIn marks base ways enough tree
+  by-mask enough m f e = e ∙ choice-same (isIn m) (able enough) tree (levels ways) (λ w l. f w (omega (arith, levels-are ways power .0)))

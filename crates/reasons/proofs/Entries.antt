@@ -1,29 +1,41 @@
--- The entry that the code shows is the first that passes.
+-- The entry that the code shows is the first that passes; the slices hold what the parts of the code ask for.
 use mathlib.Core.Path.{_≡_, refl, sym, ap, _∙_}
+use mathlib.Core.Logic.{⊎-elim}
 use mathlib.Core.Bool.{Bool, true, false}
 use mathlib.Core.List.{List, [], _∷_}
 use Prim.Native.Nat.{ℕ, zero, suc, _+_, _/_, _%_, _≤_, _<_}
 use native.Mathlib.Nat.{not-suc-le-zero, le-of-suc-le-suc}
-use native.Mathlib.Decide.{decLt}
 use native.Mathlib.Omega.{arith}
 use lib.ListN.{length, getD}
 use lib.Dec.{eqb}
 use borrow.Author.Tests.{eq-eqb, ne-eqb, lt-ltb, le-ltb}
+use Rattle.words.proofs.Below.{lt-or-ge}
 use Rattle.model.specs.Tables.{Entry, Tables, entryFor}
 use Rattle.model.specs.Lent.{lent}
-use Rattle.model.specs.Inner.{Encodes}
+use Rattle.model.specs.Inner.{Sized, Encodes, SoundSlices}
 use Rattle.model.specs.declared.Settings.{Settings}
 use Rattle.model.proofs.SoundFacts.{parts, few-misses}
 use Rattle.layout.specs.declared.Layout.{Layout}
 use Rattle.layout.specs.Layout.{LaysOut}
 use Rattle.layout.specs.Places.{First}
-use Rattle.layout.proofs.ByBlocks.{is-stands}
+use Rattle.layout.proofs.ByBlocks.{is-stands, stands-fit}
 use Rattle.tables.proofs.Misses.{noEntry, address-at, sent-at, count-at, misses-counted}
 use Rattle.reasons.specs.declared.Reason.{Reason}
 use Rattle.reasons.specs.declared.Reason.the-variants as reason
 use Rattle.reasons.specs.Reasons.{entryReason, ofSet, anyEntry}
 use Rattle.reasons.specs.Parts.{FirstInSet, entryShown}
 use Rattle.encoding.proofs.NumbersAreTables.{flag-of-bit}
+
+-- ---- what the parts of the code ask for: room for the regions, and for the entries in use
+
+pub slices-fit : {S : Settings} {longs words marks : List ℕ} → SoundSlices S (lent longs words marks) → Sized S longs words marks
+slices-fit s = stands-fit (s .are .range) (is-stands (s .are))
+
+pub entries-fit : {S : Settings} {longs words marks : List ℕ} {at : Layout} → LaysOut S at → SoundSlices S (lent longs words marks)
+    → {n : ℕ} → First marks (at .counts) (S .misses) 0 n → (at .misses + n ≤ length longs) × (at .sent + n ≤ length marks) × (at .counts + n ≤ length marks)
+entries-fit p s u = let z = slices-fit s in let m = u .most in (omega arith, omega arith, omega arith)
+
+-- ---- the first that passes
 
 abbrev reasonTold : Entry → Reason
 reasonTold e = reason.Entry (e .address) (e .sent) (length (e .tickets))
@@ -56,17 +68,15 @@ module _ (S : Settings) {longs words marks : List ℕ} (t : Tables) (i : Encodes
   module _ (q : Entry → Bool) {e : ℕ} (before : (k : ℕ) → k < length (t .misses) → k < e → q (getD (t .misses) k noEntry) ≡ false)
       (there : e < length (t .misses) → q (getD (t .misses) e noEntry) ≡ true) where
     pub first-shown : {r : Reason} → r ≡ entryShown at longs marks e n → r ≡ entryReason q (t .misses)
-    first-shown {r} is = is ∙ go (decLt e n)
-      where
-        go : Dec (e < n) → entryShown at longs marks e n ≡ entryReason q (t .misses)
-        go (yes b) =
-            let all = in-use in
-            let h : e < length (t .misses) = omega arith in
-            rw (lt-ltb e n b, address-is e h, sent-is e h, count-at S t (is-stands i) p few e h) (sym (first-told q (t .misses) e h (λ k j. before k (omega arith) j) (there h)))
-        go (no b) =
-            let all = in-use in
-            let h : n ≤ e = omega arith in
-            rw (le-ltb e n h) (sym (none-told q (t .misses) (λ k j. before k j (omega arith))))
+    first-shown is =
+        let all = in-use in
+        is
+        ∙ ⊎-elim
+        (λ (b : e < n).
+        let h : e < length (t .misses) = omega arith in
+        rw (lt-ltb e n b, address-is e h, sent-is e h, count-at S t (is-stands i) p few e h) (sym (first-told q (t .misses) e h (λ k j. before k (omega arith) j) (there h))))
+        (λ (b : n ≤ e). rw (le-ltb e n b) (sym (none-told q (t .misses) (λ k j. before k j (omega arith)))))
+        (lt-or-ge e n)
 
   -- ---- which entry
 

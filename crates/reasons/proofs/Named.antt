@@ -2,14 +2,14 @@
 -- held set misses a line at least.
 use mathlib.Core.Path.{_≡_, sym, ap, _∙_}
 use mathlib.Core.Logic.{_⊎_, inl, inr}
-use mathlib.Core.Bool.{Bool, true, false, _&&_, _||_, false≢true}
+use mathlib.Core.Bool.{Bool, true, false, _&&_, false≢true}
 use mathlib.Core.List.{List, [], _∷_}
 use Prim.Native.Nat.{ℕ, _+_, _*_, _/_, _%_, _≤_, _<_}
 use native.Mathlib.Omega.{arith}
 use lib.Dec.{leb, ltb, eqb}
 use lib.ListN.{length, getD}
 use borrow.Author.Tests.{eq-eqb, eqb-true, leb-true, leb-false, ltb-true}
-use Rattle.words.specs.Words.{pick, any}
+use Rattle.words.specs.Words.{any}
 use Rattle.model.specs.Range.{inRange, linesOf}
 use Rattle.model.specs.Address.{setIndex, goodBlock, lineNumber}
 use Rattle.model.specs.Tables.{Line, Entry, Tables, isInvalid, isReserved, whollyInvalid, hasReserved, entryFor, empty, fresh}
@@ -18,7 +18,7 @@ use Rattle.model.specs.Steps.{entryFull}
 use Rattle.model.specs.declared.Settings.{Settings}
 use Rattle.model.specs.declared.Queued.{Queued}
 use Rattle.model.specs.declared.Sector.{Sector}
-use Rattle.words.proofs.Flags.{and-1, and-2, flag, clash}
+use Rattle.words.proofs.Flags.{and-1, and-2, flag, by-flag, clash}
 use Rattle.words.proofs.Lists.{In, all-in, any-in, in-any, in-getD, in-index}
 use Rattle.model.proofs.SoundFacts.{Sound, line-at, four-at, tag-aligned, reserved-at}
 use Rattle.model.proofs.Ways.{Sits, way-sits, set-of-line}
@@ -34,11 +34,7 @@ Named r = r ≡ reason.Nothing → ⊥
 
 any-named : (q : Entry → Bool) (es : List Entry) → any q es ≡ true → Named (entryReason q es)
 any-named q [] h = λ n. false≢true h
-any-named q (e ∷ es) h = go (q e) h (any-named q es)
-  where
-    go : (b : Bool) → (b || any q es) ≡ true → (any q es ≡ true → Named (entryReason q es)) → Named (pick b (reason.Entry (e .address) (e .sent) (length (e .tickets))) (entryReason q es))
-    go true k f n = let z : _≡_ {A = ℕ} 0 1 = cc in omega arith
-    go false k f n = f k n
+any-named q (e ∷ es) h = by-flag Named (q e) _ _ (λ k n. let z : _≡_ {A = ℕ} 0 1 = cc in omega arith) (λ k. any-named q es (rw k at h))
 
 -- a sector of a block lies in the block's set
 set-of-sector : (S : Settings) (b k : ℕ) → b % 128 ≡ 0 → k < 4 → setIndex S (b + 32 * k) ≡ setIndex S b

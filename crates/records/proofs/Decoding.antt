@@ -1,9 +1,9 @@
 -- What a body says, by the tests that the code makes.
 use mathlib.Core.Path.{_≡_, ap}
 use mathlib.Core.List.{List}
-use Prim.Native.Nat.{ℕ, _-_, _≤_, _<_}
+use Prim.Native.Nat.{ℕ, _-_, _≤_}
 use native.Mathlib.Omega.{arith}
-use borrow.Author.Tests.{lt-leb, le-leb, eq-eqb, ne-eqb}
+use borrow.Author.Tests.{le-leb, eq-eqb, ne-eqb}
 use lib.ListN.{length, getD}
 use Rattle.model.specs.RecordsOf as records
 use Rattle.model.specs.Records.{lengthOf, refusals, refusedBy, eventBody, eventOf, commandIn, commandOf}
@@ -14,12 +14,6 @@ use Rattle.model.specs.declared.CommandRead.the-variants as command
 use Rattle.words.proofs.Lists.{getD-inside}
 
 -- ---- the refusal of a number
-
-pub refusal-low : (n : ℕ) → n < 1 → event.None ≡ refusedBy n
-refusal-low n h = rw (lt-leb 1 n h)
-
-pub refusal-high : (n : ℕ) → 12 < n → event.None ≡ refusedBy n
-refusal-high n h = rw (le-leb 1 n (omega arith), lt-leb n 12 h)
 
 pub refusal-named : (n : ℕ) (d : Refusal) → 1 ≤ n → n ≤ 12 → event.Got (Refused (getD refusals (n - 1) d)) ≡ refusedBy n
 refusal-named n d h k = rw (le-leb 1 n h, le-leb n 12 k) (ap (λ (r : Refusal). event.Got (Refused r)) (getD-inside refusals (n - 1) d _ (omega arith)))

@@ -2,7 +2,7 @@
 use mathlib.Core.Path.{_≡_, refl, sym, ap, _∙_}
 use mathlib.Core.List.{List, [], _∷_, _++_}
 use Prim.Native.Nat.{ℕ, zero, suc, _+_, _*_, _/_, _%_, _^_, _≤_, _<_}
-use native.Mathlib.Nat.{zero-add, suc-add, mul-comm, mod-lt, div-one, div-add-mod', div-lt-iff-lt-mul, div-div-eq-div-mul, pow-suc, pow-zero, one-le-pow}
+use native.Mathlib.Nat.{zero-add, add-zero, suc-add, mul-comm, mod-lt, div-one, div-add-mod', div-lt-iff-lt-mul, div-div-eq-div-mul, pow-suc, pow-zero, one-le-pow}
 use native.Mathlib.Numerals.{towards-suc}
 use native.Mathlib.Omega.{arith}
 use lib.Dec.{lit<, lit≤}
@@ -18,26 +18,22 @@ module _ (s : List ℕ) where
   number-past zero at h = refl
   number-past (suc n) at h = rw (← number-past n (suc at) (omega arith), List·getD-eq-default s 0 h)
 
+  -- the low n bytes of a number and the m above them
+  pub number-halves : (n m at : ℕ) {a b : ℕ} → a ≡ numberAt s at n → b ≡ numberAt s (at + n) m → a + 256 ^ n * b ≡ numberAt s at (n + m)
+  unfolding numberAt
+  number-halves zero m at p q = rw (zero-add m, pow-zero) (let e = rw add-zero at q in omega arith)
+  number-halves (suc n) m at p q =
+      let e : at + suc n ≡ suc at + n = omega arith in
+      rw (p, suc-add, pow-suc, ← number-halves n m (suc at) refl (rw e at q)) (omega arith)
+
   module _ (at : ℕ) where
     pub number-one : getD s at 0 ≡ numberAt s at 1
     unfolding numberAt
     number-one = omega arith
 
-    pub number-two : {a b : ℕ} → a ≡ numberAt s at 1 → b ≡ numberAt s (at + 1) 1 → a + 256 * b ≡ numberAt s at 2
-    unfolding numberAt
-    number-two p q = rw (p, q) (simp towards-suc (omega arith))
-
     pub number-four : getD s at 0 + 256 * getD s (at + 1) 0 + 65536 * getD s (at + 2) 0 + 16777216 * getD s (at + 3) 0 ≡ numberAt s at 4
     unfolding numberAt
     number-four = simp towards-suc (omega arith)
-
-    pub number-twice-two : {a b : ℕ} → a ≡ numberAt s at 2 → b ≡ numberAt s (at + 2) 2 → a + 65536 * b ≡ numberAt s at 4
-    unfolding numberAt
-    number-twice-two p q = rw (p, q) (simp towards-suc (omega arith))
-
-    pub number-eight : {a b : ℕ} → a ≡ numberAt s at 4 → b ≡ numberAt s (at + 4) 4 → a + 4294967296 * b ≡ numberAt s at 8
-    unfolding numberAt
-    number-eight p q = rw (p, q) (simp towards-suc (omega arith))
 
 -- ---- there and back
 

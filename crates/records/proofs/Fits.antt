@@ -3,7 +3,7 @@
 use mathlib.Core.Path.{_≡_, refl, _∙_}
 use mathlib.Core.Bool.{Bool, true, not, _&&_, _||_}
 use mathlib.Core.List.{List, [], _∷_, _++_, map}
-use Prim.Native.Nat.{ℕ, zero, suc, _+_, _%_, _^_, _≤_, _<_}
+use Prim.Native.Nat.{ℕ, zero, suc, _%_, _^_, _≤_, _<_}
 use native.Mathlib.Nat.{pow-zero, pow-suc}
 use native.Mathlib.Omega.{arith}
 use borrow.Author.Tests.{le-leb, leb-true, ltb-true, eqb-true}
@@ -11,11 +11,11 @@ use lib.Dec.{leb, ltb, eqb}
 use lib.ListN.{length, getD}
 use Rattle.words.specs.Words.{all, any, keep}
 use Rattle.model.specs.Range.{inRange, linesOf}
-use Rattle.model.specs.Address.{addressOf, isRead, goodSector, goodBlock, wellFormed}
-use Rattle.model.specs.Tables.{Entry, reading, Tables, Outcome, after, eventsOf, entryFor, withMisses}
+use Rattle.model.specs.Address.{addressOf, goodSector, goodBlock}
+use Rattle.model.specs.Tables.{Entry, reading, Tables, Outcome, after, eventsOf, entryFor}
 use Rattle.model.specs.Sound.{allOnes, lastCycle, unsentFor, entryOk, kindOk, queuedOk, sound}
-use Rattle.model.specs.Probe.{Spot, Place, no, at, metIn}
-use Rattle.model.specs.Steps.{isMerge, isMiss, join, onMisses, fetches, queuedAs, queuedEvent, sentAs, sentEvent, placesNeeded, entryFull, accept, proceed, access, mark, markedFor, sendFrom, send, ticketsOf, others, sentFor, fill, tick}
+use Rattle.model.specs.Probe.{ruleOf}
+use Rattle.model.specs.Steps.{isMerge, isMiss, join, onMisses, fetches, queuedAs, queuedEvent, sentAs, sentEvent, accept, access, mark, markedFor, send, ticketsOf, others, sentFor, fill, tick}
 use Rattle.model.specs.Kinds as kinds
 use Rattle.model.specs.RecordsOf as records
 use Rattle.model.specs.Records.{isSettings, lengthOf, numberAt, commandIn, commandOf}
@@ -27,19 +27,23 @@ use Rattle.model.specs.declared.Queued.{Queued}
 use Rattle.model.specs.declared.Answer.{Answer}
 use Rattle.model.specs.declared.Access.{Access}
 use Rattle.model.specs.declared.Access.the-variants.{Read, Write}
+use Rattle.model.specs.declared.Event.{Event}
 use Rattle.model.specs.declared.Event.the-variants.{Released}
 use Rattle.model.specs.declared.GivenRule.the-variants.{LeftOut, Byte}
 use Rattle.model.specs.declared.Command.{Command}
 use Rattle.model.specs.declared.Command.the-variants as cmd
 use Rattle.model.specs.declared.CommandRead.the-variants as command
-use Rattle.words.proofs.Flags.{and-1, and-2, and-i, clash, by-flag}
-use Rattle.words.proofs.Lists.{In, all-in, in-all, any-in, in-keep, all-append}
+use Rattle.words.proofs.Flags.{and-1, and-2, and-i, clash, by-flag, pick-both}
+use Rattle.words.proofs.Lists.{In, all-in, in-all, any-in, in-keep, all-append, all-map}
 use Rattle.model.proofs.SoundFacts.{Sound, parts, entry-parts, queued-parts}
 use Rattle.model.proofs.Fits.{ranged}
-use Rattle.model.proofs.AccessKeepsSound.{Spotted, formed-good}
-use Rattle.model.proofs.ProbeFindsSpot.{probe-spotted}
+use Rattle.model.proofs.AccessKeepsSound.{formed-good}
+use Rattle.model.proofs.Answers.{by-kind}
+use Rattle.model.proofs.AccessCases.{access-judged, access-cases}
+use Rattle.model.proofs.SendFillKeepSound.{send-cases}
 use Rattle.model.proofs.RunSound.{bytes}
 use Rattle.records.specs.Fitting.{WriteBackFits, Fitting, AllFitting, RuleFits, CommandFits, CommandReadFits, words, stamped, TicketFits}
+use Rattle.records.proofs.Log.{released-by}
 
 -- the events of an outcome fit
 abbrev Fits : Outcome Tables → Type 0
@@ -53,8 +57,8 @@ all-at p z [] i h = z
 all-at p z (b ∷ s) zero h = and-1 (p b) (all p s) h
 all-at p z (b ∷ s) (suc i) h = all-at p z s i (and-2 (p b) (all p s) h)
 
-word-at : (ms : List ℕ) (i : ℕ) → words ms ≡ true → getD ms i 0 < 2 ^ 32
-word-at ms i h = let q = leb-true (getD ms i 0) allOnes (all-at (λ m. leb m allOnes) refl ms i h) in omega arith
+word-low : (m : ℕ) → leb m allOnes ≡ true → m < 2 ^ 32
+word-low m h = let q = leb-true m allOnes h in omega arith
 
 sector-low : (a : ℕ) → goodSector a ≡ true → a < 2 ^ 64
 sector-low a h = let l = ltb-true a (2 ^ 48) (and-2 (eqb (a % 32) 0) (ltb a (2 ^ 48)) h) in omega arith
@@ -62,9 +66,10 @@ sector-low a h = let l = ltb-true a (2 ^ 48) (and-2 (eqb (a % 32) 0) (ltb a (2 ^
 back-fits : (es : List Entry) (b : ℕ) (ms : List ℕ) → kindOk es queue.WriteBack b ms ≡ true → words ms ≡ true
     → WriteBackFits b (getD ms 0 0) (getD ms 1 0) (getD ms 2 0) (getD ms 3 0)
 back-fits es b ms h w =
-    let g : goodBlock b ≡ true = search (and-1, and-2) depth 9 in
+    let g : goodBlock b ≡ true = search and-1 depth 9 in
     let l = ltb-true b (2 ^ 48) (and-2 (eqb (b % 128) 0) (ltb b (2 ^ 48)) g) in
-    record { block = omega arith; mask0 = word-at ms 0 w; mask1 = word-at ms 1 w; mask2 = word-at ms 2 w; mask3 = word-at ms 3 w }
+    let m : (i : ℕ) → getD ms i 0 < 2 ^ 32 = λ i. word-low (getD ms i 0) (all-at (λ m. leb m allOnes) refl ms i w) in
+    record { block = omega arith; mask0 = m 0; mask1 = m 1; mask2 = m 2; mask3 = m 3 }
 
 module _ (S : Settings) (t : Tables) (ok : Sound S t) where
   entry-low : (e : Entry) → In e (t .misses) → e .address < 2 ^ 64
@@ -80,89 +85,56 @@ module _ (S : Settings) (t : Tables) (ok : Sound S t) where
 
 -- ---- an access
 
-kind-fits : (k : QueueKind) (a : ℕ) (ms : List ℕ) → kindOk [] k a ms ≡ true → words ms ≡ true → Fitting (queuedAs k a ms)
-kind-fits queue.Read a ms h w = clash h refl
-kind-fits queue.WriteBack b ms h w = back-fits [] b ms h w
+-- an entry's event, queued and sent, if the address of every unsent read is one
+module _ (es : List Entry) (low : (a : ℕ) → any (unsentFor a) es ≡ true → a < 2 ^ 64) where
+  kind-fits : (k : QueueKind) (a : ℕ) (ms : List ℕ) → kindOk es k a ms ≡ true → words ms ≡ true → Fitting (queuedAs k a ms) × Fitting (sentAs k a ms)
+  kind-fits queue.Read a ms h w = let l = low a (and-1 (any (unsentFor a) es) (all (λ m. eqb m 0) ms) h) in (l, l)
+  kind-fits queue.WriteBack b ms h w = let f = back-fits es b ms h w in (f, f)
 
-queued-fits : (q : Queued) → queuedOk [] q ≡ true → Fitting (queuedEvent q)
-queued-fits q h = let (four, w, k) = queued-parts [] q h in kind-fits (q .kind) (q .address) (q .masks) k w
+  entry-fits : (q : Queued) → queuedOk es q ≡ true → Fitting (queuedEvent q) × Fitting (sentEvent q)
+  entry-fits q h = let (four, w, k) = queued-parts es q h in kind-fits (q .kind) (q .address) (q .masks) k w
 
-backs-fit : (qs : List Queued) → all (queuedOk []) qs ≡ true → AllFitting (map queuedEvent qs)
-backs-fit [] h = tt
-backs-fit (q ∷ qs) h = (queued-fits q (and-1 (queuedOk [] q) (all (queuedOk []) qs) h), backs-fit qs (and-2 (queuedOk [] q) (all (queuedOk []) qs) h))
+all-fit : {A : Type 0} (f : A → Event) (p : A → Bool) → ((x : A) → p x ≡ true → Fitting (f x)) → (xs : List A) → all p xs ≡ true → AllFitting (map f xs)
+all-fit f p g [] h = tt
+all-fit f p g (x ∷ xs) h = (g x (and-1 (p x) (all p xs) h), all-fit f p g xs (and-2 (p x) (all p xs) h))
 
 fetched-fit : (x : Access) (n : Answer) (qs : List Queued) → addressOf x < 2 ^ 64 → AllFitting (map queuedEvent qs)
     → AllFitting (map queuedEvent (fetches x n ++ qs))
 fetched-fit (Read a m k) n qs h g = by-flag (λ (l : List Queued). AllFitting (map queuedEvent (l ++ qs))) (isMiss n) (reading a ∷ []) [] (λ e. (h, g)) (λ e. g)
 fetched-fit (Write a m k) n qs h g = g
 
-module _ (S : Settings) (range : inRange S ≡ true) (t : Tables) (ok : Sound S t) (x : Access) where
-  accept-fits : wellFormed x ≡ true → (p : Spot) → Spotted S t x p → Fits (accept S x p t)
-  unfolding accept
-  accept-fits w p s =
-      let size : length (t .lines) ≡ linesOf S = eqb-true (length (t .lines)) (linesOf S) (ok .sized) in
-      let few = ranged S range .lines in
-      let low = s .inside in (
-        omega arith,
-        fetched-fit x (p .answer) (p .backs) (sector-low (addressOf x) (formed-good x w)) (backs-fit (p .backs) (s .backed [])),
-      )
-
-  proceed-fits : wellFormed x ≡ true → (p : Place) → metIn S x t ≡ p
-      → Fits (proceed S x t p)
-  unfolding proceed
-  proceed-fits w (no n) e = (tt, tt)
-  proceed-fits w (at p) e =
-      by-flag Fits (ltb (S .queue) (length (t .queue) + placesNeeded x p)) _ _ (λ q. (tt, tt))
-      (λ q. by-flag Fits (isRead x && isMerge (p .answer) && any (entryFull S (addressOf x)) (t .misses)) _ _ (λ q. (tt, tt))
-      (λ q. by-flag Fits (isRead x && isMiss (p .answer) && leb (S .misses) (length (t .misses))) _ _ (λ q. (tt, tt))
-      (λ q. accept-fits w p (probe-spotted S range t ok x p e))))
-
-  access-fits-in : Fits (access S x t)
-  unfolding access
-  access-fits-in = by-flag Fits (wellFormed x) _ _ (λ w. proceed-fits w _ refl) (λ w. (tt, tt))
-
 pub access-fits : (S : Settings) (x : Access) (t : Tables) → inRange S ≡ true → sound S t ≡ true → AllFitting (eventsOf (access S x t))
-access-fits S x t range ok = access-fits-in S range t (parts S t ok) x
+unfolding access accept
+access-fits S x t range ok =
+    let h = parts S t ok in
+    let size : length (t .lines) ≡ linesOf S = eqb-true (length (t .lines)) (linesOf S) (h .sized) in
+    let few = ranged S range .lines in
+    access-cases (ruleOf S) S t x range h Fits (λ n. (tt, tt)) (λ p a.
+    let low = a .spotted .inside in (
+      omega arith,
+      fetched-fit x (p .answer) (p .backs) (sector-low (addressOf x) (formed-good x (a .judged .formed)))
+          (all-fit queuedEvent (queuedOk []) (λ q k. entry-fits [] (λ a n. clash n refl) q k .0) (p .backs) (a .spotted .backed [])),
+    ))
 
 -- ---- send, fill, tick
 
-kind-sent-fits : (S : Settings) (t : Tables) → Sound S t → (k : QueueKind) (a : ℕ) (ms : List ℕ) → kindOk (t .misses) k a ms ≡ true → words ms ≡ true
-    → Fitting (sentAs k a ms)
-kind-sent-fits S t ok queue.Read a ms h w = entered-low S t ok (λ e. not (e .sent)) a (and-1 (any (unsentFor a) (t .misses)) (all (λ m. eqb m 0) ms) h)
-kind-sent-fits S t ok queue.WriteBack b ms h w = back-fits (t .misses) b ms h w
-
-sent-fits : (S : Settings) (t : Tables) → Sound S t → (q : Queued) → queuedOk (t .misses) q ≡ true → Fitting (sentEvent q)
-sent-fits S t ok q h = let (four, w, k) = queued-parts (t .misses) q h in kind-sent-fits S t ok (q .kind) (q .address) (q .masks) k w
-
 pub send-fits : (S : Settings) (t : Tables) → sound S t ≡ true → AllFitting (eventsOf (send t))
-unfolding send
-send-fits S t ok = from (t .queue) (parts S t ok .lining)
-  where
-    from : (qs : List Queued) → all (queuedOk (t .misses)) qs ≡ true → Fits (sendFrom qs t)
-    from [] h = (tt, tt)
-    from (q ∷ qs) h = (sent-fits S t (parts S t ok) q (and-1 (queuedOk (t .misses) q) (all (queuedOk (t .misses)) qs) h), tt)
-
-released-fit : (ts : List ℕ) → words ts ≡ true → AllFitting (map Released ts)
-released-fit [] h = tt
-released-fit (k ∷ ts) h = (word-at (k ∷ ts) 0 h, released-fit ts (and-2 (leb k allOnes) (words ts) h))
-
-released-words : (a : ℕ) (es : List Entry) → all (λ e. words (e .tickets)) es ≡ true → words (ticketsOf a es) ≡ true
-released-words a [] h = refl
-released-words a (e ∷ es) h =
-    by-flag (λ (ts : List ℕ). words ts ≡ true) (entryFor a e) (e .tickets) (ticketsOf a es)
-    (λ q. and-1 (words (e .tickets)) (all (λ e. words (e .tickets)) es) h)
-    (λ q. released-words a es (and-2 (words (e .tickets)) (all (λ e. words (e .tickets)) es) h))
+send-fits S t ok =
+    let h = parts S t ok in
+    send-cases t Fits (λ n. (tt, tt)) (λ q qs e.
+    let f : all (queuedOk (t .misses)) (q ∷ qs) ≡ true = rw e at (h .lining) in
+    (entry-fits (t .misses) (entered-low S t h (λ e. not (e .sent))) q (and-1 (queuedOk (t .misses) q) _ f) .1, tt))
 
 pub fill-fits : (S : Settings) (a : ℕ) (t : Tables) → sound S t ≡ true → stamped t ≡ true → AllFitting (eventsOf (fill a t))
 unfolding fill
 fill-fits S a t ok few =
     by-flag Fits (any (sentFor a) (t .misses)) _ _
-    (λ h. (entered-low S t (parts S t ok) (λ e. e .sent) a h, released-fit (ticketsOf a (t .misses)) (released-words a (t .misses) few)))
+    (λ h. (entered-low S t (parts S t ok) (λ e. e .sent) a h, all-fit Released (λ m. leb m allOnes) word-low (ticketsOf a (t .misses)) (released-by words refl a (t .misses) few)))
     (λ h. (tt, tt))
 
 pub tick-fits : (c : ℕ) (t : Tables) → AllFitting (eventsOf (tick c t))
 unfolding tick
-tick-fits c t = by-flag Fits (ltb c (t .now) || ltb lastCycle c) _ _ (λ h. (tt, tt)) (λ h. (tt, tt))
+tick-fits c t = pick-both Fits (ltb c (t .now) || ltb lastCycle c) (tt, tt) (tt, tt)
 
 pub step-fits : (S : Settings) (c : Command) (t : Tables) → inRange S ≡ true → sound S t ≡ true → stamped t ≡ true → AllFitting (eventsOf (stepOf S c t))
 step-fits S (cmd.Settings g) t range ok few = (tt, tt)
@@ -179,8 +151,7 @@ stamps es = all (λ e. words (e .tickets)) es
 
 map-stamps : (f : Entry → Entry) → ((e : Entry) → words (e .tickets) ≡ true → words (f e .tickets) ≡ true) → (es : List Entry) → stamps es ≡ true
     → stamps (map f es) ≡ true
-map-stamps f g [] h = refl
-map-stamps f g (e ∷ es) h = and-i (g e (and-1 (words (e .tickets)) (stamps es) h)) (map-stamps f g es (and-2 (words (e .tickets)) (stamps es) h))
+map-stamps f g es h = all-map f (λ e. words (e .tickets)) es ∙ in-all (λ e. words (f e .tickets)) es (λ e i. g e (all-in (λ e. words (e .tickets)) es h i))
 
 one-word : (k : ℕ) → k ≤ allOnes → words (k ∷ []) ≡ true
 one-word k h = and-i (le-leb k allOnes h) refl
@@ -192,7 +163,7 @@ join-words a k h e w =
     (λ q. w)
 
 mark-words : (a : ℕ) (e : Entry) → words (e .tickets) ≡ true → words (mark a e .tickets) ≡ true
-mark-words a e w = by-flag (λ (d : Entry). words (d .tickets) ≡ true) (entryFor a e) _ _ (λ q. w) (λ q. w)
+mark-words a e w = pick-both (λ (d : Entry). words (d .tickets) ≡ true) (entryFor a e) w w
 
 misses-stamped : (x : Access) (n : Answer) (es : List Entry) → TicketFits x → stamps es ≡ true → stamps (onMisses x n es) ≡ true
 misses-stamped (Read a m k) n es h w =
@@ -208,29 +179,13 @@ module _ (t : Tables) (few : stamped t ≡ true) where
   KeepsStamped o = stamped (after t o) ≡ true
 
   pub access-stamped : (S : Settings) (x : Access) → TicketFits x → stamped (after t (access S x t)) ≡ true
-  unfolding access proceed accept
-  access-stamped S x h =
-      by-flag KeepsStamped (wellFormed x) _ _ (λ w. met (metIn S x t)) (λ w. few)
-    where
-      met : (p : Place) → KeepsStamped (proceed S x t p)
-      met (no n) = few
-      met (at p) =
-          by-flag KeepsStamped (ltb (S .queue) (length (t .queue) + placesNeeded x p)) _ _ (λ q. few)
-          (λ q. by-flag KeepsStamped (isRead x && isMerge (p .answer) && any (entryFull S (addressOf x)) (t .misses)) _ _ (λ q. few)
-          (λ q. by-flag KeepsStamped (isRead x && isMiss (p .answer) && leb (S .misses) (length (t .misses))) _ _ (λ q. few)
-          (λ q. misses-stamped x (p .answer) (t .misses) h few)))
+  unfolding access accept
+  access-stamped S x h = access-judged (ruleOf S) S t x KeepsStamped (λ n. few) (λ p j. misses-stamped x (p .answer) (t .misses) h few)
 
   pub send-stamped : stamped (after t (send t)) ≡ true
-  unfolding send
-  send-stamped = from (t .queue)
-    where
-      kept : (k : QueueKind) (a : ℕ) → stamped (withMisses (markedFor k a (t .misses)) t) ≡ true
-      kept queue.Read a = map-stamps (mark a) (mark-words a) (t .misses) few
-      kept queue.WriteBack a = few
-
-      from : (qs : List Queued) → KeepsStamped (sendFrom qs t)
-      from [] = few
-      from (q ∷ qs) = kept (q .kind) (q .address)
+  send-stamped =
+      send-cases t KeepsStamped (λ n. few) (λ q qs e.
+      by-kind (λ k. stamps (markedFor k (q .address) (t .misses)) ≡ true) (map-stamps (mark (q .address)) (mark-words (q .address)) (t .misses) few) few (q .kind))
 
   pub fill-stamped : (a : ℕ) → stamped (after t (fill a t)) ≡ true
   unfolding fill
@@ -241,7 +196,7 @@ module _ (t : Tables) (few : stamped t ≡ true) where
 
   pub tick-stamped : (c : ℕ) → stamped (after t (tick c t)) ≡ true
   unfolding tick
-  tick-stamped c = by-flag KeepsStamped (ltb c (t .now) || ltb lastCycle c) _ _ (λ h. few) (λ h. few)
+  tick-stamped c = pick-both KeepsStamped (ltb c (t .now) || ltb lastCycle c) few few
 
   pub step-stamped : (S : Settings) (c : Command) → CommandFits c → stamped (after t (stepOf S c t)) ≡ true
   step-stamped S (cmd.Settings g) h = few

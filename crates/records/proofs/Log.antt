@@ -1,5 +1,6 @@
 -- A log of events as bytes, part by part, as the code stores it.
 use mathlib.Core.Path.{_≡_, refl, sym, ap, _∙_}
+use mathlib.Core.Bool.{Bool, true}
 use mathlib.Core.List.{List, [], _∷_, _++_, map, append-nil, map-append}
 use Prim.Native.Nat.{ℕ, zero, suc, _+_, _*_, _≤_, _<_}
 use native.Mathlib.Nat.{add-zero}
@@ -7,7 +8,10 @@ use native.Mathlib.Numerals.{add-one}
 use native.Mathlib.Omega.{arith}
 use lib.ListN.{length, take, getD, length-append}
 use lib.Seq.{take-suc, length-take-le}
-use Rattle.model.specs.Steps.{queuedEvent}
+use Rattle.words.specs.Words.{all}
+use Rattle.words.proofs.Flags.{and-1, and-2, by-flag}
+use Rattle.model.specs.Tables.{Entry, entryFor}
+use Rattle.model.specs.Steps.{queuedEvent, ticketsOf}
 use Rattle.model.specs.RecordsOf as records
 use Rattle.model.specs.Records.{bytesOf, eventBytes, logBytes}
 use Rattle.model.specs.declared.Queued.{Queued}
@@ -53,6 +57,13 @@ module _ (xs : List Queued) (d : Queued) (j : ℕ) (h : j < length xs) {e : Even
   queued-turn u v = laid-sized (laid-as (laid-then u refl v) queued-bytes) (sym queued-longer)
 
 -- ---- tickets
+
+-- what holds of no ticket and of each entry's tickets holds of those that a fill releases
+pub released-by : (p : List ℕ → Bool) → p [] ≡ true → (a : ℕ) (es : List Entry) → all (λ e. p (e .tickets)) es ≡ true → p (ticketsOf a es) ≡ true
+released-by p z a [] h = z
+released-by p z a (e ∷ es) h =
+    by-flag (λ (ts : List ℕ). p ts ≡ true) (entryFor a e) (e .tickets) (ticketsOf a es)
+    (λ q. and-1 (p (e .tickets)) _ h) (λ q. released-by p z a es (and-2 (p (e .tickets)) _ h))
 
 pub released-length : (ts : List ℕ) → length (logBytes (map Released ts)) ≡ 5 * length ts
 unfolding records.logBytes records.eventBytes bytesOf

@@ -1,12 +1,12 @@
 -- Reading a record at a place, by the tests that the code makes; what a whole record is.
-use mathlib.Core.Path.{_≡_, refl, sym, ap, _∙_}
-use mathlib.Core.Bool.{Bool, true, false}
+use mathlib.Core.Path.{_≡_, sym, ap, _∙_}
 use mathlib.Core.List.{List, []}
 use Prim.Native.Nat.{ℕ, _+_, _-_, _≤_, _<_}
 use native.Mathlib.Omega.{arith}
-use borrow.Author.Tests.{le-ltb, lt-ltb, le-leb, lt-leb, ne-eqb, ltb-true, ltb-false, leb-true, leb-false, eqb-true, eqb-false}
+use borrow.Author.Tests.{le-ltb, lt-ltb, le-leb, lt-leb, ne-eqb, ltb-true, leb-true}
 use lib.ListN.{length, getD, take, drop}
 use lib.Dec.{ltb, leb, eqb}
+use Rattle.words.proofs.Flags.{by-flag}
 use Rattle.model.specs.RecordsOf as records
 use Rattle.model.specs.Records.{lengthOf, readAt, bodyAt}
 use Rattle.model.specs.declared.Stop.{Stop}
@@ -44,31 +44,29 @@ pub record WholeAt (s : List ℕ) (at k start n next : ℕ) : Type 0 where
   pub end : next ≡ start + n
   pub fits : next ≤ length s
 
-split {ℓ} : {X : Type ℓ} (b : Bool) → (b ≡ true → X) → (b ≡ false → X) → X
-split true f g = f refl
-split false f g = g refl
-
-never {ℓ} : {X : Type ℓ} {k start n next : ℕ} {r : Stop} (x : Record) → Stopped r ≡ x → x ≡ Whole k start n next → X
-never x p q = let z : _≡_ {A = ℕ} 0 1 = cc in absurd (let w : ⊥ = omega arith in w)
+never : {X : Type 0} {k start n next : ℕ} {r : Stop} → Stopped r ≡ Whole k start n next → X
+never q = let z : _≡_ {A = ℕ} 0 1 = cc in absurd (let w : ⊥ = omega arith in w)
 
 pub was-whole : (s : List ℕ) (at k start n next : ℕ) → readAt s at ≡ Whole k start n next → WholeAt s at k start n next
-was-whole s at k start n next e =
+unfolding records.readAt
+was-whole s at k start n next =
     let m = lengthOf (getD s at 0) in
-    split (ltb at (length s))
-    (λ p. split (eqb m 255)
-    (λ q. never (readAt s at) (read-unknown s at m (ltb-true at (length s) p) refl (eqb-true m 255 q)) e)
-    (λ q. split (leb m (length s - (at + 1)))
-    (λ r.
+    by-flag Is (ltb at (length s)) _ _
+    (λ p. by-flag Is (eqb m 255) _ _ (λ q. never)
+    (λ q. by-flag Is (leb m (length s - (at + 1))) _ _
+    (λ r e.
     let h : at < length s = ltb-true at (length s) p in
     let g : m ≤ length s - (at + 1) = leb-true m (length s - (at + 1)) r in
-    let f : Whole (getD s at 0) (at + 1) m (at + 1 + m) ≡ readAt s at = read-whole s at m h refl (eqb-false m 255 q) g in
     let f0 : k ≡ getD s at 0 = cc in
     let f1 : start ≡ at + 1 = cc in
     let f2 : n ≡ m = cc in
     let f3 : next ≡ at + 1 + m = cc in
     record { here = h; kind = f0; body = f1; long = f2 ∙ ap lengthOf (sym f0); end = omega arith; fits = omega arith })
-    (λ r. never (readAt s at) (read-cut s at m (ltb-true at (length s) p) refl (eqb-false m 255 q) (leb-false m (length s - (at + 1)) r)) e)))
-    (λ p. never (readAt s at) (read-end s at 0 (ltb-false at (length s) p)) e)
+    (λ r. never)))
+    (λ p. never)
+  where
+    Is : Record → Type 0
+    Is x = x ≡ Whole k start n next → WholeAt s at k start n next
 
 -- the part of the stream that holds the body
 pub body-whole : (s : List ℕ) (at k start n next : ℕ) → readAt s at ≡ Whole k start n next → take (next - start) (drop start s) ≡ bodyAt s at

@@ -1,20 +1,20 @@
 -- How many bytes a call's events are, of each step on tables.
-use mathlib.Core.Path.{_≡_}
-use mathlib.Core.Bool.{Bool, true, false, _&&_, _||_}
+use mathlib.Core.Path.{_≡_, refl}
+use mathlib.Core.Bool.{true, _||_}
 use mathlib.Core.List.{List, [], _∷_, map, map-append}
 use Prim.Native.Nat.{ℕ, _+_, _≤_}
 use native.Mathlib.Nat.{le-trans}
 use native.Mathlib.Omega.{arith}
 use borrow.Author.Tests.{le-leb, leb-true}
 use lib.Dec.{ltb, leb, lit≤}
-use lib.ListN.{length, getD, length-append}
-use Rattle.words.specs.Words.{pick, all, any}
+use lib.ListN.{length, length-append}
+use Rattle.words.specs.Words.{all, any}
 use Rattle.model.specs.Range.{inRange}
-use Rattle.model.specs.Address.{addressOf, isRead, blockOf, lineNumber, wellFormed}
-use Rattle.model.specs.Tables.{Line, Entry, reading, Tables, Outcome, refused, done, eventsOf, holds, entryFor, fresh, withNow}
+use Rattle.model.specs.Address.{addressOf, lineNumber}
+use Rattle.model.specs.Tables.{reading, Tables, Outcome, refused, done, eventsOf, withNow}
 use Rattle.model.specs.Sound.{lastCycle, sound}
-use Rattle.model.specs.Probe.{Spot, Place, no, at, waysOf, first, victim, takeOver, meet, probe, Rule, ruleOf}
-use Rattle.model.specs.Steps.{isMerge, isMiss, fetches, queues, queuedEvent, sentEvent, placesNeeded, accept, entryFull, proceed, access, afterSend, sendFrom, send, ticketsOf, afterFill, sentFor, fill, tick}
+use Rattle.model.specs.Probe.{waysOf, ruleOf}
+use Rattle.model.specs.Steps.{isMiss, fetches, queues, queuedEvent, sentEvent, accept, access, afterSend, send, ticketsOf, afterFill, sentFor, fill, tick}
 use Rattle.model.specs.RecordsOf as records
 use Rattle.model.specs.Records.{bytesOf, eventBytes, logBytes, fillBytes}
 use Rattle.model.specs.Runner.{stepOf}
@@ -22,23 +22,23 @@ use Rattle.model.specs.declared.Settings.{Settings}
 use Rattle.model.specs.declared.Queued.{Queued}
 use Rattle.model.specs.declared.Answer.{Answer}
 use Rattle.model.specs.declared.Refusal.{Refusal}
-use Rattle.model.specs.declared.Refusal.the-variants.{SettingOutOfRange, BadAccess, QueueFull, EntryFull, MissTableFull, NotSent, BadCycle, QueueEmpty}
+use Rattle.model.specs.declared.Refusal.the-variants.{SettingOutOfRange, NotSent, BadCycle}
 use Rattle.model.specs.declared.Access.{Access}
 use Rattle.model.specs.declared.Access.the-variants.{Read, Write}
-use Rattle.model.specs.declared.Found.{Found}
-use Rattle.model.specs.declared.Found.the-variants.{At, Nothing}
 use Rattle.model.specs.declared.Event.{Event}
 use Rattle.model.specs.declared.Event.the-variants.{Answered, Released, Filled, Ticked}
 use Rattle.model.specs.declared.Command.{Command}
 use Rattle.model.specs.declared.Command.the-variants as cmd
-use Rattle.words.proofs.Flags.{and-1, and-2, by-flag}
+use Rattle.words.proofs.Flags.{by-flag, pick-both}
 use Rattle.words.proofs.Lists.{in-all}
 use Rattle.records.proofs.Encoding.{event-short}
-use Rattle.records.proofs.Log.{released-length}
+use Rattle.records.proofs.Log.{released-by, released-length}
 use Rattle.model.proofs.Logs.{log-append}
 use Rattle.model.proofs.SoundFacts.{parts, tickets-of}
 use Rattle.model.proofs.Fits.{ranged}
-use Rattle.model.proofs.ProbeFindsSpot.{back-one}
+use Rattle.model.proofs.AccessCases.{access-judged}
+use Rattle.model.proofs.SendFillKeepSound.{send-cases}
+use Rattle.model.proofs.Victims.{backs-at-most-one}
 
 -- ---- a log's length, event by event
 
@@ -66,29 +66,7 @@ takes-more h g = record { most = le-trans (h .most) g }
 refused-within : (n : ℕ) (r : Refusal) → 2 ≤ n → TakesRoom n (refused r)
 refused-within n r h = takes-more (refused-takes r) h
 
--- by a test
-takes-by : {n : ℕ} (b : Bool) {o p : Outcome Tables} → TakesRoom n o → TakesRoom n p → TakesRoom n (pick b o p)
-takes-by true h g = h
-takes-by false h g = g
-
 -- ---- an access: its answer, a read, a write-back
-
--- a probe gives one write-back at most
-Few : Place → Type 0
-Few (no r) = Unit
-Few (at p) = length (p .backs) ≤ 1
-
-probe-few : (R : Rule) (S : Settings) (d : ℕ) (ways : List Line) (x : Access) → Few (probe R S d ways x)
-unfolding probe Few
-probe-few R S d ways x = met (first (holds (blockOf (addressOf x))) ways)
-  where
-    over : (f : Found) → Few (takeOver (addressOf x) ways f)
-    over Nothing = tt
-    over (At w) = back-one (getD ways w fresh)
-
-    met : (f : Found) → Few (meet R S d ways x f)
-    met Nothing = over (victim R S d ways)
-    met (At w) = lit≤ tt
 
 queued-short : (qs : List Queued) → length qs ≤ 1 → length (logBytes (map queuedEvent qs)) ≤ 25
 unfolding records.logBytes
@@ -101,63 +79,34 @@ unfolding records.logBytes records.eventBytes bytesOf
 fetch-short (Read a m k) n = by-flag (λ (q : List Queued). length (logBytes (map queuedEvent q)) ≤ 9) (isMiss n) (reading a ∷ []) [] (λ e. lit≤ tt) (λ e. lit≤ tt)
 fetch-short (Write a m k) n = lit≤ tt
 
-accept-takes : (S : Settings) (x : Access) (p : Spot) (t : Tables) → length (p .backs) ≤ 1 → TakesRoom 38 (accept S x p t)
-unfolding accept records.eventBytes bytesOf
-accept-takes S x p t h =
+pub access-takes : (S : Settings) (x : Access) (t : Tables) → TakesRoom 38 (access S x t)
+unfolding access accept records.eventBytes bytesOf
+access-takes S x t =
+    access-judged (ruleOf S) S t x (TakesRoom 38) (λ n. refused-within _ n (lit≤ tt)) (λ p j.
     let f = fetch-short x (p .answer) in
-    let b = queued-short (p .backs) h in
+    let b = queued-short (p .backs) (backs-at-most-one (ruleOf S t (addressOf x)) S (t .dirtyCount) (waysOf S (t .lines) (addressOf x)) x p (j .met)) in
     let n = log-more (Answered (p .answer) (lineNumber S (addressOf x) (p .way))) (map queuedEvent (queues x p)) in
     let q : length (logBytes (map queuedEvent (queues x p))) ≡ length (logBytes (map queuedEvent (fetches x (p .answer)))) + length (logBytes (map queuedEvent (p .backs))) =
     rw (map-append, log-append, length-append) in
-    record { most = omega arith }
-
-proceed-takes : (S : Settings) (x : Access) (t : Tables) (p : Place) → Few p → TakesRoom 38 (proceed S x t p)
-unfolding proceed Few
-proceed-takes S x t (no r) h = refused-within _ r (lit≤ tt)
-proceed-takes S x t (at p) h =
-    takes-by (ltb (S .queue) (length (t .queue) + placesNeeded x p)) (refused-within _ QueueFull (lit≤ tt))
-    (takes-by (isRead x && isMerge (p .answer) && any (entryFull S (addressOf x)) (t .misses)) (refused-within _ EntryFull (lit≤ tt))
-    (takes-by (isRead x && isMiss (p .answer) && leb (S .misses) (length (t .misses))) (refused-within _ MissTableFull (lit≤ tt))
-    (accept-takes S x p t h)))
-
-pub access-takes : (S : Settings) (x : Access) (t : Tables) → TakesRoom 38 (access S x t)
-unfolding access
-access-takes S x t =
-    takes-by (wellFormed x)
-    (proceed-takes S x t _ (probe-few (ruleOf S t (addressOf x)) S (t .dirtyCount) (waysOf S (t .lines) (addressOf x)) x))
-    (refused-within _ BadAccess (lit≤ tt))
+    record { most = omega arith })
 
 -- ---- send, tick, fill
 
 pub send-takes : (t : Tables) → TakesRoom 25 (send t)
-unfolding send
-send-takes t = from (t .queue)
-  where
-    from : (qs : List Queued) → TakesRoom 25 (sendFrom qs t)
-    from [] = refused-within _ QueueEmpty (lit≤ tt)
-    from (q ∷ qs) = one-takes (sentEvent q) (afterSend q qs t)
+send-takes t = send-cases t (TakesRoom 25) (λ n. refused-within _ n (lit≤ tt)) (λ q qs e. one-takes (sentEvent q) (afterSend q qs t))
 
 pub tick-takes : (c : ℕ) (t : Tables) → TakesRoom 25 (tick c t)
 unfolding tick
-tick-takes c t =
-    takes-by (ltb c (t .now) || ltb lastCycle c) (refused-within _ BadCycle (lit≤ tt))
-    (one-takes Ticked (withNow c t))
-
-tickets-few : (n a : ℕ) (es : List Entry) → all (λ e. leb (length (e .tickets)) n) es ≡ true → length (ticketsOf a es) ≤ n
-tickets-few n a [] h = omega arith
-tickets-few n a (e ∷ es) h =
-    by-flag (λ (ts : List ℕ). length ts ≤ n) (entryFor a e) (e .tickets) (ticketsOf a es)
-    (λ q. leb-true (length (e .tickets)) n (and-1 (leb (length (e .tickets)) n) _ h))
-    (λ q. tickets-few n a es (and-2 (leb (length (e .tickets)) n) _ h))
+tick-takes c t = pick-both (TakesRoom 25) (ltb c (t .now) || ltb lastCycle c) (refused-within _ BadCycle (lit≤ tt)) (one-takes Ticked (withNow c t))
 
 pub fill-takes : (a : ℕ) (t : Tables) → all (λ e. leb (length (e .tickets)) 8) (t .misses) ≡ true → TakesRoom fillBytes (fill a t)
 unfolding fill records.eventBytes bytesOf
 fill-takes a t h =
-    let k = tickets-few 8 a (t .misses) h in
+    let k = leb-true (length (ticketsOf a (t .misses))) 8 (released-by (λ ts. leb (length ts) 8) refl a (t .misses) h) in
     let r = released-length (ticketsOf a (t .misses)) in
     let n = log-more (Filled a) (map Released (ticketsOf a (t .misses))) in
     let m : TakesRoom fillBytes (done (Filled a ∷ map Released (ticketsOf a (t .misses))) (afterFill a t)) = record { most = omega arith } in
-    takes-by (any (sentFor a) (t .misses)) m (refused-within _ NotSent (lit≤ tt))
+    pick-both (TakesRoom fillBytes) (any (sentFor a) (t .misses)) m (refused-within _ NotSent (lit≤ tt))
 
 -- ---- every step of a command on sound tables
 

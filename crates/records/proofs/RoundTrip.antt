@@ -7,7 +7,7 @@ use borrow.Author.Tests.{le-ltb, lt-ltb}
 use mathlib.Core.Bool.{true}
 use lib.Dec.{eqb}
 use lib.ListN.{length, getD, take, drop, length-append}
-use lib.Seq.{getD-append-seam, drop-append-add, take-append-seam, sets}
+use lib.Seq.{getD-append-seam, drop-append-add, take-append-seam}
 use Rattle.words.specs.Words.{pick}
 use Rattle.model.specs.Kinds as kinds
 use Rattle.model.specs.RecordsOf as records
@@ -27,22 +27,8 @@ use Rattle.model.specs.declared.Record.the-variants.{Whole}
 use Rattle.records.specs.Fitting.{Fitting, AllFitting, RuleFits, GivenFits, CommandFits}
 use Rattle.records.proofs.Digits.{number-bytes}
 use Rattle.records.proofs.Reading.{read-whole}
-use Rattle.records.proofs.Encoding.{event-length, event-short, command-length, command-short}
+use Rattle.records.proofs.Encoding.{event-body, command-body}
 use Rattle.records.proofs.Decoding as decoding
-
--- ---- how long bodies are
-
--- a body is as long as the table says, and no body is as long as the table's mark
-abbrev SizedBody : ℕ → List ℕ → Type 0
-SizedBody k bs = (length bs ≡ lengthOf k) × (length bs ≤ 24)
-
-event-sized : (e : Event) → SizedBody (recordKindOf e) (bodyBytes e)
-unfolding records.eventBytes
-event-sized e = let n = event-length e in let s = event-short e in (omega arith, omega arith)
-
-command-sized : (c : Command) → SizedBody (commandKind c) (commandBody c)
-unfolding records.commandBytes
-command-sized c = let n = command-length c in let s = command-short c in (omega arith, omega arith)
 
 -- ---- a body by itself
 
@@ -91,24 +77,12 @@ settings-back g h =
 
 command-body-back : (c : Command) → CommandFits c → commandOf (commandKind c) (commandBody c) ≡ command.Got c
 unfolding records.commandOf bytesOf numberAt records.lengthOf
-command-body-back (cmd.Settings g) h = decoding.command-sized (settingsKind (g .rule)) (givenBytes g) _ refl (command-sized (cmd.Settings g) .0) ∙ settings-back g h
+command-body-back (cmd.Settings g) h = decoding.command-sized (settingsKind (g .rule)) (givenBytes g) _ refl (command-body (cmd.Settings g) .0) ∙ settings-back g h
 command-body-back (cmd.Read a k) h = rw (number-bytes 8 a (h .0), number-bytes 4 k (h .1))
 command-body-back (cmd.Write a m) h = rw (number-bytes 8 a (h .0), number-bytes 4 m (h .1))
 command-body-back cmd.Send h = refl
 command-body-back (cmd.Fill a) h = rw (number-bytes 8 a h)
 command-body-back (cmd.Tick c) h = rw (number-bytes 4 c h)
-
--- no event's kind is a command's
-other-kind : (e : Event) (b : List ℕ) → commandIn (recordKindOf e) b ≡ command.None
-other-kind (ev.Answered a line) b = refl
-other-kind (ev.Refused n) b = refl
-other-kind (ev.ReadQueued a) b = refl
-other-kind (ev.WriteBackQueued d m0 m1 m2 m3) b = refl
-other-kind (ev.Released t) b = refl
-other-kind (ev.ReadSent a) b = refl
-other-kind (ev.WriteBackSent d m0 m1 m2 m3) b = refl
-other-kind (ev.Filled a) b = refl
-other-kind ev.Ticked b = refl
 
 -- ---- a record anywhere in a stream: p before it, q after it
 
@@ -132,11 +106,11 @@ module _ (p q : List ℕ) where
   module _ (e : Event) where
     pub event-next : readAt (p ++ (eventBytes e ++ q)) (length p) ≡ Whole (recordKindOf e) (length p + 1) (length (bodyBytes e)) (length (p ++ eventBytes e))
     unfolding records.eventBytes
-    event-next = let z = event-sized e in record-read p q (recordKindOf e) (bodyBytes e) (z .0) (z .1)
+    event-next = let z = event-body e in record-read p q (recordKindOf e) (bodyBytes e) (z .sized) (z .short)
 
     event-part : take (length (bodyBytes e)) (drop (length p + 1) (p ++ (eventBytes e ++ q))) ≡ bodyBytes e
     unfolding records.eventBytes
-    event-part = let z = event-sized e in record-part p q (recordKindOf e) (bodyBytes e) (z .0) (z .1)
+    event-part = let z = event-body e in record-part p q (recordKindOf e) (bodyBytes e) (z .sized) (z .short)
 
     pub event-back : Fitting e → eventAt (p ++ (eventBytes e ++ q)) (length p) ≡ event.Got e
     unfolding records.eventAt
@@ -145,16 +119,16 @@ module _ (p q : List ℕ) where
     -- and it is no command
     pub event-no-command : commandAt (p ++ (eventBytes e ++ q)) (length p) ≡ command.None
     unfolding records.commandAt
-    event-no-command = rw (event-next, event-part) (decoding.command-sized (recordKindOf e) (bodyBytes e) _ refl (event-sized e .0) ∙ other-kind e (bodyBytes e))
+    event-no-command = rw (event-next, event-part) (decoding.command-sized (recordKindOf e) (bodyBytes e) _ refl (event-body e .sized) ∙ event-body e .other (bodyBytes e))
 
   module _ (c : Command) where
     pub command-next : readAt (p ++ (commandBytes c ++ q)) (length p) ≡ Whole (commandKind c) (length p + 1) (length (commandBody c)) (length (p ++ commandBytes c))
     unfolding records.commandBytes
-    command-next = let z = command-sized c in record-read p q (commandKind c) (commandBody c) (z .0) (z .1)
+    command-next = let z = command-body c in record-read p q (commandKind c) (commandBody c) (z .0) (z .1)
 
     command-part : take (length (commandBody c)) (drop (length p + 1) (p ++ (commandBytes c ++ q))) ≡ commandBody c
     unfolding records.commandBytes
-    command-part = let z = command-sized c in record-part p q (commandKind c) (commandBody c) (z .0) (z .1)
+    command-part = let z = command-body c in record-part p q (commandKind c) (commandBody c) (z .0) (z .1)
 
     pub command-back : CommandFits c → commandAt (p ++ (commandBytes c ++ q)) (length p) ≡ command.Got c
     unfolding records.commandAt

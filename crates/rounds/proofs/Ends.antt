@@ -1,62 +1,71 @@
 -- What waiting comes to: the rounds on slices are those on the tables that they hold; refusals before the first round; room for the events.
-use mathlib.Core.Path.{_≡_, refl, sym, ap, _∙_}
+use mathlib.Core.Path.{_≡_, refl, sym, ap}
 use mathlib.Core.Bool.{true, false}
 use mathlib.Core.List.{List, [], _∷_, map}
-use Prim.Native.Nat.{ℕ, suc, _≤_, _<_}
+use Prim.Native.Nat.{ℕ, zero, suc, _≤_, _<_}
+use native.Mathlib.Nat.{zero-add}
 use native.Mathlib.Omega.{arith}
 use borrow.Author.Tests.{le-leb, lt-leb}
 use lib.ListN.{length, length-map}
 use Rattle.model.specs.Address.{wellFormed}
-use Rattle.model.specs.Tables.{Tables, Outcome, refused, done}
+use Rattle.model.specs.Tables.{Tables, Outcome, refused, done, eventsOf}
 use Rattle.model.specs.Lent.{Lent}
 use Rattle.model.specs.Calls.{encoded, checkCall, eventsTold}
 use Rattle.model.specs.Inner.{Encodes, SoundSlices}
 use Rattle.model.specs.RecordsOf as records
-use Rattle.model.specs.Records.{bytesOf, logBytes, waitRoom}
-use Rattle.model.specs.Rounds.{steps, calls, Run, outcomeRounds, outcomeWaits}
+use Rattle.model.specs.Records.{logBytes, waitRoom}
+use Rattle.model.specs.Rounds.{Calls, steps, calls, Turn, outcomeGoOn, outcomeDrain, outcomeRounds}
+use Rattle.model.specs.Seen.{accepts, waits, seenCalls}
 use Rattle.model.specs.declared.Settings.{Settings}
 use Rattle.model.specs.declared.Access.{Access}
 use Rattle.model.specs.declared.Refusal.{Refusal}
 use Rattle.model.specs.declared.Refusal.the-variants.{BadAccess, SetHeld}
 use Rattle.model.specs.declared.Event.the-variants as event
-use Rattle.model.specs.declared.Verdict.the-variants as verdict
 use Rattle.model.specs.declared.Reply.{Reply}
+use Rattle.model.proofs.SeenRounds.{Clear, access-clear, lent-offers, lent-turn}
 use Rattle.encoding.proofs.Bridge.{is-tables, is-fits, is-sound-lent}
 use Rattle.encoding.proofs.LentRounds.{runOf, rounds-encoded}
 use Rattle.encoding.proofs.Demand.{steps-keep}
 use Rattle.records.specs.Stores.{Stored}
-use Rattle.records.proofs.Stores.{was-stored}
 use Rattle.soundness.specs.Laid.{Checks}
 use Rattle.soundness.specs.declared.LaidVerdict.{LaidVerdict}
 use Rattle.soundness.specs.declared.LaidVerdict.the-variants as laid
+use Rattle.soundness.proofs.Checked.{says-refused}
 use Rattle.tables.specs.Telling.{telling}
-use Rattle.tables.proofs.Tellings.{telling-tells}
 use Rattle.rounds.specs.declared.Waiting.the-variants as wait
 use Rattle.rounds.specs.declared.Waited.{Waited}
-use Rattle.rounds.specs.Waiting.{lastOffer, waitingOf, refusalTold, settled, turnedAway, enoughRounds, waitCall, waitWithin, Waits}
-use Rattle.turns.specs.Parts.{Noted, Enough}
+use Rattle.rounds.specs.Waiting.{lastTold, waitingBy, refusalIn, lastOffer, waitingOf, refusalTold, settled, turnedAway, enoughRounds, waitCall, waitWithin, Waits}
+use Rattle.turns.specs.Parts.{Enough}
 use Rattle.rounds.specs.Parts.{lentWait, RoundsSettle, TurnsAway, WaitsHeld}
-use Rattle.rounds.proofs.Written.{noted-written}
-use Rattle.rounds.proofs.SameWait.{settled-same}
+use Rattle.rounds.proofs.Written.{noted-written, refusal-noted}
+use Rattle.rounds.proofs.Starting.{verdict-refused}
 
--- ---- the rounds on slices
+-- ---- the rounds as they are seen on slices, and those on the tables, whose calls come to outcomes
 
-module _ (S : Settings) where
-  last-encoded : (o : Outcome Tables) (os : List (Outcome Tables)) → lastOffer (encoded S o) (map (encoded S) os) ≡ encoded S (lastOffer o os)
-  last-encoded o [] = refl
-  last-encoded o (p ∷ os) = last-encoded p os
+module _ {T : Type 0} where
+  last-told : (o : Outcome T) (os : List (Outcome T)) → lastTold (eventsOf o) (map eventsOf os) ≡ eventsOf (lastOffer o os)
+  last-told o [] = refl
+  last-told o (p ∷ os) = last-told p os
 
-  says-encoded : (n : ℕ) (o : Outcome Tables) → waitingOf n (encoded S o) ≡ waitingOf n o
-  says-encoded n (refused k) = refl
-  says-encoded n (done es u) = refl
+  said-same : (n : ℕ) (o : Outcome T) → Clear accepts o → (waitingBy n (eventsOf o) ≡ waitingOf n o) × (refusalIn (eventsOf o) ≡ refusalTold o)
+  said-same n (refused k) c = (refl, refl)
+  said-same n (done es u) c = rw (c .clear) (refl, refl)
 
-  refusal-encoded : (o : Outcome Tables) → refusalTold (encoded S o) ≡ refusalTold o
-  refusal-encoded (refused k) = refl
-  refusal-encoded (done es u) = refl
+module _ {T : Type 0} (C : Calls T) (clear : (t : T) → Clear accepts (C .offers t)) where
+  last-clear : (n : ℕ) (t : T) (d : Outcome T) → Clear accepts d → Clear accepts (lastOffer d (outcomeRounds C n t .offers))
+  unfolding outcomeRounds
+  last-clear zero t d c = c
+  last-clear (suc n) t d c = go (C .offers (outcomeDrain C t .left)) (clear (outcomeDrain C t .left)) (last-clear n (outcomeDrain C t .left))
+    where
+      go : (o : Outcome T) → Clear accepts o → ((e : Outcome T) → Clear accepts e → Clear accepts (lastOffer e (outcomeRounds C n (outcomeDrain C t .left) .offers)))
+          → Clear accepts (lastOffer d (outcomeGoOn (outcomeDrain C t) (outcomeRounds C n) o .offers))
+      go (refused k) k-clear ih = ih (refused k) k-clear
+      go (done es u) o-clear ih = o-clear
 
-  settled-encoded : (r : Run Tables) → settled (runOf S r) ≡ lentWait S (settled r)
-  settled-encoded r =
-      rw (last-encoded (refused SetHeld) (r .offers), length-map, says-encoded (length (r .offers)) (lastOffer (refused SetHeld) (r .offers)), refusal-encoded (lastOffer (refused SetHeld) (r .offers)))
+told-encoded : (S : Settings) (os : List (Outcome Tables)) → map eventsOf (map (encoded S) os) ≡ map eventsOf os
+told-encoded S [] = refl
+told-encoded S (refused k ∷ os) = rw (told-encoded S os)
+told-encoded S (done es u ∷ os) = rw (told-encoded S os)
 
 module _ (S : Settings) (x : Access) (L : Lent) (t : Tables) (i : Encodes S L t) where
   checked-done : checkCall S L ≡ done [] L
@@ -64,12 +73,23 @@ module _ (S : Settings) (x : Access) (L : Lent) (t : Tables) (i : Encodes S L t)
 
   enough-encoded : {n : ℕ} → Enough S L n → enoughRounds S x L ≡ lentWait S (settled (outcomeRounds (steps S x) n t))
   enough-encoded {n} e =
-      let w : suc (outcomeWaits (calls S x) L) ≡ n = rw (is-tables S L t i) (sym (e .on t i)) in
-      settled-same S x (suc (outcomeWaits (calls S x) L)) L
-      ∙ ap (λ (k : ℕ). settled (outcomeRounds (calls S x) k L)) w
-      ∙ ap (λ (M : Lent). settled (outcomeRounds (calls S x) n M)) (i .encoded)
-      ∙ ap settled (rounds-encoded S x (i .range) (steps-keep S) n t (i .soundly))
-      ∙ settled-encoded S (outcomeRounds (steps S x) n t)
+      let run = outcomeRounds (steps S x) n t in
+      let w : suc (waits (seenCalls S x) L) ≡ n = rw (is-tables S L t i) (sym (e .on t i)) in
+      let lent : outcomeRounds (calls S x) n L ≡ runOf S run = rw (i .encoded) (rounds-encoded S x (i .range) (steps-keep S) n t (i .soundly)) in
+      let offers = rw (lent, told-encoded S (run .offers)) at (lent-offers S x n L) in
+      let turn = rw lent at (lent-turn S x n L) in
+      let (says, refusal) = said-same (length (run .offers)) (lastOffer (refused SetHeld) (run .offers))
+      (last-clear (steps S x) (access-clear S x) n t (refused SetHeld) record { clear = refl }) in
+      rw (
+        w,
+        ap (λ (a : Turn Lent). a .events) turn,
+        ap (λ (a : Turn Lent). a .left) turn,
+        offers,
+        last-told (refused SetHeld) (run .offers),
+        length-map,
+        says,
+        refusal,
+      )
 
   pub wait-formed : wellFormed x ≡ true → {n : ℕ} → Enough S L n → waitCall S x L ≡ lentWait S (settled (outcomeRounds (steps S x) n t))
   unfolding waitCall
@@ -90,18 +110,11 @@ module _ {S : Settings} {x : Access} {L : Lent} {e : List ℕ} {r : Waited} {f :
 
 -- ---- a refusal before the first round
 
-refused-length : (n : Refusal) → length (logBytes (event.Refused n ∷ [])) ≡ 2
-unfolding records.logBytes records.eventBytes bytesOf
-refused-length n = refl
-
 pub turns-away : (n : Refusal) (e : List ℕ) {reply : Reply} → reply ≡ telling (event.Refused n) → {w : ℕ} {f : List ℕ} → Stored e 0 (logBytes (eventsTold reply)) w f
     → waitRoom ≤ length e → TurnsAway n e record { waiting = wait.Refused n; written = w } f
-turns-away n e {reply} is {w} {f} s room =
-    let one : eventsTold reply ≡ event.Refused n ∷ [] = ap eventsTold is ∙ telling-tells (event.Refused n) in
-    let two = refused-length n in
-    let (count, slice) = was-stored e 0 (logBytes (event.Refused n ∷ [])) (rw one at s) (omega arith) in
-    let noted : Noted e 0 (event.Refused n ∷ []) w f = record { next = omega arith; slice = slice; fits = (tt, tt) } in
-    let (bytes, events, back) = noted-written (event.Refused n ∷ []) e noted (omega arith) in
+turns-away n e is s room =
+    let (two, noted) = refusal-noted n e 0 is s (omega arith) in
+    let (bytes, events, back) = noted-written (event.Refused n ∷ []) e (rw zero-add at noted) (omega arith) in
     record { on = λ L. record { waiting = refl; written = bytes; events = events; reads = back; left = refl } }
 
 -- ---- the call
@@ -117,11 +130,7 @@ module _ (S : Settings) (x : Access) (L : Lent) (e : List ℕ) where
   pub waits-refused : {v : LaidVerdict} {n : Refusal} {r : Waited} {f : List ℕ} → waitRoom ≤ length e → Checks S L v → v ≡ laid.Refused n
       → TurnsAway n e r f → Waits (waitWithin (length e) S x L) e r f L
   unfolding waitCall
-  waits-refused {v} {n} {r} {f} h checks is t = rw (roomy h) (go (checkCall S L) refl)
-    where
-      go : (o : Outcome Lent) → checkCall S L ≡ o → Waits (waitCall S x L) e r f L
-      go (refused k) q = let z : k ≡ n = cc in rw (q, z) (t .on L)
-      go (done es M) q = let z : verdict.Passed ≡ verdict.Refused n = cc in let o : _≡_ {A = ℕ} 0 1 = cc in absurd (omega arith)
+  waits-refused h checks is t = rw (roomy h, verdict-refused (checkCall S L) (says-refused S L checks is)) (t .on L)
 
   pub waits-passed : {r : Waited} {f : List ℕ} {M : Lent} → waitRoom ≤ length e → SoundSlices S L → WaitsHeld S x L e r f M
       → Waits (waitWithin (length e) S x L) e r f M

@@ -2,7 +2,6 @@
 -- and the struck rounds as calls, from one call (`Showing`) to demand 3 of what they leave (`OfRuns`).
 pub mod Written
 pub mod Settling
-pub mod SameWait
 pub mod Ends
 pub mod Demand
 pub mod Showing

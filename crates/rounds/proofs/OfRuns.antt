@@ -2,7 +2,7 @@
 -- function ensures, word for word; that the run ran is all that is asked of settings, tables, access and room.
 use mathlib.Core.Path.{_≡_, refl, sym, ap, subst, _∙_}
 use mathlib.Core.Logic.{⊎-elim, inl, inr}
-use mathlib.Core.Bool.{Bool, true, false, _&&_}
+use mathlib.Core.Bool.{Bool, true, false, _&&_, false≢true}
 use mathlib.Core.List.{List, [], _∷_, _++_, map}
 use Prim.Native.Nat.{ℕ, zero, suc, _+_, _-_, _/_, _≤_}
 use native.Mathlib.Omega.{arith}
@@ -10,7 +10,7 @@ use borrow.Author.Tests.{le-leb}
 use lib.Dec.{leb}
 use lib.ListN.{length, take, drop, replicate, length-map, length-append, length-replicate}
 use lib.Seq.{take-at}
-use Rattle.words.specs.Words.{pick, any}
+use Rattle.words.specs.Words.{any}
 use Rattle.model.specs.Address.{wellFormed}
 use Rattle.model.specs.Tables.{Outcome, refused, done}
 use Rattle.model.specs.Lent.{Lent, bit}
@@ -20,14 +20,14 @@ use Rattle.model.specs.Seen.{SeenCalls, accepts, Course, marks, rounds, struck,
 use Rattle.model.specs.declared.Settings.{Settings}
 use Rattle.model.specs.declared.Access.{Access}
 use Rattle.model.specs.declared.Event.{Event}
-use Rattle.model.specs.declared.Refusal.the-variants.{BadAccess}
 use Rattle.model.specs.Records.{roundBytes}
 use Rattle.model.specs.declared.Verdict.the-variants.{Passed}
+use Rattle.words.proofs.Flags.{flag}
 use Rattle.encoding.proofs.DecodeIsSound.{Small}
 use Rattle.encoding.proofs.Demand.{demand-3-seen-lent}
 use Rattle.soundness.proofs.Verdicts.{passed-is}
 use Rattle.rounds.specs.declared.Went.{Went}
-use Rattle.rounds.specs.declared.Went.the-variants.{Ran, NoRoom}
+use Rattle.rounds.specs.declared.Went.the-variants.{Ran}
 use Rattle.rounds.specs.Demand3.{RoundsShown, roundsShown, ranTo, roomFor, flagsMarked, formed, startCall, roundsChecked, roundsCall, flagsCall, struckCall, SameRuns, InTime, HeldOn, Settled}
 use Rattle.rounds.proofs.Longer.{offers-few, longer, marks-accepted, marks-held, offers-first}
 
@@ -35,21 +35,18 @@ use Rattle.rounds.proofs.Longer.{offers-few, longer, marks-accepted, ma
 
 marked-bits : (ms : List Bool) → flagsMarked (map bit ms) ≡ ms
 marked-bits [] = refl
-marked-bits (true ∷ ms) = ap (λ (l : List Bool). true ∷ l) (marked-bits ms)
-marked-bits (false ∷ ms) = ap (λ (l : List Bool). false ∷ l) (marked-bits ms)
+marked-bits (true ∷ ms) = rw (marked-bits ms)
+marked-bits (false ∷ ms) = rw (marked-bits ms)
 
 bits-last : (j : ℕ) → map bit (replicate j false ++ (true ∷ [])) ≡ replicate j 0 ++ (1 ∷ [])
 bits-last zero = refl
-bits-last (suc j) = ap (λ (l : List ℕ). 0 ∷ l) (bits-last j)
+bits-last (suc j) = rw (bits-last j)
 
 bits-none : (j : ℕ) → map bit (replicate j false) ≡ replicate j 0
 bits-none zero = refl
-bits-none (suc j) = ap (λ (l : List ℕ). 0 ∷ l) (bits-none j)
+bits-none (suc j) = rw (bits-none j)
 
 -- ---- a run that ran had passed the checks
-
-none : {X : Type 0} → _≡_ {A = ℕ} 0 1 → X
-none e = absurd (omega arith)
 
 module _ (S : Settings) (x : Access) (L : Lent) where
   began : (n : ℕ) (fl e : List ℕ) {k w : ℕ} → roundsCall S x n L fl e .went ≡ Ran k w
@@ -57,26 +54,17 @@ module _ (S : Settings) (x : Access) (L : Lent) where
   unfolding roundsCall
   began n fl e {k} {w} h = by-start (startCall S x L) refl h
     where
-      by-room : (b : Bool) (k₁ : ℕ) (a : Turn Lent) → pick b (ranTo k₁ a e) (roundsShown NoRoom L e) .went ≡ Ran k w → b ≡ true
-      by-room true k₁ a g = refl
-      by-room false k₁ a g = none (cc)
-
       by-start : (o : Outcome Lent) → startCall S x L ≡ o → roundsChecked S x n L fl e o .went ≡ Ran k w
           → (es : List Event) × (M : Lent) × (startCall S x L ≡ done es M) × ((leb n (length fl) && roomFor n e) ≡ true)
-      by-start (refused j) q g = none (cc)
-      by-start (done es M) q g =
-          (es, M, q, by-room (leb n (length fl) && roomFor n e) (length (rounds (seenCalls S x) n L .offers)) (rounds (seenCalls S x) n L .turn) g)
+      by-start (refused j) q g = absurd (false≢true (cc))
+      by-start (done es M) q g = (es, M, q, ⊎-elim (λ b. b) (λ b. let z = rw b at g in cc) (flag (leb n (length fl) && roomFor n e)))
 
   started : {es : List Event} {M : Lent} → startCall S x L ≡ done es M → (wellFormed x ≡ true) × (verdictOf (checkCall S L) ≡ Passed)
   started {es} {M} h = go (checkCall S L) h
     where
-      by-form : (b : Bool) → pick b (done [] L) (refused BadAccess) ≡ done es M → b ≡ true
-      by-form true g = refl
-      by-form false g = none (cc)
-
       go : (o : Outcome Lent) → formed x L o ≡ done es M → (wellFormed x ≡ true) × (verdictOf o ≡ Passed)
-      go (refused j) g = none (cc)
-      go (done fs N) g = (by-form (wellFormed x) g, refl)
+      go (refused j) g = absurd (false≢true (cc))
+      go (done fs N) g = (⊎-elim (λ b. b) (λ b. let z = rw b at g in cc) (flag (wellFormed x)), refl)
 
 -- words are 32-bit numbers, as their type says (`Small`)
 module _ (S : Settings) (x : Access) (L : Lent) (small : Small L) where

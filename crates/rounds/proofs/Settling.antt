@@ -1,5 +1,5 @@
 -- The rounds one after another: where the loop over them stands, a round more, its two ends.
-use mathlib.Core.Path.{_≡_, refl, sym, ap, subst, _∙_}
+use mathlib.Core.Path.{_≡_, refl, sym, ap, _∙_}
 use mathlib.Core.Logic.{⊎-elim}
 use mathlib.Core.Bool.{true, false, not, false≢true}
 use mathlib.Core.List.{List, [], _∷_, _++_, append-assoc, append-nil}
@@ -7,17 +7,16 @@ use Prim.Native.Nat.{ℕ, zero, suc, _+_, _-_, _*_, _≤_, _<_}
 use native.Mathlib.Nat.{add-zero}
 use native.Mathlib.Omega.{arith}
 use lib.ListN.{length, getD, length-append}
-use lib.Seq.{sets}
 use Rattle.words.specs.Words.{any}
 use Rattle.model.specs.Address.{wellFormed}
-use Rattle.model.specs.Tables.{Tables, Outcome, refused, done, after, accepted, eventsOf}
+use Rattle.model.specs.Tables.{Tables, Outcome, refused, done, accepted, eventsOf}
 use Rattle.model.specs.Lent.{Lent}
 use Rattle.model.specs.Calls.{eventsTold}
 use Rattle.model.specs.Steps.{access}
 use Rattle.model.specs.Inner.{Encodes, SoundSlices}
 use Rattle.model.specs.RecordsOf as records
-use Rattle.model.specs.Records.{bytesOf, logBytes, settleBytes, waitRoom}
-use Rattle.model.specs.Rounds.{steps, Turn, took, Run, outcomeDrain, outcomeRounds, outcomeWaits}
+use Rattle.model.specs.Records.{logBytes, settleBytes, waitRoom}
+use Rattle.model.specs.Rounds.{steps, Turn, Run, outcomeGoOn, outcomeDrain, outcomeRounds, outcomeWaits}
 use Rattle.model.specs.declared.Settings.{Settings}
 use Rattle.model.specs.declared.Access.{Access}
 use Rattle.model.specs.declared.Refusal.{Refusal}
@@ -26,44 +25,29 @@ use Rattle.model.specs.declared.Event.{Event}
 use Rattle.model.specs.declared.Event.the-variants as event
 use Rattle.model.specs.declared.Reply.{Reply}
 use Rattle.words.proofs.Flags.{clash}
+use Rattle.words.proofs.Lists.{any-append}
 use Rattle.model.proofs.Bound.{rounds-settled}
 use Rattle.model.proofs.SeenRounds.{unrefused-too, access-clear}
 use Rattle.records.specs.Stores.{Stored}
-use Rattle.records.proofs.Stores.{was-stored}
 use Rattle.tables.specs.Telling.{telling}
-use Rattle.tables.proofs.Tellings.{telling-tells}
 use Rattle.rounds.specs.declared.Waiting.the-variants as wait
 use Rattle.turns.specs.declared.Round.{Round}
 use Rattle.rounds.specs.Waiting.{lastOffer}
 use Rattle.turns.specs.Parts.{isRefusal, Noted, Offers, Enough}
 use Rattle.rounds.specs.Parts.{RoundsSettle}
 use Rattle.turns.proofs.Noting.{reply-accepted, noted-then}
-use Rattle.rounds.proofs.Written.{noted-written}
+use Rattle.rounds.proofs.Written.{noted-written, refusal-noted}
 
 -- ---- runs behind other rounds
 
 abbrev behindRounds : List Event → List (Outcome Tables) → Run Tables → Run Tables
 behindRounds es os r = record { turn = record { events = es ++ r .turn .events; left = r .turn .left }; offers = os ++ r .offers }
 
-behind-behind : (a b : List Event) (o p : List (Outcome Tables)) (r : Run Tables) → behindRounds a o (behindRounds b p r) ≡ behindRounds (a ++ b) (o ++ p) r
-behind-behind a b o p r = simp append-assoc
-
-module _ (S : Settings) (x : Access) (n : ℕ) (t : Tables) where
-  abbrev a : Turn Tables
-  a = outcomeDrain (steps S x) t
-
-  rounds-refused : {k : Refusal} → access S x (a .left) ≡ refused k → outcomeRounds (steps S x) (suc n) t ≡ behindRounds (a .events) (refused k ∷ []) (outcomeRounds (steps S x) n (a .left))
-  unfolding outcomeRounds
-  rounds-refused e = rw e
-
-  rounds-done : {es : List Event} {u : Tables} → access S x (a .left) ≡ done es u
-      → outcomeRounds (steps S x) (suc n) t ≡ record { turn = record { events = a .events ++ es; left = u }; offers = done es u ∷ [] }
-  unfolding outcomeRounds
-  rounds-done e = rw e
-
-rounds-none : (S : Settings) (x : Access) (t : Tables) → outcomeRounds (steps S x) 0 t ≡ record { turn = record { events = []; left = t }; offers = [] }
+-- a round whose offer came to o, and the rounds after it
+next-round : (S : Settings) (x : Access) (n : ℕ) (t : Tables) {o : Outcome Tables} → access S x (outcomeDrain (steps S x) t .left) ≡ o
+    → outcomeRounds (steps S x) (suc n) t ≡ outcomeGoOn (outcomeDrain (steps S x) t) (outcomeRounds (steps S x) n) o
 unfolding outcomeRounds
-rounds-none S x t = refl
+next-round S x n t e = rw e
 
 -- ---- offers
 
@@ -71,17 +55,9 @@ last-one : (d o : Outcome Tables) (os : List (Outcome Tables)) → lastOffer d (
 last-one d o [] = refl
 last-one d o (p ∷ os) = last-one p o os
 
-last-at : (d c : Outcome Tables) (os : List (Outcome Tables)) (n : ℕ) → length os ≡ suc n → lastOffer d os ≡ getD os n c
-last-at d c [] n e = absurd (omega arith)
-last-at d c (o ∷ []) zero e = refl
-last-at d c (o ∷ []) (suc n) e = absurd (omega arith)
-last-at d c (o ∷ p ∷ os) zero e = absurd (omega arith)
-last-at d c (o ∷ p ∷ os) (suc n) e = last-at o c (p ∷ os) n (omega arith)
-
-none-more : (os : List (Outcome Tables)) (k : Refusal) → any accepted os ≡ false → any accepted (os ++ (refused k ∷ [])) ≡ false
-none-more [] k e = refl
-none-more (refused n ∷ os) k e = none-more os k e
-none-more (done es u ∷ os) k e = absurd (false≢true (sym e))
+last-at : (d c : Outcome Tables) (os : List (Outcome Tables)) → lastOffer d os ≡ getD (d ∷ os) (length os) c
+last-at d c [] = refl
+last-at d c (o ∷ os) = last-at o c os
 
 refused-one : (o : Outcome Tables) → accepted o ≡ false → (k : Refusal) × (o ≡ refused k)
 refused-one (refused k) e = (k, refl)
@@ -90,12 +66,6 @@ refused-one (done es u) e = absurd (false≢true (sym e))
 done-one : (o : Outcome Tables) → accepted o ≡ true → (es : List Event) × (u : Tables) × (o ≡ done es u)
 done-one (refused k) e = absurd (false≢true e)
 done-one (done es u) e = (es, u, refl)
-
--- ---- the last refusal
-
-held-length : length (logBytes (event.Refused SetHeld ∷ [])) ≡ 2
-unfolding records.logBytes records.eventBytes bytesOf
-held-length = refl
 
 -- ---- where the loop stands
 
@@ -161,23 +131,18 @@ module _ {S : Settings} {x : Access} {most : ℕ} where
         led : (t₀ : Tables) → Encodes S L₀ t₀ → RoundsLead S x most t₀ e₀ (round + 1) (r .written) M f
         led t₀ i =
             let l = g .leads t₀ i in
-            let t = l .tables in
-            let a : Turn Tables = outcomeDrain (steps S x) t in
-            let w = made .on t (l .are) in
-            let (k, o) = refused-one (access S x (a .left)) (offer-accepted t (l .are) ∙ ap not q) in
-            let z : a .events ++ took (a .left) (access S x (a .left)) .events ≡ a .events = rw (o, append-nil) in
+            let a : Turn Tables = outcomeDrain (steps S x) (l .tables) in
+            let w = made .on (l .tables) (l .are) in
+            let (k, o) = refused-one (access S x (a .left)) (offer-accepted (l .tables) (l .are) ∙ ap not q) in
             record {
               tables = a .left;
-              are = subst (λ (p : Outcome Tables). Encodes S M (after (a .left) p)) o (w .are);
+              are = rw o at (w .are);
               events = l .events ++ a .events;
               offers = l .offers ++ (refused k ∷ []);
               made = rw length-append (let m = l .made in omega arith);
-              none = none-more (l .offers) k (l .none);
-              rest = l .rest
-                  ∙ ap (λ (n : ℕ). behindRounds (l .events) (l .offers) (outcomeRounds (steps S x) n t)) next
-                  ∙ ap (behindRounds (l .events) (l .offers)) (rounds-refused S x (most - (round + 1)) t o)
-                  ∙ behind-behind (l .events) (a .events) (l .offers) (refused k ∷ []) (outcomeRounds (steps S x) (most - (round + 1)) (a .left));
-              bytes = noted-then (l .events) (a .events) (l .bytes) (subst (λ (es : List Event). Noted e out es (r .written) f) z (w .bytes));
+              none = rw (any-append, l .none);
+              rest = l .rest ∙ rw (next, next-round S x (most - (round + 1)) (l .tables) o) (simp append-assoc);
+              bytes = noted-then (l .events) (a .events) (l .bytes) (rw (o, append-nil) at (w .bytes));
             }
 
         pub rounds-stand-again : length f ≡ length e → length (M .longs) ≡ length (L .longs) → length (M .words) ≡ length (L .words)
@@ -200,18 +165,13 @@ module _ {S : Settings} {x : Access} {most : ℕ} where
         goes-accepted = record {
           on = λ t₀ i.
               let l = g .leads t₀ i in
-              let t = l .tables in
-              let a : Turn Tables = outcomeDrain (steps S x) t in
-              let w = made .on t (l .are) in
-              let (es, u, o) = done-one (access S x (a .left)) (offer-accepted t (l .are) ∙ ap not q) in
+              let a : Turn Tables = outcomeDrain (steps S x) (l .tables) in
+              let w = made .on (l .tables) (l .are) in
+              let (es, u, o) = done-one (access S x (a .left)) (offer-accepted (l .tables) (l .are) ∙ ap not q) in
               let all : outcomeRounds (steps S x) most t₀ ≡ record { turn = record { events = l .events ++ (a .events ++ es); left = u }; offers = l .offers ++ (done es u ∷ []) } =
-              l .rest
-              ∙ ap (λ (n : ℕ). behindRounds (l .events) (l .offers) (outcomeRounds (steps S x) n t)) next
-              ∙ ap (behindRounds (l .events) (l .offers)) (rounds-done S x (most - (round + 1)) t o) in
-              let reply : eventsTold (r .reply) ≡ es = w .tells ∙ ap eventsOf o in
-              let first : r .reply .first ≡ getD es 0 event.Ticked = ap (λ (v : List Event). getD v 0 event.Ticked) reply in
-              let laid : Noted e₀ 0 (l .events ++ (a .events ++ es)) (r .written) f =
-              noted-then (l .events) (a .events ++ es) (l .bytes) (subst (λ (p : Outcome Tables). Noted e out (a .events ++ took (a .left) p .events) (r .written) f) o (w .bytes)) in
+              l .rest ∙ rw (next, next-round S x (most - (round + 1)) (l .tables) o) in
+              let first : r .reply .first ≡ getD es 0 event.Ticked = ap (λ (v : List Event). getD v 0 event.Ticked) (w .tells ∙ ap eventsOf o) in
+              let laid = noted-then (l .events) (a .events ++ es) (l .bytes) (rw o at (w .bytes)) in
               let (count, slice, back) = noted-written (l .events ++ (a .events ++ es)) e₀ laid (let s = made .short in let h = g .short in omega arith) in
               let many : length (l .offers ++ (done es u ∷ [])) ≡ round + 1 = rw length-append (let m = l .made in omega arith) in
               rw (all, last-one (refused SetHeld) (done es u) (l .offers), many, append-nil) record {
@@ -219,66 +179,43 @@ module _ {S : Settings} {x : Access} {most : ℕ} where
                 written = count;
                 events = slice;
                 reads = back;
-                left = subst (λ (p : Outcome Tables). Encodes S M (after (a .left) p)) o (w .are) .encoded;
+                left = (rw o at (w .are)) .encoded;
               };
         }
 
     -- ---- all refused: 6, by demand 3
 
     module _ (end : most ≤ round) (formed : wellFormed x ≡ true) (enough : Enough S L₀ most) where
+      all-run : (t₀ : Tables) (i : Encodes S L₀ t₀) → outcomeRounds (steps S x) most t₀
+          ≡ record { turn = record { events = g .leads t₀ i .events; left = g .leads t₀ i .tables }; offers = g .leads t₀ i .offers }
+      unfolding outcomeRounds
+      all-run t₀ i = let zero : most - round ≡ 0 = omega arith in g .leads t₀ i .rest ∙ rw (zero, append-nil, append-nil)
+
       last-held : (t₀ : Tables) (i : Encodes S L₀ t₀) → lastOffer (refused SetHeld) (g .leads t₀ i .offers) ≡ refused SetHeld
       last-held t₀ i =
           let l = g .leads t₀ i in
-          let d = rounds-settled S x t₀ (i .range) (i .soundly) formed in
           let many : most ≡ suc (outcomeWaits (steps S x) t₀) = enough .on t₀ i in
-          let zero : most - round ≡ 0 = omega arith in
-          let offers : outcomeRounds (steps S x) (suc (outcomeWaits (steps S x) t₀)) t₀ .offers ≡ l .offers =
-          ap (λ (n : ℕ). outcomeRounds (steps S x) n t₀ .offers) (sym many)
-          ∙ ap (λ (r : Run Tables). r .offers) (l .rest)
-          ∙ rw (zero, rounds-none S x (l .tables), append-nil) in
+          let offers : outcomeRounds (steps S x) (suc (outcomeWaits (steps S x) t₀)) t₀ .offers ≡ l .offers = rw (← many, all-run t₀ i) in
+          let size : length (l .offers) ≡ suc (outcomeWaits (steps S x) t₀) = let m = l .made in let f = g .few in omega arith in
           ⊎-elim
           (λ h. clash h (ap (any accepted) offers ∙ l .none))
-          (λ h.
-          let w : outcomeWaits (steps S x) t₀ + 0 ≡ outcomeWaits (steps S x) t₀ = add-zero (outcomeWaits (steps S x) t₀) in
-          let k : getD (l .offers) (outcomeWaits (steps S x) t₀) (done [] t₀) ≡ refused SetHeld =
-          subst (λ (os : List (Outcome Tables)). getD os (outcomeWaits (steps S x) t₀) (done [] t₀) ≡ refused SetHeld) offers
-          (subst (λ (n : ℕ). getD (outcomeRounds (steps S x) (suc n) t₀ .offers) n (done [] t₀) ≡ refused SetHeld) w (h 0)) in
-          last-at (refused SetHeld) (done [] t₀) (l .offers) (outcomeWaits (steps S x) t₀) (let m = l .made in let f = g .few in omega arith) ∙ k)
-          (d .settles)
+          (λ h. last-at (refused SetHeld) (done [] t₀) (l .offers) ∙ rw size (rw (add-zero, offers) at (h 0)))
+          (rounds-settled S x t₀ (i .range) (i .soundly) formed .settles)
 
       -- its refusal fits behind what is written
-      pub held-stored : (room : waitRoom ≤ length e₀) {reply : Reply} → reply ≡ telling (event.Refused SetHeld) → {n : ℕ} {f : List ℕ}
-          → Stored e out (logBytes (eventsTold reply)) n f → (n ≡ length (logBytes (event.Refused SetHeld ∷ []))) × (f ≡ sets e out (logBytes (event.Refused SetHeld ∷ [])))
-      held-stored room {reply} is {n} {f} s =
-          let one : eventsTold reply ≡ event.Refused SetHeld ∷ [] = ap eventsTold is ∙ telling-tells (event.Refused SetHeld) in
-          let two : length (logBytes (event.Refused SetHeld ∷ [])) ≡ 2 = held-length in
-          let size = g .size in
-          let h = g .short in
-          let few = enough .few in
-          let at = g .few in
-          was-stored e out (logBytes (event.Refused SetHeld ∷ [])) (subst (λ (es : List Event). Stored e out (logBytes es) n f) one s) (omega arith)
+      module _ (room : waitRoom ≤ length e₀) {reply : Reply} (is : reply ≡ telling (event.Refused SetHeld)) {n : ℕ} {f : List ℕ}
+          (s : Stored e out (logBytes (eventsTold reply)) n f) where
+        held-noted : (n ≡ 2) × Noted e out (event.Refused SetHeld ∷ []) (out + n) f
+        held-noted = refusal-noted SetHeld e out is s (omega (arith, g .size, g .short, g .few, enough .few))
 
-      pub held-fits : (room : waitRoom ≤ length e₀) {reply : Reply} → reply ≡ telling (event.Refused SetHeld) → {n : ℕ} {f : List ℕ}
-          → Stored e out (logBytes (eventsTold reply)) n f → out + n ≤ waitRoom
-      held-fits room is s =
-          let two : length (logBytes (event.Refused SetHeld ∷ [])) ≡ 2 = held-length in
-          omega (arith, held-stored room is s .0, g .short, g .few, enough .few)
+        pub held-fits : out + n ≤ waitRoom
+        held-fits = omega (arith, held-noted .0, g .short, g .few, enough .few)
 
-      pub goes-held-end : (room : waitRoom ≤ length e₀) {reply : Reply} → reply ≡ telling (event.Refused SetHeld) → {n : ℕ} {f : List ℕ}
-          → Stored e out (logBytes (eventsTold reply)) n f → RoundsSettle S x most L₀ e₀ record { waiting = wait.Held; written = out + n } f L
-      goes-held-end room {reply} is {n} {f} s = record {
-        on = λ t₀ i.
-            let l = g .leads t₀ i in
-            let zero : most - round ≡ 0 = omega arith in
-            let all : outcomeRounds (steps S x) most t₀ ≡ record { turn = record { events = l .events; left = l .tables }; offers = l .offers } =
-            l .rest ∙ rw (zero, rounds-none S x (l .tables), append-nil, append-nil) in
-            let two : length (logBytes (event.Refused SetHeld ∷ [])) ≡ 2 = held-length in
-            let (more, slice) = held-stored room is s in
-            let size = g .size in
-            let h = g .short in
-            let few = enough .few in
-            let laid : Noted e₀ 0 (l .events ++ (event.Refused SetHeld ∷ [])) (out + n) f =
-            noted-then (l .events) (event.Refused SetHeld ∷ []) (l .bytes) record { next = omega arith; slice = slice; fits = (tt, tt) } in
-            let (count, events, back) = noted-written (l .events ++ (event.Refused SetHeld ∷ [])) e₀ laid (omega arith) in
-            rw (all, last-held t₀ i) record { waiting = refl; written = count; events = events; reads = back; left = l .are .encoded };
-      }
+        pub goes-held-end : RoundsSettle S x most L₀ e₀ record { waiting = wait.Held; written = out + n } f L
+        goes-held-end = record {
+          on = λ t₀ i.
+              let l = g .leads t₀ i in
+              let laid = noted-then (l .events) (event.Refused SetHeld ∷ []) (l .bytes) (held-noted .1) in
+              let (count, events, back) = noted-written (l .events ++ (event.Refused SetHeld ∷ [])) e₀ laid (let h = held-fits in omega arith) in
+              rw (all-run t₀ i, last-held t₀ i) record { waiting = refl; written = count; events = events; reads = back; left = l .are .encoded };
+        }

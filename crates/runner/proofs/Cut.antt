@@ -71,16 +71,12 @@ module _ (S : Settings) (room before behind : ℕ) (a b : List ℕ) (L : Lent) w
       let is = kept-is S L small z in
       let p = resume-goes S before a L z in
       let q = resume-goes S room (a ++ b) L z in
-      let o = runFrom S 0 before a t in
-      let same : bytesThen (resume S before a L .consumed) (resume S before a L .events) (resume S behind b (resume S before a L .tables))
-      ≡ bytesThen (o .consumed) (o .events) (resume S behind b (encode S (o .tables))) =
-      ap (λ (x : Result Lent). bytesThen (x .consumed) (x .events) (resume S behind b (x .tables))) p in
-      q
+      rw p
+      (q
       ∙ cut S (is .range) t room before behind a b (run-from-keeps-sound S (is .range) 0 before a t bs (is .soundly))
       (ap (λ (x : Result Lent). goesOn (x .stop)) (sym p) ∙ e)
       (λ f. g (ap (λ (x : Result Lent). resume S behind b (x .tables) .stop) p ∙ f))
-      (λ f. h (ap (λ (x : Result Lent). x .stop) q ∙ f))
-      ∙ sym same
+      (λ f. h (ap (λ (x : Result Lent). x .stop) q ∙ f)))
 
 -- ---- a run, and a part that goes on
 
@@ -100,23 +96,18 @@ module _ (room before behind k : ℕ) (a b : List ℕ) (L : Lent) where
       let more : n ≤ length (a ++ b) = rw length-append (omega arith) in
       let o = runFrom S 0 before (drop n a) (start S) in
       let skipped = run-skips S n before a (start S) w in
-      let p : run before (k ∷ a) L ≡ bytesThen (1 + n) [] (lentResult S o) =
-      run-accepts before L k a z ∙ ap (λ (x : Result Tables). bytesThen (1 + n) [] (lentResult S x)) skipped in
+      let p : run before (k ∷ a) L ≡ bytesThen (1 + n) [] (lentResult S o) = rw (run-accepts before L k a z, skipped) in
       let q : run room (k ∷ (a ++ b)) L ≡ bytesThen (1 + n) [] (lentResult S (runFrom S 0 room (drop n a ++ b) (start S))) =
       run-accepts room L k (a ++ b) (rw (first-more L k a b w) z)
       ∙ ap (λ (S : Settings). bytesThen (1 + n) [] (lentResult S (runFrom S n room (a ++ b) (start S)))) (settings-more k a b w)
-      ∙ ap (λ (x : Result Tables). bytesThen (1 + n) [] (lentResult S x)) (run-skips S n room (a ++ b) (start S) more ∙ ap (λ (s : List ℕ). runFrom S 0 room s (start S)) (drop-append-le n a b w)) in
+      ∙ rw (run-skips S n room (a ++ b) (start S) more, drop-append-le n a b w) in
       let ok : sound S (o .tables) ≡ true =
       ap (λ (x : Result Tables). sound S (x .tables)) (sym skipped) ∙ run-from-keeps-sound S (st .range) n before a (start S) bs (start-sound S) in
       let c = cut S (st .range) (start S) room before behind (drop n a) b ok
       (ap (λ (x : Result Lent). goesOn (x .stop)) (sym p) ∙ e)
       (λ f. g (ap (λ (x : Result Lent). resume S behind b (x .tables) .stop) p ∙ f))
       (λ f. h (ap (λ (x : Result Lent). x .stop) q ∙ f)) in
-      let r = resume S behind b (encode S (o .tables)) in
-      let same : bytesThen (run before (k ∷ a) L .consumed) (run before (k ∷ a) L .events) (resume S behind b (run before (k ∷ a) L .tables))
-      ≡ bytesThen ((1 + n) + o .consumed) (o .events) r =
-      ap (λ (x : Result Lent). bytesThen (x .consumed) (x .events) (resume S behind b (x .tables))) p in
-      q ∙ ap (bytesThen (1 + n) []) c ∙ ahead-twice (1 + n) (o .consumed) (o .events) r ∙ sym same
+      rw p (q ∙ ap (bytesThen (1 + n) []) c ∙ ahead-twice (1 + n) (o .consumed) (o .events) (resume S behind b (encode S (o .tables))))
 
 -- ---- the same of what the callers hold: of a run on the first part, `resume` on the second with the slices that the first left, and one
 -- run on both, each with event bytes of its own

@@ -1,6 +1,5 @@
 -- The lengths that a first record asks for: how large they get, and that slices so long stop nothing.
-use mathlib.Core.Path.{_≡_, refl, sym, ap, _∙_}
-use mathlib.Core.Logic.{⊎-elim}
+use mathlib.Core.Path.{_≡_, refl, _∙_}
 use mathlib.Core.Bool.{Bool, true, false}
 use mathlib.Core.List.{List, [], _∷_}
 use Prim.Native.Nat.{ℕ, zero, suc, _≤_}
@@ -8,27 +7,27 @@ use native.Mathlib.Omega.{arith}
 use borrow.Author.Tests.{eq-eqb}
 use lib.ListN.{length}
 use lib.Dec.{ltb}
+use Rattle.words.specs.Words.{pick}
 use Rattle.model.specs.Range.{inRange}
 use Rattle.model.specs.Layout.{longsLength, wordsLength, marksLength}
 use Rattle.model.specs.Tables.{Tables}
 use Rattle.model.specs.Lent.{Lent}
-use Rattle.model.specs.Records.{isCommand, isSettings, lengthOf}
+use Rattle.model.specs.Records.{lengthOf}
 use Rattle.model.specs.RunnerOf as runner
 use Rattle.model.specs.Runner.{eventRoom, settingsStop, laterStop, goesOn, Result, runFrom}
 use Rattle.model.specs.declared.Settings.{Settings}
 use Rattle.model.specs.declared.Stop.{Stop}
 use Rattle.model.specs.declared.Stop.the-variants.{Nothing, SettingOutOfRange, SliceLength, NotSound, OutOfPlace, UnknownKind, CutShort, NoRoom}
-use Rattle.words.proofs.Flags.{clash, by-flag, flag}
+use Rattle.words.proofs.Flags.{clash, by-flag, pick-both}
 use Rattle.model.proofs.Fits.{ranged, sets-most}
 use Rattle.layout.proofs.OfRange.{tickets-most}
 use Rattle.running.specs.declared.Lengths.{Lengths}
-use Rattle.running.specs.declared.Begun.{Begun}
 use Rattle.running.specs.declared.Begun.the-variants.{Stopped}
 use Rattle.running.specs.declared.Opening.{Opening}
 use Rattle.running.specs.declared.Opening.the-variants as opening
 use Rattle.running.specs.Begin.{firstHead, firstRecord, begunOn, beginning}
-use Rattle.running.proofs.First.{first-begins}
-use Rattle.running.proofs.Running.{from-stops, from-goes}
+use Rattle.running.proofs.First.{begun-stopped, first-begins}
+use Rattle.running.proofs.Running.{by-record}
 use Rattle.running.specs.Lengths.{noLengths, lengthsOf, lengthsAsked, lengthsFor, Long, Final}
 
 -- ---- what the function answers
@@ -36,13 +35,9 @@ use Rattle.running.specs.Lengths.{noLengths, lengthsOf, lengthsAsked, le
 abbrev pub lengthsIn : Settings → Lengths
 lengthsIn S = record { longs = longsLength S; words = wordsLength S; marks = marksLength S }
 
-pub lengths-in : (S : Settings) → inRange S ≡ true → lengthsIn S ≡ lengthsOf S
+pub lengths-by : (S : Settings) {v : Bool} → inRange S ≡ v → pick v (lengthsIn S) noLengths ≡ lengthsOf S
 unfolding lengthsOf
-lengths-in S h = rw h
-
-pub lengths-out : (S : Settings) → inRange S ≡ false → noLengths ≡ lengthsOf S
-unfolding lengthsOf
-lengths-out S h = rw h
+lengths-by S h = rw h
 
 -- ---- how large they get: 1,024 lines, 64 entries of 8 readers, 64 places
 
@@ -90,11 +85,7 @@ settings-fit S L =
 
 -- what the head stops with
 head-fits : (k : ℕ) (rest : List ℕ) → Final (firstHead k rest)
-head-fits k rest =
-    by-flag Final (isCommand k) _ _
-    (λ a. by-flag Final (ltb (length rest) (lengthOf k)) _ _ (λ b. final refl)
-    (λ b. by-flag Final (isSettings k) _ _ (λ c. final refl) (λ c. final refl)))
-    (λ a. final refl)
+head-fits k rest = by-record Final k rest (λ c. final refl) (λ c w. final refl) (λ c w z. final refl) (λ c w z. final refl)
 
 record-fits : (s : List ℕ) (n : Stop) → firstRecord s ≡ opening.Stopped n → Final n
 unfolding firstRecord
@@ -107,11 +98,7 @@ record-fits (k ∷ bs) n q =
 
 begun-fits : (L : Lent) (x : Opening) (n : Stop) → ((m : Stop) → x ≡ opening.Stopped m → Final m) → Long L (lengthsAsked x) → begunOn L x ≡ Stopped n → Final n
 begun-fits L (opening.Stopped m) n h l q = let e : m ≡ n = cc in rw (← e) (h m refl)
-begun-fits L (opening.Holds S next) n h l q =
-    by-flag (λ (x : Begun). x ≡ Stopped n → Final n) (goesOn (settingsStop S L)) _ _
-    (λ z p. let y : _≡_ {A = ℕ} 0 1 = cc in absurd (omega arith))
-    (λ z p. let e : settingsStop S L ≡ n = cc in rw (← e) (settings-fit S L l))
-    q
+begun-fits L (opening.Holds S next) n h l q = let (z, e) = begun-stopped (goesOn (settingsStop S L)) S next q in rw (← e) (settings-fit S L l)
 
 -- where the lengths asked for are lent
 pub asked-stops : (L : Lent) (s : List ℕ) (n : Stop) → Long L (lengthsFor s) → beginning L s ≡ Stopped n → Final n
@@ -122,24 +109,18 @@ asked-stops L s n l q = begun-fits L (firstRecord s) n (record-fits s) l (first-
 later-fits : (room k : ℕ) (rest : List ℕ) → laterStop room k rest ≡ SliceLength → ⊥
 unfolding runner.laterStop
 later-fits room k rest =
-    by-flag Not (isCommand k) _ _
-    (λ a. by-flag Not (ltb (length rest) (lengthOf k)) _ _ (λ b. final {n = CutShort} refl .fitting)
-    (λ b. by-flag Not (isSettings k) _ _ (λ c. final {n = OutOfPlace} refl .fitting)
-    (λ c. by-flag Not (ltb room eventRoom) _ _ full (λ d. final {n = Nothing} refl .fitting))))
-    (λ a. final {n = UnknownKind} refl .fitting)
+    by-record Fits k rest (λ c. no refl) (λ c w. no refl) (λ c w z. no refl)
+    (λ c w z. pick-both Fits (ltb room eventRoom) (λ q. let y : _≡_ {A = ℕ} 0 1 = cc in omega arith) (no refl))
   where
-    Not : Stop → Type 0
-    Not n = n ≡ SliceLength → ⊥
+    Fits : Stop → Type 0
+    Fits n = n ≡ SliceLength → ⊥
 
-    full : {X : Type 0} → X → Not NoRoom
-    full d q = let y : _≡_ {A = ℕ} 0 1 = cc in omega arith
+    no : {n : Stop} → neither n ≡ true → Fits n
+    no h = final h .fitting
 
 pub run-fits : (S : Settings) (n room : ℕ) (s : List ℕ) (t : Tables) → runFrom S n room s t .stop ≡ SliceLength → ⊥
 unfolding runner.runFrom
-run-fits S n room [] t q = final {n = Nothing} refl .fitting q
-run-fits S (suc n) room (b ∷ s) t q = run-fits S n room s t q
-run-fits S zero room (k ∷ s) t q =
-    ⊎-elim
-    (λ z. run-fits S (lengthOf k) _ s _ (ap (λ (r : Result Tables). r .stop) (sym (from-goes S room k s t z)) ∙ q))
-    (λ z. later-fits room k s (ap (λ (r : Result Tables). r .stop) (sym (from-stops S room k s t z)) ∙ q))
-    (flag (goesOn (laterStop room k s)))
+run-fits S n room [] t = final {n = Nothing} refl .fitting
+run-fits S (suc n) room (b ∷ s) t = run-fits S n room s t
+run-fits S zero room (k ∷ s) t =
+    by-flag (λ (o : Result Tables). o .stop ≡ SliceLength → ⊥) (goesOn (laterStop room k s)) _ _ (λ z. run-fits S (lengthOf k) _ s _) (λ z. later-fits room k s)

@@ -1,11 +1,11 @@
 -- The checks at a record, by what reading it came to; its body and the place behind it.
-use mathlib.Core.Path.{_≡_, refl, sym, ap, _∙_}
+use mathlib.Core.Path.{_≡_, refl, sym, _∙_}
 use mathlib.Core.Logic.{⊎-elim}
 use mathlib.Core.Bool.{Bool, true, false, not, _&&_, _||_}
 use mathlib.Core.List.{List}
 use Prim.Native.Nat.{ℕ, _+_, _-_, _≤_, _<_}
 use native.Mathlib.Omega.{arith}
-use borrow.Author.Tests.{not-true, not-false, eqb-false, ne-eqb, lt-ltb, le-ltb, le-leb, ltb-true, ltb-false, leb-true}
+use borrow.Author.Tests.{not-true, not-false, eqb-false, ne-eqb, lt-ltb, le-ltb, le-leb, lt-leb, ltb-true, leb-true}
 use lib.Dec.{ltb, leb, eqb}
 use lib.ListN.{length, take, length-drop}
 use Rattle.words.specs.Words.{pick}
@@ -23,6 +23,7 @@ use Rattle.records.proofs.Lengths.{command-kinds, settings-kinds, body-short}
 use Rattle.records.proofs.Reading.{read-cut, read-whole}
 use Rattle.reader.specs.Taken.{behind}
 use Rattle.running.specs.Resume.{recordKindAt, restAt, isStep, headStop, foundStop, laterFound, RecordReady, UsualAt}
+use Rattle.running.proofs.Running.{by-record}
 
 -- ---- the tests that the code makes at a head
 
@@ -52,13 +53,9 @@ module _ (k : ℕ) (f : Record) (a b : Stop) {n : Stop} (d : n ≡ headStop k f)
   found-stopped h = rw (← d, h)
 
   module _ (goes : goesOn n ≡ true) {c : Bool} (settings : c ≡ isSettings k) where
-    pub found-settings : c ≡ true → a ≡ foundStop k f a b
+    pub found-asked : {v : Bool} → c ≡ v → pick v a b ≡ foundStop k f a b
     unfolding foundStop
-    found-settings h = rw (← d, goes, ← settings, h)
-
-    pub found-other : c ≡ false → b ≡ foundStop k f a b
-    unfolding foundStop
-    found-other h = rw (← d, goes, ← settings, h)
+    found-asked h = rw (← d, goes, ← settings, h)
 
 pub room-full : (room : ℕ) → room < eventRoom → NoRoom ≡ roomStop room
 room-full room h = rw (lt-ltb room eventRoom h)
@@ -86,8 +83,8 @@ no-step-kind k none =
     (λ n. n)
     (flag (isStep k))
 
-pub step-of : {k : ℕ} (j : ℕ) → k ≡ j → 1 ≤ j → j ≤ 5 → isStep k ≡ true
-step-of j e least most = rw e (step-kind j least most)
+pub step-of : {k : ℕ} (j : ℕ) → k ≡ j → (leb 1 j && leb j 5) ≡ true → isStep k ≡ true
+step-of j e test = rw e (step-kind j (leb-true 1 j (and-1 (leb 1 j) (leb j 5) test)) (leb-true j 5 (and-2 (leb 1 j) (leb j 5) test)))
 
 pub access-kind : (k : ℕ) → (leb 1 k && leb k 2) ≡ true → (isStep k ≡ true) × (k ≤ 2)
 access-kind k test =
@@ -108,68 +105,23 @@ step-short k step = body-short k (and-1 (isCommand k) (not (isSettings k)) step)
 
 -- ---- the head as the definitions have it: 14, then 15, then whatever is asked next
 
-abbrev headBy : Bool → Bool → Stop
-headBy known cut = pick known (pick cut CutShort Nothing) UnknownKind
-
-head-then : (known cut : Bool) (x : Stop) → pick (goesOn (headBy known cut)) x (headBy known cut) ≡ pick known (pick cut CutShort x) UnknownKind
-head-then true true x = refl
-head-then true false x = refl
-head-then false cut x = refl
-
-stop-known : (known cut : Bool) (x : Stop) → goesOn (pick known (pick cut CutShort x) UnknownKind) ≡ true → known ≡ true
-stop-known true cut x h = refl
-stop-known false cut x h = clash h refl
-
-stop-long : (known cut : Bool) (x : Stop) → goesOn (pick known (pick cut CutShort x) UnknownKind) ≡ true → cut ≡ false
-stop-long true true x h = clash h refl
-stop-long true false x h = refl
-stop-long false cut x h = clash h refl
-
-there-by : (known cut : Bool) → not (eqb (stopNumber (headBy known cut)) 15) ≡ (not known || not cut)
-there-by true true = refl
-there-by true false = refl
-there-by false cut = refl
-
-cut-head : (k : ℕ) → isCommand k ≡ true → headStop k (Stopped CutShort) ≡ CutShort
-unfolding headStop
-cut-head k c = rw c
-
-whole-head : (k kind start n next : ℕ) → isCommand k ≡ true → headStop k (Whole kind start n next) ≡ Nothing
-unfolding headStop
-whole-head k kind start n next c = rw c
-
 module _ (s : List ℕ) (at : ℕ) (inside : at < length s) where
   abbrev k : ℕ
   k = recordKindAt s at
 
-  -- whether its body is cut short
-  abbrev cut : Bool
-  cut = ltb (length (restAt s at)) (lengthOf k)
-
   left : length (restAt s at) ≡ length s - (at + 1)
   left = length-drop (at + 1) s
 
-  whole-read : isCommand k ≡ true → cut ≡ false → readAt s at ≡ Whole k (at + 1) (lengthOf k) (at + 1 + lengthOf k)
-  whole-read c w =
-      let m = body-short k c in
-      let l = left in
-      let g = ltb-false (length (restAt s at)) (lengthOf k) w in
-      sym (read-whole s at (lengthOf k) inside refl (λ q. omega arith) (omega arith))
+  read-as : isCommand k ≡ true → lengthOf k ≤ length (restAt s at) → readAt s at ≡ Whole k (at + 1) (lengthOf k) (at + 1 + lengthOf k)
+  read-as c w = let m = body-short k c in let l = left in sym (read-whole s at (lengthOf k) inside refl (λ q. omega arith) (omega arith))
 
-  head-read : headStop k (readAt s at) ≡ headBy (isCommand k) cut
-  head-read =
-      ⊎-elim
-      (λ c.
-      let m = body-short k c in
-      let l = left in
-      ⊎-elim
-      (λ w.
-      let g = ltb-true (length (restAt s at)) (lengthOf k) w in
-      ap (headStop k) (sym (read-cut s at (lengthOf k) inside refl (λ q. omega arith) (omega arith))) ∙ cut-head k c ∙ (rw (c, w)))
-      (λ w. ap (headStop k) (whole-read c w) ∙ whole-head k k (at + 1) (lengthOf k) (at + 1 + lengthOf k) c ∙ (rw (c, w)))
-      (flag cut))
-      (λ c. no-command k (readAt s at) c ∙ (rw c))
-      (flag (isCommand k))
+  whole-head : isCommand k ≡ true → lengthOf k ≤ length (restAt s at) → headStop k (readAt s at) ≡ Nothing
+  unfolding headStop
+  whole-head c w = rw (read-as c w, c)
+
+  cut-head : isCommand k ≡ true → length (restAt s at) < lengthOf k → headStop k (readAt s at) ≡ CutShort
+  unfolding headStop
+  cut-head c w = let m = body-short k c in let l = left in rw (← read-cut s at (lengthOf k) inside refl (λ q. omega arith) (omega arith), c)
 
   -- a step's record that is whole and has room goes on
   pub usual-goes : (room : ℕ) → isStep k ≡ true → at + 1 + lengthOf k ≤ length s → eventRoom ≤ room → goesOn (laterStop room k (restAt s at)) ≡ true
@@ -181,19 +133,20 @@ module _ (s : List ℕ) (at : ℕ) (inside : at < length s) where
       rw (c, le-ltb (length (restAt s at)) (lengthOf k) (omega arith), z, le-ltb room eventRoom roomy)
 
   module _ {f : Record} (read : f ≡ readAt s at) where
-    head-is : {n : Stop} → n ≡ headStop k f → n ≡ headBy (isCommand k) cut
-    head-is d = d ∙ ap (headStop k) read ∙ head-read
-
     -- it is all there, or no command's: it is not cut short
-    pub head-there : {n : Stop} {m : ℕ} → n ≡ headStop k f → m ≡ stopNumber n → not (eqb m 15) ≡ (not (isCommand k) || not cut)
-    head-there d e = rw (e, head-is d) (there-by (isCommand k) cut)
+    pub head-there : {n : Stop} {m : ℕ} → n ≡ headStop k f → m ≡ stopNumber n → not (eqb m 15) ≡ (not (isCommand k) || leb (lengthOf k) (length (restAt s at)))
+    head-there d e =
+        rw (e, d, read)
+        (by-record (λ n. not (eqb (stopNumber (headStop k (readAt s at))) 15) ≡ (not (isCommand k) || leb (lengthOf k) (length (restAt s at)))) k (restAt s at) {a = Nothing} {b = Nothing}
+        (λ c. rw (no-command k (readAt s at) c, c)) (λ c w. rw (cut-head c w, c, lt-leb _ _ w)) (λ c w z. rw (whole-head c w, c, le-leb _ _ w)) (λ c w z. rw (whole-head c w, c, le-leb _ _ w)))
 
     -- the checks as the definitions have them
     pub found-record : (a b : Stop) {n : Stop} → n ≡ foundStop k f a b → n ≡ recordStop k (restAt s at) a b
     unfolding foundStop
     found-record a b d =
-        let x = pick (isSettings k) a b in
-        d ∙ ap (λ (h : Stop). pick (goesOn h) x h) (head-is refl) ∙ head-then (isCommand k) cut x
+        rw (d, read)
+        (by-record (λ n. foundStop k (readAt s at) a b ≡ n) k (restAt s at) (λ c. rw (no-command k (readAt s at) c)) (λ c w. rw (cut-head c w))
+        (λ c w z. rw (whole-head c w, z)) (λ c w z. rw (whole-head c w, z)))
 
     pub found-later : (room : ℕ) {n : Stop} → n ≡ laterFound room k f → n ≡ laterStop room k (restAt s at)
     unfolding runner.laterStop
@@ -203,8 +156,9 @@ module _ (s : List ℕ) (at : ℕ) (inside : at < length s) where
     module _ (a b : Stop) {n : Stop} (d : n ≡ foundStop k f a b) (goes : goesOn n ≡ true) where
       found-whole : readAt s at ≡ Whole k (at + 1) (lengthOf k) (at + 1 + lengthOf k)
       found-whole =
-          let z : goesOn (recordStop k (restAt s at) a b) ≡ true = rw (← found-record a b d) goes in
-          whole-read (stop-known (isCommand k) cut _ z) (stop-long (isCommand k) cut _ z)
+          let g : goesOn (recordStop k (restAt s at) a b) ≡ true = rw (← found-record a b d) goes in
+          by-record (λ n. goesOn n ≡ true → readAt s at ≡ Whole k (at + 1) (lengthOf k) (at + 1 + lengthOf k)) k (restAt s at) (λ c h. clash h refl) (λ c w h. clash h refl)
+          (λ c w z h. read-as c w) (λ c w z h. read-as c w) g
 
       pub found-next : {c : ℕ} → c ≡ behind s at → c ≡ at + 1 + lengthOf k
       unfolding behind

@@ -1,12 +1,11 @@
 -- How many queue places and miss entries are in use after a step, by what it told.
 use mathlib.Core.Path.{_≡_, refl, sym, ap, subst, _∙_}
-use mathlib.Core.Logic.{_⊎_, inl, inr}
+use mathlib.Core.Logic.{_⊎_, inl, inr, ⊎-elim}
 use mathlib.Core.Bool.{Bool, true, false, not, _&&_}
 use mathlib.Core.List.{List, [], _∷_, _++_, map}
 use Prim.Native.Nat.{ℕ, zero, suc, _+_, _-_, _≤_, _<_}
 use native.Mathlib.Nat.{add-zero}
 use native.Mathlib.Omega.{arith}
-use native.Mathlib.Decide.{decLe}
 use types.Run.{OneOf, miss}
 use denote.Enum.Declared.{tagOf}
 use lib.Dec.{eqb, ltb}
@@ -34,7 +33,8 @@ use Rattle.model.specs.declared.Queued.{Queued}
 use Rattle.model.specs.declared.Reply.{Reply}
 use Rattle.model.proofs.SendFillKeepSound.{marked-length}
 use Rattle.model.proofs.Event.{the-type}
-use Rattle.words.proofs.Flags.{and-1, by-flag, clash}
+use Rattle.words.proofs.Flags.{and-1, by-flag, clash, flag}
+use Rattle.words.proofs.Below.{lt-or-ge, last-or-below}
 use Rattle.words.proofs.Lists.{any-in}
 use Rattle.model.proofs.SoundFacts.{Sound, parts, entry-at}
 use Rattle.model.proofs.Soundness.{access-keeps-sound, send-keeps-sound, fill-keeps-sound}
@@ -47,33 +47,32 @@ use Rattle.layout.specs.declared.Layout.{Layout}
 use Rattle.running.specs.declared.record.Went.{Went}
 use Rattle.layout.specs.Layout.{LaysOut}
 use Rattle.layout.specs.Places.{First}
-use Rattle.access.proofs.Plans.{queue-counted, misses-counted}
+use Rattle.tables.proofs.Queue.{queue-counted}
+use Rattle.tables.proofs.Misses.{misses-counted}
 use Rattle.running.specs.Resume.{UsedInMarks, entriesLeft}
 
 -- ---- a search always finds a place
 
 first-there : (l : List ℕ) (from n x : ℕ) → (r : ℕ) × First l from n x r
 first-there l from zero x = (0, record { most = omega arith; before = λ k h e. absurd (omega arith); there = λ h. absurd (omega arith) })
-first-there l from (suc n) x = go (first-there l from n x)
-  where
-    further : First l from n x n → (b : Bool) → eqb (getD l (from + n) 0) x ≡ b → (r : ℕ) × First l from (suc n) x r
-    further f true e = (n, record { most = omega arith; before = f .before; there = λ h. eqb-true (getD l (from + n) 0) x e })
-    further f false e = (suc n, record { most = omega arith; before = λ k h q. none k (decLe (suc k) n) h q; there = λ h. absurd (omega arith) })
-      where
-        none : (k : ℕ) → Dec (suc k ≤ n) → k < suc n → getD l (from + k) 0 ≡ x → ⊥
-        none k (yes below) h q = f .before k below q
-        none k (no past) h q =
-            let last : k ≡ n = omega arith in
-            eqb-false (getD l (from + n) 0) x e (rw last at q)
-
-    go : (r : ℕ) × First l from n x r → (r : ℕ) × First l from (suc n) x r
-    go (r, f) = by (decLe (suc r) n)
-      where
-        by : Dec (suc r ≤ n) → (r : ℕ) × First l from (suc n) x r
-        by (yes below) = (r, record { most = omega arith; before = f .before; there = λ h. f .there below })
-        by (no past) =
-            let last : r ≡ n = omega (arith, f .most) in
-            further (subst (λ (i : ℕ). First l from n x i) last f) (eqb (getD l (from + n) 0) x) refl
+first-there l from (suc n) x =
+    let (r, f) = first-there l from n x in
+    ⊎-elim
+    (λ (below : r < n). (r, record { most = omega arith; before = f .before; there = λ h. f .there below }))
+    (λ (past : n ≤ r).
+    let last : r ≡ n = omega (arith, f .most) in
+    ⊎-elim
+    (λ (e : eqb (getD l (from + n) 0) x ≡ true). (r, record { most = omega (arith, f .most); before = f .before; there = λ h. rw last (eqb-true _ _ e) }))
+    (λ (e : eqb (getD l (from + n) 0) x ≡ false). (
+      suc n,
+      record {
+        most = omega arith;
+        before = λ k h q. ⊎-elim (λ (z : k ≡ n). eqb-false _ _ e (rw z at q)) (λ (below : k < n). f .before k (omega arith) q) (last-or-below n k h);
+        there = λ h. absurd (omega arith);
+      },
+    ))
+    (flag (eqb (getD l (from + n) 0) x)))
+    (lt-or-ge r n)
 
 -- ---- what is counted is what the tables have
 

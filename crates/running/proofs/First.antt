@@ -6,15 +6,14 @@ use mathlib.Core.List.{List, [], _∷_}
 use Prim.Native.Nat.{ℕ, suc, _+_, _-_, _≤_, _<_}
 use native.Mathlib.Nat.{sub-zero}
 use native.Mathlib.Omega.{arith}
-use borrow.Author.Tests.{eq-eqb, ne-eqb, ltb-false}
-use lib.Dec.{ltb}
+use borrow.Author.Tests.{eq-eqb, ne-eqb, lt-ltb, le-ltb}
 use lib.ListN.{length, drop, length-drop}
 use Rattle.words.specs.Words.{pick}
 use Rattle.model.specs.Numbers.{refusalNumber}
 use Rattle.model.specs.Range.{inRange}
-use Rattle.model.specs.Tables.{Tables, start, after}
+use Rattle.model.specs.Tables.{start, after}
 use Rattle.model.specs.Lent.{Lent, lengthsFit}
-use Rattle.model.specs.Records.{isCommand, isSettings, lengthOf, settingsIn, readAt, bodyAt}
+use Rattle.model.specs.Records.{isSettings, lengthOf, settingsIn, readAt, bodyAt}
 use Rattle.model.specs.RunnerOf as runner
 use Rattle.model.specs.Runner.{settingsOf, settingsStop, firstStop, goesOn, Result, halt, bytesThen, runFrom, lentResult, run, Runs}
 use Rattle.model.specs.Calls.{freshCall, verdictOf}
@@ -25,7 +24,7 @@ use Rattle.model.specs.declared.Refusal.{Refusal}
 use Rattle.model.specs.declared.Verdict.{Verdict}
 use Rattle.model.specs.declared.Verdict.the-variants as verdict
 use Rattle.model.specs.declared.Stop.{Stop}
-use Rattle.model.specs.declared.Stop.the-variants.{Nothing, SettingOutOfRange, SliceLength, OutOfPlace, UnknownKind, CutShort}
+use Rattle.model.specs.declared.Stop.the-variants.{Nothing, SettingOutOfRange, SliceLength, OutOfPlace}
 use Rattle.model.specs.declared.Ran.{Ran}
 use Rattle.words.proofs.Flags.{clash, by-flag, flag}
 use Rattle.model.proofs.Soundness.{start-sound}
@@ -37,22 +36,18 @@ use Rattle.running.specs.declared.Begun.{Begun}
 use Rattle.running.specs.declared.Begun.the-variants.{Accepted, Stopped}
 use Rattle.running.specs.Resume.{recordKindAt, restAt, foundStop, restFrom, RunAt, Resumes}
 use Rattle.running.specs.Begin.{firstHead, firstRecord, begunOn, beginning, begunTables, Begins, Accepts, freshStop}
-use Rattle.running.proofs.Running.{run-skips}
+use Rattle.running.proofs.Running.{by-record, run-skips}
 use Rattle.running.proofs.Checks.{found-record, found-next, found-body}
 
 -- ---- what it holds, by the tests that the code makes
 
-record-stops : (s : List ℕ) → (length s ≡ 0 → ⊥) → goesOn (firstHead (recordKindAt s 0) (restAt s 0)) ≡ false
-    → opening.Stopped (firstHead (recordKindAt s 0) (restAt s 0)) ≡ firstRecord s
+record-is : (s : List ℕ) → (length s ≡ 0 → ⊥)
+    → firstRecord s
+    ≡ pick (goesOn (firstHead (recordKindAt s 0) (restAt s 0))) (opening.Holds (settingsOf (recordKindAt s 0) (restAt s 0)) (1 + lengthOf (recordKindAt s 0)))
+    (opening.Stopped (firstHead (recordKindAt s 0) (restAt s 0)))
 unfolding firstRecord
-record-stops [] some z = absurd (some refl)
-record-stops (k ∷ bs) some z = rw z
-
-record-goes : (s : List ℕ) → (length s ≡ 0 → ⊥) → goesOn (firstHead (recordKindAt s 0) (restAt s 0)) ≡ true
-    → opening.Holds (settingsOf (recordKindAt s 0) (restAt s 0)) (1 + lengthOf (recordKindAt s 0)) ≡ firstRecord s
-unfolding firstRecord
-record-goes [] some z = absurd (some refl)
-record-goes (k ∷ bs) some z = rw z
+record-is [] some = absurd (some refl)
+record-is (k ∷ bs) some = refl
 
 pub first-none : (s : List ℕ) → length s ≡ 0 → opening.Stopped Nothing ≡ firstRecord s
 unfolding firstRecord
@@ -67,29 +62,23 @@ module _ (s : List ℕ) (some : length s ≡ 0 → ⊥) {f : Record} (read : f �
   head-is = found-record s 0 inside read Nothing OutOfPlace d
 
   pub first-stopped : goesOn n ≡ false → opening.Stopped n ≡ firstRecord s
-  first-stopped h = ap opening.Stopped head-is ∙ record-stops s some (rw (← head-is) h)
+  first-stopped h = rw (record-is s some, ← head-is, h)
 
   pub first-holds : goesOn n ≡ true → {S : Settings} → S ≡ settingsIn (bodyAt s 0) → {c : ℕ} → c ≡ behind s 0 → opening.Holds S c ≡ firstRecord s
   first-holds h {S} e {c} q =
       let b : S ≡ settingsOf (recordKindAt s 0) (restAt s 0) = e ∙ ap settingsIn (found-body s 0 inside read Nothing OutOfPlace d h) in
       let a : c ≡ 1 + lengthOf (recordKindAt s 0) = found-next s 0 inside read Nothing OutOfPlace d h q in
-      rw (b, a) (record-goes s some (rw (← head-is) h))
+      rw (b, a, record-is s some, ← head-is, h)
 
 -- ---- what it comes to
 
 -- of settings, by the call that makes the tables fresh
-fresh-stops : (S : Settings) (L : Lent) → freshStop (verdictOf (freshCall S L)) ≡ settingsStop S L
-fresh-stops S L =
+fresh-comes : (S : Settings) (L : Lent) (next : ℕ)
+    → (freshStop (verdictOf (freshCall S L)) ≡ settingsStop S L) × (after L (freshCall S L) ≡ begunTables L (begunOn L (opening.Holds S next)))
+fresh-comes S L next =
     ⊎-elim
-    (λ (r : inRange S ≡ true). ⊎-elim (λ (f : lengthsFit S L ≡ true). rw (r, f)) (λ (f : lengthsFit S L ≡ false). rw (r, f)) (flag (lengthsFit S L)))
-    (λ (r : inRange S ≡ false). rw r)
-    (flag (inRange S))
-
-fresh-leaves : (S : Settings) (L : Lent) (next : ℕ) → after L (freshCall S L) ≡ begunTables L (begunOn L (opening.Holds S next))
-fresh-leaves S L next =
-    ⊎-elim
-    (λ (r : inRange S ≡ true). ⊎-elim (λ (f : lengthsFit S L ≡ true). rw (r, f)) (λ (f : lengthsFit S L ≡ false). rw (r, f)) (flag (lengthsFit S L)))
-    (λ (r : inRange S ≡ false). rw r)
+    (λ (r : inRange S ≡ true). ⊎-elim (λ (f : lengthsFit S L ≡ true). rw (r, f) (refl, refl)) (λ (f : lengthsFit S L ≡ false). rw (r, f) (refl, refl)) (flag (lengthsFit S L)))
+    (λ (r : inRange S ≡ false). rw r (refl, refl))
     (flag (inRange S))
 
 module _ {v : Verdict} {n : Refusal} (q : v ≡ verdict.Refused n) {m : ℕ} (e : m ≡ refusalNumber n) where
@@ -101,13 +90,10 @@ module _ {v : Verdict} {n : Refusal} (q : v ≡ verdict.Refused n) {m : ℕ} (e 
 
 module _ (S : Settings) (next : ℕ) (L : Lent) {v : Verdict} {M : Lent} (made : LeavesVerdict (freshCall S L) L v M) {n : Stop} (d : n ≡ freshStop v) where
   judged : n ≡ settingsStop S L
-  judged = d ∙ ap freshStop (made .says) ∙ fresh-stops S L
+  judged = d ∙ ap freshStop (made .says) ∙ fresh-comes S L next .0
 
-  pub accept-stops : goesOn n ≡ false → Accepts L (opening.Holds S next) (Stopped n) M
-  accept-stops h = record { says = rw (← judged, h); tables = made .left ∙ fresh-leaves S L next }
-
-  pub accept-goes : goesOn n ≡ true → Accepts L (opening.Holds S next) (Accepted S next) M
-  accept-goes h = record { says = rw (← judged, h); tables = made .left ∙ fresh-leaves S L next }
+  pub accept-by : {v : Bool} → goesOn n ≡ v → Accepts L (opening.Holds S next) (pick v (Accepted S next) (Stopped n)) M
+  accept-by h = record { says = rw (← judged, h); tables = made .left ∙ fresh-comes S L next .1 }
 
 pub accepts-stopped : (L : Lent) {x : Opening} {n : Stop} → x ≡ opening.Stopped n → Accepts L x (Stopped n) L
 accepts-stopped L q = rw q record { says = refl; tables = refl }
@@ -116,21 +102,12 @@ pub accepts-held : {L : Lent} {x : Opening} {S : Settings} {next : ℕ} {r : Beg
 accepts-held q a = rw q a
 
 -- of a stream: 1 and 2 behind the other checks
-abbrev firstHeadBy : Bool → Bool → Bool → Stop → Stop
-firstHeadBy known cut settings x = pick known (pick cut CutShort (pick settings x OutOfPlace)) UnknownKind
-
-begun-by : (L : Lent) (S : Settings) (next : ℕ) (known cut settings : Bool)
-    → begunOn L (pick (goesOn (firstHeadBy known cut settings Nothing)) (opening.Holds S next) (opening.Stopped (firstHeadBy known cut settings Nothing)))
-    ≡ pick (goesOn (firstHeadBy known cut settings (settingsStop S L))) (Accepted S next) (Stopped (firstHeadBy known cut settings (settingsStop S L)))
-begun-by L S next false cut settings = refl
-begun-by L S next true true settings = refl
-begun-by L S next true false false = refl
-begun-by L S next true false true = refl
-
 pub first-begins : (L : Lent) (s : List ℕ) → begunOn L (firstRecord s) ≡ beginning L s
 unfolding firstRecord beginning runner.firstStop
 first-begins L [] = refl
-first-begins L (k ∷ bs) = begun-by L (settingsOf k bs) (1 + lengthOf k) (isCommand k) (ltb (length bs) (lengthOf k)) (isSettings k)
+first-begins L (k ∷ bs) =
+    by-record (λ n. begunOn L (firstRecord (k ∷ bs)) ≡ beginning L (k ∷ bs)) k bs {a = Nothing} {b = Nothing} (λ c. rw c) (λ c w. rw (c, lt-ltb _ _ w))
+    (λ c w z. rw (c, le-ltb _ _ w, z)) (λ c w z. rw (c, le-ltb _ _ w, z))
 
 pub accepts-begins : {L : Lent} (s : List ℕ) {x : Opening} → x ≡ firstRecord s → {r : Begun} {M : Lent} → Accepts L x r M → Begins L s r M
 accepts-begins {L} s {x} e a =
@@ -148,16 +125,11 @@ pub record FirstSettled (L : Lent) (k : ℕ) (rest : List ℕ) : Type 0 where
 pub first-settled : (L : Lent) (k : ℕ) (rest : List ℕ) → goesOn (firstStop L k rest) ≡ true → FirstSettled L k rest
 unfolding runner.firstStop
 first-settled L k rest =
-    by-flag Goes (isCommand k) _ _
-    (λ a. by-flag Goes (ltb (length rest) (lengthOf k)) _ _ (λ b h. clash h refl)
-    (λ b. by-flag Goes (isSettings k) _ _
-    (λ c. by-flag Goes (inRange (settingsOf k rest)) _ _
-    (λ d. by-flag Goes (lengthsFit (settingsOf k rest) L) _ _
-    (λ e h. record { settings = c; whole = ltb-false (length rest) (lengthOf k) b; range = d; fits = e })
-    (λ e h. clash h refl))
-    (λ d h. clash h refl))
-    (λ c h. clash h refl)))
-    (λ a h. clash h refl)
+    by-record Goes k rest (λ z h. clash h refl) (λ c w h. clash h refl)
+    (λ c w z. by-flag Goes (inRange (settingsOf k rest)) _ _
+    (λ r. by-flag Goes (lengthsFit (settingsOf k rest) L) _ _ (λ f h. record { settings = z; whole = w; range = r; fits = f }) (λ f h. clash h refl))
+    (λ r h. clash h refl))
+    (λ c w z h. clash h refl)
   where
     Goes : Stop → Type 0
     Goes n = goesOn n ≡ true → FirstSettled L k rest
@@ -165,14 +137,18 @@ first-settled L k rest =
 -- ---- the first record by itself, and the run behind it, as equations
 
 -- what was stopped, and what was accepted
+pub begun-stopped : (b : Bool) (S : Settings) (next : ℕ) {m n : Stop} → pick b (Accepted S next) (Stopped m) ≡ Stopped n → (b ≡ false) × (m ≡ n)
+begun-stopped true S next q = let e : _≡_ {A = ℕ} 0 1 = cc in absurd (omega arith)
+begun-stopped false S next q = (refl, cc)
+
+pub begun-accepted : (b : Bool) (m : Stop) {S T : Settings} {next n : ℕ} → pick b (Accepted S next) (Stopped m) ≡ Accepted T n → (b ≡ true) × (S ≡ T) × (next ≡ n)
+begun-accepted true m q = (refl, cc, cc)
+begun-accepted false m q = let e : _≡_ {A = ℕ} 0 1 = cc in absurd (omega arith)
+
 pub run-halts : (room : ℕ) (L : Lent) (s : List ℕ) (n : Stop) → beginning L s ≡ Stopped n → run room s L ≡ halt n L
 unfolding beginning runner.run
 run-halts room L [] n q = let e : Nothing ≡ n = cc in rw e
-run-halts room L (k ∷ bs) n h =
-    by-flag (λ (x : Begun). x ≡ Stopped n → run room (k ∷ bs) L ≡ halt n L) (goesOn (firstStop L k bs)) _ _
-    (λ z q. let e : _≡_ {A = ℕ} 0 1 = cc in absurd (omega arith))
-    (λ z q. let e : firstStop L k bs ≡ n = cc in rw (z, e))
-    h
+run-halts room L (k ∷ bs) n q = let (z, e) = begun-stopped (goesOn (firstStop L k bs)) _ _ q in rw (z, e)
 
 record Taken (L : Lent) (s : List ℕ) (S : Settings) (n : ℕ) : Type 0 where
   some : length s ≡ 0 → ⊥
@@ -183,11 +159,7 @@ record Taken (L : Lent) (s : List ℕ) (S : Settings) (n : ℕ) : Type 0 where
 taken : (L : Lent) (s : List ℕ) (S : Settings) (n : ℕ) → beginning L s ≡ Accepted S n → Taken L s S n
 unfolding beginning
 taken L [] S n q = let e : _≡_ {A = ℕ} 0 1 = cc in absurd (omega arith)
-taken L (k ∷ bs) S n h =
-    by-flag (λ (x : Begun). x ≡ Accepted S n → Taken L (k ∷ bs) S n) (goesOn (firstStop L k bs)) _ _
-    (λ z q. let e : settingsOf k bs ≡ S = cc in let c : 1 + lengthOf k ≡ n = cc in record { some = λ h. omega arith; goes = z; are = e; next = c })
-    (λ z q. let e : _≡_ {A = ℕ} 0 1 = cc in absurd (omega arith))
-    h
+taken L (k ∷ bs) S n q = let (z, e, c) = begun-accepted (goesOn (firstStop L k bs)) _ q in record { some = λ h. omega arith; goes = z; are = e; next = c }
 
 pub run-accepts : (room : ℕ) (L : Lent) (k : ℕ) (bs : List ℕ) → goesOn (firstStop L k bs) ≡ true
     → run room (k ∷ bs) L
@@ -199,19 +171,12 @@ run-accepts room L k bs z = rw z
 abbrev pub onFrom : Settings → ℕ → ℕ → List ℕ → Result Lent
 onFrom S n room s = bytesThen n [] (lentResult S (runFrom S 0 room (drop n s) (start S)))
 
-drop-more : (m n : ℕ) (k : ℕ) (bs : List ℕ) → 1 + m ≡ n → drop m bs ≡ drop n (k ∷ bs)
-drop-more m n k bs q = let e : n ≡ suc m = omega arith in rw e
-
 run-goes : (room : ℕ) (L : Lent) (s : List ℕ) (S : Settings) (n : ℕ) → Taken L s S n → run room s L ≡ onFrom S n room s
 run-goes room L [] S n t = absurd (t .some refl)
 run-goes room L (k ∷ bs) S n t =
-    let g = first-settled L k bs (t .goes) in
-    let T = settingsOf k bs in
-    run-accepts room L k bs (t .goes)
-    ∙ ap (λ (o : Result Tables). bytesThen (1 + lengthOf k) [] (lentResult T o)) (run-skips T (lengthOf k) room bs (start T) (g .whole))
-    ∙ ap (λ (l : List ℕ). bytesThen (1 + lengthOf k) [] (lentResult T (runFrom T 0 room l (start T)))) (drop-more (lengthOf k) n k bs (t .next))
-    ∙ ap (λ (m : ℕ). bytesThen m [] (lentResult T (runFrom T 0 room (drop n (k ∷ bs)) (start T)))) (t .next)
-    ∙ ap (λ (S : Settings). onFrom S n room (k ∷ bs)) (t .are)
+    let e : n ≡ suc (lengthOf k) = omega (arith, t .next) in
+    let d : drop n (k ∷ bs) ≡ drop (lengthOf k) bs = rw e in
+    rw (run-accepts room L k bs (t .goes), run-skips _ _ room bs _ (first-settled L k bs (t .goes) .whole), ← t .are, t .next, d)
 
 pub accepted-runs : (L : Lent) (s : List ℕ) {S : Settings} {n : ℕ} (room : ℕ) → beginning L s ≡ Accepted S n → run room s L ≡ onFrom S n room s
 accepted-runs L s {S} {n} room q = run-goes room L s S n (taken L s S n q)

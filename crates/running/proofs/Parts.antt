@@ -1,15 +1,15 @@
 -- A run in two parts, cut between two records or anywhere; the event room decides nothing but stop 16; the first record of a front part.
 use mathlib.Core.Path.{_≡_, refl, sym, ap, _∙_}
 use mathlib.Core.Logic.{⊎-elim}
-use mathlib.Core.Bool.{Bool, true, false, not}
+use mathlib.Core.Bool.{true, false, not}
 use mathlib.Core.List.{List, [], _∷_, _++_, append-assoc}
 use Prim.Native.Nat.{ℕ, zero, suc, _+_, _-_, _≤_}
 use native.Mathlib.Nat.{le-of-suc-le-suc, add-assoc, zero-add, sub-zero, sub-add-eq}
 use native.Mathlib.Omega.{arith}
-use borrow.Author.Tests.{not-true, le-ltb, ltb-false, leb-true}
+use borrow.Author.Tests.{not-true, lt-ltb, le-ltb, leb-true}
 use lib.Dec.{leb, ltb, eqb}
 use lib.ListN.{length, drop, length-append}
-use lib.Seq.{take-append-le}
+use lib.Seq.{take-append-le, drop-at}
 use Rattle.words.specs.Words.{pick}
 use Rattle.model.specs.Tables.{Tables, after, eventsOf}
 use Rattle.model.specs.Lent.{Lent}
@@ -20,36 +20,15 @@ use Rattle.model.specs.Runner.{eventRoom, settingsOf, settingsStop, firstStop, 
 use Rattle.model.specs.declared.Settings.{Settings}
 use Rattle.model.specs.declared.Record.{Record}
 use Rattle.model.specs.declared.Stop.{Stop}
-use Rattle.model.specs.declared.Stop.the-variants.{Nothing, OutOfPlace, UnknownKind, CutShort, NoRoom}
+use Rattle.model.specs.declared.Stop.the-variants.{Nothing, OutOfPlace, UnknownKind, NoRoom}
 use Rattle.words.proofs.Flags.{clash, by-flag, flag, or-cases}
-use Rattle.words.proofs.Below.{leb-not}
-use Rattle.running.specs.declared.Begun.the-variants.{Accepted, Stopped}
 use Rattle.running.specs.Resume.{recordKindAt, headStop}
 use Rattle.running.specs.Begin.{beginning, firstThere}
 use Rattle.running.proofs.Checks.{head-there}
 use Rattle.running.proofs.First.{first-settled}
-use Rattle.running.proofs.Running.{going, from-stops, from-goes}
+use Rattle.running.proofs.Running.{by-record, going, from-stops, from-goes}
 
 -- ---- at a record: more bytes behind a whole one change nothing, and the room decides only stop 16
-
--- the checks at a later record, by what they come to
-abbrev pub stopBy : Bool → Bool → Bool → Bool → Stop
-stopBy known cut settings full = pick known (pick cut CutShort (pick settings OutOfPlace (pick full NoRoom Nothing))) UnknownKind
-
--- a record that stops for want of room is whole
-full-whole : (a b c d : Bool) → stopBy a b c d ≡ NoRoom → b ≡ false
-full-whole true true c d h = let z : _≡_ {A = ℕ} 0 1 = cc in absurd (omega arith)
-full-whole true false c d h = refl
-full-whole false b c d h = let z : _≡_ {A = ℕ} 0 1 = cc in absurd (omega arith)
-
--- two rooms, of which neither is too little
-roomy-same : (a b c p q : Bool) → (stopBy a b c p ≡ NoRoom → ⊥) → (stopBy a b c q ≡ NoRoom → ⊥) → stopBy a b c p ≡ stopBy a b c q
-roomy-same false b c p q g h = refl
-roomy-same true true c p q g h = refl
-roomy-same true false true p q g h = refl
-roomy-same true false false true q g h = absurd (g refl)
-roomy-same true false false false true g h = absurd (h refl)
-roomy-same true false false false false g h = refl
 
 module _ (room k : ℕ) (a : List ℕ) where
   pub later-more : (b : List ℕ) → lengthOf k ≤ length a → laterStop room k (a ++ b) ≡ laterStop room k a
@@ -58,13 +37,24 @@ module _ (room k : ℕ) (a : List ℕ) where
       let l : lengthOf k ≤ length (a ++ b) = rw length-append (omega arith) in
       rw (le-ltb (length (a ++ b)) (lengthOf k) l, le-ltb (length a) (lengthOf k) h)
 
+  -- a record that stops for want of room is whole
   later-full : laterStop room k a ≡ NoRoom → lengthOf k ≤ length a
   unfolding runner.laterStop
-  later-full h = ltb-false (length a) (lengthOf k) (full-whole (isCommand k) (ltb (length a) (lengthOf k)) (isSettings k) (ltb room eventRoom) h)
+  later-full =
+      by-record (λ n. n ≡ NoRoom → lengthOf k ≤ length a) k a
+      (λ c h. let z : _≡_ {A = ℕ} 0 1 = cc in absurd (omega arith)) (λ c w h. let z : _≡_ {A = ℕ} 0 1 = cc in absurd (omega arith)) (λ c w z h. w) (λ c w z h. w)
 
+  -- two rooms, of which neither is too little
   pub later-roomy : (other : ℕ) → (laterStop room k a ≡ NoRoom → ⊥) → (laterStop other k a ≡ NoRoom → ⊥) → laterStop room k a ≡ laterStop other k a
   unfolding runner.laterStop
-  later-roomy other g h = roomy-same (isCommand k) (ltb (length a) (lengthOf k)) (isSettings k) (ltb room eventRoom) (ltb other eventRoom) g h
+  later-roomy other g h =
+      by-record (λ n. laterStop room k a ≡ laterStop other k a) k a {a = Nothing} {b = Nothing} (λ c. rw c) (λ c w. rw (c, lt-ltb _ _ w)) (λ c w z. rw (c, le-ltb _ _ w, z))
+      (λ c w z.
+      ⊎-elim
+      (λ (d : ltb room eventRoom ≡ true). absurd (g (rw (c, le-ltb _ _ w, z, d))))
+      (λ (d : ltb room eventRoom ≡ false).
+      ⊎-elim (λ (f : ltb other eventRoom ≡ true). absurd (h (rw (c, le-ltb _ _ w, z, f)))) (λ (f : ltb other eventRoom ≡ false). rw (c, le-ltb _ _ w, z, d, f)) (flag (ltb other eventRoom)))
+      (flag (ltb room eventRoom)))
 
 step-more : (S : Settings) (k : ℕ) (a b : List ℕ) (t : Tables) → lengthOf k ≤ length a → stepAt S k (a ++ b) t ≡ stepAt S k a t
 unfolding runner.stepAt
@@ -83,29 +73,9 @@ full-first n o t =
     (λ z h q. full-halts q z)
     (λ z h q. h q)
 
--- ---- two parts
+-- ---- one part in two rooms, and a part that stops for want of room
 
 module _ (S : Settings) where
-  -- the part before stopped with 0: what follows goes on from its tables, in the room that it left
-  abbrev pub then : ℕ → List ℕ → Result Tables → Result Tables
-  then room b o = bytesThen (o .consumed) (o .events) (runFrom S 0 (room - length (o .events)) b (o .tables))
-
-  then-ahead : (room : ℕ) (b : List ℕ) (n : ℕ) (x : List ℕ) (o : Result Tables) → bytesThen n x (then (room - length x) b o) ≡ then room b (bytesThen n x o)
-  then-ahead room b n x o = rw (length-append, sub-add-eq, append-assoc, add-assoc)
-
-  pub run-in-parts : (n room : ℕ) (a b : List ℕ) (t : Tables) → n ≤ length a → goesOn (runFrom S n room a t .stop) ≡ true
-      → runFrom S n room (a ++ b) t ≡ then room b (runFrom S n room a t)
-  unfolding runner.runFrom
-  run-in-parts n room [] b t h e = let z : n ≡ 0 = omega arith in rw (z, sub-zero, zero-add)
-  run-in-parts (suc n) room (x ∷ a) b t h e = run-in-parts n room a b t (le-of-suc-le-suc h) e
-  run-in-parts zero room (k ∷ a) b t h e =
-      let z = goes-first (laterStop room k a) _ t e in
-      let w = going room k a z .whole in
-      let x = logBytes (eventsOf (stepAt S k a t)) in
-      let u = after t (stepAt S k a t) in
-      let i = run-in-parts (lengthOf k) (room - length x) a b u w (rw z at e) in
-      rw (later-more room k a b w, z, step-more S k a b t w, i) (then-ahead room b (1 + lengthOf k) x (runFrom S (lengthOf k) (room - length x) a u))
-
   -- more room, or less: the same, unless it stops with 16
   pub run-in-rooms : (n room other : ℕ) (a : List ℕ) (t : Tables) → (runFrom S n room a t .stop ≡ NoRoom → ⊥) → (runFrom S n other a t .stop ≡ NoRoom → ⊥)
       → runFrom S n room a t ≡ runFrom S n other a t
@@ -116,14 +86,12 @@ module _ (S : Settings) where
       let e = later-roomy room k a other (full-first (laterStop room k a) _ t g) (full-first (laterStop other k a) _ t h) in
       let x = logBytes (eventsOf (stepAt S k a t)) in
       let u = after t (stepAt S k a t) in
-      ⊎-elim
-      (λ z.
-      let p = from-goes S room k a t z in
+      by-flag (λ (o : Result Tables). (o .stop ≡ NoRoom → ⊥) → o ≡ runFrom S 0 other (k ∷ a) t) (goesOn (laterStop room k a)) _ _
+      (λ z f.
       let q = from-goes S other k a t (rw (← e) z) in
-      let i = run-in-rooms (lengthOf k) (room - length x) (other - length x) a u (λ f. g (ap (λ (r : Result Tables). r .stop) p ∙ f)) (λ f. h (ap (λ (r : Result Tables). r .stop) q ∙ f)) in
-      p ∙ ap (bytesThen (1 + lengthOf k) x) i ∙ sym q)
-      (λ z. from-stops S room k a t z ∙ ap (λ (n : Stop). halt n t) e ∙ sym (from-stops S other k a t (rw (← e) z)))
-      (flag (goesOn (laterStop room k a)))
+      ap (bytesThen (1 + lengthOf k) x) (run-in-rooms (lengthOf k) (room - length x) (other - length x) a u f (λ n. h (ap (λ (r : Result Tables). r .stop) q ∙ n))) ∙ sym q)
+      (λ z f. ap (λ (n : Stop). halt n t) e ∙ sym (from-stops S other k a t (rw (← e) z)))
+      g
 
   -- a part that stops with 16 stops the whole with 16
   full-in-parts : (n room : ℕ) (a b : List ℕ) (t : Tables) → n ≤ length a → runFrom S n room a t .stop ≡ NoRoom → runFrom S n room (a ++ b) t .stop ≡ NoRoom
@@ -131,31 +99,12 @@ module _ (S : Settings) where
   full-in-parts n room [] b t h e = let z : _≡_ {A = ℕ} 0 1 = cc in absurd (omega arith)
   full-in-parts (suc n) room (x ∷ a) b t h e = full-in-parts n room a b t (le-of-suc-le-suc h) e
   full-in-parts zero room (k ∷ a) b t h e =
-      ⊎-elim
-      (λ z.
-      let w = going room k a z .whole in
-      let p = from-goes S room k a t z in
-      let i = full-in-parts (lengthOf k) (room - length (logBytes (eventsOf (stepAt S k a t)))) a b (after t (stepAt S k a t)) w (ap (λ (r : Result Tables). r .stop) (sym p) ∙ e) in
-      let q = from-goes S room k (a ++ b) t (rw (later-more room k a b w) z) in
-      ap (λ (r : Result Tables). r .stop) q ∙ rw (step-more S k a b t w) i)
-      (λ z.
-      let y : laterStop room k a ≡ NoRoom = ap (λ (r : Result Tables). r .stop) (sym (from-stops S room k a t z)) ∙ e in
-      let m = later-more room k a b (later-full room k a y) in
-      ap (λ (r : Result Tables). r .stop) (from-stops S room k (a ++ b) t (rw m z)) ∙ m ∙ y)
-      (flag (goesOn (laterStop room k a)))
+      by-flag (λ (o : Result Tables). o .stop ≡ NoRoom → runFrom S 0 room (k ∷ (a ++ b)) t .stop ≡ NoRoom) (goesOn (laterStop room k a)) _ _
+      (λ z f. let w = going room k a z .whole in rw (later-more room k a b w, z, step-more S k a b t w) (full-in-parts (lengthOf k) _ a b _ w f))
+      (λ z f. rw (later-more room k a b (later-full room k a f), z) f)
+      e
 
-  -- "cut between any two records, where the part before stopped with 0 and nothing stops with 16": each part in a room of its own
-  pub run-cut : (room before behind : ℕ) (a b : List ℕ) (t : Tables) → goesOn (runFrom S 0 before a t .stop) ≡ true
-      → (runFrom S 0 behind b (runFrom S 0 before a t .tables) .stop ≡ NoRoom → ⊥) → (runFrom S 0 room (a ++ b) t .stop ≡ NoRoom → ⊥)
-      → runFrom S 0 room (a ++ b) t
-      ≡ bytesThen (runFrom S 0 before a t .consumed) (runFrom S 0 before a t .events) (runFrom S 0 behind b (runFrom S 0 before a t .tables))
-  run-cut room before behind a b t e g h =
-      let o = runFrom S 0 before a t in
-      let p : runFrom S 0 room a t ≡ o = run-in-rooms 0 room before a t (λ q. h (full-in-parts 0 room a b t (omega arith) q)) (λ q. full-halts q e) in
-      let w : runFrom S 0 room (a ++ b) t ≡ then room b o = run-in-parts 0 room a b t (omega arith) (rw p e) ∙ ap (then room b) p in
-      w ∙ ap (bytesThen (o .consumed) (o .events)) (run-in-rooms 0 (room - length (o .events)) behind b (o .tables) (λ q. h (ap (λ (r : Result Tables). r .stop) w ∙ q)) g)
-
--- ---- a front part, whatever stopped it, and the run from there on: also where a record was cut short, or its events had no room
+-- ---- a front part, whatever stopped it, and the run from there on: also where a record was cut short, or its events had no room; two parts
 
 later-wider : (room other k : ℕ) (a : List ℕ) → room ≤ other → goesOn (laterStop room k a) ≡ true → goesOn (laterStop other k a) ≡ true
 unfolding runner.laterStop
@@ -175,9 +124,6 @@ module _ (S : Settings) where
       let e : 0 + (m + o .consumed) ≡ suc (n + o .consumed) = omega arith in
       rw (e, length-append, sub-add-eq, append-assoc, add-assoc)
 
-  onward-halts : (room : ℕ) (s : List ℕ) (n : Stop) (t : Tables) → runFrom S 0 room s t ≡ furtherOn 0 room s (halt n t)
-  onward-halts room s n t = rw (sub-zero, zero-add)
-
   pub run-resumed : (n room other : ℕ) (a b : List ℕ) (t : Tables) → n ≤ length a → room ≤ other
       → runFrom S n other (a ++ b) t ≡ furtherOn n other (a ++ b) (runFrom S n room a t)
   unfolding runner.runFrom
@@ -189,14 +135,38 @@ module _ (S : Settings) where
   run-resumed zero room other (k ∷ a) b t h w =
       let x = logBytes (eventsOf (stepAt S k a t)) in
       let u = after t (stepAt S k a t) in
-      ⊎-elim
+      by-flag (λ (o : Result Tables). runFrom S 0 other ((k ∷ a) ++ b) t ≡ furtherOn 0 other ((k ∷ a) ++ b) o) (goesOn (laterStop room k a)) _ _
       (λ z.
       let g = going room k a z .whole in
       let y : goesOn (laterStop other k (a ++ b)) ≡ true = rw (later-more other k a b g) (later-wider room other k a w z) in
       let i = run-resumed (lengthOf k) (room - length x) (other - length x) a b u g (omega arith) in
-      rw (y, z, step-more S k a b t g, i) (onward-ahead other (1 + lengthOf k) (lengthOf k) k (a ++ b) x (runFrom S (lengthOf k) (room - length x) a u) (omega arith)))
-      (λ z. onward-halts other ((k ∷ a) ++ b) (laterStop room k a) t ∙ ap (furtherOn 0 other ((k ∷ a) ++ b)) (sym (from-stops S room k a t z)))
-      (flag (goesOn (laterStop room k a)))
+      rw (y, step-more S k a b t g, i) (onward-ahead other (1 + lengthOf k) (lengthOf k) k (a ++ b) x (runFrom S (lengthOf k) (room - length x) a u) (omega arith)))
+      (λ z. rw (sub-zero, zero-add))
+
+  -- a part that stopped with 0 has run all its bytes
+  all-eaten : (n room : ℕ) (a : List ℕ) (t : Tables) → n ≤ length a → goesOn (runFrom S n room a t .stop) ≡ true → n + runFrom S n room a t .consumed ≡ length a
+  unfolding runner.runFrom
+  all-eaten n room [] t h e = omega arith
+  all-eaten (suc n) room (x ∷ a) t h e = let i = all-eaten n room a t (le-of-suc-le-suc h) e in omega arith
+  all-eaten zero room (k ∷ a) t h e =
+      let x = logBytes (eventsOf (stepAt S k a t)) in
+      by-flag (λ (o : Result Tables). goesOn (o .stop) ≡ true → 0 + o .consumed ≡ suc (length a)) (goesOn (laterStop room k a)) _ _
+      (λ z f. omega (arith, all-eaten (lengthOf k) (room - length x) a (after t (stepAt S k a t)) (going room k a z .whole) f))
+      (λ z f. clash f z)
+      e
+
+  -- "cut between any two records, where the part before stopped with 0 and nothing stops with 16": each part in a room of its own
+  pub run-cut : (room before behind : ℕ) (a b : List ℕ) (t : Tables) → goesOn (runFrom S 0 before a t .stop) ≡ true
+      → (runFrom S 0 behind b (runFrom S 0 before a t .tables) .stop ≡ NoRoom → ⊥) → (runFrom S 0 room (a ++ b) t .stop ≡ NoRoom → ⊥)
+      → runFrom S 0 room (a ++ b) t
+      ≡ bytesThen (runFrom S 0 before a t .consumed) (runFrom S 0 before a t .events) (runFrom S 0 behind b (runFrom S 0 before a t .tables))
+  run-cut room before behind a b t e g h =
+      let o = runFrom S 0 before a t in
+      let p : runFrom S 0 room a t ≡ o = run-in-rooms S 0 room before a t (λ q. h (full-in-parts S 0 room a b t (omega arith) q)) (λ q. full-halts q e) in
+      let d : drop (0 + o .consumed) (a ++ b) ≡ b = drop-at a b (0 + o .consumed) (sym (all-eaten 0 before a t (omega arith) e)) in
+      let w : runFrom S 0 room (a ++ b) t ≡ bytesThen (o .consumed) (o .events) (runFrom S 0 (room - length (o .events)) b (o .tables)) =
+      rw (p, d) at (run-resumed 0 room room a b t (omega arith) (omega arith)) in
+      w ∙ ap (bytesThen (o .consumed) (o .events)) (run-in-rooms S 0 (room - length (o .events)) behind b (o .tables) (λ q. h (ap (λ (r : Result Tables). r .stop) w ∙ q)) g)
 
 -- ---- a whole stream, in two parts
 
@@ -222,7 +192,7 @@ pub there-some : (s : List ℕ) → (length s ≡ 0 → ⊥) → {f : Record} {n
     → not (eqb m 15) ≡ firstThere s
 unfolding firstThere
 there-some [] h read d e = absurd (h refl)
-there-some (k ∷ bs) h read d e = head-there (k ∷ bs) 0 (omega arith) read d e ∙ (rw (leb-not (lengthOf k) (length bs)))
+there-some (k ∷ bs) h read d e = head-there (k ∷ bs) 0 (omega arith) read d e
 
 first-there : (L : Lent) (k : ℕ) (a b : List ℕ) → firstThere (k ∷ a) ≡ true → firstStop L k (a ++ b) ≡ firstStop L k a
 unfolding firstThere runner.firstStop
@@ -237,16 +207,5 @@ pub begins-more : (L : Lent) (s b : List ℕ) → firstThere s ≡ true → begi
 unfolding beginning
 begins-more L [] b h = clash h (sym (there-none [] refl))
 begins-more L (k ∷ a) b h =
-    let f = first-there L k a b h in
-    ⊎-elim
-    (λ z.
-    let y : goesOn (firstStop L k (a ++ b)) ≡ true = rw f z in
-    let p : beginning L (k ∷ a) ≡ Accepted (settingsOf k a) (1 + lengthOf k) = rw z in
-    let q : beginning L (k ∷ (a ++ b)) ≡ Accepted (settingsOf k (a ++ b)) (1 + lengthOf k) = rw y in
-    q ∙ ap (λ (S : Settings). Accepted S (1 + lengthOf k)) (settings-more k a b (first-settled L k a z .whole)) ∙ sym p)
-    (λ z.
-    let y : goesOn (firstStop L k (a ++ b)) ≡ false = rw f z in
-    let p : beginning L (k ∷ a) ≡ Stopped (firstStop L k a) = rw z in
-    let q : beginning L (k ∷ (a ++ b)) ≡ Stopped (firstStop L k (a ++ b)) = rw y in
-    q ∙ ap Stopped f ∙ sym p)
-    (flag (goesOn (firstStop L k a)))
+    rw (first-there L k a b h)
+    (⊎-elim (λ z. rw (z, settings-more k a b (first-settled L k a z .whole))) (λ z. rw z) (flag (goesOn (firstStop L k a))))

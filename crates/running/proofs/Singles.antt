@@ -16,7 +16,7 @@ use Rattle.model.specs.Sound.{sound, allOnes}
 use Rattle.model.specs.Calls.{eventsTold}
 use Rattle.model.specs.Records.{lengthOf, commandOf, logBytes, fillBytes}
 use Rattle.model.specs.RunnerOf as runner
-use Rattle.model.specs.Runner.{eventRoom, goesOn, laterStop, stepOf, commandMask, stepRead, stepAt, halt}
+use Rattle.model.specs.Runner.{eventRoom, goesOn, laterStop, stepOf, commandMask, stepRead, stepAt, Result, halt}
 use Rattle.model.specs.Inner.{Encodes, SoundSlices, Does}
 use Rattle.model.specs.declared.Settings.{Settings}
 use Rattle.model.specs.declared.Command.{Command}
@@ -31,8 +31,10 @@ use Rattle.model.proofs.Soundness.{step-keeps-sound}
 use Rattle.words.proofs.Flags.{clash}
 use Rattle.records.specs.Stores.{Laid}
 use Rattle.records.proofs.Room.{TakesRoom, refused-takes, step-takes}
+use Rattle.layout.specs.declared.Layout.{Layout}
 use Rattle.running.specs.declared.record.Went.{Went}
-use Rattle.running.specs.Resume.{recordKindAt, restAt, isStep, single, recordFrom, RunAt, RecordReady, Resumes, unmoved, Tries}
+use Rattle.running.specs.declared.record.Tried.{Tried}
+use Rattle.running.specs.Resume.{recordKindAt, restAt, isStep, single, recordFrom, RunAt, RecordReady, Resumes, unmoved, Tries, UsedInMarks}
 use Rattle.running.proofs.Running.{Going, going}
 
 -- ---- the events of one step
@@ -49,28 +51,30 @@ step-room S k rest t range ok = read-takes S (commandOf k (take (lengthOf k) res
 
 -- ---- a record that stops, and one that is run
 
+-- what halts leaves everything as it is
+pub halts-here : {S : Settings} {o : Tables → Result Tables} {s : List ℕ} {at out : ℕ} {e : List ℕ} {L : Lent} {n : Stop} → RunAt s at out e
+    → ((t : Tables) → o t ≡ halt n t) → Resumes S o s at out e L record { stop = n; consumed = at; written = out } e L
+halts-here {S} {o} {s} {at} {out} {e} here halts =
+    let long = length-take-le out e (here .room) in
+    record {
+      on = λ t i. rw (halts t) record {
+        stop = refl;
+        consumed = sym (add-zero at);
+        written = sym (rw append-nil long);
+        events = rw (append-nil, long) (sym (take-append-drop out e));
+        tables = i .encoded;
+      };
+      keeps = λ t i. rw (halts t) i;
+      stands = here;
+    }
+
 module _ (S : Settings) (s : List ℕ) (at out : ℕ) (e : List ℕ) (L : Lent) (here : RunAt s at out e)
     {n : Stop} (d : n ≡ laterStop (length e - out) (recordKindAt s at) (restAt s at)) (stops : goesOn n ≡ false) where
-  halted : (t : Tables) → recordFrom S s at out e t ≡ halt n t
-  unfolding single
-  halted t = rw (← d, stops)
-
   pub single-halts : Resumes S (recordFrom S s at out e) s at out e L record { stop = n; consumed = at; written = out } e L
-  single-halts =
-      let long = length-take-le out e (here .room) in
-      record {
-        on = λ t i. rw (halted t) record {
-          stop = refl;
-          consumed = sym (add-zero at);
-          written = sym (rw append-nil long);
-          events = rw (append-nil, long) (sym (take-append-drop out e));
-          tables = i .encoded;
-        };
-        keeps = λ t i. rw (halted t) i;
-        stands = here;
-      }
+  unfolding single
+  single-halts = halts-here here (λ t. rw (← d, stops))
 
-module _ (s : List ℕ) (at out : ℕ) (e : List ℕ) (ready : RecordReady s at out e) where
+module _ {s : List ℕ} {at out : ℕ} {e : List ℕ} (ready : RecordReady s at out e) where
   pub ready-going : Going (length e - out) (recordKindAt s at) (restAt s at)
   ready-going = going _ _ _ (ready .goes)
 
@@ -90,7 +94,7 @@ module _ (s : List ℕ) (at out : ℕ) (e : List ℕ) (ready : RecordReady s at 
   pub body-long : length body ≡ lengthOf (recordKindAt s at)
   body-long = length-take-le (lengthOf (recordKindAt s at)) (restAt s at) (ready-going .whole)
 
-  module _ (S : Settings) (L : Lent) (held : SoundSlices S L) where
+  module _ {S : Settings} {L : Lent} (held : SoundSlices S L) where
     ran : (t : Tables)
         → recordFrom S s at out e t
         ≡ record {
@@ -144,9 +148,10 @@ module _ (s : List ℕ) (at out : ℕ) (e : List ℕ) (ready : RecordReady s at 
 -- ---- a record that is tried
 
 module _ {S : Settings} {s : List ℕ} {at out : ℕ} {e : List ℕ} {L : Lent} {q m : ℕ} where
-  pub tries-steps : {w : Went} {f : List ℕ} {M : Lent} → isStep (recordKindAt s at) ≡ true → Resumes S (recordFrom S s at out e) s at out e L (w .ran) f M
-      → Tries S s at out e L q m record { went = w; stepped = true } f M
-  tries-steps step u = record { tells = sym step; steps = λ h. u; stays = λ h. clash refl h }
+  pub tries-steps : {r : Tried} {w : Went} → r ≡ record { went = w; stepped = true } → isStep (recordKindAt s at) ≡ true → {f : List ℕ} {M : Lent} {place : Layout} {marks : List ℕ}
+      → Resumes S (recordFrom S s at out e) s at out e L (w .ran) f M × UsedInMarks S place marks (w .queued) (w .missed)
+      → Tries S s at out e L q m r f M × UsedInMarks S place marks (r .went .queued) (r .went .missed)
+  tries-steps is step u = rw is (record { tells = sym step; steps = λ h. u .0; stays = λ h. clash refl h }, u .1)
 
   pub tries-stays : isStep (recordKindAt s at) ≡ false → Tries S s at out e L q m record { went = unmoved at out q m; stepped = false } e L
   tries-stays none = record { tells = sym none; steps = λ h. clash h refl; stays = λ h. (refl, refl, refl) }

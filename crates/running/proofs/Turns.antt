@@ -1,29 +1,32 @@
 -- The two loops over the records: where they stand, a turn, their ends.
 use mathlib.Core.Path.{_≡_, refl, sym, ap, _∙_, subst}
 use mathlib.Core.Logic.{_⊎_, ⊎-elim}
-use mathlib.Core.Bool.{true, false, _&&_}
-use mathlib.Core.List.{List, _++_, append-assoc, append-nil}
+use mathlib.Core.Bool.{Bool, true, false, not, _&&_}
+use mathlib.Core.List.{List, _++_, append-assoc}
 use Prim.Native.Nat.{ℕ, suc, _+_, _-_, _≤_, _<_}
-use native.Mathlib.Nat.{add-assoc, add-zero}
+use native.Mathlib.Nat.{add-assoc}
 use native.Mathlib.Decide.{decLe}
 use native.Mathlib.Omega.{arith}
 use borrow.Author.Tests.{lt-ltb, ltb-true}
 use lib.Dec.{ltb}
-use lib.ListN.{length, take, drop, length-append, length-drop, take-append-drop}
+use lib.ListN.{length, take, drop, length-append, length-drop}
 use lib.Seq.{length-take-le, take-append-seam, drop-append-seam, drop-drop}
 use Rattle.model.specs.Tables.{Tables}
 use Rattle.model.specs.Lent.{Lent}
-use Rattle.model.specs.Runner.{eventRoom, laterStop, goesOn, Result, bytesThen, runFrom, lentResult, Runs}
+use Rattle.model.specs.Records.{readAt}
+use Rattle.model.specs.Runner.{eventRoom, laterStop, goesOn, Result, lentResult, Runs}
 use Rattle.model.specs.Inner.{Encodes, SoundSlices}
 use Rattle.model.specs.declared.Settings.{Settings}
+use Rattle.model.specs.declared.Record.{Record}
 use Rattle.model.specs.declared.Stop.{Stop}
 use Rattle.model.specs.declared.Stop.the-variants as stop
 use Rattle.model.specs.declared.Ran.{Ran}
-use Rattle.words.proofs.Flags.{and-1, and-2, and-i, clash, not-no}
+use Rattle.words.proofs.Flags.{and-1, and-2, and-i, clash, not-no, said-no, said-yes}
 use Rattle.running.specs.declared.record.Went.{Went}
 use Rattle.running.specs.declared.record.Tried.{Tried}
-use Rattle.running.specs.Resume.{recordKindAt, restAt, isStep, single, recordFrom, restFrom, RunAt, RecordReady, Resumes, UsualAt, Tries, WholeBelow, wholeFrom, RunStands}
-use Rattle.running.proofs.Checks.{step-short, usual-ready}
+use Rattle.running.specs.Resume.{recordKindAt, restAt, isStep, laterFound, single, recordFrom, restFrom, RunAt, Resumes, UsualAt, Tries, WholeBelow, wholeFrom, RunStands}
+use Rattle.running.proofs.Checks.{step-short, found-later, usual-ready}
+use Rattle.running.proofs.Singles.{halts-here, single-halts}
 use Rattle.running.proofs.Running.{Going, going, run-ends, single-stops, single-goes, single-further}
 
 -- ---- lists
@@ -36,34 +39,22 @@ drop-further out n e e₀ h k =
 
 -- ---- what is left in the caller's hands, behind other bytes
 
-module _ {o : Result Lent} {e : List ℕ} {r : Ran} {f : List ℕ} {M : Lent} where
-  runs-as : {p : Result Lent} → o ≡ p → Runs o e r f M → Runs p e r f M
-  runs-as q h = rw q at h
+runs-behind : {o : Result Lent} {e : List ℕ} {r : Ran} {f : List ℕ} {M : Lent} (out : ℕ) (e₀ : List ℕ) → drop out e ≡ drop out e₀ → out ≤ length (o .events) → Runs o e r f M
+    → Runs o e₀ r f M
+runs-behind {o} {e} out e₀ same far h = record {
+  stop = h .stop;
+  consumed = h .consumed;
+  written = h .written;
+  events = h .events ∙ rw (drop-further out (length (o .events)) e e₀ same far);
+  tables = h .tables;
+}
 
-  runs-behind : (out : ℕ) (e₀ : List ℕ) → drop out e ≡ drop out e₀ → out ≤ length (o .events) → Runs o e r f M → Runs o e₀ r f M
-  runs-behind out e₀ same far h = record {
-    stop = h .stop;
-    consumed = h .consumed;
-    written = h .written;
-    events = h .events ∙ rw (drop-further out (length (o .events)) e e₀ same far);
-    tables = h .tables;
-  }
+-- where o and p come to the same
+resumes-as : {S : Settings} {o p : Tables → Result Tables} {s : List ℕ} {at out : ℕ} {e : List ℕ} {L : Lent} {r : Ran} {f : List ℕ} {M : Lent}
+    → ((t : Tables) → Encodes S L t → p t ≡ o t) → Resumes S o s at out e L r f M → Resumes S p s at out e L r f M
+resumes-as same u = record { on = λ t i. rw (same t i) (u .on t i); keeps = λ t i. rw (same t i) (u .keeps t i); stands = u .stands }
 
 -- ---- a run that stands at another place
-
-module _ (S : Settings) (s : List ℕ) where
-  -- from a place further on, behind what o consumed and wrote
-  whole-further : (at out : ℕ) (e : List ℕ) (t : Tables) (o : Result Tables) (c w : ℕ) (f : List ℕ) → length (take out e) ≡ out
-      → restFrom S s at out e t ≡ bytesThen (o .consumed) (o .events) (runFrom S 0 (length e - out - length (o .events)) (drop (at + o .consumed) s) (o .tables))
-      → c ≡ at + o .consumed → w ≡ length (take out e ++ o .events)
-      → f ≡ (take out e ++ o .events) ++ drop (length (take out e ++ o .events)) e → length f ≡ length e
-      → wholeFrom S s c w f (o .tables) ≡ wholeFrom S s at out e t
-  whole-further at out e t o c w f long turn p q v size =
-      let x : List ℕ = take out e ++ o .events in
-      let a : take w f ≡ x = rw (q, v) (take-append-seam x (drop (length x) e)) in
-      let k : length x ≡ out + length (o .events) = rw (length-append, long) in
-      let b : length f - w ≡ length e - out - length (o .events) = omega arith in
-      rw (a, b, p, turn, append-assoc, add-assoc)
 
 module _ {S : Settings} {s : List ℕ} where
   pub run-stands-first : {at out : ℕ} {e : List ℕ} {L : Lent} → RunAt s at out e → RunStands S s at out e L at out e L
@@ -100,18 +91,15 @@ module _ {S : Settings} {s : List ℕ} where
           record { tables = y .tables; are = y .are; same = y .same ∙ x .same };
     }
 
-    written-here : length (take out e) ≡ out
-    written-here = length-take-le out e (g .here .room)
-
     -- the rest, run from here behind e, leaves what the whole leaves behind e₀
     goes-whole : {r : Ran} {f : List ℕ} {M : Lent} → Resumes S (restFrom S s at out e) s at out e L r f M
         → Resumes S (restFrom S s at₀ out₀ e₀) s at₀ out₀ e₀ L₀ r f M
     goes-whole {r} {f} {M} u = record {
       on = λ t₀ i.
           let x = g .leads t₀ i in
-          let w = written-here in
+          let w = length-take-le out e (g .here .room) in
           let far : out ≤ length (take out e ++ restFrom S s at out e (x .tables) .events) = rw length-append (omega arith) in
-          runs-as (ap (lentResult S) (x .same)) (runs-behind out e₀ (g .beyond) far (u .on (x .tables) (x .are)));
+          subst (λ (o : Result Tables). Runs (lentResult S o) e₀ r f M) (x .same) (runs-behind out e₀ (g .beyond) far (u .on (x .tables) (x .are)));
       keeps = λ t₀ i.
           let x = g .leads t₀ i in
           subst (λ (o : Result Tables). Encodes S M (o .tables)) (x .same) (u .keeps (x .tables) (x .are));
@@ -119,85 +107,54 @@ module _ {S : Settings} {s : List ℕ} where
     }
 
     pub goes-ends : length s ≤ at → Resumes S (restFrom S s at₀ out₀ e₀) s at₀ out₀ e₀ L₀ record { stop = stop.Nothing; consumed = at; written = out } e L
-    goes-ends end = goes-whole record {
-      on = λ t i.
-          rw (run-ends S (length e - out) s at t end) record {
-            stop = refl;
-            consumed = sym (add-zero at);
-            written = sym (rw append-nil written-here);
-            events = rw (append-nil, written-here) (sym (take-append-drop out e));
-            tables = i .encoded;
-          };
-      keeps = λ t i. rw (run-ends S (length e - out) s at t end) i;
-      stands = g .here;
-    }
+    goes-ends end = goes-whole (halts-here (g .here) (λ t. run-ends S (length e - out) s at t end))
 
-    -- one record more
-    module _ (inside : at < length s) {r : Ran} {f : List ℕ} {M : Lent} (u : Resumes S (recordFrom S s at out e) s at out e L r f M) where
-      pub goes-stops : goesOn (r .stop) ≡ false → Resumes S (restFrom S s at₀ out₀ e₀) s at₀ out₀ e₀ L₀ r f M
-      goes-stops h = goes-whole record {
-        on = λ t i.
-            let o = u .on t i in
-            let z : goesOn (recordFrom S s at out e t .stop) ≡ false = rw (← o .stop) h in
-            runs-as (ap (λ (p : Result Tables). bytesThen at (take out e) (lentResult S p)) (sym (single-stops S (length e - out) s at t inside z))) o;
-        keeps = λ t i.
-            let z : goesOn (recordFrom S s at out e t .stop) ≡ false = rw (← u .on t i .stop) h in
-            subst (λ (p : Result Tables). Encodes S M (p .tables)) (sym (single-stops S (length e - out) s at t inside z)) (u .keeps t i);
-        stands = u .stands;
-      }
+    -- one record more, that stops
+    pub goes-stops : at < length s → {r : Ran} {f : List ℕ} {M : Lent} → Resumes S (recordFrom S s at out e) s at out e L r f M → goesOn (r .stop) ≡ false
+        → Resumes S (restFrom S s at₀ out₀ e₀) s at₀ out₀ e₀ L₀ r f M
+    goes-stops inside u h = goes-whole (resumes-as (λ t i. single-stops S (length e - out) s at t inside (rw (← u .on t i .stop) h)) u)
 
-      module _ (held : SoundSlices S L₀) (h : goesOn (r .stop) ≡ true) where
-        went : (t : Tables) → Encodes S L t → goesOn (recordFrom S s at out e t .stop) ≡ true
-        went t i = rw (← u .on t i .stop) h
+  -- and that goes on
+  module _ {at out : ℕ} {e : List ℕ} {L : Lent} (here : RunAt s at out e) (inside : at < length s) {r : Ran} {f : List ℕ} {M : Lent}
+      (u : Resumes S (recordFrom S s at out e) s at out e L r f M) (held : SoundSlices S L) (h : goesOn (r .stop) ≡ true) where
+    went : (t : Tables) → Encodes S L t → goesOn (recordFrom S s at out e t .stop) ≡ true
+    went t i = rw (← u .on t i .stop) h
 
-        pub goes-further : at < r .consumed
-        goes-further =
-            let t = run-stands-held held in
-            let c : r .consumed ≡ at + recordFrom S s at out e (t .tables) .consumed = u .on (t .tables) (t .are) .consumed in
-            let k = single-further S (length e - out) s at (t .tables) inside (went (t .tables) (t .are)) in
-            omega arith
+    abbrev toldNow : Tables → List ℕ
+    toldNow t = take out e ++ recordFrom S s at out e t .events
 
-        goes-more : out ≤ r .written
-        goes-more =
-            let t = run-stands-held held in
-            let x = recordFrom S s at out e (t .tables) .events in
-            let w : r .written ≡ length (take out e ++ x) = u .on (t .tables) (t .are) .written in
-            let l = length-append (take out e) x in
-            let k = written-here in
-            omega arith
+    told-long : (t : Tables) → length (toldNow t) ≡ out + length (recordFrom S s at out e t .events)
+    told-long t = rw (length-append, length-take-le out e (here .room))
 
-        -- behind what is written now the events are the caller's own
-        behind-written : (t : Tables) → Encodes S L t → drop (r .written) f ≡ drop (r .written) e₀
-        behind-written t i =
-            let o = u .on t i in
-            let x = take out e ++ recordFrom S s at out e t .events in
-            let far : out ≤ length x = let w = written-here in rw length-append (omega arith) in
-            rw (o .written, o .events, drop-append-seam) (drop-further out (length x) e e₀ (g .beyond) far)
+    pub record-further : at < r .consumed
+    record-further =
+        let t = held .tables in
+        let c : r .consumed ≡ at + recordFrom S s at out e t .consumed = u .on t (held .are) .consumed in
+        omega (arith, single-further S (length e - out) s at t inside (went t (held .are)))
 
-        led : (t : Tables) (i : Encodes S L t) → length f ≡ length e
-            → wholeFrom S s (r .consumed) (r .written) f (recordFrom S s at out e t .tables) ≡ wholeFrom S s at out e t
-        led t i size =
-            let o = u .on t i in
-            whole-further S s at out e t (recordFrom S s at out e t) _ _ f written-here (single-goes S (length e - out) s at t inside (went t i)) (o .consumed) (o .written) (o .events) size
+    -- what is left, run from behind it, gives what it gives from here
+    led : (t : Tables) (i : Encodes S L t) → length f ≡ length e
+        → wholeFrom S s (r .consumed) (r .written) f (recordFrom S s at out e t .tables) ≡ wholeFrom S s at out e t
+    led t i size =
+        let o = u .on t i in
+        let a : take (r .written) f ≡ toldNow t = rw (o .written, o .events) (take-append-seam (toldNow t) _) in
+        let b : length f - r .written ≡ length e - out - length (recordFrom S s at out e t .events) = let w = o .written in omega (arith, told-long t) in
+        rw (a, b, o .consumed, single-goes S (length e - out) s at t inside (went t i), append-assoc, add-assoc)
 
-        pub run-stands-again : length f ≡ length e → length (M .longs) ≡ length (L .longs) → length (M .words) ≡ length (L .words)
-            → length (M .marks) ≡ length (L .marks) → RunStands S s at₀ out₀ e₀ L₀ (r .consumed) (r .written) f M
-        run-stands-again size longs words marks = record {
+    pub record-stands : length f ≡ length e → length (M .longs) ≡ length (L .longs) → length (M .words) ≡ length (L .words)
+        → length (M .marks) ≡ length (L .marks) → RunStands S s at out e L (r .consumed) (r .written) f M
+    record-stands size longs words marks =
+        let o = u .on (held .tables) (held .are) in
+        record {
           here = u .stands;
-          further = let a = goes-further in omega (arith, g .further);
-          more = let a = goes-more in omega (arith, g .more);
-          size = size ∙ g .size;
-          longs = longs ∙ g .longs;
-          words = words ∙ g .words;
-          marks = marks ∙ g .marks;
-          beyond = let t = run-stands-held held in behind-written (t .tables) (t .are);
-          leads = λ t₀ i.
-              let x = g .leads t₀ i in
-              record {
-                tables = recordFrom S s at out e (x .tables) .tables;
-                are = u .keeps (x .tables) (x .are);
-                same = led (x .tables) (x .are) size ∙ x .same;
-              };
+          further = let a = record-further in omega arith;
+          more = let w = o .written in omega (arith, told-long (held .tables));
+          size = size;
+          longs = longs;
+          words = words;
+          marks = marks;
+          beyond = rw (o .written, o .events, drop-append-seam);
+          leads = λ t i. record { tables = recordFrom S s at out e t .tables; are = u .keeps t i; same = led t i size };
         }
 
 -- ---- the usual records, one after the other
@@ -244,23 +201,17 @@ module _ {S : Settings} {s : List ℕ} {at out : ℕ} {e : List ℕ} {L : Lent} 
         moved
 
   -- at a step's
-  module _ (taken : r .stepped ≡ true) (u : UsualAt s at out e) {at₀ out₀ : ℕ} {e₀ : List ℕ} {L₀ : Lent} (g : RunStands S s at₀ out₀ e₀ L₀ at out e L) (held : SoundSlices S L₀) where
-    ready : RecordReady s at out e
-    ready = usual-ready u (sym (x .tells) ∙ taken)
-
+  module _ (taken : r .stepped ≡ true) (u : UsualAt s at out e) (held : SoundSlices S L) where
     gone : goesOn (r .went .ran .stop) ≡ true
     unfolding single
-    gone = let h = run-stands-held g held in rw (x .steps taken .on (h .tables) (h .are) .stop, ready .goes)
+    gone = rw (x .steps taken .on (held .tables) (held .are) .stop, usual-ready u (sym (x .tells) ∙ taken) .goes)
 
     pub usual-further : at < r .went .ran .consumed
-    usual-further = goes-further g (u .inside) (x .steps taken) held gone
+    usual-further = record-further (u .stands) (u .inside) (x .steps taken) held gone
 
-    pub usual-inside : r .went .ran .consumed ≤ length s
-    usual-inside = x .steps taken .stands .inside
-
-    pub usual-again : length f ≡ length e → length (M .longs) ≡ length (L .longs) → length (M .words) ≡ length (L .words) → length (M .marks) ≡ length (L .marks)
-        → RunStands S s at₀ out₀ e₀ L₀ (r .went .ran .consumed) (r .went .ran .written) f M
-    usual-again size longs words marks = run-stands-again g (u .inside) (x .steps taken) held gone size longs words marks
+    pub usual-stands : length f ≡ length e → length (M .longs) ≡ length (L .longs) → length (M .words) ≡ length (L .words) → length (M .marks) ≡ length (L .marks)
+        → RunStands S s at out e L (r .went .ran .consumed) (r .went .ran .written) f M
+    usual-stands = record-stands (u .stands) (u .inside) (x .steps taken) held gone
 
 -- ---- the run: the usual records, then one that is judged in full
 
@@ -271,24 +222,31 @@ whole-first {s} ends = record {
   whole = λ at h below step. let l = step-short (recordKindAt s at) step in omega arith;
 }
 
--- the record there goes on
+-- the record there, by what reading it came to
 module _ {S : Settings} {s : List ℕ} {at₀ out₀ : ℕ} {e₀ : List ℕ} {L₀ : Lent} {at out : ℕ} {e : List ℕ} {L : Lent} (g : RunStands S s at₀ out₀ e₀ L₀ at out e L)
-    (inside : at < length s) {n : Stop} (d : n ≡ laterStop (length e - out) (recordKindAt s at) (restAt s at)) (goes : goesOn n ≡ true) where
-  judged : Going (length e - out) (recordKindAt s at) (restAt s at)
-  judged = going _ _ _ (rw d at goes)
+    (inside : at < length s) {found : Record} (read : found ≡ readAt s at) {n : Stop} (d : n ≡ laterFound (length e - out) (recordKindAt s at) found)
+    {b : Bool} (said : b ≡ goesOn n) where
+  stop-is : n ≡ laterStop (length e - out) (recordKindAt s at) (restAt s at)
+  stop-is = found-later s at inside read (length e - out) d
 
-  pub whole-one : WholeBelow s at (at + 1)
-  whole-one = record {
+  pub judged-stops : not b ≡ true → Resumes S (restFrom S s at₀ out₀ e₀) s at₀ out₀ e₀ L₀ record { stop = n; consumed = at; written = out } e L
+  judged-stops t = let stops = said-no said t in goes-stops g inside (single-halts S s at out e L (g .here) stop-is stops) stops
+
+  judged : not b ≡ false → Going (length e - out) (recordKindAt s at) (restAt s at)
+  judged t = going _ _ _ (rw (← stop-is) (said-yes said t))
+
+  pub whole-one : not b ≡ false → WholeBelow s at (at + 1)
+  whole-one t = record {
     inside = omega arith;
     whole = λ i h below step.
         let p : i ≡ at = omega arith in
-        let w = judged .whole in
+        let w = judged t .whole in
         let l : length (restAt s at) ≡ length s - (at + 1) = length-drop (at + 1) s in
         rw p (omega arith);
   }
 
   -- so the run came further, or comes further from there
-  module _ {limit ample : ℕ} (fits : ample ≡ length e₀ + 1 - eventRoom) (moves : at₀ < limit → out₀ < ample → isStep (recordKindAt s at₀) ≡ true → at₀ < at) where
+  module _ (t : not b ≡ false) {limit ample : ℕ} (fits : ample ≡ length e₀ + 1 - eventRoom) (moves : at₀ < limit → out₀ < ample → isStep (recordKindAt s at₀) ≡ true → at₀ < at) where
     pub run-nearer : length s - at + (1 - (at + 1 - at)) < length s - at₀ + (1 - (limit - at₀))
     run-nearer = by (decLe (suc at₀) at) (decLe (suc at₀) limit)
       where
@@ -297,7 +255,7 @@ module _ {S : Settings} {s : List ℕ} {at₀ out₀ : ℕ} {e₀ : List ℕ} {L
         by (no near) (no past) = omega (arith, g .further)
         by (no near) (yes below) =
             let p : at ≡ at₀ = omega (arith, g .further) in
-            let step : isStep (recordKindAt s at) ≡ true = and-i (judged .command) (not-no (judged .later)) in
-            let roomy = judged .roomy in
+            let step : isStep (recordKindAt s at) ≡ true = and-i (judged t .command) (not-no (judged t .later)) in
+            let roomy = judged t .roomy in
             let z = g .size in
             absurd (near (moves below (omega (arith, g .more, g .here .room)) (rw p at step)))

@@ -1,6 +1,6 @@
 -- What fine lines tell of RESERVED sectors: their tags are below 2^48, and an address can be RESERVED in its own set alone.
 use mathlib.Core.Path.{_≡_, sym, ap, _∙_}
-use mathlib.Core.Bool.{Bool, true, not, _&&_}
+use mathlib.Core.Bool.{Bool, true, not, _&&_, and-assoc}
 use mathlib.Core.List.{List}
 use Prim.Native.Nat.{ℕ, _+_, _*_, _/_, _%_, _^_, _≤_, _<_}
 use native.Mathlib.Nat.{mod-lt}
@@ -13,9 +13,10 @@ use Rattle.model.specs.Range.{linesOf}
 use Rattle.model.specs.Address.{blockOf, sectorIndex, goodBlock, setIndex}
 use Rattle.model.specs.Lent.{tagAt, statusAt}
 use Rattle.model.specs.SoundLent.{live, lineFine, linesFine, reservedFor}
-use Rattle.words.proofs.Flags.{and-1, and-2, iff, imp-use}
+use Rattle.words.proofs.Flags.{and-1, and-2, imp-use}
 use Rattle.words.proofs.Below.{every-at, some-i}
 use Rattle.encoding.proofs.Rows.{some-row}
+use Rattle.soundness.proofs.Tests.{and-implied}
 
 module _ (S : Settings) (longs words marks : List ℕ) where
   abbrev lives : ℕ → Bool
@@ -31,20 +32,8 @@ module _ (S : Settings) (longs words marks : List ℕ) where
 
   -- so a live line need not be asked for
   pub reserved-short : (a l : ℕ) → (eqb (tagAt longs l) (blockOf a) && eqb (statusAt marks (4 * l + sectorIndex a)) 1) ≡ reserved a l
-  reserved-short a l = iff up down
-    where
-      up : (eqb (tagAt longs l) (blockOf a) && eqb (statusAt marks (4 * l + sectorIndex a)) 1) ≡ true → reserved a l ≡ true
-      up e =
-          let t : eqb (statusAt marks (4 * l + sectorIndex a)) 1 ≡ true = search (and-1, and-2) in
-          let u : eqb (tagAt longs l) (blockOf a) ≡ true = search (and-1, and-2) in
-          let v : lives l ≡ true = reserved-lives l (sectorIndex a) (omega arith) (eqb-true _ _ t) in
-          rw (t, u, v)
-
-      down : reserved a l ≡ true → (eqb (tagAt longs l) (blockOf a) && eqb (statusAt marks (4 * l + sectorIndex a)) 1) ≡ true
-      down e =
-          let t : eqb (statusAt marks (4 * l + sectorIndex a)) 1 ≡ true = search (and-1, and-2) in
-          let u : eqb (tagAt longs l) (blockOf a) ≡ true = search (and-1, and-2) in
-          rw (t, u)
+  reserved-short a l =
+      and-implied (λ e. reserved-lives l (sectorIndex a) (omega arith) (eqb-true _ _ (and-2 (eqb (tagAt longs l) (blockOf a)) _ e))) ∙ sym (and-assoc (lives l) _ _)
 
   module _ (fine : linesFine S longs words marks ≡ true) where
     block-at : (l : ℕ) → l < linesOf S → lives l ≡ true → (goodBlock (tagAt longs l) && eqb (setIndex S (tagAt longs l)) (l / S .ways)) ≡ true

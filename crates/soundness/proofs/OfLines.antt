@@ -1,6 +1,6 @@
 -- What the functions of lines answer, of what their callees ensure.
-use mathlib.Core.Path.{_≡_, refl}
-use mathlib.Core.Bool.{Bool, true, false, not, _&&_}
+use mathlib.Core.Path.{_≡_, _∙_}
+use mathlib.Core.Bool.{Bool, true, false, not, _&&_, and-assoc, and-comm, and-true}
 use mathlib.Core.List.{List}
 use Prim.Native.Nat.{ℕ, _+_, _*_, _-_, _/_, _%_, _≤_}
 use native.Mathlib.Nat.{div-add-mod'}
@@ -12,18 +12,16 @@ use Rattle.words.specs.Words.{every}
 use Rattle.model.specs.Lent.{tagAt, cycleAt, takenAt, nowAt}
 use Rattle.model.specs.SoundLent.{live, apart, lineFine}
 use Rattle.model.specs.Address.{goodBlock, setIndex}
-use Rattle.words.proofs.Flags.{and-1, and-2, and-i, iff, not-both}
+use Rattle.words.proofs.Flags.{and-1, and-2, and-i, not-both}
 use Rattle.encoding.proofs.Rows.{every-row}
+use Rattle.soundness.proofs.Tests.{and-implied}
 
 -- cycle 0 is no later than any
 idle-shape : (t : Bool) (c k n : ℕ) → (t && eqb c 0 && eqb k 0) ≡ (t && eqb c 0 && eqb k 0 && true && leb c n && leb k c && true)
-idle-shape t c k n = iff up (λ e. and-1 _ true (and-1 _ (leb c n) (and-1 _ (leb k c) (and-1 _ true e))))
-  where
-    up : (t && eqb c 0 && eqb k 0) ≡ true → (t && eqb c 0 && eqb k 0 && true && leb c n && leb k c && true) ≡ true
-    up e =
-        let z : c ≡ 0 = eqb-true c 0 (and-2 t _ (and-1 (t && eqb c 0) _ e)) in
-        let y : k ≡ 0 = eqb-true k 0 (and-2 (t && eqb c 0) _ e) in
-        and-i (and-i (and-i (and-i e refl) (le-leb c n (omega arith))) (le-leb k c (omega arith))) refl
+idle-shape t c k n =
+    let z : (t && eqb c 0 && eqb k 0) ≡ true → (c ≡ 0) × (k ≡ 0) = λ e. (eqb-true c 0 (and-2 t _ (and-1 (t && eqb c 0) _ e)), eqb-true k 0 (and-2 (t && eqb c 0) _ e)) in
+    and-implied (λ e. let w = z e in and-i (le-leb c n (omega arith)) (le-leb k c (omega arith)))
+    ∙ rw (and-comm (leb c n && leb k c) (t && eqb c 0 && eqb k 0)) (simp (and-assoc, and-true))
 
 module _ (S : Settings) (longs words marks : List ℕ) where
   pub not-twin : (l m : ℕ) {r : Bool} → r ≡ live S longs words marks m → not (r && eqb (tagAt longs m) (tagAt longs l)) ≡ apart S longs words marks l m

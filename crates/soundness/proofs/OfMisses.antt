@@ -1,6 +1,6 @@
 -- What the functions of the miss table answer, of what their callees ensure.
-use mathlib.Core.Path.{_≡_, refl, sym, _∙_}
-use mathlib.Core.Bool.{Bool, true, false, not, _&&_, and-true}
+use mathlib.Core.Path.{_≡_, sym, _∙_}
+use mathlib.Core.Bool.{Bool, true, not, _&&_, and-true, and-assoc}
 use mathlib.Core.List.{List}
 use Prim.Native.Nat.{ℕ, _+_, _*_, _/_, _%_, _≤_, _<_}
 use native.Mathlib.Nat.{div-lt-iff-lt-mul, mul-comm}
@@ -13,11 +13,12 @@ use Rattle.words.specs.Words.{some, countBelow}
 use Rattle.model.specs.Address.{blockOf, sectorIndex, setIndex}
 use Rattle.model.specs.Lent.{tagAt, statusAt, missAt, sentAt, ticketCountAt, ticketAt}
 use Rattle.model.specs.SoundLent.{linesFine, entryAtFor, readFor, reservedFor, ticketFine, entryFine}
-use Rattle.words.proofs.Flags.{and-1, and-2, iff, not-but}
+use Rattle.words.proofs.Flags.{and-2, not-but}
 use Rattle.words.proofs.Below.{some-same}
 use Rattle.layout.specs.declared.Layout.{Layout}
 use Rattle.layout.specs.Layout.{LaysOut}
 use Rattle.layout.proofs.ByPlace.{count-read, ticket-read}
+use Rattle.soundness.proofs.Tests.{and-implied}
 use Rattle.soundness.proofs.FineLines.{reserved-short, own-set-reserves}
 
 -- the entry of a ticket place
@@ -26,18 +27,10 @@ entry-below S i pos h = div-lt-iff-lt-mul pos .1 (rw mul-comm at h)
 
 -- an unused entry's sent mark is 0, so it is at most 1
 unused-shape : (w m : ℕ) (a : Bool) → (a && eqb m 0) ≡ (leb 0 w && leb m 1 && (a && eqb m 0) && true && true && true)
-unused-shape w m a = iff up (λ e. and-2 (leb 0 w && leb m 1) _ (and-1 _ true (and-1 _ true (and-1 _ true e))))
-  where
-    up : (a && eqb m 0) ≡ true → (leb 0 w && leb m 1 && (a && eqb m 0) && true && true && true) ≡ true
-    up e =
-        let z : m ≡ 0 = eqb-true m 0 (and-2 a _ e) in
-        rw (le-leb 0 w (omega arith), le-leb m 1 (omega arith), e)
+unused-shape w m a = simp (le-leb 0 w (omega arith), and-true) (and-implied (λ e. let z = eqb-true m 0 (and-2 a _ e) in le-leb m 1 (omega arith)))
 
 used-shape : (few mark even held alone asked : Bool) → (few && mark && even && held && alone && asked) ≡ (few && mark && true && (even && held) && alone && asked)
-used-shape false mark even held alone asked = refl
-used-shape true false even held alone asked = refl
-used-shape true true false held alone asked = refl
-used-shape true true true held alone asked = refl
+used-shape few mark even held alone asked = simp (and-true, and-assoc)
 
 module _ (S : Settings) (longs words marks : List ℕ) where
   pub ticket-kept : {at : Layout} → LaysOut S at → (i : ℕ)
@@ -46,12 +39,12 @@ module _ (S : Settings) (longs words marks : List ℕ) where
       rw (count-read S p marks (i / S .readers), ticket-read S p words i)
       (not-but (leb (ticketCountAt S marks (i / S .readers)) (i % S .readers)) (eqb (ticketAt S words i) 0))
 
-  -- the lines of a set from `first` on, asked for a block and a sector
-  pub set-asked : (a first n block sector : ℕ) → block ≡ blockOf a → sector ≡ sectorIndex a
-      → some n (λ w. eqb (tagAt longs (first + w)) block && eqb (statusAt marks (4 * (first + w) + sector)) 1) ≡ some n (λ w. reservedFor S longs words marks a (first + w))
-  set-asked a first n block sector b s =
-      some-same (λ w. eqb (tagAt longs (first + w)) block && eqb (statusAt marks (4 * (first + w) + sector)) 1) (λ w. reservedFor S longs words marks a (first + w))
-      n (λ w h. rw (b, s) (reserved-short S longs words marks a (first + w)))
+  -- the lines of a set, asked for a block and a sector
+  pub set-asked : (a k block sector : ℕ) → block ≡ blockOf a → sector ≡ sectorIndex a → k ≡ setIndex S a
+      → some (S .ways) (λ w. eqb (tagAt longs (k * S .ways + w)) block && eqb (statusAt marks (4 * (k * S .ways + w) + sector)) 1)
+      ≡ some (S .ways) (λ w. reservedFor S longs words marks a (setIndex S a * S .ways + w))
+  set-asked a k block sector b s e =
+      rw (b, s, e) (some-same _ _ (S .ways) (λ w h. reserved-short S longs words marks a (setIndex S a * S .ways + w)))
 
   module _ (e k m a : ℕ) (count : k ≡ ticketCountAt S marks e) (mark : m ≡ sentAt S marks e) (address : a ≡ missAt S longs e) where
     pub unused-entry : k ≡ 0 → (eqb a 0 && eqb m 0) ≡ entryFine S longs words marks e

@@ -1,11 +1,11 @@
 -- What `place_fine` answers for each kind of queue place.
 use mathlib.Core.Path.{_≡_, refl, sym, _∙_}
-use mathlib.Core.Bool.{Bool, true, false, not, _&&_, _||_}
+use mathlib.Core.Bool.{Bool, true, false, not, _&&_, _||_, and-true, and-comm}
 use mathlib.Core.List.{List}
 use Prim.Native.Nat.{ℕ, _+_, _*_}
 use native.Mathlib.Nat.{add-zero}
 use native.Mathlib.Omega.{arith}
-use lib.Dec.{eqb, leb}
+use lib.Dec.{eqb}
 use lib.ListN.{getD}
 use borrow.Author.Tests.{lt-leb}
 use Rattle.model.specs.declared.Settings.{Settings}
@@ -13,28 +13,27 @@ use Rattle.words.specs.Words.{some}
 use Rattle.model.specs.Address.{goodBlock}
 use Rattle.model.specs.Lent.{queuedAt, queueKindAt, queueMaskAt}
 use Rattle.model.specs.SoundLent.{unsentAtFor, placeFine}
+use Rattle.words.proofs.Flags.{not-both}
 use Rattle.layout.specs.declared.Layout.{Layout}
 use Rattle.layout.specs.Layout.{LaysOut}
+use Rattle.layout.proofs.ByPlace.{queued-read, kind-read}
 
 unused-shape : (c q : Bool) → (c && q) ≡ (q && c && true && true)
-unused-shape true true = refl
-unused-shape true false = refl
-unused-shape false true = refl
-unused-shape false false = refl
+unused-shape c q = simp and-true (and-comm c q)
 
 read-shape : (c r : Bool) → (c && r) ≡ (c && true && r)
-read-shape true r = refl
-read-shape false r = refl
+read-shape c r = simp and-true
 
 back-shape : (g a b c d : Bool) → (g && not (a && b && c && d)) ≡ (g && (not a || not b || not c || not d) && true)
-back-shape false a b c d = refl
-back-shape true false b c d = refl
-back-shape true true false c d = refl
-back-shape true true true false d = refl
-back-shape true true true true true = refl
-back-shape true true true true false = refl
+back-shape g a b c d = simp (and-true, not-both)
 
-module _ (S : Settings) {at : Layout} (laid : LaysOut S at) (longs words marks : List ℕ) (p a k : ℕ) (address : a ≡ queuedAt S longs p) (kind : k ≡ queueKindAt S marks p) where
+module _ (S : Settings) {at : Layout} (laid : LaysOut S at) (longs words marks : List ℕ) (p : ℕ) where
+  abbrev address : ℕ
+  address = getD longs (at .queue + p) 0
+
+  abbrev kind : ℕ
+  kind = getD marks (at .kinds + p) 0
+
   abbrev none : ℕ → Bool
   none i = eqb (queueMaskAt S words i) 0
 
@@ -51,14 +50,20 @@ module _ (S : Settings) {at : Layout} (laid : LaysOut S at) (longs words marks :
   clean-is : clean ≡ noMask
   clean-is = rw (laid .backs)
 
-  pub unused-place : k ≡ 0 → (clean && eqb a 0) ≡ placeFine S longs words marks p
-  unused-place e = let q : queueKindAt S marks p ≡ 0 = sym kind ∙ e in rw (clean-is, address, q, add-zero) (unused-shape noMask _)
+  pub record PlaceAnswers : Type 0 where
+    pub unused : kind ≡ 0 → (clean && eqb address 0) ≡ placeFine S longs words marks p
+    pub reads : {r : Bool} → kind ≡ 1 → r ≡ some (S .misses) (unsentAtFor S longs words marks address) → (clean && r) ≡ placeFine S longs words marks p
+    pub writes : kind ≡ 2 → (goodBlock address && not clean) ≡ placeFine S longs words marks p
+    pub unknown : (kind ≡ 0 → ⊥) → (kind ≡ 1 → ⊥) → (kind ≡ 2 → ⊥) → false ≡ placeFine S longs words marks p
 
-  pub read-place : {r : Bool} → k ≡ 1 → r ≡ some (S .misses) (unsentAtFor S longs words marks a) → (clean && r) ≡ placeFine S longs words marks p
-  read-place e h = let q : queueKindAt S marks p ≡ 1 = sym kind ∙ e in rw (clean-is, h, address, q, add-zero) (read-shape noMask _)
+  kind-is : {n : ℕ} → kind ≡ n → queueKindAt S marks p ≡ n
+  kind-is e = sym (kind-read S laid marks p) ∙ e
 
-  pub back-place : k ≡ 2 → (goodBlock a && not clean) ≡ placeFine S longs words marks p
-  back-place e = let q : queueKindAt S marks p ≡ 2 = sym kind ∙ e in rw (clean-is, address, q, add-zero) (back-shape (goodBlock (queuedAt S longs p)) (none (4 * p)) (none (4 * p + 1)) (none (4 * p + 2)) (none (4 * p + 3)))
-
-  pub no-kind : (k ≡ 0 → ⊥) → (k ≡ 1 → ⊥) → (k ≡ 2 → ⊥) → false ≡ placeFine S longs words marks p
-  no-kind f g h = let q : leb (queueKindAt S marks p) 2 ≡ false = lt-leb (queueKindAt S marks p) 2 (omega arith) in rw q
+  pub place-answers : PlaceAnswers
+  place-answers = record {
+    unused = λ e. rw (clean-is, queued-read S laid longs p, kind-is e, add-zero) (unused-shape noMask _);
+    reads = λ e h. rw (clean-is, h, queued-read S laid longs p, kind-is e, add-zero) (read-shape noMask _);
+    writes = λ e. rw (clean-is, queued-read S laid longs p, kind-is e, add-zero)
+        (back-shape (goodBlock (queuedAt S longs p)) (none (4 * p)) (none (4 * p + 1)) (none (4 * p + 2)) (none (4 * p + 3)));
+    unknown = λ f g h. let e = kind-is refl in rw (lt-leb (queueKindAt S marks p) 2 (omega arith));
+  }

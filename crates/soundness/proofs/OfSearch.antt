@@ -9,7 +9,6 @@ use Rattle.words.specs.Words.{countBelow}
 use Rattle.model.specs.SoundLent.{readFor}
 use Rattle.model.specs.declared.Settings.{Settings}
 use Rattle.layout.specs.declared.Layout.{Layout}
-use Rattle.layout.specs.Layout.{LaysOut}
 use Rattle.soundness.specs.Queued.{Queued}
 use Rattle.words.proofs.Below.{count-short}
 
@@ -26,10 +25,7 @@ unsentRead at longs marks a e =
 abbrev pub readRead : Layout → List ℕ → List ℕ → ℕ → ℕ → Bool
 readRead at longs marks a q = eqb (getD marks (at .kinds + q) 0) 1 && eqb (getD longs (at .queue + q) 0) a
 
-module _ (S : Settings) {at : Layout} (p : LaysOut S at) (longs words marks : List ℕ) (a n : ℕ) where
-  pub read-counted : countBelow n (readRead at longs marks a) ≡ countBelow n (readFor S longs words marks a)
-  read-counted = rw (p .kinds, p .queue)
-
+module _ (S : Settings) (longs words marks : List ℕ) (a n : ℕ) where
   -- behind the used places stands no read
   pub read-queued : Queued S marks n → countBelow n (readFor S longs words marks a) ≡ countBelow (S .queue) (readFor S longs words marks a)
   read-queued q = sym (count-short (readFor S longs words marks a) (S .queue) n (q .most) (λ j h l. rw (q .behind j h l)))

@@ -5,7 +5,6 @@ use mathlib.Core.List.{List}
 use Prim.Native.Nat.{ℕ, zero, suc, _+_, _*_, _-_, _^_, _<_}
 use native.Mathlib.Nat.{add-zero}
 use lib.Dec.{leb, ltb, eqb}
-use lib.ListN.{getD}
 use native.Mathlib.Omega.{arith}
 use borrow.Author.Tests.{le-ltb, eqb-true, eq-eqb, ne-eqb}
 use Rattle.model.specs.declared.Settings.{Settings}
@@ -23,14 +22,6 @@ use Rattle.layout.specs.Places.{First}
 use Rattle.layout.proofs.ByPlace.{kind-read}
 use Rattle.soundness.specs.Limits.{treeLimit}
 use Rattle.soundness.specs.Queued.{Queued}
-
--- 12 and 20, of the bytes that the code looks at
-module _ (S : Settings) {at : Layout} (p : LaysOut S at) (marks : List ℕ) where
-  pub counts-gathered : gathered (S .misses) (λ i. getD marks (at .counts + i) 0) ≡ gathered (S .misses) (ticketCountAt S marks)
-  counts-gathered = rw (p .counts)
-
-  pub kinds-gathered : gathered (S .queue) (λ i. getD marks (at .kinds + i) 0) ≡ gathered (S .queue) (queueKindAt S marks)
-  kinds-gathered = rw (p .kinds)
 
 -- ---- where the queue ends
 
@@ -55,43 +46,37 @@ three-no true false a b c d e f g h z = refl
 three-no true true a b c d false f g h z = rw (and-false (a && b && c && d))
 three-no true true a b c d true f g h z = clash refl z
 
-module _ (S : Settings) (longs words marks : List ℕ) (q r : Bool) (kinds : q ≡ gathered (S .queue) (queueKindAt S marks)) (lines : r ≡ linesFine S longs words marks) where
-  abbrev first : Bool
-  first = leb (nowAt words) lastCycle && q && r
+module _ (S : Settings) (longs words marks : List ℕ) where
+  pub record Firstly : Type 0 where
+    pub now : nowFine S longs words marks ≡ true
+    pub kinds : gathered (S .queue) (queueKindAt S marks) ≡ true
+    pub lines : linesFine S longs words marks ≡ true
 
-  firstly : first ≡ (nowFine S longs words marks && gathered (S .queue) (queueKindAt S marks) && linesFine S longs words marks)
-  firstly = rw (kinds, lines)
+  module _ (q r : Bool) (kinds : q ≡ gathered (S .queue) (queueKindAt S marks)) (lines : r ≡ linesFine S longs words marks) where
+    abbrev first : Bool
+    first = leb (nowAt words) lastCycle && q && r
 
-  pub unsound : not first ≡ true → false ≡ soundNumbers S longs words marks
-  unfolding soundNumbers
-  unsound t = three-no (nowFine S longs words marks) (linesFine S longs words marks) _ _ _ _ (gathered (S .queue) (queueKindAt S marks)) _ _ _ (sym firstly ∙ not-yes {b = first} t)
+    firstly : first ≡ (nowFine S longs words marks && gathered (S .queue) (queueKindAt S marks) && linesFine S longs words marks)
+    firstly = rw (kinds, lines)
 
-  module _ (t : not first ≡ false) where
-    yes : (nowFine S longs words marks && gathered (S .queue) (queueKindAt S marks) && linesFine S longs words marks) ≡ true
-    yes = sym firstly ∙ no-not {b = first} t
-
-    pub lines-yes : linesFine S longs words marks ≡ true
-    lines-yes = and-2 (nowFine S longs words marks && gathered (S .queue) (queueKindAt S marks)) _ yes
-
-    both-yes : (nowFine S longs words marks && gathered (S .queue) (queueKindAt S marks)) ≡ true
-    both-yes = and-1 _ (linesFine S longs words marks) yes
-
-    pub kinds-yes : gathered (S .queue) (queueKindAt S marks) ≡ true
-    kinds-yes = and-2 (nowFine S longs words marks) _ both-yes
-
-    pub rest : {a b c d f g h : Bool}
-        → a ≡ every (4 * linesOf S) (sectorFine S longs words marks)
-        → b ≡ every (S .readers * S .misses) (ticketFine S longs words marks)
-        → c ≡ gathered (S .misses) (ticketCountAt S marks)
-        → d ≡ every (S .misses) (entryFine S longs words marks)
-        → f ≡ every (S .queue) (placeFine S longs words marks)
-        → g ≡ countFine S longs words marks
-        → h ≡ every (S .sets) (setFine S longs words marks)
-        → (a && b && c && d && f && g && h) ≡ soundNumbers S longs words marks
+    pub unsound : not first ≡ true → false ≡ soundNumbers S longs words marks
     unfolding soundNumbers
-    rest {a} {b} {c} {d} qa qb qc qd qf qg qh =
-        let now = and-1 (nowFine S longs words marks) (gathered (S .queue) (queueKindAt S marks)) both-yes in
-        rw (now, lines-yes, kinds-yes, ← qa, ← qb, ← qc, ← qd, ← qf, ← qg, ← qh, and-true (a && b && c && d))
+    unsound t = three-no (nowFine S longs words marks) (linesFine S longs words marks) _ _ _ _ (gathered (S .queue) (queueKindAt S marks)) _ _ _ (sym firstly ∙ not-yes {b = first} t)
+
+    pub first-yes : not first ≡ false → Firstly
+    first-yes t = let e = sym firstly ∙ no-not {b = first} t in search (and-1, and-2)
+
+  pub rest : Firstly → {a b c d f g h : Bool}
+      → a ≡ every (4 * linesOf S) (sectorFine S longs words marks)
+      → b ≡ every (S .readers * S .misses) (ticketFine S longs words marks)
+      → c ≡ gathered (S .misses) (ticketCountAt S marks)
+      → d ≡ every (S .misses) (entryFine S longs words marks)
+      → f ≡ every (S .queue) (placeFine S longs words marks)
+      → g ≡ countFine S longs words marks
+      → h ≡ every (S .sets) (setFine S longs words marks)
+      → (a && b && c && d && f && g && h) ≡ soundNumbers S longs words marks
+  unfolding soundNumbers
+  rest y {a} {b} {c} {d} qa qb qc qd qf qg qh = rw (y .now, y .lines, y .kinds, ← qa, ← qb, ← qc, ← qd, ← qf, ← qg, ← qh, and-true (a && b && c && d))
 
 -- a tree below the limit
 pub below-limit : (S : Settings) (t : ℕ) → ltb t (treeLimit S) ≡ treeFine (isTree S) (S .ways) t

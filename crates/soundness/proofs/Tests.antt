@@ -1,14 +1,11 @@
--- A loop that goes on behind a fault, two tests at each place, and a test of sixteen places at a time.
+-- A loop that goes on behind a fault, a test that follows from another, two tests at each place, and a test of sixteen places at a time.
 use mathlib.Core.Path.{_≡_, refl, ap, _∙_}
-use mathlib.Core.Bool.{Bool, true, false, _&&_}
-use mathlib.Core.Logic.{⊎-elim}
+use mathlib.Core.Bool.{Bool, true, false, _&&_, and-assoc, and-comm, and-true, and-false}
 use Prim.Native.Nat.{ℕ, zero, suc, _+_, _*_, _/_, _%_, _≤_, _<_}
-use native.Mathlib.Nat.{eq-or-lt-of-le}
+use native.Mathlib.Nat.{add-zero, add-suc, mul-suc}
 use native.Mathlib.Numerals.{add-one}
 use native.Mathlib.Omega.{arith}
 use Rattle.words.specs.Words.{every}
-use Rattle.words.proofs.Flags.{and-1, and-2, and-i, iff}
-use Rattle.words.proofs.Below.{every-at, every-i}
 
 module _ (p : ℕ → Bool) where
   -- a loop that goes on behind a fault: b says that there was none
@@ -21,13 +18,16 @@ module _ (p : ℕ → Bool) where
   pub joined-end : (n i : ℕ) {b : Bool} → n ≤ i → Joined n i b → b ≡ every n p
   joined-end n i h w = let e : n ≡ i = omega arith in rw e (w .1)
 
+-- ---- tests of which one follows from another
+
+pub and-implied : {a b : Bool} → (a ≡ true → b ≡ true) → a ≡ (b && a)
+and-implied {a = true} {b} f = rw (f refl)
+and-implied {a = false} {b} f = rw and-false
+
 -- ---- two tests at each place
 
 pub swap : (a b c d : Bool) → (a && b && (c && d)) ≡ (a && c && (b && d))
-swap true true c d = refl
-swap true false true d = refl
-swap true false false d = refl
-swap false b c d = refl
+swap a b c d = rw (and-assoc a b (c && d), ← and-assoc b c d, and-comm b c, and-assoc c b d, ← and-assoc a c (b && d))
 
 module _ (p q : ℕ → Bool) where
   pub every-both : (n : ℕ) → (every n p && every n q) ≡ every n (λ i. p i && q i)
@@ -40,29 +40,18 @@ module _ (p : ℕ → Bool) where
   abbrev sixteen : ℕ → Bool
   sixteen g = every 16 (λ k. p (16 * g + k))
 
+  every-plus : (a b : ℕ) → every (a + b) p ≡ (every a p && every b (λ k. p (a + k)))
+  every-plus a zero = rw (add-zero, and-true)
+  every-plus a (suc b) = rw (add-suc, every-plus a b, and-assoc)
+
+  every-groups : (g : ℕ) → every (16 * g) p ≡ every g sixteen
+  every-groups zero = refl
+  every-groups (suc g) = rw (mul-suc, every-plus (16 * g) 16, every-groups g)
+
   every-sixteens : (n : ℕ) → (every (n / 16) sixteen && every (n % 16) (λ k. p (16 * (n / 16) + k))) ≡ every n p
-  every-sixteens n = iff (λ e. every-i p n (up e)) down
-    where
-      in-group : every (n / 16) sixteen ≡ true → (i : ℕ) → i / 16 < n / 16 → p i ≡ true
-      in-group e i h =
-          let s : 16 * (i / 16) + i % 16 ≡ i = omega arith in
-          rw s at (every-at (λ k. p (16 * (i / 16) + k)) 16 (i % 16) (every-at sixteen (n / 16) (i / 16) e h) (omega arith))
-
-      in-rest : every (n % 16) (λ k. p (16 * (n / 16) + k)) ≡ true → (i : ℕ) → i < n → i / 16 ≡ n / 16 → p i ≡ true
-      in-rest e i h q =
-          let s : 16 * (n / 16) + i % 16 ≡ i = omega arith in
-          rw s at (every-at (λ k. p (16 * (n / 16) + k)) (n % 16) (i % 16) e (omega arith))
-
-      up : (every (n / 16) sixteen && every (n % 16) (λ k. p (16 * (n / 16) + k))) ≡ true → (i : ℕ) → i < n → p i ≡ true
-      up e i h =
-          let l : i / 16 ≤ n / 16 = omega arith in
-          ⊎-elim (in-rest (and-2 (every (n / 16) sixteen) _ e) i h) (in-group (and-1 _ _ e) i) (eq-or-lt-of-le l)
-
-      down : every n p ≡ true → (every (n / 16) sixteen && every (n % 16) (λ k. p (16 * (n / 16) + k))) ≡ true
-      down e =
-          and-i
-          (every-i sixteen (n / 16) (λ g h. every-i (λ k. p (16 * g + k)) 16 (λ k l. every-at p n (16 * g + k) e (omega arith))))
-          (every-i (λ k. p (16 * (n / 16) + k)) (n % 16) (λ k l. every-at p n (16 * (n / 16) + k) e (omega arith)))
+  every-sixteens n =
+      let s : 16 * (n / 16) + n % 16 ≡ n = omega arith in
+      rw (← every-groups (n / 16), ← every-plus (16 * (n / 16)) (n % 16), s)
 
   pub sixteens-stop : (n : ℕ) → false ≡ every (n / 16) sixteen → false ≡ every n p
   sixteens-stop n e = ap (λ (b : Bool). b && every (n % 16) (λ k. p (16 * (n / 16) + k))) e ∙ every-sixteens n

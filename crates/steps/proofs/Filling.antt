@@ -2,7 +2,7 @@
 use mathlib.Core.Path.{_≡_, refl, sym, ap, subst, _∙_}
 use mathlib.Core.Logic.{⊎-elim}
 use mathlib.Core.Bool.{Bool, true, false, not, _&&_, _||_}
-use mathlib.Core.List.{List, [], _∷_, map}
+use mathlib.Core.List.{List, _∷_, map}
 use Prim.Native.Nat.{ℕ, _+_, _-_, _*_, _%_, _≤_, _<_}
 use native.Mathlib.Nat.{mod-lt, div-add-mod'}
 use native.Mathlib.Omega.{arith}
@@ -34,15 +34,16 @@ use Rattle.model.proofs.SoundFacts.{Sound, parts, lines-are, four-at, holder-on
 use Rattle.layout.specs.declared.Layout.{Layout}
 use Rattle.layout.specs.Layout.{LaysOut}
 use Rattle.layout.specs.Places.{First}
-use Rattle.layout.specs.Sectors.{Plain, statuses}
+use Rattle.layout.specs.Sectors.{Plain}
 use Rattle.tables.specs.Raw.{holdsAt, dirtyAt, ZerosFrom}
 use Rattle.tables.specs.Telling.{telling}
 use Rattle.layout.proofs.ByBlocks.{ByBlocks, is-stands, stands-encode}
 use Rattle.model.proofs.SendFillKeepSound.{fill-kept}
-use Rattle.layout.proofs.Lines.{tag-at, status-at, lifted, plain-at}
+use Rattle.layout.proofs.Lines.{tag-at, lifted, plain-at}
 use Rattle.tables.proofs.Misses.{sent-at, count-at, tickets-at, tickets-past, remove-stands, entry-found, entry-missing, misses-counted}
 use Rattle.tables.proofs.Tellings.{refusal-leaves, done-leaves}
 use Rattle.tables.specs.Changed.{CountFits, Changed}
+use Rattle.tables.proofs.Statuses.{holds-bytes}
 use Rattle.tables.proofs.Changing.{withSectors, dirty-at, changed-as, change-stands}
 use Rattle.layout.proofs.OneOfFour.{sector-of-four}
 use Rattle.steps.specs.Parts.{Holding, SectorFilled, LineFilled, releasing}
@@ -50,7 +51,7 @@ use Rattle.steps.proofs.Entries.{kept-others, tickets-are, sent-is}
 use Rattle.model.proofs.SendFillKeepSound.{fill-leaves-sound}
 use Rattle.words.proofs.Counting.{recount, count-length, one-counted, map-one}
 use Rattle.layout.proofs.DirtyCount.{dirty-count-at}
-use Rattle.encoding.proofs.NumbersAreTables.{invalid-number, flag-of-bit}
+use Rattle.encoding.proofs.NumbersAreTables.{flag-of-bit}
 
 -- ---- the sector that has come
 
@@ -75,32 +76,6 @@ line-filled S a {at} {l} {longs = longs} {words = words} {marks = marks} e insid
   held = subst (λ (b : ℕ). holdsAt longs marks b l ≡ true) e held;
   filled = c;
 }
-
--- the tag and the four tests in the order of the code, and in that of the definition
-held-order : (g a b c d : Bool) → (g && not (a && b && c && d)) ≡ (not (a && (b && (c && (d && true)))) && g)
-held-order true true true true true = refl
-held-order true true true true false = refl
-held-order true true true false d = refl
-held-order true true false c d = refl
-held-order true false b c d = refl
-held-order false true true true true = refl
-held-order false true true true false = refl
-held-order false true true false d = refl
-held-order false true false c d = refl
-held-order false false b c d = refl
-
-held-of : (xs : List Sector) (tag b : ℕ) → length xs ≡ 4 → {g n0 n1 n2 n3 : ℕ} → g ≡ tag
-    → n0 ≡ getD (padTo 4 (statuses xs)) 0 0 → n1 ≡ getD (padTo 4 (statuses xs)) 1 0 → n2 ≡ getD (padTo 4 (statuses xs)) 2 0 → n3 ≡ getD (padTo 4 (statuses xs)) 3 0
-    → (eqb g b && not (eqb n0 0 && eqb n1 0 && eqb n2 0 && eqb n3 0)) ≡ (not (all (λ s. isInvalid (s .status)) xs) && eqb tag b)
-unfolding padTo
-held-of [] tag b l e f0 f1 f2 f3 = absurd (omega arith)
-held-of (p ∷ []) tag b l e f0 f1 f2 f3 = absurd (omega arith)
-held-of (p ∷ q ∷ []) tag b l e f0 f1 f2 f3 = absurd (omega arith)
-held-of (p ∷ q ∷ r ∷ []) tag b l e f0 f1 f2 f3 = absurd (omega arith)
-held-of (p ∷ q ∷ r ∷ s ∷ []) tag b l e f0 f1 f2 f3 =
-    rw (e, f0, f1, f2, f3, invalid-number (p .status), invalid-number (q .status), invalid-number (r .status), invalid-number (s .status))
-    (held-order (eqb tag b) (isInvalid (p .status)) (isInvalid (q .status)) (isInvalid (r .status)) (isInvalid (s .status)))
-held-of (p ∷ q ∷ r ∷ s ∷ u ∷ xs) tag b l e f0 f1 f2 f3 = absurd (omega arith)
 
 -- a sound sector that has come: dirty then if it has a dirty byte, else it was not, and the line is as dirty as before
 come-dirty : (xs : List Sector) (k : ℕ) → k < length xs → all sectorOk xs ≡ true
@@ -130,9 +105,9 @@ module _ (S : Settings) (t : Tables) (ok : Sound S t) {longs words marks : List 
 
   held-at : (l b : ℕ) → l < length (t .lines) → holdsAt longs marks b l ≡ holds b (getD (t .lines) l fresh)
   held-at l b k =
-      let m = status-at S t h p (lines-are S t ok) l k in
-      held-of (getD (t .lines) l fresh .sectors) (getD (t .lines) l fresh .tag) b (four l k) (tag-at S t h p (lines-are S t ok) l k)
-      (m 0 (4 * l) (omega arith) (omega arith)) (m 1 (4 * l + 1) (omega arith) refl) (m 2 (4 * l + 2) (omega arith) refl) (m 3 (4 * l + 3) (omega arith) refl)
+      sym (holds-bytes S longs words marks l b)
+      ∙ rw (tag-at S t h p (lines-are S t ok) l k)
+      (ap (λ (xs : List Sector). not (all (λ s. isInvalid (s .status)) xs) && eqb (getD (t .lines) l fresh .tag) b) (lifted S t h p (lines-are S t ok) l k (four l k)))
 
   fill-one : (a l : ℕ) → l < length (t .lines) → holds (blockOf a) (getD (t .lines) l fresh) ≡ true → map (fillLine a) (t .lines) ≡ set (t .lines) l (fillLine a (getD (t .lines) l fresh))
   fill-one a l b e =

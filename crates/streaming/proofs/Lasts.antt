@@ -82,17 +82,18 @@ walk-end s at h k inv =
 
 -- ---- what stands there
 
+-- what holds of each place at which the last record may begin, where it begins there
+pub by-last : (P : ℕ → Type 0) (k : ℕ) (s : List ℕ) → (isCommand k ≡ true → lengthOf k < length s → P (suc (beforeLast (lengthOf k) s)))
+    → (isCommand k ≡ true → length s ≤ lengthOf k → P 0) → (isCommand k ≡ false → P (suc (length s))) → P (beforeLast 0 (k ∷ s))
+unfolding beforeLast
+by-last P k s more last unknown =
+    by-flag P (isCommand k) _ _ (λ c. by-flag P (ltb (lengthOf k) (length s)) _ _ (λ z. more c (ltb-true _ _ z)) (λ z. last c (ltb-false _ _ z))) unknown
+
 pub last-most : (n : ℕ) (s : List ℕ) → beforeLast n s ≤ length s
 unfolding beforeLast
 last-most n [] = omega arith
 last-most (suc n) (b ∷ s) = let h = last-most n s in omega arith
-last-most zero (k ∷ s) =
-    by-flag Inside (isCommand k) _ _
-    (λ z. by-flag Inside (ltb (lengthOf k) (length s)) _ _ (λ y. let h = last-most (lengthOf k) s in omega arith) (λ y. omega arith))
-    (λ z. omega arith)
-  where
-    Inside : ℕ → Type 0
-    Inside m = m ≤ suc (length s)
+last-most zero (k ∷ s) = by-last (λ m. m ≤ suc (length s)) k s (λ c l. let h = last-most (lengthOf k) s in omega arith) (λ c l. omega arith) (λ c. omega arith)
 
 pub last-least : (n : ℕ) (s : List ℕ) → n ≤ length s → n ≤ beforeLast n s
 last-least n s h = let e = last-skips n s h in omega arith
@@ -102,12 +103,4 @@ unfolding beforeLast
 last-alone n [] h = tt
 last-alone (suc n) (b ∷ s) h = last-alone n s (le-of-suc-le-suc h)
 last-alone zero (k ∷ s) h =
-    by-flag At (isCommand k) _ _
-    (λ z.
-    by-flag At (ltb (lengthOf k) (length s)) _ _
-    (λ y. let l = ltb-true (lengthOf k) (length s) y in last-alone (lengthOf k) s (omega arith))
-    (λ y. (z, ltb-false (lengthOf k) (length s) y)))
-    (λ z. rw (drop-length s) tt)
-  where
-    At : ℕ → Type 0
-    At m = OneRecord (drop m (k ∷ s))
+    by-last (λ m. OneRecord (drop m (k ∷ s))) k s (λ c l. last-alone (lengthOf k) s (omega arith)) (λ c l. (c, l)) (λ c. rw (drop-length s) tt)

@@ -1,13 +1,13 @@
 -- What a part leaves, of what the runner and the buffer promise.
-use mathlib.Core.Path.{_≡_, sym, ap, subst, _∙_}
+use mathlib.Core.Path.{_≡_, refl, sym, ap, subst, _∙_}
 use mathlib.Core.Logic.{_⊎_, inl, inr}
-use mathlib.Core.List.{List, [], _∷_, _++_}
-use Prim.Native.Nat.{ℕ, zero, suc, _+_, _-_, _%_, _^_, _≤_}
-use native.Mathlib.Nat.{zero-add, sub-zero, le-of-suc-le-suc}
+use mathlib.Core.List.{List, _++_}
+use Prim.Native.Nat.{ℕ, _+_, _-_, _%_, _^_, _≤_}
+use native.Mathlib.Nat.{zero-add, sub-zero}
 use native.Mathlib.Omega.{arith}
 use borrow.Author.Tests.{le-leb}
-use lib.ListN.{length, take, drop, length-drop, take-append-drop}
-use lib.Seq.{length-take-le, take-append-le, take-nil, take-at}
+use lib.ListN.{length, take, drop, length-drop}
+use lib.Seq.{length-take-le, take-take, take-add, take-at, drop-at}
 use Rattle.model.specs.Tables.{Tables}
 use Rattle.model.specs.Lent.{Lent, lent}
 use Rattle.model.specs.Inner.{Encodes}
@@ -21,22 +21,21 @@ use Rattle.running.specs.Begin.{firstRecord}
 use Rattle.running.specs.Lengths.{lengthsAsked, lengthsFor, Long}
 use Rattle.running.proofs.Asked.{Most, asked-most}
 use Rattle.input.specs.Buffers.{carried, carriedCount}
+use Rattle.streaming.specs.declared.work.Next.{Next}
 use Rattle.streaming.specs.declared.work.Next.the-variants as next
 use Rattle.streaming.specs.declared.work.Work.{Work}
 use Rattle.streaming.specs.declared.scope.Scope.{Scope}
 use Rattle.streaming.specs.Scopes.{partEnd}
 use Rattle.streaming.specs.Works.{nextAfterStop, failedOf, behindOf}
-use Rattle.streaming.specs.Parts.{PartLeaves, Ran}
+use Rattle.streaming.specs.Parts.{Ran}
 
 -- ---- the rest of a part, at the front of the buffer
 
-drop-front : (c n : ℕ) (l : List ℕ) → c ≤ n → drop c (take n l) ≡ take (n - c) (drop c l)
-drop-front zero n l h = rw sub-zero
-drop-front (suc c) zero l h = absurd (omega arith)
-drop-front (suc c) (suc n) [] h = sym (take-nil (suc n - suc c))
-drop-front (suc c) (suc n) (x ∷ l) h =
-    let e : suc n - suc c ≡ n - c = omega arith in
-    rw e (drop-front c n l (le-of-suc-le-suc h))
+drop-front : (c n : ℕ) (l : List ℕ) → c ≤ n → n ≤ length l → drop c (take n l) ≡ take (n - c) (drop c l)
+drop-front c n l h k =
+    let e : n ≡ c + (n - c) = omega arith in
+    let t : take n l ≡ take c l ++ take (n - c) (drop c l) = ap (λ (m : ℕ). take m l) e ∙ take-add c (n - c) l in
+    rw t (drop-at (take c l) _ c (length-take-le c l (omega arith)))
 
 module _ (l : List ℕ) (c n : ℕ) (h : c ≤ n) (k : n ≤ length l) where
   pub carried-rest : take (carriedCount l c n) (carried l c n) ≡ drop c (take n l)
@@ -45,16 +44,13 @@ module _ (l : List ℕ) (c n : ℕ) (h : c ≤ n) (k : n ≤ length l) where
       let x = take (n - c) (drop c l) in
       let e : length x ≡ n - c = length-take-le (n - c) (drop c l) (omega (arith, length-drop c l)) in
       let p : take (n - c) (x ++ drop (n - c) l) ≡ x = take-at x (drop (n - c) l) (n - c) e in
-      rw (le-leb c n h, le-leb n (length l) k) (p ∙ sym (drop-front c n l h))
+      rw (le-leb c n h, le-leb n (length l) k) (p ∙ sym (drop-front c n l h k))
 
   pub carried-is : carriedCount l c n ≡ n - c
   unfolding carriedCount
   carried-is = rw (le-leb c n h, le-leb n (length l) k)
 
 -- ---- a part
-
-front-part : (m n : ℕ) (l : List ℕ) → m ≤ length (take n l) → take m l ≡ take m (take n l)
-front-part m n l h = ap (take m) (sym (take-append-drop n l)) ∙ take-append-le m (take n l) (drop n l) h
 
 module _ {S : Settings} (k : Scope) (buf : List ℕ) (n : ℕ) (inside : n ≤ length buf) {e : List ℕ} {L : Lent} {ran : Run} {f : List ℕ} {M : Lent}
     {q : List ℕ} (q-is : q ≡ take n buf) {end : ℕ} (end-is : end ≡ partEnd k q) (short : end ≤ length q)
@@ -69,7 +65,7 @@ module _ {S : Settings} (k : Scope) (buf : List ℕ) (n : ℕ) (inside : n ≤ l
   ends = rw (← q-is) short
 
   part-is : p ≡ runPart
-  part-is = p-is ∙ front-part end n buf ends ∙ ap (λ (m : ℕ). take m waiting) (end-is ∙ ap (partEnd k) q-is)
+  part-is = p-is ∙ sym (take-take end n buf (let w = length-take-le n buf inside in omega (arith, ends))) ∙ ap (λ (m : ℕ). take m waiting) (end-is ∙ ap (partEnd k) q-is)
 
   u : Resumes S (restFrom S runPart 0 0 e) runPart 0 0 e L ran f M
   u = subst (λ (x : List ℕ). Resumes S (restFrom S x 0 0 e) x 0 0 e L ran f M) part-is v
@@ -101,36 +97,31 @@ module _ {S : Settings} (k : Scope) (buf : List ℕ) (n : ℕ) (inside : n ≤ l
       handed : out ≡ ran .written
       handed = out-is ∙ ap length given-is ∙ length-take-le (ran .written) f (v .stands .room)
 
-      module _ {w x : Work} (have-is : x .have ≡ have) (stop-is : x .stop ≡ ran .stop) (left-is : x .left ≡ w .left)
-          (consumed-is : x .consumed ≡ w .consumed + ran .consumed) (written-is : x .written ≡ (w .written + out) % 2 ^ 64)
-          (next-is : (x .next ≡ nextAfterStop (ran .stop)) ⊎ (x .next ≡ next.Failed)) where
-        leaves : (t : Tables) → Encodes S L t → PartLeaves S (runFrom S 0 (length e) runPart t) waiting e w x b f M
-        leaves t i = record {
+      -- with m next, as the stop asks or because the events did not go
+      ran-of : {w x : Work} {m : Next}
+          → x ≡ record { have = have; left = w .left; consumed = w .consumed + ran .consumed; written = (w .written + out) % 2 ^ 64; stop = ran .stop; next = m }
+          → (m ≡ nextAfterStop (ran .stop)) ⊎ (m ≡ next.Failed) → Ran S k waiting e L w x b f M
+      ran-of is next-is = rw is record {
+        on = λ t i. record {
           tables = rw sub-zero at (u .keeps t i);
           events = rw sub-zero at (u .on t i .events);
-          rest = rw (have-is, left, eats t i);
+          rest = rw (left, eats t i);
           have = let a = waits in let c = part-within in let d = eats t i in let l = length-take-le n buf inside in omega arith;
-          stop = stop-is ∙ stops t i;
-          left = left-is;
-          consumed = consumed-is ∙ rw (eats t i);
-          written = written-is ∙ rw (handed, writes t i);
+          stop = stops t i;
+          left = refl;
+          consumed = rw (eats t i);
+          written = rw (handed, writes t i);
           next = rw (stops t i) at next-is;
-        }
-
-        ran-of : Ran S k waiting e L w x b f M
-        ran-of = record { on = leaves; inside = let a = waits in omega arith }
+        };
+        inside = let a = waits in omega arith;
+      }
 
       module _ {w x : Work} (is : x ≡ behindOf w (ran .stop) (ran .consumed) out have) where
         pub part-ran : Ran S k waiting e L w x b f M
-        part-ran =
-            ran-of (ap (λ (y : Work). y .have) is) (ap (λ (y : Work). y .stop) is) (ap (λ (y : Work). y .left) is) (ap (λ (y : Work). y .consumed) is) (ap (λ (y : Work). y .written) is)
-            (inl (ap (λ (y : Work). y .next) is))
+        part-ran = ran-of is (inl refl)
 
         pub part-failed : {y : Work} → y ≡ failedOf x → Ran S k waiting e L w y b f M
-        part-failed {y} q =
-            let z : y ≡ failedOf (behindOf w (ran .stop) (ran .consumed) out have) = q ∙ ap failedOf is in
-            ran-of (ap (λ (y : Work). y .have) z) (ap (λ (y : Work). y .stop) z) (ap (λ (y : Work). y .left) z) (ap (λ (y : Work). y .consumed) z) (ap (λ (y : Work). y .written) z)
-            (inr (ap (λ (y : Work). y .next) z))
+        part-failed q = ran-of (q ∙ ap failedOf is) (inr refl)
 
 -- ---- what is lent
 

@@ -1,85 +1,60 @@
 -- Where a run stops: from there on it halts, with anything behind that may come; with event room for one record it consumes before 16; what
 -- waits for more bytes is short; the records before the last are whole.
-use mathlib.Core.Path.{_≡_, refl, sym, ap, subst, _∙_}
+use mathlib.Core.Path.{_≡_, refl, sym, ap, _∙_}
 use mathlib.Core.Logic.{⊎-elim}
-use mathlib.Core.Bool.{Bool, true, false}
+use mathlib.Core.Bool.{true, false}
 use mathlib.Core.List.{List, [], _∷_, _++_, append-nil}
 use Prim.Native.Nat.{ℕ, zero, suc, _+_, _-_, _≤_, _<_}
 use native.Mathlib.Nat.{le-of-suc-le-suc}
 use native.Mathlib.Omega.{arith}
-use borrow.Author.Tests.{le-ltb, ltb-true, ltb-false}
+use borrow.Author.Tests.{lt-ltb, le-ltb}
 use lib.Dec.{ltb}
 use lib.ListN.{length, take, drop}
 use lib.Seq.{length-take-le}
 use Rattle.model.specs.Tables.{Tables, after, eventsOf}
-use Rattle.model.specs.Records.{isCommand, isSettings, lengthOf, logBytes}
+use Rattle.model.specs.Records.{isCommand, lengthOf, logBytes}
 use Rattle.model.specs.RunnerOf as runner
-use Rattle.model.specs.Runner.{eventRoom, laterStop, goesOn, stepAt, Result, halt, bytesThen, runFrom}
+use Rattle.model.specs.Runner.{eventRoom, laterStop, goesOn, stepAt, Result, halt, runFrom}
 use Rattle.model.specs.declared.Settings.{Settings}
 use Rattle.model.specs.declared.Stop.{Stop}
 use Rattle.model.specs.declared.Stop.the-variants as stop
-use Rattle.words.proofs.Flags.{clash, by-flag, flag}
+use Rattle.words.proofs.Flags.{clash, by-flag, pick-both, flag}
 use Rattle.records.proofs.Lengths.{body-short}
-use Rattle.running.proofs.Running.{going, from-stops, from-goes}
-use Rattle.running.proofs.Parts.{stopBy, later-more, later-roomy}
+use Rattle.running.proofs.Running.{by-record, going, from-stops}
+use Rattle.running.proofs.Asked.{final}
+use Rattle.running.proofs.Parts.{later-more, later-roomy}
 use Rattle.streaming.specs.Scopes.{beforeLast}
 use Rattle.streaming.specs.Halts.{ofEnd, MayFollow, OneRecord}
-use Rattle.streaming.proofs.Lasts.{last-most, last-least}
+use Rattle.streaming.proofs.Lasts.{by-last, last-most, last-least}
 
 -- ---- the checks at a record, by what they come to
 
-by-room : (a b c : Bool) → stopBy a b c false ≡ stop.NoRoom → ⊥
-by-room false b c e = let z : _≡_ {A = ℕ} 0 1 = cc in omega arith
-by-room true true c e = let z : _≡_ {A = ℕ} 0 1 = cc in omega arith
-by-room true false true e = let z : _≡_ {A = ℕ} 0 1 = cc in omega arith
-by-room true false false e = let z : _≡_ {A = ℕ} 0 1 = cc in omega arith
-
-by-whole : (a c p : Bool) → stopBy a false c p ≡ stop.CutShort → ⊥
-by-whole false c p e = let z : _≡_ {A = ℕ} 0 1 = cc in omega arith
-by-whole true true p e = let z : _≡_ {A = ℕ} 0 1 = cc in omega arith
-by-whole true false true e = let z : _≡_ {A = ℕ} 0 1 = cc in omega arith
-by-whole true false false e = let z : _≡_ {A = ℕ} 0 1 = cc in omega arith
-
-roomy-stop : (room k : ℕ) (a : List ℕ) → eventRoom ≤ room → laterStop room k a ≡ stop.NoRoom → ⊥
-unfolding runner.laterStop
-roomy-stop room k a w e = by-room (isCommand k) (ltb (length a) (lengthOf k)) (isSettings k) (rw (le-ltb room eventRoom w) at e)
-
 module _ (room k : ℕ) (a : List ℕ) where
   -- with room for one record
-  roomy-same : (other : ℕ) → eventRoom ≤ other → (laterStop room k a ≡ stop.NoRoom → ⊥) → laterStop room k a ≡ laterStop other k a
-  roomy-same other w g = later-roomy room k a other g (roomy-stop other k a w)
-
-  whole-stop : lengthOf k ≤ length a → laterStop room k a ≡ stop.CutShort → ⊥
+  roomy-stop : eventRoom ≤ room → laterStop room k a ≡ stop.NoRoom → ⊥
   unfolding runner.laterStop
-  whole-stop w e = by-whole (isCommand k) (isSettings k) (ltb room eventRoom) (rw (le-ltb (length a) (lengthOf k) w) at e)
-
-  unknown-stop : isCommand k ≡ false → laterStop room k a ≡ stop.UnknownKind
-  unfolding runner.laterStop
-  unknown-stop z = rw z
+  roomy-stop w =
+      by-record (λ n. n ≡ stop.NoRoom → ⊥) k a (λ c. final {n = stop.UnknownKind} refl .roomy) (λ c l. final {n = stop.CutShort} refl .roomy)
+      (λ c l z. final {n = stop.OutOfPlace} refl .roomy) (λ c l z. rw (le-ltb room eventRoom w) (final {n = stop.Nothing} refl .roomy))
 
   cut-stop : laterStop room k a ≡ stop.CutShort → (isCommand k ≡ true) × (length a < lengthOf k)
-  cut-stop e =
-      ⊎-elim
-      (λ z.
-      ⊎-elim
-      (λ y. (z, ltb-true (length a) (lengthOf k) y))
-      (λ y. absurd (whole-stop (ltb-false (length a) (lengthOf k) y) e))
-      (flag (ltb (length a) (lengthOf k))))
-      (λ z. let q = unknown-stop z in let y : _≡_ {A = ℕ} 0 1 = cc in absurd (omega arith))
-      (flag (isCommand k))
+  unfolding runner.laterStop
+  cut-stop =
+      by-record Cut k a (λ c e. clash (ap ofEnd e) refl) (λ c l e. (c, l)) (λ c l z e. clash (ap ofEnd e) refl)
+      (λ c l z. pick-both Cut (ltb room eventRoom) (λ e. clash (ap ofEnd e) refl) (λ e. clash refl (ap goesOn e)))
+    where
+      Cut : Stop → Type 0
+      Cut n = n ≡ stop.CutShort → (isCommand k ≡ true) × (length a < lengthOf k)
+
+  whole-stop : lengthOf k ≤ length a → laterStop room k a ≡ stop.CutShort → ⊥
+  whole-stop w e = let l = cut-stop e .1 in omega arith
 
   -- more bytes behind it
   more-same : (b : List ℕ) → (laterStop room k a ≡ stop.CutShort → ⊥) → laterStop room k (a ++ b) ≡ laterStop room k a
   unfolding runner.laterStop
   more-same b g =
-      ⊎-elim
-      (λ (z : isCommand k ≡ true).
-      ⊎-elim
-      (λ (y : ltb (length a) (lengthOf k) ≡ true). absurd (g (rw (z, y))))
-      (λ (y : ltb (length a) (lengthOf k) ≡ false). later-more room k a b (ltb-false (length a) (lengthOf k) y))
-      (flag (ltb (length a) (lengthOf k))))
-      (λ (z : isCommand k ≡ false). rw z)
-      (flag (isCommand k))
+      by-record (λ n. laterStop room k (a ++ b) ≡ laterStop room k a) k a {a = stop.Nothing} {b = stop.Nothing} (λ c. rw c) (λ c l. absurd (g (rw (c, lt-ltb _ _ l))))
+      (λ c l z. later-more room k a b l) (λ c l z. later-more room k a b l)
 
 module _ (S : Settings) where
   -- ---- from where a run stops it halts
@@ -99,55 +74,35 @@ module _ (S : Settings) where
       let x = logBytes (eventsOf (stepAt S k a t)) in
       let u = after t (stepAt S k a t) in
       let o = runFrom S (lengthOf k) (room - length x) a u in
-      ⊎-elim
-      (λ z.
-      let p = from-goes S room k a t z in
-      let i = halts-there (lengthOf k) (room - length x) other a u (going room k a z .whole) w (λ f. g (ap (λ (r : Result Tables). r .stop) p ∙ f)) in
+      by-flag (λ (o : Result Tables). (o .stop ≡ stop.NoRoom → ⊥) → There other 0 (k ∷ a) o) (goesOn (laterStop room k a)) _ _
+      (λ z f.
       let e : 0 + (1 + lengthOf k + o .consumed) ≡ suc (lengthOf k + o .consumed) = omega arith in
-      let y : There other 0 (k ∷ a) (bytesThen (1 + lengthOf k) x o) = rw e i in
-      subst (There other 0 (k ∷ a)) (sym p) y)
-      (λ z.
-      let p = from-stops S room k a t z in
-      let q = roomy-same room k a other w (λ f. g (ap (λ (r : Result Tables). r .stop) p ∙ f)) in
-      let y : There other 0 (k ∷ a) (halt (laterStop room k a) t) = from-stops S other k a t (rw (← q) z) ∙ ap (λ (n : Stop). halt n t) (sym q) in
-      subst (There other 0 (k ∷ a)) (sym p) y)
-      (flag (goesOn (laterStop room k a)))
+      rw e (halts-there (lengthOf k) (room - length x) other a u (going room k a z .whole) w f))
+      (λ z f. let q = later-roomy room k a other f (roomy-stop other k a w) in from-stops S other k a t (rw (← q) z) ∙ ap (λ (n : Stop). halt n t) (sym q))
+      g
 
   -- ---- bytes before which a run halts
 
-  none-halts : (n room : ℕ) (t : Tables) → runFrom S n room [] t ≡ halt stop.Nothing t
+  pub halted-by : (room k : ℕ) (a : List ℕ) (t : Tables) {n : Stop} → runFrom S 0 room (k ∷ a) t ≡ halt n t → (laterStop room k a ≡ n) × (goesOn (laterStop room k a) ≡ false)
   unfolding runner.runFrom
-  none-halts n room t = refl
-
-  module _ (room k : ℕ) (a : List ℕ) (t : Tables) {n : Stop} (h : runFrom S 0 room (k ∷ a) t ≡ halt n t) where
-    stays : goesOn (laterStop room k a) ≡ true → ⊥
-    stays z = omega (arith, ap (λ (r : Result Tables). r .consumed) (sym (from-goes S room k a t z) ∙ h))
-
-    pub halted-by : (laterStop room k a ≡ n) × (goesOn (laterStop room k a) ≡ false)
-    halted-by =
-        ⊎-elim
-        (λ z. absurd (stays z))
-        (λ z. (ap (λ (r : Result Tables). r .stop) (sym (from-stops S room k a t z) ∙ h), z))
-        (flag (goesOn (laterStop room k a)))
-
-    more-halts : (b : List ℕ) → (n ≡ stop.CutShort → ⊥) → runFrom S 0 room ((k ∷ a) ++ b) t ≡ halt n t
-    more-halts b g =
-        let q = halted-by in
-        let m = more-same room k a b (λ e. g (sym (q .0) ∙ e)) in
-        from-stops S room k (a ++ b) t (rw m (q .1)) ∙ ap (λ (n : Stop). halt n t) (m ∙ q .0)
+  halted-by room k a t {n} =
+      by-flag (λ (o : Result Tables). o ≡ halt n t → (laterStop room k a ≡ n) × (goesOn (laterStop room k a) ≡ false)) (goesOn (laterStop room k a)) _ _
+      (λ z h. absurd (omega (arith, ap (λ (r : Result Tables). r .consumed) h)))
+      (λ z h. (ap (λ (r : Result Tables). r .stop) h, z))
 
   any-halts : (room : ℕ) (a : List ℕ) (t : Tables) {n : Stop} → runFrom S 0 room a t ≡ halt n t → (b : List ℕ)
       → (n ≡ stop.Nothing → ⊥) → (n ≡ stop.CutShort → ⊥) → runFrom S 0 room (a ++ b) t ≡ halt n t
-  any-halts room [] t h b f g = absurd (f (ap (λ (r : Result Tables). r .stop) (sym h ∙ none-halts 0 room t)))
-  any-halts room (k ∷ a) t h b f g = more-halts room k a t h b g
-
-  end-halts : (room : ℕ) (a b : List ℕ) (t : Tables) {n : Stop} → runFrom S 0 room a t ≡ halt n t → b ≡ [] → runFrom S 0 room (a ++ b) t ≡ halt n t
-  end-halts room a b t h q = rw (q, append-nil) h
+  unfolding runner.runFrom
+  any-halts room [] t h b f g = absurd (f (ap (λ (r : Result Tables). r .stop) (sym h)))
+  any-halts room (k ∷ a) t h b f g =
+      let (q, z) = halted-by room k a t h in
+      let m = more-same room k a b (λ e. g (sym q ∙ e)) in
+      from-stops S room k (a ++ b) t (rw m z) ∙ ap (λ (n : Stop). halt n t) (m ∙ q)
 
   pub halts-behind : (room : ℕ) (a : List ℕ) (t : Tables) (n : Stop) → runFrom S 0 room a t ≡ halt n t → (b : List ℕ) → MayFollow n b → runFrom S 0 room (a ++ b) t ≡ halt n t
   halts-behind room a t n h b q =
       ⊎-elim
-      (λ z. end-halts room a b t h (q z))
+      (λ z. rw (q z, append-nil) h)
       (λ z. any-halts room a t h b (λ e. clash (ap ofEnd e) z) (λ e. clash (ap ofEnd e) z))
       (flag (ofEnd n))
 
@@ -157,12 +112,10 @@ module _ (S : Settings) where
   eats-inside n room [] t h = omega arith
   eats-inside (suc n) room (x ∷ a) t h = let i = eats-inside n room a t (le-of-suc-le-suc h) in omega arith
   eats-inside zero room (k ∷ a) t h =
-      ⊎-elim
-      (λ z.
-      let p = ap (λ (r : Result Tables). r .consumed) (from-goes S room k a t z) in
-      omega (arith, eats-inside (lengthOf k) (room - length (logBytes (eventsOf (stepAt S k a t)))) a (after t (stepAt S k a t)) (going room k a z .whole)))
-      (λ z. let p = ap (λ (r : Result Tables). r .consumed) (from-stops S room k a t z) in omega arith)
-      (flag (goesOn (laterStop room k a)))
+      let x = logBytes (eventsOf (stepAt S k a t)) in
+      by-flag (λ (o : Result Tables). 0 + o .consumed ≤ suc (length a)) (goesOn (laterStop room k a)) _ _
+      (λ z. omega (arith, eats-inside (lengthOf k) (room - length x) a (after t (stepAt S k a t)) (going room k a z .whole)))
+      (λ z. omega arith)
 
   -- at the end of the bytes nothing is left
   pub nothing-left : (room : ℕ) (a : List ℕ) (t : Tables) → runFrom S 0 room a t ≡ halt stop.Nothing t → length a ≡ 0
@@ -172,12 +125,12 @@ module _ (S : Settings) where
   -- ---- before 16 a record has run
 
   pub full-eats : (room : ℕ) (a : List ℕ) (t : Tables) → eventRoom ≤ room → runFrom S 0 room a t .stop ≡ stop.NoRoom → 0 < runFrom S 0 room a t .consumed
-  full-eats room [] t w e = let q = ap (λ (r : Result Tables). r .stop) (none-halts 0 room t) in let z : _≡_ {A = ℕ} 0 1 = cc in absurd (omega arith)
-  full-eats room (k ∷ a) t w e =
-      ⊎-elim
-      (λ z. let p = ap (λ (r : Result Tables). r .consumed) (from-goes S room k a t z) in omega arith)
-      (λ z. absurd (roomy-stop room k a w (ap (λ (r : Result Tables). r .stop) (sym (from-stops S room k a t z)) ∙ e)))
-      (flag (goesOn (laterStop room k a)))
+  unfolding runner.runFrom
+  full-eats room [] t w = λ e. let z : _≡_ {A = ℕ} 0 1 = cc in absurd (omega arith)
+  full-eats room (k ∷ a) t w =
+      by-flag (λ (o : Result Tables). o .stop ≡ stop.NoRoom → 0 < o .consumed) (goesOn (laterStop room k a)) _ _
+      (λ z e. omega arith)
+      (λ z e. absurd (roomy-stop room k a w e))
 
 -- ---- what waits is short
 
@@ -199,26 +152,19 @@ module _ (S : Settings) where
   last-whole n room [] t h = λ e. let z : _≡_ {A = ℕ} 0 1 = cc in omega arith
   last-whole (suc n) room (b ∷ s) t h = last-whole n room s t (le-of-suc-le-suc h)
   last-whole zero room (k ∷ s) t h =
-      by-flag Not (isCommand k) _ _
-      (λ z.
-      by-flag Not (ltb (lengthOf k) (length s)) _ _
-      (λ y.
-      let l = ltb-true (lengthOf k) (length s) y in
+      by-last Not k s
+      (λ c l.
       let a = take (beforeLast (lengthOf k) s) s in
       let i = last-least (lengthOf k) s (omega arith) in
       let w : lengthOf k ≤ length a = let q = length-take-le (beforeLast (lengthOf k) s) s (last-most (lengthOf k) s) in omega arith in
-      λ e.
-      ⊎-elim
-      (λ x. last-whole (lengthOf k) _ s _ (omega arith) (ap (λ (r : Result Tables). r .stop) (sym (from-goes S room k a t x)) ∙ e))
-      (λ x. whole-stop room k a w (ap (λ (r : Result Tables). r .stop) (sym (from-stops S room k a t x)) ∙ e))
-      (flag (goesOn (laterStop room k a))))
-      (λ y e. let x : _≡_ {A = ℕ} 0 1 = cc in omega arith))
-      (λ z e.
+      by-flag Short (goesOn (laterStop room k a)) _ _ (λ x. last-whole (lengthOf k) _ s _ (omega arith)) (λ x. whole-stop room k a w))
+      (λ c l e. let x : _≡_ {A = ℕ} 0 1 = cc in omega arith)
+      (λ c.
       let a = take (length s) s in
-      let u = unknown-stop room k a z in
-      let q = ap (λ (r : Result Tables). r .stop) (from-stops S room k a t (rw u refl)) in
-      let x : _≡_ {A = ℕ} 0 1 = cc in
-      omega arith)
+      by-flag Short (goesOn (laterStop room k a)) _ _ (λ x e. clash (going room k a x .command) c) (λ x e. clash (cut-stop room k a e .0) c))
     where
       Not : ℕ → Type 0
       Not m = runFrom S 0 room (take m (k ∷ s)) t .stop ≡ stop.CutShort → ⊥
+
+      Short : Result Tables → Type 0
+      Short o = o .stop ≡ stop.CutShort → ⊥

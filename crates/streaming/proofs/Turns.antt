@@ -7,13 +7,13 @@ use Prim.Native.Nat.{ℕ, _+_, _-_, _%_, _^_, _≤_, _<_}
 use native.Mathlib.Nat.{zero-add, sub-zero, add-assoc, mod-lt, mod-eq-of-lt, mod-add-mod}
 use native.Mathlib.Omega.{arith}
 use lib.ListN.{length, take, drop, length-drop, length-append, take-append-drop}
-use lib.Seq.{length-take-le, take-append-le, drop-append-le}
+use lib.Seq.{length-take-le, take-take, drop-append-le}
 use Rattle.words.proofs.Flags.{clash}
 use Rattle.encoding.proofs.Bridge.{is-tables}
 use Rattle.model.specs.Tables.{Tables}
 use Rattle.model.specs.Lent.{Lent}
 use Rattle.model.specs.Inner.{Encodes, SoundSlices}
-use Rattle.model.specs.Runner.{Result, bytesThen, runFrom}
+use Rattle.model.specs.Runner.{Result, runFrom}
 use Rattle.model.specs.declared.Settings.{Settings}
 use Rattle.model.specs.declared.Stop.{Stop}
 use Rattle.model.specs.declared.Stop.the-variants as stop
@@ -28,59 +28,36 @@ use Rattle.streaming.specs.declared.work.Next.the-variants as next
 use Rattle.streaming.specs.declared.work.Work.{Work}
 use Rattle.streaming.specs.declared.scope.Scope.{Scope}
 use Rattle.streaming.specs.Scopes.{partEnd}
-use Rattle.streaming.specs.Works.{nextAfterStop, readsNext, goesNext, readOf, endedOf, failedOf, readBy, Sure, Few, turnsOf}
+use Rattle.streaming.specs.Works.{nextAfterStop, readsNext, goesNext, readOf, readBy, Sure, Few, turnsOf}
 use Rattle.streaming.specs.Halts.{Claims, Before}
 use Rattle.streaming.specs.Parts.{Ready, PartLeaves, Ran, ReadsOnce, GoesOver, Went, Came, PartTurn}
 use Rattle.streaming.proofs.Stops.{full-eats}
-use Rattle.streaming.proofs.Waiting.{runPart, ran, part-behind, part-eats, before-part, few-before}
+use Rattle.streaming.proofs.Waiting.{by-stop, runPart, ran, part-behind, part-eats, before-part, few-before}
 
 -- ---- what comes next
 
 next-sure : (s : Stop) → (s ≡ stop.SliceLength → ⊥) → Sure (nextAfterStop s) s
-next-sure stop.Nothing h = final refl
-next-sure stop.CutShort h = final refl
-next-sure stop.NoRoom h = tt
-next-sure stop.SettingOutOfRange h = final refl
-next-sure stop.SliceLength h = absurd (h refl)
-next-sure stop.NotSound h = final refl
-next-sure stop.OutOfPlace h = final refl
-next-sure stop.UnknownKind h = final refl
+next-sure =
+    by-stop (λ n m. (n ≡ stop.SliceLength → ⊥) → Sure m n) (λ h. final refl) (λ h. final refl) (λ h. tt)
+    (λ n early roomy h. record { fitting = h; roomy = roomy })
 
 -- what stops a run comes whatever follows
-next-claims : (s : Stop) (have : ℕ) → Claims (nextAfterStop s) s have
-next-claims stop.Nothing have = tt
-next-claims stop.CutShort have = tt
-next-claims stop.NoRoom have = tt
-next-claims stop.SettingOutOfRange have = refl
-next-claims stop.SliceLength have = refl
-next-claims stop.NotSound have = refl
-next-claims stop.OutOfPlace have = refl
-next-claims stop.UnknownKind have = refl
+next-claims : (have : ℕ) (s : Stop) → Claims (nextAfterStop s) s have
+next-claims have = by-stop (λ n m. Claims m n have) tt tt tt (λ n early roomy. early)
 
 -- a turn that ran what waited
-fewer-ran : (s : Stop) (have now left c : ℕ) → now + c ≡ have → (s ≡ stop.NoRoom → 0 < c) → turnsOf (nextAfterStop s) now left < turnsOf next.Run have left
-fewer-ran stop.Nothing have now left c e g = omega arith
-fewer-ran stop.CutShort have now left c e g = omega arith
-fewer-ran stop.NoRoom have now left c e g = let h = g refl in omega arith
-fewer-ran stop.SettingOutOfRange have now left c e g = omega arith
-fewer-ran stop.SliceLength have now left c e g = omega arith
-fewer-ran stop.NotSound have now left c e g = omega arith
-fewer-ran stop.OutOfPlace have now left c e g = omega arith
-fewer-ran stop.UnknownKind have now left c e g = omega arith
+fewer-ran : (have now left c : ℕ) → now + c ≡ have → (s : Stop) → (s ≡ stop.NoRoom → 0 < c) → turnsOf (nextAfterStop s) now left < turnsOf next.Run have left
+fewer-ran have now left c e =
+    by-stop (λ n m. (n ≡ stop.NoRoom → 0 < c) → turnsOf m now left < turnsOf next.Run have left)
+    (λ g. omega arith) (λ g. omega arith) (λ g. let h = g refl in omega arith) (λ n early roomy g. omega arith)
 
-pub runs-next : (n : Next) → readsNext n ≡ false → goesNext n ≡ true → n ≡ next.Run
-runs-next next.Read a b = clash refl a
-runs-next next.Run a b = refl
-runs-next next.Stopped a b = clash b refl
-runs-next (next.Ended e) a b = clash b refl
-runs-next next.Failed a b = clash b refl
-
-pub reads-next : (n : Next) → readsNext n ≡ true → n ≡ next.Read
-reads-next next.Read a = refl
-reads-next next.Run a = clash a refl
-reads-next next.Stopped a = clash a refl
-reads-next (next.Ended e) a = clash a refl
-reads-next next.Failed a = clash a refl
+-- a run that goes on reads or runs
+pub next-by : (n : Next) → goesNext n ≡ true → (readsNext n ≡ true → n ≡ next.Read) × (readsNext n ≡ false → n ≡ next.Run)
+next-by next.Read g = (λ a. refl, λ a. clash refl a)
+next-by next.Run g = (λ a. clash a refl, λ a. refl)
+next-by next.Stopped g = clash g refl
+next-by (next.Ended e) g = clash g refl
+next-by next.Failed g = clash g refl
 
 -- ---- the run of a part, with anything behind it
 
@@ -107,12 +84,12 @@ module _ (S : Settings) (size : ℕ) where
   none-goes : (t : Tables) (p : List ℕ) → GoesOver S size t p 0 [] t p
   none-goes t p b room h = rw (sub-zero, zero-add)
 
-  module _ {L : Lent} (p : List ℕ) {w r : Work} (small : w .written < 2 ^ 64) (consumed : r .consumed ≡ w .consumed) (written : r .written ≡ w .written)
-      (left : r .left ≡ w .left) where
-    pub none-came : Came S size L p w r p L
-    none-came = record {
-      bytes = [];
-      counted = omega arith;
+  -- also where bytes came
+  module _ {L : Lent} (p : List ℕ) {w r : Work} (small : w .written < 2 ^ 64) (consumed : r .consumed ≡ w .consumed) (written : r .written ≡ w .written) where
+    idle-came : (bytes : List ℕ) → r .left + length bytes ≡ w .left → Came S size L p w r (p ++ bytes) L
+    idle-came bytes counted = record {
+      bytes = bytes;
+      counted = counted;
       on = λ t i. record {
         eaten = 0;
         events = [];
@@ -120,9 +97,12 @@ module _ (S : Settings) (size : ℕ) where
         are = i;
         consumed = omega arith;
         written = written ∙ none-written (w .written) small;
-        goes = rw append-nil (none-goes t p);
+        goes = none-goes t (p ++ bytes);
       };
     }
+
+    none-came : r .left ≡ w .left → Came S size L p w r p L
+    none-came left = rw append-nil at (idle-came [] (omega arith))
 
 -- ---- one after the other
 
@@ -133,13 +113,8 @@ module _ (S : Settings) (size : ℕ) where
       let l : length (x ++ y) ≡ length x + length y = length-append x y in
       let a = f (more ++ b) room (omega arith) in
       let c = g b (room - length x) (omega arith) in
-      let d : runFrom S 0 (room - length x) (q ++ (more ++ b)) u ≡ bytesThen n y (runFrom S 0 (room - length x - length y) (z ++ b) v) =
-      ap (λ (k : List ℕ). runFrom S 0 (room - length x) k u) (sym (append-assoc q more b)) ∙ c in
       let e : room - length x - length y ≡ room - length (x ++ y) = omega arith in
-      ap (λ (k : List ℕ). runFrom S 0 room k t) (append-assoc s more b)
-      ∙ a
-      ∙ ap (bytesThen m x) d
-      ∙ rw (add-assoc, append-assoc, e)
+      rw (append-assoc s more b, a, ← append-assoc q more b, c, e, add-assoc, append-assoc)
 
   went-then : {t : Tables} {s : List ℕ} {w v r : Work} {q z : List ℕ} {M N : Lent} (a : Went S size t s w v q M) (more : List ℕ) → Went S size (a .tables) (q ++ more) v r z N
       → Went S size t (s ++ more) w r z N
@@ -149,11 +124,7 @@ module _ (S : Settings) (size : ℕ) where
     tables = b .tables;
     are = b .are;
     consumed = let x = a .consumed in let y = b .consumed in omega arith;
-    written =
-        b .written
-        ∙ ap (λ (n : ℕ). (n + length (b .events)) % 2 ^ 64) (a .written)
-        ∙ mod-add-mod (w .written + length (a .events)) (2 ^ 64) (length (b .events))
-        ∙ ap (λ (n : ℕ). n % 2 ^ 64) (let l = length-append (a .events) (b .events) in let k : w .written + length (a .events) + length (b .events) ≡ w .written + length (a .events ++ b .events) = omega arith in k);
+    written = rw (b .written, a .written, mod-add-mod, length-append, ← add-assoc);
     goes = goes-then t (a .tables) (b .tables) s more q z (a .eaten) (b .eaten) (a .events) (b .events) (a .goes) (b .goes);
   }
 
@@ -186,33 +157,9 @@ module _ {S : Settings} {k : Scope} {p e : List ℕ} {L : Lent} {w r : Work} {bu
   ran-same : (t : Tables) → Encodes S M t → ranOn .tables ≡ t
   ran-same t i = sym (is-tables S M (ranOn .tables) (l .tables)) ∙ is-tables S M t i
 
-  ran-told : (t : Tables) → Encodes S M t → Before S k (r .next) (r .stop) (take (r .have) buf) t
-  ran-told t i =
-      ⊎-elim
-      (λ (z : r .next ≡ nextAfterStop (ranOn .stop)). rw (z, l .stop, l .rest, ← ran-same t i) ran-before)
-      (λ (z : r .next ≡ next.Failed). rw z tt)
-      (l .next)
-
-  ran-few : Few (r .next) (r .have)
-  ran-few =
-      ⊎-elim
-      (λ (z : r .next ≡ nextAfterStop (ranOn .stop)). rw (z, ← rest-long) (few-before S (drop (ranOn .consumed) p) (ranOn .tables) k (ranOn .stop) ran-before))
-      (λ (z : r .next ≡ next.Failed). rw z tt)
-      (l .next)
-
-  ran-sure : Sure (r .next) (r .stop)
-  ran-sure =
-      ⊎-elim
-      (λ (z : r .next ≡ nextAfterStop (ranOn .stop)). rw (z, l .stop) (next-sure (ranOn .stop) (run-fits S 0 (length e) (take (partEnd k p) p) (held .tables))))
-      (λ (z : r .next ≡ next.Failed). rw z tt)
-      (l .next)
-
-  ran-claims : Claims (r .next) (r .stop) (r .have)
-  ran-claims =
-      ⊎-elim
-      (λ (z : r .next ≡ nextAfterStop (ranOn .stop)). rw (z, l .stop) (next-claims (ranOn .stop) (r .have)))
-      (λ (z : r .next ≡ next.Failed). rw z tt)
-      (l .next)
+  -- the stop says what comes next, unless writing failed
+  by-next : (P : Next → Type 0) → P (nextAfterStop (ranOn .stop)) → P next.Failed → P (r .next)
+  by-next P asked failed = ⊎-elim (λ z. rw z asked) (λ z. rw z failed) (l .next)
 
   ran-ready : Ready S k M buf r
   ran-ready = record {
@@ -221,18 +168,16 @@ module _ {S : Settings} {k : Scope} {p e : List ℕ} {L : Lent} {w r : Work} {bu
     roomy = roomy;
     counted = let a = l .consumed in let b = l .have in let d = l .left in omega arith;
     small = rw (l .written) (mod-lt (w .written + length (ranOn .events)) (omega arith));
-    sure = ran-sure;
-    few = ran-few;
-    before = ran-told;
+    sure = by-next (λ m. Sure m (r .stop)) (rw (l .stop) (next-sure (ranOn .stop) (run-fits S 0 (length e) (take (partEnd k p) p) (held .tables)))) tt;
+    few = by-next (λ m. Few m (r .have)) (rw (← rest-long) (few-before S (drop (ranOn .consumed) p) (ranOn .tables) k (ranOn .stop) ran-before)) tt;
+    before = λ t i. by-next (λ m. Before S k m (r .stop) (take (r .have) buf) t) (rw (l .stop, l .rest, ← ran-same t i) ran-before) tt;
   }
 
   ran-fewer : turnsOf (r .next) (r .have) (r .left) < turnsOf next.Run (w .have) (w .left)
   ran-fewer =
-      ⊎-elim
-      (λ (z : r .next ≡ nextAfterStop (ranOn .stop)).
-      rw (z, l .left) (fewer-ran (ranOn .stop) (w .have) (r .have) (w .left) (ranOn .consumed) (l .have ∙ long) (full-eats S (length e) (take (partEnd k p) p) (held .tables) space)))
-      (λ (z : r .next ≡ next.Failed). rw z (omega arith))
-      (l .next)
+      let full = full-eats S (length e) (take (partEnd k p) p) (held .tables) space in
+      by-next (λ m. turnsOf m (r .have) (r .left) < turnsOf next.Run (w .have) (w .left))
+      (rw (l .left) (fewer-ran (w .have) (r .have) (w .left) (ranOn .consumed) (l .have ∙ long) (ranOn .stop) full)) (omega arith)
 
   ran-came : Came S (length e) L p w r (take (r .have) buf) M
   ran-came = record {
@@ -253,7 +198,12 @@ module _ {S : Settings} {k : Scope} {p e : List ℕ} {L : Lent} {w r : Work} {bu
   }
 
   pub ran-turned : w .next ≡ next.Run → PartTurn S k (length e) L p w r buf M
-  ran-turned q = record { ready = ran-ready; claims = ran-claims; fewer = rw q ran-fewer; came = ran-came }
+  ran-turned q = record {
+    ready = ran-ready;
+    claims = by-next (λ m. Claims m (r .stop) (r .have)) (rw (l .stop) (next-claims (r .have) (ranOn .stop))) tt;
+    fewer = rw q ran-fewer;
+    came = ran-came;
+  }
 
 -- ---- reading
 
@@ -266,38 +216,25 @@ module _ {S : Settings} {k : Scope} {L : Lent} {buf b : List ℕ} {w : Work} (y 
   same-front : take (w .have) b ≡ take (w .have) buf
   same-front = grown .before
 
-  ended-turned : (n : ℕ) {end : Ended} → g ≡ more.End end → {x : Work} → x ≡ endedOf w end → PartTurn S k n L (take (w .have) buf) w x b L
-  ended-turned n {end} q e = record {
-    ready = rw e record {
+  -- nothing came, and m comes next, which is the last
+  over-turned : (n : ℕ) {m : Next} {x : Work}
+      → x ≡ record { have = w .have; left = w .left; consumed = w .consumed; written = w .written; stop = w .stop; next = m }
+      → turnsOf m (w .have) (w .left) ≡ 0 → Claims m (w .stop) (w .have) → Sure m (w .stop) → Few m (w .have)
+      → ((t : Tables) → Encodes S L t → Before S k m (w .stop) (take (w .have) buf) t) → PartTurn S k n L (take (w .have) buf) w x b L
+  over-turned n e last claims sure few before = rw e record {
+    ready = record {
       held = y .held;
       inside = let h = y .inside in omega arith;
       roomy = let h = y .roomy in omega arith;
       counted = y .counted;
       small = y .small;
-      sure = rw reads at (y .sure);
-      few = tt;
-      before = λ t i. rw same-front (rw reads at (y .before t i));
+      sure = sure;
+      few = few;
+      before = λ t i. rw same-front (before t i);
     };
-    claims = rw e (let h : end .behind ≡ w .have = rw q at (grown .grows) in h);
-    fewer = rw (e, reads) (omega arith);
-    came = rw (e, same-front) (none-came S n (take (w .have) buf) (y .small) refl refl refl);
-  }
-
-  failed-turned : (n : ℕ) {x : Work} → x ≡ failedOf w → PartTurn S k n L (take (w .have) buf) w x b L
-  failed-turned n e = record {
-    ready = rw e record {
-      held = y .held;
-      inside = let h = y .inside in omega arith;
-      roomy = let h = y .roomy in omega arith;
-      counted = y .counted;
-      small = y .small;
-      sure = tt;
-      few = tt;
-      before = λ t i. tt;
-    };
-    claims = rw e tt;
-    fewer = rw (e, reads) (omega arith);
-    came = rw (e, same-front) (none-came S n (take (w .have) buf) (y .small) refl refl refl);
+    claims = claims;
+    fewer = rw reads (omega arith);
+    came = rw same-front (none-came S n (take (w .have) buf) (y .small) refl refl refl);
   }
 
   -- more bytes came, and wait behind those that did
@@ -309,50 +246,30 @@ module _ {S : Settings} {k : Scope} {L : Lent} {buf b : List ℕ} {w : Work} (y 
     readBytes = drop (w .have) (take m b)
 
     fresh-behind : take (w .have) buf ++ readBytes ≡ take m b
-    fresh-behind =
-        let h = came-in in
-        let n : length (take m b) ≡ m = length-take-le m b (omega arith) in
-        let a : take (w .have) b ≡ take (w .have) (take m b) =
-        ap (take (w .have)) (sym (take-append-drop m b)) ∙ take-append-le (w .have) (take m b) (drop m b) (omega arith) in
-        ap (λ (s : List ℕ). s ++ readBytes) (sym same-front ∙ a) ∙ take-append-drop (w .have) (take m b)
+    fresh-behind = let h = came-in in rw (← same-front, ← take-take (w .have) m b (omega arith), take-append-drop)
 
     fresh-long : length readBytes + w .have ≡ m
     fresh-long = let h = came-in in let n = length-take-le m b (omega arith) in let d = length-drop (w .have) (take m b) in omega arith
 
-    read-came : (n : ℕ) → Came S n L (take (w .have) buf) w v (take m b) L
-    read-came n =
+    came-turned : (n : ℕ) → PartTurn S k n L (take (w .have) buf) w v b L
+    came-turned n =
         let h = came-in in
         let f = fresh-long in
-        record {
-          bytes = readBytes;
-          counted = rw v-is (omega arith);
-          on = λ t i. record {
-            eaten = 0;
-            events = [];
-            tables = t;
-            are = i;
-            consumed = rw v-is (omega arith);
-            written = rw v-is (none-written (w .written) (y .small));
-            goes = rw fresh-behind (none-goes S n t (take m b));
+        rw v-is record {
+          ready = record {
+            held = y .held;
+            inside = omega arith;
+            roomy = let a = y .roomy in omega arith;
+            counted = let c = y .counted in omega arith;
+            small = y .small;
+            sure = tt;
+            few = tt;
+            before = λ t i. tt;
           };
+          claims = tt;
+          fewer = rw reads (omega arith);
+          came = rw fresh-behind at (idle-came S n {L = L} (take (w .have) buf) {w = w} {r = readOf w m left} (y .small) refl refl readBytes (omega arith));
         }
-
-    came-turned : (n : ℕ) → PartTurn S k n L (take (w .have) buf) w v b L
-    came-turned n = record {
-      ready = let h = came-in in rw v-is record {
-        held = y .held;
-        inside = omega arith;
-        roomy = let a = y .roomy in omega arith;
-        counted = let c = y .counted in omega arith;
-        small = y .small;
-        sure = tt;
-        few = tt;
-        before = λ t i. tt;
-      };
-      claims = rw v-is tt;
-      fewer = let h = came-in in rw (v-is, reads) (omega arith);
-      came = subst (λ (i : ℕ). Came S n L (take (w .have) buf) w v (take i b) L) (sym (ap (λ (z : Work). z .have) v-is)) (read-came n);
-    }
 
 pub read-turned : {S : Settings} {k : Scope} {L : Lent} {buf b : List ℕ} {w r : Work} → Ready S k L buf w → w .next ≡ next.Read → length b ≡ length buf → (n : ℕ)
     → ReadsOnce buf w r b → PartTurn S k n L (take (w .have) buf) w r b L
@@ -360,9 +277,9 @@ read-turned {S} {k} {L} {buf} {b} {w} {r} y reads size n x = by (x .said) (x .gr
   where
     by : (g : More) → Grown buf (w .have) (w .left) g b → r ≡ readBy w g → PartTurn S k n L (take (w .have) buf) w r b L
     by (more.To m left) grown e = came-turned y reads size grown refl e n
-    by (more.End end) grown e = ended-turned y reads size grown n refl e
+    by (more.End end) grown e = over-turned y reads size grown n e refl (grown .grows) (rw reads at (y .sure)) tt (λ t i. rw reads at (y .before t i))
     by more.Full grown e = absurd (never-full y reads size grown refl)
-    by more.Failed grown e = failed-turned y reads size grown n e
+    by more.Failed grown e = over-turned y reads size grown n e refl tt tt tt (λ t i. tt)
 
 -- ---- turn after turn
 

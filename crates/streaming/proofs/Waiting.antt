@@ -1,5 +1,6 @@
--- What waits behind a part that ran: where its run halts, or the last record alone; what waits for more bytes is short.
+-- What waits behind a part that ran, by its stop: where its run halts, or the last record alone; what waits for more bytes is short.
 use mathlib.Core.Path.{_≡_, refl, sym, ap, _∙_}
+use mathlib.Core.Bool.{false}
 use mathlib.Core.List.{List, [], _++_, append-nil, append-assoc}
 use Prim.Native.Nat.{ℕ, _≤_}
 use native.Mathlib.Nat.{zero-add}
@@ -13,13 +14,27 @@ use Rattle.model.specs.declared.Stop.{Stop}
 use Rattle.model.specs.declared.Stop.the-variants as stop
 use Rattle.words.proofs.Flags.{clash}
 use Rattle.running.proofs.Asked.{final}
+use Rattle.streaming.specs.declared.work.Next.{Next}
+use Rattle.streaming.specs.declared.work.Next.the-variants as next
 use Rattle.streaming.specs.declared.scope.Scope.{Scope}
 use Rattle.streaming.specs.declared.scope.Scope.the-variants as scope
 use Rattle.streaming.specs.Works.{nextAfterStop, Few}
 use Rattle.streaming.specs.Scopes.{beforeLast, partEnd}
-use Rattle.streaming.specs.Halts.{MayFollow, Halts, OneRecord, Before}
+use Rattle.streaming.specs.Halts.{ofEnd, MayFollow, Halts, OneRecord, Before}
 use Rattle.streaming.proofs.Lasts.{last-most, last-alone}
 use Rattle.streaming.proofs.Stops.{halts-there, halts-behind, eats-inside, nothing-left, cut-short, alone-short, last-whole}
+
+-- what holds of each stop with what comes next
+pub by-stop : (P : Stop → Next → Type 0) → P stop.Nothing next.Read → P stop.CutShort next.Read → P stop.NoRoom next.Run
+    → ((n : Stop) → ofEnd n ≡ false → (n ≡ stop.NoRoom → ⊥) → P n next.Stopped) → (n : Stop) → P n (nextAfterStop n)
+by-stop P end cut full other stop.Nothing = end
+by-stop P end cut full other stop.CutShort = cut
+by-stop P end cut full other stop.NoRoom = full
+by-stop P end cut full other stop.SettingOutOfRange = other stop.SettingOutOfRange refl (final {n = stop.SettingOutOfRange} refl .roomy)
+by-stop P end cut full other stop.SliceLength = other stop.SliceLength refl (λ e. let z : _≡_ {A = ℕ} 0 1 = cc in omega arith)
+by-stop P end cut full other stop.NotSound = other stop.NotSound refl (final {n = stop.NotSound} refl .roomy)
+by-stop P end cut full other stop.OutOfPlace = other stop.OutOfPlace refl (final {n = stop.OutOfPlace} refl .roomy)
+by-stop P end cut full other stop.UnknownKind = other stop.UnknownKind refl (final {n = stop.UnknownKind} refl .roomy)
 
 pub part-most : (k : Scope) (p : List ℕ) → partEnd k p ≤ length p
 part-most scope.All p = omega arith
@@ -77,14 +92,10 @@ module _ (S : Settings) (room : ℕ) (p : List ℕ) (t : Tables) where
       rw e (last-alone 0 p (omega arith))
 
   pub before-part : (k : Scope) (n : Stop) → ran S room p t k .stop ≡ n → Before S k (nextAfterStop n) n (drop (ran S room p t k .consumed) p) (ran S room p t k .tables)
-  before-part scope.All stop.Nothing q = all-halts stop.Nothing q (final {n = stop.Nothing} refl .roomy)
-  before-part scope.All stop.CutShort q = all-halts stop.CutShort q (final {n = stop.CutShort} refl .roomy)
-  before-part scope.All stop.NoRoom q = tt
-  before-part scope.All stop.SettingOutOfRange q = all-halts stop.SettingOutOfRange q (final {n = stop.SettingOutOfRange} refl .roomy)
-  before-part scope.All stop.SliceLength q = all-halts stop.SliceLength q (λ e. let z : _≡_ {A = ℕ} 0 1 = cc in omega arith)
-  before-part scope.All stop.NotSound q = all-halts stop.NotSound q (final {n = stop.NotSound} refl .roomy)
-  before-part scope.All stop.OutOfPlace q = all-halts stop.OutOfPlace q (final {n = stop.OutOfPlace} refl .roomy)
-  before-part scope.All stop.UnknownKind q = all-halts stop.UnknownKind q (final {n = stop.UnknownKind} refl .roomy)
+  before-part scope.All n q =
+      by-stop (λ m x. ran S room p t scope.All .stop ≡ m → Before S scope.All x m (drop (ran S room p t scope.All .consumed) p) (ran S room p t scope.All .tables))
+      (λ q. all-halts stop.Nothing q (final {n = stop.Nothing} refl .roomy)) (λ q. all-halts stop.CutShort q (final {n = stop.CutShort} refl .roomy)) (λ q. tt)
+      (λ m e g q. all-halts m q g) n q
   before-part scope.BeforeLast stop.Nothing q = last-rest q
   before-part scope.BeforeLast stop.CutShort q = last-whole S 0 room p t (omega arith) q
   before-part scope.BeforeLast stop.NoRoom q = tt

@@ -6,27 +6,26 @@ use mathlib.Core.List.{List, [], _∷_, _++_, append-nil, append-assoc}
 use Prim.Native.Nat.{ℕ, _+_, _-_, _%_, _^_, _≤_}
 use native.Mathlib.Nat.{zero-add}
 use native.Mathlib.Omega.{arith}
-use borrow.Author.Tests.{le-leb, leb-true, ltb-true, ltb-false}
-use lib.Dec.{ltb}
+use borrow.Author.Tests.{lt-ltb, le-leb, leb-true}
 use lib.ListN.{length, take, drop}
 use lib.Seq.{drop-append-le, take-append-seam}
-use Rattle.words.proofs.Flags.{clash, by-flag, flag}
+use Rattle.words.proofs.Flags.{clash, pick-both, flag}
 use Rattle.model.proofs.Soundness.{start-sound}
 use Rattle.model.specs.Tables.{Tables, start}
 use Rattle.model.specs.Range.{inRange}
 use Rattle.model.specs.Lent.{Lent, encode, lengthsFit}
 use Rattle.model.specs.Inner.{Encodes}
-use Rattle.model.specs.Records.{isCommand, isSettings, lengthOf}
+use Rattle.model.specs.Records.{lengthOf}
 use Rattle.model.specs.RunnerOf as runner
 use Rattle.model.specs.Runner.{settingsOf, firstStop, goesOn, Result, halt, bytesThen, runFrom, lentResult, run}
 use Rattle.model.specs.declared.Settings.{Settings}
 use Rattle.model.specs.declared.Stop.{Stop}
 use Rattle.model.specs.declared.Stop.the-variants as stop
-use Rattle.running.specs.declared.Begun.{Begun}
 use Rattle.running.specs.declared.Begun.the-variants.{Accepted, Stopped}
 use Rattle.running.specs.Lengths.{Final}
 use Rattle.running.specs.Begin.{beginning, begunTables, firstThere}
-use Rattle.running.proofs.First.{accepted-long, accepted-runs, run-halts}
+use Rattle.running.proofs.Running.{by-record}
+use Rattle.running.proofs.First.{begun-stopped, begun-accepted, accepted-long, accepted-runs, run-halts}
 use Rattle.running.proofs.Parts.{begins-more}
 use Rattle.streaming.specs.declared.work.Next.{Next}
 use Rattle.streaming.specs.declared.work.Next.the-variants as next
@@ -45,14 +44,8 @@ use Rattle.streaming.specs.Wholes.{Whole}
 there-goes : (L : Lent) (k : ℕ) (bs : List ℕ) → (firstStop L k bs ≡ stop.CutShort → ⊥) → firstThere (k ∷ bs) ≡ true
 unfolding firstThere runner.firstStop
 there-goes L k bs g =
-    ⊎-elim
-    (λ (z : isCommand k ≡ true).
-    ⊎-elim
-    (λ (y : ltb (length bs) (lengthOf k) ≡ true). absurd (g (rw (z, y))))
-    (λ (y : ltb (length bs) (lengthOf k) ≡ false). rw (z, le-leb (lengthOf k) (length bs) (ltb-false (length bs) (lengthOf k) y)))
-    (flag (ltb (length bs) (lengthOf k))))
-    (λ (z : isCommand k ≡ false). rw z)
-    (flag (isCommand k))
+    by-record (λ n. firstThere (k ∷ bs) ≡ true) k bs {a = stop.Nothing} {b = stop.Nothing} (λ c. rw c) (λ c w. absurd (g (rw (c, lt-ltb _ _ w))))
+    (λ c w z. rw (c, le-leb _ _ w)) (λ c w z. rw (c, le-leb _ _ w))
 
 -- one that is there and stops the run is not the end
 abbrev Early : Stop → Type 0
@@ -61,35 +54,22 @@ Early n = goesOn n ≡ false → ofEnd n ≡ false
 there-early : (L : Lent) (k : ℕ) (bs : List ℕ) → firstThere (k ∷ bs) ≡ true → Early (firstStop L k bs)
 unfolding firstThere runner.firstStop
 there-early L k bs h =
-    by-flag Early (isCommand k) _ _
-    (λ a.
-    by-flag Early (ltb (length bs) (lengthOf k)) _ _
-    (λ b. let w = ltb-true (length bs) (lengthOf k) b in let v = leb-true (lengthOf k) (length bs) (rw a at h) in absurd (omega arith))
-    (λ b.
-    by-flag Early (isSettings k) _ _
-    (λ c. by-flag Early (inRange (settingsOf k bs)) _ _ (λ d. by-flag Early (lengthsFit (settingsOf k bs) L) _ _ (λ e z. clash refl z) (λ e z. refl)) (λ d z. refl))
-    (λ c z. refl)))
-    (λ a z. refl)
+    by-record Early k bs (λ c z. refl)
+    (λ c w. let v = leb-true (lengthOf k) (length bs) (rw c at h) in absurd (omega arith))
+    (λ c w x. pick-both Early (inRange (settingsOf k bs)) (pick-both Early (lengthsFit (settingsOf k bs) L) (λ z. clash refl z) (λ z. refl)) (λ z. refl))
+    (λ c w x z. refl)
 
 module _ (L : Lent) where
   -- so its stop is no stop of the end
   there-stopped : (s : List ℕ) (n : Stop) → beginning L s ≡ Stopped n → firstThere s ≡ true → ofEnd n ≡ false
   unfolding beginning firstThere
   there-stopped [] n q h = clash h refl
-  there-stopped (k ∷ bs) n q h =
-      by-flag (λ (x : Begun). x ≡ Stopped n → ofEnd n ≡ false) (goesOn (firstStop L k bs)) _ _
-      (λ z g. let e : _≡_ {A = ℕ} 0 1 = cc in absurd (omega arith))
-      (λ z g. let e : firstStop L k bs ≡ n = cc in rw (← e) (there-early L k bs h z))
-      q
+  there-stopped (k ∷ bs) n q h = let (z, e) = begun-stopped (goesOn (firstStop L k bs)) _ _ q in rw (← e) (there-early L k bs h z)
 
   stopped-there : (s : List ℕ) (n : Stop) → beginning L s ≡ Stopped n → (n ≡ stop.Nothing → ⊥) → (n ≡ stop.CutShort → ⊥) → firstThere s ≡ true
   unfolding beginning
   stopped-there [] n q f g = let e : stop.Nothing ≡ n = cc in absurd (f (sym e))
-  stopped-there (k ∷ bs) n q f g =
-      by-flag (λ (x : Begun). x ≡ Stopped n → firstThere (k ∷ bs) ≡ true) (goesOn (firstStop L k bs)) _ _
-      (λ z h. let e : _≡_ {A = ℕ} 0 1 = cc in absurd (omega arith))
-      (λ z h. let e : firstStop L k bs ≡ n = cc in there-goes L k bs (λ c. g (sym e ∙ c)))
-      q
+  stopped-there (k ∷ bs) n q f g = let (z, e) = begun-stopped (goesOn (firstStop L k bs)) _ _ q in there-goes L k bs (λ c. g (sym e ∙ c))
 
   -- also with what may come behind
   stopped-more : (s b : List ℕ) (n : Stop) → beginning L s ≡ Stopped n → MayFollow n b → beginning L (s ++ b) ≡ Stopped n
@@ -103,34 +83,23 @@ module _ (L : Lent) where
   accepted-there : (s : List ℕ) (S : Settings) (n : ℕ) → beginning L s ≡ Accepted S n → firstThere s ≡ true
   unfolding beginning
   accepted-there [] S n q = let e : _≡_ {A = ℕ} 0 1 = cc in absurd (omega arith)
-  accepted-there (k ∷ bs) S n q =
-      by-flag (λ (x : Begun). x ≡ Accepted S n → firstThere (k ∷ bs) ≡ true) (goesOn (firstStop L k bs)) _ _
-      (λ z h. there-goes L k bs (λ c. clash z (ap goesOn c)))
-      (λ z h. let e : _≡_ {A = ℕ} 0 1 = cc in absurd (omega arith))
-      q
+  accepted-there (k ∷ bs) S n q = let (z, e, c) = begun-accepted (goesOn (firstStop L k bs)) _ q in there-goes L k bs (λ c. clash z (ap goesOn c))
 
   -- with anything behind
   pub opens-run : (s b : List ℕ) (S : Settings) (n room : ℕ) → beginning L s ≡ Accepted S n
       → run room (s ++ b) L ≡ bytesThen n [] (lentResult S (runFrom S 0 room (drop n s ++ b) (start S)))
   opens-run s b S n room q =
-      let m = begins-more L s b (accepted-there s S n q) ∙ q in
-      accepted-runs L (s ++ b) room m ∙ ap (λ (x : List ℕ). bytesThen n [] (lentResult S (runFrom S 0 room x (start S)))) (drop-append-le n s b (accepted-long L s q))
+      rw (accepted-runs L (s ++ b) room (begins-more L s b (accepted-there s S n q) ∙ q), drop-append-le n s b (accepted-long L s q))
 
 -- ---- stopped at the first record
 
-stopped-final : (m : Next) (n : Stop) → stoppedNext m ≡ true → Sure m n → Final n
-stopped-final next.Read n z h = clash z refl
-stopped-final next.Run n z h = clash z refl
-stopped-final next.Stopped n z h = h
-stopped-final (next.Ended e) n z h = h
-stopped-final next.Failed n z h = clash z refl
-
-stopped-waits : (S : Settings) (m : Next) (n : Stop) (p : List ℕ) (t : Tables) → stoppedNext m ≡ true → Before S scope.All m n p t → Halts S n p t
-stopped-waits S next.Read n p t z h = clash z refl
-stopped-waits S next.Run n p t z h = clash z refl
-stopped-waits S next.Stopped n p t z h = h
-stopped-waits S (next.Ended e) n p t z h = h
-stopped-waits S next.Failed n p t z h = clash z refl
+stopped-told : (m : Next) (n : Stop) → stoppedNext m ≡ true
+    → (Sure m n → Final n) × ((S : Settings) (p : List ℕ) (t : Tables) → Before S scope.All m n p t → Halts S n p t)
+stopped-told next.Read n z = clash z refl
+stopped-told next.Run n z = clash z refl
+stopped-told next.Stopped n z = (λ h. h, λ S p t h. h)
+stopped-told (next.Ended e) n z = (λ h. h, λ S p t h. h)
+stopped-told next.Failed n z = clash z refl
 
 -- what it claims of the input: what was asked of it
 pub over-rests : (m : Next) → goesNext (overNext m) ≡ false
@@ -169,7 +138,7 @@ module _ {L M : Lent} {b buf : List ℕ} {w x : Work} (o : Opened b w) (s : Star
         claims =
             let h : x .have ≡ w .have = ap (λ (y : Work). y .have) e in
             rw (n, h) (first-claims L b o (x .stop) q);
-        final = λ z. stopped-final (x .next) (x .stop) z (a .1);
+        final = λ z. stopped-told (x .next) (x .stop) z .0 (a .1);
         is = λ z d room h g. rw (append-nil, c, m) (run-halts room L (p ++ d) (x .stop) (stopped-more L p d (x .stop) q h));
         front = λ d room g. refl;
       }
@@ -205,11 +174,7 @@ module _ {L M N : Lent} {p buf c : List ℕ} {w v r : Work} {S : Settings} (s : 
   runs : (b : List ℕ) (room : ℕ) → length (went .events) + 65536 ≤ room
       → run room ((p ++ came .bytes) ++ b) L
       ≡ bytesThen size [] (lentResult S (bytesThen (went .eaten) (went .events) (runFrom S 0 (room - length (went .events)) (take (r .have) c ++ b) (went .tables))))
-  runs b room h =
-      ap (λ (x : List ℕ). run room x L) (append-assoc p (came .bytes) b)
-      ∙ opens-run L p (came .bytes ++ b) S size room q
-      ∙ ap (λ (x : List ℕ). bytesThen size [] (lentResult S (runFrom S 0 room x (start S)))) (sym (append-assoc (drop size p) (came .bytes) b))
-      ∙ ap (λ (o : Result Tables). bytesThen size [] (lentResult S o)) (went .goes b room h)
+  runs b room h = rw (append-assoc p (came .bytes) b, opens-run L p (came .bytes ++ b) S size room q, ← append-assoc (drop size p) (came .bytes) b, went .goes b room h)
 
   begun : v ≡ begunOf size (v .have) (w .left)
   begun = s .after scope.All .0
@@ -222,10 +187,10 @@ module _ {L M N : Lent} {p buf c : List ℕ} {w v r : Work} {S : Settings} (s : 
     written = went .written ∙ ap (λ (n : ℕ). (n + length (went .events)) % 2 ^ 64) (ap (λ (y : Work). y .written) begun) ∙ rw zero-add;
     over = rested .over;
     claims = rested .claims;
-    final = λ z. stopped-final (r .next) (r .stop) z (rested .ready .sure);
+    final = λ z. stopped-told (r .next) (r .stop) z .0 (rested .ready .sure);
     is = λ z b room h g.
         let u = went .tables in
-        let halts = stopped-waits S (r .next) (r .stop) (take (r .have) c) u z (rested .ready .before u (went .are)) in
+        let halts = stopped-told (r .next) (r .stop) z .1 S (take (r .have) c) u (rested .ready .before u (went .are)) in
         let e : runFrom S 0 (room - length (went .events)) (take (r .have) c ++ b) u ≡ halt (r .stop) u = halts b (room - length (went .events)) h (omega arith) in
         let k : size + (went .eaten + 0) ≡ r .consumed = let a = went .consumed in omega arith in
         runs b room g

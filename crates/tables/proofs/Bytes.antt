@@ -1,7 +1,7 @@
 -- Four bytes as one number: it is zero exactly if each of them is, so that one test asks all statuses of a line.
 use Prim.Native.Nat.{ℕ, zero, suc, _+_, _*_}
-use mathlib.Core.Path.{_≡_, refl, sym, ap, _∙_}
-use mathlib.Core.Bool.{Bool, true, false, _&&_}
+use mathlib.Core.Path.{_≡_, refl, sym, _∙_}
+use mathlib.Core.Bool.{Bool, _&&_, and-assoc}
 use mathlib.Core.List.{List}
 use native.Mathlib.Omega.{arith}
 use lib.Dec.{eqb}
@@ -17,13 +17,10 @@ zero-both a (suc b) = rw (ne-eqb (suc b) 0 (λ q. omega arith)) (ne-eqb (a * 256
 
 pub zero-four : (a b c d : ℕ) → eqb (fourBytes a b c d) 0 ≡ (eqb d 0 && (eqb c 0 && (eqb b 0 && eqb a 0)))
 zero-four a b c d =
-    zero-both ((a * 256 + b) * 256 + c) d
-    ∙ ap (λ (u : Bool). eqb d 0 && u) (zero-both (a * 256 + b) c ∙ ap (λ (u : Bool). eqb c 0 && u) (zero-both a b))
+    rw (zero-both ((a * 256 + b) * 256 + c) d, zero-both (a * 256 + b) c, zero-both a b)
 
 pub and-left : (a b c d : Bool) → (a && (b && (c && d))) ≡ (a && b && c && d)
-and-left false b c d = refl
-and-left true false c d = refl
-and-left true true c d = refl
+and-left a b c d = simp and-assoc
 
 pub unused-statuses : (marks : List ℕ) (l : ℕ) → eqb (statusesAt marks l) 0 ≡ unusedAt marks l
 unused-statuses marks l =

@@ -1,67 +1,40 @@
 -- A line of which one sector changes: the tables that then stand in the slices.
 use mathlib.Core.Path.{_≡_, refl, sym, ap, subst, _∙_}
-use mathlib.Core.Bool.{Bool, _||_}
+use mathlib.Core.Bool.{Bool}
 use mathlib.Core.List.{List, [], _∷_}
-use Prim.Native.Nat.{ℕ, _+_, _-_, _*_, _≤_, _<_}
+use Prim.Native.Nat.{ℕ, _+_, _-_, _≤_, _<_}
 use native.Mathlib.Omega.{arith}
 use lib.ListN.{length, getD, set, length-set}
-use lib.Dec.{ltb}
-use lib.Seq.{getD-set-same}
-use Rattle.words.specs.Words.{padTo, one, any}
+use Rattle.words.specs.Words.{one, any}
 use Rattle.words.specs.Regions.{put}
-use Rattle.model.specs.Numbers.{statusNumber}
 use Rattle.model.specs.Range.{linesOf}
 use Rattle.model.specs.Tables.{Line, Tables, isModified, dirty, fresh, withLines, withDirtyCount}
 use Rattle.model.specs.Lent.{sectorsAt}
 use Rattle.model.specs.declared.Settings.{Settings}
 use Rattle.model.specs.declared.Sector.{Sector}
-use Rattle.model.specs.declared.Status.{Status}
-use Rattle.model.specs.declared.Status.the-variants.{Invalid, Reserved, Valid, Modified}
-use Rattle.words.proofs.Flags.{or-four}
 use Rattle.layout.specs.declared.Layout.{Layout}
 use Rattle.layout.specs.Layout.{LaysOut}
-use Rattle.layout.specs.Sectors.{StoredBack, statuses}
-use Rattle.layout.proofs.Stores.{one-put}
+use Rattle.layout.specs.Sectors.{StoredBack}
 use Rattle.layout.proofs.ByBlocks.{ByBlocks}
-use Rattle.layout.proofs.Lines.{status-at, lifted, store-stands}
+use Rattle.layout.proofs.Lines.{lifted, store-stands}
 use Rattle.layout.proofs.DirtyCount.{dirty-count-at, dirty-count-stands}
 use Rattle.tables.specs.Raw.{dirtyAt}
+use Rattle.tables.proofs.Statuses.{dirty-bytes}
 use Rattle.tables.specs.Changed.{Changed, wordsCounted}
 
 -- the count, then the four sectors
 pub counted-then : (S : Settings) (at : Layout) (l k : ℕ) (x : Sector) {was : Bool} (is : Bool) (words marks : List ℕ) {words₁ words′ marks′ : List ℕ} → was ≡ dirtyAt marks l
     → words₁ ≡ put words (at .dirty) ((getD words (at .dirty) 0 + one is - one was) ∷ [])
     → StoredBack at l (set (sectorsAt S words₁ marks l) k x) words₁ marks words′ marks′ → Changed S at l k x is words marks words′ marks′
-counted-then S at l k x is words marks {words₁} {words′} {marks′} e f c =
-    subst (λ (ws : List ℕ). StoredBack at l (set (sectorsAt S ws marks l) k x) ws marks words′ marks′)
-    (f ∙ ap (λ (b : Bool). put words (at .dirty) ((getD words (at .dirty) 0 + one is - one b) ∷ [])) e) c
+counted-then S at l k x is words marks {words′ = words′} {marks′ = marks′} e f c =
+    subst (λ (ws : List ℕ). StoredBack at l (set (sectorsAt S ws marks l) k x) ws marks words′ marks′) (f ∙ rw e) c
 
 -- the same sector, by another number and value that are these
 pub changed-as : (S : Settings) (at : Layout) (l : ℕ) {k j : ℕ} {x y : Sector} (is : Bool) (words marks : List ℕ) {words′ marks′ : List ℕ} → k ≡ j → x ≡ y
     → Changed S at l k x is words marks words′ marks′ → Changed S at l j y is words marks words′ marks′
-changed-as S at l {j = j} {x = x} is words marks {words′} {marks′} e f c =
-    subst (λ (z : Sector). Changed S at l j z is words marks words′ marks′) f (subst (λ (i : ℕ). Changed S at l i x is words marks words′ marks′) e c)
+changed-as S at l is words marks e f c = rw (← e, ← f) c
 
 -- ---- the tables
-
-modified-number : (s : Status) → ltb 2 (statusNumber s) ≡ isModified s
-modified-number Invalid = refl
-modified-number Reserved = refl
-modified-number Valid = refl
-modified-number Modified = refl
-
-dirty-of : (xs : List Sector) → length xs ≡ 4 → {a b c d : ℕ}
-    → a ≡ getD (padTo 4 (statuses xs)) 0 0 → b ≡ getD (padTo 4 (statuses xs)) 1 0 → c ≡ getD (padTo 4 (statuses xs)) 2 0 → d ≡ getD (padTo 4 (statuses xs)) 3 0
-    → (ltb 2 a || ltb 2 b || ltb 2 c || ltb 2 d) ≡ any (λ s. isModified (s .status)) xs
-unfolding padTo
-dirty-of [] n e f g h = absurd (omega arith)
-dirty-of (p ∷ []) n e f g h = absurd (omega arith)
-dirty-of (p ∷ q ∷ []) n e f g h = absurd (omega arith)
-dirty-of (p ∷ q ∷ r ∷ []) n e f g h = absurd (omega arith)
-dirty-of (p ∷ q ∷ r ∷ s ∷ []) n e f g h =
-    rw (e, f, g, h, modified-number (p .status), modified-number (q .status), modified-number (r .status), modified-number (s .status))
-    (sym (or-four (isModified (p .status)) (isModified (q .status)) (isModified (r .status)) (isModified (s .status))))
-dirty-of (p ∷ q ∷ r ∷ s ∷ u ∷ xs) n e f g h = absurd (omega arith)
 
 -- a line with other sectors
 abbrev pub withSectors : List Sector → Line → Line
@@ -70,9 +43,7 @@ withSectors xs y = record { tag = y .tag; cycle = y .cycle; taken = y .taken; se
 module _ (S : Settings) (t : Tables) {longs words marks : List ℕ} (h : ByBlocks S longs words marks t) {at : Layout} (p : LaysOut S at) (sized : length (t .lines) ≡ linesOf S)
     (l : ℕ) (below : l < length (t .lines)) (four : length (getD (t .lines) l fresh .sectors) ≡ 4) where
   pub dirty-at : dirtyAt marks l ≡ dirty (getD (t .lines) l fresh)
-  dirty-at =
-      let m = status-at S t h p sized l below in
-      dirty-of (getD (t .lines) l fresh .sectors) four (m 0 (4 * l) (omega arith) (omega arith)) (m 1 (4 * l + 1) (omega arith) refl) (m 2 (4 * l + 2) (omega arith) refl) (m 3 (4 * l + 3) (omega arith) refl)
+  dirty-at = sym (dirty-bytes S longs words marks l) ∙ ap (any (λ s. isModified (s .status))) (lifted S t h p sized l below four)
 
 module _ (S : Settings) (t : Tables) {longs words marks : List ℕ} (h : ByBlocks S longs words marks t) {at : Layout} (p : LaysOut S at) (sized : length (t .lines) ≡ linesOf S)
     (l : ℕ) (below : l < length (t .lines)) (four : length (getD (t .lines) l fresh .sectors) ≡ 4) (k : ℕ) (x : Sector) where

@@ -1,7 +1,7 @@
 -- A region that closes up, where the code counts its indices another way: a turn, the zeros at its end as one, the only zero, what rows
 -- take, four moves or zeros in a row; a row that is zero but for its first numbers.
-use mathlib.Core.Path.{_≡_, refl, sym, ap, subst, _∙_}
-use mathlib.Core.List.{List, _∷_, _++_, append-assoc}
+use mathlib.Core.Path.{_≡_, refl, sym, ap, _∙_}
+use mathlib.Core.List.{List, _++_, append-assoc}
 use Prim.Native.Nat.{ℕ, zero, suc, _+_, _-_, _*_, _≤_, _<_}
 use native.Mathlib.Nat.{add-zero, mul-add}
 use native.Mathlib.Omega.{arith}
@@ -39,16 +39,16 @@ module _ (l : List ℕ) (at n by : ℕ) (room : (by ≤ n) × (at + n ≤ length
       let zeros : length z ≡ by = length-replicate by 0 in
       let ends : at + (n - by) + length z ≡ at + length (closedUp by r) = omega arith in
       let behind : drop (at + (n - by) + length z) (paste l at (closedUp by r) (n - by)) ≡ drop (at + length (closedUp by r)) l =
-      sym (drop-drop (length z) (at + (n - by)) (paste l at (closedUp by r) (n - by)))
-      ∙ ap (drop (length z)) (drop-paste l at (closedUp by r) (n - by) (omega arith) (omega arith))
-      ∙ drop-drop (length z) (at + (n - by)) l
-      ∙ ap (λ (k : ℕ). drop k l) ends in
-      ap (λ (x : List ℕ). put x p z) (c .0 ∙ ap (paste l at (closedUp by r)) e)
-      ∙ ap (λ (x : ℕ). put (paste l at (closedUp by r) (n - by)) x z) (f ∙ ap (λ (x : ℕ). at + x) e)
-      ∙ ap (λ (x : List ℕ). x ++ z ++ drop (at + (n - by) + length z) (paste l at (closedUp by r) (n - by))) (take-paste l at (closedUp by r) (n - by) (omega arith) (omega arith))
-      ∙ ap (λ (x : List ℕ). take at l ++ take (n - by) (closedUp by r) ++ z ++ x) behind
-      ∙ ap (λ (x : List ℕ). x ++ drop (at + length (closedUp by r)) l)
-      (append-assoc (take at l) (take (n - by) (closedUp by r)) z ∙ ap (λ (x : List ℕ). take at l ++ x) (zeros-behind by r (n - by) (omega arith)))
+      rw (← drop-drop (length z) (at + (n - by)) (paste l at (closedUp by r) (n - by)), drop-paste l at (closedUp by r) (n - by) (omega arith) (omega arith), drop-drop, ends) in
+      rw (
+        c .0,
+        f,
+        e,
+        take-paste l at (closedUp by r) (n - by) (omega arith) (omega arith),
+        behind,
+        append-assoc (take at l) (take (n - by) (closedUp by r)) z,
+        zeros-behind by r (n - by) (omega arith),
+      )
 
 -- the zero at the end of a region that loses one number
 pub closing-last : (l : List ℕ) (at n : ℕ) (room : (1 ≤ n) × (at + n ≤ length l)) (s : List ℕ) (i p : ℕ) → i ≡ n - 1 → p ≡ at + i → Closing l at n 1 s i
@@ -101,12 +101,11 @@ module _ (l : List ℕ) (at n row : ℕ) (few : n ≤ row) (room : at + row ≤ 
   rest zero i {s} e v a = filling-done l at row 0 room s i (omega arith) v
   rest (suc m) i {s} e v a =
       let same : set s (at + i) 0 ≡ s = ap (set s (at + i)) (sym (a i (omega arith) (omega arith))) ∙ set-getD s (at + i) 0 in
-      rest m (i + 1) (omega arith) (subst (λ (x : List ℕ). Filling l at row 0 x (i + 1)) same (filling-turn l at row 0 room s i (omega arith) v)) (λ j b. a j (omega arith))
+      rest m (i + 1) (omega arith) (rw same at (filling-turn l at row 0 room s i (omega arith) v)) (λ j b. a j (omega arith))
 
   pub one-cleared : n ≡ 1 → set l at 0 ≡ put l at (replicate row 0)
   one-cleared e =
-      let v : Filling l at row 0 (set l at 0) 1 =
-      subst (λ (i : ℕ). Filling l at row 0 (set l i 0) 1) (add-zero at) (filling-turn l at row 0 room l 0 (omega arith) (filling-start l at row 0)) in
+      let v : Filling l at row 0 (set l at 0) 1 = rw add-zero at (filling-turn l at row 0 room l 0 (omega arith) (filling-start l at row 0)) in
       rest (row - 1) 1 (omega arith) v (λ j a b. getD-set-other l at (at + j) 0 0 (λ q. omega arith) ∙ z j (omega arith) b)
 
   pub few-cleared : {s : List ℕ} → s ≡ put l at (replicate n 0) → s ≡ put l at (replicate row 0)
@@ -114,14 +113,11 @@ module _ (l : List ℕ) (at n row : ℕ) (few : n ≤ row) (room : at + row ≤ 
       let long : length {A = ℕ} (replicate n 0) ≡ n = length-replicate n 0 in
       let p : s ≡ paste l at (replicate row 0) n = e ∙ sym (put-paste l at (replicate n 0) n long) ∙ ap (λ (x : List ℕ). take at l ++ x ++ drop (at + n) l) (take-all n (replicate n 0) (omega arith) ∙ sym (take-replicate n row few)) in
       rest (row - n) n (omega arith) (p, ap length p ∙ length-paste l at (replicate row 0) n (omega arith) (omega (arith, length-replicate {A = ℕ} row 0)))
-      (λ j a b. let q : at + j ≡ at + n + (j - n) = omega arith in
-      ap (λ (x : List ℕ). getD x (at + j) 0) p
-      ∙ ap (λ (i : ℕ). getD (paste l at (replicate row 0) n) i 0) q
-      ∙ getD-paste-past l at (replicate row 0) n (j - n) (omega arith) (omega (arith, length-replicate {A = ℕ} row 0))
-      ∙ ap (λ (i : ℕ). getD l i 0) (sym q)
-      ∙ z j a b)
+      (λ j a b.
+      let q : at + j ≡ at + n + (j - n) = omega arith in
+      rw (p, q, getD-paste-past l at (replicate row 0) n (j - n) (omega arith) (omega (arith, length-replicate {A = ℕ} row 0)), ← q) (z j a b))
     where
       take-replicate : (i m : ℕ) → i ≤ m → take {A = ℕ} i (replicate m 0) ≡ replicate i 0
       take-replicate zero m h = refl
       take-replicate (suc i) zero h = absurd (omega arith)
-      take-replicate (suc i) (suc m) h = ap (λ (r : List ℕ). 0 ∷ r) (take-replicate i m (omega arith))
+      take-replicate (suc i) (suc m) h = rw (take-replicate i m (omega arith))

@@ -20,10 +20,7 @@ module _ (op : ℕ → ℕ → ℕ) (block : (k a b r s : ℕ) → r < 2 ^ k →
   apart : (a b c d i j k l : ℕ) → b < 256 → c < 256 → d < 256 → j < 256 → k < 256 → l < 256
       → op (fourBytes a b c d) (fourBytes i j k l) ≡ fourBytes (op a i) (op b j) (op c k) (op d l)
   apart a b c d i j k l hb hc hd hj hk hl =
-      block 8 ((a * 256 + b) * 256 + c) ((i * 256 + j) * 256 + k) d l hd hl
-      ∙ ap (λ (x : ℕ). x * 256 + op d l)
-      (block 8 (a * 256 + b) (i * 256 + j) c k hc hk
-      ∙ ap (λ (x : ℕ). x * 256 + op c k) (block 8 a i b j hb hj))
+      rw (block 8 ((a * 256 + b) * 256 + c) ((i * 256 + j) * 256 + k) d l hd hl, block 8 (a * 256 + b) (i * 256 + j) c k hc hk, block 8 a i b j hb hj)
 
   -- each with one byte n
   apart-by : (a b c d n : ℕ) → b < 256 → c < 256 → d < 256 → n < 256
@@ -50,14 +47,13 @@ module _ (n : ℕ) (h : n < 128) where
 
   tops-are : (a b c d : ℕ) → b < 256 → c < 256 → d < 256 → tops (fourBytes n n n n) (fourBytes a b c d) ≡ fourBytes (top n a) (top n b) (top n c) (top n d)
   tops-are a b c d hb hc hd =
-      ap (λ (x : ℕ). bitAnd (bitOr (x + fourBytes n n n n) (fourBytes a b c d)) 0x80808080)
-      (apart-by bitAnd and-block a b c d 127 hb hc hd (omega arith))
-      ∙ ap (λ (x : ℕ). bitAnd (bitOr x (fourBytes a b c d)) 0x80808080)
-      (sums (bitAnd a 127) (bitAnd b 127) (bitAnd c 127) (bitAnd d 127))
-      ∙ ap (λ (x : ℕ). bitAnd x 0x80808080)
-      (apart bitOr or-block (bitAnd a 127 + n) (bitAnd b 127 + n) (bitAnd c 127 + n) (bitAnd d 127 + n) a b c d (low b) (low c) (low d) hb hc hd)
-      ∙ apart-by bitAnd and-block (bitOr (bitAnd a 127 + n) a) (bitOr (bitAnd b 127 + n) b) (bitOr (bitAnd c 127 + n) c) (bitOr (bitAnd d 127 + n) d) 128
-      (over b hb) (over c hc) (over d hd) (omega arith)
+      rw (
+        apart-by bitAnd and-block a b c d 127 hb hc hd (omega arith),
+        sums (bitAnd a 127) (bitAnd b 127) (bitAnd c 127) (bitAnd d 127),
+        apart bitOr or-block (bitAnd a 127 + n) (bitAnd b 127 + n) (bitAnd c 127 + n) (bitAnd d 127 + n) a b c d (low b) (low c) (low d) hb hc hd,
+      )
+      (apart-by bitAnd and-block (bitOr (bitAnd a 127 + n) a) (bitOr (bitAnd b 127 + n) b) (bitOr (bitAnd c 127 + n) c) (bitOr (bitAnd d 127 + n) d) 128
+      (over b hb) (over c hc) (over d hd) (omega arith))
 
 -- ---- the tests, by what is computed of every byte
 

@@ -1,6 +1,7 @@
 -- Laws that carry what the leaves leave to the tables.
 pub mod Bytes
 pub mod FourBytes
+pub mod Statuses
 pub mod Closed
 pub mod Ones
 pub mod Queue

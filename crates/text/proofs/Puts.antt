@@ -1,5 +1,5 @@
 -- Text put into a slice: where there is room and where not, one text behind another.
-use mathlib.Core.Path.{_≡_, refl, sym, ap, _∙_}
+use mathlib.Core.Path.{_≡_, refl, sym, _∙_}
 use mathlib.Core.List.{List, [], _∷_, _++_}
 use Prim.Native.Nat.{ℕ, suc, _+_, _-_, _≤_, _<_}
 use native.Mathlib.Omega.{arith}
@@ -23,14 +23,7 @@ put-all l at s n e h q =
 
 pub joined-all : (l : List ℕ) (at : ℕ) (a s : List ℕ) {p k : ℕ} {l₁ l₂ : List ℕ} → length a ≡ p → length s ≡ k → at + (p + k) ≤ length l
     → l₁ ≡ sets l at a → l₂ ≡ sets l₁ (at + p) s → Put l at (a ++ s) (at + (p + k)) l₂
-joined-all l at a s {p} {k} {l₁} {l₂} e d h f g = put-all l at (a ++ s) (p + k) (rw (length-append, e, d)) h laid
-  where
-    laid : l₂ ≡ sets l at (a ++ s)
-    laid =
-        g
-        ∙ ap (λ (m : List ℕ). sets m (at + p) s) f
-        ∙ ap (λ (j : ℕ). sets (sets l at a) (at + j) s) (sym e)
-        ∙ sets-append l at a s
+joined-all l at a s {p} {k} e d h f g = put-all l at (a ++ s) (p + k) (rw (length-append, e, d)) h (rw (g, f, ← e) (sets-append l at a s))
 
 -- ---- `0x`, then the digits
 

@@ -1,22 +1,24 @@
 -- Numbers out of text: the digit of a character, a value with one more digit, the loop that reads digits.
-use mathlib.Core.Path.{_≡_, refl, _∙_}
-use mathlib.Core.Bool.{Bool, true, false}
+use mathlib.Core.Path.{_≡_, sym, _∙_}
+use mathlib.Core.Logic.{⊎-elim}
+use mathlib.Core.Bool.{true, false, false≢true}
 use mathlib.Core.List.{List, [], _∷_}
 use Prim.Native.Nat.{ℕ, _+_, _-_, _*_, _/_, _^_, _≤_, _<_}
 use native.Mathlib.Nat.{le-div-iff-mul-le, le-trans, mul-le-mul-left, mul-one, lt-of-not-le}
 use native.Mathlib.Numerals.{add-one}
 use native.Mathlib.Omega.{arith}
-use borrow.Author.Tests.{lt-ltb, le-ltb, ltb-true, ltb-false, leb-true, ne-eqb, eqb-true}
+use borrow.Author.Tests.{lt-ltb, le-ltb, ltb-false, leb-true, ne-eqb, eqb-true}
 use lib.ListN.{length, drop, getD, drop-of-length-le, List·getD-eq-default}
 use lib.Seq.{drop-cons}
 use lib.Dec.{eqb, ltb, leb}
-use Rattle.words.specs.Words.{pick, within}
-use Rattle.words.proofs.Flags.{and-1, and-2}
+use Rattle.words.specs.Words.{within}
+use Rattle.words.proofs.Flags.{and-1, and-2, flag, pick-both}
 use Rattle.text.specs.declared.Parsed.{Parsed}
 use Rattle.text.specs.declared.Parsed.the-variants.{Number, Nothing, TooLarge}
+use Rattle.text.specs.declared.Grown.{Grown}
 use Rattle.text.specs.declared.Grown.the-variants as grown
 use Rattle.text.specs.Words.{passingCount, past}
-use Rattle.text.proofs.Runs.{past-on}
+use Rattle.text.proofs.Runs.{past-on, past-off, past-end}
 use Rattle.text.specs.Digits.{digitOf, isDigit, valueOf, grownOf, numberOf, numberIn, hexAt}
 
 -- ---- the digit of a character
@@ -52,53 +54,15 @@ module _ (v b d : ℕ) (pos : 0 < b) (fits : d < 2 ^ 64) where
       over : 2 ^ 64 - 1 - d < v * b
       over = lt-of-not-le (λ (k : v * b ≤ 2 ^ 64 - 1 - d). let g = le-div-iff-mul-le {k = b} {x = v} {y = 2 ^ 64 - 1 - d} pos .1 k in omega arith)
 
--- what the two answers say
-pub grown-is : (v b d : ℕ) {w : ℕ} → grown.To w ≡ grownOf v b d → (w ≡ v * b + d) × (v * b + d < 2 ^ 64)
-grown-is v b d {w} e = go (ltb (v * b + d) (2 ^ 64)) refl e
-  where
-    go : (t : Bool) → ltb (v * b + d) (2 ^ 64) ≡ t → grown.To w ≡ pick t (grown.To (v * b + d)) grown.TooLarge → (w ≡ v * b + d) × (v * b + d < 2 ^ 64)
-    go true p q = (cc, ltb-true (v * b + d) (2 ^ 64) p)
-    go false p q = let z : _≡_ {A = ℕ} 0 1 = cc in omega arith
-
-pub grown-over : (v b d : ℕ) → grown.TooLarge ≡ grownOf v b d → 2 ^ 64 ≤ v * b + d
-grown-over v b d e = go (ltb (v * b + d) (2 ^ 64)) refl e
-  where
-    go : (t : Bool) → ltb (v * b + d) (2 ^ 64) ≡ t → grown.TooLarge ≡ pick t (grown.To (v * b + d)) grown.TooLarge → 2 ^ 64 ≤ v * b + d
-    go true p q = let z : _≡_ {A = ℕ} 0 1 = cc in omega arith
-    go false p q = ltb-false (v * b + d) (2 ^ 64) p
-
 -- ---- the loop
 
 pub value-grows : (b v : ℕ) (s : List ℕ) → 0 < b → v ≤ valueOf b v s
 unfolding valueOf
 value-grows b v [] h = omega arith
-value-grows b v (c ∷ s) h = go (isDigit b c) (value-grows b (v * b + digitOf c) s h)
-  where
-    more : v ≤ v * b
-    more = let k : v * 1 ≤ v * b = mul-le-mul-left v h in omega (arith, mul-one v)
-
-    go : (t : Bool) → v * b + digitOf c ≤ valueOf b (v * b + digitOf c) s → v ≤ pick t (valueOf b (v * b + digitOf c) s) v
-    go true k = omega (arith, more)
-    go false k = omega arith
-
-pub digit-yes : (b x : ℕ) {d : ℕ} → d ≡ digitOf x → d < b → isDigit b x ≡ true
-digit-yes b x e g = lt-ltb (digitOf x) b (rw e at g)
-
-pub digit-no : (b x : ℕ) {d : ℕ} → d ≡ digitOf x → b ≤ d → isDigit b x ≡ false
-digit-no b x e g = le-ltb (digitOf x) b (rw e at g)
-
-module _ (b : ℕ) (s : List ℕ) (i : ℕ) where
-  pub value-on : (v d : ℕ) → i < length s → d ≡ digitOf (getD s i 0) → d < b → valueOf b v (drop i s) ≡ valueOf b (v * b + d) (drop (i + 1) s)
-  unfolding valueOf
-  value-on v d h e g = let q : isDigit b (getD s i 0) ≡ true = digit-yes b (getD s i 0) e g in rw (drop-cons s i 0 h, q, e, add-one i)
-
-  pub value-off : (v d : ℕ) → i < length s → d ≡ digitOf (getD s i 0) → b ≤ d → valueOf b v (drop i s) ≡ v
-  unfolding valueOf
-  value-off v d h e g = let q : isDigit b (getD s i 0) ≡ false = digit-no b (getD s i 0) e g in rw (drop-cons s i 0 h, q)
-
-  pub value-end : (v : ℕ) → length s ≤ i → valueOf b v (drop i s) ≡ v
-  unfolding valueOf
-  value-end v h = rw (drop-of-length-le s h)
+value-grows b v (c ∷ s) h =
+    let more : v * 1 ≤ v * b = mul-le-mul-left v h in
+    let k = value-grows b (v * b + digitOf c) s h in
+    pick-both (λ n. v ≤ n) (isDigit b c) (omega (arith, mul-one v)) (omega arith)
 
 -- what the digits from at to i come to
 pub number-none : (at i v : ℕ) → i ≡ at → Nothing ≡ numberOf at (i - at) v
@@ -110,20 +74,55 @@ number-some at i v h e g =
     let k : at + (i - at) ≡ i = omega arith in
     rw (q, lt-ltb v (2 ^ 64) g, k)
 
-module _ (b : ℕ) (s : List ℕ) (at i v : ℕ) where
-  pub number-done : {r : Parsed} → i ≡ past (isDigit b) s at → valueOf b 0 (drop at s) ≡ v → r ≡ numberOf at (i - at) v → r ≡ numberIn b s at
-  unfolding numberIn
-  number-done p q e = let k : i - at ≡ passingCount (isDigit b) (drop at s) = omega arith in e ∙ rw (k, q)
+-- the digits from `at` on end where those from i on do, and come to the same behind v
+pub record ReadTo (b : ℕ) (s : List ℕ) (at v i : ℕ) : Type 0 where
+  pub from : at ≤ i
+  pub ends : past (isDigit b) s at ≡ past (isDigit b) s i
+  pub comes : valueOf b 0 (drop at s) ≡ valueOf b v (drop i s)
 
-  pub number-large : (d : ℕ) → 0 < b → at ≤ i → i < length s → d ≡ digitOf (getD s i 0) → d < b
-      → past (isDigit b) s at ≡ past (isDigit b) s i → valueOf b 0 (drop at s) ≡ valueOf b v (drop i s) → 2 ^ 64 ≤ v * b + d
-      → TooLarge ≡ numberIn b s at
+module _ {b : ℕ} {s : List ℕ} {at v i : ℕ} (g : ReadTo b s at v i) where
+  -- no digit stands at i
+  done : {r : Parsed} → i ≡ past (isDigit b) s i → valueOf b v (drop i s) ≡ v → r ≡ numberOf at (i - at) v → r ≡ numberIn b s at
   unfolding numberIn
-  number-large d pos h l e g p q o =
-      let t : past (isDigit b) s at ≡ past (isDigit b) s (i + 1) = p ∙ past-on (isDigit b) s i l (digit-yes b (getD s i 0) e g) in
-      let z : eqb (passingCount (isDigit b) (drop at s)) 0 ≡ false = ne-eqb _ 0 (λ (w : passingCount (isDigit b) (drop at s) ≡ 0). omega arith) in
-      let m : 2 ^ 64 ≤ valueOf b 0 (drop at s) = rw (q, value-on b s i v d l e g) (le-trans o (value-grows b (v * b + d) (drop (i + 1) s) pos)) in
-      rw (z, le-ltb (valueOf b 0 (drop at s)) (2 ^ 64) m)
+  done p q e =
+      let k : i - at ≡ passingCount (isDigit b) (drop at s) = omega (arith, p ∙ sym (g .ends), g .from) in
+      e ∙ rw (k, g .comes, q)
+
+  pub read-end : {r : Parsed} → length s ≤ i → r ≡ numberOf at (i - at) v → r ≡ numberIn b s at
+  unfolding valueOf
+  read-end h = done (past-end (isDigit b) s i h) (rw (drop-of-length-le s h))
+
+  module _ (h : i < length s) {d : ℕ} (is : d ≡ digitOf (getD s i 0)) where
+    pub read-off : {r : Parsed} → b ≤ d → r ≡ numberOf at (i - at) v → r ≡ numberIn b s at
+    unfolding valueOf
+    read-off o =
+        let q : isDigit b (getD s i 0) ≡ false = le-ltb (digitOf (getD s i 0)) b (rw is at o) in
+        done (past-off (isDigit b) s i h q) (rw (drop-cons s i 0 h, q))
+
+    module _ (o : d < b) {w : Grown} (grows : w ≡ grownOf v b d) where
+      on : ReadTo b s at (v * b + d) (i + 1)
+      unfolding valueOf
+      on =
+          let q : isDigit b (getD s i 0) ≡ true = lt-ltb (digitOf (getD s i 0)) b (rw is at o) in
+          record { from = omega (arith, g .from); ends = g .ends ∙ past-on (isDigit b) s i h q; comes = g .comes ∙ rw (drop-cons s i 0 h, q, is, add-one i) }
+
+      pub read-on : {n : ℕ} → w ≡ grown.To n → ReadTo b s at n (i + 1)
+      read-on {n} to =
+          ⊎-elim
+          (λ q. let z = rw q at grows in let e : v * b + d ≡ n = cc in rw (← e) on)
+          (λ q. let z = rw q at grows in absurd (false≢true (cc)))
+          (flag (ltb (v * b + d) (2 ^ 64)))
+
+      pub read-large : 0 < b → w ≡ grown.TooLarge → TooLarge ≡ numberIn b s at
+      unfolding numberIn
+      read-large pos large =
+          let z : eqb (passingCount (isDigit b) (drop at s)) 0 ≡ false = ne-eqb _ 0 (λ (k : passingCount (isDigit b) (drop at s) ≡ 0). omega (arith, on .ends, g .from)) in
+          ⊎-elim
+          (λ q. let y = rw q at grows in absurd (false≢true (cc)))
+          (λ q.
+          let m : 2 ^ 64 ≤ valueOf b 0 (drop at s) = rw (on .comes) (le-trans (ltb-false (v * b + d) (2 ^ 64) q) (value-grows b (v * b + d) (drop (i + 1) s) pos)) in
+          rw (z, le-ltb (valueOf b 0 (drop at s)) (2 ^ 64) m))
+          (flag (ltb (v * b + d) (2 ^ 64)))
 
 -- ---- `0x`
 

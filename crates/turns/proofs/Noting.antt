@@ -50,6 +50,13 @@ reply-refusing r =
       refusing-is (r .first),
     )
 
+-- what `accepted` said of an event
+pub accepted-says : {b : Bool} (e : Event) → b ≡ not (isRefusal e) → b ≡ true → isRefusal e ≡ false
+accepted-says e is h = not-yes (sym is ∙ h)
+
+pub refused-says : {b : Bool} (e : Event) → b ≡ not (isRefusal e) → b ≡ false → isRefusal e ≡ true
+refused-says e is h = no-not (sym is ∙ h)
+
 module _ {T : Type 0} (o : Outcome T) (r : Reply) (clear : Clear unrefused o) (e : eventsTold r ≡ eventsOf o) where
   pub reply-accepted : accepted o ≡ not (isRefusal (r .first))
   reply-accepted = sym (clear .clear) ∙ ap unrefused (sym e) ∙ ap not (reply-refusing r)

@@ -1,10 +1,7 @@
-use mathlib.Core.Path.{sym, ap, _∙_}
+use mathlib.Core.Path.{sym, _∙_}
 use borrow.Author.Needs.{needs}
-use Rattle.model.specs.declared.Refusal.{Refusal}
-use Rattle.model.specs.declared.Event.the-variants as event
-use Rattle.words.proofs.Flags.{not-yes, no-not}
+use Rattle.words.proofs.Flags.{said-no, said-yes}
 use Rattle.encoding.proofs.Bridge.{is-fit}
-use Rattle.tables.specs.Telling.{telling}
 use Rattle.access.proofs.Offering.{formed-refused, spot-met, access-offered, access-stops}
 use Rattle.access.proofs.access_counted.Statement.{statement}
 use Rattle.access.proofs.access_counted.Tie as tie
@@ -15,7 +12,7 @@ access-counted-spec =
     (tie.spec
     (λ c κs. search needs)  -- well-formed-requires
     (λ c κs. search needs)  -- refused-requires
-    (λ c. record { on = λ t is. formed-refused _ _ _ (sym (c .before .before .well-formed .ensures .0) ∙ not-yes (c .before .if1 .taken)) (c .refused .ensures) t })  -- returns
+    (λ c. record { on = λ t is. formed-refused _ _ _ (said-no (c .before .before .well-formed .ensures .0) (c .before .if1 .taken)) (c .refused .ensures) t })  -- returns
     -- decide-requires
     (λ c κs.
     let pre = c .before .before .before .before .before .before .before .before .pre in
@@ -27,7 +24,7 @@ access-counted-spec =
     let decided = then .before .before in
     let else = decided .before .before .before .before in
     let pre = else .before .before .before .before .before .pre in
-    let w = spot-met _ _ _ (decided .decide .ensures) (sym (else .before .well-formed .ensures .0) ∙ no-not (else .if1 .left)) (pre .1 .tables) (pre .1 .are)
+    let w = spot-met _ _ _ (decided .decide .ensures) (said-yes (else .before .well-formed .ensures .0) (else .if1 .left)) (pre .1 .tables) (pre .1 .are)
     (sym (then .before .spotted .ensures) ∙ then .if2 .taken) in
     (pre .0, record { tables = pre .1 .tables; spot = w .0; met = w .1 }, pre .2, pre .3))
     (λ c. search needs)  -- same-length
@@ -40,7 +37,7 @@ access-counted-spec =
           let then = offered .before .before .before .before in
           let decided = then .before .before in
           let else = decided .before .before .before .before in
-          access-offered _ _ _ (decided .decide .ensures) (sym (else .before .well-formed .ensures .0) ∙ no-not (else .if1 .left)) t is
+          access-offered _ _ _ (decided .decide .ensures) (said-yes (else .before .well-formed .ensures .0) (else .if1 .left)) t is
           (sym (then .before .spotted .ensures) ∙ then .if2 .taken) (offered .offer .ensures);
     })
     (λ c κs. search needs)  -- refusal-met-requires
@@ -54,7 +51,6 @@ access-counted-spec =
           let other = c .before .before in
           let decided = other .before .before in
           let else = decided .before .before .before .before in
-          access-stops _ _ _ (decided .decide .ensures) (sym (else .before .well-formed .ensures .0) ∙ no-not (else .if1 .left)) t is
-          (sym (other .before .spotted .ensures) ∙ other .if2 .left)
-          (c .refused2 .ensures ∙ ap (λ (n : Refusal). telling (event.Refused n)) (c .before .refusal-met .ensures));
+          access-stops _ _ _ (decided .decide .ensures) (said-yes (else .before .well-formed .ensures .0) (else .if1 .left)) t is
+          (sym (other .before .spotted .ensures) ∙ other .if2 .left) (c .before .refusal-met .ensures) (c .refused2 .ensures);
     }))

@@ -1,9 +1,6 @@
 -- By its plan, acted or refused.
-use mathlib.Core.Path.{sym, ap, _∙_}
+use mathlib.Core.Path.{sym, _∙_}
 use borrow.Author.Needs.{needs}
-use Rattle.model.specs.declared.Refusal.{Refusal}
-use Rattle.model.specs.declared.Event.the-variants as event
-use Rattle.tables.specs.Telling.{telling}
 use Rattle.access.proofs.Offering.{may-act, offered-acted, offered-refused}
 use Rattle.access.proofs.offer_found.Statement.{statement}
 use Rattle.access.proofs.offer_found.Tie as tie
@@ -36,5 +33,4 @@ offer-found-spec =
     (λ c.
     let else = c .before .before in
     let pre = c .before .before .before .before .before .before .before .before .before .before .before .pre in
-    offered-refused _ (pre .0) (pre .2) (else .before .before .miss-plan .ensures) (sym (else .before .accepted .ensures) ∙ else .if1 .left)
-    (c .refused .ensures ∙ ap (λ (n : Refusal). telling (event.Refused n)) (c .before .refusal-of .ensures))))
+    offered-refused _ (pre .0) (pre .2) (else .before .before .miss-plan .ensures) (sym (else .before .accepted .ensures) ∙ else .if1 .left) (c .before .refusal-of .ensures) (c .refused .ensures)))

@@ -1,11 +1,9 @@
 -- A hit, a line taken over, or one that is there.
-use mathlib.Core.Path.{sym, _∙_}
+use mathlib.Core.Path.{refl, sym, _∙_}
 use native.Mathlib.Omega.{arith}
 use borrow.Author.Needs.{needs}
-use Rattle.model.specs.Address.{addressOf, setIndex}
 use Rattle.encoding.proofs.Bridge.{is-fit}
-use Rattle.model.proofs.Turning.{set-below}
-use Rattle.layout.proofs.Room.{tree-room}
+use Rattle.access.proofs.Changes.{set-room}
 use Rattle.access.proofs.Hits.{hit-offered}
 use Rattle.access.proofs.offer_read.Statement.{statement}
 use Rattle.access.proofs.offer_read.Tie as tie
@@ -18,11 +16,10 @@ offer-read-spec =
     -- act-hit-requires
     (λ c κs.
     let start = c .before .before .before .before .before .before in
-    let a = start .args in
     let m = start .pre .1 .met in
     let fit = is-fit _ _ _ (m .is) in
-    let room = tree-room (start .pre .0) fit (setIndex (a .s) (addressOf (a .x))) (set-below (a .s) (m .is .range) (addressOf (a .x))) in
-    (omega (arith, m .below), omega (arith, m .below), room .inside, room .small, fit .sets, fit .power, fit .tree))
+    let room = set-room _ _ _ _ _ m (start .pre .0) refl in
+    (omega (arith, m .below), omega (arith, m .below), room .1, room .2, room .3, room .4, room .5))
     (λ c. search needs)  -- same-length
     -- returns
     (λ c. record {

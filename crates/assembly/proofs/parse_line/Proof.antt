@@ -1,11 +1,11 @@
 -- `assembly::parse_line` meets its contract: the forms passed have another word.
-use mathlib.Core.Path.{_≡_, sym, _∙_}
+use mathlib.Core.Path.{_≡_}
 use Prim.Native.Nat.{_-_}
 use native.Mathlib.Omega.{arith}
 use borrow.Author.Needs.{needs}
 use lib.ListN.{length, drop}
 use Rattle.assembly.specs.Language.{forms, byWord, parseLine}
-use Rattle.assembly.proofs.Tables.{word-at, form-here, form-on, form-none, line-empty, line-opened}
+use Rattle.assembly.proofs.Tables.{form-here, form-on, form-none, line-empty, line-opened}
 use Rattle.assembly.proofs.parse_line.Statement.{statement}
 use Rattle.assembly.proofs.parse_line.Tie as tie
 
@@ -29,19 +29,8 @@ parse-line-spec =
     (λ c κs. search needs)  -- word-in-requires
     (λ c κs. search needs)  -- word-is-requires
     (λ c κs. search needs)  -- form-line-requires
-    -- returns-2
-    (λ c.
-    let i = c .before in
-    let w = i .before .before in
-    let f = w .before .before .before in
-    let l = f .before in
-    c .form-line .ensures ∙ form-here _ _ _ _ (l .loop-test .taken) (i .before .word-is .ensures) (word-at _ (f .form-of .ensures) (w .word-in .ensures)) (i .if2 .taken) ∙ sym (l .before .loop .inv))
+    (λ c. search form-here)  -- returns-2
     (λ c. search needs)  -- add-k
     (λ c. omega arith)  -- loop-less
-    -- loop-again
-    (λ c.
-    let w = c .before .before in
-    let f = w .before .before .before in
-    let l = f .before in
-    l .before .loop .inv ∙ form-on _ _ _ _ (l .loop-test .taken) (c .before .word-is .ensures) (word-at _ (f .form-of .ensures) (w .word-in .ensures)) (c .if2 .left))
-    (λ c. form-none _ _ _ _ (c .loop-test .left) ∙ sym (c .before .loop .inv)))  -- returns-3
+    (λ c. search form-on)  -- loop-again
+    (λ c. search form-none))  -- returns-3

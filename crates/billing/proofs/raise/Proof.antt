@@ -2,15 +2,17 @@
 use mathlib.Core.Path.{_∙_}
 use borrow.Author.Needs.{needs}
 use native.Mathlib.Omega.{arith}
-use Rattle.billing.proofs.Sums.{raised-full, raised-over, raised-more}
+use Rattle.billing.specs.Bills.{raised}
+use Rattle.billing.proofs.Sums.{raised-over, raised-more}
 use Rattle.billing.proofs.raise.Statement.{statement}
 use Rattle.billing.proofs.raise.Tie as tie
 
 pub raise-spec : {M : Type 1} → statement M
+unfolding raised
 raise-spec =
     tie.close
     (tie.spec
-    (λ c. raised-full _ _ _ (c .if1 .taken))  -- returns
+    (λ c. rw (c .if1 .taken))  -- returns
     (λ c. search needs)  -- mul-sum
     (λ c. search needs)  -- element-copy-out-sum
     (λ c. search needs)  -- sub-if2

@@ -1,6 +1,7 @@
 -- `comparing::check` meets its contract.
 use mathlib.Core.Path.{sym, _∙_}
-use Rattle.comparing.proofs.Scans.{checked-empty, checked-starts, checked-inside}
+use mathlib.Core.Bool.{true, false}
+use Rattle.comparing.proofs.Scans.{checked-empty, checked-first}
 use Rattle.comparing.specs.Checks.{checked}
 use borrow.Author.Needs.{needs}
 use Rattle.comparing.proofs.check.Statement.{statement}
@@ -17,6 +18,6 @@ check-spec =
     (λ c. search checked-empty)  -- returns
     (λ c. search needs)  -- shared-slice-read-starts
     (λ c κs. search needs)  -- starts-requires
-    (λ c. search checked-starts)  -- returns-2
+    (λ c. search (checked-first true))  -- returns-2
     (λ c. let n = c .before in rw (sym (n .before .before .scan .ensures) ∙ n .number .given .1))  -- returns-3
-    (λ c. search checked-inside))  -- returns-4
+    (λ c. search (checked-first false)))  -- returns-4

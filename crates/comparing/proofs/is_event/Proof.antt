@@ -1,6 +1,5 @@
 -- `comparing::is_event` meets its contract.
-use mathlib.Core.Path.{sym, _∙_}
-use Rattle.comparing.proofs.Table.{event-command, event-other}
+use Rattle.comparing.proofs.Table.{event-kinds}
 use borrow.Author.Needs.{needs}
 use Rattle.comparing.proofs.is_event.Statement.{statement}
 use Rattle.comparing.proofs.is_event.Tie as tie
@@ -10,6 +9,6 @@ is-event-spec =
     tie.close
     (tie.spec
     (λ c κs. search needs)  -- is-command-requires
-    (λ c. event-command _ (sym (c .if1 .taken) ∙ c .before .is-command .ensures))  -- returns
+    (λ c. rw (← event-kinds, ← (c .before .is-command .ensures), c .if1 .taken))  -- returns
     (λ c κs. search needs)  -- length-of-requires
-    (λ c. event-other _ _ (sym (c .before .if1 .left) ∙ c .before .before .is-command .ensures) (c .length-of .ensures)))  -- returns-2
+    (λ c. rw (← event-kinds, ← (c .before .before .is-command .ensures), c .before .if1 .left, ← (c .length-of .ensures))))  -- returns-2

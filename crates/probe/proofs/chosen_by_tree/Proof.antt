@@ -1,7 +1,7 @@
 use native.Mathlib.Omega.{arith}
 use borrow.Author.Needs.{needs}
 use Rattle.model.proofs.Trees.{levels-are}
-use Rattle.probe.proofs.ByTree.{by-mask}
+use Rattle.probe.proofs.Ways.{by-mask}
 use Rattle.probe.proofs.chosen_by_tree.Statement.{statement}
 use Rattle.probe.proofs.chosen_by_tree.Tie as tie
 

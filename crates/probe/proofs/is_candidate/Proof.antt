@@ -1,31 +1,13 @@
-use mathlib.Core.Path.{_≡_, refl, ap, _∙_}
-use mathlib.Core.Bool.{Bool, true, false, not, _&&_, _||_, true≢false, false≢true}
+use mathlib.Core.Bool.{and-true, or-true, or-false}
 use borrow.Author.Needs.{needs}
-use Rattle.tables.specs.Raw.{waitingAt, dirtyAt}
 use Rattle.probe.proofs.is_candidate.Statement.{statement}
 use Rattle.probe.proofs.is_candidate.Tie as tie
-
-unless-waiting : (w d e : Bool) → e ≡ true → not w ≡ (not w && (not d || e))
-unless-waiting w d false h = absurd (false≢true h)
-unless-waiting true d true h = refl
-unless-waiting false true true h = refl
-unless-waiting false false true h = refl
-
-where-clean : (w d e : Bool) → e ≡ false → (not w && not d) ≡ (not w && (not d || e))
-where-clean w d true h = absurd (true≢false h)
-where-clean true d false h = refl
-where-clean false true false h = refl
-where-clean false false false h = refl
 
 pub is-candidate-spec : {M : Type 1} → statement M
 is-candidate-spec =
     tie.close
     (tie.spec
     (λ c κs. search needs)  -- is-waiting-requires
-    -- returns
-    (λ c. let a = c .before .before .before .args in
-    ap not (c .is-waiting .ensures) ∙ unless-waiting (waitingAt (a .marks .now) (a .l)) (dirtyAt (a .marks .now) (a .l)) (a .enough) (c .before .if1 .taken))
+    (λ c. rw (c .is-waiting .ensures, c .before .if1 .taken, or-true, and-true))  -- returns
     (λ c κs. search needs)  -- is-clean-requires
-    -- returns-2
-    (λ c. let a = c .before .before .before .args in
-    c .is-clean .ensures ∙ where-clean (waitingAt (a .marks .now) (a .l)) (dirtyAt (a .marks .now) (a .l)) (a .enough) (c .before .if1 .left)))
+    (λ c. rw (c .is-clean .ensures, c .before .if1 .left, or-false)))  -- returns-2

@@ -23,11 +23,9 @@ last-unused-spec =
     (λ c κs. search needs)  -- is-unused-requires
     -- returns
     (λ c. let loop = c .before .before .before .loop in
-    let e : loop .w ≡ loop .w - 1 + 1 = omega arith in
-    unseen-stop _ _ _ _ e (c .before .is-unused .ensures) (c .if1 .taken) (loop .inv))
+    unseen-stop _ _ (loop .w) (loop .w - 1) (omega arith) (c .before .is-unused .ensures) (c .if1 .taken) (loop .inv))
     (λ c. omega arith)  -- loop-less
     -- loop-again
     (λ c. let loop = c .before .before .before .loop in
-    let e : loop .w ≡ loop .w - 1 + 1 = omega arith in
-    unseen-more _ _ _ _ e (c .before .is-unused .ensures) (c .if1 .left) (loop .inv))
+    unseen-more _ _ (loop .w) (loop .w - 1) (omega arith) (c .before .is-unused .ensures) (c .if1 .left) (loop .inv))
     (λ c. let end : c .before .loop .w ≡ 0 = omega arith in unseen-end _ _ _ end (c .before .loop .inv)))  -- returns-2

@@ -1,7 +1,7 @@
 use mathlib.Core.Path.{_≡_, ap, _∙_}
 use mathlib.Core.Bool.{Bool}
 use Rattle.probe.specs.Scan.{victimIn, enoughIn}
-use Rattle.probe.proofs.Meetings.{victim-below, missed-at, missed-nothing}
+use Rattle.probe.proofs.Meetings.{victim-below, missed-as}
 use native.Mathlib.Omega.{arith}
 use borrow.Author.Needs.{needs}
 use Rattle.layout.proofs.Room.{tree-room}
@@ -36,11 +36,11 @@ take-over-spec =
     (λ c κs. search needs)  -- busy-or-held-requires
     -- returns
     (λ c. let a = c .before .before .before .before .before .before .before .before .before .args in
-    missed-at (a .s) (a .longs .now) (a .words .now) (a .marks .now) (a .base) (a .s .ways)
+    missed-as (a .s) (a .longs .now) (a .words .now) (a .marks .now) (a .base) (a .s .ways)
     {u = victimIn (a .s) (a .words .now) (a .marks .now) (a .i) (a .base) (enoughIn (a .s) (a .words .now))}
     (by-count (c .before .before .before .before)) (c .before .before .v .given .1) (c .on-miss .ensures))
     -- returns-2
     (λ c. let a = c .before .before .before .before .before .before .before .before .args in
-    missed-nothing (a .s) (a .longs .now) (a .words .now) (a .marks .now) (a .base) (a .s .ways)
+    missed-as (a .s) (a .longs .now) (a .words .now) (a .marks .now) (a .base) (a .s .ways)
     {u = victimIn (a .s) (a .words .now) (a .marks .now) (a .i) (a .base) (enoughIn (a .s) (a .words .now))}
     (by-count (c .before .before .before)) (c .before .enum-told .given .1) (c .busy-or-held .ensures)))

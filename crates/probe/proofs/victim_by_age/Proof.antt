@@ -27,8 +27,7 @@ victim-by-age-spec =
     (λ c κs. search needs)  -- is-unused-requires
     -- returns
     (λ c. let loop = c .before .before .before .loop in
-    let e : loop .w ≡ loop .w - 1 + 1 = omega arith in
-    or-first _ (unseen-stop _ _ _ _ e (c .before .is-unused .ensures) (c .if1 .taken) (loop .inv .0)) refl)
+    or-first _ (unseen-stop _ _ (loop .w) (loop .w - 1) (omega arith) (c .before .is-unused .ensures) (c .if1 .taken) (loop .inv .0)) refl)
     (λ c. omega arith)  -- add-k
     (λ c. omega arith)  -- mul-k
     (λ c. omega arith)  -- shared-slice-read-k
@@ -37,20 +36,17 @@ victim-by-age-spec =
     -- loop-again
     (λ c. let old = c .before .before .before .before in
     let loop = old .before .before .before .loop in
-    let e : loop .w ≡ loop .w - 1 + 1 = omega arith in
-    leads-take _ _ _ _ _ _ _ _ e (old .before .is-unused .ensures) (old .if1 .left) (loop .inv) (c .before .is-candidate .ensures) (c .if3 .taken) (c .before .before .if2 .taken))
+    leads-take _ _ _ _ (loop .w) (loop .w - 1) _ _ (omega arith) (old .before .is-unused .ensures) (old .if1 .left) (loop .inv) (c .before .is-candidate .ensures) (c .if3 .taken) (c .before .before .if2 .taken))
     (λ c. omega arith)  -- loop-less-2
     -- loop-again-2
     (λ c. let old = c .before .before .before .before in
     let loop = old .before .before .before .loop in
-    let e : loop .w ≡ loop .w - 1 + 1 = omega arith in
-    leads-pass _ _ _ _ _ _ _ _ e (old .before .is-unused .ensures) (old .if1 .left) (loop .inv) (c .before .is-candidate .ensures) (c .if3 .left))
+    leads-pass _ _ _ _ (loop .w) (loop .w - 1) _ _ (omega arith) (old .before .is-unused .ensures) (old .if1 .left) (loop .inv) (c .before .is-candidate .ensures) (c .if3 .left))
     (λ c. omega arith)  -- loop-less-3
     -- loop-again-3
     (λ c. let old = c .before .before in
     let loop = old .before .before .before .loop in
     let a = old .before .before .before .before .before .before .args in
-    let e : loop .w ≡ loop .w - 1 + 1 = omega arith in
-    leads-later _ _ _ _ _ _ _ _ e (old .before .is-unused .ensures) (old .if1 .left) (loop .inv) (c .if2 .left) (omega (arith, c .before .shared-slice-known3 .given (a .ages + (a .base + (loop .w - 1))))))
+    leads-later _ _ _ _ (loop .w) (loop .w - 1) _ _ (omega arith) (old .before .is-unused .ensures) (old .if1 .left) (loop .inv) (c .if2 .left) (omega (arith, c .before .shared-slice-known3 .given (a .ages + (a .base + (loop .w - 1))))))
     (λ c. let end : c .before .before .loop .w ≡ 0 = omega arith in leads-some _ _ _ _ _ _ _ end (c .before .before .loop .inv) (c .if4 .taken))  -- returns-2
     (λ c. let end : c .before .before .loop .w ≡ 0 = omega arith in leads-none _ _ _ _ _ _ _ end (c .before .before .loop .inv) (c .if4 .left)))  -- returns-3

@@ -1,8 +1,7 @@
 -- The first of the entries in use whose address is of the set.
 use native.Mathlib.Omega.{arith}
 use borrow.Author.Needs.{needs}
-use Rattle.layout.proofs.ByBlocks.{is-stands, stands-fit}
-use Rattle.reasons.proofs.Entries.{set-shown}
+use Rattle.reasons.proofs.Entries.{slices-fit, entries-fit, set-shown}
 use Rattle.reasons.proofs.busy_reason.Statement.{statement}
 use Rattle.reasons.proofs.busy_reason.Tie as tie
 
@@ -10,26 +9,19 @@ pub busy-reason-spec : {M : Type 1} → statement M
 busy-reason-spec =
     tie.close
     (tie.spec
-    (λ c κs. let a = c .before .before .before in let i = a .pre .1 .are in let z = stands-fit (i .range) (is-stands i) in let p = a .pre .0 in omega arith)  -- used-requires
+    (λ c κs. let a = c .before .before .before in omega (arith, slices-fit (a .pre .1), a .pre .0))  -- used-requires
     (λ c κs. search needs)  -- address-of-requires
-    (λ c κs. let i = c .before .before .before .before .before .pre .1 .are in stands-fit (i .range) (is-stands i) .power)  -- set-index-requires
+    (λ c κs. slices-fit (c .before .before .before .before .before .pre .1) .power)  -- set-index-requires
     -- first-in-set-requires
     (λ c κs.
     let used = c .before .before in
     let a = used .before .before .before .before in
-    let i = a .pre .1 .are in
-    let z = stands-fit (i .range) (is-stands i) in
-    let p = a .pre .0 in
-    (omega (arith, used .used .ensures .most), z .power))
+    (entries-fit (a .pre .0) (a .pre .1) (used .used .ensures) .0, slices-fit (a .pre .1) .power))
     -- entry-reason-requires
     (λ c κs.
     let used = c .before .before .before in
     let a = used .before .before .before .before in
-    let i = a .pre .1 .are in
-    let z = stands-fit (i .range) (is-stands i) in
-    let p = a .pre .0 in
-    let u = used .used .ensures .most in
-    (omega arith, omega arith, omega arith))
+    entries-fit (a .pre .0) (a .pre .1) (used .used .ensures))
     -- returns
     (λ c.
     let found = c .before in

@@ -1,8 +1,7 @@
 -- The first of the entries in use that has the address.
 use native.Mathlib.Omega.{arith}
 use borrow.Author.Needs.{needs}
-use Rattle.layout.proofs.ByBlocks.{is-stands, stands-fit}
-use Rattle.reasons.proofs.Entries.{address-shown}
+use Rattle.reasons.proofs.Entries.{slices-fit, entries-fit, address-shown}
 use Rattle.reasons.proofs.readers_reason.Statement.{statement}
 use Rattle.reasons.proofs.readers_reason.Tie as tie
 
@@ -10,23 +9,10 @@ pub readers-reason-spec : {M : Type 1} → statement M
 readers-reason-spec =
     tie.close
     (tie.spec
-    (λ c κs. let a = c .before .before .before in let i = a .pre .1 .are in let z = stands-fit (i .range) (is-stands i) in let p = a .pre .0 in omega arith)  -- used-requires
+    (λ c κs. let a = c .before .before .before in omega (arith, slices-fit (a .pre .1), a .pre .0))  -- used-requires
     (λ c κs. search needs)  -- address-of-requires
-    -- find-entry-requires
-    (λ c κs.
-    let used = c .before in
-    let a = used .before .before .before .before in
-    let i = a .pre .1 .are in
-    omega (arith, stands-fit (i .range) (is-stands i), a .pre .0, used .used .ensures .most))
-    -- entry-reason-requires
-    (λ c κs.
-    let used = c .before .before in
-    let a = used .before .before .before .before in
-    let i = a .pre .1 .are in
-    let z = stands-fit (i .range) (is-stands i) in
-    let p = a .pre .0 in
-    let u = used .used .ensures .most in
-    (omega arith, omega arith, omega arith))
+    (λ c κs. let a = c .before .before .before .before .before in entries-fit (a .pre .0) (a .pre .1) (c .before .used .ensures) .0)  -- find-entry-requires
+    (λ c κs. let used = c .before .before in let a = used .before .before .before .before in entries-fit (a .pre .0) (a .pre .1) (used .used .ensures))  -- entry-reason-requires
     -- returns
     (λ c.
     let found = c .before in

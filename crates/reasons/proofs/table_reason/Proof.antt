@@ -1,7 +1,6 @@
 -- The first of the entries in use.
 use native.Mathlib.Omega.{arith}
-use Rattle.layout.proofs.ByBlocks.{is-stands, stands-fit}
-use Rattle.reasons.proofs.Entries.{oldest-shown}
+use Rattle.reasons.proofs.Entries.{slices-fit, entries-fit, oldest-shown}
 use Rattle.reasons.proofs.table_reason.Statement.{statement}
 use Rattle.reasons.proofs.table_reason.Tie as tie
 
@@ -9,15 +8,8 @@ pub table-reason-spec : {M : Type 1} → statement M
 table-reason-spec =
     tie.close
     (tie.spec
-    (λ c κs. let a = c .before .before .before in let i = a .pre .1 .are in let z = stands-fit (i .range) (is-stands i) in let p = a .pre .0 in omega arith)  -- used-requires
-    -- entry-reason-requires
-    (λ c κs.
-    let a = c .before .before .before .before in
-    let i = a .pre .1 .are in
-    let z = stands-fit (i .range) (is-stands i) in
-    let p = a .pre .0 in
-    let u = c .used .ensures .most in
-    (omega arith, omega arith, omega arith))
+    (λ c κs. let a = c .before .before .before in omega (arith, slices-fit (a .pre .1), a .pre .0))  -- used-requires
+    (λ c κs. let a = c .before .before .before .before in entries-fit (a .pre .0) (a .pre .1) (c .used .ensures))  -- entry-reason-requires
     -- returns
     (λ c.
     let used = c .before in

@@ -11,4 +11,4 @@ turned-away-spec =
     (λ c κs. search needs)  -- refused-requires
     (λ c κs. search needs)  -- write-reply-requires
     (λ c. search needs)  -- same-length
-    (λ c. let w = c .before .before in let t = w .before .before in let p = t .before .before in turns-away _ (p .args .events .now) (t .refused .ensures) (w .write-reply .ensures .0) (p .pre)))  -- returns
+    (λ c. search turns-away))  -- returns

@@ -24,12 +24,7 @@ wait-spec =
     (λ c. search needs)  -- same-length-2
     (λ c. search needs)  -- same-length-3
     (λ c. search needs)  -- same-length-4
-    -- returns-2
-    (λ c.
-    let t = c .before .before in
-    let n = t .before .before .before in
-    let k = n .before .before in
-    waits-refused _ _ _ _ (k .before .before .before .before .if1 .left) (k .checked-layout .ensures) (n .n .given .1) (t .turned-away .ensures))
+    (λ c. search waits-refused)  -- returns-2
     (λ c. search needs)  -- same-length-5
     (λ c. search needs)  -- same-length-6
     (λ c. search needs)  -- same-length-7

@@ -4,7 +4,8 @@ use Prim.Native.Nat.{_-_}
 use native.Mathlib.Omega.{arith}
 use borrow.Author.Needs.{needs}
 use Rattle.model.specs.Lent.{lent}
-use Rattle.words.proofs.Flags.{not-yes, no-not}
+use Rattle.words.proofs.Flags.{not-yes}
+use Rattle.turns.proofs.Noting.{refused-says}
 use Rattle.rounds.proofs.Settling.{RoundsStand, rounds-stand-first, rounds-stand-held, rounds-stand-again, goes-accepted, held-fits, goes-held-end}
 use Rattle.rounds.proofs.wait_rounds.Statement.{statement}
 use Rattle.rounds.proofs.wait_rounds.Tie as tie
@@ -37,22 +38,13 @@ wait-rounds-spec =
     (λ c. let r = c .before .before .before .before .before .before .before .before .before .before .before in let l = r .before .before .before .before .before .before in r .one-round .kept .1 .1 .1 .1 .1 .1 .0 ∙ l .loop .inv .size)  -- same-length-4
     -- returns
     (λ c.
-    let a = c .before in
-    let r = a .before .before .before .before .before .before .before .before .before .before in
+    let r = c .before .before .before .before .before .before .before .before .before .before .before in
     let i = r .before .before .before .before .before in
     let l = i .before in
     let p = l .before .before .before .before .before in
-    goes-accepted (l .loop .inv) (i .loop-test .taken) (r .one-round .ensures) (not-yes (sym (a .accepted .ensures) ∙ c .if1 .taken)) (p .pre .1 .1 .few) (p .pre .1 .0 .2))
+    goes-accepted (l .loop .inv) (i .loop-test .taken) (r .one-round .ensures) (not-yes (sym (c .before .accepted .ensures) ∙ c .if1 .taken)) (p .pre .1 .1 .few) (p .pre .1 .0 .2))
     (λ c. omega (arith, c .before .before .before .before .before .before .before .before .before .before .before .before .before .before .before .before .loop-test .taken))  -- loop-less
-    -- loop-again
-    (λ c.
-    let a = c .before in
-    let r = a .before .before .before .before .before .before .before .before .before .before in
-    let i = r .before .before .before .before .before in
-    let l = i .before in
-    let k = r .one-round .kept .1 .1 in
-    rounds-stand-again (l .loop .inv) (i .loop-test .taken) (r .one-round .ensures) (no-not (sym (a .accepted .ensures) ∙ c .if1 .left))
-    (k .1 .1 .1 .1 .0) (k .0) (k .1 .0) (k .1 .1 .0))
+    (λ c. search (rounds-stand-again, refused-says))  -- loop-again
     (λ c κs. search needs)  -- refused-requires
     (λ c κs. search needs)  -- write-reply-requires
     -- add-t31
@@ -67,11 +59,4 @@ wait-rounds-spec =
     (λ c. c .before .before .before .before .before .before .loop .inv .words)  -- same-length-6
     (λ c. c .before .before .before .before .before .before .loop .inv .marks)  -- same-length-7
     (λ c. c .before .before .write-reply .kept .1 .0 ∙ c .before .before .before .before .before .before .loop .inv .size)  -- same-length-8
-    -- returns-2
-    (λ c.
-    let w = c .before .before in
-    let t = w .before .before in
-    let e = t .before in
-    let l = e .before in
-    let p = l .before .before .before .before .before in
-    goes-held-end (l .loop .inv) (e .loop-test .left) (p .pre .1 .0 .0) (p .pre .1 .1) (p .pre .1 .0 .2) (t .refused .ensures) (w .write-reply .ensures .0)))
+    (λ c. search goes-held-end))  -- returns-2

@@ -1,9 +1,8 @@
 -- The verdict on fresh tables.
-use mathlib.Core.Path.{sym, _∙_}
 use borrow.Author.Needs.{needs}
-use borrow.Author.Tests.{not-true, not-false}
+use Rattle.words.proofs.Flags.{said-no, said-yes}
 use Rattle.model.specs.Lent.{lent}
-use Rattle.running.proofs.First.{accept-stops, accept-goes}
+use Rattle.running.proofs.First.{accept-by}
 use Rattle.running.proofs.accept.Statement.{statement}
 use Rattle.running.proofs.accept.Tie as tie
 
@@ -22,7 +21,7 @@ accept-spec =
     let f = c .before .before in
     let m = f .before .before .before .before .before .before .before in
     let a = m .before .before .before .before .before .before .before .args in
-    accept-stops (a .settings) (a .next) (lent (a .longs .now) (a .words .now) (a .marks .now)) (m .fresh .ensures) (f .fresh-stop .ensures) (sym (c .before .goes-on .ensures) ∙ not-true _ (c .if1 .taken)))
+    accept-by (a .settings) (a .next) (lent (a .longs .now) (a .words .now) (a .marks .now)) (m .fresh .ensures) (f .fresh-stop .ensures) (said-no (c .before .goes-on .ensures) (c .if1 .taken)))
     (λ c. search needs)  -- same-length-4
     (λ c. search needs)  -- same-length-5
     (λ c. search needs)  -- same-length-6
@@ -31,4 +30,4 @@ accept-spec =
     let f = c .before .before in
     let m = f .before .before .before .before .before .before .before in
     let a = m .before .before .before .before .before .before .before .args in
-    accept-goes (a .settings) (a .next) (lent (a .longs .now) (a .words .now) (a .marks .now)) (m .fresh .ensures) (f .fresh-stop .ensures) (sym (c .before .goes-on .ensures) ∙ not-false _ (c .if1 .left))))
+    accept-by (a .settings) (a .next) (lent (a .longs .now) (a .words .now) (a .marks .now)) (m .fresh .ensures) (f .fresh-stop .ensures) (said-yes (c .before .goes-on .ensures) (c .if1 .left))))

@@ -1,7 +1,7 @@
 -- No byte; a record that stops; one that holds settings.
-use mathlib.Core.Path.{sym, ap, _∙_}
+use mathlib.Core.Path.{ap, _∙_}
 use borrow.Author.Needs.{needs}
-use borrow.Author.Tests.{not-true, not-false}
+use Rattle.words.proofs.Flags.{said-no, said-yes}
 use Rattle.model.specs.Records.{settingsIn}
 use Rattle.running.proofs.First.{first-none, first-stopped, first-holds}
 use Rattle.running.proofs.first_record.Statement.{statement}
@@ -22,7 +22,7 @@ first-record-spec =
     let f = r .before in
     let e = f .before .before in
     first-stopped (e .before .before .args .stream .now) (e .if1 .left) (f .record-at .ensures) (r .record-stop .ensures)
-    (sym (c .before .goes-on .ensures) ∙ not-true _ (c .if2 .taken)))
+    (said-no (c .before .goes-on .ensures) (c .if2 .taken)))
     (λ c κs. search needs)  -- body-at-requires
     (λ c κs. search needs)  -- settings-in-requires
     (λ c κs. search needs)  -- place-after-requires
@@ -35,4 +35,4 @@ first-record-spec =
     let f = r .before in
     let e = f .before .before in
     first-holds (e .before .before .args .stream .now) (e .if1 .left) (f .record-at .ensures) (r .record-stop .ensures)
-    (sym (i .before .goes-on .ensures) ∙ not-false _ (i .if2 .left)) (s .settings-in .ensures ∙ ap settingsIn (b .body-at .ensures .bytes)) (c .place-after .ensures)))
+    (said-yes (i .before .goes-on .ensures) (i .if2 .left)) (s .settings-in .ensures ∙ ap settingsIn (b .body-at .ensures .bytes)) (c .place-after .ensures)))

@@ -9,16 +9,14 @@ head-stop-spec =
     tie.close
     (tie.spec
     (λ c κs. search needs)  -- is-command-requires
-    (λ c. let a = c .before .before .args in head-unknown (a .kind) (a .found) (c .before .is-command .ensures) (c .if1 .taken))  -- returns
+    (λ c. head-unknown _ _ (c .before .is-command .ensures) (c .if1 .taken))  -- returns
     (λ c. search needs)  -- enum-known-found
     (λ c. search needs)  -- enum-told
     -- returns-2
     (λ c.
     let i = c .before .before .before in
-    let a = i .before .before .args in
-    head-stopped (a .kind) (a .found) (i .before .is-command .ensures) (i .if1 .left) _ (c .before .found .given .1))
+    head-stopped _ _ (i .before .is-command .ensures) (i .if1 .left) _ (c .before .found .given .1))
     -- returns-3
     (λ c.
     let i = c .before .before in
-    let a = i .before .before .args in
-    head-whole (a .kind) (a .found) (i .before .is-command .ensures) (i .if1 .left) _ _ _ _ (c .enum-told .given .1)))
+    head-whole _ _ (i .before .is-command .ensures) (i .if1 .left) _ _ _ _ (c .enum-told .given .1)))

@@ -1,8 +1,7 @@
 -- The head, then what is asked behind it.
-use mathlib.Core.Path.{sym, _∙_}
 use borrow.Author.Needs.{needs}
-use borrow.Author.Tests.{not-true, not-false}
-use Rattle.running.proofs.Checks.{found-stopped, found-settings, found-other}
+use Rattle.words.proofs.Flags.{said-no, said-yes}
+use Rattle.running.proofs.Checks.{found-stopped, found-asked}
 use Rattle.running.proofs.record_stop.Statement.{statement}
 use Rattle.running.proofs.record_stop.Tie as tie
 
@@ -15,18 +14,15 @@ record-stop-spec =
     -- returns
     (λ c.
     let h = c .before .before in
-    let a = h .before .args in
-    found-stopped (a .kind) (a .found) (a .settings) (a .other) (h .head-stop .ensures) (sym (c .before .goes-on .ensures) ∙ not-true _ (c .if1 .taken)))
+    found-stopped _ _ _ _ (h .head-stop .ensures) (said-no (c .before .goes-on .ensures) (c .if1 .taken)))
     (λ c κs. search needs)  -- is-settings-requires
     -- returns-2
     (λ c.
     let i = c .before .before in
     let h = i .before .before in
-    let a = h .before .args in
-    found-settings (a .kind) (a .found) (a .settings) (a .other) (h .head-stop .ensures) (sym (i .before .goes-on .ensures) ∙ not-false _ (i .if1 .left)) (c .before .is-settings .ensures) (c .if2 .taken))
+    found-asked _ _ _ _ (h .head-stop .ensures) (said-yes (i .before .goes-on .ensures) (i .if1 .left)) (c .before .is-settings .ensures) (c .if2 .taken))
     -- returns-3
     (λ c.
     let i = c .before .before in
     let h = i .before .before in
-    let a = h .before .args in
-    found-other (a .kind) (a .found) (a .settings) (a .other) (h .head-stop .ensures) (sym (i .before .goes-on .ensures) ∙ not-false _ (i .if1 .left)) (c .before .is-settings .ensures) (c .if2 .left)))
+    found-asked _ _ _ _ (h .head-stop .ensures) (said-yes (i .before .goes-on .ensures) (i .if1 .left)) (c .before .is-settings .ensures) (c .if2 .left)))

@@ -1,17 +1,14 @@
 -- The loop: the usual records, then one that is judged in full. What is left, run from here, gives what the whole gives, what is in use is
 -- counted, and a turn that comes no further is followed by one that does.
 use Prim.Native.Nat.{_+_, _-_}
-use mathlib.Core.Path.{sym, _∙_}
+use mathlib.Core.Path.{_∙_}
 use native.Mathlib.Omega.{arith}
 use lib.ListN.{length}
 use borrow.Author.Needs.{needs}
-use borrow.Author.Tests.{not-true, not-false}
 use Rattle.model.specs.Lent.{lent}
 use Rattle.encoding.proofs.Bridge.{is-fit}
 use Rattle.running.specs.Resume.{WholeBelow, RunStands, UsedInMarks}
-use Rattle.running.proofs.Checks.{found-later}
-use Rattle.running.proofs.Singles.{single-halts}
-use Rattle.running.proofs.Turns.{run-stands-first, run-stands-held, run-stands-then, goes-ends, goes-stops, whole-first, whole-one, run-nearer}
+use Rattle.running.proofs.Turns.{run-stands-first, run-stands-held, run-stands-then, goes-ends, whole-first, judged-stops, whole-one, run-nearer}
 use Rattle.running.proofs.run_records.Statement.{statement}
 use Rattle.running.proofs.run_records.Tie as tie
 
@@ -67,41 +64,29 @@ run-records-spec =
     (λ c. let u = c .before .before .before .before .before .before .before .before .before .before .before .before .before .before .before .before in u .run-usual .ensures .0 .marks ∙ u .before .before .before .before .before .loop .inv .0 .marks)  -- same-length-8
     -- returns-2
     (λ c.
-    let j = c .before in
-    let o = j .before in
+    let o = c .before .before in
     let t = o .before in
     let i = t .before .before .before in
     let u = i .before .before .before .before .before .before .before .before .before .before in
-    let l = u .before .before .before .before .before in
-    let s = l .before .before .before .before .before .before .before .before .before .before .before .before in
-    let inside = i .if1 .left in
-    let d = found-later (s .args .stream .now) _ inside (t .before .before .record-at .ensures) _ (t .later-stop .ensures) in
-    let stops = sym (o .goes-on .ensures) ∙ not-true _ (j .if2 .taken) in
-    let g = run-stands-then (l .loop .inv .0) (u .run-usual .ensures .0) in
-    rw (c .ran-to2 .ensures) (goes-stops g inside (single-halts _ _ _ _ _ _ (g .here) d stops) stops))
+    let g = run-stands-then (u .before .before .before .before .before .loop .inv .0) (u .run-usual .ensures .0) in
+    rw (c .ran-to2 .ensures) (judged-stops g (i .if1 .left) (t .before .before .record-at .ensures) (t .later-stop .ensures) (o .goes-on .ensures) (c .before .if2 .taken)))
     (λ c. let i = c .before .before .before .before .before in let s = i .before .before .before .before .before .before .before .before .before .before .before .before .before .before .before .before .before .before .before .before .before .before .before .before .before .before .before in omega (arith, i .if1 .left))  -- add-limit
     -- loop-less
     (λ c.
-    let o = c .before in
-    let t = o .before in
+    let t = c .before .before in
     let i = t .before .before .before in
     let u = i .before .before .before .before .before .before .before .before .before .before in
     let l = u .before .before .before .before .before in
-    let s = l .before .before .before .before .before .before .before .before .before .before .before .before in
-    let inside = i .if1 .left in
-    let d = found-later (s .args .stream .now) _ inside (t .before .before .record-at .ensures) _ (t .later-stop .ensures) in
-    let goes = sym (o .goes-on .ensures) ∙ not-false _ (c .if2 .left) in
     let size = l .loop .inv .0 .size in
-    run-nearer (u .run-usual .ensures .0) inside d goes (omega (arith, l .before .starts2 .ensures)) (u .run-usual .ensures .1 .1))
+    run-nearer (u .run-usual .ensures .0) (i .if1 .left) (t .before .before .record-at .ensures) (t .later-stop .ensures) (c .before .goes-on .ensures) (c .if2 .left)
+    (omega (arith, l .before .starts2 .ensures)) (u .run-usual .ensures .1 .1))
     -- loop-again
     (λ c.
-    let o = c .before in
-    let t = o .before in
+    let t = c .before .before in
     let i = t .before .before .before in
     let u = i .before .before .before .before .before .before .before .before .before .before in
-    let l = u .before .before .before .before .before in
-    let s = l .before .before .before .before .before .before .before .before .before .before .before .before in
-    let inside = i .if1 .left in
-    let d = found-later (s .args .stream .now) _ inside (t .before .before .record-at .ensures) _ (t .later-stop .ensures) in
-    let goes = sym (o .goes-on .ensures) ∙ not-false _ (c .if2 .left) in
-    (run-stands-then (l .loop .inv .0) (u .run-usual .ensures .0), u .run-usual .ensures .1 .0, whole-one (u .run-usual .ensures .0) inside d goes)))
+    let g = u .run-usual .ensures .0 in (
+      run-stands-then (u .before .before .before .before .before .loop .inv .0) g,
+      u .run-usual .ensures .1 .0,
+      whole-one g (i .if1 .left) (t .before .before .record-at .ensures) (t .later-stop .ensures) (c .before .goes-on .ensures) (c .if2 .left),
+    )))

@@ -1,7 +1,4 @@
-use Prim.Native.Nat.{ℕ}
-use mathlib.Core.Path.{ap, _∙_}
 use borrow.Author.Needs.{needs}
-use lib.Dec.{eqb}
 use Rattle.tables.proofs.Bytes.{unused-statuses}
 use Rattle.tables.proofs.is_unused.Statement.{statement}
 use Rattle.tables.proofs.is_unused.Tie as tie
@@ -11,6 +8,4 @@ is-unused-spec =
     tie.close
     (tie.spec
     (λ c κs. search needs)  -- statuses-at-requires
-    -- returns
-    (λ c. let a = c .before .before .args in
-    ap (λ (x : ℕ). eqb x 0) (c .statuses-at .ensures) ∙ unused-statuses (a .marks .now) (a .l)))
+    (λ c. let a = c .before .before .args in rw (c .statuses-at .ensures) (unused-statuses (a .marks .now) (a .l))))  -- returns

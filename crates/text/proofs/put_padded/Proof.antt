@@ -12,15 +12,9 @@ put-padded-spec =
     (λ c κs. search needs)  -- count-digits-requires
     (λ c κs. search needs)  -- lacking-requires
     (λ c. search needs)  -- add-size
-    -- returns
-    (λ c.
-    let p = c .before in
-    padded-none _ _ _ _ _ _ (p .before .count-digits .ensures) (p .lacking .ensures) (omega arith))
+    (λ c. padded-none _ _ _ _ _ _ (c .before .before .count-digits .ensures) (c .before .lacking .ensures) (omega arith))  -- returns
     (λ c. search needs)  -- sub-if2
-    -- returns-2
-    (λ c.
-    let p = c .before .before in
-    padded-none _ _ _ _ _ _ (p .before .count-digits .ensures) (p .lacking .ensures) (omega arith))
+    (λ c. padded-none _ _ _ _ _ _ (c .before .before .before .count-digits .ensures) (c .before .before .lacking .ensures) (omega arith))  -- returns-2
     (λ c κs. search needs)  -- fill-requires
     (λ c. search needs)  -- add-spell
     (λ c κs. search needs)  -- spell-requires

@@ -24,15 +24,8 @@ fill-turn-spec =
     (λ c. search needs)  -- same-length-2
     (λ c. search needs)  -- same-length-3
     (λ c. search needs)  -- same-length-4
-    -- returns
-    (λ c.
-    let n = c .before .before in
-    let f = n .before .before .before .before .before .before .before .before in
-    let m = f .before .before .before .before .before in
-    let s = m .before .before in
-    let p = s .before .before .before .before .before .before .before .before in
-    fills-sent _ (s .first-sent .ensures) (m .address .given .1) (f .fill-step .ensures) (p .pre .0 .1) (n .note .ensures))
+    (λ c. let m = c .before .before .before .before .before .before .before .before .before .before .before .before .before .before .before in search fills-sent)  -- returns
     (λ c. search needs)  -- same-length-5
     (λ c. search needs)  -- same-length-6
     (λ c. search needs)  -- same-length-7
-    (λ c. fills-none _ (c .before .before .first-sent .ensures) (c .enum-told .given .1) _ _))  -- returns-2
+    (λ c. search fills-none))  -- returns-2

@@ -15,4 +15,4 @@ send-turn-spec =
     (λ c. search needs)  -- same-length-2
     (λ c. search needs)  -- same-length-3
     (λ c. search needs)  -- same-length-4
-    (λ c. let n = c .before .before in let s = n .before .before .before .before .before .before .before .before in let p = s .before .before .before .before .before .before .before .before in sends _ (s .send-step .ensures) (p .pre .0 .1) (n .note .ensures)))  -- returns
+    (λ c. search sends))  -- returns

@@ -1,11 +1,8 @@
 use mathlib.Core.Path.{_∙_}
 use native.Mathlib.Omega.{arith}
 use borrow.Author.Needs.{needs}
-use Rattle.model.specs.Address.{addressOf, setIndex}
 use Rattle.encoding.proofs.Bridge.{is-fit}
-use Rattle.model.proofs.Turning.{set-below}
-use Rattle.layout.proofs.Room.{tree-room}
-use Rattle.access.proofs.Changes.{touch-room, change-room, met-left}
+use Rattle.access.proofs.Changes.{touch-room, change-room, set-room, met-left}
 use Rattle.access.proofs.Hits.{change-offered}
 use Rattle.access.proofs.writes.act_change.Statement.{statement}
 use Rattle.access.proofs.writes.act_change.Tie as tie
@@ -25,12 +22,8 @@ act-change-spec =
     let touched = c .before .before .before in
     let written = touched .before .before .before .before .before .before in
     let start = written .before .before .before .before .before .before in
-    let a = start .args in
-    let m = start .pre .1 .met in
-    let fit = is-fit _ _ _ (m .is) in
-    let room = tree-room (start .pre .0) fit (setIndex (a .s) (addressOf (a .x))) (set-below (a .s) (m .is .range) (addressOf (a .x))) in
-    let same = touched .touch .kept .0 ∙ written .write-sector .kept .1 .1 .0 in
-    (rw same (room .inside), rw same (room .small), fit .sets, fit .power, fit .tree))
+    let room = set-room _ _ _ _ _ (start .pre .1 .met) (start .pre .0) (touched .touch .kept .0 ∙ written .write-sector .kept .1 .1 .0) in
+    (room .1, room .2, room .3, room .4, room .5))
     (λ c. let m = c .before .before .before .before .before .before .before .before .before .before .before .before .before .before .before .before .before .before .before .pre .1 .met in let f = is-fit _ _ _ (m .is) in omega (arith, m .below))  -- cast-t18
     (λ c κs. search needs)  -- blank-requires
     (λ c. search needs)  -- same-length

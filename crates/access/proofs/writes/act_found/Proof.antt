@@ -1,22 +1,13 @@
 -- The line, its set, the miss table, the queue, one after the other; each call keeps the slices' lengths.
-use mathlib.Core.Path.{refl, ap, _∙_}
-use mathlib.Core.List.{List}
-use Prim.Native.Nat.{ℕ}
+use mathlib.Core.Path.{refl, _∙_}
 use native.Mathlib.Omega.{arith}
 use borrow.Author.Needs.{needs}
-use Rattle.model.specs.Address.{addressOf, setIndex}
-use Rattle.model.specs.Lent.{Lent, lent}
-use Rattle.model.proofs.Turning.{set-below}
-use Rattle.layout.proofs.Room.{taken-room, tree-room}
-use Rattle.access.specs.Written.{Alone, lineTaken, setTurned}
+use Rattle.model.specs.Lent.{lent}
 use Rattle.access.proofs.PlanTests.{read-needs}
-use Rattle.access.proofs.Lines.{kept-stays, no-back}
-use Rattle.access.proofs.Telling.{acts-fit, miss-room, queue-room, acted}
+use Rattle.access.proofs.Changes.{set-room}
+use Rattle.access.proofs.Telling.{acts-fit, miss-room, queue-room, alone-read, acted}
 use Rattle.access.proofs.writes.act_found.Statement.{statement}
 use Rattle.access.proofs.writes.act_found.Tie as tie
-
-alone-read : (c : tie.Start) → Alone (c .args .x) (c .args .d)
-alone-read c = record { reads = c .pre .2; alone = λ e. no-back _ _ _ _ _ (c .pre .1 .acts .met) (kept-stays (c .args .d .answer) e) }
 
 pub act-found-spec : {M : Type 1} → statement M
 act-found-spec =
@@ -26,13 +17,7 @@ act-found-spec =
     -- mark-set-requires
     (λ c κs.
     let start = c .before .before .before .before .before .before .before .before .before .before .before .before in
-    let a = start .args in
-    let m = start .pre .1 .acts .met in
-    let fit = acts-fit _ _ _ _ _ _ _ (start .pre .1 .acts) (start .pre .0) in
-    let same = c .before .before .before .before .before .found-line .kept .1 .1 .1 .0 in
-    let taken = taken-room (start .pre .0) fit (a .d .line) (m .below) in
-    let tree = tree-room (start .pre .0) fit (setIndex (a .s) (addressOf (a .x))) (set-below (a .s) (m .is .range) (addressOf (a .x))) in
-    (rw same (taken .inside), rw same (tree .inside), rw same (tree .small), fit .sets, fit .power, fit .tree))
+    set-room _ _ _ _ _ (start .pre .1 .acts .met) (start .pre .0) (c .before .before .before .before .before .found-line .kept .1 .1 .1 .0))
     (λ c κs. search needs)  -- address-of-requires
     (λ c κs. search needs)  -- ticket-of-requires
     -- write-misses-requires
@@ -47,14 +32,14 @@ act-found-spec =
     let k = missed .write-misses .kept in
     let l = c .before .before .before .before .before .before .before .before .before .before .before .before .before .before .before .before .before .before .before .before .before .before .before .found-line .kept in
     let n = missed .write-misses .last in (
-      alone-read start,
+      alone-read _ _ _ _ _ _ _ (start .pre .1 .acts) (start .pre .0) (start .pre .2),
       queue-room _ _ _ _ _ _ _ (start .pre .1 .acts) (start .pre .0) (n .1 .0) (n .1 .1 .0) (n .1 .1 .1 .0) (k .1 .0) (k .1 .1 .0 ∙ c .before .before .before .before .before .before .before .before .before .before .before .before .before .before .before .before .before .mark-set .kept .1 .1 .0 ∙ l .1 .1 .1 .0) (k .1 .1 .1 .0 ∙ l .1 .1 .1 .1 .0) (read-needs (start .args .x) (start .args .d) (start .pre .2) refl),
     ))
     -- tell-read-requires
     (λ c κs.
     let start = c .before .before .before .before .before .before .before .before .before .before .before .before .before .before .before .before .before .before .before .before .before .before .before .before .before .before .before .before .before .before .before .before .before .before .before .before .before in
     let f = acts-fit _ _ _ _ _ _ _ (start .pre .1 .acts) (start .pre .0) in
-    (alone-read start, omega (arith, start .pre .1 .acts .met .below)))
+    (alone-read _ _ _ _ _ _ _ (start .pre .1 .acts) (start .pre .0) (start .pre .2), omega (arith, start .pre .1 .acts .met .below)))
     (λ c. c .before .before .before .before .before .before .before .queue-read .kept .1 .0 ∙ c .before .before .before .before .before .before .before .before .before .before .before .before .before .before .before .before .before .write-misses .kept .1 .0)  -- same-length
     (λ c. c .before .before .before .before .before .before .before .queue-read .kept .1 .1 .0 ∙ c .before .before .before .before .before .before .before .before .before .before .before .before .before .before .before .before .before .write-misses .kept .1 .1 .0 ∙ c .before .before .before .before .before .before .before .before .before .before .before .before .before .before .before .before .before .before .before .before .before .before .before .before .before .mark-set .kept .1 .1 .0 ∙ c .before .before .before .before .before .before .before .before .before .before .before .before .before .before .before .before .before .before .before .before .before .before .before .before .before .before .before .before .before .before .before .found-line .kept .1 .1 .1 .0)  -- same-length-2
     (λ c. c .before .before .before .before .before .before .before .queue-read .kept .1 .1 .1 .0 ∙ c .before .before .before .before .before .before .before .before .before .before .before .before .before .before .before .before .before .write-misses .kept .1 .1 .1 .0 ∙ c .before .before .before .before .before .before .before .before .before .before .before .before .before .before .before .before .before .before .before .before .before .before .before .before .before .before .before .before .before .before .before .found-line .kept .1 .1 .1 .1 .0)  -- same-length-3
@@ -68,9 +53,7 @@ act-found-spec =
           let l = lined .found-line .last in
           let k = missed .write-misses .last in
           acted (a .s) (a .x) (a .d) (a .queued) (a .plan) t p acts (c .before .before .before .before .before .before .before .before .before .before .before .before .before .before .before .before .before .before .before .before .before .before .before .before .before .before .before .before .before .before .before .before .before .before .before .before .before .before .pre .0)
-          (lent (a .longs .now) (marked .mark-set .last .1 .1 .0) (l .1 .1 .1 .1 .0)) (lent (k .1 .0) (k .1 .1 .0) (k .1 .1 .1 .0)) _
-          (ap (λ (words : List ℕ). lent (a .longs .now) words (l .1 .1 .1 .1 .0)) (marked .mark-set .ensures)
-          ∙ ap (λ (L : Lent). setTurned (a .s) (a .at) (setIndex (a .s) (addressOf (a .x))) (a .d .way) (lineTaken (a .at) (a .d .answer) (a .d .line) L)) (lined .found-line .ensures))
+          (lent (a .longs .now) (l .1 .1 .1 .0) (l .1 .1 .1 .1 .0)) (lent (k .1 .0) (k .1 .1 .0) (k .1 .1 .1 .0)) _ (lined .found-line .ensures) (marked .mark-set .ensures)
           (rw (c .before .before .before .before .before .before .before .before .before .before .before .before .before .before .before .before .before .before .before .before .before .before .address-of .ensures, c .before .before .before .before .before .before .before .before .before .before .before .before .before .before .before .before .before .before .before .before .before .ticket-of .ensures) at (missed .write-misses .ensures))
           (c .tell-read .ensures)
           (c .before .before .before .before .before .before .before .queue-read .ensures);

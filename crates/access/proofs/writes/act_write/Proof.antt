@@ -1,17 +1,12 @@
 -- The line, its set, the queue, one after the other; the miss table stays.
 use mathlib.Core.Path.{refl, ap, _∙_}
-use mathlib.Core.List.{List}
-use Prim.Native.Nat.{ℕ}
 use native.Mathlib.Omega.{arith}
 use borrow.Author.Needs.{needs}
-use Rattle.model.specs.Address.{addressOf, setIndex}
-use Rattle.model.specs.Lent.{Lent, lent}
+use Rattle.model.specs.Lent.{lent}
 use Rattle.model.specs.Steps.{onSector}
-use Rattle.model.proofs.Turning.{set-below}
-use Rattle.layout.proofs.Room.{taken-room, tree-room}
-use Rattle.access.specs.Written.{lineTaken, setTurned}
 use Rattle.access.specs.declared.plan.MissPlan.the-variants.{Stays}
 use Rattle.access.proofs.PlanTests.{write-needs}
+use Rattle.access.proofs.Changes.{set-room}
 use Rattle.access.proofs.Telling.{acts-fit, queue-room, acted}
 use Rattle.access.proofs.writes.act_write.Statement.{statement}
 use Rattle.access.proofs.writes.act_write.Tie as tie
@@ -32,13 +27,7 @@ act-write-spec =
     (λ c κs.
     let lined = c .before .before .before .before .before .before .before in
     let start = lined .before .before .before .before .before .before .before .before .before in
-    let a = start .args in
-    let m = start .pre .1 .acts .met in
-    let fit = acts-fit _ _ _ _ _ _ _ (start .pre .1 .acts) (start .pre .0) in
-    let same = lined .take-line .kept .1 .1 .1 .0 in
-    let taken = taken-room (start .pre .0) fit (a .d .line) (m .below) in
-    let tree = tree-room (start .pre .0) fit (setIndex (a .s) (addressOf (a .x))) (set-below (a .s) (m .is .range) (addressOf (a .x))) in
-    (rw same (taken .inside), rw same (tree .inside), rw same (tree .small), fit .sets, fit .power, fit .tree))
+    set-room _ _ _ _ _ (start .pre .1 .acts .met) (start .pre .0) (lined .take-line .kept .1 .1 .1 .0))
     -- queue-back-requires
     (λ c κs.
     let marked = c .before .before .before .before .before in
@@ -63,10 +52,7 @@ act-write-spec =
           let start = lined .before .before .before .before .before .before .before .before .before in
           let a = start .args in
           let l = lined .take-line .last in
-          let L : Lent = lent (l .1 .1 .0) (marked .mark-set .last .1 .1 .0) (l .1 .1 .1 .1 .0) in
-          acted (a .s) (a .x) (a .d) (a .queued) Stays t p acts (start .pre .0) L L _
-          (ap (λ (words : List ℕ). lent (l .1 .1 .0) words (l .1 .1 .1 .1 .0)) (marked .mark-set .ensures)
-          ∙ ap (λ (L : Lent). setTurned (a .s) (a .at) (setIndex (a .s) (addressOf (a .x))) (a .d .way) (lineTaken (a .at) (a .d .answer) (a .d .line) L)) (lined .take-line .ensures))
+          acted (a .s) (a .x) (a .d) (a .queued) Stays t p acts (start .pre .0) (lent (l .1 .1 .0) (l .1 .1 .1 .0) (l .1 .1 .1 .1 .0)) _ _ (lined .take-line .ensures) (marked .mark-set .ensures)
           refl
           (c .tell-write .ensures)
           (queued .queue-back .ensures ∙ rw (start .pre .2));

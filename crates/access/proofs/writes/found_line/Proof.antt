@@ -4,8 +4,7 @@ use mathlib.Core.List.{List}
 use Prim.Native.Nat.{ℕ}
 use borrow.Author.Needs.{needs}
 use Rattle.model.specs.Lent.{lent}
-use Rattle.access.proofs.Changes.{touch-room, change-room, met-left}
-use Rattle.access.proofs.Kept.{touched}
+use Rattle.access.proofs.Changes.{touch-room, change-room, met-left, touched}
 use Rattle.access.proofs.writes.found_line.Statement.{statement}
 use Rattle.access.proofs.writes.found_line.Tie as tie
 

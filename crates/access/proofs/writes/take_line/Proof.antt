@@ -5,8 +5,7 @@ use Rattle.encoding.proofs.Bridge.{is-fit}
 use Rattle.layout.proofs.DirtyCount.{dirty-few}
 use Rattle.access.specs.Written.{sectorsAfter}
 use Rattle.access.proofs.Sectors.{taken-left}
-use Rattle.access.proofs.Lines.{sectors-taken, back-dirty}
-use Rattle.access.proofs.Recounts.{was-dirty, was-counted}
+use Rattle.access.proofs.Lines.{sectors-taken, back-dirty, was-dirty, was-counted}
 use Rattle.access.proofs.writes.take_line.Statement.{statement}
 use Rattle.access.proofs.writes.take_line.Tie as tie
 
@@ -22,8 +21,8 @@ take-line-spec =
     let m = start .pre .1 .met in
     let f = is-fit _ _ _ (m .is) in
     let p = start .pre .0 in
-    let was = back-dirty _ _ _ _ _ m (start .pre .2) ∙ sym (was-dirty _ _ (m .is) p _ (m .below)) in
-    (omega arith, dirty-few _ _ (m .is) p, rw was (was-counted _ _ (m .is) p _ (m .below))))
+    let was = back-dirty _ _ _ _ _ m (start .pre .2) ∙ sym (was-dirty _ _ (m .is) _ (m .below)) in
+    (omega arith, dirty-few _ _ (m .is) p, rw was (was-counted _ _ (m .is) _ (m .below) p)))
     (λ c κs. search needs)  -- address-of-requires
     (λ c κs. search needs)  -- block-of-requires
     -- write-line-requires
@@ -45,7 +44,7 @@ take-line-spec =
     let start = taken .before .before .before .before in
     let a = start .args in
     let m = start .pre .1 .met in
-    let was = back-dirty _ _ _ _ _ m (start .pre .2) ∙ sym (was-dirty _ _ (m .is) (start .pre .0) _ (m .below)) in
+    let was = back-dirty _ _ _ _ _ m (start .pre .2) ∙ sym (was-dirty _ _ (m .is) _ (m .below)) in
     let four = taken-left (a .x) (a .d) (start .pre .3) (taken .taken-sectors .ensures) ∙ ap (sectorsAfter (a .x) (a .d)) (sym (sectors-taken _ _ _ _ _ m (start .pre .2))) in
     c .before .before .before .before .before .before .write-line .ensures
     ∙ rw (blocked .block-of .ensures, blocked .before .address-of .ensures, counted .recount .ensures, counted .before .some-modified .ensures, was, four)))

@@ -1,7 +1,8 @@
 -- `compare::listing::list_turn` meets its contract.
-use mathlib.Core.Path.{refl}
+use mathlib.Core.Path.{refl, ap, _∙_}
 use borrow.Author.Needs.{needs}
-use Rattle.compare.proofs.Turning.{pass-on, pass-halt, same-ready, lists-met, lists-pair, lists-same}
+use Rattle.compare.specs.declared.reading.Met.the-variants as met
+use Rattle.compare.proofs.Turning.{pass-on, pass-halt, same-ready, lists-met}
 use Rattle.compare.proofs.listing.list_turn.Statement.{statement}
 use Rattle.compare.proofs.listing.list_turn.Tie as tie
 
@@ -24,7 +25,7 @@ list-turn-spec =
     let r = c .before .before .before .before .before .before in
     let m = r .before .before .before .before .before .before in
     let t = m .before .before .before .before .before .before in
-    (pass-on (t .turn .ensures .1) (m .m .given .1) refl (r .pair-met .ensures .0 .0) _, (r .pair-met .ensures .0 .1, lists-pair _ _ _ _ _ _ _ _ (t .turn .ensures .0) (m .m .given .1) (r .before .before .before .before .if1 .taken) (r .pair-met .ensures .1))))
+    (pass-on (t .turn .ensures .1) (m .m .given .1) refl (r .pair-met .ensures .0 .0) _, (r .pair-met .ensures .0 .1, lists-met _ _ _ _ _ _ _ _ (t .turn .ensures .0) (m .m .given .1 ∙ ap met.Pair (r .before .before .before .before .if1 .taken)) (r .pair-met .ensures .1))))
     (λ c κs. search needs)  -- on-requires-2
     (λ c. search needs)  -- enum-told-2
     (λ c κs. search needs)  -- on-requires-3
@@ -45,7 +46,7 @@ list-turn-spec =
     (λ c.
     let m = c .before .before .before in
     let t = m .before .before .before .before .before .before in
-    (pass-on (t .turn .ensures .1) (m .m .given .1) refl (c .on2 .ensures .0) _, (same-ready (c .on2 .ensures .1) (t .before .before .before .before .before .before .before .before .before .before .before .pre .1), lists-same _ _ _ _ _ _ _ _ (t .turn .ensures .0) (m .m .given .1) (c .before .if1 .left) (c .on2 .ensures .1) (c .on2 .ensures .2))))
+    (pass-on (t .turn .ensures .1) (m .m .given .1) refl (c .on2 .ensures .0) _, (same-ready (c .on2 .ensures .1) (t .before .before .before .before .before .before .before .before .before .before .before .pre .1), lists-met _ _ _ _ _ _ _ _ (t .turn .ensures .0) (m .m .given .1 ∙ ap met.Pair (c .before .if1 .left)) (c .on2 .ensures .1, c .on2 .ensures .2))))
     (λ c. search needs)  -- same-length-10
     (λ c. search needs)  -- same-length-11
     -- returns-4

@@ -1,11 +1,13 @@
 -- `compare::turns::turn` meets its contract.
-use mathlib.Core.Path.{refl}
+use mathlib.Core.Path.{refl, _∙_}
 use borrow.Author.Needs.{needs}
-use Rattle.compare.proofs.Turning.{turn-first, turn-second, turn-row, turn-pair, turn-over}
+use Rattle.compare.specs.Turns.{Comes}
+use Rattle.compare.proofs.Turning.{turn-taken}
 use Rattle.compare.proofs.turns.turn.Statement.{statement}
 use Rattle.compare.proofs.turns.turn.Tie as tie
 
 pub turn-spec : {M : Type 1} → statement M
+unfolding Comes
 turn-spec =
     tie.close
     (tie.spec
@@ -33,7 +35,7 @@ turn-spec =
     let k = c .before .before .before .before in
     let s = k .before .before .before .before in
     let x = s .before .before .before in
-    turn-first _ _ (x .before .before .before .before .before .before .before .pre) _ _ _ (x .waiting .ensures) (s .before .waiting2 .ensures) (s .step .ensures) (k .before .before .enum-told .given .1) (k .top-up .ensures) (c .came-to .ensures) refl)
+    turn-taken _ _ (x .before .before .before .before .before .before .before .pre) _ _ _ (x .waiting .ensures) (s .before .waiting2 .ensures) (s .step .ensures) (k .before .before .enum-told .given .1) (rw (c .came-to .ensures) (k .top-up .ensures, refl, refl, refl)))
     (λ c. search needs)  -- same-length-3
     (λ c. search needs)  -- same-length-4
     -- returns-2
@@ -41,7 +43,7 @@ turn-spec =
     let k = c .before .before .before .before in
     let s = k .before .before .before .before in
     let x = s .before .before .before in
-    turn-second _ _ (x .before .before .before .before .before .before .before .pre) _ _ _ (x .waiting .ensures) (s .before .waiting2 .ensures) (s .step .ensures) (k .before .before .enum-told2 .given .1) (k .top-up2 .ensures) (c .came-to2 .ensures) refl)
+    turn-taken _ _ (x .before .before .before .before .before .before .before .pre) _ _ _ (x .waiting .ensures) (s .before .waiting2 .ensures) (s .step .ensures) (k .before .before .enum-told2 .given .1) (rw (c .came-to2 .ensures) (k .top-up2 .ensures, refl, refl, refl)))
     (λ c. search needs)  -- same-length-5
     (λ c. search needs)  -- same-length-6
     -- returns-3
@@ -49,18 +51,18 @@ turn-spec =
     let m = c .before .before .before .before in
     let s = m .before .before in
     let x = s .before .before .before in
-    turn-row _ _ (x .before .before .before .before .before .before .before .pre) _ _ _ (x .waiting .ensures) (s .before .waiting2 .ensures) (s .step .ensures) (m .m .given .1) (c .before .before .moved .ensures) (c .before .moved2 .ensures) (c .came-to3 .ensures) refl refl)
+    turn-taken _ _ (x .before .before .before .before .before .before .before .pre) _ _ _ (x .waiting .ensures) (s .before .waiting2 .ensures) (s .step .ensures) (m .m .given .1) (c .came-to3 .ensures ∙ rw (c .before .before .moved .ensures, c .before .moved2 .ensures), refl, refl))
     (λ c. search needs)  -- same-length-7
     (λ c. search needs)  -- same-length-8
     -- returns-4
     (λ c.
     let s = c .before .before .before .before in
     let x = s .before .before .before in
-    turn-pair _ _ (x .before .before .before .before .before .before .before .pre) _ _ _ (x .waiting .ensures) (s .before .waiting2 .ensures) (s .step .ensures) (c .before .before .differs .given .1) (c .came-to4 .ensures) refl refl)
+    turn-taken _ _ (x .before .before .before .before .before .before .before .pre) _ _ _ (x .waiting .ensures) (s .before .waiting2 .ensures) (s .step .ensures) (c .before .before .differs .given .1) (c .came-to4 .ensures, refl, refl))
     (λ c. search needs)  -- same-length-9
     (λ c. search needs)  -- same-length-10
     -- returns-5
     (λ c.
     let s = c .before .before .before in
     let x = s .before .before .before in
-    turn-over _ _ (x .before .before .before .before .before .before .before .pre) _ _ _ (x .waiting .ensures) (s .before .waiting2 .ensures) (s .step .ensures) (c .before .enum-told3 .given .1) (c .came-to5 .ensures) refl refl))
+    turn-taken _ _ (x .before .before .before .before .before .before .before .pre) _ _ _ (x .waiting .ensures) (s .before .waiting2 .ensures) (s .step .ensures) (c .before .enum-told3 .given .1) (c .came-to5 .ensures, refl, refl)))

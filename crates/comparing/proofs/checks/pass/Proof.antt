@@ -2,7 +2,7 @@
 use Prim.Native.Nat.{_-_}
 use borrow.Author.Needs.{needs}
 use lib.ListN.{length}
-use Rattle.comparing.proofs.Coming.{PassedTo, check-passed-more, passed-all}
+use Rattle.comparing.proofs.InParts.{PassedTo, check-passed-more, passed-all}
 use Rattle.comparing.proofs.checks.pass.Statement.{statement}
 use Rattle.comparing.proofs.checks.pass.Tie as tie
 

@@ -2,7 +2,7 @@
 use borrow.Author.Needs.{needs}
 use borrow.Author.Tests.{eq-eqb, ne-eqb}
 use Rattle.comparing.specs.Steps.{ahead}
-use Rattle.comparing.proofs.Stepping.{whole-test}
+use Rattle.comparing.proofs.Parts.{whole-test}
 use Rattle.comparing.proofs.walking.next_record.Statement.{statement}
 use Rattle.comparing.proofs.walking.next_record.Tie as tie
 

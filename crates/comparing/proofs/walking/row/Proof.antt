@@ -1,7 +1,7 @@
 -- `comparing::walking::row` meets its contract.
 use borrow.Author.Needs.{needs}
 use Rattle.comparing.specs.Steps.{recordRow}
-use Rattle.comparing.proofs.Stepping.{row-next}
+use Rattle.comparing.proofs.Parts.{row-next}
 use Rattle.comparing.proofs.walking.row.Statement.{statement}
 use Rattle.comparing.proofs.walking.row.Tie as tie
 

@@ -1,5 +1,4 @@
 -- What is lifted stands there; the others are stored back, then the one.
-use Prim.Native.Nat.{_+_, _*_}
 use native.Mathlib.Omega.{arith}
 use borrow.Author.Needs.{needs}
 use Rattle.layout.proofs.Replaced.{lifted-stand, replaced}

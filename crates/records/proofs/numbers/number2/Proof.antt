@@ -1,6 +1,6 @@
 -- A number by its two bytes.
 use borrow.Author.Needs.{needs}
-use Rattle.records.proofs.Digits.{number-past, number-two}
+use Rattle.records.proofs.Digits.{number-past, number-halves}
 use Rattle.records.proofs.numbers.number2.Statement.{statement}
 use Rattle.records.proofs.numbers.number2.Tie as tie
 
@@ -16,4 +16,4 @@ number2-spec =
     (λ c. search needs)  -- cast-high
     (λ c. search needs)  -- mul-result
     (λ c. search needs)  -- add-result
-    (λ c. number-two _ _ (c .before .number1 .ensures) (c .number12 .ensures)))  -- returns-2
+    (λ c. number-halves _ 1 1 _ (c .before .number1 .ensures) (c .number12 .ensures)))  -- returns-2

@@ -1,6 +1,6 @@
 -- A number at once, or by its halves.
 use borrow.Author.Needs.{needs}
-use Rattle.records.proofs.Digits.{number-past, number-twice-two}
+use Rattle.records.proofs.Digits.{number-past, number-halves}
 use Rattle.records.proofs.numbers.number4.Statement.{statement}
 use Rattle.records.proofs.numbers.number4.Tie as tie
 
@@ -19,4 +19,4 @@ number4-spec =
     (λ c. search needs)  -- cast-high
     (λ c. search needs)  -- mul-result
     (λ c. search needs)  -- add-result
-    (λ c. number-twice-two _ _ (c .before .number2 .ensures) (c .number22 .ensures)))  -- returns-3
+    (λ c. number-halves _ 2 2 _ (c .before .number2 .ensures) (c .number22 .ensures)))  -- returns-3

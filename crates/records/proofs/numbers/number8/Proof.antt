@@ -1,6 +1,6 @@
 -- A number by its halves.
 use borrow.Author.Needs.{needs}
-use Rattle.records.proofs.Digits.{number-past, number-eight}
+use Rattle.records.proofs.Digits.{number-past, number-halves}
 use Rattle.records.proofs.numbers.number8.Statement.{statement}
 use Rattle.records.proofs.numbers.number8.Tie as tie
 
@@ -16,4 +16,4 @@ number8-spec =
     (λ c. search needs)  -- cast-high
     (λ c. search needs)  -- mul-result
     (λ c. search needs)  -- add-result
-    (λ c. number-eight _ _ (c .before .number4 .ensures) (c .number42 .ensures)))  -- returns-2
+    (λ c. number-halves _ 4 4 _ (c .before .number4 .ensures) (c .number42 .ensures)))  -- returns-2

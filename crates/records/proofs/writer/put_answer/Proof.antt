@@ -20,4 +20,4 @@ put-answer-spec =
     let r = c .before .before in
     let q = r .before .before .before .before in
     let p = q .before .before .before .before .before in
-    laid-as (laid-then (p .put1 .ensures) refl (laid-then (q .put12 .ensures) refl (r .put2 .ensures))) (answer-bytes _ _ (q .before .answer-number .ensures))))
+    laid-as (laid-then (p .put1 .ensures) refl (laid-then (q .put12 .ensures) refl (r .put2 .ensures))) (answer-bytes _ _ (q .before .answer-number .ensures) (search needs))))

@@ -1,27 +1,11 @@
 -- The first event, then the tickets; there is room for nine bytes and eight tickets.
-use mathlib.Core.Path.{_≡_, sym, _∙_}
 use native.Mathlib.Omega.{arith}
-use lib.ListN.{length, length-map}
-use Rattle.words.proofs.Arrays.{words-length}
 use Rattle.records.proofs.Log.{queued-start}
-use Rattle.records.proofs.Begun.{fill-begun}
+use Rattle.records.proofs.Begun.{begun-as}
 use Rattle.records.proofs.Reply.{reply-laid}
 use borrow.Author.Needs.{needs}
 use Rattle.records.proofs.writer.put_filled.Statement.{statement}
 use Rattle.records.proofs.writer.put_filled.Tie as tie
-
-put-fill-first-requires : tie.Need-put-fill-first-requires
-put-fill-first-requires c κs =
-    let s = c .before .before .before in
-    let n = fill-begun (s .args .reply .first) (s .pre .0 .first) in
-    (s .pre .0 .first, omega arith)
-
-put-tickets-requires : tie.Need-put-tickets-requires
-put-tickets-requires c κs =
-    let p = c .before .before .before in
-    let s = p .before .before .before .before in
-    let n = fill-begun (s .args .reply .first) (s .pre .0 .first) in
-    (s .pre .0 .tickets, omega arith)
 
 returns : tie.Need-returns
 returns c =
@@ -29,15 +13,17 @@ returns c =
     let p = q .before .before .before .before in
     let s = p .before .before .before .before in
     let t = s .args .reply in
-    let two : length (t .queued) ≡ 2 = sym (length-map (t .queued) _) ∙ s .good .0 .1 .1 .1 .0 .1 .0 .1 in
-    let long : length (t .tickets) ≡ 8 = words-length 8 (t .tickets) _ (s .good .0 .1 .1 .1 .1 .1 .0) in
-    reply-laid t two long {k = 0} (omega arith) (omega arith) (p .put-fill-first .ensures) (queued-start (t .queued) _ _) (q .put-tickets .ensures)
+    reply-laid t _ (s .good .0) {k = 0} (omega arith) (omega arith) (p .put-fill-first .ensures) (queued-start (t .queued) _ _) (q .put-tickets .ensures)
 
 pub put-filled-spec : {M : Type 1} → statement M
 put-filled-spec =
     tie.close
     (tie.spec
-    put-fill-first-requires
-    put-tickets-requires
+    (λ c κs. let s = c .before .before .before in let n = begun-as (s .args .reply .first) .fill (s .pre .0 .first) in (s .pre .0 .first, omega arith))  -- put-fill-first-requires
+    -- put-tickets-requires
+    (λ c κs.
+    let s = c .before .before .before .before .before .before .before in
+    let n = begun-as (s .args .reply .first) .fill (s .pre .0 .first) in
+    (s .pre .0 .tickets, omega arith))
     (λ c. search needs)  -- same-length
     returns)

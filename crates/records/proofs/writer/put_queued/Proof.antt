@@ -38,12 +38,6 @@ loop-again c =
     let two : length (s .args .t4) ≡ 2 = s .good .1 .1 .1 .0 .1 .0 .1 in
     (omega arith, p .put-event .kept .1 .0 ∙ v .inv .1, queued-turn (s .args .t4) _ (v .j) (omega arith) (e .queued-event .ensures) (v .inv .2) (p .put-event .ensures))
 
-returns : tie.Need-returns Inv-loop μ-loop
-returns c =
-    let v = c .before .loop in
-    let e : v .j ≡ c .before .before .before .args .count = omega arith in
-    rw (← e) (v .inv .2)
-
 pub put-queued-spec : {M : Type 1} → statement M
 put-queued-spec =
     tie.close
@@ -57,4 +51,4 @@ put-queued-spec =
     (λ c. omega arith)  -- loop-less
     loop-again
     (λ c. c .before .loop .inv .1)  -- same-length
-    returns)
+    (λ c. let v = c .before .loop in let e : v .j ≡ c .before .before .before .args .count = omega arith in rw (← e) (v .inv .2)))  -- returns

@@ -18,4 +18,4 @@ put-refusal-spec =
     (λ c.
     let q = c .before .before in
     let p = q .before .before .before .before .before in
-    laid-as (laid-then (p .put1 .ensures) refl (q .put12 .ensures)) (refusal-bytes _ (q .before .refusal-number .ensures))))
+    laid-as (laid-then (p .put1 .ensures) refl (q .put12 .ensures)) (refusal-bytes _ (q .before .refusal-number .ensures) (search needs))))

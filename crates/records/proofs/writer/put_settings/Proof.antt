@@ -1,9 +1,10 @@
 -- The kind, the numbers, the rule.
 use mathlib.Core.Path.{refl}
+use native.Mathlib.Omega.{arith}
 use Rattle.model.specs.RecordsOf as records
 use Rattle.model.specs.Records.{bytesOf}
 use Rattle.records.proofs.Stores.{laid-then, laid-as, laid-sized}
-use Rattle.records.proofs.Encoding.{settings-bytes, settings-length}
+use Rattle.records.proofs.Encoding.{settings-bytes}
 use borrow.Author.Needs.{needs}
 use Rattle.records.proofs.writer.put_settings.Statement.{statement}
 use Rattle.records.proofs.writer.put_settings.Tie as tie
@@ -19,7 +20,7 @@ returns c =
     (laid-as
     (laid-then (p1 .put1 .ensures) refl (laid-then (p2 .put-numbers .ensures) refl (p3 .put-rule .ensures)))
     (settings-bytes g (p1 .before .settings-kind .ensures)))
-    (settings-length g)
+    (omega arith)
 
 pub put-settings-spec : {M : Type 1} → statement M
 unfolding records.commandBytes bytesOf

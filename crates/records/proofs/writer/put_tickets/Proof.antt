@@ -30,12 +30,6 @@ loop-again c =
       tickets-turn (s .args .t4) (v .j) (omega arith) (v .inv .2) (p .put-word .ensures),
     )
 
-returns : tie.Need-returns Inv-loop μ-loop
-returns c =
-    let v = c .before .loop in
-    let e : v .j ≡ c .before .before .before .args .count = omega arith in
-    rw (← e) (v .inv .2)
-
 pub put-tickets-spec : {M : Type 1} → statement M
 put-tickets-spec =
     tie.close
@@ -48,4 +42,4 @@ put-tickets-spec =
     (λ c. omega arith)  -- loop-less
     loop-again
     (λ c. c .before .loop .inv .1)  -- same-length
-    returns)
+    (λ c. let v = c .before .loop in let e : v .j ≡ c .before .before .before .args .count = omega arith in rw (← e) (v .inv .2)))  -- returns

@@ -20,10 +20,6 @@ Inv-loop count queued n₀ j₀ n j = (j ≤ count) × (n ≡ length (logBytes (
 abbrev μ-loop : tie.MeasureT-loop
 μ-loop count queued n₀ j₀ n j = count - j
 
-loop-holds : tie.Need-loop-holds Inv-loop μ-loop
-unfolding records.logBytes
-loop-holds c = (omega arith, refl, omega arith, tt)
-
 loop-again : tie.Need-loop-again Inv-loop μ-loop
 loop-again c =
     let e = c .before in
@@ -39,17 +35,12 @@ loop-again c =
       rw (queued-next xs _ (v .j) (omega arith) (e .queued-event .ensures)) (fitting-append (queuedTold (v .j) xs) _ (v .inv .3) (c .event-size .ensures .1, tt)),
     )
 
-returns : tie.Need-returns Inv-loop μ-loop
-returns c =
-    let v = c .before .loop in
-    let e : v .j ≡ c .before .before .args .count = omega arith in
-    (rw (← e) (v .inv .1), omega arith, rw (← e) (v .inv .3))
-
 pub queued-size-spec : {M : Type 1} → statement M
+unfolding records.logBytes
 queued-size-spec =
     tie.close
     (tie.spec Inv-loop μ-loop
-    loop-holds
+    (λ c. (omega arith, refl, omega arith, tt))  -- loop-holds
     (λ c. omega arith)  -- mul-x
     (λ c. omega arith)  -- array-copy-out-x
     (λ c κs. search needs)  -- queued-event-requires
@@ -58,4 +49,4 @@ queued-size-spec =
     (λ c. omega arith)  -- add-j
     (λ c. omega arith)  -- loop-less
     loop-again
-    returns)
+    (λ c. let v = c .before .loop in let e : v .j ≡ c .before .before .args .count = omega arith in (rw (← e) (v .inv .1), omega arith, rw (← e) (v .inv .3))))  -- returns

@@ -1,11 +1,8 @@
 -- The sizes of the parts add up; the numbers fit, as the fields' types say.
-use mathlib.Core.Path.{_≡_, sym, _∙_}
 use Prim.Native.Nat.{_≤_}
 use native.Mathlib.Omega.{arith}
-use lib.ListN.{length, length-map}
-use Rattle.words.proofs.Arrays.{words-length, words-below}
 use Rattle.records.proofs.Encoding.{event-short}
-use Rattle.records.proofs.Reply.{queued-least, reply-sized, reply-fits}
+use Rattle.records.proofs.Reply.{reply-sized, reply-fits}
 use borrow.Author.Needs.{needs}
 use Rattle.records.proofs.writer.reply_size.Statement.{statement}
 use Rattle.records.proofs.writer.reply_size.Tie as tie
@@ -24,13 +21,9 @@ returns c =
     let k = q .before in
     let e = k .before in
     let s = e .before .before in
-    let t = s .args .reply in
-    let g = s .good .0 .1 .1 in
-    let two : length (t .queued) ≡ 2 = sym (length-map (t .queued) _) ∙ g .1 .0 .1 .0 .1 in
-    let long = words-length 8 (t .tickets) _ (g .1 .1 .1 .0) in
-    let tickets = words-below 8 (t .tickets) _ (g .1 .1 .1 .0) in (
-      reply-sized t two long (k .at-most .ensures) (c .at-most2 .ensures) (e .event-size .ensures .0) (q .queued-size .ensures .0),
-      reply-fits t (e .event-size .ensures .1) (rw (queued-least (t .queues) 2 (t .queued) two (k .at-most .ensures)) at (q .queued-size .ensures .2)) tickets,
+    let t = s .args .reply in (
+      reply-sized t _ (s .good .0) (k .at-most .ensures) (c .at-most2 .ensures) (e .event-size .ensures .0) (q .queued-size .ensures .0),
+      reply-fits t _ (s .good .0) (k .at-most .ensures) (c .at-most2 .ensures) (e .event-size .ensures .1) (q .queued-size .ensures .2),
     )
 
 pub reply-size-spec : {M : Type 1} → statement M

@@ -14,18 +14,11 @@ may-run-spec =
     (λ c. search needs)  -- enum-known-n
     (λ c. search needs)  -- enum-known-at
     (λ c κs. search needs)  -- well-formed-requires
-    -- returns
-    (λ c.
-    start-refused _ _ _ (c .before .before .before .checked-layout .ensures) (c .before .n .given .1))
+    (λ c. search start-refused)  -- returns
     -- returns-2
     (λ c.
     let w = c .before in
     let e = w .before .before in
     let k = e .before .before in
     start-passed _ _ _ (k .checked-layout .ensures) (e .at .given .1) (λ i. omega (arith, k .before .before .shared-slice-known2 .given i)) (sym (w .well-formed .ensures .0) ∙ c .if1 .taken) (w .well-formed .ensures .1))
-    -- returns-3
-    (λ c.
-    let w = c .before in
-    let e = w .before .before in
-    let k = e .before .before in
-    start-malformed _ _ _ (k .checked-layout .ensures) (e .at .given .1) (sym (w .well-formed .ensures .0) ∙ c .if1 .left)))
+    (λ c. let q = sym (c .before .well-formed .ensures .0) ∙ c .if1 .left in search start-malformed))  -- returns-3

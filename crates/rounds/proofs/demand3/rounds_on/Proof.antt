@@ -24,35 +24,23 @@ rounds-on-spec =
     -- see-round-requires
     (λ c κs.
     let l = c .before .before .before .before .before in
-    let g = l .loop .inv in
+    let g = l .loop .inv .stands in
     let p = l .before .before .before .before .before .before in
     ((p .pre .0 .0, g .held), (omega (arith, g .short, g .size, c .before .before .before .before .loop-test .taken, p .pre .1 .1), p .pre .1 .2)))
     (λ c κs. search needs)  -- flag-of-requires
     (λ c. omega (arith, c .before .before .before .before .before .before .before .before .before .before .before .before .before .before .before .loop .inv .flags, c .before .before .before .before .before .before .before .before .before .before .before .before .before .before .loop-test .taken, c .before .before .before .before .before .before .before .before .before .before .before .before .before .before .before .before .before .before .before .before .before .pre .1 .0))  -- slice-write-flags
     (λ c. omega (arith, c .before .before .before .before .before .before .before .before .before .before .before .before .before .before .loop-test .taken))  -- add-i
-    (λ c. c .before .before .before .before .before .before .before .before .before .before .see-round .kept .1 .1 .0 ∙ c .before .before .before .before .before .before .before .before .before .before .before .before .before .before .before .before .loop .inv .longs)  -- same-length
-    (λ c. c .before .before .before .before .before .before .before .before .before .before .see-round .kept .1 .1 .1 .0 ∙ c .before .before .before .before .before .before .before .before .before .before .before .before .before .before .before .before .loop .inv .words)  -- same-length-2
-    (λ c. c .before .before .before .before .before .before .before .before .before .before .see-round .kept .1 .1 .1 .1 .0 ∙ c .before .before .before .before .before .before .before .before .before .before .before .before .before .before .before .before .loop .inv .marks)  -- same-length-3
+    (λ c. c .before .before .before .before .before .before .before .before .before .before .see-round .kept .1 .1 .0 ∙ c .before .before .before .before .before .before .before .before .before .before .before .before .before .before .before .before .loop .inv .stands .longs)  -- same-length
+    (λ c. c .before .before .before .before .before .before .before .before .before .before .see-round .kept .1 .1 .1 .0 ∙ c .before .before .before .before .before .before .before .before .before .before .before .before .before .before .before .before .loop .inv .stands .words)  -- same-length-2
+    (λ c. c .before .before .before .before .before .before .before .before .before .before .see-round .kept .1 .1 .1 .1 .0 ∙ c .before .before .before .before .before .before .before .before .before .before .before .before .before .before .before .before .loop .inv .stands .marks)  -- same-length-3
     (λ c. let l = c .before .before .before .before .before .before .before .before .before .before .before .before .before .before .before .before in length-set (l .loop .flags) (l .loop .i) (c .before .flag-of .result) ∙ l .loop .inv .flags)  -- same-length-4
-    (λ c. c .before .before .before .before .before .before .before .before .before .before .see-round .kept .1 .1 .1 .1 .1 .1 .0 ∙ c .before .before .before .before .before .before .before .before .before .before .before .before .before .before .before .before .loop .inv .size)  -- same-length-5
-    -- returns
-    (λ c.
-    let r = c .before .before .before .before .before .before .before .before .before .before in
-    let l = r .before .before .before .before .before .before in
-    let p = l .before .before .before .before .before .before in
-    runs-accepted _ _ _ (p .pre .1 .0) (p .pre .1 .1) (l .loop .inv) (r .before .before .before .before .before .loop-test .taken) (r .see-round .ensures) (c .before .flag-of .ensures) (c .if1 .taken))
+    (λ c. c .before .before .before .before .before .before .before .before .before .before .see-round .kept .1 .1 .1 .1 .1 .1 .0 ∙ c .before .before .before .before .before .before .before .before .before .before .before .before .before .before .before .before .loop .inv .stands .size)  -- same-length-5
+    (λ c. search runs-accepted)  -- returns
     (λ c. omega (arith, c .before .before .before .before .before .before .before .before .before .before .before .before .before .before .before .loop-test .taken))  -- loop-less
-    -- loop-again
-    (λ c.
-    let r = c .before .before .before .before .before .before .before .before .before .before in
-    let l = r .before .before .before .before .before .before in
-    let p = l .before .before .before .before .before .before in
-    let k = r .see-round .kept .1 .1 in
-    runs-again _ _ _ (p .pre .1 .0) (p .pre .1 .1) (l .loop .inv) (r .before .before .before .before .before .loop-test .taken) (r .see-round .ensures) (c .before .flag-of .ensures) (c .if1 .left)
-    (k .1 .1 .1 .1 .0) (k .0) (k .1 .0) (k .1 .1 .0))
-    (λ c. c .before .loop .inv .longs)  -- same-length-6
-    (λ c. c .before .loop .inv .words)  -- same-length-7
-    (λ c. c .before .loop .inv .marks)  -- same-length-8
+    (λ c. search runs-again)  -- loop-again
+    (λ c. c .before .loop .inv .stands .longs)  -- same-length-6
+    (λ c. c .before .loop .inv .stands .words)  -- same-length-7
+    (λ c. c .before .loop .inv .stands .marks)  -- same-length-8
     (λ c. c .before .loop .inv .flags)  -- same-length-9
-    (λ c. c .before .loop .inv .size)  -- same-length-10
-    (λ c. let l = c .before in let p = l .before .before .before .before .before .before in runs-end _ _ _ (p .pre .1 .0) (p .pre .1 .1) (l .loop .inv) (c .loop-test .left)))  -- returns-2
+    (λ c. c .before .loop .inv .stands .size)  -- same-length-10
+    (λ c. search runs-end))  -- returns-2

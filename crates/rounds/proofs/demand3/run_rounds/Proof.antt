@@ -27,7 +27,7 @@ run-rounds-spec =
     -- returns-2
     (λ c.
     let t = c .before .before .before in
-    few-bytes (t .before .before .may-run .ensures) _ _ _ (t .at .given .1) (c .before .if1 .left) (c .if2 .taken))
+    few-bytes (t .before .before .may-run .ensures) _ _ _ (t .at .given .1) (c .if2 .taken))
     -- rounds-on-requires
     (λ c κs.
     let i = c .before .before .before .before .before in

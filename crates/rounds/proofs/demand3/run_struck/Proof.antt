@@ -16,10 +16,7 @@ run-struck-spec =
     (λ c. search needs)  -- same-length-2
     (λ c. search needs)  -- same-length-3
     -- too few bytes
-    -- returns
-    (λ c.
-    let t = c .before .before in
-    few-struck (t .before .before .may-run .ensures) _ _ (t .at .given .1) (c .if1 .taken))
+    (λ c. search few-struck)  -- returns
     -- struck-on-requires
     (λ c κs.
     let i = c .before .before .before .before in
@@ -30,14 +27,9 @@ run-struck-spec =
     (λ c. search needs)  -- same-length-5
     (λ c. search needs)  -- same-length-6
     -- refused
-    (λ c. struck-refused (c .before .before .before .may-run .ensures) _ _ (c .before .k .given .1))  -- returns-2
+    (λ c. search struck-refused)  -- returns-2
     (λ c. search needs)  -- same-length-7
     (λ c. search needs)  -- same-length-8
     (λ c. search needs)  -- same-length-9
     (λ c. search needs)  -- same-length-10
-    -- returns-3
-    (λ c.
-    let r = c .before .before .before .before .before .before .before .before in
-    let i = r .before .before .before .before .before in
-    let t = i .before .before in
-    struck-ran (t .before .before .may-run .ensures) _ _ (t .at .given .1) (i .if1 .left) (r .struck-on .ensures)))
+    (λ c. search struck-ran))  -- returns-3

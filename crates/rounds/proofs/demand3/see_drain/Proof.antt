@@ -19,8 +19,4 @@ see-drain-spec =
     (λ c. search needs)  -- same-length-2
     (λ c. search needs)  -- same-length-3
     (λ c. search needs)  -- same-length-4
-    -- returns
-    (λ c.
-    let f = c .before .before .before .before .before .before .before .before in
-    let s = f .before .before .before .before .before .before .before .before .before .before .before .before .before in
-    drains _ (s .see-send .ensures) (f .see-fill .ensures)))
+    (λ c. search drains))  -- returns

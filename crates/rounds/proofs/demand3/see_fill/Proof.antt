@@ -24,18 +24,8 @@ see-fill-spec =
     (λ c. search needs)  -- same-length-2
     (λ c. search needs)  -- same-length-3
     (λ c. search needs)  -- same-length-4
-    -- returns
-    (λ c.
-    let n = c .before .before in
-    let f = n .before .before .before .before .before .before .before .before in
-    let m = f .before .before .before .before .before in
-    let s = m .before .before in
-    let p = s .before .before .before .before .before .before .before .before in
-    fills _ (p .pre .0 .1) (s .first-sent .ensures) (m .address .given .1) (f .fill .ensures) (n .tell .ensures))
+    (λ c. let m = c .before .before .before .before .before .before .before .before .before .before .before .before .before .before .before in search fills)  -- returns
     (λ c. search needs)  -- same-length-5
     (λ c. search needs)  -- same-length-6
     (λ c. search needs)  -- same-length-7
-    -- returns-2
-    (λ c.
-    let s = c .before .before in
-    no-fill _ (s .before .before .before .before .before .before .before .before .pre .0 .1) (s .first-sent .ensures) (c .enum-told .given .1) _ _))
+    (λ c. search no-fill))  -- returns-2

@@ -13,9 +13,7 @@ see-send-spec =
     (λ c. search needs)  -- same-length
     (λ c. search needs)  -- same-length-2
     (λ c. search needs)  -- same-length-3
-    -- returns
-    (λ c.
-    no-send _ (c .before .before .before .before .before .before .before .before .before .pre .0 .1) (c .before .nothing-queued .ensures) (c .if1 .taken) _ _)
+    (λ c. search no-send)  -- returns
     (λ c κs. search needs)  -- send-requires
     -- tell-requires
     (λ c κs.
@@ -26,11 +24,4 @@ see-send-spec =
     (λ c. search needs)  -- same-length-5
     (λ c. search needs)  -- same-length-6
     (λ c. search needs)  -- same-length-7
-    -- returns-2
-    (λ c.
-    let n = c .before .before in
-    let s = n .before .before .before .before .before .before .before .before in
-    let i = s .before .before .before .before in
-    let q = i .before in
-    let p = q .before .before .before .before .before .before .before .before in
-    sees-send _ (p .pre .0 .1) (s .send .ensures) (q .nothing-queued .ensures) (i .if1 .left) (n .tell .ensures)))
+    (λ c. search sees-send))  -- returns-2

@@ -14,16 +14,10 @@ see-struck-spec =
     (λ c. search needs)  -- same-length-2
     (λ c. search needs)  -- same-length-3
     (λ c. search needs)  -- same-length-4
-    -- returns
-    (λ c.
-    let r = c .before .before .before .before .before .before .before .before in
-    struck-offers _ _ (eq-eqb _ _ (r .before .before .before .before .before .if1 .taken)) (r .see-round .ensures))
+    (λ c. search (struck-offers, eq-eqb))  -- returns
     (λ c κs. search needs)  -- see-drain-requires
     (λ c. search needs)  -- same-length-5
     (λ c. search needs)  -- same-length-6
     (λ c. search needs)  -- same-length-7
     (λ c. search needs)  -- same-length-8
-    -- returns-2
-    (λ c.
-    let d = c .before .before .before .before .before .before .before .before in
-    struck-drains _ _ (ne-eqb _ _ (d .before .before .before .before .before .if1 .left)) (d .see-drain .ensures)))
+    (λ c. search (struck-drains, ne-eqb)))  -- returns-2

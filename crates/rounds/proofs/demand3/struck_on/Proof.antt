@@ -23,20 +23,14 @@ struck-on-spec =
     -- see-struck-requires
     (λ c κs.
     let l = c .before .before .before .before .before .before in
-    let g = l .loop .inv in
+    let g = l .loop .inv .stands in
     let p = l .before .before .before .before .before .before in
     ((p .pre .0 .0, g .held), (omega (arith, g .short, g .size, c .before .before .before .before .before .loop-test .taken, p .pre .1 .0), p .pre .1 .1)))
     (λ c. omega (arith, c .before .before .before .before .before .before .before .before .before .before .before .before .before .before .loop-test .taken, c .before .before .before .before .before .before .before .before .before .before .before .before .before .before .before .before .before .before .before .before .before .good .1 .1 .1 .1 .1 .1 .0 .0))  -- add-i
     (λ c. omega (arith, c .before .before .before .before .before .before .before .before .before .before .before .before .before .before .loop-test .taken))  -- loop-less
-    -- loop-again
-    (λ c.
-    let r = c .before .before .before .before .before .before .before .before in
-    let l = r .before .before .before .before .before .before .before in
-    let k = r .see-struck .kept .1 .1 in
-    strikes-again _ _ _ (l .loop .inv) (r .before .before .before .before .before .before .loop-test .taken) (r .see-struck .ensures)
-    (k .1 .1 .1 .1 .1 .0) (k .0) (k .1 .0) (k .1 .1 .0))
-    (λ c. c .before .loop .inv .longs)  -- same-length
-    (λ c. c .before .loop .inv .words)  -- same-length-2
-    (λ c. c .before .loop .inv .marks)  -- same-length-3
-    (λ c. c .before .loop .inv .size)  -- same-length-4
-    (λ c. let l = c .before in strikes-end _ _ _ (l .loop .inv) (c .loop-test .left) (l .before .before .before .before .before .before .pre .1 .0)))  -- returns
+    (λ c. search strikes-again)  -- loop-again
+    (λ c. c .before .loop .inv .stands .longs)  -- same-length
+    (λ c. c .before .loop .inv .stands .words)  -- same-length-2
+    (λ c. c .before .loop .inv .stands .marks)  -- same-length-3
+    (λ c. c .before .loop .inv .stands .size)  -- same-length-4
+    (λ c. search strikes-end))  -- returns

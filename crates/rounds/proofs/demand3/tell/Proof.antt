@@ -18,8 +18,4 @@ tell-spec =
     let k = was-stored (p .args .events .now) (p .args .out) _ (w .write-reply .ensures .0) (p .pre) in
     omega (arith, k .0))
     (λ c. search needs)  -- same-length
-    -- returns
-    (λ c.
-    let w = c .before .before in
-    let p = w .before .before .before in
-    tells (p .args .events .now) (p .args .out) (p .args .reply) (p .pre) (w .write-reply .ensures .0) (w .write-reply .ensures .1)))
+    (λ c. search tells))  -- returns

@@ -13,15 +13,21 @@ pub fill-record-spec : {M : Type 1} → statement M
 fill-record-spec =
     tie.close
     (tie.spec
-    (λ c κs. let s = c .before .before .before .before .before in let a = s .args in (refl, whole-at (a .stream .now) (a .at) (a .out) (a .events .now) (s .pre .1 .0) 4 (s .pre .1 .1)))  -- body-of-requires
+    (λ c κs. let s = c .before .before .before .before .before in (refl, whole-at (s .pre .1 .0) 4 (s .pre .1 .1)))  -- body-of-requires
     (λ c κs. search needs)  -- number8-requires
     (λ c κs. let pre = c .before .before .before .before .before .before .before .before .before .before .pre .0 in (pre .0, pre .1, pre .2 .misses))  -- fill-counted-requires
     -- put-filled-requires
     (λ c κs.
-    let s = c .before .before .before .before .before .before .before .before .before .before .before .before .before .before .before .before .before .before in let a = s .args in
-    (fill-shaped (a .s) (s .pre .0 .1) _ (c .before .before .before .before .before .before .before .fill-counted .ensures), ready-room (a .stream .now) (a .at) (a .out) (a .events .now) (s .pre .1 .0)))
-    (λ c. let s = c .before .before .before .before .before .before .before .before .before .before .before .before .before .before .before .before .before .before .before .before .before in let a = s .args in let h = s .pre .1 .0 .inside in omega arith)  -- add-t27
-    (λ c. let s = c .before .before .before .before .before .before .before .before .before .before .before .before .before .before .before .before .before .before .before .before .before in let a = s .args in let h = whole-at (a .stream .now) (a .at) (a .out) (a .events .now) (s .pre .1 .0) 4 (s .pre .1 .1) in let l = body-size (a .stream .now) (a .at) (a .out) (a .events .now) (s .pre .1 .0) 4 (s .pre .1 .1) (c .before .before .before .before .before .before .before .before .before .before .before .before .before .before .before .body-of .ensures .bytes) in omega arith)  -- add-t29
+    let f = c .before .before .before .before .before .before .before in
+    let s = f .before .before .before .before .before .before .before .before .before .before .before in
+    (fill-shaped _ (s .pre .0 .1) _ (f .fill-counted .ensures), ready-room (s .pre .1 .0)))
+    (λ c. let s = c .before .before .before .before .before .before .before .before .before .before .before .before .before .before .before .before .before .before .before .before .before in let h = s .pre .1 .0 .inside in omega arith)  -- add-t27
+    -- add-t29
+    (λ c.
+    let b = c .before .before .before .before .before .before .before .before .before .before .before .before .before .before .before in
+    let s = b .before .before .before .before .before .before in
+    let h = whole-at (s .pre .1 .0) 4 (s .pre .1 .1) in
+    omega (arith, body-size (s .pre .1 .0) 4 (s .pre .1 .1) (b .body-of .ensures .bytes)))
     (λ c κs. search needs)  -- left-after-requires
     (λ c. search needs)  -- same-length
     (λ c. search needs)  -- same-length-2
@@ -29,9 +35,11 @@ fill-record-spec =
     (λ c. search needs)  -- same-length-4
     -- returns
     (λ c.
-    let s = c .before .before .before .before .before .before .before .before .before .before .before .before .before .before .before .before .before .before .before .before .before .before in let a = s .args in
     let p = c .before .before .before in
-    let does = c .before .before .before .before .before .before .before .before .before .before .before .fill-counted .ensures in (
-      fill-runs (a .stream .now) (a .at) (a .out) (a .events .now) (s .pre .1 .0) (a .s) _ (s .pre .0 .1) _ _ _ _ (p .put-filled .ensures) (p .put-filled .kept .1 .0) (s .pre .1 .1) (c .before .before .before .before .before .before .before .before .before .before .before .before .before .before .before .before .body-of .ensures .bytes) (c .before .before .before .before .before .before .before .before .before .before .before .before .before .before .before .number8 .ensures) does,
-      rw (c .left-after .ensures) (counted-fill (a .s) (s .pre .0 .1) (s .pre .0 .0) (s .pre .0 .2) _ does),
+    let f = p .before .before .before .before .before .before .before .before in
+    let n = f .before .before .before .before in
+    let s = n .before .before .before .before .before .before .before in
+    let does = f .fill-counted .ensures in (
+      fill-runs (s .pre .1 .0) (s .pre .0 .1) (p .put-filled .ensures) (p .put-filled .kept .1 .0) does (s .pre .1 .1) (n .before .body-of .ensures .bytes) (n .number8 .ensures),
+      rw (c .left-after .ensures) (counted-fill _ (s .pre .0 .1) (s .pre .0 .0) (s .pre .0 .2) _ does),
     )))

@@ -8,7 +8,7 @@ use borrow.Author.Needs.{needs}
 use borrow.Author.Tests.{not-true, not-false}
 use Rattle.model.specs.Lent.{lent}
 use Rattle.running.specs.Resume.{RunStands, UsedInMarks}
-use Rattle.running.proofs.Turns.{Moved, run-stands-first, run-stands-held, usual-at, moved-ends, usual-rests, moved-rests, usual-further, usual-inside, usual-again}
+use Rattle.running.proofs.Turns.{Moved, run-stands-first, run-stands-held, run-stands-then, usual-at, moved-ends, usual-rests, moved-rests, usual-further, usual-stands}
 use Rattle.running.proofs.record.run_usual.Statement.{statement}
 use Rattle.running.proofs.record.run_usual.Tie as tie
 
@@ -52,7 +52,7 @@ run-usual-spec =
     let taken = not-false _ (c .before .if1 .left) in
     let x = r .step-record .ensures .0 in
     let u = usual-at (inv .0) (s .pre .1 .1 .0) (s .pre .1 .1 .1) (i .loop-test .taken) in
-    omega (arith, usual-further x taken u (inv .0) (s .pre .0 .1), usual-inside x taken u (inv .0) (s .pre .0 .1)))
+    omega (arith, usual-further x taken u (run-stands-held (inv .0) (s .pre .0 .1)), x .steps taken .stands .inside))
     -- loop-again
     (λ c.
     let r = c .before .before .before .before .before .before .before .before .before .before .before .before in
@@ -62,10 +62,11 @@ run-usual-spec =
     let taken = not-false _ (c .before .if1 .left) in
     let x = r .step-record .ensures .0 in
     let u = usual-at (inv .0) (s .pre .1 .1 .0) (s .pre .1 .1 .1) (i .loop-test .taken) in
+    let held = run-stands-held (inv .0) (s .pre .0 .1) in
     let k = r .step-record .kept .1 .1 .1 .1 in (
-      usual-again x taken u (inv .0) (s .pre .0 .1) (k .0) (k .1 .1 .1 .1 .0) (k .1 .1 .1 .1 .1 .0) (k .1 .1 .1 .1 .1 .1 .0),
+      run-stands-then (inv .0) (usual-stands x taken u held (k .0) (k .1 .1 .1 .1 .0) (k .1 .1 .1 .1 .1 .0) (k .1 .1 .1 .1 .1 .1 .0)),
       r .step-record .ensures .1,
-      inl (omega (arith, inv .0 .further, usual-further x taken u (inv .0) (s .pre .0 .1))),
+      inl (omega (arith, inv .0 .further, usual-further x taken u held)),
     ))
     (λ c. search needs)  -- same-length-5
     (λ c. search needs)  -- same-length-6

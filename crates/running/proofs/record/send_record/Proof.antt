@@ -15,9 +15,10 @@ send-record-spec =
     (λ c κs. let pre = c .before .before .before .before .before .before .before .before .pre .0 in (pre .0, pre .1, pre .2 .queue))  -- send-counted-requires
     -- put-sent-requires
     (λ c κs.
-    let s = c .before .before .before .before .before .before .before .before .before .before .before .before .before .before .before .before in let a = s .args in
-    (send-shaped (a .s) (s .pre .0 .1) (c .before .before .before .before .before .before .before .send-counted .ensures), ready-room (a .stream .now) (a .at) (a .out) (a .events .now) (s .pre .1 .0)))
-    (λ c. let s = c .before .before .before .before .before .before .before .before .before .before .before .before .before .before .before .before .before .before .before in let a = s .args in let h = s .pre .1 .0 .inside in omega arith)  -- add-t24
+    let d = c .before .before .before .before .before .before .before in
+    let s = d .before .before .before .before .before .before .before .before .before in
+    (send-shaped _ (s .pre .0 .1) (d .send-counted .ensures), ready-room (s .pre .1 .0)))
+    (λ c. let s = c .before .before .before .before .before .before .before .before .before .before .before .before .before .before .before .before .before .before .before in let h = s .pre .1 .0 .inside in omega arith)  -- add-t24
     (λ c κs. search needs)  -- one-less-requires
     (λ c. search needs)  -- same-length
     (λ c. search needs)  -- same-length-2
@@ -25,9 +26,10 @@ send-record-spec =
     (λ c. search needs)  -- same-length-4
     -- returns
     (λ c.
-    let s = c .before .before .before .before .before .before .before .before .before .before .before .before .before .before .before .before .before .before .before .before in let a = s .args in
     let p = c .before .before .before in
-    let does = c .before .before .before .before .before .before .before .before .before .before .before .send-counted .ensures in (
-      send-runs (a .stream .now) (a .at) (a .out) (a .events .now) (s .pre .1 .0) (a .s) _ (s .pre .0 .1) _ _ _ _ (p .put-sent .ensures) (p .put-sent .kept .1 .0) (s .pre .1 .1) does,
-      rw (c .one-less .ensures) (counted-send (a .s) (s .pre .0 .1) (s .pre .0 .0) (s .pre .0 .2) does),
+    let d = p .before .before .before .before .before .before .before .before in
+    let s = d .before .before .before .before .before .before .before .before .before in
+    let does = d .send-counted .ensures in (
+      send-runs (s .pre .1 .0) (s .pre .0 .1) (p .put-sent .ensures) (p .put-sent .kept .1 .0) does (s .pre .1 .1),
+      rw (c .one-less .ensures) (counted-send _ (s .pre .0 .1) (s .pre .0 .0) (s .pre .0 .2) does),
     )))

@@ -1,6 +1,7 @@
 -- By its kind, one of the five, or none.
 use borrow.Author.Needs.{needs}
 use native.Mathlib.Omega.{arith}
+use mathlib.Core.Path.{refl}
 use Rattle.running.specs.Resume.{recordKindAt}
 use Rattle.running.proofs.Checks.{step-of, access-kind, no-step-left, usual-ready}
 use Rattle.running.proofs.Singles.{tries-steps, tries-stays}
@@ -22,37 +23,31 @@ step-record-spec =
     (λ c.
     let r = c .before .before .before .before .before .before .before .before .before in
     let a = r .before .before .before .before .before .before .before .before .before .before .before .before .args in
-    rw (c .stepped .ensures) (tries-steps (access-kind (recordKindAt (a .stream .now) (a .at)) (r .before .before .before .before .before .if1 .taken) .0) (r .access-record .ensures .0), r .access-record .ensures .1))
-    (λ c κs. let s = c .before .before .before .before .before .before .before .before .before .before .before .before in let h = c .before .before .before .before .if2 .taken in (s .pre .0, (usual-ready (s .pre .1) (step-of 3 h (omega arith) (omega arith)), h)))  -- send-record-requires
+    tries-steps (c .stepped .ensures) (access-kind (recordKindAt (a .stream .now) (a .at)) (r .before .before .before .before .before .if1 .taken) .0) (r .access-record .ensures))
+    (λ c κs. let s = c .before .before .before .before .before .before .before .before .before .before .before .before in let h = c .before .before .before .before .if2 .taken in (s .pre .0, (usual-ready (s .pre .1) (step-of 3 h refl), h)))  -- send-record-requires
     (λ c κs. search needs)  -- stepped-requires-2
     (λ c. search needs)  -- same-length-5
     (λ c. search needs)  -- same-length-6
     (λ c. search needs)  -- same-length-7
     (λ c. search needs)  -- same-length-8
-    -- returns-2
-    (λ c.
-    let r = c .before .before .before .before .before .before .before .before .before in
-    rw (c .stepped2 .ensures) (tries-steps (step-of 3 (r .before .before .before .before .before .if2 .taken) (omega arith) (omega arith)) (r .send-record .ensures .0), r .send-record .ensures .1))
-    (λ c κs. let s = c .before .before .before .before .before .before .before .before .before .before .before .before .before in let h = c .before .before .before .before .if3 .taken in (s .pre .0, (usual-ready (s .pre .1) (step-of 4 h (omega arith) (omega arith)), h)))  -- fill-record-requires
+    (λ c. let r = c .before .before .before .before .before .before .before .before .before in
+    tries-steps (c .stepped2 .ensures) (step-of 3 (r .before .before .before .before .before .if2 .taken) refl) (r .send-record .ensures))  -- returns-2
+    (λ c κs. let s = c .before .before .before .before .before .before .before .before .before .before .before .before .before in let h = c .before .before .before .before .if3 .taken in (s .pre .0, (usual-ready (s .pre .1) (step-of 4 h refl), h)))  -- fill-record-requires
     (λ c κs. search needs)  -- stepped-requires-3
     (λ c. search needs)  -- same-length-9
     (λ c. search needs)  -- same-length-10
     (λ c. search needs)  -- same-length-11
     (λ c. search needs)  -- same-length-12
-    -- returns-3
-    (λ c.
-    let r = c .before .before .before .before .before .before .before .before .before in
-    rw (c .stepped3 .ensures) (tries-steps (step-of 4 (r .before .before .before .before .before .if3 .taken) (omega arith) (omega arith)) (r .fill-record .ensures .0), r .fill-record .ensures .1))
-    (λ c κs. let s = c .before .before .before .before .before .before .before .before .before .before .before .before .before .before in let h = c .before .before .before .before .if4 .taken in ((s .pre .0 .1, s .pre .0 .2), (usual-ready (s .pre .1) (step-of 5 h (omega arith) (omega arith)), h)))  -- tick-record-requires
+    (λ c. let r = c .before .before .before .before .before .before .before .before .before in
+    tries-steps (c .stepped3 .ensures) (step-of 4 (r .before .before .before .before .before .if3 .taken) refl) (r .fill-record .ensures))  -- returns-3
+    (λ c κs. let s = c .before .before .before .before .before .before .before .before .before .before .before .before .before .before in let h = c .before .before .before .before .if4 .taken in ((s .pre .0 .1, s .pre .0 .2), (usual-ready (s .pre .1) (step-of 5 h refl), h)))  -- tick-record-requires
     (λ c κs. search needs)  -- stepped-requires-4
     (λ c. search needs)  -- same-length-13
     (λ c. search needs)  -- same-length-14
     (λ c. search needs)  -- same-length-15
     (λ c. search needs)  -- same-length-16
-    -- returns-4
-    (λ c.
-    let r = c .before .before .before .before .before .before .before .before .before in
-    rw (c .stepped4 .ensures) (tries-steps (step-of 5 (r .before .before .before .before .before .if4 .taken) (omega arith) (omega arith)) (r .tick-record .ensures .0), r .tick-record .ensures .1))
+    (λ c. let r = c .before .before .before .before .before .before .before .before .before in
+    tries-steps (c .stepped4 .ensures) (step-of 5 (r .before .before .before .before .before .if4 .taken) refl) (r .tick-record .ensures))  -- returns-4
     (λ c κs. search needs)  -- no-step-requires
     -- returns-5
     (λ c.

@@ -20,9 +20,9 @@ dirty-lines-spec =
     (λ c. search needs)  -- mul-n
     (λ c. let a = c .before .before .before .before .args in counted-start (dirtyLine (a .s) (a .longs .now) (a .words .now) (a .marks .now)) _)  -- loop-holds
     (λ c κs. search needs)  -- dirty-requires
-    (λ c. omega arith)  -- add-count
-    (λ c. omega arith)  -- add-l
-    (λ c. omega arith)  -- loop-less
+    (λ c. search needs)  -- add-count
+    (λ c. search needs)  -- add-l
+    (λ c. search needs)  -- loop-less
     -- loop-again
     (λ c. let loop = c .before .before .before .loop in
     let below = c .before .before .loop-test .taken in

@@ -17,18 +17,9 @@ line-fine-spec =
     (λ c. search needs)  -- add-cycle
     (λ c. search needs)  -- mul-cycle
     (λ c. search needs)  -- shared-slice-read-cycle
-    -- add-taken
-    (λ c.
-    let pre = c .before .before .before .before .before .before .pre in
-    omega (arith, taken-room (pre .0) (pre .1) _ (pre .2)))
-    -- mul-taken
-    (λ c.
-    let pre = c .before .before .before .before .before .before .pre in
-    omega (arith, taken-room (pre .0) (pre .1) _ (pre .2)))
-    -- shared-slice-read-taken
-    (λ c.
-    let pre = c .before .before .before .before .before .before .before .pre in
-    taken-room (pre .0) (pre .1) _ (pre .2) .inside)
+    (λ c. let pre = c .before .before .before .before .before .before .pre in omega (arith, taken-room (pre .0) (pre .1) _ (pre .2)))  -- add-taken
+    (λ c. let pre = c .before .before .before .before .before .before .pre in omega (arith, taken-room (pre .0) (pre .1) _ (pre .2)))  -- mul-taken
+    (λ c. let pre = c .before .before .before .before .before .before .before .pre in taken-room (pre .0) (pre .1) _ (pre .2) .inside)  -- shared-slice-read-taken
     (λ c. search needs)  -- shared-slice-read-latest
     (λ c κs. search needs)  -- live-requires
     -- returns

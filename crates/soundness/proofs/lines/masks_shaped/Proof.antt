@@ -1,6 +1,5 @@
 -- The mask of each sector passed.
 use mathlib.Core.Path.{refl, _∙_}
-use native.Mathlib.Omega.{arith}
 use borrow.Author.Needs.{needs}
 use Prim.Native.Nat.{_-_}
 use Rattle.soundness.proofs.Tests.{Joined, joined-more, joined-end}
@@ -18,16 +17,16 @@ pub masks-shaped-spec : {M : Type 1} → statement M
 masks-shaped-spec =
     tie.close
     (tie.spec Inv-loop μ-loop
-    (λ c. omega arith)  -- mul-n
-    (λ c. omega arith)  -- mul-n-2
-    (λ c. (omega arith, refl))  -- loop-holds
+    (λ c. search needs)  -- mul-n
+    (λ c. search needs)  -- mul-n-2
+    (λ c. search needs)  -- loop-holds
     (λ c. search needs)  -- shared-slice-read-status
     (λ c. search needs)  -- add-readable
     (λ c. search needs)  -- shared-slice-read-readable
     (λ c. search needs)  -- add-mask
     (λ c. search needs)  -- mul-mask
     (λ c. search needs)  -- shared-slice-read-mask
-    (λ c. omega arith)  -- add-i
-    (λ c. omega arith)  -- loop-less
+    (λ c. search needs)  -- add-i
+    (λ c. search needs)  -- loop-less
     (λ c. let body = c .before .before .before .before .before in joined-more _ _ _ (body .loop-test .taken) refl (body .before .loop .inv))  -- loop-again
     (λ c. let start = c .before .before .before in joined-end _ _ _ (c .loop-test .left) (c .before .loop .inv) ∙ rw (start .pre .0 .readables, start .pre .0 .masks)))  -- returns

@@ -1,7 +1,6 @@
 use mathlib.Core.Path.{refl, sym, _∙_}
 use mathlib.Core.Bool.{false}
 use mathlib.Core.Logic.{⊎-elim}
-use native.Mathlib.Omega.{arith}
 use borrow.Author.Needs.{needs}
 use borrow.Author.Tests.{eq-eqb, ne-eqb}
 use Prim.Native.Nat.{_-_, _+_}
@@ -23,7 +22,7 @@ no-twin-spec =
     tie.close
     (tie.spec Inv-loop μ-loop
     (λ c. search needs)  -- sub-n
-    (λ c. (omega arith, refl))  -- loop-holds
+    (λ c. search needs)  -- loop-holds
     (λ c. search needs)  -- add-m
     (λ c. search needs)  -- mul-if1
     (λ c. search needs)  -- shared-slice-read-if1
@@ -37,8 +36,8 @@ no-twin-spec =
     let loop = body .before in
     let a = loop .before .before .before .before .args in
     fault-stop _ _ _ (body .loop-test .taken) (not-twin (a .s) (a .longs .now) (a .words .now) (a .marks .now) (a .l) (a .first + loop .loop .w) (c .before .live .ensures)) (and-i (c .if2 .taken) (eq-eqb _ _ (asked .if1 .taken))))
-    (λ c. omega arith)  -- add-w
-    (λ c. omega arith)  -- loop-less
+    (λ c. search needs)  -- add-w
+    (λ c. search needs)  -- loop-less
     -- loop-again
     (λ c.
     let body = c .before .before .before in

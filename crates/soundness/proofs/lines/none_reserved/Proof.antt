@@ -1,6 +1,5 @@
 use mathlib.Core.Path.{refl}
 use mathlib.Core.Bool.{not}
-use native.Mathlib.Omega.{arith}
 use borrow.Author.Needs.{needs}
 use lib.Dec.{eqb}
 use Prim.Native.Nat.{_+_, _-_}
@@ -19,10 +18,10 @@ pub none-reserved-spec : {M : Type 1} → statement M
 none-reserved-spec =
     tie.close
     (tie.spec Inv-loop μ-loop
-    (λ c. (omega arith, refl))  -- loop-holds
+    (λ c. search needs)  -- loop-holds
     (λ c. search needs)  -- add-none
     (λ c. search needs)  -- shared-slice-read-none
-    (λ c. omega arith)  -- add-i
-    (λ c. omega arith)  -- loop-less
+    (λ c. search needs)  -- add-i
+    (λ c. search needs)  -- loop-less
     (λ c. joined-more _ _ _ (c .before .loop-test .taken) refl (c .before .before .loop .inv))  -- loop-again
     (λ c. joined-end _ _ _ (c .loop-test .left) (c .before .loop .inv)))  -- returns

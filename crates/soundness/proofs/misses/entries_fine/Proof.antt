@@ -1,5 +1,3 @@
-use mathlib.Core.Path.{refl}
-use native.Mathlib.Omega.{arith}
 use borrow.Author.Needs.{needs}
 use Prim.Native.Nat.{_-_}
 use Rattle.model.specs.SoundLent as is
@@ -17,10 +15,10 @@ pub entries-fine-spec : {M : Type 1} → statement M
 entries-fine-spec =
     tie.close
     (tie.spec Inv-loop μ-loop
-    (λ c. (omega arith, refl))  -- loop-holds
+    (λ c. search needs)  -- loop-holds
     (λ c κs. search needs)  -- entry-fine-requires
     (λ c. passed-stop _ _ _ (c .before .before .loop-test .taken) (c .before .entry-fine .ensures) (c .if1 .taken))  -- returns
-    (λ c. omega arith)  -- add-e
-    (λ c. omega arith)  -- loop-less
+    (λ c. search needs)  -- add-e
+    (λ c. search needs)  -- loop-less
     (λ c. passed-more _ _ _ (c .before .before .loop-test .taken) (c .before .entry-fine .ensures) (c .if1 .left) (c .before .before .before .loop .inv))  -- loop-again
     (λ c. passed-end _ _ _ (c .loop-test .left) (c .before .loop .inv)))  -- returns-2

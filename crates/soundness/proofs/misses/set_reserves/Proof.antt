@@ -1,14 +1,12 @@
 -- The lines of the set of the address, one after another.
-use mathlib.Core.Path.{refl, ap, _∙_}
+use mathlib.Core.Path.{refl, _∙_}
 use native.Mathlib.Omega.{arith}
 use borrow.Author.Needs.{needs}
 use mathlib.Core.Bool.{_&&_}
-use Prim.Native.Nat.{ℕ, _-_, _+_, _*_, _≤_, _<_}
+use Prim.Native.Nat.{_-_, _+_, _*_, _≤_, _<_}
 use lib.Dec.{eqb}
 use lib.ListN.{length}
-use Rattle.words.specs.Words.{some}
 use Rattle.model.specs.Lent.{tagAt, statusAt}
-use Rattle.model.specs.SoundLent.{reservedFor}
 use Rattle.words.proofs.Below.{Sought, sought-stop, sought-more, sought-end}
 use Rattle.encoding.proofs.Rows.{set-room}
 use Rattle.soundness.proofs.OfMisses.{set-asked}
@@ -49,15 +47,13 @@ set-reserves-spec =
     let set = loop .before .before .before in
     let a = set .before .before .before .before .before .before .args in
     sought-stop _ _ _ (loop .loop-test .taken) refl (c .if1 .taken)
-    ∙ set-asked (a .s) (a .longs .now) (a .words .now) (a .marks .now) (a .a .0) (set .set-index .result * a .s .ways) (a .s .ways) _ _ (set .before .before .block-of .ensures) (set .before .sector-index .ensures .0)
-    ∙ ap (λ (k : ℕ). some (a .s .ways) (λ w. reservedFor (a .s) (a .longs .now) (a .words .now) (a .marks .now) (a .a .0) (k * a .s .ways + w))) (set .set-index .ensures))
-    (λ c. omega arith)  -- add-w
-    (λ c. omega arith)  -- loop-less
+    ∙ set-asked (a .s) (a .longs .now) (a .words .now) (a .marks .now) (a .a .0) _ _ _ (set .before .before .block-of .ensures) (set .before .sector-index .ensures .0) (set .set-index .ensures))
+    (λ c. search needs)  -- add-w
+    (λ c. search needs)  -- loop-less
     (λ c. let loop = c .before .before .before .before in let inv = loop .before .loop .inv in (inv .0, inv .1, inv .2, sought-more _ _ _ (loop .loop-test .taken) refl (c .if1 .left) (inv .3)))  -- loop-again
     -- returns-2
     (λ c.
     let set = c .before .before .before in
     let a = set .before .before .before .before .before .before .args in
     sought-end _ _ _ (c .loop-test .left) (c .before .loop .inv .3)
-    ∙ set-asked (a .s) (a .longs .now) (a .words .now) (a .marks .now) (a .a .0) (set .set-index .result * a .s .ways) (a .s .ways) _ _ (set .before .before .block-of .ensures) (set .before .sector-index .ensures .0)
-    ∙ ap (λ (k : ℕ). some (a .s .ways) (λ w. reservedFor (a .s) (a .longs .now) (a .words .now) (a .marks .now) (a .a .0) (k * a .s .ways + w))) (set .set-index .ensures)))
+    ∙ set-asked (a .s) (a .longs .now) (a .words .now) (a .marks .now) (a .a .0) _ _ _ (set .before .before .block-of .ensures) (set .before .sector-index .ensures .0) (set .set-index .ensures)))

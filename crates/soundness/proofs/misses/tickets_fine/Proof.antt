@@ -1,5 +1,4 @@
 -- Past the tickets of its entry each place so far is 0.
-use mathlib.Core.Path.{refl}
 use native.Mathlib.Omega.{arith}
 use borrow.Author.Needs.{needs}
 use Prim.Native.Nat.{_+_, _-_, _*_, _/_}
@@ -20,7 +19,7 @@ tickets-fine-spec =
     tie.close
     (tie.spec Inv-loop μ-loop
     (λ c. search needs)  -- mul-n
-    (λ c. (omega arith, refl))  -- loop-holds
+    (λ c. search needs)  -- loop-holds
     (λ c. search needs)  -- div-count
     (λ c. let body = c .before .before in let start = body .before .before .before in omega (arith, entry-below (start .args .s) (body .before .loop .i) (start .pre .1 .reader) (body .loop-test .taken)))  -- add-count
     (λ c. let body = c .before .before .before in let start = body .before .before .before in omega (arith, entry-below (start .args .s) (body .before .loop .i) (start .pre .1 .reader) (body .loop-test .taken)))  -- shared-slice-read-count
@@ -35,8 +34,8 @@ tickets-fine-spec =
     let start = body .before .before .before in
     let a = start .args in
     fault-stop _ _ _ (body .loop-test .taken) (ticket-kept (a .s) (a .longs .now) (a .words .now) (a .marks .now) (start .pre .0) (body .before .loop .i)) (c .if1 .taken))
-    (λ c. omega arith)  -- add-i
-    (λ c. omega arith)  -- loop-less
+    (λ c. search needs)  -- add-i
+    (λ c. search needs)  -- loop-less
     -- loop-again
     (λ c.
     let body = c .before .before .before .before .before .before .before in

@@ -1,10 +1,14 @@
 -- By its kind.
 use native.Mathlib.Omega.{arith}
 use borrow.Author.Needs.{needs}
-use Rattle.layout.proofs.ByPlace.{queued-read, kind-read}
-use Rattle.soundness.proofs.OfQueue.{unused-place, read-place, back-place, no-kind}
+use Rattle.soundness.proofs.OfQueue.{PlaceAnswers, place-answers}
 use Rattle.soundness.proofs.queue.place_fine.Statement.{statement}
 use Rattle.soundness.proofs.queue.place_fine.Tie as tie
+
+-- where its kind is read
+place : (c : tie.After-shared-slice-known9) → let s = c .before .before .before .before .before .before .before .before .before .before .before .before .before .before .before in
+    let a = s .args in PlaceAnswers (a .s) (s .pre .0) (a .longs .now) (a .words .now) (a .marks .now) (a .p)
+place c = place-answers _ _ _ _ _ _
 
 pub place-fine-spec : {M : Type 1} → statement M
 place-fine-spec =
@@ -35,23 +39,7 @@ place-fine-spec =
     (λ c. let start = c .before .before .before .before .before .before .before .before .before .before .before .before .before .before in let at = start .pre .0 in let fit = start .pre .1 in omega arith)  -- add-kind
     (λ c. let start = c .before .before .before .before .before .before .before .before .before .before .before .before .before .before .before in let at = start .pre .0 in let fit = start .pre .1 in omega arith)  -- shared-slice-read-kind
     (λ c κs. let pre = c .before .before .before .before .before .before .before .before .before .before .before .before .before .before .before .before .pre in (pre .0, pre .1))  -- has-unsent-requires
-    -- returns
-    (λ c.
-    let start = c .before .before .before .before .before .before .before .before .before .before .before .before .before .before .before .before in
-    let a = start .args in
-    unused-place (a .s) (start .pre .0) (a .longs .now) (a .words .now) (a .marks .now) (a .p) _ _ (queued-read (a .s) (start .pre .0) (a .longs .now) (a .p)) (kind-read (a .s) (start .pre .0) (a .marks .now) (a .p)) (c .match .keys1))
-    -- returns-2
-    (λ c.
-    let start = c .before .before .before .before .before .before .before .before .before .before .before .before .before .before .before .before .before in
-    let a = start .args in
-    read-place (a .s) (start .pre .0) (a .longs .now) (a .words .now) (a .marks .now) (a .p) _ _ (queued-read (a .s) (start .pre .0) (a .longs .now) (a .p)) (kind-read (a .s) (start .pre .0) (a .marks .now) (a .p)) (c .before .match .keys2) (c .has-unsent .ensures))
-    -- returns-3
-    (λ c.
-    let start = c .before .before .before .before .before .before .before .before .before .before .before .before .before .before .before .before in
-    let a = start .args in
-    back-place (a .s) (start .pre .0) (a .longs .now) (a .words .now) (a .marks .now) (a .p) _ _ (queued-read (a .s) (start .pre .0) (a .longs .now) (a .p)) (kind-read (a .s) (start .pre .0) (a .marks .now) (a .p)) (c .match .keys3))
-    -- returns-4
-    (λ c.
-    let start = c .before .before .before .before .before .before .before .before .before .before .before .before .before .before .before .before in
-    let a = start .args in
-    no-kind (a .s) (start .pre .0) (a .longs .now) (a .words .now) (a .marks .now) (a .p) _ _ (queued-read (a .s) (start .pre .0) (a .longs .now) (a .p)) (kind-read (a .s) (start .pre .0) (a .marks .now) (a .p)) (c .match .rest .0 .0 .1) (c .match .rest .0 .1) (c .match .rest .1)))
+    (λ c. place (c .before) .unused (c .match .keys1))  -- returns
+    (λ c. place (c .before .before) .reads (c .before .match .keys2) (c .has-unsent .ensures))  -- returns-2
+    (λ c. place (c .before) .writes (c .match .keys3))  -- returns-3
+    (λ c. let r = c .match .rest in place (c .before) .unknown (r .0 .0 .1) (r .0 .1) (r .1)))  -- returns-4

@@ -1,8 +1,7 @@
 -- No entry passed has the address.
-use mathlib.Core.Path.{_≡_, refl, _∙_}
-use mathlib.Core.Bool.{true, false, and-false}
+use mathlib.Core.Path.{refl, _∙_}
+use mathlib.Core.Bool.{and-false}
 use mathlib.Core.Logic.{⊎-elim}
-use native.Mathlib.Omega.{arith}
 use borrow.Author.Needs.{needs}
 use borrow.Author.Tests.{eq-eqb, ne-eqb}
 use Prim.Native.Nat.{_-_}
@@ -21,7 +20,7 @@ pub has-entry-spec : {M : Type 1} → statement M
 has-entry-spec =
     tie.close
     (tie.spec Inv-loop μ-loop
-    (λ c. (omega arith, refl))  -- loop-holds
+    (λ c. search needs)  -- loop-holds
     (λ c. search needs)  -- add-if1
     (λ c. search needs)  -- mul-if1
     (λ c. search needs)  -- shared-slice-read-if1
@@ -33,20 +32,15 @@ has-entry-spec =
     let body = asked .before .before .before .before in
     let start = body .before .before in
     let a = start .args in
-    let e = body .before .loop .e in
-    let yes : entryRead (a .at) (a .longs .now) (a .marks .now) (a .a .0) e ≡ true = rw (ne-eqb _ _ (c .if2 .taken), eq-eqb _ _ (asked .if1 .taken)) in
-    sought-stop (entryRead (a .at) (a .longs .now) (a .marks .now) (a .a .0)) _ _ (body .loop-test .taken) refl yes ∙ rw (start .pre .0 .counts, start .pre .0 .misses))
-    (λ c. omega arith)  -- add-e
-    (λ c. omega arith)  -- loop-less
+    sought-stop (entryRead (a .at) (a .longs .now) (a .marks .now) (a .a .0)) _ _ (body .loop-test .taken) refl (rw (ne-eqb _ _ (c .if2 .taken), eq-eqb _ _ (asked .if1 .taken)))
+    ∙ rw (start .pre .0 .counts, start .pre .0 .misses))
+    (λ c. search needs)  -- add-e
+    (λ c. search needs)  -- loop-less
     -- loop-again
     (λ c.
     let body = c .before .before .before .before in
     let a = body .before .before .args in
-    let e = body .before .loop .e in
-    let no : entryRead (a .at) (a .longs .now) (a .marks .now) (a .a .0) e ≡ false =
-    ⊎-elim (λ w. rw (eq-eqb _ _ (w .3 .left))) (λ w. rw (ne-eqb _ _ (w .left), and-false)) (c .if1 .came) in
-    sought-more _ _ _ (body .loop-test .taken) refl no (body .before .loop .inv))
-    -- returns-2
-    (λ c.
-    let start = c .before .before in
-    sought-end _ _ _ (c .loop-test .left) (c .before .loop .inv) ∙ rw (start .pre .0 .counts, start .pre .0 .misses)))
+    sought-more (entryRead (a .at) (a .longs .now) (a .marks .now) (a .a .0)) _ _ (body .loop-test .taken) refl
+    (⊎-elim (λ w. rw (eq-eqb _ _ (w .3 .left))) (λ w. rw (ne-eqb _ _ (w .left), and-false)) (c .if1 .came))
+    (body .before .loop .inv))
+    (λ c. let at = c .before .before .pre .0 in sought-end _ _ _ (c .loop-test .left) (c .before .loop .inv) ∙ rw (at .counts, at .misses)))  -- returns-2

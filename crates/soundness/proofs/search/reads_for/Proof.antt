@@ -1,13 +1,12 @@
 -- So many places passed have a read of the address.
-use mathlib.Core.Path.{_≡_, refl, _∙_}
-use mathlib.Core.Bool.{true, false, and-false}
+use mathlib.Core.Path.{refl, _∙_}
+use mathlib.Core.Bool.{and-false}
 use mathlib.Core.Logic.{⊎-elim}
-use native.Mathlib.Omega.{arith}
 use borrow.Author.Needs.{needs}
 use borrow.Author.Tests.{eq-eqb, ne-eqb}
 use Prim.Native.Nat.{_-_}
 use Rattle.words.proofs.Below.{Counted, counted-yes, counted-no, counted-end}
-use Rattle.soundness.proofs.OfSearch.{readRead, read-counted, read-queued}
+use Rattle.soundness.proofs.OfSearch.{readRead, read-queued}
 use Rattle.soundness.proofs.search.reads_for.Statement.{statement}
 use Rattle.soundness.proofs.search.reads_for.Tie as tie
 
@@ -21,37 +20,31 @@ pub reads-for-spec : {M : Type 1} → statement M
 reads-for-spec =
     tie.close
     (tie.spec Inv-loop μ-loop
-    (λ c. (omega arith, refl, omega arith))  -- loop-holds
+    (λ c. search needs)  -- loop-holds
     (λ c. search needs)  -- add-if1
     (λ c. search needs)  -- mul-if1
     (λ c. search needs)  -- shared-slice-read-if1
     (λ c. search needs)  -- add-if2
     (λ c. search needs)  -- shared-slice-read-if2
-    (λ c. omega arith)  -- add-count
-    (λ c. omega arith)  -- add-p
-    (λ c. omega arith)  -- loop-less
+    (λ c. search needs)  -- add-count
+    (λ c. search needs)  -- add-p
+    (λ c. search needs)  -- loop-less
     -- loop-again
     (λ c.
     let body = c .before .before .before .before in
     let a = body .before .before .args in
-    let q = body .before .loop .p in
+    let p = readRead (a .at) (a .longs .now) (a .marks .now) (a .a .0) in
     let below = body .loop-test .taken in
     let inv = body .before .loop .inv in
     ⊎-elim
-    (λ w.
-    let yes : readRead (a .at) (a .longs .now) (a .marks .now) (a .a .0) q ≡ true = rw (eq-eqb _ _ (w .3 .taken), eq-eqb _ _ (w .0 .taken)) in
-    counted-yes _ _ _ _ _ below refl yes (w .4) inv)
+    (λ w. counted-yes p _ _ _ _ below refl (rw (eq-eqb _ _ (w .3 .taken), eq-eqb _ _ (w .0 .taken))) (w .4) inv)
     (⊎-elim
-    (λ w.
-    let no : readRead (a .at) (a .longs .now) (a .marks .now) (a .a .0) q ≡ false = rw (ne-eqb _ _ (w .3 .left)) in
-    counted-no _ _ _ _ _ below refl no (w .4) inv)
-    (λ w.
-    let no : readRead (a .at) (a .longs .now) (a .marks .now) (a .a .0) q ≡ false = rw (ne-eqb _ _ (w .0 .left), and-false) in
-    counted-no _ _ _ _ _ below refl no (w .1) inv))
+    (λ w. counted-no p _ _ _ _ below refl (rw (ne-eqb _ _ (w .3 .left))) (w .4) inv)
+    (λ w. counted-no p _ _ _ _ below refl (rw (ne-eqb _ _ (w .0 .left), and-false)) (w .1) inv))
     (c .if1 .came))
     -- returns
     (λ c.
     let start = c .before .before in
     let a = start .args in
-    counted-end _ _ _ _ (c .loop-test .left) (c .before .loop .inv) ∙ read-counted (a .s) (start .pre .0) (a .longs .now) (a .words .now) (a .marks .now) (a .a .0) (a .n)
-    ∙ read-queued (a .s) (start .pre .0) (a .longs .now) (a .words .now) (a .marks .now) (a .a .0) (a .n) (start .pre .2)))
+    counted-end _ _ _ _ (c .loop-test .left) (c .before .loop .inv) ∙ rw (start .pre .0 .kinds, start .pre .0 .queue)
+    (read-queued (a .s) (a .longs .now) (a .words .now) (a .marks .now) (a .a .0) (a .n) (start .pre .2))))

@@ -11,8 +11,4 @@ set-fine-spec =
     (λ c. let pre = c .before .pre in let room = tree-room (pre .0) (pre .1) _ (pre .3) in omega arith)  -- add-result
     (λ c. let pre = c .before .pre in let room = tree-room (pre .0) (pre .1) _ (pre .3) in omega arith)  -- mul-result
     (λ c. let pre = c .before .before .pre in tree-room (pre .0) (pre .1) _ (pre .3) .inside)  -- shared-slice-read-result
-    -- returns
-    (λ c.
-    let start = c .before .before in
-    let a = start .args in
-    rw (tree-is (start .pre .0) (a .words .now) (a .i), start .pre .2) (below-limit (a .s) _)))
+    (λ c. let s = c .before .before in rw (tree-is (s .pre .0) (s .args .words .now) (s .args .i), s .pre .2) (below-limit (s .args .s) _)))  -- returns

@@ -3,7 +3,7 @@ use borrow.Author.Needs.{needs}
 use mathlib.Core.Path.{sym, _∙_}
 use native.Mathlib.Omega.{arith}
 use lib.Seq.{length-take-le}
-use Rattle.streaming.proofs.Turns.{reads-next, runs-next, ran-turned, read-turned}
+use Rattle.streaming.proofs.Turns.{next-by, ran-turned, read-turned}
 use Rattle.streaming.proofs.parts.turn.Statement.{statement}
 use Rattle.streaming.proofs.parts.turn.Tie as tie
 
@@ -20,7 +20,7 @@ turn-spec =
     let p = c .before .before in
     let t = p .before .before in
     let a = t .before .before .before .before .before .before .before in
-    read-turned (a .pre .0 .1) (reads-next (a .args .w .next) (sym (t .before .reads .ensures) ∙ t .if1 .taken)) (p .read-part .kept .1 .0) _ (p .read-part .ensures))
+    read-turned (a .pre .0 .1) (next-by _ (a .pre .1 .0) .0 (sym (t .before .reads .ensures) ∙ t .if1 .taken)) (p .read-part .kept .1 .0) _ (p .read-part .ensures))
     (λ c. search needs)  -- same-length-2
     (λ c. search needs)  -- same-length-3
     (λ c. search needs)  -- same-length-4
@@ -33,4 +33,4 @@ turn-spec =
     let a = t .before .before .before .before .before .before .before in
     let y = a .pre .0 .1 in
     ran-turned (p .run-part .ensures) (y .held) (a .pre .1 .1) (omega (arith, y .roomy, p .run-part .kept .1 .1 .0)) (length-take-le _ _ (y .inside)) (y .counted)
-    (runs-next (a .args .w .next) (sym (t .before .reads .ensures) ∙ t .if1 .left) (a .pre .1 .0))))
+    (next-by _ (a .pre .1 .0) .1 (sym (t .before .reads .ensures) ∙ t .if1 .left))))
