@@ -1,5 +1,5 @@
-// The stream runner as C sees it (include/labintugmo.h), in an archive of its own: each step is called at one place there, so that the
-// compiler takes it into the run.
+// The stream runner as C sees it (include/labintugmo.h), compiled by itself: each step is called at one place then, so that the compiler
+// takes it into the run.
 use model::Ran;
 ghost use mathlib.Core.Path.{_≡_};
 ghost use mathlib.Core.List.{[], _∷_};

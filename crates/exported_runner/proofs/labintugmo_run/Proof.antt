@@ -16,8 +16,4 @@ labintugmo-run-spec =
     (λ c. search needs)  -- same-length-3
     (λ c. search needs)  -- same-length-4
     (λ c. search needs)  -- same-length-5
-    -- returns-2
-    (λ c.
-    let n = c .before .before in
-    let r = n .before .before .before .before .before .before .before .before .before .before in
-    run-made _ _ _ _ (r .before .before .before .before .before .if1 .left) (r .run .ensures) (n .note-run .ensures)))
+    (λ c. search run-made))  -- returns-2
