@@ -1,6 +1,8 @@
 // An access on sound tables: decided by reading alone, then written. In order: `asked` (the access and its answer), `sector` (what
 // it leaves in its line's sectors), `plan` (refusals 7, 8 and 9, or what becomes of the miss table), `writes` (the writes, and what
 // it tells); here refusals 4, 5 and 6, the ways that a read and a write go, and the whole step.
+#![tactic(auto)]
+
 mod asked;
 mod plan;
 mod sector;

@@ -14,7 +14,7 @@ use model::{Access, Answer, Refusal, SectorAddress, Settings};
 use probe::Decision;
 
 // What becomes of the miss table: a refusal, nothing, a ticket that joins an entry with so many, or a new entry behind so many.
-#[derive(Drop)]
+#[derive(Clone, Copy)]
 pub enum MissPlan {
     Refused(Refusal),
     Stays,

@@ -2,6 +2,8 @@
 // output. A bad line is refused on standard error, with its number and what was expected. A stream of which something could
 // not be read or assembled ends in an unknown kind, at which the runner stops, so that no part of a text runs as if it were
 // all.
+#![tactic(auto)]
+
 mod says;
 
 ghost use Rattle.std.specs.Prelude.{◌≡◌, ◌≤◌, false};
@@ -23,7 +25,7 @@ const COMMENT: u8 = 35;
 // Where the work stands: the bytes of text that wait at the front of their buffer, the number of the line that they begin,
 // the bytes of the stream that wait to be written, the bytes of text that may still come, whether to go on, whether all so
 // far was assembled, whether writing failed.
-#[derive(Drop)]
+#[derive(Clone, Copy)]
 struct Work {
     have: usize,
     line: u64,

@@ -1,4 +1,6 @@
 // One line of the assembler's language to a command: words and numbers in order.
+#![tactic(auto)]
+
 ghost use Rattle.std.specs.Prelude.{◌≡◌, ◌<◌, length, get_or};
 ghost use Rattle.text.specs.Words.{word_at};
 ghost use Rattle.assembly.specs.Language.{number_next, field_next, rule_next, ends_at, whole_line, settings_by, rule_behind, forms, form_from, parse_line};
@@ -10,7 +12,7 @@ use text::Parsed;
 use text::rules::Named;
 
 // What a bad line lacks at the first place that is wrong.
-#[derive(Drop)]
+#[derive(Clone, Copy)]
 pub enum Expected {
     Command,
     Sets,
@@ -28,7 +30,7 @@ pub enum Expected {
 }
 
 // What a line comes to.
-#[derive(Drop)]
+#[derive(Clone, Copy)]
 pub enum Line {
     Command(Command),
     Empty,
@@ -36,7 +38,7 @@ pub enum Line {
 }
 
 // What a line made of the bytes of a stream: the place behind them now, no room for its command, or what it lacks.
-#[derive(Drop)]
+#[derive(Clone, Copy)]
 pub enum Assembled {
     Next(usize),
     NoRoom,
@@ -44,14 +46,14 @@ pub enum Assembled {
 }
 
 // A number of a line and the place behind it.
-#[derive(Drop)]
+#[derive(Clone, Copy)]
 enum Field {
     Got { value: u64, next: usize },
     Missing,
 }
 
 // A part of a line: its word, with spaces behind it, its largest number, and what a line without it lacks.
-#[derive(Drop)]
+#[derive(Clone, Copy)]
 struct Row([u8; 8], u64, Expected);
 
 const ROWS: [Row; 12] = [
@@ -70,7 +72,7 @@ const ROWS: [Row; 12] = [
 ];
 
 // A command: its word, and which rows are its parts: the first, and how many.
-#[derive(Drop)]
+#[derive(Clone, Copy)]
 struct Form([u8; 8], usize, usize);
 
 const FORMS: [Form; 6] = [

@@ -1,5 +1,7 @@
 // The bill of an event log, from standard input or the file that the first argument names: what a designer of the memory bus
 // reads first. A log that is damaged, or that cannot be read to its end, is billed up to there, and the last line says so.
+#![tactic(auto)]
+
 mod damage;
 mod summary;
 
@@ -12,7 +14,7 @@ use libc::STDOUT_FILENO;
 
 // The bytes that wait at the front of the buffer, the bytes billed before them, the bytes that may still come, whether to go
 // on, whether reading failed.
-#[derive(Drop)]
+#[derive(Clone, Copy)]
 struct Work {
     have: usize,
     place: u64,
@@ -22,7 +24,7 @@ struct Work {
 }
 
 // Where the work stands, with the bill so far.
-#[derive(Drop)]
+#[derive(Clone, Copy)]
 struct Account {
     work: Work,
     bill: Bill,

@@ -1,4 +1,6 @@
 // What a log of events adds up to: a sum at each place of a bill, checked, and the bill of a log up to where it is damaged.
+#![tactic(auto)]
+
 ghost use Rattle.std.specs.Prelude.{◌≡◌, ◌<◌, get_or};
 ghost use Rattle.billing.specs.Dues.{one_and, dues_of};
 ghost use Rattle.billing.specs.Dues.{due_once};
@@ -32,14 +34,14 @@ pub const RELEASED: usize = 25;
 pub const TICKS: usize = 26;
 
 // The sums, and whether one more would have passed 64 bits: they then stand as before that event.
-#[derive(Drop)]
+#[derive(Clone, Copy)]
 pub struct Bill {
     pub counts: [u64; 27],
     pub full: bool,
 }
 
 // What an event adds: 1 at a place, and `also` at another.
-#[derive(Drop)]
+#[derive(Clone, Copy)]
 pub struct Dues {
     pub place: usize,
     pub other: usize,
@@ -47,7 +49,7 @@ pub struct Dues {
 }
 
 // A part of a whole in tenths of a percent.
-#[derive(Drop)]
+#[derive(Clone, Copy)]
 pub enum Rate {
     Tenths(u64),
     OfNothing,
@@ -55,14 +57,14 @@ pub enum Rate {
 }
 
 // The bill of a log's events, and the first place where no whole event stands.
-#[derive(Drop)]
+#[derive(Clone, Copy)]
 pub struct Billed {
     pub bill: Bill,
     pub next: usize,
 }
 
 // The event at a place of a log and the place behind it.
-#[derive(Drop)]
+#[derive(Clone, Copy)]
 enum Step {
     Next { event: Event, next: usize },
     Stop,

@@ -1,5 +1,7 @@
 // The calls on lent tables (document 01), for any settings and any slices: making fresh tables, read and write, send, fill, tick, and
 // the check of refusals 1, 2 and 3 by itself. Each checks first and then does its step; a refusal leaves every slice as it was.
+#![tactic(auto)]
+
 ghost use Rattle.std.specs.Prelude.{◌≡◌};
 ghost use Rattle.model.specs.Lent.{lent};
 ghost use Rattle.model.specs.Calls.{fresh_call, check_call, verdict_of, call, access_call, send_call, fill_call, tick_call, Leaves};
@@ -14,7 +16,7 @@ use model::{Access, Refusal, Reply, Settings, Verdict};
 use soundness::LaidVerdict;
 
 // One call but the making of tables.
-#[derive(Drop)]
+#[derive(Clone, Copy)]
 pub enum Call {
     Offer(Access),
     Send,

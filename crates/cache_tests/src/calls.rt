@@ -5,7 +5,7 @@ use cache::Call;
 use model::{Access, Command, GivenRule, Settings};
 
 // The settings and the lengths that calls are made with; whether the next one's outcome is asked for.
-#[derive(Drop)]
+#[derive(Clone, Copy)]
 pub(crate) struct Bench {
     pub settings: Settings,
     pub longs: usize,
@@ -14,7 +14,7 @@ pub(crate) struct Bench {
     pub asked: bool,
 }
 
-#[derive(Drop)]
+#[derive(Clone, Copy)]
 pub(crate) enum Deed {
     Fresh,
     Check,

@@ -10,6 +10,8 @@
 //     fresh, check           these two calls
 //     masked ADDRESS MASK    a read with a mask
 //     dirty N                how many of the first N lines are dirty
+#![tactic(auto)]
+
 mod calls;
 mod outcomes;
 

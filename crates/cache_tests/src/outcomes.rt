@@ -2,7 +2,7 @@
 use model::{Answer, Event, QueueKind, Queued, Refusal, Reply, Verdict};
 
 // Where an outcome's text ends, and whether it is a refusal.
-#[derive(Drop)]
+#[derive(Clone, Copy)]
 pub(crate) struct Outcome {
     pub end: usize,
     pub refused: bool,

@@ -6,7 +6,7 @@ use comparing::{Checking, Fault};
 use input::{Ended, Filled};
 
 // The check so far, the bytes read, whether to go on, whether reading failed, which standard error then says.
-#[derive(Drop)]
+#[derive(Clone, Copy)]
 pub struct Check {
     pub checking: Checking,
     pub read: usize,
@@ -15,7 +15,7 @@ pub struct Check {
 }
 
 // A good log's bytes; a refused one's number and place; nothing of one that could not be read.
-#[derive(Drop)]
+#[derive(Clone, Copy)]
 pub enum Verdict {
     Good(usize),
     Refused { number: u8, place: usize },

@@ -11,7 +11,7 @@ use crate::{page, says, showing, turns};
 use comparing::{Side, Walk};
 
 // Descriptors of both logs, for the pairs and for the lines; the bytes that each log had when it was checked.
-#[derive(Drop)]
+#[derive(Clone, Copy)]
 pub struct Logs {
     pub a: i32,
     pub b: i32,
@@ -22,7 +22,7 @@ pub struct Logs {
 }
 
 // The reading for the pairs, the reading for the lines, whether to go on.
-#[derive(Drop)]
+#[derive(Clone, Copy)]
 struct Work {
     pass: Pass,
     shown: Shown,

@@ -1,6 +1,8 @@
 // Two event logs side by side: `compare FILE FILE`. Each log is checked whole, the first and then the second; then the groups are paired
 // by number, and each pair that differs is shown with both sides in words. What is listed is what the steps of `comparing` tell of the
 // bytes read. Logs may be of any length: they are read in parts, once for the check, once for the pairs, once for the pairs shown.
+#![tactic(auto)]
+
 mod checking;
 mod listing;
 mod page;

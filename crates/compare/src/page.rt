@@ -2,7 +2,7 @@
 use libc::STDOUT_FILENO;
 
 // The bytes that wait, and whether all before them were written: after a write that failed nothing more is written.
-#[derive(Drop)]
+#[derive(Clone, Copy)]
 pub struct Page {
     pub put: usize,
     pub good: bool,

@@ -7,7 +7,7 @@ use crate::says;
 use input::{Ended, Filled};
 
 // The place in the log of the buffer's first byte, where the bytes that wait begin and end in the buffer, whether the log ends there.
-#[derive(Drop)]
+#[derive(Clone, Copy)]
 pub struct Window {
     pub base: usize,
     pub at: usize,
@@ -17,7 +17,7 @@ pub struct Window {
 
 // What a turn met: the next records, by their lengths; a pair's end; more bytes, or that there are none; the end of both logs; a log
 // that cannot be read on.
-#[derive(Drop)]
+#[derive(Clone, Copy)]
 pub enum Met {
     Row {
         first: usize,
@@ -33,7 +33,7 @@ pub enum Met {
 }
 
 // A window with more bytes in it, or at its log's end; or one that cannot be read on, which standard error then says.
-#[derive(Drop)]
+#[derive(Clone, Copy)]
 pub struct Topped {
     pub window: Window,
     pub met: Met,

@@ -11,7 +11,7 @@ use comparing::Side;
 use records::Item;
 
 // The reading, the text that waits, whether to go on, whether the logs could be read on.
-#[derive(Drop)]
+#[derive(Clone, Copy)]
 pub struct Shown {
     pub pass: Pass,
     pub page: Page,

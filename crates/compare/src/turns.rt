@@ -7,14 +7,14 @@ use crate::reading::{Met, Window};
 use comparing::{Step, Walk};
 
 // Two logs through their buffers, and the walk over them.
-#[derive(Drop)]
+#[derive(Clone, Copy)]
 pub struct Pass {
     pub a: Window,
     pub b: Window,
     pub walk: Walk,
 }
 
-#[derive(Drop)]
+#[derive(Clone, Copy)]
 pub struct Turned {
     pub pass: Pass,
     pub met: Met,

@@ -1,6 +1,8 @@
 // Two logs side by side: the groups of a log, the refusals of one that cannot be read so, and the first pair of groups that differs
 // from a number on. In order: kinds, records, the check of a log, groups, bytes, pairs. Logs that come in parts, of any length: the
 // check in `checks`, the pairs in `walking`.
+#![tactic(auto)]
+
 pub mod checks;
 pub mod walking;
 
@@ -12,7 +14,7 @@ ghost use Rattle.comparing.specs.Groups.{record_past};
 ghost use Rattle.comparing.specs.Pairs.{same_bytes, at_start, found_pair, compared};
 
 // Log 1 or 2 refused by number, with the place; or the first pair that differs, with the place and the length of each side; or none.
-#[derive(Drop)]
+#[derive(Clone, Copy)]
 pub enum Compared {
     Refused {
         log: u8,
@@ -30,14 +32,14 @@ pub enum Compared {
 }
 
 // What is wrong with one log, and where.
-#[derive(Drop)]
+#[derive(Clone, Copy)]
 pub enum Fault {
     None,
     At { number: u8, place: usize },
 }
 
 // Where the groups of a number begin in both logs.
-#[derive(Drop)]
+#[derive(Clone, Copy)]
 pub struct Cursor {
     pub number: usize,
     pub first: usize,
@@ -46,7 +48,7 @@ pub struct Cursor {
 
 // The check of a log that comes in parts: the bytes passed; of its last record the place, how many bytes of the body are to come, and
 // whether its kind is no event's; whether the log begins inside a group.
-#[derive(Drop)]
+#[derive(Clone, Copy)]
 pub struct Checking {
     pub passed: usize,
     pub place: usize,
@@ -56,7 +58,7 @@ pub struct Checking {
 }
 
 // One side of the pair that is being passed: where its group begins, and the bytes of it that are passed.
-#[derive(Drop)]
+#[derive(Clone, Copy)]
 pub struct Side {
     pub place: usize,
     pub passed: usize,
@@ -64,7 +66,7 @@ pub struct Side {
 
 // Two logs that come in parts, passed record by record: the pair and its sides, whether they are the same so far; of the pairs before
 // it how many differ, and the lowest number among those, 0 where there is none.
-#[derive(Drop)]
+#[derive(Clone, Copy)]
 pub struct Walk {
     pub number: usize,
     pub first: Side,
@@ -75,7 +77,7 @@ pub struct Walk {
 }
 
 // What the bytes to come show of a group: the length of its next record, 0 where the group is over; or not yet.
-#[derive(Drop)]
+#[derive(Clone, Copy)]
 pub enum Ahead {
     Shows(usize),
     Wants,
@@ -83,7 +85,7 @@ pub enum Ahead {
 
 // The next step over two logs: a log has to show more bytes; the next record of each side, by its length (0 behind a group's end), and
 // whether the two are the same; the end of a pair, and whether it differs; the end of both logs.
-#[derive(Drop)]
+#[derive(Clone, Copy)]
 pub enum Step {
     WantsFirst,
     WantsSecond,
@@ -101,7 +103,7 @@ pub enum Step {
 }
 
 // An answer, and a cursor behind it to go on from.
-#[derive(Drop)]
+#[derive(Clone, Copy)]
 pub struct Found {
     pub answer: Compared,
     pub next: Cursor,

@@ -1,1 +1,2 @@
 // How the lent slices hold the tables: theorems and no code.
+#![tactic(auto)]

@@ -1,6 +1,8 @@
 // The calls as C sees them (include/labintugmo.h): numbers and slices alone, a slice as a pointer and a length. A call writes its event
 // records at the start of the caller's buffer and returns how many bytes they are. `demand3` has the rounds of demand 3, `unchecked` the
 // steps behind the calls' checks. The stream runner is in `exported_runner`.
+#![tactic(auto)]
+
 mod demand3;
 mod unchecked;
 

@@ -1,5 +1,7 @@
 // The stream runner as C sees it (include/labintugmo.h), compiled by itself: each step is called at one place then, so that the compiler
 // takes it into the run.
+#![tactic(auto)]
+
 ghost use Rattle.std.specs.Prelude.{◌≡◌, [], ◌∷◌, length};
 ghost use Rattle.model.specs.Lent.{lent};
 ghost use Rattle.model.specs.Numbers.{stop_number};

@@ -1,4 +1,6 @@
 // Where a program's bytes come from: standard input or the file that its first argument names, through a buffer.
+#![tactic(auto)]
+
 ghost use Rattle.std.specs.Prelude.{◌≡◌, ◌+◌, ◌<◌, ◌≤◌, length};
 ghost use Rattle.input.specs.Buffers.{Read, FewerToCome, Grown, moved_down, carried, carried_count};
 
@@ -6,13 +8,13 @@ use libc::{STDERR_FILENO, STDIN_FILENO};
 
 // The system's word that an input has ended, behind so many bytes of a buffer. The field is private: only `fill` makes such a
 // value, of a read that gave nothing, so that no other crate can claim an end that it was not told.
-#[derive(Drop)]
+#[derive(Clone, Copy)]
 pub struct Ended {
     behind: usize,
 }
 
 // How far the bytes of a buffer now go, or why there are no more.
-#[derive(Drop)]
+#[derive(Clone, Copy)]
 pub enum Filled {
     To(usize),
     End(Ended),
@@ -21,7 +23,7 @@ pub enum Filled {
 }
 
 // The same with a count of the bytes that may still come.
-#[derive(Drop)]
+#[derive(Clone, Copy)]
 pub enum More {
     To { have: usize, left: u64 },
     End(Ended),

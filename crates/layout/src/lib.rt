@@ -1,5 +1,7 @@
 // How settings shape the lent slices, below every check and step on them: here where each part begins; `ranges` refusals 1 and 2,
 // `places` which places of a table are in use, `sectors` a line's four sectors lifted and stored, `dirty` the count of dirty lines, `fresh` fresh tables.
+#![tactic(auto)]
+
 mod dirty;
 mod fresh;
 mod places;
@@ -20,7 +22,7 @@ pub use ranges::{
 pub use sectors::{lift, replace, sector_at, store, with_sector};
 
 // Where each part of the tables begins, behind the part before it.
-#[derive(Drop)]
+#[derive(Clone, Copy)]
 pub struct Layout {
     pub misses: usize,
     pub queue: usize,

@@ -1,4 +1,6 @@
 // What C lends as plain numbers: settings come as one slice, so that a later setting moves no signature.
+#![tactic(auto)]
+
 ghost use Rattle.std.specs.Prelude.{◌≡◌, get_or};
 ghost use Rattle.lending.specs.Lending.{settings_from};
 

@@ -1,9 +1,10 @@
 // The types of the cache model (document 01), with document 01's number for each case, and the constant table of answers.
 // Settings; sector status, sector and addresses; answers and refusals; an access; commands, events and the reading of
 // records; an entry of the queue; what a call tells and what a run returns.
+#![tactic(auto)]
 
 // "The modelled cache": the settings, any values; document 01's ranges are checked by number 1.
-#[derive(Drop)]
+#[derive(Clone, Copy)]
 pub struct Settings {
     pub sets: usize,
     pub ways: usize,
@@ -14,7 +15,7 @@ pub struct Settings {
     pub rule: usize,
 }
 
-#[derive(Drop)]
+#[derive(Clone, Copy)]
 pub enum Status {
     Invalid,
     Reserved,
@@ -22,7 +23,7 @@ pub enum Status {
     Modified,
 }
 
-#[derive(Drop)]
+#[derive(Clone, Copy)]
 pub struct Sector {
     pub status: Status,
     pub mask: u32,
@@ -30,14 +31,14 @@ pub struct Sector {
 }
 
 // A block address: what tags are compared with.
-#[derive(Drop)]
+#[derive(Clone, Copy)]
 pub struct BlockAddress(pub u64);
 
 // A sector address: what the miss table is searched for.
-#[derive(Drop)]
+#[derive(Clone, Copy)]
 pub struct SectorAddress(pub u64);
 
-#[derive(Drop)]
+#[derive(Clone, Copy)]
 pub enum Answer {
     Hit,
     HitReserved,
@@ -46,7 +47,7 @@ pub enum Answer {
 }
 
 // "Refusal numbers", in document 01's order: 1 to 12.
-#[derive(Drop)]
+#[derive(Clone, Copy)]
 pub enum Refusal {
     SettingOutOfRange,
     SliceLength,
@@ -63,7 +64,7 @@ pub enum Refusal {
 }
 
 // One access: a read wants mask 0, a write leaves its ticket unused.
-#[derive(Drop)]
+#[derive(Clone, Copy)]
 pub enum Access {
     Read {
         address: u64,
@@ -78,14 +79,14 @@ pub enum Access {
 }
 
 // A way of a set, if there is one.
-#[derive(Drop)]
+#[derive(Clone, Copy)]
 pub enum Found {
     At(usize),
     Nothing,
 }
 
 // "Records": the events. A write-back's four masks stand side by side, since an enum holds no array.
-#[derive(Drop)]
+#[derive(Clone, Copy)]
 pub enum Event {
     Answered {
         answer: Answer,
@@ -114,14 +115,14 @@ pub enum Event {
 }
 
 // The rule byte of a settings record; kind 0 has none, which means least recently used (L1).
-#[derive(Drop)]
+#[derive(Clone, Copy)]
 pub enum GivenRule {
     LeftOut,
     Byte(u8),
 }
 
 // The settings as a record gives them, unjudged.
-#[derive(Drop)]
+#[derive(Clone, Copy)]
 pub struct Given {
     pub sets: u16,
     pub ways: u8,
@@ -133,7 +134,7 @@ pub struct Given {
 }
 
 // "Records": the commands, unjudged.
-#[derive(Drop)]
+#[derive(Clone, Copy)]
 pub enum Command {
     Settings(Given),
     Read { address: u64, ticket: u32 },
@@ -144,14 +145,14 @@ pub enum Command {
 }
 
 // What a check by itself comes to.
-#[derive(Drop)]
+#[derive(Clone, Copy)]
 pub enum Verdict {
     Passed,
     Refused(Refusal),
 }
 
 // What reading a record finds: where its body lies and where the next record begins, or why it stops.
-#[derive(Drop)]
+#[derive(Clone, Copy)]
 pub enum Record {
     Whole {
         kind: u8,
@@ -163,7 +164,7 @@ pub enum Record {
 }
 
 // "Records", the stop numbers: nothing stops (0), 1, 2, 3, 13, 14, 15, 16.
-#[derive(Drop)]
+#[derive(Clone, Copy)]
 pub enum Stop {
     Nothing,
     SettingOutOfRange,
@@ -176,34 +177,34 @@ pub enum Stop {
 }
 
 // The event or the command of a body, if it is one.
-#[derive(Drop)]
+#[derive(Clone, Copy)]
 pub enum EventRead {
     Got(Event),
     None,
 }
 
-#[derive(Drop)]
+#[derive(Clone, Copy)]
 pub enum CommandRead {
     Got(Command),
     None,
 }
 
 // What a run of a stream returns: why it stopped, the bytes consumed before that and the bytes written.
-#[derive(Drop)]
+#[derive(Clone, Copy)]
 pub struct Ran {
     pub stop: Stop,
     pub consumed: usize,
     pub written: usize,
 }
 
-#[derive(Drop)]
+#[derive(Clone, Copy)]
 pub enum QueueKind {
     Read,
     WriteBack,
 }
 
 // An entry of the queue: a read of a sector address, its masks zero, or a write-back of a block address with its four masks.
-#[derive(Drop)]
+#[derive(Clone, Copy)]
 pub struct Queued {
     pub address: u64,
     pub masks: [u32; 4],
@@ -212,7 +213,7 @@ pub struct Queued {
 
 // What a call tells: its first event, then the first `queues` entries, which it queued, then the first `count` tickets, which it
 // released.
-#[derive(Drop)]
+#[derive(Clone, Copy)]
 pub struct Reply {
     pub first: Event,
     pub queued: [Queued; 2],

@@ -1,5 +1,7 @@
 // Lists every place where the published float percentage and the engine's rule answer differently, by lines, then dirty, then P,
 // rising: a heading, a line for each, and a last line that says how many there are and how many are at a legal cache's size.
+#![tactic(auto)]
+
 use libc::STDOUT_FILENO;
 use percentage::{Listed, Share};
 

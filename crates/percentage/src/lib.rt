@@ -1,5 +1,7 @@
 // The published dirty percentage, in 32-bit floats, beside the engine's whole-number rule (document 02, L11): the two answers,
 // the list of the places where they differ, and which sizes are a cache's.
+#![tactic(auto)]
+
 ghost use Rattle.std.specs.Prelude.{◌≡◌};
 ghost use Rattle.percentage.specs.Differences.{differ, Startable, Next, FindsNext, Lists};
 ghost use Rattle.percentage.specs.Percent.{float_meets, whole_meets, percent_in_range, PercentRanged, share_of, Legal};
@@ -7,7 +9,7 @@ ghost use Rattle.percentage.specs.Percent.{float_meets, whole_meets, percent_in_
 use model::Refusal;
 
 // The answer, or a refusal: P above 100, lines not from 1 to 1,024, or dirty above lines.
-#[derive(Drop)]
+#[derive(Clone, Copy)]
 pub enum Share {
     Meets(bool),
     Refused(Refusal),
@@ -70,14 +72,14 @@ pub fn whole_share(dirty: u32, lines: u32, percent: u32) -> Share
 }
 
 // Lines, dirty and P.
-#[derive(Drop)]
+#[derive(Clone, Copy)]
 pub struct Difference {
     pub lines: u32,
     pub dirty: u32,
     pub percent: u32,
 }
 
-#[derive(Drop)]
+#[derive(Clone, Copy)]
 pub enum Found {
     At(Difference),
     Nothing,
@@ -137,7 +139,7 @@ pub fn next_difference(dirty: u32, lines: u32, percent: u32) -> Found
     }
 }
 
-#[derive(Drop)]
+#[derive(Clone, Copy)]
 pub enum Listed {
     All(usize),
     Full,

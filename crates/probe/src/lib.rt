@@ -1,5 +1,7 @@
 // "Probe and victim": what an access meets in its set, read off the lent slices. Nothing is written here; another crate acts.
 // First whether a line is a candidate. Then the ways of a set: the match, the victim. Last the decision.
+#![tactic(auto)]
+
 ghost use Rattle.std.specs.Prelude.{◌≡◌, ℕ, ◌+◌, ◌*◌, ◌≤◌, ◌<◌, length, true};
 ghost use Rattle.words.specs.Words.{some};
 ghost use Rattle.model.specs.Range.{lines_of, is_tree};
@@ -23,7 +25,7 @@ const LATEST: u32 = 0xffff_ffff;
 const FIFO: usize = 1;
 
 // A way has the block; one is taken over; none can be: the set is busy, or held.
-#[derive(Drop)]
+#[derive(Clone, Copy)]
 pub enum Meeting {
     Met,
     Taken,
@@ -32,7 +34,7 @@ pub enum Meeting {
 }
 
 // What an access meets: the way and its line's number, the answer, and the write-back of the line that was there.
-#[derive(Drop)]
+#[derive(Clone, Copy)]
 pub struct Decision {
     pub meeting: Meeting,
     pub way: usize,

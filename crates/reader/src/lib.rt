@@ -1,20 +1,22 @@
 // The record reader (document 01, "Records") that holds the stream and its place together. Its steps are thin: each takes the struct
 // apart and calls a function on the plain stream and the number. The borrow checker covers no function over such a struct, so each
 // of them is proved by hand; `record_at`, `body_at` and `place_after` have plain parameters, and whoever calls them needs no walk.
+#![tactic(auto)]
+
 ghost use Rattle.std.specs.Prelude.{◌≡◌};
 ghost use Rattle.model.specs.Records.{read_at};
 ghost use Rattle.reader.specs.Taken.{behind, PartOf, Takes};
 
 use model::Record;
 
-#[derive(Drop)]
+#[derive(Clone, Copy)]
 pub struct Reader<'a> {
     pub stream: &'a [u8],
     pub at: usize,
 }
 
 // A record that was read: its kind and places, or why reading stops; and the part of the stream that holds its body.
-#[derive(Drop)]
+#[derive(Clone, Copy)]
 pub struct Taken<'a> {
     pub found: Record,
     pub body: &'a [u8],

@@ -1,6 +1,8 @@
 // What a refused access waits for, read off the lent slices: a miss entry that has to come back, dirty lines, queue places. Nothing is
 // written here. `reason_for` is public and asks nothing; `reason_held` is its part behind the checks, for a caller that holds sound
 // tables and their layout.
+#![tactic(auto)]
+
 ghost use Rattle.std.specs.Prelude.{◌≡◌, true, ◌+◌, ◌*◌, ◌≤◌, length};
 ghost use Rattle.model.specs.Range.{power_to256};
 ghost use Rattle.model.specs.Address.{address_of, set_index};
@@ -18,7 +20,7 @@ use soundness::LaidVerdict;
 // Entry: the miss entry that has to come back, its sector address, whether its read was sent, and its readers. Lines: how many more
 // dirty lines let the set go, how many of the lines are dirty, and the percentage asked. Queue: the head, as the event of its sending,
 // and the places that are free. Nothing: no wait helps. Refused: 1, 2 or 3, by which the tables tell nothing.
-#[derive(Drop)]
+#[derive(Clone, Copy)]
 pub enum Reason {
     Entry {
         address: u64,

@@ -1,6 +1,8 @@
 // "Records" of document 01: a byte of kind, then a body whose length the kind gives. In order: `format` (its numbers), `numbers` (little-endian numbers, read
 // and put), `reader` (records and items read out of a stream), `writer` (their bytes, put where there is room; the
 // four that are public ask for it), `masks` (the bytes that a write-back marks); here the public writers, which look for room first.
+#![tactic(auto)]
+
 mod format;
 mod masks;
 mod numbers;
@@ -24,7 +26,7 @@ pub use writer::{put_access, put_filled, put_sent, put_ticked};
 use writer::{command_size, event_size, put_command, put_event, put_reply, reply_size};
 
 // What stands at a place of a log or a stream: a command or an event, with the place behind it, or why there is neither.
-#[derive(Drop)]
+#[derive(Clone, Copy)]
 pub enum Item {
     Command { command: Command, next: usize },
     Event { event: Event, next: usize },

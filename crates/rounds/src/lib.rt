@@ -1,5 +1,7 @@
 // The rounds of demand 3 (document 01) as calls that ask nothing. `demand3` has the rounds and the struck rounds, made of the calls of
 // `cache`: demand 3 is said of them. Here: `wait`, which runs the rounds until an access is accepted, and says where waiting does not help.
+#![tactic(auto)]
+
 mod demand3;
 
 ghost use Rattle.std.specs.Prelude.{◌≡◌, true, ◌≤◌, length};
@@ -20,7 +22,7 @@ use soundness::LaidVerdict;
 
 // What waiting comes to. Accepted: the round, counted from 1, and the answer. Held: refused as 6 in the last round, and in every round
 // that could follow. Refused: 1 to 4, before the first round. NoRoom: fewer bytes of event room than any wait can need.
-#[derive(Drop)]
+#[derive(Clone, Copy)]
 pub enum Waiting {
     Accepted { round: usize, answer: Event },
     Held,
@@ -29,14 +31,14 @@ pub enum Waiting {
 }
 
 // The events of the rounds, without the refusals of their offers but the last, are the first `written` bytes of the event room.
-#[derive(Drop)]
+#[derive(Clone, Copy)]
 pub struct Waited {
     pub waiting: Waiting,
     pub written: usize,
 }
 
 // One offer: whether it was accepted, and the bytes of events up to and with it.
-#[derive(Drop)]
+#[derive(Clone, Copy)]
 pub struct Offer {
     pub taken: bool,
     pub written: usize,
@@ -44,7 +46,7 @@ pub struct Offer {
 
 // What running rounds comes to. Ran: how many, and the bytes of their events. Refused: 1 to 4, before the first round. NoRoom: fewer
 // flags than rounds, or fewer than a round's bytes of event room for each.
-#[derive(Drop)]
+#[derive(Clone, Copy)]
 pub enum Went {
     Ran { rounds: usize, written: usize },
     Refused(Refusal),

@@ -1,6 +1,8 @@
 // Demand 3 by the calls: on a busy set, on one that is held for ever, on one that is held at first, and on a full queue, the rounds and, on a
 // copy of the same tables, the struck rounds, fed the flags of the first. Both logs are printed, and whether all numbers of the tables
 // and all events but 0x11 agree.
+#![tactic(auto)]
+
 mod page;
 
 use libc::STDOUT_FILENO;

@@ -5,7 +5,7 @@ use rounds::Went;
 use wording::{commands, events, stops};
 
 // Where the text of a log stands: the place of the next event, the bytes of text.
-#[derive(Drop)]
+#[derive(Clone, Copy)]
 struct Shown {
     at: usize,
     put: usize,

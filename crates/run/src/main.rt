@@ -1,5 +1,7 @@
 // Runs a command stream of any length, from standard input or the file that the first argument names, part by part: its
 // events go to standard output, and one last line on standard error says why it stops and what was consumed and written.
+#![tactic(auto)]
+
 mod says;
 
 ghost use Rattle.std.specs.Prelude.{◌≡◌, ◌≤◌, length, take};

@@ -1,5 +1,7 @@
 // The stream runner (document 01, "Records"), which asks nothing of its caller: `run` runs a stream from its settings on, `resume` goes on
 // from kept tables and settings with the next part. What they are made of stands in `running`.
+#![tactic(auto)]
+
 ghost use Rattle.std.specs.Prelude.{◌≡◌, length};
 ghost use Rattle.model.specs.Lent.{lent};
 ghost use Rattle.model.specs.Runner.{run, resume, Runs};

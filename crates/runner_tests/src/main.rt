@@ -12,6 +12,8 @@
 //     run              runs the stream
 //     resume N         goes on with it as a part, on fresh tables of document 01's settings, lent with N for sets
 //     stale N          the same on the stale tables
+#![tactic(auto)]
+
 mod runs;
 
 use assembly::Assembled;

@@ -5,7 +5,7 @@ use libc::STDOUT_FILENO;
 use model::{Ran, Settings};
 
 // The bytes of the stream so far, the event room, and how many numbers of each slice are lent.
-#[derive(Drop)]
+#[derive(Clone, Copy)]
 pub(crate) struct Trial {
     pub len: usize,
     pub room: usize,
@@ -15,7 +15,7 @@ pub(crate) struct Trial {
 }
 
 // What a run left in the tables: what stood there, fresh tables of document 01's settings, or others.
-#[derive(Drop)]
+#[derive(Clone, Copy)]
 enum Left {
     Unchanged,
     Fresh,

@@ -2,6 +2,8 @@
 // known to be sound, the usual ones by `record`, and the first record. `begin` and `run_records` are the two halves of a run, for a caller
 // that holds the tables and their layout between them; `first_there`, `first_record` and `lengths_for` tell such a caller when to begin,
 // with what, and what to lend.
+#![tactic(auto)]
+
 mod record;
 
 ghost use Rattle.std.specs.Prelude.{◌≡◌, ◌+◌, ◌-◌, ◌≤◌};
@@ -22,21 +24,21 @@ use record::run_usual;
 const CUT_SHORT: u8 = 15;
 
 // What the first record holds, unjudged: its settings and the place of the next record; or why the run stops there.
-#[derive(Drop)]
+#[derive(Clone, Copy)]
 pub enum Opening {
     Holds { settings: Settings, next: usize },
     Stopped(Stop),
 }
 
 // What it comes to: settings for which the tables are fresh, and the place of the next record; or why the run stops there.
-#[derive(Drop)]
+#[derive(Clone, Copy)]
 pub enum Begun {
     Accepted { settings: Settings, next: usize },
     Stopped(Stop),
 }
 
 // How long the three lent slices are.
-#[derive(Drop)]
+#[derive(Clone, Copy)]
 pub struct Lengths {
     pub longs: usize,
     pub words: usize,

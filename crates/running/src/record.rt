@@ -14,7 +14,7 @@ use layout::Layout;
 use model::{Access, Event, Ran, Settings, Stop};
 
 // What a record leaves: how far the run is, and how many queue places and miss entries are in use.
-#[derive(Drop)]
+#[derive(Clone, Copy)]
 pub struct Went {
     pub ran: Ran,
     pub queued: usize,
@@ -22,7 +22,7 @@ pub struct Went {
 }
 
 // What a record leaves, and whether it is a step's, and so was run.
-#[derive(Drop)]
+#[derive(Clone, Copy)]
 pub struct Tried {
     pub went: Went,
     pub stepped: bool,

@@ -1,5 +1,7 @@
 // What the test programs share: the numbers of a script's line, how much of a slice is lent, and whether lent tables hold the
 // same numbers as others.
+#![tactic(auto)]
+
 ghost use Rattle.std.specs.Prelude.{◌≡◌, min, ◌≤◌};
 ghost use Rattle.model.specs.Lent.{lent};
 ghost use Rattle.scripts.specs.Numbers.{number_word};
@@ -8,7 +10,7 @@ ghost use Rattle.scripts.specs.Same.{Tells};
 use text::Parsed;
 
 // A number of a line and the place behind it.
-#[derive(Drop)]
+#[derive(Clone, Copy)]
 pub struct Number {
     pub value: u64,
     pub next: usize,

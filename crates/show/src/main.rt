@@ -1,6 +1,8 @@
 // Shows a log of events or a stream of commands, from standard input or the file that the first argument names, as plain
 // text: a line a record, the place of its first byte in front. A damaged log is shown up to the damage, and a last line
 // says where and why it stops.
+#![tactic(auto)]
+
 mod damage;
 
 ghost use Rattle.std.specs.Prelude.{◌≡◌, ◌-◌, ◌≤◌, false, length};
@@ -12,7 +14,7 @@ use records::Item;
 
 // The bytes that wait at the front of the buffer, the place of the first of them in the whole input, the bytes of text that
 // wait to be written, the bytes that may still come, whether to go on, whether writing failed.
-#[derive(Drop)]
+#[derive(Clone, Copy)]
 struct Work {
     have: usize,
     place: u64,
@@ -24,7 +26,7 @@ struct Work {
 
 // Within one buffer: the place of the next record in it, the bytes of text that wait, whether a whole record may stand
 // there, whether all is over, whether writing failed.
-#[derive(Drop)]
+#[derive(Clone, Copy)]
 struct Turn {
     at: usize,
     put: usize,

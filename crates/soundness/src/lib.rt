@@ -1,6 +1,8 @@
 // Refusals 1, 2 and 3 (document 01), exact, on settings and lent slices of any content: the settings in range and the slices' lengths
 // by `layout`, sound tables here. The work is at most proportional to 4 lines + lines ways + R M + M ways + M M + Q M, where R is the
 // number of RESERVED sectors. `&` and `|` between tests look at both sides.
+#![tactic(auto)]
+
 mod dirty;
 mod lines;
 mod misses;
@@ -25,7 +27,7 @@ use queue::places_fine;
 use sets::trees_fine;
 
 // What refusals 1, 2 and 3 come to: where each part of sound tables begins, or the refusal.
-#[derive(Drop)]
+#[derive(Clone, Copy)]
 pub enum LaidVerdict {
     Passed(Layout),
     Refused(Refusal),

@@ -1,5 +1,7 @@
 // The inner steps over the three lent slices, behind the checks of the public calls: send, fill and tick. They ask that the slices are
 // the encoding of sound tables, and tell and leave what the step on those tables says.
+#![tactic(auto)]
+
 ghost use Rattle.std.specs.Prelude.{◌≡◌, true, ◌&&◌, ℕ, ◌+◌, ◌*◌, ◌≤◌, ◌<◌, length, get_or, eqb, ltb};
 ghost use Rattle.model.specs.Range.{lines_of};
 ghost use Rattle.words.specs.Regions.{region};

@@ -20,14 +20,14 @@ use model::Settings;
 use running::{Begun, Opening};
 
 // What the first record comes to: settings at which the run goes on from there, or a run that has stopped.
-#[derive(Drop)]
+#[derive(Clone, Copy)]
 pub enum Started {
     Runs { settings: Settings, work: Work },
     Stops(Work),
 }
 
 // How many bytes were handed out, and whether they went.
-#[derive(Drop)]
+#[derive(Clone, Copy)]
 struct Handed {
     bytes: usize,
     done: bool,

@@ -3,7 +3,7 @@ ghost use Rattle.std.specs.Prelude.{◌≡◌, ◌≤◌, length};
 ghost use Rattle.streaming.specs.Scopes.{before_last, part_end};
 
 // All of a stream, its events written to standard output; or all before its last record, its events dropped.
-#[derive(Drop)]
+#[derive(Clone, Copy)]
 pub enum Scope {
     All,
     BeforeLast,

@@ -7,7 +7,7 @@ use model::Stop;
 
 // What to do next: read more bytes; run those that wait; nothing, since the stream has stopped, whatever may follow; nothing,
 // since the input has ended, which the system said; nothing, since reading or writing failed, which standard error says.
-#[derive(Drop)]
+#[derive(Clone, Copy)]
 pub enum Next {
     Read,
     Run,
@@ -18,7 +18,7 @@ pub enum Next {
 
 // The bytes that wait at the front of the buffer, those that may still come, the bytes consumed and written before them, why
 // the part before stopped.
-#[derive(Drop)]
+#[derive(Clone, Copy)]
 pub struct Work {
     pub have: usize,
     pub left: u64,

@@ -1,5 +1,7 @@
 // Leaves over the lent slices at offsets inside them: a region that closes up, a search, the queue, the miss table, a line's tag and
 // statuses, a line of which one sector changes. The contracts speak of the raw numbers. Where the parts lie and a line's four sectors are in `layout`.
+#![tactic(auto)]
+
 ghost use Rattle.std.specs.Prelude.{◌≡◌, ◌+◌, ◌-◌, ◌*◌, ◌≤◌, ◌<◌, [], ◌∷◌, length, replicate, eqb};
 ghost use Rattle.words.specs.Words.{pad_to};
 ghost use Rattle.model.specs.Range.{lines_of};

@@ -1,5 +1,7 @@
 // Numbers and words as text: a number put into a slice of bytes, a number read from a line, where words begin and end; in `rules`
 // the names of the replacement rules.
+#![tactic(auto)]
+
 pub mod rules;
 
 ghost use Rattle.std.specs.Prelude.{◌≡◌, ◌+◌, ◌-◌, ◌≤◌, ◌<◌, length, take, get_or, replicate};
@@ -8,7 +10,7 @@ ghost use Rattle.text.specs.Digits.{glyph_of, digits, digit_count, spelled, deci
 ghost use Rattle.text.specs.Words.{is_space, in_class, past, skip_spaces, word_end, word_at, line_end, part_of, same_text};
 
 // What a number at a place of a line comes to.
-#[derive(Drop)]
+#[derive(Clone, Copy)]
 pub enum Parsed {
     Number { value: u64, next: usize },
     Nothing,
@@ -23,7 +25,7 @@ fn is_space(c: u8) -> bool
 }
 
 // What a run is made of.
-#[derive(Drop)]
+#[derive(Clone, Copy)]
 enum Class {
     Spaces,
     Word,
@@ -262,7 +264,7 @@ fn digit(c: u8) -> u64
 }
 
 // A value with one more digit behind it, if 64 bits hold it.
-#[derive(Drop)]
+#[derive(Clone, Copy)]
 enum Grown {
     To(u64),
     TooLarge,

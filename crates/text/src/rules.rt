@@ -5,7 +5,7 @@ ghost use Rattle.text.specs.Words.{word_at, same_text};
 ghost use Rattle.text.specs.Rules.{rule_names, rule_name, rule_named};
 
 // What a word names.
-#[derive(Drop)]
+#[derive(Clone, Copy)]
 pub enum Named {
     Rule(u8),
     Nothing,

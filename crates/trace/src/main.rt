@@ -1,6 +1,8 @@
 // Traces a command stream of any length, from standard input or the file that the first argument names: each command with
 // its events under it, in words, and under a refused access what it waits for. One last line on standard error says why
 // the run stops and what was consumed and written.
+#![tactic(auto)]
+
 mod page;
 mod turns;
 mod work;

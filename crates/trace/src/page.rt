@@ -7,7 +7,7 @@ use records::Item;
 use wording::{commands, events, stops};
 
 // Where the events of a command are shown to: the place of the next one, the bytes of text.
-#[derive(Drop)]
+#[derive(Clone, Copy)]
 struct Shown {
     at: usize,
     put: usize,

@@ -14,7 +14,7 @@ use records::Item;
 
 // Within one buffer: the place of the next record in it, the bytes of text that wait to be printed, the bytes of events, why
 // the runner stopped last, whether a whole record may stand there, whether printing failed.
-#[derive(Drop)]
+#[derive(Clone, Copy)]
 pub(crate) struct Turn {
     pub at: usize,
     pub put: usize,
@@ -25,7 +25,7 @@ pub(crate) struct Turn {
 }
 
 // What a command offers the cache.
-#[derive(Drop)]
+#[derive(Clone, Copy)]
 enum Offer {
     Access(Access),
     Nothing,

@@ -18,7 +18,7 @@ use wording::stops;
 
 // The bytes that wait at the front of the buffer, those that may still come, the bytes consumed and written before them, the
 // bytes of text that wait, why the runner stopped last, what to do next, whether printing failed.
-#[derive(Drop)]
+#[derive(Clone, Copy)]
 pub(crate) struct Work {
     pub have: usize,
     pub left: u64,

@@ -1,5 +1,7 @@
 // "Rule byte 2": the binary tree over the ways of a set, a number with one bit a node. The choice among the candidates, a mask with bit w
 // for way w, and the tree after an access: each a recursive descent over a span of ways, whose width halves at each call.
+#![tactic(auto)]
+
 ghost use Rattle.std.specs.Prelude.{◌≡◌, true, ℕ, ◌+◌, ◌-◌, ◌^◌, ◌≤◌, ◌<◌};
 ghost use Rattle.model.specs.Tree.{with_bit, is_in, named, pointed, some_from, goes, descent, tree_choice, side_of, turned, touched_tree, power_to16, levels, Span};
 

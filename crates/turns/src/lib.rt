@@ -1,5 +1,7 @@
 // One round of demand 3 (document 01) over lent tables, and how many rounds settle an access: for callers that have checked the tables.
 // `rounds` has the calls that ask nothing.
+#![tactic(auto)]
+
 ghost use Rattle.std.specs.Prelude.{◌≡◌, not, ◌+◌, ◌≤◌, length};
 ghost use Rattle.model.specs.Address.{mask_of};
 ghost use Rattle.model.specs.Sound.{all_ones};
@@ -14,14 +16,14 @@ use layout::Layout;
 use model::{Access, Event, Reply, Settings};
 
 // One round: what its offer told, and the bytes of events up to and with this round.
-#[derive(Drop)]
+#[derive(Clone, Copy)]
 pub struct Round {
     pub reply: Reply,
     pub written: usize,
 }
 
 // The sector address of a sent entry, if there is one.
-#[derive(Drop)]
+#[derive(Clone, Copy)]
 pub enum Sent {
     At(u64),
     Nothing,

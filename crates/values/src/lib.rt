@@ -1,5 +1,7 @@
 // The values of document 01 in code: the number of each case and the case of a number, the event of a queued entry, what an address says,
 // the constant table of answers.
+#![tactic(auto)]
+
 ghost use Rattle.std.specs.Prelude.{◌≡◌, ◌/◌, ◌%◌, ◌<◌, true, get_or};
 ghost use Rattle.model.specs.Range.{power_to256};
 ghost use Rattle.model.specs.declared.Answer.TheVariants.{Hit};

@@ -5,7 +5,7 @@ ghost use Rattle.wait.specs.Lasts.{last_command, last_cut, last_of};
 use model::{Access, Command, Stop};
 use records::Item;
 
-#[derive(Drop)]
+#[derive(Clone, Copy)]
 pub(crate) enum Last {
     // The read or the write to wait for.
     Offer(Access),

@@ -2,6 +2,8 @@
 // first argument names; then the rounds of demand 3 for that access, each round's events in words on standard output, and
 // a last line: in which round it was accepted, or that no wait will help. Where there is nothing to wait for, standard
 // error says why.
+#![tactic(auto)]
+
 mod last;
 mod page;
 mod says;

@@ -6,7 +6,7 @@ use rounds::Waiting;
 use wording::{commands, events, stops};
 
 // Where the events of a round are shown to: the place of the next one, the bytes of text.
-#[derive(Drop)]
+#[derive(Clone, Copy)]
 struct Shown {
     at: usize,
     put: usize,

@@ -15,14 +15,14 @@ use model::{Access, Refusal, Settings};
 use rounds::Waiting;
 
 // The queue places and the miss entries in use.
-#[derive(Drop)]
+#[derive(Clone, Copy)]
 pub(crate) struct Counts {
     pub queued: usize,
     pub missed: usize,
 }
 
 // How the rounds end, and whether all of them could be printed.
-#[derive(Drop)]
+#[derive(Clone, Copy)]
 struct Ended {
     waiting: Waiting,
     shown: bool,
