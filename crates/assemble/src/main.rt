@@ -10,8 +10,9 @@ ghost use Rattle.std.specs.Prelude.{◌≡◌, ◌≤◌, false};
 ghost use Rattle.input.specs.Buffers.{turns_left};
 
 use assembly::Assembled;
-use input::{Ended, More};
-use libc::STDOUT_FILENO;
+use input::{Ended, More, Source};
+use output::Output;
+use std::process::ExitCode;
 
 // The most bytes of a line before its comment.
 const LONGEST: usize = 4096;
@@ -52,16 +53,12 @@ fn stopped(w: Work, whole: bool) -> Work
 }
 
 // Says whether it went.
-fn write_out(s: &[u8]) -> bool {
-    let done = io::write_all(STDOUT_FILENO, s);
-    if !done {
-        os::fail(b"write");
-    }
-    done
+fn write_out(to: Output, s: &[u8]) -> bool {
+    output::write(to, s)
 }
 
 // Writes what waits where few places are free: a command is 13 bytes at most.
-fn with_room(out: &[u8], w: Work) -> Work
+fn with_room(to: Output, out: &[u8], w: Work) -> Work
     ensures { result.left ≡ w.left }
 {
     let put = w.put;
@@ -70,7 +67,7 @@ fn with_room(out: &[u8], w: Work) -> Work
             return w;
         }
     }
-    let done = write_out(text::front(out, put));
+    let done = write_out(to, text::front(out, put));
     Work {
         have: w.have,
         line: w.line,
@@ -95,14 +92,14 @@ fn text_end(line: &[u8]) -> usize {
 }
 
 // Assembles one line, or says why it is bad and ends the stream there.
-fn one_line(line: &[u8], out: &mut [u8], w: Work) -> Work
+fn one_line(to: Output, line: &[u8], out: &mut [u8], w: Work) -> Work
     ensures { result.left ≡ w.left }
 {
     if LONGEST < text_end(line) {
-        says::too_long(w.line, LONGEST);
+        says::too_long(to, w.line, LONGEST);
         return stopped(w, false);
     }
-    let v = with_room(out, w);
+    let v = with_room(to, out, w);
     if v.lost {
         return v;
     }
@@ -118,7 +115,7 @@ fn one_line(line: &[u8], out: &mut [u8], w: Work) -> Work
         },
         Assembled::NoRoom => stopped(v, false),
         Assembled::Bad(e) => {
-            says::bad(v.line, e, line);
+            says::bad(to, v.line, e, line);
             stopped(v, false)
         }
     }
@@ -126,13 +123,13 @@ fn one_line(line: &[u8], out: &mut [u8], w: Work) -> Work
 
 // The line that the buffer ends in, before its end has come: of its comment only the first character is kept, so that a
 // comment may have any length.
-fn part_line(line: &[u8], left: u64, w: Work) -> Work
+fn part_line(to: Output, line: &[u8], left: u64, w: Work) -> Work
     ensures { result.left ≡ left }
 {
     let end = text_end(line);
     let long = w.more & (LONGEST < end);
     if long {
-        says::too_long(w.line, LONGEST);
+        says::too_long(to, w.line, LONGEST);
     }
     let have = if end < line.len() { end + 1 } else { end };
     Work {
@@ -147,7 +144,7 @@ fn part_line(line: &[u8], left: u64, w: Work) -> Work
 }
 
 // The whole lines among the first n bytes; the rest goes to the front.
-fn whole_lines(buf: &mut [u8], n: usize, left: u64, out: &mut [u8], w: Work) -> Work
+fn whole_lines(to: Output, buf: &mut [u8], n: usize, left: u64, out: &mut [u8], w: Work) -> Work
     ensures { result.left ≡ left }
 {
     let mut v = w;
@@ -157,52 +154,53 @@ fn whole_lines(buf: &mut [u8], n: usize, left: u64, out: &mut [u8], w: Work) -> 
         if n <= end {
             break;
         }
-        v = one_line(text::part(buf, at, end), out, v);
+        v = one_line(to, text::part(buf, at, end), out, v);
         at = end + 1;
     }
     let have = input::carry(buf, at, n);
-    part_line(text::front(buf, have), left, v)
+    part_line(to, text::front(buf, have), left, v)
 }
 
 // At the end of the input, by the system's word for it: a last line needs no line feed.
-fn last_line(_end: Ended, buf: &[u8], out: &mut [u8], w: Work) -> Work
+fn last_line(to: Output, _end: Ended, buf: &[u8], out: &mut [u8], w: Work) -> Work
     ensures { result.more ≡ false }
 {
     let have = w.have;
     if have == 0 {
         return stopped(w, w.whole);
     }
-    let v = one_line(text::front(buf, have), out, w);
+    let v = one_line(to, text::front(buf, have), out, w);
     stopped(v, v.whole)
 }
 
 // Reads once: fewer bytes may come then, or it was the last turn.
-fn read_once(fd: i32, buf: &mut [u8], out: &mut [u8], w: Work) -> Work
+fn read_once(source: &mut Source, to: Output, buf: &mut [u8], out: &mut [u8], w: Work) -> Work
     ensures { turns_left result.more result.left ≤ w.left }
 {
-    match input::read_more(fd, buf, w.have, w.left) {
-        More::To { have, left } => whole_lines(buf, have, left, out, w),
-        More::End(end) => last_line(end, buf, out, w),
+    match input::read_more(source, to, buf, w.have, w.left) {
+        More::To { have, left } => whole_lines(to, buf, have, left, out, w),
+        More::End(end) => last_line(to, end, buf, out, w),
         More::Full => stopped(w, false),
         More::Failed => stopped(w, false),
     }
 }
 
-// After a failed write nothing more is written.
-fn end_stream(out: &[u8], w: Work) {
+// After a failed write nothing more is written; says whether all was.
+fn end_stream(to: Output, out: &[u8], w: Work) -> bool {
     if w.lost {
-        return;
+        return false;
     }
-    if !write_out(text::front(out, w.put)) {
-        return;
+    if !write_out(to, text::front(out, w.put)) {
+        return false;
     }
     if !w.whole {
-        write_out(&[UNKNOWN_KIND]);
+        return write_out(to, &[UNKNOWN_KIND]);
     }
+    true
 }
 
-// Assembles a text line by line, to its end or to its first bad line.
-fn assemble_all(fd: i32, buf: &mut [u8], out: &mut [u8]) {
+// Assembles a text line by line, to its end or to its first bad line; says whether all was written.
+fn assemble_all(source: &mut Source, to: Output, buf: &mut [u8], out: &mut [u8]) -> bool {
     let mut w = Work {
         have: 0,
         line: 1,
@@ -213,19 +211,23 @@ fn assemble_all(fd: i32, buf: &mut [u8], out: &mut [u8]) {
         lost: false,
     };
     while w.more {
-        w = read_once(fd, buf, out, w);
+        w = read_once(source, to, buf, out, w);
     }
-    end_stream(out, w);
+    end_stream(to, out, w)
 }
 
-// Assembles the text that is named or comes on standard input.
-fn main() {
-    let fd = input::open_input();
-    if fd < 0 {
-        write_out(&[UNKNOWN_KIND]);
-        return;
+// Assembles the text that is named or comes on standard input. The status says whether the stream could be written.
+fn main(rt: HostRuntime) -> ExitCode {
+    let to = Output::new(rt.stdout(), rt.stderr());
+    let Some(mut source) = input::open_input(&rt, rt.stdin(), to) else {
+        write_out(to, &[UNKNOWN_KIND]);
+        return ExitCode::SUCCESS;
+    };
+    let mut buf = [0u8; 65536];
+    let mut out = [0u8; 65536];
+    if assemble_all(&mut source, to, &mut buf, &mut out) {
+        ExitCode::SUCCESS
+    } else {
+        ExitCode::FAILURE
     }
-    let mut buf = io::large_buffer();
-    let mut out = io::large_buffer();
-    assemble_all(fd, &mut buf, &mut out);
 }

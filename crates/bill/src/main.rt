@@ -9,8 +9,8 @@ ghost use Rattle.std.specs.Prelude.{◌≡◌, ◌≤◌};
 ghost use Rattle.input.specs.Buffers.{turns_left};
 
 use billing::Bill;
-use input::{Ended, More};
-use libc::STDOUT_FILENO;
+use input::{Ended, More, Source};
+use output::Output;
 
 // The bytes that wait at the front of the buffer, the bytes billed before them, the bytes that may still come, whether to go
 // on, whether reading failed.
@@ -71,10 +71,10 @@ fn bill_buffer(buf: &mut [u8], n: usize, left: u64, w: Work, b: Bill) -> Account
 }
 
 // Reads once: fewer bytes may come then, or it was the last turn.
-fn read_once(fd: i32, buf: &mut [u8], w: Work, b: Bill) -> Account
+fn read_once(source: &mut Source, to: Output, buf: &mut [u8], w: Work, b: Bill) -> Account
     ensures { turns_left result.work.more result.work.left ≤ w.left }
 {
-    match input::read_more(fd, buf, w.have, w.left) {
+    match input::read_more(source, to, buf, w.have, w.left) {
         More::To { have, left } => bill_buffer(buf, have, left, w, b),
         More::End(end) => ended(end, w, b),
         More::Full => stops(w, true, b),
@@ -83,7 +83,7 @@ fn read_once(fd: i32, buf: &mut [u8], w: Work, b: Bill) -> Account
 }
 
 // Bills a log part by part, to its end or to its damage.
-fn bill_all(fd: i32, buf: &mut [u8]) -> Account {
+fn bill_all(source: &mut Source, to: Output, buf: &mut [u8]) -> Account {
     let mut w = Work {
         have: 0,
         place: 0,
@@ -93,7 +93,7 @@ fn bill_all(fd: i32, buf: &mut [u8]) -> Account {
     };
     let mut b = billing::empty_bill();
     while w.more {
-        let a = read_once(fd, buf, w, b);
+        let a = read_once(source, to, buf, w, b);
         w = a.work;
         b = a.bill;
     }
@@ -112,24 +112,22 @@ fn put_lack(buf: &[u8], w: Work, out: &mut [u8], at: usize) -> usize {
 }
 
 // Prints the bill, and what it lacks.
-fn print(buf: &[u8], a: Account, out: &mut [u8]) {
+fn print(to: Output, buf: &[u8], a: Account, out: &mut [u8]) {
     let w = a.work;
     let summary = summary::put_summary(w.place, a.bill, out, 0);
     let end = put_lack(buf, w, out, summary);
-    if !io::write_all(STDOUT_FILENO, text::front(out, end)) {
-        os::fail(b"write");
-    }
+    output::write(to, text::front(out, end));
 }
 
 // Bills the log that is named or comes on standard input.
-fn main() {
-    let fd = input::open_input();
-    if fd < 0 {
+fn main(rt: HostRuntime) {
+    let to = Output::new(rt.stdout(), rt.stderr());
+    let Some(mut source) = input::open_input(&rt, rt.stdin(), to) else {
         return;
-    }
-    let mut space = io::large_buffer();
-    let mut page = io::buffer();
+    };
+    let mut space = [0u8; 65536];
+    let mut page = [0u8; 4096];
     let buf: &mut [u8] = &mut space;
-    let a = bill_all(fd, buf);
-    print(buf, a, &mut page);
+    let a = bill_all(&mut source, to, buf);
+    print(to, buf, a, &mut page);
 }

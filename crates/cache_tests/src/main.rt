@@ -17,24 +17,25 @@ mod outcomes;
 
 use assembly::Line;
 use calls::{Bench, Deed};
-use libc::{STDIN_FILENO, STDOUT_FILENO};
+use output::Output;
 
 // Writes the first n bytes to standard output.
-fn write_out(out: &[u8], n: usize) {
-    io::write_all(STDOUT_FILENO, text::front(out, n));
+fn write_out(to: Output, out: &[u8], n: usize) {
+    output::put(to, text::front(out, n));
 }
 
 // A test's name.
-fn show_name(line: &[u8], at: usize) {
+fn show_name(to: Output, line: &[u8], at: usize) {
     let mut out = [0u8; 512];
     let start = text::skip_spaces(line, at);
     let end = text::put_text(text::part(line, start, line.len()), &mut out, 0);
     let next = text::put_text(b": ", &mut out, end);
-    write_out(&out, next);
+    write_out(to, &out, next);
 }
 
 // Makes a call; its outcome is printed where that was asked for, and what a refused call left.
 fn on_deed(
+    to: Output,
     d: Deed,
     b: Bench,
     longs: &mut [u64; 16],
@@ -50,13 +51,14 @@ fn on_deed(
     let end = outcomes::put_left(o.refused, unchanged, &mut out, o.end);
     let next = text::put_text(b"\n", &mut out, end);
     if b.asked {
-        write_out(&out, next);
+        write_out(to, &out, next);
     }
     calls::asking(b, false)
 }
 
 // A read with a mask, which refusal 4 is for.
 fn on_masked(
+    to: Output,
     line: &[u8],
     at: usize,
     b: Bench,
@@ -67,6 +69,7 @@ fn on_masked(
     let address = scripts::number_next(line, at);
     let mask = scripts::number_next(line, address.next);
     on_deed(
+        to,
         calls::offered_read(address.value, calls::word_of(mask.value), 0),
         b,
         longs,
@@ -103,6 +106,7 @@ fn on_number(
 
 // A line that is no command.
 fn on_word(
+    to: Output,
     line: &[u8],
     b: Bench,
     longs: &mut [u64; 16],
@@ -112,33 +116,34 @@ fn on_word(
     let at = text::skip_spaces(line, 0);
     let end = text::word_end(line, at);
     if text::word_is(line, at, b"test") {
-        show_name(line, end);
+        show_name(to, line, end);
         return calls::asking(b, true);
     }
     if text::word_is(line, at, b"lengths") {
         return calls::with_lengths(b, line, end);
     }
     if text::word_is(line, at, b"fresh") {
-        return on_deed(Deed::Fresh, b, longs, words, marks);
+        return on_deed(to, Deed::Fresh, b, longs, words, marks);
     }
     if text::word_is(line, at, b"check") {
-        return on_deed(Deed::Check, b, longs, words, marks);
+        return on_deed(to, Deed::Check, b, longs, words, marks);
     }
     if text::word_is(line, at, b"masked") {
-        return on_masked(line, end, b, longs, words, marks);
+        return on_masked(to, line, end, b, longs, words, marks);
     }
     if text::word_is(line, at, b"dirty") {
         let n = scripts::number_next(line, end);
-        return on_deed(Deed::Dirty(n.value), b, longs, words, marks);
+        return on_deed(to, Deed::Dirty(n.value), b, longs, words, marks);
     }
     if !on_number(line, at, longs, words, marks) {
-        io::write_all(STDOUT_FILENO, b"a line that is none\n");
+        output::put(to, b"a line that is none\n");
     }
     b
 }
 
 // One line of the script: a command, or a word of the script's own.
 fn one_line(
+    to: Output,
     line: &[u8],
     b: Bench,
     longs: &mut [u64; 16],
@@ -146,14 +151,21 @@ fn one_line(
     marks: &mut [u8; 64],
 ) -> Bench {
     match assembly::parse_line(line) {
-        Line::Command(c) => on_deed(calls::deed_of(c), calls::set_up(c, b), longs, words, marks),
+        Line::Command(c) => on_deed(
+            to,
+            calls::deed_of(c),
+            calls::set_up(c, b),
+            longs,
+            words,
+            marks,
+        ),
         Line::Empty => b,
-        Line::Bad(_) => on_word(line, b, longs, words, marks),
+        Line::Bad(_) => on_word(to, line, b, longs, words, marks),
     }
 }
 
 // A script's last line ends in a line feed.
-fn run(script: &[u8]) {
+fn run(to: Output, script: &[u8]) {
     let mut longs = [0u64; 16];
     let mut words = [0u32; 64];
     let mut marks = [0u8; 64];
@@ -165,6 +177,7 @@ fn run(script: &[u8]) {
             break;
         }
         b = one_line(
+            to,
             text::part(script, at, end),
             b,
             &mut longs,
@@ -176,8 +189,10 @@ fn run(script: &[u8]) {
 }
 
 // Runs the script on standard input.
-fn main() {
-    let mut script = io::large_buffer();
-    let n = io::read_full(STDIN_FILENO, &mut script);
-    run(text::front(&script, n));
+fn main(rt: HostRuntime) {
+    let to = Output::new(rt.stdout(), rt.stderr());
+    let mut source = input::standard(rt.stdin());
+    let mut script = [0u8; 65536];
+    let n = input::read_full(&mut source, &mut script);
+    run(to, text::front(&script, n));
 }

@@ -3,7 +3,8 @@ ghost use Rattle.std.specs.Prelude.{◌≡◌, false};
 ghost use Rattle.compare.specs.Checking.{started, over_of, came_of, ReadOn, Checked, check_verdict};
 
 use comparing::{Checking, Fault};
-use input::{Ended, Filled};
+use input::{Ended, Filled, Source};
+use output::Output;
 
 // The check so far, the bytes read, whether to go on, whether reading failed, which standard error then says.
 #[derive(Clone, Copy)]
@@ -43,11 +44,11 @@ fn ended(_end: Ended, c: Check) -> Check
 }
 
 // The first n bytes of the buffer are the log's next part; a log with a wrong kind needs no more.
-fn came(buf: &[u8], n: usize, c: Check) -> Check
+fn came(to: Output, buf: &[u8], n: usize, c: Check) -> Check
     ensures { result ≡ came_of buf.now n c }
 {
     if usize::MAX - c.read < n {
-        crate::says::stop(b"a log is too long: its places have no numbers\n");
+        crate::says::stop(to, b"a log is too long: its places have no numbers\n");
         return over(c, true);
     }
     let checking = comparing::checks::pass(c.checking, text::front(buf, n));
@@ -60,15 +61,15 @@ fn came(buf: &[u8], n: usize, c: Check) -> Check
 }
 
 // Reads the next part of a log and checks it.
-fn read_part(log: usize, fd: i32, buf: &mut [u8], c: Check) -> Check
+fn read_part(log: usize, source: &mut Source, to: Output, buf: &mut [u8], c: Check) -> Check
     ensures { ReadOn buf.new c result }
 {
-    match input::fill(fd, buf, 0) {
-        Filled::To(n) => came(buf, n, c),
+    match input::fill(source, buf, 0) {
+        Filled::To(n) => came(to, buf, n, c),
         Filled::End(end) => ended(end, c),
         Filled::Full => over(c, true),
         Filled::Failed => {
-            crate::reading::say_failed(log);
+            crate::reading::say_failed(log, source, to);
             over(c, true)
         }
     }
@@ -87,12 +88,12 @@ fn begin() -> Check
 }
 
 // Each turn reads some, or is the last.
-pub fn check_log(log: usize, fd: i32, buf: &mut [u8]) -> Check
+pub fn check_log(log: usize, source: &mut Source, to: Output, buf: &mut [u8]) -> Check
     ensures { Checked result }
 {
     let mut c = begin();
     while c.more {
-        c = read_part(log, fd, buf, c);
+        c = read_part(log, source, to, buf, c);
     }
     c
 }

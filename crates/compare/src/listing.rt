@@ -5,20 +5,25 @@ ghost use Rattle.compare.specs.Lines.{PutTo, ListsPair};
 
 use crate::page::Page;
 use crate::reading::Met;
+use crate::says::Name;
 use crate::showing::Shown;
 use crate::turns::Pass;
 use crate::{page, says, showing, turns};
 use comparing::{Side, Walk};
+use input::Source;
+use output::Output;
 
-// Descriptors of both logs, for the pairs and for the lines; the bytes that each log had when it was checked.
-#[derive(Clone, Copy)]
+// Both logs, for the pairs and for the lines; the bytes that each log had when it was checked; their names.
+#[derive(Drop)]
 pub struct Logs {
-    pub a: i32,
-    pub b: i32,
-    pub c: i32,
-    pub d: i32,
+    pub a: Source,
+    pub b: Source,
+    pub c: Source,
+    pub d: Source,
     pub first: usize,
     pub second: usize,
+    pub first_name: Name,
+    pub second_name: Name,
 }
 
 // The reading for the pairs, the reading for the lines, whether to go on.
@@ -52,24 +57,32 @@ fn halted(pass: Pass, shown: Shown) -> Work
 }
 
 // The names, before the first pair that differs.
-fn headed(w: Walk, p: Page) -> Page {
+fn headed(l: &Logs, to: Output, w: Walk, p: Page) -> Page {
     if w.differing == 0 {
         return Page {
             put: p.put,
-            good: says::write_names(p.good),
+            good: says::write_names(to, &l.first_name, &l.second_name, p.good),
         };
     }
     p
 }
 
 // The lines of the pair that a walk ended.
-fn list_pair(l: Logs, c: &mut [u8], d: &mut [u8], out: &mut [u8], w: Walk, s: Shown) -> Shown
+fn list_pair(
+    l: &mut Logs,
+    to: Output,
+    c: &mut [u8],
+    d: &mut [u8],
+    out: &mut [u8],
+    w: Walk,
+    s: Shown,
+) -> Shown
     requires { BothSound (length c.old) (length d.old) s.pass }
     ensures both_sound { BothSound (length c.old) (length d.old) result.pass }
     ensures put_to { PutTo w.number result }
 {
-    let p = says::put_pair(w, out, headed(w, s.page));
-    showing::show(l.c, l.d, c, d, out, w.number, s.pass, p)
+    let p = says::put_pair(to, w, out, headed(l, to, w, s.page));
+    showing::show(&mut l.c, &mut l.d, to, c, d, out, w.number, s.pass, p)
 }
 
 // Where a log has run out, it is as long as when it was checked.
@@ -78,22 +91,30 @@ fn side_checked(s: Side, length: usize) -> bool {
 }
 
 // Whether both logs were as long as when they were checked.
-fn as_checked(l: Logs, w: Walk) -> bool {
+fn as_checked(l: &Logs, w: Walk) -> bool {
     side_checked(w.first, l.first) & side_checked(w.second, l.second)
 }
 
 // The lines of a pair that differs.
-fn pair_met(l: Logs, c: &mut [u8], d: &mut [u8], out: &mut [u8], pass: Pass, k: Work) -> Work
+fn pair_met(
+    l: &mut Logs,
+    to: Output,
+    c: &mut [u8],
+    d: &mut [u8],
+    out: &mut [u8],
+    pass: Pass,
+    k: Work,
+) -> Work
     requires { BothSound (length c.old) (length d.old) k.shown.pass }
     ensures pass_value { (result.pass ≡ pass) × BothSound (length c.old) (length d.old) result.shown.pass }
     ensures number_lt_number { result.more ≡ yes → k.pass.walk.number < result.shown.pass.walk.number }
 {
     let before = k.pass;
     if !as_checked(l, before.walk) {
-        says::changed();
+        says::changed(to);
         return halted(pass, k.shown);
     }
-    let shown = list_pair(l, c, d, out, before.walk, k.shown);
+    let shown = list_pair(l, to, c, d, out, before.walk, k.shown);
     let page = shown.page;
     Work {
         pass,
@@ -103,19 +124,20 @@ fn pair_met(l: Logs, c: &mut [u8], d: &mut [u8], out: &mut [u8], pass: Pass, k: 
 }
 
 // The last line, where both logs are as long as when they were checked.
-fn finish(l: Logs, out: &mut [u8], w: Walk, s: Shown) -> Shown
+fn finish(l: &Logs, to: Output, out: &mut [u8], w: Walk, s: Shown) -> Shown
     ensures { result.pass ≡ s.pass }
 {
     if as_checked(l, w) {
-        return showing::with_page(s, says::put_counts(w, out, s.page));
+        return showing::with_page(s, says::put_counts(to, w, out, s.page));
     }
-    says::changed();
+    says::changed(to);
     s
 }
 
 // One turn of the listing: a step over both logs, and the lines of a pair that differs.
 fn list_turn(
-    l: Logs,
+    l: &mut Logs,
+    to: Output,
     a: &mut [u8],
     b: &mut [u8],
     c: &mut [u8],
@@ -129,7 +151,7 @@ fn list_turn(
     ensures lists_pair { ListsPair k result (next_step a.old b.old k.pass) }
 {
     let p = k.pass;
-    let t = turns::turn(l.a, l.b, a, b, p);
+    let t = turns::turn(&mut l.a, &mut l.b, to, a, b, p);
     let m = t.met;
     match m {
         Met::Row {
@@ -139,19 +161,20 @@ fn list_turn(
         } => on(t.pass, k.shown),
         Met::Pair { differs } => {
             if differs {
-                return pair_met(l, c, d, out, t.pass, k);
+                return pair_met(l, to, c, d, out, t.pass, k);
             }
             on(t.pass, k.shown)
         }
         Met::Read => on(t.pass, k.shown),
-        Met::Over => halted(t.pass, finish(l, out, p.walk, k.shown)),
+        Met::Over => halted(t.pass, finish(l, to, out, p.walk, k.shown)),
         Met::Stuck => halted(t.pass, k.shown),
     }
 }
 
 // Each turn passes some, reads some, ends a pair, or is the last.
 fn list_all(
-    l: Logs,
+    l: &mut Logs,
+    to: Output,
     a: &mut [u8],
     b: &mut [u8],
     c: &mut [u8],
@@ -160,18 +183,18 @@ fn list_all(
 ) -> Page {
     let mut k = on(turns::fresh(), showing::fresh());
     while k.more {
-        k = list_turn(l, a, b, c, d, out, k);
+        k = list_turn(l, to, a, b, c, d, out, k);
     }
     let s = k.shown;
     s.page
 }
 
 // Lists every pair of groups that differs, through the two buffers of each log.
-pub fn list(l: Logs, out: &mut [u8]) {
-    let mut a = io::large_buffer();
-    let mut b = io::large_buffer();
-    let mut c = io::large_buffer();
-    let mut d = io::large_buffer();
-    let p = list_all(l, &mut a, &mut b, &mut c, &mut d, out);
-    page::write_out(out, p.put, p.good);
+pub fn list(l: &mut Logs, to: Output, out: &mut [u8]) {
+    let mut a = [0u8; 65536];
+    let mut b = [0u8; 65536];
+    let mut c = [0u8; 65536];
+    let mut d = [0u8; 65536];
+    let p = list_all(l, to, &mut a, &mut b, &mut c, &mut d, out);
+    page::write_out(to, out, p.put, p.good);
 }

@@ -13,76 +13,123 @@ mod turns;
 
 use crate::checking::Verdict;
 use crate::listing::Logs;
-use libc::STDERR_FILENO;
+use crate::says::Name;
+use input::Source;
+use output::Output;
+use std::env::FillError;
+use std::fs::File;
+use std::rt::{Env, Files};
 
-// A descriptor of the file that an argument names; below 0 where it cannot be opened, which standard error then says.
-fn open_log(i: usize) -> i32 {
-    let mut path = io::buffer();
-    let length = os::arg(i, &mut path);
-    if os::errno() != 0 {
-        os::fail(b"the file's name");
-        return -1;
+// The most bytes of a file's name; one that is longer has this many and one.
+const LONGEST: usize = 4096;
+
+// The words of an argument.
+fn name_of<R: Env>(rt: &R, i: usize) -> Name {
+    let mut words = [0u8; LONGEST];
+    let len = match rt.arg(i, &mut words) {
+        Ok(n) => n,
+        Err(FillError::TooLong) => LONGEST + 1,
+        Err(FillError::NotPresent) => 0,
+    };
+    Name { words, len }
+}
+
+// Whether there is an argument of this number.
+fn is_given<R: Env>(rt: &R, i: usize) -> bool {
+    let mut byte = [0u8; 1];
+    match rt.arg(i, &mut byte) {
+        Ok(_) => true,
+        Err(FillError::TooLong) => true,
+        Err(FillError::NotPresent) => false,
     }
-    let fd = os::open_read(&path[..length]);
-    if fd < 0 {
-        os::fail(&path[..length]);
+}
+
+// The file that an argument names; nothing where it cannot be opened, which standard error then says.
+fn open_log<R: Files<File = File>>(rt: &R, to: Output, name: &Name) -> Option<Source> {
+    if LONGEST < name.len {
+        input::name_too_long(to);
+        return None;
     }
-    fd
+    input::open_file(rt, to, text::front(&name.words, name.len))
 }
 
 // What the check of a log comes to; a refusal is said.
-fn check(i: usize, buf: &mut [u8], out: &mut [u8]) -> Verdict {
-    let fd = open_log(i);
-    if fd < 0 {
+fn check<R: Files<File = File>>(
+    rt: &R,
+    to: Output,
+    i: usize,
+    name: &Name,
+    buf: &mut [u8],
+    out: &mut [u8],
+) -> Verdict {
+    let Some(mut source) = open_log(rt, to, name) else {
         return Verdict::Failed;
-    }
-    let v = checking::judge(checking::check_log(i, fd, buf));
+    };
+    let v = checking::judge(checking::check_log(i, &mut source, to, buf));
     if let Verdict::Refused { number, place } = v {
-        says::refuse(i, number, place, out);
+        says::refuse(to, name, number, place, out);
     }
     v
 }
 
 // The pairs of two logs that passed, of so many bytes.
-fn list_logs(first: usize, second: usize, out: &mut [u8]) {
-    let a = open_log(1);
-    let b = open_log(2);
-    let c = open_log(1);
-    let d = open_log(2);
-    if (a < 0) | (b < 0) | (c < 0) | (d < 0) {
+fn list_logs<R: Files<File = File>>(
+    rt: &R,
+    to: Output,
+    first_name: Name,
+    second_name: Name,
+    first: usize,
+    second: usize,
+    out: &mut [u8],
+) {
+    let a = open_log(rt, to, &first_name);
+    let b = open_log(rt, to, &second_name);
+    let c = open_log(rt, to, &first_name);
+    let d = open_log(rt, to, &second_name);
+    let (Some(a), Some(b), Some(c), Some(d)) = (a, b, c, d) else {
         return;
-    }
-    listing::list(
-        Logs {
-            a,
-            b,
-            c,
-            d,
-            first,
-            second,
-        },
-        out,
-    );
+    };
+    let mut logs = Logs {
+        a,
+        b,
+        c,
+        d,
+        first,
+        second,
+        first_name,
+        second_name,
+    };
+    listing::list(&mut logs, to, out);
 }
 
 // The first log is checked whole, then the second, before any pairing.
-fn compare_logs(buf: &mut [u8], out: &mut [u8]) {
-    let Verdict::Good(first) = check(1, buf, out) else {
+fn compare_logs<R: Files<File = File>>(
+    rt: &R,
+    to: Output,
+    first_name: Name,
+    second_name: Name,
+    buf: &mut [u8],
+    out: &mut [u8],
+) {
+    let Verdict::Good(first) = check(rt, to, 1, &first_name, buf, out) else {
         return;
     };
-    let Verdict::Good(second) = check(2, buf, out) else {
+    let Verdict::Good(second) = check(rt, to, 2, &second_name, buf, out) else {
         return;
     };
-    list_logs(first, second, out);
+    list_logs(rt, to, first_name, second_name, first, second, out);
 }
 
 // Checks both logs, then lists how they differ.
-fn main() {
-    if os::arg_count() != 3 {
-        io::write_all(STDERR_FILENO, b"usage: compare FILE FILE\n");
+fn main(rt: HostRuntime) {
+    let to = Output::new(rt.stdout(), rt.stderr());
+    if !is_given(&rt, 2) | is_given(&rt, 3) {
+        output::say(to, b"usage: compare FILE FILE\n");
         return;
     }
-    let mut buf = io::large_buffer();
-    let mut out = io::large_buffer();
-    compare_logs(&mut buf, &mut out);
+    let first_name = name_of(&rt, 1);
+    let second_name = name_of(&rt, 2);
+    let mut buf = [0u8; 65536];
+    let mut out = [0u8; 65536];
+    compare_logs(&rt, to, first_name, second_name, &mut buf, &mut out);
 }

@@ -1,5 +1,5 @@
 // The text that waits to be written.
-use libc::STDOUT_FILENO;
+use output::Output;
 
 // The bytes that wait, and whether all before them were written: after a write that failed nothing more is written.
 #[derive(Clone, Copy)]
@@ -9,24 +9,20 @@ pub struct Page {
 }
 
 // Writes all of s where all before it was written; says whether it went.
-pub fn write(s: &[u8], good: bool) -> bool {
+pub fn write(to: Output, s: &[u8], good: bool) -> bool {
     if !good {
         return false;
     }
-    let done = io::write_all(STDOUT_FILENO, s);
-    if !done {
-        os::fail(b"write");
-    }
-    done
+    output::write(to, s)
 }
 
 // The same of the first n bytes.
-pub fn write_out(out: &[u8], n: usize, good: bool) -> bool {
-    write(text::front(out, n), good)
+pub fn write_out(to: Output, out: &[u8], n: usize, good: bool) -> bool {
+    write(to, text::front(out, n), good)
 }
 
 // Writes what waits where few places are free: no line takes 2048 bytes.
-pub fn with_room(out: &[u8], p: Page) -> Page {
+pub fn with_room(to: Output, out: &[u8], p: Page) -> Page {
     let put = p.put;
     if put < out.len() {
         if 2048 <= out.len() - put {
@@ -35,7 +31,7 @@ pub fn with_room(out: &[u8], p: Page) -> Page {
     }
     Page {
         put: 0,
-        good: write_out(out, put, p.good),
+        good: write_out(to, out, put, p.good),
     }
 }
 

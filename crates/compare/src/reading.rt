@@ -4,7 +4,8 @@ ghost use Rattle.compare.specs.declared.reading.Met.TheVariants as met;
 ghost use Rattle.compare.specs.Windows.{unread, waiting_in, moved_by, topped, came_to, WindowSound, Fed};
 
 use crate::says;
-use input::{Ended, Filled};
+use input::{Ended, Filled, Source};
+use output::Output;
 
 // The place in the log of the buffer's first byte, where the bytes that wait begin and end in the buffer, whether the log ends there.
 #[derive(Clone, Copy)]
@@ -73,11 +74,11 @@ pub fn moved(w: Window, n: usize) -> Window
 }
 
 // Says which log could not be read.
-pub fn say_failed(log: usize) {
+pub fn say_failed(log: usize, source: &Source, to: Output) {
     if log == 1 {
-        os::fail(b"reading the first log");
+        input::say_failed(source, to, b"reading the first log");
     } else {
-        os::fail(b"reading the second log");
+        input::say_failed(source, to, b"reading the second log");
     }
 }
 
@@ -112,29 +113,29 @@ fn at_end(_end: Ended, base: usize, have: usize) -> Topped
 }
 
 // The buffer's bytes now go to n, no further than a place can say.
-fn came(base: usize, have: usize, n: usize) -> Topped
+fn came(to: Output, base: usize, have: usize, n: usize) -> Topped
     ensures { result ≡ came_to base have n }
 {
     if usize::MAX - base < n {
-        says::stop(b"a log is too long: its places have no numbers\n");
+        says::stop(to, b"a log is too long: its places have no numbers\n");
         return filled(base, have, Met::Stuck);
     }
     filled(base, n, Met::Read)
 }
 
 // The bytes that wait go to the front of the buffer, and more is read behind them.
-pub fn top_up(log: usize, fd: i32, buf: &mut [u8], w: Window) -> Topped
+pub fn top_up(log: usize, source: &mut Source, to: Output, buf: &mut [u8], w: Window) -> Topped
     requires { WindowSound (length buf.old) w }
     ensures { Fed buf.old w result.window result.met buf.new }
 {
     let base = w.base + w.at;
     let have = input::carry(buf, w.at, w.have);
-    match input::fill(fd, buf, have) {
-        Filled::To(n) => came(base, have, n),
+    match input::fill(source, buf, have) {
+        Filled::To(n) => came(to, base, have, n),
         Filled::End(end) => at_end(end, base, have),
         Filled::Full => filled(base, have, Met::Stuck),
         Filled::Failed => {
-            say_failed(log);
+            say_failed(log, source, to);
             filled(base, have, Met::Stuck)
         }
     }

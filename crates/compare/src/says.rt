@@ -2,23 +2,31 @@
 use crate::page;
 use crate::page::Page;
 use comparing::{Side, Walk};
-use libc::STDERR_FILENO;
+use output::Output;
 
 // Says on standard error why nothing is compared.
-pub fn stop(why: &[u8]) {
-    io::write_all(STDERR_FILENO, why);
+pub fn stop(to: Output, why: &[u8]) {
+    output::say(to, why);
 }
 
 // Of a log that is shorter or longer than when it was checked.
-pub fn changed() {
-    stop(b"a log changed while it was read: give two files that stay as they are\n");
+pub fn changed(to: Output) {
+    stop(
+        to,
+        b"a log changed while it was read: give two files that stay as they are\n",
+    );
+}
+
+// An argument's own words.
+#[derive(Drop)]
+pub struct Name {
+    pub words: [u8; 4096],
+    pub len: usize,
 }
 
 // An argument's own words; says whether they went.
-fn write_name(i: usize, good: bool) -> bool {
-    let mut path = io::buffer();
-    let length = os::arg(i, &mut path);
-    page::write(text::front(&path, length), good)
+fn write_name(to: Output, name: &Name, good: bool) -> bool {
+    page::write(to, text::front(&name.words, name.len), good)
 }
 
 // What is wrong with a log, by its refusal number, and what to do about it.
@@ -43,23 +51,23 @@ fn put_why(number: u8, out: &mut [u8], at: usize) -> usize {
 }
 
 // A log that is refused, by its name.
-pub fn refuse(i: usize, number: u8, place: usize, out: &mut [u8]) {
-    let named = write_name(i, true);
+pub fn refuse(to: Output, name: &Name, number: u8, place: usize, out: &mut [u8]) {
+    let named = write_name(to, name, true);
     let a = text::put_text(b" is refused with ", out, 0);
     let b = text::put_decimal(number as u64, out, a);
     let c = text::put_text(b" at byte ", out, b);
     let d = text::put_decimal(place as u64, out, c);
     let e = put_why(number, out, d);
-    page::write_out(out, e, named);
+    page::write_out(to, out, e, named);
 }
 
 // Which mark stands for which log; says whether it went.
-pub fn write_names(good: bool) -> bool {
-    let a = page::write(b"< ", good);
-    let b = write_name(1, a);
-    let c = page::write(b"\n> ", b);
-    let d = write_name(2, c);
-    page::write(b"\n", d)
+pub fn write_names(to: Output, first: &Name, second: &Name, good: bool) -> bool {
+    let a = page::write(to, b"< ", good);
+    let b = write_name(to, first, a);
+    let c = page::write(to, b"\n> ", b);
+    let d = write_name(to, second, c);
+    page::write(to, b"\n", d)
 }
 
 // A count and what is counted, in the plural unless it is one.
@@ -86,8 +94,8 @@ fn put_side(s: Side, out: &mut [u8], at: usize) -> usize {
 }
 
 // A pair that differs: its number, and the place and length of each side.
-pub fn put_pair(w: Walk, out: &mut [u8], p: Page) -> Page {
-    let q = page::with_room(out, p);
+pub fn put_pair(to: Output, w: Walk, out: &mut [u8], p: Page) -> Page {
+    let q = page::with_room(to, out, p);
     let a = text::put_text(b"group ", out, q.put);
     let b = text::put_decimal(w.number as u64, out, a);
     let c = text::put_text(b": < ", out, b);
@@ -98,8 +106,8 @@ pub fn put_pair(w: Walk, out: &mut [u8], p: Page) -> Page {
 }
 
 // The last line.
-pub fn put_counts(w: Walk, out: &mut [u8], p: Page) -> Page {
-    let q = page::with_room(out, p);
+pub fn put_counts(to: Output, w: Walk, out: &mut [u8], p: Page) -> Page {
+    let q = page::with_room(to, out, p);
     if w.differing == 0 {
         let a = text::put_text(b"no difference in ", out, q.put);
         let b = put_many(w.number, b" group", out, a);

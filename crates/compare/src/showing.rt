@@ -8,6 +8,8 @@ use crate::reading::{Met, Window};
 use crate::turns::{Pass, Turned};
 use crate::{page, turns};
 use comparing::Side;
+use input::Source;
+use output::Output;
 use records::Item;
 
 // The reading, the text that waits, whether to go on, whether the logs could be read on.
@@ -81,16 +83,24 @@ fn put_place(mark: &[u8], place: u64, gap: &[u8], out: &mut [u8], at: usize) -> 
 }
 
 // A record of one log: its mark, its place in that log's column, its words.
-fn put_one(mark: &[u8], s: &[u8], place: u64, gap: &[u8], out: &mut [u8], p: Page) -> Page {
-    let q = page::with_room(out, p);
+fn put_one(
+    to: Output,
+    mark: &[u8],
+    s: &[u8],
+    place: u64,
+    gap: &[u8],
+    out: &mut [u8],
+    p: Page,
+) -> Page {
+    let q = page::with_room(to, out, p);
     let a = put_place(mark, place, gap, out, q.put);
     let b = put_words(s, out, a);
     page::ended(text::put_text(b"\n", out, b), q)
 }
 
 // A record that both logs have: both places.
-fn put_same(s: &[u8], first: u64, second: u64, out: &mut [u8], p: Page) -> Page {
-    let q = page::with_room(out, p);
+fn put_same(to: Output, s: &[u8], first: u64, second: u64, out: &mut [u8], p: Page) -> Page {
+    let q = page::with_room(to, out, p);
     let a = put_place(b"  ", first, b"", out, q.put);
     let b = put_place(b"", second, b"  ", out, a);
     let c = put_words(s, out, b);
@@ -98,23 +108,24 @@ fn put_same(s: &[u8], first: u64, second: u64, out: &mut [u8], p: Page) -> Page 
 }
 
 // The record of the first log, where its group has one.
-fn put_first(s: &[u8], place: u64, out: &mut [u8], p: Page) -> Page {
+fn put_first(to: Output, s: &[u8], place: u64, out: &mut [u8], p: Page) -> Page {
     if s.len() == 0 {
         return p;
     }
-    put_one(b"< ", s, place, b"             ", out, p)
+    put_one(to, b"< ", s, place, b"             ", out, p)
 }
 
 // A line of the second log's record, if there is one.
-fn put_second(s: &[u8], place: u64, out: &mut [u8], p: Page) -> Page {
+fn put_second(to: Output, s: &[u8], place: u64, out: &mut [u8], p: Page) -> Page {
     if s.len() == 0 {
         return p;
     }
-    put_one(b">            ", s, place, b"  ", out, p)
+    put_one(to, b">            ", s, place, b"  ", out, p)
 }
 
 // The next records of both sides.
 fn put_row(
+    to: Output,
     c: &[u8],
     d: &[u8],
     p: Pass,
@@ -130,10 +141,10 @@ fn put_row(
     let s = record(c, p.a, m);
     let t = record(d, p.b, n);
     if same {
-        return put_same(s, first, second, out, q);
+        return put_same(to, s, first, second, out, q);
     }
-    let r = put_first(s, first, out, q);
-    put_second(t, second, out, r)
+    let r = put_first(to, s, first, out, q);
+    put_second(to, t, second, out, r)
 }
 
 // The pair's lines go on from here.
@@ -176,6 +187,7 @@ pub fn with_page(s: Shown, page: Page) -> Shown
 
 // The records that a turn met, of m and n bytes, where they are of the pair that is shown.
 fn row_met(
+    to: Output,
     c: &[u8],
     d: &[u8],
     number: usize,
@@ -191,15 +203,16 @@ fn row_met(
     let p = s.pass;
     let walk = p.walk;
     if walk.number == number {
-        return on(t, put_row(c, d, p, m, n, same, out, s.page));
+        return on(t, put_row(to, c, d, p, m, n, same, out, s.page));
     }
     on(t, s.page)
 }
 
 // One turn of a pair's lines, as long as the walk stands at the pair.
 fn show_turn(
-    third: i32,
-    fourth: i32,
+    third: &mut Source,
+    fourth: &mut Source,
+    to: Output,
     c: &mut [u8],
     d: &mut [u8],
     out: &mut [u8],
@@ -215,14 +228,14 @@ fn show_turn(
     if number < walk.number {
         return halted(p, s.page, true);
     }
-    let t = turns::turn(third, fourth, c, d, p);
+    let t = turns::turn(third, fourth, to, c, d, p);
     let m = t.met;
     match m {
         Met::Row {
             first,
             second,
             same,
-        } => row_met(c, d, number, s, t, first, second, same, out),
+        } => row_met(to, c, d, number, s, t, first, second, same, out),
         Met::Pair { differs: _ } => on(t, s.page),
         Met::Read => on(t, s.page),
         Met::Over => halted(t.pass, s.page, false),
@@ -232,8 +245,9 @@ fn show_turn(
 
 // On to the pair of a number, and past it: each turn passes some, reads some, ends a pair, or is the last.
 pub fn show(
-    third: i32,
-    fourth: i32,
+    third: &mut Source,
+    fourth: &mut Source,
+    to: Output,
     c: &mut [u8],
     d: &mut [u8],
     out: &mut [u8],
@@ -252,7 +266,7 @@ pub fn show(
         good: true,
     };
     while s.more {
-        s = show_turn(third, fourth, c, d, out, number, s);
+        s = show_turn(third, fourth, to, c, d, out, number, s);
     }
     s
 }

@@ -5,6 +5,8 @@ ghost use Rattle.compare.specs.Turns.{pass_begun, pass_turned, next_step, Comes,
 use crate::reading;
 use crate::reading::{Met, Window};
 use comparing::{Step, Walk};
+use input::Source;
+use output::Output;
 
 // Two logs through their buffers, and the walk over them.
 #[derive(Clone, Copy)]
@@ -42,7 +44,14 @@ fn came_to(a: Window, b: Window, walk: Walk, m: Met) -> Turned
 }
 
 // One step of the walk over both logs, or a part more of the one that it wants.
-pub fn turn(first: i32, second: i32, a: &mut [u8], b: &mut [u8], p: Pass) -> Turned
+pub fn turn(
+    first: &mut Source,
+    second: &mut Source,
+    to: Output,
+    a: &mut [u8],
+    b: &mut [u8],
+    p: Pass,
+) -> Turned
     requires { BothSound (length a.old) (length b.old) p }
     ensures comes { Comes a.old b.old p result a.new b.new (next_step a.old b.old p) }
     ensures less_left { LessLeft p result.pass (another_turn result.met) (length a.old) (length b.old) }
@@ -58,13 +67,13 @@ pub fn turn(first: i32, second: i32, a: &mut [u8], b: &mut [u8], p: Pass) -> Tur
         w.ended,
     ) {
         Step::WantsFirst => {
-            let t = reading::top_up(1, first, a, v);
+            let t = reading::top_up(1, first, to, a, v);
             let u = t.window;
             let m = t.met;
             came_to(u, w, walk, m)
         }
         Step::WantsSecond => {
-            let t = reading::top_up(2, second, b, w);
+            let t = reading::top_up(2, second, to, b, w);
             let u = t.window;
             let m = t.met;
             came_to(v, u, walk, m)

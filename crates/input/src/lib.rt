@@ -2,9 +2,14 @@
 #![tactic(auto)]
 
 ghost use Rattle.std.specs.Prelude.{◌≡◌, ◌+◌, ◌<◌, ◌≤◌, length};
+ghost use Rattle.std.specs.Io.{ReadsAtMost};
 ghost use Rattle.input.specs.Buffers.{Read, FewerToCome, Grown, moved_down, carried, carried_count};
 
-use libc::{STDERR_FILENO, STDIN_FILENO};
+use output::Output;
+use std::env::FillError;
+use std::fs::File;
+use std::io::{Error, ErrorKind, Read, Stdin};
+use std::rt::{Env, Files};
 
 // The system's word that an input has ended, behind so many bytes of a buffer. The field is private: only `fill` makes such a
 // value, of a read that gave nothing, so that no other crate can claim an end that it was not told.
@@ -31,51 +36,117 @@ pub enum More {
     Failed,
 }
 
-// A descriptor to read from; below 0 where the file cannot be opened, which standard error then says.
-pub fn open_input() -> i32 {
-    if os::arg_count() < 2 {
-        return STDIN_FILENO;
+// What is read.
+#[derive(Drop)]
+enum Place {
+    Standard(Stdin),
+    Named(File),
+}
+
+// What is read, and why a read of it failed last.
+#[derive(Drop)]
+pub struct Source {
+    place: Place,
+    failure: Error,
+}
+
+// The system's numbers for a name that is too long, and for no failure.
+const TOO_LONG: i32 = 36;
+
+const NONE: i32 = 0;
+
+// A source of which nothing has been read.
+fn begun(place: Place) -> Source {
+    Source {
+        place,
+        failure: Error::from_raw_os_error(NONE),
     }
-    let mut path = io::buffer();
-    let length = os::arg(1, &mut path);
-    if os::errno() != 0 {
-        os::fail(b"the file's name");
-        return -1;
+}
+
+// Standard input.
+pub fn standard(stdin: Stdin) -> Source {
+    begun(Place::Standard(stdin))
+}
+
+// The file of this name, or nothing where it cannot be opened, which standard error then says.
+pub fn open_file<R: Files<File = File>>(rt: &R, to: Output, name: &[u8]) -> Option<Source> {
+    let Ok(path) = std::str::from_utf8(name) else {
+        let why = Error::new(ErrorKind::InvalidFilename, "the name is not in UTF-8");
+        output::fail(to, name, why);
+        return None;
+    };
+    match File::open(rt, path) {
+        Ok(file) => Some(begun(Place::Named(file))),
+        Err(why) => {
+            output::fail(to, name, why);
+            None
+        }
     }
-    let fd = os::open_read(&path[..length]);
-    if fd < 0 {
-        os::fail(&path[..length]);
+}
+
+// Says that a file's name is longer than any path.
+pub fn name_too_long(to: Output) {
+    output::fail(to, b"the file's name", Error::from_raw_os_error(TOO_LONG));
+}
+
+// What to read from; nothing where the file cannot be opened, which standard error then says.
+pub fn open_input<R: Env + Files<File = File>>(rt: &R, stdin: Stdin, to: Output) -> Option<Source> {
+    let mut path = [0u8; 4096];
+    match rt.arg(1, &mut path) {
+        Ok(n) => open_file(rt, to, &path[..n]),
+        Err(FillError::NotPresent) => Some(standard(stdin)),
+        Err(FillError::TooLong) => {
+            name_too_long(to);
+            None
+        }
     }
-    fd
+}
+
+// One read of the system.
+fn read_once(place: &mut Place, buf: &mut [u8]) -> std::io::Result<usize>
+    ensures { ReadsAtMost result buf.new }
+{
+    match place {
+        Place::Standard(stdin) => stdin.read(buf),
+        Place::Named(file) => file.read(buf),
+    }
 }
 
 // Reads once, behind the bytes that the buffer has.
-pub fn fill(fd: i32, buf: &mut [u8], have: usize) -> Filled
+pub fn fill(source: &mut Source, buf: &mut [u8], have: usize) -> Filled
     ensures { Read buf.old have result buf.new }
 {
     if buf.len() <= have {
         return Filled::Full;
     }
-    let got = libc::read(fd, &mut buf[have..]);
-    if got < 0 {
-        return Filled::Failed;
+    match read_once(&mut source.place, &mut buf[have..]) {
+        Ok(n) => {
+            if n == 0 {
+                return Filled::End(Ended { behind: have });
+            }
+            Filled::To(have + n)
+        }
+        Err(why) => {
+            source.failure = why;
+            Filled::Failed
+        }
     }
-    let n = io::count(got, &buf[have..]);
-    if n == 0 {
-        return Filled::End(Ended { behind: have });
-    }
-    Filled::To(have + n)
+}
+
+// Says on standard error why a read failed last, behind what was read.
+pub fn say_failed(source: &Source, to: Output, what: &[u8]) {
+    output::fail(to, what, source.failure);
 }
 
 // What was read is taken off the bytes that may still come.
-fn counted(have: usize, n: usize, left: u64) -> More
+fn counted(have: usize, n: usize, left: u64, to: Output) -> More
     requires { have < n }
     ensures { FewerToCome have n left result }
 {
     let got = (n - have) as u64;
     if left < got {
-        io::write_all(
-            STDERR_FILENO,
+        output::say(
+            to,
             b"read: the input is longer than 18446744073709551615 bytes\n",
         );
         return More::Failed;
@@ -88,18 +159,35 @@ fn counted(have: usize, n: usize, left: u64) -> More
 
 // Reads once, as `fill`. Each read takes at least a byte off `left`, so that a loop over any input ends. What failed is said on
 // standard error.
-pub fn read_more(fd: i32, buf: &mut [u8], have: usize, left: u64) -> More
+pub fn read_more(source: &mut Source, to: Output, buf: &mut [u8], have: usize, left: u64) -> More
     ensures { Grown buf.old have left result buf.new }
 {
-    match fill(fd, buf, have) {
-        Filled::To(n) => counted(have, n, left),
+    match fill(source, buf, have) {
+        Filled::To(n) => counted(have, n, left, to),
         Filled::End(end) => More::End(end),
         Filled::Full => More::Full,
         Filled::Failed => {
-            os::fail(b"read");
+            say_failed(source, to, b"read");
             More::Failed
         }
     }
+}
+
+// Reads until the buffer is full, the input ends or a read fails, and says how many bytes stand at the front of the buffer.
+pub fn read_full(source: &mut Source, buf: &mut [u8]) -> usize
+    ensures { result ≤ length buf.new }
+{
+    let mut have = 0;
+    let mut more = true;
+    while more {
+        match fill(source, buf, have) {
+            Filled::To(n) => have = n,
+            Filled::End(_) => more = false,
+            Filled::Full => more = false,
+            Filled::Failed => more = false,
+        }
+    }
+    have
 }
 
 // n bytes from an index on, moved to the front.

@@ -5,8 +5,8 @@
 
 mod page;
 
-use libc::STDOUT_FILENO;
 use model::{Access, Settings};
+use output::Output;
 use rounds::Went;
 
 // Two lines in two sets, two miss entries, two tickets in each, four places in the queue: the arrays below are as long as these ask.
@@ -33,6 +33,7 @@ fn write_to(address: u64) -> Access {
 
 // Prints a case: its rounds, its struck rounds, and whether they agree.
 fn print(
+    to: Output,
     name: &[u8],
     x: Access,
     ran: Went,
@@ -41,7 +42,7 @@ fn print(
     struck_log: &[u8],
     same: bool,
 ) {
-    let mut out = io::buffer();
+    let mut out = [0u8; 4096];
     let a = page::put_title(name, x, &mut out, 0);
     let b = page::put_run(b"rounds: ", ran, log, &mut out, a);
     let c = page::put_run(b"struck rounds: ", struck, struck_log, &mut out, b);
@@ -51,11 +52,12 @@ fn print(
         &mut out,
         c,
     );
-    io::write_all(STDOUT_FILENO, text::front(&out, d));
+    output::put(to, text::front(&out, d));
 }
 
 // The rounds, four at the most, on three slices; the struck rounds on three others.
 fn run_both(
+    to: Output,
     name: &[u8],
     s: Settings,
     x: Access,
@@ -88,11 +90,12 @@ fn run_both(
         marks,
         struck_marks,
     );
-    print(name, x, ran, &log, struck, &struck_log, same);
+    print(to, name, x, ran, &log, struck, &struck_log, same);
 }
 
 // Both, the second on a copy of the tables.
 fn show(
+    to: Output,
     name: &[u8],
     s: Settings,
     x: Access,
@@ -104,12 +107,12 @@ fn show(
     let mut word = *words;
     let mut mark = *marks;
     run_both(
-        name, s, x, longs, words, marks, &mut long, &mut word, &mut mark,
+        to, name, s, x, longs, words, marks, &mut long, &mut word, &mut mark,
     );
 }
 
 // Set 0 waits for a fill, and set 1's comes first.
-fn busy() {
+fn busy(to: Output) {
     let mut longs = [0u64; 8];
     let mut words = [0u32; 36];
     let mut marks = [0u8; 24];
@@ -119,6 +122,7 @@ fn busy() {
     cache::read(s, &mut longs, &mut words, &mut marks, 0, 2);
     cache::read(s, &mut longs, &mut words, &mut marks, 0, 3);
     show(
+        to,
         b"a busy set",
         s,
         write_to(256),
@@ -129,7 +133,7 @@ fn busy() {
 }
 
 // One dirty line of two, where 60 percent are asked for: nothing is on its way that could change it.
-fn held() {
+fn held(to: Output) {
     let mut longs = [0u64; 8];
     let mut words = [0u32; 36];
     let mut marks = [0u8; 24];
@@ -137,6 +141,7 @@ fn held() {
     cache::fresh(s, &mut longs, &mut words, &mut marks);
     cache::write(s, &mut longs, &mut words, &mut marks, 0, 255);
     show(
+        to,
         b"a held set",
         s,
         write_to(256),
@@ -147,7 +152,7 @@ fn held() {
 }
 
 // The same, but a fill makes the other line dirty.
-fn held_at_first() {
+fn held_at_first(to: Output) {
     let mut longs = [0u64; 8];
     let mut words = [0u32; 36];
     let mut marks = [0u8; 24];
@@ -158,6 +163,7 @@ fn held_at_first() {
     cache::read(s, &mut longs, &mut words, &mut marks, 128, 2);
     cache::write(s, &mut longs, &mut words, &mut marks, 0, 255);
     show(
+        to,
         b"a set held at first",
         s,
         write_to(256),
@@ -168,7 +174,7 @@ fn held_at_first() {
 }
 
 // Four write-backs wait; a read with a dirty victim needs two places.
-fn full() {
+fn full(to: Output) {
     let mut longs = [0u64; 8];
     let mut words = [0u32; 36];
     let mut marks = [0u8; 24];
@@ -184,13 +190,22 @@ fn full() {
         mask: 0,
         ticket: 9,
     };
-    show(b"a full queue", s, x, &mut longs, &mut words, &mut marks);
+    show(
+        to,
+        b"a full queue",
+        s,
+        x,
+        &mut longs,
+        &mut words,
+        &mut marks,
+    );
 }
 
 // A busy set, a held one, one that is held at first, a full queue.
-fn main() {
-    busy();
-    held();
-    held_at_first();
-    full();
+fn main(rt: HostRuntime) {
+    let to = Output::new(rt.stdout(), rt.stderr());
+    busy(to);
+    held(to);
+    held_at_first(to);
+    full(to);
 }

@@ -113,7 +113,7 @@ fn leave_out(s: &[u8], out: &mut [u8]) -> usize {
 
 // Whether the events but 0x11 are the same.
 pub(crate) fn same_events(ran: Went, log: &[u8], struck: Went, struck_log: &[u8]) -> bool {
-    let mut left = io::buffer();
+    let mut left = [0u8; 4096];
     let n = leave_out(text::front(log, bytes_of(ran)), &mut left);
     check::same(
         text::front(&left, n),

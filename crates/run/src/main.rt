@@ -11,6 +11,8 @@ ghost use Rattle.running.specs.Lengths.{lengths_for, Long};
 ghost use Rattle.streaming.specs.First.{Opened};
 ghost use Rattle.streaming.specs.Wholes.{Whole, WholeRun};
 
+use input::Source;
+use output::Output;
 use running::Opening;
 use streaming::parts::Started;
 use streaming::scope::Scope;
@@ -19,7 +21,8 @@ use streaming::{first, parts, rooms, work};
 
 // The first record, then the rest, on slices as long as the stream's settings ask.
 fn run_all(
-    fd: i32,
+    source: &mut Source,
+    to: Output,
     first: Opening,
     buf: &mut [u8],
     longs: &mut [u64],
@@ -37,7 +40,8 @@ fn run_all(
     match parts::start(first, buf, longs, words, marks, w) {
         Started::Stops(stopped) => stopped,
         Started::Runs { settings, work } => parts::run_rest(
-            fd,
+            source,
+            to,
             settings,
             buf,
             longs,
@@ -50,7 +54,7 @@ fn run_all(
 }
 
 // Lends what the stream's own settings ask for, so that stop 2 never comes.
-fn run_stream(fd: i32, buf: &mut [u8], w: Work) -> Work
+fn run_stream(source: &mut Source, to: Output, buf: &mut [u8], w: Work) -> Work
     requires opened { Opened buf.old w }
     requires in_bounds { 64 ≤ length buf.old }
     ensures { WholeRun (take w.have buf.old) w result }
@@ -64,7 +68,8 @@ fn run_stream(fd: i32, buf: &mut [u8], w: Work) -> Work
     let b = n.words;
     let c = n.marks;
     run_all(
-        fd,
+        source,
+        to,
         first,
         buf,
         &mut longs[..a],
@@ -75,19 +80,19 @@ fn run_stream(fd: i32, buf: &mut [u8], w: Work) -> Work
 }
 
 // Runs the stream that is named or comes on standard input.
-fn main() {
-    let fd = input::open_input();
-    if fd < 0 {
+fn main(rt: HostRuntime) {
+    let to = Output::new(rt.stdout(), rt.stderr());
+    let Some(mut source) = input::open_input(&rt, rt.stdin(), to) else {
         return;
-    }
-    let mut space = io::large_buffer();
+    };
+    let mut space = [0u8; 65536];
     let buf: &mut [u8] = &mut space;
-    let first = first::read_first(fd, buf);
+    let first = first::read_first(&mut source, to, buf);
     if work::has_failed(first) {
         return;
     }
-    let last = run_stream(fd, buf, first);
+    let last = run_stream(&mut source, to, buf, first);
     if work::has_stopped(last) {
-        says::last_line(buf, last);
+        says::last_line(to, buf, last);
     }
 }

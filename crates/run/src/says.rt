@@ -1,5 +1,5 @@
 // The last line, on standard error: why the run stopped, what was consumed and written, and a few plain words.
-use libc::STDERR_FILENO;
+use output::Output;
 use streaming::work::Work;
 use wording::stops;
 
@@ -15,8 +15,8 @@ fn put_line(rest: &[u8], w: Work, out: &mut [u8]) -> usize {
 }
 
 // Writes the last line to standard error.
-pub fn last_line(buf: &[u8], w: Work) {
-    let mut page = io::buffer();
+pub fn last_line(to: Output, buf: &[u8], w: Work) {
+    let mut page = [0u8; 4096];
     let end = put_line(text::front(buf, w.have), w, &mut page);
-    io::write_all(STDERR_FILENO, text::front(&page, end));
+    output::say(to, text::front(&page, end));
 }

@@ -17,25 +17,25 @@
 mod runs;
 
 use assembly::Assembled;
-use libc::{STDIN_FILENO, STDOUT_FILENO};
+use output::Output;
 use runs::Trial;
 
 // A test's name.
-fn show_name(line: &[u8], at: usize) {
+fn show_name(to: Output, line: &[u8], at: usize) {
     let mut out = [0u8; 512];
     let start = text::skip_spaces(line, at);
     let end = text::put_text(text::part(line, start, line.len()), &mut out, 0);
     let next = text::put_text(b": ", &mut out, end);
-    io::write_all(STDOUT_FILENO, text::front(&out, next));
+    output::put(to, text::front(&out, next));
 }
 
 // A line that is no command.
-fn on_word(line: &[u8], t: Trial, stream: &mut [u8; 256]) -> Trial {
+fn on_word(to: Output, line: &[u8], t: Trial, stream: &mut [u8; 256]) -> Trial {
     let at = text::skip_spaces(line, 0);
     let end = text::word_end(line, at);
     let n = scripts::number_next(line, end);
     if text::word_is(line, at, b"test") {
-        show_name(line, end);
+        show_name(to, line, end);
         return runs::new_trial();
     }
     if text::word_is(line, at, b"byte") {
@@ -51,35 +51,42 @@ fn on_word(line: &[u8], t: Trial, stream: &mut [u8; 256]) -> Trial {
         return runs::with_lengths(t, line, end);
     }
     if text::word_is(line, at, b"run") {
-        runs::on_run(t, stream);
+        runs::on_run(to, t, stream);
         return t;
     }
-    on_part(line, at, n.value, t, stream)
+    on_part(to, line, at, n.value, t, stream)
 }
 
 // A part that goes on, on fresh tables or on the stale ones.
-fn on_part(line: &[u8], at: usize, sets: u64, t: Trial, stream: &mut [u8; 256]) -> Trial {
+fn on_part(
+    to: Output,
+    line: &[u8],
+    at: usize,
+    sets: u64,
+    t: Trial,
+    stream: &mut [u8; 256],
+) -> Trial {
     if text::word_is(line, at, b"resume") {
-        runs::on_resume(t, sets, stream);
+        runs::on_resume(to, t, sets, stream);
     } else if text::word_is(line, at, b"stale") {
-        runs::on_stale(t, sets, stream);
+        runs::on_stale(to, t, sets, stream);
     } else {
-        io::write_all(STDOUT_FILENO, b"a line that is none\n");
+        output::put(to, b"a line that is none\n");
     }
     t
 }
 
 // One line of the script: a command for the stream, or a word of the script's own.
-fn one_line(line: &[u8], t: Trial, stream: &mut [u8; 256]) -> Trial {
+fn one_line(to: Output, line: &[u8], t: Trial, stream: &mut [u8; 256]) -> Trial {
     match assembly::assemble_line(line, stream, t.len) {
         Assembled::Next(len) => runs::with_len(t, len),
         Assembled::NoRoom => t,
-        Assembled::Bad(_) => on_word(line, t, stream),
+        Assembled::Bad(_) => on_word(to, line, t, stream),
     }
 }
 
 // A script's last line ends in a line feed.
-fn run(script: &[u8]) {
+fn run(to: Output, script: &[u8]) {
     let mut stream = [0u8; 256];
     let mut t = runs::new_trial();
     let mut at = 0;
@@ -88,14 +95,16 @@ fn run(script: &[u8]) {
         if script.len() <= end {
             break;
         }
-        t = one_line(text::part(script, at, end), t, &mut stream);
+        t = one_line(to, text::part(script, at, end), t, &mut stream);
         at = end + 1;
     }
 }
 
 // Runs the script on standard input.
-fn main() {
-    let mut script = io::large_buffer();
-    let n = io::read_full(STDIN_FILENO, &mut script);
-    run(text::front(&script, n));
+fn main(rt: HostRuntime) {
+    let to = Output::new(rt.stdout(), rt.stderr());
+    let mut source = input::standard(rt.stdin());
+    let mut script = [0u8; 65536];
+    let n = input::read_full(&mut source, &mut script);
+    run(to, text::front(&script, n));
 }

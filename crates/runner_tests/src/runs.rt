@@ -1,8 +1,8 @@
 // A stream that a script writes, its run, and what the run leaves as text.
 ghost use Rattle.std.specs.Prelude.{◌<◌};
 
-use libc::STDOUT_FILENO;
 use model::{Ran, Settings};
+use output::Output;
 
 // The bytes of the stream so far, the event room, and how many numbers of each slice are lent.
 #[derive(Clone, Copy)]
@@ -241,18 +241,18 @@ fn put_events(events: &[u8], out: &mut [u8], at: usize) -> usize {
 }
 
 // How a run stops and what it leaves.
-fn print(ran: Ran, events: &[u8], longs: &[u64], words: &[u32], marks: &[u8]) {
+fn print(to: Output, ran: Ran, events: &[u8], longs: &[u64], words: &[u32], marks: &[u8]) {
     let mut out = [0u8; 1024];
     let written = ran.written;
     let a = put_ran(ran, &mut out);
     let b = put_left(left_in(longs, words, marks), &mut out, a);
     let c = put_beyond(events, written, &mut out, b);
     let d = put_events(text::front(events, written), &mut out, c);
-    io::write_all(STDOUT_FILENO, text::front(&out, d));
+    output::put(to, text::front(&out, d));
 }
 
 // Goes on with the stream as a part, on fresh tables.
-pub(crate) fn on_resume(t: Trial, sets: u64, stream: &[u8]) {
+pub(crate) fn on_resume(to: Output, t: Trial, sets: u64, stream: &[u8]) {
     let mut longs = [9u64; 16];
     let mut words = [9u32; 64];
     let mut marks = [9u8; 64];
@@ -267,11 +267,11 @@ pub(crate) fn on_resume(t: Trial, sets: u64, stream: &[u8]) {
         &mut words,
         &mut marks,
     );
-    print(ran, &events, &longs, &words, &marks);
+    print(to, ran, &events, &longs, &words, &marks);
 }
 
 // Goes on with it on stale tables.
-pub(crate) fn on_stale(t: Trial, sets: u64, stream: &[u8]) {
+pub(crate) fn on_stale(to: Output, t: Trial, sets: u64, stream: &[u8]) {
     let mut longs = [9u64; 16];
     let mut words = [9u32; 64];
     let mut marks = [9u8; 64];
@@ -285,11 +285,11 @@ pub(crate) fn on_stale(t: Trial, sets: u64, stream: &[u8]) {
         &mut words,
         &mut marks,
     );
-    print(ran, &events, &longs, &words, &marks);
+    print(to, ran, &events, &longs, &words, &marks);
 }
 
 // Runs the stream on stale tables.
-pub(crate) fn on_run(t: Trial, stream: &[u8]) {
+pub(crate) fn on_run(to: Output, t: Trial, stream: &[u8]) {
     let mut longs = [9u64; 16];
     let mut words = [9u32; 64];
     let mut marks = [9u8; 64];
@@ -302,5 +302,5 @@ pub(crate) fn on_run(t: Trial, stream: &[u8]) {
         &mut words,
         &mut marks,
     );
-    print(ran, &events, &longs, &words, &marks);
+    print(to, ran, &events, &longs, &words, &marks);
 }

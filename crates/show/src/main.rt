@@ -8,8 +8,8 @@ mod damage;
 ghost use Rattle.std.specs.Prelude.{◌≡◌, ◌-◌, ◌≤◌, false, length};
 ghost use Rattle.input.specs.Buffers.{turns_left};
 
-use input::{Ended, More};
-use libc::STDOUT_FILENO;
+use input::{Ended, More, Source};
+use output::Output;
 use records::Item;
 
 // The bytes that wait at the front of the buffer, the place of the first of them in the whole input, the bytes of text that
@@ -36,16 +36,12 @@ struct Turn {
 }
 
 // Writes what waits; says whether it went.
-fn write_out(out: &[u8], n: usize) -> bool {
-    let done = io::write_all(STDOUT_FILENO, text::front(out, n));
-    if !done {
-        os::fail(b"write");
-    }
-    done
+fn write_out(to: Output, out: &[u8], n: usize) -> bool {
+    output::write(to, text::front(out, n))
 }
 
 // Writes what waits where few places are free: no line takes 512 bytes.
-fn with_room(out: &[u8], t: Turn) -> Turn
+fn with_room(to: Output, out: &[u8], t: Turn) -> Turn
     ensures { result.at ≡ t.at }
 {
     let put = t.put;
@@ -54,7 +50,7 @@ fn with_room(out: &[u8], t: Turn) -> Turn
             return t;
         }
     }
-    let done = write_out(out, put);
+    let done = write_out(to, out, put);
     Turn {
         at: t.at,
         put: 0,
@@ -110,10 +106,10 @@ fn damaged(t: Turn, put: usize) -> Turn
 }
 
 // The record at a place of the buffer, as a line; goes past it, or ends the buffer's turns.
-fn show_one(s: &[u8], place: u64, out: &mut [u8], t: Turn) -> Turn
+fn show_one(to: Output, s: &[u8], place: u64, out: &mut [u8], t: Turn) -> Turn
     ensures { turns_left result.more (length s.now - result.at) ≤ length s.now - t.at }
 {
-    let r = with_room(out, t);
+    let r = with_room(to, out, t);
     if r.lost {
         return waiting(r);
     }
@@ -148,7 +144,7 @@ fn show_one(s: &[u8], place: u64, out: &mut [u8], t: Turn) -> Turn
 }
 
 // The whole records of a buffer: each is a byte or more.
-fn show_records(s: &[u8], place: u64, out: &mut [u8], put: usize) -> Turn {
+fn show_records(to: Output, s: &[u8], place: u64, out: &mut [u8], put: usize) -> Turn {
     let mut t = Turn {
         at: 0,
         put,
@@ -157,16 +153,16 @@ fn show_records(s: &[u8], place: u64, out: &mut [u8], put: usize) -> Turn {
         lost: false,
     };
     while t.more {
-        t = show_one(s, place, out, t);
+        t = show_one(to, s, place, out, t);
     }
     t
 }
 
 // The first n bytes of the buffer; what is no whole record yet goes to its front.
-fn show_buffer(buf: &mut [u8], n: usize, left: u64, out: &mut [u8], w: Work) -> Work
+fn show_buffer(to: Output, buf: &mut [u8], n: usize, left: u64, out: &mut [u8], w: Work) -> Work
     ensures { result.left ≡ left }
 {
-    let t = show_records(text::front(buf, n), w.place, out, w.put);
+    let t = show_records(to, text::front(buf, n), w.place, out, w.put);
     let at = t.at;
     Work {
         have: input::carry(buf, at, n),
@@ -205,11 +201,11 @@ fn show_rest(_end: Ended, buf: &[u8], out: &mut [u8], w: Work) -> Work
 }
 
 // Reads once: fewer bytes may come then, or it was the last turn.
-fn read_once(fd: i32, buf: &mut [u8], out: &mut [u8], w: Work) -> Work
+fn read_once(source: &mut Source, to: Output, buf: &mut [u8], out: &mut [u8], w: Work) -> Work
     ensures { turns_left result.more result.left ≤ w.left }
 {
-    match input::read_more(fd, buf, w.have, w.left) {
-        More::To { have, left } => show_buffer(buf, have, left, out, w),
+    match input::read_more(source, to, buf, w.have, w.left) {
+        More::To { have, left } => show_buffer(to, buf, have, left, out, w),
         More::End(end) => show_rest(end, buf, out, w),
         More::Full => stopped(w, w.put),
         More::Failed => stopped(w, w.put),
@@ -217,7 +213,7 @@ fn read_once(fd: i32, buf: &mut [u8], out: &mut [u8], w: Work) -> Work
 }
 
 // After a failed write nothing more is written.
-fn show_all(fd: i32, buf: &mut [u8], out: &mut [u8]) {
+fn show_all(source: &mut Source, to: Output, buf: &mut [u8], out: &mut [u8]) {
     let mut w = Work {
         have: 0,
         place: 0,
@@ -227,20 +223,20 @@ fn show_all(fd: i32, buf: &mut [u8], out: &mut [u8]) {
         lost: false,
     };
     while w.more {
-        w = read_once(fd, buf, out, w);
+        w = read_once(source, to, buf, out, w);
     }
     if !w.lost {
-        write_out(out, w.put);
+        write_out(to, out, w.put);
     }
 }
 
 // Shows the stream or log that is named or comes on standard input.
-fn main() {
-    let fd = input::open_input();
-    if fd < 0 {
+fn main(rt: HostRuntime) {
+    let to = Output::new(rt.stdout(), rt.stderr());
+    let Some(mut source) = input::open_input(&rt, rt.stdin(), to) else {
         return;
-    }
-    let mut buf = io::large_buffer();
-    let mut out = io::large_buffer();
-    show_all(fd, &mut buf, &mut out);
+    };
+    let mut buf = [0u8; 65536];
+    let mut out = [0u8; 65536];
+    show_all(&mut source, to, &mut buf, &mut out);
 }

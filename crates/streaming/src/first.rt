@@ -6,7 +6,8 @@ ghost use Rattle.streaming.specs.First.{Opened, after_reading};
 
 use crate::work;
 use crate::work::{Next, Work};
-use input::More;
+use input::{More, Source};
+use output::Output;
 
 // Once the first record is there, nothing behind it changes what it comes to.
 fn next_after(s: &[u8]) -> Next
@@ -20,12 +21,12 @@ fn next_after(s: &[u8]) -> Next
 }
 
 // Reads once. A buffer without room for a first record is a failure.
-fn read_once(fd: i32, buf: &mut [u8], w: Work) -> Work
+fn read_once(source: &mut Source, to: Output, buf: &mut [u8], w: Work) -> Work
     requires { Opened buf.old w }
     ensures opened { Opened buf.new result }
     ensures left_bound { turns_left (reads_next result.next) result.left ≤ w.left }
 {
-    match input::read_more(fd, buf, w.have, w.left) {
+    match input::read_more(source, to, buf, w.have, w.left) {
         More::To { have, left } => {
             work::at_start(have, left, next_after(text::front(buf, have)))
         }
@@ -36,13 +37,13 @@ fn read_once(fd: i32, buf: &mut [u8], w: Work) -> Work
 }
 
 // To the first record, or to the end of the input as the system told it, or to where reading failed.
-pub fn read_first(fd: i32, buf: &mut [u8]) -> Work
+pub fn read_first(source: &mut Source, to: Output, buf: &mut [u8]) -> Work
     ensures opened { Opened buf.new result }
     ensures next_value { reads_next result.next ≡ false }
 {
     let mut w = work::at_start(0, u64::MAX, Next::Read);
     while work::reads(w) {
-        w = read_once(fd, buf, w);
+        w = read_once(source, to, buf, w);
     }
     w
 }

@@ -13,10 +13,10 @@ ghost use Rattle.streaming.specs.Parts.{Ready, Ran, ReadsOnce, PartTurn, Rested,
 use crate::scope::Scope;
 use crate::work::Work;
 use crate::{scope, work};
-use input::More;
+use input::{More, Source};
 use layout::Layout;
-use libc::STDOUT_FILENO;
 use model::Settings;
+use output::Output;
 use running::{Begun, Opening};
 
 // What the first record comes to: settings at which the run goes on from there, or a run that has stopped.
@@ -34,21 +34,17 @@ struct Handed {
 }
 
 // Writes events to standard output, and says it if that fails.
-fn write_out(events: &[u8]) -> bool {
-    let done = io::write_all(STDOUT_FILENO, events);
-    if !done {
-        os::fail(b"write");
-    }
-    done
+fn write_out(to: Output, events: &[u8]) -> bool {
+    output::write(to, events)
 }
 
 // Writes the events of a part, where they are wanted. What the system does with them no contract says; that these bytes are
 // the part's events, `run_part` promises, which counts what is handed out here.
-fn hand_out(scope: Scope, events: &[u8]) -> Handed
+fn hand_out(to: Output, scope: Scope, events: &[u8]) -> Handed
     ensures { result.bytes ≡ length events.now }
 {
     let done = match scope {
-        Scope::All => write_out(events),
+        Scope::All => write_out(to, events),
         Scope::BeforeLast => true,
     };
     Handed {
@@ -59,6 +55,7 @@ fn hand_out(scope: Scope, events: &[u8]) -> Handed
 
 // Of the bytes that wait runs what is in scope as far as it goes, and moves what is left of them to the front.
 fn run_part(
+    to: Output,
     s: Settings,
     laid: Layout,
     buf: &mut [u8],
@@ -79,7 +76,7 @@ fn run_part(
     let end = scope::part_end(scope, text::front(buf, have));
     let part = text::front(buf, end);
     let ran = running::run_records(s, laid, part, 0, events, 0, longs, words, marks);
-    let handed = hand_out(scope, text::front(events, ran.written));
+    let handed = hand_out(to, scope, text::front(events, ran.written));
     let rest = input::carry(buf, ran.consumed, have);
     let stop = ran.stop;
     let v = work::behind(w, stop, ran.consumed, handed.bytes, rest);
@@ -87,10 +84,10 @@ fn run_part(
 }
 
 // Reads once: what came waits to be run, or the input has ended. No room in the buffer is a failure.
-fn read_part(fd: i32, buf: &mut [u8], w: Work) -> Work
+fn read_part(source: &mut Source, to: Output, buf: &mut [u8], w: Work) -> Work
     ensures { ReadsOnce buf.old w result buf.new }
 {
-    match input::read_more(fd, buf, w.have, w.left) {
+    match input::read_more(source, to, buf, w.have, w.left) {
         More::To { have, left } => work::read(w, have, left),
         More::End(end) => work::ended(w, end),
         More::Full => work::failed(w),
@@ -101,7 +98,8 @@ fn read_part(fd: i32, buf: &mut [u8], w: Work) -> Work
 // One turn: reads, or runs what waits. `run_part` is called here alone, so that the compiler takes it in. The buffer is never full where it
 // reads.
 fn turn(
-    fd: i32,
+    source: &mut Source,
+    to: Output,
     s: Settings,
     laid: Layout,
     buf: &mut [u8],
@@ -119,16 +117,17 @@ fn turn(
         w result buf.new (lent longs.new words.new marks.new) }
 {
     if work::reads(w) {
-        read_part(fd, buf, w)
+        read_part(source, to, buf, w)
     } else {
-        run_part(s, laid, buf, events, longs, words, marks, w, scope)
+        run_part(to, s, laid, buf, events, longs, words, marks, w, scope)
     }
 }
 
 // Turn by turn to the end: the run has stopped, or the system said that the input has ended, or reading or writing failed. The layout is
 // computed once, for all parts.
 pub fn run_rest(
-    fd: i32,
+    source: &mut Source,
+    to: Output,
     s: Settings,
     buf: &mut [u8],
     longs: &mut [u64],
@@ -143,11 +142,13 @@ pub fn run_rest(
         start result buf.new (lent longs.new words.new marks.new) }
 {
     let laid = layout::layout_of(s);
-    let mut space = io::large_buffer();
+    let mut space = [0u8; 65536];
     let events: &mut [u8] = &mut space;
     let mut w = start;
     while work::goes_on(w) {
-        w = turn(fd, s, laid, buf, events, longs, words, marks, w, scope);
+        w = turn(
+            source, to, s, laid, buf, events, longs, words, marks, w, scope,
+        );
     }
     w
 }

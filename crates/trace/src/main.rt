@@ -14,14 +14,17 @@ ghost use Rattle.running.specs.Begin.{first_record};
 ghost use Rattle.streaming.specs.First.{Opened};
 ghost use Rattle.trace.specs.Turns.{Over};
 
+use input::Source;
 use model::Settings;
+use output::Output;
 use running::{Begun, Opening};
 use streaming::{first, rooms};
 use work::Work;
 
 // Behind settings that are accepted, a record of `size` bytes, of which `have` bytes were read.
 fn trace_behind(
-    fd: i32,
+    source: &mut Source,
+    to: Output,
     s: Settings,
     size: usize,
     buf: &mut [u8],
@@ -33,17 +36,18 @@ fn trace_behind(
     requires { SoundSlices s (lent longs.old words.old marks.old) }
     ensures { Over result }
 {
-    let mut space = io::large_buffer();
+    let mut space = [0u8; 65536];
     let out: &mut [u8] = &mut space;
     let put = page::put_command_at(text::front(buf, have), 0, 0, out, 0);
     let rest = input::carry(buf, size, have);
     let start = work::begun(size, rest, put);
-    work::trace_rest(fd, s, buf, longs, words, marks, out, start)
+    work::trace_rest(source, to, s, buf, longs, words, marks, out, start)
 }
 
 // The first record, then the rest.
 fn trace_all(
-    fd: i32,
+    source: &mut Source,
+    to: Output,
     opening: Opening,
     buf: &mut [u8],
     longs: &mut [u64],
@@ -58,13 +62,18 @@ fn trace_all(
     match running::begin(opening, longs, words, marks) {
         Begun::Stopped(stop) => work::at_once(first, stop),
         Begun::Accepted { settings, next } => {
-            trace_behind(fd, settings, next, buf, longs, words, marks, have)
+            trace_behind(source, to, settings, next, buf, longs, words, marks, have)
         }
     }
 }
 
 // Lends what the stream's own settings ask for.
-fn trace_stream(fd: i32, buf: &mut [u8], first: streaming::work::Work) -> Work
+fn trace_stream(
+    source: &mut Source,
+    to: Output,
+    buf: &mut [u8],
+    first: streaming::work::Work,
+) -> Work
     requires { Opened buf.old first }
     ensures { Over result }
 {
@@ -77,7 +86,8 @@ fn trace_stream(fd: i32, buf: &mut [u8], first: streaming::work::Work) -> Work
     let b = n.words;
     let c = n.marks;
     trace_all(
-        fd,
+        source,
+        to,
         opening,
         buf,
         &mut longs[..a],
@@ -88,19 +98,19 @@ fn trace_stream(fd: i32, buf: &mut [u8], first: streaming::work::Work) -> Work
 }
 
 // Traces the stream that is named or comes on standard input.
-fn main() {
-    let fd = input::open_input();
-    if fd < 0 {
+fn main(rt: HostRuntime) {
+    let to = Output::new(rt.stdout(), rt.stderr());
+    let Some(mut source) = input::open_input(&rt, rt.stdin(), to) else {
         return;
-    }
-    let mut space = io::large_buffer();
+    };
+    let mut space = [0u8; 65536];
     let buf: &mut [u8] = &mut space;
-    let first = first::read_first(fd, buf);
+    let first = first::read_first(&mut source, to, buf);
     if streaming::work::has_failed(first) {
         return;
     }
-    let last = trace_stream(fd, buf, first);
+    let last = trace_stream(&mut source, to, buf, first);
     if work::has_stopped(last) {
-        work::last_line(buf, last);
+        work::last_line(to, buf, last);
     }
 }

@@ -8,8 +8,8 @@ ghost use Rattle.trace.specs.Turns.{Traced};
 
 use crate::page;
 use layout::Layout;
-use libc::STDOUT_FILENO;
 use model::{Access, Command, Event, Ran, Settings, Stop, Verdict};
+use output::Output;
 use records::Item;
 
 // Within one buffer: the place of the next record in it, the bytes of text that wait to be printed, the bytes of events, why
@@ -137,16 +137,12 @@ fn record_end(s: &[u8], at: usize) -> usize
 }
 
 // Prints the first n bytes of a page; says whether they went.
-pub(crate) fn print(page: &[u8], n: usize) -> bool {
-    let done = io::write_all(STDOUT_FILENO, text::front(page, n));
-    if !done {
-        os::fail(b"write");
-    }
-    done
+pub(crate) fn print(to: Output, page: &[u8], n: usize) -> bool {
+    output::write(to, text::front(page, n))
 }
 
 // Prints what waits where few places are free: no command takes 1,024 bytes.
-fn with_room(out: &[u8], t: Turn) -> Turn
+fn with_room(to: Output, out: &[u8], t: Turn) -> Turn
     ensures { result.at ≡ t.at }
 {
     let put = t.put;
@@ -156,7 +152,7 @@ fn with_room(out: &[u8], t: Turn) -> Turn
             return t;
         }
     }
-    let done = print(out, put);
+    let done = print(to, out, put);
     Turn {
         at: t.at,
         put: 0,
@@ -223,6 +219,7 @@ fn passed(t: Turn, ran: Ran, put: usize) -> Turn
 
 // The record at a place of the buffer, run by itself and shown; `place` is that of the buffer in the stream.
 fn trace_one(
+    to: Output,
     s: Settings,
     laid: Layout,
     bytes: &[u8],
@@ -248,11 +245,12 @@ fn trace_one(
     }
     let told = text::front(events, ran.written);
     let put = put_record(s, laid, longs, words, marks, bytes, place, told, out, t);
-    with_room(out, passed(t, ran, put))
+    with_room(to, out, passed(t, ran, put))
 }
 
 // The whole records of a buffer.
 pub(crate) fn trace_records(
+    to: Output,
     s: Settings,
     laid: Layout,
     bytes: &[u8],
@@ -276,7 +274,9 @@ pub(crate) fn trace_records(
         lost: false,
     };
     while t.more {
-        t = trace_one(s, laid, bytes, place, events, longs, words, marks, out, t);
+        t = trace_one(
+            to, s, laid, bytes, place, events, longs, words, marks, out, t,
+        );
     }
     t
 }

@@ -9,10 +9,10 @@ ghost use Rattle.trace.specs.Turns.{after_records, ended_by, StoppedByFirst, Sta
 
 use crate::turns;
 use crate::turns::Turn;
-use input::More;
+use input::{More, Source};
 use layout::Layout;
-use libc::STDERR_FILENO;
 use model::{Settings, Stop};
+use output::Output;
 use streaming::work::Next;
 use wording::stops;
 
@@ -162,11 +162,11 @@ fn grown(w: Work, have: usize, left: u64) -> Work
 }
 
 // Reads once: fewer bytes may come then, or it was the last turn.
-fn read(fd: i32, buf: &mut [u8], w: Work) -> Work
+fn read(source: &mut Source, to: Output, buf: &mut [u8], w: Work) -> Work
     requires { w.have ≤ length buf.old }
     ensures { Reads (length buf.new) w.left result }
 {
-    match input::read_more(fd, buf, w.have, w.left) {
+    match input::read_more(source, to, buf, w.have, w.left) {
         More::To { have, left } => grown(w, have, left),
         More::End(end) => ended(w, Next::Ended(end)),
         More::Full => ended(w, Next::Failed),
@@ -176,7 +176,8 @@ fn read(fd: i32, buf: &mut [u8], w: Work) -> Work
 
 // One turn: the records that wait, then more bytes.
 fn turn(
-    fd: i32,
+    source: &mut Source,
+    to: Output,
     s: Settings,
     laid: Layout,
     buf: &mut [u8],
@@ -192,25 +193,25 @@ fn turn(
 {
     let bytes = text::front(buf, w.have);
     let t = turns::trace_records(
-        s, laid, bytes, w.consumed, events, longs, words, marks, out, w.put,
+        to, s, laid, bytes, w.consumed, events, longs, words, marks, out, w.put,
     );
     let have = input::carry(buf, t.at, w.have);
     let v = behind(w, t, have);
     if goes_on(v) {
-        return read(fd, buf, v);
+        return read(source, to, buf, v);
     }
     v
 }
 
 // The text that still waits.
-fn finished(out: &[u8], w: Work) -> Work
+fn finished(to: Output, out: &[u8], w: Work) -> Work
     requires { Over w }
     ensures { Over result }
 {
     if w.lost {
         return w;
     }
-    if turns::print(out, w.put) {
+    if turns::print(to, out, w.put) {
         w
     } else {
         ended(w, Next::Failed)
@@ -219,7 +220,8 @@ fn finished(out: &[u8], w: Work) -> Work
 
 // To where the stream stops, or to its end as the system told it. The layout is computed once, for all buffers.
 pub(crate) fn trace_rest(
-    fd: i32,
+    source: &mut Source,
+    to: Output,
     s: Settings,
     buf: &mut [u8],
     longs: &mut [u64],
@@ -233,13 +235,15 @@ pub(crate) fn trace_rest(
     ensures { Over result }
 {
     let laid = layout::layout_of(s);
-    let mut space = io::buffer();
+    let mut space = [0u8; 4096];
     let events: &mut [u8] = &mut space;
     let mut w = start;
     while goes_on(w) {
-        w = turn(fd, s, laid, buf, events, longs, words, marks, out, w);
+        w = turn(
+            source, to, s, laid, buf, events, longs, words, marks, out, w,
+        );
     }
-    finished(out, w)
+    finished(to, out, w)
 }
 
 // The last line: stop, bytes consumed and written, and why.
@@ -254,8 +258,8 @@ fn put_last(rest: &[u8], w: Work, out: &mut [u8]) -> usize {
 }
 
 // Why the run stopped, as `run` says it.
-pub(crate) fn last_line(buf: &[u8], w: Work) {
-    let mut page = io::buffer();
+pub(crate) fn last_line(to: Output, buf: &[u8], w: Work) {
+    let mut page = [0u8; 4096];
     let end = put_last(text::front(buf, w.have), w, &mut page);
-    io::write_all(STDERR_FILENO, text::front(&page, end));
+    output::say(to, text::front(&page, end));
 }

@@ -18,8 +18,10 @@ ghost use Rattle.streaming.specs.First.{Opened};
 ghost use Rattle.streaming.specs.Halts.{Claims};
 ghost use Rattle.streaming.specs.Parts.{Ready};
 
+use input::Source;
 use last::Last;
 use model::Settings;
+use output::Output;
 use running::Opening;
 use streaming::parts::Started;
 use streaming::scope::Scope;
@@ -28,6 +30,7 @@ use streaming::{first, parts, rooms, work};
 
 // At the end of the input: the last record is what waits in the buffer.
 fn wait_last(
+    to: Output,
     s: Settings,
     buf: &[u8],
     longs: &mut [u64],
@@ -40,17 +43,18 @@ fn wait_last(
     let rest = text::front(buf, w.have);
     match last::last_of(rest) {
         Last::Offer(x) => {
-            waiting::wait_for(s, longs, words, marks, x, w.consumed);
+            waiting::wait_for(to, s, longs, words, marks, x, w.consumed);
         }
-        Last::Other(c) => says::no_access(c, w.consumed),
-        Last::Nothing => says::only_settings(),
-        Last::Stopped(stop) => says::stopped(stop, rest, w.consumed),
+        Last::Other(c) => says::no_access(to, c, w.consumed),
+        Last::Nothing => says::only_settings(to),
+        Last::Stopped(stop) => says::stopped(to, stop, rest, w.consumed),
     }
 }
 
 // All before the last record, then that.
 fn wait_rest(
-    fd: i32,
+    source: &mut Source,
+    to: Output,
     s: Settings,
     buf: &mut [u8],
     longs: &mut [u64],
@@ -61,21 +65,32 @@ fn wait_rest(
     requires ready { Ready s scope.BeforeLast (lent longs.old words.old marks.old) buf.old start }
     requires claims { Claims start.next start.stop start.have }
 {
-    let w = parts::run_rest(fd, s, buf, longs, words, marks, start, Scope::BeforeLast);
+    let w = parts::run_rest(
+        source,
+        to,
+        s,
+        buf,
+        longs,
+        words,
+        marks,
+        start,
+        Scope::BeforeLast,
+    );
     if !work::has_stopped(w) {
         return;
     }
     let stop = w.stop;
     if values::stop_number(stop) != 0 {
-        says::stopped(stop, text::front(buf, w.have), w.consumed);
+        says::stopped(to, stop, text::front(buf, w.have), w.consumed);
         return;
     }
-    wait_last(s, buf, longs, words, marks, w);
+    wait_last(to, s, buf, longs, words, marks, w);
 }
 
 // The first record, then the rest, on slices as long as the stream's settings ask.
 fn wait_all(
-    fd: i32,
+    source: &mut Source,
+    to: Output,
     first: Opening,
     buf: &mut [u8],
     longs: &mut [u64],
@@ -91,14 +106,16 @@ fn wait_all(
     match parts::start(first, buf, longs, words, marks, w) {
         Started::Stops(stopped) => {
             let stop = stopped.stop;
-            says::first_stop(stop, text::front(buf, stopped.have));
+            says::first_stop(to, stop, text::front(buf, stopped.have));
         }
-        Started::Runs { settings, work } => wait_rest(fd, settings, buf, longs, words, marks, work),
+        Started::Runs { settings, work } => {
+            wait_rest(source, to, settings, buf, longs, words, marks, work)
+        }
     }
 }
 
 // Lends what the stream's own settings ask for, so that stop 2 never comes.
-fn wait_stream(fd: i32, buf: &mut [u8], w: Work)
+fn wait_stream(source: &mut Source, to: Output, buf: &mut [u8], w: Work)
     requires opened { Opened buf.old w }
     requires in_bounds { 64 ≤ length buf.old }
 {
@@ -111,7 +128,8 @@ fn wait_stream(fd: i32, buf: &mut [u8], w: Work)
     let b = n.words;
     let c = n.marks;
     wait_all(
-        fd,
+        source,
+        to,
         first,
         buf,
         &mut longs[..a],
@@ -122,16 +140,16 @@ fn wait_stream(fd: i32, buf: &mut [u8], w: Work)
 }
 
 // Runs a stream up to its last record and shows the rounds for that.
-fn main() {
-    let fd = input::open_input();
-    if fd < 0 {
+fn main(rt: HostRuntime) {
+    let to = Output::new(rt.stdout(), rt.stderr());
+    let Some(mut source) = input::open_input(&rt, rt.stdin(), to) else {
         return;
-    }
-    let mut space = io::large_buffer();
+    };
+    let mut space = [0u8; 65536];
     let buf: &mut [u8] = &mut space;
-    let first = first::read_first(fd, buf);
+    let first = first::read_first(&mut source, to, buf);
     if work::has_failed(first) {
         return;
     }
-    wait_stream(fd, buf, first);
+    wait_stream(&mut source, to, buf, first);
 }

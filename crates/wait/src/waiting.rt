@@ -12,6 +12,7 @@ ghost use Rattle.wait.specs.Counts.{CountsOfTables};
 use crate::says;
 use layout::Layout;
 use model::{Access, Refusal, Settings};
+use output::Output;
 use rounds::Waiting;
 
 // The queue places and the miss entries in use.
@@ -40,6 +41,7 @@ fn in_use(s: Settings, at: Layout, longs: &[u64], words: &[u32], marks: &[u8]) -
 
 // The rounds, `most` of them at most; each is printed if all before it were.
 fn wait_rounds(
+    to: Output,
     s: Settings,
     at: Layout,
     longs: &mut [u64],
@@ -54,7 +56,7 @@ fn wait_rounds(
     requires enough { Enough s (lent longs.old words.old marks.old) most }
     ensures { result.waiting ≡ (wait_call s x (lent longs.old words.old marks.old)).waiting }
 {
-    let mut space = io::large_buffer();
+    let mut space = [0u8; 65536];
     let events: &mut [u8] = &mut space;
     let mut round = 0;
     let mut out = 0;
@@ -63,7 +65,13 @@ fn wait_rounds(
         let made = turns::one_round(s, at, longs, words, marks, x, events, out);
         round += 1;
         let reply = made.reply;
-        shown = says::round(shown, round, text::part(events, out, made.written), reply);
+        shown = says::round(
+            to,
+            shown,
+            round,
+            text::part(events, out, made.written),
+            reply,
+        );
         out = made.written;
         if turns::accepted(reply) {
             let answer = reply.first;
@@ -77,6 +85,7 @@ fn wait_rounds(
 
 // Waits for the access whose record begins at byte `place`.
 pub(crate) fn wait_for(
+    to: Output,
     s: Settings,
     longs: &mut [u64],
     words: &mut [u32],
@@ -88,15 +97,15 @@ pub(crate) fn wait_for(
     ensures { result ≡ (wait_call s x (lent longs.old words.old marks.old)).waiting }
 {
     if !access::well_formed(x) {
-        says::malformed(x, place);
+        says::malformed(to, x, place);
         return Waiting::Refused(Refusal::BadAccess);
     }
     let at = layout::layout_of(s);
     let n = in_use(s, at, longs, words, marks);
     let most = turns::most_rounds(s, at, longs, words, marks);
-    let started = says::start(x, place, n, most);
-    let ended = wait_rounds(s, at, longs, words, marks, x, most, started);
+    let started = says::start(to, x, place, n, most);
+    let ended = wait_rounds(to, s, at, longs, words, marks, x, most, started);
     let waiting = ended.waiting;
-    says::end(ended.shown, waiting, most);
+    says::end(to, ended.shown, waiting, most);
     waiting
 }
