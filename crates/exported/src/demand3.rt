@@ -48,8 +48,7 @@ fn bytes_written(w: Went) -> u64
 }
 
 // `rounds::run_rounds` for C: 0 for rounds that ran, 1 to 4, or 16 for no room; `counts` takes rounds and bytes.
-#[unsafe(no_mangle)]
-pub extern "C" fn labintugmo_rounds(
+pub fn labintugmo_rounds(
     settings: &[u32],
     longs: &mut [u64],
     words: &mut [u32],
@@ -80,8 +79,7 @@ pub extern "C" fn labintugmo_rounds(
 }
 
 // `rounds::run_struck` for C, from the flags that the rounds left.
-#[unsafe(no_mangle)]
-pub extern "C" fn labintugmo_struck(
+pub fn labintugmo_struck(
     settings: &[u32],
     longs: &mut [u64],
     words: &mut [u32],

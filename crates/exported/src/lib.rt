@@ -1,15 +1,16 @@
 // The calls as C sees them (include/labintugmo.h): numbers and slices alone, a slice as a pointer and a length. A call writes its event
 // records at the start of the caller's buffer and returns how many bytes they are. `demand3` has the rounds of demand 3, `unchecked` the
-// steps behind the calls' checks. The stream runner is in `exported_runner`.
+// steps behind the calls' checks. The stream runner is in `exported_runner`. The static library `exported_c` exports each function here.
 #![tactic(auto)]
 
-mod demand3;
-mod unchecked;
+pub mod demand3;
+pub mod unchecked;
 
 ghost use Rattle.std.specs.Prelude.{◌≡◌, [], ◌∷◌, length, get_or};
 ghost use Rattle.model.specs.Layout.{longs_length, words_length, marks_length};
 ghost use Rattle.model.specs.Tables.{after};
 ghost use Rattle.model.specs.Lent.{lent};
+ghost use Rattle.model.specs.SoundLent.{Small};
 ghost use Rattle.model.specs.Calls.{fresh_call, check_call, verdict_of, call, access_call, send_call, fill_call, tick_call};
 ghost use Rattle.model.specs.History.{step_by};
 ghost use Rattle.model.specs.declared.Access.TheVariants.{Read, Write};
@@ -53,8 +54,7 @@ fn access_for(is_write: u32, address: u64, mask: u32, ticket: u32) -> Access
 }
 
 // How long `longs` must be; 0 for settings out of range.
-#[unsafe(no_mangle)]
-pub extern "C" fn labintugmo_longs_length(settings: &[u32]) -> usize
+pub fn labintugmo_longs_length(settings: &[u32]) -> usize
     ensures { result ≡ length_for (settings_from settings.now) (longs_length (settings_from settings.now)) }
 {
     let s = settings_from(settings);
@@ -65,8 +65,7 @@ pub extern "C" fn labintugmo_longs_length(settings: &[u32]) -> usize
 }
 
 // How long `words` must be; 0 for settings out of range.
-#[unsafe(no_mangle)]
-pub extern "C" fn labintugmo_words_length(settings: &[u32]) -> usize
+pub fn labintugmo_words_length(settings: &[u32]) -> usize
     ensures { result ≡ length_for (settings_from settings.now) (words_length (settings_from settings.now)) }
 {
     let s = settings_from(settings);
@@ -77,8 +76,7 @@ pub extern "C" fn labintugmo_words_length(settings: &[u32]) -> usize
 }
 
 // How long `marks` must be; 0 for settings out of range.
-#[unsafe(no_mangle)]
-pub extern "C" fn labintugmo_marks_length(settings: &[u32]) -> usize
+pub fn labintugmo_marks_length(settings: &[u32]) -> usize
     ensures { result ≡ length_for (settings_from settings.now) (marks_length (settings_from settings.now)) }
 {
     let s = settings_from(settings);
@@ -89,8 +87,7 @@ pub extern "C" fn labintugmo_marks_length(settings: &[u32]) -> usize
 }
 
 // Makes the tables fresh: 0, or refusal 1 or 2.
-#[unsafe(no_mangle)]
-pub extern "C" fn labintugmo_fresh(
+pub fn labintugmo_fresh(
     settings: &[u32],
     longs: &mut [u64],
     words: &mut [u32],
@@ -104,18 +101,17 @@ pub extern "C" fn labintugmo_fresh(
 }
 
 // Whether the tables are sound: 0, or refusal 1, 2 or 3.
-#[unsafe(no_mangle)]
-pub extern "C" fn labintugmo_check(
-    settings: &[u32],
-    longs: &[u64],
-    words: &[u32],
-    marks: &[u8],
-) -> u32
+pub fn labintugmo_check(settings: &[u32], longs: &[u64], words: &[u32], marks: &[u8]) -> u32
     ensures { result ≡ verdict_number (verdict_of (check_call (settings_from settings.now) (lent longs.now words.now marks.now))) }
 {
     let s = settings_from(settings);
     verdict_number(soundness::check(s, longs, words, marks))
 }
+
+// The lent words are 32-bit numbers, which a proof can still cite once they have changed.
+fn words_fit(words: &[u32])
+    ensures { Small (lent [] words.now []) }
+{}
 
 // Makes a call, where there is room for its events, and writes them.
 fn made(
@@ -132,14 +128,14 @@ fn made(
     if events.len() < EVENT_ROOM {
         return 0;
     }
+    words_fit(words);
     let s = settings_from(settings);
     let reply = cache::perform(s, longs, words, marks, k);
     records::write_reply(reply, events, 0)
 }
 
 // A read; its events are written, and how many bytes they are is returned.
-#[unsafe(no_mangle)]
-pub extern "C" fn labintugmo_read(
+pub fn labintugmo_read(
     settings: &[u32],
     longs: &mut [u64],
     words: &mut [u32],
@@ -160,8 +156,7 @@ pub extern "C" fn labintugmo_read(
 }
 
 // A write; its events are written, and how many bytes they are is returned.
-#[unsafe(no_mangle)]
-pub extern "C" fn labintugmo_write(
+pub fn labintugmo_write(
     settings: &[u32],
     longs: &mut [u64],
     words: &mut [u32],
@@ -182,8 +177,7 @@ pub extern "C" fn labintugmo_write(
 }
 
 // A send; its events are written, and how many bytes they are is returned.
-#[unsafe(no_mangle)]
-pub extern "C" fn labintugmo_send(
+pub fn labintugmo_send(
     settings: &[u32],
     longs: &mut [u64],
     words: &mut [u32],
@@ -197,8 +191,7 @@ pub extern "C" fn labintugmo_send(
 }
 
 // A fill; its events are written, and how many bytes they are is returned.
-#[unsafe(no_mangle)]
-pub extern "C" fn labintugmo_fill(
+pub fn labintugmo_fill(
     settings: &[u32],
     longs: &mut [u64],
     words: &mut [u32],
@@ -213,8 +206,7 @@ pub extern "C" fn labintugmo_fill(
 }
 
 // A tick; its events are written, and how many bytes they are is returned.
-#[unsafe(no_mangle)]
-pub extern "C" fn labintugmo_tick(
+pub fn labintugmo_tick(
     settings: &[u32],
     longs: &mut [u64],
     words: &mut [u32],
@@ -229,8 +221,7 @@ pub extern "C" fn labintugmo_tick(
 }
 
 // Any access, also one that refusal 4 turns away.
-#[unsafe(no_mangle)]
-pub extern "C" fn labintugmo_access(
+pub fn labintugmo_access(
     settings: &[u32],
     longs: &mut [u64],
     words: &mut [u32],
@@ -261,8 +252,7 @@ fn round_number(w: Waiting) -> u64
 }
 
 // `rounds::wait` for C: the bytes of its events; `round` takes the accepting round, or 0.
-#[unsafe(no_mangle)]
-pub extern "C" fn labintugmo_wait(
+pub fn labintugmo_wait(
     settings: &[u32],
     longs: &mut [u64],
     words: &mut [u32],

@@ -12,8 +12,7 @@ use model::Access;
 use records::EVENT_ROOM;
 
 // A read on tables that the caller has kept sound.
-#[unsafe(no_mangle)]
-pub extern "C" fn labintugmo_step_read(
+pub fn labintugmo_step_read(
     settings: &[u32],
     longs: &mut [u64],
     words: &mut [u32],
@@ -41,8 +40,7 @@ pub extern "C" fn labintugmo_step_read(
 }
 
 // A write on tables that the caller has kept sound.
-#[unsafe(no_mangle)]
-pub extern "C" fn labintugmo_step_write(
+pub fn labintugmo_step_write(
     settings: &[u32],
     longs: &mut [u64],
     words: &mut [u32],
@@ -70,8 +68,7 @@ pub extern "C" fn labintugmo_step_write(
 }
 
 // A send on tables that the caller has kept sound.
-#[unsafe(no_mangle)]
-pub extern "C" fn labintugmo_step_send(
+pub fn labintugmo_step_send(
     settings: &[u32],
     longs: &mut [u64],
     words: &mut [u32],
@@ -92,8 +89,7 @@ pub extern "C" fn labintugmo_step_send(
 }
 
 // A fill on tables that the caller has kept sound.
-#[unsafe(no_mangle)]
-pub extern "C" fn labintugmo_step_fill(
+pub fn labintugmo_step_fill(
     settings: &[u32],
     longs: &mut [u64],
     words: &mut [u32],
@@ -115,8 +111,7 @@ pub extern "C" fn labintugmo_step_fill(
 }
 
 // A tick on tables that the caller has kept sound.
-#[unsafe(no_mangle)]
-pub extern "C" fn labintugmo_step_tick(
+pub fn labintugmo_step_tick(
     settings: &[u32],
     longs: &mut [u64],
     words: &mut [u32],

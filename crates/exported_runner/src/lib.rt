@@ -1,5 +1,5 @@
-// The stream runner as C sees it (include/labintugmo.h), compiled by itself: each step is called at one place then, so that the compiler
-// takes it into the run.
+// The stream runner as C sees it (include/labintugmo.h), without the single calls: each step is called at one place then, so that the
+// compiler takes it into the run. The static library `exported_runner_c` exports both functions.
 #![tactic(auto)]
 
 ghost use Rattle.std.specs.Prelude.{◌≡◌, [], ◌∷◌, length};
@@ -23,8 +23,7 @@ fn note_run(ran: Ran, counts: &mut [u64]) -> u32
 }
 
 // `runner::run` for C: the stop number; `counts` takes bytes consumed and written.
-#[unsafe(no_mangle)]
-pub extern "C" fn labintugmo_run(
+pub fn labintugmo_run(
     stream: &[u8],
     events: &mut [u8],
     longs: &mut [u64],
@@ -42,8 +41,7 @@ pub extern "C" fn labintugmo_run(
 }
 
 // Goes on from kept tables and settings with the next part of a stream.
-#[unsafe(no_mangle)]
-pub extern "C" fn labintugmo_resume(
+pub fn labintugmo_resume(
     settings: &[u32],
     stream: &[u8],
     events: &mut [u8],
