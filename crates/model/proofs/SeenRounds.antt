@@ -220,6 +220,9 @@ lent_offers S x n L = (rounds_offers (calls S x) (calls_clear S x).offers n L).0
 pub lent_turn : (S : Settings) (x : Access) (n : ℕ) (L : Lent) → comparable (rounds (seen_calls S x) n L).turn ≡ (outcome_rounds (calls S x) n L).turn
 lent_turn S x = rounds_turn (calls S x) (calls_clear S x)
 
+pub lent_accepted : (S : Settings) (x : Access) (n : ℕ) (L : Lent) → any accepts (rounds (seen_calls S x) n L).offers ≡ any accepted (outcome_rounds (calls S x) n L).offers
+lent_accepted S x n L = (rounds_offers (calls S x) (calls_clear S x).offers n L).1
+
 -- ---- demand 3: any settings in range, any sound tables, any well-formed access
 
 pub demand_3_seen : (S : Settings) (x : Access) (t : Tables) → in_range S ≡ true → sound S t ≡ true → well_formed x ≡ true → Demand3 (seen_steps S x) t

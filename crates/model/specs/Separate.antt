@@ -31,7 +31,7 @@ call_read S command.None L = refused refusal.SettingOutOfRange
 unfoldable pub call_at : Settings → ℕ → List ℕ → Lent → Outcome Lent
 call_at S k rest L = call_read S (command_of k (take (length_of k) rest)) L
 
--- as runFrom, on slices
+-- as `run_from`, on slices
 unfoldable pub calls_from : Settings → ℕ → ℕ → List ℕ → Lent → Result Lent
 calls_from S n room [] L = halt stop.Nothing L
 calls_from S (suc n) room (b ∷ bs) L = calls_from S n room bs L
