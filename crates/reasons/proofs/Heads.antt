@@ -1,6 +1,6 @@
 -- The queue's head and its free places; the dirty lines; the check before a reason.
 use Rattle.words.proofs.General.{ℕ, ◌-◌, ◌≤◌, pos_of_ne-zero, arith, ◌≡◌, refl, sym, ap, ◌∙◌, List, [], ◌∷◌, length, get_or}
-use Rattle.model.proofs.Terms.{lines_of, idle, Tables, Outcome, refused, done, dirty, Lent, lent, tables_of, sent_event, check_call, verdict_of, Encodes}
+use Rattle.model.proofs.Terms.{lines_of, idle, Tables, Outcome, refused, done, Lent, lent, tables_of, sent_event, check_call, verdict_of, Encodes}
 use Rattle.model.specs.declared.Settings.{Settings}
 use Rattle.model.specs.declared.Queued.{Queued}
 use Rattle.model.specs.declared.Access.{Access}

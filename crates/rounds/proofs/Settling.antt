@@ -1,5 +1,5 @@
 -- The rounds one after another: where the loop over them stands, a round more, its two ends.
-use Rattle.words.proofs.General.{ℕ, zero, suc, ◌+◌, ◌-◌, ◌*◌, ◌≤◌, ◌<◌, add-zero, arith, ◌≡◌, refl, sym, ap, ◌∙◌, ⊎_elim, true, false, not, false≢true, List, [], ◌∷◌, ◌++◌}
+use Rattle.words.proofs.General.{ℕ, suc, ◌+◌, ◌-◌, ◌*◌, ◌≤◌, ◌<◌, add-zero, arith, ◌≡◌, refl, sym, ap, ◌∙◌, ⊎_elim, true, false, not, false≢true, List, [], ◌∷◌, ◌++◌}
 use Rattle.words.proofs.General.{append_assoc, append-nil, length, get_or, length-append, any, clash, any_append}
 use Rattle.model.proofs.Terms.{well_formed, Tables, Outcome, refused, done, accepted, events_of, Lent, access, events_told, log_bytes, settle_bytes, wait_room, steps, Turn, Run}
 use Rattle.model.proofs.Terms.{outcome_go_on, outcome_drain, outcome_rounds, outcome_waits, Encodes, SoundSlices}

@@ -8,7 +8,7 @@ use Rattle.model.specs.Runner.{settings_of, first_stop, later_stop, kept_stop, g
 use Rattle.model.specs.declared.Settings.{Settings}
 use Rattle.model.specs.declared.Event.{Event}
 
--- as runFrom
+-- as `run_from`
 unfoldable pub told_from : Settings → ℕ → ℕ → List ℕ → Tables → List Event
 told_from S n room [] t = []
 told_from S (suc n) room (b ∷ bs) t = told_from S n room bs t

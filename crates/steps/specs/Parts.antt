@@ -1,5 +1,5 @@
 -- Words for the parts of send and fill, over the raw numbers of the lent slices.
-use Rattle.std.specs.Prelude.{◌≡◌, ℕ, ◌+◌, ◌-◌, ◌*◌, ◌<◌, true, List, [], ◌∷◌, length, get_or, replicate, eqb}
+use Rattle.std.specs.Prelude.{◌≡◌, ℕ, ◌+◌, ◌*◌, ◌<◌, true, List, [], ◌∷◌, length, get_or, replicate, eqb}
 use Rattle.words.specs.Words.{pad_to, pick}
 use Rattle.model.specs.Range.{lines_of}
 use Rattle.model.specs.Lent.{sector_at}

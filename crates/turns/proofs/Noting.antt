@@ -1,8 +1,8 @@
 -- What a step told, without its refusals: 0x11 stands first or nowhere, and not in what an accepted step told, so what is written of a step
 -- are the events of its turn.
-use Rattle.words.proofs.General.{ℕ, ◌+◌, ◌≤◌, arith, ◌≡◌, refl, sym, ap, ◌∙◌, Bool, true, false, not, or-false, List, [], ◌++◌, length, length-append, take, pick, any, not_yes}
+use Rattle.words.proofs.General.{ℕ, ◌+◌, ◌≤◌, arith, ◌≡◌, refl, sym, ap, ◌∙◌, Bool, true, false, not, or-false, List, [], ◌++◌, map, length, length-append, take, pick, any, not_yes}
 use Rattle.words.proofs.General.{no-not, any_append}
-use Rattle.model.proofs.Terms.{Outcome, refused, done, accepted, events_of, events_told, log_bytes, took, refusing}
+use Rattle.model.proofs.Terms.{Outcome, refused, done, accepted, events_of, events_told, log_bytes, took, refusing, queued_event}
 use Rattle.model.specs.RecordsOf as records
 use Rattle.model.specs.declared.Event.{Event}
 use Rattle.model.specs.declared.Event.TheVariants as event
@@ -32,7 +32,7 @@ reply_refusing : (r : Reply) → any refusing (events_told r) ≡ is_refusal r.f
 unfolding events_told
 reply_refusing r =
     rw (
-      any_append,
+      any_append refusing (map queued_event (take r.queues r.queued)) (map event.Released (take r.count r.tickets)),
       queued_clear (take r.queues r.queued),
       released_clear (take r.count r.tickets),
       or-false,

@@ -1,7 +1,7 @@
 -- The parts of a round on the slices of sound tables: its send, its fill of the first sent entry, its offer.
 use Rattle.words.proofs.General.{ℕ, zero, suc, ◌+◌, ◌≤◌, ◌<◌, not-suc-le-zero, le_of_suc-le-suc, arith, ◌≡◌, refl, sym, ap, ◌∙◌, ⊎_elim, true, false, List, [], ◌∷◌, length, get_or}
 use Rattle.words.proofs.General.{eqb, eq-eqb, ne_eqb, flag}
-use Rattle.model.proofs.Terms.{mask_of, Entry, Tables, Outcome, refused, after, Lent, lent, all_ones, sound, access, send, fill, events_told, log_bytes, fill_bytes, steps, Turn, still}
+use Rattle.model.proofs.Terms.{mask_of, Entry, Tables, Outcome, after, Lent, lent, all_ones, sound, access, send, fill, events_told, log_bytes, fill_bytes, steps, Turn, still}
 use Rattle.model.proofs.Terms.{took, and_then, outcome_send, outcome_fill, outcome_drain, Sized, Encodes, SoundSlices, Does}
 use Rattle.model.specs.RecordsOf as records
 use Rattle.model.specs.declared.Settings.{Settings}

@@ -1,0 +1,19 @@
+-- The first of the entries in use whose address is of the set.
+use Rattle.words.proofs.General.{arith}
+use Rattle.reasons.proofs.Entries.{slices_fit, entries_fit, set_shown}
+use Rattle.reasons.proofs.busy_reason.Goals as goal
+
+pub used-n-requires : goal.used-n-requires
+used-n-requires c = omega (arith, slices_fit c.requires.1, c.requires.0)
+
+pub set_index-set-requires : goal.set_index-set-requires
+set_index-set-requires c = (slices_fit c.requires.1).power
+
+pub first_in_set-e-requires : goal.first_in_set-e-requires
+first_in_set-e-requires c = ((entries_fit c.requires.0 c.requires.1 c.used-n.ensures).0, (slices_fit c.requires.1).power)
+
+pub entry_reason-requires : goal.entry_reason-requires
+entry_reason-requires c = entries_fit c.requires.0 c.requires.1 c.used-n.ensures
+
+pub returns : goal.returns
+returns c = search set_shown

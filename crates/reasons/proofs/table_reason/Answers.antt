@@ -1,0 +1,13 @@
+-- The first of the entries in use.
+use Rattle.words.proofs.General.{arith}
+use Rattle.reasons.proofs.Entries.{slices_fit, entries_fit, oldest_shown}
+use Rattle.reasons.proofs.table_reason.Goals as goal
+
+pub used-n-requires : goal.used-n-requires
+used-n-requires c = omega (arith, slices_fit c.requires.1, c.requires.0)
+
+pub entry_reason-requires : goal.entry_reason-requires
+entry_reason-requires c = entries_fit c.requires.0 c.requires.1 c.used-n.ensures
+
+pub returns : goal.returns
+returns c = search oldest_shown
