@@ -3,7 +3,7 @@
 use Rattle.words.proofs.General.{ℕ, zero, suc, ◌+◌, ◌≤◌, ◌<◌, arith, ◌≡◌, refl, sym, Bool, true, false, ◌&&◌, List, [], append-nil, length, eqb, clash, by_flag}
 use Rattle.comparing.specs.declared.Walk.{Walk}
 use Rattle.comparing.specs.declared.Ahead.{Ahead}
-use Rattle.comparing.specs.declared.Ahead.TheVariants as ahead_of_lem
+use Rattle.comparing.specs.declared.Ahead.TheVariants as ahead_case
 use Rattle.comparing.specs.declared.Step.{Step}
 use Rattle.comparing.specs.declared.Step.TheVariants as step
 use Rattle.comparing.specs.Steps.{ahead, untouched, pair_over, record_row, step_shown, begun_side, stepped, Front}
@@ -37,6 +37,6 @@ module _ (w : Walk) (a : List ℕ) (whole : Bool) (b : List ℕ) (ends : Bool) w
   moves = go (ahead (begun_side w.first) a whole) (ahead_shown (begun_side w.first) (alone a whole)) (ahead (begun_side w.second) b ends) (ahead_shown (begun_side w.second) (alone b ends))
     where
       go : (x : Ahead) → AheadShown (begun_side w.first) (alone a whole) x → (y : Ahead) → AheadShown (begun_side w.second) (alone b ends) y → Moves (step_shown w a b x y)
-      go ahead_of_lem.Wants p y q = p.0
-      go (ahead_of_lem.Shows m) p ahead_of_lem.Wants q = q.0
-      go (ahead_of_lem.Shows m) p (ahead_of_lem.Shows n) q = by_row m n p.1 q.1
+      go ahead_case.Wants p y q = p.0
+      go (ahead_case.Shows m) p ahead_case.Wants q = q.0
+      go (ahead_case.Shows m) p (ahead_case.Shows n) q = by_row m n p.1 q.1

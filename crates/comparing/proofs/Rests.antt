@@ -4,7 +4,7 @@ use Rattle.words.proofs.General.{◌++◌, length, get_or, take, drop, length-ap
 use Rattle.words.proofs.General.{lt-ltb, eqb-true, eqb-false, eq-eqb, ne_eqb, leb-true, leb-false, pick, flag, by_flag, no-yes, clash, and_1, or_cases, or_no_1, or_no_2}
 use Rattle.model.proofs.Terms.{length_of}
 use Rattle.comparing.specs.declared.Ahead.{Ahead}
-use Rattle.comparing.specs.declared.Ahead.TheVariants as ahead_of_lem
+use Rattle.comparing.specs.declared.Ahead.TheVariants as ahead_case
 use Rattle.comparing.specs.Kinds.{starts_group}
 use Rattle.comparing.specs.Groups.{record_end, record_past, end_from, group_end}
 use Rattle.comparing.specs.Pairs.{same_bytes}
@@ -123,8 +123,8 @@ module _ (begun : Bool) {s a : List ℕ} {whole : Bool} (f : Front s a whole) wh
 
   -- a record is shown only whole, or with the log's end; what is not shown does not stand whole in the front
   abbrev pub AheadShown : Ahead → Type 0
-  AheadShown (ahead_of_lem.Shows m) = (record_of begun s ≡ m) × (m ≤ length a)
-  AheadShown ahead_of_lem.Wants = (whole ≡ false) × (length a < record_end a 0)
+  AheadShown (ahead_case.Shows m) = (record_of begun s ≡ m) × (m ≤ length a)
+  AheadShown ahead_case.Wants = (whole ≡ false) × (length a < record_end a 0)
 
   nothing_whole : length a ≡ 0 → length a < record_end a 0
   unfolding record_end

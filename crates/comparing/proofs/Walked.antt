@@ -7,12 +7,12 @@ use Rattle.comparing.specs.declared.Compared.TheVariants as answer
 use Rattle.comparing.specs.declared.Side.{Side}
 use Rattle.comparing.specs.declared.Walk.{Walk}
 use Rattle.comparing.specs.declared.Ahead.{Ahead}
-use Rattle.comparing.specs.declared.Ahead.TheVariants as ahead_of_lem
+use Rattle.comparing.specs.declared.Ahead.TheVariants as ahead_case
 use Rattle.comparing.specs.declared.Step.{Step}
 use Rattle.comparing.specs.declared.Step.TheVariants as step
 use Rattle.comparing.specs.Groups.{part_to, bytes_in, record_end, group_end, groups, group_side}
 use Rattle.comparing.specs.Pairs.{same_bytes, same_pair, differs, pairs, listed, differences_from_pair}
-use Rattle.comparing.specs.Steps.{side, walk_beginning, ahead, moved, side_behind, onward, pairs_differing, lowest_of, next_pair, untouched, pair_over, record_row, step_shown, begun_side, stepped, Front, pair_of, Walked, at_start_lem, by_row, by_same, by_differing, lowest_in, Listed}
+use Rattle.comparing.specs.Steps.{side, walk_beginning, ahead, moved, side_behind, onward, pairs_differing, lowest_of, next_pair, untouched, pair_over, record_row, step_shown, begun_side, stepped, Front, pair_of, Walked, not_begun, by_row, by_same, by_differing, lowest_in, Listed}
 use Rattle.comparing.proofs.Sides.{place_from, group_on, side_is, side-to, next-begins, counted-in, counted-over}
 use Rattle.comparing.proofs.Rests.{group_rest, begun_after, Coming, coming, AheadShown, ahead_shown, same_split, group_drop}
 
@@ -254,15 +254,15 @@ module _ {A B s t : List ℕ} {w : Walk} {ds : List Compared} (o : On A B s t w 
     on-tells = go (ahead (begun_side w.first) a whole) (ahead_shown (begun_side w.first) f) (ahead (begun_side w.second) b ends) (ahead_shown (begun_side w.second) g)
       where
         go : (x : Ahead) → AheadShown (begun_side w.first) f x → (y : Ahead) → AheadShown (begun_side w.second) g y → StepTells (step_shown w a b x y)
-        go ahead_of_lem.Wants p y q = p
-        go (ahead_of_lem.Shows m) p ahead_of_lem.Wants q = q
-        go (ahead_of_lem.Shows m) p (ahead_of_lem.Shows n) q = row-tells (rw p.0 at (coming s (begun_side w.first))) (rw q.0 at (coming t (begun_side w.second))) p.1 q.1
+        go ahead_case.Wants p y q = p
+        go (ahead_case.Shows m) p ahead_case.Wants q = q
+        go (ahead_case.Shows m) p (ahead_case.Shows n) q = row-tells (rw p.0 at (coming s (begun_side w.first))) (rw q.0 at (coming t (begun_side w.second))) p.1 q.1
 
 -- ---- the theorem
 
 module _ {A B : List ℕ} (fa : length A < 2 ^ 64) (fb : length B < 2 ^ 64) where
   walked_on : {s t : List ℕ} {w : Walk} {ds : List Compared} → Walked A B s t w ds → On A B s t w ds
-  walked_on at_start_lem = begin_on A B
+  walked_on not_begun = begin_on A B
   walked_on (by_row k f g e) = rw e at (on-tells (walked_on k) fa fb f g)
   walked_on (by_same k f g e) = rw e at (on-tells (walked_on k) fa fb f g)
   walked_on (by_differing k f g e) = rw e at (on-tells (walked_on k) fa fb f g)

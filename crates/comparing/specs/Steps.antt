@@ -6,7 +6,7 @@ use Rattle.comparing.specs.declared.Compared.TheVariants as answer
 use Rattle.comparing.specs.declared.Side.{Side}
 use Rattle.comparing.specs.declared.Walk.{Walk}
 use Rattle.comparing.specs.declared.Ahead.{Ahead}
-use Rattle.comparing.specs.declared.Ahead.TheVariants as ahead_of_lem
+use Rattle.comparing.specs.declared.Ahead.TheVariants as ahead_case
 use Rattle.comparing.specs.declared.Step.{Step}
 use Rattle.comparing.specs.declared.Step.TheVariants as step
 use Rattle.comparing.specs.Kinds.{starts_group}
@@ -26,9 +26,9 @@ record_of begun s = pick (length s == 0 || (begun && starts_group (slice_index s
 -- what the bytes to come show of it: a record that they do not hold whole ends with the log
 unfoldable pub ahead : Bool → List ℕ → Bool → Ahead
 ahead begun s ends =
-    pick (length s == 0) (pick ends (ahead_of_lem.Shows 0) ahead_of_lem.Wants) (
-    pick (begun && starts_group (slice_index s 0)) (ahead_of_lem.Shows 0) (
-    pick (ends || nat_le (record_end s 0) (length s)) (ahead_of_lem.Shows (record_past s 0)) ahead_of_lem.Wants))
+    pick (length s == 0) (pick ends (ahead_case.Shows 0) ahead_case.Wants) (
+    pick (begun && starts_group (slice_index s 0)) (ahead_case.Shows 0) (
+    pick (ends || nat_le (record_end s 0) (length s)) (ahead_case.Shows (record_past s 0)) ahead_case.Wants))
 
 abbrev pub moved : Side → ℕ → Side
 moved d n = side d.place ((d.passed + n) % 2 ^ 64)
@@ -82,9 +82,9 @@ record_row w a b m n =
     (step.Row m n (same_bytes (take m a) (take n b)) (onward w m n (same_bytes (take m a) (take n b))))
 
 abbrev pub step_shown : Walk → List ℕ → List ℕ → Ahead → Ahead → Step
-step_shown w a b ahead_of_lem.Wants q = step.WantsFirst
-step_shown w a b (ahead_of_lem.Shows m) ahead_of_lem.Wants = step.WantsSecond
-step_shown w a b (ahead_of_lem.Shows m) (ahead_of_lem.Shows n) = record_row w a b m n
+step_shown w a b ahead_case.Wants q = step.WantsFirst
+step_shown w a b (ahead_case.Shows m) ahead_case.Wants = step.WantsSecond
+step_shown w a b (ahead_case.Shows m) (ahead_case.Shows n) = record_row w a b m n
 
 abbrev pub begun_side : Side → Bool
 begun_side d = not (d.passed == 0)
@@ -107,7 +107,7 @@ pair_of w = answer.Differs w.number w.first.place w.first.passed w.second.place 
 
 -- steps over the logs A and B that led to the walk w: what is still to come of them is s and t, and the steps listed ds
 pub data Walked (A B : List ℕ) : List ℕ → List ℕ → Walk → List Compared → Type 0 where
-  at_start_lem : Walked A B A B walk_beginning []
+  not_begun : Walked A B A B walk_beginning []
   by_row : {s t : List ℕ} {w : Walk} {ds : List Compared} → Walked A B s t w ds
       → {a b : List ℕ} {whole ends : Bool} → Front s a whole → Front t b ends
       → {m n : ℕ} {same : Bool} {v : Walk} → stepped w a whole b ends ≡ step.Row m n same v

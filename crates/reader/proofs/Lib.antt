@@ -1,3 +1,2 @@
--- Laws of the place behind a record, and what the walks over a reader share.
+-- Laws of the place behind a record.
 pub mod Places
-pub mod Walks

@@ -1,12 +1,7 @@
 -- The place behind a record and the part that holds its body, by what was read.
-use mathlib.Core.Path.{◌≡◌, sym, ◌∙◌}
-use native.Mathlib.Nat.{zero-add}
-use native.Mathlib.Omega.{arith}
-use denote.Ref.{Bor}
+use Rattle.std.proofs.Common.{◌≡◌, ℕ, ◌+◌, ◌-◌, ◌≤◌, List, [], length, take, drop, sym, ◌∙◌, zero-add, arith}
+use Rattle.std.specs.Borrow.{Bor}
 use Rattle.records.proofs.Reading.{was_whole, body_whole, body_none}
-use mathlib.Core.List.{List, []}
-use Prim.Native.Nat.{ℕ, ◌+◌, ◌-◌, ◌≤◌}
-use lib.ListN.{length, take, drop}
 use Rattle.model.proofs.Terms.{read_at}
 use Rattle.model.specs.declared.Stop.{Stop}
 use Rattle.model.specs.declared.Record.{Record}
@@ -33,5 +28,5 @@ module _ (s : Bor (List ℕ)) (at : ℕ) (b : Bor (List ℕ)) {f : Record} (p : 
   pub part_whole : {k start n next : ℕ} → f ≡ Whole k start n next → b.now ≡ take (next - start) (drop start s.now) → b.ref_ptr ≡ (s.ref_ptr.0, start + s.ref_ptr.1) → PartOf s at b
   part_whole {k} {start} {n} {next} e i j = let g = sym p ∙ e in record { bytes = i ∙ body_whole s.now at k start n next g; place = rw g j }
 
-  pub part_none : {r : Stop} → f ≡ Stopped r → b.now ≡ [] → b.ref_ptr ≡ s.ptr → PartOf s at b
+  pub part_none : {r : Stop} → f ≡ Stopped r → b.now ≡ [] → b.ref_ptr ≡ s.ref_ptr → PartOf s at b
   part_none {r} e i j = let g = sym p ∙ e in record { bytes = i ∙ body_none s.now at r g; place = rw (g, zero-add) j }

@@ -1,6 +1,6 @@
 // The record reader (document 01, "Records") that holds the stream and its place together. Its steps are thin: each takes the struct
-// apart and calls a function on the plain stream and the number. The borrow checker covers no function over such a struct, so each
-// of them is proved by hand; `record_at`, `body_at` and `place_after` have plain parameters, and whoever calls them needs no walk.
+// apart and calls a function on the plain stream and the number. `record_at`, `body_at` and `place_after` have plain parameters, for
+// callers that keep the stream and the place themselves.
 #![tactic(auto)]
 
 ghost use Rattle.std.specs.Prelude.{◌≡◌};

@@ -1,10 +1,5 @@
 -- The events of a call's value as bytes: how long they are, that their numbers fit, and their parts one after the other.
-use Rattle.words.proofs.General.{ℕ, zero, suc, ◌+◌, ◌*◌, ◌^◌, min, ◌≤◌, ◌<◌, arith, ◌≡◌, refl, sym, ◌∙◌, Bool, List, [], ◌∷◌, ◌++◌, map, length, take, get_or, length-append}
-use Rattle.words.proofs.General.{length-map, words-length, words_below}
-use mir.Val.{Val}
-use denote.Laws.{Is}
-use denote.Struct.Declared.{row}
-use Rattle.model.specs.contracts.Reply.{the_type}
+use Rattle.words.proofs.General.{ℕ, zero, suc, ◌+◌, ◌*◌, ◌^◌, min, ◌≤◌, ◌<◌, arith, ◌≡◌, refl, Bool, List, [], ◌∷◌, ◌++◌, map, length, take, get_or, length-append}
 use Rattle.model.proofs.Terms.{queued_event, events_told, event_bytes, log_bytes, Shaped}
 use Rattle.model.specs.RecordsOf as records
 use Rattle.model.specs.declared.Event.{Event}
@@ -54,33 +49,25 @@ module _ (t : Reply) where
       → t.first ≡ e → Laid l at (length (log_bytes (events_told t))) (log_bytes (events_told t)) r m
   first-laid s u q = reply_alone s.entries s.tickets (case-laid event_bytes _ u q)
 
-  -- of a value that a function takes: it has two entries, and eight tickets of 32 bits
-  module _ (vs : List Val) (good : Is (row the_type) t vs) where
-    pub two-entries : length t.queued ≡ 2
-    two-entries = sym (length-map t.queued _) ∙ good.1.1.1.0.1.0.1
-
-    eight-tickets : length t.tickets ≡ 8
-    eight-tickets = words-length 8 t.tickets _ good.1.1.1.1.1.0
-
+  -- of a value with two entries and eight tickets
+  module _ (two : length t.queued ≡ 2) (eight : length t.tickets ≡ 8) where
     module _ {k n : ℕ} (few : k ≡ min t.queues 2) (count : n ≡ min t.count 8) where
       entries-all : queued_told k t.queued ≡ queued_told t.queues t.queued
-      entries-all = told_least queued_event t.queues 2 t.queued two-entries few
+      entries-all = told_least queued_event t.queues 2 t.queued two few
 
       reply-parts : event_bytes t.first ++ (log_bytes (queued_told k t.queued) ++ log_bytes (tickets_told n t.tickets)) ≡ log_bytes (events_told t)
       unfolding events_told records.log_bytes
-      reply-parts = rw (entries-all, told_least Released t.count 8 t.tickets eight-tickets count, log_append)
+      reply-parts = rw (entries-all, told_least Released t.count 8 t.tickets eight count, log_append)
 
-      pub reply-fits : Fitting t.first → AllFitting (queued_told k t.queued) → AllFitting (events_told t)
+      pub reply-fits : ((i : ℕ) → get_or t.tickets i 0 < 2 ^ 32) → Fitting t.first → AllFitting (queued_told k t.queued) → AllFitting (events_told t)
       unfolding events_told
-      reply-fits f q =
-          let small = words_below 8 t.tickets _ good.1.1.1.1.1.0 in
-          (f, fitting_append (queued_told t.queues t.queued) _ (rw entries-all at q) (tickets_fit t.tickets small t.count))
+      reply-fits small f q = (f, fitting_append (queued_told t.queues t.queued) _ (rw entries-all at q) (tickets_fit t.tickets small t.count))
 
       -- by the sizes that the code adds up
       pub reply-sized : {f q : ℕ} → f ≡ length (event_bytes t.first) → q ≡ length (log_bytes (queued_told k t.queued))
           → f + q + 5 * n ≡ length (log_bytes (events_told t))
       reply-sized e g =
-          let m = tickets_length t.tickets n (omega (arith, eight-tickets)) in
+          let m = tickets_length t.tickets n (omega arith) in
           rw (← reply-parts, length-append, length-append, m, e, g) (omega arith)
 
       -- by the parts that the code stores

@@ -70,7 +70,7 @@ settings_back g h =
 
 command_body_back : (c : Command) → CommandFits c → command_of (command_kind c) (command_body c) ≡ command.Got c
 unfolding records.command_of bytes_of number_at records.length_of
-command_body_back (cmd.Settings g) h = decoding.command-sized (settings_kind g.rule) (given_bytes g) _ refl (command_body_lem (cmd.Settings g)).0 ∙ settings_back g h
+command_body_back (cmd.Settings g) h = decoding.command_sized (settings_kind g.rule) (given_bytes g) _ refl (command_body_lem (cmd.Settings g)).0 ∙ settings_back g h
 command_body_back (cmd.Read a k) h = rw (number_bytes 8 a h.0, number_bytes 4 k h.1)
 command_body_back (cmd.Write a m) h = rw (number_bytes 8 a h.0, number_bytes 4 m h.1)
 command_body_back cmd.Send h = refl
@@ -112,7 +112,7 @@ module _ (p q : List ℕ) where
     -- and it is no command
     pub event-no-command : command_at (p ++ (event_bytes e ++ q)) (length p) ≡ command.None
     unfolding records.command_at
-    event-no-command = rw (event-next, event-part) (decoding.command-sized (record_kind_of e) (body_bytes e) _ refl (event_body_lem e).sized ∙ (event_body_lem e).other (body_bytes e))
+    event-no-command = rw (event-next, event-part) (decoding.command_sized (record_kind_of e) (body_bytes e) _ refl (event_body_lem e).sized ∙ (event_body_lem e).other (body_bytes e))
 
   module _ (c : Command) where
     pub command-next : read_at (p ++ (command_bytes c ++ q)) (length p) ≡ Whole (command_kind c) (length p + 1) (length (command_body c)) (length (p ++ command_bytes c))

@@ -1,0 +1,13 @@
+-- By the case: the event is all that is told. An event of any other case is excluded.
+use Rattle.model.specs.RecordsOf as records
+use Rattle.model.proofs.Terms.{bytes_of}
+use Rattle.records.proofs.Reply.{first-laid}
+use Rattle.records.proofs.writer.put_ticked.Goals as goal
+
+pub returns-in-Ticked : goal.returns-in-Ticked
+unfolding records.event_bytes bytes_of
+returns-in-Ticked c = first-laid _ c.requires.0 c.put1.ensures c.in-Ticked.is
+
+pub returns-in-Refused : goal.returns-in-Refused
+unfolding records.event_bytes bytes_of
+returns-in-Refused c = first-laid _ c.requires.0 c.put_refusal.ensures c.in-Refused.is
