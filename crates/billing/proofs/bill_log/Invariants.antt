@@ -1,0 +1,10 @@
+-- `billing::bill_log` meets its contract: what is left of the log, billed from here, gives the whole bill.
+use Rattle.words.proofs.General.{◌-◌, length}
+use Rattle.billing.proofs.Parts.{BillLeft}
+use Rattle.billing.proofs.bill_log.Given as goal
+
+abbrev pub invariant-loop-at : goal.invariant-loop-at
+invariant-loop-at l = BillLeft l.initial.b l.log l.b l.at
+
+abbrev pub decreases-loop-at : goal.decreases-loop-at
+decreases-loop-at l = length l.log - l.at
