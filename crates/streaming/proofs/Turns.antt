@@ -10,7 +10,6 @@ use Rattle.model.specs.declared.Stop.TheVariants as stop
 use Rattle.running.proofs.Asked.{final, run_fits}
 use Rattle.running.proofs.Parts.{run_resumed}
 use Rattle.input.specs.Buffers.{Grown}
-use Rattle.input.specs.declared.Ended.{Ended}
 use Rattle.input.specs.declared.More.{More}
 use Rattle.input.specs.declared.More.TheVariants as more
 use Rattle.streaming.specs.declared.work.Next.{Next}

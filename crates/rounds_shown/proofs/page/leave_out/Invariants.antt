@@ -1,0 +1,6 @@
+-- Each turn goes on behind an event, so that the bytes that are left fall.
+use Rattle.std.proofs.Common.{◌-◌, length}
+use Rattle.rounds_shown.proofs.page.leave_out.Given as goal
+
+abbrev pub decreases-loop-at : goal.decreases-loop-at
+decreases-loop-at l = length l.s - l.at

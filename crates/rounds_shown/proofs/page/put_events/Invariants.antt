@@ -1,0 +1,6 @@
+-- Each turn goes on behind an event, so that the bytes that are left fall.
+use Rattle.std.proofs.Common.{◌-◌, length}
+use Rattle.rounds_shown.proofs.page.put_events.Given as goal
+
+abbrev pub decreases-loop-t : goal.decreases-loop-t
+decreases-loop-t l = length l.s - l.t.at

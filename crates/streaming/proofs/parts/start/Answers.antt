@@ -1,0 +1,14 @@
+-- The first record stops the run, or leaves fresh tables to the rest.
+use Rattle.running.proofs.First.{accepts_begins}
+use Rattle.streaming.proofs.Starting.{start_stops, start-runs}
+use Rattle.streaming.proofs.parts.start.Goals as goal
+
+pub returns-in-Stopped : goal.returns-in-Stopped
+returns-in-Stopped c =
+    let begins = accepts_begins _ c.requires.first_value c.begin.ensures in
+    search start_stops
+
+pub returns-in-Accepted : goal.returns-in-Accepted
+returns-in-Accepted c =
+    let begins = accepts_begins _ c.requires.first_value c.begin.ensures in
+    search start-runs

@@ -1,0 +1,12 @@
+-- Each turn reads, or is the last; what is claimed of the input holds after each.
+use Rattle.model.proofs.Terms.{lent, SoundSlices}
+use Rattle.input.specs.Buffers.{turns_left}
+use Rattle.streaming.specs.Works.{goes_next}
+use Rattle.streaming.specs.Halts.{Claims}
+use Rattle.trace.proofs.work.trace_rest.Given as goal
+
+abbrev pub invariant-loop-events : goal.invariant-loop-events
+invariant-loop-events l = SoundSlices l.s (lent l.longs l.words l.marks) × Claims l.w.next l.w.stop l.w.have
+
+abbrev pub decreases-loop-events : goal.decreases-loop-events
+decreases-loop-events l = turns_left (goes_next l.w.next) l.w.left
