@@ -7,7 +7,7 @@ lines = [re.sub(r"#.*", "", line).strip() for line in open("crates.txt")]
 deps = {}
 for line in filter(None, lines):
     name, _, rest = line.partition(":")
-    deps[name.strip()] = rest.split()
+    deps[name.split()[0]] = rest.split()
 deps = {n: [d for d in ds if d in deps] for n, ds in deps.items()}
 
 def height(n, seen={}):
