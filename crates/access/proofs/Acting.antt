@@ -1,5 +1,5 @@
 -- The act of an accepted access on encoded slices: its line, its entry, its queue places, as `accept` says.
-use Rattle.words.proofs.General.{ℕ, ◌+◌, ◌≤◌, ◌<◌, ◌-◌, arith, ◌≡◌, refl, sym, ap, ◌∙◌, inl, inr, ⊎_elim, true, false, ◌&&◌, false≢true, List, [], ◌∷◌, ◌++◌, map, append-nil}
+use Rattle.words.proofs.General.{ℕ, ◌+◌, ◌≤◌, ◌<◌, ◌-◌, arith, ◌≡◌, refl, sym, ap, ◌∙◌, inl, inr, ⊎_elim, true, false, ◌&&◌, List, [], ◌∷◌, ◌++◌, map, append-nil}
 use Rattle.words.proofs.General.{append_assoc, length, get_or, set, length-set, length-append, get_or-set_same, set-set, eqb-true, eq-eqb, leb-true, pick, any, one, put, and_2, flag}
 use Rattle.words.proofs.General.{by_flag, In, all_in, in_append, map-one}
 use Rattle.model.proofs.Terms.{lines_of, is_tree, address_of, is_read, block_of, sector_index, set_index, Line, Entry, Tables, entry_for, no_entry, fresh, with_lines, with_misses, with_queue}
@@ -22,10 +22,10 @@ use Rattle.layout.proofs.Lines.{taken_as, line_stands, taken_stands}
 use Rattle.tables.proofs.Misses.{with_ticket, unsent, append-stands, new_entry_stands}
 use Rattle.tables.proofs.Queue.{push_stands}
 use Rattle.probe.specs.declared.Decision.{Decision}
-use Rattle.access.specs.Plan.{Met, entry_index, is_accepted, ticket_of}
+use Rattle.access.specs.Plan.{Met, entry_index, ticket_of}
 use Rattle.access.specs.Written.{sectors_for, sectors_after, misses_written, entry_written, queue_written, line_left, line_taken, set_turned}
 use Rattle.access.specs.declared.plan.MissPlan.{MissPlan}
-use Rattle.access.specs.declared.plan.MissPlan.TheVariants.{Refused, Stays, Joins, Starts}
+use Rattle.access.specs.declared.plan.MissPlan.TheVariants.{Stays, Joins, Starts}
 use Rattle.access.proofs.Plans.{index_found, no_other_entry, merged_entry, entry_once}
 use Rattle.access.proofs.PlanTests.{shows, answer_is, Means}
 use Rattle.access.proofs.Lines.{stands, sectors_met, was_dirty}
@@ -148,15 +148,14 @@ module _ (S : Settings) {longs words marks : List ℕ} (x : Access) (d : Decisio
   few = leb-true (length t.misses) S.misses ok.few
 
   pub misses_written_lem : (ls : List Line) (k : ℕ) (ts : List ℕ) (L₁ L₂ : Lent) → ByBlocks S L₁.longs L₁.words L₁.marks (with_trees ts (with_dirty_count k (with_lines ls t)))
-      → (c : MissPlan) → Means S x p t c → is_accepted c ≡ true → L₂ ≡ misses_written place S.readers c (address_of x) (ticket_of x) L₁
+      → (c : MissPlan) → Means S x p t c → L₂ ≡ misses_written place S.readers c (address_of x) (ticket_of x) L₁
       → ByBlocks S L₂.longs L₂.words L₂.marks (with_misses (on_misses x p.answer t.misses) (with_trees ts (with_dirty_count k (with_lines ls t))))
-  misses_written_lem ls k ts L₁ L₂ h (Refused n) w g q = absurd (false≢true g)
-  misses_written_lem ls k ts L₁ L₂ h Stays w g q = rw (q, misses_are x p.answer t.misses, w.merges, w.misses refl) h
-  misses_written_lem ls k ts L₁ L₂ h (Joins i n) w g q =
+  misses_written_lem ls k ts L₁ L₂ h Stays w q = rw (q, misses_are x p.answer t.misses, w.merges, w.misses refl) h
+  misses_written_lem ls k ts L₁ L₂ h (Joins i n) w q =
       let j = join_one w.0.merges i w.1 (ticket_of x) in
       rw (q, misses_are x p.answer t.misses, w.0.merges, j.1)
       (append-stands S (with_trees ts (with_dirty_count k (with_lines ls t))) h pl few i j.0 (ticket_of x) n w.2 w.3 (refl, refl))
-  misses_written_lem ls k ts L₁ L₂ h (Starts i) w g q =
+  misses_written_lem ls k ts L₁ L₂ h (Starts i) w q =
       rw (q, misses_are x p.answer t.misses, w.0.merges, w.0.misses refl)
       (new_entry_stands S (with_trees ts (with_dirty_count k (with_lines ls t))) h pl few (address_of x) (ticket_of x) i w.1 w.2 (ranged S m.is.range).reader (refl, refl, refl))
 

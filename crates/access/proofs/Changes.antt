@@ -1,8 +1,8 @@
 -- A line that has the block of an access: to change the access's own sector and write its cycle, or its cycle alone if a read does not miss, is to write the whole line.
-use Rattle.words.proofs.General.{ℕ, ◌+◌, ◌-◌, ◌*◌, ◌≤◌, ◌<◌, arith, ◌≡◌, refl, sym, ap, ◌∙◌, true, false, not, ◌&&◌, false≢true, List, [], ◌∷◌, length, get_or, set, length-set}
+use Rattle.words.proofs.General.{ℕ, ◌+◌, ◌-◌, ◌*◌, ◌<◌, arith, ◌≡◌, refl, sym, ap, ◌∙◌, true, false, not, ◌&&◌, false≢true, List, [], ◌∷◌, length, get_or, set, length-set}
 use Rattle.words.proofs.General.{get_or-set_same, set-set, set-get_or, one, put, not_yes, and_2, in_get_or}
-use Rattle.model.proofs.Terms.{lines_of, is_tree, power_to256, address_of, block_of, sector_index, set_index, is_read, Line, Tables, empty, fresh, dirty, with_lines, with_dirty_count, lent}
-use Rattle.model.proofs.Terms.{sector_at, sectors_at, power_to16, Spot, takes_line, on_sector, is_miss, Sized}
+use Rattle.model.proofs.Terms.{lines_of, address_of, block_of, sector_index, set_index, is_read, Line, Tables, empty, fresh, dirty, with_lines, with_dirty_count, lent}
+use Rattle.model.proofs.Terms.{sector_at, sectors_at, Spot, takes_line, on_sector, is_miss, Sized}
 use Rattle.model.specs.declared.Settings.{Settings}
 use Rattle.model.specs.declared.Access.{Access}
 use Rattle.model.specs.declared.Sector.{Sector}
@@ -10,7 +10,7 @@ use Rattle.model.proofs.SoundFacts.{parts, four_at, sector_below}
 use Rattle.model.proofs.Turning.{set_below}
 use Rattle.encoding.proofs.Bridge.{is_fit}
 use Rattle.layout.specs.declared.Layout.{Layout}
-use Rattle.layout.specs.Layout.{LaysOut, words_most}
+use Rattle.layout.specs.Layout.{LaysOut}
 use Rattle.layout.specs.Sectors.{some_modified}
 use Rattle.layout.proofs.ByBlocks.{ByBlocks, is_stands, stands_encode, now_stands}
 use Rattle.layout.proofs.Lines.{used_as, used_stands, lifted, plain_at}
@@ -20,7 +20,7 @@ use Rattle.layout.proofs.DirtyCount.{dirty_count_at_lem, dirty_few}
 use Rattle.tables.proofs.Changing.{with_sectors, change_stands}
 use Rattle.probe.specs.declared.Decision.{Decision}
 use Rattle.access.specs.Plan.{Met}
-use Rattle.access.specs.Written.{sectors_for, sectors_after, line_left, LineMayChange, SectorLeft}
+use Rattle.access.specs.Written.{sectors_for, sectors_after, line_left, LineMayChange, SectorLeft, TreeRoom}
 use Rattle.access.proofs.PlanTests.{answer_is}
 use Rattle.access.proofs.Lines.{stands, kept_stays, was_dirty, was_counted}
 use Rattle.access.proofs.Acting.{sized, left_line, line_left_lem, new_count}
@@ -50,10 +50,10 @@ module _ (S : Settings) {longs words marks : List ℕ} (x : Access) (d : Decisio
   pub touch_room : {n : ℕ} → n ≡ length words → 1 + d.line < n
   touch_room same = let f = sound_fit in omega (arith, m.below)
 
-  pub change_room : LineMayChange S place d.line words marks
+  pub change_room : LineMayChange (record { settings = S; at = place; laid = pl }) d.line words marks
   change_room =
       let f = sound_fit in (
-        (pl, omega arith, omega arith),
+        (omega arith, omega arith),
         m.below,
         plain_at S t (is_stands m.is) pl (sized S x d t p m pl) d.line below,
         omega arith,
@@ -61,13 +61,12 @@ module _ (S : Settings) {longs words marks : List ℕ} (x : Access) (d : Decisio
       )
 
   -- for the cycle at which it was taken and the tree of its set, in words as long
-  pub set_room : {n : ℕ} → n ≡ length words → (place.taken + d.line < n) × (place.trees + set_index S (address_of x) < n) × (n ≤ words_most)
-      × (1 ≤ S.sets) × (power_to256 S.sets ≡ true) × (is_tree S ≡ true → power_to16 S.ways ≡ true)
+  pub set_room : {n : ℕ} → n ≡ length words → (place.taken + d.line < n) × TreeRoom S place x n
   set_room same =
       let f = sound_fit in
       let taken = taken-room pl f d.line m.below in
       let tree = tree_room pl f (set_index S (address_of x)) (set_below S m.is.range (address_of x)) in
-      (rw same taken.inside, rw same tree.inside, rw same tree.small, f.sets, f.power, f.tree)
+      (rw same taken.inside, record { inside = rw same tree.inside; small = rw same tree.small; sets = f.sets; power = f.power; tree = f.tree })
 
   -- ---- its cycle
 

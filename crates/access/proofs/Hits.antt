@@ -1,5 +1,6 @@
 -- A read that hits and a write to a line that is there queue nothing and leave the miss table, so none of refusals 7, 8 and 9 applies:
 -- the line and the tree of its set are all that `proceed` says.
+use Rattle.std.specs.Prelude.{Ok, None, is_some}
 use Rattle.words.proofs.General.{ℕ, ◌+◌, ◌≤◌, arith, ◌≡◌, refl, ap, ◌∙◌, true, false, ◌&&◌, false≢true, List, [], ◌∷◌, length, get_or, one, put}
 use Rattle.model.proofs.Terms.{address_of, is_read, block_of, set_index, Tables, Lent, lent, sectors_at, Spot, at, is_hit, is_merge, is_miss, takes_line, proceed, Leaves, encoded}
 use Rattle.model.specs.declared.Settings.{Settings}
@@ -14,13 +15,14 @@ use Rattle.layout.specs.Layout.{LaysOut}
 use Rattle.tables.specs.Telling.{telling}
 use Rattle.probe.specs.declared.Decision.{Decision}
 use Rattle.access.specs.Plan.{Met, Acts, miss_plan}
+use Rattle.access.specs.declared.asked.Offer.{Offer}
 use Rattle.access.specs.Written.{sectors_for, sectors_after, line_left, trees_written}
 use Rattle.access.specs.declared.plan.MissPlan.TheVariants.{Stays}
 use Rattle.access.proofs.PlanTests.{plan-write, plan-hit}
 use Rattle.access.proofs.Lines.{no_back}
 use Rattle.access.proofs.Changes.{touched}
 use Rattle.access.proofs.Telling.{acted}
-use Rattle.access.proofs.Offering.{offered_acts}
+use Rattle.access.proofs.Offering.{proceeds}
 
 only_hit : (a : Answer) → is_hit a ≡ true → a ≡ Hit
 only_hit Hit e = refl
@@ -34,20 +36,21 @@ line_there S longs words marks x d place =
 
 module _ (S : Settings) {longs words marks : List ℕ} (x : Access) (d : Decision) (t : Tables) (p : Spot) (m : Met S (lent longs words marks) x d t p) {place : Layout} (pl : LaysOut S place)
     (stays : takes_line d.answer ≡ false) (alone : (is_read x && is_miss d.answer) ≡ false) where
-  quiet : d.backs ≡ false
+  quiet : d.back ≡ None
   quiet = no_back S x d t p m stays
 
-  none_needed : 0 ≡ one (is_read x && is_miss d.answer) + one d.backs
+  none_needed : 0 ≡ one (is_read x && is_miss d.answer) + one (is_some d.back)
   none_needed = rw (alone, quiet)
 
-  alone-offered : {r : Reply} {words' words'' marks' : List ℕ} → Stays ≡ miss_plan S x p t → r ≡ telling (Answered d.answer d.line)
+  alone-offered : {r : Reply} {words' words'' marks' : List ℕ} → Ok Stays ≡ miss_plan S x p t → r ≡ telling (Answered d.answer d.line)
       → lent longs words' marks' ≡ line_there S longs words marks x d place → words'' ≡ trees_written S place (set_index S (address_of x)) d.way words'
       → Leaves (encoded S (proceed S x t (at p))) (lent longs words marks) r (lent longs words'' marks')
   alone-offered {words' = words'} {words'' = words''} {marks' = marks'} planned e line w =
       let M : Lent = lent longs words'' marks' in
-      let acts : Acts S (lent longs words marks) x d (length t.queue) Stays t p = record { met = m; counted = refl; planned = planned; accepted = refl } in
-      offered_acts S x d t p m planned refl
-      (acted S x d (length t.queue) Stays t p acts pl (lent longs words' marks') M M line (rw stays w) refl (e ∙ rw (alone, quiet)) (rw (alone, quiet)))
+      let o : Offer = record { access = x; decision = d; queued = length t.queue; missed = 0 } in
+      let acts : Acts S (lent longs words marks) o Stays t p = record { met = m; counted = refl; planned = planned } in
+      rw (proceeds S x d t p m planned)
+      (acted S o Stays t p acts pl (lent longs words' marks') M M line (rw stays w) refl (e ∙ rw (alone, quiet)) (rw (alone, quiet)))
 
 module _ (S : Settings) {longs words marks : List ℕ} (x : Access) (d : Decision) (t : Tables) (p : Spot) (m : Met S (lent longs words marks) x d t p)
     {place : Layout} (pl : LaysOut S place) where
@@ -63,7 +66,7 @@ module _ (S : Settings) {longs words marks : List ℕ} (x : Access) (d : Decisio
       alone-offered S x d t p m pl stays alone (plan-write S x d t p m refl (none_needed S x d t p m pl stays alone) few writes)
 
   -- a read that hits leaves its line's tag and sectors
-  pub hit_offered : {r : Reply} {words'' : List ℕ} → is_read x ≡ true → is_hit d.answer ≡ true → r ≡ telling (Answered Hit d.line)
+  pub hit_offered : {r : Reply} {words'' : List ℕ} → is_read x ≡ true → is_hit d.answer ≡ true → r ≡ telling (Answered d.answer d.line)
       → words'' ≡ trees_written S place (set_index S (address_of x)) d.way (put words (1 + d.line) (get_or words 0 0 ∷ []))
       → Leaves (encoded S (proceed S x t (at p))) (lent longs words marks) r (lent longs words'' marks)
   hit_offered reads hits e w =
@@ -71,4 +74,4 @@ module _ (S : Settings) {longs words marks : List ℕ} (x : Access) (d : Decisio
       let stays = ap takes_line hit in
       let alone : (is_read x && is_miss d.answer) ≡ false = rw (reads, hit) in
       alone-offered S x d t p m pl stays alone (plan-hit S x d t p m refl (none_needed S x d t p m pl stays alone) few reads (ap is_merge hit) (ap is_miss hit))
-      (e ∙ rw hit) (touched S x d t p m pl (rw (reads, hit))) w
+      e (touched S x d t p m pl (rw (reads, hit))) w

@@ -1,4 +1,5 @@
 -- The plan of an access: the entry that a merged read joins, and that the plan tells what `proceed` comes to.
+use Rattle.std.specs.Prelude.{Result, Ok, Err}
 use Rattle.words.proofs.General.{ℕ, suc, ◌+◌, ◌≤◌, ◌<◌, arith, ◌≡◌, refl, sym, ap, ◌∙◌, ⊎_elim, ◌≢◌, Bool, true, false, ◌&&◌, false≢true, List, [], ◌∷◌, length, get_or, leb}
 use Rattle.words.proofs.General.{eqb-true, eq-eqb, le-leb, lt-leb, leb-true, pick, any, count, and_2, and_no, no-yes, flag, by_flag, any-in, count_index, any-one}
 use Rattle.model.proofs.Terms.{in_range, address_of, is_read, sector_index, well_formed, Entry, Tables, entry_for, no_entry, lent, Spot, at, met_in, is_merge, is_miss, entry_full, proceed}
@@ -18,7 +19,8 @@ use Rattle.layout.proofs.ByBlocks.{is_stands}
 use Rattle.tables.proofs.Misses.{misses_counted, count_at, entry_found, entry-missing}
 use Rattle.access.specs.Plan.{Joining, entry_index, tickets_at, miss_plan, following}
 use Rattle.access.specs.declared.plan.MissPlan.{MissPlan}
-use Rattle.access.specs.declared.plan.MissPlan.TheVariants.{Refused, Joins}
+use Rattle.access.specs.declared.plan.MissPlan.TheVariants.{Joins}
+use Rattle.model.specs.declared.Refusal.{Refusal}
 
 -- ---- the first entry for an address
 
@@ -71,7 +73,7 @@ module _ (S : Settings) (range : in_range S ≡ true) (t : Tables) (ok : Sound S
   unfolding proceed
   plan_is = ⊎_elim joins other (flag (is_read x && is_merge p.answer))
     where
-      following-either : (b : Bool) (c e : MissPlan) → following S x p t (pick b c e) ≡ pick b (following S x p t c) (following S x p t e)
+      following-either : (b : Bool) (c e : Result MissPlan Refusal) → following S x p t (pick b c e) ≡ pick b (following S x p t c) (following S x p t e)
       following-either true c e = refl
       following-either false c e = refl
 
@@ -122,8 +124,8 @@ module _ (S : Settings) {longs words marks : List ℕ} (t : Tables) (is : Encode
 -- what the plan is, by the tickets of the entry that is found
 module _ (S : Settings) {longs words marks : List ℕ} {place : Layout} (p : LaysOut S place) {a m e : ℕ}
     (f : First marks place.counts S.misses 0 m) (g : First longs place.misses m a e) where
-  pub joins_full : S.readers ≤ get_or marks (place.counts + e) 0 → Joining S (lent longs words marks) a (Refused EntryFull)
+  pub joins_full : S.readers ≤ get_or marks (place.counts + e) 0 → Joining S (lent longs words marks) a (Err EntryFull)
   joins_full h = record { on = λ t is w. let u = found S t is p a w f g in rw (← u.index, ← u.tickets, le-leb S.readers (get_or marks (place.counts + e) 0) h) }
 
-  pub joins_room : get_or marks (place.counts + e) 0 < S.readers → Joining S (lent longs words marks) a (Joins e (get_or marks (place.counts + e) 0))
+  pub joins_room : get_or marks (place.counts + e) 0 < S.readers → Joining S (lent longs words marks) a (Ok (Joins e (get_or marks (place.counts + e) 0)))
   joins_room h = record { on = λ t is w. let u = found S t is p a w f g in rw (← u.index, ← u.tickets, lt-leb S.readers (get_or marks (place.counts + e) 0) h) }

@@ -1,4 +1,5 @@
 -- What an accepted access tells are the events of `accept`, and its unused places are idle; so it leaves what `accept` says.
+use Rattle.std.specs.Prelude.{is_some}
 use Rattle.words.proofs.General.{ℕ, suc, ◌+◌, ◌*◌, ◌≤◌, ◌<◌, mul-suc, mul-le-mul_left, le_trans, arith, ◌≡◌, refl, sym, ap, subst, ◌∙◌, Bool, true, false, ◌&&◌, List, [], ◌∷◌, map}
 use Rattle.words.proofs.General.{append-nil, length, set, take, leb-true, pad_to, one}
 use Rattle.model.proofs.Terms.{address_of, is_read, block_of, set_index, Tables, with_lines, with_misses, with_dirty_count, with_trees, Lent, lent, sectors_at, Spot, is_miss, on_misses}
@@ -14,11 +15,12 @@ use Rattle.layout.specs.declared.Layout.{Layout}
 use Rattle.layout.specs.Layout.{LaysOut}
 use Rattle.layout.proofs.ByBlocks.{stands_encode}
 use Rattle.probe.specs.declared.Decision.{Decision}
-use Rattle.access.specs.Plan.{Met, Acts, Acted, is_accepted, ticket_of}
+use Rattle.access.specs.Plan.{Met, Acts, Acted, ticket_of}
+use Rattle.access.specs.declared.asked.Offer.{Offer}
 use Rattle.access.specs.Written.{sectors_for, sectors_after, misses_written, queue_written, queues_of, telling_of, MissRoom, QueueRoom, line_left, taken_written, trees_written, Alone}
 use Rattle.access.specs.declared.plan.MissPlan.{MissPlan}
-use Rattle.access.specs.declared.plan.MissPlan.TheVariants.{Refused, Stays, Joins, Starts}
-use Rattle.access.proofs.PlanTests.{queues_count, queues_are, answer_is, Means, plan_means}
+use Rattle.access.specs.declared.plan.MissPlan.TheVariants.{Stays, Joins, Starts}
+use Rattle.access.proofs.PlanTests.{queues_count, queues_are, answer_is, Means, MeansIfMade, plan_means}
 use Rattle.access.proofs.Lines.{kept_stays, no_back}
 use Rattle.access.proofs.Acting.{new_line, trees_new, line-written, set-turned, misses_written_lem, queue_written_lem, join-inside, new_count}
 
@@ -36,7 +38,7 @@ one_most true = omega arith
 one_most false = omega arith
 
 queues_few : (x : Access) (d : Decision) → length (queues_of x d) ≤ 2
-queues_few x d = rw (queues_count x d) (omega (arith, one_most (is_read x && is_miss d.answer), one_most d.backs))
+queues_few x d = rw (queues_count x d) (omega (arith, one_most (is_read x && is_miss d.answer), one_most (is_some d.back)))
 
 reply_events : (x : Access) (d : Decision) → events_told (telling_of x d) ≡ Answered d.answer d.line ∷ map queued_event (queues_of x d)
 unfolding events_told
@@ -48,22 +50,30 @@ reply_tidy x d = rw (two_back (queues_of x d) (queues_few x d))
 
 -- ---- room for its writes
 
-tested : (S : Settings) (x : Access) (p : Spot) (t : Tables) (c : MissPlan) → Means S x p t c → is_accepted c ≡ true → length t.queue + places_needed x p ≤ S.queue
-tested S x p t (Refused n) w g = let z : ◌≡◌ {A = ℕ} 0 1 = cc in absurd (omega arith)
-tested S x p t Stays w g = w.roomy
-tested S x p t (Joins e n) w g = w.0.roomy
-tested S x p t (Starts e) w g = w.0.roomy
+tested : (S : Settings) (x : Access) (p : Spot) (t : Tables) (c : MissPlan) → Means S x p t c → length t.queue + places_needed x p ≤ S.queue
+tested S x p t Stays w = w.roomy
+tested S x p t (Joins e n) w = w.0.roomy
+tested S x p t (Starts e) w = w.0.roomy
 
-module _ (S : Settings) {longs words marks : List ℕ} (x : Access) (d : Decision) (n : ℕ) (c : MissPlan) (t : Tables) (p : Spot)
-    (a : Acts S (lent longs words marks) x d n c t p) {place : Layout} (pl : LaysOut S place) where
+module _ (S : Settings) {longs words marks : List ℕ} (o : Offer) (c : MissPlan) (t : Tables) (p : Spot)
+    (a : Acts S (lent longs words marks) o c t p) {place : Layout} (pl : LaysOut S place) where
+  abbrev x : Access
+  x = o.access
+
+  abbrev d : Decision
+  d = o.decision
+
+  abbrev n : ℕ
+  n = o.queued
+
   m : Met S (lent longs words marks) x d t p
   m = a.met
 
   means : Means S x p t c
-  means = subst (Means S x p t) (sym a.planned) (plan_means S x p t)
+  means = subst (MeansIfMade S x p t) (sym a.planned) (plan_means S x p t)
 
   roomy : length t.queue + places_needed x p ≤ S.queue
-  roomy = tested S x p t c means a.accepted
+  roomy = tested S x p t c means
 
   pub acts_fit : Sized S longs words marks
   acts_fit = is_fit S (lent longs words marks) t m.is
@@ -76,7 +86,6 @@ module _ (S : Settings) {longs words marks : List ℕ} (x : Access) (d : Decisio
       few = leb-true (length t.misses) S.misses (parts S t m.is.soundly).few
 
       go : (c : MissPlan) → Means S x p t c → MissRoom place S.readers c l w k
-      go (Refused r) z = tt
       go Stays z = tt
       go (Joins i j) z =
           let h = acts_fit in
@@ -91,7 +100,7 @@ module _ (S : Settings) {longs words marks : List ℕ} (x : Access) (d : Decisio
           (omega (arith, z.2), omega arith, omega (arith, z.2))
 
   pub queue_room : (longs' words' marks' : List ℕ) → length longs' ≡ length longs → length words' ≡ length words → length marks' ≡ length marks
-      → {k : ℕ} → k ≡ one (is_read x && is_miss d.answer) + one d.backs → QueueRoom place (n + k) longs' words' marks'
+      → {k : ℕ} → k ≡ one (is_read x && is_miss d.answer) + one (is_some d.back) → QueueRoom place (n + k) longs' words' marks'
   queue_room l w k e f g asked =
       let h = acts_fit in
       let b : n + length (queues_of x d) ≤ S.queue = rw (a.counted, ← ap length (queues_are S x d t p m)) roomy in
@@ -116,7 +125,7 @@ module _ (S : Settings) {longs words marks : List ℕ} (x : Access) (d : Decisio
       let L₁ : Lent = lent L₀.longs words₁ L₀.marks in
       let s₀ = line-written S x d t p m pl L₀ line refl in
       let s₁ = set-turned S x d t p m pl _ refl _ s₀ (ap (λ (ws : List ℕ). lent L₀.longs ws L₀.marks) set_words) in
-      let s₂ = misses_written_lem S x d t p m pl (set t.lines d.line (new_line S x d t p m pl)) (new_count S x d t p m pl) (trees_new S x d t p m pl) L₁ L₂ s₁ c means a.accepted misses in
+      let s₂ = misses_written_lem S x d t p m pl (set t.lines d.line (new_line S x d t p m pl)) (new_count S x d t p m pl) (trees_new S x d t p m pl) L₁ L₂ s₁ c means misses in
       let q : L₃ ≡ queue_written place n (queues x p) L₂ = rw (← queues_are S x d t p m) at queue in
       let s₃ = queue_written_lem S x d t p m pl (with_misses (on_misses x p.answer t.misses) (with_trees (trees_new S x d t p m pl) (with_dirty_count (new_count S x d t p m pl) (with_lines (set t.lines d.line (new_line S x d t p m pl)) t)))) refl L₂ s₂ (λ some. a.counted) roomy q in
       record {
@@ -125,11 +134,11 @@ module _ (S : Settings) {longs words marks : List ℕ} (x : Access) (d : Decisio
         left = rw (← m.numbered) (stands_encode s₃);
       }
 
--- the same by the address and the ticket that the code reads
-pub acts_leave : {S : Settings} {longs words marks : List ℕ} {x : Access} {d : Decision} {n : ℕ} {c : MissPlan} {place : Layout} → LaysOut S place
-    → {l₀ w₀ m₀ w₁ : List ℕ} {L₂ L₃ : Lent} {a k : ℕ} {r : Reply}
-    → lent l₀ w₀ m₀ ≡ line_left place (lent longs words marks) d.line (block_of (address_of x)) (sectors_after x d (sectors_for d.meeting (sectors_at S words marks d.line)))
-    → w₁ ≡ trees_written S place (set_index S (address_of x)) d.way (taken_written place d.answer d.line w₀)
-    → a ≡ address_of x → k ≡ ticket_of x → L₂ ≡ misses_written place S.readers c a k (lent l₀ w₁ m₀)
-    → r ≡ telling_of x d → L₃ ≡ queue_written place n (queues_of x d) L₂ → Acted S (lent longs words marks) x d n c r L₃
-acts_leave pl line set_words e f misses tells queue = record { on = λ t p acts. acted _ _ _ _ _ t p acts pl _ _ _ line set_words (rw (e, f) at misses) tells queue }
+-- the same of any tables
+pub acts_leave : {S : Settings} {longs words marks : List ℕ} {o : Offer} {c : MissPlan} {place : Layout} → LaysOut S place
+    → {l₀ w₀ m₀ w₁ : List ℕ} {L₂ L₃ : Lent} {r : Reply}
+    → lent l₀ w₀ m₀ ≡ line_left place (lent longs words marks) o.decision.line (block_of (address_of o.access)) (sectors_after o.access o.decision (sectors_for o.decision.meeting (sectors_at S words marks o.decision.line)))
+    → w₁ ≡ trees_written S place (set_index S (address_of o.access)) o.decision.way (taken_written place o.decision.answer o.decision.line w₀)
+    → L₂ ≡ misses_written place S.readers c (address_of o.access) (ticket_of o.access) (lent l₀ w₁ m₀)
+    → r ≡ telling_of o.access o.decision → L₃ ≡ queue_written place o.queued (queues_of o.access o.decision) L₂ → Acted S (lent longs words marks) o c r L₃
+acts_leave pl line set_words misses tells queue = record { on = λ t p acts. acted _ _ _ t p acts pl _ _ _ line set_words misses tells queue }

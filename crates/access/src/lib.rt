@@ -13,17 +13,15 @@ ghost use Rattle.model.specs.Address.{is_read, mask_of, well_formed, good_sector
 ghost use Rattle.model.specs.Lent.{lent};
 ghost use Rattle.model.specs.Inner.{SoundSlices, Does};
 ghost use Rattle.model.specs.Sound.{all_ones};
-ghost use Rattle.layout.specs.Layout.{LaysOut};
 ghost use Rattle.layout.specs.Places.{First};
-ghost use Rattle.access.specs.Plan.{Meets, Offered, is_spot, refusal_met};
-ghost use Rattle.model.specs.Steps.{access, takes_line};
+ghost use Rattle.access.specs.Plan.{Placed, Offered, told_by};
+ghost use Rattle.model.specs.Steps.{access};
 
-use asked::{is_hit, is_read, takes_line};
-use layout::Layout;
-use model::{Access, Refusal, Reply, Settings};
-use plan::{accepted, back_needed, miss_plan, refusal_of};
-use probe::{Decision, Meeting};
-use writes::{act_change, act_found, act_hit, act_read, act_write};
+use asked::{Offer, is_hit, is_read, takes_line};
+use layout::{Geometry, Slices};
+use model::{Access, Refusal, Reply};
+use plan::miss_plan;
+use writes::{act_change, act_hit, act_read, act_write};
 
 // Whether an address is a sector's: a multiple of 32 below 2^48.
 fn good_sector(address: u64) -> bool
@@ -37,174 +35,97 @@ pub fn well_formed(x: Access) -> bool
     ensures value { result ≡ well_formed x }
     ensures x_bound { mask_of x ≤ all_ones }
 {
-    if !good_sector(values::address_of(x)) {
-        return false;
-    }
-    match x {
-        Access::Read {
-            address: _,
-            mask,
-            ticket: _,
-        } => mask == 0,
-        Access::Write {
-            address: _,
-            mask,
-            ticket: _,
-        } => mask != 0,
-    }
+    good_sector(values::address_of(x))
+        && match x {
+            Access::Read { mask, .. } => mask == 0,
+            Access::Write { mask, .. } => mask != 0,
+        }
 }
 
-// Whether there is a way for the access.
-fn spotted(m: Meeting) -> bool
-    ensures { result ≡ is_spot m }
-{
-    match m {
-        Meeting::Met => true,
-        Meeting::Taken => true,
-        Meeting::Busy => false,
-        Meeting::Held => false,
-    }
-}
-
-// 5 or 6, where there is none.
-fn refusal_met(m: Meeting) -> Refusal
-    ensures { result ≡ refusal_met m }
-{
-    match m {
-        Meeting::Met => Refusal::SetHeld,
-        Meeting::Taken => Refusal::SetHeld,
-        Meeting::Busy => Refusal::SetBusy,
-        Meeting::Held => Refusal::SetHeld,
-    }
-}
-
-// A read that takes a line over: refused by the queue or the miss table, or acted.
-fn offer_taken(
-    s: Settings,
-    at: Layout,
-    longs: &mut [u64],
-    words: &mut [u32],
-    marks: &mut [u8],
-    x: Access,
-    d: Decision,
-    queued: usize,
-    missed: usize,
-) -> Reply
-    requires { LaysOut s at × Meets s (lent longs.old words.old marks.old) x d × First marks.old at.kinds s.queue 0 queued
-        × First marks.old at.counts s.misses 0 missed × (is_read x ≡ true) × (takes_line d.answer ≡ true) }
-    ensures { Offered s (lent longs.old words.old marks.old) x d result
-        (lent longs.new words.new marks.new) }
-{
-    let plan = miss_plan(s, at, longs, words, marks, x, d, queued, missed);
-    if accepted(plan) {
-        return act_read(s, at, longs, words, marks, x, d, queued, plan);
-    }
-    tables::refused(refusal_of(plan))
-}
-
-// A read whose line is there and that doesn't hit: refused by the queue or the miss table, or acted.
-fn offer_found(
-    s: Settings,
-    at: Layout,
-    longs: &mut [u64],
-    words: &mut [u32],
-    marks: &mut [u8],
-    x: Access,
-    d: Decision,
-    queued: usize,
-    missed: usize,
-) -> Reply
-    requires { LaysOut s at × Meets s (lent longs.old words.old marks.old) x d × First marks.old at.kinds s.queue 0 queued
-        × First marks.old at.counts s.misses 0 missed × (is_read x ≡ true) × (takes_line d.answer ≡ false) }
-    ensures { Offered s (lent longs.old words.old marks.old) x d result
-        (lent longs.new words.new marks.new) }
-{
-    let misses = miss_plan(s, at, longs, words, marks, x, d, queued, missed);
-    if accepted(misses) {
-        return act_found(s, at, longs, words, marks, x, d, queued, misses);
-    }
-    tables::refused(refusal_of(misses))
-}
-
-// A read whose place is decided. One that hits queues nothing and leaves the miss table, so neither refuses it.
+// A read whose place is decided: a hit, or refused by the queue or the miss table, or acted. One that hits queues nothing and leaves the
+// miss table, so neither refuses it.
 fn offer_read(
-    s: Settings,
-    at: Layout,
+    g: Geometry,
     longs: &mut [u64],
     words: &mut [u32],
     marks: &mut [u8],
-    x: Access,
-    d: Decision,
-    queued: usize,
-    missed: usize,
-) -> Reply
-    requires { LaysOut s at × Meets s (lent longs.old words.old marks.old) x d × First marks.old at.kinds s.queue 0 queued
-        × First marks.old at.counts s.misses 0 missed × (is_read x ≡ true) }
-    ensures { Offered s (lent longs.old words.old marks.old) x d result
+    o: Offer,
+) -> Result<Reply, Refusal>
+    requires placed { Placed g.settings g.at (lent longs.old words.old marks.old) o }
+    requires reads { is_read o.access ≡ true }
+    ensures { Offered g.settings (lent longs.old words.old marks.old) o.access o.decision result
         (lent longs.new words.new marks.new) }
 {
-    let a = d.answer;
-    if is_hit(a) {
-        return act_hit(s, at, words, x, d);
+    if is_hit(o.decision.answer) {
+        return Ok(act_hit(g, words, o));
     }
-    if takes_line(a) {
-        return offer_taken(s, at, longs, words, marks, x, d, queued, missed);
-    }
-    offer_found(s, at, longs, words, marks, x, d, queued, missed)
+    let plan = miss_plan(g, longs, words, marks, o)?;
+    Ok(act_read(g, longs, words, marks, o, plan))
 }
 
 // A write whose place is decided: to a line that is there, or refused by the queue, or acted.
 fn offer_write(
-    s: Settings,
-    at: Layout,
+    g: Geometry,
     longs: &mut [u64],
     words: &mut [u32],
     marks: &mut [u8],
-    x: Access,
-    d: Decision,
-    queued: usize,
-) -> Reply
-    requires { LaysOut s at × Meets s (lent longs.old words.old marks.old) x d × First marks.old at.kinds s.queue 0 queued × (is_read x ≡ false) }
-    ensures { Offered s (lent longs.old words.old marks.old) x d result
+    o: Offer,
+) -> Result<Reply, Refusal>
+    requires placed { Placed g.settings g.at (lent longs.old words.old marks.old) o }
+    requires writes { is_read o.access ≡ false }
+    ensures { Offered g.settings (lent longs.old words.old marks.old) o.access o.decision result
         (lent longs.new words.new marks.new) }
 {
-    let a = d.answer;
-    if !takes_line(a) {
-        return act_change(s, at, longs, words, marks, x, d);
+    let d = o.decision;
+    if !takes_line(d.answer) {
+        return Ok(act_change(g, longs, words, marks, o));
     }
-    if s.queue < queued + back_needed(d.backs) {
-        return tables::refused(Refusal::QueueFull);
+    if g.settings.queue < o.queued + usize::from(d.back.is_some()) {
+        return Err(Refusal::QueueFull);
     }
-    act_write(s, at, longs, words, marks, x, d, queued)
+    Ok(act_write(g, longs, words, marks, o))
 }
 
-// An access whose place is decided. From here on a read and a write go their own way.
+// An access on sound tables, refused or done. From its decision on a read and a write go their own way.
 fn offer(
-    s: Settings,
-    at: Layout,
+    g: Geometry,
     longs: &mut [u64],
     words: &mut [u32],
     marks: &mut [u8],
     x: Access,
-    d: Decision,
     queued: usize,
     missed: usize,
-) -> Reply
-    requires { LaysOut s at × Meets s (lent longs.old words.old marks.old) x d × First marks.old at.kinds s.queue 0 queued
-        × First marks.old at.counts s.misses 0 missed }
-    ensures { Offered s (lent longs.old words.old marks.old) x d result
+) -> Result<Reply, Refusal>
+    requires sound { SoundSlices g.settings (lent longs.old words.old marks.old) }
+    requires counted { First marks.old g.at.kinds g.settings.queue 0 queued × First marks.old g.at.counts g.settings.misses 0 missed }
+    ensures { Does g.settings (access g.settings x) (lent longs.old words.old marks.old) (told_by result)
         (lent longs.new words.new marks.new) }
 {
-    if is_read(x) {
-        return offer_read(s, at, longs, words, marks, x, d, queued, missed);
+    if !well_formed(x) {
+        return Err(Refusal::BadAccess);
     }
-    offer_write(s, at, longs, words, marks, x, d, queued)
+    let t = Slices {
+        geometry: g,
+        longs: &*longs,
+        words: &*words,
+        marks: &*marks,
+    };
+    let decision = probe::decide(&t, x)?;
+    let o = Offer {
+        access: x,
+        decision,
+        queued,
+        missed,
+    };
+    if is_read(x) {
+        return offer_read(g, longs, words, marks, o);
+    }
+    offer_write(g, longs, words, marks, o)
 }
 
 // An access on sound tables, of whose queue and miss table so many places are in use.
 pub fn access_counted(
-    s: Settings,
-    at: Layout,
+    g: Geometry,
     longs: &mut [u64],
     words: &mut [u32],
     marks: &mut [u8],
@@ -212,36 +133,27 @@ pub fn access_counted(
     queued: usize,
     missed: usize,
 ) -> Reply
-    requires { LaysOut s at × SoundSlices s (lent longs.old words.old marks.old) × First marks.old at.kinds s.queue 0 queued
-        × First marks.old at.counts s.misses 0 missed }
-    ensures { Does s (access s x) (lent longs.old words.old marks.old) result
+    requires { SoundSlices g.settings (lent longs.old words.old marks.old) × First marks.old g.at.kinds g.settings.queue 0 queued
+        × First marks.old g.at.counts g.settings.misses 0 missed }
+    ensures { Does g.settings (access g.settings x) (lent longs.old words.old marks.old) result
         (lent longs.new words.new marks.new) }
 {
-    if !well_formed(x) {
-        return tables::refused(Refusal::BadAccess);
-    }
-    let d = probe::decide(s, at, longs, words, marks, x);
-    let m = d.meeting;
-    if spotted(m) {
-        return offer(s, at, longs, words, marks, x, d, queued, missed);
-    }
-    tables::refused(refusal_met(m))
+    offer(g, longs, words, marks, x, queued, missed).unwrap_or_else(tables::refused)
 }
 
 // The same, for a caller that doesn't know how many there are.
 pub fn access_step(
-    s: Settings,
-    at: Layout,
+    g: Geometry,
     longs: &mut [u64],
     words: &mut [u32],
     marks: &mut [u8],
     x: Access,
 ) -> Reply
-    requires { LaysOut s at × SoundSlices s (lent longs.old words.old marks.old) }
-    ensures { Does s (access s x) (lent longs.old words.old marks.old) result
+    requires { SoundSlices g.settings (lent longs.old words.old marks.old) }
+    ensures { Does g.settings (access g.settings x) (lent longs.old words.old marks.old) result
         (lent longs.new words.new marks.new) }
 {
-    let queued = layout::used(marks, at.kinds, s.queue);
-    let missed = layout::used(marks, at.counts, s.misses);
-    access_counted(s, at, longs, words, marks, x, queued, missed)
+    let queued = layout::used(marks, g.at.kinds, g.settings.queue);
+    let missed = layout::used(marks, g.at.counts, g.settings.misses);
+    access_counted(g, longs, words, marks, x, queued, missed)
 }

@@ -13,12 +13,7 @@ use model::{Access, Answer, Sector, Status};
 pub(crate) fn is_invalid(s: Status) -> bool
     ensures { result ≡ is_invalid s }
 {
-    match s {
-        Status::Invalid => true,
-        Status::Reserved => false,
-        Status::Valid => false,
-        Status::Modified => false,
-    }
+    matches!(s, Status::Invalid)
 }
 
 // The sector that a read leaves: fetched on a miss, else as it was.
@@ -28,8 +23,8 @@ pub(crate) fn read_sector(a: Answer, s: Sector) -> Sector
     if is_miss(a) {
         Sector {
             status: Status::Reserved,
-            mask: s.mask,
             readable: true,
+            ..s
         }
     } else {
         s
@@ -41,21 +36,14 @@ pub(crate) fn written_sector(x: Access, a: Answer, s: Sector) -> Sector
     requires { is_read x ≡ false }
     ensures { result ≡ on_sector x a s }
 {
-    let joined = s.mask | mask_of(x);
-    let status = s.status;
-    let was_readable = s.readable;
+    let mask = s.mask | mask_of(x);
     if is_merge(a) {
-        return Sector {
-            status,
-            mask: joined,
-            readable: was_readable,
-        };
+        return Sector { mask, ..s };
     }
-    let invalid = is_invalid(status);
     Sector {
         status: Status::Modified,
-        mask: joined,
-        readable: (joined == 0xFFFF_FFFF) | (was_readable & !invalid),
+        mask,
+        readable: (mask == u32::MAX) | (s.readable & !is_invalid(s.status)),
     }
 }
 

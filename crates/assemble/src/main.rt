@@ -6,228 +6,169 @@
 
 mod says;
 
-ghost use Rattle.std.specs.Prelude.{◌≡◌, ◌≤◌, false};
-ghost use Rattle.input.specs.Buffers.{turns_left};
+ghost use Rattle.std.specs.Prelude.{◌≤◌, length};
 
-use assembly::Assembled;
-use input::{Ended, More, Source};
+use assembly::Refused;
+use input::{NoMore, Source};
 use output::Output;
 use std::process::ExitCode;
 
 // The most bytes of a line before its comment.
 const LONGEST: usize = 4096;
 
+// The most bytes of a command.
+const COMMAND: usize = 13;
+
 // A kind in neither of document 01's lists.
 const UNKNOWN_KIND: u8 = 0xFF;
 
-// A comment's first character.
-const COMMENT: u8 = 35;
-
-// Where the work stands: the bytes of text that wait at the front of their buffer, the number of the line that they begin,
-// the bytes of the stream that wait to be written, the bytes of text that may still come, whether to go on, whether all so
-// far was assembled, whether writing failed.
-#[derive(Clone, Copy)]
-struct Work {
-    have: usize,
-    line: u64,
-    put: usize,
-    left: u64,
-    more: bool,
-    whole: bool,
-    lost: bool,
+// Why the work ends before the text does: something could not be read or assembled, or writing failed.
+#[derive(Clone, Copy, PartialEq, Eq, Debug)]
+enum Stop {
+    Cut,
+    Lost,
 }
 
-// Nothing more is read; `whole` says whether nothing is left out.
-fn stopped(w: Work, whole: bool) -> Work
-    ensures { (result.more ≡ false) × (result.left ≡ w.left) }
-{
-    Work {
-        have: 0,
-        line: w.line,
-        put: w.put,
-        left: w.left,
-        more: false,
-        whole,
-        lost: w.lost,
-    }
-}
-
-// Says whether it went.
-fn write_out(to: Output, s: &[u8]) -> bool {
-    output::write(to, s)
-}
-
-// Writes what waits where few places are free: a command is 13 bytes at most.
-fn with_room(to: Output, out: &[u8], w: Work) -> Work
-    ensures { result.left ≡ w.left }
-{
-    let put = w.put;
-    if put < out.len() {
-        if 13 <= out.len() - put {
-            return w;
-        }
-    }
-    let done = write_out(to, text::front(out, put));
-    Work {
-        have: w.have,
-        line: w.line,
-        put: 0,
-        left: w.left,
-        more: w.more & done,
-        whole: w.whole,
-        lost: !done,
-    }
+// Writes to standard output.
+fn write(to: Output, s: &[u8]) -> Result<(), Stop> {
+    if to.write(s) { Ok(()) } else { Err(Stop::Lost) }
 }
 
 // The bytes of a line before its comment.
-fn text_end(line: &[u8]) -> usize {
-    let mut i = 0;
-    while i < line.len() {
-        if line[i] == COMMENT {
-            return i;
+fn text_end(line: &[u8]) -> usize
+    ensures { result ≤ length line.now }
+{
+    line.iter().position(|c| *c == b'#').unwrap_or(line.len())
+}
+
+// The stream that is made: its bytes that wait to be written, how many they are, and the number of the line that comes next.
+// A slice and no `output::Page`: `assembly` puts at a place of it.
+#[derive(Drop)]
+struct Stream<'a> {
+    to: Output,
+    bytes: &'a mut [u8],
+    put: usize,
+    line: u64,
+}
+
+impl Stream<'_> {
+    // Writes what waits.
+    fn write_out(&mut self) -> Result<(), Stop> {
+        let waiting = self.put;
+        self.put = 0;
+        write(self.to, text::front(self.bytes, waiting))
+    }
+
+    // Writes what waits where few places are free.
+    fn make_room(&mut self) -> Result<(), Stop> {
+        if self.bytes.len().saturating_sub(self.put) < COMMAND {
+            self.write_out()?;
         }
-        i += 1;
+        Ok(())
     }
-    i
-}
 
-// Assembles one line, or says why it is bad and ends the stream there.
-fn one_line(to: Output, line: &[u8], out: &mut [u8], w: Work) -> Work
-    ensures { result.left ≡ w.left }
-{
-    if LONGEST < text_end(line) {
-        says::too_long(to, w.line, LONGEST);
-        return stopped(w, false);
+    // Refuses a line that is too long before its comment.
+    fn check_length(&self, line: &[u8]) -> Result<(), Stop> {
+        if LONGEST < text_end(line) {
+            says::too_long(self.to, self.line, LONGEST);
+            return Err(Stop::Cut);
+        }
+        Ok(())
     }
-    let v = with_room(to, out, w);
-    if v.lost {
-        return v;
-    }
-    match assembly::assemble_line(line, out, v.put) {
-        Assembled::Next(put) => Work {
-            have: v.have,
-            line: std::num::wrapping_add_u64(v.line, 1),
-            put,
-            left: v.left,
-            more: v.more,
-            whole: v.whole,
-            lost: false,
-        },
-        Assembled::NoRoom => stopped(v, false),
-        Assembled::Bad(e) => {
-            says::bad(to, v.line, e, line);
-            stopped(v, false)
+
+    // Assembles one line, or says why it is bad.
+    fn one_line(&mut self, line: &[u8]) -> Result<(), Stop> {
+        self.check_length(line)?;
+        self.make_room()?;
+        match assembly::assemble_line(line, self.bytes, self.put) {
+            Ok(put) => {
+                self.put = put;
+                self.line = self.line.wrapping_add(1);
+                Ok(())
+            }
+            Err(why) => {
+                if let Refused::Bad(e) = why {
+                    says::bad(self.to, self.line, e, line);
+                }
+                Err(Stop::Cut)
+            }
         }
     }
-}
 
-// The line that the buffer ends in, before its end has come: of its comment only the first character is kept, so that a
-// comment may have any length.
-fn part_line(to: Output, line: &[u8], left: u64, w: Work) -> Work
-    ensures { result.left ≡ left }
-{
-    let end = text_end(line);
-    let long = w.more & (LONGEST < end);
-    if long {
-        says::too_long(to, w.line, LONGEST);
-    }
-    let have = if end < line.len() { end + 1 } else { end };
-    Work {
-        have,
-        line: w.line,
-        put: w.put,
-        left,
-        more: w.more & !long,
-        whole: w.whole & !long,
-        lost: w.lost,
-    }
-}
-
-// The whole lines among the first n bytes; the rest goes to the front.
-fn whole_lines(to: Output, buf: &mut [u8], n: usize, left: u64, out: &mut [u8], w: Work) -> Work
-    ensures { result.left ≡ left }
-{
-    let mut v = w;
-    let mut at = 0;
-    while (at < n) & v.more {
-        let end = text::line_end(text::front(buf, n), at);
-        if n <= end {
-            break;
+    // The whole lines of a text; says how many bytes are left behind them.
+    fn whole_lines(&mut self, text: &[u8]) -> Result<usize, Stop> {
+        let mut rest = text;
+        while let Some(end) = rest.iter().position(|c| *c == b'\n') {
+            self.one_line(&rest[..end])?;
+            rest = &rest[end + 1..];
         }
-        v = one_line(to, text::part(buf, at, end), out, v);
-        at = end + 1;
+        Ok(rest.len())
     }
-    let have = input::carry(buf, at, n);
-    part_line(to, text::front(buf, have), left, v)
-}
 
-// At the end of the input, by the system's word for it: a last line needs no line feed.
-fn last_line(to: Output, _end: Ended, buf: &[u8], out: &mut [u8], w: Work) -> Work
-    ensures { result.more ≡ false }
-{
-    let have = w.have;
-    if have == 0 {
-        return stopped(w, w.whole);
+    // The line that the buffer ends in, before its end has come; says how much of it to keep. Of its comment that is only the
+    // first character, so that a comment may have any length.
+    fn part_line(&self, line: &[u8]) -> Result<usize, Stop> {
+        self.check_length(line)?;
+        Ok(line.len().min(text_end(line) + 1))
     }
-    let v = one_line(to, text::front(buf, have), out, w);
-    stopped(v, v.whole)
-}
 
-// Reads once: fewer bytes may come then, or it was the last turn.
-fn read_once(source: &mut Source, to: Output, buf: &mut [u8], out: &mut [u8], w: Work) -> Work
-    ensures { turns_left result.more result.left ≤ w.left }
-{
-    match input::read_more(source, to, buf, w.have, w.left) {
-        More::To { have, left } => whole_lines(to, buf, have, left, out, w),
-        More::End(end) => last_line(to, end, buf, out, w),
-        More::Full => stopped(w, false),
-        More::Failed => stopped(w, false),
+    // At the end of the text: a last line needs no line feed.
+    fn last_line(&mut self, line: &[u8]) -> Result<(), Stop> {
+        if line.is_empty() {
+            return Ok(());
+        }
+        self.one_line(line)
     }
-}
 
-// After a failed write nothing more is written; says whether all was.
-fn end_stream(to: Output, out: &[u8], w: Work) -> bool {
-    if w.lost {
-        return false;
+    // Assembles a text line by line, to its end or to its first bad line.
+    fn assemble(&mut self, source: &mut Source, buf: &mut [u8]) -> Result<(), Stop> {
+        let mut have = 0;
+        let mut left = u64::MAX;
+        loop {
+            match source.read_more(self.to, buf, have, left) {
+                Ok(more) => {
+                    left = more.left;
+                    let rest = self.whole_lines(text::front(buf, more.have))?;
+                    let kept = input::carry(buf, more.have.saturating_sub(rest), more.have);
+                    have = self.part_line(text::front(buf, kept))?;
+                }
+                Err(NoMore::End(_)) => return self.last_line(text::front(buf, have)),
+                Err(NoMore::Full | NoMore::Failed(_)) => return Err(Stop::Cut),
+            }
+        }
     }
-    if !write_out(to, text::front(out, w.put)) {
-        return false;
-    }
-    if !w.whole {
-        return write_out(to, &[UNKNOWN_KIND]);
-    }
-    true
-}
 
-// Assembles a text line by line, to its end or to its first bad line; says whether all was written.
-fn assemble_all(source: &mut Source, to: Output, buf: &mut [u8], out: &mut [u8]) -> bool {
-    let mut w = Work {
-        have: 0,
-        line: 1,
-        put: 0,
-        left: u64::MAX,
-        more: true,
-        whole: true,
-        lost: false,
-    };
-    while w.more {
-        w = read_once(source, to, buf, out, w);
+    // After a failed write nothing more is written.
+    fn end(&mut self, text: Result<(), Stop>) -> Result<(), Stop> {
+        if text == Err(Stop::Lost) {
+            return text;
+        }
+        self.write_out()?;
+        if text == Err(Stop::Cut) {
+            write(self.to, &[UNKNOWN_KIND])?;
+        }
+        Ok(())
     }
-    end_stream(to, out, w)
 }
 
 // Assembles the text that is named or comes on standard input. The status says whether the stream could be written.
 fn main(rt: HostRuntime) -> ExitCode {
     let to = Output::new(rt.stdout(), rt.stderr());
     let Some(mut source) = input::open_input(&rt, rt.stdin(), to) else {
-        write_out(to, &[UNKNOWN_KIND]);
+        to.write(&[UNKNOWN_KIND]);
         return ExitCode::SUCCESS;
     };
     let mut buf = [0u8; 65536];
-    let mut out = [0u8; 65536];
-    if assemble_all(&mut source, to, &mut buf, &mut out) {
-        ExitCode::SUCCESS
-    } else {
-        ExitCode::FAILURE
+    let mut bytes = [0u8; 65536];
+    let mut stream = Stream {
+        to,
+        bytes: &mut bytes,
+        put: 0,
+        line: 1,
+    };
+    let text = stream.assemble(&mut source, &mut buf);
+    match stream.end(text) {
+        Ok(()) => ExitCode::SUCCESS,
+        Err(_) => ExitCode::FAILURE,
     }
 }

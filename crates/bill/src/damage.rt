@@ -1,59 +1,63 @@
 // Where a log stops before its end, and why.
+use input::Ended;
 use records::Item;
+use std::fmt;
 
-// Whether what stands at a place may become whole with more bytes.
-pub fn may_go_on(s: &[u8], at: usize) -> bool {
-    match records::item_at(s, at) {
-        Item::Command {
-            command: _,
-            next: _,
-        } => false,
-        Item::Event { event: _, next: _ } => true,
-        Item::End => true,
-        Item::Cut {
-            kind: _,
-            wants: _,
-            left: _,
-        } => true,
-        Item::Unknown(_) => false,
-        Item::Strange(_) => false,
-    }
+// Why a bill is not of a whole log.
+#[derive(Clone, Copy)]
+pub enum Lack {
+    Unread,
+    Command,
+    CutShort,
+    NoRecord,
+    NoEvent,
 }
 
-// Where a log is damaged, why, and what the bill is of.
-fn put_stop(place: u64, why: &[u8], out: &mut [u8], at: usize) -> usize {
-    let a = text::put_text(b"The log is damaged at byte ", out, at);
-    let b = text::put_decimal(place, out, a);
-    let c = text::put_text(why, out, b);
-    text::put_text(
-        b" The bill is of what stands before; `show` lists it.\n",
-        out,
-        c,
-    )
-}
-
-// What waits when the input has ended: nothing, or a log that is damaged there.
-pub fn put_damage(s: &[u8], place: u64, out: &mut [u8], at: usize) -> usize {
+// What stands at the front of some bytes that no more bytes would make an event.
+pub fn damage_in(s: &[u8]) -> Option<Lack> {
     match records::item_at(s, 0) {
-        Item::Command {
-            command: _,
-            next: _,
-        } => put_stop(place, b": a command, and no event, stands there.", out, at),
-        Item::Event { event: _, next: _ } => at,
-        Item::End => at,
-        Item::Cut {
-            kind: _,
-            wants: _,
-            left: _,
-        } => put_stop(place, b": its last record is cut short.", out, at),
-        Item::Unknown(_) => put_stop(place, b": no record begins so.", out, at),
-        Item::Strange(_) => put_stop(place, b": its record is no event.", out, at),
+        Item::Command { .. } => Some(Lack::Command),
+        Item::Unknown(_) => Some(Lack::NoRecord),
+        Item::Strange(_) => Some(Lack::NoEvent),
+        Item::Event { .. } | Item::End | Item::Cut { .. } => None,
     }
 }
 
-// What could not be read is not billed: a whole-looking bill of it would mislead.
-pub fn put_unread(place: u64, out: &mut [u8], at: usize) -> usize {
-    let a = text::put_text(b"The log could not be read from byte ", out, at);
-    let b = text::put_decimal(place, out, a);
-    text::put_text(b" on. The bill is of what stands before.\n", out, b)
+// What waits when the input has ended, by the system's word for it: nothing, or a record that is cut short.
+pub fn left_in(_end: Ended, s: &[u8]) -> Option<Lack> {
+    match records::item_at(s, 0) {
+        Item::Cut { .. } => Some(Lack::CutShort),
+        _ => None,
+    }
+}
+
+// From which byte of the log on the bill lacks what.
+#[derive(Clone, Copy)]
+pub struct Stop {
+    pub place: u64,
+    pub why: Lack,
+}
+
+impl fmt::Display for Stop {
+    fn fmt<W: fmt::Write>(&self, f: &mut fmt::Formatter<W>) -> fmt::Result {
+        let why = match self.why {
+            // What could not be read is not billed: a whole-looking bill of it would mislead.
+            Lack::Unread => {
+                return writeln!(
+                    f,
+                    "The log could not be read from byte {} on. The bill is of what stands before.",
+                    self.place
+                );
+            }
+            Lack::Command => "a command, and no event, stands there",
+            Lack::CutShort => "its last record is cut short",
+            Lack::NoRecord => "no record begins so",
+            Lack::NoEvent => "its record is no event",
+        };
+        writeln!(
+            f,
+            "The log is damaged at byte {}: {why}. The bill is of what stands before; `show` lists it.",
+            self.place
+        )
+    }
 }

@@ -5,118 +5,67 @@
 mod damage;
 mod summary;
 
-ghost use Rattle.std.specs.Prelude.{◌≡◌, ◌≤◌};
-ghost use Rattle.input.specs.Buffers.{turns_left};
-
 use billing::Bill;
-use input::{Ended, More, Source};
-use output::Output;
+use damage::{Lack, Stop};
+use input::{NoMore, Source};
+use output::{Output, Page};
+use std::fmt::Write as _;
+use summary::Summary;
 
-// The bytes that wait at the front of the buffer, the bytes billed before them, the bytes that may still come, whether to go
-// on, whether reading failed.
-#[derive(Clone, Copy)]
-struct Work {
-    have: usize,
-    place: u64,
-    left: u64,
-    more: bool,
-    failed: bool,
-}
-
-// Where the work stands, with the bill so far.
+// The bytes that wait at the front of the buffer, the bytes billed before them, and their bill.
 #[derive(Clone, Copy)]
 struct Account {
-    work: Work,
+    have: usize,
+    place: u64,
     bill: Bill,
 }
 
-// Nothing more is read.
-fn stops(w: Work, failed: bool, bill: Bill) -> Account
-    ensures { turns_left result.work.more result.work.left ≡ 0 }
-{
-    let work = Work {
-        have: w.have,
-        place: w.place,
-        left: w.left,
-        more: false,
-        failed,
-    };
-    Account { work, bill }
-}
-
-// At the end of the input, by the system's word for it.
-fn ended(_end: Ended, w: Work, bill: Bill) -> Account
-    ensures { turns_left result.work.more result.work.left ≡ 0 }
-{
-    stops(w, false, bill)
-}
-
 // The whole events of the first n bytes of the buffer; what is no whole event yet goes to its front.
-fn bill_buffer(buf: &mut [u8], n: usize, left: u64, w: Work, b: Bill) -> Account
-    ensures { result.work.left ≡ left }
-{
-    let r = billing::bill_log(b, text::front(buf, n));
-    let next = r.next;
-    let more = damage::may_go_on(text::front(buf, n), next);
-    let have = input::carry(buf, next, n);
-    let work = Work {
-        have,
-        place: std::num::wrapping_add_u64(w.place, next as u64),
-        left,
-        more,
-        failed: false,
-    };
-    let bill = r.bill;
-    Account { work, bill }
-}
-
-// Reads once: fewer bytes may come then, or it was the last turn.
-fn read_once(source: &mut Source, to: Output, buf: &mut [u8], w: Work, b: Bill) -> Account
-    ensures { turns_left result.work.more result.work.left ≤ w.left }
-{
-    match input::read_more(source, to, buf, w.have, w.left) {
-        More::To { have, left } => bill_buffer(buf, have, left, w, b),
-        More::End(end) => ended(end, w, b),
-        More::Full => stops(w, true, b),
-        More::Failed => stops(w, true, b),
+fn bill_buffer(buf: &mut [u8], n: usize, a: Account) -> Account {
+    let r = billing::bill_log(a.bill, text::front(buf, n));
+    Account {
+        have: input::carry(buf, r.next, n),
+        place: a.place.wrapping_add(r.next as u64),
+        bill: r.bill,
     }
 }
 
-// Bills a log part by part, to its end or to its damage.
-fn bill_all(source: &mut Source, to: Output, buf: &mut [u8]) -> Account {
-    let mut w = Work {
+// What the bill lacks where no more bytes come: all that could not be read, or what the end leaves.
+fn lack_of(why: NoMore, s: &[u8]) -> Option<Lack> {
+    match why {
+        NoMore::End(end) => damage::left_in(end, s),
+        NoMore::Full | NoMore::Failed(_) => Some(Lack::Unread),
+    }
+}
+
+// Bills a log part by part, to its end or to its damage; says what the bill lacks.
+fn bill_all(source: &mut Source, to: Output, buf: &mut [u8]) -> (Account, Option<Lack>) {
+    let mut a = Account {
         have: 0,
         place: 0,
-        left: u64::MAX,
-        more: true,
-        failed: false,
+        bill: billing::empty_bill(),
     };
-    let mut b = billing::empty_bill();
-    while w.more {
-        let a = read_once(source, to, buf, w, b);
-        w = a.work;
-        b = a.bill;
-    }
-    Account { work: w, bill: b }
-}
-
-// Why the bill is not of a whole log, where it is not.
-fn put_lack(buf: &[u8], w: Work, out: &mut [u8], at: usize) -> usize {
-    let have = w.have;
-    if w.failed {
-        let read = std::num::wrapping_add_u64(w.place, have as u64);
-        damage::put_unread(read, out, at)
-    } else {
-        damage::put_damage(text::front(buf, have), w.place, out, at)
+    let mut left = u64::MAX;
+    loop {
+        if let Some(lack) = damage::damage_in(text::front(buf, a.have)) {
+            return (a, Some(lack));
+        }
+        match source.read_more(to, buf, a.have, left) {
+            Ok(w) => {
+                a = bill_buffer(buf, w.have, a);
+                left = w.left;
+            }
+            Err(why) => return (a, lack_of(why, text::front(buf, a.have))),
+        }
     }
 }
 
-// Prints the bill, and what it lacks.
-fn print(to: Output, buf: &[u8], a: Account, out: &mut [u8]) {
-    let w = a.work;
-    let summary = summary::put_summary(w.place, a.bill, out, 0);
-    let end = put_lack(buf, w, out, summary);
-    output::write(to, text::front(out, end));
+// Where that is: behind what was read, for what could not be; else where the bytes that wait begin.
+fn place_of(a: Account, lack: Lack) -> u64 {
+    match lack {
+        Lack::Unread => a.place.wrapping_add(a.have as u64),
+        Lack::Command | Lack::CutShort | Lack::NoRecord | Lack::NoEvent => a.place,
+    }
 }
 
 // Bills the log that is named or comes on standard input.
@@ -126,8 +75,16 @@ fn main(rt: HostRuntime) {
         return;
     };
     let mut space = [0u8; 65536];
-    let mut page = [0u8; 4096];
-    let buf: &mut [u8] = &mut space;
-    let a = bill_all(&mut source, to, buf);
-    print(to, buf, a, &mut page);
+    let (a, lack) = bill_all(&mut source, to, &mut space);
+    let mut page: Page<4096> = Page::new();
+    let bill = Summary {
+        bytes: a.place,
+        bill: a.bill,
+    };
+    let _ = write!(page, "{bill}");
+    if let Some(why) = lack {
+        let place = place_of(a, why);
+        let _ = write!(page, "{}", Stop { place, why });
+    }
+    to.write(page.text());
 }

@@ -1,11 +1,11 @@
 -- Bills: a sum at each place, and whether one would have passed 64 bits; what an event and a list of events make of one.
-use Rattle.std.specs.Prelude.{ℕ, ◌+◌, ◌*◌, ◌/◌, ◌^◌, true, false, List, [], ◌∷◌, get_or, set, replicate, eqb, ltb}
+use Rattle.std.specs.Prelude.{ℕ, ◌+◌, ◌*◌, ◌/◌, ◌^◌, true, false, Result, Ok, Err, List, [], ◌∷◌, get_or, set, replicate, eqb, ltb}
 use Rattle.words.specs.Words.{pick}
 use Rattle.model.specs.declared.Event.{Event}
 use Rattle.billing.specs.declared.Dues.{Dues}
 use Rattle.billing.specs.declared.Bill.{Bill}
-use Rattle.billing.specs.declared.Rate.{Rate}
-use Rattle.billing.specs.declared.Rate.TheVariants as rate
+use Rattle.billing.specs.declared.NoRate.{NoRate}
+use Rattle.billing.specs.declared.NoRate.TheVariants.{OfNothing, TooLarge}
 use Rattle.billing.specs.Dues.{dues_of, owed_at}
 
 abbrev pub empty_bill : Bill
@@ -44,8 +44,8 @@ owed_in p (e ∷ es) = owed_at p (dues_of e) + owed_in p es
 
 -- ---- a part of a whole in tenths of a percent, to the nearest, halves upwards
 
-abbrev pub rate_of : ℕ → ℕ → Rate
+abbrev pub rate_of : ℕ → ℕ → Result ℕ NoRate
 rate_of n m =
-    pick (eqb m 0) rate.OfNothing (
-    pick (ltb (n * 1000 + m / 2) (2 ^ 64)) (rate.Tenths ((n * 1000 + m / 2) / m))
-    rate.TooLarge)
+    pick (eqb m 0) (Err OfNothing) (
+    pick (ltb (n * 1000 + m / 2) (2 ^ 64)) (Ok ((n * 1000 + m / 2) / m))
+    (Err TooLarge))

@@ -1,25 +1,28 @@
 -- The events of a log up to the first place where no whole event stands, and the bill of those.
-use Rattle.std.specs.Prelude.{ℕ, zero, suc, List, [], ◌∷◌, length}
+use Rattle.std.specs.Prelude.{ℕ, zero, suc, Option, Some, None, List, [], ◌∷◌, length}
 use Rattle.model.specs.declared.Event.{Event}
 use Rattle.records.specs.declared.Item.{Item}
 use Rattle.records.specs.declared.Item.TheVariants as item
 use Rattle.records.specs.Items.{item_at}
 use Rattle.billing.specs.declared.Bill.{Bill}
 use Rattle.billing.specs.declared.Billed.{Billed}
-use Rattle.billing.specs.declared.Step.{Step}
-use Rattle.billing.specs.declared.Step.TheVariants.{Next, Stop}
 use Rattle.billing.specs.Bills.{all_added}
 
--- an event and the place behind it, or what is none
-abbrev pub log_step_of : Item → Step
-log_step_of (item.Event e next) = Next e next
-log_step_of (item.Command c next) = Stop
-log_step_of item.End = Stop
-log_step_of (item.Cut k wants left) = Stop
-log_step_of (item.Unknown k) = Stop
-log_step_of (item.Strange k) = Stop
+-- an event and the place behind it
+pub record Passed : Type 0 where
+  pub event : Event
+  pub next : ℕ
 
-unfoldable pub log_step_at : List ℕ → ℕ → Step
+-- that, or none
+abbrev pub log_step_of : Item → Option Passed
+log_step_of (item.Event e next) = Some (record { event = e; next = next })
+log_step_of (item.Command c next) = None
+log_step_of item.End = None
+log_step_of (item.Cut k wants left) = None
+log_step_of (item.Unknown k) = None
+log_step_of (item.Strange k) = None
+
+unfoldable pub log_step_at : List ℕ → ℕ → Option Passed
 log_step_at s at = log_step_of (item_at s at)
 
 -- events, and the place behind the last
@@ -34,13 +37,13 @@ abbrev pub nothing_at : ℕ → LogEvents
 nothing_at at = record { events = []; end = at }
 
 -- by the step at a place, p being what follows it
-abbrev pub part_by : Step → ℕ → LogEvents → LogEvents
-part_by (Next e next) at p = event_before e p
-part_by Stop at p = nothing_at at
+abbrev pub part_by : Option Passed → ℕ → LogEvents → LogEvents
+part_by (Some v) at p = event_before v.event p
+part_by None at p = nothing_at at
 
-abbrev pub step_end : Step → ℕ → ℕ
-step_end (Next e next) at = next
-step_end Stop at = at
+abbrev pub step_end : Option Passed → ℕ → ℕ
+step_end (Some v) at = v.next
+step_end None at = at
 
 -- from a place on, n events at most
 unfoldable pub part_from : ℕ → List ℕ → ℕ → LogEvents

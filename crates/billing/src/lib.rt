@@ -2,10 +2,9 @@
 #![tactic(auto)]
 
 ghost use Rattle.std.specs.Prelude.{◌≡◌, ◌<◌, get_or};
-ghost use Rattle.billing.specs.Dues.{one_and, dues_of};
-ghost use Rattle.billing.specs.Dues.{due_once};
+ghost use Rattle.billing.specs.Dues.{due_once, one_and, dues_of};
 ghost use Rattle.billing.specs.Bills.{empty_bill, filled_up, raised, added_to, rate_of};
-ghost use Rattle.billing.specs.Logs.{log_step_at, billed_log};
+ghost use Rattle.billing.specs.Logs.{billed_log};
 
 use model::Event;
 use records::Item;
@@ -34,6 +33,8 @@ pub const RELEASED: usize = 25;
 pub const TICKS: usize = 26;
 
 // The sums, and whether one more would have passed 64 bits: they then stand as before that event.
+// Numbers for places: `count` takes any number, and `empty_bill_owed` speaks of every place below 27 at once.
+// A flag beside the sums, and no Result: the sums of a full bill are read too.
 #[derive(Clone, Copy)]
 pub struct Bill {
     pub counts: [u64; 27],
@@ -48,10 +49,9 @@ pub struct Dues {
     pub also: u64,
 }
 
-// A part of a whole in tenths of a percent.
-#[derive(Clone, Copy)]
-pub enum Rate {
-    Tenths(u64),
+// Why a part of a whole has no rate: the whole is nothing, or 64 bits do not hold what is divided.
+#[derive(Clone, Copy, PartialEq, Eq)]
+pub enum NoRate {
     OfNothing,
     TooLarge,
 }
@@ -61,13 +61,6 @@ pub enum Rate {
 pub struct Billed {
     pub bill: Bill,
     pub next: usize,
-}
-
-// The event at a place of a log and the place behind it.
-#[derive(Clone, Copy)]
-enum Step {
-    Next { event: Event, next: usize },
-    Stop,
 }
 
 // A bill of nothing.
@@ -88,6 +81,7 @@ pub fn count(bill: Bill, place: usize) -> u64
 }
 
 // One more at a place of the bill.
+// Where there is no other place, 0 more at the same one: `add` then has one case.
 fn one(place: usize) -> Dues
     ensures { result ≡ due_once place }
 {
@@ -106,33 +100,18 @@ fn one_and(place: usize, other: usize, also: u64) -> Dues
 }
 
 // What an event adds to a bill.
+#[tactic(auto, unfolding(crate::specs::Dues::dues_of))]
 pub fn dues_of(e: Event) -> Dues
     ensures { result ≡ dues_of e }
 {
     match e {
-        Event::Answered { answer, line: _ } => one_and(
-            ACCESSES,
-            values::answer_number(answer) as usize,
-            1,
-        ),
-        Event::Refused(n) => one_and(REFUSALS, REFUSALS + values::refusal_number(n) as usize, 1),
+        Event::Answered { answer, .. } => one_and(ACCESSES, u8::from(answer) as usize, 1),
+        Event::Refused(n) => one_and(REFUSALS, REFUSALS + u8::from(n) as usize, 1),
         Event::ReadQueued(_) => one(READS_QUEUED),
-        Event::WriteBackQueued {
-            block: _,
-            m0: _,
-            m1: _,
-            m2: _,
-            m3: _,
-        } => one(WRITE_BACKS_QUEUED),
+        Event::WriteBackQueued { .. } => one(WRITE_BACKS_QUEUED),
         Event::Released(_) => one(RELEASED),
         Event::ReadSent(_) => one(READS_SENT),
-        Event::WriteBackSent {
-            block: _,
-            m0,
-            m1,
-            m2,
-            m3,
-        } => one_and(
+        Event::WriteBackSent { m0, m1, m2, m3, .. } => one_and(
             WRITE_BACKS_SENT,
             DIRTY_BYTES_SENT,
             records::dirty_bytes(m0, m1, m2, m3),
@@ -146,12 +125,11 @@ pub fn dues_of(e: Event) -> Dues
 fn filled_up(bill: Bill) -> Bill
     ensures { result ≡ filled_up bill }
 {
-    let mut b = bill;
-    b.full = true;
-    b
+    Bill { full: true, ..bill }
 }
 
 // `by` more at a place, where 64 bits hold the sum.
+#[tactic(auto, unfolding(crate::specs::Bills::raised))]
 fn raise(bill: Bill, place: usize, by: u64) -> Bill
     requires { place < 27 }
     ensures { result ≡ raised bill place by }
@@ -159,49 +137,34 @@ fn raise(bill: Bill, place: usize, by: u64) -> Bill
     if bill.full {
         return bill;
     }
-    let mut b = bill;
-    let sum = b.counts[place];
-    if u64::MAX - by < sum {
+    let Some(sum) = bill.counts[place].checked_add(by) else {
         return filled_up(bill);
-    }
-    b.counts[place] = sum + by;
+    };
+    let mut b = bill;
+    b.counts[place] = sum;
     b
 }
 
 // A bill with one more event; where its sums do not all fit, the bill as it was, marked full.
+#[tactic(auto, using(crate::proofs::Sums::dues_within), unfolding(crate::specs::Bills::added_to, crate::specs::Bills::billed, crate::specs::Bills::bill_kept))]
 pub fn add(bill: Bill, e: Event) -> Bill
     ensures { result ≡ added_to bill e }
 {
     let d = dues_of(e);
     let b = raise(raise(bill, d.place, 1), d.other, d.also);
-    if b.full {
-        return filled_up(bill);
-    }
-    b
+    if b.full { filled_up(bill) } else { b }
 }
 
 // A part of a whole in tenths of a percent, to the nearest.
-pub fn rate_of(part: u64, whole: u64) -> Rate
+pub fn rate_of(part: u64, whole: u64) -> Result<u64, NoRate>
     ensures { result ≡ rate_of part whole }
 {
     if whole == 0 {
-        return Rate::OfNothing;
+        return Err(NoRate::OfNothing);
     }
-    let half = whole / 2;
-    if (u64::MAX - half) / 1000 < part {
-        return Rate::TooLarge;
-    }
-    Rate::Tenths((part * 1000 + half) / whole)
-}
-
-// What the event at byte `at` adds to the bill, or that the bill ends there.
-fn step_at(log: &[u8], at: usize) -> Step
-    ensures { result ≡ log_step_at log.now at }
-{
-    let Item::Event { event, next } = records::item_at(log, at) else {
-        return Step::Stop;
-    };
-    Step::Next { event, next }
+    let tenths = part.checked_mul(1000).ok_or(NoRate::TooLarge)?;
+    let rounded = tenths.checked_add(whole / 2).ok_or(NoRate::TooLarge)?;
+    Ok(rounded / whole)
 }
 
 // The bill with the events of a log up to the first place where no whole event stands, and that place.
@@ -210,10 +173,7 @@ pub fn bill_log(bill: Bill, log: &[u8]) -> Billed
 {
     let mut b = bill;
     let mut at = 0;
-    while at < log.len() {
-        let Step::Next { event, next } = step_at(log, at) else {
-            return Billed { bill: b, next: at };
-        };
+    while let Item::Event { event, next } = records::item_at(log, at) {
         b = add(b, event);
         at = next;
     }

@@ -8,14 +8,12 @@ ghost use Rattle.model.specs.Calls.{fresh_call, check_call, verdict_of, call, ac
 ghost use Rattle.model.specs.History.{step_by};
 ghost use Rattle.model.specs.Inner.{SoundSlices, Does};
 ghost use Rattle.model.specs.declared.Access.TheVariants.{Read, Write};
-ghost use Rattle.layout.specs.Layout.{LaysOut};
 ghost use Rattle.cache.specs.Made.{LeavesVerdict, model_call};
 
-use layout::Layout;
-use model::{Access, Refusal, Reply, Settings, Verdict};
-use soundness::LaidVerdict;
+use layout::Geometry;
+use model::{Access, Refusal, Reply, Settings};
 
-// One call but the making of tables.
+// One call but the making of tables. A value and not a closure: the scripts of `cache_tests` and the calls for C choose one before they make it, and `model_call` says in a contract which it is.
 #[derive(Clone, Copy)]
 pub enum Call {
     Offer(Access),
@@ -27,41 +25,39 @@ pub enum Call {
 // ---- fresh tables
 
 // Fresh tables; refusal 3 is not asked.
-pub fn fresh(s: Settings, longs: &mut [u64], words: &mut [u32], marks: &mut [u8]) -> Verdict
+pub fn fresh(
+    s: Settings,
+    longs: &mut [u64],
+    words: &mut [u32],
+    marks: &mut [u8],
+) -> Result<(), Refusal>
     ensures { LeavesVerdict (fresh_call s (lent longs.old words.old marks.old))
         (lent longs.old words.old marks.old) result
         (lent longs.new words.new marks.new) }
 {
     if !layout::in_range(s) {
-        return Verdict::Refused(Refusal::SettingOutOfRange);
+        return Err(Refusal::SettingOutOfRange);
     }
     if !layout::lengths_fit(s, longs, words, marks) {
-        return Verdict::Refused(Refusal::SliceLength);
+        return Err(Refusal::SliceLength);
     }
     layout::make_fresh(s, longs, words, marks);
-    Verdict::Passed
+    Ok(())
 }
 
 // ---- the calls
 
 // The step of a call, behind the check.
-fn step(
-    s: Settings,
-    at: Layout,
-    longs: &mut [u64],
-    words: &mut [u32],
-    marks: &mut [u8],
-    k: Call,
-) -> Reply
-    requires { LaysOut s at × SoundSlices s (lent longs.old words.old marks.old) }
-    ensures { Does s (step_by s (model_call k)) (lent longs.old words.old marks.old) result
+fn step(g: Geometry, longs: &mut [u64], words: &mut [u32], marks: &mut [u8], k: Call) -> Reply
+    requires { SoundSlices g.settings (lent longs.old words.old marks.old) }
+    ensures { Does g.settings (step_by g.settings (model_call k)) (lent longs.old words.old marks.old) result
         (lent longs.new words.new marks.new) }
 {
     match k {
-        Call::Offer(x) => access::access_step(s, at, longs, words, marks, x),
-        Call::Send => steps::send_step(s, at, longs, words, marks),
-        Call::Fill(address) => steps::fill_step(s, at, longs, words, marks, address),
-        Call::Tick(cycle) => steps::tick_step(s, longs, words, marks, cycle),
+        Call::Offer(x) => access::access_step(g, longs, words, marks, x),
+        Call::Send => steps::send_step(g, longs, words, marks),
+        Call::Fill(address) => steps::fill_step(g, longs, words, marks, address),
+        Call::Tick(cycle) => steps::tick_step(g.settings, longs, words, marks, cycle),
     }
 }
 
@@ -78,8 +74,8 @@ pub fn perform(
         (lent longs.new words.new marks.new) }
 {
     match soundness::checked_layout(s, longs, words, marks) {
-        LaidVerdict::Refused(n) => tables::refused(n),
-        LaidVerdict::Passed(at) => step(s, at, longs, words, marks, k),
+        Err(n) => tables::refused(n),
+        Ok(g) => step(g, longs, words, marks, k),
     }
 }
 
@@ -182,7 +178,7 @@ pub fn tick(
 // ---- refusals 1, 2 and 3 by themselves
 
 // Whether the tables are sound: refusals 1, 2 and 3.
-pub fn check(s: Settings, longs: &[u64], words: &[u32], marks: &[u8]) -> Verdict
+pub fn check(s: Settings, longs: &[u64], words: &[u32], marks: &[u8]) -> Result<(), Refusal>
     ensures { result ≡ verdict_of (check_call s (lent longs.now words.now marks.now)) }
 {
     soundness::check(s, longs, words, marks)

@@ -2,7 +2,7 @@
 use crate::outcomes;
 use crate::outcomes::Outcome;
 use cache::Call;
-use model::{Access, Command, GivenRule, Settings};
+use model::{Access, Command, Settings};
 
 // The settings and the lengths that calls are made with; whether the next one's outcome is asked for.
 #[derive(Clone, Copy)]
@@ -14,6 +14,7 @@ pub(crate) struct Bench {
     pub asked: bool,
 }
 
+// A value, as `cache::Call`: a line of the script is read before it is made.
 #[derive(Clone, Copy)]
 pub(crate) enum Deed {
     Fresh,
@@ -44,14 +45,7 @@ pub(crate) fn empty_bench() -> Bench {
 
 // A bench that says or does not say whether the call was refused.
 pub(crate) fn asking(b: Bench, asked: bool) -> Bench {
-    let settings = b.settings;
-    Bench {
-        settings,
-        longs: b.longs,
-        words: b.words,
-        marks: b.marks,
-        asked,
-    }
+    Bench { asked, ..b }
 }
 
 // With other settings, and the lengths that they ask for if they are in range.
@@ -62,16 +56,10 @@ fn with_settings(b: Bench, s: Settings) -> Bench {
             longs: layout::longs_length(s),
             words: layout::words_length(s),
             marks: layout::marks_length(s),
-            asked: b.asked,
+            ..b
         };
     }
-    Bench {
-        settings: s,
-        longs: b.longs,
-        words: b.words,
-        marks: b.marks,
-        asked: b.asked,
-    }
+    Bench { settings: s, ..b }
 }
 
 // The call of a read, which wants mask 0.
@@ -85,38 +73,28 @@ pub(crate) fn offered_read(address: u64, mask: u32, ticket: u32) -> Deed {
 }
 
 // A command as a call: settings make the tables fresh.
-pub(crate) fn deed_of(c: Command) -> Deed {
-    match c {
-        Command::Settings(_) => Deed::Fresh,
-        Command::Read { address, ticket } => offered_read(address, 0, ticket),
-        Command::Write { address, mask } => {
-            let x = Access::Write {
+impl From<Command> for Deed {
+    fn from(c: Command) -> Deed {
+        match c {
+            Command::Settings(_) => Deed::Fresh,
+            Command::Read { address, ticket } => offered_read(address, 0, ticket),
+            Command::Write { address, mask } => Deed::Made(Call::Offer(Access::Write {
                 address,
                 mask,
                 ticket: 0,
-            };
-            Deed::Made(Call::Offer(x))
+            })),
+            Command::Send => Deed::Made(Call::Send),
+            Command::Fill(address) => Deed::Made(Call::Fill(address)),
+            Command::Tick(cycle) => Deed::Made(Call::Tick(cycle)),
         }
-        Command::Send => Deed::Made(Call::Send),
-        Command::Fill(address) => Deed::Made(Call::Fill(address)),
-        Command::Tick(cycle) => Deed::Made(Call::Tick(cycle)),
     }
 }
 
-// A rule that is left out is least recently used.
-fn rule_of(rule: GivenRule) -> usize {
-    match rule {
-        GivenRule::LeftOut => 0,
-        GivenRule::Byte(n) => n as usize,
-    }
-}
-
-// Settings are taken over before they are judged.
+// Settings are taken over before they are judged; a rule that is left out is least recently used.
 pub(crate) fn set_up(c: Command, b: Bench) -> Bench {
     let Command::Settings(g) = c else {
         return b;
     };
-    let rule = g.rule;
     let s = Settings {
         sets: g.sets as usize,
         ways: g.ways as usize,
@@ -124,56 +102,38 @@ pub(crate) fn set_up(c: Command, b: Bench) -> Bench {
         misses: g.misses as usize,
         readers: g.readers as usize,
         queue: g.queue as usize,
-        rule: rule_of(rule),
+        rule: g.rule.unwrap_or(0) as usize,
     };
     with_settings(b, s)
 }
 
 // With the three lengths that a line names.
 pub(crate) fn with_lengths(b: Bench, line: &[u8], at: usize) -> Bench {
-    let settings = b.settings;
     let longs = scripts::number_next(line, at);
     let words = scripts::number_next(line, longs.next);
     let marks = scripts::number_next(line, words.next);
     Bench {
-        settings,
         longs: longs.value as usize,
         words: words.value as usize,
         marks: marks.value as usize,
-        asked: b.asked,
+        ..b
     }
 }
 
 // A number as 32 bits; one that is larger, the largest.
 pub(crate) fn word_of(n: u64) -> u32 {
-    if n <= 0xFFFF_FFFF {
-        n as u32
-    } else {
-        0xFFFF_FFFF
-    }
+    u32::try_from(n).unwrap_or(u32::MAX)
+}
+
+// A number as 8 bits; one that is larger, the largest.
+pub(crate) fn mark_of(n: u64) -> u8 {
+    u8::try_from(n).unwrap_or(u8::MAX)
 }
 
 // A place of a slice gets a number; a place beyond it none.
-pub(crate) fn put_long(longs: &mut [u64], at: u64, n: u64) {
-    let i = at as usize;
-    if i < longs.len() {
-        longs[i] = n;
-    }
-}
-
-// Puts a number into `words`, if there is such a place.
-pub(crate) fn put_word(words: &mut [u32], at: u64, n: u64) {
-    let i = at as usize;
-    if i < words.len() {
-        words[i] = word_of(n);
-    }
-}
-
-// Puts a number into `marks`, if there is such a place.
-pub(crate) fn put_mark(marks: &mut [u8], at: u64, n: u64) {
-    let i = at as usize;
-    if i < marks.len() {
-        marks[i] = if n <= 0xFF { n as u8 } else { 0xFF };
+pub(crate) fn put<T: Copy>(numbers: &mut [T], at: u64, n: T) {
+    if let Some(place) = numbers.get_mut(at as usize) {
+        *place = n;
     }
 }
 
@@ -183,15 +143,7 @@ fn dirty_lines(marks: &[u8], lines: u64) -> usize {
     if marks.len() / 4 < n {
         return 0;
     }
-    let mut count: usize = 0;
-    let mut l = 0;
-    while l < n {
-        if tables::is_dirty(marks, l) {
-            count += 1;
-        }
-        l += 1;
-    }
-    count
+    (0..n).filter(|l| tables::is_dirty(marks, *l)).count()
 }
 
 // Makes the call on lent slices; its outcome is put at the start of `out`.

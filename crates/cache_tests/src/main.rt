@@ -15,13 +15,13 @@
 mod calls;
 mod outcomes;
 
-use assembly::Line;
 use calls::{Bench, Deed};
+use input::Source;
 use output::Output;
 
 // Writes the first n bytes to standard output.
 fn write_out(to: Output, out: &[u8], n: usize) {
-    output::put(to, text::front(out, n));
+    to.put(text::front(out, n));
 }
 
 // A test's name.
@@ -78,30 +78,24 @@ fn on_masked(
     )
 }
 
-// A line that puts a number into a slice; whether it is one.
+// A line that puts a number into a slice, or says what else it is.
 fn on_number(
+    to: Output,
     line: &[u8],
     at: usize,
     longs: &mut [u64; 16],
     words: &mut [u32; 64],
     marks: &mut [u8; 64],
-) -> bool {
+) {
     let end = text::word_end(line, at);
     let place = scripts::number_next(line, end);
     let n = scripts::number_next(line, place.next);
-    if text::word_is(line, at, b"long") {
-        calls::put_long(longs, place.value, n.value);
-        return true;
+    match text::part(line, at, end) {
+        b"long" => calls::put(longs, place.value, n.value),
+        b"word" => calls::put(words, place.value, calls::word_of(n.value)),
+        b"mark" => calls::put(marks, place.value, calls::mark_of(n.value)),
+        _ => to.put(b"a line that is none\n"),
     }
-    if text::word_is(line, at, b"word") {
-        calls::put_word(words, place.value, n.value);
-        return true;
-    }
-    if text::word_is(line, at, b"mark") {
-        calls::put_mark(marks, place.value, n.value);
-        return true;
-    }
-    false
 }
 
 // A line that is no command.
@@ -115,30 +109,24 @@ fn on_word(
 ) -> Bench {
     let at = text::skip_spaces(line, 0);
     let end = text::word_end(line, at);
-    if text::word_is(line, at, b"test") {
-        show_name(to, line, end);
-        return calls::asking(b, true);
+    match text::part(line, at, end) {
+        b"test" => {
+            show_name(to, line, end);
+            calls::asking(b, true)
+        }
+        b"lengths" => calls::with_lengths(b, line, end),
+        b"fresh" => on_deed(to, Deed::Fresh, b, longs, words, marks),
+        b"check" => on_deed(to, Deed::Check, b, longs, words, marks),
+        b"masked" => on_masked(to, line, end, b, longs, words, marks),
+        b"dirty" => {
+            let n = scripts::number_next(line, end);
+            on_deed(to, Deed::Dirty(n.value), b, longs, words, marks)
+        }
+        _ => {
+            on_number(to, line, at, longs, words, marks);
+            b
+        }
     }
-    if text::word_is(line, at, b"lengths") {
-        return calls::with_lengths(b, line, end);
-    }
-    if text::word_is(line, at, b"fresh") {
-        return on_deed(to, Deed::Fresh, b, longs, words, marks);
-    }
-    if text::word_is(line, at, b"check") {
-        return on_deed(to, Deed::Check, b, longs, words, marks);
-    }
-    if text::word_is(line, at, b"masked") {
-        return on_masked(to, line, end, b, longs, words, marks);
-    }
-    if text::word_is(line, at, b"dirty") {
-        let n = scripts::number_next(line, end);
-        return on_deed(to, Deed::Dirty(n.value), b, longs, words, marks);
-    }
-    if !on_number(line, at, longs, words, marks) {
-        output::put(to, b"a line that is none\n");
-    }
-    b
 }
 
 // One line of the script: a command, or a word of the script's own.
@@ -151,16 +139,9 @@ fn one_line(
     marks: &mut [u8; 64],
 ) -> Bench {
     match assembly::parse_line(line) {
-        Line::Command(c) => on_deed(
-            to,
-            calls::deed_of(c),
-            calls::set_up(c, b),
-            longs,
-            words,
-            marks,
-        ),
-        Line::Empty => b,
-        Line::Bad(_) => on_word(to, line, b, longs, words, marks),
+        Ok(Some(c)) => on_deed(to, Deed::from(c), calls::set_up(c, b), longs, words, marks),
+        Ok(None) => b,
+        Err(_) => on_word(to, line, b, longs, words, marks),
     }
 }
 
@@ -170,29 +151,19 @@ fn run(to: Output, script: &[u8]) {
     let mut words = [0u32; 64];
     let mut marks = [0u8; 64];
     let mut b = calls::empty_bench();
-    let mut at = 0;
-    while at < script.len() {
-        let end = text::line_end(script, at);
-        if script.len() <= end {
-            break;
-        }
-        b = one_line(
-            to,
-            text::part(script, at, end),
-            b,
-            &mut longs,
-            &mut words,
-            &mut marks,
-        );
-        at = end + 1;
+    for line in script.split_inclusive(|c| *c == b'\n') {
+        let Some(line) = line.strip_suffix(b"\n") else {
+            return;
+        };
+        b = one_line(to, line, b, &mut longs, &mut words, &mut marks);
     }
 }
 
 // Runs the script on standard input.
 fn main(rt: HostRuntime) {
     let to = Output::new(rt.stdout(), rt.stderr());
-    let mut source = input::standard(rt.stdin());
+    let mut source = Source::from(rt.stdin());
     let mut script = [0u8; 65536];
-    let n = input::read_full(&mut source, &mut script);
+    let n = source.read_full(&mut script);
     run(to, text::front(&script, n));
 }

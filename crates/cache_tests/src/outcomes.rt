@@ -1,7 +1,7 @@
 // Outcomes of calls as text.
-use model::{Answer, Event, QueueKind, Queued, Refusal, Reply, Verdict};
+use model::{Answer, Event, QueueKind, Queued, Refusal, Reply};
 
-// Where an outcome's text ends, and whether it is a refusal.
+// Where an outcome's text ends, and whether it is a refusal: both have a text, and behind a refusal goes what it left.
 #[derive(Clone, Copy)]
 pub(crate) struct Outcome {
     pub end: usize,
@@ -12,19 +12,19 @@ pub(crate) struct Outcome {
 fn put_refused(n: Refusal, out: &mut [u8]) -> Outcome {
     let a = text::put_text(b"refused ", out, 0);
     Outcome {
-        end: text::put_decimal(values::refusal_number(n) as u64, out, a),
+        end: text::put_decimal(u8::from(n) as u64, out, a),
         refused: true,
     }
 }
 
 // What a check or fresh tables came to.
-pub(crate) fn put_verdict(v: Verdict, passed: &[u8], out: &mut [u8]) -> Outcome {
+pub(crate) fn put_verdict(v: Result<(), Refusal>, passed: &[u8], out: &mut [u8]) -> Outcome {
     match v {
-        Verdict::Passed => Outcome {
+        Ok(()) => Outcome {
             end: text::put_text(passed, out, 0),
             refused: false,
         },
-        Verdict::Refused(n) => put_refused(n, out),
+        Err(n) => put_refused(n, out),
     }
 }
 
@@ -62,12 +62,12 @@ fn put_mask(mask: u32, out: &mut [u8], at: usize) -> usize {
 }
 
 // A write-back's four masks.
-fn put_masks(m0: u32, m1: u32, m2: u32, m3: u32, out: &mut [u8], at: usize) -> usize {
-    let a = text::put_text(b" masks", out, at);
-    let b = put_mask(m0, out, a);
-    let c = put_mask(m1, out, b);
-    let d = put_mask(m2, out, c);
-    put_mask(m3, out, d)
+fn put_masks(masks: [u32; 4], out: &mut [u8], at: usize) -> usize {
+    let mut end = text::put_text(b" masks", out, at);
+    for mask in masks {
+        end = put_mask(mask, out, end);
+    }
+    end
 }
 
 // An answer and its line.
@@ -100,37 +100,10 @@ fn put_first(e: Event, out: &mut [u8], at: usize) -> usize {
             m3,
         } => {
             let a = put_address(b"write-back sent ", block, out, at);
-            put_masks(m0, m1, m2, m3, out, a)
+            put_masks([m0, m1, m2, m3], out, a)
         }
         Event::Filled(address) => put_address(b"filled ", address, out, at),
         Event::Ticked => text::put_text(b"ticked", out, at),
-    }
-}
-
-// Whether the event is a refusal.
-fn is_refusal(e: Event) -> bool {
-    match e {
-        Event::Refused(_) => true,
-        Event::Answered { answer: _, line: _ } => false,
-        Event::ReadQueued(_) => false,
-        Event::WriteBackQueued {
-            block: _,
-            m0: _,
-            m1: _,
-            m2: _,
-            m3: _,
-        } => false,
-        Event::Released(_) => false,
-        Event::ReadSent(_) => false,
-        Event::WriteBackSent {
-            block: _,
-            m0: _,
-            m1: _,
-            m2: _,
-            m3: _,
-        } => false,
-        Event::Filled(_) => false,
-        Event::Ticked => false,
     }
 }
 
@@ -142,19 +115,16 @@ fn put_entry(x: Queued, out: &mut [u8], at: usize) -> usize {
         QueueKind::Read => put_address(b", read queued ", x.address, out, at),
         QueueKind::WriteBack => {
             let a = put_address(b", write-back queued ", x.address, out, at);
-            put_masks(masks[0], masks[1], masks[2], masks[3], out, a)
+            put_masks(masks, out, a)
         }
     }
 }
 
 // The entries that were queued, in order.
 fn put_queued(count: usize, queued: [Queued; 2], out: &mut [u8], at: usize) -> usize {
-    let n = scripts::least(count, 2);
     let mut end = at;
-    let mut i = 0;
-    while i < n {
-        end = put_entry(queued[i], out, end);
-        i += 1;
+    for x in queued.iter().take(count) {
+        end = put_entry(*x, out, end);
     }
     end
 }
@@ -167,12 +137,9 @@ fn put_ticket(ticket: u32, out: &mut [u8], at: usize) -> usize {
 
 // The tickets that were released, in order.
 fn put_tickets(count: usize, tickets: [u32; 8], out: &mut [u8], at: usize) -> usize {
-    let n = scripts::least(count, 8);
     let mut end = at;
-    let mut i = 0;
-    while i < n {
-        end = put_ticket(tickets[i], out, end);
-        i += 1;
+    for t in tickets.iter().take(count) {
+        end = put_ticket(*t, out, end);
     }
     end
 }
@@ -186,6 +153,6 @@ pub(crate) fn put_reply(reply: Reply, out: &mut [u8]) -> Outcome {
     let b = put_queued(reply.queues, queued, out, a);
     Outcome {
         end: put_tickets(reply.count, tickets, out, b),
-        refused: is_refusal(first),
+        refused: matches!(first, Event::Refused(_)),
     }
 }

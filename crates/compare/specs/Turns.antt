@@ -1,59 +1,48 @@
 -- One turn over two logs: the step of `comparing` on the bytes that wait, or more bytes.
-use Rattle.std.specs.Prelude.{◌≡◌, ℕ, ◌+◌, ◌<◌, Bool, true, false, List}
+use Rattle.std.specs.Prelude.{◌≡◌, ℕ, ◌+◌, ◌<◌, List, ⊤, Result, Ok, Err}
 use Rattle.words.specs.Words.{pick}
-use Rattle.comparing.specs.declared.Walk.{Walk}
+use Rattle.comparing.specs.declared.Log.TheVariants as log
 use Rattle.comparing.specs.declared.Step.{Step}
 use Rattle.comparing.specs.declared.Step.TheVariants as step
-use Rattle.comparing.specs.Steps.{walk_beginning, untouched, stepped}
-use Rattle.compare.specs.declared.reading.Window.{Window}
-use Rattle.compare.specs.declared.reading.Met.{Met}
-use Rattle.compare.specs.declared.reading.Met.TheVariants as met
+use Rattle.comparing.specs.Steps.{untouched, stepped}
+use Rattle.compare.specs.declared.page.Stopped.{Stopped}
+use Rattle.compare.specs.declared.reading.Feed.{Feed}
 use Rattle.compare.specs.declared.turns.Pass.{Pass}
-use Rattle.compare.specs.declared.turns.Turned.{Turned}
-use Rattle.compare.specs.Windows.{unread, waiting_in, moved_by, WindowSound, Fed, left_of}
+use Rattle.compare.specs.Windows.{waiting_in, moved_by, Fed, left_of}
 
-abbrev pub pass_turned : Window → Window → Walk → Met → Turned
-pass_turned a b walk m = record { pass = record { a = a; b = b; walk = walk }; met = m }
+-- the bytes that wait of a log
+abbrev pub waits : Feed → List ℕ
+waits f = waiting_in f.bytes f.window
 
-abbrev pub pass_begun : Pass
-pass_begun = record { a = unread; b = unread; walk = walk_beginning }
+-- the step on the bytes that wait in the buffers
+abbrev pub next_step : Pass → Step
+next_step p = stepped p.walk (waits p.first) p.first.window.ended (waits p.second) p.second.window.ended
 
--- the step on the bytes that wait in the buffers l and r
-abbrev pub next_step : List ℕ → List ℕ → Pass → Step
-next_step l r p = stepped p.walk (waiting_in l p.a) p.a.ended (waiting_in r p.b) p.b.ended
+-- n bytes of a log are passed
+abbrev pub Passed : Feed → ℕ → Feed → Type 0
+Passed f n g = (g.bytes ≡ f.bytes) × (g.window ≡ moved_by f.window n)
+
+-- a log is read on
+abbrev pub ReadOn : Feed → Result ⊤ Stopped → Feed → Type 0
+ReadOn f r g = Fed f.bytes f.window g.window r g.bytes
 
 -- a turn is its step; where a log has to show more, more is read of that log, and nothing else changes
-unfoldable pub Comes : List ℕ → List ℕ → Pass → Turned → List ℕ → List ℕ → Step → Type 0
-Comes l r p t l₁ r₁ (step.Row m n same v) = (t ≡ pass_turned (moved_by p.a m) (moved_by p.b n) v (met.Row m n same)) × (l₁ ≡ l) × (r₁ ≡ r)
-Comes l r p t l₁ r₁ (step.Pair differs v) = (t ≡ pass_turned p.a p.b v (met.Pair differs)) × (l₁ ≡ l) × (r₁ ≡ r)
-Comes l r p t l₁ r₁ step.Over = (t ≡ pass_turned p.a p.b p.walk met.Over) × (l₁ ≡ l) × (r₁ ≡ r)
-Comes l r p t l₁ r₁ step.WantsFirst = Fed l p.a t.pass.a t.met l₁ × (t.pass.b ≡ p.b) × (t.pass.walk ≡ p.walk) × (r₁ ≡ r)
-Comes l r p t l₁ r₁ step.WantsSecond = Fed r p.b t.pass.b t.met r₁ × (t.pass.a ≡ p.a) × (t.pass.walk ≡ p.walk) × (l₁ ≡ l)
+unfoldable pub Comes : Pass → Result ⊤ Stopped → Pass → Step → Type 0
+Comes p r q (step.Row m n same v) = (r ≡ Ok tt) × Passed p.first m q.first × Passed p.second n q.second × (q.walk ≡ v)
+Comes p r q (step.Pair differs v) = (r ≡ Ok tt) × (q.first ≡ p.first) × (q.second ≡ p.second) × (q.walk ≡ v)
+Comes p r q step.Over = (r ≡ Ok tt) × (q ≡ p)
+Comes p r q (step.Wants log.First) = ReadOn p.first r q.first × (q.second ≡ p.second) × (q.walk ≡ p.walk)
+Comes p r q (step.Wants log.Second) = ReadOn p.second r q.second × (q.first ≡ p.first) × (q.walk ≡ p.walk)
 
 -- ---- that turns come to an end
 
-abbrev pub no : Bool
-no = false
-
-abbrev pub yes : Bool
-yes = true
-
-pub record BothSound (x y : ℕ) (p : Pass) : Type 0 where
-  pub first : WindowSound x p.a
-  pub second : WindowSound y p.b
-
--- a turn after which there is another one
-abbrev pub another_turn : Met → Bool
-another_turn met.Over = false
-another_turn met.Stuck = false
-another_turn met.Read = true
-another_turn (met.Row first second same) = true
-another_turn (met.Pair differs) = true
-
 unfoldable pub left_in_pass : Pass → ℕ
-left_in_pass p = left_of p.a + left_of p.b + pick (untouched p.walk) 0 1
+left_in_pass p = left_of p.first.window + left_of p.second.window + pick (untouched p.walk) 0 1
 
--- from p to q, in buffers of these sizes: less is left where it goes on
-pub record LessLeft (p q : Pass) (more : Bool) (x y : ℕ) : Type 0 where
-  pub ready : BothSound x y q
-  pub less : more ≡ true → left_in_pass q < left_in_pass p
+-- by a step, from p to q: less is left where it goes on
+abbrev pub LessLeft : Pass → Result ⊤ Stopped → Pass → Step → Type 0
+LessLeft p (Err e) q st = ⊤
+LessLeft p (Ok x) q step.Over = ⊤
+LessLeft p (Ok x) q (step.Wants l) = left_in_pass q < left_in_pass p
+LessLeft p (Ok x) q (step.Row m n same v) = left_in_pass q < left_in_pass p
+LessLeft p (Ok x) q (step.Pair differs v) = left_in_pass q < left_in_pass p

@@ -1,10 +1,8 @@
 -- A log through a buffer: the bytes that wait in it, and what reading on leaves.
-use Rattle.std.specs.Prelude.{◌≡◌, ℕ, ◌+◌, ◌-◌, ◌*◌, ◌%◌, ◌^◌, ◌<◌, ◌≤◌, Bool, true, false, ◌⊎◌, List, length, take, drop, nat_lt}
+use Rattle.std.specs.Prelude.{◌≡◌, ℕ, ◌+◌, ◌-◌, ◌*◌, ◌^◌, ◌<◌, ◌≤◌, Bool, true, false, ◌⊎◌, List, take, drop, ⊤, Result, OnOk}
 use Rattle.words.specs.Words.{pick}
+use Rattle.compare.specs.declared.page.Stopped.{Stopped}
 use Rattle.compare.specs.declared.reading.Window.{Window}
-use Rattle.compare.specs.declared.reading.Topped.{Topped}
-use Rattle.compare.specs.declared.reading.Met.{Met}
-use Rattle.compare.specs.declared.reading.Met.TheVariants as met
 
 abbrev pub window : ℕ → ℕ → ℕ → Bool → Window
 window base at have ended = record { base = base; at = at; have = have; ended = ended }
@@ -15,11 +13,11 @@ unread = window 0 0 0 false
 
 -- the bytes that wait
 abbrev pub waiting_in : List ℕ → Window → List ℕ
-waiting_in l w = take (w.have - w.at) (drop w.at (take w.have l))
+waiting_in l w = take (w.have - w.at) (drop w.at l)
 
 -- past n of them
 abbrev pub moved_by : Window → ℕ → Window
-moved_by w n = window w.base ((w.at + n) % 2 ^ 64) w.have w.ended
+moved_by w n = window w.base (w.at + n) w.have w.ended
 
 -- the bytes that wait stand in a buffer of a size, and their places in the log have numbers
 pub record WindowSound (size : ℕ) (w : Window) : Type 0 where
@@ -27,28 +25,17 @@ pub record WindowSound (size : ℕ) (w : Window) : Type 0 where
   pub buffered : w.have ≤ size
   pub placed : w.base + w.have < 2 ^ 64
 
--- what reading comes to: more bytes wait; or no more come; or it failed
-abbrev pub WindowGrown : ℕ → Window → Met → Type 0
-WindowGrown n w met.Read = ((n < w.have) × (w.ended ≡ false)) ⊎ ((w.have ≡ n) × (w.ended ≡ true))
-WindowGrown n w met.Stuck = Unit {0}
-WindowGrown n w (met.Row first second same) = ⊥
-WindowGrown n w (met.Pair differs) = ⊥
-WindowGrown n w met.Over = ⊥
+-- what reading comes to: more bytes wait; or no more come
+abbrev pub WindowGrown : ℕ → Window → Type 0
+WindowGrown n w = ((n < w.have) × (w.ended ≡ false)) ⊎ ((w.have ≡ n) × (w.ended ≡ true))
 
-abbrev pub topped : ℕ → ℕ → Bool → Met → Topped
-topped base have ended m = record { window = window base 0 have ended; met = m }
-
--- the buffer's bytes now go to n, and went to `have` before: no further than a place can say
-unfoldable pub came_to : ℕ → ℕ → ℕ → Topped
-came_to base have n = pick (nat_lt (2 ^ 64 - 1 - base) n) (topped base have false met.Stuck) (topped base n false met.Read)
-
--- after reading on, from the window w of the buffer l to v of l₁: the bytes that waited stand in front, and any others behind them
-pub record Fed (l : List ℕ) (w : Window) (v : Window) (m : Met) (l₁ : List ℕ) : Type 0 where
+-- after reading on, from the window w of the buffer l to v of l₁: the bytes that waited stand in front, and any others behind them, unless
+-- reading failed
+pub record Fed (l : List ℕ) (w : Window) (v : Window) (r : Result ⊤ Stopped) (l₁ : List ℕ) : Type 0 where
   pub kept : take (w.have - w.at) l₁ ≡ waiting_in l w
   pub front : v.at ≡ 0
   pub place : v.base ≡ w.base + w.at
-  pub more : WindowGrown (w.have - w.at) v m
-  pub sound : WindowSound (length l) v
+  pub more : OnOk r (WindowGrown (w.have - w.at) v)
 
 -- what is left: of the places, of the bytes that wait, the log's end
 abbrev pub left_of : Window → ℕ

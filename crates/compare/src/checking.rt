@@ -1,113 +1,82 @@
 // The check of a log of any length, part by part.
-ghost use Rattle.std.specs.Prelude.{◌≡◌, false};
-ghost use Rattle.compare.specs.Checking.{started, over_of, came_of, ReadOn, Checked, check_verdict};
+ghost use Rattle.std.specs.Prelude.{◌≡◌, IfOk};
+ghost use Rattle.compare.specs.Checking.{started, came_of, check_verdict, Checked};
 
-use comparing::{Checking, Fault};
-use input::{Ended, Filled, Source};
+use crate::page::Stopped;
+use crate::says;
+use comparing::{Checking, Fault, Log};
+use input::{Ended, NoMore, Source};
 use output::Output;
 
-// The check so far, the bytes read, whether to go on, whether reading failed, which standard error then says.
+// The check so far, and the bytes read.
 #[derive(Clone, Copy)]
 pub struct Check {
     pub checking: Checking,
     pub read: usize,
-    pub more: bool,
-    pub failed: bool,
 }
 
-// A good log's bytes; a refused one's number and place; nothing of one that could not be read.
-#[derive(Clone, Copy)]
-pub enum Verdict {
-    Good(usize),
-    Refused { number: u8, place: usize },
-    Failed,
-}
-
-// The check has come to its end; `failed`: the log could not be read.
-fn over(c: Check, failed: bool) -> Check
-    ensures { result ≡ over_of c failed }
-{
-    let checking = c.checking;
-    Check {
-        checking,
-        read: c.read,
-        more: false,
-        failed,
-    }
-}
-
-// The log has ended, by the system's word for it.
-fn ended(_end: Ended, c: Check) -> Check
-    ensures { result ≡ over_of c false }
-{
-    over(c, false)
-}
-
-// The first n bytes of the buffer are the log's next part; a log with a wrong kind needs no more.
-fn came(to: Output, buf: &[u8], n: usize, c: Check) -> Check
-    ensures { result ≡ came_of buf.now n c }
-{
-    if usize::MAX - c.read < n {
-        crate::says::stop(to, b"a log is too long: its places have no numbers\n");
-        return over(c, true);
-    }
-    let checking = comparing::checks::pass(c.checking, text::front(buf, n));
-    Check {
-        checking,
-        read: c.read + n,
-        more: !checking.wrong,
-        failed: false,
-    }
-}
-
-// Reads the next part of a log and checks it.
-fn read_part(log: usize, source: &mut Source, to: Output, buf: &mut [u8], c: Check) -> Check
-    ensures { ReadOn buf.new c result }
-{
-    match input::fill(source, buf, 0) {
-        Filled::To(n) => came(to, buf, n, c),
-        Filled::End(end) => ended(end, c),
-        Filled::Full => over(c, true),
-        Filled::Failed => {
-            crate::reading::say_failed(log, source, to);
-            over(c, true)
+impl Check {
+    // A check of which nothing has come yet.
+    fn begin() -> Check
+        ensures { result ≡ started }
+    {
+        Check {
+            checking: Checking::begin(),
+            read: 0,
         }
     }
+
+    // The next part of the log has come, unless a place cannot say how far it goes.
+    #[tactic(auto, unfolding(crate::specs::Checking::came_of))]
+    fn came(self, part: &[u8]) -> Option<Check>
+        ensures { result ≡ came_of part.now self }
+    {
+        let read = self.read.checked_add(part.len())?;
+        Some(Check {
+            checking: self.checking.pass(part),
+            read,
+        })
+    }
+
+    // The log has ended, by the system's word for it.
+    fn ended(self, _end: Ended) -> Check
+        ensures { result ≡ self }
+    {
+        self
+    }
+
+    // What the check of a whole log came to: a good log's bytes, or what is wrong with it.
+    #[tactic(auto, unfolding(crate::specs::Checking::check_verdict))]
+    pub fn verdict(self) -> Result<usize, Fault>
+        ensures { result ≡ check_verdict self }
+    {
+        self.checking.end()?;
+        Ok(self.read)
+    }
 }
 
-// A check of which nothing has come yet.
-fn begin() -> Check
-    ensures { result ≡ started }
+// Reads a log to its end, or to a wrong kind, and checks it. Each turn reads some, or is the last.
+pub fn check_log(log: Log, source: &mut Source, to: Output) -> Result<Check, Stopped>
+    ensures { IfOk result Checked }
 {
-    Check {
-        checking: comparing::checks::begin(),
-        read: 0,
-        more: true,
-        failed: false,
+    let mut buf = [0u8; 65536];
+    let mut c = Check::begin();
+    while !c.checking.wrong {
+        match source.fill(&mut buf, 0) {
+            Ok(n) => {
+                let Some(more) = c.came(&buf[..n]) else {
+                    says::too_long(to);
+                    return Err(Stopped);
+                };
+                c = more;
+            }
+            Err(NoMore::End(end)) => return Ok(c.ended(end)),
+            Err(NoMore::Full) => return Err(Stopped),
+            Err(NoMore::Failed(why)) => {
+                says::unread(to, log, why);
+                return Err(Stopped);
+            }
+        }
     }
-}
-
-// Each turn reads some, or is the last.
-pub fn check_log(log: usize, source: &mut Source, to: Output, buf: &mut [u8]) -> Check
-    ensures { Checked result }
-{
-    let mut c = begin();
-    while c.more {
-        c = read_part(log, source, to, buf, c);
-    }
-    c
-}
-
-// What the check of a whole log came to.
-pub fn judge(c: Check) -> Verdict
-    ensures { result ≡ check_verdict c }
-{
-    if c.failed {
-        return Verdict::Failed;
-    }
-    let checking = c.checking;
-    match comparing::checks::end(checking) {
-        Fault::None => Verdict::Good(c.read),
-        Fault::At { number, place } => Verdict::Refused { number, place },
-    }
+    Ok(c)
 }

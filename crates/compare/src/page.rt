@@ -1,41 +1,61 @@
 // The text that waits to be written.
 use output::Output;
+use std::fmt;
 
-// The bytes that wait, and whether all before them were written: after a write that failed nothing more is written.
+// Nothing more is to be done: standard error has said why, where it is not what was written.
 #[derive(Clone, Copy)]
+pub struct Stopped;
+
+// The most bytes of a line.
+const LINE: usize = 2048;
+
+// The text that waits. After a write that failed nothing more is written.
+#[derive(Drop)]
 pub struct Page {
-    pub put: usize,
-    pub good: bool,
+    to: Output,
+    text: output::Page<65536>,
 }
 
-// Writes all of s where all before it was written; says whether it went.
-pub fn write(to: Output, s: &[u8], good: bool) -> bool {
-    if !good {
-        return false;
-    }
-    output::write(to, s)
-}
-
-// The same of the first n bytes.
-pub fn write_out(to: Output, out: &[u8], n: usize, good: bool) -> bool {
-    write(to, text::front(out, n), good)
-}
-
-// Writes what waits where few places are free: no line takes 2048 bytes.
-pub fn with_room(to: Output, out: &[u8], p: Page) -> Page {
-    let put = p.put;
-    if put < out.len() {
-        if 2048 <= out.len() - put {
-            return p;
+impl Page {
+    pub fn new(to: Output) -> Page {
+        Page {
+            to,
+            text: output::Page::new(),
         }
     }
-    Page {
-        put: 0,
-        good: write_out(to, out, put, p.good),
+
+    // Writes all of s at once, before what waits.
+    pub fn write_now(&self, s: &[u8]) -> Result<(), Stopped> {
+        if self.to.write(s) {
+            Ok(())
+        } else {
+            Err(Stopped)
+        }
+    }
+
+    // Writes what waits.
+    pub fn flush(&mut self) -> Result<(), Stopped> {
+        let written = self.write_now(self.text.text());
+        self.text.clear();
+        written
+    }
+
+    // Room for a line: writes what waits where few places are free.
+    pub fn start_line(&mut self) -> Result<(), Stopped> {
+        if self.text.room() < LINE {
+            return self.flush();
+        }
+        Ok(())
+    }
+
+    // These bytes behind what waits.
+    pub fn push(&mut self, s: &[u8]) {
+        self.text.push(s);
     }
 }
 
-// A page that ends at this place.
-pub fn ended(put: usize, p: Page) -> Page {
-    Page { put, good: p.good }
+impl fmt::Write for Page {
+    fn write_str(&mut self, s: &str) -> fmt::Result {
+        self.text.write_str(s)
+    }
 }

@@ -1,122 +1,150 @@
 // What is said of two logs.
-use crate::page;
-use crate::page::Page;
-use comparing::{Side, Walk};
+ghost use Rattle.std.specs.Prelude.{◌≤◌};
+
+use crate::page::{Page, Stopped};
+use comparing::{Fault, Log, Side, Walk, Wrong};
 use output::Output;
+use std::env::FillError;
+use std::fmt;
+use std::fmt::Write as _;
+use std::io::Error;
+use std::rt::Env;
 
-// Says on standard error why nothing is compared.
-pub fn stop(to: Output, why: &[u8]) {
-    output::say(to, why);
-}
-
-// Of a log that is shorter or longer than when it was checked.
-pub fn changed(to: Output) {
-    stop(
-        to,
-        b"a log changed while it was read: give two files that stay as they are\n",
-    );
-}
+// The most bytes of a file's name.
+const LONGEST: usize = 4096;
 
 // An argument's own words.
 #[derive(Drop)]
 pub struct Name {
-    pub words: [u8; 4096],
-    pub len: usize,
+    words: [u8; LONGEST],
+    len: usize,
+    ghost within: { len ≤ 4096 },
 }
 
-// An argument's own words; says whether they went.
-fn write_name(to: Output, name: &Name, good: bool) -> bool {
-    page::write(to, text::front(&name.words, name.len), good)
+impl Name {
+    // The words of an argument, unless they are longer than any path, which standard error then says.
+    pub fn of<R: Env>(rt: &R, to: Output, i: usize) -> Result<Name, Stopped> {
+        let mut words = [0; LONGEST];
+        match rt.arg(i, &mut words) {
+            Ok(len) => Ok(Name { words, len }),
+            Err(FillError::TooLong) => {
+                input::name_too_long(to);
+                Err(Stopped)
+            }
+            Err(FillError::NotPresent) => Ok(Name { words, len: 0 }),
+        }
+    }
+
+    pub fn bytes(&self) -> &[u8] {
+        &self.words[..self.len]
+    }
 }
 
-// What is wrong with a log, by its refusal number, and what to do about it.
-fn put_why(number: u8, out: &mut [u8], at: usize) -> usize {
-    match number {
-        14 => text::put_text(
-            b": no event's record begins so. See that this is an event log.\n",
-            out,
-            at,
-        ),
-        15 => text::put_text(
-            b": its record is cut short. Get the rest of the file.\n",
-            out,
-            at,
-        ),
-        _ => text::put_text(
-            b": it begins inside a group. Get the log from its first byte on.\n",
-            out,
-            at,
-        ),
+// Says that a log is longer than places have numbers.
+pub fn too_long(to: Output) {
+    to.say(b"a log is too long: its places have no numbers\n");
+}
+
+// Says of a log that it is shorter or longer than when it was checked.
+pub fn changed(to: Output) {
+    to.say(b"a log changed while it was read: give two files that stay as they are\n");
+}
+
+// Says which log could not be read.
+pub fn unread(to: Output, log: Log, why: Error) {
+    let what = match log {
+        Log::First => b"reading the first log".as_slice(),
+        Log::Second => b"reading the second log".as_slice(),
+    };
+    to.fail(what, why);
+}
+
+// What is wrong with a log, and what to do about it.
+#[derive(Clone, Copy)]
+struct Advice(Wrong);
+
+impl fmt::Display for Advice {
+    fn fmt<W: fmt::Write>(&self, f: &mut fmt::Formatter<W>) -> fmt::Result {
+        f.write_str(match self.0 {
+            Wrong::UnknownKind => "no event's record begins so. See that this is an event log.",
+            Wrong::CutShort => "its record is cut short. Get the rest of the file.",
+            Wrong::InsideGroup => "it begins inside a group. Get the log from its first byte on.",
+        })
     }
 }
 
 // A log that is refused, by its name.
-pub fn refuse(to: Output, name: &Name, number: u8, place: usize, out: &mut [u8]) {
-    let named = write_name(to, name, true);
-    let a = text::put_text(b" is refused with ", out, 0);
-    let b = text::put_decimal(number as u64, out, a);
-    let c = text::put_text(b" at byte ", out, b);
-    let d = text::put_decimal(place as u64, out, c);
-    let e = put_why(number, out, d);
-    page::write_out(to, out, e, named);
+pub fn refuse(page: &mut Page, name: &Name, fault: Fault) -> Result<(), Stopped> {
+    page.write_now(name.bytes())?;
+    let number = u8::from(fault.wrong);
+    let place = fault.place;
+    let _ = write!(
+        page,
+        " is refused with {number} at byte {place}: {}\n",
+        Advice(fault.wrong)
+    );
+    page.flush()
 }
 
-// Which mark stands for which log; says whether it went.
-pub fn write_names(to: Output, first: &Name, second: &Name, good: bool) -> bool {
-    let a = page::write(to, b"< ", good);
-    let b = write_name(to, first, a);
-    let c = page::write(to, b"\n> ", b);
-    let d = write_name(to, second, c);
-    page::write(to, b"\n", d)
+// Which mark stands for which log.
+pub fn name_both(page: &Page, first: &Name, second: &Name) -> Result<(), Stopped> {
+    page.write_now(b"< ")?;
+    page.write_now(first.bytes())?;
+    page.write_now(b"\n> ")?;
+    page.write_now(second.bytes())?;
+    page.write_now(b"\n")
 }
 
 // A count and what is counted, in the plural unless it is one.
-fn put_many(n: usize, what: &[u8], out: &mut [u8], at: usize) -> usize {
-    let a = text::put_decimal(n as u64, out, at);
-    let b = text::put_text(what, out, a);
-    if n == 1 {
-        b
-    } else {
-        text::put_text(b"s", out, b)
+#[derive(Clone, Copy)]
+struct Many(usize, &'static str);
+
+impl fmt::Display for Many {
+    fn fmt<W: fmt::Write>(&self, f: &mut fmt::Formatter<W>) -> fmt::Result {
+        let plural = if self.0 == 1 { "" } else { "s" };
+        write!(f, "{} {}{plural}", self.0, self.1)
     }
 }
 
 // A side's place and length; nothing is left of a log that has run out.
-fn put_side(s: Side, out: &mut [u8], at: usize) -> usize {
-    if s.passed == 0 {
-        let a = text::put_text(b"has run out at byte ", out, at);
-        return text::put_decimal(s.place as u64, out, a);
+#[derive(Clone, Copy)]
+struct Sided(Side);
+
+impl fmt::Display for Sided {
+    fn fmt<W: fmt::Write>(&self, f: &mut fmt::Formatter<W>) -> fmt::Result {
+        let Side { place, passed } = self.0;
+        if passed == 0 {
+            write!(f, "has run out at byte {place}")
+        } else {
+            write!(f, "at byte {place}, {}", Many(passed, "byte"))
+        }
     }
-    let a = text::put_text(b"at byte ", out, at);
-    let b = text::put_decimal(s.place as u64, out, a);
-    let c = text::put_text(b", ", out, b);
-    put_many(s.passed, b" byte", out, c)
 }
 
 // A pair that differs: its number, and the place and length of each side.
-pub fn put_pair(to: Output, w: Walk, out: &mut [u8], p: Page) -> Page {
-    let q = page::with_room(to, out, p);
-    let a = text::put_text(b"group ", out, q.put);
-    let b = text::put_decimal(w.number as u64, out, a);
-    let c = text::put_text(b": < ", out, b);
-    let d = put_side(w.first, out, c);
-    let e = text::put_text(b"; > ", out, d);
-    let f = put_side(w.second, out, e);
-    page::ended(text::put_text(b"\n", out, f), q)
+pub fn pair(page: &mut Page, w: Walk) -> Result<(), Stopped> {
+    page.start_line()?;
+    let _ = write!(
+        page,
+        "group {}: < {}; > {}\n",
+        w.number,
+        Sided(w.first),
+        Sided(w.second)
+    );
+    Ok(())
 }
 
 // The last line.
-pub fn put_counts(to: Output, w: Walk, out: &mut [u8], p: Page) -> Page {
-    let q = page::with_room(to, out, p);
-    if w.differing == 0 {
-        let a = text::put_text(b"no difference in ", out, q.put);
-        let b = put_many(w.number, b" group", out, a);
-        return page::ended(text::put_text(b"\n", out, b), q);
-    }
-    let a = text::put_decimal(w.differing as u64, out, q.put);
-    let b = text::put_text(b" of ", out, a);
-    let c = put_many(w.number, b" group", out, b);
-    let d = text::put_text(b" differ, first at group ", out, c);
-    let e = text::put_decimal(w.lowest as u64, out, d);
-    page::ended(text::put_text(b"\n", out, e), q)
+pub fn counts(page: &mut Page, w: Walk) -> Result<(), Stopped> {
+    page.start_line()?;
+    let groups = Many(w.number, "group");
+    let _ = match w.lowest {
+        Some(lowest) => write!(
+            page,
+            "{} of {groups} differ, first at group {lowest}\n",
+            w.differing
+        ),
+        None => write!(page, "no difference in {groups}\n"),
+    };
+    Ok(())
 }

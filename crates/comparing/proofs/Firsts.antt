@@ -1,25 +1,35 @@
 -- The first pair that differs, step by step.
-use Rattle.words.proofs.General.{ℕ, zero, suc, ◌+◌, ◌-◌, ◌%◌, ◌^◌, max, ◌≤◌, ◌<◌, add-one, arith, ◌≡◌, refl, sym, ap, ◌∙◌, ⊎_elim, Bool, true, false, not, ◌||◌, List, length, take}
-use Rattle.words.proofs.General.{drop, ltb, le-ltb, ltb-true, ltb-false, not-true, not-false, pick, flag, by_flag, or_cases, or_no_1, or_no_2}
-use Rattle.comparing.specs.declared.Compared.TheVariants as answer
-use Rattle.comparing.specs.declared.Fault.{Fault}
-use Rattle.comparing.specs.declared.Fault.TheVariants as fault
+use Rattle.std.specs.Prelude.{None, Some}
+use Rattle.words.proofs.General.{ℕ, zero, suc, ◌+◌, ◌-◌, ◌%◌, ◌^◌, max, ◌≤◌, ◌<◌, add-one, arith, ◌≡◌, refl, sym, ap, ◌∙◌, ⊎_elim, Bool, true, false, ◌||◌, List, length, take}
+use Rattle.words.proofs.General.{drop, ltb, le-ltb, lt-ltb, ltb-true, ltb-false, pick, flag, by_flag, or_cases, or_no_1, or_no_2}
 use Rattle.comparing.specs.declared.Found.{Found}
-use Rattle.comparing.specs.Checks.{checked}
 use Rattle.comparing.specs.Groups.{bytes_in, group_end, group_side}
 use Rattle.comparing.specs.declared.Cursor.{Cursor}
-use Rattle.comparing.specs.Pairs.{same_bytes, same_pair, differs, first_of, pairs, first_difference, cursor_behind, group_at, found_from, found_pair, compared, CursorStands, GoesOn}
+use Rattle.comparing.specs.Pairs.{same_bytes, same_pair, differs, first_of, pairs, first_difference, cursor_behind, group_at, found_from, found_pair, CursorStands, GoesOn}
 use Rattle.comparing.proofs.Walks.{group_end_lem}
 use Rattle.comparing.proofs.Sides.{group_on, side-to, next-begins, counted-in, counted-over}
 
 module _ (a b : List ℕ) where
-  difference_more : (n : ℕ) → n < pairs a b → first_difference a b n ≡ pick (same_pair a b n) (first_difference a b (n + 1)) (differs n (group_side a n) (group_side b n))
+  difference_more : (n : ℕ) → n < pairs a b → first_difference a b n ≡ pick (same_pair a b n) (first_difference a b (n + 1)) (Some (differs n (group_side a n) (group_side b n)))
   unfolding first_difference first_of
   difference_more n h = let k : pairs a b - n ≡ suc (pairs a b - suc n) = omega arith in rw (k, add-one n)
 
   -- whether a byte is left in one of the logs
   unfoldable pub some_left : ℕ → ℕ → Bool
   some_left x y = ltb x (length a) || ltb y (length b)
+
+  -- by the tests that the code makes
+  pub in_first : (x y : ℕ) → x < length a → some_left x y ≡ true
+  unfolding some_left
+  in_first x y h = rw (lt-ltb x (length a) h)
+
+  pub in_second : (x y : ℕ) → y < length b → some_left x y ≡ true
+  unfolding some_left
+  in_second x y h = rw (lt-ltb y (length b) h) (⊎_elim (λ q. rw q) (λ q. rw q) (flag (ltb x (length a))))
+
+  pub none_in : (x y : ℕ) → length a ≤ x → length b ≤ y → some_left x y ≡ false
+  unfolding some_left
+  none_in x y h k = rw (le-ltb x (length a) h, le-ltb y (length b) k)
 
   pub left_less : (x y : ℕ) {e f : ℕ} → some_left x y ≡ true → e ≡ group_end a x → f ≡ group_end b y → (length a - e) + (length b - f) < (length a - x) + (length b - y)
   unfolding some_left
@@ -38,7 +48,7 @@ module _ (a b : List ℕ) where
     to : n ≤ max m (pairs a b)
 
   module _ {m n x y : ℕ} (g : PairsSame m n x y) where
-    going-none : some_left x y ≡ false → GoesOn a b m (record { answer = answer.Same; next = record { number = n; first = x; second = y } })
+    going-none : some_left x y ≡ false → GoesOn a b m (record { difference = None; next = record { number = n; first = x; second = y } })
     unfolding some_left first_difference first_of
     going-none t =
         let h = counted-over a n g.in_a (ltb-false x (length a) (or_no_1 (ltb x (length a)) (ltb y (length b)) t)) in
@@ -76,7 +86,7 @@ module _ (a b : List ℕ) where
           })
 
       going-found : same_bytes (bytes_in a (group_at a x)) (bytes_in b (group_at b y)) ≡ false
-          → GoesOn a b m (record { answer = differs n (group_at a x) (group_at b y); next = record { number = (n + 1) % 2 ^ 64; first = group_end a x; second = group_end b y } })
+          → GoesOn a b m (record { difference = Some (differs n (group_at a x) (group_at b y)); next = record { number = (n + 1) % 2 ^ 64; first = group_end a x; second = group_end b y } })
       going-found d =
           record {
             says = sym (g.same ∙ difference_more n going-left.0 ∙ rw (sym the-pair ∙ d, side-to a n g.in_a, side-to b n g.in_b));
@@ -94,6 +104,12 @@ module _ (a b : List ℕ) where
   behind_less : (c : Cursor) → some_left a b c.first c.second ≡ true → bytes_left (cursor_behind a b c) < bytes_left c
   unfolding bytes_left
   behind_less c t = left_less a b c.first c.second t refl refl
+
+  -- the cursor that the code makes
+  pub cursor_less : (c : Cursor) (k : ℕ) {e f : ℕ} → some_left a b c.first c.second ≡ true → e ≡ group_end a c.first → f ≡ group_end b c.second
+      → bytes_left (record { number = k; first = e; second = f }) < bytes_left c
+  unfolding bytes_left
+  cursor_less c k t p q = left_less a b c.first c.second t p q
 
   none_ahead : (c : Cursor) → bytes_left c ≤ 0 → some_left a b c.first c.second ≡ false
   unfolding some_left bytes_left
@@ -122,7 +138,7 @@ module _ (a b : List ℕ) where
     finds-step : found_pair a b o ≡ found_from (suc (bytes_left c)) a b c
     finds-step = g ∙ found_steps (bytes_left c) (suc (bytes_left c)) c (omega arith) (omega arith)
 
-    pub finds-none : some_left a b c.first c.second ≡ false → record { answer = answer.Same; next = c } ≡ found_pair a b o
+    pub finds-none : some_left a b c.first c.second ≡ false → record { difference = None; next = c } ≡ found_pair a b o
     unfolding found_from some_left
     finds-none t = sym (finds-step ∙ rw t)
 
@@ -132,17 +148,17 @@ module _ (a b : List ℕ) where
     there : same_bytes (bytes_in a (group_at a x)) (bytes_in b (group_at b y)) ≡ u
     there = rw (← p, ← q, ← r, ← s) (sym v)
 
-    pub finds-here : not u ≡ true → record { answer = answer.Differs n x (e - x) y (f - y); next = record { number = k; first = e; second = f } } ≡ found_pair a b o
+    pub finds-here : u ≡ false → record { difference = Some (differs n (record { place = x; size = e - x }) (record { place = y; size = f - y })); next = record { number = k; first = e; second = f } } ≡ found_pair a b o
     unfolding found_from some_left
-    finds-here z = sym (finds-step o (record { number = n; first = x; second = y }) g ∙ rw (t, there ∙ not-true u z, p, q, w))
+    finds-here z = sym (finds-step o (record { number = n; first = x; second = y }) g ∙ rw (t, there ∙ z, p, q, w))
 
-    pub finds-more : not u ≡ false → FindsPair o (record { number = k; first = e; second = f })
+    pub finds-more : u ≡ true → FindsPair o (record { number = k; first = e; second = f })
     unfolding found_from some_left
     finds-more z =
         let c : Cursor = record { number = n; first = x; second = y } in
         let l = behind_less c t in
         let d : record { number = k; first = e; second = f } ≡ cursor_behind a b c = rw (p, q, w) in
-        finds-step o c g ∙ rw (t, there ∙ not-false u z, d) (found_steps (bytes_left c) (bytes_left (cursor_behind a b c)) (cursor_behind a b c) (omega arith) (omega arith))
+        finds-step o c g ∙ rw (t, there ∙ z, d) (found_steps (bytes_left c) (bytes_left (cursor_behind a b c)) (cursor_behind a b c) (omega arith) (omega arith))
 
   -- ---- where it stands, that is the answer to its number
 
@@ -162,14 +178,8 @@ module _ (a b : List ℕ) where
     unfolding found_pair bytes_left
     found-goes-on c s = goes-from (length a + length b) c.number c (omega arith) (record { in_a = s.in_a; in_b = s.in_b; same = refl; from = omega arith; to = omega arith })
 
--- ---- what is answered, by what the checks of the two logs told
+-- ---- what is answered, where both checks told nothing
 
-module _ (a b : List ℕ) (from : ℕ) {f g : Fault} (p : f ≡ checked a) (q : f ≡ fault.None) (r : g ≡ checked b) where
-  pub second_refused : {n at : ℕ} → g ≡ fault.At n at → answer.Refused 2 n at ≡ compared a b from
-  unfolding compared
-  second_refused e = rw (sym p ∙ q, sym r ∙ e)
-
-  pub found_answered : length a < 2 ^ 64 → length b < 2 ^ 64 → g ≡ fault.None → {x y : ℕ} → x ≡ (group_side a from).place → y ≡ (group_side b from).place
-      → {z : Found} → z ≡ found_pair a b (record { number = from; first = x; second = y }) → z.answer ≡ compared a b from
-  unfolding compared
-  found_answered fa fb e i j k = rw (sym p ∙ q, sym r ∙ e) (ap (λ t. t.answer) k ∙ (found-goes-on a b fa fb _ (record { in_a = i; in_b = j })).says)
+pub found_answered : (a b : List ℕ) (from : ℕ) → length a < 2 ^ 64 → length b < 2 ^ 64 → {x y : ℕ} → x ≡ (group_side a from).place → y ≡ (group_side b from).place
+    → {z : Found} → z ≡ found_pair a b (record { number = from; first = x; second = y }) → z.difference ≡ first_difference a b from
+found_answered a b from fa fb i j k = ap (λ t. t.difference) k ∙ (found-goes-on a b fa fb _ (record { in_a = i; in_b = j })).says

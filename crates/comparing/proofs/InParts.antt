@@ -1,30 +1,17 @@
--- The check of a log that comes in parts: the loop over a part; however the log is cut, the check tells what is told of the whole log.
-use Rattle.words.proofs.General.{ℕ, zero, suc, ◌+◌, ◌-◌, ◌%◌, ◌^◌, min, ◌≤◌, ◌<◌, add-one, arith, ◌≡◌, refl, sym, ap, ◌∙◌, ⊎_elim, Bool, true, false, not, List, [], ◌∷◌, ◌++◌}
-use Rattle.words.proofs.General.{length, get_or, take, drop, length-append, length-take, length-drop, take-append-drop, drop_of_length-le, get_or-append-add, drop-cons, eqb, ltb}
+-- The check of a log that comes in parts: however the log is cut, the check tells what is told of the whole log.
+use Rattle.std.specs.Prelude.{Option, None, Some, Ok, Err}
+use Rattle.words.proofs.General.{ℕ, zero, suc, ◌+◌, ◌-◌, ◌%◌, ◌^◌, min, ◌≤◌, ◌<◌, arith, ◌≡◌, refl, ap, ◌∙◌, ⊎_elim, Bool, true, false, not, List, [], ◌∷◌, ◌++◌}
+use Rattle.words.proofs.General.{length, get_or, take, drop, length-append, length-take, length-drop, take-append-drop, get_or-append-add, eqb, ltb}
 use Rattle.words.proofs.General.{ne_eqb, lt-ltb, le-leb, lt-leb, pick, flag, lt_or_ge}
 use Rattle.model.proofs.Terms.{length_of}
-use Rattle.comparing.specs.declared.Fault.{Fault}
-use Rattle.comparing.specs.declared.Fault.TheVariants as fault
+use Rattle.comparing.specs.declared.Wrong.{Wrong}
+use Rattle.comparing.specs.declared.Wrong.TheVariants as wrong
 use Rattle.comparing.specs.declared.Checking.{Checking}
 use Rattle.comparing.specs.Kinds.{starts_group, is_event}
 use Rattle.comparing.specs.Groups.{record_end, record_past}
-use Rattle.comparing.specs.Checks.{wrong_at, scanned_from, scanned, inside, or_then, checked}
+use Rattle.comparing.specs.Checks.{Told, fine, fault, unless_wrong, wrong_at, scanned_from, scanned, inside, or_then, checked}
 use Rattle.comparing.specs.Coming.{check_beginning, begun_inside, stuck, passed_byte, passed_bytes, fault_told}
 use Rattle.comparing.proofs.Walks.{past_shift, shift_test}
-
--- ---- the loop over a part: what is left of it is still to be passed
-
-module _ (c : Checking) (s : List ℕ) where
-  abbrev pub PassedTo : Checking → ℕ → Type 0
-  PassedTo d i = (i ≤ length s) × (passed_bytes c s ≡ passed_bytes d (drop i s))
-
-  pub check_passed_more : (d : Checking) (i : ℕ) → i < length s → {e : Checking} → e ≡ passed_byte d (get_or s i 0) → PassedTo d i → PassedTo e (i + 1)
-  unfolding passed_bytes
-  check_passed_more d i h p w = (omega arith, w.1 ∙ rw (drop-cons s i 0 h, p, add-one i))
-
-  pub passed_all : (d : Checking) (i : ℕ) → length s ≤ i → PassedTo d i → d ≡ passed_bytes c s
-  unfolding passed_bytes
-  passed_all d i h w = sym (w.1 ∙ rw (drop_of_length-le s {i = i} h))
 
 -- ---- one part behind the other
 
@@ -35,17 +22,21 @@ passed-append c (k ∷ s) t = passed-append (passed_byte c k) s t
 
 -- ---- a scan behind other bytes
 
-abbrev shifted : ℕ → Fault → Fault
-shifted p fault.None = fault.None
-shifted p (fault.At n q) = fault.At n (p + q)
+abbrev shifted : ℕ → Told → Told
+shifted p (Ok x) = Ok x
+shifted p (Err f) = fault f.wrong (p + f.place)
 
-shifted_twice : (p q : ℕ) (f : Fault) → shifted p (shifted q f) ≡ shifted (p + q) f
-shifted_twice p q fault.None = refl
-shifted_twice p q (fault.At n x) = let e : p + (q + x) ≡ p + q + x = omega arith in rw e
+shifted_twice : (p q : ℕ) (r : Told) → shifted p (shifted q r) ≡ shifted (p + q) r
+shifted_twice p q (Ok x) = refl
+shifted_twice p q (Err f) = let e : p + (q + f.place) ≡ p + q + f.place = omega arith in rw e
 
-shifted_none : (f : Fault) → shifted 0 f ≡ f
-shifted_none fault.None = refl
-shifted_none (fault.At n x) = let e : 0 + x ≡ x = omega arith in rw e
+shifted_none : (r : Told) → shifted 0 r ≡ r
+shifted_none (Ok x) = refl
+shifted_none (Err f) = let e : 0 + f.place ≡ f.place = omega arith in rw e
+
+past_wrong : (o : Option Wrong) (p x : ℕ) (r : Told) → unless_wrong o (p + x) (shifted p r) ≡ shifted p (unless_wrong o x r)
+past_wrong (Some w) p x r = refl
+past_wrong None p x r = refl
 
 module _ (r s : List ℕ) where
   wrong_shift : (x : ℕ) → wrong_at (r ++ s) (length r + x) ≡ wrong_at s x
@@ -64,7 +55,7 @@ module _ (r s : List ℕ) where
   scan_shift zero x = refl
   scan_shift (suc n) x =
       rw (shift_test r s x, wrong_shift x, past_shift r s x, scan_shift n (record_past s x))
-      (⊎_elim (λ t. rw t (⊎_elim (λ u. rw u) (λ u. rw u) (flag (eqb (wrong_at s x) 0)))) (λ t. rw t) (flag (ltb x (length s))))
+      (⊎_elim (λ t. rw t (past_wrong (wrong_at s x) (length r) x (scanned_from n s (record_past s x)))) (λ t. rw t) (flag (ltb x (length s))))
 
 -- ---- the body of a record, passed byte by byte
 
@@ -87,7 +78,7 @@ skip_body (suc m) (x ∷ s) p q i h k =
     let e : p + suc m ≡ p + 1 + m = omega arith in
     ap (λ c. passed_bytes c s) (one-within p q m x i (omega arith)) ∙ rw e (skip_body m s (p + 1) q i (omega arith) (omega arith))
 
-cut_body : (m : ℕ) (s : List ℕ) (p q : ℕ) (i : Bool) → length s < m → p + length s < 2 ^ 64 → fault_told (passed_bytes (so_far p q m i) s) ≡ fault.At 15 q
+cut_body : (m : ℕ) (s : List ℕ) (p q : ℕ) (i : Bool) → length s < m → p + length s < 2 ^ 64 → fault_told (passed_bytes (so_far p q m i) s) ≡ fault wrong.CutShort q
 unfolding passed_bytes fault_told
 cut_body zero s p q i h k = absurd (omega arith)
 cut_body (suc m) [] p q i h k = rw (ne_eqb (suc m) 0 (λ z. omega arith))
@@ -101,11 +92,11 @@ stays_stuck [] c = refl
 stays_stuck (k ∷ s) c = stays_stuck s c
 
 -- what follows the last record
-ends : ℕ → Bool → List ℕ → Fault
-ends p i [] = pick i (fault.At 17 0) fault.None
-ends p i (k ∷ s) = pick (pick (eqb p 0) (not (starts_group k)) i) (fault.At 17 0) fault.None
+ends : ℕ → Bool → List ℕ → Told
+ends p i [] = pick i (fault wrong.InsideGroup 0) fine
+ends p i (k ∷ s) = pick (pick (eqb p 0) (not (starts_group k)) i) (fault wrong.InsideGroup 0) fine
 
-ends_later : (p : ℕ) (i : Bool) (s : List ℕ) → 0 < p → ends p i s ≡ pick i (fault.At 17 0) fault.None
+ends_later : (p : ℕ) (i : Bool) (s : List ℕ) → 0 < p → ends p i s ≡ pick i (fault wrong.InsideGroup 0) fine
 unfolding ends
 ends_later p i [] h = refl
 ends_later p i (k ∷ s) h = rw (ne_eqb p 0 (λ z. omega arith))
@@ -117,15 +108,15 @@ module _ (n : ℕ) (k : ℕ) (s : List ℕ) (p q : ℕ) (i : Bool) (room : p + s
   j : Bool
   j = begun_inside p i k
 
-  Told : Type 0
-  Told = fault_told (passed_bytes (so_far p q 0 i) (k ∷ s)) ≡ or_then (shifted p (scanned_from (suc n) (k ∷ s) 0)) (ends p i (k ∷ s))
+  RecordTold : Type 0
+  RecordTold = fault_told (passed_bytes (so_far p q 0 i) (k ∷ s)) ≡ or_then (shifted p (scanned_from (suc n) (k ∷ s) 0)) (ends p i (k ∷ s))
 
   gets_stuck : is_event k ≡ false → passed_byte (so_far p q 0 i) k ≡ stuck (so_far p q 0 i)
   unfolding passed_byte
   gets_stuck e = rw e
 
-  bad_kind : is_event k ≡ false → Told
-  unfolding Told passed_bytes fault_told scanned_from wrong_at
+  bad_kind : is_event k ≡ false → RecordTold
+  unfolding RecordTold passed_bytes fault_told scanned_from wrong_at
   bad_kind e =
       let z : p + 0 ≡ p = omega arith in
       ap (λ c. fault_told (passed_bytes c s)) (gets_stuck e) ∙ ap fault_told (stays_stuck s (so_far p q 0 i)) ∙ rw (lt-ltb 0 (suc (length s)) (omega arith), e, z)
@@ -134,8 +125,8 @@ module _ (n : ℕ) (k : ℕ) (s : List ℕ) (p q : ℕ) (i : Bool) (room : p + s
   unfolding passed_byte m j
   begins e = let z : (p + 1) % 2 ^ 64 ≡ p + 1 = omega arith in rw (e, z)
 
-  cut_short : is_event k ≡ true → length s < m → Told
-  unfolding Told passed_bytes scanned_from wrong_at record_end m
+  cut_short : is_event k ≡ true → length s < m → RecordTold
+  unfolding RecordTold passed_bytes scanned_from wrong_at record_end m
   cut_short e h =
       let z : p + 0 ≡ p = omega arith in
       rw (begins e, e, lt-ltb 0 (suc (length s)) (omega arith), lt-leb (0 + 1 + length_of k) (suc (length s)) (omega arith), z) (cut_body (length_of k) s (p + 1) p j h (omega arith))
@@ -149,24 +140,24 @@ module _ (n : ℕ) (k : ℕ) (s : List ℕ) (p q : ℕ) (i : Bool) (room : p + s
       let g : length (k ∷ take m s) ≡ 1 + m = omega arith in
       rw (f, ← e, scan_shift (k ∷ take m s) (drop m s) n 0, g)
 
-  fine : is_event k ≡ true → m ≤ length s → wrong_at (k ∷ s) 0 ≡ 0
+  good : is_event k ≡ true → m ≤ length s → wrong_at (k ∷ s) 0 ≡ None
   unfolding wrong_at record_end m
-  fine e h = rw (e, le-leb (0 + 1 + length_of k) (suc (length s)) (omega arith))
+  good e h = rw (e, le-leb (0 + 1 + length_of k) (suc (length s)) (omega arith))
 
   last : ends (p + 1 + m) j (drop m s) ≡ ends p i (k ∷ s)
   unfolding ends j begun_inside
   last = ends_later (p + 1 + m) j (drop m s) (omega arith)
 
   goes_on : is_event k ≡ true → m ≤ length s
-      → fault_told (passed_bytes (so_far (p + 1 + m) p 0 j) (drop m s)) ≡ or_then (shifted (p + 1 + m) (scanned_from n (drop m s) 0)) (ends (p + 1 + m) j (drop m s)) → Told
-  unfolding Told passed_bytes scanned_from
+      → fault_told (passed_bytes (so_far (p + 1 + m) p 0 j) (drop m s)) ≡ or_then (shifted (p + 1 + m) (scanned_from n (drop m s) 0)) (ends (p + 1 + m) j (drop m s)) → RecordTold
+  unfolding RecordTold passed_bytes scanned_from
   goes_on e h ih =
       let z : p + (1 + m) ≡ p + 1 + m = omega arith in
-      rw (begins e, lt-ltb 0 (suc (length s)) (omega arith), skip_body m s (p + 1) p j h (omega arith), fine e h, tail h, shifted_twice p (1 + m) (scanned_from n (drop m s) 0), z, ← last) ih
+      rw (begins e, lt-ltb 0 (suc (length s)) (omega arith), skip_body m s (p + 1) p j h (omega arith), good e h, tail h, shifted_twice p (1 + m) (scanned_from n (drop m s) 0), z, ← last) ih
 
 scan_coming : (n : ℕ) (s : List ℕ) (p q : ℕ) (i : Bool) → length s ≤ n → p + length s < 2 ^ 64
     → fault_told (passed_bytes (so_far p q 0 i) s) ≡ or_then (shifted p (scanned_from n s 0)) (ends p i s)
-unfolding passed_bytes fault_told scanned_from ends Told m j
+unfolding passed_bytes fault_told scanned_from ends RecordTold m j
 scan_coming zero [] p q i h room = refl
 scan_coming (suc n) [] p q i h room = refl
 scan_coming zero (k ∷ s) p q i h room = absurd (omega arith)

@@ -1,9 +1,9 @@
 -- A step moves on: a row passes a byte or more, of those that the logs show; a pair ends only where some of it is passed; a log has to
 -- show more only where more comes.
+use Rattle.std.specs.Prelude.{Option, None, Some}
 use Rattle.words.proofs.General.{ℕ, zero, suc, ◌+◌, ◌≤◌, ◌<◌, arith, ◌≡◌, refl, sym, Bool, true, false, ◌&&◌, List, [], append-nil, length, eqb, clash, by_flag}
 use Rattle.comparing.specs.declared.Walk.{Walk}
-use Rattle.comparing.specs.declared.Ahead.{Ahead}
-use Rattle.comparing.specs.declared.Ahead.TheVariants as ahead_case
+use Rattle.comparing.specs.declared.Log.TheVariants as log
 use Rattle.comparing.specs.declared.Step.{Step}
 use Rattle.comparing.specs.declared.Step.TheVariants as step
 use Rattle.comparing.specs.Steps.{ahead, untouched, pair_over, record_row, step_shown, begun_side, stepped, Front}
@@ -14,8 +14,8 @@ alone a whole = record { behind = []; joins = sym (append-nil a); all = λ e. re
 
 module _ (w : Walk) (a : List ℕ) (whole : Bool) (b : List ℕ) (ends : Bool) where
   abbrev pub Moves : Step → Type 0
-  Moves step.WantsFirst = whole ≡ false
-  Moves step.WantsSecond = ends ≡ false
+  Moves (step.Wants log.First) = whole ≡ false
+  Moves (step.Wants log.Second) = ends ≡ false
   Moves (step.Row m n u v) = (m ≤ length a) × (n ≤ length b) × (0 < m + n)
   Moves (step.Pair d v) = (untouched w ≡ false) × (untouched v ≡ true)
   Moves step.Over = Unit {0}
@@ -36,7 +36,7 @@ module _ (w : Walk) (a : List ℕ) (whole : Bool) (b : List ℕ) (ends : Bool) w
   unfolding stepped
   moves = go (ahead (begun_side w.first) a whole) (ahead_shown (begun_side w.first) (alone a whole)) (ahead (begun_side w.second) b ends) (ahead_shown (begun_side w.second) (alone b ends))
     where
-      go : (x : Ahead) → AheadShown (begun_side w.first) (alone a whole) x → (y : Ahead) → AheadShown (begun_side w.second) (alone b ends) y → Moves (step_shown w a b x y)
-      go ahead_case.Wants p y q = p.0
-      go (ahead_case.Shows m) p ahead_case.Wants q = q.0
-      go (ahead_case.Shows m) p (ahead_case.Shows n) q = by_row m n p.1 q.1
+      go : (x : Option ℕ) → AheadShown (begun_side w.first) (alone a whole) x → (y : Option ℕ) → AheadShown (begun_side w.second) (alone b ends) y → Moves (step_shown w a b x y)
+      go None p y q = p.0
+      go (Some m) p None q = q.0
+      go (Some m) p (Some n) q = by_row m n p.1 q.1

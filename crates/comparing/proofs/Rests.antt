@@ -1,10 +1,9 @@
 -- What is left of a group in the bytes to come: its next record, and then the rest; what a front of those bytes shows of it.
+use Rattle.std.specs.Prelude.{Option, None, Some}
 use Rattle.words.proofs.General.{ℕ, zero, suc, ◌+◌, ◌-◌, ◌≤◌, ◌<◌, pos_of_ne-zero, arith, ◌≡◌, refl, sym, ap, ◌∙◌, ⊎_elim, Bool, true, false, ◌&&◌, ◌||◌, and_assoc, List, [], ◌∷◌}
 use Rattle.words.proofs.General.{◌++◌, length, get_or, take, drop, length-append, length-drop, take-append-drop, List·getD-append, length-take-le, take-add, get_or-take, eqb, leb, ltb}
 use Rattle.words.proofs.General.{lt-ltb, eqb-true, eqb-false, eq-eqb, ne_eqb, leb-true, leb-false, pick, flag, by_flag, no-yes, clash, and_1, or_cases, or_no_1, or_no_2}
 use Rattle.model.proofs.Terms.{length_of}
-use Rattle.comparing.specs.declared.Ahead.{Ahead}
-use Rattle.comparing.specs.declared.Ahead.TheVariants as ahead_case
 use Rattle.comparing.specs.Kinds.{starts_group}
 use Rattle.comparing.specs.Groups.{record_end, record_past, end_from, group_end}
 use Rattle.comparing.specs.Pairs.{same_bytes}
@@ -122,9 +121,9 @@ module _ (begun : Bool) {s a : List ℕ} {whole : Bool} (f : Front s a whole) wh
   first_byte h = ap (λ l. get_or l 0 0) f.joins ∙ List·getD-append a f.behind 0 0 (pos_of_ne-zero h)
 
   -- a record is shown only whole, or with the log's end; what is not shown does not stand whole in the front
-  abbrev pub AheadShown : Ahead → Type 0
-  AheadShown (ahead_case.Shows m) = (record_of begun s ≡ m) × (m ≤ length a)
-  AheadShown ahead_case.Wants = (whole ≡ false) × (length a < record_end a 0)
+  abbrev pub AheadShown : Option ℕ → Type 0
+  AheadShown (Some m) = (record_of begun s ≡ m) × (m ≤ length a)
+  AheadShown None = (whole ≡ false) × (length a < record_end a 0)
 
   nothing_whole : length a ≡ 0 → length a < record_end a 0
   unfolding record_end
@@ -163,7 +162,6 @@ module _ (begun : Bool) {s a : List ℕ} {whole : Bool} (f : Front s a whole) wh
 -- ---- two groups are the same where their next records are, and the rest
 
 bytes-append : (x y u v : List ℕ) → length x ≡ length y → same_bytes (x ++ u) (y ++ v) ≡ (same_bytes x y && same_bytes u v)
-unfolding same_bytes
 bytes-append [] [] u v e = refl
 bytes-append [] (b ∷ y) u v e = absurd (omega arith)
 bytes-append (a ∷ x) [] u v e = absurd (omega arith)

@@ -1,11 +1,10 @@
 -- "Asked from 0 and refusing neither log, it says none exactly if both have the same bytes".
+use Rattle.std.specs.Prelude.{None, Some, Ok}
 use Rattle.words.proofs.General.{ℕ, zero, suc, ◌+◌, ◌-◌, ◌≤◌, ◌<◌, arith, ◌≡◌, refl, sym, ap, ◌∙◌, ◌↔◌, ⊎_elim, true, false, List, [], ◌∷◌, map, length, get_or, take, drop}
 use Rattle.words.proofs.General.{length-take, length-drop, take-append-drop, drop_of_length-le, List·getD-eq-default, List·getD-map, drop-drop, le-ltb, lt-ltb, joined, flag}
 use Rattle.words.proofs.General.{no-yes, lt_or_ge}
-use Rattle.comparing.specs.declared.Fault.TheVariants as fault
-use Rattle.comparing.specs.declared.Compared.TheVariants as answer
 use Rattle.comparing.specs.Groups.{group_end, bytes_in, groups_from, groups, group_side}
-use Rattle.comparing.specs.Checks.{checked}
+use Rattle.comparing.specs.Checks.{fine, checked}
 use Rattle.comparing.specs.Pairs.{same_pair, differs, first_of, pairs, first_difference, compared}
 use Rattle.comparing.proofs.Walks.{group_end_lem}
 use Rattle.comparing.proofs.Sides.{place_from, side_is, counted_out}
@@ -49,16 +48,16 @@ join-same (x ∷ xs) (y ∷ ys) f = rw (f 0, join-same xs ys (λ n. f (suc n)))
 -- ---- no pair differs
 
 module _ (a b : List ℕ) where
-  none_of : (d n : ℕ) → first_of d a b n ≡ answer.Same → (k : ℕ) → n ≤ k → k < n + d → same_pair a b k ≡ true
+  none_of : (d n : ℕ) → first_of d a b n ≡ None → (k : ℕ) → n ≤ k → k < n + d → same_pair a b k ≡ true
   unfolding first_of
   none_of zero n e k h l = absurd (omega arith)
   none_of (suc d) n e k h l =
       ⊎_elim
       (λ q. ⊎_elim (λ w. none_of d (suc n) (rw q at e) k (omega arith) (omega arith)) (λ w. let z : k ≡ n = omega arith in rw z q) (lt_or_ge n k))
-      (λ q. let r : differs n (group_side a n) (group_side b n) ≡ answer.Same = rw q at e in let z : ◌≡◌ {A = ℕ} 0 1 = cc in absurd (omega arith))
+      (λ q. let r : Some (differs n (group_side a n) (group_side b n)) ≡ None = rw q at e in cc)
       (flag (same_pair a b n))
 
-  none-same : first_difference a b 0 ≡ answer.Same → a ≡ b
+  none-same : first_difference a b 0 ≡ None → a ≡ b
   unfolding first_difference same_pair
   none-same e = sym (joined-groups a) ∙ join-same (map (bytes_in a) (groups a)) (map (bytes_in b) (groups b)) at ∙ joined-groups b
     where
@@ -72,12 +71,12 @@ module _ (a b : List ℕ) where
       at : (n : ℕ) → get_or (map (bytes_in a) (groups a)) n [] ≡ get_or (map (bytes_in b) (groups b)) n []
       at n = side-bytes a n ∙ side n ∙ sym (side-bytes b n)
 
-self_none : (a : List ℕ) (d n : ℕ) → first_of d a a n ≡ answer.Same
+self_none : (a : List ℕ) (d n : ℕ) → first_of d a a n ≡ None
 unfolding first_of same_pair
 self_none a zero n = refl
 self_none a (suc d) n = rw (same_self (bytes_in a (group_side a n))) (self_none a d (suc n))
 
-same_none : (a b : List ℕ) → a ≡ b → first_difference a b 0 ≡ answer.Same
+same_none : (a b : List ℕ) → a ≡ b → first_difference a b 0 ≡ None
 unfolding first_difference
 same_none a b e = rw (← e) (self_none a (pairs a a - 0) 0)
 
@@ -103,10 +102,10 @@ module _ (a b : List ℕ) (n : ℕ) where
 
 -- ---- the theorem
 
-module _ (a b : List ℕ) (p : checked a ≡ fault.None) (q : checked b ≡ fault.None) where
-  answered : compared a b 0 ≡ first_difference a b 0
+module _ (a b : List ℕ) (p : checked a ≡ fine) (q : checked b ≡ fine) where
+  answered : compared a b 0 ≡ Ok (first_difference a b 0)
   unfolding compared
   answered = rw (p, q)
 
-  pub none_exactly : (compared a b 0 ≡ answer.Same) ↔ (a ≡ b)
-  none_exactly = (λ e. none-same a b (sym answered ∙ e), λ e. answered ∙ same_none a b e)
+  pub none_exactly : (compared a b 0 ≡ Ok None) ↔ (a ≡ b)
+  none_exactly = (λ e. let f : Ok (first_difference a b 0) ≡ Ok None = sym answered ∙ e in none-same a b (cc), λ e. answered ∙ rw (same_none a b e))

@@ -1,6 +1,7 @@
 -- The groups of a log one behind the other: the side of a number begins where the groups before it end.
 use Rattle.words.proofs.General.{ℕ, zero, suc, ◌+◌, ◌-◌, ◌≤◌, ◌<◌, add-one, arith, ◌≡◌, refl, sym, ap, ◌∙◌, ⊎_elim, List, length, get_or, lt-ltb, le-ltb, lt_or_ge}
-use Rattle.comparing.specs.Groups.{group_end, Part, part_to, groups_from, groups, group_side}
+use Rattle.comparing.specs.declared.Part.{Part}
+use Rattle.comparing.specs.Groups.{group_end, part_to, groups_from, groups, group_side}
 use Rattle.comparing.proofs.Walks.{group_end_lem, group_none}
 
 -- n groups further
@@ -99,23 +100,23 @@ module _ (s : List ℕ) where
     pub counted-over : length s ≤ x → length (groups s) ≤ n
     counted-over h = counted_out n (rw begins-at at h)
 
-  -- ---- the loop that skips groups: those still to skip lead to the side of the number
+  -- ---- the loop that skips groups: those still to skip, behind the first i, lead to the side of the number
 
   abbrev pub Skips : ℕ → ℕ → ℕ → Type 0
-  Skips number at left = (at ≤ length s) × (place_from left s at ≡ (group_side s number).place)
+  Skips number at i = (at ≤ length s) × (place_from (number - i) s at ≡ (group_side s number).place)
 
-  pub skips_start : (number : ℕ) → Skips number 0 number
-  skips_start number = (omega arith, ap (λ p. p.place) (sym (side_is number)))
+  pub skips_start : (number : ℕ) → Skips number 0 0
+  skips_start number = let z : number - 0 ≡ number = omega arith in (omega arith, rw z (ap (λ p. p.place) (sym (side_is number))))
 
-  pub skips_out : (number at left : ℕ) → length s ≤ at → Skips number at left → at ≡ (group_side s number).place
-  skips_out number at left h w = sym (stay left at h) ∙ w.1
+  pub skips_out : (number at i : ℕ) → length s ≤ at → Skips number at i → at ≡ (group_side s number).place
+  skips_out number at i h w = sym (stay (number - i) at h) ∙ w.1
 
-  pub skips_more : (number at left : ℕ) → 0 < left → {e : ℕ} → e ≡ group_end s at → Skips number at left → Skips number e (left - 1)
+  pub skips_more : (number at i : ℕ) → i < number → {e : ℕ} → e ≡ group_end s at → Skips number at i → Skips number e (i + 1)
   unfolding place_from
-  skips_more number at left h {e} p w =
-      let k : left ≡ suc (left - 1) = omega arith in
-      (omega (arith, group_within at w.0), rw p (let u : place_from (suc (left - 1)) s at ≡ (group_side s number).place = rw k at w.1 in u))
+  skips_more number at i h {e} p w =
+      let k : number - i ≡ suc (number - (i + 1)) = omega arith in
+      (omega (arith, group_within at w.0), rw p (let u : place_from (suc (number - (i + 1))) s at ≡ (group_side s number).place = rw k at w.1 in u))
 
-  pub skips_over : (number at left : ℕ) → left ≤ 0 → Skips number at left → at ≡ (group_side s number).place
+  pub skips_over : (number at i : ℕ) → number ≤ i → Skips number at i → at ≡ (group_side s number).place
   unfolding place_from
-  skips_over number at left h w = let k : left ≡ 0 = omega arith in rw k at w.1
+  skips_over number at i h w = let k : number - i ≡ 0 = omega arith in rw k at w.1

@@ -1,18 +1,17 @@
 -- Two logs passed step by step, however they come: where the steps come to the end, they listed exactly the pairs that differ.
+use Rattle.std.specs.Prelude.{Option, None, Some}
 use Rattle.words.proofs.General.{ℕ, suc, ◌+◌, ◌-◌, ◌%◌, ◌^◌, ◌≤◌, ◌<◌, pos_of_ne-zero, add-one, arith, ◌≡◌, refl, sym, ap, ◌∙◌, ⊎_elim, Bool, true, false, not, ◌&&◌, and-true}
 use Rattle.words.proofs.General.{and_assoc, List, [], ◌∷◌, ◌++◌, append-nil, append_assoc, length, take, drop, length-append, length-drop, drop-drop, take-append-le, eqb, eqb-true}
 use Rattle.words.proofs.General.{eqb-false, eq-eqb, ne_eqb, pick, flag, by_flag, and_1, and_2}
-use Rattle.comparing.specs.declared.Compared.{Compared}
-use Rattle.comparing.specs.declared.Compared.TheVariants as answer
+use Rattle.comparing.specs.declared.Difference.{Difference}
 use Rattle.comparing.specs.declared.Side.{Side}
 use Rattle.comparing.specs.declared.Walk.{Walk}
-use Rattle.comparing.specs.declared.Ahead.{Ahead}
-use Rattle.comparing.specs.declared.Ahead.TheVariants as ahead_case
+use Rattle.comparing.specs.declared.Log.TheVariants as log
 use Rattle.comparing.specs.declared.Step.{Step}
 use Rattle.comparing.specs.declared.Step.TheVariants as step
 use Rattle.comparing.specs.Groups.{part_to, bytes_in, record_end, group_end, groups, group_side}
 use Rattle.comparing.specs.Pairs.{same_bytes, same_pair, differs, pairs, listed, differences_from_pair}
-use Rattle.comparing.specs.Steps.{side, walk_beginning, ahead, moved, side_behind, onward, pairs_differing, lowest_of, next_pair, untouched, pair_over, record_row, step_shown, begun_side, stepped, Front, pair_of, Walked, not_begun, by_row, by_same, by_differing, lowest_in, Listed}
+use Rattle.comparing.specs.Steps.{side, walk_beginning, ahead, moved, side_behind, onward, pairs_differing, or_number, lowest_of, next_pair, untouched, pair_over, record_row, step_shown, begun_side, stepped, Front, pair_of, Walked, not_begun, by_row, by_same, by_differing, lowest_in, Listed}
 use Rattle.comparing.proofs.Sides.{place_from, group_on, side_is, side-to, next-begins, counted-in, counted-over}
 use Rattle.comparing.proofs.Rests.{group_rest, begun_after, Coming, coming, AheadShown, ahead_shown, same_split, group_drop}
 
@@ -113,15 +112,13 @@ module _ (A B : List ℕ) where
   unfolding differences_from_pair listed
   lists_more n h = let k : pairs A B - n ≡ suc (pairs A B - suc n) = omega arith in rw (k, add-one n)
 
-lowest_snoc : (ds : List Compared) (n p l q m : ℕ) → lowest_in (ds ++ (answer.Differs n p l q m ∷ [])) ≡ pick (eqb (length ds) 0) n (lowest_in ds)
-lowest_snoc [] n p l q m = refl
-lowest_snoc (answer.Differs k x y z v ∷ ds) n p l q m = rw (ne_eqb (suc (length ds)) 0 (λ e. omega arith))
-lowest_snoc (answer.Refused x y z ∷ ds) n p l q m = rw (ne_eqb (suc (length ds)) 0 (λ e. omega arith))
-lowest_snoc (answer.Same ∷ ds) n p l q m = rw (ne_eqb (suc (length ds)) 0 (λ e. omega arith))
+lowest_snoc : (ds : List Difference) (d : Difference) → lowest_in (ds ++ (d ∷ [])) ≡ or_number (lowest_in ds) d.number
+lowest_snoc [] d = refl
+lowest_snoc (e ∷ ds) d = refl
 
 -- ---- the walk stands in the logs
 
-record On (A B s t : List ℕ) (w : Walk) (ds : List Compared) : Type 0 where
+record On (A B s t : List ℕ) (w : Walk) (ds : List Difference) : Type 0 where
   first : SideAt A s w.number w.first
   second : SideAt B t w.number w.second
   same : same_pair A B w.number ≡ (w.same && same_bytes (take (group_rest (begun_side w.first) s) s) (take (group_rest (begun_side w.second) t) t))
@@ -144,7 +141,7 @@ begin_on A B =
       bound = omega arith;
     }
 
-module _ {A B s t : List ℕ} {w : Walk} {ds : List Compared} (o : On A B s t w ds) (fa : length A < 2 ^ 64) (fb : length B < 2 ^ 64) where
+module _ {A B s t : List ℕ} {w : Walk} {ds : List Difference} (o : On A B s t w ds) (fa : length A < 2 ^ 64) (fb : length B < 2 ^ 64) where
   module _ {m n : ℕ} (c : Coming (begun_side w.first) s m) (d : Coming (begun_side w.second) t n) where
     on_row : {u : Bool} → u ≡ same_bytes (take m s) (take n t) → On A B (drop m s) (drop n t) (onward w m n u) ds
     on_row {u} e =
@@ -161,7 +158,6 @@ module _ {A B s t : List ℕ} {w : Walk} {ds : List Compared} (o : On A B s t w 
 
   module _ (y : group_rest (begun_side w.first) s ≡ 0) (z : group_rest (begun_side w.second) t ≡ 0) where
     pair_same : same_pair A B w.number ≡ w.same
-    unfolding same_bytes
     pair_same = o.same ∙ rw (y, z) (and-true w.same)
 
     the-pair : differs w.number (group_side A w.number) (group_side B w.number) ≡ pair_of w
@@ -172,7 +168,7 @@ module _ {A B s t : List ℕ} {w : Walk} {ds : List Compared} (o : On A B s t w 
       next-number = omega arith
 
       -- what is listed with this pair
-      abbrev with_pair : List Compared
+      abbrev with_pair : List Difference
       with_pair = pick w.same ds (ds ++ (pair_of w ∷ []))
 
       lists-next : differences_from_pair A B 0 ≡ with_pair ++ differences_from_pair A B (w.number + 1)
@@ -186,7 +182,7 @@ module _ {A B s t : List ℕ} {w : Walk} {ds : List Compared} (o : On A B s t w 
       lowest-next =
           ⊎_elim
           (λ q. rw q o.lowest)
-          (λ (q : w.same ≡ false). rw (q, lowest_snoc ds w.number w.first.place w.first.passed w.second.place w.second.passed, o.count, o.lowest))
+          (λ (q : w.same ≡ false). rw (q, lowest_snoc ds (pair_of w), o.lowest))
           (flag w.same)
 
       on-pair : On A B s t (next_pair w) with_pair
@@ -227,8 +223,8 @@ module _ {A B s t : List ℕ} {w : Walk} {ds : List Compared} (o : On A B s t w 
 
   module _ {a b : List ℕ} {whole ends : Bool} (f : Front s a whole) (g : Front t b ends) where
     abbrev StepTells : Step → Type 0
-    StepTells step.WantsFirst = (whole ≡ false) × (length a < record_end a 0)
-    StepTells step.WantsSecond = (ends ≡ false) × (length b < record_end b 0)
+    StepTells (step.Wants log.First) = (whole ≡ false) × (length a < record_end a 0)
+    StepTells (step.Wants log.Second) = (ends ≡ false) × (length b < record_end b 0)
     StepTells (step.Row m n u v) = On A B (drop m s) (drop n t) v ds
     StepTells (step.Pair d v) = On A B s t v (pick d (ds ++ (pair_of w ∷ [])) ds)
     StepTells step.Over = Listed A B w ds
@@ -253,28 +249,28 @@ module _ {A B s t : List ℕ} {w : Walk} {ds : List Compared} (o : On A B s t w 
     unfolding stepped
     on-tells = go (ahead (begun_side w.first) a whole) (ahead_shown (begun_side w.first) f) (ahead (begun_side w.second) b ends) (ahead_shown (begun_side w.second) g)
       where
-        go : (x : Ahead) → AheadShown (begun_side w.first) f x → (y : Ahead) → AheadShown (begun_side w.second) g y → StepTells (step_shown w a b x y)
-        go ahead_case.Wants p y q = p
-        go (ahead_case.Shows m) p ahead_case.Wants q = q
-        go (ahead_case.Shows m) p (ahead_case.Shows n) q = row-tells (rw p.0 at (coming s (begun_side w.first))) (rw q.0 at (coming t (begun_side w.second))) p.1 q.1
+        go : (x : Option ℕ) → AheadShown (begun_side w.first) f x → (y : Option ℕ) → AheadShown (begun_side w.second) g y → StepTells (step_shown w a b x y)
+        go None p y q = p
+        go (Some m) p None q = q
+        go (Some m) p (Some n) q = row-tells (rw p.0 at (coming s (begun_side w.first))) (rw q.0 at (coming t (begun_side w.second))) p.1 q.1
 
 -- ---- the theorem
 
 module _ {A B : List ℕ} (fa : length A < 2 ^ 64) (fb : length B < 2 ^ 64) where
-  walked_on : {s t : List ℕ} {w : Walk} {ds : List Compared} → Walked A B s t w ds → On A B s t w ds
+  walked_on : {s t : List ℕ} {w : Walk} {ds : List Difference} → Walked A B s t w ds → On A B s t w ds
   walked_on not_begun = begin_on A B
   walked_on (by_row k f g e) = rw e at (on-tells (walked_on k) fa fb f g)
   walked_on (by_same k f g e) = rw e at (on-tells (walked_on k) fa fb f g)
   walked_on (by_differing k f g e) = rw e at (on-tells (walked_on k) fa fb f g)
 
-  module _ {s t : List ℕ} {w : Walk} {ds : List Compared} (k : Walked A B s t w ds) {a b : List ℕ} {whole ends : Bool} (f : Front s a whole) (g : Front t b ends) where
+  module _ {s t : List ℕ} {w : Walk} {ds : List Difference} (k : Walked A B s t w ds) {a b : List ℕ} {whole ends : Bool} (f : Front s a whole) (g : Front t b ends) where
     -- the steps that came to the end listed the pairs that differ, each once, in order
     pub walked-lists : stepped w a whole b ends ≡ step.Over → Listed A B w ds
     walked-lists e = rw e at (on-tells (walked_on k) fa fb f g)
 
     -- and they come to it (with Progress): a log has to show more only where its bytes do not hold the next record whole
-    pub wants-first : stepped w a whole b ends ≡ step.WantsFirst → (whole ≡ false) × (length a < record_end a 0)
+    pub wants-first : stepped w a whole b ends ≡ step.Wants log.First → (whole ≡ false) × (length a < record_end a 0)
     wants-first e = rw e at (on-tells (walked_on k) fa fb f g)
 
-    pub wants-second : stepped w a whole b ends ≡ step.WantsSecond → (ends ≡ false) × (length b < record_end b 0)
+    pub wants-second : stepped w a whole b ends ≡ step.Wants log.Second → (ends ≡ false) × (length b < record_end b 0)
     wants-second e = rw e at (on-tells (walked_on k) fa fb f g)

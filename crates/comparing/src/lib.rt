@@ -6,36 +6,68 @@
 pub mod checks;
 pub mod walking;
 
-ghost use Rattle.std.specs.Prelude.{◌≡◌, ◌-◌, ◌<◌, min, length, take, drop};
+ghost use Rattle.std.specs.Prelude.{◌≡◌, ◌-◌, ◌<◌, length, take, drop};
 ghost use Rattle.comparing.specs.Kinds.{starts_group, is_event};
-ghost use Rattle.comparing.specs.Checks.{wrong_at, scanned, checked};
+ghost use Rattle.comparing.specs.Checks.{wrong_number, wrong_at, scanned, checked};
 ghost use Rattle.comparing.specs.Groups.{group_end, group_side};
 ghost use Rattle.comparing.specs.Groups.{record_past};
 ghost use Rattle.comparing.specs.Pairs.{same_bytes, at_start, found_pair, compared};
 
-// Log 1 or 2 refused by number, with the place; or the first pair that differs, with the place and the length of each side; or none.
-#[derive(Clone, Copy)]
-pub enum Compared {
-    Refused {
-        log: u8,
-        number: u8,
-        place: usize,
-    },
-    Differs {
-        number: usize,
-        place_a: usize,
-        len_a: usize,
-        place_b: usize,
-        len_b: usize,
-    },
-    Same,
+// One of the two logs.
+#[derive(Clone, Copy, PartialEq, Eq)]
+pub enum Log {
+    First,
+    Second,
 }
 
-// What is wrong with one log, and where.
-#[derive(Clone, Copy)]
-pub enum Fault {
-    None,
-    At { number: u8, place: usize },
+// Why a log is refused: a kind that is no event's; a record that is cut short; it begins inside a group.
+#[derive(Clone, Copy, PartialEq, Eq)]
+pub enum Wrong {
+    UnknownKind,
+    CutShort,
+    InsideGroup,
+}
+
+// The number of the refusal.
+impl From<Wrong> for u8 {
+    ghost from_gives = { λ w n. n ≡ wrong_number w };
+
+    fn from(wrong: Wrong) -> u8 {
+        match wrong {
+            Wrong::UnknownKind => 14,
+            Wrong::CutShort => 15,
+            Wrong::InsideGroup => 17,
+        }
+    }
+}
+
+// What is wrong with a log, and where.
+#[derive(Clone, Copy, PartialEq, Eq)]
+pub struct Fault {
+    pub wrong: Wrong,
+    pub place: usize,
+}
+
+// Which log is refused, and why.
+#[derive(Clone, Copy, PartialEq, Eq)]
+pub struct Refused {
+    pub log: Log,
+    pub fault: Fault,
+}
+
+// A part of a log.
+#[derive(Clone, Copy, PartialEq, Eq)]
+pub struct Part {
+    pub place: usize,
+    pub size: usize,
+}
+
+// A pair of groups that differs: its number, and each side.
+#[derive(Clone, Copy, PartialEq, Eq)]
+pub struct Difference {
+    pub number: usize,
+    pub first: Part,
+    pub second: Part,
 }
 
 // Where the groups of a number begin in both logs.
@@ -46,8 +78,16 @@ pub struct Cursor {
     pub second: usize,
 }
 
+// The first pair that differs, if there is one, and a cursor behind it to go on from.
+#[derive(Clone, Copy)]
+pub struct Found {
+    pub difference: Option<Difference>,
+    pub next: Cursor,
+}
+
 // The check of a log that comes in parts: the bytes passed; of its last record the place, how many bytes of the body are to come, and
 // whether its kind is no event's; whether the log begins inside a group.
+// `place` is the last record's in every case, so that `wrong` is no Option of it.
 #[derive(Clone, Copy)]
 pub struct Checking {
     pub passed: usize,
@@ -65,7 +105,7 @@ pub struct Side {
 }
 
 // Two logs that come in parts, passed record by record: the pair and its sides, whether they are the same so far; of the pairs before
-// it how many differ, and the lowest number among those, 0 where there is none.
+// it how many differ, and the lowest number among those, if there is one.
 #[derive(Clone, Copy)]
 pub struct Walk {
     pub number: usize,
@@ -73,22 +113,22 @@ pub struct Walk {
     pub second: Side,
     pub same: bool,
     pub differing: usize,
-    pub lowest: usize,
+    pub lowest: Option<usize>,
 }
 
-// What the bytes to come show of a group: the length of its next record, 0 where the group is over; or not yet.
+// The bytes to come of a log, and whether no more come behind them.
 #[derive(Clone, Copy)]
-pub enum Ahead {
-    Shows(usize),
-    Wants,
+pub struct Ahead<'a> {
+    pub bytes: &'a [u8],
+    pub ends: bool,
 }
 
 // The next step over two logs: a log has to show more bytes; the next record of each side, by its length (0 behind a group's end), and
 // whether the two are the same; the end of a pair, and whether it differs; the end of both logs.
+// A length of 0 and no Option: a side that is over passes no bytes.
 #[derive(Clone, Copy)]
 pub enum Step {
-    WantsFirst,
-    WantsSecond,
+    Wants(Log),
     Row {
         first: usize,
         second: usize,
@@ -102,37 +142,26 @@ pub enum Step {
     Over,
 }
 
-// An answer, and a cursor behind it to go on from.
-#[derive(Clone, Copy)]
-pub struct Found {
-    pub answer: Compared,
-    pub next: Cursor,
-}
-
-// "A group starts at 0x10, 0x11, 0x15, 0x16, 0x17 or 0x18": 1 there.
-const STARTS: [u8; 25] = [
-    0, 0, 0, 0, 0, 0, 0, 0, 0, 0, 0, 0, 0, 0, 0, 0, 1, 1, 0, 0, 0, 1, 1, 1, 1,
-];
+// "A group starts at 0x10, 0x11, 0x15, 0x16, 0x17 or 0x18".
+const STARTERS: [u8; 6] = [0x10, 0x11, 0x15, 0x16, 0x17, 0x18];
 
 // Whether a record of a kind starts a group.
+#[tactic(auto, unfolding(crate::specs::Kinds::starts_group))]
 pub fn starts(kind: u8) -> bool
     ensures { result ≡ starts_group kind }
 {
-    let k = kind as usize;
-    if k < 25 { STARTS[k] == 1 } else { false }
+    STARTERS.contains(&kind)
 }
 
 // Whether a kind is an event's.
 fn is_event(kind: u8) -> bool
     ensures { result ≡ is_event kind }
 {
-    if records::is_command(kind) {
-        return false;
-    }
-    records::length_of(kind) != 255
+    !records::is_command(kind) && records::length_of(kind) != 255
 }
 
 // The place behind the record at a place, no further than the log goes.
+#[tactic(auto, unfolding(crate::specs::Groups::record_past, crate::specs::Groups::record_end))]
 fn past(log: &[u8], at: usize) -> usize
     requires { at < length log.now }
     ensures { result ≡ record_past log.now at }
@@ -145,56 +174,56 @@ fn past(log: &[u8], at: usize) -> usize
     }
 }
 
-// 14 or 15 of the record at a place; 0 where nothing is wrong.
-fn wrong_at(log: &[u8], at: usize) -> u8
+// What is wrong with the record at a place.
+#[tactic(auto, using(crate::proofs::Scans::wrong_kind, crate::proofs::Scans::wrong_none, crate::proofs::Scans::wrong_cut), unfolding(crate::specs::Checks::wrong_at))]
+fn wrong_at(log: &[u8], at: usize) -> Option<Wrong>
     requires { at < length log.now }
     ensures { result ≡ wrong_at log.now at }
 {
     let kind = log[at];
     if !is_event(kind) {
-        return 14;
+        return Some(Wrong::UnknownKind);
     }
     let n = records::length_of(kind) as usize;
-    if n < log.len() - at { 0 } else { 15 }
+    if n < log.len() - at {
+        None
+    } else {
+        Some(Wrong::CutShort)
+    }
 }
 
-// The first record that is wrong.
-pub fn scan(log: &[u8]) -> Fault
+// Up to the first record that is wrong.
+pub fn scan(log: &[u8]) -> Result<(), Fault>
     ensures { result ≡ scanned log.now }
 {
+    // A record's kind gives its length, so each step is of its own size.
     let mut at = 0;
     while at < log.len() {
-        let number = wrong_at(log, at);
-        if number != 0 {
-            return Fault::At { number, place: at };
+        if let Some(wrong) = wrong_at(log, at) {
+            return Err(Fault { wrong, place: at });
         }
         at = past(log, at);
     }
-    Fault::None
+    Ok(())
 }
 
 // "at each record 14 and 15 with the place, then, after its last record, 17 for a log that begins inside a group"
-pub fn check(log: &[u8]) -> Fault
+#[tactic(auto, unfolding(crate::specs::Checks::checked))]
+pub fn check(log: &[u8]) -> Result<(), Fault>
     ensures { result ≡ checked log.now }
 {
-    match scan(log) {
-        Fault::At { number, place } => Fault::At { number, place },
-        Fault::None => {
-            if log.len() == 0 {
-                return Fault::None;
-            }
-            if starts(log[0]) {
-                return Fault::None;
-            }
-            Fault::At {
-                number: 17,
-                place: 0,
-            }
-        }
+    scan(log)?;
+    if log.is_empty() || starts(log[0]) {
+        return Ok(());
     }
+    Err(Fault {
+        wrong: Wrong::InsideGroup,
+        place: 0,
+    })
 }
 
 // The end of the group that begins at a place; the place itself where no byte is left.
+// Each step is a record's own size, as in `scan`.
 pub fn group_end(log: &[u8], at: usize) -> usize
     ensures { result ≡ group_end log.now at }
 {
@@ -202,10 +231,7 @@ pub fn group_end(log: &[u8], at: usize) -> usize
         return at;
     }
     let mut end = past(log, at);
-    while end < log.len() {
-        if starts(log[end]) {
-            return end;
-        }
+    while end < log.len() && !starts(log[end]) {
         end = past(log, end);
     }
     end
@@ -216,31 +242,22 @@ fn skip(log: &[u8], number: usize) -> usize
     ensures { result ≡ (group_side log.now number).place }
 {
     let mut at = 0;
-    let mut left = number;
-    while 0 < left {
+    for _i in 0..number {
         if log.len() <= at {
-            return at;
+            break;
         }
         at = group_end(log, at);
-        left -= 1;
     }
     at
 }
 
-// The lower of two numbers.
-fn lower(a: usize, b: usize) -> usize
-    ensures { result ≡ min a b }
-{
-    if a < b { a } else { b }
-}
-
 // The bytes from one place to another, as far as the log has them.
-pub fn part(log: &[u8], from: usize, to: usize) -> &[u8]
+pub fn bytes_between(log: &[u8], from: usize, to: usize) -> &[u8]
     ensures { result.now ≡ take (to - from) (drop from log.now) }
 {
-    let end = lower(to, log.len());
+    let end = to.min(log.len());
     if end < from {
-        return &log[..0];
+        return &[];
     }
     &log[from..end]
 }
@@ -249,101 +266,81 @@ pub fn part(log: &[u8], from: usize, to: usize) -> &[u8]
 pub fn same(a: &[u8], b: &[u8]) -> bool
     ensures { result ≡ same_bytes a.now b.now }
 {
-    if a.len() != b.len() {
-        return false;
-    }
-    let mut i = 0;
-    while i < a.len() {
-        if a[i] != b[i] {
-            return false;
-        }
-        i += 1;
-    }
-    true
+    a == b
 }
 
-// The cursor to begin with.
-pub fn begin() -> Cursor
-    ensures { result ≡ at_start }
-{
-    Cursor {
-        number: 0,
-        first: 0,
-        second: 0,
+impl Cursor {
+    // The cursor to begin with.
+    pub fn begin() -> Cursor
+        ensures { result ≡ at_start }
+    {
+        Cursor {
+            number: 0,
+            first: 0,
+            second: 0,
+        }
     }
 }
 
 // The first pair from a cursor on that differs, and the cursor behind that pair: where it stands at the groups of its number, the same
 // answer as asking with that number. It reads what lies between the two cursors and no more, so that to list all pairs takes one pass.
+// Each step is a group's own size.
 pub fn compare_from(a: &[u8], b: &[u8], cursor: Cursor) -> Found
     ensures { result ≡ found_pair a.now b.now cursor }
 {
-    let mut number = cursor.number;
-    let mut x = cursor.first;
-    let mut y = cursor.second;
-    while (x < a.len()) | (y < b.len()) {
-        let end_a = group_end(a, x);
-        let end_b = group_end(b, y);
-        let after = std::num::wrapping_add_usize(number, 1);
-        if !same(part(a, x, end_a), part(b, y, end_b)) {
-            return Found {
-                answer: Compared::Differs {
-                    number,
-                    place_a: x,
-                    len_a: end_a - x,
-                    place_b: y,
-                    len_b: end_b - y,
+    let mut c = cursor;
+    while c.first < a.len() || c.second < b.len() {
+        let next = Cursor {
+            number: c.number.wrapping_add(1),
+            first: group_end(a, c.first),
+            second: group_end(b, c.second),
+        };
+        if !same(
+            bytes_between(a, c.first, next.first),
+            bytes_between(b, c.second, next.second),
+        ) {
+            let difference = Difference {
+                number: c.number,
+                first: Part {
+                    place: c.first,
+                    size: next.first - c.first,
                 },
-                next: Cursor {
-                    number: after,
-                    first: end_a,
-                    second: end_b,
+                second: Part {
+                    place: c.second,
+                    size: next.second - c.second,
                 },
             };
+            return Found {
+                difference: Some(difference),
+                next,
+            };
         }
-        number = after;
-        x = end_a;
-        y = end_b;
+        c = next;
     }
     Found {
-        answer: Compared::Same,
-        next: Cursor {
-            number,
-            first: x,
-            second: y,
-        },
+        difference: None,
+        next: c,
     }
 }
 
 // The first pair from a number on that differs, of two logs of any bytes: "the first log is checked whole, then the second, before
 // any pairing".
-pub fn compare(a: &[u8], b: &[u8], from: usize) -> Compared
+#[tactic(auto, using(crate::proofs::Firsts::found_answered), unfolding(crate::specs::Pairs::compared))]
+pub fn compare(a: &[u8], b: &[u8], from: usize) -> Result<Option<Difference>, Refused>
     ensures { result ≡ compared a.now b.now from }
 {
-    if let Fault::At { number, place } = check(a) {
-        return Compared::Refused {
-            log: 1,
-            number,
-            place,
-        };
-    }
-    if let Fault::At { number, place } = check(b) {
-        return Compared::Refused {
-            log: 2,
-            number,
-            place,
-        };
-    }
-    let first = skip(a, from);
-    let second = skip(b, from);
-    let found = compare_from(
-        a,
-        b,
-        Cursor {
-            number: from,
-            first,
-            second,
-        },
-    );
-    found.answer
+    check(a).map_err(|fault| Refused {
+        log: Log::First,
+        fault,
+    })?;
+    check(b).map_err(|fault| Refused {
+        log: Log::Second,
+        fault,
+    })?;
+    let cursor = Cursor {
+        number: from,
+        first: skip(a, from),
+        second: skip(b, from),
+    };
+    Ok(compare_from(a, b, cursor).difference)
 }

@@ -1,4 +1,5 @@
 -- A run that goes on: what its check passes; on the encoding of sound tables it is the run on those tables.
+use Rattle.std.specs.Prelude.{Option}
 use Rattle.words.proofs.General.{ℕ, ◌≡◌, refl, true, false, List, clash, by_flag}
 use Rattle.model.proofs.Terms.{in_range, Tables, Lent, lengths_fit, tables_of, sound_lent, Small, kept_stop, goes_on, halt, run_from, lent_result, resume, Encodes}
 use Rattle.model.specs.RunnerOf as runner
@@ -19,7 +20,7 @@ kept S L =
     (λ b h. clash h refl))
     (λ a h. clash h refl)
   where
-    Goes : Stop → Type 0
+    Goes : Option Stop → Type 0
     Goes n = goes_on n ≡ true → Kept S L
 
 -- the tables that the slices hold; the words are 32-bit numbers, which the code knows of any slice

@@ -1,6 +1,8 @@
 -- The events, the tables, the stop and the bytes consumed of a run are those of the separate public calls, record by record, for any
 -- stream of bytes; the same of a run that goes on.
+use Rattle.std.specs.Prelude.{Option, Some, None}
 use Rattle.words.proofs.General.{ℕ, zero, suc, ◌-◌, ◌≡◌, refl, ap, ◌∙◌, ⊎_elim, true, List, [], ◌∷◌, length, take, ltb, and_2, flag}
+use Rattle.model.specs.declared.Command.{Command}
 use Rattle.model.proofs.Terms.{in_range, Tables, start, after, events_of, Lent, lengths_fit, tables_of, encode, Small, access, send, fill, tick, encoded, fresh_call, bytes, length_of}
 use Rattle.model.proofs.Terms.{command_of, log_bytes, settings_of, first_stop, later_stop, kept_stop, goes_on, step_read, step_at, halt, run_from, lent_result, run, resume, call_read, call_at}
 use Rattle.model.proofs.Terms.{calls_from, run_by_calls, resume_by_calls, Encodes}
@@ -8,9 +10,6 @@ use Rattle.model.specs.RunnerOf as runner
 use Rattle.model.specs.declared.Settings.{Settings}
 use Rattle.model.specs.declared.Access.TheVariants.{Read, Write}
 use Rattle.model.specs.declared.Command.TheVariants as cmd
-use Rattle.model.specs.declared.CommandRead.{CommandRead}
-use Rattle.model.specs.declared.CommandRead.TheVariants as command
-use Rattle.model.specs.declared.Stop.TheVariants.{Nothing}
 use Rattle.model.proofs.Soundness.{start-sound}
 use Rattle.model.proofs.RunSound.{record_keeps_sound, first_passes}
 use Rattle.encoding.proofs.Bridge.{call_is, after_encoded, events_encoded}
@@ -19,14 +18,14 @@ use Rattle.encoding.proofs.RunGoesOn.{kept_is}
 -- ---- one record
 
 module _ (S : Settings) (L : Lent) (t : Tables) (is : Encodes S L t) where
-  call-read : (c : CommandRead) → call_read S c L ≡ encoded S (step_read S c t)
-  call-read (command.Got (cmd.Read a k)) = call_is S L t is (access S (Read a 0 k))
-  call-read (command.Got (cmd.Write a m)) = call_is S L t is (access S (Write a m 0))
-  call-read (command.Got cmd.Send) = call_is S L t is send
-  call-read (command.Got (cmd.Fill a)) = call_is S L t is (fill a)
-  call-read (command.Got (cmd.Tick c)) = call_is S L t is (tick c)
-  call-read (command.Got (cmd.Settings g)) = refl
-  call-read command.None = refl
+  call-read : (c : Option Command) → call_read S c L ≡ encoded S (step_read S c t)
+  call-read (Some (cmd.Read a k)) = call_is S L t is (access S (Read a 0 k))
+  call-read (Some (cmd.Write a m)) = call_is S L t is (access S (Write a m 0))
+  call-read (Some cmd.Send) = call_is S L t is send
+  call-read (Some (cmd.Fill a)) = call_is S L t is (fill a)
+  call-read (Some (cmd.Tick c)) = call_is S L t is (tick c)
+  call-read (Some (cmd.Settings g)) = refl
+  call-read None = refl
 
 -- ---- the records of a stream
 
@@ -34,7 +33,7 @@ module _ (S : Settings) where
   pub calls_from_lem : (n room : ℕ) (s : List ℕ) (L : Lent) (t : Tables) → bytes s ≡ true → Encodes S L t
       → calls_from S n room s L ≡ lent_result S (run_from S n room s t)
   unfolding calls_from runner.run_from call_at runner.step_at
-  calls_from_lem n room [] L t h is = ap (halt Nothing) is.encoded
+  calls_from_lem n room [] L t h is = ap (halt None) is.encoded
   calls_from_lem (suc n) room (b ∷ bs) L t h is = calls_from_lem n room bs L t (and_2 (ltb b 256) (bytes bs) h) is
   calls_from_lem zero room (k ∷ bs) L t h is =
       let o = step_at S k bs t in

@@ -1,10 +1,11 @@
 -- What the rounds and the struck rounds leave to a caller from C: nothing without a slice of two numbers, else what the call showed.
-use Rattle.words.proofs.General.{ℕ, ◌≡◌, ◌∙◌, List, length, set, eq-eqb, ne_eqb}
+use Rattle.std.specs.Prelude.{Result}
+use Rattle.words.proofs.General.{ℕ, ◌≡◌, List, [], ◌∷◌, length, eq-eqb, ne_eqb}
 use Rattle.model.proofs.Terms.{Lent}
 use Rattle.model.specs.RecordsOf as records
 use Rattle.rounds.specs.Demand3.{RoundsShown, rounds_shown}
 use Rattle.rounds.specs.declared.Went.{Went}
-use Rattle.lending.proofs.Lending.{two_set}
+use Rattle.rounds.specs.declared.NotRun.{NotRun}
 use Rattle.exported.specs.Demand3.{went_number, rounds_run, bytes_written, ShownCalled, FlagsCalled}
 
 module _ (k : List ℕ) where
@@ -17,13 +18,13 @@ module _ (k : List ℕ) where
     unflagged gl fl = record { flags = rw (ne_eqb (length k) 2 h) }
 
   module _ (two : length k ≡ 2) where
-    pub called : (L : Lent) (e : List ℕ) {w : Went} {M : Lent} {f : List ℕ} {o : RoundsShown} → rounds_shown w M f ≡ o → {m n r : ℕ} → m ≡ rounds_run w → n ≡ bytes_written w
-        → r ≡ went_number w → ShownCalled o L e k r f (set (set k 0 m) 1 n) M
-    called L e s {m} {n} a b c =
+    pub called : (L : Lent) (e : List ℕ) {w : Result Went NotRun} {M : Lent} {f : List ℕ} {o : RoundsShown} → rounds_shown w M f ≡ o → {r : ℕ} {j : List ℕ}
+        → r ≡ went_number w → j ≡ rounds_run w ∷ bytes_written w ∷ [] → ShownCalled o L e k r f j M
+    called L e s a b =
         let q = eq-eqb (length k) 2 two in
         rw (← s) record {
-          says = rw q c;
-          counts = rw q (two_set k m n two ∙ rw (a, b));
+          says = rw q a;
+          counts = rw q b;
           events = rw q;
           reads = rw q;
           left = rw q;

@@ -1,29 +1,32 @@
 -- What the rounds and the struck rounds leave to a caller from C. The rounds run and the bytes written go to a slice of two numbers; with another
 -- length nothing is called, and 2 is returned.
-use Rattle.std.specs.Prelude.{◌≡◌, ℕ, List, [], ◌∷◌, length, eqb}
+use Rattle.std.specs.Prelude.{Result, Ok, Err, ◌≡◌, ℕ, List, [], ◌∷◌, length, eqb}
 use Rattle.words.specs.Words.{pick}
 use Rattle.model.specs.Numbers.{refusal_number}
 use Rattle.model.specs.Lent.{Lent}
 use Rattle.model.specs.Records.{parsed, events_in}
 use Rattle.rounds.specs.Demand3.{RoundsShown, written_in}
 use Rattle.rounds.specs.declared.Went.{Went}
-use Rattle.rounds.specs.declared.Went.TheVariants.{Ran, Refused, NoRoom}
+use Rattle.rounds.specs.declared.NotRun.{NotRun}
+use Rattle.rounds.specs.declared.NotRun.TheVariants.{Refused, NoRoom}
 
--- 0 for rounds that were run, 1 to 4, and 16 for too few flags or bytes
-abbrev pub went_number : Went → ℕ
-went_number (Ran k w) = 0
-went_number (Refused n) = refusal_number n
-went_number NoRoom = 16
+-- 1 to 4, and 16 for too few flags or bytes
+abbrev pub not_run_number : NotRun → ℕ
+not_run_number (Refused n) = refusal_number n
+not_run_number NoRoom = 16
 
-abbrev pub rounds_run : Went → ℕ
-rounds_run (Ran k w) = k
-rounds_run (Refused n) = 0
-rounds_run NoRoom = 0
+-- 0 for rounds that were run
+abbrev pub went_number : Result Went NotRun → ℕ
+went_number (Ok g) = 0
+went_number (Err e) = not_run_number e
 
-abbrev pub bytes_written : Went → ℕ
-bytes_written (Ran k w) = w
-bytes_written (Refused n) = 0
-bytes_written NoRoom = 0
+abbrev pub rounds_run : Result Went NotRun → ℕ
+rounds_run (Ok g) = g.rounds
+rounds_run (Err e) = 0
+
+abbrev pub bytes_written : Result Went NotRun → ℕ
+bytes_written (Ok g) = g.written
+bytes_written (Err e) = 0
 
 -- a call that shows o, on L with the event buffer e and the numbers k; the bytes written read back as what o told
 pub record ShownCalled (o : RoundsShown) (L : Lent) (e k : List ℕ) (r : ℕ) (f j : List ℕ) (M : Lent) : Type 0 where

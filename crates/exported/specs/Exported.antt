@@ -1,5 +1,6 @@
 -- What a call from C leaves: its return value, the event buffer and the slices.
-use Rattle.std.specs.Prelude.{◌≡◌, ℕ, Bool, ◌&&◌, List, [], ◌∷◌, ◌++◌, length, drop, leb, eqb}
+use Rattle.std.specs.Prelude.{◌≡◌, ℕ, Bool, ◌&&◌, List, [], ◌∷◌, ◌++◌, length, drop, leb, eqb, Result, Ok, Err}
+use Rattle.model.specs.declared.Refusal.{Refusal}
 use Rattle.words.specs.Words.{pick}
 use Rattle.model.specs.Numbers.{refusal_number}
 use Rattle.model.specs.Range.{in_range}
@@ -10,20 +11,15 @@ use Rattle.model.specs.Inner.{SoundSlices}
 use Rattle.model.specs.declared.Settings.{Settings}
 use Rattle.model.specs.declared.Access.{Access}
 use Rattle.model.specs.declared.Access.TheVariants.{Read, Write}
-use Rattle.model.specs.declared.Verdict.{Verdict}
-use Rattle.model.specs.declared.Verdict.TheVariants.{Passed, Refused}
 use Rattle.model.specs.Runner.{event_room}
-use Rattle.rounds.specs.Waiting.{Wait, wait_room}
-use Rattle.rounds.specs.declared.Waiting.{Waiting}
-use Rattle.rounds.specs.declared.Waiting.TheVariants.{Accepted, NoRoom}
-use Rattle.rounds.specs.declared.Waiting.TheVariants as waiting
+use Rattle.rounds.specs.Waiting.{Waiting, Wait, wait_room}
 
 -- ---- results and arguments
 
 -- 0 where nothing is refused
-abbrev pub verdict_number : Verdict → ℕ
-verdict_number Passed = 0
-verdict_number (Refused n) = refusal_number n
+abbrev pub verdict_number : Result (Unit {0}) Refusal → ℕ
+verdict_number (Ok tt) = 0
+verdict_number (Err n) = refusal_number n
 
 -- a length that the settings fix; 0 for settings out of range
 abbrev pub length_for : Settings → ℕ → ℕ
@@ -47,10 +43,8 @@ pub record Stepped (S : Settings) (o : Outcome Lent) (L : Lent) (e : List ℕ) (
 -- ---- wait: the accepting round goes to a slice of one number
 
 abbrev pub round_number : Waiting → ℕ
-round_number (Accepted n e) = n
-round_number waiting.Held = 0
-round_number (waiting.Refused n) = 0
-round_number NoRoom = 0
+round_number (Ok a) = a.round
+round_number (Err e) = 0
 
 -- with another length, or less event room than any wait can need, nothing is called
 abbrev pub may_wait : List ℕ → List ℕ → Bool

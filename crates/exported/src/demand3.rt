@@ -1,49 +1,43 @@
 // The rounds of demand 3 and the struck rounds as C sees them (include/labintugmo.h). How many were run and the bytes of their events go to a
 // slice of two numbers.
-ghost use Rattle.std.specs.Prelude.{◌≡◌};
+ghost use Rattle.std.specs.Prelude.{◌≡◌, [], ◌∷◌, length};
 ghost use Rattle.model.specs.Lent.{lent};
 ghost use Rattle.rounds.specs.Demand3.{rounds_call, flags_call, struck_call};
 ghost use Rattle.lending.specs.Lending.{settings_from};
 ghost use Rattle.exported.specs.Exported.{access_for};
-ghost use Rattle.exported.specs.Demand3.{went_number, rounds_run, bytes_written, ShownCalled, FlagsCalled};
+ghost use Rattle.exported.specs.Demand3.{not_run_number, went_number, rounds_run, bytes_written, ShownCalled, FlagsCalled};
 
 use crate::access_for;
 use lending::settings_from;
-use rounds::Went;
+use rounds::{NotRun, Went};
 
-// 0, or the refusal's number, or 16 where flags or bytes are too few.
-fn went_number(w: Went) -> u32
-    ensures { result ≡ went_number w }
+// Why no round ran, as C gets it: the refusal's number, or 16 where flags or bytes are too few.
+fn not_run_number(why: NotRun) -> u32
+    ensures { result ≡ not_run_number why }
 {
-    match w {
-        Went::Ran {
-            rounds: _,
-            written: _,
-        } => 0,
-        Went::Refused(n) => values::refusal_number(n) as u32,
-        Went::NoRoom => 16,
+    match why {
+        NotRun::Refused(n) => u8::from(n) as u32,
+        NotRun::NoRoom => 16,
     }
 }
 
-// How many rounds ran.
-fn rounds_run(w: Went) -> u64
-    ensures { result ≡ rounds_run w }
+// How many rounds ran and the bytes of their events go to the counts; 0, or why none ran.
+fn note_went(went: Result<Went, NotRun>, counts: &mut [u64]) -> u32
+    requires { length counts.old ≡ 2 }
+    ensures number { result ≡ went_number went }
+    ensures counts { counts.new ≡ rounds_run went ∷ bytes_written went ∷ [] }
 {
-    match w {
-        Went::Ran { rounds, written: _ } => rounds as u64,
-        Went::Refused(_) => 0,
-        Went::NoRoom => 0,
-    }
-}
-
-// How many bytes of events the rounds wrote.
-fn bytes_written(w: Went) -> u64
-    ensures { result ≡ bytes_written w }
-{
-    match w {
-        Went::Ran { rounds: _, written } => written as u64,
-        Went::Refused(_) => 0,
-        Went::NoRoom => 0,
+    match went {
+        Ok(ran) => {
+            counts[0] = ran.rounds as u64;
+            counts[1] = ran.written as u64;
+            0
+        }
+        Err(why) => {
+            counts[0] = 0;
+            counts[1] = 0;
+            not_run_number(why)
+        }
     }
 }
 
@@ -73,9 +67,7 @@ pub fn labintugmo_rounds(
     let s = settings_from(settings);
     let x = access_for(is_write, address, mask, ticket);
     let went = rounds::run_rounds(s, longs, words, marks, x, n, flags, events);
-    counts[0] = rounds_run(went);
-    counts[1] = bytes_written(went);
-    went_number(went)
+    note_went(went, counts)
 }
 
 // `rounds::run_struck` for C, from the flags that the rounds left.
@@ -101,7 +93,5 @@ pub fn labintugmo_struck(
     let s = settings_from(settings);
     let x = access_for(is_write, address, mask, ticket);
     let went = rounds::run_struck(s, longs, words, marks, x, flags, events);
-    counts[0] = rounds_run(went);
-    counts[1] = bytes_written(went);
-    went_number(went)
+    note_went(went, counts)
 }

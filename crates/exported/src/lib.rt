@@ -1,12 +1,14 @@
 // The calls as C sees them (include/labintugmo.h): numbers and slices alone, a slice as a pointer and a length. A call writes its event
 // records at the start of the caller's buffer and returns how many bytes they are. `demand3` has the rounds of demand 3, `unchecked` the
 // steps behind the calls' checks. The stream runner is in `exported_runner`. The static library `exported_c` exports each function here.
+// What a call returns is a number, as the header of C says it: 0 and refusal numbers for verdicts, 0 for no bytes, no length and no round.
 #![tactic(auto)]
 
 pub mod demand3;
 pub mod unchecked;
 
-ghost use Rattle.std.specs.Prelude.{◌≡◌, [], ◌∷◌, length, get_or};
+ghost use Rattle.std.specs.Prelude.{◌≡◌, true, false, [], ◌∷◌, length, get_or};
+ghost use Rattle.model.specs.Range.{in_range};
 ghost use Rattle.model.specs.Layout.{longs_length, words_length, marks_length};
 ghost use Rattle.model.specs.Tables.{after};
 ghost use Rattle.model.specs.Lent.{lent};
@@ -21,17 +23,17 @@ ghost use Rattle.exported.specs.Exported.{verdict_number, length_for, access_for
 
 use cache::Call;
 use lending::settings_from;
-use model::{Access, Verdict};
+use model::{Access, Refusal, Settings};
 use records::{EVENT_ROOM, WAIT_ROOM};
-use rounds::Waiting;
+use rounds::{Accepted, NotAccepted};
 
 // A verdict as its number: 0 where nothing is refused.
-fn verdict_number(v: Verdict) -> u32
+fn verdict_number(v: Result<(), Refusal>) -> u32
     ensures { result ≡ verdict_number v }
 {
     match v {
-        Verdict::Passed => 0,
-        Verdict::Refused(n) => values::refusal_number(n) as u32,
+        Ok(()) => 0,
+        Err(n) => u8::from(n) as u32,
     }
 }
 
@@ -53,37 +55,35 @@ fn access_for(is_write: u32, address: u64, mask: u32, ticket: u32) -> Access
     }
 }
 
+// A length that the settings fix; 0 for settings out of range.
+fn length_of<F: FnOnce(Settings) -> usize>(settings: &[u32], length: F) -> usize
+    requires { in_range (settings_from settings.now) ≡ true → F.pre length (settings_from settings.now) }
+    ensures in_range { in_range (settings_from settings.now) ≡ true → F.post length (settings_from settings.now) result }
+    ensures out_of_range { in_range (settings_from settings.now) ≡ false → result ≡ 0 }
+{
+    let s = settings_from(settings);
+    if layout::in_range(s) { length(s) } else { 0 }
+}
+
 // How long `longs` must be; 0 for settings out of range.
 pub fn labintugmo_longs_length(settings: &[u32]) -> usize
     ensures { result ≡ length_for (settings_from settings.now) (longs_length (settings_from settings.now)) }
 {
-    let s = settings_from(settings);
-    if layout::in_range(s) {
-        return layout::longs_length(s);
-    }
-    0
+    length_of(settings, |s| layout::longs_length(s))
 }
 
 // How long `words` must be; 0 for settings out of range.
 pub fn labintugmo_words_length(settings: &[u32]) -> usize
     ensures { result ≡ length_for (settings_from settings.now) (words_length (settings_from settings.now)) }
 {
-    let s = settings_from(settings);
-    if layout::in_range(s) {
-        return layout::words_length(s);
-    }
-    0
+    length_of(settings, |s| layout::words_length(s))
 }
 
 // How long `marks` must be; 0 for settings out of range.
 pub fn labintugmo_marks_length(settings: &[u32]) -> usize
     ensures { result ≡ length_for (settings_from settings.now) (marks_length (settings_from settings.now)) }
 {
-    let s = settings_from(settings);
-    if layout::in_range(s) {
-        return layout::marks_length(s);
-    }
-    0
+    length_of(settings, |s| layout::marks_length(s))
 }
 
 // Makes the tables fresh: 0, or refusal 1 or 2.
@@ -131,7 +131,7 @@ fn made(
     words_fit(words);
     let s = settings_from(settings);
     let reply = cache::perform(s, longs, words, marks, k);
-    records::write_reply(reply, events, 0)
+    records::encode(reply, events, 0)
 }
 
 // A read; its events are written, and how many bytes they are is returned.
@@ -240,14 +240,12 @@ pub fn labintugmo_access(
 }
 
 // The accepting round; 0 where there is none.
-fn round_number(w: Waiting) -> u64
-    ensures { result ≡ round_number w }
+fn round_number(waiting: Result<Accepted, NotAccepted>) -> u64
+    ensures { result ≡ round_number waiting }
 {
-    match w {
-        Waiting::Accepted { round, answer: _ } => round as u64,
-        Waiting::Held => 0,
-        Waiting::Refused(_) => 0,
-        Waiting::NoRoom => 0,
+    match waiting {
+        Ok(accepted) => accepted.round as u64,
+        Err(_) => 0,
     }
 }
 
@@ -276,7 +274,6 @@ pub fn labintugmo_wait(
     let s = settings_from(settings);
     let x = access_for(is_write, address, mask, ticket);
     let waited = rounds::wait(s, longs, words, marks, x, events);
-    let waiting = waited.waiting;
-    round[0] = round_number(waiting);
+    round[0] = round_number(waited.waiting);
     waited.written
 }

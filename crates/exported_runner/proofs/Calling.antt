@@ -1,10 +1,10 @@
 -- What a run called from C leaves: nothing without a slice of two numbers, else what the run left, and its counts.
 use Rattle.words.proofs.General.{ℕ, ◌≡◌, ap, ◌∙◌, List, [], ◌∷◌, length, eq-eqb, ne_eqb}
-use Rattle.model.proofs.Terms.{stop_number, Lent, Result, Runs}
+use Rattle.model.proofs.Terms.{stop_number, Lent, RunResult, Runs}
 use Rattle.model.specs.declared.Ran.{Ran}
 use Rattle.exported_runner.specs.Called.{RunCalled}
 
-module _ (o : Result Lent) (L : Lent) (e k : List ℕ) where
+module _ (o : RunResult Lent) (L : Lent) (e k : List ℕ) where
   pub run-no_counts : (length k ≡ 2 → ⊥) → RunCalled o L e k 2 e k L
   run-no_counts h = let q = ne_eqb (length k) 2 h in record { stop = rw q; events = rw q; counts = rw q; left = rw q }
 

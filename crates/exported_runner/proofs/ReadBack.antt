@@ -1,7 +1,7 @@
 -- What an exported run writes reads back: the records in the bytes written are the events of the definition, in order. Of any bytes; of a part
 -- that goes on, on slices of 32-bit words.
 use Rattle.words.proofs.General.{ℕ, ◌≡◌, refl, ap, ◌∙◌, true, List, [], ◌∷◌, length, take, get_or, eq-eqb}
-use Rattle.model.proofs.Terms.{Lent, events_in, parsed, Result, run, resume, Runs}
+use Rattle.model.proofs.Terms.{Lent, events_in, parsed, RunResult, run, resume, Runs}
 use Rattle.model.specs.declared.Settings.{Settings}
 use Rattle.model.specs.declared.Ran.{Ran}
 use Rattle.model.proofs.RunSound.{bytes}
@@ -11,7 +11,7 @@ use Rattle.runner.proofs.ReadBack.{run_reads_back, resume_reads_back}
 use Rattle.exported_runner.specs.Called.{RunCalled}
 
 -- of the two counts the second is the bytes written
-module _ (o : Result Lent) {L : Lent} {e k : List ℕ} {r : ℕ} {f j : List ℕ} {M : Lent} (two : length k ≡ 2) (c : RunCalled o L e k r f j M) where
+module _ (o : RunResult Lent) {L : Lent} {e k : List ℕ} {r : ℕ} {f j : List ℕ} {M : Lent} (two : length k ≡ 2) (c : RunCalled o L e k r f j M) where
   abbrev ran : Ran
   ran = record { stop = o.stop; consumed = o.consumed; written = length o.events }
 

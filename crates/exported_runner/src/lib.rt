@@ -12,14 +12,14 @@ ghost use Rattle.exported_runner.specs.Called.{RunCalled};
 use model::Ran;
 
 // The bytes consumed and written go to the counts; the stop's number.
+// The stop is a number, as the header of C says it.
 fn note_run(ran: Ran, counts: &mut [u64]) -> u32
     requires { length counts.old ≡ 2 }
     ensures { (result ≡ stop_number ran.stop) × (counts.new ≡ ran.consumed ∷ ran.written ∷ []) }
 {
     counts[0] = ran.consumed as u64;
     counts[1] = ran.written as u64;
-    let stop = ran.stop;
-    values::stop_number(stop) as u32
+    values::stop_number(ran.stop) as u32
 }
 
 // `runner::run` for C: the stop number; `counts` takes bytes consumed and written.

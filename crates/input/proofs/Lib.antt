@@ -1,3 +1,2 @@
--- Laws that the proofs of this crate's functions cite.
-pub mod Moves
+-- Laws that the proofs of other crates cite.
 pub mod Counts

@@ -1,38 +1,30 @@
 -- A buffer with more bytes behind those that it has, and one whose unused bytes went to its front.
-use Rattle.std.specs.Prelude.{ℕ, ◌+◌, ◌-◌, ◌<◌, ◌≤◌, Bool, true, false, ◌&&◌, ◌≡◌, List, ◌++◌, length, take, drop, leb}
+use Rattle.std.specs.Prelude.{ℕ, ◌+◌, ◌-◌, ◌<◌, ◌≤◌, Bool, true, false, ◌&&◌, ◌≡◌, Result, Ok, Err, List, ◌++◌, length, take, drop, leb}
 use Rattle.words.specs.Words.{pick}
-use Rattle.input.specs.declared.Filled.{Filled}
-use Rattle.input.specs.declared.Filled.TheVariants as filled
-use Rattle.input.specs.declared.More.{More}
-use Rattle.input.specs.declared.More.TheVariants as more
+use Rattle.input.specs.declared.NoMore.{NoMore}
+use Rattle.input.specs.declared.NoMore.TheVariants as no
+use Rattle.input.specs.declared.Waiting.{Waiting}
 
 -- what is read is the system's to say: how far the bytes now go, within the buffer; or that they end, behind those that it has
-abbrev pub Reaches : ℕ → ℕ → Filled → Type 0
-Reaches have size (filled.To n) = (have < n) × (n ≤ size)
-Reaches have size (filled.End e) = e.behind ≡ have
-Reaches have size filled.Full = size ≤ have
-Reaches have size filled.Failed = Unit
+abbrev pub Reaches : ℕ → ℕ → Result ℕ NoMore → Type 0
+Reaches have size (Ok n) = (have < n) × (n ≤ size)
+Reaches have size (Err (no.End e)) = e.behind ≡ have
+Reaches have size (Err no.Full) = size ≤ have
+Reaches have size (Err (no.Failed why)) = Unit
 
 -- r is what reading into l behind its first `have` bytes came to, and l₁ the buffer then: those bytes stand as before
-pub record Read (l : List ℕ) (have : ℕ) (r : Filled) (l₁ : List ℕ) : Type 0 where
+pub record Read (l : List ℕ) (have : ℕ) (r : Result ℕ NoMore) (l₁ : List ℕ) : Type 0 where
   pub reaches : Reaches have (length l) r
   pub before : take have l₁ ≡ take have l
 
--- n bytes stand there where `have` did before: so many fewer may still come, or there were more than might
-abbrev pub FewerToCome : ℕ → ℕ → ℕ → More → Type 0
-FewerToCome have n left (more.To m k) = (m ≡ n) × (n + k ≡ have + left)
-FewerToCome have n left (more.End e) = ⊥
-FewerToCome have n left more.Full = ⊥
-FewerToCome have n left more.Failed = Unit
-
 -- the bytes now go further, and those that may still come are fewer by as many; or they end there
-abbrev pub Grows : ℕ → ℕ → ℕ → More → Type 0
-Grows have left size (more.To n k) = (have < n) × (n ≤ size) × (n + k ≡ have + left)
-Grows have left size (more.End e) = e.behind ≡ have
-Grows have left size more.Full = size ≤ have
-Grows have left size more.Failed = Unit
+abbrev pub Grows : ℕ → ℕ → ℕ → Result Waiting NoMore → Type 0
+Grows have left size (Ok w) = (have < w.have) × (w.have ≤ size) × (w.have + w.left ≡ have + left)
+Grows have left size (Err (no.End e)) = e.behind ≡ have
+Grows have left size (Err no.Full) = size ≤ have
+Grows have left size (Err (no.Failed why)) = Unit
 
-pub record Grown (l : List ℕ) (have left : ℕ) (r : More) (l₁ : List ℕ) : Type 0 where
+pub record Grown (l : List ℕ) (have left : ℕ) (r : Result Waiting NoMore) (l₁ : List ℕ) : Type 0 where
   pub grows : Grows have left (length l) r
   pub before : take have l₁ ≡ take have l
 

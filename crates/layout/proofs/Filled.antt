@@ -1,7 +1,9 @@
 -- A region filled with one number, turn by turn; slices so filled are the encoding of fresh tables.
-use Rattle.words.proofs.General.{ℕ, zero, suc, ◌+◌, ◌*◌, ◌≤◌, ◌<◌, mul-zero, mul-suc, zero-add, arith, ◌≡◌, refl, sym, ap, ◌∙◌, List, [], ◌++◌, append-nil, ◌∷◌, length, set}
+use Rattle.words.proofs.General.{ℕ, zero, suc, ◌+◌, ◌-◌, ◌*◌, ◌≤◌, ◌<◌, mul-zero, mul-suc, arith, ◌≡◌, refl, sym, ap, ◌∙◌, List, [], ◌++◌, append-nil, ◌∷◌, length, take, drop, set}
 use Rattle.words.proofs.General.{replicate, length-replicate, get_or-replicate, replicate-append-replicate, pad_to, packed, joined, put, Pasting, pasting_start, pasting_turn}
 use Rattle.words.proofs.General.{pasting_done, pad_to-zeros, put_whole, put-past, put-within}
+use borrow.Rule.Slice.PartMut.{put_mid}
+use Rattle.layout.proofs.Parts.{part_filled}
 use Rattle.model.specs.declared.Settings.{Settings}
 use Rattle.model.proofs.Terms.{lines_of, fresh, start, longs_length, words_length, marks_length, lent, tag_of, cycle_of, taken_of, tree_of, masks_of, statuses_of, readables_of, miss_of}
 use Rattle.model.proofs.Terms.{sent_of, ticket_count_of, tickets_in, queued_of, kind_of, queue_masks_of, long_blocks, word_blocks, mark_blocks, encode, Sized, told}
@@ -22,15 +24,6 @@ module _ (l : List ℕ) (at n v : ℕ) (room : at + n ≤ length l) where
 
   pub filling_done : (s : List ℕ) (i : ℕ) → i ≡ n → Filling l at n v s i → s ≡ put l at (replicate n v)
   filling_done s i e f = pasting_done l at (replicate n v) s i (length-replicate n v ∙ sym e) f
-
--- the whole list
-module _ (l : List ℕ) (v : ℕ) (s : List ℕ) (i : ℕ) where
-  pub filling_next : i < length l → Filling l 0 (length l) v s i → Filling l 0 (length l) v (set s i v) (i + 1)
-  filling_next h f = rw zero-add at (filling_turn l 0 (length l) v (omega arith) s i h f)
-
-  pub filling_whole : i ≡ length l → Filling l 0 (length l) v s i → s ≡ replicate (length l) v
-  filling_whole e f =
-      filling_done l 0 (length l) v (omega arith) s i e f ∙ put_whole l (replicate (length l) v) (length-replicate (length l) v)
 
 -- ---- the blocks of fresh tables
 
@@ -96,14 +89,18 @@ module _ (S : Settings) where
       (sym (ap (λ (j : ℕ). put (zeros j) (4 * n) (replicate (4 * n) 1)) k ∙ put_between (4 * n) m 1))
 
 -- what `make_fresh` leaves
-pub fresh-filled : (S : Settings) (longs words marks : List ℕ) {l w z m : List ℕ} → Sized S longs words marks
-    → l ≡ zeros (length longs) → w ≡ zeros (length words) → z ≡ put marks 0 (zeros (length marks))
-    → m ≡ put z (4 * lines_of S) (replicate (4 * lines_of S) 1) → lent l w m ≡ encode S (start S)
+pub fresh-filled : (S : Settings) (longs words marks : List ℕ) {l w z r : List ℕ} → Sized S longs words marks
+    → l ≡ zeros (length longs) → w ≡ zeros (length words) → z ≡ zeros (length marks)
+    → r ≡ replicate (length (take (2 * (4 * lines_of S) - 4 * lines_of S) (drop (4 * lines_of S) z))) 1
+    → lent l w (put_mid (4 * lines_of S) (2 * (4 * lines_of S) - 4 * lines_of S) z r) ≡ encode S (start S)
 unfolding encode
-fresh-filled S longs words marks {l} {w} {z} {m} f a b c d =
-    let whole : put marks 0 (zeros (length marks)) ≡ zeros (length marks) = put_whole marks (zeros (length marks)) (length-replicate (length marks) 0) in
+fresh-filled S longs words marks {l} {w} {z} {r} f a b c d =
+    let as_long : 2 * (4 * lines_of S) - 4 * lines_of S ≡ 4 * lines_of S = omega arith in
     let e : l ≡ joined (long_blocks S (start S)) = a ∙ as_many 0 f.longs_long ∙ sym (fresh_longs S) in
     let g : w ≡ joined (word_blocks S (start S)) = b ∙ as_many 0 (told f.words_long) ∙ sym (fresh-words S) in
-    let y : z ≡ zeros (marks_length S) = c ∙ whole ∙ as_many 0 f.marks_long in
-    let h : m ≡ joined (mark_blocks S (start S)) = d ∙ ap (λ (x : List ℕ). put x (4 * lines_of S) (replicate (4 * lines_of S) 1)) y ∙ sym (fresh_marks S) in
+    let y : z ≡ zeros (marks_length S) = c ∙ as_many 0 f.marks_long in
+    let long : length z ≡ marks_length S = ap length y ∙ length-replicate (marks_length S) 0 in
+    let h : put_mid (4 * lines_of S) (2 * (4 * lines_of S) - 4 * lines_of S) z r ≡ joined (mark_blocks S (start S)) =
+    part_filled z (4 * lines_of S) (2 * (4 * lines_of S) - 4 * lines_of S) 1 (omega arith) d
+    ∙ rw as_long (ap (λ (x : List ℕ). put x (4 * lines_of S) (replicate (4 * lines_of S) 1)) y) ∙ sym (fresh_marks S) in
     rw (e, g, h)

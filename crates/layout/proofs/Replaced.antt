@@ -1,7 +1,9 @@
 -- Four sectors stored back over those that stand there: all but one place, each where it differs; then that one.
-use Rattle.words.proofs.General.{ℕ, ◌+◌, ◌-◌, ◌*◌, ◌≤◌, ◌<◌, add-zero, arith, ◌≡◌, refl, sym, ap, ◌∙◌, ⊎_elim, Bool, true, false, not, ◌&&◌, List, map, length, get_or, set}
-use Rattle.words.proofs.General.{length-set, length-map, length-paste, get_or-set_same, get_or-set_other, set-get_or, set-set, eqb, eqb-true, eqb-false, pick, put, no-not, clash, flag}
+use Rattle.words.proofs.General.{ℕ, ◌+◌, ◌-◌, ◌*◌, ◌≤◌, ◌<◌, arith, ◌≡◌, refl, sym, ap, ◌∙◌, List, map, length, get_or, set}
+use Rattle.words.proofs.General.{length-set, length-map, length-paste, set-set, eqb, put}
 use Rattle.words.proofs.General.{map-set, put_paste, get_or_paste_past, put-set-inside, put-set-before}
+use Rattle.words.proofs.General.{sets, sets_put}
+use Rattle.std.proofs.lemmas.List.{get_or_default}
 use Rattle.model.proofs.Terms.{status_number, bit, sectors_at}
 use Rattle.model.specs.declared.Settings.{Settings}
 use Rattle.model.specs.declared.Sector.{Sector}
@@ -9,60 +11,15 @@ use Rattle.encoding.proofs.DecodeIsSound.{number_back, mark_back, sector_numbers
 use Rattle.layout.specs.declared.Layout.{Layout}
 use Rattle.layout.specs.Layout.{LaysOut}
 use Rattle.layout.specs.Sectors.{LineRoom, Plain, Column, Stand, StoredBack, OthersStored, but_one}
-use Rattle.layout.proofs.Stores.{four_put}
 use Rattle.layout.proofs.ByPlace.{read_from}
 
--- ---- a number that is written only where it differs, and not at the place of the sector that changes
+-- ---- a column of which one number is kept: stored one by one, put as one; four numbers that stand are that past any default
 
-pub number_written : (l : List ℕ) (i : ℕ) (other : Bool) (was is : ℕ) → (other && not (eqb was is)) ≡ true → set l i is ≡ set l i (pick other is was)
-number_written l i true was is h = refl
-number_written l i false was is h = clash h refl
+pub kept_put : (l : List ℕ) (w k : ℕ) {was is was' is' : List ℕ} {s : List ℕ} → was' ≡ was → is' ≡ is → length is ≡ 4 → w + 4 ≤ length l → s ≡ sets l w (set is' k (get_or was' k 0)) → s ≡ put l w (but_one k was is)
+kept_put l w k {was} {is} a b n h e = rw (a, b) at e ∙ sets_put l w (but_one k was is) (omega (arith, length-set is k (get_or was k 0)))
 
-pub number_stays : (l : List ℕ) (i : ℕ) (other : Bool) (was is : ℕ) → get_or l i 0 ≡ was → (other && not (eqb was is)) ≡ false → l ≡ set l i (pick other is was)
-number_stays l i false was is e h = sym (set-get_or l i 0) ∙ ap (set l i) e
-number_stays l i true was is e h = sym (set-get_or l i 0) ∙ ap (set l i) (e ∙ eqb-true was is (no-not h))
-
--- ---- four numbers, one after the other
-
-module _ (l : List ℕ) (w k : ℕ) (was is : List ℕ) (long : w + 4 ≤ length l) (n : length is ≡ 4) where
-  -- what number i becomes
-  abbrev number : ℕ → ℕ
-  number i = pick (not (eqb k i)) (get_or is i 0) (get_or was i 0)
-
-  left : (i : ℕ) → i < 4 → get_or (but_one k was is) i 0 ≡ number i
-  left i h =
-      ⊎_elim (λ (e : eqb k i ≡ true). rw (e, eqb-true k i e) (get_or-set_same is i (get_or was i 0) 0 (omega arith)))
-      (λ (e : eqb k i ≡ false). rw e (get_or-set_other is k i (get_or was k 0) 0 (λ p. eqb-false k i e (sym p)))) (flag (eqb k i))
-
-  -- a number behind the one that is stored stays
-  past : (s : List ℕ) (i v j : ℕ) {s' : List ℕ} {n : ℕ} → s' ≡ set s i v → i < j → (j < length s) × (get_or s j 0 ≡ n) → (j < length s') × (get_or s' j 0 ≡ n)
-  past s i v j e h a = rw e (rw length-set a.0, get_or-set_other s i j v 0 (λ q. omega arith) ∙ a.1)
-
-  module _ (c : Column l w was) where
-    stood : (j : ℕ) → j < 4 → (w + j < length l) × (get_or l (w + j) 0 ≡ get_or was j 0)
-    stood j h = (omega arith, c j h)
-
-    pub first-asks : (w < length l) × (get_or l w 0 ≡ get_or was 0 0)
-    first-asks = rw add-zero at (stood 0 (omega arith))
-
-    module _ {l₁ : List ℕ} (e₁ : l₁ ≡ set l w (number 0)) where
-      pub second-asks : (w + 1 < length l₁) × (get_or l₁ (w + 1) 0 ≡ get_or was 1 0)
-      second-asks = past l w (number 0) (w + 1) e₁ (omega arith) (stood 1 (omega arith))
-
-      module _ {l₂ : List ℕ} (e₂ : l₂ ≡ set l₁ (w + 1) (number 1)) where
-        pub third-asks : (w + 2 < length l₂) × (get_or l₂ (w + 2) 0 ≡ get_or was 2 0)
-        third-asks = past l₁ (w + 1) (number 1) (w + 2) e₂ (omega arith) (past l w (number 0) (w + 2) e₁ (omega arith) (stood 2 (omega arith)))
-
-        module _ {l₃ : List ℕ} (e₃ : l₃ ≡ set l₂ (w + 2) (number 2)) where
-          pub fourth-asks : (w + 3 < length l₃) × (get_or l₃ (w + 3) 0 ≡ get_or was 3 0)
-          fourth-asks =
-              past l₂ (w + 2) (number 2) (w + 3) e₃ (omega arith)
-              (past l₁ (w + 1) (number 1) (w + 3) e₂ (omega arith) (past l w (number 0) (w + 3) e₁ (omega arith) (stood 3 (omega arith))))
-
-          pub four-kept : {l₄ : List ℕ} → l₄ ≡ set l₃ (w + 3) (number 3) → l₄ ≡ put l w (but_one k was is)
-          four-kept e₄ =
-              rw (e₄, e₃, e₂, e₁, ← left 0 (omega arith), ← left 1 (omega arith), ← left 2 (omega arith), ← left 3 (omega arith))
-              (four_put l w (but_one k was is) long (length-set is k (get_or was k 0) ∙ n))
+pub column_any : (l : List ℕ) (w : ℕ) (ns : List ℕ) → length ns ≡ 4 → w + 4 ≤ length l → Column l w ns → (j d : ℕ) → j < 4 → get_or l (w + j) d ≡ get_or ns j d
+column_any l w ns n h c j d k = get_or_default l (w + j) d 0 (omega arith) ∙ c j k ∙ sym (get_or_default ns j d 0 (omega arith))
 
 -- behind four numbers that are put stands what stood there
 pub column_past : (l : List ℕ) (q : ℕ) (ys : List ℕ) (r : ℕ) (ns : List ℕ) → length ys ≡ 4 → q + 4 ≤ r → q + 4 ≤ length l → Column l r ns → Column (put l q ys) r ns

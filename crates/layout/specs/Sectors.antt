@@ -6,14 +6,13 @@ use Rattle.model.specs.Tables.{is_modified}
 use Rattle.model.specs.Numbers.{status_number}
 use Rattle.model.specs.Range.{lines_of}
 use Rattle.model.specs.Lent.{bit}
-use Rattle.model.specs.declared.Settings.{Settings}
 use Rattle.model.specs.declared.Sector.{Sector}
 use Rattle.layout.specs.declared.Layout.{Layout}
-use Rattle.layout.specs.Layout.{LaysOut}
+use Rattle.layout.specs.declared.geometry.Geometry.{Geometry}
 
 -- the slices have room for the sectors of all lines
-abbrev pub SectorRoom : Settings → Layout → List ℕ → List ℕ → Type 0
-SectorRoom S at words marks = LaysOut S at × (at.masks + 4 * lines_of S ≤ length words) × (at.readables + 4 * lines_of S ≤ length marks)
+abbrev pub SectorRoom : Geometry → List ℕ → List ℕ → Type 0
+SectorRoom g words marks = (g.at.masks + 4 * lines_of g.settings ≤ length words) × (g.at.readables + 4 * lines_of g.settings ≤ length marks)
 
 -- the three columns of sectors
 abbrev pub statuses : List Sector → List ℕ

@@ -1,9 +1,11 @@
-// How settings shape the lent slices, below every check and step on them: here where each part begins; `ranges` refusals 1 and 2,
+// How settings shape the lent slices, below every check and step on them: here where each part begins; `geometry`
+// what always goes together; `ranges` refusals 1 and 2,
 // `places` which places of a table are in use, `sectors` a line's four sectors lifted and stored, `dirty` the count of dirty lines, `fresh` fresh tables.
 #![tactic(auto)]
 
 mod dirty;
 mod fresh;
+mod geometry;
 mod places;
 mod ranges;
 mod sectors;
@@ -14,11 +16,10 @@ ghost use Rattle.layout.specs.Layout.{LaysOut};
 
 pub use dirty::{recount, some_modified};
 pub use fresh::make_fresh;
+pub use geometry::{Geometry, Slices};
 use model::Settings;
 pub use places::{find_mark, gathered, used};
-pub use ranges::{
-    in_range, lengths_fit, longs_length, marks_length, power_to_16, power_to_256, words_length,
-};
+pub use ranges::{in_range, lengths_fit, longs_length, marks_length, power_to, words_length};
 pub use sectors::{lift, replace, sector_at, store, with_sector};
 
 // Where each part of the tables begins, behind the part before it.

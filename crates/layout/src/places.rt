@@ -3,19 +3,15 @@ ghost use Rattle.std.specs.Prelude.{◌≡◌, ◌+◌, ◌≤◌, length, get_o
 ghost use Rattle.model.specs.SoundLent as is;
 ghost use Rattle.layout.specs.Places.{First};
 
-// The first of `n` bytes from `at` that is `mark`, or `n`.
+// The first of `n` bytes from `at` that is `mark`, or `n`: no Option, since `n` is then how many places are in use (`First`).
 pub fn find_mark(marks: &[u8], at: usize, n: usize, mark: u8) -> usize
     requires { at + n ≤ length marks.now }
     ensures { First marks.now at n mark result }
 {
-    let mut i = 0;
-    while i < n {
-        if marks[at + i] == mark {
-            return i;
-        }
-        i += 1;
-    }
-    i
+    marks[at..at + n]
+        .iter()
+        .position(|x| *x == mark)
+        .unwrap_or(n)
 }
 
 // The first of `n` bytes from `at` that is 0, or `n`: how many places of a table are in use, where those stand first.
@@ -31,13 +27,5 @@ pub fn gathered(marks: &[u8], at: usize, n: usize) -> bool
     requires { (1 ≤ n) × (at + n ≤ length marks.now) }
     ensures { result ≡ is.gathered n (λ i. get_or marks.now (at + i) 0) }
 {
-    let last = n - 1;
-    let mut i = 0;
-    while i < last {
-        if (marks[at + i] == 0) & (marks[at + (i + 1)] != 0) {
-            return false;
-        }
-        i += 1;
-    }
-    true
+    (0..n - 1).all(|i| (marks[at + i] != 0) | (marks[at + (i + 1)] == 0))
 }

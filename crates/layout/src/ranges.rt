@@ -1,47 +1,32 @@
 // Refusals 1 and 2 (document 01): the settings in range, and the lengths that they fix for the three slices. `&` and `|` between
 // tests look at both sides.
 ghost use Rattle.std.specs.Prelude.{◌≡◌, true};
-ghost use Rattle.model.specs.Range.{power_to256, rule_fine, in_range};
-ghost use Rattle.model.specs.Tree.{power_to16};
+ghost use Rattle.model.specs.Range.{rule_fine, in_range};
 ghost use Rattle.model.specs.Layout.{longs_length, words_length, marks_length};
 ghost use Rattle.model.specs.Lent.{lent, lengths_fit};
+ghost use Rattle.layout.specs.Powers.{power_to};
 
 use model::Settings;
 
-// "Power of two, 1 to 256".
-pub fn power_to_256(n: usize) -> bool
-    ensures { result ≡ power_to256 n }
+// Whether `n` is a power of two from 1 to `most`.
+pub fn power_to(n: usize, most: usize) -> bool
+    ensures { result ≡ power_to most n }
 {
-    (n == 1)
-        | (n == 2)
-        | (n == 4)
-        | (n == 8)
-        | (n == 16)
-        | (n == 32)
-        | (n == 64)
-        | (n == 128)
-        | (n == 256)
-}
-
-// Whether n is a power of two from 1 to 16.
-pub fn power_to_16(n: usize) -> bool
-    ensures { result ≡ power_to16 n }
-{
-    (n == 1) | (n == 2) | (n == 4) | (n == 8) | (n == 16)
+    n.is_power_of_two() & (n <= most)
 }
 
 // A rule that there is; a tree goes over a power of two of ways.
 fn rule_fine(s: Settings) -> bool
     ensures { result ≡ rule_fine s }
 {
-    (s.rule <= 1) | ((s.rule == 2) & power_to_16(s.ways))
+    (s.rule <= 1) | ((s.rule == 2) & power_to(s.ways, 16))
 }
 
 // Refusal 1 does not apply. Sets and ways are held to their ranges before they are multiplied.
 pub fn in_range(s: Settings) -> bool
     ensures { result ≡ in_range s }
 {
-    if !(power_to_256(s.sets) & ((1 <= s.ways) & (s.ways <= 16))) {
+    if !(power_to(s.sets, 256) & ((1 <= s.ways) & (s.ways <= 16))) {
         return false;
     }
     (s.sets * s.ways <= 1024)

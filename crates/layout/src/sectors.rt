@@ -1,6 +1,7 @@
 // Sectors in the slices: one of them; a line's four lifted as one array and stored whole, column by column; one of a line's four
 // replaced, by way of the array; four with one of them changed, for a line taken over.
-ghost use Rattle.std.specs.Prelude.{◌≡◌, ◌+◌, ◌*◌, ◌≤◌, ◌<◌, length, get_or, set};
+ghost use Rattle.std.specs.Prelude.{◌≡◌, ◌+◌, ◌*◌, ◌≤◌, ◌<◌, length, get_or, set, true, ℕ};
+ghost use lib.Seq.{sets};
 ghost use Rattle.model.specs.Numbers.{status_number};
 ghost use Rattle.model.specs.Range.{lines_of};
 ghost use Rattle.model.specs.Lent.{bit, sector_at, sectors_at};
@@ -8,86 +9,54 @@ ghost use Rattle.words.specs.Words.{pick};
 ghost use Rattle.words.specs.Regions.{put};
 ghost use Rattle.layout.specs.Sectors.{SectorRoom, LineRoom, Plain, Column, Stand, StoredBack, OthersStored, but_one, statuses, masks, readables};
 
-use crate::Layout;
-use model::{Sector, Settings, Status};
-use values::{status_number, status_of};
+use crate::{Geometry, Layout};
+use model::{Sector, Status};
 
 // Sector `i` of all lines.
-pub fn sector_at(s: Settings, at: Layout, words: &[u32], marks: &[u8], i: usize) -> Sector
-    requires { SectorRoom s at words.now marks.now × (i < 4 * lines_of s) }
-    ensures { result ≡ sector_at s words.now marks.now i }
+pub fn sector_at(g: Geometry, words: &[u32], marks: &[u8], i: usize) -> Sector
+    requires { SectorRoom g words.now marks.now × (i < 4 * lines_of g.settings) }
+    ensures { result ≡ sector_at g.settings words.now marks.now i }
 {
     Sector {
-        status: status_of(marks[i]),
-        mask: words[at.masks + i],
-        readable: marks[at.readables + i] == 1,
+        status: Status::from(marks[i]),
+        mask: words[g.at.masks + i],
+        readable: marks[g.at.readables + i] == 1,
     }
 }
 
 // The four sectors of a line.
-pub fn lift(s: Settings, at: Layout, words: &[u32], marks: &[u8], line: usize) -> [Sector; 4]
-    requires { SectorRoom s at words.now marks.now × (line < lines_of s) }
-    ensures { result ≡ sectors_at s words.now marks.now line }
+pub fn lift(g: Geometry, words: &[u32], marks: &[u8], line: usize) -> [Sector; 4]
+    requires { SectorRoom g words.now marks.now × (line < lines_of g.settings) }
+    ensures { result ≡ sectors_at g.settings words.now marks.now line }
 {
     let i = 4 * line;
     [
-        sector_at(s, at, words, marks, i),
-        sector_at(s, at, words, marks, i + 1),
-        sector_at(s, at, words, marks, i + 2),
-        sector_at(s, at, words, marks, i + 3),
+        sector_at(g, words, marks, i),
+        sector_at(g, words, marks, i + 1),
+        sector_at(g, words, marks, i + 2),
+        sector_at(g, words, marks, i + 3),
     ]
 }
 
-// Stores the masks of a line's four sectors.
-fn store_masks(words: &mut [u32], w: usize, four: [Sector; 4])
-    requires { w + 4 ≤ length words.old }
-    ensures { words.new ≡ put words.old w (masks four) }
+// The masks of four sectors.
+fn masks_of(four: [Sector; 4]) -> [u32; 4]
+    ensures { result ≡ masks four }
 {
-    let a = four[0];
-    let b = four[1];
-    let c = four[2];
-    let d = four[3];
-    words[w] = a.mask;
-    words[w + 1] = b.mask;
-    words[w + 2] = c.mask;
-    words[w + 3] = d.mask;
+    four.map(|x| x.mask)
 }
 
-// A sector's status as it is stored.
-fn status_byte(x: Sector) -> u8
-    ensures { result ≡ status_number x.status }
+// Their statuses, as they are stored.
+fn statuses_of(four: [Sector; 4]) -> [u8; 4]
+    ensures { result ≡ statuses four }
 {
-    let status = x.status;
-    status_number(status)
+    four.map(|x| u8::from(x.status))
 }
 
-// Stores the statuses of a line's four sectors.
-fn store_statuses(marks: &mut [u8], s: usize, four: [Sector; 4])
-    requires { s + 4 ≤ length marks.old }
-    ensures { marks.new ≡ put marks.old s (statuses four) }
+// Whether each of them is readable, as it is stored.
+fn readables_of(four: [Sector; 4]) -> [u8; 4]
+    ensures { result ≡ readables four }
 {
-    marks[s] = status_byte(four[0]);
-    marks[s + 1] = status_byte(four[1]);
-    marks[s + 2] = status_byte(four[2]);
-    marks[s + 3] = status_byte(four[3]);
-}
-
-// Whether a sector is readable, as it is stored.
-fn readable_byte(x: Sector) -> u8
-    ensures { result ≡ bit x.readable }
-{
-    if x.readable { 1 } else { 0 }
-}
-
-// Stores whether each of a line's four sectors is readable.
-fn store_readables(marks: &mut [u8], r: usize, four: [Sector; 4])
-    requires { r + 4 ≤ length marks.old }
-    ensures { marks.new ≡ put marks.old r (readables four) }
-{
-    marks[r] = readable_byte(four[0]);
-    marks[r + 1] = readable_byte(four[1]);
-    marks[r + 2] = readable_byte(four[2]);
-    marks[r + 3] = readable_byte(four[3]);
+    four.map(|x| u8::from(x.readable))
 }
 
 // Stores the four sectors of a line back.
@@ -97,86 +66,34 @@ pub fn store(at: Layout, words: &mut [u32], marks: &mut [u8], line: usize, four:
         × (marks.new ≡ put (put marks.old (4 * line) (statuses four)) (at.readables + 4 * line) (readables four)) }
 {
     let s = 4 * line;
-    store_masks(words, at.masks + s, four);
-    store_statuses(marks, s, four);
-    store_readables(marks, at.readables + s, four);
+    let w = at.masks + s;
+    let r = at.readables + s;
+    words[w..w + 4].copy_from_slice(&masks_of(four));
+    marks[s..s + 4].copy_from_slice(&statuses_of(four));
+    marks[r..r + 4].copy_from_slice(&readables_of(four));
 }
 
-// The masks of four sectors.
-fn masks_of(four: [Sector; 4]) -> [u32; 4]
-    ensures { result ≡ masks four }
-{
-    let a = four[0];
-    let b = four[1];
-    let c = four[2];
-    let d = four[3];
-    [a.mask, b.mask, c.mask, d.mask]
-}
-
-// Their statuses, as they are stored.
-fn statuses_of(four: [Sector; 4]) -> [u8; 4]
-    ensures { result ≡ statuses four }
-{
-    [
-        status_byte(four[0]),
-        status_byte(four[1]),
-        status_byte(four[2]),
-        status_byte(four[3]),
-    ]
-}
-
-// Whether each of them is readable, as it is stored.
-fn readables_of(four: [Sector; 4]) -> [u8; 4]
-    ensures { result ≡ readables four }
-{
-    [
-        readable_byte(four[0]),
-        readable_byte(four[1]),
-        readable_byte(four[2]),
-        readable_byte(four[3]),
-    ]
-}
-
-// Number `i` becomes `is` where `was` stands; not of the sector that changes, which is stored by itself.
-fn keep_word(words: &mut [u32], i: usize, other: bool, was: u32, is: u32)
-    requires { (i < length words.old) × (get_or words.old i 0 ≡ was) }
-    ensures { words.new ≡ set words.old i (pick other is was) }
+// Element `i` becomes `is` where `was` stands; not of the sector that changes, which is stored by itself.
+fn keep<T: Copy + PartialEq>(s: &mut [T], i: usize, other: bool, was: T, is: T)
+    requires exact { (x y : T) → T.eq x y ≡ true → x ≡ y }
+    requires there { (i < length s.old) × (get_or s.old i was ≡ was) }
+    ensures { s.new ≡ set s.old i (pick other is was) }
 {
     if other & (was != is) {
-        words[i] = is;
+        s[i] = is;
     }
 }
 
-// The same of a byte.
-fn keep_mark(marks: &mut [u8], i: usize, other: bool, was: u8, is: u8)
-    requires { (i < length marks.old) × (get_or marks.old i 0 ≡ was) }
-    ensures { marks.new ≡ set marks.old i (pick other is was) }
+// An element of each of four sectors, from `at` on, where `was` stand: all but sector `k`'s.
+fn keep_column<T: Copy + PartialEq>(s: &mut [T], at: usize, k: usize, was: [T; 4], is: [T; 4])
+    requires exact { (x y : T) → T.eq x y ≡ true → x ≡ y }
+    requires there { (at + 4 ≤ length s.old) × ((j : ℕ) (d : T) → j < 4 → get_or s.old (at + j) d ≡ get_or was j d) }
+    ensures { (d : T) → s.new ≡ sets s.old at (set is k (get_or was k d)) }
 {
-    if other & (was != is) {
-        marks[i] = is;
-    }
-}
-
-// A number of each of four sectors, from `w` on, where `was` stand: all but sector `k`'s.
-fn keep_words(words: &mut [u32], w: usize, k: usize, was: [u32; 4], is: [u32; 4])
-    requires { (w + 4 ≤ length words.old) × Column words.old w was }
-    ensures { words.new ≡ put words.old w (but_one k was is) }
-{
-    keep_word(words, w, k != 0, was[0], is[0]);
-    keep_word(words, w + 1, k != 1, was[1], is[1]);
-    keep_word(words, w + 2, k != 2, was[2], is[2]);
-    keep_word(words, w + 3, k != 3, was[3], is[3]);
-}
-
-// The same of a byte each.
-fn keep_marks(marks: &mut [u8], q: usize, k: usize, was: [u8; 4], is: [u8; 4])
-    requires { (q + 4 ≤ length marks.old) × Column marks.old q was }
-    ensures { marks.new ≡ put marks.old q (but_one k was is) }
-{
-    keep_mark(marks, q, k != 0, was[0], is[0]);
-    keep_mark(marks, q + 1, k != 1, was[1], is[1]);
-    keep_mark(marks, q + 2, k != 2, was[2], is[2]);
-    keep_mark(marks, q + 3, k != 3, was[3], is[3]);
+    keep(s, at, k != 0, was[0], is[0]);
+    keep(s, at + 1, k != 1, was[1], is[1]);
+    keep(s, at + 2, k != 2, was[2], is[2]);
+    keep(s, at + 3, k != 3, was[3], is[3]);
 }
 
 // Stores the four sectors of a line back, of which `found` stand there: all but sector `k`, which the caller stores.
@@ -193,9 +110,9 @@ fn store_others(
     ensures { OthersStored at line k found four words.old marks.old words.new marks.new }
 {
     let q = 4 * line;
-    keep_words(words, at.masks + q, k, masks_of(found), masks_of(four));
-    keep_marks(marks, q, k, statuses_of(found), statuses_of(four));
-    keep_marks(
+    keep_column(words, at.masks + q, k, masks_of(found), masks_of(four));
+    keep_column(marks, q, k, statuses_of(found), statuses_of(four));
+    keep_column(
         marks,
         at.readables + q,
         k,
@@ -214,8 +131,8 @@ fn store_one(at: Layout, words: &mut [u32], marks: &mut [u8], line: usize, k: us
     let w = at.masks + q;
     let r = at.readables + q;
     words[w + k] = x.mask;
-    marks[q + k] = status_byte(x);
-    marks[r + k] = readable_byte(x);
+    marks[q + k] = u8::from(x.status);
+    marks[r + k] = u8::from(x.readable);
 }
 
 // The four of a line with sector `k` changed to `x` are stored back but for that. In each arm it is known which one that is and that the
@@ -242,40 +159,18 @@ fn store_rest(
 
 // Sector `k` of a line becomes `x`: the line's four sectors are lifted as one array, one place is changed, and the array is stored back,
 // that place last.
-pub fn replace(
-    s: Settings,
-    at: Layout,
-    words: &mut [u32],
-    marks: &mut [u8],
-    line: usize,
-    k: usize,
-    x: Sector,
-)
-    requires { SectorRoom s at words.old marks.old × (line < lines_of s) × (k < 4) × Plain at line marks.old }
-    ensures { StoredBack at line (set (sectors_at s words.old marks.old line) k x)
+pub fn replace(g: Geometry, words: &mut [u32], marks: &mut [u8], line: usize, k: usize, x: Sector)
+    requires { SectorRoom g words.old marks.old × (line < lines_of g.settings) × (k < 4) × Plain g.at line marks.old }
+    ensures { StoredBack g.at line (set (sectors_at g.settings words.old marks.old line) k x)
         words.old marks.old words.new marks.new }
 {
-    let found = lift(s, at, words, marks, line);
-    store_rest(at, words, marks, line, k, found, x);
-    store_one(at, words, marks, line, k, x);
+    let found = lift(g, words, marks, line);
+    store_rest(g.at, words, marks, line, k, found, x);
+    store_one(g.at, words, marks, line, k, x);
 }
 
-// One of two statuses.
-fn status_or(first: bool, x: Status, y: Status) -> Status
-    ensures { result ≡ pick first x y }
-{
-    if first { x } else { y }
-}
-
-// One of two masks.
-fn mask_or(first: bool, x: u32, y: u32) -> u32
-    ensures { result ≡ pick first x y }
-{
-    if first { x } else { y }
-}
-
-// One of two flags.
-fn flag_or(first: bool, x: bool, y: bool) -> bool
+// One of two.
+fn either<T: Drop>(first: bool, x: T, y: T) -> T
     ensures { result ≡ pick first x y }
 {
     if first { x } else { y }
@@ -285,12 +180,10 @@ fn flag_or(first: bool, x: bool, y: bool) -> bool
 fn sector_or(first: bool, x: Sector, y: Sector) -> Sector
     ensures { result ≡ pick first x y }
 {
-    let a = x.status;
-    let b = y.status;
     Sector {
-        status: status_or(first, a, b),
-        mask: mask_or(first, x.mask, y.mask),
-        readable: flag_or(first, x.readable, y.readable),
+        status: either(first, x.status, y.status),
+        mask: either(first, x.mask, y.mask),
+        readable: either(first, x.readable, y.readable),
     }
 }
 

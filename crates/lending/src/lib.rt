@@ -15,10 +15,7 @@ const MOST: usize = 7;
 fn number(settings: &[u32], place: usize) -> usize
     ensures { result ≡ get_or settings.now place 0 }
 {
-    if place < settings.len() {
-        return settings[place] as usize;
-    }
-    0
+    settings.get(place).map_or(0, |n| *n as usize)
 }
 
 // By their places; all 0, which is out of range, for another number of them.

@@ -1,6 +1,7 @@
 -- An access is refused, or accepted at a spot (`access_judged`): of sound tables the line itself, with nothing written back, or a victim
 -- with its write-back (`access-cases`). These are the laws by which the proofs above look at an access, under any rules; which victim is
 -- chosen is left open. So an access leaves sound tables sound.
+use Rattle.std.specs.Prelude.{Some, None}
 use Rattle.words.proofs.General.{ℕ, ◌+◌, ◌≤◌, ◌≡◌, refl, sym, ap, ◌∙◌, true, false, not, ◌&&◌, List, [], length, get_or, replicate, ltb, leb, any, and_1, not_yes, by_flag, in_get_or}
 use Rattle.words.proofs.General.{get_or-same}
 use Rattle.model.proofs.Terms.{in_range, address_of, mask_of, is_read, block_of, well_formed, Line, Tables, Outcome, refused, has_reserved, holds, empty, fresh, all_ones, ways_of}
@@ -8,7 +9,6 @@ use Rattle.model.proofs.Terms.{enough_dirty, candidate, Rule, Rules, Spot, Place
 use Rattle.model.proofs.Terms.{proceed, access_under}
 use Rattle.model.specs.declared.Settings.{Settings}
 use Rattle.model.specs.declared.Access.{Access}
-use Rattle.model.specs.declared.Found.TheVariants.{At, Nothing}
 use Rattle.model.specs.declared.Refusal.{Refusal}
 use Rattle.model.specs.declared.Refusal.TheVariants.{BadAccess, QueueFull, EntryFull, MissTableFull}
 use Rattle.model.proofs.SoundFacts.{Sound, LeavesSound}
@@ -59,10 +59,10 @@ module _ (S : Settings) (t : Tables) (x : Access) where
   rule_stands R =
       let b : ℕ = block_of (address_of x) in
       probe_by R S t.dirty_count ways x (Stands S t x)
-      (λ w f. let h : Finds (holds b) ways (At w) = rw f at (first_finds (holds b) ways) in found (way_sits S t.lines (address_of x) w h.0).line refl)
+      (λ w f. let h : Finds (holds b) ways (Some w) = rw f at (first_finds (holds b) ways) in found (way_sits S t.lines (address_of x) w h.0).line refl)
       (λ f w v.
-      let none : Finds (holds b) ways Nothing = rw f at (first_finds (holds b) ways) in
-      let h : Finds (candidate (enough_dirty S t.dirty_count)) ways (At w) = rw v at (victim_finds R S t.dirty_count ways) in
+      let none : Finds (holds b) ways None = rw f at (first_finds (holds b) ways) in
+      let h : Finds (candidate (enough_dirty S t.dirty_count)) ways (Some w) = rw v at (victim_finds R S t.dirty_count ways) in
       let s : Sits S t.lines (address_of x) w = way_sits S t.lines (address_of x) w h.0 in
       taken (ap (holds b) (sym s.line) ∙ none (get_or ways w fresh) (in_get_or ways w fresh h.0))
       (ap has_reserved (sym s.line) ∙ not_yes (and_1 (not (has_reserved (get_or ways w fresh))) _ h.1)) (ap write_back s.line) (empty-masks 4))

@@ -1,4 +1,5 @@
 -- What the probe finds is as `Spotted` says; a tick leaves sound tables sound, and fresh tables are sound.
+use Rattle.std.specs.Prelude.{Some, None}
 use Rattle.words.proofs.General.{ℕ, ◌+◌, ◌*◌, ◌-◌, ◌^◌, ◌≤◌, ◌<◌, arith, ◌≡◌, refl, sym, ap, ◌∙◌, ◌⊎◌, inl, inr, ◌≢◌, ⊎_elim, Bool, true, false, not, ◌&&◌, ◌||◌, List, [], map}
 use Rattle.words.proofs.General.{length, get_or, replicate, length-map, length-replicate, leb, ltb, eqb, leb-true, ltb-false, lt-ltb, eqb-true, eqb-false, eq-eqb, le-leb, all, any}
 use Rattle.words.proofs.General.{count, every, same, imp, and_1, and_2, imp_use, same_is, or_no_1, or_no_2, flag, not_yes, no-yes, clash, by_flag, In, all_in, in_all, in-any}
@@ -17,7 +18,6 @@ use Rattle.model.specs.declared.Answer.{Answer}
 use Rattle.model.specs.declared.Answer.TheVariants.{Miss}
 use Rattle.model.specs.declared.Access.{Access}
 use Rattle.model.specs.declared.Access.TheVariants.{Read, Write}
-use Rattle.model.specs.declared.Found.TheVariants.{At, Nothing}
 use Rattle.model.specs.declared.Refusal.TheVariants.{BadCycle}
 use Rattle.model.proofs.SoundFacts.{Sound, LeavesSound, LineIs, line_whole, mask_small, sector_below, sector_aligned, address_is, block_is, lines_are, line_at, four_at, since_at, sectors_at_lem, live_tag_good, reserved_at, holder_one, entry_at, set_of_block, holder_set, holds_used, holds_tag}
 use Rattle.model.proofs.Ways.{Finds, first_finds, victim_finds, met_spot, over_spot, probe_by, Sits, way_sits, way_in, line_among, set_of_line}
@@ -243,10 +243,10 @@ module _ (S : Settings) (range : in_range S ≡ true) (t : Tables) (ok : Sound S
       let b : ℕ = block_of (address_of x) in
       let ways : List Line = ways_of S t.lines (address_of x) in
       probe_by R S t.dirty_count ways x (Spotted S t x)
-      (λ w f. let h : Finds (holds b) ways (At w) = rw f at (first_finds (holds b) ways) in met S t ok some x w h.0 h.1)
+      (λ w f. let h : Finds (holds b) ways (Some w) = rw f at (first_finds (holds b) ways) in met S t ok some x w h.0 h.1)
       (λ f w v.
-      let none : Finds (holds b) ways Nothing = rw f at (first_finds (holds b) ways) in
-      let h : Finds (candidate (enough_dirty S t.dirty_count)) ways (At w) = rw v at (victim_finds R S t.dirty_count ways) in
+      let none : Finds (holds b) ways None = rw f at (first_finds (holds b) ways) in
+      let h : Finds (candidate (enough_dirty S t.dirty_count)) ways (Some w) = rw v at (victim_finds R S t.dirty_count ways) in
       taken-over S t ok some x (none-holds S t ok some x none) t.dirty_count w h.0 h.1)
 
   pub probe_spotted : (p : Spot) → met_in S x t ≡ at p → Spotted S t x p

@@ -1,14 +1,14 @@
 -- The tables that a run of a stream of bytes leaves are sound.
+use Rattle.std.specs.Prelude.{Option, Some, None}
 use Rattle.words.proofs.General.{ℕ, zero, suc, ◌≤◌, ◌<◌, arith, ◌≡◌, refl, true, List, [], ◌∷◌, length, get_or, take, ltb, eqb, ltb-true, and_1, and_2, clash, by_flag, all_in}
+use Rattle.model.specs.declared.Command.{Command}
 use Rattle.words.proofs.General.{in_all, in_take}
 use Rattle.model.proofs.Terms.{in_range, Tables, start, after, Lent, lengths_fit, all_ones, sound, is_command, is_settings, length_of, number_at, command_in, command_of, command_mask}
-use Rattle.model.proofs.Terms.{settings_of, first_stop, later_stop, goes_on, step_read, step_at, Result, run_from, run, SoundSlices}
+use Rattle.model.proofs.Terms.{settings_of, first_stop, later_stop, goes_on, step_read, step_at, RunResult, run_from, run, SoundSlices}
 use Rattle.model.specs.RecordsOf as records
 pub use Rattle.model.specs.Records.{bytes}
 use Rattle.model.specs.RunnerOf as runner
 use Rattle.model.specs.declared.Settings.{Settings}
-use Rattle.model.specs.declared.CommandRead.{CommandRead}
-use Rattle.model.specs.declared.CommandRead.TheVariants as command
 use Rattle.model.specs.declared.Stop.{Stop}
 use Rattle.model.proofs.Soundness.{start-sound, step_keeps_sound}
 
@@ -25,14 +25,14 @@ pub command_mask_small : (s : List ℕ) → bytes s ≡ true → number_at s 8 4
 unfolding number_at
 command_mask_small s h = omega (arith, byte_at s 8 h, byte_at s 9 h, byte_at s 10 h, byte_at s 11 h)
 
-abbrev pub SmallMask : CommandRead → Type 0
-SmallMask (command.Got c) = command_mask c ≤ all_ones
-SmallMask command.None = Unit {0}
+abbrev pub SmallMask : Option Command → Type 0
+SmallMask (Some c) = command_mask c ≤ all_ones
+SmallMask None = Unit {0}
 
 pub command_small : (k : ℕ) (b : List ℕ) → bytes b ≡ true → SmallMask (command_of k b)
 unfolding records.command_of
 command_small k b h =
-    by_flag SmallMask (eqb (length b) (length_of k)) (command_in k b) command.None
+    by_flag SmallMask (eqb (length b) (length_of k)) (command_in k b) None
     (λ e. by_flag SmallMask (is_settings k) _ _ (λ e. omega arith)
     (λ e. by_flag SmallMask (eqb k 1) _ _ (λ e. omega arith)
     (λ e. by_flag SmallMask (eqb k 2) _ _ (λ e. command_mask_small b h)
@@ -42,9 +42,9 @@ command_small k b h =
     (λ e. tt)
 
 module _ (S : Settings) (range : in_range S ≡ true) where
-  read_keeps_sound : (c : CommandRead) (t : Tables) → SmallMask c → sound S t ≡ true → sound S (after t (step_read S c t)) ≡ true
-  read_keeps_sound (command.Got c) t h ok = step_keeps_sound S c t range h ok
-  read_keeps_sound command.None t h ok = ok
+  read_keeps_sound : (c : Option Command) (t : Tables) → SmallMask c → sound S t ≡ true → sound S (after t (step_read S c t)) ≡ true
+  read_keeps_sound (Some c) t h ok = step_keeps_sound S c t range h ok
+  read_keeps_sound None t h ok = ok
 
   pub record_keeps_sound : (k : ℕ) (rest : List ℕ) (t : Tables) → bytes rest ≡ true → sound S t ≡ true
       → sound S (after t (step_at S k rest t)) ≡ true
@@ -58,7 +58,7 @@ module _ (S : Settings) (range : in_range S ≡ true) where
   run_from_keeps_sound n room [] t h ok = ok
   run_from_keeps_sound (suc n) room (b ∷ s) t h ok = run_from_keeps_sound n room s t (and_2 (ltb b 256) (bytes s) h) ok
   run_from_keeps_sound zero room (k ∷ s) t h ok =
-      by_flag (λ (o : Result Tables). sound S o.tables ≡ true) (goes_on (later_stop room k s)) _ _
+      by_flag (λ (o : RunResult Tables). sound S o.tables ≡ true) (goes_on (later_stop room k s)) _ _
       (λ e. run_from_keeps_sound (length_of k) _ s (after t (step_at S k s t)) (and_2 (ltb k 256) (bytes s) h)
       (record_keeps_sound k s t (and_2 (ltb k 256) (bytes s) h) ok))
       (λ e. ok)
@@ -81,7 +81,7 @@ first_passes L k s =
     (λ c h. clash h refl)))
     (λ a h. clash h refl)
   where
-    Goes : Stop → Type 0
+    Goes : Option Stop → Type 0
     Goes n = goes_on n ≡ true → Passes k (settings_of k s) L
 
 -- once its first record is accepted, a run leaves slices of sound tables

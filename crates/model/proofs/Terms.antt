@@ -40,7 +40,7 @@ pub use Rattle.model.specs.Records.{fill_bytes, settle_bytes, round_bytes, Kind,
 pub use Rattle.model.specs.Records.{settings_kind}
 unfoldable pub use Rattle.model.specs.Records.{length_of, event_bytes, log_bytes, event_of, command_bytes, command_of, read_at, body_at, event_at, command_at, events_from, events_in}
 unfoldable pub use Rattle.model.specs.Records.{bytes_of, number_at}
-pub use Rattle.model.specs.Runner.{event_room, settings_of, record_stop, room_stop, Result, Runs, bytes_then, command_mask, goes_on, halt, kept_stop, lent_result, settings_stop}
+pub use Rattle.model.specs.Runner.{event_room, settings_of, record_stop, room_stop, RunResult, Runs, bytes_then, command_mask, goes_on, halt, kept_stop, lent_result, settings_stop}
 pub use Rattle.model.specs.Runner.{step_of, step_read}
 unfoldable pub use Rattle.model.specs.Runner.{first_stop, later_stop, step_at, run_from, run, resume}
 pub use Rattle.model.specs.Separate.{call_read}

@@ -1,13 +1,12 @@
 -- Laws of the tree rule, for 2^k ways and any k: the choice is a candidate if there is one, an access turns the nodes on its path and no
 -- others, and sets no bit beyond the nodes in use. Then the worked examples.
+use Rattle.std.specs.Prelude.{Option, Some, None}
 use Rattle.words.proofs.General.{ℕ, zero, suc, ◌+◌, ◌*◌, ◌-◌, ◌/◌, ◌%◌, ◌^◌, ◌≤◌, ◌<◌, pow-suc, mul_assoc, add-zero, mul-le-mul, eq-or-lt_of_le, le_of_suc-le-suc, arith, ◌≡◌, refl}
 use Rattle.words.proofs.General.{sym, ap, subst, ◌∙◌, ◌⊎◌, inl, inr, ⊎_elim, Bool, true, false, ◌&&◌, List, [], ◌∷◌, eqb, leb, ltb, eqb-true, ltb-true, lt-ltb, ltb-false, leb-true}
 use Rattle.words.proofs.General.{leb-false, pick, and_1, and_2, flag, clash, no-yes, by_flag, In, all_in, any-in, some_at, some_i, some_same}
 use lib.Pow.{pow_pos, high}
 use Rattle.model.proofs.Terms.{tree_bit, with_bit, is_in, named, pointed, some_from, goes, descent, tree_choice, side_of, turned, touched_tree, power_to16, halvings, levels}
 use Rattle.model.proofs.Terms.{tree_fine}
-use Rattle.model.specs.declared.Found.{Found}
-use Rattle.model.specs.declared.Found.TheVariants.{At, Nothing}
 use Rattle.model.proofs.TreeBits.{bit_two, halves, put_same, put_other, put_below}
 
 -- ---- halves of a span, as the descent takes them
@@ -67,13 +66,13 @@ module _ (p : ℕ → Bool) (t : ℕ) where
       descent_is_candidate k (2 * n + goes p t k n first) (first + goes p t k n first * 2 ^ k) (goes_well k n first e)
 
 -- a way that passes, or none does
-abbrev pub Chooses : (ℕ → Bool) → ℕ → Found → Type 0
-Chooses p n Nothing = (w : ℕ) → w < n → p w ≡ false
-Chooses p n (At w) = (w < n) × (p w ≡ true)
+abbrev pub Chooses : (ℕ → Bool) → ℕ → Option ℕ → Type 0
+Chooses p n None = (w : ℕ) → w < n → p w ≡ false
+Chooses p n (Some w) = (w < n) × (p w ≡ true)
 
 pub choice_chooses : (p : ℕ → Bool) (t k : ℕ) → Chooses p (2 ^ k) (tree_choice p t k)
 choice_chooses p t k =
-    by_flag (Chooses p (2 ^ k)) (some_from p 0 (2 ^ k)) (At (descent p t k 1 0)) Nothing
+    by_flag (Chooses p (2 ^ k)) (some_from p 0 (2 ^ k)) (Some (descent p t k 1 0)) None
     (λ e. let r = descent_is_way p t k 1 0 in (omega (arith, r.1), descent_is_candidate p t k 1 0 e))
     (λ e w l. no-yes (λ y. clash (some_in p 0 (2 ^ k) w (omega arith) (omega arith) y) e))
 
@@ -270,6 +269,6 @@ unfolding turned with_bit
 four = refl
 
 -- then way 3 goes among all, and way 1 if 2 and 3 are no candidates; an access to way 3 leaves 2
-four_chosen : (tree_choice (is_in 15) 7 2 ≡ At 3) × (touched_tree 7 2 3 ≡ 2) × (tree_choice (is_in 3) 7 2 ≡ At 1) × (tree_choice (is_in 0) 7 2 ≡ Nothing)
+four_chosen : (tree_choice (is_in 15) 7 2 ≡ Some 3) × (touched_tree 7 2 3 ≡ 2) × (tree_choice (is_in 3) 7 2 ≡ Some 1) × (tree_choice (is_in 0) 7 2 ≡ None)
 unfolding turned with_bit tree_bit descent goes
 four_chosen = (refl, refl, refl, refl)

@@ -1,4 +1,5 @@
 -- What document 01 says of the victim, its write-back and the queue, as laws of the definitions.
+use Rattle.std.specs.Prelude.{Option, Some, None}
 use Rattle.words.proofs.General.{ℕ, ◌≤◌, ◌<◌, arith, ◌≡◌, refl, ap, ◌⊎◌, inl, inr, ⊎_elim, Bool, true, false, not, ◌&&◌, true≢false, List, [], map, length, get_or, length-append}
 use Rattle.words.proofs.General.{eqb, leb, eqb-true, leb-true, leb-false, and_1, and_2, and_i, flag, not_yes, no-yes, clash, by_flag, In, all_in, in-any, in_get_or}
 use Rattle.model.proofs.Terms.{Line, writing, Tables, done, is_reserved, is_modified, wholly_invalid, has_reserved, dirty, fresh, mask_ok, sector_ok, sound, tree_choice, levels}
@@ -11,8 +12,6 @@ use Rattle.model.specs.declared.Sector.{Sector}
 use Rattle.model.specs.declared.Queued.{Queued}
 use Rattle.model.specs.declared.Access.{Access}
 use Rattle.model.specs.declared.Event.{Event}
-use Rattle.model.specs.declared.Found.{Found}
-use Rattle.model.specs.declared.Found.TheVariants.{At, Nothing}
 use Rattle.model.proofs.SoundFacts.{parts, sectors_at_lem}
 use Rattle.model.proofs.Ways.{Finds, last_finds, victim_finds, Last, last_is_last, earliest_is_least, probe_by, way_in}
 use Rattle.model.proofs.AccessCases.{access_judged}
@@ -20,7 +19,7 @@ use Rattle.model.proofs.ProbeFindsSpot.{fetches_one, back_one}
 
 -- ---- the victim
 
-module _ (R : Rule) (S : Settings) (d : ℕ) (ways : List Line) (w : ℕ) (chosen : victim R S d ways ≡ At w) where
+module _ (R : Rule) (S : Settings) (d : ℕ) (ways : List Line) (w : ℕ) (chosen : victim R S d ways ≡ Some w) where
   abbrev able : Line → Bool
   able = candidate (enough_dirty S d)
 
@@ -28,10 +27,10 @@ module _ (R : Rule) (S : Settings) (d : ℕ) (ways : List Line) (w : ℕ) (chose
   vacant l = able l && wholly_invalid l
 
   pub victim_is_way : w < length ways
-  victim_is_way = let f : Finds able ways (At w) = rw chosen at (victim_finds R S d ways) in f.0
+  victim_is_way = let f : Finds able ways (Some w) = rw chosen at (victim_finds R S d ways) in f.0
 
   pub victim_is_candidate : candidate (enough_dirty S d) (get_or ways w fresh) ≡ true
-  victim_is_candidate = let f : Finds able ways (At w) = rw chosen at (victim_finds R S d ways) in f.1
+  victim_is_candidate = let f : Finds able ways (Some w) = rw chosen at (victim_finds R S d ways) in f.1
 
   pub victim-not_reserved : has_reserved (get_or ways w fresh) ≡ false
   victim-not_reserved = not_yes (and_1 (not (has_reserved (get_or ways w fresh))) _ victim_is_candidate)
@@ -42,39 +41,39 @@ module _ (R : Rule) (S : Settings) (d : ℕ) (ways : List Line) (w : ℕ) (chose
       → (wholly_invalid (get_or ways w fresh) ≡ true) × (v ≤ w)
   victim_highest_invalid v h c u = go (last vacant ways) chosen (last_finds vacant ways) (last_is_last vacant ways)
     where
-      go : (r : Found) → or_else r (choice_by R able ways) ≡ At w → Finds vacant ways r → Last vacant ways r
+      go : (r : Option ℕ) → or_else r (choice_by R able ways) ≡ Some w → Finds vacant ways r → Last vacant ways r
           → (wholly_invalid (get_or ways w fresh) ≡ true) × (v ≤ w)
-      go Nothing e f g = clash (and_i c u) (f (get_or ways v fresh) (in_get_or ways v fresh h))
-      go (At q) e f g =
+      go None e f g = clash (and_i c u) (f (get_or ways v fresh) (in_get_or ways v fresh h))
+      go (Some q) e f g =
           let i : q ≡ w = cc in (
             and_2 (able (get_or ways w fresh)) (wholly_invalid (get_or ways w fresh)) (rw i at f.1),
             ⊎_elim (λ l. leb-true v w l) (λ l. clash (and_i c u) (g v (omega (arith, leb-false v w l)) h)) (flag (leb v w)),
           )
 
   -- where it isn't wholly invalid, the rule chose it
-  victim_chosen : wholly_invalid (get_or ways w fresh) ≡ false → choice_by R able ways ≡ At w
+  victim_chosen : wholly_invalid (get_or ways w fresh) ≡ false → choice_by R able ways ≡ Some w
   victim_chosen u = go (last vacant ways) chosen (last_finds vacant ways)
     where
-      go : (r : Found) → or_else r (choice_by R able ways) ≡ At w → Finds vacant ways r → choice_by R able ways ≡ At w
-      go Nothing e f = e
-      go (At q) e f = let i : q ≡ w = cc in clash (and_2 (able (get_or ways w fresh)) (wholly_invalid (get_or ways w fresh)) (rw i at f.1)) u
+      go : (r : Option ℕ) → or_else r (choice_by R able ways) ≡ Some w → Finds vacant ways r → choice_by R able ways ≡ Some w
+      go None e f = e
+      go (Some q) e f = let i : q ≡ w = cc in clash (and_2 (able (get_or ways w fresh)) (wholly_invalid (get_or ways w fresh)) (rw i at f.1)) u
 
 -- "with none, the candidate with the earliest cycle, the lowest way among equals": under a rule by a key
-module _ (key : Line → ℕ) (S : Settings) (d : ℕ) (ways : List Line) (w : ℕ) (chosen : victim (by_key key) S d ways ≡ At w) where
+module _ (key : Line → ℕ) (S : Settings) (d : ℕ) (ways : List Line) (w : ℕ) (chosen : victim (by_key key) S d ways ≡ Some w) where
   pub victim-earliest : wholly_invalid (get_or ways w fresh) ≡ false → (v : ℕ) → v < length ways
       → candidate (enough_dirty S d) (get_or ways v fresh) ≡ true
       → (key (get_or ways w fresh) ≤ key (get_or ways v fresh)) × (v < w → key (get_or ways w fresh) < key (get_or ways v fresh))
   victim-earliest u = rw (victim_chosen (by_key key) S d ways w chosen u) at (earliest_is_least key (candidate (enough_dirty S d)) ways)
 
 -- under a rule by a tree: the choice of its descent
-pub victim_by_tree_lem : (t : ℕ) (S : Settings) (d : ℕ) (ways : List Line) (w : ℕ) → victim (by_tree t) S d ways ≡ At w → wholly_invalid (get_or ways w fresh) ≡ false
-    → tree_choice (λ v. get_or (map (candidate (enough_dirty S d)) ways) v false) t (levels (length ways)) ≡ At w
+pub victim_by_tree_lem : (t : ℕ) (S : Settings) (d : ℕ) (ways : List Line) (w : ℕ) → victim (by_tree t) S d ways ≡ Some w → wholly_invalid (get_or ways w fresh) ≡ false
+    → tree_choice (λ v. get_or (map (candidate (enough_dirty S d)) ways) v false) t (levels (length ways)) ≡ Some w
 victim_by_tree_lem t = victim_chosen (by_tree t)
 
 -- without a victim no way is a candidate
-pub victim-none : (R : Rule) (S : Settings) (d : ℕ) (ways : List Line) → victim R S d ways ≡ Nothing → (l : Line) → In l ways
+pub victim-none : (R : Rule) (S : Settings) (d : ℕ) (ways : List Line) → victim R S d ways ≡ None → (l : Line) → In l ways
     → candidate (enough_dirty S d) l ≡ false
-victim-none R S d ways e = let f : Finds (candidate (enough_dirty S d)) ways Nothing = rw e at (victim_finds R S d ways) in f
+victim-none R S d ways e = let f : Finds (candidate (enough_dirty S d)) ways None = rw e at (victim_finds R S d ways) in f
 
 -- ---- what the probe meets: a way that matches, or a victim
 
@@ -88,7 +87,7 @@ module _ (R : Rule) (S : Settings) (d : ℕ) (ways : List Line) (x : Access) (p 
 
   -- a write-back is of a victim with a MODIFIED sector: its block, its four masks
   pub write_back_is_victims : probe R S d ways x ≡ at p → (b : ℕ) (ms : List ℕ) → In (writing b ms) p.backs
-      → (victim R S d ways ≡ At p.way) × (dirty (get_or ways p.way fresh) ≡ true)
+      → (victim R S d ways ≡ Some p.way) × (dirty (get_or ways p.way fresh) ≡ true)
       × (b ≡ (get_or ways p.way fresh).tag) × (ms ≡ map (λ (s : Sector). s.mask) (get_or ways p.way fresh).sectors)
   write_back_is_victims h b ms i =
       probe_by R S d ways x (λ (q : Spot). In (writing b ms) q.backs → Back q.way) (λ w f j. absurd j)
@@ -96,7 +95,7 @@ module _ (R : Rule) (S : Settings) (d : ℕ) (ways : List Line) (x : Access) (p 
       (λ e. ⊎_elim (λ q. (v, e, ap (λ (y : Queued). y.address) q, ap (λ (y : Queued). y.masks) q)) (λ q. absurd q)) (λ e j. absurd j)) p h i
     where
       Back : ℕ → Type 0
-      Back w = (victim R S d ways ≡ At w) × (dirty (get_or ways w fresh) ≡ true)
+      Back w = (victim R S d ways ≡ Some w) × (dirty (get_or ways w fresh) ≡ true)
           × (b ≡ (get_or ways w fresh).tag) × (ms ≡ map (λ (s : Sector). s.mask) (get_or ways w fresh).sectors)
 
   -- nothing is written back but a victim
@@ -119,7 +118,7 @@ mask_says_modified Reserved m r f h = absurd (true≢false f)
 mask_says_modified Valid m r f h = rw (eqb-true m 0 (and_1 (eqb m 0) r h))
 mask_says_modified Modified m r f h = search (and_1, and_2)
 
-pub write_back_is_dirty-bytes : (R : Rule) (S : Settings) (t : Tables) → sound S t ≡ true → (d a w : ℕ) → victim R S d (ways_of S t.lines a) ≡ At w
+pub write_back_is_dirty-bytes : (R : Rule) (S : Settings) (t : Tables) → sound S t ≡ true → (d a w : ℕ) → victim R S d (ways_of S t.lines a) ≡ Some w
     → (s : Sector) → In s (get_or (ways_of S t.lines a) w fresh).sectors → not (eqb s.mask 0) ≡ is_modified s.status
 write_back_is_dirty-bytes R S t ok d a w chosen s i =
     let ways : List Line = ways_of S t.lines a in

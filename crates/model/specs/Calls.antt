@@ -1,5 +1,6 @@
 -- The calls on lent tables: refusals 1, 2 and 3 in front of each step, and what a call's value tells.
-use Rattle.std.specs.Prelude.{◌≡◌, ℕ, List, [], ◌∷◌, ◌++◌, map, length, take, replicate}
+use Rattle.std.specs.Prelude.{◌≡◌, ℕ, List, [], ◌∷◌, ◌++◌, map, length, take, replicate, Result, Ok, Err}
+use Rattle.model.specs.declared.Refusal.{Refusal}
 use Rattle.words.specs.Words.{pick, pad_to}
 use Rattle.model.specs.Range.{in_range}
 use Rattle.model.specs.Tables.{Tables, idle, start, Outcome, refused, done, after, events_of}
@@ -11,8 +12,6 @@ use Rattle.model.specs.declared.Access.{Access}
 use Rattle.model.specs.declared.Refusal.TheVariants.{SettingOutOfRange, SliceLength, NotSound}
 use Rattle.model.specs.declared.Event.{Event}
 use Rattle.model.specs.declared.Event.TheVariants.{Released}
-use Rattle.model.specs.declared.Verdict.{Verdict}
-use Rattle.model.specs.declared.Verdict.TheVariants.{Passed, Refused}
 use Rattle.model.specs.declared.Queued.{Queued}
 use Rattle.model.specs.declared.Reply.{Reply}
 
@@ -51,9 +50,9 @@ abbrev pub fresh_call : Settings → Lent → Outcome Lent
 fresh_call S L = sizes_checked S L (done [] (encode S (start S)))
 
 -- what `check` and `fresh` return
-abbrev pub verdict_of : Outcome Lent → Verdict
-verdict_of (refused n) = Refused n
-verdict_of (done es L) = Passed
+abbrev pub verdict_of : Outcome Lent → Result (Unit {0}) Refusal
+verdict_of (refused n) = Err n
+verdict_of (done es L) = Ok tt
 
 -- ---- what a call's value tells
 

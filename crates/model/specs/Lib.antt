@@ -17,6 +17,7 @@ pub mod History
 pub mod Kinds
 pub mod Format
 pub mod RecordsOf
+pub mod Offers
 pub mod RunnerOf
 pub mod Records
 pub mod Runner

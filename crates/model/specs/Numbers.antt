@@ -1,6 +1,6 @@
 -- Document 01's numbers: of a sector's status ("The modelled cache"), of an answer ("Records"), of a refusal ("Refusal numbers"),
 -- of a stop ("Records"). And the number by which the lent slices have a queued entry's kind.
-use Rattle.std.specs.Prelude.{ℕ, eqb}
+use Rattle.std.specs.Prelude.{ℕ, eqb, Option, Some, None}
 use Rattle.words.specs.Words.{pick}
 use Rattle.model.specs.declared.Status.{Status}
 use Rattle.model.specs.declared.Status.TheVariants.{Invalid, Reserved, Valid, Modified}
@@ -56,12 +56,12 @@ refusal_number BadCycle = 11
 refusal_number QueueEmpty = 12
 
 -- 0 where nothing stops; at a record 14, 15, 13, 1, 2, 16
-abbrev pub stop_number : Stop → ℕ
-stop_number stop.Nothing = 0
-stop_number stop.SettingOutOfRange = 1
-stop_number stop.SliceLength = 2
-stop_number stop.NotSound = 3
-stop_number stop.OutOfPlace = 13
-stop_number stop.UnknownKind = 14
-stop_number stop.CutShort = 15
-stop_number stop.NoRoom = 16
+abbrev pub stop_number : Option Stop → ℕ
+stop_number None = 0
+stop_number (Some stop.SettingOutOfRange) = 1
+stop_number (Some stop.SliceLength) = 2
+stop_number (Some stop.NotSound) = 3
+stop_number (Some stop.OutOfPlace) = 13
+stop_number (Some stop.UnknownKind) = 14
+stop_number (Some stop.CutShort) = 15
+stop_number (Some stop.NoRoom) = 16

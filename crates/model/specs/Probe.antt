@@ -1,5 +1,5 @@
 -- "Probe and victim": what an access meets in its own set, from the settings, the ways of the set and the number of dirty lines alone.
-use Rattle.std.specs.Prelude.{ℕ, suc, ◌*◌, Bool, false, not, ◌&&◌, ◌||◌, List, [], ◌∷◌, map, length, get_or, take, drop, leb}
+use Rattle.std.specs.Prelude.{ℕ, suc, ◌*◌, Bool, false, not, ◌&&◌, ◌||◌, List, [], ◌∷◌, map, length, get_or, take, drop, leb, Option, Some, None}
 use Rattle.words.specs.Words.{pick, any}
 use Rattle.model.specs.Numbers.{status_number}
 use Rattle.model.specs.Range.{lines_of, is_fifo, is_tree}
@@ -16,8 +16,6 @@ use Rattle.model.specs.declared.Refusal.{Refusal}
 use Rattle.model.specs.declared.Refusal.TheVariants.{SetBusy, SetHeld}
 use Rattle.model.specs.declared.Access.{Access}
 use Rattle.model.specs.declared.Access.TheVariants.{Read, Write}
-use Rattle.model.specs.declared.Found.{Found}
-use Rattle.model.specs.declared.Found.TheVariants.{At, Nothing}
 
 -- ---- the answer by the sector's status: a row a status, columns "Write", "Read, readable", "Read, unreadable"
 
@@ -55,28 +53,28 @@ candidate enough l = not (has_reserved l) && (not (dirty l) || enough)
 
 -- ---- searches among the ways: the first that passes, the last, the one with the least key and the lowest way among equals
 
-abbrev pub next : Found → Found
-next Nothing = Nothing
-next (At w) = At (suc w)
+abbrev pub next : Option ℕ → Option ℕ
+next None = None
+next (Some w) = Some (suc w)
 
-abbrev pub or_else : Found → Found → Found
-or_else Nothing v = v
-or_else (At w) v = At w
+abbrev pub or_else : Option ℕ → Option ℕ → Option ℕ
+or_else None v = v
+or_else (Some w) v = Some w
 
-abbrev pub first : (Line → Bool) → List Line → Found
-first p [] = Nothing
-first p (l ∷ ls) = pick (p l) (At 0) (next (first p ls))
+abbrev pub first : (Line → Bool) → List Line → Option ℕ
+first p [] = None
+first p (l ∷ ls) = pick (p l) (Some 0) (next (first p ls))
 
-abbrev pub last : (Line → Bool) → List Line → Found
-last p [] = Nothing
-last p (l ∷ ls) = or_else (next (last p ls)) (pick (p l) (At 0) Nothing)
+abbrev pub last : (Line → Bool) → List Line → Option ℕ
+last p [] = None
+last p (l ∷ ls) = or_else (next (last p ls)) (pick (p l) (Some 0) None)
 
-abbrev pub older : (Line → ℕ) → List Line → ℕ → Found → Found
-older key ls k Nothing = At 0
-older key ls k (At w) = pick (leb k (key (get_or ls w fresh))) (At 0) (At (suc w))
+abbrev pub older : (Line → ℕ) → List Line → ℕ → Option ℕ → Option ℕ
+older key ls k None = Some 0
+older key ls k (Some w) = pick (leb k (key (get_or ls w fresh))) (Some 0) (Some (suc w))
 
-abbrev pub earliest : (Line → ℕ) → (Line → Bool) → List Line → Found
-earliest key p [] = Nothing
+abbrev pub earliest : (Line → ℕ) → (Line → Bool) → List Line → Option ℕ
+earliest key p [] = None
 earliest key p (l ∷ ls) = pick (p l) (older key ls (key l) (earliest key p ls)) (next (earliest key p ls))
 
 -- ---- the victim
@@ -90,7 +88,7 @@ pub data Rule : Type 0 where
   by_key : (Line → ℕ) → Rule
   by_tree : ℕ → Rule
 
-abbrev pub choice_by : Rule → (Line → Bool) → List Line → Found
+abbrev pub choice_by : Rule → (Line → Bool) → List Line → Option ℕ
 choice_by (by_key key) p ways = earliest key p ways
 choice_by (by_tree t) p ways = tree_choice (λ w. get_or (map p ways) w false) t (levels (length ways))
 
@@ -102,7 +100,7 @@ unfoldable pub rule_of : Settings → Rules
 rule_of S t a = pick (is_tree S) (by_tree (get_or t.trees (set_index S a) 0)) (by_key (age S))
 
 -- "the highest wholly invalid candidate; with none", the candidate that the rule chooses
-abbrev pub victim : Rule → Settings → ℕ → List Line → Found
+abbrev pub victim : Rule → Settings → ℕ → List Line → Option ℕ
 victim R S d ways =
     or_else (last (λ l. candidate (enough_dirty S d) l && wholly_invalid l) ways) (choice_by R (candidate (enough_dirty S d)) ways)
 
@@ -123,9 +121,9 @@ abbrev pub write_back : Line → List Queued
 write_back l = pick (dirty l) (writing l.tag (map (λ s. s.mask) l.sectors) ∷ []) []
 
 -- "the line takes the new tag, all sectors INVALID, readable, with mask 0"; without a candidate refusal 5 or 6
-abbrev pub take_over : ℕ → List Line → Found → Place
-take_over a ways Nothing = no (pick (any has_reserved ways) SetBusy SetHeld)
-take_over a ways (At w) =
+abbrev pub take_over : ℕ → List Line → Option ℕ → Place
+take_over a ways None = no (pick (any has_reserved ways) SetBusy SetHeld)
+take_over a ways (Some w) =
     at record {
       way = w;
       line = emptied (block_of a);
@@ -133,9 +131,9 @@ take_over a ways (At w) =
       backs = write_back (get_or ways w fresh);
     }
 
-abbrev pub meet : Rule → Settings → ℕ → List Line → Access → Found → Place
-meet R S d ways x Nothing = take_over (address_of x) ways (victim R S d ways)
-meet R S d ways x (At w) =
+abbrev pub meet : Rule → Settings → ℕ → List Line → Access → Option ℕ → Place
+meet R S d ways x None = take_over (address_of x) ways (victim R S d ways)
+meet R S d ways x (Some w) =
     at record {
       way = w;
       line = get_or ways w fresh;

@@ -1,13 +1,12 @@
 -- "Records" at the current format: what RecordsOf defines over any, under the same names.
-use Rattle.std.specs.Prelude.{ℕ, Bool, List}
+use Rattle.model.specs.declared.Body.{Body}
+use Rattle.model.specs.declared.Stop.{Stop}
+use Rattle.std.specs.Prelude.{ℕ, Bool, List, Option, Result}
 use Rattle.model.specs.Format.{current}
 use Rattle.model.specs.Format as format
 use Rattle.model.specs.RecordsOf as records
 use Rattle.model.specs.declared.Event.{Event}
 use Rattle.model.specs.declared.Command.{Command}
-use Rattle.model.specs.declared.EventRead.{EventRead}
-use Rattle.model.specs.declared.CommandRead.{CommandRead}
-use Rattle.model.specs.declared.Record.{Record}
 unfoldable pub use Rattle.model.specs.RecordsOf.{bytes, no_kind, body_in, bytes_of, number_at, part, write_back_bytes, answered, refusals, refused_by, settings_in, rule_in, given_in, settings_kind, rule_bytes, given_bytes, record_at, body_of, before, next_of}
 pub use Rattle.model.specs.RecordsOf.{Parsed, parsed, broken}
 unfoldable pub use Rattle.model.specs.Format.{send_bytes, access_bytes}
@@ -40,10 +39,10 @@ event_bytes = records.event_bytes current
 abbrev pub log_bytes : List Event → List ℕ
 log_bytes = records.log_bytes current
 
-abbrev pub event_body : ℕ → List ℕ → EventRead
+abbrev pub event_body : ℕ → List ℕ → Option Event
 event_body = records.event_body current
 
-abbrev pub event_of : ℕ → List ℕ → EventRead
+abbrev pub event_of : ℕ → List ℕ → Option Event
 event_of = records.event_of current
 
 abbrev pub command_kind : Command → ℕ
@@ -55,25 +54,25 @@ command_body = records.command_body current
 abbrev pub command_bytes : Command → List ℕ
 command_bytes = records.command_bytes current
 
-abbrev pub command_in : ℕ → List ℕ → CommandRead
+abbrev pub command_in : ℕ → List ℕ → Option Command
 command_in = records.command_in current
 
-abbrev pub command_of : ℕ → List ℕ → CommandRead
+abbrev pub command_of : ℕ → List ℕ → Option Command
 command_of = records.command_of current
 
-abbrev pub read_at : List ℕ → ℕ → Record
+abbrev pub read_at : List ℕ → ℕ → Result Body Stop
 read_at = records.read_at current
 
 abbrev pub body_at : List ℕ → ℕ → List ℕ
 body_at = records.body_at current
 
-abbrev pub event_in : List ℕ → Record → EventRead
+abbrev pub event_in : List ℕ → Result Body Stop → Option Event
 event_in = records.event_in current
 
-abbrev pub event_at : List ℕ → ℕ → EventRead
+abbrev pub event_at : List ℕ → ℕ → Option Event
 event_at = records.event_at current
 
-abbrev pub command_at : List ℕ → ℕ → CommandRead
+abbrev pub command_at : List ℕ → ℕ → Option Command
 command_at = records.command_at current
 
 abbrev pub events_from : ℕ → List ℕ → ℕ → Parsed

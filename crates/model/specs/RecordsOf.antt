@@ -1,14 +1,14 @@
 -- "Records", over a format: the lengths of bodies, little-endian numbers, events and commands as bytes and out of bytes, reading a record
 -- at a place of a stream, the events of a whole log.
-use Rattle.std.specs.Prelude.{ℕ, zero, suc, ◌+◌, ◌*◌, ◌-◌, ◌/◌, ◌%◌, Bool, List, [], ◌∷◌, ◌++◌, length, take, drop, get_or, ltb, leb, eqb}
+use Rattle.model.specs.declared.Body.{Body}
+use Rattle.model.specs.declared.Stop.{Stop}
+use Rattle.std.specs.Prelude.{ℕ, zero, suc, ◌+◌, ◌*◌, ◌-◌, ◌/◌, ◌%◌, Bool, List, [], ◌∷◌, ◌++◌, length, take, drop, get_or, ltb, leb, eqb, Option, Some, None, Result, Ok, Err}
 use Rattle.words.specs.Words.{pick, all, any, within}
 use Rattle.model.specs.Numbers.{answer_number, refusal_number}
 use Rattle.model.specs.Kinds as kinds
 use Rattle.model.specs.Format.{Format, Kind, command_kinds, event_kinds, settings_kinds, read_kind, released_kind, ticket_bytes}
 use Rattle.model.specs.declared.Settings.{Settings}
 use Rattle.model.specs.declared.Given.{Given}
-use Rattle.model.specs.declared.GivenRule.{GivenRule}
-use Rattle.model.specs.declared.GivenRule.TheVariants.{LeftOut, Byte}
 use Rattle.model.specs.declared.Answer.TheVariants.{Hit, HitReserved, Miss, SectorMiss}
 use Rattle.model.specs.declared.Refusal.{Refusal}
 use Rattle.model.specs.declared.Refusal.TheVariants as refusal
@@ -16,13 +16,7 @@ use Rattle.model.specs.declared.Event.{Event}
 use Rattle.model.specs.declared.Event.TheVariants as ev
 use Rattle.model.specs.declared.Command.{Command}
 use Rattle.model.specs.declared.Command.TheVariants as cmd
-use Rattle.model.specs.declared.EventRead.{EventRead}
-use Rattle.model.specs.declared.EventRead.TheVariants as event
-use Rattle.model.specs.declared.CommandRead.{CommandRead}
-use Rattle.model.specs.declared.CommandRead.TheVariants as command
 use Rattle.model.specs.declared.Stop.TheVariants.{UnknownKind, CutShort}
-use Rattle.model.specs.declared.Record.{Record}
-use Rattle.model.specs.declared.Record.TheVariants.{Whole, Stopped}
 
 -- numbers that are bytes: the code knows that of any stream
 abbrev pub bytes : List ℕ → Bool
@@ -104,13 +98,13 @@ module _ (F : Format) where
 
 -- ---- events out of a body; a body that is no event's says so
 
-abbrev pub answered : ℕ → ℕ → EventRead
+abbrev pub answered : ℕ → ℕ → Option Event
 answered n line =
-    pick (eqb n 1) (event.Got (ev.Answered Hit line)) (
-    pick (eqb n 2) (event.Got (ev.Answered HitReserved line)) (
-    pick (eqb n 3) (event.Got (ev.Answered Miss line)) (
-    pick (eqb n 4) (event.Got (ev.Answered SectorMiss line))
-    event.None)))
+    pick (eqb n 1) (Some (ev.Answered Hit line)) (
+    pick (eqb n 2) (Some (ev.Answered HitReserved line)) (
+    pick (eqb n 3) (Some (ev.Answered Miss line)) (
+    pick (eqb n 4) (Some (ev.Answered SectorMiss line))
+    None)))
 
 -- the refusals in the order of their numbers, from 1 on
 abbrev pub refusals : List Refusal
@@ -129,26 +123,26 @@ refusals =
     ∷ refusal.QueueEmpty
     ∷ []
 
-abbrev pub refused_by : ℕ → EventRead
-refused_by n = pick (within 1 12 n) (event.Got (ev.Refused (get_or refusals (n - 1) refusal.QueueEmpty))) event.None
+abbrev pub refused_by : ℕ → Option Event
+refused_by n = pick (within 1 12 n) (Some (ev.Refused (get_or refusals (n - 1) refusal.QueueEmpty))) None
 
 module _ (F : Format) where
-  abbrev pub event_body : ℕ → List ℕ → EventRead
+  abbrev pub event_body : ℕ → List ℕ → Option Event
   event_body k b =
       pick (eqb k kinds.answer) (answered (number_at b 0 1) (number_at b 1 2)) (
       pick (eqb k kinds.refused) (refused_by (number_at b 0 1)) (
-      pick (eqb k kinds.read_queued) (event.Got (ev.ReadQueued (number_at b 0 8))) (
-      pick (eqb k kinds.write_back_queued) (event.Got (ev.WriteBackQueued (number_at b 0 8) (number_at b 8 4) (number_at b 12 4) (number_at b 16 4) (number_at b 20 4))) (
-      pick (eqb k (released_kind F)) (event.Got (ev.Released (number_at b 0 (ticket_bytes F)))) (
-      pick (eqb k kinds.read_sent) (event.Got (ev.ReadSent (number_at b 0 8))) (
-      pick (eqb k kinds.write_back_sent) (event.Got (ev.WriteBackSent (number_at b 0 8) (number_at b 8 4) (number_at b 12 4) (number_at b 16 4) (number_at b 20 4))) (
-      pick (eqb k kinds.filled) (event.Got (ev.Filled (number_at b 0 8))) (
-      pick (eqb k kinds.ticked) (event.Got ev.Ticked)
-      event.None))))))))
+      pick (eqb k kinds.read_queued) (Some (ev.ReadQueued (number_at b 0 8))) (
+      pick (eqb k kinds.write_back_queued) (Some (ev.WriteBackQueued (number_at b 0 8) (number_at b 8 4) (number_at b 12 4) (number_at b 16 4) (number_at b 20 4))) (
+      pick (eqb k (released_kind F)) (Some (ev.Released (number_at b 0 (ticket_bytes F)))) (
+      pick (eqb k kinds.read_sent) (Some (ev.ReadSent (number_at b 0 8))) (
+      pick (eqb k kinds.write_back_sent) (Some (ev.WriteBackSent (number_at b 0 8) (number_at b 8 4) (number_at b 12 4) (number_at b 16 4) (number_at b 20 4))) (
+      pick (eqb k kinds.filled) (Some (ev.Filled (number_at b 0 8))) (
+      pick (eqb k kinds.ticked) (Some ev.Ticked)
+      None))))))))
 
   -- a body of another length than its kind's is no event's
-  unfoldable pub event_of : ℕ → List ℕ → EventRead
-  event_of k b = pick (eqb (length b) (length_of F k)) (event_body k b) event.None
+  unfoldable pub event_of : ℕ → List ℕ → Option Event
+  event_of k b = pick (eqb (length b) (length_of F k)) (event_body k b) None
 
 -- ---- commands as bytes and out of a body, unjudged
 
@@ -166,8 +160,8 @@ settings_in b = record {
 }
 
 -- the same, as the record of kind k gives them
-abbrev pub rule_in : ℕ → List ℕ → GivenRule
-rule_in k b = pick (eqb k kinds.ruled) (Byte (number_at b 7 1)) LeftOut
+abbrev pub rule_in : ℕ → List ℕ → Option ℕ
+rule_in k b = pick (eqb k kinds.ruled) (Some (number_at b 7 1)) None
 
 abbrev pub given_in : ℕ → List ℕ → Given
 given_in k b = record {
@@ -180,13 +174,13 @@ given_in k b = record {
   rule = rule_in k b;
 }
 
-abbrev pub settings_kind : GivenRule → ℕ
-settings_kind LeftOut = kinds.settings
-settings_kind (Byte r) = kinds.ruled
+abbrev pub settings_kind : Option ℕ → ℕ
+settings_kind None = kinds.settings
+settings_kind (Some r) = kinds.ruled
 
-abbrev pub rule_bytes : GivenRule → List ℕ
-rule_bytes LeftOut = []
-rule_bytes (Byte r) = bytes_of 1 r
+abbrev pub rule_bytes : Option ℕ → List ℕ
+rule_bytes None = []
+rule_bytes (Some r) = bytes_of 1 r
 
 abbrev pub given_bytes : Given → List ℕ
 given_bytes g =
@@ -214,51 +208,55 @@ module _ (F : Format) where
   unfoldable pub command_bytes : Command → List ℕ
   command_bytes c = command_kind c ∷ command_body c
 
-  abbrev pub command_in : ℕ → List ℕ → CommandRead
+  abbrev pub command_in : ℕ → List ℕ → Option Command
   command_in k b =
-      pick (is_settings F k) (command.Got (cmd.Settings (given_in k b))) (
-      pick (eqb k (read_kind F)) (command.Got (cmd.Read (number_at b 0 8) (number_at b 8 (ticket_bytes F)))) (
-      pick (eqb k kinds.write) (command.Got (cmd.Write (number_at b 0 8) (number_at b 8 4))) (
-      pick (eqb k kinds.send) (command.Got cmd.Send) (
-      pick (eqb k kinds.fill) (command.Got (cmd.Fill (number_at b 0 8))) (
-      pick (eqb k kinds.tick) (command.Got (cmd.Tick (number_at b 0 4)))
-      command.None)))))
+      pick (is_settings F k) (Some (cmd.Settings (given_in k b))) (
+      pick (eqb k (read_kind F)) (Some (cmd.Read (number_at b 0 8) (number_at b 8 (ticket_bytes F)))) (
+      pick (eqb k kinds.write) (Some (cmd.Write (number_at b 0 8) (number_at b 8 4))) (
+      pick (eqb k kinds.send) (Some cmd.Send) (
+      pick (eqb k kinds.fill) (Some (cmd.Fill (number_at b 0 8))) (
+      pick (eqb k kinds.tick) (Some (cmd.Tick (number_at b 0 4)))
+      None)))))
 
   -- a body of another length than its kind's is no command's
-  unfoldable pub command_of : ℕ → List ℕ → CommandRead
-  command_of k b = pick (eqb (length b) (length_of F k)) (command_in k b) command.None
+  unfoldable pub command_of : ℕ → List ℕ → Option Command
+  command_of k b = pick (eqb (length b) (length_of F k)) (command_in k b) None
 
 -- ---- "Reading a record hands back the part of the caller's stream that holds its body, unjudged"
 
--- at a kind k whose body is n bytes, with m bytes after it: "it refuses with 14 (a kind in neither list), then 15"
-abbrev pub record_at : ℕ → ℕ → ℕ → ℕ → Record
-record_at at k n m = pick (eqb n no_kind) (Stopped UnknownKind) (pick (leb n m) (Whole k (at + 1) n (at + 1 + n)) (Stopped CutShort))
+-- a record that is there whole
+abbrev pub whole_record : ℕ → ℕ → ℕ → ℕ → Result Body Stop
+whole_record k start n next = Ok record { kind = k; start = start; len = n; next = next }
 
-abbrev pub body_of : List ℕ → Record → List ℕ
-body_of s (Whole k start n next) = part s start n
-body_of s (Stopped r) = []
+-- at a kind k whose body is n bytes, with m bytes after it: "it refuses with 14 (a kind in neither list), then 15"
+abbrev pub record_at : ℕ → ℕ → ℕ → ℕ → Result Body Stop
+record_at at k n m = pick (eqb n no_kind) (Err UnknownKind) (pick (leb n m) (whole_record k (at + 1) n (at + 1 + n)) (Err CutShort))
+
+abbrev pub body_of : List ℕ → Result Body Stop → List ℕ
+body_of s (Ok b) = part s b.start b.len
+body_of s (Err r) = []
 
 module _ (F : Format) where
   -- "also where no byte is left"
-  unfoldable pub read_at : List ℕ → ℕ → Record
-  read_at s at = pick (ltb at (length s)) (record_at at (get_or s at 0) (length_of F (get_or s at 0)) (length s - (at + 1))) (Stopped CutShort)
+  unfoldable pub read_at : List ℕ → ℕ → Result Body Stop
+  read_at s at = pick (ltb at (length s)) (record_at at (get_or s at 0) (length_of F (get_or s at 0)) (length s - (at + 1))) (Err CutShort)
 
   -- the body of the record at a place; nothing where reading stops
   unfoldable pub body_at : List ℕ → ℕ → List ℕ
   body_at s at = body_of s (read_at s at)
 
-  abbrev pub event_in : List ℕ → Record → EventRead
-  event_in s (Whole k start n next) = event_of F k (part s start n)
-  event_in s (Stopped r) = event.None
+  abbrev pub event_in : List ℕ → Result Body Stop → Option Event
+  event_in s (Ok b) = event_of F b.kind (part s b.start b.len)
+  event_in s (Err r) = None
 
-  unfoldable pub event_at : List ℕ → ℕ → EventRead
+  unfoldable pub event_at : List ℕ → ℕ → Option Event
   event_at s at = event_in s (read_at s at)
 
-  abbrev pub command_in_record : List ℕ → Record → CommandRead
-  command_in_record s (Whole k start n next) = command_of F k (part s start n)
-  command_in_record s (Stopped r) = command.None
+  abbrev pub command_in_record : List ℕ → Result Body Stop → Option Command
+  command_in_record s (Ok b) = command_of F b.kind (part s b.start b.len)
+  command_in_record s (Err r) = None
 
-  unfoldable pub command_at : List ℕ → ℕ → CommandRead
+  unfoldable pub command_at : List ℕ → ℕ → Option Command
   command_at s at = command_in_record s (read_at s at)
 
 -- ---- all the events of a log, or that some record of it is none
@@ -267,14 +265,14 @@ pub data Parsed : Type 0 where
   parsed : List Event → Parsed
   broken : Parsed
 
-abbrev pub before : EventRead → Parsed → Parsed
-before (event.Got e) (parsed es) = parsed (e ∷ es)
-before (event.Got e) broken = broken
-before event.None p = broken
+abbrev pub before : Option Event → Parsed → Parsed
+before (Some e) (parsed es) = parsed (e ∷ es)
+before (Some e) broken = broken
+before None p = broken
 
-abbrev pub next_of : Record → ℕ → ℕ
-next_of (Whole k start n next) at = next
-next_of (Stopped r) at = at
+abbrev pub next_of : Result Body Stop → ℕ → ℕ
+next_of (Ok b) at = b.next
+next_of (Err r) at = at
 
 module _ (F : Format) where
   -- from a place on, n records at most

@@ -1,5 +1,5 @@
 -- "Records", the runner, over a format: the checks at a record, what a record does, the run of a stream as a fold over its bytes.
-use Rattle.std.specs.Prelude.{ℕ, zero, suc, ◌+◌, ◌-◌, ◌≡◌, Bool, List, [], ◌∷◌, ◌++◌, length, take, drop, ltb, eqb}
+use Rattle.std.specs.Prelude.{ℕ, zero, suc, ◌+◌, ◌-◌, ◌≡◌, Bool, List, [], ◌∷◌, ◌++◌, length, take, drop, ltb, eqb, Option, Some, None, is_none}
 use Rattle.words.specs.Words.{pick}
 use Rattle.model.specs.Numbers.{stop_number}
 use Rattle.model.specs.Range.{in_range}
@@ -14,8 +14,6 @@ use Rattle.model.specs.declared.Access.TheVariants.{Read, Write}
 use Rattle.model.specs.declared.Refusal.TheVariants as refusal
 use Rattle.model.specs.declared.Command.{Command}
 use Rattle.model.specs.declared.Command.TheVariants as cmd
-use Rattle.model.specs.declared.CommandRead.{CommandRead}
-use Rattle.model.specs.declared.CommandRead.TheVariants as command
 use Rattle.model.specs.declared.Stop.{Stop}
 use Rattle.model.specs.declared.Stop.TheVariants.{SettingOutOfRange, SliceLength, NotSound, OutOfPlace, UnknownKind, CutShort, NoRoom}
 use Rattle.model.specs.declared.Stop.TheVariants as stop
@@ -25,11 +23,11 @@ use Rattle.model.specs.declared.Ran.{Ran}
 -- 2 lent tables of another length, 16 fewer than 64 bytes of event room (not asked of kind 0)"
 
 -- 1 and 2, then what is asked next
-abbrev pub lent_stop : Settings → Lent → Stop → Stop
-lent_stop S L next = pick (in_range S) (pick (lengths_fit S L) next SliceLength) SettingOutOfRange
+abbrev pub lent_stop : Settings → Lent → Option Stop → Option Stop
+lent_stop S L next = pick (in_range S) (pick (lengths_fit S L) next (Some SliceLength)) (Some SettingOutOfRange)
 
-abbrev pub settings_stop : Settings → Lent → Stop
-settings_stop S L = lent_stop S L stop.Nothing
+abbrev pub settings_stop : Settings → Lent → Option Stop
+settings_stop S L = lent_stop S L None
 
 module _ (F : Format) where
   -- the settings in the body of a record of kind k, with the bytes behind its kind
@@ -38,23 +36,23 @@ module _ (F : Format) where
 
   -- at any record: its kind k, the bytes behind that, and what is asked next of settings and of another kind; "To the runner event kinds are
   -- unknown kinds"
-  abbrev pub record_stop : ℕ → List ℕ → Stop → Stop → Stop
+  abbrev pub record_stop : ℕ → List ℕ → Option Stop → Option Stop → Option Stop
   record_stop k rest of_settings of_other =
-      pick (is_command F k) (pick (ltb (length rest) (length_of F k)) CutShort (pick (is_settings F k) of_settings of_other)) UnknownKind
+      pick (is_command F k) (pick (ltb (length rest) (length_of F k)) (Some CutShort) (pick (is_settings F k) of_settings of_other)) (Some UnknownKind)
 
-  abbrev pub room_stop : ℕ → Stop
-  room_stop room = pick (ltb room (event_room F)) NoRoom stop.Nothing
+  abbrev pub room_stop : ℕ → Option Stop
+  room_stop room = pick (ltb room (event_room F)) (Some NoRoom) None
 
   -- at the first one
-  unfoldable pub first_stop : Lent → ℕ → List ℕ → Stop
-  first_stop L k rest = record_stop k rest (settings_stop (settings_of k rest) L) OutOfPlace
+  unfoldable pub first_stop : Lent → ℕ → List ℕ → Option Stop
+  first_stop L k rest = record_stop k rest (settings_stop (settings_of k rest) L) (Some OutOfPlace)
 
   -- at a later one, with this much event room
-  unfoldable pub later_stop : ℕ → ℕ → List ℕ → Stop
-  later_stop room k rest = record_stop k rest OutOfPlace (room_stop room)
+  unfoldable pub later_stop : ℕ → ℕ → List ℕ → Option Stop
+  later_stop room k rest = record_stop k rest (Some OutOfPlace) (room_stop room)
 
-abbrev pub goes_on : Stop → Bool
-goes_on s = eqb (stop_number s) 0
+abbrev pub goes_on : Option Stop → Bool
+goes_on s = is_none s
 
 -- ---- what a record does
 
@@ -75,9 +73,9 @@ command_mask cmd.Send = 0
 command_mask (cmd.Fill a) = 0
 command_mask (cmd.Tick c) = 0
 
-abbrev pub step_read : Settings → CommandRead → Tables → Outcome Tables
-step_read S (command.Got c) t = step_of S c t
-step_read S command.None t = refused refusal.SettingOutOfRange
+abbrev pub step_read : Settings → Option Command → Tables → Outcome Tables
+step_read S (Some c) t = step_of S c t
+step_read S None t = refused refusal.SettingOutOfRange
 
 module _ (F : Format) where
   -- the step of kind k with the body that the rest begins with; later_stop lets no settings through, and whole bodies alone
@@ -86,29 +84,29 @@ module _ (F : Format) where
 
 -- ---- the run
 
-pub record Result (T : Type 0) : Type 0 where
-  pub stop : Stop
+pub record RunResult (T : Type 0) : Type 0 where
+  pub stop : Option Stop
   pub consumed : ℕ
   pub events : List ℕ
   pub tables : T
 
 module _ {T : Type 0} where
-  abbrev pub halt : Stop → T → Result T
+  abbrev pub halt : Option Stop → T → RunResult T
   halt n t = record { stop = n; consumed = 0; events = []; tables = t }
 
   -- n bytes and the event bytes es, then what o says
-  abbrev pub bytes_then : ℕ → List ℕ → Result T → Result T
+  abbrev pub bytes_then : ℕ → List ℕ → RunResult T → RunResult T
   bytes_then n es o = record { stop = o.stop; consumed = n + o.consumed; events = es ++ o.events; tables = o.tables }
 
 -- the slices of tables
-abbrev pub lent_result : Settings → Result Tables → Result Lent
+abbrev pub lent_result : Settings → RunResult Tables → RunResult Lent
 lent_result S o = record { stop = o.stop; consumed = o.consumed; events = o.events; tables = encode S o.tables }
 
 module _ (F : Format) where
   -- the records of the bytes, behind n bytes that are passed over: the body of a record that has been run. "Other refusals become 0x11
   -- and the run goes on. At the end of input: stop number 0."
-  unfoldable pub run_from : Settings → ℕ → ℕ → List ℕ → Tables → Result Tables
-  run_from S n room [] t = halt stop.Nothing t
+  unfoldable pub run_from : Settings → ℕ → ℕ → List ℕ → Tables → RunResult Tables
+  run_from S n room [] t = halt None t
   run_from S (suc n) room (b ∷ bs) t = run_from S n room bs t
   run_from S zero room (k ∷ bs) t =
       pick (goes_on (later_stop F room k bs))
@@ -117,8 +115,8 @@ module _ (F : Format) where
       (halt (later_stop F room k bs) t)
 
   -- "A stream starts with one kind 0, which makes the lent tables fresh and writes no event; until it is accepted they are unchanged"
-  unfoldable pub run : ℕ → List ℕ → Lent → Result Lent
-  run room [] L = halt stop.Nothing L
+  unfoldable pub run : ℕ → List ℕ → Lent → RunResult Lent
+  run room [] L = halt None L
   run room (k ∷ bs) L =
       pick (goes_on (first_stop F L k bs))
       (bytes_then (1 + length_of F k) []
@@ -128,17 +126,17 @@ module _ (F : Format) where
 -- ---- a run that goes on from kept tables and settings: "a part that goes on stops with 1, 2 or 3 before its first record, and with 13 at
 -- any settings record"
 
-abbrev pub kept_stop : Settings → Lent → Stop
-kept_stop S L = lent_stop S L (pick (sound_lent S L) stop.Nothing NotSound)
+abbrev pub kept_stop : Settings → Lent → Option Stop
+kept_stop S L = lent_stop S L (pick (sound_lent S L) None (Some NotSound))
 
 module _ (F : Format) where
   -- checked once, and also where there is no record; its records are later ones, of which settings are out of place
-  unfoldable pub resume : Settings → ℕ → List ℕ → Lent → Result Lent
+  unfoldable pub resume : Settings → ℕ → List ℕ → Lent → RunResult Lent
   resume S room s L = pick (goes_on (kept_stop S L)) (lent_result S (run_from F S 0 room s (tables_of S L))) (halt (kept_stop S L) L)
 
 -- ---- what the caller holds afterwards: the value returned, the event bytes ("beyond those written are unchanged"), the slices
 
-pub record Runs (o : Result Lent) (e : List ℕ) (r : Ran) (f : List ℕ) (M : Lent) : Type 0 where
+pub record Runs (o : RunResult Lent) (e : List ℕ) (r : Ran) (f : List ℕ) (M : Lent) : Type 0 where
   pub stop : r.stop ≡ o.stop
   pub consumed : r.consumed ≡ o.consumed
   pub written : r.written ≡ length o.events

@@ -1,9 +1,7 @@
 -- "Rule byte 2": each set has a binary tree over its ways, a number with one bit a node. Halves are numbers: 0 the lower, 1 the upper.
 -- A span of ways stands below each node: 2^k ways from the way `first`. Node 1 has all ways of the set.
-use Rattle.std.specs.Prelude.{ℕ, zero, suc, ◌+◌, ◌*◌, ◌-◌, ◌/◌, ◌%◌, ◌^◌, ◌≤◌, ◌≡◌, Bool, [], ◌∷◌, eqb, ltb, leb}
+use Rattle.std.specs.Prelude.{ℕ, zero, suc, ◌+◌, ◌*◌, ◌-◌, ◌/◌, ◌%◌, ◌^◌, ◌≤◌, ◌≡◌, Bool, [], ◌∷◌, eqb, ltb, leb, Option, Some, None}
 use Rattle.words.specs.Words.{pick, any, some}
-use Rattle.model.specs.declared.Found.{Found}
-use Rattle.model.specs.declared.Found.TheVariants.{At, Nothing}
 
 -- ---- bits
 
@@ -44,8 +42,8 @@ descent p t zero n first = first
 descent p t (suc k) n first = descent p t k (2 * n + goes p t k n first) (first + goes p t k n first * 2 ^ k)
 
 -- the choice among the candidates p of 2^k ways
-abbrev pub tree_choice : (ℕ → Bool) → ℕ → ℕ → Found
-tree_choice p t k = pick (some_from p 0 (2 ^ k)) (At (descent p t k 1 0)) Nothing
+abbrev pub tree_choice : (ℕ → Bool) → ℕ → ℕ → Option ℕ
+tree_choice p t k = pick (some_from p 0 (2 ^ k)) (Some (descent p t k 1 0)) None
 
 -- ---- after an access
 

@@ -1,9 +1,14 @@
-// The types of the cache model (document 01), with document 01's number for each case, and the constant table of answers.
+// The types of the cache model (document 01), with document 01's number for each case; in `numbers` these numbers and back, in `commands`
+// the access of a command and back.
 // Settings; sector status, sector and addresses; answers and refusals; an access; commands, events and the reading of
 // records; an entry of the queue; what a call tells and what a run returns.
 #![tactic(auto)]
 
+mod commands;
+mod numbers;
+
 // "The modelled cache": the settings, any values; document 01's ranges are checked by number 1.
+// Numbers, the rule too, and no enum: settings are any values until refusal 1 looks at them.
 #[derive(Clone, Copy)]
 pub struct Settings {
     pub sets: usize,
@@ -15,12 +20,12 @@ pub struct Settings {
     pub rule: usize,
 }
 
-#[derive(Clone, Copy)]
+#[derive(Clone, Copy, PartialEq, Eq)]
 pub enum Status {
-    Invalid,
-    Reserved,
-    Valid,
-    Modified,
+    Invalid = 0,
+    Reserved = 1,
+    Valid = 2,
+    Modified = 3,
 }
 
 #[derive(Clone, Copy)]
@@ -31,36 +36,36 @@ pub struct Sector {
 }
 
 // A block address: what tags are compared with.
-#[derive(Clone, Copy)]
+#[derive(Clone, Copy, PartialEq, Eq)]
 pub struct BlockAddress(pub u64);
 
 // A sector address: what the miss table is searched for.
-#[derive(Clone, Copy)]
+#[derive(Clone, Copy, PartialEq, Eq)]
 pub struct SectorAddress(pub u64);
 
-#[derive(Clone, Copy)]
+#[derive(Clone, Copy, PartialEq, Eq)]
 pub enum Answer {
-    Hit,
-    HitReserved,
-    Miss,
-    SectorMiss,
+    Hit = 1,
+    HitReserved = 2,
+    Miss = 3,
+    SectorMiss = 4,
 }
 
 // "Refusal numbers", in document 01's order: 1 to 12.
-#[derive(Clone, Copy)]
+#[derive(Clone, Copy, PartialEq, Eq)]
 pub enum Refusal {
-    SettingOutOfRange,
-    SliceLength,
-    NotSound,
-    BadAccess,
-    SetBusy,
-    SetHeld,
-    QueueFull,
-    EntryFull,
-    MissTableFull,
-    NotSent,
-    BadCycle,
-    QueueEmpty,
+    SettingOutOfRange = 1,
+    SliceLength = 2,
+    NotSound = 3,
+    BadAccess = 4,
+    SetBusy = 5,
+    SetHeld = 6,
+    QueueFull = 7,
+    EntryFull = 8,
+    MissTableFull = 9,
+    NotSent = 10,
+    BadCycle = 11,
+    QueueEmpty = 12,
 }
 
 // One access: a read wants mask 0, a write leaves its ticket unused.
@@ -78,14 +83,8 @@ pub enum Access {
     },
 }
 
-// A way of a set, if there is one.
-#[derive(Clone, Copy)]
-pub enum Found {
-    At(usize),
-    Nothing,
-}
-
-// "Records": the events. A write-back's four masks stand side by side, since an enum holds no array.
+// "Records": the events. A write-back's four masks stand side by side: of an
+// array the definitions would have a list, and every law of an event would have to say that it has four.
 #[derive(Clone, Copy)]
 pub enum Event {
     Answered {
@@ -114,13 +113,6 @@ pub enum Event {
     Ticked,
 }
 
-// The rule byte of a settings record; kind 0 has none, which means least recently used (L1).
-#[derive(Clone, Copy)]
-pub enum GivenRule {
-    LeftOut,
-    Byte(u8),
-}
-
 // The settings as a record gives them, unjudged.
 #[derive(Clone, Copy)]
 pub struct Given {
@@ -130,7 +122,8 @@ pub struct Given {
     pub misses: u8,
     pub readers: u8,
     pub queue: u8,
-    pub rule: GivenRule,
+    // Kind 0 has none, which means least recently used (L1).
+    pub rule: Option<u8>,
 }
 
 // "Records": the commands, unjudged.
@@ -144,63 +137,39 @@ pub enum Command {
     Tick(u32),
 }
 
-// What a check by itself comes to.
+// A record's kind, where its body lies and where the next record begins.
 #[derive(Clone, Copy)]
-pub enum Verdict {
-    Passed,
-    Refused(Refusal),
+pub struct Body {
+    pub kind: u8,
+    pub start: usize,
+    pub len: usize,
+    pub next: usize,
 }
 
-// What reading a record finds: where its body lies and where the next record begins, or why it stops.
-#[derive(Clone, Copy)]
-pub enum Record {
-    Whole {
-        kind: u8,
-        start: usize,
-        len: usize,
-        next: usize,
-    },
-    Stopped(Stop),
-}
-
-// "Records", the stop numbers: nothing stops (0), 1, 2, 3, 13, 14, 15, 16.
-#[derive(Clone, Copy)]
+// "Records", the stop numbers: 1, 2, 3, 13, 14, 15, 16; where nothing stops, 0.
+#[derive(Clone, Copy, PartialEq, Eq)]
 pub enum Stop {
-    Nothing,
-    SettingOutOfRange,
-    SliceLength,
-    NotSound,
-    OutOfPlace,
-    UnknownKind,
-    CutShort,
-    NoRoom,
-}
-
-// The event or the command of a body, if it is one.
-#[derive(Clone, Copy)]
-pub enum EventRead {
-    Got(Event),
-    None,
-}
-
-#[derive(Clone, Copy)]
-pub enum CommandRead {
-    Got(Command),
-    None,
+    SettingOutOfRange = 1,
+    SliceLength = 2,
+    NotSound = 3,
+    OutOfPlace = 13,
+    UnknownKind = 14,
+    CutShort = 15,
+    NoRoom = 16,
 }
 
 // What a run of a stream returns: why it stopped, the bytes consumed before that and the bytes written.
 #[derive(Clone, Copy)]
 pub struct Ran {
-    pub stop: Stop,
+    pub stop: Option<Stop>,
     pub consumed: usize,
     pub written: usize,
 }
 
-#[derive(Clone, Copy)]
+#[derive(Clone, Copy, PartialEq, Eq)]
 pub enum QueueKind {
-    Read,
-    WriteBack,
+    Read = 1,
+    WriteBack = 2,
 }
 
 // An entry of the queue: a read of a sector address, its masks zero, or a write-back of a block address with its four masks.
@@ -213,6 +182,7 @@ pub struct Queued {
 
 // What a call tells: its first event, then the first `queues` entries, which it queued, then the first `count` tickets, which it
 // released.
+// Arrays with counts: a reply is copied, and no heap is used.
 #[derive(Clone, Copy)]
 pub struct Reply {
     pub first: Event,

@@ -1,7 +1,7 @@
-// Where a program's bytes go: standard output, and standard error for what it has to say.
+// Where a program's bytes go: standard output, and standard error for what it has to say; and text as it is formatted.
 #![tactic(auto)]
 
-ghost use Rattle.std.specs.Prelude.{◌≤◌, length};
+ghost use Rattle.std.specs.Prelude.{◌≡◌, ◌+◌, ◌-◌, ◌≤◌, min, length, take};
 
 use std::fmt;
 use std::fmt::Write as _;
@@ -14,27 +14,61 @@ pub struct Output {
     err: Stderr,
 }
 
-impl Output {
-    pub fn new(out: Stdout, err: Stderr) -> Output {
-        Output { out, err }
+// Text as it is formatted, as far as there is room.
+#[derive(Drop)]
+pub struct Page<const N: usize> {
+    bytes: [u8; N],
+    len: usize,
+    ghost within: { len ≤ N },
+}
+
+impl<const N: usize> Page<N> {
+    pub fn new() -> Page<N>
+        ensures { result.len ≡ 0 }
+    {
+        Page {
+            bytes: [0; N],
+            len: 0,
+        }
+    }
+
+    // What was formatted.
+    pub fn text(&self) -> &[u8]
+        ensures { result.now ≡ take self.now.len self.now.bytes }
+    {
+        &self.bytes[..self.len]
+    }
+
+    // How many bytes there still is room for.
+    pub fn room(&self) -> usize
+        ensures { result ≡ N - self.now.len }
+    {
+        N - self.len
+    }
+
+    // These bytes behind what was formatted, as far as there is room.
+    pub fn push(&mut self, s: &[u8])
+        ensures { self.new.len ≡ min N (self.old.len + length s.now) }
+    {
+        let start = self.len;
+        let n = s.len().min(N - start);
+        let end = start + n;
+        let bytes = &mut self.bytes[..];
+        bytes[start..end].copy_from_slice(&s[..n]);
+        self.len = end;
+    }
+
+    // As if nothing had been formatted.
+    pub fn clear(&mut self)
+        ensures { self.new.len ≡ 0 }
+    {
+        self.len = 0;
     }
 }
 
-// Text as it is formatted, as far as there is room.
-#[derive(Drop)]
-struct Line {
-    bytes: [u8; 256],
-    len: usize,
-}
-
-impl fmt::Write for Line {
+impl<const N: usize> fmt::Write for Page<N> {
     fn write_str(&mut self, s: &str) -> fmt::Result {
-        for b in s.as_bytes() {
-            if self.len < 256 {
-                self.bytes[self.len] = *b;
-                self.len += 1;
-            }
-        }
+        self.push(s.as_bytes());
         Ok(())
     }
 }
@@ -42,63 +76,65 @@ impl fmt::Write for Line {
 // Behind the system's own words for an error stands its number.
 const NUMBER: &[u8] = b" (os error ";
 
-// Where the number begins, or the end where there is none.
-fn words_end(s: &[u8]) -> usize
-    ensures { result ≤ length s.now }
-{
-    for i in 0..s.len() {
-        if s[i..].starts_with(NUMBER) {
-            return i;
-        }
+// The words without the number.
+fn without_number(s: &[u8]) -> &[u8] {
+    match s.windows(NUMBER.len()).position(|w| w == NUMBER) {
+        Some(end) => &s[..end],
+        None => s,
     }
-    s.len()
 }
 
-// Writes to standard error. Where that fails, nothing can be said.
-pub fn say(to: Output, s: &[u8]) {
-    let _ = to.err.write_all(s);
-}
+impl Output {
+    pub fn new(out: Stdout, err: Stderr) -> Output {
+        Output { out, err }
+    }
 
-// A number, in decimal digits, on standard error.
-pub fn say_number(to: Output, n: u64) {
-    let _ = to.err.print(n);
-}
+    // Writes to standard error. Where that fails, nothing can be said.
+    pub fn say(self, s: &[u8]) {
+        let _ = self.err.write_all(s);
+    }
 
-// Says a line on standard error: what failed, a colon and the system's words for why.
-pub fn fail(to: Output, what: &[u8], why: Error) {
-    let mut line = Line {
-        bytes: [0; 256],
-        len: 0,
-    };
-    let _ = write!(line, "{why}");
-    let len = line.len.min(256);
-    let words = &line.bytes[..len];
-    let end = words_end(words);
-    say(to, what);
-    say(to, b": ");
-    say(to, &words[..end]);
-    say(to, b"\n");
-}
+    // What prints itself, on standard error.
+    pub fn say_shown<D: fmt::Display + Drop>(self, shown: D) {
+        let _ = self.err.print(shown);
+    }
 
-// Writes to standard output; says whether it went, and on standard error why it did not. A reader that has gone away is nobody to tell.
-pub fn write(to: Output, s: &[u8]) -> bool {
-    match to.out.write_all(s) {
-        Ok(()) => true,
-        Err(why) => {
-            if why.kind() != ErrorKind::BrokenPipe {
-                fail(to, b"write", why);
+    // A number, in decimal digits, on standard error.
+    pub fn say_number(self, n: u64) {
+        let _ = self.err.print(n);
+    }
+
+    // Says a line on standard error: what failed, a colon and the system's words for why.
+    pub fn fail(self, what: &[u8], why: Error) {
+        let mut line: Page<256> = Page::new();
+        let _ = write!(line, "{why}");
+        self.say(what);
+        self.say(b": ");
+        self.say(without_number(line.text()));
+        self.say(b"\n");
+    }
+
+    // Writes to standard output; says whether it went, and on standard error why it did not. A reader that has gone away is nobody to tell.
+    // A bool and no Result: why it failed is said here, and nobody has use for it.
+    pub fn write(self, s: &[u8]) -> bool {
+        match self.out.write_all(s) {
+            Ok(()) => true,
+            Err(why) => {
+                if why.kind() != ErrorKind::BrokenPipe {
+                    self.fail(b"write", why);
+                }
+                false
             }
-            false
         }
     }
-}
 
-// Writes to standard output, for a program that goes on whether it went or not.
-pub fn put(to: Output, s: &[u8]) {
-    let _ = to.out.write_all(s);
-}
+    // Writes to standard output, for a program that goes on whether it went or not.
+    pub fn put(self, s: &[u8]) {
+        let _ = self.out.write_all(s);
+    }
 
-// A number, in decimal digits, in the same way.
-pub fn put_number(to: Output, n: u64) {
-    let _ = to.out.print(n);
+    // A number, in decimal digits, in the same way.
+    pub fn put_number(self, n: u64) {
+        let _ = self.out.print(n);
+    }
 }

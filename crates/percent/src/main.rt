@@ -2,77 +2,47 @@
 // rising: a heading, a line for each, and a last line that says how many there are and how many are at a legal cache's size.
 #![tactic(auto)]
 
-use output::Output;
-use percentage::{Listed, Share};
-
-// A 32-bit number as a 64-bit one.
-fn wide(x: u32) -> u64 {
-    x as u64
-}
-
-// A number and a space.
-fn number(to: Output, n: u64) {
-    output::put_number(to, n);
-    output::put(to, b" ");
-}
+use model::Refusal;
+use percentage::Triple;
+use std::fmt;
 
 // Whether a share meets its percentage, in a word.
-fn answer(to: Output, s: Share) {
-    match s {
-        Share::Meets(yes) => {
-            if yes {
-                output::put(to, b"yes");
-            } else {
-                output::put(to, b"no");
-            }
-        }
-        Share::Refused(_) => {
-            output::put(to, b"refused");
-        }
+fn answer(share: Result<bool, Refusal>) -> &'static str {
+    match share {
+        Ok(true) => "yes",
+        Ok(false) => "no",
+        Err(_) => "refused",
     }
 }
 
 // One difference: lines, dirty, P, the float answer and ours.
-fn line(to: Output, lines: u32, dirty: u32, percent: u32) {
-    number(to, wide(lines));
-    number(to, wide(dirty));
-    number(to, wide(percent));
-    answer(to, percentage::float_share(dirty, lines, percent));
-    output::put(to, b" ");
-    answer(to, percentage::whole_share(dirty, lines, percent));
-    output::put(to, b"\n");
-}
+#[derive(Clone, Copy)]
+struct Line(Triple);
 
-// A line for each three numbers, and how many of them have a legal cache's lines.
-fn show(to: Output, s: &[u32]) -> usize {
-    let mut i = 0usize;
-    let mut legal = 0usize;
-    while i < s.len() {
-        if s.len() - i < 3 {
-            return legal;
-        }
-        line(to, s[i], s[i + 1], s[i + 2]);
-        if percentage::legal_size(s[i]) {
-            legal += 1;
-        }
-        i += 3;
+impl fmt::Display for Line {
+    fn fmt<W: fmt::Write>(&self, f: &mut fmt::Formatter<W>) -> fmt::Result {
+        let t = self.0;
+        let float = answer(percentage::float_share(t));
+        let ours = answer(percentage::whole_share(t));
+        write!(f, "{} {} {} {float} {ours}", t.lines, t.dirty, t.percent)
     }
-    legal
 }
 
-// Lists where the two percentages differ.
+// Lists where the two percentages differ. Where standard output fails, nobody is left to tell.
 fn main(rt: HostRuntime) {
-    let to = Output::new(rt.stdout(), rt.stderr());
-    output::put(to, b"lines dirty P float ours\n");
-    let mut out = [0u32; 60];
-    let listed = percentage::list(&mut out);
-    let Listed::All(n) = listed else {
-        output::put(to, b"no room\n");
+    let _ = println!(rt; "lines dirty P float ours");
+    let mut room = [Triple::default(); 20];
+    let Some(n) = percentage::list(&mut room) else {
+        let _ = println!(rt; "no room");
         return;
     };
-    let legal = show(to, &out[..n]);
-    number(to, (n / 3) as u64);
-    output::put(to, b"differences, ");
-    number(to, legal as u64);
-    output::put(to, b"at the size of a legal cache\n");
+    let found = &room[..n];
+    for t in found {
+        let _ = println!(rt; "{}", Line(*t));
+    }
+    let legal = found
+        .iter()
+        .filter(|t| percentage::legal_size(t.lines))
+        .count();
+    let _ = println!(rt; "{n} differences, {legal} at the size of a legal cache");
 }

@@ -1,14 +1,14 @@
 -- What the list of differences comes to: at 100, 200, .. 1,000 lines, 53 of each hundred at P = 53 and 59 at P = 59. Assumes nothing.
 use Rattle.words.proofs.General.{ℕ, zero, suc, ◌+◌, ◌-◌, ◌*◌, ◌%◌, ◌≤◌, ◌<◌, zero-le, eq_of_mul-eq-mul_left, eq_of_mul-eq-mul_right, mul_left_comm, arith, ◌≡◌, refl, sym, ap, ◌∙◌}
 use Rattle.words.proofs.General.{◌⊎◌, inl, inr, ⊎_elim, true, false, List, [], ◌∷◌, ◌++◌, flat_map, length, eqb, eqb-true, or_cases}
-use Rattle.percentage.specs.declared.Difference.{Difference}
-use Rattle.percentage.specs.Differences.{range, triple, percent_row, percent_rows, tables, differ, keep_differing, differences, hundreds, flat}
+use Rattle.percentage.specs.declared.Triple.{Triple}
+use Rattle.percentage.specs.Differences.{range, triple, percent_row, percent_rows, tables, differ, keep_differing, differences, hundreds}
 use Rattle.percentage.proofs.Ties.{falls_short, differ-yes, differ-no}
 use Rattle.percentage.proofs.Legal.{tied}
 use Rattle.percentage.proofs.Lists.{range_cons, range_none, row_cons, rows_cons, tables_cons, keep_append, keep_yes, keep_no}
 
 -- ---- over places that keep nothing
-skip : (f : ℕ → List Difference) (a b : ℕ) → a ≤ b → ((x : ℕ) → a ≤ x → x < b → f x ≡ f (x + 1)) → f a ≡ f b
+skip : (f : ℕ → List Triple) (a b : ℕ) → a ≤ b → ((x : ℕ) → a ≤ x → x < b → f x ≡ f (x + 1)) → f a ≡ f b
 skip f a b u h = go (b - a) a (omega arith) h
   where
     go : (n a : ℕ) → a + n ≡ b → ((x : ℕ) → a ≤ x → x < b → f x ≡ f (x + 1)) → f a ≡ f b
@@ -51,7 +51,7 @@ module _ (l : ℕ) (L : 1 ≤ l) (M : l ≤ 1024) where
       skip (λ e. keep_differing (percent_rows l e)) d b u (λ e v w. rw (rows_step l e (omega arith), row_quiet l e L M (omega arith) (λ p. n e p v w)))
 
   rows-one : (d p : ℕ) → d ≤ l → p ≤ 100 → falls_short p ≡ true → 100 * d ≡ p * l → keep_differing (percent_rows l d) ≡ triple l d p ∷ keep_differing (percent_rows l (d + 1))
-  rows-one d p D P s e = rows_step l d D ∙ ap (λ (ts : List Difference). ts ++ keep_differing (percent_rows l (d + 1))) (row_one l d L M D p P s e)
+  rows-one d p D P s e = rows_step l d D ∙ ap (λ (ts : List Triple). ts ++ keep_differing (percent_rows l (d + 1))) (row_one l d L M D p P s e)
 
   rows_quiet : (l % 100 ≡ 0 → ⊥) → keep_differing (percent_rows l 0) ≡ []
   rows_quiet n = rows_skip 0 (l + 1) zero-le (omega arith) (λ e p u v s h. n (tied e l p s h)) ∙ rows_end l
@@ -63,7 +63,7 @@ tied_at e k p s h = ⊎_elim (λ g. inl (at 53 (eqb-true p 53 g))) (λ g. inr (a
     at : (q : ℕ) → p ≡ q → e ≡ q * k
     at q g = eq_of_mul-eq-mul_left 100 (omega arith) e (q * k) (h ∙ ap (λ (z : ℕ). z * (100 * k)) g ∙ mul_left_comm q 100 k)
 
-pair : ℕ → List Difference
+pair : ℕ → List Triple
 pair k = triple (100 * k) (53 * k) 53 ∷ triple (100 * k) (59 * k) 59 ∷ []
 
 rows_hundred : (k : ℕ) → 1 ≤ k → k ≤ 10 → keep_differing (percent_rows (100 * k) 0) ≡ pair k
@@ -71,10 +71,10 @@ unfolding pair
 rows_hundred k K X =
     rows_skip (100 * k) L M 0 (53 * k) zero-le (omega arith) (λ e p u v s h. between e p s h (omega arith) (omega arith))
     ∙ rows-one (100 * k) L M (53 * k) 53 (omega arith) (omega arith) refl (omega arith)
-    ∙ ap (λ (ts : List Difference). triple (100 * k) (53 * k) 53 ∷ ts)
+    ∙ ap (λ (ts : List Triple). triple (100 * k) (53 * k) 53 ∷ ts)
     (rows_skip (100 * k) L M (53 * k + 1) (59 * k) (omega arith) (omega arith) (λ e p u v s h. between e p s h (omega arith) (omega arith))
     ∙ rows-one (100 * k) L M (59 * k) 59 (omega arith) (omega arith) refl (omega arith)
-    ∙ ap (λ (ts : List Difference). triple (100 * k) (59 * k) 59 ∷ ts)
+    ∙ ap (λ (ts : List Triple). triple (100 * k) (59 * k) 59 ∷ ts)
     (rows_skip (100 * k) L M (59 * k + 1) (100 * k + 1) (omega arith) (omega arith) (λ e p u v s h. between e p s h (omega arith) (omega arith))
     ∙ rows_end (100 * k)))
   where
@@ -108,6 +108,6 @@ pub differences_are : differences ≡ hundreds
 unfolding differences hundreds pair
 differences_are = after 10 0 refl
 
-pub sixty : length (flat differences) ≡ 60
-unfolding flat hundreds
-sixty = ap (λ (ts : List Difference). length (flat ts)) differences_are
+pub twenty : length differences ≡ 20
+unfolding hundreds
+twenty = ap (length {A = Triple}) differences_are

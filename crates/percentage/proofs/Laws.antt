@@ -17,7 +17,6 @@ use denote.Floats.{passes, is_true}
 use Rattle.model.proofs.Terms.{refusal_number, lines_of, enough_dirty}
 use Rattle.model.specs.declared.Settings.{Settings}
 use Rattle.percentage.specs.Percent.{as_single, percent_of, float_meets, whole_meets, percent_in_range, PercentRanged, out_of_range, share_of}
-use Rattle.percentage.specs.declared.Share.TheVariants.{Meets}
 
 -- ---- tests
 pub agreed : (p q : Bool) → Bool·beq p q ≡ true → p ≡ q
@@ -132,4 +131,4 @@ pub powers_agree : (S : Settings) (d k : ℕ) → lines_of S ≡ 2 ^ k → Perce
 powers_agree S d k e r = agree_at d (lines_of S) S.dirty k e r ∙ sym (ours S d)
 
 pub same_answer : (d l p k : ℕ) → l ≡ 2 ^ k → share_of (percent_in_range d l p) (float_meets d l p) ≡ share_of (percent_in_range d l p) (whole_meets d l p)
-same_answer d l p k e = ⊎_elim (λ t. rw t (ap Meets (agree_at d l p k e (percent_ranged d l p t)))) (λ t. rw t) (flag (percent_in_range d l p))
+same_answer d l p k e = ⊎_elim (λ t. rw t (ap (λ (b : Bool). share_of true b) (agree_at d l p k e (percent_ranged d l p t)))) (λ t. rw t) (flag (percent_in_range d l p))

@@ -1,6 +1,6 @@
 -- Document 02, L11: the dirty percentage "in 32-bit floats", and the engine's rule beside it. The answers with their refusal; the sizes that
 -- settings in range allow.
-use Rattle.std.specs.Prelude.{ℕ, ◌≤◌, ◌≡◌, Bool, true, false, ◌&&◌, leb, pos, Float}
+use Rattle.std.specs.Prelude.{ℕ, ◌≤◌, ◌≡◌, Bool, true, false, ◌&&◌, leb, pos, Float, Result, Ok, Err}
 use Rattle.std.specs.Float.{binary32}
 use Rattle.std.specs.Float.Ieee.{div, mul, le, of_int}
 use Rattle.model.specs.Probe.{enough_dirty}
@@ -8,8 +8,6 @@ use Rattle.model.specs.Range as range
 use Rattle.model.specs.declared.Settings.{Settings}
 use Rattle.model.specs.declared.Refusal.{Refusal}
 use Rattle.model.specs.declared.Refusal.TheVariants.{SettingOutOfRange}
-use Rattle.percentage.specs.declared.Share.{Share}
-use Rattle.percentage.specs.declared.Share.TheVariants.{Meets, Refused}
 
 -- ---- the two answers
 
@@ -51,9 +49,9 @@ pub record PercentRanged (d l p : ℕ) : Type 0 where
 abbrev pub out_of_range : Refusal
 out_of_range = SettingOutOfRange
 
-abbrev pub share_of : Bool → Bool → Share
-share_of true b = Meets b
-share_of false b = Refused out_of_range
+abbrev pub share_of : Bool → Bool → Result Bool Refusal
+share_of true b = Ok b
+share_of false b = Err out_of_range
 
 -- ---- whether settings in range have this many lines
 abbrev pub Legal : ℕ → Bool → Type 0

@@ -1,176 +1,194 @@
-// The published dirty percentage, in 32-bit floats, beside the engine's whole-number rule (document 02, L11): the two answers,
-// the list of the places where they differ, and which sizes are a cache's.
+// The published dirty percentage, in 32-bit floats, beside the engine's whole-number rule (document 02, L11): triples of lines, dirty
+// and P, the two answers, the list of the places where they differ, and which sizes are a cache's.
 #![tactic(auto)]
 
-ghost use Rattle.std.specs.Prelude.{◌≡◌};
-ghost use Rattle.percentage.specs.Differences.{differ, Startable, Next, FindsNext, Lists};
-ghost use Rattle.percentage.specs.Percent.{float_meets, whole_meets, percent_in_range, PercentRanged, share_of, Legal};
+ghost use Rattle.std.specs.Prelude.{◌≡◌, ◌+◌, ◌≤◌, true, false, [], MatchResult};
+ghost use Rattle.percentage.specs.Differences.{differ, differences_from, rows_left, tables_left, Startable, FirstOf, Next, FindsNext, Lists};
+ghost use Rattle.percentage.specs.Percent.{float_meets, whole_meets, percent_in_range, PercentRanged, out_of_range, share_of, Legal};
 
 use model::Refusal;
 
-// The answer, or a refusal: P above 100, lines not from 1 to 1,024, or dirty above lines.
-#[derive(Clone, Copy)]
-pub enum Share {
-    Meets(bool),
-    Refused(Refusal),
-}
-
-// Lines from 1 to 1,024, dirty from 0 to lines, and P from 0 to 100.
-pub fn in_range(dirty: u32, lines: u32, percent: u32) -> bool
-    ensures { result ≡ percent_in_range dirty lines percent }
-{
-    if lines < 1 {
-        return false;
-    }
-    if 1024 < lines {
-        return false;
-    }
-    if lines < dirty {
-        return false;
-    }
-    percent <= 100
-}
-
-// dirty / lines, times 100, each rounded once to an `f32`, and whether that is at least `percent`.
-fn float_meets(dirty: u32, lines: u32, percent: u32) -> bool
-    requires { PercentRanged dirty lines percent }
-    ensures { result ≡ float_meets dirty lines percent }
-{
-    let part = dirty as f32 / lines as f32;
-    let percentage = part * 100.0;
-    percentage >= percent as f32
-}
-
-// 100 × dirty ≥ P × lines.
-fn whole_meets(dirty: u32, lines: u32, percent: u32) -> bool
-    requires { PercentRanged dirty lines percent }
-    ensures { result ≡ whole_meets dirty lines percent }
-{
-    100 * dirty >= percent * lines
-}
-
-// The float answer.
-pub fn float_share(dirty: u32, lines: u32, percent: u32) -> Share
-    ensures { result ≡ share_of (percent_in_range dirty lines percent) (float_meets dirty lines percent) }
-{
-    if in_range(dirty, lines, percent) {
-        Share::Meets(float_meets(dirty, lines, percent))
-    } else {
-        Share::Refused(Refusal::SettingOutOfRange)
-    }
-}
-
-// The engine's answer, with the same refusals.
-pub fn whole_share(dirty: u32, lines: u32, percent: u32) -> Share
-    ensures { result ≡ share_of (percent_in_range dirty lines percent) (whole_meets dirty lines percent) }
-{
-    if in_range(dirty, lines, percent) {
-        Share::Meets(whole_meets(dirty, lines, percent))
-    } else {
-        Share::Refused(Refusal::SettingOutOfRange)
-    }
-}
-
-// Lines, dirty and P.
-#[derive(Clone, Copy)]
-pub struct Difference {
+// A number of lines, how many of them are dirty, and P.
+#[derive(Clone, Copy, Default, PartialEq, Eq)]
+pub struct Triple {
     pub lines: u32,
     pub dirty: u32,
     pub percent: u32,
 }
 
-#[derive(Clone, Copy)]
-pub enum Found {
-    At(Difference),
-    Nothing,
-    Refused(Refusal),
+impl Triple {
+    // Lines from 1 to 1,024, dirty from 0 to lines, and P from 0 to 100.
+    pub fn in_range(self) -> bool
+        ensures { result ≡ percent_in_range self.dirty self.lines self.percent }
+    {
+        1 <= self.lines && self.lines <= 1024 && self.dirty <= self.lines && self.percent <= 100
+    }
 }
 
-// Whether the two answers differ.
-fn differs(dirty: u32, lines: u32, percent: u32) -> bool
-    requires { PercentRanged dirty lines percent }
-    ensures { result ≡ differ dirty lines percent }
+// A triple in range.
+#[derive(Clone, Copy)]
+struct Ranged {
+    triple: Triple,
+    ghost ranged: { PercentRanged triple.dirty triple.lines triple.percent },
+}
+
+impl TryFrom<Triple> for Ranged {
+    type Error = Refusal;
+
+    ghost try_from_gives = { λ t r. MatchResult r
+        (λ x. (x.triple ≡ t) × (percent_in_range t.dirty t.lines t.percent ≡ true))
+        (λ e. (e ≡ out_of_range) × (percent_in_range t.dirty t.lines t.percent ≡ false)) };
+
+    fn try_from(triple: Triple) -> Result<Ranged, Refusal> {
+        if triple.in_range() {
+            Ok(Ranged { triple })
+        } else {
+            Err(Refusal::SettingOutOfRange)
+        }
+    }
+}
+
+impl Ranged {
+    // dirty / lines, times 100, each rounded once to an `f32`, and whether that is at least P.
+    fn float_meets(self) -> bool
+        ensures { result ≡ float_meets self.triple.dirty self.triple.lines self.triple.percent }
+    {
+        let Triple {
+            lines,
+            dirty,
+            percent,
+        } = self.triple;
+        let part = dirty as f32 / lines as f32;
+        let percentage = part * 100.0;
+        percentage >= percent as f32
+    }
+
+    // 100 × dirty ≥ P × lines.
+    fn whole_meets(self) -> bool
+        ensures { result ≡ whole_meets self.triple.dirty self.triple.lines self.triple.percent }
+    {
+        let Triple {
+            lines,
+            dirty,
+            percent,
+        } = self.triple;
+        100 * dirty >= percent * lines
+    }
+
+    // Whether the two answers differ.
+    fn differs(self) -> bool
+        ensures { result ≡ differ self.triple.dirty self.triple.lines self.triple.percent }
+    {
+        self.float_meets() != self.whole_meets()
+    }
+}
+
+// The float answer.
+pub fn float_share(t: Triple) -> Result<bool, Refusal>
+    ensures { result ≡ share_of (percent_in_range t.dirty t.lines t.percent) (float_meets t.dirty t.lines t.percent) }
 {
-    float_meets(dirty, lines, percent) != whole_meets(dirty, lines, percent)
+    Ok(Ranged::try_from(t)?.float_meets())
+}
+
+// The engine's answer, with the same refusals.
+pub fn whole_share(t: Triple) -> Result<bool, Refusal>
+    ensures { result ≡ share_of (percent_in_range t.dirty t.lines t.percent) (whole_meets t.dirty t.lines t.percent) }
+{
+    Ok(Ranged::try_from(t)?.whole_meets())
+}
+
+// The first difference of these lines and this dirty count, with P from `from` to 100.
+fn first_in_row(lines: u32, dirty: u32, from: u32) -> Option<Triple>
+    requires { Startable dirty lines from }
+    ensures { FirstOf (differences_from dirty lines from) (rows_left lines (dirty + 1)) result }
+{
+    for percent in from..101 {
+        let triple = Triple {
+            lines,
+            dirty,
+            percent,
+        };
+        if (Ranged { triple }).differs() {
+            return Some(triple);
+        }
+    }
+    None
+}
+
+// The first difference of these lines, with dirty from `from` to lines, and every P.
+fn first_in_rows(lines: u32, from: u32) -> Option<Triple>
+    requires { (1 ≤ lines) × (lines ≤ 1024) × (from ≤ lines + 1) }
+    ensures { FirstOf (rows_left lines from) (tables_left (lines + 1)) result }
+{
+    for dirty in from..lines + 1 {
+        if let Some(triple) = first_in_row(lines, dirty, 0) {
+            return Some(triple);
+        }
+    }
+    None
+}
+
+// The first difference with lines from `from` to 1,024, and every dirty count and P.
+fn first_in_tables(from: u32) -> Option<Triple>
+    requires { (1 ≤ from) × (from ≤ 1025) }
+    ensures { FirstOf (tables_left from) [] result }
+{
+    for lines in from..1025 {
+        if let Some(triple) = first_in_rows(lines, 0) {
+            return Some(triple);
+        }
+    }
+    None
 }
 
 // The first difference from a place on, which may be one past the last P: every dirty count and P is tried.
-fn next(dirty: u32, lines: u32, percent: u32) -> Found
-    requires { Startable dirty lines percent }
-    ensures { Next dirty lines percent result }
+fn next(place: Triple) -> Option<Triple>
+    requires { Startable place.dirty place.lines place.percent }
+    ensures { Next place.dirty place.lines place.percent result }
 {
-    let mut d = dirty;
-    let mut l = lines;
-    let mut p = percent;
-    loop {
-        if p > 100 {
-            if d < l {
-                d += 1;
-                p = 0;
-                continue;
-            }
-            if l < 1024 {
-                l += 1;
-                d = 0;
-                p = 0;
-                continue;
-            }
-            return Found::Nothing;
-        }
-        if differs(d, l, p) {
-            return Found::At(Difference {
-                lines: l,
-                dirty: d,
-                percent: p,
-            });
-        }
-        p += 1;
-    }
+    let Triple {
+        lines,
+        dirty,
+        percent,
+    } = place;
+    first_in_row(lines, dirty, percent)
+        .or_else(|| first_in_rows(lines, dirty + 1))
+        .or_else(|| first_in_tables(lines + 1))
 }
 
-// The first difference from lines, dirty and P on, these included.
-pub fn next_difference(dirty: u32, lines: u32, percent: u32) -> Found
-    ensures { FindsNext (percent_in_range dirty lines percent) dirty lines percent result }
+// The first difference from a triple on, it included.
+pub fn next_difference(t: Triple) -> Result<Option<Triple>, Refusal>
+    ensures { FindsNext (percent_in_range t.dirty t.lines t.percent) t.dirty t.lines t.percent result }
 {
-    if in_range(dirty, lines, percent) {
-        next(dirty, lines, percent)
-    } else {
-        Found::Refused(Refusal::SettingOutOfRange)
-    }
+    let ranged = Ranged::try_from(t)?;
+    Ok(next(ranged.triple))
 }
 
-#[derive(Clone, Copy)]
-pub enum Listed {
-    All(usize),
-    Full,
-}
-
-// Writes lines, dirty and P of each difference to the front of `out`, by lines, then dirty, then P, rising. They are sixty
-// numbers: with less room nothing is written.
-pub fn list(out: &mut [u32]) -> Listed
+// Writes each difference to the front of `out`, by lines, then dirty, then P, rising, and says how many there are. They are
+// twenty: with less room nothing is written.
+// `n` is how many there are and the place of the next.
+pub fn list(out: &mut [Triple]) -> Option<usize>
     ensures { Lists out.old out.new result }
 {
-    if out.len() < 60 {
-        return Listed::Full;
+    if out.len() < 20 {
+        return None;
     }
-    let mut d = 0u32;
-    let mut l = 1u32;
-    let mut p = 0u32;
-    let mut n = 0usize;
-    loop {
-        let found = next(d, l, p);
-        let Found::At(t) = found else {
-            return Listed::All(n);
+    let mut place = Triple {
+        lines: 1,
+        dirty: 0,
+        percent: 0,
+    };
+    let mut n = 0;
+    while let Some(found) = next(place) {
+        out[n] = found;
+        n += 1;
+        place = Triple {
+            lines: found.lines,
+            dirty: found.dirty,
+            percent: found.percent + 1,
         };
-        l = t.lines;
-        d = t.dirty;
-        p = t.percent;
-        out[n] = l;
-        out[n + 1] = d;
-        out[n + 2] = p;
-        p += 1;
-        n += 3;
     }
+    Some(n)
 }
 
 // Whether settings in range have this many lines: some number of ways divides it and leaves a divisor of 256, the power of two
@@ -178,20 +196,13 @@ pub fn list(out: &mut [u32]) -> Listed
 pub fn legal_size(lines: u32) -> bool
     ensures { Legal lines result }
 {
-    if lines < 1 {
+    if lines < 1 || 1024 < lines {
         return false;
     }
-    if 1024 < lines {
-        return false;
-    }
-    let mut ways = 1u32;
-    while ways <= 16 {
-        if lines % ways == 0 {
-            if 256 % (lines / ways) == 0 {
-                return true;
-            }
+    for ways in 1..17 {
+        if lines % ways == 0 && 256 % (lines / ways) == 0 {
+            return true;
         }
-        ways += 1;
     }
     false
 }

@@ -1,4 +1,5 @@
 -- The lines read off the slices, and m of them from line b as the ways of a set: what Probe finds there, by the numbers.
+use Rattle.std.specs.Prelude.{Option}
 use Rattle.words.proofs.General.{ℕ, ◌+◌, ◌≤◌, ◌<◌, arith, ◌≡◌, refl, ap, ap₂, fun_ext, ◌∙◌, ⊎_elim, Bool, true, false, ◌&&◌, and-false, List, [], ◌∷◌, map, length, get_or, take}
 use Rattle.words.proofs.General.{drop, pick, all, any, table, some, flag, clash, some_same, length_table, get_or_table, part_table, any_table}
 use Rattle.model.proofs.Terms.{lines_of, is_fifo, is_tree, Line, is_invalid, is_reserved, is_modified, wholly_invalid, has_reserved, holds, fresh, line_at, lines_in, tree_at, tree_choice}
@@ -6,7 +7,6 @@ use Rattle.model.proofs.Terms.{power_to16, levels, first, or_else, candidate, en
 use Rattle.model.specs.declared.Settings.{Settings}
 use Rattle.model.specs.declared.Status.{Status}
 use Rattle.model.specs.declared.Sector.{Sector}
-use Rattle.model.specs.declared.Found.{Found}
 use Rattle.model.proofs.Answers.{by_status}
 use Rattle.model.proofs.Ways.{flag_is}
 use Rattle.model.proofs.Trees.{choice_same, levels_are}
@@ -63,11 +63,11 @@ module _ (S : Settings) (longs words marks : List ℕ) where
         ∙ some_same _ _ m (λ w h. waiting_bytes S longs words marks (b + w))
 
     -- under every rule, of what the rule chooses among the candidates
-    victim-by : (R : Rule) (d : ℕ) {v : Found} → choice_by R (candidate (enough_dirty S d)) (table m line) ≡ v
+    victim-by : (R : Rule) (d : ℕ) {v : Option ℕ} → choice_by R (candidate (enough_dirty S d)) (table m line) ≡ v
         → victim R S d (take m (drop b (lines_in S longs words marks))) ≡ or_else (last_unused_in marks b m) v
     victim-by R d e =
         ap (victim R S d) ways-are
-        ∙ ap (λ (v : Found). or_else v (choice_by R (candidate (enough_dirty S d)) (table m line)))
+        ∙ ap (λ (v : Option ℕ). or_else v (choice_by R (candidate (enough_dirty S d)) (table m line)))
         (last_table (λ l. candidate (enough_dirty S d) l && wholly_invalid l) line m
         ∙ ap (last_below m) (fun_ext (λ w. unused_candidate (enough_dirty S d) (line w) ∙ unused_bytes S longs words marks (b + w))))
         ∙ ap (or_else (last_unused_in marks b m)) e

@@ -1,9 +1,17 @@
 -- Searches over the numbers below n: one turn of each loop, and what the loop has found where it ends.
-use Rattle.words.proofs.General.{ℕ, zero, suc, ◌+◌, ◌-◌, ◌≤◌, ◌<◌, not-suc-le-zero, le_of_suc-le-suc, eq-or-lt_of_le, add-one, arith, ◌≡◌, refl, sym, ap, ◌∙◌, ⊎_elim, ◌≢◌, Bool}
+use Rattle.std.specs.Prelude.{Option, Some, None}
+use Rattle.words.proofs.General.{ℕ, zero, suc, ◌+◌, ◌-◌, ◌≤◌, ◌<◌, not-suc-le-zero, le_of_suc-le-suc, eq-or-lt_of_le, add-one, arith, ◌≡◌, refl, sym, ap, ⊎_elim, ◌≢◌, Bool}
 use Rattle.words.proofs.General.{true, false, List, length, get_or, le-leb, lt-leb, eq-eqb, ne_eqb, pick, by_flag}
+use denote.Param.Members.{Mut}
+use denote.Ref.{Bor}
+use Rattle.std.specs.Fn.{CalledAt}
+use Rattle.std.specs.Iterator.{YieldsThen}
+use Rattle.std.specs.List.{FoldsTo}
+use Rattle.std.specs.Option.{MatchOption}
+use Rattle.std.specs.declared.ops.Range.{Range}
+use Rattle.std.proofs.iter.Yields.{nat_range_steps}
+use Rattle.std.proofs.lemmas.Iterator.{first_from_Range}
 use Rattle.model.proofs.Terms.{lines_of, is_fifo, words_from, cycle_region, taken_region, or_else, Sized, told}
-use Rattle.model.specs.declared.Found.{Found}
-use Rattle.model.specs.declared.Found.TheVariants.{At, Nothing}
 use Rattle.model.specs.declared.Settings.{Settings}
 use Rattle.layout.specs.declared.Layout.{Layout}
 use Rattle.layout.specs.Layout.{LaysOut}
@@ -17,28 +25,36 @@ one-before i h = omega arith
 module _ (p : ℕ → Bool) where
   -- ---- the first: none before i passed
 
-  first_at : (n w : ℕ) → first_below w p ≡ Nothing → p w ≡ true → w < n → first_below n p ≡ At w
+  first_at : (n w : ℕ) → first_below w p ≡ None → p w ≡ true → w < n → first_below n p ≡ Some w
   unfolding first_below
   first_at zero w e g h = absurd (not-suc-le-zero h)
   first_at (suc n) w e g h =
       ⊎_elim (λ (k : w ≡ n). rw (← k, e, g)) (λ (k : w < n). rw (first_at n w e g k)) (eq-or-lt_of_le (le_of_suc-le-suc h))
 
-  abbrev pub Unfound : ℕ → ℕ → Type 0
-  Unfound n i = (i ≤ n) × (first_below i p ≡ Nothing)
-
-  pub unfound_start : (n : ℕ) → Unfound n 0
+  none_below : (n : ℕ) → ((k : ℕ) → k < n → p k ≡ false) → first_below n p ≡ None
   unfolding first_below
-  unfound_start n = (omega arith, refl)
+  none_below zero f = refl
+  none_below (suc n) f = rw (none_below n (λ k h. f k (omega arith)), f n (omega arith))
 
-  pub unfound_stop : (n i : ℕ) {b : Bool} → i < n → b ≡ p i → b ≡ true → Unfound n i → At i ≡ first_below n p
-  unfound_stop n i h e t u = sym (first_at n i u.1 (sym e ∙ t) h)
+  told_first : (n : ℕ) (r : Option ℕ) → MatchOption r ((k : ℕ) → 0 ≤ k → k < n → p k ≡ false) (λ i. (0 ≤ i) × (i < n) × (p i ≡ true) × ((k : ℕ) → 0 ≤ k → k < i → p k ≡ false))
+      → r ≡ first_below n p
+  told_first n None h = sym (none_below n (λ k l. h k (omega arith) l))
+  told_first n (Some i) h = sym (first_at n i (none_below i (λ k l. h.3 k (omega arith) l)) h.2 h.1)
 
-  pub unfound_more : (n i : ℕ) {b : Bool} → i < n → b ≡ p i → b ≡ false → Unfound n i → Unfound n (i + 1)
+  later : p 0 ≡ false → (k : ℕ) → (1 ≤ k → p k ≡ false) → p k ≡ false
+  later z zero f = z
+  later z (suc k) f = f (omega arith)
+
+  -- the same of those behind number 0, which does not pass
+  told_later : (n : ℕ) → p 0 ≡ false → (r : Option ℕ) → MatchOption r ((k : ℕ) → 1 ≤ k → k < n → p k ≡ false) (λ i. (1 ≤ i) × (i < n) × (p i ≡ true) × ((k : ℕ) → 1 ≤ k → k < i → p k ≡ false))
+      → r ≡ first_below n p
+  told_later n z None h = sym (none_below n (λ k l. later z k (λ s. h k s l)))
+  told_later n z (Some i) h = sym (first_at n i (none_below i (λ k l. later z k (λ s. h.3 k s l))) h.2 h.1)
+
+  -- number 0 passes
+  pub first-zero : (n : ℕ) → 1 ≤ n → p 0 ≡ true → Some 0 ≡ first_below n p
   unfolding first_below
-  unfound_more n i h e t u = (omega arith, rw (add-one i, u.1, ← e, t))
-
-  pub unfound_end : (n i : ℕ) → n ≤ i → Unfound n i → Nothing ≡ first_below n p
-  unfound_end n i h u = let e : n ≡ i = omega arith in rw e (sym u.1)
+  first-zero n l e = sym (first_at n 0 refl e l)
 
   -- ---- the last, from above: none from i on passed
 
@@ -48,7 +64,7 @@ module _ (p : ℕ → Bool) where
   pub unseen_start : (n : ℕ) → Unseen n n
   unseen_start n = (omega arith, refl)
 
-  pub unseen_stop : (n i j : ℕ) {b : Bool} → i ≡ j + 1 → b ≡ p j → b ≡ true → Unseen n i → At j ≡ last_below n p
+  pub unseen_stop : (n i j : ℕ) {b : Bool} → i ≡ j + 1 → b ≡ p j → b ≡ true → Unseen n i → Some j ≡ last_below n p
   unfolding last_below
   unseen_stop n i j h e t u = rw (u.1, h, add-one j, ← e, t)
 
@@ -56,16 +72,16 @@ module _ (p : ℕ → Bool) where
   unfolding last_below
   unseen_more n i j h e t u = (omega arith, rw (u.1, h, add-one j, ← e, t))
 
-  pub unseen_end : (n i : ℕ) → i ≡ 0 → Unseen n i → Nothing ≡ last_below n p
+  pub unseen_end : (n i : ℕ) → i ≡ 0 → Unseen n i → None ≡ last_below n p
   unfolding last_below
   unseen_end n i h u = rw (u.1, h)
 
   -- ---- the same in one pass with the least: of those from i on that pass q the least key is c, at b; `n` is none, whose key no other is above
 
   module _ (q : ℕ → Bool) (key : ℕ → ℕ) where
-    abbrev Keeps : ℕ → ℕ → ℕ → Found → Type 0
-    Keeps n b c Nothing = (b ≡ n) × (c ≡ 4294967295)
-    Keeps n b c (At v) = (b ≡ v) × (v < n) × (c ≡ key v)
+    abbrev Keeps : ℕ → ℕ → ℕ → Option ℕ → Type 0
+    Keeps n b c None = (b ≡ n) × (c ≡ 4294967295)
+    Keeps n b c (Some v) = (b ≡ v) × (v < n) × (c ≡ key v)
 
     abbrev pub Leads : ℕ → ℕ → ℕ → ℕ → Type 0
     Leads n i b c = Unseen n i × Keeps n b c (least_from (n - i) i q key)
@@ -86,9 +102,9 @@ module _ (p : ℕ → Bool) where
       pub leads-take : {t : Bool} → t ≡ q j → t ≡ true → key j ≤ c → Leads n j j (key j)
       leads-take f y g = (seen, rw (one_more n i j h l.0.0, ← f, y) (go (least_from (n - i) i q key) l.1))
         where
-          go : (v : Found) → Keeps n b c v → Keeps n j (key j) (sooner key j v)
-          go Nothing k = (refl, omega arith, refl)
-          go (At v) k = rw (le-leb (key j) (key v) (omega arith)) (refl, omega arith, refl)
+          go : (v : Option ℕ) → Keeps n b c v → Keeps n j (key j) (sooner key j v)
+          go None k = (refl, omega arith, refl)
+          go (Some v) k = rw (le-leb (key j) (key v) (omega arith)) (refl, omega arith, refl)
 
       pub leads-pass : {t : Bool} → t ≡ q j → t ≡ false → Leads n j b c
       leads-pass f y = (seen, rw (one_more n i j h l.0.0, ← f, y) l.1)
@@ -96,27 +112,46 @@ module _ (p : ℕ → Bool) where
       pub leads-later : c < key j → key j ≤ 4294967295 → Leads n j b c
       leads-later g m = (seen, rw (one_more n i j h l.0.0) (by_flag (Keeps n b c) (q j) _ _ (λ y. go (least_from (n - i) i q key) l.1) (λ y. l.1)))
         where
-          go : (v : Found) → Keeps n b c v → Keeps n b c (sooner key j v)
-          go Nothing k = absurd (omega arith)
-          go (At v) k = rw (lt-leb (key j) (key v) (omega arith)) k
+          go : (v : Option ℕ) → Keeps n b c v → Keeps n b c (sooner key j v)
+          go None k = absurd (omega arith)
+          go (Some v) k = rw (lt-leb (key j) (key v) (omega arith)) k
 
     module _ (n i b c : ℕ) (h : i ≡ 0) (l : Leads n i b c) where
       whole : least_from (n - i) i q key ≡ least_from n 0 q key
       whole = let e : n - 0 ≡ n = omega arith in rw (h, e)
 
-      pub leads-some : b < n → At b ≡ or_else (last_below n p) (least_from n 0 q key)
+      pub leads-some : b < n → Some b ≡ or_else (last_below n p) (least_from n 0 q key)
       leads-some g = rw (← unseen_end n i h l.0, ← whole) (go (least_from (n - i) i q key) l.1)
         where
-          go : (v : Found) → Keeps n b c v → At b ≡ v
-          go Nothing k = absurd (omega arith)
-          go (At v) k = ap At k.0
+          go : (v : Option ℕ) → Keeps n b c v → Some b ≡ v
+          go None k = absurd (omega arith)
+          go (Some v) k = ap Some k.0
 
-      pub leads-none : n ≤ b → Nothing ≡ or_else (last_below n p) (least_from n 0 q key)
+      pub leads-none : n ≤ b → None ≡ or_else (last_below n p) (least_from n 0 q key)
       leads-none g = rw (← unseen_end n i h l.0, ← whole) (go (least_from (n - i) i q key) l.1)
         where
-          go : (v : Found) → Keeps n b c v → Nothing ≡ v
-          go Nothing k = refl
-          go (At v) k = absurd (omega arith)
+          go : (v : Option ℕ) → Keeps n b c v → None ≡ v
+          go None k = refl
+          go (Some v) k = absurd (omega arith)
+
+-- ---- `(0..n).find(f)`, where f answers p
+
+pub first_below-from_find : {F : Type 0} {g : Mut F (Bor ℕ × Unit {0}) Bool} {s : Range ℕ} (u : Range ℕ) {f : F} {r : Option ℕ} (n : ℕ) (p : ℕ → Bool) → s ≡ record { start = 0; end = n }
+    → ((x : ℕ) (b : Bool) (q : F) → CalledAt g f x b q → (q ≡ f) × (b ≡ p x))
+    → (xs : List ℕ) × (j : F) × YieldsThen nat_range_steps s xs r u × FoldsTo (λ p x q. CalledAt g p x false q) f xs j × MatchOption r (Unit {0}) (λ x. (h : F) × CalledAt g j x true h)
+    → r ≡ first_below n p
+first_below-from_find {s = s} u {f = f} {r = r} n p is answers ran =
+    told_first p n r
+    (rw is at (first_from_Range s u f r (λ x. p x ≡ true) (λ x. p x ≡ false) ran (λ x q k. sym (answers x true q k).1) (λ x q k. let a = answers x false q k in (a.0, sym a.1))))
+
+-- the same behind number 0, which does not pass
+pub first_below-from_later : {F : Type 0} {g : Mut F (Bor ℕ × Unit {0}) Bool} {s : Range ℕ} (u : Range ℕ) {f : F} {r : Option ℕ} (n : ℕ) (p : ℕ → Bool) → p 0 ≡ false → s ≡ record { start = 1; end = n }
+    → ((x : ℕ) (b : Bool) (q : F) → CalledAt g f x b q → (q ≡ f) × (b ≡ p x))
+    → (xs : List ℕ) × (j : F) × YieldsThen nat_range_steps s xs r u × FoldsTo (λ p x q. CalledAt g p x false q) f xs j × MatchOption r (Unit {0}) (λ x. (h : F) × CalledAt g j x true h)
+    → r ≡ first_below n p
+first_below-from_later {s = s} u {f = f} {r = r} n p z is answers ran =
+    told_later p n z r
+    (rw is at (first_from_Range s u f r (λ x. p x ≡ true) (λ x. p x ≡ false) ran (λ x q k. sym (answers x true q k).1) (λ x q k. let a = answers x false q k in (a.0, sym a.1))))
 
 -- ---- where the cycles begin by which the rule compares candidates
 
@@ -135,16 +170,16 @@ ages_room {S} {longs} {words} f l h =
 -- ---- one way, or else another
 
 module _ (S : Settings) (words marks : List ℕ) (i base : ℕ) (enough : Bool) where
-  pub victim-turned : {at : Layout} {r : Found} → LaysOut S at → S.rule ≡ 2
+  pub victim-turned : {at : Layout} {r : Option ℕ} → LaysOut S at → S.rule ≡ 2
       → r ≡ or_else (last_unused_in marks base S.ways) (tree_in marks base S.ways enough (get_or words (at.trees + i) 0)) → r ≡ victim_in S words marks i base enough
   victim-turned p e f = rw (eq-eqb S.rule 2 e, ← read_from (told p.trees) words i) f
 
-  pub victim_aged : {ages : ℕ} {r : Found} → S.rule ≢ 2 → ages ≡ ages_from S
+  pub victim_aged : {ages : ℕ} {r : Option ℕ} → S.rule ≢ 2 → ages ≡ ages_from S
       → r ≡ or_else (last_unused_in marks base S.ways) (earliest_in words marks ages base S.ways enough) → r ≡ victim_in S words marks i base enough
   victim_aged n e f = rw (ne_eqb S.rule 2 n, ← e) f
 
-pub or_first : {r : Found} {v : ℕ} {l : Found} (x : Found) → r ≡ l → r ≡ At v → At v ≡ or_else l x
+pub or_first : {r : Option ℕ} {v : ℕ} {l : Option ℕ} (x : Option ℕ) → r ≡ l → r ≡ Some v → Some v ≡ or_else l x
 or_first x e g = rw (← e, g)
 
-pub or_second : {r l x y : Found} → r ≡ l → r ≡ Nothing → y ≡ x → y ≡ or_else l x
+pub or_second : {r l x y : Option ℕ} → r ≡ l → r ≡ None → y ≡ x → y ≡ or_else l x
 or_second e g h = rw (← e, g) h

@@ -1,9 +1,9 @@
 -- The record reader: what a step hands back, and where the reader stands afterwards.
-use Rattle.std.specs.Prelude.{◌≡◌, ℕ, ◌+◌, List}
+use Rattle.model.specs.declared.Body.{Body}
+use Rattle.model.specs.declared.Stop.{Stop}
+use Rattle.std.specs.Prelude.{◌≡◌, ℕ, ◌+◌, List, Result, Ok, Err}
 use Rattle.std.specs.Borrow.{Bor}
 use Rattle.model.specs.Records.{read_at, body_at, next_of}
-use Rattle.model.specs.declared.Record.{Record}
-use Rattle.model.specs.declared.Record.TheVariants.{Whole, Stopped}
 use Rattle.reader.specs.declared.Reader.{Reader}
 use Rattle.reader.specs.declared.Taken.{Taken}
 
@@ -12,9 +12,9 @@ unfoldable pub behind : List ℕ → ℕ → ℕ
 behind s at = next_of (read_at s at) at
 
 -- where the body of the record at a place begins; 0 where reading stops
-abbrev pub body_start : Record → ℕ
-body_start (Whole k start n next) = start
-body_start (Stopped r) = 0
+abbrev pub body_start : Result Body Stop → ℕ
+body_start (Ok b) = b.start
+body_start (Err r) = 0
 
 -- b is the part of the caller's own stream s, at that place of it, that holds the body of the record at a place
 pub record PartOf (s : Bor (List ℕ)) (at : ℕ) (b : Bor (List ℕ)) : Type 0 where

@@ -1,17 +1,17 @@
 -- The queue's head and its free places; the dirty lines; the check before a reason.
-use Rattle.words.proofs.General.{ℕ, ◌-◌, ◌≤◌, pos_of_ne-zero, arith, ◌≡◌, refl, sym, ap, ◌∙◌, List, [], ◌∷◌, length, get_or}
+use Rattle.std.specs.Prelude.{Ok, Err}
+use Rattle.words.proofs.General.{ℕ, ◌-◌, ◌≤◌, pos_of_ne-zero, arith, ◌≡◌, refl, sym, ap, subst, ◌∙◌, List, [], ◌∷◌, length, get_or}
 use Rattle.model.proofs.Terms.{lines_of, idle, Tables, Outcome, refused, done, Lent, lent, tables_of, sent_event, check_call, verdict_of, Encodes}
 use Rattle.model.specs.declared.Settings.{Settings}
 use Rattle.model.specs.declared.Queued.{Queued}
 use Rattle.model.specs.declared.Access.{Access}
 use Rattle.model.specs.declared.Event.{Event}
 use Rattle.model.specs.declared.Refusal.{Refusal}
-use Rattle.model.specs.declared.Verdict.TheVariants as verdict
 use Rattle.model.proofs.SoundFacts.{parts, few_queued}
 use Rattle.encoding.proofs.DecodeIsSound.{Small}
 use Rattle.soundness.specs.Laid.{Checks}
-use Rattle.soundness.specs.declared.LaidVerdict.{LaidVerdict}
-use Rattle.soundness.specs.declared.LaidVerdict.TheVariants as laid
+use Rattle.std.specs.Prelude.{Result, Ok, Err}
+use Rattle.layout.specs.declared.geometry.Geometry.{Geometry}
 use Rattle.soundness.proofs.Checked.{says_refused, says_passed, passed-tables}
 use Rattle.layout.specs.declared.Layout.{Layout}
 use Rattle.layout.specs.Layout.{LaysOut}
@@ -64,22 +64,24 @@ module _ (S : Settings) {longs words marks : List ℕ} (t : Tables) (i : Encodes
 
 -- ---- the check
 
-checked_refused : (S : Settings) (x : Access) (n : Refusal) (L : Lent) (o : Outcome Lent) (k : Refusal) → verdict_of o ≡ verdict.Refused k
-    → reason_checked S x n L o ≡ reason.Refused k
+checked_refused : (S : Settings) (x : Access) (n : Refusal) (L : Lent) (o : Outcome Lent) (k : Refusal) → verdict_of o ≡ Err k
+    → reason_checked S x n L o ≡ Err k
 checked_refused S x n L (refused j) k e = cc
 checked_refused S x n L (done es M) k e = let z : ◌≡◌ {A = ℕ} 0 1 = cc in absurd (omega arith)
 
-checked-passed : (S : Settings) (x : Access) (n : Refusal) (L : Lent) (o : Outcome Lent) → verdict_of o ≡ verdict.Passed
-    → reason_checked S x n L o ≡ reason_for S x (tables_of S L) n
+checked-passed : (S : Settings) (x : Access) (n : Refusal) (L : Lent) (o : Outcome Lent) → verdict_of o ≡ Ok tt
+    → reason_checked S x n L o ≡ Ok (reason_for S x (tables_of S L) n)
 checked-passed S x n L (refused j) e = let z : ◌≡◌ {A = ℕ} 0 1 = cc in absurd (omega arith)
 checked-passed S x n L (done es M) e = refl
 
-module _ (S : Settings) (x : Access) (n : Refusal) (L : Lent) {v : LaidVerdict} (checks : Checks S L v) where
-  pub reason_refused : {k : Refusal} → v ≡ laid.Refused k → reason.Refused k ≡ reason_call S x n L
+module _ (S : Settings) (x : Access) (n : Refusal) (L : Lent) {v : Result Geometry Refusal} (checks : Checks S L v) where
+  pub reason_refused : {k : Refusal} → v ≡ Err k → Err k ≡ reason_call S x n L
   unfolding reason_call
   reason_refused {k} e = sym (checked_refused S x n L (check_call S L) k (says_refused S L checks e))
 
-  pub reason_passed : Small L → {at : Layout} → v ≡ laid.Passed at → {r : Reason} → Gives S (λ t. reason_for S x t n) L r → r ≡ reason_call S x n L
+  -- the reason is told by the settings that the geometry holds
+  pub reason_passed : Small L → {g : Geometry} → v ≡ Ok g → {r : Reason} → Gives g.settings (λ t. reason_for g.settings x t n) L r → Ok r ≡ reason_call S x n L
   unfolding reason_call
-  reason_passed small passed g =
-      g.on (tables_of S L) (passed-tables S L checks small passed) ∙ sym (checked-passed S x n L (check_call S L) (says_passed S L checks passed))
+  reason_passed small passed {r} g =
+      let own : Gives S (λ t. reason_for S x t n) L r = subst (λ s. Gives s (λ t. reason_for s x t n) L r) (checks.own _ passed) g in
+      ap Ok (own.on (tables_of S L) (passed-tables S L checks small passed)) ∙ sym (checked-passed S x n L (check_call S L) (says_passed S L checks passed))

@@ -1,7 +1,7 @@
 -- What a refused access waits for, by its refusal number and the tables: "set busy" the oldest entry of its set, "set held" dirty lines,
 -- "too few free queue places" the queue's head, "entry has W tickets" that entry, "M in use" the oldest entry. Document 01 has the
 -- refusals; that they have a reason, and which, is decided here.
-use Rattle.std.specs.Prelude.{ℕ, ◌+◌, ◌-◌, ◌*◌, ◌/◌, ◌%◌, Bool, true, List, [], ◌∷◌, length, eqb}
+use Rattle.std.specs.Prelude.{ℕ, ◌+◌, ◌-◌, ◌*◌, ◌/◌, ◌%◌, Bool, true, List, [], ◌∷◌, length, eqb, Result, Ok, Err}
 use Rattle.words.specs.Words.{pick}
 use Rattle.model.specs.Range.{lines_of}
 use Rattle.model.specs.Address.{address_of, set_index}
@@ -55,10 +55,10 @@ reason_for S x t refusal.NotSent = reason.Nothing
 reason_for S x t refusal.BadCycle = reason.Nothing
 reason_for S x t refusal.QueueEmpty = reason.Nothing
 
-abbrev pub reason_checked : Settings → Access → Refusal → Lent → Outcome Lent → Reason
-reason_checked S x n L (refused k) = reason.Refused k
-reason_checked S x n L (done es M) = reason_for S x (tables_of S L) n
+abbrev pub reason_checked : Settings → Access → Refusal → Lent → Outcome Lent → Result Reason Refusal
+reason_checked S x n L (refused k) = Err k
+reason_checked S x n L (done es M) = Ok (reason_for S x (tables_of S L) n)
 
 -- refusals 1, 2 and 3, as everywhere; then the reason
-unfoldable pub reason_call : Settings → Access → Refusal → Lent → Reason
+unfoldable pub reason_call : Settings → Access → Refusal → Lent → Result Reason Refusal
 reason_call S x n L = reason_checked S x n L (check_call S L)

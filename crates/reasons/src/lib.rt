@@ -9,17 +9,15 @@ ghost use Rattle.model.specs.Address.{address_of, set_index};
 ghost use Rattle.model.specs.Tables.{entry_for};
 ghost use Rattle.model.specs.Lent.{lent};
 ghost use Rattle.model.specs.Inner.{SoundSlices};
-ghost use Rattle.layout.specs.Layout.{LaysOut};
 ghost use Rattle.reasons.specs.Reasons.{entry_reason, of_set, any_entry, missing_lines, lines_reason, queue_reason, reason_for, reason_call};
 ghost use Rattle.reasons.specs.Parts.{FirstInSet, entry_shown, Gives};
 
-use layout::Layout;
+use layout::{Geometry, Layout};
 use model::{Access, Event, Refusal, SectorAddress, Settings};
-use soundness::LaidVerdict;
 
 // Entry: the miss entry that has to come back, its sector address, whether its read was sent, and its readers. Lines: how many more
 // dirty lines let the set go, how many of the lines are dirty, and the percentage asked. Queue: the head, as the event of its sending,
-// and the places that are free. Nothing: no wait helps. Refused: 1, 2 or 3, by which the tables tell nothing.
+// and the places that are free. Nothing, and no Option: that no wait helps is an answer that a page shows as it shows the others.
 #[derive(Clone, Copy)]
 pub enum Reason {
     Entry {
@@ -38,22 +36,20 @@ pub enum Reason {
         free: usize,
     },
     Nothing,
-    Refused(Refusal),
 }
 
 // The first of `n` miss addresses from `at` that is of this set, or `n`.
+// `n` and no Option, as `tables::find_entry`, whose place it takes for a whole set.
 fn first_in_set(longs: &[u64], at: usize, n: usize, sets: usize, set: usize) -> usize
     requires { (at + n ≤ length longs.now) × (power_to256 sets ≡ true) }
     ensures { FirstInSet longs.now at n sets set result }
 {
-    let mut i = 0;
-    while i < n {
+    for i in 0..n {
         if values::set_index(longs[at + i], sets) == set {
             return i;
         }
-        i += 1;
     }
-    i
+    n
 }
 
 // Entry `e`, if it is one of the `n` that there are.
@@ -75,48 +71,34 @@ fn entry_reason(at: Layout, longs: &[u64], marks: &[u8], e: usize, n: usize) -> 
 }
 
 // 5: the oldest entry of the access's set.
-fn busy_reason(
-    s: Settings,
-    at: Layout,
-    longs: &[u64],
-    words: &[u32],
-    marks: &[u8],
-    x: Access,
-) -> Reason
-    requires { LaysOut s at × SoundSlices s (lent longs.now words.now marks.now) }
-    ensures { Gives s (λ t. entry_reason (of_set s.sets (set_index s (address_of x))) t.misses) (lent longs.now words.now marks.now) result }
+fn busy_reason(g: Geometry, longs: &[u64], words: &[u32], marks: &[u8], x: Access) -> Reason
+    requires { SoundSlices g.settings (lent longs.now words.now marks.now) }
+    ensures { Gives g.settings (λ t. entry_reason (of_set g.settings.sets (set_index g.settings (address_of x))) t.misses) (lent longs.now words.now marks.now) result }
 {
-    let n = layout::used(marks, at.counts, s.misses);
-    let set = values::set_index(values::address_of(x), s.sets);
-    let e = first_in_set(longs, at.misses, n, s.sets, set);
-    entry_reason(at, longs, marks, e, n)
+    let n = layout::used(marks, g.at.counts, g.settings.misses);
+    let set = values::set_index(values::address_of(x), g.settings.sets);
+    let e = first_in_set(longs, g.at.misses, n, g.settings.sets, set);
+    entry_reason(g.at, longs, marks, e, n)
 }
 
 // 8: the entry for the access's address, which has all its readers.
-fn readers_reason(
-    s: Settings,
-    at: Layout,
-    longs: &[u64],
-    words: &[u32],
-    marks: &[u8],
-    x: Access,
-) -> Reason
-    requires { LaysOut s at × SoundSlices s (lent longs.now words.now marks.now) }
-    ensures { Gives s (λ t. entry_reason (entry_for (address_of x)) t.misses) (lent longs.now words.now marks.now) result }
+fn readers_reason(g: Geometry, longs: &[u64], words: &[u32], marks: &[u8], x: Access) -> Reason
+    requires { SoundSlices g.settings (lent longs.now words.now marks.now) }
+    ensures { Gives g.settings (λ t. entry_reason (entry_for (address_of x)) t.misses) (lent longs.now words.now marks.now) result }
 {
-    let n = layout::used(marks, at.counts, s.misses);
+    let n = layout::used(marks, g.at.counts, g.settings.misses);
     let address = SectorAddress(values::address_of(x));
-    let e = tables::find_entry(longs, at.misses, n, address);
-    entry_reason(at, longs, marks, e, n)
+    let e = tables::find_entry(longs, g.at.misses, n, address);
+    entry_reason(g.at, longs, marks, e, n)
 }
 
 // 9: the oldest entry of all.
-fn table_reason(s: Settings, at: Layout, longs: &[u64], words: &[u32], marks: &[u8]) -> Reason
-    requires { LaysOut s at × SoundSlices s (lent longs.now words.now marks.now) }
-    ensures { Gives s (λ t. entry_reason any_entry t.misses) (lent longs.now words.now marks.now) result }
+fn table_reason(g: Geometry, longs: &[u64], words: &[u32], marks: &[u8]) -> Reason
+    requires { SoundSlices g.settings (lent longs.now words.now marks.now) }
+    ensures { Gives g.settings (λ t. entry_reason any_entry t.misses) (lent longs.now words.now marks.now) result }
 {
-    let n = layout::used(marks, at.counts, s.misses);
-    entry_reason(at, longs, marks, 0, n)
+    let n = layout::used(marks, g.at.counts, g.settings.misses);
+    entry_reason(g.at, longs, marks, 0, n)
 }
 
 // The least k with 100 × (dirty + k) ≥ P × lines.
@@ -133,13 +115,13 @@ fn missing_lines(percent: usize, lines: usize, dirty: usize) -> usize
 }
 
 // 6: the dirty lines that are missing.
-fn held_reason(s: Settings, at: Layout, longs: &[u64], words: &[u32], marks: &[u8]) -> Reason
-    requires { LaysOut s at × SoundSlices s (lent longs.now words.now marks.now) }
-    ensures { Gives s (λ t. lines_reason s t.dirty_count) (lent longs.now words.now marks.now) result }
+fn held_reason(g: Geometry, longs: &[u64], words: &[u32], marks: &[u8]) -> Reason
+    requires { SoundSlices g.settings (lent longs.now words.now marks.now) }
+    ensures { Gives g.settings (λ t. lines_reason g.settings t.dirty_count) (lent longs.now words.now marks.now) result }
 {
+    let s = g.settings;
     let lines = s.sets * s.ways;
-    let place = at.dirty;
-    let dirty = words[place] as usize;
+    let dirty = words[g.at.dirty] as usize;
     let percent = s.dirty;
     let missing = missing_lines(percent, lines, dirty);
     Reason::Lines {
@@ -151,49 +133,49 @@ fn held_reason(s: Settings, at: Layout, longs: &[u64], words: &[u32], marks: &[u
 }
 
 // 7: the queue's head.
-fn queue_reason(s: Settings, at: Layout, longs: &[u64], words: &[u32], marks: &[u8]) -> Reason
-    requires { LaysOut s at × SoundSlices s (lent longs.now words.now marks.now) }
-    ensures { Gives s (λ t. queue_reason s.queue t.queue) (lent longs.now words.now marks.now) result }
+fn queue_reason(g: Geometry, longs: &[u64], words: &[u32], marks: &[u8]) -> Reason
+    requires { SoundSlices g.settings (lent longs.now words.now marks.now) }
+    ensures { Gives g.settings (λ t. queue_reason g.settings.queue t.queue) (lent longs.now words.now marks.now) result }
 {
-    let n = layout::used(marks, at.kinds, s.queue);
+    let n = layout::used(marks, g.at.kinds, g.settings.queue);
     if n == 0 {
         return Reason::Nothing;
     }
-    let head = values::sent_event(tables::front(at, longs, words, marks));
-    let free = s.queue - n;
+    let head = values::sent_event(tables::front(g.at, longs, words, marks));
+    let free = g.settings.queue - n;
     Reason::Queue { head, free }
 }
 
 // On sound tables: what the access waits for that was refused by this number.
+// The three by themselves, as the caller has them between two writes.
 pub fn reason_held(
-    s: Settings,
-    at: Layout,
+    g: Geometry,
     longs: &[u64],
     words: &[u32],
     marks: &[u8],
     x: Access,
     n: Refusal,
 ) -> Reason
-    requires { LaysOut s at × SoundSlices s (lent longs.now words.now marks.now) }
-    ensures { Gives s (λ t. reason_for s x t n) (lent longs.now words.now marks.now) result }
+    requires { SoundSlices g.settings (lent longs.now words.now marks.now) }
+    ensures { Gives g.settings (λ t. reason_for g.settings x t n) (lent longs.now words.now marks.now) result }
 {
     match n {
-        Refusal::SettingOutOfRange => Reason::Nothing,
-        Refusal::SliceLength => Reason::Nothing,
-        Refusal::NotSound => Reason::Nothing,
-        Refusal::BadAccess => Reason::Nothing,
-        Refusal::SetBusy => busy_reason(s, at, longs, words, marks, x),
-        Refusal::SetHeld => held_reason(s, at, longs, words, marks),
-        Refusal::QueueFull => queue_reason(s, at, longs, words, marks),
-        Refusal::EntryFull => readers_reason(s, at, longs, words, marks, x),
-        Refusal::MissTableFull => table_reason(s, at, longs, words, marks),
-        Refusal::NotSent => Reason::Nothing,
-        Refusal::BadCycle => Reason::Nothing,
-        Refusal::QueueEmpty => Reason::Nothing,
+        Refusal::SetBusy => busy_reason(g, longs, words, marks, x),
+        Refusal::SetHeld => held_reason(g, longs, words, marks),
+        Refusal::QueueFull => queue_reason(g, longs, words, marks),
+        Refusal::EntryFull => readers_reason(g, longs, words, marks, x),
+        Refusal::MissTableFull => table_reason(g, longs, words, marks),
+        Refusal::SettingOutOfRange
+        | Refusal::SliceLength
+        | Refusal::NotSound
+        | Refusal::BadAccess
+        | Refusal::NotSent
+        | Refusal::BadCycle
+        | Refusal::QueueEmpty => Reason::Nothing,
     }
 }
 
-// The same of any settings and slices, behind refusals 1, 2 and 3.
+// The same of any settings and slices, behind refusals 1, 2 and 3, by which the tables tell nothing.
 pub fn reason_for(
     s: Settings,
     longs: &[u64],
@@ -201,11 +183,9 @@ pub fn reason_for(
     marks: &[u8],
     x: Access,
     n: Refusal,
-) -> Reason
+) -> Result<Reason, Refusal>
     ensures { result ≡ reason_call s x n (lent longs.now words.now marks.now) }
 {
-    match soundness::checked_layout(s, longs, words, marks) {
-        LaidVerdict::Refused(k) => Reason::Refused(k),
-        LaidVerdict::Passed(at) => reason_held(s, at, longs, words, marks, x, n),
-    }
+    let g = soundness::checked_layout(s, longs, words, marks)?;
+    Ok(reason_held(g, longs, words, marks, x, n))
 }

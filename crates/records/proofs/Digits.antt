@@ -1,28 +1,35 @@
--- Little-endian numbers: the readers by halves, there and back at every width.
-use Rattle.words.proofs.General.{ℕ, zero, suc, ◌+◌, ◌*◌, ◌/◌, ◌%◌, ◌^◌, ◌≤◌, ◌<◌, zero-add, add-zero, suc-add, mul_comm, mod-lt, div-one, div-add-mod', div-lt_iff_lt-mul}
-use Rattle.words.proofs.General.{div-div-eq-div-mul, pow-suc, pow-zero, one-le-pow, arith, ◌≡◌, refl, sym, ap, List, [], ◌∷◌, ◌++◌, length, get_or, List·getD-eq-default, lit<, lit≤}
-use lib.Arith.{digits_div, digits_mod, mod-mul}
-use Rattle.model.proofs.Terms.{bytes_of, number_at}
+-- Little-endian numbers: the bytes at a place, there and back at every width.
+use Rattle.words.proofs.General.{ℕ, zero, suc, min, ◌-◌, take, drop, replicate, drop-cons, length-drop, take_all, ◌+◌, ◌*◌, ◌/◌, ◌^◌, ◌≤◌, ◌<◌, div-one, div-add-mod', div-lt_iff_lt-mul}
+use Rattle.words.proofs.General.{div-div-eq-div-mul, pow-suc, pow-zero, arith, ◌≡◌, refl, sym, ap, List, [], ◌∷◌, ◌++◌, length, get_or, List·getD-eq-default, lit<}
+use Rattle.std.specs.Int.{bytes_low_first}
+use Rattle.model.proofs.Terms.{bytes_of}
+use Rattle.records.specs.Parts.{bytes_at}
 
 -- ---- the readers
 
 module _ (s : List ℕ) where
-  pub number_past : (n at : ℕ) → length s ≤ at → 0 ≡ number_at s at n
-  unfolding number_at
-  number_past zero at h = refl
-  number_past (suc n) at h = rw (← number_past n (suc at) (omega arith), List·getD-eq-default s 0 h)
+  -- the bytes from a place on, and zeros for those past the end
+  pub bytes_part : (n at k : ℕ) → k ≡ min (length s - at) n → take k (drop at s) ++ drop k (replicate n 0) ≡ bytes_at s at n
+  bytes_part zero at k e = let z : k ≡ 0 = omega arith in rw z
+  bytes_part (suc n) at zero e =
+      let past : length s ≤ at = omega arith in
+      rw (List·getD-eq-default s 0 past) (ap (λ (l : List ℕ). 0 ∷ l) (bytes_part n (suc at) zero (omega arith)))
+  bytes_part (suc n) at (suc k) e =
+      let there : at < length s = omega arith in
+      rw (drop-cons s at 0 there) (ap (λ (l : List ℕ). get_or s at 0 ∷ l) (bytes_part n (suc at) k (omega arith)))
 
-  -- the low n bytes of a number and the m above them
-  pub number_halves : (n m at : ℕ) {a b : ℕ} → a ≡ number_at s at n → b ≡ number_at s (at + n) m → a + 256 ^ n * b ≡ number_at s at (n + m)
-  unfolding number_at
-  number_halves zero m at p q = rw (zero-add m, pow-zero) (let e = rw add-zero at q in omega arith)
-  number_halves (suc n) m at p q =
-      let e : at + suc n ≡ suc at + n = omega arith in
-      rw (p, suc-add, pow-suc, ← number_halves n m (suc at) refl (rw e at q)) (omega arith)
-
-  pub number_one : (at : ℕ) → get_or s at 0 ≡ number_at s at 1
-  unfolding number_at
-  number_one at = omega arith
+  -- from a place within the slice, or its end
+  pub bytes_within : (n at m k : ℕ) → m ≡ min at (length s) → k ≡ min (length (take (length s - m) (drop m s))) n
+      → take k (take (length s - m) (drop m s)) ++ drop k (replicate n 0) ≡ bytes_at s at n
+  bytes_within n at m k p e =
+      let long : length (drop m s) ≡ length s - m = length-drop m s in
+      let all : take (length s - m) (drop m s) ≡ drop m s = take_all (length s - m) (drop m s) (omega arith) in
+      let most : k ≡ min (length s - m) n = rw (all, long) at e in
+      rw all (by_place k most)
+    where
+      by_place : (k : ℕ) → k ≡ min (length s - m) n → take k (drop m s) ++ drop k (replicate n 0) ≡ bytes_at s at n
+      by_place zero h = bytes_part n at zero (omega arith)
+      by_place (suc k) h = let q : m ≡ at = omega arith in rw q (bytes_part n at (suc k) (omega arith))
 
 -- ---- there and back
 
@@ -43,18 +50,11 @@ number_bytes (suc n) x h =
     let e : x < 256 ^ n * 256 = rw pow-suc at h in
     rw (number_bytes n (x / 256) ((div-lt_iff_lt-mul {k = 256} {x = x} {y = 256 ^ n} (lit< tt)).1 e)) (div-add-mod' x 256)
 
--- ---- by halves
-
-remainder_low : (x n : ℕ) → (x % 256 ^ suc n % 256 ≡ x % 256) × (x % 256 ^ suc n / 256 ≡ x / 256 % 256 ^ n)
-remainder_low x n =
-    let e : x % 256 ^ suc n ≡ (x / 256 % 256 ^ n) * 256 + x % 256 = rw pow-suc (mod-mul x (one-le-pow n 256 (lit≤ tt)) (lit< tt)) in
-    (rw e (digits_mod (x / 256 % 256 ^ n) (mod-lt x (lit< tt))), rw e (digits_div (x / 256 % 256 ^ n) (mod-lt x (lit< tt))))
-
--- the low n bytes of a number and the m above them
-pub bytes_halves : (n m x : ℕ) → bytes_of n (x % 256 ^ n) ++ bytes_of m (x / 256 ^ n) ≡ bytes_of (n + m) x
+-- the library's bytes of a number
+pub low_first : (k i n : ℕ) → bytes_low_first i k n ≡ bytes_of k (n / 256 ^ i)
 unfolding bytes_of
-bytes_halves zero m x = rw (zero-add, pow-zero, div-one)
-bytes_halves (suc n) m x =
-    let w = remainder_low x n in
-    let d : x / 256 ^ suc n ≡ x / 256 / 256 ^ n = rw (pow-suc, mul_comm) (sym (div-div-eq-div-mul x 256 (256 ^ n))) in
-    rw (suc-add, w.0, w.1, d, bytes_halves n m (x / 256))
+low_first zero i n = refl
+low_first (suc k) zero n = rw (low_first k 1 n, pow-zero, div-one)
+low_first (suc k) (suc i) n =
+    let e : n / 256 ^ suc (suc i) ≡ n / 256 ^ suc i / 256 = rw (pow-suc) (sym (div-div-eq-div-mul n (256 ^ suc i) 256)) in
+    rw (low_first k (suc (suc i)) n, e)

@@ -1,44 +1,31 @@
 -- Events and commands as bytes: what the code stores is what the definitions say, and how long it is.
-use Rattle.words.proofs.General.{ℕ, ◌+◌, ◌≤◌, ◌<◌, mod-eq_of_lt, arith, ◌≡◌, refl, ap, List, [], ◌∷◌, ◌++◌, length, lit≤}
+use Rattle.std.specs.Prelude.{Option, Some, None}
+use Rattle.words.proofs.General.{ℕ, ◌%◌, ◌+◌, ◌≤◌, ◌<◌, mod-eq_of_lt, arith, ◌≡◌, refl, List, [], ◌∷◌, ◌++◌, length, lit≤}
 use Rattle.records.specs.Stores.{Laid}
 use Rattle.records.specs.Parts.{given}
-use Rattle.model.proofs.Terms.{answer_number, refusal_number, length_of, bytes_of, record_kind_of, body_bytes, event_bytes, settings_kind, rule_bytes, given_bytes, command_in, command_kind}
+use Rattle.model.proofs.Terms.{length_of, bytes_of, record_kind_of, body_bytes, event_bytes, settings_kind, rule_bytes, given_bytes, command_in, command_kind}
 use Rattle.model.proofs.Terms.{command_body, command_bytes}
 use Rattle.model.specs.RecordsOf as records
-use Rattle.model.specs.declared.Answer.{Answer}
-use Rattle.model.specs.declared.Refusal.{Refusal}
 use Rattle.model.specs.declared.Given.{Given}
-use Rattle.model.specs.declared.GivenRule.{GivenRule}
-use Rattle.model.specs.declared.GivenRule.TheVariants.{LeftOut, Byte}
 use Rattle.model.specs.declared.Event.{Event}
 use Rattle.model.specs.declared.Event.TheVariants as ev
 use Rattle.model.specs.declared.Command.{Command}
 use Rattle.model.specs.declared.Command.TheVariants as cmd
-use Rattle.model.specs.declared.CommandRead.TheVariants as command
 
 -- a byte is the one byte of its number
 pub byte_as : {x y : ℕ} → x ≡ y → x < 256 → x ∷ [] ≡ bytes_of 1 y
 unfolding bytes_of
 byte_as e h = rw (← e, mod-eq_of_lt h)
 
-pub answer-bytes : (a : Answer) (line : ℕ) {x : ℕ} → x ≡ answer_number a → x < 256 → 0x10 ∷ x ∷ bytes_of 2 line ≡ event_bytes (ev.Answered a line)
-unfolding records.event_bytes
-answer-bytes a line e h = ap (λ (b : List ℕ). 0x10 ∷ (b ++ bytes_of 2 line)) (byte_as e h)
-
-pub refusal_bytes : (n : Refusal) {x : ℕ} → x ≡ refusal_number n → x < 256 → 0x11 ∷ x ∷ [] ≡ event_bytes (ev.Refused n)
-unfolding records.event_bytes
-refusal_bytes n e h = ap (λ (b : List ℕ). 0x11 ∷ b) (byte_as e h)
-
-pub numbers_bytes : (s w p m r q : ℕ) → w < 256 → p < 256 → m < 256 → r < 256 → q < 256
-    → bytes_of 2 s ++ (w ∷ p ∷ m ∷ r ∷ q ∷ []) ≡ given_bytes (given s w p m r q LeftOut)
-unfolding bytes_of
-numbers_bytes s w p m r q h1 h2 h3 h4 h5 = search mod-eq_of_lt
-
 -- the kind, the numbers and the rule as they are stored
 pub settings-bytes : (g : Given) {k : ℕ} → k ≡ settings_kind g.rule
-    → k ∷ (given_bytes (given g.sets g.ways g.dirty g.misses g.readers g.queue LeftOut) ++ rule_bytes g.rule) ≡ command_bytes (cmd.Settings g)
+    → bytes_of 1 k ++ (given_bytes (given g.sets g.ways g.dirty g.misses g.readers g.queue None) ++ rule_bytes g.rule) ≡ command_bytes (cmd.Settings g)
 unfolding records.command_bytes bytes_of
-settings-bytes g e = rw e
+settings-bytes g e = rw e (by_rule g.rule)
+  where
+    by_rule : (u : Option ℕ) → settings_kind u % 256 ∷ (given_bytes (given g.sets g.ways g.dirty g.misses g.readers g.queue None) ++ rule_bytes u) ≡ settings_kind u ∷ (given_bytes (given g.sets g.ways g.dirty g.misses g.readers g.queue None) ++ rule_bytes u)
+    by_rule None = refl
+    by_rule (Some r) = refl
 
 -- ---- lengths
 
@@ -46,7 +33,7 @@ settings-bytes g e = rw e
 pub record EventBody (e : Event) : Type 0 where
   pub sized : length (body_bytes e) ≡ length_of (record_kind_of e)
   pub short : length (body_bytes e) ≤ 24
-  pub other : (b : List ℕ) → command_in (record_kind_of e) b ≡ command.None
+  pub other : (b : List ℕ) → command_in (record_kind_of e) b ≡ None
 
 pub event_body_lem : (e : Event) → EventBody e
 unfolding bytes_of records.length_of
@@ -64,10 +51,10 @@ pub event_short : (e : Event) → length (event_bytes e) ≤ 25
 unfolding records.event_bytes
 event_short e = omega (arith, (event_body_lem e).short)
 
-rule_sized : (u : GivenRule) → (7 + length (rule_bytes u) ≡ length_of (settings_kind u)) × (length (rule_bytes u) ≤ 1)
+rule_sized : (u : Option ℕ) → (7 + length (rule_bytes u) ≡ length_of (settings_kind u)) × (length (rule_bytes u) ≤ 1)
 unfolding bytes_of records.length_of
-rule_sized LeftOut = (refl, lit≤ tt)
-rule_sized (Byte r) = (refl, lit≤ tt)
+rule_sized None = (refl, lit≤ tt)
+rule_sized (Some r) = (refl, lit≤ tt)
 
 -- and a command's
 pub command_body_lem : (c : Command) → (length (command_body c) ≡ length_of (command_kind c)) × (length (command_body c) ≤ 24)

@@ -1,5 +1,6 @@
 -- The events of a step on sound tables whose tickets are 32 bits fit the bytes that document 01 gives them, and the tables after it have such
 -- tickets again; a command read out of bytes fits. What fits reads back (RoundTrip).
+use Rattle.std.specs.Prelude.{Some, None}
 use Rattle.words.proofs.General.{ℕ, zero, suc, ◌%◌, ◌^◌, ◌≤◌, ◌<◌, pow-zero, pow-suc, arith, ◌≡◌, refl, ◌∙◌, Bool, true, not, ◌&&◌, ◌||◌, List, [], ◌∷◌, ◌++◌, map, length, get_or}
 use Rattle.words.proofs.General.{leb, ltb, eqb, le-leb, leb-true, ltb-true, eqb-true, all, any, keep, and_1, and_2, and_i, clash, by_flag, pick_both, In, all_in, in_all, any-in}
 use Rattle.words.proofs.General.{in-keep, all_append, all_map}
@@ -17,10 +18,8 @@ use Rattle.model.specs.declared.Access.{Access}
 use Rattle.model.specs.declared.Access.TheVariants.{Read, Write}
 use Rattle.model.specs.declared.Event.{Event}
 use Rattle.model.specs.declared.Event.TheVariants.{Released}
-use Rattle.model.specs.declared.GivenRule.TheVariants.{LeftOut, Byte}
 use Rattle.model.specs.declared.Command.{Command}
 use Rattle.model.specs.declared.Command.TheVariants as cmd
-use Rattle.model.specs.declared.CommandRead.TheVariants as command
 use Rattle.model.proofs.SoundFacts.{Sound, parts, entry_parts, queued_parts}
 use Rattle.model.proofs.Fits.{ranged}
 use Rattle.model.proofs.AccessKeepsSound.{formed_good}
@@ -206,9 +205,9 @@ pub command_read_fits : (k : ℕ) (b : List ℕ) → bytes b ≡ true → Comman
 unfolding records.command_of
 command_read_fits k b h =
     let n = number_below b h in
-    by_flag CommandReadFits (eqb (length b) (length_of k)) (command_in k b) command.None
+    by_flag CommandReadFits (eqb (length b) (length_of k)) (command_in k b) None
     (λ e. by_flag CommandReadFits (is_settings k) _ _
-    (λ e. record { sets = n 2 0; ways = n 1 2; dirty = n 1 3; misses = n 1 4; readers = n 1 5; queue = n 1 6; rule = by_flag RuleFits (eqb k kinds.ruled) (Byte (number_at b 7 1)) LeftOut (λ e. n 1 7) (λ e. tt) })
+    (λ e. record { sets = n 2 0; ways = n 1 2; dirty = n 1 3; misses = n 1 4; readers = n 1 5; queue = n 1 6; rule = by_flag RuleFits (eqb k kinds.ruled) (Some (number_at b 7 1)) None (λ e. n 1 7) (λ e. tt) })
     (λ e. by_flag CommandReadFits (eqb k 1) _ _ (λ e. (n 8 0, n 4 8))
     (λ e. by_flag CommandReadFits (eqb k 2) _ _ (λ e. (n 8 0, n 4 8))
     (λ e. by_flag CommandReadFits (eqb k 3) _ _ (λ e. tt)

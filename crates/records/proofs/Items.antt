@@ -1,16 +1,13 @@
 -- What stands at a place of a stream: a command or an event lies behind the place and within the stream; what is written there reads back.
+use Rattle.model.specs.RecordsOf.{whole_record}
+use Rattle.model.specs.declared.Body.{Body}
+use Rattle.std.specs.Prelude.{Option, Some, None, Result, Ok, Err}
 use Rattle.words.proofs.General.{ℕ, ◌+◌, ◌-◌, ◌≤◌, ◌<◌, arith, ◌≡◌, refl, sym, ◌∙◌, List, ◌++◌, length, get_or, take, drop, length-append, ltb, eqb, lt-ltb, le-ltb, by_flag}
 use Rattle.model.specs.RecordsOf as records
 use Rattle.model.proofs.Terms.{length_of, no_kind, event_bytes, command_bytes, read_at, command_at, event_at, command_of, event_of}
 use Rattle.model.specs.declared.Event.{Event}
 use Rattle.model.specs.declared.Command.{Command}
-use Rattle.model.specs.declared.EventRead.{EventRead}
-use Rattle.model.specs.declared.EventRead.TheVariants as event
-use Rattle.model.specs.declared.CommandRead.{CommandRead}
-use Rattle.model.specs.declared.CommandRead.TheVariants as command
 use Rattle.model.specs.declared.Stop.{Stop}
-use Rattle.model.specs.declared.Record.{Record}
-use Rattle.model.specs.declared.Record.TheVariants.{Whole, Stopped}
 use Rattle.records.specs.declared.Item.{Item}
 use Rattle.records.specs.declared.Item.TheVariants as item
 use Rattle.records.specs.Fitting.{Fitting, CommandFits}
@@ -25,18 +22,19 @@ module _ (s : List ℕ) (at : ℕ) where
   unfolding item_at
   item_end h = rw (le-ltb at (length s) h)
 
-  pub item_stopped_lem : at < length s → {x : Record} {r : Stop} → x ≡ read_at s at → x ≡ Stopped r → {i : Item} → i ≡ item_stopped (get_or s at 0) (length s - (at + 1)) → i ≡ item_at s at
+  pub item_stopped_lem : at < length s → {x : Result Body Stop} {r : Stop} → x ≡ read_at s at → x ≡ Err r → {i : Item} → i ≡ item_stopped (get_or s at 0) (length s - (at + 1)) → i ≡ item_at s at
   unfolding item_at
   item_stopped_lem h p f j = rw (lt-ltb at (length s) h, sym p ∙ f) j
 
   -- of the part that holds the body
-  pub item_whole_lem : at < length s → {x : Record} {k start n next : ℕ} → x ≡ read_at s at → x ≡ Whole k start n next → {c : CommandRead} {e : EventRead}
-      → c ≡ command_of k (take (next - start) (drop start s)) → e ≡ event_of k (take (next - start) (drop start s)) → {i : Item} → i ≡ item_whole k next c e → i ≡ item_at s at
+  pub item_whole_lem : at < length s → {x : Result Body Stop} {b : Body} → x ≡ read_at s at → x ≡ Ok b → {c : Option Command} {e : Option Event}
+      → c ≡ command_of b.kind (take (b.next - b.start) (drop b.start s)) → e ≡ event_of b.kind (take (b.next - b.start) (drop b.start s))
+      → {i : Item} → i ≡ item_whole b.kind b.next c e → i ≡ item_at s at
   unfolding item_at records.command_at records.event_at
-  item_whole_lem h {k = k} {start = start} {n = n} {next = next} p f u v j =
-      let q : read_at s at ≡ Whole k start n next = sym p ∙ f in
-      let w = was_whole s at k start n next q in
-      let g : next - start ≡ n = omega arith in
+  item_whole_lem h {b = b} p f u v j =
+      let q : read_at s at ≡ Ok b = sym p ∙ f in
+      let w = was_whole s at b.kind b.start b.len b.next q in
+      let g : b.next - b.start ≡ b.len = omega arith in
       j ∙ rw (lt-ltb at (length s) h, q, u, v, g) (rw q)
 
 -- ---- past a record
@@ -54,14 +52,14 @@ pub item_past : (s : List ℕ) (at : ℕ) → Past (length s) at (item_at s at)
 unfolding item_at
 item_past s at = by_flag (Past (length s) at) (ltb at (length s)) _ _ (λ z. by_record (read_at s at) refl) (λ z. tt)
   where
-    whole : (k next : ℕ) → at < next → next ≤ length s → (c : CommandRead) (e : EventRead) → Past (length s) at (item_whole k next c e)
-    whole k next h l (command.Got c) e = (h, l)
-    whole k next h l command.None (event.Got e) = (h, l)
-    whole k next h l command.None event.None = tt
+    whole : (k next : ℕ) → at < next → next ≤ length s → (c : Option Command) (e : Option Event) → Past (length s) at (item_whole k next c e)
+    whole k next h l (Some c) e = (h, l)
+    whole k next h l None (Some e) = (h, l)
+    whole k next h l None None = tt
 
-    by_record : (r : Record) → read_at s at ≡ r → Past (length s) at (item_by s at r)
-    by_record (Whole k start n next) q = let w = was_whole s at k start n next q in whole k next (omega arith) (omega arith) (command_at s at) (event_at s at)
-    by_record (Stopped r) q = by_flag (Past (length s) at) (eqb (length_of (get_or s at 0)) no_kind) _ _ (λ z. tt) (λ z. tt)
+    by_record : (r : Result Body Stop) → read_at s at ≡ r → Past (length s) at (item_by s at r)
+    by_record (Ok b) q = let w = was_whole s at b.kind b.start b.len b.next q in whole b.kind b.next (omega arith) (omega arith) (command_at s at) (event_at s at)
+    by_record (Err r) q = by_flag (Past (length s) at) (eqb (length_of (get_or s at 0)) no_kind) _ _ (λ z. tt) (λ z. tt)
 
 -- ---- what is written reads back: p before it, q after it
 

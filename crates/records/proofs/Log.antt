@@ -1,6 +1,6 @@
 -- A log of events as bytes, part by part, as the code stores it.
 use Rattle.words.proofs.General.{ℕ, zero, suc, ◌+◌, ◌*◌, ◌≤◌, ◌<◌, add-zero, add-one, arith, ◌≡◌, refl, sym, ap, ◌∙◌, Bool, true, List, [], ◌∷◌, ◌++◌, map, append-nil, map-append}
-use Rattle.words.proofs.General.{length, take, get_or, length-append, take-suc, length-take-le, all, and_1, and_2, by_flag}
+use Rattle.words.proofs.General.{length, take, get_or, length-append, take-suc, length-take-le, take_all, all, and_1, and_2, by_flag}
 use Rattle.model.proofs.Terms.{Entry, entry_for, queued_event, tickets_of, bytes_of, event_bytes, log_bytes}
 use Rattle.model.specs.RecordsOf as records
 use Rattle.model.specs.declared.Queued.{Queued}
@@ -16,6 +16,10 @@ unfolding records.log_bytes
 log_one e = append-nil (event_bytes e)
 
 -- ---- entries that were queued
+
+-- all of them
+pub queued_all : (xs : List Queued) (n : ℕ) → length xs ≤ n → queued_told n xs ≡ map queued_event xs
+queued_all xs n h = rw (take_all n xs h)
 
 -- fewer of them are no more bytes
 pub queued_fewer : (m n : ℕ) (xs : List Queued) → m ≤ n → length (log_bytes (queued_told m xs)) ≤ length (log_bytes (queued_told n xs))
@@ -58,6 +62,9 @@ pub released-length : (ts : List ℕ) → length (log_bytes (map Released ts)) �
 unfolding records.log_bytes records.event_bytes bytes_of
 released-length [] = refl
 released-length (t ∷ ts) = let h = released-length ts in omega arith
+
+pub tickets_all : (ts : List ℕ) (n : ℕ) → length ts ≤ n → tickets_told n ts ≡ map Released ts
+tickets_all ts n h = rw (take_all n ts h)
 
 module _ (ts : List ℕ) where
   pub tickets_length : (j : ℕ) → j ≤ length ts → length (log_bytes (tickets_told j ts)) ≡ 5 * j

@@ -4,13 +4,14 @@ use Rattle.model.proofs.Terms.{queued_event, events_told, event_bytes, log_bytes
 use Rattle.model.specs.RecordsOf as records
 use Rattle.model.specs.declared.Event.{Event}
 use Rattle.model.specs.declared.Event.TheVariants.{Released}
+use Rattle.model.specs.declared.Queued.{Queued}
 use Rattle.model.specs.declared.Reply.{Reply}
 use Rattle.records.specs.Fitting.{Fitting, AllFitting}
 use Rattle.records.specs.Stores.{Laid}
 use Rattle.records.specs.Parts.{queued_told, tickets_told}
 use Rattle.records.proofs.Stores.{laid_then, laid_as, laid_sized}
 use Rattle.records.proofs.Encoding.{case-laid}
-use Rattle.records.proofs.Log.{log_one, tickets_length}
+use Rattle.records.proofs.Log.{log_one, released-length}
 use Rattle.model.proofs.Logs.{log_append}
 
 -- ---- the numbers fit
@@ -27,13 +28,10 @@ tickets_fit (t ∷ ts) f (suc n) = (f 0, tickets_fit ts (λ i. f (suc i)) n)
 -- ---- the parts, and how long they are
 
 -- as many as there are
-take_least : {A : Type 0} (n : ℕ) (xs : List A) → take (min n (length xs)) xs ≡ take n xs
+pub take_least : {A : Type 0} (n : ℕ) (xs : List A) → take (min n (length xs)) xs ≡ take n xs
 take_least zero xs = let e : min 0 (length xs) ≡ 0 = omega arith in rw e
 take_least (suc n) [] = let e : min (suc n) 0 ≡ 0 = omega arith in rw e
 take_least (suc n) (x ∷ xs) = let e : min (suc n) (suc (length xs)) ≡ suc (min n (length xs)) = omega arith in rw (e, take_least n xs)
-
-told_least : {A : Type 0} (f : A → Event) (n k : ℕ) (xs : List A) → length xs ≡ k → {m : ℕ} → m ≡ min n k → map f (take m xs) ≡ map f (take n xs)
-told_least f n k xs e q = rw (q, ← e, take_least)
 
 module _ (t : Reply) where
   -- where the first event is all
@@ -49,30 +47,26 @@ module _ (t : Reply) where
       → t.first ≡ e → Laid l at (length (log_bytes (events_told t))) (log_bytes (events_told t)) r m
   first-laid s u q = reply_alone s.entries s.tickets (case-laid event_bytes _ u q)
 
-  -- of a value with two entries and eight tickets
-  module _ (two : length t.queued ≡ 2) (eight : length t.tickets ≡ 8) where
-    module _ {k n : ℕ} (few : k ≡ min t.queues 2) (count : n ≡ min t.count 8) where
-      entries-all : queued_told k t.queued ≡ queued_told t.queues t.queued
-      entries-all = told_least queued_event t.queues 2 t.queued two few
+  -- of the entries and the tickets that are told
+  module _ {q : List Queued} {s : List ℕ} (few : q ≡ take t.queues t.queued) (count : s ≡ take t.count t.tickets) where
+    reply-parts : event_bytes t.first ++ (log_bytes (map queued_event q) ++ log_bytes (map Released s)) ≡ log_bytes (events_told t)
+    unfolding events_told records.log_bytes
+    reply-parts = rw (few, count, log_append)
 
-      reply-parts : event_bytes t.first ++ (log_bytes (queued_told k t.queued) ++ log_bytes (tickets_told n t.tickets)) ≡ log_bytes (events_told t)
-      unfolding events_told records.log_bytes
-      reply-parts = rw (entries-all, told_least Released t.count 8 t.tickets eight count, log_append)
+    pub reply-fits : ((i : ℕ) → get_or t.tickets i 0 < 2 ^ 32) → Fitting t.first → AllFitting (map queued_event q) → AllFitting (events_told t)
+    unfolding events_told
+    reply-fits small f w = (f, fitting_append (queued_told t.queues t.queued) _ (rw few at w) (tickets_fit t.tickets small t.count))
 
-      pub reply-fits : ((i : ℕ) → get_or t.tickets i 0 < 2 ^ 32) → Fitting t.first → AllFitting (queued_told k t.queued) → AllFitting (events_told t)
-      unfolding events_told
-      reply-fits small f q = (f, fitting_append (queued_told t.queues t.queued) _ (rw entries-all at q) (tickets_fit t.tickets small t.count))
+    -- by the sizes that the code adds up
+    pub reply-sized : {f n : ℕ} → f ≡ length (event_bytes t.first) → n ≡ length (log_bytes (map queued_event q))
+        → f + n + 5 * length s ≡ length (log_bytes (events_told t))
+    reply-sized e g =
+        let m = released-length s in
+        rw (← reply-parts, length-append, length-append, m, e, g) (omega arith)
 
-      -- by the sizes that the code adds up
-      pub reply-sized : {f q : ℕ} → f ≡ length (event_bytes t.first) → q ≡ length (log_bytes (queued_told k t.queued))
-          → f + q + 5 * n ≡ length (log_bytes (events_told t))
-      reply-sized e g =
-          let m = tickets_length t.tickets n (omega arith) in
-          rw (← reply-parts, length-append, length-append, m, e, g) (omega arith)
-
-      -- by the parts that the code stores
-      pub reply-laid : {l m₁ m₂ m : List ℕ} {at i j r : ℕ} → Laid l at (length (event_bytes t.first)) (event_bytes t.first) i m₁
-          → Laid m₁ i (length (log_bytes (queued_told k t.queued))) (log_bytes (queued_told k t.queued)) j m₂
-          → Laid m₂ j (5 * n) (log_bytes (tickets_told n t.tickets)) r m
-          → Laid l at (length (log_bytes (events_told t))) (log_bytes (events_told t)) r m
-      reply-laid u v w = laid_sized (laid_as (laid_then u refl (laid_then v refl w)) reply-parts) (let z = reply-sized refl refl in omega arith)
+    -- by the parts that the code stores
+    pub reply-laid : {l m₁ m₂ m : List ℕ} {at i j r : ℕ} → Laid l at (length (event_bytes t.first)) (event_bytes t.first) i m₁
+        → Laid m₁ i (length (log_bytes (map queued_event q))) (log_bytes (map queued_event q)) j m₂
+        → Laid m₂ j (5 * length s) (log_bytes (map Released s)) r m
+        → Laid l at (length (log_bytes (events_told t))) (log_bytes (events_told t)) r m
+    reply-laid u v w = laid_sized (laid_as (laid_then u refl (laid_then v refl w)) reply-parts) (let z = reply-sized refl refl in omega arith)

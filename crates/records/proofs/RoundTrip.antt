@@ -1,4 +1,6 @@
 -- What is written reads back: an event and a command whose numbers fit, anywhere in a stream; a whole log.
+use Rattle.model.specs.RecordsOf.{whole_record}
+use Rattle.std.specs.Prelude.{Some, None, Option}
 use Rattle.words.proofs.General.{ℕ, zero, suc, ◌+◌, ◌≤◌, ◌<◌, arith, ◌≡◌, refl, sym, ap, ◌∙◌, true, List, [], ◌∷◌, ◌++◌, append_assoc, append-nil, length, get_or, take, drop}
 use Rattle.words.proofs.General.{length-append, get_or-append_seam, drop-append-add, take-append_seam, eqb, le-ltb, lt-ltb, pick}
 use Rattle.model.specs.Kinds as kinds
@@ -9,14 +11,9 @@ use Rattle.model.specs.declared.Answer.TheVariants.{Hit, HitReserved, Miss, Sect
 use Rattle.model.specs.declared.Refusal.TheVariants as refusal
 use Rattle.model.specs.declared.Event.{Event}
 use Rattle.model.specs.declared.Event.TheVariants as ev
-use Rattle.model.specs.declared.EventRead.TheVariants as event
 use Rattle.model.specs.declared.Given.{Given}
-use Rattle.model.specs.declared.GivenRule.{GivenRule}
-use Rattle.model.specs.declared.GivenRule.TheVariants.{LeftOut, Byte}
 use Rattle.model.specs.declared.Command.{Command}
 use Rattle.model.specs.declared.Command.TheVariants as cmd
-use Rattle.model.specs.declared.CommandRead.TheVariants as command
-use Rattle.model.specs.declared.Record.TheVariants.{Whole}
 use Rattle.records.specs.Fitting.{Fitting, AllFitting, RuleFits, GivenFits, CommandFits}
 use Rattle.records.proofs.Digits.{number_bytes}
 use Rattle.records.proofs.Reading.{read_whole}
@@ -25,7 +22,7 @@ use Rattle.records.proofs.Decoding as decoding
 
 -- ---- a body by itself
 
-body_back : (e : Event) → Fitting e → event_of (record_kind_of e) (body_bytes e) ≡ event.Got e
+body_back : (e : Event) → Fitting e → event_of (record_kind_of e) (body_bytes e) ≡ Some e
 unfolding records.event_of bytes_of number_at records.length_of
 body_back (ev.Answered Hit line) h = rw (number_bytes 2 line h)
 body_back (ev.Answered HitReserved line) h = rw (number_bytes 2 line h)
@@ -54,21 +51,21 @@ body_back (ev.Filled a) h = rw (number_bytes 8 a h)
 body_back ev.Ticked h = refl
 
 -- a settings record by its rule
-rule_kind : (u : GivenRule) → is_settings (settings_kind u) ≡ true
-rule_kind LeftOut = refl
-rule_kind (Byte r) = refl
+rule_kind : (u : Option ℕ) → is_settings (settings_kind u) ≡ true
+rule_kind None = refl
+rule_kind (Some r) = refl
 
-rule_back : (u : GivenRule) → RuleFits u → pick (eqb (settings_kind u) kinds.ruled) (Byte (number_at (rule_bytes u) 0 1)) LeftOut ≡ u
+rule_back : (u : Option ℕ) → RuleFits u → pick (eqb (settings_kind u) kinds.ruled) (Some (number_at (rule_bytes u) 0 1)) None ≡ u
 unfolding bytes_of number_at
-rule_back LeftOut h = refl
-rule_back (Byte r) h = rw (number_bytes 1 r h)
+rule_back None h = refl
+rule_back (Some r) h = rw (number_bytes 1 r h)
 
-settings_back : (g : Given) → GivenFits g → command_in (settings_kind g.rule) (given_bytes g) ≡ command.Got (cmd.Settings g)
+settings_back : (g : Given) → GivenFits g → command_in (settings_kind g.rule) (given_bytes g) ≡ Some (cmd.Settings g)
 unfolding bytes_of number_at
 settings_back g h =
     rw (rule_kind g.rule, number_bytes 2 g.sets h.sets, number_bytes 1 g.ways h.ways, number_bytes 1 g.dirty h.dirty, number_bytes 1 g.misses h.misses, number_bytes 1 g.readers h.readers, number_bytes 1 g.queue h.queue, rule_back g.rule h.rule)
 
-command_body_back : (c : Command) → CommandFits c → command_of (command_kind c) (command_body c) ≡ command.Got c
+command_body_back : (c : Command) → CommandFits c → command_of (command_kind c) (command_body c) ≡ Some c
 unfolding records.command_of bytes_of number_at records.length_of
 command_body_back (cmd.Settings g) h = decoding.command_sized (settings_kind g.rule) (given_bytes g) _ refl (command_body_lem (cmd.Settings g)).0 ∙ settings_back g h
 command_body_back (cmd.Read a k) h = rw (number_bytes 8 a h.0, number_bytes 4 k h.1)
@@ -83,7 +80,7 @@ module _ (p q : List ℕ) (k : ℕ) (bs : List ℕ) (sized : length bs ≡ lengt
   abbrev log_stream : List ℕ
   log_stream = p ++ (k ∷ (bs ++ q))
 
-  pub record_read : read_at log_stream (length p) ≡ Whole k (length p + 1) (length bs) (length (p ++ (k ∷ bs)))
+  pub record_read : read_at log_stream (length p) ≡ whole_record k (length p + 1) (length bs) (length (p ++ (k ∷ bs)))
   record_read =
       let here : length p < length log_stream = simp length-append (omega arith) in
       let g : get_or log_stream (length p) 0 ≡ k = get_or-append_seam p k (bs ++ q) 0 in
@@ -97,7 +94,7 @@ module _ (p q : List ℕ) (k : ℕ) (bs : List ℕ) (sized : length bs ≡ lengt
 
 module _ (p q : List ℕ) where
   module _ (e : Event) where
-    pub event-next : read_at (p ++ (event_bytes e ++ q)) (length p) ≡ Whole (record_kind_of e) (length p + 1) (length (body_bytes e)) (length (p ++ event_bytes e))
+    pub event-next : read_at (p ++ (event_bytes e ++ q)) (length p) ≡ whole_record (record_kind_of e) (length p + 1) (length (body_bytes e)) (length (p ++ event_bytes e))
     unfolding records.event_bytes
     event-next = let z = event_body_lem e in record_read p q (record_kind_of e) (body_bytes e) z.sized z.short
 
@@ -105,17 +102,17 @@ module _ (p q : List ℕ) where
     unfolding records.event_bytes
     event-part = let z = event_body_lem e in record_part p q (record_kind_of e) (body_bytes e) z.sized z.short
 
-    pub event-back : Fitting e → event_at (p ++ (event_bytes e ++ q)) (length p) ≡ event.Got e
+    pub event-back : Fitting e → event_at (p ++ (event_bytes e ++ q)) (length p) ≡ Some e
     unfolding records.event_at
     event-back h = rw (event-next, event-part) (body_back e h)
 
     -- and it is no command
-    pub event-no-command : command_at (p ++ (event_bytes e ++ q)) (length p) ≡ command.None
+    pub event-no-command : command_at (p ++ (event_bytes e ++ q)) (length p) ≡ None
     unfolding records.command_at
     event-no-command = rw (event-next, event-part) (decoding.command_sized (record_kind_of e) (body_bytes e) _ refl (event_body_lem e).sized ∙ (event_body_lem e).other (body_bytes e))
 
   module _ (c : Command) where
-    pub command-next : read_at (p ++ (command_bytes c ++ q)) (length p) ≡ Whole (command_kind c) (length p + 1) (length (command_body c)) (length (p ++ command_bytes c))
+    pub command-next : read_at (p ++ (command_bytes c ++ q)) (length p) ≡ whole_record (command_kind c) (length p + 1) (length (command_body c)) (length (p ++ command_bytes c))
     unfolding records.command_bytes
     command-next = let z = command_body_lem c in record_read p q (command_kind c) (command_body c) z.0 z.1
 
@@ -123,7 +120,7 @@ module _ (p q : List ℕ) where
     unfolding records.command_bytes
     command-part = let z = command_body_lem c in record_part p q (command_kind c) (command_body c) z.0 z.1
 
-    pub command-back : CommandFits c → command_at (p ++ (command_bytes c ++ q)) (length p) ≡ command.Got c
+    pub command-back : CommandFits c → command_at (p ++ (command_bytes c ++ q)) (length p) ≡ Some c
     unfolding records.command_at
     command-back h = rw (command-next, command-part) (command_body_back c h)
 

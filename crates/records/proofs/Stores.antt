@@ -1,7 +1,7 @@
 -- Bytes stored one after the other, where there is room and where not.
-use Rattle.words.proofs.General.{ℕ, ◌+◌, ◌-◌, ◌/◌, ◌%◌, ◌≤◌, ◌<◌, towards_suc, arith, ◌≡◌, refl, sym, ◌∙◌, Bool, true, false, List, ◌++◌, length, take, drop, set, length-append}
-use Rattle.words.proofs.General.{length-drop, sets, sets-eq, take-append_seam, drop-append-add, drop-drop, leb, le-leb, lt-leb, leb-true, iff, sets_append}
-use Rattle.model.proofs.Terms.{bytes_of}
+use Rattle.words.proofs.General.{ℕ, ◌+◌, ◌-◌, ◌≤◌, ◌<◌, arith, ◌≡◌, sym, ◌∙◌, Bool, true, false, List, ◌++◌, length, take, drop, length-append}
+use Rattle.words.proofs.General.{append_assoc, length-drop, sets, sets-eq, take-append_seam, drop-append-add, drop-drop, leb, le-leb, lt-leb, leb-true, iff, sets_append}
+use borrow.Rule.Slice.PartMut.{put_mid}
 use Rattle.records.specs.Stores.{stored, stored_count, Stored, Laid}
 
 -- ---- bytes stored one after the other
@@ -19,11 +19,9 @@ module _ {l : List ℕ} {at n : ℕ} {a : List ℕ} {i : ℕ} {m : List ℕ} whe
   pub laid_sized : {k : ℕ} → Laid l at n a i m → n ≡ k → Laid l at k a i m
   laid_sized u e = rw (← e) u
 
-module _ (l : List ℕ) (at x : ℕ) where
-  -- a number's two bytes
-  pub laid_two : x < 65536 → Laid l at 2 (bytes_of 2 x) (at + 2) (set (set l at (x % 256)) (at + 1) (x / 256))
-  unfolding bytes_of
-  laid_two h = let e : x / 256 % 256 ≡ x / 256 = omega arith in record { next = refl; slice = rw e (simp towards_suc) }
+-- bytes that are copied over a part of the slice
+pub copied_over : (l bs : List ℕ) (at n : ℕ) {k : ℕ} {m : List ℕ} → length bs ≡ n → at + n ≤ length l → k ≡ n → m ≡ bs → put_mid at k l m ≡ sets l at bs
+copied_over l bs at n e h p q = rw (sets-eq bs l at (omega arith), q, p, e, ← drop-drop, append_assoc)
 
 -- ---- where there is room, and where not
 

@@ -1,17 +1,15 @@
 -- "A whole run": the commands of document 01's example as bytes, and its 45 bytes of events, both ways; a stream that stops.
+use Rattle.model.specs.RecordsOf.{whole_record}
+use Rattle.std.specs.Prelude.{Option, Some, None, Err}
 use Rattle.words.proofs.General.{ℕ, ◌≡◌, refl, List, [], ◌∷◌, ◌++◌, length}
 use Rattle.model.specs.RecordsOf as records
 use Rattle.model.proofs.Terms.{bytes_of, number_at, log_bytes, command_bytes, command_at, read_at, events_in, parsed}
 use Rattle.model.specs.declared.Answer.TheVariants.{HitReserved, Miss}
 use Rattle.model.specs.declared.Given.{Given}
-use Rattle.model.specs.declared.GivenRule.{GivenRule}
-use Rattle.model.specs.declared.GivenRule.TheVariants.{LeftOut, Byte}
 use Rattle.model.specs.declared.Event.{Event}
 use Rattle.model.specs.declared.Event.TheVariants as ev
 use Rattle.model.specs.declared.Command.TheVariants as cmd
-use Rattle.model.specs.declared.CommandRead.TheVariants as command
 use Rattle.model.specs.declared.Stop.TheVariants.{UnknownKind, CutShort}
-use Rattle.model.specs.declared.Record.TheVariants.{Whole, Stopped}
 
 abbrev run_told : List Event
 run_told = ev.Answered Miss 1 ∷ ev.ReadQueued 0 ∷ ev.Answered HitReserved 1 ∷ ev.ReadSent 0 ∷ ev.Filled 0 ∷ ev.Released 7 ∷ ev.Released 9 ∷ []
@@ -33,27 +31,27 @@ unfolding records.events_in records.events_from records.event_at records.read_at
 run-read = refl
 
 -- the settings of the example, with a rule byte and without one
-abbrev example : GivenRule → Given
+abbrev example : Option ℕ → Given
 example r = record { sets = 1; ways = 2; dirty = 50; misses = 2; readers = 2; queue = 4; rule = r }
 
 abbrev commands : List ℕ
 commands =
-    command_bytes (cmd.Settings (example LeftOut))
-    ++ (command_bytes (cmd.Read 0 7) ++ (command_bytes (cmd.Read 0 9) ++ (command_bytes cmd.Send ++ (command_bytes (cmd.Fill 0) ++ (command_bytes (cmd.Settings (example (Byte 1))) ++ (0x12 ∷ 7 ∷ []))))))
+    command_bytes (cmd.Settings (example None))
+    ++ (command_bytes (cmd.Read 0 7) ++ (command_bytes (cmd.Read 0 9) ++ (command_bytes cmd.Send ++ (command_bytes (cmd.Fill 0) ++ (command_bytes (cmd.Settings (example (Some 1))) ++ (0x12 ∷ 7 ∷ []))))))
 
 -- the commands one after the other, the last a settings record with a rule byte; then an event's kind with its body cut short, and a kind in neither list
 abbrev Commands_read : Type 0
 Commands_read =
-    (command_at commands 0 ≡ command.Got (cmd.Settings (example LeftOut)))
-    × (command_at commands 8 ≡ command.Got (cmd.Read 0 7))
-    × (command_at commands 21 ≡ command.Got (cmd.Read 0 9))
-    × (command_at commands 34 ≡ command.Got cmd.Send)
-    × (command_at commands 35 ≡ command.Got (cmd.Fill 0))
-    × (read_at commands 35 ≡ Whole 4 36 8 44)
-    × (command_at commands 44 ≡ command.Got (cmd.Settings (example (Byte 1))))
-    × (read_at commands 53 ≡ Stopped CutShort)
-    × (read_at commands 54 ≡ Stopped UnknownKind)
-    × (read_at commands 55 ≡ Stopped CutShort)
+    (command_at commands 0 ≡ Some (cmd.Settings (example None)))
+    × (command_at commands 8 ≡ Some (cmd.Read 0 7))
+    × (command_at commands 21 ≡ Some (cmd.Read 0 9))
+    × (command_at commands 34 ≡ Some cmd.Send)
+    × (command_at commands 35 ≡ Some (cmd.Fill 0))
+    × (read_at commands 35 ≡ whole_record 4 36 8 44)
+    × (command_at commands 44 ≡ Some (cmd.Settings (example (Some 1))))
+    × (read_at commands 53 ≡ Err CutShort)
+    × (read_at commands 54 ≡ Err UnknownKind)
+    × (read_at commands 55 ≡ Err CutShort)
 
 commands-read : Commands_read
 unfolding records.command_bytes bytes_of records.command_at records.command_of records.read_at records.length_of number_at

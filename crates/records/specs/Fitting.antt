@@ -1,19 +1,15 @@
 -- Events, commands and tickets whose numbers fit the bytes that document 01 gives them.
-use Rattle.std.specs.Prelude.{ℕ, ◌^◌, ◌≤◌, ◌<◌, Bool, List, [], ◌∷◌, leb}
+use Rattle.std.specs.Prelude.{ℕ, ◌^◌, ◌≤◌, ◌<◌, Bool, List, [], ◌∷◌, leb, Option, Some, None}
 use Rattle.words.specs.Words.{all}
 use Rattle.model.specs.Tables.{Tables}
 use Rattle.model.specs.Sound.{all_ones}
 use Rattle.model.specs.declared.Access.{Access}
 use Rattle.model.specs.declared.Access.TheVariants.{Read, Write}
 use Rattle.model.specs.declared.Given.{Given}
-use Rattle.model.specs.declared.GivenRule.{GivenRule}
-use Rattle.model.specs.declared.GivenRule.TheVariants.{LeftOut, Byte}
 use Rattle.model.specs.declared.Event.{Event}
 use Rattle.model.specs.declared.Event.TheVariants as ev
 use Rattle.model.specs.declared.Command.{Command}
 use Rattle.model.specs.declared.Command.TheVariants as cmd
-use Rattle.model.specs.declared.CommandRead.{CommandRead}
-use Rattle.model.specs.declared.CommandRead.TheVariants as command
 
 -- block 8 bytes, masks 4 each
 pub record WriteBackFits (b m0 m1 m2 m3 : ℕ) : Type 0 where
@@ -39,9 +35,9 @@ AllFitting [] = Unit
 AllFitting (e ∷ es) = Fitting e × AllFitting es
 
 -- sets 2 bytes, the other settings 1 each
-abbrev pub RuleFits : GivenRule → Type 0
-RuleFits LeftOut = Unit
-RuleFits (Byte r) = r < 2 ^ 8
+abbrev pub RuleFits : Option ℕ → Type 0
+RuleFits None = Unit
+RuleFits (Some r) = r < 2 ^ 8
 
 pub record GivenFits (g : Given) : Type 0 where
   pub sets : g.sets < 2 ^ 16
@@ -61,9 +57,9 @@ CommandFits (cmd.Fill a) = a < 2 ^ 64
 CommandFits (cmd.Tick c) = c < 2 ^ 32
 
 -- of a body that was read
-abbrev pub CommandReadFits : CommandRead → Type 0
-CommandReadFits (command.Got c) = CommandFits c
-CommandReadFits command.None = Unit
+abbrev pub CommandReadFits : Option Command → Type 0
+CommandReadFits (Some c) = CommandFits c
+CommandReadFits None = Unit
 
 -- ---- tickets of 32 bits
 

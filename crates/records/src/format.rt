@@ -1,6 +1,7 @@
 // The current format in numbers, each named once: the lengths of bodies by kind, which kinds are commands, the kinds and the sizes
 // of settings records, the longest command, the rooms.
-// "Body length is fixed by kind through this table"; 255 for a number that is no kind.
+// "Body length is fixed by kind through this table"; 255 and no Option for a number that is no kind, as `length_of` has it.
+// A kind is any byte of a stream, and no enum: one in neither list is told of by its number.
 pub(crate) const LENGTHS: [u8; 25] = [
     7, 12, 12, 0, 8, 4, 8, 255, 255, 255, 255, 255, 255, 255, 255, 255, 3, 1, 8, 24, 4, 8, 24, 8, 0,
 ];

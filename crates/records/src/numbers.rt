@@ -1,99 +1,100 @@
 // Numbers of one, two, four and eight bytes, read at a place of a slice and put there.
-ghost use Rattle.std.specs.Prelude.{◌≡◌, ◌+◌, ◌≤◌, [], ◌∷◌, length};
+ghost use Rattle.std.specs.Prelude.{◌≡◌, ℕ, ◌+◌, ◌≤◌, length};
 ghost use Rattle.records.specs.Stores.{Laid};
+ghost use Rattle.records.specs.Parts.{bytes_at};
 ghost use Rattle.model.specs.Records.{bytes_of, number_at};
 
-// The byte at a place; 0 past the end, as in the wider numbers below.
-pub fn number1(b: &[u8], at: usize) -> u8
-    ensures { result ≡ number_at b.now at 1 }
-{
-    if at < b.len() { b[at] } else { 0 }
+// A number of a fixed size: "numbers are little-endian".
+// An impl for each type: the library's `to_le_bytes` is no trait's.
+pub trait Number: Copy {
+    // How many bytes it has.
+    ghost size: { ℕ };
+
+    ghost value: { Self → ℕ };
+
+    // The number at a place, whose bytes past the end are 0.
+    fn read(b: &[u8], at: usize) -> Self
+        ensures { value result ≡ number_at b.now at size };
+
+    // Puts it at a place; says the next one. There is room, here, below and in `writer`: a public call has looked, or asks for it.
+    fn put(self, out: &mut [u8], at: usize) -> usize
+        requires { at + size ≤ length out.old }
+        ensures { Laid out.old at size (bytes_of size (value self)) result out.new };
 }
 
-// "numbers are little-endian"
-pub fn number2(b: &[u8], at: usize) -> u16
-    ensures { result ≡ number_at b.now at 2 }
-{
-    if b.len() <= at {
-        return 0;
+impl Number for u8 {
+    ghost size = { 1 };
+
+    ghost value = { λ x. x };
+
+    fn read(b: &[u8], at: usize) -> u8 {
+        u8::from_le_bytes(bytes_at(b, at))
     }
-    let low = number1(b, at) as u16;
-    let high = number1(b, at + 1) as u16;
-    low + 256 * high
-}
 
-// Four bytes that are there.
-fn four(b: &[u8], at: usize) -> u32
-    requires { at + 4 ≤ length b.now }
-    ensures { result ≡ number_at b.now at 4 }
-{
-    let b0 = b[at] as u32;
-    let b1 = b[at + 1] as u32;
-    let b2 = b[at + 2] as u32;
-    let b3 = b[at + 3] as u32;
-    b0 + 256 * b1 + 65536 * b2 + 16777216 * b3
-}
-
-// Four bytes are read at once where they are there.
-pub fn number4(b: &[u8], at: usize) -> u32
-    ensures { result ≡ number_at b.now at 4 }
-{
-    if b.len() <= at {
-        return 0;
+    fn put(self, out: &mut [u8], at: usize) -> usize {
+        put_bytes(out, at, self.to_le_bytes())
     }
-    if 4 <= b.len() - at {
-        return four(b, at);
+}
+
+impl Number for u16 {
+    ghost size = { 2 };
+
+    ghost value = { λ x. x };
+
+    fn read(b: &[u8], at: usize) -> u16 {
+        u16::from_le_bytes(bytes_at(b, at))
     }
-    let low = number2(b, at) as u32;
-    let high = number2(b, at + 2) as u32;
-    low + 65536 * high
-}
 
-// By halves.
-pub fn number8(b: &[u8], at: usize) -> u64
-    ensures { result ≡ number_at b.now at 8 }
-{
-    if b.len() <= at {
-        return 0;
+    fn put(self, out: &mut [u8], at: usize) -> usize {
+        put_bytes(out, at, self.to_le_bytes())
     }
-    let low = number4(b, at) as u64;
-    let high = number4(b, at + 4) as u64;
-    low + 4294967296 * high
 }
 
-// A byte; says the next place. There is room, here, below and in `writer`: a public call has looked, or asks for it.
-pub(crate) fn put1(out: &mut [u8], at: usize, x: u8) -> usize
-    requires { at + 1 ≤ length out.old }
-    ensures { Laid out.old at 1 (x ∷ []) result out.new }
-{
-    out[at] = x;
-    at + 1
+impl Number for u32 {
+    ghost size = { 4 };
+
+    ghost value = { λ x. x };
+
+    fn read(b: &[u8], at: usize) -> u32 {
+        u32::from_le_bytes(bytes_at(b, at))
+    }
+
+    fn put(self, out: &mut [u8], at: usize) -> usize {
+        put_bytes(out, at, self.to_le_bytes())
+    }
 }
 
-// A number in two bytes, the lowest first.
-pub(crate) fn put2(out: &mut [u8], at: usize, x: u16) -> usize
-    requires { at + 2 ≤ length out.old }
-    ensures { Laid out.old at 2 (bytes_of 2 x) result out.new }
-{
-    out[at] = (x % 256) as u8;
-    out[at + 1] = (x / 256) as u8;
-    at + 2
+impl Number for u64 {
+    ghost size = { 8 };
+
+    ghost value = { λ x. x };
+
+    fn read(b: &[u8], at: usize) -> u64 {
+        u64::from_le_bytes(bytes_at(b, at))
+    }
+
+    fn put(self, out: &mut [u8], at: usize) -> usize {
+        put_bytes(out, at, self.to_le_bytes())
+    }
 }
 
-// In four bytes, by halves.
-pub(crate) fn put4(out: &mut [u8], at: usize, x: u32) -> usize
-    requires { at + 4 ≤ length out.old }
-    ensures { Laid out.old at 4 (bytes_of 4 x) result out.new }
+// The N bytes at a place; 0 for those past the end.
+fn bytes_at<const N: usize>(b: &[u8], at: usize) -> [u8; N]
+    ensures { result ≡ bytes_at b.now at N }
 {
-    let half = put2(out, at, (x % 65536) as u16);
-    put2(out, half, (x / 65536) as u16)
+    let mut bytes = [0; N];
+    let rest = &b[at.min(b.len())..];
+    let n = rest.len().min(N);
+    bytes[..n].copy_from_slice(&rest[..n]);
+    bytes
 }
 
-// In eight bytes, by halves.
-pub(crate) fn put8(out: &mut [u8], at: usize, x: u64) -> usize
-    requires { at + 8 ≤ length out.old }
-    ensures { Laid out.old at 8 (bytes_of 8 x) result out.new }
+// N bytes at a place; says the next one.
+fn put_bytes<const N: usize>(out: &mut [u8], at: usize, bytes: [u8; N]) -> usize
+    requires { at + N ≤ length out.old }
+    ensures { Laid out.old at N bytes.entry result out.new }
 {
-    let half = put4(out, at, (x % 4294967296) as u32);
-    put4(out, half, (x / 4294967296) as u32)
+    let next = at + N;
+    out[at..next].copy_from_slice(&bytes);
+    next
 }

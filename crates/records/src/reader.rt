@@ -6,10 +6,8 @@ ghost use Rattle.model.specs.Records.{length_of, is_command, is_settings, read_a
 
 use crate::Item;
 use crate::format::{COMMAND_KINDS, LENGTHS, RULE_PLACE, RULED_KIND, SETTINGS_KIND};
-use crate::numbers::{number1, number2, number4, number8};
-use model::{
-    Answer, Command, CommandRead, Event, EventRead, Given, GivenRule, Record, Refusal, Stop,
-};
+use crate::numbers::Number;
+use model::{Answer, Body, Command, Event, Given, Refusal, Stop};
 
 // The length of a body of a kind.
 pub fn length_of(kind: u8) -> u8
@@ -34,28 +32,28 @@ pub fn is_settings(kind: u8) -> bool
 }
 
 // "it refuses with 14 (a kind in neither list), then 15, also where no byte is left"
-pub fn read_at(stream: &[u8], at: usize) -> Record
+pub fn read_at(stream: &[u8], at: usize) -> Result<Body, Stop>
     ensures { result ≡ read_at stream.now at }
 {
     if stream.len() <= at {
-        return Record::Stopped(Stop::CutShort);
+        return Err(Stop::CutShort);
     }
     let kind = stream[at];
     let n = length_of(kind);
     if n == 255 {
-        return Record::Stopped(Stop::UnknownKind);
+        return Err(Stop::UnknownKind);
     }
     let len = n as usize;
     let start = at + 1;
     if len <= stream.len() - start {
-        Record::Whole {
+        Ok(Body {
             kind,
             start,
             len,
             next: start + len,
-        }
+        })
     } else {
-        Record::Stopped(Stop::CutShort)
+        Err(Stop::CutShort)
     }
 }
 
@@ -71,27 +69,28 @@ pub fn body_of(stream: &[u8], at: usize, kind: u8) -> &[u8]
 }
 
 // The answer of a number, with its line.
-fn answer_event(n: u8, line: u16) -> EventRead
+// By hand: `event_of` gives None for another number, and no error is told.
+fn answer_event(n: u8, line: u16) -> Option<Event>
     ensures { result ≡ answered n line }
 {
     match n {
-        1 => EventRead::Got(Event::Answered {
+        1 => Some(Event::Answered {
             answer: Answer::Hit,
             line,
         }),
-        2 => EventRead::Got(Event::Answered {
+        2 => Some(Event::Answered {
             answer: Answer::HitReserved,
             line,
         }),
-        3 => EventRead::Got(Event::Answered {
+        3 => Some(Event::Answered {
             answer: Answer::Miss,
             line,
         }),
-        4 => EventRead::Got(Event::Answered {
+        4 => Some(Event::Answered {
             answer: Answer::SectorMiss,
             line,
         }),
-        _ => EventRead::None,
+        _ => None,
     }
 }
 
@@ -112,60 +111,60 @@ const REFUSALS: [Refusal; 12] = [
 ];
 
 // The refusal of a number.
-fn refusal_event(n: u8) -> EventRead
+fn refusal_event(n: u8) -> Option<Event>
     ensures { result ≡ refused_by n }
 {
     let k = n as usize;
     if k < 1 {
-        return EventRead::None;
+        return None;
     }
     if 12 < k {
-        return EventRead::None;
+        return None;
     }
-    EventRead::Got(Event::Refused(REFUSALS[k - 1]))
+    Some(Event::Refused(REFUSALS[k - 1]))
 }
 
 // The event of a body of a kind.
-pub fn event_of(kind: u8, b: &[u8]) -> EventRead
+pub fn event_of(kind: u8, b: &[u8]) -> Option<Event>
     ensures { result ≡ event_of kind b.now }
 {
     if b.len() != length_of(kind) as usize {
-        return EventRead::None;
+        return None;
     }
     match kind {
-        0x10 => answer_event(number1(b, 0), number2(b, 1)),
-        0x11 => refusal_event(number1(b, 0)),
-        0x12 => EventRead::Got(Event::ReadQueued(number8(b, 0))),
-        0x13 => EventRead::Got(Event::WriteBackQueued {
-            block: number8(b, 0),
-            m0: number4(b, 8),
-            m1: number4(b, 12),
-            m2: number4(b, 16),
-            m3: number4(b, 20),
+        0x10 => answer_event(Number::read(b, 0), Number::read(b, 1)),
+        0x11 => refusal_event(Number::read(b, 0)),
+        0x12 => Some(Event::ReadQueued(Number::read(b, 0))),
+        0x13 => Some(Event::WriteBackQueued {
+            block: Number::read(b, 0),
+            m0: Number::read(b, 8),
+            m1: Number::read(b, 12),
+            m2: Number::read(b, 16),
+            m3: Number::read(b, 20),
         }),
-        0x14 => EventRead::Got(Event::Released(number4(b, 0))),
-        0x15 => EventRead::Got(Event::ReadSent(number8(b, 0))),
-        0x16 => EventRead::Got(Event::WriteBackSent {
-            block: number8(b, 0),
-            m0: number4(b, 8),
-            m1: number4(b, 12),
-            m2: number4(b, 16),
-            m3: number4(b, 20),
+        0x14 => Some(Event::Released(Number::read(b, 0))),
+        0x15 => Some(Event::ReadSent(Number::read(b, 0))),
+        0x16 => Some(Event::WriteBackSent {
+            block: Number::read(b, 0),
+            m0: Number::read(b, 8),
+            m1: Number::read(b, 12),
+            m2: Number::read(b, 16),
+            m3: Number::read(b, 20),
         }),
-        0x17 => EventRead::Got(Event::Filled(number8(b, 0))),
-        0x18 => EventRead::Got(Event::Ticked),
-        _ => EventRead::None,
+        0x17 => Some(Event::Filled(Number::read(b, 0))),
+        0x18 => Some(Event::Ticked),
+        _ => None,
     }
 }
 
 // The rule byte, where the kind has one.
-fn rule_in(kind: u8, b: &[u8]) -> GivenRule
+fn rule_in(kind: u8, b: &[u8]) -> Option<u8>
     ensures { result ≡ rule_in kind b.now }
 {
     if kind == RULED_KIND {
-        GivenRule::Byte(number1(b, RULE_PLACE))
+        Some(Number::read(b, RULE_PLACE))
     } else {
-        GivenRule::LeftOut
+        None
     }
 }
 
@@ -174,51 +173,51 @@ fn given_in(kind: u8, b: &[u8]) -> Given
     ensures { result ≡ given_in kind b.now }
 {
     Given {
-        sets: number2(b, 0),
-        ways: number1(b, 2),
-        dirty: number1(b, 3),
-        misses: number1(b, 4),
-        readers: number1(b, 5),
-        queue: number1(b, 6),
+        sets: Number::read(b, 0),
+        ways: Number::read(b, 2),
+        dirty: Number::read(b, 3),
+        misses: Number::read(b, 4),
+        readers: Number::read(b, 5),
+        queue: Number::read(b, 6),
         rule: rule_in(kind, b),
     }
 }
 
 // The command of a body of a kind, unjudged.
-pub fn command_of(kind: u8, b: &[u8]) -> CommandRead
+pub fn command_of(kind: u8, b: &[u8]) -> Option<Command>
     ensures { result ≡ command_of kind b.now }
 {
     if b.len() != length_of(kind) as usize {
-        return CommandRead::None;
+        return None;
     }
     if is_settings(kind) {
-        return CommandRead::Got(Command::Settings(given_in(kind, b)));
+        return Some(Command::Settings(given_in(kind, b)));
     }
     match kind {
-        1 => CommandRead::Got(Command::Read {
-            address: number8(b, 0),
-            ticket: number4(b, 8),
+        1 => Some(Command::Read {
+            address: Number::read(b, 0),
+            ticket: Number::read(b, 8),
         }),
-        2 => CommandRead::Got(Command::Write {
-            address: number8(b, 0),
-            mask: number4(b, 8),
+        2 => Some(Command::Write {
+            address: Number::read(b, 0),
+            mask: Number::read(b, 8),
         }),
-        3 => CommandRead::Got(Command::Send),
-        4 => CommandRead::Got(Command::Fill(number8(b, 0))),
-        5 => CommandRead::Got(Command::Tick(number4(b, 0))),
-        _ => CommandRead::None,
+        3 => Some(Command::Send),
+        4 => Some(Command::Fill(Number::read(b, 0))),
+        5 => Some(Command::Tick(Number::read(b, 0))),
+        _ => None,
     }
 }
 
 // A whole record: its command, or its event, if it is either's.
-fn whole_item(kind: u8, next: usize, c: CommandRead, e: EventRead) -> Item
+fn whole_item(kind: u8, next: usize, c: Option<Command>, e: Option<Event>) -> Item
     ensures { result ≡ item_whole kind next c e }
 {
     match c {
-        CommandRead::Got(command) => Item::Command { command, next },
-        CommandRead::None => match e {
-            EventRead::Got(event) => Item::Event { event, next },
-            EventRead::None => Item::Strange(kind),
+        Some(command) => Item::Command { command, next },
+        None => match e {
+            Some(event) => Item::Event { event, next },
+            None => Item::Strange(kind),
         },
     }
 }
@@ -243,15 +242,16 @@ pub fn item_at(stream: &[u8], at: usize) -> Item
         return Item::End;
     }
     match read_at(stream, at) {
-        Record::Whole {
-            kind,
-            start,
-            len: _,
-            next,
-        } => {
-            let body = &stream[start..next];
-            whole_item(kind, next, command_of(kind, body), event_of(kind, body))
+        Ok(found) => {
+            let kind = found.kind;
+            let body = &stream[found.start..found.next];
+            whole_item(
+                kind,
+                found.next,
+                command_of(kind, body),
+                event_of(kind, body),
+            )
         }
-        Record::Stopped(_) => stopped_item(stream[at], stream.len() - (at + 1)),
+        Err(_) => stopped_item(stream[at], stream.len() - (at + 1)),
     }
 }

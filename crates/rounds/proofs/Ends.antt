@@ -1,4 +1,5 @@
 -- What waiting comes to: the rounds on slices are those on the tables that they hold; refusals before the first round; room for the events.
+use Rattle.std.specs.Prelude.{Err}
 use Rattle.words.proofs.General.{ℕ, zero, suc, ◌≤◌, ◌<◌, zero-add, arith, ◌≡◌, refl, sym, ap, true, false, List, [], ◌∷◌, map, length, length-map, le-leb, lt-leb}
 use Rattle.model.proofs.Terms.{well_formed, Tables, Outcome, refused, done, events_of, Lent, encoded, check_call, events_told, log_bytes, wait_room, Calls, steps, calls, Turn}
 use Rattle.model.proofs.Terms.{outcome_go_on, outcome_drain, outcome_rounds, accepts, waits, seen_calls, Encodes, SoundSlices}
@@ -15,11 +16,11 @@ use Rattle.encoding.proofs.LentRounds.{run_of, rounds_encoded}
 use Rattle.encoding.proofs.Demand.{steps_keep}
 use Rattle.records.specs.Stores.{Stored}
 use Rattle.soundness.specs.Laid.{Checks}
-use Rattle.soundness.specs.declared.LaidVerdict.{LaidVerdict}
-use Rattle.soundness.specs.declared.LaidVerdict.TheVariants as laid
+use Rattle.std.specs.Prelude.{Result, Ok, Err}
+use Rattle.layout.specs.declared.geometry.Geometry.{Geometry}
 use Rattle.soundness.proofs.Checked.{says_refused}
 use Rattle.tables.specs.Telling.{telling}
-use Rattle.rounds.specs.declared.Waiting.TheVariants as wait
+use Rattle.rounds.specs.declared.NotAccepted.TheVariants as wait
 use Rattle.rounds.specs.declared.Waited.{Waited}
 use Rattle.rounds.specs.Waiting.{last_told, waiting_by, refusal_in, last_offer, waiting_of, refusal_told, settled, turned_away, enough_rounds, wait_call, wait_within, Waits}
 use Rattle.turns.specs.Parts.{Enough}
@@ -98,7 +99,7 @@ module _ {S : Settings} {x : Access} {L : Lent} {e : List ℕ} {r : Waited} {f :
 -- ---- a refusal before the first round
 
 pub turns_away : (n : Refusal) (e : List ℕ) {reply : Reply} → reply ≡ telling (event.Refused n) → {w : ℕ} {f : List ℕ} → Stored e 0 (log_bytes (events_told reply)) w f
-    → wait_room ≤ length e → TurnsAway n e record { waiting = wait.Refused n; written = w } f
+    → wait_room ≤ length e → TurnsAway n e record { waiting = Err (wait.Refused n); written = w } f
 turns_away n e is s room =
     let (two, noted) = refusal_noted n e 0 is s (omega arith) in
     let (bytes, events, back) = noted-written (event.Refused n ∷ []) e (rw zero-add at noted) (omega arith) in
@@ -110,11 +111,11 @@ module _ (S : Settings) (x : Access) (L : Lent) (e : List ℕ) where
   roomy : wait_room ≤ length e → wait_within (length e) S x L ≡ wait_call S x L
   roomy h = rw (le-leb wait_room (length e) h)
 
-  pub waits_no-room : length e < wait_room → Waits (wait_within (length e) S x L) e record { waiting = wait.NoRoom; written = 0 } e L
+  pub waits_no-room : length e < wait_room → Waits (wait_within (length e) S x L) e record { waiting = Err wait.NoRoom; written = 0 } e L
   unfolding records.log_bytes records.events_in records.events_from
   waits_no-room h = rw (lt-leb wait_room (length e) h) record { waiting = refl; written = refl; events = refl; reads = refl; left = refl }
 
-  pub waits_refused : {v : LaidVerdict} {n : Refusal} {r : Waited} {f : List ℕ} → wait_room ≤ length e → Checks S L v → v ≡ laid.Refused n
+  pub waits_refused : {v : Result Geometry Refusal} {n : Refusal} {r : Waited} {f : List ℕ} → wait_room ≤ length e → Checks S L v → v ≡ Err n
       → TurnsAway n e r f → Waits (wait_within (length e) S x L) e r f L
   unfolding wait_call
   waits_refused h checks is t = rw (roomy h, verdict_refused (check_call S L) (says_refused S L checks is)) (t.on L)

@@ -1,20 +1,23 @@
 -- Demand 3 of `run_rounds` and `run_struck`, made of the calls of `cache`. Each hypothesis on what they return and leave is what the
 -- function ensures, word for word; that the run ran is all that is asked of settings, tables, access and room.
+use Rattle.std.specs.Prelude.{Result, Ok}
 use Rattle.words.proofs.General.{ℕ, zero, suc, ◌+◌, ◌-◌, ◌/◌, ◌≤◌, arith, ◌≡◌, refl, sym, ap, subst, ◌∙◌, ⊎_elim, inl, inr, Bool, true, false, ◌&&◌, false≢true, List, [], ◌∷◌}
 use Rattle.words.proofs.General.{◌++◌, map, map-append, length, take, drop, replicate, length-map, length-append, length-replicate, take_at, leb, le-leb, any, flag}
-use Rattle.model.proofs.Terms.{well_formed, Outcome, refused, done, Lent, bit, check_call, verdict_of, round_bytes, Turn, SeenCalls, accepts, Course, marks, rounds, struck, held_in}
+use Rattle.model.proofs.Terms.{well_formed, Outcome, refused, done, Lent, bit, check_call, verdict_of, log_bytes, round_bytes, Turn, SeenCalls, accepts, Course, marks, rounds, struck, held_in}
 use Rattle.model.proofs.Terms.{waits, seen_calls, Demand3}
 use Rattle.model.specs.declared.Settings.{Settings}
 use Rattle.model.specs.declared.Access.{Access}
 use Rattle.model.specs.declared.Event.{Event}
-use Rattle.model.specs.declared.Verdict.TheVariants.{Passed}
 use Rattle.encoding.proofs.DecodeIsSound.{Small}
 use Rattle.encoding.proofs.Demand.{demand_3_seen_lent}
 use Rattle.soundness.proofs.Verdicts.{passed_is}
 use Rattle.rounds.specs.declared.Went.{Went}
-use Rattle.rounds.specs.declared.Went.TheVariants.{Ran}
+use Rattle.rounds.specs.declared.NotRun.{NotRun}
 use Rattle.rounds.specs.Demand3.{RoundsShown, rounds_shown, ran_to, room_for, flags_marked, formed, start_call, rounds_checked, rounds_call, flags_call, struck_call, SameRuns, InTime, HeldOn, Settled}
 use Rattle.rounds.proofs.Longer.{offers_few, longer, marks_accepted, marks_held, offers_first}
+
+abbrev went_as : ℕ → ℕ → Went
+went_as k w = record { rounds = k; written = w }
 
 -- ---- the flags
 
@@ -33,20 +36,20 @@ bits_last j = rw (map-append, bits_none j)
 -- ---- a run that ran had passed the checks
 
 module _ (S : Settings) (x : Access) (L : Lent) where
-  began : (n : ℕ) (fl e : List ℕ) {k w : ℕ} → (rounds_call S x n L fl e).went ≡ Ran k w
+  began : (n : ℕ) (fl e : List ℕ) {k w : ℕ} → (rounds_call S x n L fl e).went ≡ Ok record { rounds = k; written = w }
       → (es : List Event) × (M : Lent) × (start_call S x L ≡ done es M) × ((leb n (length fl) && room_for n e) ≡ true)
   unfolding rounds_call
   began n fl e {k} {w} h = by-start (start_call S x L) refl h
     where
-      by-start : (o : Outcome Lent) → start_call S x L ≡ o → (rounds_checked S x n L fl e o).went ≡ Ran k w
+      by-start : (o : Outcome Lent) → start_call S x L ≡ o → (rounds_checked S x n L fl e o).went ≡ Ok record { rounds = k; written = w }
           → (es : List Event) × (M : Lent) × (start_call S x L ≡ done es M) × ((leb n (length fl) && room_for n e) ≡ true)
       by-start (refused j) q g = absurd (false≢true (cc))
       by-start (done es M) q g = (es, M, q, ⊎_elim (λ b. b) (λ b. let z = rw b at g in cc) (flag (leb n (length fl) && room_for n e)))
 
-  started : {es : List Event} {M : Lent} → start_call S x L ≡ done es M → (well_formed x ≡ true) × (verdict_of (check_call S L) ≡ Passed)
+  started : {es : List Event} {M : Lent} → start_call S x L ≡ done es M → (well_formed x ≡ true) × (verdict_of (check_call S L) ≡ Ok tt)
   started {es} {M} h = go (check_call S L) h
     where
-      go : (o : Outcome Lent) → formed x L o ≡ done es M → (well_formed x ≡ true) × (verdict_of o ≡ Passed)
+      go : (o : Outcome Lent) → formed x L o ≡ done es M → (well_formed x ≡ true) × (verdict_of o ≡ Ok tt)
       go (refused j) g = absurd (false≢true (cc))
       go (done fs N) g = (⊎_elim (λ b. b) (λ b. let z = rw b at g in cc) (flag (well_formed x)), refl)
 
@@ -56,8 +59,8 @@ module _ (S : Settings) (x : Access) (L : Lent) (small : Small L) where
   C = seen_calls S x
 
   -- what `run_rounds` ensures
-  module _ (n : ℕ) (fl e : List ℕ) {r₁ : Went} {M₁ : Lent} {f₁ gl : List ℕ} (runs : rounds_shown r₁ M₁ f₁ ≡ rounds_call S x n L fl e) (flags : gl ≡ flags_call S x n L fl e)
-      {k w : ℕ} (went : r₁ ≡ Ran k w) where
+  module _ (n : ℕ) (fl e : List ℕ) {r₁ : Result Went NotRun} {M₁ : Lent} {f₁ gl : List ℕ} (runs : rounds_shown r₁ M₁ f₁ ≡ rounds_call S x n L fl e) (flags : gl ≡ flags_call S x n L fl e)
+      {k w : ℕ} (went : r₁ ≡ Ok record { rounds = k; written = w }) where
     begun : (es : List Event) × (M : Lent) × (start_call S x L ≡ done es M) × ((leb n (length fl) && room_for n e) ≡ true)
     begun = began S x L n fl e (sym (ap (λ (s : RoundsShown). s.went) runs) ∙ went)
 
@@ -77,7 +80,10 @@ module _ (S : Settings) (x : Access) (L : Lent) (small : Small L) where
     flags-to = let (es, M, o, room) = begun in rw (o, room)
 
     many : k ≡ length (rounds C n L).offers
-    many = let a = ap (λ (s : RoundsShown). s.went) (runs ∙ runs_to) in cc
+    many =
+        let a = ap (λ (s : RoundsShown). s.went) (runs ∙ runs_to) in
+        let same : went_as k w ≡ went_as (length (rounds C n L).offers) (length (log_bytes (rounds C n L).turn.events)) = cc in
+        ap (λ (g : Went). g.rounds) same
 
     bits : take k gl ≡ map bit (marks (rounds C n L))
     bits =
@@ -91,7 +97,7 @@ module _ (S : Settings) (x : Access) (L : Lent) (small : Small L) where
     fed-length = ap length bits ∙ rw (length-map, length-map) (sym many)
 
     -- "For every number of such rounds": what `run_struck` ensures, fed a copy of the tables and the flags of the rounds that were run
-    module _ (d : List ℕ) (enough : k ≤ length d / round_bytes) {r₂ : Went} {M₂ : Lent} {f₂ : List ℕ} (strikes : rounds_shown r₂ M₂ f₂ ≡ struck_call S x L (take k gl) d) where
+    module _ (d : List ℕ) (enough : k ≤ length d / round_bytes) {r₂ : Result Went NotRun} {M₂ : Lent} {f₂ : List ℕ} (strikes : rounds_shown r₂ M₂ f₂ ≡ struck_call S x L (take k gl) d) where
       strikes-to : struck_call S x L (take k gl) d ≡ ran_to k (struck C (marks (rounds C n L)) L) d
       unfolding struck_call
       strikes-to = let (es, M, o, room) = begun in rw (o, fed-length, le-leb k (length d / round_bytes) enough, fed)

@@ -1,5 +1,7 @@
 -- The two loops, over the rounds and over the struck rounds: what is left, run from here, gives what all of them give.
-use Rattle.words.proofs.General.{ℕ, suc, ◌+◌, ◌-◌, ◌*◌, ◌≤◌, ◌<◌, zero-add, add-one, arith, ◌≡◌, refl, sym, ◌∙◌, true, false, List, [], ◌∷◌, ◌++◌, map, append-nil, append_assoc}
+use Rattle.std.specs.Prelude.{Ok}
+use Rattle.std.specs.Int.{from_bool}
+use Rattle.words.proofs.General.{ℕ, suc, ◌+◌, ◌-◌, ◌*◌, ◌≤◌, ◌<◌, zero-add, add-one, arith, ◌≡◌, refl, sym, subst, ◌∙◌, Bool, true, false, List, [], ◌∷◌, ◌++◌, map, append-nil, append_assoc}
 use Rattle.words.proofs.General.{map-append, length, drop, get_or, set, length-append, length-map, length-set, sets-eq, drop-cons, drop-length, eqb}
 use Rattle.model.proofs.Terms.{Lent, bit, round_bytes, Turn, SeenCalls, accepts, Course, drain, rounds, struck, seen_calls, SoundSlices}
 use Rattle.model.specs.RecordsOf as records
@@ -8,7 +10,6 @@ use Rattle.model.specs.declared.Access.{Access}
 use Rattle.model.specs.declared.Event.{Event}
 use Rattle.records.specs.Stores.{Laid}
 use Rattle.records.proofs.Stores.{laid_then}
-use Rattle.rounds.specs.declared.Went.TheVariants.{Ran}
 use Rattle.rounds.specs.declared.Offer.{Offer}
 use Rattle.turns.specs.Parts.{Noted}
 use Rattle.rounds.specs.Demand3.{rounds_shown, ran_to, flags_marked}
@@ -26,6 +27,10 @@ flags_length os = rw (length-map, length-map)
 
 flags_append : (os ps : List (List Event)) → flags_of (os ++ ps) ≡ flags_of os ++ flags_of ps
 flags_append os ps = rw (map-append, map-append)
+
+from_bit : (b : Bool) → from_bool b ≡ bit b
+from_bit true = refl
+from_bit false = refl
 
 -- ---- where both loops stand
 
@@ -69,7 +74,7 @@ module _ (S : Settings) (n : ℕ) where
       bytes = noted_then es a.events g.bytes s.bytes;
     }
 
-    stands-shown : round_bytes * n ≤ length e₀ → rounds_shown (Ran i out) L e ≡ ran_to i record { events = es; left = L } e₀
+    stands-shown : round_bytes * n ≤ length e₀ → rounds_shown (Ok record { rounds = i; written = out }) L e ≡ ran_to i record { events = es; left = L } e₀
     stands-shown room =
         let (count, slice, back) = noted-written es e₀ g.bytes (omega (arith, g.few, g.short)) in
         rw (back, count, slice)
@@ -106,7 +111,7 @@ module _ (S : Settings) (x : Access) (n : ℕ) where
   module _ {L₀ : Lent} {fl₀ e₀ : List ℕ} (flagroom : n ≤ length fl₀) (room : round_bytes * n ≤ length e₀) where
     -- all that was run
     ended : {es : List Event} {L : Lent} {fl e : List ℕ} {i out : ℕ} → Stands S n L₀ e₀ es L e i out → (os : List (List Event)) → length os ≡ i → Laid fl₀ 0 i (flags_of os) i fl
-        → rounds C n L₀ ≡ record { turn = record { events = es; left = L }; offers = os } → RunsOn S x n L₀ fl₀ e₀ (Ran i out) L fl e
+        → rounds C n L₀ ≡ record { turn = record { events = es; left = L }; offers = os } → RunsOn S x n L₀ fl₀ e₀ record { rounds = i; written = out } L fl e
     ended g os made flagged all =
         let few = g.few in
         let size = flags_length os in
@@ -116,11 +121,15 @@ module _ (S : Settings) (x : Access) (n : ℕ) where
         }
 
     module _ {L : Lent} {fl e : List ℕ} {i out : ℕ} (g : RoundsRun L₀ fl₀ e₀ L fl e i out) where
-      pub runs-end : n ≤ i → RunsOn S x n L₀ fl₀ e₀ (Ran i out) L fl e
+      pub runs-end : n ≤ i → RunsOn S x n L₀ fl₀ e₀ record { rounds = n; written = out } L fl e
       unfolding rounds
-      runs-end h = let z : n - i ≡ 0 = omega arith in ended g.stands g.offers g.made g.flagged (g.rest ∙ rw (z, append-nil, append-nil))
+      runs-end h =
+          let z : n - i ≡ 0 = omega arith in
+          let all : n ≡ i = omega (arith, g.stands.few) in
+          let run = ended g.stands g.offers g.made g.flagged (g.rest ∙ rw (z, append-nil, append-nil)) in
+          subst (λ (k : ℕ). RunsOn S x n L₀ fl₀ e₀ record { rounds = k; written = out } L fl e) (sym all) run
 
-      module _ (more : i < n) {r : Offer} {f : List ℕ} {M : Lent} (s : SeesRound S x L e out r f M) {v : ℕ} (flag : v ≡ bit r.taken)
+      module _ (more : i < n) {r : Offer} {f : List ℕ} {M : Lent} (s : SeesRound S x L e out r f M) {v : ℕ} (flag : v ≡ from_bool r.taken)
           (size : length f ≡ length e) (longs : length M.longs ≡ length L.longs) (words : length M.words ≡ length L.words)
           (marks : length M.marks ≡ length L.marks) where
         abbrev a : Turn Lent
@@ -134,7 +143,7 @@ module _ (S : Settings) (x : Access) (n : ℕ) where
 
         stored : Laid fl₀ 0 (i + 1) (flags_of (g.offers ++ offered)) (i + 1) (set fl i v)
         stored =
-            rw (flags_append g.offers offered, ← s.taken, ← flag)
+            rw (flags_append g.offers offered, ← s.taken, ← from_bit r.taken, ← flag)
             (laid_then g.flagged (flags_length g.offers ∙ g.made) record { next = refl; slice = refl })
 
         many : length (g.offers ++ offered) ≡ i + 1
@@ -143,7 +152,7 @@ module _ (S : Settings) (x : Access) (n : ℕ) where
         next : n - i ≡ suc (n - (i + 1))
         next = omega arith
 
-        pub runs-accepted : r.taken ≡ true → RunsOn S x n L₀ fl₀ e₀ (Ran (i + 1) r.written) M (set fl i v) f
+        pub runs-accepted : r.taken ≡ true → RunsOn S x n L₀ fl₀ e₀ record { rounds = i + 1; written = r.written } M (set fl i v) f
         unfolding rounds
         runs-accepted taken = ended stood (g.offers ++ offered) many stored (g.rest ∙ rw (next, sym s.taken ∙ taken, append-nil, s.on.left))
 
@@ -175,12 +184,13 @@ module _ (S : Settings) (x : Access) (fl : List ℕ) where
   strikes_first L h e = record { events = []; stands = stands_first S (length fl) h e; rest = refl }
 
   module _ {L₀ : Lent} {e₀ : List ℕ} {L : Lent} {e : List ℕ} {i out : ℕ} (g : Strikes L₀ e₀ L e i out) where
-    pub strikes-end : length fl ≤ i → round_bytes * length fl ≤ length e₀ → StrikesOn S x L₀ fl e₀ (Ran i out) L e
+    pub strikes-end : length fl ≤ i → round_bytes * length fl ≤ length e₀ → StrikesOn S x L₀ fl e₀ record { rounds = length fl; written = out } L e
     unfolding struck
     strikes-end h room =
         let z : i ≡ length fl = omega (arith, g.stands.few) in
         let all : struck D (flags_marked fl) L₀ ≡ record { events = g.events; left = L } = g.rest ∙ rw (z, drop-length, append-nil) in
-        record { shows = rw (all, ← z) (stands-shown S (length fl) g.stands room) }
+        let shown = stands-shown S (length fl) g.stands room in
+        record { shows = rw all (rw z at shown) }
 
     pub strikes-again : i < length fl → {w : ℕ} {f : List ℕ} {M : Lent} → SeesStruck S x (eqb (get_or fl i 0) 1) L e out w f M
         → length f ≡ length e → length M.longs ≡ length L.longs → length M.words ≡ length L.words → length M.marks ≡ length L.marks

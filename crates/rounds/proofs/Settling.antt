@@ -1,4 +1,5 @@
 -- The rounds one after another: where the loop over them stands, a round more, its two ends.
+use Rattle.std.specs.Prelude.{Ok, Err}
 use Rattle.words.proofs.General.{ℕ, suc, ◌+◌, ◌-◌, ◌*◌, ◌≤◌, ◌<◌, add-zero, arith, ◌≡◌, refl, sym, ap, ◌∙◌, ⊎_elim, true, false, not, false≢true, List, [], ◌∷◌, ◌++◌}
 use Rattle.words.proofs.General.{append_assoc, append-nil, length, get_or, length-append, any, clash, any_append}
 use Rattle.model.proofs.Terms.{well_formed, Tables, Outcome, refused, done, accepted, events_of, Lent, access, events_told, log_bytes, settle_bytes, wait_room, steps, Turn, Run}
@@ -15,13 +16,16 @@ use Rattle.model.proofs.Bound.{rounds_settled}
 use Rattle.model.proofs.SeenRounds.{unrefused_too, access_clear}
 use Rattle.records.specs.Stores.{Stored}
 use Rattle.tables.specs.Telling.{telling}
-use Rattle.rounds.specs.declared.Waiting.TheVariants as wait
+use Rattle.rounds.specs.declared.NotAccepted.TheVariants as wait
 use Rattle.turns.specs.declared.Round.{Round}
-use Rattle.rounds.specs.Waiting.{last_offer}
+use Rattle.rounds.specs.Waiting.{Waiting, last_offer}
 use Rattle.turns.specs.Parts.{is_refusal, Noted, Offers, Enough}
 use Rattle.rounds.specs.Parts.{RoundsSettle}
 use Rattle.turns.proofs.Noting.{reply_accepted, noted_then}
 use Rattle.rounds.proofs.Written.{noted-written, refusal_noted}
+
+abbrev said : ℕ → Event → Waiting
+said n e = Ok record { round = n; answer = e }
 
 -- ---- runs behind other rounds
 
@@ -145,7 +149,7 @@ module _ {S : Settings} {x : Access} {most : ℕ} where
       -- ---- whose offer was accepted
 
       module _ (q : is_refusal r.reply.first ≡ false) (few : most ≤ 128) (room : wait_room ≤ length e₀) where
-        pub goes-accepted : RoundsSettle S x most L₀ e₀ record { waiting = wait.Accepted (round + 1) r.reply.first; written = r.written } f M
+        pub goes-accepted : RoundsSettle S x most L₀ e₀ record { waiting = Ok record { round = round + 1; answer = r.reply.first }; written = r.written } f M
         unfolding events_told
         goes-accepted = record {
           on = λ t₀ i.
@@ -160,7 +164,7 @@ module _ {S : Settings} {x : Access} {most : ℕ} where
               let (count, slice, back) = noted-written (l.events ++ (a.events ++ es)) e₀ laid (let s = made.short in let h = g.short in omega arith) in
               let many : length (l.offers ++ (done es u ∷ [])) ≡ round + 1 = rw length-append (let m = l.made in omega arith) in
               rw (all, last_one (refused SetHeld) (done es u) l.offers, many, append-nil) record {
-                waiting = ap (wait.Accepted (round + 1)) first;
+                waiting = ap (λ (v : Event). said (round + 1) v) first;
                 written = count;
                 events = slice;
                 reads = back;
@@ -196,7 +200,7 @@ module _ {S : Settings} {x : Access} {most : ℕ} where
         pub held_fits : out + n ≤ wait_room
         held_fits = omega (arith, held-noted.0, g.short, g.few, enough.few)
 
-        pub goes-held-end : RoundsSettle S x most L₀ e₀ record { waiting = wait.Held; written = out + n } f L
+        pub goes-held-end : RoundsSettle S x most L₀ e₀ record { waiting = Err wait.Held; written = out + n } f L
         goes-held-end = record {
           on = λ t₀ i.
               let l = g.leads t₀ i in

@@ -1,5 +1,6 @@
 -- The parts of a round, made of the calls of `cache`, on the slices of sound tables: what each call told is written whole, and the next
 -- call gets what it left.
+use Rattle.std.specs.Prelude.{Option, Some, None}
 use Rattle.words.proofs.General.{ℕ, ◌≤◌, arith, ◌≡◌, refl, sym, ap, subst, ◌∙◌, ⊎_elim, Bool, true, false, not, List, [], ◌∷◌, append-nil, length, eqb, eq-eqb, ne_eqb, flag}
 use Rattle.model.proofs.Terms.{mask_of, Entry, Tables, Outcome, after, events_of, Lent, lent, tables_of, all_ones, sound, access, send, fill, call, access_call, send_call, fill_call}
 use Rattle.model.proofs.Terms.{events_told, Leaves, log_bytes, fill_bytes, Turn, still, and_then, is_empty, accepts, send_turn, fill_first, drain, seen, seen_calls, Encodes, SoundSlices}
@@ -17,8 +18,6 @@ use Rattle.layout.specs.declared.Layout.{Layout}
 use Rattle.layout.specs.Layout.{LaysOut}
 use Rattle.layout.specs.Places.{First}
 use Rattle.tables.proofs.Queue.{queue_counted}
-use Rattle.turns.specs.declared.Sent.{Sent}
-use Rattle.turns.specs.declared.Sent.TheVariants.{At, Nothing}
 use Rattle.rounds.specs.declared.Offer.{Offer}
 use Rattle.turns.specs.Parts.{is_refusal, Noted, first_sent, FindsSent}
 use Rattle.rounds.specs.Parts.{Queueless, Sees, SeesSend, SeesFill, SeesDrain, SeesRound, SeesStruck}
@@ -86,23 +85,23 @@ module _ (S : Settings) {L : Lent} (h : SoundSlices S L) where
 
 -- ---- the fill
 
-abbrev seen_fill_at : Settings → Lent → Sent → Turn Lent
-seen_fill_at S L (At a) = seen L (fill_call S a L)
-seen_fill_at S L Nothing = still L
+abbrev seen_fill_at : Settings → Lent → Option ℕ → Turn Lent
+seen_fill_at S L (Some a) = seen L (fill_call S a L)
+seen_fill_at S L None = still L
 
 fill-first : (S : Settings) (x : Access) (es : List Entry) (L : Lent) → fill_first (seen_calls S x) es L ≡ seen_fill_at S L (first_sent es)
 unfolding fill_first
 fill-first S x [] L = refl
 fill-first S x (y ∷ es) L = ⊎_elim (λ q. rw q) (λ q. rw q (fill-first S x es L)) (flag y.sent)
 
-module _ (S : Settings) {L : Lent} (h : SoundSlices S L) {v : Sent} (found : FindsSent S L v) where
-  fill_at_lem : (x : Access) {w : Sent} → v ≡ w → fill_first (seen_calls S x) (tables_of S L).misses L ≡ seen_fill_at S L w
+module _ (S : Settings) {L : Lent} (h : SoundSlices S L) {v : Option ℕ} (found : FindsSent S L v) where
+  fill_at_lem : (x : Access) {w : Option ℕ} → v ≡ w → fill_first (seen_calls S x) (tables_of S L).misses L ≡ seen_fill_at S L w
   fill_at_lem x e = fill-first S x (tables_of S L).misses L ∙ ap (seen_fill_at S L) (sym (found.on (tables_of S L) (is_read_off S h)) ∙ e)
 
-  pub no-fill : v ≡ Nothing → (e : List ℕ) (out : ℕ) → SeesFill S L e out out e L
+  pub no-fill : v ≡ None → (e : List ℕ) (out : ℕ) → SeesFill S L e out out e L
   no-fill q e out = record { on = λ x. rw (fill_at_lem x q) (still_sees S h e out); short = omega arith }
 
-  module _ {a : ℕ} (q : v ≡ At a) {r : Reply} {M : Lent} (l : Leaves (fill_call S a L) L r M) where
+  module _ {a : ℕ} (q : v ≡ Some a) {r : Reply} {M : Lent} (l : Leaves (fill_call S a L) L r M) where
     pub fill-room : length (log_bytes (events_told r)) ≤ fill_bytes
     fill-room = fill-bytes S found q (call_does S (fill a) l) h
 

@@ -1,6 +1,6 @@
 -- Demand 3 of the calls: the rounds of document 01 and the struck rounds as two calls on the caller's slices (`rounds_call`, `struck_call`), made of
 -- those of `cache`, and what is claimed of them (`SameRuns`, `Settled`). Document 01 has the rounds; that they are calls is decided here.
-use Rattle.std.specs.Prelude.{ℕ, suc, ◌/◌, ◌≤◌, ◌<◌, ◌≡◌, ◌⊎◌, Bool, ◌&&◌, List, [], ◌∷◌, ◌++◌, map, length, take, drop, get_or, replicate, leb, eqb}
+use Rattle.std.specs.Prelude.{Result, Ok, Err, ℕ, suc, ◌/◌, ◌≤◌, ◌<◌, ◌≡◌, ◌⊎◌, Bool, ◌&&◌, List, [], ◌∷◌, ◌++◌, map, length, take, drop, get_or, replicate, leb, eqb}
 use Rattle.words.specs.Words.{pick}
 use Rattle.model.specs.Tables.{Outcome, refused, done}
 use Rattle.model.specs.Lent.{Lent, bit}
@@ -15,29 +15,29 @@ use Rattle.model.specs.declared.Refusal.TheVariants.{BadAccess, SetHeld}
 use Rattle.model.specs.declared.Event.{Event}
 use Rattle.model.specs.declared.Event.TheVariants as event
 use Rattle.rounds.specs.declared.Went.{Went}
-use Rattle.rounds.specs.declared.Went.TheVariants.{Ran, Refused, NoRoom}
+use Rattle.rounds.specs.declared.NotRun.{NotRun}
+use Rattle.rounds.specs.declared.NotRun.TheVariants.{Refused, NoRoom}
 
 -- ---- the two calls
 
 -- what a call returns and leaves: its value, the slices, the event room, and what the bytes that it wrote read back as
 pub record RoundsShown : Type 0 where
-  pub went : Went
+  pub went : Result Went NotRun
   pub left : Lent
   pub room : List ℕ
   pub told : Parsed
 
-abbrev pub written_in : Went → List ℕ → List ℕ
-written_in (Ran k w) f = take w f
-written_in (Refused n) f = []
-written_in NoRoom f = []
+abbrev pub written_in : Result Went NotRun → List ℕ → List ℕ
+written_in (Ok g) f = take g.written f
+written_in (Err n) f = []
 
-abbrev pub rounds_shown : Went → Lent → List ℕ → RoundsShown
+abbrev pub rounds_shown : Result Went NotRun → Lent → List ℕ → RoundsShown
 rounds_shown r L f = record { went = r; left = L; room = f; told = events_in (written_in r f) }
 
 -- k rounds that came to a: every event, 0x11 too, at the start of the room; "Event bytes beyond those written are unchanged."
 abbrev pub ran_to : ℕ → Turn Lent → List ℕ → RoundsShown
 ran_to k a e = record {
-  went = Ran k (length (log_bytes a.events));
+  went = Ok record { rounds = k; written = length (log_bytes a.events) };
   left = a.left;
   room = log_bytes a.events ++ drop (length (log_bytes a.events)) e;
   told = parsed a.events;
@@ -62,9 +62,9 @@ start_call S x L = formed x L (check_call S L)
 module _ (S : Settings) (x : Access) where
   -- refusals come first, then too few flags or bytes
   abbrev pub rounds_checked : ℕ → Lent → List ℕ → List ℕ → Outcome Lent → RoundsShown
-  rounds_checked n L fl e (refused k) = rounds_shown (Refused k) L e
+  rounds_checked n L fl e (refused k) = rounds_shown (Err (Refused k)) L e
   rounds_checked n L fl e (done es M) =
-      pick (leb n (length fl) && room_for n e) (ran_to (length (rounds (seen_calls S x) n L).offers) (rounds (seen_calls S x) n L).turn e) (rounds_shown NoRoom L e)
+      pick (leb n (length fl) && room_for n e) (ran_to (length (rounds (seen_calls S x) n L).offers) (rounds (seen_calls S x) n L).turn e) (rounds_shown (Err NoRoom) L e)
 
   -- n rounds at most, until the access is accepted
   unfoldable pub rounds_call : ℕ → Lent → List ℕ → List ℕ → RoundsShown
@@ -80,8 +80,8 @@ module _ (S : Settings) (x : Access) where
   flags_call n L fl e = flags_checked n L fl e (start_call S x L)
 
   abbrev pub struck_checked : Lent → List ℕ → List ℕ → Outcome Lent → RoundsShown
-  struck_checked L fl e (refused k) = rounds_shown (Refused k) L e
-  struck_checked L fl e (done es M) = pick (room_for (length fl) e) (ran_to (length fl) (struck (seen_calls S x) (flags_marked fl) L) e) (rounds_shown NoRoom L e)
+  struck_checked L fl e (refused k) = rounds_shown (Err (Refused k)) L e
+  struck_checked L fl e (done es M) = pick (room_for (length fl) e) (ran_to (length fl) (struck (seen_calls S x) (flags_marked fl) L) e) (rounds_shown (Err NoRoom) L e)
 
   -- a struck round for each flag
   unfoldable pub struck_call : Lent → List ℕ → List ℕ → RoundsShown
@@ -91,7 +91,7 @@ module _ (S : Settings) (x : Access) where
 
 -- a run that returned r₁ and left the slices M₁ and the event room f₁, and a struck run on a copy that returned r₂ and left M₂ and f₂: the same
 -- tables; and the events that the bytes of each are, and read back as, are the same but for 0x11. e and d are the event rooms before them
-pub record SameRuns (k : ℕ) (r₁ : Went) (M₁ : Lent) (e f₁ : List ℕ) (r₂ : Went) (M₂ : Lent) (d f₂ : List ℕ) : Type 0 where
+pub record SameRuns (k : ℕ) (r₁ : Result Went NotRun) (M₁ : Lent) (e f₁ : List ℕ) (r₂ : Result Went NotRun) (M₂ : Lent) (d f₂ : List ℕ) : Type 0 where
   pub told : List Event
   pub struck : List Event
   pub first : rounds_shown r₁ M₁ f₁ ≡ ran_to k record { events = told; left = M₁ } e

@@ -1,23 +1,18 @@
 -- What the inner functions ask and promise: those of `wait`, then those of the rounds and the struck rounds. Nothing here is document 01's.
-use Rattle.std.specs.Prelude.{ℕ, ◌+◌, ◌≤◌, ◌≡◌, Bool, List, ◌++◌, map, length, drop}
+use Rattle.std.specs.Prelude.{Result, Ok, Err, ℕ, ◌+◌, ◌≤◌, ◌≡◌, Bool, List, [], ◌++◌, map, length, drop}
 use Rattle.words.specs.Words.{pick}
 use Rattle.model.specs.Address.{mask_of}
 use Rattle.model.specs.Sound.{all_ones}
-use Rattle.model.specs.Tables.{Tables}
+use Rattle.model.specs.Tables.{Tables, refused, done}
 use Rattle.model.specs.Lent.{Lent, bit, encode, tables_of}
-use Rattle.model.specs.Calls.{verdict_of}
 use Rattle.model.specs.Inner.{Encodes, SoundSlices}
 use Rattle.model.specs.Rounds.{steps, Turn, still, and_then, is_empty, outcome_rounds}
 use Rattle.model.specs.Seen.{SeenCalls, accepts, marks, send_turn, fill_first, drain, rounds, struck, seen_calls}
 use Rattle.model.specs.declared.Settings.{Settings}
 use Rattle.model.specs.declared.Access.{Access}
 use Rattle.model.specs.declared.Refusal.{Refusal}
-use Rattle.layout.specs.Layout.{LaysOut}
-use Rattle.layout.specs.declared.Layout.{Layout}
-use Rattle.soundness.specs.Laid.{verdict_in}
-use Rattle.soundness.specs.declared.LaidVerdict.{LaidVerdict}
+use Rattle.layout.specs.declared.geometry.Geometry.{Geometry}
 use Rattle.model.specs.Records.{fill_bytes, round_bytes, settle_bytes}
-use Rattle.soundness.specs.declared.LaidVerdict.TheVariants.{Passed}
 use Rattle.turns.specs.Parts.{Noted}
 use Rattle.rounds.specs.declared.Waited.{Waited}
 use Rattle.rounds.specs.declared.Went.{Went}
@@ -46,10 +41,12 @@ pub record WaitsHeld (S : Settings) (x : Access) (L : Lent) (e : List ℕ) (r : 
 -- ---- the rounds and the struck rounds
 
 -- the check before the first round
-pub record MayRun (S : Settings) (x : Access) (L : Lent) (r : LaidVerdict) : Type 0 where
-  pub says : verdict_in r ≡ verdict_of (start_call S x L)
-  pub ready : (at : Layout) → r ≡ Passed at → LaysOut S at × SoundSlices S L
-  pub small : (at : Layout) → r ≡ Passed at → mask_of x ≤ all_ones
+pub record MayRun (S : Settings) (x : Access) (L : Lent) (r : Result Geometry Refusal) : Type 0 where
+  pub refuses : (n : Refusal) → r ≡ Err n → start_call S x L ≡ refused n
+  pub passes : (g : Geometry) → r ≡ Ok g → start_call S x L ≡ done [] L
+  pub own : (g : Geometry) → r ≡ Ok g → g.settings ≡ S
+  pub held : (g : Geometry) → r ≡ Ok g → SoundSlices g.settings L
+  pub small : (g : Geometry) → r ≡ Ok g → mask_of x ≤ all_ones
 
 -- the others are on slices that are the encoding of sound tables
 
@@ -94,8 +91,8 @@ pub record SeesStruck (S : Settings) (x : Access) (m : Bool) (L : Lent) (e : Lis
 
 -- the rounds, and the struck rounds, behind the checks
 pub record RunsOn (S : Settings) (x : Access) (n : ℕ) (L : Lent) (fl e : List ℕ) (r : Went) (M : Lent) (gl f : List ℕ) : Type 0 where
-  pub shows : rounds_shown r M f ≡ ran_to (length (rounds (seen_calls S x) n L).offers) (rounds (seen_calls S x) n L).turn e
+  pub shows : rounds_shown (Ok r) M f ≡ ran_to (length (rounds (seen_calls S x) n L).offers) (rounds (seen_calls S x) n L).turn e
   pub flags : gl ≡ map bit (marks (rounds (seen_calls S x) n L)) ++ drop (length (rounds (seen_calls S x) n L).offers) fl
 
 pub record StrikesOn (S : Settings) (x : Access) (L : Lent) (fl e : List ℕ) (r : Went) (M : Lent) (f : List ℕ) : Type 0 where
-  pub shows : rounds_shown r M f ≡ ran_to (length fl) (struck (seen_calls S x) (flags_marked fl) L) e
+  pub shows : rounds_shown (Ok r) M f ≡ ran_to (length fl) (struck (seen_calls S x) (flags_marked fl) L) e

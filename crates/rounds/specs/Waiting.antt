@@ -1,6 +1,6 @@
 -- Waiting for an access: the rounds of demand 3 until it is accepted, or as many as demand 3 says are enough. Document 01 has the rounds;
 -- that they are a call, and what it returns, is decided here.
-use Rattle.std.specs.Prelude.{ℕ, suc, ◌≡◌, List, [], ◌∷◌, ◌++◌, length, take, drop, get_or, leb}
+use Rattle.std.specs.Prelude.{Result, Ok, Err, ℕ, suc, ◌≡◌, List, [], ◌∷◌, ◌++◌, length, take, drop, get_or, leb}
 use Rattle.words.specs.Words.{pick}
 use Rattle.model.specs.Address.{well_formed}
 use Rattle.model.specs.Tables.{Outcome, refused, done}
@@ -16,9 +16,13 @@ use Rattle.model.specs.declared.Refusal.{Refusal}
 use Rattle.model.specs.declared.Refusal.TheVariants.{BadAccess, SetHeld}
 use Rattle.model.specs.declared.Event.{Event}
 use Rattle.model.specs.declared.Event.TheVariants as event
-use Rattle.rounds.specs.declared.Waiting.{Waiting}
-use Rattle.rounds.specs.declared.Waiting.TheVariants.{Accepted, Held, Refused, NoRoom}
+use Rattle.rounds.specs.declared.Accepted.{Accepted}
+use Rattle.rounds.specs.declared.NotAccepted.{NotAccepted}
+use Rattle.rounds.specs.declared.NotAccepted.TheVariants.{Held, Refused, NoRoom}
 use Rattle.rounds.specs.declared.Waited.{Waited}
+
+abbrev pub Waiting : Type 0
+Waiting = Result Accepted NotAccepted
 
 -- what waiting says, writes and leaves
 pub record Wait (T : Type 0) : Type 0 where
@@ -33,7 +37,7 @@ last_told es (fs ∷ os) = last_told fs os
 
 -- by the last offer, made in round n: accepted, with its first event, the answer; or refused, which is 6 by demand 3
 abbrev pub waiting_by : ℕ → List Event → Waiting
-waiting_by n es = pick (accepts es) (Accepted n (get_or es 0 event.Ticked)) Held
+waiting_by n es = pick (accepts es) (Ok record { round = n; answer = get_or es 0 event.Ticked }) (Err Held)
 
 -- the refusal of the last offer is written, those before it are not
 abbrev pub refusal_in : List Event → List Event
@@ -55,8 +59,8 @@ module _ {T : Type 0} where
   last_offer o (p ∷ ps) = last_offer p ps
 
   abbrev pub waiting_of : ℕ → Outcome T → Waiting
-  waiting_of n (refused k) = Held
-  waiting_of n (done es u) = Accepted n (get_or es 0 event.Ticked)
+  waiting_of n (refused k) = Err Held
+  waiting_of n (done es u) = Ok record { round = n; answer = get_or es 0 event.Ticked }
 
   abbrev pub refusal_told : Outcome T → List Event
   refusal_told (refused k) = event.Refused k ∷ []
@@ -71,7 +75,7 @@ module _ {T : Type 0} where
 
   -- refused before the first round
   abbrev pub turned_away : Refusal → T → Wait T
-  turned_away n t = record { waiting = Refused n; events = event.Refused n ∷ []; left = t }
+  turned_away n t = record { waiting = Err (Refused n); events = event.Refused n ∷ []; left = t }
 
 -- "no later than round q + m (round 1 if both are 0)"
 abbrev pub enough_rounds : Settings → Access → Lent → Wait Lent
@@ -89,7 +93,7 @@ wait_call S x L = wait_checked S x L (check_call S L)
 
 -- with `wait_room` bytes the events of any wait fit
 abbrev pub wait_within : ℕ → Settings → Access → Lent → Wait Lent
-wait_within room S x L = pick (leb wait_room room) (wait_call S x L) record { waiting = NoRoom; events = []; left = L }
+wait_within room S x L = pick (leb wait_room room) (wait_call S x L) record { waiting = Err NoRoom; events = []; left = L }
 
 -- the value returned, the event bytes ("beyond those written are unchanged") and the slices after it are those of w, and the bytes written read
 -- back as its events

@@ -3,108 +3,111 @@
 ghost use Rattle.std.specs.Prelude.{◌≡◌, ◌+◌, ◌*◌, ◌≤◌, length, eqb};
 ghost use Rattle.model.specs.Address.{mask_of};
 ghost use Rattle.model.specs.Sound.{all_ones};
-ghost use Rattle.model.specs.Lent.{lent, bit};
+ghost use Rattle.model.specs.Lent.{lent};
 ghost use Rattle.model.specs.Calls.{events_told};
 ghost use Rattle.model.specs.Inner.{SoundSlices};
 ghost use Rattle.model.specs.Records.{log_bytes, fill_bytes, round_bytes, settle_bytes};
-ghost use Rattle.layout.specs.Layout.{LaysOut};
 ghost use Rattle.turns.specs.Parts.{Noted};
 ghost use Rattle.rounds.specs.Demand3.{rounds_shown, rounds_call, flags_call, struck_call};
 ghost use Rattle.rounds.specs.Parts.{Queueless, SeesSend, SeesFill, SeesDrain, SeesRound, SeesStruck, RunsOn, StrikesOn, MayRun};
 
-use crate::{Offer, Went};
-use layout::Layout;
+use crate::{NotRun, Offer, Went};
+use layout::{Geometry, Slices};
 use model::{Access, Refusal, Reply, Settings};
-use soundness::LaidVerdict;
-use turns::Sent;
 
-// Writes every event of a call behind `out` bytes.
+// Writes every event of a call behind `out` bytes. `turns::note` leaves refusals out, and each promises exactly what it writes.
 fn tell(reply: Reply, events: &mut [u8], out: usize) -> usize
     requires { out + length (log_bytes (events_told reply)) ≤ length events.old }
     ensures { Noted events.old out (events_told reply) result events.new }
 {
-    let n = records::write_reply(reply, events, out);
+    let n = records::encode(reply, events, out);
     out + n
 }
 
 // Whether the queue is empty.
-fn nothing_queued(s: Settings, at: Layout, longs: &[u64], words: &[u32], marks: &[u8]) -> bool
-    requires { LaysOut s at × SoundSlices s (lent longs.now words.now marks.now) }
-    ensures { Queueless s (lent longs.now words.now marks.now) result }
+fn nothing_queued(t: &Slices) -> bool
+    requires { SoundSlices t.now.geometry.settings (lent t.now.longs.now t.now.words.now t.now.marks.now) }
+    ensures { Queueless t.now.geometry.settings (lent t.now.longs.now t.now.words.now t.now.marks.now) result }
 {
-    let n = layout::used(marks, at.kinds, s.queue);
+    let n = layout::used(t.marks, t.geometry.at.kinds, t.geometry.settings.queue);
     n == 0
 }
 
 // Sends the queue head, if there is one.
 fn see_send(
-    s: Settings,
-    at: Layout,
+    g: Geometry,
     longs: &mut [u64],
     words: &mut [u32],
     marks: &mut [u8],
     events: &mut [u8],
     out: usize,
 ) -> usize
-    requires lays_out { LaysOut s at × SoundSlices s (lent longs.old words.old marks.old) }
+    requires held { SoundSlices g.settings (lent longs.old words.old marks.old) }
     requires out_in_bounds { out + 25 ≤ length events.old }
-    ensures { SeesSend s (lent longs.old words.old marks.old) events.old out result
+    ensures { SeesSend g.settings (lent longs.old words.old marks.old) events.old out result
         events.new (lent longs.new words.new marks.new) }
 {
-    if nothing_queued(s, at, longs, words, marks) {
+    let t = Slices {
+        geometry: g,
+        longs: &*longs,
+        words: &*words,
+        marks: &*marks,
+    };
+    if nothing_queued(&t) {
         return out;
     }
-    let reply = cache::send(s, longs, words, marks);
+    let reply = cache::send(g.settings, longs, words, marks);
     tell(reply, events, out)
 }
 
 // Fills the oldest sent miss, if there is one.
 fn see_fill(
-    s: Settings,
-    at: Layout,
+    g: Geometry,
     longs: &mut [u64],
     words: &mut [u32],
     marks: &mut [u8],
     events: &mut [u8],
     out: usize,
 ) -> usize
-    requires lays_out { LaysOut s at × SoundSlices s (lent longs.old words.old marks.old) }
+    requires held { SoundSlices g.settings (lent longs.old words.old marks.old) }
     requires fill_bytes_in_bounds { out + fill_bytes ≤ length events.old }
-    ensures { SeesFill s (lent longs.old words.old marks.old) events.old out result
+    ensures { SeesFill g.settings (lent longs.old words.old marks.old) events.old out result
         events.new (lent longs.new words.new marks.new) }
 {
-    match turns::first_sent(s, at, longs, words, marks) {
-        Sent::At(address) => {
-            let reply = cache::fill(s, longs, words, marks, address);
-            tell(reply, events, out)
-        }
-        Sent::Nothing => out,
-    }
+    let t = Slices {
+        geometry: g,
+        longs: &*longs,
+        words: &*words,
+        marks: &*marks,
+    };
+    let Some(address) = turns::first_sent(&t) else {
+        return out;
+    };
+    let reply = cache::fill(g.settings, longs, words, marks, address);
+    tell(reply, events, out)
 }
 
 // The send and the fill of a round.
 fn see_drain(
-    s: Settings,
-    at: Layout,
+    g: Geometry,
     longs: &mut [u64],
     words: &mut [u32],
     marks: &mut [u8],
     events: &mut [u8],
     out: usize,
 ) -> usize
-    requires lays_out { LaysOut s at × SoundSlices s (lent longs.old words.old marks.old) }
+    requires held { SoundSlices g.settings (lent longs.old words.old marks.old) }
     requires settle_bytes_in_bounds { out + settle_bytes ≤ length events.old }
-    ensures { SeesDrain s (lent longs.old words.old marks.old) events.old out result
+    ensures { SeesDrain g.settings (lent longs.old words.old marks.old) events.old out result
         events.new (lent longs.new words.new marks.new) }
 {
-    let sent = see_send(s, at, longs, words, marks, events, out);
-    see_fill(s, at, longs, words, marks, events, sent)
+    let sent = see_send(g, longs, words, marks, events, out);
+    see_fill(g, longs, words, marks, events, sent)
 }
 
 // One round: the send, the fill, the offer.
 fn see_round(
-    s: Settings,
-    at: Layout,
+    g: Geometry,
     longs: &mut [u64],
     words: &mut [u32],
     marks: &mut [u8],
@@ -112,22 +115,21 @@ fn see_round(
     events: &mut [u8],
     out: usize,
 ) -> Offer
-    requires lays_out { LaysOut s at × SoundSlices s (lent longs.old words.old marks.old) }
+    requires held { SoundSlices g.settings (lent longs.old words.old marks.old) }
     requires round_bytes_in_bounds { (out + round_bytes ≤ length events.old) × (mask_of x ≤ all_ones) }
-    ensures { SeesRound s x (lent longs.old words.old marks.old) events.old out result
+    ensures { SeesRound g.settings x (lent longs.old words.old marks.old) events.old out result
         events.new (lent longs.new words.new marks.new) }
 {
-    let drained = see_drain(s, at, longs, words, marks, events, out);
-    let reply = cache::access(s, longs, words, marks, x);
+    let drained = see_drain(g, longs, words, marks, events, out);
+    let reply = cache::access(g.settings, longs, words, marks, x);
     let written = tell(reply, events, drained);
     let taken = turns::accepted(reply);
     Offer { taken, written }
 }
 
-// One round of the struck rounds: the access is offered if the round is marked.
+// One round of the struck rounds: the access is offered if the round is marked. The flag is a byte, as the caller lends it.
 fn see_struck(
-    s: Settings,
-    at: Layout,
+    g: Geometry,
     longs: &mut [u64],
     words: &mut [u32],
     marks: &mut [u8],
@@ -136,29 +138,21 @@ fn see_struck(
     events: &mut [u8],
     out: usize,
 ) -> usize
-    requires lays_out { LaysOut s at × SoundSlices s (lent longs.old words.old marks.old) }
+    requires held { SoundSlices g.settings (lent longs.old words.old marks.old) }
     requires round_bytes_in_bounds { (out + round_bytes ≤ length events.old) × (mask_of x ≤ all_ones) }
-    ensures { SeesStruck s x (eqb flag 1) (lent longs.old words.old marks.old) events.old out result
+    ensures { SeesStruck g.settings x (eqb flag 1) (lent longs.old words.old marks.old) events.old out result
         events.new (lent longs.new words.new marks.new) }
 {
     if flag == 1 {
-        let made = see_round(s, at, longs, words, marks, x, events, out);
+        let made = see_round(g, longs, words, marks, x, events, out);
         return made.written;
     }
-    see_drain(s, at, longs, words, marks, events, out)
+    see_drain(g, longs, words, marks, events, out)
 }
 
-// A round's flag: 1 where its offer was accepted.
-fn flag_of(taken: bool) -> u8
-    ensures { result ≡ bit taken }
-{
-    if taken { 1 } else { 0 }
-}
-
-// The rounds, on sound tables.
+// The rounds, on sound tables. Apart from `struck_on`: it goes on behind an accepted offer and writes no flags, and both clauses are exact.
 fn rounds_on(
-    s: Settings,
-    at: Layout,
+    g: Geometry,
     longs: &mut [u64],
     words: &mut [u32],
     marks: &mut [u8],
@@ -167,36 +161,32 @@ fn rounds_on(
     flags: &mut [u8],
     events: &mut [u8],
 ) -> Went
-    requires lays_out { LaysOut s at × SoundSlices s (lent longs.old words.old marks.old) }
+    requires held { SoundSlices g.settings (lent longs.old words.old marks.old) }
     requires n_in_bounds { (n ≤ length flags.old) × (round_bytes * n ≤ length events.old) × (mask_of x ≤ all_ones) }
-    ensures { RunsOn s x n (lent longs.old words.old marks.old) flags.old events.old result
+    ensures { RunsOn g.settings x n (lent longs.old words.old marks.old) flags.old events.old result
         (lent longs.new words.new marks.new) flags.new events.new }
 {
-    let mut i = 0;
     let mut out = 0;
-    while i < n {
-        let made = see_round(s, at, longs, words, marks, x, events, out);
-        let taken = made.taken;
-        flags[i] = flag_of(taken);
-        i += 1;
+    for i in 0..n {
+        let made = see_round(g, longs, words, marks, x, events, out);
+        flags[i] = u8::from(made.taken);
         out = made.written;
-        if taken {
-            return Went::Ran {
-                rounds: i,
+        if made.taken {
+            return Went {
+                rounds: i + 1,
                 written: out,
             };
         }
     }
-    Went::Ran {
-        rounds: i,
+    Went {
+        rounds: n,
         written: out,
     }
 }
 
 // The struck rounds, on sound tables.
 fn struck_on(
-    s: Settings,
-    at: Layout,
+    g: Geometry,
     longs: &mut [u64],
     words: &mut [u32],
     marks: &mut [u8],
@@ -204,38 +194,36 @@ fn struck_on(
     flags: &[u8],
     events: &mut [u8],
 ) -> Went
-    requires lays_out { LaysOut s at × SoundSlices s (lent longs.old words.old marks.old) }
+    requires held { SoundSlices g.settings (lent longs.old words.old marks.old) }
     requires flags_in_bounds { (round_bytes * length flags.now ≤ length events.old) × (mask_of x ≤ all_ones) }
-    ensures { StrikesOn s x (lent longs.old words.old marks.old) flags.now events.old result
+    ensures { StrikesOn g.settings x (lent longs.old words.old marks.old) flags.now events.old result
         (lent longs.new words.new marks.new) events.new }
 {
-    let mut i = 0;
     let mut out = 0;
-    while i < flags.len() {
-        let flag = flags[i];
-        out = see_struck(s, at, longs, words, marks, x, flag, events, out);
-        i += 1;
+    for flag in flags {
+        out = see_struck(g, longs, words, marks, x, *flag, events, out);
     }
-    Went::Ran {
-        rounds: i,
+    Went {
+        rounds: flags.len(),
         written: out,
     }
 }
 
 // Refusals 1 to 4, before the first round.
-fn may_run(s: Settings, longs: &[u64], words: &[u32], marks: &[u8], x: Access) -> LaidVerdict
+fn may_run(
+    s: Settings,
+    longs: &[u64],
+    words: &[u32],
+    marks: &[u8],
+    x: Access,
+) -> Result<Geometry, Refusal>
     ensures { MayRun s x (lent longs.now words.now marks.now) result }
 {
-    match soundness::checked_layout(s, longs, words, marks) {
-        LaidVerdict::Refused(n) => LaidVerdict::Refused(n),
-        LaidVerdict::Passed(at) => {
-            if access::well_formed(x) {
-                LaidVerdict::Passed(at)
-            } else {
-                LaidVerdict::Refused(Refusal::BadAccess)
-            }
-        }
+    let g = soundness::checked_layout(s, longs, words, marks)?;
+    if !access::well_formed(x) {
+        return Err(Refusal::BadAccess);
     }
+    Ok(g)
 }
 
 // Rounds of a send, a fill and an offer, until the access is accepted and `n` at the most. Every event is written; flag i becomes 1 if
@@ -249,24 +237,17 @@ pub fn run_rounds(
     n: usize,
     flags: &mut [u8],
     events: &mut [u8],
-) -> Went
+) -> Result<Went, NotRun>
     ensures events_after { rounds_shown result (lent longs.new words.new marks.new) events.new
         ≡ rounds_call s x n (lent longs.old words.old marks.old) flags.old events.old }
     ensures flags_after { flags.new
         ≡ flags_call s x n (lent longs.old words.old marks.old) flags.old events.old }
 {
-    match may_run(s, longs, words, marks, x) {
-        LaidVerdict::Refused(k) => Went::Refused(k),
-        LaidVerdict::Passed(at) => {
-            if flags.len() < n {
-                return Went::NoRoom;
-            }
-            if events.len() / records::ROUND_ROOM < n {
-                return Went::NoRoom;
-            }
-            rounds_on(s, at, longs, words, marks, x, n, flags, events)
-        }
+    let g = may_run(s, longs, words, marks, x)?;
+    if flags.len() < n || events.len() / records::ROUND_ROOM < n {
+        return Err(NotRun::NoRoom);
     }
+    Ok(rounds_on(g, longs, words, marks, x, n, flags, events))
 }
 
 // The same rounds with the refused offers struck out: a round for each flag, and the access is offered where the flag is 1.
@@ -278,17 +259,13 @@ pub fn run_struck(
     x: Access,
     flags: &[u8],
     events: &mut [u8],
-) -> Went
+) -> Result<Went, NotRun>
     ensures { rounds_shown result (lent longs.new words.new marks.new) events.new
         ≡ struck_call s x (lent longs.old words.old marks.old) flags.now events.old }
 {
-    match may_run(s, longs, words, marks, x) {
-        LaidVerdict::Refused(k) => Went::Refused(k),
-        LaidVerdict::Passed(at) => {
-            if events.len() / records::ROUND_ROOM < flags.len() {
-                return Went::NoRoom;
-            }
-            struck_on(s, at, longs, words, marks, x, flags, events)
-        }
+    let g = may_run(s, longs, words, marks, x)?;
+    if events.len() / records::ROUND_ROOM < flags.len() {
+        return Err(NotRun::NoRoom);
     }
+    Ok(struck_on(g, longs, words, marks, x, flags, events))
 }

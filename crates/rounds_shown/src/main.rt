@@ -52,7 +52,7 @@ fn print(
         &mut out,
         c,
     );
-    output::put(to, text::front(&out, d));
+    to.put(text::front(&out, d));
 }
 
 // The rounds, four at the most, on three slices; the struck rounds on three others.
@@ -71,9 +71,9 @@ fn run_both(
     let mut flags = [0u8; 4];
     let mut log = [0u8; 448];
     let mut struck_log = [0u8; 448];
-    let ran = rounds::run_rounds(s, longs, words, marks, x, 4, &mut flags, &mut log);
-    let fed = text::front(&flags, page::rounds_of(ran));
-    let struck = rounds::run_struck(
+    let ran = page::went(rounds::run_rounds(s, longs, words, marks, x, 4, &mut flags, &mut log));
+    let fed = text::front(&flags, ran.rounds);
+    let struck = page::went(rounds::run_struck(
         s,
         struck_longs,
         struck_words,
@@ -81,7 +81,7 @@ fn run_both(
         x,
         fed,
         &mut struck_log,
-    );
+    ));
     let same = scripts::same_tables(
         longs,
         struck_longs,
@@ -111,94 +111,81 @@ fn show(
     );
 }
 
-// Set 0 waits for a fill, and set 1's comes first.
-fn busy(to: Output) {
+// A case: fresh tables, the calls before its access, then both.
+fn show_case<F: FnOnce(Settings, &mut [u64], &mut [u32], &mut [u8])>(
+    to: Output,
+    name: &[u8],
+    dirty: usize,
+    x: Access,
+    before: F,
+)
+    requires { F.IsAlwaysCallable before }
+{
     let mut longs = [0u64; 8];
     let mut words = [0u32; 36];
     let mut marks = [0u8; 24];
-    let s = settings(60);
-    cache::fresh(s, &mut longs, &mut words, &mut marks);
-    cache::read(s, &mut longs, &mut words, &mut marks, 128, 1);
-    cache::read(s, &mut longs, &mut words, &mut marks, 0, 2);
-    cache::read(s, &mut longs, &mut words, &mut marks, 0, 3);
-    show(
+    let s = settings(dirty);
+    let _ = cache::fresh(s, &mut longs, &mut words, &mut marks);
+    before(s, &mut longs, &mut words, &mut marks);
+    show(to, name, s, x, &mut longs, &mut words, &mut marks);
+}
+
+// Set 0 waits for a fill, and set 1's comes first.
+fn busy(to: Output) {
+    show_case(
         to,
         b"a busy set",
-        s,
+        60,
         write_to(256),
-        &mut longs,
-        &mut words,
-        &mut marks,
+        |s, longs, words, marks| {
+            cache::read(s, longs, words, marks, 128, 1);
+            cache::read(s, longs, words, marks, 0, 2);
+            cache::read(s, longs, words, marks, 0, 3);
+        },
     );
 }
 
 // One dirty line of two, where 60 percent are asked for: nothing is on its way that could change it.
 fn held(to: Output) {
-    let mut longs = [0u64; 8];
-    let mut words = [0u32; 36];
-    let mut marks = [0u8; 24];
-    let s = settings(60);
-    cache::fresh(s, &mut longs, &mut words, &mut marks);
-    cache::write(s, &mut longs, &mut words, &mut marks, 0, 255);
-    show(
+    show_case(
         to,
         b"a held set",
-        s,
+        60,
         write_to(256),
-        &mut longs,
-        &mut words,
-        &mut marks,
+        |s, longs, words, marks| {
+            cache::write(s, longs, words, marks, 0, 255);
+        },
     );
 }
 
 // The same, but a fill makes the other line dirty.
 fn held_at_first(to: Output) {
-    let mut longs = [0u64; 8];
-    let mut words = [0u32; 36];
-    let mut marks = [0u8; 24];
-    let s = settings(60);
-    cache::fresh(s, &mut longs, &mut words, &mut marks);
-    cache::write(s, &mut longs, &mut words, &mut marks, 128, 255);
-    cache::read(s, &mut longs, &mut words, &mut marks, 160, 1);
-    cache::read(s, &mut longs, &mut words, &mut marks, 128, 2);
-    cache::write(s, &mut longs, &mut words, &mut marks, 0, 255);
-    show(
+    show_case(
         to,
         b"a set held at first",
-        s,
+        60,
         write_to(256),
-        &mut longs,
-        &mut words,
-        &mut marks,
+        |s, longs, words, marks| {
+            cache::write(s, longs, words, marks, 128, 255);
+            cache::read(s, longs, words, marks, 160, 1);
+            cache::read(s, longs, words, marks, 128, 2);
+            cache::write(s, longs, words, marks, 0, 255);
+        },
     );
 }
 
 // Four write-backs wait; a read with a dirty victim needs two places.
 fn full(to: Output) {
-    let mut longs = [0u64; 8];
-    let mut words = [0u32; 36];
-    let mut marks = [0u8; 24];
-    let s = settings(0);
-    cache::fresh(s, &mut longs, &mut words, &mut marks);
-    cache::write(s, &mut longs, &mut words, &mut marks, 0, 255);
-    cache::write(s, &mut longs, &mut words, &mut marks, 256, 255);
-    cache::write(s, &mut longs, &mut words, &mut marks, 512, 255);
-    cache::write(s, &mut longs, &mut words, &mut marks, 768, 255);
-    cache::write(s, &mut longs, &mut words, &mut marks, 1024, 255);
     let x = Access::Read {
         address: 1280,
         mask: 0,
         ticket: 9,
     };
-    show(
-        to,
-        b"a full queue",
-        s,
-        x,
-        &mut longs,
-        &mut words,
-        &mut marks,
-    );
+    show_case(to, b"a full queue", 0, x, |s, longs, words, marks| {
+        for address in [0, 256, 512, 768, 1024] {
+            cache::write(s, longs, words, marks, address, 255);
+        }
+    });
 }
 
 // A busy set, a held one, one that is held at first, a full queue.

@@ -12,18 +12,17 @@ ghost use Rattle.streaming.specs.First.{Opened};
 ghost use Rattle.streaming.specs.Wholes.{Whole, WholeRun};
 
 use input::Source;
+use model::{Settings, Stop};
 use output::Output;
-use running::Opening;
-use streaming::parts::Started;
 use streaming::scope::Scope;
 use streaming::work::Work;
-use streaming::{first, parts, rooms, work};
+use streaming::{first, parts, rooms};
 
 // The first record, then the rest, on slices as long as the stream's settings ask.
 fn run_all(
     source: &mut Source,
     to: Output,
-    first: Opening,
+    first: Result<(Settings, usize), Option<Stop>>,
     buf: &mut [u8],
     longs: &mut [u64],
     words: &mut [u32],
@@ -38,8 +37,8 @@ fn run_all(
         (lent longs.new words.new marks.new) }
 {
     match parts::start(first, buf, longs, words, marks, w) {
-        Started::Stops(stopped) => stopped,
-        Started::Runs { settings, work } => parts::run_rest(
+        Err(stopped) => stopped,
+        Ok((settings, work)) => parts::run_rest(
             source,
             to,
             settings,
@@ -61,9 +60,9 @@ fn run_stream(source: &mut Source, to: Output, buf: &mut [u8], w: Work) -> Work
 {
     let first = running::first_record(text::front(buf, w.have));
     let n = running::lengths_for(first);
-    let mut longs = rooms::longs_room();
-    let mut words = rooms::words_room();
-    let mut marks = rooms::marks_room();
+    let mut longs = [0u64; rooms::LONGS];
+    let mut words = [0u32; rooms::WORDS];
+    let mut marks = [0u8; rooms::MARKS];
     let a = n.longs;
     let b = n.words;
     let c = n.marks;
@@ -88,11 +87,11 @@ fn main(rt: HostRuntime) {
     let mut space = [0u8; 65536];
     let buf: &mut [u8] = &mut space;
     let first = first::read_first(&mut source, to, buf);
-    if work::has_failed(first) {
+    if first.has_failed() {
         return;
     }
     let last = run_stream(&mut source, to, buf, first);
-    if work::has_stopped(last) {
+    if last.has_stopped() {
         says::last_line(to, buf, last);
     }
 }

@@ -18,5 +18,5 @@ fn put_line(rest: &[u8], w: Work, out: &mut [u8]) -> usize {
 pub fn last_line(to: Output, buf: &[u8], w: Work) {
     let mut page = [0u8; 4096];
     let end = put_line(text::front(buf, w.have), w, &mut page);
-    output::say(to, text::front(&page, end));
+    to.say(text::front(&page, end));
 }

@@ -1,13 +1,13 @@
 -- What a run writes reads back: the records in the bytes written are the events that the run tells, in order. Of any stream of bytes; of a
 -- part that goes on, where the words of the slices are 32 bits.
+use Rattle.std.specs.Prelude.{Option, Some, None}
 use Rattle.words.proofs.General.{ℕ, zero, suc, ◌-◌, ◌≡◌, refl, sym, ap, ◌∙◌, ⊎_elim, true, List, [], ◌∷◌, ◌++◌, length, take, ltb, and_2, flag, by_flag, all_in, in_all, in_take}
+use Rattle.model.specs.declared.Command.{Command}
 use Rattle.model.proofs.Terms.{in_range, Tables, start, after, events_of, Lent, tables_of, sound, length_of, command_of, log_bytes, events_in, parsed, settings_of, first_stop, later_stop}
 use Rattle.model.proofs.Terms.{kept_stop, goes_on, step_read, step_at, run_from, run, resume, Runs}
 use Rattle.model.specs.RecordsOf as records
 use Rattle.model.specs.RunnerOf as runner
 use Rattle.model.specs.declared.Settings.{Settings}
-use Rattle.model.specs.declared.CommandRead.{CommandRead}
-use Rattle.model.specs.declared.CommandRead.TheVariants as command
 use Rattle.model.specs.declared.Ran.{Ran}
 use Rattle.model.proofs.Soundness.{start-sound}
 use Rattle.model.proofs.RunSound.{bytes, record_keeps_sound}
@@ -52,13 +52,13 @@ resume_log S room s L = ⊎_elim (λ z. rw z (from_log S 0 room s (tables_of S L
 -- ---- the events fit
 
 module _ (S : Settings) (range : in_range S ≡ true) where
-  read_fits : (x : CommandRead) (t : Tables) → sound S t ≡ true → stamped t ≡ true → AllFitting (events_of (step_read S x t))
-  read_fits (command.Got c) t ok few = step_fits S c t range ok few
-  read_fits command.None t ok few = (tt, tt)
+  read_fits : (x : Option Command) (t : Tables) → sound S t ≡ true → stamped t ≡ true → AllFitting (events_of (step_read S x t))
+  read_fits (Some c) t ok few = step_fits S c t range ok few
+  read_fits None t ok few = (tt, tt)
 
-  read-stamped : (x : CommandRead) (t : Tables) → CommandReadFits x → stamped t ≡ true → stamped (after t (step_read S x t)) ≡ true
-  read-stamped (command.Got c) t h few = step_stamped t few S c h
-  read-stamped command.None t h few = few
+  read-stamped : (x : Option Command) (t : Tables) → CommandReadFits x → stamped t ≡ true → stamped (after t (step_read S x t)) ≡ true
+  read-stamped (Some c) t h few = step_stamped t few S c h
+  read-stamped None t h few = few
 
   from_fits : (n room : ℕ) (s : List ℕ) (t : Tables) → bytes s ≡ true → sound S t ≡ true → stamped t ≡ true → AllFitting (told_from S n room s t)
   unfolding told_from runner.step_at

@@ -7,9 +7,8 @@ ghost use Rattle.model.specs.Lent.{lent};
 ghost use Rattle.model.specs.Runner.{run, resume, Runs};
 ghost use Rattle.runner.specs.Stops.{stop_of};
 
+use layout::Geometry;
 use model::{Ran, Refusal, Settings, Stop};
-use running::Begun;
-use soundness::LaidVerdict;
 
 // Runs a stream: its events, and the tables as the records run left them.
 pub fn run(
@@ -24,14 +23,14 @@ pub fn run(
 {
     let first = running::first_record(stream);
     match running::begin(first, longs, words, marks) {
-        Begun::Stopped(stop) => Ran {
+        Err(stop) => Ran {
             stop,
             consumed: 0,
             written: 0,
         },
-        Begun::Accepted { settings, next } => {
-            let at = layout::layout_of(settings);
-            running::run_records(settings, at, stream, next, events, 0, longs, words, marks)
+        Ok((settings, next)) => {
+            let g = Geometry::new(settings);
+            running::run_records(g, stream, next, events, 0, longs, words, marks)
         }
     }
 }
@@ -40,11 +39,10 @@ pub fn run(
 fn stop_of(n: Refusal) -> Stop
     ensures { result ≡ stop_of n }
 {
-    let number = values::refusal_number(n);
-    if number == 1 {
+    if n == Refusal::SettingOutOfRange {
         return Stop::SettingOutOfRange;
     }
-    if number == 2 {
+    if n == Refusal::SliceLength {
         return Stop::SliceLength;
     }
     Stop::NotSound
@@ -63,16 +61,11 @@ pub fn resume(
         events.old result events.new (lent longs.new words.new marks.new) }
 {
     match soundness::checked_layout(s, longs, words, marks) {
-        LaidVerdict::Refused(n) => {
-            let stop = stop_of(n);
-            Ran {
-                stop,
-                consumed: 0,
-                written: 0,
-            }
-        }
-        LaidVerdict::Passed(at) => {
-            running::run_records(s, at, stream, 0, events, 0, longs, words, marks)
-        }
+        Err(n) => Ran {
+            stop: Some(stop_of(n)),
+            consumed: 0,
+            written: 0,
+        },
+        Ok(g) => running::run_records(g, stream, 0, events, 0, longs, words, marks),
     }
 }

@@ -16,7 +16,8 @@
 
 mod runs;
 
-use assembly::Assembled;
+use assembly::Refused;
+use input::Source;
 use output::Output;
 use runs::Trial;
 
@@ -26,7 +27,7 @@ fn show_name(to: Output, line: &[u8], at: usize) {
     let start = text::skip_spaces(line, at);
     let end = text::put_text(text::part(line, start, line.len()), &mut out, 0);
     let next = text::put_text(b": ", &mut out, end);
-    output::put(to, text::front(&out, next));
+    to.put(text::front(&out, next));
 }
 
 // A line that is no command.
@@ -34,44 +35,19 @@ fn on_word(to: Output, line: &[u8], t: Trial, stream: &mut [u8; 256]) -> Trial {
     let at = text::skip_spaces(line, 0);
     let end = text::word_end(line, at);
     let n = scripts::number_next(line, end);
-    if text::word_is(line, at, b"test") {
-        show_name(to, line, end);
-        return runs::new_trial();
-    }
-    if text::word_is(line, at, b"byte") {
-        return runs::with_byte(t, n.value, stream);
-    }
-    if text::word_is(line, at, b"cut") {
-        return runs::cut(t, n.value);
-    }
-    if text::word_is(line, at, b"room") {
-        return runs::with_room(t, n.value);
-    }
-    if text::word_is(line, at, b"lengths") {
-        return runs::with_lengths(t, line, end);
-    }
-    if text::word_is(line, at, b"run") {
-        runs::on_run(to, t, stream);
-        return t;
-    }
-    on_part(to, line, at, n.value, t, stream)
-}
-
-// A part that goes on, on fresh tables or on the stale ones.
-fn on_part(
-    to: Output,
-    line: &[u8],
-    at: usize,
-    sets: u64,
-    t: Trial,
-    stream: &mut [u8; 256],
-) -> Trial {
-    if text::word_is(line, at, b"resume") {
-        runs::on_resume(to, t, sets, stream);
-    } else if text::word_is(line, at, b"stale") {
-        runs::on_stale(to, t, sets, stream);
-    } else {
-        output::put(to, b"a line that is none\n");
+    match text::part(line, at, end) {
+        b"test" => {
+            show_name(to, line, end);
+            return runs::new_trial();
+        }
+        b"byte" => return runs::with_byte(t, n.value, stream),
+        b"cut" => return runs::cut(t, n.value),
+        b"room" => return runs::with_room(t, n.value),
+        b"lengths" => return runs::with_lengths(t, line, end),
+        b"run" => runs::on_run(to, t, stream),
+        b"resume" => runs::on_resume(to, t, n.value, stream),
+        b"stale" => runs::on_stale(to, t, n.value, stream),
+        _ => to.put(b"a line that is none\n"),
     }
     t
 }
@@ -79,9 +55,9 @@ fn on_part(
 // One line of the script: a command for the stream, or a word of the script's own.
 fn one_line(to: Output, line: &[u8], t: Trial, stream: &mut [u8; 256]) -> Trial {
     match assembly::assemble_line(line, stream, t.len) {
-        Assembled::Next(len) => runs::with_len(t, len),
-        Assembled::NoRoom => t,
-        Assembled::Bad(_) => on_word(to, line, t, stream),
+        Ok(len) => runs::with_len(t, len),
+        Err(Refused::NoRoom) => t,
+        Err(Refused::Bad(_)) => on_word(to, line, t, stream),
     }
 }
 
@@ -89,22 +65,19 @@ fn one_line(to: Output, line: &[u8], t: Trial, stream: &mut [u8; 256]) -> Trial 
 fn run(to: Output, script: &[u8]) {
     let mut stream = [0u8; 256];
     let mut t = runs::new_trial();
-    let mut at = 0;
-    while at < script.len() {
-        let end = text::line_end(script, at);
-        if script.len() <= end {
-            break;
-        }
-        t = one_line(to, text::part(script, at, end), t, &mut stream);
-        at = end + 1;
+    for line in script.split_inclusive(|c| *c == b'\n') {
+        let Some(line) = line.strip_suffix(b"\n") else {
+            return;
+        };
+        t = one_line(to, line, t, &mut stream);
     }
 }
 
 // Runs the script on standard input.
 fn main(rt: HostRuntime) {
     let to = Output::new(rt.stdout(), rt.stderr());
-    let mut source = input::standard(rt.stdin());
+    let mut source = Source::from(rt.stdin());
     let mut script = [0u8; 65536];
-    let n = input::read_full(&mut source, &mut script);
+    let n = source.read_full(&mut script);
     run(to, text::front(&script, n));
 }

@@ -35,23 +35,14 @@ pub(crate) fn new_trial() -> Trial {
 
 // The trial with so many bytes of stream.
 pub(crate) fn with_len(t: Trial, len: usize) -> Trial {
-    Trial {
-        len,
-        room: t.room,
-        longs: t.longs,
-        words: t.words,
-        marks: t.marks,
-    }
+    Trial { len, ..t }
 }
 
 // The trial with so much event room.
 pub(crate) fn with_room(t: Trial, room: u64) -> Trial {
     Trial {
-        len: t.len,
         room: room as usize,
-        longs: t.longs,
-        words: t.words,
-        marks: t.marks,
+        ..t
     }
 }
 
@@ -61,32 +52,26 @@ pub(crate) fn with_lengths(t: Trial, line: &[u8], at: usize) -> Trial {
     let words = scripts::number_next(line, longs.next);
     let marks = scripts::number_next(line, words.next);
     Trial {
-        len: t.len,
-        room: t.room,
         longs: longs.value as usize,
         words: words.value as usize,
         marks: marks.value as usize,
+        ..t
     }
 }
 
 // One byte more, where there is room.
 pub(crate) fn with_byte(t: Trial, n: u64, stream: &mut [u8]) -> Trial {
     let len = t.len;
-    if stream.len() <= len {
+    let Some(place) = stream.get_mut(len) else {
         return t;
-    }
-    stream[len] = if n <= 0xFF { n as u8 } else { 0xFF };
+    };
+    *place = u8::try_from(n).unwrap_or(u8::MAX);
     with_len(t, len + 1)
 }
 
 // The last n bytes fewer.
 pub(crate) fn cut(t: Trial, n: u64) -> Trial {
-    let fewer = n as usize;
-    let len = t.len;
-    if len < fewer {
-        return with_len(t, 0);
-    }
-    with_len(t, len - fewer)
+    with_len(t, t.len.saturating_sub(n as usize))
 }
 
 // Document 01's settings for the whole run and the fourteen accesses, with so many sets.
@@ -104,10 +89,10 @@ fn with_sets(sets: u64) -> Settings {
 
 // Fresh tables of those settings, in the numbers that they take.
 fn make_fresh(longs: &mut [u64], words: &mut [u32], marks: &mut [u8]) {
-    let l = scripts::least(8, longs.len());
-    let w = scripts::least(35, words.len());
-    let m = scripts::least(24, marks.len());
-    cache::fresh(
+    let l = scripts::least(longs.len(), 8);
+    let w = scripts::least(words.len(), 35);
+    let m = scripts::least(marks.len(), 24);
+    let _ = cache::fresh(
         with_sets(1),
         &mut longs[..l],
         &mut words[..w],
@@ -130,52 +115,6 @@ fn left_in(longs: &[u64], words: &[u32], marks: &[u8]) -> Left {
     Left::AsRun
 }
 
-// Runs the stream on as much of each slice as is lent.
-fn run_lent(
-    t: Trial,
-    stream: &[u8],
-    events: &mut [u8],
-    longs: &mut [u64],
-    words: &mut [u32],
-    marks: &mut [u8],
-) -> Ran {
-    let e = scripts::least(t.room, events.len());
-    let l = scripts::least(t.longs, longs.len());
-    let w = scripts::least(t.words, words.len());
-    let m = scripts::least(t.marks, marks.len());
-    runner::run(
-        stream,
-        &mut events[..e],
-        &mut longs[..l],
-        &mut words[..w],
-        &mut marks[..m],
-    )
-}
-
-// Goes on with the stream as a part, on as much of each slice as is lent.
-fn resume_lent(
-    t: Trial,
-    s: Settings,
-    part: &[u8],
-    events: &mut [u8],
-    longs: &mut [u64],
-    words: &mut [u32],
-    marks: &mut [u8],
-) -> Ran {
-    let e = scripts::least(t.room, events.len());
-    let l = scripts::least(t.longs, longs.len());
-    let w = scripts::least(t.words, words.len());
-    let m = scripts::least(t.marks, marks.len());
-    runner::resume(
-        s,
-        part,
-        &mut events[..e],
-        &mut longs[..l],
-        &mut words[..w],
-        &mut marks[..m],
-    )
-}
-
 // A word and a number.
 fn put_number(what: &[u8], n: usize, out: &mut [u8], at: usize) -> usize {
     let a = text::put_text(what, out, at);
@@ -184,8 +123,7 @@ fn put_number(what: &[u8], n: usize, out: &mut [u8], at: usize) -> usize {
 
 // Stop, bytes consumed and bytes written.
 fn put_ran(r: Ran, out: &mut [u8]) -> usize {
-    let stop = r.stop;
-    let a = put_number(b"stop ", values::stop_number(stop) as usize, out, 0);
+    let a = put_number(b"stop ", values::stop_number(r.stop) as usize, out, 0);
     let b = put_number(b" consumed ", r.consumed, out, a);
     put_number(b" written ", r.written, out, b)
 }
@@ -214,6 +152,7 @@ fn put_beyond(events: &[u8], written: usize, out: &mut [u8], at: usize) -> usize
 }
 
 // A digit of base 16.
+// Two digits, which `text` has no function for.
 fn glyph(d: u8) -> u8
     requires { d < 16 }
 {
@@ -228,14 +167,12 @@ fn put_byte(b: u8, out: &mut [u8], at: usize) -> usize {
 
 // The bytes written, on a line of their own.
 fn put_events(events: &[u8], out: &mut [u8], at: usize) -> usize {
-    if events.len() == 0 {
+    if events.is_empty() {
         return at;
     }
     let mut end = text::put_text(b"   ", out, at);
-    let mut i = 0;
-    while i < events.len() {
-        end = put_byte(events[i], out, end);
-        i += 1;
+    for b in events {
+        end = put_byte(*b, out, end);
     }
     text::put_text(b"\n", out, end)
 }
@@ -248,59 +185,60 @@ fn print(to: Output, ran: Ran, events: &[u8], longs: &[u64], words: &[u32], mark
     let b = put_left(left_in(longs, words, marks), &mut out, a);
     let c = put_beyond(events, written, &mut out, b);
     let d = put_events(text::front(events, written), &mut out, c);
-    output::put(to, text::front(&out, d));
+    to.put(text::front(&out, d));
 }
 
-// Goes on with the stream as a part, on fresh tables.
-pub(crate) fn on_resume(to: Output, t: Trial, sets: u64, stream: &[u8]) {
+// Runs a stream on stale tables or fresh ones, on as much of each slice as the trial lends, and prints what that leaves.
+fn tried<F: FnOnce(&mut [u8], &mut [u64], &mut [u32], &mut [u8]) -> Ran>(
+    to: Output,
+    t: Trial,
+    fresh: bool,
+    run: F,
+)
+    requires { F.IsAlwaysCallable run }
+{
     let mut longs = [9u64; 16];
     let mut words = [9u32; 64];
     let mut marks = [9u8; 64];
     let mut events = [0xEEu8; 256];
-    make_fresh(&mut longs, &mut words, &mut marks);
-    let ran = resume_lent(
-        t,
-        with_sets(sets),
-        text::front(stream, t.len),
-        &mut events,
-        &mut longs,
-        &mut words,
-        &mut marks,
-    );
-    print(to, ran, &events, &longs, &words, &marks);
-}
-
-// Goes on with it on stale tables.
-pub(crate) fn on_stale(to: Output, t: Trial, sets: u64, stream: &[u8]) {
-    let mut longs = [9u64; 16];
-    let mut words = [9u32; 64];
-    let mut marks = [9u8; 64];
-    let mut events = [0xEEu8; 256];
-    let ran = resume_lent(
-        t,
-        with_sets(sets),
-        text::front(stream, t.len),
-        &mut events,
-        &mut longs,
-        &mut words,
-        &mut marks,
+    if fresh {
+        make_fresh(&mut longs, &mut words, &mut marks);
+    }
+    let e = scripts::least(t.room, 256);
+    let l = scripts::least(t.longs, 16);
+    let w = scripts::least(t.words, 64);
+    let m = scripts::least(t.marks, 64);
+    let ran = run(
+        &mut events[..e],
+        &mut longs[..l],
+        &mut words[..w],
+        &mut marks[..m],
     );
     print(to, ran, &events, &longs, &words, &marks);
 }
 
 // Runs the stream on stale tables.
 pub(crate) fn on_run(to: Output, t: Trial, stream: &[u8]) {
-    let mut longs = [9u64; 16];
-    let mut words = [9u32; 64];
-    let mut marks = [9u8; 64];
-    let mut events = [0xEEu8; 256];
-    let ran = run_lent(
-        t,
-        text::front(stream, t.len),
-        &mut events,
-        &mut longs,
-        &mut words,
-        &mut marks,
-    );
-    print(to, ran, &events, &longs, &words, &marks);
+    let part = text::front(stream, t.len);
+    tried(to, t, false, |events, longs, words, marks| {
+        runner::run(part, events, longs, words, marks)
+    });
+}
+
+// Goes on with the stream as a part, on fresh tables or on stale ones.
+fn on_part(to: Output, t: Trial, fresh: bool, sets: u64, stream: &[u8]) {
+    let part = text::front(stream, t.len);
+    tried(to, t, fresh, |events, longs, words, marks| {
+        runner::resume(with_sets(sets), part, events, longs, words, marks)
+    });
+}
+
+// Goes on with the stream as a part, on fresh tables.
+pub(crate) fn on_resume(to: Output, t: Trial, sets: u64, stream: &[u8]) {
+    on_part(to, t, true, sets, stream);
+}
+
+// Goes on with it on stale tables.
+pub(crate) fn on_stale(to: Output, t: Trial, sets: u64, stream: &[u8]) {
+    on_part(to, t, false, sets, stream);
 }

@@ -1,4 +1,5 @@
 -- A record that is run, by its kind: the command in its body, and what its step leaves.
+use Rattle.std.specs.Prelude.{Some, None}
 use Rattle.words.proofs.General.{ℕ, ◌+◌, ◌≤◌, arith, ◌≡◌, refl, sym, ap, ◌∙◌, ◌⊎◌, inl, inr, ⊎_elim, List, length, take, eqb, eqb-false, eqb-true, eq-eqb, ne_eqb, or_no_1, flag}
 use Rattle.model.proofs.Terms.{mask_of, Lent, all_ones, access, send, fill, tick, events_told, length_of, number_at, command_in, command_of, log_bytes, step_of, command_mask, SoundSlices}
 use Rattle.model.proofs.Terms.{Does}
@@ -8,8 +9,6 @@ use Rattle.model.specs.declared.Access.{Access}
 use Rattle.model.specs.declared.Access.TheVariants.{Read, Write}
 use Rattle.model.specs.declared.Command.{Command}
 use Rattle.model.specs.declared.Command.TheVariants as cmd
-use Rattle.model.specs.declared.CommandRead.TheVariants as command
-use Rattle.model.specs.declared.Stop.TheVariants as stop
 use Rattle.model.specs.declared.Reply.{Reply}
 use Rattle.records.specs.Stores.{Laid}
 use Rattle.records.proofs.Decoding.{command_sized}
@@ -55,7 +54,7 @@ module _ {s : List ℕ} {at out : ℕ} {e : List ℕ} (ready : RecordReady s at 
 
   -- what is left where the record ends at n
   abbrev LeftBehind : Settings → Lent → ℕ → List ℕ → Lent → ℕ → Type 0
-  LeftBehind S L w f M n = Resumes S (record_from S s at out e) s at out e L record { stop = stop.Nothing; consumed = n; written = w } f M
+  LeftBehind S L w f M n = Resumes S (record_from S s at out e) s at out e L record { stop = None; consumed = n; written = w } f M
 
   -- the body of an access
   abbrev body : List ℕ
@@ -63,7 +62,7 @@ module _ {s : List ℕ} {at out : ℕ} {e : List ℕ} (ready : RecordReady s at 
 
   module _ {S : Settings} {L : Lent} (held : SoundSlices S L) {reply : Reply} {M : Lent} {w : ℕ} {f : List ℕ}
       (laid : Laid e out (length (log_bytes (events_told reply))) (log_bytes (events_told reply)) w f) (size : length f ≡ length e) where
-    command-runs : (j : ℕ) → k ≡ j → {b : List ℕ} → b ≡ take (length_of j) (rest_at s at) → (c : Command) → command_in j b ≡ command.Got c → command_mask c ≤ all_ones
+    command-runs : (j : ℕ) → k ≡ j → {b : List ℕ} → b ≡ take (length_of j) (rest_at s at) → (c : Command) → command_in j b ≡ Some c → command_mask c ≤ all_ones
         → Does S (step_of S c) L reply M → {n : ℕ} → n ≡ at + 1 + length_of j → LeftBehind S L w f M n
     command-runs j h p c read small d next = record-runs ready held c (command-is j h p ∙ read) small d laid size (rw h next)
 
@@ -71,10 +70,10 @@ module _ {s : List ℕ} {at out : ℕ} {e : List ℕ} (ready : RecordReady s at 
     send-runs d h = command-runs 3 h refl cmd.Send refl (omega arith) d (omega (arith, lengths.2))
 
     pub fill-runs : {a : ℕ} → Does S (fill a) L reply M → k ≡ 4 → {b : List ℕ} → b ≡ take (length_of 4) (rest_at s at) → a ≡ number_at b 0 8 → LeftBehind S L w f M (at + 1 + length b)
-    fill-runs {a} d h p q = command-runs 4 h p (cmd.Fill a) (ap (λ (x : ℕ). command.Got (cmd.Fill x)) (sym q)) (omega arith) d (omega (arith, body-size 4 h p))
+    fill-runs {a} d h p q = command-runs 4 h p (cmd.Fill a) (ap (λ (x : ℕ). Some (cmd.Fill x)) (sym q)) (omega arith) d (omega (arith, body-size 4 h p))
 
     pub tick-runs : {c : ℕ} → Does S (tick c) L reply M → k ≡ 5 → {b : List ℕ} → b ≡ take (length_of 5) (rest_at s at) → c ≡ number_at b 0 4 → LeftBehind S L w f M (at + 1 + length b)
-    tick-runs {c} d h p q = command-runs 5 h p (cmd.Tick c) (ap (λ (x : ℕ). command.Got (cmd.Tick x)) (sym q)) (omega arith) d (omega (arith, body-size 5 h p))
+    tick-runs {c} d h p q = command-runs 5 h p (cmd.Tick c) (ap (λ (x : ℕ). Some (cmd.Tick x)) (sym q)) (omega arith) d (omega (arith, body-size 5 h p))
 
     module _ {x : Access} (d : Does S (access S x) L reply M) where
       read-runs : k ≡ 1 → x ≡ Read (number_at body 0 8) 0 (number_at body 8 4) → LeftBehind S L w f M (at + 13)

@@ -25,7 +25,6 @@ use Rattle.model.proofs.Victims.{probe_meets}
 use Rattle.model.proofs.AccessCases.{access_judged}
 use Rattle.encoding.proofs.Bridge.{does_tells, does_is}
 use Rattle.encoding.proofs.ReplyShapes.{access_shaped}
-use Rattle.model.specs.declared.Ran.{Ran}
 use Rattle.layout.specs.declared.Layout.{Layout}
 use Rattle.running.specs.declared.record.Went.{Went}
 use Rattle.layout.specs.Layout.{LaysOut}
@@ -202,13 +201,13 @@ module _ (S : Settings) {longs words marks : List ℕ} (held : SoundSlices S (le
       (before.0 ∙ ap length (sym w.0)) (ap (entries_left reply.first) before.1 ∙ sym w.1)
 
 -- what an access leaves that queues nothing
-pub went_none : (r : Ran) (x : Access) (q m : ℕ) {n : ℕ} → n ≡ 0
-    → ◌≡◌ {A = Went} (record { ran = r; queued = q; missed = m }) (record { ran = r; queued = q + n; missed = m + one (is_read x && ltb 0 n) })
-went_none r (Read a b c) q m e = rw (e, add-zero q, add-zero m)
-went_none r (Write a b c) q m e = rw (e, add-zero q, add-zero m)
+pub went_none : (w : Went) (x : Access) {n : ℕ} → n ≡ 0
+    → ◌≡◌ {A = Went} w (record { at = w.at; out = w.out; queued = w.queued + n; missed = w.missed + one (is_read x && ltb 0 n) })
+went_none w (Read a b c) e = rw (e, add-zero w.queued, add-zero w.missed)
+went_none w (Write a b c) e = rw (e, add-zero w.queued, add-zero w.missed)
 
 -- and that queues something
-pub went_some : (r : Ran) (x : Access) (q m n : ℕ) {f : ℕ} → 0 < n → f ≡ one (is_read x)
-    → ◌≡◌ {A = Went} (record { ran = r; queued = q + n; missed = m + f }) (record { ran = r; queued = q + n; missed = m + one (is_read x && ltb 0 n) })
-went_some r (Read a b c) q m n h e = rw (e, lt-ltb 0 n h)
-went_some r (Write a b c) q m n h e = rw e
+pub went_some : (w : Went) (x : Access) (n : ℕ) {f : ℕ} → 0 < n → f ≡ one (is_read x)
+    → ◌≡◌ {A = Went} (record { at = w.at; out = w.out; queued = w.queued + n; missed = w.missed + f }) (record { at = w.at; out = w.out; queued = w.queued + n; missed = w.missed + one (is_read x && ltb 0 n) })
+went_some w (Read a b c) n h e = rw (e, lt-ltb 0 n h)
+went_some w (Write a b c) n h e = rw e

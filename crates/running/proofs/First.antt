@@ -1,26 +1,21 @@
 -- The first record: what it holds and what it comes to, by the tests that the code makes, and the run behind it.
-use Rattle.words.proofs.General.{ℕ, suc, ◌+◌, ◌-◌, ◌≤◌, ◌<◌, sub-zero, arith, ◌≡◌, refl, sym, ap, ◌∙◌, ⊎_elim, Bool, true, false, List, [], ◌∷◌, length, drop, length-drop, eq-eqb}
-use Rattle.words.proofs.General.{ne_eqb, lt-ltb, le-ltb, pick, clash, by_flag, flag}
-use Rattle.model.proofs.Terms.{refusal_number, in_range, start, after, Lent, lengths_fit, fresh_call, verdict_of, is_settings, length_of, settings_in, read_at, body_at, settings_of}
-use Rattle.model.proofs.Terms.{settings_stop, first_stop, goes_on, Result, halt, bytes_then, run_from, lent_result, run, Runs, Encodes, SoundSlices}
+use Rattle.model.specs.declared.Body.{Body}
+use Rattle.std.specs.Prelude.{Result, Ok, Err, Option, Some, None}
+use Rattle.words.proofs.General.{ℕ, suc, ◌+◌, ◌-◌, ◌≤◌, ◌<◌, sub-zero, arith, ◌≡◌, refl, sym, ap, ◌∙◌, ⊎_elim, Bool, true, false, List, [], ◌∷◌, length, drop, length-drop}
+use Rattle.words.proofs.General.{lt-ltb, le-ltb, pick, clash, by_flag, flag}
+use Rattle.model.proofs.Terms.{in_range, start, after, Lent, lengths_fit, fresh_call, verdict_of, is_settings, length_of, settings_in, read_at, body_at, settings_of}
+use Rattle.model.proofs.Terms.{settings_stop, first_stop, goes_on, RunResult, halt, bytes_then, run_from, lent_result, run, Runs, Encodes, SoundSlices}
 use Rattle.model.specs.RunnerOf as runner
 use Rattle.model.specs.declared.Settings.{Settings}
-use Rattle.model.specs.declared.Record.{Record}
 use Rattle.model.specs.declared.Refusal.{Refusal}
-use Rattle.model.specs.declared.Verdict.{Verdict}
-use Rattle.model.specs.declared.Verdict.TheVariants as verdict
 use Rattle.model.specs.declared.Stop.{Stop}
-use Rattle.model.specs.declared.Stop.TheVariants.{Nothing, SettingOutOfRange, SliceLength, OutOfPlace}
+use Rattle.model.specs.declared.Stop.TheVariants.{OutOfPlace}
 use Rattle.model.specs.declared.Ran.{Ran}
 use Rattle.model.proofs.Soundness.{start-sound}
 use Rattle.reader.specs.Taken.{behind}
 use Rattle.cache.specs.Made.{LeavesVerdict}
-use Rattle.running.specs.declared.Opening.{Opening}
-use Rattle.running.specs.declared.Opening.TheVariants as opening
-use Rattle.running.specs.declared.Begun.{Begun}
-use Rattle.running.specs.declared.Begun.TheVariants.{Accepted, Stopped}
 use Rattle.running.specs.Resume.{record_kind_at, rest_at, found_stop, rest_from, RunAt, Resumes}
-use Rattle.running.specs.Begin.{first_head, first_record, begun_on, beginning, begun_tables, Begins, Accepts, fresh_stop}
+use Rattle.running.specs.Begin.{Opening, first_head, first_record, begun_on, beginning, begun_tables, Begins, Accepts, fresh_stop, refused_stop}
 use Rattle.running.proofs.Running.{by_record, run_skips}
 use Rattle.running.proofs.Checks.{found-record, found-next, found-body}
 
@@ -28,72 +23,62 @@ use Rattle.running.proofs.Checks.{found-record, found-next, found-body}
 
 record_is : (s : List ℕ) → (length s ≡ 0 → ⊥)
     → first_record s
-    ≡ pick (goes_on (first_head (record_kind_at s 0) (rest_at s 0))) (opening.Holds (settings_of (record_kind_at s 0) (rest_at s 0)) (1 + length_of (record_kind_at s 0)))
-    (opening.Stopped (first_head (record_kind_at s 0) (rest_at s 0)))
+    ≡ pick (goes_on (first_head (record_kind_at s 0) (rest_at s 0))) (Ok (settings_of (record_kind_at s 0) (rest_at s 0), 1 + length_of (record_kind_at s 0)))
+    (Err (first_head (record_kind_at s 0) (rest_at s 0)))
 unfolding first_record
 record_is [] some = absurd (some refl)
 record_is (k ∷ bs) some = refl
 
-pub first-none : (s : List ℕ) → length s ≡ 0 → opening.Stopped Nothing ≡ first_record s
+pub first-none : (s : List ℕ) → length s ≡ 0 → Err None ≡ first_record s
 unfolding first_record
 first-none [] h = refl
 first-none (k ∷ bs) h = absurd (omega arith)
 
-module _ (s : List ℕ) (some : length s ≡ 0 → ⊥) {f : Record} (read : f ≡ read_at s 0) {n : Stop} (d : n ≡ found_stop (record_kind_at s 0) f Nothing OutOfPlace) where
+module _ (s : List ℕ) (some : length s ≡ 0 → ⊥) {f : Result Body Stop} (read : f ≡ read_at s 0) {n : Option Stop} (d : n ≡ found_stop (record_kind_at s 0) f None (Some OutOfPlace)) where
   inside : 0 < length s
   inside = omega arith
 
   head_is : n ≡ first_head (record_kind_at s 0) (rest_at s 0)
-  head_is = found-record s 0 inside read Nothing OutOfPlace d
+  head_is = found-record s 0 inside read None (Some OutOfPlace) d
 
-  pub first_stopped : goes_on n ≡ false → opening.Stopped n ≡ first_record s
+  pub first_stopped : goes_on n ≡ false → Err n ≡ first_record s
   first_stopped h = rw (record_is s some, ← head_is, h)
 
-  pub first_holds : goes_on n ≡ true → {body : List ℕ} → body ≡ body_at s 0 → {S : Settings} → S ≡ settings_in body → {c : ℕ} → c ≡ behind s 0 → opening.Holds S c ≡ first_record s
+  pub first_holds : goes_on n ≡ true → {body : List ℕ} → body ≡ body_at s 0 → {S : Settings} → S ≡ settings_in body → {c : ℕ} → c ≡ behind s 0 → Ok (S, c) ≡ first_record s
   first_holds h is {S} e {c} q =
-      let b : S ≡ settings_of (record_kind_at s 0) (rest_at s 0) = e ∙ ap settings_in (is ∙ found-body s 0 inside read Nothing OutOfPlace d h) in
-      let a : c ≡ 1 + length_of (record_kind_at s 0) = found-next s 0 inside read Nothing OutOfPlace d h q in
+      let b : S ≡ settings_of (record_kind_at s 0) (rest_at s 0) = e ∙ ap settings_in (is ∙ found-body s 0 inside read None (Some OutOfPlace) d h) in
+      let a : c ≡ 1 + length_of (record_kind_at s 0) = found-next s 0 inside read None (Some OutOfPlace) d h q in
       rw (b, a, record_is s some, ← head_is, h)
 
 -- ---- what it comes to
 
 -- of settings, by the call that makes the tables fresh
 fresh_comes : (S : Settings) (L : Lent) (next : ℕ)
-    → (fresh_stop (verdict_of (fresh_call S L)) ≡ settings_stop S L) × (after L (fresh_call S L) ≡ begun_tables L (begun_on L (opening.Holds S next)))
+    → (fresh_stop (verdict_of (fresh_call S L)) ≡ settings_stop S L) × (after L (fresh_call S L) ≡ begun_tables L (begun_on L (Ok (S, next))))
 fresh_comes S L next =
     ⊎_elim
     (λ (r : in_range S ≡ true). ⊎_elim (λ (f : lengths_fit S L ≡ true). rw (r, f) (refl, refl)) (λ (f : lengths_fit S L ≡ false). rw (r, f) (refl, refl)) (flag (lengths_fit S L)))
     (λ (r : in_range S ≡ false). rw r (refl, refl))
     (flag (in_range S))
 
-module _ {v : Verdict} {n : Refusal} (q : v ≡ verdict.Refused n) {m : ℕ} (e : m ≡ refusal_number n) where
-  pub fresh-one : m ≡ 1 → SettingOutOfRange ≡ fresh_stop v
-  fresh-one h = rw (q, eq-eqb (refusal_number n) 1 (sym e ∙ h))
+pub refused_stops : (n : Refusal) → goes_on (Some (refused_stop n)) ≡ false
+refused_stops n = refl
 
-  pub fresh_two : (m ≡ 1 → ⊥) → SliceLength ≡ fresh_stop v
-  fresh_two h = rw (q, ne_eqb (refusal_number n) 1 (λ z. h (e ∙ z)))
-
-pub accept_by : {b : Bool} (S : Settings) (next : ℕ) (L : Lent) {v : Verdict} {M : Lent} → LeavesVerdict (fresh_call S L) L v M → {n : Stop} → n ≡ fresh_stop v → goes_on n ≡ b
-    → Accepts L (opening.Holds S next) (pick b (Accepted S next) (Stopped n)) M
+pub accept_by : {b : Bool} (S : Settings) (next : ℕ) (L : Lent) {v : Result (Unit {0}) Refusal} {M : Lent} → LeavesVerdict (fresh_call S L) L v M → {n : Option Stop} → n ≡ fresh_stop v → goes_on n ≡ b
+    → Accepts L (Ok (S, next)) (pick b (Ok (S, next)) (Err n)) M
 accept_by S next L made {n} d h =
     let judged : n ≡ settings_stop S L = d ∙ ap fresh_stop made.says ∙ (fresh_comes S L next).0 in
     record { says = rw (← judged, h); tables = made.left ∙ (fresh_comes S L next).1 }
-
-pub accepts_stopped : (L : Lent) {x : Opening} {n : Stop} → x ≡ opening.Stopped n → Accepts L x (Stopped n) L
-accepts_stopped L q = rw q record { says = refl; tables = refl }
-
-pub accepts_held : {L : Lent} {x : Opening} {S : Settings} {next : ℕ} {r : Begun} {M : Lent} → x ≡ opening.Holds S next → Accepts L (opening.Holds S next) r M → Accepts L x r M
-accepts_held q a = rw q a
 
 -- of a stream: 1 and 2 behind the other checks
 pub first_begins : (L : Lent) (s : List ℕ) → begun_on L (first_record s) ≡ beginning L s
 unfolding first_record beginning runner.first_stop
 first_begins L [] = refl
 first_begins L (k ∷ bs) =
-    by_record (λ n. begun_on L (first_record (k ∷ bs)) ≡ beginning L (k ∷ bs)) k bs {a = Nothing} {b = Nothing} (λ c. rw c) (λ c w. rw (c, lt-ltb _ _ w))
+    by_record (λ n. begun_on L (first_record (k ∷ bs)) ≡ beginning L (k ∷ bs)) k bs {a = None} {b = None} (λ c. rw c) (λ c w. rw (c, lt-ltb _ _ w))
     (λ c w z. rw (c, le-ltb _ _ w, z)) (λ c w z. rw (c, le-ltb _ _ w, z))
 
-pub accepts_begins : {L : Lent} (s : List ℕ) {x : Opening} → x ≡ first_record s → {r : Begun} {M : Lent} → Accepts L x r M → Begins L s r M
+pub accepts_begins : {L : Lent} (s : List ℕ) {x : Opening} → x ≡ first_record s → {r : Opening} {M : Lent} → Accepts L x r M → Begins L s r M
 accepts_begins {L} s {x} e a =
     let q : begun_on L x ≡ beginning L s = ap (begun_on L) e ∙ first_begins L s in
     record { says = a.says ∙ q; tables = a.tables ∙ ap (begun_tables L) q }
@@ -115,23 +100,24 @@ first_settled L k rest =
     (λ r h. clash h refl))
     (λ c w z h. clash h refl)
   where
-    Goes : Stop → Type 0
+    Goes : Option Stop → Type 0
     Goes n = goes_on n ≡ true → FirstSettled L k rest
 
 -- ---- the first record by itself, and the run behind it, as equations
 
 -- what was stopped, and what was accepted
-pub begun_stopped : (b : Bool) (S : Settings) (next : ℕ) {m n : Stop} → pick b (Accepted S next) (Stopped m) ≡ Stopped n → (b ≡ false) × (m ≡ n)
+pub begun_stopped : (b : Bool) (S : Settings) (next : ℕ) {m n : Option Stop} → pick {A = Opening} b (Ok (S, next)) (Err m) ≡ Err n → (b ≡ false) × (m ≡ n)
 begun_stopped true S next q = let e : ◌≡◌ {A = ℕ} 0 1 = cc in absurd (omega arith)
 begun_stopped false S next q = (refl, cc)
 
-pub begun_accepted : (b : Bool) (m : Stop) {S T : Settings} {next n : ℕ} → pick b (Accepted S next) (Stopped m) ≡ Accepted T n → (b ≡ true) × (S ≡ T) × (next ≡ n)
-begun_accepted true m q = (refl, cc, cc)
+pub begun_accepted : (b : Bool) (m : Option Stop) {S T : Settings} {next n : ℕ} → pick {A = Opening} b (Ok (S, next)) (Err m) ≡ Ok (T, n) → (b ≡ true) × (S ≡ T) × (next ≡ n)
+begun_accepted true m {S} {T} {next} {n} q =
+    let e : ◌≡◌ {A = Settings × ℕ} (S, next) (T, n) = cc in (refl, ap (λ (p : Settings × ℕ). p.0) e, ap (λ (p : Settings × ℕ). p.1) e)
 begun_accepted false m q = let e : ◌≡◌ {A = ℕ} 0 1 = cc in absurd (omega arith)
 
-pub run_halts : (room : ℕ) (L : Lent) (s : List ℕ) (n : Stop) → beginning L s ≡ Stopped n → run room s L ≡ halt n L
+pub run_halts : (room : ℕ) (L : Lent) (s : List ℕ) (n : Option Stop) → beginning L s ≡ Err n → run room s L ≡ halt n L
 unfolding beginning runner.run
-run_halts room L [] n q = let e : Nothing ≡ n = cc in rw e
+run_halts room L [] n q = let e : None ≡ n = cc in rw e
 run_halts room L (k ∷ bs) n q = let (z, e) = begun_stopped (goes_on (first_stop L k bs)) _ _ q in rw (z, e)
 
 record Taken (L : Lent) (s : List ℕ) (S : Settings) (n : ℕ) : Type 0 where
@@ -140,7 +126,7 @@ record Taken (L : Lent) (s : List ℕ) (S : Settings) (n : ℕ) : Type 0 where
   are : settings_of (record_kind_at s 0) (rest_at s 0) ≡ S
   next : 1 + length_of (record_kind_at s 0) ≡ n
 
-taken : (L : Lent) (s : List ℕ) (S : Settings) (n : ℕ) → beginning L s ≡ Accepted S n → Taken L s S n
+taken : (L : Lent) (s : List ℕ) (S : Settings) (n : ℕ) → beginning L s ≡ Ok (S, n) → Taken L s S n
 unfolding beginning
 taken L [] S n q = let e : ◌≡◌ {A = ℕ} 0 1 = cc in absurd (omega arith)
 taken L (k ∷ bs) S n q = let (z, e, c) = begun_accepted (goes_on (first_stop L k bs)) _ q in record { some = λ h. omega arith; goes = z; are = e; next = c }
@@ -152,7 +138,7 @@ unfolding runner.run
 run-accepts room L k bs z = rw z
 
 -- n bytes of settings, then the run of what follows
-abbrev pub on_from : Settings → ℕ → ℕ → List ℕ → Result Lent
+abbrev pub on_from : Settings → ℕ → ℕ → List ℕ → RunResult Lent
 on_from S n room s = bytes_then n [] (lent_result S (run_from S 0 room (drop n s) (start S)))
 
 run-goes : (room : ℕ) (L : Lent) (s : List ℕ) (S : Settings) (n : ℕ) → Taken L s S n → run room s L ≡ on_from S n room s
@@ -162,10 +148,10 @@ run-goes room L (k ∷ bs) S n t =
     let d : drop n (k ∷ bs) ≡ drop (length_of k) bs = rw e in
     rw (run-accepts room L k bs t.goes, run_skips _ _ room bs _ (first_settled L k bs t.goes).whole, ← t.are, t.next, d)
 
-pub accepted_runs : (L : Lent) (s : List ℕ) {S : Settings} {n : ℕ} (room : ℕ) → beginning L s ≡ Accepted S n → run room s L ≡ on_from S n room s
+pub accepted_runs : (L : Lent) (s : List ℕ) {S : Settings} {n : ℕ} (room : ℕ) → beginning L s ≡ Ok (S, n) → run room s L ≡ on_from S n room s
 accepted_runs L s {S} {n} room q = run-goes room L s S n (taken L s S n q)
 
-pub accepted_long : (L : Lent) (s : List ℕ) {S : Settings} {n : ℕ} → beginning L s ≡ Accepted S n → n ≤ length s
+pub accepted_long : (L : Lent) (s : List ℕ) {S : Settings} {n : ℕ} → beginning L s ≡ Ok (S, n) → n ≤ length s
 accepted_long L s {S} {n} q =
     let t = taken L s S n q in
     let w = (first_settled L (record_kind_at s 0) (rest_at s 0) t.goes).whole in
@@ -176,14 +162,14 @@ accepted_long L s {S} {n} q =
 
 -- ---- the same, of what the functions promise
 
-module _ {L : Lent} {s : List ℕ} {r : Begun} {M : Lent} (b : Begins L s r M) where
-  pub run_stopped : {n : Stop} (room : ℕ) (e : List ℕ) → r ≡ Stopped n → Runs (run room s L) e record { stop = n; consumed = 0; written = 0 } e M
+module _ {L : Lent} {s : List ℕ} {r : Opening} {M : Lent} (b : Begins L s r M) where
+  pub run_stopped : {n : Option Stop} (room : ℕ) (e : List ℕ) → r ≡ Err n → Runs (run room s L) e record { stop = n; consumed = 0; written = 0 } e M
   run_stopped {n} room e q =
-      let p : beginning L s ≡ Stopped n = sym b.says ∙ q in
+      let p : beginning L s ≡ Err n = sym b.says ∙ q in
       rw (run_halts room L s n p) record { stop = refl; consumed = refl; written = refl; events = refl; tables = b.tables ∙ rw p }
 
-  module _ {S : Settings} {n : ℕ} (q : r ≡ Accepted S n) where
-    settings : beginning L s ≡ Accepted S n
+  module _ {S : Settings} {n : ℕ} (q : r ≡ Ok (S, n)) where
+    settings : beginning L s ≡ Ok (S, n)
     settings = sym b.says ∙ q
 
     abbrev first_taken : Taken L s S n

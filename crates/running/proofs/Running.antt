@@ -1,7 +1,8 @@
 -- A run record by record: the checks at a record, what is passed over, the end of input, a record that stops, a record that is run.
+use Rattle.std.specs.Prelude.{Option, Some, None}
 use Rattle.words.proofs.General.{ℕ, zero, suc, ◌+◌, ◌-◌, ◌≤◌, ◌<◌, le_of_suc-le-suc, add_assoc, add-one, arith, ◌≡◌, refl, true, false, List, [], ◌∷◌, length, drop, length-drop}
 use Rattle.words.proofs.General.{drop-cons, drop-drop, ltb, ltb-true, ltb-false, clash, by_flag}
-use Rattle.model.proofs.Terms.{Tables, after, events_of, is_command, is_settings, length_of, log_bytes, event_room, record_stop, later_stop, goes_on, step_at, Result, halt, bytes_then}
+use Rattle.model.proofs.Terms.{Tables, after, events_of, is_command, is_settings, length_of, log_bytes, event_room, record_stop, later_stop, goes_on, step_at, RunResult, halt, bytes_then}
 use Rattle.model.proofs.Terms.{run_from}
 use Rattle.model.specs.RunnerOf as runner
 use Rattle.model.specs.declared.Settings.{Settings}
@@ -11,8 +12,8 @@ use Rattle.running.specs.Resume.{record_kind_at, rest_at, single}
 
 -- ---- the checks at a record: what holds of each stop that they may come to, where they come to it, holds of their stop
 
-pub by_record : (P : Stop → Type 0) (k : ℕ) (rest : List ℕ) {a b : Stop} → (is_command k ≡ false → P stop.UnknownKind)
-    → (is_command k ≡ true → length rest < length_of k → P stop.CutShort) → (is_command k ≡ true → length_of k ≤ length rest → is_settings k ≡ true → P a)
+pub by_record : (P : Option Stop → Type 0) (k : ℕ) (rest : List ℕ) {a b : Option Stop} → (is_command k ≡ false → P (Some stop.UnknownKind))
+    → (is_command k ≡ true → length rest < length_of k → P (Some stop.CutShort)) → (is_command k ≡ true → length_of k ≤ length rest → is_settings k ≡ true → P a)
     → (is_command k ≡ true → length_of k ≤ length rest → is_settings k ≡ false → P b) → P (record_stop k rest a b)
 by_record P k rest unknown cut settings other =
     by_flag P (is_command k) _ _
@@ -60,12 +61,12 @@ module _ (S : Settings) (room k : ℕ) (rest : List ℕ) (t : Tables) where
 
 -- ---- at a place of the stream
 
-none_left : (S : Settings) (room : ℕ) (s : List ℕ) (t : Tables) → length s ≡ 0 → run_from S 0 room s t ≡ halt stop.Nothing t
+none_left : (S : Settings) (room : ℕ) (s : List ℕ) (t : Tables) → length s ≡ 0 → run_from S 0 room s t ≡ halt None t
 unfolding runner.run_from
 none_left S room [] t e = refl
 none_left S room (b ∷ s) t e = absurd (omega arith)
 
-pub run_ends : (S : Settings) (room : ℕ) (s : List ℕ) (at : ℕ) (t : Tables) → length s ≤ at → run_from S 0 room (drop at s) t ≡ halt stop.Nothing t
+pub run_ends : (S : Settings) (room : ℕ) (s : List ℕ) (at : ℕ) (t : Tables) → length s ≤ at → run_from S 0 room (drop at s) t ≡ halt None t
 run_ends S room s at t h = none_left S room (drop at s) t (rw length-drop (omega arith))
 
 module _ (S : Settings) (room : ℕ) (s : List ℕ) (at : ℕ) (t : Tables) (inside : at < length s) where
@@ -76,13 +77,13 @@ module _ (S : Settings) (room : ℕ) (s : List ℕ) (at : ℕ) (t : Tables) (ins
   opened = rw (add-one, drop-cons s at 0)
 
   -- that record by itself
-  abbrev result_now : Result Tables
+  abbrev result_now : RunResult Tables
   result_now = single S room k (rest_at s at) t
 
   pub single_stops : goes_on result_now.stop ≡ false → run_from S 0 room (drop at s) t ≡ result_now
   unfolding single
   single_stops =
-      by_flag (λ (o : Result Tables). goes_on o.stop ≡ false → run_from S 0 room (drop at s) t ≡ o) (goes_on (later_stop room k (rest_at s at))) _ _
+      by_flag (λ (o : RunResult Tables). goes_on o.stop ≡ false → run_from S 0 room (drop at s) t ≡ o) (goes_on (later_stop room k (rest_at s at))) _ _
       (λ z h. clash refl h)
       (λ z h. rw opened (from_stops S room k (rest_at s at) t z))
 
@@ -92,7 +93,7 @@ module _ (S : Settings) (room : ℕ) (s : List ℕ) (at : ℕ) (t : Tables) (ins
   unfolding single
   single-goes =
       by_flag
-      (λ (o : Result Tables). goes_on o.stop ≡ true
+      (λ (o : RunResult Tables). goes_on o.stop ≡ true
       → run_from S 0 room (drop at s) t ≡ bytes_then o.consumed o.events (run_from S 0 (room - length o.events) (drop (at + o.consumed) s) o.tables))
       (goes_on (later_stop room k (rest_at s at))) _ _
       (λ z h. rw (opened, from_goes S room k (rest_at s at) t z, run_skips S (length_of k) _ (rest_at s at) _ (going room _ _ z).whole, drop-drop, add_assoc))
@@ -102,6 +103,6 @@ module _ (S : Settings) (room : ℕ) (s : List ℕ) (at : ℕ) (t : Tables) (ins
   pub single_further : goes_on result_now.stop ≡ true → 0 < result_now.consumed
   unfolding single
   single_further =
-      by_flag (λ (o : Result Tables). goes_on o.stop ≡ true → 0 < o.consumed) (goes_on (later_stop room k (rest_at s at))) _ _
+      by_flag (λ (o : RunResult Tables). goes_on o.stop ≡ true → 0 < o.consumed) (goes_on (later_stop room k (rest_at s at))) _ _
       (λ z h. omega arith)
       (λ z h. clash h z)

@@ -1,34 +1,29 @@
 -- A record by itself: one that stops; one that is run, from what the functions promise that do its step and write its events; one that is
 -- tried.
+use Rattle.std.specs.Prelude.{Option, Some, None}
 use Rattle.words.proofs.General.{ℕ, ◌+◌, ◌-◌, ◌≤◌, add-zero, le_trans, arith, ◌≡◌, refl, sym, ap, ◌∙◌, true, false, List, append-nil, length, take, length-append, length-drop}
-use Rattle.words.proofs.General.{take-append-drop, length-take-le, sets-eq, lit≤, clash}
+use Rattle.words.proofs.General.{take-append-drop, length-take-le, sets-eq, lit≤}
 use Rattle.model.proofs.Terms.{in_range, Tables, after, events_of, Lent, sound, all_ones, events_told, length_of, command_of, log_bytes, fill_bytes, event_room, goes_on, later_stop, step_of}
-use Rattle.model.proofs.Terms.{command_mask, step_read, step_at, Result, halt, Encodes, SoundSlices, Does}
+use Rattle.model.proofs.Terms.{command_mask, step_read, step_at, RunResult, halt, Encodes, SoundSlices, Does}
 use Rattle.model.specs.RunnerOf as runner
 use Rattle.model.specs.declared.Settings.{Settings}
 use Rattle.model.specs.declared.Command.{Command}
-use Rattle.model.specs.declared.CommandRead.{CommandRead}
-use Rattle.model.specs.declared.CommandRead.TheVariants as command
 use Rattle.model.specs.declared.Refusal.TheVariants as refusal
 use Rattle.model.specs.declared.Stop.{Stop}
-use Rattle.model.specs.declared.Stop.TheVariants as stop
 use Rattle.model.specs.declared.Reply.{Reply}
 use Rattle.encoding.proofs.Bridge.{does_tells, does_is}
 use Rattle.model.proofs.Soundness.{step_keeps_sound}
 use Rattle.records.specs.Stores.{Laid}
 use Rattle.records.proofs.Room.{TakesRoom, refused_takes, step_takes}
-use Rattle.layout.specs.declared.Layout.{Layout}
-use Rattle.running.specs.declared.record.Went.{Went}
-use Rattle.running.specs.declared.record.Tried.{Tried}
-use Rattle.running.specs.Resume.{record_kind_at, rest_at, is_step, single, record_from, RunAt, RecordReady, Resumes, unmoved, Tries, UsedInMarks}
+use Rattle.running.specs.Resume.{record_kind_at, rest_at, single, record_from, RunAt, RecordReady, Resumes}
 use Rattle.running.proofs.Running.{Going, going}
 
 -- ---- the events of one step
 
 -- at most 49 bytes: a fill with eight tickets
-read_takes : (S : Settings) (x : CommandRead) (t : Tables) → in_range S ≡ true → sound S t ≡ true → TakesRoom fill_bytes (step_read S x t)
-read_takes S (command.Got c) t range ok = step_takes S c t range ok
-read_takes S command.None t range ok = record { most = le_trans (refused_takes refusal.SettingOutOfRange).most (lit≤ tt) }
+read_takes : (S : Settings) (x : Option Command) (t : Tables) → in_range S ≡ true → sound S t ≡ true → TakesRoom fill_bytes (step_read S x t)
+read_takes S (Some c) t range ok = step_takes S c t range ok
+read_takes S None t range ok = record { most = le_trans (refused_takes refusal.SettingOutOfRange).most (lit≤ tt) }
 
 pub step_room : (S : Settings) (k : ℕ) (rest : List ℕ) (t : Tables) → in_range S ≡ true → sound S t ≡ true
     → length (log_bytes (events_of (step_at S k rest t))) ≤ fill_bytes
@@ -38,7 +33,7 @@ step_room S k rest t range ok = (read_takes S (command_of k (take (length_of k) 
 -- ---- a record that stops, and one that is run
 
 -- what halts leaves everything as it is
-pub halts_here : {S : Settings} {o : Tables → Result Tables} {s : List ℕ} {at out : ℕ} {e : List ℕ} {L : Lent} {n : Stop} → RunAt s at out e
+pub halts_here : {S : Settings} {o : Tables → RunResult Tables} {s : List ℕ} {at out : ℕ} {e : List ℕ} {L : Lent} {n : Option Stop} → RunAt s at out e
     → ((t : Tables) → o t ≡ halt n t) → Resumes S o s at out e L record { stop = n; consumed = at; written = out } e L
 halts_here {S} {o} {s} {at} {out} {e} here halts =
     let long = length-take-le out e here.room in
@@ -55,7 +50,7 @@ halts_here {S} {o} {s} {at} {out} {e} here halts =
     }
 
 module _ (S : Settings) (s : List ℕ) (at out : ℕ) (e : List ℕ) (L : Lent) (here : RunAt s at out e)
-    {n : Stop} (d : n ≡ later_stop (length e - out) (record_kind_at s at) (rest_at s at)) (stops : goes_on n ≡ false) where
+    {n : Option Stop} (d : n ≡ later_stop (length e - out) (record_kind_at s at) (rest_at s at)) (stops : goes_on n ≡ false) where
   pub single_halts : Resumes S (record_from S s at out e) s at out e L record { stop = n; consumed = at; written = out } e L
   unfolding single
   single_halts = halts_here here (λ t. rw (← d, stops))
@@ -84,7 +79,7 @@ module _ {s : List ℕ} {at out : ℕ} {e : List ℕ} (ready : RecordReady s at 
     ran : (t : Tables)
         → record_from S s at out e t
         ≡ record {
-          stop = stop.Nothing;
+          stop = None;
           consumed = 1 + length_of (record_kind_at s at);
           events = log_bytes (events_of (step_at S (record_kind_at s at) (rest_at s at) t));
           tables = after t (step_at S (record_kind_at s at) (rest_at s at) t);
@@ -93,7 +88,7 @@ module _ {s : List ℕ} {at out : ℕ} {e : List ℕ} (ready : RecordReady s at 
     ran t = rw ready.goes
 
     -- what the code does is the step of the command in the body; a mask of 32 bits is all that soundness asks of that
-    module _ (c : Command) (read : command_of (record_kind_at s at) body ≡ command.Got c) (small : command_mask c ≤ all_ones)
+    module _ (c : Command) (read : command_of (record_kind_at s at) body ≡ Some c) (small : command_mask c ≤ all_ones)
         {reply : Reply} {M : Lent} (does : Does S (step_of S c) L reply M) where
       step_is : (t : Tables) → step_of S c t ≡ step_at S (record_kind_at s at) (rest_at s at) t
       unfolding runner.step_at
@@ -114,7 +109,7 @@ module _ {s : List ℕ} {at out : ℕ} {e : List ℕ} (ready : RecordReady s at 
 
       pub record-runs : {w : ℕ} {f : List ℕ} → Laid e out (length (log_bytes (events_told reply))) (log_bytes (events_told reply)) w f → length f ≡ length e
           → {n : ℕ} → n ≡ at + 1 + length_of (record_kind_at s at)
-          → Resumes S (record_from S s at out e) s at out e L record { stop = stop.Nothing; consumed = n; written = w } f M
+          → Resumes S (record_from S s at out e) s at out e L record { stop = None; consumed = n; written = w } f M
       record-runs laid size next =
           let long = length-take-le out e ready.stands.room in
           let r = reply-room in
@@ -130,14 +125,3 @@ module _ {s : List ℕ} {at out : ℕ} {e : List ℕ} (ready : RecordReady s at 
             keeps = λ t i. rw (ran t) (after_is t i);
             stands = record { inside = let h = ready_whole in omega arith; room = omega arith };
           }
-
--- ---- a record that is tried
-
-module _ {S : Settings} {s : List ℕ} {at out : ℕ} {e : List ℕ} {L : Lent} {q m : ℕ} where
-  pub tries_steps : {r : Tried} {w : Went} → r ≡ record { went = w; stepped = true } → is_step (record_kind_at s at) ≡ true → {f : List ℕ} {M : Lent} {place : Layout} {marks : List ℕ}
-      → Resumes S (record_from S s at out e) s at out e L w.ran f M × UsedInMarks S place marks w.queued w.missed
-      → Tries S s at out e L q m r f M × UsedInMarks S place marks r.went.queued r.went.missed
-  tries_steps is step u = rw is (record { tells = sym step; steps = λ h. u.0; stays = λ h. clash refl h }, u.1)
-
-  pub tries_stays : is_step (record_kind_at s at) ≡ false → Tries S s at out e L q m record { went = unmoved at out q m; stepped = false } e L
-  tries_stays none = record { tells = sym none; steps = λ h. clash h refl; stays = λ h. (refl, refl, refl) }

@@ -1,15 +1,14 @@
 -- The ticket of a write says nothing: with any the access is the same step.
+use Rattle.std.specs.Prelude.{Option, Some, None}
 use Rattle.words.proofs.General.{ℕ, ◌≡◌, refl, List}
 use Rattle.model.proofs.Terms.{block_of, Line, Tables, holds, Lent, Rule, Place, no, at, first, ways_of, rule_of, meet, probe, accept, proceed, access, Does}
 use Rattle.model.specs.declared.Settings.{Settings}
 use Rattle.model.specs.declared.Access.TheVariants.{Write}
-use Rattle.model.specs.declared.Found.{Found}
-use Rattle.model.specs.declared.Found.TheVariants.{At, Nothing}
 use Rattle.model.specs.declared.Reply.{Reply}
 
-meet_as : (R : Rule) (S : Settings) (d : ℕ) (ways : List Line) (a m i j : ℕ) (f : Found) → meet R S d ways (Write a m i) f ≡ meet R S d ways (Write a m j) f
-meet_as R S d ways a m i j Nothing = refl
-meet_as R S d ways a m i j (At w) = refl
+meet_as : (R : Rule) (S : Settings) (d : ℕ) (ways : List Line) (a m i j : ℕ) (f : Option ℕ) → meet R S d ways (Write a m i) f ≡ meet R S d ways (Write a m j) f
+meet_as R S d ways a m i j None = refl
+meet_as R S d ways a m i j (Some w) = refl
 
 proceed_as : (S : Settings) (a m i j : ℕ) (t : Tables) (p : Place) → proceed S (Write a m i) t p ≡ proceed S (Write a m j) t p
 unfolding proceed accept

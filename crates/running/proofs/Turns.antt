@@ -1,18 +1,17 @@
 -- The two loops over the records: where they stand, a turn, their ends.
-use Rattle.words.proofs.General.{ℕ, suc, ◌+◌, ◌-◌, ◌≤◌, ◌<◌, add_assoc, arith, ◌≡◌, refl, sym, ap, ◌∙◌, subst, ◌⊎◌, inl, ⊎_elim, Bool, true, false, not, ◌&&◌, List, ◌++◌}
-use Rattle.words.proofs.General.{append_assoc, length, take, drop, length-append, length-drop, length-take-le, take-append_seam, drop-append_seam, drop-drop, ltb, lt-ltb, ltb-true}
-use Rattle.words.proofs.General.{and_1, and_2, and_i, clash, not-no, said_no, said_yes}
+use Rattle.model.specs.declared.Body.{Body}
+use Rattle.std.specs.Prelude.{Some, Result, Option, None, is_some}
+use Rattle.words.proofs.General.{ℕ, suc, ◌+◌, ◌-◌, ◌≤◌, ◌<◌, add_assoc, arith, ◌≡◌, refl, sym, ap, ◌∙◌, subst, ◌⊎◌, inl, Bool, true, false, not, ◌&&◌, List, ◌++◌}
+use Rattle.words.proofs.General.{append_assoc, length, take, drop, length-append, length-drop, length-take-le, take-append_seam, drop-append_seam, drop-drop, ltb, ltb-true}
+use Rattle.words.proofs.General.{and_1, and_2, and_i, not-no}
 use native.Mathlib.Decide.{dec_le}
-use Rattle.model.proofs.Terms.{Tables, Lent, read_at, event_room, later_stop, goes_on, Result, lent_result, Runs, Encodes, SoundSlices}
+use Rattle.model.proofs.Terms.{Tables, Lent, read_at, event_room, later_stop, goes_on, RunResult, lent_result, Runs, Encodes, SoundSlices}
 use Rattle.model.specs.declared.Settings.{Settings}
-use Rattle.model.specs.declared.Record.{Record}
 use Rattle.model.specs.declared.Stop.{Stop}
-use Rattle.model.specs.declared.Stop.TheVariants as stop
 use Rattle.model.specs.declared.Ran.{Ran}
 use Rattle.running.specs.declared.record.Went.{Went}
-use Rattle.running.specs.declared.record.Tried.{Tried}
-use Rattle.running.specs.Resume.{record_kind_at, rest_at, is_step, later_found, single, record_from, rest_from, RunAt, Resumes, UsualAt, Tries, WholeBelow, whole_from, RunStands}
-use Rattle.running.proofs.Checks.{step_short, found-later, usual_ready}
+use Rattle.running.specs.Resume.{record_kind_at, rest_at, is_step, later_found, record_from, rest_from, RunAt, Resumes, UsualAt, Tries, WholeBelow, whole_from, RunStands}
+use Rattle.running.proofs.Checks.{step_short, found-later}
 use Rattle.running.proofs.Singles.{halts_here, single_halts}
 use Rattle.running.proofs.Running.{Going, going, run_ends, single_stops, single-goes, single_further}
 
@@ -26,7 +25,7 @@ drop_further out n e e₀ h k =
 
 -- ---- what is left in the caller's hands, behind other bytes
 
-runs_behind : {o : Result Lent} {e : List ℕ} {r : Ran} {f : List ℕ} {M : Lent} (out : ℕ) (e₀ : List ℕ) → drop out e ≡ drop out e₀ → out ≤ length o.events → Runs o e r f M
+runs_behind : {o : RunResult Lent} {e : List ℕ} {r : Ran} {f : List ℕ} {M : Lent} (out : ℕ) (e₀ : List ℕ) → drop out e ≡ drop out e₀ → out ≤ length o.events → Runs o e r f M
     → Runs o e₀ r f M
 runs_behind {o} {e} out e₀ same far h = record {
   stop = h.stop;
@@ -37,7 +36,7 @@ runs_behind {o} {e} out e₀ same far h = record {
 }
 
 -- where o and p come to the same
-resumes_as : {S : Settings} {o p : Tables → Result Tables} {s : List ℕ} {at out : ℕ} {e : List ℕ} {L : Lent} {r : Ran} {f : List ℕ} {M : Lent}
+resumes_as : {S : Settings} {o p : Tables → RunResult Tables} {s : List ℕ} {at out : ℕ} {e : List ℕ} {L : Lent} {r : Ran} {f : List ℕ} {M : Lent}
     → ((t : Tables) → Encodes S L t → p t ≡ o t) → Resumes S o s at out e L r f M → Resumes S p s at out e L r f M
 resumes_as same u = record { on = λ t i. rw (same t i) (u.on t i); keeps = λ t i. rw (same t i) (u.keeps t i); stands = u.stands }
 
@@ -86,14 +85,14 @@ module _ {S : Settings} {s : List ℕ} where
           let x = g.leads t₀ i in
           let w = length-take-le out e g.here.room in
           let far : out ≤ length (take out e ++ (rest_from S s at out e x.tables).events) = rw length-append (omega arith) in
-          subst (λ (o : Result Tables). Runs (lent_result S o) e₀ r f M) x.same (runs_behind out e₀ g.beyond far (u.on x.tables x.are));
+          subst (λ (o : RunResult Tables). Runs (lent_result S o) e₀ r f M) x.same (runs_behind out e₀ g.beyond far (u.on x.tables x.are));
       keeps = λ t₀ i.
           let x = g.leads t₀ i in
-          subst (λ (o : Result Tables). Encodes S M o.tables) x.same (u.keeps x.tables x.are);
+          subst (λ (o : RunResult Tables). Encodes S M o.tables) x.same (u.keeps x.tables x.are);
       stands = u.stands;
     }
 
-    pub goes-ends : length s ≤ at → Resumes S (rest_from S s at₀ out₀ e₀) s at₀ out₀ e₀ L₀ record { stop = stop.Nothing; consumed = at; written = out } e L
+    pub goes-ends : length s ≤ at → Resumes S (rest_from S s at₀ out₀ e₀) s at₀ out₀ e₀ L₀ record { stop = None; consumed = at; written = out } e L
     goes-ends end = goes-whole (halts_here g.here (λ t. run_ends S (length e - out) s at t end))
 
     -- one record more, that stops
@@ -164,54 +163,28 @@ module _ {S : Settings} {s : List ℕ} {at₀ out₀ : ℕ} {e₀ : List ℕ} {L
         roomy = omega arith;
       }
 
--- the last test failed
-pub moved_ends : {at₀ out₀ at out limit ample : ℕ} → Moved at₀ out₀ at out → (ltb at limit && ltb out ample) ≡ false → at₀ < limit → out₀ < ample → at₀ < at
-moved_ends {at₀} {out₀} {at} {out} {limit} {ample} moved test a b =
-    ⊎_elim
-    (λ (h : at₀ < at). h)
-    (λ (h : (at ≡ at₀) × (out ≡ out₀)). clash (and_i (lt-ltb at limit (omega (arith, h.0))) (lt-ltb out ample (omega (arith, h.1)))) test)
-    moved
+-- at a step's
+module _ {S : Settings} {s : List ℕ} (w v : Went) {e : List ℕ} {L : Lent} {f : List ℕ} {M : Lent} (x : Tries S s w e L (Some v) f M)
+    {at₀ out₀ : ℕ} {e₀ : List ℕ} {L₀ : Lent} (g : RunStands S s at₀ out₀ e₀ L₀ w.at w.out e L) {limit ample : ℕ}
+    (below : WholeBelow s at₀ limit) (fits : ample ≡ length e₀ + 1 - event_room) (test : (ltb w.at limit && ltb w.out ample) ≡ true) (start : SoundSlices S L₀) where
+  u : UsualAt s w.at w.out e
+  u = usual_at g below fits test
 
-module _ {S : Settings} {s : List ℕ} {at out : ℕ} {e : List ℕ} {L : Lent} {q m : ℕ} {r : Tried} {f : List ℕ} {M : Lent} (x : Tries S s at out e L q m r f M) where
-  -- at a record that is no step's
-  module _ (none : r.stepped ≡ false) where
-    pub usual-rests : {at₀ out₀ : ℕ} {e₀ : List ℕ} {L₀ : Lent} → RunStands S s at₀ out₀ e₀ L₀ at out e L
-        → RunStands S s at₀ out₀ e₀ L₀ r.went.ran.consumed r.went.ran.written f M
-    usual-rests g = let y = x.stays none in rw (y.0, y.1, y.2) g
+  held : SoundSlices S L
+  held = run-stands-held g start
 
-    pub moved-rests : {at₀ out₀ : ℕ} → Moved at₀ out₀ at out → is_step (record_kind_at s at₀) ≡ true → at₀ < r.went.ran.consumed
-    moved-rests {at₀} {out₀} moved step =
-        let c : r.went.ran.consumed ≡ at = ap (λ (w : Went). w.ran.consumed) (x.stays none).0 in
-        ⊎_elim
-        (λ (h : at₀ < at). omega arith)
-        (λ (h : (at ≡ at₀) × (out ≡ out₀)). clash (ap (λ (i : ℕ). is_step (record_kind_at s i)) h.0 ∙ step) (sym x.tells ∙ none))
-        moved
+  further : w.at < v.at
+  further = record-further u.stands u.inside x.1 held refl
 
-  -- at a step's
-  module _ {at₀ out₀ : ℕ} {e₀ : List ℕ} {L₀ : Lent} (g : RunStands S s at₀ out₀ e₀ L₀ at out e L) {limit ample : ℕ} (below : WholeBelow s at₀ limit)
-      (fits : ample ≡ length e₀ + 1 - event_room) (test : (ltb at limit && ltb out ample) ≡ true) (start : SoundSlices S L₀) (taken : r.stepped ≡ true) where
-    u : UsualAt s at out e
-    u = usual_at g below fits test
+  pub usual-nearer : length s - v.at < length s - w.at
+  usual-nearer = omega (arith, further, x.1.stands.inside)
 
-    held : SoundSlices S L
-    held = run-stands-held g start
+  pub usual-moved : Moved at₀ out₀ v.at v.out
+  usual-moved = inl (omega (arith, g.further, further))
 
-    gone : goes_on r.went.ran.stop ≡ true
-    unfolding single
-    gone = rw (((x.steps taken).on held.tables held.are).stop, (usual_ready u (sym x.tells ∙ taken)).goes)
-
-    further : at < r.went.ran.consumed
-    further = record-further u.stands u.inside (x.steps taken) held gone
-
-    pub usual-nearer : length s - r.went.ran.consumed < length s - at
-    usual-nearer = omega (arith, further, (x.steps taken).stands.inside)
-
-    pub usual-moved : Moved at₀ out₀ r.went.ran.consumed r.went.ran.written
-    usual-moved = inl (omega (arith, g.further, further))
-
-    pub usual-stands : length f ≡ length e → length M.longs ≡ length L.longs → length M.words ≡ length L.words → length M.marks ≡ length L.marks
-        → RunStands S s at₀ out₀ e₀ L₀ r.went.ran.consumed r.went.ran.written f M
-    usual-stands size longs words marks = run-stands-then g (record-stands u.stands u.inside (x.steps taken) held gone size longs words marks)
+  pub usual-stands : length f ≡ length e → length M.longs ≡ length L.longs → length M.words ≡ length L.words → length M.marks ≡ length L.marks
+      → RunStands S s at₀ out₀ e₀ L₀ v.at v.out f M
+  usual-stands size longs words marks = run-stands-then g (record-stands u.stands u.inside x.1 held refl size longs words marks)
 
 -- ---- the run: the usual records, then one that is judged in full
 
@@ -224,18 +197,18 @@ whole_first {s} ends = record {
 
 -- the record there, by what reading it came to
 module _ {S : Settings} {s : List ℕ} {at₀ out₀ : ℕ} {e₀ : List ℕ} {L₀ : Lent} {at out : ℕ} {e : List ℕ} {L : Lent} (g : RunStands S s at₀ out₀ e₀ L₀ at out e L)
-    (inside : at < length s) {found : Record} (read : found ≡ read_at s at) {n : Stop} (d : n ≡ later_found (length e - out) (record_kind_at s at) found)
-    {b : Bool} (said : b ≡ goes_on n) where
+    (inside : at < length s) {found : Result Body Stop} (read : found ≡ read_at s at) {n : Option Stop} (d : n ≡ later_found (length e - out) (record_kind_at s at) found)
+    {b : Bool} (said : b ≡ is_some n) where
   stop_is : n ≡ later_stop (length e - out) (record_kind_at s at) (rest_at s at)
   stop_is = found-later s at inside read (length e - out) d
 
-  pub judged_stops : not b ≡ true → Resumes S (rest_from S s at₀ out₀ e₀) s at₀ out₀ e₀ L₀ record { stop = n; consumed = at; written = out } e L
-  judged_stops t = let stops = said_no said t in goes-stops g inside (single_halts S s at out e L g.here stop_is stops) stops
+  pub judged_stops : b ≡ true → Resumes S (rest_from S s at₀ out₀ e₀) s at₀ out₀ e₀ L₀ record { stop = n; consumed = at; written = out } e L
+  judged_stops t = let stops : goes_on n ≡ false = ap not (sym said ∙ t) in goes-stops g inside (single_halts S s at out e L g.here stop_is stops) stops
 
-  judged : not b ≡ false → Going (length e - out) (record_kind_at s at) (rest_at s at)
-  judged t = going _ _ _ (rw (← stop_is) (said_yes said t))
+  judged : b ≡ false → Going (length e - out) (record_kind_at s at) (rest_at s at)
+  judged t = going _ _ _ (rw (← stop_is) (ap not (sym said ∙ t)))
 
-  pub whole_one : not b ≡ false → WholeBelow s at (at + 1)
+  pub whole_one : b ≡ false → WholeBelow s at (at + 1)
   whole_one t = record {
     inside = omega arith;
     whole = λ i h below step.
@@ -246,7 +219,7 @@ module _ {S : Settings} {s : List ℕ} {at₀ out₀ : ℕ} {e₀ : List ℕ} {L
   }
 
   -- so the run came further, or comes further from there
-  module _ (t : not b ≡ false) {limit ample : ℕ} (fits : ample ≡ length e₀ + 1 - event_room) (moves : at₀ < limit → out₀ < ample → is_step (record_kind_at s at₀) ≡ true → at₀ < at) where
+  module _ (t : b ≡ false) {limit ample : ℕ} (fits : ample ≡ length e₀ + 1 - event_room) (moves : at₀ < limit → out₀ < ample → is_step (record_kind_at s at₀) ≡ true → at₀ < at) where
     pub run-nearer : length s - at + (1 - (at + 1 - at)) < length s - at₀ + (1 - (limit - at₀))
     run-nearer = by (dec_le (suc at₀) at) (dec_le (suc at₀) limit)
       where

@@ -1,16 +1,14 @@
 -- The numbers of a script's line.
-use Rattle.std.specs.Prelude.{ℕ, List, length}
+use Rattle.std.specs.Prelude.{ℕ, List, length, Result, Ok, Err}
 use Rattle.text.specs.Words.{skip_spaces}
 use Rattle.text.specs.Digits.{parse_number}
-use Rattle.text.specs.declared.Parsed.{Parsed}
-use Rattle.text.specs.declared.Parsed.TheVariants as parsed
-use Rattle.scripts.specs.declared.Number.{Number}
+use Rattle.text.specs.declared.Number.{Number}
+use Rattle.text.specs.declared.NotANumber.{NotANumber}
 
 -- a number that was found, or 0 at the end of s
-abbrev pub or_none : List ℕ → Parsed → Number
-or_none s (parsed.Number v next) = record { value = v; next = next }
-or_none s parsed.Nothing = record { value = 0; next = length s }
-or_none s parsed.TooLarge = record { value = 0; next = length s }
+abbrev pub or_none : List ℕ → Result Number NotANumber → Number
+or_none s (Ok n) = n
+or_none s (Err e) = record { value = 0; next = length s }
 
 -- the next word of s as a number
 abbrev pub number_word : List ℕ → ℕ → Number

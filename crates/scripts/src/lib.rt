@@ -7,71 +7,25 @@ ghost use Rattle.model.specs.Lent.{lent};
 ghost use Rattle.scripts.specs.Numbers.{number_word};
 ghost use Rattle.scripts.specs.Same.{Tells};
 
-use text::Parsed;
-
-// A number of a line and the place behind it.
-#[derive(Clone, Copy)]
-pub struct Number {
-    pub value: u64,
-    pub next: usize,
-}
+use text::Number;
 
 // The next word of a line as a number; 0, at the end of the line, where it is none.
 pub fn number_next(line: &[u8], at: usize) -> Number
     ensures { result ≡ number_word line.now at }
 {
-    match text::parse_number(line, text::skip_spaces(line, at)) {
-        Parsed::Number { value, next } => Number { value, next },
-        Parsed::Nothing => Number {
-            value: 0,
-            next: line.len(),
-        },
-        Parsed::TooLarge => Number {
-            value: 0,
-            next: line.len(),
-        },
-    }
+    let none = Number {
+        value: 0,
+        next: line.len(),
+    };
+    text::parse_number(line, text::skip_spaces(line, at)).unwrap_or(none)
 }
 
-// The smaller of two, as for a part of a slice that may be asked to be longer than that.
+// The smaller of two, as for a part of a slice that may be asked to be longer than that. A function of its own and not `min` at each place,
+// since an edit of it shows what else would be lent (`more_lent_than_there_is`).
 pub fn least(a: usize, b: usize) -> usize
     ensures { (result ≡ min a b) × (result ≤ b) }
 {
-    if a < b { a } else { b }
-}
-
-// Whether two slices of 64-bit numbers hold the same.
-fn same_longs(a: &[u64], b: &[u64]) -> bool
-    ensures { Tells a.now b.now result }
-{
-    if a.len() != b.len() {
-        return false;
-    }
-    let mut i = 0;
-    while i < a.len() {
-        if a[i] != b[i] {
-            return false;
-        }
-        i += 1;
-    }
-    true
-}
-
-// Whether two slices of 32-bit numbers hold the same.
-fn same_words(a: &[u32], b: &[u32]) -> bool
-    ensures { Tells a.now b.now result }
-{
-    if a.len() != b.len() {
-        return false;
-    }
-    let mut i = 0;
-    while i < a.len() {
-        if a[i] != b[i] {
-            return false;
-        }
-        i += 1;
-    }
-    true
+    a.min(b)
 }
 
 // Whether three lent slices hold what three others hold.
@@ -86,5 +40,5 @@ pub fn same_tables(
     ensures { Tells (lent longs.now words.now marks.now)
         (lent long.now word.now mark.now) result }
 {
-    same_longs(longs, long) & same_words(words, word) & check::same(marks, mark)
+    longs == long && words == word && marks == mark
 }

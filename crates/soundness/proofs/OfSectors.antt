@@ -1,5 +1,5 @@
 -- What the functions of sectors answer.
-use Rattle.words.proofs.General.{ℕ, zero, suc, ◌+◌, arith, ◌≡◌, refl, sym, ◌∙◌, Bool, true, false, not, ◌&&◌, ◌||◌, Bool·beq, and_assoc, List, get_or, eqb, leb, lt-leb, imp, every}
+use Rattle.words.proofs.General.{ℕ, zero, suc, ◌+◌, ◌-◌, ◌≤◌, ◌<◌, length, take, drop, length-take-le, length-drop, get_or-take, get_or-drop, arith, ◌≡◌, refl, sym, ◌∙◌, Bool, true, false, not, ◌&&◌, ◌||◌, Bool·beq, and_assoc, List, get_or, eqb, leb, lt-leb, imp, every}
 use Rattle.words.proofs.General.{or_1, every_at, every_i, every-same}
 use Rattle.model.specs.declared.Settings.{Settings}
 use Rattle.model.proofs.Terms.{status_at, mask_at, readable_at, all_ones, sector_shape, sector_backed}
@@ -28,6 +28,13 @@ mask_shape_lem (suc (suc (suc (suc n)))) low none fine = rw (lt-leb (suc (suc (s
 parts : (a b c d n : Bool) → (a && imp n b && (c && imp n d)) ≡ (a && c && imp n (b && d))
 parts a b c d true = swap a b c d
 parts a b c d false = swap a true c true
+
+-- n numbers from number a on
+pub part_read : (l : List ℕ) (a n i : ℕ) → i < n → get_or (take (a + n - a) (drop a l)) i 0 ≡ get_or l (a + i) 0
+part_read l a n i h = let e : a + n - a ≡ n = omega arith in rw e (get_or-take n (drop a l) i 0 h ∙ get_or-drop a l i 0)
+
+pub part_long : (l : List ℕ) (a n : ℕ) → a + n ≤ length l → length (take (a + n - a) (drop a l)) ≡ n
+part_long l a n h = let e : a + n - a ≡ n = omega arith in rw e (length-take-le n (drop a l) (rw length-drop (omega arith)))
 
 module _ (S : Settings) (longs words marks : List ℕ) where
   abbrev status : ℕ → ℕ

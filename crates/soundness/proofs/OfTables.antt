@@ -1,9 +1,11 @@
 -- What `tables_sound` answers, of what the checks of each part ensure.
 use Rattle.words.proofs.General.{ℕ, zero, suc, ◌+◌, ◌*◌, ◌-◌, ◌^◌, ◌<◌, add-zero, arith, ◌≡◌, refl, sym, ◌∙◌, Bool, true, false, not, ◌&&◌, and-false, and-true, List, get_or, leb}
-use Rattle.words.proofs.General.{ltb, eqb, le-ltb, eqb-true, eq-eqb, ne_eqb, pick, every, imp, and_1, and_2, not_yes, no-not, clash, imp_use, every_at}
+use Rattle.words.proofs.General.{length, take, drop, length-take-le, length-drop, get_or-take, get_or-drop, every-same, ltb, eqb, le-ltb, eqb-true, eq-eqb, ne_eqb, pick, every, imp, and_1, and_2, not_yes, no-not, clash, imp_use, every_at}
 use Rattle.model.specs.declared.Settings.{Settings}
 use Rattle.model.proofs.Terms.{lines_of, is_tree, now_at, queue_kind_at, last_cycle, gathered, now_fine, lines_fine, sector_fine, ticket_fine, entry_fine, place_fine, sound_numbers, count_fine}
-use Rattle.model.proofs.Terms.{set_fine, tree_fine}
+use Rattle.model.proofs.Terms.{set_fine, tree_fine, tree_at, words_from, tree_region, told}
+use Rattle.layout.specs.declared.geometry.Slices.{Slices}
+use Rattle.layout.specs.Held.{held}
 use Rattle.layout.specs.declared.Layout.{Layout}
 use Rattle.layout.specs.Layout.{LaysOut}
 use Rattle.layout.specs.Places.{First}
@@ -79,3 +81,22 @@ below_limit S t = go (is_tree S) t
     go : (b : Bool) (t : ℕ) → ltb t (pick b (2 ^ (S.ways - 1)) 1) ≡ tree_fine b S.ways t
     go true t = refl
     go false t = none t
+
+-- every tree of the slice is below the limit
+pub trees_below : (t : Slices) {most : ℕ} → most ≡ tree_limit t.geometry.settings
+    → (read : List ℕ) → read ≡ take t.geometry.settings.sets (drop t.geometry.at.trees t.words.now)
+    → every (length read) (λ k. ltb (get_or read k 0) most) ≡ every t.geometry.settings.sets (held t set_fine)
+trees_below t {most} e read q =
+    rw (q, long) (every-same _ _ S.sets (λ k h. rw (e, get_or-take S.sets (drop t.geometry.at.trees words) k 0 h, get_or-drop t.geometry.at.trees words k 0, read_from trees words k) (below_limit S (tree_at S words k))))
+  where
+    S : Settings
+    S = t.geometry.settings
+
+    words : List ℕ
+    words = t.words.now
+
+    trees : t.geometry.at.trees ≡ words_from S tree_region
+    trees = told t.geometry.laid.trees
+
+    long : length (take S.sets (drop t.geometry.at.trees words)) ≡ S.sets
+    long = length-take-le S.sets (drop t.geometry.at.trees words) (rw length-drop (omega (arith, trees, told t.sized.words_long)))

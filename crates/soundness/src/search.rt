@@ -1,86 +1,57 @@
 // An address looked for among the miss entries and the queue's reads. The address is compared first, since it seldom is the one.
-ghost use Rattle.std.specs.Prelude.{◌≡◌, ◌≤◌};
+ghost use Rattle.std.specs.Prelude.{◌≡◌, ◌≤◌, ◌<◌};
 ghost use Rattle.words.specs.Words.{some, count_below};
-ghost use Rattle.model.specs.Inner.{Sized};
 ghost use Rattle.model.specs.SoundLent as is;
-ghost use Rattle.layout.specs.Layout.{LaysOut};
-ghost use Rattle.soundness.specs.Queued.{Queued};
+ghost use Rattle.layout.specs.Held.{held};
 
-use layout::Layout;
-use model::{SectorAddress, Settings};
+use crate::first::FineLines;
+use layout::Slices;
+use model::SectorAddress;
+
+// Entry `e` is in use and has the address.
+fn is_entry(t: &Slices, e: usize, a: SectorAddress) -> bool
+    requires { e < t.now.geometry.settings.misses }
+    ensures { result ≡ held t.now is.entry_at_for a.0 e }
+{
+    let at = &t.geometry.at;
+    t.longs[at.misses + e] == a.0 && t.marks[at.counts + e] != 0
+}
+
+// Entry `e` is in use, unsent, and has the address.
+fn is_unsent(t: &Slices, e: usize, a: SectorAddress) -> bool
+    requires { e < t.now.geometry.settings.misses }
+    ensures { result ≡ held t.now is.unsent_at_for a.0 e }
+{
+    is_entry(t, e, a) && t.marks[t.geometry.at.sent + e] == 0
+}
+
+// Queue place `p` has a read of the address.
+fn is_read(t: &Slices, p: usize, a: SectorAddress) -> bool
+    requires { p < t.now.geometry.settings.queue }
+    ensures { result ≡ held t.now is.read_for a.0 p }
+{
+    let at = &t.geometry.at;
+    t.longs[at.queue + p] == a.0 && t.marks[at.kinds + p] == 1
+}
 
 // One of the first `n` entries is in use and has the address.
-pub(crate) fn has_entry(
-    s: Settings,
-    at: Layout,
-    longs: &[u64],
-    words: &[u32],
-    marks: &[u8],
-    n: usize,
-    a: SectorAddress,
-) -> bool
-    requires { LaysOut s at × Sized s longs.now words.now marks.now × (n ≤ s.misses) }
-    ensures { result ≡ some n (is.entry_at_for s longs.now words.now marks.now a.0) }
+pub(crate) fn has_entry(t: &Slices, n: usize, a: SectorAddress) -> bool
+    requires { n ≤ t.now.geometry.settings.misses }
+    ensures { result ≡ some n (held t.now is.entry_at_for a.0) }
 {
-    let mut e = 0;
-    while e < n {
-        if longs[at.misses + e] == a.0 {
-            if marks[at.counts + e] != 0 {
-                return true;
-            }
-        }
-        e += 1;
-    }
-    false
+    (0..n).any(|e| is_entry(t, e, a))
 }
 
 // An unsent entry has the address.
-pub(crate) fn has_unsent(
-    s: Settings,
-    at: Layout,
-    longs: &[u64],
-    words: &[u32],
-    marks: &[u8],
-    a: SectorAddress,
-) -> bool
-    requires { LaysOut s at × Sized s longs.now words.now marks.now }
-    ensures { result ≡ some s.misses (is.unsent_at_for s longs.now words.now marks.now a.0) }
+pub(crate) fn has_unsent(t: &Slices, a: SectorAddress) -> bool
+    ensures { result ≡ some t.now.geometry.settings.misses (held t.now is.unsent_at_for a.0) }
 {
-    let n = s.misses;
-    let mut e = 0;
-    while e < n {
-        if longs[at.misses + e] == a.0 {
-            if (marks[at.counts + e] != 0) & (marks[at.sent + e] == 0) {
-                return true;
-            }
-        }
-        e += 1;
-    }
-    false
+    (0..t.geometry.settings.misses).any(|e| is_unsent(t, e, a))
 }
 
-// How many reads of the address are queued, which are among the first `n` places.
-pub(crate) fn reads_for(
-    s: Settings,
-    at: Layout,
-    longs: &[u64],
-    words: &[u32],
-    marks: &[u8],
-    n: usize,
-    a: SectorAddress,
-) -> usize
-    requires { LaysOut s at × Sized s longs.now words.now marks.now × Queued s marks.now n }
-    ensures { result ≡ count_below s.queue (is.read_for s longs.now words.now marks.now a.0) }
+// How many reads of the address are queued, all of them among the places in use.
+pub(crate) fn reads_for(f: &FineLines, a: SectorAddress) -> usize
+    ensures { result ≡ count_below f.now.slices.geometry.settings.queue (held f.now.slices is.read_for a.0) }
 {
-    let mut count = 0;
-    let mut p = 0;
-    while p < n {
-        if longs[at.queue + p] == a.0 {
-            if marks[at.kinds + p] == 1 {
-                count += 1;
-            }
-        }
-        p += 1;
-    }
-    count
+    (0..f.queued).filter(|&p| is_read(&f.slices, p, a)).count()
 }

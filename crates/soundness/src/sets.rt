@@ -1,12 +1,11 @@
 // Condition 29 of sound tables: no tree has a bit beyond the nodes in use, and none has any under another rule.
-ghost use Rattle.std.specs.Prelude.{◌≡◌, ◌≤◌, ◌<◌};
+ghost use Rattle.std.specs.Prelude.{◌≡◌, ◌≤◌};
 ghost use Rattle.words.specs.Words.{every};
-ghost use Rattle.model.specs.Inner.{Sized};
 ghost use Rattle.model.specs.SoundLent as is;
-ghost use Rattle.layout.specs.Layout.{LaysOut};
+ghost use Rattle.layout.specs.Held.{held};
 ghost use Rattle.soundness.specs.Limits.{tree_limit};
 
-use layout::Layout;
+use layout::Slices;
 use model::Settings;
 
 // What every tree is below.
@@ -20,41 +19,12 @@ fn limit(s: Settings) -> u32
     1
 }
 
-// The tree of set `i` is below the limit.
-fn set_fine(
-    s: Settings,
-    at: Layout,
-    longs: &[u64],
-    words: &[u32],
-    marks: &[u8],
-    most: u32,
-    i: usize,
-) -> bool
-    requires { LaysOut s at × Sized s longs.now words.now marks.now × (most ≡ tree_limit s) × (i < s.sets) }
-    ensures { result ≡ is.set_fine s longs.now words.now marks.now i }
-{
-    words[at.trees + i] < most
-}
-
 // The condition on every set's tree.
-pub(crate) fn trees_fine(
-    s: Settings,
-    at: Layout,
-    longs: &[u64],
-    words: &[u32],
-    marks: &[u8],
-) -> bool
-    requires { LaysOut s at × Sized s longs.now words.now marks.now }
-    ensures { result ≡ every s.sets (is.set_fine s longs.now words.now marks.now) }
+pub(crate) fn trees_fine(t: &Slices) -> bool
+    ensures { result ≡ every t.now.geometry.settings.sets (held t.now is.set_fine) }
 {
-    let n = s.sets;
-    let most = limit(s);
-    let mut i = 0;
-    while i < n {
-        if !set_fine(s, at, longs, words, marks, most, i) {
-            return false;
-        }
-        i += 1;
-    }
-    true
+    let first = t.geometry.at.trees;
+    let sets = t.geometry.settings.sets;
+    let most = limit(t.geometry.settings);
+    t.words[first..first + sets].iter().all(|tree| *tree < most)
 }

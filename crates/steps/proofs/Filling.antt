@@ -224,14 +224,13 @@ module _ (S : Settings) (a : ℕ) (t : Tables) {longs words marks : List ℕ} (i
         (subst (λ (x : ℕ). any (holds (block_of x)) t.lines ≡ true) is (entry_at S t ok (get_or t.misses e no_entry) (in_get_or t.misses e no_entry below)).held)
 
     -- its tickets are some, and behind them its row is 0 when the line is filled
-    pub fill-row : {r : Reply} {words₁ marks₁ : List ℕ} → S.readers * e + S.readers ≤ S.readers * S.misses
-        → r ≡ releasing a (region words (at.tickets + S.readers * e) (get_or marks (at.counts + e) 0))
+    pub fill-row : {c : ℕ} {words₁ marks₁ : List ℕ} → S.readers * e + S.readers ≤ S.readers * S.misses
+        → c ≡ get_or marks (at.counts + e) 0
         → LineFilled S at (block_of a) (sector_index a) longs words marks words₁ marks₁ → at.tickets + S.readers * S.misses ≤ length words
-        → (1 ≤ r.count) × (r.count ≤ S.readers) × ZerosFrom words₁ (at.tickets + S.readers * e) r.count S.readers
+        → (1 ≤ c) × (c ≤ S.readers) × ZerosFrom words₁ (at.tickets + S.readers * e) c S.readers
     fill-row s q line room =
         let n : length (get_or t.misses e no_entry).tickets ≡ get_or marks (at.counts + e) 0 = sym (count_at S t h p (few_misses S t ok) e below) in
-        let c : _ ≡ length (get_or t.misses e no_entry).tickets =
-        ap (λ (y : Reply). y.count) q ∙ length-region words (at.tickets + S.readers * e) (get_or marks (at.counts + e) 0) (omega (arith, fill-count)) ∙ sym n in
+        let c : _ ≡ length (get_or t.misses e no_entry).tickets = q ∙ sym n in
         rw c (some_tickets S t ok e below, few_tickets S t ok e below, tickets-past S _ (line_stands S t ok h p a line) p (few_misses S t ok) e below)
 
     -- the tickets, as they are told

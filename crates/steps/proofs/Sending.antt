@@ -1,7 +1,7 @@
 -- Send: what its parts leave is what the step on the tables says.
-use Rattle.words.proofs.General.{ℕ, ◌+◌, ◌*◌, ◌≤◌, ◌<◌, arith, ◌≡◌, refl, sym, ap, subst, ◌∙◌, true, List, length, get_or, drop, drop-cons, eq-eqb, closed, none_of}
+use Rattle.words.proofs.General.{ℕ, ◌+◌, ◌*◌, ◌≤◌, ◌<◌, arith, ◌≡◌, refl, sym, ap, subst, ◌∙◌, List, length, get_or, drop, drop-cons, closed, none_of}
 use native.Mathlib.Decide.{dec_le}
-use Rattle.model.proofs.Terms.{queue_kind_number, is_fetch, idle, Tables, with_misses, lent, marked_for, marked, after_send, send_from, send, sent_event, encoded, Leaves, Encodes}
+use Rattle.model.proofs.Terms.{is_fetch, idle, Tables, with_misses, lent, marked_for, marked, after_send, send_from, send, sent_event, encoded, Leaves, Encodes}
 use Rattle.model.specs.declared.Settings.{Settings}
 use Rattle.model.specs.declared.QueueKind.{QueueKind}
 use Rattle.model.specs.declared.QueueKind.TheVariants as queue
@@ -11,13 +11,12 @@ use Rattle.model.specs.declared.Event.{Event}
 use Rattle.model.specs.declared.Event.TheVariants as event
 use Rattle.model.specs.declared.Reply.{Reply}
 use Rattle.model.proofs.SoundFacts.{Sound, parts, few_misses, few_queued}
-use Rattle.encoding.proofs.NumbersAreTables.{fetch_number}
 use Rattle.tables.specs.Raw.{front_at}
 use Rattle.layout.specs.declared.Layout.{Layout}
 use Rattle.layout.specs.Layout.{LaysOut}
 use Rattle.layout.specs.Places.{First}
 use Rattle.tables.specs.Telling.{telling}
-use Rattle.tables.proofs.Queue.{pop_stands, head-kind, head-address, front-is, queue_counted}
+use Rattle.tables.proofs.Queue.{pop_stands, front-is, queue_counted}
 use Rattle.layout.proofs.ByBlocks.{ByBlocks, is_stands, stands_encode}
 use Rattle.tables.proofs.Misses.{address-at, sent-stands, entry_first}
 use Rattle.tables.proofs.Tellings.{telling-tells, telling_tidy, refusal_leaves, done_leaves}
@@ -57,36 +56,39 @@ module _ (S : Settings) (t : Tables) {longs words marks : List ℕ} (i : Encodes
     abbrev head : Queued
     head = get_or t.queue 0 idle
 
-    kind_is : get_or marks at.kinds 0 ≡ queue_kind_number head.kind
-    kind_is = head-kind S t h p (few_queued S t ok) some
+    module _ {x : Queued} (front : x ≡ front_at longs at.queue words at.backs marks at.kinds) where
+      is_head : x ≡ head
+      is_head = front ∙ front-is S t h p (few_queued S t ok) some (head-four S t ok some)
 
-    address_is : get_or longs at.queue 0 ≡ head.address
-    address_is = head-address S t h p (few_queued S t ok) some
+      kind_is : x.kind ≡ head.kind
+      kind_is = ap (λ (y : Queued). y.kind) is_head
 
-    pub send-asked : HeadAsked at S.misses longs marks
-    send-asked e =
-        let f : is_fetch head.kind ≡ true = sym (fetch_number head.kind) ∙ eq-eqb (queue_kind_number head.kind) 1 (sym kind_is ∙ e) in
-        let (k, b, q) = head-entry S t ok some f in
-        (k, omega (arith, few_misses S t ok), address-at S t h p (few_misses S t ok) k b ∙ q ∙ sym address_is)
+      address_is : x.address ≡ head.address
+      address_is = ap (λ (y : Queued). y.address) is_head
 
-    module _ {marks₁ : List ℕ} (m : HeadMarked at S.misses longs marks marks₁) where
-      marked-stands : (k : QueueKind) → head.kind ≡ k → ByBlocks S longs words marks₁ (with_misses (marked_for k head.address t.misses) t)
-      marked-stands queue.Read e =
-          let few = few_misses S t ok in
-          let d : Marked at S.misses longs (get_or longs at.queue 0) marks marks₁ = m.reads (kind_is ∙ ap queue_kind_number e) in
-          let (k, b, q) = head-entry S t ok some (ap is_fetch e) in
-          let g = entry_first S t h p few d.first d.inside k b (q ∙ sym address_is) in
-          rw (marked-one S t ok head.address d.entry g.0 (g.1 ∙ address_is)) (sent-stands S t h p few d.entry g.0 d.marks_are)
-      marked-stands queue.WriteBack e =
-          subst (λ (l : List ℕ). ByBlocks S longs words l t) (sym (m.other (λ one. let z : ◌≡◌ {A = ℕ} 2 1 = sym (kind_is ∙ ap queue_kind_number e) ∙ one in omega arith))) h
+      pub send-asked : HeadAsked at S.misses longs x
+      send-asked e =
+          let (k, b, q) = head-entry S t ok some (ap is_fetch (sym kind_is ∙ e)) in
+          (k, omega (arith, few_misses S t ok), address-at S t h p (few_misses S t ok) k b ∙ q ∙ sym address_is)
 
-      pub send-leaves : {longs₁ words₁ marks₂ : List ℕ} {first : Event} {r : Reply}
-          → (longs₁ ≡ closed longs at.queue n 1) × (words₁ ≡ closed words at.backs (4 * n) 4) × (marks₂ ≡ closed marks₁ at.kinds n 1)
-          → {x : Queued} → x ≡ front_at longs at.queue words at.backs marks at.kinds → first ≡ sent_event x → r ≡ telling first
-          → Leaves (encoded S (send t)) (lent longs words marks) r (lent longs₁ words₁ marks₂)
-      unfolding send
-      send-leaves c front f e =
-          let reply = e ∙ ap telling (f ∙ ap sent_event (front ∙ front-is S t h p (few_queued S t ok) some (head-four S t ok some))) in
-          let popped = pop_stands S (with_misses (marked head t.misses) t) (marked-stands head.kind refl) p (few_queued S t ok) n some (omega (arith, queued)) u.most c in
-          done_leaves S {t = after_send head (drop 1 t.queue) t} (ap (λ (q : List Queued). send_from q t) (drop-cons t.queue 0 idle some))
-          (rw reply (telling-tells (sent_event head))) (rw reply (telling_tidy (sent_event head))) (stands_encode popped)
+      module _ {marks₁ : List ℕ} (m : HeadMarked at S.misses longs x marks marks₁) where
+        marked-stands : (k : QueueKind) → head.kind ≡ k → ByBlocks S longs words marks₁ (with_misses (marked_for k head.address t.misses) t)
+        marked-stands queue.Read e =
+            let few = few_misses S t ok in
+            let d : Marked at S.misses longs x.address marks marks₁ = m.reads (kind_is ∙ e) in
+            let (k, b, q) = head-entry S t ok some (ap is_fetch e) in
+            let g = entry_first S t h p few d.first d.inside k b (q ∙ sym address_is) in
+            rw (marked-one S t ok head.address d.entry g.0 (g.1 ∙ address_is)) (sent-stands S t h p few d.entry g.0 d.marks_are)
+        marked-stands queue.WriteBack e =
+            subst (λ (l : List ℕ). ByBlocks S longs words l t) (sym (m.other (λ one. let z : queue.WriteBack ≡ queue.Read = sym (kind_is ∙ e) ∙ one in cc))) h
+
+        pub send-leaves : {longs₁ words₁ marks₂ : List ℕ} {first : Event} {r : Reply}
+            → (longs₁ ≡ closed longs at.queue n 1) × (words₁ ≡ closed words at.backs (4 * n) 4) × (marks₂ ≡ closed marks₁ at.kinds n 1)
+            → first ≡ sent_event x → r ≡ telling first
+            → Leaves (encoded S (send t)) (lent longs words marks) r (lent longs₁ words₁ marks₂)
+        unfolding send
+        send-leaves c f e =
+            let reply = e ∙ ap telling (f ∙ ap sent_event is_head) in
+            let popped = pop_stands S (with_misses (marked head t.misses) t) (marked-stands head.kind refl) p (few_queued S t ok) n some (omega (arith, queued)) u.most c in
+            done_leaves S {t = after_send head (drop 1 t.queue) t} (ap (λ (q : List Queued). send_from q t) (drop-cons t.queue 0 idle some))
+            (rw reply (telling-tells (sent_event head))) (rw reply (telling_tidy (sent_event head))) (stands_encode popped)

@@ -8,6 +8,8 @@ use Rattle.model.specs.Tables.{idle}
 use Rattle.model.specs.Steps.{arrived}
 use Rattle.model.specs.declared.Settings.{Settings}
 use Rattle.model.specs.declared.Event.TheVariants.{Filled}
+use Rattle.model.specs.declared.Queued.{Queued}
+use Rattle.model.specs.declared.QueueKind.TheVariants.{Read}
 use Rattle.model.specs.declared.Reply.{Reply}
 use Rattle.layout.specs.declared.Layout.{Layout}
 use Rattle.layout.specs.Places.{First}
@@ -16,10 +18,9 @@ use Rattle.tables.specs.Changed.{Changed}
 
 -- ---- send
 
--- the address of the read at the head is one of the first n miss addresses
-abbrev pub HeadAsked : Layout → ℕ → List ℕ → List ℕ → Type 0
-HeadAsked at n longs marks =
-    get_or marks at.kinds 0 ≡ 1 → (k : ℕ) × (k < n) × (get_or longs (at.misses + k) 0 ≡ get_or longs at.queue 0)
+-- if the head is a read, its address is one of the first n miss addresses
+abbrev pub HeadAsked : Layout → ℕ → List ℕ → Queued → Type 0
+HeadAsked at n longs head = head.kind ≡ Read → (k : ℕ) × (k < n) × (get_or longs (at.misses + k) 0 ≡ head.address)
 
 -- entry e is the first with an address, and its sent mark is set
 pub record Marked (at : Layout) (n : ℕ) (longs : List ℕ) (a : ℕ) (marks marks' : List ℕ) : Type 0 where
@@ -28,10 +29,10 @@ pub record Marked (at : Layout) (n : ℕ) (longs : List ℕ) (a : ℕ) (marks ma
   pub first : First longs at.misses n a entry
   pub marks_are : marks' ≡ put marks (at.sent + entry) (1 ∷ [])
 
--- so it is for the address of a read at the head; for a write-back nothing is set
-pub record HeadMarked (at : Layout) (n : ℕ) (longs marks marks' : List ℕ) : Type 0 where
-  pub reads : get_or marks at.kinds 0 ≡ 1 → Marked at n longs (get_or longs at.queue 0) marks marks'
-  pub other : (get_or marks at.kinds 0 ≡ 1 → ⊥) → marks' ≡ marks
+-- so it is for the head's address, if that is a read; for a write-back nothing is set
+pub record HeadMarked (at : Layout) (n : ℕ) (longs : List ℕ) (head : Queued) (marks marks' : List ℕ) : Type 0 where
+  pub reads : head.kind ≡ Read → Marked at n longs head.address marks marks'
+  pub other : (head.kind ≡ Read → ⊥) → marks' ≡ marks
 
 -- ---- fill
 

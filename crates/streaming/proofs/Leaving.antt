@@ -6,8 +6,7 @@ use Rattle.model.specs.declared.Settings.{Settings}
 use Rattle.model.specs.declared.Ran.{Ran as Run}
 use Rattle.running.specs.Resume.{rest_from, Resumes}
 use Rattle.running.specs.declared.Lengths.{Lengths}
-use Rattle.running.specs.declared.Opening.{Opening}
-use Rattle.running.specs.Begin.{first_record}
+use Rattle.running.specs.Begin.{Opening, first_record}
 use Rattle.running.specs.Lengths.{lengths_asked, lengths_for, Long}
 use Rattle.running.proofs.Asked.{Most, asked_most}
 use Rattle.input.specs.Buffers.{carried, carried_count}

@@ -2,16 +2,18 @@
 use Rattle.words.proofs.General.{ℕ, ◌+◌, ◌-◌, ◌%◌, ◌^◌, ◌≤◌, ◌<◌, zero-add, sub-zero, add_assoc, mod-lt, mod-eq_of_lt, mod-add-mod, arith, ◌≡◌, refl, sym, ap, subst, ◌∙◌, ⊎_elim}
 use Rattle.words.proofs.General.{true, false, List, [], ◌++◌, append-nil, append_assoc, length, take, drop, length-drop, length-append, take-append-drop, length-take-le, take-take}
 use Rattle.words.proofs.General.{drop-append-le, clash}
+use Rattle.std.specs.Prelude.{Ok, Err, Result as Outcome, Option, Some}
 use Rattle.encoding.proofs.Bridge.{is_tables}
-use Rattle.model.proofs.Terms.{Tables, Lent, Result, run_from, Encodes, SoundSlices}
+use Rattle.model.proofs.Terms.{Tables, Lent, RunResult, run_from, Encodes, SoundSlices}
 use Rattle.model.specs.declared.Settings.{Settings}
 use Rattle.model.specs.declared.Stop.{Stop}
 use Rattle.model.specs.declared.Stop.TheVariants as stop
 use Rattle.running.proofs.Asked.{final, run_fits}
 use Rattle.running.proofs.Parts.{run_resumed}
 use Rattle.input.specs.Buffers.{Grown}
-use Rattle.input.specs.declared.More.{More}
-use Rattle.input.specs.declared.More.TheVariants as more
+use Rattle.input.specs.declared.NoMore.{NoMore}
+use Rattle.input.specs.declared.NoMore.TheVariants as no
+use Rattle.input.specs.declared.Waiting.{Waiting}
 use Rattle.streaming.specs.declared.work.Next.{Next}
 use Rattle.streaming.specs.declared.work.Next.TheVariants as next
 use Rattle.streaming.specs.declared.work.Work.{Work}
@@ -25,19 +27,19 @@ use Rattle.streaming.proofs.Waiting.{by_stop, run_part, ran, part-behind, part_e
 
 -- ---- what comes next
 
-next_sure : (s : Stop) → (s ≡ stop.SliceLength → ⊥) → Sure (next_after_stop s) s
+next_sure : (s : Option Stop) → (s ≡ Some stop.SliceLength → ⊥) → Sure (next_after_stop s) s
 next_sure =
-    by_stop (λ n m. (n ≡ stop.SliceLength → ⊥) → Sure m n) (λ h. final refl) (λ h. final refl) (λ h. tt)
+    by_stop (λ n m. (n ≡ Some stop.SliceLength → ⊥) → Sure m n) (λ h. final refl) (λ h. final refl) (λ h. tt)
     (λ n early roomy h. record { fitting = h; roomy = roomy })
 
 -- what stops a run comes whatever follows
-next_claims : (have : ℕ) (s : Stop) → Claims (next_after_stop s) s have
+next_claims : (have : ℕ) (s : Option Stop) → Claims (next_after_stop s) s have
 next_claims have = by_stop (λ n m. Claims m n have) tt tt tt (λ n early roomy. early)
 
 -- a turn that ran what waited
-fewer_ran : (have now left c : ℕ) → now + c ≡ have → (s : Stop) → (s ≡ stop.NoRoom → 0 < c) → turns_of (next_after_stop s) now left < turns_of next.Run have left
+fewer_ran : (have now left c : ℕ) → now + c ≡ have → (s : Option Stop) → (s ≡ Some stop.NoRoom → 0 < c) → turns_of (next_after_stop s) now left < turns_of next.Run have left
 fewer_ran have now left c e =
-    by_stop (λ n m. (n ≡ stop.NoRoom → 0 < c) → turns_of m now left < turns_of next.Run have left)
+    by_stop (λ n m. (n ≡ Some stop.NoRoom → 0 < c) → turns_of m now left < turns_of next.Run have left)
     (λ g. omega arith) (λ g. omega arith) (λ g. let h = g refl in omega arith) (λ n early roomy g. omega arith)
 
 -- a run that goes on reads or runs
@@ -51,7 +53,7 @@ next_by next.Failed g = clash g refl
 -- ---- the run of a part, with anything behind it
 
 module _ (S : Settings) (room : ℕ) (p : List ℕ) (t : Tables) (k : Scope) where
-  abbrev o : Result Tables
+  abbrev o : RunResult Tables
   o = ran S room p t k
 
   part-goes : GoesOver S room t p o.consumed o.events o.tables (drop o.consumed p)
@@ -131,7 +133,7 @@ module _ (S : Settings) (size : ℕ) where
 
 module _ {S : Settings} {k : Scope} {p e : List ℕ} {L : Lent} {w r : Work} {buf f : List ℕ} {M : Lent} (x : Ran S k p e L w r buf f M)
     (held : SoundSlices S L) (space : 64 ≤ length e) (roomy : 64 ≤ length buf) (long : length p ≡ w.have) (counted : w.consumed + w.have + w.left < 2 ^ 64) where
-  abbrev ran_on : Result Tables
+  abbrev ran_on : RunResult Tables
   ran_on = run_from S 0 (length e) (take (part_end k p) p) held.tables
 
   l : PartLeaves S ran_on p e w r buf f M
@@ -197,9 +199,9 @@ module _ {S : Settings} {k : Scope} {p e : List ℕ} {L : Lent} {w r : Work} {bu
 -- ---- reading
 
 module _ {S : Settings} {k : Scope} {L : Lent} {buf b : List ℕ} {w : Work} (y : Ready S k L buf w) (reads : w.next ≡ next.Read) (size : length b ≡ length buf)
-    {g : More} (grown : Grown buf w.have w.left g b) where
+    {g : Outcome Waiting NoMore} (grown : Grown buf w.have w.left g b) where
   -- the buffer is never full there
-  never_full : g ≡ more.Full → ⊥
+  never_full : g ≡ Err no.Full → ⊥
   never_full q = let h = rw q at grown.grows in let f = rw reads at y.few in let a = y.roomy in omega arith
 
   same_front : take w.have b ≡ take w.have buf
@@ -227,7 +229,7 @@ module _ {S : Settings} {k : Scope} {L : Lent} {buf b : List ℕ} {w : Work} (y 
   }
 
   -- more bytes came, and wait behind those that did
-  module _ {m left : ℕ} (q : g ≡ more.To m left) {v : Work} (v-is : v ≡ read_of w m left) where
+  module _ {m left : ℕ} (q : g ≡ Ok (record { have = m; left = left })) {v : Work} (v-is : v ≡ read_of w m left) where
     came-in : (w.have < m) × (m ≤ length buf) × (m + left ≡ w.have + w.left)
     came-in = rw q at grown.grows
 
@@ -264,11 +266,11 @@ pub read-turned : {S : Settings} {k : Scope} {L : Lent} {buf b : List ℕ} {w r 
     → ReadsOnce buf w r b → PartTurn S k n L (take w.have buf) w r b L
 read-turned {S} {k} {L} {buf} {b} {w} {r} y reads size n x = by x.said x.grown x.is
   where
-    by : (g : More) → Grown buf w.have w.left g b → r ≡ read_by w g → PartTurn S k n L (take w.have buf) w r b L
-    by (more.To m left) grown e = came-turned y reads size grown refl e n
-    by (more.End end) grown e = over_turned y reads size grown n e refl grown.grows (rw reads at y.sure) tt (λ t i. rw reads at (y.before t i))
-    by more.Full grown e = absurd (never_full y reads size grown refl)
-    by more.Failed grown e = over_turned y reads size grown n e refl tt tt tt (λ t i. tt)
+    by : (g : Outcome Waiting NoMore) → Grown buf w.have w.left g b → r ≡ read_by w g → PartTurn S k n L (take w.have buf) w r b L
+    by (Ok v) grown e = came-turned y reads size grown refl e n
+    by (Err (no.End end)) grown e = over_turned y reads size grown n e refl grown.grows (rw reads at y.sure) tt (λ t i. rw reads at (y.before t i))
+    by (Err no.Full) grown e = absurd (never_full y reads size grown refl)
+    by (Err (no.Failed why)) grown e = over_turned y reads size grown n e refl tt tt tt (λ t i. tt)
 
 -- ---- turn after turn
 

@@ -2,14 +2,14 @@
 use Rattle.words.proofs.General.{ℕ, ◌+◌, ◌-◌, ◌%◌, ◌^◌, ◌≤◌, zero-add, arith, ◌≡◌, refl, sym, ap, subst, ◌∙◌, ⊎_elim, true, false, List, [], ◌∷◌, ◌++◌, append-nil, append_assoc}
 use Rattle.words.proofs.General.{length, take, drop, drop-append-le, take-append_seam, lt-ltb, le-leb, leb-true, clash, pick_both, flag}
 use Rattle.model.proofs.Soundness.{start-sound}
-use Rattle.model.proofs.Terms.{in_range, Tables, start, Lent, encode, lengths_fit, length_of, settings_of, first_stop, goes_on, Result, halt, bytes_then, run_from, lent_result, run}
+use Rattle.model.proofs.Terms.{in_range, Tables, start, Lent, encode, lengths_fit, length_of, settings_of, first_stop, goes_on, RunResult, halt, bytes_then, run_from, lent_result, run}
 use Rattle.model.proofs.Terms.{Encodes}
 use Rattle.model.specs.RunnerOf as runner
 use Rattle.model.specs.declared.Settings.{Settings}
 use Rattle.model.specs.declared.Stop.{Stop}
 use Rattle.model.specs.declared.Stop.TheVariants as stop
-use Rattle.running.specs.declared.Begun.TheVariants.{Accepted, Stopped}
 use Rattle.running.specs.Lengths.{Final}
+use Rattle.std.specs.Prelude.{Ok, Err, Option, Some, None}
 use Rattle.running.specs.Begin.{beginning, begun_tables, first_there}
 use Rattle.running.proofs.Running.{by_record}
 use Rattle.running.proofs.First.{begun_stopped, begun_accepted, accepted_long, accepted_runs, run_halts}
@@ -18,7 +18,6 @@ use Rattle.streaming.specs.declared.work.Next.{Next}
 use Rattle.streaming.specs.declared.work.Next.TheVariants as next
 use Rattle.streaming.specs.declared.work.Work.{Work}
 use Rattle.streaming.specs.declared.scope.Scope.TheVariants as scope
-use Rattle.streaming.specs.declared.parts.Started.TheVariants.{Runs, Stops}
 use Rattle.streaming.specs.Works.{Sure, over_next, goes_next, stopped_next, begun_of}
 use Rattle.streaming.specs.Halts.{of_end, Claims, MayFollow, Halts, Before}
 use Rattle.streaming.specs.First.{NoMoreRead, Opened}
@@ -28,14 +27,14 @@ use Rattle.streaming.specs.Wholes.{Whole}
 -- ---- the first record of a stream, once it decides
 
 -- it is all there, or its kind is no command's
-there_goes : (L : Lent) (k : ℕ) (bs : List ℕ) → (first_stop L k bs ≡ stop.CutShort → ⊥) → first_there (k ∷ bs) ≡ true
+there_goes : (L : Lent) (k : ℕ) (bs : List ℕ) → (first_stop L k bs ≡ Some stop.CutShort → ⊥) → first_there (k ∷ bs) ≡ true
 unfolding first_there runner.first_stop
 there_goes L k bs g =
-    by_record (λ n. first_there (k ∷ bs) ≡ true) k bs {a = stop.Nothing} {b = stop.Nothing} (λ c. rw c) (λ c w. absurd (g (rw (c, lt-ltb _ _ w))))
+    by_record (λ n. first_there (k ∷ bs) ≡ true) k bs {a = None} {b = None} (λ c. rw c) (λ c w. absurd (g (rw (c, lt-ltb _ _ w))))
     (λ c w z. rw (c, le-leb _ _ w)) (λ c w z. rw (c, le-leb _ _ w))
 
 -- one that is there and stops the run is not the end
-abbrev Early : Stop → Type 0
+abbrev Early : Option Stop → Type 0
 Early n = goes_on n ≡ false → of_end n ≡ false
 
 there_early : (L : Lent) (k : ℕ) (bs : List ℕ) → first_there (k ∷ bs) ≡ true → Early (first_stop L k bs)
@@ -48,18 +47,18 @@ there_early L k bs h =
 
 module _ (L : Lent) where
   -- so its stop is no stop of the end
-  there_stopped : (s : List ℕ) (n : Stop) → beginning L s ≡ Stopped n → first_there s ≡ true → of_end n ≡ false
+  there_stopped : (s : List ℕ) (n : Option Stop) → beginning L s ≡ Err n → first_there s ≡ true → of_end n ≡ false
   unfolding beginning first_there
   there_stopped [] n q h = clash h refl
   there_stopped (k ∷ bs) n q h = let (z, e) = begun_stopped (goes_on (first_stop L k bs)) _ _ q in rw (← e) (there_early L k bs h z)
 
-  stopped_there : (s : List ℕ) (n : Stop) → beginning L s ≡ Stopped n → (n ≡ stop.Nothing → ⊥) → (n ≡ stop.CutShort → ⊥) → first_there s ≡ true
+  stopped_there : (s : List ℕ) (n : Option Stop) → beginning L s ≡ Err n → (n ≡ None → ⊥) → (n ≡ Some stop.CutShort → ⊥) → first_there s ≡ true
   unfolding beginning
-  stopped_there [] n q f g = let e : stop.Nothing ≡ n = cc in absurd (f (sym e))
+  stopped_there [] n q f g = let e : None ≡ n = cc in absurd (f (sym e))
   stopped_there (k ∷ bs) n q f g = let (z, e) = begun_stopped (goes_on (first_stop L k bs)) _ _ q in there_goes L k bs (λ c. g (sym e ∙ c))
 
   -- also with what may come behind
-  stopped_more : (s b : List ℕ) (n : Stop) → beginning L s ≡ Stopped n → MayFollow n b → beginning L (s ++ b) ≡ Stopped n
+  stopped_more : (s b : List ℕ) (n : Option Stop) → beginning L s ≡ Err n → MayFollow n b → beginning L (s ++ b) ≡ Err n
   stopped_more s b n q h =
       ⊎_elim
       (λ (z : of_end n ≡ true). rw (h z, append-nil) q)
@@ -67,20 +66,20 @@ module _ (L : Lent) where
       (flag (of_end n))
 
   -- settings that are accepted are there
-  accepted_there : (s : List ℕ) (S : Settings) (n : ℕ) → beginning L s ≡ Accepted S n → first_there s ≡ true
+  accepted_there : (s : List ℕ) (S : Settings) (n : ℕ) → beginning L s ≡ Ok (S, n) → first_there s ≡ true
   unfolding beginning
   accepted_there [] S n q = let e : ◌≡◌ {A = ℕ} 0 1 = cc in absurd (omega arith)
   accepted_there (k ∷ bs) S n q = let (z, e, c) = begun_accepted (goes_on (first_stop L k bs)) _ q in there_goes L k bs (λ c. clash z (ap goes_on c))
 
   -- with anything behind
-  pub opens_run : (s b : List ℕ) (S : Settings) (n room : ℕ) → beginning L s ≡ Accepted S n
+  pub opens_run : (s b : List ℕ) (S : Settings) (n room : ℕ) → beginning L s ≡ Ok (S, n)
       → run room (s ++ b) L ≡ bytes_then n [] (lent_result S (run_from S 0 room (drop n s ++ b) (start S)))
   opens_run s b S n room q =
       rw (accepted_runs L (s ++ b) room (begins_more L s b (accepted_there s S n q) ∙ q), drop-append-le n s b (accepted_long L s q))
 
 -- ---- stopped at the first record
 
-stopped_told : (m : Next) (n : Stop) → stopped_next m ≡ true
+stopped_told : (m : Next) (n : Option Stop) → stopped_next m ≡ true
     → (Sure m n → Final n) × ((S : Settings) (p : List ℕ) (t : Tables) → Before S scope.All m n p t → Halts S n p t)
 stopped_told next.Read n z = clash z refl
 stopped_told next.Run n z = clash z refl
@@ -96,23 +95,23 @@ over_rests next.Stopped = refl
 over_rests (next.Ended e) = refl
 over_rests next.Failed = refl
 
-over_claims : (m : Next) (n : Stop) (have : ℕ) (buf : List ℕ) → NoMoreRead m have buf → (first_there (take have buf) ≡ true → of_end n ≡ false) → Claims (over_next m) n have
+over_claims : (m : Next) (n : Option Stop) (have : ℕ) (buf : List ℕ) → NoMoreRead m have buf → (first_there (take have buf) ≡ true → of_end n ≡ false) → Claims (over_next m) n have
 over_claims next.Read n have buf a f = tt
 over_claims next.Run n have buf a f = f a
 over_claims next.Stopped n have buf a f = absurd a
 over_claims (next.Ended e) n have buf a f = a
 over_claims next.Failed n have buf a f = tt
 
-pub first_claims : (L : Lent) (b : List ℕ) {w : Work} → Opened b w → (n : Stop) → beginning L (take w.have b) ≡ Stopped n → Claims (over_next w.next) n w.have
+pub first_claims : (L : Lent) (b : List ℕ) {w : Work} → Opened b w → (n : Option Stop) → beginning L (take w.have b) ≡ Err n → Claims (over_next w.next) n w.have
 first_claims L b {w} o n q = over_claims w.next n w.have b o.asked (there_stopped L (take w.have b) n q)
 
-module _ {L M : Lent} {b buf : List ℕ} {w x : Work} (o : Opened b w) (s : Starts L (take w.have b) w (Stops x) M buf) where
+module _ {L M : Lent} {b buf : List ℕ} {w x : Work} (o : Opened b w) (s : Starts L (take w.have b) w (Err x) M buf) where
   pub stops_whole : Whole L (take w.have b) w x M
   stops_whole =
       let p = take w.have b in
       let a = s.after scope.All in
       let e = a.0 in
-      let q : beginning L p ≡ Stopped x.stop = sym s.says in
+      let q : beginning L p ≡ Err x.stop = sym s.says in
       let m : M ≡ L = s.tables ∙ ap (begun_tables L) q in
       let c : x.consumed ≡ 0 = ap (λ (y : Work). y.consumed) e ∙ ap (λ (y : Work). y.consumed) o.new in
       let n : x.next ≡ over_next w.next = ap (λ (y : Work). y.next) e in
@@ -132,17 +131,17 @@ module _ {L M : Lent} {b buf : List ℕ} {w x : Work} (o : Opened b w) (s : Star
 
 -- ---- the turns behind it
 
-put_together : (S : Settings) (n : Stop) (size eaten consumed : ℕ) (events : List ℕ) (u : Tables) (N : Lent) → size + (eaten + 0) ≡ consumed → N ≡ encode S u
+put_together : (S : Settings) (n : Option Stop) (size eaten consumed : ℕ) (events : List ℕ) (u : Tables) (N : Lent) → size + (eaten + 0) ≡ consumed → N ≡ encode S u
     → bytes_then size [] (lent_result S (bytes_then eaten events (halt n u))) ≡ record { stop = n; consumed = consumed; events = events; tables = N }
 put_together S n size eaten consumed events u N k e = rw (k, append-nil, e)
 
-module _ {L M N : Lent} {p buf c : List ℕ} {w v r : Work} {S : Settings} (s : Starts L p w (Runs S v) M buf)
+module _ {L M N : Lent} {p buf c : List ℕ} {w v r : Work} {S : Settings} (s : Starts L p w (Ok (S, v)) M buf)
     (rested : Rested S scope.All 65536 M (take v.have buf) v r c N) where
   -- the bytes of the settings record
   abbrev size : ℕ
   size = v.consumed
 
-  q : beginning L p ≡ Accepted S size
+  q : beginning L p ≡ Ok (S, size)
   q = sym s.says
 
   fresh : Encodes S M (start S)
@@ -181,7 +180,7 @@ module _ {L M N : Lent} {p buf c : List ℕ} {w v r : Work} {S : Settings} (s : 
         let e : run_from S 0 (room - length went.events) (take r.have c ++ b) u ≡ halt r.stop u = halts b (room - length went.events) h (omega arith) in
         let k : size + (went.eaten + 0) ≡ r.consumed = let a = went.consumed in omega arith in
         runs b room g
-        ∙ ap (λ (o : Result Tables). bytes_then size [] (lent_result S (bytes_then went.eaten went.events o))) e
+        ∙ ap (λ (o : RunResult Tables). bytes_then size [] (lent_result S (bytes_then went.eaten went.events o))) e
         ∙ put_together S r.stop size went.eaten r.consumed went.events u N k went.are.encoded;
-    front = λ b room g. ap (λ (o : Result Lent). take (length went.events) o.events) (runs b room g) ∙ take-append_seam went.events _;
+    front = λ b room g. ap (λ (o : RunResult Lent). take (length went.events) o.events) (runs b room g) ∙ take-append_seam went.events _;
   }

@@ -1,20 +1,17 @@
 -- A part of a stream: the bytes that wait at the front of a buffer, run as far as they go; a turn; the turns to the end.
-use Rattle.std.specs.Prelude.{◌≡◌, ℕ, ◌+◌, ◌-◌, ◌%◌, ◌^◌, ◌<◌, ◌≤◌, false, ◌⊎◌, List, ◌++◌, length, take, drop}
+use Rattle.std.specs.Prelude.{◌≡◌, ℕ, ◌+◌, ◌-◌, ◌%◌, ◌^◌, ◌<◌, ◌≤◌, false, ◌⊎◌, List, ◌++◌, length, take, drop, Result as Outcome, Ok, Err}
 use Rattle.model.specs.Tables.{Tables}
 use Rattle.model.specs.Lent.{Lent}
 use Rattle.model.specs.Inner.{Encodes, SoundSlices}
-use Rattle.model.specs.Runner.{Result, bytes_then, run_from}
+use Rattle.model.specs.Runner.{RunResult, bytes_then, run_from}
 use Rattle.model.specs.declared.Settings.{Settings}
-use Rattle.running.specs.declared.Begun.{Begun}
-use Rattle.running.specs.declared.Begun.TheVariants.{Accepted, Stopped}
-use Rattle.running.specs.Begin.{beginning, begun_tables}
+use Rattle.running.specs.Begin.{Opening, beginning, begun_tables}
 use Rattle.input.specs.Buffers.{Grown}
-use Rattle.input.specs.declared.More.{More}
+use Rattle.input.specs.declared.NoMore.{NoMore}
+use Rattle.input.specs.declared.Waiting.{Waiting}
 use Rattle.streaming.specs.declared.work.Next.TheVariants as next
 use Rattle.streaming.specs.declared.work.Work.{Work}
 use Rattle.streaming.specs.declared.scope.Scope.{Scope}
-use Rattle.streaming.specs.declared.parts.Started.{Started}
-use Rattle.streaming.specs.declared.parts.Started.TheVariants.{Runs, Stops}
 use Rattle.streaming.specs.Works.{Sure, Few, next_after_stop, goes_next, stopped_of, begun_of, turns_of, read_by}
 use Rattle.streaming.specs.Scopes.{part_end}
 use Rattle.streaming.specs.Halts.{Claims, Before}
@@ -33,7 +30,7 @@ pub record Ready (S : Settings) (k : Scope) (L : Lent) (buf : List ℕ) (w : Wor
 
 -- o is what the part that is run of the bytes p comes to; the rest of them waits at the front of the buffer, and the totals grow by
 -- what it says: the bytes written are those that were handed out, whose place is the front of f
-pub record PartLeaves (S : Settings) (o : Result Tables) (p e : List ℕ) (w r : Work) (buf f : List ℕ) (M : Lent) : Type 0 where
+pub record PartLeaves (S : Settings) (o : RunResult Tables) (p e : List ℕ) (w r : Work) (buf f : List ℕ) (M : Lent) : Type 0 where
   pub tables : Encodes S M o.tables
   pub events : f ≡ o.events ++ drop (length o.events) e
   pub rest : take r.have buf ≡ drop o.consumed p
@@ -51,7 +48,7 @@ pub record Ran (S : Settings) (k : Scope) (p e : List ℕ) (L : Lent) (w r : Wor
 
 -- reading once came to r, by what the system said
 pub record ReadsOnce (l : List ℕ) (w r : Work) (buf : List ℕ) : Type 0 where
-  pub said : More
+  pub said : Outcome Waiting NoMore
   pub grown : Grown l w.have w.left said buf
   pub is : r ≡ read_by w said
 
@@ -96,14 +93,18 @@ pub record Rested (S : Settings) (k : Scope) (size : ℕ) (L : Lent) (p : List �
 
 -- ---- the first record
 
-abbrev pub begun_by : Started → Begun
-begun_by (Runs S w) = Accepted S w.consumed
-begun_by (Stops w) = Stopped w.stop
+-- settings at which the run goes on, and from where; or a run that has stopped
+abbrev pub Started : Type 0
+Started = Outcome (Settings × Work) Work
+
+abbrev pub begun_by : Started → Opening
+begun_by (Ok (S, w)) = Ok (S, w.consumed)
+begun_by (Err w) = Err w.stop
 
 -- what is left to do: the bytes behind the settings, from w on; or nothing
 abbrev pub After : Lent → List ℕ → Work → List ℕ → Scope → Started → Type 0
-After M p w buf k (Runs S r) = (r ≡ begun_of r.consumed r.have w.left) × (take r.have buf ≡ drop r.consumed p) × Ready S k M buf r
-After M p w buf k (Stops r) = (r ≡ stopped_of w r.stop) × Sure r.next r.stop
+After M p w buf k (Ok (S, r)) = (r ≡ begun_of r.consumed r.have w.left) × (take r.have buf ≡ drop r.consumed p) × Ready S k M buf r
+After M p w buf k (Err r) = (r ≡ stopped_of w r.stop) × Sure r.next r.stop
 
 pub record Starts (L : Lent) (p : List ℕ) (w : Work) (r : Started) (M : Lent) (buf : List ℕ) : Type 0 where
   pub says : begun_by r ≡ beginning L p

@@ -1,25 +1,26 @@
 -- Where a run stands between two parts of its stream.
-use Rattle.std.specs.Prelude.{ℕ, ◌+◌, ◌*◌, ◌%◌, ◌^◌, ◌<◌, Bool, true, false}
+use Rattle.std.specs.Prelude.{ℕ, ◌+◌, ◌*◌, ◌%◌, ◌^◌, ◌<◌, Bool, true, false, Result, Ok, Err, Option, Some, None}
 use Rattle.model.specs.declared.Stop.{Stop}
 use Rattle.model.specs.declared.Stop.TheVariants as stop
 use Rattle.running.specs.Lengths.{Final}
 use Rattle.input.specs.declared.Ended.{Ended}
-use Rattle.input.specs.declared.More.{More}
-use Rattle.input.specs.declared.More.TheVariants as more
+use Rattle.input.specs.declared.NoMore.{NoMore}
+use Rattle.input.specs.declared.NoMore.TheVariants as no
+use Rattle.input.specs.declared.Waiting.{Waiting}
 use Rattle.streaming.specs.declared.work.Next.{Next}
 use Rattle.streaming.specs.declared.work.Next.TheVariants as next
 use Rattle.streaming.specs.declared.work.Work.{Work}
 
 -- what stops a part, and what comes next: 15 wants more bytes, 16 wants the events written out, the others stop the run
-abbrev pub next_after_stop : Stop → Next
-next_after_stop stop.Nothing = next.Read
-next_after_stop stop.CutShort = next.Read
-next_after_stop stop.NoRoom = next.Run
-next_after_stop stop.SettingOutOfRange = next.Stopped
-next_after_stop stop.SliceLength = next.Stopped
-next_after_stop stop.NotSound = next.Stopped
-next_after_stop stop.OutOfPlace = next.Stopped
-next_after_stop stop.UnknownKind = next.Stopped
+abbrev pub next_after_stop : Option Stop → Next
+next_after_stop None = next.Read
+next_after_stop (Some stop.CutShort) = next.Read
+next_after_stop (Some stop.NoRoom) = next.Run
+next_after_stop (Some stop.SettingOutOfRange) = next.Stopped
+next_after_stop (Some stop.SliceLength) = next.Stopped
+next_after_stop (Some stop.NotSound) = next.Stopped
+next_after_stop (Some stop.OutOfPlace) = next.Stopped
+next_after_stop (Some stop.UnknownKind) = next.Stopped
 
 -- what ends a run whose first record stops it: that record, once it is there; the end that was told; else nothing is known
 abbrev pub over_next : Next → Next
@@ -59,15 +60,15 @@ failed_next (next.Ended e) = false
 failed_next next.Failed = true
 
 abbrev pub start_of : ℕ → ℕ → Next → Work
-start_of have left n = record { have = have; left = left; consumed = 0; written = 0; stop = stop.Nothing; next = n }
+start_of have left n = record { have = have; left = left; consumed = 0; written = 0; stop = None; next = n }
 
 abbrev pub begun_of : ℕ → ℕ → ℕ → Work
-begun_of size have left = record { have = have; left = left; consumed = size; written = 0; stop = stop.Nothing; next = next.Run }
+begun_of size have left = record { have = have; left = left; consumed = size; written = 0; stop = None; next = next.Run }
 
 abbrev pub read_of : Work → ℕ → ℕ → Work
 read_of w have left = record { have = have; left = left; consumed = w.consumed; written = w.written; stop = w.stop; next = next.Run }
 
-abbrev pub stopped_of : Work → Stop → Work
+abbrev pub stopped_of : Work → Option Stop → Work
 stopped_of w s = record { have = w.have; left = w.left; consumed = w.consumed; written = w.written; stop = s; next = over_next w.next }
 
 abbrev pub ended_of : Work → Ended → Work
@@ -77,13 +78,13 @@ abbrev pub failed_of : Work → Work
 failed_of w = record { have = w.have; left = w.left; consumed = w.consumed; written = w.written; stop = w.stop; next = next.Failed }
 
 -- what reading came to
-abbrev pub read_by : Work → More → Work
-read_by w (more.To have left) = read_of w have left
-read_by w (more.End e) = ended_of w e
-read_by w more.Full = failed_of w
-read_by w more.Failed = failed_of w
+abbrev pub read_by : Work → Result Waiting NoMore → Work
+read_by w (Ok r) = read_of w r.have r.left
+read_by w (Err (no.End e)) = ended_of w e
+read_by w (Err no.Full) = failed_of w
+read_by w (Err (no.Failed why)) = failed_of w
 
-abbrev pub behind_of : Work → Stop → ℕ → ℕ → ℕ → Work
+abbrev pub behind_of : Work → Option Stop → ℕ → ℕ → ℕ → Work
 behind_of w s consumed written have = record {
   have = have;
   left = w.left;
@@ -94,7 +95,7 @@ behind_of w s consumed written have = record {
 }
 
 -- stops 2 and 16 end no run: so where it has stopped, or would at the end of its input
-abbrev pub Sure : Next → Stop → Type 0
+abbrev pub Sure : Next → Option Stop → Type 0
 Sure next.Read s = Final s
 Sure next.Run s = Unit
 Sure next.Stopped s = Final s

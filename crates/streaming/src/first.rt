@@ -4,9 +4,8 @@ ghost use Rattle.input.specs.Buffers.{turns_left};
 ghost use Rattle.streaming.specs.Works.{reads_next};
 ghost use Rattle.streaming.specs.First.{Opened, after_reading};
 
-use crate::work;
 use crate::work::{Next, Work};
-use input::{More, Source};
+use input::{NoMore, Source, Waiting};
 use output::Output;
 
 // Once the first record is there, nothing behind it changes what it comes to.
@@ -26,13 +25,12 @@ fn read_once(source: &mut Source, to: Output, buf: &mut [u8], w: Work) -> Work
     ensures opened { Opened buf.new result }
     ensures left_bound { turns_left (reads_next result.next) result.left ≤ w.left }
 {
-    match input::read_more(source, to, buf, w.have, w.left) {
-        More::To { have, left } => {
-            work::at_start(have, left, next_after(text::front(buf, have)))
+    match source.read_more(to, buf, w.have, w.left) {
+        Ok(Waiting { have, left }) => {
+            Work::at_start(have, left, next_after(text::front(buf, have)))
         }
-        More::End(end) => work::at_start(w.have, w.left, Next::Ended(end)),
-        More::Full => work::at_start(w.have, w.left, Next::Failed),
-        More::Failed => work::at_start(w.have, w.left, Next::Failed),
+        Err(NoMore::End(end)) => Work::at_start(w.have, w.left, Next::Ended(end)),
+        Err(NoMore::Full | NoMore::Failed(_)) => Work::at_start(w.have, w.left, Next::Failed),
     }
 }
 
@@ -41,8 +39,9 @@ pub fn read_first(source: &mut Source, to: Output, buf: &mut [u8]) -> Work
     ensures opened { Opened buf.new result }
     ensures next_value { reads_next result.next ≡ false }
 {
-    let mut w = work::at_start(0, u64::MAX, Next::Read);
-    while work::reads(w) {
+    let mut w = Work::at_start(0, u64::MAX, Next::Read);
+    // Each turn reads, until the system says that there is no more: nothing is counted.
+    while w.reads() {
         w = read_once(source, to, buf, w);
     }
     w

@@ -3,6 +3,7 @@ ghost use Rattle.std.specs.Prelude.{◌≡◌, ◌≤◌, length};
 ghost use Rattle.streaming.specs.Scopes.{before_last, part_end};
 
 // All of a stream, its events written to standard output; or all before its last record, its events dropped.
+// Two ways and no closure: `Ran` and `Rested` say which it is.
 #[derive(Clone, Copy)]
 pub enum Scope {
     All,
@@ -15,6 +16,7 @@ fn last_start(s: &[u8]) -> usize
     ensures { (result ≡ before_last 0 s.now) × (result ≤ length s.now) }
 {
     let mut at = 0;
+    // A record says how long it is: no index counts by one.
     while at < s.len() {
         let kind = s[at];
         if !records::is_command(kind) {
@@ -29,12 +31,14 @@ fn last_start(s: &[u8]) -> usize
     at
 }
 
-// Where the part that is run ends.
-pub fn part_end(scope: Scope, s: &[u8]) -> usize
-    ensures { (result ≡ part_end scope s.now) × (result ≤ length s.now) }
-{
-    match scope {
-        Scope::All => s.len(),
-        Scope::BeforeLast => last_start(s),
+impl Scope {
+    // Where the part that is run ends.
+    pub fn part_end(self, s: &[u8]) -> usize
+        ensures { (result ≡ part_end self s.now) × (result ≤ length s.now) }
+    {
+        match self {
+            Scope::All => s.len(),
+            Scope::BeforeLast => last_start(s),
+        }
     }
 }

@@ -1,16 +1,73 @@
 -- A region that closes up, where the code counts its indices another way: a turn, the zeros at its end as one, the only zero, what rows
 -- take, four moves or zeros in a row; a row that is zero but for its first numbers.
 use Rattle.words.proofs.General.{ℕ, zero, suc, ◌+◌, ◌-◌, ◌*◌, ◌≤◌, ◌<◌, add-zero, mul-add, arith, ◌≡◌, refl, sym, ap, ◌∙◌, List, ◌++◌, append_assoc, length, take, drop, get_or, set}
-use Rattle.words.proofs.General.{replicate, length-drop, length-replicate, paste, take_at, take_all, take-paste, drop-paste, drop-drop, length-paste, get_or-set_other, set-get_or}
+use Rattle.words.proofs.General.{replicate, length-drop, length-replicate, paste, take_all, take-paste, drop-paste, drop-drop, length-paste, get_or-set_other, set-get_or}
 use Rattle.words.proofs.General.{region, put, closed_up, Closing, closing_start, closing_move, closing_zero, closing_done, length-closed, length-region, put_paste, get_or_paste_past}
 use Rattle.words.proofs.General.{stride}
+use Rattle.layout.proofs.Stores.{one-put}
 use Rattle.layout.proofs.Filled.{Filling, filling_start, filling_turn, filling_done}
-use Rattle.tables.specs.Raw.{ZerosFrom}
+use borrow.Rule.Slice.PartMut.{put_mid}
+use Rattle.words.proofs.General.{closed, length-take-le, drop_of_length-le}
+use Rattle.std.proofs.lemmas.List.{drop-take}
+use Rattle.tables.specs.Raw.{ZerosFrom, closed_with}
 
--- the zeros behind what is left
-zeros-behind : (by : ℕ) (r : List ℕ) (m : ℕ) → m ≡ length r - by → take m (closed_up by r) ++ replicate by 0 ≡ closed_up by r
+-- what `close` leaves: those behind the first `by` moved down, and what stands at the end filled
+module _ {A : Type 0} (zero : A) (l : List A) (from to by : ℕ) (room : (from + by ≤ to) × (to ≤ length l)) where
+  pub closed_by : {s z : List A} → s ≡ paste l from (drop (from + by) l) (to - (from + by)) → z ≡ replicate (length (take (to - (to - by)) (drop (to - by) s))) zero
+      → put_mid (to - by) (to - (to - by)) s z ≡ closed_with zero l from (to - from) by
+  closed_by {s} {z} e f =
+      let m : ℕ = to - (from + by) in
+      let d : List A = drop (from + by) l in
+      let as_from : to - by ≡ from + m = omega arith in
+      let as_by : to - (to - by) ≡ by = omega arith in
+      let as_end : from + m + by ≡ from + (to - from) = omega arith in
+      let as_left : to - from ≡ by + m = omega arith in
+      let left : length d ≡ length l - (from + by) = length-drop (from + by) l in
+      let long : length s ≡ length l = ap length e ∙ length-paste l from d m (omega arith) (omega arith) in
+      let moved : take (to - by) s ≡ take from l ++ take m d = rw (e, as_from) (take-paste l from d m (omega arith) (omega arith)) in
+      let behind : drop (to - (to - by)) (drop (to - by) s) ≡ drop (from + (to - from)) l =
+      rw (e, as_by, as_from, drop-paste l from d m (omega arith) (omega arith), drop-drop by (from + m) l, as_end) in
+      let filled : z ≡ replicate by zero =
+      f ∙ ap (λ k. replicate k zero) (length-take-le (to - (to - by)) (drop (to - by) s) (rw length-drop (omega arith)) ∙ as_by) in
+      let those : drop by (take (to - from) (drop from l)) ≡ take m d = rw (as_left, drop-take by m (drop from l), drop-drop by from l) in
+      rw (moved, behind, filled, those)
+      (append_assoc (take from l) (take m d) (replicate by zero ++ drop (from + (to - from)) l)
+      ∙ ap (λ k. take from l ++ k) (sym (append_assoc (take m d) (replicate by zero) (drop (from + (to - from)) l))))
+
+-- the same of numbers
+pub closed-of : (l : List ℕ) (at n by : ℕ) → (by ≤ n) × (at + n ≤ length l) → closed_with 0 l at n by ≡ closed l at n by
+unfolding put closed_up region
+closed-of l at n by room =
+    let r : List ℕ = take n (drop at l) in
+    let full : length r ≡ n = length-region l at n room.1 in
+    let whole : length (drop by r ++ replicate by 0) ≡ n = length-closed by r (omega arith) ∙ full in
+    rw whole (sym (append_assoc (take at l) (drop by r ++ replicate by 0) (drop (at + n) l)))
+
+pub closed_as : (l : List ℕ) (at m n by : ℕ) → m ≡ n → (by ≤ n) × (at + n ≤ length l) → {s : List ℕ} → s ≡ closed_with 0 l at m by → s ≡ closed l at n by
+closed_as l at m n by e room q = q ∙ rw e (closed-of l at n by room)
+
+-- where all of the region goes, nothing moves
+pub only_row : (l : List ℕ) (at n by : ℕ) → n ≡ by → at + n ≤ length l → put l at (replicate by 0) ≡ put l at (closed_up by (region l at n))
 unfolding closed_up
-zeros-behind by r m e = ap (λ (x : List ℕ). x ++ replicate by 0) (take_at (drop by r) (replicate by 0) m (length-drop by r ∙ sym e))
+only_row l at n by e h =
+    let full : length (region l at n) ≡ n = length-region l at n h in
+    let short : length (region l at n) ≤ by = omega arith in
+    rw (drop_of_length-le (region l at n) short)
+
+pub only_one : (l : List ℕ) (at n : ℕ) → n ≡ 1 → at + n ≤ length l → set l at 0 ≡ put l at (closed_up 1 (region l at n))
+only_one l at n e h = one-put l at 0 (omega arith) ∙ only_row l at n 1 e h
+
+-- of n rows of w numbers row e goes
+pub rows : (w n e : ℕ) → e < n → (w * e + w * (n - e) ≡ w * n) × (w * (n - 1 - e) + w ≡ w * (n - e)) × (w * (n - 1) + w ≡ w * n)
+rows w n e h =
+    let s = stride w n e h in
+    let f : n - 1 - e + 1 ≡ n - e = omega arith in
+    let g : n - 1 + 1 ≡ n = omega arith in
+    let a : w * (n - 1 - e) + w * 1 ≡ w * (n - e) = sym (mul-add w (n - 1 - e) 1) ∙ ap (λ (x : ℕ). w * x) f in
+    let b : w * (n - 1) + w * 1 ≡ w * n = sym (mul-add w (n - 1) 1) ∙ ap (λ (x : ℕ). w * x) g in
+    (s.0, omega arith, omega arith)
+
+-- ---- the loop that closes three columns up
 
 module _ (l : List ℕ) (at n by : ℕ) (room : (by ≤ n) × (at + n ≤ length l)) where
   -- one turn
@@ -23,49 +80,11 @@ module _ (l : List ℕ) (at n by : ℕ) (room : (by ≤ n) × (at + n ≤ length
   zero_at : (s : List ℕ) (i j p : ℕ) → n - by ≤ i → i < n → p ≡ at + i → j ≡ i + 1 → Closing l at n by s i → Closing l at n by (set s p 0) j
   zero_at s i j p h k e g c = rw (e, g) (closing_zero l at n by room s i h k c)
 
-  -- zeros behind what has moved
-  pub closing_rest : (s : List ℕ) (i p : ℕ) → i ≡ n - by → p ≡ at + i → Closing l at n by s i → put s p (replicate by 0) ≡ put l at (closed_up by (region l at n))
-  unfolding put
-  closing_rest s i p e f c =
-      let r = region l at n in let z : List ℕ = replicate by 0 in
-      let full : length (region l at n) ≡ n = length-region l at n room.1 in
-      let whole : length (closed_up by (region l at n)) ≡ n = length-closed by (region l at n) (omega arith) ∙ full in
-      let zeros : length z ≡ by = length-replicate by 0 in
-      let ends : at + (n - by) + length z ≡ at + length (closed_up by r) = omega arith in
-      let behind : drop (at + (n - by) + length z) (paste l at (closed_up by r) (n - by)) ≡ drop (at + length (closed_up by r)) l =
-      rw (← drop-drop (length z) (at + (n - by)) (paste l at (closed_up by r) (n - by)), drop-paste l at (closed_up by r) (n - by) (omega arith) (omega arith), drop-drop, ends) in
-      rw (
-        c.0,
-        f,
-        e,
-        take-paste l at (closed_up by r) (n - by) (omega arith) (omega arith),
-        behind,
-        append_assoc (take at l) (take (n - by) (closed_up by r)) z,
-        zeros-behind by r (n - by) (omega arith),
-      )
-
 -- the zero at the end of a region that loses one number
 pub closing_last : (l : List ℕ) (at n : ℕ) (room : (1 ≤ n) × (at + n ≤ length l)) (s : List ℕ) (i p : ℕ) → i ≡ n - 1 → p ≡ at + i → Closing l at n 1 s i
     → set s p 0 ≡ put l at (closed_up 1 (region l at n))
 closing_last l at n room s i p e f c =
     closing_done l at n 1 room (set s p 0) n (omega arith) (zero_at l at n 1 room s i n p (omega arith) (omega arith) f (omega arith) c)
-
--- where all of the region goes, nothing moves
-pub only_one : (l : List ℕ) (at n : ℕ) → n ≡ 1 → at + n ≤ length l → set l at 0 ≡ put l at (closed_up 1 (region l at n))
-only_one l at n e h = closing_last l at n (omega arith, h) l 0 at (omega arith) (omega arith) (closing_start l at n 1 (omega arith, h))
-
-pub only_row : (l : List ℕ) (at n by : ℕ) → n ≡ by → at + n ≤ length l → put l at (replicate by 0) ≡ put l at (closed_up by (region l at n))
-only_row l at n by e h = closing_rest l at n by (omega arith, h) l 0 at (omega arith) (omega arith) (closing_start l at n by (omega arith, h))
-
--- of n rows of w numbers row e goes
-pub rows : (w n e : ℕ) → e < n → (w * e + w * (n - e) ≡ w * n) × (w * (n - 1 - e) + w ≡ w * (n - e)) × (w * (n - 1) + w ≡ w * n)
-rows w n e h =
-    let s = stride w n e h in
-    let f : n - 1 - e + 1 ≡ n - e = omega arith in
-    let g : n - 1 + 1 ≡ n = omega arith in
-    let a : w * (n - 1 - e) + w * 1 ≡ w * (n - e) = sym (mul-add w (n - 1 - e) 1) ∙ ap (λ (x : ℕ). w * x) f in
-    let b : w * (n - 1) + w * 1 ≡ w * n = sym (mul-add w (n - 1) 1) ∙ ap (λ (x : ℕ). w * x) g in
-    (s.0, omega arith, omega arith)
 
 -- ---- four numbers at once
 

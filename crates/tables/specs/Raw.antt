@@ -1,5 +1,5 @@
 -- Words for the raw numbers of the lent slices, which the leaves' contracts speak of.
-use Rattle.std.specs.Prelude.{ℕ, ◌+◌, ◌*◌, ◌≤◌, ◌<◌, ◌≡◌, Bool, not, ◌&&◌, ◌||◌, List, [], ◌∷◌, get_or, eqb, ltb}
+use Rattle.std.specs.Prelude.{ℕ, ◌+◌, ◌*◌, ◌≤◌, ◌<◌, ◌≡◌, Bool, not, ◌&&◌, ◌||◌, List, [], ◌∷◌, ◌++◌, take, drop, replicate, get_or, eqb, ltb}
 use Rattle.model.specs.Numbers.{queue_kind_of}
 use Rattle.model.specs.Lent.{tag_at, status_at}
 use Rattle.model.specs.declared.Queued.{Queued}
@@ -11,6 +11,10 @@ front_at longs lq words wq marks mq = record {
   address = get_or longs lq 0;
   masks = get_or words wq 0 ∷ get_or words (wq + 1) 0 ∷ get_or words (wq + 2) 0 ∷ get_or words (wq + 3) 0 ∷ [];
 }
+
+-- l when of the n elements from index `at` the first `by` go, the others close up, and as many times `zero` stand at the end
+abbrev pub closed_with : {A : Type 0} → A → List A → ℕ → ℕ → ℕ → List A
+closed_with zero l at n by = take at l ++ ((drop by (take n (drop at l)) ++ replicate by zero) ++ drop (at + n) l)
 
 -- of a row of numbers from index `at`, those from number n on are 0
 abbrev pub ZerosFrom : List ℕ → ℕ → ℕ → ℕ → Type 0

@@ -10,13 +10,13 @@ ghost use Rattle.words.specs.Regions.{region, put, closed};
 ghost use Rattle.model.specs.declared.Event.TheVariants as event;
 ghost use Rattle.layout.specs.Places.{First};
 ghost use Rattle.layout.specs.Sectors.{SectorRoom, Plain};
-ghost use Rattle.tables.specs.Raw.{front_at, ZerosFrom, statuses_at, unused_at, waiting_at, dirty_at, clean_at, holds_at};
+ghost use Rattle.tables.specs.Raw.{closed_with, front_at, ZerosFrom, statuses_at, unused_at, waiting_at, dirty_at, clean_at, holds_at};
 ghost use Rattle.tables.specs.Telling.{telling};
 ghost use Rattle.tables.specs.Changed.{CountFits, Changed};
 
-use layout::Layout;
-use model::{BlockAddress, Event, Queued, Refusal, Reply, Sector, SectorAddress, Settings};
-use values::{idle, queue_kind_number, queue_kind_of};
+use layout::{Geometry, Layout};
+use model::{BlockAddress, Event, QueueKind, Queued, Refusal, Reply, Sector, SectorAddress};
+use values::idle;
 
 // The low seven bits of each of four bytes, to which a number can be added inside the byte; then their top bits.
 const LOWS: u32 = 0x7f7f_7f7f;
@@ -43,88 +43,37 @@ pub fn refused(n: Refusal) -> Reply
     blank(Event::Refused(n))
 }
 
-// Number `e` of the `n` from `at` goes; later ones move down by one, and a zero stands at the end.
-fn close_longs(s: &mut [u64], at: usize, e: usize, n: usize)
-    requires { (e < n) × (at + n ≤ length s.old) }
-    ensures { s.new ≡ closed s.old (at + e) (n - e) 1 }
+// Of the elements from `from` to `to` the first `by` go; the others move down, and `zero` stands in the places that this leaves at the end.
+fn close<T: Copy>(s: &mut [T], from: usize, to: usize, by: usize, zero: T)
+    requires within { (from + by ≤ to) × (to ≤ length s.old) }
+    requires cloned { T.is_infallible zero × ((y : T) → T.is_clone zero y → y ≡ zero) }
+    ensures { s.new ≡ closed_with zero s.old from (to - from) by }
 {
-    let last = n - 1;
-    let mut i = e;
-    while i < last {
-        s[at + i] = s[at + i + 1];
-        i += 1;
-    }
-    s[at + last] = 0;
+    s.copy_within(from + by..to, from);
+    s[to - by..to].fill(zero);
 }
 
-// A column of bytes closes up over entry `e`.
-fn close_marks(s: &mut [u8], at: usize, e: usize, n: usize)
-    requires { (e < n) × (at + n ≤ length s.old) }
-    ensures { s.new ≡ closed s.old (at + e) (n - e) 1 }
-{
-    let last = n - 1;
-    let mut i = e;
-    while i < last {
-        s[at + i] = s[at + i + 1];
-        i += 1;
-    }
-    s[at + last] = 0;
-}
-
-// The same of `n` rows of `by` numbers each.
-fn close_words(s: &mut [u32], at: usize, e: usize, n: usize, by: usize)
-    requires { (e < n) × (at + by * n ≤ length s.old) }
-    ensures { s.new ≡ closed s.old (at + by * e) (by * (n - e)) by }
-{
-    let last = n - 1;
-    let from = at + by * e;
-    let left = by * (last - e);
-    let mut i = 0;
-    while i < left {
-        s[from + i] = s[from + i + by];
-        i += 1;
-    }
-    zero_words(s, at + by * last, by);
-}
-
-// n numbers become 0.
-fn zero_words(s: &mut [u32], at: usize, n: usize)
-    requires { at + n ≤ length s.old }
-    ensures { s.new ≡ put s.old at (replicate n 0) }
-{
-    let mut i = 0;
-    while i < n {
-        s[at + i] = 0;
-        i += 1;
-    }
-}
-
-// The first of `n` miss addresses from `at` that is the address, or `n`.
+// The first of `n` miss addresses from `at` that is the address, or `n`: no Option, since those who ask go on with
+// `e < n`, which `First` says both cases of.
 pub fn find_entry(longs: &[u64], at: usize, n: usize, address: SectorAddress) -> usize
     requires { at + n ≤ length longs.now }
     ensures { First longs.now at n address.0 result }
 {
-    let mut i = 0;
-    while i < n {
-        if longs[at + i] == address.0 {
-            return i;
-        }
-        i += 1;
-    }
-    i
+    longs[at..at + n]
+        .iter()
+        .position(|x| SectorAddress(*x) == address)
+        .unwrap_or(n)
 }
 
-// `n` numbers from `at`, then zeros. Mostly there is one, which asks for no loop.
+// `n` numbers from `at`, then zeros. Mostly there is one, which asks for no loop: `copy_from_slice` takes some 40 instructions more a fill.
 pub fn copy_out(words: &[u32], at: usize, n: usize) -> [u32; 8]
     requires { (1 ≤ n) × (n ≤ 8) × (at + n ≤ length words.now) }
     ensures { result ≡ pad_to 8 (region words.now at n) }
 {
     let mut out = [0u32; 8];
     out[0] = words[at];
-    let mut i = 1;
-    while i < n {
+    for i in 1..n {
         out[i] = words[at + i];
-        i += 1;
     }
     out
 }
@@ -142,11 +91,12 @@ pub fn front(at: Layout, longs: &[u64], words: &[u32], marks: &[u8]) -> Queued
     Queued {
         address: longs[l],
         masks: [words[w], words[w + 1], words[w + 2], words[w + 3]],
-        kind: queue_kind_of(marks[m]),
+        kind: QueueKind::from(marks[m]),
     }
 }
 
-// Takes the head out of the first `n` places; the others move down by one, and the last of them is zero.
+// Takes the head out of the first `n` places; the others move down by one, and the last of them is zero. One loop over
+// the three columns: mostly one entry moves, and three calls of `close` take some 40 instructions more.
 pub fn pop(at: Layout, longs: &mut [u64], words: &mut [u32], marks: &mut [u8], n: usize)
     requires { (1 ≤ n) × (at.queue + n ≤ length longs.old) × (at.backs + 4 * n ≤ length words.old) × (at.kinds + n ≤ length marks.old) }
     ensures { (longs.new ≡ closed longs.old at.queue n 1)
@@ -157,8 +107,7 @@ pub fn pop(at: Layout, longs: &mut [u64], words: &mut [u32], marks: &mut [u8], n
     let b = at.backs;
     let k = at.kinds;
     let last = n - 1;
-    let mut i = 0;
-    while i < last {
+    for i in 0..last {
         longs[q + i] = longs[q + i + 1];
         marks[k + i] = marks[k + i + 1];
         let w = b + 4 * i;
@@ -166,7 +115,6 @@ pub fn pop(at: Layout, longs: &mut [u64], words: &mut [u32], marks: &mut [u8], n
         words[w + 1] = words[w + 5];
         words[w + 2] = words[w + 6];
         words[w + 3] = words[w + 7];
-        i += 1;
     }
     longs[q + last] = 0;
     marks[k + last] = 0;
@@ -194,14 +142,9 @@ pub fn push(
     let l = at.queue + n;
     let w = at.backs + 4 * n;
     let m = at.kinds + n;
-    let masks = entry.masks;
-    let kind = entry.kind;
     longs[l] = entry.address;
-    words[w] = masks[0];
-    words[w + 1] = masks[1];
-    words[w + 2] = masks[2];
-    words[w + 3] = masks[3];
-    marks[m] = queue_kind_number(kind);
+    words[w..w + 4].copy_from_slice(&entry.masks);
+    marks[m] = u8::from(entry.kind);
 }
 
 // ---- the miss table, of `readers` ticket places an entry
@@ -212,7 +155,7 @@ fn clear_row(words: &mut [u32], at: usize, n: usize, row: usize)
     ensures { words.new ≡ put words.old at (replicate row 0) }
 {
     if 1 < n {
-        zero_words(words, at, n);
+        words[at..at + n].fill(0);
     } else {
         words[at] = 0;
     }
@@ -243,10 +186,16 @@ pub fn remove(
         marks[at.counts + e] = 0;
         return;
     }
-    close_longs(longs, at.misses, e, n);
-    close_words(words, at.tickets, e, n, readers);
-    close_marks(marks, at.sent, e, n);
-    close_marks(marks, at.counts, e, n);
+    close(longs, at.misses + e, at.misses + n, 1, 0);
+    close(
+        words,
+        at.tickets + readers * e,
+        at.tickets + readers * n,
+        readers,
+        0,
+    );
+    close(marks, at.sent + e, at.sent + n, 1, 0);
+    close(marks, at.counts + e, at.counts + n, 1, 0);
 }
 
 // A ticket joins entry `e`, which has `n` of them, behind these.
@@ -301,11 +250,7 @@ pub fn statuses_at(marks: &[u8], l: usize) -> u32
     ensures { result ≡ statuses_at marks.now l }
 {
     let i = 4 * l;
-    let b0 = marks[i] as u32;
-    let b1 = marks[i + 1] as u32;
-    let b2 = marks[i + 2] as u32;
-    let b3 = marks[i + 3] as u32;
-    b0 + 256 * b1 + 65536 * b2 + 16777216 * b3
+    u32::from_le_bytes([marks[i], marks[i + 1], marks[i + 2], marks[i + 3]])
 }
 
 // Whether all four sectors of line `l` are INVALID.
@@ -342,23 +287,12 @@ pub fn is_clean(marks: &[u8], l: usize) -> bool
     (statuses_at(marks, l) & 0xfdfd_fdfd) == 0
 }
 
-// Tags are block addresses.
-pub fn same_block(a: BlockAddress, b: BlockAddress) -> bool
-    ensures { result ≡ eqb a.0 b.0 }
-{
-    a.0 == b.0
-}
-
-// The tag is compared first: most ways differ there.
+// Tags are block addresses. The tag is compared first: most ways differ there.
 pub fn holds_block(longs: &[u64], marks: &[u8], l: usize, block: BlockAddress) -> bool
     requires { (l < length longs.now) × (4 * l + 4 ≤ length marks.now) }
     ensures { result ≡ holds_at longs.now marks.now block.0 l }
 {
-    if same_block(BlockAddress(longs[l]), block) {
-        !is_unused(marks, l)
-    } else {
-        false
-    }
+    BlockAddress(longs[l]) == block && !is_unused(marks, l)
 }
 
 // ---- a line of which one sector changes
@@ -366,8 +300,7 @@ pub fn holds_block(longs: &[u64], marks: &[u8], l: usize, block: BlockAddress) -
 // Sector `k` of the line becomes `x`, and the dirty count follows: the line `was` dirty, and `is` dirty then. Mostly the caller knows that
 // without a look at the line.
 pub fn change(
-    s: Settings,
-    at: Layout,
+    g: Geometry,
     words: &mut [u32],
     marks: &mut [u8],
     line: usize,
@@ -376,10 +309,10 @@ pub fn change(
     was: bool,
     is: bool,
 )
-    requires sector_room { SectorRoom s at words.old marks.old × (line < lines_of s) × (k < 4) × Plain at line marks.old }
-    requires dirty_in_bounds { (at.dirty < length words.old) × CountFits at line words.old marks.old × (was ≡ dirty_at marks.old line) }
-    ensures { Changed s at line k x is words.old marks.old words.new marks.new }
+    requires sector_room { SectorRoom g words.old marks.old × (line < lines_of g.settings) × (k < 4) × Plain g.at line marks.old }
+    requires dirty_in_bounds { (g.at.dirty < length words.old) × CountFits g.at line words.old marks.old × (was ≡ dirty_at marks.old line) }
+    ensures { Changed g.settings g.at line k x is words.old marks.old words.new marks.new }
 {
-    layout::recount(words, at.dirty, was, is);
-    layout::replace(s, at, words, marks, line, k, x);
+    layout::recount(words, g.at.dirty, was, is);
+    layout::replace(g, words, marks, line, k, x);
 }

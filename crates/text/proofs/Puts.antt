@@ -1,8 +1,20 @@
 -- Text put into a slice: where there is room and where not, one text behind another.
-use Rattle.words.proofs.General.{ℕ, suc, ◌+◌, ◌-◌, ◌≤◌, ◌<◌, add-one, arith, ◌≡◌, refl, sym, ◌∙◌, List, [], ◌∷◌, ◌++◌, length, set, drop, get_or, length-append, length-replicate}
-use Rattle.words.proofs.General.{replicate, drop_of_length-le, sets, drop-cons, le-leb, lt-leb, sets_append}
+use Rattle.words.proofs.General.{ℕ, ◌+◌, ◌-◌, ◌≤◌, ◌<◌, arith, ◌≡◌, refl, sym, ◌∙◌, List, [], ◌∷◌, ◌++◌, length, length-append, length-replicate}
+use Rattle.words.proofs.General.{replicate, sets, le-leb, lt-leb, sets_append}
+use Rattle.std.proofs.lemmas.Slice.{put_mid-paste}
+use borrow.Rule.Slice.PartMut.{put_mid}
+use Rattle.words.proofs.General.{take_all, sets-eq}
 use Rattle.text.specs.Digits.{Put, digit_count, spelled, padded, hexadecimal, digits}
 use Rattle.text.proofs.Spelling.{length-spelled}
+
+-- what is left by a write of s over the k places from `at` on
+pub mid_sets : (l : List ℕ) (at : ℕ) (s : List ℕ) {k : ℕ} {r : List ℕ} → r ≡ s → length s ≡ k → at + k ≤ length l → put_mid at k l r ≡ sets l at s
+mid_sets l at s {k} {r} q e h =
+    put_mid-paste at k l r s k q refl (sym e)
+    ∙ rw (take_all k s (omega arith), ← e) (sym (sets-eq s l at (omega arith)))
+
+pub mid_filled : (l : List ℕ) (at n c : ℕ) {k m : ℕ} {r : List ℕ} → r ≡ replicate m c → m ≡ n → n ≡ k → at + k ≤ length l → put_mid at k l r ≡ sets l at (replicate n c)
+mid_filled l at n c q d e h = mid_sets l at (replicate n c) (rw d at q) (length-replicate n c ∙ e) h
 
 pub put-none : (l : List ℕ) (at : ℕ) (s : List ℕ) (n : ℕ) → length s ≡ n → length l < at + n → Put l at s at l
 put-none l at s n e h = let g : length l < at + length s = rw e h in record { next = rw (lt-leb (at + length s) (length l) g); left = rw (lt-leb (at + length s) (length l) g) }
@@ -46,18 +58,3 @@ unfolding spelled
 padded_all l at w c b n {k} {pad} {l₁} {l₂} p q h f g =
     let e : pad ≡ w - length (spelled b n) = rw (length-spelled b n, ← p) q in
     rw (← e) (joined_all l at (replicate pad c) (spelled b n) (length-replicate pad c) (length-spelled b n ∙ sym p) h f (rw p at g))
-
--- ---- no character in front
-
-pub padded-not : (c b n : ℕ) → padded 0 c (spelled b n) ≡ spelled b n
-padded-not c b n = let e : 0 - length (spelled b n) ≡ 0 = omega arith in rw e
-
--- ---- a text as it stands
-
-pub copy_turn : (l s : List ℕ) (at i : ℕ) → i < length s → sets l (at + i) (drop i s) ≡ sets (set l (at + i) (get_or s i 0)) (at + (i + 1)) (drop (i + 1) s)
-copy_turn l s at i h =
-    let f : at + (i + 1) ≡ suc (at + i) = omega arith in
-    rw (drop-cons s i 0 h, f, add-one i)
-
-pub copy_done : (l s : List ℕ) (at i : ℕ) → length s ≤ i → sets l (at + i) (drop i s) ≡ l
-copy_done l s at i h = rw (drop_of_length-le s h)

@@ -1,6 +1,6 @@
 -- Digits: how many a number has, and the loop that writes them from the last to the first.
 use Rattle.words.proofs.General.{ℕ, zero, suc, ◌+◌, ◌-◌, ◌/◌, ◌%◌, ◌≤◌, ◌<◌, div-lt_self, div-le_self, add-zero, add-one, arith, ◌≡◌, refl, ap, ◌∙◌, ◌≢◌, List, [], ◌∷◌, ◌++◌}
-use Rattle.words.proofs.General.{length, set, length-append, replicate, sets, set_comm, lt-ltb, le-ltb}
+use Rattle.words.proofs.General.{length, set, length-append, sets, set_comm, lt-ltb, le-ltb}
 use Rattle.text.specs.Digits.{glyph_of, digits, count_from, digit_count, spelled}
 
 pub length_digits : (b k n : ℕ) → length (digits b k n) ≡ k
@@ -59,15 +59,3 @@ spell_turn l at b i n h q =
 pub spell_done : (l : List ℕ) (at b i n : ℕ) → i ≤ 0 → sets l at (digits b i n) ≡ l
 unfolding digits
 spell_done l at b i n h = let e : i ≡ 0 = omega arith in rw e
-
-pub fill_start : (l : List ℕ) (at k c : ℕ) → sets l at (replicate k c) ≡ sets l (at + 0) (replicate (k - 0) c)
-fill_start l at k c = let e : k - 0 ≡ k = omega arith in rw (add-zero, e)
-
-pub fill_turn_lem : (l : List ℕ) (at k i c : ℕ) → i < k → sets l (at + i) (replicate (k - i) c) ≡ sets (set l (at + i) c) (at + (i + 1)) (replicate (k - (i + 1)) c)
-fill_turn_lem l at k i c h =
-    let e : k - i ≡ suc (k - (i + 1)) = omega arith in
-    let f : at + (i + 1) ≡ suc (at + i) = omega arith in
-    rw (e, f)
-
-pub fill_done : (l : List ℕ) (at k i c : ℕ) → k ≤ i → sets l (at + i) (replicate (k - i) c) ≡ l
-fill_done l at k i c h = let e : k - i ≡ 0 = omega arith in rw e

@@ -1,15 +1,13 @@
 -- A number as text, and text as a number: digits, decimal and hexadecimal, what stands in a slice after text is put there.
 use Prim.Native.Char.{code}
-use Rattle.std.specs.Prelude.{ℕ, zero, suc, ◌+◌, ◌*◌, ◌-◌, ◌/◌, ◌%◌, ◌^◌, ◌≡◌, Bool, ◌&&◌, List, [], ◌∷◌, ◌++◌, length, drop, get_or, replicate, eqb, ltb}
+use Rattle.std.specs.Prelude.{ℕ, zero, suc, ◌+◌, ◌*◌, ◌-◌, ◌/◌, ◌%◌, ◌^◌, ◌≡◌, Bool, ◌&&◌, List, [], ◌∷◌, ◌++◌, length, drop, get_or, replicate, eqb, ltb, Option, Some, None, Result, Ok, Err}
 use Rattle.std.proofs.lemmas.List.Edits.{sets}
 use Rattle.words.specs.Words.{pick, within}
 use Rattle.words.specs.Regions.{room}
 use Rattle.text.specs.Words.{codes, passing_count}
-use Rattle.text.specs.declared.Parsed.{Parsed}
-use Rattle.text.specs.declared.Parsed.TheVariants.{Number, Nothing, TooLarge}
-use Rattle.text.specs.declared.Grown.{Grown}
-use Rattle.text.specs.declared.Grown.TheVariants as grown
-use Rattle.text.specs.declared.Grown.TheVariants.{To}
+use Rattle.text.specs.declared.Number.{Number}
+use Rattle.text.specs.declared.NotANumber.{NotANumber}
+use Rattle.text.specs.declared.NotANumber.TheVariants.{NoDigit, TooLarge}
 
 -- ---- a number as text
 
@@ -67,20 +65,20 @@ value_of b v [] = v
 value_of b v (c ∷ s) = pick (is_digit b c) (value_of b (v * b + digit_of c) s) v
 
 -- a value with one more digit behind it, if 64 bits hold it
-abbrev pub grown_of : ℕ → ℕ → ℕ → Grown
-grown_of v b d = pick (ltb (v * b + d) (2 ^ 64)) (To (v * b + d)) grown.TooLarge
+abbrev pub grown_of : ℕ → ℕ → ℕ → Option ℕ
+grown_of v b d = pick (ltb (v * b + d) (2 ^ 64)) (Some (v * b + d)) None
 
 -- n digits from index at come to v
-abbrev pub number_of : ℕ → ℕ → ℕ → Parsed
-number_of at n v = pick (eqb n 0) Nothing (pick (ltb v (2 ^ 64)) (Number v (at + n)) TooLarge)
+abbrev pub number_of : ℕ → ℕ → ℕ → Result Number NotANumber
+number_of at n v = pick (eqb n 0) (Err NoDigit) (pick (ltb v (2 ^ 64)) (Ok (record { value = v; next = at + n })) (Err TooLarge))
 
 -- the number at an index of s, as far as its digits go
-unfoldable pub number_in : ℕ → List ℕ → ℕ → Parsed
+unfoldable pub number_in : ℕ → List ℕ → ℕ → Result Number NotANumber
 number_in b s at = number_of at (passing_count (is_digit b) (drop at s)) (value_of b 0 (drop at s))
 
 abbrev pub hex_at : List ℕ → ℕ → Bool
 hex_at s at = eqb (get_or s at 0) (code "0") && eqb (get_or s (at + 1) 0) (code "x")
 
 -- "decimal, or hexadecimal behind 0x"
-unfoldable pub parse_number : List ℕ → ℕ → Parsed
+unfoldable pub parse_number : List ℕ → ℕ → Result Number NotANumber
 parse_number s at = pick (hex_at s at) (number_in 16 s (at + 2)) (number_in 10 s at)

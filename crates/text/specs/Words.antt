@@ -3,8 +3,6 @@ use Rattle.std.specs.Prelude.{ℕ, suc, ◌+◌, ◌-◌, Bool, true, false, not
 use Prim.Native.Char.{code}
 use Prim.Native.String.{String, [] as end, ◌∷◌ as ◌then◌}
 use Rattle.words.specs.Words.{pick}
-use Rattle.text.specs.declared.Class.{Class}
-use Rattle.text.specs.declared.Class.TheVariants.{Spaces, Word, Line}
 
 -- the bytes of a text
 abbrev pub codes : String → List ℕ
@@ -30,11 +28,6 @@ in_word c = not (is_space c || eqb c (code "#"))
 
 abbrev pub in_line : ℕ → Bool
 in_line c = not (eqb c (code "\n"))
-
-abbrev pub in_class : Class → ℕ → Bool
-in_class Spaces = is_space
-in_class Word = in_word
-in_class Line = in_line
 
 abbrev pub skip_spaces : List ℕ → ℕ → ℕ
 skip_spaces s at = past is_space s at

@@ -1,53 +1,51 @@
 -- A read takes bytes off those that may come or is the last; a record that is run is gone past, or it is the last.
 use Rattle.words.proofs.General.{ℕ, ◌-◌, ◌≤◌, ◌<◌, arith, ◌≡◌, refl, ap, ◌∙◌, Bool, true, false, ◌&&◌, List, length, take, length-take, leb, leb-true, by_flag, and_2}
-use Rattle.model.proofs.Terms.{Tables, Lent, Result, SoundSlices}
+use Rattle.std.specs.Prelude.{Ok, Err, Result as Outcome, Option, Some, None}
+use Rattle.model.proofs.Terms.{Tables, Lent, RunResult, SoundSlices}
 use Rattle.model.specs.declared.Settings.{Settings}
 use Rattle.model.specs.declared.Ran.{Ran}
 use Rattle.model.specs.declared.Stop.{Stop}
 use Rattle.model.specs.declared.Stop.TheVariants as stop
 use Rattle.running.specs.Begin.{beginning}
-use Rattle.running.specs.declared.Begun.TheVariants.{Stopped}
 use Rattle.running.specs.Resume.{RunAt, Resumes}
 use Rattle.input.specs.Buffers.{Grown, turns_left, carried_count}
-use Rattle.input.specs.declared.Ended.{Ended}
-use Rattle.input.specs.declared.More.{More}
-use Rattle.input.specs.declared.More.TheVariants as more
+use Rattle.input.specs.declared.NoMore.{NoMore}
+use Rattle.input.specs.declared.NoMore.TheVariants as no
+use Rattle.input.specs.declared.Waiting.{Waiting}
 use Rattle.input.proofs.Counts.{grown_inside, turns_fall, turns_none}
 use Rattle.streaming.specs.declared.work.Next.TheVariants as next
+use Rattle.streaming.specs.declared.work.Work.{Work}
 use Rattle.streaming.specs.declared.work.Work as begun
-use Rattle.streaming.specs.Works.{goes_next}
+use Rattle.streaming.specs.Works.{goes_next, read_by, stopped_of}
+use Rattle.streaming.specs.Parts.{ReadsOnce}
 use Rattle.streaming.specs.Halts.{Claims}
 use Rattle.streaming.specs.First.{Opened}
 use Rattle.streaming.proofs.Wholes.{over_rests, first_claims}
 use Rattle.trace.specs.declared.turns.Turn.{Turn}
-use Rattle.trace.specs.declared.work.Work.{Work}
-use Rattle.trace.specs.Turns.{Traced, after_records, ended_by, Standing, Reads, StoppedByFirst, Over}
+use Rattle.trace.specs.Turns.{Traced, after_records, Standing, Reads, Over}
 
 -- ---- reading
 
-pub read_grown : {l l₁ : List ℕ} {have left : ℕ} {r : More} → Grown l have left r l₁ → length l₁ ≡ length l → {n k : ℕ} → r ≡ more.To n k
-    → {v : Work} → Standing n k v → Reads (length l₁) left v
-read_grown g size q {v} e =
-    record { inside = omega (arith, grown_inside g q, e.waits); fewer = rw e.comes (turns_fall g q (goes_next v.next)); claims = e.claims }
-
-module _ {l l₁ : List ℕ} (w : Work) {r : More} (g : Grown l w.have w.left r l₁) (size : length l₁ ≡ length l) (inside : w.have ≤ length l) {v : Work} where
-  pub read_ended : {end : Ended} → r ≡ more.End end → v ≡ ended_by w (next.Ended end) → Reads (length l₁) w.left v
-  read_ended {end} q e = rw e record { inside = omega arith; fewer = omega arith; claims = let h : end.behind ≡ w.have = rw q at g.grows in h }
-
-  pub read_failed : v ≡ ended_by w next.Failed → Reads (length l₁) w.left v
-  read_failed e = rw e record { inside = omega arith; fewer = omega arith; claims = tt }
+pub read_reads : {l l₁ : List ℕ} (w : Work) {v : Work} → ReadsOnce l w v l₁ → length l₁ ≡ length l → w.have ≤ length l → Reads (length l₁) w.left v
+read_reads {l} {l₁} w {v} x size inside = by x.said x.grown x.is
+  where
+    by : (r : Outcome Waiting NoMore) → Grown l w.have w.left r l₁ → v ≡ read_by w r → Reads (length l₁) w.left v
+    by (Ok n) g e = rw e record { inside = omega (arith, grown_inside g refl); fewer = turns_fall g refl true; claims = tt }
+    by (Err (no.End end)) g e = rw e record { inside = omega arith; fewer = omega arith; claims = g.grows }
+    by (Err no.Full) g e = rw e record { inside = omega arith; fewer = omega arith; claims = tt }
+    by (Err (no.Failed why)) g e = rw e record { inside = omega arith; fewer = omega arith; claims = tt }
 
 -- ---- a turn
 
-pub records_claims : (n : Stop) (have : ℕ) → Claims (after_records n) n have
-records_claims stop.Nothing have = tt
-records_claims stop.CutShort have = tt
-records_claims stop.NoRoom have = refl
-records_claims stop.SettingOutOfRange have = refl
-records_claims stop.SliceLength have = refl
-records_claims stop.NotSound have = refl
-records_claims stop.OutOfPlace have = refl
-records_claims stop.UnknownKind have = refl
+pub records_claims : (n : Option Stop) (have : ℕ) → Claims (after_records n) n have
+records_claims None have = tt
+records_claims (Some stop.CutShort) have = tt
+records_claims (Some stop.NoRoom) have = refl
+records_claims (Some stop.SettingOutOfRange) have = refl
+records_claims (Some stop.SliceLength) have = refl
+records_claims (Some stop.NotSound) have = refl
+records_claims (Some stop.OutOfPlace) have = refl
+records_claims (Some stop.UnknownKind) have = refl
 
 pub failed_stands : {have left : ℕ} {v : Work} → v.have ≡ have → v.left ≡ left → v.next ≡ next.Failed → Standing have left v
 failed_stands h l e = record { waits = h; comes = l; claims = rw e tt }
@@ -61,11 +59,8 @@ reads_by e r = rw (← e) r
 pub over_failed : {v : Work} → v.next ≡ next.Failed → Over v
 over_failed e = record { over = rw e; claims = rw e tt }
 
-pub first_over : (L : Lent) (b : List ℕ) {w : begun.Work} → Opened b w → {n : Stop} → beginning L (take w.have b) ≡ Stopped n → {v : Work} → StoppedByFirst w n v → Over v
-first_over L b {w} o {n} q {v} f = record {
-  over = rw f.next (over_rests w.next);
-  claims = rw (f.next, f.stop, f.waits) (first_claims L b o n q);
-}
+pub first_over : (L : Lent) (b : List ℕ) {w : begun.Work} → Opened b w → {n : Option Stop} → beginning L (take w.have b) ≡ Err n → {v : Work} → v ≡ stopped_of w n → Over v
+first_over L b {w} o {n} q {v} f = rw f record { over = over_rests w.next; claims = first_claims L b o n q }
 
 -- what is carried stands in the buffer
 carried_most : (l : List ℕ) (from to : ℕ) → carried_count l from to ≤ length l
@@ -83,7 +78,7 @@ carried-inside l from to e k q = omega (arith, carried_most l from to)
 pub front_stands : {q : List ℕ} (s : List ℕ) {at : ℕ} (end : ℕ) (e : List ℕ) → q ≡ take end s → at ≤ end → at ≤ length s → RunAt q at 0 e
 front_stands s end e is h k = record { inside = let z = ap length is ∙ length-take end s in omega arith; room = omega arith }
 
-module _ {S : Settings} {o : Tables → Result Tables} {q : List ℕ} {at out : ℕ} {e : List ℕ} {L : Lent} {r : Ran} {f : List ℕ} {M : Lent}
+module _ {S : Settings} {o : Tables → RunResult Tables} {q : List ℕ} {at out : ℕ} {e : List ℕ} {L : Lent} {r : Ran} {f : List ℕ} {M : Lent}
     (v : Resumes S o q at out e L r f M) (h : SoundSlices S L) where
   pub ran_held : SoundSlices S M
   ran_held = record { tables = (o h.tables).tables; are = v.keeps h.tables h.are }

@@ -1,6 +1,6 @@
 -- What the turns of a trace promise: the slices hold sound tables again, and each turn goes past a record or is the last, reads bytes
 -- or is the last.
-use Rattle.std.specs.Prelude.{◌≡◌, ℕ, ◌-◌, ◌≤◌, false}
+use Rattle.std.specs.Prelude.{◌≡◌, ℕ, ◌-◌, ◌≤◌, false, Option, Some, None}
 use Rattle.model.specs.Lent.{Lent}
 use Rattle.model.specs.Inner.{SoundSlices}
 use Rattle.model.specs.declared.Settings.{Settings}
@@ -9,11 +9,10 @@ use Rattle.model.specs.declared.Stop.TheVariants as stop
 use Rattle.input.specs.Buffers.{turns_left}
 use Rattle.streaming.specs.declared.work.Next.{Next}
 use Rattle.streaming.specs.declared.work.Next.TheVariants as next
-use Rattle.streaming.specs.declared.work.Work as begun
-use Rattle.streaming.specs.Works.{over_next, goes_next}
+use Rattle.streaming.specs.declared.work.Work.{Work}
+use Rattle.streaming.specs.Works.{goes_next}
 use Rattle.streaming.specs.Halts.{Claims}
 use Rattle.trace.specs.declared.turns.Turn.{Turn}
-use Rattle.trace.specs.declared.work.Work.{Work}
 
 -- one record of a buffer of this size
 pub record Traced (S : Settings) (size : ℕ) (t r : Turn) (M : Lent) : Type 0 where
@@ -22,18 +21,15 @@ pub record Traced (S : Settings) (size : ℕ) (t r : Turn) (M : Lent) : Type 0 w
   pub further : turns_left r.more (size - r.at) ≤ size - t.at
 
 -- what comes behind the records of a buffer: more bytes where one is cut short or none is left; the other stops come whatever follows
-abbrev pub after_records : Stop → Next
-after_records stop.Nothing = next.Read
-after_records stop.CutShort = next.Read
-after_records stop.NoRoom = next.Stopped
-after_records stop.SettingOutOfRange = next.Stopped
-after_records stop.SliceLength = next.Stopped
-after_records stop.NotSound = next.Stopped
-after_records stop.OutOfPlace = next.Stopped
-after_records stop.UnknownKind = next.Stopped
-
-abbrev pub ended_by : Work → Next → Work
-ended_by w n = record { have = w.have; left = w.left; consumed = w.consumed; written = w.written; put = w.put; stop = w.stop; next = n; lost = w.lost }
+abbrev pub after_records : Option Stop → Next
+after_records None = next.Read
+after_records (Some stop.CutShort) = next.Read
+after_records (Some stop.NoRoom) = next.Stopped
+after_records (Some stop.SettingOutOfRange) = next.Stopped
+after_records (Some stop.SliceLength) = next.Stopped
+after_records (Some stop.NotSound) = next.Stopped
+after_records (Some stop.OutOfPlace) = next.Stopped
+after_records (Some stop.UnknownKind) = next.Stopped
 
 -- so many bytes wait and so many may still come; what is claimed of the input holds
 pub record Standing (have left : ℕ) (r : Work) : Type 0 where
@@ -51,12 +47,6 @@ pub record Reads (size left : ℕ) (r : Work) : Type 0 where
 pub record RecordsThenRead (S : Settings) (size : ℕ) (w r : Work) (M : Lent) : Type 0 where
   pub held : SoundSlices S M
   pub read : Reads size w.left r
-
--- stopped by the first record
-pub record StoppedByFirst (w : begun.Work) (n : Stop) (r : Work) : Type 0 where
-  pub waits : r.have ≡ w.have
-  pub stop : r.stop ≡ n
-  pub next : r.next ≡ over_next w.next
 
 -- nothing more is done: the run has stopped, or the input has ended, by the system's word; or reading or printing failed
 pub record Over (r : Work) : Type 0 where

@@ -15,9 +15,8 @@ ghost use Rattle.streaming.specs.First.{Opened};
 ghost use Rattle.trace.specs.Turns.{Over};
 
 use input::Source;
-use model::Settings;
+use model::{Settings, Stop};
 use output::Output;
-use running::{Begun, Opening};
 use streaming::{first, rooms};
 use work::Work;
 
@@ -34,7 +33,7 @@ fn trace_behind(
     have: usize,
 ) -> Work
     requires { SoundSlices s (lent longs.old words.old marks.old) }
-    ensures { Over result }
+    ensures { Over result.run }
 {
     let mut space = [0u8; 65536];
     let out: &mut [u8] = &mut space;
@@ -48,7 +47,7 @@ fn trace_behind(
 fn trace_all(
     source: &mut Source,
     to: Output,
-    opening: Opening,
+    opening: Result<(Settings, usize), Option<Stop>>,
     buf: &mut [u8],
     longs: &mut [u64],
     words: &mut [u32],
@@ -56,12 +55,12 @@ fn trace_all(
     first: streaming::work::Work,
 ) -> Work
     requires { Opened buf.old first × (opening ≡ first_record (take first.have buf.old)) }
-    ensures { Over result }
+    ensures { Over result.run }
 {
     let have = first.have;
     match running::begin(opening, longs, words, marks) {
-        Begun::Stopped(stop) => work::at_once(first, stop),
-        Begun::Accepted { settings, next } => {
+        Err(stop) => work::at_once(first, stop),
+        Ok((settings, next)) => {
             trace_behind(source, to, settings, next, buf, longs, words, marks, have)
         }
     }
@@ -75,13 +74,13 @@ fn trace_stream(
     first: streaming::work::Work,
 ) -> Work
     requires { Opened buf.old first }
-    ensures { Over result }
+    ensures { Over result.run }
 {
     let opening = running::first_record(text::front(buf, first.have));
     let n = running::lengths_for(opening);
-    let mut longs = rooms::longs_room();
-    let mut words = rooms::words_room();
-    let mut marks = rooms::marks_room();
+    let mut longs = [0u64; rooms::LONGS];
+    let mut words = [0u32; rooms::WORDS];
+    let mut marks = [0u8; rooms::MARKS];
     let a = n.longs;
     let b = n.words;
     let c = n.marks;
@@ -106,11 +105,11 @@ fn main(rt: HostRuntime) {
     let mut space = [0u8; 65536];
     let buf: &mut [u8] = &mut space;
     let first = first::read_first(&mut source, to, buf);
-    if streaming::work::has_failed(first) {
+    if first.has_failed() {
         return;
     }
     let last = trace_stream(&mut source, to, buf, first);
-    if work::has_stopped(last) {
-        work::last_line(to, buf, last);
+    if last.run.has_stopped() {
+        work::last_line(to, buf, last.run);
     }
 }

@@ -1,17 +1,8 @@
-// A command, its events and what a refused access waits for, as text.
-ghost use Rattle.std.specs.Prelude.{◌<◌, length};
-
+// A command, its events and what a refused access waits for, as text: behind a place of a slice, as `text` and `wording` put it.
 use model::{Command, Event};
 use reasons::Reason;
 use records::Item;
 use wording::{commands, events, stops};
-
-// Where the events of a command are shown to: the place of the next one, the bytes of text.
-#[derive(Clone, Copy)]
-struct Shown {
-    at: usize,
-    put: usize,
-}
 
 // The end of a line.
 fn put_line_end(out: &mut [u8], at: usize) -> usize {
@@ -40,45 +31,21 @@ fn put_event(e: Event, out: &mut [u8], at: usize) -> usize {
 
 // The command at an index of some bytes of a stream, which has its place in the whole stream in front.
 pub(crate) fn put_command_at(s: &[u8], at: usize, place: u64, out: &mut [u8], put: usize) -> usize {
-    let Item::Command { command, next: _ } = records::item_at(s, at) else {
+    let Item::Command { command, .. } = records::item_at(s, at) else {
         return put;
     };
     put_command(command, place, out, put)
 }
 
-// Behind what was shown; never back.
-fn behind(at: usize, next: usize, end: usize) -> usize
-    requires { at < end }
-    ensures { at < result }
-{
-    if at < next { next } else { end }
-}
-
-// The event at a place. What is no event ends the list: a command writes only events.
-fn put_next(s: &[u8], out: &mut [u8], t: Shown) -> Shown
-    requires { t.at < length s.now }
-    ensures { t.at < result.at }
-{
-    let end = s.len();
-    let Item::Event { event, next } = records::item_at(s, t.at) else {
-        return Shown {
-            at: end,
-            put: t.put,
-        };
-    };
-    Shown {
-        at: behind(t.at, next, end),
-        put: put_event(event, out, t.put),
-    }
-}
-
-// The events of a command, a line each.
+// The events of a command, a line each. What is no event ends the list: a command writes only events.
 pub(crate) fn put_events(s: &[u8], out: &mut [u8], at: usize) -> usize {
-    let mut t = Shown { at: 0, put: at };
-    while t.at < s.len() {
-        t = put_next(s, out, t);
+    let mut put = at;
+    let mut place = 0;
+    while let Item::Event { event, next } = records::item_at(s, place) {
+        put = put_event(event, out, put);
+        place = next;
     }
-    t.put
+    put
 }
 
 // A number and what is counted.
@@ -131,29 +98,17 @@ fn put_head(head: Event, out: &mut [u8], at: usize) -> usize {
             let a = text::put_text(b"the read of ", out, at);
             text::put_hex(address, out, a)
         }
-        Event::WriteBackSent {
-            block,
-            m0: _,
-            m1: _,
-            m2: _,
-            m3: _,
-        } => {
+        Event::WriteBackSent { block, .. } => {
             let a = text::put_text(b"the write-back of ", out, at);
             text::put_hex(block, out, a)
         }
-        Event::Answered { answer: _, line: _ } => at,
-        Event::Refused(_) => at,
-        Event::ReadQueued(_) => at,
-        Event::WriteBackQueued {
-            block: _,
-            m0: _,
-            m1: _,
-            m2: _,
-            m3: _,
-        } => at,
-        Event::Released(_) => at,
-        Event::Filled(_) => at,
-        Event::Ticked => at,
+        Event::Answered { .. }
+        | Event::Refused(_)
+        | Event::ReadQueued(_)
+        | Event::WriteBackQueued { .. }
+        | Event::Released(_)
+        | Event::Filled(_)
+        | Event::Ticked => at,
     }
 }
 
@@ -171,7 +126,7 @@ fn put_queue(head: Event, free: usize, out: &mut [u8], at: usize) -> usize {
     text::put_text(b" goes next", out, c)
 }
 
-// The words of a reason; none where there is none.
+// The words of a reason. Each kind has words and numbers of its own.
 fn put_words(r: Reason, out: &mut [u8], at: usize) -> usize {
     match r {
         Reason::Entry {
@@ -187,7 +142,6 @@ fn put_words(r: Reason, out: &mut [u8], at: usize) -> usize {
         } => put_lines(missing, dirty, lines, percent, out, at),
         Reason::Queue { head, free } => put_queue(head, free, out, at),
         Reason::Nothing => text::put_text(b"no wait will help", out, at),
-        Reason::Refused(n) => events::put_event(Event::Refused(n), out, at),
     }
 }
 

@@ -1,8 +1,8 @@
 -- One call of a descent, of what its callees ensure.
+use Rattle.std.specs.Prelude.{Some, None}
 use Rattle.words.proofs.General.{ℕ, zero, suc, ◌+◌, ◌*◌, ◌-◌, ◌/◌, ◌^◌, ◌≤◌, ◌<◌, pow-suc, arith, ◌≡◌, refl, sym, ap, ◌∙◌, Bool, true, false, lt-ltb, le-ltb, pick}
 use lib.Pow.{pow_pos}
 use Rattle.model.proofs.Terms.{named, pointed, some_from, goes, descent, tree_choice, side_of, turned, levels, power_to16}
-use Rattle.model.specs.declared.Found.TheVariants.{At, Nothing}
 use Rattle.model.proofs.Trees.{levels_are}
 use Rattle.trees.proofs.Spans.{Halving}
 
@@ -76,8 +76,8 @@ module _ (p : ℕ → Bool) (t ways : ℕ) {b : Bool} (power : power_to16 ways �
   some_way : some_from p 0 (2 ^ levels ways) ≡ b
   some_way = sym (has ∙ ap (some_from p 0) wide)
 
-  pub chosen_some : {w : ℕ} → b ≡ true → ((j : ℕ) → ways ≡ 2 ^ j → w ≡ descent p t j 1 0) → At w ≡ tree_choice p t (levels ways)
-  chosen_some e q = ap At (q (levels ways) wide) ∙ sym (rw (some_way ∙ e))
+  pub chosen_some : {w : ℕ} → b ≡ true → ((j : ℕ) → ways ≡ 2 ^ j → w ≡ descent p t j 1 0) → Some w ≡ tree_choice p t (levels ways)
+  chosen_some e q = ap Some (q (levels ways) wide) ∙ sym (rw (some_way ∙ e))
 
-  pub chosen_none : b ≡ false → Nothing ≡ tree_choice p t (levels ways)
+  pub chosen_none : b ≡ false → None ≡ tree_choice p t (levels ways)
   chosen_none e = sym (rw (some_way ∙ e))

@@ -5,9 +5,7 @@
 ghost use Rattle.std.specs.Prelude.{◌≡◌, true, ℕ, ◌+◌, ◌-◌, ◌^◌, ◌≤◌, ◌<◌};
 ghost use Rattle.model.specs.Tree.{with_bit, is_in, named, pointed, some_from, goes, descent, tree_choice, side_of, turned, touched_tree, power_to16, levels, Span};
 
-use model::Found;
-
-// The rule byte.
+// The rule byte. A number and no enum: the settings hold any number until refusal 1 looks at it.
 pub const TREE: usize = 2;
 
 // What a tree is below: a bit for each node in use, of which there is one fewer than ways.
@@ -18,7 +16,8 @@ pub fn limit(ways: usize) -> u32
     1u32 << (ways - 1)
 }
 
-// The half that a node names: 0 the lower, 1 the upper.
+// The half that a node names: 0 the lower, 1 the upper. A number and no enum: the node and the first way below are sums with it.
+// A node is worked out anew at each step from the one above: a type of it would be made and opened at every call.
 fn named_half(tree: u32, node: usize) -> usize
     requires { (1 ≤ node) × (node ≤ 32) }
     ensures { result ≡ named tree node }
@@ -60,7 +59,7 @@ fn side(tree: u32, candidates: u32, node: usize, first: usize, half: usize) -> u
     }
 }
 
-// The way chosen among `width` ways from `first`, below a node.
+// The way chosen among `width` ways from `first`, below a node. A recursion and no loop: the specification asks for a recursive descent.
 fn descend(tree: u32, candidates: u32, node: usize, first: usize, width: usize) -> usize
     requires { Span node first width }
     ensures { (k : ℕ) → width ≡ 2 ^ k → result ≡ descent (is_in candidates) tree k node first }
@@ -74,15 +73,15 @@ fn descend(tree: u32, candidates: u32, node: usize, first: usize, width: usize) 
 }
 
 // The way chosen among the candidates, if there is one.
-pub fn choose(tree: u32, candidates: u32, ways: usize) -> Found
+pub fn choose(tree: u32, candidates: u32, ways: usize) -> Option<usize>
     requires { power_to16 ways ≡ true }
     ensures { result ≡ tree_choice (is_in candidates) tree (levels ways) }
 {
     if has_candidate(candidates, 0, ways) {
         let w = descend(tree, candidates, 1, 0, ways);
-        Found::At(w)
+        Some(w)
     } else {
-        Found::Nothing
+        None
     }
 }
 
@@ -94,7 +93,8 @@ fn side_of(first: usize, half: usize, way: usize) -> usize
     if way < first + half { 0 } else { 1 }
 }
 
-// The tree after an access to a way, one of `width` ways from `first` below a node: the node names the half not taken.
+// The tree after an access to a way, one of `width` ways from `first` below a node: the node names the half not taken. A
+// recursion for the same reason.
 fn turn(tree: u32, node: usize, first: usize, width: usize, way: usize) -> u32
     requires { Span node first width }
     ensures { (k : ℕ) → width ≡ 2 ^ k → result ≡ turned tree k node first way }

@@ -21,8 +21,7 @@ use Rattle.layout.proofs.ByBlocks.{is_stands}
 use Rattle.tables.proofs.Misses.{no_entry, address-at, sent-at, misses_counted}
 use Rattle.tables.proofs.Queue.{queue_counted}
 use Rattle.records.proofs.Room.{send_takes, access_takes, step_takes}
-use Rattle.turns.specs.declared.Sent.{Sent}
-use Rattle.turns.specs.declared.Sent.TheVariants.{At, Nothing}
+use Rattle.std.specs.Prelude.{Option, Some, None}
 use Rattle.turns.specs.Parts.{noted, Noted, first_sent, FindsSent, CallsWrote, Sends, Fills, Offers}
 use Rattle.turns.proofs.Noting.{noted_took, noted_then, noted-short, noted-refused}
 
@@ -70,12 +69,12 @@ module _ (S : Settings) {L : Lent} {r : Reply} {M : Lent} (d : Does S send L r M
 -- ---- the fill of the first sent entry
 
 first_sent_at : (es : List Entry) (r : ℕ) → r < length es → ((k : ℕ) → k < r → (get_or es k no_entry).sent ≡ false) → (get_or es r no_entry).sent ≡ true
-    → first_sent es ≡ At (get_or es r no_entry).address
+    → first_sent es ≡ Some (get_or es r no_entry).address
 first_sent_at [] r h f e = absurd (not-suc-le-zero h)
 first_sent_at (x ∷ es) zero h f e = rw e
 first_sent_at (x ∷ es) (suc r) h f e = rw (f 0 (omega arith)) (first_sent_at es r (le_of_suc-le-suc h) (λ k j. f (suc k) (omega arith)) e)
 
-none_sent : (es : List Entry) → ((k : ℕ) → k < length es → (get_or es k no_entry).sent ≡ false) → first_sent es ≡ Nothing
+none_sent : (es : List Entry) → ((k : ℕ) → k < length es → (get_or es k no_entry).sent ≡ false) → first_sent es ≡ None
 none_sent [] f = refl
 none_sent (x ∷ es) f = rw (f 0 (omega arith)) (none_sent es (λ k j. f (suc k) (omega arith)))
 
@@ -91,34 +90,34 @@ module _ (S : Settings) {longs words marks : List ℕ} (t : Tables) (i : Encodes
   unset : (k : ℕ) → k < length t.misses → k < r → (get_or t.misses k no_entry).sent ≡ false
   unset k h j = sym (sent_is k h) ∙ ne_eqb (get_or marks (at.sent + k) 0) 1 (f.before k j)
 
-  pub found_sent : r < n → At (get_or longs (at.misses + r) 0) ≡ first_sent t.misses
+  pub found_sent : r < n → Some (get_or longs (at.misses + r) 0) ≡ first_sent t.misses
   found_sent h =
       let all = in_use in
       let below : r < length t.misses = omega arith in
-      ap At (address-at S t (is_stands i) p (few_misses S t (parts S t i.soundly)) r below)
+      ap Some (address-at S t (is_stands i) p (few_misses S t (parts S t i.soundly)) r below)
       ∙ sym (first_sent_at t.misses r below (λ k j. unset k (omega arith) j)
       (sym (sent_is r below) ∙ eq-eqb (get_or marks (at.sent + r) 0) 1 (f.there h)))
 
-  pub found_none : n ≤ r → Nothing ≡ first_sent t.misses
+  pub found_none : n ≤ r → None ≡ first_sent t.misses
   found_none h = let all = in_use in sym (none_sent t.misses (λ k j. unset k j (omega arith)))
 
-abbrev fill_at : Tables → Sent → Turn Tables
-fill_at t (At a) = took t (fill a t)
-fill_at t Nothing = still t
+abbrev fill_at : Tables → Option ℕ → Turn Tables
+fill_at t (Some a) = took t (fill a t)
+fill_at t None = still t
 
 fill-first : (S : Settings) (x : Access) (es : List Entry) (t : Tables) → outcome_fill (steps S x) es t ≡ fill_at t (first_sent es)
 unfolding outcome_fill
 fill-first S x [] t = refl
 fill-first S x (y ∷ es) t = ⊎_elim (λ q. rw q) (λ q. rw q (fill-first S x es t)) (flag y.sent)
 
-module _ (S : Settings) {L : Lent} {v : Sent} (found : FindsSent S L v) where
-  fill_at_lem : (x : Access) (t : Tables) → Encodes S L t → {w : Sent} → v ≡ w → outcome_fill (steps S x) t.misses t ≡ fill_at t w
+module _ (S : Settings) {L : Lent} {v : Option ℕ} (found : FindsSent S L v) where
+  fill_at_lem : (x : Access) (t : Tables) → Encodes S L t → {w : Option ℕ} → v ≡ w → outcome_fill (steps S x) t.misses t ≡ fill_at t w
   fill_at_lem x t i e = fill-first S x t.misses t ∙ ap (fill_at t) (sym (found.on t i) ∙ e)
 
-  pub fills_none : v ≡ Nothing → (e : List ℕ) (out : ℕ) → Fills S L e out out e L
+  pub fills_none : v ≡ None → (e : List ℕ) (out : ℕ) → Fills S L e out out e L
   fills_none q e out = record { on = λ x t i. rw (fill_at_lem x t i q) (still_turned S t i e out); short = omega arith }
 
-  module _ {a : ℕ} (q : v ≡ At a) {r : Reply} {M : Lent} (d : Does S (fill a) L r M) (h : SoundSlices S L) where
+  module _ {a : ℕ} (q : v ≡ Some a) {r : Reply} {M : Lent} (d : Does S (fill a) L r M) (h : SoundSlices S L) where
     pub fill-bytes : length (log_bytes (events_told r)) ≤ fill_bytes
     fill-bytes = let i = h.are in rw (does_tells S d h.tables i) (step_takes S (cmd.Fill a) h.tables i.range i.soundly).most
 
@@ -171,14 +170,3 @@ module _ (S : Settings) {longs words marks : List ℕ} {at : Layout} (p : LaysOu
     {q : ℕ} (f : First marks at.kinds S.queue 0 q) {m : ℕ} (u : First marks at.counts S.misses 0 m) where
   pub in_use_counted : (t : Tables) → Encodes S (lent longs words marks) t → (q ≡ length t.queue) × (m ≡ length t.misses)
   in_use_counted t i = (queue_counted S t i p f, misses_counted S t i p u)
-
--- the marks hold the kinds of the queue and the counts of the entries
-module _ {S : Settings} {longs words marks : List ℕ} {at : Layout} (p : LaysOut S at) (h : SoundSlices S (lent longs words marks)) where
-  sized : Sized S longs words marks
-  sized = is_fit _ _ _ h.are
-
-  pub kinds_fit : at.kinds + S.queue ≤ length marks
-  kinds_fit = omega (arith, sized)
-
-  pub counts_fit : at.counts + S.misses ≤ length marks
-  counts_fit = omega (arith, sized)

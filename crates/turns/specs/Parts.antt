@@ -1,5 +1,5 @@
 -- What the parts of a round ask and promise, on slices that are the encoding of sound tables. Nothing here is document 01's.
-use Rattle.std.specs.Prelude.{ℕ, suc, ◌+◌, ◌-◌, ◌≤◌, ◌≡◌, Bool, true, false, List, [], ◌∷◌, ◌++◌, length}
+use Rattle.std.specs.Prelude.{Option, Some, None, ℕ, suc, ◌+◌, ◌-◌, ◌≤◌, ◌≡◌, Bool, true, false, List, [], ◌∷◌, ◌++◌, length}
 use Rattle.std.proofs.lemmas.List.Edits.{sets}
 use Rattle.words.specs.Words.{pick}
 use Rattle.model.specs.Tables.{Entry, Tables, Outcome, after, events_of}
@@ -15,8 +15,6 @@ use Rattle.model.specs.declared.Event.{Event}
 use Rattle.model.specs.declared.Event.TheVariants.{Answered, Refused, ReadQueued, WriteBackQueued, Released, ReadSent, WriteBackSent, Filled, Ticked}
 use Rattle.model.specs.declared.Reply.{Reply}
 use Rattle.records.specs.Fitting.{AllFitting}
-use Rattle.turns.specs.declared.Sent.{Sent}
-use Rattle.turns.specs.declared.Sent.TheVariants.{At, Nothing}
 use Rattle.turns.specs.declared.Round.{Round}
 
 -- ---- what a call told
@@ -45,11 +43,11 @@ pub record Noted (e : List ℕ) (out : ℕ) (es : List Event) (w : ℕ) (f : Lis
 -- ---- a round
 
 -- the address of the first entry marked sent
-abbrev pub first_sent : List Entry → Sent
-first_sent [] = Nothing
-first_sent (e ∷ es) = pick e.sent (At e.address) (first_sent es)
+abbrev pub first_sent : List Entry → Option ℕ
+first_sent [] = None
+first_sent (e ∷ es) = pick e.sent (Some e.address) (first_sent es)
 
-pub record FindsSent (S : Settings) (L : Lent) (r : Sent) : Type 0 where
+pub record FindsSent (S : Settings) (L : Lent) (r : Option ℕ) : Type 0 where
   pub on : (t : Tables) → Encodes S L t → r ≡ first_sent t.misses
 
 -- the calls of a on the tables t wrote behind `out` bytes and left M

@@ -1,63 +1,24 @@
-// The values of document 01 in code: the number of each case and the case of a number, the event of a queued entry, what an address says,
-// the constant table of answers.
+// The model's values in code: the number of what stopped a run, the event of a queued entry, what an address says, the constant table of answers.
 #![tactic(auto)]
 
 ghost use Rattle.std.specs.Prelude.{◌≡◌, ◌/◌, ◌%◌, ◌<◌, true, get_or};
 ghost use Rattle.model.specs.Range.{power_to256};
 ghost use Rattle.model.specs.declared.Answer.TheVariants.{Hit};
-ghost use Rattle.model.specs.Numbers.{status_number, status_of, queue_kind_number, queue_kind_of, answer_number, refusal_number, stop_number};
 ghost use Rattle.model.specs.Probe.{answer_at, answer_of};
+ghost use Rattle.model.specs.Numbers.{stop_number};
 ghost use Rattle.model.specs.Tables.{idle};
 ghost use Rattle.model.specs.Steps.{queued_event, sent_event};
 ghost use Rattle.model.specs.Address.{address_of, block_of, sector_address_of, sector_index};
 
 use model::{
-    Access, Answer, BlockAddress, Event, QueueKind, Queued, Refusal, Sector, SectorAddress, Status,
-    Stop,
+    Access, Answer, BlockAddress, Event, QueueKind, Queued, Sector, SectorAddress, Status, Stop,
 };
 
-// A status as its number.
-pub fn status_number(s: Status) -> u8
-    ensures { result ≡ status_number s }
+// The number of what stopped, 0 where nothing did.
+pub fn stop_number(stop: Option<Stop>) -> u8
+    ensures { result ≡ stop_number stop }
 {
-    match s {
-        Status::Invalid => 0,
-        Status::Reserved => 1,
-        Status::Valid => 2,
-        Status::Modified => 3,
-    }
-}
-
-// The status of a number; of one above 3, which sound tables do not have, MODIFIED.
-pub fn status_of(n: u8) -> Status
-    ensures { result ≡ status_of n }
-{
-    match n {
-        0 => Status::Invalid,
-        1 => Status::Reserved,
-        2 => Status::Valid,
-        _ => Status::Modified,
-    }
-}
-
-// A queued entry's kind as it is stored.
-pub fn queue_kind_number(k: QueueKind) -> u8
-    ensures { result ≡ queue_kind_number k }
-{
-    match k {
-        QueueKind::Read => 1,
-        QueueKind::WriteBack => 2,
-    }
-}
-
-// The kind of a number; of one above 2, which sound tables do not have, a write-back.
-pub fn queue_kind_of(n: u8) -> QueueKind
-    ensures { result ≡ queue_kind_of n }
-{
-    match n {
-        1 => QueueKind::Read,
-        _ => QueueKind::WriteBack,
-    }
+    stop.map_or(0, u8::from)
 }
 
 // What stands in an unused place of what a call tells.
@@ -72,6 +33,7 @@ pub fn idle() -> Queued
 }
 
 // The event of an entry that is queued.
+// Two functions, this and the next: an event's kind is its variant, which is no value to pass.
 pub fn queued_event(x: Queued) -> Event
     ensures { result ≡ queued_event x }
 {
@@ -107,69 +69,12 @@ pub fn sent_event(x: Queued) -> Event
     }
 }
 
-// An answer as its number.
-pub fn answer_number(a: Answer) -> u8
-    ensures { result ≡ answer_number a }
-{
-    match a {
-        Answer::Hit => 1,
-        Answer::HitReserved => 2,
-        Answer::Miss => 3,
-        Answer::SectorMiss => 4,
-    }
-}
-
-// A refusal as its number.
-pub fn refusal_number(n: Refusal) -> u8
-    ensures { result ≡ refusal_number n }
-{
-    match n {
-        Refusal::SettingOutOfRange => 1,
-        Refusal::SliceLength => 2,
-        Refusal::NotSound => 3,
-        Refusal::BadAccess => 4,
-        Refusal::SetBusy => 5,
-        Refusal::SetHeld => 6,
-        Refusal::QueueFull => 7,
-        Refusal::EntryFull => 8,
-        Refusal::MissTableFull => 9,
-        Refusal::NotSent => 10,
-        Refusal::BadCycle => 11,
-        Refusal::QueueEmpty => 12,
-    }
-}
-
-// A stop as its number.
-pub fn stop_number(s: Stop) -> u8
-    ensures { result ≡ stop_number s }
-{
-    match s {
-        Stop::Nothing => 0,
-        Stop::SettingOutOfRange => 1,
-        Stop::SliceLength => 2,
-        Stop::NotSound => 3,
-        Stop::OutOfPlace => 13,
-        Stop::UnknownKind => 14,
-        Stop::CutShort => 15,
-        Stop::NoRoom => 16,
-    }
-}
-
 // The address of an access.
 pub fn address_of(x: Access) -> u64
     ensures { result ≡ address_of x }
 {
     match x {
-        Access::Read {
-            address,
-            mask: _,
-            ticket: _,
-        } => address,
-        Access::Write {
-            address,
-            mask: _,
-            ticket: _,
-        } => address,
+        Access::Read { address, .. } | Access::Write { address, .. } => address,
     }
 }
 
@@ -233,7 +138,8 @@ fn in_row(row: [Answer; 3], column: usize) -> Answer
     }
 }
 
-// A status's answer at a column of the table: 0 of a write, 1 of a read that may read the sector, 2 of a read that may not.
+// A status's answer at a column of the table, by number as `answer_at` has it: 0 of a write, 1 of a read that may read the sector, 2 of a
+// read that may not.
 fn in_column(status: Status, column: usize) -> Answer
     requires { column < 3 }
     ensures { result ≡ answer_at status column }
@@ -252,21 +158,13 @@ pub fn answer_of(x: Access, s: Sector) -> Answer
 {
     let status = s.status;
     match x {
-        Access::Read {
-            address: _,
-            mask: _,
-            ticket: _,
-        } => {
+        Access::Read { .. } => {
             if s.readable {
                 in_column(status, 1)
             } else {
                 in_column(status, 2)
             }
         }
-        Access::Write {
-            address: _,
-            mask: _,
-            ticket: _,
-        } => in_column(status, 0),
+        Access::Write { .. } => in_column(status, 0),
     }
 }

@@ -1,4 +1,4 @@
-// What a stream ends in.
+// What a stream ends in, or why the runner stops there.
 ghost use Rattle.std.specs.Prelude.{◌≡◌};
 ghost use Rattle.wait.specs.Lasts.{last_command, last_cut, last_of};
 
@@ -11,59 +11,53 @@ pub(crate) enum Last {
     Offer(Access),
     // A send, a fill or a tick.
     Other(Command),
-    // No record stands behind the settings.
+    // No record stands behind the settings: the third of three outcomes, each said in words of its own.
     Nothing,
-    // The runner stops there.
-    Stopped(Stop),
 }
 
 // An access is offered as the runner makes it of its record.
-fn last_command(c: Command) -> Last
+fn last_command(c: Command) -> Result<Last, Stop>
     ensures { result ≡ last_command c }
 {
     match c {
-        Command::Settings(_) => Last::Stopped(Stop::OutOfPlace),
-        Command::Read { address, ticket } => Last::Offer(Access::Read {
+        Command::Settings(_) => Err(Stop::OutOfPlace),
+        Command::Read { address, ticket } => Ok(Last::Offer(Access::Read {
             address,
             mask: 0,
             ticket,
-        }),
-        Command::Write { address, mask } => Last::Offer(Access::Write {
+        })),
+        Command::Write { address, mask } => Ok(Last::Offer(Access::Write {
             address,
             mask,
             ticket: 0,
-        }),
-        Command::Send => Last::Other(c),
-        Command::Fill(_) => Last::Other(c),
-        Command::Tick(_) => Last::Other(c),
+        })),
+        Command::Send | Command::Fill(_) | Command::Tick(_) => Ok(Last::Other(c)),
     }
 }
 
 // "To the runner event kinds are unknown kinds", cut short or not.
-fn last_cut(kind: u8) -> Last
+fn last_cut(kind: u8) -> Result<Last, Stop>
     ensures { result ≡ last_cut kind }
 {
     if records::is_command(kind) {
-        Last::Stopped(Stop::CutShort)
+        Err(Stop::CutShort)
     } else {
-        Last::Stopped(Stop::UnknownKind)
+        Err(Stop::UnknownKind)
     }
 }
 
 // Of the bytes from the last record on.
-pub(crate) fn last_of(s: &[u8]) -> Last
+pub(crate) fn last_of(s: &[u8]) -> Result<Last, Stop>
     ensures { result ≡ last_of s.now }
 {
     match records::item_at(s, 0) {
-        Item::Command { command, next: _ } => last_command(command),
-        Item::Event { event: _, next: _ } => Last::Stopped(Stop::UnknownKind),
-        Item::End => Last::Nothing,
+        Item::Command { command, .. } => last_command(command),
+        Item::End => Ok(Last::Nothing),
         Item::Cut {
             kind,
             wants: _,
             left: _,
         } => last_cut(kind),
-        Item::Unknown(_) => Last::Stopped(Stop::UnknownKind),
-        Item::Strange(_) => Last::Stopped(Stop::UnknownKind),
+        Item::Event { .. } | Item::Unknown(_) | Item::Strange(_) => { Err(Stop::UnknownKind) }
     }
 }

@@ -20,13 +20,11 @@ ghost use Rattle.streaming.specs.Parts.{Ready};
 
 use input::Source;
 use last::Last;
-use model::Settings;
+use model::{Settings, Stop};
 use output::Output;
-use running::Opening;
-use streaming::parts::Started;
 use streaming::scope::Scope;
 use streaming::work::Work;
-use streaming::{first, parts, rooms, work};
+use streaming::{first, parts, rooms};
 
 // At the end of the input: the last record is what waits in the buffer.
 fn wait_last(
@@ -42,12 +40,12 @@ fn wait_last(
 {
     let rest = text::front(buf, w.have);
     match last::last_of(rest) {
-        Last::Offer(x) => {
-            waiting::wait_for(to, s, longs, words, marks, x, w.consumed);
+        Ok(Last::Offer(x)) => {
+            let _ = waiting::wait_for(to, s, longs, words, marks, x, w.consumed);
         }
-        Last::Other(c) => says::no_access(to, c, w.consumed),
-        Last::Nothing => says::only_settings(to),
-        Last::Stopped(stop) => says::stopped(to, stop, rest, w.consumed),
+        Ok(Last::Other(c)) => says::no_access(to, c, w.consumed),
+        Ok(Last::Nothing) => says::only_settings(to),
+        Err(stop) => says::stopped(to, stop, rest, w.consumed),
     }
 }
 
@@ -76,11 +74,10 @@ fn wait_rest(
         start,
         Scope::BeforeLast,
     );
-    if !work::has_stopped(w) {
+    if !w.has_stopped() {
         return;
     }
-    let stop = w.stop;
-    if values::stop_number(stop) != 0 {
+    if let Some(stop) = w.stop {
         says::stopped(to, stop, text::front(buf, w.have), w.consumed);
         return;
     }
@@ -91,7 +88,7 @@ fn wait_rest(
 fn wait_all(
     source: &mut Source,
     to: Output,
-    first: Opening,
+    first: Result<(Settings, usize), Option<Stop>>,
     buf: &mut [u8],
     longs: &mut [u64],
     words: &mut [u32],
@@ -104,13 +101,11 @@ fn wait_all(
     requires first_value { first ≡ first_record (take w.have buf.old) }
 {
     match parts::start(first, buf, longs, words, marks, w) {
-        Started::Stops(stopped) => {
+        Err(stopped) => {
             let stop = stopped.stop;
             says::first_stop(to, stop, text::front(buf, stopped.have));
         }
-        Started::Runs { settings, work } => {
-            wait_rest(source, to, settings, buf, longs, words, marks, work)
-        }
+        Ok((settings, work)) => { wait_rest(source, to, settings, buf, longs, words, marks, work) }
     }
 }
 
@@ -121,9 +116,9 @@ fn wait_stream(source: &mut Source, to: Output, buf: &mut [u8], w: Work)
 {
     let first = running::first_record(text::front(buf, w.have));
     let n = running::lengths_for(first);
-    let mut longs = rooms::longs_room();
-    let mut words = rooms::words_room();
-    let mut marks = rooms::marks_room();
+    let mut longs = [0u64; rooms::LONGS];
+    let mut words = [0u32; rooms::WORDS];
+    let mut marks = [0u8; rooms::MARKS];
     let a = n.longs;
     let b = n.words;
     let c = n.marks;
@@ -148,7 +143,7 @@ fn main(rt: HostRuntime) {
     let mut space = [0u8; 65536];
     let buf: &mut [u8] = &mut space;
     let first = first::read_first(&mut source, to, buf);
-    if work::has_failed(first) {
+    if first.has_failed() {
         return;
     }
     wait_stream(&mut source, to, buf, first);

@@ -2,30 +2,12 @@
 use crate::waiting::Counts;
 use model::{Access, Command, Event, Refusal, Reply, Stop};
 use records::Item;
-use rounds::Waiting;
+use rounds::{Accepted, NotAccepted};
 use wording::{commands, events, stops};
-
-// Where the events of a round are shown to: the place of the next one, the bytes of text.
-#[derive(Clone, Copy)]
-struct Shown {
-    at: usize,
-    put: usize,
-}
 
 // In the assembler's words.
 fn put_access(x: Access, out: &mut [u8], at: usize) -> usize {
-    match x {
-        Access::Read {
-            address,
-            mask: _,
-            ticket,
-        } => commands::put_command(Command::Read { address, ticket }, out, at),
-        Access::Write {
-            address,
-            mask,
-            ticket: _,
-        } => commands::put_command(Command::Write { address, mask }, out, at),
-    }
+    commands::put_command(Command::from(x), out, at)
 }
 
 // A place in the stream, in brackets.
@@ -56,34 +38,22 @@ pub(crate) fn put_start(x: Access, place: u64, n: Counts, most: usize, out: &mut
 }
 
 // An event on a line of its own, under its round.
+// Text at a place, as in `trace`: `wording` puts it so.
 fn put_event(e: Event, out: &mut [u8], at: usize) -> usize {
     let a = text::put_text(b"  ", out, at);
     let b = events::put_event(e, out, a);
     text::put_text(b"\n", out, b)
 }
 
-// The event at a place. What is no event ends the list: a round writes only events.
-fn put_next(s: &[u8], out: &mut [u8], t: Shown) -> Shown {
-    let Item::Event { event, next } = records::item_at(s, t.at) else {
-        return t;
-    };
-    Shown {
-        at: next,
-        put: put_event(event, out, t.put),
-    }
-}
-
-// The events of a round, one behind the other.
+// The events of a round, one behind the other. What is no event ends the list: a round writes only events.
 fn put_events(s: &[u8], out: &mut [u8], at: usize) -> usize {
-    let mut t = Shown { at: 0, put: at };
-    while t.at < s.len() {
-        let r = put_next(s, out, t);
-        if r.at <= t.at {
-            return r.put;
-        }
-        t = r;
+    let mut place = 0;
+    let mut end = at;
+    while let Item::Event { event, next } = records::item_at(s, place) {
+        end = put_event(event, out, end);
+        place = next;
     }
-    t.put
+    end
 }
 
 // A refused offer writes no event, and is told by its refusal.
@@ -94,24 +64,27 @@ pub(crate) fn put_round(round: usize, events: &[u8], reply: Reply, out: &mut [u8
     if turns::accepted(reply) {
         return c;
     }
-    let refusal = reply.first;
-    put_event(refusal, out, c)
+    put_event(reply.first, out, c)
 }
 
 // The last line: what waiting came to.
-pub(crate) fn put_end(waiting: Waiting, most: usize, out: &mut [u8]) -> usize {
+pub(crate) fn put_end(
+    waiting: Result<Accepted, NotAccepted>,
+    most: usize,
+    out: &mut [u8],
+) -> usize {
     match waiting {
-        Waiting::Accepted { round, answer: _ } => {
+        Ok(Accepted { round, answer: _ }) => {
             let a = stops::put_number(b"accepted in round ", round as u64, out, 0);
             let b = stops::put_number(b" of at most ", most as u64, out, a);
             text::put_text(b"\n", out, b)
         }
-        Waiting::Held => text::put_text(b"held: no wait will help\n", out, 0),
-        Waiting::Refused(n) => {
+        Err(NotAccepted::Held) => text::put_text(b"held: no wait will help\n", out, 0),
+        Err(NotAccepted::Refused(n)) => {
             let a = events::put_event(Event::Refused(n), out, 0);
             text::put_text(b"\n", out, a)
         }
-        Waiting::NoRoom => text::put_text(b"too little event room\n", out, 0),
+        Err(NotAccepted::NoRoom) => text::put_text(b"too little event room\n", out, 0),
     }
 }
 
@@ -156,9 +129,9 @@ pub(crate) fn put_empty(out: &mut [u8]) -> usize {
 
 // Where and why the stream stopped before its last record.
 pub(crate) fn put_stopped(stop: Stop, rest: &[u8], place: u64, out: &mut [u8]) -> usize {
-    let a = stops::put_number(b"stop ", values::stop_number(stop) as u64, out, 0);
+    let a = stops::put_number(b"stop ", u8::from(stop) as u64, out, 0);
     let b = stops::put_number(b" consumed ", place, out, a);
     let c = text::put_text(b" (", out, b);
-    let d = stops::put_why(stop, rest, place, out, c);
+    let d = stops::put_why(Some(stop), rest, place, out, c);
     text::put_text(b"): nothing is waited for\n", out, d)
 }

@@ -4,80 +4,82 @@ use crate::page;
 use crate::waiting::Counts;
 use model::{Access, Command, Reply, Stop};
 use output::Output;
-use rounds::Waiting;
+use rounds::{Accepted, NotAccepted};
 
-// Prints the first n bytes of a page; says whether they went.
-fn print(to: Output, page: &[u8], n: usize) -> bool {
-    output::write(to, text::front(page, n))
+// Standard output, as long as it takes what is printed: behind a page that did not go there is none.
+#[derive(Clone, Copy)]
+pub(crate) struct Pages {
+    to: Output,
+    goes: bool,
 }
 
-// Writes a page to standard error.
-fn complain(to: Output, page: &[u8], n: usize) {
-    output::say(to, text::front(page, n));
-}
-
-// Says what is waited for; whether it could be written.
-pub(crate) fn start(to: Output, x: Access, place: u64, n: Counts, most: usize) -> bool {
-    let mut page = [0u8; 4096];
-    let end = page::put_start(x, place, n, most, &mut page);
-    print(to, &page, end)
-}
-
-// One round; nothing where what stands before it could not be printed.
-pub(crate) fn round(to: Output, shown: bool, round: usize, events: &[u8], reply: Reply) -> bool {
-    if !shown {
-        return false;
+impl Pages {
+    // Nothing is printed yet.
+    pub(crate) fn new(to: Output) -> Pages {
+        Pages { to, goes: true }
     }
-    let mut page = [0u8; 4096];
-    let end = page::put_round(round, events, reply, &mut page);
-    print(to, &page, end)
+
+    // Prints what `put` makes of a page, if all before it went.
+    fn print<F: FnOnce(&mut [u8]) -> usize>(&mut self, put: F)
+        requires { F.IsAlwaysCallable put }
+    {
+        if self.goes {
+            let mut page = [0u8; 4096];
+            let end = put(&mut page);
+            self.goes = self.to.write(text::front(&page, end));
+        }
+    }
+
+    // Says what is waited for.
+    pub(crate) fn start(&mut self, x: Access, place: u64, n: Counts, most: usize) {
+        self.print(|page| page::put_start(x, place, n, most, page));
+    }
+
+    // One round.
+    pub(crate) fn round(&mut self, round: usize, events: &[u8], reply: Reply) {
+        self.print(|page| page::put_round(round, events, reply, page));
+    }
+
+    // Says what waiting came to.
+    pub(crate) fn end(&mut self, waiting: Result<Accepted, NotAccepted>, most: usize) {
+        self.print(|page| page::put_end(waiting, most, page));
+    }
 }
 
-// Says what waiting came to, if the rounds could be shown.
-pub(crate) fn end(to: Output, shown: bool, waiting: Waiting, most: usize) {
-    if !shown {
-        return;
-    }
+// Writes what `put` makes of a page to standard error.
+fn complain<F: FnOnce(&mut [u8]) -> usize>(to: Output, put: F)
+    requires { F.IsAlwaysCallable put }
+{
     let mut page = [0u8; 4096];
-    let end = page::put_end(waiting, most, &mut page);
-    print(to, &page, end);
+    let end = put(&mut page);
+    to.say(text::front(&page, end));
 }
 
 // Complains of an access that is not well formed.
 pub(crate) fn malformed(to: Output, x: Access, place: u64) {
-    let mut page = [0u8; 4096];
-    let end = page::put_malformed(x, place, &mut page);
-    complain(to, &page, end);
+    complain(to, |page| page::put_malformed(x, place, page));
 }
 
 // Complains of a stream that does not end in an access.
 pub(crate) fn no_access(to: Output, c: Command, place: u64) {
-    let mut page = [0u8; 4096];
-    let end = page::put_no_access(c, place, &mut page);
-    complain(to, &page, end);
+    complain(to, |page| page::put_no_access(c, place, page));
 }
 
 // Complains of a stream that ends behind its settings.
 pub(crate) fn only_settings(to: Output) {
-    let mut page = [0u8; 4096];
-    let end = page::put_only_settings(&mut page);
-    complain(to, &page, end);
+    complain(to, |page| page::put_only_settings(page));
 }
 
 // Complains of a stream that stopped.
 pub(crate) fn stopped(to: Output, stop: Stop, rest: &[u8], place: u64) {
-    let mut page = [0u8; 4096];
-    let end = page::put_stopped(stop, rest, place, &mut page);
-    complain(to, &page, end);
+    complain(to, |page| page::put_stopped(stop, rest, place, page));
 }
 
 // With no byte there is no first record, and nothing has stopped.
-pub(crate) fn first_stop(to: Output, stop: Stop, rest: &[u8]) {
-    if values::stop_number(stop) != 0 {
+pub(crate) fn first_stop(to: Output, stop: Option<Stop>, rest: &[u8]) {
+    if let Some(stop) = stop {
         stopped(to, stop, rest, 0);
         return;
     }
-    let mut page = [0u8; 4096];
-    let end = page::put_empty(&mut page);
-    complain(to, &page, end);
+    complain(to, |page| page::put_empty(page));
 }

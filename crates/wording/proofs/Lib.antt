@@ -1,5 +1,3 @@
--- Laws of text put piece by piece, of lines as data, of names and of ranges.
+-- Laws of text put piece by piece, and of settings with a range.
 pub mod Pieces
-pub mod Lines
-pub mod Named
 pub mod Ranges

@@ -1,6 +1,8 @@
 -- Pieces of text one after another.
-use Rattle.words.proofs.General.{ℕ, ◌≡◌, refl, ap, ◌∙◌, ⊎_elim, List, [], ◌∷◌, ◌++◌, length, room, flag}
+use Rattle.words.proofs.General.{ℕ, ◌+◌, ◌<◌, add-one, map, take, take-suc, map-append, get_or, ◌≡◌, refl, ap, ◌∙◌, ⊎_elim, List, [], ◌∷◌, ◌++◌, length, room, flag}
 use Rattle.text.specs.Digits.{Put}
+use Rattle.wording.specs.Shown.{shown}
+use Rattle.wording.specs.declared.rows.Piece.{Piece}
 use Rattle.wording.specs.Pieces.{Page, page, with_piece, with_pieces, Puts}
 
 pub puts_none : {l : List ℕ} {at : ℕ} → Puts l at [] at l
@@ -40,3 +42,7 @@ puts_as p e = rw (← e) p
 
 pub puts_from : {l l' : List ℕ} {at : ℕ} {ss : List (List ℕ)} {r : ℕ} {l₁ : List ℕ} → l ≡ l' → Puts l at ss r l₁ → Puts l' at ss r l₁
 puts_from e p = rw (← e) p
+
+-- the pieces before a place, then the one there
+pub puts_more : (xs : List Piece) (i : ℕ) (d : Piece) {l : List ℕ} {at r : ℕ} {l₁ : List ℕ} {q : ℕ} {l₂ : List ℕ} → i < length xs → Puts l at (map shown (take i xs)) r l₁ → Put l₁ r (shown (get_or xs i d)) q l₂ → Puts l at (map shown (take (i + 1) xs)) q l₂
+puts_more xs i d h p k = puts_as (puts_then p (put_one k)) (rw (add-one i, take-suc xs i d h, map-append))

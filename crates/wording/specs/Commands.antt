@@ -1,8 +1,6 @@
 -- Commands in the assembler's own language.
-use Rattle.std.specs.Prelude.{ℕ, List, [], ◌∷◌}
+use Rattle.std.specs.Prelude.{ℕ, List, [], ◌∷◌, Option, Some, None}
 use Rattle.model.specs.declared.Given.{Given}
-use Rattle.model.specs.declared.GivenRule.{GivenRule}
-use Rattle.model.specs.declared.GivenRule.TheVariants.{LeftOut, Byte}
 use Rattle.model.specs.declared.Command.{Command}
 use Rattle.model.specs.declared.Command.TheVariants as cmd
 use Rattle.text.specs.Digits.{decimal, hexadecimal}
@@ -10,9 +8,9 @@ use Rattle.text.specs.Rules.{rule_name}
 use Rattle.text.specs.Words.{codes}
 
 -- a rule that is given, by its name if it has one
-abbrev pub rule_words : GivenRule → List (List ℕ)
-rule_words LeftOut = []
-rule_words (Byte n) = codes " rule " ∷ rule_name n ∷ []
+abbrev pub rule_words : Option ℕ → List (List ℕ)
+rule_words None = []
+rule_words (Some n) = codes " rule " ∷ rule_name n ∷ []
 
 abbrev pub settings_words : Given → List (List ℕ)
 settings_words g =

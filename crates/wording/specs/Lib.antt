@@ -5,4 +5,5 @@ pub mod Rows
 pub mod Events
 pub mod Commands
 pub mod Settings
+pub mod Shown
 pub mod Stops

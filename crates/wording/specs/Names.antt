@@ -1,9 +1,9 @@
 -- What answers and settings are called and what refusals mean, as text.
-use Rattle.std.specs.Prelude.{ℕ, ◌+◌, List, [], ◌∷◌, ◌++◌, take, get_or}
+use Rattle.std.specs.Prelude.{ℕ, ◌+◌, List, [], ◌∷◌, ◌++◌, get_or}
 use Rattle.model.specs.declared.Answer.{Answer}
 use Rattle.model.specs.declared.Refusal.{Refusal}
 use Rattle.model.specs.Numbers.{answer_number, refusal_number}
-use Rattle.text.specs.Words.{codes, passing_count, in_line}
+use Rattle.text.specs.Words.{codes}
 
 -- by document 01's number, from 1 on
 abbrev pub answer_names : List (List ℕ)
@@ -42,7 +42,3 @@ answer_name a = name_of (answer_number a)
 
 abbrev pub meaning_of : Refusal → List ℕ
 meaning_of n = name_of (4 + refusal_number n)
-
--- a text up to its line feed
-abbrev pub line_of : List ℕ → List ℕ
-line_of s = take (passing_count in_line s) s

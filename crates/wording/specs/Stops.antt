@@ -1,5 +1,5 @@
 -- Why a run stopped, in words, of the bytes at which it did.
-use Rattle.std.specs.Prelude.{ℕ, ◌-◌, List, [], ◌∷◌, length, eqb}
+use Rattle.std.specs.Prelude.{ℕ, ◌-◌, List, [], ◌∷◌, length, eqb, Option, Some, None}
 use Rattle.words.specs.Words.{pick}
 use Rattle.model.specs.Records.{is_settings, length_of, no_kind, number_at}
 use Rattle.model.specs.declared.Stop.{Stop}
@@ -34,12 +34,12 @@ place_words kind place =
     (codes "kind " ∷ decimal kind ∷ codes " at byte " ∷ decimal place ∷ codes ": a stream starts with its settings, kind 0 or 6" ∷ [])
 
 -- stops 2, 3 and 16 come to no program here: the tables are as long as the settings ask and kept sound, events are written out before their room ends
-unfoldable pub why_words : Stop → List ℕ → ℕ → List (List ℕ)
-why_words stop.Nothing rest place = codes "end of input" ∷ []
-why_words stop.SettingOutOfRange rest place = bad_words rest
-why_words stop.SliceLength rest place = codes "tables of another length" ∷ []
-why_words stop.NotSound rest place = codes "tables not sound" ∷ []
-why_words stop.OutOfPlace rest place = place_words (number_at rest 0 1) place
-why_words stop.UnknownKind rest place = unknown_words (number_at rest 0 1) place
-why_words stop.CutShort rest place = cut_words (number_at rest 0 1) (length rest - 1) place
-why_words stop.NoRoom rest place = codes "too little event room" ∷ []
+unfoldable pub why_words : Option Stop → List ℕ → ℕ → List (List ℕ)
+why_words None rest place = codes "end of input" ∷ []
+why_words (Some stop.SettingOutOfRange) rest place = bad_words rest
+why_words (Some stop.SliceLength) rest place = codes "tables of another length" ∷ []
+why_words (Some stop.NotSound) rest place = codes "tables not sound" ∷ []
+why_words (Some stop.OutOfPlace) rest place = place_words (number_at rest 0 1) place
+why_words (Some stop.UnknownKind) rest place = unknown_words (number_at rest 0 1) place
+why_words (Some stop.CutShort) rest place = cut_words (number_at rest 0 1) (length rest - 1) place
+why_words (Some stop.NoRoom) rest place = codes "too little event room" ∷ []

@@ -42,7 +42,7 @@ pub use Rattle.words.proofs.Reflect.{is_any, is_one, is_pick, is_else}
 pub use Rattle.words.proofs.Arrays.{words-length, words_below}
 pub use Rattle.words.proofs.Region.{length-region, get_or-region, put_paste, get_or_paste_past, length-closed, Pasting, pasting_start, pasting_turn, pasting_done, Closing}
 pub use Rattle.words.proofs.Region.{closing_start, closing_move, closing_zero, closing_done, sets_four, region-first, sets_append, put-set-inside, put-set-before}
-pub use Rattle.words.proofs.Places.{put-past, put-within, put_whole, region_whole, sets_put, block_region, block_put, block_get, stride, length-pad_to, pad_to-zeros}
+pub use Rattle.words.proofs.Places.{put-past, put-within, put_whole, region_whole, sets_put, block_region, block_put, block_get, stride, length-pad_to, pad_to-zeros, pad_to-append}
 pub use Rattle.words.proofs.Places.{pad_to_get, take-pad_to, Copying, copying_start, copying_turn, copying_done, length_places, block_size, field_put, field-region}
 pub use Rattle.words.proofs.Places.{field_get, places_push_idle, places_same, places_past, field_push, field_extend, field_close_first}
 pub use Rattle.words.proofs.Tabled.{length_table, get_or_table, table_same, list_table, table_list, table_snoc, part_table, all_table, any_table, all_get, any_get}

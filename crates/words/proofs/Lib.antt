@@ -4,9 +4,11 @@ pub mod Flags
 pub mod Lists
 pub mod Counting
 pub mod Below
+pub mod Chains
 pub mod Reflect
 pub mod Arrays
 pub mod Region
 pub mod Places
 pub mod Tabled
+pub mod Ranged
 pub mod General

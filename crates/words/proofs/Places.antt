@@ -106,7 +106,7 @@ take-pad_to zero (x ∷ l) h = absurd (not-suc-le-zero h)
 take-pad_to (suc w) [] h = refl
 take-pad_to (suc w) (x ∷ l) h = ap (λ (t : List ℕ). x ∷ t) (take-pad_to w l (le_of_suc-le-suc h))
 
-pad_to-append : (w : ℕ) (r : List ℕ) → length r ≤ w → r ++ drop (length r) (replicate w 0) ≡ pad_to w r
+pub pad_to-append : (w : ℕ) (r : List ℕ) → length r ≤ w → r ++ drop (length r) (replicate w 0) ≡ pad_to w r
 unfolding pad_to
 pad_to-append w [] h = sym (pad_to-zeros w)
 pad_to-append zero (x ∷ r) h = absurd (not-suc-le-zero h)

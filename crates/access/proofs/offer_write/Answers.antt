@@ -1,18 +1,18 @@
-use Rattle.words.proofs.General.{refl, sym, ◌∙◌, rules}
+use Rattle.words.proofs.General.{ap, ◌∙◌, one}
 use Rattle.access.proofs.PlanTests.{write_needs, full_planned, write-planned}
 use Rattle.access.proofs.Offering.{may_act, offered_acted, offered-refused}
 use Rattle.access.proofs.offer_write.Goals as goal
 
-pub returns-then-s-queued : goal.returns-then-s-queued
-returns-then-s-queued c =
-    let planned = full_planned _ c.requires.0 c.requires.2 (write_needs c.args.x c.args.d c.requires.3 c.back_needed.ensures.0) c.if-s-queued.true in
-    offered-refused _ c.requires.0 c.requires.2 planned refl refl c.refused.ensures
+pub returns-then-g-o : goal.returns-then-g-o
+returns-then-g-o c =
+    offered-refused _ (full_planned _ c.args.g.laid c.requires.placed.queued (write_needs c.args.o.access c.args.o.decision c.requires.writes (c.from.ensures ∙ ap one c.is_some.ensures)) c.if-g-o.true)
 
-pub act_write-requires : goal.act_write-requires
-act_write-requires c =
-    let planned = write-planned _ c.requires.0 c.requires.2 (write_needs c.args.x c.args.d c.requires.3 c.back_needed.ensures.0) c.if-s-queued.false c.requires.3 in
-    let takes = sym c.takes_line.ensures ∙ c.if-not-takes_line.false in
-    (c.requires.0, may_act _ c.requires.0 c.requires.2 planned refl c.requires.1, c.requires.3, takes)
+pub act_write-requires-clause-acts : goal.act_write-requires-clause-acts
+act_write-requires-clause-acts c =
+    let planned = write-planned _ c.args.g.laid c.requires.placed.queued (write_needs c.args.o.access c.args.o.decision c.requires.writes (c.from.ensures ∙ ap one c.is_some.ensures)) c.if-g-o.false c.requires.writes in
+    may_act c.args.g.laid c.requires.placed.queued planned c.requires.placed.meets
 
 pub returns : goal.returns
-returns c = search (rules, write-planned, write_needs, offered_acted)
+returns c =
+    let planned = write-planned _ c.args.g.laid c.requires.placed.queued (write_needs c.args.o.access c.args.o.decision c.requires.writes (c.from.ensures ∙ ap one c.is_some.ensures)) c.if-g-o.false c.requires.writes in
+    offered_acted c.args.g.laid c.requires.placed.queued planned c.act_write.ensures

@@ -1,9 +1,13 @@
--- `assembly::assemble_line` meets its contract: by what the line was read as.
-use Rattle.assembly.proofs.Placing.{assembles_as, assembles_empty, assembles_bad}
+-- A line that is bad, and an empty one.
+use Rattle.words.proofs.General.{sym}
+use Rattle.std.proofs.lemmas.Result.{err_from_is_err_and}
+use Rattle.assembly.proofs.Placing.{assembles_empty, assembles_bad}
 use Rattle.assembly.proofs.assemble_line.Goals as goal
 
-pub returns-in-Empty : goal.returns-in-Empty
-returns-in-Empty c = search (assembles_as, assembles_empty)
+pub returns-in_err-command : goal.returns-in_err-command
+returns-in_err-command c =
+    let p = err_from_is_err_and c.from_residual.result c.from_residual.ensures.1 in
+    rw (p.1, p.2, sym c.in_err-command.ensures) (assembles_bad _ _ _)
 
-pub returns-in-Bad : goal.returns-in-Bad
-returns-in-Bad c = search (assembles_as, assembles_bad)
+pub returns-in-None : goal.returns-in-None
+returns-in-None c = rw (sym c.in_ok-command.ensures, c.in-None.is) (assembles_empty _ _)

@@ -1,37 +1,19 @@
--- `assembly::parse_line` meets its contract: the forms passed have another word.
-use Rattle.words.proofs.General.{arith, sym, ◌∙◌, rules}
-use Rattle.assembly.specs.Language.{forms, parse_line}
-use Rattle.assembly.proofs.Tables.{form-here, form-on, form-none}
+-- No word is there, or the command's words are read.
+use Rattle.words.proofs.General.{sym}
+use Rattle.std.proofs.lemmas.Result.{err_from_is_err_and}
+use Rattle.assembly.specs.Language.{parse_line}
 use Rattle.assembly.proofs.parse_line.Goals as goal
 
 pub returns-then-ends_at : goal.returns-then-ends_at
-unfolding forms parse_line
-returns-then-ends_at c = rw (sym c.ends_at.ensures ∙ c.if-ends_at.true)
+unfolding parse_line
+returns-then-ends_at c = rw (sym c.if-ends_at.ensures)
 
-pub loop-k-init : goal.loop-k-init
-unfolding forms parse_line
-loop-k-init c = rw (sym c.ends_at.ensures ∙ c.if-ends_at.false, c.word_end-end.ensures, c.skip_spaces-at.ensures)
-
-pub form_of-form-requires : goal.form_of-form-requires
-unfolding forms parse_line
-form_of-form-requires c = search rules
-
-pub form_line-requires : goal.form_line-requires
-unfolding forms parse_line
-form_line-requires c = search rules
-
-pub returns-then-word_is : goal.returns-then-word_is
-unfolding forms parse_line
-returns-then-word_is c = search form-here
-
-pub loop-k-smaller : goal.loop-k-smaller
-unfolding forms parse_line
-loop-k-smaller c = omega arith
-
-pub loop-k-preserved : goal.loop-k-preserved
-unfolding forms parse_line
-loop-k-preserved c = search form-on
+pub returns-in_err-command_in : goal.returns-in_err-command_in
+unfolding parse_line
+returns-in_err-command_in c =
+    let p = err_from_is_err_and c.from_residual.result c.from_residual.ensures.1 in
+    rw (p.1, p.2, sym c.if-ends_at.ensures, sym c.in_err-command_in.ensures)
 
 pub returns : goal.returns
-unfolding forms parse_line
-returns c = search form-none
+unfolding parse_line
+returns c = rw (sym c.if-ends_at.ensures, sym c.in_ok-command_in.ensures)

@@ -7,7 +7,7 @@ pub returns-then-n-eq0 : goal.returns-then-n-eq0
 returns-then-n-eq0 c = search placed-not
 
 pub overflow_add-result : goal.overflow_add-result
-overflow_add-result c = let h = placed-within _ _ _ c.encode_command-n.ensures.stored c.if-n-eq0.false in omega arith
+overflow_add-result c = let h = placed-within _ _ _ c.encode-n.ensures.stored c.if-n-eq0.false in omega arith
 
 pub returns : goal.returns
 returns c = search placed_there

@@ -1,10 +1,9 @@
--- `bill::bill_all` is safe and ends: each turn reads, or is the last.
+-- `bill::bill_all` is safe and ends: each turn reads a byte or more of those that may still come.
 use Rattle.std.proofs.Common.{◌≡◌, length}
-use Rattle.input.specs.Buffers.{turns_left}
 use Rattle.bill.proofs.bill_all.Given as goal
 
-abbrev pub invariant-loop-w : goal.invariant-loop-w
-invariant-loop-w l = length l.buf ≡ length l.initial.buf
+abbrev pub invariant-loop-lack : goal.invariant-loop-lack
+invariant-loop-lack l = length l.buf ≡ length l.initial.buf
 
-abbrev pub decreases-loop-w : goal.decreases-loop-w
-decreases-loop-w l = turns_left l.w.more l.w.left
+abbrev pub decreases-loop-lack : goal.decreases-loop-lack
+decreases-loop-lack l = l.left

@@ -3,8 +3,8 @@ use Rattle.words.proofs.General.{◌-◌, length}
 use Rattle.billing.proofs.Parts.{BillLeft}
 use Rattle.billing.proofs.bill_log.Given as goal
 
-abbrev pub invariant-loop-at : goal.invariant-loop-at
-invariant-loop-at l = BillLeft l.initial.b l.log l.b l.at
+abbrev pub invariant-loop-event : goal.invariant-loop-event
+invariant-loop-event l = BillLeft l.initial.b l.log l.b l.at
 
-abbrev pub decreases-loop-at : goal.decreases-loop-at
-decreases-loop-at l = length l.log - l.at
+abbrev pub decreases-loop-event : goal.decreases-loop-event
+decreases-loop-event l = length l.log - l.at

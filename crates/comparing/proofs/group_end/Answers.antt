@@ -9,8 +9,8 @@ returns-then-log-at c = sym (group_none _ _ c.if-log-at.true)
 pub loop-end-init : goal.loop-end-init
 loop-end-init c = ends_start _ _ c.if-log-at.false c.past-end.ensures
 
-pub returns-then-starts : goal.returns-then-starts
-returns-then-starts c = search ends_here
+pub returns-else-not-starts : goal.returns-else-not-starts
+returns-else-not-starts c = search ends_here
 
 pub loop-end-smaller : goal.loop-end-smaller
 loop-end-smaller c = search past_less
@@ -18,5 +18,5 @@ loop-end-smaller c = search past_less
 pub loop-end-preserved : goal.loop-end-preserved
 loop-end-preserved c = search ends_more
 
-pub returns : goal.returns
-returns c = let v = c.loop-end in ends_over _ _ v.end c.loop-end-test.false v.invariant
+pub returns-after-loop-end : goal.returns-after-loop-end
+returns-after-loop-end c = let v = c.loop-end in ends_over _ _ v.end c.loop-end-test.false v.invariant

@@ -6,14 +6,14 @@ use Rattle.comparing.proofs.scan.Goals as goal
 pub loop-at-init : goal.loop-at-init
 loop-at-init c = scans_start _
 
-pub returns-then-number-ne0 : goal.returns-then-number-ne0
-returns-then-number-ne0 c = search scans_wrong
+pub returns-in-Some : goal.returns-in-Some
+returns-in-Some c = let v = c.loop-at in scans_wrong _ v.at c.loop-at-test.true c.in-Some.ensures v.invariant
 
 pub loop-at-smaller : goal.loop-at-smaller
 loop-at-smaller c = search past_less
 
 pub loop-at-preserved : goal.loop-at-preserved
-loop-at-preserved c = search scans_more
+loop-at-preserved c = let v = c.loop-at in scans_more _ v.at c.loop-at-test.true c.in_default.ensures c.past-at.ensures v.invariant
 
 pub returns : goal.returns
 returns c = let v = c.loop-at in scans_over _ v.at c.loop-at-test.false v.invariant

@@ -2,8 +2,5 @@
 use Rattle.comparing.proofs.Sides.{Skips}
 use Rattle.comparing.proofs.skip.Given as goal
 
-abbrev pub invariant-loop-left : goal.invariant-loop-left
-invariant-loop-left l = Skips l.log l.number l.at l.left
-
-abbrev pub decreases-loop-left : goal.decreases-loop-left
-decreases-loop-left l = l.left
+abbrev pub invariant-loop-i : goal.invariant-loop-i
+invariant-loop-i l = Skips l.log l.number l.at l._i

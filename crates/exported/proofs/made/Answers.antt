@@ -6,4 +6,4 @@ use Rattle.exported.proofs.made.Goals as goal
 pub returns : goal.returns
 returns c =
     call_made (model_call c.args.k) c.words_fit.ensures c.settings_from-s.ensures c.if-events-lt-EVENT_ROOM.false c.perform-reply.ensures
-    c.write_reply.ensures.stored
+    c.encode.ensures.stored

@@ -4,8 +4,9 @@ use Rattle.percentage.specs.Differences.{Startable, differences_from}
 use Rattle.percentage.proofs.Writes.{Written}
 use Rattle.percentage.proofs.list.Given as goal
 
-abbrev pub invariant-loop-t : goal.invariant-loop-t
-invariant-loop-t l = Startable l.d l.l l.p × Written l.initial.out l.out l.n (differences_from l.d l.l l.p) × (60 ≤ length l.initial.out)
+abbrev pub invariant-loop-found : goal.invariant-loop-found
+invariant-loop-found l =
+    Startable l.place.dirty l.place.lines l.place.percent × Written l.initial.out l.out l.n (differences_from l.place.dirty l.place.lines l.place.percent) × (20 ≤ length l.initial.out)
 
-abbrev pub decreases-loop-t : goal.decreases-loop-t
-decreases-loop-t l = length l.initial.out - l.n
+abbrev pub decreases-loop-found : goal.decreases-loop-found
+decreases-loop-found l = length l.initial.out - l.n

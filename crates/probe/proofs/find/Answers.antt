@@ -1,19 +1,15 @@
--- None of the ways passed has the block: way 0 first, then the loop from way 1.
-use Rattle.words.proofs.General.{add-zero}
-use Rattle.probe.proofs.Scans.{unfound_start, unfound_stop, unfound_more}
+-- Way 0, or the first behind it.
+use Rattle.words.proofs.General.{◌+◌, sym, ◌∙◌, add-zero, refl, rules}
+use Rattle.tables.specs.Raw.{holds_at}
+use Rattle.probe.proofs.Scans.{first-zero, first_below-from_later}
 use Rattle.probe.proofs.find.Goals as goal
 
 pub returns-then-holds_block : goal.returns-then-holds_block
-returns-then-holds_block c = unfound_stop _ _ 0 c.requires.0 (rw add-zero c.holds_block.ensures) c.if-holds_block.true (unfound_start _ _)
+returns-then-holds_block c =
+    let a = c.args in
+    first-zero (λ w. holds_at a.longs.now a.marks.now a.block.0 (a.base + w)) a.ways c.requires.0 (rw add-zero (sym c.holds_block.ensures ∙ c.if-holds_block.true))
 
-pub loop-w-init : goal.loop-w-init
-loop-w-init c =
-    unfound_more _ _ 0 c.requires.0 (rw add-zero c.holds_block.ensures) c.if-holds_block.false (unfound_start _ _)
-
-pub returns-then-holds_block-2 : goal.returns-then-holds_block-2
-returns-then-holds_block-2 c =
-    unfound_stop _ _ _ c.loop-w-test.true c.holds_block-in-loop-w.ensures c.if-holds_block-2.true c.loop-w.invariant
-
-pub loop-w-preserved : goal.loop-w-preserved
-loop-w-preserved c =
-    unfound_more _ _ _ c.loop-w-test.true c.holds_block-in-loop-w.ensures c.if-holds_block-2.false c.loop-w.invariant
+pub returns : goal.returns
+returns c =
+    let a = c.args in
+    first_below-from_later _ a.ways (λ w. holds_at a.longs.now a.marks.now a.block.0 (a.base + w)) (rw add-zero (sym c.holds_block.ensures ∙ c.if-holds_block.false)) refl (λ x b q k. search rules) c.find.ensures.ran

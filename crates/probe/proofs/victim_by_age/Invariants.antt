@@ -8,6 +8,3 @@ use Rattle.probe.proofs.victim_by_age.Given as goal
 abbrev pub invariant-loop-w : goal.invariant-loop-w
 invariant-loop-w l =
     Leads (λ v. unused_at l.marks (l.base + v)) (λ v. candidate_at l.marks l.enough (l.base + v)) (λ v. get_or l.words (l.ages + (l.base + v)) 0) l.ways l.w l.best l.cycle
-
-abbrev pub decreases-loop-w : goal.decreases-loop-w
-decreases-loop-w l = l.w

@@ -14,8 +14,8 @@ enum_told-1 c = search rules
 pub chosen_by_tree-requires : goal.chosen_by_tree-requires
 chosen_by_tree-requires c = search rules
 
-pub returns-in-At : goal.returns-in-At
-returns-in-At c = or_first _ c.last_unused-free.ensures c.in-At.is
+pub returns-in-Some : goal.returns-in-Some
+returns-in-Some c = or_first _ c.last_unused-free.ensures c.in-Some.is
 
-pub returns-in-Nothing : goal.returns-in-Nothing
-returns-in-Nothing c = or_second c.last_unused-free.ensures c.in-Nothing.is c.chosen_by_tree.ensures
+pub returns-in-None : goal.returns-in-None
+returns-in-None c = or_second c.last_unused-free.ensures c.in-None.is c.chosen_by_tree.ensures

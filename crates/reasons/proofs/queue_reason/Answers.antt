@@ -5,13 +5,13 @@ use Rattle.reasons.proofs.Heads.{queue_empty, head_shown}
 use Rattle.reasons.proofs.queue_reason.Goals as goal
 
 pub used-n-requires : goal.used-n-requires
-used-n-requires c = omega (arith, slices_fit c.requires.1, c.requires.0)
+used-n-requires c = omega (arith, slices_fit c.requires, c.args.g.laid)
 
 pub returns-then-n-eq0 : goal.returns-then-n-eq0
-returns-then-n-eq0 c = record { on = λ t i. queue_empty _ t i c.requires.0 c.used-n.ensures c.if-n-eq0.true }
+returns-then-n-eq0 c = record { on = λ t i. queue_empty _ t i c.args.g.laid c.used-n.ensures c.if-n-eq0.true }
 
 pub front-requires : goal.front-requires
-front-requires c = let z = slices_fit c.requires.1 in let p = c.requires.0 in (omega arith, omega arith, omega arith)
+front-requires c = let z = slices_fit c.requires in let p = c.args.g.laid in (omega arith, omega arith, omega arith)
 
 pub returns : goal.returns
 returns c = search head_shown

@@ -4,13 +4,13 @@ use Rattle.reasons.proofs.Entries.{slices_fit, entries_fit, address_shown}
 use Rattle.reasons.proofs.readers_reason.Goals as goal
 
 pub used-n-requires : goal.used-n-requires
-used-n-requires c = omega (arith, slices_fit c.requires.1, c.requires.0)
+used-n-requires c = omega (arith, slices_fit c.requires, c.args.g.laid)
 
 pub find_entry-e-requires : goal.find_entry-e-requires
-find_entry-e-requires c = (entries_fit c.requires.0 c.requires.1 c.used-n.ensures).0
+find_entry-e-requires c = (entries_fit c.args.g.laid c.requires c.used-n.ensures).0
 
 pub entry_reason-requires : goal.entry_reason-requires
-entry_reason-requires c = entries_fit c.requires.0 c.requires.1 c.used-n.ensures
+entry_reason-requires c = entries_fit c.args.g.laid c.requires c.used-n.ensures
 
 pub returns : goal.returns
 returns c = search address_shown

@@ -4,10 +4,10 @@ use Rattle.reasons.proofs.Entries.{slices_fit, entries_fit, oldest_shown}
 use Rattle.reasons.proofs.table_reason.Goals as goal
 
 pub used-n-requires : goal.used-n-requires
-used-n-requires c = omega (arith, slices_fit c.requires.1, c.requires.0)
+used-n-requires c = omega (arith, slices_fit c.requires, c.args.g.laid)
 
 pub entry_reason-requires : goal.entry_reason-requires
-entry_reason-requires c = entries_fit c.requires.0 c.requires.1 c.used-n.ensures
+entry_reason-requires c = entries_fit c.args.g.laid c.requires c.used-n.ensures
 
 pub returns : goal.returns
 returns c = search oldest_shown

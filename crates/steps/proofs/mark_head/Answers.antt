@@ -4,9 +4,9 @@ use Rattle.layout.proofs.Stores.{one-put}
 use Rattle.words.proofs.General.{arith}
 use Rattle.steps.proofs.mark_head.Goals as goal
 
-pub returns-then-marks-kind-eq1 : goal.returns-then-marks-kind-eq1
-returns-then-marks-kind-eq1 c =
-    let f = c.find_entry-e in let k = first-inside f.ensures (c.requires.head_asked c.if-marks-kind-eq1.true) in record {
+pub returns-in-Read : goal.returns-in-Read
+returns-in-Read c =
+    let f = c.find_entry-e in let k = first-inside f.ensures (c.requires.head_asked c.in-Read.is) in record {
       reads = λ _. record { entry = f.result; inside = k; first = f.ensures; marks_are = one-put c.args.marks.now _ _ (omega arith) };
-      other = λ no. absurd (no c.if-marks-kind-eq1.true);
+      other = λ no. absurd (no c.in-Read.is);
     }

@@ -1,10 +1,9 @@
--- `text::fill` meets its contract: storing the characters that are left to write gives what storing all of them gives.
-use Rattle.words.proofs.General.{arith, ◌∙◌, length-set}
-use Rattle.text.proofs.Spelling.{fill_turn_lem}
+-- The character, written over k places.
+use Rattle.words.proofs.General.{arith, ◌+◌, ◌≤◌, length, length-take, length-drop}
+use Rattle.text.proofs.Puts.{mid_filled}
 use Rattle.text.proofs.fill.Goals as goal
 
-pub loop-i-preserved : goal.loop-i-preserved
-loop-i-preserved c =
-    let a = c.args in
-    let v = c.loop-i in
-    (omega arith, simp length-set v.invariant.1, v.invariant.2 ∙ fill_turn_lem v.out a.at a.k v.i a.c c.loop-i-test.true)
+pub returns : goal.returns
+returns c =
+    let h : c.args.at + c.args.k ≤ length c.args.out.now = c.requires in
+    mid_filled _ _ c.args.k c.args.c (c.fill.ensures.after (λ y e. e)) (simp (length-take, length-drop) (omega arith)) (omega arith) (omega arith)

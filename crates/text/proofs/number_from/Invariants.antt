@@ -1,10 +1,6 @@
--- `text::number_from` meets its contract: the digits from `at` on end where those from `i` on do, and come to the same behind the value so far.
-use Rattle.words.proofs.General.{◌-◌, length}
+-- The digits from `at` on end where those from `i` on do, and come to the same behind the value so far.
 use Rattle.text.proofs.Reading.{ReadTo}
 use Rattle.text.proofs.number_from.Given as goal
 
 abbrev pub invariant-loop-i : goal.invariant-loop-i
 invariant-loop-i l = ReadTo l.base l.s l.at l.value l.i
-
-abbrev pub decreases-loop-i : goal.decreases-loop-i
-decreases-loop-i l = length l.s - l.i

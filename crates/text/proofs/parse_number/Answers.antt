@@ -1,4 +1,4 @@
--- `text::parse_number` meets its contract.
+-- Behind `0x`, and anywhere else.
 use Rattle.words.proofs.General.{sym, ◌∙◌}
 use Rattle.text.specs.Digits.{parse_number}
 use Rattle.text.proofs.parse_number.Goals as goal

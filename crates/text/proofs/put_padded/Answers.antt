@@ -1,11 +1,12 @@
--- `text::put_padded` meets its contract.
-use Rattle.words.proofs.General.{arith}
+-- No room, and the characters in front, then the digits.
+use Rattle.words.proofs.General.{sym, ◌∙◌, leb-true, leb-false}
 use Rattle.text.proofs.Puts.{padded-none, padded_all}
 use Rattle.text.proofs.put_padded.Goals as goal
 
-pub returns-then-out-at-2 : goal.returns-then-out-at-2
-returns-then-out-at-2 c = padded-none _ _ _ _ _ _ c.count_digits-k.ensures c.lacking-pad.ensures (omega arith)
+pub returns-then-not-has_room : goal.returns-then-not-has_room
+returns-then-not-has_room c =
+    padded-none _ _ _ _ _ _ c.count_digits-k.ensures c.saturating_sub-pad.ensures (leb-false _ _ (sym c.has_room.ensures ∙ c.if-not-has_room.true))
 
 pub returns : goal.returns
 returns c =
-    padded_all _ _ _ _ _ _ c.count_digits-k.ensures c.lacking-pad.ensures (omega arith) c.fill.ensures c.spell.ensures
+    padded_all _ _ _ _ _ _ c.count_digits-k.ensures c.saturating_sub-pad.ensures (leb-true _ _ (sym c.has_room.ensures ∙ c.if-not-has_room.false)) c.fill.ensures c.spell.ensures

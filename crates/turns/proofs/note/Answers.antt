@@ -6,7 +6,7 @@ use Rattle.turns.proofs.note.Goals as goal
 
 pub overflow_add-result : goal.overflow_add-result
 overflow_add-result c =
-    let k = was_stored c.args.events.now c.args.out _ c.write_reply-n.ensures.stored c.requires in
+    let k = was_stored c.args.events.now c.args.out _ c.encode-n.ensures.stored c.requires in
     omega (arith, k.0)
 
 pub returns-then-accepted : goal.returns-then-accepted

@@ -3,7 +3,7 @@ use Rattle.streaming.specs.declared.scope.Scope.TheVariants as scope
 use Rattle.wait.proofs.wait_all.Goals as goal
 
 pub wait_rest-requires-clause-ready : goal.wait_rest-requires-clause-ready
-wait_rest-requires-clause-ready c = ((rw c.in-Runs.is at c.start.ensures).after scope.BeforeLast).2
+wait_rest-requires-clause-ready c = ((rw c.in-Ok.is at c.start.ensures).after scope.BeforeLast).2
 
 pub wait_rest-requires-clause-claims : goal.wait_rest-requires-clause-claims
-wait_rest-requires-clause-claims c = rw ((rw c.in-Runs.is at c.start.ensures).after scope.BeforeLast).0 tt
+wait_rest-requires-clause-claims c = rw ((rw c.in-Ok.is at c.start.ensures).after scope.BeforeLast).0 tt

@@ -8,20 +8,20 @@ use Rattle.access.proofs.writes.take_line.Goals as goal
 
 pub recount-requires : goal.recount-requires
 recount-requires c =
-    let m = c.requires.1.met in
-    let p = c.requires.0 in
-    (omega (arith, is_fit _ _ _ m.is), dirty_few _ _ m.is p, rw (back-dirty _ _ _ _ _ m c.requires.2) (was_counted _ _ m.is _ m.below p))
+    let m = c.requires.0.met in
+    let p = c.args.g.laid in
+    (omega (arith, is_fit _ _ _ m.is), dirty_few _ _ m.is p, rw (c.is_some.ensures ∙ back-dirty _ _ _ _ _ m c.requires.1) (was_counted _ _ m.is _ m.below p))
 
 pub write_line-requires : goal.write_line-requires
 write_line-requires c =
-    let m = c.requires.1.met in
-    omega (arith, m.below, is_fit _ _ _ m.is, c.requires.0, c.recount.auto.words)
+    let m = c.requires.0.met in
+    omega (arith, m.below, is_fit _ _ _ m.is, c.args.g.laid, c.recount.auto.words)
 
 pub returns : goal.returns
 returns c =
-    let a = c.args in
-    let m = c.requires.1.met in
-    let was = back-dirty _ _ _ _ _ m c.requires.2 in
-    let four = taken_left a.x a.d c.requires.3 c.taken_sectors-four.ensures ∙ ap (sectors_after a.x a.d) (sym (sectors-taken _ _ _ _ _ m c.requires.2)) in
+    let o = c.args.o in
+    let m = c.requires.0.met in
+    let was = c.is_some.ensures ∙ back-dirty _ _ _ _ _ m c.requires.1 in
+    let four = taken_left o.access o.decision c.requires.2 c.taken_sectors-four.ensures ∙ ap (sectors_after o.access o.decision) (sym (sectors-taken _ _ _ _ _ m c.requires.1)) in
     c.write_line.ensures
     ∙ rw (c.block_of-block.ensures, c.address_of.ensures, c.recount.ensures, c.some_modified.ensures, was, four)

@@ -4,4 +4,4 @@ use Rattle.layout.proofs.fresh.make_fresh.Goals as goal
 
 pub returns : goal.returns
 returns c =
-    fresh-filled _ _ _ _ c.requires c.clear_longs.ensures c.clear_words.ensures c.set_marks.ensures c.set_marks-2.ensures
+    fresh-filled _ _ _ _ c.requires (c.fill.ensures.after (λ y e. e)) (c.fill-2.ensures.after (λ y e. e)) (c.fill-3.ensures.after (λ y e. e)) (c.fill-4.ensures.after (λ y e. e))

@@ -23,12 +23,12 @@ returns-then-is_settings c = rw (sized _ _ c.if-b-length_of.false c.length_of.en
 
 pub returns-in-1 : goal.returns-in-1
 unfolding records.command_of
-returns-in-1 c = rw (c.number8.ensures, c.number4.ensures) (sym (sized _ _ c.if-b-length_of.false c.length_of.ensures 1 c.in-1.is))
+returns-in-1 c = rw (c.read.ensures, c.read-in-1.ensures) (sym (sized _ _ c.if-b-length_of.false c.length_of.ensures 1 c.in-1.is))
 
 pub returns-in-2 : goal.returns-in-2
 unfolding records.command_of
 returns-in-2 c =
-    rw (c.number8-in-2.ensures, c.number4-in-2.ensures) (sym (sized _ _ c.if-b-length_of.false c.length_of.ensures 2 c.in-2.is))
+    rw (c.read-in-2.ensures, c.read-in-2-2.ensures) (sym (sized _ _ c.if-b-length_of.false c.length_of.ensures 2 c.in-2.is))
 
 pub returns-in-3 : goal.returns-in-3
 unfolding records.command_of
@@ -36,11 +36,11 @@ returns-in-3 c = sym (sized _ _ c.if-b-length_of.false c.length_of.ensures 3 c.i
 
 pub returns-in-4 : goal.returns-in-4
 unfolding records.command_of
-returns-in-4 c = rw c.number8-in-4.ensures (sym (sized _ _ c.if-b-length_of.false c.length_of.ensures 4 c.in-4.is))
+returns-in-4 c = rw c.read-in-4.ensures (sym (sized _ _ c.if-b-length_of.false c.length_of.ensures 4 c.in-4.is))
 
 pub returns-in-5 : goal.returns-in-5
 unfolding records.command_of
-returns-in-5 c = rw c.number4-in-5.ensures (sym (sized _ _ c.if-b-length_of.false c.length_of.ensures 5 c.in-5.is))
+returns-in-5 c = rw c.read-in-5.ensures (sym (sized _ _ c.if-b-length_of.false c.length_of.ensures 5 c.in-5.is))
 
 pub returns-in_default : goal.returns-in_default
 unfolding records.command_of

@@ -1,5 +1,5 @@
 -- The first event and as many entries as there are; there is room for four bytes and two entries.
-use Rattle.words.proofs.General.{arith, ◌≡◌, refl, length}
+use Rattle.words.proofs.General.{ℕ, arith, ◌≡◌, refl, ap, length, take}
 use Rattle.records.proofs.Encoding.{any_room, any_end}
 use Rattle.records.proofs.Log.{queued_start, queued_turn, tickets_start}
 use Rattle.records.proofs.Begun.{begun_as}
@@ -21,8 +21,9 @@ pub returns-then-reply-eq1 : goal.returns-then-reply-eq1
 returns-then-reply-eq1 c =
     let t = c.args.reply in
     let two : length t.queued ≡ 2 = omega arith in
-    let eight : length t.tickets ≡ 8 = omega arith in
-    reply-laid t two eight {k = 1} {n = 0} (omega arith) (omega arith) c.put_access_first-i.ensures
+    let few : 1 ≡ t.queues = omega arith in
+    let none : 0 ≡ t.count = omega arith in
+    reply-laid t {q = take 1 t.queued} {s = take 0 t.tickets} (ap (λ (n : ℕ). take n t.queued) few) (ap (λ (n : ℕ). take n t.tickets) none) c.put_access_first-i.ensures
     (queued_turn t.queued _ 0 (omega arith) refl (queued_start t.queued _ _) c.put_entry-j.ensures) (tickets_start t.tickets _ _)
 
 pub put_entry-requires : goal.put_entry-requires
@@ -35,7 +36,8 @@ pub returns : goal.returns
 returns c =
     let t = c.args.reply in
     let two : length t.queued ≡ 2 = omega arith in
-    let eight : length t.tickets ≡ 8 = omega arith in
-    reply-laid t two eight {k = 2} {n = 0} (omega arith) (omega arith) c.put_access_first-i.ensures
+    let few : 2 ≡ t.queues = omega arith in
+    let none : 0 ≡ t.count = omega arith in
+    reply-laid t {q = take 2 t.queued} {s = take 0 t.tickets} (ap (λ (n : ℕ). take n t.queued) few) (ap (λ (n : ℕ). take n t.tickets) none) c.put_access_first-i.ensures
     (queued_turn t.queued _ 1 (omega arith) refl (queued_turn t.queued _ 0 (omega arith) refl (queued_start t.queued _ _) c.put_entry-j.ensures)
     c.put_entry.ensures) (tickets_start t.tickets _ _)

@@ -1,9 +1,10 @@
--- The kind, the answer's number, the line.
-use Rattle.words.proofs.General.{refl, rules}
-use Rattle.records.proofs.Stores.{laid_then, laid_as}
-use Rattle.records.proofs.Encoding.{answer-bytes}
+-- The kind, the answer, the line.
+use Rattle.model.specs.RecordsOf as records
+use Rattle.model.proofs.Terms.{bytes_of}
+use Rattle.words.proofs.General.{refl}
+use Rattle.records.proofs.Stores.{laid_then}
 use Rattle.records.proofs.writer.put_answer.Goals as goal
 
 pub returns : goal.returns
-returns c =
-    laid_as (laid_then c.put1-i.ensures refl (laid_then c.put1-j.ensures refl c.put2.ensures)) (answer-bytes _ _ c.answer_number.ensures (search rules))
+unfolding records.event_bytes bytes_of
+returns c = rw c.from.ensures at (laid_then c.put-i.ensures refl (laid_then c.put-j.ensures refl c.put.ensures))

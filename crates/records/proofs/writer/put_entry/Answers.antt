@@ -11,9 +11,9 @@ use Rattle.records.proofs.writer.put_entry.Goals as goal
 is : (x : Queued) {k : QueueKind} → x.kind ≡ k → queued_event x ≡ queued_as k x.address x.masks
 is x e = ap (λ (k : QueueKind). queued_as k x.address x.masks) e
 
-pub put_address-requires : goal.put_address-requires
+pub put_numbered-requires : goal.put_numbered-requires
 unfolding records.event_bytes bytes_of
-put_address-requires c = case-room event_bytes _ c.requires (is c.args.x c.in-Read.is)
+put_numbered-requires c = case-room event_bytes _ c.requires (is c.args.x c.in-Read.is)
 
 pub put_back-requires : goal.put_back-requires
 unfolding records.event_bytes bytes_of
@@ -21,7 +21,7 @@ put_back-requires c = case-room event_bytes _ c.requires (is c.args.x c.in-Write
 
 pub returns-in-Read : goal.returns-in-Read
 unfolding records.event_bytes bytes_of
-returns-in-Read c = search (case-laid, c.put_address.ensures, c.in-Read.is)
+returns-in-Read c = search (case-laid, c.put_numbered.ensures, c.in-Read.is)
 
 pub returns-in-WriteBack : goal.returns-in-WriteBack
 unfolding records.event_bytes bytes_of

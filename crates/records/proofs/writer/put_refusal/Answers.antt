@@ -1,9 +1,10 @@
--- The kind, then the refusal's number.
-use Rattle.words.proofs.General.{refl, rules}
-use Rattle.records.proofs.Stores.{laid_then, laid_as}
-use Rattle.records.proofs.Encoding.{refusal_bytes}
+-- The kind, then the refusal.
+use Rattle.model.specs.RecordsOf as records
+use Rattle.model.proofs.Terms.{bytes_of}
+use Rattle.words.proofs.General.{refl}
+use Rattle.records.proofs.Stores.{laid_then}
 use Rattle.records.proofs.writer.put_refusal.Goals as goal
 
 pub returns : goal.returns
-returns c =
-    laid_as (laid_then c.put1-i.ensures refl c.put1.ensures) (refusal_bytes _ c.refusal_number.ensures (search rules))
+unfolding records.event_bytes bytes_of
+returns c = rw c.from.ensures at (laid_then c.put-i.ensures refl c.put.ensures)

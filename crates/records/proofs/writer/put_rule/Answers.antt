@@ -4,10 +4,10 @@ use Rattle.records.proofs.Stores.{laid_as}
 use Rattle.records.proofs.Encoding.{byte_as, case-room, case-laid}
 use Rattle.records.proofs.writer.put_rule.Goals as goal
 
-pub put1-requires : goal.put1-requires
+pub put-requires : goal.put-requires
 unfolding bytes_of
-put1-requires c = case-room rule_bytes _ c.requires c.in-Byte.is
+put-requires c = case-room rule_bytes _ c.requires c.in-Some.is
 
-pub returns-in-Byte : goal.returns-in-Byte
+pub returns-in-Some : goal.returns-in-Some
 unfolding bytes_of
-returns-in-Byte c = search (case-laid, laid_as, byte_as, c.put1.ensures, c.in-Byte.is)
+returns-in-Some c = search (case-laid, laid_as, byte_as, c.put.ensures, c.in-Some.is)

@@ -6,7 +6,7 @@ use Rattle.records.proofs.writer.put_sent.Goals as goal
 
 pub returns-in-ReadSent : goal.returns-in-ReadSent
 unfolding records.event_bytes bytes_of
-returns-in-ReadSent c = first-laid _ c.requires.0 c.put_address.ensures c.in-ReadSent.is
+returns-in-ReadSent c = first-laid _ c.requires.0 c.put_numbered.ensures c.in-ReadSent.is
 
 pub returns-in-WriteBackSent : goal.returns-in-WriteBackSent
 unfolding records.event_bytes bytes_of

@@ -6,9 +6,9 @@ use Rattle.records.proofs.Stores.{laid_then, laid_as, laid_sized}
 use Rattle.records.proofs.Encoding.{settings-bytes}
 use Rattle.records.proofs.writer.put_settings.Goals as goal
 
-pub put1-i-requires : goal.put1-i-requires
+pub put-i-requires : goal.put-i-requires
 unfolding records.command_bytes bytes_of
-put1-i-requires c = search rules
+put-i-requires c = search rules
 
 pub put_numbers-j-requires : goal.put_numbers-j-requires
 unfolding records.command_bytes bytes_of
@@ -24,6 +24,6 @@ returns c =
     let g = c.args.g in
     laid_sized
     (laid_as
-    (laid_then c.put1-i.ensures refl (laid_then c.put_numbers-j.ensures refl c.put_rule.ensures))
+    (laid_then c.put-i.ensures refl (laid_then c.put_numbers-j.ensures refl c.put_rule.ensures))
     (settings-bytes g c.settings_kind.ensures))
     (omega arith)

@@ -6,7 +6,7 @@ use Rattle.records.proofs.writer.put_ticked.Goals as goal
 
 pub returns-in-Ticked : goal.returns-in-Ticked
 unfolding records.event_bytes bytes_of
-returns-in-Ticked c = first-laid _ c.requires.0 c.put1.ensures c.in-Ticked.is
+returns-in-Ticked c = first-laid _ c.requires.0 c.put.ensures c.in-Ticked.is
 
 pub returns-in-Refused : goal.returns-in-Refused
 unfolding records.event_bytes bytes_of

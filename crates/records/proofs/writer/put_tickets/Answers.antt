@@ -1,16 +1,20 @@
--- The invariant: the tickets before j are stored, five bytes each.
+-- The invariant: the tickets before this one are stored, five bytes each.
 use Rattle.words.proofs.General.{arith, ◌≡◌, refl, ◌∙◌, length}
-use Rattle.records.proofs.Log.{tickets_start, tickets_turn}
+use Rattle.model.proofs.Terms.{bytes_of}
+use Rattle.records.proofs.Log.{tickets_all, tickets_start, tickets_turn}
 use Rattle.records.proofs.writer.put_tickets.Goals as goal
 
-pub loop-j-init : goal.loop-j-init
-loop-j-init c = let a = c.args in (omega arith, refl, tickets_start a.tickets a.out.now a.at)
+pub loop-t-init : goal.loop-t-init
+loop-t-init c = let a = c.args in (refl, tickets_start a.tickets.now a.out.now a.at)
 
-pub loop-j-preserved : goal.loop-j-preserved
-loop-j-preserved c =
-    let v = c.loop-j in
-    let long : length c.args.tickets ≡ 8 = omega arith in (
-      omega arith,
-      c.put_word-i.auto.out ∙ v.invariant.1,
-      tickets_turn c.args.tickets v.j (omega arith) v.invariant.2 c.put_word-i.ensures,
-    )
+pub loop-t-preserved : goal.loop-t-preserved
+unfolding bytes_of
+loop-t-preserved c =
+    let v = c.loop-t in
+    (c.put_numbered-i.auto.out ∙ v.invariant.0, tickets_turn c.args.tickets.now v.t-index (omega arith) v.invariant.1 c.put_numbered-i.ensures)
+
+pub returns : goal.returns
+returns c =
+    let ts = c.args.tickets.now in
+    let e : c.loop-t.t-index ≡ length ts = omega arith in
+    rw (tickets_all ts c.loop-t.t-index (omega arith), e) at c.loop-t.invariant.1

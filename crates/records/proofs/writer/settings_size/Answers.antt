@@ -4,10 +4,10 @@ use Rattle.model.specs.RecordsOf as records
 use Rattle.model.proofs.Terms.{bytes_of}
 use Rattle.records.proofs.writer.settings_size.Goals as goal
 
-pub returns-in-LeftOut : goal.returns-in-LeftOut
+pub returns-in-None : goal.returns-in-None
 unfolding records.command_bytes bytes_of
-returns-in-LeftOut c = rw c.in-LeftOut.is (search rules)
+returns-in-None c = rw c.in-None.is (search rules)
 
-pub returns-in-Byte : goal.returns-in-Byte
+pub returns-in-Some : goal.returns-in-Some
 unfolding records.command_bytes bytes_of
-returns-in-Byte c = rw c.in-Byte.is (search rules)
+returns-in-Some c = rw c.in-Some.is (search rules)

@@ -3,10 +3,10 @@ use Rattle.rounds.proofs.Running.{runs_first, runs-end, runs-accepted, runs-agai
 use Rattle.rounds.proofs.demand3.rounds_on.Goals as goal
 
 pub loop-i-init : goal.loop-i-init
-loop-i-init c = runs_first _ _ _ _ c.requires.lays_out.1 _ _
+loop-i-init c = runs_first _ _ _ _ c.requires.held _ _
 
-pub returns-then-taken : goal.returns-then-taken
-returns-then-taken c = search runs-accepted
+pub returns-then-made : goal.returns-then-made
+returns-then-made c = search runs-accepted
 
 pub loop-i-preserved : goal.loop-i-preserved
 loop-i-preserved c = search runs-again

@@ -2,11 +2,11 @@
 use Rattle.rounds.proofs.Running.{strikes_first, strikes-end, strikes-again}
 use Rattle.rounds.proofs.demand3.struck_on.Goals as goal
 
-pub loop-i-init : goal.loop-i-init
-loop-i-init c = strikes_first _ _ _ _ c.requires.lays_out.1 _
+pub loop-flag-init : goal.loop-flag-init
+loop-flag-init c = strikes_first _ _ _ _ c.requires.held _
 
-pub loop-i-preserved : goal.loop-i-preserved
-loop-i-preserved c = search strikes-again
+pub loop-flag-preserved : goal.loop-flag-preserved
+loop-flag-preserved c = search strikes-again
 
 pub returns : goal.returns
 returns c = search strikes-end

@@ -2,5 +2,5 @@
 use Rattle.std.proofs.Common.{◌-◌, length}
 use Rattle.rounds_shown.proofs.page.put_events.Given as goal
 
-abbrev pub decreases-loop-t : goal.decreases-loop-t
-decreases-loop-t l = length l.s - l.t.at
+abbrev pub decreases-loop-event : goal.decreases-loop-event
+decreases-loop-event l = length l.s - l.place

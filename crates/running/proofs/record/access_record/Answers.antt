@@ -8,16 +8,16 @@ use Rattle.running.proofs.Counts.{counted_access}
 use Rattle.running.proofs.record.access_record.Goals as goal
 
 pub access_at-x-requires : goal.access_at-x-requires
-access_at-x-requires c = access_whole c.requires.record_ready.0 c.requires.record_ready.1
+access_at-x-requires c = access_whole c.requires.ready.0 c.requires.ready.1
 
-pub put_access-written-requires : goal.put_access-written-requires
-put_access-written-requires c = search (access_shaped, ready_room)
+pub put_access-out-requires : goal.put_access-out-requires
+put_access-out-requires c = search (access_shaped, ready_room)
 
 pub went_on-requires : goal.went_on-requires
 went_on-requires c =
-    let f = is_fit _ _ _ c.requires.lays_out.1.are in
-    let few = (access_shaped _ c.requires.lays_out.1 _ c.access_counted-reply.ensures).entries in
-    omega (arith, c.requires.lays_out.2.queue.most, c.requires.lays_out.2.misses.most)
+    let f = is_fit _ _ _ c.requires.sound.0.are in
+    let few = (access_shaped _ c.requires.sound.0 _ c.access_counted-reply.ensures).entries in
+    omega (arith, c.requires.sound.1.queue.most, c.requires.sound.1.misses.most)
 
 pub returns : goal.returns
 returns c =

@@ -7,10 +7,10 @@ use Rattle.running.proofs.Counts.{counted_fill}
 use Rattle.running.proofs.record.fill_record.Goals as goal
 
 pub body_of-body-requires : goal.body_of-body-requires
-body_of-body-requires c = (refl, whole_at c.requires.record_ready.0 4 c.requires.record_ready.1)
+body_of-body-requires c = (refl, whole_at c.requires.ready.0 4 c.requires.ready.1)
 
-pub put_filled-written-requires : goal.put_filled-written-requires
-put_filled-written-requires c = search (fill_shaped, ready_room)
+pub put_filled-out-requires : goal.put_filled-out-requires
+put_filled-out-requires c = search (fill_shaped, ready_room)
 
 pub returns : goal.returns
 returns c =

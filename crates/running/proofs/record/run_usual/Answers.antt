@@ -1,23 +1,18 @@
 -- The loop over the usual records: the run so far, what is in use, and that it came further unless nothing was done.
-use Rattle.words.proofs.General.{not-false}
 use Rattle.running.proofs.Turns.{usual-nearer, usual-moved, usual-stands}
 use Rattle.running.proofs.record.run_usual.Goals as goal
 
-pub loop-at-smaller : goal.loop-at-smaller
-loop-at-smaller c =
+pub loop-here-smaller : goal.loop-here-smaller
+loop-here-smaller c =
     let pre = c.requires in
-    let x = c.step_record-tried.ensures.tries in
-    let taken = not-false _ c.if-not-tried.false in
-    usual-nearer x c.loop-at.invariant.0 pre.whole_below.0 pre.whole_below.1 c.loop-at-test.true pre.lays_out.1 taken
+    usual-nearer c.loop-here.here c.in-Some.went c.in-Some.ensures.tries c.loop-here.invariant.0 pre.whole_below.0 pre.whole_below.1 c.loop-here-test.true pre.sound.0
 
-pub loop-at-preserved : goal.loop-at-preserved
-loop-at-preserved c =
-    let r = c.step_record-tried in
+pub loop-here-preserved : goal.loop-here-preserved
+loop-here-preserved c =
     let pre = c.requires in
-    let taken = not-false _ c.if-not-tried.false in
-    let k = r.auto in (
-      usual-stands r.ensures.tries c.loop-at.invariant.0 pre.whole_below.0 pre.whole_below.1 c.loop-at-test.true pre.lays_out.1 taken
-          k.events k.longs k.words k.marks,
-      r.ensures.used_in_marks,
-      usual-moved r.ensures.tries c.loop-at.invariant.0 pre.whole_below.0 pre.whole_below.1 c.loop-at-test.true pre.lays_out.1 taken,
+    let x = c.in-Some.ensures in
+    let k = c.step_record.auto in (
+      usual-stands c.loop-here.here c.in-Some.went x.tries c.loop-here.invariant.0 pre.whole_below.0 pre.whole_below.1 c.loop-here-test.true pre.sound.0 k.events k.longs k.words k.marks,
+      x.used_after,
+      usual-moved c.loop-here.here c.in-Some.went x.tries c.loop-here.invariant.0 pre.whole_below.0 pre.whole_below.1 c.loop-here-test.true pre.sound.0,
     )

@@ -6,11 +6,11 @@ use Rattle.running.proofs.Acting.{whole_at, tick-runs}
 use Rattle.running.proofs.record.tick_record.Goals as goal
 
 pub body_of-body-requires : goal.body_of-body-requires
-body_of-body-requires c = (refl, whole_at c.requires.record_ready.0 5 c.requires.record_ready.1)
+body_of-body-requires c = (refl, whole_at c.requires.ready.0 5 c.requires.ready.1)
 
-pub put_ticked-written-requires : goal.put_ticked-written-requires
-put_ticked-written-requires c = (tick_shaped _ c.requires.sound_slices.0 _ c.tick_step-reply.ensures, ready_room c.requires.record_ready.0)
+pub put_ticked-out-requires : goal.put_ticked-out-requires
+put_ticked-out-requires c = (tick_shaped _ c.requires.sound.0 _ c.tick_step-reply.ensures, ready_room c.requires.ready.0)
 
 pub returns : goal.returns
 returns c =
-    record { resumes = tick-runs c.requires.record_ready.0 c.requires.sound_slices.0 c.put_ticked-written.ensures c.put_ticked-written.auto.out c.tick_step-reply.ensures c.requires.record_ready.1 c.body_of-body.ensures.bytes c.number4.ensures; used_in_marks = c.requires.sound_slices.1 }
+    record { resumes = tick-runs c.requires.ready.0 c.requires.sound.0 c.put_ticked-out.ensures c.put_ticked-out.auto.out c.tick_step-reply.ensures c.requires.ready.1 c.body_of-body.ensures.bytes c.read-cycle.ensures; used_in_marks = c.requires.sound.1 }

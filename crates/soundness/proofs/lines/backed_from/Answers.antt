@@ -1,9 +1,11 @@
-use Rattle.words.proofs.General.{ap, not, passed_stop, passed_more}
+use Rattle.words.proofs.General.{◌+◌, ◌-◌, ◌≡◌, arith, refl, rules, ◌∙◌}
+use Rattle.words.proofs.Ranged.{every-from_part}
+use Rattle.model.specs.SoundLent as is
+use Rattle.layout.specs.Held.{held}
 use Rattle.soundness.proofs.lines.backed_from.Goals as goal
 
-pub returns-then-not-sector_backed : goal.returns-then-not-sector_backed
-returns-then-not-sector_backed c = passed_stop _ _ _ c.loop-i-test.true c.sector_backed.ensures (ap not c.if-not-sector_backed.true)
-
-pub loop-i-preserved : goal.loop-i-preserved
-loop-i-preserved c =
-    passed_more _ _ _ c.loop-i-test.true c.sector_backed.ensures (ap not c.if-not-sector_backed.false) c.loop-i.invariant
+pub returns : goal.returns
+returns c =
+    let a = c.args in
+    let n : a.first + a.n - a.first ≡ a.n = omega arith in
+    every-from_part a.first (a.first + a.n) (held a.f.now.slices is.sector_backed) refl (λ x b q k. search rules) c.all.ensures.ran ∙ rw n

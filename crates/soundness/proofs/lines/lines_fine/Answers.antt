@@ -1,8 +1,9 @@
-use Rattle.words.proofs.General.{ap, not, passed_stop, passed_more}
+use Rattle.words.proofs.General.{refl, rules}
+use Rattle.words.proofs.Ranged.{every-from_all}
+use Rattle.model.specs.SoundLent as is
+use Rattle.model.proofs.Terms.{lines_of}
+use Rattle.layout.specs.Held.{held}
 use Rattle.soundness.proofs.lines.lines_fine.Goals as goal
 
-pub returns-then-not-line_fine : goal.returns-then-not-line_fine
-returns-then-not-line_fine c = passed_stop _ _ _ c.loop-l-test.true c.line_fine.ensures (ap not c.if-not-line_fine.true)
-
-pub loop-l-preserved : goal.loop-l-preserved
-loop-l-preserved c = passed_more _ _ _ c.loop-l-test.true c.line_fine.ensures (ap not c.if-not-line_fine.false) c.loop-l.invariant
+pub returns : goal.returns
+returns c = let t = c.args.t.now in every-from_all (lines_of t.geometry.settings) (held t is.line_fine) refl (λ x b q k. search rules) c.all.ensures.ran

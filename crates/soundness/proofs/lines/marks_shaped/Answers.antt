@@ -1,7 +1,10 @@
 -- The status and the mark of each sector passed.
-use Rattle.words.proofs.General.{refl}
-use Rattle.soundness.proofs.Tests.{joined_more}
+use Rattle.words.proofs.General.{refl, ◌∙◌}
+use Rattle.soundness.proofs.Tests.{joined_more, joined_end}
 use Rattle.soundness.proofs.lines.marks_shaped.Goals as goal
 
 pub loop-i-preserved : goal.loop-i-preserved
 loop-i-preserved c = joined_more _ _ _ c.loop-i-test.true refl c.loop-i.invariant
+
+pub returns : goal.returns
+returns c = let t = c.args.t.now in joined_end _ _ _ c.loop-i-test.false c.loop-i.invariant ∙ rw (t.geometry.laid.readables)

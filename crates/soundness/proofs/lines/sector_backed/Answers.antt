@@ -4,4 +4,6 @@ use Rattle.soundness.proofs.lines.sector_backed.Goals as goal
 
 pub overflow_add-a : goal.overflow_add-a
 overflow_add-a c =
-    let a = c.args in omega (arith, reserved-low a.s a.longs.now a.words.now a.marks.now c.requires.2 a.i c.requires.3 c.if-marks-i-ne1.false)
+    let f = c.args.f.now in
+    let t = f.slices in
+    omega (arith, reserved-low t.geometry.settings t.longs.now t.words.now t.marks.now f.fine c.args.i c.requires c.if-t-i-ne1.false)

@@ -1,14 +1,23 @@
--- All groups passed are backed, then the rest.
-use Rattle.words.proofs.General.{ap, not, rules, passed_stop, passed_more, passed_end}
+use Rattle.words.proofs.General.{◌+◌, ◌*◌, ◌/◌, ◌≡◌, every, refl, rules, sym, ◌∙◌}
+use Rattle.words.proofs.Ranged.{every-from_all}
+use Rattle.model.specs.SoundLent as is
+use Rattle.model.proofs.Terms.{lines_of}
+use Rattle.layout.specs.Held.{held}
 use Rattle.soundness.proofs.Tests.{sixteens_stop, sixteens_end}
 use Rattle.soundness.proofs.lines.sectors_backed.Goals as goal
 
-pub returns-then-not-sixteen_backed : goal.returns-then-not-sixteen_backed
-returns-then-not-sixteen_backed c = search (rules, sixteens_stop, passed_stop)
+pub returns-then-all : goal.returns-then-all
+returns-then-all c =
+    let t = c.args.f.now.slices in
+    let n = 4 * lines_of t.geometry.settings in
+    let p = held t is.sector_backed in
+    let e : c.all.result ≡ every (n / 16) (λ g. every 16 (λ k. p (16 * g + k))) = every-from_all (n / 16) (λ g. every 16 (λ k. p (16 * g + k))) refl (λ x b q k. search rules) c.all.ensures.ran in
+    sixteens_end p n (sym c.if-all.true ∙ e) c.backed_from.ensures
 
-pub loop-g-preserved : goal.loop-g-preserved
-loop-g-preserved c =
-    passed_more _ _ _ c.loop-g-test.true c.sixteen_backed.ensures (ap not c.if-not-sixteen_backed.false) c.loop-g.invariant
-
-pub returns : goal.returns
-returns c = search (rules, sixteens_end, passed_end)
+pub returns-else-all : goal.returns-else-all
+returns-else-all c =
+    let t = c.args.f.now.slices in
+    let n = 4 * lines_of t.geometry.settings in
+    let p = held t is.sector_backed in
+    let e : c.all.result ≡ every (n / 16) (λ g. every 16 (λ k. p (16 * g + k))) = every-from_all (n / 16) (λ g. every 16 (λ k. p (16 * g + k))) refl (λ x b q k. search rules) c.all.ensures.ran in
+    c.if-all.false ∙ sixteens_stop p n (sym c.if-all.false ∙ e)

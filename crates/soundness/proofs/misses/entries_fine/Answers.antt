@@ -1,8 +1,8 @@
-use Rattle.words.proofs.General.{ap, not, passed_stop, passed_more}
+use Rattle.words.proofs.General.{refl, rules}
+use Rattle.words.proofs.Ranged.{every-from_all}
+use Rattle.model.specs.SoundLent as is
+use Rattle.layout.specs.Held.{held}
 use Rattle.soundness.proofs.misses.entries_fine.Goals as goal
 
-pub returns-then-not-entry_fine : goal.returns-then-not-entry_fine
-returns-then-not-entry_fine c = passed_stop _ _ _ c.loop-e-test.true c.entry_fine.ensures (ap not c.if-not-entry_fine.true)
-
-pub loop-e-preserved : goal.loop-e-preserved
-loop-e-preserved c = passed_more _ _ _ c.loop-e-test.true c.entry_fine.ensures (ap not c.if-not-entry_fine.false) c.loop-e.invariant
+pub returns : goal.returns
+returns c = let t = c.args.f.now.slices in every-from_all t.geometry.settings.misses (held t is.entry_fine) refl (λ x b q k. search rules) c.all.ensures.ran

@@ -1,20 +1,15 @@
--- The lines of the set of the address, one after another.
-use Rattle.words.proofs.General.{refl, ◌∙◌, sought_stop, sought_more, sought_end}
+use Rattle.words.proofs.General.{ℕ, Bool, ◌*◌, ◌+◌, ◌-◌, arith, eqb, ◌≡◌, ◌&&◌, ◌∙◌, refl, rules}
+use Rattle.words.proofs.Ranged.{some-from_part}
+use Rattle.model.proofs.Terms.{tag_at, status_at}
 use Rattle.soundness.proofs.OfMisses.{set_asked}
 use Rattle.soundness.proofs.misses.set_reserves.Goals as goal
 
-pub returns-then-longs-l : goal.returns-then-longs-l
-returns-then-longs-l c =
-    let a = c.args in
-    sought_stop _ _ _ c.loop-w-test.true refl c.if-longs-l.true
-    ∙ set_asked a.s a.longs.now a.words.now a.marks.now a.a.0 _ _ _ c.block_of-block.ensures c.sector_index-sector.ensures.0 c.set_index.ensures
-
-pub loop-w-preserved : goal.loop-w-preserved
-loop-w-preserved c =
-    let inv = c.loop-w.invariant in (inv.0, inv.1, inv.2, sought_more _ _ _ c.loop-w-test.true refl c.if-longs-l.false inv.3)
-
 pub returns : goal.returns
 returns c =
-    let a = c.args in
-    sought_end _ _ _ c.loop-w-test.false c.loop-w.invariant.3
-    ∙ set_asked a.s a.longs.now a.words.now a.marks.now a.a.0 _ _ _ c.block_of-block.ensures c.sector_index-sector.ensures.0 c.set_index.ensures
+    let t = c.args.t.now in
+    let s = t.geometry.settings in
+    let k = c.set_index.result in
+    let here : ℕ → Bool = λ l. eqb (tag_at t.longs.now l) c.block_of-block.result.0 && eqb (status_at t.marks.now (4 * l + c.sector_index-sector.result)) 1 in
+    let ways : k * s.ways + s.ways - k * s.ways ≡ s.ways = omega arith in
+    some-from_part (k * s.ways) (k * s.ways + s.ways) here refl (λ x b q h. search rules) c.any.ensures.ran
+    ∙ rw ways (set_asked s t.longs.now t.words.now t.marks.now c.args.a.0 _ _ _ c.block_of-block.ensures c.sector_index-sector.ensures.0 c.set_index.ensures)

@@ -1,10 +1,11 @@
--- Past the tickets of its entry each place so far is 0.
-use Rattle.words.proofs.General.{rules, fault_stop, fault_none}
-use Rattle.soundness.proofs.OfMisses.{ticket_kept}
+use Rattle.words.proofs.General.{◌*◌, refl, rules}
+use Rattle.words.proofs.Ranged.{every-from_all}
+use Rattle.model.specs.SoundLent as is
+use Rattle.layout.specs.Held.{held}
 use Rattle.soundness.proofs.misses.tickets_fine.Goals as goal
 
-pub returns-then-count-i : goal.returns-then-count-i
-returns-then-count-i c = search (rules, fault_stop, ticket_kept)
-
-pub loop-i-preserved : goal.loop-i-preserved
-loop-i-preserved c = search (rules, fault_none, ticket_kept)
+pub returns : goal.returns
+returns c =
+    let t = c.args.t.now in
+    let s = t.geometry.settings in
+    every-from_all (s.readers * s.misses) (held t is.ticket_fine) refl (λ x b q k. search rules) c.all.ensures.ran

@@ -1,5 +1,8 @@
-use Rattle.words.proofs.General.{ap, not, passed_stop}
+use Rattle.words.proofs.General.{refl, rules}
+use Rattle.words.proofs.Ranged.{every-from_all}
+use Rattle.model.specs.SoundLent as is
+use Rattle.layout.specs.Held.{held}
 use Rattle.soundness.proofs.queue.places_fine.Goals as goal
 
-pub returns-then-not-place_fine : goal.returns-then-not-place_fine
-returns-then-not-place_fine c = passed_stop _ _ _ c.loop-p-test.true c.place_fine.ensures (ap not c.if-not-place_fine.true)
+pub returns : goal.returns
+returns c = let t = c.args.t.now in every-from_all t.geometry.settings.queue (held t is.place_fine) refl (λ x b q k. search rules) c.all.ensures.ran

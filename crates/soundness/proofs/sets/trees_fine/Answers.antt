@@ -1,8 +1,13 @@
-use Rattle.words.proofs.General.{ap, not, passed_stop, passed_end}
+use Rattle.words.proofs.General.{◌≡◌, ◌+◌, ◌-◌, arith, ◌∙◌, ltb, take, drop, rules}
+use Rattle.words.proofs.Ranged.{every-from_items}
+use Rattle.soundness.proofs.OfTables.{trees_below}
 use Rattle.soundness.proofs.sets.trees_fine.Goals as goal
 
-pub returns-then-not-set_fine : goal.returns-then-not-set_fine
-returns-then-not-set_fine c = passed_stop _ _ _ c.loop-i-test.true c.set_fine.ensures (ap not c.if-not-set_fine.true)
-
 pub returns : goal.returns
-returns c = passed_end _ _ _ c.loop-i-test.false c.loop-i.invariant
+returns c =
+    let t = c.args.t.now in
+    let first = t.geometry.at.trees in
+    let sets = t.geometry.settings.sets in
+    let n : first + sets - first ≡ sets = omega arith in
+    let same : take (first + sets - first) (drop first t.words.now) ≡ take sets (drop first t.words.now) = rw n in
+    every-from_items _ (λ x. ltb x c.limit-most.result) c.iter.ensures.rest (λ x b q k. search rules) c.all.ensures.ran ∙ trees_below t c.limit-most.ensures _ same

@@ -3,7 +3,7 @@ use Rattle.streaming.proofs.Turns.{start_came, next_came}
 use Rattle.streaming.proofs.parts.run_rest.Goals as goal
 
 pub loop-events-init : goal.loop-events-init
-loop-events-init c = search start_came
+loop-events-init c = rw c.new-g.ensures (search start_came)
 
 pub loop-events-preserved : goal.loop-events-preserved
 loop-events-preserved c =

@@ -13,9 +13,9 @@ invariant-loop-events l =
     × (length l.words ≡ length l.initial.words)
     × (length l.marks ≡ length l.initial.marks)
     × (length l.events ≡ 65536)
-    × Ready l.s l.scope (lent l.longs l.words l.marks) l.buf l.w
+    × Ready l.g.settings l.scope (lent l.longs l.words l.marks) l.buf l.w
     × Claims l.w.next l.w.stop l.w.have
-    × Came l.s 65536 (lent l.initial.longs l.initial.words l.initial.marks) (take l.initial.w.have l.initial.buf) l.initial.w l.w (take l.w.have l.buf) (lent l.longs l.words l.marks)
+    × Came l.g.settings 65536 (lent l.initial.longs l.initial.words l.initial.marks) (take l.initial.w.have l.initial.buf) l.initial.w l.w (take l.w.have l.buf) (lent l.longs l.words l.marks)
 
 abbrev pub decreases-loop-events : goal.decreases-loop-events
 decreases-loop-events l = turns_of l.w.next l.w.have l.w.left

@@ -1,13 +1,17 @@
 -- A byte with a name, and one without.
-use Rattle.words.proofs.General.{sym, ◌∙◌}
+use Rattle.words.proofs.General.{sym, ap, refl, ◌∙◌, ltb-true, ℕ, List}
+use Rattle.std.proofs.Common.{Bor}
 use Rattle.text.specs.Rules.{rule_name}
+use Rattle.text.proofs.RuleNames.{name_at}
 use Rattle.text.proofs.rules.put_rule.Goals as goal
 
-pub returns-then-has_name : goal.returns-then-has_name
+pub returns-in-Some : goal.returns-in-Some
 unfolding rule_name
-returns-then-has_name c =
-    rw (sym c.has_name.ensures ∙ c.if-has_name.true, ← (c.name_in.ensures ∙ c.row_of-row.ensures)) c.put_text.ensures
+returns-in-Some c =
+    let h = c.in-Some.ensures.lookup in
+    let e = ap (λ (r : Bor (List ℕ)). r.now) h.1 ∙ name_at _ _ _ _ refl _ (ltb-true _ _ (sym h.0)) in
+    rw (sym h.0, ← e, ← c.as_bytes.ensures.value) c.put_text.ensures
 
-pub returns : goal.returns
+pub returns-in-None : goal.returns-in-None
 unfolding rule_name
-returns c = rw (sym c.has_name.ensures ∙ c.if-has_name.false) c.put_decimal.ensures
+returns-in-None c = let h = c.in-None.ensures.lookup in rw (sym h.0) c.put_decimal.ensures

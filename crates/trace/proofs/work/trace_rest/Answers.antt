@@ -4,18 +4,15 @@ use Rattle.input.proofs.Counts.{turns_less}
 use Rattle.streaming.specs.Works.{goes_next}
 use Rattle.trace.proofs.work.trace_rest.Goals as goal
 
-pub layout_of-laid-requires : goal.layout_of-laid-requires
-layout_of-laid-requires c = c.requires.sound_slices.are.range
+pub new-g-requires : goal.new-g-requires
+new-g-requires c = c.requires.sound_slices.are.range
 
 pub loop-events-init : goal.loop-events-init
-loop-events-init c = (c.requires.sound_slices, rw c.requires.next_value tt)
-
-pub turn-w-requires : goal.turn-w-requires
-turn-w-requires c = (c.layout_of-laid.ensures, c.loop-events.invariant.0)
+loop-events-init c = (rw c.new-g.ensures c.requires.sound_slices, rw c.requires.next_value tt)
 
 pub loop-events-smaller : goal.loop-events-smaller
 loop-events-smaller c =
-    turns_less (goes_next c.loop-events.w.next) c.loop-events.w.left _ (sym c.goes_on.ensures ∙ c.loop-events-test.true) c.turn-w.ensures.read.fewer
+    turns_less (goes_next c.loop-events.w.run.next) c.loop-events.w.run.left _ (sym c.goes_on.ensures ∙ c.loop-events-test.true) c.turn-w.ensures.read.fewer
 
 pub loop-events-preserved : goal.loop-events-preserved
 loop-events-preserved c = (c.turn-w.ensures.held, c.turn-w.ensures.read.claims)

@@ -6,7 +6,7 @@ use Rattle.streaming.specs.Halts.{Claims}
 use Rattle.trace.proofs.work.trace_rest.Given as goal
 
 abbrev pub invariant-loop-events : goal.invariant-loop-events
-invariant-loop-events l = SoundSlices l.s (lent l.longs l.words l.marks) × Claims l.w.next l.w.stop l.w.have
+invariant-loop-events l = SoundSlices l.g.settings (lent l.longs l.words l.marks) × Claims l.w.run.next l.w.run.stop l.w.run.have
 
 abbrev pub decreases-loop-events : goal.decreases-loop-events
-decreases-loop-events l = turns_left (goes_next l.w.next) l.w.left
+decreases-loop-events l = turns_left (goes_next l.w.run.next) l.w.run.left

@@ -5,16 +5,16 @@ use Rattle.rounds.proofs.Settling.{rounds_stand_first, rounds-stand-again}
 use Rattle.wait.proofs.Verdicts.{ends_accepted, ends_held}
 use Rattle.wait.proofs.waiting.wait_rounds.Goals as goal
 
-pub loop-round-init : goal.loop-round-init
-loop-round-init c = rounds_stand_first _ _
+pub loop-before-init : goal.loop-before-init
+loop-before-init c = rounds_stand_first _ _
 
 pub returns-then-accepted : goal.returns-then-accepted
 returns-then-accepted c =
-    ends_accepted c.loop-round.invariant c.requires.lays_out.1 c.requires.x_value.0 c.requires.enough c.loop-round-test.true c.one_round-made.ensures
+    ends_accepted c.loop-before.invariant c.requires.held c.requires.x_value.0 c.requires.enough c.loop-before-test.true c.one_round-made.ensures
     (not_yes (sym c.accepted.ensures ∙ c.if-accepted.true)) (omega arith)
 
-pub loop-round-preserved : goal.loop-round-preserved
-loop-round-preserved c = search (rounds-stand-again, refused_says)
+pub loop-before-preserved : goal.loop-before-preserved
+loop-before-preserved c = search (rounds-stand-again, refused_says)
 
 pub returns : goal.returns
 returns c = search ends_held

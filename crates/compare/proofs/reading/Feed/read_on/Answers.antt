@@ -1,0 +1,49 @@
+-- `compare::reading::Feed::read_on`: by what reading gave.
+use Rattle.words.proofs.General.{◌≡◌, length, arith}
+use Rattle.compare.proofs.Feeding.{still_sound, fed-came, fed-end, fed-stuck}
+use Rattle.compare.proofs.reading.Feed.read_on.Goals as goal
+
+pub invariant_of-self : goal.invariant_of-self
+invariant_of-self c =
+    let e : length c.args.self.now.bytes ≡ 65536 = omega arith in
+    record { sound = still_sound _ _ e c.args.self.now.sound c.carry-have.ensures.0 c.carry-have.ensures.1 c.fill.ensures _ }
+
+pub invariant_of-self-in-Err-End : goal.invariant_of-self-in-Err-End
+invariant_of-self-in-Err-End c =
+    let e : length c.args.self.now.bytes ≡ 65536 = omega arith in
+    record { sound = still_sound _ _ e c.args.self.now.sound c.carry-have.ensures.0 c.carry-have.ensures.1 c.fill.ensures _ }
+
+pub invariant_of-self-in-Err-Full : goal.invariant_of-self-in-Err-Full
+invariant_of-self-in-Err-Full c =
+    let e : length c.args.self.now.bytes ≡ 65536 = omega arith in
+    record { sound = still_sound _ _ e c.args.self.now.sound c.carry-have.ensures.0 c.carry-have.ensures.1 c.fill.ensures _ }
+
+pub invariant_of-self-in-Failed-1 : goal.invariant_of-self-in-Failed-1
+invariant_of-self-in-Failed-1 c =
+    let e : length c.args.self.now.bytes ≡ 65536 = omega arith in
+    record { sound = still_sound _ _ e c.args.self.now.sound c.carry-have.ensures.0 c.carry-have.ensures.1 c.fill.ensures _ }
+
+pub returns-then-base-n : goal.returns-then-base-n
+returns-then-base-n c =
+    let e : length c.args.self.now.bytes ≡ 65536 = omega arith in
+    fed-stuck _ _ e c.args.self.now.sound c.carry-have.ensures.0 c.carry-have.ensures.1 c.fill.ensures _
+
+pub returns-else-base-n : goal.returns-else-base-n
+returns-else-base-n c =
+    let e : length c.args.self.now.bytes ≡ 65536 = omega arith in
+    fed-came _ _ e c.args.self.now.sound c.carry-have.ensures.0 c.carry-have.ensures.1 c.fill.ensures c.in-Ok.is
+
+pub returns-in-Err-End : goal.returns-in-Err-End
+returns-in-Err-End c =
+    let e : length c.args.self.now.bytes ≡ 65536 = omega arith in
+    rw c.ends-self.ensures (fed-end _ _ e c.args.self.now.sound c.carry-have.ensures.0 c.carry-have.ensures.1 c.fill.ensures)
+
+pub returns-in-Err-Full : goal.returns-in-Err-Full
+returns-in-Err-Full c =
+    let e : length c.args.self.now.bytes ≡ 65536 = omega arith in
+    fed-stuck _ _ e c.args.self.now.sound c.carry-have.ensures.0 c.carry-have.ensures.1 c.fill.ensures _
+
+pub returns-in-Err-Failed : goal.returns-in-Err-Failed
+returns-in-Err-Failed c =
+    let e : length c.args.self.now.bytes ≡ 65536 = omega arith in
+    fed-stuck _ _ e c.args.self.now.sound c.carry-have.ensures.0 c.carry-have.ensures.1 c.fill.ensures _

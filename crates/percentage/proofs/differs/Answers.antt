@@ -1,7 +1,0 @@
--- `percentage::differs` meets its contract: it compares what the two callees ensure. Assumes nothing.
-use Rattle.percentage.specs.Differences.{differ}
-use Rattle.percentage.proofs.differs.Goals as goal
-
-pub returns : goal.returns
-unfolding differ
-returns c = cc

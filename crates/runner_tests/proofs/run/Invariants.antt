@@ -1,6 +1,0 @@
--- `run` is safe and ends: each turn goes past the end of a line.
-use Rattle.std.proofs.Common.{◌-◌, length}
-use Rattle.runner_tests.proofs.run.Given as goal
-
-abbrev pub decreases-loop-at : goal.decreases-loop-at
-decreases-loop-at l = length l.script - l.at
