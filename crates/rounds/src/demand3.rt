@@ -150,7 +150,8 @@ fn see_struck(
     see_drain(g, longs, words, marks, events, out)
 }
 
-// The rounds, on sound tables. Apart from `struck_on`: it goes on behind an accepted offer and writes no flags, and both clauses are exact.
+// The rounds, on sound tables. Apart from `struck_on`: this stops at an accepted offer and writes the flags that the other reads, and both
+// clauses are exact.
 fn rounds_on(
     g: Geometry,
     longs: &mut [u64],
