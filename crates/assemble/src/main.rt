@@ -9,7 +9,7 @@ mod says;
 ghost use Rattle.std.specs.Prelude.{◌≤◌, length};
 
 use assembly::Refused;
-use input::{NoMore, Source};
+use input::{Ended, NoMore, Source};
 use output::Output;
 use std::process::ExitCode;
 
@@ -112,8 +112,8 @@ impl Stream<'_> {
         Ok(line.len().min(text_end(line) + 1))
     }
 
-    // At the end of the text: a last line needs no line feed.
-    fn last_line(&mut self, line: &[u8]) -> Result<(), Stop> {
+    // At the end of the text, by the system's word for it: a last line needs no line feed.
+    fn last_line(&mut self, _end: Ended, line: &[u8]) -> Result<(), Stop> {
         if line.is_empty() {
             return Ok(());
         }
@@ -132,7 +132,7 @@ impl Stream<'_> {
                     let kept = input::carry(buf, more.have.saturating_sub(rest), more.have);
                     have = self.part_line(text::front(buf, kept))?;
                 }
-                Err(NoMore::End(_)) => return self.last_line(text::front(buf, have)),
+                Err(NoMore::End(end)) => return self.last_line(end, text::front(buf, have)),
                 Err(NoMore::Full | NoMore::Failed(_)) => return Err(Stop::Cut),
             }
         }

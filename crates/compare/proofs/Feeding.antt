@@ -1,12 +1,12 @@
 -- A window that is read on, and one that moves.
 use Rattle.words.proofs.General.{ℕ, ◌+◌, ◌-◌, ◌*◌, ◌^◌, ◌≤◌, ◌<◌, arith, ◌≡◌, refl, ap, ◌∙◌, inl, inr, Bool, true, false, ◌&&◌, List, length, take, drop}
-use Rattle.words.proofs.General.{length-append, length-take, length-drop, length-take-le, take_all, take-append-le, leb, le-leb}
-use Rattle.std.specs.Prelude.{⊤, Result, Ok, Err, OnOk}
+use Rattle.words.proofs.General.{⊎_elim, lt-ltb, le-ltb, lt_or_ge, length-append, length-take, length-drop, length-take-le, take_all, take-append-le, leb, le-leb}
+use Rattle.std.specs.Prelude.{⊤, Some, None, Result, Ok, Err, OnOk}
 use Rattle.input.specs.declared.NoMore.{NoMore}
 use Rattle.input.specs.Buffers.{Reaches, Read, moved_down, carried, carried_count}
 use Rattle.compare.specs.declared.page.Stopped.{Stopped}
 use Rattle.compare.specs.declared.reading.Window.{Window}
-use Rattle.compare.specs.Windows.{window, waiting_in, moved_by, WindowSound, WindowGrown, Fed, left_of}
+use Rattle.compare.specs.Windows.{window, waiting_in, moved_by, came_to, WindowSound, WindowGrown, Fed, left_of}
 
 -- ---- the bytes that wait
 
@@ -67,3 +67,15 @@ module _ (l : List ℕ) (w : Window) (L : length l ≡ 65536) (s : WindowSound 6
         let reach : Reaches have (length l₀) (Ok n) = rw g at k.reaches in
         let c = count-waits in
         feeds n false (Ok tt) (inl (omega arith, refl))
+
+-- a window that a place can say the end of
+pub window_told : {base n : ℕ} {w : Window} → Some w ≡ came_to base n → (w ≡ window base 0 n false) × (n ≤ 2 ^ 64 - 1 - base)
+unfolding came_to
+window_told {base} {n} {w} e =
+    ⊎_elim
+    (λ z. let h : Some w ≡ None = rw (lt-ltb (2 ^ 64 - 1 - base) n z) at e in cc)
+    (λ z.
+    let h : Some w ≡ Some (window base 0 n false) = rw (le-ltb (2 ^ 64 - 1 - base) n z) at e in
+    let i : w ≡ window base 0 n false = cc in
+    (i, z))
+    (lt_or_ge (2 ^ 64 - 1 - base) n)

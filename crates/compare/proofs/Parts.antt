@@ -1,11 +1,10 @@
 -- The check part by part: what each part comes to, and that the parts are the log.
-use Rattle.words.proofs.General.{ℕ, ◌+◌, ◌-◌, ◌^◌, ◌<◌, arith, ◌≡◌, refl, sym, ⊎_elim, List, [], ◌++◌, length, take, length-append, length-take-le, lt-ltb, le-ltb, lt_or_ge}
-use Rattle.std.specs.Prelude.{Some, None, Ok}
+use Rattle.words.proofs.General.{ℕ, ◌+◌, ◌-◌, ◌^◌, ◌≤◌, ◌<◌, arith, ◌≡◌, refl, sym, ⊎_elim, Bool, true, pick, pick_both, List, [], ◌++◌, length, take, length-append, length-take-le, lt-ltb, le-ltb, lt_or_ge}
+use Rattle.std.specs.Prelude.{Some, None}
 use Rattle.comparing.specs.Coming.{check_beginning, passed_bytes}
 use Rattle.comparing.proofs.InParts.{passed-append}
-use Rattle.input.specs.Buffers.{Reaches}
 use Rattle.compare.specs.declared.checking.Check.{Check}
-use Rattle.compare.specs.Checking.{started, came_of, Checked}
+use Rattle.compare.specs.Checking.{started, came_of, Checked, PartRead}
 
 pub started_checked : Checked started
 unfolding passed_bytes
@@ -31,9 +30,28 @@ came_checked {c} {r} l k e =
     ))
     (lt_or_ge (2 ^ 64 - 1 - c.read) (length l))
 
--- a read gives a byte or more
-pub reads_less : {c r : Check} {n : ℕ} (old buf : List ℕ) → Checked c → Some r ≡ came_of (take n buf) c → Reaches 0 (length old) (Ok n) → length old ≡ length buf → c.read < 2 ^ 64 → 2 ^ 64 - r.read < 2 ^ 64 - c.read
-reads_less {c} {r} {n} old buf k e g z h =
-    let i = came_checked (take n buf) k e in
-    let j = length-take-le n buf (omega arith) in
-    omega arith
+came_within : (c : Check) {r : Check} (l : List ℕ) → Some r ≡ came_of l c → length l ≤ 2 ^ 64 - 1 - c.read
+unfolding came_of
+came_within c {r} l e =
+    ⊎_elim
+    (λ z. let h : Some r ≡ None = rw (lt-ltb (2 ^ 64 - 1 - c.read) (length l) z) at e in cc)
+    (λ z. z)
+    (lt_or_ge (2 ^ 64 - 1 - c.read) (length l))
+
+module _ {c : Check} (l : List ℕ) (k : Checked c) {p : Check × Bool} (x : PartRead l c p) where
+  pub part_checked : Checked p.0
+  part_checked = ⊎_elim (λ e. rw e.0 k) (λ m. (came_checked (take m.n l) k m.is).0) x
+
+  -- a part is a byte or more, or the last
+  pub part_less : {more : Bool} → more ≡ true → pick p.1 (1 + (2 ^ 64 - p.0.read)) 0 < pick more (1 + (2 ^ 64 - c.read)) 0
+  part_less t =
+      ⊎_elim
+      (λ e. rw (t, e.1) (omega arith))
+      (λ m.
+      let i = (came_checked (take m.n l) k m.is).1 in
+      let w = came_within c (take m.n l) m.is in
+      let j = length-take-le m.n l m.within in
+      let s = m.some in
+      let y : pick p.1 (1 + (2 ^ 64 - p.0.read)) 0 ≤ 1 + (2 ^ 64 - p.0.read) = pick_both (λ z. z ≤ 1 + (2 ^ 64 - p.0.read)) p.1 (omega arith) (omega arith) in
+      rw t (omega arith))
+      x

@@ -1,5 +1,5 @@
 -- A log through a buffer: the bytes that wait in it, and what reading on leaves.
-use Rattle.std.specs.Prelude.{◌≡◌, ℕ, ◌+◌, ◌-◌, ◌*◌, ◌^◌, ◌<◌, ◌≤◌, Bool, true, false, ◌⊎◌, List, take, drop, ⊤, Result, OnOk}
+use Rattle.std.specs.Prelude.{◌≡◌, ℕ, ◌+◌, ◌-◌, ◌*◌, ◌^◌, ◌<◌, ◌≤◌, Bool, true, false, ◌⊎◌, List, take, drop, ltb, ⊤, Option, Some, None, Result, OnOk}
 use Rattle.words.specs.Words.{pick}
 use Rattle.compare.specs.declared.page.Stopped.{Stopped}
 use Rattle.compare.specs.declared.reading.Window.{Window}
@@ -18,6 +18,10 @@ waiting_in l w = take (w.have - w.at) (drop w.at l)
 -- past n of them
 abbrev pub moved_by : Window → ℕ → Window
 moved_by w n = window w.base (w.at + n) w.have w.ended
+
+-- n bytes of a buffer that begins at byte `base` of its log: no further than a place can say
+unfoldable pub came_to : ℕ → ℕ → Option Window
+came_to base n = pick (ltb (2 ^ 64 - 1 - base) n) None (Some (window base 0 n false))
 
 -- the bytes that wait stand in a buffer of a size, and their places in the log have numbers
 pub record WindowSound (size : ℕ) (w : Window) : Type 0 where

@@ -1,6 +1,6 @@
 // The check of a log of any length, part by part.
 ghost use Rattle.std.specs.Prelude.{◌≡◌, IfOk};
-ghost use Rattle.compare.specs.Checking.{started, came_of, check_verdict, Checked};
+ghost use Rattle.compare.specs.Checking.{started, came_of, check_verdict, Checked, PartRead};
 
 use crate::page::Stopped;
 use crate::says;
@@ -45,6 +45,33 @@ impl Check {
         self
     }
 
+    // Reads the next part of a log and checks it; says whether more of it is to come. A log with a wrong kind needs no more.
+    fn read_part(
+        self,
+        log: Log,
+        source: &mut Source,
+        to: Output,
+        buf: &mut [u8],
+    ) -> Result<(Check, bool), Stopped>
+        ensures { IfOk result (PartRead buf.new self) }
+    {
+        match source.fill(buf, 0) {
+            Ok(n) => match self.came(text::front(buf, n)) {
+                Some(c) => Ok((c, !c.checking.wrong)),
+                None => {
+                    says::too_long(to);
+                    Err(Stopped)
+                }
+            },
+            Err(NoMore::End(end)) => Ok((self.ended(end), false)),
+            Err(NoMore::Full) => Err(Stopped),
+            Err(NoMore::Failed(why)) => {
+                says::unread(to, log, why);
+                Err(Stopped)
+            }
+        }
+    }
+
     // What the check of a whole log came to: a good log's bytes, or what is wrong with it.
     #[tactic(auto, unfolding(crate::specs::Checking::check_verdict))]
     pub fn verdict(self) -> Result<usize, Fault>
@@ -61,22 +88,11 @@ pub fn check_log(log: Log, source: &mut Source, to: Output) -> Result<Check, Sto
 {
     let mut buf = [0u8; 65536];
     let mut c = Check::begin();
-    while !c.checking.wrong {
-        match source.fill(&mut buf, 0) {
-            Ok(n) => {
-                let Some(more) = c.came(&buf[..n]) else {
-                    says::too_long(to);
-                    return Err(Stopped);
-                };
-                c = more;
-            }
-            Err(NoMore::End(end)) => return Ok(c.ended(end)),
-            Err(NoMore::Full) => return Err(Stopped),
-            Err(NoMore::Failed(why)) => {
-                says::unread(to, log, why);
-                return Err(Stopped);
-            }
-        }
+    let mut more = true;
+    while more {
+        let (next, goes_on) = c.read_part(log, source, to, &mut buf)?;
+        c = next;
+        more = goes_on;
     }
     Ok(c)
 }

@@ -44,16 +44,28 @@ impl Listing {
         Err(Stopped)
     }
 
-    // The lines of the pair that a walk ended, behind the names before the first one.
+    // What stands over the lines of a pair, behind the names before the first one.
+    fn head_pair(&mut self, w: Walk) -> Result<(), Stopped>
+        ensures { (self.new.pairs ≡ self.old.pairs) × (self.new.lines ≡ self.old.lines) }
+    {
+        if w.lowest.is_none() {
+            says::name_both(&self.page, &self.first.name, &self.second.name)?;
+        }
+        says::pair(&mut self.page, w)
+    }
+
+    // The lines of the pair that a walk ended. Where what stands over them could not be written, one turn of the second reading is made all
+    // the same, so that a log that cannot be read there is told too.
     fn list_pair(&mut self, to: Output, w: Walk) -> Result<(), Stopped>
         ensures pairs { self.new.pairs ≡ self.old.pairs }
         ensures shown { OnOk result (w.number < self.new.lines.walk.number) }
     {
         self.unchanged(to, w)?;
-        if w.lowest.is_none() {
-            says::name_both(&self.page, &self.first.name, &self.second.name)?;
+        if self.head_pair(w).is_err() {
+            let step = self.lines.step();
+            self.lines.turn(to, step)?;
+            return Err(Stopped);
         }
-        says::pair(&mut self.page, w)?;
         showing::show(&mut self.lines, &mut self.page, to, w.number)
     }
 

@@ -40,7 +40,6 @@ fn open_log<R: Files<File = File>>(rt: &R, to: Output, name: &Name) -> Option<So
 fn check<R: Env + Files<File = File>>(
     rt: &R,
     to: Output,
-    page: &mut Page,
     log: Log,
     i: usize,
 ) -> Result<Checked, Stopped> {
@@ -49,7 +48,7 @@ fn check<R: Env + Files<File = File>>(
     match checking::check_log(log, &mut source, to)?.verdict() {
         Ok(size) => Ok(Checked { name, size }),
         Err(fault) => {
-            says::refuse(page, &name, fault)?;
+            says::refuse(to, &name, fault);
             Err(Stopped)
         }
     }
@@ -57,9 +56,8 @@ fn check<R: Env + Files<File = File>>(
 
 // The first log is checked whole, then the second, before any pairing.
 fn compare_logs<R: Env + Files<File = File>>(rt: &R, to: Output) -> Result<(), Stopped> {
-    let mut page = Page::new(to);
-    let first = check(rt, to, &mut page, Log::First, 1)?;
-    let second = check(rt, to, &mut page, Log::Second, 2)?;
+    let first = check(rt, to, Log::First, 1)?;
+    let second = check(rt, to, Log::Second, 2)?;
     let a = open_log(rt, to, &first.name);
     let b = open_log(rt, to, &second.name);
     let c = open_log(rt, to, &first.name);
@@ -72,7 +70,7 @@ fn compare_logs<R: Env + Files<File = File>>(rt: &R, to: Output) -> Result<(), S
         lines: Pass::new(c, d),
         first,
         second,
-        page,
+        page: Page::new(to),
     };
     listing.list(to)
 }

@@ -1,6 +1,6 @@
 // A log through a buffer: the bytes that wait in it, and more behind them.
 ghost use Rattle.std.specs.Prelude.{◌≡◌, ◌≤◌, true, length};
-ghost use Rattle.compare.specs.Windows.{unread, waiting_in, moved_by, WindowSound, Fed};
+ghost use Rattle.compare.specs.Windows.{unread, waiting_in, moved_by, came_to, WindowSound, Fed};
 
 use crate::page::Stopped;
 use crate::says;
@@ -35,6 +35,20 @@ fn ends(_end: Ended) -> bool
     ensures { result ≡ true }
 {
     true
+}
+
+// A window that begins at byte `base` of its log and has n bytes in it; none where a place cannot say how far they go.
+#[tactic(auto, unfolding(crate::specs::Windows::came_to))]
+fn window_to(base: usize, n: usize) -> Option<Window>
+    ensures { result ≡ came_to base n }
+{
+    base.checked_add(n)?;
+    Some(Window {
+        base,
+        at: 0,
+        have: n,
+        ended: false,
+    })
 }
 
 impl Feed {
@@ -89,11 +103,11 @@ impl Feed {
         };
         match self.source.fill(&mut self.bytes, have) {
             Ok(n) => {
-                if usize::MAX - base < n {
+                let Some(window) = window_to(base, n) else {
                     says::too_long(to);
                     return Err(Stopped);
-                }
-                self.window.have = n;
+                };
+                self.window = window;
                 Ok(())
             }
             Err(NoMore::End(end)) => {

@@ -73,17 +73,19 @@ impl fmt::Display for Advice {
     }
 }
 
-// A log that is refused, by its name.
-pub fn refuse(page: &mut Page, name: &Name, fault: Fault) -> Result<(), Stopped> {
-    page.write_now(name.bytes())?;
+// A log that is refused, by its name. A line of its own, and no `Page`: none is there before both logs have passed.
+pub fn refuse(to: Output, name: &Name, fault: Fault) {
+    let mut line: output::Page<256> = output::Page::new();
     let number = u8::from(fault.wrong);
     let place = fault.place;
     let _ = write!(
-        page,
+        line,
         " is refused with {number} at byte {place}: {}\n",
         Advice(fault.wrong)
     );
-    page.flush()
+    if to.write(name.bytes()) {
+        to.write(line.text());
+    }
 }
 
 // Which mark stands for which log.

@@ -1,5 +1,6 @@
 // One turn over two logs: a step of `comparing` on the bytes that wait, or more bytes for the log that has to show more.
 ghost use Rattle.std.specs.Prelude.{◌≡◌};
+ghost use Rattle.compare.specs.Windows.{unread};
 ghost use Rattle.compare.specs.Turns.{next_step, Comes, LessLeft};
 ghost use Rattle.comparing.specs.Steps.{walk_beginning};
 
@@ -20,7 +21,7 @@ pub struct Pass {
 impl Pass {
     // A pass over two logs of which nothing has been read.
     pub fn new(first: Source, second: Source) -> Pass
-        ensures { result.walk ≡ walk_beginning }
+        ensures { (result.first.window ≡ unread) × (result.second.window ≡ unread) × (result.walk ≡ walk_beginning) }
     {
         Pass {
             first: Feed::new(Log::First, first),

@@ -1,7 +1,7 @@
 // Where a program's bytes go: standard output, and standard error for what it has to say; and text as it is formatted.
 #![tactic(auto)]
 
-ghost use Rattle.std.specs.Prelude.{◌≡◌, ◌+◌, ◌-◌, ◌≤◌, min, length, take};
+ghost use Rattle.std.specs.Prelude.{◌≡◌, ◌+◌, ◌-◌, ◌≤◌, min, ◌++◌, length, take};
 
 use std::fmt;
 use std::fmt::Write as _;
@@ -48,7 +48,8 @@ impl<const N: usize> Page<N> {
 
     // These bytes behind what was formatted, as far as there is room.
     pub fn push(&mut self, s: &[u8])
-        ensures { self.new.len ≡ min N (self.old.len + length s.now) }
+        ensures len { self.new.len ≡ min N (self.old.len + length s.now) }
+        ensures text { take self.new.len self.new.bytes ≡ take N (take self.old.len self.old.bytes ++ s.now) }
     {
         let start = self.len;
         let n = s.len().min(N - start);
@@ -67,6 +68,9 @@ impl<const N: usize> Page<N> {
 }
 
 impl<const N: usize> fmt::Write for Page<N> {
+    // Behind what was formatted, as `push`.
+    ghost write_str_gives = { λ p s q. take q.len q.bytes ≡ take N (take p.len p.bytes ++ s) };
+
     fn write_str(&mut self, s: &str) -> fmt::Result {
         self.push(s.as_bytes());
         Ok(())

@@ -8,7 +8,7 @@ mod damage;
 ghost use Rattle.std.specs.Prelude.{◌<◌, ◌≤◌, length, IfOk, IfSome};
 
 use damage::Damage;
-use input::{NoMore, Source};
+use input::{Ended, NoMore, Source};
 use output::Output;
 use records::Item;
 use std::fmt;
@@ -115,8 +115,8 @@ impl Page<'_> {
         Ok(at)
     }
 
-    // At the end of the input: what still waits is cut short.
-    fn show_rest(&mut self, s: &[u8]) {
+    // At the end of the input, by the system's word for it: what still waits is cut short.
+    fn show_rest(&mut self, _end: Ended, s: &[u8]) {
         if let Item::Cut { kind, wants, left } = records::item_at(s, 0) {
             self.put_damage(0, Damage::Cut { kind, wants, left });
         }
@@ -134,8 +134,8 @@ impl Page<'_> {
                     have = input::carry(buf, at, more.have);
                     self.place = self.place.wrapping_add(at as u64);
                 }
-                Err(NoMore::End(_)) => {
-                    self.show_rest(text::front(buf, have));
+                Err(NoMore::End(end)) => {
+                    self.show_rest(end, text::front(buf, have));
                     return Ok(());
                 }
                 Err(NoMore::Full | NoMore::Failed(_)) => return Ok(()),

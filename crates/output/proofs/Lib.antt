@@ -1,0 +1,2 @@
+-- Laws of text as it is formatted.
+pub mod Pages
