@@ -134,14 +134,14 @@ fn raise(bill: Bill, place: usize, by: u64) -> Bill
     requires { place < 27 }
     ensures { result ≡ raised bill place by }
 {
-    if bill.full {
-        return bill;
-    }
-    let Some(sum) = bill.counts[place].checked_add(by) else {
-        return filled_up(bill);
-    };
     let mut b = bill;
-    b.counts[place] = sum;
+    if b.full {
+        return b;
+    }
+    match b.counts[place].checked_add(by) {
+        Some(sum) => b.counts[place] = sum,
+        None => b.full = true,
+    }
     b
 }
 
@@ -152,7 +152,10 @@ pub fn add(bill: Bill, e: Event) -> Bill
 {
     let d = dues_of(e);
     let b = raise(raise(bill, d.place, 1), d.other, d.also);
-    if b.full { filled_up(bill) } else { b }
+    if b.full {
+        return filled_up(bill);
+    }
+    b
 }
 
 // A part of a whole in tenths of a percent, to the nearest.

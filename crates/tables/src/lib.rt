@@ -54,11 +54,15 @@ fn close<T: Copy>(s: &mut [T], from: usize, to: usize, by: usize, zero: T)
 }
 
 // The first of `n` miss addresses from `at` that is the address, or `n`: no Option, since those who ask go on with
-// `e < n`, which `First` says both cases of.
+// `e < n`, which `First` says both cases of. The first address is looked at by itself: the entry then comes from two places, and the compiler
+// carries no running address of a column through the search.
 pub fn find_entry(longs: &[u64], at: usize, n: usize, address: SectorAddress) -> usize
     requires { at + n ≤ length longs.now }
     ensures { First longs.now at n address.0 result }
 {
+    if 0 < n && SectorAddress(longs[at]) == address {
+        return 0;
+    }
     longs[at..at + n]
         .iter()
         .position(|x| SectorAddress(*x) == address)
