@@ -18,12 +18,19 @@ fn dirty(t: &Slices, l: usize) -> bool
         | (t.marks[4 * l + 3] == 3)
 }
 
-// How many lines have a MODIFIED sector.
+// How many lines have a MODIFIED sector. A `for` and no `filter`, which leaves a branch a line, mostly guessed wrong where some lines are dirty:
+// so the loop compiles to several lines at a time.
 fn dirty_lines(t: &Slices) -> usize
     ensures { result ≡ count_below (lines_of t.now.geometry.settings) (held t.now is.dirty_line) }
 {
     let s = t.geometry.settings;
-    (0..s.sets * s.ways).filter(|&l| dirty(t, l)).count()
+    let mut count = 0;
+    for l in 0..s.sets * s.ways {
+        if dirty(t, l) {
+            count += 1;
+        }
+    }
+    count
 }
 
 // Whether the stored count of dirty lines is right.
