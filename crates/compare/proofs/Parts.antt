@@ -11,7 +11,7 @@ unfolding passed_bytes
 started_checked = record { bytes = []; checking = refl; read = refl }
 
 -- the bytes that came are checked with those before
-pub came_checked : {c r : Check} (l : List ℕ) → Checked c → Some r ≡ came_of l c → Checked r × (r.read ≡ c.read + length l)
+pub came_checked : {c r : Check} (l : List ℕ) → Checked c → Some r ≡ came_of l c → Checked r × (r.read ≡ c.read + length l) × (length l ≤ 2 ^ 64 - 1 - c.read)
 unfolding came_of
 came_checked {c} {r} l k e =
     ⊎_elim
@@ -27,15 +27,8 @@ came_checked {c} {r} l k e =
         read = omega arith;
       },
       refl,
+      z,
     ))
-    (lt_or_ge (2 ^ 64 - 1 - c.read) (length l))
-
-came_within : (c : Check) {r : Check} (l : List ℕ) → Some r ≡ came_of l c → length l ≤ 2 ^ 64 - 1 - c.read
-unfolding came_of
-came_within c {r} l e =
-    ⊎_elim
-    (λ z. let h : Some r ≡ None = rw (lt-ltb (2 ^ 64 - 1 - c.read) (length l) z) at e in cc)
-    (λ z. z)
     (lt_or_ge (2 ^ 64 - 1 - c.read) (length l))
 
 module _ {c : Check} (l : List ℕ) (k : Checked c) {p : Check × Bool} (x : PartRead l c p) where
@@ -48,8 +41,9 @@ module _ {c : Check} (l : List ℕ) (k : Checked c) {p : Check × Bool} (x : Par
       ⊎_elim
       (λ e. rw (t, e.1) (omega arith))
       (λ m.
-      let i = (came_checked (take m.n l) k m.is).1 in
-      let w = came_within c (take m.n l) m.is in
+      let i = came_checked (take m.n l) k m.is in
+      let r = i.1 in
+      let w = i.2 in
       let j = length-take-le m.n l m.within in
       let s = m.some in
       let y : pick p.1 (1 + (2 ^ 64 - p.0.read)) 0 ≤ 1 + (2 ^ 64 - p.0.read) = pick_both (λ z. z ≤ 1 + (2 ^ 64 - p.0.read)) p.1 (omega arith) (omega arith) in

@@ -45,7 +45,8 @@ impl Check {
         self
     }
 
-    // Reads the next part of a log and checks it; says whether more of it is to come. A log with a wrong kind needs no more.
+    // Reads the next part of a log and checks it; says whether more of it is to come. A log with a wrong kind needs no more. A flag beside
+    // the check and no Option of it: at the end the check is told too.
     fn read_part(
         self,
         log: Log,
